@@ -25,13 +25,11 @@ use Rattle.send_causes.proofs.CausedEnds.{Lost, ended_of_run}
 use Rattle.send_causes.proofs.CausedPosts.{caused_of_run}
 
 module _ (script : List Item) (made : AreMade script) (there : AreThere script) (range : AllByRecursion InRange script) (turns : List Turn) (core : Core) (is : IsRunWithCalls script turns core) (closes : ClosesInRun script turns core is) (bytes : List ℕ) (reads : script_of bytes ≡ Ok script) where
-  module _ (own_decisions : (j : ℕ) (d : Decision) → In d (shows_in_run script turns core is (decided_by j)) → attempt_of d.error ≢ 7 → In (record { id = d.id; error = d.error }) (shows_in_run script turns core is (posted_by j)))
-      (end_lost : (k o word code : ℕ) (x : Post) → IsEndPost script turns core is k o word code x → Lost script made there range turns core is closes bytes reads o (at_word_attempt word) k) where
-    -- why each task has its outcome, and each link took what it took
-    pub told_of_run : ToldCalls (plan_of script) (all_tasks script) core.outcomes (fixed_in_run script made there range bytes reads turns core is closes) (given core) (orders_in_run script made there range bytes reads turns core is closes) core
-    told_of_run = told_calls script made there range bytes reads turns core is closes (caused_of_run script made there range turns core is closes bytes reads) (ended_of_run script made there range turns core is closes bytes reads own_decisions end_lost)
+  -- why each task has its outcome, and each link took what it took
+  pub told_of_run : ToldCalls (plan_of script) (all_tasks script) core.outcomes (fixed_in_run script made there range bytes reads turns core is closes) (given core) (orders_in_run script made there range bytes reads turns core is closes) core
+  told_of_run = told_calls script made there range bytes reads turns core is closes (caused_of_run script made there range turns core is closes bytes reads) (ended_of_run script made there range turns core is closes bytes reads)
 
-    -- its last attempts are those to which the run came
-    pub told_last : (o : ℕ) → told_of_run.last o ≡ last_in_run script made there range bytes reads turns core is closes o
-    unfolding told_of_run
-    told_last o = assembled.told_last script made there range bytes reads turns core is closes (caused_of_run script made there range turns core is closes bytes reads) (ended_of_run script made there range turns core is closes bytes reads own_decisions end_lost) o
+  -- its last attempts are those to which the run came
+  pub told_last : (o : ℕ) → told_of_run.last o ≡ last_in_run script made there range bytes reads turns core is closes o
+  unfolding told_of_run
+  told_last o = assembled.told_last script made there range bytes reads turns core is closes (caused_of_run script made there range turns core is closes bytes reads) (ended_of_run script made there range turns core is closes bytes reads) o

@@ -43,11 +43,13 @@ use Rattle.send_causes.proofs.AttemptedStored.{ids_at}
 use Rattle.send_causes.proofs.Beside.{gave_of_run}
 use Rattle.send_causes.proofs.CausedRanges.{few_last}
 use Rattle.send_causes.proofs.CausedReaders.{seat_end_posts}
+use Rattle.send_causes.proofs.ClosedLost.{end_lost}
 use Rattle.send_causes.proofs.DropCauses.{may_be_on}
 use Rattle.send_causes.proofs.Early.{known}
 use Rattle.send_causes.proofs.EndedAttempts.{IsReaderPost, of_word, of_word_is}
 use Rattle.send_causes.proofs.EndedOnce.{run_stored_once}
 use Rattle.send_causes.proofs.LateDrops.{late_drop_at}
+use Rattle.send_causes.proofs.OwnDecisions.{own_decisions}
 use Rattle.send_causes.proofs.OwnIds.{labelled_at, would_at, single_at, some_id, own_id, whys_of_seat, DropAt, drop_post, drop_cause}
 use Rattle.send_causes.proofs.RefusedRun.{WhyPosted, PostedByReader, PostedByExpiry, PostedByRefusal, PostedByDrop}
 use Rattle.send_causes.proofs.Unanswered.{soon_where_late, unanswered_where_decided}
@@ -106,101 +108,98 @@ module _ (script : List Item) (made : AreMade script) (there : AreThere script) 
   decided client t asked id it op became = ⊎_elim (λ a. absurd (let e = a.0 in let z : ⊥ = omega (arith, e) in z)) (λ rest. ⊎_elim (λ b. absurd (let e = b.0 in let z : ⊥ = omega (arith, e) in z)) (λ c. (c.2, c.3)) rest)
       (run_failed_decided script made there range turns core is closes fixed orders client t asked id 1014 it op became)
 
-  -- what is known of those who decide
-  module _ (own_decisions : (j : ℕ) (d : Decision) → In d (shows_in_run script turns core is (decided_by j)) → attempt_of d.error ≢ 7 → In (record { id = d.id; error = d.error }) (shows_in_run script turns core is (posted_by j)))
-      (end_lost : (k o word code : ℕ) (x : Post) → IsEndPost script turns core is k o word code x → Lost o (at_word_attempt word) k) where
-    module _ (client : ℕ) (t : Task) (asked : Asked) (id : ℕ) (it : IsTask (all_tasks script) core.outcomes client t) (op : t.op ≡ ops.Call asked) (became : Became (all_tasks script) core.outcomes t.number (CallFailed id 1014)) where
-      abbrev x : Post
-      x = record { id = id; error = error_of 1014 (last t.number) }
+  module _ (client : ℕ) (t : Task) (asked : Asked) (id : ℕ) (it : IsTask (all_tasks script) core.outcomes client t) (op : t.op ≡ ops.Call asked) (became : Became (all_tasks script) core.outcomes t.number (CallFailed id 1014)) where
+    abbrev x : Post
+    x = record { id = id; error = error_of 1014 (last t.number) }
 
-      abbrev Ended : ℕ → Type 0
-      Ended k = EndedWith p clients core.outcomes fixed (given core) orders asked t.number (last t.number) (name_of asked (last t.number)) id k
+    abbrev Ended : ℕ → Type 0
+    Ended k = EndedWith p clients core.outcomes fixed (given core) orders asked t.number (last t.number) (name_of asked (last t.number)) id k
 
-      own : ids_at script core t.number ≡ id
-      own = own_id script made there range turns core is closes client t asked it op (CallFailed id 1014) became id refl
+    own : ids_at script core t.number ≡ id
+    own = own_id script made there range turns core is closes client t asked it op (CallFailed id 1014) became id refl
 
-      some_ : id ≢ 0
-      some_ e = some_id script made there range turns core is closes client t asked it op (CallFailed id 1014) became id refl (own ∙ e)
+    some_ : id ≢ 0
+    some_ e = some_id script made there range turns core is closes client t asked it op (CallFailed id 1014) became id refl (own ∙ e)
 
-      few : last t.number ≤ 6
-      few = few_last script made there range turns core is client t asked it op
+    few : last t.number ≤ 6
+    few = few_last script made there range turns core is client t asked it op
 
-      -- ## A reader decided
+    -- ## A reader decided
 
-      module _ (k : ℕ) (posted : In x (shows_in_run script turns core is (posted_by (32 + k)))) (decides : In (record { id = id; asked = asked; error = error_of 1014 (last t.number) }) (shows_in_run script turns core is (decided_by (32 + k)))) where
-        once : AreStoredOnce script turns core is
-        once = run_stored_once script made turns core is closes (ids_at script core) (labelled_at script made there range turns core is closes)
+    module _ (k : ℕ) (posted : In x (shows_in_run script turns core is (posted_by (32 + k)))) (decides : In (record { id = id; asked = asked; error = error_of 1014 (last t.number) }) (shows_in_run script turns core is (decided_by (32 + k)))) where
+      once : AreStoredOnce script turns core is
+      once = run_stored_once script made turns core is closes (ids_at script core) (labelled_at script made there range turns core is closes)
 
-        end_ : (o word code : ℕ) × (k < (plan_of script).links) × IsEndPost script turns core is k o word code x
-        end_ = seat_end_posts script made turns core is k x bytes reads posted
+      end_ : (o word code : ℕ) × (k < (plan_of script).links) × IsEndPost script turns core is k o word code x
+      end_ = seat_end_posts script made turns core is k x bytes reads posted
 
-        abbrev ReaderPost : Type 0
-        ReaderPost = IsReaderPost script made turns core is closes (ids_at script core) (labelled_at script made there range turns core is closes) once fixed (given core) 1014 (last t.number) x
+      abbrev ReaderPost : Type 0
+      ReaderPost = IsReaderPost script made turns core is closes (ids_at script core) (labelled_at script made there range turns core is closes) once fixed (given core) 1014 (last t.number) x
 
-        attempt : at_word_attempt end_.1 ≡ last t.number
-        attempt = let e : error_of 1014 (last t.number) ≡ error_of end_.2 (at_word_attempt end_.1) = end_.4.error in let f = few in omega (arith, e, f)
+      attempt : at_word_attempt end_.1 ≡ last t.number
+      attempt = let e : error_of 1014 (last t.number) ≡ error_of end_.2 (at_word_attempt end_.1) = end_.4.error in let f = few in omega (arith, e, f)
 
-        opened : (o : ℕ) × (get_elem? (opens script) k ≡ some o)
-        opened = at_some (opens script) k (let facts = known script made turns core is in let many = facts.as_many in let low = end_.3 in omega (arith, low, many))
+      opened : (o : ℕ) × (get_elem? (opens script) k ≡ some o)
+      opened = at_some (opens script) k (let facts = known script made turns core is in let many = facts.as_many in let low = end_.3 in omega (arith, low, many))
 
-        of_post : (post : ReaderPost) → post.link ≡ k → post.asked.operation ≡ end_.0 → Ended k
-        of_post post link place = record {
-          on = subst (May t.number (last t.number) (name_of asked (last t.number))) link (subst (λ (a : Asked). May t.number (last t.number) (name_of a (last t.number)) post.link) same (subst (λ o. May o (last t.number) (name_of post.asked (last t.number)) post.link) number post.on));
-          ended = ⊎_elim (λ e. e.1) (λ f. absurd (let e = f.0 in let z : ⊥ = omega (arith, e) in z)) (subst (λ l. EndedSo script turns core is l 1014) link post.ended);
-          lost = subst (λ m. Lost t.number m k) attempt (subst (λ o. Lost o (at_word_attempt end_.1) k) (sym place ∙ number) (end_lost k end_.0 end_.1 end_.2 x end_.4));
-          unanswered = λ m frame gives responds. unanswered_where_decided script made there range turns core is closes bytes reads client t asked id 1014 it op became k opened.0 opened.1 (error_of 1014 (last t.number)) (last t.number) decides m frame (gives_heard k m frame gives) responds;
-        }
-          where
-            number : post.asked.operation ≡ t.number
-            number = single_at script made there range turns core is closes post.asked.operation t.number post.some_ (sym post.id ∙ sym own)
-
-            same : post.asked ≡ asked
-            same = one_asked script made there range turns core is closes (ids_at script core) (labelled_at script made there range turns core is closes) post.asked asked post.called client t it op number
-
-        by_reader : Ended k
-        by_reader = let small : last t.number ≤ 7 = (let f = few in omega (arith, f)) in
-            let at = of_word_is script made turns core is closes (ids_at script core) (labelled_at script made there range turns core is closes) once fixed (given core) k end_.0 end_.1 end_.2 x end_.3 end_.4 1014 (last t.number) refl small in
-            of_post (of_word script made turns core is closes (ids_at script core) (labelled_at script made there range turns core is closes) once fixed (given core) k end_.0 end_.1 end_.2 x end_.3 end_.4 1014 (last t.number) refl small) at.0 at.1
-
-      -- ## A client decided
-
-      by_drop : (j : ℕ) → j < 32 → In x (shows_in_run script turns core is (posted_by j)) → DropAt script made there range turns core is closes bytes reads x → (k : ℕ) × Ended k
-      by_drop j low posted d = of_end client t.number asked id 1014 (last t.number) refl (drop_cause script made there range turns core is closes bytes reads client t asked id 1014 (last t.number) it op own some_ (let f = few in omega (arith, f)) d
-          (λ k end_ m frame stands gives responds. soon k m frame (at_link k stands) gives responds))
+      of_post : (post : ReaderPost) → post.link ≡ k → post.asked.operation ≡ end_.0 → Ended k
+      of_post post link place = record {
+        on = subst (May t.number (last t.number) (name_of asked (last t.number))) link (subst (λ (a : Asked). May t.number (last t.number) (name_of a (last t.number)) post.link) same (subst (λ o. May o (last t.number) (name_of post.asked (last t.number)) post.link) number post.on));
+        ended = ⊎_elim (λ e. e.1) (λ f. absurd (let e = f.0 in let z : ⊥ = omega (arith, e) in z)) (subst (λ l. EndedSo script turns core is l 1014) link post.ended);
+        lost = subst (λ m. Lost t.number m k) attempt (subst (λ o. Lost o (at_word_attempt end_.1) k) (sym place ∙ number) (end_lost script made turns core is closes (ids_at script core) (labelled_at script made there range turns core is closes) bytes reads k end_.0 end_.1 end_.2 x end_.4));
+        unanswered = λ m frame gives responds. unanswered_where_decided script made there range turns core is closes bytes reads client t asked id 1014 it op became k opened.0 opened.1 (error_of 1014 (last t.number)) (last t.number) decides m frame (gives_heard k m frame gives) responds;
+      }
         where
-          late : (o : ℕ) × (at : get_elem? (opens script) d.link ≡ some o) × PostedLate script made there range turns core is d.link o at x
-          late = late_drop_at script made there range turns core is closes j low x posted (let f = few in omega (arith, f)) d
+          number : post.asked.operation ≡ t.number
+          number = single_at script made there range turns core is closes post.asked.operation t.number post.some_ (sym post.id ∙ sym own)
 
-          number : d.task.number ≡ t.number
-          number = single_at script made there range turns core is closes d.task.number t.number (λ z. some_ (sym d.own ∙ z)) (d.own ∙ sym own)
+          same : post.asked ≡ asked
+          same = one_asked script made there range turns core is closes (ids_at script core) (labelled_at script made there range turns core is closes) post.asked asked post.called client t it op number
 
-          attempt : attempt_of (error_of 1014 (last t.number)) ≡ last t.number
-          attempt = let f = few in omega (arith, f)
+      by_reader : Ended k
+      by_reader = let small : last t.number ≤ 7 = (let f = few in omega (arith, f)) in
+          let at = of_word_is script made turns core is closes (ids_at script core) (labelled_at script made there range turns core is closes) once fixed (given core) k end_.0 end_.1 end_.2 x end_.3 end_.4 1014 (last t.number) refl small in
+          of_post (of_word script made turns core is closes (ids_at script core) (labelled_at script made there range turns core is closes) once fixed (given core) k end_.0 end_.1 end_.2 x end_.3 end_.4 1014 (last t.number) refl small) at.0 at.1
 
-          at_link : (k : ℕ) → StandsOn p clients core.outcomes fixed (given core) orders t.number (last t.number) k → k ≡ d.link
-          at_link k stands = drop_on x d k (subst (λ o. StandsOn p clients core.outcomes fixed (given core) orders o (attempt_of (error_of 1014 (last t.number))) k) (sym number)
-              (subst (λ m. StandsOn p clients core.outcomes fixed (given core) orders t.number m k) (sym attempt) stands))
+    -- ## A client decided
 
-          soon : (k m : ℕ) (frame : Frame) → k ≡ d.link → Gives k m frame → Responds asked id frame → Contains fixed.soon (k, m)
-          soon k m frame same gives responds = subst (λ l. Contains fixed.soon (l, m)) (sym same) (soon_where_late script made there range turns core is closes bytes reads client t asked id 1014 it op became d.link late.0 late.1 (error_of 1014 (last t.number)) late.2 m frame
-              (gives_heard d.link m frame (subst (λ l. Gives l m frame) same gives)) responds)
+    by_drop : (j : ℕ) → j < 32 → In x (shows_in_run script turns core is (posted_by j)) → DropAt script made there range turns core is closes bytes reads x → (k : ℕ) × Ended k
+    by_drop j low posted d = of_end client t.number asked id 1014 (last t.number) refl (drop_cause script made there range turns core is closes bytes reads client t asked id 1014 (last t.number) it op own some_ (let f = few in omega (arith, f)) d
+        (λ k end_ m frame stands gives responds. soon k m frame (at_link k stands) gives responds))
+      where
+        late : (o : ℕ) × (at : get_elem? (opens script) d.link ≡ some o) × PostedLate script made there range turns core is d.link o at x
+        late = late_drop_at script made there range turns core is closes j low x posted (let f = few in omega (arith, f)) d
 
-      by_client : (j : ℕ) → j < 32 → In x (shows_in_run script turns core is (posted_by j)) → WhyPosted script made turns core is closes (ids_at script core) (labelled_at script made there range turns core is closes) (would_at script made there range turns core is closes) bytes reads j x → (k : ℕ) × Ended k
-      by_client j low posted (PostedByReader m high e) = absurd (omega (arith, low, high))
-      by_client j low posted (PostedByExpiry inside e) = absurd (let f = few in omega (arith, e, f))
-      by_client j low posted (PostedByRefusal inside r) = absurd (let f = few in ⊎_elim (λ a. let e = a.0 in omega (arith, e, f)) (λ a. let e = a.0 in omega (arith, e, f)) r.why)
-      by_client j low posted (PostedByDrop heading c ds inside did drop owned same e) = by_drop j low posted (drop_post script made there range turns core is closes bytes reads x j heading c ds did drop owned same e)
+        number : d.task.number ≡ t.number
+        number = single_at script made there range turns core is closes d.task.number t.number (λ z. some_ (sym d.own ∙ z)) (d.own ∙ sym own)
 
-      by_seat : (j : ℕ) → In (record { id = id; asked = asked; error = error_of 1014 (last t.number) }) (shows_in_run script turns core is (decided_by j)) → (k : ℕ) × Ended k
-      by_seat j decides = let posted = own_decisions j (record { id = id; asked = asked; error = error_of 1014 (last t.number) }) decides (λ z. let f = few in omega (arith, z, f)) in dite (dec_le 32 j)
-          (λ high. let e : j ≡ 32 + (j - 32) = omega (arith, high) in (
-            j - 32,
-            by_reader (j - 32) (subst (λ i. In x (shows_in_run script turns core is (posted_by i))) e posted)
-                (subst (λ i. In (record { id = id; asked = asked; error = error_of 1014 (last t.number) }) (shows_in_run script turns core is (decided_by i))) e decides),
-          ))
-          (λ low. by_client j (omega (arith, low)) posted (whys_of_seat script made there range turns core is closes bytes reads j x posted))
+        attempt : attempt_of (error_of 1014 (last t.number)) ≡ last t.number
+        attempt = let f = few in omega (arith, f)
 
-    -- a call that failed with that code did so by a link whose reading ended
-    pub ended_of_run : (client : ℕ) (t : Task) (asked : Asked) (id : ℕ) → IsTask (all_tasks script) core.outcomes client t → t.op ≡ ops.Call asked → Became (all_tasks script) core.outcomes t.number (CallFailed id 1014)
-        → (k : ℕ) × EndedWith p clients core.outcomes fixed (given core) orders asked t.number (last t.number) (name_of asked (last t.number)) id k
-    ended_of_run client t asked id it op became = let d = decided client t asked id it op became in by_seat client t asked id it op became d.0 d.1
+        at_link : (k : ℕ) → StandsOn p clients core.outcomes fixed (given core) orders t.number (last t.number) k → k ≡ d.link
+        at_link k stands = drop_on x d k (subst (λ o. StandsOn p clients core.outcomes fixed (given core) orders o (attempt_of (error_of 1014 (last t.number))) k) (sym number)
+            (subst (λ m. StandsOn p clients core.outcomes fixed (given core) orders t.number m k) (sym attempt) stands))
+
+        soon : (k m : ℕ) (frame : Frame) → k ≡ d.link → Gives k m frame → Responds asked id frame → Contains fixed.soon (k, m)
+        soon k m frame same gives responds = subst (λ l. Contains fixed.soon (l, m)) (sym same) (soon_where_late script made there range turns core is closes bytes reads client t asked id 1014 it op became d.link late.0 late.1 (error_of 1014 (last t.number)) late.2 m frame
+            (gives_heard d.link m frame (subst (λ l. Gives l m frame) same gives)) responds)
+
+    by_client : (j : ℕ) → j < 32 → In x (shows_in_run script turns core is (posted_by j)) → WhyPosted script made turns core is closes (ids_at script core) (labelled_at script made there range turns core is closes) (would_at script made there range turns core is closes) bytes reads j x → (k : ℕ) × Ended k
+    by_client j low posted (PostedByReader m high e) = absurd (omega (arith, low, high))
+    by_client j low posted (PostedByExpiry inside e) = absurd (let f = few in omega (arith, e, f))
+    by_client j low posted (PostedByRefusal inside r) = absurd (let f = few in ⊎_elim (λ a. let e = a.0 in omega (arith, e, f)) (λ a. let e = a.0 in omega (arith, e, f)) r.why)
+    by_client j low posted (PostedByDrop heading c ds inside did drop owned same e) = by_drop j low posted (drop_post script made there range turns core is closes bytes reads x j heading c ds did drop owned same e)
+
+    by_seat : (j : ℕ) → In (record { id = id; asked = asked; error = error_of 1014 (last t.number) }) (shows_in_run script turns core is (decided_by j)) → (k : ℕ) × Ended k
+    by_seat j decides = let posted = own_decisions script made there range turns core is closes j (record { id = id; asked = asked; error = error_of 1014 (last t.number) }) decides (λ z. let f = few in omega (arith, z, f)) in dite (dec_le 32 j)
+        (λ high. let e : j ≡ 32 + (j - 32) = omega (arith, high) in (
+          j - 32,
+          by_reader (j - 32) (subst (λ i. In x (shows_in_run script turns core is (posted_by i))) e posted)
+              (subst (λ i. In (record { id = id; asked = asked; error = error_of 1014 (last t.number) }) (shows_in_run script turns core is (decided_by i))) e decides),
+        ))
+        (λ low. by_client j (omega (arith, low)) posted (whys_of_seat script made there range turns core is closes bytes reads j x posted))
+
+  -- a call that failed with that code did so by a link whose reading ended
+  pub ended_of_run : (client : ℕ) (t : Task) (asked : Asked) (id : ℕ) → IsTask (all_tasks script) core.outcomes client t → t.op ≡ ops.Call asked → Became (all_tasks script) core.outcomes t.number (CallFailed id 1014)
+      → (k : ℕ) × EndedWith p clients core.outcomes fixed (given core) orders asked t.number (last t.number) (name_of asked (last t.number)) id k
+  ended_of_run client t asked id it op became = let d = decided client t asked id it op became in by_seat client t asked id it op became d.0 d.1

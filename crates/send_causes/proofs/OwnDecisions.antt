@@ -75,23 +75,23 @@ module _ (script : List Item) (made : AreMade script) (there : AreThere script) 
 
   queued_setup : AllQueued (id_plan_of script) (plan_of script) [] (opened script) in_setup
   queued_setup = let s = sound in setup_queued (plan_of script) (id_plan_of script) (all_tasks script) (given core) numbered slots (runs.small script made (given core) numbered slots fit turns core is leads) is.setup [] [] (opened script) (first_views script) s.setup
-      (runs.set_up_leads script made (given core) numbered slots fit turns core is leads) (runs.first_tale script made (given core) numbered slots fit turns core is leads)
+      (runs.set_up_leads script made (given core) numbered slots fit turns core is leads) (runs.first_tale script made (given core) numbered slots fit turns core is leads).0
 
   queued_clients : AllQueued (id_plan_of script) (plan_of script) posts_in_setup (set_up script is.setup) in_clients
   queued_clients = let s = sound in played_queued (plan_of script) (id_plan_of script) (all_tasks script) (given core) numbered slots (runs.small script made (given core) numbered slots fit turns core is leads) in_clients posts_in_setup
       (runs.in_setup script made (given core) numbered slots fit turns core is leads) (set_up script is.setup) (views_along (plan_of script) (opened script) (first_views script) in_setup) s.clients
-      (runs.set_up_ahead script made (given core) numbered slots fit turns core is leads) is.is_set_up (runs.played_leads script made (given core) numbered slots fit turns core is leads) (runs.set_up_tale script made (given core) numbered slots fit turns core is leads)
+      (runs.set_up_ahead script made (given core) numbered slots fit turns core is leads) is.is_set_up (runs.played_leads script made (given core) numbered slots fit turns core is leads) (runs.set_up_tale script made (given core) numbered slots fit turns core is leads).0
 
   queued_closing : AllQueued (id_plan_of script) (plan_of script) (posts_in_setup ++ posts_in_clients) (closing_of script turns core is) in_closing
   queued_closing = let s = sound in setup_queued (plan_of script) (id_plan_of script) (all_tasks script) (given core) numbered slots (runs.small script made (given core) numbered slots fit turns core is leads) is.last (posts_in_setup ++ posts_in_clients)
       (runs.in_setup script made (given core) numbered slots fit turns core is leads ++ runs.in_clients script made (given core) numbered slots fit turns core is leads) (closing_of script turns core is) (views_played script turns core is (first_views script)) s.closing
-      (runs.closed_leads script made (given core) numbered slots fit turns core is leads) (runs.ending_tale script made (given core) numbered slots fit turns core is leads)
+      (runs.closed_leads script made (given core) numbered slots fit turns core is leads) (runs.ending_tale script made (given core) numbered slots fit turns core is leads).0
 
   queued_final : AllQueued (id_plan_of script) (plan_of script) ((posts_in_setup ++ posts_in_clients) ++ posts_in_closing) is.ended is.final
   queued_final = let s = sound in played_queued (plan_of script) (id_plan_of script) (all_tasks script) (given core) numbered slots (runs.small script made (given core) numbered slots fit turns core is leads) is.final ((posts_in_setup ++ posts_in_clients) ++ posts_in_closing)
       ((runs.in_setup script made (given core) numbered slots fit turns core is leads ++ runs.in_clients script made (given core) numbered slots fit turns core is leads) ++ runs.in_closing script made (given core) numbered slots fit turns core is leads)
       is.ended (views_closed script turns core is (first_views script)) s.final
-      (runs.ended_ahead script made (given core) numbered slots fit turns core is leads) is.is_over (subst (LeadsTo (plan_of script) (id_plan_of script) (all_tasks script) (given core)) is.is_end leads) (runs.ended_tale script made (given core) numbered slots fit turns core is leads)
+      (runs.ended_ahead script made (given core) numbered slots fit turns core is leads) is.is_over (subst (LeadsTo (plan_of script) (id_plan_of script) (all_tasks script) (given core)) is.is_end leads) (runs.ended_tale script made (given core) numbered slots fit turns core is leads).0
 
   -- ## The parts one after another
 
