@@ -1,27 +1,21 @@
 -- All that is told of a whole run with calls, of any script that is made and read.
-use Rattle.std.proofs.Common.{◌≡◌, ◌≢◌, ℕ, List, Ok}
+use Rattle.std.proofs.Common.{◌≡◌, ℕ, List, Ok}
 use Rattle.std.specs.List.{AllByRecursion}
-use Rattle.sock_words.specs.Words.{at_word_attempt}
 use Rattle.brpc_model.specs.Items.{Item}
 use Rattle.brpc_model.specs.Operations.{Turn}
 use Rattle.brpc_model.specs.Script.{script_of}
-use Rattle.corr_core.specs.Word.{attempt_of}
 use Rattle.sock_programs.specs.Cores.{Core}
 use Rattle.sock_programs.specs.Tasks.{plan_of}
 use Rattle.sock_programs.specs.Scripts.{all_tasks, IsRunWithCalls}
 use Rattle.sock_programs.specs.ToldCalls.{ToldCalls}
-use Rattle.sock_causes.specs.Stories.{In}
 use Rattle.joint_runs.proofs.Runs.{AreMade}
 use Rattle.report_fits.proofs.Reading.{InRange}
 use Rattle.report_fits.proofs.Targets.{AreThere}
 use Rattle.owed_calls.specs.Lives.{ClosesInRun}
-use Rattle.call_causes.specs.Decided.{Decision, posted_by, decided_by}
-use Rattle.call_causes.specs.Lists.{given, shows_in_run}
-use Rattle.call_causes.specs.Posts.{Post}
-use Rattle.send_causes.specs.EndedCalls.{IsEndPost}
+use Rattle.call_causes.specs.Lists.{given}
 use Rattle.send_causes.proofs.Assembled.{last_in_run, fixed_in_run, orders_in_run, told_calls}
 use Rattle.send_causes.proofs.Assembled as assembled
-use Rattle.send_causes.proofs.CausedEnds.{Lost, ended_of_run}
+use Rattle.send_causes.proofs.CausedEnds.{ended_of_run}
 use Rattle.send_causes.proofs.CausedPosts.{caused_of_run}
 
 module _ (script : List Item) (made : AreMade script) (there : AreThere script) (range : AllByRecursion InRange script) (turns : List Turn) (core : Core) (is : IsRunWithCalls script turns core) (closes : ClosesInRun script turns core is) (bytes : List ℕ) (reads : script_of bytes ≡ Ok script) where

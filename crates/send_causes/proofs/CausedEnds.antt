@@ -30,7 +30,7 @@ use Rattle.report_fits.proofs.Reading.{InRange}
 use Rattle.report_fits.proofs.Targets.{AreThere}
 use Rattle.owed_calls.specs.Lives.{ClosesInRun}
 use Rattle.whole_runs.proofs.Gave.{gave_heard}
-use Rattle.call_causes.specs.Decided.{Decision, posted_by, decided_by}
+use Rattle.call_causes.specs.Decided.{posted_by, decided_by}
 use Rattle.call_causes.specs.Lists.{given, shows_in_run}
 use Rattle.call_causes.specs.Posts.{Post}
 use Rattle.call_causes.proofs.Decisions.{run_failed_decided}
