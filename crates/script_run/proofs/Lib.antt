@@ -8,6 +8,6 @@ pub mod Saying
 pub mod Callless
 pub mod Silent
 pub mod Idle
-pub mod Placed
+pub mod TellsAll
 pub mod Told
 pub mod Texts

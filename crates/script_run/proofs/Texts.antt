@@ -33,6 +33,7 @@ use Rattle.owed_calls.proofs.Known.{run_owed_of}
 use Rattle.run_laws.proofs.Laws.{keeps_laws}
 use Rattle.report_fits.specs.Ends.{IsEndOf, AreEndsOf, AreTold, EndsEarly}
 use Rattle.report_fits.proofs.Lists.{within, has_from, all_at}
+use Rattle.report_fits.proofs.Places.{script_places}
 use Rattle.report_fits.proofs.Sizes.{keeps_limits}
 use Rattle.report_fits.proofs.Tasks.{tasks_of_script}
 use Rattle.sock_core.specs.Finish.{told_from}
@@ -48,8 +49,7 @@ use Rattle.script_run.specs.declared.report.Print.TheVariants as print
 use Rattle.script_run.specs.Played.{IsMade, HasRun, AreHeard, IsWholeRun, IsEndTold, AreEndsTold, IsRunText, IsPrintOf, IsPrinted}
 use Rattle.script_run.proofs.Homes.{index_at, took_is, lies_is, told_is}
 use Rattle.script_run.proofs.Idle.{clients_idle}
-use Rattle.script_run.proofs.Placed.{run_places, causes_known}
-use Rattle.script_run.proofs.Told.{has_causes, as_far}
+use Rattle.script_run.proofs.Told.{has_causes}
 
 -- ## The links that are given back
 
@@ -173,6 +173,9 @@ module _ (bytes : List ℕ) (script : List Item) (turns : List Turn) (start m : 
 
   -- ## The text
 
+  causes : HasCauses script turns end_core ran.run
+  causes = has_causes bytes script reads turns end_core ran.run (ran.closes tell)
+
   whole : (ends : List LinkEnd) → ends ≡ m.ends → IsWholeRun script turns ends
   whole ends ends_same = record {
     core = end_core;
@@ -200,8 +203,7 @@ module _ (bytes : List ℕ) (script : List Item) (turns : List Turn) (start m : 
             reports = report.told;
             is_text = report.is_text;
             ends_told = subst (AreEndsTold script end_core) (sym ends_same) ends_told;
-            known = causes_known bytes script reads turns end_core ran.run (ran.closes tell);
-            causes = as_far script (λ has. (has, subst (AreEndsOf script end_core has.fixed (gave_in end_core)) (sym ends_same) (ends_are has))) (has_causes bytes script reads turns end_core ran.run (ran.closes tell));
+            causes = (causes, subst (AreEndsOf script end_core causes.fixed (gave_in end_core)) (sym ends_same) (ends_are causes));
           }
 
       -- its outcomes are those that were printed
@@ -221,8 +223,9 @@ module _ (bytes : List ℕ) (script : List Item) (turns : List Turn) (start m : 
         → ((os : List (Option Outcome)) → length os ≡ length (operations script) → outcomes ≡ told_from 0 os → ArePlaces words → HasEachOutcome words os → (took : List (List ℕ)) × AreTold ends took × IsPrintOf shows script os words took text)
         → IsPrinted shows script turns text ends
     printed_is shows text prints =
-        let places = run_places bytes script reads turns end_core ran.run (ran.closes tell) in
-        let w = prints m.outcomes (ended_length bytes script reads turns end_core ran.run) outcomes_are
+        let long = ended_length bytes script reads turns end_core ran.run in
+        let places = script_places bytes script reads end_core causes.fixed (gave_in end_core) causes.orders long causes.tells in
+        let w = prints m.outcomes long outcomes_are
         (subst ArePlaces (sym words_now) places.0) (subst (λ (ws : List PlaceWord). HasEachOutcome ws m.outcomes) (sym words_now) places.1) in
         print_is shows w.0 text w.1 w.2
 
