@@ -14,6 +14,7 @@ use Rattle.sock_words.specs.declared.outcome.Outcome.{Outcome}
 use Rattle.call_causes.specs.Scenes.{Birth, Saying, Scene, In, IsOver, IsOther, StaysWithin, Later}
 use Rattle.call_causes.specs.Says.{Claims, Mark, IsNextSaid, SaidBy, MayAside, Moves, Shows, SaysOn}
 use Rattle.call_causes.specs.Stories.{At, word_at, SlotFits, SlotsLaw, BirthsLaw, TasksLaw, ClaimsLaw, ReadsLaw, IsBehind, KnowsStep, mark_after}
+use Rattle.call_causes.proofs.Lasting.{here_later}
 use Rattle.call_causes.proofs.Births.{IsMake}
 use Rattle.call_causes.proofs.BirthTicks as birth_ticks
 use Rattle.call_causes.proofs.Laters.{made_of, home_before, ats_still, later}
@@ -153,19 +154,7 @@ module _ (p : Plan) (q : IdPlan) (clients : List (List Task)) (gives : ℕ → L
 
     -- the scene is as late as itself
     here : Later p q clients gives w' w'
-    here = record {
-      said = λ o x s. s;
-      over = λ a b s. s;
-      named = λ n s. s;
-      begun = λ o s. s;
-      born = λ id asked s. s;
-      came = λ k n frame s. s;
-      claimed = λ i o s. s;
-      posted = λ x s. s;
-      ended = λ b n u. u;
-      within = room;
-      apart = (is_later says.0).apart;
-    }
+    here = here_later p q clients gives w' room (is_later says.0).apart
 
     goes_on : Shows p q clients gives w' step found × SaysOn p q clients gives w' (mark_after p q clients gives step found m) (next found)
     goes_on = says.1 found w' (mark_after p q clients gives step found m) (is_later says.0) (said_first w' ws (next found) all_said) (is_moved says.0)

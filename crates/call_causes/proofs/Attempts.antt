@@ -29,6 +29,11 @@ pub in_behind : {A : Type 0} (x : A) (xs ys : List A) → In x ys → In x (xs +
 in_behind x [] ys there = there
 in_behind x (y ∷ xs) ys there = inr (in_behind x xs ys there)
 
+pub in_front : {A : Type 0} (x : A) (xs ys : List A) → In x xs → In x (xs ++ ys)
+in_front x [] ys there = absurd there
+in_front x (z ∷ xs) ys (inl same) = inl same
+in_front x (z ∷ xs) ys (inr there) = inr (in_front x xs ys there)
+
 -- ## Counting
 
 times_same : (o : ℕ) (ns : List ℕ) → times o (o ∷ ns) ≡ 1 + times o ns

@@ -99,7 +99,7 @@ module _ (p : Plan) (q : IdPlan) (clients : List (List Task)) (gives : ℕ → L
   failed_by : (asked : Asked) (o id code : ℕ) → o ≡ asked.operation → FailedIn p q clients gives w id asked code → FailedInPart p clients w.core.outcomes fixed (given w.core) orders last o asked id code
   failed_by asked o id code own (by_expiry is x) = ByExpiry is (⊎_elim (λ s. inl (expired_with asked o outcomes.Expired x.0 x.1 own x.2 x.3 s)) (λ s. inr (expired_with asked o outcomes.Queued x.0 x.1 own x.2 x.3 s)) x.4)
   failed_by asked o id code own (by_compression is x) = ByCompression is (answered p q clients gives w ms e fixed orders id asked (λ frame. frame.meta.compress_type ≢ pos 0) x)
-  failed_by asked o id code own (by_other n x there ended by_last) = other_by asked o id code own x (⊎_elim (λ final. inl final) (λ u. inr (ap (λ k. k + 2) (ap last own ∙ (sym (counts asked.operation) ∙ ended.2)) ∙ u)) by_last)
+  failed_by asked o id code own (by_other n x there ended by_last on) = other_by asked o id code own x (⊎_elim (λ final. inl final) (λ u. inr (ap (λ k. k + 2) (ap last own ∙ (sym (counts asked.operation) ∙ ended.2)) ∙ u)) by_last)
 
   ended_by : (c o id : ℕ) (asked : Asked) (x : Outcome) → o ≡ asked.operation → WhyEnded p q clients gives w (record { id = id; asked = asked }) x → WhyCallInPart p clients w.core.outcomes fixed (given w.core) orders last c o asked x
   ended_by c o id asked (outcomes.Answered i payload attachment) own why = subst (λ n. WhyCallInPart p clients w.core.outcomes fixed (given w.core) orders last c o asked (outcomes.Answered n payload attachment)) (sym why.0)

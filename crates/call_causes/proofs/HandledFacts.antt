@@ -19,7 +19,7 @@ use Rattle.id_runs.proofs.Keeps.{parts_packed}
 use Rattle.call_causes.specs.Lists.{advances_by}
 use Rattle.call_causes.specs.Posts.{posts_by}
 use Rattle.call_causes.specs.Scenes.{Scene}
-use Rattle.call_causes.specs.Says.{Mark, MayAside, SaysOn}
+use Rattle.call_causes.specs.Says.{Mark, MayAside}
 use Rattle.call_causes.specs.Stories.{At, word_at, IsBehind, KnowsStep, births_after, claims_after, ReadsLaw, CallStory}
 use Rattle.call_causes.proofs.Births.{Turn, keeps, ends, makes, IsMake, IsEnd, turn}
 use Rattle.call_causes.proofs.Effects.{word_is}
@@ -112,7 +112,7 @@ module _ (p : Plan) (q : IdPlan) (clients : List (List Task)) (gives : ℕ → L
   tied_to ms reads i m at step may = tt
 
   module _ (ms : List Mark) (story : CallStory p q clients gives w ms) (us : List IdView) (ids : SoundIds p q w.core us) (i : ℕ) (u : IdView) (at_view : get_elem? us i ≡ some u) (m : Mark) (at : At ms i m)
-      (step : Step) (next : Found step → Program) (t : Option Taking) (says : SaysOn p q clients gives w m (Aside step next)) (go : IdGoesOn p q u (Aside step next)) (found : Found step) (is : found_in step w.core.calls t ≡ some found) where
+      (step : Step) (next : Found step → Program) (t : Option Taking) (may : MayAside p q clients gives w m step) (go : IdGoesOn p q u (Aside step next)) (found : Found step) (is : found_in step w.core.calls t ≡ some found) where
     abbrev scene : Scene
     scene = record {
       core = record { words = w.core.words; homes = w.core.homes; seats = w.core.seats; outcomes = w.core.outcomes; calls = calls_after step found w.core.calls };
@@ -120,16 +120,17 @@ module _ (p : Plan) (q : IdPlan) (clients : List (List Task)) (gives : ℕ → L
       births = births_after p q clients gives step found m w.births;
       advances = advances_by step found w.core.calls ++ w.advances;
       posts = posts_by step found ++ w.posts;
+      decisions = w.decisions;
       sayings = w.sayings;
     }
 
     pub facts : Facts q i w.core step found
     facts =
-        let b : IsBehind p q clients gives w scene m step found = record { words = refl; homes = refl; gave = refl; births = refl; claims = refl; advances = refl; posts = refl; sayings = λ s there. there; overs = λ x y there. there } in
-        let kn = knows p q clients gives w us ids ms i m at story.reads u at_view step t found is go.0 says.0 in
+        let b : IsBehind p q clients gives w scene m step found = record { words = refl; homes = refl; gave = refl; births = refl; claims = refl; advances = refl; posts = refl; decided = λ d there. there; sayings = λ s there. there; overs = λ x y there. there } in
+        let kn = knows p q clients gives w us ids ms i m at story.reads u at_view step t found is go.0 may in
         let sized = is_sized p q clients gives w us ids in
         record {
-          goes = λ j low. turn_goes (IsMake step j) (IsEnd step j) (parts (slice_index w.core.calls.words (id_word j))) (parts (slice_index (calls_after step found w.core.calls).words (id_word j))) (turn p q clients gives w scene m ids.plan sized (story.slots.fits i m at) step found b kn says.0 j low);
+          goes = λ j low. turn_goes (IsMake step j) (IsEnd step j) (parts (slice_index w.core.calls.words (id_word j))) (parts (slice_index (calls_after step found w.core.calls).words (id_word j))) (turn p q clients gives w scene m ids.plan sized (story.slots.fits i m at) step found b kn may j low);
           finds = finds_word scene m (are_low p q clients gives w us ids) ids.plan sized step found b kn;
-          tied = tied_to ms story.reads i m at step says.0;
+          tied = tied_to ms story.reads i m at step may;
         }

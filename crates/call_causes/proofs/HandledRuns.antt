@@ -30,8 +30,7 @@ use Rattle.call_causes.specs.Stories.{SlotFits, CallStory}
 use Rattle.call_causes.proofs.Leading.{run_leads}
 use Rattle.call_causes.proofs.Numbered.{AreNumbered}
 use Rattle.call_causes.proofs.Claiming.{HaveSlots}
-use Rattle.call_causes.proofs.Programs.{block_says}
-use Rattle.call_causes.proofs.Rounds.{round_says}
+use Rattle.call_causes.proofs.Firsts.{MayFirst, may_first}
 use Rattle.call_causes.proofs.Ticks.{other_there}
 use Rattle.call_causes.proofs.Run.{Story, one_tick}
 use Rattle.call_causes.proofs.Handled.{Sit, Later}
@@ -48,22 +47,6 @@ AreKnown p q c [] = Unit {0}
 AreKnown p q c (m ∷ ms) = Known q c m × AreKnown p q (ticked p c m) ms
 
 module _ (p : Plan) (q : IdPlan) (clients : List (List Task)) (gives : ℕ → List ℕ) (numbered : AreNumbered p q clients gives) (slots : HaveSlots p q clients gives) (small : q.slots ≤ 65536) where
-  says_first : (w : Scene) (m : Mark) (x : Program) → SaysOn p q clients gives w m x → SaysOn p q clients gives w m (first_step x)
-  says_first w m (Write v after) s = block_says p q clients gives w m v after s
-  says_first w m (Round head next) s = round_says p q clients gives w m head next s
-  says_first w m (Do call next) s = s
-  says_first w m (Say o outcome next) s = s
-  says_first w m (Sent o next) s = s
-  says_first w m Rest s = s
-  says_first w m (TakeMessage r next) s = s
-  says_first w m (TakeHome k next) s = s
-  says_first w m (PutHome k n after) s = s
-  says_first w m (PutBytes k asked bytes next) s = s
-  says_first w m (AskReady k next) s = s
-  says_first w m (Aside step next) s = s
-  says_first w m (Keep r next) s = s
-  says_first w m (Retries requests after) s = s
-
   goes_first : (u : IdView) (x : Program) → IdGoesOn p q u x → IdGoesOn p q u (first_step x)
   goes_first u (Write v after) g = block_goes p q small u v after g
   goes_first u (Round head next) g = ids_round p q u head next g
@@ -85,7 +68,7 @@ module _ (p : Plan) (q : IdPlan) (clients : List (List Task)) (gives : ℕ → L
     plan = ids.plan;
     facts = λ seat at step next t found first is.
         let u = other_there w.core.seats us m.seat seat ids.each at in let mark = other_there w.core.seats ms m.seat seat story.each at in
-        facts p q clients gives w ms story us ids m.seat u.0 u.1 mark.0 mark.1 step next t (subst (SaysOn p q clients gives w mark.0) first (says_first w mark.0 seat.program (story.seats m.seat seat mark.0 at mark.1)))
+        facts p q clients gives w ms story us ids m.seat u.0 u.1 mark.0 mark.1 step next t (subst (MayFirst p q clients gives w mark.0) first (may_first p q clients gives w mark.0 seat.program (story.seats m.seat seat mark.0 at mark.1)))
         (subst (IdGoesOn p q u.0) first (goes_first u.0 seat.program (ids.seats m.seat seat u.0 at u.1))) found is;
     decides = λ seat at id asked word e next is.
         let mark = other_there w.core.seats ms m.seat seat story.each at in let says = subst (SaysOn p q clients gives w mark.0) is (story.seats m.seat seat mark.0 at mark.1) in

@@ -95,7 +95,7 @@ module _ (script : List Item) (made : AreMade script) (there : AreThere script) 
       setup_known (plan_of script) (id_plan_of script) (all_tasks script) (given core) (are_numbered script made there range (given core)) (have_slots script made there range (given core)) (runs.small script made (given core) (are_numbered script made there range (given core)) (have_slots script made there range (given core)) (begins script made there range (given core)) turns core is leads)
       is.setup [] [] (opened script) (first_views script) s.setup
       (runs.set_up_leads script made (given core) (are_numbered script made there range (given core)) (have_slots script made there range (given core)) (begins script made there range (given core)) turns core is leads)
-      (runs.first_tale script made (given core) (are_numbered script made there range (given core)) (have_slots script made there range (given core)) (begins script made there range (given core)) turns core is leads)
+      (let t = runs.first_tale script made (given core) (are_numbered script made there range (given core)) (have_slots script made there range (given core)) (begins script made there range (given core)) turns core is leads in t.0)
 
   known_clients : AreKnown (plan_of script) (id_plan_of script) (set_up script is.setup) in_clients
   known_clients = let s = runs.sound_run script made (given core) (are_numbered script made there range (given core)) (have_slots script made there range (given core)) (begins script made there range (given core)) turns core is leads in
@@ -105,18 +105,18 @@ module _ (script : List Item) (made : AreMade script) (there : AreThere script) 
       (set_up script is.setup) (runs.views_set_up script made (given core) (are_numbered script made there range (given core)) (have_slots script made there range (given core)) (begins script made there range (given core)) turns core is leads) s.clients
       (runs.set_up_ahead script made (given core) (are_numbered script made there range (given core)) (have_slots script made there range (given core)) (begins script made there range (given core)) turns core is leads) is.is_set_up
       (runs.played_leads script made (given core) (are_numbered script made there range (given core)) (have_slots script made there range (given core)) (begins script made there range (given core)) turns core is leads)
-      (runs.set_up_tale script made (given core) (are_numbered script made there range (given core)) (have_slots script made there range (given core)) (begins script made there range (given core)) turns core is leads)
+      (let t = runs.set_up_tale script made (given core) (are_numbered script made there range (given core)) (have_slots script made there range (given core)) (begins script made there range (given core)) turns core is leads in t.0)
 
   known_closing : AreKnown (plan_of script) (id_plan_of script) closing in_closing
   known_closing = let s = runs.sound_run script made (given core) (are_numbered script made there range (given core)) (have_slots script made there range (given core)) (begins script made there range (given core)) turns core is leads in
-      let t = runs.ending_tale script made (given core) (are_numbered script made there range (given core)) (have_slots script made there range (given core)) (begins script made there range (given core)) turns core is leads in
+      let told = runs.ending_tale script made (given core) (are_numbered script made there range (given core)) (have_slots script made there range (given core)) (begins script made there range (given core)) turns core is leads in let t = told.0 in
       setup_known (plan_of script) (id_plan_of script) (all_tasks script) (given core) (are_numbered script made there range (given core)) (have_slots script made there range (given core)) (runs.small script made (given core) (are_numbered script made there range (given core)) (have_slots script made there range (given core)) (begins script made there range (given core)) turns core is leads)
       is.last t.0 t.1 closing (views_played script turns core is (first_views script)) s.closing
       (runs.closed_leads script made (given core) (are_numbered script made there range (given core)) (have_slots script made there range (given core)) (begins script made there range (given core)) turns core is leads) (t.0, t.1, t.2, (λ x y. y), λ n. refl)
 
   known_final : AreKnown (plan_of script) (id_plan_of script) is.ended is.final
   known_final = let s = runs.sound_run script made (given core) (are_numbered script made there range (given core)) (have_slots script made there range (given core)) (begins script made there range (given core)) turns core is leads in
-      let t = runs.ended_tale script made (given core) (are_numbered script made there range (given core)) (have_slots script made there range (given core)) (begins script made there range (given core)) turns core is leads in
+      let told = runs.ended_tale script made (given core) (are_numbered script made there range (given core)) (have_slots script made there range (given core)) (begins script made there range (given core)) turns core is leads in let t = told.0 in
       played_known (plan_of script) (id_plan_of script) (all_tasks script) (given core) (are_numbered script made there range (given core)) (have_slots script made there range (given core)) (runs.small script made (given core) (are_numbered script made there range (given core)) (have_slots script made there range (given core)) (begins script made there range (given core)) turns core is leads)
       is.final t.0 t.1 is.ended (views_closed script turns core is (first_views script)) s.final
       (runs.ended_ahead script made (given core) (are_numbered script made there range (given core)) (have_slots script made there range (given core)) (begins script made there range (given core)) turns core is leads) is.is_over

@@ -14,7 +14,7 @@ use Rattle.sock_programs.specs.declared.task.Task.{Task}
 use Rattle.sock_programs.specs.Asides.{Step, ClaimId, PutCall, MakeId, StoreCall, LoadCall, StoreAt, LoadAt, LoadIdWord, LockId, PostId, UnlockId, EndId, FreeId, TakeCall, TakeBytes, call_id}
 use Rattle.sock_programs.specs.Heads.{Head, Posts, Unlocks, Decides, Locks, Joins, Opens, Reads, Discards}
 use Rattle.sock_programs.specs.Programs.{Program, Do, Say, Sent, Rest, TakeMessage, TakeHome, PutHome, PutBytes, AskReady, Write, Aside, Round, Keep, Retries}
-use Rattle.call_causes.specs.Scenes.{Birth, Scene, In, Said, IsBorn, MayAdvance, IsAnsweredIn, IsExpired, CauseOf, of_expiry, of_other, FailedIn, by_expiry, by_compression, by_other, WhyEnded, HasNoneOf, NoneFound, HasBegunIn, HasNotBegunIn, WhyOwn, IsJust, ToldOf, was_said, was_sent, was_begun, AreTold, Later}
+use Rattle.call_causes.specs.Scenes.{Birth, Scene, In, Said, IsBorn, MayAdvance, IsAnsweredIn, IsExpired, CauseOf, of_expiry, of_other, FailedIn, by_expiry, by_compression, by_other, WhyEnded, HasNoneOf, NoneFound, HasBegunIn, HasNotBegunIn, WhyOwn, IsJust, ToldOf, was_said, was_sent, was_begun, AreTold, StaysWithin, Later}
 use Rattle.call_causes.specs.Says.{Mark, MayUnlock, MayAside, CameFrom, IsReading, AtHead, SaysOn}
 
 module _ (p : Plan) (q : IdPlan) (clients : List (List Task)) (gives : ℕ → List ℕ) where
@@ -31,9 +31,27 @@ module _ (p : Plan) (q : IdPlan) (clients : List (List Task)) (gives : ℕ → L
     came = λ k n frame s. y.came k n frame (x.came k n frame s);
     claimed = λ i o s. y.claimed i o (x.claimed i o s);
     posted = λ e s. y.posted e (x.posted e s);
+    decided = λ d s. y.decided d (x.decided d s);
     ended = λ b n u. y.ended b n (x.ended b n u);
     within = y.within;
     apart = y.apart;
+  }
+
+  -- a scene is as late as itself
+  pub here_later : (w : Scene) → StaysWithin p q clients gives w → ((id : ℕ) (a b : Asked) → IsBorn w id a → IsBorn w id b → a ≡ b) → After w w
+  here_later w room apart = record {
+    said = λ o x s. s;
+    over = λ a b s. s;
+    named = λ n s. s;
+    begun = λ o s. s;
+    born = λ id asked s. s;
+    came = λ k n frame s. s;
+    claimed = λ i o s. s;
+    posted = λ x s. s;
+    decided = λ d s. s;
+    ended = λ b n u. u;
+    within = room;
+    apart = apart;
   }
 
   module _ (w w' : Scene) (l : After w w') where
@@ -56,7 +74,7 @@ module _ (p : Plan) (q : IdPlan) (clients : List (List Task)) (gives : ℕ → L
     failed_on : (id : ℕ) (asked : Asked) (c : ℕ) → FailedIn p q clients gives w id asked c → FailedIn p q clients gives w' id asked c
     failed_on id asked c (by_expiry is x) = by_expiry is (expired_on asked x)
     failed_on id asked c (by_compression is x) = by_compression is (answered_on id asked (λ frame. frame.meta.compress_type ≢ Rattle.std.specs.Prelude.pos 0) x)
-    failed_on id asked c (by_other n x there ended last) = by_other n x (l.posted (record { id = id; error = error_of c n }) there) (l.ended (record { id = id; asked = asked }) n ended) last
+    failed_on id asked c (by_other n x there ended last on) = by_other n x (l.posted (record { id = id; error = error_of c n }) there) (l.ended (record { id = id; asked = asked }) n ended) last (l.decided (record { id = id; asked = asked; error = error_of c n }) on)
 
     pub ended_on : (b : Birth) (x : Outcome) → WhyEnded p q clients gives w b x → WhyEnded p q clients gives w' b x
     ended_on b (outcomes.Answered id payload attachment) y = (y.0, answered_on b.id b.asked (λ (frame : Frame). Rattle.call_causes.specs.Scenes.HasCode (Rattle.std.specs.Prelude.pos 0) frame × (frame.payload ≡ payload) × (frame.attachment ≡ attachment)) y.1)

@@ -229,6 +229,7 @@ module _ (p : Plan) (q : IdPlan) (clients : List (List Task)) (gives : ℕ → L
     came = came_still step found b knows;
     claimed = claims_still step found b;
     posted = λ x there. subst (In x) (sym b.posts) (in_behind x (posts_by step found) w.posts there);
+    decided = b.decided;
     ended = ended_still p q clients gives w w' m plan sized fits law low step found b knows may made fresh;
     within = room;
     apart = one_call w'.births (apart p q clients gives w w' m plan sized fits law low step found b knows may made fresh) (λ c there. (born p q clients gives w w' m plan sized fits law low step found b knows may made fresh c there).1);

@@ -6,6 +6,7 @@ pub mod Clients
 pub mod Streams
 pub mod Reading
 pub mod Rounds
+pub mod Firsts
 pub mod Effects
 pub mod Slots
 pub mod SlotTicks
@@ -40,6 +41,7 @@ pub mod Once
 pub mod Over
 pub mod Scripts
 pub mod Whole
+pub mod Decisions
 pub mod Posted
 pub mod Shown
 pub mod Handled

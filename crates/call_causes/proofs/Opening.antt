@@ -23,6 +23,7 @@ use Rattle.id_runs.proofs.Opening.{unused}
 use Rattle.call_causes.specs.Scenes.{Birth, Saying, Scene, In, IsOver, Begun, IsTaskOf, LeadsTo, Later}
 use Rattle.call_causes.specs.Says.{NoSlot, Mark, SaysOn}
 use Rattle.call_causes.specs.Stories.{At, word_at, SlotsLaw, BirthsLaw, TasksLaw, ClaimsLaw, ReadsLaw, IsUntold, CallStory, HasStory}
+use Rattle.call_causes.proofs.Lasting.{here_later}
 use Rattle.call_causes.proofs.Reading.{reader_says}
 use Rattle.call_causes.proofs.Clients.{FitsTask, client_says}
 use Rattle.call_causes.proofs.Numbered.{AreNumbered}
@@ -158,7 +159,7 @@ module _ (p : Plan) (q : IdPlan) (clients : List (List Task)) (gives : ℕ → L
     core0 = beginning p q (all_programs (programs (sizes_of p q) clients) (readers_from calls 0 opens))
 
     abbrev first_scene : Scene
-    first_scene = record { core = beginning p q (all_programs (programs (sizes_of p q) clients) (readers_from calls 0 opens)); claims = []; births = []; advances = []; posts = []; sayings = first_sayings (all_programs (programs (sizes_of p q) clients) (readers_from calls 0 opens)) [] }
+    first_scene = record { core = beginning p q (all_programs (programs (sizes_of p q) clients) (readers_from calls 0 opens)); claims = []; births = []; advances = []; posts = []; decisions = []; sayings = first_sayings (all_programs (programs (sizes_of p q) clients) (readers_from calls 0 opens)) [] }
 
     module _ (long : length (all_programs (programs (sizes_of p q) clients) (readers_from calls 0 opens)) ≡ q.seats) (few_tries : (i : ℕ) (x : Program) → get_elem? (all_programs (programs (sizes_of p q) clients) (readers_from calls 0 opens)) i ≡ core.some x → KeepsFew x) (lead : LeadsTo p q clients gives (beginning p q (all_programs (programs (sizes_of p q) clients) (readers_from calls 0 opens)))) where
       -- ## Programs
@@ -246,19 +247,7 @@ module _ (p : Plan) (q : IdPlan) (clients : List (List Task)) (gives : ℕ → L
       }
 
       here : Later p q clients gives first_scene first_scene
-      here = record {
-        said = λ o x s. s;
-        over = λ a b s. s;
-        named = λ n s. s;
-        begun = λ o s. s;
-        born = λ id asked s. s;
-        came = λ k n frame s. s;
-        claimed = λ i o s. s;
-        posted = λ x s. s;
-        ended = λ b n u. u;
-        within = (has_room p q clients gives slots first_scene (first_marks 0 q.seats) first_claims, lead);
-        apart = λ id a b x y. absurd x;
-      }
+      here = here_later p q clients gives first_scene (has_room p q clients gives slots first_scene (first_marks 0 q.seats) first_claims, lead) (λ id a b x y. absurd x)
 
       -- ## One seat after another says what it says before its first step
 
@@ -301,27 +290,33 @@ module _ (p : Plan) (q : IdPlan) (clients : List (List Task)) (gives : ℕ → L
           )
 
       -- the story as a run begins
-      pub first_story : HasStory p q clients gives [] [] (beginning p q (all_programs (programs (sizes_of p q) clients) (readers_from calls 0 opens)))
-      first_story =
+      pub first_decided : (h : HasStory p q clients gives [] [] (beginning p q (all_programs (programs (sizes_of p q) clients) (readers_from calls 0 opens)))) × (h.scene.decisions ≡ [])
+      first_decided =
           let xs : List Program = all_programs (programs (sizes_of p q) clients) (readers_from calls 0 opens) in
           let r = begin_all (all_programs (programs (sizes_of p q) clients) (readers_from calls 0 opens)) 0 (replicate p.operations None) [] (first_marks 0 q.seats) (λ i x e. subst (λ n. get_elem? xs n ≡ core.some x) (let z : i ≡ 0 + i = omega arith in z) e) first_tasks
-          (λ i x e. ((λ low. absurd (omega (arith, low))), (λ _. there_first q.seats i (let z = inside_of xs i x e in omega (arith, z, long))))) (λ s there. there) (λ a b there. there) first_slots first_claims first_reads in record {
-            scene = first_scene;
-            marks = r.0;
-            is = refl;
-            shown = refl;
-            shown_posts = refl;
-            story = record {
-              each = r.1 ∙ (length_marks 0 q.seats ∙ (sym long ∙ sym (length-map xs (λ (x : Program). record { program = next_step (resolved [] x); hand = [] }))));
-              slots = r.4;
-              births = first_births;
-              tasks = r.2;
-              claims = r.5;
-              reads = r.6;
-              seats = λ j seat m at_seat at_m.
-                  let s = mapped_at (λ (x : Program). record { program = next_step (resolved [] x); hand = [] }) xs j seat at_seat in
-                  let d = (r.3 j s.0 s.1).0 (let z = inside_of xs j s.0 s.1 in omega (arith, z)) in
-                  let same : d.0 ≡ m = some-injective d.0 m (sym d.1 ∙ at_m) in
-                  subst (λ (y : SeatState). SaysOn p q clients gives first_scene m y.program) s.2 (subst (λ (n : Mark). SaysOn p q clients gives first_scene n (next_step (resolved [] s.0))) same d.3);
-            };
-          }
+          (λ i x e. ((λ low. absurd (omega (arith, low))), (λ _. there_first q.seats i (let z = inside_of xs i x e in omega (arith, z, long))))) (λ s there. there) (λ a b there. there) first_slots first_claims first_reads in (
+            record {
+              scene = first_scene;
+              marks = r.0;
+              is = refl;
+              shown = refl;
+              shown_posts = refl;
+              story = record {
+                each = r.1 ∙ (length_marks 0 q.seats ∙ (sym long ∙ sym (length-map xs (λ (x : Program). record { program = next_step (resolved [] x); hand = [] }))));
+                slots = r.4;
+                births = first_births;
+                tasks = r.2;
+                claims = r.5;
+                reads = r.6;
+                seats = λ j seat m at_seat at_m.
+                    let s = mapped_at (λ (x : Program). record { program = next_step (resolved [] x); hand = [] }) xs j seat at_seat in
+                    let d = (r.3 j s.0 s.1).0 (let z = inside_of xs j s.0 s.1 in omega (arith, z)) in
+                    let same : d.0 ≡ m = some-injective d.0 m (sym d.1 ∙ at_m) in
+                    subst (λ (y : SeatState). SaysOn p q clients gives first_scene m y.program) s.2 (subst (λ (n : Mark). SaysOn p q clients gives first_scene n (next_step (resolved [] s.0))) same d.3);
+              };
+            },
+            refl,
+          )
+
+      pub first_story : HasStory p q clients gives [] [] (beginning p q (all_programs (programs (sizes_of p q) clients) (readers_from calls 0 opens)))
+      first_story = first_decided.0

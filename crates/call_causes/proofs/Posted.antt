@@ -1,12 +1,11 @@
 -- In a whole run each error that ended a call, or for which its attempt was advanced, was posted in it for that attempt, and no call comes to more attempts than its range has.
-use Rattle.std.proofs.Common.{◌≡◌, ◌≢◌, ℕ, zero, suc, ◌+◌, ◌<◌, ◌≤◌, ◌⊎◌, inl, inr, ⊎_elim, List, [], ◌∷◌, get_or, slice_get, None, Some, Contains, refl, sym, ap, ◌∙◌, subst, arith}
+use Rattle.std.proofs.Common.{◌≡◌, ◌≢◌, ℕ, zero, suc, ◌+◌, ◌<◌, ◌≤◌, ◌⊎◌, inl, inr, ⊎_elim, List, [], ◌∷◌, get_or, slice_get, None, Some, refl, sym, ap, ◌∙◌, subst, arith}
 use mathlib.Core.Logic.{dite}
 use native.Mathlib.Decide.{ℕ_discrete}
 use Rattle.std.specs.List.{AllByRecursion}
 use Rattle.sock_words.specs.declared.plain.Plan.{Plan}
 use Rattle.sock_words.specs.declared.outcome.Outcome.{Outcome}
 use Rattle.sock_words.specs.declared.outcome.Outcome.TheVariants as outcomes
-use Rattle.brpc_model.specs.Frame.{Frame}
 use Rattle.brpc_model.specs.Items.{Item}
 use Rattle.brpc_model.specs.Operations.{Turn}
 use Rattle.corr_core.specs.Word.{error_of}
@@ -23,20 +22,21 @@ use Rattle.joint_runs.proofs.Runs.{AreMade}
 use Rattle.report_fits.proofs.Reading.{InRange}
 use Rattle.report_fits.proofs.Targets.{AreThere}
 use Rattle.owed_calls.specs.Lives.{ClosesInRun}
-use Rattle.call_causes.specs.Lists.{given, times, attempts_of_run}
+use Rattle.call_causes.specs.Lists.{given, times, shows_in_run, attempts_of_run}
 use Rattle.call_causes.specs.Posts.{Post, posts_of_run}
-use Rattle.call_causes.specs.Target.{FailedByPost, AdvancedByPost}
-use Rattle.call_causes.specs.Scenes.{Birth, Scene, In, WasPosted, IsTaskOf, FailedIn, by_expiry, by_compression, by_other, WhyEnded}
+use Rattle.call_causes.specs.Decided.{Decision, decided_by}
+use Rattle.call_causes.specs.Target.{FailedByPost, FailedByDecision, AdvancedByPost}
+use Rattle.call_causes.specs.Scenes.{Birth, Scene, In, WasPosted, IsTaskOf, WhyEnded}
 use Rattle.call_causes.specs.Says.{Mark}
 use Rattle.call_causes.specs.Stories.{BirthsLaw, TasksLaw}
 use Rattle.call_causes.proofs.Moving.{in_todo, in_done, listed}
 use Rattle.call_causes.proofs.Numbered.{AreNumbered, one_task, listed_or}
 use Rattle.call_causes.proofs.BirthTicks.{in_all}
-use Rattle.call_causes.proofs.End.{HasEnded, one_outcome, ended_call, call_of, shows_own, answered, contains_in}
-use Rattle.call_causes.proofs.Whys.{AreAscending, in_contains}
-use Rattle.call_causes.proofs.CallWhys.{expired_with}
-use Rattle.call_causes.proofs.Scripts.{are_numbered, are_ascending}
+use Rattle.call_causes.proofs.End.{HasEnded, one_outcome, ended_call, shows_own, contains_in}
+use Rattle.call_causes.proofs.Whys.{in_contains}
+use Rattle.call_causes.proofs.Scripts.{are_numbered}
 use Rattle.call_causes.proofs.Whole.{run_has_story, run_attempts, run_posted, run_has_ended}
+use Rattle.call_causes.proofs.Decisions.{run_failed_decided}
 
 -- each task of each client
 all_of : (P : Task → Type 0) (cs : List (List Task)) → AllByRecursion (AllByRecursion P) cs → (c : ℕ) (ts : List Task) → slice_get cs c ≡ Some ts → AllByRecursion P ts
@@ -106,25 +106,9 @@ module _ (p : Plan) (q : IdPlan) (clients : List (List Task)) (gives : ℕ → L
         shows_some b (outcomes.CallFailed id code) h = (id, refl)
         shows_some b other h = absurd h
 
-    module _ (ascending : (c : ℕ) → AreAscending (get_or clients c [])) (as_given : (k : ℕ) → given w.core k ≡ gives k) where
-      -- a call failed by an `expire`, by a compressed response, or by an error that was posted for its last attempt
-      failed_by : (c : ℕ) (t : Task) (asked : Asked) (id code : ℕ) → IsTask clients w.core.outcomes c t → t.op ≡ ops.Call asked → Became clients w.core.outcomes t.number (outcomes.CallFailed id code) → FailedByPost p clients w.core.outcomes fixed (given w.core) orders last posts t.number asked id code
-      failed_by c t asked id code is op has = ⊎_elim (λ own. absurd own.1) (λ x. by_cause x.0 x.2.0 x.3 x.2.1) (call_of p q clients gives w ms e c t asked (outcomes.CallFailed id code) is op has)
-        where
-          by_cause : (i : ℕ) → id ≡ i → t.number ≡ asked.operation → FailedIn p q clients gives w i asked code → FailedByPost p clients w.core.outcomes fixed (given w.core) orders last posts t.number asked id code
-          by_cause i same own (by_expiry is x) = inl (
-            is,
-            ⊎_elim
-                (λ s. inl (expired_with p q clients gives ascending w ms e fixed orders as_given last counts asked t.number outcomes.Expired x.0 x.1 own x.2 x.3 s))
-                (λ s. inr (expired_with p q clients gives ascending w ms e fixed orders as_given last counts asked t.number outcomes.Queued x.0 x.1 own x.2 x.3 s)) x.4,
-          )
-          by_cause i same own (by_compression is x) = inr (inl (is, answered p q clients gives w ms e fixed orders id asked (λ (frame : Frame). frame.meta.compress_type ≢ Rattle.std.specs.Prelude.pos 0) (subst (λ k. Rattle.call_causes.specs.Scenes.IsAnsweredIn p q clients gives w k asked (λ (frame : Frame). frame.meta.compress_type ≢ Rattle.std.specs.Prelude.pos 0)) (sym same) x)))
-          by_cause i same own (by_other n x there ended by_last) =
-              let n_is : n ≡ last t.number = sym ended.2 ∙ (counts asked.operation ∙ ap last (sym own)) in
-              inr (inr (
-                subst (λ k. Contains posts (record { id = id; error = error_of code k })) n_is (subst (λ k. Contains posts (record { id = k; error = error_of code n })) (sym same) (in_contains posts (record { id = i; error = error_of code n }) (posted i (error_of code n) there))),
-                ⊎_elim (λ final. inl final) (λ u. inr (ap (λ k. k + 2) (sym n_is) ∙ u)) by_last,
-              ))
+  -- whoever decided on the error that ended a call, it was posted
+  posted_of : (os : List (Rattle.std.specs.Prelude.Option Outcome)) (fixed : Fixed) (gave : ℕ → List ℕ) (orders : ℕ → Order) (last : ℕ → ℕ) (posts : List Post) (decided : ℕ → List Decision) (o : ℕ) (asked : Asked) (id code : ℕ) → FailedByDecision p clients os fixed gave orders last posts decided o asked id code → FailedByPost p clients os fixed gave orders last posts o asked id code
+  posted_of os fixed gave orders last posts decided o asked id code why = ⊎_elim (λ expired. inl expired) (λ x. inr (⊎_elim (λ compressed. inl compressed) (λ y. inr (y.0, y.1)) x)) why
 
 -- ## A whole run
 
@@ -156,7 +140,5 @@ module _ (script : List Item) (made : AreMade script) (there : AreThere script) 
     -- a call that failed did so by an `expire`, by a compressed response, or by an error that was posted for its last attempt
     pub run_failed_by : (client : ℕ) (t : Task) (asked : Asked) (id code : ℕ) → IsTask (all_tasks script) core.outcomes client t → t.op ≡ ops.Call asked → Became (all_tasks script) core.outcomes t.number (outcomes.CallFailed id code)
         → FailedByPost (plan_of script) (all_tasks script) core.outcomes fixed (given core) orders (attempts_of_run script turns core is) (posts_of_run script turns core is) t.number asked id code
-    run_failed_by client t asked id code at op has = let h = run_has_story script made there range turns core is in let e = run_has_ended script made there range turns core is closes in
-        subst (λ (d : Core). IsTask (all_tasks script) d.outcomes client t → Became (all_tasks script) d.outcomes t.number (outcomes.CallFailed id code) → FailedByPost (plan_of script) (all_tasks script) d.outcomes fixed (given d) orders (attempts_of_run script turns core is) (posts_of_run script turns core is) t.number asked id code) h.is
-        (λ at' has'. failed_by (plan_of script) (id_plan_of script) (all_tasks script) (given core) h.scene h.marks e fixed orders (attempts_of_run script turns core is) (run_attempts script made there range turns core is) (posts_of_run script turns core is) (run_posted script made there range turns core is)
-        (are_ascending script made there range (given core)) (λ k. ap (λ (d : Core). given d k) h.is) client t asked id code at' op has') at has
+    run_failed_by client t asked id code at op has = posted_of (plan_of script) (id_plan_of script) (all_tasks script) (given core) core.outcomes fixed (given core) orders (attempts_of_run script turns core is) (posts_of_run script turns core is) (λ j. shows_in_run script turns core is (decided_by j)) t.number asked id code
+        (run_failed_decided script made there range turns core is closes fixed orders client t asked id code at op has)

@@ -12,7 +12,7 @@ use Rattle.sock_programs.specs.Programs.{Program, Aside, Round}
 use Rattle.sock_programs.specs.Posts.{packed, advance_of, is_first, is_sought, is_stale, is_full, judged, posts_round, post_with, posted, post, popped, unlocks_round, end_id, is_final, ends_call, decide, unlocked, decides_round, decided, locking, locks_round, joins_round}
 use Rattle.id_runs.proofs.Keeps.{parts_packed}
 use Rattle.id_runs.proofs.Loops.{not_equal}
-use Rattle.call_causes.specs.Scenes.{Birth, Scene, IsBorn, WasPosted, IsOther, EndedAt, MayAdvance, CauseOf, of_expiry, of_other, FailedIn, by_expiry, by_other, Later}
+use Rattle.call_causes.specs.Scenes.{Birth, Scene, IsBorn, WasPosted, WasDecided, IsOther, EndedAt, MayAdvance, CauseOf, of_expiry, of_other, FailedIn, by_expiry, by_other, Later}
 use Rattle.call_causes.specs.Says.{Shape, shape_of, HasShape, with_attempt, unlocked_by, Slot, NoSlot, Claims, Locked, Holds, Leaves, Mark, with_slot, with_owed, IsVacant, IsFree, put_in, taken_out, SaidBy, HasCodes, MayUnlock, Moves, Shows, IsSoughtIn, AtHead, Again, MatchesRange, LeavesPost, LeavesUnlock, IsLast, EndsBy, LeavesDecision, LeavesLock, YieldsPost, SaysOn}
 use Rattle.call_causes.proofs.Lasting.{far, cause_on, unlock_on}
 
@@ -200,13 +200,14 @@ module _ (p : Plan) (q : IdPlan) (clients : List (List Task)) (gives : ℕ → L
   was_posted w id e (of_expiry asked whole there expired) part = absurd (part (ap attempt_of whole ∙ omega arith))
   was_posted w id e (of_other other light there) part = there
 
-  pub decides_says : (w : Scene) (m : Mark) (id : ℕ) (asked : Asked) (word e : ℕ) (k : Deciding → Program) → AtHead p q clients gives w m (Decides id asked word e) → Decided w m id e k → Says w m (decides_round id asked word e k)
-  decides_says w m id asked word e k at goes =
+  -- it is noted that the seat decides on the error
+  pub decides_says : (w : Scene) (m : Mark) (id : ℕ) (asked : Asked) (word e : ℕ) (k : Deciding → Program) → WasDecided w (record { id = id; asked = asked }) e → AtHead p q clients gives w m (Decides id asked word e) → Decided w m id e k → Says w m (decides_round id asked word e k)
+  decides_says w m id asked word e k on at goes =
       let r : Retry = record { id = id; attempt = (parts word).attempt + 1 } in
       let born = subst (λ i. IsBorn w i asked) (sym (id_back id)) at.1 in
       plain_way w m (ends_call (parts word) e) (end_id (id_slot id) (k (HasEnded asked.operation (code_of e)))) (Aside (PutCall (id_slot id) asked) (λ _. Round (Unlocks (id_slot id) word true) (unlocked r k)))
       (λ ends. end_says w m (id_slot id) (id_first id) at.0.0 asked (k (HasEnded asked.operation (code_of e))) at.0.1 born at.2
-      (λ v m' s vacant l said is used. goes (HasEnded asked.operation (code_of e)) v m' l said (record { id = call_id (id_slot id) (id_first id); asked = asked }, s, vacant, is, id_back id, l.born (call_id (id_slot id) (id_first id)) asked born, refl, inl (refl, last v ends used))))
+      (λ v m' s vacant l said is used. goes (HasEnded asked.operation (code_of e)) v m' l said (record { id = call_id (id_slot id) (id_first id); asked = asked }, s, vacant, is, id_back id, l.born (call_id (id_slot id) (id_first id)) asked born, refl, inl (refl, last v l ends used))))
       (λ more. (
         inr (id_first id, at.0.0, at.0.1, born),
         λ found v m' l s mv. (
@@ -232,11 +233,12 @@ module _ (p : Plan) (q : IdPlan) (clients : List (List Task)) (gives : ℕ → L
         or_left (is_final (code_of e)) (eqb ((parts word).attempt + 2) (parts word).range) (or_right (eqb (attempt_of e) 7) (is_final (code_of e) || eqb ((parts word).attempt + 2) (parts word).range) more),
       )
 
-      last : (v : Scene) → ends_call (parts word) e ≡ true → EndedAt p q clients gives v (record { id = call_id (id_slot id) (id_first id); asked = asked }) at.0.0.attempt → IsLast p q clients gives v (record { id = call_id (id_slot id) (id_first id); asked = asked }) e
-      last v ends used = ⊎_elim (λ whole. inl whole) (λ same. ⊎_elim (λ whole. inl (eqb-true (attempt_of e) 7 whole))
+      last : (v : Scene) → After w v → ends_call (parts word) e ≡ true → EndedAt p q clients gives v (record { id = call_id (id_slot id) (id_first id); asked = asked }) at.0.0.attempt → IsLast p q clients gives v (record { id = call_id (id_slot id) (id_first id); asked = asked }) e
+      last v l ends used = ⊎_elim (λ whole. inl whole) (λ same. ⊎_elim (λ whole. inl (eqb-true (attempt_of e) 7 whole))
           (λ rest. inr (
             subst (EndedAt p q clients gives v (record { id = call_id (id_slot id) (id_first id); asked = asked })) (sym (same ∙ at.0.2.1)) used,
             ⊎_elim (λ y. inl y) (λ y. inr (ap (λ n. n + 2) same ∙ (eqb-true ((parts word).attempt + 2) (parts word).range y ∙ (at.0.2.0 ∙ sym at.0.3)))) (or_cases (is_final (code_of e)) (eqb ((parts word).attempt + 2) (parts word).range) rest),
+            subst (λ i. WasDecided v (record { id = i; asked = asked }) e) (sym (id_back id)) (l.decided (record { id = id; asked = asked; error = e }) on),
           ))
           (or_cases (eqb (attempt_of e) 7) (is_final (code_of e) || eqb ((parts word).attempt + 2) (parts word).range) ends)) (fresh_error e (parts word) at.4)
 
@@ -251,14 +253,14 @@ module _ (p : Plan) (q : IdPlan) (clients : List (List Task)) (gives : ℕ → L
           (λ exit u m3 l3 s3 lv3. goes exit u m3 (far p q clients gives w v u l (far p q clients gives v v' u l' l3)) s3 (queued u m id e e' part (cause_on p q clients gives v' u l3 id e' cause) exit m3 (regain u m (with_attempt (parts x).attempt (put_in asked m.slot)) id e' exit m3 lv3))))
 
   -- an error that isn't for the whole call ends it where it is of the last attempt, and final or no attempt is left
-  pub last_of : (w : Scene) (b : Birth) (x : ℕ) → attempt_of x ≢ 7 → IsLast p q clients gives w b x → EndedAt p q clients gives w b (attempt_of x) × ((is_final (code_of x) ≡ true) ⊎ (attempt_of x + 2 ≡ b.asked.range))
+  pub last_of : (w : Scene) (b : Birth) (x : ℕ) → attempt_of x ≢ 7 → IsLast p q clients gives w b x → EndedAt p q clients gives w b (attempt_of x) × ((is_final (code_of x) ≡ true) ⊎ (attempt_of x + 2 ≡ b.asked.range)) × WasDecided w b x
   last_of w b x light (inl whole) = absurd (light whole)
   last_of w b x light (inr y) = y
 
   -- why the call with the id failed, by an error that has its cause, and by the error that ended it
   pub failed_of : (w : Scene) (b : Birth) (id x : ℕ) → ((a c : Asked) → IsBorn w id a → IsBorn w id c → a ≡ c) → b.id ≡ id → IsBorn w b.id b.asked → CauseOf p q clients gives w id x → IsLast p q clients gives w b x → FailedIn p q clients gives w b.id b.asked (code_of x)
   failed_of w b id x apart is born (of_expiry asked whole there expired) last = by_expiry (ap code_of whole ∙ omega arith) (subst (λ a. Rattle.call_causes.specs.Scenes.IsExpired p q clients gives w a) (apart asked b.asked there (subst (λ i. IsBorn w i b.asked) is born)) expired)
-  failed_of w b id x apart is born (of_other other light there) last = let y = last_of w b x light last in by_other (attempt_of x) other (subst (λ i. WasPosted w i (error_of (code_of x) (attempt_of x))) (sym is) (subst (WasPosted w id) (error_is x) there)) y.0 y.1
+  failed_of w b id x apart is born (of_other other light there) last = let y = last_of w b x light last in by_other (attempt_of x) other (subst (λ i. WasPosted w i (error_of (code_of x) (attempt_of x))) (sym is) (subst (WasPosted w id) (error_is x) there)) y.0 y.1 (subst (WasDecided w b) (error_is x) y.2)
 
   failed_by : (w : Scene) (b : Birth) (id e c : ℕ) → ((x y : Asked) → IsBorn w id x → IsBorn w id y → x ≡ y) → b.id ≡ id → IsBorn w b.id b.asked → (IsLast p q clients gives w b e → FailedIn p q clients gives w b.id b.asked (code_of e)) → EndsBy p q clients gives w b id e c → FailedIn p q clients gives w b.id b.asked c
   failed_by w b id e c apart is born own (inl same) = subst (FailedIn p q clients gives w b.id b.asked) (sym same.0) (own same.1)

@@ -222,7 +222,7 @@ module _ (p : Plan) (q : IdPlan) (clients : List (List Task)) (gives : ℕ → L
         tt,
       )
       by_found false is = stays (ClaimId i) found tt b knows f
-  own_fits (PutCall i asked) found b knows may f = put_own i asked m.slot (record { words = b.words; homes = b.homes; gave = b.gave; births = b.births; claims = b.claims; advances = b.advances; posts = b.posts; sayings = b.sayings; overs = b.overs }) (⊎_elim (λ e. inl e) (λ e. inr (e.0, e.1, e.2)) may) f
+  own_fits (PutCall i asked) found b knows may f = put_own i asked m.slot (record { words = b.words; homes = b.homes; gave = b.gave; births = b.births; claims = b.claims; advances = b.advances; posts = b.posts; decided = b.decided; sayings = b.sayings; overs = b.overs }) (⊎_elim (λ e. inl e) (λ e. inr (e.0, e.1, e.2)) may) f
   own_fits (MakeId i range) found b knows may f = tt
   own_fits (StoreCall o id) found b knows may f = by_todo m.todo
     where

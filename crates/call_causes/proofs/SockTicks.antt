@@ -16,10 +16,11 @@ use Rattle.sock_programs.specs.Asides.{call_id, id_slot, id_first}
 use Rattle.sock_programs.specs.Programs.{Program}
 use Rattle.sock_programs.specs.Cores.{resolved, said, next_step}
 use Rattle.call_causes.specs.Lists.{times}
+use Rattle.call_causes.specs.Decided.{Decision}
 use Rattle.call_causes.specs.Scenes.{Birth, Claim, Saying, Scene, In, IsOver, IsBorn, IsOther, Named, StaysWithin, Later}
 use Rattle.call_causes.specs.Says.{Mark, SaidBy, SaysOn}
 use Rattle.call_causes.specs.Stories.{At, word_at, tag_at, LiesAt, HasPassed, IsCurrent, SlotsLaw, BirthsLaw, TasksLaw}
-use Rattle.call_causes.proofs.Lasting.{are_told_on, cause_on, advance_on}
+use Rattle.call_causes.proofs.Lasting.{are_told_on, cause_on, advance_on, here_later}
 use Rattle.call_causes.proofs.Slots.{LikeAt, like_fits}
 use Rattle.call_causes.proofs.BirthTicks.{one_call}
 use Rattle.call_causes.proofs.Numbered.{AreNumbered}
@@ -37,6 +38,7 @@ module _ (p : Plan) (q : IdPlan) (clients : List (List Task)) (gives : ℕ → L
     pub claims_are : w'.claims ≡ w.claims
     pub advances_are : w'.advances ≡ w.advances
     pub posts_are : w'.posts ≡ w.posts
+    pub decided : (d : Decision) → In d w.decisions → In d w'.decisions
     pub named : (n : ℕ) → Named p q clients gives w n → Named p q clients gives w' n
     pub codes : (i : ℕ) → i < p.slots → get_or w'.core.words (code_word i) 0 ≢ 0 → IsOther p q clients gives (get_or w'.core.words (code_word i) 0)
 
@@ -51,6 +53,7 @@ module _ (p : Plan) (q : IdPlan) (clients : List (List Task)) (gives : ℕ → L
       came = λ k n f there. subst (λ g. slice_get (streams.stream (get_or g k [])).frames n ≡ Some f) (sym b.gave) there;
       claimed = λ i o there. subst (In (record { slot = i; operation = o })) (sym b.claims_are) there;
       posted = λ x there. subst (In x) (sym b.posts_are) there;
+      decided = b.decided;
       ended = λ c n u. (subst (In c) (sym b.births_are) u.0, subst (λ ws. id_first c.id + c.asked.range ≤ (parts (get_or ws (id_word (id_slot c.id)) 0)).first) (sym b.words) u.1, ap (times c.asked.operation) b.advances_are ∙ u.2);
       within = room;
       apart = λ id a c s t. one_call w.births births.apart (λ y there. (births.born y there).1) id a c (subst (In (record { id = id; asked = a })) b.births_are s) (subst (In (record { id = id; asked = c })) b.births_are t);
@@ -133,19 +136,7 @@ module _ (p : Plan) (q : IdPlan) (clients : List (List Task)) (gives : ℕ → L
     beside_said = said_first w' ws x (said_all w' x ws w.sayings (λ s there. subst (In s) (sym sayings) there) (λ a b there. subst (IsOver a b) (sym sayings) there))
 
     here : Later p q clients gives w' w'
-    here = record {
-      said = λ o v s. s;
-      over = λ a b s. s;
-      named = λ n s. s;
-      begun = λ o s. s;
-      born = λ id asked s. s;
-      came = λ k n frame s. s;
-      claimed = λ i o s. s;
-      posted = λ x s. s;
-      ended = λ c n u. u;
-      within = room;
-      apart = beside_later.apart;
-    }
+    here = here_later p q clients gives w' room beside_later.apart
 
     -- the laws behind the tick, with the mark that is left once all is said
     pub record AfterBeside : Type 0 where

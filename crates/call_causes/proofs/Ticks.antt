@@ -35,14 +35,18 @@ use Rattle.id_runs.proofs.Programs.{block_goes}
 use Rattle.id_runs.proofs.Owners.{steps_on}
 use Rattle.call_causes.specs.Lists.{advances_by, advanced_with, advanced_at}
 use Rattle.call_causes.specs.Posts.{Post, posts_by, posted_with, posted_at}
+use Rattle.call_causes.specs.Decided.{Decision, decision_in, decided_at}
 use Rattle.call_causes.specs.Scenes.{Scene, In, Said, IsTaskOf, Named, HasNoneOf, ToldOf, was_said, was_sent, was_begun, AreTold, HasRoom, LeadsTo, StaysWithin, Later}
 use Rattle.call_causes.specs.Says.{Mark, SaidBy, MayDo, FindsDo, NoneOfSetup, SaysOn}
-use Rattle.call_causes.specs.Stories.{At, SlotsLaw, ClaimsLaw, ReadsLaw, IsBehind, births_after, claims_after, mark_after, CallStory, HasStory, undo}
-use Rattle.call_causes.proofs.Lasting.{are_told_on, says_on}
+use Rattle.call_causes.specs.Stories.{At, SlotsLaw, ClaimsLaw, ReadsLaw, IsBehind, births_after, claims_after, mark_after, CallStory, HasStory, GoesOn, undo}
+use Rattle.call_causes.proofs.Lasting.{far, here_later, are_told_on, says_on}
 use Rattle.call_causes.proofs.Programs.{block_says}
 use Rattle.call_causes.proofs.Rounds.{round_says}
 use Rattle.call_causes.proofs.Calls.{told_at, open_named}
 use Rattle.call_causes.proofs.Numbered.{AreNumbered}
+use Rattle.call_causes.proofs.BirthTicks.{one_call}
+use Rattle.call_causes.proofs.Attempts.{in_behind, in_front}
+use Rattle.call_causes.proofs.Leading.{run_leads}
 use Rattle.call_causes.proofs.Sayings.{put_at}
 use Rattle.call_causes.proofs.Claiming.{HaveSlots, has_room, claims_after_step}
 use Rattle.call_causes.proofs.Links.{reads_after_step}
@@ -113,6 +117,10 @@ module _ (p : Plan) (q : IdPlan) where
   keeps_few u (Aside step next) g = tt
   keeps_few u (Round head next) g = tt
 
+-- the scene in which these errors are noted
+abbrev pub noted : List Decision → Scene → Scene
+noted ds w = record { core = w.core; claims = w.claims; births = w.births; advances = w.advances; posts = w.posts; decisions = ds ++ w.decisions; sayings = w.sayings }
+
 -- the step of the program is one of the table
 abbrev pub AllowsDo : Plan → Program → Type 0
 AllowsDo p (Do call next) = IsInside p call
@@ -123,19 +131,31 @@ abbrev pub IsSetUp : Core → Type 0
 IsSetUp c = (seat : SeatState) → get_elem? c.seats 0 ≡ some seat → seat.program ≡ Rest
 
 module _ (p : Plan) (q : IdPlan) (clients : List (List Task)) (gives : ℕ → List ℕ) (numbered : AreNumbered p q clients gives) (slots : HaveSlots p q clients gives) (narrow : q.slots ≤ 65536) where
+  -- where nothing happens
+  stays : (w : Scene) (ms : List Mark) → CallStory p q clients gives w ms → LeadsTo p q clients gives w.core → GoesOn p q clients gives w w.decisions w.posts w.advances w.core
+  stays w ms story lead = record {
+    has = record { scene = w; marks = ms; is = refl; shown = refl; shown_posts = refl; story = story };
+    shown_decisions = refl;
+    later = here_later p q clients gives w (has_room p q clients gives slots w ms story.claims, lead) (let births = story.births in one_call w.births births.apart (λ b there. (births.born b there).1));
+  }
+
   module _ (w : Scene) (ms : List Mark) (story : CallStory p q clients gives w ms) (us : List IdView) (ids : SoundIds p q w.core us) (sized : length w.core.words ≡ all_words p) (i : ℕ) (seat : SeatState) (at_seat : get_elem? w.core.seats i ≡ some seat) (u : IdView) (at_view : get_elem? us i ≡ some u) (m : Mark) (at : At ms i m)
       (over : i ≢ 0 → (n : Mark) → At ms 0 n → n.todo ≡ []) where
     abbrev waits : List Retry
     waits = waiting_at w.core.calls.waiting i
 
-    before : HasStory p q clients gives w.posts w.advances w.core
-    before = record { scene = w; marks = ms; is = refl; shown = refl; shown_posts = refl; story = story }
-
     abbrev Leads : Core → Type 0
     Leads c = LeadsTo p q clients gives c
 
+    -- the story goes on behind the step
+    abbrev Goes : List Post → List ℕ → Core → Type 0
+    Goes posted advanced c = GoesOn p q clients gives w w.decisions posted advanced c
+
     room : HasRoom p q clients gives w
     room = has_room p q clients gives slots w ms story.claims
+
+    before : Leads w.core → Goes w.posts w.advances w.core
+    before lead = stays w ms story lead
 
     -- the seats behind a step
     seats_after : (w' : Scene) (seat' : SeatState) (mark : Mark) → w'.core.seats ≡ set w.core.seats i seat' → Later p q clients gives w w' → SaysOn p q clients gives w' mark seat'.program
@@ -149,61 +169,89 @@ module _ (p : Plan) (q : IdPlan) (clients : List (List Task)) (gives : ℕ → L
 
     module _ (x : Program) (hand : List Home) (ws : List ℕ) (hs : List (Option Home)) where
       abbrev scene : Scene
-      scene = record { core = with_seat i x hand ws hs w.core; claims = w.claims; births = w.births; advances = w.advances; posts = w.posts; sayings = sayings_of (resolved (waiting_at w.core.calls.waiting i) x) w.sayings }
+      scene = record { core = with_seat i x hand ws hs w.core; claims = w.claims; births = w.births; advances = w.advances; posts = w.posts; decisions = w.decisions; sayings = sayings_of (resolved (waiting_at w.core.calls.waiting i) x) w.sayings }
 
       on_sockets : ((n : ℕ) → n < p.names → get_or w.core.words (name_word p n) 0 ≢ 0 → get_or ws (name_word p n) 0 ≢ 0) → AreOther p q clients gives ws → KeepsFew x → Leads (with_seat i x hand ws hs w.core)
-          → ((v : Scene) → v.core.words ≡ ws → Later p q clients gives w v → SaidBy v x → SaysOn p q clients gives v m x) → HasStory p q clients gives w.posts w.advances (with_seat i x hand ws hs w.core)
+          → ((v : Scene) → v.core.words ≡ ws → Later p q clients gives w v → SaidBy v x → SaysOn p q clients gives v m x) → Goes w.posts w.advances (with_seat i x hand ws hs w.core)
       on_sockets names codes keeps lead says =
-          let b : IsBeside p q clients gives numbered w scene ms i m at story.slots story.births story.tasks (room, lead) = record { words = refl; homes = refl; gave = refl; births_are = refl; claims_are = refl; advances_are = refl; posts_are = refl; named = λ n y. (y.0, names n y.0 y.1); codes = codes } in
+          let b : IsBeside p q clients gives numbered w scene ms i m at story.slots story.births story.tasks (room, lead) = record { words = refl; homes = refl; gave = refl; births_are = refl; claims_are = refl; advances_are = refl; posts_are = refl; decided = λ d there. there; named = λ n y. (y.0, names n y.0 y.1); codes = codes } in
           let few = few_of p q (waiting_at w.core.calls.waiting i) (ids.waiting i) in
           let l = beside_later p q clients gives numbered w scene ms i m at story.slots story.births story.tasks (room, lead) b x (waiting_at w.core.calls.waiting i) few keeps refl refl in
           let said = beside_said p q clients gives numbered w scene ms i m at story.slots story.births story.tasks (room, lead) b x (waiting_at w.core.calls.waiting i) few keeps refl refl in
           let r = beside_ticks p q clients gives numbered w scene ms i m at story.slots story.births story.tasks (room, lead) b x (waiting_at w.core.calls.waiting i) few keeps refl refl (says scene refl l said) in
           record {
-            scene = scene;
-            marks = set ms i r.mark;
-            is = refl;
-            shown = refl;
-            shown_posts = refl;
-            story = record {
-              each = length-set ms i r.mark ∙ (story.each ∙ sym (length-set w.core.seats i (record { program = next_step (resolved (waiting_at w.core.calls.waiting i) x); hand = hand })));
-              slots = kept_slots p q clients gives scene ms i m r.mark at r.kept r.slots_law;
-              births = r.births_law;
-              tasks = r.tasks_law;
-              claims = kept_claims p q clients gives scene ms i m r.mark at r.kept (record { taken = story.claims.taken; calls = story.claims.calls; once = story.claims.once; free = story.claims.free });
-              reads = kept_reads p q clients gives scene ms i m r.mark at r.kept (record { bytes = story.reads.bytes; tied = story.reads.tied; inside = story.reads.inside });
-              seats = seats_after scene (record { program = next_step (resolved (waiting_at w.core.calls.waiting i) x); hand = hand }) r.mark refl l r.says_on;
+            shown_decisions = refl;
+            later = l;
+            has = record {
+              scene = scene;
+              marks = set ms i r.mark;
+              is = refl;
+              shown = refl;
+              shown_posts = refl;
+              story = record {
+                each = length-set ms i r.mark ∙ (story.each ∙ sym (length-set w.core.seats i (record { program = next_step (resolved (waiting_at w.core.calls.waiting i) x); hand = hand })));
+                slots = kept_slots p q clients gives scene ms i m r.mark at r.kept r.slots_law;
+                births = r.births_law;
+                tasks = r.tasks_law;
+                claims = kept_claims p q clients gives scene ms i m r.mark at r.kept (record { taken = story.claims.taken; calls = story.claims.calls; once = story.claims.once; free = story.claims.free });
+                reads = kept_reads p q clients gives scene ms i m r.mark at r.kept (record { bytes = story.reads.bytes; tied = story.reads.tied; inside = story.reads.inside });
+                seats = seats_after scene (record { program = next_step (resolved (waiting_at w.core.calls.waiting i) x); hand = hand }) r.mark refl l r.says_on;
+              };
             };
           }
 
     -- where no word changes
-    pub on_homes : (x : Program) (hand : List Home) (hs : List (Option Home)) → KeepsFew x → Leads (with_seat i x hand w.core.words hs w.core) → ((v : Scene) → Later p q clients gives w v → SaidBy v x → SaysOn p q clients gives v m x) → HasStory p q clients gives w.posts w.advances (with_seat i x hand w.core.words hs w.core)
+    pub on_homes : (x : Program) (hand : List Home) (hs : List (Option Home)) → KeepsFew x → Leads (with_seat i x hand w.core.words hs w.core) → ((v : Scene) → Later p q clients gives w v → SaidBy v x → SaysOn p q clients gives v m x) → Goes w.posts w.advances (with_seat i x hand w.core.words hs w.core)
     on_homes x hand hs keeps lead says = on_sockets x hand w.core.words hs (λ n low some_. some_) story.births.codes keeps lead (λ v _ l s. says v l s)
 
     -- ## The run is ending
 
     abbrev told_scene : Scene
-    told_scene = record { core = is_ending w.core; claims = w.claims; births = w.births; advances = w.advances; posts = w.posts; sayings = w.sayings }
+    told_scene = record { core = is_ending w.core; claims = w.claims; births = w.births; advances = w.advances; posts = w.posts; decisions = w.decisions; sayings = w.sayings }
 
-    pub told_story : Leads (is_ending w.core) → HasStory p q clients gives w.posts w.advances (is_ending w.core)
+    pub told_story : Leads (is_ending w.core) → Goes w.posts w.advances (is_ending w.core)
     told_story lead =
-        let b : IsBeside p q clients gives numbered w told_scene ms i m at story.slots story.births story.tasks (room, lead) = record { words = refl; homes = refl; gave = refl; births_are = refl; claims_are = refl; advances_are = refl; posts_are = refl; named = λ n y. y; codes = story.births.codes } in
+        let b : IsBeside p q clients gives numbered w told_scene ms i m at story.slots story.births story.tasks (room, lead) = record { words = refl; homes = refl; gave = refl; births_are = refl; claims_are = refl; advances_are = refl; posts_are = refl; decided = λ d there. there; named = λ n y. y; codes = story.births.codes } in
         let l = beside_later p q clients gives numbered w told_scene ms i m at story.slots story.births story.tasks (room, lead) b Rest [] tt tt refl refl in record {
-          scene = told_scene;
-          marks = ms;
-          is = refl;
-          shown = refl;
-          shown_posts = refl;
-          story = record {
-            each = story.each;
-            slots = beside_slots p q clients gives numbered w told_scene ms i m at story.slots story.births story.tasks (room, lead) b Rest [] tt tt refl refl;
-            births = beside_births p q clients gives numbered w told_scene ms i m at story.slots story.births story.tasks (room, lead) b Rest [] tt tt refl refl;
-            tasks = beside_tasks p q clients gives numbered w told_scene ms i m at story.slots story.births story.tasks (room, lead) b Rest [] tt tt refl refl;
-            claims = record { taken = story.claims.taken; calls = story.claims.calls; once = story.claims.once; free = story.claims.free };
-            reads = record { bytes = story.reads.bytes; tied = story.reads.tied; inside = story.reads.inside };
-            seats = λ k s n at_s at_n. says_on p q clients gives w told_scene l n s.program (story.seats k s n at_s at_n);
+          shown_decisions = refl;
+          later = l;
+          has = record {
+            scene = told_scene;
+            marks = ms;
+            is = refl;
+            shown = refl;
+            shown_posts = refl;
+            story = record {
+              each = story.each;
+              slots = beside_slots p q clients gives numbered w told_scene ms i m at story.slots story.births story.tasks (room, lead) b Rest [] tt tt refl refl;
+              births = beside_births p q clients gives numbered w told_scene ms i m at story.slots story.births story.tasks (room, lead) b Rest [] tt tt refl refl;
+              tasks = beside_tasks p q clients gives numbered w told_scene ms i m at story.slots story.births story.tasks (room, lead) b Rest [] tt tt refl refl;
+              claims = record { taken = story.claims.taken; calls = story.claims.calls; once = story.claims.once; free = story.claims.free };
+              reads = record { bytes = story.reads.bytes; tied = story.reads.tied; inside = story.reads.inside };
+              seats = λ k s n at_s at_n. says_on p q clients gives w told_scene l n s.program (story.seats k s n at_s at_n);
+            };
           };
         }
+
+    -- ## Errors on which a seat decides are noted
+
+    module _ (ds : List Decision) (lead : Leads w.core) where
+      noted_beside : IsBeside p q clients gives numbered w (noted ds w) ms i m at story.slots story.births story.tasks (room, lead)
+      noted_beside = record { words = refl; homes = refl; gave = refl; births_are = refl; claims_are = refl; advances_are = refl; posts_are = refl; decided = λ d there. in_behind d ds w.decisions there; named = λ n y. y; codes = story.births.codes }
+
+      pub noted_later : Later p q clients gives w (noted ds w)
+      noted_later = beside_later p q clients gives numbered w (noted ds w) ms i m at story.slots story.births story.tasks (room, lead) noted_beside Rest [] tt tt refl refl
+
+      pub noted_story : CallStory p q clients gives (noted ds w) ms
+      noted_story = record {
+        each = story.each;
+        slots = beside_slots p q clients gives numbered w (noted ds w) ms i m at story.slots story.births story.tasks (room, lead) noted_beside Rest [] tt tt refl refl;
+        births = beside_births p q clients gives numbered w (noted ds w) ms i m at story.slots story.births story.tasks (room, lead) noted_beside Rest [] tt tt refl refl;
+        tasks = beside_tasks p q clients gives numbered w (noted ds w) ms i m at story.slots story.births story.tasks (room, lead) noted_beside Rest [] tt tt refl refl;
+        claims = record { taken = story.claims.taken; calls = story.claims.calls; once = story.claims.once; free = story.claims.free };
+        reads = record { bytes = story.reads.bytes; tied = story.reads.tied; inside = story.reads.inside };
+        seats = λ k s n at_s at_n. says_on p q clients gives w (noted ds w) noted_later n s.program (story.seats k s n at_s at_n);
+      }
 
     -- ## What a step on the table of the sockets finds
 
@@ -272,15 +320,16 @@ module _ (p : Plan) (q : IdPlan) (clients : List (List Task)) (gives : ℕ → L
         births = births_after p q clients gives step found m w.births;
         advances = advances_by step found w.core.calls ++ w.advances;
         posts = posts_by step found ++ w.posts;
+        decisions = w.decisions;
         sayings = sayings_of (resolved (waiting_at (calls_after step found w.core.calls).waiting i) (next found)) w.sayings;
       }
 
       abbrev moved : Mark
       moved = mark_after p q clients gives step found m
 
-      on_ids : Leads (with_seat i (next found) seat.hand w.core.words w.core.homes (record w.core { calls = calls_after step found w.core.calls })) → HasStory p q clients gives (posts_by step found ++ w.posts) (advances_by step found w.core.calls ++ w.advances) (with_seat i (next found) seat.hand w.core.words w.core.homes (record w.core { calls = calls_after step found w.core.calls }))
+      on_ids : Leads (with_seat i (next found) seat.hand w.core.words w.core.homes (record w.core { calls = calls_after step found w.core.calls })) → Goes (posts_by step found ++ w.posts) (advances_by step found w.core.calls ++ w.advances) (with_seat i (next found) seat.hand w.core.words w.core.homes (record w.core { calls = calls_after step found w.core.calls }))
       on_ids lead =
-          let b : IsBehind p q clients gives w aside_scene m step found = record { words = refl; homes = refl; gave = refl; births = refl; claims = refl; advances = refl; posts = refl; sayings = λ s there. sayings_keep (resolved (waiting_at (calls_after step found w.core.calls).waiting i) (next found)) w.sayings s there; overs = λ x y there. overs_keep (resolved (waiting_at (calls_after step found w.core.calls).waiting i) (next found)) w.sayings x y there } in
+          let b : IsBehind p q clients gives w aside_scene m step found = record { words = refl; homes = refl; gave = refl; births = refl; claims = refl; advances = refl; posts = refl; decided = λ d there. there; sayings = λ s there. sayings_keep (resolved (waiting_at (calls_after step found w.core.calls).waiting i) (next found)) w.sayings s there; overs = λ x y there. overs_keep (resolved (waiting_at (calls_after step found w.core.calls).waiting i) (next found)) w.sayings x y there } in
           let kn = knows p q clients gives w us ids ms i m at story.reads u at_view step t found is go.0 says.0 in
           let law = claims_after_step p q clients gives numbered w aside_scene ms i m at ids.plan (is_sized p q clients gives w us ids) (story.slots.fits i m at) story.births w.core.outcomes w.sayings story.tasks story.claims step found b kn says.0 in
           let room' : StaysWithin p q clients gives aside_scene = (has_room p q clients gives slots aside_scene (set ms i (mark_after p q clients gives step found m)) law, lead) in
@@ -291,50 +340,54 @@ module _ (p : Plan) (q : IdPlan) (clients : List (List Task)) (gives : ℕ → L
           let at1 = put_at ms i m (mark_after p q clients gives step found m) at in
           let twice = set_twice ms i (mark_after p q clients gives step found m) r.mark in
           record {
-            scene = aside_scene;
-            marks = set ms i r.mark;
-            is = refl;
-            shown = refl;
-            shown_posts = refl;
-            story = record {
-              each = length-set ms i r.mark ∙ (story.each ∙ sym (length-set w.core.seats i (record { program = next_step (resolved (waiting_at (calls_after step found w.core.calls).waiting i) (next found)); hand = seat.hand })));
-              slots = subst (SlotsLaw q aside_scene) twice (kept_slots p q clients gives aside_scene (set ms i (mark_after p q clients gives step found m)) i (mark_after p q clients gives step found m) r.mark at1 r.kept r.slots_law);
-              births = r.births_law;
-              tasks = r.tasks_law;
-              claims = subst (ClaimsLaw p q clients gives aside_scene) twice (kept_claims p q clients gives aside_scene (set ms i (mark_after p q clients gives step found m)) i (mark_after p q clients gives step found m) r.mark at1 r.kept law);
-              reads = subst (ReadsLaw p q clients gives aside_scene) twice (kept_reads p q clients gives aside_scene (set ms i (mark_after p q clients gives step found m)) i (mark_after p q clients gives step found m) r.mark at1 r.kept (reads_after_step p q clients gives w aside_scene ms i m at story.reads step found b kn says.0));
-              seats = seats_after aside_scene (record { program = next_step (resolved (waiting_at (calls_after step found w.core.calls).waiting i) (next found)); hand = seat.hand }) r.mark refl l r.says_on;
+            shown_decisions = refl;
+            later = l;
+            has = record {
+              scene = aside_scene;
+              marks = set ms i r.mark;
+              is = refl;
+              shown = refl;
+              shown_posts = refl;
+              story = record {
+                each = length-set ms i r.mark ∙ (story.each ∙ sym (length-set w.core.seats i (record { program = next_step (resolved (waiting_at (calls_after step found w.core.calls).waiting i) (next found)); hand = seat.hand })));
+                slots = subst (SlotsLaw q aside_scene) twice (kept_slots p q clients gives aside_scene (set ms i (mark_after p q clients gives step found m)) i (mark_after p q clients gives step found m) r.mark at1 r.kept r.slots_law);
+                births = r.births_law;
+                tasks = r.tasks_law;
+                claims = subst (ClaimsLaw p q clients gives aside_scene) twice (kept_claims p q clients gives aside_scene (set ms i (mark_after p q clients gives step found m)) i (mark_after p q clients gives step found m) r.mark at1 r.kept law);
+                reads = subst (ReadsLaw p q clients gives aside_scene) twice (kept_reads p q clients gives aside_scene (set ms i (mark_after p q clients gives step found m)) i (mark_after p q clients gives step found m) r.mark at1 r.kept (reads_after_step p q clients gives w aside_scene ms i m at story.reads step found b kn says.0));
+                seats = seats_after aside_scene (record { program = next_step (resolved (waiting_at (calls_after step found w.core.calls).waiting i) (next found)); hand = seat.hand }) r.mark refl l r.says_on;
+              };
             };
           }
 
-    by_found : (step : Step) (next : Found step → Program) (t : Option Taking) → SaysOn p q clients gives w m (Aside step next) → IdGoesOn p q u (Aside step next) → (x : Option (Found step)) → found_in step w.core.calls t ≡ x → Leads (with_found p i seat w.core step x next) → HasStory p q clients gives (elim x as (λ o. List Post) [ none ↦ [] | some found ↦ posts_by step found ] ++ w.posts) (elim x as (λ o. List ℕ) [ none ↦ [] | some found ↦ advances_by step found w.core.calls ] ++ w.advances) (with_found p i seat w.core step x next)
-    by_found step next t says go none is lead = before
+    by_found : (step : Step) (next : Found step → Program) (t : Option Taking) → SaysOn p q clients gives w m (Aside step next) → IdGoesOn p q u (Aside step next) → (x : Option (Found step)) → found_in step w.core.calls t ≡ x → Leads (with_found p i seat w.core step x next) → Goes (elim x as (λ o. List Post) [ none ↦ [] | some found ↦ posts_by step found ] ++ w.posts) (elim x as (λ o. List ℕ) [ none ↦ [] | some found ↦ advances_by step found w.core.calls ] ++ w.advances) (with_found p i seat w.core step x next)
+    by_found step next t says go none is lead = before lead
     by_found step next t says go (some found) is lead = on_ids step next t says go found is lead
 
     -- ## Each step
 
-    by_letter : (r : ℕ) (next : Heading → List ℕ → Program) → SaysOn p q clients gives w m (TakeMessage r next) → IdGoesOn p q u (TakeMessage r next) → (x : Option Letter) → message (λ (h : Home). h) w.core.homes r ≡ x → Leads (with_message p i seat w.core r x (λ letter. next letter.0 letter.1)) → HasStory p q clients gives w.posts w.advances (with_message p i seat w.core r x (λ letter. next letter.0 letter.1))
-    by_letter r next says go none is lead = before
+    by_letter : (r : ℕ) (next : Heading → List ℕ → Program) → SaysOn p q clients gives w m (TakeMessage r next) → IdGoesOn p q u (TakeMessage r next) → (x : Option Letter) → message (λ (h : Home). h) w.core.homes r ≡ x → Leads (with_message p i seat w.core r x (λ letter. next letter.0 letter.1)) → Goes w.posts w.advances (with_message p i seat w.core r x (λ letter. next letter.0 letter.1))
+    by_letter r next says go none is lead = before lead
     by_letter r next says go (some letter) is lead = let owner = ids.owners r (Message letter.0 letter.1) (message_there (get_elem? w.core.homes r) letter is) in
         on_homes (next letter.0 letter.1) seat.hand (set w.core.homes r none) (keeps_few p q u (next letter.0 letter.1) (go letter.0 letter.1 owner)) lead (λ v l s. says letter.0 letter.1 v owner l s)
 
-    by_link : (k : ℕ) (next : ℕ → Program) → SaysOn p q clients gives w m (TakeHome k next) → IdGoesOn p q u (TakeHome k next) → (x : Option (List ℕ × ℕ)) → Leads (with_link p i seat w.core k x next) → HasStory p q clients gives w.posts w.advances (with_link p i seat w.core k x next)
-    by_link k next says go none lead = before
+    by_link : (k : ℕ) (next : ℕ → Program) → SaysOn p q clients gives w m (TakeHome k next) → IdGoesOn p q u (TakeHome k next) → (x : Option (List ℕ × ℕ)) → Leads (with_link p i seat w.core k x next) → Goes w.posts w.advances (with_link p i seat w.core k x next)
+    by_link k next says go none lead = before lead
     by_link k next says go (some home) lead = on_homes (next home.1) (lies_at w.core.homes (link_place p k) ++ seat.hand) (set w.core.homes (link_place p k) none) (keeps_few p q u (next home.1) (go home.1)) lead (λ v l s. says home.1 v l s)
 
-    by_put : (bytes : List ℕ) (next : Put → Program) → ((answer : Put) (v : Scene) → Later p q clients gives w v → SaidBy v (next answer) → SaysOn p q clients gives v m (next answer)) → ((answer : Put) → IdGoesOn p q u (next answer)) → (answer : Answer) → Leads (with_put p i seat w.core bytes answer next) → HasStory p q clients gives w.posts w.advances (with_put p i seat w.core bytes answer next)
+    by_put : (bytes : List ℕ) (next : Put → Program) → ((answer : Put) (v : Scene) → Later p q clients gives w v → SaidBy v (next answer) → SaysOn p q clients gives v m (next answer)) → ((answer : Put) → IdGoesOn p q u (next answer)) → (answer : Answer) → Leads (with_put p i seat w.core bytes answer next) → Goes w.posts w.advances (with_put p i seat w.core bytes answer next)
     by_put bytes next says go (OfPut answer) lead = on_homes (next answer) (onto_first (fed bytes answer) seat.hand) w.core.homes (keeps_few p q u (next answer) (go answer)) lead (λ v l s. says answer v l s)
-    by_put bytes next says go Unasked lead = before
-    by_put bytes next says go (OfReady r) lead = before
-    by_put bytes next says go (OfTake t) lead = before
+    by_put bytes next says go Unasked lead = before lead
+    by_put bytes next says go (OfReady r) lead = before lead
+    by_put bytes next says go (OfTake t) lead = before lead
 
-    by_ready : (next : Ready → Program) → ((answer : Ready) (v : Scene) → Later p q clients gives w v → SaidBy v (next answer) → SaysOn p q clients gives v m (next answer)) → ((answer : Ready) → IdGoesOn p q u (next answer)) → (answer : Answer) → Leads (with_ready p i seat w.core answer next) → HasStory p q clients gives w.posts w.advances (with_ready p i seat w.core answer next)
+    by_ready : (next : Ready → Program) → ((answer : Ready) (v : Scene) → Later p q clients gives w v → SaidBy v (next answer) → SaysOn p q clients gives v m (next answer)) → ((answer : Ready) → IdGoesOn p q u (next answer)) → (answer : Answer) → Leads (with_ready p i seat w.core answer next) → Goes w.posts w.advances (with_ready p i seat w.core answer next)
     by_ready next says go (OfReady answer) lead = on_homes (next answer) seat.hand w.core.homes (keeps_few p q u (next answer) (go answer)) lead (λ v l s. says answer v l s)
-    by_ready next says go Unasked lead = before
-    by_ready next says go (OfPut a) lead = before
-    by_ready next says go (OfTake t) lead = before
+    by_ready next says go Unasked lead = before lead
+    by_ready next says go (OfPut a) lead = before lead
+    by_ready next says go (OfTake t) lead = before lead
 
-    first_step : (answer : Answer) (program : Program) → SaysOn p q clients gives w m program → IdGoesOn p q u program → FitsFirst p w.core program → AllowsDo p program → Leads (step_with p i seat w.core answer program) → HasStory p q clients gives (posted_with w.core.calls (taken answer) program ++ w.posts) (advanced_with w.core.calls (taken answer) program ++ w.advances) (step_with p i seat w.core answer program)
+    first_step : (answer : Answer) (program : Program) → SaysOn p q clients gives w m program → IdGoesOn p q u program → FitsFirst p w.core program → AllowsDo p program → Leads (step_with p i seat w.core answer program) → Goes (posted_with w.core.calls (taken answer) program ++ w.posts) (advanced_with w.core.calls (taken answer) program ++ w.advances) (step_with p i seat w.core answer program)
     first_step answer (Do call next) says go fits in_ lead = let found : ℕ = found_at w.core.words (word_of p call) in
         on_sockets (next found) (hand_after p call w.core.homes seat.hand) (words_after w.core.words (word_of p call) (word_after call (found_at w.core.words (word_of p call)))) (homes_after p call seat.hand w.core.homes)
         (λ n low some_. names_after p q clients gives call in_ says.0 w.core.words sized n low some_) (codes_after p q clients gives call says.0 w.core.words story.births.codes)
@@ -345,47 +398,62 @@ module _ (p : Plan) (q : IdPlan) (clients : List (List Task)) (gives : ℕ → L
     first_step answer (PutBytes k asked bytes next) says go fits in_ lead = by_put bytes next says go answer lead
     first_step answer (AskReady k next) says go fits in_ lead = by_ready next says go answer lead
     first_step answer (Aside step next) says go fits in_ lead = by_found step next (taken answer) says go (found_in step w.core.calls (taken answer)) refl lead
-    first_step answer (Say o outcome next) says go fits in_ lead = before
-    first_step answer (Sent o next) says go fits in_ lead = before
-    first_step answer Rest says go fits in_ lead = before
-    first_step answer (Write x after) says go fits in_ lead = before
-    first_step answer (Round head next) says go fits in_ lead = before
-    first_step answer (Keep r next) says go fits in_ lead = before
-    first_step answer (Retries requests after) says go fits in_ lead = before
+    first_step answer (Say o outcome next) says go fits in_ lead = before lead
+    first_step answer (Sent o next) says go fits in_ lead = before lead
+    first_step answer Rest says go fits in_ lead = before lead
+    first_step answer (Write x after) says go fits in_ lead = before lead
+    first_step answer (Round head next) says go fits in_ lead = before lead
+    first_step answer (Keep r next) says go fits in_ lead = before lead
+    first_step answer (Retries requests after) says go fits in_ lead = before lead
 
-    any_step : (answer : Answer) (program : Program) → SaysOn p q clients gives w m program → IdGoesOn p q u program → FitsFirst p w.core (goes.first_of program) → AllowsDo p (goes.first_of program) → Leads (tick_with p i seat w.core answer program) → HasStory p q clients gives (posted_with w.core.calls (taken answer) (goes.first_of program) ++ w.posts) (advanced_with w.core.calls (taken answer) (goes.first_of program) ++ w.advances) (tick_with p i seat w.core answer program)
-    any_step answer (Write x after) says go fits in_ lead = first_step answer (block x after) (block_says p q clients gives w m x after says) (block_goes p q narrow u x after go) fits in_ lead
-    any_step answer (Round head next) says go fits in_ lead = first_step answer (round head next) (round_says p q clients gives w m head next says) (ids_round p q u head next go) fits in_ lead
-    any_step answer (Do call next) says go fits in_ lead = first_step answer (Do call next) says go fits in_ lead
-    any_step answer (TakeMessage r next) says go fits in_ lead = first_step answer (TakeMessage r next) says go fits in_ lead
-    any_step answer (TakeHome k next) says go fits in_ lead = first_step answer (TakeHome k next) says go fits in_ lead
-    any_step answer (PutHome k n after) says go fits in_ lead = first_step answer (PutHome k n after) says go fits in_ lead
-    any_step answer (PutBytes k asked bytes next) says go fits in_ lead = first_step answer (PutBytes k asked bytes next) says go fits in_ lead
-    any_step answer (AskReady k next) says go fits in_ lead = first_step answer (AskReady k next) says go fits in_ lead
-    any_step answer (Aside step next) says go fits in_ lead = first_step answer (Aside step next) says go fits in_ lead
-    any_step answer (Say o outcome next) says go fits in_ lead = before
-    any_step answer (Sent o next) says go fits in_ lead = before
-    any_step answer Rest says go fits in_ lead = before
-    any_step answer (Keep r next) says go fits in_ lead = before
-    any_step answer (Retries requests after) says go fits in_ lead = before
+    -- where the error on which the seat decides is noted, if it decides on one
+    any_step : (answer : Answer) (program : Program) → ((d : Decision) → In d (decision_in program) → In d w.decisions) → SaysOn p q clients gives w m program → IdGoesOn p q u program → FitsFirst p w.core (goes.first_of program) → AllowsDo p (goes.first_of program) → Leads (tick_with p i seat w.core answer program) → Goes (posted_with w.core.calls (taken answer) (goes.first_of program) ++ w.posts) (advanced_with w.core.calls (taken answer) (goes.first_of program) ++ w.advances) (tick_with p i seat w.core answer program)
+    any_step answer (Write x after) on says go fits in_ lead = first_step answer (block x after) (block_says p q clients gives w m x after says) (block_goes p q narrow u x after go) fits in_ lead
+    any_step answer (Round head next) on says go fits in_ lead = first_step answer (round head next) (round_says p q clients gives w m head next on says) (ids_round p q u head next go) fits in_ lead
+    any_step answer (Do call next) on says go fits in_ lead = first_step answer (Do call next) says go fits in_ lead
+    any_step answer (TakeMessage r next) on says go fits in_ lead = first_step answer (TakeMessage r next) says go fits in_ lead
+    any_step answer (TakeHome k next) on says go fits in_ lead = first_step answer (TakeHome k next) says go fits in_ lead
+    any_step answer (PutHome k n after) on says go fits in_ lead = first_step answer (PutHome k n after) says go fits in_ lead
+    any_step answer (PutBytes k asked bytes next) on says go fits in_ lead = first_step answer (PutBytes k asked bytes next) says go fits in_ lead
+    any_step answer (AskReady k next) on says go fits in_ lead = first_step answer (AskReady k next) says go fits in_ lead
+    any_step answer (Aside step next) on says go fits in_ lead = first_step answer (Aside step next) says go fits in_ lead
+    any_step answer (Say o outcome next) on says go fits in_ lead = before lead
+    any_step answer (Sent o next) on says go fits in_ lead = before lead
+    any_step answer Rest on says go fits in_ lead = before lead
+    any_step answer (Keep r next) on says go fits in_ lead = before lead
+    any_step answer (Retries requests after) on says go fits in_ lead = before lead
 
   -- the step of each seat is one of the table
   abbrev pub Allows : Core → Moment → Type 0
   Allows c mm = (seat : SeatState) → get_elem? c.seats mm.seat ≡ some seat → AllowsDo p (goes.first_of seat.program)
 
-  -- a tick of any seat goes on with the story; behind seat 0 once it has nothing left to do
-  pub story_ticks : (ps : List Post) (ns : List ℕ) (c : Core) (us : List IdView) (mm : Moment) → SoundIds p q c us → IsFittingIds p c mm → length c.words ≡ all_words p → Allows c mm → (mm.seat ≢ 0 → IsSetUp c) → LeadsTo p q clients gives (ticked p c mm) → HasStory p q clients gives ps ns c → HasStory p q clients gives (posted_at c mm ++ ps) (advanced_at c mm ++ ns) (ticked p c mm)
-  story_ticks ps ns c us mm ids fitting sized allows set_up lead h = subst (λ ks. HasStory p q clients gives (posted_at c mm ++ ks) (advanced_at c mm ++ ns) (ticked p c mm)) h.shown_posts (subst (λ ks. HasStory p q clients gives (posted_at c mm ++ h.scene.posts) (advanced_at c mm ++ ks) (ticked p c mm)) h.shown
-      (subst (λ d. HasStory p q clients gives (posted_at d mm ++ h.scene.posts) (advanced_at d mm ++ h.scene.advances) (ticked p d mm)) h.is
+  -- a tick of any seat goes on with the story, with the error noted on which it decides; behind seat 0 once it has nothing left to do
+  pub story_lasts : (ps : List Post) (ns : List ℕ) (c : Core) (us : List IdView) (mm : Moment) → SoundIds p q c us → IsFittingIds p c mm → length c.words ≡ all_words p → Allows c mm → (mm.seat ≢ 0 → IsSetUp c) → LeadsTo p q clients gives (ticked p c mm) → (h : HasStory p q clients gives ps ns c)
+      → GoesOn p q clients gives h.scene (decided_at c mm ++ h.scene.decisions) (posted_at c mm ++ ps) (advanced_at c mm ++ ns) (ticked p c mm)
+  story_lasts ps ns c us mm ids fitting sized allows set_up lead h =
+      subst (λ ks. GoesOn p q clients gives h.scene (decided_at c mm ++ h.scene.decisions) (posted_at c mm ++ ks) (advanced_at c mm ++ ns) (ticked p c mm)) h.shown_posts
+      (subst (λ ks. GoesOn p q clients gives h.scene (decided_at c mm ++ h.scene.decisions) (posted_at c mm ++ h.scene.posts) (advanced_at c mm ++ ks) (ticked p c mm)) h.shown
+      (subst (λ d. GoesOn p q clients gives h.scene (decided_at d mm ++ h.scene.decisions) (posted_at d mm ++ h.scene.posts) (advanced_at d mm ++ h.scene.advances) (ticked p d mm)) h.is
       (of_scene h.scene h.marks h.story (subst (λ d. SoundIds p q d us) (sym h.is) ids) (subst (λ d. IsFittingIds p d mm) (sym h.is) fitting) (subst (λ (d : Core). length d.words ≡ all_words p) (sym h.is) sized) (subst (λ d. Allows d mm) (sym h.is) allows) (subst (λ d. mm.seat ≢ 0 → IsSetUp d) (sym h.is) set_up) (subst (λ d. LeadsTo p q clients gives (ticked p d mm)) (sym h.is) lead))))
     where
-      of_scene : (w : Scene) (ms : List Mark) → CallStory p q clients gives w ms → SoundIds p q w.core us → IsFittingIds p w.core mm → length w.core.words ≡ all_words p → Allows w.core mm → (mm.seat ≢ 0 → IsSetUp w.core) → LeadsTo p q clients gives (ticked p w.core mm) → HasStory p q clients gives (posted_at w.core mm ++ w.posts) (advanced_at w.core mm ++ w.advances) (ticked p w.core mm)
+      of_scene : (w : Scene) (ms : List Mark) → CallStory p q clients gives w ms → SoundIds p q w.core us → IsFittingIds p w.core mm → length w.core.words ≡ all_words p → Allows w.core mm → (mm.seat ≢ 0 → IsSetUp w.core) → LeadsTo p q clients gives (ticked p w.core mm) → GoesOn p q clients gives w (decided_at w.core mm ++ w.decisions) (posted_at w.core mm ++ w.posts) (advanced_at w.core mm ++ w.advances) (ticked p w.core mm)
       of_scene w ms story ids fitting sized allows set_up lead = by_seat (get_elem? w.core.seats mm.seat) refl lead
         where
           over : mm.seat ≢ 0 → (n : Mark) → At ms 0 n → n.todo ≡ []
           over other n there = let s = other_there ms w.core.seats 0 n (sym story.each) there in let g = subst (SaysOn p q clients gives w n) (set_up other s.0 s.1) (story.seats 0 s.0 n s.1 there) in g.1
 
-          by_seat : (x : Option SeatState) → get_elem? w.core.seats mm.seat ≡ x → LeadsTo p q clients gives (elim x as (λ o. Core) [ none ↦ w.core | some seat ↦ tick_with p mm.seat seat w.core mm.answer seat.program ]) → HasStory p q clients gives (elim x as (λ o. List Post) [ none ↦ [] | some seat ↦ posted_with w.core.calls (taken mm.answer) (goes.first_of seat.program) ] ++ w.posts) (elim x as (λ o. List ℕ) [ none ↦ [] | some seat ↦ advanced_with w.core.calls (taken mm.answer) (goes.first_of seat.program) ] ++ w.advances) (elim x as (λ o. Core) [ none ↦ w.core | some seat ↦ tick_with p mm.seat seat w.core mm.answer seat.program ])
-          by_seat none e lead = record { scene = w; marks = ms; is = refl; shown = refl; shown_posts = refl; story = story }
+          here : LeadsTo p q clients gives w.core
+          here = run_leads p q clients gives (mm ∷ []) w.core lead
+
+          by_seat : (x : Option SeatState) → get_elem? w.core.seats mm.seat ≡ x → LeadsTo p q clients gives (elim x as (λ o. Core) [ none ↦ w.core | some seat ↦ tick_with p mm.seat seat w.core mm.answer seat.program ]) → GoesOn p q clients gives w (elim x as (λ o. List Decision) [ none ↦ [] | some seat ↦ decision_in seat.program ] ++ w.decisions) (elim x as (λ o. List Post) [ none ↦ [] | some seat ↦ posted_with w.core.calls (taken mm.answer) (goes.first_of seat.program) ] ++ w.posts) (elim x as (λ o. List ℕ) [ none ↦ [] | some seat ↦ advanced_with w.core.calls (taken mm.answer) (goes.first_of seat.program) ] ++ w.advances) (elim x as (λ o. Core) [ none ↦ w.core | some seat ↦ tick_with p mm.seat seat w.core mm.answer seat.program ])
+          by_seat none e lead = stays w ms story here
           by_seat (some seat) e lead = let u = other_there w.core.seats us mm.seat seat ids.each e in let m = other_there w.core.seats ms mm.seat seat story.each e in
-              any_step w ms story us ids sized mm.seat seat e u.0 u.1 m.0 m.1 over mm.answer seat.program (story.seats mm.seat seat m.0 e m.1) (ids.seats mm.seat seat u.0 e u.1) (fitting seat e) (allows seat e) lead
+              let told = noted_story w ms story us ids sized mm.seat seat e u.0 u.1 m.0 m.1 over (decision_in seat.program) here in
+              let k = any_step (noted (decision_in seat.program) w) ms told us ids sized mm.seat seat e u.0 u.1 m.0 m.1 over mm.answer seat.program (λ d there. in_front d (decision_in seat.program) w.decisions there) (told.seats mm.seat seat m.0 e m.1) (ids.seats mm.seat seat u.0 e u.1) (fitting seat e) (allows seat e) lead in record {
+                has = k.has;
+                shown_decisions = k.shown_decisions;
+                later = far p q clients gives w (noted (decision_in seat.program) w) (let h = k.has in h.scene) (noted_later w ms story us ids sized mm.seat seat e u.0 u.1 m.0 m.1 over (decision_in seat.program) here) k.later;
+              }
+
+  pub story_ticks : (ps : List Post) (ns : List ℕ) (c : Core) (us : List IdView) (mm : Moment) → SoundIds p q c us → IsFittingIds p c mm → length c.words ≡ all_words p → Allows c mm → (mm.seat ≢ 0 → IsSetUp c) → LeadsTo p q clients gives (ticked p c mm) → HasStory p q clients gives ps ns c → HasStory p q clients gives (posted_at c mm ++ ps) (advanced_at c mm ++ ns) (ticked p c mm)
+  story_ticks ps ns c us mm ids fitting sized allows set_up lead h = let k = story_lasts ps ns c us mm ids fitting sized allows set_up lead h in k.has

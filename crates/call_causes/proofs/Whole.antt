@@ -19,16 +19,17 @@ use Rattle.report_fits.proofs.Reading.{InRange}
 use Rattle.report_fits.proofs.Targets.{AreThere}
 use Rattle.owed_calls.specs.Lives.{ClosesInRun}
 use Rattle.owed_calls.proofs.Known.{run_all_ended, run_all_rest}
-use Rattle.call_causes.specs.Lists.{given, times, attempts_of_run}
+use Rattle.call_causes.specs.Lists.{given, times, shows_in_run, attempts_of_run}
 use Rattle.call_causes.specs.Target.{ToldOnCallsInPart}
 use Rattle.call_causes.specs.Posts.{Post, posts_of_run}
+use Rattle.call_causes.specs.Decided.{Decision, decided_at}
 use Rattle.call_causes.specs.Scenes.{In, WasPosted, SeeksName, LeadsTo}
 use Rattle.call_causes.specs.Stories.{HasStory}
 use Rattle.call_causes.proofs.End.{HasEnded, told, versions}
 use Rattle.call_causes.proofs.CallWhys.{names_found_none, why}
 use Rattle.call_causes.proofs.Once.{expired_once}
 use Rattle.call_causes.proofs.Scripts.{are_numbered, are_ascending, have_slots, begins}
-use Rattle.call_causes.proofs.Run.{run_story, many_seats}
+use Rattle.call_causes.proofs.Run.{run_told, many_seats}
 use Rattle.call_causes.proofs.Over.{has_ended}
 
 seeks_name : (n : ℕ) (op : Op) → Seeks n op → SeeksName n op
@@ -48,21 +49,26 @@ module _ (script : List Item) (made : AreMade script) (there : AreThere script) 
   leads : LeadsTo (plan_of script) (id_plan_of script) (all_tasks script) (given core) core
   leads k = ([], append-nil (given core k))
 
-  -- with the errors that ids took, and the calls whose attempts were advanced, each the latest first
-  pub run_tale : (ps : List Post) × (ns : List ℕ) × HasStory (plan_of script) (id_plan_of script) (all_tasks script) (given core) ps ns core × ((x : Post) → In x ps → In x (posts_of_run script turns core is)) × ((o : ℕ) → times o ns ≡ attempts_of_run script turns core is o)
-  run_tale = run_story script made (given core) (are_numbered script made there range (given core)) (have_slots script made there range (given core)) (begins script made there range (given core)) turns core is leads
+  -- with the errors that ids took, and the calls whose attempts were advanced, each the latest first, and with the errors on which seats decided
+  pub run_tale : (s : (ps : List Post) × (ns : List ℕ) × HasStory (plan_of script) (id_plan_of script) (all_tasks script) (given core) ps ns core × ((x : Post) → In x ps → In x (posts_of_run script turns core is)) × ((o : ℕ) → times o ns ≡ attempts_of_run script turns core is o)) × ((d : Decision) → In d s.2.scene.decisions → In d (shows_in_run script turns core is decided_at))
+  run_tale = run_told script made (given core) (are_numbered script made there range (given core)) (have_slots script made there range (given core)) (begins script made there range (given core)) turns core is leads
 
   -- whatever the schedule, the story of the calls goes on up to the end of the run
-  pub run_has_story : HasStory (plan_of script) (id_plan_of script) (all_tasks script) (given core) run_tale.0 run_tale.1 core
-  run_has_story = run_tale.2
+  pub run_has_story : HasStory (plan_of script) (id_plan_of script) (all_tasks script) (given core) run_tale.0.0 run_tale.0.1 core
+  run_has_story = run_tale.0.2
 
   -- the number of the last attempt of each call is how often it was advanced
   pub run_attempts : (o : ℕ) → times o run_has_story.scene.advances ≡ attempts_of_run script turns core is o
-  run_attempts o = ap (times o) run_has_story.shown ∙ run_tale.4 o
+  run_attempts o = ap (times o) run_has_story.shown ∙ run_tale.0.4 o
 
   -- each error that the story shows an id took in the run
   pub run_posted : (id error : ℕ) → WasPosted run_has_story.scene id error → In (record { id = id; error = error }) (posts_of_run script turns core is)
-  run_posted id error there = run_tale.3 (record { id = id; error = error }) (subst (In (record { id = id; error = error })) run_has_story.shown_posts there)
+  run_posted id error there = run_tale.0.3 (record { id = id; error = error }) (subst (In (record { id = id; error = error })) run_has_story.shown_posts there)
+
+  -- and on each error of which it shows a decision a seat decided in the run
+  pub run_decided : (d : Decision) → In d run_has_story.scene.decisions → In d (shows_in_run script turns core is decided_at)
+  unfolding run_has_story
+  run_decided d there = run_tale.1 d there
 
   module _ (closes : ClosesInRun script turns core is) where
     -- and has ended there, where a link answers that it is closed only where its writing half is finished

@@ -27,7 +27,7 @@ in_contains (y ∷ ys) x (inl same) = (0, omega arith, sym same)
 in_contains (y ∷ ys) x (inr there) = let r = in_contains ys x there in (r.0 + 1, (let z = r.1 in omega (arith, z)), subst (λ n. Rattle.std.specs.Prelude.slice_index_or (y ∷ ys) n x ≡ x) (let z : Rattle.std.proofs.Common.suc r.0 ≡ r.0 + 1 = omega arith in z) r.2)
 
 module _ (p : Plan) (q : IdPlan) (clients : List (List Task)) (gives : ℕ → List ℕ) (ascending : (c : ℕ) → AreAscending (get_or clients c [])) where
-  ascending_undo : (done todo : List Task) → AreAscending (undo p q clients gives done todo) → AreAscending todo × ((d t : Task) → In d done → In t todo → d.number < t.number)
+  pub ascending_undo : (done todo : List Task) → AreAscending (undo p q clients gives done todo) → AreAscending todo × ((d t : Task) → In d done → In t todo → d.number < t.number)
   ascending_undo [] todo all = (all, λ d t there here. absurd there)
   ascending_undo (e ∷ done) todo all = let r = ascending_undo done (e ∷ todo) all in (r.0.1, λ d t there here. by_place d t there here r.0.0 r.1)
     where

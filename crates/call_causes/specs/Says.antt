@@ -23,7 +23,7 @@ use Rattle.sock_programs.specs.Readers.{has_response}
 use Rattle.id_runs.specs.Goes.{FitsOwner, FitsWriting}
 use Rattle.call_causes.specs.Lists.{given}
 use Rattle.sock_words.specs.declared.outcome.Outcome.{Outcome}
-use Rattle.call_causes.specs.Scenes.{Birth, Scene, Said, IsOver, IsJust, IsBorn, IsClaimed, Came, HasFaulted, IsOther, IsErrorCode, Named, Begun, WasPosted, EndedAt, MayAdvance, HasBegunIn, CauseOf, WhyEnded, WhyOwn, AreTold, HasNoneOf, IsTaskOf, Later}
+use Rattle.call_causes.specs.Scenes.{Birth, Scene, Said, IsOver, IsJust, IsBorn, IsClaimed, Came, HasFaulted, IsOther, IsErrorCode, Named, Begun, WasPosted, WasDecided, EndedAt, MayAdvance, HasBegunIn, CauseOf, WhyEnded, WhyOwn, AreTold, HasNoneOf, IsTaskOf, Later}
 
 -- ## Marks
 
@@ -239,9 +239,9 @@ module _ (p : Plan) (q : IdPlan) (clients : List (List Task)) (gives : ℕ → L
   LeavesUnlock w m i (IsOpen word) m' = m' ≡ with_slot NoSlot m
   LeavesUnlock w m i (HasNext word e) m' = (m' ≡ with_slot (with_attempt (parts word).attempt m.slot) m) × ((f : ℕ) (shape : Shape) → m.slot ≡ Locked i f shape → CauseOf p q clients gives w (call_id i f) e × ((parts word).range ≡ shape.range)) × (is_stale e (parts word) ≡ false)
 
-  -- an error that ends its call is for the whole of it, or for its last attempt, and final, or comes where no attempt is left
+  -- an error that ends its call is for the whole of it, or for its last attempt, and final, or comes where no attempt is left; a seat decided on it then
   abbrev pub IsLast : Scene → Birth → ℕ → Type 0
-  IsLast w b e = (attempt_of e ≡ WHOLE) ⊎ (EndedAt p q clients gives w b (attempt_of e) × ((is_final (code_of e) ≡ true) ⊎ (attempt_of e + 2 ≡ b.asked.range)))
+  IsLast w b e = (attempt_of e ≡ WHOLE) ⊎ (EndedAt p q clients gives w b (attempt_of e) × ((is_final (code_of e) ≡ true) ⊎ (attempt_of e + 2 ≡ b.asked.range)) × WasDecided w b e)
 
   -- the error that ended a call is this one, or, where this one isn't for the whole call, one that was queued
   abbrev pub EndsBy : Scene → Birth → ℕ → ℕ → ℕ → Type 0

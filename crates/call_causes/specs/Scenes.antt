@@ -20,6 +20,7 @@ use Rattle.sock_programs.specs.Posts.{WHOLE, is_final}
 use Rattle.sock_programs.specs.Cores.{Core}
 use Rattle.call_causes.specs.Lists.{given, times}
 use Rattle.call_causes.specs.Posts.{Post}
+use Rattle.call_causes.specs.Decided.{Decision}
 
 -- the id of a call, which has the versions behind it, as many as the call's range less one
 pub record Birth : Type 0 where
@@ -36,14 +37,15 @@ pub record Claim : Type 0 where
   pub slot : ℕ
   pub operation : ℕ
 
--- a core, the slots that were claimed so far, the ids that were made, the operations of the calls whose attempt was advanced, the errors that ids took, and what was said, each the
--- latest first
+-- a core, the slots that were claimed so far, the ids that were made, the operations of the calls whose attempt was advanced, the errors that ids took, those on which seats decided, and
+-- what was said, each the latest first
 pub record Scene : Type 0 where
   pub core : Core
   pub claims : List Claim
   pub births : List Birth
   pub advances : List ℕ
   pub posts : List Post
+  pub decisions : List Decision
   pub sayings : List Saying
 
 -- x is one of the list
@@ -72,6 +74,10 @@ IsClaimed w i o = In (record { slot = i; operation = o }) w.claims
 -- the id took this error
 abbrev pub WasPosted : Scene → ℕ → ℕ → Type 0
 WasPosted w id e = In (record { id = id; error = e }) w.posts
+
+-- a seat decided on this error of the call
+abbrev pub WasDecided : Scene → Birth → ℕ → Type 0
+WasDecided w b e = In (record { id = b.id; asked = b.asked; error = e }) w.decisions
 
 -- frame n of link k came
 abbrev pub Came : Scene → ℕ → ℕ → Frame → Type 0
@@ -145,11 +151,11 @@ module _ (p : Plan) (q : IdPlan) (clients : List (List Task)) (gives : ℕ → L
     of_expiry : (asked : Asked) → e ≡ error_of 1008 WHOLE → IsBorn w id asked → IsExpired w asked → CauseOf w id e
     of_other : IsOther (code_of e) → attempt_of e ≢ WHOLE → WasPosted w id e → CauseOf w id e
 
-  -- why the call with this id ended with the code: by another error, where that of its last attempt was posted
+  -- why the call with this id ended with the code: by another error, where that of its last attempt was posted, and a seat decided on it
   pub data FailedIn (w : Scene) (id : ℕ) (asked : Asked) (code : ℕ) : Type 0 where
     by_expiry : code ≡ 1008 → IsExpired w asked → FailedIn w id asked code
     by_compression : code ≡ 2002 → IsAnsweredIn w id asked (λ frame. frame.meta.compress_type ≢ pos 0) → FailedIn w id asked code
-    by_other : (n : ℕ) → IsOther code → WasPosted w id (error_of code n) → EndedAt w (record { id = id; asked = asked }) n → (is_final code ≡ true) ⊎ (n + 2 ≡ asked.range) → FailedIn w id asked code
+    by_other : (n : ℕ) → IsOther code → WasPosted w id (error_of code n) → EndedAt w (record { id = id; asked = asked }) n → (is_final code ≡ true) ⊎ (n + 2 ≡ asked.range) → WasDecided w (record { id = id; asked = asked }) (error_of code n) → FailedIn w id asked code
 
   -- why a call whose range has ended has its outcome
   abbrev pub WhyEnded : Scene → Birth → Outcome → Type 0
@@ -238,6 +244,7 @@ module _ (p : Plan) (q : IdPlan) (clients : List (List Task)) (gives : ℕ → L
     pub came : (k n : ℕ) (frame : Frame) → Came w k n frame → Came w' k n frame
     pub claimed : (i o : ℕ) → IsClaimed w i o → IsClaimed w' i o
     pub posted : (x : Post) → In x w.posts → In x w'.posts
+    pub decided : (d : Decision) → In d w.decisions → In d w'.decisions
     pub ended : (b : Birth) (n : ℕ) → EndedAt w b n → EndedAt w' b n
     pub within : StaysWithin w'
     pub apart : (id : ℕ) (a b : Asked) → IsBorn w' id a → IsBorn w' id b → a ≡ b

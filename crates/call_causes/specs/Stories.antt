@@ -19,7 +19,8 @@ use Rattle.sock_programs.specs.Posts.{advance_of}
 use Rattle.sock_programs.specs.Cores.{Core, SeatState}
 use Rattle.call_causes.specs.Lists.{given, times, advances_by}
 use Rattle.call_causes.specs.Posts.{Post, posts_by}
-use Rattle.call_causes.specs.Scenes.{Birth, Claim, Saying, Scene, In, IsOver, Said, IsBorn, IsOther, MayAdvance, CauseOf, Begun, IsTaskOf, WhyEnded, WhyOwn, AreTold, IsClaimed}
+use Rattle.call_causes.specs.Decided.{Decision}
+use Rattle.call_causes.specs.Scenes.{Birth, Claim, Saying, Scene, In, IsOver, Said, IsBorn, IsOther, MayAdvance, CauseOf, Begun, IsTaskOf, WhyEnded, WhyOwn, AreTold, IsClaimed, Later}
 use Rattle.call_causes.specs.Says.{Shape, shape_of, with_attempt, unlocked_by, Slot, NoSlot, Claims, Locked, Holds, Leaves, Mark, with_slot, with_owed, with_made, with_done, put_in, taken_out, given_more, SaysOn}
 
 abbrev pub At : List Mark → ℕ → Mark → Type 0
@@ -233,6 +234,7 @@ module _ (p : Plan) (q : IdPlan) (clients : List (List Task)) (gives : ℕ → L
     pub claims : w'.claims ≡ claims_after step found m w.claims
     pub advances : w'.advances ≡ advances_by step found w.core.calls ++ w.advances
     pub posts : w'.posts ≡ posts_by step found ++ w.posts
+    pub decided : (d : Decision) → In d w.decisions → In d w'.decisions
     pub sayings : (s : Saying) → In s w.sayings → In s w'.sayings
     pub overs : (a b : Saying) → IsOver a b w.sayings → IsOver a b w'.sayings
 
@@ -283,3 +285,9 @@ module _ (p : Plan) (q : IdPlan) (clients : List (List Task)) (gives : ℕ → L
     pub shown : scene.advances ≡ advanced
     pub shown_posts : scene.posts ≡ posted
     pub story : CallStory scene marks
+
+  -- it goes on from this scene, and seats decided on these errors up to its core
+  pub record GoesOn (w : Scene) (decided : List Decision) (posted : List Post) (advanced : List ℕ) (c : Core) : Type 0 where
+    pub has : HasStory posted advanced c
+    pub shown_decisions : has.scene.decisions ≡ decided
+    pub later : Later p q clients gives w has.scene

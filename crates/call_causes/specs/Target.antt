@@ -13,6 +13,8 @@ use Rattle.sock_programs.specs.Posts.{is_final}
 use Rattle.sock_programs.specs.Told.{IsTask, Became}
 use Rattle.sock_programs.specs.ToldCalls.{Fixed, Order, FoundNone, HasCode, IsAnsweredBy, IsExpiredWith, GaveFault, ShowsId, Why, WhyExpire, WhyJoin}
 use Rattle.call_causes.specs.Posts.{Post}
+use Rattle.call_causes.specs.Decided.{Decision}
+use Rattle.call_causes.specs.Scenes.{In}
 
 abbrev pub IsOnCalls : Op → Type 0
 IsOnCalls (ops.Call asked) = Unit {0}
@@ -73,6 +75,12 @@ module _ (p : Plan) (clients : List (List Task)) (outcomes : List (Option Outcom
   FailedByPost last posts o asked id code = ((code ≡ 1008) × (IsExpiredWith p clients outcomes fixed gave orders o Expired ⊎ IsExpiredWith p clients outcomes fixed gave orders o Queued))
       ⊎ (((code ≡ 2002) × IsAnsweredBy p clients outcomes fixed gave orders asked id (λ frame. frame.meta.compress_type ≢ pos 0))
       ⊎ (Contains posts (record { id = id; error = error_of code (last o) }) × ((is_final code ≡ true) ⊎ (last o + 2 ≡ asked.range))))
+
+  -- the same, where seat j decided on the errors of decided j: on such an error some seat decided
+  abbrev pub FailedByDecision : (ℕ → ℕ) → List Post → (ℕ → List Decision) → ℕ → Asked → ℕ → ℕ → Type 0
+  FailedByDecision last posts decided o asked id code = ((code ≡ 1008) × (IsExpiredWith p clients outcomes fixed gave orders o Expired ⊎ IsExpiredWith p clients outcomes fixed gave orders o Queued))
+      ⊎ (((code ≡ 2002) × IsAnsweredBy p clients outcomes fixed gave orders asked id (λ frame. frame.meta.compress_type ≢ pos 0))
+      ⊎ (Contains posts (record { id = id; error = error_of code (last o) }) × ((is_final code ≡ true) ⊎ (last o + 2 ≡ asked.range)) × (j : ℕ) × In (record { id = id; asked = asked; error = error_of code (last o) }) (decided j)))
 
   -- attempt n of the call that is operation o was given up: its id, which its outcome shows, took an error for that attempt, whose code alone ends no call
   abbrev pub AdvancedByPost : List Post → ℕ → ℕ → Type 0

@@ -9,16 +9,15 @@ use Rattle.id_rule.specs.Lawful.{call_word}
 use Rattle.sock_message.specs.Asked.{Asked}
 use Rattle.sock_programs.specs.Asides.{PutCall, StoreCall, Found, call_id, id_slot}
 use Rattle.sock_programs.specs.Cores.{Core, SeatState}
-use Rattle.sock_programs.specs.Programs.{Program, Do, Say, Sent, Rest, TakeMessage, TakeHome, PutHome, PutBytes, AskReady, Write, Aside, Round, Keep, Retries}
+use Rattle.sock_programs.specs.Programs.{Program, Aside}
 use Rattle.sock_runs.specs.Sound.{first_step}
 use Rattle.sock_programs.specs.declared.task.Task.{Task}
 use Rattle.call_causes.specs.Posts.{Post}
 use Rattle.call_causes.specs.Scenes.{Birth, Scene, In, IsBorn}
-use Rattle.call_causes.specs.Says.{Mark, SaysOn, Claims, Holds}
+use Rattle.call_causes.specs.Says.{Mark, Claims, Holds}
 use Rattle.call_causes.specs.Stories.{SlotFits, CallStory, HasStory}
 use Rattle.call_causes.proofs.BirthTicks.{two_of, one_call}
-use Rattle.call_causes.proofs.Programs.{block_says}
-use Rattle.call_causes.proofs.Rounds.{round_says}
+use Rattle.call_causes.proofs.Firsts.{MayFirst, may_first}
 use Rattle.call_causes.proofs.Ticks.{other_there}
 use Rattle.send_causes.specs.Counts.{word_of_id}
 
@@ -53,30 +52,14 @@ pub record Facts (q : IdPlan) (c : Core) : Type 0 where
 
 module _ (p : Plan) (q : IdPlan) (clients : List (List Task)) (gives : ℕ → List ℕ) where
   module _ (w : Scene) (ms : List Mark) (story : CallStory p q clients gives w ms) where
-    says_first : (m : Mark) (program : Program) → SaysOn p q clients gives w m program → SaysOn p q clients gives w m (first_step program)
-    says_first m (Write x after) says = block_says p q clients gives w m x after says
-    says_first m (Round head next) says = round_says p q clients gives w m head next says
-    says_first m (Do call next) says = says
-    says_first m (Say o outcome next) says = says
-    says_first m (Sent o next) says = says
-    says_first m Rest says = says
-    says_first m (TakeMessage r next) says = says
-    says_first m (TakeHome k next) says = says
-    says_first m (PutHome k n after) says = says
-    says_first m (PutBytes k asked bytes next) says = says
-    says_first m (AskReady k next) says = says
-    says_first m (Aside step next) says = says
-    says_first m (Keep r next) says = says
-    says_first m (Retries n after) says = says
-
-    says_at : (j : ℕ) (seat : SeatState) (program : Program) → get_elem? w.core.seats j ≡ some seat → first_step seat.program ≡ program → (m : Mark) × (get_elem? ms j ≡ some m) × SaysOn p q clients gives w m program
-    says_at j seat program at is = let m = other_there w.core.seats ms j seat story.each at in (m.0, m.1, subst (SaysOn p q clients gives w m.0) is (says_first m.0 seat.program (story.seats j seat m.0 at m.1)))
+    may_at : (j : ℕ) (seat : SeatState) (program : Program) → get_elem? w.core.seats j ≡ some seat → first_step seat.program ≡ program → (m : Mark) × (get_elem? ms j ≡ some m) × MayFirst p q clients gives w m program
+    may_at j seat program at is = let m = other_there w.core.seats ms j seat story.each at in (m.0, m.1, subst (MayFirst p q clients gives w m.0) is (may_first p q clients gives w m.0 seat.program (story.seats j seat m.0 at m.1)))
 
     HasBirth : ℕ → ℕ → Type 0
     HasBirth o id = (b : Birth) × In b w.births × (b.id ≡ id) × (b.asked.operation ≡ o)
 
     storing_birth : (o x j : ℕ) (seat : SeatState) (next : Found (StoreCall o x) → Program) → get_elem? w.core.seats j ≡ some seat → first_step seat.program ≡ Aside (StoreCall o x) next → (b : Birth) × In b w.births × (b.id ≡ x) × (b.asked.operation ≡ o)
-    storing_birth o x j seat next at is = let s = says_at j seat (Aside (StoreCall o x) next) at is in let may = s.2.0 in (may.0, may.9, sym may.8, sym may.7)
+    storing_birth o x j seat next at is = let s = may_at j seat (Aside (StoreCall o x) next) at is in let may = s.2 in (may.0, may.9, sym may.8, sym may.7)
 
     stored_birth : (o id : ℕ) → o < q.operations → id ≢ 0 → IsStored q w.core o id → (b : Birth) × In b w.births × (b.id ≡ id) × (b.asked.operation ≡ o)
     stored_birth o id low some_ stored = let b = story.tasks.called o low (λ z. some_ (sym stored ∙ z)) in (b.0, b.1, b.2 ∙ stored, b.3)
@@ -99,10 +82,10 @@ module _ (p : Plan) (q : IdPlan) (clients : List (List Task)) (gives : ℕ → L
       one_store = λ o id x j seat next low some_ stored at is. let a = storing_birth o x j seat next at is in let b = stored_birth o id low some_ stored in sym a.2 ∙ (one_id a.0 b.0 a.1 b.1 (a.3 ∙ sym b.3) ∙ b.2);
       at_home = λ i o asked low live lies own. let a = own_birth o (call_id i (word_of_id w.core.calls.words i).first) own in
           sym a.3 ∙ one_operation a.0 (call_id i (word_of_id w.core.calls.words i).first) asked a.1 a.2 (story.births.homes i asked low live lies);
-      put_back = λ i o j asked seat next at is two own. let s = says_at j seat (Aside (PutCall i asked) next) at is in let a = own_birth o (call_id i (word_of_id w.core.calls.words i).first) own in ⊎_elim
+      put_back = λ i o j asked seat next at is two own. let s = may_at j seat (Aside (PutCall i asked) next) at is in let a = own_birth o (call_id i (word_of_id w.core.calls.words i).first) own in ⊎_elim
           (λ claims. absurd (let f : SlotFits q w (Claims i std.None) = subst (SlotFits q w) claims (story.slots.fits j s.0 s.1) in let none_ = f.2 in omega (arith, none_, two)))
           (λ holds. let f : SlotFits q w (Holds i holds.0 holds.1 asked) = subst (SlotFits q w) holds.2 (story.slots.fits j s.0 s.1) in
-          sym a.3 ∙ one_operation a.0 (call_id i (word_of_id w.core.calls.words i).first) asked a.1 a.2 (subst (λ x. IsBorn w (call_id i x) asked) (sym f.3) holds.3)) s.2.0;
+          sym a.3 ∙ one_operation a.0 (call_id i (word_of_id w.core.calls.words i).first) asked a.1 a.2 (subst (λ x. IsBorn w (call_id i x) asked) (sym f.3) holds.3)) s.2;
     }
 
   -- so it is at a moment of which the story of the calls is told

@@ -90,20 +90,20 @@ goes_of t u (ClaimRequest s q) found g = ⊎_elim (λ same. inl (ap (λ (x : Tra
 goes_of t u other found g = stays_of t u g
 
 -- whoever would store an at word knows its call
-record Would (of : Of) (o id n : ℕ) : Type 0 where
-  own : ℕ
-  attempt : ℕ
-  link : ℕ
-  other : ℕ
-  word : ℕ
-  knows : of ≡ Knows o own
-  mine : word ≡ at_word (id_first own) (id_slot own) link attempt
-  low : link < 65535
-  few : attempt ≤ 6
-  theirs : word ≡ at_word (id_first id) (id_slot id) other n
-  low_too : other < 65535
+pub record Would (of : Of) (o id n : ℕ) : Type 0 where
+  pub own : ℕ
+  pub attempt : ℕ
+  pub link : ℕ
+  pub other : ℕ
+  pub word : ℕ
+  pub knows : of ≡ Knows o own
+  pub mine : word ≡ at_word (id_first own) (id_slot own) link attempt
+  pub low : link < 65535
+  pub few : attempt ≤ 6
+  pub theirs : word ≡ at_word (id_first id) (id_slot id) other n
+  pub low_too : other < 65535
 
-would_of : (is_call : Asked → Type 0) (t : Trail) (x : Program) (o id n : ℕ) → Follows is_call t x → WouldStore o id n x → Would t.of o id n
+pub would_of : (is_call : Asked → Type 0) (t : Trail) (x : Program) (o id n : ℕ) → Follows is_call t x → WouldStore o id n x → Would t.of o id n
 would_of is_call t (Do call next) o id n f (found, fits, would) = let g = f.1 found fits in let r = would_of is_call g.0 (next found) o id n g.2 would in
     ⊎_elim (λ same. record { own = r.own; attempt = r.attempt; link = r.link; other = r.other; word = r.word; knows = sym same ∙ r.knows; mine = r.mine; low = r.low; few = r.few; theirs = r.theirs; low_too = r.low_too })
     (λ none_. absurd (let z : NoCall ≡ Knows o r.own = sym none_ ∙ r.knows in cc)) (goes_of t g.0 call found g.1)
@@ -112,15 +112,15 @@ would_of is_call t (Aside (StoreAt x w) next) o id n f (k, same, is, low) = let 
 would_of is_call t other o id n f would = absurd would
 
 -- behind seat 0, once it has nothing left to do
-abbrev AreSetUp : Plan → Core → List Moment → Type 0
+abbrev pub AreSetUp : Plan → Core → List Moment → Type 0
 AreSetUp p c [] = Unit {0}
 AreSetUp p c (m ∷ ms) = (m.seat ≢ 0 → IsSetUp c) × AreSetUp p (ticked p c m) ms
 
-alone_set_up : (p : Plan) (n : ℕ) (c : Core) → AreSetUp p c (replicate n (quiet 0))
+pub alone_set_up : (p : Plan) (n : ℕ) (c : Core) → AreSetUp p c (replicate n (quiet 0))
 alone_set_up p zero c = tt
 alone_set_up p (suc n) c = ((λ other. absurd (other refl)), alone_set_up p n (ticked p c (quiet 0)))
 
-rests_set_up : (p : Plan) (ms : List Moment) (c : Core) → IsAhead c → IsAtRest c 0 → AreSetUp p c ms
+pub rests_set_up : (p : Plan) (ms : List Moment) (c : Core) → IsAhead c → IsAtRest c 0 → AreSetUp p c ms
 rests_set_up p [] c ahead rests = tt
 rests_set_up p (m ∷ ms) c ahead rests = ((λ _ seat at. seat_rests c ahead 0 rests seat at), rests_set_up p ms (ticked p c m) (ticked_ahead p c m ahead) (ticked_rests p c m 0 rests))
 
@@ -235,16 +235,16 @@ module _ (script : List Item) (made : AreMade script) (there : AreThere script) 
   abbrev gives : ℕ → List ℕ
   gives = given core
 
-  abbrev numbered : AreNumbered (plan_of script) (id_plan_of script) (all_tasks script) (given core)
+  abbrev pub numbered : AreNumbered (plan_of script) (id_plan_of script) (all_tasks script) (given core)
   numbered = scripts.are_numbered script made there range (given core)
 
-  abbrev slots : HaveSlots (plan_of script) (id_plan_of script) (all_tasks script) (given core)
+  abbrev pub slots : HaveSlots (plan_of script) (id_plan_of script) (all_tasks script) (given core)
   slots = scripts.have_slots script made there range (given core)
 
-  abbrev small : (id_plan_of script).slots ≤ 65536
+  abbrev pub small : (id_plan_of script).slots ≤ 65536
   small = narrow (plan_of script) (id_plan_of script) (all_tasks script) (calls script) (opens script) made
 
-  abbrev Leads : Core → Type 0
+  abbrev pub Leads : Core → Type 0
   Leads c = LeadsTo (plan_of script) (id_plan_of script) (all_tasks script) (given core) c
 
   abbrev Has : Core → Type 0
@@ -267,41 +267,41 @@ module _ (script : List Item) (made : AreMade script) (there : AreThere script) 
       at_place (y ∷ ys) zero goes at = subst (IdGoesOn (plan_of script) (id_plan_of script) newcomer) (some-injective y x at) goes.0
       at_place (y ∷ ys) (suc i) goes at = at_place ys i goes.1 at
 
-  opened_ahead : IsAhead (opened script)
+  pub opened_ahead : IsAhead (opened script)
   opened_ahead = beginning_ahead (plan_of script) (id_plan_of script) (all_programs (programs (sizes_of (plan_of script) (id_plan_of script)) (all_tasks script)) (readers_from (calls script) 0 (opens script)))
 
-  set_up_ahead : IsAhead (set_up script is.setup)
+  pub set_up_ahead : IsAhead (set_up script is.setup)
   set_up_ahead = run_ahead (plan_of script) (opened script) (replicate is.setup (quiet 0)) opened_ahead
 
-  played_ahead : IsAhead (played script is.setup (is.scheduled ++ is.later))
+  pub played_ahead : IsAhead (played script is.setup (is.scheduled ++ is.later))
   played_ahead = run_ahead (plan_of script) (set_up script is.setup) (is.scheduled ++ is.later) set_up_ahead
 
   abbrev at_ending : Core
   at_ending = ending script (played script is.setup (is.scheduled ++ is.later))
 
-  ended_ahead : IsAhead is.ended
+  pub ended_ahead : IsAhead is.ended
   ended_ahead = subst IsAhead (sym is.is_ended) (run_ahead (plan_of script) (ending script (played script is.setup (is.scheduled ++ is.later))) (replicate is.last (quiet 0))
       (let c = played script is.setup (is.scheduled ++ is.later) in seat_ahead c 0 (ending_of (opens script)) [] c.words c.homes played_ahead))
 
-  end_leads : Leads core
+  pub end_leads : Leads core
   end_leads k = ([], append-nil (given core k))
 
-  ended_leads : Leads is.ended
+  pub ended_leads : Leads is.ended
   ended_leads = run_leads (plan_of script) (id_plan_of script) (all_tasks script) (given core) is.final is.ended (subst Leads is.is_end end_leads)
 
-  told_leads : Leads (is_ending (run (plan_of script) (ending script (played script is.setup (is.scheduled ++ is.later))) (replicate is.last (quiet 0))))
+  pub told_leads : Leads (is_ending (run (plan_of script) (ending script (played script is.setup (is.scheduled ++ is.later))) (replicate is.last (quiet 0))))
   told_leads = subst Leads is.is_ended ended_leads
 
-  closed_leads : Leads (run (plan_of script) (ending script (played script is.setup (is.scheduled ++ is.later))) (replicate is.last (quiet 0)))
+  pub closed_leads : Leads (run (plan_of script) (ending script (played script is.setup (is.scheduled ++ is.later))) (replicate is.last (quiet 0)))
   closed_leads = λ k. told_leads k
 
-  ending_leads : Leads (ending script (played script is.setup (is.scheduled ++ is.later)))
+  pub ending_leads : Leads (ending script (played script is.setup (is.scheduled ++ is.later)))
   ending_leads = run_leads (plan_of script) (id_plan_of script) (all_tasks script) (given core) (replicate is.last (quiet 0)) (ending script (played script is.setup (is.scheduled ++ is.later))) closed_leads
 
-  played_leads : Leads (played script is.setup (is.scheduled ++ is.later))
+  pub played_leads : Leads (played script is.setup (is.scheduled ++ is.later))
   played_leads = λ k. ending_leads k
 
-  set_up_leads : Leads (set_up script is.setup)
+  pub set_up_leads : Leads (set_up script is.setup)
   set_up_leads = run_leads (plan_of script) (id_plan_of script) (all_tasks script) (given core) (is.scheduled ++ is.later) (set_up script is.setup) played_leads
 
   opened_leads : Leads (opened script)
@@ -324,7 +324,7 @@ module _ (script : List Item) (made : AreMade script) (there : AreThere script) 
         };
       }
 
-  setup_goes : Goes (opened script) (replicate is.setup (quiet 0))
+  pub setup_goes : Goes (opened script) (replicate is.setup (quiet 0))
   setup_goes = let s = joint_runs script turns core is made in along p q (all_tasks script) gives numbered slots small (IsCallOf script) (replicate is.setup (quiet 0)) (opened script) (first_views script) s.setup
       (set_up_answered script made.are (first_views script) (start script made turns core is) (go script made turns core is) turns core is (fitting script made turns core is)) (alone_set_up p is.setup (opened script)) set_up_leads first
 
@@ -332,17 +332,17 @@ module _ (script : List Item) (made : AreMade script) (there : AreThere script) 
   clients_go = let s = joint_runs script turns core is made in along p q (all_tasks script) gives numbered slots small (IsCallOf script) (is.scheduled ++ is.later) (set_up script is.setup) (views_along (plan_of script) (opened script) (first_views script) (replicate is.setup (quiet 0))) s.clients
       is.answered (rests_set_up p (is.scheduled ++ is.later) (set_up script is.setup) set_up_ahead is.is_set_up) played_leads setup_goes.owns
 
-  played_both : BothSound (plan_of script) (id_plan_of script) (played script is.setup (is.scheduled ++ is.later)) (views_played script turns core is (first_views script))
+  pub played_both : BothSound (plan_of script) (id_plan_of script) (played script is.setup (is.scheduled ++ is.later)) (views_played script turns core is (first_views script))
   played_both = let s = joint_runs script turns core is made in behind_both p q (set_up script is.setup) (views_along (plan_of script) (opened script) (first_views script) (replicate is.setup (quiet 0))) (is.scheduled ++ is.later) s.clients
 
-  some_seats : 0 < (id_plan_of script).seats
+  pub some_seats : 0 < (id_plan_of script).seats
   some_seats = let seats = made.seats in omega (arith, seats)
 
-  many_played : length (played script is.setup (is.scheduled ++ is.later)).seats ≡ (id_plan_of script).seats
+  pub many_played : length (played script is.setup (is.scheduled ++ is.later)).seats ≡ (id_plan_of script).seats
   many_played = run_seats (plan_of script) (set_up script is.setup) (is.scheduled ++ is.later) ∙ (run_seats (plan_of script) (opened script) (replicate is.setup (quiet 0))
       ∙ (length-map (all_programs (programs (sizes_of (plan_of script) (id_plan_of script)) (all_tasks script)) (readers_from (calls script) 0 (opens script))) (λ (program : Program). record { program = next_step (resolved [] program); hand = [] }) ∙ length_is))
 
-  many_closed : length (run (plan_of script) (ending script (played script is.setup (is.scheduled ++ is.later))) (replicate is.last (quiet 0))).seats ≡ (id_plan_of script).seats
+  pub many_closed : length (run (plan_of script) (ending script (played script is.setup (is.scheduled ++ is.later))) (replicate is.last (quiet 0))).seats ≡ (id_plan_of script).seats
   many_closed = run_seats (plan_of script) (ending script (played script is.setup (is.scheduled ++ is.later))) (replicate is.last (quiet 0)) ∙ (length-set (played script is.setup (is.scheduled ++ is.later)).seats 0 _ ∙ many_played)
 
   begun : Has (ending script (played script is.setup (is.scheduled ++ is.later))) × ((o id : ℕ) → IsOwn (id_plan_of script) (played script is.setup (is.scheduled ++ is.later)) o id → IsOwn (id_plan_of script) (ending script (played script is.setup (is.scheduled ++ is.later))) o id)

@@ -25,10 +25,11 @@ use Rattle.call_causes.proofs.Clients.{FitsOp}
 use Rattle.call_causes.proofs.Scripts.{begins}
 use Rattle.send_causes.specs.PostCauses.{PostCause, OfDrop, OfFail}
 use Rattle.send_causes.proofs.Beside.{orders_here}
+use Rattle.send_causes.proofs.Runs.{AreLabelledIn}
 use Rattle.send_causes.proofs.Sends.{orders_are}
 use Rattle.send_causes.proofs.DropOfRun.{IsDroppedOn, IsFailedOn, DropOf}
 
-module _ (script : List Item) (made : AreMade script) (turns : List Turn) (core : Core) (is : IsRunWithCalls script turns core) (closes : ClosesInRun script turns core is) (fixed : Fixed) (gave : ℕ → List ℕ) where
+module _ (script : List Item) (made : AreMade script) (turns : List Turn) (core : Core) (is : IsRunWithCalls script turns core) (closes : ClosesInRun script turns core is) (ids : ℕ → ℕ) (labelled : AreLabelledIn ids script turns core is) (fixed : Fixed) (gave : ℕ → List ℕ) where
   abbrev p : Plan
   p = plan_of script
 
@@ -40,11 +41,11 @@ module _ (script : List Item) (made : AreMade script) (turns : List Turn) (core 
   orders = orders_here script made turns core is closes
 
   -- it stands dropped
-  pub is_dropped : (o n k : ℕ) → IsDroppedOn script made turns core is closes o n k → IsDropped p clients core.outcomes fixed gave orders o n
+  pub is_dropped : (o n k : ℕ) → IsDroppedOn script made turns core is closes ids labelled o n k → IsDropped p clients core.outcomes fixed gave orders o n
   is_dropped o n k d = (k, d.place, d.at, d.late)
 
   -- so the attempt had to be followed by another, or the call failed
-  pub again_by_drop : (x : Post) (d : DropOf script made turns core is closes x) (c name : ℕ) → WhyAgain p clients core.outcomes fixed gave orders c d.task.number (attempt_of x.error) name
+  pub again_by_drop : (x : Post) (d : DropOf script made turns core is closes ids labelled x) (c name : ℕ) → WhyAgain p clients core.outcomes fixed gave orders c d.task.number (attempt_of x.error) name
   again_by_drop x d c name = AfterDrop (is_dropped d.task.number (attempt_of x.error) d.link d.dropped)
 
   -- the code of a `fail` is from 1500 to 1999
@@ -57,7 +58,7 @@ module _ (script : List Item) (made : AreMade script) (turns : List Turn) (core 
     asks_of : (c : ℕ) (t : Task) → IsTask clients core.outcomes c t → Asks clients c t
     asks_of c t it = (it.0, it.1, contains_in it.0 t it.2)
 
-    module _ (x : Post) (d : DropOf script made turns core is closes x) where
+    module _ (x : Post) (d : DropOf script made turns core is closes ids labelled x) where
       abbrev n : ℕ
       n = attempt_of x.error
 
@@ -78,7 +79,7 @@ module _ (script : List Item) (made : AreMade script) (turns : List Turn) (core 
               (slot, version, subst (λ y. Made clients core.outcomes (name_of d.asked y) d.link slot version) attempt (subst (λ y. Made clients core.outcomes (name_of y a.attempt) d.link slot version) one life))
 
       -- the code is that of a `fail` of this name
-      pub failed_with : (code : ℕ) → IsFailedOn script made turns core is closes d.link code → IsFailedWith p clients core.outcomes fixed gave orders (name_of d.asked (attempt_of x.error)) code
+      pub failed_with : (code : ℕ) → IsFailedOn script made turns core is closes ids labelled d.link code → IsFailedWith p clients core.outcomes fixed gave orders (name_of d.asked (attempt_of x.error)) code
       failed_with code f = let l = f.2 in let a = l.life in let b = named.2 in
           let task : a.task ≡ b.task = one_link p clients made.are a.client b.client l.name (name_of d.asked (attempt_of x.error)) d.link a.task b.task (asks_of a.client a.task a.is) (asks_of b.client b.task b.is) (a.op ∙ ap (ops.Open l.name) f.3) b.op in
           let opens : ops.Open l.name d.link ≡ ops.Open (name_of d.asked (attempt_of x.error)) d.link = sym (a.op ∙ ap (ops.Open l.name) f.3) ∙ (ap (λ (y : Task). y.op) task ∙ b.op) in let name : l.name ≡ name_of d.asked (attempt_of x.error) = cc in

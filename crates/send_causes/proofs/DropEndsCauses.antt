@@ -40,6 +40,7 @@ use Rattle.send_causes.proofs.DropEndsWhole.{WhoseIn, whose_of_run}
 use Rattle.send_causes.proofs.DropOfRun.{DropOf, ends, one_given, story_given}
 use Rattle.send_causes.proofs.Early.{start, go, fitting, known, named_set_up, opens_apart}
 use Rattle.send_causes.proofs.EndedWhole.{h₄, ended_so}
+use Rattle.send_causes.proofs.Runs.{AreLabelledIn}
 
 module _ (script : List Item) (made : AreMade script) (turns : List Turn) (core : Core) (is : IsRunWithCalls script turns core) where
   -- the words of opens at the end of the run
@@ -61,16 +62,16 @@ module _ (script : List Item) (made : AreMade script) (turns : List Turn) (core 
       (run_named (plan_of script) (go script made turns core is) (OpensLink (opens script)) is.ended (views_closed script turns core is (first_views script)) is.final
       (closed_sound script made.are (first_views script) (start script made turns core is) (go script made turns core is) turns core is (fitting script made turns core is)) is.answered_again (let f = fitting script made turns core is in f.of_final) named_ended)
 
-  module _ (closes : ClosesInRun script turns core is) where
+  module _ (closes : ClosesInRun script turns core is) (ids : ℕ → ℕ) (labelled : AreLabelledIn ids script turns core is) where
     -- the life that an `open` made has its link
     pub own_link : (n o id j h k : ℕ) → get_elem? (opens script) n ≡ some o → get_or core.words (open_word (plan_of script) o) 0 ≡ id + 1 → get_or core.words (open_word (plan_of script) o) 0 ≢ NO_SOCKET → j ≡ socket_id_slot id → h ≡ socket_id_version id
-        → WasGiven (ends script made turns core is closes).events j h k → n ≡ k
+        → WasGiven (ends script made turns core is closes ids labelled).events j h k → n ≡ k
     own_link n o id j h k at word socket slot version given_ = by (let w = named_end in w.words o (let i = known script made turns core is in i.in_script n o at) (λ z. omega (arith, z, word)) socket)
       where
         by : IsOfLink (OpensLink (opens script)) (plan_of script) core (views_ended script turns core is (first_views script)) o → n ≡ k
-        by x = opens_apart script n x.link o at x.mine ∙ one_given script made turns core is closes j h x.link k
-            (subst (λ z. WasGiven (ends script made turns core is closes).events z h x.link) (sym slot_is) (subst (λ z. WasGiven (ends script made turns core is closes).events x.slot z x.link) (sym version_is)
-            (story_given script made turns core is closes x.slot x.version x.link x.inside x.given))) given_
+        by x = opens_apart script n x.link o at x.mine ∙ one_given script made turns core is closes ids labelled j h x.link k
+            (subst (λ z. WasGiven (ends script made turns core is closes ids labelled).events z h x.link) (sym slot_is) (subst (λ z. WasGiven (ends script made turns core is closes ids labelled).events x.slot z x.link) (sym version_is)
+            (story_given script made turns core is closes ids labelled x.slot x.version x.link x.inside x.given))) given_
           where
             id_is : id ≡ x.version * 4294967296 + x.slot
             id_is = let e = x.word in omega (arith, word, e)
@@ -99,13 +100,13 @@ module _ (script : List Item) (made : AreMade script) (turns : List Turn) (core 
       IsNoFault code = code ≢ 2002
 
       fits : (j : ℕ) (ts : List Task) → slice_get (all_tasks script) j ≡ Some ts → (t : Task) → In t ts → (name code : ℕ) → t.op ≡ ops.Fail name code → IsNoFault code
-      fits j ts at t m name code op e = let x = fail_range script made turns core is closes fixed (given core) there range j t name code (ts, at, in_contains ts t m) op in let high = x.1 in omega (arith, e, high)
+      fits j ts at t m name code op e = let x = fail_range script made turns core is closes ids labelled fixed (given core) there range j t name code (ts, at, in_contains ts t m) op in let high = x.1 in omega (arith, e, high)
 
       -- the code of a frame fault
-      pub fault_of_drop : (x : Post) (d : DropOf script made turns core is closes x) → code_of x.error ≡ 2002 → GaveFault p clients core.outcomes fixed (given core) orders d.link
+      pub fault_of_drop : (x : Post) (d : DropOf script made turns core is closes ids labelled x) → code_of x.error ≡ 2002 → GaveFault p clients core.outcomes fixed (given core) orders d.link
       fault_of_drop x d code = ⊎_elim (λ e. absurd (omega (arith, e, code))) (λ f. by f.1 f.2 f.5 (whose_of_run script made turns core is IsNoFault (λ e. omega (arith, e)) fits (λ e. omega (arith, e)) f.0 f.1 f.2 (code_of x.error) f.3 f.4)) d.found
         where
-          by : (j h : ℕ) → WasGiven (ends script made turns core is closes).events j h d.link → WhoseIn script made turns core is IsNoFault (λ e. omega (arith, e)) fits core (h₄ script made turns core is) j h (code_of x.error) → GaveFault p clients core.outcomes fixed (given core) orders d.link
+          by : (j h : ℕ) → WasGiven (ends script made turns core is closes ids labelled).events j h d.link → WhoseIn script made turns core is IsNoFault (λ e. omega (arith, e)) fits core (h₄ script made turns core is) j h (code_of x.error) → GaveFault p clients core.outcomes fixed (given core) orders d.link
           by j h given_ (inl other) = absurd (other code)
           by j h given_ (inr r) = subst (GaveFault p clients core.outcomes fixed (given core) orders) (own_link r.link r.operation r.id j h d.link r.at r.word r.socket r.slot r.version given_)
               (⊎_elim (λ a. absurd (let e = a.0 in omega (arith, e, code))) (λ b. ⊎_elim (λ a. absurd (let e = a.0 in omega (arith, e))) (λ f. f.1)
@@ -113,7 +114,7 @@ module _ (script : List Item) (made : AreMade script) (turns : List Turn) (core 
 
       module _ (last : ℕ → ℕ) (sent : (k : ℕ) → k < p.links → AllByRecursion (IsSent p clients core.outcomes fixed (given core) orders last k) (orders k).accepted) where
         -- why an error was posted for a dropped message, where its code isn't that of the end of a reading
-        pub cause_of_drop : (x : Post) (d : DropOf script made turns core is closes x) (c id : ℕ) → PostCause p clients core.outcomes fixed (given core) orders c d.task.number d.asked id (code_of x.error) (attempt_of x.error) ⊎ (code_of x.error ≡ 1014)
+        pub cause_of_drop : (x : Post) (d : DropOf script made turns core is closes ids labelled x) (c id : ℕ) → PostCause p clients core.outcomes fixed (given core) orders c d.task.number d.asked id (code_of x.error) (attempt_of x.error) ⊎ (code_of x.error ≡ 1014)
         cause_of_drop x d c id = ⊎_elim (λ a. inl a) (λ rest. ⊎_elim (λ e. inr e)
-            (λ e. inl (OfFault e d.link (may_be_on script made turns core is closes fixed (given core) last sent x d) (fault_of_drop x d e))) rest)
-            (caused_by_drop script made turns core is closes fixed (given core) last sent x d there range c id)
+            (λ e. inl (OfFault e d.link (may_be_on script made turns core is closes ids labelled fixed (given core) last sent x d) (fault_of_drop x d e))) rest)
+            (caused_by_drop script made turns core is closes ids labelled fixed (given core) last sent x d there range c id)

@@ -41,14 +41,15 @@ use Rattle.send_causes.proofs.Assembled.{last_in_run, fixed_in_run, orders_in_ru
 use Rattle.send_causes.proofs.Closers.{Calm, IsOver}
 use Rattle.send_causes.proofs.DropCauses.{may_be_on, stands_on}
 use Rattle.send_causes.proofs.DropEndsCauses.{own_link, cause_of_drop}
-use Rattle.send_causes.proofs.DropOfRun.{ids_here, IsOpened, DropOf, ends, end_sound, settled, given_opened}
+use Rattle.send_causes.proofs.DropOfRun.{IsOpened, DropOf, ends, end_sound, settled, given_opened}
 use Rattle.send_causes.proofs.Early.{Any, ends_anyhow, start, go, fitting, known}
 use Rattle.send_causes.proofs.EndedWhole.{h₃, h₄, closed_keeps, ended_so}
 use Rattle.send_causes.proofs.Readings.{State}
 use Rattle.send_causes.proofs.ReaderRuns.{Keeps, keeps_along}
+use Rattle.send_causes.proofs.Runs.{AreLabelledIn}
 use Rattle.send_causes.proofs.Sends.{orders_are}
 
-module _ (script : List Item) (made : AreMade script) (turns : List Turn) (core : Core) (is : IsRunWithCalls script turns core) (closes : ClosesInRun script turns core is) where
+module _ (script : List Item) (made : AreMade script) (turns : List Turn) (core : Core) (is : IsRunWithCalls script turns core) (closes : ClosesInRun script turns core is) (ids : ℕ → ℕ) (labelled : AreLabelledIn ids script turns core is) where
   abbrev views : List View
   views = views_ended script turns core is (first_views script)
 
@@ -60,10 +61,10 @@ module _ (script : List Item) (made : AreMade script) (turns : List Turn) (core 
       (recorded_closed script made.are (first_views script) (start script made turns core is) (go script made turns core is) turns core is (fitting script made turns core is)) (λ e. tt) (closed_keeps script made turns core is))
 
   -- the reading of a link that a life was given has ended
-  pub reading_over : (j h k : ℕ) → WasGiven (ends script made turns core is closes).events j h k → (k < (plan_of script).links) × IsOver (h₄ script made turns core is k)
-  reading_over j h k given_ = by (given_opened script made turns core is closes j h k given_)
+  pub reading_over : (j h k : ℕ) → WasGiven (ends script made turns core is closes ids labelled).events j h k → (k < (plan_of script).links) × IsOver (h₄ script made turns core is k)
+  reading_over j h k given_ = by (given_opened script made turns core is closes ids labelled j h k given_)
     where
-      by : IsOpened script made turns core is closes j h → (k < (plan_of script).links) × IsOver (h₄ script made turns core is k)
+      by : IsOpened script made turns core is closes ids labelled j h → (k < (plan_of script).links) × IsOver (h₄ script made turns core is k)
       by o = subst (λ n. (n < (plan_of script).links) × IsOver (h₄ script made turns core is n)) same (
         (let many = (let k = known script made turns core is in k.as_many) in omega (arith, place, many)),
         of_seat (at_there core.seats (32 + o.link) (let k = end_keeps in let many = k.many in omega (arith, place, many))),
@@ -79,14 +80,14 @@ module _ (script : List Item) (made : AreMade script) (turns : List Turn) (core 
           socket e = let w : h * 4294967296 + j + 1 ≡ 18446744073709551615 = sym o.word ∙ e in let low = o.low in omega (arith, w, low, few)
 
           same : o.link ≡ k
-          same = own_link script made turns core is closes o.link o.operation (socket_id h j) j h k o.at o.word socket (let z : j ≡ socket_id_slot (h * 4294967296 + j) = omega (arith, few) in z) (let z : h ≡ socket_id_version (h * 4294967296 + j) = omega (arith, few) in z) given_
+          same = own_link script made turns core is closes ids labelled o.link o.operation (socket_id h j) j h k o.at o.word socket (let z : j ≡ socket_id_slot (h * 4294967296 + j) = omega (arith, few) in z) (let z : h ≡ socket_id_version (h * 4294967296 + j) = omega (arith, few) in z) given_
 
           of_seat : (seat : SeatState) × (get_elem? core.seats (32 + o.link) ≡ some seat) → IsOver (h₄ script made turns core is o.link)
-          of_seat (seat, at) = let v = at_there views (32 + o.link) (let k = end_keeps in let many = k.many in let e = (end_sound script made turns core is closes).each in omega (arith, place, many, e)) in
+          of_seat (seat, at) = let v = at_there views (32 + o.link) (let k = end_keeps in let many = k.many in let e = (end_sound script made turns core is closes ids labelled).each in omega (arith, place, many, e)) in
               let k = end_keeps in of_state (k.readers o.link o.operation o.at seat v.0 at v.1)
             where
               rests : seat.program ≡ Rest
-              rests = settled script made turns core is closes (32 + o.link) seat at
+              rests = settled script made turns core is closes ids labelled (32 + o.link) seat at
 
               of_state : {v : View} → State (plan_of script) (calls script) o.link o.operation (let k = known script made turns core is in k.in_script o.link o.operation o.at) Any (Unit {0}) (ends_anyhow o.link) (get_or core.words (open_word (plan_of script) o.operation) 0) (h₄ script made turns core is o.link) seat.program v
                   → IsOver (h₄ script made turns core is o.link)
@@ -95,7 +96,7 @@ module _ (script : List Item) (made : AreMade script) (turns : List Turn) (core 
               of_state (none_, inr (inr s)) = subst (Calm o.link s.id Any (Unit {0}) s.held (h₄ script made turns core is o.link)) rests s.calm
 
   -- which the lists of ends tell
-  pub ended_of_link : (bytes : List ℕ) → script_of bytes ≡ Ok script → (j h k : ℕ) → WasGiven (ends script made turns core is closes).events j h k
+  pub ended_of_link : (bytes : List ℕ) → script_of bytes ≡ Ok script → (j h k : ℕ) → WasGiven (ends script made turns core is closes ids labelled).events j h k
       → Contains (early_of_run script turns core is) k ⊎ (Contains (closed_of_run script turns core is) k ⊎ Contains (silent_of_run script turns core is) k)
   ended_of_link bytes reads j h k given_ = let o = reading_over j h k given_ in ⊎_elim (λ a. a.1) (λ b. absurd (let e = b.0 in omega (arith, e))) (ended_so script made turns core is bytes reads k o.0 1014 (inl (refl, o.1)))
 
@@ -113,28 +114,27 @@ module _ (script : List Item) (made : AreMade script) (turns : List Turn) (core 
     orders = orders_in_run script made there range bytes reads turns core is closes
 
     -- the dropped attempt isn't placed
-    not_placed : (x : Post) (d : DropOf script made turns core is closes x) → IsPlaced p clients core.outcomes fixed (given core) orders d.task.number (attempt_of x.error) → ⊥
+    not_placed : (x : Post) (d : DropOf script made turns core is closes ids labelled x) → IsPlaced p clients core.outcomes fixed (given core) orders d.task.number (attempt_of x.error) → ⊥
     not_placed x d (k, i, (low, a, at, op, attempt), placed) = let are = orders_are script made turns core is closes in let mine = d.dropped.at in
         let same = are.apart k d.link i d.dropped.place a mine.1 low mine.0 at mine.2 (let b = mine.3 in let e = mine.4 in omega (arith, op, attempt, b, e)) in
         let late = d.dropped.late in let here : i < (orders d.link).placed = subst (λ n. i < (orders n).placed) same.0 placed in let place = same.1 in omega (arith, late, here, place)
 
     module _ (sent : (k : ℕ) → k < p.links → AllByRecursion (IsSent p clients core.outcomes fixed (given core) orders (last_in_run script made there range bytes reads turns core is closes) k) (orders k).accepted) where
       -- why an error was posted for a dropped message, where the link's responses of an id whose code is that of the ending came before the call began
-      pub caused_for_drop : (x : Post) (d : DropOf script made turns core is closes x)
+      pub caused_for_drop : (x : Post) (d : DropOf script made turns core is closes ids labelled x)
           → (code_of x.error ≡ 1014 → (m : ℕ) (frame : Frame) → Gave p clients core.outcomes fixed (given core) orders d.link m frame → IsResponse p clients core.outcomes fixed (given core) orders d.asked x.id frame → Contains fixed.soon (d.link, m))
           → (c : ℕ) → PostCause p clients core.outcomes fixed (given core) orders c d.task.number d.asked x.id (code_of x.error) (attempt_of x.error)
       caused_for_drop x d soon c = ⊎_elim (λ cause. cause) (λ code. OfEnd code d.link (record {
-        on = may_be_on script made turns core is closes fixed (given core) (last_in_run script made there range bytes reads turns core is closes) sent x d;
+        on = may_be_on script made turns core is closes ids labelled fixed (given core) (last_in_run script made there range bytes reads turns core is closes) sent x d;
         ended = ⊎_elim (λ e. absurd (omega (arith, e, code))) (λ f. ended_of_link bytes reads f.1 f.2 d.link f.5) d.found;
-        lost = inr (inl (stands_on script made turns core is closes fixed (given core) (last_in_run script made there range bytes reads turns core is closes) sent x d));
+        lost = inr (inl (stands_on script made turns core is closes ids labelled fixed (given core) (last_in_run script made there range bytes reads turns core is closes) sent x d));
         unanswered = λ m frame gave response. (not_placed x d, soon code m frame gave response);
-      })) (cause_of_drop script made turns core is closes there range bytes reads fixed (last_in_run script made there range bytes reads turns core is closes) sent x d c x.id)
+      })) (cause_of_drop script made turns core is closes ids labelled there range bytes reads fixed (last_in_run script made there range bytes reads turns core is closes) sent x d c x.id)
 
       -- of the call whose id took the error, where no two calls have one id
-      module _ (single : (o x : ℕ) → ids_here script made turns core is closes o ≢ 0
-          → ids_here script made turns core is closes o ≡ ids_here script made turns core is closes x → o ≡ x) where
-        pub caused_for_call : (c : ℕ) (t : Task) (asked : Asked) (id code n : ℕ) → IsTask clients core.outcomes c t → t.op ≡ ops.Call asked → ids_here script made turns core is closes t.number ≡ id → id ≢ 0 → n ≤ 7
-            → DropOf script made turns core is closes (record { id = id; error = error_of code n })
+      module _ (single : (o x : ℕ) → ids o ≢ 0 → ids o ≡ ids x → o ≡ x) where
+        pub caused_for_call : (c : ℕ) (t : Task) (asked : Asked) (id code n : ℕ) → IsTask clients core.outcomes c t → t.op ≡ ops.Call asked → ids t.number ≡ id → id ≢ 0 → n ≤ 7
+            → DropOf script made turns core is closes ids labelled (record { id = id; error = error_of code n })
             → ((k : ℕ) → code ≡ 1014 → (m : ℕ) (frame : Frame) → StandsOn p clients core.outcomes fixed (given core) orders t.number n k → Gave p clients core.outcomes fixed (given core) orders k m frame → IsResponse p clients core.outcomes fixed (given core) orders asked id frame → Contains fixed.soon (k, m))
             → PostCause p clients core.outcomes fixed (given core) orders c t.number asked id code n
         caused_for_call c t asked id code n it op own some_ small d soon = subst (λ z. PostCause p clients core.outcomes fixed (given core) orders c t.number asked id z n) code_is (subst (λ z. PostCause p clients core.outcomes fixed (given core) orders c t.number asked id (code_of (error_of code n)) z) attempt_is

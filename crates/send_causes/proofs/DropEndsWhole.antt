@@ -46,7 +46,7 @@ module _ (script : List Item) (made : AreMade script) (turns : List Turn) (core 
   abbrev vs : List View
   vs = first_views script
 
-  abbrev L : Core → List View → (ℕ → List Taking) → Type 0
+  abbrev pub L : Core → List View → (ℕ → List Taking) → Type 0
   L c ws h = EndsLaw (plan_of script) (calls script) (opens script) (let k = known script made turns core is in k.in_script) Any (Unit {0}) ends_anyhow P gone c ws h
 
   abbrev pub WhoseIn : Core → (ℕ → List Taking) → ℕ → ℕ → ℕ → Type 0
@@ -84,7 +84,7 @@ module _ (script : List Item) (made : AreMade script) (turns : List Turn) (core 
   none_next : (ws : List Retry) (x : Program) → Stores (λ o code. P code) P NoFail x → Stores (λ o code. P code) P NoFail (next_step (resolved ws x))
   none_next ws x stores = let r = codes_next (λ o code. P code) P gone NoFail ws x stores in subst (λ g. Stores (λ o code. P code) P g (next_step (resolved ws x))) (⊎_elim (λ e. e.0) (λ e. e) r.1) r.2
 
-  opened_law : L (opened script) (first_views script) (λ n. [])
+  pub opened_law : L (opened script) (first_views script) (λ n. [])
   opened_law = record {
     keeps = opened_keeps script made turns core is;
     clients = λ j low. record {

@@ -67,9 +67,8 @@ use Rattle.call_causes.specs.Posts.{Post}
 use Rattle.send_causes.specs.Refused.{Deed, DidStep, DidRound, DidInRun, IsDrop}
 use Rattle.send_causes.proofs.Beside.{gave_of_run, fixed_of_run, orders_here}
 use Rattle.send_causes.proofs.Early.{start, go, fitting}
-use Rattle.send_causes.proofs.Labelled.{ids_of_run}
-use Rattle.send_causes.proofs.Runs.{IsCallOf, end_law}
-use Rattle.send_causes.proofs.Sends.{owed, narrow, few_clients, labelled, opening_claims, orders_are}
+use Rattle.send_causes.proofs.Runs.{AreLabelledIn, IsCallOf, end_law}
+use Rattle.send_causes.proofs.Sends.{owed, narrow, opening_claims, orders_are}
 use Rattle.send_causes.proofs.DropCodes.{IsOtherCode}
 use Rattle.send_causes.proofs.DropPlaces.{log_few}
 use Rattle.send_causes.proofs.DropRuns.{IsCalls, IsDropAt, Tells}
@@ -81,15 +80,12 @@ use Rattle.send_causes.proofs.DropWhole as whole
 decodes : (code n : ℕ) → n ≤ 6 → (attempt_of (error_of code n) ≡ n) × (code_of (error_of code n) ≡ code)
 decodes code n few = (omega (arith, few), omega (arith, few))
 
-module _ (script : List Item) (made : AreMade script) (turns : List Turn) (core : Core) (is : IsRunWithCalls script turns core) (closes : ClosesInRun script turns core is) where
+module _ (script : List Item) (made : AreMade script) (turns : List Turn) (core : Core) (is : IsRunWithCalls script turns core) (closes : ClosesInRun script turns core is) (ids : ℕ → ℕ) (labelled : AreLabelledIn ids script turns core is) where
   abbrev p : Plan
   p = plan_of script
 
   abbrev told : List (List Task)
   told = told_tasks_of script
-
-  abbrev pub ids_here : ℕ → ℕ
-  ids_here = ids_of_run script made turns core is (narrow script made turns core is closes) (few_clients script made turns core is closes)
 
   -- what the links accepted
   abbrev orders : ℕ → Order
@@ -105,7 +101,7 @@ module _ (script : List Item) (made : AreMade script) (turns : List Turn) (core 
   bare = opening_claims p (all_seats (all_tasks script) (length (opens script)))
 
   abbrev TellsHere : List Event → Deed → Type 0
-  TellsHere es deed = Tells p (id_plan_of script) (IsCallOf script) ids_here told core es deed
+  TellsHere es deed = Tells p (id_plan_of script) (IsCallOf script) ids told core es deed
 
   -- the story to the end of the run, and what the deeds of the run tell
   pub record EndStory : Type 0 where
@@ -117,12 +113,12 @@ module _ (script : List Item) (made : AreMade script) (turns : List Turn) (core 
   pub ends : EndStory
   ends = let runs = joint_runs script turns core is made in let b = joint_bounded script turns core is made runs in
       let s = whole.story_end script made.are (first_views script) (start script made turns core is) fresh bare (go script made turns core is) turns core is (fitting script made turns core is) (narrow script made turns core is closes)
-      ids_here (labelled script made turns core is closes) _ _ b.setup b.clients b.closing b.final in record {
+      ids labelled _ _ b.setup b.clients b.closing b.final in record {
         events = _;
         lost = s.0;
         story = s.1;
         tells = whole.run_tells script made.are (first_views script) (start script made turns core is) fresh bare (go script made turns core is) turns core is (fitting script made turns core is) (narrow script made turns core is closes)
-            ids_here (labelled script made turns core is closes) _ _ b.setup b.clients b.closing b.final;
+            ids labelled _ _ b.setup b.clients b.closing b.final;
       }
 
   -- ## Where a message stands that was dropped
@@ -146,12 +142,12 @@ module _ (script : List Item) (made : AreMade script) (turns : List Turn) (core 
   few_attempts : (k i : ℕ) (e : Entry) → get_elem? (on k end_sound.lawful.log) i ≡ some e → e.heading.attempt ≤ 6
   few_attempts k i e at = let l = in_log end_sound.lawful.chains k i e at in let s = ends in
       let law = end_law script made.are (first_views script) (start script made turns core is) (go script made turns core is) turns core is (fitting script made turns core is) (narrow script made turns core is closes) (λ j v there. (bare j v there, fresh j v there))
-      ids_here (labelled script made turns core is closes) in
-      log_few p (id_plan_of script) (IsCallOf script) ids_here told true core views
+      ids labelled in
+      log_few p (id_plan_of script) (IsCallOf script) ids told true core views
       s.events s.lost end_sound s.story law.0 law.1 l.0 e l.1
 
   -- by the place word
-  dropped_by : (o n l k m : ℕ) → IsDropAt p (id_plan_of script) (IsCallOf script) ids_here told core l k m
+  dropped_by : (o n l k m : ℕ) → IsDropAt p (id_plan_of script) (IsCallOf script) ids told core l k m
       → IsSpoken told o → n ≤ 6 → l ≡ 8 * o + n → IsDroppedOn o n k
   dropped_by o n l k m x spoken few label_is = let word = x.word o n spoken (omega (arith, few)) label_is in let are = orders_are script made turns core is closes in ⊎_elim
       (λ z. let none_ : get_or core.words (place_word p l) 0 ≡ 0 = z in absurd (omega (arith, word, none_)))
@@ -321,7 +317,7 @@ module _ (script : List Item) (made : AreMade script) (turns : List Turn) (core 
     pub asked : Asked
     pub is_task : IsTask (all_tasks script) core.outcomes client task
     pub op : task.op ≡ ops.Call asked
-    pub own : ids_here task.number ≡ x.id
+    pub own : ids task.number ≡ x.id
     -- the attempt that was dropped, and on which link
     pub few : attempt_of x.error ≤ 6
     pub link : ℕ
@@ -339,7 +335,7 @@ module _ (script : List Item) (made : AreMade script) (turns : List Turn) (core 
     asked = calls.asked;
     is_task = (call.1, get_same (all_tasks script) call.0 call.1 call.3, in_contains call.1 call.2 call.4);
     op = call.5;
-    own = ap ids_here number ∙ (calls.owner ∙ id);
+    own = ap ids number ∙ (calls.owner ∙ id);
     few = (let f = calls.few in omega (arith, attempt, f));
     link = d.holder.link;
     dropped = subst (λ z. IsDroppedOn z (attempt_of x.error) d.holder.link) (sym number) (subst (λ z. IsDroppedOn heading.operation z d.holder.link) (sym attempt)
@@ -360,10 +356,10 @@ module _ (script : List Item) (made : AreMade script) (turns : List Turn) (core 
   }
     where
       round : WasGiven ends.events (socket_id_slot d.holder.id) (socket_id_version d.holder.id) d.holder.link
-          × (heading.owner ≢ 0 → IsCalls p (id_plan_of script) (IsCallOf script) ids_here told heading)
+          × (heading.owner ≢ 0 → IsCalls p (id_plan_of script) (IsCallOf script) ids told heading)
       round = ends.tells seat (DidRound (Puts d.holder d.now heading d.left d.taken d.asked)) (all_in (DidInRun script turns core is seat) deeds (DidRound (Puts d.holder d.now heading d.left d.taken d.asked)) did d.round)
 
-      calls : IsCalls p (id_plan_of script) (IsCallOf script) ids_here told heading
+      calls : IsCalls p (id_plan_of script) (IsCallOf script) ids told heading
       calls = round.1 owned
 
       call : IsCallOf script calls.asked

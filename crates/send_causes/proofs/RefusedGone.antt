@@ -37,19 +37,20 @@ use Rattle.client_laws.proofs.Fresh.{opening_fresh}
 use Rattle.joint_runs.proofs.Runs.{AreMade, first_views}
 use Rattle.owed_calls.specs.Lives.{ClosesInRun}
 use Rattle.send_causes.specs.Counts.{pair_of, of_heading, of_entry, of_view}
+use Rattle.send_causes.specs.Refused.{RunWouldOwn}
 use Rattle.send_causes.proofs.Apart.{of_call_fits}
 use Rattle.send_causes.proofs.Beside.{fixed_of_run, gave_of_run, orders_here}
 use Rattle.send_causes.proofs.Early.{start, go, fitting}
-use Rattle.send_causes.proofs.Runs.{IsCallOf, Lawful_, end_law}
-use Rattle.send_causes.proofs.Sends.{narrow, owed, labelled, opening_claims}
+use Rattle.send_causes.proofs.Runs.{AreLabelledIn, IsCallOf, Lawful_, end_law}
+use Rattle.send_causes.proofs.Sends.{narrow, owed, opening_claims}
 use Rattle.send_causes.proofs.Whole.{get_same}
-use Rattle.send_causes.proofs.RefusedWhole.{own_ids, IsGone}
+use Rattle.send_causes.proofs.RefusedWhole.{IsGone}
 
 -- a message of the attempt counts
 counts_one : (id n : ℕ) (h : Heading) → h.owner ≢ 0 → h.owner ≡ id → h.attempt ≡ n → of_heading id n h ≡ 1
 counts_one id n h some_ a b = ap (λ z. cond z 0 (pair_of id n h.owner h.attempt)) (ne_eqb h.owner 0 some_) ∙ (ap (λ z. cond z (cond (eqb h.attempt n) 1 0) 0) (eq-eqb h.owner id a) ∙ ap (λ z. cond z 1 0) (eq-eqb h.attempt n b))
 
-module _ (script : List Item) (made : AreMade script) (turns : List Turn) (core : Core) (is : IsRunWithCalls script turns core) (closes : ClosesInRun script turns core is) where
+module _ (script : List Item) (made : AreMade script) (turns : List Turn) (core : Core) (is : IsRunWithCalls script turns core) (closes : ClosesInRun script turns core is) (ids : ℕ → ℕ) (labelled : AreLabelledIn ids script turns core is) (would : RunWouldOwn ids script turns core is) where
   abbrev p : Plan
   p = plan_of script
 
@@ -63,12 +64,12 @@ module _ (script : List Item) (made : AreMade script) (turns : List Turn) (core 
   bare_views i v at = (opening_claims (plan_of script) (all_seats (all_tasks script) (length (opens script))) i v at, fresh i v at)
 
   -- no link accepted a message of the attempt
-  module _ (n : ℕ) (asked : Asked) (called : IsCallOf script asked) (gone : IsGone script made turns core is closes (own_ids script made turns core is closes asked.operation) n) where
+  module _ (n : ℕ) (asked : Asked) (called : IsCallOf script asked) (gone : IsGone script made turns core is closes ids labelled would (ids asked.operation) n) where
     abbrev id : ℕ
-    id = own_ids script made turns core is closes asked.operation
+    id = ids asked.operation
 
-    end_labels : Lawful_ (plan_of script) (id_plan_of script) (narrow script made turns core is closes) (IsCallOf script) (own_ids script made turns core is closes) core vs
-    end_labels = end_law script made.are (first_views script) (start script made turns core is) (go script made turns core is) turns core is (fitting script made turns core is) (narrow script made turns core is closes) bare_views (own_ids script made turns core is closes) (labelled script made turns core is closes)
+    end_labels : Lawful_ (plan_of script) (id_plan_of script) (narrow script made turns core is closes) (IsCallOf script) ids core vs
+    end_labels = end_law script made.are (first_views script) (start script made turns core is) (go script made turns core is) turns core is (fitting script made turns core is) (narrow script made turns core is closes) bare_views ids labelled
 
     abbrev told_run : Goes (plan_of script) (told_tasks_of script) (seats script made.are (first_views script) (start script made turns core is) fresh (go script made turns core is) turns core is (fitting script made turns core is)) true is.final is.ended
         (views_closed script turns core is (first_views script)) (ended_told script made.are (first_views script) (start script made turns core is) fresh (go script made turns core is) turns core is (fitting script made turns core is))
@@ -103,9 +104,9 @@ module _ (script : List Item) (made : AreMade script) (turns : List Turn) (core 
         by : (b : Bool) → is_of_send e ≡ b → ⊥
         by true sends = let x = message_of (plan_of script) (told_tasks_of script) told_seats true core vs told_run.after.events told_run.after.lost end_sound told_story rests i m e h sends in
             no_task i x.task x.asks (sym (number_of (plan_of script) (told_tasks_of script) told_seats true core vs told_run.after.events told_run.after.lost end_sound told_story rests i e x) ∙ same)
-        by false other = let f = of_call_fits (plan_of script) (id_plan_of script) (IsCallOf script) (own_ids script made turns core is closes) (told_tasks_of script) told_seats core vs told_run.after.events told_run.after.lost end_sound told_story rests
+        by false other = let f = of_call_fits (plan_of script) (id_plan_of script) (IsCallOf script) ids (told_tasks_of script) told_seats core vs told_run.after.events told_run.after.lost end_sound told_story rests
             end_labels.0 end_labels.1 i m e h other in
-            let one = counts_one id n e.heading f.0 (sym f.1 ∙ ap (own_ids script made turns core is closes) same) at in let none_ = none_counts i m e h in omega (arith, one, none_)
+            let one = counts_one id n e.heading f.0 (sym f.1 ∙ ap ids same) at in let none_ = none_counts i m e h in omega (arith, one, none_)
 
     pub none_accepted : (k : ℕ) → AllByRecursion (λ (a : Accepted). a.operation ≡ asked.operation → a.attempt ≡ n → ⊥) (orders_here script made turns core is closes k).accepted
     none_accepted k = all_sent (plan_of script) core vs end_sound.lawful (each_made (plan_of script) (told_tasks_of script) told_seats true core vs told_run.after.events told_run.after.lost end_sound told_story rests)

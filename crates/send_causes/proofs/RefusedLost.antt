@@ -42,7 +42,7 @@ use Rattle.client_laws.specs.Openings.{all_seats}
 use Rattle.client_laws.proofs.Fresh.{opening_fresh}
 use Rattle.joint_runs.proofs.Runs.{AreMade, first_views}
 use Rattle.owed_calls.specs.Lives.{ClosesInRun}
-use Rattle.send_causes.specs.Refused.{Deed, DidStep, DidPut, DidIn, DidEarly, DidLate, FoundLost, WasOther, WasOdd, WasNone}
+use Rattle.send_causes.specs.Refused.{Deed, DidStep, DidPut, DidMiss, DidIn, DidEarly, DidLate, FoundLost, WasOther, WasOdd, WasNone}
 use Rattle.send_causes.proofs.Beside.{fixed_of_run, gave_of_run, orders_here, failing_of_run}
 use Rattle.send_causes.proofs.Early.{start, go, fitting}
 use Rattle.send_causes.proofs.Sends.{owed}
@@ -205,12 +205,12 @@ module _ (script : List Item) (made : AreMade script) (turns : List Turn) (core 
         (failing_of_run script made turns core is closes bytes reads life.0 (record { slot = socket_id_slot s; version = socket_id_version s; life = record { inside = life.2; given = life.3 }; failed = failed }))
 
     -- or nothing was found under the name, before the ending
-    pub early_lost : (o n name seat : ℕ) (ds : List Deed) → AllByRecursion (DidEarly script turns core is seat) ds → FoundLost name n ds → ((c : ℕ) → Lost c o n name) ⊎ ((0 < n) × DidEarly script turns core is seat (DidStep (LoadName name) 0))
+    pub early_lost : (o n name seat : ℕ) (ds : List Deed) → AllByRecursion (DidEarly script turns core is seat) ds → FoundLost o name n ds → ((c : ℕ) → Lost c o n name) ⊎ ((0 < n) × ((id : ℕ) × DidEarly script turns core is seat (DidMiss name o id n)))
     early_lost o n name seat ds did (WasOther s found load add ne) = inl (λ c. failed_early c o n name s (early_named seat (DidStep (LoadName name) (s + 1)) (all_in (DidEarly script turns core is seat) ds (DidStep (LoadName name) (s + 1)) did load))
         (early_so script made turns core is closes seat (DidStep (AddRef s) found) (all_in (DidEarly script turns core is seat) ds (DidStep (AddRef s) found) did add) ne).1)
     early_lost o n name seat ds did (WasOdd s found load look odd) = inl (λ c. failed_early c o n name s (early_named seat (DidStep (LoadName name) (s + 1)) (all_in (DidEarly script turns core is seat) ds (DidStep (LoadName name) (s + 1)) did load))
         (early_so script made turns core is closes seat (DidStep (LookWord s) found) (all_in (DidEarly script turns core is seat) ds (DidStep (LookWord s) found) did look) odd).1)
-    early_lost o n name seat ds did (WasNone later load) = inr (later, all_in (DidEarly script turns core is seat) ds (DidStep (LoadName name) 0) did load)
+    early_lost o n name seat ds did (WasNone id later miss) = inr (later, (id, all_in (DidEarly script turns core is seat) ds (DidMiss name o id n) did miss))
 
     -- an attempt behind that is one of an operation that had a step while the run was ending
     pub late_lost : (c n name seat : ℕ) (asked : Asked) (ds : List Deed) → AllByRecursion (DidLate script turns core is seat) ds → In (DidPut asked) ds → Lost c asked.operation n name

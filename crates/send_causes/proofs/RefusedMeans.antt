@@ -35,7 +35,7 @@ use Rattle.sock_causes.proofs.Added.{failer_note, row_adds}
 use Rattle.sock_causes.proofs.Cases.{tick_cases}
 use Rattle.sock_causes.proofs.Ticks.{elem_there}
 use Rattle.sock_causes.proofs.Used.{word_stays}
-use Rattle.send_causes.specs.Refused.{Deed, DidStep, DidPut, DidRound, DidAt, DidIn}
+use Rattle.send_causes.specs.Refused.{Deed, DidStep, DidPut, DidRound, DidMiss, DidAt, DidIn}
 
 module _ (p : Plan) where
   -- the life of version h of slot j was failed
@@ -86,6 +86,7 @@ module _ (p : Plan) where
         subst (Says c vs call) (sym x.5) (says_of j v.0 v.1 call g.0)
     did_so m j (DidPut asked) x = tt
     did_so m j (DidRound w) x = tt
+    did_so m j (DidMiss name o id n) x = tt
 
   -- ## Ticks
 
@@ -105,6 +106,7 @@ module _ (p : Plan) where
         by _ s = tt
     by_parts c' vs' used failed (DidPut asked) so = tt
     by_parts c' vs' used failed (DidRound w) so = tt
+    by_parts c' vs' used failed (DidMiss name o id n) so = tt
 
     module _ (v : View) (here : get_elem? vs m.seat ≡ some v) where
       -- a move, which leaves words and marks

@@ -33,7 +33,7 @@ use Rattle.sock_causes.proofs.Final.{at_there, at_within, idle, final}
 use Rattle.sock_causes.proofs.Lives.{World, task_of, tells_of}
 use Rattle.sock_causes.proofs.Members.{from_trace, to_trace}
 use Rattle.sock_causes.proofs.Ticks.{elem_there, tick_story}
-use Rattle.send_causes.specs.Refused.{Deed, DidStep, DidPut, DidRound, DidAt, DidIn}
+use Rattle.send_causes.specs.Refused.{Deed, DidStep, DidPut, DidRound, DidMiss, DidAt, DidIn}
 
 -- ## What was found under names
 
@@ -47,6 +47,7 @@ named_more es fs part (DidStep (LoadName n) found) x = λ some_. let y = x some_
 named_more es fs part (DidStep _ found) x = tt
 named_more es fs part (DidPut asked) x = tt
 named_more es fs part (DidRound w) x = tt
+named_more es fs part (DidMiss n o id a) x = tt
 
 module _ (p : Plan) (cs : List (List Task)) (are : AreTasks p cs) where
   -- what is found in a tick was stored before it
@@ -57,6 +58,7 @@ module _ (p : Plan) (cs : List (List Task)) (are : AreTasks p cs) where
   named_now over c vs es lost sound story m j (DidStep _ found) x = tt
   named_now over c vs es lost sound story m j (DidPut asked) x = tt
   named_now over c vs es lost sound story m j (DidRound w) x = tt
+  named_now over c vs es lost sound story m j (DidMiss n o id a) x = tt
 
   -- a story of a core, which has what was found under names so far
   pub record Named (over : Bool) (c : Core) (vs : List View) : Type 0 where

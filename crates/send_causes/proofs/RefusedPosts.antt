@@ -1,4 +1,4 @@
--- Of each post of a tick: who made it, and why.
+-- Of each post of a tick: why its seat made it.
 use Rattle.std.proofs.Common.{◌≡◌, ℕ, ◌<◌, ◌≤◌, inl, inr, Bool, true, false, cond, eqb, nat_le, leb-true, leb-false, List, [], ◌∷◌, refl, sym, subst, arith}
 use Rattle.std.specs.List.{AllByRecursion}
 use mathlib.Core.Option.{Option, some, none}
@@ -25,22 +25,22 @@ use Rattle.send_causes.proofs.Ticks.{AreCalls}
 use Rattle.send_causes.proofs.RefusedTicks.{Then, First, first_as}
 
 -- what is known of what was done, and of attempts that are spent, may grow
-pub kind_more : (requests : ℕ) (is_call : Asked → Type 0) (ids : ℕ → ℕ) (Did Done : ℕ → Deed → Type 0) (Gone Went : ℕ → ℕ → Type 0) → ((j : ℕ) (d : Deed) → Did j d → Done j d) → ((id n : ℕ) → Gone id n → Went id n) → (x : Post) → PostKind requests is_call ids Did Gone x
-    → PostKind requests is_call ids Done Went x
-kind_more requests is_call ids Did Done Gone Went f g x (ByReader seat n reader e) = ByReader seat n reader e
-kind_more requests is_call ids Did Done Gone Went f g x (ByExpiry seat client e) = ByExpiry seat client e
-kind_more requests is_call ids Did Done Gone Went f g x (ByRefusal seat n code deeds client did refusal gone e) = ByRefusal seat n code deeds client (all_done deeds did) refusal (g x.id n gone) e
+pub kind_more : (requests : ℕ) (is_call : Asked → Type 0) (ids : ℕ → ℕ) (Did Done : ℕ → Deed → Type 0) (Gone Went : ℕ → ℕ → Type 0) → ((j : ℕ) (d : Deed) → Did j d → Done j d) → ((id n : ℕ) → Gone id n → Went id n) → (j : ℕ) (x : Post) → PostKind requests is_call ids Did Gone j x
+    → PostKind requests is_call ids Done Went j x
+kind_more requests is_call ids Did Done Gone Went f g j x (ByReader n reader e) = ByReader n reader e
+kind_more requests is_call ids Did Done Gone Went f g j x (ByExpiry client e) = ByExpiry client e
+kind_more requests is_call ids Did Done Gone Went f g j x (ByRefusal n code deeds client did refusal gone e) = ByRefusal n code deeds client (all_done deeds did) refusal (g x.id n gone) e
   where
-    all_done : (ds : List Deed) → AllByRecursion (Did seat) ds → AllByRecursion (Done seat) ds
+    all_done : (ds : List Deed) → AllByRecursion (Did j) ds → AllByRecursion (Done j) ds
     all_done [] a = tt
-    all_done (d ∷ ds) a = (f seat d a.0, all_done ds a.1)
-kind_more requests is_call ids Did Done Gone Went f g x (ByDrop seat heading code deeds client did drop owner is e) = ByDrop seat heading code deeds client (all_done deeds did) drop owner is e
+    all_done (d ∷ ds) a = (f j d a.0, all_done ds a.1)
+kind_more requests is_call ids Did Done Gone Went f g j x (ByDrop heading code deeds client did drop owner is e) = ByDrop heading code deeds client (all_done deeds did) drop owner is e
   where
-    all_done : (ds : List Deed) → AllByRecursion (Did seat) ds → AllByRecursion (Done seat) ds
+    all_done : (ds : List Deed) → AllByRecursion (Did j) ds → AllByRecursion (Done j) ds
     all_done [] a = tt
-    all_done (d ∷ ds) a = (f seat d a.0, all_done ds a.1)
+    all_done (d ∷ ds) a = (f j d a.0, all_done ds a.1)
 
-same_first : (program : Program) → goes.first_of program ≡ first_step program
+pub same_first : (program : Program) → goes.first_of program ≡ first_step program
 same_first (Write w after) = refl
 same_first (Round head next) = refl
 same_first (Do call next) = refl
@@ -59,7 +59,7 @@ same_first (Retries many after) = refl
 module _ (p : Plan) (q : IdPlan) (narrow : q.slots ≤ 65536) (is_call : Asked → Type 0) (ids : ℕ → ℕ) (Did : ℕ → Deed → Type 0) (c : Core) (vs : List View) (ss : List Doing) (law : ChargeLaw p.requests is_call ids p q Did c vs ss)
     (calls : AreCalls is_call c.calls) (us : List IdView) (real_ids : SoundIds p q c us) (m : Moment) (sound : Sound p c vs) where
   abbrev Kind : Post → Type 0
-  Kind x = PostKind p.requests is_call ids (Then p q narrow is_call ids Did c vs ss law calls us real_ids m) (IsSpent p.requests is_call ids p q c vs ss) x
+  Kind x = PostKind p.requests is_call ids (Then p q narrow is_call ids Did c vs ss law calls us real_ids m) (IsSpent p.requests is_call ids p q c vs ss) m.seat x
 
   module _ (seat : SeatState) (v : View) (s : Doing) (at_seat : get_elem? c.seats m.seat ≡ some seat) (at_view : get_elem? vs m.seat ≡ some v) (at_doing : get_elem? ss m.seat ≡ some s) where
     abbrev F : Program → Type 0
@@ -74,13 +74,13 @@ module _ (p : Plan) (q : IdPlan) (narrow : q.slots ≤ 65536) (is_call : Asked �
     by_charge : (d : Charge) (ds : List Deed) → ChargeFits p.requests is_call ids p q c vs ss d ds → AllByRecursion (Then p q narrow is_call ids Did c vs ss law calls us real_ids m m.seat) ds → m.seat < 32 → (x : Post)
         → IsChargeOf p.requests is_call (nat_le 32 m.seat) d x.id x.error → Kind x
     by_charge NoCharge ds fits did client x e = absurd e
-    by_charge (IsRefused id n code) ds fits did client x e = let y = subst (λ z. ChargeFits p.requests is_call ids p q c vs ss (IsRefused z n code) ds) e.0 fits in ByRefusal m.seat n code ds client did y.0 y.1 e.1
-    by_charge (HasDropped heading code) ds fits did client x e = ByDrop m.seat heading code ds client did fits e.0 e.1 e.2
+    by_charge (IsRefused id n code) ds fits did client x e = let y = subst (λ z. ChargeFits p.requests is_call ids p q c vs ss (IsRefused z n code) ds) e.0 fits in ByRefusal n code ds client did y.0 y.1 e.1
+    by_charge (HasDropped heading code) ds fits did client x e = ByDrop heading code ds client did fits e.0 e.1 e.2
 
     by_post : (d : Charge) (ds : List Deed) → ChargeFits p.requests is_call ids p q c vs ss d ds → AllByRecursion (Then p q narrow is_call ids Did c vs ss law calls us real_ids m m.seat) ds → (x : Post)
         → IsPostOf p.requests is_call (nat_le 32 m.seat) d x.id x.error → Kind x
-    by_post d ds fits did x (inl r) = ByReader m.seat r.1.0 (reader_high r.0) r.1.1
-    by_post d ds fits did x (inr (inl e)) = ByExpiry m.seat (client_low e.0) e.1
+    by_post d ds fits did x (inl r) = ByReader r.1.0 (reader_high r.0) r.1.1
+    by_post d ds fits did x (inr (inl e)) = ByExpiry (client_low e.0) e.1
     by_post d ds fits did x (inr (inr e)) = by_charge d ds fits did (client_low e.0) x e.1
 
     kinds_of : (step : Step) (next : Found step → Program) → F (Aside step next) → (o : Option (Found step)) (x : Post) → In x (elim o as (λ o. List Post) [ none ↦ [] | some found ↦ posts_by step found ]) → Kind x

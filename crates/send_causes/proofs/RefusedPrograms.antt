@@ -34,7 +34,7 @@ use Rattle.sock_causes.specs.Stories.{In}
 use Rattle.label_runs.proofs.Loops.{not_equal}
 use Rattle.label_runs.proofs.Programs.{OpCalls}
 use Rattle.label_runs.specs.Labels.{Trial, Idle, Tries, Sends, IsOfTrial, MayPut, Kept, LeavesLabel, LeavesLock, LeavesUnlock, locked_trial}
-use Rattle.send_causes.specs.Refused.{Deed, DidStep, DidPut, DidRound, Charge, NoCharge, IsRefused, HasDropped, Doing, idle, begins, FoundTaken, WasOther, WasOdd, WasNone, WouldStore, IsPostOf}
+use Rattle.send_causes.specs.Refused.{Deed, DidStep, DidPut, DidRound, DidMiss, Charge, NoCharge, IsRefused, HasDropped, Doing, idle, begins, FoundTaken, WasOther, WasOdd, WasNone, WouldStore, IsPostOf}
 use Rattle.send_causes.proofs.RefusedLoops.{bare, Goes, way, Steps, step_way, aside_way, forgets, let_go, post_with_goes, posted_goes, decide_goes, decided_goes, answer_goes}
 
 module _ (requests : ℕ) (is_call : Asked → Type 0) (reads : Bool) where
@@ -338,6 +338,8 @@ module _ (requests : ℕ) (is_call : Asked → Type 0) (reads : Bool) where
         few = few;
         still = same;
         put = put;
+        deed = DidStep made found;
+        last = inl refl;
         why = inl (refl, taken);
         gives_up = refl;
         charge = refl;
@@ -391,6 +393,8 @@ module _ (requests : ℕ) (is_call : Asked → Type 0) (reads : Bool) where
               few = few;
               still = refl;
               put = put;
+              deed = DidStep (LookWord socket) found;
+              last = inl refl;
               why = inr (refl, WasOdd socket found (inr load) (inl refl) (odd_of (vref_version found) odd));
               gives_up = refl;
               charge = refl;
@@ -450,6 +454,8 @@ module _ (requests : ℕ) (is_call : Asked → Type 0) (reads : Bool) where
               few = few;
               still = refl;
               put = put;
+              deed = DidStep (AddRef socket) found;
+              last = inl refl;
               why = inr (refl, WasOther socket found (inr load) (inl refl) (not_equal (vref_version found) (socket_id_version socket) other));
               gives_up = refl;
               charge = refl;
@@ -522,7 +528,7 @@ module _ (requests : ℕ) (is_call : Asked → Type 0) (reads : Bool) where
       λ word _. step_way requests is_call reads (LoadName (name_of asked n)) (λ word. cond (eqb word 0) (post id 1009 n next) (attempt requests asked id n (word - 1) next)) word (bare (Tries id n) ds)
           (eqb word 0) (post id 1009 n next) (attempt requests asked id n (word - 1) next)
           (λ none_. (
-            due (IsRefused id n 1009) (DidStep (LoadName (name_of asked n)) word ∷ ds),
+            due (IsRefused id n 1009) (DidMiss (name_of asked n) asked.operation id n ∷ ds),
             inr (inl (record {
               id = id;
               attempt = n;
@@ -533,12 +539,14 @@ module _ (requests : ℕ) (is_call : Asked → Type 0) (reads : Bool) where
               few = few;
               still = refl;
               put = put;
-              why = inr (refl, WasNone later (inl (ap (DidStep (LoadName (name_of asked n))) (sym (eqb-true word 0 none_)))));
+              deed = DidMiss (name_of asked n) asked.operation id n;
+              last = inr (name_of asked n, refl, eqb-true word 0 none_, refl, (1, tt, would mine asked called id n 0 next few goes));
+              why = inr (refl, WasNone id later (inl refl));
               gives_up = refl;
               charge = refl;
               deeds = refl;
             })),
-            post_keeps (IsRefused id n 1009) (DidStep (LoadName (name_of asked n)) word ∷ ds) id 1009 n next (inr (inr (mine, (refl, refl)))) goes,
+            post_keeps (IsRefused id n 1009) (DidMiss (name_of asked n) asked.operation id n ∷ ds) id 1009 n next (inr (inr (mine, (refl, refl)))) goes,
           ))
           (λ some_. (
             bare (Tries id n) (DidStep (LoadName (name_of asked n)) word ∷ ds),

@@ -27,12 +27,14 @@ use Rattle.sock_causes.proofs.Plain.{in_both}
 use Rattle.label_runs.specs.Labels.{Trial, Idle}
 use Rattle.label_runs.proofs.Programs.{OpCalls}
 use Rattle.call_causes.specs.Lists.{shows_in}
-use Rattle.call_causes.specs.Posts.{Post, posted_at}
+use Rattle.call_causes.specs.Decided.{posted_by}
+use Rattle.call_causes.specs.Posts.{Post}
 use Rattle.send_causes.specs.Counts.{of_trial, of_view, times_of, TrialFits, AreLabelled}
-use Rattle.send_causes.specs.Refused.{Deed, DidStep, DidPut, DidRound, Doing, idle, trial_in, Charges, DidAt, DidIn, IsSpent, ChargeFits, ChargeLaw, PostKind, AllWouldOwn}
+use Rattle.send_causes.specs.Refused.{Deed, DidStep, DidPut, DidRound, DidMiss, Doing, idle, trial_in, Charges, DidAt, DidIn, IsSpent, ChargeFits, ChargeLaw, PostKind, AllWouldOwn}
 use Rattle.send_causes.proofs.Ticks.{label_ticks}
 use Rattle.send_causes.proofs.Runs.{IsBare, Lawful_, total_none, none_waits, bare_count}
 use Rattle.send_causes.proofs.RefusedTicks.{charge_ticks}
+use Rattle.send_causes.proofs.PostSeats.{of_tick}
 use Rattle.send_causes.proofs.RefusedPosts.{kind_more, tick_kinds}
 use Rattle.send_causes.proofs.RefusedPrograms.{client_goes, reader_goes}
 
@@ -60,8 +62,8 @@ module _ (p : Plan) (q : IdPlan) (narrow : q.slots ≤ 65536) (is_call : Asked �
   abbrev Spent : Core → List View → List Doing → ℕ → ℕ → Type 0
   Spent c vs ss id n = IsSpent p.requests is_call ids p q c vs ss id n
 
-  abbrev Kind : (ℕ → Deed → Type 0) → (ℕ → ℕ → Type 0) → Post → Type 0
-  Kind Did Gone x = PostKind p.requests is_call ids Did Gone x
+  abbrev Kind : (ℕ → Deed → Type 0) → (ℕ → ℕ → Type 0) → ℕ → Post → Type 0
+  Kind Did Gone j x = PostKind p.requests is_call ids Did Gone j x
 
   all_more : (Did Done : ℕ → Deed → Type 0) (j : ℕ) → ((d : Deed) → Did j d → Done j d) → (ds : List Deed) → AllByRecursion (Did j) ds → AllByRecursion (Done j) ds
   all_more Did Done j f [] a = tt
@@ -86,11 +88,12 @@ module _ (p : Plan) (q : IdPlan) (narrow : q.slots ≤ 65536) (is_call : Asked �
     pub doings : List Doing
     pub law : Law (λ j d. Did j d ⊎ DidIn p c ms j d) (run p c ms) (views_along p c vs ms) doings
     pub spent : (id n : ℕ) → Spent c vs ss id n → Spent (run p c ms) (views_along p c vs ms) doings id n
-    pub kinds : (x : Post) → In x (shows_in posted_at p c ms) → Kind (λ j d. Did j d ⊎ DidIn p c ms j d) (Spent (run p c ms) (views_along p c vs ms) doings) x
+    -- of the posts of each seat
+    pub kinds : (j : ℕ) (x : Post) → In x (shows_in (posted_by j) p c ms) → Kind (λ j d. Did j d ⊎ DidIn p c ms j d) (Spent (run p c ms) (views_along p c vs ms) doings) j x
 
   pub run_charges : RetriesGo p → (ms : List Moment) (Did : ℕ → Deed → Type 0) (c : Core) (vs : List View) → Sound p c vs → AreAnswered p c ms → AreFitting p c ms → AreLabelled ids p q c ms → AllWouldOwn ids p c ms
       → Lawful_ p q narrow is_call ids c vs → (ss : List Doing) → Law Did c vs ss → Behind Did c vs ss ms
-  run_charges go [] Did c vs sound answered fitting are own labels ss law = record { doings = ss; law = law_more Did (λ j d. Did j d ⊎ ⊥) (λ j d x. inl x) c vs ss law; spent = λ id n x. x; kinds = λ x m. absurd m }
+  run_charges go [] Did c vs sound answered fitting are own labels ss law = record { doings = ss; law = law_more Did (λ j d. Did j d ⊎ ⊥) (λ j d x. inl x) c vs ss law; spent = λ id n x. x; kinds = λ j x m. absurd m }
   run_charges go (m ∷ ms) Did c vs sound answered fitting are own labels ss law =
       let next = label_ticks p q narrow is_call ids c vs labels.0 labels.1 are.0.0 are.0.1 sound m answered.0 are.1 are.2 in
       let mine = charge_ticks p q narrow is_call ids Did c vs ss law labels.1.calls are.0.0 are.0.1 m sound answered.0 are.1 are.2 own.0 in
@@ -98,12 +101,13 @@ module _ (p : Plan) (q : IdPlan) (narrow : q.slots ≤ 65536) (is_call : Asked �
         doings = r.doings;
         law = law_more (λ j d. (Did j d ⊎ DidAt p c m j d) ⊎ DidIn p (ticked p c m) ms j d) (λ j d. Did j d ⊎ (DidAt p c m j d ⊎ DidIn p (ticked p c m) ms j d)) regroup (run p c (m ∷ ms)) (views_along p c vs (m ∷ ms)) r.doings r.law;
         spent = λ id n x. r.spent id n (mine.2 id n x);
-        kinds = λ x at. ⊎_elim
-            (λ now. kind_more p.requests is_call ids (λ j d. Did j d ⊎ DidAt p c m j d) (λ j d. Did j d ⊎ (DidAt p c m j d ⊎ DidIn p (ticked p c m) ms j d)) (Spent c vs ss) (Spent (run p c (m ∷ ms)) (views_along p c vs (m ∷ ms)) r.doings)
-            (λ j d y. regroup j d (inl y)) (λ id n y. r.spent id n (mine.2 id n y)) x (tick_kinds p q narrow is_call ids Did c vs ss law labels.1.calls are.0.0 are.0.1 m sound x now))
+        kinds = λ j x at. ⊎_elim
+            (λ now. let y = of_tick j c m x now in kind_more p.requests is_call ids (λ j d. Did j d ⊎ DidAt p c m j d) (λ j d. Did j d ⊎ (DidAt p c m j d ⊎ DidIn p (ticked p c m) ms j d)) (Spent c vs ss) (Spent (run p c (m ∷ ms)) (views_along p c vs (m ∷ ms)) r.doings)
+            (λ j d z. regroup j d (inl z)) (λ id n z. r.spent id n (mine.2 id n z)) j x
+            (subst (λ j. Kind (λ j d. Did j d ⊎ DidAt p c m j d) (Spent c vs ss) j x) y.0 (tick_kinds p q narrow is_call ids Did c vs ss law labels.1.calls are.0.0 are.0.1 m sound x y.1)))
             (λ later. kind_more p.requests is_call ids (λ j d. (Did j d ⊎ DidAt p c m j d) ⊎ DidIn p (ticked p c m) ms j d) (λ j d. Did j d ⊎ (DidAt p c m j d ⊎ DidIn p (ticked p c m) ms j d))
-            (Spent (run p c (m ∷ ms)) (views_along p c vs (m ∷ ms)) r.doings) (Spent (run p c (m ∷ ms)) (views_along p c vs (m ∷ ms)) r.doings) regroup (λ id n y. y) x (r.kinds x later))
-            (in_both (posted_at c m) (shows_in posted_at p (ticked p c m) ms) x at);
+            (Spent (run p c (m ∷ ms)) (views_along p c vs (m ∷ ms)) r.doings) (Spent (run p c (m ∷ ms)) (views_along p c vs (m ∷ ms)) r.doings) regroup (λ id n y. y) j x (r.kinds j x later))
+            (in_both (posted_by j c m) (shows_in (posted_by j) p (ticked p c m) ms) x at);
       }
     where
       regroup : (j : ℕ) (d : Deed) → (Did j d ⊎ DidAt p c m j d) ⊎ DidIn p (ticked p c m) ms j d → Did j d ⊎ (DidAt p c m j d ⊎ DidIn p (ticked p c m) ms j d)
@@ -196,6 +200,8 @@ seats_charge requests is_call sizes size cs few asks calls os i x at = ⊎_elim
 pub none_done : (p : Plan) (c : Core) (m : Moment) (seat : SeatState) → get_elem? c.seats m.seat ≡ some seat → seat.program ≡ Rest → (j : ℕ) (d : Deed) → DidAt p c m j d → ⊥
 none_done p c m seat at rests j (DidStep call found) x = let same : seat ≡ x.1 = some-injective seat x.1 (sym at ∙ (ap (get_elem? c.seats) x.0 ∙ x.3)) in
     let e : Rest ≡ Do call x.2 = ap first_step (sym rests ∙ ap (λ (s : SeatState). s.program) same) ∙ x.4 in cc
+none_done p c m seat at rests j (DidMiss name o id n) x = let same : seat ≡ x.1 = some-injective seat x.1 (sym at ∙ (ap (get_elem? c.seats) x.0 ∙ x.3)) in
+    let e : Rest ≡ Do _ x.2 = ap first_step (sym rests ∙ ap (λ (s : SeatState). s.program) same) ∙ x.4 in cc
 none_done p c m seat at rests j (DidPut asked) x = let same : seat ≡ x.1 = some-injective seat x.1 (sym at ∙ (ap (get_elem? c.seats) x.0 ∙ x.4)) in
     let e : Rest ≡ Aside _ _ = ap first_step (sym rests ∙ ap (λ (s : SeatState). s.program) same) ∙ x.5 in cc
 none_done p c m seat at rests j (DidRound w) x = let same : seat ≡ x.1 = some-injective seat x.1 (sym at ∙ (ap (get_elem? c.seats) x.0 ∙ x.3)) in

@@ -39,7 +39,7 @@ use Rattle.sock_causes.proofs.Ticks.{elem_there}
 use Rattle.owed_calls.proofs.EndsStill.{mapped_at}
 use Rattle.label_runs.specs.Labels.{Trial, Idle, Tries, Sends, IsOfTrial, MayPut, put_behind, Kept, Storing, unlocked_trial}
 use Rattle.send_causes.specs.Counts.{pair_of, of_trial, of_retry, of_view, times_of, WasMade, WasNow, TrialFits, StoresOwn}
-use Rattle.send_causes.specs.Refused.{Deed, DidStep, DidPut, Charge, NoCharge, IsRefused, HasDropped, Doing, idle, begins, trial_in, FoundTaken, FoundLost, WasOther, WasOdd, WasNone, WhyRefused, WouldStore, WouldOwn, IsTrying, Refuses, Moves, Remembers, Charges, did_aside, DidAt, IsRefusal, IsDrop, IsSpent, ChargeFits, ChargeLaw}
+use Rattle.send_causes.specs.Refused.{Deed, DidStep, DidPut, Charge, NoCharge, IsRefused, HasDropped, Doing, idle, begins, trial_in, FoundTaken, FoundLost, WasOther, WasOdd, WasNone, WhyRefused, WouldStore, WouldOwn, IsTrying, IsLast, Refuses, Moves, Remembers, Charges, did_aside, DidAt, IsRefusal, IsDrop, IsSpent, ChargeFits, ChargeLaw}
 use Rattle.send_causes.proofs.Ticks.{AreCalls, calls_waiting, fits_as, ids_first, kept_count, kept_fits, pair_one, pair_same, waits_set}
 use Rattle.send_causes.proofs.Views.{put_of, row_count, rights_count}
 use Rattle.send_causes.proofs.Words.{made_on, finds_label, words_forward, makes_new, advances_new}
@@ -91,14 +91,14 @@ in_more d ds x m = inr m
 taken_more : (requests : ℕ) (d : Deed) (ds : List Deed) → FoundTaken requests ds → FoundTaken requests (d ∷ ds)
 taken_more requests d ds t q low = let x = t q low in (x.0, x.1, inr x.2, x.3)
 
-lost_more : (name n : ℕ) (d : Deed) (ds : List Deed) → FoundLost name n ds → FoundLost name n (d ∷ ds)
-lost_more name n d ds (WasOther id found a b e) = WasOther id found (inr a) (inr b) e
-lost_more name n d ds (WasOdd id found a b e) = WasOdd id found (inr a) (inr b) e
-lost_more name n d ds (WasNone some_ a) = WasNone some_ (inr a)
+lost_more : (o name n : ℕ) (d : Deed) (ds : List Deed) → FoundLost o name n ds → FoundLost o name n (d ∷ ds)
+lost_more o name n d ds (WasOther id found a b e) = WasOther id found (inr a) (inr b) e
+lost_more o name n d ds (WasOdd id found a b e) = WasOdd id found (inr a) (inr b) e
+lost_more o name n d ds (WasNone id some_ a) = WasNone id some_ (inr a)
 
 why_more : (requests : ℕ) (asked : Asked) (n code : ℕ) (d : Deed) (ds : List Deed) → WhyRefused requests asked n code ds → WhyRefused requests asked n code (d ∷ ds)
 why_more requests asked n code d ds (inl f) = inl (f.0, taken_more requests d ds f.1)
-why_more requests asked n code d ds (inr l) = inr (l.0, lost_more _ n d ds l.1)
+why_more requests asked n code d ds (inr l) = inr (l.0, lost_more _ _ n d ds l.1)
 
 refusal_more : (requests : ℕ) (is_call : Asked → Type 0) (ids : ℕ → ℕ) (id n code : ℕ) (d : Deed) (ds : List Deed) → IsRefusal requests is_call ids id n code ds → IsRefusal requests is_call ids id n code (d ∷ ds)
 refusal_more requests is_call ids id n code d ds r = record { asked = r.asked; called = r.called; own = r.own; few = r.few; put = inr r.put; why = why_more requests r.asked n code d ds r.why }
@@ -431,6 +431,10 @@ module _ (p : Plan) (q : IdPlan) (narrow : q.slots ≤ 65536) (is_call : Asked �
         did_more : (u : Doing) → u.deeds ≡ DidStep call found ∷ d.deeds → AllByRecursion (Then m.seat) u.deeds
         did_more u e = subst (AllByRecursion (Then m.seat)) (sym e) (made_now, f.did)
 
+        last_now : (o id n : ℕ) (deed : Deed) → IsLast call next found o id n deed → Then m.seat deed
+        last_now o id n deed (inl e) = subst (Then m.seat) (sym e) made_now
+        last_now o id n deed (inr x) = subst (Then m.seat) (sym x.3) (inr (refl, seat, next, at_seat, is ∙ ap (λ (y : Call). Do y next) x.1, ap (λ (y : Call). found_at c.words (word_of p y)) (sym x.1) ∙ (sym found_is ∙ x.2), subst (WouldStore o id n) (sym is) x.4))
+
         no_less : (id n : ℕ) (u : Doing) → u.trial ≡ Idle → of_trial id n u.trial + of_view id n w ≤ of_trial id n s.trial + of_view id n v + 0
         no_less id n u e = let z : of_trial id n u.trial ≡ 0 = ap (of_trial id n) e in let a = row_count v id n p found hand call in let b = put_count id n d.trial call f.goes.0 in let x = f.fewer id n in omega (arith, z, a, b, x)
 
@@ -460,7 +464,7 @@ module _ (p : Plan) (q : IdPlan) (narrow : q.slots ≤ 65536) (is_call : Asked �
           kept = refl;
           words = λ id n y. y;
           fits = subst (TrialFits ids) (sym x.gives_up) tt;
-          did = did_more u x.deeds;
+          did = subst (AllByRecursion (Then m.seat)) (sym x.deeds) (last_now x.asked.operation x.id x.attempt x.deed x.last, f.did);
           new = λ id n. 0;
           fewer = λ id n. no_less id n u x.gives_up;
           fresh = λ id n z. absurd (omega (arith, z));

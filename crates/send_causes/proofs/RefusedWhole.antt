@@ -42,18 +42,19 @@ use Rattle.client_laws.specs.Openings.{all_seats}
 use Rattle.client_laws.proofs.Fresh.{opening_fresh}
 use Rattle.joint_runs.proofs.Runs.{AreMade, first_views}
 use Rattle.owed_calls.specs.Lives.{ClosesInRun}
-use Rattle.call_causes.specs.Lists.{shows_in}
-use Rattle.call_causes.specs.Posts.{Post, posted_at, posts_of_run}
+use Rattle.call_causes.specs.Decided.{posted_by}
+use Rattle.call_causes.specs.Lists.{shows_in, shows_in_run}
+use Rattle.call_causes.specs.Posts.{Post, posted_at}
 use Rattle.send_causes.specs.Counts.{times_of, TrialFits}
 use Rattle.send_causes.specs.Refused.{Deed, Charge, NoCharge, IsRefused, HasDropped, Doing, idle, trial_in, Charges, DidAt, DidIn, DidEarly, DidLate, IsSpent, ChargeFits, ChargeLaw, PostKind, RunWouldOwn}
 use Rattle.send_causes.proofs.Early.{start, go, fitting}
-use Rattle.send_causes.proofs.Labelled.{ids_of_run, run_would_own}
 use Rattle.send_causes.proofs.Rests.{still}
 use Rattle.send_causes.proofs.Runs.{AreLabelledIn, IsCallOf, Lawful_, asked_by, behind_ids}
 use Rattle.send_causes.proofs.Runs as labels
-use Rattle.send_causes.proofs.Sends.{narrow, few_clients, labelled, opening_claims}
+use Rattle.send_causes.proofs.Sends.{narrow, few_clients, opening_claims}
 use Rattle.send_causes.proofs.RefusedClosing.{OnSockets, ending_goes as on_sockets, alone, set_first, none_closing}
 use Rattle.send_causes.proofs.RefusedLoops.{bare}
+use Rattle.send_causes.proofs.PostSeats.{of_all}
 use Rattle.send_causes.proofs.RefusedPosts.{kind_more}
 use Rattle.send_causes.proofs.RefusedPrograms.{ending_goes}
 use Rattle.send_causes.proofs.RefusedRuns.{law_more, Behind, run_charges, none_did, begins_charges, seats_charge, none_done, inside}
@@ -204,6 +205,11 @@ module _ (p : Plan) (q : IdPlan) (narrow : q.slots ≤ 65536) (is_call : Asked �
 -- ## A whole run
 
 module _ (script : List Item) (made : AreMade script) (turns : List Turn) (core : Core) (is : IsRunWithCalls script turns core) (closes : ClosesInRun script turns core is) where
+  abbrev pub end_views : List View
+  end_views = views_ended script turns core is (first_views script)
+
+-- the calls have these ids, and whoever stores an at word, or would store one, has its own operation's
+module _ (script : List Item) (made : AreMade script) (turns : List Turn) (core : Core) (is : IsRunWithCalls script turns core) (closes : ClosesInRun script turns core is) (ids : ℕ → ℕ) (labelled : AreLabelledIn ids script turns core is) (would : RunWouldOwn ids script turns core is) where
   abbrev p : Plan
   p = plan_of script
 
@@ -213,48 +219,39 @@ module _ (script : List Item) (made : AreMade script) (turns : List Turn) (core 
   abbrev vs : List View
   vs = first_views script
 
-  abbrev few_slots : (id_plan_of script).slots ≤ 65536
+  abbrev pub few_slots : (id_plan_of script).slots ≤ 65536
   few_slots = narrow script made turns core is closes
 
-  abbrev pub own_ids : ℕ → ℕ
-  own_ids = ids_of_run script made turns core is (narrow script made turns core is closes) (few_clients script made turns core is closes)
-
-  abbrev at_words : AreLabelledIn own_ids script turns core is
-  at_words = labelled script made turns core is closes
-
-  would : RunWouldOwn own_ids script turns core is
-  would = run_would_own script made turns core is (narrow script made turns core is closes) (few_clients script made turns core is closes)
-
-  bare_views : (i : ℕ) (v : View) → get_elem? (first_views script) i ≡ some v → (v.claims ≡ []) × (v.lists ≡ [] ∷ [])
+  pub bare_views : (i : ℕ) (v : View) → get_elem? (first_views script) i ≡ some v → (v.claims ≡ []) × (v.lists ≡ [] ∷ [])
   bare_views i v at = (opening_claims (plan_of script) (all_seats (all_tasks script) (length (opens script))) i v at, opening_fresh (plan_of script) (all_seats (all_tasks script) (length (opens script))) i v at)
 
-  abbrev Law : (ℕ → Deed → Type 0) → Core → List View → List Doing → Type 0
-  Law Did c ws ss = ChargeLaw (plan_of script).requests (IsCallOf script) own_ids (plan_of script) (id_plan_of script) Did c ws ss
+  abbrev pub Law : (ℕ → Deed → Type 0) → Core → List View → List Doing → Type 0
+  Law Did c ws ss = ChargeLaw (plan_of script).requests (IsCallOf script) ids (plan_of script) (id_plan_of script) Did c ws ss
 
   abbrev Gone : Core → List View → List Doing → ℕ → ℕ → Type 0
-  Gone c ws ss id n = IsSpent (plan_of script).requests (IsCallOf script) own_ids (plan_of script) (id_plan_of script) c ws ss id n
+  Gone c ws ss id n = IsSpent (plan_of script).requests (IsCallOf script) ids (plan_of script) (id_plan_of script) c ws ss id n
 
   abbrev Runs : (ℕ → Deed → Type 0) → Core → List View → List Doing → List Moment → Type 0
-  Runs Did c ws ss ms = Behind (plan_of script) (id_plan_of script) few_slots (IsCallOf script) own_ids Did c ws ss ms
+  Runs Did c ws ss ms = Behind (plan_of script) (id_plan_of script) few_slots (IsCallOf script) ids Did c ws ss ms
 
   abbrev seats_first : List Program
   seats_first = all_programs (programs (sizes_of (plan_of script) (id_plan_of script)) (all_tasks script)) (readers_from (calls script) 0 (opens script))
 
-  abbrev first_doings : List Doing
+  abbrev pub first_doings : List Doing
   first_doings = map (λ (x : Program). idle) seats_first
 
-  abbrev Nothing : ℕ → Deed → Type 0
-  Nothing = none_did (plan_of script) (id_plan_of script) few_slots (IsCallOf script) own_ids
+  abbrev pub Nothing : ℕ → Deed → Type 0
+  Nothing = none_did (plan_of script) (id_plan_of script) few_slots (IsCallOf script) ids
 
-  first_charges : Law Nothing (opened script) (first_views script) first_doings
-  first_charges = begins_charges (plan_of script) (id_plan_of script) few_slots (IsCallOf script) own_ids seats_first
+  pub first_charges : Law Nothing (opened script) (first_views script) first_doings
+  first_charges = begins_charges (plan_of script) (id_plan_of script) few_slots (IsCallOf script) ids seats_first
       (seats_charge (plan_of script).requests (IsCallOf script) (sizes_of (plan_of script) (id_plan_of script)) refl (all_tasks script) (few_clients script made turns core is closes) (asked_by script) (calls script) (opens script))
       (first_views script) bare_views
 
   setup_runs : Runs Nothing (opened script) (first_views script) first_doings (replicate is.setup (quiet 0))
-  setup_runs = run_charges (plan_of script) (id_plan_of script) few_slots (IsCallOf script) own_ids (go script made turns core is) (replicate is.setup (quiet 0)) Nothing (opened script) (first_views script) (start script made turns core is).sound
-      (set_up_answered script made.are (first_views script) (start script made turns core is) (go script made turns core is) turns core is (fitting script made turns core is)) (fitting script made turns core is).of_setup at_words.of_setup would.of_setup
-      (labels.first script made.are (first_views script) (start script made turns core is) (go script made turns core is) turns core is (fitting script made turns core is) few_slots bare_views own_ids at_words) first_doings first_charges
+  setup_runs = run_charges (plan_of script) (id_plan_of script) few_slots (IsCallOf script) ids (go script made turns core is) (replicate is.setup (quiet 0)) Nothing (opened script) (first_views script) (start script made turns core is).sound
+      (set_up_answered script made.are (first_views script) (start script made turns core is) (go script made turns core is) turns core is (fitting script made turns core is)) (fitting script made turns core is).of_setup labelled.of_setup would.of_setup
+      (labels.first script made.are (first_views script) (start script made turns core is) (go script made turns core is) turns core is (fitting script made turns core is) few_slots bare_views ids labelled) first_doings first_charges
 
   abbrev DidSetup : ℕ → Deed → Type 0
   DidSetup j d = Nothing j d ⊎ DidIn (plan_of script) (opened script) (replicate is.setup (quiet 0)) j d
@@ -263,9 +260,9 @@ module _ (script : List Item) (made : AreMade script) (turns : List Turn) (core 
   set_views = views_along (plan_of script) (opened script) (first_views script) (replicate is.setup (quiet 0))
 
   played_runs : Runs DidSetup (set_up script is.setup) set_views setup_runs.doings (is.scheduled ++ is.later)
-  played_runs = run_charges (plan_of script) (id_plan_of script) few_slots (IsCallOf script) own_ids (go script made turns core is) (is.scheduled ++ is.later) DidSetup (set_up script is.setup) set_views
-      (set_up_sound script made.are (first_views script) (start script made turns core is) (go script made turns core is) turns core is (fitting script made turns core is)) is.answered (fitting script made turns core is).of_played at_words.of_played would.of_played
-      (labels.set_up_law script made.are (first_views script) (start script made turns core is) (go script made turns core is) turns core is (fitting script made turns core is) few_slots bare_views own_ids at_words) setup_runs.doings setup_runs.law
+  played_runs = run_charges (plan_of script) (id_plan_of script) few_slots (IsCallOf script) ids (go script made turns core is) (is.scheduled ++ is.later) DidSetup (set_up script is.setup) set_views
+      (set_up_sound script made.are (first_views script) (start script made turns core is) (go script made turns core is) turns core is (fitting script made turns core is)) is.answered (fitting script made turns core is).of_played labelled.of_played would.of_played
+      (labels.set_up_law script made.are (first_views script) (start script made turns core is) (go script made turns core is) turns core is (fitting script made turns core is) few_slots bare_views ids labelled) setup_runs.doings setup_runs.law
 
   abbrev DidPlay : ℕ → Deed → Type 0
   DidPlay j d = DidSetup j d ⊎ DidIn (plan_of script) (set_up script is.setup) (is.scheduled ++ is.later) j d
@@ -287,16 +284,16 @@ module _ (script : List Item) (made : AreMade script) (turns : List Turn) (core 
       let sound = played_sound script made.are (first_views script) (start script made turns core is) (go script made turns core is) turns core is (fitting script made turns core is) in
       let close = closing_sound script made.are (first_views script) (start script made turns core is) (go script made turns core is) turns core is (fitting script made turns core is) in
       let seat = at_there c.seats 0 many in let v = elem_there c.seats ws 0 seat.0 sound.each seat.1 in
-      let labels_ = labels.played_law script made.are (first_views script) (start script made turns core is) (go script made turns core is) turns core is (fitting script made turns core is) few_slots bare_views own_ids at_words in
-      let us = behind_ids (plan_of script) (id_plan_of script) few_slots (IsCallOf script) own_ids (is.scheduled ++ is.later) (set_up script is.setup) at_words.of_played in
+      let labels_ = labels.played_law script made.are (first_views script) (start script made turns core is) (go script made turns core is) turns core is (fitting script made turns core is) few_slots bare_views ids labelled in
+      let us = behind_ids (plan_of script) (id_plan_of script) few_slots (IsCallOf script) ids (is.scheduled ++ is.later) (set_up script is.setup) labelled.of_played in
       let d = elem_there c.seats played_runs.doings 0 seat.0 played_runs.law.each seat.1 in
       let rests = seat_rests c (rested_ahead script made.are (first_views script) (start script made turns core is) (go script made turns core is) turns core is (fitting script made turns core is)) 0
       (rested_idle script made.are (first_views script) (start script made turns core is) (go script made turns core is) turns core is (fitting script made turns core is)) seat.0 seat.1 in
-      let next = moves (plan_of script) (id_plan_of script) few_slots (IsCallOf script) own_ids DidPlay c ws played_runs.doings played_runs.law labels_.1.calls us.0 us.1 (quiet 0) seat.0 v.0 d.0 seat.1 v.1 d.1 (ending_of (opens script)) [] c.homes v.0 v.0.rights refl
+      let next = moves (plan_of script) (id_plan_of script) few_slots (IsCallOf script) ids DidPlay c ws played_runs.doings played_runs.law labels_.1.calls us.0 us.1 (quiet 0) seat.0 v.0 d.0 seat.1 v.1 d.1 (ending_of (opens script)) [] c.homes v.0 v.0.rights refl
       (ending_goes (plan_of script).requests (IsCallOf script) (nat_le 32 0) (opens script)) in
       record {
         doings = next.0;
-        law = law_more (plan_of script) (id_plan_of script) few_slots (IsCallOf script) own_ids (λ j x. DidPlay j x ⊎ DidAt (plan_of script) rested (quiet 0) j x) DidPlay
+        law = law_more (plan_of script) (id_plan_of script) few_slots (IsCallOf script) ids (λ j x. DidPlay j x ⊎ DidAt (plan_of script) rested (quiet 0) j x) DidPlay
             (λ j x. ⊎_elim (λ y. y) (λ y. absurd (none_done (plan_of script) rested (quiet 0) seat.0 seat.1 rests j x y))) (closing_of script turns core is) rested_views next.0
             (subst (λ xs. Law (λ j x. DidPlay j x ⊎ DidAt (plan_of script) rested (quiet 0) j x) (closing_of script turns core is) xs next.0) (set_again rested_views 0 v.0 v.1) next.1);
         spent = λ id n x. subst (λ xs. Gone (closing_of script turns core is) xs next.0 id n) (set_again rested_views 0 v.0 v.1) (next.2 id n x);
@@ -306,10 +303,10 @@ module _ (script : List Item) (made : AreMade script) (turns : List Turn) (core 
       many = let m = Rattle.send_causes.proofs.Rests.many script made turns core is in omega (arith, m)
 
   closing_runs : Runs DidPlay (closing_of script turns core is) rested_views begun.doings (replicate is.last (quiet 0))
-  closing_runs = run_charges (plan_of script) (id_plan_of script) few_slots (IsCallOf script) own_ids (go script made turns core is) (replicate is.last (quiet 0)) DidPlay (closing_of script turns core is) rested_views
+  closing_runs = run_charges (plan_of script) (id_plan_of script) few_slots (IsCallOf script) ids (go script made turns core is) (replicate is.last (quiet 0)) DidPlay (closing_of script turns core is) rested_views
       (closing_sound script made.are (first_views script) (start script made turns core is) (go script made turns core is) turns core is (fitting script made turns core is))
-      (end_answered script made.are (first_views script) (start script made turns core is) (go script made turns core is) turns core is (fitting script made turns core is)) (fitting script made turns core is).of_closing at_words.of_closing would.of_closing
-      (labels.closing_law script made.are (first_views script) (start script made turns core is) (go script made turns core is) turns core is (fitting script made turns core is) few_slots bare_views own_ids at_words) begun.doings begun.law
+      (end_answered script made.are (first_views script) (start script made turns core is) (go script made turns core is) turns core is (fitting script made turns core is)) (fitting script made turns core is).of_closing labelled.of_closing would.of_closing
+      (labels.closing_law script made.are (first_views script) (start script made turns core is) (go script made turns core is) turns core is (fitting script made turns core is) few_slots bare_views ids labelled) begun.doings begun.law
 
   abbrev DidClose : ℕ → Deed → Type 0
   DidClose j d = DidPlay j d ⊎ DidIn (plan_of script) (closing_of script turns core is) (replicate is.last (quiet 0)) j d
@@ -324,8 +321,8 @@ module _ (script : List Item) (made : AreMade script) (turns : List Turn) (core 
   on_law : (c : Core) (ss : List Doing) → Law DidClose c closed_views ss → Law DidClose (is_ending c) closed_views ss
   on_law c ss law = record { once = law.once; made = law.made; each = law.each; later = law.later; trials = law.trials; did = law.did; due = λ j s at. on_due s.charge s.deeds (law.due j s at); programs = law.programs }
     where
-      on_due : (x : Charge) (ds : List Deed) → ChargeFits (plan_of script).requests (IsCallOf script) own_ids (plan_of script) (id_plan_of script) c closed_views ss x ds
-          → ChargeFits (plan_of script).requests (IsCallOf script) own_ids (plan_of script) (id_plan_of script) (is_ending c) closed_views ss x ds
+      on_due : (x : Charge) (ds : List Deed) → ChargeFits (plan_of script).requests (IsCallOf script) ids (plan_of script) (id_plan_of script) c closed_views ss x ds
+          → ChargeFits (plan_of script).requests (IsCallOf script) ids (plan_of script) (id_plan_of script) (is_ending c) closed_views ss x ds
       on_due NoCharge ds f = tt
       on_due (IsRefused id n code) ds f = (f.0, (f.1.0, f.1.1))
       on_due (HasDropped heading code) ds f = f
@@ -350,33 +347,40 @@ module _ (script : List Item) (made : AreMade script) (turns : List Turn) (core 
       by (inr w) here = waits_ease (plan_of script) rested w.0.answer seat.program
           (subst (λ o. elim o as (λ o. Bool) [ none ↦ false | some x ↦ waits_at (plan_of script) rested w.0.answer x.program ] ≡ true) (subst (λ i. get_elem? rested.seats i ≡ some seat) (sym w.1) here) w.3)
 
-  final_doings : List Doing
+  -- what was done before that is forgotten
+  final_law : Law Nothing is.ended closed_views (map ease closing_runs.doings)
+  final_law = forgotten (plan_of script) (id_plan_of script) few_slots (IsCallOf script) ids DidClose is.ended closed_views closing_runs.doings ended_law at_ease
+
+  pub final_doings : List Doing
   final_doings = map ease closing_runs.doings
 
+  pub final_charges : Law Nothing is.ended closed_views final_doings
+  unfolding final_doings
+  final_charges = final_law
+
   final_runs : Runs Nothing is.ended closed_views (map ease closing_runs.doings) is.final
-  final_runs = run_charges (plan_of script) (id_plan_of script) few_slots (IsCallOf script) own_ids (go script made turns core is) is.final Nothing is.ended closed_views
-      (closed_sound script made.are (first_views script) (start script made turns core is) (go script made turns core is) turns core is (fitting script made turns core is)) is.answered_again (fitting script made turns core is).of_final at_words.of_final would.of_final
-      (labels.closed_law script made.are (first_views script) (start script made turns core is) (go script made turns core is) turns core is (fitting script made turns core is) few_slots bare_views own_ids at_words) (map ease closing_runs.doings)
-      (forgotten (plan_of script) (id_plan_of script) few_slots (IsCallOf script) own_ids DidClose is.ended closed_views closing_runs.doings ended_law at_ease)
+  final_runs = run_charges (plan_of script) (id_plan_of script) few_slots (IsCallOf script) ids (go script made turns core is) is.final Nothing is.ended closed_views
+      (closed_sound script made.are (first_views script) (start script made turns core is) (go script made turns core is) turns core is (fitting script made turns core is)) is.answered_again (fitting script made turns core is).of_final labelled.of_final would.of_final
+      (labels.closed_law script made.are (first_views script) (start script made turns core is) (go script made turns core is) turns core is (fitting script made turns core is) few_slots bare_views ids labelled) (map ease closing_runs.doings) final_law
 
   -- ## What is left of refused attempts
 
-  abbrev pub end_views : List View
-  end_views = views_ended script turns core is (first_views script)
+  abbrev last_views : List View
+  last_views = views_ended script turns core is (first_views script)
 
   pub last_doings : List Doing
   last_doings = final_runs.doings
 
   -- nothing is left of the attempt as the run ends
   abbrev pub IsGone : ℕ → ℕ → Type 0
-  IsGone id n = Gone core end_views last_doings id n
+  IsGone id n = Gone core last_views last_doings id n
 
   from_ended : (id n : ℕ) → Gone is.ended closed_views (map ease closing_runs.doings) id n → IsGone id n
   unfolding last_doings
-  from_ended id n x = subst (λ c. Gone c end_views final_runs.doings id n) (sym is.is_end) (final_runs.spent id n x)
+  from_ended id n x = subst (λ c. Gone c last_views final_runs.doings id n) (sym is.is_end) (final_runs.spent id n x)
 
   from_closed : (id n : ℕ) → Gone closed closed_views closing_runs.doings id n → IsGone id n
-  from_closed id n x = from_ended id n (forgot_spent (plan_of script) (id_plan_of script) few_slots (IsCallOf script) own_ids is.ended closed_views closing_runs.doings id n (ended_spent id n x))
+  from_closed id n x = from_ended id n (forgot_spent (plan_of script) (id_plan_of script) few_slots (IsCallOf script) ids is.ended closed_views closing_runs.doings id n (ended_spent id n x))
 
   from_played : (id n : ℕ) → Gone rested rested_views played_runs.doings id n → IsGone id n
   from_played id n x = from_closed id n (closing_runs.spent id n (begun.spent id n x))
@@ -386,30 +390,30 @@ module _ (script : List Item) (made : AreMade script) (turns : List Turn) (core 
 
   -- ## The kinds of all posts
 
-  abbrev pub KindOfPost : (ℕ → Deed → Type 0) → Post → Type 0
-  KindOfPost Did x = PostKind (plan_of script).requests (IsCallOf script) own_ids Did IsGone x
+  abbrev pub KindOfPost : (ℕ → Deed → Type 0) → ℕ → Post → Type 0
+  KindOfPost Did j x = PostKind (plan_of script).requests (IsCallOf script) ids Did IsGone j x
 
-  more : (Did Done : ℕ → Deed → Type 0) (Spent : ℕ → ℕ → Type 0) → ((j : ℕ) (d : Deed) → Did j d → Done j d) → ((id n : ℕ) → Spent id n → IsGone id n) → (x : Post) → PostKind (plan_of script).requests (IsCallOf script) own_ids Did Spent x → KindOfPost Done x
-  more Did Done Spent f g x k = kind_more (plan_of script).requests (IsCallOf script) own_ids Did Done Spent IsGone f g x k
+  more : (Did Done : ℕ → Deed → Type 0) (Spent : ℕ → ℕ → Type 0) → ((j : ℕ) (d : Deed) → Did j d → Done j d) → ((id n : ℕ) → Spent id n → IsGone id n) → (j : ℕ) (x : Post) → PostKind (plan_of script).requests (IsCallOf script) ids Did Spent j x → KindOfPost Done j x
+  more Did Done Spent f g j x k = kind_more (plan_of script).requests (IsCallOf script) ids Did Done Spent IsGone f g j x k
 
   -- no error is posted while seat 0 closes what was opened
-  closing_none : (x : Post) → In x (shows_in posted_at (plan_of script) (closing_of script turns core is) (replicate is.last (quiet 0))) → ⊥
+  pub closing_none : (x : Post) → In x (shows_in posted_at (plan_of script) (closing_of script turns core is) (replicate is.last (quiet 0))) → ⊥
   closing_none x at = none_closing (plan_of script) is.last (closing_of script turns core is)
       (let seat = at_there rested.seats 0 many in (_, set_first rested.seats seat.0 _ seat.1, subst OnSockets (sym (alone (waiting_at rested.calls.waiting 0) (ending_of (opens script)) (on_sockets (opens script)))) (on_sockets (opens script)))) x at
     where
       many : 0 < length (played script is.setup (is.scheduled ++ is.later)).seats
       many = let m = Rattle.send_causes.proofs.Rests.many script made turns core is in omega (arith, m)
 
-  pub kinds_of_run : (x : Post) → In x (posts_of_run script turns core is) → KindOfPost (DidEarly script turns core is) x ⊎ KindOfPost (DidLate script turns core is) x
+  pub kinds_of_seat : (j : ℕ) (x : Post) → In x (shows_in_run script turns core is (posted_by j)) → KindOfPost (DidEarly script turns core is) j x ⊎ KindOfPost (DidLate script turns core is) j x
   unfolding last_doings
-  kinds_of_run x at = ⊎_elim
-      (λ a. inl (more DidSetup (DidEarly script turns core is) _ (λ j d. ⊎_elim (λ z. absurd z) (λ y. inl y)) from_set_up x (setup_runs.kinds x a)))
+  kinds_of_seat j x at = ⊎_elim
+      (λ a. inl (more DidSetup (DidEarly script turns core is) _ (λ j d. ⊎_elim (λ z. absurd z) (λ y. inl y)) from_set_up j x (setup_runs.kinds j x a)))
       (λ rest. ⊎_elim
-      (λ a. inl (more DidPlay (DidEarly script turns core is) _ (λ j d. ⊎_elim (λ z. ⊎_elim (λ w. absurd w) (λ y. inl y) z) (λ y. inr y)) from_played x (played_runs.kinds x a)))
+      (λ a. inl (more DidPlay (DidEarly script turns core is) _ (λ j d. ⊎_elim (λ z. ⊎_elim (λ w. absurd w) (λ y. inl y) z) (λ y. inr y)) from_played j x (played_runs.kinds j x a)))
       (λ rest. ⊎_elim
-      (λ a. absurd (closing_none x a))
-      (λ a. inr (more (λ j d. Nothing j d ⊎ DidIn (plan_of script) is.ended is.final j d) (DidLate script turns core is) (Gone (run (plan_of script) is.ended is.final) end_views final_runs.doings) (λ j d. ⊎_elim (λ z. absurd z) (λ y. y))
-      (λ id n y. subst (λ c. Gone c end_views final_runs.doings id n) (sym is.is_end) y) x (final_runs.kinds x a)))
-      (in_both (shows_in posted_at (plan_of script) (closing_of script turns core is) (replicate is.last (quiet 0))) (shows_in posted_at (plan_of script) is.ended is.final) x rest))
-      (in_both (shows_in posted_at (plan_of script) (set_up script is.setup) (is.scheduled ++ is.later)) _ x rest))
-      (in_both (shows_in posted_at (plan_of script) (opened script) (replicate is.setup (quiet 0))) _ x at)
+      (λ a. absurd (closing_none x (of_all j (plan_of script) (replicate is.last (quiet 0)) (closing_of script turns core is) x a)))
+      (λ a. inr (more (λ j d. Nothing j d ⊎ DidIn (plan_of script) is.ended is.final j d) (DidLate script turns core is) (Gone (run (plan_of script) is.ended is.final) last_views final_runs.doings) (λ j d. ⊎_elim (λ z. absurd z) (λ y. y))
+      (λ id n y. subst (λ c. Gone c last_views final_runs.doings id n) (sym is.is_end) y) j x (final_runs.kinds j x a)))
+      (in_both (shows_in (posted_by j) (plan_of script) (closing_of script turns core is) (replicate is.last (quiet 0))) (shows_in (posted_by j) (plan_of script) is.ended is.final) x rest))
+      (in_both (shows_in (posted_by j) (plan_of script) (set_up script is.setup) (is.scheduled ++ is.later)) _ x rest))
+      (in_both (shows_in (posted_by j) (plan_of script) (opened script) (replicate is.setup (quiet 0))) _ x at)

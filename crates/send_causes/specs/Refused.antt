@@ -33,11 +33,13 @@ use Rattle.send_causes.specs.Counts.{times_of, WasMade, TrialFits}
 
 -- ## What a seat did
 
--- a step on the table of the sockets with the word that it found, a call that was put into its home, or a round that was begun from the head of a loop of writing
+-- a step on the table of the sockets with the word that it found, a call that was put into its home, or a round that was begun from the head of a loop of writing; or it
+-- found no socket under this name as it tried an attempt of a call: the name, the operation, its id, and the attempt
 pub data Deed : Type 0 where
   DidStep : Call → ℕ → Deed
   DidPut : Asked → Deed
   DidRound : Writing → Deed
+  DidMiss : ℕ → ℕ → ℕ → ℕ → Deed
 
 -- an error that a seat is going to post: it was refused an attempt (id, attempt, code), or dropped a message, where it found this code of the socket
 pub data Charge : Type 0 where
@@ -64,15 +66,15 @@ begins w = record { trial = Idle; charge = NoCharge; deeds = DidRound w ∷ [] }
 abbrev pub FoundTaken : ℕ → List Deed → Type 0
 FoundTaken requests deeds = (q : ℕ) → q < requests → (id found : ℕ) × In (DidStep (ClaimRequest id q) found) deeds × (found % 2 ≡ 1)
 
--- the life that the name had was found to be of another version, or failed; or, of a retry, the name had none
-pub data FoundLost (name n : ℕ) (deeds : List Deed) : Type 0 where
-  WasOther : (id found : ℕ) → In (DidStep (LoadName name) (id + 1)) deeds → In (DidStep (AddRef id) found) deeds → vref_version found ≢ socket_id_version id → FoundLost name n deeds
-  WasOdd : (id found : ℕ) → In (DidStep (LoadName name) (id + 1)) deeds → In (DidStep (LookWord id) found) deeds → vref_version found % 2 ≡ 1 → FoundLost name n deeds
-  WasNone : 0 < n → In (DidStep (LoadName name) 0) deeds → FoundLost name n deeds
+-- the life that the name had was found to be of another version, or failed; or, of a retry of operation o, the name had none
+pub data FoundLost (o name n : ℕ) (deeds : List Deed) : Type 0 where
+  WasOther : (id found : ℕ) → In (DidStep (LoadName name) (id + 1)) deeds → In (DidStep (AddRef id) found) deeds → vref_version found ≢ socket_id_version id → FoundLost o name n deeds
+  WasOdd : (id found : ℕ) → In (DidStep (LoadName name) (id + 1)) deeds → In (DidStep (LookWord id) found) deeds → vref_version found % 2 ≡ 1 → FoundLost o name n deeds
+  WasNone : (id : ℕ) → 0 < n → In (DidMiss name o id n) deeds → FoundLost o name n deeds
 
 -- attempt n of the call was refused with the code, over a table of so many requests
 abbrev pub WhyRefused : ℕ → Asked → ℕ → ℕ → List Deed → Type 0
-WhyRefused requests asked n code deeds = ((code ≡ 3001) × FoundTaken requests deeds) ⊎ ((code ≡ 1009) × FoundLost (name_of asked n) n deeds)
+WhyRefused requests asked n code deeds = ((code ≡ 3001) × FoundTaken requests deeds) ⊎ ((code ≡ 1009) × FoundLost asked.operation (name_of asked n) n deeds)
 
 -- where the words that it finds are right, the program stores the at word of attempt n of the call with this id, as one of operation o
 abbrev pub WouldStore : ℕ → ℕ → ℕ → Program → Type 0
@@ -83,6 +85,10 @@ WouldStore o id n other = ⊥
 -- the seat tries attempt n of the call with this id, which is operation o
 abbrev pub IsTrying : Trial → ℕ → ℕ → ℕ → Program → Type 0
 IsTrying t o id n program = (t ≡ Sends o id n) ⊎ ((t ≡ Tries id n) × WouldStore o id n program)
+
+-- what the seat did with the last step of attempt n of the call with this id, which is operation o
+abbrev pub IsLast : Call → (ℕ → Program) → ℕ → ℕ → ℕ → ℕ → Deed → Type 0
+IsLast call next found o id n deed = (deed ≡ DidStep call found) ⊎ ((name : ℕ) × (call ≡ LoadName name) × (found ≡ 0) × (deed ≡ DidMiss name o id n) × WouldStore o id n (Do call next))
 
 -- of so many requests; these are the calls; and a seat reads a link, or is a client's
 module _ (requests : ℕ) (is_call : Asked → Type 0) (reads : Bool) where
@@ -97,10 +103,12 @@ module _ (requests : ℕ) (is_call : Asked → Type 0) (reads : Bool) where
     pub few : attempt ≤ 6
     pub still : put_behind s.trial call ≡ s.trial
     pub put : In (DidPut asked) s.deeds
-    pub why : WhyRefused requests asked attempt code (DidStep call found ∷ s.deeds)
+    pub deed : Deed
+    pub last : IsLast call next found asked.operation id attempt deed
+    pub why : WhyRefused requests asked attempt code (deed ∷ s.deeds)
     pub gives_up : u.trial ≡ Idle
     pub charge : u.charge ≡ IsRefused id attempt code
-    pub deeds : u.deeds ≡ DidStep call found ∷ s.deeds
+    pub deeds : u.deeds ≡ deed ∷ s.deeds
 
   -- the step drops a message, behind a look at the code of the socket
   pub record Drops (call : Call) (found : ℕ) (s u : Doing) : Type 0 where
@@ -191,6 +199,7 @@ module _ (p : Plan) where
   abbrev pub DidAt : Core → Moment → ℕ → Deed → Type 0
   DidAt c m seat (DidStep call found) = (m.seat ≡ seat) × (s : SeatState) × (next : ℕ → Program) × (get_elem? c.seats seat ≡ some s) × (first_step s.program ≡ Do call next) × (found ≡ found_at c.words (word_of p call))
   DidAt c m seat (DidPut asked) = (m.seat ≡ seat) × (s : SeatState) × (i : ℕ) × (next : ℕ → Program) × (get_elem? c.seats seat ≡ some s) × (first_step s.program ≡ Aside (PutCall i asked) next)
+  DidAt c m seat (DidMiss name o id n) = (m.seat ≡ seat) × (s : SeatState) × (next : ℕ → Program) × (get_elem? c.seats seat ≡ some s) × (first_step s.program ≡ Do (LoadName name) next) × (found_at c.words (word_of p (LoadName name)) ≡ 0) × WouldStore o id n (first_step s.program)
   DidAt c m seat (DidRound w) = (m.seat ≡ seat) × (s : SeatState) × (after : Program) × (get_elem? c.seats seat ≡ some s) × (s.program ≡ Write w after)
 
   -- in one of these ticks
@@ -212,6 +221,10 @@ module _ (script : List Item) (turns : List Turn) (end_ : Core) (is : IsRunWithC
   -- in the whole run
   abbrev pub DidInRun : ℕ → Deed → Type 0
   DidInRun seat deed = DidEarly seat deed ⊎ (DidClosing seat deed ⊎ DidLate seat deed)
+
+  -- a seat of a client, which retried operation o before the run was ending, found nothing under the name for attempt n
+  abbrev pub FoundNothing : ℕ → ℕ → ℕ → Type 0
+  FoundNothing o n name = (0 < n) × (seat id : ℕ) × (seat < 32) × DidEarly seat (DidMiss name o id n)
 
 -- ## Attempts that would be stored
 
@@ -253,14 +266,14 @@ pub record IsDrop (heading : Heading) (code : ℕ) (deeds : List Deed) : Type 0 
   pub load : In (DidStep (LoadCode (socket_id_slot holder.id) (socket_id_version holder.id)) code) deeds
   pub drop : In (DidStep (DropPlace heading.place holder.link holder.places) found) deeds
 
--- who posted the error, and why: Did tells what each seat did, and Gone of which attempts nothing is left
-pub data PostKind (requests : ℕ) (is_call : Asked → Type 0) (ids : ℕ → ℕ) (Did : ℕ → Deed → Type 0) (Gone : ℕ → ℕ → Type 0) (x : Post) : Type 0 where
+-- why seat j posted the error: Did tells what each seat did, and Gone of which attempts nothing is left
+pub data PostKind (requests : ℕ) (is_call : Asked → Type 0) (ids : ℕ → ℕ) (Did : ℕ → Deed → Type 0) (Gone : ℕ → ℕ → Type 0) (j : ℕ) (x : Post) : Type 0 where
   -- the readers' seats begin at 32
-  ByReader : (seat n : ℕ) → 32 ≤ seat → (x.error ≡ error_of 1014 n) ⊎ (x.error ≡ error_of 2002 n) → PostKind requests is_call ids Did Gone x
-  ByExpiry : (seat : ℕ) → seat < 32 → x.error ≡ error_of 1008 WHOLE → PostKind requests is_call ids Did Gone x
-  ByRefusal : (seat n code : ℕ) (deeds : List Deed) → seat < 32 → AllByRecursion (Did seat) deeds → IsRefusal requests is_call ids x.id n code deeds → Gone x.id n → x.error ≡ error_of code n → PostKind requests is_call ids Did Gone x
-  ByDrop : (seat : ℕ) (heading : Heading) (code : ℕ) (deeds : List Deed) → seat < 32 → AllByRecursion (Did seat) deeds → IsDrop heading code deeds → heading.owner ≢ 0 → heading.owner ≡ x.id
-      → x.error ≡ error_of (if code == 0 then 1009 else code) heading.attempt → PostKind requests is_call ids Did Gone x
+  ByReader : (n : ℕ) → 32 ≤ j → (x.error ≡ error_of 1014 n) ⊎ (x.error ≡ error_of 2002 n) → PostKind requests is_call ids Did Gone j x
+  ByExpiry : j < 32 → x.error ≡ error_of 1008 WHOLE → PostKind requests is_call ids Did Gone j x
+  ByRefusal : (n code : ℕ) (deeds : List Deed) → j < 32 → AllByRecursion (Did j) deeds → IsRefusal requests is_call ids x.id n code deeds → Gone x.id n → x.error ≡ error_of code n → PostKind requests is_call ids Did Gone j x
+  ByDrop : (heading : Heading) (code : ℕ) (deeds : List Deed) → j < 32 → AllByRecursion (Did j) deeds → IsDrop heading code deeds → heading.owner ≢ 0 → heading.owner ≡ x.id
+      → x.error ≡ error_of (if code == 0 then 1009 else code) heading.attempt → PostKind requests is_call ids Did Gone j x
 
 -- ## The law
 
