@@ -20,6 +20,7 @@ use Rattle.send_causes.proofs.Early.{closed_early, start, go, fitting}
 use Rattle.send_causes.proofs.Lists.{early_shown, closed_shown}
 use Rattle.send_causes.proofs.Plain.{broken_shown}
 use Rattle.send_causes.proofs.Sends as sends
+use Rattle.send_causes.proofs.AllTold.{told_of_run, told_last}
 use Rattle.send_causes.proofs.Assembled.{fixed_in_run}
 use Rattle.client_laws.specs.Openings.{all_seats}
 use Rattle.client_laws.proofs.Fresh.{opening_fresh}
@@ -34,7 +35,6 @@ use Rattle.script_run.specs.Causes.{HasCauses, gave_in, lost_before}
 use Rattle.script_run.proofs.Callless.{plain_task, no_call, all_told}
 use Rattle.script_run.proofs.Idle.{no_calls, no_slot, clients_rest}
 use Rattle.script_run.proofs.Silent.{none_late, no_late_link}
-use Rattle.script_run.proofs.TellsAll.{told_of_run, told_last}
 
 module _ (bytes : List ℕ) (script : List Item) (reads : script_of bytes ≡ Ok script) (turns : List Turn) (core : Core) (run : IsRunWithCalls script turns core) (closes : ClosesInRun script turns core run) where
   abbrev orders : ℕ → Order
@@ -97,8 +97,8 @@ module _ (bytes : List ℕ) (script : List Item) (reads : script_of bytes ≡ Ok
   with_calls calls = record {
     fixed = fixed_in_run script (made bytes script reads) there range bytes reads turns core run closes;
     orders = orders;
-    tells = told_of_run script (made bytes script reads) there range bytes reads turns core run closes;
-    last = λ client t asked is op. told_last script (made bytes script reads) there range bytes reads turns core run closes t.number;
+    tells = told_of_run script (made bytes script reads) there range turns core run closes bytes reads;
+    last = λ client t asked is op. told_last script (made bytes script reads) there range turns core run closes bytes reads t.number;
     broken = broken_shown script turns core run;
     early = early_shown script turns core run bytes reads;
     closed = closed_shown script turns core run;
