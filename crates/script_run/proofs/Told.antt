@@ -24,7 +24,7 @@ use Rattle.send_causes.proofs.AllTold.{told_of_run, told_last}
 use Rattle.send_causes.proofs.Assembled.{fixed_in_run}
 use Rattle.client_laws.specs.Openings.{all_seats}
 use Rattle.client_laws.proofs.Fresh.{opening_fresh}
-use Rattle.joint_runs.proofs.Runs.{AreMade, first_views}
+use Rattle.joint_runs.proofs.Runs.{first_views}
 use Rattle.owed_calls.specs.Lives.{ClosesInRun}
 use Rattle.report_fits.proofs.Lists.{Has, has_from, has_none}
 use Rattle.report_fits.proofs.Reading.{InRange}
