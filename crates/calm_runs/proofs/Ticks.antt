@@ -109,7 +109,7 @@ module _ (S : ℕ → Type 0) where
   calm_first _ x = absurd x
 
   -- it stays calm behind what it says
-  calm_next : (ws : List Retry) (program : Program) → C program → C (next_step (resolved ws program))
+  pub calm_next : (ws : List Retry) (program : Program) → C program → C (next_step (resolved ws program))
   calm_next ws (Say o outcome next) x = calm_next ws next x.1
   calm_next ws (Do call next) x = x
   calm_next ws (Aside step next) x = x
@@ -118,7 +118,7 @@ module _ (S : ℕ → Type 0) where
   calm_next ws _ x = absurd x
 
   -- which is of calls alone
-  unsaid : (n : ℕ) → (S n → ⊥) → (ws : List Retry) (program : Program) → C program → (os : List (std.Option Outcome)) → slice_get (said (resolved ws program) os) n ≡ slice_get os n
+  pub unsaid : (n : ℕ) → (S n → ⊥) → (ws : List Retry) (program : Program) → C program → (os : List (std.Option Outcome)) → slice_get (said (resolved ws program) os) n ≡ slice_get os n
   unsaid n none_ ws (Say o outcome next) x os = unsaid n none_ ws next x.1 (slice_set os o (std.Some outcome)) ∙ got_other os o n (std.Some outcome) (λ e. none_ (subst S e x.0))
   unsaid n none_ ws (Do call next) x os = refl
   unsaid n none_ ws (Aside step next) x os = refl
