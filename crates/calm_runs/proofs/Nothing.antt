@@ -1,11 +1,11 @@
 -- In a run of a script without `join` nothing comes late: once it is ending, no link becomes a socket's, no operation but a call has its outcome, and no call has an attempt begun or ended.
-use Rattle.std.proofs.Common.{◌≡◌, ◌≢◌, ℕ, zero, suc, ◌+◌, ◌-◌, ◌<◌, ◌≤◌, ◌&&◌, ◌⊎◌, inl, inr, ⊎_elim, Bool, true, false, cond, List, [], ◌∷◌, ◌++◌, length, map, flat_map, filter, replicate, refl, sym, ap, ◌∙◌, subst, arith}
+use Rattle.std.proofs.Common.{◌≡◌, ℕ, zero, suc, ◌+◌, ◌-◌, ◌≤◌, ◌&&◌, inl, inr, ⊎_elim, Bool, true, false, cond, List, [], ◌∷◌, ◌++◌, length, map, flat_map, filter, replicate, refl, sym, ap, ◌∙◌, subst, arith}
 use Rattle.std.proofs.lemmas.List.{length-map}
 use Rattle.std.specs.Prelude as std
 use Rattle.std.specs.Prelude.{Contains, slice_get}
 use mathlib.Core.Logic.{dite}
 use mathlib.Core.Option.{some, some-injective, some-ne-none}
-use native.Mathlib.Decide.{ℕ_discrete, dec_le}
+use native.Mathlib.Decide.{dec_le}
 use lib.ListN.{get_elem?}
 use Rattle.sock_words.specs.declared.plain.Plan.{Plan}
 use Rattle.sock_words.specs.declared.outcome.Outcome.{Outcome}
@@ -17,14 +17,14 @@ use Rattle.sock_programs.specs.Clients.{client_from, ending_of}
 use Rattle.sock_programs.specs.Cores.{Core, SeatState, resolved, next_step, waiting_at}
 use Rattle.sock_programs.specs.Programs.{Program, Rest}
 use Rattle.sock_programs.specs.Readers.{reader}
-use Rattle.sock_programs.specs.Scripts.{sizes_of, programs, readers_from, all_programs, all_tasks, opened, set_up, played, ending, IsRunWithCalls}
+use Rattle.sock_programs.specs.Scripts.{sizes_of, programs, readers_from, all_programs, all_tasks, opened, set_up, played, IsRunWithCalls}
 use Rattle.sock_programs.specs.Tasks.{opens, calls, plan_of, id_plan_of}
-use Rattle.sock_programs.specs.Ticks.{quiet, run}
+use Rattle.sock_programs.specs.Ticks.{quiet}
 use Rattle.sock_runs.proofs.Opening.{mapped}
 use Rattle.sock_runs.proofs.Whole.{closing_of, views_played, views_closed, end_answered}
 use Rattle.sock_causes.specs.Causes.{Asks}
 use Rattle.sock_causes.specs.Explains.{plain_tasks}
-use Rattle.sock_causes.specs.Facts.{born_at, put_at, shown_in, before_ending, numbers_of, is_said_late, late_of_run, late_links_of_run}
+use Rattle.sock_causes.specs.Facts.{put_at, shown_in, numbers_of, is_said_late, late_of_run, late_links_of_run}
 use Rattle.sock_causes.specs.Kept.{IsSpoken}
 use Rattle.sock_causes.specs.PlainTasks.{told_tasks_of}
 use Rattle.sock_causes.specs.Stories.{In}

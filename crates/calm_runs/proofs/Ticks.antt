@@ -1,5 +1,5 @@
 -- A tick of a calm seat leaves it calm, and says only outcomes of calls. Where all seats are calm no link gets a socket, and no call is put home.
-use Rattle.std.proofs.Common.{◌≡◌, ◌≢◌, ℕ, ◌+◌, ◌==◌, ◌⊎◌, inl, inr, ⊎_elim, Bool, true, false, cond, List, [], ◌∷◌, ◌++◌, refl, sym, ap, ◌∙◌, subst}
+use Rattle.std.proofs.Common.{◌≡◌, ◌≢◌, ℕ, ◌+◌, ◌==◌, ◌⊎◌, inl, inr, ⊎_elim, Bool, true, cond, List, [], ◌∷◌, refl, sym, ap, ◌∙◌, subst}
 use Rattle.std.specs.Prelude as std
 use Rattle.std.specs.Prelude.{slice_get, slice_set}
 use mathlib.Core.Logic.{dite}
@@ -19,14 +19,14 @@ use Rattle.sock_message.specs.Asked.{Asked}
 use Rattle.sock_programs.specs.Asides.{Step, Found, PutCall, TakeCall}
 use Rattle.sock_programs.specs.Beside.{call_at, found_in}
 use Rattle.sock_programs.specs.Calls.{Call, GiveBirth}
-use Rattle.sock_programs.specs.Cores.{Calls, Core, SeatState, resolved, said, next_step, waiting_at}
+use Rattle.sock_programs.specs.Cores.{Calls, Core, SeatState, resolved, said, next_step}
 use Rattle.sock_programs.specs.Drops.{call_in}
-use Rattle.sock_programs.specs.Heads.{Retry, Posts, Unlocks, Decides, Locks, Joins, Opens, Reads, Discards, HasEnded, Has}
+use Rattle.sock_programs.specs.Heads.{Retry, Posts, Unlocks, Decides, Locks, Opens, Reads, Discards, HasEnded, Has}
 use Rattle.sock_programs.specs.Posts.{packed, ends_call, end_id}
-use Rattle.sock_programs.specs.Programs.{Program, Do, Say, Sent, Rest, TakeMessage, TakeHome, PutHome, PutBytes, AskReady, Write, Aside, Round, Keep, Retries}
-use Rattle.sock_programs.specs.Ticks.{Answer, OfPut, OfReady, Moment, quiet, taken, ticked, run, step_with, tick_with, with_message, with_link, with_put, with_ready, with_found}
+use Rattle.sock_programs.specs.Programs.{Program, Do, Say, Rest, TakeMessage, TakeHome, PutHome, PutBytes, AskReady, Aside, Round}
+use Rattle.sock_programs.specs.Ticks.{Answer, OfPut, OfReady, Moment, taken, ticked, step_with, tick_with, with_message, with_link, with_put, with_ready, with_found}
 use Rattle.sock_runs.specs.Sound.{first_step}
-use Rattle.sock_causes.specs.Facts.{born_at, born_of, put_at, put_by, shown_in}
+use Rattle.sock_causes.specs.Facts.{born_at, born_of, put_at, put_by}
 use Rattle.call_causes.proofs.Sayings.{got_other}
 use Rattle.send_causes.proofs.Readings.{ticks_first}
 use Rattle.calm_runs.specs.Calm.{IsCalm}
