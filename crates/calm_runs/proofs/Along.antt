@@ -26,7 +26,7 @@ module _ (p : Plan) (clients : List (List Task)) (are : AreTasks p clients) (ret
   abbrev S : ℕ → Type 0
   S = IsSpoken clients
 
-  calls_home : (c : Core) (vs : List View) → Storied c vs → AreCalls (IsSpoken clients) c.calls
+  calls_home : (c : Core) (vs : List View) → Storied c vs → AreCalls S c.calls
   calls_home c vs t = let s = t.story in s.spoken
 
   next_told : (c : Core) (vs : List View) (m : Moment) → IsAnswered c m → IsFitting p c m → Storied c vs → Storied (ticked p c m) (views_after p c vs m)
@@ -34,7 +34,7 @@ module _ (p : Plan) (clients : List (List Task)) (are : AreTasks p clients) (ret
 
   pub calm_along : (ms : List Moment) (c : Core) (vs : List View) → AreAnswered p c ms → AreFitting p c ms → Storied c vs → (j : ℕ) → CalmAt (IsSpoken clients) j c → CalmAt (IsSpoken clients) j (run p c ms)
   calm_along [] c vs answered fits t j x = x
-  calm_along (m ∷ ms) c vs answered fits t j x = calm_along ms (ticked p c m) (views_after p c vs m) answered.1 fits.1 (next_told c vs m answered.0 fits.0 t) j (calm_tick (IsSpoken clients) p c m j (calls_home c vs t) x)
+  calm_along (m ∷ ms) c vs answered fits t j x = calm_along ms (ticked p c m) (views_after p c vs m) answered.1 fits.1 (next_told c vs m answered.0 fits.0 t) j (calm_tick S p c m j (calls_home c vs t) x)
 
   -- nothing is said but of calls, no link gets a socket, and no call is put home
   pub record StaysQuiet (c : Core) (ms : List Moment) : Type 0 where
@@ -44,8 +44,8 @@ module _ (p : Plan) (clients : List (List Task)) (are : AreTasks p clients) (ret
 
   pub quiet_along : (ms : List Moment) (c : Core) (vs : List View) → AreAnswered p c ms → AreFitting p c ms → Storied c vs → AllCalm (IsSpoken clients) c → StaysQuiet c ms
   quiet_along [] c vs answered fits t x = record { outcomes = λ n none_. refl; born = refl; put = refl }
-  quiet_along (m ∷ ms) c vs answered fits t x = let more = quiet_along ms (ticked p c m) (views_after p c vs m) answered.1 fits.1 (next_told c vs m answered.0 fits.0 t) (λ j. calm_tick (IsSpoken clients) p c m j (calls_home c vs t) (x j)) in record {
-    outcomes = λ n none_. more.outcomes n none_ ∙ quiet_outcomes (IsSpoken clients) p c m (calls_home c vs t) x n none_;
-    born = ap (λ (l : List ℕ). l ++ shown_in born_at p (ticked p c m) ms) (none_born (IsSpoken clients) c m x) ∙ more.born;
-    put = ap (λ (l : List ℕ). l ++ shown_in put_at p (ticked p c m) ms) (no_put (IsSpoken clients) c m x) ∙ more.put;
+  quiet_along (m ∷ ms) c vs answered fits t x = let more = quiet_along ms (ticked p c m) (views_after p c vs m) answered.1 fits.1 (next_told c vs m answered.0 fits.0 t) (λ j. calm_tick S p c m j (calls_home c vs t) (x j)) in record {
+    outcomes = λ n none_. more.outcomes n none_ ∙ quiet_outcomes S p c m (calls_home c vs t) x n none_;
+    born = ap (λ (l : List ℕ). l ++ shown_in born_at p (ticked p c m) ms) (none_born S c m x) ∙ more.born;
+    put = ap (λ (l : List ℕ). l ++ shown_in put_at p (ticked p c m) ms) (no_put S c m x) ∙ more.put;
   }

@@ -7,7 +7,6 @@ use mathlib.Core.Logic.{dite}
 use mathlib.Core.Option.{some, some-injective, some-ne-none}
 use native.Mathlib.Decide.{dec_le}
 use lib.ListN.{get_elem?}
-use Rattle.sock_words.specs.declared.plain.Plan.{Plan}
 use Rattle.sock_words.specs.declared.outcome.Outcome.{Outcome}
 use Rattle.sock_model.specs.declared.view.View.{View}
 use Rattle.brpc_model.specs.Items.{Item, Join}
@@ -83,15 +82,9 @@ none_kept f (x ∷ xs) h = ap (λ (b : Bool). cond b (x ∷ filter f xs) (filter
 -- ## A run
 
 module _ (script : List Item) (made : AreMade script) (turns : List Turn) (core : Core) (is : IsRunWithCalls script turns core) (no_join : (client number : ℕ) → Contains script (Join client number) → ⊥) where
-  abbrev p : Plan
-  p = plan_of script
-
   -- it is none of an operation that isn't on calls
   abbrev S : ℕ → Type 0
   S = IsSpoken (told_tasks_of script)
-
-  abbrev vs : List View
-  vs = first_views script
 
   abbrev before : Core
   before = played script is.setup (is.scheduled ++ is.later)
@@ -99,30 +92,30 @@ module _ (script : List Item) (made : AreMade script) (turns : List Turn) (core 
   fresh : (i : ℕ) (v : View) → get_elem? (first_views script) i ≡ some v → v.lists ≡ [] ∷ []
   fresh = opening_fresh (plan_of script) (all_seats (all_tasks script) (length (opens script)))
 
-  opened_calm : (j : ℕ) → 32 ≤ j → CalmAt (IsSpoken (told_tasks_of script)) j (opened script)
+  opened_calm : (j : ℕ) → 32 ≤ j → CalmAt S j (opened script)
   opened_calm j high s at =
       let clients : List Program = programs (sizes_of (plan_of script) (id_plan_of script)) (all_tasks script) in
       let m = mapped (λ (program : Program). record { program = next_step (resolved [] program); hand = [] }) (all_programs clients (readers_from (calls script) 0 (opens script))) j s at in
       let long = length-map (all_tasks script) (client_from (sizes_of (plan_of script) (id_plan_of script)) []) in let k = known script made turns core is in let few = k.few in
       let b = back_at clients (replicate (32 - length clients) Rest ++ readers_from (calls script) 0 (opens script)) j m.0 (omega (arith, long, few, high)) m.1 in
-      subst (λ (y : SeatState). IsCalm (IsSpoken (told_tasks_of script)) y.program) m.2
-      (calm_next (IsSpoken (told_tasks_of script)) [] m.0 (others_calm (IsSpoken (told_tasks_of script)) (32 - length clients) (calls script) (opens script) b.0 m.0 b.1))
+      subst (λ (y : SeatState). IsCalm S y.program) m.2
+      (calm_next S [] m.0 (others_calm S (32 - length clients) (calls script) (opens script) b.0 m.0 b.1))
 
-  played_calm : (j : ℕ) → 32 ≤ j → CalmAt (IsSpoken (told_tasks_of script)) j (played script is.setup (is.scheduled ++ is.later))
+  played_calm : (j : ℕ) → 32 ≤ j → CalmAt S j before
   played_calm j high = let g = go script made turns core is in let f = fitting script made turns core is in let s = start script made turns core is in
       calm_along (plan_of script) (told_tasks_of script) (stories.seats script made.are (first_views script) s fresh g turns core is f) g (is.scheduled ++ is.later) (set_up script is.setup)
       (stories.views_set script made.are (first_views script) s fresh g turns core is f) is.answered f.of_played (stories.over script made.are (first_views script) s fresh g turns core is f).0 j
-      (calm_setup (IsSpoken (told_tasks_of script)) (plan_of script) is.setup (opened script) j (λ e. let z : ⊥ = omega (arith, e, high) in z) (opened_calm j high))
+      (calm_setup S (plan_of script) is.setup (opened script) j (λ e. let z : ⊥ = omega (arith, e, high) in z) (opened_calm j high))
 
   -- clients are at rest, and seat 0 makes the ending
-  closing_calm : AllCalm (IsSpoken (told_tasks_of script)) (closing_of script turns core is)
-  closing_calm j = calm_set (IsSpoken (told_tasks_of script)) before 0 (waiting_at before.calls.waiting 0) (ending_of (opens script)) [] (closing_of script turns core is) (ending_calm (IsSpoken (told_tasks_of script)) (opens script)) refl j
+  closing_calm : AllCalm S (closing_of script turns core is)
+  closing_calm j = calm_set S before 0 (waiting_at before.calls.waiting 0) (ending_of (opens script)) [] (closing_of script turns core is) (ending_calm S (opens script)) refl j
       (λ some_. dite (dec_le 32 j) (λ high. played_calm j high)
-      (λ low s at. subst (IsCalm (IsSpoken (told_tasks_of script))) (sym (clients_rest script made turns core is no_join j (omega (arith, low)) s at)) tt))
+      (λ low s at. subst (IsCalm S) (sym (clients_rest script made turns core is no_join j (omega (arith, low)) s at)) tt))
 
-  ended_calm : AllCalm (IsSpoken (told_tasks_of script)) is.ended
+  ended_calm : AllCalm S is.ended
   ended_calm j = let g = go script made turns core is in let f = fitting script made turns core is in let s = start script made turns core is in
-      subst (CalmAt (IsSpoken (told_tasks_of script)) j) (sym is.is_ended)
+      subst (CalmAt S j) (sym is.is_ended)
       (calm_along (plan_of script) (told_tasks_of script) (stories.seats script made.are (first_views script) s fresh g turns core is f) g (replicate is.last (quiet 0)) (closing_of script turns core is)
       (views_played script turns core is (first_views script)) (end_answered script made.are (first_views script) s g turns core is f) f.of_closing (stories.closing_told script made.are (first_views script) s fresh g turns core is f) j (closing_calm j))
 
@@ -139,11 +132,11 @@ module _ (script : List Item) (made : AreMade script) (turns : List Turn) (core 
       (views_closed script turns core is (first_views script)) is.answered_again f.of_final (stories.ended_told script made.are (first_views script) s fresh g turns core is f) ended_calm
 
   -- an operation that isn't on calls has its outcome before the ending, or never
-  same_outcome : (o : ℕ) → (IsSpoken (told_tasks_of script) o → ⊥) → slice_get core.outcomes o ≡ slice_get (played script is.setup (is.scheduled ++ is.later)).outcomes o
+  same_outcome : (o : ℕ) → (S o → ⊥) → slice_get core.outcomes o ≡ slice_get before.outcomes o
   same_outcome o plain_ = ap (λ (d : Core). slice_get d.outcomes o) is.is_end ∙ (final.outcomes o plain_ ∙ (ap (λ (d : Core). slice_get d.outcomes o) is.is_ended ∙ (closing.outcomes o plain_
-      ∙ unsaid (IsSpoken (told_tasks_of script)) o plain_ (waiting_at before.calls.waiting 0) (ending_of (opens script)) (ending_calm (IsSpoken (told_tasks_of script)) (opens script)) before.outcomes)))
+      ∙ unsaid S o plain_ (waiting_at before.calls.waiting 0) (ending_of (opens script)) (ending_calm S (opens script)) before.outcomes)))
 
-  never_late : (o : ℕ) → (IsSpoken (told_tasks_of script) o → ⊥) → is_said_late script turns core is o ≡ false
+  never_late : (o : ℕ) → (S o → ⊥) → is_said_late script turns core is o ≡ false
   never_late o plain_ = ap (λ (x : std.Option (std.Option Outcome)). (elim (slice_get before.outcomes o) as (λ x. Bool) [ std.None ↦ false | std.Some x ↦ elim x as (λ y. Bool) [ std.None ↦ true | std.Some outcome ↦ false ] ])
       && (elim x as (λ x. Bool) [ std.None ↦ false | std.Some x ↦ elim x as (λ y. Bool) [ std.None ↦ false | std.Some outcome ↦ true ] ])) (same_outcome o plain_) ∙ never (slice_get before.outcomes o)
     where

@@ -6,7 +6,7 @@ use Rattle.sock_words.specs.Words.{socket_id_version, socket_id_slot, vref_versi
 use Rattle.brpc_model.specs.Frame.{Frame}
 use Rattle.brpc_model.specs.Stream as streams
 use Rattle.sock_steps.proofs.Quiet.{either_way}
-use Rattle.corr_core.specs.Word.{Parts, parts, posted_word, code_of, error_of}
+use Rattle.corr_core.specs.Word.{Parts, parts, posted_word, code_of, attempt_of, error_of}
 use Rattle.corr_core.specs.Law.{LAST}
 use Rattle.sock_programs.specs.Asides.{Taking, Bytes, Nothing, Closed, call_id, id_first}
 use Rattle.sock_programs.specs.Clients.{ending_of}
@@ -18,11 +18,8 @@ use Rattle.calm_runs.specs.Calm.{IsCalm}
 
 -- a final error ends a call whatever attempts are left
 pub ends_final : (w : Parts) (e : ℕ) → is_final (code_of e) ≡ true → ends_call w e ≡ true
-ends_final w e final = by (attempt_is == WHOLE) (is_final (code_of e)) final
+ends_final w e final = by (attempt_of e == WHOLE) (is_final (code_of e)) final
   where
-    attempt_is : ℕ
-    attempt_is = Rattle.corr_core.specs.Word.attempt_of e
-
     by : (a b : Bool) → b ≡ true → (a || (b || (w.attempt + 2 == w.range))) ≡ true
     by true b is = refl
     by false true is = refl

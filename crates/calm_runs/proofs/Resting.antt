@@ -10,7 +10,6 @@ use Rattle.brpc_model.specs.Items.{Item, Join}
 use Rattle.brpc_model.specs.Operations.{Turn}
 use Rattle.brpc_model.specs.Places.{names}
 use Rattle.corr_core.specs.Word.{Parts}
-use Rattle.sock_words.specs.declared.plain.Plan.{Plan}
 use Rattle.report_fits.proofs.Lists.{Has, contains_from, all_from}
 use Rattle.report_fits.proofs.Numbering.{are_from}
 use Rattle.report_fits.proofs.TaskLemmas.{numbers_at, task_is, join_asks}
@@ -27,7 +26,7 @@ use Rattle.sock_programs.specs.Scripts.{sizes_of, programs, readers_from, all_pr
 use Rattle.sock_programs.specs.Tasks.{numbered, opens, calls, plan_of, id_plan_of}
 use Rattle.sock_programs.specs.Ticks.{Answer, Moment, IsPrompt, quiet, waits, waits_at, waits_in}
 use Rattle.sock_runs.specs.Sound.{views_along}
-use Rattle.sock_runs.proofs.Along.{seat_rests}
+use Rattle.sock_runs.proofs.Along.{seat_rests, place_inside}
 use Rattle.sock_runs.proofs.Opening.{mapped}
 use Rattle.sock_runs.proofs.Passes.{and_left, and_right}
 use Rattle.sock_runs.proofs.Waiting.{StandsAside}
@@ -52,9 +51,7 @@ not_sought (First first) w ended is = true≢false (sym (and_right (w.first == f
 not_sought (Version v) w ended is = true≢false (sym (and_left (not (w.state == 0)) _ is) ∙ ap not (eq-eqb w.state 0 ended))
 
 module _ (script : List Item) (made : AreMade script) (turns : List Turn) (core : Core) (is : IsRunWithCalls script turns core) (no_join : (client number : ℕ) → Contains script (Join client number) → ⊥) where
-  abbrev p : Plan
-  p = plan_of script
-
+  -- where the ending begins
   abbrev rested : Core
   rested = played script is.setup (is.scheduled ++ is.later)
 
@@ -92,40 +89,40 @@ module _ (script : List Item) (made : AreMade script) (turns : List Turn) (core 
       (before_readers first (32 - length first) (readers_from (calls script) 0 (opens script)) j x.0 (let f = first_few in omega (arith, f, low)) x.1)))
 
   -- no client waits for anything but a lock
-  rested_locks : (j : ℕ) → j < 32 → LocksAt j (played script is.setup (is.scheduled ++ is.later))
+  rested_locks : (j : ℕ) → j < 32 → LocksAt j rested
   rested_locks j low = let s = start script made turns core is in let g = go script made turns core is in let f = fitting script made turns core is in
       run_locks (plan_of script) j g (set_up script is.setup) (views_along (plan_of script) (opened script) (first_views script) (replicate is.setup (quiet 0))) (is.scheduled ++ is.later) (set_up_sound script made.are (first_views script) s g turns core is f) is.answered f.of_played
       (run_locks (plan_of script) j g (opened script) (first_views script) (replicate is.setup (quiet 0)) s.sound (set_up_answered script made.are (first_views script) s g turns core is f) f.of_setup (opened_locks j low))
 
   -- ## Where nothing moves
 
-  rests : (i : ℕ) → IsAtRest (played script is.setup (is.scheduled ++ is.later)) i → settled.IsAtRest (played script is.setup (is.scheduled ++ is.later)) i
-  rests i rest seat at = seat_rests (played script is.setup (is.scheduled ++ is.later)) (rested_ahead script made.are (first_views script) (start script made turns core is) (go script made turns core is) turns core is (fitting script made turns core is)) i rest seat at
+  rests : (i : ℕ) → IsAtRest rested i → settled.IsAtRest rested i
+  rests i rest seat at = seat_rests rested (rested_ahead script made.are (first_views script) (start script made turns core is) (go script made turns core is) turns core is (fitting script made turns core is)) i rest seat at
 
   -- each seat is at rest, or waits aside of the sockets
-  waits_aside : (i : ℕ) → i < length (played script is.setup (is.scheduled ++ is.later)).seats → settled.IsAtRest (played script is.setup (is.scheduled ++ is.later)) i ⊎ settled.WaitsAside (plan_of script) (played script is.setup (is.scheduled ++ is.later)) i
+  waits_aside : (i : ℕ) → i < length rested.seats → settled.IsAtRest rested i ⊎ settled.WaitsAside (plan_of script) rested i
   waits_aside i inside = ⊎_elim (λ rest. inl (rests i rest)) (λ w. by w (aside script made turns core is i inside)) (still script made turns core is i inside)
     where
-      by : (m : Moment) × (m.seat ≡ i) × IsPrompt m × (waits (plan_of script) (played script is.setup (is.scheduled ++ is.later)) m ≡ true) → IsAtRest (played script is.setup (is.scheduled ++ is.later)) i ⊎ StandsAside (played script is.setup (is.scheduled ++ is.later)) i
-          → settled.IsAtRest (played script is.setup (is.scheduled ++ is.later)) i ⊎ settled.WaitsAside (plan_of script) (played script is.setup (is.scheduled ++ is.later)) i
+      by : (m : Moment) × (m.seat ≡ i) × IsPrompt m × (waits (plan_of script) rested m ≡ true) → IsAtRest rested i ⊎ StandsAside rested i
+          → settled.IsAtRest rested i ⊎ settled.WaitsAside (plan_of script) rested i
       by w (inl rest) = inl (rests i rest)
-      by w (inr s) = let m : Moment = w.0 in let waiting : waits_at (plan_of script) (played script is.setup (is.scheduled ++ is.later)) w.0.answer s.0.program ≡ true =
-          sym (ap (λ o. elim o as (λ o. Bool) [ none ↦ false | some seat ↦ waits_at (plan_of script) (played script is.setup (is.scheduled ++ is.later)) w.0.answer seat.program ]) (ap (get_elem? (played script is.setup (is.scheduled ++ is.later)).seats) w.1 ∙ s.1)) ∙ w.3 in
-          inr (s.0, s.1, s.2.0, s.2.1, w.0.answer, s.2.2, sym (ap (waits_at (plan_of script) (played script is.setup (is.scheduled ++ is.later)) w.0.answer) s.2.2) ∙ waiting)
+      by w (inr s) = let waiting : waits_at (plan_of script) rested w.0.answer s.0.program ≡ true =
+          sym (ap (λ o. elim o as (λ o. Bool) [ none ↦ false | some seat ↦ waits_at (plan_of script) rested w.0.answer seat.program ]) (ap (get_elem? rested.seats) w.1 ∙ s.1)) ∙ w.3 in
+          inr (s.0, s.1, s.2.0, s.2.1, w.0.answer, s.2.2, sym (ap (waits_at (plan_of script) rested w.0.answer) s.2.2) ∙ waiting)
 
-  both : BothSound (plan_of script) (id_plan_of script) (played script is.setup (is.scheduled ++ is.later)) (views_played script turns core is (first_views script))
+  both : BothSound (plan_of script) (id_plan_of script) rested (views_played script turns core is (first_views script))
   both = let runs = joint_runs script turns core is made in behind_both (plan_of script) (id_plan_of script) (set_up script is.setup) (views_along (plan_of script) (opened script) (first_views script) (replicate is.setup (quiet 0))) (is.scheduled ++ is.later) runs.clients
 
   -- so no id is locked
-  unlocked : (i : ℕ) → i < (id_plan_of script).slots → ((id_word_of (played script is.setup (is.scheduled ++ is.later)) i).state ≡ 0) ⊎ ((id_word_of (played script is.setup (is.scheduled ++ is.later)) i).state ≡ 1)
-  unlocked = not_locked (plan_of script) (id_plan_of script) (played script is.setup (is.scheduled ++ is.later)) both.id_views both.ids waits_aside
+  unlocked : (i : ℕ) → i < (id_plan_of script).slots → ((id_word_of rested i).state ≡ 0) ⊎ ((id_word_of rested i).state ≡ 1)
+  unlocked = not_locked (plan_of script) (id_plan_of script) rested both.id_views both.ids waits_aside
 
   -- and nobody waits at the head of a loop in which only locks are waited for
   none_waits : (u : IdView) (head : Head) (next : Exit head → Program) (answer : Answer) → OnlyLocks (Round head next) → IdGoesOn (plan_of script) (id_plan_of script) u (Round head next)
-      → waits_in (plan_of script) (played script is.setup (is.scheduled ++ is.later)).words (played script is.setup (is.scheduled ++ is.later)).calls answer head ≡ true → ⊥
-  none_waits u (Locks s sought None) next answer only g waits_ = let w : Parts = id_word_of (played script is.setup (is.scheduled ++ is.later)) s in ⊎_elim
-      (λ ended. not_sought sought (id_word_of (played script is.setup (is.scheduled ++ is.later)) s) ended (and_left (is_sought sought (id_word_of (played script is.setup (is.scheduled ++ is.later)) s)) _ waits_))
-      (λ open_. true≢false (sym (and_right (is_sought sought (id_word_of (played script is.setup (is.scheduled ++ is.later)) s)) _ waits_) ∙ ap not (eq-eqb (id_word_of (played script is.setup (is.scheduled ++ is.later)) s).state 1 open_)))
+      → waits_in (plan_of script) rested.words rested.calls answer head ≡ true → ⊥
+  none_waits u (Locks s sought None) next answer only g waits_ = let w : Parts = id_word_of rested s in ⊎_elim
+      (λ ended. not_sought sought (id_word_of rested s) ended (and_left (is_sought sought (id_word_of rested s)) _ waits_))
+      (λ open_. true≢false (sym (and_right (is_sought sought (id_word_of rested s)) _ waits_) ∙ ap not (eq-eqb (id_word_of rested s).state 1 open_)))
       (unlocked s g.0.1)
   none_waits u (Locks s sought (Some word)) next answer only g waits_ = true≢false (sym waits_)
   none_waits u (Posts id e word) next answer only g waits_ = true≢false (sym waits_)
@@ -138,8 +135,8 @@ module _ (script : List Item) (made : AreMade script) (turns : List Turn) (core 
 
   -- each client is at rest
   pub clients_rest : (j : ℕ) → j < 32 → settled.IsAtRest (played script is.setup (is.scheduled ++ is.later)) j
-  clients_rest j low seat at = ⊎_elim (λ rest. rest seat at) (λ w. absurd (never w)) (waits_aside j (Rattle.sock_runs.proofs.Along.place_inside (played script is.setup (is.scheduled ++ is.later)).seats j seat at))
+  clients_rest j low seat at = ⊎_elim (λ rest. rest seat at) (λ w. absurd (never w)) (waits_aside j (place_inside rested.seats j seat at))
     where
-      never : settled.WaitsAside (plan_of script) (played script is.setup (is.scheduled ++ is.later)) j → ⊥
-      never w = let u = view_of (played script is.setup (is.scheduled ++ is.later)).seats both.id_views j w.0 w.1 both.ids.each in
+      never : settled.WaitsAside (plan_of script) rested j → ⊥
+      never w = let u = view_of rested.seats both.id_views j w.0 w.1 both.ids.each in
           none_waits u.0 w.2 w.3 w.4 (subst OnlyLocks w.5 (rested_locks j low w.0 w.1)) (subst (IdGoesOn (plan_of script) (id_plan_of script) u.0) w.5 (both.ids.seats j w.0 u.0 w.1 u.1)) w.6

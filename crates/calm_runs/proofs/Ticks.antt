@@ -11,18 +11,19 @@ use Rattle.sock_words.specs.declared.plain.Plan.{Plan}
 use Rattle.sock_words.specs.declared.outcome.Outcome.{Outcome}
 use Rattle.sock_io.specs.declared.link.Put.{Put}
 use Rattle.sock_io.specs.declared.link.Ready.{Ready}
+use Rattle.sock_model.specs.declared.home.Home.{Home}
 use Rattle.sock_model.specs.Messages.{Letter}
 use Rattle.sock_model.specs.Reads.{message, link_home}
 use Rattle.sock_steps.proofs.Quiet.{either_way}
 use Rattle.corr_core.specs.Word.{parts, posted_word, code_of}
 use Rattle.sock_message.specs.Asked.{Asked}
-use Rattle.sock_programs.specs.Asides.{Step, Found, PutCall, TakeCall}
+use Rattle.sock_programs.specs.Asides.{Step, Found, PutCall, TakeCall, Taking, id_slot}
 use Rattle.sock_programs.specs.Beside.{call_at, found_in}
 use Rattle.sock_programs.specs.Calls.{Call, GiveBirth}
 use Rattle.sock_programs.specs.Cores.{Calls, Core, SeatState, resolved, said, next_step}
 use Rattle.sock_programs.specs.Drops.{call_in}
 use Rattle.sock_programs.specs.Heads.{Retry, Posts, Unlocks, Decides, Locks, Opens, Reads, Discards, HasEnded, Has}
-use Rattle.sock_programs.specs.Posts.{packed, ends_call, end_id}
+use Rattle.sock_programs.specs.Posts.{packed, end_id, unlocked}
 use Rattle.sock_programs.specs.Programs.{Program, Do, Say, Rest, TakeMessage, TakeHome, PutHome, PutBytes, AskReady, Aside, Round}
 use Rattle.sock_programs.specs.Ticks.{Answer, OfPut, OfReady, Moment, taken, ticked, step_with, tick_with, with_message, with_link, with_put, with_ready, with_found}
 use Rattle.sock_runs.specs.Sound.{first_step}
@@ -98,9 +99,9 @@ module _ (S : ℕ → Type 0) where
   calm_first Rest x = x
   calm_first (Round (Posts id e w) next) x = calm_posts S id e w next x
   calm_first (Round (Decides id asked w e) next) x = subst
-      (λ b. C (cond b (end_id (Rattle.sock_programs.specs.Asides.id_slot id) (next (HasEnded asked.operation (code_of e)))) (Aside (PutCall (Rattle.sock_programs.specs.Asides.id_slot id) asked)
-      (λ _. Round (Unlocks (Rattle.sock_programs.specs.Asides.id_slot id) w true) (Rattle.sock_programs.specs.Posts.unlocked (record { id = id; attempt = (parts w).attempt + 1 }) next)))))
-      (sym x.0) (calm_end_id S (Rattle.sock_programs.specs.Asides.id_slot id) (next (HasEnded asked.operation (code_of e))) (x.2 (code_of e)))
+      (λ b. C (cond b (end_id (id_slot id) (next (HasEnded asked.operation (code_of e)))) (Aside (PutCall (id_slot id) asked)
+      (λ _. Round (Unlocks (id_slot id) w true) (unlocked (record { id = id; attempt = (parts w).attempt + 1 }) next)))))
+      (sym x.0) (calm_end_id S (id_slot id) (next (HasEnded asked.operation (code_of e))) (x.2 (code_of e)))
   calm_first (Round (Locks i sought std.None) next) x = λ found. calm_locking S i sought found next x
   calm_first (Round (Locks i sought (std.Some from)) next) x = λ found. either_way (found == from) _ _ C (x (Has (packed (posted_word (parts from) 0)))) (calm_locking S i sought found next x)
   calm_first (Round (Opens o) next) x = λ word. either_way (word == 0) _ _ C x (x word)
@@ -134,7 +135,7 @@ module _ (S : ℕ → Type 0) where
   abbrev pub AreCalls : Calls → Type 0
   AreCalls a = (k : ℕ) (asked : Asked) → call_at (get_elem? a.homes k) ≡ some asked → S asked.operation
 
-  calm_aside : (step : Step) (next : Found step → Program) → C (Aside step next) → (a : Calls) (t : Option Rattle.sock_programs.specs.Asides.Taking) → AreCalls a → (found : Found step) → found_in step a t ≡ some found → C (next found)
+  calm_aside : (step : Step) (next : Found step → Program) → C (Aside step next) → (a : Calls) (t : Option Taking) → AreCalls a → (found : Found step) → found_in step a t ≡ some found → C (next found)
   calm_aside (PutCall i asked) next x a t are found at = absurd x
   calm_aside (TakeCall i) next x a t are found at = x found (are i found at)
   calm_aside step next x a t are found at = x found
@@ -232,7 +233,7 @@ module _ (S : ℕ → Type 0) where
   no_put c m x = shows_none (λ (s : SeatState). put_by s.program) c m.seat (λ seat e. none_put seat.program (x m.seat seat e))
 
   -- a seat that goes on with a calm program
-  pub calm_set : (c : Core) (i : ℕ) (ws : List Retry) (program : Program) (hand : List Rattle.sock_model.specs.declared.home.Home.Home) (d : Core) → C program
+  pub calm_set : (c : Core) (i : ℕ) (ws : List Retry) (program : Program) (hand : List Home) (d : Core) → C program
       → d.seats ≡ slice_set c.seats i (record { program = next_step (resolved ws program); hand = hand }) → (j : ℕ) → (j ≢ i → CalmAt j c) → CalmAt j d
   calm_set c i ws program hand d x e j others s at = ⊎_elim
       (λ a. subst (λ (y : SeatState). C y.program) a.1 (calm_next ws program x)) (λ b. others b.0 s b.1)
