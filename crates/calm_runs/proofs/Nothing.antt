@@ -1,4 +1,4 @@
--- In a run of a script without `join` nothing comes late: once it is ending, no link becomes a socket's, no operation but a call has its outcome, and no call has an attempt begun or ended.
+-- In a run of a script without `join` nothing comes late: once it is ending, no link becomes a socket's, no operation but those on calls has its outcome, and no attempt of a call is begun or ends.
 use Rattle.std.proofs.Common.{◌≡◌, ℕ, zero, suc, ◌+◌, ◌-◌, ◌≤◌, ◌&&◌, inl, inr, ⊎_elim, Bool, true, false, cond, List, [], ◌∷◌, ◌++◌, length, map, flat_map, filter, replicate, refl, sym, ap, ◌∙◌, subst, arith}
 use Rattle.std.proofs.lemmas.List.{length-map}
 use Rattle.std.specs.Prelude as std
@@ -82,7 +82,7 @@ none_kept f (x ∷ xs) h = ap (λ (b : Bool). cond b (x ∷ filter f xs) (filter
 -- ## A run
 
 module _ (script : List Item) (made : AreMade script) (turns : List Turn) (core : Core) (is : IsRunWithCalls script turns core) (no_join : (client number : ℕ) → Contains script (Join client number) → ⊥) where
-  -- it is none of an operation that isn't on calls
+  -- the number is of no operation but those on calls
   abbrev S : ℕ → Type 0
   S = IsSpoken (told_tasks_of script)
 
@@ -146,7 +146,7 @@ module _ (script : List Item) (made : AreMade script) (turns : List Turn) (core 
       never (std.Some std.None) = refl
       never (std.Some (std.Some outcome)) = refl
 
-  -- no operation has its outcome while the run is ending, and no call has an attempt begun or ended
+  -- no operation but those on calls has its outcome while the run is ending, and no call is put home
   pub none_late : late_of_run script turns core is ≡ []
   none_late = ap (λ (l : List ℕ). l ++ shown_in put_at (plan_of script) is.ended is.final)
       (none_kept (is_said_late script turns core is) (flat_map (numbers_of script turns core is) (all_tasks script))
