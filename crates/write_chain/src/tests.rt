@@ -1,5 +1,5 @@
 // What reaches a link, by the rules of the write chain.
-ghost use Rattle.std.specs.Prelude.{◌≡◌, ◌+◌, ◌*◌, ◌<◌, ◌≤◌, ℕ, IfSome, IfNone};
+ghost use Rattle.std.specs.Prelude.{◌≡◌, ◌+◌, ◌*◌, ◌<◌, ◌≤◌, ℕ, IfSome, IfOk, IfErr};
 ghost use Rattle.sock_rule.specs.Seated.{IsSeat};
 ghost use Rattle.sock_table.specs.Closed.{IsDoneSeat};
 ghost use Rattle.sock_table.specs.Passes.{IsPass};
@@ -28,16 +28,16 @@ type Table = SockTable<Half>;
 
 type Pass = LinkPass<Half>;
 
-/// A table of one slot and one link of this shape.
-fn table_of(alloc: Global, shape: Shape) -> Option<Made<Half>>
+/// A table of one slot and one link of this shape, with so many requests.
+fn table_of(alloc: Global, shape: Shape, requests: u16) -> Option<Made<Half>>
     requires { 0 < shape.piece }
-    ensures plan { IfSome result (λ m. m.table.rule.plan ≡ record { slots = 1; links = 1; requests = 4; names = 1; operations = 4; seats = 2; first = 0 }) }
+    ensures plan { IfSome result (λ m. m.table.rule.plan ≡ record { slots = 1; links = 1; requests = requests; names = 1; operations = 4; seats = 2; first = 0 }) }
     ensures made { IfSome result (λ m. AreMade m.table.rule.table.shared.table_id m.table.rule.plan m.seats.items m.passes.items) }
 {
     let plan = Plan {
         slots: 1,
         links: 1,
-        requests: 4,
+        requests,
         names: 1,
         operations: 4,
         seats: 2,
@@ -107,9 +107,9 @@ struct Begun {
     found: SocketId,
 }
 
-fn begin(alloc: Global, shape: Shape) -> Option<Begun>
+fn begin(alloc: Global, shape: Shape, requests: u16) -> Option<Begun>
     requires { 0 < shape.piece }
-    ensures plan { IfSome result (λ b. b.table.rule.plan ≡ record { slots = 1; links = 1; requests = 4; names = 1; operations = 4; seats = 2; first = 0 }) }
+    ensures plan { IfSome result (λ b. b.table.rule.plan ≡ record { slots = 1; links = 1; requests = requests; names = 1; operations = 4; seats = 2; first = 0 }) }
     ensures one { IfSome result (λ b. IsReady b.table.rule.table.shared.table_id b.table.rule.plan b.id.0 2 b.one) }
     ensures two { IfSome result (λ b. IsReady b.table.rule.table.shared.table_id b.table.rule.plan b.found.0 2 b.two) }
 {
@@ -117,7 +117,7 @@ fn begin(alloc: Global, shape: Shape) -> Option<Begun>
         table,
         mut seats,
         passes,
-    } = table_of(alloc, shape)?;
+    } = table_of(alloc, shape, requests)?;
     let mut one = one_of(&table, &mut seats)?;
     let mut two = one_of(&table, &mut seats)?;
     let pass = pass_of(&table, passes)?;
@@ -160,30 +160,35 @@ fn let_go(table: &Table, seat: &mut Seat, sock: SockRef)
     table.release(seat, sock);
 }
 
-/// The message is sent: the right to write, where the head was idle.
-fn send(table: &Table, seat: &mut Seat, id: SocketId, msg: Letter) -> Option<WriteRight<Half>>
+/// The message is sent: the right to write, where the head was idle; the message, where each request was taken.
+fn send(
+    table: &Table,
+    seat: &mut Seat,
+    id: SocketId,
+    msg: Letter,
+) -> Result<WriteRight<Half>, Option<Letter>>
     requires ready { IsReady table.now.rule.table.shared.table_id table.now.rule.plan id.0 1 seat.old }
     requires label { msg.label.place < 8 * table.now.rule.plan.operations }
-    ensures right { IfSome result (λ r. (r.sock.id ≡ id) × IsSeat table.now.rule.table.shared.table_id table.now.rule.plan seat.new × MayBegin table.now.rule.plan r seat.new.me) }
-    ensures holds { IfSome result (λ _. (n : ℕ) → IsReady table.now.rule.table.shared.table_id table.now.rule.plan id.0 (n + 1) seat.old → HoldsOne table.now.rule.plan id.0 n seat.new.me.0) }
-    ensures done { IfNone result ((n : ℕ) → IsReady table.now.rule.table.shared.table_id table.now.rule.plan id.0 (n + 1) seat.old → IsReady table.now.rule.table.shared.table_id table.now.rule.plan id.0 n seat.new) }
+    ensures right { IfOk result (λ r. (r.sock.id ≡ id) × IsSeat table.now.rule.table.shared.table_id table.now.rule.plan seat.new × MayBegin table.now.rule.plan r seat.new.me) }
+    ensures holds { IfOk result (λ _. (n : ℕ) → IsReady table.now.rule.table.shared.table_id table.now.rule.plan id.0 (n + 1) seat.old → HoldsOne table.now.rule.plan id.0 n seat.new.me.0) }
+    ensures done { IfErr result (λ _. (n : ℕ) → IsReady table.now.rule.table.shared.table_id table.now.rule.plan id.0 (n + 1) seat.old → IsReady table.now.rule.table.shared.table_id table.now.rule.plan id.0 n seat.new) }
 {
     let Ok(sock) = table.address(seat, id) else {
-        return None;
+        return Err(None);
     };
     match start(table, seat, sock, msg) {
-        Ok(Started::Right(right)) => Some(right),
+        Ok(Started::Right(right)) => Ok(right),
         Ok(Started::Queued(sock)) => {
             let_go(table, seat, sock);
-            None
+            Err(None)
         }
         Err(Refused::Failed(sock, _, _)) => {
             let_go(table, seat, sock);
-            None
+            Err(None)
         }
-        Err(Refused::Full(sock, _)) => {
+        Err(Refused::Full(sock, msg)) => {
             let_go(table, seat, sock);
-            None
+            Err(Some(msg))
         }
     }
 }
@@ -252,16 +257,25 @@ fn write<R: Wait>(rt: &R, table: &Table, seat: &mut Seat, right: WriteRight<Half
     }
 }
 
-/// The message is sent, and written where this seat has to.
-fn deliver<R: Wait>(rt: &R, table: &Table, seat: &mut Seat, id: SocketId, msg: Letter)
+/// The message is sent, and written where this seat has to. It comes back where each request was taken.
+fn deliver<R: Wait>(
+    rt: &R,
+    table: &Table,
+    seat: &mut Seat,
+    id: SocketId,
+    msg: Letter,
+) -> Option<Letter>
     requires ready { IsReady table.now.rule.table.shared.table_id table.now.rule.plan id.0 1 seat.old }
     requires label { msg.label.place < 8 * table.now.rule.plan.operations }
     ensures { (n : ℕ) → IsReady table.now.rule.table.shared.table_id table.now.rule.plan id.0 (n + 1) seat.old → IsReady table.now.rule.table.shared.table_id table.now.rule.plan id.0 n seat.new }
 {
-    let Some(right) = send(table, seat, id, msg) else {
-        return;
-    };
-    write(rt, table, seat, right);
+    match send(table, seat, id, msg) {
+        Ok(right) => {
+            write(rt, table, seat, right);
+            None
+        }
+        Err(back) => back,
+    }
 }
 
 fn end(alloc: Global, table: Table, one: Seat, two: Seat) -> Option<Closed<Half>>
@@ -298,7 +312,7 @@ fn a_message_is_written_at_once(rt: HostRuntime) {
         again: 0,
         fail: 0,
     };
-    let Some(begun) = begin(alloc, shape) else {
+    let Some(begun) = begin(alloc, shape, 4) else {
         panic!(&rt; "no table");
     };
     let Begun {
@@ -311,7 +325,7 @@ fn a_message_is_written_at_once(rt: HostRuntime) {
     let Some(first) = letter(alloc, b"hi", 1, 8) else {
         panic!(&rt; "no memory");
     };
-    let Some(right) = send(&table, &mut one, id, first) else {
+    let Ok(right) = send(&table, &mut one, id, first) else {
         panic!(&rt; "not the first");
     };
     let wrote = write(&rt, &table, &mut one, right);
@@ -333,7 +347,7 @@ fn a_link_that_fails_drops_its_chain(rt: HostRuntime) {
         again: 0,
         fail: 2,
     };
-    let Some(begun) = begin(alloc, shape) else {
+    let Some(begun) = begin(alloc, shape, 4) else {
         panic!(&rt; "no table");
     };
     let Begun {
@@ -349,7 +363,7 @@ fn a_link_that_fails_drops_its_chain(rt: HostRuntime) {
     let Some(second) = letter(alloc, b"bbbb", 2, 16) else {
         panic!(&rt; "no memory");
     };
-    let Some(right) = send(&table, &mut one, id, first) else {
+    let Ok(right) = send(&table, &mut one, id, first) else {
         panic!(&rt; "not the first");
     };
     deliver(&rt, &table, &mut two, found, second);
@@ -375,7 +389,7 @@ fn a_chain_is_walked(rt: HostRuntime) {
         again: 2,
         fail: 0,
     };
-    let Some(begun) = begin(alloc, shape) else {
+    let Some(begun) = begin(alloc, shape, 4) else {
         panic!(&rt; "no table");
     };
     let Begun {
@@ -394,7 +408,7 @@ fn a_chain_is_walked(rt: HostRuntime) {
     let Some(third) = letter(alloc, b"d", 2, 24) else {
         panic!(&rt; "no memory");
     };
-    let Some(right) = send(&table, &mut one, id, first) else {
+    let Ok(right) = send(&table, &mut one, id, first) else {
         panic!(&rt; "not the first");
     };
     deliver(&rt, &table, &mut two, found, second);
@@ -410,6 +424,51 @@ fn a_chain_is_walked(rt: HostRuntime) {
     assert!(&rt; matches!(place, Some(word) if *word == placed(1)));
     let place = closed.places.get(24);
     assert!(&rt; matches!(place, Some(word) if *word == placed(2)));
+    let out = closed.outs.first();
+    assert!(&rt; matches!(out, Some(half) if half.taken() == b"abcd".as_slice()));
+}
+
+#[test]
+fn a_refused_message_is_sent_again(rt: HostRuntime) {
+    let alloc = rt.alloc();
+    let shape = Shape {
+        piece: 8192,
+        again: 0,
+        fail: 0,
+    };
+    let Some(begun) = begin(alloc, shape, 1) else {
+        panic!(&rt; "no table");
+    };
+    let Begun {
+        table,
+        mut one,
+        id,
+        mut two,
+        found,
+    } = begun;
+    let Some(first) = letter(alloc, b"ab", 1, 8) else {
+        panic!(&rt; "no memory");
+    };
+    let Some(second) = letter(alloc, b"cd", 2, 16) else {
+        panic!(&rt; "no memory");
+    };
+    let Ok(right) = send(&table, &mut one, id, first) else {
+        panic!(&rt; "not the first");
+    };
+    let Some(back) = deliver(&rt, &table, &mut two, found, second) else {
+        panic!(&rt; "not refused");
+    };
+    assert!(&rt; back.label.client == 2 && back.label.place == 16);
+    write(&rt, &table, &mut one, right);
+    let back = deliver(&rt, &table, &mut two, found, back);
+    assert!(&rt; back.is_none());
+    let Some(closed) = end(alloc, table, one, two) else {
+        panic!(&rt; "not closed");
+    };
+    let place = closed.places.get(8);
+    assert!(&rt; matches!(place, Some(word) if *word == placed(0)));
+    let place = closed.places.get(16);
+    assert!(&rt; matches!(place, Some(word) if *word == placed(1)));
     let out = closed.outs.first();
     assert!(&rt; matches!(out, Some(half) if half.taken() == b"abcd".as_slice()));
 }

@@ -7,5 +7,5 @@ release-requires-clause-held c = c.requires.up.holds
 pub release-requires-clause-between : goal.release-requires-clause-between
 release-requires-clause-between c = c.requires.up.between
 
-pub returns-clause-ready : goal.returns-clause-ready
-returns-clause-ready c = λ n h. let_go_ready c.args.table.now.rule.table.shared.table_id c.args.table.now.rule.plan c.args.sock.id.0 n c.args.seat.now c.release.new.seat _ h c.requires.up.slots c.release.ensures.seat c.release.ensures.back c.release.ensures.between c.release.ensures.slots
+pub returns : goal.returns
+returns c = λ n h. let_go_ready c.args.table.now.rule.table.shared.table_id c.args.table.now.rule.plan c.args.sock.id.0 n c.args.seat.now c.release.new.seat _ h c.requires.up.slots c.release.ensures.seat c.release.ensures.back c.release.ensures.between c.release.ensures.slots
