@@ -36,9 +36,16 @@ use Rattle.sock_open.proofs.Making.{new_view, new_done}
 use Rattle.sock_open.proofs.Racing.{stored_done, stored_known}
 use Rattle.sock_rule.specs.Rows.{PutAt}
 use Rattle.write_chain.specs.Noting.{Noted, Wrote, WroteDrop}
-use Rattle.write_chain.specs.Sending.{HasRoom, MaySend, Accepted}
+use Rattle.write_chain.specs.Sending.{HasRoom, Accepted, StartedBy, RefusedBy}
 use Rattle.write_chain.specs.Writing.{GaveUp}
-use Rattle.write_chain.specs.Ready.{HasRoomFor, IsFree, IsReady, HoldsOne}
+use Rattle.write_chain.specs.Ready.{IsSpent, IsFree, IsReady, HoldsOne, sock_of, refused_of}
+use Rattle.write_chain.specs.declared.entry.Started.{Started}
+use Rattle.write_chain.specs.declared.entry.Started.TheVariants as started
+use Rattle.write_chain.specs.declared.entry.Refused.{Refused}
+use Rattle.write_chain.specs.declared.entry.Refused.TheVariants as refused
+use Rattle.sock_io.specs.declared.link.Out.{Ghosts}
+use Rattle.sock_rule.specs.declared.homes.Letter.{Letter}
+use Rattle.sock_table.specs.declared.refs.SockRef.{SockRef}
 use Rattle.write_chain.proofs.Noting.{noted_quiet}
 
 -- marks of one slot come and go; no known life is forgotten
@@ -54,93 +61,92 @@ refs_on p id n m v w adds drops b same refs j jl = dite (ℕ_discrete j (socket_
     ap (λ (y : ℕ). marks_of is_ref y w) e ∙ ((let z : marks_of is_ref (socket_id_slot id) w ≡ m = omega arith in z) ∙ (sym (ap (λ (y : ℕ). m * y) one ∙ omega arith))))
     (λ ne. let none_ = only-else (socket_id_slot id) j ne in ap (total is_ref) (b.elsewhere j ne) ∙ (refs j jl ∙ (ap (λ (y : ℕ). n * y) none_ ∙ (omega arith ∙ sym (ap (λ (y : ℕ). m * y) none_)))))
 
+-- what leaves the lists leaves the room
+room_of : (v w : View) → w.lists ≡ v.lists → HasRoom v → HasRoom w
+room_of v w same r = record { made = r.made; taken_in = r.taken_in; lists = same ∙ r.lists; room = r.room }
+
 module _ {S : Type 0} (z : TableId) (p : Plan) where
   -- a seat that made no call yet
-  pub new_free : (s : Seat S View) → IsNewSeat z p s → IsFree z p 2 s
-  new_free s n = let v = new_view z p s n in record { done = new_done z p s n; share = ap (λ (y : View). y.share) v; room = ([], [], ap (λ (y : View). y.lists) v, omega arith) }
+  pub new_free : (s : Seat S View) → IsNewSeat z p s → IsFree z p s
+  new_free s n = let v = new_view z p s n in record { done = new_done z p s n; share = ap (λ (y : View). y.share) v; room = record { made = []; taken_in = []; lists = ap (λ (y : View). y.lists) v; room = omega arith } }
 
   -- a call that leaves all that it holds
-  pub kept_free : (n : ℕ) (s t : Seat S View) → IsFree z p n s → IsSeat z p t → t.me.1 ≡ s.me.1 → IsBetween p t.me.0 → SameTokens p s.me.0 t.me.0 → IsFree z p n t
-  kept_free n s t f is slots b same = record { done = kept_done z p s t f.done is slots b same; share = same.share ∙ f.share; room = (f.room.0, f.room.1, same.lists ∙ f.room.2, f.room.3) }
+  pub kept_free : (s t : Seat S View) → IsFree z p s → IsSeat z p t → t.me.1 ≡ s.me.1 → IsBetween p t.me.0 → SameTokens p s.me.0 t.me.0 → IsFree z p t
+  kept_free s t f is slots b same = record { done = kept_done z p s t f.done is slots b same; share = same.share ∙ f.share; room = room_of s.me.0 t.me.0 same.lists f.room }
 
   -- the id was published
-  pub stored_ready : (x word id n : ℕ) (s t : Seat S View) → IsFree z p n s → Knows p s.me.0 id → IsSeat z p t → PutAt x word s.me t.me → (IsBetween p s.me.0 → IsBetween p t.me.0) → SameTokens p s.me.0 t.me.0 → IsReady z p id n t
-  stored_ready x word id n s t f k is view b same = record { done = stored_done z p x word s t f.done is view b same; known = stored_known z p x word id s t view k; share = same.share ∙ f.share; room = (f.room.0, f.room.1, same.lists ∙ f.room.2, f.room.3) }
+  pub stored_ready : (x word id : ℕ) (s t : Seat S View) → IsFree z p s → Knows p s.me.0 id → IsSeat z p t → PutAt x word s.me t.me → (IsBetween p s.me.0 → IsBetween p t.me.0) → SameTokens p s.me.0 t.me.0 → IsReady z p id t
+  stored_ready x word id s t f k is view b same = record { done = stored_done z p x word s t f.done is view b same; known = stored_known z p x word id s t view k; share = same.share ∙ f.share; room = room_of s.me.0 t.me.0 same.lists f.room }
 
 module _ {S : Type 0} (z : TableId) (p : Plan) (id : ℕ) where
   -- the reference goes back
-  pub let_go_ready : (n : ℕ) (s t : Seat S View) (ended : _) → HoldsOne p id n s.me.0 → s.me.1 ≡ [] → IsSeat z p t → GaveBack (socket_id_slot id) s.me.0 t.me.0 (Hold (socket_id_version id)) ended → IsBetween p t.me.0 → t.me.1 ≡ s.me.1 → IsReady z p id n t
-  let_go_ready n s t ended h none_ is back b slots = let o = back.became.others in let nr = ended_refs ended back.version back.notes back.by in record {
-    done = record {
-      seat = is;
-      slots = slots ∙ none_;
-      done = record {
-        bare = record { claims = ap (λ (y : View). y.claims) o ∙ h.claims; loose = ap (λ (y : View). y.loose) o ∙ h.loose; rights = b.no_rights; hands = b.empty };
-        unheld = λ j jl. refs_on p id 1 0 s.me.0 t.me.0 back.notes (Hold (socket_id_version id) ∷ []) back.became (omega (arith, nr)) (λ k kl. h.refs k kl ∙ omega arith) j jl ∙ omega arith;
-      };
-      rest = record { unclaimed = b.unclaimed; uncoding = b.uncoding; no_zero = b.no_zero; no_passes = b.no_passes };
-    };
-    known = known_on p id (socket_id_slot id) s.me.0 t.me.0 back.notes (Hold (socket_id_version id) ∷ []) back.became refl h.known;
-    share = ap (λ (y : View). y.share) o ∙ h.share;
-    room = (h.room.0, h.room.1, ap (λ (y : View). y.lists) o ∙ h.room.2, h.room.3);
-  }
+  module _ (s t : Seat S View) (ended : _) (h : HoldsOne p id s.me.0) (none_ : s.me.1 ≡ []) (is : IsSeat z p t) (back : GaveBack (socket_id_slot id) s.me.0 t.me.0 (Hold (socket_id_version id)) ended) (b : IsBetween p t.me.0) (slots : t.me.1 ≡ s.me.1) where
+    pub let_go_spent : IsSpent z p t
+    let_go_spent = let o = back.became.others in let nr = ended_refs ended back.version back.notes back.by in (
+      record {
+        seat = is;
+        slots = slots ∙ none_;
+        done = record {
+          bare = record { claims = ap (λ (y : View). y.claims) o ∙ h.claims; loose = ap (λ (y : View). y.loose) o ∙ h.loose; rights = b.no_rights; hands = b.empty };
+          unheld = λ j jl. refs_on p id 1 0 s.me.0 t.me.0 back.notes (Hold (socket_id_version id) ∷ []) back.became (omega (arith, nr)) (λ k kl. h.refs k kl ∙ omega arith) j jl ∙ omega arith;
+        };
+        rest = record { unclaimed = b.unclaimed; uncoding = b.uncoding; no_zero = b.no_zero; no_passes = b.no_passes };
+      },
+      ap (λ (y : View). y.share) o ∙ h.share,
+    )
+
+    pub let_go_ready : HasRoom s.me.0 → IsReady z p id t
+    let_go_ready room = record {
+      done = let_go_spent.0;
+      known = known_on p id (socket_id_slot id) s.me.0 t.me.0 back.notes (Hold (socket_id_version id) ∷ []) back.became refl h.known;
+      share = let_go_spent.1;
+      room = room_of s.me.0 t.me.0 (ap (λ (y : View). y.lists) back.became.others) room;
+    }
 
   -- a reference comes
-  pub held_one : (n : ℕ) (s : Seat S View) (w : View) → IsReady z p id n s → Held id s.me.0 w → HoldsOne p id n w
-  held_one n s w r a = let o = a.others in record {
-    claims = ap (λ (y : View). y.claims) o ∙ r.done.done.bare.claims;
-    loose = ap (λ (y : View). y.loose) o ∙ r.done.done.bare.loose;
-    refs = λ j jl. refs_on p id 0 1 s.me.0 w _ [] a refl (λ k kl. r.done.done.unheld k kl ∙ omega arith) j jl ∙ omega arith;
-    known = known_on p id (socket_id_slot id) s.me.0 w _ [] a refl r.known;
-    share = ap (λ (y : View). y.share) o ∙ r.share;
-    room = (r.room.0, r.room.1, ap (λ (y : View). y.lists) o ∙ r.room.2, r.room.3);
-  }
+  pub held_one : (s : Seat S View) (w : View) → IsReady z p id s → Held id s.me.0 w → HoldsOne p id w × HasRoom w
+  held_one s w r a = let o = a.others in (
+    record {
+      claims = ap (λ (y : View). y.claims) o ∙ r.done.done.bare.claims;
+      loose = ap (λ (y : View). y.loose) o ∙ r.done.done.bare.loose;
+      refs = λ j jl. refs_on p id 0 1 s.me.0 w _ [] a refl (λ k kl. r.done.done.unheld k kl ∙ omega arith) j jl ∙ omega arith;
+      known = known_on p id (socket_id_slot id) s.me.0 w _ [] a refl r.known;
+      share = ap (λ (y : View). y.share) o ∙ r.share;
+    },
+    room_of s.me.0 w (ap (λ (y : View). y.lists) o) r.room,
+  )
 
   -- none came
-  pub gone_ready : (n found : ℕ) (s t : Seat S View) → IsReady z p id (n + 1) s → IsSeat z p t → GoneFrom id found s.me.0 t.me.0 → IsBetween p t.me.0 → t.me.1 ≡ s.me.1 → IsReady z p id n t
-  gone_ready n found s t r is g b slots = let same = gone_same p id found s.me.0 t.me.0 g in record {
-    done = kept_done z p s t r.done is slots b same;
-    known = known_on p id (socket_id_slot id) s.me.0 t.me.0 _ [] g.became refl r.known;
-    share = same.share ∙ r.share;
-    room = (r.room.0, r.room.1, same.lists ∙ r.room.2, (let k = r.room.3 in omega arith));
-  }
+  pub gone_spent : (found : ℕ) (s t : Seat S View) → IsReady z p id s → IsSeat z p t → GoneFrom id found s.me.0 t.me.0 → IsBetween p t.me.0 → t.me.1 ≡ s.me.1 → IsSpent z p t
+  gone_spent found s t r is g b slots = let same = gone_same p id found s.me.0 t.me.0 g in (kept_done z p s t r.done is slots b same, same.share ∙ r.share)
 
 -- notes that are no references leave the one
-pub noted_one : (p : Plan) (id n : ℕ) (v w : View) (notes : List Mark) → Became (socket_id_slot id) v (record v { marks = w.marks }) notes [] → total is_ref notes ≡ 0 → w.claims ≡ v.claims → w.loose ≡ v.loose → w.share ≡ v.share → w.lists ≡ v.lists → HoldsOne p id n v → HoldsOne p id n w
-noted_one p id n v w notes b none_ claims loose share lists h = let k = known_on p id (socket_id_slot id) v (record v { marks = w.marks }) notes [] b refl h.known in record {
+pub noted_one : (p : Plan) (id : ℕ) (v w : View) (notes : List Mark) → Became (socket_id_slot id) v (record v { marks = w.marks }) notes [] → total is_ref notes ≡ 0 → w.claims ≡ v.claims → w.loose ≡ v.loose → w.share ≡ v.share → w.lists ≡ v.lists → HoldsOne p id v → HoldsOne p id w
+noted_one p id v w notes b none_ claims loose share lists h = let k = known_on p id (socket_id_slot id) v (record v { marks = w.marks }) notes [] b refl h.known in record {
   claims = claims ∙ h.claims;
   loose = loose ∙ h.loose;
   refs = λ j jl. refs_on p id 1 1 v (record v { marks = w.marks }) notes [] b (omega (arith, none_)) (λ k kl. h.refs k kl ∙ omega arith) j jl ∙ omega arith;
   known = record { inside = k.inside; known = k.known };
   share = share ∙ h.share;
-  room = (h.room.0, h.room.1, lists ∙ h.room.2, h.room.3);
 }
 
 -- the message was accepted
-pub accepted_one : (p : Plan) (id n : ℕ) (notes : List Mark) (heading : Heading) (bytes : List ℕ) (v w : View) → total is_ref notes ≡ 0 → Accepted notes p id heading bytes v w → HoldsOne p id (n + 1) v → HoldsOne p id n w
-accepted_one p id n notes heading bytes v w none_ a h = let k = known_on p id (socket_id_slot id) v (record v { marks = w.marks }) _ [] a.marks refl h.known in record {
+pub accepted_one : (p : Plan) (id : ℕ) (notes : List Mark) (heading : Heading) (bytes : List ℕ) (v w : View) → total is_ref notes ≡ 0 → Accepted notes p id heading bytes v w → HoldsOne p id v → HoldsOne p id w
+accepted_one p id notes heading bytes v w none_ a h = let k = known_on p id (socket_id_slot id) v (record v { marks = w.marks }) _ [] a.marks refl h.known in record {
   claims = a.claims;
   loose = a.loose;
   refs = λ j jl. refs_on p id 1 1 v (record v { marks = w.marks }) _ [] a.marks (omega (arith, none_)) (λ k kl. h.refs k kl ∙ omega arith) j jl ∙ omega arith;
   known = record { inside = k.inside; known = k.known };
   share = a.share ∙ h.share;
-  room = (h.room.0 ++ a.entry ∷ [], h.room.1, a.lists ∙ ap (λ (l : List (List Entry)). more l a.entry) h.room.2, (let r = h.room.3 in omega (arith, length-append h.room.0 (a.entry ∷ []))));
 }
 
 -- what is written leaves it too
-pub wrote_one : {O : Type 0} {state : O → OutState} (p : Plan) (id n : ℕ) (v w : View) → Wrote state id v w → HoldsOne p id n v → HoldsOne p id n w
-wrote_one p id n v w a h = let o = a.became.others in let q = noted_quiet a.notes a.noted in
-    noted_one p id n v w a.notes record { here = λ f. a.became.here f; elsewhere = λ j ne. a.became.elsewhere j ne; others = refl } q.1 (ap (λ (y : View). y.claims) o) (ap (λ (y : View). y.loose) o) (ap (λ (y : View). y.share) o) (ap (λ (y : View). y.lists) o) h
+pub wrote_one : {O : Type 0} {state : O → OutState} (p : Plan) (id : ℕ) (v w : View) → Wrote state id v w → HoldsOne p id v → HoldsOne p id w
+wrote_one p id v w a h = let o = a.became.others in let q = noted_quiet a.notes a.noted in
+    noted_one p id v w a.notes record { here = λ f. a.became.here f; elsewhere = λ j ne. a.became.elsewhere j ne; others = refl } q.1 (ap (λ (y : View). y.claims) o) (ap (λ (y : View). y.loose) o) (ap (λ (y : View). y.share) o) (ap (λ (y : View). y.lists) o) h
 
-pub dropped_one : {O : Type 0} {state : O → OutState} (p : Plan) (id n place : ℕ) (v w : View) → WroteDrop state p id place v w → HoldsOne p id n v → HoldsOne p id n w
-dropped_one p id n place v w a h = let k = wrote_one p id n v (record w { stores = v.stores }) a.wrote h in record { claims = k.claims; loose = k.loose; refs = k.refs; known = record { inside = k.known.inside; known = k.known.known }; share = k.share; room = k.room }
-
--- room for one more is room
-pub has_room : (v : View) → HasRoomFor 1 v → HasRoom v
-has_room v r = record { made = r.0; taken_in = r.1; lists = r.2; room = (let k = r.3 in omega arith) }
-
-pub less_room : (n : ℕ) (v : View) → HasRoomFor (n + 1) v → HasRoomFor n v
-less_room n v r = (r.0, r.1, r.2, (let k = r.3 in omega arith))
+pub dropped_one : {O : Type 0} {state : O → OutState} (p : Plan) (id place : ℕ) (v w : View) → WroteDrop state p id place v w → HoldsOne p id v → HoldsOne p id w
+dropped_one p id place v w a h = let k = wrote_one p id v (record w { stores = v.stores }) a.wrote h in record { claims = k.claims; loose = k.loose; refs = k.refs; known = record { inside = k.known.inside; known = k.known.known }; share = k.share }
 
 -- a refusal leaves the seat as it was, but for notes
 marks_alone : (i : ℕ) (v w : View) (adds : List Mark) → Became i v w adds [] → Became i v (record v { marks = w.marks }) adds []
@@ -154,9 +160,8 @@ module _ {S : Type 0} (p : Plan) (id x : ℕ) (v : View) (m : Me S View) (b : Be
     slots = none_;
   }
 
-  pub refused_one : (n : ℕ) → HoldsOne p id (n + 1) v → HoldsOne p id n m.0
-  refused_one n h = noted_one p id n v m.0 (Saw x ∷ []) b refl (ap (λ (y : View). y.claims) o) (ap (λ (y : View). y.loose) o) (ap (λ (y : View). y.share) o) (ap (λ (y : View). y.lists) o)
-      record { claims = h.claims; loose = h.loose; refs = h.refs; known = h.known; share = h.share; room = less_room n v h.room }
+  pub refused_one : HoldsOne p id v → HoldsOne p id m.0
+  refused_one h = noted_one p id v m.0 (Saw x ∷ []) b refl (ap (λ (y : View). y.claims) o) (ap (λ (y : View). y.loose) o) (ap (λ (y : View). y.share) o) (ap (λ (y : View). y.lists) o) h
 
 module _ {S : Type 0} (p : Plan) (id x : ℕ) (v : View) (m : Me S View) (b : Became (socket_id_slot id) v m.0 (Saw x ∷ []) []) where
   alone : m.0 ≡ record v { marks = m.0.marks; found = m.0.found }
@@ -165,8 +170,36 @@ module _ {S : Type 0} (p : Plan) (id x : ℕ) (v : View) (m : Me S View) (b : Be
   pub failed_up : IsBetween p v → Holds p v id → m.1 ≡ [] → GaveUp p id m
   failed_up = refused_up p id x v m (marks_alone (socket_id_slot id) v m.0 (Saw x ∷ []) b) alone
 
-  pub failed_one : (n : ℕ) → HoldsOne p id (n + 1) v → HoldsOne p id n m.0
+  pub failed_one : HoldsOne p id v → HoldsOne p id m.0
   failed_one = refused_one p id x v m (marks_alone (socket_id_slot id) v m.0 (Saw x ∷ []) b) alone
+
+-- ## A message that was accepted or refused
+
+module _ {O : Type 0} {g : Ghosts O} (p : Plan) (sock : SockRef) (heading : Heading) (bytes : List ℕ) where
+  pub sock_is : (s : Started O g) (v w : View) → StartedBy p sock heading bytes s v w → sock_of s ≡ sock
+  sock_is (started.Queued r) v w b = b.0
+  sock_is (started.Right r) v w b = b.0
+
+  pub started_one : (s : Started O g) (v w : View) → StartedBy p sock heading bytes s v w → HoldsOne p sock.id.0 v → HoldsOne p (sock_of s).id.0 w
+  started_one (started.Queued r) v w b h = subst (λ (y : SockRef). HoldsOne p y.id.0 w) (sym b.0) (accepted_one p sock.id.0 (Saw (socket_id_version sock.id.0) ∷ []) heading bytes v w refl b.1 h)
+  started_one (started.Right r) v w b h = subst (λ (y : SockRef). HoldsOne p y.id.0 w) (sym b.0) (accepted_one p sock.id.0 (Saw (socket_id_version sock.id.0) ∷ []) heading bytes v w refl b.2 h)
+
+module _ {S : Type 0} (p : Plan) (sock : SockRef) (msg : Letter) where
+  pub refused_is : (r : Refused) (v w : View) → RefusedBy p sock msg r v w → refused_of r ≡ sock
+  refused_is (refused.Failed s m found) v w b = b.0
+  refused_is (refused.Full s m) v w b = b.0
+
+  pub refused_ups : (r : Refused) (v : View) (m : Me S View) → RefusedBy p sock msg r v m.0 → IsBetween p v → Holds p v sock.id.0 → m.1 ≡ [] → GaveUp p (refused_of r).id.0 m
+  refused_ups (refused.Failed s x found) v m b between h none_ = subst (λ (y : SockRef). GaveUp p y.id.0 m) (sym b.0) (failed_up p sock.id.0 _ v m b.3 between h none_)
+  refused_ups (refused.Full s x) v m b between h none_ = subst (λ (y : SockRef). GaveUp p y.id.0 m) (sym b.0) (refused_up p sock.id.0 _ v m b.7 b.8 between h none_)
+
+  pub refused_ones : (r : Refused) (v : View) (m : Me S View) → RefusedBy p sock msg r v m.0 → HoldsOne p sock.id.0 v → HoldsOne p (refused_of r).id.0 m.0
+  refused_ones (refused.Failed s x found) v m b h = subst (λ (y : SockRef). HoldsOne p y.id.0 m.0) (sym b.0) (failed_one p sock.id.0 _ v m b.3 h)
+  refused_ones (refused.Full s x) v m b h = subst (λ (y : SockRef). HoldsOne p y.id.0 m.0) (sym b.0) (refused_one p sock.id.0 _ v m b.7 b.8 h)
+
+  pub refused_room : (r : Refused) (v w : View) → RefusedBy p sock msg r v w → HasRoom v → HasRoom w
+  refused_room (refused.Failed s x found) v w b h = room_of v w (ap (λ (y : View). y.lists) b.3.others) h
+  refused_room (refused.Full s x) v w b h = room_of v w (ap (λ (y : View). y.lists) b.8) h
 
 pub two_done : {S : Type 0} (z : TableId) (p : Plan) (a b : Seat S View) (xs : List (Seat S View)) → xs ≡ a ∷ b ∷ [] → IsDoneSeat z p a → IsDoneSeat z p b → AllDone z p xs
 two_done z p a b xs e x y = subst (AllDone z p) (sym e) (x, (y, tt))

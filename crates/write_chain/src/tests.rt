@@ -1,11 +1,11 @@
 // What reaches a link, by the rules of the write chain.
 ghost use Rattle.std.specs.Prelude.{◌≡◌, ◌+◌, ◌*◌, ◌<◌, ◌≤◌, ℕ, IfSome, IfOk, IfErr};
 ghost use Rattle.sock_rule.specs.Seated.{IsSeat};
-ghost use Rattle.sock_table.specs.Closed.{IsDoneSeat};
 ghost use Rattle.sock_table.specs.Passes.{IsPass};
 ghost use Rattle.sock_open.specs.Made.{AreMade, AreNewSeats, PassesFrom};
-ghost use Rattle.write_chain.specs.Writing.{MayBegin, MayGoOn, GaveUp};
-ghost use Rattle.write_chain.specs.Ready.{IsFree, IsReady, HoldsOne};
+ghost use Rattle.write_chain.specs.Sending.{HasRoom};
+ghost use Rattle.write_chain.specs.Writing.{MayBegin, MayGoOn, GaveUp, Begins};
+ghost use Rattle.write_chain.specs.Ready.{IsSpent, IsFree, IsReady, HoldsOne, sock_of, refused_of};
 
 use crate::entry::{Refused, Started, start};
 use crate::hold::{Once, write_once};
@@ -58,7 +58,7 @@ fn table_of(alloc: Global, shape: Shape, requests: u16) -> Option<Made<Half>>
 /// A seat of the table.
 fn one_of(table: &Table, seats: &mut Vec<Seat>) -> Option<Seat>
     requires { AreNewSeats table.now.rule.table.shared.table_id table.now.rule.plan seats.old.items }
-    ensures seat { IfSome result (λ s. IsFree table.now.rule.table.shared.table_id table.now.rule.plan 2 s) }
+    ensures seat { IfSome result (λ s. IsFree table.now.rule.table.shared.table_id table.now.rule.plan s) }
     ensures left { AreNewSeats table.now.rule.table.shared.table_id table.now.rule.plan seats.new.items }
 {
     let seat = seats.pop()?;
@@ -76,10 +76,10 @@ fn pass_of(table: &Table, mut passes: Vec<Pass>) -> Option<Pass>
 
 /// The socket, under the name 0.
 fn born(table: &Table, seat: &mut Seat, pass: Pass) -> Option<SocketId>
-    requires seat { IsFree table.now.rule.table.shared.table_id table.now.rule.plan 2 seat.old }
+    requires seat { IsFree table.now.rule.table.shared.table_id table.now.rule.plan seat.old }
     requires pass { IsPass table.now.rule.table.shared.table_id table.now.rule.plan pass }
     requires name { 0 < table.now.rule.plan.names }
-    ensures { IfSome result (λ id. IsReady table.now.rule.table.shared.table_id table.now.rule.plan id.0 2 seat.new) }
+    ensures { IfSome result (λ id. IsReady table.now.rule.table.shared.table_id table.now.rule.plan id.0 seat.new) }
 {
     let Ok(id) = table.create(seat, pass) else {
         return None;
@@ -90,9 +90,9 @@ fn born(table: &Table, seat: &mut Seat, pass: Pass) -> Option<SocketId>
 
 /// What another seat finds there.
 fn told(table: &Table, seat: &mut Seat) -> Option<SocketId>
-    requires seat { IsFree table.now.rule.table.shared.table_id table.now.rule.plan 2 seat.old }
+    requires seat { IsFree table.now.rule.table.shared.table_id table.now.rule.plan seat.old }
     requires name { 0 < table.now.rule.plan.names }
-    ensures { IfSome result (λ id. IsReady table.now.rule.table.shared.table_id table.now.rule.plan id.0 2 seat.new) }
+    ensures { IfSome result (λ id. IsReady table.now.rule.table.shared.table_id table.now.rule.plan id.0 seat.new) }
 {
     let id = table.find(seat, 0)?;
     Some(id)
@@ -110,8 +110,8 @@ struct Begun {
 fn begin(alloc: Global, shape: Shape, requests: u16) -> Option<Begun>
     requires { 0 < shape.piece }
     ensures plan { IfSome result (λ b. b.table.rule.plan ≡ record { slots = 1; links = 1; requests = requests; names = 1; operations = 4; seats = 2; first = 0 }) }
-    ensures one { IfSome result (λ b. IsReady b.table.rule.table.shared.table_id b.table.rule.plan b.id.0 2 b.one) }
-    ensures two { IfSome result (λ b. IsReady b.table.rule.table.shared.table_id b.table.rule.plan b.found.0 2 b.two) }
+    ensures one { IfSome result (λ b. IsReady b.table.rule.table.shared.table_id b.table.rule.plan b.id.0 b.one) }
+    ensures two { IfSome result (λ b. IsReady b.table.rule.table.shared.table_id b.table.rule.plan b.found.0 b.two) }
 {
     let Made {
         table,
@@ -155,9 +155,55 @@ fn letter(alloc: Global, bytes: &[u8], client: u16, place: u32) -> Option<Letter
 fn let_go(table: &Table, seat: &mut Seat, sock: SockRef)
     requires seat { IsSeat table.now.rule.table.shared.table_id table.now.rule.plan seat.old }
     requires up { GaveUp table.now.rule.plan sock.id.0 seat.old.me }
-    ensures ready { (n : ℕ) → HoldsOne table.now.rule.plan sock.id.0 n seat.old.me.0 → IsReady table.now.rule.table.shared.table_id table.now.rule.plan sock.id.0 n seat.new }
+    requires one { HoldsOne table.now.rule.plan sock.id.0 seat.old.me.0 }
+    ensures done { IsSpent table.now.rule.table.shared.table_id table.now.rule.plan seat.new }
+    ensures ready { HasRoom seat.old.me.0 → IsReady table.now.rule.table.shared.table_id table.now.rule.plan sock.id.0 seat.new }
 {
     table.release(seat, sock);
+}
+
+/// The message was accepted: the right to write, where the head was idle.
+fn began(
+    table: &Table,
+    seat: &mut Seat,
+    _id: SocketId,
+    started: Started<Half>,
+) -> Result<WriteRight<Half>, Option<Letter>>
+    requires seat { IsSeat table.now.rule.table.shared.table_id table.now.rule.plan seat.old }
+    requires begins { Begins table.now.rule.plan (sock_of started) started seat.old.me }
+    requires one { HoldsOne table.now.rule.plan (sock_of started).id.0 seat.old.me.0 }
+    ensures right { IfOk result (λ r. IsSeat table.now.rule.table.shared.table_id table.now.rule.plan seat.new × MayBegin table.now.rule.plan r seat.new.me × HoldsOne table.now.rule.plan r.sock.id.0 seat.new.me.0) }
+    ensures done { IfErr result (λ _. IsSpent table.now.rule.table.shared.table_id table.now.rule.plan seat.new) }
+    ensures ready { IfErr result (λ back. IfSome back (λ _. IsReady table.now.rule.table.shared.table_id table.now.rule.plan _id.0 seat.new)) }
+{
+    match started {
+        Started::Right(right) => Ok(right),
+        Started::Queued(sock) => {
+            let_go(table, seat, sock);
+            Err(None)
+        }
+    }
+}
+
+/// The message was refused: it comes back where each request was taken.
+fn refuse(table: &Table, seat: &mut Seat, refused: Refused) -> Option<Letter>
+    requires seat { IsSeat table.now.rule.table.shared.table_id table.now.rule.plan seat.old }
+    requires up { GaveUp table.now.rule.plan (refused_of refused).id.0 seat.old.me }
+    requires one { HoldsOne table.now.rule.plan (refused_of refused).id.0 seat.old.me.0 }
+    requires room { HasRoom seat.old.me.0 }
+    ensures done { IsSpent table.now.rule.table.shared.table_id table.now.rule.plan seat.new }
+    ensures ready { IfSome result (λ _. IsReady table.now.rule.table.shared.table_id table.now.rule.plan (refused_of refused).id.0 seat.new) }
+{
+    match refused {
+        Refused::Failed(sock, _, _) => {
+            let_go(table, seat, sock);
+            None
+        }
+        Refused::Full(sock, msg) => {
+            let_go(table, seat, sock);
+            Some(msg)
+        }
+    }
 }
 
 /// The message is sent: the right to write, where the head was idle; the message, where each request was taken.
@@ -167,29 +213,18 @@ fn send(
     id: SocketId,
     msg: Letter,
 ) -> Result<WriteRight<Half>, Option<Letter>>
-    requires ready { IsReady table.now.rule.table.shared.table_id table.now.rule.plan id.0 1 seat.old }
+    requires ready { IsReady table.now.rule.table.shared.table_id table.now.rule.plan id.0 seat.old }
     requires label { msg.label.place < 8 * table.now.rule.plan.operations }
-    ensures right { IfOk result (λ r. (r.sock.id ≡ id) × IsSeat table.now.rule.table.shared.table_id table.now.rule.plan seat.new × MayBegin table.now.rule.plan r seat.new.me) }
-    ensures holds { IfOk result (λ _. (n : ℕ) → IsReady table.now.rule.table.shared.table_id table.now.rule.plan id.0 (n + 1) seat.old → HoldsOne table.now.rule.plan id.0 n seat.new.me.0) }
-    ensures done { IfErr result (λ _. (n : ℕ) → IsReady table.now.rule.table.shared.table_id table.now.rule.plan id.0 (n + 1) seat.old → IsReady table.now.rule.table.shared.table_id table.now.rule.plan id.0 n seat.new) }
+    ensures right { IfOk result (λ r. IsSeat table.now.rule.table.shared.table_id table.now.rule.plan seat.new × MayBegin table.now.rule.plan r seat.new.me × HoldsOne table.now.rule.plan r.sock.id.0 seat.new.me.0) }
+    ensures done { IfErr result (λ _. IsSpent table.now.rule.table.shared.table_id table.now.rule.plan seat.new) }
+    ensures ready { IfErr result (λ back. IfSome back (λ _. IsReady table.now.rule.table.shared.table_id table.now.rule.plan id.0 seat.new)) }
 {
     let Ok(sock) = table.address(seat, id) else {
         return Err(None);
     };
     match start(table, seat, sock, msg) {
-        Ok(Started::Right(right)) => Ok(right),
-        Ok(Started::Queued(sock)) => {
-            let_go(table, seat, sock);
-            Err(None)
-        }
-        Err(Refused::Failed(sock, _, _)) => {
-            let_go(table, seat, sock);
-            Err(None)
-        }
-        Err(Refused::Full(sock, msg)) => {
-            let_go(table, seat, sock);
-            Err(Some(msg))
-        }
+        Ok(started) => began(table, seat, id, started),
+        Err(refused) => Err(refuse(table, seat, refused)),
     }
 }
 
@@ -206,7 +241,8 @@ struct Wrote {
 fn write_on<R: Wait>(rt: &R, table: &Table, seat: &mut Seat, mut right: WriteRight<Half>) -> Wrote
     requires seat { IsSeat table.now.rule.table.shared.table_id table.now.rule.plan seat.old }
     requires may { MayGoOn table.now.rule.plan right seat.old.me }
-    ensures ready { (n : ℕ) → HoldsOne table.now.rule.plan right.sock.id.0 n seat.old.me.0 → IsReady table.now.rule.table.shared.table_id table.now.rule.plan right.sock.id.0 n seat.new }
+    requires one { HoldsOne table.now.rule.plan right.sock.id.0 seat.old.me.0 }
+    ensures { IsSpent table.now.rule.table.shared.table_id table.now.rule.plan seat.new }
 {
     let mut dropped = 0u64;
     let mut last = 0u16;
@@ -241,7 +277,8 @@ fn write_on<R: Wait>(rt: &R, table: &Table, seat: &mut Seat, mut right: WriteRig
 fn write<R: Wait>(rt: &R, table: &Table, seat: &mut Seat, right: WriteRight<Half>) -> Wrote
     requires seat { IsSeat table.now.rule.table.shared.table_id table.now.rule.plan seat.old }
     requires may { MayBegin table.now.rule.plan right seat.old.me }
-    ensures ready { (n : ℕ) → HoldsOne table.now.rule.plan right.sock.id.0 n seat.old.me.0 → IsReady table.now.rule.table.shared.table_id table.now.rule.plan right.sock.id.0 n seat.new }
+    requires one { HoldsOne table.now.rule.plan right.sock.id.0 seat.old.me.0 }
+    ensures { IsSpent table.now.rule.table.shared.table_id table.now.rule.plan seat.new }
 {
     match write_once(table, seat, right) {
         Once::Done(sock) => {
@@ -265,9 +302,10 @@ fn deliver<R: Wait>(
     id: SocketId,
     msg: Letter,
 ) -> Option<Letter>
-    requires ready { IsReady table.now.rule.table.shared.table_id table.now.rule.plan id.0 1 seat.old }
+    requires ready { IsReady table.now.rule.table.shared.table_id table.now.rule.plan id.0 seat.old }
     requires label { msg.label.place < 8 * table.now.rule.plan.operations }
-    ensures { (n : ℕ) → IsReady table.now.rule.table.shared.table_id table.now.rule.plan id.0 (n + 1) seat.old → IsReady table.now.rule.table.shared.table_id table.now.rule.plan id.0 n seat.new }
+    ensures done { IsSpent table.now.rule.table.shared.table_id table.now.rule.plan seat.new }
+    ensures ready { IfSome result (λ _. IsReady table.now.rule.table.shared.table_id table.now.rule.plan id.0 seat.new) }
 {
     match send(table, seat, id, msg) {
         Ok(right) => {
@@ -279,8 +317,8 @@ fn deliver<R: Wait>(
 }
 
 fn end(alloc: Global, table: Table, one: Seat, two: Seat) -> Option<Closed<Half>>
-    requires one { IsDoneSeat table.rule.table.shared.table_id table.rule.plan one × (one.me.0.share ≡ 1) }
-    requires two { IsDoneSeat table.rule.table.shared.table_id table.rule.plan two × (two.me.0.share ≡ 1) }
+    requires one { IsSpent table.rule.table.shared.table_id table.rule.plan one }
+    requires two { IsSpent table.rule.table.shared.table_id table.rule.plan two }
     requires both { table.rule.plan.seats ≡ 2 }
 {
     let Ok(seats) = vec![in alloc; one, two] else {
@@ -379,53 +417,6 @@ fn a_link_that_fails_drops_its_chain(rt: HostRuntime) {
     assert!(&rt; matches!(place, Some(word) if *word == dropped(1)));
     let out = closed.outs.first();
     assert!(&rt; matches!(out, Some(half) if half.taken() == b"aaa".as_slice()));
-}
-
-#[test]
-fn a_chain_is_walked(rt: HostRuntime) {
-    let alloc = rt.alloc();
-    let shape = Shape {
-        piece: 1,
-        again: 2,
-        fail: 0,
-    };
-    let Some(begun) = begin(alloc, shape, 4) else {
-        panic!(&rt; "no table");
-    };
-    let Begun {
-        table,
-        mut one,
-        id,
-        mut two,
-        found,
-    } = begun;
-    let Some(first) = letter(alloc, b"a", 1, 8) else {
-        panic!(&rt; "no memory");
-    };
-    let Some(second) = letter(alloc, b"bc", 2, 16) else {
-        panic!(&rt; "no memory");
-    };
-    let Some(third) = letter(alloc, b"d", 2, 24) else {
-        panic!(&rt; "no memory");
-    };
-    let Ok(right) = send(&table, &mut one, id, first) else {
-        panic!(&rt; "not the first");
-    };
-    deliver(&rt, &table, &mut two, found, second);
-    deliver(&rt, &table, &mut two, found, third);
-    let wrote = write(&rt, &table, &mut one, right);
-    assert!(&rt; !wrote.at_once && wrote.dropped == 0);
-    let Some(closed) = end(alloc, table, one, two) else {
-        panic!(&rt; "not closed");
-    };
-    let place = closed.places.get(8);
-    assert!(&rt; matches!(place, Some(word) if *word == placed(0)));
-    let place = closed.places.get(16);
-    assert!(&rt; matches!(place, Some(word) if *word == placed(1)));
-    let place = closed.places.get(24);
-    assert!(&rt; matches!(place, Some(word) if *word == placed(2)));
-    let out = closed.outs.first();
-    assert!(&rt; matches!(out, Some(half) if half.taken() == b"abcd".as_slice()));
 }
 
 #[test]

@@ -13,5 +13,5 @@ publish-requires-clause-known c = record { inside = c.in-Ok.ensures.made.0; know
 
 pub returns : goal.returns
 returns c = let z = c.args.table.now.rule.table.shared.table_id in let p = c.args.table.now.rule.plan in
-    stored_ready z p _ _ c.in-Ok.id.0 2 c.create.new.seat c.publish.new.seat (kept_free z p 2 c.args.seat.now c.create.new.seat c.requires.seat c.create.ensures.seat c.create.ensures.slots c.create.ensures.between c.create.ensures.same)
+    stored_ready z p _ _ c.in-Ok.id.0 c.create.new.seat c.publish.new.seat (kept_free z p c.args.seat.now c.create.new.seat c.requires.seat c.create.ensures.seat c.create.ensures.slots c.create.ensures.between c.create.ensures.same)
     record { inside = c.in-Ok.ensures.made.0; known = c.in-Ok.ensures.made.1 } c.publish.ensures.seat c.publish.ensures.published c.publish.ensures.between c.publish.ensures.same
