@@ -1,5 +1,5 @@
 -- A seat that sends messages, one after another: what it has between two of them, and while one is written.
-use Rattle.std.proofs.Common.{◌≡◌, ◌≢◌, ℕ, zero, suc, ◌+◌, ◌*◌, ◌<◌, ◌≤◌, List, [], ◌∷◌, ◌++◌, length, length-append, false, refl, sym, ap, ◌∙◌, subst, arith}
+use Rattle.std.proofs.Common.{◌≡◌, ◌≢◌, ℕ, Bool, zero, suc, ◌+◌, ◌*◌, ◌<◌, ◌≤◌, List, [], ◌∷◌, ◌++◌, length, length-append, false, refl, sym, ap, ◌∙◌, subst, arith}
 use Rattle.std.specs.Option.{ForSome}
 use mathlib.Core.Logic.{dite}
 use mathlib.Core.Option.{some, some-injective, some-ne-none}
@@ -80,7 +80,7 @@ module _ {S : Type 0} (z : TableId) (p : Plan) where
 
 module _ {S : Type 0} (z : TableId) (p : Plan) (id : ℕ) where
   -- the reference goes back
-  module _ (s t : Seat S View) (ended : _) (h : HoldsOne p id s.me.0) (none_ : s.me.1 ≡ []) (is : IsSeat z p t) (back : GaveBack (socket_id_slot id) s.me.0 t.me.0 (Hold (socket_id_version id)) ended) (b : IsBetween p t.me.0) (slots : t.me.1 ≡ s.me.1) where
+  module _ (s t : Seat S View) (ended : Bool) (h : HoldsOne p id s.me.0) (none_ : s.me.1 ≡ []) (is : IsSeat z p t) (back : GaveBack (socket_id_slot id) s.me.0 t.me.0 (Hold (socket_id_version id)) ended) (b : IsBetween p t.me.0) (slots : t.me.1 ≡ s.me.1) where
     pub let_go_spent : IsSpent z p t
     let_go_spent = let o = back.became.others in let nr = ended_refs ended back.version back.notes back.by in (
       record {
@@ -173,6 +173,10 @@ module _ {S : Type 0} (p : Plan) (id x : ℕ) (v : View) (m : Me S View) (b : Be
   pub failed_one : HoldsOne p id v → HoldsOne p id m.0
   failed_one = refused_one p id x v m (marks_alone (socket_id_slot id) v m.0 (Saw x ∷ []) b) alone
 
+-- one reference is few
+pub few_one : (p : Plan) (id : ℕ) (v : View) → socket_id_slot id < p.slots → HoldsOne p id v → marks_of is_ref (socket_id_slot id) v < 65540
+few_one p id v inside h = let a = h.refs (socket_id_slot id) inside in let b = only-same (socket_id_slot id) in omega arith
+
 -- ## A message that was accepted or refused
 
 module _ {O : Type 0} {g : Ghosts O} (p : Plan) (sock : SockRef) (heading : Heading) (bytes : List ℕ) where
@@ -184,16 +188,16 @@ module _ {O : Type 0} {g : Ghosts O} (p : Plan) (sock : SockRef) (heading : Head
   started_one (started.Queued r) v w b h = subst (λ (y : SockRef). HoldsOne p y.id.0 w) (sym b.0) (accepted_one p sock.id.0 (Saw (socket_id_version sock.id.0) ∷ []) heading bytes v w refl b.1 h)
   started_one (started.Right r) v w b h = subst (λ (y : SockRef). HoldsOne p y.id.0 w) (sym b.0) (accepted_one p sock.id.0 (Saw (socket_id_version sock.id.0) ∷ []) heading bytes v w refl b.2 h)
 
-module _ {S : Type 0} (p : Plan) (sock : SockRef) (msg : Letter) where
+module _ (p : Plan) (sock : SockRef) (msg : Letter) where
   pub refused_is : (r : Refused) (v w : View) → RefusedBy p sock msg r v w → refused_of r ≡ sock
   refused_is (refused.Failed s m found) v w b = b.0
   refused_is (refused.Full s m) v w b = b.0
 
-  pub refused_ups : (r : Refused) (v : View) (m : Me S View) → RefusedBy p sock msg r v m.0 → IsBetween p v → Holds p v sock.id.0 → m.1 ≡ [] → GaveUp p (refused_of r).id.0 m
+  pub refused_ups : {S : Type 0} (r : Refused) (v : View) (m : Me S View) → RefusedBy p sock msg r v m.0 → IsBetween p v → Holds p v sock.id.0 → m.1 ≡ [] → GaveUp p (refused_of r).id.0 m
   refused_ups (refused.Failed s x found) v m b between h none_ = subst (λ (y : SockRef). GaveUp p y.id.0 m) (sym b.0) (failed_up p sock.id.0 _ v m b.3 between h none_)
   refused_ups (refused.Full s x) v m b between h none_ = subst (λ (y : SockRef). GaveUp p y.id.0 m) (sym b.0) (refused_up p sock.id.0 _ v m b.7 b.8 between h none_)
 
-  pub refused_ones : (r : Refused) (v : View) (m : Me S View) → RefusedBy p sock msg r v m.0 → HoldsOne p sock.id.0 v → HoldsOne p (refused_of r).id.0 m.0
+  pub refused_ones : {S : Type 0} (r : Refused) (v : View) (m : Me S View) → RefusedBy p sock msg r v m.0 → HoldsOne p sock.id.0 v → HoldsOne p (refused_of r).id.0 m.0
   refused_ones (refused.Failed s x found) v m b h = subst (λ (y : SockRef). HoldsOne p y.id.0 m.0) (sym b.0) (failed_one p sock.id.0 _ v m b.3 h)
   refused_ones (refused.Full s x) v m b h = subst (λ (y : SockRef). HoldsOne p y.id.0 m.0) (sym b.0) (refused_one p sock.id.0 _ v m b.7 b.8 h)
 

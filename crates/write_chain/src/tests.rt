@@ -206,7 +206,32 @@ fn refuse(table: &Table, seat: &mut Seat, refused: Refused) -> Option<Letter>
     }
 }
 
-/// The message is sent: the right to write, where the head was idle; the message, where each request was taken.
+/// The message is handed in with a reference: the right to write, where the head was idle; the message, where each request
+/// was taken.
+fn hand_in(
+    table: &Table,
+    seat: &mut Seat,
+    id: SocketId,
+    sock: SockRef,
+    msg: Letter,
+) -> Result<WriteRight<Half>, Option<Letter>>
+    requires seat { IsSeat table.now.rule.table.shared.table_id table.now.rule.plan seat.old }
+    requires id { sock.id ≡ id }
+    requires up { GaveUp table.now.rule.plan sock.id.0 seat.old.me }
+    requires one { HoldsOne table.now.rule.plan sock.id.0 seat.old.me.0 }
+    requires room { HasRoom seat.old.me.0 }
+    requires label { msg.label.place < 8 * table.now.rule.plan.operations }
+    ensures right { IfOk result (λ r. IsSeat table.now.rule.table.shared.table_id table.now.rule.plan seat.new × MayBegin table.now.rule.plan r seat.new.me × HoldsOne table.now.rule.plan r.sock.id.0 seat.new.me.0) }
+    ensures done { IfErr result (λ _. IsSpent table.now.rule.table.shared.table_id table.now.rule.plan seat.new) }
+    ensures ready { IfErr result (λ back. IfSome back (λ _. IsReady table.now.rule.table.shared.table_id table.now.rule.plan id.0 seat.new)) }
+{
+    match start(table, seat, sock, msg) {
+        Ok(started) => began(table, seat, id, started),
+        Err(refused) => Err(refuse(table, seat, refused)),
+    }
+}
+
+/// The message is sent.
 fn send(
     table: &Table,
     seat: &mut Seat,
@@ -222,10 +247,7 @@ fn send(
     let Ok(sock) = table.address(seat, id) else {
         return Err(None);
     };
-    match start(table, seat, sock, msg) {
-        Ok(started) => began(table, seat, id, started),
-        Err(refused) => Err(refuse(table, seat, refused)),
-    }
+    hand_in(table, seat, id, sock, msg)
 }
 
 /// What writing came to: whether the first put was all, which messages were dropped, and the code of the last.
