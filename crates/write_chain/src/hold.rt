@@ -12,7 +12,7 @@ ghost use Rattle.sock_rule.specs.Seated.{IsSeat};
 ghost use Rattle.sock_rule.specs.ChainPlays.{IsTicket};
 ghost use Rattle.sock_rule.specs.Holding.{Rights, MayFreeRequest};
 ghost use Rattle.write_chain.specs.Noting.{Faulted, Wrote};
-ghost use Rattle.write_chain.specs.Writing.{MayBegin, MayGoOn, Stands, HasLink, HasInHand, HasPart, IsClean, HasWhole, FoundDead, GoesBy, IsLast, OnceBy, TriedBy};
+ghost use Rattle.write_chain.specs.Writing.{MayBegin, MayGoOn, Stands, HasLink, HasInHand, HasPart, IsClean, HasWhole, FoundDead, GoesBy, IsLast, OnceBy, TriedBy, TriedFaults};
 
 use crate::right::{Doing, InHand, LinkInHand, WriteRight};
 use sock_io::{Out, Put};
@@ -235,6 +235,7 @@ pub fn fail_link<O: Out>(
     requires fault { Faulted O.state _hand.now.link }
     ensures seat { IsSeat table.now.rule.table.shared.table_id table.now.rule.plan seat.new }
     ensures has { HasPart table.now.rule.plan sock.now.id.0 _last.0 _hand.entry.now seat.new.me }
+    ensures dead { FoundDead sock.now.id.0 seat.new.me.0 }
     ensures wrote { Wrote O.state sock.now.id.0 seat.old.me.0 seat.new.me.0 }
 {
     let failed = table.fail(seat, sock, LINK_FAILED);
@@ -253,6 +254,7 @@ pub fn put_piece<O: Out>(
     requires may { IsClean table.now.rule.plan sock.now.id.0 last.0 hand seat.old.me × (hand.bytes.left ≢ []) }
     ensures seat { IsSeat table.now.rule.table.shared.table_id table.now.rule.plan seat.new }
     ensures tried { TriedBy table.now.rule.plan sock.now.id.0 last.0 hand.now.0 result seat.new.me }
+    ensures faults { TriedFaults (O.state hand.home.out).faults sock.now.id.0 result seat.new.me.0 }
     ensures wrote { Wrote O.state sock.now.id.0 seat.old.me.0 seat.new.me.0 }
 {
     let put = hand.put();
@@ -281,6 +283,7 @@ pub fn put_or_place<O: Out>(
     requires may { IsClean table.now.rule.plan sock.now.id.0 last.0 hand seat.old.me }
     ensures seat { IsSeat table.now.rule.table.shared.table_id table.now.rule.plan seat.new }
     ensures tried { TriedBy table.now.rule.plan sock.now.id.0 last.0 hand.now.0 result seat.new.me }
+    ensures faults { TriedFaults (O.state hand.home.out).faults sock.now.id.0 result seat.new.me.0 }
     ensures wrote { Wrote O.state sock.now.id.0 seat.old.me.0 seat.new.me.0 }
 {
     if hand.bytes.is_whole_taken() {
@@ -301,6 +304,7 @@ pub fn try_put<O: Out>(
     requires may { HasPart table.now.rule.plan sock.now.id.0 last.0 hand seat.old.me }
     ensures seat { IsSeat table.now.rule.table.shared.table_id table.now.rule.plan seat.new }
     ensures tried { TriedBy table.now.rule.plan sock.now.id.0 last.0 hand.now.0 result seat.new.me }
+    ensures faults { TriedFaults (O.state hand.home.out).faults sock.now.id.0 result seat.new.me.0 }
     ensures wrote { Wrote O.state sock.now.id.0 seat.old.me.0 seat.new.me.0 }
 {
     if look(table, seat, sock, last, &hand) {

@@ -1,3 +1,4 @@
+use Rattle.std.proofs.Common.{inl, refl}
 use Rattle.write_chain.proofs.Noting.{wrote_then}
 use Rattle.write_chain.proofs.hold.try_put.Goals as goal
 
@@ -9,3 +10,6 @@ returns-then-look-clause-wrote g c = wrote_then c.args.seat.now.me.0 c.look.new.
 
 pub returns-clause-tried : goal.returns-clause-tried
 returns-clause-tried g c = c.look.ensures.dead c.if-look.false
+
+pub returns-clause-faults : goal.returns-clause-faults
+returns-clause-faults g c = inl refl
