@@ -42,6 +42,10 @@ not_false : (b : Bool) → not b ≡ false → b ≡ true
 not_false true e = refl
 not_false false e = absurd (false_true (sym e))
 
+pub never_true : (b : Bool) → (b ≡ true → ⊥) → b ≡ false
+never_true true f = absurd (f refl)
+never_true false f = refl
+
 -- whether the word that was found is a failed one
 module _ (b : Bool) (found word : ℕ) (same : word ≡ found) (is : IsTrue b ↔ IsFailedVref word) where
   pub found_live : not b ≡ true → version_of found % 2 ≡ 0
@@ -69,6 +73,11 @@ module _ {O : Type 0} {g : Ghosts O} {p : Plan} {id last : ℕ} (hand : InHand O
         part_noted {L = λ k. ⊥} hand m n (Saw (version_of found) ∷ []) noted_saw b (ap (λ (q : Me (SockHome O g) View). q.1) (l.2 odd)) h,
         (let x : marks_of (is_saw (socket_id_version id + 1)) (socket_id_slot id) n.0 + 0 ≡ marks_of (is_saw (socket_id_version id + 1)) (socket_id_slot id) m.0 + (is_saw (socket_id_version id + 1) (Saw (version_of found)) + 0) = b.here (is_saw (socket_id_version id + 1)) in omega arith),
       )
+
+  -- a life that was found failed is found so again
+  pub dead_again : FoundDead id m.0 → version_of found % 2 ≢ 0
+  dead_again d even = let s = l.0.saw (socket_id_version id + 1) (subst (λ (j : ℕ). 0 < marks_of (is_saw (socket_id_version id + 1)) j m.0) (sym at) d) in
+      let a = l.0.held (socket_id_version id) (subst (λ (j : ℕ). 0 < marks_of (is_hold (socket_id_version id)) j m.0) (sym at) h.0.writer.holds.held) in absurd (omega arith)
 
   pub looked_wrote : Wrote g.state id m.0 n.0
   looked_wrote = record {

@@ -28,6 +28,11 @@ WentBy p sock (went.Done s) v m = (s ≡ sock) × GaveUp p sock.id.0 m
 WentBy p sock (went.Dropped r msg code) v m = (r.sock ≡ sock) × MayGoOn p r m × FoundDead sock.id.0 m.0 × IsCode code sock.id.0 v m.0
 WentBy p sock (went.Further r) v m = (r.sock ≡ sock) × MayGoOn p r m
 
+-- the message was dropped
+abbrev pub IsDropped : {O : Type 0} {g : Ghosts O} → Went O g → Type 0
+IsDropped (went.Dropped r msg code) = Unit {0}
+IsDropped other = ⊥
+
 abbrev pub KeptBy : {O : Type 0} {g : Ghosts O} → Plan → SockRef → Kept O g → View → Me (SockHome O g) View → Type 0
 KeptBy p sock (kept.Done s) v m = (s ≡ sock) × GaveUp p sock.id.0 m
 KeptBy p sock (kept.Dropped r msg code) v m = (r.sock ≡ sock) × MayGoOn p r m × FoundDead sock.id.0 m.0 × IsCode code sock.id.0 v m.0

@@ -176,3 +176,13 @@ abbrev pub TriedFaults : {O : Type 0} {g : Ghosts O} → ℕ → ℕ → Tried O
 TriedFaults n id (tried.Dead hand) v = FaultTold n id hand.home v
 TriedFaults n id (tried.Whole hand) v = FaultTold n id hand.home v
 TriedFaults n id (tried.Goes by) v = FaultsBy n id by v
+
+-- nothing was put
+abbrev pub IsDead : {O : Type 0} {g : Ghosts O} → Tried O g → Type 0
+IsDead (tried.Dead hand) = Unit {0}
+IsDead other = ⊥
+
+-- the right is kept
+abbrev pub IsKeep : {O : Type 0} {g : Ghosts O} → Once O g → Type 0
+IsKeep (once.Done s) = ⊥
+IsKeep (once.Keep r) = Unit {0}

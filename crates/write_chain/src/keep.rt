@@ -5,7 +5,7 @@ ghost use Rattle.write_chain.specs.declared.right.Doing.TheVariants.{Back};
 ghost use Rattle.write_chain.specs.Noting.{Wrote, WroteDrop};
 ghost use Rattle.sock_model.specs.declared.chain.Stage.TheVariants.{Empties};
 ghost use Rattle.write_chain.specs.Writing.{MayGoOn, HasLink, HasPart, FoundDead, GoesBy, FaultsBy};
-ghost use Rattle.write_chain.specs.Keeping.{IsCode, WentBy, WentWriting, KeptBy, KeptWriting};
+ghost use Rattle.write_chain.specs.Keeping.{IsCode, WentBy, WentWriting, KeptBy, KeptWriting, IsDropped};
 
 use crate::hold::{
     LINK_FAILED, Once, Tried, fail_link, fetch_link, go_past, leave, place, take_next, try_put,
@@ -178,6 +178,7 @@ pub fn put_or_drop<O: Out>(
     requires may { HasPart table.now.rule.plan sock.id.0 last.0 hand seat.old.me }
     ensures seat { IsSeat table.now.rule.table.shared.table_id table.now.rule.plan seat.new }
     ensures went { WentBy table.now.rule.plan sock result seat.old.me.0 seat.new.me }
+    ensures stays { FoundDead sock.id.0 seat.old.me.0 → IsDropped result }
     ensures wrote { WentWriting table.now.rule.plan sock result seat.old.me.0 seat.new.me.0 }
 {
     match try_put(table, seat, &sock, last, hand) {
