@@ -186,3 +186,9 @@ IsDead other = ⊥
 abbrev pub IsKeep : {O : Type 0} {g : Ghosts O} → Once O g → Type 0
 IsKeep (once.Done s) = ⊥
 IsKeep (once.Keep r) = Unit {0}
+
+-- a message is written or dropped before the head is tried again
+abbrev pub HasMore : {O : Type 0} {g : Ghosts O} → Doing O g → Type 0
+HasMore First = ⊥
+HasMore (doing.Last link) = ⊥
+HasMore other = Unit {0}

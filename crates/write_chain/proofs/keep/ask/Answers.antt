@@ -35,3 +35,12 @@ returns-in-NotYet-clause-faults g c = inl (c.ready.ensures.kept (λ e. cc (e, c.
 
 pub returns-in-Failed-clause-faults : goal.returns-in-Failed-clause-faults
 returns-in-Failed-clause-faults g c = inr c.fail_link.ensures.dead
+
+pub returns-in-Now-clause-more : goal.returns-in-Now-clause-more
+returns-in-Now-clause-more g c = tt
+
+pub returns-in-NotYet-clause-more : goal.returns-in-NotYet-clause-more
+returns-in-NotYet-clause-more g c = tt
+
+pub returns-in-Failed-clause-more : goal.returns-in-Failed-clause-more
+returns-in-Failed-clause-more g c = tt
