@@ -49,7 +49,7 @@ still_dead id v w a there = let x = wrote_more (is_saw (socket_id_version id + 1
 pub dead_dropped : {O : Type 0} {state : O → OutState} (p : Plan) (id place : ℕ) (v w : View) → WroteDrop state p id place v w → FoundDead id v → FoundDead id w
 dead_dropped p id place v w a there = let x = wrote_more (is_saw (socket_id_version id + 1)) v (record w { stores = v.stores }) a.wrote in omega arith
 
--- a message that is dropped leaves no other behind it first
+-- where the message was dropped, none is left of it
 pub dropped_leaves : {O : Type 0} {g : Ghosts O} (w : Went O g) → IsDropped w → LeavesMore w
 dropped_leaves (went.Done s) d = elim d [ ]
 dropped_leaves (went.Dropped r msg code) d = tt

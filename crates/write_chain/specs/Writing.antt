@@ -177,10 +177,10 @@ TriedFaults n id (tried.Dead hand) v = FaultTold n id hand.home v
 TriedFaults n id (tried.Whole hand) v = FaultTold n id hand.home v
 TriedFaults n id (tried.Goes by) v = FaultsBy n id by v
 
--- nothing was put
-abbrev pub IsDead : {O : Type 0} {g : Ghosts O} → Tried O g → Type 0
-IsDead (tried.Dead hand) = Unit {0}
-IsDead other = ⊥
+-- nothing was put: all in hand is as it was
+abbrev pub IsDead : {O : Type 0} {g : Ghosts O} → InHand O g → Tried O g → Type 0
+IsDead old (tried.Dead hand) = hand ≡ old
+IsDead old other = ⊥
 
 -- the right is kept
 abbrev pub IsKeep : {O : Type 0} {g : Ghosts O} → Once O g → Type 0

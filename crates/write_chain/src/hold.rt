@@ -305,7 +305,7 @@ pub fn try_put<O: Out>(
     requires may { HasPart table.now.rule.plan sock.now.id.0 last.0 hand seat.old.me }
     ensures seat { IsSeat table.now.rule.table.shared.table_id table.now.rule.plan seat.new }
     ensures tried { TriedBy table.now.rule.plan sock.now.id.0 last.0 hand.now.0 result seat.new.me }
-    ensures stays { FoundDead sock.now.id.0 seat.old.me.0 → IsDead result }
+    ensures stays { FoundDead sock.now.id.0 seat.old.me.0 → IsDead hand result }
     ensures faults { TriedFaults (O.state hand.home.out).faults sock.now.id.0 result seat.new.me.0 }
     ensures wrote { Wrote O.state sock.now.id.0 seat.old.me.0 seat.new.me.0 }
 {

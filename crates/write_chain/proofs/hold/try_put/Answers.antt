@@ -19,4 +19,4 @@ pub returns-then-look-clause-stays : goal.returns-then-look-clause-stays
 returns-then-look-clause-stays g c = λ d. absurd (false_true (sym (c.look.ensures.stays d) ∙ c.if-look.true))
 
 pub returns-clause-stays : goal.returns-clause-stays
-returns-clause-stays g c = λ d. tt
+returns-clause-stays g c = λ d. refl
