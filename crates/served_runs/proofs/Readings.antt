@@ -65,9 +65,9 @@ module _ (k : ℕ) where
   Goes g last (PutBytes l asked bytes next) = ⊥
   Goes g last (AskReady l next) = ⊥
   Goes g last (Write w after) = ⊥
-  Goes g last (Aside (TakeBytes l room) next) = (l ≡ k) × ((t : Taking) → Goes (g ++ bytes_found t) (last || is_last t) (next t))
+  Goes g last (Aside (TakeBytes l room) next) = (l ≡ k) × ((last ≡ false) ⊎ Faults 0 g) × ((t : Taking) → Goes (g ++ bytes_found t) (last || is_last t) (next t))
   Goes g last (Aside step next) = (found : Found step) → Goes g last (next found)
-  Goes g last (Round (Reads r) next) = IsReading g r × ((how : Ended) (g' : List ℕ) (last' : Bool) → EndsSo g' last' how → Goes g' last' (next how))
+  Goes g last (Round (Reads r) next) = (last ≡ false) × IsReading g r × ((how : Ended) (g' : List ℕ) (last' : Bool) → EndsSo g' last' how → Goes g' last' (next how))
   Goes g last (Round (Discards l total) next) = (l ≡ k) × Faults 0 g × ((n : ℕ) (g' : List ℕ) (last' : Bool) → Faults 0 g' → Goes g' last' (next n))
   Goes g last (Round head next) = (exit : Exit head) → Goes g last (next exit)
   Goes g last (Keep r next) = Goes g last next
@@ -211,7 +211,10 @@ module _ (k : ℕ) where
   or_true true = refl
   or_true false = refl
 
-  module _ (g : List ℕ) (last : Bool) (r : Reading) (next : Ended → Program) (at : IsReading g r) (ends : Ends next) where
+  module _ (g : List ℕ) (last : Bool) (not_yet : last ≡ false) (r : Reading) (next : Ended → Program) (at : IsReading g r) (ends : Ends next) where
+    none_yet : (last || false) ≡ false
+    none_yet = ap (λ b. b || false) not_yet
+
     abbrev with_more : List ℕ → List Frame → Reading
     with_more bytes kept = record { ids = r.ids; link = r.link; id = r.id; rest = r.rest; total = r.total + length bytes; kept = kept }
 
@@ -225,13 +228,13 @@ module _ (k : ℕ) where
     abbrev with_rest : List ℕ → List Frame → ℕ → Reading
     with_rest bytes kept n = record { ids = r.ids; link = r.link; id = r.id; rest = last_of n (r.rest ++ bytes); total = r.total + length bytes; kept = kept }
 
-    go_read_on : (last' : Bool) (kept : List Frame) (bytes : List ℕ) (s : streams.Ending) → (streams.stream (r.rest ++ bytes)).ending ≡ s → Goes (g ++ bytes) last' (read_on (with_more bytes kept) (r.rest ++ bytes) s next)
-    go_read_on last' kept bytes (streams.Rest n) is = by (nat_lt (r.total + length bytes) LIMIT) refl
+    go_read_on : (last' : Bool) → last' ≡ false → (kept : List Frame) (bytes : List ℕ) (s : streams.Ending) → (streams.stream (r.rest ++ bytes)).ending ≡ s → Goes (g ++ bytes) last' (read_on (with_more bytes kept) (r.rest ++ bytes) s next)
+    go_read_on last' off kept bytes (streams.Rest n) is = by (nat_lt (r.total + length bytes) LIMIT) refl
       where
         by : (b : Bool) → nat_lt (r.total + length bytes) LIMIT ≡ b → Goes (g ++ bytes) last' (cond b (Round (Reads (with_rest bytes kept n)) next) (next (ended_by 1014 false false (with_rest bytes kept n))))
-        by true less = (record { link = at.link; total = more_total bytes; tied = λ more f. all_tied bytes more (fault_follows (r.rest ++ bytes) more n is f) }, ends)
+        by true less = (off, record { link = at.link; total = more_total bytes; tied = λ more f. all_tied bytes more (fault_follows (r.rest ++ bytes) more n is f) }, ends)
         by false most = ends (ended_by 1014 false false (with_rest bytes kept n)) (g ++ bytes) last' (inr (inr (let l = ltb-false (r.total + length bytes) LIMIT most in let t = more_total bytes in omega (arith, l, t))), at.link, λ e. absurd (true≢false (sym e)))
-    go_read_on last' kept bytes (streams.Fault start fault) is = let f : Faults 0 (g ++ bytes) = subst (Faults 0) (append-nil (g ++ bytes)) (all_tied bytes [] (subst (Faults 0) (sym (append-nil (r.rest ++ bytes))) (start, fault, is))) in
+    go_read_on last' off kept bytes (streams.Fault start fault) is = let f : Faults 0 (g ++ bytes) = subst (Faults 0) (append-nil (g ++ bytes)) (all_tied bytes [] (subst (Faults 0) (sym (append-nil (r.rest ++ bytes))) (start, fault, is))) in
         ends (ended_by 2002 false true (with_more bytes kept)) (g ++ bytes) last' (inr (inl f), at.link, λ _. f)
 
     same_reading : IsReading (g ++ []) r
@@ -242,8 +245,8 @@ module _ (k : ℕ) where
 
     go_took : (t : Taking) → Goes (g ++ bytes_found t) (last || is_last t) (took r next t)
     go_took (Bytes bytes) = go_responses (g ++ bytes) (last || false) r.ids (streams.stream (r.rest ++ bytes)).frames r.kept (λ kept. read_on (with_more bytes kept) (r.rest ++ bytes) (streams.stream (r.rest ++ bytes)).ending next)
-        (λ kept. go_read_on (last || false) kept bytes (streams.stream (r.rest ++ bytes)).ending refl)
-    go_took Nothing = (same_reading, ends)
+        (λ kept. go_read_on (last || false) none_yet kept bytes (streams.stream (r.rest ++ bytes)).ending refl)
+    go_took Nothing = (none_yet, same_reading, ends)
     go_took NoMore = found_last false NoMore refl
     go_took AtEnd = found_last false AtEnd refl
     go_took Closed = found_last true Closed refl
@@ -269,8 +272,8 @@ module _ (k : ℕ) where
   go_round g last (Locks i sought (Some w)) next x = go_locks g last i sought (Some w) next x
   go_round g last (Joins i) next x = go_joins g last i next x
   go_round g last (Opens o) next x = go_opens g last o next x
-  go_round g last (Reads r) next x = let at = x.0 in (at.link, λ t. go_took g last r next at x.1 t)
-  go_round g last (Discards l total) next x = (x.0, λ t. go_discarded g last l total next x.0 x.1 x.2 t)
+  go_round g last (Reads r) next x = let at = x.1 in (at.link, inl x.0, λ t. go_took g last x.0 r next at x.2 t)
+  go_round g last (Discards l total) next x = (x.0, inr x.1, λ t. go_discarded g last l total next x.0 x.1 x.2 t)
 
   pub goes_first : (g : List ℕ) (last : Bool) (program : Program) → Goes g last program → Goes g last (first_step program)
   goes_first g last (Write w after) x = absurd x
@@ -306,4 +309,4 @@ module _ (k : ℕ) where
 
   -- the reader's program where it begins to read
   pub begins_reading : (calls : List ℕ) (ids id : ℕ) → Goes [] false (Round (Reads (record { ids = ids; link = k; id = id; rest = []; total = 0; kept = [] })) (read calls))
-  begins_reading calls ids id = (record { link = refl; total = refl; tied = λ more f. f }, λ how g' last' e. read_goes g' last' calls how e)
+  begins_reading calls ids id = (refl, record { link = refl; total = refl; tied = λ more f. f }, λ how g' last' e. read_goes g' last' calls how e)
