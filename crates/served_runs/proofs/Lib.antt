@@ -1,2 +1,4 @@
 mod Places
 mod Readings
+mod Ticks
+mod Ends
