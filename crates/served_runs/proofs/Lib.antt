@@ -2,3 +2,4 @@ mod Places
 mod Readings
 mod Ticks
 mod Ends
+mod Runs
