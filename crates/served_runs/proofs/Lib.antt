@@ -3,3 +3,5 @@ mod Readings
 mod Ticks
 mod Ends
 mod Runs
+mod Late
+mod Replies
