@@ -5,3 +5,4 @@ mod Ends
 mod Runs
 mod Late
 mod Replies
+mod Opened
