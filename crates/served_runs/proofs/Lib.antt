@@ -6,3 +6,4 @@ mod Runs
 mod Late
 mod Replies
 mod Opened
+mod Frames
