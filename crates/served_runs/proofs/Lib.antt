@@ -1,9 +1,11 @@
-mod Places
-mod Readings
-mod Ticks
-mod Ends
-mod Runs
-mod Late
-mod Replies
-mod Opened
-mod Frames
+pub mod Places
+pub mod Readings
+pub mod Ticks
+pub mod Ends
+pub mod Runs
+pub mod Late
+pub mod Replies
+pub mod Opened
+pub mod Frames
+pub mod Own
+pub mod Served

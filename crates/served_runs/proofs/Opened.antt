@@ -68,22 +68,23 @@ module _ (script : List Item) (made : AreMade script) (there : AreThere script) 
         b : Because (plan_of script).slots (plan_of script).requests f.before (trace_of told.client told.task.number story.events) (ops.Open n k) (Opened slot version k)
         b = subst (λ z. Because (plan_of script).slots (plan_of script).requests f.before (trace_of told.client told.task.number story.events) z (Opened slot version k)) told.op x.0
 
-    -- the `open` of the link found a socket
+    opened_life : IsOpened script made turns core is closes (ids_at script core) (labelled_at script made there range turns core is closes) slot version
+    opened_life = given_opened script made turns core is closes (ids_at script core) (labelled_at script made there range turns core is closes) slot version k given
+
+    few : slot < 4294967296
+    few = let y = opened_life in let s = y.inside in let m = made.limits in let l = m.slots in omega (arith, s, l)
+
+    socket : get_or core.words (open_word (plan_of script) opened_life.operation) 0 ≢ NO_SOCKET
+    socket e = let y = opened_life in let w : version * 4294967296 + slot + 1 ≡ 18446744073709551615 = sym y.word ∙ e in let low = y.low in let s = few in omega (arith, w, low, s)
+
+    own : opened_life.link ≡ k
+    own = let y = opened_life in own_link script made turns core is closes (ids_at script core) (labelled_at script made there range turns core is closes) y.link y.operation (socket_id version slot) slot version k y.at y.word socket
+        (let s = few in let z : slot ≡ socket_id_slot (version * 4294967296 + slot) = omega (arith, s) in z) (let s = few in let z : version ≡ socket_id_version (version * 4294967296 + slot) = omega (arith, s) in z) given
+
+    -- the link has an `open`
+    pub opened_at : (o : ℕ) × (get_elem? (opens script) k ≡ some o)
+    opened_at = let y = opened_life in (y.operation, sym (ap (get_elem? (opens script)) own) ∙ y.at)
+
+    -- which found a socket
     pub opened_word : (o : ℕ) → get_elem? (opens script) k ≡ some o → get_or core.words (open_word (plan_of script) o) 0 ≢ NO_SOCKET
-    opened_word o at = by (given_opened script made turns core is closes (ids_at script core) (labelled_at script made there range turns core is closes) slot version k given)
-      where
-        by : IsOpened script made turns core is closes (ids_at script core) (labelled_at script made there range turns core is closes) slot version → get_or core.words (open_word (plan_of script) o) 0 ≢ NO_SOCKET
-        by y e = socket (ap (λ z. get_or core.words (open_word (plan_of script) z) 0) same ∙ e)
-          where
-            few : slot < 4294967296
-            few = let s = y.inside in let m = made.limits in let l = m.slots in omega (arith, s, l)
-
-            socket : get_or core.words (open_word (plan_of script) y.operation) 0 ≢ NO_SOCKET
-            socket e = let w : version * 4294967296 + slot + 1 ≡ 18446744073709551615 = sym y.word ∙ e in let low = y.low in omega (arith, w, low, few)
-
-            link : y.link ≡ k
-            link = own_link script made turns core is closes (ids_at script core) (labelled_at script made there range turns core is closes) y.link y.operation (socket_id version slot) slot version k y.at y.word socket
-                (let z : slot ≡ socket_id_slot (version * 4294967296 + slot) = omega (arith, few) in z) (let z : version ≡ socket_id_version (version * 4294967296 + slot) = omega (arith, few) in z) given
-
-            same : y.operation ≡ o
-            same = some-injective y.operation o (sym y.at ∙ (ap (get_elem? (opens script)) link ∙ at))
+    opened_word o at e = let y = opened_life in socket (ap (λ z. get_or core.words (open_word (plan_of script) z) 0) (some-injective y.operation o (sym y.at ∙ (ap (get_elem? (opens script)) own ∙ at))) ∙ e)

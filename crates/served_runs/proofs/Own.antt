@@ -76,7 +76,7 @@ all_in P (y ∷ ys) x all (inr m) = all_in P ys x all.1 m
 -- what a link took is the front of all that it accepted
 cut_more : (cut : List ℕ) (next : List Accepted) → IsCut cut (map bytes_of next) → (more : List ℕ) × (cut ++ more ≡ flat_map bytes_of next)
 cut_more cut [] e = ([], append-nil cut ∙ e)
-cut_more cut (a ∷ as) (more, some_, e) = (more ++ flat_map bytes_of as, sym (append_assoc cut more (flat_map bytes_of as)) ∙ ap (λ l. l ++ flat_map bytes_of as) e)
+cut_more cut (a ∷ rest) (more, some_, e) = (more ++ flat_map bytes_of rest, sym (append_assoc cut more (flat_map bytes_of rest)) ∙ ap (λ l. l ++ flat_map bytes_of rest) e)
 
 module _ (script : List Item) (made : AreMade script) (there : AreThere script) (range : AllByRecursion InRange script) (turns : List Turn) (core : Core) (is : IsRunWithCalls script turns core) (closes : ClosesInRun script turns core is) where
   abbrev Task_ : ℕ → Task → Type 0
@@ -90,17 +90,13 @@ module _ (script : List Item) (made : AreMade script) (there : AreThere script) 
 
   -- an id that an outcome shows is one of the table
   id_small : (client : ℕ) (t : Task) (asked : Asked) (x : Outcome) (id : ℕ) → Task_ client t → t.op ≡ ops.Call asked → Became (all_tasks script) core.outcomes t.number x → shown_id x ≡ Some id → id < 281474976710656
-  id_small client t asked x id it op became shows = ⊎_elim (λ s. absurd (shows_none h.scene client s.0 asked x id s.1 shows))
-      (λ b. let low = (let e = ended in let l = e.births in l.born (record { id = b.0; asked = asked }) b.1).0 in let same = shows_own (plan_of script) (id_plan_of script) (all_tasks script) (given core) h.scene h.marks ended (record { id = b.0; asked = asked }) x id b.2 shows in
+  id_small client t asked x id it op became shows = let h = run_has_story script made there range turns core is in let ended = run_has_ended script made there range turns core is closes in
+      ⊎_elim (λ s. absurd (shows_none h.scene client s.0 asked x id s.1 shows))
+      (λ b. let births = ended.births in let low = (births.born (record { id = b.0; asked = asked }) b.1).0 in
+      let same = shows_own (plan_of script) (id_plan_of script) (all_tasks script) (given core) h.scene h.marks ended (record { id = b.0; asked = asked }) x id b.2 shows in
       let few = (let k = known script made turns core is in k.narrow) in let l : b.0 / 4294967296 < (id_plan_of script).slots = low in omega (arith, l, few, same))
       (call_of (plan_of script) (id_plan_of script) (all_tasks script) (given core) h.scene h.marks ended client t asked x (subst (λ (d : Core). IsTask (all_tasks script) d.outcomes client t) (sym h.is) it) op
       (subst (λ (d : Core). Became (all_tasks script) d.outcomes t.number x) (sym h.is) became))
-    where
-      h : _
-      h = run_has_story script made there range turns core is
-
-      ended : _
-      ended = run_has_ended script made there range turns core is closes
 
   -- ## Requests
 
@@ -170,16 +166,16 @@ module _ (script : List Item) (made : AreMade script) (there : AreThere script) 
 
     pub record IsReplied (g : Frame) : Type 0 where
       pub request : Frame
-      pub is : IsRequest request
+      pub made_so : IsRequest request
       pub replied : reply request ≡ Some g
 
     replied_all : (fs : List Frame) → AllByRecursion IsRequest fs → AllByRecursion IsReplied (filter_map reply fs)
     replied_all [] all = tt
-    replied_all (f ∷ fs) all = by (reply f) refl
+    replied_all (f ∷ fs) all = by (reply f) refl (replied_all fs all.1)
       where
-        by : (o : Option Frame) → reply f ≡ o → AllByRecursion IsReplied (cons_option o (filter_map reply fs))
-        by None e = replied_all fs all.1
-        by (Some g) e = (record { request = f; is = all.0; replied = e }, replied_all fs all.1)
+        by : (o : Option Frame) → reply f ≡ o → AllByRecursion IsReplied (filter_map reply fs) → AllByRecursion IsReplied (cons_option o (filter_map reply fs))
+        by None e rest = rest
+        by (Some g) e rest = (record { request = f; made_so = all.0; replied = e }, rest)
 
     of_request : (f g : Frame) (r : IsRequest f) → reply f ≡ Some g → IsFrame (frame_bytes g) g × (g.meta.correlation_id ≡ r.id + r.attempt + 1)
     of_request f g r e = reply_is r.asked r.id r.attempt g r.small (sym (ap reply r.frame) ∙ e)
@@ -191,7 +187,7 @@ module _ (script : List Item) (made : AreMade script) (there : AreThere script) 
     -- the frames that it gave are those replies
     gave_replies : (shape : Shape) → given core k ≡ given_for shape took → AllByRecursion IsReplied (stream (given core k)).frames
     gave_replies shape gives = subst (λ l. AllByRecursion IsReplied (stream l).frames) (sym gives)
-        (piece_frames frame_bytes IsReplied (first_of shape.end (reply_frames took)) (all_on IsReplied (λ g. IsPiece IsReplied (frame_bytes g)) (λ g r. record { frame = g; is = (of_request r.request g r.is r.replied).0; holds = r }) (first_of shape.end (reply_frames took))
+        (piece_frames frame_bytes IsReplied (first_of shape.end (reply_frames took)) (all_on IsReplied (λ g. IsPiece IsReplied (frame_bytes g)) (λ g r. record { frame = g; is = (of_request r.request g r.made_so r.replied).0; holds = r }) (first_of shape.end (reply_frames took))
         (first_replied shape.end (reply_frames took) (replied_all (stream took).frames took_requests))) 0)
 
     -- ## Of one call
@@ -205,12 +201,12 @@ module _ (script : List Item) (made : AreMade script) (there : AreThere script) 
     own_reply shape gives n id client frame t asked outcome stands it op became shows above below = by (get_all IsReplied (stream (given core k)).frames (gave_replies shape gives) n frame stands)
       where
         by : IsReplied frame → reply (request_with asked frame.meta.correlation_id) ≡ Some frame
-        by r = dite (ℕ_discrete t.number r.is.task.number)
-            (λ same. let a = same_call client r.is.client t r.is.task asked r.is.asked it r.is.is_task op r.is.op same in
-            ap reply (ap (λ (z : Asked). request_with z frame.meta.correlation_id) a ∙ (ap (request_with r.is.asked) with_id ∙ sym r.is.frame)) ∙ r.replied)
-            (λ far. absurd (⊎_elim (λ z. let f = r.is.few in let z' : ⊥ = omega (arith, z, below, with_id, f) in z') (λ z. let f = r.is.few in let z' : ⊥ = omega (arith, z, above, with_id, f) in z')
-            ((run_told_in_part script made there range turns core is closes (fixed_of_run script made turns core is closes) (orders_here script made turns core is closes)).versions client r.is.client t r.is.task asked r.is.asked outcome r.is.outcome id r.is.id it r.is.is_task op r.is.op
-            became r.is.became shows r.is.shows far)))
+        by r = dite (ℕ_discrete t.number r.made_so.task.number)
+            (λ same. let a = same_call client r.made_so.client t r.made_so.task asked r.made_so.asked it r.made_so.is_task op r.made_so.op same in
+            ap reply (ap (λ (z : Asked). request_with z frame.meta.correlation_id) a ∙ (ap (request_with r.made_so.asked) with_id ∙ sym r.made_so.frame)) ∙ r.replied)
+            (λ far. absurd (⊎_elim (λ z. let f = r.made_so.few in let z' : ⊥ = omega (arith, z, below, with_id, f) in z') (λ z. let f = r.made_so.few in let z' : ⊥ = omega (arith, z, above, with_id, f) in z')
+            ((run_told_in_part script made there range turns core is closes (fixed_of_run script made turns core is closes) (orders_here script made turns core is closes)).versions client r.made_so.client t r.made_so.task asked r.made_so.asked outcome r.made_so.outcome id r.made_so.id it r.made_so.is_task op r.made_so.op
+            became r.made_so.became shows r.made_so.shows far)))
           where
-            with_id : frame.meta.correlation_id ≡ r.is.id + r.is.attempt + 1
-            with_id = (of_request r.request frame r.is r.replied).1
+            with_id : frame.meta.correlation_id ≡ r.made_so.id + r.made_so.attempt + 1
+            with_id = (of_request r.request frame r.made_so r.replied).1

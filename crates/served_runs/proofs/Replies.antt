@@ -92,8 +92,8 @@ module _ (script : List Item) (made : AreMade script) (turns : List Turn) (core 
   abbrev in_os : (n l : ℕ) → get_elem? (opens script) n ≡ some l → l < (plan_of script).operations
   in_os = (let x = known script made turns core is in x.in_script)
 
-  low : k < (plan_of script).links
-  low = let i = place_inside (opens script) k o at in let many = (let x = known script made turns core is in x.as_many) in omega (arith, i, many)
+  pub link_inside : k < (plan_of script).links
+  link_inside = let i = place_inside (opens script) k o at in let many = (let x = known script made turns core is in x.as_many) in omega (arith, i, many)
 
   abbrev in_setup : List Moment
   in_setup = replicate is.setup (quiet 0)
@@ -119,7 +119,7 @@ module _ (script : List Item) (made : AreMade script) (turns : List Turn) (core 
   opened_holds = record { last = false; reader = λ seat there. inl (begins_at seat there, empty_at (plan_of script).links k, refl); over = λ e. absurd (true≢false (sym e)) }
 
   long_opened : k < length (opened script).calls.gave
-  long_opened = let e = empty_long (plan_of script).links in let l = low in omega (arith, e, l)
+  long_opened = let e = empty_long (plan_of script).links in let l = link_inside in omega (arith, e, l)
 
   long_set_up : k < length (set_up script is.setup).calls.gave
   long_set_up = let e = gave_long (plan_of script) in_setup (opened script) in let l = long_opened in omega (arith, e, l)
@@ -233,7 +233,7 @@ module _ (script : List Item) (made : AreMade script) (turns : List Turn) (core 
 
       home : AtHome (plan_of script) core.homes k
       home = links_home (plan_of script) core (views_ended script turns core is (first_views script))
-          (ended_sound script made.are (first_views script) (start script made turns core is) (go script made turns core is) turns core is (fitting script made turns core is)) rests k low
+          (ended_sound script made.are (first_views script) (start script made turns core is) (go script made turns core is) turns core is (fitting script made turns core is)) rests k link_inside
 
       there : TookSoFar (plan_of script) core k home.took
       there = (home.next, home.done, inl home.is)
@@ -269,4 +269,4 @@ module _ (script : List Item) (made : AreMade script) (turns : List Turn) (core 
 
       -- it gave the replies to what it took
       pub gives_replies_at : IsTrue shape.serve → given core k ≡ given_for shape (slice_index_or (took_at_home (plan_of script) core.homes) k [])
-      gives_replies_at serves = gave_all ∙ (by_true shape.serve (given_for shape home.took) [] serves ∙ ap (given_for shape) (sym (took_there (plan_of script) core.homes k home.took home.next home.done home.is low)))
+      gives_replies_at serves = gave_all ∙ (by_true shape.serve (given_for shape home.took) [] serves ∙ ap (given_for shape) (sym (took_there (plan_of script) core.homes k home.took home.next home.done home.is link_inside)))
