@@ -1,16 +1,18 @@
 -- In a whole run each link that was served gave the replies to what it took, and each call the reply to its own request.
-use Rattle.std.proofs.Common.{ℕ, List}
+use Rattle.std.proofs.Common.{◌≡◌, ℕ, Bool, true, false, cond, List, [], refl, ◌∙◌}
 use Rattle.std.specs.List.{AllByRecursion}
+use Rattle.std.specs.Prelude.{slice_index_or, IsTrue}
 use lib.ListN.{get_elem?}
 use mathlib.Core.Option.{some}
 use Rattle.brpc_model.specs.Items.{Item, Shape}
 use Rattle.brpc_model.specs.Operations.{Turn}
+use Rattle.brpc_model.specs.Served.{given_for}
 use Rattle.report_fits.proofs.Reading.{InRange}
 use Rattle.report_fits.proofs.Targets.{AreThere}
 use Rattle.sock_programs.specs.Asides.{Broken}
 use Rattle.sock_programs.specs.Cores.{Core}
-use Rattle.sock_programs.specs.Tasks.{opens}
-use Rattle.sock_programs.specs.Scripts.{IsRunWithCalls}
+use Rattle.sock_programs.specs.Tasks.{opens, plan_of}
+use Rattle.sock_programs.specs.Scripts.{took_at_home, IsRunWithCalls}
 use Rattle.sock_causes.specs.Facts.{late_links_of_run}
 use Rattle.sock_causes.proofs.Members.{in_contains}
 use Rattle.joint_runs.proofs.Runs.{AreMade}
@@ -20,14 +22,19 @@ use Rattle.served_runs.specs.Offered.{OffersInRun}
 use Rattle.served_runs.specs.Served.{IsServed, GivesReplies, GivesOwnReplies}
 use Rattle.served_runs.proofs.Opened.{opened_word, opened_at}
 use Rattle.served_runs.proofs.Own.{own_reply}
-use Rattle.served_runs.proofs.Replies.{gives_replies_at, link_inside}
+use Rattle.served_runs.proofs.Replies.{gives_all, link_inside}
+
+by_true : {A : Type 0} (b : Bool) (x y : A) → IsTrue b → cond b x y ≡ x
+by_true true x y is = refl
+by_true false x y is = absurd (cc)
 
 module _ (script : List Item) (made : AreMade script) (there : AreThere script) (range : AllByRecursion InRange script) (turns : List Turn) (core : Core) (is : IsRunWithCalls script turns core) (closes : ClosesInRun script turns core is)
     (offers : OffersInRun script turns core is) where
   pub gives_replies : GivesReplies script turns core is
   gives_replies k shape s = let x = opened_at script made there range turns core is closes s.name k s.slot s.version s.lived in
-      gives_replies_at script made turns core is offers k x.0 x.1 shape s.opened (λ m. s.in_time (in_contains (late_links_of_run script turns core is) k m)) closes
-      (opened_word script made there range turns core is closes s.name k s.slot s.version s.lived x.0 x.1) (λ m. s.whole (in_contains (heard_takes is k) Broken m)) s.faultless s.few s.serves
+      gives_all script made turns core is offers k x.0 x.1 shape s.opened closes (λ m. s.in_time (in_contains (late_links_of_run script turns core is) k m))
+      (opened_word script made there range turns core is closes s.name k s.slot s.version s.lived x.0 x.1) (λ m. s.whole (in_contains (heard_takes is k) Broken m)) s.faultless s.few
+      ∙ by_true shape.serve (given_for shape (slice_index_or (took_at_home (plan_of script) core.homes) k [])) [] s.serves
 
   pub gives_own_replies : GivesOwnReplies script turns core is
   gives_own_replies k n id client shape frame t asked outcome s unsent stands it op became shows response above below = let x = opened_at script made there range turns core is closes s.name k s.slot s.version s.lived in
