@@ -1,5 +1,5 @@
 -- Where the reading of a link is over, the link gave all that belongs to what it took; each tick keeps that.
-use Rattle.std.proofs.Common.{◌≡◌, ◌≢◌, ℕ, ◌+◌, ◌<◌, ◌==◌, eq-eqb, ◌||◌, Bool, true, false, cond, List, [], ◌∷◌, ◌++◌, length, map, filter, append-nil, append_assoc, ◌⊎◌, inl, inr, ⊎_elim, refl, sym, ap, ◌∙◌, subst, arith}
+use Rattle.std.proofs.Common.{◌≡◌, ◌≢◌, ℕ, ◌+◌, ◌<◌, ◌==◌, eq-eqb, ◌||◌, Bool, true, false, cond, List, [], ◌∷◌, ◌++◌, length, map, filter, append-nil, append_assoc, ◌⊎◌, inl, inr, ⊎_elim, refl, sym, ap, ◌∙◌, subst}
 use Rattle.std.proofs.lemmas.Bool.{true≢false}
 use Rattle.std.specs.Prelude.{slice_get, Some}
 use mathlib.Core.Logic.{dite}
@@ -11,11 +11,11 @@ use Rattle.brpc_model.specs.Items.{Item, Shape}
 use Rattle.brpc_model.specs.Operations.{link_shapes}
 use Rattle.sock_programs.specs.Asides.{TakeBytes, Taking, Bytes, Nothing, NoMore, AtEnd, Closed, Broken}
 use Rattle.sock_programs.specs.Beside.{at_last}
-use Rattle.sock_programs.specs.Programs.{Program, Aside}
+use Rattle.sock_programs.specs.Programs.{Aside}
 use Rattle.sock_programs.specs.Cores.{Core, SeatState}
 use Rattle.sock_programs.specs.Tasks.{calls, plan_of}
 use Rattle.sock_programs.specs.Ticks.{Answer, OfTake, Moment, IsAnswered, FitsTake, IsTaken, tick_with, ticked}
-use Rattle.sock_runs.specs.Sound.{Sound, IsFitting, first_step}
+use Rattle.sock_runs.specs.Sound.{Sound, IsFitting}
 use Rattle.sock_runs.proofs.LinkTicks.{RetriesGo}
 use Rattle.sock_causes.specs.Stories.{In}
 use Rattle.owed_calls.proofs.EndsStill.{run_ending}
@@ -26,7 +26,7 @@ use Rattle.send_causes.proofs.Readings.{IsTake, takes_or_not}
 use Rattle.served_runs.specs.Offered.{IsDone, offered_by, GaveAll, GaveLast, IsOfferedSo, OffersAt, IsOffered}
 use Rattle.served_runs.proofs.Places.{IsPut, AllLay, all_lay, done_quiet, done_on}
 use Rattle.served_runs.proofs.Readings.{IsBad, bad_more, is_last}
-use Rattle.served_runs.proofs.Ticks.{took_so, gave_same, gave_more, Word, HasReader, reader_word, reader_goes, Takes, reader_takes}
+use Rattle.served_runs.proofs.Ticks.{gave_same, gave_more, Word, HasReader, reader_word, reader_goes, Takes, reader_takes}
 
 module _ (script : List Item) (k o : ℕ) (shape : Shape) (Fails : Type 0) where
   -- the link gave all, and takes nothing more, or gets nothing more for it

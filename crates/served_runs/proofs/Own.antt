@@ -1,14 +1,11 @@
 -- Each response of a call's versions that a link with the server gave is the reply to the call's own request, where no `send` is to its socket: the link took whole requests of calls, and no two calls have a version in common.
-use Rattle.std.proofs.Common.{◌≡◌, ◌≢◌, ℕ, zero, suc, ◌+◌, ◌*◌, ◌/◌, ◌^◌, ◌<◌, ◌≤◌, ◌⊎◌, List, [], ◌∷◌, ◌++◌, length, take, drop, map, flat_map, filter_map, slice_get, Option, Some, None, append-nil, append_assoc, inl, inr, ⊎_elim, refl, sym, ap, ◌∙◌, subst, arith}
+use Rattle.std.proofs.Common.{◌≡◌, ℕ, zero, suc, ◌+◌, ◌/◌, ◌<◌, ◌≤◌, List, [], ◌∷◌, ◌++◌, length, take, drop, map, flat_map, filter_map, slice_get, Option, Some, None, append-nil, append_assoc, inl, inr, ⊎_elim, refl, sym, ap, ◌∙◌, subst, arith}
 use Rattle.std.proofs.lemmas.Grind.{flat_map-append}
 use Rattle.std.proofs.lemmas.List.{take-append-drop}
 use Rattle.std.specs.List.{AllByRecursion, cons_option}
-use Rattle.std.specs.Prelude.{slice_index_or, IsSome, IsTrue, Contains}
+use Rattle.std.specs.Prelude.{slice_index_or}
 use mathlib.Core.Logic.{dite}
-use mathlib.Core.Option.{some, some-injective, some-ne-none}
 use native.Mathlib.Decide.{ℕ_discrete}
-use lib.ListN.{get_elem?}
-use Rattle.sock_words.specs.declared.plain.Plan.{Plan}
 use Rattle.sock_words.specs.declared.outcome.Outcome.{Outcome}
 use Rattle.sock_words.specs.declared.outcome.Outcome.TheVariants as outcomes
 use Rattle.brpc_model.specs.Frame.{Frame, IsFrame, frame_bytes}
@@ -22,21 +19,20 @@ use Rattle.brpc_model.specs.Causes.{HasFault}
 use Rattle.brpc_model.specs.Stream.{Rest, Fault, stream, stream_from}
 use Rattle.report_fits.proofs.Reading.{InRange}
 use Rattle.report_fits.proofs.Targets.{AreThere}
-use Rattle.sock_message.specs.Asked.{Asked, request_of, frame_of}
+use Rattle.sock_message.specs.Asked.{Asked, request_of}
 use Rattle.sock_programs.specs.declared.task.Op.TheVariants as ops
 use Rattle.sock_programs.specs.declared.task.Task.{Task}
-use Rattle.sock_programs.specs.Asides.{id_slot}
 use Rattle.sock_programs.specs.Cores.{Core}
-use Rattle.sock_programs.specs.Tasks.{opens, plan_of, id_plan_of}
+use Rattle.sock_programs.specs.Tasks.{plan_of, id_plan_of}
 use Rattle.sock_programs.specs.Told.{AskedFits, OpFits, TaskFits, IsTask, Became, Made}
 use Rattle.sock_programs.specs.ToldCalls.{Accepted, IsTaken, IsSent, OfSend, OfCall, bytes_of}
 use Rattle.sock_programs.specs.Scripts.{all_tasks, took_at_home, IsRunWithCalls}
 use Rattle.sock_causes.proofs.Members.{contains_in}
 use Rattle.sock_causes.proofs.Tasks.{one_task}
-use Rattle.joint_runs.proofs.Runs.{AreMade, first_views}
+use Rattle.joint_runs.proofs.Runs.{AreMade}
 use Rattle.owed_calls.specs.Lives.{ClosesInRun}
 use Rattle.call_causes.specs.Lists.{given, attempts_of_run}
-use Rattle.call_causes.specs.Scenes.{Scene, Birth, In, WhyOwn, WhyEnded}
+use Rattle.call_causes.specs.Scenes.{Scene, In, WhyOwn}
 use Rattle.call_causes.proofs.End.{call_of, shows_own}
 use Rattle.call_causes.proofs.Posted.{run_few_attempts}
 use Rattle.call_causes.proofs.Streams.{frames_stay, faults_more}

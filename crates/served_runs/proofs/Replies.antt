@@ -1,11 +1,11 @@
 -- In a whole run a link with the server gave the replies to all that it took, where it became a socket's before the run was ending, and its reading ended neither by a frame fault, nor by a failure, nor by its limit.
-use Rattle.std.proofs.Common.{◌≡◌, ◌≢◌, ℕ, zero, suc, ◌+◌, ◌-◌, ◌<◌, ◌≤◌, Bool, true, false, cond, List, [], ◌∷◌, ◌++◌, length, map, flat_map, replicate, get_or, append-nil, ◌⊎◌, inl, inr, ⊎_elim, refl, sym, ap, ◌∙◌, subst, arith}
+use Rattle.std.proofs.Common.{◌≡◌, ◌≢◌, ℕ, zero, suc, ◌+◌, ◌<◌, ◌≤◌, Bool, false, List, [], ◌∷◌, ◌++◌, length, map, flat_map, replicate, get_or, append-nil, inl, inr, ⊎_elim, refl, sym, ap, ◌∙◌, subst, arith}
 use Rattle.std.proofs.lemmas.Bool.{true≢false}
-use Rattle.std.proofs.lemmas.List.{length-map, length-set}
-use Rattle.std.specs.Prelude.{slice_get, slice_index_or, Some, IsTrue}
+use Rattle.std.proofs.lemmas.List.{length-map}
+use Rattle.std.specs.Prelude.{slice_get, slice_index_or, Some}
 use mathlib.Core.Option.{Option, none, some}
 use lib.ListN.{get_elem?}
-use Rattle.atomic_table.proofs.Lists.{at_set, set_else}
+use Rattle.atomic_table.proofs.Lists.{set_else}
 use Rattle.chain_laws.proofs.Lists.{at_some}
 use Rattle.sock_words.specs.declared.plain.Plan.{Plan}
 use Rattle.sock_model.specs.declared.home.Home.{Home}
@@ -15,17 +15,16 @@ use Rattle.sock_model.specs.Layout.{open_word}
 use Rattle.brpc_model.specs.Items.{Item, Shape}
 use Rattle.brpc_model.specs.Operations.{Turn, link_shapes}
 use Rattle.brpc_model.specs.Causes.{HasFault}
-use Rattle.brpc_model.specs.Served.{given_for}
-use Rattle.sock_programs.specs.Asides.{Taking, Broken}
-use Rattle.sock_programs.specs.Clients.{client_from, ending_of}
+use Rattle.sock_programs.specs.Asides.{Broken}
+use Rattle.sock_programs.specs.Clients.{client_from}
 use Rattle.sock_programs.specs.Programs.{Program, Rest, NO_SOCKET}
 use Rattle.sock_programs.specs.Readers.{LIMIT, reader}
-use Rattle.sock_programs.specs.Cores.{Core, SeatState, lies_at, link_place, resolved, next_step, waiting_at}
+use Rattle.sock_programs.specs.Cores.{Core, SeatState, lies_at, link_place}
 use Rattle.sock_programs.specs.Runs.{from_to}
 use Rattle.sock_programs.specs.Tasks.{opens, calls, plan_of, id_plan_of}
 use Rattle.sock_programs.specs.Ticks.{Moment, quiet, ticked, run}
 use Rattle.sock_programs.specs.Scripts.{sizes_of, programs, all_tasks, opened, ending, is_ending, set_up, played, taken_by, took_at_home, IsRunWithCalls}
-use Rattle.sock_runs.specs.Sound.{Sound, AllRest, views_along}
+use Rattle.sock_runs.specs.Sound.{AllRest, views_along}
 use Rattle.sock_runs.proofs.Along.{place_inside}
 use Rattle.sock_runs.proofs.Ends.{links_home}
 use Rattle.sock_runs.proofs.OpensStay.{readers_begin}
@@ -37,19 +36,19 @@ use Rattle.sock_causes.specs.Stories.{In}
 use Rattle.sock_causes.proofs.Plain.{in_left, in_right}
 use Rattle.client_laws.proofs.Beginning as clients_begin
 use Rattle.joint_runs.proofs.Runs.{AreMade, first_views}
-use Rattle.owed_calls.specs.Lives.{InHand, ClosesInRun}
+use Rattle.owed_calls.specs.Lives.{ClosesInRun}
 use Rattle.owed_calls.proofs.EndsStill.{run_ending}
 use Rattle.owed_calls.proofs.Known.{run_all_rest}
 use Rattle.whole_runs.specs.Heard.{as_taken, taken_in, heard_takes}
 use Rattle.whole_runs.proofs.HeardRuns.{taken_append}
-use Rattle.whole_runs.proofs.Lengths.{AsLong, tick_long}
+use Rattle.whole_runs.proofs.Lengths.{tick_long}
 use Rattle.call_causes.specs.Lists.{given}
 use Rattle.send_causes.proofs.Early.{Any, ends_anyhow, start, go, fitting, known}
-use Rattle.send_causes.proofs.EndedWhole.{opened_keeps, closing_keeps, closed_keeps, h₂, h₃}
+use Rattle.send_causes.proofs.EndedWhole.{opened_keeps, closing_keeps, closed_keeps}
 use Rattle.send_causes.proofs.ReaderRuns.{founds, keeps_along}
 use Rattle.served_runs.specs.Offered.{TookSoFar, offered_by, OffersInRun}
-use Rattle.served_runs.proofs.Ends.{GaveFor, IsOverSo, Holds}
-use Rattle.served_runs.proofs.Late.{IsLate, AreLate, late_first, late_on, late_put}
+use Rattle.served_runs.proofs.Ends.{IsOverSo, Holds}
+use Rattle.served_runs.proofs.Late.{AreLate, late_first, late_on, late_put}
 use Rattle.served_runs.proofs.Parts.{IsPart, part_along}
 use Rattle.served_runs.proofs.Places.{lies_before}
 use Rattle.served_runs.proofs.Readings.{Goes, IsOver}

@@ -1,5 +1,5 @@
 -- Ticks one after another keep where the reader of a link stands, and that a link of which the reading is over gave all.
-use Rattle.std.proofs.Common.{◌≡◌, ◌≢◌, ℕ, zero, suc, ◌+◌, ◌-◌, ◌<◌, ◌≤◌, ◌==◌, cond, ne_eqb, Bool, true, List, [], ◌∷◌, ◌++◌, length, map, filter, replicate, get_or, append-nil, ◌⊎◌, inl, inr, ⊎_elim, refl, sym, ap, ◌∙◌, subst, arith}
+use Rattle.std.proofs.Common.{◌≡◌, ◌≢◌, ℕ, zero, suc, ◌+◌, ◌<◌, ◌==◌, cond, ne_eqb, true, List, [], ◌∷◌, ◌++◌, length, map, filter, replicate, get_or, ⊎_elim, refl, sym, ap, ◌∙◌, subst, arith}
 use Rattle.std.specs.Prelude.{slice_get, Some}
 use mathlib.Core.Logic.{dite}
 use mathlib.Core.Option.{Option, none, some}
@@ -24,12 +24,12 @@ use Rattle.sock_causes.specs.Stories.{In}
 use Rattle.sock_causes.proofs.Plain.{in_left, in_right, in_both}
 use Rattle.whole_runs.specs.Heard.{as_taken, taken_link, taken_at, taken_in}
 use Rattle.whole_runs.proofs.HeardRuns.{taken_append}
-use Rattle.whole_runs.proofs.Lengths.{AsLong, tick_long}
+use Rattle.whole_runs.proofs.Lengths.{tick_long}
 use Rattle.send_causes.proofs.Early.{Any, ends_anyhow}
 use Rattle.send_causes.proofs.ReaderRuns.{Keeps, reader_of, view_at, state_at, keeps_ticks}
 use Rattle.send_causes.proofs.Readings.{found_by, takes_own}
 use Rattle.send_causes.proofs.Takeless.{none_taken}
-use Rattle.served_runs.specs.Offered.{OffersAt, IsOffered, AreOffered}
+use Rattle.served_runs.specs.Offered.{OffersAt, AreOffered}
 use Rattle.served_runs.proofs.Places.{IsPut}
 use Rattle.served_runs.proofs.Ends.{Holds, holds_tick}
 
