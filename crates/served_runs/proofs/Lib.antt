@@ -10,3 +10,4 @@ pub mod Opened
 pub mod Frames
 pub mod Own
 pub mod Served
+pub mod Model

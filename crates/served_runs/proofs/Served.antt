@@ -94,6 +94,7 @@ module _ (script : List Item) (made : AreMade script) (there : AreThere script) 
     became = m.became;
     shows = m.shows;
     few = m.few;
+    made = m.tried;
     replies = sym (ap reply m.frame) ∙ r.replied;
   }
 

@@ -232,12 +232,12 @@ module _ (p : Plan) (calls : List ℕ) (k o : ℕ) where
 
     -- ## Where it takes some
 
-    -- it does so of its own link, where no take found the end yet, or the link gave a frame fault
+    -- it does so of its own link, where no take found the end yet
     pub record Takes (found : Taking) : Type 0 where
       pub next : Taking → Program
       pub after : ticked p c m ≡ took_so p k c m seat next found
       pub link : taken_link seat.program ≡ k ∷ []
-      pub time : (last ≡ false) ⊎ Faults 0 g
+      pub time : last ≡ false
       pub reader : HasReader (g ++ bytes_found found) (last || is_last found) (Word c) (ticked p c m)
 
     taken_stand : (t : IsTake seat.program) → Goes k g last (Aside (TakeBytes t.link t.room) t.next)

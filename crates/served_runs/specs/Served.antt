@@ -20,7 +20,7 @@ use Rattle.sock_programs.specs.Told.{IsTask, Became, Made}
 use Rattle.sock_programs.specs.Scripts.{all_tasks, took_at_home, IsRunWithCalls}
 use Rattle.sock_causes.specs.Facts.{late_links_of_run}
 use Rattle.whole_runs.specs.Heard.{heard_takes}
-use Rattle.call_causes.specs.Lists.{given}
+use Rattle.call_causes.specs.Lists.{given, attempts_of_run}
 
 -- the request of a call under a correlation id
 abbrev pub request_with : Asked → ℕ → Frame
@@ -77,6 +77,8 @@ module _ (script : List Item) (turns : List Turn) (core : Core) (is : IsRunWithC
     pub became : Became (all_tasks script) core.outcomes task.number outcome
     pub shows : shown_id outcome ≡ Some id
     pub few : attempt + 2 ≤ asked.range
+    -- that was made
+    pub made : attempt ≤ attempts_of_run script turns core is task.number
     pub replies : reply (request_with asked (id + attempt + 1)) ≡ Some frame
 
   -- such a link gave no frame fault, and each frame that it gave is such a reply
