@@ -4,6 +4,7 @@ pub mod Ticks
 pub mod Ends
 pub mod Parts
 pub mod Runs
+pub mod Lasts
 pub mod Late
 pub mod Replies
 pub mod Opened

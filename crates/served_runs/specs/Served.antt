@@ -12,7 +12,7 @@ use Rattle.sock_words.specs.declared.outcome.Outcome.{Outcome}
 use Rattle.sock_message.specs.Asked.{Asked, meta_with}
 use Rattle.sock_programs.specs.declared.task.Op.TheVariants as ops
 use Rattle.sock_programs.specs.declared.task.Task.{Task}
-use Rattle.sock_programs.specs.Asides.{Broken}
+use Rattle.sock_programs.specs.Asides.{AtEnd, Broken}
 use Rattle.sock_programs.specs.Readers.{LIMIT}
 use Rattle.sock_programs.specs.Cores.{Core}
 use Rattle.sock_programs.specs.Tasks.{plan_of}
@@ -51,6 +51,10 @@ module _ (script : List Item) (turns : List Turn) (core : Core) (is : IsRunWithC
   -- each link with the server gave the front of them, however its reading ended
   abbrev pub GivesFront : Type 0
   GivesFront = (k : ℕ) (shape : Shape) → slice_get (link_shapes script) k ≡ Some shape → IsTrue shape.serve → (more : List ℕ) × (given core k ++ more ≡ given_for shape (took_in_all k))
+
+  -- one that gave its end gave all that belongs to what it took, and to whatever it might take besides
+  abbrev pub GivesLast : Type 0
+  GivesLast = (k : ℕ) (shape : Shape) → slice_get (link_shapes script) k ≡ Some shape → IsTrue shape.serve → Contains (heard_takes is k) AtEnd → (more : List ℕ) → given core k ≡ given_for shape (took_in_all k ++ more)
 
   -- and a link without it gave nothing
   abbrev pub GivesNothing : Type 0
