@@ -25,7 +25,7 @@ use Rattle.send_causes.proofs.EndedTicks.{seats_else}
 use Rattle.send_causes.proofs.Readings.{IsTake, takes_or_not}
 use Rattle.served_runs.specs.Offered.{IsDone, offered_by, GaveAll, GaveLast, IsOfferedSo, OffersAt, IsOffered}
 use Rattle.served_runs.proofs.Places.{IsPut, AllLay, all_lay, done_quiet, done_on}
-use Rattle.served_runs.proofs.Readings.{IsBad, bad_more, is_last}
+use Rattle.served_runs.proofs.Readings.{IsBad, is_last}
 use Rattle.served_runs.proofs.Ticks.{gave_same, gave_more, Word, HasReader, reader_word, reader_goes, Takes, reader_takes}
 
 module _ (script : List Item) (k o : ℕ) (shape : Shape) (Fails : Type 0) where

@@ -24,7 +24,7 @@ use Rattle.sock_causes.specs.Stories.{In}
 use Rattle.sock_causes.proofs.Plain.{in_both}
 use Rattle.whole_runs.specs.Heard.{as_taken, taken_link, taken_at, taken_in, bytes_found}
 use Rattle.whole_runs.proofs.HeardRuns.{taken_append}
-use Rattle.whole_runs.proofs.Lengths.{AsLong, tick_long}
+use Rattle.whole_runs.proofs.Lengths.{tick_long}
 use Rattle.call_causes.specs.Lists.{given}
 use Rattle.send_causes.proofs.Early.{Any, ends_anyhow}
 use Rattle.send_causes.proofs.EndedTicks.{seats_else}
@@ -34,7 +34,7 @@ use Rattle.served_runs.specs.Offered.{offered_by, GaveLast, IsOfferedSo, OffersA
 use Rattle.served_runs.proofs.Places.{all_lay}
 use Rattle.served_runs.proofs.Readings.{is_last}
 use Rattle.served_runs.proofs.Runs.{Kept, others_none}
-use Rattle.served_runs.proofs.Ticks.{gave_same, gave_more, Word, HasReader, reader_word, reader_goes, Takes, reader_takes}
+use Rattle.served_runs.proofs.Ticks.{gave_same, gave_more, Word, HasReader, reader_word, reader_goes, reader_takes}
 
 last_found : (b : Bool) → at_last b AtEnd ≡ AtEnd
 last_found true = refl
@@ -126,8 +126,10 @@ module _ (script : List Item) (k o : ℕ) (shape : Shape) where
             by (some seat) e z = subst (λ l. In AtEnd (as_taken (map (λ (j : ℕ). m.answer) l))) (each seat e) z
 
         found : Taken last → Behind next
-        found t = (subst (λ b. Reader b next) (ap (λ a. last || is_last (at_last c.calls.ending a)) is_end ∙ (ap (λ a. last || is_last a) (last_found c.calls.ending) ∙ or_true last)) t.reader,
-            last_on (t.gave ∙ (ap (λ a. given c k ++ bytes_found (at_last c.calls.ending a)) is_end ∙ (ap (λ a. given c k ++ bytes_found a) (last_found c.calls.ending) ∙ append-nil (given c k)))) (subst (IsOfferedSo (plan_of script) shape c k) is_end offers))
+        found t = (
+          subst (λ b. Reader b next) (ap (λ a. last || is_last (at_last c.calls.ending a)) is_end ∙ (ap (λ a. last || is_last a) (last_found c.calls.ending) ∙ or_true last)) t.reader,
+          last_on (t.gave ∙ (ap (λ a. given c k ++ bytes_found (at_last c.calls.ending a)) is_end ∙ (ap (λ a. given c k ++ bytes_found a) (last_found c.calls.ending) ∙ append-nil (given c k)))) (subst (IsOfferedSo (plan_of script) shape c k) is_end offers),
+        )
           where
             shown : In AtEnd (as_taken (m.answer ∷ []))
             shown = subst (λ b. In AtEnd (as_taken (map (λ (j : ℕ). m.answer) (cond b (k ∷ []) [])))) (eq-eqb k k refl) (subst (λ l. In AtEnd (as_taken (map (λ (j : ℕ). m.answer) (filter (λ j. j == k) l)))) t.link

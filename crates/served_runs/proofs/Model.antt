@@ -1,12 +1,12 @@
 -- The same by the lines of the script: of links that no `send` names, and of calls by their operations.
-use Rattle.std.proofs.Common.{◌≡◌, ℕ, ◌+◌, ◌<◌, ◌≤◌, List, Option, Some, None, refl, sym, ap, ◌∙◌, subst, arith}
+use Rattle.std.proofs.Common.{◌≡◌, ℕ, ◌+◌, List, Option, Some, None, refl, sym, ap, ◌∙◌, subst, arith}
 use Rattle.std.specs.List.{AllByRecursion}
 use Rattle.std.specs.Prelude.{pos, slice_get, option_map, IsSome, IsTrue, Contains}
 use Rattle.sock_words.specs.declared.outcome.Outcome.{Outcome}
 use Rattle.brpc_model.specs.Attempts.{IsResponse}
 use Rattle.brpc_model.specs.Causes.{HasFault}
 use Rattle.brpc_model.specs.Frame.{Frame}
-use Rattle.brpc_model.specs.Items.{Item, Shape, CallLine, Open, Send, Call}
+use Rattle.brpc_model.specs.Items.{Item, Shape, CallLine, Send, Call}
 use Rattle.brpc_model.specs.Messages.{shown_id, request_frame}
 use Rattle.brpc_model.specs.Meta.{RequestMeta}
 use Rattle.brpc_model.specs.Operations.{Turn, Operation, operations, link_names, link_shapes}
@@ -29,7 +29,7 @@ use Rattle.joint_runs.proofs.Runs.{AreMade}
 use Rattle.owed_calls.specs.Lives.{ClosesInRun}
 use Rattle.call_causes.specs.Lists.{given}
 use Rattle.served_runs.specs.Offered.{OffersInRun}
-use Rattle.served_runs.specs.Served.{IsForCalls, IsReplyToCall, request_with}
+use Rattle.served_runs.specs.Served.{IsForCalls, request_with}
 use Rattle.served_runs.proofs.Served.{gives_no_fault, gives_call_replies, gives_own_replies}
 
 -- no `send` of the script is to the name of link k

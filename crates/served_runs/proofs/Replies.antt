@@ -299,8 +299,8 @@ module _ (script : List Item) (made : AreMade script) (turns : List Turn) (core 
     gives_part = let x = part_over home.took there in (x.0, x.1 ∙ ap (offered_by shape) (sym took_is))
 
     -- and where it gave its end, all that belongs to that and to whatever may come
-    pub gives_last : In AtEnd (heard_takes is k) → (more : List ℕ) → given core k ≡ offered_by shape (slice_index_or (took_at_home (plan_of script) core.homes) k [] ++ more)
-    gives_last end_ more = (last_taken end_).1 home.took more there ∙ ap (λ l. offered_by shape (l ++ more)) (sym took_is)
+    pub gives_at_end : In AtEnd (heard_takes is k) → (more : List ℕ) → given core k ≡ offered_by shape (slice_index_or (took_at_home (plan_of script) core.homes) k [] ++ more)
+    gives_at_end end_ more = (last_taken end_).1 home.took more there ∙ ap (λ l. offered_by shape (l ++ more)) (sym took_is)
 
     seat_there : (s : SeatState) × (get_elem? core.seats (32 + k) ≡ some s)
     seat_there = at_some core.seats (32 + k) seat_low

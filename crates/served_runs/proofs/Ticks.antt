@@ -25,7 +25,6 @@ use Rattle.sock_programs.specs.Ticks.{Answer, OfPut, OfReady, OfTake, Moment, ta
 use Rattle.sock_runs.specs.Sound.{first_step}
 use Rattle.whole_runs.specs.Heard.{taken_link, bytes_found}
 use Rattle.call_causes.specs.Lists.{given}
-use Rattle.send_causes.proofs.Faults.{Faults}
 use Rattle.send_causes.proofs.Readings.{IsTake, ticks_first}
 use Rattle.served_runs.proofs.Readings.{Goes, is_last, goes_first, goes_next, begins_reading}
 
