@@ -86,7 +86,7 @@ module _ (script : List Item) (made : AreMade script) (there : AreThere script) 
   shows_none w c before asked _ i why is = absurd why
 
   -- an id that an outcome shows is one of the table
-  id_small : (client : ℕ) (t : Task) (asked : Asked) (x : Outcome) (id : ℕ) → Task_ client t → t.op ≡ ops.Call asked → Became (all_tasks script) core.outcomes t.number x → shown_id x ≡ Some id → id < 281474976710656
+  pub id_small : (client : ℕ) (t : Task) (asked : Asked) (x : Outcome) (id : ℕ) → Task_ client t → t.op ≡ ops.Call asked → Became (all_tasks script) core.outcomes t.number x → shown_id x ≡ Some id → id < 281474976710656
   id_small client t asked x id it op became shows = let h = run_has_story script made there range turns core is in let ended = run_has_ended script made there range turns core is closes in
       ⊎_elim (λ s. absurd (shows_none h.scene client s.0 asked x id s.1 shows))
       (λ b. let births = ended.births in let low = (births.born (record { id = b.0; asked = asked }) b.1).0 in
@@ -97,7 +97,7 @@ module _ (script : List Item) (made : AreMade script) (there : AreThere script) 
 
   -- ## Requests
 
-  asked_fits : (client : ℕ) (t : Task) (asked : Asked) → Task_ client t → t.op ≡ ops.Call asked → AskedFits (plan_of script) asked
+  pub asked_fits : (client : ℕ) (t : Task) (asked : Asked) → Task_ client t → t.op ≡ ops.Call asked → AskedFits (plan_of script) asked
   asked_fits client t asked it op = let fits = (let are = made.are in are.fit) in let mine : AllByRecursion (TaskFits (plan_of script)) it.0 = get_all (AllByRecursion (TaskFits (plan_of script))) (all_tasks script) fits client it.0 it.1 in
       subst (OpFits (plan_of script)) op (all_in (TaskFits (plan_of script)) it.0 t mine (contains_in it.0 t it.2)).1
 
@@ -114,6 +114,7 @@ module _ (script : List Item) (made : AreMade script) (there : AreThere script) 
     pub became : Became (all_tasks script) core.outcomes task.number outcome
     pub shows : shown_id outcome ≡ Some id
     pub few : attempt + 2 ≤ asked.range
+    pub tried : attempt ≤ attempts_of_run script turns core is task.number
     pub small : IsSmall asked id attempt
     pub frame : f ≡ request_of asked id attempt
 
@@ -127,7 +128,7 @@ module _ (script : List Item) (made : AreMade script) (there : AreThere script) 
     sent_piece a (OfCall client t asked outcome id slot version it number op became shows last bytes life) = record {
       frame = request_of asked id a.attempt;
       is = subst (λ b. IsFrame b (request_of asked id a.attempt)) (sym bytes) (request_is asked id a.attempt small);
-      holds = record { client = client; task = t; asked = asked; outcome = outcome; id = id; attempt = a.attempt; is_task = it; op = op; became = became'; shows = shows; few = few; small = small; frame = refl };
+      holds = record { client = client; task = t; asked = asked; outcome = outcome; id = id; attempt = a.attempt; is_task = it; op = op; became = became'; shows = shows; few = few; tried = tried; small = small; frame = refl };
     }
       where
         became' : Became (all_tasks script) core.outcomes t.number outcome
@@ -135,6 +136,9 @@ module _ (script : List Item) (made : AreMade script) (there : AreThere script) 
 
         few : a.attempt + 2 ≤ asked.range
         few = let n = run_few_attempts script made there range turns core is client t asked it op in let same = ap (attempts_of_run script turns core is) number in omega (arith, n, same, last)
+
+        tried : a.attempt ≤ attempts_of_run script turns core is t.number
+        tried = let same = ap (attempts_of_run script turns core is) number in omega (arith, same, last)
 
         small : IsSmall asked id a.attempt
         small = let f = asked_fits client t asked it op in record { short = f.short id a.attempt; low = (let i = id_small client t asked outcome id it op became' shows in let r = f.range_high in omega (arith, i, r, few)) }

@@ -67,7 +67,7 @@ module _ (script : List Item) (in_os : (k o : ℕ) → get_elem? (opens script) 
   Kept c vs h = Keeps (plan_of script) (calls script) (opens script) in_os Any (Unit {0}) ends_anyhow c vs h
 
   -- no seat but its reader takes bytes of a link
-  others_none : (c : Core) (vs : List View) (h : ℕ → List Taking) → Sound (plan_of script) c vs → Kept c vs h → (j : ℕ) (seat : SeatState) → get_elem? c.seats j ≡ some seat → (n : ℕ) → j ≢ 32 + n → filter (λ l. l == n) (taken_link seat.program) ≡ []
+  pub others_none : (c : Core) (vs : List View) (h : ℕ → List Taking) → Sound (plan_of script) c vs → Kept c vs h → (j : ℕ) (seat : SeatState) → get_elem? c.seats j ≡ some seat → (n : ℕ) → j ≢ 32 + n → filter (λ l. l == n) (taken_link seat.program) ≡ []
   others_none c vs h sound k j seat at n far = dite (dec_le 32 j)
       (λ high. let r = reader_of (plan_of script) (calls script) (opens script) in_os Any (Unit {0}) ends_anyhow c vs h k j seat at high in let v = view_at (plan_of script) (calls script) (opens script) in_os Any (Unit {0}) ends_anyhow c vs sound j seat at in
       ⊎_elim (λ e. ap (filter (λ l. l == n)) e)

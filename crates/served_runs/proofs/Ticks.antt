@@ -25,7 +25,6 @@ use Rattle.sock_programs.specs.Ticks.{Answer, OfPut, OfReady, OfTake, Moment, ta
 use Rattle.sock_runs.specs.Sound.{first_step}
 use Rattle.whole_runs.specs.Heard.{taken_link, bytes_found}
 use Rattle.call_causes.specs.Lists.{given}
-use Rattle.send_causes.proofs.Faults.{Faults}
 use Rattle.send_causes.proofs.Readings.{IsTake, ticks_first}
 use Rattle.served_runs.proofs.Readings.{Goes, is_last, goes_first, goes_next, begins_reading}
 
@@ -232,12 +231,12 @@ module _ (p : Plan) (calls : List ℕ) (k o : ℕ) where
 
     -- ## Where it takes some
 
-    -- it does so of its own link, where no take found the end yet, or the link gave a frame fault
+    -- it does so of its own link, where no take found the end yet
     pub record Takes (found : Taking) : Type 0 where
       pub next : Taking → Program
       pub after : ticked p c m ≡ took_so p k c m seat next found
       pub link : taken_link seat.program ≡ k ∷ []
-      pub time : (last ≡ false) ⊎ Faults 0 g
+      pub time : last ≡ false
       pub reader : HasReader (g ++ bytes_found found) (last || is_last found) (Word c) (ticked p c m)
 
     taken_stand : (t : IsTake seat.program) → Goes k g last (Aside (TakeBytes t.link t.room) t.next)
