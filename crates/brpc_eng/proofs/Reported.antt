@@ -13,8 +13,9 @@ use Rattle.brpc_model.specs.ScriptText.{script_text}
 use Rattle.brpc_model.specs.Link.{LinkEnd}
 use Rattle.brpc_model.specs.PlaceWords.{took_at, IsLineOf}
 use Rattle.brpc_model.specs.Run.{Lateness, nothing_late}
+use Rattle.brpc_model.specs.Fits.{Fits}
 use Rattle.brpc_model.specs.Complete.{FitsWhole}
-use Rattle.sock_programs.specs.Scripts.{is_callless, drawn_turns, place_words, Reports}
+use Rattle.sock_programs.specs.Scripts.{drawn_turns, place_words, Reports}
 use Rattle.sock_programs.specs.Tasks.{plan_of}
 use Rattle.sock_programs.specs.ToldCalls.{Fixed}
 use Rattle.report_fits.proofs.Lists.{within, has_from, has_none}
@@ -26,9 +27,9 @@ use Rattle.whole_runs.proofs.Gave.{same_takes}
 use Rattle.whole_runs.proofs.Lengths.{ended_length}
 use Rattle.script_run.specs.Causes.{gave_in}
 use Rattle.script_run.specs.Given.{AreNumbered, IsBeginning, specs_of}
-use Rattle.script_run.specs.Played.{IsRunText, IsRunSummary, IsCaused}
+use Rattle.script_run.specs.Played.{IsRunText, IsRunSummary}
 use Rattle.brpc_eng.specs.Answers as answer
-use Rattle.brpc_eng.proofs.Untroubled.{callless_fits}
+use Rattle.brpc_eng.proofs.Untroubled.{told_fits, callless_fits}
 
 -- two texts of runs
 same_text : (turns : List Turn) (script : List Item) (a b : List ℕ) (xs ys : List LinkEnd) (r : IsRunText script turns a xs) (s : IsRunText script turns b ys) → r.took ≡ s.took → answer.SameAnswers r.whole.run s.whole.run → a ≡ b
@@ -97,18 +98,18 @@ in_time script fixed none_ = record {
 }
 
 module _ (turns : List Turn) (bytes : List ℕ) (script : List Item) (reads : script_of bytes ≡ Ok script) (ends : List LinkEnd) (text : List ℕ) (is : IsRunText script turns text ends) where
-  abbrev Fits : Type 0
-  Fits = (late : Lateness) × (is_callless script ≡ true → late ≡ nothing_late) × FitsWhole script text ends late
-
-  -- where all causes are known, the report of the text fits
-  fits : is_callless script ≡ true → IsCaused script turns is.whole.core is.whole.run ends → Fits
-  fits callless c =
-      let w = is.whole in let causes = c.0 in (
+  -- the report of the text fits
+  fits : answer.IsFitting is
+  fits =
+      let w = is.whole in let causes = is.causes.0 in
+      let long = ended_length bytes script reads turns w.core w.run in (
         lateness causes.fixed,
+        causes.late,
         causes.none_late,
-        subst (λ (x : List ℕ). FitsWhole script x ends (lateness causes.fixed)) (sym is.is_text)
-            (callless_fits bytes script reads w.core causes.fixed (gave_in w.core) causes.orders (ended_length bytes script reads turns w.core w.run) causes.tells callless
-            (in_time script causes.fixed (causes.none_late callless)) is.report is.took ends is.reports is.told c.1),
+        subst (λ (x : List ℕ). Fits script x ends (lateness causes.fixed)) (sym is.is_text)
+            (told_fits bytes script reads w.core causes.fixed (gave_in w.core) causes.orders long causes.tells is.report is.took ends is.reports is.told is.causes.1),
+        λ callless. subst (λ (x : List ℕ). FitsWhole script x ends (lateness causes.fixed)) (sym is.is_text)
+            (callless_fits bytes script reads w.core causes.fixed (gave_in w.core) causes.orders long causes.tells is.report is.took ends is.reports is.told is.causes.1 callless (in_time script causes.fixed (causes.none_late callless))),
       )
 
   -- and it is the only one
@@ -122,7 +123,7 @@ pub ran_reported : (turns : List Turn) (bytes : List ℕ) (script : List Item) (
 ran_reported turns bytes script text text' out links status reads ran t wrote =
     let report : links.prompt ≡ true → links.tells → IsRunText script turns text' links.ends = λ q tells. subst (λ (x : List ℕ). IsRunText script turns x links.ends) (sym t) (ran q tells) in
     answer.Reported text'
-    (λ q tells callless. let r = report q tells in fits turns bytes script reads links.ends text' r callless (r.causes callless))
+    (λ q tells. let r = report q tells in (r, fits turns bytes script reads links.ends text' r))
     (λ q tells. only turns bytes script reads links.ends text' (report q tells)) wrote
 
 -- ## A summary
@@ -143,12 +144,12 @@ pub load_ran : (seed clients count drawn : ℕ) (script : List Item) (text text'
 load_ran seed clients count drawn script text text' out links status made same reads ran t wrote = answer.LoadSummed text' (subst Sums made sums) wrote
   where
     Sums : List Item → Type 0
-    Sums s = links.prompt ≡ true → links.tells → (whole : List ℕ) × answer.IsReport links s whole × answer.IsOnlyText links.ends s (drawn_turns s seed) whole × answer.SumsUp seed clients count s whole text'
+    Sums s = links.prompt ≡ true → links.tells → (whole : List ℕ) × answer.IsReport links s (drawn_turns s seed) whole × answer.IsOnlyText links.ends s (drawn_turns s seed) whole × answer.SumsUp seed clients count s whole text'
 
     sums : Sums script
     sums q tells = let r = ran q tells in let is = subst (λ d. IsRunText script (drawn_turns script d) r.whole links.ends) same r.reported in (
       r.whole,
-      (λ q tells callless. fits (drawn_turns script drawn) (script_text script) script reads links.ends r.whole r.reported callless (r.reported.causes callless)),
+      (λ q tells. (is, fits (drawn_turns script seed) (script_text script) script reads links.ends r.whole is)),
       only (drawn_turns script seed) (script_text script) script reads links.ends r.whole is,
       (r.reported.report, r.reported.is_text, t ∙ r.sums),
     )

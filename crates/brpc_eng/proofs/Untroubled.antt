@@ -1,4 +1,4 @@
--- Where nothing went wrong, a report of a script without calls is complete, whatever servers its links have: a `send` goes to a link without one.
+-- The report of a run of which all is told fits. Where nothing went wrong, that of a script without calls is complete, whatever servers its links have: a `send` goes to a link without one.
 use Rattle.std.proofs.Common.{◌≡◌, ℕ, zero, suc, ◌*◌, ◌<◌, ◌⊎◌, inl, inr, Bool, true, false, if◌then◌else◌, List, [], ◌∷◌, length, slice_get, nat_lt, nat_le, option_and_then, Option, Some, Ok, Contains, refl, ap, sym, ◌∙◌, subst, arith}
 use Rattle.std.proofs.lemmas.Bool.Decides.{nat_tests}
 use Rattle.std.proofs.lemmas.List.{nil_from_length}
@@ -15,6 +15,7 @@ use Rattle.brpc_model.specs.Report.{Report, report_text}
 use Rattle.brpc_model.specs.PlaceWords.{word_at, outcome_by_word}
 use Rattle.brpc_model.specs.Run.{Run, IsOperation, HasOutcome, IsLinkOf}
 use Rattle.brpc_model.specs.Outcomes.{SendCause, Cause}
+use Rattle.brpc_model.specs.Fits.{Fits}
 use Rattle.brpc_model.specs.Complete.{Completeness, FitsWhole, IsUntroubled, IsSilentUnserved, SendDone}
 use Rattle.sock_programs.specs.declared.task.Op.TheVariants as ops
 use Rattle.sock_programs.specs.Cores.{Core}
@@ -167,10 +168,15 @@ complete g callless in_time untroubled = record {
   calls = λ i op call name o there item has first served unexpired. absurd (no_call g.run.script callless call (known.in_script g.run i op there (Call call) item));
 }
 
--- of a script without calls, in whose run nothing comes late, the report fits, and where nothing went wrong it is complete
-pub callless_fits : (bytes : List ℕ) (script : List Item) (reads : script_of bytes ≡ Ok script) (core : Core) (fixed : Fixed) (gave : ℕ → List ℕ) (orders : ℕ → Order) (long : length core.outcomes ≡ length (operations script))
-    (tells : ToldCalls (plan_of script) (all_tasks script) core.outcomes fixed gave orders core) → is_callless script ≡ true → IsInTime script fixed →
-    (report : Report) (took : List (List ℕ)) (ends : List LinkEnd) → Reports script core took report → AreTold ends took → AreEndsOf script core fixed gave ends → FitsWhole script (report_text script report) ends (lateness fixed)
-callless_fits bytes script reads core fixed gave orders long tells callless in_time report took ends reports told given =
-    let g : Given = record { run = known_of bytes script reads core fixed gave orders long tells; report = report; took = took; ends = ends; reports = reports; told = told; given = given } in
-    (report, lives.story_of g, refl, (fits_run g, complete g callless in_time))
+module _ (bytes : List ℕ) (script : List Item) (reads : script_of bytes ≡ Ok script) (core : Core) (fixed : Fixed) (gave : ℕ → List ℕ) (orders : ℕ → Order) (long : length core.outcomes ≡ length (operations script))
+    (tells : ToldCalls (plan_of script) (all_tasks script) core.outcomes fixed gave orders core) (report : Report) (took : List (List ℕ)) (ends : List LinkEnd) (reports : Reports script core took report) (told : AreTold ends took) (given : AreEndsOf script core fixed gave ends) where
+  abbrev all_given : Given
+  all_given = record { run = known_of bytes script reads core fixed gave orders long tells; report = report; took = took; ends = ends; reports = reports; told = told; given = given }
+
+  -- its report fits
+  pub told_fits : Fits script (report_text script report) ends (lateness fixed)
+  told_fits = (report, lives.story_of all_given, refl, fits_run all_given)
+
+  -- and that of a script without calls, in whose run nothing comes late, is complete where nothing went wrong
+  pub callless_fits : is_callless script ≡ true → IsInTime script fixed → FitsWhole script (report_text script report) ends (lateness fixed)
+  callless_fits callless in_time = (report, lives.story_of all_given, refl, (fits_run all_given, complete all_given callless in_time))

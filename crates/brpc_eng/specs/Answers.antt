@@ -11,6 +11,7 @@ use Rattle.brpc_model.specs.Script.{script_of}
 use Rattle.brpc_model.specs.Link.{LinkEnd}
 use Rattle.brpc_model.specs.Run.{Lateness, nothing_late}
 use Rattle.brpc_model.specs.Report.{Report, report_text}
+use Rattle.brpc_model.specs.Fits.{Fits}
 use Rattle.brpc_model.specs.Complete.{FitsWhole}
 use Rattle.script_report.specs.Sums.{told_of, sums_of, summary_text}
 use Rattle.sock_io.specs.Causes.{Rose}
@@ -25,7 +26,7 @@ use Rattle.sock_programs.specs.Scripts.{IsRunWithCalls, is_callless, drawn_turns
 use Rattle.whole_runs.specs.Heard.{as_told, heard_of, heard_takes}
 use Rattle.sock_io.specs.declared.link.LinkSpec.{LinkSpec}
 use Rattle.script_run.specs.Given.{AreNumbered, AreUntouched, IsBeginning, specs_of}
-use Rattle.script_run.specs.Causes.{AsFarAsTold}
+use Rattle.script_run.specs.Causes.{CameLate, late_in}
 use Rattle.script_run.specs.Played.{IsRunText}
 use Rattle.brpc_eng.specs.Streams.{script_limit, IsAtEnd}
 
@@ -100,10 +101,15 @@ fault_text line kind = codes "script fault line " ++ decimal line ++ codes " kin
 
 -- ## A script that was read
 
--- there, as far as causes are proved, the text reports a run of the script over the links given back, whatever servers they have: it fits, and where
--- nothing went wrong every send is placed; in a script without calls nothing comes late
-abbrev pub IsReport : Links → List Item → List ℕ → Type 0
-IsReport links script text = links.prompt ≡ true → links.tells → AsFarAsTold script ((late : Lateness) × (is_callless script ≡ true → late ≡ nothing_late) × FitsWhole script text links.ends late)
+-- the report fits the script and the links given back, whatever servers they have; what counts as late there came late in that run. Without calls nothing
+-- counts as late, and where nothing went wrong every send is placed
+abbrev pub IsFitting : {script : List Item} {turns : List Turn} {text : List ℕ} {ends : List LinkEnd} → IsRunText script turns text ends → Type 0
+IsFitting {script} {turns} {text} {ends} is = (late : Lateness) × CameLate late (late_in script turns is.whole.core is.whole.run) × (is_callless script ≡ true → late ≡ nothing_late)
+    × Fits script text ends late × (is_callless script ≡ true → FitsWhole script text ends late)
+
+-- where the links are prompt and tell whether they are found closed, the text reports a run of the script by these lines, and fits
+abbrev pub IsReport : Links → List Item → List Turn → List ℕ → Type 0
+IsReport links script turns text = links.prompt ≡ true → links.tells → (is : IsRunText script turns text links.ends) × IsFitting is
 
 -- links that tell all that they took, gave and answered
 pub record TellsAll (e : LinkEnd) : Type 0 where
@@ -138,7 +144,7 @@ TextWritten out text status = ((status ≡ 0) × WroteAll out text) ⊎ ((status
 
 -- how the run of a script ends
 pub data Ran (turns : List Turn) (script : List Item) (out : Output) (links : Links) (status : ℕ) : Type 0 where
-  Reported : (text : List ℕ) → IsReport links script text → IsTextOfRun links script turns text → TextWritten out text status → Ran turns script out links status
+  Reported : (text : List ℕ) → IsReport links script turns text → IsTextOfRun links script turns text → TextWritten out text status → Ran turns script out links status
   MemoryRanOut : status ≡ 7 → WroteNothing out → Ran turns script out links status
   -- the links that were opened before are given back, and nothing was done with them
   OpenFailed : status ≡ 8 → HaveRisen links.faults → AreUntouched 0 links.ends → WroteNothing out → Ran turns script out links status
@@ -181,7 +187,7 @@ SumsUp seed clients count script whole text = (report : Report) × (whole ≡ re
 -- where the links are prompt and tell whether they are found closed, it is the summary of a report that `sim` with the same seed may write of the drawn script
 abbrev pub IsSummary : Links → ℕ → ℕ → ℕ → List ℕ → Type 0
 IsSummary links seed clients count text = let script = generated seed clients count in
-    links.prompt ≡ true → links.tells → (whole : List ℕ) × IsReport links script whole × IsOnlyText links.ends script (drawn_turns script seed) whole × SumsUp seed clients count script whole text
+    links.prompt ≡ true → links.tells → (whole : List ℕ) × IsReport links script (drawn_turns script seed) whole × IsOnlyText links.ends script (drawn_turns script seed) whole × SumsUp seed clients count script whole text
 
 -- how the run of the drawn script ends
 pub data LoadRan (seed clients count : ℕ) (out : Output) (links : Links) (status : ℕ) : Type 0 where

@@ -1,5 +1,5 @@
 -- What becomes of an `open`.
-use Rattle.std.specs.Prelude.{◌≡◌, ℕ, ◌+◌, Some, None}
+use Rattle.std.specs.Prelude.{◌≡◌, ℕ, ◌+◌, ◌<◌, Some, None}
 use Rattle.atomic_table.specs.Table.{Me}
 use Rattle.sock_words.specs.declared.plain.Plan.{Plan}
 use Rattle.sock_words.specs.declared.outcome.Outcome.{Outcome}
@@ -21,6 +21,8 @@ pub record GotNone {S : Type 0} (p : Plan) (operation : ℕ) (m n : Me S View) :
 
 -- the life of this id was made with the pass of this link, noted for the operation, and published under the name
 pub record GotOne {S : Type 0} (p : Plan) (name operation link : ℕ) (id : SocketId) (m n : Me S View) : Type 0 where
+  -- its slot is one of the table
+  pub inside : socket_id_slot id.0 < p.slots
   pub made : Me S View
   pub created : Created id.0 link m.0 made.0
   pub told : Me S View

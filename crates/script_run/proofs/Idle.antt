@@ -1,10 +1,10 @@
 -- In a script without calls each client is at rest where the ending begins.
-use Rattle.std.proofs.Common.{◌≡◌, ℕ, ◌+◌, ◌<◌, ◌≤◌, true, false, List, [], ◌∷◌, ◌++◌, length, Ok, refl, sym, ap, ◌∙◌, subst, arith}
+use Rattle.std.proofs.Common.{◌≡◌, ℕ, ◌+◌, ◌<◌, ◌≤◌, true, false, List, [], ◌∷◌, ◌++◌, length, Ok, refl, sym, ap, subst, arith}
 use Rattle.std.proofs.lemmas.Bool.{true≢false}
 use Rattle.std.specs.Prelude as std
 use Rattle.std.specs.Prelude.{if◌then◌else◌}
 use Rattle.brpc_model.specs.Items.{Item, Call, is_call}
-use Rattle.brpc_model.specs.Operations.{Turn, clients, link_names}
+use Rattle.brpc_model.specs.Operations.{Turn, clients}
 use Rattle.brpc_model.specs.Script.{script_of}
 use Rattle.sock_programs.specs.Cores.{Core}
 use Rattle.sock_programs.specs.Runs.{IsAtRest}

@@ -8,6 +8,5 @@ pub mod Saying
 pub mod Callless
 pub mod Silent
 pub mod Idle
-pub mod Placed
 pub mod Told
 pub mod Texts

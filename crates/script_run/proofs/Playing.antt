@@ -4,7 +4,6 @@ use Rattle.std.proofs.Props.{props}
 use Rattle.std.proofs.Math.Logic.{∥∥₁_elim}
 use Rattle.std.proofs.lemmas.List.{length-map}
 use Rattle.sock_words.specs.declared.kind.Kind.{Kind}
-use Rattle.sock_words.specs.declared.plain.Plan.{Plan}
 use Rattle.sock_words.specs.KindText.{kind_text}
 use Rattle.brpc_model.specs.Link.{LinkEnd}
 use Rattle.sock_programs.specs.Cores.{Core}
@@ -14,7 +13,7 @@ use Rattle.sock_core.specs.declared.machine.Tick.{Tick}
 use Rattle.sock_core.specs.declared.machine.Tick.TheVariants.{Idle}
 use Rattle.sock_core.specs.Links.{Taken, Given}
 use Rattle.sock_core.specs.Machines.{MachineState, HasSizes, core_with}
-use Rattle.sock_core.specs.Runs.{SameLink, SameLinks, SameTable, Ticked, Led}
+use Rattle.sock_core.specs.Runs.{SameLink, SameLinks, Ticked, Led}
 use Rattle.sock_core.proofs.Joining.{same_table_none, same_links_none, follows_none, follows_join, made_join}
 use Rattle.sock_core.specs.Driving.{FirstRests}
 use Rattle.sock_core.proofs.Resting.{Rests, idle_ran, beyond_rests}

@@ -8,7 +8,7 @@ use Rattle.sock_words.specs.declared.plain.Plan.{Plan}
 use Rattle.brpc_model.specs.Items.{Item}
 use Rattle.brpc_model.specs.Operations.{Turn, clients}
 use Rattle.sock_programs.specs.Cores.{Core, SeatState}
-use Rattle.sock_programs.specs.Ticks.{Answer, Moment, quiet, seats_of, run, AreAnswered, IsPrompt, broken_in}
+use Rattle.sock_programs.specs.Ticks.{Answer, Moment, quiet, run, AreAnswered, IsPrompt, broken_in}
 use Rattle.sock_programs.specs.Runs.{IsAtRest, Scheduled, from_to, kind_in}
 use Rattle.sock_programs.specs.Scripts as scripts
 use Rattle.sock_programs.specs.Scripts.{IsRunWithCalls, Settles, AreStill, round_of, ticks_of, opened, set_up, is_ending, ending}

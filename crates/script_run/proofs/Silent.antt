@@ -1,5 +1,5 @@
 -- In a script without calls readers and the ending say nothing, so that behind the schedule's rounds no outcome comes and no link gets a socket.
-use Rattle.std.proofs.Common.{◌≡◌, ◌≢◌, ℕ, zero, suc, ◌+◌, ◌-◌, ◌%◌, ◌<◌, ◌≤◌, ◌==◌, ◌&&◌, ◌⊎◌, inl, inr, ⊎_elim, nat_lt, nat_le, le-ltb, Bool, true, false, cond, List, [], ◌∷◌, ◌++◌, length, map, filter, replicate, refl, sym, ap, ◌∙◌, subst, arith}
+use Rattle.std.proofs.Common.{◌≡◌, ◌≢◌, ℕ, zero, suc, ◌+◌, ◌-◌, ◌%◌, ◌<◌, ◌≤◌, ◌==◌, ◌&&◌, ◌⊎◌, inl, inr, ⊎_elim, nat_lt, nat_le, le-ltb, Bool, true, false, cond, List, [], ◌∷◌, ◌++◌, length, filter, replicate, refl, sym, ap, ◌∙◌, subst, arith}
 use Rattle.std.specs.Prelude as std
 use Rattle.std.specs.Prelude.{slice_get, slice_set}
 use Rattle.std.proofs.lemmas.List.{length-map}
@@ -26,15 +26,15 @@ use Rattle.sock_programs.specs.Calls.{Call, GiveBirth}
 use Rattle.sock_programs.specs.Clients.{client_from, ending_of}
 use Rattle.sock_programs.specs.Cores.{Core, SeatState, resolved, said, next_step, waiting_at}
 use Rattle.sock_programs.specs.Drops.{call_in}
-use Rattle.sock_programs.specs.Heads.{Head, Exit, Retry, Opens, Reads, Discards, Reading, Ended}
-use Rattle.sock_programs.specs.Programs.{Program, Do, Say, Sent, Rest, TakeMessage, TakeHome, PutHome, PutBytes, AskReady, Write, Aside, Round, Keep, Retries, LAST_VERSION, NO_SOCKET, recycle, release, address, set_failed, end_open}
-use Rattle.sock_programs.specs.Readers.{LIMIT, has_response, slot_in, responses, read_on, took, took_bytes, discarded, thrown_away, read, reader}
-use Rattle.sock_programs.specs.Scripts.{IsRunWithCalls, all_programs, programs, readers_from, sizes_of, all_tasks, opened, set_up, played, ending, is_ending}
+use Rattle.sock_programs.specs.Heads.{Retry, Opens, Reads, Discards, Reading, Ended}
+use Rattle.sock_programs.specs.Programs.{Program, Do, Rest, TakeMessage, TakeHome, PutHome, PutBytes, AskReady, Write, Aside, Round, LAST_VERSION, NO_SOCKET, recycle, release, address, set_failed}
+use Rattle.sock_programs.specs.Readers.{LIMIT, has_response, slot_in, responses, read_on, took, discarded, thrown_away, read, reader}
+use Rattle.sock_programs.specs.Scripts.{IsRunWithCalls, all_programs, programs, readers_from, sizes_of, all_tasks, opened, set_up, played, ending}
 use Rattle.sock_programs.specs.Tasks.{calls, opens, plan_of, id_plan_of}
 use Rattle.sock_programs.specs.Ticks.{Answer, OfPut, OfReady, Moment, quiet, taken, ticked, run, step_with, tick_with, with_message, with_link, with_put, with_ready, with_found}
 use Rattle.sock_runs.specs.Sound.{first_step}
 use Rattle.sock_runs.proofs.Opening.{mapped}
-use Rattle.sock_causes.specs.Facts.{born_at, born_of, put_at, put_by, shown_in, late_of_run, late_links_of_run, is_said_late, numbers_of}
+use Rattle.sock_causes.specs.Facts.{born_at, born_of, put_at, put_by, shown_in, late_of_run, late_links_of_run, is_said_late}
 
 -- no step of the program makes a life or puts a call home, and it says nothing
 abbrev pub IsMute : Program → Type 0

@@ -1,5 +1,5 @@
 -- The text of a run, and the links that are given back.
-use Rattle.std.proofs.Common.{◌≡◌, ◌≢◌, ℕ, zero, suc, ◌+◌, ◌<◌, ◌≤◌, ◌⊎◌, inl, inr, true, List, [], ◌∷◌, ◌++◌, map, length, slice_get, slice_index_or, Option, Some, None, IfSome, Result, Ok, Err, OnOk, IfOk, IsOk, Bool, option_map, ap, sym, subst, refl, ◌∙◌, ⊎_elim, arith}
+use Rattle.std.proofs.Common.{◌≡◌, ◌≢◌, ℕ, zero, suc, ◌+◌, ◌<◌, inl, inr, true, List, [], ◌∷◌, ◌++◌, map, length, slice_get, Option, Some, None, IfSome, Result, Ok, Err, OnOk, IfOk, IsOk, Bool, option_map, ap, sym, subst, refl, ◌∙◌, ⊎_elim, arith}
 use Rattle.std.specs.Prelude.{Contains}
 use Rattle.std.specs.List.{AllByRecursion}
 use Rattle.std.proofs.lemmas.Option.{slice_get_within}
@@ -12,14 +12,13 @@ use Rattle.brpc_model.specs.Items.{Item}
 use Rattle.brpc_model.specs.Script.{script_of}
 use Rattle.brpc_model.specs.Link.{LinkEnd, HalfAnswer, TakeAnswer}
 use Rattle.brpc_model.specs.Operations.{Turn, link_names, operations}
-use Rattle.brpc_model.specs.Causes.{HasFault, reading_limit}
+use Rattle.brpc_model.specs.Causes.{HasFault}
 use Rattle.brpc_model.specs.PlaceWords.{ArePlaces, HasEachOutcome, IsReportText, outcomes_from}
 use Rattle.sock_io.specs.Link.{OutState, InState, more_told}
 use Rattle.sock_model.specs.declared.home.Home.TheVariants.{Link}
 use Rattle.sock_programs.specs.Asides.{Taking, AtEnd, Closed, Broken}
 use Rattle.sock_programs.specs.Cores.{Core}
-use Rattle.sock_programs.specs.Runs.{from_to}
-use Rattle.sock_programs.specs.Scripts.{IsRunWithCalls, place_words}
+use Rattle.sock_programs.specs.Scripts.{place_words}
 use Rattle.sock_programs.specs.Tasks.{plan_of}
 use Rattle.client_laws.proofs.Retrying.{retries_go}
 use Rattle.whole_runs.specs.Heard.{as_told, as_taken, take_answers, heard_of, taken_of, heard_takes}
@@ -33,11 +32,11 @@ use Rattle.owed_calls.proofs.Known.{run_owed_of}
 use Rattle.run_laws.proofs.Laws.{keeps_laws}
 use Rattle.report_fits.specs.Ends.{IsEndOf, AreEndsOf, AreTold, EndsEarly}
 use Rattle.report_fits.proofs.Lists.{within, has_from, all_at}
+use Rattle.report_fits.proofs.Places.{script_places}
 use Rattle.report_fits.proofs.Sizes.{keeps_limits}
 use Rattle.report_fits.proofs.Tasks.{tasks_of_script}
 use Rattle.sock_core.specs.Finish.{told_from}
-use Rattle.sock_core.specs.Links.{Taken, Given, ArePrompt, TellClosing}
-use Rattle.sock_core.specs.Machines as machines
+use Rattle.sock_core.specs.Links.{ArePrompt, TellClosing}
 use Rattle.sock_core.specs.Machines.{MachineState, core_with}
 use Rattle.sock_core.specs.Runs.{SameLink, SameLinks, ShowsTaking}
 use Rattle.script_run.specs.Causes.{HasCauses, EndedEarly, gave_in}
@@ -48,8 +47,7 @@ use Rattle.script_run.specs.declared.report.Print.TheVariants as print
 use Rattle.script_run.specs.Played.{IsMade, HasRun, AreHeard, IsWholeRun, IsEndTold, AreEndsTold, IsRunText, IsPrintOf, IsPrinted}
 use Rattle.script_run.proofs.Homes.{index_at, took_is, lies_is, told_is}
 use Rattle.script_run.proofs.Idle.{clients_idle}
-use Rattle.script_run.proofs.Placed.{run_places, causes_known}
-use Rattle.script_run.proofs.Told.{has_causes, as_far}
+use Rattle.script_run.proofs.Told.{has_causes}
 
 -- ## The links that are given back
 
@@ -173,6 +171,9 @@ module _ (bytes : List ℕ) (script : List Item) (turns : List Turn) (start m : 
 
   -- ## The text
 
+  causes : HasCauses script turns end_core ran.run
+  causes = has_causes bytes script reads turns end_core ran.run (ran.closes tell)
+
   whole : (ends : List LinkEnd) → ends ≡ m.ends → IsWholeRun script turns ends
   whole ends ends_same = record {
     core = end_core;
@@ -200,8 +201,7 @@ module _ (bytes : List ℕ) (script : List Item) (turns : List Turn) (start m : 
             reports = report.told;
             is_text = report.is_text;
             ends_told = subst (AreEndsTold script end_core) (sym ends_same) ends_told;
-            known = causes_known bytes script reads turns end_core ran.run (ran.closes tell);
-            causes = as_far script (λ has. (has, subst (AreEndsOf script end_core has.fixed (gave_in end_core)) (sym ends_same) (ends_are has))) (has_causes bytes script reads turns end_core ran.run (ran.closes tell));
+            causes = (causes, subst (AreEndsOf script end_core causes.fixed (gave_in end_core)) (sym ends_same) (ends_are causes));
           }
 
       -- its outcomes are those that were printed
@@ -221,8 +221,9 @@ module _ (bytes : List ℕ) (script : List Item) (turns : List Turn) (start m : 
         → ((os : List (Option Outcome)) → length os ≡ length (operations script) → outcomes ≡ told_from 0 os → ArePlaces words → HasEachOutcome words os → (took : List (List ℕ)) × AreTold ends took × IsPrintOf shows script os words took text)
         → IsPrinted shows script turns text ends
     printed_is shows text prints =
-        let places = run_places bytes script reads turns end_core ran.run (ran.closes tell) in
-        let w = prints m.outcomes (ended_length bytes script reads turns end_core ran.run) outcomes_are
+        let long = ended_length bytes script reads turns end_core ran.run in
+        let places = script_places bytes script reads end_core causes.fixed (gave_in end_core) causes.orders long causes.tells in
+        let w = prints m.outcomes long outcomes_are
         (subst ArePlaces (sym words_now) places.0) (subst (λ (ws : List PlaceWord). HasEachOutcome ws m.outcomes) (sym words_now) places.1) in
         print_is shows w.0 text w.1 w.2
 

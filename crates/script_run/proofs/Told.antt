@@ -1,33 +1,55 @@
--- Each outcome of a run without calls has its cause.
-use Rattle.std.proofs.Common.{◌≡◌, ℕ, true, List, [], ◌++◌, replicate, Ok, refl, ap, ◌∙◌, subst}
+-- Each outcome of a run has its cause.
+use Rattle.std.proofs.Common.{◌≡◌, ℕ, Bool, true, false, List, [], length, Ok, refl, ap, sym, ◌∙◌, subst}
+use Rattle.std.proofs.lemmas.Bool.{true≢false}
 use Rattle.std.specs.Prelude.{Contains}
+use Rattle.std.specs.List.{AllByRecursion}
 use Rattle.brpc_model.specs.Items.{Item}
 use Rattle.brpc_model.specs.Operations.{Turn}
 use Rattle.brpc_model.specs.Run.{Lateness}
 use Rattle.brpc_model.specs.Script.{script_of}
 use Rattle.sock_programs.specs.Cores.{Core}
-use Rattle.sock_programs.specs.Ticks.{quiet, broken_in}
-use Rattle.sock_programs.specs.Tasks.{plan_of}
-use Rattle.sock_programs.specs.Scripts.{IsRunWithCalls, all_tasks, is_callless, opened, set_up, played, ending}
+use Rattle.sock_programs.specs.Tasks.{opens, plan_of}
+use Rattle.sock_programs.specs.Scripts.{IsRunWithCalls, all_tasks, is_callless}
 use Rattle.sock_programs.specs.ToldCalls.{Fixed, Order}
-use Rattle.sock_causes.specs.Facts.{broken_of_run, closed_before_ending, late_of_run, late_links_of_run, ToldSends}
+use Rattle.sock_causes.specs.Facts.{closed_before_ending, is_said_late, late_of_run, late_links_of_run, ToldSends}
+use Rattle.sock_causes.specs.PlainTasks.{told_tasks_of}
+use Rattle.sock_causes.specs.TaskCauses.{ToldTasks}
 use Rattle.sock_causes.proofs.Members.{in_contains, contains_in}
-use Rattle.send_causes.proofs.Early.{closed_early}
+use Rattle.sock_causes.proofs.Scripts.{lost_of_run, run_told}
+use Rattle.send_causes.proofs.Early.{closed_early, start, go, fitting}
+use Rattle.send_causes.proofs.Lists.{early_shown, closed_shown}
+use Rattle.send_causes.proofs.Plain.{broken_shown}
 use Rattle.send_causes.proofs.Sends as sends
+use Rattle.send_causes.proofs.AllTold.{told_of_run, told_last}
+use Rattle.send_causes.proofs.Assembled.{fixed_in_run}
+use Rattle.client_laws.specs.Openings.{all_seats}
+use Rattle.client_laws.proofs.Fresh.{opening_fresh}
+use Rattle.joint_runs.proofs.Runs.{first_views}
 use Rattle.owed_calls.specs.Lives.{ClosesInRun}
 use Rattle.report_fits.proofs.Lists.{Has, has_from, has_none}
+use Rattle.report_fits.proofs.Reading.{InRange}
+use Rattle.report_fits.proofs.Sizes.{is_counted}
+use Rattle.report_fits.proofs.Targets.{AreThere, are_there}
 use Rattle.whole_runs.proofs.Starts.{made}
-use Rattle.sock_core.proofs.Joining.{quiet_broken}
-use Rattle.script_run.specs.Causes.{HasCauses, AsFarAsTold, broken_of, gave_in}
-use Rattle.script_run.proofs.Callless.{plain_task, all_told}
+use Rattle.script_run.specs.Causes.{HasCauses, gave_in, lost_before}
+use Rattle.script_run.proofs.Callless.{plain_task, no_call, all_told}
 use Rattle.script_run.proofs.Idle.{no_calls, no_slot, clients_rest}
 use Rattle.script_run.proofs.Silent.{none_late, no_late_link}
 
--- what follows from a claim is said as far as it is
-pub as_far : {P Q : Type 0} (script : List Item) → (P → Q) → AsFarAsTold script P → AsFarAsTold script Q
-as_far script f claim callless = f (claim callless)
-
 module _ (bytes : List ℕ) (script : List Item) (reads : script_of bytes ≡ Ok script) (turns : List Turn) (core : Core) (run : IsRunWithCalls script turns core) (closes : ClosesInRun script turns core run) where
+  abbrev orders : ℕ → Order
+  orders = sends.orders_of_run script (made bytes script reads) turns core run closes
+
+  -- plain operations have their causes by what was lost before the ending
+  plain : ToldTasks (told_tasks_of script) core.outcomes (plan_of script) orders (lost_of_run script turns core run) (lost_before script turns core run) (λ o. is_said_late script turns core run o ≡ true)
+  plain = let m = made bytes script reads in run_told script m.are (first_views script) (start script (made bytes script reads) turns core run) (opening_fresh (plan_of script) (all_seats (all_tasks script) (length (opens script))))
+      (go script (made bytes script reads) turns core run) turns core run (fitting script (made bytes script reads) turns core run) (sends.owed script (made bytes script reads) turns core run closes)
+
+  nothing_there : {A : Type 0} (x : A) (l : List A) → l ≡ [] → Contains l x → ⊥
+  nothing_there x l none_ h = has_none x (subst (λ m. Has m x) none_ (has_from l x h))
+
+  -- ## Without calls
+
   -- the links whose sockets their readers closed before the ending
   abbrev early : List ℕ
   early = closed_before_ending script turns core run
@@ -37,21 +59,6 @@ module _ (bytes : List ℕ) (script : List Item) (reads : script_of bytes ≡ Ok
 
   abbrev fixed_of : Fixed
   fixed_of = sends.fixed script (made bytes script reads) turns core run closes early [] [] [] (gave_in core) last
-
-  abbrev orders : ℕ → Order
-  orders = sends.orders_of_run script (made bytes script reads) turns core run closes
-
-  -- what failed did so behind the setup, and not in the ending
-  broken_so : broken_of_run script turns core run ≡ broken_of run
-  broken_so =
-      let second = broken_in (plan_of script) (set_up script run.setup) (run.scheduled ++ run.later) in
-      let third = broken_in (plan_of script) (ending script (played script run.setup (run.scheduled ++ run.later))) (replicate run.last (quiet 0)) in
-      let fourth = broken_in (plan_of script) run.ended run.final in
-      ap (λ (l : List ℕ). l ++ (second ++ (third ++ fourth))) (quiet_broken (plan_of script) (opened script) run.setup 0)
-      ∙ ap (λ (l : List ℕ). second ++ (l ++ fourth)) (quiet_broken (plan_of script) (ending script (played script run.setup (run.scheduled ++ run.later))) run.last 0)
-
-  nothing_there : (x : ℕ) (l : List ℕ) → l ≡ [] → Contains l x → ⊥
-  nothing_there x l none_ h = has_none x (subst (λ (m : List ℕ). Has m x) none_ (has_from l x h))
 
   module _ (callless : is_callless script ≡ true) where
     late_none : late_of_run script turns core run ≡ []
@@ -63,18 +70,46 @@ module _ (bytes : List ℕ) (script : List Item) (reads : script_of bytes ≡ Ok
     told_sends : ToldSends (plan_of script) (all_tasks script) core.outcomes fixed_of (gave_in core) orders last core
     told_sends = sends.run_sends script (made bytes script reads) turns core run closes early [] [] [] (gave_in core) last (λ k there. in_contains early k there) (no_slot script callless) (plain_task script core.outcomes callless)
 
-    pub caused : HasCauses script turns core run
-    caused = record {
+    without_calls : HasCauses script turns core run
+    without_calls = record {
       fixed = fixed_of;
       orders = orders;
       tells = all_told script core.outcomes callless fixed_of (gave_in core) orders last core told_sends;
-      broken = λ k there. subst (λ (l : List ℕ). Contains l k) broken_so there;
+      last = λ client t asked is op. absurd (no_call script core.outcomes callless client t asked is op);
+      broken = broken_shown script turns core run;
       early = λ k there. closed_early script (made bytes script reads) turns core run k (contains_in early k there);
       closed = λ k there. absurd (nothing_there k [] refl there);
+      late = record { links = λ k there. there; operations = λ o there. there; silent = λ k there. absurd (nothing_there k [] refl there); early = λ r there. absurd (nothing_there r [] refl there) };
       none_late = λ c. ap (λ (l : List ℕ). let late : Lateness = record { links = l; operations = late_of_run script turns core run; silent = []; early = [] } in late) links_none
           ∙ ap (λ (l : List ℕ). let late : Lateness = record { links = []; operations = l; silent = []; early = [] } in late) late_none;
-      in_time = λ unserved. record { none_late = λ o op name bytes_ at is there. nothing_there o _ late_none there; no_late_link = λ k there. nothing_there k _ links_none there };
+      plain = plain;
     }
 
-pub has_causes : (bytes : List ℕ) (script : List Item) → script_of bytes ≡ Ok script → (turns : List Turn) (core : Core) (run : IsRunWithCalls script turns core) → ClosesInRun script turns core run → AsFarAsTold script (HasCauses script turns core run)
-has_causes bytes script reads turns core run closes callless = caused bytes script reads turns core run closes callless
+  -- ## With calls
+
+  there : AreThere script
+  there = are_there bytes script reads
+
+  range : AllByRecursion InRange script
+  range = (is_counted bytes script reads).in_range
+
+  with_calls : is_callless script ≡ false → HasCauses script turns core run
+  with_calls calls = record {
+    fixed = fixed_in_run script (made bytes script reads) there range bytes reads turns core run closes;
+    orders = orders;
+    tells = told_of_run script (made bytes script reads) there range turns core run closes bytes reads;
+    last = λ client t asked is op. told_last script (made bytes script reads) there range turns core run closes bytes reads t.number;
+    broken = broken_shown script turns core run;
+    early = early_shown script turns core run bytes reads;
+    closed = closed_shown script turns core run;
+    late = record { links = λ k there. there; operations = λ o there. there; silent = λ k there. there; early = λ r there. there };
+    none_late = λ none_. absurd (true≢false (sym none_ ∙ calls));
+    plain = plain;
+  }
+
+  pub has_causes : HasCauses script turns core run
+  has_causes = by (is_callless script) refl
+    where
+      by : (b : Bool) → is_callless script ≡ b → HasCauses script turns core run
+      by true callless = without_calls callless
+      by false calls = with_calls calls

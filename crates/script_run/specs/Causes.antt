@@ -1,28 +1,27 @@
 -- Why each outcome of a run came, and what its links answered besides.
 use Rattle.std.specs.Prelude.{ℕ, ◌≡◌, ◌<◌, ◌≤◌, ◌⊎◌, ◌++◌, List, [], length, replicate, slice_index_or, Contains, true}
-use Rattle.std.specs.List.{AllByRecursion}
 use Rattle.brpc_model.specs.Items.{Item}
 use Rattle.brpc_model.specs.Operations.{Turn, link_names}
 use Rattle.brpc_model.specs.Causes.{HasFault, reading_limit}
-use Rattle.brpc_model.specs.Order.{EachBefore}
-use Rattle.brpc_model.specs.Run.{nothing_late}
+use Rattle.brpc_model.specs.Run.{Lateness, nothing_late}
+use Rattle.sock_message.specs.Asked.{Asked}
+use Rattle.sock_programs.specs.declared.task.Op.TheVariants as ops
+use Rattle.sock_programs.specs.declared.task.Task.{Task}
 use Rattle.sock_programs.specs.Asides.{AtEnd, Closed, Broken}
 use Rattle.sock_programs.specs.Cores.{Core}
 use Rattle.sock_programs.specs.Ticks.{quiet, broken_in}
 use Rattle.sock_programs.specs.Tasks.{plan_of}
 use Rattle.sock_programs.specs.Scripts.{IsRunWithCalls, all_tasks, is_callless, opened, set_up}
-use Rattle.sock_programs.specs.ToldCalls.{Accepted, Fixed, Order, AreOrders, IsSent, InOwnOrder, ToldCalls}
+use Rattle.sock_programs.specs.Told.{IsTask}
+use Rattle.sock_programs.specs.ToldCalls.{Fixed, Order, ToldCalls}
 use Rattle.report_fits.proofs.Places.{lateness}
 use Rattle.sock_causes.specs.PlainTasks.{told_tasks_of}
-use Rattle.sock_causes.specs.Facts.{is_said_late}
+use Rattle.sock_causes.specs.Facts.{is_said_late, late_of_run, late_links_of_run}
 use Rattle.sock_causes.specs.Losses.{lost_in}
 use Rattle.sock_causes.specs.TaskCauses.{ToldTasks, DropsMade}
 use Rattle.sock_causes.proofs.Scripts.{MadeInRun, lost_of_run}
-use Rattle.send_causes.specs.Sent.{IsAttempt}
-use Rattle.call_causes.specs.Lists.{attempts_of_run}
-use Rattle.call_causes.specs.Target.{ToldOnCallsInPart}
+use Rattle.call_causes.specs.Lists.{attempts_of_run, silent_of_run, soon_of_run}
 use Rattle.whole_runs.specs.Heard.{heard_takes, given_by}
-use Rattle.whole_runs.specs.Unserved.{IsUnserved, IsInTime}
 
 -- the links that answered that they failed in a run, before its ending and behind it
 abbrev pub broken_of : {script : List Item} {turns : List Turn} {end_ : Core} → IsRunWithCalls script turns end_ → List ℕ
@@ -37,49 +36,48 @@ module _ {script : List Item} {turns : List Turn} {core : Core} (run : IsRunWith
 abbrev pub gave_in : Core → ℕ → List ℕ
 gave_in core k = slice_index_or core.calls.gave k []
 
--- ## In every script
+-- ## What came late
+
+-- in a run: the links that became a socket's while it was ending, the operations that had a step then, the links in which a take found nothing then, and
+-- the responses that were whole before their call began
+abbrev pub late_in : (script : List Item) (turns : List Turn) (core : Core) → IsRunWithCalls script turns core → Lateness
+late_in script turns core run = record {
+  links = late_links_of_run script turns core run;
+  operations = late_of_run script turns core run;
+  silent = silent_of_run script turns core run;
+  early = soon_of_run script turns core run;
+}
+
+-- all that is said to come late did
+pub record CameLate (said came : Lateness) : Type 0 where
+  pub links : (k : ℕ) → Contains said.links k → Contains came.links k
+  pub operations : (o : ℕ) → Contains said.operations o → Contains came.operations o
+  pub silent : (k : ℕ) → Contains said.silent k → Contains came.silent k
+  pub early : (r : ℕ × ℕ) → Contains said.early r → Contains came.early r
+
+-- ## Causes
 
 -- the links that answered that they failed, or whose sockets their readers closed, before the ending
 abbrev pub lost_before : (script : List Item) (turns : List Turn) (core : Core) → IsRunWithCalls script turns core → List ℕ
 lost_before script turns core run = lost_in (plan_of script) (opened script) (replicate run.setup (quiet 0)) ++ lost_in (plan_of script) (set_up script run.setup) (run.scheduled ++ run.later)
 
--- what links accepted, and why each operation has its outcome; of a call that failed so much: an `expire` ended it where its code is 1008, a
--- compressed response where that is 2002, or else the code is one of those that are posted
-pub record CausesKnown (script : List Item) (turns : List Turn) (core : Core) (run : IsRunWithCalls script turns core) : Type 0 where
-  -- what each link accepted, and how many messages it took whole, as the place words and the links at home show
+-- each outcome has its cause, and what failed, ended early, was closed or came late did so in the run
+pub record HasCauses (script : List Item) (turns : List Turn) (core : Core) (run : IsRunWithCalls script turns core) : Type 0 where
+  pub fixed : Fixed
+  -- what each link accepted, and how many messages it took whole
   pub orders : ℕ → Order
-  pub are_orders : AreOrders (plan_of script) core orders
-  -- each message is that of a `send` of which nothing is said, to a name of the link's socket, or the frame of an attempt of a call with its
-  -- operation's id, whatever the last attempts are
-  pub ids : ℕ → ℕ
-  pub sent : (fixed : Fixed) (last : ℕ → ℕ) (k : ℕ) → k < length (link_names script) → AllByRecursion (λ (a : Accepted). IsSent (plan_of script) (all_tasks script) core.outcomes fixed (gave_in core) orders last k a ⊎ IsAttempt ids (all_tasks script) core.outcomes a) (orders k).accepted
-  -- of each client they accepted sends and first attempts in the order of its operations
-  pub own_order : (fixed : Fixed) (k : ℕ) → k < length (link_names script) → EachBefore (InOwnOrder (plan_of script) (all_tasks script) core.outcomes fixed (gave_in core) orders) (orders k).accepted
-  -- `open`, `send`, `hold`, `drop` and `fail`
+  pub tells : ToldCalls (plan_of script) (all_tasks script) core.outcomes fixed (gave_in core) orders core
+  -- the last attempt of a call is that to which the run advanced
+  pub last : (client : ℕ) (t : Task) (asked : Asked) → IsTask (all_tasks script) core.outcomes client t → t.op ≡ ops.Call asked → tells.last t.number ≡ attempts_of_run script turns core run t.number
+  pub broken : (k : ℕ) → Contains fixed.broken k → Contains (broken_of run) k
+  pub early : (k : ℕ) → Contains fixed.early k → (k < length (link_names script)) × EndedEarly run k
+  pub closed : (k : ℕ) → Contains fixed.closed k → Contains (heard_takes run k) Closed
+  pub late : CameLate (lateness fixed) (late_in script turns core run)
+  -- without calls nothing is said to come late
+  pub none_late : is_callless script ≡ true → lateness fixed ≡ nothing_late
+  -- `open`, `send`, `hold`, `drop` and `fail` have their causes by what was lost before the ending too
   pub plain : ToldTasks (told_tasks_of script) core.outcomes (plan_of script) orders (lost_of_run script turns core run) (lost_before script turns core run) (λ o. is_said_late script turns core run o ≡ true)
-  -- `call`, `expire` and `join`, whatever else the run fixes; the last attempts are those to which it advanced
-  pub on_calls : (fixed : Fixed) → ToldOnCallsInPart (plan_of script) (all_tasks script) core.outcomes fixed (gave_in core) orders (attempts_of_run script turns core run)
 
 -- each drop was answered `freed` or `kept` by what its own steps did
 abbrev pub DropsTold : {script : List Item} {turns : List Turn} {core : Core} → IsRunWithCalls script turns core → Type 0
 DropsTold {script} {turns} {core} run = DropsMade (told_tasks_of script) core.outcomes (MadeInRun script turns core run)
-
--- ## All causes
-
--- each outcome has its cause, and what failed, ended early or was closed did so in the run
-pub record HasCauses (script : List Item) (turns : List Turn) (core : Core) (run : IsRunWithCalls script turns core) : Type 0 where
-  pub fixed : Fixed
-  pub orders : ℕ → Order
-  pub tells : ToldCalls (plan_of script) (all_tasks script) core.outcomes fixed (gave_in core) orders core
-  pub broken : (k : ℕ) → Contains fixed.broken k → Contains (broken_of run) k
-  pub early : (k : ℕ) → Contains fixed.early k → (k < length (link_names script)) × EndedEarly run k
-  pub closed : (k : ℕ) → Contains fixed.closed k → Contains (heard_takes run k) Closed
-  -- without calls nothing comes late, and without servers no `send` does
-  pub none_late : is_callless script ≡ true → lateness fixed ≡ nothing_late
-  pub in_time : IsUnserved script → IsInTime script fixed
-
--- ## How far causes are proved
-
--- what rests on causes is said of scripts without calls
-abbrev pub AsFarAsTold : List Item → Type 0 → Type 0
-AsFarAsTold script Claim = is_callless script ≡ true → Claim

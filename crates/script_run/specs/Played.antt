@@ -25,7 +25,7 @@ use Rattle.whole_runs.specs.Heard.{as_told, as_taken, take_answers, heard_of, ta
 use Rattle.whole_runs.specs.Over.{IsAllOver}
 use Rattle.sock_core.specs.Runs.{ShowFaults, LinksTell, TakesTell, ShowTakings, Follows, Made}
 use Rattle.sock_core.specs.Driving.{FirstRests}
-use Rattle.script_run.specs.Causes.{HasCauses, CausesKnown, DropsTold, AsFarAsTold, broken_of, gave_in}
+use Rattle.script_run.specs.Causes.{HasCauses, DropsTold, broken_of, gave_in}
 use Rattle.script_run.specs.declared.report.Print.{Print}
 use Rattle.script_run.specs.declared.report.Print.TheVariants as print
 use Rattle.script_run.specs.declared.schedule.Schedule.{Schedule}
@@ -134,9 +134,8 @@ pub record IsRunText (script : List Item) (turns : List Turn) (text : List ℕ) 
   pub reports : Reports script whole.core took report
   pub is_text : text ≡ report_text script report
   pub ends_told : AreEndsTold script whole.core ends
-  -- why each outcome came: what is known in every script, and all of it as far as that is proved
-  pub known : CausesKnown script turns whole.core whole.run
-  pub causes : AsFarAsTold script (IsCaused script turns whole.core whole.run ends)
+  -- why each outcome came
+  pub causes : IsCaused script turns whole.core whole.run ends
 
 -- ## What is printed
 

@@ -1,8 +1,10 @@
 -- All that is told of a whole run with calls, from its parts.
-use Rattle.std.proofs.Common.{◌≡◌, ℕ, ◌<◌, ◌⊎◌, inl, inr, ⊎_elim, true, List, length, Some, Ok, refl, sym, ap, ◌∙◌, subst, arith}
+use Rattle.std.proofs.Common.{◌≡◌, ◌≢◌, ℕ, ◌<◌, ◌≤◌, ◌⊎◌, inl, inr, ⊎_elim, true, List, length, Some, Ok, refl, sym, ap, ◌∙◌, subst, arith}
 use Rattle.std.specs.Prelude.{Contains}
 use Rattle.std.specs.List.{AllByRecursion}
 use Rattle.std.proofs.lemmas.Option.{slice_get_within}
+use mathlib.Core.Logic.{dite}
+use native.Mathlib.Decide.{ℕ_discrete}
 use Rattle.sock_words.specs.declared.outcome.Outcome.{Outcome}
 use Rattle.sock_words.specs.declared.outcome.Outcome.TheVariants.{Unopened, Answered, Peer, CallFailed}
 use Rattle.brpc_model.specs.Items.{Item}
@@ -19,7 +21,7 @@ use Rattle.sock_programs.specs.declared.task.Task.{Task}
 use Rattle.sock_programs.specs.Tasks.{opens, plan_of}
 use Rattle.sock_programs.specs.Scripts.{all_tasks, IsRunWithCalls}
 use Rattle.sock_programs.specs.Told.{IsTask, Became, Made}
-use Rattle.sock_programs.specs.ToldCalls.{Fixed, Order, IsSent, OfSend, OfCall, InOwnOrder, IsDropped, IsFailing, WhyLost, WasFailing, WhyAgain, FailedBy, ByExpiry, ByCompression, Why, WhyCall, ToldCalls}
+use Rattle.sock_programs.specs.ToldCalls.{Fixed, Order, IsSent, OfSend, OfCall, InOwnOrder, IsDropped, IsFailing, WhyLost, WasFailing, WhyAgain, FailedBy, ByExpiry, ByCompression, ByEnd, EndedWith, Why, WhyCall, ToldCalls}
 use Rattle.sock_causes.specs.Explains.{is_plain}
 use Rattle.sock_causes.specs.Facts.{ToldPlain}
 use Rattle.sock_causes.proofs.Members.{contains_in}
@@ -37,8 +39,10 @@ use Rattle.call_causes.specs.Target.{IsOnCalls, ToldOnCallsInPart, WhyInPart, Wh
 use Rattle.call_causes.proofs.Whole.{run_told_in_part, run_found_none}
 use Rattle.call_causes.proofs.Posted.{run_few_attempts, run_advanced_by, run_advanced_shown, run_failed_by}
 use Rattle.send_causes.specs.PostCauses.{PostCause}
+use Rattle.send_causes.proofs.AttemptedRun.{attempted_of_run}
 use Rattle.send_causes.proofs.Beside.{ends_listed}
-use Rattle.send_causes.proofs.ByPosts.{failed_by_post, again_by_post}
+use Rattle.send_causes.proofs.ByPosts.{never_final, failed_by_post, again_by_post}
+use Rattle.send_causes.proofs.CausedRanges.{few_last}
 use Rattle.send_causes.proofs.Early.{start, go, fitting}
 use Rattle.send_causes.proofs.FirstRuns.{run_own_order}
 use Rattle.send_causes.proofs.LateDropped.{dropped_of_run}
@@ -86,71 +90,82 @@ module _ (script : List Item) (made : AreMade script) (there : AreThere script) 
   dropped k kl less = dropped_of_run script made turns core is closes bytes reads k kl less
 
   -- each message that a link accepted is that of a `send`, or of an attempt that was made of a call with an id
-  module _ (sent : (k : ℕ) → k < (plan_of script).links → AllByRecursion (IsSent (plan_of script) (all_tasks script) core.outcomes fixed_in_run (given core) orders_in_run last_in_run k) (orders_in_run k).accepted) where
-    -- an attempt whose message was dropped lost its socket
-    lost : (c : ℕ) (t : Task) (asked : Asked) (n : ℕ) → IsTask (all_tasks script) core.outcomes c t → t.op ≡ ops.Call asked → IsDropped (plan_of script) (all_tasks script) core.outcomes fixed_in_run (given core) orders_in_run t.number n
-        → WhyLost (plan_of script) (all_tasks script) core.outcomes fixed_in_run (given core) orders_in_run c t.number n (name_of asked n)
-    lost c t asked n it op (k, i, (kl, a, at, number, attempt), placed) = by (all_at _ (orders_in_run k).accepted a (sent k kl) (i, at))
-      where
-        failing : IsFailing (plan_of script) (all_tasks script) core.outcomes fixed_in_run (given core) orders_in_run k
-        failing = dropped k kl (let inside = slice_get_within (orders_in_run k).accepted i a at in omega (arith, inside, placed))
+  sent : (k : ℕ) → k < (plan_of script).links → AllByRecursion (IsSent (plan_of script) (all_tasks script) core.outcomes fixed_in_run (given core) orders_in_run last_in_run k) (orders_in_run k).accepted
+  sent = attempted_of_run script made there range turns core is closes fixed_in_run (given core)
 
-        same : (client : ℕ) (u : Task) → IsTask (all_tasks script) core.outcomes client u → u.number ≡ a.operation → u.op ≡ ops.Call asked
-        same client u it' numbered = ap (λ (x : Task). x.op) (one_of script made core client c u t it' it (numbered ∙ number)) ∙ op
+  -- an attempt whose message was dropped lost its socket
+  lost : (c : ℕ) (t : Task) (asked : Asked) (n : ℕ) → IsTask (all_tasks script) core.outcomes c t → t.op ≡ ops.Call asked → IsDropped (plan_of script) (all_tasks script) core.outcomes fixed_in_run (given core) orders_in_run t.number n
+      → WhyLost (plan_of script) (all_tasks script) core.outcomes fixed_in_run (given core) orders_in_run c t.number n (name_of asked n)
+  lost c t asked n it op (k, i, (kl, a, at, number, attempt), placed) = by (all_at _ (orders_in_run k).accepted a (sent k kl) (i, at))
+    where
+      failing : IsFailing (plan_of script) (all_tasks script) core.outcomes fixed_in_run (given core) orders_in_run k
+      failing = dropped k kl (let inside = slice_get_within (orders_in_run k).accepted i a at in omega (arith, inside, placed))
 
-        by : IsSent (plan_of script) (all_tasks script) core.outcomes fixed_in_run (given core) orders_in_run last_in_run k a → WhyLost (plan_of script) (all_tasks script) core.outcomes fixed_in_run (given core) orders_in_run c t.number n (name_of asked n)
-        by (OfSend client u name slot version it' numbered op' first life untold) = absurd (let e : ops.Send name a.bytes ≡ ops.Call asked = sym op' ∙ same client u it' numbered in cc)
-        by (OfCall client u asked' outcome id slot version it' numbered op' became shows made_ bytes_ life) =
-            let e : ops.Call asked' ≡ ops.Call asked = sym op' ∙ same client u it' numbered in let named : asked' ≡ asked = cc in
-            WasFailing k slot version (subst (λ m. Made (all_tasks script) core.outcomes m k slot version) ((λ j. name_of (named j) a.attempt) ∙ ap (name_of asked) attempt) life) failing
+      same : (client : ℕ) (u : Task) → IsTask (all_tasks script) core.outcomes client u → u.number ≡ a.operation → u.op ≡ ops.Call asked
+      same client u it' numbered = ap (λ (x : Task). x.op) (one_of script made core client c u t it' it (numbered ∙ number)) ∙ op
 
-    -- and each error that an id took for an attempt of its call has its cause
-    module _ (ids : ℕ → ℕ) (own_id : (client : ℕ) (t : Task) (asked : Asked) → IsTask (all_tasks script) core.outcomes client t → t.op ≡ ops.Call asked → (outcome : Outcome) → Became (all_tasks script) core.outcomes t.number outcome → (id : ℕ) → shown_id outcome ≡ Some id → ids t.number ≡ id)
-        (caused : (client : ℕ) (t : Task) (asked : Asked) (id code n : ℕ) → IsTask (all_tasks script) core.outcomes client t → t.op ≡ ops.Call asked → ids t.number ≡ id → Contains (posts_of_run script turns core is) (record { id = id; error = error_of code n })
-        → PostCause (plan_of script) (all_tasks script) core.outcomes fixed_in_run (given core) orders_in_run client t.number asked id code n) where
-      failed_by : (client : ℕ) (t : Task) (asked : Asked) (id code : ℕ) → IsTask (all_tasks script) core.outcomes client t → t.op ≡ ops.Call asked → Became (all_tasks script) core.outcomes t.number (CallFailed id code)
-          → FailedBy (plan_of script) (all_tasks script) core.outcomes fixed_in_run (given core) orders_in_run client t.number asked id code (last_in_run t.number)
-      failed_by client t asked id code it op became = ⊎_elim (λ a. ByExpiry a.0 a.1) (λ rest. ⊎_elim (λ b. ByCompression b.0 b.1) (λ posted.
-          failed_by_post (plan_of script) (all_tasks script) core.outcomes fixed_in_run (given core) orders_in_run client t.number asked id code (last_in_run t.number) (lost client t asked (last_in_run t.number) it op) posted.1
-          (caused client t asked id code (last_in_run t.number) it op (own_id client t asked it op (CallFailed id code) became id refl) posted.0)) rest)
-          (run_failed_by script made there range turns core is closes fixed_in_run orders_in_run client t asked id code it op became)
+      by : IsSent (plan_of script) (all_tasks script) core.outcomes fixed_in_run (given core) orders_in_run last_in_run k a → WhyLost (plan_of script) (all_tasks script) core.outcomes fixed_in_run (given core) orders_in_run c t.number n (name_of asked n)
+      by (OfSend client u name slot version it' numbered op' first life untold) = absurd (let e : ops.Send name a.bytes ≡ ops.Call asked = sym op' ∙ same client u it' numbered in cc)
+      by (OfCall client u asked' outcome id slot version it' numbered op' became shows made_ bytes_ life) =
+          let e : ops.Call asked' ≡ ops.Call asked = sym op' ∙ same client u it' numbered in let named : asked' ≡ asked = cc in
+          WasFailing k slot version (subst (λ m. Made (all_tasks script) core.outcomes m k slot version) ((λ j. name_of (named j) a.attempt) ∙ ap (name_of asked) attempt) life) failing
 
-      again : (client : ℕ) (t : Task) (asked : Asked) (n : ℕ) → IsTask (all_tasks script) core.outcomes client t → t.op ≡ ops.Call asked → n < last_in_run t.number
-          → WhyAgain (plan_of script) (all_tasks script) core.outcomes fixed_in_run (given core) orders_in_run client t.number n (name_of asked n)
-      again client t asked n it op less = let a = run_advanced_by script made there range turns core is closes fixed_in_run orders_in_run client t asked it op n less in
-          let s = run_advanced_shown script made there range turns core is closes fixed_in_run orders_in_run client t asked it op n less in
-          again_by_post (plan_of script) (all_tasks script) core.outcomes fixed_in_run (given core) orders_in_run client t.number asked a.0 a.1 n (lost client t asked n it op) a.4
-          (caused client t asked a.0 a.1 n it op (own_id client t asked it op s.0 s.2 s.1 s.3 ∙ a.2 s.0 s.2 s.1 s.3) a.3)
+  -- and each error that an id took for an attempt of its call has its cause, but for those of the end of a reading; where a call failed with that, it has its own
+  module _ (caused : (client : ℕ) (t : Task) (asked : Asked) → IsTask (all_tasks script) core.outcomes client t → t.op ≡ ops.Call asked → (outcome : Outcome) → Became (all_tasks script) core.outcomes t.number outcome → (id code n : ℕ) → shown_id outcome ≡ Some id → n ≤ 6 → code ≢ 1014
+      → Contains (posts_of_run script turns core is) (record { id = id; error = error_of code n }) → PostCause (plan_of script) (all_tasks script) core.outcomes fixed_in_run (given core) orders_in_run client t.number asked id code n)
+      (ended : (client : ℕ) (t : Task) (asked : Asked) (id : ℕ) → IsTask (all_tasks script) core.outcomes client t → t.op ≡ ops.Call asked → Became (all_tasks script) core.outcomes t.number (CallFailed id 1014)
+      → (k : ℕ) × EndedWith (plan_of script) (all_tasks script) core.outcomes fixed_in_run (given core) orders_in_run asked t.number (last_in_run t.number) (name_of asked (last_in_run t.number)) id k) where
+    failed_by : (client : ℕ) (t : Task) (asked : Asked) (id code : ℕ) → IsTask (all_tasks script) core.outcomes client t → t.op ≡ ops.Call asked → Became (all_tasks script) core.outcomes t.number (CallFailed id code)
+        → FailedBy (plan_of script) (all_tasks script) core.outcomes fixed_in_run (given core) orders_in_run client t.number asked id code (last_in_run t.number)
+    failed_by client t asked id code it op became = dite (ℕ_discrete code 1014)
+        (λ e. let x = ended client t asked id it op (subst (λ c. Became (all_tasks script) core.outcomes t.number (CallFailed id c)) e became) in ByEnd e x.0 x.1)
+        (λ other. ⊎_elim (λ a. ByExpiry a.0 a.1) (λ rest. ⊎_elim (λ b. ByCompression b.0 b.1) (λ posted.
+        failed_by_post (plan_of script) (all_tasks script) core.outcomes fixed_in_run (given core) orders_in_run client t.number asked id code (last_in_run t.number) (lost client t asked (last_in_run t.number) it op) posted.1
+        (caused client t asked it op (CallFailed id code) became id code (last_in_run t.number) refl (few_last script made there range turns core is client t asked it op) other posted.0)) rest)
+        (run_failed_by script made there range turns core is closes fixed_in_run orders_in_run client t asked id code it op became))
 
-      why_call : (client : ℕ) (t : Task) (asked : Asked) (outcome : Outcome) → IsTask (all_tasks script) core.outcomes client t → t.op ≡ ops.Call asked → Became (all_tasks script) core.outcomes t.number outcome
-          → WhyCallInPart (plan_of script) (all_tasks script) core.outcomes fixed_in_run (given core) orders_in_run last_in_run client t.number asked outcome → WhyCall (plan_of script) (all_tasks script) core.outcomes fixed_in_run (given core) orders_in_run last_in_run client t.number asked outcome
-      why_call client t asked Unopened it op became w = w
-      why_call client t asked (Answered id payload attachment) it op became w = w
-      why_call client t asked (Peer id code) it op became w = w
-      why_call client t asked (CallFailed id code) it op became w = failed_by client t asked id code it op became
-      why_call client t asked other it op became w = absurd w
+    again : (client : ℕ) (t : Task) (asked : Asked) (n : ℕ) → IsTask (all_tasks script) core.outcomes client t → t.op ≡ ops.Call asked → n < last_in_run t.number
+        → WhyAgain (plan_of script) (all_tasks script) core.outcomes fixed_in_run (given core) orders_in_run client t.number n (name_of asked n)
+    again client t asked n it op less = let a = run_advanced_by script made there range turns core is closes fixed_in_run orders_in_run client t asked it op n less in
+        let s = run_advanced_shown script made there range turns core is closes fixed_in_run orders_in_run client t asked it op n less in
+        let few = few_last script made there range turns core is client t asked it op in
+        again_by_post (plan_of script) (all_tasks script) core.outcomes fixed_in_run (given core) orders_in_run client t.number asked a.0 a.1 n (lost client t asked n it op) a.4
+        (caused client t asked it op s.0 s.2 a.0 a.1 n (s.3 ∙ ap (λ i. Some i) (a.2 s.0 s.2 s.1 s.3)) (omega (arith, few, less)) (λ e. never_final a.1 a.4 (inl e)) a.3)
 
-      why_of : (op : Op) (client : ℕ) (t : Task) (outcome : Outcome) → t.op ≡ op → IsTask (all_tasks script) core.outcomes client t → Became (all_tasks script) core.outcomes t.number outcome
-          → WhyInPart (plan_of script) (all_tasks script) core.outcomes fixed_in_run (given core) orders_in_run last_in_run client t.number op outcome → Why (plan_of script) (all_tasks script) core.outcomes fixed_in_run (given core) orders_in_run last_in_run client t.number op outcome
-      why_of (ops.Call asked) client t outcome op it became w = why_call client t asked outcome it op became w
-      why_of (ops.Expire o) client t outcome op it became w = w
-      why_of (ops.Join o) client t outcome op it became w = w
-      why_of other client t outcome op it became w = absurd w
+    why_call : (client : ℕ) (t : Task) (asked : Asked) (outcome : Outcome) → IsTask (all_tasks script) core.outcomes client t → t.op ≡ ops.Call asked → Became (all_tasks script) core.outcomes t.number outcome
+        → WhyCallInPart (plan_of script) (all_tasks script) core.outcomes fixed_in_run (given core) orders_in_run last_in_run client t.number asked outcome → WhyCall (plan_of script) (all_tasks script) core.outcomes fixed_in_run (given core) orders_in_run last_in_run client t.number asked outcome
+    why_call client t asked Unopened it op became w = w
+    why_call client t asked (Answered id payload attachment) it op became w = w
+    why_call client t asked (Peer id code) it op became w = w
+    why_call client t asked (CallFailed id code) it op became w = failed_by client t asked id code it op became
+    why_call client t asked other it op became w = absurd w
 
-      -- why each task has its outcome, and each link took what it took
-      pub told_calls : ToldCalls (plan_of script) (all_tasks script) core.outcomes fixed_in_run (given core) orders_in_run core
-      told_calls = record {
-        last = last_in_run;
-        are_orders = orders_are script made turns core is closes;
-        told = λ client t it. ⊎_elim (λ called. inl (on_calls.told client t it called)) (λ other. plain.told client t it other) (kind_of t.op);
-        are = plain.are;
-        once = plain.once;
-        lives = plain.lives;
-        why = λ client t outcome it became. ⊎_elim (λ called. why_of t.op client t outcome refl it became (on_calls.why client t outcome it called became)) (λ other. plain.why client t outcome it other became) (kind_of t.op);
-        again = λ client t asked it op. (run_few_attempts script made there range turns core is client t asked it op, λ n less. again client t asked n it op less);
-        sent = sent;
-        own_order = own_order;
-        dropped = dropped;
-        expired_once = on_calls.expired_once;
-        versions = on_calls.versions;
-      }
+    why_of : (op : Op) (client : ℕ) (t : Task) (outcome : Outcome) → t.op ≡ op → IsTask (all_tasks script) core.outcomes client t → Became (all_tasks script) core.outcomes t.number outcome
+        → WhyInPart (plan_of script) (all_tasks script) core.outcomes fixed_in_run (given core) orders_in_run last_in_run client t.number op outcome → Why (plan_of script) (all_tasks script) core.outcomes fixed_in_run (given core) orders_in_run last_in_run client t.number op outcome
+    why_of (ops.Call asked) client t outcome op it became w = why_call client t asked outcome it op became w
+    why_of (ops.Expire o) client t outcome op it became w = w
+    why_of (ops.Join o) client t outcome op it became w = w
+    why_of other client t outcome op it became w = absurd w
+
+    -- why each task has its outcome, and each link took what it took
+    pub told_calls : ToldCalls (plan_of script) (all_tasks script) core.outcomes fixed_in_run (given core) orders_in_run core
+    told_calls = record {
+      last = last_in_run;
+      are_orders = orders_are script made turns core is closes;
+      told = λ client t it. ⊎_elim (λ called. inl (on_calls.told client t it called)) (λ other. plain.told client t it other) (kind_of t.op);
+      are = plain.are;
+      once = plain.once;
+      lives = plain.lives;
+      why = λ client t outcome it became. ⊎_elim (λ called. why_of t.op client t outcome refl it became (on_calls.why client t outcome it called became)) (λ other. plain.why client t outcome it other became) (kind_of t.op);
+      again = λ client t asked it op. (run_few_attempts script made there range turns core is client t asked it op, λ n less. again client t asked n it op less);
+      sent = sent;
+      own_order = own_order;
+      dropped = dropped;
+      expired_once = on_calls.expired_once;
+      versions = on_calls.versions;
+    }
+
+    -- its last attempts are those to which the run came
+    pub told_last : (o : ℕ) → told_calls.last o ≡ last_in_run o
+    unfolding told_calls
+    told_last o = refl

@@ -63,7 +63,7 @@ module _ (script : List Item) (made : AreMade script) (there : AreThere script) 
   bare = λ i v at. (opening_claims (plan_of script) (all_seats (all_tasks script) (length (opens script))) i v at, opening_fresh (plan_of script) (all_seats (all_tasks script) (length (opens script))) i v at)
 
   -- the call of an operation is its task's
-  one_asked : (a b : Asked) → IsCallOf script a → (c : ℕ) (t : Task) → IsTask (all_tasks script) core.outcomes c t → t.op ≡ ops.Call b → a.operation ≡ t.number → a ≡ b
+  pub one_asked : (a b : Asked) → IsCallOf script a → (c : ℕ) (t : Task) → IsTask (all_tasks script) core.outcomes c t → t.op ≡ ops.Call b → a.operation ≡ t.number → a ≡ b
   one_asked a b of c t it op number = let asks : Asks (all_tasks script) c t = (it.0, it.1, contains_in it.0 t it.2) in
       let same = (one_task (plan_of script) (all_tasks script) made.are of.0 c of.2 t (of.1, get_same (all_tasks script) of.0 of.1 of.3, of.4) asks (sym of.6 ∙ number)).1 in
       let two : ops.Call a ≡ ops.Call b = sym of.5 ∙ (ap (λ (x : Task). x.op) same ∙ op) in cc

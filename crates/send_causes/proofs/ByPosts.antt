@@ -14,7 +14,7 @@ not_final code final (inl e) = grind (arith, final, e)
 not_final code final (inr (inl e)) = grind (arith, final, e)
 not_final code final (inr (inr e)) = grind (arith, final, e.0, e.1)
 
-never_final : (code : ℕ) → is_final code ≡ false → (code ≡ 1014) ⊎ (code ≡ 2002) → ⊥
+pub never_final : (code : ℕ) → is_final code ≡ false → (code ≡ 1014) ⊎ (code ≡ 2002) → ⊥
 never_final code open_ (inl e) = grind (arith, open_, e)
 never_final code open_ (inr e) = grind (arith, open_, e)
 

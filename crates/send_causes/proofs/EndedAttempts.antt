@@ -124,7 +124,7 @@ module _ (script : List Item) (made : AreMade script) (turns : List Turn) (core 
   abbrev tasks : AreTasks (plan_of script) (told_tasks_of script)
   tasks = tasks_are script made.are vs begins goes turns core is fits (narrow script made turns core is closes) bare ids labelled
 
-  ending : EndNamed script made.are vs begins goes turns core is fits (narrow script made turns core is closes) bare ids labelled core
+  pub ending : EndNamed script made.are vs begins goes turns core is fits (narrow script made turns core is closes) bare ids labelled core
   ending = end_named script made.are vs begins goes turns core is fits (narrow script made turns core is closes) bare ids labelled
 
   -- an at word that is loaded is that of an attempt of the operation's call, over a link of a life of its name
@@ -144,7 +144,7 @@ module _ (script : List Item) (made : AreMade script) (turns : List Turn) (core 
     pub version : ℕ
     pub life : Made (all_tasks script) core.outcomes (name_of asked attempt) link socket version
 
-  of_load : (o w : ℕ) → StoredFor (IsCallOf script) (stores_of_run script turns core is) (let e = ending in e.named.events) o w → IsAttemptOn o w
+  pub of_load : (o w : ℕ) → StoredFor (IsCallOf script) (stores_of_run script turns core is) (let e = ending in e.named.events) o w → IsAttemptOn o w
   of_load o w x = let own = own_store (record { operation = o; word = w }) x.stored x.id x.attempt x.link x.word x.small x.few x.slot in
       let sound = ended_sound script made.are vs begins goes turns core is fits in let rests = end_rests script made.are vs begins goes turns core is fits (owed script made turns core is closes) in let e = ending in
       let l = at_made (plan_of script) (told_tasks_of script) tasks core (views_ended script turns core is vs) e.named.events e.named.lost_links sound e.named.story rests (IsCallOf script) (stores_of_run script turns core is) o w x in record {
@@ -203,7 +203,7 @@ module _ (script : List Item) (made : AreMade script) (turns : List Turn) (core 
         (subst (λ z. In (record { operation = z; word = at_word (id_first (ids z)) (id_slot (ids z)) l a.attempt }) (stores_of_run script turns core is)) s.1.3 there))
 
     -- where the attempt was accepted, it was by this link
-    only_link : (o w : ℕ) (x : IsAttemptOn o w) (l : ℕ) → Stands o x.attempt l → l ≡ x.link
+    pub only_link : (o w : ℕ) (x : IsAttemptOn o w) (l : ℕ) → Stands o x.attempt l → l ≡ x.link
     only_link o w x l s =
         let sound = ended_sound script made.are vs begins goes turns core is fits in
         let low : l < 65535 = (let a = s.1.0 in let b = sound.limits in let c = b.links in omega (arith, a, c)) in
@@ -231,7 +231,7 @@ module _ (script : List Item) (made : AreMade script) (turns : List Turn) (core 
       pub on : MayBeOn (plan_of script) (all_tasks script) core.outcomes fixed gave (orders_of_run script made turns core is closes) asked.operation n (name_of asked n) link
       pub ended : EndedSo script turns core is link code
 
-    of_word : (k o w code : ℕ) (x : Post) → k < (plan_of script).links → IsEndPost script turns core is k o w code x → (c m : ℕ) → x.error ≡ error_of c m → m ≤ 7 → IsReaderPost c m x
+    pub of_word : (k o w code : ℕ) (x : Post) → k < (plan_of script).links → IsEndPost script turns core is k o w code x → (c m : ℕ) → x.error ≡ error_of c m → m ≤ 7 → IsReaderPost c m x
     of_word k o w code x low post c m error few = let e = ending in
         let a = of_load o w (e.loads (record { seat = 32 + k; operation = o; word = w }) (contains_in (Rattle.send_causes.specs.EndedCalls.loads_of_run script turns core is) (record { seat = 32 + k; operation = o; word = w }) post.loaded) post.some_) in
         let first : id_first (ids o) < 4294967296 = omega arith in
@@ -254,6 +254,13 @@ module _ (script : List Item) (made : AreMade script) (turns : List Turn) (core 
               (subst (λ z. MayBeOn (plan_of script) (all_tasks script) core.outcomes fixed gave (orders_of_run script made turns core is closes) o a.attempt (name_of a.asked a.attempt) z) link (may_be_on o w a)));
           ended = subst (λ z. EndedSo script turns core is k z) code_is post.ended;
         }
+
+    -- it is for the operation of the at word, on the reader's own link
+    pub of_word_is : (k o w code : ℕ) (x : Post) (low : k < (plan_of script).links) (post : IsEndPost script turns core is k o w code x) (c m : ℕ) (error : x.error ≡ error_of c m) (few : m ≤ 7)
+        → ((of_word k o w code x low post c m error few).link ≡ k) × ((of_word k o w code x low post c m error few).asked.operation ≡ o)
+    unfolding of_word
+    of_word_is k o w code x low post c m error few = let e = ending in
+        let a = of_load o w (e.loads (record { seat = 32 + k; operation = o; word = w }) (contains_in (Rattle.send_causes.specs.EndedCalls.loads_of_run script turns core is) (record { seat = 32 + k; operation = o; word = w }) post.loaded) post.some_) in (refl, a.operation)
 
     pub run_reader_post : (bytes : List ℕ) → script_of bytes ≡ Ok script → (x : Post) → In x (reader_posts_of_run script turns core is) → (code n : ℕ) → x.error ≡ error_of code n → n ≤ 7 → IsReaderPost code n x
     run_reader_post bytes reads x there code n error few = let p = run_end_posts script made turns core is bytes reads x there in of_word p.0 p.1 p.2 p.3 x p.4 p.5 code n error few

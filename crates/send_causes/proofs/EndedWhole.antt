@@ -101,7 +101,7 @@ module _ (script : List Item) (made : AreMade script) (turns : List Turn) (core 
     many = opened_seats script (let k = known script made turns core is in k.few);
   }
 
-  opened_told : T (λ n. []) (opened script)
+  pub opened_told : T (λ n. []) (opened script)
   opened_told n seat at = let o = at_some (opens script) n (let l = place_inside (opened script).seats (32 + n) seat at in let m = opened_seats script (let k = known script made turns core is in k.few) in omega (arith, l, m)) in
       subst (Tells n (Seen (plan_of script) (calls script) (opens script) (let k = known script made turns core is in k.in_script) (loads_of_run script turns core is) n) []) (sym (begins_at n o.0 o.1 seat at)) (reader_tells n (Seen (plan_of script) (calls script) (opens script) (let k = known script made turns core is in k.in_script) (loads_of_run script turns core is) n) (calls script) o.0)
 
@@ -141,18 +141,18 @@ module _ (script : List Item) (made : AreMade script) (turns : List Turn) (core 
 
   -- ## What is said of the parts
 
-  setup_part : T h₁ (set_up script is.setup) × ((x : Post) → In x (shows_in reader_posts_at (plan_of script) (opened script) in_setup) → P h₁ x)
+  pub setup_part : T h₁ (set_up script is.setup) × ((x : Post) → In x (shows_in reader_posts_at (plan_of script) (opened script) in_setup) → P h₁ x)
   setup_part = told_along (plan_of script) (calls script) (opens script) (let k = known script made turns core is in k.in_script) (loads_of_run script turns core is) (IsListed script) (go script made turns core is) in_setup (opened script) (first_views script) (λ n. [])
       (let s = start script made turns core is in s.sound) (set_up_answered script made.are (first_views script) (start script made turns core is) (go script made turns core is) turns core is (fitting script made turns core is)) (let f = fitting script made turns core is in f.of_setup)
       (recorded_opened script made.are (first_views script) (start script made turns core is) (go script made turns core is) turns core is (fitting script made turns core is)) opened_keeps opened_told
       (λ l there. in_left l₁ (l₂ ++ (l₃ ++ l₄)) l there)
 
-  set_up_keeps : K (set_up script is.setup) (views_along (plan_of script) (opened script) (first_views script) in_setup) h₁
+  pub set_up_keeps : K (set_up script is.setup) (views_along (plan_of script) (opened script) (first_views script) in_setup) h₁
   set_up_keeps = keeps_along (plan_of script) (calls script) (opens script) (let k = known script made turns core is in k.in_script) Any (Unit {0}) ends_anyhow (IsListed script) (go script made turns core is) in_setup (opened script) (first_views script) (λ n. [])
       (let s = start script made turns core is in s.sound) (set_up_answered script made.are (first_views script) (start script made turns core is) (go script made turns core is) turns core is (fitting script made turns core is)) (let f = fitting script made turns core is in f.of_setup)
       (recorded_opened script made.are (first_views script) (start script made turns core is) (go script made turns core is) turns core is (fitting script made turns core is)) (λ e. tt) opened_keeps
 
-  clients_part : T h₂ (played script is.setup in_clients) × ((x : Post) → In x (shows_in reader_posts_at (plan_of script) (set_up script is.setup) in_clients) → P h₂ x)
+  pub clients_part : T h₂ (played script is.setup in_clients) × ((x : Post) → In x (shows_in reader_posts_at (plan_of script) (set_up script is.setup) in_clients) → P h₂ x)
   clients_part = told_along (plan_of script) (calls script) (opens script) (let k = known script made turns core is in k.in_script) (loads_of_run script turns core is) (IsListed script) (go script made turns core is) in_clients (set_up script is.setup) (views_along (plan_of script) (opened script) (first_views script) in_setup) h₁
       (set_up_sound script made.are (first_views script) (start script made turns core is) (go script made turns core is) turns core is (fitting script made turns core is)) is.answered (let f = fitting script made turns core is in f.of_played)
       (recorded_set_up script made.are (first_views script) (start script made turns core is) (go script made turns core is) turns core is (fitting script made turns core is)) set_up_keeps setup_part.0
@@ -174,7 +174,7 @@ module _ (script : List Item) (made : AreMade script) (turns : List Turn) (core 
     many = length-set (played script is.setup in_clients).seats 0 _ ∙ k.many;
   }
 
-  closing_told : T h₂ (closing_of script turns core is)
+  pub closing_told : T h₂ (closing_of script turns core is)
   closing_told n seat at = clients_part.0 n seat (sym (set_else (played script is.setup in_clients).seats 0 (32 + n) _ (λ e. let z : ⊥ = omega (arith, e) in z)) ∙ at)
 
   closing_part : T h₃ (run (plan_of script) (closing_of script turns core is) in_closing) × ((x : Post) → In x (shows_in reader_posts_at (plan_of script) (closing_of script turns core is) in_closing) → P h₃ x)
@@ -194,7 +194,7 @@ module _ (script : List Item) (made : AreMade script) (turns : List Turn) (core 
   pub closed_keeps : K is.ended (views_closed script turns core is (first_views script)) h₃
   closed_keeps = subst (λ d. K d (views_closed script turns core is (first_views script)) h₃) (sym is.is_ended) (let k = run_keeps in record { readers = k.readers; clients = k.clients; many = k.many })
 
-  closed_told : T h₃ is.ended
+  pub closed_told : T h₃ is.ended
   closed_told = subst (λ d. T h₃ d) (sym is.is_ended) (λ n seat at. closing_part.0 n seat at)
 
   final_part : T h₄ (run (plan_of script) is.ended is.final) × ((x : Post) → In x (shows_in reader_posts_at (plan_of script) is.ended is.final) → P h₄ x)

@@ -73,7 +73,7 @@ abbrev pub MakesSteps : Core → Type 0
 MakesSteps c = (seat : SeatState) × (get_elem? c.seats 0 ≡ some seat) × OnSockets seat.program
 
 module _ (p : Plan) where
-  tick_steps : (c : Core) → MakesSteps c → MakesSteps (ticked p c (quiet 0))
+  pub tick_steps : (c : Core) → MakesSteps c → MakesSteps (ticked p c (quiet 0))
   tick_steps c s = subst (λ o. MakesSteps (elim o as (λ o. Core) [ none ↦ c | some seat ↦ tick_with p 0 seat c (quiet 0).answer seat.program ])) (sym s.1) (by s.0.program s.2)
     where
       by : (x : Program) → OnSockets x → MakesSteps (tick_with p 0 s.0 c (quiet 0).answer x)

@@ -113,6 +113,7 @@ module _ {S : Type 0} {shows : S → Home} {p : Plan} (s : State S View) (t : On
           (λ zero_. let h = life-high p.first w (w + n) (omega arith) in omega arith)
           (λ some_. let h = life-in p.first w (w + n) b (omega arith) e in omega arith);
       born_once = λ i h il. omega (arith, born_is i il h, life_le p.first h ((slot_facts s i).version + live (slot_facts s i)));
+      born_life = λ i h il b. born_life i il h b;
       failed_once = λ i h il b lt. let a = born_life i il h b in failed_is i il h ∙ life-in p.first h (slot_facts s i).version a.0 lt a.1;
       not_failed = λ i h il le. failed_is i il h ∙ life-high p.first h (slot_facts s i).version le;
       coded = λ i h il. let k = ((law i il).codes id (about i v.marks) (at_map (λ (u : View). about i u.marks) s.views id v here)).0 h in let a = rest.uncoding i il in

@@ -1,5 +1,6 @@
 -- Each link is at home once all seats have ended, with what it took.
-use Rattle.std.proofs.Common.{◌≡◌, ℕ, ◌+◌, ◌<◌, Bool, false, ⊎_elim, eqb, List, [], refl, sym, ap, ◌∙◌, arith}
+use Rattle.std.proofs.Common.{◌≡◌, ℕ, ◌+◌, ◌*◌, ◌<◌, ◌⊎◌, inl, inr, Bool, false, ⊎_elim, eqb, List, [], refl, sym, ap, ◌∙◌, arith}
+use Rattle.std.specs.Prelude.{slice_index, nat_le}
 use mathlib.Core.Logic.{dite}
 use mathlib.Core.Option.{Option, some, none, some-injective, some-ne-none}
 use native.Mathlib.Decide.{ℕ_discrete}
@@ -12,14 +13,18 @@ use Rattle.sock_model.specs.declared.home.Home.TheVariants.{Empty, Link, Message
 use Rattle.sock_model.specs.declared.chain.Entry.{Entry}
 use Rattle.sock_model.specs.declared.chain.Right.{Right}
 use Rattle.sock_model.specs.declared.view.View.{View}
-use Rattle.sock_model.specs.Weights.{total, is_linked, is_freer}
+use Rattle.sock_model.specs.Weights.{total, is_linked, is_failer, is_freer}
 use Rattle.sock_model.specs.SlotRows.{marks_of}
 use Rattle.sock_model.specs.Reads.{took_of, link_at, rights_on, hands_of, carries, tokens}
 use Rattle.sock_model.specs.Seats.{IsBare}
+use Rattle.sock_model.specs.Layout.{place_word}
+use Rattle.sock_model.specs.Links.{Failed}
+use Rattle.sock_model.specs.Deliveries.{no_place, one_place}
+use Rattle.chain_laws.proofs.Settles.{all_placed}
 use Rattle.sock_steps.proofs.HandSteps.{link_value}
 use Rattle.sock_steps.proofs.Reseat.{closing_law}
 use Rattle.sock_rule.specs.OnTable.{OnTable}
-use Rattle.sock_rule.specs.Closing.{LinkTook}
+use Rattle.sock_rule.specs.Closing.{LifeFailed, LinkTook, PlaceOf}
 use Rattle.sock_rule.proofs.Closes.{others, counts, none_flat, only_one}
 use Rattle.sock_rule.proofs.Reached.{label_of}
 
@@ -38,7 +43,7 @@ pub record AtHome {S : Type 0} (shows : S → Home) (p : Plan) (s : State S View
   pub done : Bool
   pub there : get_elem? s.homes (p.requests + k) ≡ some (some value)
   pub shown_is : shows value ≡ Link k took next done
-  pub took_is : LinkTook p log s.words k took
+  pub took_is : LinkTook p v log s.words k took
   -- it isn't finished while a life that was given it is to end
   pub unfinished : (i h : ℕ) → i < p.slots → 0 < marks_of (is_linked h k) i v → marks_of (is_freer h) i v ≡ 0 → done ≡ false
 
@@ -53,6 +58,15 @@ module _ {S : Type 0} {shows : S → Home} {p : Plan} (s : State S View) (t : On
 
   no_hands : (k : ℕ) → total (hands_of k) s.views ≡ 0
   no_hands k = only_one (hands_of k) s.views id v here (λ j u e other. ap (total (carries k)) (others s t id v here all j u e other).hands) ∙ ap (total (carries k)) bare.hands
+
+  life_failed : (k : ℕ) → Failed p s k → LifeFailed p v k
+  life_failed k f = record {
+    slot = f.slot;
+    version = f.version;
+    inside = f.life.inside;
+    given = omega (arith, counts s t id v here all (is_linked f.version k) f.slot, f.life.given);
+    failed = omega (arith, counts s t id v here all (is_failer f.version) f.slot, f.failed);
+  }
 
   link_there : (k : ℕ) → k < p.links → (x : Home) × (link_at shows p s.homes k ≡ some x)
   link_there k kl = by_slot (t.rule.lawful.slot k) refl
@@ -75,5 +89,13 @@ module _ {S : Type 0} {shows : S → Home} {p : Plan} (s : State S View) (t : On
         took_is = record {
           kept = t.rule.lawful.kept k;
           fifo = λ apart. closing_law shows p s t.rule.lawful apart (λ i e g. label_of t.rule.lawful t.labelled i e g) k kl (no_rights k) own.took own.next (ap took_of at);
+          failed = λ few. let a = all_placed t.rule.lawful.chains t.rule.lawful.delivered k kl (no_rights k) in life_failed k (t.rule.lawful.delivered.failed k kl (omega arith));
         };
       }
+
+  -- the word of a place index is 0, or the place of a message that has it
+  pub place_of : (l : ℕ) → l < 8 * p.operations → (slice_index s.words (place_word p l) ≡ 0) ⊎ PlaceOf p t.rule.lawful.log s.words l
+  place_of l ll = elim (t.rule.lawful.delivered.shown l ll) [
+    | no_place z h ↦ inl z
+    | one_place k i e kl il g own z ↦ inr record { link = k; position = i; entry = e; dropped = nat_le (t.rule.lawful.kept k) i; inside = kl; there = g; own = own; word = z }
+  ]

@@ -1,5 +1,5 @@
 -- What the words and the notes of all seats say once the table is closed.
-use Rattle.std.specs.Prelude.{◌≡◌, ℕ, ◌%◌, ◌<◌, ◌≤◌, List, [], map, length, slice_index}
+use Rattle.std.specs.Prelude.{◌≡◌, ℕ, ◌%◌, ◌<◌, ◌≤◌, Bool, List, [], map, length, slice_index}
 use mathlib.Core.Option.{some}
 use lib.ListN.{get_elem?}
 use Rattle.sock_words.specs.declared.plain.Plan.{Plan}
@@ -7,6 +7,7 @@ use Rattle.sock_model.specs.declared.view.View.{View}
 use Rattle.sock_model.specs.declared.chain.Entry.{Entry}
 use Rattle.sock_model.specs.Authors.{pick}
 use Rattle.sock_model.specs.Entries.{on}
+use Rattle.sock_model.specs.Deliveries.{place_value}
 use Rattle.sock_model.specs.Fifo.{IsFifo}
 use Rattle.sock_model.specs.declared.view.StoredWord.{StoredWord}
 use Rattle.sock_model.specs.Weights.{total, is_claimed, is_any_coding, is_zero, is_tried, is_known, is_born, is_saw, is_failer, is_freer, is_coded, is_stored, is_told, is_linked, is_met}
@@ -37,6 +38,8 @@ pub record Closing (p : Plan) (v : View) (words : List ℕ) : Type 0 where
   pub one_where_live : (i : ℕ) → i < p.slots → nref_of (slice_index words (ref_word i)) ≡ marks_of (is_born (version_of (slice_index words (ref_word i)))) i v
   -- a life was made once
   pub born_once : (i h : ℕ) → i < p.slots → marks_of (is_born h) i v ≤ 1
+  -- and has an even version, no less than the first one
+  pub born_life : (i h : ℕ) → i < p.slots → 0 < marks_of (is_born h) i v → (p.first ≤ h) × (h % 2 ≡ 0)
   -- and then it was failed once, by a seat that stored its code, where the slot has a later version, and else not
   pub failed_once : (i h : ℕ) → i < p.slots → 0 < marks_of (is_born h) i v → h < version_of (slice_index words (ref_word i)) → marks_of (is_failer h) i v ≡ 1
   pub not_failed : (i h : ℕ) → i < p.slots → version_of (slice_index words (ref_word i)) ≤ h → marks_of (is_failer h) i v ≡ 0
@@ -57,10 +60,32 @@ pub record Closing (p : Plan) (v : View) (words : List ℕ) : Type 0 where
 abbrev pub PlacesDiffer : List Entry → Type 0
 PlacesDiffer log = (i j : ℕ) (a b : Entry) → get_elem? log i ≡ some a → get_elem? log j ≡ some b → a.heading.place ≡ b.heading.place → i ≡ j
 
+-- a life that was given link k was failed
+pub record LifeFailed (p : Plan) (v : View) (k : ℕ) : Type 0 where
+  pub slot : ℕ
+  pub version : ℕ
+  pub inside : slot < p.slots
+  pub given : 0 < marks_of (is_linked version k) slot v
+  pub failed : 0 < marks_of (is_failer version) slot v
+
 -- what link k took, where the places of all labels differ: the messages of its order, as their place words say
-pub record LinkTook (p : Plan) (log : List Entry) (words : List ℕ) (k : ℕ) (took : List ℕ) : Type 0 where
+pub record LinkTook (p : Plan) (v : View) (log : List Entry) (words : List ℕ) (k : ℕ) (took : List ℕ) : Type 0 where
+  -- how many messages were placed, and not dropped
   pub kept : ℕ
   pub fifo : PlacesDiffer log → IsFifo (λ l. slice_index words (place_word p l)) k (on k log) kept took
+  -- not all of them only where its life was failed
+  pub failed : kept < length (on k log) → LifeFailed p v k
+
+-- a message that a link accepted has the place index l, and the word there is its place, with the dropped bit or without
+pub record PlaceOf (p : Plan) (log : List Entry) (words : List ℕ) (l : ℕ) : Type 0 where
+  pub link : ℕ
+  pub position : ℕ
+  pub entry : Entry
+  pub dropped : Bool
+  pub inside : link < p.links
+  pub there : get_elem? (on link log) position ≡ some entry
+  pub own : entry.heading.place ≡ l
+  pub word : slice_index words (place_word p l) ≡ place_value dropped link position
 
 -- of the place index l: a seat noted that it dropped the message there, with the word that stands there, where that has the dropped bit; and where the places of all labels differ, what a seat noted there is the word
 pub record IsDropTold (p : Plan) (log : List Entry) (v : View) (words : List ℕ) (l : ℕ) : Type 0 where

@@ -1,4 +1,4 @@
-ghost use Rattle.std.specs.Prelude.{◌≡◌, ◌+◌, ◌<◌, ◌++◌, true, false, [], length};
+ghost use Rattle.std.specs.Prelude.{◌≡◌, ◌≢◌, ◌+◌, ◌<◌, ◌++◌, true, false, [], length};
 ghost use Rattle.std.specs.Option.{ForSome};
 ghost use Rattle.sock_io.specs.declared.link.Put.TheVariants.{Failed};
 ghost use Rattle.sock_io.specs.declared.link.Ready.TheVariants as ready;
@@ -39,6 +39,7 @@ impl<O: Out> LinkHome<O> {
         ensures link { (O.state self.new.out).link ≡ (O.state self.old.out).link }
         ensures finished { (O.state self.new.out).finished ≡ (O.state self.old.out).finished }
         ensures faults { result ≡ Failed → (O.state self.old.out).finished ≡ false → Rose (O.state self.old.out).faults (O.state self.new.out).faults }
+        ensures kept { result ≢ Failed → (O.state self.new.out).faults ≡ (O.state self.old.out).faults }
     {
         let put = self.out.put(piece);
         let took: Ghosts<u8> = Ghosts::of(&self.took);
@@ -53,6 +54,7 @@ impl<O: Out> LinkHome<O> {
         ensures link { (O.state self.new.out).link ≡ (O.state self.old.out).link }
         ensures finished { (O.state self.new.out).finished ≡ (O.state self.old.out).finished }
         ensures faults { result ≡ ready.Failed → (O.state self.old.out).finished ≡ false → Rose (O.state self.old.out).faults (O.state self.new.out).faults }
+        ensures kept { result ≢ ready.Failed → (O.state self.new.out).faults ≡ (O.state self.old.out).faults }
     {
         self.out.ready()
     }

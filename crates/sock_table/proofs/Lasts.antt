@@ -1,5 +1,5 @@
 -- The loops of the close.
-use Rattle.std.proofs.Common.{◌≡◌, ◌≢◌, ℕ, zero, suc, ◌+◌, ◌*◌, ◌<◌, ◌≤◌, ◌++◌, Bool, true, false, List, [], ◌∷◌, length, get_or, set, sym, refl, ap, ◌∙◌, subst, arith}
+use Rattle.std.proofs.Common.{◌≡◌, ◌≢◌, ℕ, zero, suc, ◌+◌, ◌*◌, ◌<◌, ◌≤◌, ◌⊎◌, ◌++◌, Bool, true, false, List, [], ◌∷◌, length, get_or, set, sym, refl, ap, ◌∙◌, subst, arith}
 use mathlib.Core.Logic.{dite}
 use mathlib.Core.Option.{some, some-injective, some-ne-none}
 use native.Mathlib.Decide.{ℕ_discrete}
@@ -8,6 +8,7 @@ use Rattle.atomic_table.specs.Table.{Final, Seen}
 use Rattle.atomic_table.specs.declared.shared.Seat.{Seat}
 use Rattle.atomic_table.proofs.Lists.{set_here, set_else}
 use Rattle.sock_words.specs.declared.plain.Plan.{Plan}
+use Rattle.std.specs.Prelude.{slice_index}
 use Rattle.std.specs.List.{flat_map}
 use Rattle.std.specs.Option.{ForSome}
 use Rattle.sock_io.specs.declared.link.Out.{Ghosts}
@@ -18,14 +19,14 @@ use Rattle.sock_rule.specs.declared.homes.LinkHome.{LinkHome}
 use Rattle.sock_rule.specs.declared.homes.SockHome.{SockHome}
 use Rattle.sock_rule.specs.declared.homes.SockHome.TheVariants.{Empty, Link, Message}
 use Rattle.sock_rule.specs.Shows.{shows}
-use Rattle.sock_rule.proofs.LinksBack.{AtHome, links_back}
+use Rattle.sock_rule.proofs.LinksBack.{AtHome, links_back, place_of}
 use Rattle.sock_model.specs.declared.home.Home.{Home}
 use Rattle.sock_model.specs.declared.view.View.{View}
 use Rattle.sock_model.specs.declared.chain.Entry.{Entry}
 use Rattle.sock_model.specs.Layout.{ref_word, place_word}
 use Rattle.sock_rule.specs.OnTable.{OnTable}
 use Rattle.sock_rule.specs.Seated.{IsDone}
-use Rattle.sock_rule.specs.Closing.{IsAtRest, Closing, LinkTook, IsDropTold}
+use Rattle.sock_rule.specs.Closing.{IsAtRest, Closing, PlaceOf, LinkTook, IsDropTold}
 use Rattle.sock_rule.proofs.DropsTold.{drop_told}
 use Rattle.sock_rule.proofs.Closes.{ordered, ordered_log, closing}
 use Rattle.sock_table.specs.Closed.{WordsAre, AreLinks, OutsOf, OutBack, ClosedBy}
@@ -125,8 +126,11 @@ module _ {O : Type 0} {g : Ghosts O} (q p : Plan) (id : ℕ) (v : View) (ws : Li
         took = b.took;
         tells = subst (λ (l : List ℕ). ForSome (g.state a.0.out).took (λ y. y ≡ l)) (ap bytes s) a.0.tells;
         unfinished = λ i h il given unended. ap is_done s ∙ b.unfinished i h il given unended;
-        took_is = subst (λ (l : List Entry). LinkTook p l ws k b.took) (sym same) (subst (λ (y : List ℕ). LinkTook p rule_at.rule.lawful.log y k b.took) f.2 b.took_is);
+        took_is = subst (λ (l : List Entry). LinkTook p v l ws k b.took) (sym same) (subst (λ (y : List ℕ). LinkTook p v rule_at.rule.lawful.log y k b.took) f.2 b.took_is);
       }
+
+  abbrev IsShown : ℕ → List Entry → List ℕ → Type 0
+  IsShown l log words = (slice_index words (place_word p l) ≡ 0) ⊎ PlaceOf p log words l
 
   pub closes : (seats : List (Seat (SockHome O g) View)) (places : List PlaceWord) (vs : List Vref) (outs : List O) → IsAtRest p v
       → v.marks ≡ flat_map marks_in seats → v.finds ≡ flat_map finds_in seats → v.histories ≡ flat_map histories_in seats → v.stores ≡ flat_map stores_in seats → v.lists ≡ flat_map lists_in seats → v.found ≡ flat_map found_in seats
@@ -144,6 +148,7 @@ module _ {O : Type 0} {g : Ghosts O} (q p : Plan) (id : ℕ) (v : View) (ws : Li
     closing = subst (λ (y : List ℕ). Closing p v y) f.2 (closing f.0 rule_at id v f.1.1 all rest done.unheld);
     each = read;
     placed = placed;
+    shown = λ l ll. subst (λ (y : List Entry). IsShown l y ws) (sym (ordered_log f.0 rule_at id v f.1.1 all done.bare.claims)) (subst (λ (y : List ℕ). IsShown l rule_at.rule.lawful.log y) f.2 (place_of f.0 rule_at id v f.1.1 all done.bare l ll));
     dropped = λ l ll. subst (λ (y : List Entry). IsDropTold p y v ws l) (sym (ordered_log f.0 rule_at id v f.1.1 all done.bare.claims)) (subst (λ (y : List ℕ). IsDropTold p rule_at.rule.lawful.log v y l) f.2 (drop_told f.0 rule_at id v f.1.1 all l ll));
     outs_back = out_back (ordered f.0 rule_at id v f.1.1 all done.bare.claims).log (ordered_log f.0 rule_at id v f.1.1 all done.bare.claims) outs of;
   }

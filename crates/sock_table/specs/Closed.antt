@@ -1,5 +1,5 @@
 -- The seats that are handed in at the end, and what the table's last words say of them.
-use Rattle.std.specs.Prelude.{◌≡◌, ℕ, ◌+◌, ◌*◌, ◌<◌, false, List, [], ◌∷◌}
+use Rattle.std.specs.Prelude.{◌≡◌, ℕ, ◌+◌, ◌*◌, ◌<◌, ◌⊎◌, false, List, [], ◌∷◌}
 use Rattle.std.specs.List.{flat_map}
 use Rattle.atomic_table.specs.Seated.{TableId}
 use Rattle.atomic_table.specs.declared.shared.Seat.{Seat}
@@ -11,7 +11,7 @@ use Rattle.sock_model.specs.Weights.{is_linked, is_freer}
 use Rattle.sock_model.specs.SlotRows.{marks_of}
 use Rattle.sock_model.specs.Layout.{ref_word, place_word}
 use Rattle.sock_rule.specs.Seated.{IsSeat, IsDone}
-use Rattle.sock_rule.specs.Closing.{IsAtRest, Closing, Ordered, IsDropTold, LinkTook}
+use Rattle.sock_rule.specs.Closing.{IsAtRest, Closing, Ordered, PlaceOf, IsDropTold, LinkTook}
 use Rattle.std.specs.Prelude.{slice_index}
 use Rattle.std.specs.Option.{ForSome}
 use Rattle.sock_io.specs.declared.link.Out.{Ghosts}
@@ -53,7 +53,7 @@ pub record OutBack {O : Type 0} (state : O → OutState) (p : Plan) (v : View) (
   pub own : (state out).link ≡ k
   pub took : List ℕ
   pub tells : ForSome (state out).took (λ bytes. bytes ≡ took)
-  pub took_is : LinkTook p log words k took
+  pub took_is : LinkTook p v log words k took
   -- it isn't finished where the life that it was given hasn't ended
   pub unfinished : (i h : ℕ) → i < p.slots → 0 < marks_of (is_linked h k) i v → marks_of (is_freer h) i v ≡ 0 → (state out).finished ≡ false
 
@@ -74,6 +74,8 @@ pub record ClosedBy {O S : Type 0} (state : O → OutState) (p : Plan) (seats : 
   -- one reference word for each slot, and one place word for each place index
   pub each : WordsAre (λ (x : Vref). x.0) ref_word p.slots vrefs words
   pub placed : WordsAre (λ (x : PlaceWord). x.0) (place_word p) (8 * p.operations) places words
+  -- the word of a place index is 0, or the place of an accepted message that has this index
+  pub shown : (l : ℕ) → l < 8 * p.operations → (slice_index words (place_word p l) ≡ 0) ⊎ PlaceOf p ordered.log words l
   -- which of them have the dropped bit: those of the messages that the seats noted as dropped, where the places of all labels differ
   pub dropped : (l : ℕ) → l < 8 * p.operations → IsDropTold p ordered.log view words l
   -- one half for each link

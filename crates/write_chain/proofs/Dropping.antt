@@ -16,9 +16,12 @@ use Rattle.sock_rule.proofs.Becoming.{stays}
 use Rattle.sock_table.specs.Answers.{CodeOf}
 use Rattle.write_chain.specs.Noting.{saw, told, nothing, finding, Wrote, WroteDrop}
 use Rattle.write_chain.specs.Writing.{FoundDead}
-use Rattle.write_chain.specs.Keeping.{IsCode}
+use Rattle.write_chain.specs.Keeping.{IsCode, IsDropped, LeavesMore}
 use Rattle.write_chain.proofs.Noting.{found_it, wrote_more}
 use Rattle.write_chain.proofs.Looking.{Fails}
+use Rattle.sock_io.specs.declared.link.Out.{Ghosts}
+use Rattle.write_chain.specs.declared.keep.Went.{Went}
+use Rattle.write_chain.specs.declared.keep.Went.TheVariants as went
 
 pub code_noted : {O : Type 0} {state : O → OutState} (c id : ℕ) (v w : View) → CodeOf c id v w → Fails state id v w
 code_noted c id v w k = dite (ℕ_discrete c 0)
@@ -45,3 +48,9 @@ still_dead id v w a there = let x = wrote_more (is_saw (socket_id_version id + 1
 
 pub dead_dropped : {O : Type 0} {state : O → OutState} (p : Plan) (id place : ℕ) (v w : View) → WroteDrop state p id place v w → FoundDead id v → FoundDead id w
 dead_dropped p id place v w a there = let x = wrote_more (is_saw (socket_id_version id + 1)) v (record w { stores = v.stores }) a.wrote in omega arith
+
+-- where the message was dropped, none is left of it
+pub dropped_leaves : {O : Type 0} {g : Ghosts O} (w : Went O g) → IsDropped w → LeavesMore w
+dropped_leaves (went.Done s) d = elim d [ ]
+dropped_leaves (went.Dropped r msg code) d = tt
+dropped_leaves (went.Further r) d = elim d [ ]

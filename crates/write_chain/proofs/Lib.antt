@@ -2,5 +2,6 @@ pub mod Accepting
 pub mod Noting
 pub mod Stepping
 pub mod Beginning
+pub mod Testing
 pub mod Looking
 pub mod Dropping

@@ -1,5 +1,5 @@
 -- What a look finds, and what becomes of a socket whose link failed.
-use Rattle.std.proofs.Common.{◌≡◌, ◌≢◌, ℕ, ◌+◌, ◌-◌, ◌%◌, ◌<◌, zero, suc, Bool, true, false, not, cond, eqb, eqb-true, eq-eqb, List, [], ◌∷◌, length, take, refl, sym, ap, ◌∙◌, subst, arith}
+use Rattle.std.proofs.Common.{◌≡◌, ◌≢◌, ℕ, ◌+◌, ◌-◌, ◌%◌, ◌<◌, zero, suc, Bool, true, false, not, cond, eqb, eqb-true, eq-eqb, List, [], ◌∷◌, ◌++◌, length, take, refl, sym, ap, ◌∙◌, subst, arith}
 use Rattle.std.specs.Prelude.{◌↔◌, IsTrue, Ok, Err, IfOk, IfErr}
 use Rattle.std.specs.declared.result.Result.{Result}
 use Rattle.sock_message.specs.Pieces.{piece}
@@ -7,7 +7,9 @@ use mathlib.Core.Logic.{dite}
 use native.Mathlib.Decide.{ℕ_discrete}
 use Rattle.atomic_table.specs.Table.{Me}
 use Rattle.sock_io.specs.declared.link.Out.{Ghosts}
-use Rattle.sock_io.specs.Link.{OutState}
+use Rattle.sock_io.specs.Link.{OutState, taken_of}
+use Rattle.sock_io.specs.declared.link.Put.{Put}
+use Rattle.sock_io.specs.declared.link.Put.TheVariants.{Failed}
 use Rattle.sock_words.specs.declared.plain.Plan.{Plan}
 use Rattle.sock_words.specs.Words.{socket_id_version, socket_id_slot, vref_version, IsFailedVref}
 use Rattle.sock_model.specs.declared.marks.Mark.{Mark}
@@ -40,6 +42,10 @@ not_false : (b : Bool) → not b ≡ false → b ≡ true
 not_false true e = refl
 not_false false e = absurd (false_true (sym e))
 
+pub never_true : (b : Bool) → (b ≡ true → ⊥) → b ≡ false
+never_true true f = absurd (f refl)
+never_true false f = refl
+
 -- whether the word that was found is a failed one
 module _ (b : Bool) (found word : ℕ) (same : word ≡ found) (is : IsTrue b ↔ IsFailedVref word) where
   pub found_live : not b ≡ true → version_of found % 2 ≡ 0
@@ -68,6 +74,11 @@ module _ {O : Type 0} {g : Ghosts O} {p : Plan} {id last : ℕ} (hand : InHand O
         (let x : marks_of (is_saw (socket_id_version id + 1)) (socket_id_slot id) n.0 + 0 ≡ marks_of (is_saw (socket_id_version id + 1)) (socket_id_slot id) m.0 + (is_saw (socket_id_version id + 1) (Saw (version_of found)) + 0) = b.here (is_saw (socket_id_version id + 1)) in omega arith),
       )
 
+  -- a life that was found failed is found so again
+  pub dead_again : FoundDead id m.0 → version_of found % 2 ≢ 0
+  dead_again d even = let s = l.0.saw (socket_id_version id + 1) (subst (λ (j : ℕ). 0 < marks_of (is_saw (socket_id_version id + 1)) j m.0) (sym at) d) in
+      let a = l.0.held (socket_id_version id) (subst (λ (j : ℕ). 0 < marks_of (is_hold (socket_id_version id)) j m.0) (sym at) h.0.writer.holds.held) in absurd (omega arith)
+
   pub looked_wrote : Wrote g.state id m.0 n.0
   looked_wrote = record {
     notes = Saw (version_of found) ∷ [];
@@ -93,6 +104,12 @@ fails id k v w (Ok u) ok err fault met_ = record {
 }
 fails id k v w (Err e) ok err fault met_ = record { notes = _; noted = found_it _ (saw (vref_version e.found.0)); became = err.1 }
 
+pub fails_dead : (id : ℕ) (v w : View) (r : Result (Unit {0}) Already) → IfOk r (λ _. FailedBy id 1009 v w) → IfErr r (λ e. FoundFailed id e.found.0 v w) → FoundDead id w
+fails_dead id v w (Ok u) ok err = let one : is_saw (socket_id_version id + 1) (Saw (socket_id_version id + 1)) ≡ 1 = only-same (socket_id_version id + 1) in
+    let x : marks_of (is_saw (socket_id_version id + 1)) (socket_id_slot id) w + 0 ≡ marks_of (is_saw (socket_id_version id + 1)) (socket_id_slot id) v + (0 + (is_saw (socket_id_version id + 1) (Saw (socket_id_version id + 1)) + 0)) = ok.here (is_saw (socket_id_version id + 1)) in omega arith
+fails_dead id v w (Err e) ok err = let one : is_saw (socket_id_version id + 1) (Saw (vref_version e.found.0)) ≡ 1 = ap (λ (y : ℕ). is_saw (socket_id_version id + 1) (Saw y)) err.0 ∙ only-same (socket_id_version id + 1) in
+    let x : marks_of (is_saw (socket_id_version id + 1)) (socket_id_slot id) w + 0 ≡ marks_of (is_saw (socket_id_version id + 1)) (socket_id_slot id) v + (is_saw (socket_id_version id + 1) (Saw (vref_version e.found.0)) + 0) = err.1.here (is_saw (socket_id_version id + 1)) in omega arith
+
 -- ## What is left of a message
 
 none_left : (l : List ℕ) → length l ≡ 0 → l ≡ []
@@ -104,6 +121,10 @@ is_none l b is t = none_left l (eqb-true (length l) 0 (sym is ∙ t))
 
 pub is_some : (l : List ℕ) (b : Bool) → b ≡ eqb (length l) 0 → b ≡ false → l ≢ []
 is_some l b is f e = false_true (sym f ∙ (is ∙ eq-eqb (length l) 0 (ap length e)))
+
+-- where all was taken that was left, the put didn't fail
+pub all_taken : (l left : List ℕ) (taken : ℕ) (r : Put) → l ≢ [] → l ≡ taken_of (piece l taken) r ++ left → left ≡ [] → r ≢ Failed
+all_taken l left taken r some_ is none_ e = some_ (is ∙ (λ i. taken_of (piece l taken) (e i) ++ none_ i))
 
 some_taken : (n : ℕ) (l : List ℕ) → 0 < n → l ≢ [] → 0 < length (take n l)
 some_taken zero l pos ne = absurd (omega arith)

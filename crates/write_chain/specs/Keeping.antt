@@ -14,7 +14,7 @@ use Rattle.write_chain.specs.declared.keep.Went.TheVariants as went
 use Rattle.write_chain.specs.declared.keep.Kept.{Kept}
 use Rattle.write_chain.specs.declared.keep.Kept.TheVariants as kept
 use Rattle.write_chain.specs.Noting.{Wrote, WroteDrop}
-use Rattle.write_chain.specs.Writing.{MayGoOn, GaveUp, FoundDead}
+use Rattle.write_chain.specs.Writing.{MayGoOn, GaveUp, FoundDead, HasMore}
 
 -- what a message was dropped with: the code word that was read, or 1009 where that was 0; it is the code that the seat found or stored before
 pub record IsCode (code id : ℕ) (v w : View) : Type 0 where
@@ -27,6 +27,17 @@ abbrev pub WentBy : {O : Type 0} {g : Ghosts O} → Plan → SockRef → Went O 
 WentBy p sock (went.Done s) v m = (s ≡ sock) × GaveUp p sock.id.0 m
 WentBy p sock (went.Dropped r msg code) v m = (r.sock ≡ sock) × MayGoOn p r m × FoundDead sock.id.0 m.0 × IsCode code sock.id.0 v m.0
 WentBy p sock (went.Further r) v m = (r.sock ≡ sock) × MayGoOn p r m
+
+-- the message was dropped
+abbrev pub IsDropped : {O : Type 0} {g : Ghosts O} → Went O g → Type 0
+IsDropped (went.Dropped r msg code) = Unit {0}
+IsDropped other = ⊥
+
+-- or it is there still
+abbrev pub LeavesMore : {O : Type 0} {g : Ghosts O} → Went O g → Type 0
+LeavesMore (went.Done s) = ⊥
+LeavesMore (went.Dropped r msg code) = Unit {0}
+LeavesMore (went.Further r) = HasMore r.doing
 
 abbrev pub KeptBy : {O : Type 0} {g : Ghosts O} → Plan → SockRef → Kept O g → View → Me (SockHome O g) View → Type 0
 KeptBy p sock (kept.Done s) v m = (s ≡ sock) × GaveUp p sock.id.0 m
@@ -41,3 +52,7 @@ WentWriting {O} {g} p sock (went.Further r) v w = Wrote g.state sock.id.0 v w
 abbrev pub KeptWriting : {O : Type 0} {g : Ghosts O} → Plan → SockRef → Kept O g → View → View → Type 0
 KeptWriting {O} {g} p sock (kept.Done s) v w = Wrote g.state sock.id.0 v w
 KeptWriting {O} {g} p sock (kept.Dropped r msg code) v w = WroteDrop g.state p sock.id.0 msg.label.place v w
+
+abbrev pub KeptDropped : {O : Type 0} {g : Ghosts O} → Kept O g → Type 0
+KeptDropped (kept.Done s) = ⊥
+KeptDropped (kept.Dropped r msg code) = Unit {0}

@@ -3,3 +3,4 @@ pub mod Sending
 pub mod Writing
 pub mod Keeping
 pub mod Puts
+pub mod Ready

@@ -123,6 +123,10 @@ HasWhole p id last hand m = (h : HasInHand p id last hand m) × (h.right_is.clea
 abbrev pub FoundDead : ℕ → View → Type 0
 FoundDead id v = 0 < marks_of (is_saw (socket_id_version id + 1)) (socket_id_slot id) v
 
+-- so many faults the link in hand had: it has as many, or the life was found failed
+abbrev pub FaultTold : {O : Type 0} {g : Ghosts O} → ℕ → ℕ → LinkHome O g → View → Type 0
+FaultTold {O} {g} n id home v = ((g.state home.out).faults ≡ n) ⊎ FoundDead id v
+
 -- what the seat has where it goes on by this
 abbrev pub GoesBy : {O : Type 0} {g : Ghosts O} → Plan → ℕ → ℕ → Doing O g → Me (SockHome O g) View → Type 0
 GoesBy p id last First m = ⊥
@@ -135,6 +139,16 @@ GoesBy p id last (doing.Back w) m = HasLink p id last (stage.Walks w.top.0 w.at.
 
 abbrev pub MayGoOn : {O : Type 0} {g : Ghosts O} → Plan → WriteRight O g → Me (SockHome O g) View → Type 0
 MayGoOn p right m = GoesBy p right.sock.id.0 right.last.0 right.doing m
+
+-- and of the link, where it is in hand still
+abbrev pub FaultsBy : {O : Type 0} {g : Ghosts O} → ℕ → ℕ → Doing O g → View → Type 0
+FaultsBy n id First v = Unit {0}
+FaultsBy n id (doing.Puts hand) v = FaultTold n id hand.home v
+FaultsBy n id (doing.Waits hand) v = FaultTold n id hand.home v
+FaultsBy n id (doing.Next link now) v = FaultTold n id link.home v
+FaultsBy n id (doing.Last link) v = FaultTold n id link.home v
+FaultsBy n id (doing.Walks link top) v = Unit {0}
+FaultsBy n id (doing.Back w) v = FaultTold n id w.link.home v
 
 -- all that was noted has its place
 abbrev pub IsLast : {O : Type 0} {g : Ghosts O} → Doing O g → Type 0
@@ -157,3 +171,24 @@ abbrev pub TriedBy : {O : Type 0} {g : Ghosts O} → Plan → ℕ → ℕ → �
 TriedBy p id last now (tried.Dead hand) m = HasPart p id last hand m × FoundDead id m.0
 TriedBy p id last now (tried.Whole hand) m = HasWhole p id last hand m × (hand.now.0 ≡ now)
 TriedBy p id last now (tried.Goes by) m = GoesBy p id last by m × IsLeft by
+
+abbrev pub TriedFaults : {O : Type 0} {g : Ghosts O} → ℕ → ℕ → Tried O g → View → Type 0
+TriedFaults n id (tried.Dead hand) v = FaultTold n id hand.home v
+TriedFaults n id (tried.Whole hand) v = FaultTold n id hand.home v
+TriedFaults n id (tried.Goes by) v = FaultsBy n id by v
+
+-- nothing was put: all in hand is as it was
+abbrev pub IsDead : {O : Type 0} {g : Ghosts O} → InHand O g → Tried O g → Type 0
+IsDead old (tried.Dead hand) = hand ≡ old
+IsDead old other = ⊥
+
+-- the right is kept
+abbrev pub IsKeep : {O : Type 0} {g : Ghosts O} → Once O g → Type 0
+IsKeep (once.Done s) = ⊥
+IsKeep (once.Keep r) = Unit {0}
+
+-- a message is written or dropped before the head is tried again
+abbrev pub HasMore : {O : Type 0} {g : Ghosts O} → Doing O g → Type 0
+HasMore First = ⊥
+HasMore (doing.Last link) = ⊥
+HasMore other = Unit {0}

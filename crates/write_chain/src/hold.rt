@@ -12,7 +12,7 @@ ghost use Rattle.sock_rule.specs.Seated.{IsSeat};
 ghost use Rattle.sock_rule.specs.ChainPlays.{IsTicket};
 ghost use Rattle.sock_rule.specs.Holding.{Rights, MayFreeRequest};
 ghost use Rattle.write_chain.specs.Noting.{Faulted, Wrote};
-ghost use Rattle.write_chain.specs.Writing.{MayBegin, MayGoOn, Stands, HasLink, HasInHand, HasPart, IsClean, HasWhole, FoundDead, GoesBy, IsLast, OnceBy, TriedBy};
+ghost use Rattle.write_chain.specs.Writing.{MayBegin, MayGoOn, Stands, HasLink, HasInHand, HasPart, IsClean, HasWhole, FoundDead, GoesBy, IsLast, OnceBy, TriedBy, TriedFaults, IsDead, IsKeep};
 
 use crate::right::{Doing, InHand, LinkInHand, WriteRight};
 use sock_io::{Out, Put};
@@ -213,6 +213,7 @@ pub fn look<O: Out>(
     requires may { HasPart table.now.rule.plan sock.now.id.0 _last.0 _hand.now seat.old.me }
     ensures seat { IsSeat table.now.rule.table.shared.table_id table.now.rule.plan seat.new }
     ensures live { result ≡ true → IsClean table.now.rule.plan sock.now.id.0 _last.0 _hand.entry.now seat.new.me }
+    ensures stays { FoundDead sock.now.id.0 seat.old.me.0 → result ≡ false }
     ensures dead { result ≡ false → HasPart table.now.rule.plan sock.now.id.0 _last.0 _hand.entry.now seat.new.me × FoundDead sock.now.id.0 seat.new.me.0 }
     ensures wrote { Wrote O.state sock.now.id.0 seat.old.me.0 seat.new.me.0 }
 {
@@ -235,6 +236,7 @@ pub fn fail_link<O: Out>(
     requires fault { Faulted O.state _hand.now.link }
     ensures seat { IsSeat table.now.rule.table.shared.table_id table.now.rule.plan seat.new }
     ensures has { HasPart table.now.rule.plan sock.now.id.0 _last.0 _hand.entry.now seat.new.me }
+    ensures dead { FoundDead sock.now.id.0 seat.new.me.0 }
     ensures wrote { Wrote O.state sock.now.id.0 seat.old.me.0 seat.new.me.0 }
 {
     let failed = table.fail(seat, sock, LINK_FAILED);
@@ -253,6 +255,7 @@ pub fn put_piece<O: Out>(
     requires may { IsClean table.now.rule.plan sock.now.id.0 last.0 hand seat.old.me × (hand.bytes.left ≢ []) }
     ensures seat { IsSeat table.now.rule.table.shared.table_id table.now.rule.plan seat.new }
     ensures tried { TriedBy table.now.rule.plan sock.now.id.0 last.0 hand.now.0 result seat.new.me }
+    ensures faults { TriedFaults (O.state hand.home.out).faults sock.now.id.0 result seat.new.me.0 }
     ensures wrote { Wrote O.state sock.now.id.0 seat.old.me.0 seat.new.me.0 }
 {
     let put = hand.put();
@@ -281,6 +284,7 @@ pub fn put_or_place<O: Out>(
     requires may { IsClean table.now.rule.plan sock.now.id.0 last.0 hand seat.old.me }
     ensures seat { IsSeat table.now.rule.table.shared.table_id table.now.rule.plan seat.new }
     ensures tried { TriedBy table.now.rule.plan sock.now.id.0 last.0 hand.now.0 result seat.new.me }
+    ensures faults { TriedFaults (O.state hand.home.out).faults sock.now.id.0 result seat.new.me.0 }
     ensures wrote { Wrote O.state sock.now.id.0 seat.old.me.0 seat.new.me.0 }
 {
     if hand.bytes.is_whole_taken() {
@@ -289,7 +293,7 @@ pub fn put_or_place<O: Out>(
     put_piece(table, seat, sock, last, hand)
 }
 
-/// A look, and one put where the socket lives. Where the link fails the socket is failed.
+/// A look, and one put where the socket lives. Where the link fails the socket is failed, so that nothing is put any more.
 pub fn try_put<O: Out>(
     table: &SockTable<O>,
     seat: &mut SockSeat<O>,
@@ -301,6 +305,8 @@ pub fn try_put<O: Out>(
     requires may { HasPart table.now.rule.plan sock.now.id.0 last.0 hand seat.old.me }
     ensures seat { IsSeat table.now.rule.table.shared.table_id table.now.rule.plan seat.new }
     ensures tried { TriedBy table.now.rule.plan sock.now.id.0 last.0 hand.now.0 result seat.new.me }
+    ensures stays { FoundDead sock.now.id.0 seat.old.me.0 → IsDead hand result }
+    ensures faults { TriedFaults (O.state hand.home.out).faults sock.now.id.0 result seat.new.me.0 }
     ensures wrote { Wrote O.state sock.now.id.0 seat.old.me.0 seat.new.me.0 }
 {
     if look(table, seat, sock, last, &hand) {
@@ -363,6 +369,7 @@ pub fn write_once<O: Out>(
     requires may { MayBegin table.now.rule.plan right seat.old.me }
     ensures seat { IsSeat table.now.rule.table.shared.table_id table.now.rule.plan seat.new }
     ensures once { OnceBy table.now.rule.plan right.sock result seat.new.me }
+    ensures stays { FoundDead right.sock.id.0 seat.old.me.0 → IsKeep result }
     ensures wrote { Wrote O.state right.sock.id.0 seat.old.me.0 seat.new.me.0 }
 {
     let WriteRight {

@@ -4,8 +4,8 @@ ghost use Rattle.sock_rule.specs.Seated.{IsSeat};
 ghost use Rattle.write_chain.specs.declared.right.Doing.TheVariants.{Back};
 ghost use Rattle.write_chain.specs.Noting.{Wrote, WroteDrop};
 ghost use Rattle.sock_model.specs.declared.chain.Stage.TheVariants.{Empties};
-ghost use Rattle.write_chain.specs.Writing.{MayGoOn, HasLink, HasPart, FoundDead, GoesBy};
-ghost use Rattle.write_chain.specs.Keeping.{IsCode, WentBy, WentWriting, KeptBy, KeptWriting};
+ghost use Rattle.write_chain.specs.Writing.{MayGoOn, HasLink, HasPart, FoundDead, GoesBy, FaultsBy, HasMore};
+ghost use Rattle.write_chain.specs.Keeping.{IsCode, WentBy, WentWriting, KeptBy, KeptWriting, IsDropped, LeavesMore, KeptDropped};
 
 use crate::hold::{
     LINK_FAILED, Once, Tried, fail_link, fetch_link, go_past, leave, place, take_next, try_put,
@@ -97,6 +97,8 @@ pub fn ask<O: Out>(
     requires may { HasPart table.now.rule.plan sock.now.id.0 last.0 hand seat.old.me }
     ensures seat { IsSeat table.now.rule.table.shared.table_id table.now.rule.plan seat.new }
     ensures goes { GoesBy table.now.rule.plan sock.now.id.0 last.0 result seat.new.me }
+    ensures faults { FaultsBy (O.state hand.home.out).faults sock.now.id.0 result seat.new.me.0 }
+    ensures more { HasMore result }
     ensures wrote { Wrote O.state sock.now.id.0 seat.old.me.0 seat.new.me.0 }
 {
     match hand.ready() {
@@ -126,6 +128,7 @@ pub fn walk_back<O: Out>(
     requires may { GoesBy table.now.rule.plan sock.id.0 last.0 (Back walk) seat.old.me }
     ensures seat { IsSeat table.now.rule.table.shared.table_id table.now.rule.plan seat.new }
     ensures goes { (result.sock ≡ sock) × MayGoOn table.now.rule.plan result seat.new.me }
+    ensures more { HasMore result.doing }
     ensures others { seat.new.me.0 ≡ record seat.old.me.0 { rights = seat.new.me.0.rights } }
 {
     let found = table.rule.read_back(seat, walk.at);
@@ -177,6 +180,7 @@ pub fn put_or_drop<O: Out>(
     requires may { HasPart table.now.rule.plan sock.id.0 last.0 hand seat.old.me }
     ensures seat { IsSeat table.now.rule.table.shared.table_id table.now.rule.plan seat.new }
     ensures went { WentBy table.now.rule.plan sock result seat.old.me.0 seat.new.me }
+    ensures stays { FoundDead sock.id.0 seat.old.me.0 → IsDropped result }
     ensures wrote { WentWriting table.now.rule.plan sock result seat.old.me.0 seat.new.me.0 }
 {
     match try_put(table, seat, &sock, last, hand) {
@@ -224,6 +228,7 @@ pub fn go_on<O: Out>(
     requires may { MayGoOn table.now.rule.plan right seat.old.me }
     ensures seat { IsSeat table.now.rule.table.shared.table_id table.now.rule.plan seat.new }
     ensures went { WentBy table.now.rule.plan right.sock result seat.old.me.0 seat.new.me }
+    ensures stays { FoundDead right.sock.id.0 seat.old.me.0 → HasMore right.doing → LeavesMore result }
     ensures wrote { WentWriting table.now.rule.plan right.sock result seat.old.me.0 seat.new.me.0 }
 {
     let WriteRight { sock, last, doing } = right;
@@ -262,7 +267,8 @@ pub fn go_on<O: Out>(
 
 /// Writes until the head is empty, and takes what came meanwhile in the order in which it was accepted. Before each put, and
 /// before each message that is dropped, it looks whether the socket lives. It waits for a link that takes nothing, and for a
-/// writer that hasn't connected its request yet. After each dropped message it answers, and is called again.
+/// writer that hasn't connected its request yet. After each dropped message it answers, and is called again. Where the seat
+/// found the life failed before, no message is put.
 pub fn keep_write<O: Out, R: Wait>(
     table: &SockTable<O>,
     rt: &R,
@@ -273,6 +279,7 @@ pub fn keep_write<O: Out, R: Wait>(
     requires may { MayGoOn table.now.rule.plan right seat.old.me }
     ensures seat { IsSeat table.now.rule.table.shared.table_id table.now.rule.plan seat.new }
     ensures kept { KeptBy table.now.rule.plan right.sock result seat.old.me.0 seat.new.me }
+    ensures stays { FoundDead right.sock.id.0 seat.old.me.0 → HasMore right.doing → KeptDropped result }
     ensures wrote { KeptWriting table.now.rule.plan right.sock result seat.old.me.0 seat.new.me.0 }
 {
     let backoff = Backoff::new();

@@ -1,4 +1,4 @@
-ghost use Rattle.std.specs.Prelude.{◌≡◌, ◌<◌, [], false, length};
+ghost use Rattle.std.specs.Prelude.{◌≡◌, ◌≢◌, ◌<◌, [], false, length};
 ghost use Rattle.sock_io.specs.declared.link.Put.TheVariants.{Failed};
 ghost use Rattle.sock_io.specs.declared.link.Ready.TheVariants as ready;
 ghost use Rattle.sock_io.specs.Causes.{Rose};
@@ -36,6 +36,7 @@ impl<O: Out> InHand<O> {
         requires some { 0 < length (piece self.old.bytes.left self.old.bytes.taken) }
         ensures has { WentOn self.old self.new (taken_of (piece self.old.bytes.left self.old.bytes.taken) result) }
         ensures faults { result ≡ Failed → (O.state self.old.home.out).finished ≡ false → Rose (O.state self.old.home.out).faults (O.state self.new.home.out).faults }
+        ensures kept { result ≢ Failed → (O.state self.new.home.out).faults ≡ (O.state self.old.home.out).faults }
     {
         let put = self.home.put(self.bytes.next_piece());
         if let Put::Took(count) = put {
@@ -48,6 +49,7 @@ impl<O: Out> InHand<O> {
     pub fn ready(&mut self) -> Ready
         ensures has { WentOn self.old self.new [] }
         ensures faults { result ≡ ready.Failed → (O.state self.old.home.out).finished ≡ false → Rose (O.state self.old.home.out).faults (O.state self.new.home.out).faults }
+        ensures kept { result ≢ ready.Failed → (O.state self.new.home.out).faults ≡ (O.state self.old.home.out).faults }
     {
         self.home.ready()
     }

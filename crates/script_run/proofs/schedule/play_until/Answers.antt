@@ -1,4 +1,3 @@
-use Rattle.std.proofs.Common.{OnOk}
 use Rattle.sock_core.proofs.Endings.{on_ok}
 use Rattle.script_run.proofs.Playing.{playable_by, led_played}
 use Rattle.script_run.proofs.schedule.play_until.Goals as goal

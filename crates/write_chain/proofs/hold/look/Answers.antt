@@ -1,5 +1,6 @@
+use Rattle.std.proofs.Common.{not}
 use Rattle.write_chain.proofs.Stepping.{may_look}
-use Rattle.write_chain.proofs.Looking.{live, dead, looked_wrote, found_live, found_dead}
+use Rattle.write_chain.proofs.Looking.{live, dead, dead_again, never_true, looked_wrote, found_live, found_dead}
 use Rattle.write_chain.proofs.hold.look.Goals as goal
 
 pub slot_at-slot-requires : goal.slot_at-slot-requires
@@ -16,3 +17,7 @@ returns-clause-dead g c = let h = c.requires.may in λ f. dead c.args._hand.now 
 
 pub returns-clause-wrote : goal.returns-clause-wrote
 returns-clause-wrote g c = let h = c.requires.may in looked_wrote c.args._hand.now c.args.seat.now.me c.look_to_write-step.new.seat.me c.slot_at-slot.result c.look_to_write-step.result.found c.slot_at-slot.ensures.slot h (c.look_to_write-step.ensures.view h.0.right_is h.0.writer.one)
+
+pub returns-clause-stays : goal.returns-clause-stays
+returns-clause-stays g c = let h = c.requires.may in λ d. never_true (not c.is_failed.result) (λ t. dead_again c.args._hand.now c.args.seat.now.me c.look_to_write-step.new.seat.me c.slot_at-slot.result c.look_to_write-step.result.found c.slot_at-slot.ensures.slot h (c.look_to_write-step.ensures.view h.0.right_is h.0.writer.one) d
+    (found_live c.is_failed.result c.look_to_write-step.result.found c.from_word-found.result.0 c.from_word-found.ensures c.is_failed.ensures t))

@@ -1,4 +1,4 @@
-use Rattle.std.proofs.Common.{refl}
+use Rattle.std.proofs.Common.{inl, refl}
 use Rattle.write_chain.proofs.Noting.{wrote_rights}
 use Rattle.write_chain.proofs.Looking.{is_none, is_some}
 use Rattle.write_chain.proofs.hold.put_or_place.Goals as goal
@@ -11,3 +11,6 @@ returns-then-is_whole_taken-clause-wrote g c = wrote_rights c.args.seat.now.me.0
 
 pub put_piece-requires-clause-may : goal.put_piece-requires-clause-may
 put_piece-requires-clause-may g c = (c.requires.may, is_some c.args.hand.bytes.left c.is_whole_taken.result c.is_whole_taken.ensures c.if-is_whole_taken.false)
+
+pub returns-then-is_whole_taken-clause-faults : goal.returns-then-is_whole_taken-clause-faults
+returns-then-is_whole_taken-clause-faults g c = inl refl

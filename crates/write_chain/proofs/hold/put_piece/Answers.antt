@@ -1,7 +1,7 @@
-use Rattle.std.proofs.Common.{inr, refl, sym, ap, ◌∙◌}
+use Rattle.std.proofs.Common.{inl, inr, refl, sym, ap, ◌∙◌}
 use Rattle.write_chain.proofs.Noting.{wrote_rights}
 use Rattle.write_chain.proofs.Stepping.{clean_put}
-use Rattle.write_chain.proofs.Looking.{is_none, is_some, some_piece}
+use Rattle.write_chain.proofs.Looking.{is_none, is_some, some_piece, all_taken}
 use Rattle.write_chain.proofs.hold.put_piece.Goals as goal
 
 pub put-put-requires : goal.put-put-requires
@@ -33,3 +33,16 @@ fail_link-requires-clause-fault g c = let h = c.requires.may.0.0.has in let k = 
 
 pub returns-in-Failed-clause-tried : goal.returns-in-Failed-clause-tried
 returns-in-Failed-clause-tried g c = (c.fail_link.ensures.has, tt)
+
+pub returns-then-is_whole_taken-clause-faults : goal.returns-then-is_whole_taken-clause-faults
+returns-then-is_whole_taken-clause-faults g c = inl (c.put-put.ensures.kept (all_taken c.args.hand.bytes.left c.put-put.new.self.bytes.left c.args.hand.bytes.taken c.put-put.result c.requires.may.1 c.put-put.ensures.has.left
+    (is_none c.put-put.new.self.bytes.left c.is_whole_taken.result c.is_whole_taken.ensures c.if-is_whole_taken.true)))
+
+pub returns-in-Took-clause-faults : goal.returns-in-Took-clause-faults
+returns-in-Took-clause-faults g c = inl (c.put-put.ensures.kept (λ e. cc (e, c.in-Took.is)))
+
+pub returns-in-Again-clause-faults : goal.returns-in-Again-clause-faults
+returns-in-Again-clause-faults g c = inl (c.put-put.ensures.kept (λ e. cc (e, c.in-Again.is)))
+
+pub returns-in-Failed-clause-faults : goal.returns-in-Failed-clause-faults
+returns-in-Failed-clause-faults g c = inr c.fail_link.ensures.dead

@@ -1,5 +1,6 @@
 use Rattle.std.proofs.Common.{refl, ◌∙◌}
 use Rattle.write_chain.proofs.Noting.{wrote_then, wrote_rights, rights_then}
+use Rattle.write_chain.proofs.Dropping.{still_dead}
 use Rattle.write_chain.proofs.hold.write_once.Goals as goal
 
 pub take_up-hand-requires-clause-may : goal.take_up-hand-requires-clause-may
@@ -27,3 +28,12 @@ returns-in-Goes-clause-once g c = (refl, c.in-Goes.ensures.tried.0, c.in-Goes.en
 
 pub returns-in-Goes-clause-wrote : goal.returns-in-Goes-clause-wrote
 returns-in-Goes-clause-wrote g c = wrote_then c.args.seat.now.me.0 c.take_up-hand.new.seat.me.0 c.try_put.new.seat.me.0 c.take_up-hand.ensures.wrote c.try_put.ensures.wrote
+
+pub returns-in-Dead-clause-stays : goal.returns-in-Dead-clause-stays
+returns-in-Dead-clause-stays g c = λ d. tt
+
+pub returns-in-Whole-clause-stays : goal.returns-in-Whole-clause-stays
+returns-in-Whole-clause-stays g c = λ d. absurd (c.in-Whole.ensures.stays (still_dead c.args.right.sock.id.0 c.args.seat.now.me.0 c.take_up-hand.new.seat.me.0 c.take_up-hand.ensures.wrote d))
+
+pub returns-in-Goes-clause-stays : goal.returns-in-Goes-clause-stays
+returns-in-Goes-clause-stays g c = λ d. tt

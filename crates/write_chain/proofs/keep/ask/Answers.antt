@@ -1,4 +1,4 @@
-use Rattle.std.proofs.Common.{refl, sym, ◌∙◌}
+use Rattle.std.proofs.Common.{inl, inr, refl, sym, ◌∙◌}
 use Rattle.write_chain.proofs.Noting.{wrote_rights}
 use Rattle.write_chain.proofs.Stepping.{part_asked}
 use Rattle.write_chain.proofs.keep.ask.Goals as goal
@@ -26,3 +26,21 @@ returns-in-Failed-clause-goes g c = c.fail_link.ensures.has
 
 pub returns-in-Failed-clause-wrote : goal.returns-in-Failed-clause-wrote
 returns-in-Failed-clause-wrote g c = c.fail_link.ensures.wrote
+
+pub returns-in-Now-clause-faults : goal.returns-in-Now-clause-faults
+returns-in-Now-clause-faults g c = inl (c.ready.ensures.kept (λ e. cc (e, c.in-Now.is)))
+
+pub returns-in-NotYet-clause-faults : goal.returns-in-NotYet-clause-faults
+returns-in-NotYet-clause-faults g c = inl (c.ready.ensures.kept (λ e. cc (e, c.in-NotYet.is)))
+
+pub returns-in-Failed-clause-faults : goal.returns-in-Failed-clause-faults
+returns-in-Failed-clause-faults g c = inr c.fail_link.ensures.dead
+
+pub returns-in-Now-clause-more : goal.returns-in-Now-clause-more
+returns-in-Now-clause-more g c = tt
+
+pub returns-in-NotYet-clause-more : goal.returns-in-NotYet-clause-more
+returns-in-NotYet-clause-more g c = tt
+
+pub returns-in-Failed-clause-more : goal.returns-in-Failed-clause-more
+returns-in-Failed-clause-more g c = tt

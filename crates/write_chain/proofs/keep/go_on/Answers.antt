@@ -1,7 +1,8 @@
 use Rattle.std.proofs.Common.{refl, subst}
 use Rattle.sock_model.specs.declared.chain.Stage.TheVariants.{Walks}
-use Rattle.write_chain.specs.Writing.{GoesBy}
+use Rattle.write_chain.specs.Writing.{GoesBy, HasMore}
 use Rattle.write_chain.proofs.Noting.{wrote_rights}
+use Rattle.write_chain.proofs.Dropping.{dropped_leaves}
 use Rattle.write_chain.proofs.keep.go_on.Goals as goal
 
 pub unreachable-requires : goal.unreachable-requires
@@ -45,3 +46,21 @@ returns-in-Back-clause-went g c = c.walk_back.ensures.goes
 
 pub returns-in-Back-clause-wrote : goal.returns-in-Back-clause-wrote
 returns-in-Back-clause-wrote g c = wrote_rights c.args.seat.now.me.0 c.walk_back.new.seat.me.0 c.walk_back.ensures.others
+
+pub returns-in-Puts-clause-stays : goal.returns-in-Puts-clause-stays
+returns-in-Puts-clause-stays g c = λ d m. dropped_leaves c.put_or_drop.result (c.put_or_drop.ensures.stays d)
+
+pub returns-in-Waits-clause-stays : goal.returns-in-Waits-clause-stays
+returns-in-Waits-clause-stays g c = λ d m. c.ask-doing.ensures.more
+
+pub returns-in-Next-clause-stays : goal.returns-in-Next-clause-stays
+returns-in-Next-clause-stays g c = λ d m. tt
+
+pub returns-in-Last-clause-stays : goal.returns-in-Last-clause-stays
+returns-in-Last-clause-stays g c = λ d m. absurd (subst (λ x. HasMore x) c.in-Last.is m)
+
+pub returns-in-Walks-clause-stays : goal.returns-in-Walks-clause-stays
+returns-in-Walks-clause-stays g c = λ d m. tt
+
+pub returns-in-Back-clause-stays : goal.returns-in-Back-clause-stays
+returns-in-Back-clause-stays g c = λ d m. c.walk_back.ensures.more

@@ -26,3 +26,12 @@ returns-in-Goes-clause-went g c = (refl, c.in-Goes.ensures.tried.0)
 
 pub returns-in-Goes-clause-wrote : goal.returns-in-Goes-clause-wrote
 returns-in-Goes-clause-wrote g c = c.try_put.ensures.wrote
+
+pub returns-in-Dead-clause-stays : goal.returns-in-Dead-clause-stays
+returns-in-Dead-clause-stays g c = λ d. tt
+
+pub returns-in-Whole-clause-stays : goal.returns-in-Whole-clause-stays
+returns-in-Whole-clause-stays g c = λ d. absurd (c.in-Whole.ensures.stays d)
+
+pub returns-in-Goes-clause-stays : goal.returns-in-Goes-clause-stays
+returns-in-Goes-clause-stays g c = λ d. absurd (c.in-Goes.ensures.stays d)

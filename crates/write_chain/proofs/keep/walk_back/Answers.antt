@@ -58,3 +58,12 @@ returns-clause-others g c = let h = c.requires.may.0 in let read = (c.read_back-
     let t = reads_at c.args.walk.top.0 c.args.walk.at.0 c.args.walk.after c.read_back-found.result c.args.walk.link c.args.seat.now.me c.read_back-found.new.seat.me h read.0 in
     rights_then c.args.seat.now.me.0 c.read_back-found.new.seat.me.0 c.turn_next.new.seat.me.0 (rights_only c.args.seat.now.me.0 c.read_back-found.new.seat.me.0 _ (ap (λ m. m.0) read.0))
     (rights_only c.read_back-found.new.seat.me.0 c.turn_next.new.seat.me.0 _ (ap (λ m. m.0) (c.turn_next.ensures.view t.right_is c.args.walk.top.0 c.args.walk.after c.read_back-found.result t.writer.one t.stage_is)))
+
+pub returns-then-found-clause-more : goal.returns-then-found-clause-more
+returns-then-found-clause-more g c = tt
+
+pub returns-then-found-end-clause-more : goal.returns-then-found-end-clause-more
+returns-then-found-end-clause-more g c = tt
+
+pub returns-clause-more : goal.returns-clause-more
+returns-clause-more g c = tt

@@ -1,0 +1,6 @@
+pub mod Locking
+pub mod Programs
+pub mod Ticks
+pub mod Resting
+pub mod Along
+pub mod Nothing

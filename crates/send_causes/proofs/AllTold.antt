@@ -1,0 +1,29 @@
+-- All that is told of a whole run with calls, of any script that is made and read.
+use Rattle.std.proofs.Common.{◌≡◌, ℕ, List, Ok}
+use Rattle.std.specs.List.{AllByRecursion}
+use Rattle.brpc_model.specs.Items.{Item}
+use Rattle.brpc_model.specs.Operations.{Turn}
+use Rattle.brpc_model.specs.Script.{script_of}
+use Rattle.sock_programs.specs.Cores.{Core}
+use Rattle.sock_programs.specs.Tasks.{plan_of}
+use Rattle.sock_programs.specs.Scripts.{all_tasks, IsRunWithCalls}
+use Rattle.sock_programs.specs.ToldCalls.{ToldCalls}
+use Rattle.joint_runs.proofs.Runs.{AreMade}
+use Rattle.report_fits.proofs.Reading.{InRange}
+use Rattle.report_fits.proofs.Targets.{AreThere}
+use Rattle.owed_calls.specs.Lives.{ClosesInRun}
+use Rattle.call_causes.specs.Lists.{given}
+use Rattle.send_causes.proofs.Assembled.{last_in_run, fixed_in_run, orders_in_run, told_calls}
+use Rattle.send_causes.proofs.Assembled as assembled
+use Rattle.send_causes.proofs.CausedEnds.{ended_of_run}
+use Rattle.send_causes.proofs.CausedPosts.{caused_of_run}
+
+module _ (script : List Item) (made : AreMade script) (there : AreThere script) (range : AllByRecursion InRange script) (turns : List Turn) (core : Core) (is : IsRunWithCalls script turns core) (closes : ClosesInRun script turns core is) (bytes : List ℕ) (reads : script_of bytes ≡ Ok script) where
+  -- why each task has its outcome, and each link took what it took
+  pub told_of_run : ToldCalls (plan_of script) (all_tasks script) core.outcomes (fixed_in_run script made there range bytes reads turns core is closes) (given core) (orders_in_run script made there range bytes reads turns core is closes) core
+  told_of_run = told_calls script made there range bytes reads turns core is closes (caused_of_run script made there range turns core is closes bytes reads) (ended_of_run script made there range turns core is closes bytes reads)
+
+  -- its last attempts are those to which the run came
+  pub told_last : (o : ℕ) → told_of_run.last o ≡ last_in_run script made there range bytes reads turns core is closes o
+  unfolding told_of_run
+  told_last o = assembled.told_last script made there range bytes reads turns core is closes (caused_of_run script made there range turns core is closes bytes reads) (ended_of_run script made there range turns core is closes bytes reads) o
