@@ -154,7 +154,7 @@ module _ {O : Type 0} {g : Ghosts O} {state : O → OutState} {p : Plan} {client
       let y = r.1 in
       let seen = grew.finds record { place = name_word p b.m.operation.name; word = id.0 + 1 } (here_found p b.m.operation.name t.sock (before run b) t.has t.reached_it) in
       let made = found_made run b b.m.operation.name id (name_low run more b) seen in
-      let even = (more.born_life i h r.0 (made_born run more b.m.operation.name made.0 i h made.1)).1 in
+      let even = (run.closed.closing.born_life i h r.0 (made_born run more b.m.operation.name made.0 i h made.1)).1 in
       dead b (outcome.Already found) by (λ e. cc) id (vref_version found.0) r.0 seen (omega arith) (omega arith) (omega arith)
       (λ version. vref_version found.0 % 2 ≡ 1) (omega arith)
 
@@ -169,5 +169,5 @@ module _ {O : Type 0} {g : Ghosts O} {state : O → OutState} {p : Plan} {client
   opened_cause b slot version k by =
       let made = made_of run b slot version k by in
       let low = made_inside run more b.m.operation.name k slot version made in
-      let life = more.born_life slot version low (made_born run more b.m.operation.name k slot version made) in
+      let life = run.closed.closing.born_life slot version low (made_born run more b.m.operation.name k slot version made) in
       (opened_link state p b.y.client b.y.tasks b.y.thread b.y.is b.k b.m (task_of run b) slot version k b.is (task_at run b).1 (asked_of run b) by, low, life.1, life.0)

@@ -18,3 +18,5 @@ pub mod Causes
 pub mod Names
 pub mod Whole
 pub mod Reports
+pub mod Drops
+pub mod DropCauses

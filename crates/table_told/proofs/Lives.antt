@@ -67,6 +67,19 @@ acted_born state p label o action.Hold by slot version k s t b is = absurd (subs
 acted_born state p label o action.Drop by slot version k s t b is = absurd (subst (λ (x : Option Outcome). Acted state p label o action.Drop x s t) is b).0
 acted_born state p label o (action.Fail code) by slot version k s t b is = absurd (subst (λ (x : Option Outcome). Acted state p label o (action.Fail code) x s t) is b).0
 
+-- its slot is one of the table
+opened_inside : {S : Type 0} (p : Plan) (name operation link slot version k : ℕ) (m n : Me S View) → OpenedBy p name operation link (outcome.Opened slot version k) m n → slot < p.slots
+opened_inside p name operation link slot version k m n b = subst (λ s. s < p.slots) (sym b.1) b.4.inside
+
+acted_inside : {O : Type 0} {g : Ghosts O} (state : O → OutState) (p : Plan) (label : Label) (o : Operation) (a : Action) (by : Option Outcome) (slot version k : ℕ) (s t : Stand g) → Acted state p label o a by s t → by ≡ Some (outcome.Opened slot version k) → slot < p.slots
+acted_inside state p label o action.Open (Some by) slot version k s t b is =
+    opened_inside p o.name o.number b.0.pass.link slot version k s.me t.me (subst (λ (x : Outcome). OpenedBy p o.name o.number b.0.pass.link x s.me t.me) (same_Some by (outcome.Opened slot version k) is) b.0.opened)
+acted_inside state p label o action.Open None slot version k s t b is = elim b [ ]
+acted_inside state p label o (action.Send bytes) by slot version k s t b is = absurd (subst (λ (x : Option Outcome). Acted state p label o (action.Send bytes) x s t) is b).0
+acted_inside state p label o action.Hold by slot version k s t b is = absurd (subst (λ (x : Option Outcome). Acted state p label o action.Hold x s t) is b).0
+acted_inside state p label o action.Drop by slot version k s t b is = absurd (subst (λ (x : Option Outcome). Acted state p label o action.Drop x s t) is b).0
+acted_inside state p label o (action.Fail code) by slot version k s t b is = absurd (subst (λ (x : Option Outcome). Acted state p label o (action.Fail code) x s t) is b).0
+
 module _ {O : Type 0} {g : Ghosts O} {state : O → OutState} {p : Plan} {clients : List (List Task)} {outcomes : List (Option Outcome)} {places : List PlaceWord} {vrefs : List Vref} {outs : List O} (run : ThreadRun g state p clients outcomes places vrefs outs) where
   abbrev pub acted_of : (a : Act run) → Acted state p (label_of a.y.client a.m.order a.m.operation) a.m.operation a.m.operation.action a.m.made.by a.m.before.has a.m.after.has
   acted_of a = a.m.made.acted
@@ -117,7 +130,7 @@ module _ {O : Type 0} {g : Ghosts O} {state : O → OutState} {p : Plan} {client
   module _ (more : Besides run) where
     -- a socket that was opened is of a slot of the table
     pub made_inside : (n k slot version : ℕ) → Made clients outcomes n k slot version → slot < p.slots
-    made_inside n k slot version m = let w = maker n k slot version m in more.inside w.0.c w.0.y w.0.at w.0.k w.0.m w.0.is slot version k w.1
+    made_inside n k slot version m = let w = maker n k slot version m in let a = w.0 in acted_inside state p (label_of a.y.client a.m.order a.m.operation) a.m.operation a.m.operation.action a.m.made.by slot version k a.m.before.has a.m.after.has (acted_of a) w.1
 
     -- no two opens made the same life
     pub lives : (n k m l slot version : ℕ) (a : Made clients outcomes n k slot version) (b : Made clients outcomes m l slot version) → a.task.number ≡ b.task.number

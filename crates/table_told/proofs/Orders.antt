@@ -36,6 +36,7 @@ use Rattle.sock_programs.specs.Scripts.{taken_by, took_at_home}
 use Rattle.sock_programs.specs.Told.{IsTask, Became, TaskFits, OpFits}
 use Rattle.sock_programs.specs.ToldCalls.{Accepted, Order, Fixed, AreOrders, IsTaken, StandsAt, StandsOn, InOwnOrder, bytes_of, label}
 use Rattle.report_fits.proofs.Lists.{before_from}
+use Rattle.sock_rule.specs.Closing.{LifeFailed}
 use Rattle.table_told.specs.Besides.{Besides}
 use Rattle.table_told.specs.Left.{accepted_of, orders_of, homes_of, core_of, gave_of}
 use Rattle.table_told.specs.Threads.{ThreadRun}
@@ -139,14 +140,14 @@ module _ {O : Type 0} {g : Ghosts O} {state : O → OutState} {p : Plan} {client
   -- what a link took, and how many messages whole
   pub record LinkEnds (k : ℕ) (x : List ℕ × ℕ) : Type 0 where
     pub fifo : IsFifo (λ l. slice_index run.closed.words (place_word p l)) k (on k (log run more)) x.1 x.0
-    pub failed : x.1 < length (on k (log run more)) → (i h : ℕ) × (i < p.slots) × (0 < marks_of (is_linked h k) i run.closed.view) × (0 < marks_of (is_failer h) i run.closed.view)
+    pub failed : x.1 < length (on k (log run more)) → LifeFailed p run.closed.view k
     pub out : O
     pub there : get_elem? outs k ≡ some out
     pub own : (state out).link ≡ k
     pub tells : ForSome (state out).took (λ bytes. bytes ≡ x.0)
 
   pub ends : (f : ℕ → List ℕ × ℕ) × ((k : ℕ) → k < p.links → LinkEnds k (f k))
-  ends = choose LinkEnds ([], 0) p.links (λ k low. (let b = run.closed.outs_back k low in ((b.took, b.took_is.kept), record { fifo = b.took_is.fifo (places_differ run more); failed = more.failed k low; out = b.out; there = b.there; own = b.own; tells = b.tells })))
+  ends = choose LinkEnds ([], 0) p.links (λ k low. (let b = run.closed.outs_back k low in ((b.took, b.took_is.kept), record { fifo = b.took_is.fifo (places_differ run more); failed = b.took_is.failed; out = b.out; there = b.there; own = b.own; tells = b.tells })))
 
   abbrev pub took : ℕ → List ℕ
   took k = (ends.0 k).0
@@ -197,7 +198,7 @@ module _ {O : Type 0} {g : Ghosts O} {state : O → OutState} {p : Plan} {client
   pub are_orders : AreOrders p left orders
   are_orders = record {
     written = λ k i a low at. (let w = entry_on k i a at in ap (λ l. slice_index run.closed.words (place_word p l)) (ap label (sym w.2) ∙ label_is w.0) ∙ word_at k i w.0 low w.1);
-    alone = λ l low. ⊎_elim (λ none_. inl none_) (λ w. inr (w.0, w.1, accepted_of w.2, w.3, accepted_there (on w.0 (log run more)) w.1 w.2 w.4, sym w.5 ∙ sym (label_is w.2))) (more.shown l low);
+    alone = λ l low. ⊎_elim (λ none_. inl none_) (λ w. inr (w.link, w.position, accepted_of w.entry, w.inside, accepted_there (on w.link (log run more)) w.position w.entry w.there, sym w.own ∙ sym (label_is w.entry))) (run.closed.shown l low);
     within = λ k low. (let c = (ends.1 k low).fifo.count in let n = map_long accepted_of (on k (log run more)) in omega arith);
     taken = λ k low. subst (IsTaken (orders k)) (sym (took_home p took k low)) (taken_of (on k (log run more)) (kept k) (took k) (λ i e at. (let w = from_on k (log run more) i e at in has_bytes w.0 e w.1)) (ends.1 k low).fifo.took_is);
     apart = λ k l i j a b low_k low_l at bt same. (

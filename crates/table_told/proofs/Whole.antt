@@ -1,4 +1,4 @@
--- What a run on threads leaves is what is told of a run: all but the causes of `drop`s.
+-- What a run on threads leaves is what is told of a run.
 use Rattle.std.proofs.Common.{◌≡◌, ◌≢◌, ℕ, zero, suc, ◌+◌, ◌<◌, ◌≤◌, inl, inr, List, [], ◌∷◌, length, map, Option, Some, refl, sym, ap, ◌∙◌, subst, arith}
 use mathlib.Core.Logic.{dite}
 use native.Mathlib.Decide.{ℕ_discrete}
@@ -33,6 +33,7 @@ use Rattle.table_told.proofs.Lives.{acted_of}
 use Rattle.table_told.proofs.Orders.{orders}
 use Rattle.table_told.proofs.Outcomes.{task_of, number_of, asked_of, is_task, act_told, act_of, task_is}
 use Rattle.table_told.proofs.Causes.{gone_cause, refused_cause, already_cause, has_life, opened_cause}
+use Rattle.table_told.proofs.DropCauses.{drop_cause}
 use Rattle.table_told.proofs.Names.{unopened_cause, full_cause}
 use Rattle.table_told.proofs.Whys.{dropped, sent}
 use Rattle.std.proofs.Common.{cond}
@@ -111,10 +112,6 @@ module _ {O : Type 0} {g : Ghosts O} {state : O → OutState} {p : Plan} {client
     abbrev WhyHere : ℕ → ℕ → Op → Outcome → Type 0
     WhyHere c o op x = Why p clients outcomes (fixed run more) gave_of (orders run more) last_ c o op x
 
-    -- why the `drop`s have their outcomes
-    abbrev pub WhyDrops : Type 0
-    WhyDrops = (a : Act run) (n : ℕ) (o : Outcome) → a.m.made.by ≡ Some o → a.m.operation.action ≡ action.Drop → (task_of run a).op ≡ ops.Drop n → Why p clients outcomes (fixed run more) gave_of (orders run more) last_ a.c (number_of run a) (ops.Drop n) o
-
     same_op : (n k m l : ℕ) → ops.Open n k ≡ ops.Open m l → l ≡ k
     same_op n k m l e = ap (λ op. elim_link op) (sym e)
       where
@@ -122,53 +119,52 @@ module _ {O : Type 0} {g : Ghosts O} {state : O → OutState} {p : Plan} {client
         elim_link (ops.Open n k) = k
         elim_link other = 0
 
-    module _ (drops : WhyDrops) where
-      why_of : (a : Act run) (op : Op) (act : Action) (o : Outcome) → Acted state p (label_of a.y.client a.m.order a.m.operation) a.m.operation act (Some o) a.m.before.has a.m.after.has → AsksFor op a.m.operation.name act → a.m.made.by ≡ Some o → (task_of run a).op ≡ op → a.m.operation.action ≡ act → WhyHere a.c (number_of run a) op o
-      why_of a (ops.Open n k) action.Open (outcome.Opened slot version l) b asks by op act = let w = opened_cause run more a slot version l by in (same_op n k a.m.operation.name l (sym op ∙ w.0), w.1, w.2, w.3)
-      why_of a (ops.Open n k) action.Open outcome.SlotsFull b asks by op act = full_cause run more a b.0.opened
-      why_of a (ops.Open n k) action.Open other b asks by op act = elim b.0.opened [ ]
-      why_of a (ops.Send n bytes) (action.Send sent_) outcome.Unopened b asks by op act = subst (λ x. WhyHere a.c (number_of run a) (ops.Send x bytes) outcome.Unopened) asks.0 (unopened_cause run more a (is_client a (λ h. subst IsOpen op h)) by b.0.1)
-      why_of a (ops.Send n bytes) (action.Send sent_) (outcome.Gone found) b asks by op act = subst (λ x. WhyHere a.c (number_of run a) (ops.Send x bytes) (outcome.Gone found)) asks.0 (elim (b.0) [ inl r ↦ gone_cause run more a found by r | inr s ↦ refused_cause run more a found _ by s ])
-      why_of a (ops.Send n bytes) (action.Send sent_) outcome.Full b asks by op act = subst (λ x. WhyHere a.c (number_of run a) (ops.Send x bytes) outcome.Full) asks.0 (has_life run more a b.0.sock b.0.has b.0.reached_it (delivered_grew state p b.0.sock _ (Some outcome.Full) b.0.has (after run a) b.0.delivered), was_full a _ b.0)
-      why_of a (ops.Send n bytes) (action.Send sent_) other b asks by op act = elim b.0 [ ]
-      why_of a (ops.Hold n) action.Hold outcome.Unopened b asks by op act = subst (λ x. WhyHere a.c (number_of run a) (ops.Hold x) outcome.Unopened) asks (unopened_cause run more a (is_client a (λ h. subst IsOpen op h)) by b.0.1.1)
-      why_of a (ops.Hold n) action.Hold (outcome.Gone found) b asks by op act = subst (λ x. WhyHere a.c (number_of run a) (ops.Hold x) (outcome.Gone found)) asks (gone_cause run more a found by b.0.1)
-      why_of a (ops.Hold n) action.Hold outcome.Held b asks by op act = subst (λ x. WhyHere a.c (number_of run a) (ops.Hold x) outcome.Held) asks (has_life run more a record { id = b.0.0 } (after run a) b.0.2 (grew_none (after run a)))
-        where
-          grew_none : (v : View) → Grew v v
-          grew_none v = stays v
-      why_of a (ops.Hold n) action.Hold other b asks by op act = elim b.0 [ ]
-      why_of a (ops.Drop n) action.Drop o b asks by op act = drops a n o by act op
-      why_of a (ops.Fail n code) (action.Fail c) outcome.Unopened b asks by op act = subst (λ x. WhyHere a.c (number_of run a) (ops.Fail x code) outcome.Unopened) asks.0 (unopened_cause run more a (is_client a (λ h. subst IsOpen op h)) by b.0.1)
-      why_of a (ops.Fail n code) (action.Fail c) (outcome.Gone found) b asks by op act = subst (λ x. WhyHere a.c (number_of run a) (ops.Fail x code) (outcome.Gone found)) asks.0 (gone_cause run more a found by b.0)
-      why_of a (ops.Fail n code) (action.Fail c) outcome.Failed b asks by op act = let w = each_failed run more (number_of run a) (act_told run a outcome.Failed by) in (w.0, w.1)
-      why_of a (ops.Fail n code) (action.Fail c) (outcome.Already found) b asks by op act = subst (λ x. WhyHere a.c (number_of run a) (ops.Fail x code) (outcome.Already found)) asks.0 (already_cause run more a found c by b.0)
-      why_of a (ops.Fail n code) (action.Fail c) other b asks by op act = elim b.0 [ ]
-      why_of a op act o b asks by op_is act_is = elim asks [ ]
+    why_of : (a : Act run) (op : Op) (act : Action) (o : Outcome) → Acted state p (label_of a.y.client a.m.order a.m.operation) a.m.operation act (Some o) a.m.before.has a.m.after.has → AsksFor op a.m.operation.name act → a.m.made.by ≡ Some o → (task_of run a).op ≡ op → a.m.operation.action ≡ act → WhyHere a.c (number_of run a) op o
+    why_of a (ops.Open n k) action.Open (outcome.Opened slot version l) b asks by op act = let w = opened_cause run more a slot version l by in (same_op n k a.m.operation.name l (sym op ∙ w.0), w.1, w.2, w.3)
+    why_of a (ops.Open n k) action.Open outcome.SlotsFull b asks by op act = full_cause run more a b.0.opened
+    why_of a (ops.Open n k) action.Open other b asks by op act = elim b.0.opened [ ]
+    why_of a (ops.Send n bytes) (action.Send sent_) outcome.Unopened b asks by op act = subst (λ x. WhyHere a.c (number_of run a) (ops.Send x bytes) outcome.Unopened) asks.0 (unopened_cause run more a (is_client a (λ h. subst IsOpen op h)) by b.0.1)
+    why_of a (ops.Send n bytes) (action.Send sent_) (outcome.Gone found) b asks by op act = subst (λ x. WhyHere a.c (number_of run a) (ops.Send x bytes) (outcome.Gone found)) asks.0 (elim (b.0) [ inl r ↦ gone_cause run more a found by r | inr s ↦ refused_cause run more a found _ by s ])
+    why_of a (ops.Send n bytes) (action.Send sent_) outcome.Full b asks by op act = subst (λ x. WhyHere a.c (number_of run a) (ops.Send x bytes) outcome.Full) asks.0 (has_life run more a b.0.sock b.0.has b.0.reached_it (delivered_grew state p b.0.sock _ (Some outcome.Full) b.0.has (after run a) b.0.delivered), was_full a _ b.0)
+    why_of a (ops.Send n bytes) (action.Send sent_) other b asks by op act = elim b.0 [ ]
+    why_of a (ops.Hold n) action.Hold outcome.Unopened b asks by op act = subst (λ x. WhyHere a.c (number_of run a) (ops.Hold x) outcome.Unopened) asks (unopened_cause run more a (is_client a (λ h. subst IsOpen op h)) by b.0.1.1)
+    why_of a (ops.Hold n) action.Hold (outcome.Gone found) b asks by op act = subst (λ x. WhyHere a.c (number_of run a) (ops.Hold x) (outcome.Gone found)) asks (gone_cause run more a found by b.0.1)
+    why_of a (ops.Hold n) action.Hold outcome.Held b asks by op act = subst (λ x. WhyHere a.c (number_of run a) (ops.Hold x) outcome.Held) asks (has_life run more a record { id = b.0.0 } (after run a) b.0.2 (grew_none (after run a)))
+      where
+        grew_none : (v : View) → Grew v v
+        grew_none v = stays v
+    why_of a (ops.Hold n) action.Hold other b asks by op act = elim b.0 [ ]
+    why_of a (ops.Drop n) action.Drop o b asks by op act = drop_cause run (fixed run more) gave_of (orders run more) last_ a n o b.0 asks op
+    why_of a (ops.Fail n code) (action.Fail c) outcome.Unopened b asks by op act = subst (λ x. WhyHere a.c (number_of run a) (ops.Fail x code) outcome.Unopened) asks.0 (unopened_cause run more a (is_client a (λ h. subst IsOpen op h)) by b.0.1)
+    why_of a (ops.Fail n code) (action.Fail c) (outcome.Gone found) b asks by op act = subst (λ x. WhyHere a.c (number_of run a) (ops.Fail x code) (outcome.Gone found)) asks.0 (gone_cause run more a found by b.0)
+    why_of a (ops.Fail n code) (action.Fail c) outcome.Failed b asks by op act = let w = each_failed run more (number_of run a) (act_told run a outcome.Failed by) in (w.0, w.1)
+    why_of a (ops.Fail n code) (action.Fail c) (outcome.Already found) b asks by op act = subst (λ x. WhyHere a.c (number_of run a) (ops.Fail x code) (outcome.Already found)) asks.0 (already_cause run more a found c by b.0)
+    why_of a (ops.Fail n code) (action.Fail c) other b asks by op act = elim b.0 [ ]
+    why_of a op act o b asks by op_is act_is = elim asks [ ]
 
-      -- each outcome has its cause
-      pub why : (c : ℕ) (t : Task) (o : Outcome) → IsTask clients outcomes c t → Became clients outcomes t.number o → WhyHere c t.number t.op o
-      why c t o is became =
-          let w = act_of run t.number o became in
-          let a = w.0 in
-          let at = task_is run a c t is w.1 in
-          let here = why_of a (task_of run a).op a.m.operation.action o (subst (λ x. Acted state p (label_of a.y.client a.m.order a.m.operation) a.m.operation a.m.operation.action x a.m.before.has a.m.after.has) w.2 (acted_of run a)) (asked_of run a).asks w.2 refl refl in
-          subst (λ (x : Task). WhyHere c t.number x.op o) at.1 (subst (λ x. WhyHere x t.number (task_of run a).op o) at.0 (subst (λ n. WhyHere a.c n (task_of run a).op o) w.1 here))
+    -- each outcome has its cause
+    pub why : (c : ℕ) (t : Task) (o : Outcome) → IsTask clients outcomes c t → Became clients outcomes t.number o → WhyHere c t.number t.op o
+    why c t o is became =
+        let w = act_of run t.number o became in
+        let a = w.0 in
+        let at = task_is run a c t is w.1 in
+        let here = why_of a (task_of run a).op a.m.operation.action o (subst (λ x. Acted state p (label_of a.y.client a.m.order a.m.operation) a.m.operation a.m.operation.action x a.m.before.has a.m.after.has) w.2 (acted_of run a)) (asked_of run a).asks w.2 refl refl in
+        subst (λ (x : Task). WhyHere c t.number x.op o) at.1 (subst (λ x. WhyHere x t.number (task_of run a).op o) at.0 (subst (λ n. WhyHere a.c n (task_of run a).op o) w.1 here))
 
   -- no task is on calls
   no_call : (c : ℕ) (t : Task) → IsTask clients outcomes c t → ((name : ℕ) (act : Action) → AsksFor t.op name act → ⊥) → ⊥
   no_call c t is none_ = let w = act_made run c t is in none_ w.0.m.operation.name w.0.m.operation.action (subst (λ (x : Task). AsksFor x.op w.0.m.operation.name w.0.m.operation.action) w.3 (asked_of run w.0).asks)
 
   -- all that is told of the run
-  pub told_of_threads : WhyDrops (λ o. 0) → ToldCalls p clients outcomes (fixed run more) gave_of (orders run more) (left run more)
-  told_of_threads drops = record {
+  pub told_of_threads : ToldCalls p clients outcomes (fixed run more) gave_of (orders run more) (left run more)
+  told_of_threads = record {
     last = λ o. 0;
     are_orders = are_orders run more;
     told = told run more (fixed run more);
     are = are run more;
     once = once run more;
     lives = lives run more;
-    why = why (λ o. 0) drops;
+    why = why (λ o. 0);
     again = λ c t asked is op. absurd (no_call c t is (λ name act asks. subst (λ x. AsksFor x name act) op asks));
     sent = λ k low. sent run more (λ o. 0) k;
     own_order = λ k low. own_order run more (fixed run more) k;

@@ -45,8 +45,8 @@ module _ {O : Type 0} {g : Ghosts O} {state : O → OutState} {p : Plan} {client
   dropped k low few =
       let n = map_long accepted_of (on k (log run more)) in
       let f = ((ends run more).1 k low).failed (omega arith) in
-      let m = linked_made run f.0 f.1 k f.3 in
-      elim (life_failed run more m.0 k f.0 f.1 f.2 m.1 f.4) [
+      let m = linked_made run f.slot f.version k f.given in
+      elim (life_failed run more m.0 k f.slot f.version f.inside m.1 f.failed) [
         | inl w ↦ inl (number_of run w.a, w.listed, tt)
         | inr b ↦ inr (inl b)
       ]
