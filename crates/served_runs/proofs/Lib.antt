@@ -1,0 +1,11 @@
+pub mod Places
+pub mod Readings
+pub mod Ticks
+pub mod Ends
+pub mod Runs
+pub mod Late
+pub mod Replies
+pub mod Opened
+pub mod Frames
+pub mod Own
+pub mod Served

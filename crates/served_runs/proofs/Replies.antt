@@ -1,0 +1,272 @@
+-- In a whole run a link with the server gave the replies to all that it took, where it became a socket's before the run was ending, and its reading ended neither by a frame fault, nor by a failure, nor by its limit.
+use Rattle.std.proofs.Common.{◌≡◌, ◌≢◌, ℕ, zero, suc, ◌+◌, ◌-◌, ◌<◌, ◌≤◌, Bool, true, false, cond, List, [], ◌∷◌, ◌++◌, length, map, flat_map, replicate, get_or, append-nil, ◌⊎◌, inl, inr, ⊎_elim, refl, sym, ap, ◌∙◌, subst, arith}
+use Rattle.std.proofs.lemmas.Bool.{true≢false}
+use Rattle.std.proofs.lemmas.List.{length-map, length-set}
+use Rattle.std.specs.Prelude.{slice_get, slice_index_or, Some, IsTrue}
+use mathlib.Core.Option.{Option, none, some}
+use lib.ListN.{get_elem?}
+use Rattle.atomic_table.proofs.Lists.{at_set, set_else}
+use Rattle.chain_laws.proofs.Lists.{at_some}
+use Rattle.sock_words.specs.declared.plain.Plan.{Plan}
+use Rattle.sock_model.specs.declared.home.Home.{Home}
+use Rattle.sock_model.specs.declared.home.Home.TheVariants.{Link}
+use Rattle.sock_model.specs.declared.view.View.{View}
+use Rattle.sock_model.specs.Layout.{open_word}
+use Rattle.brpc_model.specs.Items.{Item, Shape}
+use Rattle.brpc_model.specs.Operations.{Turn, link_shapes}
+use Rattle.brpc_model.specs.Causes.{HasFault}
+use Rattle.brpc_model.specs.Served.{given_for}
+use Rattle.sock_programs.specs.Asides.{Taking, Broken}
+use Rattle.sock_programs.specs.Clients.{client_from, ending_of}
+use Rattle.sock_programs.specs.Programs.{Program, Rest, NO_SOCKET}
+use Rattle.sock_programs.specs.Readers.{LIMIT, reader}
+use Rattle.sock_programs.specs.Cores.{Core, SeatState, lies_at, link_place, resolved, next_step, waiting_at}
+use Rattle.sock_programs.specs.Runs.{from_to}
+use Rattle.sock_programs.specs.Tasks.{opens, calls, plan_of, id_plan_of}
+use Rattle.sock_programs.specs.Ticks.{Moment, quiet, ticked, run}
+use Rattle.sock_programs.specs.Scripts.{sizes_of, programs, all_tasks, opened, ending, is_ending, set_up, played, taken_by, took_at_home, IsRunWithCalls}
+use Rattle.sock_runs.specs.Sound.{Sound, AllRest, views_along}
+use Rattle.sock_runs.proofs.Along.{place_inside}
+use Rattle.sock_runs.proofs.Ends.{links_home}
+use Rattle.sock_runs.proofs.OpensStay.{readers_begin}
+use Rattle.sock_runs.proofs.Quiets.{run_seats}
+use Rattle.sock_runs.proofs.Whole.{IsListed, closing_of, views_played, views_closed, views_ended, set_up_answered, end_answered, set_up_sound, closing_sound, closed_sound, ended_sound, recorded_opened, recorded_set_up, recorded_closing, recorded_closed}
+use Rattle.sock_runs.proofs.HandTicks.{AtHome}
+use Rattle.sock_causes.specs.Facts.{late_links_of_run}
+use Rattle.sock_causes.specs.Stories.{In}
+use Rattle.sock_causes.proofs.Plain.{in_left, in_right}
+use Rattle.client_laws.proofs.Beginning as clients_begin
+use Rattle.joint_runs.proofs.Runs.{AreMade, first_views}
+use Rattle.owed_calls.specs.Lives.{InHand, ClosesInRun}
+use Rattle.owed_calls.proofs.EndsStill.{run_ending}
+use Rattle.owed_calls.proofs.Known.{run_all_rest}
+use Rattle.whole_runs.specs.Heard.{as_taken, taken_in, heard_takes}
+use Rattle.whole_runs.proofs.HeardRuns.{taken_append}
+use Rattle.whole_runs.proofs.Lengths.{AsLong, tick_long}
+use Rattle.call_causes.specs.Lists.{given}
+use Rattle.send_causes.proofs.Early.{Any, ends_anyhow, start, go, fitting, known}
+use Rattle.send_causes.proofs.EndedWhole.{opened_keeps, closing_keeps, closed_keeps, h₂, h₃}
+use Rattle.send_causes.proofs.ReaderRuns.{founds, keeps_along}
+use Rattle.served_runs.specs.Offered.{Lies, TookSoFar, IsDone, GaveAll, GaveLast, OffersInRun}
+use Rattle.served_runs.proofs.Ends.{GaveFor, IsOverSo, Holds}
+use Rattle.served_runs.proofs.Late.{IsLate, AreLate, late_first, late_on, late_put}
+use Rattle.served_runs.proofs.Readings.{Goes, IsOver}
+use Rattle.served_runs.proofs.Runs.{Kept, quiet_offered, quiet_takes, holds_along}
+use Rattle.served_runs.proofs.Ticks.{Stands}
+
+gave_long : (p : Plan) (ms : List Moment) (c : Core) → length (run p c ms).calls.gave ≡ length c.calls.gave
+gave_long p [] c = refl
+gave_long p (m ∷ ms) c = gave_long p ms (ticked p c m) ∙ (tick_long p m c).gave
+
+empty_at : (n k : ℕ) → get_or (replicate n []) k [] ≡ (let e : List ℕ = [] in e)
+empty_at zero k = refl
+empty_at (suc n) zero = refl
+empty_at (suc n) (suc k) = empty_at n k
+
+empty_long : (n : ℕ) → length (replicate n (let e : List ℕ = [] in e)) ≡ n
+empty_long zero = refl
+empty_long (suc n) = ap suc (empty_long n)
+
+get_range : {A : Type 0} (f : ℕ → A) (d : A) (a n k : ℕ) → k < n → get_or (map f (from_to a n)) k d ≡ f (a + k)
+get_range f d a zero k l = absurd (omega arith)
+get_range f d a (suc n) zero l = ap f (omega arith)
+get_range f d a (suc n) (suc k) l = get_range f d (a + 1) n k (omega arith) ∙ ap f (omega arith)
+
+-- what a link at home took
+took_there : (p : Plan) (homes : List (Option Home)) (k : ℕ) (took : List ℕ) (next : ℕ) (done : Bool) → get_elem? homes (link_place p k) ≡ some (some (Link k took next done)) → k < p.links → get_or (took_at_home p homes) k [] ≡ took
+took_there p homes k took next done at l = let f : ℕ → List ℕ = λ j. flat_map taken_by (lies_at homes (link_place p j)) in get_range f [] 0 p.links k l ∙ (ap f (omega arith)
+    ∙ (ap (λ o. flat_map taken_by (elim o as (λ o. List Home) [ none ↦ [] | some x ↦ elim x as (λ o. List Home) [ none ↦ [] | some y ↦ y ∷ [] ] ])) at ∙ append-nil took))
+
+by_true : {A : Type 0} (b : Bool) (x y : A) → IsTrue b → cond b x y ≡ x
+by_true true x y is = refl
+by_true false x y is = absurd (cc)
+
+module _ (script : List Item) (made : AreMade script) (turns : List Turn) (core : Core) (is : IsRunWithCalls script turns core) (offers : OffersInRun script turns core is)
+    (k o : ℕ) (at : get_elem? (opens script) k ≡ some o) (shape : Shape) (shape_is : slice_get (link_shapes script) k ≡ Some shape) where
+  abbrev Fails : Type 0
+  Fails = In Broken (heard_takes is k)
+
+  abbrev H : Core → Type 0
+  H c = Holds script k o shape (In Broken (heard_takes is k)) c
+
+  abbrev in_os : (n l : ℕ) → get_elem? (opens script) n ≡ some l → l < (plan_of script).operations
+  in_os = (let x = known script made turns core is in x.in_script)
+
+  pub link_inside : k < (plan_of script).links
+  link_inside = let i = place_inside (opens script) k o at in let many = (let x = known script made turns core is in x.as_many) in omega (arith, i, many)
+
+  abbrev in_setup : List Moment
+  in_setup = replicate is.setup (quiet 0)
+
+  abbrev in_clients : List Moment
+  in_clients = is.scheduled ++ is.later
+
+  abbrev in_closing : List Moment
+  in_closing = replicate is.last (quiet 0)
+
+  -- ## How it begins
+
+  abbrev first : List Program
+  first = programs (sizes_of (plan_of script) (id_plan_of script)) (all_tasks script)
+
+  first_few : length first ≤ 32
+  first_few = let l = length-map (all_tasks script) (client_from (sizes_of (plan_of script) (id_plan_of script)) []) in let f = (let x = known script made turns core is in x.few) in omega (arith, l, f)
+
+  begins_at : (seat : SeatState) → get_elem? (opened script).seats (32 + k) ≡ some seat → seat.program ≡ reader (calls script) k o
+  begins_at seat there = ⊎_elim (λ e. e) (λ x. absurd (x.0 ((let u = clients_begin.unused (plan_of script) in u.opens) o (in_os k o at)))) (readers_begin (plan_of script) (id_plan_of script) first (calls script) (opens script) first_few k o at seat there)
+
+  opened_holds : H (opened script)
+  opened_holds = record { last = false; reader = λ seat there. inl (begins_at seat there, empty_at (plan_of script).links k, refl); over = λ e. absurd (true≢false (sym e)) }
+
+  long_opened : k < length (opened script).calls.gave
+  long_opened = let e = empty_long (plan_of script).links in let l = link_inside in omega (arith, e, l)
+
+  long_set_up : k < length (set_up script is.setup).calls.gave
+  long_set_up = let e = gave_long (plan_of script) in_setup (opened script) in let l = long_opened in omega (arith, e, l)
+
+  long_played : k < length (played script is.setup in_clients).calls.gave
+  long_played = let e = gave_long (plan_of script) in_clients (set_up script is.setup) in let l = long_set_up in omega (arith, e, l)
+
+  long_ended : k < length is.ended.calls.gave
+  long_ended = let e = gave_long (plan_of script) in_closing (closing_of script turns core is) in let l = long_played in let same = ap (λ (c : Core). length c.calls.gave) is.is_ended in omega (arith, e, l, same)
+
+  -- ## Until the ending
+
+  abbrev IsEarly : Core → List View → List Moment → Type 0
+  IsEarly c vs ms = c.calls.ending ≡ false
+
+  set_up_holds : H (set_up script is.setup)
+  set_up_holds = holds_along script in_os (IsListed script) (go script made turns core is) k o (in_os k o at) shape shape_is Fails IsEarly
+      (λ c vs m ms sound early ending put. true≢false (sym ending ∙ early)) (λ c vs m ms sound answered fits early. run_ending (plan_of script) c (m ∷ []) ∙ early)
+      in_setup (opened script) (first_views script) (λ n. []) (let s = start script made turns core is in s.sound)
+      (set_up_answered script made.are (first_views script) (start script made turns core is) (go script made turns core is) turns core is (fitting script made turns core is)) (let f = fitting script made turns core is in f.of_setup)
+      (recorded_opened script made.are (first_views script) (start script made turns core is) (go script made turns core is) turns core is (fitting script made turns core is)) (opened_keeps script made turns core is)
+      (quiet_offered script is.setup (opened script)) long_opened (λ there. absurd (quiet_takes (plan_of script) k is.setup (opened script) Broken there)) refl opened_holds
+
+  set_up_early : (set_up script is.setup).calls.ending ≡ false
+  set_up_early = run_ending (plan_of script) (opened script) in_setup
+
+  played_early : (played script is.setup in_clients).calls.ending ≡ false
+  played_early = run_ending (plan_of script) (set_up script is.setup) in_clients ∙ set_up_early
+
+  set_up_keeps : Kept script in_os (set_up script is.setup) (views_along (plan_of script) (opened script) (first_views script) in_setup) (λ n. [] ++ founds (plan_of script) (calls script) (opens script) in_os Any (Unit {0}) ends_anyhow (opened script) in_setup n)
+  set_up_keeps = keeps_along (plan_of script) (calls script) (opens script) in_os Any (Unit {0}) ends_anyhow (IsListed script) (go script made turns core is) in_setup (opened script) (first_views script) (λ n. [])
+      (let s = start script made turns core is in s.sound) (set_up_answered script made.are (first_views script) (start script made turns core is) (go script made turns core is) turns core is (fitting script made turns core is)) (let f = fitting script made turns core is in f.of_setup)
+      (recorded_opened script made.are (first_views script) (start script made turns core is) (go script made turns core is) turns core is (fitting script made turns core is)) (λ e. tt) (opened_keeps script made turns core is)
+
+  -- the takes of the run
+  in_early : In Broken (as_taken (taken_in (plan_of script) (set_up script is.setup) in_clients k)) → Fails
+  in_early there = subst (In Broken) (sym (taken_append (taken_in (plan_of script) (set_up script is.setup) in_clients k) (taken_in (plan_of script) is.ended is.final k)))
+      (in_left (as_taken (taken_in (plan_of script) (set_up script is.setup) in_clients k)) (as_taken (taken_in (plan_of script) is.ended is.final k)) Broken there)
+
+  in_late : In Broken (as_taken (taken_in (plan_of script) is.ended is.final k)) → Fails
+  in_late there = subst (In Broken) (sym (taken_append (taken_in (plan_of script) (set_up script is.setup) in_clients k) (taken_in (plan_of script) is.ended is.final k)))
+      (in_right (as_taken (taken_in (plan_of script) (set_up script is.setup) in_clients k)) (as_taken (taken_in (plan_of script) is.ended is.final k)) Broken there)
+
+  played_holds : H (played script is.setup in_clients)
+  played_holds = holds_along script in_os (IsListed script) (go script made turns core is) k o (in_os k o at) shape shape_is Fails IsEarly
+      (λ c vs m ms sound early ending put. true≢false (sym ending ∙ early)) (λ c vs m ms sound answered fits early. run_ending (plan_of script) c (m ∷ []) ∙ early)
+      in_clients (set_up script is.setup) (views_along (plan_of script) (opened script) (first_views script) in_setup) _
+      (set_up_sound script made.are (first_views script) (start script made turns core is) (go script made turns core is) turns core is (fitting script made turns core is)) is.answered (let f = fitting script made turns core is in f.of_played)
+      (recorded_set_up script made.are (first_views script) (start script made turns core is) (go script made turns core is) turns core is (fitting script made turns core is)) set_up_keeps
+      offers.played long_set_up in_early set_up_early set_up_holds
+
+  -- ## The ending
+
+  -- seat 0 begins it with nothing in hand
+  lies_before : (c : Core) (x : Home) → Lies (plan_of script) (ending script c) k x → Lies (plan_of script) c k x
+  lies_before c x (inl e) = inl e
+  lies_before c x (inr (j, seat, there, has)) = ⊎_elim
+      (λ a. absurd (none_held (record { program = next_step (resolved (waiting_at c.calls.waiting 0) (ending_of (opens script))); hand = [] }) seat a.1 refl has))
+      (λ a. inr (j, seat, a.1, has)) (at_set c.seats 0 j (record { program = next_step (resolved (waiting_at c.calls.waiting 0) (ending_of (opens script))); hand = [] }) seat there)
+    where
+      none_held : (first seat : SeatState) → first ≡ seat → first.hand ≡ [] → InHand x seat.hand → ⊥
+      none_held x₀ seat same none_ has = subst (InHand x) (ap (λ (s : SeatState). s.hand) (sym same) ∙ none_) has
+
+  over_in_ending : (c : Core) → IsOverSo script k o shape Fails c → IsOverSo script k o shape Fails (ending script c)
+  over_in_ending c (inl bad) = inl bad
+  over_in_ending c (inr (inl fails)) = inr (inl fails)
+  over_in_ending c (inr (inr (inl gave))) = inr (inr (inl (λ took more t. gave took more (t.0, t.1, lies_before c _ t.2))))
+  over_in_ending c (inr (inr (inr (gave, inl done)))) = inr (inr (inr ((λ took t. gave took (t.0, t.1, lies_before c _ t.2)), inl (λ took next d lies. done took next d (lies_before c _ lies)))))
+  over_in_ending c (inr (inr (inr (gave, inr late)))) = inr (inr (inr ((λ took t. gave took (t.0, t.1, lies_before c _ t.2)), inr late)))
+
+  closing_holds : H (closing_of script turns core is)
+  closing_holds = let h = played_holds in record {
+    last = h.last;
+    reader = λ seat there. h.reader seat (sym (set_else (played script is.setup in_clients).seats 0 (32 + k) _ (λ e. let z : ⊥ = omega (arith, e) in z)) ∙ there);
+    over = λ e. over_in_ending (played script is.setup in_clients) (h.over e);
+  }
+
+  closed_holds : H (run (plan_of script) (closing_of script turns core is) in_closing)
+  closed_holds = holds_along script in_os (IsListed script) (go script made turns core is) k o (in_os k o at) shape shape_is Fails IsEarly
+      (λ c vs m ms sound early ending put. true≢false (sym ending ∙ early)) (λ c vs m ms sound answered fits early. run_ending (plan_of script) c (m ∷ []) ∙ early)
+      in_closing (closing_of script turns core is) (views_played script turns core is (first_views script)) _
+      (closing_sound script made.are (first_views script) (start script made turns core is) (go script made turns core is) turns core is (fitting script made turns core is))
+      (end_answered script made.are (first_views script) (start script made turns core is) (go script made turns core is) turns core is (fitting script made turns core is)) (let f = fitting script made turns core is in f.of_closing)
+      (recorded_closing script made.are (first_views script) (start script made turns core is) (go script made turns core is) turns core is (fitting script made turns core is)) (closing_keeps script made turns core is)
+      (quiet_offered script is.last (closing_of script turns core is)) long_played (λ there. absurd (quiet_takes (plan_of script) k is.last (closing_of script turns core is) Broken there)) played_early closing_holds
+
+  -- the readers are told
+  over_when_ending : (c : Core) → IsOverSo script k o shape Fails c → IsOverSo script k o shape Fails (is_ending c)
+  over_when_ending c (inl bad) = inl bad
+  over_when_ending c (inr (inl fails)) = inr (inl fails)
+  over_when_ending c (inr (inr (inl gave))) = inr (inr (inl gave))
+  over_when_ending c (inr (inr (inr (gave, how)))) = inr (inr (inr (gave, inr refl)))
+
+  ended_holds : H is.ended
+  ended_holds = subst H (sym is.is_ended) (let h = closed_holds in record { last = h.last; reader = h.reader; over = λ e. over_when_ending (run (plan_of script) (closing_of script turns core is) in_closing) (h.over e) })
+
+  -- ## The end
+
+  module _ (in_time : In k (late_links_of_run script turns core is) → ⊥) where
+    over_holds : H core
+    over_holds = subst H (sym is.is_end) (holds_along script in_os (IsListed script) (go script made turns core is) k o (in_os k o at) shape shape_is Fails (AreLate script made turns core is)
+        (λ c vs m ms sound late ending put. in_time (late_put script made turns core is k c vs m ms sound late put)) (late_on script made turns core is)
+        is.final is.ended (views_closed script turns core is (first_views script)) _
+        (closed_sound script made.are (first_views script) (start script made turns core is) (go script made turns core is) turns core is (fitting script made turns core is)) is.answered_again (let f = fitting script made turns core is in f.of_final)
+        (recorded_closed script made.are (first_views script) (start script made turns core is) (go script made turns core is) turns core is (fitting script made turns core is)) (closed_keeps script made turns core is)
+        offers.final long_ended in_late (late_first script made turns core is) ended_holds)
+
+    module _ (closes : ClosesInRun script turns core is) (socket : get_or core.words (open_word (plan_of script) o) 0 ≢ NO_SOCKET) (none_broken : In Broken (heard_takes is k) → ⊥) (faultless : HasFault (given core k) → ⊥) (few : length (given core k) < LIMIT) where
+      rests : AllRest core
+      rests = run_all_rest script made turns core is closes
+
+      home : AtHome (plan_of script) core.homes k
+      home = links_home (plan_of script) core (views_ended script turns core is (first_views script))
+          (ended_sound script made.are (first_views script) (start script made turns core is) (go script made turns core is) turns core is (fitting script made turns core is)) rests k link_inside
+
+      there : TookSoFar (plan_of script) core k home.took
+      there = (home.next, home.done, inl home.is)
+
+      seat_there : (s : SeatState) × (get_elem? core.seats (32 + k) ≡ some s)
+      seat_there = at_some core.seats (32 + k) seat_low
+        where
+          seat_low : 32 + k < length core.seats
+          seat_low = let m = (let x = closed_keeps script made turns core is in x.many) in let r = run_seats (plan_of script) is.ended is.final in let e = ap (λ (d : Core). length d.seats) is.is_end in
+              let i = place_inside (opens script) k o at in omega (arith, m, r, e, i)
+
+      gave_all : given core k ≡ cond shape.serve (given_for shape home.took) []
+      gave_all = by_stand (over_holds.reader seat_there.0 seat_there.1)
+        where
+          by_over : IsOverSo script k o shape Fails core → given core k ≡ cond shape.serve (given_for shape home.took) []
+          by_over (inl (inl fault)) = absurd (faultless fault)
+          by_over (inl (inr most)) = absurd (let z : ⊥ = omega (arith, most, few) in z)
+          by_over (inr (inl fails)) = absurd (none_broken fails)
+          by_over (inr (inr (inl gave))) = gave home.took [] there ∙ ap (λ l. cond shape.serve (given_for shape l) []) (append-nil home.took)
+          by_over (inr (inr (inr (gave, how)))) = gave home.took there
+
+          at_rest : seat_there.0.program ≡ Rest
+          at_rest = rests (32 + k) seat_there.0 seat_there.1
+
+          by_stand : Stands (plan_of script) (calls script) k o (given core k) over_holds.last (get_or core.words (open_word (plan_of script) o) 0) seat_there.0.program → given core k ≡ cond shape.serve (given_for shape home.took) []
+          by_stand (inl x) = absurd (let z : Rest ≡ reader (calls script) k o = sym at_rest ∙ x.0 in cc)
+          by_stand (inr (inl x)) = absurd (socket x.1)
+          by_stand (inr (inr x)) = by_rest (subst (Goes k (given core k) over_holds.last) at_rest x)
+            where
+              by_rest : IsOver (given core k) over_holds.last → given core k ≡ cond shape.serve (given_for shape home.took) []
+              by_rest (inl last) = by_over (over_holds.over last)
+              by_rest (inr bad) = by_over (inl bad)
+
+      -- it gave the replies to what it took
+      pub gives_replies_at : IsTrue shape.serve → given core k ≡ given_for shape (slice_index_or (took_at_home (plan_of script) core.homes) k [])
+      gives_replies_at serves = gave_all ∙ (by_true shape.serve (given_for shape home.took) [] serves ∙ ap (given_for shape) (sym (took_there (plan_of script) core.homes k home.took home.next home.done home.is link_inside)))
