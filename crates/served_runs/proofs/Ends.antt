@@ -23,7 +23,7 @@ use Rattle.whole_runs.specs.Heard.{as_taken, taken_link, taken_at, bytes_found}
 use Rattle.call_causes.specs.Lists.{given}
 use Rattle.send_causes.proofs.EndedTicks.{seats_else}
 use Rattle.send_causes.proofs.Readings.{IsTake, takes_or_not}
-use Rattle.served_runs.specs.Offered.{IsDone, offered_by, GaveAll, GaveLast, IsGivenAll, OffersAt, IsOffered}
+use Rattle.served_runs.specs.Offered.{IsDone, offered_by, GaveAll, GaveLast, IsOfferedSo, OffersAt, IsOffered}
 use Rattle.served_runs.proofs.Places.{IsPut, AllLay, all_lay, done_quiet, done_on}
 use Rattle.served_runs.proofs.Readings.{IsBad, bad_more, is_last}
 use Rattle.served_runs.proofs.Ticks.{took_so, gave_same, gave_more, Word, HasReader, reader_word, reader_goes, Takes, reader_takes}
@@ -98,11 +98,11 @@ module _ (script : List Item) (k o : ℕ) (shape : Shape) (Fails : Type 0) where
           (subst (λ b. In Broken (as_taken (map (λ (j : ℕ). m.answer) (cond b (k ∷ []) [])))) (sym (eq-eqb k k refl))
           (subst (λ (x : Answer). In Broken (as_taken (x ∷ []))) (sym said) (inl refl))))
 
-      offers : (t : IsTake seat.program) → t.link ≡ k → (a : Taking) → m.answer ≡ OfTake a → IsGivenAll (plan_of script) shape c k a
+      offers : (t : IsTake seat.program) → t.link ≡ k → (a : Taking) → m.answer ≡ OfTake a → IsOfferedSo (plan_of script) shape c k a
       offers t link a said = (subst (λ l. OffersAt script c m.answer (Aside (TakeBytes l t.room) t.next)) link (subst (OffersAt script c m.answer) t.first (offered seat at))) shape a shape_is said
 
       -- a take that ends the reading
-      ends_so : (b : Bool) → c.calls.ending ≡ b → (a : Taking) → ((room : ℕ) → FitsTake room a → is_last (at_last b a) ≡ true → IsGivenAll (plan_of script) shape c k a → (a ≡ Broken → Fails) → (Fails ⊎ GaveFor c) × (bytes_found (at_last b a) ≡ []))
+      ends_so : (b : Bool) → c.calls.ending ≡ b → (a : Taking) → ((room : ℕ) → FitsTake room a → is_last (at_last b a) ≡ true → IsOfferedSo (plan_of script) shape c k a → (a ≡ Broken → Fails) → (Fails ⊎ GaveFor c) × (bytes_found (at_last b a) ≡ []))
       ends_so true ending (Bytes bytes) room fits e all broken = absurd (true≢false (sym e))
       ends_so false ending (Bytes bytes) room fits e all broken = absurd (true≢false (sym e))
       ends_so true ending Nothing room fits e all broken = (inr (inr (all, inr ending)), refl)

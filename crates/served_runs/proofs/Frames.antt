@@ -11,7 +11,7 @@ use Rattle.brpc_model.specs.Wire.{varint_up_to, varint_bytes}
 use Rattle.brpc_model.specs.Meta.{RequestMeta, ResponseMeta, Meta}
 use Rattle.brpc_model.specs.Spelling.{number_field, bytes_field, response_bytes, where_not_0, where_not_empty, meta_bytes}
 use Rattle.brpc_model.specs.Frame.{Frame, IsFrame, magic, framed, frame_bytes, judged, Begins, body_limit}
-use Rattle.brpc_model.specs.Stream.{Stream, stream, stream_from, goes_on}
+use Rattle.brpc_model.specs.Stream.{Stream, Rest, stream, stream_from, goes_on}
 use Rattle.brpc_model.specs.Reply.{Answer, Gives, Refuses, echo, summing, served, response_with, answered_by, reply}
 use Rattle.brpc_model.proofs.Streams.{stream_goes_on}
 use Rattle.prpc_frame.proofs.Encoded.{frame_judged}
@@ -37,6 +37,11 @@ frame_then at bytes more f i = ap (λ (s : Stream). s.frames) (stream_goes_on at
     ∙ (ap (λ j. (goes_on at (bytes ++ more) j (λ b. stream_from (at + (12 + b)) (drop (12 + b) (bytes ++ more)))).frames) (frame_judged bytes more f i)
     ∙ ap (λ l. f ∷ (stream_from (at + (12 + (length bytes - 12))) l).frames) (ap (λ n. drop n (bytes ++ more)) (let l = frame_long bytes f i in let z : 12 + (length bytes - 12) ≡ length bytes = omega (arith, l) in z) ∙ drop-append_seam bytes more))
 
+ends_then : (at : ℕ) (bytes more : List ℕ) (f : Frame) → IsFrame bytes f → (stream_from at (bytes ++ more)).ending ≡ (stream_from (at + (12 + (length bytes - 12))) more).ending
+ends_then at bytes more f i = ap (λ (s : Stream). s.ending) (stream_goes_on at (bytes ++ more))
+    ∙ (ap (λ j. (goes_on at (bytes ++ more) j (λ b. stream_from (at + (12 + b)) (drop (12 + b) (bytes ++ more)))).ending) (frame_judged bytes more f i)
+    ∙ ap (λ l. (stream_from (at + (12 + (length bytes - 12))) l).ending) (ap (λ n. drop n (bytes ++ more)) (let l = frame_long bytes f i in let z : 12 + (length bytes - 12) ≡ length bytes = omega (arith, l) in z) ∙ drop-append_seam bytes more))
+
 -- pieces that are frames of which this holds
 pub record IsPiece (Q : Frame → Type 0) (bytes : List ℕ) : Type 0 where
   pub frame : Frame
@@ -47,6 +52,11 @@ module _ {A : Type 0} (bytes_of : A → List ℕ) (Q : Frame → Type 0) where
   pub piece_frames : (xs : List A) → AllByRecursion (λ x. IsPiece Q (bytes_of x)) xs → (at : ℕ) → AllByRecursion Q (stream_from at (flat_map bytes_of xs)).frames
   piece_frames [] all at = tt
   piece_frames (x ∷ xs) all at = let p = all.0 in subst (AllByRecursion Q) (sym (frame_then at (bytes_of x) (flat_map bytes_of xs) p.frame p.is)) (p.holds, piece_frames xs all.1 (at + (12 + (length (bytes_of x) - 12))))
+
+  -- and they end without a fault
+  pub pieces_end : (xs : List A) → AllByRecursion (λ x. IsPiece Q (bytes_of x)) xs → (at : ℕ) → (stream_from at (flat_map bytes_of xs)).ending ≡ Rest 0
+  pieces_end [] all at = refl
+  pieces_end (x ∷ xs) all at = let p = all.0 in ends_then at (bytes_of x) (flat_map bytes_of xs) p.frame p.is ∙ pieces_end xs all.1 (at + (12 + (length (bytes_of x) - 12)))
 
 -- ## The sizes of metas
 

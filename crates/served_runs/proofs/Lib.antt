@@ -2,6 +2,7 @@ pub mod Places
 pub mod Readings
 pub mod Ticks
 pub mod Ends
+pub mod Parts
 pub mod Runs
 pub mod Late
 pub mod Replies

@@ -18,7 +18,8 @@ use Rattle.brpc_model.specs.Operations.{Turn}
 use Rattle.brpc_model.specs.Order.{IsCut}
 use Rattle.brpc_model.specs.Reply.{reply, reply_frames}
 use Rattle.brpc_model.specs.Served.{first_of, given_for}
-use Rattle.brpc_model.specs.Stream.{stream, stream_from}
+use Rattle.brpc_model.specs.Causes.{HasFault}
+use Rattle.brpc_model.specs.Stream.{Rest, Fault, stream, stream_from}
 use Rattle.report_fits.proofs.Reading.{InRange}
 use Rattle.report_fits.proofs.Targets.{AreThere}
 use Rattle.sock_message.specs.Asked.{Asked, request_of, frame_of}
@@ -38,14 +39,14 @@ use Rattle.call_causes.specs.Lists.{given, attempts_of_run}
 use Rattle.call_causes.specs.Scenes.{Scene, Birth, In, WhyOwn, WhyEnded}
 use Rattle.call_causes.proofs.End.{call_of, shows_own}
 use Rattle.call_causes.proofs.Posted.{run_few_attempts}
-use Rattle.call_causes.proofs.Streams.{frames_stay}
+use Rattle.call_causes.proofs.Streams.{frames_stay, faults_more}
 use Rattle.call_causes.proofs.Whole.{run_has_story, run_has_ended, run_told_in_part}
 use Rattle.send_causes.proofs.AttemptedRun.{attempted_of_run}
 use Rattle.send_causes.proofs.Beside.{fixed_of_run, orders_here}
 use Rattle.send_causes.proofs.Early.{known}
 use Rattle.send_causes.proofs.Sends.{orders_are}
 use Rattle.served_runs.specs.Served.{request_with}
-use Rattle.served_runs.proofs.Frames.{IsPiece, piece_frames, IsSmall, request_is, reply_is}
+use Rattle.served_runs.proofs.Frames.{IsPiece, piece_frames, pieces_end, IsSmall, request_is, reply_is}
 
 -- ## Lists
 
@@ -184,11 +185,18 @@ module _ (script : List Item) (made : AreMade script) (there : AreThere script) 
     first_replied None gs all = all
     first_replied (Some n) gs all = all_take IsReplied n gs all
 
-    -- the frames that it gave are those replies
-    gave_replies : (shape : Shape) → given core k ≡ given_for shape took → AllByRecursion IsReplied (stream (given core k)).frames
-    gave_replies shape gives = subst (λ l. AllByRecursion IsReplied (stream l).frames) (sym gives)
-        (piece_frames frame_bytes IsReplied (first_of shape.end (reply_frames took)) (all_on IsReplied (λ g. IsPiece IsReplied (frame_bytes g)) (λ g r. record { frame = g; is = (of_request r.request g r.made_so r.replied).0; holds = r }) (first_of shape.end (reply_frames took))
-        (first_replied shape.end (reply_frames took) (replied_all (stream took).frames took_requests))) 0)
+    -- it gave the front of those replies
+    module _ (shape : Shape) (more : List ℕ) (gives : given core k ++ more ≡ given_for shape took) where
+      pieces : AllByRecursion (λ g. IsPiece IsReplied (frame_bytes g)) (first_of shape.end (reply_frames took))
+      pieces = all_on IsReplied (λ g. IsPiece IsReplied (frame_bytes g)) (λ g r. record { frame = g; is = (of_request r.request g r.made_so r.replied).0; holds = r }) (first_of shape.end (reply_frames took))
+          (first_replied shape.end (reply_frames took) (replied_all (stream took).frames took_requests))
+
+      pub replied_at : (n : ℕ) (frame : Frame) → slice_get (stream (given core k)).frames n ≡ Some frame → IsReplied frame
+      replied_at n frame stands = get_all IsReplied (stream_from 0 (given_for shape took)).frames (piece_frames frame_bytes IsReplied (first_of shape.end (reply_frames took)) pieces 0) n frame
+          (subst (λ l. slice_get (stream_from 0 l).frames n ≡ Some frame) gives (frames_stay (suc (length (given core k))) 0 (given core k) more n frame (omega arith) stands))
+
+      pub faultless : HasFault (given core k) → ⊥
+      faultless fault = let f = subst HasFault gives (faults_more (given core k) more fault) in let z : Rest 0 ≡ Fault f.0 f.1 = sym (pieces_end frame_bytes IsReplied (first_of shape.end (reply_frames took)) pieces 0) ∙ f.2 in cc
 
     -- ## Of one call
 
@@ -196,9 +204,9 @@ module _ (script : List Item) (made : AreMade script) (there : AreThere script) 
     same_call c d t u a b is_t is_u op_t op_u number = let one = (one_task (plan_of script) (all_tasks script) made.are c d t u (is_t.0, is_t.1, contains_in is_t.0 t is_t.2) (is_u.0, is_u.1, contains_in is_u.0 u is_u.2) number).1 in
         let two : ops.Call a ≡ ops.Call b = sym op_t ∙ (ap (λ (x : Task). x.op) one ∙ op_u) in cc
 
-    pub own_reply : (shape : Shape) → given core k ≡ given_for shape took → (n id client : ℕ) (frame : Frame) (t : Task) (asked : Asked) (outcome : Outcome) → slice_get (stream (given core k)).frames n ≡ Some frame → Task_ client t → t.op ≡ ops.Call asked
-        → Became (all_tasks script) core.outcomes t.number outcome → shown_id outcome ≡ Some id → id < frame.meta.correlation_id → frame.meta.correlation_id < id + asked.range → reply (request_with asked frame.meta.correlation_id) ≡ Some frame
-    own_reply shape gives n id client frame t asked outcome stands it op became shows above below = by (get_all IsReplied (stream (given core k)).frames (gave_replies shape gives) n frame stands)
+    pub own_reply : (n id client : ℕ) (frame : Frame) (t : Task) (asked : Asked) (outcome : Outcome) → IsReplied frame → Task_ client t → t.op ≡ ops.Call asked → Became (all_tasks script) core.outcomes t.number outcome → shown_id outcome ≡ Some id
+        → id < frame.meta.correlation_id → frame.meta.correlation_id < id + asked.range → reply (request_with asked frame.meta.correlation_id) ≡ Some frame
+    own_reply n id client frame t asked outcome replied it op became shows above below = by replied
       where
         by : IsReplied frame → reply (request_with asked frame.meta.correlation_id) ≡ Some frame
         by r = dite (ℕ_discrete t.number r.made_so.task.number)

@@ -10,10 +10,14 @@ use Rattle.sock_io.specs.declared.link.Put.TheVariants.{Took, Again, Failed}
 use Rattle.sock_model.specs.declared.home.Home.{Home}
 use Rattle.sock_model.specs.declared.home.Home.TheVariants.{Empty, Link, Message}
 use Rattle.sock_model.specs.declared.view.View.{View}
+use Rattle.brpc_model.specs.Items.{Item}
+use Rattle.sock_programs.specs.Clients.{ending_of}
+use Rattle.sock_programs.specs.Scripts.{ending}
+use Rattle.sock_programs.specs.Tasks.{opens, plan_of}
 use Rattle.sock_programs.specs.Calls.{Call, TakeLink, FinishLink, PutLink, PutMessage}
 use Rattle.sock_programs.specs.Programs.{Program, PutBytes}
 use Rattle.sock_programs.specs.Beside.{calls_after}
-use Rattle.sock_programs.specs.Cores.{Calls, Core, SeatState, word_of, word_after, found_at, words_after, with_seat, homes_after, hand_after, lies_at, first_of, others_of, finished, link_place}
+use Rattle.sock_programs.specs.Cores.{Calls, Core, SeatState, word_of, word_after, found_at, words_after, with_seat, homes_after, hand_after, lies_at, first_of, others_of, finished, link_place, resolved, next_step, waiting_at}
 use Rattle.sock_programs.specs.Ticks.{Moment, IsAnswered, fed, with_places, onto_first, ticked}
 use Rattle.sock_runs.specs.May.{May}
 use Rattle.sock_runs.specs.GoesOn.{GoesOn}
@@ -201,3 +205,15 @@ module _ (p : Plan) (k : ℕ) where
     -- a finished link stays so
     pub done_on : IsAnswered c m → IsFitting p c m → IsDone p c k → IsDone p (ticked p c m) k
     done_on answered fitting done took next done' lies = let l = all_lay answered fitting took next done' lies in l.finished_on (done l.took l.next l.done l.lies)
+
+-- ## The ending
+
+-- seat 0 begins it with nothing in hand
+pub lies_before : (script : List Item) (k : ℕ) (c : Core) (x : Home) → Lies (plan_of script) (ending script c) k x → Lies (plan_of script) c k x
+lies_before script k c x (inl e) = inl e
+lies_before script k c x (inr (j, seat, there, has)) = ⊎_elim
+    (λ a. absurd (none_held (record { program = next_step (resolved (waiting_at c.calls.waiting 0) (ending_of (opens script))); hand = [] }) seat a.1 refl has))
+    (λ a. inr (j, seat, a.1, has)) (at_set c.seats 0 j (record { program = next_step (resolved (waiting_at c.calls.waiting 0) (ending_of (opens script))); hand = [] }) seat there)
+  where
+    none_held : (x₀ seat : SeatState) → x₀ ≡ seat → x₀.hand ≡ [] → InHand x seat.hand → ⊥
+    none_held x₀ seat same none_ has = subst (InHand x) (ap (λ (s : SeatState). s.hand) (sym same) ∙ none_) has

@@ -47,9 +47,11 @@ use Rattle.call_causes.specs.Lists.{given}
 use Rattle.send_causes.proofs.Early.{Any, ends_anyhow, start, go, fitting, known}
 use Rattle.send_causes.proofs.EndedWhole.{opened_keeps, closing_keeps, closed_keeps, h₂, h₃}
 use Rattle.send_causes.proofs.ReaderRuns.{founds, keeps_along}
-use Rattle.served_runs.specs.Offered.{Lies, TookSoFar, IsDone, GaveAll, GaveLast, OffersInRun}
+use Rattle.served_runs.specs.Offered.{TookSoFar, offered_by, OffersInRun}
 use Rattle.served_runs.proofs.Ends.{GaveFor, IsOverSo, Holds}
 use Rattle.served_runs.proofs.Late.{IsLate, AreLate, late_first, late_on, late_put}
+use Rattle.served_runs.proofs.Parts.{IsPart, part_along}
+use Rattle.served_runs.proofs.Places.{lies_before}
 use Rattle.served_runs.proofs.Readings.{Goes, IsOver}
 use Rattle.served_runs.proofs.Runs.{Kept, quiet_offered, quiet_takes, holds_along}
 use Rattle.served_runs.proofs.Ticks.{Stands}
@@ -76,10 +78,6 @@ get_range f d a (suc n) (suc k) l = get_range f d (a + 1) n k (omega arith) ∙ 
 took_there : (p : Plan) (homes : List (Option Home)) (k : ℕ) (took : List ℕ) (next : ℕ) (done : Bool) → get_elem? homes (link_place p k) ≡ some (some (Link k took next done)) → k < p.links → get_or (took_at_home p homes) k [] ≡ took
 took_there p homes k took next done at l = let f : ℕ → List ℕ = λ j. flat_map taken_by (lies_at homes (link_place p j)) in get_range f [] 0 p.links k l ∙ (ap f (omega arith)
     ∙ (ap (λ o. flat_map taken_by (elim o as (λ o. List Home) [ none ↦ [] | some x ↦ elim x as (λ o. List Home) [ none ↦ [] | some y ↦ y ∷ [] ] ])) at ∙ append-nil took))
-
-by_true : {A : Type 0} (b : Bool) (x y : A) → IsTrue b → cond b x y ≡ x
-by_true true x y is = refl
-by_true false x y is = absurd (cc)
 
 module _ (script : List Item) (made : AreMade script) (turns : List Turn) (core : Core) (is : IsRunWithCalls script turns core) (offers : OffersInRun script turns core is)
     (k o : ℕ) (at : get_elem? (opens script) k ≡ some o) (shape : Shape) (shape_is : slice_get (link_shapes script) k ≡ Some shape) where
@@ -173,22 +171,12 @@ module _ (script : List Item) (made : AreMade script) (turns : List Turn) (core 
 
   -- ## The ending
 
-  -- seat 0 begins it with nothing in hand
-  lies_before : (c : Core) (x : Home) → Lies (plan_of script) (ending script c) k x → Lies (plan_of script) c k x
-  lies_before c x (inl e) = inl e
-  lies_before c x (inr (j, seat, there, has)) = ⊎_elim
-      (λ a. absurd (none_held (record { program = next_step (resolved (waiting_at c.calls.waiting 0) (ending_of (opens script))); hand = [] }) seat a.1 refl has))
-      (λ a. inr (j, seat, a.1, has)) (at_set c.seats 0 j (record { program = next_step (resolved (waiting_at c.calls.waiting 0) (ending_of (opens script))); hand = [] }) seat there)
-    where
-      none_held : (first seat : SeatState) → first ≡ seat → first.hand ≡ [] → InHand x seat.hand → ⊥
-      none_held x₀ seat same none_ has = subst (InHand x) (ap (λ (s : SeatState). s.hand) (sym same) ∙ none_) has
-
   over_in_ending : (c : Core) → IsOverSo script k o shape Fails c → IsOverSo script k o shape Fails (ending script c)
   over_in_ending c (inl bad) = inl bad
   over_in_ending c (inr (inl fails)) = inr (inl fails)
-  over_in_ending c (inr (inr (inl gave))) = inr (inr (inl (λ took more t. gave took more (t.0, t.1, lies_before c _ t.2))))
-  over_in_ending c (inr (inr (inr (gave, inl done)))) = inr (inr (inr ((λ took t. gave took (t.0, t.1, lies_before c _ t.2)), inl (λ took next d lies. done took next d (lies_before c _ lies)))))
-  over_in_ending c (inr (inr (inr (gave, inr late)))) = inr (inr (inr ((λ took t. gave took (t.0, t.1, lies_before c _ t.2)), inr late)))
+  over_in_ending c (inr (inr (inl gave))) = inr (inr (inl (λ took more t. gave took more (t.0, t.1, lies_before script k c _ t.2))))
+  over_in_ending c (inr (inr (inr (gave, inl done)))) = inr (inr (inr ((λ took t. gave took (t.0, t.1, lies_before script k c _ t.2)), inl (λ took next d lies. done took next d (lies_before script k c _ lies)))))
+  over_in_ending c (inr (inr (inr (gave, inr late)))) = inr (inr (inr ((λ took t. gave took (t.0, t.1, lies_before script k c _ t.2)), inr late)))
 
   closing_holds : H (closing_of script turns core is)
   closing_holds = let h = played_holds in record {
@@ -218,55 +206,90 @@ module _ (script : List Item) (made : AreMade script) (turns : List Turn) (core 
 
   -- ## The end
 
-  module _ (in_time : In k (late_links_of_run script turns core is) → ⊥) where
-    over_holds : H core
-    over_holds = subst H (sym is.is_end) (holds_along script in_os (IsListed script) (go script made turns core is) k o (in_os k o at) shape shape_is Fails (AreLate script made turns core is)
-        (λ c vs m ms sound late ending put. in_time (late_put script made turns core is k c vs m ms sound late put)) (late_on script made turns core is)
-        is.final is.ended (views_closed script turns core is (first_views script)) _
-        (closed_sound script made.are (first_views script) (start script made turns core is) (go script made turns core is) turns core is (fitting script made turns core is)) is.answered_again (let f = fitting script made turns core is in f.of_final)
-        (recorded_closed script made.are (first_views script) (start script made turns core is) (go script made turns core is) turns core is (fitting script made turns core is)) (closed_keeps script made turns core is)
-        offers.final long_ended in_late (late_first script made turns core is) ended_holds)
+  over_holds : (In k (late_links_of_run script turns core is) → ⊥) → H core
+  over_holds in_time = subst H (sym is.is_end) (holds_along script in_os (IsListed script) (go script made turns core is) k o (in_os k o at) shape shape_is Fails (AreLate script made turns core is)
+      (λ c vs m ms sound late ending put. in_time (late_put script made turns core is k c vs m ms sound late put)) (late_on script made turns core is)
+      is.final is.ended (views_closed script turns core is (first_views script)) _
+      (closed_sound script made.are (first_views script) (start script made turns core is) (go script made turns core is) turns core is (fitting script made turns core is)) is.answered_again (let f = fitting script made turns core is in f.of_final)
+      (recorded_closed script made.are (first_views script) (start script made turns core is) (go script made turns core is) turns core is (fitting script made turns core is)) (closed_keeps script made turns core is)
+      offers.final long_ended in_late (late_first script made turns core is) ended_holds)
 
-    module _ (closes : ClosesInRun script turns core is) (socket : get_or core.words (open_word (plan_of script) o) 0 ≢ NO_SOCKET) (none_broken : In Broken (heard_takes is k) → ⊥) (faultless : HasFault (given core k) → ⊥) (few : length (given core k) < LIMIT) where
-      rests : AllRest core
-      rests = run_all_rest script made turns core is closes
+  -- ## Whatever the end of its reading
 
-      home : AtHome (plan_of script) core.homes k
-      home = links_home (plan_of script) core (views_ended script turns core is (first_views script))
-          (ended_sound script made.are (first_views script) (start script made turns core is) (go script made turns core is) turns core is (fitting script made turns core is)) rests k link_inside
+  abbrev Part : Core → Type 0
+  Part c = IsPart script k shape c
 
-      there : TookSoFar (plan_of script) core k home.took
-      there = (home.next, home.done, inl home.is)
+  part_set_up : Part (set_up script is.setup)
+  part_set_up = part_along script k shape shape_is (go script made turns core is) in_setup (opened script) (first_views script) (let s = start script made turns core is in s.sound)
+      (set_up_answered script made.are (first_views script) (start script made turns core is) (go script made turns core is) turns core is (fitting script made turns core is)) (let f = fitting script made turns core is in f.of_setup)
+      (quiet_offered script is.setup (opened script)) long_opened (λ took t. (offered_by shape took, ap (λ l. l ++ offered_by shape took) (empty_at (plan_of script).links k)))
 
-      seat_there : (s : SeatState) × (get_elem? core.seats (32 + k) ≡ some s)
-      seat_there = at_some core.seats (32 + k) seat_low
+  part_played : Part (played script is.setup in_clients)
+  part_played = part_along script k shape shape_is (go script made turns core is) in_clients (set_up script is.setup) (views_along (plan_of script) (opened script) (first_views script) in_setup)
+      (set_up_sound script made.are (first_views script) (start script made turns core is) (go script made turns core is) turns core is (fitting script made turns core is)) is.answered (let f = fitting script made turns core is in f.of_played)
+      offers.played long_set_up part_set_up
+
+  part_closed : Part (run (plan_of script) (closing_of script turns core is) in_closing)
+  part_closed = part_along script k shape shape_is (go script made turns core is) in_closing (closing_of script turns core is) (views_played script turns core is (first_views script))
+      (closing_sound script made.are (first_views script) (start script made turns core is) (go script made turns core is) turns core is (fitting script made turns core is))
+      (end_answered script made.are (first_views script) (start script made turns core is) (go script made turns core is) turns core is (fitting script made turns core is)) (let f = fitting script made turns core is in f.of_closing)
+      (quiet_offered script is.last (closing_of script turns core is)) long_played (λ took t. part_played took (t.0, t.1, lies_before script k (played script is.setup in_clients) _ t.2))
+
+  part_over : Part core
+  part_over = subst Part (sym is.is_end) (part_along script k shape shape_is (go script made turns core is) is.final is.ended (views_closed script turns core is (first_views script))
+      (closed_sound script made.are (first_views script) (start script made turns core is) (go script made turns core is) turns core is (fitting script made turns core is)) is.answered_again (let f = fitting script made turns core is in f.of_final)
+      offers.final long_ended (subst Part (sym is.is_ended) (λ took t. part_closed took t)))
+
+  -- ## Where it lies in the end
+
+  module _ (closes : ClosesInRun script turns core is) where
+    rests : AllRest core
+    rests = run_all_rest script made turns core is closes
+
+    home : AtHome (plan_of script) core.homes k
+    home = links_home (plan_of script) core (views_ended script turns core is (first_views script))
+        (ended_sound script made.are (first_views script) (start script made turns core is) (go script made turns core is) turns core is (fitting script made turns core is)) rests k link_inside
+
+    there : TookSoFar (plan_of script) core k home.took
+    there = (home.next, home.done, inl home.is)
+
+    took_is : slice_index_or (took_at_home (plan_of script) core.homes) k [] ≡ home.took
+    took_is = took_there (plan_of script) core.homes k home.took home.next home.done home.is link_inside
+
+    -- it gave some of what belongs to what it took
+    pub gives_part : (more : List ℕ) × (given core k ++ more ≡ offered_by shape (slice_index_or (took_at_home (plan_of script) core.homes) k []))
+    gives_part = let x = part_over home.took there in (x.0, x.1 ∙ ap (offered_by shape) (sym took_is))
+
+    seat_there : (s : SeatState) × (get_elem? core.seats (32 + k) ≡ some s)
+    seat_there = at_some core.seats (32 + k) seat_low
+      where
+        seat_low : 32 + k < length core.seats
+        seat_low = let m = (let x = closed_keeps script made turns core is in x.many) in let r = run_seats (plan_of script) is.ended is.final in let e = ap (λ (d : Core). length d.seats) is.is_end in
+            let i = place_inside (opens script) k o at in omega (arith, m, r, e, i)
+
+    module _ (in_time : In k (late_links_of_run script turns core is) → ⊥) (socket : get_or core.words (open_word (plan_of script) o) 0 ≢ NO_SOCKET) (none_broken : In Broken (heard_takes is k) → ⊥) (faultless : HasFault (given core k) → ⊥) (few : length (given core k) < LIMIT) where
+      gave_all : given core k ≡ offered_by shape home.took
+      gave_all = by_stand ((over_holds in_time).reader seat_there.0 seat_there.1)
         where
-          seat_low : 32 + k < length core.seats
-          seat_low = let m = (let x = closed_keeps script made turns core is in x.many) in let r = run_seats (plan_of script) is.ended is.final in let e = ap (λ (d : Core). length d.seats) is.is_end in
-              let i = place_inside (opens script) k o at in omega (arith, m, r, e, i)
-
-      gave_all : given core k ≡ cond shape.serve (given_for shape home.took) []
-      gave_all = by_stand (over_holds.reader seat_there.0 seat_there.1)
-        where
-          by_over : IsOverSo script k o shape Fails core → given core k ≡ cond shape.serve (given_for shape home.took) []
+          by_over : IsOverSo script k o shape Fails core → given core k ≡ offered_by shape home.took
           by_over (inl (inl fault)) = absurd (faultless fault)
           by_over (inl (inr most)) = absurd (let z : ⊥ = omega (arith, most, few) in z)
           by_over (inr (inl fails)) = absurd (none_broken fails)
-          by_over (inr (inr (inl gave))) = gave home.took [] there ∙ ap (λ l. cond shape.serve (given_for shape l) []) (append-nil home.took)
+          by_over (inr (inr (inl gave))) = gave home.took [] there ∙ ap (offered_by shape) (append-nil home.took)
           by_over (inr (inr (inr (gave, how)))) = gave home.took there
 
           at_rest : seat_there.0.program ≡ Rest
           at_rest = rests (32 + k) seat_there.0 seat_there.1
 
-          by_stand : Stands (plan_of script) (calls script) k o (given core k) over_holds.last (get_or core.words (open_word (plan_of script) o) 0) seat_there.0.program → given core k ≡ cond shape.serve (given_for shape home.took) []
+          by_stand : Stands (plan_of script) (calls script) k o (given core k) (over_holds in_time).last (get_or core.words (open_word (plan_of script) o) 0) seat_there.0.program → given core k ≡ offered_by shape home.took
           by_stand (inl x) = absurd (let z : Rest ≡ reader (calls script) k o = sym at_rest ∙ x.0 in cc)
           by_stand (inr (inl x)) = absurd (socket x.1)
-          by_stand (inr (inr x)) = by_rest (subst (Goes k (given core k) over_holds.last) at_rest x)
+          by_stand (inr (inr x)) = by_rest (subst (Goes k (given core k) (over_holds in_time).last) at_rest x)
             where
-              by_rest : IsOver (given core k) over_holds.last → given core k ≡ cond shape.serve (given_for shape home.took) []
-              by_rest (inl last) = by_over (over_holds.over last)
+              by_rest : IsOver (given core k) (over_holds in_time).last → given core k ≡ offered_by shape home.took
+              by_rest (inl last) = by_over ((over_holds in_time).over last)
               by_rest (inr bad) = by_over (inl bad)
 
-      -- it gave the replies to what it took
-      pub gives_replies_at : IsTrue shape.serve → given core k ≡ given_for shape (slice_index_or (took_at_home (plan_of script) core.homes) k [])
-      gives_replies_at serves = gave_all ∙ (by_true shape.serve (given_for shape home.took) [] serves ∙ ap (given_for shape) (sym (took_there (plan_of script) core.homes k home.took home.next home.done home.is link_inside)))
+      -- it gave all that belongs to what it took
+      pub gives_all : given core k ≡ offered_by shape (slice_index_or (took_at_home (plan_of script) core.homes) k [])
+      gives_all = gave_all ∙ ap (offered_by shape) (sym took_is)

@@ -1,4 +1,4 @@
--- What a link was given by its other end at each of its takes that found nothing there: with the built-in server, the replies to all that the link took.
+-- What a link was given by its other end at each of its takes: with the built-in server some of the replies to what the link took, in their order, and where a take finds nothing there, all of them.
 use Rattle.std.specs.Prelude.{ℕ, ◌≡◌, ◌⊎◌, Bool, true, if◌then◌else◌, List, [], ◌∷◌, ◌++◌, slice_get, Some}
 use mathlib.Core.Option.{none, some}
 use lib.ListN.{get_elem?}
@@ -8,7 +8,7 @@ use Rattle.sock_model.specs.declared.home.Home.TheVariants.{Link}
 use Rattle.brpc_model.specs.Items.{Item, Shape}
 use Rattle.brpc_model.specs.Operations.{Turn, link_shapes}
 use Rattle.brpc_model.specs.Served.{given_for}
-use Rattle.sock_programs.specs.Asides.{TakeBytes, Taking, Nothing, AtEnd, Closed}
+use Rattle.sock_programs.specs.Asides.{TakeBytes, Taking, Bytes, Nothing, AtEnd, Closed}
 use Rattle.sock_programs.specs.Programs.{Program, Aside}
 use Rattle.sock_programs.specs.Cores.{Core, SeatState, link_place}
 use Rattle.sock_programs.specs.Ticks.{Answer, OfTake, Moment, ticked}
@@ -38,7 +38,11 @@ IsDone p c k = (took : List ℕ) (next : ℕ) (done : Bool) → Lies p c k (Link
 abbrev pub offered_by : Shape → List ℕ → List ℕ
 offered_by shape took = if shape.serve then given_for shape took else []
 
--- the link gave what belongs to all that it took
+-- with these bytes more the link gave some of what belongs to what it took, in order
+abbrev pub GavePart : Plan → Shape → Core → ℕ → List ℕ → Type 0
+GavePart p shape c k bytes = (took : List ℕ) → TookSoFar p c k took → (more : List ℕ) × ((given c k ++ bytes) ++ more ≡ offered_by shape took)
+
+-- it gave what belongs to all that it took
 abbrev pub GaveAll : Plan → Shape → Core → ℕ → Type 0
 GaveAll p shape c k = (took : List ℕ) → TookSoFar p c k took → given c k ≡ offered_by shape took
 
@@ -46,19 +50,20 @@ GaveAll p shape c k = (took : List ℕ) → TookSoFar p c k took → given c k �
 abbrev pub GaveLast : Plan → Shape → Core → ℕ → Type 0
 GaveLast p shape c k = (took more : List ℕ) → TookSoFar p c k took → given c k ≡ offered_by shape (took ++ more)
 
--- where a take finds nothing, the other end has given all that belongs to what was taken; behind its end nothing belongs to what comes; and it
--- closes only a link that is finished
-abbrev pub IsGivenAll : Plan → Shape → Core → ℕ → Taking → Type 0
-IsGivenAll p shape c k Nothing = GaveAll p shape c k
-IsGivenAll p shape c k AtEnd = GaveLast p shape c k
-IsGivenAll p shape c k Closed = GaveAll p shape c k × IsDone p c k
-IsGivenAll p shape c k other = Unit {0}
+-- a take finds some of what belongs to what was taken; where it finds nothing, the other end has given all of that; behind its end nothing belongs to
+-- what comes; and it closes only a link that is finished
+abbrev pub IsOfferedSo : Plan → Shape → Core → ℕ → Taking → Type 0
+IsOfferedSo p shape c k (Bytes bytes) = GavePart p shape c k bytes
+IsOfferedSo p shape c k Nothing = GaveAll p shape c k
+IsOfferedSo p shape c k AtEnd = GaveLast p shape c k
+IsOfferedSo p shape c k Closed = GaveAll p shape c k × IsDone p c k
+IsOfferedSo p shape c k other = Unit {0}
 
 -- ## In a run
 
 module _ (script : List Item) where
   abbrev pub OffersAt : Core → Answer → Program → Type 0
-  OffersAt c answer (Aside (TakeBytes k room) next) = (shape : Shape) (taking : Taking) → slice_get (link_shapes script) k ≡ Some shape → answer ≡ OfTake taking → IsGivenAll (plan_of script) shape c k taking
+  OffersAt c answer (Aside (TakeBytes k room) next) = (shape : Shape) (taking : Taking) → slice_get (link_shapes script) k ≡ Some shape → answer ≡ OfTake taking → IsOfferedSo (plan_of script) shape c k taking
   OffersAt c answer other = Unit {0}
 
   -- of the link whose bytes the tick takes, if it takes some

@@ -1,5 +1,5 @@
 -- Which links of a run gave the replies to all that they took.
-use Rattle.std.specs.Prelude.{ℕ, ◌≡◌, ◌<◌, ◌+◌, List, [], length, slice_get, slice_index_or, Some, IsSome, IsTrue, Contains}
+use Rattle.std.specs.Prelude.{ℕ, ◌≡◌, ◌<◌, ◌≤◌, ◌+◌, false, List, [], ◌++◌, length, slice_get, slice_index_or, Some, IsTrue, Contains}
 use Rattle.brpc_model.specs.Causes.{HasFault}
 use Rattle.brpc_model.specs.Frame.{Frame}
 use Rattle.brpc_model.specs.Items.{Item, Shape}
@@ -40,18 +40,54 @@ module _ (script : List Item) (turns : List Turn) (core : Core) (is : IsRunWithC
     pub faultless : HasFault (given core k) → ⊥
     pub few : length (given core k) < LIMIT
 
+  -- what link k took in the end
+  abbrev pub took_in_all : ℕ → List ℕ
+  took_in_all k = slice_index_or (took_at_home (plan_of script) core.homes) k []
+
   -- such a link gave the replies to what it took
   abbrev pub GivesReplies : Type 0
-  GivesReplies = (k : ℕ) (shape : Shape) → IsServed k shape → given core k ≡ given_for shape (slice_index_or (took_at_home (plan_of script) core.homes) k [])
+  GivesReplies = (k : ℕ) (shape : Shape) → IsServed k shape → given core k ≡ given_for shape (took_in_all k)
+
+  -- each link with the server gave the front of them, however its reading ended
+  abbrev pub GivesFront : Type 0
+  GivesFront = (k : ℕ) (shape : Shape) → slice_get (link_shapes script) k ≡ Some shape → IsTrue shape.serve → (more : List ℕ) × (given core k ++ more ≡ given_for shape (took_in_all k))
+
+  -- and a link without it gave nothing
+  abbrev pub GivesNothing : Type 0
+  GivesNothing = (k : ℕ) (shape : Shape) → slice_get (link_shapes script) k ≡ Some shape → shape.serve ≡ false → given core k ≡ []
 
   -- ## Calls
 
-  -- no `send` is to a name of the link's socket
-  abbrev pub IsUnsent : ℕ → Type 0
-  IsUnsent k = (client : ℕ) (t : Task) (name slot version : ℕ) (bytes : List ℕ) → IsTask (all_tasks script) core.outcomes client t → t.op ≡ ops.Send name bytes → Made (all_tasks script) core.outcomes name k slot version → ⊥
+  -- link k has the server, and no `send` is to a name of its socket
+  pub record IsForCalls (k : ℕ) (shape : Shape) : Type 0 where
+    pub opened : slice_get (link_shapes script) k ≡ Some shape
+    pub serves : IsTrue shape.serve
+    pub unsent : (client : ℕ) (t : Task) (name slot version : ℕ) (bytes : List ℕ) → IsTask (all_tasks script) core.outcomes client t → t.op ≡ ops.Send name bytes → Made (all_tasks script) core.outcomes name k slot version → ⊥
+
+  -- the frame is the reply to the request of an attempt of a call
+  pub record IsReplyToCall (frame : Frame) : Type 0 where
+    pub client : ℕ
+    pub task : Task
+    pub asked : Asked
+    pub outcome : Outcome
+    pub id : ℕ
+    pub attempt : ℕ
+    pub is_task : IsTask (all_tasks script) core.outcomes client task
+    pub op : task.op ≡ ops.Call asked
+    pub became : Became (all_tasks script) core.outcomes task.number outcome
+    pub shows : shown_id outcome ≡ Some id
+    pub few : attempt + 2 ≤ asked.range
+    pub replies : reply (request_with asked (id + attempt + 1)) ≡ Some frame
+
+  -- such a link gave no frame fault, and each frame that it gave is such a reply
+  abbrev pub GivesNoFault : Type 0
+  GivesNoFault = (k : ℕ) (shape : Shape) → IsForCalls k shape → HasFault (given core k) → ⊥
+
+  abbrev pub GivesCallReplies : Type 0
+  GivesCallReplies = (k n : ℕ) (shape : Shape) (frame : Frame) → IsForCalls k shape → slice_get (stream (given core k)).frames n ≡ Some frame → IsReplyToCall frame
 
   -- each response of a call's versions that such a link gave is the reply to the call's own request
   abbrev pub GivesOwnReplies : Type 0
-  GivesOwnReplies = (k n id client : ℕ) (shape : Shape) (frame : Frame) (t : Task) (asked : Asked) (outcome : Outcome) → IsServed k shape → IsUnsent k → slice_get (stream (given core k)).frames n ≡ Some frame
-      → IsTask (all_tasks script) core.outcomes client t → t.op ≡ ops.Call asked → Became (all_tasks script) core.outcomes t.number outcome → shown_id outcome ≡ Some id → IsSome frame.meta.response → id < frame.meta.correlation_id → frame.meta.correlation_id < id + asked.range
+  GivesOwnReplies = (k n id client : ℕ) (shape : Shape) (frame : Frame) (t : Task) (asked : Asked) (outcome : Outcome) → IsForCalls k shape → slice_get (stream (given core k)).frames n ≡ Some frame → IsTask (all_tasks script) core.outcomes client t
+      → t.op ≡ ops.Call asked → Became (all_tasks script) core.outcomes t.number outcome → shown_id outcome ≡ Some id → id < frame.meta.correlation_id → frame.meta.correlation_id < id + asked.range
       → reply (request_with asked frame.meta.correlation_id) ≡ Some frame
