@@ -1,0 +1,3 @@
+pub mod Frames
+pub mod Requests
+pub mod Calls
