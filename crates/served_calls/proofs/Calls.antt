@@ -79,34 +79,33 @@ module _ (script : List Item) (made : AreMade script) (turns : List Turn) (core 
   link_low : (k : ℕ) → HasServer script turns core is k → k < (plan_of script).links
   link_low k s = let l = slice_get_within (link_shapes script) k s.0 s.1 in let m = shapes_many script in omega (arith, l, m)
 
+  -- a link with the server gives no end
+  endless : (k : ℕ) → HasServer script turns core is k → Contains (heard_takes is k) AtEnd → ⊥
+  endless k s ended = never_last script made turns core is fixed orders tells ids k (link_low k s) (for_calls k s).unsent s.0 (quiet.no_end k s.0 s.1) (lasts k s.0 s.1 s.2 ended)
+
+  -- and its reading ends early by nothing
+  pub none_early : (k : ℕ) → HasServer script turns core is k → Contains fixed.early k → ⊥
+  none_early k s early = by (shows_early k early)
+    where
+      by : Contains (heard_takes is k) AtEnd ⊎ (HasFault (given core k) ⊎ ((LIMIT ≤ length (given core k)) ⊎ Contains (heard_takes is k) Broken)) → ⊥
+      by (inl ended) = endless k s ended
+      by (inr (inl fault)) = no_fault k s.0 (for_calls k s) fault
+      by (inr (inr (inl most))) = let few = quiet.few k s in let z : ⊥ = omega (arith, most, few) in z
+      by (inr (inr (inr broken))) = quiet.whole k s broken
+
+  -- so it isn't failing
+  unfailing : (k : ℕ) → HasServer script turns core is k → told.IsFailing (plan_of script) (all_tasks script) core.outcomes fixed (given core) orders k → ⊥
+  unfailing k s (inl (f, there, counts)) = let w = all_at (IsFail (all_tasks script) core.outcomes) fixed.fails (f, k) tells.are (has_from fixed.fails (f, k) there) in quiet.no_fail w.client w.task w.name w.code w.is w.op
+  unfailing k s (inr (inl broken)) = quiet.none_broken k s broken
+  unfailing k s (inr (inr (inl early))) = none_early k s early
+  unfailing k s (inr (inr (inr late))) = quiet.no_late_link k late
+
   module _ (asked : Asked) (client : ℕ) (t : Task) (it : Task_ client t) (op : t.op ≡ ops.Call asked) where
-    -- a link with the server gives no end
-    endless : (k name slot version : ℕ) → HasServer script turns core is k → Made_ name k slot version → Contains (heard_takes is k) AtEnd → ⊥
-    endless k name slot version s life ended = never_last script made turns core is fixed orders tells ids k (link_low k s) (for_calls k s).unsent s.0 (quiet.no_end k s.0 s.1) asked (asked_fits script made turns core is fixed orders tells ids client t asked it op)
-        (lasts k name slot version s.0 s.1 s.2 life ended)
-
-    -- and its reading ends early by nothing
-    none_early : (k name slot version : ℕ) → HasServer script turns core is k → Made_ name k slot version → Contains fixed.early k → ⊥
-    none_early k name slot version s life early = by (shows_early k early)
-      where
-        by : Contains (heard_takes is k) AtEnd ⊎ (HasFault (given core k) ⊎ ((LIMIT ≤ length (given core k)) ⊎ Contains (heard_takes is k) Broken)) → ⊥
-        by (inl ended) = endless k name slot version s life ended
-        by (inr (inl fault)) = no_fault k s.0 (for_calls k s) fault
-        by (inr (inr (inl most))) = let few = quiet.few k s in let z : ⊥ = omega (arith, most, few) in z
-        by (inr (inr (inr broken))) = quiet.whole k broken
-
-    -- so it isn't failing
-    unfailing : (k name slot version : ℕ) → HasServer script turns core is k → Made_ name k slot version → told.IsFailing (plan_of script) (all_tasks script) core.outcomes fixed (given core) orders k → ⊥
-    unfailing k name slot version s life (inl (f, there, counts)) = let w = all_at (IsFail (all_tasks script) core.outcomes) fixed.fails (f, k) tells.are (has_from fixed.fails (f, k) there) in quiet.no_fail w.client w.task w.name w.code w.is w.op
-    unfailing k name slot version s life (inr (inl broken)) = quiet.none_broken k broken
-    unfailing k name slot version s life (inr (inr (inl early))) = none_early k name slot version s life early
-    unfailing k name slot version s life (inr (inr (inr late))) = quiet.no_late_link k late
-
     -- ## The first attempt
 
     module _ (servers : IsForServers script turns core is fixed orders asked) where
       no_loss : told.WhyLost (plan_of script) (all_tasks script) core.outcomes fixed (given core) orders client t.number 0 (name_of asked 0) → ⊥
-      no_loss (told.WasFailing k slot version life failing) = unfailing k (name_of asked 0) slot version (servers k slot version life) life failing
+      no_loss (told.WasFailing k slot version life failing) = unfailing k (servers k slot version life) failing
       no_loss (told.RunEnding late) = quiet.none_late client t asked it op late
       no_loss (told.WasUnopened later c m some_ few behind none_) = let z : ⊥ = omega (arith, later) in z
 
@@ -144,7 +143,7 @@ module _ (script : List Item) (made : AreMade script) (turns : List Turn) (core 
           }
 
       no_drop : (k i : ℕ) → At k i → (orders k).placed ≤ i → ⊥
-      no_drop k i w dropped = let o = own k i w in let inside = slice_get_within (orders k).accepted i w.1 w.2 in unfailing k (name_of asked 0) o.slot o.version (servers k o.slot o.version o.life) o.life (tells.dropped k w.0 (omega (arith, inside, dropped)))
+      no_drop k i w dropped = let o = own k i w in let inside = slice_get_within (orders k).accepted i w.1 w.2 in unfailing k (servers k o.slot o.version o.life) (tells.dropped k w.0 (omega (arith, inside, dropped)))
 
       no_again : told.WhyAgain (plan_of script) (all_tasks script) core.outcomes fixed (given core) orders client t.number 0 (name_of asked 0) → ⊥
       no_again (told.AfterDrop w) = no_drop w.0 w.1 w.2 w.3
@@ -230,7 +229,7 @@ module _ (script : List Item) (made : AreMade script) (turns : List Turn) (core 
                     version = o.version;
                     lived = o.life;
                     in_time = quiet.in_time k;
-                    whole = quiet.whole k;
+                    whole = quiet.whole k s;
                     faultless = no_fault k s.0 (for_calls k s);
                     few = quiet.few k s;
                   }
@@ -241,7 +240,7 @@ module _ (script : List Item) (made : AreMade script) (turns : List Turn) (core 
 
               by : told.IsFailing (plan_of script) (all_tasks script) core.outcomes fixed (given core) orders k ⊎ (told.StandsOn (plan_of script) (all_tasks script) core.outcomes fixed (given core) orders t.number 0 k
                   ⊎ (told.IsUnordered (plan_of script) (all_tasks script) core.outcomes fixed (given core) orders t.number 0 × told.WasFull (plan_of script) (all_tasks script) core.outcomes fixed (given core) orders)) → ⊥
-              by (inl failing) = (let on = w.on in unfailing k (name_of asked 0) on.0 on.1 s on.2 failing)
+              by (inl failing) = unfailing k s failing
               by (inr (inl (i, at))) = ⊎_elim (λ placed. answered i at placed) (λ dropped. no_drop k i at dropped) (below_or_not i (orders k).placed)
               by (inr (inr (out, full))) = quiet.unfull client t asked it op out full
 

@@ -45,6 +45,13 @@ replies_whole : (fs : List Frame) → AllByRecursion IsCalled fs → AllByRecurs
 replies_whole fs all = all_from (λ g. IsPiece Any (frame_bytes g)) (filter_map reply fs) (λ g h. let w = filter_map_has reply fs g h in let c = all_at IsCalled fs w.0 all w.1 in
     record { frame = g; is = (reply_is c.asked c.id c.attempt g c.small (sym (ap reply c.frame) ∙ w.2)).0; holds = tt })
 
+-- a call as small as any
+abbrev tiny : Asked
+tiny = record { operation = 0; names = []; service = []; method = []; payload = []; attachment = []; range = 2 }
+
+tiny_small : IsSmall tiny 0 0
+tiny_small = record { short = omega arith; low = omega arith }
+
 -- the ids that outcomes of calls show are those of a table
 abbrev pub AreIdsSmall : List Item → Core → Type 0
 AreIdsSmall script core = (client : ℕ) (t : Task) (asked : Asked) (x : Outcome) (id : ℕ) → IsTask (all_tasks script) core.outcomes client t → t.op ≡ ops.Call asked → Became (all_tasks script) core.outcomes t.number x → shown_id x ≡ Some id → id < 281474976710656
@@ -125,23 +132,23 @@ module _ (script : List Item) (made : AreMade script) (turns : List Turn) (core 
         all = gives ∙ ap (λ e. flat_map frame_bytes (first_of e (reply_frames took))) endless
 
     -- a link without `end` gave no last reply: a request more has one more
-    pub never_last : (shape : Shape) → shape.end ≡ None → (asked : Asked) → AskedFits (plan_of script) asked → ((more : List ℕ) → given core k ≡ given_for shape (took ++ more)) → ⊥
-    never_last shape endless asked fits last = let r = reply_more (stream all).frames (stream one).frames f g there refl in let e = ap length same in let z : ⊥ = omega (arith, r, e) in z
+    pub never_last : (shape : Shape) → shape.end ≡ None → ((more : List ℕ) → given core k ≡ given_for shape (took ++ more)) → ⊥
+    never_last shape endless last = let r = reply_more (stream all).frames (stream one).frames f g there refl in let e = ap length same in let z : ⊥ = omega (arith, r, e) in z
       where
         all : List ℕ
         all = flat_map bytes_of accepted
 
         one : List ℕ
-        one = frame_of asked 0 0
+        one = frame_of tiny 0 0
 
         f : Frame
-        f = request_of asked 0 0
+        f = request_of tiny 0 0
 
         g : Frame
-        g = reply_to asked 1
+        g = reply_to tiny 1
 
         there : Has (stream one).frames f
-        there = subst (λ l. Has (stream l).frames f) (append-nil one) (first_has one [] f (request_is asked 0 0 (record { short = fits.short 0 0; low = omega arith })))
+        there = subst (λ l. Has (stream l).frames f) (append-nil one) (first_has one [] f (request_is tiny 0 0 tiny_small))
 
         given_as : (bytes : List ℕ) → given_for shape bytes ≡ flat_map frame_bytes (filter_map reply (stream bytes).frames)
         given_as bytes = ap (λ e. flat_map frame_bytes (first_of e (reply_frames bytes))) endless

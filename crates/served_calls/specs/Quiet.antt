@@ -40,10 +40,9 @@ module _ (script : List Item) (turns : List Turn) (core : Core) (is : IsRunWithC
   GivesTriedReplies = (k n : ℕ) (shape : Shape) (frame : Frame) → IsForCalls script turns core is k shape → slice_get (stream (given core k)).frames n ≡ Some frame
       → (r : IsReplyToCall script turns core is frame) × (r.attempt ≤ attempts_of_run script turns core is r.task.number)
 
-  -- where such a link that became a socket's gave its end, it gave all that belongs to whatever it takes
+  -- where such a link gave its end, it gave all that belongs to whatever it takes
   abbrev pub GivesLast : Type 0
-  GivesLast = (k name slot version : ℕ) (shape : Shape) → slice_get (link_shapes script) k ≡ Some shape → IsTrue shape.serve → Made (all_tasks script) core.outcomes name k slot version → Contains (heard_takes is k) AtEnd
-      → (more : List ℕ) → given core k ≡ given_for shape (took_in_all script turns core is k ++ more)
+  GivesLast = (k : ℕ) (shape : Shape) → slice_get (link_shapes script) k ≡ Some shape → IsTrue shape.serve → Contains (heard_takes is k) AtEnd → (more : List ℕ) → given core k ≡ given_for shape (took_in_all script turns core is k ++ more)
 
   module _ (fixed : Fixed) (orders : ℕ → Order) where
     -- what the list of readings that ended early shows
@@ -54,9 +53,9 @@ module _ (script : List Item) (turns : List Turn) (core : Core) (is : IsRunWithC
     pub record IsQuiet : Type 0 where
       pub no_fail : (client : ℕ) (t : Task) (name code : ℕ) → IsTask (all_tasks script) core.outcomes client t → t.op ≡ ops.Fail name code → ⊥
       pub no_end : (k : ℕ) (shape : Shape) → slice_get (link_shapes script) k ≡ Some shape → shape.end ≡ None
-      -- no put failed, and no take
-      pub none_broken : (k : ℕ) → Contains fixed.broken k → ⊥
-      pub whole : (k : ℕ) → Contains (heard_takes is k) Broken → ⊥
+      -- no put of a link with the server failed, and no take
+      pub none_broken : (k : ℕ) → HasServer k → Contains fixed.broken k → ⊥
+      pub whole : (k : ℕ) → HasServer k → Contains (heard_takes is k) Broken → ⊥
       -- a link without the server gave nothing, and one with it less than is read at most
       pub silent : (k : ℕ) (shape : Shape) → slice_get (link_shapes script) k ≡ Some shape → (IsTrue shape.serve → ⊥) → given core k ≡ []
       pub few : (k : ℕ) → HasServer k → length (given core k) < LIMIT
