@@ -42,7 +42,7 @@ below_or_not zero (suc n) = inl (omega arith)
 below_or_not (suc i) (suc n) = ⊎_elim (λ l. inl (omega (arith, l))) (λ g. inr (omega (arith, g))) (below_or_not i n)
 
 -- each link has a shape
-shapes_many : (items : List Item) → length (filter_map opened_shape items) ≡ length (filter_map opened_name items)
+pub shapes_many : (items : List Item) → length (filter_map opened_shape items) ≡ length (filter_map opened_name items)
 shapes_many [] = refl
 shapes_many (Open name shape ∷ items) = ap suc (shapes_many items)
 shapes_many (item ∷ items) = shapes_many items

@@ -5,7 +5,7 @@ use Rattle.brpc_model.specs.Complete.{Gives}
 use Rattle.brpc_model.specs.Frame.{Frame}
 use Rattle.brpc_model.specs.Items.{Item, Shape}
 use Rattle.brpc_model.specs.Meta.{ResponseMeta}
-use Rattle.brpc_model.specs.Operations.{Turn, link_shapes}
+use Rattle.brpc_model.specs.Operations.{Operation, Turn, link_shapes, operations}
 use Rattle.brpc_model.specs.Reply.{reply}
 use Rattle.brpc_model.specs.Served.{given_for}
 use Rattle.brpc_model.specs.Stream.{stream}
@@ -66,6 +66,12 @@ module _ (script : List Item) (turns : List Turn) (core : Core) (is : IsRunWithC
           → WasFull (plan_of script) (all_tasks script) core.outcomes fixed (given core) orders → ⊥
       -- no attempt of a call was begun or ended while the run was ending, and no link became a socket's then
       pub none_late : (client : ℕ) (t : Task) (asked : Asked) → IsTask (all_tasks script) core.outcomes client t → t.op ≡ ops.Call asked → Contains fixed.late t.number → ⊥
+      pub no_late_link : (k : ℕ) → Contains fixed.late_links k → ⊥
+      pub in_time : (k : ℕ) → Contains (late_links_of_run script turns core is) k → ⊥
+
+    -- no operation had a step while the run was ending, and no link became a socket's then
+    pub record IsTimely : Type 0 where
+      pub none_late : (o : ℕ) (op : Operation) → slice_get (operations script) o ≡ Some op → Contains fixed.late o → ⊥
       pub no_late_link : (k : ℕ) → Contains fixed.late_links k → ⊥
       pub in_time : (k : ℕ) → Contains (late_links_of_run script turns core is) k → ⊥
 
