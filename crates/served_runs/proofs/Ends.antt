@@ -1,5 +1,5 @@
 -- Where the reading of a link is over, the link gave all that belongs to what it took; each tick keeps that.
-use Rattle.std.proofs.Common.{◌≡◌, ◌≢◌, ℕ, ◌+◌, ◌<◌, ◌==◌, eq-eqb, ◌||◌, Bool, true, false, cond, List, [], ◌∷◌, ◌++◌, length, map, filter, append-nil, append_assoc, ◌⊎◌, inl, inr, ⊎_elim, refl, sym, ap, ◌∙◌, subst, arith}
+use Rattle.std.proofs.Common.{◌≡◌, ◌≢◌, ℕ, ◌+◌, ◌<◌, ◌==◌, eq-eqb, ◌||◌, Bool, true, false, cond, List, [], ◌∷◌, ◌++◌, length, map, filter, append-nil, append_assoc, ◌⊎◌, inl, inr, ⊎_elim, refl, sym, ap, ◌∙◌, subst}
 use Rattle.std.proofs.lemmas.Bool.{true≢false}
 use Rattle.std.specs.Prelude.{slice_get, Some}
 use mathlib.Core.Logic.{dite}
@@ -11,11 +11,11 @@ use Rattle.brpc_model.specs.Items.{Item, Shape}
 use Rattle.brpc_model.specs.Operations.{link_shapes}
 use Rattle.sock_programs.specs.Asides.{TakeBytes, Taking, Bytes, Nothing, NoMore, AtEnd, Closed, Broken}
 use Rattle.sock_programs.specs.Beside.{at_last}
-use Rattle.sock_programs.specs.Programs.{Program, Aside}
+use Rattle.sock_programs.specs.Programs.{Aside}
 use Rattle.sock_programs.specs.Cores.{Core, SeatState}
 use Rattle.sock_programs.specs.Tasks.{calls, plan_of}
 use Rattle.sock_programs.specs.Ticks.{Answer, OfTake, Moment, IsAnswered, FitsTake, IsTaken, tick_with, ticked}
-use Rattle.sock_runs.specs.Sound.{Sound, IsFitting, first_step}
+use Rattle.sock_runs.specs.Sound.{Sound, IsFitting}
 use Rattle.sock_runs.proofs.LinkTicks.{RetriesGo}
 use Rattle.sock_causes.specs.Stories.{In}
 use Rattle.owed_calls.proofs.EndsStill.{run_ending}
@@ -25,8 +25,8 @@ use Rattle.send_causes.proofs.EndedTicks.{seats_else}
 use Rattle.send_causes.proofs.Readings.{IsTake, takes_or_not}
 use Rattle.served_runs.specs.Offered.{IsDone, offered_by, GaveAll, GaveLast, IsOfferedSo, OffersAt, IsOffered}
 use Rattle.served_runs.proofs.Places.{IsPut, AllLay, all_lay, done_quiet, done_on}
-use Rattle.served_runs.proofs.Readings.{IsBad, bad_more, is_last}
-use Rattle.served_runs.proofs.Ticks.{took_so, gave_same, gave_more, Word, HasReader, reader_word, reader_goes, Takes, reader_takes}
+use Rattle.served_runs.proofs.Readings.{IsBad, is_last}
+use Rattle.served_runs.proofs.Ticks.{gave_same, gave_more, Word, HasReader, reader_word, reader_goes, Takes, reader_takes}
 
 module _ (script : List Item) (k o : ℕ) (shape : Shape) (Fails : Type 0) where
   -- the link gave all, and takes nothing more, or gets nothing more for it
@@ -127,11 +127,9 @@ module _ (script : List Item) (k o : ℕ) (shape : Shape) (Fails : Type 0) where
         gave = ap (λ d. given d k) took.after ∙ gave_more (plan_of script) k c m seat took.next (at_last c.calls.ending told.0) low
 
         over : (before.last || is_last (at_last c.calls.ending told.0)) ≡ true → IsOverSo next
-        over e = ⊎_elim
-            (λ early. let x = ends_so c.calls.ending refl told.0 t.room told.2 (or_last before.last (is_last (at_last c.calls.ending told.0)) early e) (offers t (no_two t.link (sym t.takes ∙ took.link)) told.0 told.1)
+        over e = let x = ends_so c.calls.ending refl told.0 t.room told.2 (or_last before.last (is_last (at_last c.calls.ending told.0)) took.time e) (offers t (no_two t.link (sym t.takes ∙ took.link)) told.0 told.1)
             (λ broken. fails (shown took.link (told.1 ∙ ap OfTake broken))) in
-            over_on retries c vs m sound answered fitting quiet (gave ∙ (ap (λ l. given c k ++ l) x.1 ∙ append-nil (given c k))) (inr x.0))
-            (λ fault. inl (subst IsBad (sym gave) (bad_more (given c k) (bytes_found (at_last c.calls.ending told.0)) (inl fault)))) took.time
+            over_on retries c vs m sound answered fitting quiet (gave ∙ (ap (λ l. given c k ++ l) x.1 ∙ append-nil (given c k))) (inr x.0)
 
         after_take : Holds next
         after_take = record {

@@ -1,5 +1,5 @@
 -- The frames of streams that are made of whole frames, and that requests of calls and their replies are such frames.
-use Rattle.std.proofs.Common.{◌≡◌, ◌≢◌, ℕ, zero, suc, ◌+◌, ◌-◌, ◌*◌, ◌/◌, ◌%◌, ◌^◌, ◌<◌, ◌≤◌, ◌==◌, nat_lt, Bool, true, false, cond, List, [], ◌∷◌, ◌++◌, length, take, drop, map, flat_map, filter_map, reverse, sum, slice_get, Option, Some, None, length-append, append-nil, append_assoc, ◌⊎◌, inl, inr, refl, sym, ap, ◌∙◌, subst, arith}
+use Rattle.std.proofs.Common.{◌≡◌, ℕ, zero, suc, ◌+◌, ◌-◌, ◌*◌, ◌/◌, ◌%◌, ◌^◌, ◌<◌, ◌≤◌, nat_lt, Bool, true, false, cond, List, [], ◌∷◌, ◌++◌, length, drop, flat_map, sum, Some, None, length-append, inl, inr, refl, sym, ap, ◌∙◌, subst, arith}
 use Rattle.std.proofs.lemmas.List.{length-reverse}
 use Rattle.std.proofs.lemmas.Int.{fits_signed_from_abs}
 use Rattle.std.proofs.Math.Seq.{drop-append_seam}
@@ -8,14 +8,12 @@ use Rattle.std.specs.Prelude.{pos, codes, bytes_eq}
 use Rattle.std.specs.Int.{w32, w64, to_be_bytes}
 use Rattle.sock_steps.proofs.Quiet.{either_way}
 use Rattle.brpc_model.specs.Wire.{varint_up_to, varint_bytes}
-use Rattle.brpc_model.specs.Meta.{RequestMeta, ResponseMeta, Meta}
 use Rattle.brpc_model.specs.Spelling.{number_field, bytes_field, response_bytes, where_not_0, where_not_empty, meta_bytes}
-use Rattle.brpc_model.specs.Frame.{Frame, IsFrame, magic, framed, frame_bytes, judged, Begins, body_limit}
-use Rattle.brpc_model.specs.Stream.{Stream, Rest, stream, stream_from, goes_on}
+use Rattle.brpc_model.specs.Frame.{Frame, IsFrame, magic, framed, frame_bytes}
+use Rattle.brpc_model.specs.Stream.{Stream, Rest, stream_from, goes_on}
 use Rattle.brpc_model.specs.Reply.{Answer, Gives, Refuses, echo, summing, served, response_with, answered_by, reply}
 use Rattle.brpc_model.proofs.Streams.{stream_goes_on}
 use Rattle.prpc_frame.proofs.Encoded.{frame_judged}
-use Rattle.rpc_meta.specs.Writing.{MetaFits}
 use Rattle.rpc_meta.proofs.RoundTrip.{round_trip}
 use Rattle.sock_message.specs.Asked.{Asked, meta_of, request_of, frame_of}
 

@@ -1,8 +1,5 @@
 -- While a run is ending no bytes are put into a link that became a socket's before.
-use Rattle.std.proofs.Common.{◌≡◌, ℕ, List, [], ◌∷◌, ◌++◌, inl, ap, sym, subst, arith}
-use mathlib.Core.Option.{some}
-use lib.ListN.{get_elem?}
-use Rattle.sock_model.specs.declared.chain.Right.{Right}
+use Rattle.std.proofs.Common.{ℕ, List, [], ◌∷◌, inl, subst, arith}
 use Rattle.sock_model.specs.declared.view.View.{View}
 use Rattle.brpc_model.specs.Items.{Item}
 use Rattle.brpc_model.specs.Operations.{Turn}

@@ -4,9 +4,11 @@ pub mod Ticks
 pub mod Ends
 pub mod Parts
 pub mod Runs
+pub mod Lasts
 pub mod Late
 pub mod Replies
 pub mod Opened
 pub mod Frames
 pub mod Own
 pub mod Served
+pub mod Model

@@ -1,20 +1,17 @@
 -- The word of the `open` of a link that became a socket's is that of its life.
-use Rattle.std.proofs.Common.{◌≡◌, ◌≢◌, ℕ, ◌+◌, ◌*◌, ◌<◌, Bool, true, List, length, get_or, refl, sym, ap, ◌∙◌, subst, arith}
-use Rattle.std.specs.Prelude.{Option, Some}
+use Rattle.std.proofs.Common.{◌≡◌, ◌≢◌, ℕ, ◌+◌, ◌*◌, ◌<◌, true, List, length, get_or, sym, ap, ◌∙◌, subst, arith}
+use Rattle.std.specs.Prelude.{Some}
 use Rattle.std.specs.List.{AllByRecursion}
 use mathlib.Core.Option.{some, some-injective}
 use lib.ListN.{get_elem?}
-use Rattle.sock_words.specs.Words.{socket_id, socket_id_slot, socket_id_version, vref_version}
-use Rattle.sock_words.specs.declared.outcome.Outcome.{Outcome}
+use Rattle.sock_words.specs.Words.{socket_id, socket_id_slot, socket_id_version}
 use Rattle.sock_words.specs.declared.outcome.Outcome.TheVariants.{Opened}
-use Rattle.sock_words.specs.declared.plain.Plan.{Plan}
 use Rattle.sock_model.specs.Layout.{open_word}
 use Rattle.brpc_model.specs.Items.{Item}
 use Rattle.brpc_model.specs.Operations.{Turn}
 use Rattle.report_fits.proofs.Reading.{InRange}
 use Rattle.report_fits.proofs.Targets.{AreThere}
 use Rattle.sock_programs.specs.declared.task.Op.TheVariants as ops
-use Rattle.sock_programs.specs.declared.task.Task.{Task}
 use Rattle.sock_programs.specs.Calls.{GiveBirth}
 use Rattle.sock_programs.specs.Programs.{NO_SOCKET}
 use Rattle.sock_programs.specs.Cores.{Core}
@@ -81,10 +78,6 @@ module _ (script : List Item) (made : AreMade script) (there : AreThere script) 
     own = let y = opened_life in own_link script made turns core is closes (ids_at script core) (labelled_at script made there range turns core is closes) y.link y.operation (socket_id version slot) slot version k y.at y.word socket
         (let s = few in let z : slot ≡ socket_id_slot (version * 4294967296 + slot) = omega (arith, s) in z) (let s = few in let z : version ≡ socket_id_version (version * 4294967296 + slot) = omega (arith, s) in z) given
 
-    -- the link has an `open`
-    pub opened_at : (o : ℕ) × (get_elem? (opens script) k ≡ some o)
-    opened_at = let y = opened_life in (y.operation, sym (ap (get_elem? (opens script)) own) ∙ y.at)
-
-    -- which found a socket
+    -- the `open` of the link found a socket
     pub opened_word : (o : ℕ) → get_elem? (opens script) k ≡ some o → get_or core.words (open_word (plan_of script) o) 0 ≢ NO_SOCKET
     opened_word o at e = let y = opened_life in socket (ap (λ z. get_or core.words (open_word (plan_of script) z) 0) (some-injective y.operation o (sym y.at ∙ (ap (get_elem? (opens script)) own ∙ at))) ∙ e)

@@ -1,14 +1,11 @@
 -- Each response of a call's versions that a link with the server gave is the reply to the call's own request, where no `send` is to its socket: the link took whole requests of calls, and no two calls have a version in common.
-use Rattle.std.proofs.Common.{◌≡◌, ◌≢◌, ℕ, zero, suc, ◌+◌, ◌*◌, ◌/◌, ◌^◌, ◌<◌, ◌≤◌, ◌⊎◌, List, [], ◌∷◌, ◌++◌, length, take, drop, map, flat_map, filter_map, slice_get, Option, Some, None, append-nil, append_assoc, inl, inr, ⊎_elim, refl, sym, ap, ◌∙◌, subst, arith}
+use Rattle.std.proofs.Common.{◌≡◌, ℕ, zero, suc, ◌+◌, ◌/◌, ◌<◌, ◌≤◌, List, [], ◌∷◌, ◌++◌, length, take, drop, map, flat_map, filter_map, slice_get, Option, Some, None, append-nil, append_assoc, inl, inr, ⊎_elim, refl, sym, ap, ◌∙◌, subst, arith}
 use Rattle.std.proofs.lemmas.Grind.{flat_map-append}
 use Rattle.std.proofs.lemmas.List.{take-append-drop}
 use Rattle.std.specs.List.{AllByRecursion, cons_option}
-use Rattle.std.specs.Prelude.{slice_index_or, IsSome, IsTrue, Contains}
+use Rattle.std.specs.Prelude.{slice_index_or}
 use mathlib.Core.Logic.{dite}
-use mathlib.Core.Option.{some, some-injective, some-ne-none}
 use native.Mathlib.Decide.{ℕ_discrete}
-use lib.ListN.{get_elem?}
-use Rattle.sock_words.specs.declared.plain.Plan.{Plan}
 use Rattle.sock_words.specs.declared.outcome.Outcome.{Outcome}
 use Rattle.sock_words.specs.declared.outcome.Outcome.TheVariants as outcomes
 use Rattle.brpc_model.specs.Frame.{Frame, IsFrame, frame_bytes}
@@ -22,21 +19,20 @@ use Rattle.brpc_model.specs.Causes.{HasFault}
 use Rattle.brpc_model.specs.Stream.{Rest, Fault, stream, stream_from}
 use Rattle.report_fits.proofs.Reading.{InRange}
 use Rattle.report_fits.proofs.Targets.{AreThere}
-use Rattle.sock_message.specs.Asked.{Asked, request_of, frame_of}
+use Rattle.sock_message.specs.Asked.{Asked, request_of}
 use Rattle.sock_programs.specs.declared.task.Op.TheVariants as ops
 use Rattle.sock_programs.specs.declared.task.Task.{Task}
-use Rattle.sock_programs.specs.Asides.{id_slot}
 use Rattle.sock_programs.specs.Cores.{Core}
-use Rattle.sock_programs.specs.Tasks.{opens, plan_of, id_plan_of}
+use Rattle.sock_programs.specs.Tasks.{plan_of, id_plan_of}
 use Rattle.sock_programs.specs.Told.{AskedFits, OpFits, TaskFits, IsTask, Became, Made}
 use Rattle.sock_programs.specs.ToldCalls.{Accepted, IsTaken, IsSent, OfSend, OfCall, bytes_of}
 use Rattle.sock_programs.specs.Scripts.{all_tasks, took_at_home, IsRunWithCalls}
 use Rattle.sock_causes.proofs.Members.{contains_in}
 use Rattle.sock_causes.proofs.Tasks.{one_task}
-use Rattle.joint_runs.proofs.Runs.{AreMade, first_views}
+use Rattle.joint_runs.proofs.Runs.{AreMade}
 use Rattle.owed_calls.specs.Lives.{ClosesInRun}
 use Rattle.call_causes.specs.Lists.{given, attempts_of_run}
-use Rattle.call_causes.specs.Scenes.{Scene, Birth, In, WhyOwn, WhyEnded}
+use Rattle.call_causes.specs.Scenes.{Scene, In, WhyOwn}
 use Rattle.call_causes.proofs.End.{call_of, shows_own}
 use Rattle.call_causes.proofs.Posted.{run_few_attempts}
 use Rattle.call_causes.proofs.Streams.{frames_stay, faults_more}
@@ -90,7 +86,7 @@ module _ (script : List Item) (made : AreMade script) (there : AreThere script) 
   shows_none w c before asked _ i why is = absurd why
 
   -- an id that an outcome shows is one of the table
-  id_small : (client : ℕ) (t : Task) (asked : Asked) (x : Outcome) (id : ℕ) → Task_ client t → t.op ≡ ops.Call asked → Became (all_tasks script) core.outcomes t.number x → shown_id x ≡ Some id → id < 281474976710656
+  pub id_small : (client : ℕ) (t : Task) (asked : Asked) (x : Outcome) (id : ℕ) → Task_ client t → t.op ≡ ops.Call asked → Became (all_tasks script) core.outcomes t.number x → shown_id x ≡ Some id → id < 281474976710656
   id_small client t asked x id it op became shows = let h = run_has_story script made there range turns core is in let ended = run_has_ended script made there range turns core is closes in
       ⊎_elim (λ s. absurd (shows_none h.scene client s.0 asked x id s.1 shows))
       (λ b. let births = ended.births in let low = (births.born (record { id = b.0; asked = asked }) b.1).0 in
@@ -101,7 +97,7 @@ module _ (script : List Item) (made : AreMade script) (there : AreThere script) 
 
   -- ## Requests
 
-  asked_fits : (client : ℕ) (t : Task) (asked : Asked) → Task_ client t → t.op ≡ ops.Call asked → AskedFits (plan_of script) asked
+  pub asked_fits : (client : ℕ) (t : Task) (asked : Asked) → Task_ client t → t.op ≡ ops.Call asked → AskedFits (plan_of script) asked
   asked_fits client t asked it op = let fits = (let are = made.are in are.fit) in let mine : AllByRecursion (TaskFits (plan_of script)) it.0 = get_all (AllByRecursion (TaskFits (plan_of script))) (all_tasks script) fits client it.0 it.1 in
       subst (OpFits (plan_of script)) op (all_in (TaskFits (plan_of script)) it.0 t mine (contains_in it.0 t it.2)).1
 
@@ -118,6 +114,7 @@ module _ (script : List Item) (made : AreMade script) (there : AreThere script) 
     pub became : Became (all_tasks script) core.outcomes task.number outcome
     pub shows : shown_id outcome ≡ Some id
     pub few : attempt + 2 ≤ asked.range
+    pub tried : attempt ≤ attempts_of_run script turns core is task.number
     pub small : IsSmall asked id attempt
     pub frame : f ≡ request_of asked id attempt
 
@@ -131,7 +128,7 @@ module _ (script : List Item) (made : AreMade script) (there : AreThere script) 
     sent_piece a (OfCall client t asked outcome id slot version it number op became shows last bytes life) = record {
       frame = request_of asked id a.attempt;
       is = subst (λ b. IsFrame b (request_of asked id a.attempt)) (sym bytes) (request_is asked id a.attempt small);
-      holds = record { client = client; task = t; asked = asked; outcome = outcome; id = id; attempt = a.attempt; is_task = it; op = op; became = became'; shows = shows; few = few; small = small; frame = refl };
+      holds = record { client = client; task = t; asked = asked; outcome = outcome; id = id; attempt = a.attempt; is_task = it; op = op; became = became'; shows = shows; few = few; tried = tried; small = small; frame = refl };
     }
       where
         became' : Became (all_tasks script) core.outcomes t.number outcome
@@ -139,6 +136,9 @@ module _ (script : List Item) (made : AreMade script) (there : AreThere script) 
 
         few : a.attempt + 2 ≤ asked.range
         few = let n = run_few_attempts script made there range turns core is client t asked it op in let same = ap (attempts_of_run script turns core is) number in omega (arith, n, same, last)
+
+        tried : a.attempt ≤ attempts_of_run script turns core is t.number
+        tried = let same = ap (attempts_of_run script turns core is) number in omega (arith, same, last)
 
         small : IsSmall asked id a.attempt
         small = let f = asked_fits client t asked it op in record { short = f.short id a.attempt; low = (let i = id_small client t asked outcome id it op became' shows in let r = f.range_high in omega (arith, i, r, few)) }

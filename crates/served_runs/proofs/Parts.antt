@@ -1,5 +1,5 @@
 -- What a link gave is at each time the front of what belongs to what it took.
-use Rattle.std.proofs.Common.{◌≡◌, ◌≢◌, ℕ, zero, suc, ◌+◌, ◌<◌, ◌≤◌, ◌==◌, ne_eqb, Bool, true, false, cond, List, [], ◌∷◌, ◌++◌, length, take, drop, filter, filter_map, flat_map, Option, Some, None, append-nil, append_assoc, ⊎_elim, refl, sym, ap, ◌∙◌, subst, arith}
+use Rattle.std.proofs.Common.{◌≡◌, ℕ, zero, suc, ◌<◌, ◌==◌, ne_eqb, Bool, true, false, cond, List, [], ◌∷◌, ◌++◌, length, take, filter, filter_map, flat_map, Option, Some, None, append-nil, append_assoc, ⊎_elim, refl, sym, ap, ◌∙◌, subst, arith}
 use Rattle.std.proofs.lemmas.Grind.{flat_map-append}
 use Rattle.std.proofs.lemmas.List.Elements.{filter_map-append}
 use Rattle.std.specs.Prelude.{slice_get}
@@ -20,19 +20,19 @@ use Rattle.sock_programs.specs.Programs.{Aside}
 use Rattle.sock_programs.specs.Readers.{last_of}
 use Rattle.sock_programs.specs.Cores.{Core, SeatState, with_seat}
 use Rattle.sock_programs.specs.Tasks.{plan_of}
-use Rattle.sock_programs.specs.Ticks.{Answer, OfTake, Moment, IsAnswered, AreAnswered, IsTaken, step_with, ticked, run}
+use Rattle.sock_programs.specs.Ticks.{Answer, Moment, IsAnswered, AreAnswered, IsTaken, step_with, ticked, run}
 use Rattle.sock_programs.specs.Beside.{more_given}
-use Rattle.sock_runs.specs.Sound.{Sound, IsFitting, AreFitting, first_step, views_after}
+use Rattle.sock_runs.specs.Sound.{Sound, IsFitting, AreFitting, views_after}
 use Rattle.sock_runs.proofs.LinkTicks.{RetriesGo}
 use Rattle.sock_runs.proofs.Ticks.{sound_ticks}
 use Rattle.whole_runs.specs.Heard.{taken_link, bytes_found}
-use Rattle.whole_runs.proofs.Lengths.{AsLong, tick_long}
+use Rattle.whole_runs.proofs.Lengths.{tick_long}
 use Rattle.call_causes.specs.Lists.{given}
 use Rattle.call_causes.proofs.Streams.{frames_behind_rest, frames_before_fault}
 use Rattle.send_causes.proofs.Readings.{IsTake, takes_or_not}
 use Rattle.served_runs.specs.Offered.{TookSoFar, offered_by, IsOfferedSo, OffersAt, IsOffered, AreOffered}
-use Rattle.served_runs.proofs.Places.{AllLay, all_lay}
-use Rattle.served_runs.proofs.Ticks.{tick_is, gave_same, took_so, gave_more}
+use Rattle.served_runs.proofs.Places.{all_lay}
+use Rattle.served_runs.proofs.Ticks.{tick_is, gave_same, gave_more}
 
 -- ## More that is taken
 

@@ -1,5 +1,5 @@
 -- Wherever a link lies behind a tick, it lay before it, took no less by then, and took more only by a put of its writer.
-use Rattle.std.proofs.Common.{◌≡◌, ◌≢◌, ℕ, ◌+◌, ◌⊎◌, inl, inr, ⊎_elim, Bool, true, false, List, [], ◌∷◌, ◌++◌, take, set, append-nil, append_assoc, refl, sym, ap, ◌∙◌, subst, arith}
+use Rattle.std.proofs.Common.{◌≡◌, ℕ, ◌⊎◌, inl, inr, ⊎_elim, Bool, true, false, List, [], ◌∷◌, ◌++◌, take, set, append-nil, refl, sym, ap, ◌∙◌, subst}
 use Rattle.std.proofs.lemmas.Bool.{true≢false}
 use mathlib.Core.Option.{Option, none, some, some-injective, some-ne-none}
 use lib.ListN.{get_elem?}
@@ -21,7 +21,7 @@ use Rattle.sock_programs.specs.Cores.{Calls, Core, SeatState, word_of, word_afte
 use Rattle.sock_programs.specs.Ticks.{Moment, IsAnswered, fed, with_places, onto_first, ticked}
 use Rattle.sock_runs.specs.May.{May}
 use Rattle.sock_runs.specs.GoesOn.{GoesOn}
-use Rattle.sock_runs.specs.Sound.{state, Sound, IsFitting, HasLink, first_step, views_after}
+use Rattle.sock_runs.specs.Sound.{state, Sound, IsFitting, HasLink, first_step}
 use Rattle.sock_runs.proofs.Cases.{tick_keeps, goes_first}
 use Rattle.sock_runs.proofs.HandTicks.{taking}
 use Rattle.sock_runs.proofs.LinkTicks.{RetriesGo, link_there, has_link, link_put_there}

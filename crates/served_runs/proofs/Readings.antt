@@ -1,5 +1,5 @@
 -- Where the reader of a link comes to rest its reading is over: a take found its end, or what it gave ends the reading.
-use Rattle.std.proofs.Common.{◌≡◌, ◌≢◌, ℕ, ◌+◌, ◌-◌, ◌%◌, ◌≤◌, ◌==◌, ◌&&◌, ◌||◌, ◌⊎◌, inl, inr, not, nat_lt, nat_le, ltb-false, Bool, true, false, cond, List, [], ◌∷◌, ◌++◌, length, length-append, append-nil, append_assoc, refl, sym, ap, ◌∙◌, subst, arith}
+use Rattle.std.proofs.Common.{◌≡◌, ℕ, ◌+◌, ◌-◌, ◌%◌, ◌≤◌, ◌==◌, ◌&&◌, ◌||◌, ◌⊎◌, inl, inr, not, nat_lt, nat_le, ltb-false, Bool, true, false, cond, List, [], ◌∷◌, ◌++◌, length, length-append, append-nil, append_assoc, refl, sym, ap, ◌∙◌, subst, arith}
 use Rattle.std.proofs.lemmas.Bool.{true≢false}
 use Rattle.std.specs.Prelude.{Option, Some, None}
 use Rattle.sock_words.specs.Words.{socket_id_version, socket_id_slot, vref_version, vref_nref, at_word_first, at_word_slot, at_word_link, at_word_attempt}
@@ -8,7 +8,7 @@ use Rattle.corr_core.specs.Word.{parts, posted_word, unlocked_word, code_of, err
 use Rattle.corr_core.specs.Law.{LAST}
 use Rattle.brpc_model.specs.Frame.{Frame}
 use Rattle.brpc_model.specs.Stream as streams
-use Rattle.sock_programs.specs.Asides.{Step, Found, LoadAt, TakeBytes, Taking, Bytes, Nothing, NoMore, AtEnd, Closed, Broken, call_id, id_slot, id_first}
+use Rattle.sock_programs.specs.Asides.{Found, TakeBytes, Taking, Bytes, Nothing, NoMore, AtEnd, Closed, Broken, call_id, id_slot, id_first}
 use Rattle.sock_programs.specs.Heads.{Head, Exit, Retry, Sought, Reading, Posts, Unlocks, Decides, Locks, Joins, Opens, Reads, Discards, Posting, WasGone, WasStale, WasCrowded, WasQueued, HasLocked, Unlocking, IsOpen, HasNext, Deciding, HasEnded, GoesOn, Locking, NotThere, Has, Ended}
 use Rattle.sock_programs.specs.Programs.{Program, Do, Say, Sent, Rest, TakeMessage, TakeHome, PutHome, PutBytes, AskReady, Write, Aside, Round, Keep, Retries, LAST_VERSION, recycle, release, address, set_failed}
 use Rattle.sock_programs.specs.Posts.{packed, advance_of, is_first, is_sought, is_stale, is_full, judged, posts_round, post_with, popped, unlocks_round, ends_call, end_id, decide, decided, unlocked, locking, locks_round, joins_round}
@@ -51,7 +51,7 @@ module _ (k : ℕ) where
     pub tied : (more : List ℕ) → Faults 0 (r.rest ++ more) → Faults 0 (g ++ more)
 
   abbrev pub EndsSo : List ℕ → Bool → Ended → Type 0
-  EndsSo g last how = IsOver g last × (how.reading.link ≡ k) × (how.fault ≡ true → Faults 0 g)
+  EndsSo g last how = IsOver g last × (how.reading.link ≡ k) × (how.fault ≡ true → Faults 0 g × (last ≡ false))
 
   -- where the link gave this, and a take found its end or none did so yet
   abbrev pub Goes : List ℕ → Bool → Program → Type 0
@@ -65,10 +65,10 @@ module _ (k : ℕ) where
   Goes g last (PutBytes l asked bytes next) = ⊥
   Goes g last (AskReady l next) = ⊥
   Goes g last (Write w after) = ⊥
-  Goes g last (Aside (TakeBytes l room) next) = (l ≡ k) × ((last ≡ false) ⊎ Faults 0 g) × ((t : Taking) → Goes (g ++ bytes_found t) (last || is_last t) (next t))
+  Goes g last (Aside (TakeBytes l room) next) = (l ≡ k) × (last ≡ false) × ((t : Taking) → Goes (g ++ bytes_found t) (last || is_last t) (next t))
   Goes g last (Aside step next) = (found : Found step) → Goes g last (next found)
   Goes g last (Round (Reads r) next) = (last ≡ false) × IsReading g r × ((how : Ended) (g' : List ℕ) (last' : Bool) → EndsSo g' last' how → Goes g' last' (next how))
-  Goes g last (Round (Discards l total) next) = (l ≡ k) × Faults 0 g × ((n : ℕ) (g' : List ℕ) (last' : Bool) → Faults 0 g' → Goes g' last' (next n))
+  Goes g last (Round (Discards l total) next) = (l ≡ k) × (last ≡ false) × Faults 0 g × ((n : ℕ) (g' : List ℕ) (last' : Bool) → Faults 0 g' → Goes g' last' (next n))
   Goes g last (Round head next) = (exit : Exit head) → Goes g last (next exit)
   Goes g last (Keep r next) = Goes g last next
   Goes g last (Retries requests after) = ⊥
@@ -183,7 +183,7 @@ module _ (k : ℕ) where
     thrown_goes how e = by how.fault refl
       where
         by : (b : Bool) → how.fault ≡ b → C (cond (b && nat_lt how.reading.total LIMIT) (Round (Discards how.reading.link how.reading.total) (λ _. Rest)) Rest)
-        by true is = either_way (nat_lt how.reading.total LIMIT) (Round (Discards how.reading.link how.reading.total) (λ _. Rest)) Rest C (e.1, e.2 is, λ n g' last' f. inr (inl f)) e.0
+        by true is = either_way (nat_lt how.reading.total LIMIT) (Round (Discards how.reading.link how.reading.total) (λ _. Rest)) Rest C (let f = e.2 is in (e.1, f.1, f.0, λ n g' last' f. inr (inl f))) e.0
         by false is = e.0
 
     abbrev last_posts : List ℕ → Ended → Program
@@ -235,7 +235,7 @@ module _ (k : ℕ) where
         by true less = (off, record { link = at.link; total = more_total bytes; tied = λ more f. all_tied bytes more (fault_follows (r.rest ++ bytes) more n is f) }, ends)
         by false most = ends (ended_by 1014 false false (with_rest bytes kept n)) (g ++ bytes) last' (inr (inr (let l = ltb-false (r.total + length bytes) LIMIT most in let t = more_total bytes in omega (arith, l, t))), at.link, λ e. absurd (true≢false (sym e)))
     go_read_on last' off kept bytes (streams.Fault start fault) is = let f : Faults 0 (g ++ bytes) = subst (Faults 0) (append-nil (g ++ bytes)) (all_tied bytes [] (subst (Faults 0) (sym (append-nil (r.rest ++ bytes))) (start, fault, is))) in
-        ends (ended_by 2002 false true (with_more bytes kept)) (g ++ bytes) last' (inr (inl f), at.link, λ _. f)
+        ends (ended_by 2002 false true (with_more bytes kept)) (g ++ bytes) last' (inr (inl f), at.link, λ _. (f, off))
 
     same_reading : IsReading (g ++ []) r
     same_reading = subst (λ l. IsReading l r) (sym (append-nil g)) at
@@ -252,14 +252,14 @@ module _ (k : ℕ) where
     go_took Closed = found_last true Closed refl
     go_took Broken = found_last false Broken refl
 
-  go_discarded : (g : List ℕ) (last : Bool) (l total : ℕ) (next : ℕ → Program) → l ≡ k → Faults 0 g → ((n : ℕ) (g' : List ℕ) (last' : Bool) → Faults 0 g' → Goes g' last' (next n)) → (t : Taking) → Goes (g ++ bytes_found t) (last || is_last t) (discarded l total next t)
-  go_discarded g last l total next own f goes (Bytes bytes) = either_way (nat_lt (total + length bytes) LIMIT) (Round (Discards l (total + length bytes)) next) (next (total + length bytes)) (Goes (g ++ bytes) (last || false))
-      (own, fault_stays 0 g bytes f, goes) (goes (total + length bytes) (g ++ bytes) (last || false) (fault_stays 0 g bytes f))
-  go_discarded g last l total next own f goes Nothing = (own, fault_stays 0 g [] f, goes)
-  go_discarded g last l total next own f goes NoMore = goes total (g ++ []) (last || true) (fault_stays 0 g [] f)
-  go_discarded g last l total next own f goes AtEnd = goes total (g ++ []) (last || true) (fault_stays 0 g [] f)
-  go_discarded g last l total next own f goes Closed = goes total (g ++ []) (last || true) (fault_stays 0 g [] f)
-  go_discarded g last l total next own f goes Broken = goes total (g ++ []) (last || true) (fault_stays 0 g [] f)
+  go_discarded : (g : List ℕ) (last : Bool) → last ≡ false → (l total : ℕ) (next : ℕ → Program) → l ≡ k → Faults 0 g → ((n : ℕ) (g' : List ℕ) (last' : Bool) → Faults 0 g' → Goes g' last' (next n)) → (t : Taking) → Goes (g ++ bytes_found t) (last || is_last t) (discarded l total next t)
+  go_discarded g last off l total next own f goes (Bytes bytes) = either_way (nat_lt (total + length bytes) LIMIT) (Round (Discards l (total + length bytes)) next) (next (total + length bytes)) (Goes (g ++ bytes) (last || false))
+      (own, ap (λ b. b || false) off, fault_stays 0 g bytes f, goes) (goes (total + length bytes) (g ++ bytes) (last || false) (fault_stays 0 g bytes f))
+  go_discarded g last off l total next own f goes Nothing = (own, ap (λ b. b || false) off, fault_stays 0 g [] f, goes)
+  go_discarded g last off l total next own f goes NoMore = goes total (g ++ []) (last || true) (fault_stays 0 g [] f)
+  go_discarded g last off l total next own f goes AtEnd = goes total (g ++ []) (last || true) (fault_stays 0 g [] f)
+  go_discarded g last off l total next own f goes Closed = goes total (g ++ []) (last || true) (fault_stays 0 g [] f)
+  go_discarded g last off l total next own f goes Broken = goes total (g ++ []) (last || true) (fault_stays 0 g [] f)
 
   -- one round of a loop
   go_round : (g : List ℕ) (last : Bool) (head : Head) (next : Exit head → Program) → Goes g last (Round head next) → Goes g last (round head next)
@@ -272,8 +272,8 @@ module _ (k : ℕ) where
   go_round g last (Locks i sought (Some w)) next x = go_locks g last i sought (Some w) next x
   go_round g last (Joins i) next x = go_joins g last i next x
   go_round g last (Opens o) next x = go_opens g last o next x
-  go_round g last (Reads r) next x = let at = x.1 in (at.link, inl x.0, λ t. go_took g last x.0 r next at x.2 t)
-  go_round g last (Discards l total) next x = (x.0, inr x.1, λ t. go_discarded g last l total next x.0 x.1 x.2 t)
+  go_round g last (Reads r) next x = let at = x.1 in (at.link, x.0, λ t. go_took g last x.0 r next at x.2 t)
+  go_round g last (Discards l total) next x = (x.0, x.1, λ t. go_discarded g last x.1 l total next x.0 x.2 x.3 t)
 
   pub goes_first : (g : List ℕ) (last : Bool) (program : Program) → Goes g last program → Goes g last (first_step program)
   goes_first g last (Write w after) x = absurd x

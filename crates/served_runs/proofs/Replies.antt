@@ -1,11 +1,11 @@
 -- In a whole run a link with the server gave the replies to all that it took, where it became a socket's before the run was ending, and its reading ended neither by a frame fault, nor by a failure, nor by its limit.
-use Rattle.std.proofs.Common.{◌≡◌, ◌≢◌, ℕ, zero, suc, ◌+◌, ◌-◌, ◌<◌, ◌≤◌, Bool, true, false, cond, List, [], ◌∷◌, ◌++◌, length, map, flat_map, replicate, get_or, append-nil, ◌⊎◌, inl, inr, ⊎_elim, refl, sym, ap, ◌∙◌, subst, arith}
+use Rattle.std.proofs.Common.{◌≡◌, ◌⊎◌, ◌≢◌, ℕ, zero, suc, ◌+◌, ◌<◌, ◌≤◌, Bool, false, List, [], ◌∷◌, ◌++◌, length, map, flat_map, replicate, get_or, append-nil, inl, inr, ⊎_elim, refl, sym, ap, ◌∙◌, subst, arith}
 use Rattle.std.proofs.lemmas.Bool.{true≢false}
-use Rattle.std.proofs.lemmas.List.{length-map, length-set}
-use Rattle.std.specs.Prelude.{slice_get, slice_index_or, Some, IsTrue}
+use Rattle.std.proofs.lemmas.List.{length-map}
+use Rattle.std.specs.Prelude.{slice_get, slice_index_or, Some}
 use mathlib.Core.Option.{Option, none, some}
 use lib.ListN.{get_elem?}
-use Rattle.atomic_table.proofs.Lists.{at_set, set_else}
+use Rattle.atomic_table.proofs.Lists.{set_else}
 use Rattle.chain_laws.proofs.Lists.{at_some}
 use Rattle.sock_words.specs.declared.plain.Plan.{Plan}
 use Rattle.sock_model.specs.declared.home.Home.{Home}
@@ -15,17 +15,16 @@ use Rattle.sock_model.specs.Layout.{open_word}
 use Rattle.brpc_model.specs.Items.{Item, Shape}
 use Rattle.brpc_model.specs.Operations.{Turn, link_shapes}
 use Rattle.brpc_model.specs.Causes.{HasFault}
-use Rattle.brpc_model.specs.Served.{given_for}
-use Rattle.sock_programs.specs.Asides.{Taking, Broken}
-use Rattle.sock_programs.specs.Clients.{client_from, ending_of}
+use Rattle.sock_programs.specs.Asides.{AtEnd, Broken}
+use Rattle.sock_programs.specs.Clients.{client_from}
 use Rattle.sock_programs.specs.Programs.{Program, Rest, NO_SOCKET}
 use Rattle.sock_programs.specs.Readers.{LIMIT, reader}
-use Rattle.sock_programs.specs.Cores.{Core, SeatState, lies_at, link_place, resolved, next_step, waiting_at}
+use Rattle.sock_programs.specs.Cores.{Core, SeatState, lies_at, link_place}
 use Rattle.sock_programs.specs.Runs.{from_to}
 use Rattle.sock_programs.specs.Tasks.{opens, calls, plan_of, id_plan_of}
 use Rattle.sock_programs.specs.Ticks.{Moment, quiet, ticked, run}
 use Rattle.sock_programs.specs.Scripts.{sizes_of, programs, all_tasks, opened, ending, is_ending, set_up, played, taken_by, took_at_home, IsRunWithCalls}
-use Rattle.sock_runs.specs.Sound.{Sound, AllRest, views_along}
+use Rattle.sock_runs.specs.Sound.{AllRest, views_along}
 use Rattle.sock_runs.proofs.Along.{place_inside}
 use Rattle.sock_runs.proofs.Ends.{links_home}
 use Rattle.sock_runs.proofs.OpensStay.{readers_begin}
@@ -34,22 +33,23 @@ use Rattle.sock_runs.proofs.Whole.{IsListed, closing_of, views_played, views_clo
 use Rattle.sock_runs.proofs.HandTicks.{AtHome}
 use Rattle.sock_causes.specs.Facts.{late_links_of_run}
 use Rattle.sock_causes.specs.Stories.{In}
-use Rattle.sock_causes.proofs.Plain.{in_left, in_right}
+use Rattle.sock_causes.proofs.Plain.{in_left, in_right, in_both}
 use Rattle.client_laws.proofs.Beginning as clients_begin
 use Rattle.joint_runs.proofs.Runs.{AreMade, first_views}
-use Rattle.owed_calls.specs.Lives.{InHand, ClosesInRun}
+use Rattle.owed_calls.specs.Lives.{ClosesInRun}
 use Rattle.owed_calls.proofs.EndsStill.{run_ending}
 use Rattle.owed_calls.proofs.Known.{run_all_rest}
 use Rattle.whole_runs.specs.Heard.{as_taken, taken_in, heard_takes}
 use Rattle.whole_runs.proofs.HeardRuns.{taken_append}
-use Rattle.whole_runs.proofs.Lengths.{AsLong, tick_long}
+use Rattle.whole_runs.proofs.Lengths.{tick_long}
 use Rattle.call_causes.specs.Lists.{given}
 use Rattle.send_causes.proofs.Early.{Any, ends_anyhow, start, go, fitting, known}
-use Rattle.send_causes.proofs.EndedWhole.{opened_keeps, closing_keeps, closed_keeps, h₂, h₃}
+use Rattle.send_causes.proofs.EndedWhole.{opened_keeps, closing_keeps, closed_keeps}
 use Rattle.send_causes.proofs.ReaderRuns.{founds, keeps_along}
 use Rattle.served_runs.specs.Offered.{TookSoFar, offered_by, OffersInRun}
-use Rattle.served_runs.proofs.Ends.{GaveFor, IsOverSo, Holds}
-use Rattle.served_runs.proofs.Late.{IsLate, AreLate, late_first, late_on, late_put}
+use Rattle.served_runs.proofs.Ends.{IsOverSo, Holds}
+use Rattle.served_runs.proofs.Lasts.{Behind, lasts_along}
+use Rattle.served_runs.proofs.Late.{AreLate, late_first, late_on, late_put}
 use Rattle.served_runs.proofs.Parts.{IsPart, part_along}
 use Rattle.served_runs.proofs.Places.{lies_before}
 use Rattle.served_runs.proofs.Readings.{Goes, IsOver}
@@ -240,6 +240,44 @@ module _ (script : List Item) (made : AreMade script) (turns : List Turn) (core 
       (closed_sound script made.are (first_views script) (start script made turns core is) (go script made turns core is) turns core is (fitting script made turns core is)) is.answered_again (let f = fitting script made turns core is in f.of_final)
       offers.final long_ended (subst Part (sym is.is_ended) (λ took t. part_closed took t)))
 
+  -- ## Behind its end
+
+  abbrev B : Core → Type 0
+  B c = Behind script k o shape c
+
+  last_played : In AtEnd (as_taken (taken_in (plan_of script) (set_up script is.setup) in_clients k)) → B (played script is.setup in_clients)
+  last_played there = (lasts_along script k o shape in_os (IsListed script) (go script made turns core is) (in_os k o at) shape_is in_clients (set_up script is.setup) (views_along (plan_of script) (opened script) (first_views script) in_setup) _
+      (set_up_sound script made.are (first_views script) (start script made turns core is) (go script made turns core is) turns core is (fitting script made turns core is)) is.answered (let f = fitting script made turns core is in f.of_played)
+      (recorded_set_up script made.are (first_views script) (start script made turns core is) (go script made turns core is) turns core is (fitting script made turns core is)) set_up_keeps
+      offers.played long_set_up (let h = set_up_holds in (h.last, h.reader))).1 (inr there)
+
+  last_closing : B (played script is.setup in_clients) → B (closing_of script turns core is)
+  last_closing b = (
+    λ seat there. b.0 seat (sym (set_else (played script is.setup in_clients).seats 0 (32 + k) _ (λ e. let z : ⊥ = omega (arith, e) in z)) ∙ there),
+    λ took more t. b.1 took more (t.0, t.1, lies_before script k (played script is.setup in_clients) _ t.2),
+  )
+
+  last_closed : B (closing_of script turns core is) → B (run (plan_of script) (closing_of script turns core is) in_closing)
+  last_closed b = (lasts_along script k o shape in_os (IsListed script) (go script made turns core is) (in_os k o at) shape_is in_closing (closing_of script turns core is) (views_played script turns core is (first_views script)) _
+      (closing_sound script made.are (first_views script) (start script made turns core is) (go script made turns core is) turns core is (fitting script made turns core is))
+      (end_answered script made.are (first_views script) (start script made turns core is) (go script made turns core is) turns core is (fitting script made turns core is)) (let f = fitting script made turns core is in f.of_closing)
+      (recorded_closing script made.are (first_views script) (start script made turns core is) (go script made turns core is) turns core is (fitting script made turns core is)) (closing_keeps script made turns core is)
+      (quiet_offered script is.last (closing_of script turns core is)) long_played (let h = closing_holds in (h.last, h.reader))).1 (inl b)
+
+  last_ended : B (run (plan_of script) (closing_of script turns core is) in_closing) → B is.ended
+  last_ended b = subst B (sym is.is_ended) (b.0, b.1)
+
+  last_over : B is.ended ⊎ In AtEnd (as_taken (taken_in (plan_of script) is.ended is.final k)) → B core
+  last_over x = subst B (sym is.is_end) ((lasts_along script k o shape in_os (IsListed script) (go script made turns core is) (in_os k o at) shape_is is.final is.ended (views_closed script turns core is (first_views script)) _
+      (closed_sound script made.are (first_views script) (start script made turns core is) (go script made turns core is) turns core is (fitting script made turns core is)) is.answered_again (let f = fitting script made turns core is in f.of_final)
+      (recorded_closed script made.are (first_views script) (start script made turns core is) (go script made turns core is) turns core is (fitting script made turns core is)) (closed_keeps script made turns core is)
+      offers.final long_ended (let h = ended_holds in (h.last, h.reader))).1 x)
+
+  last_taken : In AtEnd (heard_takes is k) → B core
+  last_taken there = ⊎_elim (λ early. last_over (inl (last_ended (last_closed (last_closing (last_played early)))))) (λ late. last_over (inr late))
+      (in_both (as_taken (taken_in (plan_of script) (set_up script is.setup) in_clients k)) (as_taken (taken_in (plan_of script) is.ended is.final k)) AtEnd
+      (subst (In AtEnd) (taken_append (taken_in (plan_of script) (set_up script is.setup) in_clients k) (taken_in (plan_of script) is.ended is.final k)) there))
+
   -- ## Where it lies in the end
 
   module _ (closes : ClosesInRun script turns core is) where
@@ -259,6 +297,10 @@ module _ (script : List Item) (made : AreMade script) (turns : List Turn) (core 
     -- it gave some of what belongs to what it took
     pub gives_part : (more : List ℕ) × (given core k ++ more ≡ offered_by shape (slice_index_or (took_at_home (plan_of script) core.homes) k []))
     gives_part = let x = part_over home.took there in (x.0, x.1 ∙ ap (offered_by shape) (sym took_is))
+
+    -- and where it gave its end, all that belongs to that and to whatever may come
+    pub gives_at_end : In AtEnd (heard_takes is k) → (more : List ℕ) → given core k ≡ offered_by shape (slice_index_or (took_at_home (plan_of script) core.homes) k [] ++ more)
+    gives_at_end end_ more = (last_taken end_).1 home.took more there ∙ ap (λ l. offered_by shape (l ++ more)) (sym took_is)
 
     seat_there : (s : SeatState) × (get_elem? core.seats (32 + k) ≡ some s)
     seat_there = at_some core.seats (32 + k) seat_low

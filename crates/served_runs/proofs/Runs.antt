@@ -1,5 +1,5 @@
 -- Ticks one after another keep where the reader of a link stands, and that a link of which the reading is over gave all.
-use Rattle.std.proofs.Common.{◌≡◌, ◌≢◌, ℕ, zero, suc, ◌+◌, ◌-◌, ◌<◌, ◌≤◌, ◌==◌, cond, ne_eqb, Bool, true, List, [], ◌∷◌, ◌++◌, length, map, filter, replicate, get_or, append-nil, ◌⊎◌, inl, inr, ⊎_elim, refl, sym, ap, ◌∙◌, subst, arith}
+use Rattle.std.proofs.Common.{◌≡◌, ◌≢◌, ℕ, zero, suc, ◌+◌, ◌<◌, ◌==◌, cond, ne_eqb, true, List, [], ◌∷◌, ◌++◌, length, map, filter, replicate, get_or, ⊎_elim, refl, sym, ap, ◌∙◌, subst, arith}
 use Rattle.std.specs.Prelude.{slice_get, Some}
 use mathlib.Core.Logic.{dite}
 use mathlib.Core.Option.{Option, none, some}
@@ -24,12 +24,12 @@ use Rattle.sock_causes.specs.Stories.{In}
 use Rattle.sock_causes.proofs.Plain.{in_left, in_right, in_both}
 use Rattle.whole_runs.specs.Heard.{as_taken, taken_link, taken_at, taken_in}
 use Rattle.whole_runs.proofs.HeardRuns.{taken_append}
-use Rattle.whole_runs.proofs.Lengths.{AsLong, tick_long}
+use Rattle.whole_runs.proofs.Lengths.{tick_long}
 use Rattle.send_causes.proofs.Early.{Any, ends_anyhow}
 use Rattle.send_causes.proofs.ReaderRuns.{Keeps, reader_of, view_at, state_at, keeps_ticks}
 use Rattle.send_causes.proofs.Readings.{found_by, takes_own}
 use Rattle.send_causes.proofs.Takeless.{none_taken}
-use Rattle.served_runs.specs.Offered.{OffersAt, IsOffered, AreOffered}
+use Rattle.served_runs.specs.Offered.{OffersAt, AreOffered}
 use Rattle.served_runs.proofs.Places.{IsPut}
 use Rattle.served_runs.proofs.Ends.{Holds, holds_tick}
 
@@ -67,7 +67,7 @@ module _ (script : List Item) (in_os : (k o : ℕ) → get_elem? (opens script) 
   Kept c vs h = Keeps (plan_of script) (calls script) (opens script) in_os Any (Unit {0}) ends_anyhow c vs h
 
   -- no seat but its reader takes bytes of a link
-  others_none : (c : Core) (vs : List View) (h : ℕ → List Taking) → Sound (plan_of script) c vs → Kept c vs h → (j : ℕ) (seat : SeatState) → get_elem? c.seats j ≡ some seat → (n : ℕ) → j ≢ 32 + n → filter (λ l. l == n) (taken_link seat.program) ≡ []
+  pub others_none : (c : Core) (vs : List View) (h : ℕ → List Taking) → Sound (plan_of script) c vs → Kept c vs h → (j : ℕ) (seat : SeatState) → get_elem? c.seats j ≡ some seat → (n : ℕ) → j ≢ 32 + n → filter (λ l. l == n) (taken_link seat.program) ≡ []
   others_none c vs h sound k j seat at n far = dite (dec_le 32 j)
       (λ high. let r = reader_of (plan_of script) (calls script) (opens script) in_os Any (Unit {0}) ends_anyhow c vs h k j seat at high in let v = view_at (plan_of script) (calls script) (opens script) in_os Any (Unit {0}) ends_anyhow c vs sound j seat at in
       ⊎_elim (λ e. ap (filter (λ l. l == n)) e)

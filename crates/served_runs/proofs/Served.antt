@@ -1,5 +1,5 @@
 -- In a whole run each link that was served gave the replies to what it took, and each call the reply to its own request.
-use Rattle.std.proofs.Common.{◌≡◌, ℕ, suc, ◌+◌, ◌<◌, Bool, true, false, cond, List, [], ◌∷◌, ◌++◌, length, filter_map, refl, sym, ap, ◌∙◌, arith}
+use Rattle.std.proofs.Common.{◌≡◌, ℕ, suc, ◌<◌, Bool, true, false, cond, List, [], ◌∷◌, ◌++◌, length, filter_map, refl, sym, ap, ◌∙◌, arith}
 use Rattle.std.specs.List.{AllByRecursion}
 use Rattle.std.specs.Prelude.{slice_get, Some, IsTrue}
 use Rattle.std.proofs.lemmas.Option.{slice_get_within}
@@ -15,22 +15,22 @@ use Rattle.brpc_model.specs.Operations.{Turn, link_shapes}
 use Rattle.brpc_model.specs.Served.{given_for}
 use Rattle.report_fits.proofs.Reading.{InRange}
 use Rattle.report_fits.proofs.Targets.{AreThere}
-use Rattle.sock_programs.specs.Asides.{Broken}
+use Rattle.sock_programs.specs.Asides.{AtEnd, Broken}
 use Rattle.sock_programs.specs.Cores.{Core}
 use Rattle.sock_programs.specs.Tasks.{opens, plan_of}
 use Rattle.sock_programs.specs.Scripts.{IsRunWithCalls}
 use Rattle.sock_causes.specs.Facts.{late_links_of_run}
-use Rattle.sock_causes.proofs.Members.{in_contains}
+use Rattle.sock_causes.proofs.Members.{in_contains, contains_in}
 use Rattle.joint_runs.proofs.Runs.{AreMade}
 use Rattle.owed_calls.specs.Lives.{ClosesInRun}
 use Rattle.whole_runs.specs.Heard.{heard_takes}
 use Rattle.served_runs.specs.Offered.{OffersInRun}
 use Rattle.call_causes.specs.Lists.{given}
 use Rattle.send_causes.proofs.Early.{known}
-use Rattle.served_runs.specs.Served.{took_in_all, IsForCalls, GivesReplies, GivesFront, GivesNothing, GivesNoFault, GivesCallReplies, GivesOwnReplies}
+use Rattle.served_runs.specs.Served.{took_in_all, IsForCalls, GivesReplies, GivesFront, GivesLast, GivesNothing, GivesNoFault, GivesCallReplies, GivesOwnReplies}
 use Rattle.served_runs.proofs.Opened.{opened_word}
 use Rattle.served_runs.proofs.Own.{IsReplied, replied_at, faultless, own_reply}
-use Rattle.served_runs.proofs.Replies.{gives_all, gives_part, link_inside}
+use Rattle.served_runs.proofs.Replies.{gives_all, gives_part, gives_at_end, link_inside}
 
 by_true : {A : Type 0} (b : Bool) (x y : A) → IsTrue b → cond b x y ≡ x
 by_true true x y is = refl
@@ -63,6 +63,10 @@ module _ (script : List Item) (made : AreMade script) (there : AreThere script) 
   pub gives_front : GivesFront script turns core is
   gives_front k shape at serves = let x = part k shape at in (x.0, x.1 ∙ by_true shape.serve (given_for shape (took_in_all script turns core is k)) [] serves)
 
+  pub gives_last : GivesLast script turns core is
+  gives_last k shape at serves end_ more = let x = link_open k shape at in
+      gives_at_end script made turns core is offers k x.0 x.1 shape at closes (contains_in (heard_takes is k) AtEnd end_) more ∙ by_true shape.serve (given_for shape (took_in_all script turns core is k ++ more)) [] serves
+
   pub gives_nothing : GivesNothing script turns core is
   gives_nothing k shape at unserved = let x = part k shape at in first_none (given core k) x.0 (x.1 ∙ ap (λ b. cond b (given_for shape (took_in_all script turns core is k)) []) unserved)
 
@@ -94,6 +98,7 @@ module _ (script : List Item) (made : AreMade script) (there : AreThere script) 
     became = m.became;
     shows = m.shows;
     few = m.few;
+    made = m.tried;
     replies = sym (ap reply m.frame) ∙ r.replied;
   }
 

@@ -1,10 +1,9 @@
 -- A tick keeps where the reader of a link stands, by what the link gave.
-use Rattle.std.proofs.Common.{◌≡◌, ◌≢◌, ℕ, ◌+◌, ◌-◌, ◌<◌, ◌==◌, eq-eqb, ne_eqb, eqb-true, ◌||◌, Bool, true, false, cond, List, [], ◌∷◌, ◌++◌, length, filter, set, get_or, get_or-set_same, get_or-set_other, append-nil, ◌⊎◌, inl, inr, ⊎_elim, refl, sym, ap, ◌∙◌, subst, arith}
-use Rattle.std.proofs.lemmas.Bool.{true≢false}
+use Rattle.std.proofs.Common.{◌≡◌, ◌≢◌, ℕ, ◌+◌, ◌-◌, ◌<◌, ◌==◌, eq-eqb, eqb-true, ◌||◌, Bool, true, false, cond, List, [], ◌∷◌, ◌++◌, length, filter, set, get_or, get_or-set_same, get_or-set_other, append-nil, ◌⊎◌, inl, inr, ⊎_elim, refl, sym, ap, ◌∙◌, subst, arith}
 use Rattle.std.specs.Prelude.{Some, None}
 use mathlib.Core.Option.{Option, none, some}
 use lib.ListN.{get_elem?}
-use Rattle.atomic_table.proofs.Lists.{at_set, set_else}
+use Rattle.atomic_table.proofs.Lists.{at_set}
 use Rattle.sock_words.specs.declared.plain.Plan.{Plan}
 use Rattle.sock_io.specs.declared.link.Put.{Put}
 use Rattle.sock_io.specs.declared.link.Ready.{Ready}
@@ -16,18 +15,17 @@ use Rattle.corr_core.specs.Word.{parts}
 use Rattle.sock_programs.specs.Asides.{Step, Found, ClaimId, PutCall, MakeId, StoreCall, LoadCall, StoreAt, LoadAt, LoadIdWord, LockId, PostId, UnlockId, EndId, FreeId, TakeCall, TakeBytes, Taking, Bytes, Nothing, NoMore, AtEnd, Closed, Broken}
 use Rattle.sock_programs.specs.Beside.{at_last, found_in, calls_after, more_given}
 use Rattle.sock_programs.specs.Calls.{LoadOpen}
-use Rattle.sock_programs.specs.Heads.{Retry, Decides, Locks, Opens, Reads}
+use Rattle.sock_programs.specs.Heads.{Retry, Decides, Locks, Reads}
 use Rattle.sock_programs.specs.Posts.{ends_call}
 use Rattle.sock_programs.specs.Programs.{Program, Do, Rest, TakeMessage, TakeHome, PutHome, PutBytes, AskReady, Write, Aside, Round, Retries, NO_SOCKET}
 use Rattle.sock_programs.specs.Readers.{read, reader}
 use Rattle.sock_programs.specs.Writings.{Puts, Waits, Empties, Walks}
-use Rattle.sock_programs.specs.Cores.{Calls, Core, SeatState, word_of, found_at, waiting_at, with_seat, resolved, next_step}
-use Rattle.sock_programs.specs.Ticks.{Answer, OfPut, OfReady, OfTake, Moment, IsAnswered, FitsTake, taken, with_message, with_link, with_put, with_ready, with_found, step_with, tick_with, ticked}
+use Rattle.sock_programs.specs.Cores.{Core, SeatState, word_of, found_at, waiting_at, with_seat, resolved, next_step}
+use Rattle.sock_programs.specs.Ticks.{Answer, OfPut, OfReady, OfTake, Moment, taken, with_message, with_link, with_put, with_ready, with_found, step_with, tick_with, ticked}
 use Rattle.sock_runs.specs.Sound.{first_step}
 use Rattle.whole_runs.specs.Heard.{taken_link, bytes_found}
 use Rattle.call_causes.specs.Lists.{given}
-use Rattle.send_causes.proofs.Faults.{Faults}
-use Rattle.send_causes.proofs.Readings.{IsTake, takes_or_not, ticks_first}
+use Rattle.send_causes.proofs.Readings.{IsTake, ticks_first}
 use Rattle.served_runs.proofs.Readings.{Goes, is_last, goes_first, goes_next, begins_reading}
 
 -- ## What is taken
@@ -233,12 +231,12 @@ module _ (p : Plan) (calls : List ℕ) (k o : ℕ) where
 
     -- ## Where it takes some
 
-    -- it does so of its own link, where no take found the end yet, or the link gave a frame fault
+    -- it does so of its own link, where no take found the end yet
     pub record Takes (found : Taking) : Type 0 where
       pub next : Taking → Program
       pub after : ticked p c m ≡ took_so p k c m seat next found
       pub link : taken_link seat.program ≡ k ∷ []
-      pub time : (last ≡ false) ⊎ Faults 0 g
+      pub time : last ≡ false
       pub reader : HasReader (g ++ bytes_found found) (last || is_last found) (Word c) (ticked p c m)
 
     taken_stand : (t : IsTake seat.program) → Goes k g last (Aside (TakeBytes t.link t.room) t.next)

@@ -12,7 +12,7 @@ use Rattle.sock_words.specs.declared.outcome.Outcome.{Outcome}
 use Rattle.sock_message.specs.Asked.{Asked, meta_with}
 use Rattle.sock_programs.specs.declared.task.Op.TheVariants as ops
 use Rattle.sock_programs.specs.declared.task.Task.{Task}
-use Rattle.sock_programs.specs.Asides.{Broken}
+use Rattle.sock_programs.specs.Asides.{AtEnd, Broken}
 use Rattle.sock_programs.specs.Readers.{LIMIT}
 use Rattle.sock_programs.specs.Cores.{Core}
 use Rattle.sock_programs.specs.Tasks.{plan_of}
@@ -20,7 +20,7 @@ use Rattle.sock_programs.specs.Told.{IsTask, Became, Made}
 use Rattle.sock_programs.specs.Scripts.{all_tasks, took_at_home, IsRunWithCalls}
 use Rattle.sock_causes.specs.Facts.{late_links_of_run}
 use Rattle.whole_runs.specs.Heard.{heard_takes}
-use Rattle.call_causes.specs.Lists.{given}
+use Rattle.call_causes.specs.Lists.{given, attempts_of_run}
 
 -- the request of a call under a correlation id
 abbrev pub request_with : Asked → ℕ → Frame
@@ -52,6 +52,10 @@ module _ (script : List Item) (turns : List Turn) (core : Core) (is : IsRunWithC
   abbrev pub GivesFront : Type 0
   GivesFront = (k : ℕ) (shape : Shape) → slice_get (link_shapes script) k ≡ Some shape → IsTrue shape.serve → (more : List ℕ) × (given core k ++ more ≡ given_for shape (took_in_all k))
 
+  -- one that gave its end gave all that belongs to what it took, and to whatever it might take besides
+  abbrev pub GivesLast : Type 0
+  GivesLast = (k : ℕ) (shape : Shape) → slice_get (link_shapes script) k ≡ Some shape → IsTrue shape.serve → Contains (heard_takes is k) AtEnd → (more : List ℕ) → given core k ≡ given_for shape (took_in_all k ++ more)
+
   -- and a link without it gave nothing
   abbrev pub GivesNothing : Type 0
   GivesNothing = (k : ℕ) (shape : Shape) → slice_get (link_shapes script) k ≡ Some shape → shape.serve ≡ false → given core k ≡ []
@@ -77,6 +81,8 @@ module _ (script : List Item) (turns : List Turn) (core : Core) (is : IsRunWithC
     pub became : Became (all_tasks script) core.outcomes task.number outcome
     pub shows : shown_id outcome ≡ Some id
     pub few : attempt + 2 ≤ asked.range
+    -- that was made
+    pub made : attempt ≤ attempts_of_run script turns core is task.number
     pub replies : reply (request_with asked (id + attempt + 1)) ≡ Some frame
 
   -- such a link gave no frame fault, and each frame that it gave is such a reply

@@ -1,0 +1,81 @@
+-- The same by the lines of the script: of links that no `send` names, and of calls by their operations.
+use Rattle.std.proofs.Common.{◌≡◌, ℕ, ◌+◌, List, Option, Some, None, refl, sym, ap, ◌∙◌, subst, arith}
+use Rattle.std.specs.List.{AllByRecursion}
+use Rattle.std.specs.Prelude.{pos, slice_get, option_map, IsSome, IsTrue, Contains}
+use Rattle.sock_words.specs.declared.outcome.Outcome.{Outcome}
+use Rattle.brpc_model.specs.Attempts.{IsResponse}
+use Rattle.brpc_model.specs.Causes.{HasFault}
+use Rattle.brpc_model.specs.Frame.{Frame}
+use Rattle.brpc_model.specs.Items.{Item, Shape, CallLine, Send, Call}
+use Rattle.brpc_model.specs.Messages.{shown_id, request_frame}
+use Rattle.brpc_model.specs.Meta.{RequestMeta}
+use Rattle.brpc_model.specs.Operations.{Turn, Operation, operations, link_names, link_shapes}
+use Rattle.brpc_model.specs.Places.{names}
+use Rattle.brpc_model.specs.Reply.{Answer, Gives, Refuses, served, answered_by, reply}
+use Rattle.brpc_model.specs.Stream.{stream}
+use Rattle.report_fits.proofs.Lists.{Has, contains_from}
+use Rattle.report_fits.proofs.Names.{same_name}
+use Rattle.report_fits.proofs.Numbering.{are_from}
+use Rattle.report_fits.proofs.Reading.{InRange}
+use Rattle.report_fits.proofs.Targets.{AreThere}
+use Rattle.report_fits.proofs.TaskLemmas.{numbers_at, IsTaskOf, task_is, operation_task, open_asks, send_asks, mentions_open, mentions_send, named_at}
+use Rattle.sock_programs.specs.declared.task.Op.TheVariants as ops
+use Rattle.sock_programs.specs.declared.task.Task.{Task}
+use Rattle.sock_programs.specs.Cores.{Core}
+use Rattle.sock_programs.specs.Tasks.{numbered, asked_of, op_of}
+use Rattle.sock_programs.specs.Told.{IsTask, Made}
+use Rattle.sock_programs.specs.Scripts.{all_tasks, IsRunWithCalls}
+use Rattle.joint_runs.proofs.Runs.{AreMade}
+use Rattle.owed_calls.specs.Lives.{ClosesInRun}
+use Rattle.call_causes.specs.Lists.{given}
+use Rattle.served_runs.specs.Offered.{OffersInRun}
+use Rattle.served_runs.specs.Served.{IsForCalls, request_with}
+use Rattle.served_runs.proofs.Served.{gives_no_fault, gives_call_replies, gives_own_replies}
+
+-- no `send` of the script is to the name of link k
+abbrev pub IsUnnamed : List Item → ℕ → Type 0
+IsUnnamed script k = (name bytes : List ℕ) → Contains script (Send name bytes) → slice_get (link_names script) k ≡ Some name → ⊥
+
+-- so no task sends to a name of its socket
+pub unsent_of : (script : List Item) (os : List (Option Outcome)) (k : ℕ) → IsUnnamed script k → (client : ℕ) (t : Task) (n slot version : ℕ) (bytes : List ℕ) → IsTask (all_tasks script) os client t → t.op ≡ ops.Send n bytes → Made (all_tasks script) os n k slot version → ⊥
+unsent_of script os k none_ client t n slot version bytes it op life = by (task_is script os client t it) (task_is script os life.client life.task life.is)
+  where
+    by : IsTaskOf script client t → IsTaskOf script life.client life.task → ⊥
+    by s o = let a = send_asks (numbered script) (names script) (numbers_at script t.number s.operation) s.operation.item n bytes (s.asks ∙ ap (λ x. Some x) op) in
+        let b = open_asks (numbered script) (names script) (numbers_at script life.task.number o.operation) o.operation.item n k (o.asks ∙ ap (λ x. Some x) life.op) in
+        let same : a.0 ≡ b.0 = same_name (names script) a.0 b.0 (mentions_send script t.number s.operation s.there a.0 bytes a.1) (mentions_open script life.task.number o.operation o.there b.0 b.1 b.2) (sym a.2 ∙ b.3) in
+        none_ a.0 bytes (contains_from script (Send a.0 bytes) (subst (Has script) a.1 (are_from 0 1 script t.number s.operation s.there).there))
+        (ap (slice_get (link_names script)) b.4 ∙ (named_at script life.task.number o.operation b.0 b.1 o.there b.2 ∙ ap (λ x. Some x) (sym same)))
+
+-- a reply is an uncompressed response
+pub reply_plain : (f g : Frame) → reply f ≡ Some g → (g.meta.compress_type ≡ pos 0) × IsSome g.meta.response
+reply_plain f g is = by f.meta.request is
+  where
+    of_answer : (id : ℕ) (a : Answer) → ((answered_by id a).meta.compress_type ≡ pos 0) × IsSome (answered_by id a).meta.response
+    of_answer id (Gives payload attachment) = (refl, refl)
+    of_answer id (Refuses code text) = (refl, refl)
+
+    by : (o : Option RequestMeta) → option_map (λ request. answered_by f.meta.correlation_id (served f.meta.compress_type request f.payload f.attachment)) o ≡ Some g → (g.meta.compress_type ≡ pos 0) × IsSome g.meta.response
+    by None e = absurd (cc)
+    by (Some request) e = let z : Some (answered_by f.meta.correlation_id (served f.meta.compress_type request f.payload f.attachment)) ≡ Some g = e in
+        let same : answered_by f.meta.correlation_id (served f.meta.compress_type request f.payload f.attachment) ≡ g = cc in
+        subst (λ (x : Frame). (x.meta.compress_type ≡ pos 0) × IsSome x.meta.response) same (of_answer f.meta.correlation_id (served f.meta.compress_type request f.payload f.attachment))
+
+module _ (script : List Item) (made : AreMade script) (there : AreThere script) (range : AllByRecursion InRange script) (turns : List Turn) (core : Core) (is : IsRunWithCalls script turns core) (closes : ClosesInRun script turns core is)
+    (offers : OffersInRun script turns core is) (k : ℕ) (shape : Shape) (opened : slice_get (link_shapes script) k ≡ Some shape) (serves : IsTrue shape.serve) (unnamed : IsUnnamed script k) where
+  for_calls : IsForCalls script turns core is k shape
+  for_calls = record { opened = opened; serves = serves; unsent = unsent_of script core.outcomes k unnamed }
+
+  -- the link gave no frame fault, and only uncompressed responses
+  pub link_faultless : HasFault (given core k) → ⊥
+  link_faultless fault = gives_no_fault script made there range turns core is closes offers k shape for_calls fault
+
+  pub link_plain : (n : ℕ) (frame : Frame) → slice_get (stream (given core k)).frames n ≡ Some frame → (frame.meta.compress_type ≡ pos 0) × IsSome frame.meta.response
+  link_plain n frame stands = let r = gives_call_replies script made there range turns core is closes offers k n shape frame for_calls stands in reply_plain (request_with r.asked (r.id + r.attempt + 1)) frame r.replies
+
+  -- each response of a call's versions is the reply to the call's own request
+  pub link_own_replies : (n i id : ℕ) (frame : Frame) (op : Operation) (call : CallLine) (outcome : Outcome) → slice_get (stream (given core k)).frames n ≡ Some frame → slice_get (operations script) i ≡ Some op → op.item ≡ Call call
+      → slice_get core.outcomes i ≡ Some (Some outcome) → shown_id outcome ≡ Some id → IsResponse call id frame → reply (request_frame call frame.meta.correlation_id) ≡ Some frame
+  link_own_replies n i id frame op call outcome stands at item became shows response =
+      gives_own_replies script made there range turns core is closes offers k n id op.client shape frame (record { number = i; op = ops.Call (asked_of (names script) i call) }) (asked_of (names script) i call) outcome for_calls stands
+      (operation_task script core.outcomes i op (ops.Call (asked_of (names script) i call)) at (ap (op_of (numbered script) (names script) (numbers_at script i op)) item)) refl became shows response.1 (let r = response.2 in omega (arith, r))
