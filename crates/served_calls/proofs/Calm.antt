@@ -198,8 +198,8 @@ module _ (bytes : List ℕ) (script : List Item) (reads : script_of bytes ≡ Ok
       }
 
   -- its report fits the script and the links, and where nothing went wrong it is complete
-  pub served_fits : AreShown script turns core is fixed ends → GivesFew script turns core is → (IsUntroubled script ends → IsTimely script turns core is fixed orders) → AreIdsSmall script core
+  pub served_fits : AreShown script turns core is fixed ends → (IsUntroubled script ends → GivesFew script turns core is) → (IsUntroubled script ends → IsTimely script turns core is fixed orders) → AreIdsSmall script core
       → ((client : ℕ) (t : Task) (asked : Asked) → IsTask (all_tasks script) core.outcomes client t → t.op ≡ ops.Call asked → tells.last t.number ≡ attempts_of_run script turns core is t.number)
       → GivesReplies script turns core is → GivesCallReplies script turns core is → GivesNoFault script turns core is → GivesLast script turns core is → FitsWhole script (report_text script report) ends (lateness fixed)
   served_fits shown few timely ids last_is replies call_replies no_fault lasts = script_fits bytes script reads core fixed (given core) orders long tells report took ends reports told given_back
-      (λ untroubled. calm shown few untroubled (timely untroubled) ids last_is replies call_replies no_fault lasts)
+      (λ untroubled. calm shown (few untroubled) untroubled (timely untroubled) ids last_is replies call_replies no_fault lasts)

@@ -39,7 +39,7 @@ module _ (bytes : List ℕ) (script : List Item) (reads : script_of bytes ≡ Ok
   range = (is_counted bytes script reads).in_range
 
   pub offered_fits : (report : Report) (took : List (List ℕ)) (ends : List LinkEnd) (reports : Reports script core took report) (told : AreTold ends took) (given_back : AreEndsOf script core fixed (given core) ends)
-      → AreShown script turns core is fixed ends → GivesFew script turns core is → (IsUntroubled script ends → IsTimely script turns core is fixed orders) → FitsWhole script (report_text script report) ends (lateness fixed)
+      → AreShown script turns core is fixed ends → (IsUntroubled script ends → GivesFew script turns core is) → (IsUntroubled script ends → IsTimely script turns core is fixed orders) → FitsWhole script (report_text script report) ends (lateness fixed)
   offered_fits report took ends reports told given_back shown few timely = served_fits bytes script reads turns core is fixed orders long tells report took ends reports told given_back shown few timely
       (id_small script (made bytes script reads) there range turns core is closes) last_is
       (gives_replies script (made bytes script reads) there range turns core is closes offers) (gives_call_replies script (made bytes script reads) there range turns core is closes offers)
