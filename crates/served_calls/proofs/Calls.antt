@@ -30,9 +30,9 @@ use Rattle.sock_programs.specs.Scripts.{all_tasks, IsRunWithCalls}
 use Rattle.joint_runs.proofs.Runs.{AreMade}
 use Rattle.whole_runs.specs.Heard.{heard_takes}
 use Rattle.call_causes.specs.Lists.{given, attempts_of_run}
-use Rattle.served_runs.specs.Served.{request_with, took_in_all, IsServed, IsForCalls, IsReplyToCall, GivesReplies, GivesNoFault}
+use Rattle.served_runs.specs.Served.{request_with, took_in_all, IsServed, IsForCalls, IsReplyToCall, GivesReplies, GivesLast, GivesNoFault, GivesCallReplies}
 use Rattle.served_runs.proofs.Frames.{request_is}
-use Rattle.served_calls.specs.Quiet.{HasReply, HasServer, GivesTriedReplies, GivesLast, AreEarly, IsQuiet, IsForServers, IsUnexpired, CallIsDone}
+use Rattle.served_calls.specs.Quiet.{HasReply, HasServer, AreEarly, IsQuiet, IsForServers, IsUnexpired, CallIsDone}
 use Rattle.served_calls.proofs.Frames.{SaysReply, reply_to, reply_says}
 use Rattle.served_calls.proofs.Requests.{AreIdsSmall, same_task, asked_fits, small_call, request_there, reply_there, never_last}
 
@@ -61,7 +61,7 @@ gives_peer id (negsuc n) frame other = refl
 
 module _ (script : List Item) (made : AreMade script) (turns : List Turn) (core : Core) (is : IsRunWithCalls script turns core) (fixed : Fixed) (orders : ℕ → Order) (tells : ToldCalls (plan_of script) (all_tasks script) core.outcomes fixed (given core) orders core) (ids : AreIdsSmall script core)
     (last_is : (client : ℕ) (t : Task) (asked : Asked) → IsTask (all_tasks script) core.outcomes client t → t.op ≡ ops.Call asked → tells.last t.number ≡ attempts_of_run script turns core is t.number)
-    (replies : GivesReplies script turns core is) (tried : GivesTriedReplies script turns core is) (no_fault : GivesNoFault script turns core is) (lasts : GivesLast script turns core is) (shows_early : AreEarly script turns core is fixed orders) (quiet : IsQuiet script turns core is fixed orders) where
+    (replies : GivesReplies script turns core is) (call_replies : GivesCallReplies script turns core is) (no_fault : GivesNoFault script turns core is) (lasts : GivesLast script turns core is) (shows_early : AreEarly script turns core is fixed orders) (quiet : IsQuiet script turns core is fixed orders) where
   abbrev Task_ : ℕ → Task → Type 0
   Task_ client t = IsTask (all_tasks script) core.outcomes client t
 
@@ -169,8 +169,8 @@ module _ (script : List Item) (made : AreMade script) (turns : List Turn) (core 
             → reply (request_with asked (id + 1)) ≡ Some frame
         own_reply k n frame (low, there) (some_, above, below) = by (within (link_shapes script) k (let m = shapes_many script in omega (arith, low, m)))
           where
-            of_reply : (r : IsReplyToCall script turns core is frame) → r.attempt ≤ attempts_of_run script turns core is r.task.number → reply (request_with asked (id + 1)) ≡ Some frame
-            of_reply r few = dite (ℕ_discrete t.number r.task.number) here far
+            of_reply : (r : IsReplyToCall script turns core is frame) → reply (request_with asked (id + 1)) ≡ Some frame
+            of_reply r = dite (ℕ_discrete t.number r.task.number) here far
               where
                 with_id : frame.meta.correlation_id ≡ r.id + r.attempt + 1
                 with_id = (reply_says r.asked (r.id + r.attempt + 1) frame r.replies).same_id
@@ -178,7 +178,7 @@ module _ (script : List Item) (made : AreMade script) (turns : List Turn) (core 
                 here : t.number ≡ r.task.number → reply (request_with asked (id + 1)) ≡ Some frame
                 here same = let task = same_task script made turns core is fixed orders tells ids r.client client r.task t r.is_task it (sym same) in let e : ops.Call r.asked ≡ ops.Call asked = sym r.op ∙ (ap (λ (u : Task). u.op) task ∙ op) in let named : r.asked ≡ asked = cc in
                     let own_id = same_id r.outcome r.id (subst (λ o. Became_ o r.outcome) (sym same) r.became) r.shows in
-                    let first : r.attempt ≡ 0 = (let l = last_is client t asked it op in let z = last_first in let m = ap (attempts_of_run script turns core is) same in omega (arith, few, l, z, m)) in
+                    let first : r.attempt ≡ 0 = (let l = last_is client t asked it op in let z = last_first in let m = ap (attempts_of_run script turns core is) same in let few = r.made in omega (arith, few, l, z, m)) in
                     ap reply ((λ i. request_with (sym named i) (id + 1)) ∙ ap (request_with r.asked) (let z : id + 1 ≡ r.id + r.attempt + 1 = omega (arith, own_id, first) in z)) ∙ r.replies
 
                 far : (t.number ≡ r.task.number → ⊥) → reply (request_with asked (id + 1)) ≡ Some frame
@@ -186,7 +186,7 @@ module _ (script : List Item) (made : AreMade script) (turns : List Turn) (core 
                     (tells.versions client r.client t r.task asked r.asked x r.outcome id r.id it r.is_task op r.op became r.became shows r.shows other))
 
             by_server : (shape : Shape) → slice_get (link_shapes script) k ≡ Some shape → (b : Bool) → shape.serve ≡ b → reply (request_with asked (id + 1)) ≡ Some frame
-            by_server shape at true serves = let s : HasServer script turns core is k = (shape, at, serves) in let r = tried k n shape frame (for_calls k s) there in of_reply r.0 r.1
+            by_server shape at true serves = let s : HasServer script turns core is k = (shape, at, serves) in of_reply (call_replies k n shape frame (for_calls k s) there)
             by_server shape at false none_ = absurd (none_given (given core k) n frame (quiet.silent k shape at (λ serves. let z : false ≡ true = sym none_ ∙ serves in cc)) there)
 
             by : (shape : Shape) × (slice_get (link_shapes script) k ≡ Some shape) → reply (request_with asked (id + 1)) ≡ Some frame

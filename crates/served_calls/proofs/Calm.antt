@@ -39,8 +39,8 @@ use Rattle.whole_runs.specs.Heard.{heard_takes, given_by}
 use Rattle.whole_runs.proofs.Gave.{gave_heard}
 use Rattle.whole_runs.proofs.Starts.{made}
 use Rattle.call_causes.specs.Lists.{given, attempts_of_run}
-use Rattle.served_runs.specs.Served.{GivesReplies, GivesNoFault}
-use Rattle.served_calls.specs.Quiet.{HasServer, GivesTriedReplies, GivesLast, AreEarly, IsQuiet, IsTimely, IsForServers, IsUnexpired, CallIsDone}
+use Rattle.served_runs.specs.Served.{GivesReplies, GivesLast, GivesNoFault, GivesCallReplies}
+use Rattle.served_calls.specs.Quiet.{HasServer, AreEarly, IsQuiet, IsTimely, IsForServers, IsUnexpired, CallIsDone}
 use Rattle.served_calls.proofs.Calls.{shapes_many, none_early, served_call_done}
 use Rattle.served_calls.proofs.Requests.{AreIdsSmall}
 
@@ -173,7 +173,7 @@ module _ (bytes : List ℕ) (script : List Item) (reads : script_of bytes ≡ Ok
           none_ (contains_from script (Expire op.client op.number) (subst (λ x. Has script x) (ap (λ c. Expire c m.1) own ∙ ap (Expire op.client) number) has))
 
     module _ (ids : AreIdsSmall script core) (last_is : (client : ℕ) (t : Task) (asked : Asked) → IsTask (all_tasks script) core.outcomes client t → t.op ≡ ops.Call asked → tells.last t.number ≡ attempts_of_run script turns core is t.number)
-        (replies : GivesReplies script turns core is) (tried : GivesTriedReplies script turns core is) (no_fault : GivesNoFault script turns core is) (lasts : GivesLast script turns core is) where
+        (replies : GivesReplies script turns core is) (call_replies : GivesCallReplies script turns core is) (no_fault : GivesNoFault script turns core is) (lasts : GivesLast script turns core is) where
       none_early_at : (k : ℕ) → Contains fixed.early k → ⊥
       none_early_at k there = by (within (link_shapes script) k (let l = (shown.0 k there).0 in let m = shapes_many script in omega (arith, l, m)))
         where
@@ -184,7 +184,7 @@ module _ (bytes : List ℕ) (script : List Item) (reads : script_of bytes ≡ Ok
           by_end shape low at none_ (inr (inr (inr failed))) = let f = (faultless k low).1 in let z : ⊥ = omega (arith, failed, f) in z
 
           by_server : (shape : Shape) → slice_get (link_shapes script) k ≡ Some shape → (b : Bool) → shape.serve ≡ b → ⊥
-          by_server shape at true serves = none_early script (made bytes script reads) turns core is fixed orders tells ids last_is replies tried no_fault lasts early quiet k (shape, at, serves) there
+          by_server shape at true serves = none_early script (made bytes script reads) turns core is fixed orders tells ids last_is replies call_replies no_fault lasts early quiet k (shape, at, serves) there
           by_server shape at false none_ = by_end shape (link_low k shape at) at (λ serves. let z : false ≡ true = sym none_ ∙ serves in cc) ((end_of k (link_low k shape at)).is.early there)
 
           by : (shape : Shape) × (slice_get (link_shapes script) k ≡ Some shape) → ⊥
@@ -192,7 +192,7 @@ module _ (bytes : List ℕ) (script : List Item) (reads : script_of bytes ≡ Ok
 
       call_calm : (i : ℕ) (op : Operation) (call : CallLine) (name : List ℕ) (outcome : Outcome) → slice_get (operations script) i ≡ Some op → op.item ≡ Call call → slice_get core.outcomes i ≡ Some (Some outcome) → slice_get call.names 0 ≡ Some name → IsServed script name
           → (Contains script (Expire op.client op.number) → ⊥) → calls.HasReply call outcome ⊎ (outcome ≡ Unopened)
-      call_calm i op call name outcome there item became first served none_ = by (served_call_done script (made bytes script reads) turns core is fixed orders tells ids last_is replies tried no_fault lasts early quiet op.client (record { number = i; op = ops.Call (asked i op call name there item) })
+      call_calm i op call name outcome there item became first served none_ = by (served_call_done script (made bytes script reads) turns core is fixed orders tells ids last_is replies call_replies no_fault lasts early quiet op.client (record { number = i; op = ops.Call (asked i op call name there item) })
           (asked i op call name there item) outcome (known.call_task all_given.run i op call there item) refl became (for_servers i op call name there item first served) (unexpired i op call name there item none_))
         where
           by : CallIsDone script turns core is fixed orders op.client i (asked i op call name there item) outcome → calls.HasReply call outcome ⊎ (outcome ≡ Unopened)
@@ -211,6 +211,6 @@ module _ (bytes : List ℕ) (script : List Item) (reads : script_of bytes ≡ Ok
   -- its report fits the script and the links, and where nothing went wrong it is complete
   pub served_fits : AreShown → GivesFew → (IsUntroubled script ends → IsTimely script turns core is fixed orders) → AreIdsSmall script core
       → ((client : ℕ) (t : Task) (asked : Asked) → IsTask (all_tasks script) core.outcomes client t → t.op ≡ ops.Call asked → tells.last t.number ≡ attempts_of_run script turns core is t.number)
-      → GivesReplies script turns core is → GivesTriedReplies script turns core is → GivesNoFault script turns core is → GivesLast script turns core is → FitsWhole script (report_text script report) ends (lateness fixed)
-  served_fits shown few timely ids last_is replies tried no_fault lasts = script_fits bytes script reads core fixed (given core) orders long tells report took ends reports told given_back
-      (λ untroubled. calm shown few untroubled (timely untroubled) ids last_is replies tried no_fault lasts)
+      → GivesReplies script turns core is → GivesCallReplies script turns core is → GivesNoFault script turns core is → GivesLast script turns core is → FitsWhole script (report_text script report) ends (lateness fixed)
+  served_fits shown few timely ids last_is replies call_replies no_fault lasts = script_fits bytes script reads core fixed (given core) orders long tells report took ends reports told given_back
+      (λ untroubled. calm shown few untroubled (timely untroubled) ids last_is replies call_replies no_fault lasts)

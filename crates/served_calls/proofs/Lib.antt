@@ -2,3 +2,4 @@ pub mod Frames
 pub mod Requests
 pub mod Calls
 pub mod Calm
+pub mod Whole

@@ -7,8 +7,6 @@ use Rattle.brpc_model.specs.Items.{Item, Shape}
 use Rattle.brpc_model.specs.Meta.{ResponseMeta}
 use Rattle.brpc_model.specs.Operations.{Operation, Turn, link_shapes, operations}
 use Rattle.brpc_model.specs.Reply.{reply}
-use Rattle.brpc_model.specs.Served.{given_for}
-use Rattle.brpc_model.specs.Stream.{stream}
 use Rattle.sock_words.specs.declared.outcome.Outcome.{Outcome}
 use Rattle.sock_words.specs.declared.outcome.Outcome.TheVariants.{Unopened}
 use Rattle.sock_message.specs.Asked.{Asked, name_of}
@@ -23,8 +21,8 @@ use Rattle.sock_programs.specs.ToldCalls.{Fixed, Order, FoundNone, IsUnordered, 
 use Rattle.sock_programs.specs.Scripts.{all_tasks, IsRunWithCalls}
 use Rattle.sock_causes.specs.Facts.{late_links_of_run}
 use Rattle.whole_runs.specs.Heard.{heard_takes}
-use Rattle.call_causes.specs.Lists.{given, attempts_of_run}
-use Rattle.served_runs.specs.Served.{request_with, took_in_all, IsForCalls, IsReplyToCall}
+use Rattle.call_causes.specs.Lists.{given}
+use Rattle.served_runs.specs.Served.{request_with}
 
 -- the call with this outcome has what the reply to the request of its first attempt gives
 abbrev pub HasReply : Asked → Outcome → Type 0
@@ -34,15 +32,6 @@ module _ (script : List Item) (turns : List Turn) (core : Core) (is : IsRunWithC
   -- link k was opened with the server
   abbrev pub HasServer : ℕ → Type 0
   HasServer k = (shape : Shape) × (slice_get (link_shapes script) k ≡ Some shape) × IsTrue shape.serve
-
-  -- each frame that a link for calls gave is the reply to the request of an attempt to which a call came
-  abbrev pub GivesTriedReplies : Type 0
-  GivesTriedReplies = (k n : ℕ) (shape : Shape) (frame : Frame) → IsForCalls script turns core is k shape → slice_get (stream (given core k)).frames n ≡ Some frame
-      → (r : IsReplyToCall script turns core is frame) × (r.attempt ≤ attempts_of_run script turns core is r.task.number)
-
-  -- where such a link gave its end, it gave all that belongs to whatever it takes
-  abbrev pub GivesLast : Type 0
-  GivesLast = (k : ℕ) (shape : Shape) → slice_get (link_shapes script) k ≡ Some shape → IsTrue shape.serve → Contains (heard_takes is k) AtEnd → (more : List ℕ) → given core k ≡ given_for shape (took_in_all script turns core is k ++ more)
 
   module _ (fixed : Fixed) (orders : ℕ → Order) where
     -- what the list of readings that ended early shows
