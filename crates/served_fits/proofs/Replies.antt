@@ -1,5 +1,5 @@
 -- In the run that is reported each link that was served gave the replies to what it took, and each call's responses over a link that no `send` names are the replies to its own request.
-use Rattle.std.proofs.Common.{◌≡◌, ℕ, ◌+◌, ◌<◌, Bool, true, List, length, slice_get, slice_index_or, option_and_then, Option, Some, None, IfSome, Ok, refl, sym, ap, ◌∙◌, subst, arith}
+use Rattle.std.proofs.Common.{◌≡◌, ℕ, ◌+◌, ◌<◌, Bool, true, false, List, length, slice_get, slice_index_or, option_and_then, Option, Some, None, IfSome, Ok, refl, sym, ap, ◌∙◌, subst, arith}
 use Rattle.std.specs.Prelude.{IsSome, Contains}
 use Rattle.std.specs.List.{AllByRecursion}
 use Rattle.sock_words.specs.declared.outcome.Outcome.{Outcome}
@@ -60,7 +60,7 @@ outcome_there os i id shows = by (slice_get os i) refl shows
 
 -- what is told both ways is the same
 both_told : (o : Option (List ℕ)) (a b : List ℕ) → IsSome o → IfSome o (λ bytes. a ≡ bytes) → IfSome o (λ bytes. bytes ≡ b) → a ≡ b
-both_told None a b some_ e f = absurd (some_)
+both_told None a b some_ e f = absurd (let z : false ≡ true = some_ in cc)
 both_told (Some x) a b some_ e f = e ∙ f
 
 module _ (bytes : List ℕ) (script : List Item) (reads : script_of bytes ≡ Ok script) (turns : List Turn) (core : Core) (is : IsRunWithCalls script turns core) (closes : ClosesInRun script turns core is) (offers : OffersInRun script turns core is) (fixed : Fixed)
@@ -99,7 +99,7 @@ module _ (bytes : List ℕ) (script : List Item) (reads : script_of bytes ≡ Ok
 
   module _ (late : (k : ℕ) → Contains (late_links_of_run script turns core is) k → Contains fixed.late_links k) (broken : ShowBroken script turns core is ends) where
     served : (k : ℕ) (shape : Shape) → model.IsServedLink reported k shape → IsServed script turns core is k shape
-    served k shape s = let b = s.lived in let life = made_at b.0 b.1 b.2 k b.3 in let (e, has, numbered, unfailed, faultless, few) = s.read in record {
+    served k shape s = let b = s.lived in let life = made_at b.0 b.1 b.2 k b.3 in let (e, has, numbered, (unfailed, faultless, few)) = s.read in record {
       opened = s.opened;
       serves = s.serves;
       name = life.name;

@@ -1,7 +1,6 @@
 -- The report of a run with calls fits, and where nothing went wrong and nothing came late it is complete. Nothing comes late where no `join` stands in the script, as where some link has no server.
 use Rattle.std.proofs.Common.{◌≡◌, ℕ, zero, suc, ◌<◌, ◌⊎◌, inl, inr, ⊎_elim, Bool, true, false, List, [], ◌∷◌, length, Option, Some, Ok, refl, sym, ap, ◌∙◌, subst}
 use Rattle.std.specs.Prelude.{IsTrue, Contains}
-use Rattle.std.specs.List.{AllByRecursion}
 use Rattle.brpc_model.specs.Complete.{IsUntroubled, FitsWhole}
 use Rattle.brpc_model.specs.Items.{Item, Shape, Open, Join}
 use Rattle.brpc_model.specs.Link.{LinkEnd}
@@ -11,9 +10,6 @@ use Rattle.brpc_model.specs.Script.{script_of}
 use Rattle.report_fits.specs.Ends.{AreEndsOf, AreTold}
 use Rattle.report_fits.proofs.Lists.{Has, has_from, contains_from, has_later, has_cases, has_none}
 use Rattle.report_fits.proofs.Places.{lateness}
-use Rattle.report_fits.proofs.Reading.{InRange}
-use Rattle.report_fits.proofs.Sizes.{is_counted}
-use Rattle.report_fits.proofs.Targets.{AreThere, are_there}
 use Rattle.sock_programs.specs.Cores.{Core}
 use Rattle.sock_programs.specs.Tasks.{plan_of}
 use Rattle.sock_programs.specs.ToldCalls.{Order, Fixed, ToldCalls}
@@ -25,11 +21,10 @@ use Rattle.whole_runs.proofs.Starts.{made}
 use Rattle.whole_runs.proofs.Unjoined.{no_join}
 use Rattle.call_causes.specs.Lists.{given}
 use Rattle.served_runs.specs.Offered.{OffersInRun}
-use Rattle.served_runs.proofs.Own.{id_small}
-use Rattle.served_runs.proofs.Served.{gives_replies, gives_last, gives_no_fault, gives_call_replies}
 use Rattle.calm_runs.proofs.Nothing.{nothing_late}
 use Rattle.served_calls.specs.Quiet.{IsTimely}
-use Rattle.served_calls.proofs.Calm.{GivesFew, served_fits}
+use Rattle.served_calls.proofs.Calm.{GivesFew}
+use Rattle.served_calls.proofs.Whole.{offered_fits}
 use Rattle.served_fits.specs.Shown.{AreSo, ShowBroken, IsInTime}
 
 -- ## Joins
@@ -52,12 +47,6 @@ nothing_there x l none_ there = has_none x (subst (λ (m : List ℕ). Has m x) n
 module _ (bytes : List ℕ) (script : List Item) (reads : script_of bytes ≡ Ok script) (turns : List Turn) (core : Core) (is : IsRunWithCalls script turns core) (closes : ClosesInRun script turns core is) (offers : OffersInRun script turns core is) (fixed : Fixed)
     (orders : ℕ → Order) (tells : ToldCalls (plan_of script) (all_tasks script) core.outcomes fixed (given core) orders core) (so : AreSo script turns core is fixed tells.last) (report : Report) (took : List (List ℕ)) (ends : List LinkEnd)
     (reports : Reports script core took report) (told : AreTold ends took) (given_back : AreEndsOf script core fixed (given core) ends) (broken : ShowBroken script turns core is ends) where
-  there : AreThere script
-  there = are_there bytes script reads
-
-  range : AllByRecursion InRange script
-  range = (is_counted bytes script reads).in_range
-
   timely : IsInTime script turns core is → IsTimely script turns core is fixed orders
   timely none_ = record {
     none_late = λ o op at late. nothing_there o (late_of_run script turns core is) none_.1 (so.late o late);
@@ -70,10 +59,8 @@ module _ (bytes : List ℕ) (script : List Item) (reads : script_of bytes ≡ Ok
 
   -- where nothing comes late in a run in which nothing went wrong
   pub timely_fits : Few → (IsUntroubled script ends → IsInTime script turns core is) → FitsWhole script (report_text script report) ends (lateness fixed)
-  timely_fits few in_time = served_fits bytes script reads turns core is fixed orders (ended_length bytes script reads turns core is) tells report took ends reports told given_back (so.early, broken) few (λ untroubled. timely (in_time untroubled))
-      (id_small script (made bytes script reads) there range turns core is closes) so.last (gives_replies script (made bytes script reads) there range turns core is closes offers)
-      (λ k n shape frame s stands. let r = gives_call_replies script (made bytes script reads) there range turns core is closes offers k n shape frame s stands in (r, r.made))
-      (gives_no_fault script (made bytes script reads) there range turns core is closes offers) (gives_last script (made bytes script reads) there range turns core is closes offers)
+  timely_fits few in_time = offered_fits bytes script reads turns core is closes offers fixed orders (ended_length bytes script reads turns core is) tells so.last report took ends reports told given_back (so.early, broken) few
+      (λ untroubled. timely (in_time untroubled))
 
   -- as where no `join` stands in the script
   pub joinless_fits : Few → ((client number : ℕ) → Contains script (Join client number) → ⊥) → FitsWhole script (report_text script report) ends (lateness fixed)

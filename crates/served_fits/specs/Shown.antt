@@ -1,5 +1,5 @@
 -- What is shown of a run beside its report: by the lists of what failed and came late, and by the links that were given back.
-use Rattle.std.specs.Prelude.{ℕ, ◌≡◌, ◌<◌, ◌≤◌, ◌⊎◌, List, [], length, slice_get, Some, IsTrue, IsSome, Contains}
+use Rattle.std.specs.Prelude.{ℕ, ◌≡◌, ◌<◌, ◌≤◌, ◌⊎◌, ◌++◌, List, [], length, slice_get, Some, IsTrue, IsSome, Contains}
 use Rattle.brpc_model.specs.Causes.{HasFault, reading_limit}
 use Rattle.brpc_model.specs.Items.{Item, Shape}
 use Rattle.brpc_model.specs.Link.{LinkEnd}
@@ -11,8 +11,10 @@ use Rattle.sock_programs.specs.Asides.{AtEnd, Broken}
 use Rattle.sock_programs.specs.Cores.{Core}
 use Rattle.sock_programs.specs.Told.{IsTask}
 use Rattle.sock_programs.specs.ToldCalls.{Fixed}
-use Rattle.sock_programs.specs.Scripts.{all_tasks, IsRunWithCalls}
+use Rattle.sock_programs.specs.Scripts.{all_tasks, played, IsRunWithCalls}
+use Rattle.sock_programs.specs.Tasks.{id_plan_of}
 use Rattle.sock_causes.specs.Facts.{late_of_run, late_links_of_run}
+use Rattle.owed_calls.specs.Sound.{id_word_of}
 use Rattle.whole_runs.specs.Heard.{heard_takes, given_by}
 use Rattle.call_causes.specs.Lists.{attempts_of_run}
 
@@ -31,6 +33,10 @@ module _ (script : List Item) (turns : List Turn) (core : Core) (is : IsRunWithC
   -- a link whose take failed shows it
   abbrev pub ShowBroken : List LinkEnd → Type 0
   ShowBroken ends = (k : ℕ) (e : LinkEnd) → Contains ends e → e.link ≡ k → Contains (heard_takes is k) Broken → 0 < e.take_faults
+
+  -- no id is open where the ending begins: each call that was begun has ended
+  abbrev pub NoneOpen : Type 0
+  NoneOpen = (i : ℕ) → i < (id_plan_of script).slots → (id_word_of (played script is.setup (is.scheduled ++ is.later)) i).state ≡ 0
 
   -- nothing came late
   abbrev pub IsInTime : Type 0
