@@ -1,7 +1,7 @@
 -- Where nothing went wrong, each call on links with the server has the reply to its own request, or its name had no socket yet.
-use Rattle.std.proofs.Common.{◌≡◌, ◌≢◌, ℕ, zero, suc, ◌+◌, ◌<◌, ◌≤◌, ◌⊎◌, inl, inr, ⊎_elim, Bool, true, false, List, [], ◌∷◌, length, slice_get, Option, Some, None, refl, sym, ap, ◌∙◌, subst, arith}
+use Rattle.std.proofs.Common.{◌≡◌, ◌≢◌, ℕ, zero, suc, ◌+◌, ◌<◌, ◌≤◌, ◌⊎◌, inl, inr, ⊎_elim, Bool, true, false, List, [], ◌∷◌, length, slice_get, Some, None, refl, sym, ap, ◌∙◌, subst, arith}
 use Rattle.std.proofs.lemmas.Option.{slice_get_within}
-use Rattle.std.specs.Prelude.{ℤ, pos, negsuc, IsTrue, IsSome, Contains, filter_map}
+use Rattle.std.specs.Prelude.{ℤ, pos, negsuc, Contains, filter_map}
 use mathlib.Core.Logic.{dite}
 use native.Mathlib.Decide.{ℕ_discrete}
 use Rattle.sock_words.specs.declared.outcome.Outcome.{Outcome}
@@ -11,8 +11,7 @@ use Rattle.brpc_model.specs.Complete.{Gives}
 use Rattle.brpc_model.specs.Frame.{Frame, IsFrame}
 use Rattle.brpc_model.specs.Items.{Item, Shape, Open, opened_name, opened_shape}
 use Rattle.brpc_model.specs.Messages.{shown_id}
-use Rattle.brpc_model.specs.Meta.{ResponseMeta}
-use Rattle.brpc_model.specs.Operations.{Turn, link_names, link_shapes}
+use Rattle.brpc_model.specs.Operations.{Turn, link_shapes}
 use Rattle.brpc_model.specs.Reply.{reply}
 use Rattle.brpc_model.specs.Stream.{stream}
 use Rattle.report_fits.proofs.Lists.{Has, all_at, has_from, within}
@@ -30,9 +29,9 @@ use Rattle.sock_programs.specs.Scripts.{all_tasks, IsRunWithCalls}
 use Rattle.joint_runs.proofs.Runs.{AreMade}
 use Rattle.whole_runs.specs.Heard.{heard_takes}
 use Rattle.call_causes.specs.Lists.{given, attempts_of_run}
-use Rattle.served_runs.specs.Served.{request_with, took_in_all, IsServed, IsForCalls, IsReplyToCall, GivesReplies, GivesLast, GivesNoFault, GivesCallReplies}
+use Rattle.served_runs.specs.Served.{request_with, IsServed, IsForCalls, IsReplyToCall, GivesReplies, GivesLast, GivesNoFault, GivesCallReplies}
 use Rattle.served_runs.proofs.Frames.{request_is}
-use Rattle.served_calls.specs.Quiet.{HasReply, HasServer, AreEarly, IsQuiet, IsForServers, IsUnexpired, CallIsDone}
+use Rattle.served_calls.specs.Quiet.{HasServer, AreEarly, IsQuiet, IsForServers, IsUnexpired, CallIsDone}
 use Rattle.served_calls.proofs.Frames.{SaysReply, reply_to, reply_says}
 use Rattle.served_calls.proofs.Requests.{AreIdsSmall, same_task, asked_fits, small_call, request_there, reply_there, never_last}
 

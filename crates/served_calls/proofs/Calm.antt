@@ -1,9 +1,8 @@
 -- Where nothing went wrong by the script and by the links that were given back, a run is calm: so its report is complete.
-use Rattle.std.proofs.Common.{◌≡◌, ℕ, zero, suc, ◌+◌, ◌<◌, ◌≤◌, ◌⊎◌, inl, inr, ⊎_elim, Bool, true, false, List, [], ◌∷◌, length, slice_get, Option, Some, None, Ok, refl, sym, ap, ◌∙◌, subst, arith}
+use Rattle.std.proofs.Common.{◌≡◌, ℕ, zero, suc, ◌<◌, ◌≤◌, ◌⊎◌, inl, inr, Bool, true, false, List, [], ◌∷◌, length, slice_get, Some, None, Ok, refl, sym, ap, ◌∙◌, subst, arith}
 use Rattle.std.proofs.lemmas.List.{nil_from_length}
 use Rattle.std.proofs.lemmas.Option.{slice_get_within}
 use Rattle.std.specs.Prelude.{IsTrue, Contains}
-use Rattle.std.specs.List.{AllByRecursion}
 use Rattle.sock_words.specs.declared.outcome.Outcome.{Outcome}
 use Rattle.sock_words.specs.declared.outcome.Outcome.TheVariants.{Unopened}
 use Rattle.brpc_model.specs.Causes.{HasFault, reading_limit}
@@ -21,7 +20,6 @@ use Rattle.report_fits.proofs.Known as known
 use Rattle.report_fits.proofs.Lines.{Given}
 use Rattle.report_fits.proofs.Lists.{Has, all_at, has_from, has_later, contains_from, some_is, within}
 use Rattle.report_fits.proofs.Lives as lives
-use Rattle.report_fits.proofs.Numbering.{are_from}
 use Rattle.report_fits.proofs.Places.{lateness, known_of, script_fits}
 use Rattle.report_fits.proofs.Targets as targets
 use Rattle.report_fits.proofs.TaskLemmas.{numbers_at, task_is, send_asks, call_asks, fail_asks, expire_asks, mentions_send}
@@ -40,7 +38,7 @@ use Rattle.whole_runs.proofs.Gave.{gave_heard}
 use Rattle.whole_runs.proofs.Starts.{made}
 use Rattle.call_causes.specs.Lists.{given, attempts_of_run}
 use Rattle.served_runs.specs.Served.{GivesReplies, GivesLast, GivesNoFault, GivesCallReplies}
-use Rattle.served_calls.specs.Quiet.{HasServer, AreEarly, IsQuiet, IsTimely, IsForServers, IsUnexpired, CallIsDone}
+use Rattle.served_calls.specs.Quiet.{AreShown, GivesFew, HasServer, AreEarly, IsQuiet, IsTimely, IsForServers, IsUnexpired, CallIsDone}
 use Rattle.served_calls.proofs.Calls.{shapes_many, none_early, served_call_done}
 use Rattle.served_calls.proofs.Requests.{AreIdsSmall}
 
@@ -69,16 +67,7 @@ module _ (bytes : List ℕ) (script : List Item) (reads : script_of bytes ≡ Ok
   abbrev Task_ : ℕ → Task → Type 0
   Task_ client t = IsTask (all_tasks script) core.outcomes client t
 
-  -- what the list of early readings shows, and what the links show of takes that failed
-  abbrev pub AreShown : Type 0
-  AreShown = ((k : ℕ) → Contains fixed.early k → (k < length (link_names script)) × (Contains (heard_takes is k) AtEnd ⊎ (HasFault (given_by (heard_takes is k)) ⊎ ((reading_limit ≤ length (given_by (heard_takes is k))) ⊎ Contains (heard_takes is k) Broken))))
-      × ((k : ℕ) (e : LinkEnd) → Contains ends e → e.link ≡ k → Contains (heard_takes is k) Broken → 0 < e.take_faults)
-
-  -- links with the server gave less than is read at most
-  abbrev pub GivesFew : Type 0
-  GivesFew = (k : ℕ) → HasServer script turns core is k → length (given core k) < LIMIT
-
-  module _ (shown : AreShown) (few : GivesFew) (untroubled : IsUntroubled script ends) (timely : IsTimely script turns core is fixed orders) where
+  module _ (shown : AreShown script turns core is fixed ends) (few : GivesFew script turns core is) (untroubled : IsUntroubled script ends) (timely : IsTimely script turns core is fixed orders) where
     link_low : (k : ℕ) (shape : Shape) → slice_get (link_shapes script) k ≡ Some shape → k < length (link_names script)
     link_low k shape at = let l = slice_get_within (link_shapes script) k shape at in let m = shapes_many script in omega (arith, l, m)
 
@@ -209,8 +198,8 @@ module _ (bytes : List ℕ) (script : List Item) (reads : script_of bytes ≡ Ok
       }
 
   -- its report fits the script and the links, and where nothing went wrong it is complete
-  pub served_fits : AreShown → GivesFew → (IsUntroubled script ends → IsTimely script turns core is fixed orders) → AreIdsSmall script core
+  pub served_fits : AreShown script turns core is fixed ends → (IsUntroubled script ends → GivesFew script turns core is) → (IsUntroubled script ends → IsTimely script turns core is fixed orders) → AreIdsSmall script core
       → ((client : ℕ) (t : Task) (asked : Asked) → IsTask (all_tasks script) core.outcomes client t → t.op ≡ ops.Call asked → tells.last t.number ≡ attempts_of_run script turns core is t.number)
       → GivesReplies script turns core is → GivesCallReplies script turns core is → GivesNoFault script turns core is → GivesLast script turns core is → FitsWhole script (report_text script report) ends (lateness fixed)
   served_fits shown few timely ids last_is replies call_replies no_fault lasts = script_fits bytes script reads core fixed (given core) orders long tells report took ends reports told given_back
-      (λ untroubled. calm shown few untroubled (timely untroubled) ids last_is replies call_replies no_fault lasts)
+      (λ untroubled. calm shown (few untroubled) untroubled (timely untroubled) ids last_is replies call_replies no_fault lasts)

@@ -1,5 +1,5 @@
 -- The requests of calls in what a link with the server took, and the replies to them.
-use Rattle.std.proofs.Common.{◌≡◌, ℕ, zero, suc, ◌+◌, ◌<◌, ◌≤◌, List, [], ◌∷◌, ◌++◌, length, take, drop, map, flat_map, filter_map, slice_get, Option, Some, None, append-nil, append_assoc, refl, sym, ap, ◌∙◌, subst, arith}
+use Rattle.std.proofs.Common.{◌≡◌, ℕ, zero, suc, ◌<◌, ◌≤◌, List, [], ◌∷◌, ◌++◌, length, take, drop, flat_map, filter_map, slice_get, Some, None, append-nil, append_assoc, refl, sym, ap, ◌∙◌, subst, arith}
 use Rattle.std.proofs.lemmas.Grind.{flat_map-append}
 use Rattle.std.proofs.lemmas.List.{take-append-drop}
 use Rattle.std.specs.List.{AllByRecursion}
@@ -10,7 +10,7 @@ use Rattle.brpc_model.specs.Messages.{shown_id}
 use Rattle.brpc_model.specs.Operations.{Turn}
 use Rattle.brpc_model.specs.Reply.{reply, reply_frames}
 use Rattle.brpc_model.specs.Served.{first_of, given_for}
-use Rattle.brpc_model.specs.Stream.{Rest, stream, stream_from}
+use Rattle.brpc_model.specs.Stream.{stream, stream_from}
 use Rattle.report_fits.proofs.Lists.{Has, all_at, all_from, has_from, has_filter_map, filter_map_has}
 use Rattle.sock_message.specs.Asked.{Asked, request_of, frame_of}
 use Rattle.sock_programs.specs.declared.task.Op.TheVariants as ops

@@ -26,8 +26,8 @@ use Rattle.call_causes.specs.Lists.{given, attempts_of_run}
 use Rattle.served_runs.specs.Offered.{OffersInRun}
 use Rattle.served_runs.proofs.Own.{id_small}
 use Rattle.served_runs.proofs.Served.{gives_replies, gives_last, gives_no_fault, gives_call_replies}
-use Rattle.served_calls.specs.Quiet.{IsTimely}
-use Rattle.served_calls.proofs.Calm.{AreShown, GivesFew, served_fits}
+use Rattle.served_calls.specs.Quiet.{AreShown, GivesFew, IsTimely}
+use Rattle.served_calls.proofs.Calm.{served_fits}
 
 module _ (bytes : List ℕ) (script : List Item) (reads : script_of bytes ≡ Ok script) (turns : List Turn) (core : Core) (is : IsRunWithCalls script turns core) (closes : ClosesInRun script turns core is) (offers : OffersInRun script turns core is) (fixed : Fixed) (orders : ℕ → Order)
     (long : length core.outcomes ≡ length (operations script)) (tells : ToldCalls (plan_of script) (all_tasks script) core.outcomes fixed (given core) orders core)
@@ -39,8 +39,7 @@ module _ (bytes : List ℕ) (script : List Item) (reads : script_of bytes ≡ Ok
   range = (is_counted bytes script reads).in_range
 
   pub offered_fits : (report : Report) (took : List (List ℕ)) (ends : List LinkEnd) (reports : Reports script core took report) (told : AreTold ends took) (given_back : AreEndsOf script core fixed (given core) ends)
-      → AreShown bytes script reads turns core is fixed orders long tells report took ends reports told given_back → GivesFew bytes script reads turns core is fixed orders long tells report took ends reports told given_back
-      → (IsUntroubled script ends → IsTimely script turns core is fixed orders) → FitsWhole script (report_text script report) ends (lateness fixed)
+      → AreShown script turns core is fixed ends → (IsUntroubled script ends → GivesFew script turns core is) → (IsUntroubled script ends → IsTimely script turns core is fixed orders) → FitsWhole script (report_text script report) ends (lateness fixed)
   offered_fits report took ends reports told given_back shown few timely = served_fits bytes script reads turns core is fixed orders long tells report took ends reports told given_back shown few timely
       (id_small script (made bytes script reads) there range turns core is closes) last_is
       (gives_replies script (made bytes script reads) there range turns core is closes offers) (gives_call_replies script (made bytes script reads) there range turns core is closes offers)

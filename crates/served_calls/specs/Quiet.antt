@@ -1,11 +1,12 @@
 -- Runs in which nothing went wrong, and what a call on links with the server has then.
-use Rattle.std.specs.Prelude.{ℕ, ◌≡◌, ◌≢◌, ◌+◌, ◌<◌, ◌≤◌, ◌⊎◌, ◌++◌, List, [], length, slice_get, Some, None, IsTrue, Contains}
-use Rattle.brpc_model.specs.Causes.{HasFault}
+use Rattle.std.specs.Prelude.{ℕ, ◌≡◌, ◌+◌, ◌<◌, ◌≤◌, ◌⊎◌, List, [], length, slice_get, Some, None, IsTrue, Contains}
+use Rattle.brpc_model.specs.Causes.{HasFault, reading_limit}
 use Rattle.brpc_model.specs.Complete.{Gives}
 use Rattle.brpc_model.specs.Frame.{Frame}
 use Rattle.brpc_model.specs.Items.{Item, Shape}
+use Rattle.brpc_model.specs.Link.{LinkEnd}
 use Rattle.brpc_model.specs.Meta.{ResponseMeta}
-use Rattle.brpc_model.specs.Operations.{Operation, Turn, link_shapes, operations}
+use Rattle.brpc_model.specs.Operations.{Operation, Turn, link_names, link_shapes, operations}
 use Rattle.brpc_model.specs.Reply.{reply}
 use Rattle.sock_words.specs.declared.outcome.Outcome.{Outcome}
 use Rattle.sock_words.specs.declared.outcome.Outcome.TheVariants.{Unopened}
@@ -20,7 +21,7 @@ use Rattle.sock_programs.specs.Told.{IsTask, Made}
 use Rattle.sock_programs.specs.ToldCalls.{Fixed, Order, FoundNone, IsUnordered, WasFull}
 use Rattle.sock_programs.specs.Scripts.{all_tasks, IsRunWithCalls}
 use Rattle.sock_causes.specs.Facts.{late_links_of_run}
-use Rattle.whole_runs.specs.Heard.{heard_takes}
+use Rattle.whole_runs.specs.Heard.{heard_takes, given_by}
 use Rattle.call_causes.specs.Lists.{given}
 use Rattle.served_runs.specs.Served.{request_with}
 
@@ -32,6 +33,15 @@ module _ (script : List Item) (turns : List Turn) (core : Core) (is : IsRunWithC
   -- link k was opened with the server
   abbrev pub HasServer : ℕ → Type 0
   HasServer k = (shape : Shape) × (slice_get (link_shapes script) k ≡ Some shape) × IsTrue shape.serve
+
+  -- links with the server gave less than is read at most
+  abbrev pub GivesFew : Type 0
+  GivesFew = (k : ℕ) → HasServer k → length (given core k) < LIMIT
+
+  -- what the list of early readings shows, as the links tell it, and which links show that a take failed
+  abbrev pub AreShown : Fixed → List LinkEnd → Type 0
+  AreShown fixed ends = ((k : ℕ) → Contains fixed.early k → (k < length (link_names script)) × (Contains (heard_takes is k) AtEnd ⊎ (HasFault (given_by (heard_takes is k)) ⊎ ((reading_limit ≤ length (given_by (heard_takes is k))) ⊎ Contains (heard_takes is k) Broken))))
+      × ((k : ℕ) (e : LinkEnd) → Contains ends e → e.link ≡ k → Contains (heard_takes is k) Broken → 0 < e.take_faults)
 
   module _ (fixed : Fixed) (orders : ℕ → Order) where
     -- what the list of readings that ended early shows
@@ -47,7 +57,7 @@ module _ (script : List Item) (turns : List Turn) (core : Core) (is : IsRunWithC
       pub whole : (k : ℕ) → HasServer k → Contains (heard_takes is k) Broken → ⊥
       -- a link without the server gave nothing, and one with it less than is read at most
       pub silent : (k : ℕ) (shape : Shape) → slice_get (link_shapes script) k ≡ Some shape → (IsTrue shape.serve → ⊥) → given core k ≡ []
-      pub few : (k : ℕ) → HasServer k → length (given core k) < LIMIT
+      pub few : GivesFew
       -- and no `send` is to its socket
       pub no_stray : (k client : ℕ) (t : Task) (name slot version : ℕ) (bytes : List ℕ) → HasServer k → IsTask (all_tasks script) core.outcomes client t → t.op ≡ ops.Send name bytes → Made (all_tasks script) core.outcomes name k slot version → ⊥
       -- there are requests for all attempts
