@@ -1,10 +1,9 @@
 -- In the run that is reported each link that was served gave the replies to what it took, and each call's responses over a link that no `send` names are the replies to its own request.
-use Rattle.std.proofs.Common.{◌≡◌, ℕ, ◌+◌, ◌<◌, Bool, true, false, List, length, slice_get, slice_index_or, option_and_then, Option, Some, None, IfSome, Ok, refl, sym, ap, ◌∙◌, subst, arith}
+use Rattle.std.proofs.Common.{◌≡◌, ℕ, true, false, List, length, slice_get, option_and_then, Option, Some, None, IfSome, Ok, refl, sym, ap, ◌∙◌, subst, arith}
 use Rattle.std.specs.Prelude.{IsSome, Contains}
 use Rattle.std.specs.List.{AllByRecursion}
 use Rattle.sock_words.specs.declared.outcome.Outcome.{Outcome}
 use Rattle.sock_words.specs.declared.outcome.Outcome.TheVariants.{Opened, Answered, Peer, CallFailed}
-use Rattle.brpc_model.specs.Causes.{HasFault}
 use Rattle.brpc_model.specs.Items.{Item, Shape}
 use Rattle.brpc_model.specs.Link.{LinkEnd}
 use Rattle.brpc_model.specs.Messages.{id_at, shown_id}
@@ -12,13 +11,13 @@ use Rattle.brpc_model.specs.Operations.{Turn}
 use Rattle.brpc_model.specs.Places.{names}
 use Rattle.brpc_model.specs.PlaceWords.{took_at}
 use Rattle.brpc_model.specs.Report.{LinkLine, Report}
-use Rattle.brpc_model.specs.Run.{Run, IsLinkOf}
+use Rattle.brpc_model.specs.Run.{Run}
 use Rattle.brpc_model.specs.Script.{script_of}
 use Rattle.brpc_model.specs.Served as model
 use Rattle.report_fits.specs.Ends.{AreEndsOf, AreTold}
 use Rattle.report_fits.proofs.Lines.{Given}
 use Rattle.report_fits.proofs.Lines as lines
-use Rattle.report_fits.proofs.Lists.{Has, within, has_from, some_is}
+use Rattle.report_fits.proofs.Lists.{within, has_from}
 use Rattle.report_fits.proofs.Lives as lives
 use Rattle.report_fits.proofs.Places.{known_of}
 use Rattle.report_fits.proofs.Reading.{InRange}
@@ -26,7 +25,6 @@ use Rattle.report_fits.proofs.Reported.{is_said}
 use Rattle.report_fits.proofs.Sizes.{is_counted}
 use Rattle.report_fits.proofs.Targets.{AreThere, are_there}
 use Rattle.sock_programs.specs.declared.task.Op.TheVariants as ops
-use Rattle.sock_programs.specs.Asides.{Broken}
 use Rattle.sock_programs.specs.Cores.{Core}
 use Rattle.sock_programs.specs.Tasks.{name_number, plan_of}
 use Rattle.sock_programs.specs.Told.{Made}
@@ -34,15 +32,15 @@ use Rattle.sock_programs.specs.ToldCalls.{Order, Fixed, ToldCalls}
 use Rattle.sock_programs.specs.Scripts.{Reports, all_tasks, IsRunWithCalls}
 use Rattle.sock_causes.specs.Facts.{late_links_of_run}
 use Rattle.owed_calls.specs.Lives.{ClosesInRun}
-use Rattle.whole_runs.specs.Heard.{heard_takes}
 use Rattle.whole_runs.proofs.Lengths.{ended_length}
 use Rattle.whole_runs.proofs.Starts.{made}
 use Rattle.call_causes.specs.Lists.{given}
 use Rattle.served_runs.specs.Offered.{OffersInRun}
 use Rattle.served_runs.specs.Served.{IsServed, took_in_all}
-use Rattle.served_runs.proofs.Model.{IsUnnamed, link_own_replies}
+use Rattle.served_runs.proofs.Model.{link_own_replies}
 use Rattle.served_runs.proofs.Served.{gives_replies}
-use Rattle.served_fits.specs.Shown.{ShowBroken, TellTook}
+use Rattle.served_calls.specs.Quiet.{AreShown}
+use Rattle.served_fits.specs.Shown.{TellTook}
 
 -- the outcome that shows an id was said of its operation
 shown_said : (x : Outcome) (id : ℕ) → shown_id x ≡ Some id → is_said x ≡ true
@@ -97,7 +95,7 @@ module _ (bytes : List ℕ) (script : List Item) (reads : script_of bytes ≡ Ok
   end_of : (k : ℕ) (e : LinkEnd) → Contains ends e → e.link ≡ k → length (given core k) ≡ e.gave_count
   end_of k e has numbered = let h = has_from ends e has in let x = given_back.each h.0 e h.1 in subst (λ j. length (given core j) ≡ e.gave_count) (sym x.numbered ∙ numbered) x.counted
 
-  module _ (late : (k : ℕ) → Contains (late_links_of_run script turns core is) k → Contains fixed.late_links k) (broken : ShowBroken script turns core is ends) where
+  module _ (late : (k : ℕ) → Contains (late_links_of_run script turns core is) k → Contains fixed.late_links k) (shown : AreShown script turns core is fixed ends) where
     served : (k : ℕ) (shape : Shape) → model.IsServedLink reported k shape → IsServed script turns core is k shape
     served k shape s = let b = s.lived in let life = made_at b.0 b.1 b.2 k b.3 in let (e, has, numbered, (unfailed, faultless, few)) = s.read in record {
       opened = s.opened;
@@ -107,7 +105,7 @@ module _ (bytes : List ℕ) (script : List Item) (reads : script_of bytes ≡ Ok
       version = life.version;
       lived = life.life;
       in_time = λ born. s.in_time (late k born);
-      whole = λ failed. let f = broken k e has numbered failed in let z : ⊥ = omega (arith, f, unfailed) in z;
+      whole = λ failed. let f = shown.1 k e has numbered failed in let z : ⊥ = omega (arith, f, unfailed) in z;
       faultless = faultless;
       few = let l = end_of k e has numbered in omega (arith, l, few);
     }

@@ -1,5 +1,5 @@
 -- The report of a run with calls fits, and where nothing went wrong and nothing came late it is complete. Nothing comes late where no `join` stands in the script, as where some link has no server.
-use Rattle.std.proofs.Common.{◌≡◌, ℕ, zero, suc, ◌<◌, ◌⊎◌, inl, inr, ⊎_elim, Bool, true, false, List, [], ◌∷◌, length, Option, Some, Ok, refl, sym, ap, ◌∙◌, subst}
+use Rattle.std.proofs.Common.{◌≡◌, ℕ, zero, ◌⊎◌, inl, inr, ⊎_elim, Bool, true, false, List, [], ◌∷◌, Ok, refl, subst}
 use Rattle.std.specs.Prelude.{IsTrue, Contains}
 use Rattle.brpc_model.specs.Complete.{IsUntroubled, FitsWhole}
 use Rattle.brpc_model.specs.Items.{Item, Shape, Open, Join}
@@ -22,10 +22,9 @@ use Rattle.whole_runs.proofs.Unjoined.{no_join}
 use Rattle.call_causes.specs.Lists.{given}
 use Rattle.served_runs.specs.Offered.{OffersInRun}
 use Rattle.calm_runs.proofs.Nothing.{nothing_late}
-use Rattle.served_calls.specs.Quiet.{IsTimely}
-use Rattle.served_calls.proofs.Calm.{GivesFew}
+use Rattle.served_calls.specs.Quiet.{AreShown, GivesFew, IsTimely}
 use Rattle.served_calls.proofs.Whole.{offered_fits}
-use Rattle.served_fits.specs.Shown.{AreSo, ShowBroken, IsInTime}
+use Rattle.served_fits.specs.Shown.{AreSo, IsInTime}
 
 -- ## Joins
 
@@ -46,7 +45,7 @@ nothing_there x l none_ there = has_none x (subst (λ (m : List ℕ). Has m x) n
 
 module _ (bytes : List ℕ) (script : List Item) (reads : script_of bytes ≡ Ok script) (turns : List Turn) (core : Core) (is : IsRunWithCalls script turns core) (closes : ClosesInRun script turns core is) (offers : OffersInRun script turns core is) (fixed : Fixed)
     (orders : ℕ → Order) (tells : ToldCalls (plan_of script) (all_tasks script) core.outcomes fixed (given core) orders core) (so : AreSo script turns core is fixed tells.last) (report : Report) (took : List (List ℕ)) (ends : List LinkEnd)
-    (reports : Reports script core took report) (told : AreTold ends took) (given_back : AreEndsOf script core fixed (given core) ends) (broken : ShowBroken script turns core is ends) where
+    (reports : Reports script core took report) (told : AreTold ends took) (given_back : AreEndsOf script core fixed (given core) ends) (shown : AreShown script turns core is fixed ends) where
   timely : IsInTime script turns core is → IsTimely script turns core is fixed orders
   timely none_ = record {
     none_late = λ o op at late. nothing_there o (late_of_run script turns core is) none_.1 (so.late o late);
@@ -54,12 +53,13 @@ module _ (bytes : List ℕ) (script : List Item) (reads : script_of bytes ≡ Ok
     in_time = λ k late. nothing_there k (late_links_of_run script turns core is) none_.0 late;
   }
 
+  -- links with the server gave less than is read at most
   abbrev Few : Type 0
-  Few = GivesFew bytes script reads turns core is fixed orders (ended_length bytes script reads turns core is) tells report took ends reports told given_back
+  Few = IsUntroubled script ends → GivesFew script turns core is
 
   -- where nothing comes late in a run in which nothing went wrong
   pub timely_fits : Few → (IsUntroubled script ends → IsInTime script turns core is) → FitsWhole script (report_text script report) ends (lateness fixed)
-  timely_fits few in_time = offered_fits bytes script reads turns core is closes offers fixed orders (ended_length bytes script reads turns core is) tells so.last report took ends reports told given_back (so.early, broken) few
+  timely_fits few in_time = offered_fits bytes script reads turns core is closes offers fixed orders (ended_length bytes script reads turns core is) tells so.last report took ends reports told given_back shown few
       (λ untroubled. timely (in_time untroubled))
 
   -- as where no `join` stands in the script

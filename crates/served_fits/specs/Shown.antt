@@ -1,13 +1,11 @@
--- What is shown of a run beside its report: by the lists of what failed and came late, and by the links that were given back.
-use Rattle.std.specs.Prelude.{ℕ, ◌≡◌, ◌<◌, ◌≤◌, ◌⊎◌, ◌++◌, List, [], length, slice_get, Some, IsTrue, IsSome, Contains}
-use Rattle.brpc_model.specs.Causes.{HasFault, reading_limit}
+-- What is known of a run beside what is told of it: what is said to come late did, nothing came late, and links tell what they took.
+use Rattle.std.specs.Prelude.{ℕ, ◌≡◌, ◌<◌, ◌++◌, List, [], slice_get, Some, IsTrue, IsSome, Contains}
 use Rattle.brpc_model.specs.Items.{Item, Shape}
 use Rattle.brpc_model.specs.Link.{LinkEnd}
-use Rattle.brpc_model.specs.Operations.{Turn, link_names, link_shapes}
+use Rattle.brpc_model.specs.Operations.{Turn, link_shapes}
 use Rattle.sock_message.specs.Asked.{Asked}
 use Rattle.sock_programs.specs.declared.task.Op.TheVariants as ops
 use Rattle.sock_programs.specs.declared.task.Task.{Task}
-use Rattle.sock_programs.specs.Asides.{AtEnd, Broken}
 use Rattle.sock_programs.specs.Cores.{Core}
 use Rattle.sock_programs.specs.Told.{IsTask}
 use Rattle.sock_programs.specs.ToldCalls.{Fixed}
@@ -15,24 +13,14 @@ use Rattle.sock_programs.specs.Scripts.{all_tasks, played, IsRunWithCalls}
 use Rattle.sock_programs.specs.Tasks.{id_plan_of}
 use Rattle.sock_causes.specs.Facts.{late_of_run, late_links_of_run}
 use Rattle.owed_calls.specs.Sound.{id_word_of}
-use Rattle.whole_runs.specs.Heard.{heard_takes, given_by}
 use Rattle.call_causes.specs.Lists.{attempts_of_run}
 
 module _ (script : List Item) (turns : List Turn) (core : Core) (is : IsRunWithCalls script turns core) where
-  -- the reading of link k ended early: it gave its end, a frame with a fault, or as much as is read of it, or it failed
-  abbrev pub EndedEarly : ℕ → Type 0
-  EndedEarly k = Contains (heard_takes is k) AtEnd ⊎ (HasFault (given_by (heard_takes is k)) ⊎ ((reading_limit ≤ length (given_by (heard_takes is k))) ⊎ Contains (heard_takes is k) Broken))
-
-  -- what is fixed of the run is so: each call ended with the attempt to which the run advanced, what ended early did, and what came late did
+  -- what is fixed of the run is so: each call ended with the attempt to which the run advanced, and what is said to come late did
   pub record AreSo (fixed : Fixed) (tried : ℕ → ℕ) : Type 0 where
     pub last : (client : ℕ) (t : Task) (asked : Asked) → IsTask (all_tasks script) core.outcomes client t → t.op ≡ ops.Call asked → tried t.number ≡ attempts_of_run script turns core is t.number
-    pub early : (k : ℕ) → Contains fixed.early k → (k < length (link_names script)) × EndedEarly k
     pub late : (o : ℕ) → Contains fixed.late o → Contains (late_of_run script turns core is) o
     pub late_links : (k : ℕ) → Contains fixed.late_links k → Contains (late_links_of_run script turns core is) k
-
-  -- a link whose take failed shows it
-  abbrev pub ShowBroken : List LinkEnd → Type 0
-  ShowBroken ends = (k : ℕ) (e : LinkEnd) → Contains ends e → e.link ≡ k → Contains (heard_takes is k) Broken → 0 < e.take_faults
 
   -- no id is open where the ending begins: each call that was begun has ended
   abbrev pub NoneOpen : Type 0
