@@ -73,6 +73,8 @@ pub record OpenedNext {O : Type 0} {g : Ghosts O} (p : Plan) (o : Operation) (by
   pub pass : LinkPass O g
   pub next : old ≡ new ++ pass ∷ []
   pub opened : OpenedBy p o.name o.number pass.link by m n
+  -- it leaves the lists of accepted messages
+  pub lists : n.0.lists ≡ m.0.lists
 
 -- by what it does, with its outcome; none of a send that was accepted
 abbrev pub Acted : {O : Type 0} {g : Ghosts O} → (O → OutState) → Plan → Label → Operation → Action → Option Outcome → Stand g → Stand g → Type 0

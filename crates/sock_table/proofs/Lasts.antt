@@ -134,8 +134,9 @@ module _ {O : Type 0} {g : Ghosts O} (q p : Plan) (id : ℕ) (v : View) (ws : Li
 
   pub closes : (seats : List (Seat (SockHome O g) View)) (places : List PlaceWord) (vs : List Vref) (outs : List O) → IsAtRest p v
       → v.marks ≡ flat_map marks_in seats → v.finds ≡ flat_map finds_in seats → v.histories ≡ flat_map histories_in seats → v.stores ≡ flat_map stores_in seats → v.lists ≡ flat_map lists_in seats → v.found ≡ flat_map found_in seats
-      → WordsAre (λ (x : Vref). x.0) ref_word p.slots vs ws → WordsAre (λ (x : PlaceWord). x.0) (place_word p) (8 * p.operations) places ws → OutsOf p.requests p.links outs xs → ClosedBy g.state p seats places vs outs
-  closes seats places vs outs rest m n h k l d read placed of = record {
+      → WordsAre (λ (x : Vref). x.0) ref_word p.slots vs ws → WordsAre (λ (x : PlaceWord). x.0) (place_word p) (8 * p.operations) places ws → OutsOf p.requests p.links outs xs
+      → length vs ≡ p.slots → length places ≡ 8 * p.operations → length outs ≡ p.links → ClosedBy g.state p seats places vs outs
+  closes seats places vs outs rest m n h k l d read placed of slots indices links = record {
     view = v;
     words = ws;
     marks = m;
@@ -148,6 +149,8 @@ module _ {O : Type 0} {g : Ghosts O} (q p : Plan) (id : ℕ) (v : View) (ws : Li
     closing = subst (λ (y : List ℕ). Closing p v y) f.2 (closing f.0 rule_at id v f.1.1 all rest done.unheld);
     each = read;
     placed = placed;
+    sized = (slots, indices);
+    count = links;
     shown = λ l ll. subst (λ (y : List Entry). IsShown l y ws) (sym (ordered_log f.0 rule_at id v f.1.1 all done.bare.claims)) (subst (λ (y : List ℕ). IsShown l rule_at.rule.lawful.log y) f.2 (place_of f.0 rule_at id v f.1.1 all done.bare l ll));
     dropped = λ l ll. subst (λ (y : List Entry). IsDropTold p y v ws l) (sym (ordered_log f.0 rule_at id v f.1.1 all done.bare.claims)) (subst (λ (y : List ℕ). IsDropTold p rule_at.rule.lawful.log v y l) f.2 (drop_told f.0 rule_at id v f.1.1 all l ll));
     outs_back = out_back (ordered f.0 rule_at id v f.1.1 all done.bare.claims).log (ordered_log f.0 rule_at id v f.1.1 all done.bare.claims) outs of;

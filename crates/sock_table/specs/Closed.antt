@@ -1,5 +1,5 @@
 -- The seats that are handed in at the end, and what the table's last words say of them.
-use Rattle.std.specs.Prelude.{◌≡◌, ℕ, ◌+◌, ◌*◌, ◌<◌, ◌⊎◌, false, List, [], ◌∷◌}
+use Rattle.std.specs.Prelude.{◌≡◌, ℕ, ◌+◌, ◌*◌, ◌<◌, ◌⊎◌, false, List, [], ◌∷◌, length}
 use Rattle.std.specs.List.{flat_map}
 use Rattle.atomic_table.specs.Seated.{TableId}
 use Rattle.atomic_table.specs.declared.shared.Seat.{Seat}
@@ -71,12 +71,14 @@ pub record ClosedBy {O S : Type 0} (state : O → OutState) (p : Plan) (seats : 
   pub found : view.found ≡ flat_map (λ (s : Seat S View). s.me.0.found) seats
   pub ordered : Ordered p view.found view.lists
   pub closing : Closing p view words
-  -- one reference word for each slot, and one place word for each place index
+  -- one reference word for each slot, and one place word for each place index, and nothing behind them
   pub each : WordsAre (λ (x : Vref). x.0) ref_word p.slots vrefs words
   pub placed : WordsAre (λ (x : PlaceWord). x.0) (place_word p) (8 * p.operations) places words
+  pub sized : (length vrefs ≡ p.slots) × (length places ≡ 8 * p.operations)
   -- the word of a place index is 0, or the place of an accepted message that has this index
   pub shown : (l : ℕ) → l < 8 * p.operations → (slice_index words (place_word p l) ≡ 0) ⊎ PlaceOf p ordered.log words l
   -- which of them have the dropped bit: those of the messages that the seats noted as dropped, where the places of all labels differ
   pub dropped : (l : ℕ) → l < 8 * p.operations → IsDropTold p ordered.log view words l
-  -- one half for each link
+  -- one half for each link, and no more
+  pub count : length outs ≡ p.links
   pub outs_back : (k : ℕ) → k < p.links → OutBack state p view ordered.log words outs k

@@ -74,7 +74,8 @@ fn read_vrefs<S>(table: &ClosedTable<S, Global>, plan: &Plan, vrefs: &mut Vec<Vr
     requires full { IsFull table.now.words }
     requires words { slots_len table.now.words ≡ all_words plan.now }
     requires sized { length vrefs.old.items ≡ plan.now.slots }
-    ensures { WordsAre (λ (x : Vref). x.0) ref_word plan.now.slots vrefs.new.items (slots_items table.now.words) }
+    ensures words { WordsAre (λ (x : Vref). x.0) ref_word plan.now.slots vrefs.new.items (slots_items table.now.words) }
+    ensures sized { length vrefs.new.items ≡ plan.now.slots }
 {
     let slots = plan.slots as usize;
     let mut i = 0;
@@ -88,7 +89,8 @@ fn read_places<S>(table: &ClosedTable<S, Global>, plan: &Plan, places: &mut Vec<
     requires full { IsFull table.now.words }
     requires words { slots_len table.now.words ≡ all_words plan.now }
     requires sized { length places.old.items ≡ 8 * plan.now.operations }
-    ensures { WordsAre (λ (x : PlaceWord). x.0) (place_word plan.now) (8 * plan.now.operations) places.new.items (slots_items table.now.words) }
+    ensures words { WordsAre (λ (x : PlaceWord). x.0) (place_word plan.now) (8 * plan.now.operations) places.new.items (slots_items table.now.words) }
+    ensures sized { length places.new.items ≡ 8 * plan.now.operations }
 {
     let first = 6 * plan.slots as usize
         + plan.names as usize
@@ -111,6 +113,7 @@ fn take_outs<O: Out>(table: &mut ClosedTable<SockHome<O>, Global>, plan: &Plan, 
     requires empty { (outs.old.items ≡ []) × (vec_len outs.old ≡ 0) }
     requires room { vec_capacity outs.old ≡ plan.now.links }
     ensures outs { OutsOf plan.now.requests plan.now.links outs.new.items (slots_items table.old.slots) }
+    ensures count { length outs.new.items ≡ plan.now.links }
     ensures taken { (k : ℕ) → k < slots_len table.new.slots → slice_index_or (slots_filled table.new.slots) k false ≡ false }
 {
     let requests = plan.requests as usize;

@@ -24,6 +24,7 @@ loop-link-init g c = let h = c.loop-k.invariant in let t = c.loop-k-test.false i
   ap length c.requires.empty.0,
   c.requires.room,
   λ k lt. absurd (omega arith),
+  omega arith,
 )
 
 pub unreachable-requires : goal.unreachable-requires
@@ -42,7 +43,11 @@ loop-link-preserved g c = let h = c.loop-link.invariant in let e = c.take-home.e
   subst (λ l. OutsOf c.args.plan.now.requests (c.loop-link.link + 1) l (slots_items c.args.table.now.slots)) (sym c.push_reserved.ensures.items)
       (one_out c.args.plan.now.requests (slots_items c.args.table.now.slots) c.loop-link.link c.loop-link.outs.items c.in-Link.home h.5
       (ap (λ l. get_elem? l (c.args.plan.now.requests + c.loop-link.link)) (sym h.0) ∙ c.in-Link.ensures.value) h.7),
+  omega (arith, c.loop-link-test.true),
 )
 
 pub returns-clause-outs : goal.returns-clause-outs
 returns-clause-outs g c = λ k kl. c.loop-link.invariant.7 k (omega (arith, c.loop-link-test.false))
+
+pub returns-clause-count : goal.returns-clause-count
+returns-clause-count g c = let h = c.loop-link.invariant in omega (arith, c.loop-link-test.false, h.5, h.8)

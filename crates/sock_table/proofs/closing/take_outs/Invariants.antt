@@ -13,7 +13,7 @@ decreases-loop-k g l = l.requests - l.k
 
 abbrev pub invariant-loop-link : goal.invariant-loop-link
 invariant-loop-link g l = (slots_items l.table.slots ≡ slots_items l.fn.table.slots) × (slots_len l.table.slots ≡ slots_len l.fn.table.slots) × Filled (slots_filled l.table.slots) (l.requests + l.link) (slots_len l.table.slots) × ((j : ℕ) → j < l.requests + l.link → get_or (slots_filled l.table.slots) j false ≡ false)
-    × (vec_len l.outs ≡ l.link) × (length l.outs.items ≡ l.link) × (vec_capacity l.outs ≡ l.links) × OutsOf l.requests l.link l.outs.items (slots_items l.fn.table.slots)
+    × (vec_len l.outs ≡ l.link) × (length l.outs.items ≡ l.link) × (vec_capacity l.outs ≡ l.links) × OutsOf l.requests l.link l.outs.items (slots_items l.fn.table.slots) × (l.link ≤ l.links)
 
 abbrev pub decreases-loop-link : goal.decreases-loop-link
 decreases-loop-link g l = l.links - l.link

@@ -1,0 +1,5 @@
+pub mod Frames
+pub mod Requests
+pub mod Calls
+pub mod Calm
+pub mod Whole
