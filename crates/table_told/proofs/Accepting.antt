@@ -25,7 +25,7 @@ use Rattle.sock_rule.specs.declared.homes.SockHome.{SockHome}
 use Rattle.rpc_client.specs.declared.acting.Action.{Action}
 use Rattle.rpc_client.specs.declared.acting.Action.TheVariants as action
 use Rattle.rpc_client.specs.Acting.{label_of, Acted}
-use Rattle.table_told.specs.Besides.{Besides, moments_of}
+use Rattle.table_told.specs.Moments.{moments_of}
 use Rattle.table_told.specs.Threads.{Threaded, ThreadRun, AsksFor, seat_of}
 use Rattle.table_told.proofs.Acts.{Act, final_of}
 use Rattle.table_told.proofs.Entries.{before, pick_at, before_rises, from_pick}
@@ -65,7 +65,7 @@ both_at f h (a ∷ xs) [] c x e at = absurd (cc)
 both_at f h (a ∷ xs) (b ∷ ys) zero x e at = (b, refl, ap f (sym (some-injective a x at)) ∙ cons_first e)
 both_at f h (a ∷ xs) (b ∷ ys) (suc c) x e at = both_at f h xs ys c x (cons_rest e) at
 
-module _ {O : Type 0} {g : Ghosts O} {state : O → OutState} {p : Plan} {clients : List (List Task)} {outcomes : List (Option Outcome)} {places : List PlaceWord} {vrefs : List Vref} {outs : List O} (run : ThreadRun g state p clients outcomes places vrefs outs) (more : Besides run) where
+module _ {O : Type 0} {g : Ghosts O} {state : O → OutState} {p : Plan} {clients : List (List Task)} {outcomes : List (Option Outcome)} {places : List PlaceWord} {vrefs : List Vref} {outs : List O} (run : ThreadRun g state p clients outcomes places vrefs outs) where
   abbrev pub log : List Entry
   log = run.closed.ordered.log
 
@@ -74,7 +74,7 @@ module _ {O : Type 0} {g : Ghosts O} {state : O → OutState} {p : Plan} {client
   own y = flat_map entries_of (moments_of y.thread y.is)
 
   own_is : (c : ℕ) (y : Threaded g state p) → get_elem? run.threads c ≡ some y → (final_of run y).lists ≡ own y ∷ []
-  own_is c y at = own_list state p y.client y.tasks y.thread y.is (λ k m e. more.keeps c y at k m e)
+  own_is c y at = own_list state p y.client y.tasks y.thread y.is
 
   lists_same : map own run.threads ≡ map (λ a. pick a run.closed.ordered.by log) run.closed.ordered.names
   lists_same = sym (flat_ones (λ y. (final_of run y).lists) own run.threads own_is)

@@ -25,8 +25,7 @@ use Rattle.sock_rule.specs.OnTable.{is_put, put_in}
 use Rattle.sock_rule.specs.declared.homes.SockHome.{SockHome}
 use Rattle.sock_rule.proofs.Closes.{two_terms}
 use Rattle.sock_table.specs.Named.{HasSeen}
-use Rattle.table_told.specs.Besides.{moments_of}
-use Rattle.table_told.specs.Moments.{Moment, view_of, gain, stored}
+use Rattle.table_told.specs.Moments.{Moment, view_of, gain, stored, moments_of}
 use Rattle.table_told.specs.Threads.{Threaded, ThreadRun, IsAsked, tasks_of, seat_of}
 use Rattle.table_told.proofs.Flats.{append_first, append_later}
 use Rattle.table_told.proofs.Growing.{IsNote, HasFound}

@@ -31,9 +31,8 @@ use Rattle.sock_programs.specs.ToldCalls.{FoundFailed}
 use Rattle.sock_table.specs.declared.refs.SockRef.{SockRef}
 use Rattle.rpc_client.specs.declared.reaching.Reached.TheVariants as reached
 use Rattle.rpc_client.specs.Reaching.{ReachedBy}
-use Rattle.table_told.specs.Besides.{Besides, moments_of}
 use Rattle.table_told.specs.Left.{gave_of}
-use Rattle.table_told.specs.Moments.{Moment, view_of}
+use Rattle.table_told.specs.Moments.{Moment, view_of, moments_of}
 use Rattle.table_told.specs.Threads.{ThreadRun, Threaded}
 use Rattle.table_told.proofs.Acts.{Act, task_at, before, after, has_marks}
 use Rattle.table_told.proofs.Fails.{made_born, here_found, name_low, one_outcome}
@@ -54,7 +53,7 @@ saw_there i w v u others b =
     let e : marks_of (is_saw w) i u + 0 ≡ marks_of (is_saw w) i v + (only w w + total (is_saw w) others) = b.here (is_saw w) in
     let q = only-same w in omega arith
 
-module _ {O : Type 0} {g : Ghosts O} {state : O → OutState} {p : Plan} {clients : List (List Task)} {outcomes : List (Option Outcome)} {places : List PlaceWord} {vrefs : List Vref} {outs : List O} (run : ThreadRun g state p clients outcomes places vrefs outs) (more : Besides run) where
+module _ {O : Type 0} {g : Ghosts O} {state : O → OutState} {p : Plan} {clients : List (List Task)} {outcomes : List (Option Outcome)} {places : List PlaceWord} {vrefs : List Vref} {outs : List O} (run : ThreadRun g state p clients outcomes places vrefs outs) where
   -- what was noted behind an operation is noted before each later one of its client
   pub act_between : (b a : Act run) → b.c ≡ a.c → b.k < a.k → Grew (after run b) (before run a)
   act_between b a client less =
@@ -63,14 +62,14 @@ module _ {O : Type 0} {g : Ghosts O} {state : O → OutState} {p : Plan} {client
       (λ m is. between state p b.y.client b.y.tasks b.y.thread b.y.is b.k a.k b.m m less b.is is) a.m a.is
 
   abbrev FoundDeadAs : ℕ → ℕ → ℕ → (ℕ → Type 0) → Type 0
-  FoundDeadAs c o n P = FoundFailed p clients outcomes (fixed run more) gave_of (orders run more) c o n P
+  FoundDeadAs c o n P = FoundFailed p clients outcomes (fixed run) gave_of (orders run) c o n P
 
-  no_later : (b : Act run) (o : Outcome) → b.m.made.by ≡ Some o → (o ≡ outcome.Failed → ⊥) → (id : SocketId) (w : ℕ) → 0 < marks_of (is_saw w) (socket_id_slot id.0) (after run b) → socket_id_version id.0 < w → (k : ℕ) (f : FailedBy run more (socket_id_slot id.0) (socket_id_version id.0) k)
+  no_later : (b : Act run) (o : Outcome) → b.m.made.by ≡ Some o → (o ≡ outcome.Failed → ⊥) → (id : SocketId) (w : ℕ) → 0 < marks_of (is_saw w) (socket_id_slot id.0) (after run b) → socket_id_version id.0 < w → (k : ℕ) (f : FailedBy run (socket_id_slot id.0) (socket_id_version id.0) k)
       (t : Task) → IsTask clients outcomes b.c t → t.number ≡ number_of run f.a → number_of run f.a < number_of run b
   no_later b o by other id w saw less k f t is e =
       let client = (task_is run f.a b.c t is (sym e)).0 in
       dite (dec_lt (number_of run f.a) (number_of run b)) (λ lt. lt) (λ ge. absurd (dite (ℕ_discrete (number_of run f.a) (number_of run b))
-      (λ same. other (one_outcome run more (number_of run b) o outcome.Failed (act_told run b o by) (subst (λ n. Became clients outcomes n outcome.Failed) same (act_told run f.a outcome.Failed f.by))))
+      (λ same. other (one_outcome run (number_of run b) o outcome.Failed (act_told run b o by) (subst (λ n. Became clients outcomes n outcome.Failed) same (act_told run f.a outcome.Failed f.by))))
       (λ ne. (
       let at = earlier run b f.a (sym client) (omega arith) in
       let grew = act_between b f.a (sym client) at in
@@ -87,7 +86,7 @@ module _ {O : Type 0} {g : Ghosts O} {state : O → OutState} {p : Plan} {client
   dead b o by other id w low found known saw less P holds =
       let i = socket_id_slot id.0 in
       let h = socket_id_version id.0 in
-      let made = found_made run b b.m.operation.name id (name_low run more b) found in
+      let made = found_made run b b.m.operation.name id (name_low run b) found in
       let k = has_marks run b (is_known h) (λ x. refl) i in
       let s = has_marks run b (is_saw w) (λ x. refl) i in
       let failed = run.closed.closing.dead_failed i h w low (omega arith) (omega arith) less in
@@ -97,7 +96,7 @@ module _ {O : Type 0} {g : Ghosts O} {state : O → OutState} {p : Plan} {client
         version = h;
         made = made.1;
         holds = holds;
-        failed = elim (life_failed run more b.m.operation.name made.0 i h low made.1 (omega arith)) [
+        failed = elim (life_failed run b.m.operation.name made.0 i h low made.1 (omega arith)) [
           | inl f ↦ inl (inl (number_of run f.a, f.listed, λ t is e. no_later b o by other id w saw less made.0 f t is e))
           | inr br ↦ inl (inr (inl br))
         ];
@@ -153,8 +152,8 @@ module _ {O : Type 0} {g : Ghosts O} {state : O → OutState} {p : Plan} {client
       let k = grew.marks (is_known h) (λ x. refl) i in
       let y = r.1 in
       let seen = grew.finds record { place = name_word p b.m.operation.name; word = id.0 + 1 } (here_found p b.m.operation.name t.sock (before run b) t.has t.reached_it) in
-      let made = found_made run b b.m.operation.name id (name_low run more b) seen in
-      let even = (run.closed.closing.born_life i h r.0 (made_born run more b.m.operation.name made.0 i h made.1)).1 in
+      let made = found_made run b b.m.operation.name id (name_low run b) seen in
+      let even = (run.closed.closing.born_life i h r.0 (made_born run b.m.operation.name made.0 i h made.1)).1 in
       dead b (outcome.Already found) by (λ e. cc) id (vref_version found.0) r.0 seen (omega arith) (omega arith) (omega arith)
       (λ version. vref_version found.0 % 2 ≡ 1) (omega arith)
 
@@ -162,12 +161,12 @@ module _ {O : Type 0} {g : Ghosts O} {state : O → OutState} {p : Plan} {client
 
   pub has_life : (b : Act run) (sock : SockRef) (u : View) → ReachedBy p b.m.operation.name (reached.Here sock) (before run b) u → Grew u (after run b) → HasLife clients outcomes b.m.operation.name
   has_life b sock u r grew =
-      let made = found_made run b b.m.operation.name sock.id (name_low run more b) (grew.finds record { place = name_word p b.m.operation.name; word = sock.id.0 + 1 } (here_found p b.m.operation.name sock (before run b) u r)) in
+      let made = found_made run b b.m.operation.name sock.id (name_low run b) (grew.finds record { place = name_word p b.m.operation.name; word = sock.id.0 + 1 } (here_found p b.m.operation.name sock (before run b) u r)) in
       (made.0, socket_id_slot sock.id.0, socket_id_version sock.id.0, made.1)
 
   pub opened_cause : (b : Act run) (slot version k : ℕ) → b.m.made.by ≡ Some (outcome.Opened slot version k) → ((task_of run b).op ≡ ops.Open b.m.operation.name k) × (slot < p.slots) × (version % 2 ≡ 0) × (p.first ≤ version)
   opened_cause b slot version k by =
       let made = made_of run b slot version k by in
-      let low = made_inside run more b.m.operation.name k slot version made in
-      let life = run.closed.closing.born_life slot version low (made_born run more b.m.operation.name k slot version made) in
+      let low = made_inside run b.m.operation.name k slot version made in
+      let life = run.closed.closing.born_life slot version low (made_born run b.m.operation.name k slot version made) in
       (opened_link state p b.y.client b.y.tasks b.y.thread b.y.is b.k b.m (task_of run b) slot version k b.is (task_at run b).1 (asked_of run b) by, low, life.1, life.0)

@@ -15,7 +15,7 @@ use Rattle.sock_programs.specs.Told.{Became, AfterHold, goes_well, alternate}
 use Rattle.sock_programs.specs.ToldCalls.{Fixed, Order, Why}
 use Rattle.report_fits.proofs.Lists.{all_at}
 use Rattle.rpc_client.specs.Holding.{DroppedBy}
-use Rattle.table_told.specs.Besides.{moments_of}
+use Rattle.table_told.specs.Moments.{moments_of}
 use Rattle.table_told.specs.Threads.{ThreadRun}
 use Rattle.table_told.proofs.Acts.{Act, before, after, task_at, tasks_there}
 use Rattle.table_told.proofs.Drops.{LastHold, HeldAt, hand, goes_at, held_before, not_held, was_held}

@@ -25,7 +25,7 @@ use Rattle.rpc_client.specs.declared.acting.Action.{Action}
 use Rattle.rpc_client.specs.declared.acting.Action.TheVariants as action
 use Rattle.rpc_client.specs.Acting.{Acted, label_of}
 use Rattle.rpc_client.specs.Failing.{TriedTo}
-use Rattle.table_told.specs.Besides.{Besides, moments_of}
+use Rattle.table_told.specs.Moments.{moments_of}
 use Rattle.table_told.specs.Broken.{broken_of, faults_by, faults_of}
 use Rattle.table_told.specs.Left.{fixed_of}
 use Rattle.table_told.specs.Threads.{ThreadRun, Threaded}
@@ -61,17 +61,17 @@ paired o (Some k) y e = let q = same_Some (o, k) y e in (ap (λ (z : ℕ × ℕ)
 some_none : {A : Type 0} (x : A) (o : Option A) → o ≡ Some x → o ≡ None → ⊥
 some_none x o e f = cc
 
-module _ {O : Type 0} {g : Ghosts O} {state : O → OutState} {p : Plan} {clients : List (List Task)} {outcomes : List (Option Outcome)} {places : List PlaceWord} {vrefs : List Vref} {outs : List O} (run : ThreadRun g state p clients outcomes places vrefs outs) (more : Besides run) where
+module _ {O : Type 0} {g : Ghosts O} {state : O → OutState} {p : Plan} {clients : List (List Task)} {outcomes : List (Option Outcome)} {places : List PlaceWord} {vrefs : List Vref} {outs : List O} (run : ThreadRun g state p clients outcomes places vrefs outs) where
   -- operation o failed a life with link k
   pub record FailsLink (o k : ℕ) : Type 0 where
     pub a : Act run
     pub number : number_of run a ≡ o
     pub by : a.m.made.by ≡ Some outcome.Failed
-    pub life : FailedLife run more a
+    pub life : FailedLife run a
     pub link : life.link ≡ k
 
   fails_of : (o : ℕ) → Became clients outcomes o outcome.Failed → (k : ℕ) × FailsLink o k
-  fails_of o e = let w = act_of run o outcome.Failed e in let l = failed_life run more w.0 w.2 in (l.link, record { a = w.0; number = w.1; by = w.2; life = l; link = refl })
+  fails_of o e = let w = act_of run o outcome.Failed e in let l = failed_life run w.0 w.2 in (l.link, record { a = w.0; number = w.1; by = w.2; life = l; link = refl })
 
   failed_or_not : (o : ℕ) → Became clients outcomes o outcome.Failed ⊎ (Became clients outcomes o outcome.Failed → ⊥)
   failed_or_not o = by_cases (slice_get outcomes o) refl
@@ -133,7 +133,7 @@ module _ {O : Type 0} {g : Ghosts O} {state : O → OutState} {p : Plan} {client
   are = all_from (IsFail clients outcomes) all_fails (λ f h. is_fail f (in_fails f h))
     where
       is_fail : (f : ℕ × ℕ) → FailsLink f.0 f.1 → IsFail clients outcomes f
-      is_fail f w = subst (λ o. IsFail clients outcomes (o, f.1)) w.number (subst (λ k. IsFail clients outcomes (number_of run w.a, k)) w.link (as_fail run more w.a w.by w.life))
+      is_fail f w = subst (λ o. IsFail clients outcomes (o, f.1)) w.number (subst (λ k. IsFail clients outcomes (number_of run w.a, k)) w.link (as_fail run w.a w.by w.life))
 
   pub once : EachBefore (λ (f h : ℕ × ℕ). (f.0 ≢ h.0) × (f.1 ≢ h.1)) all_fails
   unfolding all_fails pair_of
@@ -146,7 +146,7 @@ module _ {O : Type 0} {g : Ghosts O} {state : O → OutState} {p : Plan} {client
         (λ e. (
             let a = link_for x v.1 (omega arith) lv in
             let b = link_for y w.1 low lw in
-            let n = fails_once run more a.a b.a a.by b.by a.life b.life (a.link ∙ (e ∙ sym b.link)) in
+            let n = fails_once run a.a b.a a.by b.by a.life b.life (a.link ∙ (e ∙ sym b.link)) in
             let na = a.number in let nb = b.number in omega arith)),
       )
 
@@ -169,27 +169,27 @@ module _ {O : Type 0} {g : Ghosts O} {state : O → OutState} {p : Plan} {client
   pub record FailedBy (i h k : ℕ) : Type 0 where
     pub a : Act run
     pub by : a.m.made.by ≡ Some outcome.Failed
-    pub life : FailedLife run more a
+    pub life : FailedLife run a
     pub slot : socket_id_slot life.tried.sock.id.0 ≡ i
     pub version : socket_id_version life.tried.sock.id.0 ≡ h
     pub listed : Contains all_fails (number_of run a, k)
 
-  pub life_failed : (n k i h : ℕ) → i < p.slots → MadeHere run more n k i h → 0 < marks_of (is_failer h) i (All run) → FailedBy i h k ⊎ Contains broken k
+  pub life_failed : (n k i h : ℕ) → i < p.slots → MadeHere run n k i h → 0 < marks_of (is_failer h) i (All run) → FailedBy i h k ⊎ Contains broken k
   life_failed n k i h low made some_ =
       let w = marks_from run (is_failer h) (failer_life h) i some_ in
       let a = w.0 in
       by_source a a.m.operation.action a.m.made.by a.m.made.acted
       (λ code is t slot version by. (
-      let l = life_by run more a code is t in
+      let l = life_by run a code is t in
       let e = each_failed (number_of run a) (act_told run a outcome.Failed by) in
-      let mine : l.link ≡ k = (life_is run more a.m.operation.name n l.link k i h (at_life a.m.operation.name l.link (socket_id_slot t.sock.id.0) (socket_id_version t.sock.id.0) slot version l.made) made).1 in
-      let its : e.0 ≡ k = sym e.2.link ∙ (same_link run more e.2.a a e.2.number e.2.life l ∙ mine) in
+      let mine : l.link ≡ k = (life_is run a.m.operation.name n l.link k i h (at_life a.m.operation.name l.link (socket_id_slot t.sock.id.0) (socket_id_version t.sock.id.0) slot version l.made) made).1 in
+      let its : e.0 ≡ k = sym e.2.link ∙ (same_link run e.2.a a e.2.number e.2.life l ∙ mine) in
       inl record { a = a; by = by; life = l; slot = slot; version = version; listed = subst (λ x. Contains all_fails (number_of run a, x)) its e.1 }))
       (λ j l listed met. inr (is_broken a j k (listed ∙ ap some (met_link l met))))
       (acted_source (is_failer h) (failer_life h) state p (label_of a.y.client a.m.order a.m.operation) a.m.operation a.m.operation.action a.m.made.by a.m.before.has a.m.after.has (acted_of run a) i w.1)
     where
-      at_life : (m l j v : ℕ) → j ≡ i → v ≡ h → MadeHere run more m l j v → MadeHere run more m l i h
-      at_life m l j v a b made = subst (λ x. MadeHere run more m l x h) a (subst (λ x. MadeHere run more m l j x) b made)
+      at_life : (m l j v : ℕ) → j ≡ i → v ≡ h → MadeHere run m l j v → MadeHere run m l i h
+      at_life m l j v a b made = subst (λ x. MadeHere run m l x h) a (subst (λ x. MadeHere run m l j x) b made)
 
       -- a link that a seat met of this life is the life's
       met_link : (l : ℕ) → ((a : Act run) × (0 < marks_of (is_met h l) i (after run a))) → l ≡ k
@@ -197,7 +197,7 @@ module _ {O : Type 0} {g : Ghosts O} {state : O → OutState} {p : Plan} {client
           let met = has_marks run w.0 (is_met h l) (λ x. refl) i in
           let m = w.1 in
           let other = linked_made run i h l (run.closed.closing.met_linked i h l low (omega arith)) in
-          (life_is run more other.0 n l k i h other.1 made).1
+          (life_is run other.0 n l k i h other.1 made).1
 
       by_source : (a : Act run) (act : Action) (by : Option Outcome) (b : Acted state p (label_of a.y.client a.m.order a.m.operation) a.m.operation act by a.m.before.has a.m.after.has)
           → ((code : ℕ) → act ≡ action.Fail code → (t : TriedTo p a.m.operation.name code outcome.Failed (before run a) (after run a)) → socket_id_slot t.sock.id.0 ≡ i → socket_id_version t.sock.id.0 ≡ h → by ≡ Some outcome.Failed → FailedBy i h k ⊎ Contains broken k)

@@ -38,7 +38,6 @@ use Rattle.rpc_client.specs.declared.reaching.Reached.TheVariants as reached
 use Rattle.rpc_client.specs.Acting.{Stand, Acted, label_of}
 use Rattle.rpc_client.specs.Failing.{TriedTo, FailedBy}
 use Rattle.rpc_client.specs.Reaching.{ReachedBy}
-use Rattle.table_told.specs.Besides.{Besides}
 use Rattle.table_told.specs.Moments.{view_of}
 use Rattle.table_told.specs.Threads.{ThreadRun, AsksFor}
 use Rattle.table_told.proofs.Acts.{Act, All, before, after, has_marks, once_added}
@@ -107,7 +106,7 @@ link_in : Op → ℕ
 link_in (ops.Open n k) = k
 link_in other = 0
 
-module _ {O : Type 0} {g : Ghosts O} {state : O → OutState} {p : Plan} {clients : List (List Task)} {outcomes : List (Option Outcome)} {places : List PlaceWord} {vrefs : List Vref} {outs : List O} (run : ThreadRun g state p clients outcomes places vrefs outs) (more : Besides run) where
+module _ {O : Type 0} {g : Ghosts O} {state : O → OutState} {p : Plan} {clients : List (List Task)} {outcomes : List (Option Outcome)} {places : List PlaceWord} {vrefs : List Vref} {outs : List O} (run : ThreadRun g state p clients outcomes places vrefs outs) where
   abbrev pub MadeHere : ℕ → ℕ → ℕ → ℕ → Type 0
   MadeHere n k slot version = Made clients outcomes n k slot version
 
@@ -124,7 +123,7 @@ module _ {O : Type 0} {g : Ghosts O} {state : O → OutState} {p : Plan} {client
   pub life_is : (n m k l slot version : ℕ) → MadeHere n k slot version → MadeHere m l slot version → (n ≡ m) × (k ≡ l)
   unfolding name_in link_in
   life_is n m k l slot version a b =
-      let same = (same_task run a.client b.client a.task b.task a.is b.is (lives run more n k m l slot version a b)).1 in
+      let same = (same_task run a.client b.client a.task b.task a.is b.is (lives run n k m l slot version a b)).1 in
       let op : ops.Open n k ≡ ops.Open m l = sym a.op ∙ (ap (λ (t : Task). t.op) same ∙ b.op) in
       (ap name_in op, ap link_in op)
 
@@ -191,7 +190,7 @@ module _ {O : Type 0} {g : Ghosts O} {state : O → OutState} {p : Plan} {client
       let j = socket_id_slot m.tried.sock.id.0 in
       let r = socket_id_version m.tried.sock.id.0 in
       let q : (i ≡ j) × (h ≡ r) = link_is a.m.operation.name b.m.operation.name l.link i j h r l.made (subst (λ k. MadeHere b.m.operation.name k j r) (sym same) m.made) in
-      let few = failer_once i h (made_inside run more a.m.operation.name l.link i h l.made) (made_born a.m.operation.name l.link i h l.made) in
+      let few = failer_once i h (made_inside run a.m.operation.name l.link i h l.made) (made_born a.m.operation.name l.link i h l.made) in
       let mine = tried_fails p a.m.operation.name l.code (before run a) (after run a) l.tried in
       let its = tried_fails p b.m.operation.name m.code (before run b) (after run b) m.tried in
       let its_ : marks_of (is_failer h) i (before run b) < marks_of (is_failer h) i (after run b) = subst (λ x. marks_of (is_failer h) x (before run b) < marks_of (is_failer h) x (after run b)) (sym q.0) (subst (λ x. marks_of (is_failer x) j (before run b) < marks_of (is_failer x) j (after run b)) (sym q.1) its) in

@@ -25,7 +25,6 @@ use Rattle.rpc_client.specs.declared.acting.Action.TheVariants as action
 use Rattle.rpc_client.specs.declared.acting.Operation.{Operation}
 use Rattle.rpc_client.specs.Acting.{Stand, Acted, label_of}
 use Rattle.rpc_client.specs.Opening.{OpenedBy}
-use Rattle.table_told.specs.Besides.{Besides}
 use Rattle.table_told.specs.Threads.{ThreadRun}
 use Rattle.table_told.proofs.Acts.{Act, All, before, after, task_at, has_found, marks_from, puts_from, once_added}
 use Rattle.table_told.proofs.Growing.{HasFound, put_grew}
@@ -127,16 +126,15 @@ module _ {O : Type 0} {g : Ghosts O} {state : O → OutState} {p : Plan} {client
       let made = made_of b (socket_id_slot u.4.id.0) (socket_id_version u.4.id.0) u.1 (u.3 ∙ ap Some u.4.opened) in
       (u.1, subst (λ m. Made clients outcomes m u.1 (socket_id_slot id.0) (socket_id_version id.0)) u.4.name_is (subst (λ x. Made clients outcomes b.m.operation.name u.1 (socket_id_slot x) (socket_id_version x)) q made))
 
-  module _ (more : Besides run) where
-    -- a socket that was opened is of a slot of the table
-    pub made_inside : (n k slot version : ℕ) → Made clients outcomes n k slot version → slot < p.slots
-    made_inside n k slot version m = let w = maker n k slot version m in let a = w.0 in acted_inside state p (label_of a.y.client a.m.order a.m.operation) a.m.operation a.m.operation.action a.m.made.by slot version k a.m.before.has a.m.after.has (acted_of a) w.1
+  -- a socket that was opened is of a slot of the table
+  pub made_inside : (n k slot version : ℕ) → Made clients outcomes n k slot version → slot < p.slots
+  made_inside n k slot version m = let w = maker n k slot version m in let a = w.0 in acted_inside state p (label_of a.y.client a.m.order a.m.operation) a.m.operation a.m.operation.action a.m.made.by slot version k a.m.before.has a.m.after.has (acted_of a) w.1
 
-    -- no two opens made the same life
-    pub lives : (n k m l slot version : ℕ) (a : Made clients outcomes n k slot version) (b : Made clients outcomes m l slot version) → a.task.number ≡ b.task.number
-    lives n k m l slot version a b =
-        let x = maker n k slot version a in
-        let y = maker m l slot version b in
-        let low = made_inside n k slot version a in
-        let q = once_added run (is_born version) (born_life version) slot (run.closed.closing.born_once slot version low) x.0 y.0 (act_born x.0 slot version k x.1) (act_born y.0 slot version l y.1) in
-        sym x.4 ∙ (same_number run x.0 y.0 q.0 q.1 ∙ y.4)
+  -- no two opens made the same life
+  pub lives : (n k m l slot version : ℕ) (a : Made clients outcomes n k slot version) (b : Made clients outcomes m l slot version) → a.task.number ≡ b.task.number
+  lives n k m l slot version a b =
+      let x = maker n k slot version a in
+      let y = maker m l slot version b in
+      let low = made_inside n k slot version a in
+      let q = once_added run (is_born version) (born_life version) slot (run.closed.closing.born_once slot version low) x.0 y.0 (act_born x.0 slot version k x.1) (act_born y.0 slot version l y.1) in
+      sym x.4 ∙ (same_number run x.0 y.0 q.0 q.1 ∙ y.4)

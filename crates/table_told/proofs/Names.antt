@@ -20,9 +20,8 @@ use Rattle.sock_programs.specs.ToldCalls.{FoundNone, Seeks}
 use Rattle.rpc_client.specs.declared.acting.Action.{Action}
 use Rattle.rpc_client.specs.declared.acting.Action.TheVariants as action
 use Rattle.rpc_client.specs.Acting.{Acted, label_of}
-use Rattle.table_told.specs.Besides.{Besides, moments_of}
 use Rattle.table_told.specs.Left.{gave_of}
-use Rattle.table_told.specs.Moments.{Moment}
+use Rattle.table_told.specs.Moments.{Moment, moments_of}
 use Rattle.table_told.specs.Threads.{ThreadRun, Threaded}
 use Rattle.table_told.proofs.Acts.{Act, All as AllView, before, has_marks, marks_from}
 use Rattle.table_told.proofs.Failing.{fixed}
@@ -110,7 +109,7 @@ asks_open op n k name a e asks = at_open a (subst (λ x. AsksFor x name a) e ask
     at_open action.Open asks = asks
     at_open other asks = elim asks [ ]
 
-module _ {O : Type 0} {g : Ghosts O} {state : O → OutState} {p : Plan} {clients : List (List Task)} {outcomes : List (Option Outcome)} {places : List PlaceWord} {vrefs : List Vref} {outs : List O} (run : ThreadRun g state p clients outcomes places vrefs outs) (more : Besides run) where
+module _ {O : Type 0} {g : Ghosts O} {state : O → OutState} {p : Plan} {clients : List (List Task)} {outcomes : List (Option Outcome)} {places : List PlaceWord} {vrefs : List Vref} {outs : List O} (run : ThreadRun g state p clients outcomes places vrefs outs) where
   -- an earlier operation of its client neither opened nor found the name
   not_found : (a b : Act run) → a.c ≡ b.c → a.k < b.k → b.m.made.by ≡ Some outcome.Unopened → finds_name a.m.made.by ≡ true → a.m.operation.name ≢ b.m.operation.name
   not_found a b client less by found =
@@ -119,7 +118,7 @@ module _ {O : Type 0} {g : Ghosts O} {state : O → OutState} {p : Plan} {client
       subst (λ (z : Threaded g state p). (m : Moment g state p z.client) → get_elem? (moments_of z.thread z.is) a.k ≡ some m → finds_name m.made.by ≡ true → P m.operation.name) y
       (λ m is f. before_names state p b.y.client b.y.thread.operations P b.y.is.ran.made (first state p b.y.client b.y.tasks b.y.thread b.y.is) (last state p b.y.client b.y.tasks b.y.thread b.y.is) b.y.is.ran.ran.ran a.k b.k m b.m less is b.is (b.m.made.first by) f) a.m a.is found
 
-  pub unopened_cause : (b : Act run) → 0 < b.c → b.m.made.by ≡ Some outcome.Unopened → (HasSeen (name_word p b.m.operation.name) (before run b) → ⊥) → FoundNone p clients outcomes (fixed run more) gave_of (orders run more) b.c (number_of run b) b.m.operation.name
+  pub unopened_cause : (b : Act run) → 0 < b.c → b.m.made.by ≡ Some outcome.Unopened → (HasSeen (name_word p b.m.operation.name) (before run b) → ⊥) → FoundNone p clients outcomes (fixed run) gave_of (orders run) b.c (number_of run b) b.m.operation.name
   unopened_cause b some_ by unseen = record {
     setup = λ t is k slot version op became. (let w = run.waited b.c b.y b.at some_ t b.m.operation.name k slot version is op became in unseen (knows_first state p b.y.client b.y.tasks b.y.thread b.y.is b.k b.m b.is w.0 b.m.operation.name w.1));
     own = λ t is less. (none_opened t is less, none_sought t is less);
@@ -134,13 +133,13 @@ module _ {O : Type 0} {g : Ghosts O} {state : O → OutState} {p : Plan} {client
           let name = asks_open (task_of run a).op b.m.operation.name k a.m.operation.name a.m.operation.action (ap (λ (x : Task). x.op) at.1 ∙ op) (asked_of run a).asks in
           not_found a b at.0 (earlier run a b at.0 (omega arith)) by (ap finds_name w.2) name
 
-      none_sought : (t : Task) → IsTask clients outcomes b.c t → t.number < number_of run b → Seeks p clients outcomes (fixed run more) gave_of (orders run more) b.m.operation.name t.op → Became clients outcomes t.number outcome.Unopened
+      none_sought : (t : Task) → IsTask clients outcomes b.c t → t.number < number_of run b → Seeks p clients outcomes (fixed run) gave_of (orders run) b.m.operation.name t.op → Became clients outcomes t.number outcome.Unopened
       none_sought t is less seeks =
           let w = act_made run b.c t is in
           let a = w.0 in
           let n = w.2 in
-          let sought = subst (λ (x : Task). Seeks p clients outcomes (fixed run more) gave_of (orders run more) b.m.operation.name x.op) (sym w.3) seeks in
-          let f = seeks_finds state p clients outcomes (fixed run more) gave_of (orders run more) (label_of a.y.client a.m.order a.m.operation) a.m.operation b.m.operation.name a.m.operation.name (task_of run a).op a.m.operation.action a.m.made.by a.m.before.has a.m.after.has (asked_of run a).asks sought (acted_of run a) in
+          let sought = subst (λ (x : Task). Seeks p clients outcomes (fixed run) gave_of (orders run) b.m.operation.name x.op) (sym w.3) seeks in
+          let f = seeks_finds state p clients outcomes (fixed run) gave_of (orders run) (label_of a.y.client a.m.order a.m.operation) a.m.operation b.m.operation.name a.m.operation.name (task_of run a).op a.m.operation.action a.m.made.by a.m.before.has a.m.after.has (asked_of run a).asks sought (acted_of run a) in
           elim f.1 [
             | inl found ↦ absurd (not_found a b w.1 (earlier run a b w.1 (omega arith)) by found f.0)
             | inr none_ ↦ subst (λ x. Became clients outcomes x outcome.Unopened) w.2 (act_told run a outcome.Unopened none_)

@@ -20,8 +20,7 @@ use Rattle.rpc_client.specs.declared.acting.Operation.{Operation}
 use Rattle.rpc_client.specs.declared.holding.Held.{Held}
 use Rattle.rpc_client.specs.Acting.{Stand, stand}
 use Rattle.rpc_client.specs.Running.{Course, begins, LeftFirst, GaveFirst}
-use Rattle.table_told.specs.Besides.{moments_of, KeepsAtOpen}
-use Rattle.table_told.specs.Moments.{Moment, view_of, tells, gain, stored}
+use Rattle.table_told.specs.Moments.{Moment, view_of, tells, gain, stored, moments_of}
 use Rattle.table_told.specs.Threads.{Thread, IsThread, FoundEach, AreAsked, IsAsked}
 use Rattle.table_told.proofs.Growing.{Grew, stays, grew_then, found_grew, returned_grew}
 use Rattle.table_told.proofs.Moments.{moments_long, moment_is, ends_grew, begins_grew, between_grew, told_is, gains, stores}
@@ -171,7 +170,7 @@ module _ {O : Type 0} {g : Ghosts O} (state : O → OutState) (p : Plan) (c : �
       let e = waited_puts y n p x.names (newcomer p [] th.spare) (view_of first) begin_view in
       omega arith
 
-  pub own_list : ((k : ℕ) (m : Moment g state p c) → get_elem? ms k ≡ some m → KeepsAtOpen m) → final.lists ≡ flat_map entries_of ms ∷ []
-  own_list keeps = gave_lists th.ran.end.held (length th.ran.end.held) th.ran.end.me.0 final th.ran.given
+  pub own_list : final.lists ≡ flat_map entries_of ms ∷ []
+  own_list = gave_lists th.ran.end.held (length th.ran.end.held) th.ran.end.me.0 final th.ran.given
       ∙ (ap (λ (v : View). v.lists) end_view
-      ∙ run_lists state p c x.operations th.ran.made first last th.ran.ran.ran keeps [] [] (waited_lists p x.names (newcomer p [] th.spare) (view_of first) begin_view))
+      ∙ run_lists state p c x.operations th.ran.made first last th.ran.ran.ran [] [] (waited_lists p x.names (newcomer p [] th.spare) (view_of first) begin_view))

@@ -23,8 +23,6 @@ use Rattle.sock_model.specs.Deliveries.{whole, Taken, place_value}
 use Rattle.sock_model.specs.Entries.{on}
 use Rattle.sock_model.specs.Fifo.{IsFifo}
 use Rattle.sock_model.specs.Layout.{place_word}
-use Rattle.sock_model.specs.SlotRows.{marks_of}
-use Rattle.sock_model.specs.Weights.{is_linked, is_failer}
 use Rattle.sock_causes.proofs.Members.{all_in}
 use Rattle.sock_causes.proofs.Tasks.{fits_of}
 use Rattle.sock_programs.specs.declared.task.Op.TheVariants as ops
@@ -37,7 +35,6 @@ use Rattle.sock_programs.specs.Told.{IsTask, Became, TaskFits, OpFits}
 use Rattle.sock_programs.specs.ToldCalls.{Accepted, Order, Fixed, AreOrders, IsTaken, StandsAt, StandsOn, InOwnOrder, bytes_of, label}
 use Rattle.report_fits.proofs.Lists.{before_from}
 use Rattle.sock_rule.specs.Closing.{LifeFailed}
-use Rattle.table_told.specs.Besides.{Besides}
 use Rattle.table_told.specs.Left.{accepted_of, orders_of, homes_of, core_of, gave_of}
 use Rattle.table_told.specs.Threads.{ThreadRun}
 use Rattle.table_told.proofs.Accepting.{log, places_differ, act_of_entry, entry_of_act, sent_place, in_order, asks_send}
@@ -136,18 +133,18 @@ accepted_there (x ∷ es) (suc i) e h = accepted_there es i e h
 label_is : (e : Entry) → label (accepted_of e) ≡ e.heading.place
 label_is e = omega arith
 
-module _ {O : Type 0} {g : Ghosts O} {state : O → OutState} {p : Plan} {clients : List (List Task)} {outcomes : List (Option Outcome)} {places : List PlaceWord} {vrefs : List Vref} {outs : List O} (run : ThreadRun g state p clients outcomes places vrefs outs) (more : Besides run) where
+module _ {O : Type 0} {g : Ghosts O} {state : O → OutState} {p : Plan} {clients : List (List Task)} {outcomes : List (Option Outcome)} {places : List PlaceWord} {vrefs : List Vref} {outs : List O} (run : ThreadRun g state p clients outcomes places vrefs outs) where
   -- what a link took, and how many messages whole
   pub record LinkEnds (k : ℕ) (x : List ℕ × ℕ) : Type 0 where
-    pub fifo : IsFifo (λ l. slice_index run.closed.words (place_word p l)) k (on k (log run more)) x.1 x.0
-    pub failed : x.1 < length (on k (log run more)) → LifeFailed p run.closed.view k
+    pub fifo : IsFifo (λ l. slice_index run.closed.words (place_word p l)) k (on k (log run)) x.1 x.0
+    pub failed : x.1 < length (on k (log run)) → LifeFailed p run.closed.view k
     pub out : O
     pub there : get_elem? outs k ≡ some out
     pub own : (state out).link ≡ k
     pub tells : ForSome (state out).took (λ bytes. bytes ≡ x.0)
 
   pub ends : (f : ℕ → List ℕ × ℕ) × ((k : ℕ) → k < p.links → LinkEnds k (f k))
-  ends = choose LinkEnds ([], 0) p.links (λ k low. (let b = run.closed.outs_back k low in ((b.took, b.took_is.kept), record { fifo = b.took_is.fifo (places_differ run more); failed = b.took_is.failed; out = b.out; there = b.there; own = b.own; tells = b.tells })))
+  ends = choose LinkEnds ([], 0) p.links (λ k low. (let b = run.closed.outs_back k low in ((b.took, b.took_is.kept), record { fifo = b.took_is.fifo (places_differ run); failed = b.took_is.failed; out = b.out; there = b.there; own = b.own; tells = b.tells })))
 
   abbrev pub took : ℕ → List ℕ
   took k = (ends.0 k).0
@@ -159,16 +156,16 @@ module _ {O : Type 0} {g : Ghosts O} {state : O → OutState} {p : Plan} {client
   left = core_of p run.closed.words took outcomes
 
   abbrev pub orders : ℕ → Order
-  orders = orders_of (log run more) kept
+  orders = orders_of (log run) kept
 
   -- ## Its sends
 
-  pub entry_on : (k i : ℕ) (a : Accepted) → StandsAt orders k i a → (e : Entry) × (get_elem? (on k (log run more)) i ≡ some e) × (accepted_of e ≡ a) × (q : ℕ) × (get_elem? (log run more) q ≡ some e) × (e.link ≡ k)
-  entry_on k i a at = let w = accepted_at (on k (log run more)) i a at in let f = from_on k (log run more) i w.0 w.1 in (w.0, w.1, w.2, f.0, f.1, f.2)
+  pub entry_on : (k i : ℕ) (a : Accepted) → StandsAt orders k i a → (e : Entry) × (get_elem? (on k (log run)) i ≡ some e) × (accepted_of e ≡ a) × (q : ℕ) × (get_elem? (log run) q ≡ some e) × (e.link ≡ k)
+  entry_on k i a at = let w = accepted_at (on k (log run)) i a at in let f = from_on k (log run) i w.0 w.1 in (w.0, w.1, w.2, f.0, f.1, f.2)
 
-  has_bytes : (q : ℕ) (e : Entry) → get_elem? (log run more) q ≡ some e → e.bytes ≢ []
+  has_bytes : (q : ℕ) (e : Entry) → get_elem? (log run) q ≡ some e → e.bytes ≢ []
   has_bytes q e at =
-      let w = act_of_entry run more q e at in
+      let w = act_of_entry run q e at in
       let t = task_of run w.0 in
       let op = asks_send t.op w.0.m.operation.name w.0.m.operation.action w.1.bytes (asked_of run w.0).asks w.1.sends in
       let bytes : w.1.bytes ≡ e.bytes = sym w.1.sent.delivered.accepted.bytes_is ∙ ap (λ (x : Entry). x.bytes) w.1.entry in
@@ -182,7 +179,7 @@ module _ {O : Type 0} {g : Ghosts O} {state : O → OutState} {p : Plan} {client
 
   -- ## The orders
 
-  word_at : (k i : ℕ) (e : Entry) → k < p.links → get_elem? (on k (log run more)) i ≡ some e → slice_index run.closed.words (place_word p e.heading.place) ≡ place_value (nat_le (kept k) i) k i
+  word_at : (k i : ℕ) (e : Entry) → k < p.links → get_elem? (on k (log run)) i ≡ some e → slice_index run.closed.words (place_word p e.heading.place) ≡ place_value (nat_le (kept k) i) k i
   word_at k i e low at =
       let f = (ends.1 k low).fifo in
       dite (dec_lt i (kept k))
@@ -198,17 +195,17 @@ module _ {O : Type 0} {g : Ghosts O} {state : O → OutState} {p : Plan} {client
   pub are_orders : AreOrders p left orders
   are_orders = record {
     written = λ k i a low at. (let w = entry_on k i a at in ap (λ l. slice_index run.closed.words (place_word p l)) (ap label (sym w.2) ∙ label_is w.0) ∙ word_at k i w.0 low w.1);
-    alone = λ l low. ⊎_elim (λ none_. inl none_) (λ w. inr (w.link, w.position, accepted_of w.entry, w.inside, accepted_there (on w.link (log run more)) w.position w.entry w.there, sym w.own ∙ sym (label_is w.entry))) (run.closed.shown l low);
-    within = λ k low. (let c = (ends.1 k low).fifo.count in let n = map_long accepted_of (on k (log run more)) in omega arith);
-    taken = λ k low. subst (IsTaken (orders k)) (sym (took_home p took k low)) (taken_of (on k (log run more)) (kept k) (took k) (λ i e at. (let w = from_on k (log run more) i e at in has_bytes w.0 e w.1)) (ends.1 k low).fifo.took_is);
+    alone = λ l low. ⊎_elim (λ none_. inl none_) (λ w. inr (w.link, w.position, accepted_of w.entry, w.inside, accepted_there (on w.link (log run)) w.position w.entry w.there, sym w.own ∙ sym (label_is w.entry))) (run.closed.shown l low);
+    within = λ k low. (let c = (ends.1 k low).fifo.count in let n = map_long accepted_of (on k (log run)) in omega arith);
+    taken = λ k low. subst (IsTaken (orders k)) (sym (took_home p took k low)) (taken_of (on k (log run)) (kept k) (took k) (λ i e at. (let w = from_on k (log run) i e at in has_bytes w.0 e w.1)) (ends.1 k low).fifo.took_is);
     apart = λ k l i j a b low_k low_l at bt same. (
         let v = entry_on k i a at in
         let w = entry_on l j b bt in
         let place : v.0.heading.place ≡ w.0.heading.place = sym (label_is v.0) ∙ (ap label v.2 ∙ (same ∙ (ap label (sym w.2) ∙ label_is w.0))) in
-        let q : v.3 ≡ w.3 = places_differ run more v.3 w.3 v.0 w.0 v.4 w.4 place in
-        let e : v.0 ≡ w.0 = some-injective v.0 w.0 (sym v.4 ∙ (ap (get_elem? (log run more)) q ∙ w.4)) in
+        let q : v.3 ≡ w.3 = places_differ run v.3 w.3 v.0 w.0 v.4 w.4 place in
+        let e : v.0 ≡ w.0 = some-injective v.0 w.0 (sym v.4 ∙ (ap (get_elem? (log run)) q ∙ w.4)) in
         let links : k ≡ l = sym v.5 ∙ (ap (λ (x : Entry). x.link) e ∙ w.5) in
-        (links, distinct_filter (λ (x : Entry). x.heading.place) (λ (x : Entry). eqb x.link l) (log run more) (places_differ run more) i j v.0 w.0 (subst (λ m. get_elem? (on m (log run more)) i ≡ some v.0) links v.1) w.1 place));
+        (links, distinct_filter (λ (x : Entry). x.heading.place) (λ (x : Entry). eqb x.link l) (log run) (places_differ run) i j v.0 w.0 (subst (λ m. get_elem? (on m (log run)) i ≡ some v.0) links v.1) w.1 place));
   }
     where
       map_long : {A B : Type 0} (f : A → B) (xs : List A) → length (map f xs) ≡ length xs
@@ -221,13 +218,13 @@ module _ {O : Type 0} {g : Ghosts O} {state : O → OutState} {p : Plan} {client
     -- a send that was accepted stands in the order of its link
     pub accepted_stands : (a : Act run) → a.m.made.by ≡ None → (k : ℕ) × StandsOn p clients outcomes fixed gave_of orders (number_of run a) 0 k
     accepted_stands a none_ =
-        let w = entry_of_act run more a none_ in
+        let w = entry_of_act run a none_ in
         let e = w.1 in
-        let place = sent_place run more a e w.3 in
+        let place = sent_place run a e w.3 in
         let link : w.3.sent.delivered.accepted.entry.link ≡ e.link = ap (λ (x : Entry). x.link) w.3.entry in
         let inside = w.3.sent.delivered.accepted.inside in
-        let i = on_there e.link (log run more) w.0 e w.2 refl in
-        (e.link, (i.0, (omega arith, accepted_of e, accepted_there (on e.link (log run more)) i.0 e i.1, omega arith, omega arith)))
+        let i = on_there e.link (log run) w.0 e w.2 refl in
+        (e.link, (i.0, (omega arith, accepted_of e, accepted_there (on e.link (log run)) i.0 e i.1, omega arith, omega arith)))
 
     -- each task has an outcome, or is a `send` whose message was accepted
     pub told : (c : ℕ) (t : Task) → IsTask clients outcomes c t → ((outcome : Outcome) × Became clients outcomes t.number outcome) ⊎ ((k : ℕ) × StandsOn p clients outcomes fixed gave_of orders t.number 0 k)
@@ -242,9 +239,9 @@ module _ {O : Type 0} {g : Ghosts O} {state : O → OutState} {p : Plan} {client
     own_order k = before_from (InOwnOrder p clients outcomes fixed gave_of orders) (orders k).accepted (λ i j a b less at bt. λ c t u is also number_t number_u first_a first_b. (
         let v = entry_on k i a at in
         let w = entry_on k j b bt in
-        let r = on_rises k (log run more) i j v.0 w.0 less v.1 w.1 in
+        let r = on_rises k (log run) i j v.0 w.0 less v.1 w.1 in
         let op_a : v.0.heading.place / 8 ≡ t.number = ap (λ (x : Accepted). x.operation) v.2 ∙ sym number_t in
         let at_a : v.0.heading.place % 8 ≡ 0 = ap (λ (x : Accepted). x.attempt) v.2 ∙ first_a in
         let op_b : w.0.heading.place / 8 ≡ u.number = ap (λ (x : Accepted). x.operation) w.2 ∙ sym number_u in
         let at_b : w.0.heading.place % 8 ≡ 0 = ap (λ (x : Accepted). x.attempt) w.2 ∙ first_b in
-        in_order run more r.0 r.1 v.0 w.0 c t u r.2 r.3 r.4 is also (omega arith) (omega arith)))
+        in_order run r.0 r.1 v.0 w.0 c t u r.2 r.3 r.4 is also (omega arith) (omega arith)))

@@ -20,8 +20,7 @@ use Rattle.sock_causes.proofs.Tasks.{one_task, sorted_of}
 use Rattle.report_fits.proofs.Lists.{has_from, contains_from, before_at}
 use Rattle.rpc_client.specs.declared.acting.Told.{Told}
 use Rattle.rpc_client.specs.Running.{telling}
-use Rattle.table_told.specs.Besides.{moments_of}
-use Rattle.table_told.specs.Moments.{Moment, tells}
+use Rattle.table_told.specs.Moments.{Moment, tells, moments_of}
 use Rattle.table_told.specs.Threads.{Threaded, ThreadRun, IsAsked, tasks_of}
 use Rattle.table_told.proofs.Acts.{Act, task_at, tasks_there, get_map}
 use Rattle.table_told.proofs.Flats.{flat_from, flat_there}

@@ -11,7 +11,6 @@ use Rattle.sock_words.specs.declared.plain.Plan.{Plan}
 use Rattle.sock_model.specs.declared.chain.Entry.{Entry}
 use Rattle.sock_model.specs.declared.view.View.{View}
 use Rattle.sock_model.specs.ChainRows.{more}
-use Rattle.chain_laws.proofs.Lists.{at_longer, at_last}
 use Rattle.sock_rule.specs.declared.homes.Letter.{Letter}
 use Rattle.rpc_client.specs.declared.acting.Action.{Action}
 use Rattle.rpc_client.specs.declared.acting.Action.TheVariants as action
@@ -27,7 +26,6 @@ use Rattle.rpc_client.specs.Running.{Course, Ran}
 use Rattle.rpc_client.specs.Sending.{SentBy, SentWith}
 use Rattle.rpc_client.proofs.Delivering.{came_lists}
 use Rattle.rpc_client.proofs.Finding.{set_others}
-use Rattle.table_told.specs.Besides.{KeepsAtOpen}
 use Rattle.table_told.specs.Moments.{Moment, moments, view_of}
 use Rattle.table_told.proofs.Moments.{flat-append}
 
@@ -116,30 +114,29 @@ module _ {O : Type 0} (state : O → OutState) (p : Plan) where
     entries_small action.Drop by s t b = omega arith
     entries_small (action.Fail code) by s t b = omega arith
 
-    -- the own list grows by it; of an `open` that is another clause
-    pub acted_lists : (a : Action) (by : Option Outcome) (s t : Stand g) (b : Acted state p label o a by s t) → (a ≡ action.Open → t.me.0.lists ≡ s.me.0.lists) → (l : List Entry) (ls : List (List Entry)) → s.me.0.lists ≡ l ∷ ls → t.me.0.lists ≡ (l ++ entries_by a by s t b) ∷ ls
-    acted_lists action.Open by s t b kept l ls is = kept refl ∙ (is ∙ ap (λ x. x ∷ ls) (sym (append-nil l)))
-    acted_lists (action.Send bytes) None s t b kept l ls is = accepted_lists o.name (letter_of label bytes.items) s.me.0 t.me.0 b.0 ∙ ap (λ x. more x b.0.delivered.accepted.entry) is
-    acted_lists (action.Send bytes) (Some by) s t b kept l ls is = refused_lists o.name (letter_of label bytes.items) by s.me.0 t.me.0 b.0 ∙ (is ∙ ap (λ x. x ∷ ls) (sym (append-nil l)))
-    acted_lists action.Hold (Some by) s t b kept l ls is = held_lists p o.name by s.held s.me.0 t.held t.me.0 b.0 ∙ (is ∙ ap (λ x. x ∷ ls) (sym (append-nil l)))
-    acted_lists action.Drop (Some by) s t b kept l ls is = dropped_lists o.name by s.held s.me.0 t.held t.me.0 b.0 ∙ (is ∙ ap (λ x. x ∷ ls) (sym (append-nil l)))
-    acted_lists (action.Fail code) (Some by) s t b kept l ls is = failed_lists p o.name code by s.me.0 t.me.0 b.0 ∙ (is ∙ ap (λ x. x ∷ ls) (sym (append-nil l)))
-    acted_lists action.Hold None s t b kept l ls is = elim b [ ]
-    acted_lists action.Drop None s t b kept l ls is = elim b [ ]
-    acted_lists (action.Fail code) None s t b kept l ls is = elim b [ ]
+    -- the own list grows by it
+    pub acted_lists : (a : Action) (by : Option Outcome) (s t : Stand g) (b : Acted state p label o a by s t) → (l : List Entry) (ls : List (List Entry)) → s.me.0.lists ≡ l ∷ ls → t.me.0.lists ≡ (l ++ entries_by a by s t b) ∷ ls
+    acted_lists action.Open (Some by) s t b l ls is = b.0.lists ∙ (is ∙ ap (λ x. x ∷ ls) (sym (append-nil l)))
+    acted_lists (action.Send bytes) None s t b l ls is = accepted_lists o.name (letter_of label bytes.items) s.me.0 t.me.0 b.0 ∙ ap (λ x. more x b.0.delivered.accepted.entry) is
+    acted_lists (action.Send bytes) (Some by) s t b l ls is = refused_lists o.name (letter_of label bytes.items) by s.me.0 t.me.0 b.0 ∙ (is ∙ ap (λ x. x ∷ ls) (sym (append-nil l)))
+    acted_lists action.Hold (Some by) s t b l ls is = held_lists p o.name by s.held s.me.0 t.held t.me.0 b.0 ∙ (is ∙ ap (λ x. x ∷ ls) (sym (append-nil l)))
+    acted_lists action.Drop (Some by) s t b l ls is = dropped_lists o.name by s.held s.me.0 t.held t.me.0 b.0 ∙ (is ∙ ap (λ x. x ∷ ls) (sym (append-nil l)))
+    acted_lists (action.Fail code) (Some by) s t b l ls is = failed_lists p o.name code by s.me.0 t.me.0 b.0 ∙ (is ∙ ap (λ x. x ∷ ls) (sym (append-nil l)))
+    acted_lists action.Open None s t b l ls is = elim b [ ]
+    acted_lists action.Hold None s t b l ls is = elim b [ ]
+    acted_lists action.Drop None s t b l ls is = elim b [ ]
+    acted_lists (action.Fail code) None s t b l ls is = elim b [ ]
 
 -- the message that an operation sent
 abbrev pub entries_of : {O : Type 0} {g : Ghosts O} {state : O → OutState} {p : Plan} {client : ℕ} → Moment g state p client → List Entry
 entries_of {state = state} {p = p} {client = client} m = entries_by state p (label_of client m.order m.operation) m.operation m.operation.action m.made.by m.before.has m.after.has m.made.acted
 
 module _ {O : Type 0} {g : Ghosts O} (state : O → OutState) (p : Plan) (client : ℕ) (os : List Operation) where
-  pub run_lists : (n : ℕ) (s t : Course g) (r : Ran state p client os n s t) → ((k : ℕ) (m : Moment g state p client) → get_elem? (moments state p client os n s t r) k ≡ some m → KeepsAtOpen m)
-      → (l : List Entry) (ls : List (List Entry)) → (view_of s).lists ≡ l ∷ ls → (view_of t).lists ≡ (l ++ flat_map entries_of (moments state p client os n s t r)) ∷ ls
-  run_lists zero s t r keeps l ls is = ap (λ (u : Course g). (view_of u).lists) r ∙ (is ∙ ap (λ x. x ∷ ls) (sym (append-nil l)))
-  run_lists (suc n) s t r keeps l ls is =
+  pub run_lists : (n : ℕ) (s t : Course g) (r : Ran state p client os n s t) → (l : List Entry) (ls : List (List Entry)) → (view_of s).lists ≡ l ∷ ls → (view_of t).lists ≡ (l ++ flat_map entries_of (moments state p client os n s t r)) ∷ ls
+  run_lists zero s t r l ls is = ap (λ (u : Course g). (view_of u).lists) r ∙ (is ∙ ap (λ x. x ∷ ls) (sym (append-nil l)))
+  run_lists (suc n) s t r l ls is =
       let now : Moment g state p client = record { order = n; operation = r.1; before = r.0; after = t; made = r.4 } in
       let earlier = moments state p client os n s r.0 r.2 in
-      let before = run_lists n s r.0 r.2 (λ k m e. keeps k m (at_longer earlier (now ∷ []) k m e)) l ls is in
-      let kept : KeepsAtOpen now = keeps (length earlier) now (at_last earlier now) in
-      acted_lists state p (label_of client n r.1) r.1 r.1.action r.4.by r.0.has t.has r.4.acted kept (l ++ flat_map entries_of earlier) ls before
+      let before = run_lists n s r.0 r.2 l ls is in
+      acted_lists state p (label_of client n r.1) r.1 r.1.action r.4.by r.0.has t.has r.4.acted (l ++ flat_map entries_of earlier) ls before
       ∙ ap (λ x. x ∷ ls) (append_assoc l (flat_map entries_of earlier) (entries_of now) ∙ ap (λ x. l ++ x) (ap (λ x. flat_map entries_of earlier ++ x) (sym (append-nil (entries_of now))) ∙ sym (flat-append entries_of earlier (now ∷ []))))

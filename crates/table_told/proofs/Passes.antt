@@ -20,8 +20,7 @@ use Rattle.rpc_client.specs.declared.acting.Operation.{Operation}
 use Rattle.rpc_client.specs.Acting.{Stand, Acted, label_of}
 use Rattle.rpc_client.specs.Opening.{OpenedBy}
 use Rattle.rpc_client.specs.Running.{Course, Ran}
-use Rattle.table_told.specs.Besides.{moments_of}
-use Rattle.table_told.specs.Moments.{Moment, moments}
+use Rattle.table_told.specs.Moments.{Moment, moments, moments_of}
 use Rattle.table_told.specs.Threads.{Thread, IsThread, AreAsked, AsksFor, IsAsked, link_of, links_of}
 use Rattle.table_told.proofs.Flats.{flat_same, flat_long}
 use Rattle.table_told.proofs.Moments.{flat-append, moments_long}

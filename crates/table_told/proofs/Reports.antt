@@ -27,5 +27,5 @@ words_map w (suc n) a (x ∷ xs) long each =
     λ i. (record { 0 = here i }) ∷ rest i
 
 module _ {O : Type 0} {g : Ghosts O} {state : O → OutState} {p : Plan} {clients : List (List Task)} {outcomes : List (Option Outcome)} {places : List PlaceWord} {vrefs : List Vref} {outs : List O} (run : ThreadRun g state p clients outcomes places vrefs outs) where
-  pub places_are : length places ≡ 8 * p.operations → places ≡ place_words p run.closed.words
-  places_are long = words_map (λ l. slice_index run.closed.words (place_word p l)) (8 * p.operations) 0 places long (λ i low. (let r = run.closed.placed i low in let q : i ≡ 0 + i = omega arith in (r.0, r.1, r.2 ∙ ap (λ l. slice_index run.closed.words (place_word p l)) q)))
+  pub places_are : places ≡ place_words p run.closed.words
+  places_are = words_map (λ l. slice_index run.closed.words (place_word p l)) (8 * p.operations) 0 places run.closed.sized.1 (λ i low. (let r = run.closed.placed i low in let q : i ≡ 0 + i = omega arith in (r.0, r.1, r.2 ∙ ap (λ l. slice_index run.closed.words (place_word p l)) q)))

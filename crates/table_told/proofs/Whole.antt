@@ -22,7 +22,6 @@ use Rattle.sock_programs.specs.Told.{IsTask, Became}
 use Rattle.rpc_client.specs.declared.acting.Action.{Action}
 use Rattle.rpc_client.specs.declared.acting.Action.TheVariants as action
 use Rattle.rpc_client.specs.Acting.{Acted, label_of}
-use Rattle.table_told.specs.Besides.{Besides}
 use Rattle.table_told.specs.Left.{gave_of, accepted_of}
 use Rattle.table_told.specs.Threads.{ThreadRun}
 use Rattle.table_told.proofs.Accepting.{log, act_of_entry}
@@ -91,16 +90,16 @@ sizes_all : (n : ℕ) (l : List Entry) → ((i : ℕ) (e : Entry) → get_elem? 
 sizes_all n [] below = sizes_none 0 n
 sizes_all n (e ∷ es) below = omega (arith, sizes_in 0 n e es (omega arith) (omega (arith, below 0 e refl)), sizes_all n es (λ i x g. below (suc i) x g))
 
-module _ {O : Type 0} {g : Ghosts O} {state : O → OutState} {p : Plan} {clients : List (List Task)} {outcomes : List (Option Outcome)} {places : List PlaceWord} {vrefs : List Vref} {outs : List O} (run : ThreadRun g state p clients outcomes places vrefs outs) (more : Besides run) where
-  links_low : (q : ℕ) (e : Entry) → get_elem? (log run more) q ≡ some e → e.link < p.links
-  links_low q e at = let w = act_of_entry run more q e at in subst (λ (x : Entry). x.link < p.links) w.1.entry w.1.sent.delivered.accepted.inside
+module _ {O : Type 0} {g : Ghosts O} {state : O → OutState} {p : Plan} {clients : List (List Task)} {outcomes : List (Option Outcome)} {places : List PlaceWord} {vrefs : List Vref} {outs : List O} (run : ThreadRun g state p clients outcomes places vrefs outs) where
+  links_low : (q : ℕ) (e : Entry) → get_elem? (log run) q ≡ some e → e.link < p.links
+  links_low q e at = let w = act_of_entry run q e at in subst (λ (x : Entry). x.link < p.links) w.1.entry w.1.sent.delivered.accepted.inside
 
   -- each request was found taken, so that there are as many messages
-  pub was_full : (b : Act run) (letter : Letter) → SentWith state p b.m.operation.name letter (Some outcome.Full) (before run b) (after run b) → p.requests ≤ all_accepted p.links (orders run more)
+  pub was_full : (b : Act run) (letter : Letter) → SentWith state p b.m.operation.name letter (Some outcome.Full) (before run b) (after run b) → p.requests ≤ all_accepted p.links (orders run)
   was_full b letter s =
       let d = s.delivered in
       let full = run.closed.ordered.full (λ q low. has_seen run b (request_word p q) ((returned_grew s.sock.id.0 d.refused_at (after run b) d.returned).seen (request_word p q) (d.refused_by.2 q low))) in
-      omega (arith, sizes_all p.links (log run more) links_low)
+      omega (arith, sizes_all p.links (log run) links_low)
 
   -- only an `open` is the setup's
   is_client : (a : Act run) → (IsOpen (task_of run a).op → ⊥) → 0 < a.c
@@ -110,7 +109,7 @@ module _ {O : Type 0} {g : Ghosts O} {state : O → OutState} {p : Plan} {client
 
   module _ (last_ : ℕ → ℕ) where
     abbrev WhyHere : ℕ → ℕ → Op → Outcome → Type 0
-    WhyHere c o op x = Why p clients outcomes (fixed run more) gave_of (orders run more) last_ c o op x
+    WhyHere c o op x = Why p clients outcomes (fixed run) gave_of (orders run) last_ c o op x
 
     same_op : (n k m l : ℕ) → ops.Open n k ≡ ops.Open m l → l ≡ k
     same_op n k m l e = ap (λ op. elim_link op) (sym e)
@@ -120,25 +119,25 @@ module _ {O : Type 0} {g : Ghosts O} {state : O → OutState} {p : Plan} {client
         elim_link other = 0
 
     why_of : (a : Act run) (op : Op) (act : Action) (o : Outcome) → Acted state p (label_of a.y.client a.m.order a.m.operation) a.m.operation act (Some o) a.m.before.has a.m.after.has → AsksFor op a.m.operation.name act → a.m.made.by ≡ Some o → (task_of run a).op ≡ op → a.m.operation.action ≡ act → WhyHere a.c (number_of run a) op o
-    why_of a (ops.Open n k) action.Open (outcome.Opened slot version l) b asks by op act = let w = opened_cause run more a slot version l by in (same_op n k a.m.operation.name l (sym op ∙ w.0), w.1, w.2, w.3)
-    why_of a (ops.Open n k) action.Open outcome.SlotsFull b asks by op act = full_cause run more a b.0.opened
+    why_of a (ops.Open n k) action.Open (outcome.Opened slot version l) b asks by op act = let w = opened_cause run a slot version l by in (same_op n k a.m.operation.name l (sym op ∙ w.0), w.1, w.2, w.3)
+    why_of a (ops.Open n k) action.Open outcome.SlotsFull b asks by op act = full_cause run a b.0.opened
     why_of a (ops.Open n k) action.Open other b asks by op act = elim b.0.opened [ ]
-    why_of a (ops.Send n bytes) (action.Send sent_) outcome.Unopened b asks by op act = subst (λ x. WhyHere a.c (number_of run a) (ops.Send x bytes) outcome.Unopened) asks.0 (unopened_cause run more a (is_client a (λ h. subst IsOpen op h)) by b.0.1)
-    why_of a (ops.Send n bytes) (action.Send sent_) (outcome.Gone found) b asks by op act = subst (λ x. WhyHere a.c (number_of run a) (ops.Send x bytes) (outcome.Gone found)) asks.0 (elim (b.0) [ inl r ↦ gone_cause run more a found by r | inr s ↦ refused_cause run more a found _ by s ])
-    why_of a (ops.Send n bytes) (action.Send sent_) outcome.Full b asks by op act = subst (λ x. WhyHere a.c (number_of run a) (ops.Send x bytes) outcome.Full) asks.0 (has_life run more a b.0.sock b.0.has b.0.reached_it (delivered_grew state p b.0.sock _ (Some outcome.Full) b.0.has (after run a) b.0.delivered), was_full a _ b.0)
+    why_of a (ops.Send n bytes) (action.Send sent_) outcome.Unopened b asks by op act = subst (λ x. WhyHere a.c (number_of run a) (ops.Send x bytes) outcome.Unopened) asks.0 (unopened_cause run a (is_client a (λ h. subst IsOpen op h)) by b.0.1)
+    why_of a (ops.Send n bytes) (action.Send sent_) (outcome.Gone found) b asks by op act = subst (λ x. WhyHere a.c (number_of run a) (ops.Send x bytes) (outcome.Gone found)) asks.0 (elim (b.0) [ inl r ↦ gone_cause run a found by r | inr s ↦ refused_cause run a found _ by s ])
+    why_of a (ops.Send n bytes) (action.Send sent_) outcome.Full b asks by op act = subst (λ x. WhyHere a.c (number_of run a) (ops.Send x bytes) outcome.Full) asks.0 (has_life run a b.0.sock b.0.has b.0.reached_it (delivered_grew state p b.0.sock _ (Some outcome.Full) b.0.has (after run a) b.0.delivered), was_full a _ b.0)
     why_of a (ops.Send n bytes) (action.Send sent_) other b asks by op act = elim b.0 [ ]
-    why_of a (ops.Hold n) action.Hold outcome.Unopened b asks by op act = subst (λ x. WhyHere a.c (number_of run a) (ops.Hold x) outcome.Unopened) asks (unopened_cause run more a (is_client a (λ h. subst IsOpen op h)) by b.0.1.1)
-    why_of a (ops.Hold n) action.Hold (outcome.Gone found) b asks by op act = subst (λ x. WhyHere a.c (number_of run a) (ops.Hold x) (outcome.Gone found)) asks (gone_cause run more a found by b.0.1)
-    why_of a (ops.Hold n) action.Hold outcome.Held b asks by op act = subst (λ x. WhyHere a.c (number_of run a) (ops.Hold x) outcome.Held) asks (has_life run more a record { id = b.0.0 } (after run a) b.0.2 (grew_none (after run a)))
+    why_of a (ops.Hold n) action.Hold outcome.Unopened b asks by op act = subst (λ x. WhyHere a.c (number_of run a) (ops.Hold x) outcome.Unopened) asks (unopened_cause run a (is_client a (λ h. subst IsOpen op h)) by b.0.1.1)
+    why_of a (ops.Hold n) action.Hold (outcome.Gone found) b asks by op act = subst (λ x. WhyHere a.c (number_of run a) (ops.Hold x) (outcome.Gone found)) asks (gone_cause run a found by b.0.1)
+    why_of a (ops.Hold n) action.Hold outcome.Held b asks by op act = subst (λ x. WhyHere a.c (number_of run a) (ops.Hold x) outcome.Held) asks (has_life run a record { id = b.0.0 } (after run a) b.0.2 (grew_none (after run a)))
       where
         grew_none : (v : View) → Grew v v
         grew_none v = stays v
     why_of a (ops.Hold n) action.Hold other b asks by op act = elim b.0 [ ]
-    why_of a (ops.Drop n) action.Drop o b asks by op act = drop_cause run (fixed run more) gave_of (orders run more) last_ a n o b.0 asks op
-    why_of a (ops.Fail n code) (action.Fail c) outcome.Unopened b asks by op act = subst (λ x. WhyHere a.c (number_of run a) (ops.Fail x code) outcome.Unopened) asks.0 (unopened_cause run more a (is_client a (λ h. subst IsOpen op h)) by b.0.1)
-    why_of a (ops.Fail n code) (action.Fail c) (outcome.Gone found) b asks by op act = subst (λ x. WhyHere a.c (number_of run a) (ops.Fail x code) (outcome.Gone found)) asks.0 (gone_cause run more a found by b.0)
-    why_of a (ops.Fail n code) (action.Fail c) outcome.Failed b asks by op act = let w = each_failed run more (number_of run a) (act_told run a outcome.Failed by) in (w.0, w.1)
-    why_of a (ops.Fail n code) (action.Fail c) (outcome.Already found) b asks by op act = subst (λ x. WhyHere a.c (number_of run a) (ops.Fail x code) (outcome.Already found)) asks.0 (already_cause run more a found c by b.0)
+    why_of a (ops.Drop n) action.Drop o b asks by op act = drop_cause run (fixed run) gave_of (orders run) last_ a n o b.0 asks op
+    why_of a (ops.Fail n code) (action.Fail c) outcome.Unopened b asks by op act = subst (λ x. WhyHere a.c (number_of run a) (ops.Fail x code) outcome.Unopened) asks.0 (unopened_cause run a (is_client a (λ h. subst IsOpen op h)) by b.0.1)
+    why_of a (ops.Fail n code) (action.Fail c) (outcome.Gone found) b asks by op act = subst (λ x. WhyHere a.c (number_of run a) (ops.Fail x code) (outcome.Gone found)) asks.0 (gone_cause run a found by b.0)
+    why_of a (ops.Fail n code) (action.Fail c) outcome.Failed b asks by op act = let w = each_failed run (number_of run a) (act_told run a outcome.Failed by) in (w.0, w.1)
+    why_of a (ops.Fail n code) (action.Fail c) (outcome.Already found) b asks by op act = subst (λ x. WhyHere a.c (number_of run a) (ops.Fail x code) (outcome.Already found)) asks.0 (already_cause run a found c by b.0)
     why_of a (ops.Fail n code) (action.Fail c) other b asks by op act = elim b.0 [ ]
     why_of a op act o b asks by op_is act_is = elim asks [ ]
 
@@ -156,19 +155,19 @@ module _ {O : Type 0} {g : Ghosts O} {state : O → OutState} {p : Plan} {client
   no_call c t is none_ = let w = act_made run c t is in none_ w.0.m.operation.name w.0.m.operation.action (subst (λ (x : Task). AsksFor x.op w.0.m.operation.name w.0.m.operation.action) w.3 (asked_of run w.0).asks)
 
   -- all that is told of the run
-  pub told_of_threads : ToldCalls p clients outcomes (fixed run more) gave_of (orders run more) (left run more)
+  pub told_of_threads : ToldCalls p clients outcomes (fixed run) gave_of (orders run) (left run)
   told_of_threads = record {
     last = λ o. 0;
-    are_orders = are_orders run more;
-    told = told run more (fixed run more);
-    are = are run more;
-    once = once run more;
-    lives = lives run more;
+    are_orders = are_orders run;
+    told = told run (fixed run);
+    are = are run;
+    once = once run;
+    lives = lives run;
     why = why (λ o. 0);
     again = λ c t asked is op. absurd (no_call c t is (λ name act asks. subst (λ x. AsksFor x name act) op asks));
-    sent = λ k low. sent run more (λ o. 0) k;
-    own_order = λ k low. own_order run more (fixed run more) k;
-    dropped = dropped run more;
+    sent = λ k low. sent run (λ o. 0) k;
+    own_order = λ k low. own_order run (fixed run) k;
+    dropped = dropped run;
     expired_once = λ c d t u o is also op other first_ second_. absurd (no_call c t is (λ name act asks. subst (λ x. AsksFor x name act) op asks));
     versions = λ c d t u a b x y i j is also op other first_ second_ shows its ne. absurd (no_call c t is (λ name act asks. subst (λ z. AsksFor z name act) op asks));
   }

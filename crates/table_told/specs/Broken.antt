@@ -12,8 +12,7 @@ use Rattle.rpc_client.specs.declared.acting.Action.{Action}
 use Rattle.rpc_client.specs.declared.acting.Action.TheVariants as action
 use Rattle.rpc_client.specs.declared.acting.Operation.{Operation}
 use Rattle.rpc_client.specs.Acting.{Stand, Acted, label_of}
-use Rattle.table_told.specs.Besides.{moments_of}
-use Rattle.table_told.specs.Moments.{Moment}
+use Rattle.table_told.specs.Moments.{Moment, moments_of}
 use Rattle.table_told.specs.Threads.{Threaded}
 
 -- those of which a fault came

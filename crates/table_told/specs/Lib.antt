@@ -1,5 +1,4 @@
 pub mod Threads
 pub mod Left
 pub mod Moments
-pub mod Besides
 pub mod Broken

@@ -9,7 +9,10 @@ use Rattle.sock_model.specs.SlotRows.{marks_of}
 use Rattle.sock_rule.specs.OnTable.{put_in}
 use Rattle.rpc_client.specs.declared.acting.Operation.{Operation}
 use Rattle.rpc_client.specs.declared.acting.Told.{Told}
-use Rattle.rpc_client.specs.Running.{Course, Made, Ran, telling}
+use Rattle.rpc_client.specs.Acting.{stand}
+use Rattle.rpc_client.specs.Running.{Course, Made, Ran, begins, telling}
+use Rattle.sock_programs.specs.declared.task.Task.{Task}
+use Rattle.table_told.specs.Threads.{Thread, IsThread}
 
 -- an operation of a run, which had so many before it
 pub record Moment {O : Type 0} (g : Ghosts O) (state : O → OutState) (p : Plan) (client : ℕ) : Type 0 where
@@ -37,3 +40,7 @@ stored x w m = put_in x w (view_of m.after) - put_in x w (view_of m.before)
 abbrev pub moments : {O : Type 0} {g : Ghosts O} (state : O → OutState) (p : Plan) (client : ℕ) (os : List Operation) (n : ℕ) (s t : Course g) → Ran state p client os n s t → List (Moment g state p client)
 moments state p client os zero s t r = []
 moments state p client os (suc n) s t r = moments state p client os n s r.0 r.2 ++ record { order = n; operation = r.1; before = r.0; after = t; made = r.4 } ∷ []
+
+-- a client's operations, one after the other
+abbrev pub moments_of : {O : Type 0} {g : Ghosts O} {state : O → OutState} {p : Plan} {c : ℕ} {ts : List Task} (x : Thread g) → IsThread state p c ts x → List (Moment g state p c)
+moments_of {state = state} {p = p} {c = c} x th = moments state p c x.operations th.ran.made (begins x.began) (record { has = stand th.ran.came; told = th.ran.came.outcomes.items; names = th.ran.ran.names }) th.ran.ran.ran
