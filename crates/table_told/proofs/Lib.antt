@@ -18,5 +18,6 @@ pub mod Causes
 pub mod Names
 pub mod Whole
 pub mod Reports
+pub mod Scripts
 pub mod Drops
 pub mod DropCauses
