@@ -1,0 +1,4 @@
+pub mod Frames
+pub mod Requests
+pub mod Calls
+pub mod Calm

@@ -1,0 +1,88 @@
+-- Runs in which nothing went wrong, and what a call on links with the server has then.
+use Rattle.std.specs.Prelude.{ℕ, ◌≡◌, ◌≢◌, ◌+◌, ◌<◌, ◌≤◌, ◌⊎◌, ◌++◌, List, [], length, slice_get, Some, None, IsTrue, Contains}
+use Rattle.brpc_model.specs.Causes.{HasFault}
+use Rattle.brpc_model.specs.Complete.{Gives}
+use Rattle.brpc_model.specs.Frame.{Frame}
+use Rattle.brpc_model.specs.Items.{Item, Shape}
+use Rattle.brpc_model.specs.Meta.{ResponseMeta}
+use Rattle.brpc_model.specs.Operations.{Operation, Turn, link_shapes, operations}
+use Rattle.brpc_model.specs.Reply.{reply}
+use Rattle.brpc_model.specs.Served.{given_for}
+use Rattle.brpc_model.specs.Stream.{stream}
+use Rattle.sock_words.specs.declared.outcome.Outcome.{Outcome}
+use Rattle.sock_words.specs.declared.outcome.Outcome.TheVariants.{Unopened}
+use Rattle.sock_message.specs.Asked.{Asked, name_of}
+use Rattle.sock_programs.specs.declared.task.Op.TheVariants as ops
+use Rattle.sock_programs.specs.declared.task.Task.{Task}
+use Rattle.sock_programs.specs.Asides.{AtEnd, Broken}
+use Rattle.sock_programs.specs.Readers.{LIMIT}
+use Rattle.sock_programs.specs.Cores.{Core}
+use Rattle.sock_programs.specs.Tasks.{plan_of}
+use Rattle.sock_programs.specs.Told.{IsTask, Made}
+use Rattle.sock_programs.specs.ToldCalls.{Fixed, Order, FoundNone, IsUnordered, WasFull}
+use Rattle.sock_programs.specs.Scripts.{all_tasks, IsRunWithCalls}
+use Rattle.sock_causes.specs.Facts.{late_links_of_run}
+use Rattle.whole_runs.specs.Heard.{heard_takes}
+use Rattle.call_causes.specs.Lists.{given, attempts_of_run}
+use Rattle.served_runs.specs.Served.{request_with, took_in_all, IsForCalls, IsReplyToCall}
+
+-- the call with this outcome has what the reply to the request of its first attempt gives
+abbrev pub HasReply : Asked → Outcome → Type 0
+HasReply asked outcome = (id : ℕ) × (frame : Frame) × (r : ResponseMeta) × (reply (request_with asked (id + 1)) ≡ Some frame) × (frame.meta.response ≡ Some r) × Gives id r.code frame outcome
+
+module _ (script : List Item) (turns : List Turn) (core : Core) (is : IsRunWithCalls script turns core) where
+  -- link k was opened with the server
+  abbrev pub HasServer : ℕ → Type 0
+  HasServer k = (shape : Shape) × (slice_get (link_shapes script) k ≡ Some shape) × IsTrue shape.serve
+
+  -- each frame that a link for calls gave is the reply to the request of an attempt to which a call came
+  abbrev pub GivesTriedReplies : Type 0
+  GivesTriedReplies = (k n : ℕ) (shape : Shape) (frame : Frame) → IsForCalls script turns core is k shape → slice_get (stream (given core k)).frames n ≡ Some frame
+      → (r : IsReplyToCall script turns core is frame) × (r.attempt ≤ attempts_of_run script turns core is r.task.number)
+
+  -- where such a link gave its end, it gave all that belongs to whatever it takes
+  abbrev pub GivesLast : Type 0
+  GivesLast = (k : ℕ) (shape : Shape) → slice_get (link_shapes script) k ≡ Some shape → IsTrue shape.serve → Contains (heard_takes is k) AtEnd → (more : List ℕ) → given core k ≡ given_for shape (took_in_all script turns core is k ++ more)
+
+  module _ (fixed : Fixed) (orders : ℕ → Order) where
+    -- what the list of readings that ended early shows
+    abbrev pub AreEarly : Type 0
+    AreEarly = (k : ℕ) → Contains fixed.early k → Contains (heard_takes is k) AtEnd ⊎ (HasFault (given core k) ⊎ ((LIMIT ≤ length (given core k)) ⊎ Contains (heard_takes is k) Broken))
+
+    -- nothing of the script, and nothing that the links did, can make a call fail
+    pub record IsQuiet : Type 0 where
+      pub no_fail : (client : ℕ) (t : Task) (name code : ℕ) → IsTask (all_tasks script) core.outcomes client t → t.op ≡ ops.Fail name code → ⊥
+      pub no_end : (k : ℕ) (shape : Shape) → slice_get (link_shapes script) k ≡ Some shape → shape.end ≡ None
+      -- no put of a link with the server failed, and no take
+      pub none_broken : (k : ℕ) → HasServer k → Contains fixed.broken k → ⊥
+      pub whole : (k : ℕ) → HasServer k → Contains (heard_takes is k) Broken → ⊥
+      -- a link without the server gave nothing, and one with it less than is read at most
+      pub silent : (k : ℕ) (shape : Shape) → slice_get (link_shapes script) k ≡ Some shape → (IsTrue shape.serve → ⊥) → given core k ≡ []
+      pub few : (k : ℕ) → HasServer k → length (given core k) < LIMIT
+      -- and no `send` is to its socket
+      pub no_stray : (k client : ℕ) (t : Task) (name slot version : ℕ) (bytes : List ℕ) → HasServer k → IsTask (all_tasks script) core.outcomes client t → t.op ≡ ops.Send name bytes → Made (all_tasks script) core.outcomes name k slot version → ⊥
+      -- there are requests for all attempts
+      pub unfull : (client : ℕ) (t : Task) (asked : Asked) → IsTask (all_tasks script) core.outcomes client t → t.op ≡ ops.Call asked → IsUnordered (plan_of script) (all_tasks script) core.outcomes fixed (given core) orders t.number 0
+          → WasFull (plan_of script) (all_tasks script) core.outcomes fixed (given core) orders → ⊥
+      -- no attempt of a call was begun or ended while the run was ending, and no link became a socket's then
+      pub none_late : (client : ℕ) (t : Task) (asked : Asked) → IsTask (all_tasks script) core.outcomes client t → t.op ≡ ops.Call asked → Contains fixed.late t.number → ⊥
+      pub no_late_link : (k : ℕ) → Contains fixed.late_links k → ⊥
+      pub in_time : (k : ℕ) → Contains (late_links_of_run script turns core is) k → ⊥
+
+    -- no operation had a step while the run was ending, and no link became a socket's then
+    pub record IsTimely : Type 0 where
+      pub none_late : (o : ℕ) (op : Operation) → slice_get (operations script) o ≡ Some op → Contains fixed.late o → ⊥
+      pub no_late_link : (k : ℕ) → Contains fixed.late_links k → ⊥
+      pub in_time : (k : ℕ) → Contains (late_links_of_run script turns core is) k → ⊥
+
+    -- a call whose first name has links with the server alone
+    abbrev pub IsForServers : Asked → Type 0
+    IsForServers asked = (k slot version : ℕ) → Made (all_tasks script) core.outcomes (name_of asked 0) k slot version → HasServer k
+
+    -- no `expire` names the operation
+    abbrev pub IsUnexpired : ℕ → Type 0
+    IsUnexpired o = (client : ℕ) (t : Task) → IsTask (all_tasks script) core.outcomes client t → t.op ≡ ops.Expire o → ⊥
+
+    -- the call has its reply, or its name had no socket yet
+    abbrev pub CallIsDone : ℕ → ℕ → Asked → Outcome → Type 0
+    CallIsDone client o asked outcome = HasReply asked outcome ⊎ ((outcome ≡ Unopened) × FoundNone (plan_of script) (all_tasks script) core.outcomes fixed (given core) orders client o (name_of asked 0))
