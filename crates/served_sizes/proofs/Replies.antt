@@ -43,11 +43,11 @@ response_short : (id code : ℕ) (text payload attachment : List ℕ) (n m : ℕ
     → length (frame_bytes (response_with id code text payload attachment)) ≤ 23 + n + m + length payload + length attachment
 response_short id code text payload attachment n m few size =
     let l = framed_length (meta_bytes (response_with id code text payload attachment).meta) payload attachment in
-    let s = sums (bytes_field 2 (response_bytes (record { code = pos code; text = text }))) (number_field 4 id) (where_not_0 5 (pos (length attachment))) few (id_short id) size in
+    let s : length (meta_bytes (response_with id code text payload attachment).meta) ≤ n + 11 + m = meta_sums (bytes_field 2 (response_bytes (record { code = pos code; text = text }))) (number_field 4 id) (where_not_0 5 (pos (length attachment))) few (id_short id) size in
     omega (arith, l, s)
   where
-    sums : (x y z : List ℕ) → length x ≤ n → length y ≤ 11 → length z ≤ m → length ([] ++ x ++ [] ++ y ++ z) ≤ n + 11 + m
-    sums x y z p q r = omega (arith, p, q, r, length-append (([] ++ x ++ []) ++ y) z, length-append ([] ++ x ++ []) y, length-append x [])
+    meta_sums : (x y z : List ℕ) → length x ≤ n → length y ≤ 11 → length z ≤ m → length ([] ++ x ++ [] ++ y ++ z) ≤ n + 11 + m
+    meta_sums x y z p q r = omega (arith, p, q, r, length-append (([] ++ x ++ []) ++ y) z, length-append ([] ++ x ++ []) y, length-append x [])
 
 -- ## Sizes of replies
 
@@ -75,14 +75,14 @@ module _ (payload attachment : List ℕ) where
   n = length payload + length attachment
 
   echo_short : (method : List ℕ) → IsShort n (echo method payload attachment)
-  echo_short method = either_way (bytes_eq method (codes "Echo")) (Gives payload attachment) _ (IsShort n) (gives_short payload attachment n (omega arith))
+  echo_short method = either_way (bytes_eq method (codes "Echo")) (Gives payload attachment) (cond (bytes_eq method (codes "Reverse")) (Gives (reverse payload) []) (Refuses 1002 (codes "no method"))) (IsShort n) (gives_short payload attachment n (omega arith))
       (either_way (bytes_eq method (codes "Reverse")) (Gives (reverse payload) []) (Refuses 1002 (codes "no method")) (IsShort n) (plain_short (reverse payload) n (let l = length-reverse payload in omega (arith, l))) (no_method n))
 
   summing_short : (method : List ℕ) → IsShort n (summing method payload)
   summing_short method = either_way (bytes_eq method (codes "Bytes")) (Gives (to_be_bytes w64 (sum payload)) []) (Refuses 1002 (codes "no method")) (IsShort n) (plain_short (to_be_bytes w64 (sum payload)) n (let l : length (to_be_bytes w64 (sum payload)) ≡ 8 = refl in omega (arith, l))) (no_method n)
 
   served_short : (compressed : ℤ) (request : RequestMeta) → IsShort n (served compressed request payload attachment)
-  served_short (pos zero) request = either_way (bytes_eq request.service (codes "Echo")) (echo request.method payload attachment) _ (IsShort n) (echo_short request.method)
+  served_short (pos zero) request = either_way (bytes_eq request.service (codes "Echo")) (echo request.method payload attachment) (cond (bytes_eq request.service (codes "Sum")) (summing request.method payload) (Refuses 1001 (codes "no service"))) (IsShort n) (echo_short request.method)
       (either_way (bytes_eq request.service (codes "Sum")) (summing request.method payload) (Refuses 1001 (codes "no service")) (IsShort n) (summing_short request.method) (no_service n))
   served_short (pos (suc k)) request = bad_request n
   served_short (negsuc k) request = bad_request n
@@ -130,29 +130,32 @@ inside bytes body NoneYet le h = tt
 inside bytes body (Faulty fault) le h = tt
 inside bytes body (Begins f n) le h = (omega (arith, le, h.0), omega (arith, h.1, h.0))
 
-judged_inside : (bytes : List ℕ) → IsInside bytes (judged bytes)
-judged_inside bytes =
-    either_way (not (eqb (matching bytes) 4) && not (eqb (matching bytes) (length bytes))) (Faulty (BadMagic (matching bytes))) (cond (nat_lt (length bytes) 12) NoneYet rest) (IsInside bytes) tt
-    (either_way (nat_lt (length bytes) 12) NoneYet rest (IsInside bytes) tt (either_way (nat_lt body_limit body) (Faulty (TooBig body)) _ (IsInside bytes) tt (either_way (nat_lt body meta) (Faulty (MetaOver meta body)) _ (IsInside bytes) tt (by_more (nat_lt (length bytes) (12 + body)) refl))))
-  where
-    abbrev body : ℕ
-    body = high_first (take 4 (drop 4 bytes))
+module _ (bytes : List ℕ) where
+  abbrev body_size : ℕ
+  body_size = high_first (take 4 (drop 4 bytes))
 
-    abbrev meta : ℕ
-    meta = high_first (take 4 (drop 8 bytes))
+  abbrev meta_size : ℕ
+  meta_size = high_first (take 4 (drop 8 bytes))
 
-    abbrev within_ : List ℕ
-    within_ = take body (drop 12 bytes)
+  abbrev body_part : List ℕ
+  body_part = take body_size (drop 12 bytes)
 
-    abbrev last : Judged
-    last = body_judged (read_meta (take meta within_)) (drop meta within_) body
+  abbrev last_case : Judged
+  last_case = body_judged (read_meta (take meta_size body_part)) (drop meta_size body_part) body_size
 
-    abbrev rest : Judged
-    rest = cond (nat_lt body_limit body) (Faulty (TooBig body)) (cond (nat_lt body meta) (Faulty (MetaOver meta body)) (cond (nat_lt (length bytes) (12 + body)) NoneYet last))
+  by_more : (b : Bool) → nat_lt (length bytes) (12 + body_size) ≡ b → IsInside bytes (cond b NoneYet last_case)
+  by_more true e = tt
+  by_more false e = inside bytes body_size last_case (ltb-false (length bytes) (12 + body_size) e) (body_room (read_meta (take meta_size body_part)) (drop meta_size body_part) body_size (let t = take_short body_size (drop 12 bytes) in let d = length-drop meta_size body_part in omega (arith, t.0, d)))
 
-    by_more : (b : Bool) → nat_lt (length bytes) (12 + body) ≡ b → IsInside bytes (cond b NoneYet last)
-    by_more true e = tt
-    by_more false e = inside bytes body last (ltb-false (length bytes) (12 + body) e) (body_room (read_meta (take meta within_)) (drop meta within_) body (let t = take_short body (drop 12 bytes) in let d = length-drop meta within_ in omega (arith, t.0, d)))
+  by_tests : (wrong short big over : Bool) → IsInside bytes (cond wrong (Faulty (BadMagic (matching bytes))) (cond short NoneYet (cond big (Faulty (TooBig body_size)) (cond over (Faulty (MetaOver meta_size body_size)) (cond (nat_lt (length bytes) (12 + body_size)) NoneYet last_case)))))
+  by_tests true short big over = tt
+  by_tests false true big over = tt
+  by_tests false false true over = tt
+  by_tests false false false true = tt
+  by_tests false false false false = by_more (nat_lt (length bytes) (12 + body_size)) refl
+
+  judged_inside : IsInside bytes (judged bytes)
+  judged_inside = by_tests (not (eqb (matching bytes) 4) && not (eqb (matching bytes) (length bytes))) (nat_lt (length bytes) 12) (nat_lt body_limit body_size) (nat_lt body_size meta_size)
 
 replies_more : (o : Option Frame) (gs : List Frame) → length (flat_map frame_bytes (cons_option o gs)) ≡ length (reply_bytes o) + length (flat_map frame_bytes gs)
 replies_more None gs = omega arith
@@ -160,6 +163,9 @@ replies_more (Some g) gs = length-append (frame_bytes g) (flat_map frame_bytes g
 
 abbrev all_replies : List Frame → ℕ
 all_replies fs = length (flat_map frame_bytes (filter_map reply fs))
+
+sums : (r a b d l n c : ℕ) → b ≡ r + a → r ≤ 41 + c → 12 * a ≤ 41 * d → d ≡ l - (12 + n) → 12 + n ≤ l → c ≤ n → 12 * b ≤ 41 * l
+sums r a b d l n c e p q s t u = omega (arith, e, p, q, s, t, u)
 
 up_to : (most at : ℕ) (bytes : List ℕ) → 12 * all_replies (stream_up_to most at bytes).frames ≤ 41 * length bytes
 up_to zero at bytes = omega arith
@@ -171,9 +177,6 @@ up_to (suc most) at bytes = by (judged bytes) (judged_inside bytes) (λ body. up
     by (Faulty fault) room later = omega arith
     by (Begins f body) room later = let fs : List Frame = (stream_up_to most (at + (12 + body)) (drop (12 + body) bytes)).frames in
         sums (length (reply_bytes (reply f))) (all_replies fs) (all_replies (f ∷ fs)) (length (drop (12 + body) bytes)) (length bytes) body (length f.payload + length f.attachment) (replies_more (reply f) (filter_map reply fs)) (reply_short f) (later body) (length-drop (12 + body) bytes) room.0 room.1
-      where
-        sums : (r a b d l n c : ℕ) → b ≡ r + a → r ≤ 41 + c → 12 * a ≤ 41 * d → d ≡ l - (12 + n) → 12 + n ≤ l → c ≤ n → 12 * b ≤ 41 * l
-        sums r a b d l n c e p q s t u = omega (arith, e, p, q, s, t, u)
 
 first_short : (o : Option ℕ) (gs : List Frame) → length (flat_map frame_bytes (first_of o gs)) ≤ length (flat_map frame_bytes gs)
 first_short None gs = omega arith
