@@ -1,11 +1,11 @@
 -- A link with the built-in server gives less than the most that is read: what it took is no more than the script's calls and sends, and the replies are little longer.
-use Rattle.std.proofs.Common.{◌≡◌, ◌≢◌, ℕ, zero, suc, ◌+◌, ◌*◌, ◌<◌, ◌≤◌, List, [], ◌∷◌, ◌++◌, length, take, drop, map, flat_map, filter_map, slice_get, Some, None, Ok, length-append, append-nil, append_assoc, refl, sym, ap, ◌∙◌, subst, arith}
+use Rattle.std.proofs.Common.{◌≡◌, ℕ, zero, suc, ◌+◌, ◌*◌, ◌<◌, ◌≤◌, List, [], ◌∷◌, ◌++◌, length, take, drop, map, flat_map, filter_map, slice_get, Some, None, Ok, length-append, append-nil, append_assoc, refl, sym, ap, ◌∙◌, subst, arith}
 use Rattle.std.proofs.lemmas.Grind.{flat_map-append}
 use Rattle.std.proofs.lemmas.List.{take-append-drop}
 use Rattle.std.proofs.lemmas.Option.{slice_get_within}
 use Rattle.std.specs.Prelude.{pos, IsTrue}
 use Rattle.std.specs.List.{AllByRecursion}
-use Rattle.brpc_model.specs.Items.{Item, Shape, CallLine, Open, Send, Call, attempts_of, opened_name, opened_shape}
+use Rattle.brpc_model.specs.Items.{Item, Shape, Open, Send, Call, attempts_of, opened_name, opened_shape}
 use Rattle.brpc_model.specs.Operations.{Operation, Turn, operations, link_names, link_shapes, attempts, requests}
 use Rattle.brpc_model.specs.Order.{EachBefore, IsCut}
 use Rattle.brpc_model.specs.Places.{names}
@@ -15,7 +15,7 @@ use Rattle.brpc_model.specs.Spelling.{number_field, bytes_field, request_bytes, 
 use Rattle.brpc_model.specs.Wire.{varint_bytes}
 use Rattle.report_fits.proofs.CallLines.{CallInRange}
 use Rattle.report_fits.proofs.LabelCounts.{Differ}
-use Rattle.report_fits.proofs.Lists.{Has, all_at, all_from, before_from, has_from}
+use Rattle.report_fits.proofs.Lists.{all_at, all_from, before_from}
 use Rattle.report_fits.proofs.Numbering.{are_from}
 use Rattle.report_fits.proofs.Reading.{InRange}
 use Rattle.report_fits.proofs.Sizes.{is_counted, keeps_limits}
@@ -24,7 +24,7 @@ use Rattle.report_fits.proofs.TaskLemmas.{numbers_at, task_is, send_asks, call_a
 use Rattle.sock_message.specs.Asked.{Asked, meta_of, frame_of}
 use Rattle.sock_programs.specs.Readers.{LIMIT}
 use Rattle.sock_programs.specs.Cores.{Core}
-use Rattle.sock_programs.specs.Tasks.{numbered, asked_of, plan_of}
+use Rattle.sock_programs.specs.Tasks.{numbered, plan_of}
 use Rattle.sock_programs.specs.ToldCalls.{Accepted, Order, Fixed, ToldCalls, IsTaken, IsSent, OfSend, OfCall, label, bytes_of}
 use Rattle.sock_programs.specs.Scripts.{all_tasks, IsRunWithCalls}
 use Rattle.owed_calls.specs.Lives.{ClosesInRun}

@@ -1,5 +1,5 @@
 -- The replies to some bytes are at most 41 / 12 times as long: each is to a frame of at least 12 bytes, and has what that carries or a few bytes.
-use Rattle.std.proofs.Common.{◌≡◌, ℕ, zero, suc, ◌+◌, ◌-◌, ◌*◌, ◌/◌, ◌%◌, ◌<◌, ◌≤◌, nat_lt, not, ◌&&◌, ltb-false, eqb, Bool, true, false, cond, List, [], ◌∷◌, ◌++◌, length, take, drop, flat_map, filter_map, sum, Option, Some, None, Result, Ok, Err, ℤ, pos, negsuc, length-append, length-drop, refl, sym, ap, ◌∙◌, subst, arith}
+use Rattle.std.proofs.Common.{◌≡◌, ℕ, zero, suc, ◌+◌, ◌-◌, ◌*◌, ◌/◌, ◌%◌, ◌≤◌, nat_lt, not, ◌&&◌, ltb-false, eqb, Bool, true, false, cond, List, [], ◌∷◌, ◌++◌, length, take, drop, flat_map, filter_map, sum, Option, Some, None, Result, Ok, Err, ℤ, pos, negsuc, length-append, length-drop, refl, arith}
 use Rattle.std.proofs.lemmas.List.{length-reverse}
 use Rattle.std.specs.Prelude.{codes, bytes_eq, reverse, option_map}
 use Rattle.std.specs.List.{cons_option}
@@ -9,8 +9,8 @@ use Rattle.brpc_model.specs.Items.{Shape}
 use Rattle.brpc_model.specs.Wire.{varint_up_to, varint_bytes}
 use Rattle.brpc_model.specs.Meta.{Meta, MetaFault, RequestMeta, read_meta}
 use Rattle.brpc_model.specs.Spelling.{number_field, bytes_field, response_bytes, where_not_0, meta_bytes}
-use Rattle.brpc_model.specs.Frame.{Frame, FrameFault, BadMagic, TooBig, MetaOver, AttachOver, Judged, NoneYet, Faulty, Begins, magic, framed, frame_bytes, high_first, matching, body_limit, with_attachment, body_judged, judged}
-use Rattle.brpc_model.specs.Stream.{Stream, stream, goes_on, stream_up_to}
+use Rattle.brpc_model.specs.Frame.{Frame, BadMagic, TooBig, MetaOver, AttachOver, Judged, NoneYet, Faulty, Begins, magic, framed, frame_bytes, high_first, matching, body_limit, with_attachment, body_judged, judged}
+use Rattle.brpc_model.specs.Stream.{goes_on, stream_up_to}
 use Rattle.brpc_model.specs.Reply.{Answer, Gives, Refuses, echo, summing, served, response_with, answered_by, reply, reply_frames}
 use Rattle.brpc_model.specs.Served.{first_of, given_for}
 

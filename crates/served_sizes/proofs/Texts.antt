@@ -1,6 +1,6 @@
 -- A script carries half as many bytes as its text has, at most: each of them stands there as two digits.
 use Rattle.std.proofs.Common.{◌≡◌, ℕ, zero, suc, ◌+◌, ◌-◌, ◌*◌, ◌%◌, ◌≤◌, ◌==◌, not, Bool, true, false, cond, List, [], ◌∷◌, ◌++◌, length, take, drop, map, filter, fold, position, Option, Some, None, Ok, Err, IfOk, IfSome, if◌then◌else◌, refl, sym, subst, arith, codes, bytes_eq}
-use Rattle.std.specs.Prelude.{Result, nat_le, nat_lt, nat_eq, slice_index, count_by}
+use Rattle.std.specs.Prelude.{Result, nat_eq, slice_index}
 use Rattle.std.specs.List.{list_all, slice_split, onto_first, starts_with, before_last, after_last}
 use Rattle.std.specs.Str.Lines.{lines, lines_of_parts, strip_carriage_return}
 use Rattle.hex.specs.Hex.{decode_of, decode_pairs}
@@ -9,7 +9,7 @@ use Rattle.hex.specs.declared.error.FromHexError.TheVariants.{OddLength}
 use Rattle.hex.proofs.HexLemmas.{decode_pairs-ok}
 use Rattle.brpc_model.specs.Reads.{Reads, ◌<*>◌, ◌>>=◌, option_in, values_of, are_known}
 use Rattle.brpc_model.specs.Text.{number_in, name_in, hex_in, pairs_in, has_bytes, sized, words, service_in, method_in}
-use Rattle.brpc_model.specs.Items.{Item, CallLine, Seat, Slots, Requests, First, Open, Client, Send, Call, Expire, Join, Fail, Hold, Drop, Sched, Tick, To, Shape, is_open, is_client}
+use Rattle.brpc_model.specs.Items.{Item, CallLine, Slots, Requests, First, Open, Client, Send, Call, Expire, Join, Fail, Hold, Drop, Sched, Tick, To}
 use Rattle.brpc_model.specs.Lines.{line_item, item_of, is_text_byte, shape_in, alone, of_name, of_number, first_item, open_item, send_item, names_in, bodies_in, call_in, call_item, target_in, target_item, fail_item, seat_in, tick_item, kind_in, to_item}
 use Rattle.brpc_model.specs.Places.{at_its_place, is_misplaced, is_too_many, is_unpaired}
 use Rattle.brpc_model.specs.Script.{Faulty, script_of, with_line, one_more, said_behind, items, whole, says, is_lost, may_hang}
