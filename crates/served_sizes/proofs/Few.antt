@@ -91,7 +91,7 @@ cut_more cut (a ∷ rest) (more, some_, e) = (more ++ flat_map bytes_of rest, sy
 taken_few : (o : Order) (took : List ℕ) → IsTaken o took → length took ≤ length (flat_map bytes_of o.accepted)
 taken_few o took taken = let n = o.placed in let x = cut_more taken.cut (drop n o.accepted) taken.is_cut in
     let whole : took ++ x.0 ≡ flat_map bytes_of o.accepted = ap (λ l. l ++ x.0) taken.took_is ∙ (append_assoc (flat_map bytes_of (take n o.accepted)) taken.cut x.0 ∙ (ap (λ l. flat_map bytes_of (take n o.accepted) ++ l) x.1
-        ∙ (sym (flat_map-append bytes_of (take n o.accepted) (drop n o.accepted)) ∙ ap (flat_map bytes_of) (take-append-drop n o.accepted)))) in
+    ∙ (sym (flat_map-append bytes_of (take n o.accepted) (drop n o.accepted)) ∙ ap (flat_map bytes_of) (take-append-drop n o.accepted)))) in
     let long = ap length whole in let parts = length-append took x.0 in omega (arith, long, parts)
 
 -- the message of an attempt that carries what its operation carries has room under its label

@@ -223,13 +223,13 @@ made_carries names service method bodies retry n b =
 call_in_carries : (names method payload : List ℕ) (options : List (List ℕ)) → IfOk (call_in names method payload options) (CallFits (length payload + total options))
 call_in_carries names method payload options = either_way (are_known (codes "att=" ∷ codes "retry=" ∷ []) [] options)
     (Ok make_call <*> names_in (slice_split (λ b. b == 44) names) <*> service_in (before_last (λ b. b == 46) method) <*> method_in (after_last (λ b. b == 46) method)
-        <*> bodies_in (Ok (λ p a. (p, a)) <*> hex_in payload <*> option_in hex_in [] (values_of (codes "att=") options)) <*> option_in (number_in 0 6) 0 (values_of (codes "retry=") options))
+    <*> bodies_in (Ok (λ p a. (p, a)) <*> hex_in payload <*> option_in hex_in [] (values_of (codes "att=") options)) <*> option_in (number_in 0 6) 0 (values_of (codes "retry=") options))
     (Err 3) (CallFits (length payload + total options))
     (made_carries (names_in (slice_split (λ b. b == 44) names)) (service_in (before_last (λ b. b == 46) method)) (method_in (after_last (λ b. b == 46) method)) (bodies_in (Ok (λ p a. (p, a)) <*> hex_in payload <*> option_in hex_in [] (values_of (codes "att=") options)))
-        (option_in (number_in 0 6) 0 (values_of (codes "retry=") options)) (length payload + total options)
-        (bodies_halve (Ok (λ p a. (p, a)) <*> hex_in payload <*> option_in hex_in [] (values_of (codes "att=") options)) (length payload + total options)
-        (both_halve (hex_in payload) (option_in hex_in [] (values_of (codes "att=") options)) (length payload) (total options) (hex_halves payload)
-        (more_halves (option_in hex_in [] (values_of (codes "att=") options)) (total (values_of (codes "att=") options)) (total options) (values_total (codes "att=") options) (option_halves (values_of (codes "att=") options)))))) tt
+    (option_in (number_in 0 6) 0 (values_of (codes "retry=") options)) (length payload + total options)
+    (bodies_halve (Ok (λ p a. (p, a)) <*> hex_in payload <*> option_in hex_in [] (values_of (codes "att=") options)) (length payload + total options)
+    (both_halve (hex_in payload) (option_in hex_in [] (values_of (codes "att=") options)) (length payload) (total options) (hex_halves payload)
+    (more_halves (option_in hex_in [] (values_of (codes "att=") options)) (total (values_of (codes "att=") options)) (total options) (values_total (codes "att=") options) (option_halves (values_of (codes "att=") options)))))) tt
 
 of_call : (r : Reads CallLine) (m n : ℕ) → m ≤ n → IfOk r (CallFits m) → IfOk (Ok (λ call. Call call) <*> r) (Fits n)
 of_call (Ok call) m n le h = omega (arith, le, h)
