@@ -1,5 +1,5 @@
--- In a run of a script without `join` nothing comes late: once it is ending, no link becomes a socket's, no operation but those on calls has its outcome, and no attempt of a call is begun or ends.
-use Rattle.std.proofs.Common.{◌≡◌, ℕ, zero, suc, ◌+◌, ◌-◌, ◌≤◌, ◌&&◌, inl, inr, ⊎_elim, Bool, true, false, cond, List, [], ◌∷◌, ◌++◌, length, map, flat_map, filter, replicate, refl, sym, ap, ◌∙◌, subst, arith}
+-- Where each client is at rest as the run begins to end, as in a script without `join`, nothing comes late: once it is ending, no link becomes a socket's, no operation but those on calls has its outcome, and no attempt of a call is begun or ends.
+use Rattle.std.proofs.Common.{◌≡◌, ℕ, zero, suc, ◌+◌, ◌-◌, ◌<◌, ◌≤◌, ◌&&◌, inl, inr, ⊎_elim, Bool, true, false, cond, List, [], ◌∷◌, ◌++◌, length, map, flat_map, filter, replicate, refl, sym, ap, ◌∙◌, subst, arith}
 use Rattle.std.proofs.lemmas.List.{length-map}
 use Rattle.std.specs.Prelude as std
 use Rattle.std.specs.Prelude.{Contains, slice_get}
@@ -33,6 +33,7 @@ use Rattle.client_laws.proofs.Fresh.{opening_fresh}
 use Rattle.joint_runs.proofs.Runs.{AreMade, first_views}
 use Rattle.send_causes.proofs.Early.{start, go, fitting, known}
 use Rattle.send_causes.proofs.Storied as stories
+use Rattle.owed_calls.specs.Settled.{IsAtRest}
 use Rattle.calm_runs.specs.Calm.{IsCalm}
 use Rattle.calm_runs.proofs.Along.{calm_setup, calm_along, StaysQuiet, quiet_along}
 use Rattle.calm_runs.proofs.Programs.{ending_calm, reader_calm}
@@ -81,7 +82,7 @@ none_kept f (x ∷ xs) h = ap (λ (b : Bool). cond b (x ∷ filter f xs) (filter
 
 -- ## A run
 
-module _ (script : List Item) (made : AreMade script) (turns : List Turn) (core : Core) (is : IsRunWithCalls script turns core) (no_join : (client number : ℕ) → Contains script (Join client number) → ⊥) where
+module _ (script : List Item) (made : AreMade script) (turns : List Turn) (core : Core) (is : IsRunWithCalls script turns core) (rest : (j : ℕ) → j < 32 → IsAtRest (played script is.setup (is.scheduled ++ is.later)) j) where
   -- the number is of no operation but those on calls
   abbrev S : ℕ → Type 0
   S = IsSpoken (told_tasks_of script)
@@ -111,7 +112,7 @@ module _ (script : List Item) (made : AreMade script) (turns : List Turn) (core 
   closing_calm : AllCalm S (closing_of script turns core is)
   closing_calm j = calm_set S before 0 (waiting_at before.calls.waiting 0) (ending_of (opens script)) [] (closing_of script turns core is) (ending_calm S (opens script)) refl j
       (λ some_. dite (dec_le 32 j) (λ high. played_calm j high)
-      (λ low s at. subst (IsCalm S) (sym (clients_rest script made turns core is no_join j (omega (arith, low)) s at)) tt))
+      (λ low s at. subst (IsCalm S) (sym (rest j (omega (arith, low)) s at)) tt))
 
   ended_calm : AllCalm S is.ended
   ended_calm j = let g = go script made turns core is in let f = fitting script made turns core is in let s = start script made turns core is in
@@ -157,5 +158,9 @@ module _ (script : List Item) (made : AreMade script) (turns : List Turn) (core 
   no_late_link = final.born
 
   -- nothing comes late
-  pub nothing_late : (late_links_of_run script turns core is ≡ []) × (late_of_run script turns core is ≡ [])
-  nothing_late = (no_late_link, none_late)
+  pub nothing_behind : (late_links_of_run script turns core is ≡ []) × (late_of_run script turns core is ≡ [])
+  nothing_behind = (no_late_link, none_late)
+
+-- as where no `join` stands in the script
+pub nothing_late : (script : List Item) (made : AreMade script) (turns : List Turn) (core : Core) (is : IsRunWithCalls script turns core) → ((client number : ℕ) → Contains script (Join client number) → ⊥) → (late_links_of_run script turns core is ≡ []) × (late_of_run script turns core is ≡ [])
+nothing_late script made turns core is no_join = nothing_behind script made turns core is (clients_rest script made turns core is no_join)

@@ -1,5 +1,5 @@
 -- The report of a run with calls fits, and where nothing went wrong and nothing came late it is complete. Nothing comes late where no `join` stands in the script, as where some link has no server.
-use Rattle.std.proofs.Common.{◌≡◌, ℕ, zero, ◌⊎◌, inl, inr, ⊎_elim, Bool, true, false, List, [], ◌∷◌, Ok, refl, subst}
+use Rattle.std.proofs.Common.{◌≡◌, ℕ, zero, ◌≤◌, length, ◌⊎◌, inl, inr, ⊎_elim, Bool, true, false, List, [], ◌∷◌, Ok, refl, subst}
 use Rattle.std.specs.Prelude.{IsTrue, Contains}
 use Rattle.brpc_model.specs.Complete.{IsUntroubled, FitsWhole}
 use Rattle.brpc_model.specs.Items.{Item, Shape, Open, Join}
@@ -21,10 +21,12 @@ use Rattle.whole_runs.proofs.Starts.{made}
 use Rattle.whole_runs.proofs.Unjoined.{no_join}
 use Rattle.call_causes.specs.Lists.{given}
 use Rattle.served_runs.specs.Offered.{OffersInRun}
-use Rattle.calm_runs.proofs.Nothing.{nothing_late}
+use Rattle.calm_runs.proofs.Nothing.{nothing_behind, nothing_late}
 use Rattle.served_calls.specs.Quiet.{AreShown, GivesFew, IsTimely}
 use Rattle.served_calls.proofs.Whole.{offered_fits}
-use Rattle.served_fits.specs.Shown.{AreSo, IsInTime}
+use Rattle.served_sizes.proofs.Few.{few}
+use Rattle.served_fits.specs.Shown.{AreSo, IsInTime, NoneOpen}
+use Rattle.served_fits.proofs.Rests.{clients_over}
 
 -- ## Joins
 
@@ -43,7 +45,7 @@ served_or_not false f = absurd (f refl)
 nothing_there : (x : ℕ) (l : List ℕ) → l ≡ [] → Contains l x → ⊥
 nothing_there x l none_ there = has_none x (subst (λ (m : List ℕ). Has m x) none_ (has_from l x there))
 
-module _ (bytes : List ℕ) (script : List Item) (reads : script_of bytes ≡ Ok script) (turns : List Turn) (core : Core) (is : IsRunWithCalls script turns core) (closes : ClosesInRun script turns core is) (offers : OffersInRun script turns core is) (fixed : Fixed)
+module _ (bytes : List ℕ) (script : List Item) (reads : script_of bytes ≡ Ok script) (short : length bytes ≤ 1048576) (turns : List Turn) (core : Core) (is : IsRunWithCalls script turns core) (closes : ClosesInRun script turns core is) (offers : OffersInRun script turns core is) (fixed : Fixed)
     (orders : ℕ → Order) (tells : ToldCalls (plan_of script) (all_tasks script) core.outcomes fixed (given core) orders core) (so : AreSo script turns core is fixed tells.last) (report : Report) (took : List (List ℕ)) (ends : List LinkEnd)
     (reports : Reports script core took report) (told : AreTold ends took) (given_back : AreEndsOf script core fixed (given core) ends) (shown : AreShown script turns core is fixed ends) where
   timely : IsInTime script turns core is → IsTimely script turns core is fixed orders
@@ -54,29 +56,30 @@ module _ (bytes : List ℕ) (script : List Item) (reads : script_of bytes ≡ Ok
   }
 
   -- links with the server gave less than is read at most
-  abbrev Few : Type 0
-  Few = IsUntroubled script ends → GivesFew script turns core is
+  gives_few : IsUntroubled script ends → GivesFew script turns core is
+  gives_few untroubled k s = few bytes script reads short turns core is closes offers fixed orders tells untroubled.few_attempts k s.0 s.1 s.2
 
   -- where nothing comes late in a run in which nothing went wrong
-  pub timely_fits : Few → (IsUntroubled script ends → IsInTime script turns core is) → FitsWhole script (report_text script report) ends (lateness fixed)
-  timely_fits few in_time = offered_fits bytes script reads turns core is closes offers fixed orders (ended_length bytes script reads turns core is) tells so.last report took ends reports told given_back shown few
+  pub timely_fits : (IsUntroubled script ends → IsInTime script turns core is) → FitsWhole script (report_text script report) ends (lateness fixed)
+  timely_fits in_time = offered_fits bytes script reads turns core is closes offers fixed orders (ended_length bytes script reads turns core is) tells so.last report took ends reports told given_back shown gives_few
       (λ untroubled. timely (in_time untroubled))
 
   -- as where no `join` stands in the script
-  pub joinless_fits : Few → ((client number : ℕ) → Contains script (Join client number) → ⊥) → FitsWhole script (report_text script report) ends (lateness fixed)
-  joinless_fits few none_ = timely_fits few (λ untroubled. nothing_late script (made bytes script reads) turns core is none_)
+  pub joinless_fits : ((client number : ℕ) → Contains script (Join client number) → ⊥) → FitsWhole script (report_text script report) ends (lateness fixed)
+  joinless_fits none_ = timely_fits (λ untroubled. nothing_late script (made bytes script reads) turns core is none_)
 
   -- and so where some link has no server
-  pub unserved_fits : Few → (name : List ℕ) (shape : Shape) → Contains script (Open name shape) → shape.serve ≡ false → FitsWhole script (report_text script report) ends (lateness fixed)
-  unserved_fits few name shape opened unserved = joinless_fits few (no_join bytes script reads name shape opened unserved)
+  pub unserved_fits : (name : List ℕ) (shape : Shape) → Contains script (Open name shape) → shape.serve ≡ false → FitsWhole script (report_text script report) ends (lateness fixed)
+  unserved_fits name shape opened unserved = joinless_fits (no_join bytes script reads name shape opened unserved)
 
-  -- where a `join` stands, each link has a server: nothing is late where nothing went wrong
-  abbrev pub JoinsAreOver : Type 0
-  JoinsAreOver = (client number : ℕ) → Contains script (Join client number) → ((name : List ℕ) (shape : Shape) → Contains script (Open name shape) → IsTrue shape.serve) → IsUntroubled script ends → IsInTime script turns core is
+  -- where a `join` stands, each link has a server: each call has ended as the ending begins, where nothing went wrong
+  abbrev pub CallsAreOver : Type 0
+  CallsAreOver = (client number : ℕ) → Contains script (Join client number) → ((name : List ℕ) (shape : Shape) → Contains script (Open name shape) → IsTrue shape.serve) → IsUntroubled script ends → NoneOpen script turns core is
 
-  pub whole_fits : Few → JoinsAreOver → FitsWhole script (report_text script report) ends (lateness fixed)
-  whole_fits few over = ⊎_elim
-      (λ none_. joinless_fits few (λ client number joins. none_ client number (has_from script (Join client number) joins)))
-      (λ some_. timely_fits few (over some_.0 some_.1 (contains_from script (Join some_.0 some_.1) some_.2)
-      (λ name shape opened. served_or_not shape.serve (λ unserved. no_join bytes script reads name shape opened unserved some_.0 some_.1 (contains_from script (Join some_.0 some_.1) some_.2)))))
+  pub whole_fits : CallsAreOver → FitsWhole script (report_text script report) ends (lateness fixed)
+  whole_fits over = ⊎_elim
+      (λ none_. joinless_fits (λ client number joins. none_ client number (has_from script (Join client number) joins)))
+      (λ some_. timely_fits (λ untroubled. nothing_behind script (made bytes script reads) turns core is (clients_over script (made bytes script reads) turns core is
+      (over some_.0 some_.1 (contains_from script (Join some_.0 some_.1) some_.2)
+      (λ name shape opened. served_or_not shape.serve (λ unserved. no_join bytes script reads name shape opened unserved some_.0 some_.1 (contains_from script (Join some_.0 some_.1) some_.2))) untroubled))))
       (joins_or_not script)

@@ -1,0 +1,156 @@
+-- A link with the built-in server gives less than the most that is read: what it took is no more than the script's calls and sends, and the replies are little longer.
+use Rattle.std.proofs.Common.{◌≡◌, ℕ, zero, suc, ◌+◌, ◌*◌, ◌<◌, ◌≤◌, List, [], ◌∷◌, ◌++◌, length, take, drop, map, flat_map, filter_map, slice_get, Some, None, Ok, length-append, append-nil, append_assoc, refl, sym, ap, ◌∙◌, subst, arith}
+use Rattle.std.proofs.lemmas.Grind.{flat_map-append}
+use Rattle.std.proofs.lemmas.List.{take-append-drop}
+use Rattle.std.proofs.lemmas.Option.{slice_get_within}
+use Rattle.std.specs.Prelude.{pos, IsTrue}
+use Rattle.std.specs.List.{AllByRecursion}
+use Rattle.brpc_model.specs.Items.{Item, Shape, Open, Send, Call, attempts_of, opened_name, opened_shape}
+use Rattle.brpc_model.specs.Operations.{Operation, Turn, operations, link_names, link_shapes, attempts, requests}
+use Rattle.brpc_model.specs.Order.{EachBefore, IsCut}
+use Rattle.brpc_model.specs.Places.{names}
+use Rattle.brpc_model.specs.Script.{script_of}
+use Rattle.brpc_model.specs.Served.{given_for}
+use Rattle.brpc_model.specs.Spelling.{number_field, bytes_field, request_bytes, where_not_0, meta_bytes}
+use Rattle.brpc_model.specs.Wire.{varint_bytes}
+use Rattle.report_fits.proofs.CallLines.{CallInRange}
+use Rattle.report_fits.proofs.LabelCounts.{Differ}
+use Rattle.report_fits.proofs.Lists.{all_at, all_from, before_from}
+use Rattle.report_fits.proofs.Numbering.{are_from}
+use Rattle.report_fits.proofs.Reading.{InRange}
+use Rattle.report_fits.proofs.Sizes.{is_counted, keeps_limits}
+use Rattle.report_fits.proofs.Targets.{are_there}
+use Rattle.report_fits.proofs.TaskLemmas.{numbers_at, task_is, send_asks, call_asks}
+use Rattle.sock_message.specs.Asked.{Asked, meta_of, frame_of}
+use Rattle.sock_programs.specs.Readers.{LIMIT}
+use Rattle.sock_programs.specs.Cores.{Core}
+use Rattle.sock_programs.specs.Tasks.{numbered, plan_of}
+use Rattle.sock_programs.specs.ToldCalls.{Accepted, Order, Fixed, ToldCalls, IsTaken, IsSent, OfSend, OfCall, label, bytes_of}
+use Rattle.sock_programs.specs.Scripts.{all_tasks, IsRunWithCalls}
+use Rattle.owed_calls.specs.Lives.{ClosesInRun}
+use Rattle.whole_runs.proofs.Starts.{made}
+use Rattle.call_causes.specs.Lists.{given}
+use Rattle.served_runs.specs.Offered.{OffersInRun}
+use Rattle.served_runs.specs.Served.{took_in_all}
+use Rattle.served_runs.proofs.Served.{gives_front}
+use Rattle.served_sizes.specs.Bodies.{carried, all_carried}
+use Rattle.served_sizes.proofs.Texts.{carried_few}
+use Rattle.served_sizes.proofs.Replies.{varint_short, framed_length, replies_short}
+use Rattle.served_sizes.proofs.Weights.{weight_of, weight_at, all_few}
+
+-- ## Requests
+
+number_short : (number n : ℕ) → length (number_field number n) ≤ 20
+number_short number n = omega (arith, length-append (varint_bytes (number * 8)) (varint_bytes n), varint_short 10 (number * 8), varint_short 10 n)
+
+bytes_short : (number : ℕ) (bytes : List ℕ) → length (bytes_field number bytes) ≤ 20 + length bytes
+bytes_short number bytes = omega (arith, length-append (varint_bytes (number * 8 + 2) ++ varint_bytes (length bytes)) bytes, length-append (varint_bytes (number * 8 + 2)) (varint_bytes (length bytes)), varint_short 10 (number * 8 + 2), varint_short 10 (length bytes))
+
+size_short : (n : ℕ) → length (where_not_0 5 (pos n)) ≤ 20
+size_short zero = omega arith
+size_short (suc n) = number_short 5 (suc n)
+
+request_short : (service method : List ℕ) → length service ≤ 64 → length method ≤ 64 → length (request_bytes (record { service = service; method = method; log_id = None })) ≤ 168
+request_short service method s m = sums (bytes_field 1 service) (bytes_field 2 method) (bytes_short 1 service) (bytes_short 2 method)
+  where
+    sums : (x y : List ℕ) → length x ≤ 20 + length service → length y ≤ 20 + length method → length (x ++ y ++ []) ≤ 168
+    sums x y p q = omega (arith, s, m, p, q, length-append (x ++ y) [], length-append x y)
+
+meta_short : (service method : List ℕ) (id size : ℕ) → length service ≤ 64 → length method ≤ 64
+    → length (meta_bytes (record { request = Some (record { service = service; method = method; log_id = None }); response = None; compress_type = pos 0; correlation_id = id; attachment_size = pos size })) ≤ 228
+meta_short service method id size s m = let r = request_short service method s m in let b = bytes_short 1 (request_bytes (record { service = service; method = method; log_id = None })) in
+    sums (bytes_field 1 (request_bytes (record { service = service; method = method; log_id = None }))) (number_field 4 id) (where_not_0 5 (pos size)) (omega (arith, r, b)) (number_short 4 id) (size_short size)
+  where
+    sums : (x y z : List ℕ) → length x ≤ 188 → length y ≤ 20 → length z ≤ 20 → length (x ++ [] ++ [] ++ y ++ z) ≤ 228
+    sums x y z p q r = omega (arith, p, q, r, length-append (((x ++ []) ++ []) ++ y) z, length-append ((x ++ []) ++ []) y, length-append (x ++ []) [], length-append x [])
+
+-- a request has so many bytes besides what it carries
+frame_few : (asked : Asked) (id n : ℕ) → length asked.service ≤ 64 → length asked.method ≤ 64 → length (frame_of asked id n) ≤ 240 + (length asked.payload + length asked.attachment)
+frame_few asked id n s m = let l = framed_length (meta_bytes (meta_of asked id n)) asked.payload asked.attachment in let few = meta_short asked.service asked.method (id + n + 1) (length asked.attachment) s m in sums (length (frame_of asked id n)) (length (meta_bytes (meta_of asked id n))) (length asked.payload) (length asked.attachment) l few
+  where
+    sums : (f m p a : ℕ) → f ≡ 12 + (m + p + a) → m ≤ 228 → f ≤ 240 + (p + a)
+    sums f m p a e q = omega (arith, e, q)
+
+-- ## Attempts
+
+attempts_low : (item : Item) → InRange item → attempts_of item ≤ 7
+attempts_low (Send name bytes) range = omega arith
+attempts_low (Call call) range = let few = range.retry in omega (arith, few)
+attempts_low other range = omega arith
+
+shapes_many : (items : List Item) → length (filter_map opened_shape items) ≡ length (filter_map opened_name items)
+shapes_many [] = refl
+shapes_many (Open name shape ∷ items) = ap suc (shapes_many items)
+shapes_many (item ∷ items) = shapes_many items
+
+cut_more : (cut : List ℕ) (next : List Accepted) → IsCut cut (map bytes_of next) → (more : List ℕ) × (cut ++ more ≡ flat_map bytes_of next)
+cut_more cut [] e = ([], append-nil cut ∙ e)
+cut_more cut (a ∷ rest) (more, some_, e) = (more ++ flat_map bytes_of rest, sym (append_assoc cut more (flat_map bytes_of rest)) ∙ ap (λ l. l ++ flat_map bytes_of rest) e)
+
+-- the messages of a link, of which it took some whole and then a cut
+taken_few : (o : Order) (took : List ℕ) → IsTaken o took → length took ≤ length (flat_map bytes_of o.accepted)
+taken_few o took taken = let n = o.placed in let x = cut_more taken.cut (drop n o.accepted) taken.is_cut in
+    let whole : took ++ x.0 ≡ flat_map bytes_of o.accepted = ap (λ l. l ++ x.0) taken.took_is ∙ (append_assoc (flat_map bytes_of (take n o.accepted)) taken.cut x.0 ∙ (ap (λ l. flat_map bytes_of (take n o.accepted) ++ l) x.1
+    ∙ (sym (flat_map-append bytes_of (take n o.accepted) (drop n o.accepted)) ∙ ap (flat_map bytes_of) (take-append-drop n o.accepted)))) in
+    let long = ap length whole in let parts = length-append took x.0 in omega (arith, long, parts)
+
+-- the message of an attempt that carries what its operation carries has room under its label
+at_label : (ops : List Operation) (o n : ℕ) (q : Operation) (a : Accepted) → slice_get ops o ≡ Some q → o ≡ a.operation → n ≡ a.attempt → n < attempts_of q.item → attempts_of q.item ≤ 7 → length a.bytes ≤ 240 + carried q.item
+    → (label a < 8 * length ops) × (length a.bytes ≤ weight_of ops (label a))
+at_label ops o n q a there number attempt low few short =
+    let inside = slice_get_within ops o q there in let same : 8 * o + n ≡ label a = omega (arith, number, attempt) in
+    (omega (arith, inside, number, attempt, low, few), subst (λ m. length a.bytes ≤ m) (sym (weight_at ops o n q there low (omega (arith, low, few))) ∙ ap (weight_of ops) same) short)
+
+module _ (bytes : List ℕ) (script : List Item) (reads : script_of bytes ≡ Ok script) (short : length bytes ≤ 1048576) (turns : List Turn) (core : Core) (is : IsRunWithCalls script turns core) (closes : ClosesInRun script turns core is) (offers : OffersInRun script turns core is)
+    (fixed : Fixed) (orders : ℕ → Order) (tells : ToldCalls (plan_of script) (all_tasks script) core.outcomes fixed (given core) orders core) where
+  range : AllByRecursion InRange script
+  range = let counted = is_counted bytes script reads in counted.in_range
+
+  range_at : (i : ℕ) (q : Operation) → slice_get (operations script) i ≡ Some q → InRange q.item
+  range_at i q there = all_at InRange script q.item range (are_from 0 1 script i q there).there
+
+  small : AllByRecursion (λ (op : Operation). attempts_of op.item ≤ 7) (operations script)
+  small = all_from (λ (op : Operation). attempts_of op.item ≤ 7) (operations script) (λ q h. attempts_low q.item (range_at h.0 q h.1))
+
+  sent_few : (k : ℕ) (a : Accepted) → IsSent (plan_of script) (all_tasks script) core.outcomes fixed (given core) orders tells.last k a → (label a < 8 * length (operations script)) × (length a.bytes ≤ weight_of (operations script) (label a))
+  sent_few k a (OfSend client t name slot version it number op first life untold) =
+      let w = task_is script core.outcomes client t it in let m = send_asks (numbered script) (names script) (numbers_at script t.number w.operation) w.operation.item name a.bytes (w.asks ∙ ap (λ x. Some x) op) in
+      let tried : attempts_of w.operation.item ≡ 1 = ap attempts_of m.1 in let carries : carried w.operation.item ≡ length a.bytes = ap carried m.1 in
+      at_label (operations script) t.number 0 w.operation a w.there number (sym first) (omega (arith, tried)) (omega (arith, tried)) (omega (arith, carries))
+  sent_few k a (OfCall client t asked outcome id slot version it number op became shows last is_frame life) =
+      let w = task_is script core.outcomes client t it in let m = call_asks (numbered script) (names script) (numbers_at script t.number w.operation) w.operation.item asked (w.asks ∙ ap (λ x. Some x) op) in
+      let tried : attempts_of w.operation.item ≡ m.0.retry + 1 = ap attempts_of m.1 in let carries : carried w.operation.item ≡ length m.0.payload + length m.0.attachment = ap carried m.1 in
+      let fits : CallInRange m.0 = subst InRange m.1 (range_at t.number w.operation w.there) in
+      let retry = fits.retry in let service = fits.service in let method = fits.method in
+      let ranges : asked.range ≡ m.0.retry + 2 = ap (λ (x : Asked). x.range) m.2 in
+      let payload : length asked.payload ≡ length m.0.payload = ap (λ (x : Asked). length x.payload) m.2 in
+      let attachment : length asked.attachment ≡ length m.0.attachment = ap (λ (x : Asked). length x.attachment) m.2 in
+      let names_service : length asked.service ≡ length m.0.service = ap (λ (x : Asked). length x.service) m.2 in
+      let names_method : length asked.method ≡ length m.0.method = ap (λ (x : Asked). length x.method) m.2 in
+      let most = (tells.again client t asked it op).0 in let last_same : tells.last t.number ≡ tells.last a.operation = ap tells.last number in
+      let long : length a.bytes ≡ length (frame_of asked id a.attempt) = ap length is_frame in
+      let frame = frame_few asked id a.attempt (omega (arith, service, names_service)) (omega (arith, method, names_method)) in
+      at_label (operations script) t.number a.attempt w.operation a w.there number refl (omega (arith, last, last_same, most, ranges, tried)) (omega (arith, tried, retry)) (omega (arith, long, frame, payload, attachment, carries))
+
+  apart : (k : ℕ) → k < (plan_of script).links → EachBefore Differ (orders k).accepted
+  apart k low = before_from Differ (orders k).accepted (λ i j a b less at there same. (let e = (let are = tells.are_orders in are.apart) k k i j a b low low at there same in let z = e.1 in omega (arith, z, less)))
+
+  took_few : (k : ℕ) → k < (plan_of script).links → length (took_in_all script turns core is k) ≤ 240 * attempts script + 7 * all_carried script
+  took_few k low = let t = taken_few (orders k) (took_in_all script turns core is k) ((let are = tells.are_orders in are.taken) k low) in
+      let all = all_few script small (orders k).accepted (apart k low) (λ a h. sent_few k a (all_at (IsSent (plan_of script) (all_tasks script) core.outcomes fixed (given core) orders tells.last k) (orders k).accepted a (tells.sent k low) h)) in
+      up (length (took_in_all script turns core is k)) (length (flat_map bytes_of (orders k).accepted)) (240 * attempts script + 7 * all_carried script) t all
+    where
+      up : (a b c : ℕ) → a ≤ b → b ≤ c → a ≤ c
+      up a b c p q = omega (arith, p, q)
+
+  -- where there are requests for all attempts, each link with the server gives less than is read at most
+  pub few : attempts script ≤ requests script → (k : ℕ) (shape : Shape) → slice_get (link_shapes script) k ≡ Some shape → IsTrue shape.serve → length (given core k) < LIMIT
+  few enough k shape at serves =
+      let x = gives_front script (made bytes script reads) (are_there bytes script reads) range turns core is closes offers k shape at serves in
+      let limits = keeps_limits bytes script reads in let most = limits.requests in
+      let low : k < length (link_names script) = (let l = slice_get_within (link_shapes script) k shape at in let m = shapes_many script in omega (arith, l, m)) in
+      sums (length (given core k)) (length x.0) (length (given_for shape (took_in_all script turns core is k))) (length (took_in_all script turns core is k)) (attempts script) (requests script) (all_carried script) (length bytes)
+      (sym (length-append (given core k) x.0) ∙ ap length x.1) (replies_short shape (took_in_all script turns core is k)) (took_few k low) enough most (carried_few bytes script reads) short
+    where
+      sums : (g m r t a q c b : ℕ) → g + m ≡ r → 12 * r ≤ 41 * t → t ≤ 240 * a + 7 * c → a ≤ q → q ≤ 4096 → 2 * c ≤ b → b ≤ 1048576 → g < 16777216
+      sums g m r t a q c b e p s u v w z = omega (arith, e, p, s, u, v, w, z)
