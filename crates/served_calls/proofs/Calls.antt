@@ -29,6 +29,7 @@ use Rattle.sock_programs.specs.Scripts.{all_tasks, IsRunWithCalls}
 use Rattle.joint_runs.proofs.Runs.{AreMade}
 use Rattle.whole_runs.specs.Heard.{heard_takes}
 use Rattle.call_causes.specs.Lists.{given, attempts_of_run}
+use Rattle.served_runs.proofs.Served.{shapes_many}
 use Rattle.served_runs.specs.Served.{request_with, IsServed, IsForCalls, IsReplyToCall, GivesReplies, GivesLast, GivesNoFault, GivesCallReplies}
 use Rattle.served_runs.proofs.Frames.{request_is}
 use Rattle.served_calls.specs.Quiet.{HasServer, AreEarly, IsQuiet, IsForServers, IsUnexpired, CallIsDone}
@@ -39,12 +40,6 @@ below_or_not : (i n : ℕ) → (i < n) ⊎ (n ≤ i)
 below_or_not i zero = inr (omega arith)
 below_or_not zero (suc n) = inl (omega arith)
 below_or_not (suc i) (suc n) = ⊎_elim (λ l. inl (omega (arith, l))) (λ g. inr (omega (arith, g))) (below_or_not i n)
-
--- each link has a shape
-pub shapes_many : (items : List Item) → length (filter_map opened_shape items) ≡ length (filter_map opened_name items)
-shapes_many [] = refl
-shapes_many (Open name shape ∷ items) = ap suc (shapes_many items)
-shapes_many (item ∷ items) = shapes_many items
 
 -- no bytes are no frame
 none_given : (bytes : List ℕ) (n : ℕ) (frame : Frame) → bytes ≡ [] → slice_get (stream bytes).frames n ≡ Some frame → ⊥

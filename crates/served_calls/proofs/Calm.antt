@@ -39,7 +39,8 @@ use Rattle.whole_runs.proofs.Starts.{made}
 use Rattle.call_causes.specs.Lists.{given, attempts_of_run}
 use Rattle.served_runs.specs.Served.{GivesReplies, GivesLast, GivesNoFault, GivesCallReplies}
 use Rattle.served_calls.specs.Quiet.{AreShown, GivesFew, HasServer, AreEarly, IsQuiet, IsTimely, IsForServers, IsUnexpired, CallIsDone}
-use Rattle.served_calls.proofs.Calls.{shapes_many, none_early, served_call_done}
+use Rattle.served_runs.proofs.Served.{shapes_many}
+use Rattle.served_calls.proofs.Calls.{none_early, served_call_done}
 use Rattle.served_calls.proofs.Requests.{AreIdsSmall}
 
 -- ## Links

@@ -36,11 +36,6 @@ flat_long f [] x h = absurd (let w : None ≡ Some x = h.1 in cc)
 flat_long f (y ∷ ys) x (zero, e) = let l = length-append (f y) (flat_map f ys) in let same = ap (λ z. length (f z)) (some_is y x e) in omega (arith, l, same)
 flat_long f (y ∷ ys) x (suc i, e) = let l = length-append (f y) (flat_map f ys) in let r = flat_long f ys x (i, e) in omega (arith, l, r)
 
--- what a link took is the front of all that it accepted
-pub cut_more : (cut : List ℕ) (next : List Accepted) → IsCut cut (map bytes_of next) → (more : List ℕ) × (cut ++ more ≡ flat_map bytes_of next)
-cut_more cut [] e = ([], append-nil cut ∙ e)
-cut_more cut (a ∷ rest) (more, some_, e) = (more ++ flat_map bytes_of rest, sym (append_assoc cut more (flat_map bytes_of rest)) ∙ ap (λ l. l ++ flat_map bytes_of rest) e)
-
 -- ## Streams of whole frames
 
 last_none : (bytes : List ℕ) → last_of 0 bytes ≡ []

@@ -27,7 +27,8 @@ use Rattle.call_causes.specs.Lists.{given}
 use Rattle.call_causes.proofs.Streams.{frames_stay}
 use Rattle.served_runs.specs.Served.{took_in_all}
 use Rattle.served_runs.proofs.Frames.{IsPiece, piece_frames, pieces_end, IsSmall, request_is, reply_is}
-use Rattle.served_calls.proofs.Frames.{take_at, cut_more, frames_then, first_has, piece_has, reply_more, reply_to}
+use Rattle.served_runs.proofs.Own.{cut_more}
+use Rattle.served_calls.proofs.Frames.{take_at, frames_then, first_has, piece_has, reply_more, reply_to}
 
 -- the frame is the request of an attempt of some call
 pub record IsCalled (f : Frame) : Type 0 where

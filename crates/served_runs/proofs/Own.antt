@@ -71,7 +71,7 @@ all_in P (y ∷ ys) x all (inl e) = subst P (sym e) all.0
 all_in P (y ∷ ys) x all (inr m) = all_in P ys x all.1 m
 
 -- what a link took is the front of all that it accepted
-cut_more : (cut : List ℕ) (next : List Accepted) → IsCut cut (map bytes_of next) → (more : List ℕ) × (cut ++ more ≡ flat_map bytes_of next)
+pub cut_more : (cut : List ℕ) (next : List Accepted) → IsCut cut (map bytes_of next) → (more : List ℕ) × (cut ++ more ≡ flat_map bytes_of next)
 cut_more cut [] e = ([], append-nil cut ∙ e)
 cut_more cut (a ∷ rest) (more, some_, e) = (more ++ flat_map bytes_of rest, sym (append_assoc cut more (flat_map bytes_of rest)) ∙ ap (λ l. l ++ flat_map bytes_of rest) e)
 

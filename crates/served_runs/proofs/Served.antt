@@ -40,7 +40,7 @@ first_none : (xs ys : List ℕ) → xs ++ ys ≡ [] → xs ≡ []
 first_none [] ys e = refl
 first_none (x ∷ xs) ys e = absurd (let z : x ∷ (xs ++ ys) ≡ [] = e in cc)
 
-shapes_many : (items : List Item) → length (filter_map opened_shape items) ≡ length (filter_map opened_name items)
+pub shapes_many : (items : List Item) → length (filter_map opened_shape items) ≡ length (filter_map opened_name items)
 shapes_many [] = refl
 shapes_many (Open name shape ∷ items) = ap suc (shapes_many items)
 shapes_many (item ∷ items) = shapes_many items
