@@ -1,21 +1,25 @@
 -- What was offered to a link stays what belongs to it: at its opening, by each call of its halves, and where it is settled.
-use Rattle.std.proofs.Common.{◌≡◌, ℕ, zero, suc, ◌<◌, ◌≤◌, ◌⊎◌, inl, inr, ⊎_elim, ◌&&◌, ◌||◌, Bool, true, false, cond, List, [], ◌∷◌, ◌++◌, length, take, drop, Option, None, Some, refl, ap, sym, ◌∙◌, subst, arith, append_assoc, append-nil, length-append}
+use Rattle.std.proofs.Common.{◌≡◌, ℕ, zero, suc, ◌≤◌, ◌⊎◌, inl, inr, ◌&&◌, ◌||◌, Bool, true, false, cond, List, [], ◌∷◌, ◌++◌, length, take, drop, Option, None, Some, refl, ap, sym, ◌∙◌, subst, arith, append_assoc, append-nil, length-append}
 use Rattle.std.specs.Prelude.{flat_map}
 use Rattle.std.proofs.Math.Seq.{take-append_seam, drop-append_seam}
 use Rattle.std.proofs.lemmas.Bool.{leb-true, le-leb}
-use Rattle.std.proofs.lemmas.List.{take-append-le}
+use Rattle.std.proofs.lemmas.List.{append_cancel_left, take-append-le}
 use Rattle.brpc_model.specs.Frame.{Frame, frame_bytes}
 use Rattle.brpc_model.specs.Stream.{Stream, stream}
 use Rattle.brpc_model.specs.Reply.{reply_frames}
-use Rattle.brpc_model.specs.Served.{first_of}
+use Rattle.brpc_model.specs.Served.{first_of, given_for}
 use Rattle.sock_io.specs.declared.ending.Ending.{Ending}
 use Rattle.sock_io.specs.declared.ending.Ending.TheVariants as ending
 use Rattle.sock_io.specs.declared.link.Take.{Take}
 use Rattle.sock_io.specs.declared.link.Take.TheVariants as take_
-use Rattle.sock_io.specs.Link.{TakeStep, OfferTaken, IsServed, given_of}
+use Rattle.sock_io.specs.declared.link.LinkSpec.{LinkSpec}
+use Rattle.sock_io.specs.Link.{TakeStep, OfferTaken, IsServed, IsNewOffer, given_of, end_of}
+use Rattle.sock_io.specs.Shape.{ShapedState, shaped_out}
+use Rattle.brpc_model.specs.Items.{Shape}
 use Rattle.sock_io.specs.Memory.{MemInState, closing, empty_in, is_closing, mem_in, take_answer}
+use Rattle.sock_io.proofs.Offers.{gave_to_end, gave_to_closing}
 use Rattle.rpc_server.specs.Feeding.{is_fault, has_fault}
-use Rattle.loop_link.specs.Serving.{LoopPeerState, LoopInState, offer_of, loop_in, first_ending, new_in, is_reached, replies_for, ends_for, offered_for, gives_end, is_open, is_ended, IsOver, IsSteady, ending_for, IsOffered, Answers, NewReplies, first_left}
+use Rattle.loop_link.specs.Serving.{LoopPeerState, LoopInState, offer_of, loop_in, first_ending, new_in, is_reached, replies_for, ends_for, offered_for, gives_end, is_open, is_ended, IsOver, IsSteady, HasTold, IsTold, ending_for, IsOffered, Answers, Settled, NewReplies, first_left}
 use Rattle.loop_link.proofs.Following.{fault_stays_whole, replies_begin}
 use Rattle.loop_link.proofs.Fronts.{offered_more}
 
@@ -51,7 +55,7 @@ no_bytes (x ∷ l) e = absurd (omega (arith, e))
 -- what was taken stood in front
 taken_front : (given got waiting given' waiting' : List ℕ) → Some given' ≡ Some (given ++ got) → given' ++ waiting' ≡ given ++ waiting → got ++ waiting' ≡ waiting
 taken_front given got waiting given' waiting' more same = let e : given' ≡ given ++ got = cc in
-    append-cancel given (got ++ waiting') waiting (sym (append_assoc given got waiting') ∙ ap (λ l. l ++ waiting') (sym e) ∙ same)
+    append_cancel_left given (got ++ waiting') waiting (sym (append_assoc given got waiting') ∙ ap (λ l. l ++ waiting') (sym e) ∙ same)
 
 pauses : (waiting : List ℕ) (e : Ending) (room : ℕ) (result : Take) → result ≡ take_answer waiting e room → (b : Ending) (t : Take) → take_answer [] b room ≡ t → ((n : ℕ) → t ≡ take_.Took n → ⊥) → ((c : Ending) → take_answer [] c room ≡ t → c ≡ b) → result ≡ t → (waiting ≡ []) × (e ≡ b)
 pauses [] e room result is b t shows none only same = (refl, only e (sym is ∙ same))
@@ -156,6 +160,8 @@ answers_idle old new took inn idle is = subst (λ p. Answers old took inn p inn)
   end = refl;
   half = refl;
   closing = refl;
+  idle = λ _. refl;
+  shut = λ _. refl;
   steady = λ s. s ∙ (unserved old.serve old.end old.fed took idle).0;
   all = λ o. (
     inl refl,
@@ -176,6 +182,8 @@ answers_over old took inn over = record {
   end = refl;
   half = refl;
   closing = refl;
+  idle = λ _. refl;
+  shut = λ _. refl;
   steady = λ s. s;
   all = λ o. (by inn.ending refl o, o);
 }
@@ -263,6 +271,8 @@ answers_served old new took front rest server server' bytes tail inn mid inn' en
   end = ap (λ (p : LoopPeerState). p.end) new_is;
   half = inn_whole ∙ λ i. record inn { waiting = sym waits i; ending = sym ends i };
   closing = ap is_closing ends ∙ still_open inn.ending (is_reached end made || faulty) live;
+  idle = λ e. let x : false ≡ true = sym e ∙ serves in absurd (cc);
+  shut = λ e. let x : false ≡ true = sym e ∙ live in absurd (cc);
   steady = λ _. ap is_ended ends ∙ ends_where (is_reached end made || faulty) ∙ ap (λ x. is_reached x made || faulty) end_is ∙ ap (λ n. is_reached old.end n || faulty) (made_is ∙ ap (λ l. length (reply_frames l)) fed) ∙ ap (λ b. is_reached old.end (length (reply_frames (server ++ rest))) || b) fault ∙ sym gives;
   all = λ o. let x =
       answered took rest bytes tail server inn inn' old new faulty serves live o rest_is (begun (first_fed o) ∙ first_fed o) replies fault
@@ -307,43 +317,54 @@ closing_ended ending.Open = refl
 closing_ended ending.Ended = refl
 closing_ended ending.Closed = refl
 
-pub closing_steady : (peer : LoopPeerState) (half : MemInState) → IsSteady peer half → IsSteady peer (record half { ending = closing half.ending })
-closing_steady peer half s = closing_ended half.ending ∙ s
-
-closing_closes : (e : Ending) → (is_closing (closing e) ≡ is_closing e) ⊎ (is_closing (closing e) ≡ true)
-closing_closes ending.Open = inr refl
-closing_closes ending.Ended = inl refl
-closing_closes ending.Closed = inl refl
-
 closed_before : (e f : Ending) → is_closing e ≡ is_closing f → e ≡ ending.Closed → f ≡ ending.Closed
 closed_before e ending.Open same is = absurd (let x : false ≡ true = sym same ∙ ap is_closing is in cc)
 closed_before e ending.Ended same is = absurd (let x : false ≡ true = sym same ∙ ap is_closing is in cc)
 closed_before e ending.Closed same is = refl
 
+closes_where : (e : Ending) (b : Bool) → is_ended e ≡ b → (e ≡ ending.Closed → ⊥) → e ≡ ending_for b false
+closes_where ending.Open b is shut = ap (λ x. ending_for x false) is
+closes_where ending.Ended b is shut = ap (λ x. ending_for x false) is
+closes_where ending.Closed b is shut = absurd (shut refl)
+
+closed_where : (e : Ending) (b : Bool) → is_ended e ≡ b → closing e ≡ ending_for b true
+closed_where ending.Open b is = ap (λ x. ending_for x true) is
+closed_where ending.Ended b is = ap (λ x. ending_for x true) is
+closed_where ending.Closed b is = ap (λ x. ending_for x true) is
+
 -- all was fed, or the end stands behind what was
-offers_all : (took : List ℕ) (half : MemInState) (peer : LoopPeerState) → IsOffered took half peer → (peer.fed ≡ took) ⊎ (is_ended half.ending ≡ true) → offered_for peer took ≡ offered_for peer peer.fed
-offers_all took half peer o (inl fed) = ap (offered_for peer) (sym fed)
-offers_all took half peer o (inr ended) = ap (offered_for peer) o.begins ∙ (gives_more peer.serve peer.end peer.fed o.left (sym o.ended ∙ ended)).1
+module _ (took : List ℕ) (half : MemInState) (peer : LoopPeerState) (o : IsOffered took half peer) where
+  offers_all : (peer.fed ≡ took) ⊎ (is_ended half.ending ≡ true) → offered_for peer took ≡ offered_for peer peer.fed
+  offers_all (inl fed) = ap (offered_for peer) (sym fed)
+  offers_all (inr ended) = ap (offered_for peer) o.begins ∙ (gives_more peer.serve peer.end peer.fed o.left (sym o.ended ∙ ended)).1
+
+  ended_all : (peer.fed ≡ took) ⊎ (is_ended half.ending ≡ true) → is_ended half.ending ≡ gives_end peer took
+  ended_all (inl fed) = o.ended ∙ ap (gives_end peer) fed
+  ended_all (inr ended) = ended ∙ sym (ap (gives_end peer) o.begins ∙ (gives_more peer.serve peer.end peer.fed o.left (sym o.ended ∙ ended)).0)
 
 module _ (took : List ℕ) (finished : Bool) (half mid : MemInState) (peer new : LoopPeerState) (steady : IsSteady peer half) (a : Answers peer took half new mid) where
-  abbrev Served : MemInState → Type 0
-  Served h = IsServed took finished half.given (offer_of (record { half = half; peer = peer })) → IsServed took finished half.given (offer_of (record { half = h; peer = new })) × (offered_for new took ≡ offered_for new new.fed)
+  abbrev Was : Type 0
+  Was = IsServed took finished half.given (offer_of (record { half = half; peer = peer }))
 
   given : mid.given ≡ half.given
   given = ap (λ (i : MemInState). i.given) a.half
 
-  pub settled_open : Served mid
-  settled_open s = let x = a.all (served_is took finished half peer steady s) in (
-    subst (λ g. IsServed took finished g (offer_of (record { half = mid; peer = new }))) given (is_served took finished mid new x.1 (λ e. (s.closed (closed_before mid.ending half.ending a.closing e)).0)),
-    offers_all took mid new x.1 x.0,
-  )
+  -- the link isn't finished
+  pub settled_open : finished ≡ false → Was → Settled took finished (record { half = mid; peer = new })
+  settled_open open_ s = let x = a.all (served_is took finished half peer steady s) in
+      let over : mid.ending ≡ ending.Closed → finished ≡ true = λ e. (s.closed (closed_before mid.ending half.ending a.closing e)).0 in record {
+        offered = x.1.offered ∙ sym (offers_all took mid new x.1 x.0);
+        ending = closes_where mid.ending (gives_end new took) (ended_all took mid new x.1 x.0) (λ e. let z : false ≡ true = sym open_ ∙ over e in cc) ∙ ap (ending_for (gives_end new took)) (sym open_);
+        served = is_served took finished mid new x.1 over;
+      }
 
-  -- the link is finished, and so the other end closes its half
-  pub settled_closed : finished ≡ true → Served (record mid { ending = closing mid.ending })
-  settled_closed over s = let x = a.all (served_is took finished half peer steady s) in (
-    subst (λ g. IsServed took finished g (offer_of (record { half = record mid { ending = closing mid.ending }; peer = new }))) given (is_served took finished (record mid { ending = closing mid.ending }) new (closes x.1 x.0) (λ _. over)),
-    offers_all took mid new x.1 x.0,
-  )
+  -- it is, and so the other end closes its half
+  pub settled_closed : finished ≡ true → Was → Settled took finished (record { half = record mid { ending = closing mid.ending }; peer = new })
+  settled_closed over s = let x = a.all (served_is took finished half peer steady s) in record {
+    offered = x.1.offered ∙ sym (offers_all took mid new x.1 x.0);
+    ending = closed_where mid.ending (gives_end new took) (ended_all took mid new x.1 x.0) ∙ ap (ending_for (gives_end new took)) (sym over);
+    served = is_served took finished (record mid { ending = closing mid.ending }) new (closes x.1 x.0) (λ _. over);
+  }
     where
       left : (o : IsOffered took mid new) → (new.fed ≡ took) ⊎ (is_ended mid.ending ≡ true) → closing mid.ending ≡ ending.Closed → o.left ≡ []
       left o (inl fed) e = no_bytes o.left (let b = o.begins in omega (arith, ap length fed, ap length b, length-append new.fed o.left))
@@ -352,12 +373,39 @@ module _ (took : List ℕ) (finished : Bool) (half mid : MemInState) (peer new :
       closes : IsOffered took mid new → (new.fed ≡ took) ⊎ (is_ended mid.ending ≡ true) → IsOffered took (record mid { ending = closing mid.ending }) new
       closes o fed = record { left = o.left; begins = o.begins; offered = o.offered; ended = closing_ended mid.ending ∙ o.ended; closed = left o fed }
 
-  pub closing_step : (finished ≡ true) → (is_closing (closing mid.ending) ≡ is_closing half.ending) ⊎ ((finished ≡ true) × (is_closing (closing mid.ending) ≡ true))
-  closing_step over = ⊎_elim (λ e. inl (e ∙ a.closing)) (λ e. inr (over, e)) (closing_closes mid.ending)
-
 -- ## A new link, as callers see it
 
-pub served_new : (serve : Bool) (end : Option ℕ) → IsServed [] false [] (offer_of (new_in serve end))
+served_new : (serve : Bool) (end : Option ℕ) → IsServed [] false [] (offer_of (new_in serve end))
 served_new serve end = is_served [] false (empty_in (first_ending serve end)) (record { serve = serve; end = end; fed = [] })
     (record { left = []; begins = refl; offered = nothing_offered serve end; ended = steady_new serve end; closed = λ _. refl })
     (λ e. absurd (not_closed (serve && is_reached end 0) e))
+
+pub new_offer : (spec : LinkSpec) (i : LoopInState) → i ≡ new_in spec.serve spec.end → IsNewOffer spec (offer_of i)
+new_offer spec i is = subst (λ x. IsNewOffer spec (offer_of x)) (sym is) record { serve = refl; end = refl; served = served_new spec.serve spec.end }
+
+-- ## A link that is given back
+
+-- once its reading half told of the end or the closing, it gave all that the other end gives for what the link took
+pub gave_all : (took : List ℕ) (finished : Bool) (half : MemInState) (peer : LoopPeerState) → IsSteady peer half → IsTold half → IsServed took finished half.given (offer_of (record { half = half; peer = peer })) → HasTold half → half.given ≡ offered_for peer took
+gave_all took finished half peer steady told s t = by half.ending refl (told t)
+  where
+    by : (e : Ending) → half.ending ≡ e → (is_open half.ending ≡ false) × (half.waiting ≡ []) → half.given ≡ offered_for peer took
+    by ending.Open is x = absurd (let z : true ≡ false = sym (ap is_open is) ∙ x.0 in cc)
+    by ending.Ended is x = gave_to_end took half.given finished (offer_of (record { half = half; peer = peer })) s x.1 is [] ∙ ap (offered_for peer) (append-nil took)
+    by ending.Closed is x = gave_to_closing took half.given finished (offer_of (record { half = half; peer = peer })) s x.1 is
+
+told_end : (inn : MemInState) → (inn.gave_end ≡ true) ⊎ (Some inn.closed ≡ Some true) → HasTold inn
+told_end inn (inl t) = inl t
+told_end inn (inr t) = let e : inn.closed ≡ true = cc in inr e
+
+-- with the server these are the replies to what it took, cut to the first N with `end=N`
+pub gave_replies : (out : ShapedState) (finished : Bool) (half : MemInState) (peer : LoopPeerState) (shape : Shape) → IsSteady peer half → IsTold half → IsServed out.taken finished half.given (offer_of (record { half = half; peer = peer })) → peer.serve ≡ true → peer.end ≡ shape.end →
+    ((end_of (shaped_out out) (loop_in (record { half = half; peer = peer }))).gave_end ≡ true) ⊎ ((end_of (shaped_out out) (loop_in (record { half = half; peer = peer }))).closed ≡ Some true) → half.given ≡ given_for shape out.taken
+gave_replies out finished half peer shape steady told s serves end_is t =
+    gave_all out.taken finished half peer steady told s (told_end half t) ∙ ap (λ b. cond b (replies_for peer.end out.taken) []) serves ∙ ap (λ x. replies_for x out.taken) end_is
+
+-- without it there are none
+pub gave_nothing : (took : List ℕ) (finished : Bool) (half : MemInState) (peer : LoopPeerState) → IsServed took finished half.given (offer_of (record { half = half; peer = peer })) → peer.serve ≡ false → half.given ≡ []
+gave_nothing took finished half peer s idle =
+    let none : half.given ++ half.waiting ≡ [] = s.offered ∙ ap (λ b. cond b (replies_for peer.end peer.fed) []) idle in
+    no_bytes half.given (omega (arith, ap length none, length-append half.given half.waiting))

@@ -1,11 +1,11 @@
 -- What the built-in server of a link gives for the bytes that it was fed, and what a link over it has been offered.
-use Rattle.std.specs.Prelude.{ℕ, ◌≡◌, ◌-◌, ◌<◌, ◌⊎◌, ◌&&◌, ◌||◌, nat_le, Bool, true, false, if◌then◌else◌, List, [], ◌++◌, length, take, drop, flat_map, Option, None, Some}
+use Rattle.std.specs.Prelude.{ℕ, ◌≡◌, ◌-◌, ◌<◌, ◌⊎◌, ◌&&◌, ◌||◌, nat_le, Bool, true, false, if◌then◌else◌, List, [], ◌++◌, length, take, flat_map, Option, None, Some}
 use Rattle.brpc_model.specs.Frame.{Frame, frame_bytes}
 use Rattle.brpc_model.specs.Reply.{reply_frames}
 use Rattle.brpc_model.specs.Served.{first_of}
 use Rattle.sock_io.specs.declared.ending.Ending.{Ending}
 use Rattle.sock_io.specs.declared.ending.Ending.TheVariants as ending
-use Rattle.sock_io.specs.Link.{InState, Offer}
+use Rattle.sock_io.specs.Link.{InState, Offer, IsServed}
 use Rattle.sock_io.specs.Memory.{MemInState, empty_in, is_closing, mem_in}
 use Rattle.rpc_server.specs.Held.{Held}
 use Rattle.rpc_server.specs.Feeding.{has_fault, Replied}
@@ -93,6 +93,14 @@ IsOver peer took inn = is_open inn.ending ≡ true → length took < length peer
 abbrev pub IsSteady : LoopPeerState → MemInState → Type 0
 IsSteady peer inn = is_ended inn.ending ≡ gives_end peer peer.fed
 
+-- the reading half told how it went on behind its bytes: with the end, or the closing
+abbrev pub HasTold : MemInState → Type 0
+HasTold inn = (inn.gave_end ≡ true) ⊎ (inn.closed ≡ true)
+
+-- it tells of either once all bytes were taken
+abbrev pub IsTold : MemInState → Type 0
+IsTold inn = HasTold inn → (is_open inn.ending ≡ false) × (inn.waiting ≡ [])
+
 -- What an answer to what a link took may change; and where the link was offered what belongs to what was fed before, all
 -- is fed now, or the end stands behind what was fed.
 pub record Answers (old : LoopPeerState) (took : List ℕ) (inn : MemInState) (new : LoopPeerState) (inn' : MemInState) : Type 0 where
@@ -100,8 +108,17 @@ pub record Answers (old : LoopPeerState) (took : List ℕ) (inn : MemInState) (n
   pub end : new.end ≡ old.end
   pub half : inn' ≡ record inn { waiting = inn'.waiting; ending = inn'.ending }
   pub closing : is_closing inn'.ending ≡ is_closing inn.ending
+  pub idle : old.serve ≡ false → inn' ≡ inn
+  pub shut : is_open inn.ending ≡ false → inn' ≡ inn
   pub steady : IsSteady old inn → IsSteady new inn'
   pub all : IsOffered took inn old → ((new.fed ≡ took) ⊎ (is_ended inn'.ending ≡ true)) × IsOffered took inn' new
+
+-- A link that took these bytes was offered what the other end gives for all of them, and the end or the closing stands behind
+-- it where it belongs.
+pub record Settled (took : List ℕ) (finished : Bool) (i : LoopInState) : Type 0 where
+  pub offered : i.half.given ++ i.half.waiting ≡ offered_for i.peer took
+  pub ending : i.half.ending ≡ ending_for (gives_end i.peer took) finished
+  pub served : IsServed took finished i.half.given (offer_of i)
 
 -- ## The server
 

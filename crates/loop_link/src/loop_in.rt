@@ -1,7 +1,7 @@
 ghost use Rattle.std.specs.Prelude.{◌≡◌, ◌⊎◌, ◌<◌, true, false, length, List, ℕ, OnErr, OnOk};
-ghost use Rattle.sock_io.specs.Link.{IsServed, TakeStep, offered_by};
-ghost use Rattle.sock_io.specs.Memory.{is_closing};
-ghost use Rattle.loop_link.specs.Serving.{first_ending, loop_in, new_in, offer_of};
+ghost use Rattle.sock_io.specs.Link.{IsServed, TakeStep};
+ghost use Rattle.sock_io.specs.Memory.{closing, is_closing};
+ghost use Rattle.loop_link.specs.Serving.{Settled, first_ending, loop_in, new_in, offer_of};
 
 use crate::counts::is_reached;
 use crate::half::Half;
@@ -20,13 +20,13 @@ pub struct LoopIn {
 
 impl Model for LoopIn {
     ghost use Rattle.std.specs.Prelude.{◌≡◌};
-    ghost use Rattle.loop_link.specs.Serving.{LoopInState, gives_end, is_ended};
+    ghost use Rattle.loop_link.specs.Serving.{IsSteady, IsTold, LoopInState};
 
     ghost Value = { LoopInState };
 
     ghost view = { λ i. record { half = i.half; peer = i.peer } };
 
-    ghost invariant = { λ i. is_ended i.half.ending ≡ gives_end i.peer i.peer.fed };
+    ghost invariant = { λ i. IsSteady i.peer i.half × IsTold i.half };
 }
 
 // What stands in a new half: a server of no response gives its end at once.
@@ -63,8 +63,10 @@ impl LoopIn {
         ensures half { self.new.half ≡ record self.old.half { waiting = self.new.half.waiting; ending = self.new.half.ending } }
         ensures asked { (self.new.peer.serve ≡ self.old.peer.serve) × (self.new.peer.end ≡ self.old.peer.end) }
         ensures closing { (is_closing self.new.half.ending ≡ is_closing self.old.half.ending) ⊎ ((finished ≡ true) × (is_closing self.new.half.ending ≡ true)) }
+        ensures open { OnOk result (self.old.peer.serve ≡ false → finished ≡ false → self.new.half ≡ self.old.half) }
+        ensures closes { OnOk result (self.old.peer.serve ≡ false → finished ≡ true → self.new.half ≡ record self.old.half { ending = closing self.old.half.ending }) }
+        ensures settled { OnOk result (IsServed took.now finished self.old.half.given (offer_of self.old) → Settled took.now finished self.new) }
         ensures err { OnErr result (self.new ≡ self.old) }
-        ensures settled { OnOk result (IsServed took.now finished self.old.half.given (offer_of self.old) → IsServed took.now finished self.old.half.given (offer_of self.new) × (offered_by (offer_of self.new) took.now ≡ offered_by (offer_of self.new) self.new.peer.fed)) }
     {
         self.peer.answer(alloc, pool, took, &mut self.half)?;
         if finished {

@@ -1,12 +1,13 @@
-ghost use Rattle.std.specs.Prelude.{◌≡◌, ◌≢◌, ◌↔◌, ℕ, ◌+◌, ◌≤◌, ◌<◌, ◌∷◌, ◌++◌, List, true, Some, [], length, Contains, IfOk, IsErrOf, OnErr, OnOk};
+ghost use Rattle.std.specs.Prelude.{◌≡◌, ◌≢◌, ◌↔◌, ℕ, ◌+◌, ◌≤◌, ◌<◌, ◌∷◌, ◌++◌, List, true, false, Some, [], length, Contains, IfOk, IsErrOf, OnErr, OnOk};
 ghost use Rattle.std.specs.List.{AllByRecursion};
 ghost use Rattle.brpc_model.specs.Link.{LinkEnd};
 ghost use Rattle.sock_io.specs.Causes.{Rose, next_number};
-ghost use Rattle.sock_io.specs.Link.{IsFresh, IsNewOffer, IsSettled, IsUnused, SettleStep, connection_of, end_of};
+ghost use Rattle.sock_io.specs.Link.{IsFresh, IsNewOffer, IsServed, IsSettled, IsUnused, SettleStep, connection_of, end_of};
 ghost use Rattle.sock_io.specs.Linker.{new_half, plain_shape};
+ghost use Rattle.sock_io.specs.Memory.{closing};
 ghost use Rattle.sock_io.specs.Shape.{shaped_out};
 ghost use Rattle.loop_link.specs.Linker.{shape_asked};
-ghost use Rattle.loop_link.specs.Serving.{loop_in, new_in, offer_of};
+ghost use Rattle.loop_link.specs.Serving.{Settled, loop_in, new_in, offer_of};
 
 use crate::counts::{is_counted, next_call, risen};
 use crate::loop_in::LoopIn;
@@ -141,10 +142,14 @@ impl Linker for LoopLinker {
         ensures step { SettleStep (shaped_out ends.old.out) (loop_in ends.old.inn) (loop_in ends.new.inn) }
         ensures linker { self.new ≡ self.old }
         ensures err { OnErr result (ends.new ≡ ends.old) }
+        ensures open { OnOk result (ends.old.inn.peer.serve ≡ false → ends.old.out.inner.finished ≡ false → ends.new.inn.half ≡ ends.old.inn.half) }
+        ensures closes { OnOk result (ends.old.inn.peer.serve ≡ false → ends.old.out.inner.finished ≡ true → ends.new.inn.half ≡ record ends.old.inn.half { ending = closing ends.old.inn.half.ending }) }
+        ensures settled { OnOk result (IsServed ends.old.out.taken ends.old.out.inner.finished ends.old.inn.half.given (offer_of ends.old.inn) → Settled ends.old.out.taken ends.old.out.inner.finished ends.new.inn) }
         ensures served { OnOk result (IsSettled (shaped_out ends.old.out) (loop_in ends.old.inn) (loop_in ends.new.inn)) }
     {
         let finished = ends.out.is_finished();
-        ends.inn.settle(self.alloc, &mut self.pool, ends.out.taken(), finished)
+        ends.inn
+            .settle(self.alloc, &mut self.pool, ends.out.taken(), finished)
     }
 
     fn accept(&mut self, _port: u16) -> Result<(Shaped<MemOut>, LoopIn), OpenFault>

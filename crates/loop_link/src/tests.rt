@@ -95,7 +95,11 @@ fn without_the_server_nothing_is_given(rt: HostRuntime) -> Result<(), Fail> {
     assert_eq!(rt; taken(&mut links, &mut ends, &mut room), Some(Take::Empty));
     ends.out.finish();
     assert_eq!(rt; taken(&mut links, &mut ends, &mut room), Some(Take::Closed));
-    let Ends { out: _, inn, peer: _ } = ends;
+    let Ends {
+        out: _,
+        inn,
+        peer: _,
+    } = ends;
     is_send_and_sync(inn);
     Ok(())
 }
