@@ -1,5 +1,6 @@
 pub mod Answers
 pub mod Heard
+pub mod Offered
 pub mod Sizes
 pub mod Unserved
 pub mod Over
