@@ -1,5 +1,5 @@
 -- A link that was offered what belongs to it tells so in each take, and each step keeps that it is.
-use Rattle.std.proofs.Common.{◌≡◌, ◌≢◌, refl, ℕ, ◌<◌, ◌≤◌, Bool, List, [], ◌∷◌, ◌++◌, length, slice_set, slice_index_or, Option, Some, IfSome, ap, sym, ◌∙◌, arith, subst}
+use Rattle.std.proofs.Common.{◌≡◌, ◌≢◌, refl, ℕ, ◌+◌, ◌<◌, ◌≤◌, Bool, List, [], ◌∷◌, ◌++◌, length, slice_set, slice_index_or, Option, Some, IfSome, ap, sym, ◌∙◌, arith, subst}
 use Rattle.std.specs.Io.KnownBytes.{append_known}
 use mathlib.Core.Logic.{dite}
 use native.Mathlib.Decide.{ℕ_discrete}

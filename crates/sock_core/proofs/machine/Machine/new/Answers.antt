@@ -1,4 +1,4 @@
-use Rattle.std.proofs.Common.{sym, ◌∙◌}
+use Rattle.std.proofs.Common.{[], sym, ◌∙◌}
 use Rattle.std.proofs.lemmas.List.{length-map}
 use Rattle.sock_core.proofs.Making.{are_for, as_many_seats, as_many_links, as_many_opens, plan_made, opens_made, agrees_made, core_made}
 use Rattle.sock_core.proofs.machine.Machine.new.Goals as goal
