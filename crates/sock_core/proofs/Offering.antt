@@ -17,7 +17,7 @@ use Rattle.sock_programs.specs.Asides.{Taking}
 use Rattle.sock_programs.specs.Calls as calls
 use Rattle.sock_programs.specs.Programs.{Program}
 use Rattle.sock_programs.specs.Cores.{Core, SeatState}
-use Rattle.sock_programs.specs.Ticks.{Answer, Unasked, OfPut, OfReady, OfTake, Moment, taken}
+use Rattle.sock_programs.specs.Ticks.{Answer, Unasked, OfPut, OfReady, Moment, taken}
 use Rattle.id_runs.specs.Goes.{first_of}
 use Rattle.whole_runs.specs.Offered.{GaveAll, OffersAt, AreOffered}
 use Rattle.seat_points.specs.declared.point.Step.{Step}
