@@ -15,6 +15,7 @@ use Rattle.frame_print.specs.declared.print.PrintFault.TheVariants as fault_
 use Rattle.sock_io.specs.Link.{end_of}
 use Rattle.sock_io.specs.Shape.{ShapedState, shaped_out}
 use Rattle.sock_io.specs.Memory.{MemInState, mem_in}
+use Rattle.loop_link.specs.Serving.{LoopInState, loop_in}
 use Rattle.script_run.specs.Played.{TellClosed}
 use Rattle.brpc_eng.proofs.Statuses.{each_script_is_run}
 use Rattle.brpc_eng.specs.Streams.{script_limit, IsAtEnd}
@@ -254,6 +255,14 @@ memory_tells out inn (e ∷ es) = (record { took = refl; answers = refl; gave = 
 -- and each reading half in memory tells whether it is found closed
 pub memory_tells_closed : TellClosed mem_in
 memory_tells_closed inn = (λ e. cc, λ e. cc)
+
+-- the same of those whose other end is the built-in server
+pub served_tells : {E : Type 0} (out : E → ShapedState) (inn : E → LoopInState) (es : List E) → AllTell (map (λ (e : E). end_of (shaped_out (out e)) (loop_in (inn e))) es)
+served_tells out inn [] = tt
+served_tells out inn (e ∷ es) = (record { took = refl; answers = refl; gave = refl; takes = refl }, served_tells out inn es)
+
+pub served_tells_closed : TellClosed loop_in
+served_tells_closed inn = (λ e. cc, λ e. cc)
 
 -- ## The statuses of `frames`
 

@@ -1,28 +1,25 @@
 -- What was offered to a link stays what belongs to it: at its opening, by each call of its halves, and where it is settled.
-use Rattle.std.proofs.Common.{◌≡◌, ◌≢◌, ℕ, zero, suc, ◌<◌, ◌≤◌, ◌⊎◌, inl, inr, ◌&&◌, ◌||◌, Bool, true, false, cond, List, [], ◌∷◌, ◌++◌, length, take, drop, Option, None, Some, refl, ap, sym, ◌∙◌, subst, arith, append_assoc, append-nil, length-append}
-use Rattle.std.specs.Prelude.{flat_map, min}
-use Rattle.std.proofs.Math.Seq.{drop-length, take-append_seam}
+use Rattle.std.proofs.Common.{◌≡◌, ℕ, zero, suc, ◌≤◌, ◌⊎◌, inl, inr, ◌&&◌, ◌||◌, Bool, true, false, cond, List, [], ◌∷◌, ◌++◌, length, take, drop, Option, None, Some, refl, ap, sym, ◌∙◌, subst, arith, append_assoc, append-nil, length-append}
+use Rattle.std.specs.Prelude.{flat_map}
+use Rattle.std.proofs.Math.Seq.{take-append_seam, drop-append_seam}
 use Rattle.std.proofs.lemmas.Bool.{leb-true, le-leb}
-use Rattle.std.proofs.lemmas.List.{take-append-le, drop-append-le}
+use Rattle.std.proofs.lemmas.List.{append_cancel_left, take-append-le}
 use Rattle.brpc_model.specs.Frame.{Frame, frame_bytes}
 use Rattle.brpc_model.specs.Stream.{Stream, stream}
 use Rattle.brpc_model.specs.Reply.{reply_frames}
-use Rattle.brpc_model.specs.Items.{Shape}
 use Rattle.brpc_model.specs.Served.{first_of, given_for}
 use Rattle.sock_io.specs.declared.ending.Ending.{Ending}
 use Rattle.sock_io.specs.declared.ending.Ending.TheVariants as ending
-use Rattle.sock_io.specs.declared.link.LinkSpec.{LinkSpec}
-use Rattle.sock_io.specs.declared.link.Put.{Put}
-use Rattle.sock_io.specs.declared.link.Ready.{Ready}
 use Rattle.sock_io.specs.declared.link.Take.{Take}
 use Rattle.sock_io.specs.declared.link.Take.TheVariants as take_
-use Rattle.sock_io.specs.Link.{PutStep, ReadyStep, FinishStep, TakeStep, taken_of, taken_count, end_of}
-use Rattle.sock_io.specs.Linker.{new_half}
-use Rattle.sock_io.specs.Memory.{MemInState, closing, empty_in, is_closing, mem_in, take_answer}
+use Rattle.sock_io.specs.declared.link.LinkSpec.{LinkSpec}
+use Rattle.sock_io.specs.Link.{TakeStep, OfferTaken, IsServed, IsNewOffer, given_of, end_of}
 use Rattle.sock_io.specs.Shape.{ShapedState, shaped_out}
+use Rattle.brpc_model.specs.Items.{Shape}
+use Rattle.sock_io.specs.Memory.{MemInState, closing, empty_in, is_closing, mem_in, take_answer}
+use Rattle.sock_io.proofs.Offers.{gave_to_end, gave_to_closing}
 use Rattle.rpc_server.specs.Feeding.{is_fault, has_fault}
-use Rattle.loop_link.specs.Linker.{shape_asked, new_peer, first_ending}
-use Rattle.loop_link.specs.Serving.{LoopPeerState, is_reached, replies_for, ends_for, offered_for, gives_end, is_open, is_ended, IsOver, ending_for, HasTold, IsOffered, IsLinked, Answers, Settled, NewReplies, first_left}
+use Rattle.loop_link.specs.Serving.{LoopPeerState, LoopInState, offer_of, loop_in, first_ending, new_in, is_reached, replies_for, ends_for, offered_for, gives_end, is_open, is_ended, IsOver, IsSteady, HasTold, IsTold, ending_for, IsOffered, Answers, Settled, NewReplies, first_left}
 use Rattle.loop_link.proofs.Following.{fault_stays_whole, replies_begin}
 use Rattle.loop_link.proofs.Fronts.{offered_more}
 
@@ -46,95 +43,65 @@ not_closed : (b : Bool) → cond b ending.Ended ending.Open ≡ ending.Closed �
 not_closed true e = cc
 not_closed false e = cc
 
-pub linked_new : (link : ℕ) (spec : LinkSpec) → IsLinked (new_half link (shape_asked spec)) (empty_in (first_ending spec)) (new_peer spec)
-linked_new link spec = record {
-  offered = record {
-    begins = refl;
-    offered = nothing_offered spec.serve spec.end;
-    ended = first_ended spec.serve (is_reached spec.end 0);
-    closed = λ e. absurd (not_closed (spec.serve && is_reached spec.end 0) e);
-  };
-  finished = λ e. absurd (not_closed (spec.serve && is_reached spec.end 0) e);
-  told = λ t. absurd (none_told t);
-}
-  where
-    none_told : (false ≡ true) ⊎ (false ≡ true) → ⊥
-    none_told (inl t) = cc
-    none_told (inr t) = cc
+pub steady_new : (serve : Bool) (end : Option ℕ) → IsSteady (new_in serve end).peer (new_in serve end).half
+steady_new serve end = first_ended serve (is_reached end 0)
 
--- ## Calls of the halves
-
--- what was fed stands first also in more
-begins_more : (fed took more : List ℕ) → fed ++ drop (length fed) took ≡ took → fed ++ drop (length fed) (took ++ more) ≡ took ++ more
-begins_more fed took more b =
-    let room : length fed ≤ length took = omega (arith, ap length b, length-append fed (drop (length fed) took)) in
-    ap (λ l. fed ++ l) (drop-append-le (length fed) took more room) ∙ sym (append_assoc fed (drop (length fed) took) more) ∙ ap (λ l. l ++ more) b
-
-pub linked_put : (out out' : ShapedState) (inn : MemInState) (peer : LoopPeerState) (piece : List ℕ) (result : Put) → IsLinked out inn peer → PutStep (shaped_out out) (shaped_out out') piece result → IsLinked out' inn peer
-linked_put out out' inn peer piece result l step =
-    let took : out'.taken ≡ out.taken ++ taken_of piece result = let e = step.took in cc in
-    let o = l.offered in record {
-      offered = record {
-        begins = subst (λ t. peer.fed ++ drop (length peer.fed) t ≡ t) (sym took) (begins_more peer.fed out.taken (taken_of piece result) o.begins);
-        offered = o.offered;
-        ended = o.ended;
-        closed = λ e.
-            let none : taken_of piece result ≡ [] = ap (taken_of piece) (step.ended (l.finished e)).0 in
-            o.closed e ∙ sym (took ∙ ap (λ t. out.taken ++ t) none ∙ append-nil out.taken);
-      };
-      finished = λ e. step.finished ∙ l.finished e;
-      told = l.told;
-    }
-
-linked_same : (out out' : ShapedState) (inn : MemInState) (peer : LoopPeerState) → IsLinked out inn peer → out'.taken ≡ out.taken → (out.inner.finished ≡ true → out'.inner.finished ≡ true) → IsLinked out' inn peer
-linked_same out out' inn peer l took finished = record {
-  offered = subst (λ t. IsOffered t inn peer) (sym took) l.offered;
-  finished = λ e. finished (l.finished e);
-  told = l.told;
-}
-
-pub linked_ready : (out out' : ShapedState) (inn : MemInState) (peer : LoopPeerState) (result : Ready) → IsLinked out inn peer → ReadyStep (shaped_out out) (shaped_out out') result → IsLinked out' inn peer
-linked_ready out out' inn peer result l step = linked_same out out' inn peer l (let e = step.took in cc) (λ e. step.finished ∙ e)
-
-pub linked_finish : (out out' : ShapedState) (inn : MemInState) (peer : LoopPeerState) → IsLinked out inn peer → FinishStep (shaped_out out) (shaped_out out') → IsLinked out' inn peer
-linked_finish out out' inn peer l step = linked_same out out' inn peer l (let e = step.took in cc) (λ e. step.finished)
-
-not_told : (inn inn' : MemInState) (room : List ℕ) (result : Take) → TakeStep (mem_in inn) (mem_in inn') room result → result ≢ take_.End → result ≢ take_.Closed → HasTold inn' → HasTold inn
-not_told inn inn' room result step x y (inl t) = inl (sym (step.end.1 x) ∙ t)
-not_told inn inn' room result step x y (inr t) = let same : Some inn'.closed ≡ Some inn.closed = step.closed.1 y in let e : inn'.closed ≡ inn.closed = cc in inr (sym e ∙ t)
+-- ## A take
 
 no_bytes : (l : List ℕ) → length l ≡ 0 → l ≡ []
 no_bytes [] e = refl
 no_bytes (x ∷ l) e = absurd (omega (arith, e))
 
-told_take : (inn inn' : MemInState) (room : List ℕ) (result : Take) → TakeStep (mem_in inn) (mem_in inn') room result → inn'.given ++ inn'.waiting ≡ inn.given ++ inn.waiting → inn'.ending ≡ inn.ending →
-    (HasTold inn → (is_open inn.ending ≡ false) × (inn.waiting ≡ [])) → (w : List ℕ) (e : Ending) → inn.waiting ≡ w → inn.ending ≡ e → result ≡ take_answer w e (length room) → HasTold inn' → (is_open inn'.ending ≡ false) × (inn'.waiting ≡ [])
-told_take inn inn' room result step bytes same told (x ∷ w) e w_is e_is answer t =
-    let before = told (not_told inn inn' room result step (λ r. let z : take_.Took (min (length (x ∷ w)) (length room)) ≡ take_.End = sym answer ∙ r in cc) (λ r. let z : take_.Took (min (length (x ∷ w)) (length room)) ≡ take_.Closed = sym answer ∙ r in cc) t) in
-    let none : x ∷ w ≡ [] = sym w_is ∙ before.1 in absurd (cc)
-told_take inn inn' room result step bytes same told [] ending.Open w_is e_is answer t =
-    let before = told (not_told inn inn' room result step (λ r. let z : take_.Empty ≡ take_.End = sym answer ∙ r in cc) (λ r. let z : take_.Empty ≡ take_.Closed = sym answer ∙ r in cc) t) in
-    let none : true ≡ false = sym (ap is_open e_is) ∙ before.0 in absurd (cc)
-told_take inn inn' room result step bytes same told [] ending.Ended w_is e_is answer t = (
-  ap is_open (same ∙ e_is),
-  no_bytes inn'.waiting (omega (arith, step.gave, ap taken_count answer, ap length bytes, ap length w_is, length-append inn'.given inn'.waiting, length-append inn.given inn.waiting)),
-)
-told_take inn inn' room result step bytes same told [] ending.Closed w_is e_is answer t = (
-  ap is_open (same ∙ e_is),
-  no_bytes inn'.waiting (omega (arith, step.gave, ap taken_count answer, ap length bytes, ap length w_is, length-append inn'.given inn'.waiting, length-append inn.given inn.waiting)),
-)
+-- what was taken stood in front
+taken_front : (given got waiting given' waiting' : List ℕ) → Some given' ≡ Some (given ++ got) → given' ++ waiting' ≡ given ++ waiting → got ++ waiting' ≡ waiting
+taken_front given got waiting given' waiting' more same = let e : given' ≡ given ++ got = cc in
+    append_cancel_left given (got ++ waiting') waiting (sym (append_assoc given got waiting') ∙ ap (λ l. l ++ waiting') (sym e) ∙ same)
 
-pub linked_take : (out : ShapedState) (inn inn' : MemInState) (peer : LoopPeerState) (room : List ℕ) (result : Take) → IsLinked out inn peer → TakeStep (mem_in inn) (mem_in inn') room result → result ≡ take_answer inn.waiting inn.ending (length room) →
-    inn'.given ++ inn'.waiting ≡ inn.given ++ inn.waiting → inn'.ending ≡ inn.ending → IsLinked out inn' peer
-linked_take out inn inn' peer room result l step answer bytes same = record {
-  offered = record {
-    begins = l.offered.begins;
-    offered = bytes ∙ l.offered.offered;
-    ended = ap is_ended same ∙ l.offered.ended;
-    closed = λ e. l.offered.closed (sym same ∙ e);
-  };
-  finished = λ e. l.finished (sym same ∙ e);
-  told = told_take inn inn' room result step bytes same l.told inn.waiting inn.ending refl refl answer;
+pauses : (waiting : List ℕ) (e : Ending) (room : ℕ) (result : Take) → result ≡ take_answer waiting e room → (b : Ending) (t : Take) → take_answer [] b room ≡ t → ((n : ℕ) → t ≡ take_.Took n → ⊥) → ((c : Ending) → take_answer [] c room ≡ t → c ≡ b) → result ≡ t → (waiting ≡ []) × (e ≡ b)
+pauses [] e room result is b t shows none only same = (refl, only e (sym is ∙ same))
+pauses (x ∷ waiting) e room result is b t shows none only same = absurd (none _ (sym same ∙ is))
+
+offer_taken : (old new : LoopInState) (room : List ℕ) (result : Take) → TakeStep (mem_in old.half) (mem_in new.half) room result → result ≡ take_answer old.half.waiting old.half.ending (length room)
+    → new.half.given ++ new.half.waiting ≡ old.half.given ++ old.half.waiting → new.half.ending ≡ old.half.ending → new.peer ≡ old.peer → OfferTaken (offer_of old) (offer_of new) (given_of room result) result
+offer_taken old new room result step answer bytes ending_is peer = record {
+  same = λ i. record { serve = (peer i).serve; end = (peer i).end; fed = (peer i).fed; waiting = new.half.waiting; ending = ending_is i };
+  waiting = taken_front old.half.given (given_of room result) old.half.waiting new.half.given new.half.waiting step.bytes bytes;
+  empty = pauses old.half.waiting old.half.ending (length room) result answer ending.Open take_.Empty refl (λ n e. cc) only_open;
+  end = pauses old.half.waiting old.half.ending (length room) result answer ending.Ended take_.End refl (λ n e. cc) only_ended;
+  closed = pauses old.half.waiting old.half.ending (length room) result answer ending.Closed take_.Closed refl (λ n e. cc) only_closed;
+}
+  where
+    only_open : (c : Ending) → take_answer [] c (length room) ≡ take_.Empty → c ≡ ending.Open
+    only_open ending.Open e = refl
+    only_open ending.Ended e = absurd (cc)
+    only_open ending.Closed e = absurd (cc)
+
+    only_ended : (c : Ending) → take_answer [] c (length room) ≡ take_.End → c ≡ ending.Ended
+    only_ended ending.Open e = absurd (cc)
+    only_ended ending.Ended e = refl
+    only_ended ending.Closed e = absurd (cc)
+
+    only_closed : (c : Ending) → take_answer [] c (length room) ≡ take_.Closed → c ≡ ending.Closed
+    only_closed ending.Open e = absurd (cc)
+    only_closed ending.Ended e = absurd (cc)
+    only_closed ending.Closed e = refl
+
+-- a take of the half is one of the link
+pub step_taken : (old new : LoopInState) (room room' : List ℕ) (result : Take) → length room' ≡ length room → TakeStep (mem_in old.half) (mem_in new.half) room' result → result ≡ take_answer old.half.waiting old.half.ending (length room)
+    → new.half.given ++ new.half.waiting ≡ old.half.given ++ old.half.waiting → new.half.ending ≡ old.half.ending → new.peer ≡ old.peer → TakeStep (loop_in old) (loop_in new) room' result
+step_taken old new room room' result long step answer bytes same peer = record {
+  count = step.count;
+  gave = step.gave;
+  bytes = step.bytes;
+  end = step.end;
+  closed = step.closed;
+  takes = step.takes;
+  only_closing = step.only_closing;
+  closing = step.closing;
+  offer = (offer_of new, refl, offer_taken old new room' result step (answer ∙ ap (take_answer old.half.waiting old.half.ending) (sym long)) bytes same peer);
+  later = step.later;
+  failed = step.failed;
+  kept = step.kept;
 }
 
 -- ## Behind an end nothing is given
@@ -182,44 +149,49 @@ gives_more true end bytes more h = end_stays end bytes more h
 
 -- ## Answers
 
--- the peer that was fed all
-abbrev fed_all : LoopPeerState → List ℕ → LoopPeerState
-fed_all peer took = record { serve = peer.serve; end = peer.end; fed = took }
+-- an other end that isn't the server takes all
+unserved : (serve : Bool) (end : Option ℕ) (l m : List ℕ) → serve ≡ false → ((serve && ends_for end l) ≡ (serve && ends_for end m)) × (cond serve (replies_for end l) [] ≡ cond serve (replies_for end m) [])
+unserved true end l m e = absurd (cc)
+unserved false end l m e = (refl, refl)
 
-all_begins : (took : List ℕ) → took ++ drop (length took) took ≡ took
-all_begins took = ap (λ l. took ++ l) (drop-length took) ∙ append-nil took
+pub answers_idle : (old new : LoopPeerState) (took : List ℕ) (inn : MemInState) → old.serve ≡ false → new ≡ record old { fed = took } → Answers old took inn new inn
+answers_idle old new took inn idle is = subst (λ p. Answers old took inn p inn) (sym is) record {
+  serve = refl;
+  end = refl;
+  half = refl;
+  closing = refl;
+  idle = λ _. refl;
+  shut = λ _. refl;
+  steady = λ s. s ∙ (unserved old.serve old.end old.fed took idle).0;
+  all = λ o. (
+    inl refl,
+    record {
+      left = [];
+      begins = sym (append-nil took);
+      offered = o.offered ∙ (unserved old.serve old.end old.fed took idle).1;
+      ended = o.ended ∙ (unserved old.serve old.end old.fed took idle).0;
+      closed = λ e. refl;
+    },
+  );
+}
 
--- where the link isn't open any more, or the other end isn't the server
-pub passed : (took : List ℕ) (inn : MemInState) (peer : LoopPeerState) → (peer.serve ≡ true → is_open inn.ending ≡ false) → IsOffered took inn peer → IsOffered took inn (fed_all peer took)
-passed took inn peer over o = record {
-  begins = all_begins took;
-  offered = o.offered ∙ sym same.1;
-  ended = o.ended ∙ same.0;
-  closed = λ e. refl;
+-- nothing is left to be fed
+pub answers_over : (old : LoopPeerState) (took : List ℕ) (inn : MemInState) → IsOver old took inn → Answers old took inn old inn
+answers_over old took inn over = record {
+  serve = refl;
+  end = refl;
+  half = refl;
+  closing = refl;
+  idle = λ _. refl;
+  shut = λ _. refl;
+  steady = λ s. s;
+  all = λ o. (by inn.ending refl o, o);
 }
   where
-    Same : Type 0
-    Same = (gives_end peer peer.fed ≡ gives_end peer took) × (offered_for peer took ≡ offered_for peer peer.fed)
-
-    unserved : (serve : Bool) → serve ≡ false → (end : Option ℕ) → ((serve && ends_for end peer.fed) ≡ (serve && ends_for end took)) × (cond serve (replies_for end took) [] ≡ cond serve (replies_for end peer.fed) [])
-    unserved true e end = absurd (cc)
-    unserved false e end = (refl, refl)
-
-    served : (e : Ending) → inn.ending ≡ e → is_open e ≡ false → Same
-    served ending.Open is shut = absurd (cc)
-    served ending.Ended is shut =
-        let ends : gives_end peer peer.fed ≡ true = sym (sym (ap is_ended is) ∙ o.ended) in
-        let more = gives_more peer.serve peer.end peer.fed (drop (length peer.fed) took) ends in
-        (ends ∙ sym (ap (gives_end peer) (sym o.begins) ∙ more.0), ap (offered_for peer) (sym o.begins) ∙ more.1)
-    served ending.Closed is shut =
-        let fed : peer.fed ≡ took = o.closed is in (ap (gives_end peer) fed, ap (offered_for peer) (sym fed))
-
-    by : (b : Bool) → peer.serve ≡ b → Same
-    by true e = served inn.ending refl (over e)
-    by false e = unserved peer.serve e peer.end
-
-    same : Same
-    same = by peer.serve refl
+    by : (e : Ending) → inn.ending ≡ e → IsOffered took inn old → (old.fed ≡ took) ⊎ (is_ended inn.ending ≡ true)
+    by ending.Open is o = absurd (let less = over (ap is_open is) in let b = o.begins in omega (arith, less, ap length b, length-append old.fed o.left))
+    by ending.Ended is o = inr (ap is_ended is)
+    by ending.Closed is o = inl (sym (o.begins ∙ ap (λ l. old.fed ++ l) (o.closed is) ∙ append-nil old.fed))
 
 ends_where : (b : Bool) → is_ended (ending_for b false) ≡ b
 ends_where true = refl
@@ -247,15 +219,16 @@ pub answered : (took rest bytes tail server : List ℕ) (inn inn' : MemInState) 
 answered took rest bytes tail server inn inn' old new faulty serves live o rest_is server_is replies fault tail_is given waiting ends same_serve same_end fed = (
   all,
   record {
-    begins = subst (λ l. l ++ drop (length l) took ≡ took) (sym all) (all_begins took);
+    left = [];
+    begins = sym all ∙ sym (append-nil new.fed);
     offered = offered ∙ sym now;
     ended = ap is_ended ends ∙ ends_where (is_reached old.end (length (reply_frames (server ++ rest))) || faulty) ∙ ap (λ b. is_reached old.end (length (reply_frames (server ++ rest))) || b) fault ∙ sym gives;
-    closed = λ e. absurd (never_closed (is_reached old.end (length (reply_frames (server ++ rest))) || faulty) (sym ends ∙ e));
+    closed = λ e. refl;
   },
 )
   where
     all : new.fed ≡ took
-    all = fed ∙ ap (λ l. l ++ rest) server_is ∙ ap (λ l. old.fed ++ l) rest_is ∙ o.begins
+    all = fed ∙ ap (λ l. l ++ rest) server_is ∙ ap (λ l. old.fed ++ l) (rest_is ∙ ap (drop (length old.fed)) o.begins ∙ drop-append_seam old.fed o.left) ∙ sym o.begins
 
     serves_now : new.serve ≡ true
     serves_now = same_serve ∙ serves
@@ -282,22 +255,6 @@ answered took rest bytes tail server inn inn' old new faulty serves live o rest_
         ∙ offered_more old.end (reply_frames server) replies.0 not_reached
         ∙ ap (λ l. flat_map frame_bytes (first_of old.end l)) (sym replies.1)
 
--- what it is to have passed on all: the other end isn't the server, or the link isn't open any more
-open_or_not : (peer : LoopPeerState) (took : List ℕ) (inn : MemInState) → IsOver peer took inn → IsOffered took inn peer → peer.serve ≡ true → (b : Bool) → is_open inn.ending ≡ b → is_open inn.ending ≡ false
-open_or_not peer took inn over o serves true e = absurd (let less : length took < length peer.fed = over serves e in omega (arith, less, ap length o.begins, length-append peer.fed (drop (length peer.fed) took)))
-open_or_not peer took inn over o serves false e = e
-
-pub answers_passed : (old new : LoopPeerState) (took : List ℕ) (inn : MemInState) → IsOver old took inn → new ≡ record old { fed = took } → Answers old took inn new inn
-answers_passed old new took inn over is = subst (λ p. Answers old took inn p inn) (sym is) record {
-  serve = refl;
-  end = refl;
-  half = refl;
-  closing = refl;
-  idle = λ _. refl;
-  shut = λ _. refl;
-  all = λ o. (refl, passed took inn old (λ serves. open_or_not old took inn over o serves (is_open inn.ending) refl) o);
-}
-
 still_open : (e : Ending) (b : Bool) → is_open e ≡ true → is_closing (ending_for b false) ≡ is_closing e
 still_open ending.Open true h = refl
 still_open ending.Open false h = refl
@@ -316,14 +273,18 @@ answers_served old new took front rest server server' bytes tail inn mid inn' en
   closing = ap is_closing ends ∙ still_open inn.ending (is_reached end made || faulty) live;
   idle = λ e. let x : false ≡ true = sym e ∙ serves in absurd (cc);
   shut = λ e. let x : false ≡ true = sym e ∙ live in absurd (cc);
-  all = λ o.
+  steady = λ _. ap is_ended ends ∙ ends_where (is_reached end made || faulty) ∙ ap (λ x. is_reached x made || faulty) end_is ∙ ap (λ n. is_reached old.end n || faulty) (made_is ∙ ap (λ l. length (reply_frames l)) fed) ∙ ap (λ b. is_reached old.end (length (reply_frames (server ++ rest))) || b) fault ∙ sym gives;
+  all = λ o. let x =
       answered took rest bytes tail server inn inn' old new faulty serves live o rest_is (begun (first_fed o) ∙ first_fed o) replies fault
       (λ frames are. tail_is frames are ∙ ap (λ x. flat_map frame_bytes (first_left x given frames)) end_is ∙ ap (λ n. flat_map frame_bytes (first_left old.end n frames)) given_is)
       (ap (λ (i : MemInState). i.given) inn_whole) waits
       (ends ∙ ap (λ x. ending_for (is_reached x made || faulty) false) end_is ∙ ap (λ n. ending_for (is_reached old.end n || faulty) false) (made_is ∙ ap (λ l. length (reply_frames l)) fed))
-      (ap (λ (p : LoopPeerState). p.serve) new_is) (ap (λ (p : LoopPeerState). p.end) new_is) (ap (λ (p : LoopPeerState). p.fed) new_is ∙ fed);
+      (ap (λ (p : LoopPeerState). p.serve) new_is) (ap (λ (p : LoopPeerState). p.end) new_is) (ap (λ (p : LoopPeerState). p.fed) new_is ∙ fed) in (inl x.0, x.1);
 }
   where
+    gives : gives_end new new.fed ≡ ends_for old.end (server ++ rest)
+    gives = ap (λ (p : LoopPeerState). gives_end p p.fed) new_is ∙ ap (λ b. b && ends_for old.end server') serves ∙ ap (ends_for old.end) fed
+
     inn_whole : inn' ≡ record inn { waiting = inn.waiting ++ tail; ending = ending_for (is_reached end made || faulty) false }
     inn_whole = inn_is ∙ ap (λ (i : MemInState). record i { ending = ending_for (is_reached end made || faulty) false }) mid_is
 
@@ -334,9 +295,32 @@ answers_served old new took front rest server server' bytes tail inn mid inn' en
     ends = ap (λ (i : MemInState). i.ending) inn_whole
 
     first_fed : IsOffered took inn old → front ≡ old.fed
-    first_fed o = front_is ∙ ap (take (length old.fed)) (sym o.begins) ∙ take-append_seam old.fed (drop (length old.fed) took)
+    first_fed o = front_is ∙ ap (take (length old.fed)) o.begins ∙ take-append_seam old.fed o.left
 
 -- ## Settling
+
+-- what callers see is what belongs to the link
+served_is : (took : List ℕ) (finished : Bool) (half : MemInState) (peer : LoopPeerState) → IsSteady peer half → IsServed took finished half.given (offer_of (record { half = half; peer = peer })) → IsOffered took half peer
+served_is took finished half peer steady s = record { left = s.left; begins = s.begins; offered = s.offered; ended = steady; closed = λ e. (s.closed e).1 }
+
+is_served : (took : List ℕ) (finished : Bool) (half : MemInState) (peer : LoopPeerState) → IsOffered took half peer → (half.ending ≡ ending.Closed → finished ≡ true) → IsServed took finished half.given (offer_of (record { half = half; peer = peer }))
+is_served took finished half peer o over = record {
+  left = o.left;
+  begins = o.begins;
+  offered = o.offered;
+  ended = λ e more. (gives_more peer.serve peer.end peer.fed more (sym o.ended ∙ ap is_ended e)).1;
+  closed = λ e. (over e, o.closed e);
+}
+
+closing_ended : (e : Ending) → is_ended (closing e) ≡ is_ended e
+closing_ended ending.Open = refl
+closing_ended ending.Ended = refl
+closing_ended ending.Closed = refl
+
+closed_before : (e f : Ending) → is_closing e ≡ is_closing f → e ≡ ending.Closed → f ≡ ending.Closed
+closed_before e ending.Open same is = absurd (let x : false ≡ true = sym same ∙ ap is_closing is in cc)
+closed_before e ending.Ended same is = absurd (let x : false ≡ true = sym same ∙ ap is_closing is in cc)
+closed_before e ending.Closed same is = refl
 
 closes_where : (e : Ending) (b : Bool) → is_ended e ≡ b → (e ≡ ending.Closed → ⊥) → e ≡ ending_for b false
 closes_where ending.Open b is shut = ap (λ x. ending_for x false) is
@@ -348,99 +332,80 @@ closed_where ending.Open b is = ap (λ x. ending_for x true) is
 closed_where ending.Ended b is = ap (λ x. ending_for x true) is
 closed_where ending.Closed b is = ap (λ x. ending_for x true) is
 
-closing_ended : (e : Ending) → is_ended (closing e) ≡ is_ended e
-closing_ended ending.Open = refl
-closing_ended ending.Ended = refl
-closing_ended ending.Closed = refl
+-- all was fed, or the end stands behind what was
+module _ (took : List ℕ) (half : MemInState) (peer : LoopPeerState) (o : IsOffered took half peer) where
+  offers_all : (peer.fed ≡ took) ⊎ (is_ended half.ending ≡ true) → offered_for peer took ≡ offered_for peer peer.fed
+  offers_all (inl fed) = ap (offered_for peer) (sym fed)
+  offers_all (inr ended) = ap (offered_for peer) o.begins ∙ (gives_more peer.serve peer.end peer.fed o.left (sym o.ended ∙ ended)).1
 
-closing_shut : (e : Ending) → is_open (closing e) ≡ false
-closing_shut ending.Open = refl
-closing_shut ending.Ended = refl
-closing_shut ending.Closed = refl
+  ended_all : (peer.fed ≡ took) ⊎ (is_ended half.ending ≡ true) → is_ended half.ending ≡ gives_end peer took
+  ended_all (inl fed) = o.ended ∙ ap (gives_end peer) fed
+  ended_all (inr ended) = ended ∙ sym (ap (gives_end peer) o.begins ∙ (gives_more peer.serve peer.end peer.fed o.left (sym o.ended ∙ ended)).0)
 
-closed_before : (e f : Ending) → is_closing e ≡ is_closing f → e ≡ ending.Closed → f ≡ ending.Closed
-closed_before e ending.Open same is = absurd (let x : false ≡ true = sym same ∙ ap is_closing is in cc)
-closed_before e ending.Ended same is = absurd (let x : false ≡ true = sym same ∙ ap is_closing is in cc)
-closed_before e ending.Closed same is = refl
+module _ (took : List ℕ) (finished : Bool) (half mid : MemInState) (peer new : LoopPeerState) (steady : IsSteady peer half) (a : Answers peer took half new mid) where
+  abbrev Was : Type 0
+  Was = IsServed took finished half.given (offer_of (record { half = half; peer = peer }))
 
-module _ (out : ShapedState) (inn mid : MemInState) (peer new : LoopPeerState) (l : IsLinked out inn peer) (a : Answers peer out.taken inn new mid) where
-  fed : new.fed ≡ out.taken
-  fed = (a.all l.offered).0
-
-  is_offered : IsOffered out.taken mid new
-  is_offered = (a.all l.offered).1
-
-  given : mid.given ≡ inn.given
+  given : mid.given ≡ half.given
   given = ap (λ (i : MemInState). i.given) a.half
 
-  gives_same : gives_end new new.fed ≡ gives_end peer out.taken
-  gives_same = ap (λ b. b && ends_for new.end new.fed) a.serve ∙ ap (λ x. peer.serve && ends_for x new.fed) a.end ∙ ap (λ x. peer.serve && ends_for peer.end x) fed
-
-  offers_same : offered_for new new.fed ≡ offered_for peer out.taken
-  offers_same = ap (λ b. cond b (replies_for new.end new.fed) []) a.serve ∙ ap (λ x. cond peer.serve (replies_for x new.fed) []) a.end ∙ ap (λ x. cond peer.serve (replies_for peer.end x) []) fed
-
-  ended_same : is_ended mid.ending ≡ gives_end peer out.taken
-  ended_same = is_offered.ended ∙ gives_same
-
-  finished_before : mid.ending ≡ ending.Closed → out.inner.finished ≡ true
-  finished_before e = l.finished (closed_before mid.ending inn.ending a.closing e)
-
-  told_before : HasTold mid → HasTold inn
-  told_before (inl t) = inl (sym (ap (λ (i : MemInState). i.gave_end) a.half) ∙ t)
-  told_before (inr t) = inr (sym (ap (λ (i : MemInState). i.closed) a.half) ∙ t)
-
-  told_mid : HasTold mid → (is_open mid.ending ≡ false) × (mid.waiting ≡ [])
-  told_mid t = let x = l.told (told_before t) in let same : mid ≡ inn = a.shut x.0 in (ap (λ (i : MemInState). is_open i.ending) same ∙ x.0, ap (λ (i : MemInState). i.waiting) same ∙ x.1)
-
   -- the link isn't finished
-  pub settled_open : out.inner.finished ≡ false → Settled out inn peer mid new
-  settled_open open_ = record {
-    serve = a.serve;
-    end = a.end;
-    fed = fed;
-    given = given;
-    offered = is_offered.offered ∙ offers_same;
-    ending = closes_where mid.ending (gives_end peer out.taken) ended_same (λ e. let x : false ≡ true = sym open_ ∙ finished_before e in cc) ∙ ap (ending_for (gives_end peer out.taken)) (sym open_);
-    linked = record { offered = is_offered; finished = finished_before; told = told_mid };
-  }
+  pub settled_open : finished ≡ false → Was → Settled took finished (record { half = mid; peer = new })
+  settled_open open_ s = let x = a.all (served_is took finished half peer steady s) in
+      let over : mid.ending ≡ ending.Closed → finished ≡ true = λ e. (s.closed (closed_before mid.ending half.ending a.closing e)).0 in record {
+        offered = x.1.offered ∙ sym (offers_all took mid new x.1 x.0);
+        ending = closes_where mid.ending (gives_end new took) (ended_all took mid new x.1 x.0) (λ e. let z : false ≡ true = sym open_ ∙ over e in cc) ∙ ap (ending_for (gives_end new took)) (sym open_);
+        served = is_served took finished mid new x.1 over;
+      }
 
   -- it is, and so the other end closes its half
-  pub settled_closed : out.inner.finished ≡ true → (inn' : MemInState) → inn' ≡ record mid { ending = closing mid.ending } → Settled out inn peer inn' new
-  settled_closed over inn' is =
-      subst (λ (i : MemInState). Settled out inn peer i new) (sym is) record {
-        serve = a.serve;
-        end = a.end;
-        fed = fed;
-        given = given;
-        offered = is_offered.offered ∙ offers_same;
-        ending = closed_where mid.ending (gives_end peer out.taken) ended_same ∙ ap (ending_for (gives_end peer out.taken)) (sym over);
-        linked = record {
-          offered = record { begins = is_offered.begins; offered = is_offered.offered; ended = closing_ended mid.ending ∙ is_offered.ended; closed = λ _. fed };
-          finished = λ _. over;
-          told = λ t. (closing_shut mid.ending, (told_mid t).1);
-        };
-      }
+  pub settled_closed : finished ≡ true → Was → Settled took finished (record { half = record mid { ending = closing mid.ending }; peer = new })
+  settled_closed over s = let x = a.all (served_is took finished half peer steady s) in record {
+    offered = x.1.offered ∙ sym (offers_all took mid new x.1 x.0);
+    ending = closed_where mid.ending (gives_end new took) (ended_all took mid new x.1 x.0) ∙ ap (ending_for (gives_end new took)) (sym over);
+    served = is_served took finished (record mid { ending = closing mid.ending }) new (closes x.1 x.0) (λ _. over);
+  }
+    where
+      left : (o : IsOffered took mid new) → (new.fed ≡ took) ⊎ (is_ended mid.ending ≡ true) → closing mid.ending ≡ ending.Closed → o.left ≡ []
+      left o (inl fed) e = no_bytes o.left (let b = o.begins in omega (arith, ap length fed, ap length b, length-append new.fed o.left))
+      left o (inr ended) e = absurd (let z : true ≡ false = sym ended ∙ sym (closing_ended mid.ending) ∙ ap is_ended e in cc)
+
+      closes : IsOffered took mid new → (new.fed ≡ took) ⊎ (is_ended mid.ending ≡ true) → IsOffered took (record mid { ending = closing mid.ending }) new
+      closes o fed = record { left = o.left; begins = o.begins; offered = o.offered; ended = closing_ended mid.ending ∙ o.ended; closed = left o fed }
+
+-- ## A new link, as callers see it
+
+served_new : (serve : Bool) (end : Option ℕ) → IsServed [] false [] (offer_of (new_in serve end))
+served_new serve end = is_served [] false (empty_in (first_ending serve end)) (record { serve = serve; end = end; fed = [] })
+    (record { left = []; begins = refl; offered = nothing_offered serve end; ended = steady_new serve end; closed = λ _. refl })
+    (λ e. absurd (not_closed (serve && is_reached end 0) e))
+
+pub new_offer : (spec : LinkSpec) (i : LoopInState) → i ≡ new_in spec.serve spec.end → IsNewOffer spec (offer_of i)
+new_offer spec i is = subst (λ x. IsNewOffer spec (offer_of x)) (sym is) record { serve = refl; end = refl; served = served_new spec.serve spec.end }
 
 -- ## A link that is given back
 
 -- once its reading half told of the end or the closing, it gave all that the other end gives for what the link took
-pub gave_all : (out : ShapedState) (inn : MemInState) (peer : LoopPeerState) → IsLinked out inn peer → HasTold inn → inn.given ≡ offered_for peer out.taken
-gave_all out inn peer l t =
-    let o = passed out.taken inn peer (λ _. (l.told t).0) l.offered in
-    sym (append-nil inn.given) ∙ ap (λ w. inn.given ++ w) (sym (l.told t).1) ∙ o.offered
+pub gave_all : (took : List ℕ) (finished : Bool) (half : MemInState) (peer : LoopPeerState) → IsSteady peer half → IsTold half → IsServed took finished half.given (offer_of (record { half = half; peer = peer })) → HasTold half → half.given ≡ offered_for peer took
+gave_all took finished half peer steady told s t = by half.ending refl (told t)
+  where
+    by : (e : Ending) → half.ending ≡ e → (is_open half.ending ≡ false) × (half.waiting ≡ []) → half.given ≡ offered_for peer took
+    by ending.Open is x = absurd (let z : true ≡ false = sym (ap is_open is) ∙ x.0 in cc)
+    by ending.Ended is x = gave_to_end took half.given finished (offer_of (record { half = half; peer = peer })) s x.1 is [] ∙ ap (offered_for peer) (append-nil took)
+    by ending.Closed is x = gave_to_closing took half.given finished (offer_of (record { half = half; peer = peer })) s x.1 is
 
 told_end : (inn : MemInState) → (inn.gave_end ≡ true) ⊎ (Some inn.closed ≡ Some true) → HasTold inn
 told_end inn (inl t) = inl t
 told_end inn (inr t) = let e : inn.closed ≡ true = cc in inr e
 
 -- with the server these are the replies to what it took, cut to the first N with `end=N`
-pub gave_replies : (out : ShapedState) (inn : MemInState) (peer : LoopPeerState) (shape : Shape) → IsLinked out inn peer → peer.serve ≡ true → peer.end ≡ shape.end →
-    ((end_of (shaped_out out) (mem_in inn)).gave_end ≡ true) ⊎ ((end_of (shaped_out out) (mem_in inn)).closed ≡ Some true) → inn.given ≡ given_for shape out.taken
-gave_replies out inn peer shape l serves end_is t =
-    gave_all out inn peer l (told_end inn t) ∙ ap (λ b. cond b (replies_for peer.end out.taken) []) serves ∙ ap (λ x. replies_for x out.taken) end_is
+pub gave_replies : (out : ShapedState) (finished : Bool) (half : MemInState) (peer : LoopPeerState) (shape : Shape) → IsSteady peer half → IsTold half → IsServed out.taken finished half.given (offer_of (record { half = half; peer = peer })) → peer.serve ≡ true → peer.end ≡ shape.end →
+    ((end_of (shaped_out out) (loop_in (record { half = half; peer = peer }))).gave_end ≡ true) ⊎ ((end_of (shaped_out out) (loop_in (record { half = half; peer = peer }))).closed ≡ Some true) → half.given ≡ given_for shape out.taken
+gave_replies out finished half peer shape steady told s serves end_is t =
+    gave_all out.taken finished half peer steady told s (told_end half t) ∙ ap (λ b. cond b (replies_for peer.end out.taken) []) serves ∙ ap (λ x. replies_for x out.taken) end_is
 
 -- without it there are none
-pub gave_nothing : (out : ShapedState) (inn : MemInState) (peer : LoopPeerState) → IsLinked out inn peer → peer.serve ≡ false → inn.given ≡ []
-gave_nothing out inn peer l idle =
-    let none : inn.given ++ inn.waiting ≡ [] = l.offered.offered ∙ ap (λ b. cond b (replies_for peer.end peer.fed) []) idle in
-    no_bytes inn.given (omega (arith, ap length none, length-append inn.given inn.waiting))
+pub gave_nothing : (took : List ℕ) (finished : Bool) (half : MemInState) (peer : LoopPeerState) → IsServed took finished half.given (offer_of (record { half = half; peer = peer })) → peer.serve ≡ false → half.given ≡ []
+gave_nothing took finished half peer s idle =
+    let none : half.given ++ half.waiting ≡ [] = s.offered ∙ ap (λ b. cond b (replies_for peer.end peer.fed) []) idle in
+    no_bytes half.given (omega (arith, ap length none, length-append half.given half.waiting))

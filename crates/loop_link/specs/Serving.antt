@@ -1,12 +1,12 @@
 -- What the built-in server of a link gives for the bytes that it was fed, and what a link over it has been offered.
-use Rattle.std.specs.Prelude.{ℕ, ◌≡◌, ◌-◌, ◌<◌, ◌⊎◌, ◌&&◌, ◌||◌, nat_le, Bool, true, false, if◌then◌else◌, List, [], ◌++◌, length, take, drop, flat_map, Option, None, Some}
+use Rattle.std.specs.Prelude.{ℕ, ◌≡◌, ◌-◌, ◌<◌, ◌⊎◌, ◌&&◌, ◌||◌, nat_le, Bool, true, false, if◌then◌else◌, List, [], ◌++◌, length, take, flat_map, Option, None, Some}
 use Rattle.brpc_model.specs.Frame.{Frame, frame_bytes}
 use Rattle.brpc_model.specs.Reply.{reply_frames}
 use Rattle.brpc_model.specs.Served.{first_of}
 use Rattle.sock_io.specs.declared.ending.Ending.{Ending}
 use Rattle.sock_io.specs.declared.ending.Ending.TheVariants as ending
-use Rattle.sock_io.specs.Memory.{MemInState, is_closing}
-use Rattle.sock_io.specs.Shape.{ShapedState}
+use Rattle.sock_io.specs.Link.{InState, Offer, IsServed}
+use Rattle.sock_io.specs.Memory.{MemInState, empty_in, is_closing, mem_in}
 use Rattle.rpc_server.specs.Held.{Held}
 use Rattle.rpc_server.specs.Feeding.{has_fault, Replied}
 
@@ -59,28 +59,50 @@ ending_for false false = ending.Open
 -- gives for the bytes that it was fed, and they stand first in what the link took. Behind that stands its end, exactly
 -- where it gives one; and it closes only where all was fed.
 pub record IsOffered (took : List ℕ) (inn : MemInState) (peer : LoopPeerState) : Type 0 where
-  pub begins : peer.fed ++ drop (length peer.fed) took ≡ took
+  pub left : List ℕ
+  pub begins : took ≡ peer.fed ++ left
   pub offered : inn.given ++ inn.waiting ≡ offered_for peer peer.fed
   pub ended : is_ended inn.ending ≡ gives_end peer peer.fed
-  pub closed : inn.ending ≡ ending.Closed → peer.fed ≡ took
+  pub closed : inn.ending ≡ ending.Closed → left ≡ []
+
+-- The reading half of a link, with its other end.
+pub record LoopInState : Type 0 where
+  pub half : MemInState
+  pub peer : LoopPeerState
+
+-- what that offers, as callers see it
+abbrev pub offer_of : LoopInState → Offer
+offer_of i = record { serve = i.peer.serve; end = i.peer.end; fed = i.peer.fed; waiting = i.half.waiting; ending = i.half.ending }
+
+abbrev pub loop_in : LoopInState → InState
+loop_in i = record (mem_in i.half) { offer = Some (offer_of i) }
+
+-- a server of no response gives its end at once
+abbrev pub first_ending : Bool → Option ℕ → Ending
+first_ending serve end = if serve && is_reached end 0 then ending.Ended else ending.Open
+
+-- a half whose other end was fed nothing
+abbrev pub new_in : Bool → Option ℕ → LoopInState
+new_in serve end = record { half = empty_in (first_ending serve end); peer = record { serve = serve; end = end; fed = [] } }
+
+-- nothing is left to be fed to the server: the link isn't open any more, or these bytes are another link's
+abbrev pub IsOver : LoopPeerState → List ℕ → MemInState → Type 0
+IsOver peer took inn = is_open inn.ending ≡ true → length took < length peer.fed
+
+-- the end stands exactly where it is given
+abbrev pub IsSteady : LoopPeerState → MemInState → Type 0
+IsSteady peer inn = is_ended inn.ending ≡ gives_end peer peer.fed
 
 -- the reading half told how it went on behind its bytes: with the end, or the closing
 abbrev pub HasTold : MemInState → Type 0
 HasTold inn = (inn.gave_end ≡ true) ⊎ (inn.closed ≡ true)
 
--- and only where the link was finished; and its reading half tells of either once all bytes were taken
-pub record IsLinked (out : ShapedState) (inn : MemInState) (peer : LoopPeerState) : Type 0 where
-  pub offered : IsOffered out.taken inn peer
-  pub finished : inn.ending ≡ ending.Closed → out.inner.finished ≡ true
-  pub told : HasTold inn → (is_open inn.ending ≡ false) × (inn.waiting ≡ [])
-
--- nothing is left to be fed to the server: the other end isn't it, or the link isn't open any more, or these bytes are
--- another link's
-abbrev pub IsOver : LoopPeerState → List ℕ → MemInState → Type 0
-IsOver peer took inn = peer.serve ≡ true → is_open inn.ending ≡ true → length took < length peer.fed
+-- it tells of either once all bytes were taken
+abbrev pub IsTold : MemInState → Type 0
+IsTold inn = HasTold inn → (is_open inn.ending ≡ false) × (inn.waiting ≡ [])
 
 -- What an answer to what a link took may change; and where the link was offered what belongs to what was fed before, all
--- is fed now.
+-- is fed now, or the end stands behind what was fed.
 pub record Answers (old : LoopPeerState) (took : List ℕ) (inn : MemInState) (new : LoopPeerState) (inn' : MemInState) : Type 0 where
   pub serve : new.serve ≡ old.serve
   pub end : new.end ≡ old.end
@@ -88,18 +110,15 @@ pub record Answers (old : LoopPeerState) (took : List ℕ) (inn : MemInState) (n
   pub closing : is_closing inn'.ending ≡ is_closing inn.ending
   pub idle : old.serve ≡ false → inn' ≡ inn
   pub shut : is_open inn.ending ≡ false → inn' ≡ inn
-  pub all : IsOffered took inn old → (new.fed ≡ took) × IsOffered took inn' new
+  pub steady : IsSteady old inn → IsSteady new inn'
+  pub all : IsOffered took inn old → ((new.fed ≡ took) ⊎ (is_ended inn'.ending ≡ true)) × IsOffered took inn' new
 
--- All that the link took was fed, so that it was offered what the other end gives for that, and the end or the closing
--- stands behind it where it belongs.
-pub record Settled (out : ShapedState) (inn : MemInState) (peer : LoopPeerState) (inn' : MemInState) (peer' : LoopPeerState) : Type 0 where
-  pub serve : peer'.serve ≡ peer.serve
-  pub end : peer'.end ≡ peer.end
-  pub fed : peer'.fed ≡ out.taken
-  pub given : inn'.given ≡ inn.given
-  pub offered : inn'.given ++ inn'.waiting ≡ offered_for peer out.taken
-  pub ending : inn'.ending ≡ ending_for (gives_end peer out.taken) out.inner.finished
-  pub linked : IsLinked out inn' peer'
+-- A link that took these bytes was offered what the other end gives for all of them, and the end or the closing stands behind
+-- it where it belongs.
+pub record Settled (took : List ℕ) (finished : Bool) (i : LoopInState) : Type 0 where
+  pub offered : i.half.given ++ i.half.waiting ≡ offered_for i.peer took
+  pub ending : i.half.ending ≡ ending_for (gives_end i.peer took) finished
+  pub served : IsServed took finished i.half.given (offer_of i)
 
 -- ## The server
 

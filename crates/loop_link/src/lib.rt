@@ -3,6 +3,7 @@
 
 mod counts;
 mod front;
+mod half;
 mod loop_in;
 mod loop_linker;
 mod loop_peer;
@@ -12,4 +13,3 @@ mod tests;
 
 pub use loop_in::LoopIn;
 pub use loop_linker::LoopLinker;
-pub use loop_peer::LoopPeer;

@@ -1,91 +1,88 @@
-ghost use Rattle.std.specs.Prelude.{◌≡◌, ◌<◌, ◌++◌, false, length, OnErr, OnOk};
-ghost use Rattle.sock_io.specs.Link.{TakeStep};
-ghost use Rattle.sock_io.specs.Memory.{mem_in, empty_in, take_answer, closing};
-ghost use Rattle.loop_link.specs.Serving.{ending_for, is_open};
+ghost use Rattle.std.specs.Prelude.{◌≡◌, ◌⊎◌, ◌<◌, true, false, length, List, ℕ, OnErr, OnOk};
+ghost use Rattle.sock_io.specs.Link.{IsServed, TakeStep};
+ghost use Rattle.sock_io.specs.Memory.{closing, is_closing};
+ghost use Rattle.loop_link.specs.Serving.{Settled, first_ending, loop_in, new_in, offer_of};
 
-use sock_io::{Ending, In, MemIn, NoMemory, Take};
+use crate::counts::is_reached;
+use crate::half::Half;
+use crate::loop_peer::LoopPeer;
+use io_buf::BlockPool;
+use sock_io::{Ending, In, NoMemory, Take};
 use std::alloc::Global;
 use std::marker::Model;
 
-/// A reading half in memory that knows whether its other end may still give.
+/// The reading half of a link in memory, with its other end: the built-in server, or one that gives nothing.
 #[derive(Drop)]
 pub struct LoopIn {
-    inner: MemIn,
-    can_give: bool,
+    half: Half,
+    peer: LoopPeer,
 }
 
 impl Model for LoopIn {
     ghost use Rattle.std.specs.Prelude.{◌≡◌};
-    ghost use Rattle.sock_io.specs.Memory.{MemInState};
-    ghost use Rattle.loop_link.specs.Serving.{is_open};
+    ghost use Rattle.loop_link.specs.Serving.{IsSteady, IsTold, LoopInState};
 
-    ghost Value = { MemInState };
+    ghost Value = { LoopInState };
 
-    ghost view = { λ i. i.inner };
+    ghost view = { λ i. record { half = i.half; peer = i.peer } };
 
-    ghost invariant = { λ i. i.can_give ≡ is_open i.inner.ending };
+    ghost invariant = { λ i. IsSteady i.peer i.half × IsTold i.half };
+}
+
+// What stands in a new half: a server of no response gives its end at once.
+fn first_ending(serve: bool, end: Option<u32>) -> Ending
+    ensures { result ≡ first_ending serve end }
+{
+    if serve && is_reached(end, 0) {
+        Ending::Ended
+    } else {
+        Ending::Open
+    }
 }
 
 impl LoopIn {
-    /// A half to which nothing was given yet.
-    pub(crate) fn new(alloc: Global, ending: Ending) -> Self
-        ensures { result ≡ empty_in ending }
+    /// A half whose other end was fed nothing.
+    pub(crate) fn new(alloc: Global, serve: bool, end: Option<u32>) -> Self
+        ensures { result ≡ new_in serve end }
     {
         LoopIn {
-            inner: MemIn::new(alloc, ending),
-            can_give: match ending {
-                Ending::Open => true,
-                Ending::Ended | Ending::Closed => false,
-            },
+            half: Half::new(alloc, first_ending(serve, end)),
+            peer: LoopPeer::new(serve, end),
         }
     }
 
-    /// Whether the other end may still give.
-    pub(crate) fn is_open(&self) -> bool
-        ensures { result ≡ is_open self.now.ending }
-    {
-        self.can_give
-    }
-
-    /// The other end gives these bytes.
-    pub(crate) fn give(&mut self, bytes: &[u8]) -> Result<(), NoMemory>
-        requires { self.old.ending ≡ Ending.Open }
-        ensures ok { OnOk result (self.new ≡ record self.old { waiting = self.old.waiting ++ bytes.now }) }
+    /// Has the other end answer what the link took since the last call, and close its half where the link was finished.
+    /// Where memory is wanting, what is told stays as it is.
+    pub(crate) fn settle(
+        &mut self,
+        alloc: Global,
+        pool: &mut BlockPool,
+        took: &[u8],
+        finished: bool,
+    ) -> Result<(), NoMemory>
+        ensures half { self.new.half ≡ record self.old.half { waiting = self.new.half.waiting; ending = self.new.half.ending } }
+        ensures asked { (self.new.peer.serve ≡ self.old.peer.serve) × (self.new.peer.end ≡ self.old.peer.end) }
+        ensures closing { (is_closing self.new.half.ending ≡ is_closing self.old.half.ending) ⊎ ((finished ≡ true) × (is_closing self.new.half.ending ≡ true)) }
+        ensures open { OnOk result (self.old.peer.serve ≡ false → finished ≡ false → self.new.half ≡ self.old.half) }
+        ensures closes { OnOk result (self.old.peer.serve ≡ false → finished ≡ true → self.new.half ≡ record self.old.half { ending = closing self.old.half.ending }) }
+        ensures settled { OnOk result (IsServed took.now finished self.old.half.given (offer_of self.old) → Settled took.now finished self.new) }
         ensures err { OnErr result (self.new ≡ self.old) }
     {
-        self.inner.give(bytes)
-    }
-
-    /// The other end gives its end, where it has come to that.
-    pub(crate) fn end_where(&mut self, ended: bool)
-        requires { self.old.ending ≡ Ending.Open }
-        ensures { self.new ≡ record self.old { ending = ending_for ended false } }
-    {
-        if ended {
-            self.inner.end();
-            self.can_give = false;
+        self.peer.answer(alloc, pool, took, &mut self.half)?;
+        if finished {
+            self.half.close();
         }
-    }
-
-    /// The link was finished and the other end closes its half, unless it gave its end before.
-    pub(crate) fn close(&mut self)
-        ensures { self.new ≡ record self.old { ending = closing self.old.ending } }
-    {
-        self.inner.close();
-        self.can_give = false;
+        Ok(())
     }
 }
 
 impl In for LoopIn {
-    ghost state = { mem_in };
+    ghost state = { loop_in };
 
     fn take(&mut self, room: &mut [u8]) -> Take
         requires { 0 < length room.old }
-        ensures step { TakeStep (mem_in self.old) (mem_in self.new) room.new result }
-        ensures answer { result ≡ take_answer self.old.waiting self.old.ending (length room.old) }
-        ensures bytes { self.new.given ++ self.new.waiting ≡ self.old.given ++ self.old.waiting }
-        ensures ending { self.new.ending ≡ self.old.ending }
+        ensures step { TakeStep (loop_in self.old) (loop_in self.new) room.new result }
     {
-        self.inner.take(room)
+        self.half.take(room)
     }
 }

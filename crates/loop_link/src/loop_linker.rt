@@ -1,23 +1,22 @@
-ghost use Rattle.std.specs.Prelude.{◌≡◌, ◌≢◌, ◌↔◌, ◌⊎◌, ℕ, ◌+◌, ◌≤◌, ◌<◌, ◌∷◌, ◌++◌, List, true, false, [], length, Contains, IfOk, IsErrOf, OnErr, OnOk};
+ghost use Rattle.std.specs.Prelude.{◌≡◌, ◌≢◌, ◌↔◌, ℕ, ◌+◌, ◌≤◌, ◌<◌, ◌∷◌, ◌++◌, List, true, false, Some, [], length, Contains, IfOk, IsErrOf, OnErr, OnOk};
 ghost use Rattle.std.specs.List.{AllByRecursion};
 ghost use Rattle.brpc_model.specs.Link.{LinkEnd};
 ghost use Rattle.sock_io.specs.Causes.{Rose, next_number};
-ghost use Rattle.sock_io.specs.Link.{IsFresh, IsUnused, connection_of, end_of};
+ghost use Rattle.sock_io.specs.Link.{IsFresh, IsNewOffer, IsServed, IsSettled, IsUnused, SettleStep, connection_of, end_of};
 ghost use Rattle.sock_io.specs.Linker.{new_half, plain_shape};
-ghost use Rattle.sock_io.specs.Memory.{closing, empty_in, is_closing, mem_in};
+ghost use Rattle.sock_io.specs.Memory.{closing};
 ghost use Rattle.sock_io.specs.Shape.{shaped_out};
-ghost use Rattle.loop_link.specs.Linker.{shape_asked, new_peer, first_ending};
-ghost use Rattle.loop_link.specs.Serving.{IsLinked, Settled};
+ghost use Rattle.loop_link.specs.Linker.{shape_asked};
+ghost use Rattle.loop_link.specs.Serving.{Settled, loop_in, new_in, offer_of};
 
-use crate::counts::{is_counted, is_reached, next_call, risen};
+use crate::counts::{is_counted, next_call, risen};
 use crate::loop_in::LoopIn;
-use crate::loop_peer::LoopPeer;
 use io_buf::BlockPool;
-use sock_io::{Ending, Ends, LinkSpec, Linker, MemOut, NoMemory, OpenFault, Out, Shape, Shaped};
+use sock_io::{Ends, LinkSpec, Linker, MemOut, NoMemory, NoPeer, OpenFault, Out, Shape, Shaped};
 use std::alloc::Global;
 use std::marker::Model;
 
-type Link = Ends<Shaped<MemOut>, LoopIn, LoopPeer>;
+type Link = Ends<Shaped<MemOut>, LoopIn, NoPeer>;
 
 /// The halves of a connection, as it was given back.
 #[derive(Drop)]
@@ -47,13 +46,13 @@ pub struct LoopLinker {
 impl Model for LoopLinker {
     ghost use Rattle.std.specs.Prelude.{◌≤◌, map, vec_len, vec_capacity};
     ghost use Rattle.sock_io.specs.Link.{connection_of, end_of};
-    ghost use Rattle.sock_io.specs.Memory.{mem_in};
     ghost use Rattle.sock_io.specs.Shape.{shaped_out};
     ghost use Rattle.loop_link.specs.Linker.{LoopLinkerState};
+    ghost use Rattle.loop_link.specs.Serving.{loop_in};
 
     ghost Value = { LoopLinkerState };
 
-    ghost view = { λ l. record { asked = l.asked.items; accepted = l.accepted; back = map (λ e. end_of (shaped_out e.out) (mem_in e.inn)) l.links.items; done = map (λ c. connection_of (shaped_out c.out) (mem_in c.inn)) l.connections.items; fail_opens = l.fail_opens.items; calls = l.calls; faults = l.faults } };
+    ghost view = { λ l. record { asked = l.asked.items; accepted = l.accepted; back = map (λ e. end_of (shaped_out e.out) (loop_in e.inn)) l.links.items; done = map (λ c. connection_of (shaped_out c.out) (loop_in c.inn)) l.connections.items; fail_opens = l.fail_opens.items; calls = l.calls; faults = l.faults } };
 
     ghost invariant = { λ l. (vec_len l.asked ≤ vec_capacity l.links) × (vec_len l.links ≤ vec_len l.asked) × (l.accepted ≤ vec_capacity l.connections) × (vec_len l.connections ≤ l.accepted) };
 }
@@ -77,24 +76,12 @@ impl LoopLinker {
     }
 }
 
-/// What stands in a new link's reading half: a server of no response gives its end at once.
-fn first_ending(spec: &LinkSpec) -> Ending
-    ensures value { result ≡ first_ending spec.now }
-    ensures open { is_closing result ≡ false }
-{
-    if spec.serve && is_reached(spec.end, 0) {
-        Ending::Ended
-    } else {
-        Ending::Open
-    }
-}
-
 impl Linker for LoopLinker {
     type O = Shaped<MemOut>;
 
     type I = LoopIn;
 
-    type P = LoopPeer;
+    type P = NoPeer;
 
     ghost asked = { λ l. l.asked };
 
@@ -112,10 +99,9 @@ impl Linker for LoopLinker {
         requires piece { 0 < spec.now.piece }
         requires few { length self.old.asked < 256 }
         ensures out { IfOk result (λ ends. ends.out ≡ new_half (length self.old.asked) (shape_asked spec.now)) }
-        ensures inn { IfOk result (λ ends. ends.inn ≡ empty_in (first_ending spec.now)) }
-        ensures open { IfOk result (λ ends. is_closing ends.inn.ending ≡ false) }
-        ensures peer { IfOk result (λ ends. ends.peer ≡ new_peer spec.now) }
-        ensures linked { IfOk result (λ ends. IsLinked ends.out ends.inn ends.peer) }
+        ensures inn { IfOk result (λ ends. ends.inn ≡ new_in spec.now.serve spec.now.end) }
+        ensures fresh { IfOk result (λ ends. IsFresh (shaped_out ends.out) (loop_in ends.inn) (length self.old.asked)) }
+        ensures served { IfOk result (λ ends. IsNewOffer spec.now (offer_of ends.inn)) }
         ensures linker { IfOk result (λ _. self.new ≡ record self.old { asked = self.old.asked ++ spec.now ∷ []; calls = next_number self.old.calls }) }
         ensures refused { OnErr result (self.new ≡ record self.old { calls = next_number self.old.calls; faults = self.new.faults }) }
         ensures later { self.old.faults ≤ self.new.faults }
@@ -143,8 +129,8 @@ impl Linker for LoopLinker {
                 self.asked.push_reserved(*spec);
                 Ok(Ends {
                     out,
-                    inn: LoopIn::new(self.alloc, first_ending(spec)),
-                    peer: LoopPeer::new(spec.serve, spec.end),
+                    inn: LoopIn::new(self.alloc, spec.serve, spec.end),
+                    peer: NoPeer,
                 })
             }
             Err(_) => Err(OpenFault::NoMemory),
@@ -153,25 +139,23 @@ impl Linker for LoopLinker {
 
     fn settle(&mut self, ends: &mut Link) -> Result<(), NoMemory>
         ensures out { ends.new.out ≡ ends.old.out }
-        ensures half { ends.new.inn ≡ record ends.old.inn { waiting = ends.new.inn.waiting; ending = ends.new.inn.ending } }
-        ensures closing { (is_closing ends.new.inn.ending ≡ is_closing ends.old.inn.ending) ⊎ ((ends.old.out.inner.finished ≡ true) × (is_closing ends.new.inn.ending ≡ true)) }
+        ensures step { SettleStep (shaped_out ends.old.out) (loop_in ends.old.inn) (loop_in ends.new.inn) }
         ensures linker { self.new ≡ self.old }
         ensures err { OnErr result (ends.new ≡ ends.old) }
-        ensures open { OnOk result (ends.old.peer.serve ≡ false → ends.old.out.inner.finished ≡ false → ends.new.inn ≡ ends.old.inn) }
-        ensures closes { OnOk result (ends.old.peer.serve ≡ false → ends.old.out.inner.finished ≡ true → ends.new.inn ≡ record ends.old.inn { ending = closing ends.old.inn.ending }) }
-        ensures settled { OnOk result (IsLinked ends.old.out ends.old.inn ends.old.peer → Settled ends.old.out ends.old.inn ends.old.peer ends.new.inn ends.new.peer) }
+        ensures open { OnOk result (ends.old.inn.peer.serve ≡ false → ends.old.out.inner.finished ≡ false → ends.new.inn.half ≡ ends.old.inn.half) }
+        ensures closes { OnOk result (ends.old.inn.peer.serve ≡ false → ends.old.out.inner.finished ≡ true → ends.new.inn.half ≡ record ends.old.inn.half { ending = closing ends.old.inn.half.ending }) }
+        ensures settled { OnOk result (IsServed ends.old.out.taken ends.old.out.inner.finished ends.old.inn.half.given (offer_of ends.old.inn) → Settled ends.old.out.taken ends.old.out.inner.finished ends.new.inn) }
+        ensures served { OnOk result (IsSettled (shaped_out ends.old.out) (loop_in ends.old.inn) (loop_in ends.new.inn)) }
     {
-        ends.peer.answer(self.alloc, &mut self.pool, ends.out.taken(), &mut ends.inn)?;
-        if ends.out.is_finished() {
-            ends.inn.close();
-        }
-        Ok(())
+        let finished = ends.out.is_finished();
+        ends.inn
+            .settle(self.alloc, &mut self.pool, ends.out.taken(), finished)
     }
 
     fn accept(&mut self, _port: u16) -> Result<(Shaped<MemOut>, LoopIn), OpenFault>
         requires { self.old.accepted < 256 }
         ensures out { IfOk result (λ halves. halves.0 ≡ new_half 0 plain_shape) }
-        ensures inn { IfOk result (λ halves. halves.1 ≡ empty_in Ending.Ended) }
+        ensures inn { IfOk result (λ halves. halves.1 ≡ new_in true (Some 0)) }
         ensures linker { IfOk result (λ _. self.new ≡ record self.old { accepted = self.old.accepted + 1 }) }
         ensures refused { OnErr result (self.new ≡ self.old) }
         ensures never { ¬ IsErrOf result OpenFault.Failed }
@@ -188,7 +172,7 @@ impl Linker for LoopLinker {
         match Shaped::new(self.alloc, MemOut::new(0), shape) {
             Ok(out) => {
                 self.accepted += 1;
-                Ok((out, LoopIn::new(self.alloc, Ending::Ended)))
+                Ok((out, LoopIn::new(self.alloc, true, Some(0))))
             }
             Err(_) => Err(OpenFault::NoMemory),
         }
@@ -196,7 +180,7 @@ impl Linker for LoopLinker {
 
     fn done(&mut self, out: Shaped<MemOut>, inn: LoopIn)
         requires { length self.old.done < self.old.accepted }
-        ensures { self.new ≡ record self.old { done = self.old.done ++ connection_of (shaped_out out) (mem_in inn) ∷ [] } }
+        ensures { self.new ≡ record self.old { done = self.old.done ++ connection_of (shaped_out out) (loop_in inn) ∷ [] } }
     {
         match self.connections.push(Connection { out, inn }) {
             Ok(()) => {}
@@ -206,7 +190,7 @@ impl Linker for LoopLinker {
 
     fn back(&mut self, _link: u16, ends: Link)
         requires { length self.old.back < length self.old.asked }
-        ensures { self.new ≡ record self.old { back = self.old.back ++ end_of (shaped_out ends.out) (mem_in ends.inn) ∷ [] } }
+        ensures { self.new ≡ record self.old { back = self.old.back ++ end_of (shaped_out ends.out) (loop_in ends.inn) ∷ [] } }
     {
         match self.links.push(ends) {
             Ok(()) => {}

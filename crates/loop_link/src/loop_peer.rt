@@ -1,21 +1,20 @@
 ghost use Rattle.std.specs.Prelude.{◌≡◌, ◌≤◌, [], true, false, length, IfOk, OnErr, OnOk};
-ghost use Rattle.sock_io.specs.Peer.{no_peer};
 ghost use Rattle.loop_link.specs.Serving.{Answers, IsOver, is_open};
 
 use crate::counts::gives_end;
 use crate::front::{gathered, given_len};
-use crate::loop_in::LoopIn;
+use crate::half::Half;
 use crate::server::Server;
 use ghosts::Ghosts;
 use io_buf::BlockPool;
-use sock_io::{NoMemory, Peer, Served};
+use sock_io::NoMemory;
 use std::alloc::Global;
 use std::marker::Model;
 
-/// The other end of a link, which `LoopLinker::settle` serves: the built-in server, or one that takes all bytes and gives
-/// nothing. Contracts see what was asked of it, and all bytes of the link that it was fed.
+/// The other end of a link: the built-in server, or one that takes all bytes and gives nothing. Contracts see what was
+/// asked of it, and all bytes of the link that it was fed.
 #[derive(Drop)]
-pub struct LoopPeer {
+pub(crate) struct LoopPeer {
     serve: bool,
     end: Option<u32>,
     /// The server, unless it was lost for want of memory.
@@ -51,19 +50,22 @@ impl LoopPeer {
     }
 
     /// Takes what the link took since the last call, and gives the replies to it, and its end where that is to come. Once
-    /// it gave its end it throws all away.
+    /// it gave its end it takes no more.
     pub(crate) fn answer(
         &mut self,
         alloc: Global,
         pool: &mut BlockPool,
         took: &[u8],
-        inn: &mut LoopIn,
+        inn: &mut Half,
     ) -> Result<(), NoMemory>
         ensures ok { OnOk result (Answers self.old took.now inn.old self.new inn.new) }
         ensures err { OnErr result ((self.new ≡ self.old) × (inn.new ≡ inn.old)) }
     {
-        if self.is_over(took, inn) {
+        if !self.serves() {
             self.pass(took);
+            return Ok(());
+        }
+        if self.is_over(took, inn) {
             return Ok(());
         }
         let end = self.end();
@@ -80,14 +82,20 @@ impl LoopPeer {
         Ok(())
     }
 
+    // Whether it is the server.
+    fn serves(&self) -> bool
+        ensures { result ≡ self.now.serve }
+    {
+        self.serve
+    }
+
     // Whether nothing is left to be fed to the server. Fewer bytes than it was fed are another link's.
-    fn is_over(&self, took: &[u8], inn: &LoopIn) -> bool
+    fn is_over(&self, took: &[u8], inn: &Half) -> bool
         ensures over { result ≡ true → IsOver self.now took.now inn.now }
-        ensures served { result ≡ false → self.now.serve ≡ true }
         ensures live { result ≡ false → is_open inn.now.ending ≡ true }
         ensures enough { result ≡ false → length self.now.fed ≤ length took.now }
     {
-        !self.serve || !inn.is_open() || took.len() < self.fed_len
+        !inn.is_open() || took.len() < self.fed_len
     }
 
     // How many bytes it was fed.
@@ -142,13 +150,5 @@ impl LoopPeer {
         self.server = None;
         self.fed = Ghosts::of(&took);
         self.fed_len = took.len();
-    }
-}
-
-impl Peer for LoopPeer {
-    ghost state = { λ _. no_peer };
-
-    fn serve(&mut self) -> Result<Served, NoMemory> {
-        Ok(Served::Done)
     }
 }

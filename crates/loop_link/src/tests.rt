@@ -1,7 +1,7 @@
 ghost use Rattle.std.specs.Prelude.{◌≡◌, ◌<◌, [], length};
 
-use crate::{LoopIn, LoopLinker, LoopPeer};
-use sock_io::{Ends, In, LinkSpec, Linker, MemOut, Mode, Out, Put, Shaped, Take};
+use crate::{LoopIn, LoopLinker};
+use sock_io::{Ends, In, LinkSpec, Linker, MemOut, Mode, NoPeer, Out, Put, Shaped, Take};
 use std::test::Fail;
 
 // A request for an echo, and the reply to it.
@@ -27,7 +27,7 @@ fn asked(serve: bool, end: Option<u32>) -> LinkSpec
 // Settles the link, and takes from it once: the bytes, and the answer.
 fn taken(
     links: &mut LoopLinker,
-    ends: &mut Ends<Shaped<MemOut>, LoopIn, LoopPeer>,
+    ends: &mut Ends<Shaped<MemOut>, LoopIn, NoPeer>,
     room: &mut [u8; 64],
 ) -> Option<Take> {
     match links.settle(ends) {
@@ -95,8 +95,11 @@ fn without_the_server_nothing_is_given(rt: HostRuntime) -> Result<(), Fail> {
     assert_eq!(rt; taken(&mut links, &mut ends, &mut room), Some(Take::Empty));
     ends.out.finish();
     assert_eq!(rt; taken(&mut links, &mut ends, &mut room), Some(Take::Closed));
-    let Ends { out: _, inn, peer } = ends;
+    let Ends {
+        out: _,
+        inn,
+        peer: _,
+    } = ends;
     is_send_and_sync(inn);
-    is_send_and_sync(peer);
     Ok(())
 }

@@ -1,5 +1,5 @@
 -- A run, from the setup to the end.
-use Rattle.std.proofs.Common.{◌≡◌, ℕ, zero, suc, ◌+◌, ◌-◌, List, [], ◌∷◌, ◌++◌, replicate, Option, None, Result, Ok, Err, OnOk, length, ◌≤◌, ap, sym, subst, refl, ◌∙◌, append_assoc, arith}
+use Rattle.std.proofs.Common.{◌≡◌, ℕ, zero, suc, ◌+◌, ◌-◌, Bool, List, [], ◌∷◌, ◌++◌, replicate, Option, None, Result, Ok, Err, OnOk, length, ◌≤◌, ap, sym, subst, refl, ◌∙◌, append_assoc, arith}
 use Rattle.std.specs.List.{AllByRecursion}
 use mathlib.Core.Option as core
 use lib.ListN.{get_elem?}
@@ -18,14 +18,16 @@ use Rattle.brpc_model.specs.Script.{script_of}
 use Rattle.owed_calls.specs.Lives.{ClosesInTime, ClosesInRun}
 use Rattle.whole_runs.proofs.Lengths.{opened_sized, run_sized}
 use Rattle.whole_runs.specs.Heard.{heard_in, taken_in, heard_of, taken_of}
+use Rattle.whole_runs.specs.Offered.{AreOffered}
+use Rattle.whole_runs.specs.OfferedRuns.{OffersInRun}
 use Rattle.whole_runs.proofs.HeardRuns.{heard_on, taken_on}
 use Rattle.report_fits.proofs.Sizes.{keeps_limits}
-use Rattle.sock_core.specs.Links.{Taken, Given, ArePrompt, TellClosing}
+use Rattle.sock_core.specs.Links.{Taken, Given, ArePrompt, TellClosing, IsOffering}
 use Rattle.sock_core.specs.Machines.{MachineState, core_with, ending_by}
 use Rattle.sock_core.specs.Runs as rounds
 use Rattle.sock_core.specs.Runs.{ShowFaults, LinksTell, TakesTell, ShowTakings, SettlesBy, SettledWith, Settled, round_by}
 use Rattle.sock_core.proofs.Resting.{rest_anyhow}
-use Rattle.sock_core.proofs.Joining.{run_append, answered_append, closes_append, prompt_append, broken_append, show_faults_later, show_faults_join, tells_as, tells_join, takings_later, takings_join, takings_as, takes_join, takes_as}
+use Rattle.sock_core.proofs.Joining.{run_append, answered_append, closes_append, offers_append, prompt_append, broken_append, show_faults_later, show_faults_join, tells_as, tells_join, takings_later, takings_join, takings_as, takes_join, takes_as}
 use Rattle.script_run.specs.Causes.{broken_of}
 use Rattle.script_run.specs.Played.{IsMade, IsPlayable, PlayedWith, HasPlayed, HasRun}
 
@@ -160,6 +162,15 @@ module _ (script : List Item) (turns : List Turn) (start mid end_ : MachineState
     final = subst (λ (q : Plan). ClosesInTime q rest.ended final) plan (rest.closes_again later_tell);
   }
 
+  offers : (k : ℕ) (serve : Bool) (end : Option ℕ) → IsOffering start.links k serve end → OffersInRun script turns (core_with end_ rest.later rest.later_gave) run_of k serve end × IsOffering end_.links k serve end
+  offers k serve end h = let x = first.follows.offers k serve end h in let y = rest.offers k serve end x.1 in (
+    record {
+      played = offers_append p k serve end (set_up script n) now later (set (λ q c. AreOffered q k serve end c now) x.0) (moved (λ q c. AreOffered q k serve end c later) y.0);
+      final = subst (λ (q : Plan). AreOffered q k serve end rest.ended final) plan y.1;
+    },
+    y.2,
+  )
+
   -- what links answered behind the schedule
   abbrev heard_later : ℕ → List Answer
   heard_later k = heard_in p (run p (set_up script n) now) later k ++ heard_in p rest.ended final k
@@ -203,6 +214,7 @@ module _ (script : List Item) (turns : List Turn) (start mid end_ : MachineState
     agrees_gave = rest.agrees_gave;
     run = run_of;
     closes = closes;
+    offers = offers;
     broken = broken;
     told = told;
     taken = taken;

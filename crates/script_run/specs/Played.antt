@@ -1,5 +1,5 @@
 -- The lines by which a script is run, the ticks that they make, and the text of a run.
-use Rattle.std.specs.Prelude.{ℕ, ◌≡◌, ◌≢◌, ◌≤◌, ◌++◌, true, length, slice_get, slice_index_or, List, [], Option, Some, None, IfSome}
+use Rattle.std.specs.Prelude.{ℕ, ◌≡◌, ◌≢◌, ◌≤◌, ◌++◌, Bool, true, length, slice_get, slice_index_or, List, [], Option, Some, None, IfSome}
 use Rattle.sock_words.specs.declared.plain.Plan.{Plan}
 use Rattle.brpc_model.specs.Items.{Item}
 use Rattle.brpc_model.specs.Link.{LinkEnd}
@@ -19,9 +19,10 @@ use Rattle.report_fits.specs.Ends.{AreEndsOf, AreTold}
 use Rattle.run_laws.specs.Laws.{KeepsLaws}
 use Rattle.sock_io.specs.Link.{InState}
 use Rattle.owed_calls.specs.Lives.{ClosesInRun}
-use Rattle.sock_core.specs.Links.{Taken, Given, Agrees, AgreesGave, TellClosing}
+use Rattle.sock_core.specs.Links.{Taken, Given, Agrees, AgreesGave, TellClosing, IsOffering}
 use Rattle.sock_core.specs.Machines.{MachineState, core_with}
 use Rattle.whole_runs.specs.Heard.{as_told, as_taken, take_answers, heard_of, taken_of}
+use Rattle.whole_runs.specs.OfferedRuns.{OffersInRun}
 use Rattle.whole_runs.specs.Over.{IsAllOver}
 use Rattle.sock_core.specs.Runs.{ShowFaults, LinksTell, TakesTell, ShowTakings, Follows, Made}
 use Rattle.sock_core.specs.Driving.{FirstRests}
@@ -84,6 +85,8 @@ pub record HasRun (script : List Item) (turns : List Turn) (start m : MachineSta
   pub agrees_gave : AgreesGave m.links gave
   pub run : IsRunWithCalls script turns (core_with m took gave)
   pub closes : TellClosing start.links → ClosesInRun script turns (core_with m took gave) run
+  -- a link that was offered what belongs to it tells so in each take, and is offered it in the end
+  pub offers : (k : ℕ) (serve : Bool) (end : Option ℕ) → IsOffering start.links k serve end → OffersInRun script turns (core_with m took gave) run k serve end × IsOffering m.links k serve end
   pub broken : ShowFaults m (broken_of run)
   pub told : LinksTell start m (heard_of run)
   pub taken : ShowTakings m (taken_of run)

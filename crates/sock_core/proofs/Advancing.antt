@@ -41,6 +41,7 @@ use Rattle.sock_core.specs.Driving.{Leaves}
 use Rattle.sock_core.proofs.Answering.{AsksUnfinished, made_links, made_prompt, made_broken, made_told}
 use Rattle.sock_core.proofs.CallWords.{called_behind}
 use Rattle.sock_core.proofs.Closings.{made_closes, made_closed, read_links, read_closes, read_closed}
+use Rattle.sock_core.proofs.Offering.{made_offers, made_offering, read_offers, read_offering}
 use Rattle.sock_core.proofs.Fitting.{paced_prop, client_next, client_may, client_asks, client_takes, client_slots, reader_next, reader_may, reader_slots}
 use Rattle.sock_core.proofs.Joining.{tells_as}
 use Rattle.sock_core.proofs.Keeping.{OutsKept, Keeps, kept_by, readers_paced, made_paced, step_keeps}
@@ -202,6 +203,7 @@ module _ (m fresh : MachineState) (room i : ℕ) (step : Step) (tick : Tick) (is
     answered = (s.answered, tt);
     prompt = λ prompt. (made_prompt m fresh i w.seat w.seat' step first answer made prompt, tt);
     closes = λ tell. made_closes m fresh i w.seat w.seat' step m.plan c first answer made;
+    offers = λ k serve end h. (made_offers m fresh i w.seat w.seat' step m.plan k serve end c first answer made, made_offering m fresh i w.seat w.seat' step k serve end h first answer made);
     later = s.later;
     agrees = s.agrees;
     later_gave = s.later_gave;
@@ -337,6 +339,10 @@ module _ (m fresh : MachineState) (room k : ℕ) (step : ReadStep) (tick : Tick)
     answered = (s.answered, tt);
     prompt = λ prompt. (read_prompt m fresh i w.reader w.reader' begins given_answer read_made, tt);
     closes = λ tell. read_closes m fresh k w.reader w.reader' (is.closed enough) w.at w.seats read_sized.letters_are read_sized.inns_are read_few took gave tell begins given_answer read_made;
+    offers = λ x serve end h. (
+      read_offers m fresh k w.reader w.reader' x serve end h (is.closed enough) w.at read_sized.letters_are read_sized.inns_are read_few took gave agrees agrees_gave begins given_answer read_made,
+      read_offering m fresh k w.reader w.reader' x serve end h begins given_answer read_made,
+    );
     later = s.later;
     agrees = s.agrees;
     later_gave = s.later_gave;

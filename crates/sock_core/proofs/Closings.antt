@@ -18,10 +18,11 @@ use Rattle.sock_programs.specs.Asides as asides
 use Rattle.sock_programs.specs.Asides.{Taking, Closed}
 use Rattle.sock_programs.specs.Calls as calls
 use Rattle.sock_programs.specs.Programs.{Program}
-use Rattle.sock_programs.specs.Cores.{Core, SeatState}
+use Rattle.sock_programs.specs.Cores.{Core, SeatState, link_place}
 use Rattle.sock_programs.specs.Ticks.{Answer, Unasked, OfPut, OfReady, Moment, taken}
 use Rattle.sock_programs.specs.Runs.{from_to}
 use Rattle.id_runs.specs.Goes.{first_of}
+use Rattle.whole_runs.specs.Offered.{HasTaken}
 use Rattle.owed_calls.specs.Lives.{InHand, IsFinished, ClosesAt, ClosesInTime}
 use Rattle.seat_points.specs.declared.point.Step.{Step}
 use Rattle.seat_points.specs.Steps.{First, OfCall, OfAside, OfMessage, OfLink, OfHome}
@@ -55,40 +56,49 @@ in_each f a (suc n) k x low high has = dite (ℕ_discrete k a)
     (λ e. in_first x (f a) (flat_map f (from_to (a + 1) n)) (subst (λ j. InHand x (f j)) e has))
     (λ differ. in_second x (f a) (flat_map f (from_to (a + 1) n)) (in_each f (a + 1) n k x (omega (arith, low, differ)) (omega (arith, high)) has))
 
-module _ (m : MachineState) (letters : length m.letters ≡ m.plan.requests) (few : length m.seats ≤ READERS) (kept : KeepsClosed m) (took : Taken) (gave : Given) (k : ℕ) (inside : k < m.plan.links) (done : is_done m.links k ≡ true) where
+module _ (m : MachineState) (letters : length m.letters ≡ m.plan.requests) (few : length m.seats ≤ READERS) (kept : KeepsClosed m) (took : Taken) (gave : Given) (k : ℕ) (inside : k < m.plan.links) where
   abbrev c : Core
   c = core_with m took gave
 
-  is_link : link_with m.links took k ≡ Link k (took k) (slice_index_or m.links.nexts k 0) true
-  is_link = ap (Link k (took k) (slice_index_or m.links.nexts k 0)) done
+  module _ (finished : Bool) (done : is_done m.links k ≡ finished) where
+    abbrev link : Home
+    link = Link k (took k) (slice_index_or m.links.nexts k 0) finished
 
-  in_seat : (j : ℕ) (program : Program) → holder_of m.links k ≡ Some j → get_elem? c.seats j ≡ core.some (state_of m.plan m.links took program j) → IsFinished m.plan c k
-  in_seat j program own at = (
-    took k,
-    slice_index_or m.links.nexts k 0,
-    inr (
+    abbrev Lies : Type 0
+    Lies = (get_elem? c.homes (link_place m.plan k) ≡ core.some (core.some link)) ⊎ ((j : ℕ) × (seat : SeatState) × (get_elem? c.seats j ≡ core.some seat) × InHand link seat.hand)
+
+    is_link : link_with m.links took k ≡ link
+    is_link = ap (Link k (took k) (slice_index_or m.links.nexts k 0)) done
+
+    in_seat : (j : ℕ) (program : Program) → holder_of m.links k ≡ Some j → get_elem? c.seats j ≡ core.some (state_of m.plan m.links took program j) → Lies
+    in_seat j program own at = inr (
       j,
       state_of m.plan m.links took program j,
       at,
-      in_each (in_hand m.links took j) 0 m.plan.links k _ (omega arith) (omega (arith, inside))
-          (subst (InHand (Link k (took k) (slice_index_or m.links.nexts k 0) true)) (sym (own_link m.links took j k own)) (inl is_link)),
-    ),
-  )
+      in_each (in_hand m.links took j) 0 m.plan.links k _ (omega arith) (omega (arith, inside)) (subst (InHand link) (sym (own_link m.links took j k own)) (inl is_link)),
+    )
 
-  in_hands : (j : ℕ) → holder_of m.links k ≡ Some j → IsFinished m.plan c k
-  in_hands j own = dite (dec_lt j (length m.seats))
-      (λ low. let s = at_some m.seats j low in in_seat j (seat_program (machine_sizes m) s.0) own (seat_at m took j s.0 s.1))
-      (λ far. let reads = kept.held k j own (omega (arith, far)) in let more = reads.0 in let less = reads.1 in let r = at_some m.readers (j - READERS) (omega (arith, more, less)) in let e : READERS + (j - READERS) ≡ j = omega (arith, more) in
-      in_seat j (reader_program m.calls r.0) own
-      (subst (λ x. get_elem? c.seats x ≡ core.some (state_of m.plan m.links took (reader_program m.calls r.0) x)) e (read_at m took (j - READERS) r.0 few r.1)))
+    in_hands : (j : ℕ) → holder_of m.links k ≡ Some j → Lies
+    in_hands j own = dite (dec_lt j (length m.seats))
+        (λ low. let s = at_some m.seats j low in in_seat j (seat_program (machine_sizes m) s.0) own (seat_at m took j s.0 s.1))
+        (λ far. let reads = kept.held k j own (omega (arith, far)) in let more = reads.0 in let less = reads.1 in let r = at_some m.readers (j - READERS) (omega (arith, more, less)) in let e : READERS + (j - READERS) ≡ j = omega (arith, more) in
+        in_seat j (reader_program m.calls r.0) own
+        (subst (λ x. get_elem? c.seats x ≡ core.some (state_of m.plan m.links took (reader_program m.calls r.0) x)) e (read_at m took (j - READERS) r.0 few r.1)))
 
-  by_holder : (o : Option ℕ) → holder_of m.links k ≡ o → IsFinished m.plan c k
-  by_holder None free = (took k, slice_index_or m.links.nexts k 0, inl (home_at m.plan m.letters letters m.links took k inside ∙ ap core.some (lies_home m.links took k free ∙ ap core.some is_link)))
-  by_holder (Some j) own = in_hands j own
+    by_holder : (o : Option ℕ) → holder_of m.links k ≡ o → Lies
+    by_holder None free = inl (home_at m.plan m.letters letters m.links took k inside ∙ ap core.some (lies_home m.links took k free ∙ ap core.some is_link))
+    by_holder (Some j) own = in_hands j own
+
+    lies_there : Lies
+    lies_there = by_holder (holder_of m.links k) refl
 
   -- a link that is finished lies so at home or in a hand
-  pub finished_there : IsFinished m.plan c k
-  finished_there = by_holder (holder_of m.links k) refl
+  pub finished_there : is_done m.links k ≡ true → IsFinished m.plan c k
+  finished_there done = (took k, slice_index_or m.links.nexts k 0, lies_there true done)
+
+  -- and each has taken what it took
+  pub taken_there : HasTaken m.plan k c (took k)
+  taken_there = (slice_index_or m.links.nexts k 0, is_done m.links k, lies_there (is_done m.links k) refl)
 
 -- ## What is answered
 

@@ -7,7 +7,7 @@ use Rattle.std.proofs.lemmas.Option.{none-some, same_Some, slice_get_within, sli
 use Rattle.std.specs.List.{AllByRecursion}
 use Rattle.std.specs.Prelude as std
 use Rattle.std.specs.Prelude.{slice_get, Some, None, IfSome, unwrap_or, option_map}
-use mathlib.Core.Option.{Option, some, none}
+use mathlib.Core.Option.{Option, some, none, some-ne-none}
 use lib.ListN.{get_elem?}
 use Rattle.sock_words.specs.declared.kind.Kind.{Kind}
 use Rattle.sock_words.specs.declared.plain.Plan.{Plan}
@@ -18,6 +18,7 @@ use Rattle.whole_runs.specs.Heard.{as_told, as_taken, answer_of, take_answers, t
 use Rattle.whole_runs.proofs.HeardRuns.{told_append, taken_append, heard_on, taken_on}
 use Rattle.id_runs.specs.Goes.{first_of}
 use Rattle.owed_calls.specs.Lives.{ClosesAt, ClosesInTime}
+use Rattle.whole_runs.specs.Offered.{OffersAt, AreOffered}
 use Rattle.sock_programs.specs.Asides.{TakeBytes, Taking, Bytes, Nothing, NoMore, AtEnd, Closed, Broken}
 use Rattle.sock_programs.specs.Programs.{Program, Aside, Say, Sent, Rest, Keep, Retries}
 use Rattle.sock_programs.specs.Cores.{Core, SeatState}
@@ -216,6 +217,19 @@ pub quiet_closes : (p : Plan) (c : Core) (n i : ℕ) → ClosesInTime p c (repli
 quiet_closes p c zero i = tt
 quiet_closes p c (suc n) i = (λ seat at. not_closed p c Unasked (first_of seat.program) (λ e. cc), quiet_closes p (ticked p c (quiet i)) n i)
 
+-- no take was answered
+pub not_offered : (p : Plan) (k : ℕ) (serve : std.Bool) (end : std.Option ℕ) (c : Core) (answer : Answer) (program : Program) → taken answer ≡ none → OffersAt p k serve end c answer program
+not_offered p k serve end c answer (Aside (TakeBytes j room) next) none_ = λ same t is. absurd (some-ne-none t (sym is ∙ none_))
+not_offered p k serve end c answer _ none_ = tt
+
+pub quiet_offers : (p : Plan) (k : ℕ) (serve : std.Bool) (end : std.Option ℕ) (c : Core) (n i : ℕ) → AreOffered p k serve end c (replicate n (quiet i))
+quiet_offers p k serve end c zero i = tt
+quiet_offers p k serve end c (suc n) i = (λ seat at. not_offered p k serve end c Unasked (first_of seat.program) refl, quiet_offers p k serve end (ticked p c (quiet i)) n i)
+
+pub offers_append : (p : Plan) (k : ℕ) (serve : std.Bool) (end : std.Option ℕ) (c : Core) (xs ys : List Moment) → AreOffered p k serve end c xs → AreOffered p k serve end (run p c xs) ys → AreOffered p k serve end c (xs ++ ys)
+offers_append p k serve end c [] ys first second = second
+offers_append p k serve end c (m ∷ ms) ys first second = (first.0, offers_append p k serve end (ticked p c m) ms ys first.1 second)
+
 module _ (p : Plan) where
   pub run_append : (c : Core) (xs ys : List Moment) → run p c (xs ++ ys) ≡ run p (run p c xs) ys
   run_append c xs ys = fold-append (ticked p) c xs ys
@@ -238,6 +252,7 @@ follows_none m took gave agrees agrees_gave = record {
   answered = tt;
   prompt = λ h. tt;
   closes = λ h. tt;
+  offers = λ k serve end h. (tt, h);
   later = took;
   agrees = agrees;
   later_gave = gave;
@@ -262,6 +277,7 @@ module _ (a b c : MachineState) (took : Taken) (gave : Given) (xs ys : List Mome
     answered = answered_append a.plan start xs ys f.answered (moved (λ p d. AreAnswered p d ys) g.answered);
     prompt = λ prompt. prompt_append xs ys (f.prompt prompt) (g.prompt (links.prompt prompt));
     closes = λ tell. closes_append a.plan start xs ys (f.closes tell) (moved (λ p d. ClosesInTime p d ys) (g.closes (links.tell tell)));
+    offers = λ k serve end h. let x = f.offers k serve end h in let y = g.offers k serve end x.1 in (offers_append a.plan k serve end start xs ys x.0 (moved (λ p d. AreOffered p k serve end d ys) y.0), y.1);
     later = g.later;
     agrees = g.agrees;
     later_gave = g.later_gave;
@@ -408,6 +424,7 @@ follows_rest m took gave i n agrees agrees_gave rest = record {
   answered = rests_answered m.plan (core_with m took gave) i rest n;
   prompt = λ h. quiet_prompt n i;
   closes = λ h. quiet_closes m.plan (core_with m took gave) n i;
+  offers = λ k serve end h. (quiet_offers m.plan k serve end (core_with m took gave) n i, h);
   later = took;
   agrees = agrees;
   later_gave = gave;

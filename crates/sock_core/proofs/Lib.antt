@@ -7,6 +7,7 @@ pub mod Hands
 pub mod Changes
 pub mod Holding
 pub mod Closings
+pub mod Offering
 pub mod Takings
 pub mod FirstSteps
 pub mod Seatings

@@ -17,6 +17,7 @@ use Rattle.sock_programs.specs.Cores.{Core, SeatState}
 use Rattle.sock_programs.specs.Ticks.{Answer, Moment, AreAnswered, run, broken_in}
 use Rattle.sock_runs.proofs.Along.{place_inside}
 use Rattle.owed_calls.specs.Lives.{ClosesInTime}
+use Rattle.whole_runs.specs.Offered.{AreOffered}
 use Rattle.whole_runs.specs.Heard.{heard_in, taken_in}
 use Rattle.call_slots.specs.Slots.{calls_with}
 use Rattle.client_seats.specs.Seats.{SeatData, seat_program}
@@ -52,6 +53,7 @@ module _ (old new : MachineState) (ss : List SeatData) (same : (took : Taken) (g
     answered = subst (λ (c : Core). AreAnswered old.plan c ms) e f.answered;
     prompt = f.prompt;
     closes = λ tell. subst (λ (c : Core). ClosesInTime old.plan c ms) e (f.closes tell);
+    offers = λ k serve end h. let x = f.offers k serve end h in (subst (λ (c : Core). AreOffered old.plan k serve end c ms) e x.0, x.1);
     later = f.later;
     agrees = f.agrees;
     later_gave = f.later_gave;

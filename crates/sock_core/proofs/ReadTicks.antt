@@ -53,7 +53,7 @@ gives_set l l' gave k inn inn' bytes at inns counted known agrees j x there = �
     )
 
 -- the list of what the links gave
-given_at : (n k : ℕ) (gave : Given) → k < n → slice_index_or (given_by n gave) k [] ≡ gave k
+pub given_at : (n k : ℕ) (gave : Given) → k < n → slice_index_or (given_by n gave) k [] ≡ gave k
 given_at n k gave inside = at_index (given_by n gave) k (gave k) (get-range gave 0 n k inside ∙ ap (λ j. core.some (gave j)) (omega arith))
   where
     at_index : (xs : List (List ℕ)) (j : ℕ) (x : List ℕ) → get_elem? xs j ≡ core.some x → slice_index_or xs j [] ≡ x

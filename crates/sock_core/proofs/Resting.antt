@@ -19,7 +19,7 @@ use Rattle.sock_core.specs.declared.machine.Tick.TheVariants as ticks
 use Rattle.sock_core.specs.Links.{LinksData, Taken, Given}
 use Rattle.sock_core.specs.Machines.{MachineState, READERS, core_with, machine_sizes, between, resting, clients_with, readers_with, seats_with}
 use Rattle.sock_core.specs.Runs.{ShowFaults, Follows, Ticked, TickedWith, Ran}
-use Rattle.sock_core.proofs.Joining.{same_table_none, same_links_none, rests, rest_answered, rest_heard, rest_taken, rests_on, rests_heard, rests_taken, rests_answered, seats_quiet, quiet_prompt, quiet_closes, quiet_broken, show_faults_none, tells_none, tells_as, takings_none, takes_none, takes_as}
+use Rattle.sock_core.proofs.Joining.{same_table_none, same_links_none, rests, rest_answered, rest_heard, rest_taken, rests_on, rests_heard, rests_taken, rests_answered, seats_quiet, quiet_prompt, quiet_closes, quiet_offers, quiet_broken, show_faults_none, tells_none, tells_as, takings_none, takes_none, takes_as}
 
 -- the seat has no step left, whatever its links took and gave
 abbrev pub Rests : MachineState → ℕ → Type 0
@@ -72,6 +72,7 @@ follows_idle a b i took gave t = record {
   answered = tt;
   prompt = λ h. tt;
   closes = λ h. tt;
+  offers = λ k serve end h. (tt, (t.follows.offers k serve end h).1);
   later = t.follows.later;
   agrees = t.follows.agrees;
   later_gave = t.follows.later_gave;
@@ -100,6 +101,7 @@ rest_ticks m i rest = (
       answered = (rest_answered (core_with m took gave) i (rest took gave), tt);
       prompt = λ h. (λ e. absurd (cc), tt);
       closes = λ h. quiet_closes m.plan (core_with m took gave) 1 i;
+      offers = λ k serve end h. (quiet_offers m.plan k serve end (core_with m took gave) 1 i, h);
       later = took;
       agrees = agrees;
       later_gave = gave;
@@ -151,6 +153,7 @@ idle_ran a b i t n = (
       answered = rests_answered a.plan c i rest n;
       prompt = λ h. quiet_prompt n i;
       closes = λ h. quiet_closes a.plan c n i;
+      offers = λ k serve end h. (quiet_offers a.plan k serve end c n i, (w.follows.offers k serve end h).1);
       later = w.follows.later;
       agrees = w.follows.agrees;
       later_gave = w.follows.later_gave;
@@ -206,6 +209,7 @@ none_follows a b took gave i n ms rest are f = let u = unmoved a.plan i n (core_
   answered = tt;
   prompt = λ h. tt;
   closes = λ h. tt;
+  offers = λ k serve end h. (tt, (f.offers k serve end h).1);
   later = f.later;
   agrees = f.agrees;
   later_gave = f.later_gave;

@@ -12,7 +12,7 @@ use Rattle.sock_programs.specs.Runs.{from_to}
 use Rattle.sock_programs.specs.Scripts.{AreStill}
 use Rattle.sock_core.specs.declared.machine.Tick.{Tick}
 use Rattle.sock_core.specs.declared.machine.Tick.TheVariants.{Moved, Waits, Idle}
-use Rattle.sock_core.specs.Links.{Taken, Given, Agrees, AgreesGave}
+use Rattle.sock_core.specs.Links.{Taken, Given, Agrees, AgreesGave, StayOffered}
 use Rattle.sock_core.specs.Machines.{MachineState, HasSizes, MOST_LEFT, READERS, core_with}
 use Rattle.sock_core.specs.Runs.{SameTable, SameLinks, Follows, Made, TickIs, TickedWith, Ticked, round_by, RoundWith, Still, HasMoved, SettlesAfter, PlayedWith, PlayedOn, RanFirst}
 use Rattle.sock_core.specs.Driving.{LastsAtMost, LeavesFewer, LeavesAsMany, Leaves, IsPlain, FirstRests, TickedFirst}
@@ -277,6 +277,7 @@ pub record FirstSoFar (m fresh : MachineState) (count : ℕ) : Type 0 where
   pub sizes : ∥ HasSizes fresh ∥₁
   pub ends : fresh.ends ≡ m.ends
   pub core : (took : Taken) (gave : Given) → Agrees m.links took → AgreesGave m.links gave → Agrees fresh.links took × AgreesGave fresh.links gave × (core_with fresh took gave ≡ run m.plan (core_with m took gave) (replicate count (quiet 0)))
+  pub offers : (took : Taken) (gave : Given) → Agrees m.links took → AgreesGave m.links gave → StayOffered m.links.outs m.links.inns fresh.links
   pub below : count < MOST_LEFT
   pub left : LastsAtMost fresh (MOST_LEFT - 1 - count)
 
@@ -288,6 +289,7 @@ first_none m plain sizes left = record {
   sizes = sizes;
   ends = refl;
   core = λ took gave agrees agrees_gave. (agrees, agrees_gave, refl);
+  offers = λ took gave agrees agrees_gave k serve end h. h;
   below = omega arith;
   left = left;
 }
@@ -301,6 +303,9 @@ module _ (m fresh next : MachineState) (count : ℕ) (tick : Tick) (so_far : Fir
         ∙ sym (run_append m.plan (core_with m took gave) (replicate count (quiet 0)) (quiet 0 ∷ [])) ∙ ap (run m.plan (core_with m took gave)) (sym (replicate_more count)),
   )
 
+  offers_more : (took : Taken) (gave : Given) → Agrees m.links took → AgreesGave m.links gave → StayOffered m.links.outs m.links.inns next.links
+  offers_more took gave agrees agrees_gave k serve end h = let f = so_far.core took gave agrees agrees_gave in ((t.2 took gave f.0 f.1).follows.offers k serve end (so_far.offers took gave agrees agrees_gave k serve end h)).1
+
   pub first_more : LeavesFewer fresh next → ∥ HasSizes next ∥₁ → FirstSoFar m next (count + 1)
   first_more fewer sizes = let f = fewer_left fresh next count fewer so_far.left in record {
     table = same_table_join m fresh next so_far.table t.0;
@@ -309,6 +314,7 @@ module _ (m fresh next : MachineState) (count : ℕ) (tick : Tick) (so_far : Fir
     sizes = sizes;
     ends = first.1 ∙ so_far.ends;
     core = core_on;
+    offers = offers_more;
     below = f.0;
     left = f.1;
   }
@@ -319,5 +325,6 @@ module _ (m fresh next : MachineState) (count : ℕ) (tick : Tick) (so_far : Fir
     ends = first.1 ∙ so_far.ends;
     steps = count + 1;
     core = core_on;
+    offers = offers_more;
     still = rest;
   }

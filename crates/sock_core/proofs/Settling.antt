@@ -5,8 +5,9 @@ use Rattle.sock_programs.specs.Cores.{Core}
 use Rattle.sock_programs.specs.Ticks.{quiet, run, AreAnswered, broken_in}
 use Rattle.sock_programs.specs.Scripts.{is_ending}
 use Rattle.owed_calls.specs.Lives.{ClosesInTime}
+use Rattle.whole_runs.specs.Offered.{AreOffered}
 use Rattle.whole_runs.specs.Heard.{heard_in, taken_in}
-use Rattle.sock_core.specs.Links.{LinksData, Taken, Given, Agrees, AgreesGave, ArePrompt, TellClosing}
+use Rattle.sock_core.specs.Links.{LinksData, Taken, Given, Agrees, AgreesGave, ArePrompt, TellClosing, IsOffering}
 use Rattle.sock_core.specs.Machines.{MachineState, core_with, ending_by}
 use Rattle.sock_core.specs.Runs.{SameLinks, ShowFaults, LinksTell, TakesTell, ShowTakings, SettlesBy, PlayedWith, PlayedOn, RanFirst, SettledWith, Settled}
 use Rattle.sock_core.specs.Driving.{told_ending}
@@ -72,6 +73,11 @@ module _ (a b c d f : MachineState) (played : PlayedOn a b) (plan : c.plan ≡ b
       prompt = λ prompt. prompt_append x.moments y.moments (x.follows.prompt prompt) (y.follows.prompt (ran_same.prompt (played.1.prompt prompt)));
       closes = x.follows.closes;
       closes_again = λ tell. subst (λ (p : Plan). ClosesInTime p ended y.moments) plans (y.follows.closes (ran_same.tell (played.1.tell tell)));
+      offers = λ k serve end h.
+          let x' = x.follows.offers k serve end h in
+          let began : IsOffering c.links k serve end = subst (λ (l : LinksData). IsOffering l k serve end) (sym links) x'.1 in
+          let y' = y.follows.offers k serve end (first.offers t g agreed agreed_gave k serve end began) in
+          (x'.0, subst (λ (p : Plan). AreOffered p k serve end ended y.moments) plans y'.0, y'.1);
       later = y.follows.later;
       agrees = y.follows.agrees;
       later_gave = y.follows.later_gave;

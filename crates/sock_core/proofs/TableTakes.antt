@@ -1,5 +1,5 @@
 -- What a take makes of its link, as it would be given back.
-use Rattle.std.proofs.Common.{◌≡◌, refl, ℕ, ◌+◌, ◌<◌, ◌⊎◌, inl, inr, ⊎_elim, Bool, true, false, List, [], ◌∷◌, map, length, take, slice_set, slice_index_or, Option, Some, None, IfSome, option_map, ap, sym, ◌∙◌, subst, arith}
+use Rattle.std.proofs.Common.{◌≡◌, refl, ℕ, ◌+◌, ◌<◌, ◌⊎◌, inl, inr, ⊎_elim, Bool, true, false, List, [], ◌∷◌, ◌++◌, map, length, take, slice_set, slice_index_or, Option, Some, None, IfSome, option_map, ap, sym, ◌∙◌, subst, arith}
 use Rattle.std.specs.Io.KnownBytes.{append_known}
 use Rattle.std.proofs.lemmas.List.{map-set, length-take}
 use Rattle.atomic_table.proofs.Lists.{at_map, at_index}
@@ -9,14 +9,16 @@ use Rattle.brpc_model.specs.Link.{LinkEnd, TakeTook}
 use Rattle.sock_io.specs.declared.link.Take.{Take}
 use Rattle.sock_io.specs.declared.link.Take.TheVariants as takes
 use Rattle.sock_io.specs.Causes.{Rose}
-use Rattle.sock_io.specs.Link.{OutState, InState, TakeStep, SettleStep, given_of, of_take, more_told, end_of}
+use Rattle.sock_io.specs.Link.{OutState, InState, Offer, IsServed, IsSettled, OfferTaken, OffersKept, OffersTaken, TakeStep, SettleStep, given_of, offered_by, of_take, more_told, end_of}
+use Rattle.sock_io.proofs.Offers.{served_take, gave_offered, gave_to_end}
 use Rattle.whole_runs.specs.Heard.{answer_of}
+use Rattle.whole_runs.specs.Offered.{GaveAll}
 use Rattle.sock_programs.specs.Asides.{Closed}
 use Rattle.sock_programs.specs.Ticks.{FitsTake}
 use Rattle.reader_seats.specs.GoesOn.{taking_of}
 use Rattle.sock_core.specs.Links.{is_done}
 use Rattle.sock_core.specs.Machines.{TableState}
-use Rattle.sock_core.specs.Reading.{TakenFrom, given_in}
+use Rattle.sock_core.specs.Reading.{OffersOn, TakenFrom, given_in}
 use Rattle.sock_core.specs.Runs.{SameLink, ShowsTaking}
 
 -- ## What a take gave
@@ -85,6 +87,38 @@ module _ (inn inn' : InState) (room : List ℕ) where
   is_take takes.Closed e = refl
   is_take takes.Failed e = cc
 
+-- ## What was offered
+
+-- a take that finds nothing more tells that all was given
+gave_all : (room took gave : List ℕ) (finished : Bool) (o o' : Offer) (answer : Take) → OfferTaken o o' (given_of room answer) answer → IsServed took finished gave o → offered_by o took ≡ offered_by o o.fed → GaveAll o.serve o.end took gave (taking_of room answer)
+gave_all room took gave finished o o' (takes.Took n) t s all = tt
+gave_all room took gave finished o o' takes.Empty t s all = gave_offered took gave finished o s (t.empty refl).0 ∙ sym all
+gave_all room took gave finished o o' takes.End t s all = gave_to_end took gave finished o s (t.end refl).0 (t.end refl).1
+gave_all room took gave finished o o' takes.Closed t s all = gave_offered took gave finished o s (t.closed refl).0 ∙ sym all
+gave_all room took gave finished o o' takes.Failed t s all = tt
+
+same_offer : {o o' : Offer} → Some o ≡ Some o' → o ≡ o'
+same_offer e = cc
+
+module _ (out : OutState) (inn mid inn' : InState) (room : List ℕ) (answer : Take) (settled : SettleStep out inn mid) (all : IsSettled out inn mid) (taken : TakeStep mid inn' room answer) where
+  -- a link that was offered what belongs to it is offered it behind a settling and a take
+  offers_on : (before : Offer) (took gave : List ℕ) → inn.offer ≡ Some before → out.took ≡ Some took → inn.gave_bytes ≡ Some gave → IsServed took out.finished gave before → OffersOn took out.finished gave before inn' (taking_of room answer)
+  offers_on before took gave offer_is took_is gave_is s = by (all before took gave offer_is took_is gave_is s) (subst (λ o. OffersKept o mid.offer) offer_is settled.offer)
+    where
+      by : ((o : Offer) × (mid.offer ≡ Some o) × IsServed took out.finished gave o × (offered_by o took ≡ offered_by o o.fed)) → ((o : Offer) × (mid.offer ≡ Some o) × (o.serve ≡ before.serve) × (o.end ≡ before.end)) → OffersOn took out.finished gave before inn' (taking_of room answer)
+      by (o, o_is, served, whole) (x, x_is, serve, end) =
+          let same : x ≡ o = same_offer (sym x_is ∙ o_is) in
+          let serve_is : o.serve ≡ before.serve = ap (λ (y : Offer). y.serve) (sym same) ∙ serve in
+          let end_is : o.end ≡ before.end = ap (λ (y : Offer). y.end) (sym same) ∙ end in
+          let t : (y : Offer) × (inn'.offer ≡ Some y) × OfferTaken o y (given_of room answer) answer = subst (λ q. OffersTaken q inn'.offer (given_of room answer) answer) o_is taken.offer in record {
+            offer = t.0;
+            is = t.1;
+            serve = ap (λ (y : Offer). y.serve) t.2.same ∙ serve_is;
+            end = ap (λ (y : Offer). y.end) t.2.same ∙ end_is;
+            served = subst (λ l. IsServed took out.finished (gave ++ l) t.0) (sym (given_as room answer)) (served_take took gave (given_of room answer) out.finished o t.0 answer t.2 served);
+            all = subst (λ b. GaveAll b before.end took gave (taking_of room answer)) serve_is (subst (λ n. GaveAll o.serve n took gave (taking_of room answer)) end_is (gave_all room took gave out.finished o t.0 answer t.2 served whole));
+          }
+
 -- ## Behind a settling
 
 -- a link whose other end settled, and that gave then
@@ -103,7 +137,7 @@ same_taken out out' inn mid inn' room answer e s t = record {
 
 module _ {A : Type 0} (fo : A → OutState) (fi : A → InState) (old fresh : TableState) (items : List A) (j k n : ℕ) (x mid y : A) (there : j ≡ k) (inside : k < length items) (is : x ≡ slice_index_or items j x)
     (outs : old.links.outs ≡ map fo items) (inns : old.links.inns ≡ map fi items) (ends : old.ends ≡ map (λ (e : A). end_of (fo e) (fi e)) items) (room : List ℕ) (answer : Take) (roomy : length room ≡ n)
-    (same_mid : fo mid ≡ fo x) (settled : SettleStep (fo x) (fi x) (fi mid)) (same_out : fo y ≡ fo mid) (taken : TakeStep (fi mid) (fi y) room answer) where
+    (same_mid : fo mid ≡ fo x) (settled : SettleStep (fo x) (fi x) (fi mid)) (all : IsSettled (fo x) (fi x) (fi mid)) (same_out : fo y ≡ fo mid) (taken : TakeStep (fi mid) (fi y) room answer) where
   at_place : get_elem? items j ≡ core.some x
   at_place = at_index items j x (omega (arith, there, inside)) is
 
@@ -137,4 +171,8 @@ module _ {A : Type 0} (fo : A → OutState) (fi : A → InState) (old fresh : Ta
     shows = shows_is (fi mid) (fi y) room (fo y) answer taken;
     closes = λ e none_. taken.only_closing (is_take (fi mid) (fi y) room answer e) (sym taken.closing ∙ none_);
     closing = ⊎_elim (λ c. inl (taken.closing ∙ c)) (λ c. inr (done_is ∙ c.0, taken.closing ∙ c.1)) settled.closing;
+    offers = λ out before took gave out_at offer_is took_is gave_is s.
+        let same : fo x ≡ out = core.some-injective (fo x) out (sym (ap (λ (os : List OutState). get_elem? os k) outs ∙ at_by fo) ∙ out_at) in
+        subst (λ (o : OutState). OffersOn took o.finished gave before (fi y) (taking_of room answer)) same
+        (offers_on (fo x) (fi x) (fi mid) (fi y) room answer settled all taken before took gave offer_is (ap (λ (o : OutState). o.took) same ∙ took_is) gave_is (subst (λ (o : OutState). IsServed took o.finished gave before) (sym same) s));
   }

@@ -1,11 +1,12 @@
 -- What one step of a reader makes of a machine, by its kind.
-use Rattle.std.specs.Prelude.{ℕ, ◌≡◌, ◌≢◌, ◌+◌, ◌<◌, ◌≤◌, ◌⊎◌, true, false, List, [], length, slice_get, slice_set, option_map, Some, None}
+use Rattle.std.specs.Prelude.{ℕ, ◌≡◌, ◌≢◌, ◌+◌, ◌<◌, ◌≤◌, ◌⊎◌, Bool, true, false, List, [], ◌++◌, length, slice_get, slice_set, option_map, Some, None}
 use Rattle.std.specs.Io.KnownBytes.{append_known}
 use mathlib.Core.Option as core
 use lib.ListN.{get_elem?}
 use Rattle.brpc_model.specs.Link.{LinkEnd}
-use Rattle.sock_io.specs.Link.{InState, more_told}
+use Rattle.sock_io.specs.Link.{OutState, InState, Offer, IsServed, more_told}
 use Rattle.whole_runs.specs.Heard.{answer_of}
+use Rattle.whole_runs.specs.Offered.{GaveAll}
 use Rattle.sock_programs.specs.Asides as asides
 use Rattle.sock_programs.specs.Asides.{Found, Taking, Bytes, Closed}
 use Rattle.sock_programs.specs.Beside.{found_in, at_last}
@@ -76,6 +77,15 @@ abbrev pub given_in : Taking → List ℕ
 given_in (Bytes bytes) = bytes
 given_in other = []
 
+-- a link that took and gave these bytes was offered what belongs to it behind a take as well, and gave all of it where the take found nothing more
+pub record OffersOn (took : List ℕ) (finished : Bool) (gave : List ℕ) (before : Offer) (inn : InState) (taking : Taking) : Type 0 where
+  pub offer : Offer
+  pub is : inn.offer ≡ Some offer
+  pub serve : offer.serve ≡ before.serve
+  pub end : offer.end ≡ before.end
+  pub served : IsServed took finished (gave ++ given_in taking) offer
+  pub all : GaveAll before.serve before.end took gave taking
+
 -- the reading half of link k gave this, and the link shows it
 pub record TakenFrom (old fresh : TableState) (k room : ℕ) (taking : Taking) : Type 0 where
   pub inn : InState
@@ -97,6 +107,9 @@ pub record TakenFrom (old fresh : TableState) (k room : ℕ) (taking : Taking) :
   -- it answers that it is closed only where its other end closed its half, which comes only where its writing half is finished
   pub closes : taking ≡ Closed → inn'.closing ≢ Some false
   pub closing : (inn'.closing ≡ inn.closing) ⊎ ((is_done old.links k ≡ true) × (inn'.closing ≡ option_map (λ _. true) inn.closing))
+  -- where it was offered what belongs to it
+  pub offers : (out : OutState) (before : Offer) (took gave : List ℕ) → get_elem? old.links.outs k ≡ core.some out → inn.offer ≡ Some before → out.took ≡ Some took → inn.gave_bytes ≡ Some gave → IsServed took out.finished gave before →
+      OffersOn took out.finished gave before inn' taking
 
 module _ (old fresh : TableState) (i : ℕ) (reader reader' : ReaderData) where
   abbrev pub read_program : Program

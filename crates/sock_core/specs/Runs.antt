@@ -1,5 +1,5 @@
 -- What ticks and whole runs of a machine make of its core.
-use Rattle.std.specs.Prelude.{ℕ, zero, suc, ◌≡◌, ◌-◌, ◌≤◌, ◌<◌, ◌⊎◌, true, false, List, [], ◌∷◌, ◌++◌, length, option_map, slice_get, replicate, Some, IfSome, Contains}
+use Rattle.std.specs.Prelude.{ℕ, zero, suc, ◌≡◌, ◌-◌, ◌≤◌, ◌<◌, ◌⊎◌, Bool, true, false, List, [], ◌∷◌, ◌++◌, length, option_map, slice_get, replicate, Option, Some, IfSome, Contains}
 use Rattle.std.specs.List.{AllByRecursion}
 use lib.ListN.{get_elem?}
 use mathlib.Core.Option as core
@@ -17,12 +17,13 @@ use Rattle.sock_programs.specs.Runs.{IsAtRest, LeadsUpTo, next_kind, from_to}
 use Rattle.sock_programs.specs.Scripts.{AreStill, is_ending}
 use Rattle.sock_io.specs.Link.{more_told}
 use Rattle.owed_calls.specs.Lives.{ClosesInTime}
+use Rattle.whole_runs.specs.Offered.{AreOffered}
 use Rattle.whole_runs.specs.Heard.{as_told, as_taken, take_answers, heard_in, taken_in}
 use Rattle.sock_core.specs.declared.machine.On.{On}
 use Rattle.sock_core.specs.declared.machine.On.TheVariants as on
 use Rattle.sock_core.specs.declared.machine.Tick.{Tick}
 use Rattle.sock_core.specs.declared.machine.Tick.TheVariants.{Moved, Waits, Idle}
-use Rattle.sock_core.specs.Links.{Taken, Given, Agrees, AgreesGave, ArePrompt, TellClosing}
+use Rattle.sock_core.specs.Links.{Taken, Given, Agrees, AgreesGave, ArePrompt, TellClosing, IsOffering, StayOffered}
 use Rattle.sock_core.specs.Machines.{MachineState, READERS, core_with, ending_by}
 
 -- ## Links
@@ -105,12 +106,17 @@ TickIs m c moment (Moved kind) = (next_kind c moment.seat ≡ Some kind) × (wai
 TickIs m c moment (Waits on_) = (waits m.plan c moment ≡ true) × WaitsFor c moment.seat on_
 TickIs m c moment Idle = IsAtRest c moment.seat
 
+-- a link that was offered what belongs to it tells so at each of these ticks, and is offered it behind them
+abbrev pub KeepOffers : MachineState → MachineState → Core → List Moment → Type 0
+KeepOffers old new c moments = (k : ℕ) (serve : Bool) (end : Option ℕ) → IsOffering old.links k serve end → AreOffered old.plan k serve end c moments × IsOffering new.links k serve end
+
 -- these ticks make the one machine of the other, where its links had taken and given this
 pub record Follows (old new : MachineState) (took : Taken) (gave : Given) (moments : List Moment) : Type 0 where
   pub answered : AreAnswered old.plan (core_with old took gave) moments
   pub prompt : ArePrompt old.links → AllByRecursion IsPrompt moments
   -- a link that tells whether its other end closed its half answers that it is closed only where it is finished
   pub closes : TellClosing old.links → ClosesInTime old.plan (core_with old took gave) moments
+  pub offers : KeepOffers old new (core_with old took gave) moments
   pub later : Taken
   pub agrees : Agrees new.links later
   pub later_gave : Given
@@ -198,6 +204,7 @@ pub record RanFirst (old new : MachineState) : Type 0 where
   pub ends : new.ends ≡ old.ends
   pub steps : ℕ
   pub core : (took : Taken) (gave : Given) → Agrees old.links took → AgreesGave old.links gave → Agrees new.links took × AgreesGave new.links gave × (core_with new took gave ≡ run old.plan (core_with old took gave) (replicate steps (quiet 0)))
+  pub offers : (took : Taken) (gave : Given) → Agrees old.links took → AgreesGave old.links gave → StayOffered old.links.outs old.links.inns new.links
   pub still : (took : Taken) (gave : Given) → IsAtRest (core_with new took gave) 0
 
 -- rounds up to one that moved nothing, then the ending by seat 0, and such rounds again
@@ -215,6 +222,7 @@ pub record SettledWith (old new : MachineState) (took : Taken) (gave : Given) : 
   pub prompt : ArePrompt old.links → AllByRecursion IsPrompt (moments ++ final)
   pub closes : TellClosing old.links → ClosesInTime old.plan (core_with old took gave) moments
   pub closes_again : TellClosing old.links → ClosesInTime old.plan ended final
+  pub offers : (k : ℕ) (serve : Bool) (end : Option ℕ) → IsOffering old.links k serve end → AreOffered old.plan k serve end (core_with old took gave) moments × AreOffered old.plan k serve end ended final × IsOffering new.links k serve end
   pub later : Taken
   pub agrees : Agrees new.links later
   pub later_gave : Given

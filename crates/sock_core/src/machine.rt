@@ -8,7 +8,7 @@ ghost use Rattle.sock_programs.specs.Scripts.{beginning, programs, readers_from,
 ghost use Rattle.sock_programs.specs.Tasks.{plan_of, id_plan_of, opens, calls};
 ghost use Rattle.sock_core.specs.Finish.{told_from};
 ghost use Rattle.joint_runs.proofs.Starts.{AreFor};
-ghost use Rattle.sock_core.specs.Links.{Taken, Given, Agrees, AgreesGave, ArePrompt, TellClosing};
+ghost use Rattle.sock_core.specs.Links.{Taken, Given, Agrees, AgreesGave, ArePrompt, StayOffered, TellClosing};
 ghost use Rattle.sock_core.specs.Machines.{MOST_LEFT as most_left, HasSizes, core_with, ending_by};
 ghost use Rattle.sock_core.specs.Runs.{SameLinks, SameTable, Ticked, Led, Still, HasMoved, PlayedOn, RanFirst, Settled};
 ghost use Rattle.sock_core.specs.Driving.{LastsAtMost, LeavesFewer, Leaves, IsLast, IsOther, IsPlain, FirstRests, TickedFirst, told_ending};
@@ -423,6 +423,7 @@ impl<O: Out, I: In, P: Peer> Machine<O, I, P> {
         ensures ends { IfOk result (λ m. m.ends ≡ map (λ (e : _). end_of (O.state e.out) (I.state e.inn)) ends.items) }
         ensures outs { IfOk result (λ m. AllByRecursion (λ (e : _). (O.state e.out).prompt ≡ true) ends.items → ArePrompt m.links) }
         ensures tell { IfOk result (λ m. AllByRecursion (λ (e : _). (I.state e.inn).closing ≢ None) ends.items → TellClosing m.links) }
+        ensures offers { IfOk result (λ m. StayOffered (map (λ (e : _). O.state e.out) ends.items) (map (λ (e : _). I.state e.inn) ends.items) m.links) }
         ensures back { IfErr result (λ e. e.ends ≡ ends) }
     {
         let Ok(wanted) = wanted_of(alloc, script) else {
@@ -456,6 +457,7 @@ impl<O: Out, I: In, P: Peer> Machine<O, I, P> {
         ensures ends { IfOk result (λ m. m.ends ≡ map (λ (e : _). end_of (O.state e.out) (I.state e.inn)) ends.items) }
         ensures outs { IfOk result (λ m. AllByRecursion (λ (e : _). (O.state e.out).prompt ≡ true) ends.items → ArePrompt m.links) }
         ensures tell { IfOk result (λ m. AllByRecursion (λ (e : _). (I.state e.inn).closing ≢ None) ends.items → TellClosing m.links) }
+        ensures offers { IfOk result (λ m. StayOffered (map (λ (e : _). O.state e.out) ends.items) (map (λ (e : _). I.state e.inn) ends.items) m.links) }
         ensures err { IfErr result (λ e. e.ends ≡ ends) }
     {
         let Wanted {

@@ -1,3 +1,4 @@
 mod Growing
+pub mod Offers
 mod PeerLaws
 mod PeerRows

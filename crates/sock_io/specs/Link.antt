@@ -1,5 +1,5 @@
 -- The halves of a link, by what they took and gave.
-use Rattle.std.specs.Prelude.{ℕ, ◌≡◌, ◌≢◌, ◌+◌, ◌<◌, ◌≤◌, ◌⊎◌, Bool, true, false, List, [], ◌∷◌, ◌++◌, length, take, Option, Some, IfSome, option_map}
+use Rattle.std.specs.Prelude.{ℕ, ◌≡◌, ◌≢◌, ◌+◌, ◌<◌, ◌≤◌, ◌⊎◌, Bool, true, false, if◌then◌else◌, List, [], ◌∷◌, ◌++◌, length, take, flat_map, Option, None, Some, IfSome, option_map}
 use Rattle.std.specs.Io.KnownBytes.{append_known}
 use Rattle.sock_io.specs.declared.link.Put.{Put}
 use Rattle.sock_io.specs.declared.link.Put.TheVariants as put
@@ -7,6 +7,12 @@ use Rattle.sock_io.specs.declared.link.Ready.{Ready}
 use Rattle.sock_io.specs.declared.link.Ready.TheVariants as ready
 use Rattle.sock_io.specs.declared.link.Take.{Take}
 use Rattle.sock_io.specs.declared.link.Take.TheVariants as take_
+use Rattle.sock_io.specs.declared.link.LinkSpec.{LinkSpec}
+use Rattle.sock_io.specs.declared.ending.Ending.{Ending}
+use Rattle.sock_io.specs.declared.ending.Ending.TheVariants as ending
+use Rattle.brpc_model.specs.Frame.{frame_bytes}
+use Rattle.brpc_model.specs.Reply.{reply_frames}
+use Rattle.brpc_model.specs.Served.{first_of}
 use Rattle.brpc_model.specs.Link.{LinkEnd, HalfAnswer, PutTook, PutAgain, PutFailed, ReadyNow, ReadyNotYet, ReadyFailed, TakeAnswer, TakeTook, TakeEmpty, TakeEnd, TakeClosed, TakeFailed}
 use Rattle.sock_io.specs.Causes.{Rose}
 
@@ -33,6 +39,40 @@ pub record OutState : Type 0 where
   -- all that it answered, in order, where it tells that
   pub answers : Option (List HalfAnswer)
 
+-- ## What the other end offers
+
+-- What the other end of a link was asked to be: the built-in server, which gives its end after so many responses, or one that gives nothing; the bytes
+-- of the link that it was fed; and of what it gave for them the bytes that wait to be taken, and what stands behind them.
+pub record Offer : Type 0 where
+  pub serve : Bool
+  pub end : Option ℕ
+  pub fed : List ℕ
+  pub waiting : List ℕ
+  pub ending : Ending
+
+-- what it gives for these bytes: the server the replies, up to the number that is given
+abbrev pub offered_by : Offer → List ℕ → List ℕ
+offered_by o bytes = if o.serve then flat_map frame_bytes (first_of o.end (reply_frames bytes)) else []
+
+-- for more bytes it gives nothing more
+abbrev pub GivesNoMore : Offer → Type 0
+GivesNoMore o = (more : List ℕ) → offered_by o (o.fed ++ more) ≡ offered_by o o.fed
+
+-- What was offered to a link that took and gave these bytes is what the other end gives for the bytes that it was fed, and they stand first in what
+-- the link took. Behind its end it gives no more; and it closes its half only where the link was finished and all was fed.
+pub record IsServed (took : List ℕ) (finished : Bool) (gave : List ℕ) (o : Offer) : Type 0 where
+  pub left : List ℕ
+  pub begins : took ≡ o.fed ++ left
+  pub offered : gave ++ o.waiting ≡ offered_by o o.fed
+  pub ended : o.ending ≡ ending.Ended → GivesNoMore o
+  pub closed : o.ending ≡ ending.Closed → (finished ≡ true) × (left ≡ [])
+
+-- it was asked so, and nothing was fed or given so far
+pub record IsNewOffer (spec : LinkSpec) (o : Offer) : Type 0 where
+  pub serve : o.serve ≡ spec.serve
+  pub end : o.end ≡ spec.end
+  pub served : IsServed [] false [] o
+
 -- a reading half
 pub record InState : Type 0 where
   -- how many bytes it gave
@@ -49,6 +89,8 @@ pub record InState : Type 0 where
   pub takes : Option (List TakeAnswer)
   -- whether the other end closed its half, so that a take may answer `Closed`, where it tells
   pub closing : Option Bool
+  -- what its other end offers, where it tells
+  pub offer : Option Offer
 
 -- what a put took of the piece
 abbrev pub taken_of : List ℕ → Put → List ℕ
@@ -149,6 +191,18 @@ abbrev pub given_of : List ℕ → Take → List ℕ
 given_of room (take_.Took n) = take n room
 given_of room other = []
 
+-- a take gives what waits in front; where it gives nothing, nothing waits, and it tells what stands behind
+pub record OfferTaken (old new : Offer) (given : List ℕ) (result : Take) : Type 0 where
+  pub same : new ≡ record old { waiting = new.waiting }
+  pub waiting : given ++ new.waiting ≡ old.waiting
+  pub empty : result ≡ take_.Empty → (old.waiting ≡ []) × (old.ending ≡ ending.Open)
+  pub end : result ≡ take_.End → (old.waiting ≡ []) × (old.ending ≡ ending.Ended)
+  pub closed : result ≡ take_.Closed → (old.waiting ≡ []) × (old.ending ≡ ending.Closed)
+
+abbrev pub OffersTaken : Option Offer → Option Offer → List ℕ → Take → Type 0
+OffersTaken None new given result = new ≡ None
+OffersTaken (Some old) new given result = (o : Offer) × (new ≡ Some o) × OfferTaken old o given result
+
 pub record TakeStep (old new : InState) (room : List ℕ) (result : Take) : Type 0 where
   pub count : IsTakeCount room result
   pub gave : new.gave ≡ old.gave + taken_count result
@@ -159,14 +213,26 @@ pub record TakeStep (old new : InState) (room : List ℕ) (result : Take) : Type
   -- it answers `Closed` only where the other end closed its half, and taking doesn't make it do so
   pub only_closing : result ≡ take_.Closed → old.closing ≢ Some false
   pub closing : new.closing ≡ old.closing
+  pub offer : OffersTaken old.offer new.offer (given_of room result) result
   pub later : old.faults ≤ new.faults
   pub failed : result ≡ take_.Failed → Rose old.faults new.faults
   pub kept : result ≢ take_.Failed → new.faults ≡ old.faults
 
--- what settling a link changes: where it was finished, the other end may close its half
+-- what was asked of the other end stays
+abbrev pub OffersKept : Option Offer → Option Offer → Type 0
+OffersKept None new = new ≡ None
+OffersKept (Some old) new = (o : Offer) × (new ≡ Some o) × (o.serve ≡ old.serve) × (o.end ≡ old.end)
+
+-- what settling a link changes: the other end may offer more, and where the link was finished, close its half
 pub record SettleStep (out : OutState) (old new : InState) : Type 0 where
-  pub same : new ≡ record old { closing = new.closing }
+  pub same : new ≡ record old { closing = new.closing; offer = new.offer }
+  pub offer : OffersKept old.offer new.offer
   pub closing : (new.closing ≡ old.closing) ⊎ ((out.finished ≡ true) × (new.closing ≡ option_map (λ _. true) old.closing))
+
+-- a link that was served is served so that what is offered is what belongs to all that it took
+abbrev pub IsSettled : OutState → InState → InState → Type 0
+IsSettled out old new = (o : Offer) (took gave : List ℕ) → old.offer ≡ Some o → out.took ≡ Some took → old.gave_bytes ≡ Some gave → IsServed took out.finished gave o
+    → (o' : Offer) × (new.offer ≡ Some o') × IsServed took out.finished gave o' × (offered_by o' took ≡ offered_by o' o'.fed)
 
 -- halves that took, gave and answered nothing so far
 pub record IsUnused (out : OutState) (inn : InState) : Type 0 where

@@ -1,8 +1,8 @@
-ghost use Rattle.std.specs.Prelude.{◌≡◌, ◌≢◌, ℕ, ◌+◌, ◌<◌, ◌≤◌, ◌∷◌, ◌++◌, [], Bool, true, List, length, IfOk, IfSome, IsErrOf, OnErr, IsTrue};
+ghost use Rattle.std.specs.Prelude.{◌≡◌, ◌≢◌, ℕ, ◌+◌, ◌<◌, ◌≤◌, ◌∷◌, ◌++◌, [], Bool, true, List, length, IfOk, IfSome, IsErrOf, OnErr, OnOk, IsTrue};
 ghost use Rattle.std.specs.List.{AllByRecursion};
 ghost use Rattle.brpc_model.specs.Link.{LinkEnd};
 ghost use Rattle.sock_io.specs.Causes.{Rose};
-ghost use Rattle.sock_io.specs.Link.{OutState, InState, PutStep, ReadyStep, FinishStep, TakeStep, SettleStep, IsFresh, IsUnused, ConnectionEnd, end_of, connection_of};
+ghost use Rattle.sock_io.specs.Link.{OutState, InState, PutStep, ReadyStep, FinishStep, TakeStep, SettleStep, IsSettled, IsNewOffer, IsFresh, IsUnused, ConnectionEnd, end_of, connection_of};
 ghost use Rattle.sock_io.specs.Peer.{PeerState, ServeStep, IsNewPeer};
 
 use crate::stream::NoMemory;
@@ -75,8 +75,8 @@ pub trait Out: Drop {
 
 /// The reading half of a link. Its count of faults is as that of the writing half.
 pub trait In: Drop {
-    /// How many bytes it gave, which they are, all that it answered, whether its other end closed its half, and its count
-    /// of faults.
+    /// How many bytes it gave, which they are, all that it answered, whether its other end closed its half, what that
+    /// offers, and its count of faults.
     ghost state: { Self → InState };
 
     /// Gives bytes into the front of the room.
@@ -191,6 +191,7 @@ pub trait Linker {
         requires few { length (asked self.old) < 256 }
         ensures fresh { IfOk result (λ ends. IsFresh (Self.O.state ends.out) (Self.I.state ends.inn) (length (asked self.old))) }
         ensures peer { IfOk result (λ ends. IsNewPeer (Self.P.state ends.peer)) }
+        ensures offer { IfOk result (λ ends. IfSome (Self.I.state ends.inn).offer (λ o. IsNewOffer spec.now o)) }
         ensures prompt { IfOk result (λ ends. prompt self.old ≡ true → spec.now.mode ≡ Mode.Loop → (Self.O.state ends.out).prompt ≡ true) }
         ensures asked { IfOk result (λ _. asked self.new ≡ asked self.old ++ spec.now ∷ []) }
         ensures refused { OnErr result (asked self.new ≡ asked self.old) }
@@ -203,11 +204,12 @@ pub trait Linker {
         ensures kept { (¬ IsErrOf result OpenFault.Failed) → faults self.new ≡ faults self.old };
 
     /// Has a link's other end in memory answer what the link took since the last call, and close its half once the
-    /// link was finished. Other kinds of link do nothing here. Besides that, what is told of the halves stays as it is,
-    /// also where memory is short.
+    /// link was finished. Behind it the link is offered what belongs to all that it took. Other kinds of link do nothing
+    /// here. Besides that, what is told of the halves stays as it is, also where memory is short.
     fn settle(&mut self, ends: &mut Ends<Self::O, Self::I, Self::P>) -> Result<(), NoMemory>
         ensures out { Self.O.state ends.new.out ≡ Self.O.state ends.old.out }
         ensures inn { SettleStep (Self.O.state ends.old.out) (Self.I.state ends.old.inn) (Self.I.state ends.new.inn) }
+        ensures settled { OnOk result (IsSettled (Self.O.state ends.old.out) (Self.I.state ends.old.inn) (Self.I.state ends.new.inn)) }
         ensures err { OnErr result ((self.new ≡ self.old) × (ends.new ≡ ends.old)) }
         ensures asked { asked self.new ≡ asked self.old }
         ensures accepted { accepted self.new ≡ accepted self.old }

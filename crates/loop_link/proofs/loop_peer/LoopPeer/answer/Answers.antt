@@ -1,11 +1,14 @@
-use Rattle.std.proofs.Common.{◌<◌, Bool, false, length, take, drop, ap, sym, ◌∙◌, arith}
+use Rattle.std.proofs.Common.{◌<◌, Bool, false, length, take, drop, ap, sym, ◌∙◌, arith, rules}
 use Rattle.sock_io.specs.Memory.{MemInState}
 use Rattle.loop_link.specs.Serving.{LoopPeerState, ending_for}
-use Rattle.loop_link.proofs.Links.{answers_passed, answers_served}
+use Rattle.loop_link.proofs.Links.{answers_idle, answers_over, answers_served}
 use Rattle.loop_link.proofs.loop_peer.LoopPeer.answer.Goals as goal
 
+pub returns-then-not-serves-clause-ok : goal.returns-then-not-serves-clause-ok
+returns-then-not-serves-clause-ok c = answers_idle c.args.self.now c.pass.new.self c.args.took.now c.args.inn.now (search rules) c.pass.ensures
+
 pub returns-then-is_over-clause-ok : goal.returns-then-is_over-clause-ok
-returns-then-is_over-clause-ok c = answers_passed _ _ _ _ (c.is_over.ensures.over c.if-is_over.true) c.pass.ensures
+returns-then-is_over-clause-ok c = answers_over _ _ _ (c.is_over.ensures.over c.if-is_over.true)
 
 pub returns-clause-ok : goal.returns-clause-ok
 returns-clause-ok c =
@@ -26,7 +29,7 @@ returns-clause-ok c =
     c.replies-given.result
     c.replies-made.result
     c.in_ok-fed.fed.faulty
-    (c.is_over.ensures.served c.if-is_over.false)
+    (search rules)
     (c.is_over.ensures.live c.if-is_over.false)
     (c.split_at.ensures.front ∙ ap (λ n. take n c.args.took.now) c.fed_len.ensures)
     (c.split_at.ensures.back ∙ ap (λ n. drop n c.args.took.now) c.fed_len.ensures)

@@ -1,4 +1,4 @@
-use Rattle.std.proofs.Common.{sym, ◌∙◌}
+use Rattle.std.proofs.Common.{[], sym, ◌∙◌}
 use Rattle.std.proofs.lemmas.List.{length-map}
 use Rattle.sock_core.proofs.Making.{are_for, as_many_seats, as_many_links, as_many_opens, plan_made, opens_made, agrees_made, core_made}
 use Rattle.sock_core.proofs.machine.Machine.new.Goals as goal
@@ -33,3 +33,6 @@ returns-clause-outs g c all = c.run_first.ensures.ran.same.1.prompt (c.in_ok-mac
 
 pub returns-clause-tell : goal.returns-clause-tell
 returns-clause-tell g c all = c.run_first.ensures.ran.same.1.tell (c.in_ok-machine.ensures.tell all)
+
+pub returns-clause-offers : goal.returns-clause-offers
+returns-clause-offers g c k serve end h = c.run_first.ensures.ran.offers (λ k. []) (λ k. []) c.in_ok-machine.ensures.agrees.0 c.in_ok-machine.ensures.agrees.1 k serve end (c.in_ok-machine.ensures.offers k serve end h)

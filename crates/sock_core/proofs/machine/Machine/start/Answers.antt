@@ -116,3 +116,6 @@ pub returns-clause-tell : goal.returns-clause-tell
 returns-clause-tell g c =
     let l : LinksData = record { holders = c.in-Ok.parts.holders.items; nexts = c.in-Ok.parts.nexts.items; outs = map (λ e. g.O.Out.state e.out) c.args.ends.items; inns = map (λ e. g.I.In.state e.inn) c.args.ends.items } in
     all_tell (λ e. g.I.In.state e.inn) c.args.ends.items l refl
+
+pub returns-clause-offers : goal.returns-clause-offers
+returns-clause-offers g c k serve end h = h

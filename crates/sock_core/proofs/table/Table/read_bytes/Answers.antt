@@ -36,7 +36,7 @@ returns-in_default-clause-err g c =
     let kept = c.take_into-answer.auto.room in
     let inside = c.if-from-len.false in
     let from = taken_from (λ e. g.O.Out.state e.out) (λ e. g.I.In.state e.inn) _ _ c.self.inside.ends.items c.from-2.result c.args.link c.args.count c.index_mut-ends.result.now c.settle.new.ends _ c.from-2.ensures (omega (arith, inside, c.from.ensures, c.len.ensures, c.self.inside.ends.ok)) c.index_mut-ends.ensures.value refl refl refl room c.take_into-answer.result
-    (omega (arith, few, is, long, kept, c.deref_mut.ensures.len, c.self.invariant.1)) c.in_ok-settle.ensures.out c.in_ok-settle.ensures.inn refl c.take_into-answer.ensures refl refl in
+    (omega (arith, few, is, long, kept, c.deref_mut.ensures.len, c.self.invariant.1)) c.in_ok-settle.ensures.out c.in_ok-settle.ensures.inn c.in_ok-settle.ensures.settled refl c.take_into-answer.ensures refl refl in
     cut_along c.self.view_is (cut_take _ _ c.args.link c.args.count (taking_of room c.take_into-answer.result) from refl refl refl refl refl refl refl
     (map-set_same (λ e. g.O.Out.state e.out) c.self.inside.ends.items c.from-2.result _ c.index_mut-ends.result.now (c.in_ok-settle.ensures.out ∙ ap (λ e. g.O.Out.state e.out) c.index_mut-ends.ensures.value))
     (ap length outcomes ∙ c.follow_take.auto.outcomes ∙ ap length c.deref_mut-2.ensures.value))
@@ -53,7 +53,7 @@ returns-clause-ok g c i =
     let kept = c.take_into-answer.auto.room in
     let inside = c.if-from-len.false in
     let from = taken_from (λ e. g.O.Out.state e.out) (λ e. g.I.In.state e.inn) _ _ c.self.inside.ends.items c.from-2.result c.args.link c.args.count c.index_mut-ends.result.now c.settle.new.ends _ c.from-2.ensures (omega (arith, inside, c.from.ensures, c.len.ensures, c.self.inside.ends.ok)) c.index_mut-ends.ensures.value refl refl refl room c.take_into-answer.result
-    (omega (arith, few, is, long, kept, c.deref_mut.ensures.len, c.self.invariant.1)) c.in_ok-settle.ensures.out c.in_ok-settle.ensures.inn refl c.take_into-answer.ensures refl refl in
+    (omega (arith, few, is, long, kept, c.deref_mut.ensures.len, c.self.invariant.1)) c.in_ok-settle.ensures.out c.in_ok-settle.ensures.inn c.in_ok-settle.ensures.settled refl c.take_into-answer.ensures refl refl in
     let answer = c.take_into-answer.result in
     let lies = c.deref-2.ensures.value ∙ written c.self.inside.room.len c.take_into-answer.new.room _ (omega (arith, kept, c.deref_mut.ensures.len, c.self.inside.room.ok)) in
     let own : take c.args.count c.deref-2.result.now ≡ room = ap (λ (xs : List ℕ). take c.args.count xs) lies in

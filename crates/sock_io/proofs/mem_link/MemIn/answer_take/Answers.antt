@@ -31,6 +31,7 @@ returns-then-count-gt0-clause-step c =
       takes = search rules;
       only_closing = search rules;
       closing = search rules;
+      offer = search rules;
       later = search rules;
       failed = search rules;
       kept = search rules;
