@@ -47,18 +47,6 @@ impl Refs {
         }
     }
 
-    /// One reference.
-    pub(crate) fn of(alloc: Global, piece: Bytes) -> Refs
-        ensures items { result.items ≡ piece ∷ [] }
-        ensures capacity { result.capacity ≡ 2 }
-    {
-        Refs {
-            first: Some(piece),
-            more: More::Nothing,
-            alloc,
-        }
-    }
-
     pub(crate) fn len(&self) -> usize
         ensures { result ≡ length self.now.items }
     {
@@ -106,20 +94,6 @@ impl Refs {
             pieces.push_back_reserved(piece);
         } else {
             self.more = More::One(piece);
-        }
-    }
-
-    pub(crate) fn push_front_reserved(&mut self, piece: Bytes)
-        requires { length self.old.items < self.old.capacity }
-        ensures items { self.new.items ≡ piece ∷ self.old.items }
-        ensures capacity { self.new.capacity ≡ self.old.capacity }
-    {
-        if let Some(first) = mem::replace(&mut self.first, Some(piece)) {
-            if let More::Many(pieces) = &mut self.more {
-                pieces.push_front_reserved(first);
-            } else {
-                self.more = More::One(first);
-            }
         }
     }
 
