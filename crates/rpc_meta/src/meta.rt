@@ -1,4 +1,4 @@
-ghost use Rattle.std.specs.Prelude.{◌≡◌, ℕ, ◌≤◌, List, length, IfOk};
+ghost use Rattle.std.specs.Prelude.{◌≡◌, ◌≤◌, length, IfOk};
 
 use std::alloc::{AllocError, Global};
 use std::marker::Model;
@@ -20,9 +20,11 @@ pub struct MetaBytes {
 }
 
 impl Model for MetaBytes {
-    ghost use Rattle.rpc_meta.specs.Held.{held_bytes, IsHeld};
+    ghost use Rattle.std.specs.Prelude.{ℕ, List};
 
     ghost Value = { List ℕ };
+
+    ghost use Rattle.rpc_meta.specs.Held.{held_bytes, IsHeld};
 
     ghost view = { λ b. held_bytes b.held };
 

@@ -186,11 +186,8 @@ fn response_size(response: &ResponseMeta) -> Option<usize>
     ensures { IfSome result (λ n. n ≡ length (response_bytes (response_of response.now))) }
 {
     let code = number_size(1, spelled(response.code));
-    let len = response.text.as_slice().len();
-    if len == 0 {
-        return Some(code);
-    }
-    bytes_size(2, len)?.checked_add(code)
+    let text = text_size(2, response.text.as_slice())?;
+    code.checked_add(text)
 }
 
 /// How many bytes an int32 has, which isn't written where it is 0.
@@ -210,6 +207,16 @@ fn number_size(number: u8, value: u64) -> usize
     ensures at_most { result ≤ 20 }
 {
     varint_size(u64::from(number) * 8) + varint_size(value)
+}
+
+/// How many bytes these have under a number, where there are any and that fits.
+fn text_size(number: u8, bytes: &[u8]) -> Option<usize>
+    ensures { IfSome result (λ n. n ≡ length (where_not_empty number bytes.now)) }
+{
+    if bytes.is_empty() {
+        return Some(0);
+    }
+    bytes_size(number, bytes.len())
 }
 
 /// How many bytes so many bytes under a number have, where that fits.
