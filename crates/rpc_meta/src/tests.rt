@@ -140,6 +140,7 @@ fn reads_and_writes_what_protoc_does(rt: HostRuntime) {
                 let mut out = Vec::new(rt.alloc());
                 assert!(rt; meta.write_to(&mut out).is_ok());
                 assert_eq!(rt; out.as_slice() == row.bytes, row.spelled_so);
+                assert_eq!(rt; meta.spelled_size(), Some(out.len()));
             }
             Err(fault) => assert!(rt; false, "{fault:?}"),
         }
