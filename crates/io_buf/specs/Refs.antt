@@ -1,19 +1,32 @@
--- References in a row, the first two of which are held in place.
-use Rattle.std.specs.Prelude.{◌≡◌, ℕ, ◌+◌, ◌^◌, ◌≤◌, List, [], ◌++◌, None, IfNone}
+-- References in a row, the first two of which are held in place where there are no more.
+use Rattle.std.specs.Prelude.{◌≡◌, ℕ, ◌+◌, ◌^◌, ◌≤◌, List, [], ◌∷◌, ◌++◌, IfNone}
 use Rattle.std.specs.Option.{option_to_list}
 use Rattle.std.specs.VecDeque.{deque_capacity}
 use Rattle.io_buf.specs.declared.refs.Refs.TheInside.{Inside}
+use Rattle.io_buf.specs.declared.refs.More.{More}
+use Rattle.io_buf.specs.declared.refs.More.TheVariants.{Nothing, One, Many}
 
 -- the bytes of each, and how many there is room for
 pub record RefsState : Type 0 where
   pub items : List (List ℕ)
   pub capacity : ℕ
 
-abbrev pub refs_view : Inside → RefsState
-refs_view r = record { items = option_to_list r.first ++ (option_to_list r.second ++ r.rest.items); capacity = 2 + deque_capacity r.rest }
+-- the bytes of those behind the first
+abbrev pub more_items : More → List (List ℕ)
+more_items Nothing = []
+more_items (One piece) = piece ∷ []
+more_items (Many pieces) = pieces.items
 
--- each is behind another or the first, and there is room for few enough that their number fits
+-- how many there is room for behind the first
+abbrev pub more_capacity : More → ℕ
+more_capacity Nothing = 1
+more_capacity (One piece) = 1
+more_capacity (Many pieces) = deque_capacity pieces
+
+abbrev pub refs_view : Inside → RefsState
+refs_view r = record { items = option_to_list r.first ++ more_items r.more; capacity = 1 + more_capacity r.more }
+
+-- none is behind where there is no first, and there is room for few enough that their number fits
 pub record IsRefs (r : Inside) : Type 0 where
-  pub second : IfNone r.first (r.second ≡ None)
-  pub behind : IfNone r.second (r.rest.items ≡ [])
-  pub few : 2 + deque_capacity r.rest ≤ 2 ^ 50
+  pub behind : IfNone r.first (more_items r.more ≡ [])
+  pub few : 1 + more_capacity r.more ≤ 2 ^ 50

@@ -1,5 +1,6 @@
-ghost use Rattle.std.specs.Prelude.{◌≡◌, ◌+◌, ◌^◌, ◌<◌, ◌≤◌, [], ◌∷◌, ◌++◌, length, max, slice_index_or, MatchOption, OnOk, OnErr};
+ghost use Rattle.std.specs.Prelude.{◌≡◌, ◌+◌, ◌^◌, ◌<◌, ◌≤◌, [], ◌∷◌, ◌++◌, length, drop, max, slice_index_or, MatchOption, OnOk, OnErr};
 ghost use Rattle.std.specs.Option.{option_to_list};
+ghost use Rattle.io_buf.specs.Refs.{more_items, more_capacity};
 
 use bytes::Bytes;
 use std::alloc::{AllocError, Global};
@@ -12,8 +13,16 @@ use std::mem;
 #[derive(Drop)]
 pub(crate) struct Refs {
     first: Option<Bytes>,
-    second: Option<Bytes>,
-    rest: VecDeque<Bytes>,
+    more: More,
+    alloc: Global,
+}
+
+// The references behind the first. Many keep their memory when they go.
+#[derive(Drop)]
+enum More {
+    Nothing,
+    One(Bytes),
+    Many(VecDeque<Bytes>),
 }
 
 impl Model for Refs {
@@ -31,13 +40,10 @@ impl Refs {
         ensures items { result.items ≡ [] }
         ensures capacity { result.capacity ≡ 2 }
     {
-        let Ok(rest) = VecDeque::with_capacity(alloc, 0) else {
-            unreachable!()
-        };
         Refs {
             first: None,
-            second: None,
-            rest,
+            more: More::Nothing,
+            alloc,
         }
     }
 
@@ -47,16 +53,20 @@ impl Refs {
         if self.first.is_none() {
             return 0;
         }
-        if self.second.is_none() {
-            return 1;
+        match &self.more {
+            More::Nothing => 1,
+            More::One(_) => 2,
+            More::Many(pieces) => 1 + pieces.len(),
         }
-        2 + self.rest.len()
     }
 
     pub(crate) fn capacity(&self) -> usize
         ensures { result ≡ self.now.capacity }
     {
-        2 + self.rest.capacity()
+        match &self.more {
+            More::Many(pieces) => 1 + pieces.capacity(),
+            _ => 2,
+        }
     }
 
     pub(crate) fn get(&self, place: usize) -> &Bytes
@@ -64,15 +74,10 @@ impl Refs {
         ensures value { result.now ≡ slice_index_or self.now.items place result.now }
         ensures bound { place < 2 ^ 50 }
     {
-        if place > 1 {
-            return &self.rest[place - 2];
+        if place > 0 {
+            return behind(&self.more, place - 1);
         }
-        let held = if place == 0 {
-            &self.first
-        } else {
-            &self.second
-        };
-        match held {
+        match &self.first {
             Some(piece) => piece,
             None => unreachable!(),
         }
@@ -85,22 +90,22 @@ impl Refs {
     {
         if self.first.is_none() {
             self.first = Some(piece);
-        } else if self.second.is_none() {
-            self.second = Some(piece);
+        } else if let More::Many(pieces) = &mut self.more {
+            pieces.push_back_reserved(piece);
         } else {
-            self.rest.push_back_reserved(piece);
+            self.more = More::One(piece);
         }
     }
 
-    pub(crate) fn push_front_reserved(&mut self, piece: Bytes)
-        requires { length self.old.items < self.old.capacity }
-        ensures items { self.new.items ≡ piece ∷ self.old.items }
+    /// Drops the first bytes of the first reference, which has more.
+    pub(crate) fn advance_first(&mut self, n: usize)
+        requires some { 0 < length self.old.items }
+        requires within { n < length (slice_index_or self.old.items 0 []) }
+        ensures items { self.new.items ≡ drop n (slice_index_or self.old.items 0 []) ∷ drop 1 self.old.items }
         ensures capacity { self.new.capacity ≡ self.old.capacity }
     {
-        if let Some(first) = mem::replace(&mut self.first, Some(piece)) {
-            if let Some(second) = mem::replace(&mut self.second, Some(first)) {
-                self.rest.push_front_reserved(second);
-            }
+        if let Some(first) = &mut self.first {
+            first.advance(n);
         }
     }
 
@@ -109,8 +114,7 @@ impl Refs {
         ensures capacity { self.new.capacity ≡ self.old.capacity }
         ensures cases { MatchOption result ((self.old.items ≡ []) × (self.new ≡ self.old)) (λ _. length self.new.items + 1 ≡ length self.old.items) }
     {
-        let third = self.rest.pop_front();
-        let second = mem::replace(&mut self.second, third);
+        let second = pop_first(&mut self.more);
         mem::replace(&mut self.first, second)
     }
 
@@ -119,11 +123,8 @@ impl Refs {
         ensures capacity { self.new.capacity ≡ self.old.capacity }
         ensures cases { MatchOption result ((self.old.items ≡ []) × (self.new ≡ self.old)) (λ _. length self.new.items + 1 ≡ length self.old.items) }
     {
-        if let Some(last) = self.rest.pop_back() {
+        if let Some(last) = pop_last(&mut self.more) {
             return Some(last);
-        }
-        if let Some(second) = mem::replace(&mut self.second, None) {
-            return Some(second);
         }
         mem::replace(&mut self.first, None)
     }
@@ -134,13 +135,70 @@ impl Refs {
         ensures ok { OnOk result (self.new.capacity ≡ max self.old.capacity (length self.old.items + more)) }
         ensures err { OnErr result (self.new.capacity ≡ self.old.capacity) }
     {
-        let within = if self.first.is_none() {
-            2
-        } else if self.second.is_none() {
-            1
-        } else {
-            0
-        };
-        self.rest.reserve_exact(more.saturating_sub(within))
+        let wanted = self.len() + more;
+        if wanted <= self.capacity() {
+            return Ok(());
+        }
+        reserve_behind(self.alloc, &mut self.more, wanted - 1)
     }
+}
+
+// The reference at this place behind the first.
+fn behind(more: &More, place: usize) -> &Bytes
+    requires { place < length (more_items more.now) }
+    ensures value { result.now ≡ slice_index_or (more_items more.now) place result.now }
+    ensures bound { place < more_capacity more.now }
+{
+    match more {
+        More::Nothing => unreachable!(),
+        More::One(piece) => piece,
+        More::Many(pieces) => &pieces[place],
+    }
+}
+
+fn pop_first(more: &mut More) -> Option<Bytes>
+    ensures items { more_items more.old ≡ option_to_list result ++ more_items more.new }
+    ensures capacity { more_capacity more.new ≡ more_capacity more.old }
+    ensures cases { MatchOption result (more_items more.old ≡ []) (λ _. length (more_items more.new) + 1 ≡ length (more_items more.old)) }
+{
+    if let More::Many(pieces) = more {
+        return pieces.pop_front();
+    }
+    match mem::replace(more, More::Nothing) {
+        More::One(piece) => Some(piece),
+        _ => None,
+    }
+}
+
+fn pop_last(more: &mut More) -> Option<Bytes>
+    ensures items { more_items more.old ≡ more_items more.new ++ option_to_list result }
+    ensures capacity { more_capacity more.new ≡ more_capacity more.old }
+    ensures cases { MatchOption result (more_items more.old ≡ []) (λ _. length (more_items more.new) + 1 ≡ length (more_items more.old)) }
+{
+    if let More::Many(pieces) = more {
+        return pieces.pop_back();
+    }
+    match mem::replace(more, More::Nothing) {
+        More::One(piece) => Some(piece),
+        _ => None,
+    }
+}
+
+// Makes room for so many behind the first.
+fn reserve_behind(alloc: Global, more: &mut More, wanted: usize) -> Result<(), AllocError>
+    requires more { more_capacity more.old < wanted }
+    requires fits { length (more_items more.old) ≤ wanted }
+    ensures items { more_items more.new ≡ more_items more.old }
+    ensures ok { OnOk result (more_capacity more.new ≡ wanted) }
+    ensures err { OnErr result (more_capacity more.new ≡ more_capacity more.old) }
+{
+    if let More::Many(pieces) = more {
+        return pieces.reserve_exact(wanted - pieces.len());
+    }
+    let mut pieces = VecDeque::with_capacity(alloc, wanted)?;
+    if let More::One(piece) = mem::replace(more, More::Nothing) {
+        pieces.push_back_reserved(piece);
+    }
+    *more = More::Many(pieces);
+    Ok(())
 }

@@ -33,6 +33,11 @@ fn cuts(rt: HostRuntime) -> Result<(), Fail> {
     assert!(rt; has(&front, b"ab") && has(&buf, b"c"));
     assert_eq!(rt; buf.cut_front(2).err(), Some(CutFault::Short { have: 1 }));
     assert!(rt; has(&buf, b"c"));
+    let mut long = IoBuf::new(rt.alloc());
+    long.append_bytes(&mut pool, [b'a'; 8_193].as_slice())?;
+    let (within, across) = (long.share_part(3, 5)?, long.share_part(8_190, 8_193)?);
+    assert!(rt; has(&within, b"aa") && has(&across, b"aaa"));
+    assert_eq!(rt; (within.refs(), across.refs()), (1, 2));
     is_send_and_sync(front);
     Ok(())
 }

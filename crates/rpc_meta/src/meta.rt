@@ -1,18 +1,34 @@
-ghost use Rattle.std.specs.Prelude.{◌≡◌, ℕ, List, IfOk};
+ghost use Rattle.std.specs.Prelude.{◌≡◌, ◌≤◌, length, IfOk};
 
 use std::alloc::{AllocError, Global};
 use std::marker::Model;
 
-/// Bytes that a meta carries; contracts see the list of them.
+/// So many bytes a meta carries without memory.
+const HERE_BYTES: usize = 30;
+
+/// Where bytes of a meta lie: the first so many of an array in place, or in memory.
+#[derive(Drop)]
+enum Held {
+    Here([u8; HERE_BYTES], u8),
+    Heap(Vec<u8>),
+}
+
+/// Bytes that a meta carries; contracts see the list of them. Up to 30 take no memory.
 #[derive(Drop)]
 pub struct MetaBytes {
-    bytes: Vec<u8>,
+    held: Held,
 }
 
 impl Model for MetaBytes {
+    ghost use Rattle.std.specs.Prelude.{ℕ, List};
+
     ghost Value = { List ℕ };
 
-    ghost view = { λ b. b.bytes.items };
+    ghost use Rattle.rpc_meta.specs.Held.{held_bytes, IsHeld};
+
+    ghost view = { λ b. held_bytes b.held };
+
+    ghost invariant = { λ b. IsHeld b.held };
 }
 
 impl MetaBytes {
@@ -20,30 +36,55 @@ impl MetaBytes {
     pub fn from_vec(bytes: Vec<u8>) -> MetaBytes
         ensures { result ≡ bytes.items }
     {
-        MetaBytes { bytes }
+        MetaBytes {
+            held: Held::Heap(bytes),
+        }
     }
 
     /// A copy of these bytes.
     pub fn copy(alloc: Global, bytes: &[u8]) -> Result<MetaBytes, AllocError>
         ensures { IfOk result (λ b. b ≡ bytes.now) }
     {
+        if bytes.len() <= HERE_BYTES {
+            return Ok(MetaBytes::here(bytes));
+        }
         let bytes = Vec::from_slice(alloc, bytes)?;
-        Ok(MetaBytes { bytes })
+        Ok(MetaBytes {
+            held: Held::Heap(bytes),
+        })
     }
 
-    /// The bytes, given back; no memory is taken.
-    pub fn into_vec(self) -> Vec<u8>
-        ensures { result.items ≡ self }
+    /// The bytes, given back; memory is taken where they lay in place.
+    pub fn into_vec(self, alloc: Global) -> Result<Vec<u8>, AllocError>
+        ensures { IfOk result (λ v. v.items ≡ self) }
     {
-        let MetaBytes { bytes } = self;
-        bytes
+        let MetaBytes { held } = self;
+        match held {
+            Held::Here(bytes, len) => Vec::from_slice(alloc, &bytes[..len as usize]),
+            Held::Heap(bytes) => Ok(bytes),
+        }
     }
 
     /// The bytes.
     pub fn as_slice(&self) -> &[u8]
         ensures { result.now ≡ self.now }
     {
-        self.bytes.as_slice()
+        match &self.held {
+            Held::Here(bytes, len) => &bytes[..*len as usize],
+            Held::Heap(bytes) => bytes.as_slice(),
+        }
+    }
+
+    // A copy of few bytes.
+    fn here(bytes: &[u8]) -> MetaBytes
+        requires { length bytes.now ≤ HERE_BYTES }
+        ensures { result ≡ bytes.now }
+    {
+        let mut room = [0; HERE_BYTES];
+        room[..bytes.len()].copy_from_slice(bytes);
+        MetaBytes {
+            held: Held::Here(room, bytes.len() as u8),
+        }
     }
 }
 
