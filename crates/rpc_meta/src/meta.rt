@@ -4,19 +4,15 @@ use std::alloc::{AllocError, Global};
 use std::marker::Model;
 
 /// So many bytes a meta carries without memory.
-const HERE_BYTES: usize = 30;
+const HERE_BYTES: usize = 31;
 
-/// Where bytes of a meta lie: the first so many of an array in place, or in memory.
-#[derive(Drop)]
-enum Held {
-    Here([u8; HERE_BYTES], u8),
-    Heap(Vec<u8>),
-}
-
-/// Bytes that a meta carries; contracts see the list of them. Up to 30 take no memory.
+/// Bytes that a meta carries; contracts see the list of them. Up to 31 take no memory.
 #[derive(Drop)]
 pub struct MetaBytes {
-    held: Held,
+    // Few bytes are the first so many of these, and then there are none in memory.
+    here: [u8; HERE_BYTES],
+    len: u8,
+    heap: Vec<u8>,
 }
 
 impl Model for MetaBytes {
@@ -26,9 +22,9 @@ impl Model for MetaBytes {
 
     ghost use Rattle.rpc_meta.specs.Held.{held_bytes, IsHeld};
 
-    ghost view = { λ b. held_bytes b.held };
+    ghost view = { held_bytes };
 
-    ghost invariant = { λ b. IsHeld b.held };
+    ghost invariant = { IsHeld };
 }
 
 impl MetaBytes {
@@ -37,53 +33,45 @@ impl MetaBytes {
         ensures { result ≡ bytes.items }
     {
         MetaBytes {
-            held: Held::Heap(bytes),
+            here: [0; HERE_BYTES],
+            len: 0,
+            heap: bytes,
         }
     }
 
-    /// A copy of these bytes.
+    /// A copy of these bytes. Few take no memory.
     pub fn copy(alloc: Global, bytes: &[u8]) -> Result<MetaBytes, AllocError>
         ensures { IfOk result (λ b. b ≡ bytes.now) }
     {
         if bytes.len() <= HERE_BYTES {
-            return Ok(MetaBytes::here(bytes));
+            return Ok(MetaBytes::few(alloc, bytes));
         }
         let bytes = Vec::from_slice(alloc, bytes)?;
-        Ok(MetaBytes {
-            held: Held::Heap(bytes),
-        })
-    }
-
-    /// The bytes, given back; memory is taken where they lay in place.
-    pub fn into_vec(self, alloc: Global) -> Result<Vec<u8>, AllocError>
-        ensures { IfOk result (λ v. v.items ≡ self) }
-    {
-        let MetaBytes { held } = self;
-        match held {
-            Held::Here(bytes, len) => Vec::from_slice(alloc, &bytes[..len as usize]),
-            Held::Heap(bytes) => Ok(bytes),
-        }
+        Ok(MetaBytes::from_vec(bytes))
     }
 
     /// The bytes.
     pub fn as_slice(&self) -> &[u8]
         ensures { result.now ≡ self.now }
     {
-        match &self.held {
-            Held::Here(bytes, len) => &bytes[..*len as usize],
-            Held::Heap(bytes) => bytes.as_slice(),
+        if self.heap.is_empty() {
+            &self.here[..self.len as usize]
+        } else {
+            self.heap.as_slice()
         }
     }
 
     // A copy of few bytes.
-    fn here(bytes: &[u8]) -> MetaBytes
+    fn few(alloc: Global, bytes: &[u8]) -> MetaBytes
         requires { length bytes.now ≤ HERE_BYTES }
         ensures { result ≡ bytes.now }
     {
-        let mut room = [0; HERE_BYTES];
-        room[..bytes.len()].copy_from_slice(bytes);
+        let mut here = [0; HERE_BYTES];
+        here[..bytes.len()].copy_from_slice(bytes);
         MetaBytes {
-            held: Held::Here(room, bytes.len() as u8),
+            here,
+            len: bytes.len() as u8,
+            heap: Vec::new(alloc),
         }
     }
 }
