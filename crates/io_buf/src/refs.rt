@@ -13,14 +13,13 @@ use std::mem;
 #[derive(Drop)]
 pub(crate) struct Refs {
     first: Option<Bytes>,
-    more: More,
+    more: Option<More>,
     alloc: Global,
 }
 
 // The references behind the first. Many keep their memory when they go.
 #[derive(Drop)]
 enum More {
-    Nothing,
     One(Bytes),
     Many(VecDeque<Bytes>),
 }
@@ -42,7 +41,7 @@ impl Refs {
     {
         Refs {
             first: None,
-            more: More::Nothing,
+            more: None,
             alloc,
         }
     }
@@ -54,9 +53,9 @@ impl Refs {
             return 0;
         }
         match &self.more {
-            More::Nothing => 1,
-            More::One(_) => 2,
-            More::Many(pieces) => 1 + pieces.len(),
+            None => 1,
+            Some(More::One(_)) => 2,
+            Some(More::Many(pieces)) => 1 + pieces.len(),
         }
     }
 
@@ -64,7 +63,7 @@ impl Refs {
         ensures { result ≡ self.now.capacity }
     {
         match &self.more {
-            More::Many(pieces) => 1 + pieces.capacity(),
+            Some(More::Many(pieces)) => 1 + pieces.capacity(),
             _ => 2,
         }
     }
@@ -90,10 +89,10 @@ impl Refs {
     {
         if self.first.is_none() {
             self.first = Some(piece);
-        } else if let More::Many(pieces) = &mut self.more {
+        } else if let Some(More::Many(pieces)) = &mut self.more {
             pieces.push_back_reserved(piece);
         } else {
-            self.more = More::One(piece);
+            self.more = Some(More::One(piece));
         }
     }
 
@@ -144,61 +143,61 @@ impl Refs {
 }
 
 // The reference at this place behind the first.
-fn behind(more: &More, place: usize) -> &Bytes
+fn behind(more: &Option<More>, place: usize) -> &Bytes
     requires { place < length (more_items more.now) }
     ensures value { result.now ≡ slice_index_or (more_items more.now) place result.now }
     ensures bound { place < more_capacity more.now }
 {
     match more {
-        More::Nothing => unreachable!(),
-        More::One(piece) => piece,
-        More::Many(pieces) => &pieces[place],
+        None => unreachable!(),
+        Some(More::One(piece)) => piece,
+        Some(More::Many(pieces)) => &pieces[place],
     }
 }
 
-fn pop_first(more: &mut More) -> Option<Bytes>
+fn pop_first(more: &mut Option<More>) -> Option<Bytes>
     ensures items { more_items more.old ≡ option_to_list result ++ more_items more.new }
     ensures capacity { more_capacity more.new ≡ more_capacity more.old }
     ensures cases { MatchOption result (more_items more.old ≡ []) (λ _. length (more_items more.new) + 1 ≡ length (more_items more.old)) }
 {
-    if let More::Many(pieces) = more {
+    if let Some(More::Many(pieces)) = more {
         return pieces.pop_front();
     }
-    match mem::replace(more, More::Nothing) {
-        More::One(piece) => Some(piece),
+    match mem::replace(more, None) {
+        Some(More::One(piece)) => Some(piece),
         _ => None,
     }
 }
 
-fn pop_last(more: &mut More) -> Option<Bytes>
+fn pop_last(more: &mut Option<More>) -> Option<Bytes>
     ensures items { more_items more.old ≡ more_items more.new ++ option_to_list result }
     ensures capacity { more_capacity more.new ≡ more_capacity more.old }
     ensures cases { MatchOption result (more_items more.old ≡ []) (λ _. length (more_items more.new) + 1 ≡ length (more_items more.old)) }
 {
-    if let More::Many(pieces) = more {
+    if let Some(More::Many(pieces)) = more {
         return pieces.pop_back();
     }
-    match mem::replace(more, More::Nothing) {
-        More::One(piece) => Some(piece),
+    match mem::replace(more, None) {
+        Some(More::One(piece)) => Some(piece),
         _ => None,
     }
 }
 
 // Makes room for so many behind the first.
-fn reserve_behind(alloc: Global, more: &mut More, wanted: usize) -> Result<(), AllocError>
+fn reserve_behind(alloc: Global, more: &mut Option<More>, wanted: usize) -> Result<(), AllocError>
     requires more { more_capacity more.old < wanted }
     requires fits { length (more_items more.old) ≤ wanted }
     ensures items { more_items more.new ≡ more_items more.old }
     ensures ok { OnOk result (more_capacity more.new ≡ wanted) }
     ensures err { OnErr result (more_capacity more.new ≡ more_capacity more.old) }
 {
-    if let More::Many(pieces) = more {
+    if let Some(More::Many(pieces)) = more {
         return pieces.reserve_exact(wanted - pieces.len());
     }
     let mut pieces = VecDeque::with_capacity(alloc, wanted)?;
-    if let More::One(piece) = mem::replace(more, More::Nothing) {
+    if let Some(More::One(piece)) = mem::replace(more, None) {
         pieces.push_back_reserved(piece);
     }
-    *more = More::Many(pieces);
+    *more = Some(More::Many(pieces));
     Ok(())
 }
