@@ -1,6 +1,5 @@
 ghost use Rattle.std.specs.Prelude.{◌≡◌, ◌+◌, ◌^◌, ◌<◌, ◌≤◌, [], ◌∷◌, ◌++◌, length, drop, max, slice_index_or, MatchOption, OnOk, OnErr};
 ghost use Rattle.std.specs.Option.{option_to_list};
-ghost use Rattle.io_buf.specs.Refs.{more_items, more_capacity};
 
 use bytes::Bytes;
 use std::alloc::{AllocError, Global};
@@ -13,15 +12,8 @@ use std::mem;
 #[derive(Drop)]
 pub(crate) struct Refs {
     first: Option<Bytes>,
-    more: Option<More>,
-    alloc: Global,
-}
-
-// The references behind the first. Many keep their memory when they go.
-#[derive(Drop)]
-enum More {
-    One(Bytes),
-    Many(VecDeque<Bytes>),
+    second: Option<Bytes>,
+    rest: VecDeque<Bytes>,
 }
 
 impl Model for Refs {
@@ -39,10 +31,13 @@ impl Refs {
         ensures items { result.items ≡ [] }
         ensures capacity { result.capacity ≡ 2 }
     {
+        let Ok(rest) = VecDeque::with_capacity(alloc, 0) else {
+            unreachable!()
+        };
         Refs {
             first: None,
-            more: None,
-            alloc,
+            second: None,
+            rest,
         }
     }
 
@@ -52,20 +47,16 @@ impl Refs {
         if self.first.is_none() {
             return 0;
         }
-        match &self.more {
-            None => 1,
-            Some(More::One(_)) => 2,
-            Some(More::Many(pieces)) => 1 + pieces.len(),
+        if self.second.is_none() {
+            return 1;
         }
+        2 + self.rest.len()
     }
 
     pub(crate) fn capacity(&self) -> usize
         ensures { result ≡ self.now.capacity }
     {
-        match &self.more {
-            Some(More::Many(pieces)) => 1 + pieces.capacity(),
-            _ => 2,
-        }
+        2 + self.rest.capacity()
     }
 
     pub(crate) fn get(&self, place: usize) -> &Bytes
@@ -73,10 +64,15 @@ impl Refs {
         ensures value { result.now ≡ slice_index_or self.now.items place result.now }
         ensures bound { place < 2 ^ 50 }
     {
-        if place > 0 {
-            return behind(&self.more, place - 1);
+        if place > 1 {
+            return &self.rest[place - 2];
         }
-        match &self.first {
+        let held = if place == 0 {
+            &self.first
+        } else {
+            &self.second
+        };
+        match held {
             Some(piece) => piece,
             None => unreachable!(),
         }
@@ -89,10 +85,10 @@ impl Refs {
     {
         if self.first.is_none() {
             self.first = Some(piece);
-        } else if let Some(More::Many(pieces)) = &mut self.more {
-            pieces.push_back_reserved(piece);
+        } else if self.second.is_none() {
+            self.second = Some(piece);
         } else {
-            self.more = Some(More::One(piece));
+            self.rest.push_back_reserved(piece);
         }
     }
 
@@ -113,7 +109,8 @@ impl Refs {
         ensures capacity { self.new.capacity ≡ self.old.capacity }
         ensures cases { MatchOption result ((self.old.items ≡ []) × (self.new ≡ self.old)) (λ _. length self.new.items + 1 ≡ length self.old.items) }
     {
-        let second = pop_first(&mut self.more);
+        let third = self.rest.pop_front();
+        let second = mem::replace(&mut self.second, third);
         mem::replace(&mut self.first, second)
     }
 
@@ -122,8 +119,11 @@ impl Refs {
         ensures capacity { self.new.capacity ≡ self.old.capacity }
         ensures cases { MatchOption result ((self.old.items ≡ []) × (self.new ≡ self.old)) (λ _. length self.new.items + 1 ≡ length self.old.items) }
     {
-        if let Some(last) = pop_last(&mut self.more) {
+        if let Some(last) = self.rest.pop_back() {
             return Some(last);
+        }
+        if let Some(second) = mem::replace(&mut self.second, None) {
+            return Some(second);
         }
         mem::replace(&mut self.first, None)
     }
@@ -134,70 +134,13 @@ impl Refs {
         ensures ok { OnOk result (self.new.capacity ≡ max self.old.capacity (length self.old.items + more)) }
         ensures err { OnErr result (self.new.capacity ≡ self.old.capacity) }
     {
-        let wanted = self.len() + more;
-        if wanted <= self.capacity() {
-            return Ok(());
-        }
-        reserve_behind(self.alloc, &mut self.more, wanted - 1)
+        let within = if self.first.is_none() {
+            2
+        } else if self.second.is_none() {
+            1
+        } else {
+            0
+        };
+        self.rest.reserve_exact(more.saturating_sub(within))
     }
-}
-
-// The reference at this place behind the first.
-fn behind(more: &Option<More>, place: usize) -> &Bytes
-    requires { place < length (more_items more.now) }
-    ensures value { result.now ≡ slice_index_or (more_items more.now) place result.now }
-    ensures bound { place < more_capacity more.now }
-{
-    match more {
-        None => unreachable!(),
-        Some(More::One(piece)) => piece,
-        Some(More::Many(pieces)) => &pieces[place],
-    }
-}
-
-fn pop_first(more: &mut Option<More>) -> Option<Bytes>
-    ensures items { more_items more.old ≡ option_to_list result ++ more_items more.new }
-    ensures capacity { more_capacity more.new ≡ more_capacity more.old }
-    ensures cases { MatchOption result (more_items more.old ≡ []) (λ _. length (more_items more.new) + 1 ≡ length (more_items more.old)) }
-{
-    if let Some(More::Many(pieces)) = more {
-        return pieces.pop_front();
-    }
-    match mem::replace(more, None) {
-        Some(More::One(piece)) => Some(piece),
-        _ => None,
-    }
-}
-
-fn pop_last(more: &mut Option<More>) -> Option<Bytes>
-    ensures items { more_items more.old ≡ more_items more.new ++ option_to_list result }
-    ensures capacity { more_capacity more.new ≡ more_capacity more.old }
-    ensures cases { MatchOption result (more_items more.old ≡ []) (λ _. length (more_items more.new) + 1 ≡ length (more_items more.old)) }
-{
-    if let Some(More::Many(pieces)) = more {
-        return pieces.pop_back();
-    }
-    match mem::replace(more, None) {
-        Some(More::One(piece)) => Some(piece),
-        _ => None,
-    }
-}
-
-// Makes room for so many behind the first.
-fn reserve_behind(alloc: Global, more: &mut Option<More>, wanted: usize) -> Result<(), AllocError>
-    requires more { more_capacity more.old < wanted }
-    requires fits { length (more_items more.old) ≤ wanted }
-    ensures items { more_items more.new ≡ more_items more.old }
-    ensures ok { OnOk result (more_capacity more.new ≡ wanted) }
-    ensures err { OnErr result (more_capacity more.new ≡ more_capacity more.old) }
-{
-    if let Some(More::Many(pieces)) = more {
-        return pieces.reserve_exact(wanted - pieces.len());
-    }
-    let mut pieces = VecDeque::with_capacity(alloc, wanted)?;
-    if let Some(More::One(piece)) = mem::replace(more, None) {
-        pieces.push_back_reserved(piece);
-    }
-    *more = Some(More::Many(pieces));
-    Ok(())
 }
