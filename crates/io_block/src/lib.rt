@@ -5,10 +5,8 @@ mod kept;
 mod memory;
 mod pool;
 mod room;
-mod scratch;
 #[cfg(test)]
 mod tests;
 
 pub use memory::NoMemory;
 pub use pool::{BLOCK_BYTES, BlockPool, KEPT_BLOCKS};
-pub use scratch::Scratch;

@@ -3,7 +3,6 @@ ghost use Rattle.std.specs.Prelude.{◌≡◌, ◌+◌, ◌-◌, ◌<◌, ◌≤
 use crate::NoMemory;
 use crate::kept::Kept;
 use crate::room::Room;
-use crate::scratch::Scratch;
 use bytes::{Bytes, BytesMut};
 use std::alloc::Global;
 use std::marker::Model;
@@ -22,7 +21,7 @@ pub const KEPT_BLOCKS: usize = 8;
 pub struct BlockPool {
     kept: Kept,
     room: Room,
-    scratch: Scratch,
+    scratch: Vec<u8>,
     alloc: Global,
 }
 
@@ -42,7 +41,7 @@ impl BlockPool {
         BlockPool {
             kept: Kept::new(alloc),
             room: Room::none(alloc),
-            scratch: Scratch::new(alloc),
+            scratch: Vec::new(alloc),
             alloc,
         }
     }
@@ -92,19 +91,19 @@ impl BlockPool {
         }
     }
 
-    /// Lends the memory to spell in, which holds anything. What is lent meanwhile is another.
-    pub fn lend_scratch(&mut self) -> Scratch
+    /// Lends memory to spell in, which holds anything. What is lent meanwhile is another.
+    pub fn lend_scratch(&mut self) -> Vec<u8>
         ensures { self.new ≡ self.old }
     {
-        let empty = Scratch::new(self.alloc);
+        let empty = Vec::new(self.alloc);
         mem::replace(&mut self.scratch, empty)
     }
 
     /// Takes that memory back, unless it grew beyond a block.
-    pub fn keep_scratch(&mut self, scratch: Scratch)
+    pub fn keep_scratch(&mut self, scratch: Vec<u8>)
         ensures { self.new ≡ self.old }
     {
-        if scratch.front.capacity() <= BLOCK_BYTES {
+        if scratch.capacity() <= BLOCK_BYTES {
             self.scratch = scratch;
         }
     }

@@ -5,9 +5,10 @@ use Rattle.std.proofs.lemmas.List.{drop_more, drop-drop, drop-take, drop_at, tak
 use Rattle.std.proofs.Math.Seq.{take-append-add}
 use Rattle.std.specs.List.{concat}
 use Rattle.bytes.proofs.Chunks.{drop-append_min}
+use Rattle.bytes.proofs.Ranges.{drop-take_less}
 use Rattle.io_buf.specs.Buffer.{front_sizes, rest_sizes}
 use Rattle.io_buf.proofs.Pieces.{some_piece}
-use Rattle.io_buf.proofs.Sizes.{front_sizes-less, front_sizes-more, front_sizes-zero, front_sizes-front_sizes, rest_sizes-rest_sizes}
+use Rattle.io_buf.proofs.Sizes.{front_sizes-less, front_sizes-more, front_sizes-zero, front_sizes-front_sizes, rest_sizes-rest_sizes, rest_sizes-zero, rest_sizes-less}
 
 -- where bytes are left there is a piece
 pub place_within : (ps : List (List ℕ)) (i n : ℕ) → 0 < n → n ≤ length (concat (drop i ps)) → i < length ps
@@ -50,6 +51,29 @@ front_sizes-step s n t ss some is =
           let all : s ≡ t = omega arith in
           front_sizes-more n s ss some more ∙ ap (λ (m : ℕ). m ∷ front_sizes (n - m) ss) all
     ]
+
+-- a part of the first list
+pub part_lies : (p more : List ℕ) (from to : ℕ) → from ≤ to → to ≤ length p → take (to - from) (drop from p) ≡ drop from (take to (p ++ more))
+part_lies p more from to a b = sym (ap (drop from) (take-append-le to p more b) ∙ drop-take_less p from to a)
+
+-- its size
+pub part_sizes : (s from to : ℕ) (ss : List ℕ) → from < to → to ≤ s → (to - from) ∷ [] ≡ rest_sizes from (front_sizes to (s ∷ ss))
+part_sizes s from to ss some within = sym (ap (rest_sizes from) front ∙ behind)
+  where
+    front : front_sizes to (s ∷ ss) ≡ to ∷ []
+    front =
+        let none : to - to ≡ 0 = omega arith in
+        front_sizes-step s to to ss (omega arith) (omega arith) ∙ ap (λ (n : ℕ). to ∷ front_sizes n ss) none ∙ ap (λ (l : List ℕ). to ∷ l) (front_sizes-zero ss)
+
+    behind : rest_sizes from (to ∷ []) ≡ (to - from) ∷ []
+    behind =
+        elim (cases_lt 0 from) [
+          | inl some_more ↦ rest_sizes-less from to [] some_more some
+          | inr none ↦
+              let z : from ≡ 0 = omega arith in
+              let all : to ≡ to - from = omega arith in
+              ap (λ (n : ℕ). rest_sizes n (to ∷ [])) z ∙ rest_sizes-zero (to ∷ []) ∙ ap (λ (n : ℕ). n ∷ []) all
+        ]
 
 -- dropping in two steps
 pub drop_again : (a b c : List ℕ) → length b ≤ length a → length c ≤ length b → b ≡ drop (length a - length b) a → c ≡ drop (length b - length c) b → c ≡ drop (length a - length c) a

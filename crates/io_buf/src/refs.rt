@@ -1,4 +1,4 @@
-ghost use Rattle.std.specs.Prelude.{◌≡◌, ◌+◌, ◌^◌, ◌<◌, ◌≤◌, [], ◌∷◌, ◌++◌, length, max, slice_index_or, MatchOption, OnOk, OnErr};
+ghost use Rattle.std.specs.Prelude.{◌≡◌, ◌+◌, ◌^◌, ◌<◌, ◌≤◌, [], ◌∷◌, ◌++◌, length, drop, max, slice_index_or, MatchOption, OnOk, OnErr};
 ghost use Rattle.std.specs.Option.{option_to_list};
 
 use bytes::Bytes;
@@ -92,15 +92,15 @@ impl Refs {
         }
     }
 
-    pub(crate) fn push_front_reserved(&mut self, piece: Bytes)
-        requires { length self.old.items < self.old.capacity }
-        ensures items { self.new.items ≡ piece ∷ self.old.items }
+    /// Drops the first bytes of the first reference, which has more.
+    pub(crate) fn advance_first(&mut self, n: usize)
+        requires some { 0 < length self.old.items }
+        requires within { n < length (slice_index_or self.old.items 0 []) }
+        ensures items { self.new.items ≡ drop n (slice_index_or self.old.items 0 []) ∷ drop 1 self.old.items }
         ensures capacity { self.new.capacity ≡ self.old.capacity }
     {
-        if let Some(first) = mem::replace(&mut self.first, Some(piece)) {
-            if let Some(second) = mem::replace(&mut self.second, Some(first)) {
-                self.rest.push_front_reserved(second);
-            }
+        if let Some(first) = &mut self.first {
+            first.advance(n);
         }
     }
 

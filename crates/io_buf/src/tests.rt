@@ -1,3 +1,5 @@
+ghost use Rattle.std.specs.Prelude.{◌≡◌, length, IfOk};
+
 use crate::{BlockPool, CutFault, IoBuf, NoMemory};
 use std::test::Fail;
 
@@ -11,6 +13,46 @@ fn two_blocks(rt: &HostRuntime) -> Result<BlockPool, NoMemory> {
     pool.give_back(first);
     pool.give_back(second);
     Ok(pool)
+}
+
+// A buffer with three bytes.
+fn three_bytes(rt: &HostRuntime, pool: &mut BlockPool) -> Result<IoBuf, NoMemory>
+    ensures { IfOk result (λ b. length b.items ≡ 3) }
+{
+    let mut buf = IoBuf::new(rt.alloc());
+    buf.append_bytes(pool, b"abc")?;
+    Ok(buf)
+}
+
+// A buffer with a whole block and a byte.
+fn two_pieces(rt: &HostRuntime, pool: &mut BlockPool) -> Result<IoBuf, NoMemory>
+    ensures { IfOk result (λ b. length b.items ≡ 8_193) }
+{
+    let mut buf = IoBuf::new(rt.alloc());
+    let bytes = Vec::from_elem(rt.alloc(), b'a', 8_193)?;
+    buf.append_bytes(pool, bytes.as_slice())?;
+    Ok(buf)
+}
+
+// A buffer with three bytes and three in the rest of their block, and a copy of the first three.
+fn written_twice(rt: &HostRuntime, pool: &mut BlockPool) -> Result<(IoBuf, IoBuf), NoMemory>
+    ensures { IfOk result (λ r. (length r.0.items ≡ 6) × (length r.1.items ≡ 3)) }
+{
+    let mut buf = three_bytes(rt, pool)?;
+    let copy = buf.share()?;
+    buf.append_bytes(pool, b"def")?;
+    Ok((buf, copy))
+}
+
+// The same, with the first four bytes moved behind the copy.
+fn moved(rt: &HostRuntime, pool: &mut BlockPool) -> Result<(IoBuf, IoBuf), CutFault>
+    ensures { IfOk result (λ r. (length r.0.items ≡ 2) × (length r.1.items ≡ 7)) }
+{
+    let (mut buf, mut copy) = written_twice(rt, pool)?;
+    let rest = buf.cut_front(4)?;
+    copy.reserve_refs(rest.refs())?;
+    copy.append_buf(rest);
+    Ok((buf, copy))
 }
 
 // Whether the buffer has these bytes, at most 16.
@@ -27,8 +69,7 @@ fn has(buf: &IoBuf, bytes: &[u8]) -> bool {
 #[test]
 fn cuts(rt: HostRuntime) -> Result<(), Fail> {
     let mut pool = BlockPool::new(rt.alloc());
-    let mut buf = IoBuf::new(rt.alloc());
-    buf.append_bytes(&mut pool, b"abc")?;
+    let mut buf = three_bytes(&rt, &mut pool)?;
     let front = buf.cut_front(2)?;
     assert!(rt; has(&front, b"ab") && has(&buf, b"c"));
     assert_eq!(rt; buf.cut_front(2).err(), Some(CutFault::Short { have: 1 }));
@@ -37,22 +78,49 @@ fn cuts(rt: HostRuntime) -> Result<(), Fail> {
     Ok(())
 }
 
-// That the blocks are really shared is seen at the pool: none comes free with the copy.
+#[test]
+fn shares_a_part(rt: HostRuntime) -> Result<(), Fail> {
+    let mut pool = BlockPool::new(rt.alloc());
+    let buf = two_pieces(&rt, &mut pool)?;
+    let within = buf.share_part(3, 5)?;
+    let across = buf.share_part(8_190, 8_193)?;
+    assert!(rt; has(&within, b"aa") && has(&across, b"aaa"));
+    assert_eq!(rt; (within.refs(), across.refs()), (1, 2));
+    Ok(())
+}
+
 #[test]
 fn shares(rt: HostRuntime) -> Result<(), Fail> {
     let mut pool = two_blocks(&rt)?;
-    let mut buf = IoBuf::new(rt.alloc());
-    buf.append_bytes(&mut pool, [b'a'; 8_193].as_slice())?;
-    let mut copy = buf.share()?;
-    let again = buf.share()?;
+    let buf = two_pieces(&rt, &mut pool)?;
+    let copy = buf.share()?;
     assert_eq!(rt; (copy.len(), copy.refs(), pool.kept()), (8_193, 2, 0));
     assert!(rt; !copy.is_empty() && !buf.is_empty());
     assert!(rt; copy.first_piece() == buf.first_piece());
+    Ok(())
+}
+
+#[test]
+fn a_copy_is_shortened_alone(rt: HostRuntime) -> Result<(), Fail> {
+    let mut pool = two_blocks(&rt)?;
+    let buf = two_pieces(&rt, &mut pool)?;
+    let mut copy = buf.share()?;
     copy.pop_front(8_192);
     assert!(rt; has(&copy, b"a"));
     assert_eq!(rt; buf.len(), 8_193);
     assert!(rt; !buf.is_empty());
     assert_eq!(rt; buf.first_piece().len(), 8_192);
+    Ok(())
+}
+
+// That the blocks are really shared is seen at the pool: none comes free with the copies.
+#[test]
+fn shared_blocks_come_free_last(rt: HostRuntime) -> Result<(), Fail> {
+    let mut pool = two_blocks(&rt)?;
+    let buf = two_pieces(&rt, &mut pool)?;
+    let mut copy = buf.share()?;
+    let again = buf.share()?;
+    copy.pop_front(8_192);
     copy.recycle(&mut pool);
     again.recycle(&mut pool);
     assert_eq!(rt; pool.kept(), 0);
@@ -104,21 +172,37 @@ fn lies_in_blocks(rt: HostRuntime) -> Result<(), Fail> {
 #[test]
 fn fills_the_last_block(rt: HostRuntime) -> Result<(), Fail> {
     let mut pool = two_blocks(&rt)?;
-    let mut buf = IoBuf::new(rt.alloc());
-    buf.append_bytes(&mut pool, b"abc")?;
-    let mut copy = buf.share()?;
-    buf.append_bytes(&mut pool, b"def")?;
+    let (buf, copy) = written_twice(&rt, &mut pool)?;
     assert_eq!(rt; (pool.kept(), buf.refs()), (1, 2));
     assert!(rt; has(&buf, b"abcdef") && has(&copy, b"abc"));
-    let rest = buf.cut_front(4)?;
-    copy.reserve_refs(rest.refs())?;
-    copy.append_buf(rest);
+    Ok(())
+}
+
+#[test]
+fn moves_references(rt: HostRuntime) -> Result<(), Fail> {
+    let mut pool = two_blocks(&rt)?;
+    let (buf, copy) = moved(&rt, &mut pool)?;
     assert!(rt; has(&copy, b"abcabcd") && has(&buf, b"ef"));
+    Ok(())
+}
+
+#[test]
+fn drops_and_copies_the_last_bytes(rt: HostRuntime) -> Result<(), Fail> {
+    let mut pool = two_blocks(&rt)?;
+    let (_buf, mut copy) = moved(&rt, &mut pool)?;
     copy.pop_back(5);
     assert!(rt; has(&copy, b"ab"));
     let mut room = [0; 1];
     copy.copy_at(1, room.as_mut_slice());
     assert_eq!(rt; room, *b"b");
+    Ok(())
+}
+
+#[test]
+fn one_block_is_left_to_the_pool(rt: HostRuntime) -> Result<(), Fail> {
+    let mut pool = two_blocks(&rt)?;
+    let (buf, mut copy) = moved(&rt, &mut pool)?;
+    copy.pop_back(5);
     copy.recycle_front(&mut pool, 1);
     copy.recycle(&mut pool);
     buf.recycle(&mut pool);
@@ -139,10 +223,20 @@ fn refusals_change_nothing(rt: HostRuntime) -> Result<(), Fail> {
     assert!(rt; has(&buf, b"abc"), "shared: {shared}");
     let reserved = buf.reserve_refs(9).is_ok();
     assert!(rt; has(&buf, b"abc"), "reserved: {reserved}");
-    if buf
-        .append_bytes(&mut pool, [b'd'; 20_000].as_slice())
-        .is_err()
-    {
+    Ok(())
+}
+
+// Run so too.
+#[test]
+fn refusals_of_many_bytes_change_nothing(rt: HostRuntime) -> Result<(), Fail> {
+    let mut pool = BlockPool::new(rt.alloc());
+    let (Ok(mut buf), Ok(more)) = (
+        three_bytes(&rt, &mut pool),
+        Vec::from_elem(rt.alloc(), b'd', 20_000),
+    ) else {
+        return Ok(());
+    };
+    if buf.append_bytes(&mut pool, more.as_slice()).is_err() {
         assert!(rt; has(&buf, b"abc"));
         return Ok(());
     }

@@ -86,3 +86,18 @@ spell_last most size n bytes short last h =
 -- ten bytes are enough for a number of 64 bits
 pub ten_are_enough : (n : ℕ) → n < 2 ^ 64 → n < 128 ^ 10
 ten_are_enough n h = omega (arith, h)
+
+-- a byte is counted that is followed by another
+pub counted_more : (most size n : ℕ) → size < most → 128 ≤ n → n < 128 ^ (most - size) →
+    (size + 1 < most) × (n / 128 < 128 ^ (most - (size + 1))) × (length (varint_up_to (most - size) n) ≡ 1 + length (varint_up_to (most - (size + 1)) (n / 128)))
+counted_more most size n short more fits =
+    let e : most - size ≡ suc (most - (size + 1)) = omega arith in
+    let step = first_of_more (most - (size + 1)) n more (rw (← e) fits) in
+    (omega (arith, step.0), step.1, omega (arith, ap (λ room. length (varint_up_to room n)) e, ap length step.2))
+
+-- the last byte is counted
+pub counted_last : (most size n : ℕ) → size < most → n < 128 → length (varint_up_to (most - size) n) ≡ 1
+counted_last most size n short last =
+    let e : most - size ≡ suc (most - (size + 1)) = omega arith in
+    ap (λ room. length (varint_up_to room n)) e
+    ∙ ap (λ b. length (if b then n ∷ [] else (n % 128 + 128) ∷ varint_up_to (most - (size + 1)) (n / 128))) (lt-ltb n 128 last)

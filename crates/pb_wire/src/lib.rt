@@ -14,4 +14,4 @@ mod varint;
 pub use fault::{NoMemory, WireFault};
 pub use message::Fields;
 pub use values::{Field, Value};
-pub use varint::{read_varint, write_varint};
+pub use varint::{read_varint, varint_size, write_varint};

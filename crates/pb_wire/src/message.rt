@@ -65,6 +65,7 @@ impl<'a> Fields<'a> {
     /// The next field, or `None` at the message's end.
     ///
     /// A fault is that of the key first, then that of the value; once met it is answered for good.
+    #[inline]
     pub fn next(&mut self) -> Result<Option<Field>, WireFault>
         ensures exact { answer_in self.old.bytes result ≡ sizeless (ahead self.old) }
         ensures place { self.new ≡ behind self.old (ahead self.old) }

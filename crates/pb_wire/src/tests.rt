@@ -41,6 +41,8 @@ fn writes_varints(rt: HostRuntime) -> Result<(), Fail> {
         out.as_slice(),
         b"\x00\xac\x02\xff\xff\xff\xff\xff\xff\xff\xff\xff\x01".as_slice()
     );
+    let sizes = (varint_size(0), varint_size(300), varint_size(u64::MAX));
+    assert_eq!(rt; sizes, (1, 2, 10));
     Ok(())
 }
 

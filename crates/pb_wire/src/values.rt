@@ -38,6 +38,7 @@ pub enum WireType {
 }
 
 /// Reads the field that begins at `at`; answers it with the place after it.
+#[inline(always)]
 pub fn read_field(bytes: &[u8], at: usize) -> Result<(Field, usize), WireFault>
     requires { at ≤ length bytes.now }
     ensures exact { field_front bytes.now at result ≡ field at (drop at bytes.now) }
@@ -50,6 +51,7 @@ pub fn read_field(bytes: &[u8], at: usize) -> Result<(Field, usize), WireFault>
 }
 
 /// Splits a key, which is `number << 3 | type` and stands at `at`.
+#[inline(always)]
 fn split_key(key: u64, at: usize) -> Result<(u32, WireType), WireFault>
     ensures { key_of result ≡ with_key at key (λ number type. Ok (number, type)) }
 {
@@ -71,6 +73,7 @@ fn split_key(key: u64, at: usize) -> Result<(u32, WireType), WireFault>
 }
 
 /// Reads the value of this wire type that begins at `at`; answers it with the place after it.
+#[inline(always)]
 fn read_value(bytes: &[u8], at: usize, wire_type: WireType) -> Result<(Value, usize), WireFault>
     requires { at ≤ length bytes.now }
     ensures exact { value_front bytes.now at result ≡ value (type_number wire_type) at (drop at bytes.now) }
@@ -94,6 +97,7 @@ fn read_value(bytes: &[u8], at: usize, wire_type: WireType) -> Result<(Value, us
 }
 
 /// Reads a length and that many bytes; both begin the value at `at`.
+#[inline(always)]
 fn read_span(bytes: &[u8], at: usize) -> Result<(Value, usize), WireFault>
     requires { at ≤ length bytes.now }
     ensures exact { value_front bytes.now at result ≡ span at (drop at bytes.now) }

@@ -15,6 +15,7 @@ const MOST_BYTES: usize = 10;
 /// followed by another. Bits past the 64th are dropped, so a varint may be spelled longer than needed.
 /// `LongVarint` where the tenth byte has its high bit set, else `Truncated` where the bytes end before
 /// the varint does; both name `at`.
+#[inline(always)]
 pub fn read_varint(bytes: &[u8], at: usize) -> Result<(u64, usize), WireFault>
     requires { at ≤ length bytes.now }
     ensures exact { varint_front at result ≡ varint at (drop at bytes.now) }
@@ -25,6 +26,18 @@ pub fn read_varint(bytes: &[u8], at: usize) -> Result<(u64, usize), WireFault>
     if at < bytes.len() && bytes[at] < 0x80 {
         return Ok((u64::from(bytes[at]), at + 1));
     }
+    read_any_varint(bytes, at)
+}
+
+// A varint of any length.
+#[inline(never)]
+fn read_any_varint(bytes: &[u8], at: usize) -> Result<(u64, usize), WireFault>
+    requires { at ≤ length bytes.now }
+    ensures exact { varint_front at result ≡ varint at (drop at bytes.now) }
+    ensures within { IfOk result (λ r. (at < r.1) × (r.1 ≤ length bytes.now)) }
+    ensures spelled { IfOk result (λ r. IsVarint (slice_range bytes.now at r.1) r.0) }
+    ensures each { (n to : ℕ) → at ≤ to → to ≤ length bytes.now → IsVarint (slice_range bytes.now at to) n → result ≡ Ok (n, to) }
+{
     let (_, rest) = bytes.split_at(at);
     let more = count_followed(rest);
     if more == MOST_BYTES {
@@ -85,4 +98,19 @@ pub fn write_varint(out: &mut Vec<u8>, value: u64) -> Result<(), NoMemory>
     spelled[length] = rest as u8;
     out.extend_from_slice(&spelled[..length + 1])?;
     Ok(())
+}
+
+/// How many bytes the shortest varint of `value` has.
+#[inline]
+pub fn varint_size(value: u64) -> usize
+    ensures size { result ≡ length (varint_bytes value) }
+    ensures at_most { result ≤ MOST_BYTES }
+{
+    let mut size = 1;
+    let mut rest = value;
+    while rest >= 0x80 {
+        rest /= 0x80;
+        size += 1;
+    }
+    size
 }

@@ -19,8 +19,7 @@ pub fn read_frame(alloc: Global, held: &IoBuf, sizes: Sizes) -> Result<Frame, Ne
     let meta = read_meta(alloc, held, meta_bytes)?;
     let room = sizes.body - sizes.meta;
     let attached = attachment_bytes(&meta, room)?;
-    let mut rest = held.share_front(12 + body_bytes)?;
-    rest.pop_front(12 + meta_bytes);
+    let mut rest = held.share_part(12 + meta_bytes, 12 + body_bytes)?;
     if attached == 0 {
         return Ok(Frame {
             meta,

@@ -9,14 +9,13 @@ ghost use Rattle.rpc_meta.specs.Writing.{HasPart};
 ghost use Rattle.prpc_frame.specs.Meaning.{frame_with};
 
 use crate::header::MAGIC;
-use io_block::Scratch;
 use io_buf::{BLOCK_BYTES, BlockPool, IoBuf, NoMemory};
 use rpc_meta::RpcMeta;
 use std::alloc::Global;
 
 /// Writes a frame (brpc's baidu_std.md). The payload and the attachment are shared, not copied.
 /// Header and meta are spelled in the pool's scratch memory, so in a stream of frames no call takes
-/// memory but for a block, and for more than two references.
+/// memory but for a block, and once for more than two references.
 ///
 /// The meta's attachment_size is the attachment's length, the meta has a request or a response, and
 /// the body has at most 67,108,864 bytes.
@@ -44,11 +43,11 @@ pub fn encode(
         → b.sizes ≡ (12 + length (meta_bytes (meaning meta.now))) ∷ payload.now.sizes ++ attachment.now.sizes) }
     ensures each { IfOk result (λ b. All IsSize b.sizes) }
 {
-    let mut scratch = pool.lend_scratch();
-    spell_front(&mut scratch, meta, payload.len() + attachment.len())?;
+    let mut front = pool.lend_scratch();
+    spell_front(&mut front, meta, payload.len() + attachment.len())?;
     let mut frame = IoBuf::new(alloc);
-    frame.append_bytes(pool, &scratch.front)?;
-    pool.keep_scratch(scratch);
+    frame.append_bytes(pool, &front)?;
+    pool.keep_scratch(front);
     append_shared(&mut frame, payload)?;
     append_shared(&mut frame, attachment)?;
     let _ = frame.refs();
@@ -62,42 +61,35 @@ pub fn begins_with_one_frame()
         → (bytes ≡ others) × (f ≡ g) }
 {}
 
-// Spells the header and the meta, before so many bytes of payload and attachment.
-fn spell_front(scratch: &mut Scratch, meta: &RpcMeta, behind: usize) -> Result<(), NoMemory>
+// Spells the header and the meta, before so many bytes of payload and attachment. The meta's size is
+// counted first, since it stands before it.
+fn spell_front(front: &mut Vec<u8>, meta: &RpcMeta, behind: usize) -> Result<(), NoMemory>
     requires part { HasPart (meaning meta.now) }
     requires small { length (meta_bytes (meaning meta.now)) + behind ≤ body_limit }
-    ensures front { OnOk result (scratch.new.front.items ≡ magic ++ to_be_bytes w32 (length (meta_bytes (meaning meta.now)) + behind) ++ to_be_bytes w32 (length (meta_bytes (meaning meta.now))) ++ meta_bytes (meaning meta.now)) }
+    ensures front { OnOk result (front.new.items ≡ magic ++ to_be_bytes w32 (length (meta_bytes (meaning meta.now)) + behind) ++ to_be_bytes w32 (length (meta_bytes (meaning meta.now))) ++ meta_bytes (meaning meta.now)) }
     ensures reads_back { OnOk result (read_meta (meta_bytes (meaning meta.now)) ≡ Ok (meaning meta.now)) }
 {
-    spell_meta(&mut scratch.inside, &mut scratch.part, meta)?;
-    frame_head(&scratch.part, behind, &mut scratch.front)
-}
-
-// Spells the meta.
-fn spell_meta(inside: &mut Vec<u8>, spelled: &mut Vec<u8>, meta: &RpcMeta) -> Result<(), NoMemory>
-    requires { HasPart (meaning meta.now) }
-    ensures bytes { OnOk result (spelled.new.items ≡ meta_bytes (meaning meta.now)) }
-    ensures reads_back { OnOk result (read_meta (meta_bytes (meaning meta.now)) ≡ Ok (meaning meta.now)) }
-{
-    spelled.clear();
-    match meta.write_with(inside, spelled) {
+    let Some(size) = meta.spelled_size() else {
+        return Err(NoMemory);
+    };
+    spell_header(size, behind, front)?;
+    match meta.write_to(front) {
         Ok(()) => Ok(()),
         Err(_) => Err(NoMemory),
     }
 }
 
-// Spells the header, before this meta and so many bytes of payload and attachment, and the meta.
-fn frame_head(meta: &[u8], behind: usize, head: &mut Vec<u8>) -> Result<(), NoMemory>
-    requires { length meta.now + behind ≤ body_limit }
-    ensures { OnOk result (head.new.items ≡ magic ++ to_be_bytes w32 (length meta.now + behind) ++ to_be_bytes w32 (length meta.now) ++ meta.now) }
+// Spells the header, before a meta of this size and so many bytes of payload and attachment.
+fn spell_header(size: usize, behind: usize, front: &mut Vec<u8>) -> Result<(), NoMemory>
+    requires { size + behind ≤ body_limit }
+    ensures { OnOk result (front.new.items ≡ magic ++ to_be_bytes w32 (size + behind) ++ to_be_bytes w32 size) }
 {
-    let meta_bytes = meta.len() as u32;
-    let body_bytes = (meta.len() + behind) as u32;
-    head.clear();
-    head.extend_from_slice(&MAGIC)?;
-    head.extend_from_slice(&body_bytes.to_be_bytes())?;
-    head.extend_from_slice(&meta_bytes.to_be_bytes())?;
-    head.extend_from_slice(meta)?;
+    let meta_bytes = size as u32;
+    let body_bytes = (size + behind) as u32;
+    front.clear();
+    front.extend_from_slice(&MAGIC)?;
+    front.extend_from_slice(&body_bytes.to_be_bytes())?;
+    front.extend_from_slice(&meta_bytes.to_be_bytes())?;
     Ok(())
 }
 

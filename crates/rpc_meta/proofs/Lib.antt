@@ -4,3 +4,4 @@ pub mod Building
 pub mod Appending
 pub mod Pieces
 pub mod RoundTrip
+pub mod Counting

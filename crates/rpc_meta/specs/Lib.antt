@@ -4,3 +4,4 @@ pub mod Parts
 pub mod Steps
 pub mod Answer
 pub mod Writing
+pub mod Held

@@ -1,18 +1,30 @@
-ghost use Rattle.std.specs.Prelude.{◌≡◌, ℕ, List, IfOk};
+ghost use Rattle.std.specs.Prelude.{◌≡◌, ◌≤◌, length, IfOk};
 
 use std::alloc::{AllocError, Global};
 use std::marker::Model;
 
-/// Bytes that a meta carries; contracts see the list of them.
+/// So many bytes a meta carries without memory.
+const HERE_BYTES: usize = 31;
+
+/// Bytes that a meta carries; contracts see the list of them. Up to 31 take no memory.
 #[derive(Drop)]
 pub struct MetaBytes {
-    bytes: Vec<u8>,
+    // Few bytes are the first so many of these, and then there are none in memory.
+    here: [u8; HERE_BYTES],
+    len: u8,
+    heap: Vec<u8>,
 }
 
 impl Model for MetaBytes {
+    ghost use Rattle.std.specs.Prelude.{ℕ, List};
+
     ghost Value = { List ℕ };
 
-    ghost view = { λ b. b.bytes.items };
+    ghost use Rattle.rpc_meta.specs.Held.{held_bytes, IsHeld};
+
+    ghost view = { held_bytes };
+
+    ghost invariant = { IsHeld };
 }
 
 impl MetaBytes {
@@ -20,30 +32,47 @@ impl MetaBytes {
     pub fn from_vec(bytes: Vec<u8>) -> MetaBytes
         ensures { result ≡ bytes.items }
     {
-        MetaBytes { bytes }
+        MetaBytes {
+            here: [0; HERE_BYTES],
+            len: 0,
+            heap: bytes,
+        }
     }
 
-    /// A copy of these bytes.
+    /// A copy of these bytes. Few take no memory.
     pub fn copy(alloc: Global, bytes: &[u8]) -> Result<MetaBytes, AllocError>
         ensures { IfOk result (λ b. b ≡ bytes.now) }
     {
+        if bytes.len() <= HERE_BYTES {
+            return Ok(MetaBytes::few(alloc, bytes));
+        }
         let bytes = Vec::from_slice(alloc, bytes)?;
-        Ok(MetaBytes { bytes })
-    }
-
-    /// The bytes, given back; no memory is taken.
-    pub fn into_vec(self) -> Vec<u8>
-        ensures { result.items ≡ self }
-    {
-        let MetaBytes { bytes } = self;
-        bytes
+        Ok(MetaBytes::from_vec(bytes))
     }
 
     /// The bytes.
     pub fn as_slice(&self) -> &[u8]
         ensures { result.now ≡ self.now }
     {
-        self.bytes.as_slice()
+        if self.heap.is_empty() {
+            &self.here[..self.len as usize]
+        } else {
+            self.heap.as_slice()
+        }
+    }
+
+    // A copy of few bytes.
+    fn few(alloc: Global, bytes: &[u8]) -> MetaBytes
+        requires { length bytes.now ≤ HERE_BYTES }
+        ensures { result ≡ bytes.now }
+    {
+        let mut here = [0; HERE_BYTES];
+        here[..bytes.len()].copy_from_slice(bytes);
+        MetaBytes {
+            here,
+            len: bytes.len() as u8,
+            heap: Vec::new(alloc),
+        }
     }
 }
 

@@ -140,6 +140,7 @@ fn reads_and_writes_what_protoc_does(rt: HostRuntime) {
                 let mut out = Vec::new(rt.alloc());
                 assert!(rt; meta.write_to(&mut out).is_ok());
                 assert_eq!(rt; out.as_slice() == row.bytes, row.spelled_so);
+                assert_eq!(rt; meta.spelled_size(), Some(out.len()));
             }
             Err(fault) => assert!(rt; false, "{fault:?}"),
         }
@@ -173,11 +174,19 @@ fn tells_faults_in_order(rt: HostRuntime) {
 }
 
 #[test]
-fn bytes_are_given_back(rt: HostRuntime) -> Result<(), Fail> {
+fn holds_short_and_long_bytes(rt: HostRuntime) -> Result<(), Fail> {
     let text = MetaBytes::from_vec(b"no".to_vec(rt.alloc())?);
     assert_eq!(rt; text.as_slice(), b"no".as_slice());
     let copied = MetaBytes::copy(rt.alloc(), text.as_slice())?;
-    assert_eq!(rt; copied.into_vec().as_slice(), b"no".as_slice());
+    assert_eq!(rt; copied.as_slice(), b"no".as_slice());
+    let long = b"a name of thirty bytes, and more";
+    let copied = MetaBytes::copy(rt.alloc(), long)?;
+    assert_eq!(rt; copied.as_slice(), long.as_slice());
+    let copied = MetaBytes::copy(rt.alloc(), &long[..31])?;
+    assert_eq!(rt;
+        copied.as_slice(),
+        b"a name of thirty bytes, and mor".as_slice()
+    );
     Ok(())
 }
 

@@ -1,92 +1,106 @@
-ghost use Rattle.std.specs.Prelude.{◌≡◌, ◌++◌, option_map, Ok, OnOk, if◌then◌else◌, is_ok};
+ghost use Rattle.std.specs.Prelude.{◌≡◌, ◌+◌, ◌*◌, ◌≤◌, ◌++◌, length, option_map, Some, Ok, IfSome, OnOk, if◌then◌else◌, is_ok};
+ghost use Rattle.brpc_model.specs.Wire.{varint_bytes};
 ghost use Rattle.brpc_model.specs.Meta.{read_meta};
 ghost use Rattle.brpc_model.specs.Spelling.{spelled_int, number_field, bytes_field, where_not_0, where_not_empty, where_some, request_bytes, response_bytes, meta_bytes};
 ghost use Rattle.rpc_meta.specs.Meaning.{request_of, response_of, meaning};
 ghost use Rattle.rpc_meta.specs.Writing.{Appends, HasPart, RequestFits, ResponseFits, MetaFits};
 
 use crate::meta::{RequestMeta, ResponseMeta, RpcMeta};
-use pb_wire::{NoMemory, write_varint};
-
-/// So much room a message inside the meta gets at first.
-const INSIDE_ROOM: usize = 96;
+use pb_wire::{NoMemory, varint_size, write_varint};
 
 impl RpcMeta {
     /// Appends the meta: fields by rising number, shortest varints, a negative int32 in ten bytes.
     ///
     /// compress_type and attachment_size are written where they aren't 0, correlation_id always; log_id where it
-    /// is there, and error_text where it isn't empty. After a refusal `out` is unchanged.
+    /// is there, and error_text where it isn't empty. After a refusal `out` is unchanged. No memory is taken but
+    /// for `out`.
     pub fn write_to(&self, out: &mut Vec<u8>) -> Result<(), NoMemory>
         ensures exact { out.new.items ≡ (if is_ok result then out.old.items ++ meta_bytes (meaning self.now) else out.old.items) }
         ensures reads_back { OnOk result (HasPart (meaning self.now) → read_meta (meta_bytes (meaning self.now)) ≡ Ok (meaning self.now)) }
     {
-        let mut inside = Vec::with_capacity(*out.allocator(), INSIDE_ROOM)?;
-        self.write_with(&mut inside, out)
-    }
-
-    /// Appends the meta, as `write_to`. The messages inside it are spelled in `inside`, which takes no memory
-    /// where it has room for them.
-    pub fn write_with(&self, inside: &mut Vec<u8>, out: &mut Vec<u8>) -> Result<(), NoMemory>
-        ensures exact { out.new.items ≡ (if is_ok result then out.old.items ++ meta_bytes (meaning self.now) else out.old.items) }
-        ensures reads_back { OnOk result (HasPart (meaning self.now) → read_meta (meta_bytes (meaning self.now)) ≡ Ok (meaning self.now)) }
-    {
         let before = out.len();
-        let written = append_meta(self, inside, out);
+        let written = append_meta(self, out);
         if written.is_err() {
             out.truncate(before);
         }
         written
     }
+
+    /// How many bytes `write_to` appends, where that fits.
+    pub fn spelled_size(&self) -> Option<usize>
+        ensures { IfSome result (λ n. n ≡ length (meta_bytes (meaning self.now))) }
+    {
+        let asked = asked_size(&self.request)?;
+        let answered = answered_size(&self.response)?;
+        let numbers = int_size(3, self.compress_type)
+            + number_size(4, self.correlation_id)
+            + int_size(5, self.attachment_size);
+        asked.checked_add(answered)?.checked_add(numbers)
+    }
 }
 
 /// Appends the meta, or a part of it before a refusal.
-fn append_meta(meta: &RpcMeta, inside: &mut Vec<u8>, out: &mut Vec<u8>) -> Result<(), NoMemory>
+fn append_meta(meta: &RpcMeta, out: &mut Vec<u8>) -> Result<(), NoMemory>
     ensures written { Appends out.old.items (meta_bytes (meaning meta.now)) result out.new.items }
     ensures fits { OnOk result (MetaFits (meaning meta.now)) }
 {
-    append_request(&meta.request, inside, out)?;
-    append_response(&meta.response, inside, out)?;
+    append_request(&meta.request, out)?;
+    append_response(&meta.response, out)?;
     append_int(3, meta.compress_type, out)?;
     append_number(4, meta.correlation_id, out)?;
     append_int(5, meta.attachment_size, out)
 }
 
-/// Appends the request where there is one; its fields are spelled aside first, since their length stands before them.
-fn append_request(
-    request: &Option<RequestMeta>,
-    inside: &mut Vec<u8>,
-    out: &mut Vec<u8>,
-) -> Result<(), NoMemory>
+/// Appends the request where there is one. Its length stands before it, so it is counted first.
+fn append_request(request: &Option<RequestMeta>, out: &mut Vec<u8>) -> Result<(), NoMemory>
     ensures written { Appends out.old.items (where_some (λ r. bytes_field 1 (request_bytes r)) (option_map request_of request.now)) result out.new.items }
     ensures fits { OnOk result (RequestFits (option_map request_of request.now)) }
 {
     let Some(request) = request else {
         return Ok(());
     };
-    inside.clear();
-    append_bytes(1, request.service.as_slice(), inside)?;
-    append_bytes(2, request.method.as_slice(), inside)?;
+    let Some(size) = request_size(request) else {
+        return Err(NoMemory);
+    };
+    append_head(1, size, out)?;
+    append_names(request, out)
+}
+
+/// Appends the fields of a request.
+fn append_names(request: &RequestMeta, out: &mut Vec<u8>) -> Result<(), NoMemory>
+    ensures written { Appends out.old.items (request_bytes (request_of request.now)) result out.new.items }
+    ensures fits { OnOk result (RequestFits (Some (request_of request.now))) }
+{
+    append_bytes(1, request.service.as_slice(), out)?;
+    append_bytes(2, request.method.as_slice(), out)?;
     if let Some(log_id) = request.log_id {
-        append_number(3, log_id, inside)?;
+        append_number(3, log_id, out)?;
     }
-    append_bytes(1, inside.as_slice(), out)
+    Ok(())
 }
 
 /// Appends the response where there is one, in the same way.
-fn append_response(
-    response: &Option<ResponseMeta>,
-    inside: &mut Vec<u8>,
-    out: &mut Vec<u8>,
-) -> Result<(), NoMemory>
+fn append_response(response: &Option<ResponseMeta>, out: &mut Vec<u8>) -> Result<(), NoMemory>
     ensures written { Appends out.old.items (where_some (λ r. bytes_field 2 (response_bytes r)) (option_map response_of response.now)) result out.new.items }
     ensures fits { OnOk result (ResponseFits (option_map response_of response.now)) }
 {
     let Some(response) = response else {
         return Ok(());
     };
-    inside.clear();
-    append_number(1, spelled(response.code), inside)?;
-    append_text(2, response.text.as_slice(), inside)?;
-    append_bytes(2, inside.as_slice(), out)
+    let Some(size) = response_size(response) else {
+        return Err(NoMemory);
+    };
+    append_head(2, size, out)?;
+    append_outcome(response, out)
+}
+
+/// Appends the fields of a response.
+fn append_outcome(response: &ResponseMeta, out: &mut Vec<u8>) -> Result<(), NoMemory>
+    ensures written { Appends out.old.items (response_bytes (response_of response.now)) result out.new.items }
+    ensures fits { OnOk result (ResponseFits (Some (response_of response.now))) }
+{
+    append_number(1, spelled(response.code), out)?;
+    append_text(2, response.text.as_slice(), out)
 }
 
 /// Appends an int32 where it isn't 0.
@@ -121,10 +135,96 @@ fn append_text(number: u8, bytes: &[u8], out: &mut Vec<u8>) -> Result<(), NoMemo
 fn append_bytes(number: u8, bytes: &[u8], out: &mut Vec<u8>) -> Result<(), NoMemory>
     ensures { Appends out.old.items (bytes_field number bytes.now) result out.new.items }
 {
-    write_varint(out, u64::from(number) * 8 + 2)?;
-    write_varint(out, bytes.len() as u64)?;
+    append_head(number, bytes.len(), out)?;
     out.extend_from_slice(bytes)?;
     Ok(())
+}
+
+/// Appends what stands before so many bytes under a number.
+fn append_head(number: u8, size: usize, out: &mut Vec<u8>) -> Result<(), NoMemory>
+    ensures { Appends out.old.items (varint_bytes (number * 8 + 2) ++ varint_bytes size) result out.new.items }
+{
+    write_varint(out, u64::from(number) * 8 + 2)?;
+    write_varint(out, size as u64)
+}
+
+/// How many bytes the request has where there is one, where that fits.
+fn asked_size(request: &Option<RequestMeta>) -> Option<usize>
+    ensures { IfSome result (λ n. n ≡ length (where_some (λ r. bytes_field 1 (request_bytes r)) (option_map request_of request.now))) }
+{
+    match request {
+        Some(request) => bytes_size(1, request_size(request)?),
+        None => Some(0),
+    }
+}
+
+/// How many bytes the response has where there is one, where that fits.
+fn answered_size(response: &Option<ResponseMeta>) -> Option<usize>
+    ensures { IfSome result (λ n. n ≡ length (where_some (λ r. bytes_field 2 (response_bytes r)) (option_map response_of response.now))) }
+{
+    match response {
+        Some(response) => bytes_size(2, response_size(response)?),
+        None => Some(0),
+    }
+}
+
+/// How many bytes the fields of a request have, where that fits.
+fn request_size(request: &RequestMeta) -> Option<usize>
+    ensures { IfSome result (λ n. n ≡ length (request_bytes (request_of request.now))) }
+{
+    let service = bytes_size(1, request.service.as_slice().len())?;
+    let method = bytes_size(2, request.method.as_slice().len())?;
+    let log_id = match request.log_id {
+        Some(log_id) => number_size(3, log_id),
+        None => 0,
+    };
+    service.checked_add(method)?.checked_add(log_id)
+}
+
+/// How many bytes the fields of a response have, where that fits.
+fn response_size(response: &ResponseMeta) -> Option<usize>
+    ensures { IfSome result (λ n. n ≡ length (response_bytes (response_of response.now))) }
+{
+    let code = number_size(1, spelled(response.code));
+    let text = text_size(2, response.text.as_slice())?;
+    code.checked_add(text)
+}
+
+/// How many bytes an int32 has, which isn't written where it is 0.
+fn int_size(number: u8, value: i32) -> usize
+    ensures size { result ≡ length (where_not_0 number value) }
+    ensures at_most { result ≤ 20 }
+{
+    if value == 0 {
+        return 0;
+    }
+    number_size(number, spelled(value))
+}
+
+/// How many bytes a varint under a number has.
+fn number_size(number: u8, value: u64) -> usize
+    ensures size { result ≡ length (number_field number value) }
+    ensures at_most { result ≤ 20 }
+{
+    varint_size(u64::from(number) * 8) + varint_size(value)
+}
+
+/// How many bytes these have under a number, where there are any and that fits.
+fn text_size(number: u8, bytes: &[u8]) -> Option<usize>
+    ensures { IfSome result (λ n. n ≡ length (where_not_empty number bytes.now)) }
+{
+    if bytes.is_empty() {
+        return Some(0);
+    }
+    bytes_size(number, bytes.len())
+}
+
+/// How many bytes so many bytes under a number have, where that fits.
+fn bytes_size(number: u8, len: usize) -> Option<usize>
+    ensures { IfSome result (λ n. n ≡ length (varint_bytes (number * 8 + 2) ++ varint_bytes len) + len) }
+{
+    let head = varint_size(u64::from(number) * 8 + 2) + varint_size(len as u64);
+    head.checked_add(len)
 }
 
 /// An int32 as the number of 64 bits that its varint spells.

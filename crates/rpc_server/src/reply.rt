@@ -3,7 +3,6 @@ ghost use Rattle.brpc_model.specs.Frame.{frame_bytes, body_limit};
 ghost use Rattle.brpc_model.specs.Spelling.{meta_bytes};
 ghost use Rattle.brpc_model.specs.Reply.{reply, answered_by, response_with};
 ghost use Rattle.rpc_meta.specs.Meaning.{meaning};
-ghost use Rattle.rpc_meta.specs.Writing.{HasPart};
 ghost use Rattle.prpc_frame.specs.Meaning.{frame_of};
 ghost use Rattle.rpc_server.specs.Answers.{code_of, text_of, meant};
 
@@ -120,21 +119,19 @@ fn respond(
         correlation_id: id,
         attachment_size,
     };
-    if !is_small(meta_len(alloc, &meta)?, payload.len(), attachment.len()) {
+    if !is_small(meta_len(&meta)?, payload.len(), attachment.len()) {
         return Err(NoMemory);
     }
     encode(alloc, pool, &meta, payload, attachment)
 }
 
 // How many bytes the meta has when it is written.
-fn meta_len(alloc: Global, meta: &RpcMeta) -> Result<usize, NoMemory>
-    requires { HasPart (meaning meta.now) }
+fn meta_len(meta: &RpcMeta) -> Result<usize, NoMemory>
     ensures { IfOk result (λ n. n ≡ length (meta_bytes (meaning meta.now))) }
 {
-    let mut spelled = Vec::new(alloc);
-    match meta.write_to(&mut spelled) {
-        Ok(()) => Ok(spelled.len()),
-        Err(_) => Err(NoMemory),
+    match meta.spelled_size() {
+        Some(size) => Ok(size),
+        None => Err(NoMemory),
     }
 }
 

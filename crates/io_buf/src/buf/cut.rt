@@ -1,4 +1,4 @@
-ghost use Rattle.std.specs.Prelude.{◌≡◌, ◌+◌, ◌≤◌, ◌++◌, length, take, drop, map, All, IfOk, IfErr, OnOk, OnErr};
+ghost use Rattle.std.specs.Prelude.{◌≡◌, ◌+◌, ◌<◌, ◌≤◌, ◌++◌, length, take, drop, map, slice_index, All, IfOk, IfErr, OnOk, OnErr};
 ghost use Rattle.std.specs.List.{concat};
 ghost use Rattle.io_buf.specs.Buffer.{front_sizes, rest_sizes, IsPiece};
 ghost use Rattle.io_buf.specs.Fault.{IsCauseOf};
@@ -6,7 +6,7 @@ ghost use Rattle.io_buf.specs.Fault.{IsCauseOf};
 use super::IoBuf;
 use crate::fault::CutFault;
 use crate::refs::Refs;
-use io_block::NoMemory;
+use io_block::{BLOCK_BYTES, NoMemory};
 
 impl IoBuf {
     /// A buffer with the same bytes, in the same blocks. It copies nothing.
@@ -41,6 +41,22 @@ impl IoBuf {
         Ok(front)
     }
 
+    /// A buffer with the bytes from one place up to another, in the same blocks. It copies nothing, and
+    /// takes no memory where they lie in the first piece.
+    pub fn share_part(&self, from: usize, to: usize) -> Result<IoBuf, NoMemory>
+        requires from { from ≤ to }
+        requires to { to ≤ length self.now.items }
+        ensures items { IfOk result (λ b. b.items ≡ drop from (take to self.now.items)) }
+        ensures sizes { IfOk result (λ b. b.sizes ≡ rest_sizes from (front_sizes to self.now.sizes)) }
+    {
+        if from < to && to <= self.first_piece().len() {
+            return self.share_within(from, to);
+        }
+        let mut part = self.share_front(to)?;
+        part.pop_front(from);
+        Ok(part)
+    }
+
     /// Cuts the first n bytes off, as a buffer over the same blocks. It copies nothing.
     pub fn cut_front(&mut self, n: usize) -> Result<IoBuf, CutFault>
         ensures items { IfOk result (λ front. front.items ≡ take n self.old.items) }
@@ -61,6 +77,20 @@ impl IoBuf {
         let front = self.share_front(n)?;
         self.pop_front(n);
         Ok(front)
+    }
+
+    // A buffer with some bytes of the first piece.
+    fn share_within(&self, from: usize, to: usize) -> Result<IoBuf, NoMemory>
+        requires some { (from < to) × (to ≤ BLOCK_BYTES) }
+        requires within { (0 < length self.now.sizes) × (to ≤ slice_index self.now.sizes 0) }
+        ensures items { IfOk result (λ b. b.items ≡ drop from (take to self.now.items)) }
+        ensures sizes { IfOk result (λ b. b.sizes ≡ rest_sizes from (front_sizes to self.now.sizes)) }
+    {
+        let first = self.pieces.get(0);
+        let piece = first.slice(from..to)?;
+        let mut part = IoBuf::new(self.alloc);
+        part.push_reserved(piece);
+        Ok(part)
     }
 
     // Adds references to the first n bytes of the pieces.

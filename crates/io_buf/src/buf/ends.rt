@@ -1,4 +1,4 @@
-ghost use Rattle.std.specs.Prelude.{◌≡◌, ◌+◌, ◌-◌, ◌<◌, ◌≤◌, [], length, take, drop, MatchOption};
+ghost use Rattle.std.specs.Prelude.{◌≡◌, ◌+◌, ◌-◌, ◌<◌, ◌≤◌, [], length, take, drop, slice_index, MatchOption};
 ghost use Rattle.io_buf.specs.Buffer.{front_sizes, rest_sizes, IsPiece, PutsPieceFirst, TakesLast, IsShorter};
 
 use super::IoBuf;
@@ -74,16 +74,6 @@ impl IoBuf {
         Some(piece)
     }
 
-    // Puts a reference in front, for which there is room.
-    fn push_first_reserved(&mut self, piece: Bytes)
-        requires room { 0 < self.old.spare }
-        requires piece { IsPiece piece }
-        ensures { PutsPieceFirst self.old self.new piece }
-    {
-        self.len += piece.len();
-        self.pieces.push_front_reserved(piece);
-    }
-
     // Drops up to n bytes of the first reference, and returns it where it went whole.
     fn advance_first(&mut self, n: usize) -> Option<Bytes>
         requires { (0 < n) × (n ≤ length self.old.items) }
@@ -93,15 +83,27 @@ impl IoBuf {
         ensures sizes { self.new.sizes
             ≡ rest_sizes (length self.old.items - length self.new.items) self.old.sizes }
     {
-        let Some(mut first) = self.pop_piece() else {
-            unreachable!()
-        };
-        if n < first.len() {
-            first.advance(n);
-            self.push_first_reserved(first);
+        if n < self.first_piece().len() {
+            self.advance_within(n);
             return None;
         }
+        let Some(first) = self.pop_piece() else {
+            unreachable!()
+        };
         Some(first)
+    }
+
+    // Drops the first n bytes of the first reference, which has more.
+    fn advance_within(&mut self, n: usize)
+        requires some { 0 < length self.old.sizes }
+        requires within { (0 < n) × (n < slice_index self.old.sizes 0) }
+        ensures items { self.new.items ≡ drop n self.old.items }
+        ensures sizes { self.new.sizes ≡ rest_sizes n self.old.sizes }
+        ensures spare { self.new.spare ≡ self.old.spare }
+        ensures refs { length self.new.sizes ≡ length self.old.sizes }
+    {
+        self.len -= n;
+        self.pieces.advance_first(n);
     }
 
     // Drops up to n bytes of the last reference.

@@ -22,14 +22,14 @@ returns c =
     let body = c.args.sizes.body in
     let m = meaning c.in_ok-meta.meta in
     let n = c.in_ok-attached.attached in
-    let rest = c.pop_front.new.self.items in
+    let rest = c.in_ok-rest.rest.items in
     begins_with items meta body n m rest c.requires.meta c.requires.body c.in_ok-meta.ensures c.in_ok-attached.ensures.0 c.in_ok-attached.ensures.1
-    (c.pop_front.ensures.items ∙ ap (λ (l : List ℕ). drop (12 + meta) l) c.in_ok-rest.ensures.items)
+    c.in_ok-rest.ensures.items
     ∙ ap (λ (l : List ℕ). Begins (record { meta = m; payload = l; attachment = drop (body - meta - n) rest }) body) (sym c.in_ok-payload.ensures.items)
-    ∙ ap (λ (l : List ℕ). Begins (record { meta = m; payload = c.in_ok-payload.payload.items; attachment = l }) body) (sym c.pop_front-2.ensures.items)
+    ∙ ap (λ (l : List ℕ). Begins (record { meta = m; payload = c.in_ok-payload.payload.items; attachment = l }) body) (sym c.pop_front.ensures.items)
 
 pub returns-then-attached-eq0 : goal.returns-then-attached-eq0
 returns-then-attached-eq0 c =
-    begins_alone c.args.held.now.items c.args.sizes.meta c.args.sizes.body c.in_ok-attached.attached (meaning c.in_ok-meta.meta) c.pop_front.new.self.items c.new.result.items c.requires.meta c.requires.body c.in_ok-meta.ensures
+    begins_alone c.args.held.now.items c.args.sizes.meta c.args.sizes.body c.in_ok-attached.attached (meaning c.in_ok-meta.meta) c.in_ok-rest.rest.items c.new.result.items c.requires.meta c.requires.body c.in_ok-meta.ensures
     c.in_ok-attached.ensures.0 c.if-attached-eq0.true c.new.ensures.items
-    (c.pop_front.ensures.items ∙ ap (λ (l : List ℕ). drop (12 + c.args.sizes.meta) l) c.in_ok-rest.ensures.items)
+    c.in_ok-rest.ensures.items

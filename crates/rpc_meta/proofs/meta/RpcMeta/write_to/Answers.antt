@@ -5,7 +5,7 @@ use Rattle.brpc_model.specs.Spelling.{meta_bytes}
 use Rattle.rpc_meta.specs.Meaning.{meaning}
 use Rattle.rpc_meta.specs.Writing.{Appends, HasPart, MetaFits}
 use Rattle.rpc_meta.proofs.RoundTrip.{round_trip}
-use Rattle.rpc_meta.proofs.meta.RpcMeta.write_with.Goals as goal
+use Rattle.rpc_meta.proofs.meta.RpcMeta.write_to.Goals as goal
 
 -- what was appended is read back, since the output's length fits
 reads_back : {E : Type 0} (m : Meta) (old new : List ℕ) (r : Result (Unit {0}) E) → Appends old (meta_bytes m) r new → OnOk r (MetaFits m) → length new < 2 ^ 64 → OnOk r (HasPart m → read_meta (meta_bytes m) ≡ Ok m)

@@ -5,7 +5,7 @@ use Rattle.brpc_model.specs.Wire.{goes_on, varint}
 use Rattle.pb_wire.specs.declared.fault.WireFault.TheVariants.{Truncated, LongVarint}
 use Rattle.pb_wire.specs.Told.{varint_front}
 use Rattle.pb_wire.proofs.Varints.{answer_form, form_answer}
-use Rattle.pb_wire.proofs.varint.read_varint.Goals as goal
+use Rattle.pb_wire.proofs.varint.read_any_varint.Goals as goal
 
 pub split_at-requires-2 : goal.split_at-requires-2
 split_at-requires-2 c =
