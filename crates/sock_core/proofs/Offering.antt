@@ -19,7 +19,7 @@ use Rattle.sock_programs.specs.Programs.{Program}
 use Rattle.sock_programs.specs.Cores.{Core, SeatState}
 use Rattle.sock_programs.specs.Ticks.{Answer, Unasked, OfPut, OfReady, Moment, taken}
 use Rattle.id_runs.specs.Goes.{first_of}
-use Rattle.whole_runs.specs.Offered.{GaveAll, OffersAt, AreOffered}
+use Rattle.whole_runs.specs.Offered.{GaveSo, OffersAt, AreOffered}
 use Rattle.seat_points.specs.declared.point.Step.{Step}
 use Rattle.seat_points.specs.Steps.{First, OfCall, OfAside, OfMessage, OfLink, OfHome}
 use Rattle.seat_points.specs.Steps as kinds
@@ -213,12 +213,12 @@ module _ (old fresh : MachineState) (n : ℕ) (reader reader' : ReaderData) (k :
     gave_is : h.gave ≡ slice_index_or before.calls.gave k []
     gave_is = subst (λ (o : Option (List ℕ)). IfSome o (λ bytes. bytes ≡ gave k)) h.gave_is (agrees_gave k h.inn h.inn_at).1 ∙ sym (given_at old.plan.links k gave inside)
 
-    gave_there : (x room : ℕ) (taking : Taking) → TakenFrom (table_of old) (table_of fresh) x room taking → x ≡ k → GaveAll serve end (took k) (slice_index_or before.calls.gave k []) taking
+    gave_there : (x room : ℕ) (taking : Taking) → TakenFrom (table_of old) (table_of fresh) x room taking → x ≡ k → GaveSo serve end (took k) (slice_index_or before.calls.gave k []) taking
     gave_there x room taking f same =
-        subst (λ (s : Bool). GaveAll s end (took k) (slice_index_or before.calls.gave k []) taking) h.serves
-        (subst (λ (e : Option ℕ). GaveAll h.offer.serve e (took k) (slice_index_or before.calls.gave k []) taking) h.ends
-        (subst (λ (t : List ℕ). GaveAll h.offer.serve h.offer.end t (slice_index_or before.calls.gave k []) taking) took_is
-        (subst (λ (g : List ℕ). GaveAll h.offer.serve h.offer.end h.took g taking) gave_is
+        subst (λ (s : Bool). GaveSo s end (took k) (slice_index_or before.calls.gave k []) taking) h.serves
+        (subst (λ (e : Option ℕ). GaveSo h.offer.serve e (took k) (slice_index_or before.calls.gave k []) taking) h.ends
+        (subst (λ (t : List ℕ). GaveSo h.offer.serve h.offer.end t (slice_index_or before.calls.gave k []) taking) took_is
+        (subst (λ (g : List ℕ). GaveSo h.offer.serve h.offer.end h.took g taking) gave_is
         (took_offers old fresh x room taking f k serve end h (sym same)).1.all)))
 
     -- the one seat whose tick it is
@@ -230,7 +230,7 @@ module _ (old fresh : MachineState) (n : ℕ) (reader reader' : ReaderData) (k :
         (λ same taking e. (
           took k,
           taken_there old letters few kept took gave k inside,
-          subst (GaveAll serve end (took k) (slice_index_or before.calls.gave k [])) (core.some-injective w.0 taking (sym (ap taken w.1) ∙ e)) (gave_there x room w.0 w.2.from same),
+          subst (GaveSo serve end (took k) (slice_index_or before.calls.gave k [])) (core.some-injective w.0 taking (sym (ap taken w.1) ∙ e)) (gave_there x room w.0 w.2.from same),
         )))
     offers_asides _ answer w = one_offers old.plan k serve end before (record { seat = i; answer = answer }) Unasked w.0 refl
 

@@ -1,5 +1,5 @@
 -- What a take makes of its link, as it would be given back.
-use Rattle.std.proofs.Common.{◌≡◌, refl, ℕ, ◌+◌, ◌<◌, ◌⊎◌, inl, inr, ⊎_elim, Bool, true, false, List, [], ◌∷◌, ◌++◌, map, length, take, slice_set, slice_index_or, Option, Some, None, IfSome, option_map, ap, sym, ◌∙◌, subst, arith}
+use Rattle.std.proofs.Common.{◌≡◌, refl, ℕ, ◌+◌, ◌<◌, ◌⊎◌, inl, inr, ⊎_elim, Bool, true, false, List, [], ◌∷◌, ◌++◌, map, length, take, slice_set, slice_index_or, Option, Some, None, IfSome, option_map, ap, sym, ◌∙◌, subst, arith, append_assoc}
 use Rattle.std.specs.Io.KnownBytes.{append_known}
 use Rattle.std.proofs.lemmas.List.{map-set, length-take}
 use Rattle.atomic_table.proofs.Lists.{at_map, at_index}
@@ -12,7 +12,7 @@ use Rattle.sock_io.specs.Causes.{Rose}
 use Rattle.sock_io.specs.Link.{OutState, InState, Offer, IsServed, IsSettled, OfferTaken, OffersKept, OffersTaken, TakeStep, SettleStep, given_of, offered_by, of_take, more_told, end_of}
 use Rattle.sock_io.proofs.Offers.{served_take, gave_offered, gave_to_end}
 use Rattle.whole_runs.specs.Heard.{answer_of}
-use Rattle.whole_runs.specs.Offered.{GaveAll}
+use Rattle.whole_runs.specs.Offered.{GaveSo}
 use Rattle.sock_programs.specs.Asides.{Closed}
 use Rattle.sock_programs.specs.Ticks.{FitsTake}
 use Rattle.reader_seats.specs.GoesOn.{taking_of}
@@ -89,13 +89,13 @@ module _ (inn inn' : InState) (room : List ℕ) where
 
 -- ## What was offered
 
--- a take that finds nothing more tells that all was given
-gave_all : (room took gave : List ℕ) (finished : Bool) (o o' : Offer) (answer : Take) → OfferTaken o o' (given_of room answer) answer → IsServed took finished gave o → offered_by o took ≡ offered_by o o.fed → GaveAll o.serve o.end took gave (taking_of room answer)
-gave_all room took gave finished o o' (takes.Took n) t s all = tt
-gave_all room took gave finished o o' takes.Empty t s all = gave_offered took gave finished o s (t.empty refl).0 ∙ sym all
-gave_all room took gave finished o o' takes.End t s all = gave_to_end took gave finished o s (t.end refl).0 (t.end refl).1
-gave_all room took gave finished o o' takes.Closed t s all = gave_offered took gave finished o s (t.closed refl).0 ∙ sym all
-gave_all room took gave finished o o' takes.Failed t s all = tt
+-- a take finds what waits in front, and one that finds nothing more tells that all was given
+gave_so : (room took gave : List ℕ) (finished : Bool) (o o' : Offer) (answer : Take) → OfferTaken o o' (given_of room answer) answer → IsServed took finished gave o → offered_by o took ≡ offered_by o o.fed → GaveSo o.serve o.end took gave (taking_of room answer)
+gave_so room took gave finished o o' (takes.Took n) t s all = (o'.waiting, append_assoc gave (given_of room (takes.Took n)) o'.waiting ∙ ap (λ l. gave ++ l) t.waiting ∙ s.offered ∙ sym all)
+gave_so room took gave finished o o' takes.Empty t s all = gave_offered took gave finished o s (t.empty refl).0 ∙ sym all
+gave_so room took gave finished o o' takes.End t s all = gave_to_end took gave finished o s (t.end refl).0 (t.end refl).1
+gave_so room took gave finished o o' takes.Closed t s all = gave_offered took gave finished o s (t.closed refl).0 ∙ sym all
+gave_so room took gave finished o o' takes.Failed t s all = tt
 
 same_offer : {o o' : Offer} → Some o ≡ Some o' → o ≡ o'
 same_offer e = cc
@@ -116,7 +116,7 @@ module _ (out : OutState) (inn mid inn' : InState) (room : List ℕ) (answer : T
             serve = ap (λ (y : Offer). y.serve) t.2.same ∙ serve_is;
             end = ap (λ (y : Offer). y.end) t.2.same ∙ end_is;
             served = subst (λ l. IsServed took out.finished (gave ++ l) t.0) (sym (given_as room answer)) (served_take took gave (given_of room answer) out.finished o t.0 answer t.2 served);
-            all = subst (λ b. GaveAll b before.end took gave (taking_of room answer)) serve_is (subst (λ n. GaveAll o.serve n took gave (taking_of room answer)) end_is (gave_all room took gave out.finished o t.0 answer t.2 served whole));
+            all = subst (λ b. GaveSo b before.end took gave (taking_of room answer)) serve_is (subst (λ n. GaveSo o.serve n took gave (taking_of room answer)) end_is (gave_so room took gave out.finished o t.0 answer t.2 served whole));
           }
 
 -- ## Behind a settling

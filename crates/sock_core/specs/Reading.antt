@@ -6,7 +6,7 @@ use lib.ListN.{get_elem?}
 use Rattle.brpc_model.specs.Link.{LinkEnd}
 use Rattle.sock_io.specs.Link.{OutState, InState, Offer, IsServed, more_told}
 use Rattle.whole_runs.specs.Heard.{answer_of}
-use Rattle.whole_runs.specs.Offered.{GaveAll}
+use Rattle.whole_runs.specs.Offered.{GaveSo}
 use Rattle.sock_programs.specs.Asides as asides
 use Rattle.sock_programs.specs.Asides.{Found, Taking, Bytes, Closed}
 use Rattle.sock_programs.specs.Beside.{found_in, at_last}
@@ -77,14 +77,14 @@ abbrev pub given_in : Taking → List ℕ
 given_in (Bytes bytes) = bytes
 given_in other = []
 
--- a link that took and gave these bytes was offered what belongs to it behind a take as well, and gave all of it where the take found nothing more
+-- a link that took and gave these bytes was offered what belongs to it behind a take as well, which found some of it, or nothing more where all was given
 pub record OffersOn (took : List ℕ) (finished : Bool) (gave : List ℕ) (before : Offer) (inn : InState) (taking : Taking) : Type 0 where
   pub offer : Offer
   pub is : inn.offer ≡ Some offer
   pub serve : offer.serve ≡ before.serve
   pub end : offer.end ≡ before.end
   pub served : IsServed took finished (gave ++ given_in taking) offer
-  pub all : GaveAll before.serve before.end took gave taking
+  pub all : GaveSo before.serve before.end took gave taking
 
 -- the reading half of link k gave this, and the link shows it
 pub record TakenFrom (old fresh : TableState) (k room : ℕ) (taking : Taking) : Type 0 where

@@ -1,4 +1,4 @@
--- What links gave of what their other ends offer, where a take finds nothing more.
+-- What links gave of what their other ends offer, at each take.
 use Rattle.std.specs.Prelude.{ℕ, ◌≡◌, ◌⊎◌, Bool, if◌then◌else◌, List, [], ◌∷◌, ◌++◌, flat_map, slice_index_or, Option}
 use mathlib.Core.Option as core
 use lib.ListN.{get_elem?}
@@ -7,7 +7,7 @@ use Rattle.brpc_model.specs.Frame.{frame_bytes}
 use Rattle.brpc_model.specs.Reply.{reply_frames}
 use Rattle.brpc_model.specs.Served.{first_of}
 use Rattle.sock_model.specs.declared.home.Home.TheVariants.{Link}
-use Rattle.sock_programs.specs.Asides.{TakeBytes, Taking, Nothing, AtEnd, Closed}
+use Rattle.sock_programs.specs.Asides.{TakeBytes, Taking, Bytes, Nothing, AtEnd, Closed}
 use Rattle.sock_programs.specs.Programs.{Program, Aside}
 use Rattle.sock_programs.specs.Cores.{Core, SeatState, link_place}
 use Rattle.sock_programs.specs.Ticks.{Answer, Moment, taken, ticked}
@@ -18,13 +18,14 @@ use Rattle.owed_calls.specs.Lives.{InHand}
 abbrev pub offered : Bool → Option ℕ → List ℕ → List ℕ
 offered serve end bytes = if serve then flat_map frame_bytes (first_of end (reply_frames bytes)) else []
 
--- Where a take finds nothing, or that the link is closed, the link gave all that is offered for what it took; where it finds the end, also for whatever
--- else it takes.
-abbrev pub GaveAll : Bool → Option ℕ → List ℕ → List ℕ → Taking → Type 0
-GaveAll serve end took gave Nothing = gave ≡ offered serve end took
-GaveAll serve end took gave AtEnd = (more : List ℕ) → gave ≡ offered serve end (took ++ more)
-GaveAll serve end took gave Closed = gave ≡ offered serve end took
-GaveAll serve end took gave other = Unit {0}
+-- A take finds some of what is offered for what the link took, in its order. Where it finds nothing, or that the link is closed, the link gave all of that;
+-- where it finds the end, also for whatever else it takes.
+abbrev pub GaveSo : Bool → Option ℕ → List ℕ → List ℕ → Taking → Type 0
+GaveSo serve end took gave (Bytes bytes) = (more : List ℕ) × ((gave ++ bytes) ++ more ≡ offered serve end took)
+GaveSo serve end took gave Nothing = gave ≡ offered serve end took
+GaveSo serve end took gave AtEnd = (more : List ℕ) → gave ≡ offered serve end (took ++ more)
+GaveSo serve end took gave Closed = gave ≡ offered serve end took
+GaveSo serve end took gave other = Unit {0}
 
 module _ (p : Plan) (k : ℕ) where
   -- link k took these bytes, wherever it lies, at home or in a seat's hand
@@ -35,7 +36,7 @@ module _ (p : Plan) (k : ℕ) where
   module _ (serve : Bool) (end : Option ℕ) where
     -- a take of it, which its other end answered so
     abbrev pub OffersAt : Core → Answer → Program → Type 0
-    OffersAt c answer (Aside (TakeBytes j room) next) = j ≡ k → (taking : Taking) → taken answer ≡ core.some taking → (took : List ℕ) × HasTaken c took × GaveAll serve end took (slice_index_or c.calls.gave k []) taking
+    OffersAt c answer (Aside (TakeBytes j room) next) = j ≡ k → (taking : Taking) → taken answer ≡ core.some taking → (took : List ℕ) × HasTaken c took × GaveSo serve end took (slice_index_or c.calls.gave k []) taking
     OffersAt c answer other = Unit {0}
 
     -- at each of these ticks
