@@ -18,6 +18,7 @@ pub struct OnCall {
 }
 
 /// Where the decision on an error stands, by whoever has the call's id locked, which has this word.
+/// bRPC's handler of an id's errors, which retries or ends the call (bthread_id.md).
 #[derive(Clone, Copy, Debug, PartialEq, Eq)]
 pub enum DecideStep {
     /// The call is taken out of its home,

@@ -9,6 +9,7 @@ use id_points::is_reused;
 use sock_words::IdWord;
 
 /// Where the end of a range stands.
+/// bRPC's `bthread_id_unlock_and_destroy` (bthread_id.md).
 #[derive(Clone, Copy, Debug, PartialEq, Eq)]
 pub enum EndStep {
     /// Every version of the range is skipped,

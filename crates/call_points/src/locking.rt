@@ -19,6 +19,7 @@ pub struct Locker {
 }
 
 /// Where the way to a lock stands.
+/// bRPC's `bthread_id_lock` (bthread_id.md).
 #[derive(Clone, Copy, Debug, PartialEq, Eq)]
 pub enum LockStep {
     /// The id's word is read.

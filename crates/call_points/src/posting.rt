@@ -13,6 +13,7 @@ use id_points::{PostTurn, judge, post_behind};
 use sock_words::IdWord;
 
 /// Where the post of an error stands.
+/// bRPC's `bthread_id_error` (bthread_id.md).
 #[derive(Clone, Copy, Debug, PartialEq, Eq)]
 pub enum PostStep {
     /// The id's word is read.

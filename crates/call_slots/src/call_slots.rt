@@ -8,6 +8,7 @@ use std::marker::Model;
 
 /// The call ids of a machine on one thread: a tag and an id word for each slot, a call word and an at word for each
 /// operation, and a home for the call of each slot. Each step takes constant time.
+/// bRPC's `bthread_id` with ranges of versions (bthread_id.md).
 #[derive(Drop)]
 pub struct CallSlots {
     plan: Plan,

@@ -12,6 +12,7 @@ use std::alloc::{AllocError, Global};
 pub type IdSeat<C> = Seat<Option<C>, View<C>>;
 
 /// The call ids that threads share, each with a content while it isn't ended.
+/// bRPC's `bthread_id` with ranges of versions (bthread_id.md).
 #[derive(Drop)]
 pub struct IdTable<C> {
     pub table: Table<Option<C>, View<C>, Plan, Rule, Global>,

@@ -12,6 +12,7 @@ use std::alloc::Global;
 use std::marker::Model;
 
 /// The reading half of a link in memory, with its other end: the built-in server, or one that gives nothing.
+/// The server answers frames of baidu_std.md.
 #[derive(Drop)]
 pub struct LoopIn {
     half: Half,

@@ -30,6 +30,7 @@ struct Connection {
 /// gives its end at once.
 ///
 /// Its `open` calls with the numbers in `fail_opens`, counted from 1, answer `Failed`.
+/// What the server reads and answers are frames of baidu_std.md.
 #[derive(Drop)]
 pub struct LoopLinker {
     alloc: Global,

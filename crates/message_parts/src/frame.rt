@@ -11,6 +11,7 @@ use std::marker::Model;
 
 /// The frame of an attempt of a call. Contracts see its bytes, and the lengths of its parts: of its header with the meta, of
 /// its payload, and of its attachment.
+/// A request of baidu_std.md: header, meta, payload and attachment behind one another.
 #[derive(Drop)]
 pub struct CallFrame {
     buf: IoBuf,
@@ -81,6 +82,7 @@ impl CallFrame {
 
 /// A frame of which a link may have taken a part from its front. Contracts see what is left of it, how many bytes were taken,
 /// and the lengths of its parts.
+/// Parts are cut from its front as `IOBuf::cut_into` does (iobuf.md).
 #[derive(Drop)]
 pub struct OutgoingFrame {
     buf: IoBuf,

@@ -25,6 +25,7 @@ impl Parcel {
 }
 
 /// The same of which a link may have taken a part from its front.
+/// Parts are cut from its front as `IOBuf::cut_into` does (iobuf.md).
 #[derive(Drop)]
 pub enum OutgoingParcel {
     Message(Outgoing),

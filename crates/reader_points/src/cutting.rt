@@ -10,6 +10,7 @@ use io_buf::NoMemory;
 use prpc_frame::{Cutter, Frame, NextFault};
 
 /// How a reader goes on behind the bytes that it took: with the response that it has in hand now, if it has one.
+/// Frames are those of baidu_std.md.
 #[derive(Drop)]
 pub struct Cut {
     pub frame: Option<Frame>,

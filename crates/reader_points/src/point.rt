@@ -12,8 +12,8 @@ pub const LIMIT: u32 = 16_777_216;
 /// How many bytes a reader takes at once at most.
 const PIECE: u32 = 4096;
 
-/// The code of a link whose other end closed it, bRPC's `ELOGOFF`, and of one that gave what is no frame, its `ERESPONSE`.
-pub const ELOGOFF: u16 = 1014;
+/// The code of a link whose other end closed it, bRPC's `EEOF`, and of one that gave what is no frame, its `ERESPONSE`.
+pub const EEOF: u16 = 1014;
 
 pub const ERESPONSE: u16 = 2002;
 
@@ -90,6 +90,7 @@ pub enum Behind {
 }
 
 /// Where the end of a call by a response stands.
+/// The id is locked, the response looked at, the range destroyed (bthread_id.md).
 #[derive(Clone, Copy)]
 pub enum AnswerStep {
     /// The call is taken out of its home,
@@ -124,6 +125,7 @@ pub enum CloseStep {
 }
 
 /// Where a reader stands in its program.
+/// A reader cuts responses out of what its link gives and ends their calls by their correlation ids (io.md, baidu_std.md).
 #[derive(Clone, Copy)]
 pub enum ReadPoint {
     /// It has nothing left to do.

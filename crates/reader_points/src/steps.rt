@@ -8,7 +8,7 @@ ghost use Rattle.reader_points.specs.Points.{Around, close_program, answer_progr
 ghost use Rattle.reader_points.specs.Steps.{step_as};
 
 use crate::point::{
-    AnswerStep, Behind, ByteCount, CloseStep, Closing, ELOGOFF, ERESPONSE, ReadPoint, ReadStep,
+    AnswerStep, Behind, ByteCount, CloseStep, Closing, EEOF, ERESPONSE, ReadPoint, ReadStep,
 };
 use call_points::Aside;
 use id_points::CallId;
@@ -19,7 +19,7 @@ impl Closing {
     pub fn code(self) -> u16
         ensures code { result ≡ code_by self.fault }
     {
-        if self.fault { ERESPONSE } else { ELOGOFF }
+        if self.fault { ERESPONSE } else { EEOF }
     }
 }
 

@@ -52,6 +52,7 @@ fn ending_by(alloc: Global, id: u64, frame: &Frame, code: i32) -> Result<Outcome
 }
 
 /// The outcome that a response gives the call with this id. It is copied.
+/// The response's code is 0 or the other end's error (baidu_std.md).
 pub fn ending(alloc: Global, id: u64, frame: &Frame) -> Result<Outcome, NoMemory>
     ensures { IfOk result (λ outcome. outcome ≡ ending_of id (frame_of frame.now)) }
 {

@@ -36,6 +36,7 @@ fn fail_socket<O: Out>(
 }
 
 /// The socket of the name is set failed with this code.
+/// bRPC's `SetFailed` (socket.cpp). The code is 1 to 4,095.
 pub fn fail_one<O: Out>(
     table: &SockTable<O>,
     seat: &mut SockSeat<O>,

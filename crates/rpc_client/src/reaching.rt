@@ -16,6 +16,7 @@ pub enum Reached {
 }
 
 /// The name is read, and its id is addressed.
+/// bRPC's `Address` (versioned_ref_with_id.h): a stale id reaches nothing.
 pub fn reach<O: Out>(table: &SockTable<O>, seat: &mut SockSeat<O>, name: u16) -> Reached
     requires may { MayAct table.now.rule.table.shared.table_id table.now.rule.plan seat.old }
     requires name { name < table.now.rule.plan.names }

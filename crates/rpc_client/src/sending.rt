@@ -145,6 +145,7 @@ fn deliver<O: Out, R: Wait>(
 }
 
 /// A message is sent to the socket of the name: what became of it, unless it was accepted.
+/// bRPC's `Socket::Write` (io.md), whose writer goes on by itself where it has the right.
 pub fn send_one<O: Out, R: Wait>(
     table: &SockTable<O>,
     rt: &R,

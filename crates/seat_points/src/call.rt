@@ -14,6 +14,7 @@ use ref_core::{add_ref, birth, claim_slot, free_slot, recycle, set_odd, sub_ref}
 use sock_words::{Kind, PlaceWord, Plan, SocketId, Ticket, Vref};
 
 /// A step of a seat: of which slot, name, operation or link it is, and what it is to store.
+/// References are counted as in versioned_ref_with_id.h, messages written as in socket.cpp.
 #[derive(Clone, Copy)]
 pub enum Call {
     /// Swap of a slot's tag with 1.

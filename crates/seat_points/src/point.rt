@@ -4,6 +4,7 @@ use id_points::{AttemptNumber, CallId};
 use sock_words::{IdWord, Outcome, SocketId, Ticket, Vref};
 
 /// An attempt of a call: the number of its operation, its id, and the number of the attempt, counted from 0.
+/// Each attempt has its version of the call's id (bthread_id.md).
 #[derive(Clone, Copy)]
 pub struct Attempt {
     pub operation: u16,
@@ -29,6 +30,7 @@ pub struct Opening {
 }
 
 /// Where an `open` stands, by the step that comes next.
+/// bRPC's `Create` (versioned_ref_with_id.h).
 #[derive(Clone, Copy)]
 pub enum OpenStep {
     /// This slot is tried.
@@ -78,6 +80,7 @@ pub enum Aim {
 }
 
 /// Where the way to a life stands.
+/// bRPC's `Address` (versioned_ref_with_id.h).
 #[derive(Clone, Copy)]
 pub enum SeekStep {
     /// The word with its id is loaded.
@@ -95,6 +98,7 @@ pub struct Failing {
 }
 
 /// Where the failing of a life stands. The word is that which the first step found.
+/// bRPC's `SetFailed` (versioned_ref_with_id.h, socket.cpp).
 #[derive(Clone, Copy)]
 pub enum FailStep {
     SetOdd,
@@ -125,6 +129,7 @@ pub enum Then {
 }
 
 /// Where the release of a reference stands.
+/// bRPC's `Dereference` (versioned_ref_with_id.h).
 #[derive(Clone, Copy)]
 pub enum ReleaseStep {
     SubRef,

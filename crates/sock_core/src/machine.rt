@@ -85,6 +85,7 @@ impl Tick {
 }
 
 /// All seats of a script, and the tables on which they step, on one thread.
+/// The sockets are those of io.md and memory_management.md, the call ids those of bthread_id.md.
 #[derive(Drop)]
 pub struct Machine<O: Out, I: In, P: Peer> {
     tables: Tables<O, I, P>,

@@ -58,6 +58,7 @@ impl<O: Out> SockTable<O> {
     }
 
     /// A socket in the first slot that is found free.
+    /// bRPC's `Create` (versioned_ref_with_id.h).
     pub fn create(
         &self,
         seat: &mut SockSeat<O>,

@@ -20,6 +20,7 @@ use sock_words::{SocketId, Vref};
 const LAST_VERSION: u32 = 4_294_967_292;
 
 /// A reference to a socket. It is given back by `release`.
+/// bRPC's `SocketUniquePtr` (memory_management.md).
 pub struct SockRef {
     pub id: SocketId,
 }
@@ -62,6 +63,7 @@ pub enum Released {
 impl<O: Out> SockTable<O> {
     /// The one exchange of whoever took the references to 0 at an odd version. Who wins it recycles the slot: it ends the
     /// writing half of its link, and gives the slot free unless its versions are used up.
+    /// bRPC's `OnRecycle` and the giving back of the slot (versioned_ref_with_id.h).
     pub fn end_life(&self, seat: &mut SockSeat<O>, at: u16, from: Vref) -> bool
         requires seat { IsSeat self.now.rule.table.shared.table_id self.now.rule.plan seat.old }
         requires slot { at < self.now.rule.plan.slots }
@@ -91,6 +93,7 @@ impl<O: Out> SockTable<O> {
 
     /// A reference goes: to the word alone where the seat has one, else to a life that it holds. True where the slot's life
     /// ended with it.
+    /// bRPC's `Dereference` (versioned_ref_with_id.h).
     pub fn give_back(&self, seat: &mut SockSeat<O>, at: u16) -> bool
         requires seat { IsSeat self.now.rule.table.shared.table_id self.now.rule.plan seat.old }
         requires slot { at < self.now.rule.plan.slots }
@@ -115,6 +118,7 @@ impl<O: Out> SockTable<O> {
     }
 
     /// A reference to the socket of this id, where it is the slot's still.
+    /// bRPC's `Address` (versioned_ref_with_id.h, memory_management.md).
     pub fn address(&self, seat: &mut SockSeat<O>, id: SocketId) -> Result<SockRef, Gone>
         requires seat { IsSeat self.now.rule.table.shared.table_id self.now.rule.plan seat.old }
         requires may { MayAddress self.now.rule.plan seat.old.me.0 id.0 }
@@ -219,6 +223,7 @@ impl<O: Out> SockTable<O> {
     }
 
     /// Fails the socket, with a code that isn't 0. Already exactly where it had been failed.
+    /// bRPC's `SetFailed` (versioned_ref_with_id.h, socket.cpp). The code is 1 to 4,095.
     pub fn set_failed(
         &self,
         seat: &mut SockSeat<O>,

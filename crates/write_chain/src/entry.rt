@@ -34,6 +34,7 @@ pub enum Refused {
 }
 
 /// The message is accepted with the request `at`, which the seat claimed just now.
+/// The exchange of bRPC's `Socket::StartWrite` and what precedes it (socket.cpp).
 pub fn accept<O: Out>(
     table: &SockTable<O>,
     seat: &mut SockSeat<O>,
@@ -79,6 +80,7 @@ pub fn accept<O: Out>(
 }
 
 /// A message is sent to a socket. It is queued behind those of others, or this seat has the right to write.
+/// bRPC's `Socket::StartWrite` up to its first write (socket.cpp, io.md): it waits for nobody.
 pub fn start<O: Out>(
     table: &SockTable<O>,
     seat: &mut SockSeat<O>,

@@ -21,6 +21,7 @@ use sock_table::{SockRef, SockTable};
 use sock_words::{PlaceWord, Ticket, Vref};
 
 /// The code of a socket whose link failed.
+/// bRPC's `EFAILEDSOCKET`.
 pub const LINK_FAILED: u16 = 1009;
 
 /// A request of this generation isn't freed: its tickets are used up.
@@ -224,6 +225,7 @@ pub fn look<O: Out>(
 }
 
 /// The link failed: so does the socket, unless it was failed before.
+/// As bRPC's `Socket::SetFailed` behind a write that failed (socket.cpp).
 pub fn fail_link<O: Out>(
     table: &SockTable<O>,
     seat: &mut SockSeat<O>,
@@ -360,6 +362,7 @@ pub fn leave_last<O: Out>(
 
 /// One put of the message that `start` accepted, of whoever has the right. Done exactly where the link took it whole and the
 /// head was emptied.
+/// The write in place of bRPC's `Socket::StartWrite` (io.md, socket.cpp).
 pub fn write_once<O: Out>(
     table: &SockTable<O>,
     seat: &mut SockSeat<O>,

@@ -116,6 +116,7 @@ pub fn ask<O: Out>(
 
 /// C5 and C6: the walk goes one entry back and turns its next word round, or stays where that isn't connected yet. Behind
 /// the old last entry the first message in order comes next, and `top` is the last ticket then.
+/// bRPC's `Socket::IsWriteComplete` (socket.cpp).
 pub fn walk_back<O: Out>(
     table: &SockTable<O>,
     seat: &mut SockSeat<O>,
@@ -269,6 +270,7 @@ pub fn go_on<O: Out>(
 /// before each message that is dropped, it looks whether the socket lives. It waits for a link that takes nothing, and for a
 /// writer that hasn't connected its request yet. After each dropped message it answers, and is called again. Where the seat
 /// found the life failed before, no message is put.
+/// bRPC's `Socket::KeepWrite` with `IsWriteComplete` (socket.cpp, io.md).
 pub fn keep_write<O: Out, R: Wait>(
     table: &SockTable<O>,
     rt: &R,
