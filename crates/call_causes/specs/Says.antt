@@ -1,6 +1,7 @@
 -- Programs that say of calls only what has its cause in what happened so far.
 use Rattle.std.specs.Prelude.{ℕ, ◌≡◌, ◌≢◌, ◌+◌, ◌<◌, ◌≤◌, ◌⊎◌, Bool, true, false, List, [], ◌∷◌, ◌++◌, slice_get, Option, Some, None}
 use Rattle.std.specs.List.{AllByRecursion}
+use Rattle.sock_words.specs.Codes.{EEOF, ERESPONSE}
 use Rattle.sock_words.specs.Words.{at_word_attempt}
 use Rattle.sock_words.specs.declared.plain.Plan.{Plan}
 use Rattle.sock_io.specs.declared.link.Put.{Put}
@@ -261,7 +262,7 @@ module _ (p : Plan) (q : IdPlan) (clients : List (List Task)) (gives : ℕ → L
   Leaves' w m (Decides id asked word e) exit m' = LeavesDecision w m id e exit m'
   Leaves' w m (Locks i sought word) exit m' = LeavesLock m i sought exit m'
   Leaves' w m (Reads r) exit m' = (s : Slot) × (bytes : List ℕ) × IsVacant s × (m' ≡ with_bytes bytes (with_slot s m)) × (exit.reading.link ≡ r.link) × (exit.reading.id ≡ r.id) × AllByRecursion (CameFrom w r.link) exit.reading.kept
-      × ((exit.code ≡ 1014) ⊎ ((exit.code ≡ 2002) × HasFaulted p q clients gives)) × (r.link < p.links)
+      × ((exit.code ≡ EEOF) ⊎ ((exit.code ≡ ERESPONSE) × HasFaulted p q clients gives)) × (r.link < p.links)
   Leaves' w m (Discards k total) exit m' = (bytes : List ℕ) × (m' ≡ with_bytes bytes m)
   Leaves' w m head exit m' = m' ≡ m
 

@@ -1,5 +1,6 @@
 -- What has happened so far that lasts, and what it tells of calls.
 use Rattle.std.specs.Prelude.{ℕ, ◌≡◌, ◌≢◌, ◌+◌, ◌<◌, ◌≤◌, ◌⊎◌, true, false, ◌∷◌, ◌++◌, List, [], slice_get, slice_index, Some, IsSome, ℤ, pos}
+use Rattle.sock_words.specs.Codes.{EEOF, EFAILEDSOCKET, EREQUESTS, ERESPONSE, ERPCTIMEDOUT}
 use Rattle.sock_words.specs.declared.plain.Plan.{Plan}
 use Rattle.sock_words.specs.declared.outcome.Outcome.{Outcome}
 use Rattle.sock_words.specs.declared.outcome.Outcome.TheVariants.{Opened, SlotsFull, Unopened, Answered, Peer, CallFailed, Expired, Queued, Late, Crowded, Joined, NotBegun}
@@ -125,10 +126,10 @@ module _ (p : Plan) (q : IdPlan) (clients : List (List Task)) (gives : ℕ → L
 
   -- a code of an error that isn't that of an `expire`
   abbrev pub IsOther : ℕ → Type 0
-  IsOther code = (code ≡ 1009) ⊎ ((code ≡ 1014) ⊎ (((code ≡ 2002) × HasFaulted) ⊎ ((code ≡ 3001) ⊎ ((1500 ≤ code) × (code ≤ 1999) × HasFail code))))
+  IsOther code = (code ≡ EFAILEDSOCKET) ⊎ ((code ≡ EEOF) ⊎ (((code ≡ ERESPONSE) × HasFaulted) ⊎ ((code ≡ EREQUESTS) ⊎ ((1500 ≤ code) × (code ≤ 1999) × HasFail code))))
 
   abbrev pub IsErrorCode : ℕ → Type 0
-  IsErrorCode code = (code ≡ 1008) ⊎ IsOther code
+  IsErrorCode code = (code ≡ ERPCTIMEDOUT) ⊎ IsOther code
 
   -- an `expire` of the call was told that it ended it, or that its error waits
   abbrev pub IsExpired : Scene → Asked → Type 0
@@ -148,13 +149,13 @@ module _ (p : Plan) (q : IdPlan) (clients : List (List Task)) (gives : ℕ → L
 
   -- why an error of the id is there: but for that of an `expire` it was posted, and for one attempt
   pub data CauseOf (w : Scene) (id e : ℕ) : Type 0 where
-    of_expiry : (asked : Asked) → e ≡ error_of 1008 WHOLE → IsBorn w id asked → IsExpired w asked → CauseOf w id e
+    of_expiry : (asked : Asked) → e ≡ error_of ERPCTIMEDOUT WHOLE → IsBorn w id asked → IsExpired w asked → CauseOf w id e
     of_other : IsOther (code_of e) → attempt_of e ≢ WHOLE → WasPosted w id e → CauseOf w id e
 
   -- why the call with this id ended with the code: by another error, where that of its last attempt was posted, and a seat decided on it
   pub data FailedIn (w : Scene) (id : ℕ) (asked : Asked) (code : ℕ) : Type 0 where
-    by_expiry : code ≡ 1008 → IsExpired w asked → FailedIn w id asked code
-    by_compression : code ≡ 2002 → IsAnsweredIn w id asked (λ frame. frame.meta.compress_type ≢ pos 0) → FailedIn w id asked code
+    by_expiry : code ≡ ERPCTIMEDOUT → IsExpired w asked → FailedIn w id asked code
+    by_compression : code ≡ ERESPONSE → IsAnsweredIn w id asked (λ frame. frame.meta.compress_type ≢ pos 0) → FailedIn w id asked code
     by_other : (n : ℕ) → IsOther code → WasPosted w id (error_of code n) → EndedAt w (record { id = id; asked = asked }) n → (is_final code ≡ true) ⊎ (n + 2 ≡ asked.range) → WasDecided w (record { id = id; asked = asked }) (error_of code n) → FailedIn w id asked code
 
   -- why a call whose range has ended has its outcome
@@ -185,7 +186,7 @@ module _ (p : Plan) (q : IdPlan) (clients : List (List Task)) (gives : ℕ → L
   abbrev pub WhyOwn : Scene → ℕ → List Task → Op → Outcome → Type 0
   WhyOwn w c before (ops.Call asked) Unopened = NoneFound w before (name_of asked 0)
   WhyOwn w c before (ops.Call asked) other = ⊥
-  WhyOwn w c before (ops.Expire t) Expired = (id : ℕ) × Said w t (CallFailed id 1008)
+  WhyOwn w c before (ops.Expire t) Expired = (id : ℕ) × Said w t (CallFailed id ERPCTIMEDOUT)
   WhyOwn w c before (ops.Expire t) Queued = HasBegunIn w c before t
   WhyOwn w c before (ops.Expire t) Late = HasBegunIn w c before t
   WhyOwn w c before (ops.Expire t) (Crowded a b) = HasBegunIn w c before t × IsErrorCode a × IsErrorCode b
@@ -207,7 +208,7 @@ module _ (p : Plan) (q : IdPlan) (clients : List (List Task)) (gives : ℕ → L
 
   -- an `expire` that was told that it ended the call said the call's outcome directly before
   abbrev pub IsJust : Scene → ℕ → Op → Outcome → Type 0
-  IsJust w o op Expired = (t id : ℕ) × (op ≡ ops.Expire t) × IsOver (record { number = o; outcome = Expired }) (record { number = t; outcome = CallFailed id 1008 }) w.sayings
+  IsJust w o op Expired = (t id : ℕ) × (op ≡ ops.Expire t) × IsOver (record { number = o; outcome = Expired }) (record { number = t; outcome = CallFailed id ERPCTIMEDOUT }) w.sayings
   IsJust w o op other = Unit {0}
 
   -- what became of a task of client c that is done, behind these tasks

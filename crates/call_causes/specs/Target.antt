@@ -1,5 +1,6 @@
 -- Why each `call`, `expire` and `join` has its outcome: what a run with calls tells of them.
 use Rattle.std.specs.Prelude.{ℕ, ◌≡◌, ◌≢◌, ◌+◌, ◌<◌, ◌≤◌, ◌⊎◌, true, false, List, [], ◌∷◌, Option, Contains, pos}
+use Rattle.sock_words.specs.Codes.{EEOF, EFAILEDSOCKET, EREQUESTS, ERESPONSE, ERPCTIMEDOUT}
 use Rattle.sock_words.specs.declared.plain.Plan.{Plan}
 use Rattle.sock_words.specs.declared.outcome.Outcome.{Outcome}
 use Rattle.sock_words.specs.declared.outcome.Outcome.TheVariants.{Unopened, Answered, Peer, CallFailed, Expired, Queued}
@@ -38,12 +39,12 @@ module _ (p : Plan) (clients : List (List Task)) (outcomes : List (Option Outcom
   -- why the call that is operation o, with this id, ended with the code, as far as it is told without its sockets: 2002 where no response was compressed is that of a link with a frame
   -- fault, 1014 that of a reading that ended, and another code, with which none but the last attempt ends, that of a `fail`, or of a socket or a table without requests
   pub data FailedInPart (last : ℕ → ℕ) (o : ℕ) (asked : Asked) (id code : ℕ) : Type 0 where
-    ByExpiry : code ≡ 1008 → IsExpiredWith p clients outcomes fixed gave orders o Expired ⊎ IsExpiredWith p clients outcomes fixed gave orders o Queued → FailedInPart last o asked id code
-    ByCompression : code ≡ 2002 → IsAnsweredBy p clients outcomes fixed gave orders asked id (λ frame. frame.meta.compress_type ≢ pos 0) → FailedInPart last o asked id code
-    ByFrameFault : code ≡ 2002 → (k : ℕ) → k < p.links → GaveFault p clients outcomes fixed gave orders k → FailedInPart last o asked id code
+    ByExpiry : code ≡ ERPCTIMEDOUT → IsExpiredWith p clients outcomes fixed gave orders o Expired ⊎ IsExpiredWith p clients outcomes fixed gave orders o Queued → FailedInPart last o asked id code
+    ByCompression : code ≡ ERESPONSE → IsAnsweredBy p clients outcomes fixed gave orders asked id (λ frame. frame.meta.compress_type ≢ pos 0) → FailedInPart last o asked id code
+    ByFrameFault : code ≡ ERESPONSE → (k : ℕ) → k < p.links → GaveFault p clients outcomes fixed gave orders k → FailedInPart last o asked id code
     ByFail : last o + 2 ≡ asked.range → 1500 ≤ code → code ≤ 1999 → (client : ℕ) (t : Task) (name : ℕ) → IsTask clients outcomes client t → t.op ≡ ops.Fail name code → FailedInPart last o asked id code
-    ByReading : code ≡ 1014 → FailedInPart last o asked id code
-    BySocketOrRequests : last o + 2 ≡ asked.range → Contains (1009 ∷ 3001 ∷ []) code → FailedInPart last o asked id code
+    ByReading : code ≡ EEOF → FailedInPart last o asked id code
+    BySocketOrRequests : last o + 2 ≡ asked.range → Contains (EFAILEDSOCKET ∷ EREQUESTS ∷ []) code → FailedInPart last o asked id code
 
   abbrev pub WhyCallInPart : (ℕ → ℕ) → ℕ → ℕ → Asked → Outcome → Type 0
   WhyCallInPart last c o asked Unopened = FoundNone p clients outcomes fixed gave orders c o (name_of asked 0)
@@ -72,14 +73,14 @@ module _ (p : Plan) (clients : List (List Task)) (outcomes : List (Option Outcom
   -- why the call that is operation o, with this id, ended with the code: by an `expire`, by a compressed response, or by an error that its id took for its last attempt, with a code that
   -- ends a call whatever retries are left, or where none is left
   abbrev pub FailedByPost : (ℕ → ℕ) → List Post → ℕ → Asked → ℕ → ℕ → Type 0
-  FailedByPost last posts o asked id code = ((code ≡ 1008) × (IsExpiredWith p clients outcomes fixed gave orders o Expired ⊎ IsExpiredWith p clients outcomes fixed gave orders o Queued))
-      ⊎ (((code ≡ 2002) × IsAnsweredBy p clients outcomes fixed gave orders asked id (λ frame. frame.meta.compress_type ≢ pos 0))
+  FailedByPost last posts o asked id code = ((code ≡ ERPCTIMEDOUT) × (IsExpiredWith p clients outcomes fixed gave orders o Expired ⊎ IsExpiredWith p clients outcomes fixed gave orders o Queued))
+      ⊎ (((code ≡ ERESPONSE) × IsAnsweredBy p clients outcomes fixed gave orders asked id (λ frame. frame.meta.compress_type ≢ pos 0))
       ⊎ (Contains posts (record { id = id; error = error_of code (last o) }) × ((is_final code ≡ true) ⊎ (last o + 2 ≡ asked.range))))
 
   -- the same, where seat j decided on the errors of decided j: on such an error some seat decided
   abbrev pub FailedByDecision : (ℕ → ℕ) → List Post → (ℕ → List Decision) → ℕ → Asked → ℕ → ℕ → Type 0
-  FailedByDecision last posts decided o asked id code = ((code ≡ 1008) × (IsExpiredWith p clients outcomes fixed gave orders o Expired ⊎ IsExpiredWith p clients outcomes fixed gave orders o Queued))
-      ⊎ (((code ≡ 2002) × IsAnsweredBy p clients outcomes fixed gave orders asked id (λ frame. frame.meta.compress_type ≢ pos 0))
+  FailedByDecision last posts decided o asked id code = ((code ≡ ERPCTIMEDOUT) × (IsExpiredWith p clients outcomes fixed gave orders o Expired ⊎ IsExpiredWith p clients outcomes fixed gave orders o Queued))
+      ⊎ (((code ≡ ERESPONSE) × IsAnsweredBy p clients outcomes fixed gave orders asked id (λ frame. frame.meta.compress_type ≢ pos 0))
       ⊎ (Contains posts (record { id = id; error = error_of code (last o) }) × ((is_final code ≡ true) ⊎ (last o + 2 ≡ asked.range)) × (j : ℕ) × In (record { id = id; asked = asked; error = error_of code (last o) }) (decided j)))
 
   -- attempt n of the call that is operation o was given up: its id, which its outcome shows, took an error for that attempt, whose code alone ends no call

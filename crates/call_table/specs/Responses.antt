@@ -1,5 +1,6 @@
 -- How a response ends a call, and which responses do.
 use Rattle.std.specs.Prelude.{ℕ, zero, ◌+◌, ◌==◌, ◌&&◌, not, Bool, nat_lt, nat_le, if◌then◌else◌, ℤ, pos, Option, Some, None}
+use Rattle.sock_words.specs.Codes.{ERESPONSE}
 use Rattle.sock_words.specs.declared.outcome.Outcome.{Outcome}
 use Rattle.sock_words.specs.declared.outcome.Outcome.TheVariants as outcomes
 use Rattle.corr_core.specs.Word.{Parts}
@@ -18,8 +19,8 @@ by_code id frame code = outcomes.Peer id code
 
 abbrev pub outcome_by : ℕ → Frame → ℤ → Option ResponseMeta → Outcome
 outcome_by id frame (pos zero) (Some r) = by_code id frame r.code
-outcome_by id frame (pos zero) None = outcomes.CallFailed id 2002
-outcome_by id frame compressed r = outcomes.CallFailed id 2002
+outcome_by id frame (pos zero) None = outcomes.CallFailed id ERESPONSE
+outcome_by id frame compressed r = outcomes.CallFailed id ERESPONSE
 
 abbrev pub ending_of : ℕ → Frame → Outcome
 ending_of id frame = outcome_by id frame frame.meta.compress_type frame.meta.response
@@ -39,7 +40,7 @@ abbrev pub response_ending : frames.Frame → Ending
 response_ending frame = told_by frame frame.meta.compress_type frame.meta.response
 
 abbrev pub outcome_of : ℕ → Ending → Outcome
-outcome_of id Unread = outcomes.CallFailed id 2002
+outcome_of id Unread = outcomes.CallFailed id ERESPONSE
 outcome_of id (Answered payload attachment) = outcomes.Answered id payload.items attachment.items
 outcome_of id (Peer code) = outcomes.Peer id code
 

@@ -1,6 +1,8 @@
 ghost use Rattle.std.specs.Prelude.{◌≡◌};
 ghost use Rattle.call_table.specs.Errors.{is_final, decision_of};
 
+use sock_words::{EEOF, EINTERNAL, ERESPONSE, ERPCTIMEDOUT};
+
 /// What is done about an error of a call.
 #[derive(Clone, Copy, Debug, PartialEq, Eq)]
 pub enum Decision {
@@ -24,9 +26,9 @@ pub fn on_error(range: u8, current: u8, code: u16, whole: bool) -> Decision
     }
 }
 
-// Whether the code ends a call whatever attempts are left: ERPCTIMEDOUT, the end of a reading, EINTERNAL and ERESPONSE.
+// Whether the code ends a call whatever attempts are left.
 fn ends_always(code: u16) -> bool
     ensures { result ≡ is_final code }
 {
-    code == 1008 || code == 1014 || code == 2001 || code == 2002
+    code == ERPCTIMEDOUT || code == EEOF || code == EINTERNAL || code == ERESPONSE
 }

@@ -5,23 +5,22 @@ ghost use Rattle.sock_programs.specs.Posts.{ends_call, is_final};
 ghost use Rattle.sock_programs.specs.Readers.{is_early};
 
 use crate::error::IdError;
-use sock_words::IdWord;
+use sock_words::{EEOF, EINTERNAL, ERESPONSE, ERPCTIMEDOUT, IdWord};
 
 /// A slot whose next first version would be above this is given up for good.
 const LAST_FIRST: u32 = 67_108_848;
 
 /// Whether an error ends its call: it concerns the whole call, no attempt is left, or its code is one that ends it whatever
-/// retries are left: 1008 (its time is over), 1014 (the other end closed), 2001 (want of memory) or 2002 (a response that
-/// can't be read).
+/// retries are left: `ERPCTIMEDOUT` (1008), `EEOF` (1014), `EINTERNAL` (2001: want of memory) or `ERESPONSE` (2002).
 pub fn ends_call(word: IdWord, error: IdError) -> bool
     ensures { result ≡ ends_call (parts word.0) error.0 }
 {
     let code = error.code();
     error.is_whole()
-        || code == 1008
-        || code == 1014
-        || code == 2001
-        || code == 2002
+        || code == ERPCTIMEDOUT
+        || code == EEOF
+        || code == EINTERNAL
+        || code == ERESPONSE
         || word.attempt() + 2 == word.range()
 }
 

@@ -1,5 +1,6 @@
 -- What the reader of a link has still to do, by the point at which it stands: its program from each of its steps on.
 use Rattle.std.specs.Prelude.{ℕ, ◌≡◌, ◌≤◌, ◌-◌, ◌==◌, Bool, true, false, min, nat_lt, if◌then◌else◌, List, [], ◌∷◌, ◌++◌, length, drop, Option, Some, None, pos}
+use Rattle.sock_words.specs.Codes.{EEOF, ERESPONSE}
 use Rattle.sock_words.specs.Words.{socket_id_slot, socket_id_version, at_word_link, at_word_slot, at_word_first, at_word_attempt}
 use Rattle.sock_words.specs.declared.outcome.Outcome.TheVariants.{CallFailed}
 use Rattle.corr_core.specs.Word.{parts, error_of}
@@ -56,7 +57,7 @@ count_of n = min n.0 LIMIT
 
 -- the code with which a reading ends
 abbrev pub code_by : Bool → ℕ
-code_by fault = if fault then 2002 else 1014
+code_by fault = if fault then ERESPONSE else EEOF
 
 -- the error that ends a lost call: the reading's code, for its attempt
 abbrev pub error_in : Lost → ℕ

@@ -15,7 +15,7 @@ pub mod steps;
 pub use cutting::Cut;
 pub use keeping::first_kept;
 pub use point::{
-    AnswerStep, Behind, ByteCount, CloseStep, Closing, ERESPONSE, FailStep, Lost, ReadNext,
-    ReadPoint, ReadStep, Reader, Taken,
+    AnswerStep, Behind, ByteCount, CloseStep, Closing, FailStep, Lost, ReadNext, ReadPoint,
+    ReadStep, Reader, Taken,
 };
 pub use reading::discarded;

@@ -12,11 +12,6 @@ pub const LIMIT: u32 = 16_777_216;
 /// How many bytes a reader takes at once at most.
 const PIECE: u32 = 4096;
 
-/// The code of a link whose other end closed it, bRPC's `EEOF`, and of one that gave what is no frame, its `ERESPONSE`.
-pub const EEOF: u16 = 1014;
-
-pub const ERESPONSE: u16 = 2002;
-
 /// How many bytes came over a link, at most `LIMIT`.
 #[derive(Clone, Copy)]
 pub struct ByteCount(u32);

@@ -7,12 +7,11 @@ ghost use Rattle.seat_points.specs.Steps.{OfCall, step_of, first_in};
 ghost use Rattle.reader_points.specs.Points.{Around, close_program, answer_program, point_program, code_by, room, GoesBy};
 ghost use Rattle.reader_points.specs.Steps.{step_as};
 
-use crate::point::{
-    AnswerStep, Behind, ByteCount, CloseStep, Closing, EEOF, ERESPONSE, ReadPoint, ReadStep,
-};
+use crate::point::{AnswerStep, Behind, ByteCount, CloseStep, Closing, ReadPoint, ReadStep};
 use call_points::Aside;
 use id_points::CallId;
 use seat_points::Call;
+use sock_words::{EEOF, ERESPONSE};
 
 impl Closing {
     /// The code with which the reading ends.

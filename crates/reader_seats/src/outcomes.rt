@@ -6,8 +6,8 @@ ghost use Rattle.reader_points.specs.Points.{code_by};
 
 use io_buf::{IoBuf, NoMemory};
 use prpc_frame::Frame;
-use reader_points::{ERESPONSE, Lost};
-use sock_words::{OutBytes, Outcome};
+use reader_points::Lost;
+use sock_words::{ERESPONSE, OutBytes, Outcome};
 use std::alloc::Global;
 
 /// The operation of this number has this outcome.

@@ -1,5 +1,6 @@
 -- What a seat has still to do, by the point at which it stands: the programs of the operations from each of their steps on.
 use Rattle.std.specs.Prelude.{ℕ, ◌≡◌, IsTrue, ◌+◌, ◌-◌, ◌*◌, ◌/◌, ◌%◌, ◌==◌, ◌||◌, not, ◌<◌, ◌≤◌, Bool, true, false, nat_lt, nat_le, if◌then◌else◌, List, [], ◌∷◌, ◌++◌, length, drop, Option, Some, None}
+use Rattle.sock_words.specs.Codes.{EEOF, EFAILEDSOCKET, EREQUESTS}
 use Rattle.sock_words.specs.Words.{socket_id, socket_id_version, socket_id_slot, vref_version, at_word}
 use Rattle.sock_words.specs.declared.socket_id.SocketId.{SocketId}
 use Rattle.sock_words.specs.declared.ticket.Ticket.{Ticket}
@@ -200,7 +201,7 @@ module _ (a : Around) where
   then_program (thens.Full o) freed = Say o Full client_on
   then_program (thens.Sent o) freed = Sent o client_on
   then_program thens.GaveBack freed = client_on
-  then_program (thens.Unreached t) freed = post (id_of t.id) 1009 (number_of t.number) client_on
+  then_program (thens.Unreached t) freed = post (id_of t.id) EFAILEDSOCKET (number_of t.number) client_on
   then_program thens.Ended freed = a.ends
 
   -- ## Releasing
@@ -226,7 +227,7 @@ module _ (a : Around) where
   -- where each request was found taken
   abbrev pub full_program : Author → ℕ → Program
   full_program (authors.Send o) id = release (socket_id_slot id) (then_program (thens.Full o))
-  full_program (authors.Attempt t) id = post (id_of t.id) 3001 (number_of t.number) (release (socket_id_slot id) (then_program thens.GaveBack))
+  full_program (authors.Attempt t) id = post (id_of t.id) EREQUESTS (number_of t.number) (release (socket_id_slot id) (then_program thens.GaveBack))
 
   abbrev pub connect_program : Sending → ℕ → ℕ → Program
   connect_program s q before = Do (calls.Connect q before) (λ _. sent_program s.author s.id.0)
@@ -249,7 +250,7 @@ module _ (a : Around) where
   -- where the life was found failed
   abbrev pub failed_look : Author → ℕ → ℕ → Program
   failed_look (authors.Send o) id found = release (socket_id_slot id) (then_program (thens.Gone o (record { 0 = found })))
-  failed_look (authors.Attempt t) id found = post (id_of t.id) 1009 (number_of t.number) (release (socket_id_slot id) (then_program thens.GaveBack))
+  failed_look (authors.Attempt t) id found = post (id_of t.id) EFAILEDSOCKET (number_of t.number) (release (socket_id_slot id) (then_program thens.GaveBack))
 
   -- the life is held, and its word is looked at
   abbrev pub look_program : Author → ℕ → Program
@@ -323,8 +324,8 @@ module _ (a : Around) where
     write_program (writes.Look c asked) = puts_program c asked
     write_program (writes.Put c asked) = put_piece c asked
     write_program (writes.Ask c) = Write (heads.Waits (holder_of w.holder) c.ticket.0 (heading_by c.author a.left_parts) a.left a.taken) written_program
-    write_program (writes.SetOdd c) = set_failed w.holder.id.0 1009 (λ _. puts_program c false)
-    write_program (writes.StoreCode c) = Do (calls.StoreCode (socket_id_slot w.holder.id.0) (socket_id_version w.holder.id.0) 1009) (λ _. give_program c)
+    write_program (writes.SetOdd c) = set_failed w.holder.id.0 EFAILEDSOCKET (λ _. puts_program c false)
+    write_program (writes.StoreCode c) = Do (calls.StoreCode (socket_id_slot w.holder.id.0) (socket_id_version w.holder.id.0) EFAILEDSOCKET) (λ _. give_program c)
     write_program (writes.GiveBack c) = give_program c
     write_program (writes.StorePlace c) = Do (calls.StorePlace (place_by c.author) w.holder.link w.holder.places) (λ _. passed (one_more (holder_of w.holder)) c.ticket.0 written_program)
     write_program (writes.LoadCode c) = Do (calls.LoadCode (socket_id_slot w.holder.id.0) (socket_id_version w.holder.id.0)) (λ n. drop_program c n)
@@ -354,7 +355,7 @@ module _ (a : Around) where
   reached_program (aims.Hold o name) id = Say o Held (a.goes_on (a.held ++ (record { name = name; id = id.0 }) ∷ []))
   reached_program (aims.Send o name) id = send_program (record { author = authors.Send o; id = id }) sends.Look
   reached_program (aims.Fail o name code) id = fail_program (record { id = id; code = code; operation = Some o }) fails.SetOdd
-  reached_program (aims.End o) id = fail_program (record { id = id; code = 1014; operation = None }) fails.SetOdd
+  reached_program (aims.End o) id = fail_program (record { id = id; code = EEOF; operation = None }) fails.SetOdd
 
   abbrev pub seek_program : Aim → SeekStep → Program
   seek_program (aims.Hold o name) seeks.Load = hold o name (λ id. a.goes_on (a.held ++ (record { name = name; id = id }) ∷ [])) client_on

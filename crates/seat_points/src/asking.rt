@@ -12,16 +12,7 @@ use crate::point::{After, Attempt, Author, Next, Point, ReleaseStep, Then};
 use crate::releasing::releasing;
 use call_points::{DecideNext, DecideStep, OnCall, PostStep};
 use id_points::{IdError, PostTurn};
-use sock_words::Outcome;
-
-/// The code of a socket whose link failed, bRPC's `EFAILEDSOCKET`.
-pub const EFAILEDSOCKET: u16 = 1009;
-
-/// The code of an attempt that found each request taken; this project's own.
-pub const EREQUESTS: u16 = 3001;
-
-/// The code of a call whose time is over, bRPC's `ERPCTIMEDOUT`.
-pub const ERPCTIMEDOUT: u16 = 1008;
+use sock_words::{EFAILEDSOCKET, Outcome};
 
 /// An error is posted, and this follows.
 pub fn posting(error: OnCall, after: After) -> Next

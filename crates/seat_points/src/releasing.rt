@@ -3,9 +3,9 @@ ghost use Rattle.sock_programs.specs.Programs.{Program, fail_outcome};
 ghost use Rattle.call_points.specs.Steps.{after_word};
 ghost use Rattle.seat_points.specs.Points.{Around, release_on, released_on, release_program, next_program, then_program, MayFindIn, release_left, released_link, link_behind, link_left};
 
-use crate::asking::{EFAILEDSOCKET, posting};
+use crate::asking::posting;
 use crate::point::{After, Next, Point, ReleaseStep, Released, Then};
-use sock_words::{Outcome, Vref};
+use sock_words::{EFAILEDSOCKET, Outcome, Vref};
 
 /// The last version that a slot may be given again with.
 const LAST_VERSION: u32 = 4_294_967_292;

@@ -8,12 +8,12 @@ ghost use Rattle.id_points.specs.Ids.{id_of, number_of};
 ghost use Rattle.seat_points.specs.Points.{Around, client_on, locker_of, retry_program, join_program, next_program, with_asked, with_frame, HasRetry, MayLock, RetriesByWord, MayFindId, MayFindJoined, link_behind};
 ghost use Rattle.seat_points.specs.Steps.{first_in, step_as};
 
-use crate::asking::{EFAILEDSOCKET, ERPCTIMEDOUT, posting};
+use crate::asking::posting;
 use crate::call::Call;
 use crate::point::{After, Attempt, AttemptStep, JoinStep, Next, Point, RetryStep, Retrying, Step};
 use call_points::{Aside, DecideStep, LockStep, Locker, OnCall};
 use id_points::{CallId, IdError, LockTurn, Sought, UnlockTurn, is_awaited, unlock_behind};
-use sock_words::{IdWord, Outcome, SocketId};
+use sock_words::{EFAILEDSOCKET, ERPCTIMEDOUT, IdWord, Outcome, SocketId};
 
 impl Retrying {
     /// A retry comes to this step.

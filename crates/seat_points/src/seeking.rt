@@ -8,10 +8,7 @@ use crate::point::{
 };
 use crate::releasing::releasing;
 use crate::steps::NO_SOCKET;
-use sock_words::{Outcome, SocketId, Vref};
-
-/// The code with which the ending sets sockets failed, bRPC's `EEOF`.
-const EEOF: u16 = 1014;
+use sock_words::{EEOF, Outcome, SocketId, Vref};
 
 impl Failing {
     /// What follows the failing of a life that found this word.

@@ -4,14 +4,14 @@ ghost use Rattle.call_points.specs.Steps.{after_word};
 ghost use Rattle.seat_points.specs.Points.{Around, client_on, place_by, claims_program, full_program, failed_look, look_program, sent_then, point_program, send_program, first_program, next_program, after_message, with_message, IsOneOfRequests, MayFindOf, SendsByWord, link_at, link_behind};
 ghost use Rattle.seat_points.specs.Steps.{first_in, step_as};
 
-use crate::asking::{EFAILEDSOCKET, EREQUESTS, posting};
+use crate::asking::posting;
 use crate::call::Call;
 use crate::point::{
     After, Author, Current, Holder, Next, Point, ReleaseStep, SendStep, Sending, Step, Then,
     WriteStep, Writer,
 };
 use crate::releasing::releasing;
-use sock_words::{Ticket, Vref};
+use sock_words::{EFAILEDSOCKET, EREQUESTS, Ticket, Vref};
 
 impl Author {
     /// What follows the release of the life behind its message, which was accepted.

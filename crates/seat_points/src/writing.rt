@@ -6,7 +6,7 @@ ghost use Rattle.call_points.specs.Steps.{after_word};
 ghost use Rattle.seat_points.specs.Points.{Around, point_program, write_program, written_program, holder_of, next_message, told, behind_drop, freed_program, taken_again, next_program, after_message, after_link, after_put, after_ready, with_message, with_put, is_whole, HasPlaceLeft, MayFindWriting, TellsCode, WritesByWord, link_behind};
 ghost use Rattle.seat_points.specs.Steps.{first_in, step_as};
 
-use crate::asking::{EFAILEDSOCKET, posting};
+use crate::asking::posting;
 use crate::call::Call;
 use crate::point::{
     After, Author, Current, Holder, Next, Point, ReleaseStep, Step, WriteStep, Writer,
@@ -14,7 +14,7 @@ use crate::point::{
 use crate::releasing::releasing;
 use call_points::OnCall;
 use sock_io::{Put, Ready};
-use sock_words::{Ticket, Vref};
+use sock_words::{EFAILEDSOCKET, Ticket, Vref};
 
 /// The next word of a request that isn't connected yet.
 const UNCONNECTED: u64 = u64::MAX;

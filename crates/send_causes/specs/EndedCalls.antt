@@ -1,5 +1,6 @@
 -- Why readers post errors: the reading of their link ended, and they loaded the word that tells where an attempt of a call went.
 use Rattle.std.specs.Prelude.{ℕ, ◌≡◌, ◌≢◌, ◌+◌, ◌⊎◌, if◌then◌else◌, nat_le, List, [], ◌∷◌, Contains}
+use Rattle.sock_words.specs.Codes.{EEOF, ERESPONSE}
 use mathlib.Core.Option.{Option, none, some}
 use lib.ListN.{get_elem?}
 use Rattle.sock_words.specs.Words.{at_word_first, at_word_slot, at_word_link, at_word_attempt}
@@ -57,8 +58,8 @@ module _ (script : List Item) (turns : List Turn) (end_ : Core) (is : IsRunWithC
 
   -- the reading of link k ended with this code
   abbrev pub EndedSo : ℕ → ℕ → Type 0
-  EndedSo k code = ((code ≡ 1014) × (Contains (early_of_run script turns end_ is) k ⊎ (Contains (closed_of_run script turns end_ is) k ⊎ Contains (silent_of_run script turns end_ is) k)))
-      ⊎ ((code ≡ 2002) × HasFault (given end_ k))
+  EndedSo k code = ((code ≡ EEOF) × (Contains (early_of_run script turns end_ is) k ⊎ (Contains (closed_of_run script turns end_ is) k ⊎ Contains (silent_of_run script turns end_ is) k)))
+      ⊎ ((code ≡ ERESPONSE) × HasFault (given end_ k))
 
   -- the reader of link k posted the error for the at word of operation o, which names its link
   pub record IsEndPost (k o word code : ℕ) (x : Post) : Type 0 where

@@ -1,6 +1,7 @@
 -- Why clients post errors: they were refused an attempt that they tried, or dropped a message.
 use Rattle.std.specs.Prelude.{ℕ, ◌≡◌, ◌≢◌, ◌+◌, ◌%◌, ◌<◌, ◌≤◌, ◌⊎◌, ◌==◌, if◌then◌else◌, Bool, true, false, nat_le, List, [], ◌∷◌, ◌++◌, length, map, replicate}
 use Rattle.std.specs.List.{AllByRecursion}
+use Rattle.sock_words.specs.Codes.{EEOF, EFAILEDSOCKET, EREQUESTS, ERESPONSE, ERPCTIMEDOUT}
 use mathlib.Core.Option.{some}
 use lib.ListN.{get_elem?}
 use Rattle.sock_words.specs.declared.plain.Plan.{Plan}
@@ -74,7 +75,7 @@ pub data FoundLost (o name n : ℕ) (deeds : List Deed) : Type 0 where
 
 -- attempt n of the call was refused with the code, over a table of so many requests
 abbrev pub WhyRefused : ℕ → Asked → ℕ → ℕ → List Deed → Type 0
-WhyRefused requests asked n code deeds = ((code ≡ 3001) × FoundTaken requests deeds) ⊎ ((code ≡ 1009) × FoundLost asked.operation (name_of asked n) n deeds)
+WhyRefused requests asked n code deeds = ((code ≡ EREQUESTS) × FoundTaken requests deeds) ⊎ ((code ≡ EFAILEDSOCKET) × FoundLost asked.operation (name_of asked n) n deeds)
 
 -- where the words that it finds are right, the program stores the at word of attempt n of the call with this id, as one of operation o
 abbrev pub WouldStore : ℕ → ℕ → ℕ → Program → Type 0
@@ -136,17 +137,17 @@ module _ (requests : ℕ) (is_call : Asked → Type 0) (reads : Bool) where
   -- ## Posts
 
   abbrev pub IsReaders : ℕ → Type 0
-  IsReaders e = (n : ℕ) × ((e ≡ error_of 1014 n) ⊎ (e ≡ error_of 2002 n))
+  IsReaders e = (n : ℕ) × ((e ≡ error_of EEOF n) ⊎ (e ≡ error_of ERESPONSE n))
 
   -- the error that a seat with the charge posts to the id
   abbrev pub IsChargeOf : Charge → ℕ → ℕ → Type 0
   IsChargeOf NoCharge id e = ⊥
   IsChargeOf (IsRefused i n code) id e = (i ≡ id) × (e ≡ error_of code n)
-  IsChargeOf (HasDropped heading code) id e = (heading.owner ≢ 0) × (heading.owner ≡ id) × (e ≡ error_of (if code == 0 then 1009 else code) heading.attempt)
+  IsChargeOf (HasDropped heading code) id e = (heading.owner ≢ 0) × (heading.owner ≡ id) × (e ≡ error_of (if code == 0 then EFAILEDSOCKET else code) heading.attempt)
 
   -- a reader posts how its link ended, a client that a call expired, or what it is charged with
   abbrev pub IsPostOf : Charge → ℕ → ℕ → Type 0
-  IsPostOf due id e = ((reads ≡ true) × IsReaders e) ⊎ (((reads ≡ false) × (e ≡ error_of 1008 WHOLE)) ⊎ ((reads ≡ false) × IsChargeOf due id e))
+  IsPostOf due id e = ((reads ≡ true) × IsReaders e) ⊎ (((reads ≡ false) × (e ≡ error_of ERPCTIMEDOUT WHOLE)) ⊎ ((reads ≡ false) × IsChargeOf due id e))
 
   abbrev pub MayPost : Charge → Step → Type 0
   MayPost due (PostId i from e) = IsPostOf due (call_id i (parts from).first) e
@@ -165,7 +166,7 @@ module _ (requests : ℕ) (is_call : Asked → Type 0) (reads : Bool) where
 
   -- a reading ends with one of these codes
   abbrev pub LeavesCode : (head : Head) → Exit head → Type 0
-  LeavesCode (Reads r) exit = (exit.code ≡ 1014) ⊎ (exit.code ≡ 2002)
+  LeavesCode (Reads r) exit = (exit.code ≡ EEOF) ⊎ (exit.code ≡ ERESPONSE)
   LeavesCode other exit = Unit {0}
 
   abbrev pub doing_behind : (head : Head) → Exit head → Doing → Doing
@@ -269,11 +270,11 @@ pub record IsDrop (heading : Heading) (code : ℕ) (deeds : List Deed) : Type 0 
 -- why seat j posted the error: Did tells what each seat did, and Gone of which attempts nothing is left
 pub data PostKind (requests : ℕ) (is_call : Asked → Type 0) (ids : ℕ → ℕ) (Did : ℕ → Deed → Type 0) (Gone : ℕ → ℕ → Type 0) (j : ℕ) (x : Post) : Type 0 where
   -- the readers' seats begin at 32
-  ByReader : (n : ℕ) → 32 ≤ j → (x.error ≡ error_of 1014 n) ⊎ (x.error ≡ error_of 2002 n) → PostKind requests is_call ids Did Gone j x
-  ByExpiry : j < 32 → x.error ≡ error_of 1008 WHOLE → PostKind requests is_call ids Did Gone j x
+  ByReader : (n : ℕ) → 32 ≤ j → (x.error ≡ error_of EEOF n) ⊎ (x.error ≡ error_of ERESPONSE n) → PostKind requests is_call ids Did Gone j x
+  ByExpiry : j < 32 → x.error ≡ error_of ERPCTIMEDOUT WHOLE → PostKind requests is_call ids Did Gone j x
   ByRefusal : (n code : ℕ) (deeds : List Deed) → j < 32 → AllByRecursion (Did j) deeds → IsRefusal requests is_call ids x.id n code deeds → Gone x.id n → x.error ≡ error_of code n → PostKind requests is_call ids Did Gone j x
   ByDrop : (heading : Heading) (code : ℕ) (deeds : List Deed) → j < 32 → AllByRecursion (Did j) deeds → IsDrop heading code deeds → heading.owner ≢ 0 → heading.owner ≡ x.id
-      → x.error ≡ error_of (if code == 0 then 1009 else code) heading.attempt → PostKind requests is_call ids Did Gone j x
+      → x.error ≡ error_of (if code == 0 then EFAILEDSOCKET else code) heading.attempt → PostKind requests is_call ids Did Gone j x
 
 -- ## The law
 

@@ -1,6 +1,7 @@
 -- The programs on calls: a call with its first attempt, a retry, `expire`, `join` (bRPC's bthread_id.md: `bthread_id_create_ranged`,
 -- `bthread_id_join`; baidu_std.md for the frame).
 use Rattle.std.specs.Prelude.{ℕ, zero, suc, ◌+◌, ◌-◌, ◌*◌, ◌/◌, ◌%◌, ◌==◌, List, None, false, if◌then◌else◌}
+use Rattle.sock_words.specs.Codes.{EFAILEDSOCKET, EREQUESTS, ERPCTIMEDOUT}
 use Rattle.sock_words.specs.Words.{socket_id_version, socket_id_slot, vref_version, at_word}
 use Rattle.sock_words.specs.declared.outcome.Outcome.{Outcome}
 use Rattle.sock_words.specs.declared.outcome.Outcome.TheVariants.{Unopened, Expired, Queued, Late, Crowded, Joined, NotBegun}
@@ -33,9 +34,9 @@ abbrev pub attempt : ℕ → Asked → ℕ → ℕ → ℕ → Program → Progr
 attempt requests asked id n socket next = let i = socket_id_slot socket in
     address socket (Do (FindLink i (socket_id_version socket)) (λ k. Aside (StoreAt asked.operation (at_word (id_first id) (id_slot id) k n)) (λ _. Do (LookWord socket) (λ found.
     if vref_version found % 2 == 0
-    then claims_from requests 0 socket (heading_for asked id n) (frame_of asked id n) (post id 3001 n (release i (λ _. next))) (release i (λ _. next))
-    else post id 1009 n (release i (λ _. next))))))
-    (λ _. post id 1009 n next)
+    then claims_from requests 0 socket (heading_for asked id n) (frame_of asked id n) (post id EREQUESTS n (release i (λ _. next))) (release i (λ _. next))
+    else post id EFAILEDSOCKET n (release i (λ _. next))))))
+    (λ _. post id EFAILEDSOCKET n next)
 
 -- ## Operations
 
@@ -57,7 +58,7 @@ call requests ids asked next = Do (LoadName (name_of asked 0)) (λ word.
 -- a retry that waited
 abbrev pub tried_again : ℕ → ℕ → ℕ → Asked → Program → Unlocking → Program
 tried_again requests id n asked next (IsOpen w) = Do (LoadName (name_of asked n)) (λ word.
-    if word == 0 then post id 1009 n next else attempt requests asked id n (word - 1) next)
+    if word == 0 then post id EFAILEDSOCKET n next else attempt requests asked id n (word - 1) next)
 tried_again requests id n asked next (HasNext w e) = decide id w e (decided id next)
 
 abbrev pub retry_locked : ℕ → ℕ → ℕ → Program → Locking → Program
@@ -78,7 +79,7 @@ expire_outcome (HasLocked w) = Expired
 
 abbrev pub expire : ℕ → ℕ → Program → Program
 expire o t next = Aside (LoadCall t) (λ id. if id == 0 then Say o NotBegun next else
-    let e = error_of 1008 WHOLE in post_with id e (λ how. posted id e (Say o (expire_outcome how) next) how))
+    let e = error_of ERPCTIMEDOUT WHOLE in post_with id e (λ how. posted id e (Say o (expire_outcome how) next) how))
 
 abbrev pub join : ℕ → ℕ → Program → Program
 join o t next = Aside (LoadCall t) (λ id. if id == 0 then Say o NotBegun next else Round (Joins id) (λ _. Say o Joined next))

@@ -1,6 +1,7 @@
 -- Errors of calls: posted to an id, decided on, and the loops that give a lock back or get one (bRPC's bthread_id.md: `bthread_id_error`,
 -- `bthread_id_lock`, `bthread_id_unlock`, `bthread_id_unlock_and_destroy`).
 use Rattle.std.specs.Prelude.{ℕ, ◌+◌, ◌-◌, ◌*◌, ◌==◌, ◌&&◌, ◌||◌, not, Bool, true, false, nat_lt, nat_le, if◌then◌else◌, Option, Some, None}
+use Rattle.sock_words.specs.Codes.{EEOF, EINTERNAL, ERESPONSE, ERPCTIMEDOUT}
 use Rattle.sock_words.specs.declared.outcome.Outcome.TheVariants.{CallFailed}
 use Rattle.corr_core.specs.Word.{Parts, parts, error_of, code_of, attempt_of, posted_word, unlocked_word}
 use Rattle.corr_core.specs.Law.{LAST}
@@ -74,7 +75,7 @@ unlocks_round i from advance k = Aside (UnlockId i from advance) (λ found.
 
 -- a code that ends a call whatever retries are left
 abbrev pub is_final : ℕ → Bool
-is_final code = (code == 1008) || ((code == 1014) || ((code == 2001) || (code == 2002)))
+is_final code = (code == ERPCTIMEDOUT) || ((code == EEOF) || ((code == EINTERNAL) || (code == ERESPONSE)))
 
 abbrev pub ends_call : Parts → ℕ → Bool
 ends_call w e = (attempt_of e == WHOLE) || (is_final (code_of e) || (w.attempt + 2 == w.range))

@@ -1,5 +1,6 @@
 -- The program of each operation: a tree of steps, which goes on by the word that each step found.
 use Rattle.std.specs.Prelude.{ℕ, zero, suc, ◌+◌, ◌-◌, ◌%◌, ◌^◌, ◌==◌, ◌&&◌, Bool, true, false, List, nat_le, if◌then◌else◌}
+use Rattle.sock_words.specs.Codes.{EEOF}
 use Rattle.sock_words.specs.Words.{socket_id, socket_id_version, socket_id_slot, vref_version, vref_nref}
 use Rattle.sock_words.specs.declared.outcome.Outcome.{Outcome}
 use Rattle.sock_words.specs.declared.outcome.Outcome.TheVariants.{Opened, SlotsFull, Unopened, Gone, Held, Freed, Kept, Failed, Already}
@@ -122,4 +123,4 @@ drop_held o id next = release (socket_id_slot id) (λ freed. Say o (if freed the
 abbrev pub end_open : ℕ → Program → Program
 end_open o next = Do (LoadOpen o) (λ word.
     if (word == 0) then next else if word == NO_SOCKET then next else
-    address (word - 1) (set_failed (word - 1) 1014 (λ _. release (socket_id_slot (word - 1)) (λ _. next))) (λ _. next))
+    address (word - 1) (set_failed (word - 1) EEOF (λ _. release (socket_id_slot (word - 1)) (λ _. next))) (λ _. next))

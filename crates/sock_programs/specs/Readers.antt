@@ -1,5 +1,6 @@
 -- The program of the reader of a link (bRPC's baidu_std.md for frames and correlation ids, bthread_id.md for who ends a call).
 use Rattle.std.specs.Prelude.{ℕ, ◌+◌, ◌-◌, ◌==◌, ◌&&◌, Bool, true, false, List, [], ◌∷◌, ◌++◌, length, drop, filter, nat_lt, nat_le, min, if◌then◌else◌, ℤ, pos, zero, Option, Some, None}
+use Rattle.sock_words.specs.Codes.{EEOF, ERESPONSE}
 use Rattle.sock_words.specs.Words.{socket_id_slot, at_word_first, at_word_slot, at_word_link, at_word_attempt}
 use Rattle.sock_words.specs.declared.outcome.Outcome.{Outcome}
 use Rattle.sock_words.specs.declared.outcome.Outcome.TheVariants.{Answered, Peer, CallFailed}
@@ -25,8 +26,8 @@ by_code id frame code = Peer id code
 -- the outcome that a response gives the call with this id
 abbrev pub outcome_by : ℕ → Frame → ℤ → Option ResponseMeta → Outcome
 outcome_by id frame (pos zero) (Some r) = by_code id frame r.code
-outcome_by id frame (pos zero) None = CallFailed id 2002
-outcome_by id frame compressed r = CallFailed id 2002
+outcome_by id frame (pos zero) None = CallFailed id ERESPONSE
+outcome_by id frame compressed r = CallFailed id ERESPONSE
 
 abbrev pub ending_of : ℕ → Frame → Outcome
 ending_of id frame = outcome_by id frame frame.meta.compress_type frame.meta.response
@@ -75,8 +76,8 @@ ended_by code closed fault r = record { code = code; closed = closed; fault = fa
 -- behind the frames of the bytes: a rest, so that the reading goes on below its limit, or a fault
 abbrev pub read_on : Reading → List ℕ → streams.Ending → (Ended → Program) → Program
 read_on r bytes (streams.Rest n) k = let r' = record r { rest = last_of n bytes } in
-    if nat_lt r.total LIMIT then Round (Reads r') k else k (ended_by 1014 false false r')
-read_on r bytes (streams.Fault at fault) k = k (ended_by 2002 false true r)
+    if nat_lt r.total LIMIT then Round (Reads r') k else k (ended_by EEOF false false r')
+read_on r bytes (streams.Fault at fault) k = k (ended_by ERESPONSE false true r)
 
 abbrev pub took_bytes : Reading → List ℕ → (Ended → Program) → Program
 took_bytes r bytes k = let all = r.rest ++ bytes in let s = streams.stream all in
@@ -85,8 +86,8 @@ took_bytes r bytes k = let all = r.rest ++ bytes in let s = streams.stream all i
 abbrev pub took : Reading → (Ended → Program) → Taking → Program
 took r k (Bytes bytes) = took_bytes r bytes k
 took r k Nothing = Round (Reads r) k
-took r k Closed = k (ended_by 1014 true false r)
-took r k other = k (ended_by 1014 false false r)
+took r k Closed = k (ended_by EEOF true false r)
+took r k other = k (ended_by EEOF false false r)
 
 abbrev pub room_of : ℕ → ℕ
 room_of total = min 4096 (LIMIT - total)

@@ -1,5 +1,6 @@
 -- The program of a `send`, and of whoever writes a link: each loop unrolled by one round.
 use Rattle.std.specs.Prelude.{ℕ, zero, suc, ◌+◌, ◌*◌, ◌/◌, ◌%◌, ◌==◌, true, false, List, [], length, drop, nat_lt, nat_le, if◌then◌else◌}
+use Rattle.sock_words.specs.Codes.{EFAILEDSOCKET}
 use Rattle.sock_words.specs.Words.{socket_id_version, socket_id_slot, vref_version}
 use Rattle.sock_words.specs.declared.outcome.Outcome.TheVariants.{Unopened, Gone, Full}
 use Rattle.sock_io.specs.declared.link.Put.{Put}
@@ -35,7 +36,7 @@ passed h now after = passed_telling h now (λ next. next) after
 
 -- the call whose message was dropped is posted the code, or 1009 where none was stored yet
 abbrev pub tell_drop : Heading → ℕ → Program → Program
-tell_drop heading code next = if heading.owner == 0 then next else post heading.owner (if code == 0 then 1009 else code) heading.attempt next
+tell_drop heading code next = if heading.owner == 0 then next else post heading.owner (if code == 0 then EFAILEDSOCKET else code) heading.attempt next
 
 abbrev pub placed : Holder → ℕ → Heading → Program → Program
 placed h now heading after = Do (StorePlace heading.place h.link h.places) (λ _. passed (one_more h) now after)
@@ -45,7 +46,7 @@ dropped h now heading after = Do (LoadCode (socket_id_slot h.id) (socket_id_vers
 
 -- a failed link sets its socket failed
 abbrev pub link_failed : Holder → Program → Program
-link_failed h next = set_failed h.id 1009 (λ _. next)
+link_failed h next = set_failed h.id EFAILEDSOCKET (λ _. next)
 
 -- what follows a put into the link
 abbrev pub put_answered : Holder → ℕ → Heading → List ℕ → ℕ → Program → Put → Program

@@ -1,6 +1,7 @@
 -- Why each task has its outcome, in scripts with calls: what is told of what links accepted, took and gave, and the causes of all outcomes.
 use Rattle.std.specs.Prelude.{ℕ, ◌≡◌, ◌≢◌, ◌+◌, ◌*◌, ◌%◌, ◌<◌, ◌≤◌, ◌⊎◌, nat_le, List, [], ◌∷◌, ◌++◌, slice_get, slice_index, slice_index_or, length, map, flat_map, take, drop, sum_by, Option, Some, None, Contains, IsSome, ℤ, pos}
 use Rattle.std.specs.List.{AllByRecursion}
+use Rattle.sock_words.specs.Codes.{EEOF, EFAILEDSOCKET, EREQUESTS, ERESPONSE, ERPCTIMEDOUT}
 use Rattle.sock_words.specs.declared.plain.Plan.{Plan}
 use Rattle.sock_words.specs.Words.{vref_version}
 use Rattle.sock_words.specs.declared.outcome.Outcome.{Outcome}
@@ -199,12 +200,12 @@ module _ (p : Plan) (clients : List (List Task)) (outcomes : List (Option Outcom
 
   -- why the call that is operation o, with this id, ended with the code; n is its last attempt
   pub data FailedBy (c o : ℕ) (asked : Asked) (id code n : ℕ) : Type 0 where
-    ByExpiry : code ≡ 1008 → IsExpiredWith o Expired ⊎ IsExpiredWith o Queued → FailedBy c o asked id code n
-    ByCompression : code ≡ 2002 → IsAnsweredBy asked id (λ frame. frame.meta.compress_type ≢ pos 0) → FailedBy c o asked id code n
-    ByFrameFault : code ≡ 2002 → (k : ℕ) → MayBeOn o n (name_of asked n) k → GaveFault k → FailedBy c o asked id code n
-    ByEnd : code ≡ 1014 → (k : ℕ) → EndedWith asked o n (name_of asked n) id k → FailedBy c o asked id code n
-    BySocket : code ≡ 1009 → n + 2 ≡ asked.range → IsUnordered o n ⊎ IsDropped o n → WhyLost c o n (name_of asked n) → FailedBy c o asked id code n
-    ByRequests : code ≡ 3001 → n + 2 ≡ asked.range → IsUnordered o n → WasFull → FailedBy c o asked id code n
+    ByExpiry : code ≡ ERPCTIMEDOUT → IsExpiredWith o Expired ⊎ IsExpiredWith o Queued → FailedBy c o asked id code n
+    ByCompression : code ≡ ERESPONSE → IsAnsweredBy asked id (λ frame. frame.meta.compress_type ≢ pos 0) → FailedBy c o asked id code n
+    ByFrameFault : code ≡ ERESPONSE → (k : ℕ) → MayBeOn o n (name_of asked n) k → GaveFault k → FailedBy c o asked id code n
+    ByEnd : code ≡ EEOF → (k : ℕ) → EndedWith asked o n (name_of asked n) id k → FailedBy c o asked id code n
+    BySocket : code ≡ EFAILEDSOCKET → n + 2 ≡ asked.range → IsUnordered o n ⊎ IsDropped o n → WhyLost c o n (name_of asked n) → FailedBy c o asked id code n
+    ByRequests : code ≡ EREQUESTS → n + 2 ≡ asked.range → IsUnordered o n → WasFull → FailedBy c o asked id code n
     ByFail : 1500 ≤ code → code ≤ 1999 → n + 2 ≡ asked.range → IsDropped o n → IsFailedWith (name_of asked n) code → FailedBy c o asked id code n
 
   -- ## What is said of another call
@@ -217,7 +218,7 @@ module _ (p : Plan) (clients : List (List Task)) (outcomes : List (Option Outcom
   MayNotHaveBegun c o t = (task : Task) → IsTask clients outcomes c task → task.number ≡ t → t < o → Became clients outcomes t Unopened
 
   abbrev pub IsPosted : ℕ → Type 0
-  IsPosted code = Contains (1008 ∷ 1009 ∷ 1014 ∷ 2002 ∷ 3001 ∷ []) code ⊎ ((1500 ≤ code) × (code ≤ 1999))
+  IsPosted code = Contains (ERPCTIMEDOUT ∷ EFAILEDSOCKET ∷ EEOF ∷ ERESPONSE ∷ EREQUESTS ∷ []) code ⊎ ((1500 ≤ code) × (code ≤ 1999))
 
   -- the id that the outcome of a call shows
   abbrev pub ShowsId : Outcome → ℕ → Type 0
@@ -235,7 +236,7 @@ module _ (p : Plan) (clients : List (List Task)) (outcomes : List (Option Outcom
     WhyCall c o asked other = ⊥
 
     abbrev pub WhyExpire : ℕ → ℕ → ℕ → Outcome → Type 0
-    WhyExpire c o t Expired = (id : ℕ) × Became clients outcomes t (CallFailed id 1008)
+    WhyExpire c o t Expired = (id : ℕ) × Became clients outcomes t (CallFailed id ERPCTIMEDOUT)
     WhyExpire c o t Queued = HasBegun c o t
     WhyExpire c o t Late = HasBegun c o t
     WhyExpire c o t (Crowded a b) = HasBegun c o t × IsPosted a × IsPosted b

@@ -1,3 +1,4 @@
+pub mod Codes
 pub mod KindText
 pub mod OutcomeText
 pub mod Printed
