@@ -77,7 +77,8 @@ pub fn read_call(
     })
 }
 
-/// `C.I`: two numbers of 64 bits, parted by a dot.
+/// `C.I`: two numbers of 64 bits, parted by a dot; `BAD_NUMBER` otherwise. Whether there is such a call is judged when all
+/// lines were read.
 pub fn read_target(word: &[u8]) -> Result<Target, LineFault>
     ensures { (make : ℕ → ℕ → Item) →
         Answers (λ t. make t.client t.number) result (target_in make (slice_split (λ b. b == 46) word.now)) }

@@ -150,7 +150,8 @@ pub fn read_serve(options: &[u8]) -> Result<bool, LineFault>
     }
 }
 
-/// The attachment of a call, `att=HEX`.
+/// The attachment of a call, `att=HEX`; none where the option is missing. `BAD_HEX` where its value spells no bytes,
+/// `BAD_WORDS` where it is given twice. How long it may be is judged with the call.
 pub fn read_attachment(alloc: Global, options: &[u8]) -> Result<Bytes, LineFault>
     ensures { Answers (λ b. b) result (option_in hex_in [] (values_of (codes "att=") (words options.now))) }
 {

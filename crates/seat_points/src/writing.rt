@@ -36,7 +36,9 @@ fn generation(ticket: Ticket) -> u64
 }
 
 impl Current {
-    /// What follows a put into the link, and whether it took all that was left.
+    /// What follows a put into the link, by its answer and by whether it took all that was left: a whole message gets
+    /// its place; before what is left is put the socket is looked at; behind `Again` the link is asked whether it takes more;
+    /// where it failed, the socket is set failed.
     pub fn put_answered(self, answer: Put, whole: bool) -> WriteStep
         ensures { (a : Around) (w : Writer) (asked : Bool) → whole ≡ is_whole a.left answer → write_program (with_put answer a) w result ≡ after_put (write_program a w (WriteStep.Put self asked)) answer }
     {

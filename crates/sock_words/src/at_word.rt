@@ -57,7 +57,7 @@ impl AtWord {
         ((self.0 >> 22) & 0xffff) as u16
     }
 
-    /// The link that the attempt went to. `NONE` has none.
+    /// The link that the attempt went to, 0 to 65,534. `NONE` has none, and must not be asked.
     pub fn link(self) -> u16
         requires { HasLink self.0 }
         ensures { result ≡ at_word_link self.0 }
