@@ -1,5 +1,6 @@
 pub mod Causes
 pub mod Edge
+pub mod Giving
 pub mod Link
 pub mod Answered
 pub mod Linker

@@ -4,6 +4,8 @@
 mod answered;
 mod counts;
 mod ending;
+mod give_in;
+mod give_linker;
 mod link;
 mod mem_link;
 mod mem_sink;
@@ -19,6 +21,8 @@ mod writing;
 
 pub use answered::Answered;
 pub use ending::Ending;
+pub use give_in::GiveIn;
+pub use give_linker::GiveLinker;
 pub use link::{
     Ends, Gate, In, LinkSpec, Linker, Mode, OpenFault, OpenGate, Out, Peer, Put, Ready, Served,
     Take,

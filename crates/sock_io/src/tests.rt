@@ -1,9 +1,9 @@
 ghost use Rattle.std.specs.Prelude.{ℕ, ◌≡◌, ◌<◌, ◌+◌, [], length};
 
 use crate::{
-    Ending, Ends, Failed, Gate, In, LinkSpec, Linker, MemIn, MemOut, MemSink, MemSource, Mode,
-    OpenFault, OpenGate, Out, Peer, Put, Ready, Served, Shape, Shaped, Sink, SinkLinker, Source,
-    StdSink, StdSource, Take,
+    Ending, Ends, Failed, Gate, GiveLinker, In, LinkSpec, Linker, MemIn, MemOut, MemSink,
+    MemSource, Mode, OpenFault, OpenGate, Out, Peer, Put, Ready, Served, Shape, Shaped, Sink,
+    SinkLinker, Source, StdSink, StdSource, Take,
 };
 use std::io;
 use std::io::{Read, Write};
@@ -210,5 +210,70 @@ fn connection_ends_at_once(rt: HostRuntime) -> Result<(), Fail> {
     assert_eq!(rt; inn.take(&mut [0; 2]), Take::End);
     links.done(out, inn);
     OpenGate.pass(&rt, 1, 1);
+    Ok(())
+}
+
+/// What a half answers after the link was settled, and what it gave into the room.
+fn settled_take<L: Linker>(
+    links: &mut L,
+    ends: &mut Ends<L::O, L::I, L::P>,
+    room: &mut [u8; 4],
+) -> Option<Take> {
+    match links.settle(ends) {
+        Ok(()) => Some(ends.inn.take(room)),
+        Err(_) => None,
+    }
+}
+
+#[test]
+fn stated_bytes_come_behind_so_many(rt: HostRuntime) -> Result<(), Fail> {
+    let mut links = GiveLinker::new(rt.alloc(), 2, b"rrrrr".to_vec(rt.alloc())?);
+    let mut ends = links.open(&narrow()).ok().ok_or("memory")?;
+    let mut room = [0; 4];
+    assert_eq!(rt; ends.out.put(b"ab"), Put::Took(1));
+    assert_eq!(rt;
+        settled_take(&mut links, &mut ends, &mut room),
+        Some(Take::Empty)
+    );
+    assert_eq!(rt; ends.out.put(b"b"), Put::Took(1));
+    assert_eq!(rt;
+        settled_take(&mut links, &mut ends, &mut room),
+        Some(Take::Took(4))
+    );
+    assert_eq!(rt; room.as_slice(), b"rrrr".as_slice());
+    assert_eq!(rt;
+        settled_take(&mut links, &mut ends, &mut room),
+        Some(Take::Took(1))
+    );
+    assert_eq!(rt;
+        settled_take(&mut links, &mut ends, &mut room),
+        Some(Take::Empty)
+    );
+    ends.out.finish();
+    assert_eq!(rt;
+        settled_take(&mut links, &mut ends, &mut room),
+        Some(Take::Closed)
+    );
+    Ok(())
+}
+
+#[test]
+fn finished_link_gives_no_stated_bytes(rt: HostRuntime) -> Result<(), Fail> {
+    let mut links = GiveLinker::new(rt.alloc(), 2, b"r".to_vec(rt.alloc())?);
+    let answers = use_link(&mut links, &narrow());
+    assert_eq!(rt; answers, Ok((Put::Took(1), Take::Empty, Take::Closed)));
+    Ok(())
+}
+
+#[test]
+fn connection_gives_stated_bytes_and_its_end(rt: HostRuntime) -> Result<(), Fail> {
+    let mut links = GiveLinker::new(rt.alloc(), 9, b"r".to_vec(rt.alloc())?);
+    let (mut out, mut inn) = links.accept(8000).ok().ok_or("memory")?;
+    let mut room = [0; 2];
+    assert_eq!(rt; inn.take(&mut room), Take::Took(1));
+    assert_eq!(rt; room[..1], b"r"[..]);
+    assert_eq!(rt; inn.take(&mut room), Take::End);
+    assert_eq!(rt; out.put(b"ab"), Put::Took(2));
+    links.done(out, inn);
     Ok(())
 }

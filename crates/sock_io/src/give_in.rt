@@ -1,0 +1,94 @@
+ghost use Rattle.std.specs.Prelude.{◌≡◌, ◌<◌, ◌++◌, IfOk, OnErr, OnOk, length};
+ghost use Rattle.sock_io.specs.Giving.{before_bytes, bytes_and_end, give_in, with_bytes, with_closing};
+ghost use Rattle.sock_io.specs.Link.{TakeStep};
+ghost use Rattle.sock_io.specs.Memory.{take_answer};
+
+use crate::ending::Ending;
+use crate::link::{In, Take};
+use crate::mem_link::MemIn;
+use crate::stream::NoMemory;
+use std::alloc::Global;
+use std::marker::Model;
+
+/// A reading half in memory that gives stated bytes: at once, or when it is told that they are due. What it offers it
+/// doesn't tell: the bytes are whatever was stated, and no reply of a server.
+#[derive(Drop)]
+pub struct GiveIn {
+    inner: MemIn,
+    /// Whether the bytes are still to come.
+    waits: bool,
+}
+
+impl Model for GiveIn {
+    ghost use Rattle.std.specs.Prelude.{◌≡◌, true};
+    ghost use Rattle.sock_io.specs.declared.ending.Ending.TheVariants as ending;
+    ghost use Rattle.sock_io.specs.Giving.{GiveInState};
+
+    ghost Value = { GiveInState };
+
+    ghost view = { λ i. record { half = i.inner; waits = i.waits } };
+
+    ghost invariant = { λ i. i.waits ≡ true → i.inner.ending ≡ ending.Open };
+}
+
+impl GiveIn {
+    /// A half whose bytes are to come.
+    pub(crate) fn new(alloc: Global) -> Self
+        ensures { result ≡ before_bytes }
+    {
+        GiveIn {
+            inner: MemIn::new(alloc, Ending::Open),
+            waits: true,
+        }
+    }
+
+    /// A half that gives these bytes and then its end.
+    pub(crate) fn ended(alloc: Global, bytes: &[u8]) -> Result<Self, NoMemory>
+        ensures { IfOk result (λ half. half ≡ bytes_and_end bytes.now) }
+    {
+        let mut inner = MemIn::new(alloc, Ending::Open);
+        inner.give(bytes)?;
+        inner.end();
+        Ok(GiveIn {
+            inner,
+            waits: false,
+        })
+    }
+
+    /// The bytes come, where they are due and didn't come before.
+    pub(crate) fn hand(&mut self, due: bool, bytes: &[u8]) -> Result<(), NoMemory>
+        ensures ok { OnOk result (self.new ≡ with_bytes due bytes.now self.old) }
+        ensures err { OnErr result (self.new ≡ self.old) }
+    {
+        if self.waits && due {
+            self.inner.give(bytes)?;
+            self.waits = false;
+        }
+        Ok(())
+    }
+
+    /// Where the link was finished, the other end closes its half.
+    pub(crate) fn close_where(&mut self, finished: bool)
+        ensures { self.new ≡ with_closing finished self.old }
+    {
+        if finished {
+            self.inner.close();
+            self.waits = false;
+        }
+    }
+}
+
+impl In for GiveIn {
+    ghost state = { give_in };
+
+    fn take(&mut self, room: &mut [u8]) -> Take
+        requires { 0 < length room.old }
+        ensures step { TakeStep (give_in self.old) (give_in self.new) room.new result }
+        ensures answer { result ≡ take_answer self.old.half.waiting self.old.half.ending (length room.old) }
+        ensures bytes { self.new.half.given ++ self.new.half.waiting ≡ self.old.half.given ++ self.old.half.waiting }
+        ensures ending { self.new.half.ending ≡ self.old.half.ending }
+        ensures waits { self.new.waits ≡ self.old.waits }
+    {
+        self.inner.take(room)
+    }
+}

@@ -1,0 +1,185 @@
+ghost use Rattle.std.specs.Prelude.{◌≡◌, ◌+◌, ◌<◌, ◌∷◌, ◌++◌, true, [], length, IfOk, IsErrOf, OnErr, OnOk};
+ghost use Rattle.sock_io.specs.Giving.{before_bytes, bytes_and_end, give_in, settled_in, shape_asked};
+ghost use Rattle.sock_io.specs.Link.{SettleStep, connection_of, end_of};
+ghost use Rattle.sock_io.specs.Linker.{new_half, plain_shape};
+ghost use Rattle.sock_io.specs.Shape.{shaped_out};
+
+use crate::give_in::GiveIn;
+use crate::link::{Ends, LinkSpec, Linker, OpenFault, Out};
+use crate::mem_link::{MemOut, NoPeer};
+use crate::shape::Shape;
+use crate::shaped::Shaped;
+use crate::stream::NoMemory;
+use std::alloc::Global;
+use std::marker::Model;
+
+type Link = Ends<Shaped<MemOut>, GiveIn, NoPeer>;
+
+/// The halves of a connection, as it was given back.
+#[derive(Drop)]
+struct Connection {
+    out: Shaped<MemOut>,
+    inn: GiveIn,
+}
+
+/// Links in memory that take everything and give stated bytes, whatever they took: for tests of what becomes of bytes that
+/// nobody would send. A link gives its bytes by the first `settle` behind which it took `after` bytes or more, and closes
+/// its half by the first one behind which it was finished. The reading half of a connection gives the bytes at once, and
+/// then its end.
+///
+/// `open` and `accept` fail for want of memory alone.
+#[derive(Drop)]
+pub struct GiveLinker {
+    alloc: Global,
+    after: u32,
+    bytes: Vec<u8>,
+    asked: Vec<LinkSpec>,
+    accepted: u16,
+    links: Vec<Link>,
+    connections: Vec<Connection>,
+}
+
+impl Model for GiveLinker {
+    ghost use Rattle.std.specs.Prelude.{◌≤◌, map, vec_len, vec_capacity};
+    ghost use Rattle.sock_io.specs.Giving.{GiveLinkerState, give_in};
+    ghost use Rattle.sock_io.specs.Link.{connection_of, end_of};
+    ghost use Rattle.sock_io.specs.Shape.{shaped_out};
+
+    ghost Value = { GiveLinkerState };
+
+    ghost view = { λ l. record { asked = l.asked.items; accepted = l.accepted; back = map (λ e. end_of (shaped_out e.out) (give_in e.inn)) l.links.items; done = map (λ c. connection_of (shaped_out c.out) (give_in c.inn)) l.connections.items; after = l.after; bytes = l.bytes.items } };
+
+    ghost invariant = { λ l. (vec_len l.asked ≤ vec_capacity l.links) × (vec_len l.links ≤ vec_len l.asked) × (l.accepted ≤ vec_capacity l.connections) × (vec_len l.connections ≤ l.accepted) };
+}
+
+impl GiveLinker {
+    /// A linker that opened nothing yet, whose links give these bytes after so many that they took. It takes no memory.
+    pub fn new(alloc: Global, after: u32, bytes: Vec<u8>) -> Self
+        ensures { result ≡ record { asked = []; accepted = 0; back = []; done = []; after = after; bytes = bytes.items } }
+    {
+        GiveLinker {
+            alloc,
+            after,
+            bytes,
+            asked: Vec::new(alloc),
+            accepted: 0,
+            links: Vec::new(alloc),
+            connections: Vec::new(alloc),
+        }
+    }
+}
+
+impl Linker for GiveLinker {
+    type O = Shaped<MemOut>;
+
+    type I = GiveIn;
+
+    type P = NoPeer;
+
+    ghost asked = { λ l. l.asked };
+
+    ghost accepted = { λ l. l.accepted };
+
+    ghost back = { λ l. l.back };
+
+    ghost done = { λ l. l.done };
+
+    ghost faults = { λ _. 0 };
+
+    ghost prompt = { λ _. true };
+
+    fn open(&mut self, spec: &LinkSpec) -> Result<Link, OpenFault>
+        requires piece { 0 < spec.now.piece }
+        requires few { length self.old.asked < 256 }
+        ensures out { IfOk result (λ ends. ends.out ≡ new_half (length self.old.asked) (shape_asked spec.now)) }
+        ensures inn { IfOk result (λ ends. ends.inn ≡ before_bytes) }
+        ensures linker { IfOk result (λ _. self.new ≡ record self.old { asked = self.old.asked ++ spec.now ∷ [] }) }
+        ensures refused { OnErr result (self.new ≡ self.old) }
+        ensures never { ¬ IsErrOf result OpenFault.Failed }
+    {
+        let opened = self.asked.len();
+        let room = opened + 1 - self.links.len();
+        if self.asked.reserve(1).is_err() || self.links.reserve(room).is_err() {
+            return Err(OpenFault::NoMemory);
+        }
+        let shape = Shape {
+            piece: spec.piece,
+            again: spec.again,
+            fail: spec.fail,
+        };
+        match Shaped::new(self.alloc, MemOut::new(opened as u16), shape) {
+            Ok(out) => {
+                self.asked.push_reserved(*spec);
+                Ok(Ends {
+                    out,
+                    inn: GiveIn::new(self.alloc),
+                    peer: NoPeer,
+                })
+            }
+            Err(_) => Err(OpenFault::NoMemory),
+        }
+    }
+
+    fn settle(&mut self, ends: &mut Link) -> Result<(), NoMemory>
+        ensures out { ends.new.out ≡ ends.old.out }
+        ensures step { SettleStep (shaped_out ends.old.out) (give_in ends.old.inn) (give_in ends.new.inn) }
+        ensures inn { OnOk result (ends.new.inn ≡ settled_in self.old.after self.old.bytes ends.old.out.taken ends.old.out.inner.finished ends.old.inn) }
+        ensures err { OnErr result (ends.new ≡ ends.old) }
+        ensures linker { self.new ≡ self.old }
+    {
+        let due = ends.out.taken().len() >= self.after as usize;
+        let finished = ends.out.is_finished();
+        ends.inn.hand(due, &self.bytes)?;
+        ends.inn.close_where(finished);
+        Ok(())
+    }
+
+    fn accept(&mut self, _port: u16) -> Result<(Shaped<MemOut>, GiveIn), OpenFault>
+        requires { self.old.accepted < 256 }
+        ensures out { IfOk result (λ halves. halves.0 ≡ new_half 0 plain_shape) }
+        ensures inn { IfOk result (λ halves. halves.1 ≡ bytes_and_end self.old.bytes) }
+        ensures linker { IfOk result (λ _. self.new ≡ record self.old { accepted = self.old.accepted + 1 }) }
+        ensures refused { OnErr result (self.new ≡ self.old) }
+        ensures never { ¬ IsErrOf result OpenFault.Failed }
+    {
+        let room = self.accepted as usize + 1 - self.connections.len();
+        if self.connections.reserve(room).is_err() {
+            return Err(OpenFault::NoMemory);
+        }
+        let shape = Shape {
+            piece: u32::MAX,
+            again: 0,
+            fail: 0,
+        };
+        let Ok(inn) = GiveIn::ended(self.alloc, &self.bytes) else {
+            return Err(OpenFault::NoMemory);
+        };
+        match Shaped::new(self.alloc, MemOut::new(0), shape) {
+            Ok(out) => {
+                self.accepted += 1;
+                Ok((out, inn))
+            }
+            Err(_) => Err(OpenFault::NoMemory),
+        }
+    }
+
+    fn done(&mut self, out: Shaped<MemOut>, inn: GiveIn)
+        requires { length self.old.done < self.old.accepted }
+        ensures { self.new ≡ record self.old { done = self.old.done ++ connection_of (shaped_out out) (give_in inn) ∷ [] } }
+    {
+        match self.connections.push(Connection { out, inn }) {
+            Ok(()) => {}
+            Err(_) => unreachable!(),
+        }
+    }
+
+    fn back(&mut self, _link: u16, ends: Link)
+        requires { length self.old.back < length self.old.asked }
+        ensures { self.new ≡ record self.old { back = self.old.back ++ end_of (shaped_out ends.out) (give_in ends.inn) ∷ [] } }
+    {
+        match self.links.push(ends) {
+            Ok(()) => {}
+            Err(_) => unreachable!(),
+        }
+    }
+}
