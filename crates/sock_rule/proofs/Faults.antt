@@ -1,11 +1,12 @@
 -- What steps leave of the notes of faults, and of where each link is.
-use Rattle.std.proofs.Common.{◌≡◌, ◌≢◌, ℕ, zero, suc, ◌+◌, ◌-◌, ◌%◌, ◌<◌, ◌≤◌, Bool, true, false, not, cond, eqb, eq-eqb, ne_eqb, nat_lt, List, [], ◌∷◌, ◌++◌, get_or, set, refl, sym, ap, ◌∙◌, subst, arith}
+use Rattle.std.proofs.Common.{◌≡◌, ◌≢◌, ℕ, zero, suc, ◌+◌, ◌-◌, ◌%◌, ◌<◌, ◌≤◌, Bool, true, false, not, cond, eqb, eq-eqb, ne_eqb, nat_lt, List, [], ◌∷◌, ◌++◌, length, get_or, set, refl, sym, ap, ◌∙◌, subst, arith}
 use Rattle.std.specs.List.{filter}
 use mathlib.Core.Logic.{dite}
 use mathlib.Core.Option.{Option, none, some}
 use native.Mathlib.Decide.{ℕ_discrete}
 use lib.ListN.{get_elem?}
 use Rattle.atomic_table.specs.Table.{State}
+use Rattle.atomic_table.proofs.Lists.{set_here, set_else}
 use Rattle.sock_words.specs.declared.plain.Plan.{Plan}
 use Rattle.sock_model.specs.declared.chain.Right.{Right}
 use Rattle.sock_model.specs.declared.marks.Mark.{Mark}
@@ -228,8 +229,8 @@ module _ {S : Type 0} {rose : S → ℕ} {p : Plan} {s : State S View} (id : ℕ
   }
 
   -- a seat that has the link in hand notes more faults of it
-  pub noting : get_elem? hs (p.requests + k) ≡ get_elem? s.homes (p.requests + k) → 0 < out_of k v → faults_of k v ≤ faults_of k w → out_of k w ≡ out_of k v → LinkFaults rose p record { words = ws; homes = hs; views = set s.views id w } k
-  noting home in_hand more out = record {
+  pub noting_more : get_elem? hs (p.requests + k) ≡ get_elem? s.homes (p.requests + k) → 0 < out_of k v → faults_of k v ≤ faults_of k w → out_of k w ≡ out_of k v → LinkFaults rose p record { words = ws; homes = hs; views = set s.views id w } k
+  noting_more home in_hand more out = record {
     once = omega (arith, outs, ap present home, old.once);
     faulty = λ some_. (let a = some_noted k w (λ e. omega arith) in let b = some_noted k v (λ e. omega arith) in let set_ = total-set (noted_out k) s.views id v w here in
         dite (ℕ_discrete (faults_of k w) (faults_of k v))
@@ -263,3 +264,59 @@ module _ {S : Type 0} {rose : S → ℕ} {p : Plan} {s : State S View} (id : ℕ
         let a = old.faulty (omega (arith, notes)) in absurd (omega (arith, none_rose rose (get_elem? s.homes (p.requests + k)) gone, total-set (noted_out k) s.views id v w here, none_noted k (set s.views id w) new_out, no_noted k w out, some_noted k v (λ e. omega arith))))
         (λ nz. omega (arith, ap (rose_at rose) back));
   }
+
+-- ## Of all links, where one is taken or put back
+
+-- the seat takes link k, which lay at home as y, and notes it in slot i where that has faults
+module _ {S : Type 0} {rose : S → ℕ} {p : Plan} {s : State S View} (all : (l : ℕ) → l < p.links → LinkFaults rose p s l) (id : ℕ) (v u : View) (here : get_elem? s.views id ≡ some v) (k : ℕ) (y : S) (low : k < p.links) (long : p.requests + k < length s.homes) where
+  pub takes_link : (ws : List ℕ) (i : ℕ) → get_elem? s.homes (p.requests + k) ≡ some (some y) → u.marks ≡ v.marks → ((l : ℕ) → out_of l u ≡ out_of l v + only l k)
+      → (l : ℕ) → l < p.links → LinkFaults rose p record { words = ws; homes = set s.homes (p.requests + k) none; views = set s.views id (fault_found (rose y) i k u) } l
+  takes_link ws i there marks outs l ll = let n : ℕ = rose y in let w : View = fault_found (rose y) i k u in let hs : List (Option S) = set s.homes (p.requests + k) none in
+      let others = (found_alike (rose y) i k u).others in let same : faults_of l u ≡ faults_of l v = ap (total (faults_link l)) marks in let out : out_of l w ≡ out_of l u = ap (out_of l) others in
+      dite (ℕ_discrete l k)
+      (λ e. subst (λ (x : ℕ). LinkFaults rose p record { words = ws; homes = set s.homes (p.requests + k) none; views = set s.views id (fault_found (rose y) i k u) } x) (sym e)
+      (let out_k : out_of k w ≡ out_of k u = ap (out_of k) others in let same_k : faults_of k u ≡ faults_of k v = ap (total (faults_link k)) marks in
+      takes id v w here ws hs k (all k low) y there (set_here s.homes (p.requests + k) none long) (omega (arith, out_k, outs k, only-same k))
+      (omega (arith, same_k, found_more n i k k u)) (λ z. found_none n i k k u z ∙ same_k) (λ some_. found_some n i k u some_)))
+      (λ ne. calm id v w here ws hs l (all l ll) (set_else s.homes (p.requests + k) (p.requests + l) none (λ z. ne (omega arith))) (found_else n i k l u (λ z. ne (sym z)) ∙ same) (omega (arith, out, outs l, only-else l k (λ z. ne (sym z)))))
+
+  -- the seat that has link k in hand puts it back as y
+  pub puts_link : (ws : List ℕ) → ((l : ℕ) → l ≢ k → faults_of l u ≡ faults_of l v) → (rose y ≡ 0 → faults_of k u ≡ faults_of k v) → ((l : ℕ) → out_of l v ≡ out_of l u + only l k) → (0 < faults_of k v → 0 < rose y)
+      → (l : ℕ) → l < p.links → LinkFaults rose p record { words = ws; homes = set s.homes (p.requests + k) (some y); views = set s.views id u } l
+  puts_link ws rest same outs known l ll = let hs : List (Option S) = set s.homes (p.requests + k) (some y) in
+      let le = term_le (out_of k) s.views id v here in let once = (all k low).once in
+      dite (ℕ_discrete l k)
+      (λ e. subst (λ (x : ℕ). LinkFaults rose p record { words = ws; homes = set s.homes (p.requests + k) (some y); views = set s.views id u } x) (sym e)
+      (puts id v u here ws hs k (all k low) y (set_here s.homes (p.requests + k) (some y) long) (omega (arith, outs k, only-same k)) (omega (arith, outs k, only-same k)) same known))
+      (λ ne. calm id v u here ws hs l (all l ll) (set_else s.homes (p.requests + k) (p.requests + l) (some y) (λ z. ne (omega arith))) (rest l ne) (omega (arith, outs l, only-else l k (λ z. ne (sym z)))))
+
+-- a new table
+pub new_faults : {S : Type 0} {rose : S → ℕ} (p : Plan) (ws : List ℕ) (hs : List (Option S)) (v : View) (k : ℕ) (y : S) → get_elem? hs (p.requests + k) ≡ some (some y) → v.marks ≡ [] → v.rights ≡ [] → v.hands ≡ [] → LinkFaults rose p record { words = ws; homes = hs; views = v ∷ [] } k
+new_faults p ws hs v k y home marks rights hands = record {
+  once = omega (arith, ap present home, ap (total (away k)) rights, ap (total (carries k)) hands);
+  faulty = λ some_. absurd (omega (arith, ap (total (faults_link k)) marks));
+}
+
+-- a seat is split off that has noted nothing, and has no link in hand
+pub split_faults : {S : Type 0} {rose : S → ℕ} {p : Plan} {s : State S View} (id : ℕ) (v left right : View) → get_elem? s.views id ≡ some v → (k : ℕ) → LinkFaults rose p s k → faults_of k left ≡ faults_of k v → out_of k left ≡ out_of k v → faults_of k right ≡ 0 → out_of k right ≡ 0
+    → LinkFaults rose p record { words = s.words; homes = s.homes; views = set s.views id left ++ right ∷ [] } k
+split_faults {s = s} id v left right here k old faults outs none_ home = let first : List View = set s.views id left in record {
+  once = omega (arith, old.once, total-append (out_of k) first (right ∷ []), total-set (out_of k) s.views id v left here);
+  faulty = λ some_. (let a = old.faulty (omega (arith, total-append (faults_of k) first (right ∷ []), total-set (faults_of k) s.views id v left here)) in
+      omega (arith, total-append (noted_out k) first (right ∷ []), total-set (noted_out k) s.views id v left here, noted_same k v left outs faults, no_noted k right home));
+}
+
+-- a seat takes in another, which has no link in hand
+pub join_faults : {S : Type 0} {rose : S → ℕ} {p : Plan} {s : State S View} (id other : ℕ) (v w both gone : View) → get_elem? s.views id ≡ some v → get_elem? (set s.views id both) other ≡ some w → (k : ℕ) → LinkFaults rose p s k
+    → faults_of k both ≡ faults_of k v + faults_of k w → out_of k both ≡ out_of k v → out_of k w ≡ 0 → faults_of k gone ≡ 0 → out_of k gone ≡ 0
+    → LinkFaults rose p record { words = s.words; homes = s.homes; views = set (set s.views id both) other gone } k
+join_faults {s = s} id other v w both gone here there k old faults outs empty none_ home = let first : List View = set s.views id both in record {
+  once = omega (arith, old.once, total-set (out_of k) first other w gone there, total-set (out_of k) s.views id v both here);
+  faulty = λ some_. (let a = old.faulty (omega (arith, total-set (faults_of k) first other w gone there, total-set (faults_of k) s.views id v both here)) in
+      let more : noted_out k v ≤ noted_out k both = dite (ℕ_discrete (out_of k v) 0) (λ e. omega (arith, no_noted k v e)) (λ ne. omega (arith, some_noted k v ne, some_noted k both (λ e. ne (sym outs ∙ e)))) in
+      omega (arith, total-set (noted_out k) first other w gone there, total-set (noted_out k) s.views id v both here, no_noted k w empty, no_noted k gone home));
+}
+
+-- once all seats are taken in by one, which has no link in hand
+pub close_faults : {S : Type 0} {rose : S → ℕ} {p : Plan} {s : State S View} (k : ℕ) (v : View) (y : S) → LinkFaults rose p s k → get_elem? s.homes (p.requests + k) ≡ some (some y) → total (faults_of k) s.views ≡ faults_of k v → 0 < faults_of k v → 0 < rose y
+close_faults {rose = rose} {s = s} k v y old home all some_ = let a = old.faulty (omega arith) in omega (arith, old.once, ap present home, ap (rose_at rose) home, none_noted k s.views (let b = old.once in let c = ap present home in omega arith))

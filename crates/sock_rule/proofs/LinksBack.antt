@@ -47,7 +47,7 @@ pub record AtHome {S : Type 0} (shows : S → Home) (p : Plan) (s : State S View
   -- it isn't finished while a life that was given it is to end
   pub unfinished : (i h : ℕ) → i < p.slots → 0 < marks_of (is_linked h k) i v → marks_of (is_freer h) i v ≡ 0 → done ≡ false
 
-module _ {S : Type 0} {shows : S → Home} {p : Plan} (s : State S View) (t : OnTable shows p s) (id : ℕ) (v : View) (here : get_elem? s.views id ≡ some v) (all : v.share ≡ p.seats) (bare : IsBare v) where
+module _ {S : Type 0} {shows : S → Home} {rose : S → ℕ} {p : Plan} (s : State S View) (t : OnTable shows rose p s) (id : ℕ) (v : View) (here : get_elem? s.views id ≡ some v) (all : v.share ≡ p.seats) (bare : IsBare v) where
   same_view : (j : ℕ) (u : View) → get_elem? s.views j ≡ some u → j ≡ id → v ≡ u
   same_view j u e same = some-injective v u (sym here ∙ (ap (get_elem? s.views) (sym same) ∙ e))
 
