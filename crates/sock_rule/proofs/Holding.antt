@@ -145,15 +145,14 @@ module _ {S : Type 0} (shows : S → Home) (rose : S → ℕ) (p : Plan) (slots 
             (light_after shows p s id v u w here s.words hs alike mine (right_rule t.rule id v here mine (record r { at_home = false }) hs (link_goes_law shows p s o id v here has_one none refl (omega (arith, t.housed)))))),
         λ q j e at. subst (λ (z : Right). TookOwn shows rose me (fault_found (rose a.0) i r.link (with_right v (record r { at_home = false })), (p.requests + r.link, a.0) ∷ me.1) z j) (its q e)
             (subst (λ (z : ℕ). TookOwn shows rose me (fault_found (rose a.0) i r.link (with_right v (record r { at_home = false })), (p.requests + r.link, a.0) ∷ me.1) r z) (let same : i ≡ j = omega arith in same) record {
-          value = a.0;
-          shown = a.2;
-          inside = subst (λ (z : Plan). r.link < z.links) (sym mine) low;
-          view = refl;
-          known = knows_taken id v v here s.words s.homes r.link (t.faults r.link low) a.0 a.1;
-          slots = ap (λ (z : Plan). (z.requests + r.link, a.0) ∷ me.1) (sym mine);
-        }),
+              value = a.0;
+              shown = a.2;
+              inside = subst (λ (z : Plan). r.link < z.links) (sym mine) low;
+              view = refl;
+              known = knows_taken id v v here s.words s.homes r.link (t.faults r.link low) a.0 a.1;
+              slots = ap (λ (z : Plan). (z.requests + r.link, a.0) ∷ me.1) (sym mine);
+            }),
       )
-
     where
       taken : (l : ℕ) → out_of l (with_right v (record r { at_home = false })) ≡ out_of l v + only l r.link
       taken l = omega (arith, ap (total (away l)) (one_right v r (record r { at_home = false }) one refl), ap (total (away l)) one, ap (λ b. cond b 0 (only l r.link)) home)

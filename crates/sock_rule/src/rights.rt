@@ -16,8 +16,8 @@ ghost use Rattle.sock_rule.specs.Holding.{Rights, LinkAtHome, MayTakeMsg, TookMs
 
 use crate::homes::{Letter, LinkHome, SockHome};
 use crate::plays::{
-    DropPlace, EmptyHead, FreeRequest, LookToWrite, NoteFault, PutOwn, ReadNext, StorePlace, TakeLetter,
-    TakeOwn, TurnNext,
+    DropPlace, EmptyHead, FreeRequest, LookToWrite, NoteFault, PutOwn, ReadNext, StorePlace,
+    TakeLetter, TakeOwn, TurnNext,
 };
 use crate::table::{RuleTable, SockSeat};
 use sock_io::Out;
