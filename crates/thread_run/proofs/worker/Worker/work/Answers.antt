@@ -1,0 +1,20 @@
+use Rattle.std.proofs.Common.{refl, ◌∙◌}
+use Rattle.thread_run.proofs.Finding.{waited_go, ran_of}
+use Rattle.thread_run.proofs.worker.Worker.work.Goals as goal
+
+pub run-ran-requires-clause-go : goal.run-ran-requires-clause-go
+run-ran-requires-clause-go g c = let was = c.args.self.now.client in waited_go c.args.table.now.rule.table.shared.table_id c.args.table.now.rule.plan c.args.names.now was (record was { seat = c.wait_all.new.seat }) c.requires.go c.wait_all.ensures.rest c.wait_all.ensures.found refl refl
+
+pub returns : goal.returns
+returns g c = let was = c.args.self.now in let r = c.run-ran.ensures in
+    let q = ran_of g.O.Out.state c.args.table.now.rule.plan was.number c.as_slice.result.now was.operations.items (record was.client { seat = c.wait_all.new.seat }) c.run-ran.new.self c.run-ran.result c.is_err-self.result c.as_slice.ensures.value c.is_err-self.ensures.value r.ran in record {
+      number = refl;
+      operations = refl;
+      began = record was.client { seat = c.wait_all.new.seat };
+      waited = c.wait_all.ensures.found;
+      same = (refl, refl, refl);
+      ran = q.0;
+      done = r.done;
+      share = r.share ∙ c.wait_all.ensures.rest.share;
+      all = q.1;
+    }

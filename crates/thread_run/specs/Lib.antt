@@ -1,0 +1,3 @@
+pub mod Threads
+pub mod Working
+pub mod Hired
