@@ -97,7 +97,7 @@ module _ {O : Type 0} {g : Ghosts O} (z : TableId) (p : Plan) where
     pub links : LinksDown (p.links - length passes) passes
     pub passes_are : All (IsPass z p) passes
     pub count : opens_of_all rest ≡ length passes
-    pub operations : map (λ (w : Worker O g). w.operations) workers ++ map (λ (r : Room O g). r.operations) rest ≡ map (λ (r : Room O g). r.operations) all
+    pub operations : map (λ (w : Worker O g). w.operations.items) workers ++ map (λ (r : Room O g). r.operations.items) rest ≡ map (λ (r : Room O g). r.operations.items) all
 
   pub one_hired : (first : ℕ) (all rest : List (Room O g)) (r : Room O g) (seats left : List (Seat (SockHome O g) View)) (s : Seat (SockHome O g) View) (passes fewer : List (LinkPass O g)) (workers : List (Worker O g)) (w : Worker O g)
       → AreHiring first all (r ∷ rest) seats passes workers → seats ≡ left ++ s ∷ [] → passes ≡ fewer ++ w.client.passes.items → length w.client.passes.items ≡ opens_of r.operations.items → w.client.seat ≡ s
@@ -126,5 +126,5 @@ module _ {O : Type 0} {g : Ghosts O} (z : TableId) (p : Plan) where
         links = subst (λ (k : ℕ). LinksDown k fewer) (omega arith) down.0;
         passes_are = ok.0;
         count = omega arith;
-        operations = ap (λ l. l ++ map (λ (y : Room O g). y.operations) rest) (map-append (λ (y : Worker O g). y.operations) workers (w ∷ [])) ∙ (append_assoc (map (λ (y : Worker O g). y.operations) workers) (w.operations ∷ []) (map (λ (y : Room O g). y.operations) rest) ∙ (ap (λ o. map (λ (y : Worker O g). y.operations) workers ++ o ∷ map (λ (y : Room O g). y.operations) rest) ops ∙ h.operations));
+        operations = ap (λ l. l ++ map (λ (y : Room O g). y.operations.items) rest) (map-append (λ (y : Worker O g). y.operations.items) workers (w ∷ [])) ∙ (append_assoc (map (λ (y : Worker O g). y.operations.items) workers) (w.operations.items ∷ []) (map (λ (y : Room O g). y.operations.items) rest) ∙ (ap (λ o. map (λ (y : Worker O g). y.operations.items) workers ++ o.items ∷ map (λ (y : Room O g). y.operations.items) rest) ops ∙ h.operations));
       }

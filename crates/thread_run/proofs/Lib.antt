@@ -1,3 +1,4 @@
 pub mod Finding
 pub mod Dealing
 pub mod Outcomes
+pub mod Weaving

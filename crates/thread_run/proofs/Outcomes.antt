@@ -14,17 +14,17 @@ abbrev pub tells : ℕ → Told → Bool
 tells n t = (t.number == n) && is_opened t.outcome
 
 module _ (n : ℕ) (told : List Told) (i : ℕ) (t : Told) (lt : i < length told) (at : t ≡ get_or told i t) where
-  next : opened_in n (drop i told) ≡ (tells n t || opened_in n (drop (i + 1) told))
-  next = ap (opened_in n) (drop_more told i t lt ∙ ap (λ (x : Told). x ∷ drop (i + 1) told) (sym at))
+  one_on : opened_in n (drop i told) ≡ (tells n t || opened_in n (drop (i + 1) told))
+  one_on = ap (opened_in n) (drop_more told i t lt ∙ ap (λ (x : Told). x ∷ drop (i + 1) told) (sym at))
 
   pub opened_on : false ≡ tells n t → opened_in n (drop i told) ≡ opened_in n told → opened_in n (drop (i + 1) told) ≡ opened_in n told
-  opened_on no e = ap (λ (b : Bool). b || opened_in n (drop (i + 1) told)) no ∙ (sym next ∙ e)
+  opened_on not e = ap (λ (b : Bool). b || opened_in n (drop (i + 1) told)) not ∙ (sym one_on ∙ e)
 
   pub opened_here : true ≡ tells n t → opened_in n (drop i told) ≡ opened_in n told → true ≡ opened_in n told
-  opened_here yes e = ap (λ (b : Bool). b || opened_in n (drop (i + 1) told)) yes ∙ (sym next ∙ e)
+  opened_here is e = ap (λ (b : Bool). b || opened_in n (drop (i + 1) told)) is ∙ (sym one_on ∙ e)
 
 pub opened_none : (n : ℕ) (told : List Told) (i : ℕ) → length told ≤ i → opened_in n (drop i told) ≡ opened_in n told → false ≡ opened_in n told
-opened_none n told i le e = sym (ap (opened_in n) (drop_all told i le)) ∙ e
+opened_none n told i le e = sym (ap (opened_in n) (drop_all i told le)) ∙ e
 
 -- ## Names
 
@@ -40,7 +40,7 @@ names_on told os i o names more lt at e m = ap (λ l. l ++ opened_names told (dr
     ∙ (sym (ap (λ l. names ++ opened_names told l) (drop_more os i o lt ∙ ap (λ (x : Operation). x ∷ drop (i + 1) os) (sym at))) ∙ e))
 
 pub names_all : (told : List Told) (os : List Operation) (i : ℕ) (names : List ℕ) → length os ≤ i → names ++ opened_names told (drop i os) ≡ opened_names told os → names ≡ opened_names told os
-names_all told os i names le e = sym (append-nil names) ∙ (sym (ap (λ l. names ++ opened_names told l) (drop_all os i le)) ∙ e)
+names_all told os i names le e = sym (append-nil names) ∙ (sym (ap (λ l. names ++ opened_names told l) (drop_all i os le)) ∙ e)
 
 -- they are names of the table
 pub names_fit : (p : Plan) (told : List Told) (os : List Operation) (passes : ℕ) → MayMakeAll p os passes → All (λ (n : ℕ). n < p.names) (opened_names told os)
@@ -60,7 +60,7 @@ pub none_left : {A B : Type 0} (f : A → B) (done : List B) (left : List A) (al
 none_left f done left all h e = sym (append-nil done) ∙ (sym (ap (λ xs. done ++ map f xs) e) ∙ h)
 
 pub any_left : {A : Type 0} (f : A → Bool) (short next : Bool) (left rest : List A) (x : A) (all : Bool) → (short || list_any f left) ≡ all → left ≡ x ∷ rest → next ≡ (short || f x) → (next || list_any f rest) ≡ all
-any_left f short next left rest x all h l e = ap (λ (b : Bool). b || list_any f rest) e ∙ (swap short (f x) (list_any f rest) ∙ (sym (ap (λ xs. short || list_any f xs) l) ∙ h))
+any_left f short n left rest x all h l e = ap (λ (b : Bool). b || list_any f rest) e ∙ (swap short (f x) (list_any f rest) ∙ (sym (ap (λ xs. short || list_any f xs) l) ∙ h))
   where
     swap : (a b c : Bool) → ((a || b) || c) ≡ (a || (b || c))
     swap true b c = refl

@@ -1,5 +1,5 @@
 -- A run of clients on threads: what each waited for and did, and the table that was closed behind them.
-use Rattle.std.specs.Prelude.{◌≡◌, ℕ, ◌+◌, ◌==◌, ◌&&◌, ◌||◌, if◌then◌else◌, Bool, true, false, List, [], ◌∷◌, ◌++◌, map, length, Some}
+use Rattle.std.specs.Prelude.{◌≡◌, ℕ, ◌+◌, ◌≤◌, ◌==◌, ◌&&◌, ◌||◌, if◌then◌else◌, Bool, true, false, List, [], ◌∷◌, ◌++◌, map, length, Some}
 use Rattle.atomic_table.specs.declared.shared.Seat.{Seat}
 use Rattle.sock_io.specs.declared.link.Out.{Ghosts}
 use Rattle.sock_io.specs.Link.{OutState}
@@ -20,7 +20,7 @@ use Rattle.rpc_client.specs.declared.acting.Action.TheVariants as action
 use Rattle.rpc_client.specs.declared.acting.Client.{Client}
 use Rattle.rpc_client.specs.declared.acting.Operation.{Operation}
 use Rattle.rpc_client.specs.declared.acting.Told.{Told}
-use Rattle.rpc_client.specs.Running.{RunBy}
+use Rattle.rpc_client.specs.Running.{MayMakeAll, RunBy}
 
 -- ## What clients open
 
@@ -88,8 +88,28 @@ AreThreads state p names c first (x ∷ xs) = IsThread state p c first x × (x.n
 
 -- ## The run
 
+-- a client may make its operations, with a pass for each that opens a socket
+pub record MayRun (p : Plan) (os : List Operation) : Type 0 where
+  pub few : length os ≤ 65535
+  pub may : MayMakeAll p os (opens_of os)
+
+abbrev pub AllMayRun : Plan → List (List Operation) → Type 0
+AllMayRun p [] = Unit {0}
+AllMayRun p (os ∷ oss) = MayRun p os × AllMayRun p oss
+
+abbrev pub opens_of_each : List (List Operation) → ℕ
+opens_of_each [] = 0
+opens_of_each (os ∷ oss) = opens_of os + opens_of_each oss
+
+-- there is a seat for each client and the setup, and a link for each operation that opens a socket
+pub record MayRunAll (p : Plan) (setup : List Operation) (clients : List (List Operation)) : Type 0 where
+  pub setup_may : MayRun p setup
+  pub clients_may : AllMayRun p clients
+  pub seats : length clients + 1 ≡ p.seats
+  pub links : opens_of setup + opens_of_each clients ≡ p.links
+
 -- the setup is client 0, and all others wait for the names that it opened
-pub record RanOn {O : Type 0} (g : Ghosts O) (state : O → OutState) (p : Plan) (setup : List Operation) (clients : List (List Operation)) (told : List (List Told)) (places : List PlaceWord) (vrefs : List Vref) (outs : List O) : Type 0 where
+pub record AllRan {O : Type 0} (g : Ghosts O) (state : O → OutState) (p : Plan) (setup : List Operation) (clients : List (List Operation)) (told : List (List Told)) (seats : List (Seat (SockHome O g) View)) : Type 0 where
   pub main : Thread g
   pub others : List (Thread g)
   pub setup_asked : main.operations ≡ setup
@@ -98,4 +118,10 @@ pub record RanOn {O : Type 0} (g : Ghosts O) (state : O → OutState) (p : Plan)
   pub main_is : IsThread state p 0 0 main
   pub others_are : AreThreads state p (opened_names main.ended.outcomes.items setup) 1 (opens_of setup) others
   pub told_is : map (λ (x : Thread g). x.ended.outcomes.items) (main ∷ others) ≡ told
-  pub closed : ClosedBy state p (map (λ (x : Thread g). x.ended.seat) (main ∷ others)) places vrefs outs
+  pub seats_are : map (λ (x : Thread g). x.ended.seat) (main ∷ others) ≡ seats
+
+-- and the table was closed behind them
+pub record RanOn {O : Type 0} (g : Ghosts O) (state : O → OutState) (p : Plan) (setup : List Operation) (clients : List (List Operation)) (told : List (List Told)) (places : List PlaceWord) (vrefs : List Vref) (outs : List O) : Type 0 where
+  pub seats : List (Seat (SockHome O g) View)
+  pub ran : AllRan g state p setup clients told seats
+  pub closed : ClosedBy state p seats places vrefs outs

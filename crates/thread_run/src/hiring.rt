@@ -59,14 +59,12 @@ pub fn rooms_for<O: Out>(
     clients: Vec<Vec<Operation>>,
 ) -> Result<Vec<Room<O>>, AllocError>
     ensures rooms { IfOk result (λ rooms. All HasRoom rooms.items) }
-    ensures operations { IfOk result (λ rooms. map (λ r. r.operations) rooms.items ≡ clients.items) }
+    ensures operations { IfOk result (λ rooms. map (λ r. r.operations.items) rooms.items ≡ map (λ v. v.items) clients.items) }
 {
-    let mut rooms = Vec::new(alloc);
+    let mut rooms = Vec::with_capacity(alloc, clients.len())?;
     'clients: for operations in clients {
         let room = room_for(alloc, operations)?;
-        if rooms.push(room).is_err() {
-            return Err(AllocError);
-        }
+        rooms.push_reserved(room);
     }
     Ok(rooms)
 }
@@ -137,7 +135,7 @@ pub fn hire_all<O: Out>(
     requires room { IsRoom (length rooms.items) workers.old }
     requires few { length rooms.items ≤ 63 }
     ensures hired { AreHired table.now.rule.table.shared.table_id table.now.rule.plan 1 (table.now.rule.plan.links - length all.old.items) workers.new.items }
-    ensures operations { map (λ w. w.operations) workers.new.items ≡ map (λ r. r.operations) rooms.items }
+    ensures operations { map (λ w. w.operations.items) workers.new.items ≡ map (λ r. r.operations.items) rooms.items }
 {
     let mut number = 0u16;
     'hires: for room in rooms {

@@ -3,8 +3,10 @@
 
 mod hiring;
 mod opened;
+mod running;
 mod spending;
 mod waiting;
 mod worker;
 
+pub use running::{NoRun, Ran, run_on};
 pub use worker::Worker;

@@ -31,7 +31,8 @@ pub fn spend<O: Out>(
     short
 }
 
-fn either(one: bool, other: bool) -> bool
+/// Whether one of the two is true.
+pub fn either(one: bool, other: bool) -> bool
     ensures { result ≡ (one || other) }
 {
     one || other

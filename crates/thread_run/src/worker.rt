@@ -54,6 +54,8 @@ pub fn run_workers<O: Out + Send, G: Gate + Sync, R: Threads + Wait + Sync>(
         rt,
         workers,
         count,
-        &|_, worker| { worker.work(rt, table, names, gate) },
+        &|_, worker: &mut Worker<O>|
+            requires { IsReady table.now.rule.table.shared.table_id table.now.rule.plan names.now worker.now }
+        { worker.work(rt, table, names, gate) },
     );
 }

@@ -2,8 +2,8 @@ use Rattle.std.proofs.Common.{refl, ◌∙◌}
 use Rattle.thread_run.proofs.Finding.{waited_go, ran_of}
 use Rattle.thread_run.proofs.worker.Worker.work.Goals as goal
 
-pub run-ran-requires-clause-go : goal.run-ran-requires-clause-go
-run-ran-requires-clause-go g c = let was = c.args.self.now.client in waited_go c.args.table.now.rule.table.shared.table_id c.args.table.now.rule.plan c.args.names.now was (record was { seat = c.wait_all.new.seat }) c.requires.go c.wait_all.ensures.rest c.wait_all.ensures.found refl refl
+pub run-ran-requires : goal.run-ran-requires
+run-ran-requires g c = ?
 
 pub returns : goal.returns
 returns g c = let was = c.args.self.now in let r = c.run-ran.ensures in
