@@ -2,3 +2,4 @@ pub mod Finding
 pub mod Dealing
 pub mod Outcomes
 pub mod Weaving
+pub mod Manning

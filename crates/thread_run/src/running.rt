@@ -50,7 +50,7 @@ pub struct Cast<O: Out> {
     pub told: Vec<Vec<Told>>,
 }
 
-fn cast<O: Out>(
+fn prepare<O: Out>(
     alloc: Global,
     setup: Vec<Operation>,
     clients: Vec<Vec<Operation>>,
@@ -203,7 +203,7 @@ pub fn run_on<O: Out + Send, G: Gate + Sync, R: Threads + Wait + Sync>(
     ensures ran { IfOk result (λ r. RanOn O.Out O.state plan.now setup.items (map (λ v. v.items) clients.items) (map (λ v. v.items) r.told.items) r.places.items r.vrefs.items r.outs.items) }
     ensures back { IfErr result (IsBack O.state plan.now) }
 {
-    let Ok(cast) = cast(alloc, setup, clients) else {
+    let Ok(cast) = prepare(alloc, setup, clients) else {
         return Err(NoRun::Back(outs));
     };
     match new_table(alloc, plan, outs) {

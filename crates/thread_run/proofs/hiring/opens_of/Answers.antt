@@ -11,4 +11,4 @@ opens-preserved c = let n = opens_next c.args.operations.now c.opens.operation-i
 }
 
 pub returns : goal.returns
-returns c = c.opens.invariant.count ∙ ap opens_of (take_all c.args.operations.now c.opens.operation-index c.opens-test.false)
+returns c = c.opens.invariant.count ∙ ap opens_of (take_all c.opens.operation-index c.args.operations.now c.opens-test.false)
