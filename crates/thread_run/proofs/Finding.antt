@@ -56,5 +56,5 @@ waited_go z p ns c d go rest found held passes = record {
 -- what a run came to, where the operations were read of a list
 pub ran_of : {O E : Type 0} {g : Ghosts O} (state : O → OutState) (p : Plan) (n : ℕ) (os ops : List Operation) (c d : Client O g) (result : Result (Unit {0}) E) (short : Bool) → os ≡ ops → short ≡ is_err result
     → (r : RunBy state p n os c d) × IfOk result (λ _. r.made ≡ length os) × IfErr result (λ _. r.made < length os) → (r : RunBy state p n ops c d) × (short ≡ false → r.made ≡ length ops)
-ran_of {O} {E} {g} state p n os ops c d (Ok x) short e s q = subst (λ (l : List Operation). (r : RunBy state p n l c d) × (short ≡ false → r.made ≡ length l)) e (q.0, λ no. q.1)
-ran_of {O} {E} {g} state p n os ops c d (Err x) short e s q = subst (λ (l : List Operation). (r : RunBy state p n l c d) × (short ≡ false → r.made ≡ length l)) e (q.0, λ no. absurd (true≢false (sym s ∙ no)))
+ran_of {O} {E} {g} state p n os ops c d (Ok x) short e s q = subst (λ (l : List Operation). (r : RunBy state p n l c d) × (short ≡ false → r.made ≡ length l)) e (q.0, λ calm. q.1)
+ran_of {O} {E} {g} state p n os ops c d (Err x) short e s q = subst (λ (l : List Operation). (r : RunBy state p n l c d) × (short ≡ false → r.made ≡ length l)) e (q.0, λ calm. absurd (true≢false (sym s ∙ calm)))

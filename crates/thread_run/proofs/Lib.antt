@@ -3,3 +3,4 @@ pub mod Dealing
 pub mod Outcomes
 pub mod Weaving
 pub mod Manning
+pub mod Ending

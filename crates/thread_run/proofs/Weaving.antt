@@ -23,7 +23,7 @@ use Rattle.thread_run.specs.Threads.{opens_of, FoundEach, LinksDown, Thread, IsT
 use Rattle.thread_run.specs.Hired.{IsHired, AreHired}
 use Rattle.thread_run.specs.Working.{IsReady, HasWorked}
 
-none_short : (a b : Bool) → (a || b) ≡ false → (a ≡ false) × (b ≡ false)
+pub none_short : (a b : Bool) → (a || b) ≡ false → (a ≡ false) × (b ≡ false)
 none_short true b e = absurd (true≢false e)
 none_short false b e = (refl, e)
 
@@ -44,7 +44,7 @@ module _ {O : Type 0} {g : Ghosts O} (z : TableId) (p : Plan) where
     thread_of old new h = record { operations = old.operations.items; names = names; began = h.began; ended = new.client }
 
     is_thread : (first : ℕ) (old new : Worker O g) (h : HasWorked state z p names old new) → IsHired z p old.number first old → new.short ≡ false → IsThread state p old.number first (thread_of old new h)
-    is_thread first old new h a no = record {
+    is_thread first old new h a calm = record {
       spare = a.seat.spare;
       waited = subst (λ v. FoundEach p names v h.began.seat.me.0) (new_view z p old.client.seat a.seat) h.waited;
       none_held = ap (λ v. v.items) h.same.1 ∙ a.none_held;
@@ -52,11 +52,11 @@ module _ {O : Type 0} {g : Ghosts O} (z : TableId) (p : Plan) where
       passes = subst (λ v. LinksDown first v.items) (sym h.same.0) a.links;
       count = ap (λ v. length v.items) h.same.0 ∙ a.count;
       ran = h.ran;
-      all = h.all no;
+      all = h.all calm;
     }
 
     pub one_thread : (n first : ℕ) (old new : Worker O g) (h : HasWorked state z p names old new) → IsHired z p n first old → new.short ≡ false → IsThread state p n first (thread_of old new h)
-    one_thread n first old new h a no = subst (λ (k : ℕ). IsThread state p k first (thread_of old new h)) a.number (is_thread first old new h (subst (λ (k : ℕ). IsHired z p k first old) (sym a.number) a) no)
+    one_thread n first old new h a calm = subst (λ (k : ℕ). IsThread state p k first (thread_of old new h)) a.number (is_thread first old new h (subst (λ (k : ℕ). IsHired z p k first old) (sym a.number) a) calm)
 
     pub one_share : (n first : ℕ) (old new : Worker O g) → HasWorked state z p names old new → IsHired z p n first old → new.client.seat.me.0.share ≡ 1
     one_share n first old new h a = h.share ∙ ap (λ (v : View). v.share) (new_view z p old.client.seat a.seat)
@@ -72,7 +72,7 @@ module _ {O : Type 0} {g : Ghosts O} (z : TableId) (p : Plan) where
       pub share : total (λ (s : Seat (SockHome O g) View). s.me.0.share) (map (λ (w : Worker O g). w.client.seat) ys) ≡ length xs
 
     pub weave : (n first : ℕ) (xs ys : List (Worker O g)) → length ys ≡ length xs → AreHired z p n first xs → ((i : ℕ) (d : Worker O g) → i < length xs → HasWorked state z p names (get_or xs i d) (get_or ys i d)) → Woven n first xs ys
-    weave n first [] [] e a h = record { threads = []; asked = refl; seats = refl; told = refl; are = λ no. tt; done = tt; share = refl }
+    weave n first [] [] e a h = record { threads = []; asked = refl; seats = refl; told = refl; are = λ calm. tt; done = tt; share = refl }
     weave n first [] (y ∷ ys) e a h = absurd (omega arith)
     weave n first (x ∷ xs) [] e a h = absurd (omega arith)
     weave n first (x ∷ xs) (y ∷ ys) e a h = let w = weave (n + 1) (first + opens_of x.operations.items) xs ys (omega arith) a.1 (λ i d lt. h (suc i) d (omega arith)) in let one = h 0 x (omega arith) in record {
@@ -80,7 +80,7 @@ module _ {O : Type 0} {g : Ghosts O} (z : TableId) (p : Plan) where
       asked = ap (λ l. x.operations.items ∷ l) w.asked;
       seats = ap (λ l. y.client.seat ∷ l) w.seats;
       told = ap (λ l. y.client.outcomes.items ∷ l) w.told;
-      are = λ no. (let b = none_short y.short (list_any (λ (v : Worker O g). v.short) ys) no in (one_thread n first x y one a.0 b.0, refl, w.are b.1));
+      are = λ calm. (let b = none_short y.short (list_any (λ (v : Worker O g). v.short) ys) calm in (one_thread n first x y one a.0 b.0, refl, w.are b.1));
       done = (one.done, w.done);
       share = (let s = one_share n first x y one a.0 in let r = w.share in omega arith);
     }

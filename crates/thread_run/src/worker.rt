@@ -56,6 +56,7 @@ pub fn run_workers<O: Out + Send, G: Gate + Sync, R: Threads + Wait + Sync>(
         count,
         &|_, worker: &mut Worker<O>|
             requires { IsReady table.now.rule.table.shared.table_id table.now.rule.plan names.now worker.now }
+            ensures { HasWorked O.state table.entry.now.rule.table.shared.table_id table.entry.now.rule.plan names.entry.now worker.entry.now worker.exit.now }
         { worker.work(rt, table, names, gate) },
     );
 }

@@ -5,7 +5,7 @@ use Rattle.thread_run.proofs.Dealing.{opens_next}
 use Rattle.thread_run.proofs.hiring.opens_of.Goals as goal
 
 pub opens-preserved : goal.opens-preserved
-opens-preserved c = let n = opens_next c.args.operations.now c.opens.operation-index c.operation-item.result c.opens-test.true c.operation-item.is in let a = c.opens_in.ensures in let i = c.opens.invariant in let b = i.count in let f = i.few in record {
+opens-preserved c = let n = opens_next c.args.operations.now c.opens.operation-index c.operation-item.result c.opens-test.true c.operation-item.is in let a = c.opens_in-count.ensures in let i = c.opens.invariant in let b = i.count in let f = i.few in record {
   count = omega (arith, n, a.count, b);
   few = omega (arith, a.most, f);
 }
