@@ -42,7 +42,6 @@ opens_few (o ∷ os) = let a = opens_few os in let b = in_few o.action in omega 
 pub all_snoc : {A : Type 0} (P : A → Type 0) (xs : List A) (x : A) → All P xs → P x → All P (xs ++ x ∷ [])
 all_snoc P xs x all one = All-append P xs (x ∷ []) all (All-cons P x [] one (All-nil P))
 
-
 pub all_split : {A : Type 0} (P : A → Type 0) (xs ys : List A) → All P (xs ++ ys) → All P xs × All P ys
 all_split P xs ys h = (
   (λ k d lt. subst P (get_or_append_left xs ys d k lt) (h k d (omega (arith, length-append xs ys)))),

@@ -42,10 +42,7 @@ fn opens_of(operations: &[Operation]) -> usize
 }
 
 /// There is room for the passes of a client.
-pub fn room_for<O: Out>(
-    alloc: Global,
-    operations: Vec<Operation>,
-) -> Result<Room<O>, AllocError>
+pub fn room_for<O: Out>(alloc: Global, operations: Vec<Operation>) -> Result<Room<O>, AllocError>
     ensures room { IfOk result HasRoom }
     ensures operations { IfOk result (λ r. r.operations ≡ operations) }
 {

@@ -148,7 +148,11 @@ fn run_crew<O: Out + Send, G: Gate + Sync, R: Threads + Wait + Sync>(
         mut told,
     } = crew;
     main.work(rt, table, &[], &OpenGate);
-    opened_names(main.client.outcomes.as_slice(), main.operations.as_slice(), &mut names);
+    opened_names(
+        main.client.outcomes.as_slice(),
+        main.operations.as_slice(),
+        &mut names,
+    );
     run_workers(rt, table, names.as_slice(), gate, workers.as_mut_slice());
     let main_short = spend(main, &mut seats, &mut told);
     let others_short = spend_all(workers, &mut seats, &mut told);
@@ -168,11 +172,13 @@ fn end<O: Out>(alloc: Global, table: SockTable<O>, left: Left<O>) -> Result<Ran<
 {
     let Left { seats, told, short } = left;
     match table.close(alloc, seats) {
-        Ok(Closed {
-            places,
-            vrefs,
-            outs,
-        }) => {
+        Ok(
+            Closed {
+                places,
+                vrefs,
+                outs,
+            },
+        ) => {
             if short {
                 return Err(NoRun::Back(outs));
             }
@@ -207,11 +213,13 @@ pub fn run_on<O: Out + Send, G: Gate + Sync, R: Threads + Wait + Sync>(
         return Err(NoRun::Back(outs));
     };
     match new_table(alloc, plan, outs) {
-        Ok(Made {
-            table,
-            seats,
-            passes,
-        }) => {
+        Ok(
+            Made {
+                table,
+                seats,
+                passes,
+            },
+        ) => {
             let crew = crew_of(alloc, &table, seats, passes, cast);
             let left = run_crew(rt, &table, gate, crew);
             end(alloc, table, left)

@@ -21,18 +21,14 @@ pub struct Worker<O: Out> {
 
 impl<O: Out> Worker<O> {
     /// Waits for the names, and makes the operations.
-    pub fn work<R: Wait, G: Gate>(
-        &mut self,
-        rt: &R,
-        table: &SockTable<O>,
-        names: &[u16],
-        gate: &G,
-    )
+    pub fn work<R: Wait, G: Gate>(&mut self, rt: &R, table: &SockTable<O>, names: &[u16], gate: &G)
         requires { IsReady table.now.rule.table.shared.table_id table.now.rule.plan names.now self.old }
         ensures { HasWorked O.state table.now.rule.table.shared.table_id table.now.rule.plan names.now self.old self.new }
     {
         wait_all(rt, table, &mut self.client.seat, names);
-        let ran = self.client.run(rt, table, self.number, self.operations.as_slice(), gate);
+        let ran = self
+            .client
+            .run(rt, table, self.number, self.operations.as_slice(), gate);
         self.short = ran.is_err();
     }
 }

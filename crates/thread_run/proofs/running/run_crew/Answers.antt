@@ -33,9 +33,9 @@ returns g c = let z = c.args.table.now.rule.table.shared.table_id in let p = c.a
     let lent = whole_lent ys was c.args.crew.workers.len (omega (arith, c.args.crew.workers.ok.0)) len in
     let one = c.spend-main_short.ensures in let all = c.spend_all-others_short.ensures in
     crew_ran g.O.Out.state z p c.args.crew m names ys (record { seats = c.spend_all-others_short.new.seats; told = c.spend_all-others_short.new.told; short = c.either.result }) c.requires c.work.ensures
-      (c.as_slice-3.ensures.value ∙ (c.opened_names.ensures ∙ (λ i. opened_names (told i) (same i))))
-      len
-      (subst (λ l. (i : ℕ) (d : Worker g.row.O.Denot g.O.Out) → i < length l → HasWorked g.O.Out.state z p names (get_or l i d) (get_or ys i d)) c.as_mut_slice.ensures.value c.run_workers.ensures.each)
-      (one_and (λ (w : Worker g.row.O.Denot g.O.Out). w.client.seat) c.args.crew.seats.items c.spend-main_short.new.seats.items c.spend_all-others_short.new.seats.items m.client.seat _ ys c.requires.seats.0 one.seats all.seats lent)
-      (one_and (λ (w : Worker g.row.O.Denot g.O.Out). w.client.outcomes) c.args.crew.told.items c.spend-main_short.new.told.items c.spend_all-others_short.new.told.items m.client.outcomes _ ys c.requires.told.0 one.told all.told lent)
-      (c.either.ensures ∙ (λ i. (one.short i || (all.short ∙ ap (list_any (λ (w : Worker g.row.O.Denot g.O.Out). w.short)) lent) i)))
+    (c.as_slice-3.ensures.value ∙ (c.opened_names.ensures ∙ (λ i. opened_names (told i) (same i))))
+    len
+    (subst (λ l. (i : ℕ) (d : Worker g.row.O.Denot g.O.Out) → i < length l → HasWorked g.O.Out.state z p names (get_or l i d) (get_or ys i d)) c.as_mut_slice.ensures.value c.run_workers.ensures.each)
+    (one_and (λ (w : Worker g.row.O.Denot g.O.Out). w.client.seat) c.args.crew.seats.items c.spend-main_short.new.seats.items c.spend_all-others_short.new.seats.items m.client.seat _ ys c.requires.seats.0 one.seats all.seats lent)
+    (one_and (λ (w : Worker g.row.O.Denot g.O.Out). w.client.outcomes) c.args.crew.told.items c.spend-main_short.new.told.items c.spend_all-others_short.new.told.items m.client.outcomes _ ys c.requires.told.0 one.told all.told lent)
+    (c.either.ensures ∙ (λ i. (one.short i || (all.short ∙ ap (list_any (λ (w : Worker g.row.O.Denot g.O.Out). w.short)) lent) i)))
