@@ -24,7 +24,7 @@ use Rattle.thread_run.specs.declared.running.Crew.{Crew}
 use Rattle.thread_run.specs.declared.running.Left.{Left}
 use Rattle.thread_run.specs.Threads.{opens_of, opened_names, AreThreads, MayRunAll, RanOn}
 use Rattle.thread_run.specs.Working.{HasWorked}
-use Rattle.thread_run.specs.Crew.{IsCast, IsCrew, CrewRan}
+use Rattle.thread_run.specs.Crew.{IsCast, IsCrew, CrewRan, AreBack}
 use Rattle.thread_run.proofs.Weaving.{none_short, thread_of, one_thread, one_share, Woven, weave}
 
 module _ {O : Type 0} {g : Ghosts O} where
@@ -90,14 +90,13 @@ crew_ran {O} {g} state z p c m names ys x is h named len each seats told short =
     w : Woven z p state names 1 (opens_of c.main.operations.items) c.workers.items ys
     w = weave z p state names 1 (opens_of c.main.operations.items) c.workers.items ys len is.hired each
 
--- the half of each link is there
-abbrev pub AreBack : {O : Type 0} → (O → OutState) → Plan → List O → Type 0
-AreBack {O} state p outs = (k : ℕ) → k < p.links → (o : O) × (get_elem? outs k ≡ some o) × ((state o).link ≡ k)
-
 is_at : {A : Type 0} (xs : List A) (k : ℕ) → k < length xs → (x : A) × (get_elem? xs k ≡ some x)
 is_at [] k lt = absurd (omega arith)
 is_at (x ∷ xs) zero lt = (x, refl)
 is_at (x ∷ xs) (suc k) lt = is_at xs k (omega arith)
 
 pub fresh_back : {O : Type 0} (state : O → OutState) (p : Plan) (outs : List O) → AreFresh state p outs → AreBack state p outs
-fresh_back state p outs fresh k lt = let x = is_at outs k (let n = fresh.count in omega arith) in (x.0, x.1, (fresh.each k x.0 x.1).0)
+fresh_back state p outs fresh = record {
+  count = fresh.count;
+  each = (λ k lt. let x = is_at outs k (let n = fresh.count in omega arith) in (x.0, x.1, (fresh.each k x.0 x.1).0));
+}

@@ -18,8 +18,6 @@ use Rattle.thread_run.specs.declared.worker.Worker.{Worker}
 use Rattle.thread_run.specs.declared.running.Cast.{Cast}
 use Rattle.thread_run.specs.declared.running.Crew.{Crew}
 use Rattle.thread_run.specs.declared.running.Left.{Left}
-use Rattle.thread_run.specs.declared.running.NoRun.{NoRun}
-use Rattle.thread_run.specs.declared.running.NoRun.TheVariants.{Back, Kept}
 use Rattle.thread_run.specs.Threads.{opens_of, MayRunAll, AllRan}
 use Rattle.thread_run.specs.Hired.{HasRoom, IsHired, AreHired}
 
@@ -55,7 +53,7 @@ pub record CrewRan {O : Type 0} {g : Ghosts O} (state : O → OutState) (z : Tab
   pub left : IsLeft z p l.seats.items
   pub ran : l.short ≡ false → AllRan g state p setup clients (map (λ v. v.items) l.told.items) l.seats.items
 
--- the writing half of each link comes back, unless there was no memory to close the table with
-abbrev pub IsBack : {O : Type 0} {g : Ghosts O} → (O → OutState) → Plan → NoRun O g → Type 0
-IsBack {O} state p (Back outs) = (k : ℕ) → k < p.links → (o : O) × (get_elem? outs.items k ≡ some o) × ((state o).link ≡ k)
-IsBack state p (Kept table seats) = Unit {0}
+-- the writing half of each link comes back, in their order
+pub record AreBack {O : Type 0} (state : O → OutState) (p : Plan) (outs : List O) : Type 0 where
+  pub count : length outs ≡ p.links
+  pub each : (k : ℕ) → k < p.links → (o : O) × (get_elem? outs k ≡ some o) × ((state o).link ≡ k)

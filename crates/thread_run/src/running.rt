@@ -2,9 +2,9 @@
 ghost use Rattle.std.specs.Prelude.{◌≡◌, ◌≤◌, false, IfOk, IfErr, length, map};
 ghost use Rattle.sock_open.specs.Made.{AreMade};
 ghost use Rattle.sock_open.specs.Opening.{MayBegin, AreFresh};
-ghost use Rattle.sock_table.specs.Closed.{ClosedBy};
+ghost use Rattle.sock_table.specs.Closed.{ClosedBy, IsRoomOf};
 ghost use Rattle.thread_run.specs.Threads.{MayRunAll, RanOn};
-ghost use Rattle.thread_run.specs.Crew.{IsCast, IsCrew, IsLeft, CrewRan, IsBack};
+ghost use Rattle.thread_run.specs.Crew.{IsCast, IsCrew, IsLeft, CrewRan, AreBack};
 
 use crate::hiring::{Room, hire, hire_all, room_for, rooms_for};
 use crate::opened::opened_names;
@@ -14,7 +14,7 @@ use rpc_client::{Operation, Told};
 use sock_io::{Gate, OpenGate, Out};
 use sock_open::{Made, NoTable, new_table};
 use sock_rule::SockSeat;
-use sock_table::{Closed, LinkPass, NotClosed, SockTable};
+use sock_table::{Closed, LinkPass, SockTable, rooms};
 use sock_words::{PlaceWord, Plan, Vref};
 use std::alloc::{AllocError, Global};
 use std::sync::Wait;
@@ -30,13 +30,10 @@ pub struct Ran<O: Out> {
     pub outs: Vec<O>,
 }
 
-/// Memory was wanting.
+/// Memory was wanting. The writing halves come back, in their order.
 #[derive(Drop)]
-pub enum NoRun<O: Out> {
-    /// The writing halves come back, in their order.
-    Back(Vec<O>),
-    /// There was none to close the table with, so that it keeps them.
-    Kept(SockTable<O>, Vec<SockSeat<O>>),
+pub struct NoRun<O: Out> {
+    pub outs: Vec<O>,
 }
 
 /// All that a run needs of memory before its table is made.
@@ -164,33 +161,28 @@ fn run_crew<O: Out + Send, G: Gate + Sync, R: Threads + Wait + Sync>(
 }
 
 /// The table ends.
-fn end<O: Out>(alloc: Global, table: SockTable<O>, left: Left<O>) -> Result<Ran<O>, NoRun<O>>
+fn end<O: Out>(table: SockTable<O>, room: Closed<O>, left: Left<O>) -> Result<Ran<O>, NoRun<O>>
     requires plan { MayBegin table.rule.plan }
+    requires room { IsRoomOf table.rule.plan room }
     requires done { IsLeft table.rule.table.shared.table_id table.rule.plan left.seats.items }
     ensures ran { IfOk result (λ r. (left.short ≡ false) × (r.told ≡ left.told) × ClosedBy O.state table.rule.plan left.seats.items r.places.items r.vrefs.items r.outs.items) }
-    ensures back { IfErr result (IsBack O.state table.rule.plan) }
+    ensures back { IfErr result (λ e. AreBack O.state table.rule.plan e.outs.items) }
 {
     let Left { seats, told, short } = left;
-    match table.close(alloc, seats) {
-        Ok(
-            Closed {
-                places,
-                vrefs,
-                outs,
-            },
-        ) => {
-            if short {
-                return Err(NoRun::Back(outs));
-            }
-            Ok(Ran {
-                told,
-                places,
-                vrefs,
-                outs,
-            })
-        }
-        Err(NotClosed { table, seats }) => Err(NoRun::Kept(table, seats)),
+    let Closed {
+        places,
+        vrefs,
+        outs,
+    } = table.close_in(room, seats);
+    if short {
+        return Err(NoRun { outs });
     }
+    Ok(Ran {
+        told,
+        places,
+        vrefs,
+        outs,
+    })
 }
 
 /// Runs these clients over a table of their own, main the setup before.
@@ -207,10 +199,13 @@ pub fn run_on<O: Out + Send, G: Gate + Sync, R: Threads + Wait + Sync>(
     requires outs { AreFresh O.state plan.now outs.items }
     requires may { MayRunAll plan.now setup.items (map (λ v. v.items) clients.items) }
     ensures ran { IfOk result (λ r. RanOn O.Out O.state plan.now setup.items (map (λ v. v.items) clients.items) (map (λ v. v.items) r.told.items) r.places.items r.vrefs.items r.outs.items) }
-    ensures back { IfErr result (IsBack O.state plan.now) }
+    ensures back { IfErr result (λ e. AreBack O.state plan.now e.outs.items) }
 {
+    let Ok(room) = rooms(alloc, plan) else {
+        return Err(NoRun { outs });
+    };
     let Ok(cast) = prepare(alloc, setup, clients) else {
-        return Err(NoRun::Back(outs));
+        return Err(NoRun { outs });
     };
     match new_table(alloc, plan, outs) {
         Ok(
@@ -222,8 +217,8 @@ pub fn run_on<O: Out + Send, G: Gate + Sync, R: Threads + Wait + Sync>(
         ) => {
             let crew = crew_of(alloc, &table, seats, passes, cast);
             let left = run_crew(rt, &table, gate, crew);
-            end(alloc, table, left)
+            end(table, room, left)
         }
-        Err(NoTable { outs }) => Err(NoRun::Back(outs)),
+        Err(NoTable { outs }) => Err(NoRun { outs }),
     }
 }
