@@ -6,7 +6,7 @@ use Rattle.sock_words.specs.declared.plain.Plan.{Plan}
 use Rattle.sock_words.specs.Words.{socket_id_version, socket_id_slot}
 use Rattle.sock_model.specs.declared.marks.Mark.TheVariants.{Saw, Told, Met}
 use Rattle.sock_model.specs.declared.view.View.{View}
-use Rattle.sock_model.specs.Weights.{total, is_probe, is_claimed, is_any_coding, is_zero, is_met, is_told}
+use Rattle.sock_model.specs.Weights.{total, is_ref, is_probe, is_claimed, is_any_coding, is_zero, is_met, is_told}
 use Rattle.sock_model.specs.Marks.{about, without_pass}
 use Rattle.sock_model.specs.Seats.{carrier, joined}
 use Rattle.sock_model.specs.SlotRows.{marks_of, met_link, told_code}
@@ -17,7 +17,7 @@ use Rattle.sock_rule.specs.Faults.{fault_found, fault_left}
 use Rattle.sock_rule.specs.Hands.{hand_of}
 use Rattle.sock_rule.specs.OnTable.{is_put, put_in}
 use Rattle.sock_rule.proofs.Becoming.{then_, becomes, adds_mark, met_marks}
-use Rattle.sock_table.specs.Refs.{IsBetween, SameNotes}
+use Rattle.sock_table.specs.Refs.{IsBetween, SameTokens, SameNotes}
 use Rattle.sock_table.specs.Answers.{LinkOf, CodeOf}
 use Rattle.sock_table.proofs.Ending.{left_found}
 use Rattle.sock_table.proofs.Joining.{sum_of}
@@ -85,6 +85,17 @@ module _ (p : Plan) (u a x t c : View) (k next n m : ℕ) (took : List ℕ) (is 
     no_rights = ap (λ (y : View). y.rights) finished ∙ (ap (λ (y : View). y.rights) took_in ∙ b.no_rights);
     empty = ap (λ (y : View). y.hands) finished ∙ no_hand;
     no_passes = ap (λ (y : View). y.passes) finished ∙ (ap (without_pass k) (pass_alone p u a x k is took_in b.no_passes) ∙ spent_alone k);
+  }
+
+  pub finished_tokens : SameTokens p u c
+  finished_tokens = record {
+    refs = λ i il. ap (λ es. total is_ref (about i es)) same_marks;
+    claims = ap (λ (y : View). y.claims) finished ∙ ap (λ (y : View). y.claims) took_in;
+    loose = ap (λ (y : View). y.loose) finished ∙ ap (λ (y : View). y.loose) took_in;
+    rights = ap (λ (y : View). y.rights) finished ∙ ap (λ (y : View). y.rights) took_in;
+    hands = ap (λ (y : View). y.hands) finished ∙ ap (λ (y : View). y.hands) took_in;
+    lists = ap (λ (y : View). y.lists) finished ∙ (ap (λ (y : View). y.lists) took_in ∙ (ap (λ (y : View). u.lists ++ y.lists) is ∙ append-nil u.lists));
+    share = (let e = ap (λ (y : View). y.share) finished in let f = ap (λ (y : View). y.share) took_in in let s = ap (λ (y : View). y.share) is in omega arith);
   }
 
   pub finished_notes : SameNotes u c
