@@ -182,15 +182,15 @@ module _ {O : Type 0} {g : Ghosts O} {p : Plan} {id last : ℕ} where
   link_fetched link at hand m n s same low half took slot slot_is known e = let x' : Right = record s.right_is { at_home = false } in let u : View = with_right m.0 x' in let faults : ℕ = (g.state hand.home.out).faults in
       let with_notes : IsWriter p id last link x' (fault_found faults slot link u) = writer_noted {O = O} {state = g.state} {L = λ k. ⊥} (writer_on s.writer last x' refl s.writer.last_is s.writer.last_ticket refl) (found_marks faults link) (found_noted faults link)
       (subst (λ (j : ℕ). Became j u (fault_found faults slot link u) (found_marks faults link) []) slot_is (found_became faults slot link u)) in record {
-    right_is = record s.right_is { at_home = false };
-    writer = subst (λ (y : ℕ). IsWriter p id last y (record s.right_is { at_home = false }) n.0) (sym same) (subst (λ (z : View). IsWriter p id last link x' z) (sym (ap (λ (q : Me (SockHome O g) View). q.0) e)) with_notes);
-    has = record { away = refl; link_in = subst (λ (y : ℕ). y < p.links) (sym same) low; places_are = took.1; own = half.0 ∙ sym same; unfinished = half.1 };
-    stage_is = s.stage_is;
-    idle = s.idle;
-    took = took.0;
-    noted = λ t. noted_taken faults slot link m.0 u refl known (subst (λ (k : ℕ). 0 < faults_of k (fault_found faults slot link u)) same (subst (λ (y : View). 0 < faults_of hand.link y) (ap (λ (q : Me (SockHome O g) View). q.0) e) t));
-    slots = ap (λ (q : Me (SockHome O g) View). q.1) e ∙ (λ i. (p.requests + sym same i, Empty) ∷ s.slots i);
-  }
+        right_is = record s.right_is { at_home = false };
+        writer = subst (λ (y : ℕ). IsWriter p id last y (record s.right_is { at_home = false }) n.0) (sym same) (subst (λ (z : View). IsWriter p id last link x' z) (sym (ap (λ (q : Me (SockHome O g) View). q.0) e)) with_notes);
+        has = record { away = refl; link_in = subst (λ (y : ℕ). y < p.links) (sym same) low; places_are = took.1; own = half.0 ∙ sym same; unfinished = half.1 };
+        stage_is = s.stage_is;
+        idle = s.idle;
+        took = took.0;
+        noted = λ t. noted_taken faults slot link m.0 u refl known (subst (λ (k : ℕ). 0 < faults_of k (fault_found faults slot link u)) same (subst (λ (y : View). 0 < faults_of hand.link y) (ap (λ (q : Me (SockHome O g) View). q.0) e) t));
+        slots = ap (λ (q : Me (SockHome O g) View). q.1) e ∙ (λ i. (p.requests + sym same i, Empty) ∷ s.slots i);
+      }
 
   -- the right changes, and what is in hand with it
   pub link_moves : {last' : ℕ} {at at' : Stage} {above above' : List (ℕ × SockHome O g)} (hand : LinkInHand O g) (m n : Me (SockHome O g) View) (h : HasLink p id last at above hand m) (x' : Right) (s : List (ℕ × SockHome O g)) → x'.link ≡ h.right_is.link → x'.last ≡ last' → IsTicket p last'
