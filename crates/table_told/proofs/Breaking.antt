@@ -1,5 +1,5 @@
 -- A link of which a seat noted a fault comes back with a count of faults that isn't 0.
-use Rattle.std.proofs.Common.{◌≡◌, ℕ, zero, suc, ◌+◌, ◌<◌, ◌≤◌, List, [], ◌∷◌, flat_map, slice_get, Option, Some, None, Contains, sym, ap, ◌∙◌, subst, arith}
+use Rattle.std.proofs.Common.{◌≡◌, ℕ, zero, suc, ◌+◌, ◌<◌, ◌≤◌, List, [], ◌∷◌, flat_map, slice_get, Option, Some, None, Contains, refl, sym, ap, ◌∙◌, subst, arith}
 use Rattle.std.proofs.lemmas.Option.{none-some, same_Some}
 use mathlib.Core.Option.{some, some-injective, some-ne-none}
 use lib.ListN.{get_elem?}
@@ -42,7 +42,7 @@ of_slice (y ∷ ys) (suc k) x e = of_slice ys k x e
 noted_fault : {O : Type 0} {state : O → OutState} {L : ℕ → Type 0} (k h : ℕ) (ms : List Mark) (noted : Noted state L h ms) (j : ℕ) → get_elem? (noted_links h ms noted) j ≡ some k → 0 < total (is_fault k) ms
 noted_fault k h _ nothing j e = absurd (some-ne-none k (sym e))
 noted_fault k h _ (finding m ms a b) j e = let r = noted_fault k h ms b j e in omega arith
-noted_fault k h _ (failing l ms a b c) zero e = let s = only-at k l (sym (some-injective l k e)) in omega arith
+noted_fault k h _ (failing l ms a b c) zero e = let s = only-at k l (some-injective l k e) in omega arith
 noted_fault k h _ (failing l ms a b c) (suc j) e = let r = noted_fault k h ms c j e in omega arith
 
 module _ {O : Type 0} (state : O → OutState) (p : Plan) {g : Ghosts O} where

@@ -27,7 +27,7 @@ if_told : (o : Option (List ℕ)) (a b : List ℕ) → ForSome o (λ bytes. byte
 if_told None a b h e = tt
 if_told (Some x) a b h e = h x refl ∙ e
 
-nothing_there : (x : ℕ) → Contains {A = ℕ} [] x → ⊥
+nothing_there : (x : ℕ) → Contains [] x → ⊥
 nothing_there x h = has_none x (has_from [] x h)
 
 module _ {O : Type 0} {g : Ghosts O} {state : O → OutState} (script : List Item) {outcomes : List (Option Outcome)} {places : List PlaceWord} {vrefs : List Vref} {outs : List O} (run : ThreadRun g state (plan_of script) (all_tasks script) outcomes places vrefs outs) where
