@@ -1,6 +1,5 @@
 -- What steps leave of the notes of faults, and of where each link is.
-use Rattle.std.proofs.Common.{◌≡◌, ◌≢◌, ℕ, zero, suc, ◌+◌, ◌-◌, ◌%◌, ◌<◌, ◌≤◌, Bool, true, false, not, cond, eqb, eq-eqb, ne_eqb, nat_lt, List, [], ◌∷◌, ◌++◌, length, get_or, set, refl, sym, ap, ◌∙◌, subst, arith}
-use Rattle.std.specs.List.{filter}
+use Rattle.std.proofs.Common.{◌≡◌, ◌≢◌, ℕ, zero, suc, ◌+◌, ◌-◌, ◌%◌, ◌<◌, ◌≤◌, Bool, true, false, cond, eqb, eq-eqb, ne_eqb, nat_lt, List, [], ◌∷◌, ◌++◌, length, set, refl, sym, ap, ◌∙◌, subst, arith}
 use mathlib.Core.Logic.{dite}
 use mathlib.Core.Option.{Option, none, some}
 use native.Mathlib.Decide.{ℕ_discrete}
@@ -8,19 +7,17 @@ use lib.ListN.{get_elem?}
 use Rattle.atomic_table.specs.Table.{State}
 use Rattle.atomic_table.proofs.Lists.{set_here, set_else}
 use Rattle.sock_words.specs.declared.plain.Plan.{Plan}
-use Rattle.sock_model.specs.declared.chain.Right.{Right}
 use Rattle.sock_model.specs.declared.marks.Mark.{Mark}
-use Rattle.sock_model.specs.declared.marks.Mark.TheVariants.{Claimed, Recycling, Hold, Probe, Zero, Coding, Tried, Known, Born, Saw, Failer, Stored, Told, Freer, Linked, Met, Handed}
+use Rattle.sock_model.specs.declared.marks.Mark.TheVariants.{Claimed, Recycling, Hold, Probe, Zero, Coding, Tried, Saw, Failer, Freer, Handed}
 use Rattle.sock_model.specs.declared.marks.SlotMark.{SlotMark}
 use Rattle.sock_model.specs.declared.view.View.{View}
-use Rattle.sock_model.specs.declared.view.Hand.{Hand}
 use Rattle.sock_model.specs.Weights.{total, only, is_probe, is_hold, is_stage, is_zero, is_coding, is_recycling}
 use Rattle.sock_model.specs.Marks.{about, at, without_at}
 use Rattle.sock_model.specs.References.{uses_link}
-use Rattle.sock_model.specs.Reads.{waits_link, carries, hands_of}
+use Rattle.sock_model.specs.Reads.{waits_link, carries}
 use Rattle.sock_model.specs.Slots.{version_of, nref_of}
 use Rattle.sock_model.specs.SlotRows.{marks_of, claimed, gave_birth, added, back, subbed, failed, recycled, freed, linked, staged, coded}
-use Rattle.slot_laws.proofs.Numbers.{only-at, only-same, only_is, only-else}
+use Rattle.slot_laws.proofs.Numbers.{only-same, only_is, only-else}
 use Rattle.slot_laws.proofs.Sums.{total-set, total-append, term_le, about-here, about-other}
 use Rattle.sock_rule.specs.Faults.{fault, is_fault, faults_link, faults_of, noting_fault, fault_found, without_fault, fault_left, away, out_of, noted_out, present, rose_at, LinkFaults}
 use Rattle.sock_rule.proofs.Light.{Light, Alike}

@@ -1,5 +1,5 @@
 -- A note that no law weighs comes or goes: the rule of the sockets stays.
-use Rattle.std.proofs.Common.{◌≡◌, ◌≢◌, ℕ, ◌+◌, ◌-◌, ◌*◌, ◌/◌, ◌%◌, ◌<◌, ◌≤◌, List, map, get_or, set, length-set, inl, refl, sym, ap, ◌∙◌, subst, arith}
+use Rattle.std.proofs.Common.{◌≡◌, ℕ, ◌+◌, ◌-◌, ◌/◌, ◌%◌, List, get_or, set, length-set, inl, refl, sym, ap, subst, arith}
 use mathlib.Core.Option.{some}
 use lib.ListN.{get_elem?}
 use lib.Seq.{map-set}
@@ -13,7 +13,7 @@ use Rattle.sock_model.specs.declared.view.View.{View}
 use Rattle.sock_model.specs.Weights.{total, only, tally, is_claimed, is_recycling, is_busy, is_ref, is_any_coding, is_tried, is_stage, is_recycled, is_hold, is_zero, is_coding, is_known, is_born, is_saw, is_failer, is_freer, is_coded, is_stored, is_told, is_linked, is_met, is_reset}
 use Rattle.sock_model.specs.Marks.{about}
 use Rattle.sock_model.specs.Layout.{name_word, open_word}
-use Rattle.sock_model.specs.Slots.{SlotFacts, live_by, live, count, Each, KeepsCodes, SlotLaw}
+use Rattle.sock_model.specs.Slots.{SlotFacts, live_by, live, count, KeepsCodes, SlotLaw}
 use Rattle.sock_model.specs.SlotRows.{marks_of}
 use Rattle.sock_model.specs.References.{uses_of, uses_link, sayers, spare, slot_facts, Names, Stores, References}
 use Rattle.sock_model.specs.Reads.{waits_link}

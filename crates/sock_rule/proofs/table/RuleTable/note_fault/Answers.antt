@@ -1,4 +1,4 @@
-use Rattle.std.proofs.Common.{◌<◌, arith, refl, ◌∙◌, sym}
+use Rattle.std.proofs.Common.{arith, refl, ◌∙◌, sym}
 use Rattle.sock_rule.specs.Shows.{shows, rose}
 use Rattle.sock_rule.proofs.Seating.{still_seat}
 use Rattle.sock_rule.proofs.Holding.{notes_fault}

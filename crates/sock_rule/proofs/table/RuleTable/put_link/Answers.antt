@@ -1,9 +1,9 @@
-use Rattle.std.proofs.Common.{ℕ, ◌<◌, arith, refl, ◌∙◌, sym, ap, subst}
+use Rattle.std.proofs.Common.{ℕ, ◌<◌, arith, ◌∙◌, sym, ap, subst}
 use Rattle.atomic_table.specs.Table.{rest}
 use Rattle.sock_model.specs.declared.home.Home.TheVariants.{Link}
 use Rattle.sock_rule.specs.declared.homes.SockHome.TheVariants as at_home
 use Rattle.sock_rule.specs.Hands.{hand_of}
-use Rattle.sock_rule.specs.Faults.{faults_of, fault_left}
+use Rattle.sock_rule.specs.Faults.{faults_of}
 use Rattle.sock_rule.specs.Shows.{shows, rose}
 use Rattle.sock_model.specs.ChainRows.{without_hand}
 use Rattle.sock_rule.proofs.Faults.{left_alike}

@@ -1,7 +1,6 @@
-use Rattle.std.proofs.Common.{◌<◌, arith, refl, ◌∙◌, sym, ap, subst}
+use Rattle.std.proofs.Common.{◌<◌, arith, ◌∙◌, sym, ap, subst}
 use Rattle.sock_model.specs.ChainRows.{spent_hand}
 use Rattle.sock_rule.specs.Hands.{hand_of}
-use Rattle.sock_rule.specs.Faults.{faults_of}
 use Rattle.sock_rule.specs.Shows.{shows, rose}
 use Rattle.sock_rule.proofs.Faults.{found_alike}
 use Rattle.sock_rule.proofs.Moving.{spends}

@@ -3,7 +3,6 @@ use Rattle.sock_model.specs.Reads.{carries}
 use Rattle.sock_model.specs.Weights.{total}
 use Rattle.sock_model.specs.ChainRows.{with_hand}
 use Rattle.sock_rule.specs.Hands.{hand_of}
-use Rattle.sock_rule.specs.Faults.{faults_of}
 use Rattle.sock_rule.specs.Shows.{shows, rose}
 use Rattle.sock_rule.proofs.Faults.{found_alike}
 use Rattle.sock_rule.proofs.Moving.{takes_last}
