@@ -3,7 +3,9 @@ use Rattle.std.specs.Prelude.{ℕ, ◌≡◌, ◌+◌, ◌<◌, ◌≤◌, ◌++
 use Rattle.std.specs.List.{AllByRecursion}
 use mathlib.Core.Option.{some}
 use lib.ListN.{get_elem?}
+use Rattle.sock_words.specs.declared.outcome.Outcome.{Outcome}
 use Rattle.brpc_model.specs.Items.{Item, Shape}
+use Rattle.brpc_model.specs.Messages.{shown_id}
 use Rattle.brpc_model.specs.Operations.{Turn, link_shapes}
 use Rattle.brpc_model.specs.Stream.{stream}
 use Rattle.sock_message.specs.Asked.{Asked, request_of}
@@ -15,7 +17,7 @@ use Rattle.sock_programs.specs.Heads.{Exit, Reading, Reads}
 use Rattle.sock_programs.specs.Programs.{Program, Round}
 use Rattle.sock_programs.specs.Scripts.{all_tasks, played, IsRunWithCalls}
 use Rattle.sock_programs.specs.Tasks.{opens, plan_of, id_plan_of}
-use Rattle.sock_programs.specs.Told.{IsTask}
+use Rattle.sock_programs.specs.Told.{IsTask, Became}
 use Rattle.report_fits.proofs.Lists.{Has}
 use Rattle.owed_calls.specs.Sound.{id_word_of}
 use Rattle.served_runs.specs.Offered.{TookSoFar}
@@ -44,6 +46,11 @@ module _ (script : List Item) (turns : List Turn) (core : Core) (is : IsRunWithC
     pub asked : Asked
     pub is_task : IsTask (all_tasks script) core.outcomes client task
     pub op : task.op ≡ ops.Call asked
+    pub own : asked.operation ≡ task.number
+    -- what it becomes in the end shows the id
+    pub outcome : Outcome
+    pub became : Became (all_tasks script) core.outcomes task.number outcome
+    pub shows : shown_id outcome ≡ Some id
     -- the link of the attempt, which has the server
     pub link : ℕ
     pub opening : ℕ
