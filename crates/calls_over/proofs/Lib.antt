@@ -1,0 +1,2 @@
+pub mod OpensStill
+pub mod OpensOwed
