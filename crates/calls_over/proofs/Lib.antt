@@ -1,2 +1,3 @@
 pub mod OpensStill
 pub mod OpensOwed
+pub mod OpensNamed
