@@ -1,3 +1,4 @@
 pub mod OpensStill
 pub mod OpensOwed
 pub mod OpensNamed
+pub mod OpensHeld
