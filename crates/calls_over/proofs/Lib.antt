@@ -4,3 +4,4 @@ pub mod OpensNamed
 pub mod OpensHeld
 pub mod OpensLog
 pub mod OpensTook
+pub mod OpensEntered
