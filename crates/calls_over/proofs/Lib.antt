@@ -5,3 +5,4 @@ pub mod OpensHeld
 pub mod OpensLog
 pub mod OpensTook
 pub mod OpensEntered
+pub mod OpensFull
