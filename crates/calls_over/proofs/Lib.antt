@@ -6,3 +6,4 @@ pub mod OpensLog
 pub mod OpensTook
 pub mod OpensEntered
 pub mod OpensFull
+pub mod OpensQuiet
