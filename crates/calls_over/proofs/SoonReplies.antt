@@ -80,7 +80,7 @@ module _ (q : IdPlan) (c : Core) where
 
 -- ## Soon frames
 
-in_two : {A : Type 0} (x : A) (xs ys : List A) → In x (xs ++ ys) → In x xs ⊎ In x ys
+pub in_two : {A : Type 0} (x : A) (xs ys : List A) → In x (xs ++ ys) → In x xs ⊎ In x ys
 in_two x [] ys there = inr there
 in_two x (z ∷ xs) ys (inl same) = inl (inl same)
 in_two x (z ∷ xs) ys (inr there) = ⊎_elim (λ a. inl (inr a)) (λ a. inr a) (in_two x xs ys there)
