@@ -7,15 +7,12 @@ use Rattle.brpc_model.specs.Items.{Item, Shape}
 use Rattle.brpc_model.specs.Operations.{Turn, link_shapes}
 use Rattle.brpc_model.specs.Stream.{stream}
 use Rattle.sock_message.specs.Asked.{Asked, request_of}
-use Rattle.sock_programs.specs.declared.task.Op.TheVariants as ops
-use Rattle.sock_programs.specs.declared.task.Task.{Task}
 use Rattle.sock_programs.specs.Asides.{id_slot, id_first}
 use Rattle.sock_programs.specs.Cores.{Core, SeatState}
 use Rattle.sock_programs.specs.Heads.{Exit, Reading, Reads}
 use Rattle.sock_programs.specs.Programs.{Program, Round}
-use Rattle.sock_programs.specs.Scripts.{all_tasks, played, IsRunWithCalls}
+use Rattle.sock_programs.specs.Scripts.{played, IsRunWithCalls}
 use Rattle.sock_programs.specs.Tasks.{opens, plan_of, id_plan_of}
-use Rattle.sock_programs.specs.Told.{IsTask}
 use Rattle.report_fits.proofs.Lists.{Has}
 use Rattle.owed_calls.specs.Sound.{id_word_of}
 use Rattle.served_runs.specs.Offered.{TookSoFar}
@@ -28,7 +25,7 @@ module _ (script : List Item) (turns : List Turn) (core : Core) (is : IsRunWithC
 
   -- id slot i is open there
   pub record OpenCall (i : ℕ) : Type 0 where
-    -- its id, and the attempt at which it stands; the versions of both fit
+    -- its id, and the attempt at which it stands; their versions fit
     pub inside : i < (id_plan_of script).slots
     pub open_ : (id_word_of before i).state ≡ 1
     pub id : ℕ
@@ -38,12 +35,8 @@ module _ (script : List Item) (turns : List Turn) (core : Core) (is : IsRunWithC
     pub at : (id_word_of before i).attempt ≡ attempt
     pub versions : attempt + 2 ≤ (id_word_of before i).range
     pub small : id_first id + 8 ≤ 67108864
-    -- whose it is
-    pub client : ℕ
-    pub task : Task
+    -- the call
     pub asked : Asked
-    pub is_task : IsTask (all_tasks script) core.outcomes client task
-    pub op : task.op ≡ ops.Call asked
     -- the link of the attempt, which has the server
     pub link : ℕ
     pub opening : ℕ
