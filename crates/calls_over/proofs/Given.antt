@@ -11,7 +11,7 @@ use Rattle.sock_words.specs.declared.plain.Plan.{Plan}
 use Rattle.sock_io.specs.declared.link.Ready.TheVariants as ready
 use Rattle.brpc_model.specs.Items.{Item, Shape}
 use Rattle.brpc_model.specs.Operations.{Turn, clients, link_names, link_shapes}
-use Rattle.sock_programs.specs.Asides.{Taking, Bytes, Nothing, NoMore, AtEnd, Closed, Broken}
+use Rattle.sock_programs.specs.Asides.{Bytes, Nothing, NoMore, AtEnd, Closed, Broken}
 use Rattle.sock_programs.specs.Heads.{Exit, Reading, Reads}
 use Rattle.sock_programs.specs.Programs.{Program, Round}
 use Rattle.sock_programs.specs.Rounds.{kind_of_round}

@@ -1,5 +1,5 @@
 -- Where the reader of a link waits for bytes as the ending begins, it has handled each frame that the link gave.
-use Rattle.std.proofs.Common.{◌≡◌, ℕ, zero, suc, ◌+◌, ◌<◌, ◌⊎◌, ⊎_elim, List, [], ◌∷◌, ◌++◌, length, replicate, slice_get, Option, Some, None, append-nil, get_or, refl, sym, ap, ◌∙◌, subst, arith}
+use Rattle.std.proofs.Common.{◌≡◌, ℕ, zero, suc, ◌+◌, ◌<◌, ⊎_elim, List, [], ◌∷◌, ◌++◌, length, replicate, slice_get, Option, Some, None, append-nil, get_or, refl, sym, ap, ◌∙◌, subst, arith}
 use Rattle.std.specs.List.{AllByRecursion}
 use Rattle.std.proofs.lemmas.List.{length-map}
 use mathlib.Core.Option.{some, some-injective, some-ne-none}
@@ -7,7 +7,6 @@ use lib.ListN.{get_elem?}
 use Rattle.brpc_model.specs.Frame.{Frame}
 use Rattle.brpc_model.specs.Items.{Item}
 use Rattle.brpc_model.specs.Operations.{Turn}
-use Rattle.sock_programs.specs.Asides.{id_slot}
 use Rattle.sock_programs.specs.Clients.{client_from}
 use Rattle.sock_programs.specs.Heads.{Exit, Reading, Reads}
 use Rattle.sock_programs.specs.Programs.{Program, Round}
@@ -25,7 +24,7 @@ use Rattle.call_causes.specs.Lists.{given, soon_at, shows_in}
 use Rattle.call_causes.specs.Scenes.{In, LeadsTo}
 use Rattle.call_causes.proofs.Scripts.{are_numbered, have_slots, begins}
 use Rattle.call_causes.proofs.Run as runs
-use Rattle.call_causes.proofs.Handled.{word_of, frames_in, all_at, IsResp, Gone, Done, Over, Frozen}
+use Rattle.call_causes.proofs.Handled.{word_of, frames_in, all_at, IsResp, Done, Over, Frozen}
 use Rattle.call_causes.proofs.HandledSteps.{State, waiting, reading, seeking, taking, ending_, freeing, over}
 use Rattle.call_causes.proofs.HandledStates.{After}
 use Rattle.call_causes.proofs.HandledTicks.{sit}

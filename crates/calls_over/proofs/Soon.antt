@@ -1,7 +1,7 @@
 -- Where nothing went wrong, no call is open as the ending begins: the link of its attempt gave the reply, and the link's reader handled it.
-use Rattle.std.proofs.Common.{◌≡◌, ℕ, zero, suc, ◌+◌, ◌<◌, ◌≤◌, ◌&&◌, nat_lt, lt-ltb, Bool, true, cond, List, [], ◌∷◌, ◌++◌, length, flat_map, filter_map, slice_get, Option, Some, None, Ok, append-nil, refl, sym, ap, ◌∙◌, subst, arith}
+use Rattle.std.proofs.Common.{◌≡◌, ℕ, zero, suc, ◌+◌, ◌<◌, ◌≤◌, ◌&&◌, nat_lt, lt-ltb, Bool, true, cond, List, [], ◌∷◌, flat_map, slice_get, Option, Some, None, Ok, append-nil, refl, sym, ap, ◌∙◌, subst, arith}
 use Rattle.std.specs.List.{AllByRecursion}
-use Rattle.std.specs.Prelude.{IsSome, IsTrue, Contains}
+use Rattle.std.specs.Prelude.{IsSome, IsTrue}
 use Rattle.brpc_model.specs.Complete.{IsUntroubled}
 use Rattle.brpc_model.specs.Frame.{Frame, frame_bytes}
 use Rattle.brpc_model.specs.Items.{Item, Shape, Open, Send}
@@ -17,14 +17,13 @@ use Rattle.brpc_model.specs.Stream.{stream}
 use Rattle.report_fits.specs.Ends.{AreEndsOf, AreTold}
 use Rattle.report_fits.proofs.Known as known
 use Rattle.report_fits.proofs.Lines.{Given}
-use Rattle.report_fits.proofs.Lists.{Has, has_later, has_filter_map, contains_from, some_is, within, all_at, all_from, filter_map_has}
+use Rattle.report_fits.proofs.Lists.{Has, has_later, has_filter_map, contains_from, some_is, all_at, all_from, filter_map_has}
 use Rattle.report_fits.proofs.Lives as lives
 use Rattle.report_fits.proofs.Places.{known_of}
 use Rattle.report_fits.proofs.Reading.{InRange}
 use Rattle.report_fits.proofs.Sizes.{is_counted}
 use Rattle.report_fits.proofs.Targets.{AreThere, are_there}
 use Rattle.report_fits.proofs.TaskLemmas.{numbers_at, task_is, send_asks, mentions_send}
-use Rattle.std.proofs.lemmas.Option.{slice_get_within}
 use Rattle.corr_core.specs.declared.marks.Plan.{Plan as IdPlan}
 use Rattle.sock_message.specs.Asked.{request_of}
 use Rattle.sock_programs.specs.declared.task.Op.TheVariants as ops
@@ -44,7 +43,6 @@ use Rattle.call_causes.specs.Lists.{given}
 use Rattle.call_causes.proofs.Handled.{IsResp}
 use Rattle.served_runs.specs.Offered.{OffersInRun}
 use Rattle.served_runs.proofs.Frames.{IsPiece, reply_is}
-use Rattle.served_runs.proofs.Served.{shapes_many}
 use Rattle.served_calls.proofs.Frames.{SaysReply, piece_has, reply_to, reply_says}
 use Rattle.calls_over.specs.Open.{before, OpenCall}
 use Rattle.calls_over.proofs.Given.{gave_before}
@@ -104,7 +102,7 @@ module _ (bytes : List ℕ) (script : List Item) (reads : script_of bytes ≡ Ok
       let m = send_asks (numbered script) (names script) (numbers_at script t.number w.operation) w.operation.item name sent (w.asks ∙ ap Some op) in
       let mentions = mentions_send script t.number w.operation w.there m.0 sent m.1 in let link = lives.link_of all_given name k slot version m.0 (m.2, mentions) life in let x = named_shape script k shape at in
       untroubled.no_stray m.0 sent (contains_from script (Send m.0 sent) (known.in_script all_given.run t.number w.operation w.there (Send m.0 sent) m.1))
-          (shape, contains_from script (Open m.0 shape) (subst (λ n. Has script (Open n shape)) (some_is x.0 m.0 (sym x.1 ∙ link)) x.2), serves)
+      (shape, contains_from script (Open m.0 shape) (subst (λ n. Has script (Open n shape)) (some_is x.0 m.0 (sym x.1 ∙ link)) x.2), serves)
 
   module _ (i : ℕ) (o : OpenCall script turns core is i) where
     abbrev g : Frame

@@ -1,5 +1,5 @@
 -- Each whole frame that a link takes of what it accepted is the request of an attempt of a call, of a version below the end of its range.
-use Rattle.std.proofs.Common.{◌≡◌, ◌≢◌, ℕ, zero, suc, ◌+◌, ◌<◌, ◌≤◌, cond, eqb, eq-eqb, ne_eqb, List, [], ◌∷◌, ◌++◌, length, take, flat_map, slice_get, Some, inl, inr, ⊎_elim, refl, sym, ap, ◌∙◌, subst, arith}
+use Rattle.std.proofs.Common.{◌≡◌, ◌≢◌, ℕ, zero, suc, ◌+◌, ◌<◌, ◌≤◌, cond, eqb, eq-eqb, ne_eqb, List, [], ◌∷◌, ◌++◌, length, take, flat_map, slice_get, Some, ⊎_elim, refl, sym, ap, ◌∙◌, subst, arith}
 use Rattle.std.specs.List.{AllByRecursion}
 use mathlib.Core.Option.{some}
 use lib.ListN.{get_elem?}
@@ -14,7 +14,7 @@ use Rattle.sock_model.specs.Entries.{on}
 use Rattle.sock_model.specs.Weights.{total}
 use Rattle.brpc_model.specs.Frame.{Frame, IsFrame}
 use Rattle.brpc_model.specs.Stream.{stream, stream_from}
-use Rattle.report_fits.proofs.Lists.{Has, all_at, all_from}
+use Rattle.report_fits.proofs.Lists.{all_at, all_from}
 use Rattle.corr_core.specs.declared.marks.Plan.{Plan as IdPlan}
 use Rattle.sock_message.specs.Asked.{Asked, request_of, frame_of}
 use Rattle.sock_programs.specs.Asides.{id_slot, id_first}

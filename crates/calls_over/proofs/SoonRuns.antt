@@ -1,15 +1,13 @@
 -- In a run a link with the server, to whose socket no `send` is, gives no response before its call began, up to where the ending begins.
-use Rattle.std.proofs.Common.{◌≡◌, ℕ, zero, suc, ◌+◌, ◌<◌, ◌≤◌, inl, inr, ⊎_elim, Bool, false, List, [], ◌∷◌, ◌++◌, length, replicate, map, get_or, refl, sym, ap, ◌∙◌, subst, arith}
+use Rattle.std.proofs.Common.{◌≡◌, ℕ, zero, suc, ◌+◌, ◌<◌, ◌≤◌, inl, inr, ⊎_elim, Bool, false, List, [], ◌∷◌, ◌++◌, length, replicate, get_or, refl, sym, ap, ◌∙◌, subst, arith}
 use Rattle.std.proofs.lemmas.Option.{slice_get_within}
 use Rattle.std.specs.List.{AllByRecursion}
 use Rattle.std.specs.Prelude.{slice_get, Some, IsTrue}
 use mathlib.Core.Option.{Option, none, some, some-injective, some-ne-none}
 use lib.ListN.{get_elem?}
 use Rattle.sock_words.specs.declared.plain.Plan.{Plan}
-use Rattle.sock_model.specs.declared.home.Home.{Home}
 use Rattle.sock_model.specs.declared.home.Home.TheVariants.{Link}
 use Rattle.sock_model.specs.declared.view.View.{View}
-use Rattle.brpc_model.specs.Frame.{Frame}
 use Rattle.brpc_model.specs.Items.{Item, Shape}
 use Rattle.brpc_model.specs.Operations.{Turn, link_shapes}
 use Rattle.brpc_model.specs.Stream.{stream}
@@ -19,7 +17,7 @@ use Rattle.sock_message.specs.Asked.{Asked, frame_of}
 use Rattle.sock_programs.specs.declared.task.Op.TheVariants as ops
 use Rattle.sock_programs.specs.declared.task.Task.{Task}
 use Rattle.sock_programs.specs.Programs.{Program}
-use Rattle.sock_programs.specs.Cores.{Core, SeatState, resolved, next_step, link_place}
+use Rattle.sock_programs.specs.Cores.{Core, SeatState, resolved, next_step}
 use Rattle.sock_programs.specs.Tasks.{opens, calls, plan_of, id_plan_of}
 use Rattle.sock_programs.specs.Ticks.{Moment, AreAnswered, quiet, ticked, run}
 use Rattle.sock_programs.specs.Told.{OpFits, TaskFits, IsTask, Made}
@@ -42,7 +40,7 @@ use Rattle.send_causes.proofs.Labelled.{ids_of_run}
 use Rattle.send_causes.proofs.Runs.{IsCallOf, programs_go}
 use Rattle.send_causes.proofs.Sends.{narrow, few_clients, opening_claims, labelled}
 use Rattle.send_causes.proofs.Whole.{get_same}
-use Rattle.served_runs.specs.Offered.{Lies, TookSoFar, offered_by, OffersInRun}
+use Rattle.served_runs.specs.Offered.{TookSoFar, offered_by, OffersInRun}
 use Rattle.served_runs.proofs.Parts.{IsPart, part_along}
 use Rattle.served_runs.proofs.Runs.{quiet_offered}
 use Rattle.served_runs.proofs.Served.{shapes_many}

@@ -1,12 +1,11 @@
 -- Along the ticks of a run each attempt that stands anywhere is of a version below the end of its range, and so is each request that a link took; so no response that the link gave came before its call began.
-use Rattle.std.proofs.Common.{◌≡◌, ℕ, zero, suc, ◌+◌, ◌<◌, ◌≤◌, ⊎_elim, ◌⊎◌, inl, inr, cond, List, [], ◌∷◌, ◌++◌, length, replicate, flat_map, sym, ap, ◌∙◌, subst, arith}
+use Rattle.std.proofs.Common.{◌≡◌, ℕ, zero, suc, ◌+◌, ◌<◌, ◌≤◌, ⊎_elim, cond, List, [], ◌∷◌, length, replicate, flat_map, ap, ◌∙◌, arith}
 use Rattle.std.specs.List.{AllByRecursion}
 use Rattle.std.specs.Prelude.{slice_get, Some, IsTrue}
 use mathlib.Core.Option.{Option, none, some}
 use lib.ListN.{get_elem?}
 use Rattle.sock_words.specs.declared.plain.Plan.{Plan}
 use Rattle.sock_model.specs.declared.view.View.{View}
-use Rattle.brpc_model.specs.Frame.{Frame}
 use Rattle.brpc_model.specs.Items.{Item, Shape}
 use Rattle.brpc_model.specs.Operations.{link_shapes}
 use Rattle.brpc_model.specs.Served.{given_for}
@@ -14,7 +13,6 @@ use Rattle.brpc_model.specs.Stream.{stream}
 use Rattle.corr_core.specs.declared.marks.Plan.{Plan as IdPlan}
 use Rattle.sock_message.specs.Asked.{Asked, frame_of}
 use Rattle.sock_programs.specs.Asides.{id_slot, id_first}
-use Rattle.sock_programs.specs.Programs.{Program}
 use Rattle.sock_programs.specs.Cores.{Core, SeatState}
 use Rattle.sock_programs.specs.Tasks.{plan_of, id_plan_of}
 use Rattle.sock_programs.specs.Ticks.{Moment, IsAnswered, AreAnswered, quiet, ticked, run}
@@ -26,12 +24,12 @@ use Rattle.owed_calls.specs.Sound.{id_word_of}
 use Rattle.whole_runs.proofs.Lengths.{tick_long}
 use Rattle.call_causes.specs.Lists.{Take, taken_link, takes_by, takes_at, given, soon_by, soon_at, shows_in}
 use Rattle.call_causes.specs.Scenes.{In}
-use Rattle.call_causes.proofs.Handled.{bound, Goes}
+use Rattle.call_causes.proofs.Handled.{bound}
 use Rattle.call_causes.proofs.HandledTicks.{Known}
 use Rattle.call_causes.proofs.HandledRuns.{AreKnown}
 use Rattle.send_causes.specs.Counts.{times_of, LabelLaw, StoresOwn, AreLabelled}
 use Rattle.send_causes.proofs.Ticks.{label_ticks}
-use Rattle.served_runs.specs.Offered.{TookSoFar, offered_by, AreOffered}
+use Rattle.served_runs.specs.Offered.{TookSoFar, AreOffered}
 use Rattle.served_runs.proofs.Parts.{IsPart, part_along}
 use Rattle.calls_over.proofs.SoonLists.{run_stay}
 use Rattle.calls_over.proofs.SoonPieces.{IsLow, low_on, NonePlain, all_map, front_low}

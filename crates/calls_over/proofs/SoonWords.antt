@@ -1,15 +1,14 @@
 -- The words of ids go on with each tick, and an attempt to which an id has come is of a version of its range.
-use Rattle.std.proofs.Common.{◌≡◌, ℕ, ◌+◌, ◌<◌, ◌≤◌, ◌==◌, cond, ne_eqb, Bool, true, false, List, refl, sym, ap, ◌∙◌, subst, arith}
-use Rattle.std.specs.Prelude.{slice_index}
+use Rattle.std.proofs.Common.{◌≡◌, ℕ, ◌+◌, ◌<◌, ◌≤◌, ◌==◌, cond, ne_eqb, Bool, true, false, List, refl, sym, ap, subst, arith}
 use mathlib.Core.Option.{Option, none, some}
 use lib.ListN.{get_elem?}
 use Rattle.sock_words.specs.declared.plain.Plan.{Plan}
 use Rattle.sock_io.specs.declared.link.Put.{Put}
 use Rattle.sock_io.specs.declared.link.Ready.{Ready}
-use Rattle.corr_core.specs.Word.{Parts, parts}
-use Rattle.corr_core.specs.Law.{Local, SlotLaw, Stands, Live, vacant, retired, claimed, opened, locked, leaving}
+use Rattle.corr_core.specs.Word.{Parts}
+use Rattle.corr_core.specs.Law.{Local, SlotLaw, Stands, vacant, retired, claimed, opened, locked, leaving}
 use Rattle.corr_core.specs.declared.marks.Plan.{Plan as IdPlan}
-use Rattle.id_rule.specs.Lawful.{id_word, local}
+use Rattle.id_rule.specs.Lawful.{local}
 use Rattle.id_runs.specs.Held.{IdView, id_state}
 use Rattle.id_runs.specs.Goes.{SoundIds}
 use Rattle.sock_message.specs.Asked.{Asked}
@@ -23,7 +22,6 @@ use Rattle.sock_programs.specs.Ticks.{Answer, Unasked, OfPut, OfReady, OfTake, M
 use Rattle.sock_runs.specs.Sound.{first_step}
 use Rattle.owed_calls.specs.Sound.{id_word_of}
 use Rattle.call_causes.proofs.Handled.{bound, Goes, goes_same}
-use Rattle.call_causes.proofs.HandledFacts.{Facts}
 use Rattle.call_causes.proofs.HandledTicks.{Known}
 
 -- ## One range
