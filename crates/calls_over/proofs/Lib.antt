@@ -16,3 +16,5 @@ pub mod Handled
 pub mod Given
 pub mod SoonRuns
 pub mod Soon
+pub mod OpensFull
+pub mod OpensQuiet

@@ -22,7 +22,8 @@ use Rattle.sock_runs.proofs.Whole.{closing_of, views_played, views_closed, views
 use Rattle.sock_causes.specs.Kept.{IsSpoken}
 use Rattle.sock_causes.specs.PlainTasks.{told_tasks_of}
 use Rattle.sock_causes.specs.Stories.{In}
-use Rattle.sock_causes.proofs.Delivered.{accepted_of}
+use Rattle.sock_causes.proofs.Delivered.{accepted_of, accepted_there}
+use Rattle.sock_causes.proofs.Final.{at_there, at_within}
 use Rattle.sock_causes.proofs.Members.{in_contains}
 use Rattle.sock_causes.proofs.Plain.{in_both, in_left, in_right}
 use Rattle.joint_runs.proofs.Runs.{AreMade, first_views}
@@ -34,6 +35,7 @@ use Rattle.send_causes.proofs.ClosedLostTicks.{Entered, AreTaken, Fate, Ended, w
 use Rattle.send_causes.proofs.Early.{start, go, fitting}
 use Rattle.send_causes.proofs.EndedAttempts.{all_stored, at_place, spoken_call, own_store}
 use Rattle.send_causes.proofs.EndedOnce.{run_stored_once}
+use Rattle.send_causes.proofs.LateRests.{HasNone, played_idle}
 use Rattle.send_causes.proofs.Runs.{AreLabelledIn}
 use Rattle.send_causes.proofs.Sends.{orders_of_run}
 use Rattle.calls_over.proofs.OpensHeld.{IsHeld, run_held}
@@ -60,9 +62,17 @@ module _ (script : List Item) (made : AreMade script) (turns : List Turn) (core 
   abbrev pub end_sound : Sound (plan_of script) core (views_ended script turns core is (first_views script))
   end_sound = ended_sound script made.are (first_views script) (start script made turns core is) (go script made turns core is) turns core is (fitting script made turns core is)
 
+  -- no seat has a claim or a right there
+  pub idle_there : (i : ℕ) (v : View) → get_elem? (views_played script turns core is (first_views script)) i ≡ some v → HasNone v
+  idle_there i v at = let seat = at_there rested.seats i (let each = rested_sound.each in let low = at_within rested_views i v at in omega (arith, each, low)) in (played_idle script made turns core is i seat.0 v seat.1 at).1
+
   -- the log where the ending begins
   abbrev pub early_log : List Entry
   early_log = log (plan_of script) (played script is.setup (is.scheduled ++ is.later)) (views_played script turns core is (first_views script)) rested_sound
+
+  -- and in the end
+  abbrev pub late_log : List Entry
+  late_log = log (plan_of script) core (views_ended script turns core is (first_views script)) end_sound
 
   -- what was accepted before the ending still is in the end
   held_on : (e : Entry) → IsHeld e rested_views → IsHeld e end_views
@@ -71,14 +81,14 @@ module _ (script : List Item) (made : AreMade script) (turns : List Turn) (core 
       (run_held e (plan_of script) g (replicate is.last (quiet 0)) (closing_of script turns core is) rested_views (closing_sound script made.are (first_views script) s g turns core is f)
       (end_answered script made.are (first_views script) s g turns core is f) f.of_closing h)
 
-  pub logged_later : (q : ℕ) (e : Entry) → get_elem? early_log q ≡ some e → (r : ℕ) × (get_elem? (log (plan_of script) core (views_ended script turns core is (first_views script)) end_sound) r ≡ some e)
+  pub logged_later : (q : ℕ) (e : Entry) → get_elem? early_log q ≡ some e → (r : ℕ) × (get_elem? late_log r ≡ some e)
   logged_later q e at = held_logged (plan_of script) core end_views end_sound e (held_on e (logged_held (plan_of script) rested rested_views rested_sound q e at))
 
   -- it stands on its link in the end
   pub record StandsLater (closes : ClosesInRun script turns core is) (e : Entry) : Type 0 where
     pub low : e.link < (plan_of script).links
     pub place : ℕ
-    pub here : get_elem? (on e.link (log (plan_of script) core (views_ended script turns core is (first_views script)) end_sound)) place ≡ some e
+    pub here : get_elem? (on e.link late_log) place ≡ some e
     pub stands : StandsAt (orders_of_run script made turns core is closes) e.link place (accepted_of e)
 
   pub stands_later : (closes : ClosesInRun script turns core is) (q : ℕ) (e : Entry) → get_elem? early_log q ≡ some e → StandsLater closes e
@@ -86,7 +96,7 @@ module _ (script : List Item) (made : AreMade script) (turns : List Turn) (core 
     low = (o.chains.sized r.0 e r.1).0;
     place = m.0;
     here = m.1;
-    stands = Rattle.sock_causes.proofs.Delivered.accepted_there (on e.link o.log) m.0 e m.1;
+    stands = accepted_there (on e.link o.log) m.0 e m.1;
   }
 
   -- ## An attempt
