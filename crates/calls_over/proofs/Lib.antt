@@ -5,5 +5,16 @@ pub mod OpensHeld
 pub mod OpensLog
 pub mod OpensTook
 pub mod OpensEntered
+pub mod SoonLists
+pub mod SoonWords
+pub mod SoonPuts
+pub mod SoonPieces
+pub mod SoonReplies
+pub mod SoonTicks
+pub mod SoonUnsent
+pub mod Handled
+pub mod Given
+pub mod SoonRuns
+pub mod Soon
 pub mod OpensFull
 pub mod OpensQuiet
