@@ -18,3 +18,4 @@ pub mod SoonRuns
 pub mod Soon
 pub mod OpensFull
 pub mod OpensQuiet
+pub mod OpensRequest

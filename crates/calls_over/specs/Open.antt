@@ -1,6 +1,5 @@
 -- A call whose id is open as the ending begins, in a run in which nothing went wrong: the link of its attempt took the request, and the link's reader waits for bytes.
 use Rattle.std.specs.Prelude.{ℕ, ◌≡◌, ◌+◌, ◌<◌, ◌≤◌, ◌++◌, List, slice_get, Some, IsTrue}
-use Rattle.std.specs.List.{AllByRecursion}
 use mathlib.Core.Option.{some}
 use lib.ListN.{get_elem?}
 use Rattle.brpc_model.specs.Items.{Item, Shape}
@@ -16,7 +15,6 @@ use Rattle.sock_programs.specs.Tasks.{opens, plan_of, id_plan_of}
 use Rattle.report_fits.proofs.Lists.{Has}
 use Rattle.owed_calls.specs.Sound.{id_word_of}
 use Rattle.served_runs.specs.Offered.{TookSoFar}
-use Rattle.served_calls.proofs.Requests.{IsCalled}
 
 module _ (script : List Item) (turns : List Turn) (core : Core) (is : IsRunWithCalls script turns core) where
   -- where the ending begins
@@ -45,10 +43,9 @@ module _ (script : List Item) (turns : List Turn) (core : Core) (is : IsRunWithC
     pub link_inside : link < (plan_of script).links
     pub opened : slice_get (link_shapes script) link ≡ Some shape
     pub serves : IsTrue shape.serve
-    -- what it took by then: requests of calls, among them this one's
+    -- what it took by then, the call's request among it
     pub took : List ℕ
     pub took_so : TookSoFar (plan_of script) before link took
-    pub called : AllByRecursion IsCalled (stream took).frames
     pub request : Has (stream took).frames (request_of asked id attempt)
     -- its reader waits for bytes
     pub seat : SeatState
