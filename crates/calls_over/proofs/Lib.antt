@@ -19,3 +19,4 @@ pub mod Soon
 pub mod OpensFull
 pub mod OpensQuiet
 pub mod OpensRequest
+pub mod Opens

@@ -27,7 +27,7 @@ use Rattle.call_causes.proofs.HandledTicks.{Known}
 -- ## One range
 
 -- an open or locked id has one attempt of its range before it, and the first version left
-live_room : (l : Local Asked) → SlotLaw l → 0 < l.word.state → l.word.attempt + 2 ≤ l.word.range
+pub live_room : (l : Local Asked) → SlotLaw l → 0 < l.word.state → l.word.attempt + 2 ≤ l.word.range
 live_room l law some_ = by_stands law.stands
   where
     by_stands : Stands law.b l → l.word.attempt + 2 ≤ l.word.range
