@@ -20,3 +20,4 @@ pub mod OpensFull
 pub mod OpensQuiet
 pub mod OpensRequest
 pub mod Opens
+pub mod Over
