@@ -1,9 +1,9 @@
 -- Where each link has the server and nothing went wrong, no link failed before the ending, no reader throws bytes away, and each message that a link accepted is the request of a call.
-use Rattle.std.proofs.Common.{◌≡◌, ℕ, zero, suc, ◌<◌, ◌≤◌, ◌⊎◌, inl, inr, ⊎_elim, Bool, true, false, List, [], ◌∷◌, ◌++◌, length, replicate, slice_get, Some, None, Ok, refl, sym, ap, ◌∙◌, subst, arith}
+use Rattle.std.proofs.Common.{◌≡◌, ℕ, zero, suc, ◌<◌, ◌≤◌, ◌⊎◌, inl, inr, ⊎_elim, List, [], ◌∷◌, ◌++◌, length, replicate, slice_get, Some, None, Ok, refl, sym, ap, ◌∙◌, subst, arith}
 use Rattle.std.proofs.lemmas.Option.{slice_get_within}
 use Rattle.std.specs.List.{AllByRecursion}
 use Rattle.std.specs.Prelude.{IsTrue, Contains}
-use mathlib.Core.Option.{some, some-injective}
+use mathlib.Core.Option.{some}
 use lib.ListN.{get_elem?}
 use Rattle.sock_words.specs.declared.plain.Plan.{Plan}
 use Rattle.sock_model.specs.declared.view.View.{View}
@@ -29,9 +29,9 @@ use Rattle.report_fits.proofs.TaskLemmas.{numbers_at, task_is, send_asks, fail_a
 use Rattle.sock_programs.specs.declared.task.Op.TheVariants as ops
 use Rattle.sock_programs.specs.declared.task.Task.{Task}
 use Rattle.sock_programs.specs.Asides.{AtEnd, Broken}
-use Rattle.sock_programs.specs.Cores.{Core, SeatState}
+use Rattle.sock_programs.specs.Cores.{Core}
 use Rattle.sock_programs.specs.Heads.{Discards}
-use Rattle.sock_programs.specs.Programs.{Program, Rest, Round}
+use Rattle.sock_programs.specs.Programs.{Rest, Round}
 use Rattle.sock_programs.specs.Readers.{LIMIT, reader}
 use Rattle.sock_programs.specs.Scripts.{Reports, all_tasks, opened, set_up, played, IsRunWithCalls}
 use Rattle.sock_programs.specs.Tasks.{opens, calls, numbered, plan_of, id_plan_of}
@@ -40,7 +40,7 @@ use Rattle.sock_programs.specs.Told.{IsTask, IsFail, Made}
 use Rattle.sock_programs.specs.ToldCalls.{Order, Fixed, ToldCalls}
 use Rattle.sock_runs.specs.Sound.{state}
 use Rattle.sock_runs.proofs.Along.{place_inside}
-use Rattle.sock_runs.proofs.Whole.{closing_of, views_played}
+use Rattle.sock_runs.proofs.Whole.{views_played}
 use Rattle.sock_causes.specs.Facts.{shown_in, broken_of_run, closed_before_ending}
 use Rattle.sock_causes.specs.Losses.{closed_at, lost_in}
 use Rattle.sock_causes.specs.PlainTasks.{told_tasks_of}
@@ -62,7 +62,7 @@ use Rattle.send_causes.proofs.AttemptedStored.{played_leads}
 use Rattle.send_causes.proofs.Early.{start, go, fitting, closed_early}
 use Rattle.send_causes.proofs.Faults.{Faults, fault_stays}
 use Rattle.send_causes.proofs.Sends.{owed}
-use Rattle.send_causes.proofs.Storied.{lost_one, lost_two, lost_before, run_tells, failed_early}
+use Rattle.send_causes.proofs.Storied.{run_tells, failed_early}
 use Rattle.served_runs.specs.Offered.{OffersInRun}
 use Rattle.served_runs.specs.Served.{IsForCalls}
 use Rattle.served_runs.proofs.Ends.{Holds}
@@ -170,11 +170,11 @@ module _ (bytes : List ℕ) (script : List Item) (reads : script_of bytes ≡ Ok
   pub unfailed : (k : ℕ) → Failed (plan_of script) (state (played script is.setup (is.scheduled ++ is.later)) (views_played script turns core is (first_views script))) k → ⊥
   unfailed k failed = ⊎_elim (λ lost. by_lost (contains_in _ k lost))
       (λ at_fail.
-          let tale = run_tells script are_made.are (first_views script) (start script are_made turns core is) fresh (go script are_made turns core is) turns core is (fitting script are_made turns core is) (owed script are_made turns core is closes) in
-          let t = tale.tells in let f : IsFail (told_tasks_of script) core.outcomes (at_fail.0, k) = all_at (IsFail (told_tasks_of script) core.outcomes) t.fails (at_fail.0, k) t.are (has_from t.fails (at_fail.0, k) at_fail.1) in
-          let it = task_up (all_tasks script) (length (opens script)) core.outcomes f.client f.task f.is in
-          let w = task_is script core.outcomes f.client f.task it in let m = fail_asks (numbered script) (names script) (numbers_at script f.task.number w.operation) w.operation.item f.name f.code (w.asks ∙ ap Some f.op) in
-          untroubled.no_fail m.0 f.code (contains_from script (Fail m.0 f.code) (known.in_script all_given.run f.task.number w.operation w.there (Fail m.0 f.code) m.1)))
+      let tale = run_tells script are_made.are (first_views script) (start script are_made turns core is) fresh (go script are_made turns core is) turns core is (fitting script are_made turns core is) (owed script are_made turns core is closes) in
+      let t = tale.tells in let f : IsFail (told_tasks_of script) core.outcomes (at_fail.0, k) = all_at (IsFail (told_tasks_of script) core.outcomes) t.fails (at_fail.0, k) t.are (has_from t.fails (at_fail.0, k) at_fail.1) in
+      let it = task_up (all_tasks script) (length (opens script)) core.outcomes f.client f.task f.is in
+      let w = task_is script core.outcomes f.client f.task it in let m = fail_asks (numbered script) (names script) (numbers_at script f.task.number w.operation) w.operation.item f.name f.code (w.asks ∙ ap Some f.op) in
+      untroubled.no_fail m.0 f.code (contains_from script (Fail m.0 f.code) (known.in_script all_given.run f.task.number w.operation w.there (Fail m.0 f.code) m.1)))
       (failed_early script are_made.are (first_views script) (start script are_made turns core is) fresh (go script are_made turns core is) turns core is (fitting script are_made turns core is) (owed script are_made turns core is closes) k failed)
     where
       fresh : (i : ℕ) (v : View) → get_elem? (first_views script) i ≡ some v → v.lists ≡ [] ∷ []
@@ -204,7 +204,7 @@ module _ (bytes : List ℕ) (script : List Item) (reads : script_of bytes ≡ Ok
   pub none_thrown : NoneThrown script are_made turns core is closes targets range
   none_thrown k o at seat there l total next e = ⊎_elim (λ x. absurd (let z : reader (calls script) k o ≡ Round (Discards l total) next = sym x.0 ∙ e in cc))
       (λ other. ⊎_elim (λ x. absurd (let z : Rest ≡ Round (Discards l total) next = sym x.0 ∙ e in cc))
-          (λ x. let g = subst (Goes k (given before k) held.last) e x in by_fault g.2) other)
+      (λ x. let g = subst (Goes k (given before k) held.last) e x in by_fault g.2) other)
       (held.reader seat there)
     where
       low : k < length (link_names script)
