@@ -94,7 +94,7 @@ module _ (bytes : List ℕ) (script : List Item) (reads : script_of bytes ≡ Ok
       later = stands_later script are_made turns core is closes q e at
 
       by : IsSent (plan_of script) (all_tasks script) core.outcomes own_fixed (given core) own_orders own_told.last e.link (accepted_of e) → IsAttempt e
-      by (OfSend client t name slot version it number op first life untold) = absurd (unsent bytes script reads short turns core is closes offers fixed orders tells report took ends reports told given_back shown breaks served untroubled e.link client t name slot version e.bytes it op life)
+      by (OfSend client t name slot version it number op first life untold) = absurd (unsent bytes script reads short turns core is closes offers fixed orders tells report took ends reports told given_back shown breaks served untroubled e.link later.low client t name slot version e.bytes it op life)
       by (OfCall client t asked outcome id slot version it number op became shows last bytes_ life) = let became' : Became (all_tasks script) core.outcomes t.number outcome = subst (λ n. Became (all_tasks script) core.outcomes n outcome) (sym number) became in record {
         asked = asked;
         id = id;
