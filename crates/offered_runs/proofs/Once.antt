@@ -1,5 +1,5 @@
 -- The writing half of a link lies at one place at any moment of a run, at home or in a seat's hand.
-use Rattle.std.proofs.Common.{◌≡◌, ◌≢◌, ℕ, zero, suc, ◌+◌, ◌≤◌, ◌==◌, ne_eqb, eq-eqb, Bool, cond, List, [], ◌∷◌, ◌++◌, map, set, ⊎_elim, inl, inr, refl, sym, ap, ◌∙◌, subst, arith}
+use Rattle.std.proofs.Common.{◌≡◌, ◌≢◌, ℕ, zero, suc, ◌+◌, ◌≤◌, ◌==◌, ne_eqb, eq-eqb, Bool, true, false, cond, List, [], ◌∷◌, ◌++◌, map, set, ⊎_elim, inl, inr, refl, sym, ap, ◌∙◌, subst, arith}
 use mathlib.Core.Logic.{dite}
 use mathlib.Core.Option.{Option, none, some, some-injective}
 use native.Mathlib.Decide.{ℕ_discrete}
@@ -20,8 +20,8 @@ use Rattle.sock_programs.specs.Calls.{Call, TakeLink, FinishLink, PutLink, PutMe
 use Rattle.sock_programs.specs.Clients.{ending_of}
 use Rattle.sock_programs.specs.Cores.{Calls, Core, SeatState, word_of, word_after, found_at, words_after, with_seat, homes_after, hand_after, lies_at, first_of, others_of, finished, link_place, resolved, next_step, waiting_at}
 use Rattle.sock_programs.specs.Programs.{Program}
-use Rattle.sock_programs.specs.Scripts.{opened, ending}
-use Rattle.sock_programs.specs.Tasks.{opens, plan_of}
+use Rattle.sock_programs.specs.Scripts.{sizes_of, programs, readers_from, all_programs, all_tasks, opened, ending}
+use Rattle.sock_programs.specs.Tasks.{opens, calls, plan_of, id_plan_of}
 use Rattle.sock_programs.specs.Ticks.{Moment, IsAnswered, AreAnswered, fed, with_places, onto_first, ticked, run}
 use Rattle.sock_runs.specs.May.{May}
 use Rattle.sock_runs.specs.Sound.{state, Sound, IsFitting, AreFitting, views_after}
@@ -230,7 +230,7 @@ none_held k [] = refl
 none_held k (x ∷ xs) = omega (arith, none_held k xs)
 
 pub once_opened : (script : List Item) (k : ℕ) → IsOnce (plan_of script) k (opened script)
-once_opened script k = let home = lies_most k (get_elem? (opened script).homes (link_place (plan_of script) k)) in let hands = none_held k _ in omega (arith, home, hands)
+once_opened script k = let home = lies_most k (get_elem? (opened script).homes (link_place (plan_of script) k)) in let hands = none_held k (all_programs (programs (sizes_of (plan_of script) (id_plan_of script)) (all_tasks script)) (readers_from (calls script) 0 (opens script))) in omega (arith, home, hands)
 
 -- seat 0 begins the ending with nothing in hand
 pub once_ending : (script : List Item) (k : ℕ) (c : Core) → IsOnce (plan_of script) k c → IsOnce (plan_of script) k (ending script c)

@@ -2,19 +2,18 @@
 use Rattle.std.proofs.Common.{◌≡◌, ℕ, List, [], ◌∷◌, ◌++◌, Bool, true, replicate, refl, sym, ap, ◌∙◌, subst}
 use Rattle.std.specs.Prelude.{slice_get, Some}
 use mathlib.Core.Option as core
-use lib.ListN.{get_elem?}
 use Rattle.sock_model.specs.declared.home.Home.{Home}
-use Rattle.sock_model.specs.declared.home.Home.TheVariants.{Empty, Link, Message}
+use Rattle.sock_model.specs.declared.home.Home.TheVariants.{Link}
 use Rattle.sock_model.specs.declared.view.View.{View}
 use Rattle.brpc_model.specs.Items.{Item, Shape}
 use Rattle.brpc_model.specs.Operations.{Turn, link_shapes}
 use Rattle.sock_programs.specs.Asides.{TakeBytes, Taking, Bytes, Nothing, NoMore, AtEnd, Closed, Broken}
 use Rattle.sock_programs.specs.Programs.{Program, Aside}
-use Rattle.sock_programs.specs.Cores.{Core, SeatState}
+use Rattle.sock_programs.specs.Cores.{Core}
 use Rattle.sock_programs.specs.Tasks.{plan_of}
-use Rattle.sock_programs.specs.Ticks.{Answer, OfTake, Moment, AreAnswered, quiet, taken, ticked, run}
+use Rattle.sock_programs.specs.Ticks.{Answer, Moment, AreAnswered, quiet, taken, ticked, run}
 use Rattle.sock_programs.specs.Scripts.{opened, set_up, played, IsRunWithCalls}
-use Rattle.sock_runs.specs.Sound.{Sound, AreFitting, first_step, views_after, views_along}
+use Rattle.sock_runs.specs.Sound.{Sound, AreFitting, views_after, views_along}
 use Rattle.sock_runs.proofs.LinkTicks.{RetriesGo}
 use Rattle.sock_runs.proofs.Ticks.{sound_ticks}
 use Rattle.sock_runs.proofs.Whole.{closing_of, views_played, views_closed, set_up_answered, end_answered, set_up_sound, closing_sound, closed_sound}
@@ -24,18 +23,18 @@ use Rattle.owed_calls.specs.Lives.{IsFinished, ClosesAt, ClosesInTime, ClosesInR
 use Rattle.owed_calls.proofs.OwingRuns.{same_first}
 use Rattle.whole_runs.specs.Offered.{GaveSo, HasTaken}
 use Rattle.whole_runs.specs.Offered as told
-use Rattle.whole_runs.specs.OfferedRuns as told
+use Rattle.whole_runs.specs.OfferedRuns as runs
 use Rattle.call_causes.specs.Lists.{given}
 use Rattle.send_causes.proofs.Early.{start, go, fitting}
 use Rattle.served_runs.specs.Offered.{TookSoFar, IsDone, IsOfferedSo, OffersAt, AreOffered, OffersInRun}
 use Rattle.offered_runs.proofs.Once.{IsOnce, one_link, once_tick, once_along, once_opened, once_ending}
 
 -- what a link took, and whether it is finished
-took_of : Home → List ℕ
+abbrev took_of : Home → List ℕ
 took_of (Link k took next done) = took
 took_of other = []
 
-done_of : Home → Bool
+abbrev done_of : Home → Bool
 done_of (Link k took next done) = done
 done_of other = true
 
@@ -52,19 +51,20 @@ module _ (script : List Item) where
     one_took took t a b = ap took_of (one_link (plan_of script) k c took t a.0 b.0 a.1 b.1 (once k) a.2 b.2)
 
     offered_so : (taking : Taking) (took : List ℕ) → HasTaken (plan_of script) k c took → GaveSo shape.serve shape.end took (given c k) taking → (taking ≡ Closed → IsDone (plan_of script) c k) → IsOfferedSo (plan_of script) shape c k taking
-    offered_so (Bytes bytes) took has gave done t b = let e = one_took took t has b in (gave.0, gave.1 ∙ ap (told.offered shape.serve shape.end) e)
-    offered_so Nothing took has gave done t b = gave ∙ ap (told.offered shape.serve shape.end) (one_took took t has b)
-    offered_so AtEnd took has gave done t more b = gave more ∙ ap (λ x. told.offered shape.serve shape.end (x ++ more)) (one_took took t has b)
-    offered_so Closed took has gave done = ((λ t b. gave ∙ ap (told.offered shape.serve shape.end) (one_took took t has b)), done refl)
+    offered_so (Bytes bytes) took has gave done = λ t b. (gave.0, gave.1 ∙ ap (told.offered shape.serve shape.end) (one_took took t has b))
+    offered_so Nothing took has gave done = λ t b. gave ∙ ap (told.offered shape.serve shape.end) (one_took took t has b)
+    offered_so AtEnd took has gave done = λ t more b. gave more ∙ ap (λ x. told.offered shape.serve shape.end (x ++ more)) (one_took took t has b)
+    offered_so Closed took has gave done = (λ t b. gave ∙ ap (told.offered shape.serve shape.end) (one_took took t has b), done refl)
     offered_so NoMore took has gave done = tt
     offered_so Broken took has gave done = tt
 
+    -- it was finished, wherever it lay
+    is_done : IsFinished (plan_of script) c k → IsDone (plan_of script) c k
+    is_done f took next done lies = ap done_of (one_link (plan_of script) k c took f.0 next f.1 done true (once k) lies f.2)
+
   offered_at : (c : Core) (answer : Answer) → AllOnce c → (program : Program) → Tells c answer program → ClosesAt (plan_of script) c answer program → OffersAt script c answer program
-  offered_at c answer once (Aside (TakeBytes k room) next) tells closes shape taking at is = let o = tells k shape at refl taking (ap taken is) in
-      offered_so c once k shape taking o.0 o.1 o.2 (λ closed. done (closes (ap taken is ∙ ap core.some closed)))
-    where
-      done : IsFinished (plan_of script) c k → IsDone (plan_of script) c k
-      done f took next done lies = ap done_of (one_link (plan_of script) k c took f.0 next f.1 done true (once k) lies f.2)
+  offered_at c answer once (Aside (TakeBytes k room) next) tells closes = λ shape taking at is. let o = tells k shape at refl taking (ap taken is) in
+      offered_so c once k shape taking o.0 o.1 o.2 (λ closed. is_done c once k shape (closes (ap taken is ∙ ap core.some closed)))
   offered_at c answer once _ tells closes = tt
 
   -- and those of ticks, one after another
@@ -113,7 +113,7 @@ module _ (script : List Item) (made : AreMade script) (turns : List Turn) (core 
   ended_once k = subst (IsOnce (plan_of script) k) (sym is.is_ended) (closed_once k)
 
   -- each link was given at each take what belongs to what it took
-  pub offers_in_run : ((k : ℕ) (shape : Shape) → slice_get (link_shapes script) k ≡ Some shape → told.OffersInRun script turns core is k shape.serve shape.end) → ClosesInRun script turns core is → OffersInRun script turns core is
+  pub offers_in_run : ((k : ℕ) (shape : Shape) → slice_get (link_shapes script) k ≡ Some shape → runs.OffersInRun script turns core is k shape.serve shape.end) → ClosesInRun script turns core is → OffersInRun script turns core is
   offers_in_run offers closes = record {
     played = offered_along script (go script made turns core is) in_clients (set_up script is.setup) set_up_views begun is.answered (let f = fitting script made turns core is in f.of_played) set_up_once (λ k shape there. (offers k shape there).played) closes.played;
     final = offered_along script (go script made turns core is) is.final is.ended (views_closed script turns core is (first_views script))
