@@ -1,5 +1,5 @@
 -- The text of a drawn script is no longer than a script may be.
-use Rattle.std.proofs.Common.{◌≡◌, ℕ, zero, suc, ◌+◌, ◌*◌, ◌%◌, ◌^◌, ◌<◌, ◌≤◌, ◌==◌, Bool, true, false, cond, if◌then◌else◌, List, [], ◌∷◌, ◌++◌, length, map, flat_map, codes, decimal, Ok, length-append, suc-mul, refl, sym, ap, ◌∙◌, arith}
+use Rattle.std.proofs.Common.{◌≡◌, ℕ, zero, suc, ◌+◌, ◌*◌, ◌%◌, ◌<◌, ◌≤◌, ◌==◌, Bool, true, false, cond, if◌then◌else◌, List, [], ◌∷◌, ◌++◌, length, map, flat_map, codes, decimal, length-append, suc-mul, refl, sym, ap, ◌∙◌, arith}
 use Rattle.std.proofs.lemmas.Bool.{cond_both}
 use Rattle.std.proofs.lemmas.Fmt.{length-decimal-le}
 use Rattle.std.proofs.lemmas.Grind.{flat_map-append}
@@ -7,7 +7,7 @@ use Rattle.hex.specs.Hex.{lower_digits}
 use Rattle.hex.proofs.HexLemmas.{length-encode_with}
 use Rattle.sock_words.specs.Printed.{word, hex_text}
 use Rattle.brpc_model.specs.Drawn.{draws, state_behind, shaped, setup, call_of, gen_item, gen_size, gen_operations, gen_draws, gen_clients, generated}
-use Rattle.brpc_model.specs.Items.{Item, Open, Client, Send, Call}
+use Rattle.brpc_model.specs.Items.{Item, Open, Client, Send}
 use Rattle.brpc_model.specs.ScriptText.{option_text, item_text, printed_items, script_text}
 use Rattle.script_print.proofs.Again.{read_back}
 use Rattle.script_print.proofs.Generated.{generated_back}
