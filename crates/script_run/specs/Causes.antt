@@ -73,6 +73,8 @@ pub record HasCauses (script : List Item) (turns : List Turn) (core : Core) (run
   pub early : (k : ℕ) → Contains fixed.early k → (k < length (link_names script)) × EndedEarly run k
   pub closed : (k : ℕ) → Contains fixed.closed k → Contains (heard_takes run k) Closed
   pub late : CameLate (lateness fixed) (late_in script turns core run)
+  -- and each link that became a socket's while the run was ending is said to
+  pub late_links : (k : ℕ) → Contains (late_links_of_run script turns core run) k → Contains fixed.late_links k
   -- without calls nothing is said to come late
   pub none_late : is_callless script ≡ true → lateness fixed ≡ nothing_late
   -- `open`, `send`, `hold`, `drop` and `fail` have their causes by what was lost before the ending too
