@@ -13,9 +13,9 @@ use Rattle.brpc_model.specs.ScriptText.{script_text}
 use Rattle.brpc_model.specs.Link.{LinkEnd}
 use Rattle.brpc_model.specs.PlaceWords.{took_at, IsLineOf}
 use Rattle.brpc_model.specs.Run.{Lateness, nothing_late}
-use Rattle.brpc_model.specs.Fits.{FitsRun, Reports, Fits}
+use Rattle.brpc_model.specs.Fits.{Fits}
 use Rattle.brpc_model.specs.Complete.{FitsWhole}
-use Rattle.brpc_model.specs.Served.{ServesAll, FitsServed}
+use Rattle.brpc_model.specs.Served.{FitsServed}
 use Rattle.sock_programs.specs.Asides.{Broken}
 use Rattle.sock_programs.specs.Scripts.{drawn_turns, place_words}
 use Rattle.sock_programs.specs.Scripts as scripts
@@ -32,7 +32,8 @@ use Rattle.whole_runs.proofs.Starts.{made}
 use Rattle.served_runs.specs.Offered.{OffersInRun}
 use Rattle.served_calls.specs.Quiet.{AreShown}
 use Rattle.served_fits.specs.Shown.{AreSo, TellTook}
-use Rattle.served_fits.proofs.Served.{any_serves, joinless_serves}
+use Rattle.calls_over.proofs.Over.{calls_over}
+use Rattle.served_fits.proofs.Served.{serves_fits}
 use Rattle.offered_runs.proofs.Runs.{offers_in_run}
 use Rattle.script_run.specs.Causes.{HasCauses, gave_in}
 use Rattle.script_run.specs.Given.{AreNumbered, IsBeginning, specs_of}
@@ -136,13 +137,10 @@ module _ (offering : Type 0) (turns : List Turn) (bytes : List ℕ) (script : Li
     tell_took : TellTook script ends
     tell_took k e shape at opened serves = w.tells o k e at
 
-    serves : Reports (λ run. FitsRun run × ServesAll run) script text ends (lateness causes.fixed)
-    serves = subst (λ (x : List ℕ). Reports (λ run. FitsRun run × ServesAll run) script x ends (lateness causes.fixed)) (sym is.is_text)
-        (any_serves bytes script reads short turns w.core w.run (w.closes o) given causes.fixed causes.orders causes.tells so is.report is.took ends is.reports is.told is.causes.1 shown causes.late_links tell_took)
-
-    serves_joinless : answer.IsJoinless script → FitsServed script text ends (lateness causes.fixed)
-    serves_joinless none_ = subst (λ (x : List ℕ). FitsServed script x ends (lateness causes.fixed)) (sym is.is_text)
-        (joinless_serves bytes script reads short turns w.core w.run (w.closes o) given causes.fixed causes.orders causes.tells so is.report is.took ends is.reports is.told is.causes.1 shown causes.late_links tell_took none_)
+    serves : FitsServed script text ends (lateness causes.fixed)
+    serves = subst (λ (x : List ℕ). FitsServed script x ends (lateness causes.fixed)) (sym is.is_text)
+        (serves_fits bytes script reads short turns w.core w.run (w.closes o) given causes.fixed causes.orders causes.tells so is.report is.took ends is.reports is.told is.causes.1 shown causes.late_links tell_took
+        (calls_over bytes script reads short turns w.core w.run (w.closes o) given causes.fixed causes.orders causes.tells so is.report is.took ends is.reports is.told is.causes.1 shown causes.all_broken))
 
   -- ### In any case
 
@@ -158,7 +156,6 @@ module _ (offering : Type 0) (turns : List Turn) (bytes : List ℕ) (script : Li
         λ callless. subst (λ (x : List ℕ). FitsWhole script x ends (lateness causes.fixed)) (sym is.is_text)
             (callless_fits bytes script reads w.core causes.fixed (gave_in w.core) causes.orders long causes.tells is.report is.took ends is.reports is.told is.causes.1 callless (in_time script causes.fixed (causes.none_late callless))),
         serves,
-        serves_joinless,
       )
 
   -- and it is the only one

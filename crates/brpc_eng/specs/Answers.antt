@@ -1,19 +1,19 @@
 -- The answers of the program: the status, its cause, and what is written with it.
-use Rattle.std.specs.Prelude.{ℕ, ◌≡◌, ◌≢◌, ◌<◌, ◌≤◌, ◌+◌, ◌⊎◌, ◌++◌, Bool, true, false, List, [], length, codes, decimal, is_some, Contains, Option, Some, None, Result, Ok, Err}
+use Rattle.std.specs.Prelude.{ℕ, ◌≡◌, ◌≢◌, ◌<◌, ◌≤◌, ◌+◌, ◌⊎◌, ◌++◌, Bool, true, false, List, [], length, codes, decimal, is_some, Option, Some, None, Result, Ok, Err}
 use Rattle.std.specs.Io.KnownBytes.{Appends, Consumes}
 use Rattle.std.specs.List.{AllByRecursion}
 use Rattle.brpc_model.specs.Commands.{Command, Replay, Sim, Gen, Load, Frames, command_of, usage_text}
 use Rattle.brpc_model.specs.ScriptText.{script_text}
 use Rattle.brpc_model.specs.Drawn.{generated}
-use Rattle.brpc_model.specs.Items.{Item, Join}
+use Rattle.brpc_model.specs.Items.{Item}
 use Rattle.brpc_model.specs.Operations.{Turn, schedule}
 use Rattle.brpc_model.specs.Script.{script_of}
 use Rattle.brpc_model.specs.Link.{LinkEnd}
 use Rattle.brpc_model.specs.Run.{Lateness, nothing_late}
 use Rattle.brpc_model.specs.Report.{Report, report_text}
-use Rattle.brpc_model.specs.Fits.{FitsRun, Reports, Fits}
+use Rattle.brpc_model.specs.Fits.{Fits}
 use Rattle.brpc_model.specs.Complete.{FitsWhole}
-use Rattle.brpc_model.specs.Served.{ServesAll, FitsServed}
+use Rattle.brpc_model.specs.Served.{FitsServed}
 use Rattle.script_report.specs.Sums.{told_of, sums_of, summary_text}
 use Rattle.sock_io.specs.Causes.{Rose}
 use Rattle.sock_io.specs.Writing.{WrotePart}
@@ -104,17 +104,14 @@ fault_text line kind = codes "script fault line " ++ decimal line ++ codes " kin
 
 -- ## A script that was read
 
--- no line of the script waits for the end of a call
-abbrev pub IsJoinless : List Item → Type 0
-IsJoinless script = (client number : ℕ) → Contains script (Join client number) → ⊥
-
 -- The report fits the script and the links given back, whatever servers they have; what counts as late there came late in that run. Without calls nothing
 -- counts as late, and where nothing went wrong every send is placed. Where the links tell what they took, gave and are offered, each link that was served gave
--- the replies to what it took, and each call has the reply to its own request; and where nothing went wrong every send is placed and every call has its reply.
+-- the replies to what it took, and each call's responses over a link that no `send` names are the replies to its own request; and where nothing went wrong
+-- every send is placed and every call has its reply.
 abbrev pub IsFitting : (offering : Type 0) {script : List Item} {turns : List Turn} {text : List ℕ} {ends : List LinkEnd} → IsRunText offering script turns text ends → Type 0
 IsFitting offering {script} {turns} {text} {ends} is = (late : Lateness) × CameLate late (late_in script turns is.whole.core is.whole.run) × (is_callless script ≡ true → late ≡ nothing_late)
     × Fits script text ends late × (is_callless script ≡ true → FitsWhole script text ends late)
-    × (offering → Reports (λ run. FitsRun run × ServesAll run) script text ends late) × (offering → IsJoinless script → FitsServed script text ends late)
+    × (offering → FitsServed script text ends late)
 
 -- where the links are prompt and tell whether they are found closed, the text reports a run of the script by these lines, and fits
 abbrev pub IsReport : Links → List Item → List Turn → List ℕ → Type 0
