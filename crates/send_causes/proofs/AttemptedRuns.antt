@@ -149,7 +149,7 @@ module _ (script : List Item) (are : AreTasks (plan_of script) (all_tasks script
   set_up_counted = run_counted (plan_of script) (id_plan_of script) narrow (IsCallOf script) ids single go (replicate is.setup (quiet 0)) (λ o. 0) since_setup (opened script) vs begins.sound (set_up_answered script are vs begins go turns core is fitting) fitting.of_setup labelled.of_setup rising.of_setup
       (λ o. omega arith) first
 
-  played_counted : Keeps since_clients (rested_of script turns core is) (views_played script turns core is vs)
+  pub played_counted : Keeps since_clients (rested_of script turns core is) (views_played script turns core is vs)
   played_counted = run_counted (plan_of script) (id_plan_of script) narrow (IsCallOf script) ids single go (is.scheduled ++ is.later) since_setup since_clients (set_up script is.setup) (views_along (plan_of script) (opened script) vs (replicate is.setup (quiet 0)))
       (set_up_sound script are vs begins go turns core is fitting) is.answered fitting.of_played labelled.of_played rising.of_played (λ o. omega arith) set_up_counted
 

@@ -149,12 +149,12 @@ module _ (script : List Item) (made : AreMade script) (turns : List Turn) (core 
   abbrev Early : Core → List View → List Moment → Type 0
   Early c vs ms = Behind (plan_of script) NoOld goes (λ c vs. Unit {0}) (λ c vs m s a f h. tt) (λ c vs h id inside same old. old) c vs ms
 
-  setup_fates : Early (opened script) (first_views script) (replicate is.setup (quiet 0))
+  pub setup_fates : Early (opened script) (first_views script) (replicate is.setup (quiet 0))
   setup_fates = run_fates (plan_of script) NoOld goes (λ c vs. Unit {0}) (λ c vs m s a f h. tt) (λ c vs h id inside same old. old) (replicate is.setup (quiet 0)) (opened script) (first_views script) (start script made turns core is).sound
       (set_up_answered script made.are (first_views script) (start script made turns core is) (go script made turns core is) turns core is (fitting script made turns core is)) (fitting script made turns core is).of_setup tt
       (λ j seat v at at_view. (Free, begins_free (plan_of script).requests (plan_of script) (id_plan_of script) (sizes_of (plan_of script) (id_plan_of script)) refl (all_tasks script) (calls script) (opens script) j seat at, tt))
 
-  played_fates : Early (set_up script is.setup) set_views (is.scheduled ++ is.later)
+  pub played_fates : Early (set_up script is.setup) set_views (is.scheduled ++ is.later)
   played_fates = run_fates (plan_of script) NoOld goes (λ c vs. Unit {0}) (λ c vs m s a f h. tt) (λ c vs h id inside same old. old) (is.scheduled ++ is.later) (set_up script is.setup) set_views
       (set_up_sound script made.are (first_views script) (start script made turns core is) (go script made turns core is) turns core is (fitting script made turns core is)) is.answered (fitting script made turns core is).of_played tt setup_fates.stands
 
@@ -169,7 +169,7 @@ module _ (script : List Item) (made : AreMade script) (turns : List Turn) (core 
           (subst (λ o. elim o as (λ o. Bool) [ none ↦ false | some x ↦ waits_at (plan_of script) (played script is.setup (is.scheduled ++ is.later)) w.0.answer x.program ] ≡ true)
           (subst (λ i. get_elem? (played script is.setup (is.scheduled ++ is.later)).seats i ≡ some seat) (sym w.1) at) w.3) m g
 
-  early_ended : (o n k : ℕ) → Fate (plan_of script) NoOld rested rested_views o n k → Ended (plan_of script) NoOld rested rested_views o n k
+  pub early_ended : (o n k : ℕ) → Fate (plan_of script) NoOld rested rested_views o n k → Ended (plan_of script) NoOld rested rested_views o n k
   early_ended o n k (inl w) = absurd (subst (Works (plan_of script) NoOld o n k) (rested_mode w.0 w.1 w.3 w.5 w.6) w.8)
   early_ended o n k (inr e) = e
 
@@ -275,7 +275,7 @@ module _ (script : List Item) (made : AreMade script) (turns : List Turn) (core 
     rests = end_rests script made.are (first_views script) (start script made turns core is) (go script made turns core is) turns core is (fitting script made turns core is) (owed script made turns core is closes)
 
     -- what was accepted stands on some link
-    entered_stands : (o n : ℕ) → Entered o n end_views → (l : ℕ) × Stands o n l
+    pub entered_stands : (o n : ℕ) → Entered o n end_views → (l : ℕ) × Stands o n l
     entered_stands o n (i, v, at, (l, e, in_l, in_e, own, attempt)) =
         let made_ = each_made (plan_of script) (told_tasks_of script) told_seats true core end_views told_run.after.events told_run.after.lost end_sound told_story rests i v at in
         let there = at_of made_.0 e (subst (λ z. In e z) (one_list l made_.0 (subst (In l) made_.1 in_l)) in_e) in

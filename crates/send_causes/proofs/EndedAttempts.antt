@@ -112,7 +112,7 @@ module _ (script : List Item) (made : AreMade script) (turns : List Turn) (core 
   abbrev bare : (i : ℕ) (v : View) → get_elem? (first_views script) i ≡ some v → (v.claims ≡ []) × (v.lists ≡ [] ∷ [])
   bare = λ i v at. (opening_claims (plan_of script) (all_seats (all_tasks script) (length (opens script))) i v at, opening_fresh (plan_of script) (all_seats (all_tasks script) (length (opens script))) i v at)
 
-  own_store : (x : Store) → In x (stores_of_run script turns core is) → IsOwn ids (plan_of script) (id_plan_of script) x
+  pub own_store : (x : Store) → In x (stores_of_run script turns core is) → IsOwn ids (plan_of script) (id_plan_of script) x
   own_store x there = ⊎_elim (λ a. ticks_own ids (plan_of script) (id_plan_of script) (replicate is.setup (quiet 0)) (opened script) labelled.of_setup x a)
       (λ b. ⊎_elim (λ a. ticks_own ids (plan_of script) (id_plan_of script) (is.scheduled ++ is.later) (set_up script is.setup) labelled.of_played x a)
       (λ b. ⊎_elim (λ a. ticks_own ids (plan_of script) (id_plan_of script) (replicate is.last (quiet 0)) (closing_of script turns core is) labelled.of_closing x a) (λ a. ticks_own ids (plan_of script) (id_plan_of script) is.final is.ended labelled.of_final x a)
@@ -167,13 +167,13 @@ module _ (script : List Item) (made : AreMade script) (turns : List Turn) (core 
   -- ## Messages
 
   -- each message of a call that a link accepted has an at word that tells the link
-  all_stored : (k : ℕ) → AllByRecursion (λ (a : Accepted). IsSpoken (told_tasks_of script) a.operation → In (record { operation = a.operation; word = at_word (id_first (ids a.operation)) (id_slot (ids a.operation)) k a.attempt }) (stores_of_run script turns core is)) (orders_of_run script made turns core is closes k).accepted
+  pub all_stored : (k : ℕ) → AllByRecursion (λ (a : Accepted). IsSpoken (told_tasks_of script) a.operation → In (record { operation = a.operation; word = at_word (id_first (ids a.operation)) (id_slot (ids a.operation)) k a.attempt }) (stores_of_run script turns core is)) (orders_of_run script made turns core is closes k).accepted
   all_stored k = let sound = ended_sound script made.are vs begins goes turns core is fits in let rests = end_rests script made.are vs begins goes turns core is fits (owed script made turns core is closes) in let e = ending in
       let law = end_law script made.are vs begins goes turns core is fits (narrow script made turns core is closes) bare ids labelled in
       all_over (plan_of script) (told_tasks_of script) tasks core (views_ended script turns core is vs) e.named.events e.named.lost_links sound e.named.story rests (IsCallOf script) (stores_of_run script turns core is) e.named.trails e.named.law ids
       (λ i n x h not_. (let f = apart.of_call_fits (plan_of script) (id_plan_of script) (IsCallOf script) ids (told_tasks_of script) tasks core (views_ended script turns core is vs) e.named.events e.named.lost_links sound e.named.story rests law.0 law.1 i n x h not_ in (f.0, f.1))) k
 
-  at_place : (P : Accepted → Type 0) (xs : List Accepted) → AllByRecursion P xs → (i : ℕ) (a : Accepted) → slice_get xs i ≡ Some a → P a
+  pub at_place : (P : Accepted → Type 0) (xs : List Accepted) → AllByRecursion P xs → (i : ℕ) (a : Accepted) → slice_get xs i ≡ Some a → P a
   at_place P [] all i a e = absurd (cc)
   at_place P (x ∷ xs) all Rattle.std.proofs.Common.zero a e = let same : x ≡ a = cc in subst P same all.0
   at_place P (x ∷ xs) all (Rattle.std.proofs.Common.suc i) a e = at_place P xs all.1 i a e
@@ -184,7 +184,7 @@ module _ (script : List Item) (made : AreMade script) (turns : List Turn) (core 
   get_there (y ∷ xs) (Rattle.std.proofs.Common.suc i) x e = get_there xs i x e
 
   -- the operation of a call is no other task's
-  spoken_call : (asked : Asked) → IsCallOf script asked → IsSpoken (told_tasks_of script) asked.operation
+  pub spoken_call : (asked : Asked) → IsCallOf script asked → IsSpoken (told_tasks_of script) asked.operation
   spoken_call asked of d t asks e = let u = up (all_tasks script) (length (opens script)) d t asks in
       let same = (one_task (plan_of script) (all_tasks script) made.are of.0 d of.2 t (of.1, get_there (all_tasks script) of.0 of.1 of.3, of.4) u.0 (sym of.6 ∙ sym e)).1 in
       true≢false (sym u.1 ∙ (ap (λ (x : Task). is_plain x.op) (sym same) ∙ ap is_plain of.5))

@@ -87,7 +87,7 @@ others_follow is_call zero calls os k i x at = readers_follow is_call calls os k
 others_follow is_call (suc n) calls os k zero x at = subst (Follows is_call lost) (some-injective Rest x at) tt
 others_follow is_call (suc n) calls os k (suc i) x at = others_follow is_call n calls os k i x at
 
-all_follow : (is_call : Asked → Type 0) (sizes : Sizes) (cs : List (List Task)) → ((i : ℕ) (ts : List Task) → get_elem? cs i ≡ some ts → AllByRecursion (λ (t : Task). OpCalls is_call t.op) ts) → (calls os : List ℕ) (i : ℕ) (x : Program) → get_elem? (all_programs (programs sizes cs) (readers_from calls 0 os)) i ≡ some x → Follows is_call lost x
+pub all_follow : (is_call : Asked → Type 0) (sizes : Sizes) (cs : List (List Task)) → ((i : ℕ) (ts : List Task) → get_elem? cs i ≡ some ts → AllByRecursion (λ (t : Task). OpCalls is_call t.op) ts) → (calls os : List ℕ) (i : ℕ) (x : Program) → get_elem? (all_programs (programs sizes cs) (readers_from calls 0 os)) i ≡ some x → Follows is_call lost x
 all_follow is_call sizes cs asks calls os i x e = ⊎_elim (λ a. clients_follow is_call sizes cs asks i x a) (λ b. others_follow is_call (32 - length (programs sizes cs)) calls os 0 b.0 x b.1) (appended (programs sizes cs) (replicate (32 - length (programs sizes cs)) Rest ++ readers_from calls 0 os) i x e)
 
 none_home : (n k : ℕ) (asked : Asked) → call_at (get_elem? (replicate n (some none_asked)) k) ≡ some asked → ⊥
@@ -96,7 +96,7 @@ none_home (suc n) zero asked e = some-ne-none asked (sym e)
 none_home (suc n) (suc k) asked e = none_home n k asked e
 
 module _ (p : Plan) (q : IdPlan) (is_call : Asked → Type 0) (seen : List Store) (es : List Event) where
-  begins_named : (xs : List Program) → ((i : ℕ) (x : Program) → get_elem? xs i ≡ some x → Follows is_call lost x) → (vs : List View) → ((i : ℕ) (v : View) → get_elem? vs i ≡ some v → (v.claims ≡ []) × (v.lists ≡ [] ∷ []))
+  pub begins_named : (xs : List Program) → ((i : ℕ) (x : Program) → get_elem? xs i ≡ some x → Follows is_call lost x) → (vs : List View) → ((i : ℕ) (v : View) → get_elem? vs i ≡ some v → (v.claims ≡ []) × (v.lists ≡ [] ∷ []))
       → NameLaw is_call seen es (beginning p q xs) vs (map (λ (x : Program). lost) xs)
   begins_named xs goes vs bare = record {
     views = λ j v e. let b = bare j v e in (subst (AllByRecursion (Rattle.send_causes.proofs.EndedNames.ClaimOver is_call seen es)) (sym b.0) tt, subst (AllByRecursion (AllByRecursion (Rattle.send_causes.proofs.EndedNames.EntryOver is_call seen es))) (sym b.1) (tt, tt));

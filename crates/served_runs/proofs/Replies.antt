@@ -161,7 +161,7 @@ module _ (script : List Item) (made : AreMade script) (turns : List Turn) (core 
   in_late there = subst (In Broken) (sym (taken_append (taken_in (plan_of script) (set_up script is.setup) in_clients k) (taken_in (plan_of script) is.ended is.final k)))
       (in_right (as_taken (taken_in (plan_of script) (set_up script is.setup) in_clients k)) (as_taken (taken_in (plan_of script) is.ended is.final k)) Broken there)
 
-  played_holds : H (played script is.setup in_clients)
+  pub played_holds : H (played script is.setup in_clients)
   played_holds = holds_along script in_os (IsListed script) (go script made turns core is) k o (in_os k o at) shape shape_is Fails IsEarly
       (λ c vs m ms sound early ending put. true≢false (sym ending ∙ early)) (λ c vs m ms sound answered fits early. run_ending (plan_of script) c (m ∷ []) ∙ early)
       in_clients (set_up script is.setup) (views_along (plan_of script) (opened script) (first_views script) in_setup) _

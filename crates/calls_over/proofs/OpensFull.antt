@@ -1,0 +1,157 @@
+-- Where there are requests for all attempts, not each request was taken as long as the log lacks an attempt.
+use Rattle.std.proofs.Common.{◌≡◌, ◌≢◌, ℕ, zero, suc, ◌+◌, ◌*◌, ◌<◌, ◌≤◌, ◌⊎◌, inl, inr, ⊎_elim, Bool, true, eqb, List, [], ◌∷◌, ◌++◌, length, map, slice_get, Some, None, length-append, Ok, refl, sym, ap, ◌∙◌, subst, arith}
+use Rattle.std.proofs.lemmas.List.{length-map}
+use Rattle.std.proofs.lemmas.Option.{slice_get_within}
+use Rattle.std.specs.List.{AllByRecursion, filter}
+use Rattle.std.specs.Prelude.{slice_index}
+use mathlib.Core.Logic.{dite}
+use mathlib.Core.Option.{some, some-injective, some-ne-none}
+use native.Mathlib.Decide.{ℕ_discrete}
+use lib.ListN.{get_elem?}
+use Rattle.sock_words.specs.declared.plain.Plan.{Plan}
+use Rattle.sock_model.specs.declared.chain.Claim.{Claim}
+use Rattle.sock_model.specs.declared.chain.Entry.{Entry}
+use Rattle.sock_model.specs.declared.view.View.{View}
+use Rattle.sock_model.specs.Chains.{Chains}
+use Rattle.sock_model.specs.Entries.{on, uses, count_up, ticket}
+use Rattle.sock_model.specs.Layout.{request_word}
+use Rattle.sock_model.specs.Memory.{Memory}
+use Rattle.sock_model.specs.Reads.{tokens, claims_of}
+use Rattle.sock_model.specs.Requests.{free_phase, claimed_phase, used_phase, retired_phase}
+use Rattle.sock_model.specs.Tokens.{Tokens}
+use Rattle.chain_laws.proofs.Frames.{no_token}
+use Rattle.chain_laws.proofs.Totals.{log_full}
+use Rattle.sock_steps.proofs.Maps.{gather_nil}
+use Rattle.brpc_model.specs.Items.{Item, Send, Call, attempts_of}
+use Rattle.brpc_model.specs.Operations.{Operation, Turn, operations, attempts, requests}
+use Rattle.brpc_model.specs.Order.{EachBefore}
+use Rattle.brpc_model.specs.Script.{script_of}
+use Rattle.report_fits.proofs.Counting.{tally, but, but_other, one_less}
+use Rattle.report_fits.proofs.Known.{Known, sent_at, inside}
+use Rattle.report_fits.proofs.LabelCounts.{is_attempt, attempt_there, attempts_few, Differ, few}
+use Rattle.report_fits.proofs.Lists.{Has, all_from, all_at, before_from}
+use Rattle.report_fits.proofs.Numbering.{are_from}
+use Rattle.report_fits.proofs.Places.{known_of}
+use Rattle.report_fits.proofs.Reading.{InRange}
+use Rattle.sock_programs.specs.Calls.{ClaimRequest}
+use Rattle.sock_programs.specs.Cores.{Core}
+use Rattle.sock_programs.specs.Scripts.{all_tasks, played, IsRunWithCalls}
+use Rattle.sock_programs.specs.Tasks.{plan_of}
+use Rattle.sock_programs.specs.ToldCalls.{Accepted, Order, Fixed, ToldCalls, StandsAt, label}
+use Rattle.sock_runs.specs.Sound.{Sound}
+use Rattle.sock_runs.proofs.Whole.{views_played}
+use Rattle.sock_causes.proofs.Delivered.{accepted_of, accepted_at}
+use Rattle.joint_runs.proofs.Runs.{AreMade, first_views}
+use Rattle.owed_calls.specs.Lives.{ClosesInRun}
+use Rattle.send_causes.proofs.ClosedLostTicks.{AreTaken}
+use Rattle.send_causes.proofs.Sends.{orders_of_run}
+use Rattle.calls_over.proofs.OpensEntered.{NoOld, early_log, late_log, rested_sound, idle_there, StandsLater, stands_later}
+
+range_small : (item : Item) → InRange item → attempts_of item ≤ 8
+range_small (Send name bytes) h = omega arith
+range_small (Call call) h = let r = h.retry in omega (arith, r)
+range_small other h = omega arith
+
+count_up_length : (n : ℕ) → length (count_up n) ≡ n
+count_up_length zero = refl
+count_up_length (suc n) = omega (arith, length-append (count_up n) (n ∷ []), count_up_length n)
+
+-- a request whose word isn't 0 and that nobody claims was used
+used_once : {links most : ℕ} {m : Memory} {t : Tokens} {log : List Entry} {freed places : ℕ → ℕ} → Chains links most m t log freed places → (q : ℕ) → q < most → m.request q ≢ 0 → t.claims q ≡ [] → 1 ≤ length (uses q log)
+used_once {links} {most} {m} {t} {log} s q ql some_ none_ = let u = s.in_use q ql in
+    let long : length (uses q log) ≡ u.times = sym (length-map (uses q log) (λ (e : Entry). e.generation)) ∙ (ap length u.each_once ∙ count_up_length u.times) in
+    elim u.phase [
+      | free_phase f ↦ (let a = f.word in let b = f.used in dite (ℕ_discrete u.generation 0) (λ z. absurd (some_ (a ∙ omega arith))) (λ n. omega arith))
+      | claimed_phase x ↦ absurd (no_token (t.claims q) x.claim x.claimed none_)
+      | used_phase e ↦ (let a = e.used in omega arith)
+      | retired_phase e ↦ (let a = e.used in omega arith)
+    ]
+
+-- a message of the attempt is in the list, or none is
+module _ (o n : ℕ) where
+  abbrev pub IsIn : List Entry → Type 0
+  IsIn es = (i : ℕ) × (e : Entry) × (get_elem? es i ≡ some e) × (e.heading.operation ≡ o) × (e.heading.attempt ≡ n)
+
+  find : (es : List Entry) → IsIn es ⊎ (IsIn es → ⊥)
+  find [] = inr (λ t. some-ne-none t.1 (sym t.2))
+  find (x ∷ es) = dite (ℕ_discrete x.heading.operation o)
+      (λ own. dite (ℕ_discrete x.heading.attempt n) (λ is. inl (0, x, refl, own, is)) (λ other. by (find es) (λ own' is. other is)))
+      (λ other. by (find es) (λ own is. other own))
+    where
+      none_here : (x.heading.operation ≡ o → x.heading.attempt ≡ n → ⊥) → (IsIn es → ⊥) → IsIn (x ∷ es) → ⊥
+      none_here other none_ (zero, e, at, own, is) = let same : x ≡ e = some-injective x e at in other (ap (λ (y : Entry). y.heading.operation) same ∙ own) (ap (λ (y : Entry). y.heading.attempt) same ∙ is)
+      none_here other none_ (suc i, e, at, own, is) = none_ (i, e, at, own, is)
+
+      by : IsIn es ⊎ (IsIn es → ⊥) → (x.heading.operation ≡ o → x.heading.attempt ≡ n → ⊥) → IsIn (x ∷ es) ⊎ (IsIn (x ∷ es) → ⊥)
+      by (inl t) other = inl (suc t.0, t.1, t.2, t.3, t.4)
+      by (inr none_) other = inr (none_here other none_)
+
+module _ (bytes : List ℕ) (script : List Item) (reads : script_of bytes ≡ Ok script) (made : AreMade script) (turns : List Turn) (core : Core) (is : IsRunWithCalls script turns core) (closes : ClosesInRun script turns core is) (fixed : Fixed) (gave : ℕ → List ℕ)
+    (tells : ToldCalls (plan_of script) (all_tasks script) core.outcomes fixed gave (orders_of_run script made turns core is closes) core) (long : length core.outcomes ≡ length (operations script)) where
+  abbrev rested : Core
+  rested = played script is.setup (is.scheduled ++ is.later)
+
+  abbrev es : List Entry
+  es = early_log script made turns core is
+
+  abbrev known : Known
+  known = known_of bytes script reads core fixed gave (orders_of_run script made turns core is closes) long tells
+
+  abbrev Ops : List Operation
+  Ops = operations script
+
+  small : AllByRecursion (λ (op : Operation). attempts_of op.item ≤ 8) Ops
+  small = all_from (λ (op : Operation). attempts_of op.item ≤ 8) Ops (λ q h. range_small q.item (all_at InRange script q.item known.range (are_from 0 1 script h.0 q h.1).there))
+
+  abbrev most : ℕ
+  most = 8 * length Ops
+
+  later : (i : ℕ) (e : Entry) → get_elem? es i ≡ some e → StandsLater script made turns core is closes e
+  later i e at = stands_later script made turns core is closes i e at
+
+  labels_there : (i : ℕ) (e : Entry) → get_elem? es i ≡ some e → (label (accepted_of e) < most) × (is_attempt Ops (label (accepted_of e)) ≡ true) × (e.heading.attempt < 8)
+  labels_there i e at = let t = later i e at in let w = sent_at known e.link t.place (accepted_of e) t.low t.stands in let x = inside known e.link t.place (accepted_of e) t.low t.stands in
+      let low = x.1 in let eight = x.2 in (omega (arith, low, eight), attempt_there Ops e.heading.operation e.heading.attempt w.operation w.there w.counts eight, eight)
+
+  -- no two are of one attempt
+  apart : (i j : ℕ) (d e : Entry) → get_elem? es i ≡ some d → get_elem? es j ≡ some e → label (accepted_of d) ≡ label (accepted_of e) → i ≡ j
+  apart i j d e at bt same = let x = later i d at in let y = later j e bt in let are = tells.are_orders in
+      let z = are.apart d.link e.link x.place y.place (accepted_of d) (accepted_of e) x.low y.low x.stands y.stands same in
+      let one : d ≡ e = some-injective d e (sym x.here ∙ ((λ w. get_elem? (on (z.0 w) (late_log script made turns core is)) (z.1 w)) ∙ y.here)) in
+      let o = (rested_sound script made turns core is).lawful in o.chains.differ i j d e at bt (ap ticket one)
+
+  all_differ : EachBefore Differ (map accepted_of es)
+  all_differ = before_from Differ (map accepted_of es) (λ i j a b less at bt same. let d = accepted_at es i a at in let e = accepted_at es j b bt in
+      let z = apart i j d.0 e.0 d.1 e.1 (ap label d.2 ∙ (same ∙ sym (ap label e.2))) in omega (arith, less, z))
+
+  -- where it lacks an attempt, it has fewer messages than there are attempts
+  fewer : (o n : ℕ) (q : Operation) → slice_get Ops o ≡ Some q → n < attempts_of q.item → (IsIn o n es → ⊥) → length es < attempts script
+  fewer o n q there counts out =
+      let few_ = all_at (λ (op : Operation). attempts_of op.item ≤ 8) Ops q small (o, there) in
+      let eight : n < 8 = omega (arith, counts, few_) in
+      let test = is_attempt Ops in
+      let place = 8 * o + n in
+      let low : place < most = omega (arith, slice_get_within Ops o q there, eight) in
+      let bound : length (map accepted_of es) ≤ tally (but test place) most = few (but test place) most (map accepted_of es) all_differ (λ a h. (
+      let d = accepted_at es h.0 a h.1 in let l = labels_there h.0 d.0 d.1 in let fits = l.2 in
+      let other : label (accepted_of d.0) ≢ place = (λ same. out (h.0, d.0, d.1, (omega (arith, same, eight, fits)), (omega (arith, same, eight, fits)))) in
+      (subst (λ (x : Accepted). label x < most) d.2 l.0, subst (λ (x : Accepted). but test place (label x) ≡ true) d.2 (but_other test place (label (accepted_of d.0)) other ∙ l.1))
+      )) in
+      omega (
+        arith,
+        bound,
+        length-map es accepted_of,
+        one_less test place most low (attempt_there Ops o n q there counts eight),
+        attempts_few script small,
+      )
+
+  -- so the log has the attempt, where each request was taken
+  pub taken_has : attempts script ≤ requests script → AreTaken (plan_of script) NoOld (played script is.setup (is.scheduled ++ is.later)) (views_played script turns core is (first_views script)) (plan_of script).requests
+      → (o n : ℕ) (q : Operation) → slice_get (operations script) o ≡ Some q → n < attempts_of q.item → IsIn o n (early_log script made turns core is)
+  taken_has enough taken o n q there counts = ⊎_elim (λ t. t) (λ out. absurd (let a = fewer o n q there counts out in let b = used in let z : ⊥ = omega (arith, a, b, enough) in z)) (find o n es)
+    where
+      none_claimed : (r : ℕ) → (tokens (views_played script turns core is (first_views script))).claims r ≡ []
+      none_claimed r = gather_nil (claims_of r) (views_played script turns core is (first_views script)) (λ i v at. ap (λ l. filter (λ (x : Claim). eqb x.request r) l) (idle_there script made turns core is i v at).0)
+
+      used : (plan_of script).requests ≤ length es
+      used = let o = (rested_sound script made turns core is).lawful in log_full (plan_of script).requests es (λ r low. used_once o.chains r low (λ e. let t = taken r low in let s = (t.3 t.2).1 in let z : ⊥ = omega (arith, s, e) in z) (none_claimed r))

@@ -1,0 +1,163 @@
+-- Each at word that stands where the ending begins was stored before, for an attempt of the call that is its operation.
+use Rattle.std.proofs.Common.{◌≡◌, ◌≢◌, ℕ, zero, suc, ◌+◌, ◌-◌, ◌<◌, ◌≤◌, get_or, inl, inr, ⊎_elim, true, false, List, [], ◌∷◌, ◌++◌, length, map, replicate, refl, sym, ◌∙◌, subst, arith}
+use Rattle.std.specs.List.{AllByRecursion}
+use Rattle.std.specs.Prelude.{Bool}
+use Rattle.std.proofs.lemmas.List.{length-map}
+use mathlib.Core.Option.{some, some-injective, some-ne-none}
+use lib.ListN.{get_elem?}
+use Rattle.atomic_table.proofs.Lists.{set_again}
+use Rattle.sock_words.specs.declared.plain.Plan.{Plan}
+use Rattle.sock_model.specs.declared.view.View.{View}
+use Rattle.brpc_model.specs.Items.{Item}
+use Rattle.brpc_model.specs.Operations.{Turn, clients}
+use Rattle.corr_core.specs.declared.marks.Plan.{Plan as IdPlan}
+use Rattle.sock_message.specs.Asked.{Asked}
+use Rattle.sock_programs.specs.Beside.{call_at}
+use Rattle.sock_programs.specs.Clients.{client_from, ending_of}
+use Rattle.sock_programs.specs.Cores.{Core, SeatState, resolved, next_step}
+use Rattle.sock_programs.specs.declared.task.Op.{Op}
+use Rattle.sock_programs.specs.declared.task.Op.TheVariants as ops
+use Rattle.sock_programs.specs.declared.task.Sizes.{Sizes}
+use Rattle.sock_programs.specs.declared.task.Task.{Task}
+use Rattle.sock_programs.specs.Programs.{Program, Rest}
+use Rattle.sock_programs.specs.Readers.{reader}
+use Rattle.sock_programs.specs.Ticks.{Moment, AreAnswered, quiet, ticked, run}
+use Rattle.sock_programs.specs.Tasks.{opens, calls, plan_of, id_plan_of}
+use Rattle.sock_programs.specs.Scripts.{sizes_of, programs, readers_from, all_programs, all_tasks, opened, set_up, played, IsRunWithCalls}
+use Rattle.sock_programs.specs.Told.{AreTasks}
+use Rattle.sock_runs.specs.Sound.{Sound, AreFitting, views_after, views_along}
+use Rattle.sock_runs.proofs.Along.{seat_rests}
+use Rattle.sock_runs.proofs.LinkTicks.{RetriesGo}
+use Rattle.sock_runs.proofs.Opening.{mapped, appended}
+use Rattle.sock_runs.proofs.Ticks.{sound_ticks}
+use Rattle.sock_runs.proofs.Whole.{Begins, AreFittingIn, closing_of, rested_of, views_played, views_closed, views_ended, set_up_answered, end_answered, set_up_sound, played_sound, closing_sound, closed_sound, rested_ahead, rested_idle}
+use Rattle.sock_causes.specs.Kept.{Story}
+use Rattle.sock_causes.specs.PlainTasks.{told_tasks_of, OwnsCall}
+use Rattle.sock_causes.specs.Stories.{Event, In}
+use Rattle.sock_causes.proofs.Begin.{start_story}
+use Rattle.sock_causes.proofs.Final.{at_there}
+use Rattle.sock_causes.proofs.Members.{all_in, all_of}
+use Rattle.sock_causes.proofs.Messages.{in_of_at}
+use Rattle.sock_causes.proofs.Plain.{in_left, in_right, in_both}
+use Rattle.sock_causes.proofs.Openings.{are_seats, all_explained}
+use Rattle.sock_causes.proofs.Runs.{IsStoried, set_up_over, ending_story, is_ending_story}
+use Rattle.sock_causes.proofs.Scripts.{own_from}
+use Rattle.sock_causes.proofs.Ticks.{elem_there, tick_story}
+use Rattle.label_runs.proofs.Programs.{OpCalls}
+use Rattle.id_rule.specs.Lawful.{at_word}
+use Rattle.call_causes.specs.Lists.{shows_in}
+use Rattle.id_runs.proofs.Opening.{unused}
+use Rattle.send_causes.specs.Counts.{AreLabelled}
+use Rattle.send_causes.specs.EndedCalls.{Load, loaded_at, loads_of_run, Store, stored_at, stores_of_run}
+use Rattle.send_causes.proofs.Runs.{AreLabelledIn, IsCallOf, behind_ids}
+use Rattle.send_causes.proofs.Ticks.{none_asked}
+use Rattle.send_causes.proofs.EndedTrails.{Trail, lost, Follows}
+use Rattle.send_causes.proofs.EndedNamed.{asked_by, all_follow, begins_named, Named, Behind, seats_named, setup_named}
+use Rattle.send_causes.proofs.EndedNames.{ViewOver, NameLaw, StoredFor, for_up, lost_true, resolves, moves, name_ticks, tick_loads}
+use Rattle.sock_words.specs.Words as sockets
+use Rattle.sock_programs.specs.Asides.{id_slot, id_first}
+use Rattle.client_laws.specs.Openings.{all_seats}
+use Rattle.client_laws.proofs.Fresh.{opening_fresh}
+use Rattle.joint_runs.proofs.Runs.{AreMade, first_views}
+use Rattle.owed_calls.specs.Lives.{ClosesInRun}
+use Rattle.owed_calls.specs.Sound.{at_of}
+use Rattle.send_causes.proofs.Early.{start, go, fitting}
+use Rattle.send_causes.proofs.Sends.{narrow, opening_claims}
+use Rattle.calls_over.proofs.OpensStill.{both}
+
+-- what is known of an at word that was stored before the ending
+pub record IsEarly (script : List Item) (turns : List Turn) (core : Core) (is : IsRunWithCalls script turns core) (o w : ℕ) : Type 0 where
+  pub asked : Asked
+  pub called : IsCallOf script asked
+  pub operation : asked.operation ≡ o
+  pub id : ℕ
+  pub attempt : ℕ
+  pub link : ℕ
+  pub word : w ≡ sockets.at_word (id_first id) (id_slot id) link attempt
+  pub slot : id_slot id < 65536
+  pub small : link < 65535
+  pub few : attempt ≤ 6
+  pub stored : In (record { operation = o; word = w }) (shows_in stored_at (plan_of script) (opened script) (replicate is.setup (quiet 0)) ++ shows_in stored_at (plan_of script) (set_up script is.setup) (is.scheduled ++ is.later))
+
+module _ (script : List Item) (made : AreMade script) (turns : List Turn) (core : Core) (is : IsRunWithCalls script turns core) (closes : ClosesInRun script turns core is) (ids : ℕ → ℕ) (labelled : AreLabelledIn ids script turns core is) where
+  abbrev p : Plan
+  p = plan_of script
+
+  abbrev q : IdPlan
+  q = id_plan_of script
+
+  abbrev vs : List View
+  vs = first_views script
+
+  abbrev in_setup : List Moment
+  in_setup = replicate is.setup (quiet 0)
+
+  abbrev in_clients : List Moment
+  in_clients = is.scheduled ++ is.later
+
+  abbrev s₁ : List Store
+  s₁ = shows_in stored_at (plan_of script) (opened script) in_setup
+
+  abbrev s₂ : List Store
+  s₂ = shows_in stored_at (plan_of script) (set_up script is.setup) in_clients
+
+  few_slots : (id_plan_of script).slots ≤ 65536
+  few_slots = narrow script made turns core is closes
+
+  bare : (i : ℕ) (v : View) → get_elem? vs i ≡ some v → (v.claims ≡ []) × (v.lists ≡ [] ∷ [])
+  bare i v at = (opening_claims (plan_of script) (all_seats (all_tasks script) (length (opens script))) i v at, opening_fresh (plan_of script) (all_seats (all_tasks script) (length (opens script))) i v at)
+
+  tasks_are : AreTasks (plan_of script) (told_tasks_of script)
+  tasks_are = are_seats (plan_of script) (all_tasks script) made.are (length (opens script))
+
+  abbrev Keeps : Bool → Core → List View → Type 0
+  Keeps over c ws = Named (plan_of script) (id_plan_of script) few_slots (IsCallOf script) (s₁ ++ s₂) (told_tasks_of script) tasks_are ids over c ws
+
+  abbrev After : Bool → List Event → Core → List View → List Moment → Type 0
+  After over before c ws ms = Behind (plan_of script) (id_plan_of script) few_slots (IsCallOf script) (s₁ ++ s₂) (told_tasks_of script) tasks_are ids over before c ws ms
+
+  first : Keeps false (opened script) vs
+  first = record {
+    events = [];
+    lost_links = [];
+    story = start_story (plan_of script) (id_plan_of script) (told_tasks_of script) tasks_are _ (all_explained (plan_of script) (all_tasks script) made.are (length (opens script)) (id_plan_of script) (own_from script 0 (clients script + 1)) (calls script) (opens script) refl) vs
+        (λ i v at. (bare i v at).1) (let s = start script made turns core is in s.sound);
+    trails = map (λ (x : Program). lost) (all_programs (programs (sizes_of (plan_of script) (id_plan_of script)) (all_tasks script)) (readers_from (calls script) 0 (opens script)));
+    law = begins_named (plan_of script) (id_plan_of script) (IsCallOf script) (s₁ ++ s₂) [] (all_programs (programs (sizes_of (plan_of script) (id_plan_of script)) (all_tasks script)) (readers_from (calls script) 0 (opens script)))
+        (all_follow (IsCallOf script) (sizes_of (plan_of script) (id_plan_of script)) (all_tasks script) (asked_by script) (calls script) (opens script)) vs bare;
+  }
+
+  setup_part : After false [] (opened script) vs in_setup
+  unfolding first
+  setup_part = let s = start script made turns core is in let f = fitting script made turns core is in
+      setup_named p q few_slots (IsCallOf script) (s₁ ++ s₂) (told_tasks_of script) tasks_are ids (go script made turns core is) is.setup (opened script) vs s.sound
+      (set_up_answered script made.are vs s (go script made turns core is) turns core is f) f.of_setup labelled.of_setup (λ x there. in_left s₁ s₂ x there) first (λ e m. absurd m)
+
+  -- the setup is over
+  over_part : Keeps true (set_up script is.setup) (views_along (plan_of script) (opened script) vs in_setup)
+  over_part = let k = setup_part.named in let s = start script made turns core is in let f = fitting script made turns core is in
+      let t : IsStoried (plan_of script) (told_tasks_of script) tasks_are false (set_up script is.setup) (views_along (plan_of script) (opened script) vs in_setup) = record { events = k.events; lost = k.lost_links; sound = set_up_sound script made.are vs s (go script made turns core is) turns core is f; story = k.story } in
+      let o = set_up_over (plan_of script) (told_tasks_of script) tasks_are (set_up script is.setup) (views_along (plan_of script) (opened script) vs in_setup) t is.is_set_up in
+      record { events = o.0.events; lost_links = o.0.lost; story = o.0.story; trails = k.trails; law = subst (λ es. NameLaw (IsCallOf script) (s₁ ++ s₂) es (set_up script is.setup) (views_along (plan_of script) (opened script) vs in_setup) k.trails) (sym o.1) k.law }
+
+  clients_part : After true over_part.events (set_up script is.setup) (views_along (plan_of script) (opened script) vs in_setup) in_clients
+  clients_part = let s = start script made turns core is in let f = fitting script made turns core is in
+      seats_named p q few_slots (IsCallOf script) (s₁ ++ s₂) (told_tasks_of script) tasks_are ids (go script made turns core is) in_clients (set_up script is.setup) (views_along (plan_of script) (opened script) vs in_setup)
+      (set_up_sound script made.are vs s (go script made turns core is) turns core is f) is.answered f.of_played labelled.of_played (λ x there. in_right s₁ s₂ x there) over_part
+
+  -- an at word that stands there
+  pub stored_early : (o : ℕ) → o < (id_plan_of script).operations → at_of (id_plan_of script) (played script is.setup (is.scheduled ++ is.later)) o ≢ 0 → IsEarly script turns core is o (at_of (id_plan_of script) (played script is.setup (is.scheduled ++ is.later)) o)
+  stored_early o low some_ = let b = both script made turns core is in let ids = b.ids in let c = played script is.setup in_clients in let n = clients_part.named in
+      let x = subst (λ (plan : IdPlan). o < plan.operations → get_or c.calls.words (at_word plan o) 0 ≢ 0 → StoredFor (IsCallOf script) (s₁ ++ s₂) n.events o (get_or c.calls.words (at_word plan o) 0)) ids.plan (n.law.ats o) low some_ in record {
+        asked = x.asked;
+        called = x.called;
+        operation = x.operation;
+        id = x.id;
+        attempt = x.attempt;
+        link = x.link;
+        word = x.word;
+        slot = x.slot;
+        small = x.small;
+        few = x.few;
+        stored = x.stored;
+      }

@@ -1,0 +1,226 @@
+-- Where each link has the server and nothing went wrong, no link failed before the ending, no reader throws bytes away, and each message that a link accepted is the request of a call.
+use Rattle.std.proofs.Common.{◌≡◌, ℕ, zero, suc, ◌<◌, ◌≤◌, ◌⊎◌, inl, inr, ⊎_elim, Bool, true, false, List, [], ◌∷◌, ◌++◌, length, replicate, slice_get, Some, None, Ok, refl, sym, ap, ◌∙◌, subst, arith}
+use Rattle.std.proofs.lemmas.Option.{slice_get_within}
+use Rattle.std.specs.List.{AllByRecursion}
+use Rattle.std.specs.Prelude.{IsTrue, Contains}
+use mathlib.Core.Option.{some, some-injective}
+use lib.ListN.{get_elem?}
+use Rattle.sock_words.specs.declared.plain.Plan.{Plan}
+use Rattle.sock_model.specs.declared.view.View.{View}
+use Rattle.sock_model.specs.Links.{Failed}
+use Rattle.brpc_model.specs.Causes.{HasFault, reading_limit}
+use Rattle.brpc_model.specs.Complete.{IsUntroubled}
+use Rattle.brpc_model.specs.Items.{Item, Shape, Open, Send, Fail}
+use Rattle.brpc_model.specs.Link.{LinkEnd}
+use Rattle.brpc_model.specs.Operations.{Turn, link_names, link_shapes}
+use Rattle.brpc_model.specs.Places.{names}
+use Rattle.brpc_model.specs.Report.{Report}
+use Rattle.brpc_model.specs.Script.{script_of}
+use Rattle.report_fits.specs.Ends.{AreEndsOf, AreTold}
+use Rattle.report_fits.proofs.Known as known
+use Rattle.report_fits.proofs.Lines.{Given}
+use Rattle.report_fits.proofs.Lists.{Has, all_at, has_from, has_later, contains_from, some_is, within}
+use Rattle.report_fits.proofs.Lives as lives
+use Rattle.report_fits.proofs.Places.{known_of}
+use Rattle.report_fits.proofs.Reading.{InRange}
+use Rattle.report_fits.proofs.Sizes.{is_counted}
+use Rattle.report_fits.proofs.Targets.{AreThere, are_there}
+use Rattle.report_fits.proofs.TaskLemmas.{numbers_at, task_is, send_asks, fail_asks, mentions_send}
+use Rattle.sock_programs.specs.declared.task.Op.TheVariants as ops
+use Rattle.sock_programs.specs.declared.task.Task.{Task}
+use Rattle.sock_programs.specs.Asides.{AtEnd, Broken}
+use Rattle.sock_programs.specs.Cores.{Core, SeatState}
+use Rattle.sock_programs.specs.Heads.{Discards}
+use Rattle.sock_programs.specs.Programs.{Program, Rest, Round}
+use Rattle.sock_programs.specs.Readers.{LIMIT, reader}
+use Rattle.sock_programs.specs.Scripts.{Reports, all_tasks, opened, set_up, played, IsRunWithCalls}
+use Rattle.sock_programs.specs.Tasks.{opens, calls, numbered, plan_of, id_plan_of}
+use Rattle.sock_programs.specs.Ticks.{Moment, quiet, broken_in, ticked}
+use Rattle.sock_programs.specs.Told.{IsTask, IsFail, Made}
+use Rattle.sock_programs.specs.ToldCalls.{Order, Fixed, ToldCalls}
+use Rattle.sock_runs.specs.Sound.{state}
+use Rattle.sock_runs.proofs.Along.{place_inside}
+use Rattle.sock_runs.proofs.Whole.{closing_of, views_played}
+use Rattle.sock_causes.specs.Facts.{shown_in, broken_of_run, closed_before_ending}
+use Rattle.sock_causes.specs.Losses.{closed_at, lost_in}
+use Rattle.sock_causes.specs.PlainTasks.{told_tasks_of}
+use Rattle.sock_causes.specs.Stories.{In}
+use Rattle.sock_causes.proofs.Lifted.{task_up}
+use Rattle.sock_causes.proofs.Members.{in_contains, contains_in}
+use Rattle.sock_causes.proofs.Plain.{in_left, in_right, in_both}
+use Rattle.client_laws.specs.Openings.{all_seats}
+use Rattle.client_laws.proofs.Fresh.{opening_fresh}
+use Rattle.joint_runs.proofs.Runs.{AreMade, first_views}
+use Rattle.owed_calls.specs.Lives.{ClosesInRun}
+use Rattle.whole_runs.specs.Heard.{heard_takes, given_by}
+use Rattle.whole_runs.proofs.Gave.{gave_heard}
+use Rattle.whole_runs.proofs.Lengths.{ended_length}
+use Rattle.whole_runs.proofs.Starts.{made}
+use Rattle.call_causes.specs.Lists.{given}
+use Rattle.call_causes.specs.Scenes.{LeadsTo}
+use Rattle.send_causes.proofs.AttemptedStored.{played_leads}
+use Rattle.send_causes.proofs.Early.{start, go, fitting, closed_early}
+use Rattle.send_causes.proofs.Faults.{Faults, fault_stays}
+use Rattle.send_causes.proofs.Sends.{owed}
+use Rattle.send_causes.proofs.Storied.{lost_one, lost_two, lost_before, run_tells, failed_early}
+use Rattle.served_runs.specs.Offered.{OffersInRun}
+use Rattle.served_runs.specs.Served.{IsForCalls}
+use Rattle.served_runs.proofs.Ends.{Holds}
+use Rattle.served_runs.proofs.Own.{id_small}
+use Rattle.served_runs.proofs.Readings.{Goes}
+use Rattle.served_runs.proofs.Replies.{played_holds}
+use Rattle.served_runs.proofs.Served.{shapes_many, gives_last, gives_no_fault}
+use Rattle.served_calls.specs.Quiet.{AreShown, HasServer}
+use Rattle.served_calls.proofs.Requests.{never_last}
+use Rattle.served_sizes.proofs.Few as sizes
+use Rattle.calls_over.proofs.OpensEntered.{rested_sound}
+use Rattle.calls_over.proofs.OpensOwed.{NoneThrown}
+
+-- each link was opened under its name, with its shape
+named_shape : (items : List Item) (k : ℕ) (shape : Shape) → slice_get (link_shapes items) k ≡ Some shape → (name : List ℕ) × (slice_get (link_names items) k ≡ Some name) × Has items (Open name shape)
+named_shape [] k shape e = absurd (cc)
+named_shape (Open n s ∷ items) zero shape e = (n, refl, (zero, ap (λ (x : Shape). Some (Open n x)) (some_is s shape e)))
+named_shape (Open n s ∷ items) (suc k) shape e = let x = named_shape items k shape e in (x.0, x.1, has_later (Open n s) items (Open x.0 shape) x.2)
+named_shape (item ∷ items) k shape e = let x = named_shape items k shape e in (x.0, x.1, has_later item items (Open x.0 shape) x.2)
+
+-- a link that was lost in some ticks answered that it failed, or its socket was closed
+lost_so : (p : Plan) (c : Core) (ms : List Moment) (k : ℕ) → In k (lost_in p c ms) → In k (broken_in p c ms) ⊎ In k (shown_in closed_at p c ms)
+lost_so p c [] k m = absurd m
+lost_so p c (x ∷ xs) k m = ⊎_elim
+    (λ a. ⊎_elim (λ b. inl (in_left _ (broken_in p (ticked p c x) xs) k b)) (λ b. inr (in_left (closed_at c x) (shown_in closed_at p (ticked p c x) xs) k b)) (in_both _ (closed_at c x) k a))
+    (λ a. ⊎_elim (λ b. inl (in_right _ (broken_in p (ticked p c x) xs) k b)) (λ b. inr (in_right (closed_at c x) (shown_in closed_at p (ticked p c x) xs) k b)) (lost_so p (ticked p c x) xs k a))
+    (in_both _ (lost_in p (ticked p c x) xs) k m)
+
+module _ (bytes : List ℕ) (script : List Item) (reads : script_of bytes ≡ Ok script) (short : length bytes ≤ 1048576) (turns : List Turn) (core : Core) (is : IsRunWithCalls script turns core) (closes : ClosesInRun script turns core is) (offers : OffersInRun script turns core is) (fixed : Fixed)
+    (orders : ℕ → Order) (tells : ToldCalls (plan_of script) (all_tasks script) core.outcomes fixed (given core) orders core) (report : Report) (took : List (List ℕ)) (ends : List LinkEnd)
+    (reports : Reports script core took report) (told : AreTold ends took) (given_back : AreEndsOf script core fixed (given core) ends) (shown : AreShown script turns core is fixed ends) (breaks : (k : ℕ) → Contains (broken_of_run script turns core is) k → Contains fixed.broken k)
+    (served : (name : List ℕ) (shape : Shape) → Contains script (Open name shape) → IsTrue shape.serve) (untroubled : IsUntroubled script ends) where
+  abbrev are_made : AreMade script
+  are_made = made bytes script reads
+
+  abbrev targets : AreThere script
+  targets = are_there bytes script reads
+
+  abbrev range : AllByRecursion InRange script
+  range = (is_counted bytes script reads).in_range
+
+  abbrev all_given : Given
+  all_given = record { run = known_of bytes script reads core fixed (given core) orders (ended_length bytes script reads turns core is) tells; report = report; took = took; ends = ends; reports = reports; told = told; given = given_back }
+
+  -- ## Links
+
+  pub has_server : (k : ℕ) → k < length (link_names script) → HasServer script turns core is k
+  has_server k low = let s = within (link_shapes script) k (let m = shapes_many script in omega (arith, low, m)) in let x = named_shape script k s.0 s.1 in (s.0, s.1, served x.0 s.0 (contains_from script (Open x.0 s.0) x.2))
+
+  -- no `send` has a socket
+  pub unsent : (k client : ℕ) (t : Task) (name slot version : ℕ) (sent : List ℕ) → IsTask (all_tasks script) core.outcomes client t → t.op ≡ ops.Send name sent → Made (all_tasks script) core.outcomes name k slot version → ⊥
+  unsent k client t name slot version sent it op life = let w = task_is script core.outcomes client t it in let m = send_asks (numbered script) (names script) (numbers_at script t.number w.operation) w.operation.item name sent (w.asks ∙ ap Some op) in
+      let mentions = mentions_send script t.number w.operation w.there m.0 sent m.1 in let link = lives.link_of all_given name k slot version m.0 (m.2, mentions) life in
+      let s = within (link_shapes script) k (let l = slice_get_within (link_names script) k m.0 link in let n = shapes_many script in omega (arith, l, n)) in let x = named_shape script k s.0 s.1 in
+      let named : Contains script (Open m.0 s.0) = contains_from script (Open m.0 s.0) (subst (λ n. Has script (Open n s.0)) (some_is x.0 m.0 (sym x.1 ∙ link)) x.2) in
+      untroubled.no_stray m.0 sent (contains_from script (Send m.0 sent) (known.in_script all_given.run t.number w.operation w.there (Send m.0 sent) m.1)) (s.0, named, served m.0 s.0 named)
+
+  module _ (k : ℕ) (low : k < length (link_names script)) where
+    abbrev s : HasServer script turns core is k
+    s = has_server k low
+
+    end_of : lives.EndOf all_given k
+    end_of = lives.end_at all_given k low
+
+    faultless : (end_of.end.put_faults ≡ 0) × (end_of.end.take_faults ≡ 0)
+    faultless = all_at (λ (x : LinkEnd). (x.put_faults ≡ 0) × (x.take_faults ≡ 0)) ends end_of.end untroubled.put (has_from ends end_of.end end_of.there)
+
+    pub no_end : s.0.end ≡ None
+    no_end = let x = named_shape script k s.0 s.1 in untroubled.no_end x.0 s.0 (contains_from script (Open x.0 s.0) x.2)
+
+    for_calls : IsForCalls script turns core is k s.0
+    for_calls = record { opened = s.1; serves = s.2; unsent = unsent k }
+
+    no_fault : HasFault (given core k) → ⊥
+    no_fault = gives_no_fault script are_made targets range turns core is closes offers k s.0 for_calls
+
+    few : length (given core k) < LIMIT
+    few = sizes.few bytes script reads short turns core is closes offers fixed orders tells untroubled.few_attempts k s.0 s.1 s.2
+
+    endless : Contains (heard_takes is k) AtEnd → ⊥
+    endless ended = never_last script are_made turns core is fixed orders tells (id_small script are_made targets range turns core is closes) k low (unsent k) s.0 no_end
+        (gives_last script are_made targets range turns core is closes offers k s.0 s.1 s.2 ended)
+
+    unbroken : Contains (heard_takes is k) Broken → ⊥
+    unbroken broken = let x = shown.1 k end_of.end end_of.there end_of.is.numbered broken in let y = faultless.1 in let z : ⊥ = omega (arith, x, y) in z
+
+    unput : Contains (broken_of_run script turns core is) k → ⊥
+    unput broken = let x = end_of.is.failed (breaks k broken) in let y = faultless.0 in let z : ⊥ = omega (arith, x, y) in z
+
+    unclosed : In k (closed_before_ending script turns core is) → ⊥
+    unclosed closed = by (closed_early script are_made turns core is k closed).1
+      where
+        same : given core k ≡ given_by (heard_takes is k)
+        same = gave_heard bytes script reads turns core is k low
+
+        by : Contains (heard_takes is k) AtEnd ⊎ (HasFault (given_by (heard_takes is k)) ⊎ ((reading_limit ≤ length (given_by (heard_takes is k))) ⊎ Contains (heard_takes is k) Broken)) → ⊥
+        by (inl ended) = endless ended
+        by (inr (inl fault)) = no_fault (subst HasFault (sym same) fault)
+        by (inr (inr (inl most))) = let l = ap length same in let f = few in let z : ⊥ = omega (arith, l, most, f) in z
+        by (inr (inr (inr broken))) = unbroken broken
+
+  -- ## Failures
+
+  -- no link's life was failed before the ending
+  pub unfailed : (k : ℕ) → Failed (plan_of script) (state (played script is.setup (is.scheduled ++ is.later)) (views_played script turns core is (first_views script))) k → ⊥
+  unfailed k failed = ⊎_elim (λ lost. by_lost (contains_in _ k lost))
+      (λ at_fail.
+          let tale = run_tells script are_made.are (first_views script) (start script are_made turns core is) fresh (go script are_made turns core is) turns core is (fitting script are_made turns core is) (owed script are_made turns core is closes) in
+          let t = tale.tells in let f : IsFail (told_tasks_of script) core.outcomes (at_fail.0, k) = all_at (IsFail (told_tasks_of script) core.outcomes) t.fails (at_fail.0, k) t.are (has_from t.fails (at_fail.0, k) at_fail.1) in
+          let it = task_up (all_tasks script) (length (opens script)) core.outcomes f.client f.task f.is in
+          let w = task_is script core.outcomes f.client f.task it in let m = fail_asks (numbered script) (names script) (numbers_at script f.task.number w.operation) w.operation.item f.name f.code (w.asks ∙ ap Some f.op) in
+          untroubled.no_fail m.0 f.code (contains_from script (Fail m.0 f.code) (known.in_script all_given.run f.task.number w.operation w.there (Fail m.0 f.code) m.1)))
+      (failed_early script are_made.are (first_views script) (start script are_made turns core is) fresh (go script are_made turns core is) turns core is (fitting script are_made turns core is) (owed script are_made turns core is closes) k failed)
+    where
+      fresh : (i : ℕ) (v : View) → get_elem? (first_views script) i ≡ some v → v.lists ≡ [] ∷ []
+      fresh = opening_fresh (plan_of script) (all_seats (all_tasks script) (length (opens script)))
+
+      low : k < length (link_names script)
+      low = let o = (rested_sound script are_made turns core is).lawful in o.in_slots.small failed.slot failed.version k failed.life
+
+      ones : List Moment
+      ones = replicate is.setup (quiet 0)
+
+      by_one : In k (broken_in (plan_of script) (opened script) (replicate is.setup (quiet 0))) ⊎ In k (shown_in closed_at (plan_of script) (opened script) (replicate is.setup (quiet 0))) → ⊥
+      by_one (inl b) = unput k low (in_contains (broken_of_run script turns core is) k (in_left (broken_in (plan_of script) (opened script) (replicate is.setup (quiet 0))) _ k b))
+      by_one (inr b) = unclosed k low (in_left (shown_in closed_at (plan_of script) (opened script) (replicate is.setup (quiet 0))) _ k b)
+
+      by_two : In k (broken_in (plan_of script) (set_up script is.setup) (is.scheduled ++ is.later)) ⊎ In k (shown_in closed_at (plan_of script) (set_up script is.setup) (is.scheduled ++ is.later)) → ⊥
+      by_two (inl b) = unput k low (in_contains (broken_of_run script turns core is) k (in_right (broken_in (plan_of script) (opened script) (replicate is.setup (quiet 0))) _ k (in_left (broken_in (plan_of script) (set_up script is.setup) (is.scheduled ++ is.later)) _ k b)))
+      by_two (inr b) = unclosed k low (in_right (shown_in closed_at (plan_of script) (opened script) (replicate is.setup (quiet 0))) _ k b)
+
+      by_lost : In k (lost_in (plan_of script) (opened script) (replicate is.setup (quiet 0)) ++ lost_in (plan_of script) (set_up script is.setup) (is.scheduled ++ is.later)) → ⊥
+      by_lost m = ⊎_elim (λ a. by_one (lost_so (plan_of script) (opened script) (replicate is.setup (quiet 0)) k a)) (λ a. by_two (lost_so (plan_of script) (set_up script is.setup) (is.scheduled ++ is.later) k a))
+          (in_both (lost_in (plan_of script) (opened script) (replicate is.setup (quiet 0))) (lost_in (plan_of script) (set_up script is.setup) (is.scheduled ++ is.later)) k m)
+
+  -- ## Readers
+
+  -- no reader throws bytes away
+  pub none_thrown : NoneThrown script are_made turns core is closes targets range
+  none_thrown k o at seat there l total next e = ⊎_elim (λ x. absurd (let z : reader (calls script) k o ≡ Round (Discards l total) next = sym x.0 ∙ e in cc))
+      (λ other. ⊎_elim (λ x. absurd (let z : Rest ≡ Round (Discards l total) next = sym x.0 ∙ e in cc))
+          (λ x. let g = subst (Goes k (given before k) held.last) e x in by_fault g.2) other)
+      (held.reader seat there)
+    where
+      low : k < length (link_names script)
+      low = let i = place_inside (opens script) k o at in let many = (let x = Rattle.send_causes.proofs.Early.known script are_made turns core is in x.as_many) in omega (arith, i, many)
+
+      server : HasServer script turns core is k
+      server = has_server k low
+
+      before : Core
+      before = played script is.setup (is.scheduled ++ is.later)
+
+      held : Holds script k o server.0 (In Broken (heard_takes is k)) before
+      held = played_holds script are_made turns core is offers k o at server.0 server.1
+
+      leads : LeadsTo (plan_of script) (id_plan_of script) (all_tasks script) (given core) (played script is.setup (is.scheduled ++ is.later))
+      leads = played_leads script are_made targets range turns core is
+
+      by_fault : Faults 0 (given (played script is.setup (is.scheduled ++ is.later)) k) → ⊥
+      by_fault fault = let m = leads k in no_fault k low (subst HasFault m.1 (fault_stays 0 (given (played script is.setup (is.scheduled ++ is.later)) k) m.0 fault))

@@ -1,0 +1,39 @@
+-- Where each link has the server and nothing went wrong, each call that was begun has ended as the ending begins. So the report of any run with calls fits, and where nothing went wrong it is complete.
+use Rattle.std.proofs.Common.{◌≡◌, ℕ, ◌≤◌, length, inl, inr, ⊎_elim, List, Ok, arith}
+use Rattle.std.specs.Prelude.{IsTrue, Contains}
+use Rattle.brpc_model.specs.Complete.{IsUntroubled, FitsWhole}
+use Rattle.brpc_model.specs.Items.{Item, Shape, Open, Join}
+use Rattle.brpc_model.specs.Link.{LinkEnd}
+use Rattle.brpc_model.specs.Operations.{Turn}
+use Rattle.brpc_model.specs.Report.{Report, report_text}
+use Rattle.brpc_model.specs.Script.{script_of}
+use Rattle.report_fits.specs.Ends.{AreEndsOf, AreTold}
+use Rattle.report_fits.proofs.Places.{lateness}
+use Rattle.sock_programs.specs.Cores.{Core}
+use Rattle.sock_programs.specs.Tasks.{plan_of, id_plan_of}
+use Rattle.sock_programs.specs.ToldCalls.{Order, Fixed, ToldCalls}
+use Rattle.sock_programs.specs.Scripts.{Reports, all_tasks, played, IsRunWithCalls}
+use Rattle.sock_causes.specs.Facts.{broken_of_run}
+use Rattle.owed_calls.specs.Lives.{ClosesInRun}
+use Rattle.owed_calls.specs.Sound.{id_word_of}
+use Rattle.whole_runs.proofs.Starts.{made}
+use Rattle.call_causes.specs.Lists.{given}
+use Rattle.served_runs.specs.Offered.{OffersInRun}
+use Rattle.served_calls.specs.Quiet.{AreShown}
+use Rattle.served_fits.specs.Shown.{AreSo}
+use Rattle.served_fits.proofs.Whole as fits
+use Rattle.calls_over.proofs.Opens.{open_call}
+use Rattle.calls_over.proofs.OpensStill.{unlocked}
+use Rattle.calls_over.proofs.Soon.{no_open_call}
+
+module _ (bytes : List ℕ) (script : List Item) (reads : script_of bytes ≡ Ok script) (short : length bytes ≤ 1048576) (turns : List Turn) (core : Core) (is : IsRunWithCalls script turns core) (closes : ClosesInRun script turns core is) (offers : OffersInRun script turns core is) (fixed : Fixed)
+    (orders : ℕ → Order) (tells : ToldCalls (plan_of script) (all_tasks script) core.outcomes fixed (given core) orders core) (so : AreSo script turns core is fixed tells.last) (report : Report) (took : List (List ℕ)) (ends : List LinkEnd)
+    (reports : Reports script core took report) (told : AreTold ends took) (given_back : AreEndsOf script core fixed (given core) ends) (shown : AreShown script turns core is fixed ends) (breaks : (k : ℕ) → Contains (broken_of_run script turns core is) k → Contains fixed.broken k) where
+  pub calls_over : fits.CallsAreOver bytes script reads short turns core is closes offers fixed orders tells so report took ends reports told given_back shown
+  calls_over client number joins served untroubled i inside = ⊎_elim (λ ended. ended)
+      (λ open_. absurd (no_open_call bytes script reads turns core is closes offers fixed orders tells report took ends reports told given_back untroubled i
+      (open_call bytes script reads short turns core is closes offers fixed orders tells report took ends reports told given_back shown breaks served untroubled i inside (λ z. omega (arith, open_, z)))))
+      (unlocked script (made bytes script reads) turns core is i inside)
+
+  pub whole_fits : FitsWhole script (report_text script report) ends (lateness fixed)
+  whole_fits = fits.whole_fits bytes script reads short turns core is closes offers fixed orders tells so report took ends reports told given_back shown calls_over

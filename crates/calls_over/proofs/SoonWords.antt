@@ -1,0 +1,119 @@
+-- The words of ids go on with each tick, and an attempt to which an id has come is of a version of its range.
+use Rattle.std.proofs.Common.{◌≡◌, ℕ, ◌+◌, ◌<◌, ◌≤◌, ◌==◌, cond, ne_eqb, Bool, true, false, List, refl, sym, ap, subst, arith}
+use mathlib.Core.Option.{Option, none, some}
+use lib.ListN.{get_elem?}
+use Rattle.sock_words.specs.declared.plain.Plan.{Plan}
+use Rattle.sock_io.specs.declared.link.Put.{Put}
+use Rattle.sock_io.specs.declared.link.Ready.{Ready}
+use Rattle.corr_core.specs.Word.{Parts}
+use Rattle.corr_core.specs.Law.{Local, SlotLaw, Stands, vacant, retired, claimed, opened, locked, leaving}
+use Rattle.corr_core.specs.declared.marks.Plan.{Plan as IdPlan}
+use Rattle.id_rule.specs.Lawful.{local}
+use Rattle.id_runs.specs.Held.{IdView, id_state}
+use Rattle.id_runs.specs.Goes.{SoundIds}
+use Rattle.sock_message.specs.Asked.{Asked}
+use Rattle.sock_model.specs.Messages.{Letter}
+use Rattle.sock_model.specs.Reads.{message, link_home}
+use Rattle.sock_programs.specs.Asides.{Step, Found, id_slot, id_first}
+use Rattle.sock_programs.specs.Beside.{found_in}
+use Rattle.sock_programs.specs.Programs.{Program, Do, Say, Sent, Rest, TakeMessage, TakeHome, PutHome, PutBytes, AskReady, Write, Aside, Round, Keep, Retries}
+use Rattle.sock_programs.specs.Cores.{Core, SeatState}
+use Rattle.sock_programs.specs.Ticks.{Answer, Unasked, OfPut, OfReady, OfTake, Moment, taken, with_message, with_link, with_put, with_ready, with_found, step_with, tick_with, ticked}
+use Rattle.sock_runs.specs.Sound.{first_step}
+use Rattle.owed_calls.specs.Sound.{id_word_of}
+use Rattle.call_causes.proofs.Handled.{bound, Goes, goes_same}
+use Rattle.call_causes.proofs.HandledTicks.{Known}
+
+-- ## One range
+
+-- an open or locked id has one attempt of its range before it, and the first version left
+pub live_room : (l : Local Asked) → SlotLaw l → 0 < l.word.state → l.word.attempt + 2 ≤ l.word.range
+live_room l law some_ = by_stands law.stands
+  where
+    by_stands : Stands law.b l → l.word.attempt + 2 ≤ l.word.range
+    by_stands (vacant none_ tag state first home) = absurd (omega (arith, some_, state))
+    by_stands (retired none_ tag state first home) = absurd (omega (arith, some_, state))
+    by_stands (claimed seen h tokens tag state first is home) = absurd (omega (arith, some_, state))
+    by_stands (opened c none_ state live oldest second home) = live.room
+    by_stands (locked c o s h tokens state live begins home holds) = live.room
+    by_stands (leaving tokens tag state first home) = absurd (omega (arith, some_, state))
+
+bound_live : (w : Parts) → 0 < w.state → bound w ≡ w.first + w.range
+bound_live w some_ = ap (λ b. cond b w.first (w.first + w.range)) (ne_eqb w.state 0 (λ e. omega (arith, some_, e)))
+
+module _ (p : Plan) (q : IdPlan) (c : Core) (us : List IdView) (ids : SoundIds p q c us) where
+  -- so an attempt of a range that has begun is below its end
+  pub begun_below : (id n : ℕ) → id_slot id < q.slots → (id_word_of c (id_slot id)).first ≡ id_first id → 0 < (id_word_of c (id_slot id)).state → n ≤ (id_word_of c (id_slot id)).attempt → id_first id + n + 1 < bound (id_word_of c (id_slot id))
+  begun_below id n low first some_ few = let room = live_room (local (id_state c.calls us) (id_slot id)) (ids.rule.slots (id_slot id) low) some_ in
+      let b = bound_live (id_word_of c (id_slot id)) some_ in omega (arith, room, b, first, few)
+
+  -- and no end is high
+  pub bound_low : (i : ℕ) → i < q.slots → bound (id_word_of c i) ≤ 67108864
+  bound_low i low = let first = (ids.rule.slots i low).first_low in by_state ((id_word_of c i).state == 0) first
+    where
+      by_state : (b : Bool) → (id_word_of c i).first ≤ 67108856 → cond b (id_word_of c i).first ((id_word_of c i).first + (id_word_of c i).range) ≤ 67108864
+      by_state true first = omega (arith, first)
+      by_state false first = let eight : (id_word_of c i).range ≤ 8 = omega arith in omega (arith, first, eight)
+
+-- ## Ticks
+
+ticks_first : (p : Plan) (i : ℕ) (seat : SeatState) (c : Core) (answer : Answer) (program : Program) → tick_with p i seat c answer program ≡ step_with p i seat c answer (first_step program)
+ticks_first p i seat c answer (Write w after) = refl
+ticks_first p i seat c answer (Round head next) = refl
+ticks_first p i seat c answer program = refl
+
+module _ (p : Plan) (q : IdPlan) (c : Core) (m : Moment) (known : Known q c m) (i : ℕ) (low : i < q.slots) where
+  abbrev On : Core → Type 0
+  On d = Goes (id_word_of c i) (id_word_of d i)
+
+  stays : On c
+  stays = goes_same (id_word_of c i)
+
+  module _ (seat : SeatState) (at : get_elem? c.seats m.seat ≡ some seat) where
+    by_letter : (r : ℕ) (x : Option Letter) (next : Letter → Program) → On (with_message p m.seat seat c r x next)
+    by_letter r none next = stays
+    by_letter r (some letter) next = stays
+
+    by_link : (k : ℕ) (x : Option (List ℕ × ℕ)) (next : ℕ → Program) → On (with_link p m.seat seat c k x next)
+    by_link k none next = stays
+    by_link k (some home) next = stays
+
+    by_put : (bytes : List ℕ) (answer : Answer) (next : Put → Program) → On (with_put p m.seat seat c bytes answer next)
+    by_put bytes (OfPut answer) next = stays
+    by_put bytes Unasked next = stays
+    by_put bytes (OfReady r) next = stays
+    by_put bytes (OfTake t) next = stays
+
+    by_ready : (answer : Answer) (next : Ready → Program) → On (with_ready p m.seat seat c answer next)
+    by_ready (OfReady answer) next = stays
+    by_ready Unasked next = stays
+    by_ready (OfPut a) next = stays
+    by_ready (OfTake t) next = stays
+
+    by_found : (step : Step) (next : Found step → Program) → first_step seat.program ≡ Aside step next → (x : Option (Found step)) → found_in step c.calls (taken m.answer) ≡ x → On (with_found p m.seat seat c step x next)
+    by_found step next first none is = stays
+    by_found step next first (some found) is = (known.facts seat at step next (taken m.answer) found first is).goes i low
+
+    by_first : (x : Program) → first_step seat.program ≡ x → On (step_with p m.seat seat c m.answer x)
+    by_first (Do call next) first = stays
+    by_first (TakeMessage r next) first = by_letter r (message (λ home. home) c.homes r) (λ letter. next letter.0 letter.1)
+    by_first (TakeHome k next) first = by_link k (link_home (λ home. home) p c.homes k) next
+    by_first (PutHome k n after) first = stays
+    by_first (PutBytes k asked bytes next) first = by_put bytes m.answer next
+    by_first (AskReady k next) first = by_ready m.answer next
+    by_first (Aside step next) first = by_found step next first (found_in step c.calls (taken m.answer)) refl
+    by_first (Say o outcome next) first = stays
+    by_first (Sent o next) first = stays
+    by_first Rest first = stays
+    by_first (Write w after) first = stays
+    by_first (Round head next) first = stays
+    by_first (Keep r next) first = stays
+    by_first (Retries requests after) first = stays
+
+  -- the word of each id goes on
+  pub words_go : Goes (id_word_of c i) (id_word_of (ticked p c m) i)
+  words_go = by_seat (get_elem? c.seats m.seat) refl
+    where
+      by_seat : (x : Option SeatState) → get_elem? c.seats m.seat ≡ x → On (elim x as (λ o. Core) [ none ↦ c | some seat ↦ tick_with p m.seat seat c m.answer seat.program ])
+      by_seat none e = stays
+      by_seat (some seat) e = subst On (sym (ticks_first p m.seat seat c m.answer seat.program)) (by_first seat e (first_step seat.program) refl)

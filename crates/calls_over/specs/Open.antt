@@ -1,0 +1,56 @@
+-- A call whose id is open as the ending begins, in a run in which nothing went wrong: the link of its attempt took the request, and the link's reader waits for bytes.
+use Rattle.std.specs.Prelude.{ℕ, ◌≡◌, ◌+◌, ◌<◌, ◌≤◌, ◌++◌, List, slice_get, Some, IsTrue}
+use mathlib.Core.Option.{some}
+use lib.ListN.{get_elem?}
+use Rattle.brpc_model.specs.Items.{Item, Shape}
+use Rattle.brpc_model.specs.Operations.{Turn, link_shapes}
+use Rattle.brpc_model.specs.Stream.{stream}
+use Rattle.sock_message.specs.Asked.{Asked, request_of}
+use Rattle.sock_programs.specs.Asides.{id_slot, id_first}
+use Rattle.sock_programs.specs.Cores.{Core, SeatState}
+use Rattle.sock_programs.specs.Heads.{Exit, Reading, Reads}
+use Rattle.sock_programs.specs.Programs.{Program, Round}
+use Rattle.sock_programs.specs.Scripts.{played, IsRunWithCalls}
+use Rattle.sock_programs.specs.Tasks.{opens, plan_of, id_plan_of}
+use Rattle.report_fits.proofs.Lists.{Has}
+use Rattle.owed_calls.specs.Sound.{id_word_of}
+use Rattle.served_runs.specs.Offered.{TookSoFar}
+
+module _ (script : List Item) (turns : List Turn) (core : Core) (is : IsRunWithCalls script turns core) where
+  -- where the ending begins
+  abbrev pub before : Core
+  before = played script is.setup (is.scheduled ++ is.later)
+
+  -- id slot i is open there
+  pub record OpenCall (i : ℕ) : Type 0 where
+    -- its id, and the attempt at which it stands; their versions fit
+    pub inside : i < (id_plan_of script).slots
+    pub open_ : (id_word_of before i).state ≡ 1
+    pub id : ℕ
+    pub slot : id_slot id ≡ i
+    pub first : id_first id ≡ (id_word_of before i).first
+    pub attempt : ℕ
+    pub at : (id_word_of before i).attempt ≡ attempt
+    pub versions : attempt + 2 ≤ (id_word_of before i).range
+    pub small : id_first id + 8 ≤ 67108864
+    -- the call
+    pub asked : Asked
+    -- the link of the attempt, which has the server
+    pub link : ℕ
+    pub opening : ℕ
+    pub shape : Shape
+    pub opens_it : get_elem? (opens script) link ≡ some opening
+    pub link_inside : link < (plan_of script).links
+    pub opened : slice_get (link_shapes script) link ≡ Some shape
+    pub serves : IsTrue shape.serve
+    -- what it took by then, the call's request among it
+    pub took : List ℕ
+    pub took_so : TookSoFar (plan_of script) before link took
+    pub request : Has (stream took).frames (request_of asked id attempt)
+    -- its reader waits for bytes
+    pub seat : SeatState
+    pub seat_there : get_elem? before.seats (32 + link) ≡ some seat
+    pub reading : Reading
+    pub next : Exit (Reads reading) → Program
+    pub reads : seat.program ≡ Round (Reads reading) next
+    pub of_link : reading.link ≡ link
