@@ -77,6 +77,7 @@ module _ (bytes : List ℕ) (script : List Item) (reads : script_of bytes ≡ Ok
       tells = all_told script core.outcomes callless fixed_of (gave_in core) orders last core told_sends;
       last = λ client t asked is op. absurd (no_call script core.outcomes callless client t asked is op);
       broken = broken_shown script turns core run;
+      all_broken = λ k there. there;
       early = λ k there. closed_early script (made bytes script reads) turns core run k (contains_in early k there);
       closed = λ k there. absurd (nothing_there k [] refl there);
       late = record { links = λ k there. there; operations = λ o there. there; silent = λ k there. absurd (nothing_there k [] refl there); early = λ r there. absurd (nothing_there r [] refl there) };
@@ -101,6 +102,7 @@ module _ (bytes : List ℕ) (script : List Item) (reads : script_of bytes ≡ Ok
     tells = told_of_run script (made bytes script reads) there range turns core run closes bytes reads;
     last = λ client t asked is op. told_last script (made bytes script reads) there range turns core run closes bytes reads t.number;
     broken = broken_shown script turns core run;
+    all_broken = λ k there. there;
     early = early_shown script turns core run bytes reads;
     closed = closed_shown script turns core run;
     late = record { links = λ k there. there; operations = λ o there. there; silent = λ k there. there; early = λ r there. there };
