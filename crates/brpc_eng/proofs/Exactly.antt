@@ -16,7 +16,7 @@ use Rattle.sock_io.specs.Link.{end_of}
 use Rattle.sock_io.specs.Shape.{ShapedState, shaped_out}
 use Rattle.sock_io.specs.Memory.{MemInState, mem_in}
 use Rattle.loop_link.specs.Serving.{LoopInState, loop_in}
-use Rattle.script_run.specs.Played.{TellClosed}
+use Rattle.script_run.specs.Played.{TellClosed, TellOffers}
 use Rattle.brpc_eng.proofs.Statuses.{each_script_is_run}
 use Rattle.brpc_eng.specs.Streams.{script_limit, IsAtEnd}
 use Rattle.brpc_eng.specs.Answers.{HaveRisen, StandStill, AllTell, edges_of, Input, Output, Links, TextWritten, Ran, Reported, MemoryRanOut, OpenFailed, FaultWritten, Replayed, RanScript, FaultyScript, SourceFailed, TooLong, NoMemory, Answers, NoCommand, CommandNotBuilt, Generated, Generates, LoadRan, LoadSummed, LoadRanOut, LoadNotOpened, Loads, PrintsInput, Replays, Simulates, is_built_command, frames_status, FramesPrinted}
@@ -263,6 +263,10 @@ served_tells out inn (e ∷ es) = (record { took = refl; answers = refl; gave = 
 
 pub served_tells_closed : TellClosed loop_in
 served_tells_closed inn = (λ e. cc, λ e. cc)
+
+-- and these tell what they took, gave and are offered: so what is served over them is claimed
+pub served_tells_offers : TellOffers shaped_out loop_in
+served_tells_offers = ((λ out e. cc), λ inn. (λ e. cc, λ e. cc))
 
 -- ## The statuses of `frames`
 

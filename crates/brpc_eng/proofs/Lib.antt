@@ -1,6 +1,7 @@
 pub mod Known
 pub mod Pieces
 pub mod Untroubled
+pub mod Short
 pub mod Reported
 pub mod Replays
 pub mod GeneratedLemmas

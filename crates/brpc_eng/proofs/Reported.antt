@@ -1,5 +1,5 @@
 -- The report of a run fits the script, and is the only one of a run in which the links answered the same.
-use Rattle.std.proofs.Common.{◌≡◌, refl, ◌⊎◌, ℕ, zero, suc, ◌<◌, true, List, [], ◌∷◌, length, Option, Some, None, IfSome, Ok, Contains, ap, sym, ◌∙◌, subst, arith}
+use Rattle.std.proofs.Common.{◌≡◌, refl, ◌⊎◌, ℕ, zero, suc, ◌*◌, ◌<◌, ◌≤◌, true, List, [], ◌∷◌, length, Option, Some, None, IfSome, Ok, Contains, ap, sym, ◌∙◌, subst, arith}
 use Rattle.std.specs.Prelude.{slice_get, is_some}
 use Rattle.std.specs.List.{AllByRecursion}
 use Rattle.std.proofs.lemmas.Option.{slice_get_within, same_Some}
@@ -15,7 +15,10 @@ use Rattle.brpc_model.specs.PlaceWords.{took_at, IsLineOf}
 use Rattle.brpc_model.specs.Run.{Lateness, nothing_late}
 use Rattle.brpc_model.specs.Fits.{Fits}
 use Rattle.brpc_model.specs.Complete.{FitsWhole}
-use Rattle.sock_programs.specs.Scripts.{drawn_turns, place_words, Reports}
+use Rattle.brpc_model.specs.Served.{FitsServed}
+use Rattle.sock_programs.specs.Asides.{Broken}
+use Rattle.sock_programs.specs.Scripts.{drawn_turns, place_words}
+use Rattle.sock_programs.specs.Scripts as scripts
 use Rattle.sock_programs.specs.Tasks.{plan_of}
 use Rattle.sock_programs.specs.ToldCalls.{Fixed}
 use Rattle.report_fits.proofs.Lists.{within, has_from, has_none}
@@ -25,16 +28,25 @@ use Rattle.whole_runs.specs.Unserved.{IsInTime}
 use Rattle.whole_runs.proofs.HeardRuns.{one_text_told}
 use Rattle.whole_runs.proofs.Gave.{same_takes}
 use Rattle.whole_runs.proofs.Lengths.{ended_length}
-use Rattle.script_run.specs.Causes.{gave_in}
+use Rattle.whole_runs.proofs.Starts.{made}
+use Rattle.served_runs.specs.Offered.{OffersInRun}
+use Rattle.served_calls.specs.Quiet.{AreShown}
+use Rattle.served_fits.specs.Shown.{AreSo, TellTook}
+use Rattle.calls_over.proofs.Over.{calls_over}
+use Rattle.served_fits.proofs.Served.{serves_fits}
+use Rattle.offered_runs.proofs.Runs.{offers_in_run}
+use Rattle.script_run.specs.Causes.{HasCauses, gave_in}
 use Rattle.script_run.specs.Given.{AreNumbered, IsBeginning, specs_of}
-use Rattle.script_run.specs.Played.{IsRunText, IsRunSummary}
+use Rattle.script_run.specs.Played.{IsWholeRun, IsRunText, IsRunSummary}
 use Rattle.brpc_eng.specs.Answers as answer
+use Rattle.brpc_eng.specs.Streams.{script_limit}
+use Rattle.brpc_eng.proofs.Short.{drawn_short}
 use Rattle.brpc_eng.proofs.Untroubled.{told_fits, callless_fits}
 
 -- two texts of runs
-same_text : (turns : List Turn) (script : List Item) (a b : List ℕ) (xs ys : List LinkEnd) (r : IsRunText script turns a xs) (s : IsRunText script turns b ys) → r.took ≡ s.took → answer.SameAnswers r.whole.run s.whole.run → a ≡ b
-same_text turns script a b xs ys r s took same =
-    let reports : Reports script r.whole.core s.took r.report = subst (λ (t : List (List ℕ)). Reports script r.whole.core t r.report) took r.reports in
+same_text : (offering any : Type 0) (turns : List Turn) (script : List Item) (a b : List ℕ) (xs ys : List LinkEnd) (r : IsRunText any script turns a xs) (s : IsRunText offering script turns b ys) → r.took ≡ s.took → answer.SameAnswers r.whole.run s.whole.run → a ≡ b
+same_text offering any turns script a b xs ys r s took same =
+    let reports : scripts.Reports script r.whole.core s.took r.report = subst (λ (t : List (List ℕ)). scripts.Reports script r.whole.core t r.report) took r.reports in
     r.is_text ∙ one_text_told script turns r.whole.core s.whole.core r.report s.report s.took r.whole.run s.whole.run reports s.reports same.0 same.1 ∙ sym s.is_text
 
 -- ## Links that tell all
@@ -52,7 +64,7 @@ turned : {A : Type 0} (told : Option A) (x : A) → IfSome told (λ said. said �
 turned None x h = tt
 turned (Some said) x h = sym h
 
-module _ (bytes : List ℕ) (script : List Item) (reads : script_of bytes ≡ Ok script) (turns : List Turn) (a b : List ℕ) (ends : List LinkEnd) (tell : answer.AllTell ends) (r : IsRunText script turns a ends) (s : IsRunText script turns b ends) where
+module _ (offering any : Type 0) (bytes : List ℕ) (script : List Item) (reads : script_of bytes ≡ Ok script) (turns : List Turn) (a b : List ℕ) (ends : List LinkEnd) (tell : answer.AllTell ends) (r : IsRunText any script turns a ends) (s : IsRunText offering script turns b ends) where
   abbrev there : (k : ℕ) → k < length ends → (e : LinkEnd) × (slice_get ends k ≡ Some e) × answer.TellsAll e
   there k inside = let e = within ends k inside in (e.0, e.1, all_at answer.TellsAll ends k e.0 tell e.1)
 
@@ -73,7 +85,7 @@ module _ (bytes : List ℕ) (script : List Item) (reads : script_of bytes ≡ Ok
       (one_told e.0.gave (gave_in r.whole.core k) (gave_in s.whole.core k) e.2.gave (turned e.0.gave _ (r.ends_told.each k e.0 e.1).gives) (turned e.0.gave _ (s.ends_told.each k e.0 e.1).gives)))
       (λ past. ap as_taken (r.whole.heard.no_take_beyond k (omega (arith, past)) ∙ sym (s.whole.heard.no_take_beyond k (omega (arith, past)))))
 
-  reports : Reports script r.whole.core s.took r.report
+  reports : scripts.Reports script r.whole.core s.took r.report
   reports = record {
     outcomes = r.reports.outcomes;
     line_each = r.reports.line_each;
@@ -97,11 +109,44 @@ in_time script fixed none_ = record {
   no_late_link = λ k there. nothing_there k fixed.late_links (ap (λ (l : Lateness). l.links) none_) there;
 }
 
-module _ (turns : List Turn) (bytes : List ℕ) (script : List Item) (reads : script_of bytes ≡ Ok script) (ends : List LinkEnd) (text : List ℕ) (is : IsRunText script turns text ends) where
+module _ (offering : Type 0) (turns : List Turn) (bytes : List ℕ) (script : List Item) (reads : script_of bytes ≡ Ok script) (short : length bytes ≤ script_limit) (ends : List LinkEnd) (text : List ℕ) (is : IsRunText offering script turns text ends) where
+  abbrev w : IsWholeRun offering script turns ends
+  w = is.whole
+
+  abbrev causes : HasCauses script turns w.core w.run
+  causes = is.causes.0
+
+  -- what came late is what is fixed of the run
+  so : AreSo script turns w.core w.run causes.fixed causes.tells.last
+  so = record { last = causes.last; late = causes.late.operations; late_links = causes.late.links }
+
+  -- ### Where the links tell what they took, gave and are offered
+
+  module _ (o : offering) where
+    given : OffersInRun script turns w.core w.run
+    given = offers_in_run script (made bytes script reads) turns w.core w.run (w.offers o) (w.closes o)
+
+    -- a link of which a take failed shows it
+    shown : AreShown script turns w.core w.run causes.fixed ends
+    shown = (
+      causes.early,
+      λ k e there numbered failed. let j = has_from ends e there in
+          w.shows o k e (subst (λ n. slice_get ends n ≡ Some e) (sym (is.ends_told.each j.0 e j.1).numbered ∙ numbered) j.1) Broken failed,
+    )
+
+    tell_took : TellTook script ends
+    tell_took k e shape at opened serves = w.tells o k e at
+
+    serves : FitsServed script text ends (lateness causes.fixed)
+    serves = subst (λ (x : List ℕ). FitsServed script x ends (lateness causes.fixed)) (sym is.is_text)
+        (serves_fits bytes script reads short turns w.core w.run (w.closes o) given causes.fixed causes.orders causes.tells so is.report is.took ends is.reports is.told is.causes.1 shown causes.late_links tell_took
+        (calls_over bytes script reads short turns w.core w.run (w.closes o) given causes.fixed causes.orders causes.tells so is.report is.took ends is.reports is.told is.causes.1 shown causes.all_broken))
+
+  -- ### In any case
+
   -- the report of the text fits
-  fits : answer.IsFitting is
+  fits : answer.IsFitting offering is
   fits =
-      let w = is.whole in let causes = is.causes.0 in
       let long = ended_length bytes script reads turns w.core w.run in (
         lateness causes.fixed,
         causes.late,
@@ -110,21 +155,26 @@ module _ (turns : List Turn) (bytes : List ℕ) (script : List Item) (reads : sc
             (told_fits bytes script reads w.core causes.fixed (gave_in w.core) causes.orders long causes.tells is.report is.took ends is.reports is.told is.causes.1),
         λ callless. subst (λ (x : List ℕ). FitsWhole script x ends (lateness causes.fixed)) (sym is.is_text)
             (callless_fits bytes script reads w.core causes.fixed (gave_in w.core) causes.orders long causes.tells is.report is.took ends is.reports is.told is.causes.1 callless (in_time script causes.fixed (causes.none_late callless))),
+        serves,
       )
 
   -- and it is the only one
-  only : answer.IsOnlyText ends script turns text
-  only = (is, λ other ends' run took same. same_text turns script other text ends' ends run is took same, λ tell other run. told_text bytes script reads turns other text ends tell run is)
+  only : answer.IsOnlyText offering ends script turns text
+  only = (
+    is,
+    λ other ends' run took same. same_text offering ⊥ turns script other text ends' ends run is took same,
+    λ tell other run. told_text offering ⊥ bytes script reads turns other text ends tell run is,
+  )
 
 -- with what the calls say of the values that they were handed
 pub ran_reported : (turns : List Turn) (bytes : List ℕ) (script : List Item) (text text' : List ℕ) (out : answer.Output) (links : answer.Links) (status : ℕ) →
-    script_of bytes ≡ Ok script → (links.prompt ≡ true → links.tells → IsRunText script turns text links.ends) → text' ≡ text → answer.TextWritten out text' status →
+    script_of bytes ≡ Ok script → length bytes ≤ script_limit → (links.prompt ≡ true → links.tells → IsRunText links.offering script turns text links.ends) → text' ≡ text → answer.TextWritten out text' status →
     answer.Ran turns script out links status
-ran_reported turns bytes script text text' out links status reads ran t wrote =
-    let report : links.prompt ≡ true → links.tells → IsRunText script turns text' links.ends = λ q tells. subst (λ (x : List ℕ). IsRunText script turns x links.ends) (sym t) (ran q tells) in
+ran_reported turns bytes script text text' out links status reads short ran t wrote =
+    let report : links.prompt ≡ true → links.tells → IsRunText links.offering script turns text' links.ends = λ q tells. subst (λ (x : List ℕ). IsRunText links.offering script turns x links.ends) (sym t) (ran q tells) in
     answer.Reported text'
-    (λ q tells. let r = report q tells in (r, fits turns bytes script reads links.ends text' r))
-    (λ q tells. only turns bytes script reads links.ends text' (report q tells)) wrote
+    (λ q tells. let r = report q tells in (r, fits links.offering turns bytes script reads short links.ends text' r))
+    (λ q tells. only links.offering turns bytes script reads short links.ends text' (report q tells)) wrote
 
 -- ## A summary
 
@@ -138,18 +188,21 @@ opened_none script links status asked ends unwritten = record {
 }
 
 -- with what the calls say of the values that they were handed
-pub load_ran : (seed clients count drawn : ℕ) (script : List Item) (text text' : List ℕ) (out : answer.Output) (links : answer.Links) (status : ℕ) → script ≡ generated seed clients count → drawn ≡ seed → script_of (script_text script) ≡ Ok script →
-    (links.prompt ≡ true → links.tells → IsRunSummary (record { seed = seed; clients = clients; operations = count }) script (drawn_turns script drawn) text links.ends) → text' ≡ text → answer.TextWritten out text' status →
+pub load_ran : (seed clients count drawn : ℕ) (script : List Item) (text text' : List ℕ) (out : answer.Output) (links : answer.Links) (status : ℕ) → script ≡ generated seed clients count → drawn ≡ seed → clients ≤ 31 → clients * count ≤ 4092 → script_of (script_text script) ≡ Ok script →
+    (links.prompt ≡ true → links.tells → IsRunSummary links.offering (record { seed = seed; clients = clients; operations = count }) script (drawn_turns script drawn) text links.ends) → text' ≡ text → answer.TextWritten out text' status →
     answer.LoadRan seed clients count out links status
-load_ran seed clients count drawn script text text' out links status made same reads ran t wrote = answer.LoadSummed text' (subst Sums made sums) wrote
+load_ran seed clients count drawn script text text' out links status made same few room reads ran t wrote = answer.LoadSummed text' (subst Sums made sums) wrote
   where
     Sums : List Item → Type 0
-    Sums s = links.prompt ≡ true → links.tells → (whole : List ℕ) × answer.IsReport links s (drawn_turns s seed) whole × answer.IsOnlyText links.ends s (drawn_turns s seed) whole × answer.SumsUp seed clients count s whole text'
+    Sums s = links.prompt ≡ true → links.tells → (whole : List ℕ) × answer.IsReport links s (drawn_turns s seed) whole × answer.IsOnlyText links.offering links.ends s (drawn_turns s seed) whole × answer.SumsUp seed clients count s whole text'
+
+    short : length (script_text script) ≤ script_limit
+    short = subst (λ (s : List Item). length (script_text s) ≤ script_limit) (sym made) (drawn_short seed clients count few room)
 
     sums : Sums script
-    sums q tells = let r = ran q tells in let is = subst (λ d. IsRunText script (drawn_turns script d) r.whole links.ends) same r.reported in (
+    sums q tells = let r = ran q tells in let is = subst (λ d. IsRunText links.offering script (drawn_turns script d) r.whole links.ends) same r.reported in (
       r.whole,
-      (λ q tells. (is, fits (drawn_turns script seed) (script_text script) script reads links.ends r.whole is)),
-      only (drawn_turns script seed) (script_text script) script reads links.ends r.whole is,
+      (λ q tells. (is, fits links.offering (drawn_turns script seed) (script_text script) script reads short links.ends r.whole is)),
+      only links.offering (drawn_turns script seed) (script_text script) script reads short links.ends r.whole is,
       (r.reported.report, r.reported.is_text, t ∙ r.sums),
     )

@@ -13,6 +13,7 @@ use Rattle.brpc_model.specs.Run.{Lateness, nothing_late}
 use Rattle.brpc_model.specs.Report.{Report, report_text}
 use Rattle.brpc_model.specs.Fits.{Fits}
 use Rattle.brpc_model.specs.Complete.{FitsWhole}
+use Rattle.brpc_model.specs.Served.{FitsServed}
 use Rattle.script_report.specs.Sums.{told_of, sums_of, summary_text}
 use Rattle.sock_io.specs.Causes.{Rose}
 use Rattle.sock_io.specs.Writing.{WrotePart}
@@ -57,10 +58,12 @@ pub record Output : Type 0 where
   pub now : Option (List ℕ)
   pub faults : Faults
 
--- a linker: whether its links are always ready in time, that each reading half tells whether it is found closed, what was asked of each link that was opened, and those that were given back
+-- a linker: whether its links are always ready in time, that each reading half tells whether it is found closed, that each link tells what it took, gave and is offered, what was asked of each
+-- link that was opened, and those that were given back
 pub record Links : Type 1 where
   pub prompt : Bool
   pub tells : Type 0
+  pub offering : Type 0
   pub asked : List LinkSpec
   pub ends : List LinkEnd
   pub faults : Faults
@@ -101,15 +104,18 @@ fault_text line kind = codes "script fault line " ++ decimal line ++ codes " kin
 
 -- ## A script that was read
 
--- the report fits the script and the links given back, whatever servers they have; what counts as late there came late in that run. Without calls nothing
--- counts as late, and where nothing went wrong every send is placed
-abbrev pub IsFitting : {script : List Item} {turns : List Turn} {text : List ℕ} {ends : List LinkEnd} → IsRunText script turns text ends → Type 0
-IsFitting {script} {turns} {text} {ends} is = (late : Lateness) × CameLate late (late_in script turns is.whole.core is.whole.run) × (is_callless script ≡ true → late ≡ nothing_late)
+-- The report fits the script and the links given back, whatever servers they have; what counts as late there came late in that run. Without calls nothing
+-- counts as late, and where nothing went wrong every send is placed. Where the links tell what they took, gave and are offered, each link that was served gave
+-- the replies to what it took, and each call's responses over a link that no `send` names are the replies to its own request; and where nothing went wrong
+-- every send is placed and every call has its reply.
+abbrev pub IsFitting : (offering : Type 0) {script : List Item} {turns : List Turn} {text : List ℕ} {ends : List LinkEnd} → IsRunText offering script turns text ends → Type 0
+IsFitting offering {script} {turns} {text} {ends} is = (late : Lateness) × CameLate late (late_in script turns is.whole.core is.whole.run) × (is_callless script ≡ true → late ≡ nothing_late)
     × Fits script text ends late × (is_callless script ≡ true → FitsWhole script text ends late)
+    × (offering → FitsServed script text ends late)
 
 -- where the links are prompt and tell whether they are found closed, the text reports a run of the script by these lines, and fits
 abbrev pub IsReport : Links → List Item → List Turn → List ℕ → Type 0
-IsReport links script turns text = links.prompt ≡ true → links.tells → (is : IsRunText script turns text links.ends) × IsFitting is
+IsReport links script turns text = links.prompt ≡ true → links.tells → (is : IsRunText links.offering script turns text links.ends) × IsFitting links.offering is
 
 -- links that tell all that they took, gave and answered
 pub record TellsAll (e : LinkEnd) : Type 0 where
@@ -126,17 +132,17 @@ abbrev pub SameAnswers : {script : List Item} {turns : List Turn} {a b : Core} �
 SameAnswers r s = ((k : ℕ) → as_told (heard_of r k) ≡ as_told (heard_of s k)) × ((k : ℕ) → heard_takes r k ≡ heard_takes s k)
 
 -- it is that of a run by these lines of a schedule; no other text is that of a run in which the links answered the same, and of which the same is
--- said of what they took; where the links given back tell all that they took, gave and answered, no other text is possible
-abbrev pub IsOnlyText : List LinkEnd → List Item → List Turn → List ℕ → Type 0
-IsOnlyText ends script turns text = (is : IsRunText script turns text ends)
-    × ((other : List ℕ) (ends' : List LinkEnd) (run : IsRunText script turns other ends') → run.took ≡ is.took → SameAnswers run.whole.run is.whole.run → other ≡ text)
-    × (AllTell ends → (other : List ℕ) → IsRunText script turns other ends → other ≡ text)
+-- said of what they took; where the links given back tell all that they took, gave and answered, no other text is possible: whatever the links of that run are offered
+abbrev pub IsOnlyText : Type 0 → List LinkEnd → List Item → List Turn → List ℕ → Type 0
+IsOnlyText offering ends script turns text = (is : IsRunText offering script turns text ends)
+    × ((other : List ℕ) (ends' : List LinkEnd) (run : IsRunText ⊥ script turns other ends') → run.took ≡ is.took → SameAnswers run.whole.run is.whole.run → other ≡ text)
+    × (AllTell ends → (other : List ℕ) → IsRunText ⊥ script turns other ends → other ≡ text)
 
 -- where the links are prompt and tell whether they are found closed, the text is that of a run by these lines: the setup first, then the ticks of
 -- these lines, then rounds until nothing moves, then the ending, and such rounds again; each `drop` was answered `freed` or `kept` by what its own
 -- steps did, and in the end all is over
 abbrev pub IsTextOfRun : Links → List Item → List Turn → List ℕ → Type 0
-IsTextOfRun links script turns text = links.prompt ≡ true → links.tells → IsOnlyText links.ends script turns text
+IsTextOfRun links script turns text = links.prompt ≡ true → links.tells → IsOnlyText links.offering links.ends script turns text
 
 -- the text was written, or the sink failed behind a beginning of it
 abbrev pub TextWritten : Output → List ℕ → ℕ → Type 0
@@ -187,7 +193,7 @@ SumsUp seed clients count script whole text = (report : Report) × (whole ≡ re
 -- where the links are prompt and tell whether they are found closed, it is the summary of a report that `sim` with the same seed may write of the drawn script
 abbrev pub IsSummary : Links → ℕ → ℕ → ℕ → List ℕ → Type 0
 IsSummary links seed clients count text = let script = generated seed clients count in
-    links.prompt ≡ true → links.tells → (whole : List ℕ) × IsReport links script (drawn_turns script seed) whole × IsOnlyText links.ends script (drawn_turns script seed) whole × SumsUp seed clients count script whole text
+    links.prompt ≡ true → links.tells → (whole : List ℕ) × IsReport links script (drawn_turns script seed) whole × IsOnlyText links.offering links.ends script (drawn_turns script seed) whole × SumsUp seed clients count script whole text
 
 -- how the run of the drawn script ends
 pub data LoadRan (seed clients count : ℕ) (out : Output) (links : Links) (status : ℕ) : Type 0 where

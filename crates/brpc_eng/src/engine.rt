@@ -1,5 +1,5 @@
 ghost use Rattle.std.specs.Prelude.{◌≡◌, [], map, string_bytes};
-ghost use Rattle.script_run.specs.Played.{TellClosed};
+ghost use Rattle.script_run.specs.Played.{TellClosed, TellOffers};
 ghost use Rattle.brpc_eng.specs.Answers.{Answers, CountsStand};
 ghost use Rattle.brpc_eng.specs.Status.{number_of};
 
@@ -48,11 +48,12 @@ pub fn brpc<R, S: Source, K: Sink, L: Linker, G: Gate>(
 ) -> u8
     requires asked { L.asked links.old ≡ [] }
     requires back { L.back links.old ≡ [] }
-    // `TellClosed`: a reading half of this type tells whether it is found closed. Each kind of link of this project does.
+    // `TellClosed`: a reading half of this type tells whether it is found closed. Each kind of link of this project does. `TellOffers`: its links tell what
+    // they took, gave and are offered, as those whose other end is the built-in server do.
     ensures answers { Answers (map string_bytes words.now)
         (record { given = S.left source.old; left = S.left source.new; faults = record { before = S.faults source.old; now = S.faults source.new } })
         (record { before = K.contents out.old; now = K.contents out.new; faults = record { before = K.faults out.old; now = K.faults out.new } })
-        (record { prompt = L.prompt links.old; tells = TellClosed L.I.state; asked = L.asked links.new; ends = L.back links.new; faults = record { before = L.faults links.old; now = L.faults links.new } })
+        (record { prompt = L.prompt links.old; tells = TellClosed L.I.state; offering = TellOffers L.O.state L.I.state; asked = L.asked links.new; ends = L.back links.new; faults = record { before = L.faults links.old; now = L.faults links.new } })
         result }
     ensures counts { CountsStand
         (record { before = S.faults source.old; now = S.faults source.new })
@@ -75,7 +76,7 @@ fn answer<S: Source, K: Sink, L: Linker>(
     ensures answers { Answers (map string_bytes words.now)
         (record { given = S.left source.old; left = S.left source.new; faults = record { before = S.faults source.old; now = S.faults source.new } })
         (record { before = K.contents out.old; now = K.contents out.new; faults = record { before = K.faults out.old; now = K.faults out.new } })
-        (record { prompt = L.prompt links.old; tells = TellClosed L.I.state; asked = L.asked links.new; ends = L.back links.new; faults = record { before = L.faults links.old; now = L.faults links.new } })
+        (record { prompt = L.prompt links.old; tells = TellClosed L.I.state; offering = TellOffers L.O.state L.I.state; asked = L.asked links.new; ends = L.back links.new; faults = record { before = L.faults links.old; now = L.faults links.new } })
         (number_of result) }
     ensures counts { CountsStand
         (record { before = S.faults source.old; now = S.faults source.new })

@@ -1,9 +1,10 @@
-ghost use Rattle.std.specs.Prelude.{◌≡◌, ◌≢◌, ℕ, List, [], Ok, true};
+ghost use Rattle.std.specs.Prelude.{◌≡◌, ◌≢◌, ◌≤◌, ℕ, List, [], length, Ok, true};
 ghost use Rattle.std.specs.List.{list_all};
 ghost use Rattle.brpc_model.specs.Script.{script_of};
 ghost use Rattle.script_run.specs.Given.{has_piece};
-ghost use Rattle.script_run.specs.Played.{TellClosed, turns_of};
+ghost use Rattle.script_run.specs.Played.{TellClosed, TellOffers, turns_of};
 ghost use Rattle.brpc_eng.specs.Status.{number_of};
+ghost use Rattle.brpc_eng.specs.Streams.{script_limit};
 ghost use Rattle.brpc_eng.specs.Answers.{OpenedBy, Ran, TextWritten};
 
 use crate::status::Status;
@@ -22,14 +23,14 @@ pub fn run_and_report<K: Sink, L: Linker>(
 ) -> Status
     requires asked { L.asked links.old ≡ [] }
     requires back { L.back links.old ≡ [] }
-    requires script { (bytes : List ℕ) × (script_of bytes ≡ Ok script.now) }
+    requires script { (bytes : List ℕ) × (script_of bytes ≡ Ok script.now) × (length bytes ≤ script_limit) }
     requires pieces { list_all has_piece script.now ≡ true }
     ensures ran { Ran (turns_of script.now schedule) script.now
         (record { before = K.contents out.old; now = K.contents out.new; faults = record { before = K.faults out.old; now = K.faults out.new } })
-        (record { prompt = L.prompt links.old; tells = TellClosed L.I.state; asked = L.asked links.new; ends = L.back links.new; faults = record { before = L.faults links.old; now = L.faults links.new } })
+        (record { prompt = L.prompt links.old; tells = TellClosed L.I.state; offering = TellOffers L.O.state L.I.state; asked = L.asked links.new; ends = L.back links.new; faults = record { before = L.faults links.old; now = L.faults links.new } })
         (number_of result) }
     ensures opened { OpenedBy script.now
-        (record { prompt = L.prompt links.old; tells = TellClosed L.I.state; asked = L.asked links.new; ends = L.back links.new; faults = record { before = L.faults links.old; now = L.faults links.new } })
+        (record { prompt = L.prompt links.old; tells = TellClosed L.I.state; offering = TellOffers L.O.state L.I.state; asked = L.asked links.new; ends = L.back links.new; faults = record { before = L.faults links.old; now = L.faults links.new } })
         (number_of result) }
     ensures linker { number_of result ≢ 8 → L.faults links.new ≡ L.faults links.old }
 {

@@ -1,7 +1,7 @@
 ghost use Rattle.std.specs.Prelude.{◌≡◌, ◌⊎◌, [], IfOk, drop};
 ghost use Rattle.std.specs.Process.{exit_status};
 ghost use Rattle.std.specs.Vec.Iter.{into_iter_items};
-ghost use Rattle.script_run.specs.Played.{TellClosed};
+ghost use Rattle.script_run.specs.Played.{TellClosed, TellOffers};
 ghost use Rattle.brpc_eng.specs.Answers.{Answers, Wrote};
 ghost use Rattle.brpc_main.specs.Reasons.{reason_text};
 ghost use Rattle.brpc_main.specs.Words.{arguments, words_behind};
@@ -36,7 +36,7 @@ pub fn run_with<R, S: Source, K: Sink, L: Linker, G: Gate, E: Sink>(
     ensures answers { Answers (words_behind args)
         (record { given = S.left source.old; left = S.left source.new; faults = record { before = S.faults source.old; now = S.faults source.new } })
         (record { before = K.contents out.old; now = K.contents out.new; faults = record { before = K.faults out.old; now = K.faults out.new } })
-        (record { prompt = L.prompt links.old; tells = TellClosed L.I.state; asked = L.asked links.new; ends = L.back links.new; faults = record { before = L.faults links.old; now = L.faults links.new } })
+        (record { prompt = L.prompt links.old; tells = TellClosed L.I.state; offering = TellOffers L.O.state L.I.state; asked = L.asked links.new; ends = L.back links.new; faults = record { before = L.faults links.old; now = L.faults links.new } })
         (exit_status result)
         ⊎ ((exit_status result ≡ 7) × (source.new ≡ source.old) × (out.new ≡ out.old) × (links.new ≡ links.old)) }
     ensures explained { Wrote (record { before = E.contents errors.old; now = E.contents errors.new; faults = record { before = E.faults errors.old; now = E.faults errors.new } }) (reason_text (exit_status result)) }
@@ -61,7 +61,7 @@ fn answer<R, S: Source, K: Sink, L: Linker, G: Gate>(
     ensures { Answers (words_behind args)
         (record { given = S.left source.old; left = S.left source.new; faults = record { before = S.faults source.old; now = S.faults source.new } })
         (record { before = K.contents out.old; now = K.contents out.new; faults = record { before = K.faults out.old; now = K.faults out.new } })
-        (record { prompt = L.prompt links.old; tells = TellClosed L.I.state; asked = L.asked links.new; ends = L.back links.new; faults = record { before = L.faults links.old; now = L.faults links.new } })
+        (record { prompt = L.prompt links.old; tells = TellClosed L.I.state; offering = TellOffers L.O.state L.I.state; asked = L.asked links.new; ends = L.back links.new; faults = record { before = L.faults links.old; now = L.faults links.new } })
         result
         ⊎ ((result ≡ 7) × (source.new ≡ source.old) × (out.new ≡ out.old) × (links.new ≡ links.old)) }
 {

@@ -1,6 +1,7 @@
 -- What a link took, as it lies at its home.
 use Rattle.std.proofs.Common.{◌≡◌, ℕ, zero, suc, ◌+◌, ◌<◌, List, [], ◌∷◌, ◌++◌, map, length, slice_get, slice_index_or, flat_map, Option, Some, IfSome, is_some, if◌then◌else◌, Bool, true, false, ap, sym, subst, refl, ◌∙◌, append-nil, arith}
 use Rattle.std.proofs.lemmas.List.{length-map}
+use Rattle.std.specs.Prelude.{IsSome}
 use mathlib.Core.Option as core
 use lib.ListN.{get_elem?}
 use Rattle.brpc_model.specs.Link.{LinkEnd}
@@ -72,3 +73,9 @@ pub told_is : (l : LinksData) (took : Taken) (ends : List LinkEnd) (k : ℕ) (e 
 told_is l took ends k e t same at agrees is =
     let out = out_at l.outs ends k e same at in
     subst (λ x. IfSome e.took (λ bytes. bytes ≡ x)) is (subst (λ o. IfSome o (λ bytes. bytes ≡ took k)) out.2 (agrees k out.0 out.1))
+
+-- a link whose writing half tells what it took tells it
+pub tells_is : (outs : List OutState) (ends : List LinkEnd) (k : ℕ) (e : LinkEnd) (out : OutState) (t : List ℕ) → map (λ (o : OutState). o.took) outs ≡ map (λ (e : LinkEnd). e.took) ends → slice_get ends k ≡ Some e → get_elem? outs k ≡ core.some out → out.took ≡ Some t → IsSome e.took
+tells_is outs ends k e out t same at there told =
+    let x = out_at outs ends k e same at in
+    subst (λ (o : Option (List ℕ)). IsSome o) (sym (sym x.2 ∙ ap (λ (o : OutState). o.took) (sym (core.some-injective out x.0 (sym there ∙ x.1))) ∙ told)) refl

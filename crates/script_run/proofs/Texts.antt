@@ -1,6 +1,6 @@
 -- The text of a run, and the links that are given back.
 use Rattle.std.proofs.Common.{◌≡◌, ◌≢◌, ℕ, zero, suc, ◌+◌, ◌<◌, inl, inr, true, List, [], ◌∷◌, ◌++◌, map, length, slice_get, Option, Some, None, IfSome, Result, Ok, Err, OnOk, IfOk, IsOk, Bool, option_map, ap, sym, subst, refl, ◌∙◌, ⊎_elim, arith}
-use Rattle.std.specs.Prelude.{Contains}
+use Rattle.std.specs.Prelude.{IsSome, Contains}
 use Rattle.std.specs.List.{AllByRecursion}
 use Rattle.std.proofs.lemmas.Option.{slice_get_within}
 use mathlib.Core.Option as core
@@ -8,10 +8,10 @@ use lib.ListN.{get_elem?}
 use Rattle.sock_words.specs.declared.plain.Plan.{Plan}
 use Rattle.sock_words.specs.declared.outcome.Outcome.{Outcome}
 use Rattle.sock_words.specs.declared.place_word.PlaceWord.{PlaceWord}
-use Rattle.brpc_model.specs.Items.{Item}
+use Rattle.brpc_model.specs.Items.{Item, Shape}
 use Rattle.brpc_model.specs.Script.{script_of}
 use Rattle.brpc_model.specs.Link.{LinkEnd, HalfAnswer, TakeAnswer}
-use Rattle.brpc_model.specs.Operations.{Turn, link_names, operations}
+use Rattle.brpc_model.specs.Operations.{Turn, link_names, link_shapes, operations}
 use Rattle.brpc_model.specs.Causes.{HasFault}
 use Rattle.brpc_model.specs.PlaceWords.{ArePlaces, HasEachOutcome, IsReportText, outcomes_from}
 use Rattle.sock_io.specs.Link.{OutState, InState, more_told}
@@ -22,6 +22,7 @@ use Rattle.sock_programs.specs.Scripts.{place_words}
 use Rattle.sock_programs.specs.Tasks.{plan_of}
 use Rattle.client_laws.proofs.Retrying.{retries_go}
 use Rattle.whole_runs.specs.Heard.{as_told, as_taken, take_answers, heard_of, taken_of, heard_takes}
+use Rattle.whole_runs.specs.OfferedRuns.{OffersInRun}
 use Rattle.whole_runs.specs.Over.{IsAllOver}
 use Rattle.whole_runs.proofs.Ended.{run_all_over}
 use Rattle.whole_runs.proofs.Gave.{gave_heard}
@@ -36,16 +37,17 @@ use Rattle.report_fits.proofs.Places.{script_places}
 use Rattle.report_fits.proofs.Sizes.{keeps_limits}
 use Rattle.report_fits.proofs.Tasks.{tasks_of_script}
 use Rattle.sock_core.specs.Finish.{told_from}
-use Rattle.sock_core.specs.Links.{ArePrompt, TellClosing}
+use Rattle.sock_core.specs.Links.{ArePrompt, TellClosing, IsOffering}
 use Rattle.sock_core.specs.Machines.{MachineState, core_with}
 use Rattle.sock_core.specs.Runs.{SameLink, SameLinks, ShowsTaking}
 use Rattle.script_run.specs.Causes.{HasCauses, EndedEarly, gave_in}
-use Rattle.script_run.specs.Given.{IsUntouched, AreUntouched}
+use Rattle.script_run.specs.Given.{IsUntouched, AreUntouched, AreAsked, spec_of, specs_of}
 use Rattle.script_report.specs.Sums.{told_of, sums_of, summary_text}
 use Rattle.script_run.specs.declared.report.Print.{Print}
 use Rattle.script_run.specs.declared.report.Print.TheVariants as print
 use Rattle.script_run.specs.Played.{IsMade, HasRun, AreHeard, IsWholeRun, IsEndTold, AreEndsTold, IsRunText, IsPrintOf, IsPrinted}
-use Rattle.script_run.proofs.Homes.{index_at, took_is, lies_is, told_is}
+use Rattle.script_run.proofs.Homes.{index_at, took_is, lies_is, told_is, tells_is}
+use Rattle.script_run.proofs.Offers.{asked_at, shapes_many}
 use Rattle.script_run.proofs.Idle.{clients_idle}
 use Rattle.script_run.proofs.Told.{has_causes}
 
@@ -83,7 +85,8 @@ found_closed (Some b) told h = ap (λ (b : Bool). Some b) h
 module _ (bytes : List ℕ) (script : List Item) (turns : List Turn) (start m : MachineState) (reads : script_of bytes ≡ Ok script) (untouched : AreUntouched 0 start.ends) (many : length start.ends ≡ length (link_names script)) (same : SameLinks start m)
     (ran : HasRun script turns start m) (plan : m.plan ≡ plan_of script) (tell : TellClosing start.links) (told_closed : AllByRecursion (λ (e : LinkEnd). e.closed ≢ None) start.ends)
     (outs : map (λ (o : OutState). o.took) m.links.outs ≡ map (λ (e : LinkEnd). e.took) m.ends) (counts : map (λ (i : InState). i.gave) m.links.inns ≡ map (λ (e : LinkEnd). e.gave_count) m.ends)
-    (given : map (λ (i : InState). i.gave_bytes) m.links.inns ≡ map (λ (e : LinkEnd). e.gave) m.ends) (letters : length m.letters ≡ m.plan.requests) where
+    (given : map (λ (i : InState). i.gave_bytes) m.links.inns ≡ map (λ (e : LinkEnd). e.gave) m.ends) (letters : length m.letters ≡ m.plan.requests)
+    (Offering : Type 0) (asked : Offering → AreAsked (specs_of script) start.links.outs start.links.inns) where
   abbrev end_core : Core
   end_core = core_with m ran.took ran.gave
 
@@ -169,12 +172,23 @@ module _ (bytes : List ℕ) (script : List Item) (turns : List Turn) (start m : 
   ends_are : (has : HasCauses script turns end_core ran.run) → AreEndsOf script end_core has.fixed (gave_in end_core) m.ends
   ends_are has = record { as_many = same.as_many ∙ many; each = λ k e at. is_end k e at has }
 
+  -- ## What they were offered
+
+  offered : Offering → (k : ℕ) (shape : Shape) → slice_get (link_shapes script) k ≡ Some shape → OffersInRun script turns end_core ran.run k shape.serve shape.end × IsOffering m.links k shape.serve shape.end
+  offered offering k shape at = ran.offers k shape.serve shape.end (asked offering k (spec_of shape) (asked_at script k shape at))
+
+  tells : Offering → (k : ℕ) (e : LinkEnd) → slice_get m.ends k ≡ Some e → IsSome e.took
+  tells offering k e at =
+      let shape = within (link_shapes script) k (let inside = low k e at in let as_many = shapes_many script in omega (arith, inside, as_many)) in
+      let h = (offered offering k shape.0 shape.1).1 in
+      tells_is m.links.outs m.ends k e h.out h.took outs at h.out_at h.took_is
+
   -- ## The text
 
   causes : HasCauses script turns end_core ran.run
   causes = has_causes bytes script reads turns end_core ran.run (ran.closes tell)
 
-  whole : (ends : List LinkEnd) → ends ≡ m.ends → IsWholeRun script turns ends
+  whole : (ends : List LinkEnd) → ends ≡ m.ends → IsWholeRun Offering script turns ends
   whole ends ends_same = record {
     core = end_core;
     run = ran.run;
@@ -183,6 +197,10 @@ module _ (bytes : List ℕ) (script : List Item) (turns : List Turn) (start m : 
     drops = run_drops_told bytes script reads turns end_core ran.run (run_owed_of script (made bytes script reads) turns end_core ran.run (ran.closes tell));
     idle = λ callless. clients_idle bytes script reads callless turns end_core ran.run;
     over = over;
+    offers = λ offering k shape at. (offered offering k shape at).0;
+    closes = λ offering. ran.closes tell;
+    shows = λ offering k e at. shows k e (ap (λ (es : List LinkEnd). slice_get es k) (sym ends_same) ∙ at);
+    tells = λ offering k e at. tells offering k e (ap (λ (es : List LinkEnd). slice_get es k) (sym ends_same) ∙ at);
   }
 
   module _ (outcomes : List (ℕ × Outcome)) (words : List PlaceWord) (ends : List LinkEnd) (outcomes_are : outcomes ≡ told_from 0 m.outcomes) (words_are : words ≡ place_words m.plan m.words) (ends_same : ends ≡ m.ends) where
@@ -190,7 +208,7 @@ module _ (bytes : List ℕ) (script : List Item) (turns : List Turn) (start m : 
     words_now = words_are ∙ ap (λ (q : Plan). place_words q m.words) plan
 
     module _ (took : List (List ℕ)) (told : AreTold ends took) (text : List ℕ) (reported : IsReportText script m.outcomes words took text) where
-      pub text_is : IsRunText script turns text ends
+      pub text_is : IsRunText Offering script turns text ends
       unfolding whole
       text_is =
           let report = subst (λ (ws : List PlaceWord). IsReportText script m.outcomes ws took text) words_now reported in record {
@@ -209,7 +227,7 @@ module _ (bytes : List ℕ) (script : List Item) (turns : List Turn) (start m : 
       unfolding text_is whole
       same_outcomes = text_is.reports.outcomes ∙ ap (λ (ws : List PlaceWord). outcomes_from ws 0 m.outcomes) (sym words_now) ∙ sym reported.told.outcomes
 
-    print_is : (shows : Print) (took : List (List ℕ)) (text : List ℕ) → AreTold ends took → IsPrintOf shows script m.outcomes words took text → IsPrinted shows script turns text ends
+    print_is : (shows : Print) (took : List (List ℕ)) (text : List ℕ) → AreTold ends took → IsPrintOf shows script m.outcomes words took text → IsPrinted Offering shows script turns text ends
     print_is print.Report took text told is = text_is took told text is
     print_is (print.Summary load) took text told is = record {
       whole = is.whole;
@@ -219,7 +237,7 @@ module _ (bytes : List ℕ) (script : List Item) (turns : List Turn) (start m : 
 
     pub printed_is : (shows : Print) (text : List ℕ)
         → ((os : List (Option Outcome)) → length os ≡ length (operations script) → outcomes ≡ told_from 0 os → ArePlaces words → HasEachOutcome words os → (took : List (List ℕ)) × AreTold ends took × IsPrintOf shows script os words took text)
-        → IsPrinted shows script turns text ends
+        → IsPrinted Offering shows script turns text ends
     printed_is shows text prints =
         let long = ended_length bytes script reads turns end_core ran.run in
         let places = script_places bytes script reads end_core causes.fixed (gave_in end_core) causes.orders long causes.tells in
@@ -234,10 +252,10 @@ pub text_answered : {T E F S P C : Type 0} (shows : Print) (items : T → List �
     map (λ (i : InState). i.gave_bytes) m.links.inns ≡ map (λ (e : LinkEnd). e.gave) m.ends → length m.letters ≡ m.plan.requests →
     outcomes ≡ told_from 0 m.outcomes → words ≡ place_words m.plan m.words → ends ≡ m.ends → back ≡ ends →
     (IsOk r → IsOk q) → (P → ArePrompt start.links) → (C → TellClosing start.links) → (C → AllByRecursion (λ (e : LinkEnd). e.closed ≢ None) start.ends) →
-    OnOk q (ArePrompt start.links → HasRun script turns start m) → OnOk q ((m.plan ≡ start.plan) × (m.ids.plan ≡ start.ids.plan)) →
+    (Offering : Type 0) → (Offering → AreAsked (specs_of script) start.links.outs start.links.inns) → OnOk q (ArePrompt start.links → HasRun script turns start m) → OnOk q ((m.plan ≡ start.plan) × (m.ids.plan ≡ start.ids.plan)) →
     IfOk r (λ t. (os : List (Option Outcome)) → length os ≡ length (operations script) → outcomes ≡ told_from 0 os → ArePlaces words → HasEachOutcome words os → (took : List (List ℕ)) × AreTold ends took × IsPrintOf shows script os words took (items t)) →
-    IfOk r (λ t. P → C → IsPrinted shows script turns (items t) back)
-text_answered shows items (Err e) q bytes script turns start m outcomes words ends back reads made untouched many same outs counts given letters outcomes_are words_are ends_same back_is played prompt tell closed ran sized told = tt
-text_answered shows items (Ok t) (Err e) bytes script turns start m outcomes words ends back reads made untouched many same outs counts given letters outcomes_are words_are ends_same back_is played prompt tell closed ran sized told = let same = played refl in absurd (cc)
-text_answered shows items (Ok t) (Ok done) bytes script turns start m outcomes words ends back reads made untouched many same outs counts given letters outcomes_are words_are ends_same back_is played prompt tell closed ran sized told =
-    λ p c. subst (IsPrinted shows script turns (items t)) (sym back_is) (printed_is bytes script turns start m reads untouched many same (ran (prompt p)) (sized.0 ∙ made.plan) (tell c) (closed c) outs counts given letters outcomes words ends outcomes_are words_are ends_same shows (items t) told)
+    IfOk r (λ t. P → C → IsPrinted Offering shows script turns (items t) back)
+text_answered shows items (Err e) q bytes script turns start m outcomes words ends back reads made untouched many same outs counts given letters outcomes_are words_are ends_same back_is played prompt tell closed Offering asked ran sized told = tt
+text_answered shows items (Ok t) (Err e) bytes script turns start m outcomes words ends back reads made untouched many same outs counts given letters outcomes_are words_are ends_same back_is played prompt tell closed Offering asked ran sized told = let same = played refl in absurd (cc)
+text_answered shows items (Ok t) (Ok done) bytes script turns start m outcomes words ends back reads made untouched many same outs counts given letters outcomes_are words_are ends_same back_is played prompt tell closed Offering asked ran sized told =
+    λ p c. subst (IsPrinted Offering shows script turns (items t)) (sym back_is) (printed_is bytes script turns start m reads untouched many same (ran (prompt p)) (sized.0 ∙ made.plan) (tell c) (closed c) outs counts given letters Offering asked outcomes words ends outcomes_are words_are ends_same shows (items t) told)

@@ -77,9 +77,11 @@ module _ (bytes : List ℕ) (script : List Item) (reads : script_of bytes ≡ Ok
       tells = all_told script core.outcomes callless fixed_of (gave_in core) orders last core told_sends;
       last = λ client t asked is op. absurd (no_call script core.outcomes callless client t asked is op);
       broken = broken_shown script turns core run;
+      all_broken = λ k there. there;
       early = λ k there. closed_early script (made bytes script reads) turns core run k (contains_in early k there);
       closed = λ k there. absurd (nothing_there k [] refl there);
       late = record { links = λ k there. there; operations = λ o there. there; silent = λ k there. absurd (nothing_there k [] refl there); early = λ r there. absurd (nothing_there r [] refl there) };
+      late_links = λ k there. there;
       none_late = λ c. ap (λ (l : List ℕ). let late : Lateness = record { links = l; operations = late_of_run script turns core run; silent = []; early = [] } in late) links_none
           ∙ ap (λ (l : List ℕ). let late : Lateness = record { links = []; operations = l; silent = []; early = [] } in late) late_none;
       plain = plain;
@@ -100,9 +102,11 @@ module _ (bytes : List ℕ) (script : List Item) (reads : script_of bytes ≡ Ok
     tells = told_of_run script (made bytes script reads) there range turns core run closes bytes reads;
     last = λ client t asked is op. told_last script (made bytes script reads) there range turns core run closes bytes reads t.number;
     broken = broken_shown script turns core run;
+    all_broken = λ k there. there;
     early = early_shown script turns core run bytes reads;
     closed = closed_shown script turns core run;
     late = record { links = λ k there. there; operations = λ o there. there; silent = λ k there. there; early = λ r there. there };
+    late_links = λ k there. there;
     none_late = λ none_. absurd (true≢false (sym none_ ∙ calls));
     plain = plain;
   }

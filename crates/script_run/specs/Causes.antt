@@ -16,7 +16,7 @@ use Rattle.sock_programs.specs.Told.{IsTask}
 use Rattle.sock_programs.specs.ToldCalls.{Fixed, Order, ToldCalls}
 use Rattle.report_fits.proofs.Places.{lateness}
 use Rattle.sock_causes.specs.PlainTasks.{told_tasks_of}
-use Rattle.sock_causes.specs.Facts.{is_said_late, late_of_run, late_links_of_run}
+use Rattle.sock_causes.specs.Facts.{broken_of_run, is_said_late, late_of_run, late_links_of_run}
 use Rattle.sock_causes.specs.Losses.{lost_in}
 use Rattle.sock_causes.specs.TaskCauses.{ToldTasks, DropsMade}
 use Rattle.sock_causes.proofs.Scripts.{MadeInRun, lost_of_run}
@@ -70,9 +70,13 @@ pub record HasCauses (script : List Item) (turns : List Turn) (core : Core) (run
   -- the last attempt of a call is that to which the run advanced
   pub last : (client : ℕ) (t : Task) (asked : Asked) → IsTask (all_tasks script) core.outcomes client t → t.op ≡ ops.Call asked → tells.last t.number ≡ attempts_of_run script turns core run t.number
   pub broken : (k : ℕ) → Contains fixed.broken k → Contains (broken_of run) k
+  -- and each link that failed is said to
+  pub all_broken : (k : ℕ) → Contains (broken_of_run script turns core run) k → Contains fixed.broken k
   pub early : (k : ℕ) → Contains fixed.early k → (k < length (link_names script)) × EndedEarly run k
   pub closed : (k : ℕ) → Contains fixed.closed k → Contains (heard_takes run k) Closed
   pub late : CameLate (lateness fixed) (late_in script turns core run)
+  -- and each link that became a socket's while the run was ending is said to
+  pub late_links : (k : ℕ) → Contains (late_links_of_run script turns core run) k → Contains fixed.late_links k
   -- without calls nothing is said to come late
   pub none_late : is_callless script ≡ true → lateness fixed ≡ nothing_late
   -- `open`, `send`, `hold`, `drop` and `fail` have their causes by what was lost before the ending too

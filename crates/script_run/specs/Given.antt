@@ -1,5 +1,5 @@
 -- Links as they are opened and given back.
-use Rattle.std.specs.Prelude.{ℕ, ◌≡◌, ◌+◌, ◌++◌, false, List, [], ◌∷◌, IfSome, Bool, true, nat_lt, Option, Some, None}
+use Rattle.std.specs.Prelude.{ℕ, ◌≡◌, ◌+◌, ◌++◌, false, List, [], ◌∷◌, slice_get, IfSome, Bool, true, nat_lt, Option, Some, None}
 use Rattle.std.specs.List.{filter_map}
 use Rattle.brpc_model.specs.Items.{Item, Open, Shape, is_open}
 use Rattle.script_items.specs.Meaning.{item}
@@ -7,6 +7,8 @@ use Rattle.script_items.specs.declared.line.Line.{Line}
 use Rattle.brpc_model.specs.Link.{LinkEnd}
 use Rattle.sock_io.specs.declared.link.LinkSpec.{LinkSpec}
 use Rattle.sock_io.specs.declared.link.Mode.TheVariants as mode
+use Rattle.sock_io.specs.Link.{OutState, InState}
+use Rattle.sock_core.specs.Links.{IsOffered}
 
 -- the link of this number took, gave and answered nothing, did not fail, and was not found closed
 pub record IsUntouched (number : ℕ) (e : LinkEnd) : Type 0 where
@@ -62,3 +64,7 @@ specs_of script = filter_map spec_asked script
 -- the first are a beginning of the others
 abbrev pub IsBeginning : List LinkSpec → List LinkSpec → Type 0
 IsBeginning front whole = (rest : List LinkSpec) × (front ++ rest ≡ whole)
+
+-- each link of which this was asked tells what it took, gave and is offered, and is offered what belongs to it, by what was asked of it
+abbrev pub AreAsked : List LinkSpec → List OutState → List InState → Type 0
+AreAsked specs outs inns = (k : ℕ) (spec : LinkSpec) → slice_get specs k ≡ Some spec → IsOffered outs inns k spec.serve spec.end

@@ -1,15 +1,16 @@
 -- The lines by which a script is run, the ticks that they make, and the text of a run.
-use Rattle.std.specs.Prelude.{ℕ, ◌≡◌, ◌≢◌, ◌≤◌, ◌++◌, Bool, true, length, slice_get, slice_index_or, List, [], Option, Some, None, IfSome}
+use Rattle.std.specs.Prelude.{ℕ, ◌≡◌, ◌≢◌, ◌≤◌, ◌++◌, Bool, true, length, slice_get, slice_index_or, List, [], Option, Some, None, IfSome, IsSome, Contains}
 use Rattle.sock_words.specs.declared.plain.Plan.{Plan}
-use Rattle.brpc_model.specs.Items.{Item}
+use Rattle.brpc_model.specs.Items.{Item, Shape}
 use Rattle.brpc_model.specs.Link.{LinkEnd}
-use Rattle.brpc_model.specs.Operations.{Turn, schedule, clients, link_names}
+use Rattle.brpc_model.specs.Operations.{Turn, schedule, clients, link_names, link_shapes}
 use Rattle.brpc_model.specs.Report.{Report, report_text}
 use Rattle.brpc_model.specs.PlaceWords.{IsReportText}
 use Rattle.sock_words.specs.declared.outcome.Outcome.{Outcome}
 use Rattle.sock_words.specs.declared.place_word.PlaceWord.{PlaceWord}
 use Rattle.script_report.specs.declared.summary.Load.{Load}
 use Rattle.script_report.specs.Sums.{told_of, sums_of, summary_text}
+use Rattle.sock_programs.specs.Asides.{Taking}
 use Rattle.sock_programs.specs.Cores.{Core}
 use Rattle.sock_programs.specs.Ticks.{Answer, Moment}
 use Rattle.sock_programs.specs.Runs.{IsAtRest, Turns}
@@ -17,14 +18,14 @@ use Rattle.sock_programs.specs.Scripts.{IsRunWithCalls, Reports, is_callless, se
 use Rattle.sock_programs.specs.Tasks.{plan_of, id_plan_of, opens, calls}
 use Rattle.report_fits.specs.Ends.{AreEndsOf, AreTold}
 use Rattle.run_laws.specs.Laws.{KeepsLaws}
-use Rattle.sock_io.specs.Link.{InState}
+use Rattle.sock_io.specs.Link.{OutState, InState}
 use Rattle.owed_calls.specs.Lives.{ClosesInRun}
 use Rattle.sock_core.specs.Links.{Taken, Given, Agrees, AgreesGave, TellClosing, IsOffering}
 use Rattle.sock_core.specs.Machines.{MachineState, core_with}
-use Rattle.whole_runs.specs.Heard.{as_told, as_taken, take_answers, heard_of, taken_of}
+use Rattle.whole_runs.specs.Heard.{as_told, as_taken, take_answers, heard_of, taken_of, heard_takes}
 use Rattle.whole_runs.specs.OfferedRuns.{OffersInRun}
 use Rattle.whole_runs.specs.Over.{IsAllOver}
-use Rattle.sock_core.specs.Runs.{ShowFaults, LinksTell, TakesTell, ShowTakings, Follows, Made}
+use Rattle.sock_core.specs.Runs.{ShowFaults, LinksTell, TakesTell, ShowsTaking, ShowTakings, Follows, Made}
 use Rattle.sock_core.specs.Driving.{FirstRests}
 use Rattle.script_run.specs.Causes.{HasCauses, DropsTold, broken_of, gave_in}
 use Rattle.script_run.specs.declared.report.Print.{Print}
@@ -77,6 +78,10 @@ HasTurns p (Some turn) c moments = Turns p c turn moments
 abbrev pub TellClosed : {A : Type 0} → (A → InState) → Type 0
 TellClosed {A} state = (inn : A) → ((state inn).closing ≢ None) × ((state inn).closed ≢ None)
 
+-- each writing half tells what it took, and each reading half what it gave and what its other end offers
+abbrev pub TellOffers : {A B : Type 0} → (A → OutState) → (B → InState) → Type 0
+TellOffers {A} {B} out_state in_state = ((out : A) → (out_state out).took ≢ None) × ((inn : B) → ((in_state inn).gave_bytes ≢ None) × ((in_state inn).offer ≢ None))
+
 -- the machine was played from behind the setup to the end of a run, over links that are always ready in time
 pub record HasRun (script : List Item) (turns : List Turn) (start m : MachineState) : Type 0 where
   pub took : Taken
@@ -99,8 +104,8 @@ pub record AreHeard (ends : List LinkEnd) (heard taken : ℕ → List Answer) : 
   pub each_take : (k : ℕ) (e : LinkEnd) → slice_get ends k ≡ Some e → IfSome e.takes (λ takes. takes ≡ take_answers (as_taken (taken k)))
   pub no_take_beyond : (k : ℕ) → length ends ≤ k → taken k ≡ []
 
--- a run of the script by these lines, over the links that were given back
-pub record IsWholeRun (script : List Item) (turns : List Turn) (ends : List LinkEnd) : Type 0 where
+-- a run of the script by these lines, over the links that were given back; where they tell what they took, gave and were offered, what they were offered too
+pub record IsWholeRun (Offering : Type 0) (script : List Item) (turns : List Turn) (ends : List LinkEnd) : Type 0 where
   pub core : Core
   pub run : IsRunWithCalls script turns core
   -- whose ticks are events of the plain model, with at most one put behind a failure
@@ -111,6 +116,13 @@ pub record IsWholeRun (script : List Item) (turns : List Turn) (ends : List Link
   pub idle : is_callless script ≡ true → (i : ℕ) → i ≤ clients script → IsAtRest (played script run.setup (run.scheduled ++ run.later)) i
   -- in the end no life is left, each id range has ended, and each link is at home
   pub over : IsAllOver script core
+  -- at each take a link was offered what belongs to it, by what its `open` asks
+  pub offers : Offering → (k : ℕ) (shape : Shape) → slice_get (link_shapes script) k ≡ Some shape → OffersInRun script turns core run k shape.serve shape.end
+  -- it answered that it was closed only where it was finished
+  pub closes : Offering → ClosesInRun script turns core run
+  -- it shows what its reading half answered, and tells what it took
+  pub shows : Offering → (k : ℕ) (e : LinkEnd) → slice_get ends k ≡ Some e → (t : Taking) → Contains (heard_takes run k) t → ShowsTaking t e
+  pub tells : Offering → (k : ℕ) (e : LinkEnd) → slice_get ends k ≡ Some e → IsSome e.took
 
 -- link k, as it was given back: as far as it tells, it took what lies at its home, and gave what the run has of it
 pub record IsEndTold (p : Plan) (core : Core) (k : ℕ) (e : LinkEnd) : Type 0 where
@@ -128,8 +140,8 @@ abbrev pub IsCaused : (script : List Item) (turns : List Turn) (core : Core) →
 IsCaused script turns core run ends = (has : HasCauses script turns core run) × AreEndsOf script core has.fixed (gave_in core) ends
 
 -- the text reports a run of the script by these lines, over the links that were given back
-pub record IsRunText (script : List Item) (turns : List Turn) (text : List ℕ) (ends : List LinkEnd) : Type 0 where
-  pub whole : IsWholeRun script turns ends
+pub record IsRunText (Offering : Type 0) (script : List Item) (turns : List Turn) (text : List ℕ) (ends : List LinkEnd) : Type 0 where
+  pub whole : IsWholeRun Offering script turns ends
   -- what is reported that the links took
   pub took : List (List ℕ)
   pub told : AreTold ends took
@@ -158,12 +170,12 @@ IsPrintOf print.Report script said words took text = IsReportText script said wo
 IsPrintOf (print.Summary load) script said words took text = IsSummaryText load script said words took text
 
 -- the text is the summary of a run of the script by these lines
-pub record IsRunSummary (load : Load) (script : List Item) (turns : List Turn) (text : List ℕ) (ends : List LinkEnd) : Type 0 where
+pub record IsRunSummary (Offering : Type 0) (load : Load) (script : List Item) (turns : List Turn) (text : List ℕ) (ends : List LinkEnd) : Type 0 where
   -- of which this is the report
   pub whole : List ℕ
-  pub reported : IsRunText script turns whole ends
+  pub reported : IsRunText Offering script turns whole ends
   pub sums : text ≡ summary_of load script reported.report
 
-abbrev pub IsPrinted : Print → List Item → List Turn → List ℕ → List LinkEnd → Type 0
-IsPrinted print.Report script turns text ends = IsRunText script turns text ends
-IsPrinted (print.Summary load) script turns text ends = IsRunSummary load script turns text ends
+abbrev pub IsPrinted : Type 0 → Print → List Item → List Turn → List ℕ → List LinkEnd → Type 0
+IsPrinted Offering print.Report script turns text ends = IsRunText Offering script turns text ends
+IsPrinted Offering (print.Summary load) script turns text ends = IsRunSummary Offering load script turns text ends

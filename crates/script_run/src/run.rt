@@ -12,8 +12,8 @@ ghost use Rattle.sock_words.specs.declared.outcome.Outcome.{Outcome};
 ghost use Rattle.sock_core.specs.Finish.{told_from};
 ghost use Rattle.sock_core.specs.Links.{ArePrompt, TellClosing};
 ghost use Rattle.sock_core.specs.Runs.{SameLinks};
-ghost use Rattle.script_run.specs.Given.{AreNumbered, AreUntouched, IsBeginning, has_piece, specs_of};
-ghost use Rattle.script_run.specs.Played.{IsMade, HasRun, IsPrintOf, IsPrinted, TellClosed, turns_of};
+ghost use Rattle.script_run.specs.Given.{AreNumbered, AreUntouched, AreAsked, IsBeginning, has_piece, specs_of};
+ghost use Rattle.script_run.specs.Played.{IsMade, HasRun, IsPrintOf, IsPrinted, TellClosed, TellOffers, turns_of};
 ghost use Rattle.report_fits.specs.Ends.{AreTold};
 
 use crate::links::{give_back, open_links};
@@ -48,7 +48,7 @@ pub fn run_script<L: Linker>(
     requires pieces { list_all has_piece script.now ≡ true }
     requires asked { L.asked links.old ≡ [] }
     requires back { L.back links.old ≡ [] }
-    ensures text { IfOk result (λ text. L.prompt links.old ≡ true → TellClosed L.I.state → IsPrinted print script.now (turns_of script.now schedule) text.items (L.back links.new)) }
+    ensures text { IfOk result (λ text. L.prompt links.old ≡ true → TellClosed L.I.state → IsPrinted (TellOffers L.O.state L.I.state) print script.now (turns_of script.now schedule) text.items (L.back links.new)) }
     ensures unopened { IsErrOf result RunFault.OpenFailed → AreUntouched 0 (L.back links.new) }
     ensures all { OnOk result (length (L.back links.new) ≡ length (link_names script.now)) }
     // What is asked of the links is what the lines of the script ask, all of it unless one could not be opened.
@@ -97,11 +97,12 @@ fn run_over<L: Linker>(
     requires unfinished { AllByRecursion (λ (e : Ends L.O L.I L.P). (L.O.state e.out).finished ≡ false) ends.items }
     requires unclosed { AllByRecursion (λ (e : Ends L.O L.I L.P). IfSome (L.I.state e.inn).closing (λ closing. closing ≡ false)) ends.items }
     requires prompt { L.prompt links.old ≡ true → AllByRecursion (λ (e : Ends L.O L.I L.P). (L.O.state e.out).prompt ≡ true) ends.items }
+    requires offers { TellOffers L.O.state L.I.state → AreAsked (specs_of script.now) (map (λ e. L.O.state e.out) ends.items) (map (λ e. L.I.state e.inn) ends.items) }
     requires all { length ends.items ≡ length (link_names script.now) }
     requires few { length ends.items ≤ 256 }
     requires opened { length (L.asked links.old) ≡ length ends.items }
     requires back { L.back links.old ≡ [] }
-    ensures text { IfOk result (λ text. L.prompt links.old ≡ true → TellClosed L.I.state → IsPrinted print script.now (turns_of script.now schedule) text.items (L.back links.new)) }
+    ensures text { IfOk result (λ text. L.prompt links.old ≡ true → TellClosed L.I.state → IsPrinted (TellOffers L.O.state L.I.state) print script.now (turns_of script.now schedule) text.items (L.back links.new)) }
     ensures back { length (L.back links.new) ≡ length ends.items }
     ensures numbered { AreNumbered 0 (L.back links.new) }
     ensures asked { L.asked links.new ≡ L.asked links.old }
@@ -134,11 +135,12 @@ fn run_on<L: Linker>(
     requires prompt { L.prompt links.old ≡ true → ArePrompt machine.links }
     requires tell { TellClosed L.I.state → TellClosing machine.links }
     requires closed { TellClosed L.I.state → AllByRecursion (λ (e : LinkEnd). e.closed ≢ None) machine.ends }
+    requires offers { TellOffers L.O.state L.I.state → AreAsked (specs_of script.now) machine.links.outs machine.links.inns }
     requires all { length machine.ends ≡ length (link_names script.now) }
     requires few { length machine.ends ≤ 256 }
     requires opened { length (L.asked links.old) ≡ length machine.ends }
     requires back { L.back links.old ≡ [] }
-    ensures text { IfOk result (λ text. L.prompt links.old ≡ true → TellClosed L.I.state → IsPrinted print script.now (turns_of script.now schedule) text.items (L.back links.new)) }
+    ensures text { IfOk result (λ text. L.prompt links.old ≡ true → TellClosed L.I.state → IsPrinted (TellOffers L.O.state L.I.state) print script.now (turns_of script.now schedule) text.items (L.back links.new)) }
     ensures back { length (L.back links.new) ≡ length machine.ends }
     ensures numbered { AreNumbered 0 (L.back links.new) }
     ensures asked { L.asked links.new ≡ L.asked links.old }

@@ -1,7 +1,7 @@
 -- Where nothing went wrong, each call on links with the server has the reply to its own request, or its name had no socket yet.
-use Rattle.std.proofs.Common.{◌≡◌, ◌≢◌, ℕ, zero, suc, ◌+◌, ◌<◌, ◌≤◌, ◌⊎◌, inl, inr, ⊎_elim, Bool, true, false, List, [], ◌∷◌, length, slice_get, Some, None, refl, sym, ap, ◌∙◌, subst, arith}
+use Rattle.std.proofs.Common.{◌≡◌, ◌≢◌, ℕ, zero, suc, ◌+◌, ◌<◌, ◌≤◌, ◌⊎◌, inl, inr, ⊎_elim, Bool, true, false, List, [], length, slice_get, Some, None, refl, sym, ap, ◌∙◌, subst, arith}
 use Rattle.std.proofs.lemmas.Option.{slice_get_within}
-use Rattle.std.specs.Prelude.{ℤ, pos, negsuc, Contains, filter_map}
+use Rattle.std.specs.Prelude.{ℤ, pos, negsuc, Contains}
 use mathlib.Core.Logic.{dite}
 use native.Mathlib.Decide.{ℕ_discrete}
 use Rattle.sock_words.specs.declared.outcome.Outcome.{Outcome}
@@ -9,7 +9,7 @@ use Rattle.sock_words.specs.declared.outcome.Outcome.TheVariants.{Unopened, Answ
 use Rattle.brpc_model.specs.Causes.{HasFault}
 use Rattle.brpc_model.specs.Complete.{Gives}
 use Rattle.brpc_model.specs.Frame.{Frame, IsFrame}
-use Rattle.brpc_model.specs.Items.{Item, Shape, Open, opened_name, opened_shape}
+use Rattle.brpc_model.specs.Items.{Item, Shape}
 use Rattle.brpc_model.specs.Messages.{shown_id}
 use Rattle.brpc_model.specs.Operations.{Turn, link_shapes}
 use Rattle.brpc_model.specs.Reply.{reply}

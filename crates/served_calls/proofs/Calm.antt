@@ -6,7 +6,8 @@ use Rattle.std.specs.Prelude.{IsTrue, Contains}
 use Rattle.sock_words.specs.declared.outcome.Outcome.{Outcome}
 use Rattle.sock_words.specs.declared.outcome.Outcome.TheVariants.{Unopened}
 use Rattle.brpc_model.specs.Causes.{HasFault, reading_limit}
-use Rattle.brpc_model.specs.Complete.{IsServed, IsSilentUnserved, IsUntroubled, FitsWhole}
+use Rattle.brpc_model.specs.Complete.{IsServed, IsSilentUnserved, IsUntroubled, Completeness, FitsWhole}
+use Rattle.brpc_model.specs.Fits.{FitsRun}
 use Rattle.brpc_model.specs.Items.{Item, Shape, Open, Send, Call, Expire, Fail, CallLine, attempts_of}
 use Rattle.brpc_model.specs.Link.{LinkEnd}
 use Rattle.brpc_model.specs.Operations.{Operation, Turn, operations, link_names, link_shapes}
@@ -16,11 +17,12 @@ use Rattle.brpc_model.specs.Script.{script_of}
 use Rattle.report_fits.specs.Calm.{IsCalm}
 use Rattle.report_fits.specs.Calm as calls
 use Rattle.report_fits.specs.Ends.{AreEndsOf, AreTold, EndsEarly}
+use Rattle.report_fits.proofs.Fitting.{fits_run, complete}
 use Rattle.report_fits.proofs.Known as known
 use Rattle.report_fits.proofs.Lines.{Given}
 use Rattle.report_fits.proofs.Lists.{Has, all_at, has_from, has_later, contains_from, some_is, within}
 use Rattle.report_fits.proofs.Lives as lives
-use Rattle.report_fits.proofs.Places.{lateness, known_of, script_fits}
+use Rattle.report_fits.proofs.Places.{lateness, known_of}
 use Rattle.report_fits.proofs.Targets as targets
 use Rattle.report_fits.proofs.TaskLemmas.{numbers_at, task_is, send_asks, call_asks, fail_asks, expire_asks, mentions_send}
 use Rattle.sock_message.specs.Asked.{Asked, name_of}
@@ -62,7 +64,7 @@ not_true false f = refl
 module _ (bytes : List ℕ) (script : List Item) (reads : script_of bytes ≡ Ok script) (turns : List Turn) (core : Core) (is : IsRunWithCalls script turns core) (fixed : Fixed) (orders : ℕ → Order) (long : length core.outcomes ≡ length (operations script))
     (tells : ToldCalls (plan_of script) (all_tasks script) core.outcomes fixed (given core) orders core) (report : Report) (took : List (List ℕ)) (ends : List LinkEnd) (reports : Reports script core took report) (told : AreTold ends took)
     (given_back : AreEndsOf script core fixed (given core) ends) where
-  abbrev all_given : Given
+  abbrev pub all_given : Given
   all_given = record { run = known_of bytes script reads core fixed (given core) orders long tells; report = report; took = took; ends = ends; reports = reports; told = told; given = given_back }
 
   abbrev Task_ : ℕ → Task → Type 0
@@ -199,8 +201,15 @@ module _ (bytes : List ℕ) (script : List Item) (reads : script_of bytes ≡ Ok
       }
 
   -- its report fits the script and the links, and where nothing went wrong it is complete
+  pub served_run : AreShown script turns core is fixed ends → (IsUntroubled script ends → GivesFew script turns core is) → (IsUntroubled script ends → IsTimely script turns core is fixed orders) → AreIdsSmall script core
+      → ((client : ℕ) (t : Task) (asked : Asked) → IsTask (all_tasks script) core.outcomes client t → t.op ≡ ops.Call asked → tells.last t.number ≡ attempts_of_run script turns core is t.number)
+      → GivesReplies script turns core is → GivesCallReplies script turns core is → GivesNoFault script turns core is → GivesLast script turns core is → FitsRun (lives.run_of all_given) × Completeness (lives.run_of all_given)
+  served_run shown few timely ids last_is replies call_replies no_fault lasts = (
+    fits_run all_given,
+    complete all_given (λ untroubled. calm shown (few untroubled) untroubled (timely untroubled) ids last_is replies call_replies no_fault lasts),
+  )
+
   pub served_fits : AreShown script turns core is fixed ends → (IsUntroubled script ends → GivesFew script turns core is) → (IsUntroubled script ends → IsTimely script turns core is fixed orders) → AreIdsSmall script core
       → ((client : ℕ) (t : Task) (asked : Asked) → IsTask (all_tasks script) core.outcomes client t → t.op ≡ ops.Call asked → tells.last t.number ≡ attempts_of_run script turns core is t.number)
       → GivesReplies script turns core is → GivesCallReplies script turns core is → GivesNoFault script turns core is → GivesLast script turns core is → FitsWhole script (report_text script report) ends (lateness fixed)
-  served_fits shown few timely ids last_is replies call_replies no_fault lasts = script_fits bytes script reads core fixed (given core) orders long tells report took ends reports told given_back
-      (λ untroubled. calm shown (few untroubled) untroubled (timely untroubled) ids last_is replies call_replies no_fault lasts)
+  served_fits shown few timely ids last_is replies call_replies no_fault lasts = (report, lives.story_of all_given, refl, served_run shown few timely ids last_is replies call_replies no_fault lasts)

@@ -1,11 +1,10 @@
 -- Frames in streams that are made of whole frames, and what each reply says.
-use Rattle.std.proofs.Common.{◌≡◌, ℕ, zero, suc, ◌+◌, ◌-◌, ◌<◌, ◌≤◌, List, [], ◌∷◌, ◌++◌, length, take, drop, map, flat_map, filter_map, slice_get, Some, None, length-append, append-nil, append_assoc, drop_of_length-le, refl, sym, ap, ◌∙◌, subst, arith}
+use Rattle.std.proofs.Common.{◌≡◌, ℕ, zero, suc, ◌+◌, ◌-◌, ◌<◌, ◌≤◌, List, [], ◌∷◌, ◌++◌, length, take, drop, flat_map, filter_map, slice_get, Some, None, length-append, append-nil, append_assoc, drop_of_length-le, refl, sym, ap, ◌∙◌, subst, arith}
 use Rattle.std.proofs.lemmas.Grind.{flat_map-append}
 use Rattle.std.proofs.lemmas.List.Elements.{filter_map-append}
 use Rattle.std.specs.List.{AllByRecursion}
 use Rattle.std.specs.Prelude.{pos, IsSome}
 use Rattle.brpc_model.specs.Frame.{Frame, IsFrame, frame_bytes}
-use Rattle.brpc_model.specs.Order.{IsCut}
 use Rattle.brpc_model.specs.Reply.{Answer, Gives, Refuses, served, answered_by, reply}
 use Rattle.brpc_model.specs.Stream.{Stream, Rest, stream, stream_from, goes_on}
 use Rattle.brpc_model.proofs.Streams.{stream_goes_on}
@@ -13,7 +12,6 @@ use Rattle.prpc_frame.proofs.Encoded.{frame_judged}
 use Rattle.report_fits.proofs.Lists.{Has, some_is, has_later, has_filter_map}
 use Rattle.sock_message.specs.Asked.{Asked}
 use Rattle.sock_programs.specs.Readers.{last_of}
-use Rattle.sock_programs.specs.ToldCalls.{Accepted, bytes_of}
 use Rattle.call_causes.proofs.Streams.{frames_behind_rest}
 use Rattle.served_runs.specs.Served.{request_with}
 use Rattle.served_runs.proofs.Frames.{IsPiece, pieces_end}

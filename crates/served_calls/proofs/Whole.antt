@@ -1,13 +1,15 @@
 -- The report of a whole run over links that gave what belongs to what they took fits, and where nothing went wrong it is complete.
-use Rattle.std.proofs.Common.{◌≡◌, ℕ, List, length, Ok}
+use Rattle.std.proofs.Common.{◌≡◌, ℕ, List, length, Ok, refl}
 use Rattle.std.specs.List.{AllByRecursion}
-use Rattle.brpc_model.specs.Complete.{IsUntroubled, FitsWhole}
+use Rattle.brpc_model.specs.Complete.{IsUntroubled, Completeness, FitsWhole}
+use Rattle.brpc_model.specs.Fits.{FitsRun}
 use Rattle.brpc_model.specs.Items.{Item}
 use Rattle.brpc_model.specs.Link.{LinkEnd}
 use Rattle.brpc_model.specs.Operations.{Turn, operations}
 use Rattle.brpc_model.specs.Report.{Report, report_text}
 use Rattle.brpc_model.specs.Script.{script_of}
 use Rattle.report_fits.specs.Ends.{AreEndsOf, AreTold}
+use Rattle.report_fits.proofs.Lives.{run_of, story_of}
 use Rattle.report_fits.proofs.Places.{lateness}
 use Rattle.report_fits.proofs.Reading.{InRange}
 use Rattle.report_fits.proofs.Sizes.{is_counted}
@@ -27,7 +29,7 @@ use Rattle.served_runs.specs.Offered.{OffersInRun}
 use Rattle.served_runs.proofs.Own.{id_small}
 use Rattle.served_runs.proofs.Served.{gives_replies, gives_last, gives_no_fault, gives_call_replies}
 use Rattle.served_calls.specs.Quiet.{AreShown, GivesFew, IsTimely}
-use Rattle.served_calls.proofs.Calm.{served_fits}
+use Rattle.served_calls.proofs.Calm.{all_given, served_run}
 
 module _ (bytes : List ℕ) (script : List Item) (reads : script_of bytes ≡ Ok script) (turns : List Turn) (core : Core) (is : IsRunWithCalls script turns core) (closes : ClosesInRun script turns core is) (offers : OffersInRun script turns core is) (fixed : Fixed) (orders : ℕ → Order)
     (long : length core.outcomes ≡ length (operations script)) (tells : ToldCalls (plan_of script) (all_tasks script) core.outcomes fixed (given core) orders core)
@@ -38,9 +40,16 @@ module _ (bytes : List ℕ) (script : List Item) (reads : script_of bytes ≡ Ok
   range : AllByRecursion InRange script
   range = (is_counted bytes script reads).in_range
 
-  pub offered_fits : (report : Report) (took : List (List ℕ)) (ends : List LinkEnd) (reports : Reports script core took report) (told : AreTold ends took) (given_back : AreEndsOf script core fixed (given core) ends)
-      → AreShown script turns core is fixed ends → (IsUntroubled script ends → GivesFew script turns core is) → (IsUntroubled script ends → IsTimely script turns core is fixed orders) → FitsWhole script (report_text script report) ends (lateness fixed)
-  offered_fits report took ends reports told given_back shown few timely = served_fits bytes script reads turns core is fixed orders long tells report took ends reports told given_back shown few timely
+  -- its report fits the script and the links, and where nothing went wrong it is complete
+  pub offered_run : (report : Report) (took : List (List ℕ)) (ends : List LinkEnd) (reports : Reports script core took report) (told : AreTold ends took) (given_back : AreEndsOf script core fixed (given core) ends)
+      → AreShown script turns core is fixed ends → (IsUntroubled script ends → GivesFew script turns core is) → (IsUntroubled script ends → IsTimely script turns core is fixed orders)
+      → FitsRun (run_of (all_given bytes script reads turns core is fixed orders long tells report took ends reports told given_back)) × Completeness (run_of (all_given bytes script reads turns core is fixed orders long tells report took ends reports told given_back))
+  offered_run report took ends reports told given_back shown few timely = served_run bytes script reads turns core is fixed orders long tells report took ends reports told given_back shown few timely
       (id_small script (made bytes script reads) there range turns core is closes) last_is
       (gives_replies script (made bytes script reads) there range turns core is closes offers) (gives_call_replies script (made bytes script reads) there range turns core is closes offers)
       (gives_no_fault script (made bytes script reads) there range turns core is closes offers) (gives_last script (made bytes script reads) there range turns core is closes offers)
+
+  pub offered_fits : (report : Report) (took : List (List ℕ)) (ends : List LinkEnd) (reports : Reports script core took report) (told : AreTold ends took) (given_back : AreEndsOf script core fixed (given core) ends)
+      → AreShown script turns core is fixed ends → (IsUntroubled script ends → GivesFew script turns core is) → (IsUntroubled script ends → IsTimely script turns core is fixed orders) → FitsWhole script (report_text script report) ends (lateness fixed)
+  offered_fits report took ends reports told given_back shown few timely =
+      (report, story_of (all_given bytes script reads turns core is fixed orders long tells report took ends reports told given_back), refl, offered_run report took ends reports told given_back shown few timely)

@@ -1,3 +1,4 @@
 pub mod Rests
-pub mod Whole
 pub mod Replies
+pub mod Whole
+pub mod Served

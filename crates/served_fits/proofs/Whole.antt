@@ -1,11 +1,13 @@
 -- The report of a run with calls fits, and where nothing went wrong and nothing came late it is complete. Nothing comes late where no `join` stands in the script, as where some link has no server.
 use Rattle.std.proofs.Common.{◌≡◌, ℕ, zero, ◌≤◌, length, ◌⊎◌, inl, inr, ⊎_elim, Bool, true, false, List, [], ◌∷◌, Ok, refl, subst}
 use Rattle.std.specs.Prelude.{IsTrue, Contains}
-use Rattle.brpc_model.specs.Complete.{IsUntroubled, FitsWhole}
+use Rattle.brpc_model.specs.Complete.{IsUntroubled, Completeness, FitsWhole}
+use Rattle.brpc_model.specs.Fits.{FitsRun}
 use Rattle.brpc_model.specs.Items.{Item, Shape, Open, Join}
 use Rattle.brpc_model.specs.Link.{LinkEnd}
 use Rattle.brpc_model.specs.Operations.{Turn}
 use Rattle.brpc_model.specs.Report.{Report, report_text}
+use Rattle.brpc_model.specs.Run.{Run}
 use Rattle.brpc_model.specs.Script.{script_of}
 use Rattle.report_fits.specs.Ends.{AreEndsOf, AreTold}
 use Rattle.report_fits.proofs.Lists.{Has, has_from, contains_from, has_later, has_cases, has_none}
@@ -23,9 +25,10 @@ use Rattle.call_causes.specs.Lists.{given}
 use Rattle.served_runs.specs.Offered.{OffersInRun}
 use Rattle.calm_runs.proofs.Nothing.{nothing_behind, nothing_late}
 use Rattle.served_calls.specs.Quiet.{AreShown, GivesFew, IsTimely}
-use Rattle.served_calls.proofs.Whole.{offered_fits}
+use Rattle.served_calls.proofs.Whole.{offered_run}
 use Rattle.served_sizes.proofs.Few.{few}
 use Rattle.served_fits.specs.Shown.{AreSo, IsInTime, NoneOpen}
+use Rattle.served_fits.proofs.Replies.{reported}
 use Rattle.served_fits.proofs.Rests.{clients_over}
 
 -- ## Joins
@@ -59,14 +62,24 @@ module _ (bytes : List ℕ) (script : List Item) (reads : script_of bytes ≡ Ok
   gives_few : IsUntroubled script ends → GivesFew script turns core is
   gives_few untroubled k s = few bytes script reads short turns core is closes offers fixed orders tells untroubled.few_attempts k s.0 s.1 s.2
 
+  -- the run that is reported
+  abbrev pub run : Run
+  run = reported bytes script reads turns core is closes offers fixed orders tells report took ends reports told given_back
+
   -- where nothing comes late in a run in which nothing went wrong
-  pub timely_fits : (IsUntroubled script ends → IsInTime script turns core is) → FitsWhole script (report_text script report) ends (lateness fixed)
-  timely_fits in_time = offered_fits bytes script reads turns core is closes offers fixed orders (ended_length bytes script reads turns core is) tells so.last report took ends reports told given_back shown gives_few
+  pub timely_run : (IsUntroubled script ends → IsInTime script turns core is) → FitsRun run × Completeness run
+  timely_run in_time = offered_run bytes script reads turns core is closes offers fixed orders (ended_length bytes script reads turns core is) tells so.last report took ends reports told given_back shown gives_few
       (λ untroubled. timely (in_time untroubled))
 
+  pub timely_fits : (IsUntroubled script ends → IsInTime script turns core is) → FitsWhole script (report_text script report) ends (lateness fixed)
+  timely_fits in_time = (report, run.story, refl, timely_run in_time)
+
   -- as where no `join` stands in the script
+  pub joinless_in_time : ((client number : ℕ) → Contains script (Join client number) → ⊥) → IsUntroubled script ends → IsInTime script turns core is
+  joinless_in_time none_ untroubled = nothing_late script (made bytes script reads) turns core is none_
+
   pub joinless_fits : ((client number : ℕ) → Contains script (Join client number) → ⊥) → FitsWhole script (report_text script report) ends (lateness fixed)
-  joinless_fits none_ = timely_fits (λ untroubled. nothing_late script (made bytes script reads) turns core is none_)
+  joinless_fits none_ = timely_fits (joinless_in_time none_)
 
   -- and so where some link has no server
   pub unserved_fits : (name : List ℕ) (shape : Shape) → Contains script (Open name shape) → shape.serve ≡ false → FitsWhole script (report_text script report) ends (lateness fixed)
@@ -76,10 +89,13 @@ module _ (bytes : List ℕ) (script : List Item) (reads : script_of bytes ≡ Ok
   abbrev pub CallsAreOver : Type 0
   CallsAreOver = (client number : ℕ) → Contains script (Join client number) → ((name : List ℕ) (shape : Shape) → Contains script (Open name shape) → IsTrue shape.serve) → IsUntroubled script ends → NoneOpen script turns core is
 
-  pub whole_fits : CallsAreOver → FitsWhole script (report_text script report) ends (lateness fixed)
-  whole_fits over = ⊎_elim
-      (λ none_. joinless_fits (λ client number joins. none_ client number (has_from script (Join client number) joins)))
-      (λ some_. timely_fits (λ untroubled. nothing_behind script (made bytes script reads) turns core is (clients_over script (made bytes script reads) turns core is
+  pub over_in_time : CallsAreOver → IsUntroubled script ends → IsInTime script turns core is
+  over_in_time over untroubled = ⊎_elim
+      (λ none_. joinless_in_time (λ client number joins. none_ client number (has_from script (Join client number) joins)) untroubled)
+      (λ some_. nothing_behind script (made bytes script reads) turns core is (clients_over script (made bytes script reads) turns core is
       (over some_.0 some_.1 (contains_from script (Join some_.0 some_.1) some_.2)
-      (λ name shape opened. served_or_not shape.serve (λ unserved. no_join bytes script reads name shape opened unserved some_.0 some_.1 (contains_from script (Join some_.0 some_.1) some_.2))) untroubled))))
+      (λ name shape opened. served_or_not shape.serve (λ unserved. no_join bytes script reads name shape opened unserved some_.0 some_.1 (contains_from script (Join some_.0 some_.1) some_.2))) untroubled)))
       (joins_or_not script)
+
+  pub whole_fits : CallsAreOver → FitsWhole script (report_text script report) ends (lateness fixed)
+  whole_fits over = timely_fits (over_in_time over)

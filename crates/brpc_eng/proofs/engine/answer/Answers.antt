@@ -1,5 +1,5 @@
 use Rattle.std.proofs.Common.{refl, sym}
-use Rattle.script_run.specs.Played.{TellClosed}
+use Rattle.script_run.specs.Played.{TellClosed, TellOffers}
 use Rattle.brpc_eng.specs.Answers as answer
 use Rattle.brpc_eng.specs.Status.{number_of}
 use Rattle.brpc_eng.proofs.Replays.{other_command, drawn_command, load_command, frames_command, simulated}
@@ -41,6 +41,7 @@ returns-in-Sim-clause-answers g c =
     let links : answer.Links = record {
       prompt = g.L.Linker.prompt c.args.links.now;
       tells = TellClosed g.L.I.In.state;
+      offering = TellOffers g.L.O.Out.state g.L.I.In.state;
       asked = g.L.Linker.asked c.replay-in-Sim.new.links;
       ends = g.L.Linker.back c.replay-in-Sim.new.links;
       faults = record { before = g.L.Linker.faults c.args.links.now; now = g.L.Linker.faults c.replay-in-Sim.new.links };

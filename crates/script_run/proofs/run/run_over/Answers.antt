@@ -23,3 +23,6 @@ run_on-requires-clause-tell g c κs within tell = c.in-Ok.ensures.tell (all_so (
 pub run_on-requires-clause-closed : goal.run_on-requires-clause-closed
 run_on-requires-clause-closed g c κs within tell =
     subst (AllByRecursion (λ (e : LinkEnd). e.closed ≢ None)) (sym c.in-Ok.ensures.ends) (all_mapped (λ e. end_of (g.L.O.Out.state e.out) (g.L.I.In.state e.inn)) (λ (e : LinkEnd). e.closed ≢ None) (λ e. (tell e.inn).1) c.args.ends.items)
+
+pub run_on-requires-clause-offers : goal.run_on-requires-clause-offers
+run_on-requires-clause-offers g c κs within tell k spec at = c.in-Ok.ensures.offers k spec.serve spec.end (c.requires.offers tell k spec at)

@@ -1,9 +1,10 @@
-use Rattle.std.proofs.Common.{◌≡◌, true, Err, ap, ◌∙◌, arith}
+use Rattle.std.proofs.Common.{◌≡◌, true, Err, List, map, ap, subst, ◌∙◌, arith}
 use Rattle.std.proofs.lemmas.Result.{IfOk-weaker}
 use Rattle.sock_io.specs.declared.link.OpenFault.TheVariants.{Failed}
 use Rattle.std.specs.List.{list_all}
-use Rattle.script_run.specs.Given.{has_piece}
-use Rattle.script_run.specs.Played.{IsPrinted, TellClosed, turns_of}
+use Rattle.sock_io.specs.declared.link.LinkSpec.{LinkSpec}
+use Rattle.script_run.specs.Given.{AreAsked, has_piece, specs_of}
+use Rattle.script_run.specs.Played.{IsPrinted, TellClosed, TellOffers, turns_of}
 use Rattle.script_run.proofs.Numbering.{numbered_of, links_of, few_links, pieces_of}
 use Rattle.script_run.proofs.Running.{ok_all}
 use Rattle.script_run.proofs.run.run_script.Goals as goal
@@ -23,6 +24,11 @@ run_over-requires-clause-few g c κs within =
     let most = c.in-Ok.ensures.most in
     let few = few_links c.requires.script.0 c.args.script.now c.lines.result.now c.requires.script.1 c.lines.ensures in omega (arith, most, few)
 
+pub run_over-requires-clause-offers : goal.run_over-requires-clause-offers
+run_over-requires-clause-offers g c κs within tell =
+    subst (λ (specs : List LinkSpec). AreAsked specs (map (λ e. g.L.O.Out.state e.out) c.open_links-opened.new.ends.items) (map (λ e. g.L.I.In.state e.inn) c.open_links-opened.new.ends.items))
+    (c.in-Ok.ensures.asked ∙ ap specs_of c.lines.ensures) (c.in-Ok.ensures.offers tell)
+
 pub give_back-requires-clause-numbered : goal.give_back-requires-clause-numbered
 give_back-requires-clause-numbered g c κs within = numbered_of 0 _ c.in-Err.ensures.fresh
 
@@ -40,5 +46,5 @@ returns-in-Err-clause-kept g c known =
     c.give_back.ensures.faults ∙ c.in-Err.ensures.kept (λ e. let is : c.in-Err.fault ≡ Failed = cc in known (ap (λ x. Err x) (c.not_opened.ensures.kept is)))
 
 pub returns-in-Ok-clause-text : goal.returns-in-Ok-clause-text
-returns-in-Ok-clause-text g c = IfOk-weaker c.run_over.result _ (λ text. g.L.Linker.prompt c.args.links.now ≡ true → TellClosed g.L.I.In.state → IsPrinted c.args.print c.args.script.now (turns_of c.args.script.now c.args.schedule) text.items (g.L.Linker.back c.run_over.new.links))
+returns-in-Ok-clause-text g c = IfOk-weaker c.run_over.result _ (λ text. g.L.Linker.prompt c.args.links.now ≡ true → TellClosed g.L.I.In.state → IsPrinted (TellOffers g.L.O.Out.state g.L.I.In.state) c.args.print c.args.script.now (turns_of c.args.script.now c.args.schedule) text.items (g.L.Linker.back c.run_over.new.links))
     (λ text h prompt tell. h (c.in-Ok.ensures.prompt ∙ prompt) tell) c.run_over.ensures.text
