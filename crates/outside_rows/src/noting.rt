@@ -1,4 +1,7 @@
-ghost use Rattle.std.specs.Prelude.{◌≡◌};
+ghost use Rattle.std.specs.Prelude.{◌≡◌, ◌≢◌, ◌<◌, ◌++◌, ◌∷◌, [], length};
+ghost use Rattle.std.specs.List.{AllByRecursion};
+ghost use Rattle.brpc_model.specs.Link.{LinkEnd};
+ghost use Rattle.sock_io.specs.Link.{end_of};
 
 use sock_io::{Ends, LinkSpec, Linker, NoMemory, OpenFault, Out};
 use std::alloc::Global;
@@ -60,7 +63,18 @@ impl<L: Linker + Drop> Linker for Noting<L> {
         self.inner.done(out, inn);
     }
 
-    fn back(&mut self, link: u16, ends: Ends<L::O, L::I, L::P>) {
+    fn back(&mut self, link: u16, ends: Ends<L::O, L::I, L::P>)
+        requires opened { link < length (L.asked self.old.inner) }
+        requires own { (L.O.state ends.out).link ≡ link }
+        requires once { AllByRecursion (λ (e : LinkEnd). e.link ≢ link) (L.back self.old.inner) }
+        requires fewer { length (L.back self.old.inner) < length (L.asked self.old.inner) }
+        ensures back { L.back self.new.inner ≡ L.back self.old.inner ++ end_of (L.O.state ends.out) (L.I.state ends.inn) ∷ [] }
+        ensures done { L.done self.new.inner ≡ L.done self.old.inner }
+        ensures asked { L.asked self.new.inner ≡ L.asked self.old.inner }
+        ensures accepted { L.accepted self.new.inner ≡ L.accepted self.old.inner }
+        ensures stays_prompt { L.prompt self.new.inner ≡ L.prompt self.old.inner }
+        ensures faults { L.faults self.new.inner ≡ L.faults self.old.inner }
+    {
         let _ = self.noted.push((link, ends.out.taken().len()));
         self.inner.back(link, ends);
     }
