@@ -1,0 +1,9 @@
+pub mod Linked
+pub mod Asking
+pub mod Telling
+pub mod Outcomes
+pub mod Threading
+pub mod Ran
+pub mod Backs
+pub mod Whole
+pub mod Moving
