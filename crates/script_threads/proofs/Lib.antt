@@ -1,5 +1,5 @@
 pub mod Linked
-pub mod Asking
+pub mod MayAsk
 pub mod Telling
 pub mod Outcomes
 pub mod Threading
@@ -7,3 +7,4 @@ pub mod Ran
 pub mod Backs
 pub mod Whole
 pub mod Moving
+pub mod Giving

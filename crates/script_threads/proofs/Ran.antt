@@ -32,7 +32,7 @@ use Rattle.thread_run.specs.Threads.{is_opened, opened_in, name_if, opened_names
 use Rattle.thread_run.specs.Threads.{Thread as Run, AreThreads}
 use Rattle.script_threads.specs.Asked.{EachAsked}
 use Rattle.script_threads.specs.Saying.{said_by_each}
-use Rattle.script_threads.proofs.Asking.{opens_are}
+use Rattle.script_threads.proofs.MayAsk.{opens_are}
 use Rattle.script_threads.proofs.Linked.{AreLinked}
 use Rattle.script_threads.proofs.Outcomes.{told_of, own_task, one_client, are_outcomes, IsOwn}
 use Rattle.script_threads.proofs.Telling.{nothing_told}

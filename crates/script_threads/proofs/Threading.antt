@@ -18,7 +18,7 @@ use Rattle.table_told.specs.Threads.{Thread, FoundEach, IsThread, Threaded, AreA
 use Rattle.thread_run.specs.Threads.{LinksDown, AreThreads}
 use Rattle.thread_run.specs.Threads.{Thread as Run, FoundEach as WaitedEach, IsThread as HasRun}
 use Rattle.script_threads.specs.Asked.{EachAsked}
-use Rattle.script_threads.proofs.Asking.{opens_are}
+use Rattle.script_threads.proofs.MayAsk.{opens_are}
 use Rattle.script_threads.proofs.Linked.{AreLinked, range-snoc}
 use Rattle.script_threads.proofs.Outcomes.{told_of}
 

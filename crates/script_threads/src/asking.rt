@@ -1,5 +1,5 @@
 // What each client of a script is asked for, as operations of threads.
-ghost use Rattle.std.specs.Prelude.{◌≡◌, ◌≤◌, ◌<◌, List, map, length, IfOk};
+ghost use Rattle.std.specs.Prelude.{◌≡◌, ℕ, List, Ok, true, map, length, IfOk};
 ghost use Rattle.std.specs.List.{AllByRecursion};
 ghost use Rattle.sock_programs.specs.Scripts.{all_tasks, is_callless};
 ghost use Rattle.brpc_model.specs.Script.{script_of};
@@ -99,7 +99,7 @@ fn all_operations(
 
 /// What is asked of the setup and of each client of a script.
 pub fn asked_by(alloc: Global, script: &Script) -> Result<Vec<Vec<Operation>>, NoMemory>
-    requires script { (bytes : List _) × (script_of bytes ≡ Ok script.now) }
+    requires script { (bytes : List ℕ) × (script_of bytes ≡ Ok script.now) }
     requires callless { is_callless script.now ≡ true }
     ensures { IfOk result (λ all. EachAsked (all_tasks script.now) (map (λ operations. operations.items) all.items)) }
 {

@@ -157,3 +157,7 @@ module _ (bytes : List ℕ) (script : List Item) (reads : script_of bytes ≡ Ok
     even = k.even;
     low = k.first;
   }
+
+-- the setup is always there
+pub some_asked : (script : List Item) (oss : List (List Operation)) → EachAsked (all_tasks script) oss → 0 < length oss
+some_asked script oss a = omega (arith, each_long (all_tasks script) oss a, tasks_length script 0 (clients script + 1))
