@@ -10,6 +10,7 @@ use Rattle.sock_model.specs.declared.view.View.{View}
 use Rattle.sock_model.specs.Weights.{is_linked, is_freer}
 use Rattle.sock_model.specs.SlotRows.{marks_of}
 use Rattle.sock_model.specs.Layout.{ref_word, place_word}
+use Rattle.sock_rule.specs.Faults.{faults_of}
 use Rattle.sock_rule.specs.Seated.{IsSeat, IsDone}
 use Rattle.sock_rule.specs.Closing.{IsAtRest, Closing, Ordered, PlaceOf, IsDropTold, LinkTook}
 use Rattle.std.specs.Prelude.{slice_index}
@@ -55,6 +56,8 @@ pub record OutBack {O : Type 0} (state : O → OutState) (p : Plan) (v : View) (
   pub took : List ℕ
   pub tells : ForSome (state out).took (λ bytes. bytes ≡ took)
   pub took_is : LinkTook p v log words k took
+  -- it has faults where a seat noted one of its link
+  pub faulted : 0 < faults_of k v → 0 < (state out).faults
   -- it isn't finished where the life that it was given hasn't ended
   pub unfinished : (i h : ℕ) → i < p.slots → 0 < marks_of (is_linked h k) i v → marks_of (is_freer h) i v ≡ 0 → (state out).finished ≡ false
 
