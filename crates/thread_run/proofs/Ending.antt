@@ -1,5 +1,5 @@
 -- A run over a table, from those that are to run to what is left.
-use Rattle.std.proofs.Common.{◌≡◌, ℕ, zero, suc, ◌+◌, ◌<◌, ◌≤◌, Bool, false, ◌||◌, List, [], ◌∷◌, ◌++◌, map, length, get_or, refl, sym, ap, ◌∙◌, subst, arith}
+use Rattle.std.proofs.Common.{◌≡◌, ℕ, zero, suc, ◌<◌, ◌||◌, List, [], ◌∷◌, ◌++◌, map, length, get_or, refl, sym, ap, ◌∙◌, subst, arith}
 use Rattle.std.proofs.lemmas.List.{length-map}
 use Rattle.std.specs.List.{list_any}
 use Rattle.atomic_table.specs.declared.shared.Seat.{Seat}
@@ -12,49 +12,19 @@ use Rattle.atomic_table.specs.Seated.{TableId}
 use Rattle.sock_io.specs.declared.link.Out.{Ghosts}
 use Rattle.sock_io.specs.Link.{OutState}
 use Rattle.sock_words.specs.declared.plain.Plan.{Plan}
-use Rattle.sock_words.specs.declared.place_word.PlaceWord.{PlaceWord}
-use Rattle.sock_words.specs.declared.vref.Vref.{Vref}
-use Rattle.sock_table.specs.Closed.{AllDone, ClosedBy}
+use Rattle.sock_table.specs.Closed.{AllDone}
 use Rattle.sock_open.specs.Opening.{AreFresh}
 use Rattle.rpc_client.specs.declared.acting.Operation.{Operation}
-use Rattle.thread_run.specs.declared.hiring.Room.{Room}
 use Rattle.thread_run.specs.declared.worker.Worker.{Worker}
-use Rattle.thread_run.specs.declared.running.Cast.{Cast}
 use Rattle.thread_run.specs.declared.running.Crew.{Crew}
 use Rattle.thread_run.specs.declared.running.Left.{Left}
-use Rattle.thread_run.specs.Threads.{opens_of, opened_names, AreThreads, MayRunAll, RanOn}
+use Rattle.thread_run.specs.Threads.{opens_of, opened_names, AreThreads}
 use Rattle.thread_run.specs.Working.{HasWorked}
-use Rattle.thread_run.specs.Crew.{IsCast, IsCrew, CrewRan, AreBack}
+use Rattle.thread_run.specs.Crew.{IsCrew, CrewRan, AreBack}
 use Rattle.thread_run.proofs.Weaving.{none_short, thread_of, one_thread, one_share, Woven, weave}
 
-module _ {O : Type 0} {g : Ghosts O} where
-  abbrev pub asked_of : List (Room O g) → List (List Operation)
-  asked_of rooms = map (λ (r : Room O g). r.operations.items) rooms
-
-  abbrev pub made_by : List (Worker O g) → List (List Operation)
-  made_by workers = map (λ (w : Worker O g). w.operations.items) workers
-
-  pub cast_own : (a : List Operation) (b : List (List Operation)) (c : Cast O g) → IsCast a b c → IsCast c.main.operations.items (asked_of c.rooms.items) c
-  cast_own a b c h = subst (λ s. IsCast s (asked_of c.rooms.items) c) (sym h.main_is) (subst (λ l. IsCast a l c) (sym h.operations) h)
-
-  pub may_own : (p q : Plan) (a : List Operation) (b : List (List Operation)) (c : Cast O g) → IsCast a b c → q ≡ p → MayRunAll p a b → MayRunAll q c.main.operations.items (asked_of c.rooms.items)
-  may_own p q a b c h e m = subst (λ y. MayRunAll y c.main.operations.items (asked_of c.rooms.items)) (sym e) (subst (λ s. MayRunAll p s (asked_of c.rooms.items)) (sym h.main_is) (subst (λ l. MayRunAll p a l) (sym h.operations) m))
-
-  pub few_rooms : (p : Plan) (a : List Operation) (b : List (List Operation)) (c : Cast O g) → IsCast a b c → p.seats ≤ 64 → MayRunAll p a b → length c.rooms.items ≤ 63
-  few_rooms p a b c h few m = omega (arith, few, m.seats, ap length h.operations, length-map c.rooms.items (λ (r : Room O g). r.operations.items))
-
-  pub crew_own : (z : TableId) (p : Plan) (a : List Operation) (b : List (List Operation)) (c : Crew O g) → IsCrew z p a b c → IsCrew z p c.main.operations.items (made_by c.workers.items) c
-  crew_own z p a b c h = subst (λ s. IsCrew z p s (made_by c.workers.items) c) (sym h.main_is) (subst (λ l. IsCrew z p a l c) (sym h.operations) h)
-
-  pub ran_as : (state : O → OutState) (z : TableId) (p : Plan) (s a : List Operation) (l b : List (List Operation)) (x : Left O g) → s ≡ a → l ≡ b → CrewRan state z p s l x → CrewRan state z p a b x
-  ran_as state z p s a l b x e f h = subst (λ y. CrewRan state z p y b x) e (subst (λ y. CrewRan state z p s y x) f h)
-
-  -- the table was closed behind them
-  pub ran_on : (state : O → OutState) (z : TableId) (p q : Plan) (a : List Operation) (b : List (List Operation)) (x : Left O g) (places : List PlaceWord) (vrefs : List Vref) (outs : List O) → q ≡ p → CrewRan state z q a b x → x.short ≡ false → ClosedBy state q x.seats.items places vrefs outs → RanOn g state p a b (map (λ v. v.items) x.told.items) places vrefs outs
-  ran_on state z p q a b x places vrefs outs e h calm closed = subst (λ y. RanOn g state y a b (map (λ v. v.items) x.told.items) places vrefs outs) e record { seats = x.seats.items; ran = h.ran calm; closed = closed }
-
-pub few_clients : {A B : Type 0} (f : A → B) (xs : List A) (n : ℕ) → length (map f xs) + 1 ≡ n → n ≤ 64 → length xs ≤ 63
-few_clients f xs n e few = omega (arith, length-map xs f, e, few)
+abbrev pub made_by : {O : Type 0} {g : Ghosts O} → List (Worker O g) → List (List Operation)
+made_by {O} {g} workers = map (λ (w : Worker O g). w.operations.items) workers
 
 -- one, and then those of a list
 pub one_and : {A B : Type 0} (f : A → B) (s0 s1 s2 : List B) (x : B) (whole xs : List A) → s0 ≡ [] → s1 ≡ s0 ++ x ∷ [] → s2 ≡ s1 ++ map f whole → whole ≡ xs → s2 ≡ x ∷ map f xs

@@ -1,7 +1,6 @@
 -- Waiting for the sockets of names.
-use Rattle.std.proofs.Common.{◌≡◌, ℕ, suc, ◌+◌, ◌<◌, ◌≤◌, List, [], ◌∷◌, ◌++◌, Some, None, length, take, get_or, refl, sym, ap, ◌∙◌, subst, arith}
+use Rattle.std.proofs.Common.{◌≡◌, ℕ, ◌+◌, ◌<◌, List, [], ◌∷◌, ◌++◌, Some, length, take, get_or, refl, sym, ap, ◌∙◌, subst, arith}
 use Rattle.atomic_table.specs.Seated.{TableId}
-use Rattle.atomic_table.specs.declared.shared.Seat.{Seat}
 use Rattle.sock_words.specs.declared.plain.Plan.{Plan}
 use Rattle.sock_words.specs.declared.socket_id.SocketId.{SocketId}
 use Rattle.sock_model.specs.declared.view.View.{View}
@@ -9,7 +8,7 @@ use Rattle.sock_table.specs.Named.{Found}
 use Rattle.sock_io.specs.declared.link.Out.{Ghosts}
 use Rattle.rpc_client.specs.declared.acting.Client.{Client}
 use Rattle.rpc_client.specs.Seats.{SameRefs, AtRest}
-use Rattle.rpc_client.specs.Acting.{MayGo, OwnList}
+use Rattle.rpc_client.specs.Acting.{MayGo}
 use Rattle.rpc_client.proofs.Counting.{refs_then, refs_none, finds_refs, holder_same}
 use Rattle.std.specs.Prelude.{All, Bool, false, IfOk, IfErr}
 use Rattle.std.specs.Result.{is_err}

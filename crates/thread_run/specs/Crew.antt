@@ -12,7 +12,6 @@ use Rattle.sock_model.specs.Weights.{total}
 use Rattle.sock_table.specs.Closed.{AllDone}
 use Rattle.sock_open.specs.Opening.{IsRoom}
 use Rattle.rpc_client.specs.declared.acting.Operation.{Operation}
-use Rattle.rpc_client.specs.declared.acting.Told.{Told}
 use Rattle.thread_run.specs.declared.hiring.Room.{Room}
 use Rattle.thread_run.specs.declared.worker.Worker.{Worker}
 use Rattle.thread_run.specs.declared.running.Cast.{Cast}

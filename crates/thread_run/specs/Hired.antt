@@ -10,7 +10,6 @@ use Rattle.sock_rule.specs.declared.homes.SockHome.{SockHome}
 use Rattle.atomic_table.specs.declared.shared.Seat.{Seat}
 use Rattle.sock_open.specs.Made.{IsNewSeat, AreNewSeats}
 use Rattle.sock_open.specs.Opening.{IsRoom}
-use Rattle.rpc_client.specs.declared.acting.Operation.{Operation}
 use Rattle.thread_run.specs.Threads.{opens_of, LinksDown}
 use Rattle.thread_run.specs.declared.hiring.Room.{Room}
 use Rattle.thread_run.specs.declared.worker.Worker.{Worker}

@@ -1,4 +1,4 @@
-use Rattle.std.proofs.Common.{◌++◌, ◌∷◌, [], ◌-◌, ◌∙◌, ap, sym, subst, length, length-append, arith}
+use Rattle.std.proofs.Common.{◌∷◌, [], ◌-◌, ◌∙◌, ap, sym, subst, length, length-append, arith}
 use Rattle.thread_run.proofs.Dealing.{AreHiring, one_hired}
 use Rattle.thread_run.proofs.hiring.hire_all.Goals as goal
 

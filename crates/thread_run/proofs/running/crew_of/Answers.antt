@@ -1,4 +1,4 @@
-use Rattle.std.proofs.Common.{◌+◌, ap, sym, subst, ◌∙◌, length}
+use Rattle.std.proofs.Common.{ap, sym, subst, ◌∙◌}
 use Rattle.std.proofs.lemmas.List.{length-map}
 use Rattle.std.proofs.lemmas.List.Sorted.{All-permutation}
 use Rattle.sock_table.specs.Passes.{IsPass}

@@ -1,4 +1,4 @@
-use Rattle.std.proofs.Common.{ap, length, arith, ◌∙◌}
+use Rattle.std.proofs.Common.{ap, arith, ◌∙◌}
 use Rattle.std.proofs.lemmas.List.{length-map}
 use Rattle.thread_run.proofs.running.prepare.Goals as goal
 

@@ -1,6 +1,4 @@
 use Rattle.std.proofs.Common.{Some, refl, ◌∙◌, subst, ap}
-use Rattle.atomic_table.specs.Table.{Me}
-use Rattle.sock_model.specs.declared.view.View.{View}
 use Rattle.sock_table.specs.Named.{Found}
 use Rattle.rpc_client.proofs.Finding.{rest_same}
 use Rattle.thread_run.proofs.waiting.wait_for.Goals as goal
