@@ -1,5 +1,5 @@
 -- A link of which a seat noted a fault comes back with a count of faults that isn't 0.
-use Rattle.std.proofs.Common.{◌≡◌, ℕ, zero, suc, ◌+◌, ◌<◌, ◌≤◌, List, [], ◌∷◌, flat_map, slice_get, Option, Some, None, Contains, refl, sym, ap, ◌∙◌, subst, arith}
+use Rattle.std.proofs.Common.{◌≡◌, ℕ, zero, suc, ◌<◌, List, [], ◌∷◌, flat_map, slice_get, Option, Some, None, Contains, refl, sym, ap, arith}
 use Rattle.std.proofs.lemmas.Option.{none-some, same_Some}
 use mathlib.Core.Option.{some, some-injective, some-ne-none}
 use lib.ListN.{get_elem?}
@@ -28,7 +28,7 @@ use Rattle.rpc_client.specs.Acting.{Stand, Acted}
 use Rattle.table_told.specs.Broken.{noted_links, faults_by, faults_of}
 use Rattle.table_told.specs.Moments.{moments_of}
 use Rattle.table_told.specs.Threads.{Threaded, ThreadRun}
-use Rattle.table_told.proofs.Acts.{Act, All, after, has_marks}
+use Rattle.table_told.proofs.Acts.{Act, All, has_marks}
 use Rattle.table_told.proofs.Failing.{broken}
 use Rattle.table_told.proofs.Flats.{flat_from}
 use Rattle.table_told.proofs.Growing.{returned_grew}

@@ -1,5 +1,5 @@
 -- A seat that sends messages, one after another: what it has between two of them, and while one is written.
-use Rattle.std.proofs.Common.{◌≡◌, ◌≢◌, ℕ, Bool, zero, suc, ◌+◌, ◌*◌, ◌<◌, ◌≤◌, List, [], ◌∷◌, ◌++◌, length, length-append, false, refl, sym, ap, ◌∙◌, subst, arith}
+use Rattle.std.proofs.Common.{◌≡◌, ℕ, Bool, zero, suc, ◌+◌, ◌*◌, ◌<◌, List, [], ◌∷◌, false, refl, sym, ap, ◌∙◌, subst, arith}
 use Rattle.std.specs.Option.{ForSome}
 use mathlib.Core.Logic.{dite}
 use mathlib.Core.Option.{some, some-injective, some-ne-none}
@@ -11,31 +11,26 @@ use Rattle.atomic_table.specs.declared.shared.Seat.{Seat}
 use Rattle.sock_io.specs.Link.{OutState}
 use Rattle.sock_words.specs.declared.plain.Plan.{Plan}
 use Rattle.sock_words.specs.Words.{socket_id_version, socket_id_slot}
-use Rattle.sock_model.specs.declared.chain.Entry.{Entry}
 use Rattle.sock_model.specs.declared.chain.Heading.{Heading}
 use Rattle.sock_model.specs.declared.marks.Mark.{Mark}
 use Rattle.sock_model.specs.declared.marks.Mark.TheVariants.{Hold, Saw}
 use Rattle.sock_model.specs.declared.view.View.{View}
-use Rattle.sock_model.specs.ChainRows.{more}
-use Rattle.sock_model.specs.Marks.{about}
-use Rattle.sock_model.specs.Rule.{MOST_ACCEPTED}
 use Rattle.sock_model.specs.SlotRows.{marks_of}
 use Rattle.sock_model.specs.Weights.{total, only, is_ref, is_hold, is_known}
 use Rattle.slot_laws.proofs.Numbers.{only-at, only-else, only-same}
 use Rattle.sock_rule.specs.Becoming.{Became}
 use Rattle.sock_rule.specs.Seated.{IsSeat}
-use Rattle.sock_rule.proofs.Becoming.{then_}
 use Rattle.sock_table.specs.Answers.{Holds, Held, GoneFrom}
 use Rattle.sock_table.specs.Closed.{AllDone, IsDoneSeat}
-use Rattle.sock_table.specs.Refs.{IsBetween, GaveBack, SameTokens, Knows, MayAddress}
+use Rattle.sock_table.specs.Refs.{IsBetween, GaveBack, SameTokens, Knows}
 use Rattle.sock_table.proofs.Quiet.{saw_between}
-use Rattle.sock_open.proofs.Testing.{done_between, kept_done, ended_refs, gone_same, known_by}
+use Rattle.sock_open.proofs.Testing.{kept_done, ended_refs, gone_same, known_by}
 use Rattle.sock_open.specs.Made.{IsNewSeat}
 use Rattle.sock_open.specs.Opening.{AreFresh}
 use Rattle.sock_open.proofs.Making.{new_view, new_done}
 use Rattle.sock_open.proofs.Racing.{stored_done, stored_known}
 use Rattle.sock_rule.specs.Rows.{PutAt}
-use Rattle.write_chain.specs.Noting.{Noted, Wrote, WroteDrop}
+use Rattle.write_chain.specs.Noting.{Wrote, WroteDrop}
 use Rattle.write_chain.specs.Sending.{HasRoom, Accepted, StartedBy, RefusedBy}
 use Rattle.write_chain.specs.Writing.{GaveUp}
 use Rattle.write_chain.specs.Ready.{IsSpent, IsFree, IsReady, HoldsOne, sock_of, refused_of}
