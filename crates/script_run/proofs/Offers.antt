@@ -1,7 +1,6 @@
 -- Links that are opened one after another are offered what belongs to them, as their lines ask.
 use Rattle.std.proofs.Common.{◌≡◌, ◌≢◌, ℕ, zero, suc, Bool, List, [], ◌∷◌, ◌++◌, length, map, slice_get, Option, Some, None, IfSome, ap, sym, subst, refl, ◌∙◌, arith}
 use Rattle.std.proofs.lemmas.List.{length-map}
-use mathlib.Core.Option as core
 use lib.ListN.{get_elem?}
 use Rattle.brpc_model.specs.Items.{Item, Shape, Open}
 use Rattle.brpc_model.specs.Operations.{link_names, link_shapes}
