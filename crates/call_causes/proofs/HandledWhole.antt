@@ -97,7 +97,7 @@ module _ (script : List Item) (made : AreMade script) (there : AreThere script) 
       (runs.set_up_leads script made (given core) (are_numbered script made there range (given core)) (have_slots script made there range (given core)) (begins script made there range (given core)) turns core is leads)
       (let t = runs.first_tale script made (given core) (are_numbered script made there range (given core)) (have_slots script made there range (given core)) (begins script made there range (given core)) turns core is leads in t.0)
 
-  pub known_clients : AreKnown (plan_of script) (id_plan_of script) (set_up script is.setup) in_clients
+  known_clients : AreKnown (plan_of script) (id_plan_of script) (set_up script is.setup) in_clients
   known_clients = let s = runs.sound_run script made (given core) (are_numbered script made there range (given core)) (have_slots script made there range (given core)) (begins script made there range (given core)) turns core is leads in
       played_known (plan_of script) (id_plan_of script) (all_tasks script) (given core) (are_numbered script made there range (given core)) (have_slots script made there range (given core)) (runs.small script made (given core) (are_numbered script made there range (given core)) (have_slots script made there range (given core)) (begins script made there range (given core)) turns core is leads)
       (is.scheduled ++ is.later) (runs.posts_in_setup script made (given core) (are_numbered script made there range (given core)) (have_slots script made there range (given core)) (begins script made there range (given core)) turns core is leads)
@@ -164,7 +164,7 @@ module _ (script : List Item) (made : AreMade script) (there : AreThere script) 
 
     -- ## Its reader
 
-    pub many : length (calls script) ≡ (id_plan_of script).slots
+    many : length (calls script) ≡ (id_plan_of script).slots
     many = made.slots
 
     abbrev Reading : List (ℕ × ℕ) → Core → Type 0
@@ -177,10 +177,10 @@ module _ (script : List Item) (made : AreMade script) (there : AreThere script) 
         (let l = length-map (all_tasks script) (client_from (sizes_of (plan_of script) (id_plan_of script)) []) in let f = made.few_clients in omega (arith, l, f)) k o at seat at_seat))
         (empty_at (plan_of script).links k)
 
-    pub reads_on : (soon : List (ℕ × ℕ)) (c : Core) (ms : List Moment) → AreKnown (plan_of script) (id_plan_of script) c ms → Reading soon c → Reading (soon ++ shows_in (soon_at (plan_of script)) (plan_of script) c ms) (run (plan_of script) c ms)
+    reads_on : (soon : List (ℕ × ℕ)) (c : Core) (ms : List Moment) → AreKnown (plan_of script) (id_plan_of script) c ms → Reading soon c → Reading (soon ++ shows_in (soon_at (plan_of script)) (plan_of script) c ms) (run (plan_of script) c ms)
     reads_on soon c ms known h = reads_along (plan_of script) (id_plan_of script) k (calls script) o many ms soon c known h
 
-    pub reads_set_up : Reading soon_setup (set_up script is.setup)
+    reads_set_up : Reading soon_setup (set_up script is.setup)
     reads_set_up = reads_on [] (opened script) in_setup known_setup reads_first
 
     reads_closing : Reading (soon_setup ++ soon_clients) closing

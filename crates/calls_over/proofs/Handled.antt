@@ -83,7 +83,7 @@ module _ (script : List Item) (made : AreMade script) (there : AreThere script) 
   -- ## A reader
 
   module _ (k o : ℕ) (at : get_elem? (opens script) k ≡ some o) where
-    many : length (calls script) ≡ (id_plan_of script).slots
+    pub many : length (calls script) ≡ (id_plan_of script).slots
     many = made.slots
 
     abbrev Reading_ : List (ℕ × ℕ) → Core → Type 0
@@ -97,7 +97,7 @@ module _ (script : List Item) (made : AreMade script) (there : AreThere script) 
         (empty_at (plan_of script).links k)
 
     -- what it has handled where the ending begins
-    reads_before : Reading_ (soon_setup ++ soon_clients) (played script is.setup (is.scheduled ++ is.later))
+    pub reads_before : Reading_ (soon_setup ++ soon_clients) (played script is.setup (is.scheduled ++ is.later))
     reads_before = reads_along (plan_of script) (id_plan_of script) k (calls script) o many in_clients soon_setup (set_up script is.setup) known_clients
         (reads_along (plan_of script) (id_plan_of script) k (calls script) o many in_setup [] (opened script) known_setup reads_first)
 

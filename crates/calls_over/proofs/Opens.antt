@@ -1,52 +1,38 @@
 -- Each id that is open as the ending begins, in a run in which nothing went wrong, is that of a call whose request the link of its attempt took, which has the server and whose reader waits for bytes.
-use Rattle.std.proofs.Common.{◌≡◌, ◌≢◌, ℕ, zero, suc, ◌+◌, ◌-◌, ◌*◌, ◌<◌, ◌≤◌, ◌⊎◌, inl, inr, ⊎_elim, Bool, true, false, eqb, eqb-true, List, [], ◌∷◌, ◌++◌, length, flat_map, replicate, slice_get, Some, None, Ok, append-nil, refl, sym, ap, ◌∙◌, subst, arith}
+use Rattle.std.proofs.Common.{◌≡◌, ◌≢◌, ℕ, ◌+◌, ◌<◌, ◌≤◌, ⊎_elim, List, ◌++◌, length, replicate, slice_get, Some, Ok, refl, sym, ap, ◌∙◌, subst, arith}
 use Rattle.std.specs.List.{AllByRecursion}
 use Rattle.std.specs.Prelude.{IsTrue, Contains}
-use mathlib.Core.Option.{some, some-injective}
-use lib.ListN.{get_elem?}
-use Rattle.chain_laws.proofs.Lists.{filter_in}
-use Rattle.sock_words.specs.declared.outcome.Outcome.{Outcome}
 use Rattle.sock_words.specs.declared.plain.Plan.{Plan}
 use Rattle.sock_words.specs.Words.{at_word, at_word_first, at_word_slot, at_word_link, at_word_attempt}
-use Rattle.sock_model.specs.declared.chain.Entry.{Entry}
-use Rattle.sock_model.specs.declared.view.View.{View}
-use Rattle.sock_model.specs.Entries.{on}
-use Rattle.sock_model.specs.Links.{Given, Failed}
 use Rattle.brpc_model.specs.Complete.{IsUntroubled}
-use Rattle.brpc_model.specs.Frame.{Frame, IsFrame}
-use Rattle.brpc_model.specs.Items.{Item, Shape, Open, Call, CallLine, attempts_of}
+use Rattle.brpc_model.specs.Items.{Item, Shape, Open, attempts_of}
 use Rattle.brpc_model.specs.Link.{LinkEnd}
-use Rattle.brpc_model.specs.Operations.{Operation, Turn, link_names, operations}
+use Rattle.brpc_model.specs.Operations.{Operation, Turn, operations}
 use Rattle.brpc_model.specs.Places.{names}
 use Rattle.brpc_model.specs.Report.{Report}
 use Rattle.brpc_model.specs.Script.{script_of}
 use Rattle.brpc_model.specs.Stream.{stream}
 use Rattle.corr_core.specs.Word.{Parts}
-use Rattle.corr_core.specs.Law.{Local, SlotLaw}
 use Rattle.corr_core.specs.declared.marks.Plan.{Plan as IdPlan}
 use Rattle.id_rule.specs.Lawful.{local}
 use Rattle.id_runs.specs.Held.{id_state}
 use Rattle.report_fits.specs.Ends.{AreEndsOf, AreTold}
-use Rattle.report_fits.proofs.Lists.{Has, all_at, all_from, filter_has}
+use Rattle.report_fits.proofs.Lists.{Has}
 use Rattle.report_fits.proofs.Reading.{InRange}
 use Rattle.report_fits.proofs.Sizes.{is_counted}
 use Rattle.report_fits.proofs.Targets.{AreThere, are_there}
 use Rattle.report_fits.proofs.TaskLemmas.{numbers_at, task_is, call_asks}
-use Rattle.sock_message.specs.Asked.{Asked, request_of, frame_of}
-use Rattle.sock_programs.specs.declared.task.Op.TheVariants as ops
-use Rattle.sock_programs.specs.declared.task.Task.{Task}
+use Rattle.sock_message.specs.Asked.{Asked, request_of}
 use Rattle.sock_programs.specs.Asides.{id_slot, id_first, call_id}
 use Rattle.sock_programs.specs.Cores.{Core}
 use Rattle.sock_programs.specs.Scripts.{Reports, all_tasks, opened, set_up, played, IsRunWithCalls}
-use Rattle.sock_programs.specs.Tasks.{opens, calls, numbered, asked_of, plan_of, id_plan_of}
+use Rattle.sock_programs.specs.Tasks.{opens, numbered, plan_of, id_plan_of}
 use Rattle.sock_programs.specs.Ticks.{quiet}
-use Rattle.sock_programs.specs.Told.{IsTask, Became}
-use Rattle.sock_programs.specs.ToldCalls.{Accepted, Order, Fixed, ToldCalls, IsSent, OfSend, OfCall}
-use Rattle.sock_runs.specs.Sound.{state}
+use Rattle.sock_programs.specs.Told.{IsTask}
+use Rattle.sock_programs.specs.ToldCalls.{Order, Fixed, ToldCalls}
 use Rattle.sock_runs.proofs.Along.{place_inside}
 use Rattle.sock_runs.proofs.Whole.{closing_of, views_played}
 use Rattle.sock_causes.specs.Facts.{broken_of_run}
-use Rattle.sock_causes.proofs.Delivered.{accepted_of}
 use Rattle.sock_causes.proofs.Members.{in_contains}
 use Rattle.client_laws.specs.Openings.{all_seats}
 use Rattle.client_laws.proofs.Fresh.{opening_fresh}
@@ -54,27 +40,21 @@ use Rattle.joint_runs.proofs.Runs.{AreMade, first_views}
 use Rattle.owed_calls.specs.Lives.{ClosesInRun}
 use Rattle.owed_calls.specs.Sound.{id_word_of, at_of, IsOpen}
 use Rattle.owed_calls.proofs.Known.{run_all_rest}
-use Rattle.owed_calls.proofs.OpensStored.{at_place}
 use Rattle.whole_runs.proofs.Lengths.{ended_length}
 use Rattle.whole_runs.proofs.Starts.{made}
 use Rattle.call_causes.specs.Lists.{given, shows_in, times, advanced_at, attempts_of_run}
 use Rattle.call_causes.proofs.Posted.{run_few_attempts}
-use Rattle.send_causes.proofs.AllTold.{told_of_run}
 use Rattle.send_causes.proofs.Assembled.{fixed_in_run}
 use Rattle.send_causes.proofs.AttemptedRuns.{Counted, played_counted, times_append}
 use Rattle.send_causes.proofs.AttemptedSent.{get_same}
-use Rattle.send_causes.proofs.AttemptedStored.{ids_at, stored_run, words_stored}
+use Rattle.send_causes.proofs.AttemptedStored.{ids_at, stored_run}
 use Rattle.send_causes.proofs.ClosedLostTicks.{word_link, word_attempt}
 use Rattle.send_causes.proofs.Early.{start, go, fitting, known}
-use Rattle.send_causes.proofs.OwnIds.{labelled_at, single_at, own_id}
+use Rattle.send_causes.proofs.OwnIds.{labelled_at, single_at}
 use Rattle.send_causes.proofs.Runs.{AreLabelledIn, IsCallOf}
-use Rattle.send_causes.proofs.Sends.{orders_of_run, narrow, opening_claims}
-use Rattle.served_runs.specs.Offered.{OffersInRun, TookSoFar}
-use Rattle.served_runs.proofs.Frames.{IsPiece, IsSmall, request_is}
-use Rattle.served_runs.proofs.Own.{id_small}
+use Rattle.send_causes.proofs.Sends.{narrow, opening_claims}
+use Rattle.served_runs.specs.Offered.{OffersInRun}
 use Rattle.served_calls.specs.Quiet.{AreShown, HasServer}
-use Rattle.served_calls.proofs.Frames.{piece_has}
-use Rattle.served_calls.proofs.Requests.{IsCalled, small_call}
 use Rattle.calls_over.specs.Open.{OpenCall}
 use Rattle.calls_over.proofs.OpensEntered.{early_log, IsAccepted, AllTaken, own_early, accepted_so, accepted_or}
 use Rattle.calls_over.proofs.OpensFull.{IsIn, taken_has}
@@ -139,7 +119,7 @@ module _ (bytes : List ℕ) (script : List Item) (reads : script_of bytes ≡ Ok
   within : (i : ℕ) → i < (id_plan_of script).slots → 0 < (id_word_of rested i).state → (o : ℕ) → ids_at script core o ≢ 0 → ids_at script core o ≡ call_id i (id_word_of rested i).first → (id_word_of rested i).attempt ≤ attempts_of_run script turns core is o
   within i low live o some_ same = ⊎_elim (λ z. omega (arith, z))
       (λ x. let one : o ≡ x.0 = single_at script are_made targets range turns core is closes o x.0 some_ (same ∙ sym x.1) in
-          let few : (id_word_of rested i).attempt ≤ since_clients o = subst (λ y. (id_word_of rested i).attempt ≤ since_clients y) (sym one) x.2 in let more = all_parts in omega (arith, few, more))
+      let few : (id_word_of rested i).attempt ≤ since_clients o = subst (λ y. (id_word_of rested i).attempt ≤ since_clients y) (sym one) x.2 in let more = all_parts in omega (arith, few, more))
       (counted.words i low live)
     where
       since_clients : ℕ → ℕ

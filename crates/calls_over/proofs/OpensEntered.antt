@@ -1,10 +1,8 @@
 -- Of an attempt whose at word stands where the ending begins a link accepted the message before, or each request was found taken; where no life was failed.
-use Rattle.std.proofs.Common.{◌≡◌, ℕ, ◌+◌, ◌<◌, ◌⊎◌, inl, inr, ⊎_elim, List, [], ◌++◌, replicate, refl, sym, ap, ◌∙◌, subst, arith}
-use Rattle.std.specs.Prelude.{Contains, slice_get}
+use Rattle.std.proofs.Common.{◌≡◌, ℕ, ◌<◌, ◌⊎◌, inl, inr, ⊎_elim, List, ◌++◌, replicate, sym, ap, ◌∙◌, subst, arith}
 use mathlib.Core.Option.{some}
 use lib.ListN.{get_elem?}
 use Rattle.sock_words.specs.Words.{at_word, at_word_link, at_word_attempt, socket_id_slot, socket_id_version}
-use Rattle.sock_words.specs.declared.plain.Plan.{Plan}
 use Rattle.sock_model.specs.declared.chain.Entry.{Entry}
 use Rattle.sock_model.specs.declared.view.View.{View}
 use Rattle.sock_model.specs.Entries.{on}
@@ -31,7 +29,7 @@ use Rattle.owed_calls.specs.Lives.{ClosesInRun}
 use Rattle.call_causes.specs.Lists.{shows_in}
 use Rattle.send_causes.specs.EndedCalls.{Store, stored_at, stores_of_run}
 use Rattle.send_causes.proofs.ClosedLost.{setup_fates, played_fates, early_ended}
-use Rattle.send_causes.proofs.ClosedLostTicks.{Entered, AreTaken, Fate, Ended, word_link, word_attempt}
+use Rattle.send_causes.proofs.ClosedLostTicks.{AreTaken, Ended, word_link, word_attempt}
 use Rattle.send_causes.proofs.Early.{start, go, fitting}
 use Rattle.send_causes.proofs.EndedAttempts.{all_stored, at_place, spoken_call, own_store}
 use Rattle.send_causes.proofs.EndedOnce.{run_stored_once}
@@ -39,7 +37,7 @@ use Rattle.send_causes.proofs.LateRests.{HasNone, played_idle}
 use Rattle.send_causes.proofs.Runs.{AreLabelledIn}
 use Rattle.send_causes.proofs.Sends.{orders_of_run}
 use Rattle.calls_over.proofs.OpensHeld.{IsHeld, run_held}
-use Rattle.calls_over.proofs.OpensLog.{log, held_logged, logged_held, logged_on, logged_stands}
+use Rattle.calls_over.proofs.OpensLog.{log, held_logged, logged_held, logged_on}
 use Rattle.calls_over.proofs.OpensNamed.{IsEarly}
 
 -- no life is old

@@ -1,20 +1,16 @@
 -- Where there are requests for all attempts, not each request was taken as long as the log lacks an attempt.
-use Rattle.std.proofs.Common.{◌≡◌, ◌≢◌, ℕ, zero, suc, ◌+◌, ◌*◌, ◌<◌, ◌≤◌, ◌⊎◌, inl, inr, ⊎_elim, Bool, true, eqb, List, [], ◌∷◌, ◌++◌, length, map, slice_get, Some, None, length-append, Ok, refl, sym, ap, ◌∙◌, subst, arith}
+use Rattle.std.proofs.Common.{◌≡◌, ◌≢◌, ℕ, zero, suc, ◌+◌, ◌*◌, ◌<◌, ◌≤◌, ◌⊎◌, inl, inr, ⊎_elim, true, eqb, List, [], ◌∷◌, ◌++◌, length, map, slice_get, Some, length-append, Ok, refl, sym, ap, ◌∙◌, subst, arith}
 use Rattle.std.proofs.lemmas.List.{length-map}
 use Rattle.std.proofs.lemmas.Option.{slice_get_within}
 use Rattle.std.specs.List.{AllByRecursion, filter}
-use Rattle.std.specs.Prelude.{slice_index}
 use mathlib.Core.Logic.{dite}
 use mathlib.Core.Option.{some, some-injective, some-ne-none}
 use native.Mathlib.Decide.{ℕ_discrete}
 use lib.ListN.{get_elem?}
-use Rattle.sock_words.specs.declared.plain.Plan.{Plan}
 use Rattle.sock_model.specs.declared.chain.Claim.{Claim}
 use Rattle.sock_model.specs.declared.chain.Entry.{Entry}
-use Rattle.sock_model.specs.declared.view.View.{View}
 use Rattle.sock_model.specs.Chains.{Chains}
 use Rattle.sock_model.specs.Entries.{on, uses, count_up, ticket}
-use Rattle.sock_model.specs.Layout.{request_word}
 use Rattle.sock_model.specs.Memory.{Memory}
 use Rattle.sock_model.specs.Reads.{tokens, claims_of}
 use Rattle.sock_model.specs.Requests.{free_phase, claimed_phase, used_phase, retired_phase}
@@ -29,16 +25,14 @@ use Rattle.brpc_model.specs.Script.{script_of}
 use Rattle.report_fits.proofs.Counting.{tally, but, but_other, one_less}
 use Rattle.report_fits.proofs.Known.{Known, sent_at, inside}
 use Rattle.report_fits.proofs.LabelCounts.{is_attempt, attempt_there, attempts_few, Differ, few}
-use Rattle.report_fits.proofs.Lists.{Has, all_from, all_at, before_from}
+use Rattle.report_fits.proofs.Lists.{all_from, all_at, before_from}
 use Rattle.report_fits.proofs.Numbering.{are_from}
 use Rattle.report_fits.proofs.Places.{known_of}
 use Rattle.report_fits.proofs.Reading.{InRange}
-use Rattle.sock_programs.specs.Calls.{ClaimRequest}
 use Rattle.sock_programs.specs.Cores.{Core}
 use Rattle.sock_programs.specs.Scripts.{all_tasks, played, IsRunWithCalls}
 use Rattle.sock_programs.specs.Tasks.{plan_of}
-use Rattle.sock_programs.specs.ToldCalls.{Accepted, Order, Fixed, ToldCalls, StandsAt, label}
-use Rattle.sock_runs.specs.Sound.{Sound}
+use Rattle.sock_programs.specs.ToldCalls.{Accepted, Fixed, ToldCalls, label}
 use Rattle.sock_runs.proofs.Whole.{views_played}
 use Rattle.sock_causes.proofs.Delivered.{accepted_of, accepted_at}
 use Rattle.joint_runs.proofs.Runs.{AreMade, first_views}

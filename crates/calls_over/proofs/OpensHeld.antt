@@ -15,7 +15,7 @@ use Rattle.sock_model.specs.Memory.{IDLE}
 use Rattle.sock_steps.proofs.Quiet.{either_way}
 use Rattle.sock_programs.specs.Calls.{Call, ClaimRequest, PutMessage, Unconnect, SwapHead}
 use Rattle.sock_programs.specs.Cores.{Core, word_of, found_at}
-use Rattle.sock_programs.specs.Ticks.{Moment, IsAnswered, AreAnswered, ticked, run}
+use Rattle.sock_programs.specs.Ticks.{Moment, IsAnswered, AreAnswered, ticked}
 use Rattle.sock_runs.specs.Rows.{row, hand_at, exchanged, filled_claim, ready_claim, took_message, link_away, link_home_again, took_bytes}
 use Rattle.sock_runs.specs.Sound.{Sound, AreFitting, views_after, views_along}
 use Rattle.sock_runs.proofs.Cases.{with_rights, right_rights, put_rights}

@@ -1,6 +1,5 @@
 -- The messages that the seats' lists have are those of the log, and each stands on its link.
-use Rattle.std.proofs.Common.{◌≡◌, ℕ, zero, suc, ◌<◌, inl, inr, Bool, true, false, cond, eqb, eq-eqb, List, [], ◌∷◌, length, map, refl, sym, ap, ◌∙◌, subst, arith}
-use Rattle.std.specs.Prelude.{slice_get}
+use Rattle.std.proofs.Common.{◌≡◌, ℕ, zero, suc, ◌<◌, inl, inr, Bool, true, false, cond, eqb, eq-eqb, List, [], ◌∷◌, map, refl, sym, ap, subst, arith}
 use mathlib.Core.Option.{some, some-injective, some-ne-none}
 use lib.ListN.{get_elem?}
 use Rattle.chain_laws.proofs.Lists.{at_length, at_some, filter_in}
@@ -14,7 +13,7 @@ use Rattle.sock_programs.specs.ToldCalls.{StandsAt}
 use Rattle.sock_runs.specs.Sound.{Sound}
 use Rattle.sock_causes.specs.Stories.{In}
 use Rattle.sock_causes.proofs.Delivered.{accepted_of, accepted_there, orders_of}
-use Rattle.calls_over.proofs.OpensHeld.{IsHeld, IsThere}
+use Rattle.calls_over.proofs.OpensHeld.{IsHeld}
 
 -- ## Lists
 

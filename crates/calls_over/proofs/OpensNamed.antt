@@ -1,59 +1,36 @@
 -- Each at word that stands where the ending begins was stored before, for an attempt of the call that is its operation.
-use Rattle.std.proofs.Common.{◌≡◌, ◌≢◌, ℕ, zero, suc, ◌+◌, ◌-◌, ◌<◌, ◌≤◌, get_or, inl, inr, ⊎_elim, true, false, List, [], ◌∷◌, ◌++◌, length, map, replicate, refl, sym, ◌∙◌, subst, arith}
-use Rattle.std.specs.List.{AllByRecursion}
+use Rattle.std.proofs.Common.{◌≡◌, ◌≢◌, ℕ, ◌+◌, ◌<◌, ◌≤◌, get_or, true, false, List, [], ◌∷◌, ◌++◌, length, map, replicate, refl, sym, subst}
 use Rattle.std.specs.Prelude.{Bool}
-use Rattle.std.proofs.lemmas.List.{length-map}
-use mathlib.Core.Option.{some, some-injective, some-ne-none}
+use mathlib.Core.Option.{some}
 use lib.ListN.{get_elem?}
-use Rattle.atomic_table.proofs.Lists.{set_again}
 use Rattle.sock_words.specs.declared.plain.Plan.{Plan}
 use Rattle.sock_model.specs.declared.view.View.{View}
 use Rattle.brpc_model.specs.Items.{Item}
 use Rattle.brpc_model.specs.Operations.{Turn, clients}
 use Rattle.corr_core.specs.declared.marks.Plan.{Plan as IdPlan}
 use Rattle.sock_message.specs.Asked.{Asked}
-use Rattle.sock_programs.specs.Beside.{call_at}
-use Rattle.sock_programs.specs.Clients.{client_from, ending_of}
-use Rattle.sock_programs.specs.Cores.{Core, SeatState, resolved, next_step}
-use Rattle.sock_programs.specs.declared.task.Op.{Op}
-use Rattle.sock_programs.specs.declared.task.Op.TheVariants as ops
-use Rattle.sock_programs.specs.declared.task.Sizes.{Sizes}
-use Rattle.sock_programs.specs.declared.task.Task.{Task}
-use Rattle.sock_programs.specs.Programs.{Program, Rest}
-use Rattle.sock_programs.specs.Readers.{reader}
-use Rattle.sock_programs.specs.Ticks.{Moment, AreAnswered, quiet, ticked, run}
+use Rattle.sock_programs.specs.Cores.{Core}
+use Rattle.sock_programs.specs.Programs.{Program}
+use Rattle.sock_programs.specs.Ticks.{Moment, quiet}
 use Rattle.sock_programs.specs.Tasks.{opens, calls, plan_of, id_plan_of}
 use Rattle.sock_programs.specs.Scripts.{sizes_of, programs, readers_from, all_programs, all_tasks, opened, set_up, played, IsRunWithCalls}
 use Rattle.sock_programs.specs.Told.{AreTasks}
-use Rattle.sock_runs.specs.Sound.{Sound, AreFitting, views_after, views_along}
-use Rattle.sock_runs.proofs.Along.{seat_rests}
-use Rattle.sock_runs.proofs.LinkTicks.{RetriesGo}
-use Rattle.sock_runs.proofs.Opening.{mapped, appended}
-use Rattle.sock_runs.proofs.Ticks.{sound_ticks}
-use Rattle.sock_runs.proofs.Whole.{Begins, AreFittingIn, closing_of, rested_of, views_played, views_closed, views_ended, set_up_answered, end_answered, set_up_sound, played_sound, closing_sound, closed_sound, rested_ahead, rested_idle}
-use Rattle.sock_causes.specs.Kept.{Story}
-use Rattle.sock_causes.specs.PlainTasks.{told_tasks_of, OwnsCall}
+use Rattle.sock_runs.specs.Sound.{views_along}
+use Rattle.sock_runs.proofs.Whole.{set_up_answered, set_up_sound}
+use Rattle.sock_causes.specs.PlainTasks.{told_tasks_of}
 use Rattle.sock_causes.specs.Stories.{Event, In}
 use Rattle.sock_causes.proofs.Begin.{start_story}
-use Rattle.sock_causes.proofs.Final.{at_there}
-use Rattle.sock_causes.proofs.Members.{all_in, all_of}
-use Rattle.sock_causes.proofs.Messages.{in_of_at}
-use Rattle.sock_causes.proofs.Plain.{in_left, in_right, in_both}
+use Rattle.sock_causes.proofs.Plain.{in_left, in_right}
 use Rattle.sock_causes.proofs.Openings.{are_seats, all_explained}
-use Rattle.sock_causes.proofs.Runs.{IsStoried, set_up_over, ending_story, is_ending_story}
+use Rattle.sock_causes.proofs.Runs.{IsStoried, set_up_over}
 use Rattle.sock_causes.proofs.Scripts.{own_from}
-use Rattle.sock_causes.proofs.Ticks.{elem_there, tick_story}
-use Rattle.label_runs.proofs.Programs.{OpCalls}
 use Rattle.id_rule.specs.Lawful.{at_word}
 use Rattle.call_causes.specs.Lists.{shows_in}
-use Rattle.id_runs.proofs.Opening.{unused}
-use Rattle.send_causes.specs.Counts.{AreLabelled}
-use Rattle.send_causes.specs.EndedCalls.{Load, loaded_at, loads_of_run, Store, stored_at, stores_of_run}
-use Rattle.send_causes.proofs.Runs.{AreLabelledIn, IsCallOf, behind_ids}
-use Rattle.send_causes.proofs.Ticks.{none_asked}
-use Rattle.send_causes.proofs.EndedTrails.{Trail, lost, Follows}
+use Rattle.send_causes.specs.EndedCalls.{Store, stored_at}
+use Rattle.send_causes.proofs.Runs.{AreLabelledIn, IsCallOf}
+use Rattle.send_causes.proofs.EndedTrails.{lost}
 use Rattle.send_causes.proofs.EndedNamed.{asked_by, all_follow, begins_named, Named, Behind, seats_named, setup_named}
-use Rattle.send_causes.proofs.EndedNames.{ViewOver, NameLaw, StoredFor, for_up, lost_true, resolves, moves, name_ticks, tick_loads}
+use Rattle.send_causes.proofs.EndedNames.{NameLaw, StoredFor}
 use Rattle.sock_words.specs.Words as sockets
 use Rattle.sock_programs.specs.Asides.{id_slot, id_first}
 use Rattle.client_laws.specs.Openings.{all_seats}

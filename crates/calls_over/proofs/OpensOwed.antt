@@ -1,12 +1,12 @@
 -- What is owed to calls where the ending begins: whoever owes an open id its end is the reader of the link that the at word of its attempt names, which reads that link.
-use Rattle.std.proofs.Common.{◌≡◌, ◌≢◌, ℕ, zero, suc, ◌+◌, ◌-◌, ◌<◌, ◌≤◌, ◌⊎◌, inl, inr, ⊎_elim, false, List, [], ◌∷◌, ◌++◌, length, get_or, replicate, Option, Some, None, refl, sym, ap, ◌∙◌, subst, arith}
+use Rattle.std.proofs.Common.{◌≡◌, ℕ, zero, suc, ◌+◌, ◌-◌, ◌<◌, ◌≤◌, false, List, [], ◌∷◌, ◌++◌, length, get_or, replicate, Option, Some, None, refl, sym, ap, ◌∙◌, subst, arith}
 use Rattle.std.specs.List.{AllByRecursion}
 use Rattle.std.proofs.lemmas.List.{length-map}
 use Rattle.std.specs.Prelude.{true}
 use mathlib.Core.Logic.{dite}
 use native.Mathlib.Decide.{dec_le}
 use mathlib.Core.Option.{Option as Maybe}
-use mathlib.Core.Option.{none, some, some-injective, some-ne-none}
+use mathlib.Core.Option.{none, some, some-ne-none}
 use lib.ListN.{get_elem?}
 use Rattle.chain_laws.proofs.Lists.{at_some}
 use Rattle.sock_words.specs.Words.{at_word, socket_id, socket_id_slot}
@@ -21,10 +21,10 @@ use Rattle.report_fits.proofs.Reading.{InRange}
 use Rattle.report_fits.proofs.Targets.{AreThere}
 use Rattle.sock_programs.specs.Asides.{TakeBytes, Closed, id_slot, id_first}
 use Rattle.sock_programs.specs.Clients.{client_from}
-use Rattle.sock_programs.specs.Heads.{Exit, Reading, Joins, Opens, Reads, Discards, Ended}
+use Rattle.sock_programs.specs.Heads.{Exit, Reading, Joins, Opens, Reads, Discards}
 use Rattle.sock_programs.specs.Programs.{Program, Rest, Aside, Round}
 use Rattle.sock_programs.specs.Readers.{post_each, read, reader}
-use Rattle.sock_programs.specs.Cores.{Core, SeatState, waiting_at}
+use Rattle.sock_programs.specs.Cores.{Core, SeatState}
 use Rattle.sock_programs.specs.Ticks.{Unasked, Moment, quiet, ticked}
 use Rattle.sock_programs.specs.Tasks.{opens, calls, plan_of, id_plan_of}
 use Rattle.sock_programs.specs.Scripts.{sizes_of, programs, readers_from, all_tasks, opened, set_up, played, IsRunWithCalls}
@@ -40,11 +40,11 @@ use Rattle.sock_runs.proofs.Records.{next_stores}
 use Rattle.sock_runs.proofs.Whole.{IsListed, views_played, set_up_answered, set_up_sound, played_sound, recorded_opened, recorded_set_up}
 use Rattle.client_laws.proofs.Beginning as clients_begin
 use Rattle.id_runs.specs.Goes as goes
-use Rattle.joint_runs.proofs.Runs.{AreMade, first_views, begins, joint_runs}
+use Rattle.joint_runs.proofs.Runs.{AreMade, first_views, joint_runs}
 use Rattle.owed_calls.specs.Lives.{id_of, life_of, AreSaying, ClosesAt, ClosesInTime, ClosesInRun}
 use Rattle.owed_calls.specs.Owes.{OwesOn}
 use Rattle.owed_calls.specs.Owing.{Free, Owing, InList, Among, DutyTo, with_dead}
-use Rattle.owed_calls.specs.Sound.{id_word_of, at_of, IsOpen, Owed, by_seat, by_retry, by_reader, retry_tokens, SoundOwing}
+use Rattle.owed_calls.specs.Sound.{at_of, IsOpen, Owed, by_seat, by_retry, by_reader, retry_tokens, SoundOwing}
 use Rattle.owed_calls.proofs.Beginning.{owing_begins}
 use Rattle.owed_calls.proofs.EndsStill.{view_of}
 use Rattle.owed_calls.proofs.Known.{run_keeps}
@@ -53,12 +53,12 @@ use Rattle.owed_calls.proofs.OwingRuns.{Reaches, id_is, run_owing, reach_back}
 use Rattle.owed_calls.proofs.Saying.{says_along}
 use Rattle.owed_calls.proofs.WholeOwing.{links_stand}
 use Rattle.owed_calls.proofs.WordsGiven.{Named, names_others, beginning_named, run_named}
-use Rattle.call_causes.proofs.Handled.{Sit, IsAt}
+use Rattle.call_causes.proofs.Handled.{Sit}
 use Rattle.call_causes.proofs.HandledSteps.{State, waiting, reading, seeking, taking, ending_, freeing, over}
 use Rattle.call_causes.proofs.HandledStates.{After}
-use Rattle.call_causes.proofs.HandledWhole.{known_clients, reads_on, reads_set_up}
 use Rattle.send_causes.proofs.Early.{start, go, fitting, known, opens_apart, clients_take_none}
 use Rattle.send_causes.proofs.Takeless.{NoTakes}
+use Rattle.calls_over.proofs.Handled.{reads_before}
 use Rattle.calls_over.proofs.OpensStill.{Stands, resting, joining, opening, discarding, both, stands}
 use Rattle.calls_over.proofs.OpensStill as still
 
@@ -240,7 +240,7 @@ module _ (script : List Item) (made : AreMade script) (turns : List Turn) (core 
     -- who reads stands at its program
     pub reads_so : (k o : ℕ) (at : get_elem? (opens script) k ≡ some o) (seat : SeatState) → get_elem? (played script is.setup (is.scheduled ++ is.later)).seats (32 + k) ≡ some seat → (r : Reading) (next : Exit (Reads r) → Program) → seat.program ≡ Round (Reads r) next
         → (r' : Reading) × (seat.program ≡ Round (Reads r') (read (calls script))) × (r'.link ≡ k)
-    reads_so k o at seat there_ r next e = by (reads_on script made there range turns core is k o at _ (set_up script is.setup) m₂ (known_clients script made there range turns core is) (reads_set_up script made there range turns core is k o at) seat there_)
+    reads_so k o at seat there_ r next e = by (reads_before script made there range turns core is k o at seat there_)
       where
         by : {s : Sit} {m : length (calls script) ≡ q.slots} → State k q.slots (calls script) o m s seat.program → (r' : Reading) × (seat.program ≡ Round (Reads r') (read (calls script))) × (r'.link ≡ k)
         by (waiting is' none_) = absurd (let z : reader (calls script) k o ≡ Round (Reads r) next = sym is' ∙ e in cc)

@@ -1,16 +1,15 @@
 -- Where each link has the server and nothing went wrong, no link failed before the ending, no reader throws bytes away, and each message that a link accepted is the request of a call.
-use Rattle.std.proofs.Common.{◌≡◌, ℕ, zero, suc, ◌<◌, ◌≤◌, ◌⊎◌, inl, inr, ⊎_elim, Bool, true, false, List, [], ◌∷◌, ◌++◌, length, replicate, slice_get, Some, None, Ok, refl, sym, ap, ◌∙◌, subst, arith}
-use Rattle.std.proofs.lemmas.Option.{slice_get_within}
+use Rattle.std.proofs.Common.{◌≡◌, ℕ, ◌<◌, ◌≤◌, ◌⊎◌, inl, inr, ⊎_elim, List, [], ◌∷◌, ◌++◌, length, replicate, Some, None, Ok, sym, ap, ◌∙◌, subst, arith}
 use Rattle.std.specs.List.{AllByRecursion}
 use Rattle.std.specs.Prelude.{IsTrue, Contains}
-use mathlib.Core.Option.{some, some-injective}
+use mathlib.Core.Option.{some}
 use lib.ListN.{get_elem?}
 use Rattle.sock_words.specs.declared.plain.Plan.{Plan}
 use Rattle.sock_model.specs.declared.view.View.{View}
 use Rattle.sock_model.specs.Links.{Failed}
 use Rattle.brpc_model.specs.Causes.{HasFault, reading_limit}
 use Rattle.brpc_model.specs.Complete.{IsUntroubled}
-use Rattle.brpc_model.specs.Items.{Item, Shape, Open, Send, Fail}
+use Rattle.brpc_model.specs.Items.{Item, Shape, Open, Fail}
 use Rattle.brpc_model.specs.Link.{LinkEnd}
 use Rattle.brpc_model.specs.Operations.{Turn, link_names, link_shapes}
 use Rattle.brpc_model.specs.Places.{names}
@@ -19,19 +18,19 @@ use Rattle.brpc_model.specs.Script.{script_of}
 use Rattle.report_fits.specs.Ends.{AreEndsOf, AreTold}
 use Rattle.report_fits.proofs.Known as known
 use Rattle.report_fits.proofs.Lines.{Given}
-use Rattle.report_fits.proofs.Lists.{Has, all_at, has_from, has_later, contains_from, some_is, within}
+use Rattle.report_fits.proofs.Lists.{all_at, has_from, contains_from, within}
 use Rattle.report_fits.proofs.Lives as lives
 use Rattle.report_fits.proofs.Places.{known_of}
 use Rattle.report_fits.proofs.Reading.{InRange}
 use Rattle.report_fits.proofs.Sizes.{is_counted}
 use Rattle.report_fits.proofs.Targets.{AreThere, are_there}
-use Rattle.report_fits.proofs.TaskLemmas.{numbers_at, task_is, send_asks, fail_asks, mentions_send}
+use Rattle.report_fits.proofs.TaskLemmas.{numbers_at, task_is, fail_asks}
 use Rattle.sock_programs.specs.declared.task.Op.TheVariants as ops
 use Rattle.sock_programs.specs.declared.task.Task.{Task}
 use Rattle.sock_programs.specs.Asides.{AtEnd, Broken}
-use Rattle.sock_programs.specs.Cores.{Core, SeatState}
+use Rattle.sock_programs.specs.Cores.{Core}
 use Rattle.sock_programs.specs.Heads.{Discards}
-use Rattle.sock_programs.specs.Programs.{Program, Rest, Round}
+use Rattle.sock_programs.specs.Programs.{Rest, Round}
 use Rattle.sock_programs.specs.Readers.{LIMIT, reader}
 use Rattle.sock_programs.specs.Scripts.{Reports, all_tasks, opened, set_up, played, IsRunWithCalls}
 use Rattle.sock_programs.specs.Tasks.{opens, calls, numbered, plan_of, id_plan_of}
@@ -40,7 +39,7 @@ use Rattle.sock_programs.specs.Told.{IsTask, IsFail, Made}
 use Rattle.sock_programs.specs.ToldCalls.{Order, Fixed, ToldCalls}
 use Rattle.sock_runs.specs.Sound.{state}
 use Rattle.sock_runs.proofs.Along.{place_inside}
-use Rattle.sock_runs.proofs.Whole.{closing_of, views_played}
+use Rattle.sock_runs.proofs.Whole.{views_played}
 use Rattle.sock_causes.specs.Facts.{shown_in, broken_of_run, closed_before_ending}
 use Rattle.sock_causes.specs.Losses.{closed_at, lost_in}
 use Rattle.sock_causes.specs.PlainTasks.{told_tasks_of}
@@ -62,7 +61,7 @@ use Rattle.send_causes.proofs.AttemptedStored.{played_leads}
 use Rattle.send_causes.proofs.Early.{start, go, fitting, closed_early}
 use Rattle.send_causes.proofs.Faults.{Faults, fault_stays}
 use Rattle.send_causes.proofs.Sends.{owed}
-use Rattle.send_causes.proofs.Storied.{lost_one, lost_two, lost_before, run_tells, failed_early}
+use Rattle.send_causes.proofs.Storied.{run_tells, failed_early}
 use Rattle.served_runs.specs.Offered.{OffersInRun}
 use Rattle.served_runs.specs.Served.{IsForCalls}
 use Rattle.served_runs.proofs.Ends.{Holds}
@@ -75,13 +74,7 @@ use Rattle.served_calls.proofs.Requests.{never_last}
 use Rattle.served_sizes.proofs.Few as sizes
 use Rattle.calls_over.proofs.OpensEntered.{rested_sound}
 use Rattle.calls_over.proofs.OpensOwed.{NoneThrown}
-
--- each link was opened under its name, with its shape
-named_shape : (items : List Item) (k : ℕ) (shape : Shape) → slice_get (link_shapes items) k ≡ Some shape → (name : List ℕ) × (slice_get (link_names items) k ≡ Some name) × Has items (Open name shape)
-named_shape [] k shape e = absurd (cc)
-named_shape (Open n s ∷ items) zero shape e = (n, refl, (zero, ap (λ (x : Shape). Some (Open n x)) (some_is s shape e)))
-named_shape (Open n s ∷ items) (suc k) shape e = let x = named_shape items k shape e in (x.0, x.1, has_later (Open n s) items (Open x.0 shape) x.2)
-named_shape (item ∷ items) k shape e = let x = named_shape items k shape e in (x.0, x.1, has_later item items (Open x.0 shape) x.2)
+use Rattle.calls_over.proofs.Soon.{named_shape, no_end, no_stray}
 
 -- a link that was lost in some ticks answered that it failed, or its socket was closed
 lost_so : (p : Plan) (c : Core) (ms : List Moment) (k : ℕ) → In k (lost_in p c ms) → In k (broken_in p c ms) ⊎ In k (shown_in closed_at p c ms)
@@ -112,17 +105,13 @@ module _ (bytes : List ℕ) (script : List Item) (reads : script_of bytes ≡ Ok
   pub has_server : (k : ℕ) → k < length (link_names script) → HasServer script turns core is k
   has_server k low = let s = within (link_shapes script) k (let m = shapes_many script in omega (arith, low, m)) in let x = named_shape script k s.0 s.1 in (s.0, s.1, served x.0 s.0 (contains_from script (Open x.0 s.0) x.2))
 
-  -- no `send` has a socket
-  pub unsent : (k client : ℕ) (t : Task) (name slot version : ℕ) (sent : List ℕ) → IsTask (all_tasks script) core.outcomes client t → t.op ≡ ops.Send name sent → Made (all_tasks script) core.outcomes name k slot version → ⊥
-  unsent k client t name slot version sent it op life = let w = task_is script core.outcomes client t it in let m = send_asks (numbered script) (names script) (numbers_at script t.number w.operation) w.operation.item name sent (w.asks ∙ ap Some op) in
-      let mentions = mentions_send script t.number w.operation w.there m.0 sent m.1 in let link = lives.link_of all_given name k slot version m.0 (m.2, mentions) life in
-      let s = within (link_shapes script) k (let l = slice_get_within (link_names script) k m.0 link in let n = shapes_many script in omega (arith, l, n)) in let x = named_shape script k s.0 s.1 in
-      let named : Contains script (Open m.0 s.0) = contains_from script (Open m.0 s.0) (subst (λ n. Has script (Open n s.0)) (some_is x.0 m.0 (sym x.1 ∙ link)) x.2) in
-      untroubled.no_stray m.0 sent (contains_from script (Send m.0 sent) (known.in_script all_given.run t.number w.operation w.there (Send m.0 sent) m.1)) (s.0, named, served m.0 s.0 named)
-
   module _ (k : ℕ) (low : k < length (link_names script)) where
     abbrev s : HasServer script turns core is k
     s = has_server k low
+
+    -- no `send` has its socket
+    pub unsent : (client : ℕ) (t : Task) (name slot version : ℕ) (sent : List ℕ) → IsTask (all_tasks script) core.outcomes client t → t.op ≡ ops.Send name sent → Made (all_tasks script) core.outcomes name k slot version → ⊥
+    unsent = no_stray bytes script reads turns core is closes offers fixed orders tells report took ends reports told given_back untroubled k s.0 s.1 s.2
 
     end_of : lives.EndOf all_given k
     end_of = lives.end_at all_given k low
@@ -130,11 +119,11 @@ module _ (bytes : List ℕ) (script : List Item) (reads : script_of bytes ≡ Ok
     faultless : (end_of.end.put_faults ≡ 0) × (end_of.end.take_faults ≡ 0)
     faultless = all_at (λ (x : LinkEnd). (x.put_faults ≡ 0) × (x.take_faults ≡ 0)) ends end_of.end untroubled.put (has_from ends end_of.end end_of.there)
 
-    pub no_end : s.0.end ≡ None
-    no_end = let x = named_shape script k s.0 s.1 in untroubled.no_end x.0 s.0 (contains_from script (Open x.0 s.0) x.2)
+    endless_shape : s.0.end ≡ None
+    endless_shape = no_end bytes script reads turns core is closes offers fixed orders tells report took ends reports told given_back untroubled k s.0 s.1
 
     for_calls : IsForCalls script turns core is k s.0
-    for_calls = record { opened = s.1; serves = s.2; unsent = unsent k }
+    for_calls = record { opened = s.1; serves = s.2; unsent = unsent }
 
     no_fault : HasFault (given core k) → ⊥
     no_fault = gives_no_fault script are_made targets range turns core is closes offers k s.0 for_calls
@@ -143,7 +132,7 @@ module _ (bytes : List ℕ) (script : List Item) (reads : script_of bytes ≡ Ok
     few = sizes.few bytes script reads short turns core is closes offers fixed orders tells untroubled.few_attempts k s.0 s.1 s.2
 
     endless : Contains (heard_takes is k) AtEnd → ⊥
-    endless ended = never_last script are_made turns core is fixed orders tells (id_small script are_made targets range turns core is closes) k low (unsent k) s.0 no_end
+    endless ended = never_last script are_made turns core is fixed orders tells (id_small script are_made targets range turns core is closes) k low unsent s.0 endless_shape
         (gives_last script are_made targets range turns core is closes offers k s.0 s.1 s.2 ended)
 
     unbroken : Contains (heard_takes is k) Broken → ⊥
@@ -170,11 +159,11 @@ module _ (bytes : List ℕ) (script : List Item) (reads : script_of bytes ≡ Ok
   pub unfailed : (k : ℕ) → Failed (plan_of script) (state (played script is.setup (is.scheduled ++ is.later)) (views_played script turns core is (first_views script))) k → ⊥
   unfailed k failed = ⊎_elim (λ lost. by_lost (contains_in _ k lost))
       (λ at_fail.
-          let tale = run_tells script are_made.are (first_views script) (start script are_made turns core is) fresh (go script are_made turns core is) turns core is (fitting script are_made turns core is) (owed script are_made turns core is closes) in
-          let t = tale.tells in let f : IsFail (told_tasks_of script) core.outcomes (at_fail.0, k) = all_at (IsFail (told_tasks_of script) core.outcomes) t.fails (at_fail.0, k) t.are (has_from t.fails (at_fail.0, k) at_fail.1) in
-          let it = task_up (all_tasks script) (length (opens script)) core.outcomes f.client f.task f.is in
-          let w = task_is script core.outcomes f.client f.task it in let m = fail_asks (numbered script) (names script) (numbers_at script f.task.number w.operation) w.operation.item f.name f.code (w.asks ∙ ap Some f.op) in
-          untroubled.no_fail m.0 f.code (contains_from script (Fail m.0 f.code) (known.in_script all_given.run f.task.number w.operation w.there (Fail m.0 f.code) m.1)))
+      let tale = run_tells script are_made.are (first_views script) (start script are_made turns core is) fresh (go script are_made turns core is) turns core is (fitting script are_made turns core is) (owed script are_made turns core is closes) in
+      let t = tale.tells in let f : IsFail (told_tasks_of script) core.outcomes (at_fail.0, k) = all_at (IsFail (told_tasks_of script) core.outcomes) t.fails (at_fail.0, k) t.are (has_from t.fails (at_fail.0, k) at_fail.1) in
+      let it = task_up (all_tasks script) (length (opens script)) core.outcomes f.client f.task f.is in
+      let w = task_is script core.outcomes f.client f.task it in let m = fail_asks (numbered script) (names script) (numbers_at script f.task.number w.operation) w.operation.item f.name f.code (w.asks ∙ ap Some f.op) in
+      untroubled.no_fail m.0 f.code (contains_from script (Fail m.0 f.code) (known.in_script all_given.run f.task.number w.operation w.there (Fail m.0 f.code) m.1)))
       (failed_early script are_made.are (first_views script) (start script are_made turns core is) fresh (go script are_made turns core is) turns core is (fitting script are_made turns core is) (owed script are_made turns core is closes) k failed)
     where
       fresh : (i : ℕ) (v : View) → get_elem? (first_views script) i ≡ some v → v.lists ≡ [] ∷ []
@@ -204,7 +193,7 @@ module _ (bytes : List ℕ) (script : List Item) (reads : script_of bytes ≡ Ok
   pub none_thrown : NoneThrown script are_made turns core is closes targets range
   none_thrown k o at seat there l total next e = ⊎_elim (λ x. absurd (let z : reader (calls script) k o ≡ Round (Discards l total) next = sym x.0 ∙ e in cc))
       (λ other. ⊎_elim (λ x. absurd (let z : Rest ≡ Round (Discards l total) next = sym x.0 ∙ e in cc))
-          (λ x. let g = subst (Goes k (given before k) held.last) e x in by_fault g.2) other)
+      (λ x. let g = subst (Goes k (given before k) held.last) e x in by_fault g.2) other)
       (held.reader seat there)
     where
       low : k < length (link_names script)

@@ -1,78 +1,51 @@
 -- What a link with the server took, in a run in which nothing went wrong: the request of each message that it accepted.
-use Rattle.std.proofs.Common.{◌≡◌, ◌≢◌, ℕ, zero, suc, ◌+◌, ◌-◌, ◌*◌, ◌<◌, ◌≤◌, ◌⊎◌, inl, inr, ⊎_elim, Bool, true, false, eqb, eq-eqb, List, [], ◌∷◌, ◌++◌, length, flat_map, replicate, slice_get, Some, None, Ok, append-nil, refl, sym, ap, ◌∙◌, subst, arith}
+use Rattle.std.proofs.Common.{◌≡◌, ℕ, ◌<◌, ◌≤◌, inl, eqb, eq-eqb, List, [], ◌++◌, length, flat_map, Ok, append-nil, refl, sym, ap, ◌∙◌, subst, arith}
 use Rattle.std.specs.List.{AllByRecursion}
 use Rattle.std.specs.Prelude.{IsTrue, Contains}
-use mathlib.Core.Option.{some, some-injective}
+use mathlib.Core.Option.{some}
 use lib.ListN.{get_elem?}
 use Rattle.chain_laws.proofs.Lists.{filter_in}
-use Rattle.sock_words.specs.declared.outcome.Outcome.{Outcome}
-use Rattle.sock_words.specs.declared.plain.Plan.{Plan}
-use Rattle.sock_words.specs.Words.{at_word, at_word_first, at_word_slot}
 use Rattle.sock_model.specs.declared.chain.Entry.{Entry}
-use Rattle.sock_model.specs.declared.view.View.{View}
 use Rattle.sock_model.specs.Entries.{on}
-use Rattle.sock_model.specs.Links.{Given, Failed}
+use Rattle.sock_model.specs.Links.{Given}
 use Rattle.brpc_model.specs.Complete.{IsUntroubled}
-use Rattle.brpc_model.specs.Frame.{Frame, IsFrame}
-use Rattle.brpc_model.specs.Items.{Item, Shape, Open, Call, CallLine, attempts_of}
+use Rattle.brpc_model.specs.Frame.{IsFrame}
+use Rattle.brpc_model.specs.Items.{Item, Shape, Open}
 use Rattle.brpc_model.specs.Link.{LinkEnd}
-use Rattle.brpc_model.specs.Operations.{Operation, Turn, link_names, operations}
-use Rattle.brpc_model.specs.Places.{names}
+use Rattle.brpc_model.specs.Operations.{Turn}
 use Rattle.brpc_model.specs.Report.{Report}
 use Rattle.brpc_model.specs.Script.{script_of}
 use Rattle.brpc_model.specs.Stream.{stream}
-use Rattle.corr_core.specs.Word.{Parts}
-use Rattle.corr_core.specs.Law.{Local, SlotLaw}
-use Rattle.corr_core.specs.declared.marks.Plan.{Plan as IdPlan}
-use Rattle.id_rule.specs.Lawful.{local}
-use Rattle.id_runs.specs.Held.{id_state}
 use Rattle.report_fits.specs.Ends.{AreEndsOf, AreTold}
 use Rattle.report_fits.proofs.Lists.{Has, all_at, all_from, filter_has}
 use Rattle.report_fits.proofs.Reading.{InRange}
 use Rattle.report_fits.proofs.Sizes.{is_counted}
 use Rattle.report_fits.proofs.Targets.{AreThere, are_there}
-use Rattle.report_fits.proofs.TaskLemmas.{numbers_at, task_is, call_asks}
 use Rattle.sock_message.specs.Asked.{Asked, request_of, frame_of}
-use Rattle.sock_programs.specs.declared.task.Op.TheVariants as ops
-use Rattle.sock_programs.specs.declared.task.Task.{Task}
-use Rattle.sock_programs.specs.Asides.{id_slot, id_first, call_id}
 use Rattle.sock_programs.specs.Cores.{Core}
-use Rattle.sock_programs.specs.Scripts.{Reports, all_tasks, opened, set_up, played, IsRunWithCalls}
-use Rattle.sock_programs.specs.Tasks.{opens, calls, numbered, asked_of, plan_of, id_plan_of}
-use Rattle.sock_programs.specs.Ticks.{quiet}
-use Rattle.sock_programs.specs.Told.{IsTask, Became}
-use Rattle.sock_programs.specs.ToldCalls.{Accepted, Order, Fixed, ToldCalls, IsSent, OfSend, OfCall}
+use Rattle.sock_programs.specs.Scripts.{Reports, all_tasks, played, IsRunWithCalls}
+use Rattle.sock_programs.specs.Tasks.{plan_of}
+use Rattle.sock_programs.specs.Told.{Became}
+use Rattle.sock_programs.specs.ToldCalls.{Order, Fixed, ToldCalls, IsSent, OfSend, OfCall}
 use Rattle.sock_runs.specs.Sound.{state}
-use Rattle.sock_runs.proofs.Along.{place_inside}
-use Rattle.sock_runs.proofs.Whole.{closing_of, views_played}
+use Rattle.sock_runs.proofs.Whole.{views_played}
 use Rattle.sock_causes.specs.Facts.{broken_of_run}
 use Rattle.sock_causes.proofs.Delivered.{accepted_of}
-use Rattle.sock_causes.proofs.Members.{in_contains}
-use Rattle.client_laws.specs.Openings.{all_seats}
-use Rattle.client_laws.proofs.Fresh.{opening_fresh}
 use Rattle.joint_runs.proofs.Runs.{AreMade, first_views}
 use Rattle.owed_calls.specs.Lives.{ClosesInRun}
-use Rattle.owed_calls.specs.Sound.{id_word_of, at_of, IsOpen}
-use Rattle.owed_calls.proofs.Known.{run_all_rest}
 use Rattle.owed_calls.proofs.OpensStored.{at_place}
-use Rattle.whole_runs.proofs.Lengths.{ended_length}
 use Rattle.whole_runs.proofs.Starts.{made}
-use Rattle.call_causes.specs.Lists.{given, shows_in, times, advanced_at, attempts_of_run}
-use Rattle.call_causes.proofs.Posted.{run_few_attempts}
+use Rattle.call_causes.specs.Lists.{given}
 use Rattle.send_causes.proofs.AllTold.{told_of_run}
 use Rattle.send_causes.proofs.Assembled.{fixed_in_run}
-use Rattle.send_causes.proofs.AttemptedRuns.{played_counted, times_append}
 use Rattle.send_causes.proofs.AttemptedSent.{get_same}
-use Rattle.send_causes.proofs.AttemptedStored.{ids_at, stored_run, words_stored}
-use Rattle.send_causes.proofs.ClosedLostTicks.{word_link, word_attempt}
-use Rattle.send_causes.proofs.Early.{start, go, fitting, known}
-use Rattle.send_causes.proofs.OwnIds.{labelled_at, single_at, own_id}
-use Rattle.send_causes.proofs.Runs.{AreLabelledIn, IsCallOf}
-use Rattle.send_causes.proofs.Sends.{orders_of_run, narrow, opening_claims}
+use Rattle.send_causes.proofs.AttemptedStored.{ids_at}
+use Rattle.send_causes.proofs.OwnIds.{own_id}
+use Rattle.send_causes.proofs.Sends.{orders_of_run}
 use Rattle.served_runs.specs.Offered.{OffersInRun, TookSoFar}
 use Rattle.served_runs.proofs.Frames.{IsPiece, IsSmall, request_is}
 use Rattle.served_runs.proofs.Own.{id_small}
-use Rattle.served_calls.specs.Quiet.{AreShown, HasServer}
+use Rattle.served_calls.specs.Quiet.{AreShown}
 use Rattle.served_calls.proofs.Frames.{piece_has}
 use Rattle.served_calls.proofs.Requests.{IsCalled, small_call}
 use Rattle.calls_over.proofs.OpensEntered.{early_log, rested_sound, idle_there, StandsLater, stands_later}
@@ -121,7 +94,7 @@ module _ (bytes : List ℕ) (script : List Item) (reads : script_of bytes ≡ Ok
       later = stands_later script are_made turns core is closes q e at
 
       by : IsSent (plan_of script) (all_tasks script) core.outcomes own_fixed (given core) own_orders own_told.last e.link (accepted_of e) → IsAttempt e
-      by (OfSend client t name slot version it number op first life untold) = absurd (unsent bytes script reads short turns core is closes offers fixed orders tells report took ends reports told given_back shown breaks served untroubled e.link client t name slot version e.bytes it op life)
+      by (OfSend client t name slot version it number op first life untold) = absurd (unsent bytes script reads short turns core is closes offers fixed orders tells report took ends reports told given_back shown breaks served untroubled e.link later.low client t name slot version e.bytes it op life)
       by (OfCall client t asked outcome id slot version it number op became shows last bytes_ life) = let became' : Became (all_tasks script) core.outcomes t.number outcome = subst (λ n. Became (all_tasks script) core.outcomes n outcome) (sym number) became in record {
         asked = asked;
         id = id;

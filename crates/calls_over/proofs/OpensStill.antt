@@ -1,5 +1,5 @@
 -- Where the ending begins each seat is at rest, or waits for the end of a range, for the word of an `open`, or for bytes; and no id is locked.
-use Rattle.std.proofs.Common.{◌≡◌, ℕ, ◌<◌, ◌==◌, ◌&&◌, ◌⊎◌, inl, inr, ⊎_elim, not, eqb-true, eq-eqb, Bool, true, false, List, ◌++◌, length, get_or, replicate, sym, ap, ◌∙◌, subst}
+use Rattle.std.proofs.Common.{◌≡◌, ℕ, ◌<◌, ◌==◌, ◌⊎◌, inl, inr, ⊎_elim, not, eqb-true, eq-eqb, Bool, true, false, List, ◌++◌, length, get_or, replicate, sym, ap, ◌∙◌, subst}
 use Rattle.std.proofs.lemmas.Bool.{true≢false}
 use Rattle.std.specs.Prelude.{None, Some}
 use mathlib.Core.Option.{some, none, some-injective}

@@ -1,8 +1,8 @@
 -- Where each link has the server and nothing went wrong, each call that was begun has ended as the ending begins. So the report of any run with calls fits, and where nothing went wrong it is complete.
-use Rattle.std.proofs.Common.{◌≡◌, ℕ, ◌≤◌, length, inl, inr, ⊎_elim, List, Ok, arith}
-use Rattle.std.specs.Prelude.{IsTrue, Contains}
-use Rattle.brpc_model.specs.Complete.{IsUntroubled, FitsWhole}
-use Rattle.brpc_model.specs.Items.{Item, Shape, Open, Join}
+use Rattle.std.proofs.Common.{◌≡◌, ℕ, ◌≤◌, length, ⊎_elim, List, Ok, arith}
+use Rattle.std.specs.Prelude.{Contains}
+use Rattle.brpc_model.specs.Complete.{FitsWhole}
+use Rattle.brpc_model.specs.Items.{Item}
 use Rattle.brpc_model.specs.Link.{LinkEnd}
 use Rattle.brpc_model.specs.Operations.{Turn}
 use Rattle.brpc_model.specs.Report.{Report, report_text}
@@ -10,12 +10,11 @@ use Rattle.brpc_model.specs.Script.{script_of}
 use Rattle.report_fits.specs.Ends.{AreEndsOf, AreTold}
 use Rattle.report_fits.proofs.Places.{lateness}
 use Rattle.sock_programs.specs.Cores.{Core}
-use Rattle.sock_programs.specs.Tasks.{plan_of, id_plan_of}
+use Rattle.sock_programs.specs.Tasks.{plan_of}
 use Rattle.sock_programs.specs.ToldCalls.{Order, Fixed, ToldCalls}
-use Rattle.sock_programs.specs.Scripts.{Reports, all_tasks, played, IsRunWithCalls}
+use Rattle.sock_programs.specs.Scripts.{Reports, all_tasks, IsRunWithCalls}
 use Rattle.sock_causes.specs.Facts.{broken_of_run}
 use Rattle.owed_calls.specs.Lives.{ClosesInRun}
-use Rattle.owed_calls.specs.Sound.{id_word_of}
 use Rattle.whole_runs.proofs.Starts.{made}
 use Rattle.call_causes.specs.Lists.{given}
 use Rattle.served_runs.specs.Offered.{OffersInRun}

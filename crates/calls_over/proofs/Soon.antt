@@ -74,7 +74,7 @@ both_true x y a b = ap (λ z. z && y) a ∙ b
 -- ## Links
 
 -- each link was opened under its name, with its shape
-named_shape : (items : List Item) (k : ℕ) (shape : Shape) → slice_get (link_shapes items) k ≡ Some shape → (name : List ℕ) × (slice_get (link_names items) k ≡ Some name) × Has items (Open name shape)
+pub named_shape : (items : List Item) (k : ℕ) (shape : Shape) → slice_get (link_shapes items) k ≡ Some shape → (name : List ℕ) × (slice_get (link_names items) k ≡ Some name) × Has items (Open name shape)
 named_shape [] k shape e = absurd (cc)
 named_shape (Open n s ∷ items) zero shape e = (n, refl, (zero, ap (λ (x : Shape). Some (Open n x)) (some_is s shape e)))
 named_shape (Open n s ∷ items) (suc k) shape e = let x = named_shape items k shape e in (x.0, x.1, has_later (Open n s) items (Open x.0 shape) x.2)
@@ -93,7 +93,7 @@ module _ (bytes : List ℕ) (script : List Item) (reads : script_of bytes ≡ Ok
   range = (is_counted bytes script reads).in_range
 
   -- a link with the server gives no end
-  no_end : (k : ℕ) (shape : Shape) → slice_get (link_shapes script) k ≡ Some shape → shape.end ≡ None
+  pub no_end : (k : ℕ) (shape : Shape) → slice_get (link_shapes script) k ≡ Some shape → shape.end ≡ None
   no_end k shape at = let x = named_shape script k shape at in untroubled.no_end x.0 shape (contains_from script (Open x.0 shape) x.2)
 
   -- and no `send` is to its socket

@@ -275,7 +275,7 @@ module _ (script : List Item) (made : AreMade script) (turns : List Turn) (core 
     rests = end_rests script made.are (first_views script) (start script made turns core is) (go script made turns core is) turns core is (fitting script made turns core is) (owed script made turns core is closes)
 
     -- what was accepted stands on some link
-    pub entered_stands : (o n : ℕ) → Entered o n end_views → (l : ℕ) × Stands o n l
+    entered_stands : (o n : ℕ) → Entered o n end_views → (l : ℕ) × Stands o n l
     entered_stands o n (i, v, at, (l, e, in_l, in_e, own, attempt)) =
         let made_ = each_made (plan_of script) (told_tasks_of script) told_seats true core end_views told_run.after.events told_run.after.lost end_sound told_story rests i v at in
         let there = at_of made_.0 e (subst (λ z. In e z) (one_list l made_.0 (subst (In l) made_.1 in_l)) in_e) in
