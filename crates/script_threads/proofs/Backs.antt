@@ -14,15 +14,11 @@ use Rattle.sock_open.specs.Opening.{AreFresh}
 use Rattle.script_links.specs.Given.{AreUntouched, AreNumbered}
 use Rattle.script_threads.specs.declared.halves.Rest.{Rest}
 use Rattle.script_threads.specs.Halves.{rest_of, joined}
-use Rattle.script_threads.specs.Told.{IsBackEnd, AreBackEnds}
+use Rattle.table_told.specs.Back.{IsBackEnd, AreBackEnds}
 
 pub for_if : {T : Type 0} (P : T → Type 0) (o : Option T) → IfSome o P → ForSome o P
 for_if P None h x e = absurd (none-some x e)
 for_if P (Some y) h x e = subst P (same_Some y x e) h
-
-pub if_for : {T : Type 0} (P : T → Type 0) (o : Option T) → ForSome o P → IfSome o P
-if_for P None h = tt
-if_for P (Some y) h = h y refl
 
 module _ {O I P : Type 0} (out_state : O → OutState) (in_state : I → InState) where
   abbrev pub end_at : Ends O I P → LinkEnd
@@ -71,5 +67,5 @@ module _ {O I P : Type 0} (out_state : O → OutState) (in_state : I → InState
       subst (IsBackEnd out_state (o ∷ os) 0) (same_Some (end_at (record { out = o; inn = r.inn; peer = r.peer })) e at) record { out = o; there = refl; link = refl; took = refl; put_faults = refl; gave_none = s.0.0; gave = s.0.1 }
   back_end (o ∷ os) (r ∷ rs) long s (suc k) e at = let b = back_end os rs (omega arith) s.1 k e at in record { out = b.out; there = b.there; link = b.link; took = b.took; put_faults = b.put_faults; gave_none = b.gave_none; gave = b.gave }
 
-  pub back_ends : (outs : List O) (rs : List (Rest I P)) → length outs ≡ length rs → AllByRecursion IsSilent rs → AreBackEnds out_state outs (map end_at (joined outs rs))
-  back_ends outs rs long s = (length-map (joined outs rs) end_at ∙ joined_long outs rs long, back_end outs rs long s)
+  pub back_ends : (p : Plan) (outs : List O) (rs : List (Rest I P)) → length outs ≡ p.links → length outs ≡ length rs → AllByRecursion IsSilent rs → AreBackEnds out_state p outs (map end_at (joined outs rs))
+  back_ends p outs rs count long s = record { as_many = length-map (joined outs rs) end_at ∙ (joined_long outs rs long ∙ count); each = back_end outs rs long s }

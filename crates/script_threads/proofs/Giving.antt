@@ -21,6 +21,7 @@ use Rattle.sock_programs.specs.Tasks.{plan_of}
 use Rattle.sock_table.specs.Closed.{ClosedBy}
 use Rattle.rpc_client.specs.declared.acting.Operation.{Operation}
 use Rattle.rpc_client.specs.declared.acting.Told.{Told}
+use Rattle.table_told.specs.Back.{AreBackEnds}
 use Rattle.table_told.specs.Threads.{ThreadRun}
 use Rattle.table_told.proofs.Scripts.{places_of_threads}
 use Rattle.thread_run.specs.Crew.{AreBack}
@@ -28,7 +29,7 @@ use Rattle.thread_run.specs.Threads.{RanOn}
 use Rattle.script_threads.specs.Asked.{EachAsked}
 use Rattle.script_threads.specs.Halves.{AreTaken}
 use Rattle.script_threads.specs.Saying.{said_by_each}
-use Rattle.script_threads.specs.Told.{AreBackEnds, IsThreadText}
+use Rattle.script_threads.specs.Told.{IsThreadText}
 use Rattle.script_threads.proofs.Linked.{all_linked}
 use Rattle.script_threads.proofs.Ran.{run_of_all}
 use Rattle.script_threads.proofs.Telling.{to_slice, nothing_told}
@@ -51,7 +52,7 @@ module _ {O : Type 0} {g : Ghosts O} (state : O → OutState) (bytes : List ℕ)
   run : ThreadRun g state (plan_of script) (all_tasks script) (said_by_each (replicate (plan_of script).operations nothing_told) told) places vrefs outs
   run = run_of_all state (plan_of script) (all_tasks script) (tasks_of_script bytes script reads) (all_linked script) setup clients asked told places vrefs outs ran
 
-  pub text_from : {T E : Type 0} (items : T → List ℕ) (r : Result T E) (links : List LinkEnd) → AreBackEnds state outs links → IfOk r (Says state items script (plan_of script).operations told places outs) → IfOk r (λ t. IsThreadText script (items t) links)
+  pub text_from : {T E : Type 0} (items : T → List ℕ) (r : Result T E) (links : List LinkEnd) → AreBackEnds state (plan_of script) outs links → IfOk r (Says state items script (plan_of script).operations told places outs) → IfOk r (λ t. IsThreadText script (items t) links)
   text_from items (Ok t) links back h =
       let ok = places_of_threads bytes script reads run in
       let w = h (said_by_each (replicate (plan_of script).operations nothing_told) told) refl ok.0 ok.1 in

@@ -7,4 +7,5 @@ pub mod Ran
 pub mod Backs
 pub mod Whole
 pub mod Moving
+pub mod Plainly
 pub mod Giving

@@ -1,4 +1,5 @@
 pub mod Asked
+pub mod Built
 pub mod Halves
 pub mod Ready
 pub mod Saying

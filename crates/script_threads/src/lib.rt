@@ -2,8 +2,10 @@
 #![tactic(auto)]
 
 mod asking;
+mod built;
 mod halves;
 mod run;
 mod saying;
 
+pub use built::is_built;
 pub use run::run_script_on_threads;
