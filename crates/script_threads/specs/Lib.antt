@@ -1,6 +1,0 @@
-pub mod Asked
-pub mod Built
-pub mod Halves
-pub mod Ready
-pub mod Saying
-pub mod Told
