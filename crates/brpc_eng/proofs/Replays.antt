@@ -1,5 +1,5 @@
 -- How `replay` ends, by what its calls say.
-use Rattle.std.proofs.Common.{◌≡◌, ◌≢◌, ℕ, ◌≤◌, inl, false, List, length, Some, Vec, Result, Ok, Err, refl, ap, sym, ◌∙◌, subst, arith, option_map}
+use Rattle.std.proofs.Common.{◌≡◌, ◌≢◌, ℕ, ◌≤◌, inl, false, List, length, Option, Some, Vec, Result, Ok, Err, refl, ap, sym, ◌∙◌, subst, arith, option_map}
 use Rattle.std.specs.declared.alloc.Global.{Global}
 use Rattle.brpc_model.specs.Items.{Item}
 use Rattle.brpc_model.specs.Script.{script_of}
@@ -24,21 +24,21 @@ pub fault_written : (out : answer.Output) (line kind : ℕ) (text : List ℕ) �
 fault_written out line kind text e wrote = let P : List ℕ → Type 0 = λ x. answer.Wrote out x in inl (refl, subst P e wrote)
 
 -- where the whole input was read, it is within its limit
-within_limit : (input : answer.Input) (bytes : List ℕ) (read : Vec ℕ Global) → ReadWhole input.given input.left bytes (Ok read) → length bytes ≤ script_limit
-within_limit input bytes read whole = whole.within (λ e. absurd (cc)) (λ e. absurd (cc))
+within_limit : (given left : Option (List ℕ)) (bytes : List ℕ) (read : Vec ℕ Global) → ReadWhole given left bytes (Ok read) → length bytes ≤ script_limit
+within_limit given left bytes read whole = whole.within (λ e. absurd (cc)) (λ e. absurd (cc))
 
 whole_input : (turns : List Item → List Turn) (input : answer.Input) (out : answer.Output) (links : answer.Links) (bytes : List ℕ) (read : Vec ℕ Global) (status : ℕ) → ReadWhole input.given input.left bytes (Ok read) →
     answer.Replayed turns input out links bytes status → answer.ReplayedInput turns input out links status
 whole_input turns input out links bytes read status whole replayed =
-    let few = within_limit input bytes read whole in
+    let few = within_limit input.given input.left bytes read whole in
     record { bytes = bytes; came = whole.came; most = whole.most; too_long = λ long. absurd (omega (arith, long, few)); replayed = replayed }
 
 -- the bytes that came are those that were read as a script
 came_is : (input : answer.Input) (bytes seen : List ℕ) (read : Vec ℕ Global) → ReadWhole input.given input.left bytes (Ok read) → seen ≡ read.items → seen ≡ bytes
 came_is input bytes seen read whole e = e ∙ whole.whole.0
 
-pub read_few : (input : answer.Input) (bytes seen : List ℕ) (read : Vec ℕ Global) → ReadWhole input.given input.left bytes (Ok read) → seen ≡ read.items → length seen ≤ script_limit
-read_few input bytes seen read whole e = let few = within_limit input bytes read whole in let long = ap length (came_is input bytes seen read whole e) in omega (arith, few, long)
+pub read_few : (given left : Option (List ℕ)) (bytes seen : List ℕ) (read : Vec ℕ Global) → ReadWhole given left bytes (Ok read) → seen ≡ read.items → length seen ≤ script_limit
+read_few given left bytes seen read whole e = let few = within_limit given left bytes read whole in let long = ap length (e ∙ whole.whole.0) in omega (arith, few, long)
 
 pub replays_read : (turns : List Item → List Turn) (input : answer.Input) (out : answer.Output) (links : answer.Links) (status : ℕ) (bytes seen : List ℕ) (read : Vec ℕ Global) (script : List Item) →
     ReadWhole input.given input.left bytes (Ok read) → seen ≡ read.items → script_of seen ≡ Ok script →

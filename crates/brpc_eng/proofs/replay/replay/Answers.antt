@@ -4,7 +4,7 @@ use Rattle.brpc_eng.proofs.Replays.{read_few, replays_read, replays_faulty}
 use Rattle.brpc_eng.proofs.replay.replay.Goals as goal
 
 pub run_and_report-requires-clause-script : goal.run_and_report-requires-clause-script
-run_and_report-requires-clause-script g c κs within = (c.deref.result.now, c.in-Ok-read_script.ensures.script, read_few _ c.in-Ok.ensures.came.0 c.deref.result.now c.in-Ok.bytes c.in-Ok.ensures.came.1 c.deref.ensures.value)
+run_and_report-requires-clause-script g c κs within = (c.deref.result.now, c.in-Ok-read_script.ensures.script, read_few _ _ c.in-Ok.ensures.came.0 c.deref.result.now c.in-Ok.bytes c.in-Ok.ensures.came.1 c.deref.ensures.value)
 
 pub run_and_report-requires-clause-pieces : goal.run_and_report-requires-clause-pieces
 run_and_report-requires-clause-pieces g c κs within = has_pieces c.deref.result.now _ c.in-Ok-read_script.ensures.script
