@@ -49,7 +49,7 @@ module _ {O : Type 0} {g : Ghosts O} where
       all = h.all;
     }
 
-    one : (c first : ℕ) (ts : List Task) (x : Run g) → HasRun state p c first x → AreAsked ts x.operations → links_of ts ≡ from_to first (length (links_of ts)) → Threaded g state p
+    abbrev one : (c first : ℕ) (ts : List Task) (x : Run g) → HasRun state p c first x → AreAsked ts x.operations → links_of ts ≡ from_to first (length (links_of ts)) → Threaded g state p
     one c first ts x h asked links = record { client = c; tasks = ts; thread = thread_of x; is = is_thread c first ts x h asked links }
 
     -- clients from c on, which waited for these names, each with its tasks
