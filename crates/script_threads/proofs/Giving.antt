@@ -1,5 +1,5 @@
 -- What a run on threads gives back, and the text of its report.
-use Rattle.std.proofs.Common.{◌≡◌, ℕ, ◌+◌, ◌<◌, true, List, ◌∷◌, length, map, replicate, Option, Some, None, Result, Ok, Err, IfOk, refl, sym, ap, ◌∙◌, subst, arith}
+use Rattle.std.proofs.Common.{◌≡◌, ℕ, ◌+◌, true, List, ◌∷◌, length, map, replicate, Option, None, Result, Ok, Err, IfOk, refl, sym, ap, ◌∙◌, subst, arith}
 use Rattle.std.proofs.lemmas.Option.{slice_get_within}
 use mathlib.Core.Option.{some, some-injective}
 use lib.ListN.{get_elem?}
@@ -86,6 +86,6 @@ module _ {O I P : Type 0} {g : Ghosts O} (state : O → OutState) (in_state : I 
       let silent : AllByRecursion (IsSilent state in_state) rests = subst (AllByRecursion (IsSilent state in_state)) (sym rests_are) (are_silent state in_state 0 ends untouched) in
       let given : AreBackEnds state (plan_of script) outs links = subst (AreBackEnds state (plan_of script) outs) (sym (links_are ∙ ap (map (end_at state in_state)) back_is)) (back_ends state in_state (plan_of script) outs rests (count ∙ same) (omega arith) silent) in
       text_from state bytes script reads callless setup clients asked told places vrefs outs (subst (λ (x : Plan). RanOn g state x setup clients told places vrefs outs) plan ran) items r links given
-          (subst (λ (n : ℕ). IfOk r (Says state items script n told places outs)) (ap (λ (x : Plan). x.operations) plan)
-          (subst (λ (l : List PlaceWord). IfOk r (Says state items script q.operations told l outs)) words_are
-          (subst (λ (l : List O). IfOk r (Says state items script q.operations told words l)) halves_are h)))
+      (subst (λ (n : ℕ). IfOk r (Says state items script n told places outs)) (ap (λ (x : Plan). x.operations) plan)
+      (subst (λ (l : List PlaceWord). IfOk r (Says state items script q.operations told l outs)) words_are
+      (subst (λ (l : List O). IfOk r (Says state items script q.operations told words l)) halves_are h)))

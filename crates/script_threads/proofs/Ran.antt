@@ -1,5 +1,5 @@
 -- A run of all clients of a script over a table is a run of its tasks on threads.
-use Rattle.std.proofs.Common.{◌≡◌, ◌≢◌, ℕ, zero, suc, ◌+◌, ◌<◌, Bool, true, false, ◌==◌, ◌&&◌, ◌||◌, if◌then◌else◌, inl, inr, List, [], ◌∷◌, ◌++◌, length, map, replicate, slice_get, Option, Some, refl, sym, ap, ◌∙◌, subst, arith}
+use Rattle.std.proofs.Common.{◌≡◌, ℕ, zero, suc, ◌+◌, ◌<◌, Bool, true, false, ◌==◌, ◌&&◌, ◌||◌, if◌then◌else◌, List, [], ◌∷◌, ◌++◌, length, map, replicate, slice_get, Option, refl, sym, ap, ◌∙◌, subst, arith}
 use Rattle.std.proofs.lemmas.Bool.Decides.{Decides-eqb}
 use Rattle.std.proofs.lemmas.Option.{same_Some}
 use mathlib.Core.Logic.{dite}
@@ -25,11 +25,11 @@ use Rattle.rpc_client.specs.declared.acting.Action.{Action}
 use Rattle.rpc_client.specs.declared.acting.Action.TheVariants as action
 use Rattle.rpc_client.specs.declared.acting.Operation.{Operation}
 use Rattle.rpc_client.specs.declared.acting.Told.{Told}
-use Rattle.table_told.specs.Threads.{Threaded, ThreadRun, AreAsked, AsksFor, links_of, tasks_of, seat_of}
+use Rattle.table_told.specs.Threads.{Threaded, ThreadRun, AreAsked, AsksFor, links_of, tasks_of}
 use Rattle.table_told.proofs.Flats.{append_later}
 use Rattle.table_told.proofs.OneThread.{asked_of}
 use Rattle.thread_run.specs.Threads.{is_opened, opened_in, name_if, opened_names, RanOn}
-use Rattle.thread_run.specs.Threads.{Thread as Run, AreThreads}
+use Rattle.thread_run.specs.Threads.{AreThreads}
 use Rattle.script_threads.specs.Asked.{EachAsked}
 use Rattle.script_threads.specs.Saying.{said_by_each}
 use Rattle.script_threads.proofs.MayAsk.{opens_are}

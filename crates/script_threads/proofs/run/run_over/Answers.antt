@@ -1,4 +1,4 @@
-use Rattle.std.proofs.Common.{◌≡◌, List, map, length, ap, sym, subst, ◌∙◌, arith}
+use Rattle.std.proofs.Common.{map, length, ap, sym, subst, ◌∙◌, arith}
 use Rattle.std.proofs.lemmas.List.{length-map}
 use Rattle.sock_io.specs.Link.{end_of}
 use Rattle.sock_open.specs.Opening.{MayBegin, AreFresh}
