@@ -1,7 +1,7 @@
 -- The links of the sockets that a script opens are numbered along its clients, one after the other.
 use Rattle.std.proofs.Common.{◌≡◌, ℕ, zero, suc, ◌+◌, List, [], ◌∷◌, ◌++◌, length, count_by, cond, append-nil, length-append, refl, sym, ap, ◌∙◌, subst, arith}
 use Rattle.std.proofs.lemmas.List.Sums.{sum_by-cons}
-use Rattle.brpc_model.specs.Items.{Item, Slots, Requests, First, Open, Client, Sched, Tick, To, Shape, is_open}
+use Rattle.brpc_model.specs.Items.{Item, Slots, Requests, First, Open, Client, Sched, Tick, To, is_open}
 use Rattle.brpc_model.specs.Operations.{link_names}
 use Rattle.brpc_model.specs.Places.{names}
 use Rattle.sock_programs.specs.declared.task.Op.TheVariants as ops
@@ -47,7 +47,7 @@ one_opened first link own t one h =
     let more : links_of (own ++ t ∷ []) ≡ links_of own ++ link ∷ [] = flat-append (λ (x : Task). link_of x.op) own (t ∷ []) ∙ ap (λ l. links_of own ++ (l ++ [])) one in
     let n = ap length more ∙ length-append (links_of own) (link ∷ []) in let e = h.next in let longer : suc (length (links_of own)) ≡ length (links_of (own ++ t ∷ [])) = omega arith in record {
       are = more ∙ (ap (λ (k : ℕ). links_of own ++ k ∷ []) (sym e) ∙ (ap (λ l. l ++ (first + length (links_of own)) ∷ []) h.are
-      ∙ (sym (range-snoc first (length (links_of own))) ∙ ap (from_to first) longer)));
+          ∙ (sym (range-snoc first (length (links_of own))) ∙ ap (from_to first) longer)));
       next = omega arith;
     }
 

@@ -1,8 +1,8 @@
 -- What a script asks of threads: only operations that they have, and for each socket a link.
-use Rattle.std.proofs.Common.{◌≡◌, ◌≢◌, ℕ, ◌+◌, ◌-◌, ◌<◌, ◌≤◌, true, false, List, [], ◌∷◌, length, slice_get, length-append, Some, Ok, refl, sym, ap, ◌∙◌, subst, arith}
+use Rattle.std.proofs.Common.{◌≡◌, ℕ, ◌+◌, ◌<◌, ◌≤◌, true, false, List, [], ◌∷◌, length, length-append, Some, Ok, refl, sym, ap, ◌∙◌, subst, arith}
 use Rattle.std.specs.List.{AllByRecursion}
 use Rattle.brpc_model.specs.Items.{Item, Call, Expire, Join}
-use Rattle.brpc_model.specs.Operations.{operations, clients}
+use Rattle.brpc_model.specs.Operations.{clients}
 use Rattle.brpc_model.specs.Places.{names}
 use Rattle.brpc_model.specs.Script.{script_of}
 use Rattle.sock_words.specs.declared.plain.Plan.{Plan}
@@ -14,7 +14,7 @@ use Rattle.sock_programs.specs.Tasks.{numbered, plan_of}
 use Rattle.sock_programs.specs.Told.{AreTasks, OpFits, TaskFits}
 use Rattle.sock_open.specs.Opening.{MayBegin}
 use Rattle.report_fits.proofs.Callless.{not_later}
-use Rattle.report_fits.proofs.Lists.{Has, all_from}
+use Rattle.report_fits.proofs.Lists.{all_from}
 use Rattle.report_fits.proofs.Numbering.{are_from}
 use Rattle.report_fits.proofs.Sizes.{keeps_limits}
 use Rattle.report_fits.proofs.TaskLemmas.{IsTaskOf, numbers_at, of_tasks, has_task, call_asks, expire_asks, join_asks, tasks_length}

@@ -1,5 +1,5 @@
 -- What threads told, put together by the numbers of their operations.
-use Rattle.std.proofs.Common.{◌≡◌, ◌≢◌, ℕ, zero, suc, ◌<◌, ◌≤◌, ◌⊎◌, inl, inr, List, [], ◌∷◌, length, flat_map, map, replicate, slice_get, Option, Some, None, refl, sym, ap, ◌∙◌, subst, arith}
+use Rattle.std.proofs.Common.{◌≡◌, ◌≢◌, ℕ, zero, suc, ◌<◌, ◌≤◌, inl, inr, List, [], ◌∷◌, length, flat_map, map, replicate, slice_get, Option, Some, None, sym, ap, ◌∙◌, subst, arith}
 use Rattle.std.proofs.lemmas.Option.{none-some, same_Some}
 use Rattle.std.specs.List.{AllByRecursion}
 use mathlib.Core.Option.{some, some-injective, some-ne-none}
@@ -18,7 +18,7 @@ use Rattle.report_fits.proofs.Lists.{all_from, all_at, before_from, before_at}
 use Rattle.rpc_client.specs.declared.acting.Told.{Told}
 use Rattle.rpc_client.specs.Running.{telling}
 use Rattle.table_told.specs.Moments.{tells, moments_of}
-use Rattle.table_told.specs.Threads.{Threaded, AreOutcomes, TellsOf, tasks_of}
+use Rattle.table_told.specs.Threads.{Threaded, AreOutcomes, tasks_of}
 use Rattle.table_told.proofs.Acts.{map_get, get_map}
 use Rattle.table_told.proofs.Flats.{flat_from, flat_rises}
 use Rattle.table_told.proofs.OneThread.{moment_at, tells_is}
@@ -91,9 +91,9 @@ module _ {O : Type 0} {g : Ghosts O} {state : O → OutState} {p : Plan} (tss : 
       let w = get_map told_of threads i ts e in
       let v = get_map told_of threads j us f in
       all_from (λ (t : Told). Silent t.number us) ts (λ t h. all_from (λ (u : Told). u.number ≢ t.number) us (λ u k.
-          one_client i j w.0 v.0 t.number u.number (λ q. absurd (omega (arith, less, q))) w.1 v.1
-          (own_task w.0 h.0 t (ap (λ l. get_elem? l h.0) w.2 ∙ from_slice ts h.0 t h.1))
-          (own_task v.0 k.0 u (ap (λ l. get_elem? l k.0) v.2 ∙ from_slice us k.0 u k.1)))))
+      one_client i j w.0 v.0 t.number u.number (λ q. absurd (omega (arith, less, q))) w.1 v.1
+      (own_task w.0 h.0 t (ap (λ l. get_elem? l h.0) w.2 ∙ from_slice ts h.0 t h.1))
+      (own_task v.0 k.0 u (ap (λ l. get_elem? l k.0) v.2 ∙ from_slice us k.0 u k.1)))))
 
   low : (c : ℕ) (y : Threaded g state p) (i : ℕ) (t : Told) → get_elem? threads c ≡ some y → get_elem? (told_of y) i ≡ some t → t.number < p.operations
   low c y i t at there = let w = own_task y i t there in let f = (all_at (TaskFits p) y.tasks w.task (fits_of p tss are c y.tasks (tasks_there c y at)) (w.place, w.there)).0 in let s = w.same in omega arith

@@ -1,5 +1,5 @@
 -- A run of all clients of a script over a table is a run of its tasks on threads.
-use Rattle.std.proofs.Common.{◌≡◌, ◌≢◌, ℕ, zero, suc, ◌+◌, ◌<◌, Bool, true, false, ◌==◌, ◌&&◌, ◌||◌, if◌then◌else◌, inl, inr, List, [], ◌∷◌, ◌++◌, length, map, replicate, slice_get, Option, Some, refl, sym, ap, ◌∙◌, subst, arith}
+use Rattle.std.proofs.Common.{◌≡◌, ℕ, zero, suc, ◌+◌, ◌<◌, Bool, true, false, ◌==◌, ◌&&◌, ◌||◌, if◌then◌else◌, List, [], ◌∷◌, ◌++◌, length, map, replicate, slice_get, Option, refl, sym, ap, ◌∙◌, subst, arith}
 use Rattle.std.proofs.lemmas.Bool.Decides.{Decides-eqb}
 use Rattle.std.proofs.lemmas.Option.{same_Some}
 use mathlib.Core.Logic.{dite}
@@ -25,11 +25,11 @@ use Rattle.rpc_client.specs.declared.acting.Action.{Action}
 use Rattle.rpc_client.specs.declared.acting.Action.TheVariants as action
 use Rattle.rpc_client.specs.declared.acting.Operation.{Operation}
 use Rattle.rpc_client.specs.declared.acting.Told.{Told}
-use Rattle.table_told.specs.Threads.{Threaded, ThreadRun, AreAsked, AsksFor, links_of, tasks_of, seat_of}
+use Rattle.table_told.specs.Threads.{Threaded, ThreadRun, AreAsked, AsksFor, links_of, tasks_of}
 use Rattle.table_told.proofs.Flats.{append_later}
 use Rattle.table_told.proofs.OneThread.{asked_of}
 use Rattle.thread_run.specs.Threads.{is_opened, opened_in, name_if, opened_names, RanOn}
-use Rattle.thread_run.specs.Threads.{Thread as Run, AreThreads}
+use Rattle.thread_run.specs.Threads.{AreThreads}
 use Rattle.script_threads.specs.Asked.{EachAsked}
 use Rattle.script_threads.specs.Saying.{said_by_each}
 use Rattle.script_threads.proofs.MayAsk.{opens_are}
@@ -77,10 +77,10 @@ module _ {O : Type 0} {g : Ghosts O} (state : O → OutState) (p : Plan) (ts : L
   own_asked : AreAsked ts ran.ran.main.operations
   own_asked = subst (AreAsked ts) (sym ran.ran.setup_asked) asked.0
 
-  main : Threaded g state p
+  abbrev main : Threaded g state p
   main = record { client = 0; tasks = ts; thread = thread_of ran.ran.main; is = is_thread state p 0 0 ts ran.ran.main ran.ran.main_is own_asked linked.0 }
 
-  opened : List ℕ
+  abbrev opened : List ℕ
   opened = opened_names ran.ran.main.ended.outcomes.items setup
 
   others : Dealt state p opened 1 tss ran.ran.others
@@ -88,7 +88,7 @@ module _ {O : Type 0} {g : Ghosts O} (state : O → OutState) (p : Plan) (ts : L
       (subst (λ (k : ℕ). AreThreads state p opened 1 k ran.ran.others) (opens_are ts setup asked.0 ∙ omega arith) ran.ran.others_are)
       (subst (EachAsked tss) (sym ran.ran.asked) asked.1) linked.1
 
-  threads : List (Threaded g state p)
+  abbrev threads : List (Threaded g state p)
   threads = main ∷ others.threads
 
   all : map tasks_of threads ≡ ts ∷ tss
@@ -97,7 +97,7 @@ module _ {O : Type 0} {g : Ghosts O} (state : O → OutState) (p : Plan) (ts : L
   tolds : map told_of threads ≡ told
   tolds = ap (λ l. ran.ran.main.ended.outcomes.items ∷ l) others.told ∙ ran.ran.told_is
 
-  outcomes : List (Option Outcome)
+  abbrev outcomes : List (Option Outcome)
   outcomes = said_by_each (replicate p.operations nothing_told) (map told_of threads)
 
   numbered : (c : ℕ) (y : Threaded g state p) → get_elem? threads c ≡ some y → y.client ≡ c

@@ -1,19 +1,15 @@
 -- The threads of a script, each with the tasks that it was asked for.
-use Rattle.std.proofs.Common.{◌≡◌, ℕ, zero, suc, ◌+◌, ◌<◌, List, [], ◌∷◌, ◌++◌, length, map, reverse, refl, sym, ap, ◌∙◌, subst, arith}
+use Rattle.std.proofs.Common.{◌≡◌, ℕ, zero, suc, ◌+◌, List, [], ◌∷◌, length, map, reverse, refl, sym, ap, ◌∙◌, subst, arith}
 use Rattle.std.proofs.lemmas.List.{reverse-append}
 use mathlib.Core.Option.{some, some-injective, some-ne-none}
 use lib.ListN.{get_elem?}
-use Rattle.atomic_table.specs.declared.shared.Seat.{Seat}
 use Rattle.sock_io.specs.declared.link.Out.{Ghosts}
 use Rattle.sock_io.specs.Link.{OutState}
 use Rattle.sock_words.specs.declared.plain.Plan.{Plan}
 use Rattle.sock_model.specs.declared.view.View.{View}
 use Rattle.sock_programs.specs.declared.task.Task.{Task}
 use Rattle.sock_programs.specs.Runs.{from_to}
-use Rattle.sock_rule.specs.declared.homes.SockHome.{SockHome}
 use Rattle.sock_table.specs.declared.passes.LinkPass.{LinkPass}
-use Rattle.rpc_client.specs.declared.acting.Operation.{Operation}
-use Rattle.rpc_client.specs.declared.acting.Told.{Told}
 use Rattle.table_told.specs.Threads.{Thread, FoundEach, IsThread, Threaded, AreAsked, links_of, tasks_of, seat_of}
 use Rattle.thread_run.specs.Threads.{LinksDown, AreThreads}
 use Rattle.thread_run.specs.Threads.{Thread as Run, FoundEach as WaitedEach, IsThread as HasRun}
@@ -49,7 +45,7 @@ module _ {O : Type 0} {g : Ghosts O} where
       all = h.all;
     }
 
-    one : (c first : ℕ) (ts : List Task) (x : Run g) → HasRun state p c first x → AreAsked ts x.operations → links_of ts ≡ from_to first (length (links_of ts)) → Threaded g state p
+    abbrev one : (c first : ℕ) (ts : List Task) (x : Run g) → HasRun state p c first x → AreAsked ts x.operations → links_of ts ≡ from_to first (length (links_of ts)) → Threaded g state p
     one c first ts x h asked links = record { client = c; tasks = ts; thread = thread_of x; is = is_thread c first ts x h asked links }
 
     -- clients from c on, which waited for these names, each with its tasks

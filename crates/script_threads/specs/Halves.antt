@@ -1,8 +1,7 @@
 -- The halves of links, apart and together again.
-use Rattle.std.specs.Prelude.{◌≡◌, ℕ, List, [], ◌∷◌, length, slice_get, unwrap_or, Some, IfSome}
+use Rattle.std.specs.Prelude.{◌≡◌, ℕ, List, [], ◌∷◌, slice_get, Some, IfSome}
 use Rattle.sock_io.specs.declared.link.Ends.{Ends}
-use Rattle.sock_io.specs.Link.{OutState, InState, end_of}
-use Rattle.brpc_model.specs.Link.{LinkEnd}
+use Rattle.sock_io.specs.Link.{OutState}
 use Rattle.brpc_model.specs.PlaceWords.{took_at}
 use Rattle.sock_open.specs.Opening.{IsRoom}
 use Rattle.std.specs.VecDeque.{deque_len, deque_capacity}

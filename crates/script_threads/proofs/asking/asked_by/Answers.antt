@@ -1,4 +1,4 @@
-use Rattle.std.proofs.Common.{◌≡◌, ap, sym, subst, ◌∙◌, List, map}
+use Rattle.std.proofs.Common.{ap, sym, subst, ◌∙◌, map}
 use Rattle.std.specs.List.{AllByRecursion}
 use Rattle.sock_programs.specs.Scripts.{all_tasks}
 use Rattle.report_fits.specs.Limits.{KeepsLimits}

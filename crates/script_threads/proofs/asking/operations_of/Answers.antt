@@ -1,4 +1,4 @@
-use Rattle.std.proofs.Common.{◌≡◌, ◌++◌, ◌∷◌, [], subst, rules}
+use Rattle.std.proofs.Common.{◌≡◌, ◌∷◌, subst, rules}
 use Rattle.script_threads.specs.Asked.{ArePlain}
 use Rattle.script_threads.proofs.Moving.{asking_more}
 use Rattle.script_threads.proofs.asking.operations_of.Goals as goal

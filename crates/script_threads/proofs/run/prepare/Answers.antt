@@ -1,4 +1,4 @@
-use Rattle.std.proofs.Common.{◌≡◌, ◌∷◌, ap, sym, subst, ◌∙◌, List, map, length, arith}
+use Rattle.std.proofs.Common.{ap, sym, subst, ◌∙◌, map, arith}
 use Rattle.sock_programs.specs.Scripts.{all_tasks}
 use Rattle.sock_programs.specs.Tasks.{plan_of}
 use Rattle.report_fits.specs.Limits.{KeepsLimits}
@@ -9,8 +9,8 @@ use Rattle.script_threads.proofs.MayAsk.{some_asked}
 use Rattle.script_threads.proofs.Moving.{front_of}
 use Rattle.script_threads.proofs.run.prepare.Goals as goal
 
-pub plan_of-plan-requires : goal.plan_of-plan-requires
-plan_of-plan-requires g c = subst KeepsLimits (sym c.lines.ensures) (keeps_limits c.requires.script.0 c.args.script.now c.requires.script.1)
+pub plan_of-requires : goal.plan_of-requires
+plan_of-requires g c = subst KeepsLimits (sym c.lines.ensures) (keeps_limits c.requires.script.0 c.args.script.now c.requires.script.1)
 
 pub remove-setup-requires : goal.remove-setup-requires
 remove-setup-requires g c =
