@@ -28,6 +28,7 @@ use Rattle.sock_steps.proofs.RuleSteps.{claim_rule, birth_rule, add_rule, sub_ru
 use Rattle.sock_rule.specs.OnTable.{OnTable}
 use Rattle.sock_rule.specs.Plays.{WordFits, claim_told, birth_told, add_told, sub_told, fail_told, recycle_told, free_told, look_told}
 use Rattle.sock_rule.proofs.Beside.{beside}
+use Rattle.sock_rule.proofs.Faults.{claimed_same, birth_same, added_same, subbed_same, failed_same, recycled_same, freed_same}
 use Rattle.sock_rule.proofs.Settling.{slot_settled}
 
 -- a claim is one mark that its seat has of the slot
@@ -39,7 +40,7 @@ staged_busy : (k : ℕ) (m : Mark) → is_stage 3 k m ≤ is_busy m
 staged_busy k (Claimed n d) = pair_le 3 k n d
 staged_busy k _ = omega arith
 
-module _ {S : Type 0} (shows : S → Home) (p : Plan) (slots id : ℕ) (me : Me S View) (mine : me.0.plan ≡ p) (some_ : 0 < me.0.share) (i : ℕ) (inside : i < p.slots) where
+module _ {S : Type 0} (shows : S → Home) (rose : S → ℕ) (p : Plan) (slots id : ℕ) (me : Me S View) (mine : me.0.plan ≡ p) (some_ : 0 < me.0.share) (i : ℕ) (inside : i < p.slots) where
   abbrev v : View
   v = me.0
 
@@ -51,7 +52,7 @@ module _ {S : Type 0} (shows : S → Home) (p : Plan) (slots id : ℕ) (me : Me 
   of_tag f x at = let e : i ≡ x = omega arith in ap (λ (y : ℕ). (f y, me.1)) e
 
   -- what the seat knows of the word that it finds
-  pub word_fits : (s : State S View) → OnTable shows p s → get_elem? s.views id ≡ some me.0 → get_or s.words (ref_word i) 0 < 18446744073709551616 → (x : ℕ) → ref_word i ≡ ref_word x → WordFits x (get_or s.words (ref_word i) 0) me.0
+  pub word_fits : (s : State S View) → OnTable shows rose p s → get_elem? s.views id ≡ some me.0 → get_or s.words (ref_word i) 0 < 18446744073709551616 → (x : ℕ) → ref_word i ≡ ref_word x → WordFits x (get_or s.words (ref_word i) 0) me.0
   word_fits s t here fits x at = let e : i ≡ x = omega arith in let refs = t.rule.lawful.references in subst (λ (y : ℕ). WordFits y (get_or s.words (ref_word i) 0) me.0) e record {
     known = λ h some_known. known_found p s refs id me.0 here me.1 keeps i inside h some_known;
     held = λ h some_held. life_found p s refs id me.0 here me.1 keeps i inside fits h some_held;
@@ -59,22 +60,22 @@ module _ {S : Type 0} (shows : S → Home) (p : Plan) (slots id : ℕ) (me : Me 
   }
 
   -- A1
-  pub claims : Allows (OnTable shows p) slots id me (tag_word i) (λ _. 1) (claim_told (step slots (tag_word i) 1 0 none) me)
+  pub claims : Allows (OnTable shows rose p) slots id me (tag_word i) (λ _. 1) (claim_told (step slots (tag_word i) 1 0 none) me)
   claims s t long here fits = let tag : ℕ = get_or s.words (tag_word i) 0 in (
     claimed i tag v,
     keeps,
     tt,
-    beside t id v (claimed i tag v) here some_ (set s.words (tag_word i) 1) s.homes refl record { share = refl; lists = refl; finds = refl; stores = λ x y. omega arith; accepts = λ l. omega arith; labels = λ x. x } (slot_settled t.settled _ _ (omega arith) (λ j e. omega arith)) (claim_rule t.rule id v here mine i inside),
+    beside t id v (claimed i tag v) here some_ (set s.words (tag_word i) 1) s.homes (refl, λ l ll. refl) record { share = refl; lists = refl; finds = refl; stores = λ x y. omega arith; accepts = λ l. omega arith; labels = λ x. x } record { faults = λ l. claimed_same l i v tag; outs = λ l. omega arith } (slot_settled t.settled _ _ (omega arith) (λ j e. omega arith)) (claim_rule t.rule id v here mine i inside),
     of_tag (λ y. claimed y tag v),
   )
 
   -- A2
-  pub births : (k : ℕ) → 0 < marks_of (is_stage 3 k) i v → Allows (OnTable shows p) slots id me (ref_word i) (λ n. (n + 1) % 2 ^ 64) (birth_told (step slots (ref_word i) 1 0 none) me)
+  pub births : (k : ℕ) → 0 < marks_of (is_stage 3 k) i v → Allows (OnTable shows rose p) slots id me (ref_word i) (λ n. (n + 1) % 2 ^ 64) (birth_told (step slots (ref_word i) 1 0 none) me)
   births k there s t long here fits = let found : ℕ = get_or s.words (ref_word i) 0 in let refs = t.rule.lawful.references in let law = refs.slots i inside in let few = few_refs p s refs i inside in (
     gave_birth i found k v,
     keeps,
     tt,
-    beside t id v (gave_birth i found k v) here some_ (set s.words (ref_word i) ((found + 1) % 2 ^ 64)) s.homes refl record { share = refl; lists = refl; finds = refl; stores = λ x y. omega arith; accepts = λ l. omega arith; labels = λ x. x } (slot_settled t.settled _ _ (omega arith) (λ j e. omega arith))
+    beside t id v (gave_birth i found k v) here some_ (set s.words (ref_word i) ((found + 1) % 2 ^ 64)) s.homes (refl, λ l ll. refl) record { share = refl; lists = refl; finds = refl; stores = λ x y. omega arith; accepts = λ l. omega arith; labels = λ x. x } record { faults = λ l. birth_same l i v found k; outs = λ l. omega arith } (slot_settled t.settled _ _ (omega arith) (λ j e. omega arith))
         (birth_rule t.rule id v here mine i inside fits k there),
     (
       omega arith,
@@ -87,46 +88,46 @@ module _ {S : Type 0} (shows : S → Home) (p : Plan) (slots id : ℕ) (me : Me 
   )
 
   -- A3
-  pub adds : marks_of is_ref i v < 65540 → Allows (OnTable shows p) slots id me (ref_word i) (λ n. (n + 1) % 2 ^ 64) (add_told (step slots (ref_word i) 1 0 none) me)
+  pub adds : marks_of is_ref i v < 65540 → Allows (OnTable shows rose p) slots id me (ref_word i) (λ n. (n + 1) % 2 ^ 64) (add_told (step slots (ref_word i) 1 0 none) me)
   adds room s t long here fits = let found : ℕ = get_or s.words (ref_word i) 0 in let h : ℕ = version_of found in let few = few_refs p s t.rule.lawful.references i inside in let b : Bool = knows i h v in (
     added i found b v,
     keeps,
     tt,
-    beside t id v (added i found b v) here some_ (set s.words (ref_word i) ((found + 1) % 2 ^ 64)) s.homes refl record { share = refl; lists = refl; finds = refl; stores = λ x y. omega arith; accepts = λ l. omega arith; labels = λ x. x } (slot_settled t.settled _ _ (omega arith) (λ j e. omega arith))
+    beside t id v (added i found b v) here some_ (set s.words (ref_word i) ((found + 1) % 2 ^ 64)) s.homes (refl, λ l ll. refl) record { share = refl; lists = refl; finds = refl; stores = λ x y. omega arith; accepts = λ l. omega arith; labels = λ x. x } record { faults = λ l. added_same l i v found b; outs = λ l. omega arith } (slot_settled t.settled _ _ (omega arith) (λ j e. omega arith))
         (add_rule t.rule id v here mine i inside fits b (λ e. ltb-true 0 (marks_of (is_known h) i v) e) room),
     (omega arith, λ x at. (of_ref (λ y. added y found (knows y h v) v) x at, word_fits s t here fits x at)),
   )
 
   -- A4
-  pub subs : 0 < marks_of is_ref i v → marks_of is_any_coding i v ≡ 0 → KeepsRights i v → Allows (OnTable shows p) slots id me (ref_word i) (λ n. (n + (2 ^ 64 - 1)) % 2 ^ 64) (sub_told (step slots (ref_word i) 1 0 none) me)
+  pub subs : 0 < marks_of is_ref i v → marks_of is_any_coding i v ≡ 0 → KeepsRights i v → Allows (OnTable shows rose p) slots id me (ref_word i) (λ n. (n + (2 ^ 64 - 1)) % 2 ^ 64) (sub_told (step slots (ref_word i) 1 0 none) me)
   subs there idle rights s t long here fits = let found : ℕ = get_or s.words (ref_word i) 0 in let refs = t.rule.lawful.references in (
     subbed i found (back i found v) v,
     keeps,
     tt,
-    beside t id v (subbed i found (back i found v) v) here some_ (set s.words (ref_word i) ((found + (2 ^ 64 - 1)) % 2 ^ 64)) s.homes refl record { share = refl; lists = refl; finds = refl; stores = λ x y. omega arith; accepts = λ l. omega arith; labels = λ x. x } (slot_settled t.settled _ _ (omega arith) (λ j e. omega arith))
+    beside t id v (subbed i found (back i found v) v) here some_ (set s.words (ref_word i) ((found + (2 ^ 64 - 1)) % 2 ^ 64)) s.homes (refl, λ l ll. refl) record { share = refl; lists = refl; finds = refl; stores = λ x y. omega arith; accepts = λ l. omega arith; labels = λ x. x } record { faults = λ l. subbed_same l i v found; outs = λ l. omega arith } (slot_settled t.settled _ _ (omega arith) (λ j e. omega arith))
         (sub_rule t.rule id v here mine i inside fits there idle rights),
     (some_ref p s refs id v here me.1 keeps i inside there, (refs.slots i inside).top, λ x at. (of_ref (λ y. subbed y found (back y found v) v) x at, word_fits s t here fits x at, (let own = own_count s id v here is_ref i in let counted = (refs.slots i inside).counted in let e : i ≡ x = omega arith in subst (λ (y : ℕ). marks_of is_ref y v ≤ nref_of found) e (omega arith)))),
   )
 
   -- A5
-  pub fails : (h : ℕ) → 0 < marks_of (is_hold h) i v → marks_of is_ref i v < 65540 → Allows (OnTable shows p) slots id me (ref_word i) (λ n. bit_or n 4294967296) (fail_told (step slots (ref_word i) 4294967296 0 none) me)
+  pub fails : (h : ℕ) → 0 < marks_of (is_hold h) i v → marks_of is_ref i v < 65540 → Allows (OnTable shows rose p) slots id me (ref_word i) (λ n. bit_or n 4294967296) (fail_told (step slots (ref_word i) 4294967296 0 none) me)
   fails h there room s t long here fits = let found : ℕ = get_or s.words (ref_word i) 0 in (
     failed i found v,
     keeps,
     tt,
-    beside t id v (failed i found v) here some_ (set s.words (ref_word i) (bit_or found 4294967296)) s.homes refl record { share = refl; lists = refl; finds = refl; stores = λ x y. omega arith; accepts = λ l. omega arith; labels = λ x. x } (slot_settled t.settled _ _ (omega arith) (λ j e. omega arith))
+    beside t id v (failed i found v) here some_ (set s.words (ref_word i) (bit_or found 4294967296)) s.homes (refl, λ l ll. refl) record { share = refl; lists = refl; finds = refl; stores = λ x y. omega arith; accepts = λ l. omega arith; labels = λ x. x } record { faults = λ l. failed_same l i v found; outs = λ l. omega arith } (slot_settled t.settled _ _ (omega arith) (λ j e. omega arith))
         (set_odd_rule t.rule id v here mine i inside fits h there room),
     λ x at. (of_ref (λ y. failed y found v) x at, word_fits s t here fits x at),
   )
 
   -- A6, won or lost
   pub recycles : (from next : ℕ) → next ≡ from + 4294967296 → version_of from % 2 ≡ 1 → nref_of from ≡ 0 → 0 < marks_of (is_zero (version_of from)) i v → (said : Option S)
-      → Allows (OnTable shows p) slots id me (ref_word i) (λ n. either (eqb n from) next n) (recycle_told (step slots (ref_word i) from next said) me)
+      → Allows (OnTable shows rose p) slots id me (ref_word i) (λ n. either (eqb n from) next n) (recycle_told (step slots (ref_word i) from next said) me)
   recycles from next is odd last there said s t long here fits = let found : ℕ = get_or s.words (ref_word i) 0 in let w : View = recycled i from found v in let is_next : (version_of from + 1) * 4294967296 ≡ next = omega arith in (
     w,
     keeps,
     tt,
-    beside t id v w here some_ (set s.words (ref_word i) (either (eqb found from) next found)) s.homes refl record { share = refl; lists = refl; finds = refl; stores = λ x y. omega arith; accepts = λ l. omega arith; labels = λ x. x } (slot_settled t.settled _ _ (omega arith) (λ j e. omega arith))
+    beside t id v w here some_ (set s.words (ref_word i) (either (eqb found from) next found)) s.homes (refl, λ l ll. refl) record { share = refl; lists = refl; finds = refl; stores = λ x y. omega arith; accepts = λ l. omega arith; labels = λ x. x } record { faults = λ l. recycled_same l i v from found; outs = λ l. omega arith } (slot_settled t.settled _ _ (omega arith) (λ j e. omega arith))
         (exchanged found from next (λ n. Rule shows p (stepped s (ref_word i) n id [] w keeps))
         (λ hit. subst (λ (n : ℕ). Rule shows p (stepped s (ref_word i) n id [] w keeps)) is_next (recycle_rule t.rule id v here mine i inside fits from hit odd last there))
         (λ miss. recycle_lost_rule t.rule id v here mine i inside fits from miss last there)),
@@ -139,21 +140,21 @@ module _ {S : Type 0} (shows : S → Home) (p : Plan) (slots id : ℕ) (me : Me 
   )
 
   -- A7
-  pub frees : (x : ℕ) → 0 < marks_of (is_recycled x) i v → x ≤ 4294967292 → v.hands ≡ [] → Allows (OnTable shows p) slots id me (tag_word i) (λ _. 0) (λ _. free_told (step slots (tag_word i) 0 0 none) me 0)
+  pub frees : (x : ℕ) → 0 < marks_of (is_recycled x) i v → x ≤ 4294967292 → v.hands ≡ [] → Allows (OnTable shows rose p) slots id me (tag_word i) (λ _. 0) (λ _. free_told (step slots (tag_word i) 0 0 none) me 0)
   frees x there low empty s t long here fits = (
     freed i v,
     keeps,
     tt,
-    beside t id v (freed i v) here some_ (set s.words (tag_word i) 0) s.homes refl record { share = refl; lists = refl; finds = refl; stores = λ y z. omega arith; accepts = λ l. omega arith; labels = λ x. x } (slot_settled t.settled _ _ (omega arith) (λ j e. omega arith)) (free_rule t.rule id v here mine i inside x there low empty),
+    beside t id v (freed i v) here some_ (set s.words (tag_word i) 0) s.homes (refl, λ l ll. refl) record { share = refl; lists = refl; finds = refl; stores = λ y z. omega arith; accepts = λ l. omega arith; labels = λ x. x } record { faults = λ l. freed_same l i v; outs = λ l. omega arith } (slot_settled t.settled _ _ (omega arith) (λ j e. omega arith)) (free_rule t.rule id v here mine i inside x there low empty),
     of_tag (λ y. freed y v),
   )
 
   -- A8
-  pub looks : Allows (OnTable shows p) slots id me (ref_word i) (λ n. n) (look_told (step slots (ref_word i) 0 0 none) me)
+  pub looks : Allows (OnTable shows rose p) slots id me (ref_word i) (λ n. n) (look_told (step slots (ref_word i) 0 0 none) me)
   looks s t long here fits = let found : ℕ = get_or s.words (ref_word i) 0 in (
     looked i found v,
     keeps,
     tt,
-    beside t id v (looked i found v) here some_ (set s.words (ref_word i) found) s.homes refl record { share = refl; lists = refl; finds = refl; stores = λ x y. omega arith; accepts = λ l. omega arith; labels = λ x. x } (slot_settled t.settled _ _ (omega arith) (λ j e. omega arith)) (look_rule t.rule id v here mine i inside fits),
+    beside t id v (looked i found v) here some_ (set s.words (ref_word i) found) s.homes (refl, λ l ll. refl) record { share = refl; lists = refl; finds = refl; stores = λ x y. omega arith; accepts = λ l. omega arith; labels = λ x. x } record { faults = λ l. omega arith; outs = λ l. omega arith } (slot_settled t.settled _ _ (omega arith) (λ j e. omega arith)) (look_rule t.rule id v here mine i inside fits),
     λ x at. (of_ref (λ y. looked y found v) x at, word_fits s t here fits x at),
   )

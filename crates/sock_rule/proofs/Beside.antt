@@ -1,9 +1,9 @@
 -- What a step leaves of what the views keep beside the rule of the sockets.
-use Rattle.std.proofs.Common.{◌≡◌, ℕ, ◌*◌, ◌<◌, ◌≤◌, List, length, set, sym, ap, ◌∙◌, subst, ⊎_elim, arith}
+use Rattle.std.proofs.Common.{◌≡◌, ℕ, ◌+◌, ◌*◌, ◌<◌, ◌≤◌, List, length, length-set, set, sym, ap, ◌∙◌, subst, ⊎_elim, arith}
 use mathlib.Core.Option.{Option, some}
 use lib.ListN.{get_elem?}
 use Rattle.atomic_table.specs.Table.{State}
-use Rattle.atomic_table.proofs.Lists.{at_set}
+use Rattle.atomic_table.proofs.Lists.{at_set, set_else}
 use Rattle.sock_words.specs.declared.plain.Plan.{Plan}
 use Rattle.sock_model.specs.declared.home.Home.{Home}
 use Rattle.sock_model.specs.declared.view.View.{View}
@@ -12,7 +12,12 @@ use Rattle.sock_model.specs.Weights.{total}
 use Rattle.sock_model.specs.Layout.{place_word}
 use Rattle.sock_model.specs.Rule.{lists_of, Rule}
 use Rattle.slot_laws.proofs.Sums.{total-set}
+use Rattle.chain_laws.proofs.Lists.{at_length}
+use Rattle.sock_steps.proofs.Maps.{set_at, set_twice}
+use Rattle.sock_rule.specs.Faults.{faults_of, out_of, LinkFaults}
 use Rattle.sock_rule.specs.OnTable.{share_of, put_in, labelled_in, IsDropKept, Settled, Labelled, OnTable}
+use Rattle.sock_rule.proofs.Light.{Alike, light_rule}
+use Rattle.sock_rule.proofs.Faults.{calm}
 
 -- the step leaves the seat's share, its number of lists, what it found and met, and what it stored
 pub record SameShare (p : Plan) (v w : View) : Type 0 where
@@ -24,6 +29,35 @@ pub record SameShare (p : Plan) (v w : View) : Type 0 where
   pub accepts : (l : ℕ) → labelled_in l v ≤ labelled_in l w
   pub labels : Labelled p v → Labelled p w
 
+-- and what it noted of faults, and which links it has in hand
+pub record Calm (v w : View) : Type 0 where
+  pub faults : (k : ℕ) → faults_of k w ≡ faults_of k v
+  pub outs : (k : ℕ) → out_of k w ≡ out_of k v
+
+-- the homes of links stay
+abbrev pub StillHomes : {S : Type 0} → Plan → List (Option S) → List (Option S) → Type 0
+StillHomes p hs gs = (length gs ≡ length hs) × ((k : ℕ) → k < p.links → get_elem? gs (p.requests + k) ≡ get_elem? hs (p.requests + k))
+
+-- where the home of a request changes
+pub homes_else : {S : Type 0} (p : Plan) (hs : List (Option S)) (r : ℕ) (x : Option S) → r < p.requests → StillHomes p hs (set hs r x)
+homes_else p hs r x low = (length-set hs r x, λ k kl. set_else hs r (p.requests + k) x (λ e. omega arith))
+
+-- a note that no law weighs changes nothing of that
+pub alike_share : (p : Plan) (v u w : View) → SameShare p v u → Alike u w → SameShare p v w
+alike_share p v u w same a = record {
+  share = ap (λ (z : View). z.share) a.others ∙ same.share;
+  lists = ap lists_of a.others ∙ same.lists;
+  finds = ap (λ (z : View). (z.finds, z.histories)) a.others ∙ same.finds;
+  stores = λ x y. ap (put_in x y) a.others ∙ same.stores x y;
+  accepts = λ l. omega (arith, ap (labelled_in l) a.others, same.accepts l);
+  labels = λ h. subst (Labelled p) (sym a.others) (let q = same.labels h in record { entries = q.entries; claimed = q.claimed });
+}
+
+pub light_after : {S : Type 0} (shows : S → Home) (p : Plan) (s : State S View) (id : ℕ) (v u w : View) → get_elem? s.views id ≡ some v → (ws : List ℕ) (hs : List (Option S)) → Alike u w → u.plan ≡ p
+    → Rule shows p record { words = ws; homes = hs; views = set s.views id u } → Rule shows p record { words = ws; homes = hs; views = set s.views id w }
+light_after shows p s id v u w here ws hs a mine r = subst (λ vs. Rule shows p record { words = ws; homes = hs; views = vs }) (set_twice s.views id u w)
+    (light_rule shows p record { words = ws; homes = hs; views = set s.views id u } id u w (set_at s.views id u (at_length s.views id v here)) a r mine)
+
 -- what was noted of a place index stays where no view loses a note or an accepted message
 pub drop_stays : (p : Plan) (old new : List View) (l word : ℕ) → ((n : ℕ) → total (put_in (place_word p l) n) old ≡ total (put_in (place_word p l) n) new) → total (labelled_in l) old ≤ total (labelled_in l) new → IsDropKept p old l word → IsDropKept p new l word
 drop_stays p old new l word same more k = record {
@@ -31,14 +65,14 @@ drop_stays p old new l word same more k = record {
   stays = λ one n some_. k.stays (omega arith) n (omega (arith, same n));
 }
 
-module _ {S : Type 0} {shows : S → Home} {p : Plan} {s : State S View} (t : OnTable shows p s) (id : ℕ) (v w : View) (here : get_elem? s.views id ≡ some v) (some_ : 0 < v.share) (ws : List ℕ) (hs : List (Option S)) where
+module _ {S : Type 0} {shows : S → Home} {rose : S → ℕ} {p : Plan} {s : State S View} (t : OnTable shows rose p s) (id : ℕ) (v w : View) (here : get_elem? s.views id ≡ some v) (some_ : 0 < v.share) (ws : List ℕ) (hs : List (Option S)) where
   -- what a seat found stays stored
   still_put : ((x y : ℕ) → put_in x y w ≡ put_in x y v) → (x y : ℕ) → total (put_in x y) s.views ≡ total (put_in x y) (set s.views id w)
   still_put more x y = omega (arith, total-set (put_in x y) s.views id v w here, more x y)
 
   -- where place words change, what was noted of each place index is given
-  pub beside_placed : (placed : ℕ → ℕ) → ((l : ℕ) → l < 8 * p.operations → IsDropKept p (set s.views id w) l (placed l)) → length hs ≡ length s.homes → SameShare p v w → Settled p t.stored placed ws hs → Rule shows p record { words = ws; homes = hs; views = set s.views id w } → OnTable shows p record { words = ws; homes = hs; views = set s.views id w }
-  beside_placed placed drops long same kept r = record {
+  pub beside_placed : (placed : ℕ → ℕ) → ((l : ℕ) → l < 8 * p.operations → IsDropKept p (set s.views id w) l (placed l)) → ((k : ℕ) → k < p.links → LinkFaults rose p record { words = ws; homes = hs; views = set s.views id w } k) → length hs ≡ length s.homes → SameShare p v w → Settled p t.stored placed ws hs → Rule shows p record { words = ws; homes = hs; views = set s.views id w } → OnTable shows rose p record { words = ws; homes = hs; views = set s.views id w }
+  beside_placed placed drops faults long same kept r = record {
     rule = r;
     housed = long ∙ t.housed;
     shares = (let a = t.shares in omega (arith, same.share, total-set share_of s.views id v w here));
@@ -48,6 +82,7 @@ module _ {S : Type 0} {shows : S → Home} {p : Plan} {s : State S View} (t : On
     put = λ x y. t.put x y ∙ still_put same.stores x y;
     placed = placed;
     drops = drops;
+    faults = faults;
     settled = kept;
     met = λ j u g n h e. ⊎_elim (λ y. t.met id v here n h (subst (λ (l : List (List StoredWord)). get_elem? l n ≡ some h) (ap (λ (q : List StoredWord × List (List StoredWord)). q.1) same.finds) (subst (λ (z : View). get_elem? z.histories n ≡ some h) (sym y.1) e)))
         (λ y. t.met j u y.1 n h e) (at_set s.views id j w u g);
@@ -57,6 +92,13 @@ module _ {S : Type 0} {shows : S → Home} {p : Plan} {s : State S View} (t : On
         (λ y. omega (arith, t.found_was j u y.1 n x e)) (at_set s.views id j w u g);
   }
 
-  -- and where they don't it stays
-  pub beside : length hs ≡ length s.homes → SameShare p v w → Settled p t.stored t.placed ws hs → Rule shows p record { words = ws; homes = hs; views = set s.views id w } → OnTable shows p record { words = ws; homes = hs; views = set s.views id w }
-  beside long same kept r = beside_placed t.placed (λ l ll. drop_stays p s.views (set s.views id w) l (t.placed l) (λ n. still_put same.stores (place_word p l) n) (omega (arith, total-set (labelled_in l) s.views id v w here, same.accepts l)) (t.drops l ll)) long same kept r
+  -- nothing of faults changed
+  pub calm_links : StillHomes p s.homes hs → Calm v w → (k : ℕ) → k < p.links → LinkFaults rose p record { words = ws; homes = hs; views = set s.views id w } k
+  calm_links still c k kl = calm id v w here ws hs k (t.faults k kl) (still.1 k kl) (c.faults k) (c.outs k)
+
+  -- and where place words don't change it stays
+  pub beside_faults : ((k : ℕ) → k < p.links → LinkFaults rose p record { words = ws; homes = hs; views = set s.views id w } k) → length hs ≡ length s.homes → SameShare p v w → Settled p t.stored t.placed ws hs → Rule shows p record { words = ws; homes = hs; views = set s.views id w } → OnTable shows rose p record { words = ws; homes = hs; views = set s.views id w }
+  beside_faults faults long same kept r = beside_placed t.placed (λ l ll. drop_stays p s.views (set s.views id w) l (t.placed l) (λ n. still_put same.stores (place_word p l) n) (omega (arith, total-set (labelled_in l) s.views id v w here, same.accepts l)) (t.drops l ll)) faults long same kept r
+
+  pub beside : StillHomes p s.homes hs → SameShare p v w → Calm v w → Settled p t.stored t.placed ws hs → Rule shows p record { words = ws; homes = hs; views = set s.views id w } → OnTable shows rose p record { words = ws; homes = hs; views = set s.views id w }
+  beside still same c kept r = beside_faults (calm_links still c) still.0 same kept r

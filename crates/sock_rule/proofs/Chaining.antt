@@ -33,7 +33,7 @@ use Rattle.sock_steps.proofs.RuleSteps.{meet_rule}
 use Rattle.sock_steps.proofs.RuleChains.{queued_rule, righted_rule, connecting_rule, ready_rule, fill_rule}
 use Rattle.sock_rule.specs.OnTable.{is_labelled, labelled_in, LabelledIn, Labelled, OnTable}
 use Rattle.sock_rule.specs.ChainPlays.{blank, filled_with, request_told, fill_told, ready_told, swap_told, connect_told}
-use Rattle.sock_rule.proofs.Beside.{beside}
+use Rattle.sock_rule.proofs.Beside.{beside, homes_else}
 use Rattle.sock_rule.proofs.Settling.{slot_settled, next_settled, taken_settled, home_back_settled, load_settled}
 use Rattle.sock_rule.proofs.Reached.{free_generation, free_home_law}
 use Rattle.sock_rule.proofs.Storing.{held_linked, held_is, met_is}
@@ -83,16 +83,16 @@ more_labelled p (first ∷ others) claims e low l = record { entries = entries; 
     ]
     entries (suc n) m f i x g = l.entries (suc n) m f i x g
 
-module _ {S : Type 0} (shows : S → Home) (p : Plan) (slots id : ℕ) (me : Me S View) (mine : me.0.plan ≡ p) (some_ : 0 < me.0.share) where
+module _ {S : Type 0} (shows : S → Home) (rose : S → ℕ) (p : Plan) (slots id : ℕ) (me : Me S View) (mine : me.0.plan ≡ p) (some_ : 0 < me.0.share) where
   abbrev v : View
   v = me.0
 
   -- a claim's label is one of a place word
-  label_of : (s : State S View) → OnTable shows p s → get_elem? s.views id ≡ some me.0 → (c : Claim) → me.0.claims ≡ c ∷ [] → c.filled ≡ true → c.heading.place < 8 * p.operations
+  label_of : (s : State S View) → OnTable shows rose p s → get_elem? s.views id ≡ some me.0 → (c : Claim) → me.0.claims ≡ c ∷ [] → c.filled ≡ true → c.heading.place < 8 * p.operations
   label_of s t here c is filled = (t.labelled id me.0 here).claimed 0 c (ap (λ (l : List Claim). get_elem? l 0) is) filled
 
   -- C1: the home of the request goes with the seat that claims it
-  pub asks : (r : ℕ) → r < p.requests → v.claims ≡ [] → Allows (OnTable shows p) slots id me (request_word p r) (λ n. bit_or n 1) (request_told (step slots (request_word p r) 1 0 none) me)
+  pub asks : (r : ℕ) → r < p.requests → v.claims ≡ [] → Allows (OnTable shows rose p) slots id me (request_word p r) (λ n. bit_or n 1) (request_told (step slots (request_word p r) 1 0 none) me)
   asks r inside idle s t long here fits = let found : ℕ = get_or s.words (request_word p r) 0 in let o = t.rule.lawful in dite (ℕ_discrete (get_or s.words (request_word p r) 0 % 2) 0)
       (λ even. let g : ℕ = found / 2 in let c : Claim = fresh_claim 0 r found blank [] in let is : get_or s.words (request_word p r) 0 ≡ 2 * g = omega arith in
       let next : 2 * g + 1 ≡ bit_or (get_or s.words (request_word p r) 0) 1 = sym (ap (λ n. bit_or n 1) is ∙ or_one_even g) in
@@ -107,8 +107,8 @@ module _ {S : Type 0} (shows : S → Home) (p : Plan) (slots id : ℕ) (me : Me 
         with_claim v (fresh_claim 0 r found blank []),
         takes r home.0,
         home.1,
-        beside t id v (with_claim v (fresh_claim 0 r found blank [])) here some_ (set s.words (request_word p r) (bit_or found 1)) (set s.homes r none) (length-set s.homes r none)
-            record { share = refl; lists = refl; finds = refl; stores = λ y z. omega arith; accepts = λ l. omega arith; labels = claim_labelled p v (fresh_claim 0 r found blank []) (λ f. absurd (no_truth f)) }
+        beside t id v (with_claim v (fresh_claim 0 r found blank [])) here some_ (set s.words (request_word p r) (bit_or found 1)) (set s.homes r none) (homes_else p s.homes r none inside)
+            record { share = refl; lists = refl; finds = refl; stores = λ y z. omega arith; accepts = λ l. omega arith; labels = claim_labelled p v (fresh_claim 0 r found blank []) (λ f. absurd (no_truth f)) } record { faults = λ l. omega arith; outs = λ l. omega arith }
             (subst (λ n. Rattle.sock_rule.specs.OnTable.Settled p t.stored t.placed (set s.words (request_word p r) n) (set s.homes r none)) next (taken_settled t.settled r (2 * g + 1) inside (omega arith) (omega (arith, o.references.sized))))
             (subst (λ n. Rule shows p record { words = set s.words (request_word p r) n; homes = set s.homes r none; views = set s.views id (with_claim v (fresh_claim 0 r found blank [])) }) next rule),
         λ q at. let e = same_request r q mine at in (
@@ -120,7 +120,7 @@ module _ {S : Type 0} (shows : S → Home) (p : Plan) (slots id : ℕ) (me : Me 
         noting (request_word p r) v,
         keeps,
         tt,
-        beside t id v (noting (request_word p r) v) here some_ (set s.words (request_word p r) (bit_or found 1)) s.homes refl record { share = refl; lists = refl; finds = refl; stores = λ y z. omega arith; accepts = λ l. omega arith; labels = λ x. x }
+        beside t id v (noting (request_word p r) v) here some_ (set s.words (request_word p r) (bit_or found 1)) s.homes (refl, λ l ll. refl) record { share = refl; lists = refl; finds = refl; stores = λ y z. omega arith; accepts = λ l. omega arith; labels = λ x. x } record { faults = λ l. omega arith; outs = λ l. omega arith }
             (subst (λ n. Rattle.sock_rule.specs.OnTable.Settled p t.stored t.placed (set s.words (request_word p r) n) s.homes) (sym (odd_stays found (omega arith))) (load_settled t.settled (request_word p r)))
             (tried_rule t.rule id v here mine r inside (omega arith)),
         λ q at. ((λ even. absurd (odd even)), λ z. ap (λ (x : ℕ). (noting x v, me.1)) at),
@@ -134,7 +134,7 @@ module _ {S : Type 0} (shows : S → Home) (p : Plan) (slots id : ℕ) (me : Me 
 
   -- M1: the message goes home, and the link of the life that the seat holds is noted
   pub fills : (i h : ℕ) (c : Claim) (y : S) (below : List (ℕ × S)) (heading : Heading) (bytes : List ℕ) → i < p.slots → 0 < marks_of (is_hold h) i v → me.0.claims ≡ c ∷ [] → c.request < p.requests → me.1 ≡ (c.request, y) ∷ below
-      → shows y ≡ Message heading bytes → heading.place < 8 * p.operations → Allows (OnTable shows p) slots id me (link_word i) (λ n. n) (fill_told shows (step slots (link_word i) 0 0 none) me)
+      → shows y ≡ Message heading bytes → heading.place < 8 * p.operations → Allows (OnTable shows rose p) slots id me (link_word i) (λ n. n) (fill_told shows (step slots (link_word i) 0 0 none) me)
   fills i h c y below heading bytes inside there claim low top shown label s t long here fits = let k : ℕ = get_or s.words (link_word i) 0 in let its = held_linked s t id v here i inside h there in
       let w₁ : View = met_link i h k v in let c' : Claim = filled_claim (record c { link = k }) heading bytes in let w : View = with_claim w₁ c' in
       let met = meet_rule t.rule id v here mine i inside h there in
@@ -145,40 +145,40 @@ module _ {S : Type 0} (shows : S → Home) (p : Plan) (slots id : ℕ) (me : Me 
         with_claim (met_link i h k v) (filled_claim (record c { link = k }) heading bytes),
         gives_back,
         tt,
-        subst (λ (l : List (ℕ × S)). OnTable shows p record { words = set s.words (link_word i) k; homes = put_back s.homes l; views = set s.views id (with_claim (met_link i h k v) (filled_claim (record c { link = k }) heading bytes)) }) (sym top)
-            (beside t id v (with_claim (met_link i h k v) (filled_claim (record c { link = k }) heading bytes)) here some_ (set s.words (link_word i) k) (set s.homes c.request (some y)) (length-set s.homes c.request (some y))
-            record { share = refl; lists = refl; finds = refl; stores = λ a b. omega arith; accepts = λ l. omega arith; labels = claim_labelled p v (filled_claim (record c { link = k }) heading bytes) (λ f. label) }
+        subst (λ (l : List (ℕ × S)). OnTable shows rose p record { words = set s.words (link_word i) k; homes = put_back s.homes l; views = set s.views id (with_claim (met_link i h k v) (filled_claim (record c { link = k }) heading bytes)) }) (sym top)
+            (beside t id v (with_claim (met_link i h k v) (filled_claim (record c { link = k }) heading bytes)) here some_ (set s.words (link_word i) k) (set s.homes c.request (some y)) (homes_else p s.homes c.request (some y) low)
+            record { share = refl; lists = refl; finds = refl; stores = λ a b. omega arith; accepts = λ l. omega arith; labels = claim_labelled p v (filled_claim (record c { link = k }) heading bytes) (λ f. label) } record { faults = λ l. omega arith; outs = λ l. omega arith }
             (home_back_settled (load_settled t.settled (link_word i)) c.request y short) rule),
-        λ d z x g is at word other. let e : i ≡ x = omega arith in let same : h ≡ g = held_is shows p slots id me mine some_ i inside s t here h g there (subst (λ (q : ℕ). 0 < marks_of (is_hold g) q me.0) (sym e) other) in
+        λ d z x g is at word other. let e : i ≡ x = omega arith in let same : h ≡ g = held_is shows rose p slots id me mine some_ i inside s t here h g there (subst (λ (q : ℕ). 0 < marks_of (is_hold g) q me.0) (sym e) other) in
             let same_c = the_claim me.0.claims c d claim is in let same_y : (c.request, y) ≡ z = first_is (c.request, y) z below (rest me.1) (sym top ∙ at) in
             let shows_z : filled_claim (record c { link = k }) heading bytes ≡ filled_with d k (shows z.1) = ap (filled_with c k) (sym shown) ∙ (λ q. filled_with (same_c q) k (shows (same_y q).1)) in (
               ((λ q. (with_claim (met_link (e q) (same q) k v) (shows_z q), rest (top q))) ∙ (λ q. (with_claim (met_link x g k v) (filled_with d k (shows z.1)), rest (sym top q)))),
               subst (λ (q : Plan). k < q.links) (sym mine) its,
-              (λ l mt. met_is shows p slots id me mine some_ i inside s t here g l (subst (λ (q : ℕ). 0 < marks_of (is_hold g) q me.0) (sym e) other) (subst (λ (q : ℕ). 0 < marks_of (is_met g l) q me.0) (sym e) mt)),
+              (λ l mt. met_is shows rose p slots id me mine some_ i inside s t here g l (subst (λ (q : ℕ). 0 < marks_of (is_hold g) q me.0) (sym e) other) (subst (λ (q : ℕ). 0 < marks_of (is_met g l) q me.0) (sym e) mt)),
             ),
       )
 
   -- C7
-  pub readies : (c : Claim) → me.0.claims ≡ c ∷ [] → c.request < p.requests → Allows (OnTable shows p) slots id me (next_word p c.request) (λ _. UNCONNECTED) (λ _. ready_told (step slots (next_word p c.request) UNCONNECTED 0 none) me UNCONNECTED)
+  pub readies : (c : Claim) → me.0.claims ≡ c ∷ [] → c.request < p.requests → Allows (OnTable shows rose p) slots id me (next_word p c.request) (λ _. UNCONNECTED) (λ _. ready_told (step slots (next_word p c.request) UNCONNECTED 0 none) me UNCONNECTED)
   readies c claim low s t long here fits = let o = t.rule.lawful in let alone = claim_alone o id c.request v c (ready_claim c) here low claim refl refl in (
     with_claim v (ready_claim c),
     keeps,
     tt,
-    beside t id v (with_claim v (ready_claim c)) here some_ (set s.words (next_word p c.request) UNCONNECTED) s.homes refl record { share = refl; lists = refl; finds = refl; stores = λ y z. omega arith; accepts = λ l. omega arith; labels = claim_labelled p v (ready_claim c) (label_of s t here c claim) }
+    beside t id v (with_claim v (ready_claim c)) here some_ (set s.words (next_word p c.request) UNCONNECTED) s.homes (refl, λ l ll. refl) record { share = refl; lists = refl; finds = refl; stores = λ y z. omega arith; accepts = λ l. omega arith; labels = claim_labelled p v (ready_claim c) (label_of s t here c claim) } record { faults = λ l. omega arith; outs = λ l. omega arith }
         (next_settled t.settled c.request UNCONNECTED low)
         (ready_rule t.rule id v here mine c.request UNCONNECTED (ready_claim c) (readying_law o id c.request v c (ready_claim c) here low claim refl refl refl (λ f. o.messages.claimed c.request c low alone f))),
     λ d is. ap (λ (x : Claim). (with_claim v (ready_claim x), me.1)) (the_claim me.0.claims c d claim is),
   )
 
   -- C2
-  pub swaps : (i own : ℕ) (x : MayExchange p v i own) → i < p.slots → length x.made < MOST_ACCEPTED → Allows (OnTable shows p) slots id me (head_word i) (λ _. own) (swap_told (step slots (head_word i) own 0 none) me)
+  pub swaps : (i own : ℕ) (x : MayExchange p v i own) → i < p.slots → length x.made < MOST_ACCEPTED → Allows (OnTable shows rose p) slots id me (head_word i) (λ _. own) (swap_told (step slots (head_word i) own 0 none) me)
   swaps i own x inside room s t long here fits = let found : ℕ = get_or s.words (head_word i) 0 in dite (dec_le IDLE (get_or s.words (head_word i) 0))
       (λ high. let r = righted_rule t.rule id v here mine i own x inside room high in (
         righted v x.claim found r.0 r.1,
         keeps,
         tt,
-        beside t id v (righted v x.claim found r.0 r.1) here some_ (set s.words (head_word i) own) s.homes refl
-            record { share = refl; lists = same_lists v x.made x.taken_in (entry_of x.claim (found - IDLE)) x.lists; finds = refl; stores = λ y z. omega arith; accepts = λ l. more_accepts l v (entry_of x.claim (found - IDLE)); labels = more_labelled p v.lists v.claims (entry_of x.claim (found - IDLE)) (label_of s t here x.claim x.claims x.is_filled) }
+        beside t id v (righted v x.claim found r.0 r.1) here some_ (set s.words (head_word i) own) s.homes (refl, λ l ll. refl)
+            record { share = refl; lists = same_lists v x.made x.taken_in (entry_of x.claim (found - IDLE)) x.lists; finds = refl; stores = λ y z. omega arith; accepts = λ l. more_accepts l v (entry_of x.claim (found - IDLE)); labels = more_labelled p v.lists v.claims (entry_of x.claim (found - IDLE)) (label_of s t here x.claim x.claims x.is_filled) } record { faults = λ l. omega arith; outs = λ l. omega arith }
             (slot_settled t.settled (head_word i) own (omega arith) (λ j e. omega arith)) r.2,
         λ c is. let q = the_claim me.0.claims x.claim c x.claims is in (refl, (λ low. absurd (omega arith)), λ h. (r.0, r.1, ap (λ (y : Claim). righted me.0 y (get_or s.words (head_word i) 0) r.0 r.1) q)),
       ))
@@ -186,20 +186,20 @@ module _ {S : Type 0} (shows : S → Home) (p : Plan) (slots id : ℕ) (me : Me 
         queued v x.claim found,
         keeps,
         tt,
-        beside t id v (queued v x.claim found) here some_ (set s.words (head_word i) own) s.homes refl
-            record { share = refl; lists = same_lists v x.made x.taken_in (entry_of x.claim found) x.lists; finds = refl; stores = λ y z. omega arith; accepts = λ l. more_accepts l v (entry_of x.claim found); labels = more_labelled p v.lists v.claims (entry_of x.claim found) (label_of s t here x.claim x.claims x.is_filled) }
+        beside t id v (queued v x.claim found) here some_ (set s.words (head_word i) own) s.homes (refl, λ l ll. refl)
+            record { share = refl; lists = same_lists v x.made x.taken_in (entry_of x.claim found) x.lists; finds = refl; stores = λ y z. omega arith; accepts = λ l. more_accepts l v (entry_of x.claim found); labels = more_labelled p v.lists v.claims (entry_of x.claim found) (label_of s t here x.claim x.claims x.is_filled) } record { faults = λ l. omega arith; outs = λ l. omega arith }
             (slot_settled t.settled (head_word i) own (omega arith) (λ j e. omega arith))
             (queued_rule t.rule id v here mine i own x inside room (lt_of_not-le low)),
         λ c is. let q = the_claim me.0.claims x.claim c x.claims is in (refl, (λ h. ap (λ (y : Claim). queued me.0 y (get_or s.words (head_word i) 0)) q), λ high. absurd (low high)),
       ))
 
   -- C3
-  pub connects : (n : ℕ) (l : Loose) → l.request < p.requests → get_elem? v.loose n ≡ some l → Allows (OnTable shows p) slots id me (next_word p l.request) (λ _. l.before) (λ _. connect_told (step slots (next_word p l.request) l.before 0 none) me l.before)
+  pub connects : (n : ℕ) (l : Loose) → l.request < p.requests → get_elem? v.loose n ≡ some l → Allows (OnTable shows rose p) slots id me (next_word p l.request) (λ _. l.before) (λ _. connect_told (step slots (next_word p l.request) l.before 0 none) me l.before)
   connects n l low has s t long here fits = (
     without_loose v l.request,
     keeps,
     tt,
-    beside t id v (without_loose v l.request) here some_ (set s.words (next_word p l.request) l.before) s.homes refl record { share = refl; lists = refl; finds = refl; stores = λ y z. omega arith; accepts = λ l. omega arith; labels = λ x. x }
+    beside t id v (without_loose v l.request) here some_ (set s.words (next_word p l.request) l.before) s.homes (refl, λ l ll. refl) record { share = refl; lists = refl; finds = refl; stores = λ y z. omega arith; accepts = λ l. omega arith; labels = λ x. x } record { faults = λ l. omega arith; outs = λ l. omega arith }
         (next_settled t.settled l.request l.before low) (connecting_rule t.rule id v here mine n l low has),
     λ q at. let e : next_word p l.request ≡ next_word p q = at ∙ ap (λ (z : Plan). next_word z q) mine in let same : l.request ≡ q = omega arith in ap (λ (x : ℕ). (without_loose v x, me.1)) same,
   )

@@ -61,7 +61,7 @@ tally_is : (f : Mark → ℕ) (i : ℕ) (vs : List View) → tally f (map (λ (u
 tally_is f i [] = refl
 tally_is f i (x ∷ xs) = let a = tally_is f i xs in omega arith
 
-module _ {S : Type 0} {shows : S → Home} {p : Plan} (s : State S View) (t : OnTable shows p s) (id : ℕ) (v : View) (here : get_elem? s.views id ≡ some v) (all : v.share ≡ p.seats) where
+module _ {S : Type 0} {shows : S → Home} {rose : S → ℕ} {p : Plan} (s : State S View) (t : OnTable shows rose p s) (id : ℕ) (v : View) (here : get_elem? s.views id ≡ some v) (all : v.share ≡ p.seats) where
   pub others : (j : ℕ) (u : View) → get_elem? s.views j ≡ some u → ¬ (j ≡ id) → IsIdle u
   others j u e ne = let a = two_terms share_of s.views id j v u here e ne in let b = t.shares in t.idle j u e (omega arith)
 
@@ -141,7 +141,7 @@ names_none : (f : ℕ → List Entry) (ns : List ℕ) (i a : ℕ) → [] ≡ map
 names_none f [] i a e g = some-ne-none a (sym g)
 names_none f (n ∷ ns) i a e g = let z : 0 ≡ suc (length (map f ns)) = ap {A = List (List Entry)} length e in omega arith
 
-pub ordered : {S : Type 0} {shows : S → Home} {p : Plan} (s : State S View) (t : OnTable shows p s) (id : ℕ) (v : View) (here : get_elem? s.views id ≡ some v) (all : v.share ≡ p.seats) → v.claims ≡ [] → Ordered p v.found v.lists
+pub ordered : {S : Type 0} {shows : S → Home} {rose : S → ℕ} {p : Plan} (s : State S View) (t : OnTable shows rose p s) (id : ℕ) (v : View) (here : get_elem? s.views id ≡ some v) (all : v.share ≡ p.seats) → v.claims ≡ [] → Ordered p v.found v.lists
 ordered {p = p} s t id v here all bare = let a = t.rule.lawful.authors in record {
   log = t.rule.lawful.log;
   by = a.by;
@@ -158,6 +158,6 @@ ordered {p = p} s t id v here all bare = let a = t.rule.lawful.authors in record
 }
 
 -- it is the order that the rule keeps
-pub ordered_log : {S : Type 0} {shows : S → Home} {p : Plan} (s : State S View) (t : OnTable shows p s) (id : ℕ) (v : View) (here : get_elem? s.views id ≡ some v) (all : v.share ≡ p.seats) (bare : v.claims ≡ []) → (ordered s t id v here all bare).log ≡ t.rule.lawful.log
+pub ordered_log : {S : Type 0} {shows : S → Home} {rose : S → ℕ} {p : Plan} (s : State S View) (t : OnTable shows rose p s) (id : ℕ) (v : View) (here : get_elem? s.views id ≡ some v) (all : v.share ≡ p.seats) (bare : v.claims ≡ []) → (ordered s t id v here all bare).log ≡ t.rule.lawful.log
 unfolding ordered
 ordered_log s t id v here all bare = refl

@@ -15,7 +15,7 @@ use Rattle.sock_rule.specs.Closing.{PlacesDiffer, IsDropTold}
 use Rattle.sock_rule.proofs.Closes.{others, put_is, only_one}
 use Rattle.sock_rule.proofs.Counting.{names_weight, one_at_most}
 
-module _ {S : Type 0} {shows : S → Home} {p : Plan} (s : State S View) (t : OnTable shows p s) (id : ℕ) (v : View) (here : get_elem? s.views id ≡ some v) (all : v.share ≡ p.seats) where
+module _ {S : Type 0} {shows : S → Home} {rose : S → ℕ} {p : Plan} (s : State S View) (t : OnTable shows rose p s) (id : ℕ) (v : View) (here : get_elem? s.views id ≡ some v) (all : v.share ≡ p.seats) where
   -- where the places of all labels differ, one accepted message at most has this index
   one_labelled : PlacesDiffer t.rule.lawful.log → (l : ℕ) → total (labelled_in l) s.views ≤ 1
   one_labelled apart l = let a = t.rule.lawful.authors in let log = t.rule.lawful.log in

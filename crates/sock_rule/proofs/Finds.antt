@@ -32,7 +32,8 @@ use Rattle.sock_steps.proofs.RuleFrame.{lasts_all, same_rule}
 use Rattle.sock_model.specs.Rule.{noting}
 use Rattle.sock_rule.specs.OnTable.{share_of, is_put, put_in, labelled_in, Follows, Settled, Labelled, OnTable}
 use Rattle.sock_rule.specs.Rows.{IsHistory, put_at}
-use Rattle.sock_rule.proofs.Beside.{SameShare, drop_stays, beside}
+use Rattle.sock_rule.proofs.Beside.{SameShare, Calm, drop_stays, beside}
+use Rattle.sock_rule.proofs.Faults.{calm}
 
 -- the last word that was stored was stored
 latest_put : (x w : ℕ) → w ≢ 0 → (ns : List StoredWord) → says x w ns ≤ total (is_put x w) ns
@@ -68,11 +69,11 @@ module _ {S : Type 0} {shows : S → Home} {p : Plan} {s : State S View} (id : �
   aside_rule r mine share finds met = same_rule r id v here mine (record v { share = share; finds = finds; histories = met }) s.words s.homes record { plan = refl; found = refl; lists = refl } (lasts_all p s.words) (aside_law r.lawful share finds met)
 
 -- a seat that notes what it finds, which was stored there
-pub finds_beside : {S : Type 0} {shows : S → Home} {p : Plan} {s : State S View} (t : OnTable shows p s) (id : ℕ) (v u : View) (here : get_elem? s.views id ≡ some v) (some_ : 0 < v.share) (mine : u.plan ≡ p) (ws : List ℕ) (x word : ℕ) → 0 < total (put_in x word) s.views
-    → SameShare p v u → Settled p t.stored t.placed ws s.homes → Rule shows p record { words = ws; homes = s.homes; views = set s.views id u }
-    → OnTable shows p record { words = ws; homes = s.homes; views = set s.views id (record u { finds = record { place = x; word = word } ∷ u.finds; histories = t.stored ∷ u.histories }) }
-finds_beside {S} {shows} {p} {s} t id v u here some_ mine ws x word was same kept r = let fs : List StoredWord = record { place = x; word = word } ∷ u.finds in let w : View = record u { finds = record { place = x; word = word } ∷ u.finds; histories = t.stored ∷ u.histories } in
-    let o : OnTable shows p record { words = ws; homes = s.homes; views = set s.views id u } = beside t id v u here some_ ws s.homes refl same kept r in
+pub finds_beside : {S : Type 0} {shows : S → Home} {rose : S → ℕ} {p : Plan} {s : State S View} (t : OnTable shows rose p s) (id : ℕ) (v u : View) (here : get_elem? s.views id ≡ some v) (some_ : 0 < v.share) (mine : u.plan ≡ p) (ws : List ℕ) (x word : ℕ) → 0 < total (put_in x word) s.views
+    → SameShare p v u → Calm v u → Settled p t.stored t.placed ws s.homes → Rule shows p record { words = ws; homes = s.homes; views = set s.views id u }
+    → OnTable shows rose p record { words = ws; homes = s.homes; views = set s.views id (record u { finds = record { place = x; word = word } ∷ u.finds; histories = t.stored ∷ u.histories }) }
+finds_beside {S} {shows} {rose} {p} {s} t id v u here some_ mine ws x word was same c kept r = let fs : List StoredWord = record { place = x; word = word } ∷ u.finds in let w : View = record u { finds = record { place = x; word = word } ∷ u.finds; histories = t.stored ∷ u.histories } in
+    let o : OnTable shows rose p record { words = ws; homes = s.homes; views = set s.views id u } = beside t id v u here some_ ws s.homes (refl, λ l ll. refl) same c kept r in
     let more : (y z : ℕ) → total (put_in y z) s.views ≡ total (put_in y z) (set s.views id w) = λ y z. omega (arith, total-set (put_in y z) s.views id v w here, same.stores y z) in
     record {
       rule = subst (λ vs. Rule shows p record { words = ws; homes = s.homes; views = vs }) (set_twice s.views id u w) (aside_rule {s = record { words = ws; homes = s.homes; views = set s.views id u }} id u (set_at s.views id u (at_length s.views id v here)) r mine u.share fs (t.stored ∷ u.histories));
@@ -84,6 +85,7 @@ finds_beside {S} {shows} {p} {s} t id v u here some_ mine ws x word was same kep
       put = λ y z. t.put y z ∙ more y z;
       placed = t.placed;
       drops = λ l ll. drop_stays p s.views (set s.views id w) l (t.placed l) (λ n. more (place_word p l) n) (omega (arith, total-set (labelled_in l) s.views id v w here, same.accepts l)) (t.drops l ll);
+      faults = λ k kl. calm id v w here ws s.homes k (t.faults k kl) refl (c.faults k) (c.outs k);
       settled = kept;
       met = λ j z g n h e. ⊎_elim (λ y. own_met n h (subst (λ (q : View). get_elem? q.histories n ≡ some h) (sym y.1) e)) (λ y. t.met j z y.1 n h e) (at_set s.views id j w z g);
       labelled = λ j z g. ⊎_elim (λ y. subst (Labelled p) y.1 (same.labels (t.labelled id v here))) (λ y. t.labelled j z y.1) (at_set s.views id j w z g);
@@ -99,10 +101,10 @@ finds_beside {S} {shows} {p} {s} t id v u here some_ mine ws x word was same kep
     own vs more (suc n) f e = omega (arith, t.found_was id v here n f (subst (λ (l : List StoredWord). get_elem? l n ≡ some f) (ap (λ (q : List StoredWord × List (List StoredWord)). q.0) same.finds) e), more f.place f.word)
 
 -- a seat that stores a word, which stands before all that was stored then
-pub puts_beside : {S : Type 0} {shows : S → Home} {p : Plan} {s : State S View} (t : OnTable shows p s) (id : ℕ) (v : View) (here : get_elem? s.views id ≡ some v) (some_ : 0 < v.share) (mine : v.plan ≡ p) (ws : List ℕ) (x word : ℕ) → x < 6 * p.slots + p.names + p.operations
+pub puts_beside : {S : Type 0} {shows : S → Home} {rose : S → ℕ} {p : Plan} {s : State S View} (t : OnTable shows rose p s) (id : ℕ) (v : View) (here : get_elem? s.views id ≡ some v) (some_ : 0 < v.share) (mine : v.plan ≡ p) (ws : List ℕ) (x word : ℕ) → x < 6 * p.slots + p.names + p.operations
     → Settled p (record { place = x; word = word } ∷ t.stored) t.placed ws s.homes → Rule shows p record { words = ws; homes = s.homes; views = set s.views id (noting x (wrote x word v)) }
-    → OnTable shows p record { words = ws; homes = s.homes; views = set s.views id (put_at x word (record { place = x; word = word } ∷ t.stored) v) }
-puts_beside {S} {shows} {p} {s} t id v here some_ mine ws x word low kept r = let u : View = noting x (wrote x word v) in let w : View = put_at x word (record { place = x; word = word } ∷ t.stored) v in
+    → OnTable shows rose p record { words = ws; homes = s.homes; views = set s.views id (put_at x word (record { place = x; word = word } ∷ t.stored) v) }
+puts_beside {S} {shows} {rose} {p} {s} t id v here some_ mine ws x word low kept r = let u : View = noting x (wrote x word v) in let w : View = put_at x word (record { place = x; word = word } ∷ t.stored) v in
     let more : (y z : ℕ) → is_put y z record { place = x; word = word } + total (put_in y z) s.views ≡ total (put_in y z) (set s.views id w) = λ y z. omega (arith, total-set (put_in y z) s.views id v w here, wrote_more x word y z v) in
     record {
       rule = subst (λ vs. Rule shows p record { words = ws; homes = s.homes; views = vs }) (set_twice s.views id u w) (aside_rule {s = record { words = ws; homes = s.homes; views = set s.views id u }} id u (set_at s.views id u (at_length s.views id v here)) r mine u.share u.finds ((record { place = x; word = word } ∷ t.stored) ∷ v.histories));
@@ -114,6 +116,7 @@ puts_beside {S} {shows} {p} {s} t id v here some_ mine ws x word low kept r = le
       put = λ y z. let a = t.put y z in omega (arith, more y z);
       placed = t.placed;
       drops = λ l ll. drop_stays p s.views (set s.views id w) l (t.placed l) (λ n. omega (arith, more (place_word p l) n, pair_only (place_word p l) n x word, only-else (place_word p l) x (λ e. omega arith))) (omega (arith, total-set (labelled_in l) s.views id v w here)) (t.drops l ll);
+      faults = λ k kl. calm id v w here ws s.homes k (t.faults k kl) refl refl refl;
       settled = kept;
       met = λ j z g n h e. ⊎_elim (λ y. own n h (subst (λ (q : View). get_elem? q.histories n ≡ some h) (sym y.1) e)) (λ y. further h (t.met j z y.1 n h e)) (at_set s.views id j w z g);
       labelled = λ j z g. ⊎_elim (λ y. subst (Labelled p) y.1 (t.labelled id v here)) (λ y. t.labelled j z y.1) (at_set s.views id j w z g);
@@ -129,7 +132,7 @@ puts_beside {S} {shows} {p} {s} t id v here some_ mine ws x word low kept r = le
     own (suc n) h e = further h (t.met id v here n h e)
 
 -- what a seat that finds a word, or stores one, meets goes on behind all that it met before
-module _ {S : Type 0} {shows : S → Home} {p : Plan} {s : State S View} (t : OnTable shows p s) (id : ℕ) (v : View) (here : get_elem? s.views id ≡ some v) (x : ℕ) where
+module _ {S : Type 0} {shows : S → Home} {rose : S → ℕ} {p : Plan} {s : State S View} (t : OnTable shows rose p s) (id : ℕ) (v : View) (here : get_elem? s.views id ≡ some v) (x : ℕ) where
   pub found_history : 6 * p.slots ≤ x → x < 6 * p.slots + p.names + p.operations → IsHistory x (get_or s.words x 0) v t.stored
   found_history high low = record { last = sym (t.settled.names x high low); later = t.met id v here }
 

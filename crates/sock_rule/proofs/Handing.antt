@@ -17,7 +17,8 @@ use Rattle.sock_model.specs.Entries.{slot_of}
 use Rattle.sock_model.specs.ChainRows.{with_right, taken_right, dropped_right}
 use Rattle.sock_model.specs.SlotRows.{wrote}
 use Rattle.sock_rule.specs.ChainPlays.{TookOwn, TookLetter}
-use Rattle.sock_rule.specs.Shows.{shows, heading_of}
+use Rattle.sock_rule.specs.Faults.{faults_of, fault_found, fault_left}
+use Rattle.sock_rule.specs.Shows.{shows, rose, heading_of}
 use Rattle.sock_rule.specs.Plays.{TookLink}
 
 abbrev number : Home → ℕ
@@ -41,10 +42,10 @@ top d [] = d
 top d (c ∷ cs) = c.1
 
 -- the slot that was taken stands first
-pub taken_slots : {S : Type 0} {f : S → Home} {m n : Me S View} {k : ℕ} {row : List ℕ → ℕ → View} (t : TookLink f m n k row) (q : Plan) → m.0.plan ≡ q → n.1 ≡ (q.requests + k, t.value) ∷ rest n.1
+pub taken_slots : {S : Type 0} {f : S → Home} {faults : S → ℕ} {m n : Me S View} {k : ℕ} {row : List ℕ → ℕ → View} (t : TookLink f faults m n k row) (q : Plan) → m.0.plan ≡ q → n.1 ≡ (q.requests + k, t.value) ∷ rest n.1
 taken_slots {k = k} t q e = t.slots ∙ (λ i. ((e i).requests + k, t.value) ∷ rest (sym t.slots i))
 
-module _ {O : Type 0} {g : Ghosts O} (m n : Me (SockHome O g) View) (k : ℕ) (row : List ℕ → ℕ → View) (t : TookLink shows m n k row) (slot : ℕ) (x : SockHome O g) (moved : n.1 ≡ (slot, x) ∷ rest n.1) where
+module _ {O : Type 0} {g : Ghosts O} (m n : Me (SockHome O g) View) (k : ℕ) (row : List ℕ → ℕ → View) (t : TookLink shows rose m n k row) (slot : ℕ) (x : SockHome O g) (moved : n.1 ≡ (slot, x) ∷ rest n.1) where
   value_is : t.value ≡ x
   value_is = ap (top t.value) (sym t.slots ∙ moved)
 
@@ -63,8 +64,11 @@ module _ {O : Type 0} {g : Ghosts O} (m n : Me (SockHome O g) View) (k : ℕ) (r
     pub its_link : (g.state h.out).link ≡ k
     its_link = ap number shown_is
 
-    pub after_move : (new : Me (SockHome O g) View) → new ≡ (n.0, (slot, Empty) ∷ rest n.1) → new ≡ (row h.took.list h.next, (slot, Empty) ∷ m.1)
-    after_move new e = let took = ap bytes shown_is in let next = ap next_place shown_is in let v : n.0 ≡ row h.took.list h.next = t.view ∙ (λ i. row (sym took i) (sym next i)) in
+    pub its_known : 0 < faults_of k m.0 → 0 < (g.state h.out).faults
+    its_known some_ = subst (λ (y : SockHome O g). 0 < rose y) (value_is ∙ is) (t.known some_)
+
+    pub after_move : (new : Me (SockHome O g) View) → new ≡ (n.0, (slot, Empty) ∷ rest n.1) → new ≡ (fault_found (g.state h.out).faults 0 k (row h.took.list h.next), (slot, Empty) ∷ m.1)
+    after_move new e = let took = ap bytes shown_is in let next = ap next_place shown_is in let same = value_is ∙ is in let v : n.0 ≡ fault_found (g.state h.out).faults 0 k (row h.took.list h.next) = t.view ∙ (λ i. fault_found (rose (same i)) 0 k (row (sym took i) (sym next i))) in
         let below : rest n.1 ≡ m.1 = ap rest t.slots in e ∙ (λ i. (v i, (slot, Empty) ∷ below i))
 
 -- the slot that is to go home stands first
@@ -72,21 +76,21 @@ pub put_slots : {S : Type 0} (p q : Plan) (l : List (ℕ × S)) (k : ℕ) (y : S
 put_slots p q l k y below same is = is ∙ (λ i. ((sym same i).requests + k, y) ∷ below)
 
 -- and is home then
-pub back_home : {S : Type 0} (m n r : Me S View) (q : Plan) (k : ℕ) (y : S) → m.0.plan ≡ q → n ≡ (m.0, (q.requests + k, y) ∷ rest m.1)
-    → ((j : ℕ) (z : S) (below : List (ℕ × S)) → n.1 ≡ (n.0.plan.requests + j, z) ∷ below → r ≡ (without_hand n.0 j, below)) → r ≡ (without_hand m.0 k, rest m.1)
-back_home {S} m n r q k y plan is told = let v = ap (λ (x : Me S View). x.0) is in let same : n.0.plan ≡ q = ap (λ (u : View). u.plan) v ∙ plan in
-    told k y (rest m.1) (put_slots n.0.plan q n.1 k y (rest m.1) same (ap (λ (x : Me S View). x.1) is)) ∙ (λ i. (without_hand (v i) k, rest m.1))
+pub back_home : {S : Type 0} (faults : S → ℕ) (m n r : Me S View) (q : Plan) (k : ℕ) (y : S) → m.0.plan ≡ q → n ≡ (m.0, (q.requests + k, y) ∷ rest m.1)
+    → ((j : ℕ) (z : S) (below : List (ℕ × S)) → n.1 ≡ (n.0.plan.requests + j, z) ∷ below → r ≡ (fault_left (faults z) j (without_hand n.0 j), below)) → r ≡ (fault_left (faults y) k (without_hand m.0 k), rest m.1)
+back_home {S} faults m n r q k y plan is told = let v = ap (λ (x : Me S View). x.0) is in let same : n.0.plan ≡ q = ap (λ (u : View). u.plan) v ∙ plan in
+    told k y (rest m.1) (put_slots n.0.plan q n.1 k y (rest m.1) same (ap (λ (x : Me S View). x.1) is)) ∙ (λ i. (fault_left (faults y) k (without_hand (v i) k), rest m.1))
 
 -- ## The link of a right, and a message
 
-pub own_slots : {O : Type 0} {g : Ghosts O} (m n : Me (SockHome O g) View) (r : Right) (t : TookOwn shows m n r) (q : Plan) → m.0.plan ≡ q → n.1 ≡ (q.requests + r.link, t.value) ∷ rest n.1
-own_slots m n r t q e = t.slots ∙ (λ i. ((e i).requests + r.link, t.value) ∷ rest (sym t.slots i))
+pub own_slots : {O : Type 0} {g : Ghosts O} (m n : Me (SockHome O g) View) (r : Right) (i : ℕ) (t : TookOwn shows rose m n r i) (q : Plan) → m.0.plan ≡ q → n.1 ≡ (q.requests + r.link, t.value) ∷ rest n.1
+own_slots m n r at t q e = t.slots ∙ (λ i. ((e i).requests + r.link, t.value) ∷ rest (sym t.slots i))
 
 abbrev is_done : Home → Bool
 is_done (home.Link k took next done) = done
 is_done _ = true
 
-module _ {O : Type 0} {g : Ghosts O} (m n : Me (SockHome O g) View) (r : Right) (t : TookOwn shows m n r) (slot : ℕ) (x : SockHome O g) (moved : n.1 ≡ (slot, x) ∷ rest n.1) where
+module _ {O : Type 0} {g : Ghosts O} (m n : Me (SockHome O g) View) (r : Right) (at : ℕ) (t : TookOwn shows rose m n r at) (slot : ℕ) (x : SockHome O g) (moved : n.1 ≡ (slot, x) ∷ rest n.1) where
   own_value : t.value ≡ x
   own_value = ap (top t.value) (sym t.slots ∙ moved)
 
@@ -108,8 +112,11 @@ module _ {O : Type 0} {g : Ghosts O} (m n : Me (SockHome O g) View) (r : Right) 
     pub own_took : (h.took.list ≡ r.sent) × (h.next ≡ r.places)
     own_took = (ap bytes own_shown, ap next_place own_shown)
 
-    pub own_after : (new : Me (SockHome O g) View) → new ≡ (n.0, (slot, Empty) ∷ rest n.1) → new ≡ (with_right m.0 (record r { at_home = false }), (slot, Empty) ∷ m.1)
-    own_after new e = let below : rest n.1 ≡ m.1 = ap rest t.slots in e ∙ (λ i. (t.view i, (slot, Empty) ∷ below i))
+    pub own_known : 0 < faults_of r.link m.0 → 0 < (g.state h.out).faults
+    own_known some_ = subst (λ (y : SockHome O g). 0 < rose y) (own_value ∙ is) (t.known some_)
+
+    pub own_after : (new : Me (SockHome O g) View) → new ≡ (n.0, (slot, Empty) ∷ rest n.1) → new ≡ (fault_found (g.state h.out).faults at r.link (with_right m.0 (record r { at_home = false })), (slot, Empty) ∷ m.1)
+    own_after new e = let below : rest n.1 ≡ m.1 = ap rest t.slots in let same = own_value ∙ is in let v = t.view ∙ (λ i. fault_found (rose (same i)) at r.link (with_right m.0 (record r { at_home = false }))) in e ∙ (λ i. (v i, (slot, Empty) ∷ below i))
 
 abbrev is_letter : Home → ℕ
 is_letter (home.Message l b) = 1

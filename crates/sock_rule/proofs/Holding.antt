@@ -1,5 +1,5 @@
 -- Steps of whoever writes a link are allowed to a seat whose view meets their condition: A8, L1, L2, M2, P1, C5, C8, C4 and C6. The seat has one right.
-use Rattle.std.proofs.Common.{◌≡◌, ◌≢◌, ℕ, ◌+◌, ◌*◌, ◌%◌, ◌<◌, ne_eqb, Bool, true, false, List, [], ◌∷◌, length-set, cond, not, eqb, eq-eqb, get_or, get_or-set_same, set, refl, sym, ap, ◌∙◌, subst, arith}
+use Rattle.std.proofs.Common.{◌≡◌, ◌≢◌, ℕ, suc, ◌+◌, ◌*◌, ◌%◌, ◌<◌, ne_eqb, Bool, true, false, List, [], ◌∷◌, length-set, cond, not, eqb, eq-eqb, get_or, get_or-set_same, set, refl, sym, ap, ◌∙◌, subst, arith}
 use Rattle.std.specs.List.{filter}
 use mathlib.Core.Logic.{dite}
 use mathlib.Core.Option.{Option, none, some}
@@ -15,8 +15,8 @@ use Rattle.sock_model.specs.declared.chain.Stage.TheVariants.{Writes, Placed, Em
 use Rattle.sock_model.specs.declared.home.Home.{Home}
 use Rattle.sock_model.specs.declared.home.Home.TheVariants.{Link}
 use Rattle.sock_model.specs.declared.view.View.{View}
-use Rattle.sock_model.specs.Weights.{is_hold, is_saw}
-use Rattle.sock_model.specs.Layout.{ref_word, head_word, request_word, next_word, place_word}
+use Rattle.sock_model.specs.Weights.{total, only, is_hold, is_saw}
+use Rattle.sock_model.specs.Layout.{ref_word, link_word, head_word, request_word, next_word, place_word}
 use Rattle.sock_model.specs.Memory.{IDLE, UNCONNECTED}
 use Rattle.sock_model.specs.Entries.{slot_of, generation_of}
 use Rattle.sock_model.specs.Slots.{version_of}
@@ -27,7 +27,7 @@ use Rattle.sock_model.specs.Conditions.{HasRight, MayPlace, MayDrop, MayTake, Ma
 use Rattle.sock_model.specs.Deliveries.{place_value}
 use Rattle.sock_model.specs.Links.{HoldsLink, Failed}
 use Rattle.sock_model.specs.Lawful.{Lawful}
-use Rattle.slot_laws.proofs.Numbers.{life-in}
+use Rattle.slot_laws.proofs.Numbers.{life-in, only-at}
 use Rattle.chain_laws.proofs.Frees.{Leads, to_end, to_next, now_slot}
 use Rattle.chain_laws.proofs.Lists.{at_length}
 use Rattle.sock_steps.proofs.Maps.{set_at, set_twice}
@@ -42,14 +42,17 @@ use Rattle.sock_steps.proofs.RuleSteps.{look_rule, load_rule}
 use Rattle.sock_steps.proofs.RuleChains.{right_rule, place_rule, emptied_rule, turning_rule}
 use Rattle.sock_rule.specs.OnTable.{OnTable}
 use Rattle.sock_rule.specs.Holding.{Part}
-use Rattle.sock_rule.specs.ChainPlays.{IsTicket, TookLetter, TookOwn, took_in, clean_told, take_own_told, put_own_told, take_letter_told, place_told, drop_told, read_next_told, free_request_told, empty_told, turn_told}
+use Rattle.sock_rule.specs.ChainPlays.{IsTicket, TookLetter, TookOwn, took_in, clean_told, take_own_told, note_fault_told, put_own_told, take_letter_told, place_told, drop_told, read_next_told, free_request_told, empty_told, turn_told}
 use Rattle.sock_rule.proofs.Allowed.{word_fits}
-use Rattle.sock_rule.proofs.Beside.{SameShare, beside}
+use Rattle.sock_rule.specs.Faults.{faults_of, noting_fault, fault_found, away, out_of, LinkFaults}
+use Rattle.sock_rule.proofs.Faults.{found_alike, found_else, calm, noting_more, knows_taken, takes_link, puts_link}
+use Rattle.sock_rule.proofs.Light.{light_rule}
+use Rattle.sock_rule.proofs.Beside.{SameShare, Calm, beside, beside_faults, homes_else, alike_share, light_after}
 use Rattle.sock_rule.proofs.Moving.{loaded}
 use Rattle.sock_rule.proofs.Chaining.{first_is}
 use Rattle.sock_rule.proofs.Settling.{slot_settled, next_settled, place_settled, load_settled, home_settled, home_taken_settled, back_settled, home_back_settled}
 use Rattle.sock_rule.proofs.Placing.{places_beside, drops_beside}
-use Rattle.sock_rule.proofs.Reached.{writes_taken, passes_ticket, walk_ticket, turns_ticket, turn_ticket, free_home_law, spent_home_law, hand_label, next_few}
+use Rattle.sock_rule.proofs.Reached.{writes_ticket, writes_taken, passes_ticket, walk_ticket, turns_ticket, turn_ticket, free_home_law, spent_home_law, hand_label, next_few}
 
 pub the_right : (l : List Right) (a b : Right) → l ≡ a ∷ [] → l ≡ b ∷ [] → a ≡ b
 the_right l a b e f = let h : a ∷ [] ≡ b ∷ [] = sym e ∙ f in cc
@@ -67,11 +70,25 @@ placed_same a b e = cc
 pub one_right : (v : View) (r r' : Right) → v.rights ≡ r ∷ [] → r'.link ≡ r.link → (with_right v r').rights ≡ r' ∷ []
 one_right v r r' one same = ap (λ (l : List Right). r' ∷ l) (ap (filter (λ (x : Right). not (eqb x.link r'.link))) one ∙ ap (λ b. cond (not b) (r ∷ []) []) (eq-eqb r.link r'.link (sym same)))
 
+turn_link : (r : Right) (top a before : ℕ) → (turned_right r top a before).link ≡ r.link
+turn_link r top a before = by_case (eqb before r.last)
+  where
+    by_case : (b : Bool) → (cond b (record r { last = top; stage = Writes a; turned = 0; noted = r.noted + suc r.turned }) (record r { stage = Walks top before a; turned = suc r.turned })).link ≡ r.link
+    by_case true = refl
+    by_case false = refl
+
+turn_home : (r : Right) (top a before : ℕ) → (turned_right r top a before).at_home ≡ r.at_home
+turn_home r top a before = by_case (eqb before r.last)
+  where
+    by_case : (b : Bool) → (cond b (record r { last = top; stage = Writes a; turned = 0; noted = r.noted + suc r.turned }) (record r { stage = Walks top before a; turned = suc r.turned })).at_home ≡ r.at_home
+    by_case true = refl
+    by_case false = refl
+
 leads_freed : (last now : ℕ) (a b : Stage) → Leads last a now b → freed_stage a ≡ b
 leads_freed last now a b (to_end _ e) = refl
 leads_freed last now a b (to_next _ next) = refl
 
-module _ {S : Type 0} (shows : S → Home) (p : Plan) (slots id : ℕ) (me : Me S View) (mine : me.0.plan ≡ p) (some_ : 0 < me.0.share) (r : Right) (one : me.0.rights ≡ r ∷ []) where
+module _ {S : Type 0} (shows : S → Home) (rose : S → ℕ) (p : Plan) (slots id : ℕ) (me : Me S View) (mine : me.0.plan ≡ p) (some_ : 0 < me.0.share) (r : Right) (one : me.0.rights ≡ r ∷ []) where
   abbrev v : View
   v = me.0
 
@@ -81,6 +98,13 @@ module _ {S : Type 0} (shows : S → Home) (p : Plan) (slots id : ℕ) (me : Me 
   quiet : (r' : Right) → SameShare p v (with_right v r')
   quiet r' = record { share = refl; lists = refl; finds = refl; stores = λ x y. omega arith; accepts = λ l. omega arith; labels = λ x. x }
 
+  -- a right to write the link, which is at home or in hand as before
+  steady : (r' : Right) → r'.link ≡ r.link → r'.at_home ≡ r.at_home → Calm v (with_right v r')
+  steady r' link home = record {
+    faults = λ k. refl;
+    outs = λ k. (let same : away k r' ≡ away k r = (λ i. cond (home i) 0 (only k (link i))) in omega (arith, ap (total (away k)) (one_right v r r' one link), ap (total (away k)) one));
+  }
+
   its : (q : Right) → me.0.rights ≡ q ∷ [] → r ≡ q
   its q e = the_right me.0.rights r q one e
 
@@ -89,15 +113,15 @@ module _ {S : Type 0} (shows : S → Home) (p : Plan) (slots id : ℕ) (me : Me 
   after s here w = set_at s.views id w (at_length s.views id v here)
 
   -- A8: where the life is live the right is clean
-  pub looks_clean : (i h : ℕ) → HoldsLink p v i h r.link → Allows (OnTable shows p) slots id me (ref_word i) (λ n. n) (clean_told (step slots (ref_word i) 0 0 none) me)
+  pub looks_clean : (i h : ℕ) → HoldsLink p v i h r.link → Allows (OnTable shows rose p) slots id me (ref_word i) (λ n. n) (clean_told (step slots (ref_word i) 0 0 none) me)
   looks_clean i h holds s t long here fits = let found : ℕ = get_or s.words (ref_word i) 0 in let inside = holds.inside in
-      let told : (x : ℕ) → ref_word i ≡ ref_word x → Rattle.sock_rule.specs.Plays.WordFits x found v = λ x at. word_fits shows p slots id me mine some_ i inside s t here fits x at in
+      let told : (x : ℕ) → ref_word i ≡ ref_word x → Rattle.sock_rule.specs.Plays.WordFits x found v = λ x at. word_fits shows rose p slots id me mine some_ i inside s t here fits x at in
       dite (ℕ_discrete (version_of (get_or s.words (ref_word i) 0) % 2) 0)
       (λ even. let w : View = with_right (looked i found v) (record r { clean = true }) in (
         with_right (looked i found v) (record r { clean = true }),
         keeps,
         tt,
-        beside t id v w here some_ (set s.words (ref_word i) found) s.homes refl record { share = refl; lists = refl; finds = refl; stores = λ x y. omega arith; accepts = λ l. omega arith; labels = λ x. x } (slot_settled t.settled (ref_word i) found (omega arith) (λ j e. omega arith))
+        beside t id v w here some_ (set s.words (ref_word i) found) s.homes (refl, λ l ll. refl) record { share = refl; lists = refl; finds = refl; stores = λ x y. omega arith; accepts = λ l. omega arith; labels = λ x. x } record { faults = λ l. omega arith; outs = (steady (record r { clean = true }) refl refl).outs } (slot_settled t.settled (ref_word i) found (omega arith) (λ j e. omega arith))
             (load_rule t.rule id v here mine (ref_word i) found refl w record { plan = refl; found = refl; lists = refl } (clean_look_law shows p s t.rule.lawful id v here has_one i h holds fits even)),
         λ q x e at. let same : i ≡ x = omega arith in let k = its q e in (told x at, (λ z. λ y. (with_right (looked (same y) found v) (record (k y) { clean = true }), me.1)), λ odd. absurd (odd even)),
       ))
@@ -105,49 +129,73 @@ module _ {S : Type 0} (shows : S → Home) (p : Plan) (slots id : ℕ) (me : Me 
         looked i found v,
         keeps,
         tt,
-        beside t id v (looked i found v) here some_ (set s.words (ref_word i) found) s.homes refl record { share = refl; lists = refl; finds = refl; stores = λ x y. omega arith; accepts = λ l. omega arith; labels = λ x. x } (slot_settled t.settled (ref_word i) found (omega arith) (λ j e. omega arith))
+        beside t id v (looked i found v) here some_ (set s.words (ref_word i) found) s.homes (refl, λ l ll. refl) record { share = refl; lists = refl; finds = refl; stores = λ x y. omega arith; accepts = λ l. omega arith; labels = λ x. x } record { faults = λ l. omega arith; outs = λ l. omega arith } (slot_settled t.settled (ref_word i) found (omega arith) (λ j e. omega arith))
             (look_rule t.rule id v here mine i inside fits),
         λ q x e at. let same : i ≡ x = omega arith in (told x at, (λ even. absurd (odd even)), λ z. λ y. (looked (same y) found v, me.1)),
       ))
 
   -- L1
-  pub takes_own : (x : ℕ) → r.at_home ≡ true → Allows (OnTable shows p) slots id me x (λ n. n) (take_own_told shows (step slots x 0 0 none) me)
-  takes_own x home s t long here fits = let o = t.rule.lawful in let a = link_home_law shows p s o id v here has_one home in let w : View = with_right v (record r { at_home = false }) in
+  pub takes_own : (i : ℕ) → r.at_home ≡ true → Allows (OnTable shows rose p) slots id me (link_word i) (λ n. n) (take_own_told shows rose (step slots (link_word i) 0 0 none) me)
+  takes_own i home s t long here fits = let o = t.rule.lawful in let a = link_home_law shows p s o id v here has_one home in let u : View = with_right v (record r { at_home = false }) in let w : View = fault_found (rose a.0) i r.link u in let alike = found_alike (rose a.0) i r.link u in
       let low : r.link < p.links = right_in o id 0 v r here has_one.has in let hs : List (Option S) = set s.homes (p.requests + r.link) none in (
-        with_right v (record r { at_home = false }),
+        fault_found (rose a.0) i r.link (with_right v (record r { at_home = false })),
         takes (p.requests + r.link) a.0,
         a.1,
-        loaded s x id w hs (beside t id v w here some_ s.words hs (length-set s.homes (p.requests + r.link) none) (quiet (record r { at_home = false })) (home_settled t.settled (p.requests + r.link) none (omega arith))
-            (right_rule t.rule id v here mine (record r { at_home = false }) hs (link_goes_law shows p s o id v here has_one none refl (omega (arith, t.housed))))),
-        λ q e. subst (λ (z : Right). TookOwn shows me (with_right v (record r { at_home = false }), (p.requests + r.link, a.0) ∷ me.1) z) (its q e) record {
-          value = a.0;
-          shown = a.2;
-          inside = subst (λ (z : Plan). r.link < z.links) (sym mine) low;
-          view = refl;
-          slots = ap (λ (z : Plan). (z.requests + r.link, a.0) ∷ me.1) (sym mine);
-        },
+        loaded s (link_word i) id w hs (beside_faults t id v w here some_ s.words hs (takes_link t.faults id v u here r.link a.0 low (omega (arith, t.housed)) s.words i a.1 refl taken) (length-set s.homes (p.requests + r.link) none) (alike_share p v u w (quiet (record r { at_home = false })) alike) (home_settled t.settled (p.requests + r.link) none (omega arith))
+            (light_after shows p s id v u w here s.words hs alike mine (right_rule t.rule id v here mine (record r { at_home = false }) hs (link_goes_law shows p s o id v here has_one none refl (omega (arith, t.housed)))))),
+        λ q j e at. subst (λ (z : Right). TookOwn shows rose me (fault_found (rose a.0) i r.link (with_right v (record r { at_home = false })), (p.requests + r.link, a.0) ∷ me.1) z j) (its q e)
+            (subst (λ (z : ℕ). TookOwn shows rose me (fault_found (rose a.0) i r.link (with_right v (record r { at_home = false })), (p.requests + r.link, a.0) ∷ me.1) r z) (let same : i ≡ j = omega arith in same) record {
+              value = a.0;
+              shown = a.2;
+              inside = subst (λ (z : Plan). r.link < z.links) (sym mine) low;
+              view = refl;
+              known = knows_taken id v v here s.words s.homes r.link (t.faults r.link low) a.0 a.1;
+              slots = ap (λ (z : Plan). (z.requests + r.link, a.0) ∷ me.1) (sym mine);
+            }),
       )
+    where
+      taken : (l : ℕ) → out_of l (with_right v (record r { at_home = false })) ≡ out_of l v + only l r.link
+      taken l = omega (arith, ap (total (away l)) (one_right v r (record r { at_home = false }) one refl), ap (total (away l)) one, ap (λ b. cond b 0 (only l r.link)) home)
+
+  -- a fault of the link in hand is noted
+  pub notes_fault : (i : ℕ) → r.at_home ≡ false → Allows (OnTable shows rose p) slots id me (link_word i) (λ n. n) (note_fault_told (step slots (link_word i) 0 0 none) me)
+  notes_fault i gone s t long here fits = let w : View = noting_fault i r.link v in let alike = found_alike 1 i r.link v in let low : r.link < p.links = right_in t.rule.lawful id 0 v r here has_one.has in (
+    noting_fault i r.link v,
+    keeps,
+    tt,
+    loaded s (link_word i) id w s.homes (beside_faults t id v w here some_ s.words s.homes (noted s t here low) refl record { share = refl; lists = refl; finds = refl; stores = λ x y. omega arith; accepts = λ l. omega arith; labels = λ x. record { entries = x.entries; claimed = x.claimed } } t.settled
+        (light_rule shows p s id v w here alike t.rule mine)),
+    λ q j e at. let same = its q e in let same_i : i ≡ j = omega arith in λ z. (noting_fault (same_i z) (same z).link v, me.1),
+  )
+    where
+      noted : (s : State S View) (t : OnTable shows rose p s) → get_elem? s.views id ≡ some me.0 → r.link < p.links → (l : ℕ) → l < p.links → LinkFaults rose p record { words = s.words; homes = s.homes; views = set s.views id (noting_fault i r.link me.0) } l
+      noted s t here low l ll = dite (ℕ_discrete l r.link)
+          (λ e. let in_hand : 0 < out_of l v = omega (arith, ap (total (away l)) one, ap (λ b. cond b 0 (only l r.link)) gone, only-at l r.link (sym e)) in noting_more id v (noting_fault i r.link v) here s.words s.homes l (t.faults l ll) refl in_hand (omega arith) refl)
+          (λ ne. calm id v (noting_fault i r.link v) here s.words s.homes l (t.faults l ll) refl (found_else 1 i r.link l v (λ z. ne (sym z))) refl)
 
   -- L2
-  pub puts_own : (x : ℕ) (y : S) (below : List (ℕ × S)) → me.1 ≡ (p.requests + r.link, y) ∷ below → shows y ≡ Link r.link r.sent r.places false → Allows (OnTable shows p) slots id me x (λ n. n) (put_own_told (step slots x 0 0 none) me)
-  puts_own x y below top shown s t long here fits = let o = t.rule.lawful in let w : View = with_right v (record r { at_home = true }) in
+  pub puts_own : (x : ℕ) (y : S) (below : List (ℕ × S)) → me.1 ≡ (p.requests + r.link, y) ∷ below → shows y ≡ Link r.link r.sent r.places false → r.at_home ≡ false → (0 < faults_of r.link v → 0 < rose y) → Allows (OnTable shows rose p) slots id me x (λ n. n) (put_own_told (step slots x 0 0 none) me)
+  puts_own x y below top shown gone known s t long here fits = let o = t.rule.lawful in let w : View = with_right v (record r { at_home = true }) in
       let low : r.link < p.links = right_in o id 0 v r here has_one.has in let hs : List (Option S) = set s.homes (p.requests + r.link) (some y) in (
         with_right v (record r { at_home = true }),
         gives_back,
         tt,
-        subst (λ (l : List (ℕ × S)). OnTable shows p record { words = set s.words x (get_or s.words x 0); homes = put_back s.homes l; views = set s.views id (with_right v (record r { at_home = true })) }) (sym top)
-            (loaded s x id w hs (beside t id v w here some_ s.words hs (length-set s.homes (p.requests + r.link) (some y)) (quiet (record r { at_home = true })) (home_settled t.settled (p.requests + r.link) (some y) (omega arith))
+        subst (λ (l : List (ℕ × S)). OnTable shows rose p record { words = set s.words x (get_or s.words x 0); homes = put_back s.homes l; views = set s.views id (with_right v (record r { at_home = true })) }) (sym top)
+            (loaded s x id w hs (beside_faults t id v w here some_ s.words hs (puts_link t.faults id v w here r.link y low (omega (arith, t.housed)) s.words (λ l ne. refl) (λ z. refl) put known) (length-set s.homes (p.requests + r.link) (some y)) (quiet (record r { at_home = true })) (home_settled t.settled (p.requests + r.link) (some y) (omega arith))
             (right_rule t.rule id v here mine (record r { at_home = true }) hs (link_comes_law shows p s o id v here has_one y shown (omega (arith, t.housed)))))),
         λ q e. let k = its q e in λ z. (with_right v (record (k z) { at_home = true }), rest me.1),
       )
+    where
+      put : (l : ℕ) → out_of l v ≡ out_of l (with_right v (record r { at_home = true })) + only l r.link
+      put l = omega (arith, ap (total (away l)) (one_right v r (record r { at_home = true }) one refl), ap (total (away l)) one, ap (λ b. cond b 0 (only l r.link)) gone)
 
   -- M2
-  pub takes_letter : (x now : ℕ) → r.stage ≡ Writes now → r.taken ≡ false → Allows (OnTable shows p) slots id me x (λ n. n) (take_letter_told shows (step slots x 0 0 none) me)
+  pub takes_letter : (x now : ℕ) → r.stage ≡ Writes now → r.taken ≡ false → Allows (OnTable shows rose p) slots id me x (λ n. n) (take_letter_told shows (step slots x 0 0 none) me)
   takes_letter x now stage idle s t long here fits = let o = t.rule.lawful in let may : MayTake v = record { mine = has_one; now = now; stage = stage; idle = idle } in
       let a = taking_law shows p id v may s o here in let y = a.0 in let l = a.1 in let bytes = a.2 in
       let hs : List (Option S) = set s.homes (slot_of now) none in let r' : Right = taken_right r a.1 a.2 in let w : View = with_right v r' in
-      let t' : OnTable shows p record { words = s.words; homes = set s.homes (slot_of now) none; views = set s.views id (with_right v (taken_right r a.1 a.2)) } =
-      beside t id v w here some_ s.words hs (length-set s.homes (slot_of now) none) (quiet r') (home_taken_settled t.settled (slot_of now) (writes_taken o id v here r one now stage)) (right_rule t.rule id v here mine r' hs (a.5 none refl)) in
+      let t' : OnTable shows rose p record { words = s.words; homes = set s.homes (slot_of now) none; views = set s.views id (with_right v (taken_right r a.1 a.2)) } =
+      beside t id v w here some_ s.words hs (homes_else p s.homes (slot_of now) none (writes_ticket o id v here r one now stage).inside) (quiet r') (steady r' refl refl) (home_taken_settled t.settled (slot_of now) (writes_taken o id v here r one now stage)) (right_rule t.rule id v here mine r' hs (a.5 none refl)) in
       let label : a.1.place < 8 * p.operations = hand_label t'.rule.lawful t'.labelled id w (after s here w) r' now (one_right v r r' one refl) stage refl in (
         with_right v (taken_right r a.1 a.2),
         takes (slot_of now) a.0,
@@ -169,19 +217,19 @@ module _ {S : Type 0} (shows : S → Home) (p : Plan) (slots id : ℕ) (me : Me 
 
   -- P1
   pub places : (now : ℕ) → r.stage ≡ Writes now → r.taken ≡ true → r.clean ≡ true → r.at_home ≡ false → r.heading.place < 8 * p.operations → r.link < 65536
-      → Allows (OnTable shows p) slots id me (place_word p r.heading.place) (λ _. place_value false r.link r.places) (λ _. place_told (step slots (place_word p r.heading.place) (place_value false r.link r.places) 0 none) me (place_value false r.link r.places))
+      → Allows (OnTable shows rose p) slots id me (place_word p r.heading.place) (λ _. place_value false r.link r.places) (λ _. place_told (step slots (place_word p r.heading.place) (place_value false r.link r.places) 0 none) me (place_value false r.link r.places))
   places now stage taken clean away label narrow s t long here fits = let may : MayPlace p v = record { mine = has_one; now = now; stage = stage; taken = taken; is_clean = clean; away = away; label_in = label } in let w : View = with_right v (placed_right r now) in
       let value : ℕ = place_value false r.link r.places in (
         with_right v (placed_right r now),
         keeps,
         tt,
-        places_beside t id v here r one now stage taken label value w (omega (arith, next_few t.rule id v here r now one stage)) some_ (quiet (placed_right r now)) refl (place_settled t.settled r.heading.place value t.stored (λ y yl. refl) (omega (arith, t.rule.lawful.references.sized)))
+        places_beside t id v here r one now stage taken label value w (omega (arith, next_few t.rule id v here r now one stage)) some_ (quiet (placed_right r now)) (steady (placed_right r now) refl refl) refl (place_settled t.settled r.heading.place value t.stored (λ y yl. refl) (omega (arith, t.rule.lawful.references.sized)))
             (place_rule t.rule id v here mine r.heading.place value (placed_right r now) s.homes (placing_law shows p id v may s t.rule.lawful here)),
         λ q m e st. let same = its q e in let sm : now ≡ m = writes_same now m (sym stage ∙ (ap (λ (z : Right). z.stage) same ∙ st)) in λ z. (with_right v (placed_right (same z) (sm z)), me.1),
       )
 
   -- the life of a link whose life the seat holds and found failed was failed
-  failed_life : (s : State S View) → OnTable shows p s → get_elem? s.views id ≡ some me.0 → (j h : ℕ) → HoldsLink p me.0 j h r.link → 0 < marks_of (is_saw (h + 1)) j me.0 → Failed p s r.link
+  failed_life : (s : State S View) → OnTable shows rose p s → get_elem? s.views id ≡ some me.0 → (j h : ℕ) → HoldsLink p me.0 j h r.link → 0 < marks_of (is_saw (h + 1)) j me.0 → Failed p s r.link
   failed_life s t here j h holds seen = let o = t.rule.lawful in let l = o.references.slots j holds.inside in let life = holder_lives p s o.references id me.0 j h r.link here holds in let held = holds.held in
       let saw = l.saw (h + 1) (omega (arith, own_count s id me.0 here (is_saw (h + 1)) j)) in let k = l.held h (omega (arith, own_count s id me.0 here (is_hold h) j)) in let even = k.1 in
       let first = l.link_begun h r.link life.life.given in
@@ -189,24 +237,24 @@ module _ {S : Type 0} (shows : S → Home) (p : Plan) (slots id : ℕ) (me : Me 
 
   -- P1 with the dropped bit: the link lies in the slot that was taken last
   pub drops : (now j h : ℕ) (y : ℕ × S) → r.stage ≡ Writes now → r.taken ≡ true → r.at_home ≡ false → r.heading.place < 8 * p.operations → Part r (took_in (shows y.1)) → me.1 ≡ y ∷ rest me.1 → HoldsLink p v j h r.link → 0 < marks_of (is_saw (h + 1)) j v
-      → Allows (OnTable shows p) slots id me (place_word p r.heading.place) (λ _. place_value true r.link r.places) (λ _. drop_told shows (step slots (place_word p r.heading.place) (place_value true r.link r.places) 0 none) me (place_value true r.link r.places))
+      → Allows (OnTable shows rose p) slots id me (place_word p r.heading.place) (λ _. place_value true r.link r.places) (λ _. drop_told shows (step slots (place_word p r.heading.place) (place_value true r.link r.places) 0 none) me (place_value true r.link r.places))
   drops now j h y stage taken away label part top holds seen s t long here fits = let may : MayDrop p v = record { mine = has_one; now = now; sent = took_in (shows y.1); stage = stage; taken = taken; away = away; label_in = label; part = part } in
       let u : View = with_right v (dropped_right r now (took_in (shows y.1))) in let x : ℕ = place_word p r.heading.place in let value : ℕ = place_value true r.link r.places in (
         wrote (place_word p r.heading.place) (place_value true r.link r.places) (with_right v (dropped_right r now (took_in (shows y.1)))),
         keeps,
         tt,
-        drops_beside t id v here r one now stage taken label value u (omega arith) some_ mine (quiet (dropped_right r now (took_in (shows y.1)))) refl (omega (arith, t.rule.lawful.references.sized)) (λ noted same. place_settled t.settled r.heading.place value noted same (omega (arith, t.rule.lawful.references.sized)))
+        drops_beside t id v here r one now stage taken label value u (omega arith) some_ mine (quiet (dropped_right r now (took_in (shows y.1)))) (steady (dropped_right r now (took_in (shows y.1))) refl refl) refl (omega (arith, t.rule.lawful.references.sized)) (λ noted same. place_settled t.settled r.heading.place value noted same (omega (arith, t.rule.lawful.references.sized)))
             (place_rule t.rule id v here mine r.heading.place value (dropped_right r now (took_in (shows y.1))) s.homes (dropping_law shows p id v may s t.rule.lawful here (failed_life s t here j h holds seen))),
         λ q m z e st at. let same = its q e in let sm : now ≡ m = writes_same now m (sym stage ∙ (ap (λ (u : Right). u.stage) same ∙ st)) in let sy : y ≡ z = first_is y z (rest me.1) (rest me.1) (sym top ∙ at) in
             λ i. (wrote x value (with_right v (dropped_right (same i) (sm i) (took_in (shows (sy i).1)))), me.1),
       )
 
   -- C5 after a message that has its place
-  pub reads_on : (now : ℕ) → r.stage ≡ Placed now → now ≢ r.last → Allows (OnTable shows p) slots id me (next_word p (slot_of now)) (λ n. n) (read_next_told (step slots (next_word p (slot_of now)) 0 0 none) me)
+  pub reads_on : (now : ℕ) → r.stage ≡ Placed now → now ≢ r.last → Allows (OnTable shows rose p) slots id me (next_word p (slot_of now)) (λ n. n) (read_next_told (step slots (next_word p (slot_of now)) 0 0 none) me)
   reads_on now stage ne s t long here fits = let o = t.rule.lawful in let x : ℕ = next_word p (slot_of now) in let found : ℕ = get_or s.words (next_word p (slot_of now)) 0 in
       let r' : Right = passing_right r now found in let w : View = with_right v r' in
-      let t' : OnTable shows p record { words = s.words; homes = s.homes; views = set s.views id (with_right v (passing_right r now found)) } =
-      beside t id v w here some_ s.words s.homes refl (quiet r') t.settled (right_rule t.rule id v here mine r' s.homes (passing_law shows p s o id v here has_one now stage ne)) in
+      let t' : OnTable shows rose p record { words = s.words; homes = s.homes; views = set s.views id (with_right v (passing_right r now found)) } =
+      beside t id v w here some_ s.words s.homes (refl, λ l ll. refl) (quiet r') (steady r' refl refl) t.settled (right_rule t.rule id v here mine r' s.homes (passing_law shows p s o id v here has_one now stage ne)) in
       let ticket : IsTicket me.0.plan found = subst (λ (z : Plan). IsTicket z found) (sym mine) (passes_ticket t'.rule.lawful id w (after s here w) r' (one_right v r r' one refl) now found refl) in (
         with_right v (passing_right r now found),
         keeps,
@@ -219,7 +267,7 @@ module _ {S : Type 0} (shows : S → Home) (p : Plan) (slots id : ℕ) (me : Me 
       )
 
   -- C5 on the walk
-  pub reads_back : (top a next : ℕ) → r.stage ≡ Walks top a next → Allows (OnTable shows p) slots id me (next_word p (slot_of a)) (λ n. n) (read_next_told (step slots (next_word p (slot_of a)) 0 0 none) me)
+  pub reads_back : (top a next : ℕ) → r.stage ≡ Walks top a next → Allows (OnTable shows rose p) slots id me (next_word p (slot_of a)) (λ n. n) (read_next_told (step slots (next_word p (slot_of a)) 0 0 none) me)
   reads_back top a next stage s t long here fits = let o = t.rule.lawful in let x : ℕ = next_word p (slot_of a) in let found : ℕ = get_or s.words (next_word p (slot_of a)) 0 in
       let not_placed : (q : Right) (m : ℕ) → me.0.rights ≡ q ∷ [] → q.stage ≡ Placed m → ⊥ = λ q m e st. (let z : Walks top a next ≡ Placed m = sym stage ∙ (ap (λ (u : Right). u.stage) (its q e) ∙ st) in cc) in
       dite (ℕ_discrete (get_or s.words (next_word p (slot_of a)) 0) UNCONNECTED)
@@ -227,13 +275,13 @@ module _ {S : Type 0} (shows : S → Home) (p : Plan) (slots id : ℕ) (me : Me 
         v,
         keeps,
         tt,
-        beside t id v v here some_ (set s.words x found) s.homes refl record { share = refl; lists = refl; finds = refl; stores = λ y z. omega arith; accepts = λ l. omega arith; labels = λ y. y } (load_settled t.settled x)
+        beside t id v v here some_ (set s.words x found) s.homes (refl, λ l ll. refl) record { share = refl; lists = refl; finds = refl; stores = λ y z. omega arith; accepts = λ l. omega arith; labels = λ y. y } record { faults = λ l. omega arith; outs = λ l. omega arith } (load_settled t.settled x)
             (load_rule t.rule id v here mine x found refl v record { plan = refl; found = refl; lists = refl } (idle_law shows p s o id v here x)),
         λ q e. ((λ m st far. absurd (not_placed q m e st)), (λ top_ at_ after_ st. ((λ z. refl), λ ne. absurd (ne waits)))),
       ))
       (λ there. let r' : Right = reading_right r top a next found in let w : View = with_right v r' in
-      let t' : OnTable shows p record { words = s.words; homes = s.homes; views = set s.views id (with_right v (reading_right r top a next found)) } =
-      beside t id v w here some_ s.words s.homes refl (quiet r') t.settled (right_rule t.rule id v here mine r' s.homes (reading_law shows p s o id v here has_one top a next stage there)) in
+      let t' : OnTable shows rose p record { words = s.words; homes = s.homes; views = set s.views id (with_right v (reading_right r top a next found)) } =
+      beside t id v w here some_ s.words s.homes (refl, λ l ll. refl) (quiet r') (steady r' refl refl) t.settled (right_rule t.rule id v here mine r' s.homes (reading_law shows p s o id v here has_one top a next stage there)) in
       let ticket : IsTicket me.0.plan found = subst (λ (z : Plan). IsTicket z found) (sym mine) (turns_ticket t'.rule.lawful id w (after s here w) r' (one_right v r r' one refl) top a next found refl) in (
         with_right v (reading_right r top a next found),
         keeps,
@@ -250,7 +298,7 @@ module _ {S : Type 0} (shows : S → Home) (p : Plan) (slots id : ℕ) (me : Me 
 
   -- C8
   pub frees : (now : ℕ) (b : Stage) (y : S) (below : List (ℕ × S)) → Leads r.last r.stage now b → generation_of now < 140737488355327 → me.1 ≡ (slot_of now, y) ∷ below
-      → Allows (OnTable shows p) slots id me (request_word p (slot_of now)) (λ _. 2 * (generation_of now + 1)) (λ _. free_request_told (step slots (request_word p (slot_of now)) (2 * (generation_of now + 1)) 0 none) me (2 * (generation_of now + 1)))
+      → Allows (OnTable shows rose p) slots id me (request_word p (slot_of now)) (λ _. 2 * (generation_of now + 1)) (λ _. free_request_told (step slots (request_word p (slot_of now)) (2 * (generation_of now + 1)) 0 none) me (2 * (generation_of now + 1)))
   frees now b y below leads small top s t long here fits = let o = t.rule.lawful in let x : ℕ = request_word p (slot_of now) in let n : ℕ = 2 * (generation_of now + 1) in
       let kl = right_in o id 0 v r here has_one.has in let alone = right_alone o id 0 v r here has_one.has in
       let low : slot_of now < p.requests = now_slot o.chains r.link r kl alone o.fits.narrow now b leads in
@@ -263,15 +311,15 @@ module _ {S : Type 0} (shows : S → Home) (p : Plan) (slots id : ℕ) (me : Me 
         with_right v (record r { stage = b }),
         gives_back,
         tt,
-        subst (λ (l : List (ℕ × S)). OnTable shows p record { words = set s.words (request_word p (slot_of now)) (2 * (generation_of now + 1)); homes = put_back s.homes l; views = set s.views id (with_right v (record r { stage = b })) }) (sym top)
-            (beside t id v w here some_ (set s.words x n) hs (length-set s.homes (slot_of now) (some y)) (quiet r') (back_settled t.settled (slot_of now) n y low (omega (arith, t.housed)))
+        subst (λ (l : List (ℕ × S)). OnTable shows rose p record { words = set s.words (request_word p (slot_of now)) (2 * (generation_of now + 1)); homes = put_back s.homes l; views = set s.views id (with_right v (record r { stage = b })) }) (sym top)
+            (beside t id v w here some_ (set s.words x n) hs (homes_else p s.homes (slot_of now) (some y) low) (quiet r') (steady r' refl refl) (back_settled t.settled (slot_of now) n y low (omega (arith, t.housed)))
             (word_rule t.rule id v here mine w x n hs record { plan = refl; found = refl; lists = refl } (λ l z. absurd (omega arith)) law')),
         λ q e. let same = its q e in let st = leads_freed r.last now r.stage b leads in (λ u. (with_right v (record r { stage = sym st u }), rest me.1)) ∙ (λ u. (with_right v (freed_right (same u)), rest me.1)),
       )
 
   -- C8 of the last generation: the request stays taken, and a load gives its home back
   pub retires : (x now : ℕ) (b : Stage) (y : S) (below : List (ℕ × S)) → Leads r.last r.stage now b → generation_of now ≡ 140737488355327 → me.1 ≡ (slot_of now, y) ∷ below
-      → Allows (OnTable shows p) slots id me x (λ n. n) (free_request_told (step slots x 0 0 none) me)
+      → Allows (OnTable shows rose p) slots id me x (λ n. n) (free_request_told (step slots x 0 0 none) me)
   retires x now b y below leads last_one top s t long here fits = let o = t.rule.lawful in let kl = right_in o id 0 v r here has_one.has in let alone = right_alone o id 0 v r here has_one.has in
       let low : slot_of now < p.requests = now_slot o.chains r.link r kl alone o.fits.narrow now b leads in
       let r' : Right = record r { stage = b } in let w : View = with_right v r' in let hs : List (Option S) = set s.homes (slot_of now) (some y) in
@@ -281,46 +329,47 @@ module _ {S : Type 0} (shows : S → Home) (p : Plan) (slots id : ℕ) (me : Me 
         with_right v (record r { stage = b }),
         gives_back,
         tt,
-        subst (λ (l : List (ℕ × S)). OnTable shows p record { words = set s.words x (get_or s.words x 0); homes = put_back s.homes l; views = set s.views id (with_right v (record r { stage = b })) }) (sym top)
-            (loaded s x id w hs (beside t id v w here some_ s.words hs (length-set s.homes (slot_of now) (some y)) (quiet r') (home_back_settled t.settled (slot_of now) y (omega (arith, t.housed)))
+        subst (λ (l : List (ℕ × S)). OnTable shows rose p record { words = set s.words x (get_or s.words x 0); homes = put_back s.homes l; views = set s.views id (with_right v (record r { stage = b })) }) (sym top)
+            (loaded s x id w hs (beside t id v w here some_ s.words hs (homes_else p s.homes (slot_of now) (some y) low) (quiet r') (steady r' refl refl) (home_back_settled t.settled (slot_of now) y (omega (arith, t.housed)))
             (right_rule t.rule id v here mine r' hs law'))),
         λ q e. let same = its q e in let st = leads_freed r.last now r.stage b leads in (λ u. (with_right v (record r { stage = sym st u }), rest me.1)) ∙ (λ u. (with_right v (freed_right (same u)), rest me.1)),
       )
 
   -- C4
   pub empties : (i h : ℕ) → r.stage ≡ Empties → r.at_home ≡ true → HoldsLink p v i h r.link
-      → Allows (OnTable shows p) slots id me (head_word i) (λ n. either (eqb n r.last) (IDLE + r.last) n) (empty_told (step slots (head_word i) r.last (IDLE + r.last) none) me)
-  empties i h stage home holds s t long here fits = let o = t.rule.lawful in let x : ℕ = head_word i in let found : ℕ = get_or s.words (head_word i) 0 in
+      → Allows (OnTable shows rose p) slots id me (head_word i) (λ n. either (eqb n r.last) (IDLE + r.last) n) (empty_told (step slots (head_word i) r.last (IDLE + r.last) none) me)
+  empties i h stage home holds s t long here fits = let o = t.rule.lawful in
+      let one_gone : (without_right v r.link).rights ≡ [] = ap (filter (λ (x : Right). not (eqb x.link r.link))) one ∙ ap (λ b. cond (not b) (r ∷ []) []) (eq-eqb r.link r.link refl) in let x : ℕ = head_word i in let found : ℕ = get_or s.words (head_word i) 0 in
       let may : MayEmpty p v i r.last (IDLE + r.last) = record { mine = has_one; stage = stage; link_home = home; last_is = refl; empty_is = refl; life = h; holds = holds } in
       dite (ℕ_discrete (get_or s.words (head_word i) 0) r.last)
       (λ won. (
         without_right v r.link,
         keeps,
         tt,
-        subst (λ (b : Bool). OnTable shows p record { words = set s.words (head_word i) (either b (IDLE + r.last) found); homes = s.homes; views = set s.views id (without_right v r.link) }) (sym (eq-eqb found r.last won))
-            (beside t id v (without_right v r.link) here some_ (set s.words x (IDLE + r.last)) s.homes refl record { share = refl; lists = refl; finds = refl; stores = λ y z. omega arith; accepts = λ l. omega arith; labels = λ y. y } (slot_settled t.settled x (IDLE + r.last) (let a = holds.inside in omega arith) (λ j e. omega arith))
+        subst (λ (b : Bool). OnTable shows rose p record { words = set s.words (head_word i) (either b (IDLE + r.last) found); homes = s.homes; views = set s.views id (without_right v r.link) }) (sym (eq-eqb found r.last won))
+            (beside t id v (without_right v r.link) here some_ (set s.words x (IDLE + r.last)) s.homes (refl, λ l ll. refl) record { share = refl; lists = refl; finds = refl; stores = λ y z. omega arith; accepts = λ l. omega arith; labels = λ y. y } record { faults = λ l. refl; outs = λ l. omega (arith, ap (total (away l)) one_gone, ap (total (away l)) one, ap (λ b. cond b 0 (only l r.link)) home) } (slot_settled t.settled x (IDLE + r.last) (let a = holds.inside in omega arith) (λ j e. omega arith))
             (emptied_rule t.rule id v here mine i r.last (IDLE + r.last) may holds.inside won)),
         λ q e. let same = its q e in ((λ z. λ u. (without_right v (same u).link, me.1)), λ ne. absurd (ne won)),
       ))
       (λ lost. let r' : Right = walking_right r found in let w : View = with_right v r' in
-      let t' : OnTable shows p record { words = s.words; homes = s.homes; views = set s.views id (with_right v (walking_right r found)) } =
-      beside t id v w here some_ s.words s.homes refl (quiet r') t.settled (right_rule t.rule id v here mine r' s.homes (walking_law shows p s o id i r.last (IDLE + r.last) v here may found refl lost)) in
+      let t' : OnTable shows rose p record { words = s.words; homes = s.homes; views = set s.views id (with_right v (walking_right r found)) } =
+      beside t id v w here some_ s.words s.homes (refl, λ l ll. refl) (quiet r') (steady r' refl refl) t.settled (right_rule t.rule id v here mine r' s.homes (walking_law shows p s o id i r.last (IDLE + r.last) v here may found refl lost)) in
       let ticket : IsTicket me.0.plan found = subst (λ (z : Plan). IsTicket z found) (sym mine) (walk_ticket t'.rule.lawful id w (after s here w) r' (one_right v r r' one refl) found found 0 refl) in (
         with_right v (walking_right r found),
         keeps,
         tt,
-        subst (λ (b : Bool). OnTable shows p record { words = set s.words (head_word i) (either b (IDLE + r.last) found); homes = s.homes; views = set s.views id (with_right v (walking_right r found)) }) (sym (ne_eqb found r.last lost))
+        subst (λ (b : Bool). OnTable shows rose p record { words = set s.words (head_word i) (either b (IDLE + r.last) found); homes = s.homes; views = set s.views id (with_right v (walking_right r found)) }) (sym (ne_eqb found r.last lost))
             (loaded s x id w s.homes t'),
         λ q e. let same = its q e in ((λ z. absurd (lost z)), λ ne. ((λ u. (with_right v (walking_right (same u) found), me.1)), ticket)),
       ))
 
   -- C6
-  pub turns : (top a next before : ℕ) → r.stage ≡ Turns top a next before → Allows (OnTable shows p) slots id me (next_word p (slot_of a)) (λ _. next) (λ _. turn_told (step slots (next_word p (slot_of a)) next 0 none) me next)
+  pub turns : (top a next before : ℕ) → r.stage ≡ Turns top a next before → Allows (OnTable shows rose p) slots id me (next_word p (slot_of a)) (λ _. next) (λ _. turn_told (step slots (next_word p (slot_of a)) next 0 none) me next)
   turns top a next before stage s t long here fits = let x : MayTurn v next = record { mine = has_one; top = top; at = a; before = before; stage = stage } in let w : View = with_right v (turned_right r top a before) in (
     with_right v (turned_right r top a before),
     keeps,
     tt,
-    beside t id v w here some_ (set s.words (next_word p (slot_of a)) next) s.homes refl (quiet (turned_right r top a before)) (next_settled t.settled (slot_of a) next (turn_ticket t.rule.lawful id v here r one top a next before stage).inside) (turning_rule t.rule id v here mine next x),
+    beside t id v w here some_ (set s.words (next_word p (slot_of a)) next) s.homes (refl, λ l ll. refl) (quiet (turned_right r top a before)) (steady (turned_right r top a before) (turn_link r top a before) (turn_home r top a before)) (next_settled t.settled (slot_of a) next (turn_ticket t.rule.lawful id v here r one top a next before stage).inside) (turning_rule t.rule id v here mine next x),
     λ q top_ at_ after_ before_ e st. turns_as top a next before top_ at_ after_ before_ (sym stage ∙ (ap (λ (u : Right). u.stage) (its q e) ∙ st)) q (its q e),
   )
     where

@@ -1,4 +1,6 @@
 pub mod Settling
+pub mod Light
+pub mod Faults
 pub mod Beside
 pub mod Allowed
 pub mod Finds

@@ -24,7 +24,9 @@ use Rattle.chain_laws.proofs.Settles.{all_placed}
 use Rattle.sock_steps.proofs.HandSteps.{link_value}
 use Rattle.sock_steps.proofs.Reseat.{closing_law}
 use Rattle.sock_rule.specs.OnTable.{OnTable}
+use Rattle.sock_rule.specs.Faults.{faults_link, faults_of}
 use Rattle.sock_rule.specs.Closing.{LifeFailed, LinkTook, PlaceOf}
+use Rattle.sock_rule.proofs.Faults.{close_faults}
 use Rattle.sock_rule.proofs.Closes.{others, counts, none_flat, only_one}
 use Rattle.sock_rule.proofs.Reached.{label_of}
 
@@ -36,7 +38,7 @@ took_there (some (Message l b)) t n e = absurd (some-ne-none (t, n) (sym e))
 took_there (some (Link k a b d)) t n e = let q : (a, b) ≡ (t, n) = some-injective (a, b) (t, n) e in (k, d, (λ i. some (Link k (q i).0 (q i).1 d)))
 
 -- the home of link k, with what its link took
-pub record AtHome {S : Type 0} (shows : S → Home) (p : Plan) (s : State S View) (v : View) (log : List Entry) (k : ℕ) : Type 0 where
+pub record AtHome {S : Type 0} (shows : S → Home) (rose : S → ℕ) (p : Plan) (s : State S View) (v : View) (log : List Entry) (k : ℕ) : Type 0 where
   pub value : S
   pub took : List ℕ
   pub next : ℕ
@@ -44,10 +46,12 @@ pub record AtHome {S : Type 0} (shows : S → Home) (p : Plan) (s : State S View
   pub there : get_elem? s.homes (p.requests + k) ≡ some (some value)
   pub shown_is : shows value ≡ Link k took next done
   pub took_is : LinkTook p v log s.words k took
+  -- it has faults where a seat noted one
+  pub faulted : 0 < faults_of k v → 0 < rose value
   -- it isn't finished while a life that was given it is to end
   pub unfinished : (i h : ℕ) → i < p.slots → 0 < marks_of (is_linked h k) i v → marks_of (is_freer h) i v ≡ 0 → done ≡ false
 
-module _ {S : Type 0} {shows : S → Home} {p : Plan} (s : State S View) (t : OnTable shows p s) (id : ℕ) (v : View) (here : get_elem? s.views id ≡ some v) (all : v.share ≡ p.seats) (bare : IsBare v) where
+module _ {S : Type 0} {shows : S → Home} {rose : S → ℕ} {p : Plan} (s : State S View) (t : OnTable shows rose p s) (id : ℕ) (v : View) (here : get_elem? s.views id ≡ some v) (all : v.share ≡ p.seats) (bare : IsBare v) where
   same_view : (j : ℕ) (u : View) → get_elem? s.views j ≡ some u → j ≡ id → v ≡ u
   same_view j u e same = some-injective v u (sym here ∙ (ap (get_elem? s.views) (sym same) ∙ e))
 
@@ -75,7 +79,7 @@ module _ {S : Type 0} {shows : S → Home} {p : Plan} (s : State S View) (t : On
       by_slot none e = ⊎_elim (λ y. y) (λ h. absurd (let z = no_hands k in omega arith)) (t.rule.lawful.homes.outside k kl e)
       by_slot (some j) e = let i = t.rule.lawful.homes.idle k j kl e (no_rights k) in let h = took_there (link_at shows p s.homes k) i.0 i.1 i.2 in (Link h.0 i.0 i.1 h.1, h.2)
 
-  pub links_back : (k : ℕ) → k < p.links → AtHome shows p s v t.rule.lawful.log k
+  pub links_back : (k : ℕ) → k < p.links → AtHome shows rose p s v t.rule.lawful.log k
   links_back k kl = let x = link_there k kl in let own = t.rule.lawful.homes.own k x.0 kl x.1 in
       let at : link_at shows p s.homes k ≡ some (Link k own.took own.next own.done) = x.1 ∙ ap some own.is in
       let y = link_value shows (get_elem? s.homes (p.requests + k)) k own.took own.next own.done at in record {
@@ -85,6 +89,7 @@ module _ {S : Type 0} {shows : S → Home} {p : Plan} (s : State S View) (t : On
         done = own.done;
         there = y.1;
         shown_is = y.2;
+        faulted = close_faults k v y.0 (t.faults k kl) y.1 (only_one (faults_of k) s.views id v here (λ j u e other. ap (total (faults_link k)) (others s t id v here all j u e other).marks));
         unfinished = λ i h il given unended. own.«open» i (t.rule.lawful.in_slots.alone i h k record { life = record { inside = il; given = omega (arith, counts s t id v here all (is_linked h k) i) }; unended = counts s t id v here all (is_freer h) i ∙ unended });
         took_is = record {
           kept = t.rule.lawful.kept k;

@@ -36,7 +36,8 @@ use Rattle.sock_steps.proofs.RuleFrame.{lasts_all, same_rule}
 use Rattle.sock_steps.proofs.SlotFrame.{still_holds, slot_frame}
 use Rattle.sock_steps.proofs.Steady.{wrote_steady}
 use Rattle.sock_rule.specs.OnTable.{share_of, is_put, put_in, DROPPED, is_labelled, labelled_in, IsDropKept, Follows, Settled, Labelled, OnTable}
-use Rattle.sock_rule.proofs.Beside.{SameShare, drop_stays, beside_placed}
+use Rattle.sock_rule.proofs.Beside.{SameShare, Calm, drop_stays, beside_placed}
+use Rattle.sock_rule.proofs.Faults.{calm}
 use Rattle.sock_rule.proofs.Closes.{two_terms}
 use Rattle.sock_rule.proofs.Counting.{log_weight, on_weight, on_both}
 use Rattle.sock_rule.proofs.Finds.{wrote_more}
@@ -93,7 +94,7 @@ noting_drop x word = record { place = x; word = word }
 
 -- ## A place index whose word isn't 0
 
-module _ {S : Type 0} {shows : S → Home} {p : Plan} {s : State S View} (t : OnTable shows p s) (id : ℕ) (v : View) (here : get_elem? s.views id ≡ some v) (r : Right) (one : v.rights ≡ r ∷ []) (now : ℕ) (stage : r.stage ≡ Writes now) (taken : r.taken ≡ true) (low : r.heading.place < 8 * p.operations) where
+module _ {S : Type 0} {shows : S → Home} {rose : S → ℕ} {p : Plan} {s : State S View} (t : OnTable shows rose p s) (id : ℕ) (v : View) (here : get_elem? s.views id ≡ some v) (r : Right) (one : v.rights ≡ r ∷ []) (now : ℕ) (stage : r.stage ≡ Writes now) (taken : r.taken ≡ true) (low : r.heading.place < 8 * p.operations) where
   -- two accepted messages have the index of the message in hand, where its word tells a place
   placed_twice : t.placed r.heading.place ≢ 0 → 2 ≤ total (labelled_in r.heading.place) s.views
   placed_twice some_ = let o = t.rule.lawful in let l : ℕ = r.heading.place in
@@ -115,10 +116,10 @@ module _ {S : Type 0} {shows : S → Home} {p : Plan} {s : State S View} (t : On
   no_drop one_ n some_ = let a = (t.drops r.heading.place low).stays one_ n some_ in let z = placed_twice (λ e. (let b = a.0 in let c = a.1 in omega arith)) in omega arith
 
   -- P1 of a message that its link took whole
-  pub places_beside : (value : ℕ) (w : View) → value < DROPPED → 0 < v.share → SameShare p v w → w.lists ≡ v.lists → Settled p t.stored (put t.placed r.heading.place value) (set s.words (place_word p r.heading.place) value) s.homes
+  pub places_beside : (value : ℕ) (w : View) → value < DROPPED → 0 < v.share → SameShare p v w → Calm v w → w.lists ≡ v.lists → Settled p t.stored (put t.placed r.heading.place value) (set s.words (place_word p r.heading.place) value) s.homes
       → Rule shows p record { words = set s.words (place_word p r.heading.place) value; homes = s.homes; views = set s.views id w }
-      → OnTable shows p record { words = set s.words (place_word p r.heading.place) value; homes = s.homes; views = set s.views id w }
-  places_beside value w small some_ same lists kept rule = beside_placed t id v w here some_ (set s.words (place_word p r.heading.place) value) s.homes (put t.placed r.heading.place value) drops refl same kept rule
+      → OnTable shows rose p record { words = set s.words (place_word p r.heading.place) value; homes = s.homes; views = set s.views id w }
+  places_beside value w small some_ same c lists kept rule = beside_placed t id v w here some_ (set s.words (place_word p r.heading.place) value) s.homes (put t.placed r.heading.place value) drops (λ k kl. calm id v w here (set s.words (place_word p r.heading.place) value) s.homes k (t.faults k kl) refl (c.faults k) (c.outs k)) refl same kept rule
     where
       puts : (l n : ℕ) → total (put_in (place_word p l) n) s.views ≡ total (put_in (place_word p l) n) (set s.views id w)
       puts l n = omega (arith, total-set (put_in (place_word p l) n) s.views id v w here, same.stores (place_word p l) n)
@@ -133,11 +134,11 @@ module _ {S : Type 0} {shows : S → Home} {p : Plan} {s : State S View} (t : On
           (λ ne. subst (IsDropKept p (set s.views id w) l) (sym (put-else t.placed r.heading.place l value ne)) (drop_stays p s.views (set s.views id w) l (t.placed l) (puts l) (omega (arith, labels l)) (t.drops l ll)))
 
   -- P1 of one that is dropped, which the seat notes
-  pub drops_beside : (value : ℕ) (u : View) → DROPPED ≤ value → 0 < v.share → u.plan ≡ p → SameShare p v u → u.lists ≡ v.lists → place_word p r.heading.place < length s.words
+  pub drops_beside : (value : ℕ) (u : View) → DROPPED ≤ value → 0 < v.share → u.plan ≡ p → SameShare p v u → Calm v u → u.lists ≡ v.lists → place_word p r.heading.place < length s.words
       → ((noted : List StoredWord) → ((y : ℕ) → y < 6 * p.slots + p.names + p.operations → latest y noted ≡ latest y t.stored) → Settled p noted (put t.placed r.heading.place value) (set s.words (place_word p r.heading.place) value) s.homes)
       → Rule shows p record { words = set s.words (place_word p r.heading.place) value; homes = s.homes; views = set s.views id u }
-      → OnTable shows p record { words = set s.words (place_word p r.heading.place) value; homes = s.homes; views = set s.views id (wrote (place_word p r.heading.place) value u) }
-  drops_beside value u high some_ mine same lists long kept rule = let w : View = wrote (place_word p r.heading.place) value u in record {
+      → OnTable shows rose p record { words = set s.words (place_word p r.heading.place) value; homes = s.homes; views = set s.views id (wrote (place_word p r.heading.place) value u) }
+  drops_beside value u high some_ mine same c lists long kept rule = let w : View = wrote (place_word p r.heading.place) value u in record {
     rule = subst (λ vs. Rule shows p record { words = set s.words (place_word p r.heading.place) value; homes = s.homes; views = vs }) (set_twice s.views id u w)
         (noted_rule shows p record { words = set s.words (place_word p r.heading.place) value; homes = s.homes; views = set s.views id u } id u (set_at s.views id u (at_length s.views id v here)) (place_word p r.heading.place) value (omega arith) rule mine);
     housed = t.housed;
@@ -148,6 +149,7 @@ module _ {S : Type 0} {shows : S → Home} {p : Plan} {s : State S View} (t : On
     put = λ y z. omega (arith, t.put y z, puts y z);
     placed = put t.placed r.heading.place value;
     drops = drops;
+    faults = λ k kl. calm id v w here (set s.words (place_word p r.heading.place) value) s.homes k (t.faults k kl) refl (c.faults k) (c.outs k);
     settled = kept (noting_drop (place_word p r.heading.place) value ∷ t.stored) (λ y low_. ap (λ b. cond b value (latest y t.stored)) (ne_eqb (place_word p r.heading.place) y (λ e. omega arith)));
     met = λ j z g n h e. further h (⊎_elim (λ y. t.met id v here n h (subst (λ (l : List (List StoredWord)). get_elem? l n ≡ some h) (ap (λ (q : List StoredWord × List (List StoredWord)). q.1) same.finds) (subst (λ (q : View). get_elem? q.histories n ≡ some h) (sym y.1) e)))
         (λ y. t.met j z y.1 n h e) (at_set s.views id j w z g));

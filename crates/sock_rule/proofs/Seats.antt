@@ -14,7 +14,7 @@ use Rattle.sock_model.specs.declared.view.View.{View}
 use Rattle.sock_model.specs.declared.view.StoredWord.{StoredWord}
 use Rattle.sock_model.specs.Weights.{total}
 use Rattle.sock_model.specs.Layout.{place_word}
-use Rattle.sock_model.specs.Reads.{as_link, shown, link_at}
+use Rattle.sock_model.specs.Reads.{carries, as_link, shown, link_at}
 use Rattle.sock_model.specs.Seats.{newcomer, carrier, earliest, later, joined, spent, first_view}
 use Rattle.sock_model.specs.Rule.{lists_of, Rule}
 use Rattle.chain_laws.proofs.Lists.{at_length}
@@ -26,7 +26,9 @@ use Rattle.sock_steps.proofs.RuleSeats.{opening_rule, splitting_rule, joining_ru
 use Rattle.sock_steps.proofs.Carriers.{carrying_rule}
 use Rattle.sock_rule.specs.OnTable.{share_of, is_put, put_in, is_labelled, labelled_in, IsIdle, Labelled, OnTable, opener}
 use Rattle.sock_rule.specs.Seated.{giving, given, MayGive, passing, passed, IsDone, IsNew}
-use Rattle.sock_rule.proofs.Beside.{drop_stays}
+use Rattle.sock_rule.specs.Faults.{faults_link, faults_of, away, out_of}
+use Rattle.sock_rule.proofs.Beside.{Calm, drop_stays}
+use Rattle.sock_rule.proofs.Faults.{new_faults, split_faults, join_faults}
 use Rattle.sock_rule.proofs.Finds.{aside_rule}
 
 -- of a weight that is at most another, and less by d at one place, the sum is less by d
@@ -45,8 +47,8 @@ at_append (x ∷ xs) ys zero a e = inl e
 at_append (x ∷ xs) ys (suc i) a e = at_append xs ys i a e
 
 -- a new table
-pub opens : {S : Type 0} (shows : S → Home) (p : Plan) (ws : List ℕ) (xs : List S) → IsNew shows p ws xs → OnTable shows p (opening ws xs (opener p))
-opens {S} shows p ws xs new = let hs : List (Option S) = map some xs in let v : View = first_view p in
+pub opens : {S : Type 0} (shows : S → Home) (rose : S → ℕ) (p : Plan) (ws : List ℕ) (xs : List S) → IsNew shows p ws xs → OnTable shows rose p (opening ws xs (opener p))
+opens {S} shows rose p ws xs new = let hs : List (Option S) = map some xs in let v : View = first_view p in
     let at : (k : ℕ) → k < p.links → link_at shows p (map some xs) k ≡ some (Link k [] 0 false) = λ k kl. let y = new.links k kl in
     ap (λ h. as_link (shown shows h)) (at_map some xs (p.requests + k) y.0 y.1) ∙ ap (λ (h : Home). as_link (some h)) y.2 in
     let r : Rule shows p record { words = ws; homes = map some xs; views = first_view p ∷ [] } = opening_rule shows p ws (map some xs) new.some_seats new.few_seats (opening_law shows p ws (map some xs) new.unused new.fits new.first_low new.requests new.places at) in
@@ -61,6 +63,7 @@ opens {S} shows p ws xs new = let hs : List (Option S) = map some xs in let v : 
       met = λ id u e n h g. absurd (some-ne-none h (sym (subst (λ (z : View). get_elem? z.histories n ≡ some h) (sym (one_view (opener p) u id e)) g)));
       placed = λ l. 0;
       drops = λ l ll. record { told = λ high. absurd (omega arith); stays = λ one n some_. absurd (omega arith) };
+      faults = λ k kl. (let y = new.links k kl in new_faults p ws (map some xs) (opener p) k y.0 (at_map some xs (p.requests + k) y.0 y.1) refl refl refl);
       settled = record { names = new_names; places = new.places; codes = λ i il. omega (arith, new.unused.codes i il); present = λ r rl even. some_there xs r (omega (arith, new.homes)) };
       labelled = λ id u e. subst (Labelled p) (one_view (opener p) u id e) record { entries = λ n l f i x g. no_entries n l f i x g; claimed = λ i c f. absurd (some-ne-none c (sym f)) };
       found_was = λ id u e n x g. absurd (some-ne-none x (sym (subst (λ (z : View). get_elem? z.finds n ≡ some x) (sym (one_view (opener p) u id e)) g)));
@@ -80,12 +83,12 @@ opens {S} shows p ws xs new = let hs : List (Option S) = map some xs in let v : 
     one_view v u zero e = some-injective v u e
     one_view v u (suc i) e = absurd (some-ne-none u (sym e))
 
-module _ {S : Type 0} (shows : S → Home) (p : Plan) (id : ℕ) (v : View) (mine : v.plan ≡ p) where
+module _ {S : Type 0} (shows : S → Home) (rose : S → ℕ) (p : Plan) (id : ℕ) (v : View) (mine : v.plan ≡ p) where
   -- what holds beside the rule once a seat is added that found nothing
-  adds_seat : (s : State S View) (t : OnTable shows p s) → get_elem? s.views id ≡ some v → (left right : View) → 0 < left.share → ◌≡◌ {A = List StoredWord × List (List StoredWord)} (left.finds, left.histories) (v.finds, v.histories) → left.stores ≡ v.stores → ((l : ℕ) → labelled_in l v ≤ labelled_in l left) → lists_of left ≤ left.share → left.share + right.share ≡ v.share
+  adds_seat : (s : State S View) (t : OnTable shows rose p s) → get_elem? s.views id ≡ some v → (left right : View) → 0 < left.share → ◌≡◌ {A = List StoredWord × List (List StoredWord)} (left.finds, left.histories) (v.finds, v.histories) → left.stores ≡ v.stores → Calm v left → ((k : ℕ) → (faults_of k right ≡ 0) × (out_of k right ≡ 0)) → ((l : ℕ) → labelled_in l v ≤ labelled_in l left) → lists_of left ≤ left.share → left.share + right.share ≡ v.share
       → lists_of right ≤ right.share → (right.share ≡ 0 → IsIdle right) → ◌≡◌ {A = List StoredWord × (List (List StoredWord) × List (List StoredWord))} (right.finds, (right.histories, right.stores)) ([], ([], [] ∷ [])) → (Labelled p v → Labelled p left) → Labelled p right → Rule shows p record { words = s.words; homes = s.homes; views = set s.views id left ++ right ∷ [] }
-      → OnTable shows p record { words = s.words; homes = s.homes; views = set s.views id left ++ right ∷ [] }
-  adds_seat s t here left right some_left finds stores accepts fits sum fits_too idle_too none_found labels labels_too r = let first : List View = set s.views id left in
+      → OnTable shows rose p record { words = s.words; homes = s.homes; views = set s.views id left ++ right ∷ [] }
+  adds_seat s t here left right some_left finds stores calm none_noted accepts fits sum fits_too idle_too none_found labels labels_too r = let first : List View = set s.views id left in
       let finds_stay : left.finds ≡ v.finds = ap (λ (q : List StoredWord × List (List StoredWord)). q.0) finds in let met_stay : left.histories ≡ v.histories = ap (λ (q : List StoredWord × List (List StoredWord)). q.1) finds in
       let no_finds : right.finds ≡ [] = ap (λ (q : List StoredWord × (List (List StoredWord) × List (List StoredWord))). q.0) none_found in let no_met : right.histories ≡ [] = ap (λ (q : List StoredWord × (List (List StoredWord) × List (List StoredWord))). q.1.0) none_found in
       let no_stores : right.stores ≡ [] ∷ [] = ap (λ (q : List StoredWord × (List (List StoredWord) × List (List StoredWord))). q.1.1) none_found in
@@ -101,6 +104,7 @@ module _ {S : Type 0} (shows : S → Home) (p : Plan) (id : ℕ) (v : View) (min
         put = λ x w. t.put x w ∙ more x w;
         placed = t.placed;
         drops = λ l ll. drop_stays p s.views (set s.views id left ++ right ∷ []) l (t.placed l) (λ n. more (place_word p l) n) (omega (arith, total-append (labelled_in l) first (right ∷ []), total-set (labelled_in l) s.views id v left here, accepts l)) (t.drops l ll);
+        faults = λ k kl. split_faults id v left right here k (t.faults k kl) (calm.faults k) (calm.outs k) (none_noted k).0 (none_noted k).1;
         settled = t.settled;
         met = λ j u g n h e. ⊎_elim
             (λ a. ⊎_elim (λ y. t.met id v here n h (subst (λ (l : List (List StoredWord)). get_elem? l n ≡ some h) met_stay (subst (λ (z : View). get_elem? z.histories n ≡ some h) (sym y.1) e))) (λ y. t.met j u y.1 n h e) (at_set s.views id j left u a))
@@ -112,7 +116,7 @@ module _ {S : Type 0} (shows : S → Home) (p : Plan) (id : ℕ) (v : View) (min
       }
 
   -- a seat is split off
-  pub gives : MayGive v → Splits (OnTable shows p) id v (giving v) (given v)
+  pub gives : MayGive v → Splits (OnTable shows rose p) id v (giving v) (given v)
   gives may s t here = let v' : View = record v { share = v.share - 1 } in let s' : State S View = record { words = s.words; homes = s.homes; views = set s.views id (record v { share = v.share - 1 }) } in
       let less = less_by lists_of share_of 1 s.views id v t.listed here (omega (arith, may.more)) in
       let r' : Rule shows p record { words = s.words; homes = s.homes; views = set s.views id (record v { share = v.share - 1 }) } = aside_rule id v here t.rule mine (v.share - 1) v.finds v.histories in
@@ -121,21 +125,21 @@ module _ {S : Type 0} (shows : S → Home) (p : Plan) (id : ℕ) (v : View) (min
       let r : Rule shows p record { words = s.words; homes = s.homes; views = set s.views id (giving v) ++ given v ∷ [] } =
       subst (λ (z : View). Rule shows p record { words = s.words; homes = s.homes; views = set s.views id (giving v) ++ z ∷ [] }) is
       (subst (λ vs. Rule shows p record { words = s.words; homes = s.homes; views = vs ++ newcomer p [] 0 ∷ [] }) (set_twice s.views id v' (giving v)) two) in
-      adds_seat s t here (giving v) (given v) (omega (arith, may.another)) refl refl (λ l. omega arith) (omega (arith, may.more)) (omega (arith, may.another)) (omega arith) (λ e. absurd (omega arith)) refl (λ x. record { entries = x.entries; claimed = x.claimed }) record { entries = λ n l e i x f. no_entries n l e i x f; claimed = λ i c e. absurd (some-ne-none c (sym e)) } r
+      adds_seat s t here (giving v) (given v) (omega (arith, may.another)) refl refl record { faults = λ k. refl; outs = λ k. refl } (λ k. (refl, refl)) (λ l. omega arith) (omega (arith, may.more)) (omega (arith, may.another)) (omega arith) (λ e. absurd (omega arith)) refl (λ x. record { entries = x.entries; claimed = x.claimed }) record { entries = λ n l e i x f. no_entries n l e i x f; claimed = λ i c e. absurd (some-ne-none c (sym e)) } r
     where
       no_entries : (n : ℕ) (l : List Entry) → get_elem? ([] ∷ []) n ≡ some l → (i : ℕ) (e : Entry) → get_elem? l i ≡ some e → e.heading.place < 8 * p.operations
       no_entries zero l e i x f = absurd (some-ne-none x (sym (ap (λ (y : List Entry). get_elem? y i) (some-injective [] l e) ∙ f)))
       no_entries (suc n) l e i x f = absurd (some-ne-none l (sym e))
 
   -- a pass becomes a seat of its own
-  pub passes_out : 0 < v.spare → 0 < v.share → Splits (OnTable shows p) id v (passing v) (passed v)
+  pub passes_out : 0 < v.spare → 0 < v.share → Splits (OnTable shows rose p) id v (passing v) (passed v)
   passes_out room some_ s t here = let two = carrying_rule t.rule id v here mine (later v.passes) (earliest v.passes) (v.spare - 1) (λ k. omega (arith, passes-left k v.passes)) (omega (arith, room)) in
       let r : Rule shows p record { words = s.words; homes = s.homes; views = set s.views id (passing v) ++ passed v ∷ [] } =
       subst (λ (q : Plan). Rule shows p record { words = s.words; homes = s.homes; views = set s.views id (passing v) ++ carrier q (earliest v.passes) ∷ [] }) (sym mine) two in
-      adds_seat s t here (passing v) (passed v) some_ refl refl (λ l. omega arith) (t.listed id v here) (omega arith) (omega arith) (λ e. record { marks = refl; lists = refl; finds = refl; stores = λ x w. refl; claims = refl; loose = refl; rights = refl; hands = refl }) refl (λ x. record { entries = x.entries; claimed = x.claimed }) record { entries = λ n l e. absurd (some-ne-none l (sym e)); claimed = λ i c e. absurd (some-ne-none c (sym e)) } r
+      adds_seat s t here (passing v) (passed v) some_ refl refl record { faults = λ k. refl; outs = λ k. refl } (λ k. (refl, refl)) (λ l. omega arith) (t.listed id v here) (omega arith) (omega arith) (λ e. record { marks = refl; lists = refl; finds = refl; stores = λ x w. refl; claims = refl; loose = refl; rights = refl; hands = refl }) refl (λ x. record { entries = x.entries; claimed = x.claimed }) record { entries = λ n l e. absurd (some-ne-none l (sym e)); claimed = λ i c e. absurd (some-ne-none c (sym e)) } r
 
   -- a seat takes in another
-  pub takes : 0 < v.share → (other : ℕ) (w : View) → IsDone p w → Joins (OnTable shows p) id v other w (joined v w) spent
+  pub takes : 0 < v.share → (other : ℕ) (w : View) → IsDone p w → Joins (OnTable shows rose p) id v other w (joined v w) spent
   takes some_ other w done s t here ne there = let both : View = joined v w in let first : List View = set s.views id (joined v w) in
       let its : get_elem? s.views other ≡ some w = ⊎_elim (λ y. absurd (ne y.0)) (λ y. y.1) (at_set s.views id other both w there) in
       let more : (x y : ℕ) → total (put_in x y) s.views ≡ total (put_in x y) (set (set s.views id (joined v w)) other spent) = λ x y.
@@ -152,6 +156,7 @@ module _ {S : Type 0} (shows : S → Home) (p : Plan) (id : ℕ) (v : View) (min
         put = λ x y. t.put x y ∙ more x y;
         placed = t.placed;
         drops = λ l ll. drop_stays p s.views (set first other spent) l (t.placed l) (λ n. more (place_word p l) n) (omega (arith, total-set (labelled_in l) s.views id v both here, total-set (labelled_in l) first other w spent there, total-append (total (is_labelled l)) v.lists w.lists)) (t.drops l ll);
+        faults = λ k kl. join_faults id other v w (joined v w) spent here there k (t.faults k kl) (total-append (faults_link k) v.marks w.marks) refl (omega (arith, ap (total (away k)) done.bare.rights, ap (total (carries k)) done.bare.hands)) refl refl;
         settled = t.settled;
         met = λ j u g n h e. ⊎_elim (λ y. absurd (some-ne-none h (sym (subst (λ (z : View). get_elem? z.histories n ≡ some h) (sym y.1) e))))
             (λ y. ⊎_elim (λ q. ⊎_elim (λ a. t.met id v here n h a) (λ a. t.met other w its a.0 h a.1) (at_append v.histories w.histories n h (subst (λ (z : View). get_elem? z.histories n ≡ some h) (sym q.1) e)))

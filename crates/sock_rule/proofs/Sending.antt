@@ -24,22 +24,22 @@ use Rattle.sock_rule.specs.ChainPlays.{blank, request_told, ready_told, connect_
 use Rattle.sock_rule.proofs.Chaining.{asks, readies, connects}
 use Rattle.sock_rule.proofs.Seating.{still_seat}
 
-module _ {S : Type 0} (shows : S → Home) (q p : Plan) (slots id : ℕ) (me : Me S View) (mine : me.0.plan ≡ p) (some_ : 0 < me.0.share) (key : q ≡ p) (at word : ℕ) (low : at < p.requests) where
-  pub asks_on : word ≡ request_word p at → me.0.claims ≡ [] → Allows (OnTable shows q) slots id me word (λ n. bit_or n 1) (request_told (step slots word 1 0 none) me)
-  asks_on e idle = subst (λ (x : ℕ). Allows (OnTable shows q) slots id me x (λ n. bit_or n 1) (request_told (step slots x 1 0 none) me)) (sym e)
-      (subst (λ (z : Plan). Allows (OnTable shows z) slots id me (request_word p at) (λ n. bit_or n 1) (request_told (step slots (request_word p at) 1 0 none) me)) (sym key) (asks shows p slots id me mine some_ at low idle))
+module _ {S : Type 0} (shows : S → Home) (rose : S → ℕ) (q p : Plan) (slots id : ℕ) (me : Me S View) (mine : me.0.plan ≡ p) (some_ : 0 < me.0.share) (key : q ≡ p) (at word : ℕ) (low : at < p.requests) where
+  pub asks_on : word ≡ request_word p at → me.0.claims ≡ [] → Allows (OnTable shows rose q) slots id me word (λ n. bit_or n 1) (request_told (step slots word 1 0 none) me)
+  asks_on e idle = subst (λ (x : ℕ). Allows (OnTable shows rose q) slots id me x (λ n. bit_or n 1) (request_told (step slots x 1 0 none) me)) (sym e)
+      (subst (λ (z : Plan). Allows (OnTable shows rose z) slots id me (request_word p at) (λ n. bit_or n 1) (request_told (step slots (request_word p at) 1 0 none) me)) (sym key) (asks shows rose p slots id me mine some_ at low idle))
 
   pub asked : word ≡ request_word p at → (found : ℕ) (n : Me S View) → request_told (step slots word 1 0 none) me found n → Asked p at found me n
   asked e found n told = let t = told at (e ∙ ap (λ (z : Plan). request_word z at) (sym mine)) in (t.0, λ odd. t.1 odd ∙ ap (λ (z : Plan). (noting (request_word z at) me.0, me.1)) mine)
 
-  pub readies_on : word ≡ next_word p at → (c : Claim) → me.0.claims ≡ c ∷ [] → c.request ≡ at → Allows (OnTable shows q) slots id me word (λ _. UNCONNECTED) (λ _. ready_told (step slots word UNCONNECTED 0 none) me UNCONNECTED)
-  readies_on e c claim is = subst (λ (x : ℕ). Allows (OnTable shows q) slots id me x (λ _. UNCONNECTED) (λ _. ready_told (step slots x UNCONNECTED 0 none) me UNCONNECTED)) (ap (next_word p) is ∙ sym e)
-      (subst (λ (z : Plan). Allows (OnTable shows z) slots id me (next_word p c.request) (λ _. UNCONNECTED) (λ _. ready_told (step slots (next_word p c.request) UNCONNECTED 0 none) me UNCONNECTED)) (sym key) (readies shows p slots id me mine some_ c claim (omega arith)))
+  pub readies_on : word ≡ next_word p at → (c : Claim) → me.0.claims ≡ c ∷ [] → c.request ≡ at → Allows (OnTable shows rose q) slots id me word (λ _. UNCONNECTED) (λ _. ready_told (step slots word UNCONNECTED 0 none) me UNCONNECTED)
+  readies_on e c claim is = subst (λ (x : ℕ). Allows (OnTable shows rose q) slots id me x (λ _. UNCONNECTED) (λ _. ready_told (step slots x UNCONNECTED 0 none) me UNCONNECTED)) (ap (next_word p) is ∙ sym e)
+      (subst (λ (z : Plan). Allows (OnTable shows rose z) slots id me (next_word p c.request) (λ _. UNCONNECTED) (λ _. ready_told (step slots (next_word p c.request) UNCONNECTED 0 none) me UNCONNECTED)) (sym key) (readies shows rose p slots id me mine some_ c claim (omega arith)))
 
-  pub connects_on : word ≡ next_word p at → (before n : ℕ) (l : Loose) → get_elem? me.0.loose n ≡ some l → l.request ≡ at → l.before ≡ before → Allows (OnTable shows q) slots id me word (λ _. before) (λ _. connect_told (step slots word before 0 none) me before)
-  connects_on e before n l has is is_before = subst (λ (y : ℕ). Allows (OnTable shows q) slots id me word (λ _. y) (λ _. connect_told (step slots word y 0 none) me y)) is_before
-      (subst (λ (x : ℕ). Allows (OnTable shows q) slots id me x (λ _. l.before) (λ _. connect_told (step slots x l.before 0 none) me l.before)) (ap (next_word p) is ∙ sym e)
-      (subst (λ (z : Plan). Allows (OnTable shows z) slots id me (next_word p l.request) (λ _. l.before) (λ _. connect_told (step slots (next_word p l.request) l.before 0 none) me l.before)) (sym key) (connects shows p slots id me mine some_ n l (omega arith) has)))
+  pub connects_on : word ≡ next_word p at → (before n : ℕ) (l : Loose) → get_elem? me.0.loose n ≡ some l → l.request ≡ at → l.before ≡ before → Allows (OnTable shows rose q) slots id me word (λ _. before) (λ _. connect_told (step slots word before 0 none) me before)
+  connects_on e before n l has is is_before = subst (λ (y : ℕ). Allows (OnTable shows rose q) slots id me word (λ _. y) (λ _. connect_told (step slots word y 0 none) me y)) is_before
+      (subst (λ (x : ℕ). Allows (OnTable shows rose q) slots id me x (λ _. l.before) (λ _. connect_told (step slots x l.before 0 none) me l.before)) (ap (next_word p) is ∙ sym e)
+      (subst (λ (z : Plan). Allows (OnTable shows rose z) slots id me (next_word p l.request) (λ _. l.before) (λ _. connect_told (step slots (next_word p l.request) l.before 0 none) me l.before)) (sym key) (connects shows rose p slots id me mine some_ n l (omega arith) has)))
 
 pub asked_seat : {S : Type 0} (z : TableId) (p : Plan) (s t : Seat S View) (at found : ℕ) → IsSeat z p s → t.table_id ≡ s.table_id → Asked p at found s.me t.me → IsSeat z p t
 asked_seat {S} z p s t at found is same a = dite (ℕ_discrete (found % 2) 0)

@@ -30,11 +30,12 @@ use Rattle.sock_rule.specs.OnTable.{put_in, OnTable}
 use Rattle.sock_rule.specs.Rows.{NOTHING, finding, put_at}
 use Rattle.sock_rule.specs.Plays.{link_told, meet_told, meet_last_told, reset_told, wipe_told, code_told, read_told, store_told, find_told, find_name_told}
 use Rattle.sock_rule.proofs.Beside.{SameShare, beside}
+use Rattle.sock_rule.proofs.Faults.{linked_same, staged_same, coded_same}
 use Rattle.sock_rule.proofs.Settling.{slot_settled, name_settled, code_settled, load_settled}
 use Rattle.sock_rule.proofs.Finds.{was_put, finds_beside, puts_beside, found_history, stored_history}
 
 -- the link of a life that a seat holds, and of one that it ended, is one of the table
-module _ {S : Type 0} {shows : S → Home} {p : Plan} (s : State S View) (t : OnTable shows p s) (id : ℕ) (u : View) (here : get_elem? s.views id ≡ some u) (i : ℕ) (inside : i < p.slots) where
+module _ {S : Type 0} {shows : S → Home} {rose : S → ℕ} {p : Plan} (s : State S View) (t : OnTable shows rose p s) (id : ℕ) (u : View) (here : get_elem? s.views id ≡ some u) (i : ℕ) (inside : i < p.slots) where
   pub held_linked : (h : ℕ) → 0 < marks_of (is_hold h) i u → get_or s.words (link_word i) 0 < p.links
   held_linked h held = let law = t.rule.lawful.references.slots i inside in
       let its = link_held p.first (slot_facts s i) law id (about i u.marks) (at_map (λ (y : View). about i y.marks) s.views id u here) h held in
@@ -44,37 +45,37 @@ module _ {S : Type 0} {shows : S → Home} {p : Plan} (s : State S View) (t : On
   last_linked w there = let law = t.rule.lawful.references.slots i inside in let a = own_count s id u here is_recycling i in let b = total_mono (is_recycled w) is_recycling (recycled_le w) (about i u.marks) in
       t.rule.lawful.in_slots.small i ((slot_facts s i).version - 2) (get_or s.words (link_word i) 0) record { inside = inside; given = law.link_last (omega arith) }
 
-module _ {S : Type 0} (shows : S → Home) (p : Plan) (slots id : ℕ) (me : Me S View) (mine : me.0.plan ≡ p) (some_ : 0 < me.0.share) where
+module _ {S : Type 0} (shows : S → Home) (rose : S → ℕ) (p : Plan) (slots id : ℕ) (me : Me S View) (mine : me.0.plan ≡ p) (some_ : 0 < me.0.share) where
   abbrev v : View
   v = me.0
 
   module _ (i : ℕ) (inside : i < p.slots) where
     -- S1
-    pub links : (k : ℕ) → 0 < marks_of (is_stage 0 0) i v → 0 < total (only k) v.passes → Allows (OnTable shows p) slots id me (link_word i) (λ _. k) (λ _. link_told (step slots (link_word i) k 0 none) me k)
+    pub links : (k : ℕ) → 0 < marks_of (is_stage 0 0) i v → 0 < total (only k) v.passes → Allows (OnTable shows rose p) slots id me (link_word i) (λ _. k) (λ _. link_told (step slots (link_word i) k 0 none) me k)
     links k there pass s t long here fits = (
       linked i k v,
       keeps,
       tt,
-      beside t id v (linked i k v) here some_ (set s.words (link_word i) k) s.homes refl record { share = refl; lists = refl; finds = refl; stores = λ x y. omega arith; accepts = λ l. omega arith; labels = λ x. x } (slot_settled t.settled _ _ (omega arith) (λ j e. omega arith)) (link_rule t.rule id v here mine i inside k there pass),
+      beside t id v (linked i k v) here some_ (set s.words (link_word i) k) s.homes (refl, λ l ll. refl) record { share = refl; lists = refl; finds = refl; stores = λ x y. omega arith; accepts = λ l. omega arith; labels = λ x. x } record { faults = λ l. linked_same l i v k; outs = λ l. omega arith } (slot_settled t.settled _ _ (omega arith) (λ j e. omega arith)) (link_rule t.rule id v here mine i inside k there pass),
       λ x at. let e : i ≡ x = omega arith in ap (λ (y : ℕ). (linked y k v, me.1)) e,
     )
 
     -- the life that a seat holds is one, and so is the version to which it recycled the slot
-    pub held_is : (s : State S View) → OnTable shows p s → get_elem? s.views id ≡ some me.0 → (h g : ℕ) → 0 < marks_of (is_hold h) i me.0 → 0 < marks_of (is_hold g) i me.0 → h ≡ g
+    pub held_is : (s : State S View) → OnTable shows rose p s → get_elem? s.views id ≡ some me.0 → (h g : ℕ) → 0 < marks_of (is_hold h) i me.0 → 0 < marks_of (is_hold g) i me.0 → h ≡ g
     held_is s t here h g a b = let law = t.rule.lawful.references.slots i inside in let x = law.held h (omega (arith, own_count s id me.0 here (is_hold h) i)) in let y = law.held g (omega (arith, own_count s id me.0 here (is_hold g) i)) in let x₀ = x.0 in let y₀ = y.0 in omega arith
 
-    last_is : (s : State S View) → OnTable shows p s → get_elem? s.views id ≡ some me.0 → (h g : ℕ) → 0 < marks_of (is_recycled h) i me.0 → 0 < marks_of (is_recycled g) i me.0 → h ≡ g
+    last_is : (s : State S View) → OnTable shows rose p s → get_elem? s.views id ≡ some me.0 → (h g : ℕ) → 0 < marks_of (is_recycled h) i me.0 → 0 < marks_of (is_recycled g) i me.0 → h ≡ g
     last_is s t here h g a b = let law = t.rule.lawful.references.slots i inside in law.recycled h (omega (arith, own_count s id me.0 here (is_recycled h) i)) ∙ sym (law.recycled g (omega (arith, own_count s id me.0 here (is_recycled g) i)))
 
-    staged_is : (s : State S View) → OnTable shows p s → get_elem? s.views id ≡ some me.0 → (n h g : ℕ) → 1 ≤ n → 0 < marks_of (is_stage n h) i me.0 → 0 < marks_of (is_stage n g) i me.0 → h ≡ g
+    staged_is : (s : State S View) → OnTable shows rose p s → get_elem? s.views id ≡ some me.0 → (n h g : ℕ) → 1 ≤ n → 0 < marks_of (is_stage n h) i me.0 → 0 < marks_of (is_stage n g) i me.0 → h ≡ g
     staged_is s t here n h g late a b = let law = t.rule.lawful.references.slots i inside in
         sym ((law.staged n h (omega (arith, own_count s id me.0 here (is_stage n h) i))).0 late) ∙ (law.staged n g (omega (arith, own_count s id me.0 here (is_stage n g) i))).0 late
 
-    coding_is : (s : State S View) → OnTable shows p s → get_elem? s.views id ≡ some me.0 → (h g : ℕ) → 0 < marks_of (is_coding h) i me.0 → 0 < marks_of (is_coding g) i me.0 → h ≡ g
+    coding_is : (s : State S View) → OnTable shows rose p s → get_elem? s.views id ≡ some me.0 → (h g : ℕ) → 0 < marks_of (is_coding h) i me.0 → 0 < marks_of (is_coding g) i me.0 → h ≡ g
     coding_is s t here h g a b = let law = t.rule.lawful.references.slots i inside in let c = (law.codes id (about i me.0.marks) (at_map (λ (y : View). about i y.marks) s.views id me.0 here)).1 in let x = c h a in let y = c g b in held_is s t here h g x.0 y.0
 
     -- the link that it met for the life that it holds stands in the slot
-    pub met_is : (s : State S View) → OnTable shows p s → get_elem? s.views id ≡ some me.0 → (h l : ℕ) → 0 < marks_of (is_hold h) i me.0 → 0 < marks_of (is_met h l) i me.0 → get_or s.words (link_word i) 0 ≡ l
+    pub met_is : (s : State S View) → OnTable shows rose p s → get_elem? s.views id ≡ some me.0 → (h l : ℕ) → 0 < marks_of (is_hold h) i me.0 → 0 < marks_of (is_met h l) i me.0 → get_or s.words (link_word i) 0 ≡ l
     met_is s t here h l held met = let law = t.rule.lawful.references.slots i inside in
         let lk = law.met h l (omega (arith, own_count s id me.0 here (is_met h l) i)) in let hh = law.held h (omega (arith, own_count s id me.0 here (is_hold h) i)) in let hh₀ = hh.0 in
         law.link_is h l lk (omega (arith, live_le (slot_facts s i).tag (slot_facts s i).version (tally is_busy (slot_facts s i).marks)))
@@ -83,13 +84,13 @@ module _ {S : Type 0} (shows : S → Home) (p : Plan) (slots id : ℕ) (me : Me 
     at_slot f x e there = subst (λ (y : ℕ). 0 < marks_of f y me.0) (sym e) there
 
     -- S2
-    pub meets : (h : ℕ) → 0 < marks_of (is_hold h) i v → Allows (OnTable shows p) slots id me (link_word i) (λ n. n) (meet_told (step slots (link_word i) 0 0 none) me)
+    pub meets : (h : ℕ) → 0 < marks_of (is_hold h) i v → Allows (OnTable shows rose p) slots id me (link_word i) (λ n. n) (meet_told (step slots (link_word i) 0 0 none) me)
     meets h there s t long here fits = let k : ℕ = get_or s.words (link_word i) 0 in let refs = t.rule.lawful.references in let law = refs.slots i inside in
         let its = held_linked s t id v here i inside h there in (
           met_link i h k v,
           keeps,
           tt,
-          beside t id v (met_link i h k v) here some_ (set s.words (link_word i) k) s.homes refl record { share = refl; lists = refl; finds = refl; stores = λ x y. omega arith; accepts = λ l. omega arith; labels = λ x. x } (slot_settled t.settled _ _ (omega arith) (λ j e. omega arith)) (meet_rule t.rule id v here mine i inside h there),
+          beside t id v (met_link i h k v) here some_ (set s.words (link_word i) k) s.homes (refl, λ l ll. refl) record { share = refl; lists = refl; finds = refl; stores = λ x y. omega arith; accepts = λ l. omega arith; labels = λ x. x } record { faults = λ l. omega arith; outs = λ l. omega arith } (slot_settled t.settled _ _ (omega arith) (λ j e. omega arith)) (meet_rule t.rule id v here mine i inside h there),
           λ x g at other. let e : i ≡ x = omega arith in let same : h ≡ g = held_is s t here h g there (at_slot (is_hold g) x e other) in (
             (λ q. (met_link (e q) (same q) k v, me.1)),
             (λ l mt. let m1 : 0 < marks_of (is_met g l) i v = at_slot (is_met g l) x e mt in let hg : 0 < marks_of (is_hold g) i v = at_slot (is_hold g) x e other in
@@ -100,47 +101,47 @@ module _ {S : Type 0} (shows : S → Home) (p : Plan) (slots id : ℕ) (me : Me 
         )
 
     -- S2 of whoever recycled the slot
-    pub meets_last : (w : ℕ) → 0 < marks_of (is_recycled w) i v → Allows (OnTable shows p) slots id me (link_word i) (λ n. n) (meet_last_told (step slots (link_word i) 0 0 none) me)
+    pub meets_last : (w : ℕ) → 0 < marks_of (is_recycled w) i v → Allows (OnTable shows rose p) slots id me (link_word i) (λ n. n) (meet_last_told (step slots (link_word i) 0 0 none) me)
     meets_last w there s t long here fits = let k : ℕ = get_or s.words (link_word i) 0 in let its = last_linked s t id v here i inside w there in (
       met_link i (w - 2) k v,
       keeps,
       tt,
-      beside t id v (met_link i (w - 2) k v) here some_ (set s.words (link_word i) k) s.homes refl record { share = refl; lists = refl; finds = refl; stores = λ x y. omega arith; accepts = λ l. omega arith; labels = λ x. x } (slot_settled t.settled _ _ (omega arith) (λ j e. omega arith)) (meet_last_rule t.rule id v here mine i inside w there),
+      beside t id v (met_link i (w - 2) k v) here some_ (set s.words (link_word i) k) s.homes (refl, λ l ll. refl) record { share = refl; lists = refl; finds = refl; stores = λ x y. omega arith; accepts = λ l. omega arith; labels = λ x. x } record { faults = λ l. omega arith; outs = λ l. omega arith } (slot_settled t.settled _ _ (omega arith) (λ j e. omega arith)) (meet_last_rule t.rule id v here mine i inside w there),
       λ x g at other. let e : i ≡ x = omega arith in let same : w ≡ g = last_is s t here w g there (at_slot (is_recycled g) x e other) in ((λ q. (met_link (e q) (same q - 2) k v, me.1)), subst (λ (q : Plan). k < q.links) (sym mine) its),
     )
 
     -- S3
-    pub resets : (k : ℕ) → 0 < marks_of (is_stage 1 k) i v → Allows (OnTable shows p) slots id me (head_word i) (λ _. IDLE) (λ _. reset_told (step slots (head_word i) IDLE 0 none) me IDLE)
+    pub resets : (k : ℕ) → 0 < marks_of (is_stage 1 k) i v → Allows (OnTable shows rose p) slots id me (head_word i) (λ _. IDLE) (λ _. reset_told (step slots (head_word i) IDLE 0 none) me IDLE)
     resets k there s t long here fits = (
       staged i 1 k 2 v,
       keeps,
       tt,
-      beside t id v (staged i 1 k 2 v) here some_ (set s.words (head_word i) IDLE) s.homes refl record { share = refl; lists = refl; finds = refl; stores = λ x y. omega arith; accepts = λ l. omega arith; labels = λ x. x } (slot_settled t.settled _ _ (omega arith) (λ j e. omega arith)) (reset_rule t.rule id v here mine i inside k there),
+      beside t id v (staged i 1 k 2 v) here some_ (set s.words (head_word i) IDLE) s.homes (refl, λ l ll. refl) record { share = refl; lists = refl; finds = refl; stores = λ x y. omega arith; accepts = λ l. omega arith; labels = λ x. x } record { faults = λ l. staged_same l i v 1 k 2; outs = λ l. omega arith } (slot_settled t.settled _ _ (omega arith) (λ j e. omega arith)) (reset_rule t.rule id v here mine i inside k there),
       λ x g at other. let e : i ≡ x = omega arith in let same : k ≡ g = staged_is s t here 1 k g (omega arith) there (at_slot (is_stage 1 g) x e other) in λ q. (staged (e q) 1 (same q) 2 v, me.1),
     )
 
     -- S4 of 0
-    pub wipes : (k : ℕ) → 0 < marks_of (is_stage 2 k) i v → Allows (OnTable shows p) slots id me (code_word i) (λ _. 0) (λ _. wipe_told (step slots (code_word i) 0 0 none) me 0)
+    pub wipes : (k : ℕ) → 0 < marks_of (is_stage 2 k) i v → Allows (OnTable shows rose p) slots id me (code_word i) (λ _. 0) (λ _. wipe_told (step slots (code_word i) 0 0 none) me 0)
     wipes k there s t long here fits = (
       staged i 2 k 3 v,
       keeps,
       tt,
-      beside t id v (staged i 2 k 3 v) here some_ (set s.words (code_word i) 0) s.homes refl record { share = refl; lists = refl; finds = refl; stores = λ x y. omega arith; accepts = λ l. omega arith; labels = λ x. x } (code_settled t.settled i 0 inside (omega arith) (omega (arith, t.rule.lawful.references.sized))) (wipe_rule t.rule id v here mine i inside k there),
+      beside t id v (staged i 2 k 3 v) here some_ (set s.words (code_word i) 0) s.homes (refl, λ l ll. refl) record { share = refl; lists = refl; finds = refl; stores = λ x y. omega arith; accepts = λ l. omega arith; labels = λ x. x } record { faults = λ l. staged_same l i v 2 k 3; outs = λ l. omega arith } (code_settled t.settled i 0 inside (omega arith) (omega (arith, t.rule.lawful.references.sized))) (wipe_rule t.rule id v here mine i inside k there),
       λ x g at other. let e : i ≡ x = omega arith in let same : k ≡ g = staged_is s t here 2 k g (omega arith) there (at_slot (is_stage 2 g) x e other) in λ q. (staged (e q) 2 (same q) 3 v, me.1),
     )
 
     -- S4 of a code
-    pub codes : (h c : ℕ) → 0 < marks_of (is_coding h) i v → c ≢ 0 → c < 65536 → Allows (OnTable shows p) slots id me (code_word i) (λ _. c) (λ _. code_told (step slots (code_word i) c 0 none) me c)
+    pub codes : (h c : ℕ) → 0 < marks_of (is_coding h) i v → c ≢ 0 → c < 65536 → Allows (OnTable shows rose p) slots id me (code_word i) (λ _. c) (λ _. code_told (step slots (code_word i) c 0 none) me c)
     codes h c there no_zero small s t long here fits = (
       coded i h c v,
       keeps,
       tt,
-      beside t id v (coded i h c v) here some_ (set s.words (code_word i) c) s.homes refl record { share = refl; lists = refl; finds = refl; stores = λ x y. omega arith; accepts = λ l. omega arith; labels = λ x. x } (code_settled t.settled i c inside small (omega (arith, t.rule.lawful.references.sized))) (code_rule t.rule id v here mine i inside h c there no_zero),
+      beside t id v (coded i h c v) here some_ (set s.words (code_word i) c) s.homes (refl, λ l ll. refl) record { share = refl; lists = refl; finds = refl; stores = λ x y. omega arith; accepts = λ l. omega arith; labels = λ x. x } record { faults = λ l. coded_same l i v h c; outs = λ l. omega arith } (code_settled t.settled i c inside small (omega (arith, t.rule.lawful.references.sized))) (code_rule t.rule id v here mine i inside h c there no_zero),
       λ x g at other. let e : i ≡ x = omega arith in let same : h ≡ g = coding_is s t here h g there (at_slot (is_coding g) x e other) in λ q. (coded (e q) (same q) c v, me.1),
     )
 
     -- S5
-    pub reads : (h : ℕ) → 0 < marks_of (is_hold h) i v → Allows (OnTable shows p) slots id me (code_word i) (λ n. n) (read_told (step slots (code_word i) 0 0 none) me)
+    pub reads : (h : ℕ) → 0 < marks_of (is_hold h) i v → Allows (OnTable shows rose p) slots id me (code_word i) (λ n. n) (read_told (step slots (code_word i) 0 0 none) me)
     reads h there s t long here fits = let c : ℕ = get_or s.words (code_word i) 0 in
         let told : (g d : ℕ) → 0 < marks_of (is_hold g) i v → 0 < marks_of (is_told g d) i v → get_or s.words (code_word i) 0 ≡ d =
         λ g d a b. (code_stays p.first (slot_facts s i) (t.rule.lawful.references.slots i inside) id (about i v.marks) (at_map (λ (y : View). about i y.marks) s.views id v here) g d a b).0 in
@@ -151,7 +152,7 @@ module _ {S : Type 0} (shows : S → Home) (p : Plan) (slots id : ℕ) (me : Me 
           v,
           keeps,
           tt,
-          beside t id v v here some_ (set s.words (code_word i) c) s.homes refl record { share = refl; lists = refl; finds = refl; stores = λ x y. omega arith; accepts = λ l. omega arith; labels = λ x. x } (load_settled t.settled _)
+          beside t id v v here some_ (set s.words (code_word i) c) s.homes (refl, λ l ll. refl) record { share = refl; lists = refl; finds = refl; stores = λ x y. omega arith; accepts = λ l. omega arith; labels = λ x. x } record { faults = λ l. omega arith; outs = λ l. omega arith } (load_settled t.settled _)
               (load_rule t.rule id v here mine (code_word i) c refl v record { plan = refl; found = refl; lists = refl } (idle_law shows p s t.rule.lawful id v here (code_word i))),
           λ x g at other. let e : i ≡ x = omega arith in (ap (λ b. (cond b v (told_code x g c v), me.1)) (sym (eq-eqb c 0 zero_)), also x g e other, small),
         ))
@@ -159,13 +160,13 @@ module _ {S : Type 0} (shows : S → Home) (p : Plan) (slots id : ℕ) (me : Me 
           told_code i h c v,
           keeps,
           tt,
-          beside t id v (told_code i h c v) here some_ (set s.words (code_word i) c) s.homes refl record { share = refl; lists = refl; finds = refl; stores = λ x y. omega arith; accepts = λ l. omega arith; labels = λ x. x } (load_settled t.settled _) (found_code_rule t.rule id v here mine i inside h there (omega arith)),
+          beside t id v (told_code i h c v) here some_ (set s.words (code_word i) c) s.homes (refl, λ l ll. refl) record { share = refl; lists = refl; finds = refl; stores = λ x y. omega arith; accepts = λ l. omega arith; labels = λ x. x } record { faults = λ l. omega arith; outs = λ l. omega arith } (load_settled t.settled _) (found_code_rule t.rule id v here mine i inside h there (omega arith)),
           λ x g at other. let e : i ≡ x = omega arith in let same : h ≡ g = held_is s t here h g there (at_slot (is_hold g) x e other) in ((λ q. (told_code (e q) (same q) c v, me.1)) ∙ ap (λ b. (cond b v (told_code x g c v), me.1)) (sym (ne_eqb c 0 no_zero)), also x g e other, small),
         ))
 
   -- S6 into a name: the word of an id that the seat knows
   pub stores_name : (n word : ℕ) → n < p.names → word ≢ 0 → (word - 1) % 4294967296 < p.slots → 0 < marks_of (is_known ((word - 1) / 4294967296)) ((word - 1) % 4294967296) v
-      → Allows (OnTable shows p) slots id me (name_word p n) (λ _. word) (λ _. store_told (step slots (name_word p n) word 0 none) me word)
+      → Allows (OnTable shows rose p) slots id me (name_word p n) (λ _. word) (λ _. store_told (step slots (name_word p n) word 0 none) me word)
   stores_name n word low some_word inside known s t long here fits = (
     put_at (name_word p n) word (record { place = name_word p n; word = word } ∷ t.stored) v,
     keeps,
@@ -177,7 +178,7 @@ module _ {S : Type 0} (shows : S → Home) (p : Plan) (slots id : ℕ) (me : Me 
 
   -- S6 into the word of an operation
   pub stores_open : (n word i : ℕ) → n < p.operations → word ≢ 0 → i < p.slots → (word ≡ NOTHING) ⊎ (((word - 1) % 4294967296 ≡ i) × (0 < marks_of (is_known ((word - 1) / 4294967296)) i v))
-      → Allows (OnTable shows p) slots id me (open_word p n) (λ _. word) (λ _. store_told (step slots (open_word p n) word 0 none) me word)
+      → Allows (OnTable shows rose p) slots id me (open_word p n) (λ _. word) (λ _. store_told (step slots (open_word p n) word 0 none) me word)
   stores_open n word i low some_word inside how s t long here fits = (
     put_at (open_word p n) word (record { place = open_word p n; word = word } ∷ t.stored) v,
     keeps,
@@ -189,8 +190,8 @@ module _ {S : Type 0} (shows : S → Home) (p : Plan) (slots id : ℕ) (me : Me 
 
   -- S7 at a place whose word, other than 0, is the id of a life that was born or says that there is none, and was stored there
   finds_at : (x : ℕ) → Lasting p x → 6 * p.slots ≤ x → x < 6 * p.slots + p.names + p.operations
-      → ((s : State S View) → OnTable shows p s → get_or s.words x 0 ≢ NOTHING → Names p s (get_or s.words x 0)) → ((s : State S View) → OnTable shows p s → Stores s x)
-      → Allows (OnTable shows p) slots id me x (λ n. n) (find_told (step slots x 0 0 none) me)
+      → ((s : State S View) → OnTable shows rose p s → get_or s.words x 0 ≢ NOTHING → Names p s (get_or s.words x 0)) → ((s : State S View) → OnTable shows rose p s → Stores s x)
+      → Allows (OnTable shows rose p) slots id me x (λ n. n) (find_told (step slots x 0 0 none) me)
   finds_at x last high low names stores s t long here fits = let w : ℕ = get_or s.words x 0 in let i : ℕ = (w - 1) % 4294967296 in let h : ℕ = (w - 1) / 4294967296 in
       let fresh : get_or s.words x 0 ≢ NOTHING → get_or s.words x 0 ≢ 0 → (get_or s.words x 0 - 1) % 4294967296 < me.0.plan.slots = λ n z. subst (λ (q : Plan). (get_or s.words x 0 - 1) % 4294967296 < q.slots) (sym mine) (names s t n z).0 in
       let stays : (k : ℕ) → get_elem? me.0.found k ≡ some x → get_or s.words x 0 ≢ 0 = λ k e. (t.rule.found_words id v here k x e).1 in
@@ -201,7 +202,7 @@ module _ {S : Type 0} (shows : S → Home) (p : Plan) (slots id : ℕ) (me : Me 
         v,
         keeps,
         tt,
-        beside t id v v here some_ (set s.words x w) s.homes refl quiet (load_settled t.settled x) read,
+        beside t id v v here some_ (set s.words x w) s.homes (refl, λ l ll. refl) quiet record { faults = λ l. omega arith; outs = λ l. omega arith } (load_settled t.settled x) read,
         (record { all = t.stored; view = ap (λ b. (cond b v (cond (eqb w 18446744073709551615) (finding x w t.stored v) (finding x w t.stored (met i h v))), me.1)) (sym (eq-eqb w 0 zero_)); history = found_history t id v here x high low }, (λ z n. fresh n z), stays),
       ))
       (λ some_word. let was : 0 < total (put_in x w) s.views = omega (arith, stores s t some_word, was_put x w some_word s.views) in
@@ -211,7 +212,7 @@ module _ {S : Type 0} (shows : S → Home) (p : Plan) (slots id : ℕ) (me : Me 
         finding x w t.stored v,
         keeps,
         tt,
-        finds_beside t id v (noting x v) here some_ mine (set s.words x w) x w was record { share = refl; lists = refl; finds = refl; stores = λ y z. omega arith; accepts = λ l. omega arith; labels = λ x. x } (load_settled t.settled _)
+        finds_beside t id v (noting x v) here some_ mine (set s.words x w) x w was record { share = refl; lists = refl; finds = refl; stores = λ y z. omega arith; accepts = λ l. omega arith; labels = λ x. x } record { faults = λ l. omega arith; outs = λ l. omega arith } (load_settled t.settled _)
             (step_notes s.views id v v (set s.words x w) s.homes here mine x last there read),
         (record { all = t.stored; view = ap (λ b. (cond b (finding x w t.stored v) (finding x w t.stored (met i h v)), me.1)) (sym (eq-eqb w 18446744073709551615 nothing)) ∙ ap (λ b. (cond b v (cond (eqb w 18446744073709551615) (finding x w t.stored v) (finding x w t.stored (met i h v))), me.1)) (sym (ne_eqb w 0 some_word)); history = found_history t id v here x high low }, (λ z n. fresh n z), stays),
       ))
@@ -219,16 +220,16 @@ module _ {S : Type 0} (shows : S → Home) (p : Plan) (slots id : ℕ) (me : Me 
         finding x w t.stored (met i h v),
         keeps,
         tt,
-        finds_beside t id v (noting x (met i h v)) here some_ mine (set s.words x w) x w was record { share = refl; lists = refl; finds = refl; stores = λ y z. omega arith; accepts = λ l. omega arith; labels = λ x. x } (load_settled t.settled _)
+        finds_beside t id v (noting x (met i h v)) here some_ mine (set s.words x w) x w was record { share = refl; lists = refl; finds = refl; stores = λ y z. omega arith; accepts = λ l. omega arith; labels = λ x. x } record { faults = λ l. omega arith; outs = λ l. omega arith } (load_settled t.settled _)
             (find_note_rule t.rule id v here mine i its.0 x last h low its.1 some_word),
         (record { all = t.stored; view = ap (λ b. (cond b (finding x w t.stored v) (finding x w t.stored (met i h v)), me.1)) (sym (ne_eqb w 18446744073709551615 an_id)) ∙ ap (λ b. (cond b v (cond (eqb w 18446744073709551615) (finding x w t.stored v) (finding x w t.stored (met i h v))), me.1)) (sym (ne_eqb w 0 some_word)); history = found_history t id v here x high low }, (λ z n. fresh n z), stays),
       )))
 
   -- S7 of a name
-  pub finds_name : (n : ℕ) → n < p.names → Allows (OnTable shows p) slots id me (name_word p n) (λ n. n) (find_name_told (step slots (name_word p n) 0 0 none) me)
+  pub finds_name : (n : ℕ) → n < p.names → Allows (OnTable shows rose p) slots id me (name_word p n) (λ n. n) (find_name_told (step slots (name_word p n) 0 0 none) me)
   finds_name n low s t long here fits = let a = finds_at (name_word p n) (of_name n low refl) (omega arith) (omega arith) (λ s t other. t.rule.lawful.references.named.names n low) (λ s t. t.rule.lawful.references.named.names_by n low) s t long here fits in
       (a.0, a.1, a.2, a.3, (a.4, λ z. subst (λ (q : Plan). (get_or s.words (name_word p n) 0 - 1) % 4294967296 < q.slots) (sym mine) (t.rule.lawful.references.named.names n low z).0))
 
   -- S7 of the word of an operation
-  pub finds_open : (n : ℕ) → n < p.operations → Allows (OnTable shows p) slots id me (open_word p n) (λ n. n) (find_told (step slots (open_word p n) 0 0 none) me)
+  pub finds_open : (n : ℕ) → n < p.operations → Allows (OnTable shows rose p) slots id me (open_word p n) (λ n. n) (find_told (step slots (open_word p n) 0 0 none) me)
   finds_open n low = finds_at (open_word p n) (of_open n low refl) (omega arith) (omega arith) (λ s t other. t.rule.lawful.references.named.opens n low other) (λ s t. t.rule.lawful.references.named.opens_by n low)

@@ -17,6 +17,7 @@ use Rattle.sock_model.specs.Weights.{is_hold, is_met}
 use Rattle.sock_model.specs.SlotRows.{marks_of, looked, met_link, wrote}
 use Rattle.sock_model.specs.ChainRows.{with_claim, fresh_claim, filled_claim, ready_claim, queued, righted, without_loose, with_right, without_right, walking_right, passing_right, reading_right, turned_right, freed_right, placed_right, dropped_right, taken_right}
 use Rattle.sock_model.specs.Rule.{noting}
+use Rattle.sock_rule.specs.Faults.{faults_of, fault_found, noting_fault}
 use Rattle.sock_rule.specs.Plays.{WordFits}
 
 -- the heading of a claim that has no message yet
@@ -53,12 +54,14 @@ pub record TookLetter {S : Type 0} (shows : S → Home) (m n : Me S View) (r : R
   pub view : n.0 ≡ with_right m.0 (taken_right r heading bytes)
   pub slots : n.1 ≡ (slot_of now, value) ∷ m.1
 
--- and here the home of the link that it may write, with what it took
-pub record TookOwn {S : Type 0} (shows : S → Home) (m n : Me S View) (r : Right) : Type 0 where
+-- and here the home of the link that it may write, with what it took; where its half has faults, that is noted in slot i
+pub record TookOwn {S : Type 0} (shows : S → Home) (rose : S → ℕ) (m n : Me S View) (r : Right) (i : ℕ) : Type 0 where
   pub value : S
   pub shown : shows value ≡ Link r.link r.sent r.places false
   pub inside : r.link < m.0.plan.links
-  pub view : n.0 ≡ with_right m.0 (record r { at_home = false })
+  pub view : n.0 ≡ fault_found (rose value) i r.link (with_right m.0 (record r { at_home = false }))
+  -- it has some where the seat noted one before
+  pub known : 0 < faults_of r.link m.0 → 0 < rose value
   pub slots : n.1 ≡ (m.0.plan.requests + r.link, value) ∷ m.1
 
 module _ {S : Type 0} where
@@ -94,8 +97,12 @@ module _ {S : Type 0} where
       WordFits i found m.0 × (version_of found % 2 ≡ 0 → n ≡ (with_right (looked i found m.0) (record r { clean = true }), m.1)) × (version_of found % 2 ≢ 0 → n ≡ (looked i found m.0, m.1))
 
   -- L1 and L2
-  abbrev pub take_own_told : (S → Home) → Step S → Me S View → ℕ → Me S View → Type 0
-  take_own_told shows st m found n = (r : Right) → m.0.rights ≡ r ∷ [] → TookOwn shows m n r
+  abbrev pub take_own_told : (S → Home) → (S → ℕ) → Step S → Me S View → ℕ → Me S View → Type 0
+  take_own_told shows rose st m found n = (r : Right) (i : ℕ) → m.0.rights ≡ r ∷ [] → st.word ≡ link_word i → TookOwn shows rose m n r i
+
+  -- a fault of the link in hand is noted
+  abbrev pub note_fault_told : Step S → Me S View → ℕ → Me S View → Type 0
+  note_fault_told st m found n = (r : Right) (i : ℕ) → m.0.rights ≡ r ∷ [] → st.word ≡ link_word i → n ≡ (noting_fault i r.link m.0, m.1)
 
   abbrev pub put_own_told : Step S → Me S View → ℕ → Me S View → Type 0
   put_own_told st m found n = (r : Right) → m.0.rights ≡ r ∷ [] → n ≡ (with_right m.0 (record r { at_home = true }), rest m.1)

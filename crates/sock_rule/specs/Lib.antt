@@ -1,4 +1,5 @@
 pub mod Shows
+pub mod Faults
 pub mod OnTable
 pub mod Plays
 pub mod Rows

@@ -14,6 +14,7 @@ use Rattle.sock_model.specs.Marks.{latest}
 use Rattle.sock_model.specs.Layout.{code_word, request_word, place_word}
 use Rattle.sock_model.specs.Seats.{first_view}
 use Rattle.sock_model.specs.Rule.{lists_of, Rule}
+use Rattle.sock_rule.specs.Faults.{LinkFaults}
 
 abbrev pub share_of : View → ℕ
 share_of v = v.share
@@ -78,7 +79,8 @@ pub record LabelledIn (p : Plan) (lists : List (List Entry)) (claims : List Clai
 abbrev pub Labelled : Plan → View → Type 0
 Labelled p v = LabelledIn p v.lists v.claims
 
-module _ {S : Type 0} (shows : S → Home) where
+-- `shows` tells what a value at home is, and `rose` how many faults it has where it is a link's half
+module _ {S : Type 0} (shows : S → Home) (rose : S → ℕ) where
   pub record OnTable (p : Plan) (s : State S View) : Type 0 where
     -- the rule of the sockets
     pub rule : Rule shows p s
@@ -102,6 +104,8 @@ module _ {S : Type 0} (shows : S → Home) where
     pub met : (id : ℕ) (v : View) → get_elem? s.views id ≡ some v → (n : ℕ) (h : List StoredWord) → get_elem? v.histories n ≡ some h → Follows stored h
     -- labels
     pub labelled : (id : ℕ) (v : View) → get_elem? s.views id ≡ some v → Labelled p v
+    -- faults of links
+    pub faults : (k : ℕ) → k < p.links → LinkFaults rose p s k
     -- what was found was stored
     pub found_was : (id : ℕ) (v : View) → get_elem? s.views id ≡ some v → FindsWere s.views v
 

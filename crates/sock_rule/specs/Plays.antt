@@ -12,6 +12,7 @@ use Rattle.sock_model.specs.Slots.{version_of, nref_of}
 use Rattle.sock_model.specs.SlotRows.{marks_of, knows, claimed, gave_birth, added, back, subbed, failed, recycled, freed, looked, linked, staged, coded, told_code, met_link}
 use Rattle.sock_model.specs.ChainRows.{with_hand, without_hand, spent_hand}
 use Rattle.sock_rule.specs.Rows.{NOTHING, PutAt, FoundAt}
+use Rattle.sock_rule.specs.Faults.{faults_of, fault_found, fault_left}
 
 -- what a seat knows of the reference word of a slot that it finds
 pub record WordFits (i found : ℕ) (v : View) : Type 0 where
@@ -22,15 +23,17 @@ pub record WordFits (i found : ℕ) (v : View) : Type 0 where
   -- no version that it saw is yet to come
   pub saw : (w : ℕ) → 0 < marks_of (is_saw w) i v → w ≤ version_of found
 
--- the seat has the link k in hand, with what it took and its next place, as it was at home
-pub record TookLink {S : Type 0} (shows : S → Home) (m n : Me S View) (k : ℕ) (row : List ℕ → ℕ → View) : Type 0 where
+-- the seat has the link k in hand, with what it took and its next place, as it was at home; where its half has faults, that is noted until it goes home
+pub record TookLink {S : Type 0} (shows : S → Home) (rose : S → ℕ) (m n : Me S View) (k : ℕ) (row : List ℕ → ℕ → View) : Type 0 where
   pub value : S
   pub took : List ℕ
   pub next : ℕ
   pub done : Bool
   pub shown : shows value ≡ Link k took next done
   pub inside : k < m.0.plan.links
-  pub view : n.0 ≡ row took next
+  pub view : n.0 ≡ fault_found (rose value) 0 k (row took next)
+  -- it has some where the seat noted one before
+  pub known : 0 < faults_of k m.0 → 0 < rose value
   pub slots : n.1 ≡ (m.0.plan.requests + k, value) ∷ m.1
 
 module _ {S : Type 0} where
@@ -113,13 +116,13 @@ module _ {S : Type 0} where
   -- ## Links
 
   -- L1 of whoever recycled the slot of this link word, and found that the link of the life that ended is k
-  abbrev pub take_last_told : (S → Home) → Step S → Me S View → ℕ → Me S View → Type 0
-  take_last_told shows st m found n = (i w k : ℕ) → st.word ≡ link_word i → 0 < marks_of (is_recycled w) i m.0 → 0 < marks_of (is_met (w - 2) k) i m.0 → TookLink shows m n k (λ took next. with_hand m.0 record { link = k; took = took; next = next })
+  abbrev pub take_last_told : (S → Home) → (S → ℕ) → Step S → Me S View → ℕ → Me S View → Type 0
+  take_last_told shows rose st m found n = (i w k : ℕ) → st.word ≡ link_word i → 0 < marks_of (is_recycled w) i m.0 → 0 < marks_of (is_met (w - 2) k) i m.0 → TookLink shows rose m n k (λ took next. with_hand m.0 record { link = k; took = took; next = next })
 
   -- L1 of a pass that gets no socket
-  abbrev pub spend_told : (S → Home) → Step S → Me S View → ℕ → Me S View → Type 0
-  spend_told shows st m found n = (k : ℕ) → m.0.passes ≡ k ∷ [] → TookLink shows m n k (λ took next. spent_hand m.0 record { link = k; took = took; next = next })
+  abbrev pub spend_told : (S → Home) → (S → ℕ) → Step S → Me S View → ℕ → Me S View → Type 0
+  spend_told shows rose st m found n = (k : ℕ) → m.0.passes ≡ k ∷ [] → TookLink shows rose m n k (λ took next. spent_hand m.0 record { link = k; took = took; next = next })
 
   -- L2 of a link without a right: what was taken last goes home
-  abbrev pub put_told : Step S → Me S View → ℕ → Me S View → Type 0
-  put_told st m found n = (k : ℕ) (y : S) (rest : List (ℕ × S)) → m.1 ≡ (m.0.plan.requests + k, y) ∷ rest → n ≡ (without_hand m.0 k, rest)
+  abbrev pub put_told : (S → ℕ) → Step S → Me S View → ℕ → Me S View → Type 0
+  put_told rose st m found n = (k : ℕ) (y : S) (rest : List (ℕ × S)) → m.1 ≡ (m.0.plan.requests + k, y) ∷ rest → n ≡ (fault_left (rose y) k (without_hand m.0 k), rest)

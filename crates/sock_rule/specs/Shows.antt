@@ -1,5 +1,5 @@
 -- What a home shows of the value that it holds.
-use Rattle.std.specs.Prelude.{[]}
+use Rattle.std.specs.Prelude.{ℕ, []}
 use Rattle.sock_io.specs.declared.link.Out.{Ghosts}
 use Rattle.sock_model.specs.declared.home.Home.{Home}
 use Rattle.sock_model.specs.declared.home.Home.TheVariants as home
@@ -15,3 +15,9 @@ abbrev pub shows : {O : Type 0} {g : Ghosts O} → SockHome O g → Home
 shows Empty = home.Empty
 shows {O} {g} (Link h) = home.Link (g.state h.out).link h.took.list h.next (g.state h.out).finished
 shows (Message m) = home.Message (heading_of m) m.bytes
+
+-- how many faults the half has that lies there
+abbrev pub rose : {O : Type 0} {g : Ghosts O} → SockHome O g → ℕ
+rose Empty = 0
+rose {O} {g} (Link h) = (g.state h.out).faults
+rose (Message m) = 0

@@ -1,4 +1,4 @@
-ghost use Rattle.std.specs.Prelude.{◌≡◌, ◌≢◌, ◌+◌, ◌<◌, ◌++◌, true, false, [], length};
+ghost use Rattle.std.specs.Prelude.{◌≡◌, ◌≢◌, ◌+◌, ◌<◌, ◌≤◌, ◌++◌, true, false, [], length};
 ghost use Rattle.std.specs.Option.{ForSome};
 ghost use Rattle.sock_io.specs.declared.link.Put.TheVariants.{Failed};
 ghost use Rattle.sock_io.specs.declared.link.Ready.TheVariants as ready;
@@ -40,6 +40,7 @@ impl<O: Out> LinkHome<O> {
         ensures finished { (O.state self.new.out).finished ≡ (O.state self.old.out).finished }
         ensures faults { result ≡ Failed → (O.state self.old.out).finished ≡ false → Rose (O.state self.old.out).faults (O.state self.new.out).faults }
         ensures kept { result ≢ Failed → (O.state self.new.out).faults ≡ (O.state self.old.out).faults }
+        ensures later { (O.state self.old.out).faults ≤ (O.state self.new.out).faults }
     {
         let put = self.out.put(piece);
         let took: Ghosts<u8> = Ghosts::of(&self.took);
@@ -55,6 +56,7 @@ impl<O: Out> LinkHome<O> {
         ensures finished { (O.state self.new.out).finished ≡ (O.state self.old.out).finished }
         ensures faults { result ≡ ready.Failed → (O.state self.old.out).finished ≡ false → Rose (O.state self.old.out).faults (O.state self.new.out).faults }
         ensures kept { result ≢ ready.Failed → (O.state self.new.out).faults ≡ (O.state self.old.out).faults }
+        ensures later { (O.state self.old.out).faults ≤ (O.state self.new.out).faults }
     {
         self.out.ready()
     }
@@ -73,6 +75,7 @@ impl<O: Out> LinkHome<O> {
         ensures same { (self.new.took.list ≡ self.old.took.list) × (self.new.next ≡ self.old.next) }
         ensures link { (O.state self.new.out).link ≡ (O.state self.old.out).link }
         ensures finished { (O.state self.new.out).finished ≡ true }
+        ensures faults { (O.state self.new.out).faults ≡ (O.state self.old.out).faults }
     {
         self.out.finish();
     }

@@ -2,10 +2,10 @@
 ghost use Rattle.std.specs.Prelude.{[]};
 ghost use Rattle.sock_model.specs.Seats.{joined, spent};
 ghost use Rattle.sock_rule.specs.OnTable.{OnTable, opener};
-ghost use Rattle.sock_rule.specs.Shows.{shows};
+ghost use Rattle.sock_rule.specs.Shows.{shows, rose};
 ghost use Rattle.sock_rule.specs.Seated.{giving, given, passing, passed};
 ghost use Rattle.sock_rule.specs.Plays.{claim_told, birth_told, add_told, sub_told, fail_told, recycle_told, free_told, look_told, link_told, meet_told, meet_last_told, reset_told, wipe_told, code_told, read_told, store_told, find_told, find_name_told, take_last_told, spend_told, put_told};
-ghost use Rattle.sock_rule.specs.ChainPlays.{request_told, fill_told, ready_told, swap_told, connect_told, clean_told, take_own_told, put_own_told, take_letter_told, place_told, drop_told, read_next_told, free_request_told, empty_told, turn_told};
+ghost use Rattle.sock_rule.specs.ChainPlays.{request_told, fill_told, ready_told, swap_told, connect_told, clean_told, take_own_told, note_fault_told, put_own_told, take_letter_told, place_told, drop_told, read_next_told, free_request_told, empty_told, turn_told};
 
 use crate::homes::SockHome;
 use atomic_table::{Join, Play, Split, TableRule};
@@ -15,7 +15,7 @@ use sock_model::{Plan, View};
 pub struct SockRule;
 
 impl<O: Out> TableRule<SockHome<O>, View, Plan> for SockRule {
-    ghost holds = { OnTable shows };
+    ghost holds = { OnTable shows rose };
 
     ghost first = { opener };
 }
@@ -157,20 +157,20 @@ impl<S> Play<S, View> for FindName {
 
 pub struct PutLink;
 
-impl<S> Play<S, View> for PutLink {
-    ghost then = { put_told };
+impl<O: Out> Play<SockHome<O>, View> for PutLink {
+    ghost then = { put_told rose };
 }
 
 pub struct TakeLast;
 
 impl<O: Out> Play<SockHome<O>, View> for TakeLast {
-    ghost then = { take_last_told shows };
+    ghost then = { take_last_told shows rose };
 }
 
 pub struct SpendPass;
 
 impl<O: Out> Play<SockHome<O>, View> for SpendPass {
-    ghost then = { spend_told shows };
+    ghost then = { spend_told shows rose };
 }
 
 pub struct ClaimRequest;
@@ -212,7 +212,13 @@ impl<S> Play<S, View> for LookToWrite {
 pub struct TakeOwn;
 
 impl<O: Out> Play<SockHome<O>, View> for TakeOwn {
-    ghost then = { take_own_told shows };
+    ghost then = { take_own_told shows rose };
+}
+
+pub struct NoteFault;
+
+impl<S> Play<S, View> for NoteFault {
+    ghost then = { note_fault_told };
 }
 
 pub struct PutOwn;

@@ -10,35 +10,51 @@ ghost use Rattle.sock_model.specs.Layout.{place_word};
 ghost use Rattle.sock_model.specs.Entries.{slot_of, generation_of};
 ghost use Rattle.sock_rule.specs.declared.homes.SockHome.TheVariants.{Empty};
 ghost use Rattle.sock_rule.specs.Seated.{IsSeat};
+ghost use Rattle.sock_rule.specs.Faults.{faults_of, fault_found, noting_fault};
 ghost use Rattle.sock_rule.specs.Shows.{heading_of};
 ghost use Rattle.sock_rule.specs.Holding.{Rights, LinkAtHome, MayTakeMsg, TookMsg, MayLookToWrite, LookedToWrite, MayStorePlace, MayDropPlace, MayFreeRequest, MayEmptyHead, Emptied, MayReadOn, ReadOn, MayReadBack, ReadBack, MayTurnNext};
 
 use crate::homes::{Letter, LinkHome, SockHome};
 use crate::plays::{
-    DropPlace, EmptyHead, FreeRequest, LookToWrite, PutOwn, ReadNext, StorePlace, TakeLetter,
-    TakeOwn, TurnNext,
+    DropPlace, EmptyHead, FreeRequest, LookToWrite, NoteFault, PutOwn, ReadNext, StorePlace,
+    TakeLetter, TakeOwn, TurnNext,
 };
 use crate::table::{RuleTable, SockSeat};
 use sock_io::Out;
 use sock_words::{PlaceWord, Step, Ticket};
 
 impl<O: Out> RuleTable<O> {
-    /// L1 of the link that the seat has the right to write.
-    pub fn take_link(&self, seat: &mut SockSeat<O>, link: u16) -> LinkHome<O>
+    /// L1 of the link that the seat has the right to write. Where its half has faults, the seat notes that in slot `at`.
+    pub fn take_link(&self, seat: &mut SockSeat<O>, at: u16, link: u16) -> LinkHome<O>
         requires seat { IsSeat self.now.table.shared.table_id self.now.plan seat.old }
+        requires slot { at < self.now.plan.slots }
         requires home { LinkAtHome link seat.old.me.0 }
         ensures seat { IsSeat self.now.table.shared.table_id self.now.plan seat.new }
-        ensures view { (r : Right) → Rights r seat.old.me.0 → seat.new.me ≡ (with_right seat.old.me.0 (record r { at_home = false }), (self.now.plan.requests + link, Empty) ∷ seat.old.me.1) }
+        ensures view { (r : Right) → Rights r seat.old.me.0 → seat.new.me ≡ (fault_found (O.state result.out).faults at link (with_right seat.old.me.0 (record r { at_home = false })), (self.now.plan.requests + link, Empty) ∷ seat.old.me.1) }
         ensures took { (r : Right) → Rights r seat.old.me.0 → (result.took.list ≡ r.sent) × (result.next ≡ r.places) }
         ensures link { ((O.state result.out).link ≡ link) × ((O.state result.out).finished ≡ false) × (link < self.now.plan.links) }
+        ensures known { 0 < faults_of link seat.old.me.0 → 0 < (O.state result.out).faults }
     {
-        self.table.shared.load::<TakeOwn>(seat, 0);
+        let word = 6 * at as usize + 2;
+        self.table.shared.load::<TakeOwn>(seat, word);
         let slot = self.plan.requests as usize + link as usize;
         let value = self.table.shared.exchange(seat, slot, SockHome::Empty);
         let SockHome::Link(home) = value else {
             unreachable!();
         };
         home
+    }
+
+    /// The seat notes that a fault of the link in hand came.
+    pub fn note_fault(&self, seat: &mut SockSeat<O>, at: u16)
+        requires seat { IsSeat self.now.table.shared.table_id self.now.plan seat.old }
+        requires slot { at < self.now.plan.slots }
+        requires hand { (r : Right) × Rights r seat.old.me.0 × (r.at_home ≡ false) }
+        ensures seat { IsSeat self.now.table.shared.table_id self.now.plan seat.new }
+        ensures view { (r : Right) → Rights r seat.old.me.0 → seat.new.me ≡ (noting_fault at r.link seat.old.me.0, seat.old.me.1) }
+    {
+        let word = 6 * at as usize + 2;
+        self.table.shared.load::<NoteFault>(seat, word);
     }
 
     /// M2: the message of the ticket comes out of its home.
@@ -154,13 +170,14 @@ impl<O: Out> RuleTable<O> {
         self.table.shared.load::<FreeRequest>(seat, 0);
     }
 
-    /// L2 of the link that the seat has the right to write.
+    /// L2 of the link that the seat has the right to write. Its half has faults where the seat noted one.
     pub fn put_own_link(&self, seat: &mut SockSeat<O>, link: u16, home: LinkHome<O>)
         requires seat { IsSeat self.now.table.shared.table_id self.now.plan seat.old }
         requires inside { link < self.now.plan.links }
         requires top { seat.old.me.1 ≡ (self.now.plan.requests + link, Empty) ∷ rest seat.old.me.1 }
-        requires right { (r : Right) × Rights r seat.old.me.0 × (r.link ≡ link) × (home.took.list ≡ r.sent) × (home.next ≡ r.places) }
+        requires right { (r : Right) × Rights r seat.old.me.0 × (r.link ≡ link) × (r.at_home ≡ false) × (home.took.list ≡ r.sent) × (home.next ≡ r.places) }
         requires link { ((O.state home.out).link ≡ link) × ((O.state home.out).finished ≡ false) }
+        requires noted { 0 < faults_of link seat.old.me.0 → 0 < (O.state home.out).faults }
         ensures seat { IsSeat self.now.table.shared.table_id self.now.plan seat.new }
         ensures view { (r : Right) → Rights r seat.old.me.0 → seat.new.me ≡ (with_right seat.old.me.0 (record r { at_home = true }), rest seat.old.me.1) }
     {

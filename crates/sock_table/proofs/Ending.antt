@@ -1,28 +1,42 @@
 -- The end of a life, step by step, as what becomes of the view of the seat that ends it.
-use Rattle.std.proofs.Common.{◌≡◌, ◌≢◌, ℕ, ◌+◌, ◌-◌, ◌<◌, ◌≤◌, true, false, cond, List, [], ◌∷◌, le-leb, refl, sym, ap, ◌∙◌, subst, arith}
+use Rattle.std.proofs.Common.{◌≡◌, ◌≢◌, ℕ, zero, suc, ◌+◌, ◌-◌, ◌<◌, ◌≤◌, true, false, cond, eqb, List, [], ◌∷◌, le-leb, refl, sym, ap, ◌∙◌, subst, arith}
 use Rattle.std.proofs.lemmas.Bool.{lt-leb}
 use Rattle.atomic_table.specs.Table.{Me, rest}
 use Rattle.sock_model.specs.declared.marks.Mark.{Mark}
 use Rattle.sock_model.specs.declared.marks.Mark.TheVariants.{Recycling, Zero, Freer, Met}
+use Rattle.sock_model.specs.declared.marks.SlotMark.{SlotMark}
 use Rattle.sock_model.specs.declared.view.View.{View}
-use Rattle.sock_model.specs.Weights.{is_busy, is_recycling, is_zero, is_recycled, is_met}
-use Rattle.sock_model.specs.Marks.{about}
+use Rattle.sock_model.specs.Weights.{total, is_busy, is_recycling, is_zero, is_recycled, is_met}
+use Rattle.sock_model.specs.Marks.{about, at}
 use Rattle.sock_model.specs.Slots.{version_of}
 use Rattle.sock_model.specs.SlotRows.{marks_of, recycled, freed, met_link}
 use Rattle.slot_laws.proofs.Numbers.{only-same, pair-same}
 use Rattle.slot_laws.proofs.Sums.{total_mono}
 use Rattle.sock_rule.specs.Becoming.{Became}
 use Rattle.sock_model.specs.ChainRows.{with_hand, without_hand}
+use Rattle.sock_rule.specs.Faults.{fault, faults_link, faults_of, fault_found, without_fault, fault_left}
+use Rattle.sock_rule.proofs.Faults.{found_alike}
 use Rattle.sock_rule.specs.Hands.{hand_of, Recycles}
 use Rattle.sock_rule.proofs.Becoming.{then_, back_again, counts_as, becomes, lost_marks, won_marks, met_marks, freed_marks}
 use Rattle.sock_table.specs.Refs.{retired, EndedBy}
 
--- a link came into an empty hand, and went home again
-pub came_home : {S : Type 0} (b t c : Me S View) (k : ℕ) (took : List ℕ) (next : ℕ) (x : ℕ × S) → t ≡ (with_hand b.0 (hand_of k took next), x ∷ b.1) → c ≡ (without_hand t.0 k, rest t.1) → b.0.hands ≡ [] → c ≡ b
-came_home {S} b t c k took next x came went empty = went ∙ (ap (λ (m : Me S View). (without_hand m.0 k, rest m.1)) came ∙ (λ i. (back_again b.0 (hand_of k took next) empty i, b.1)))
+-- a link came into an empty hand, and went home again: so did the note of its faults
+pub left_found : (n : ℕ) (v : View) (k : ℕ) (took : List ℕ) (next : ℕ) → v.hands ≡ [] → fault_left n k (without_hand (fault_found n 0 k (with_hand v (hand_of k took next))) k) ≡ v
+left_found zero v k took next empty = back_again v (hand_of k took next) empty
+left_found (suc n) v k took next empty =
+    let gone : without_fault k (at 0 (fault k) ∷ v.marks) ≡ v.marks = ap (λ x. cond (eqb x 0) (at 0 (fault k) ∷ without_fault k v.marks) v.marks) (only-same k) in
+    ap (λ (ms : List SlotMark). record (without_hand (with_hand v (hand_of k took next)) k) { marks = ms }) gone ∙ back_again v (hand_of k took next) empty
 
-pub in_hand : {S : Type 0} (b t : Me S View) (k : ℕ) (took took' : List ℕ) (next next' : ℕ) (x : ℕ × S) → t ≡ (with_hand b.0 (hand_of k took next), x ∷ b.1) → b.0.hands ≡ [] → took' ≡ took → next' ≡ next → t.0.hands ≡ hand_of k took' next' ∷ []
-in_hand {S} b t k took took' next next' x came empty same also = ap (λ (m : Me S View). m.0.hands) came ∙ (λ i. hand_of k (sym same i) (sym also i) ∷ empty i)
+-- a half has faults where its seat noted one, once it is in hand
+pub noted_taken : (n i k : ℕ) (v w : View) → w.marks ≡ v.marks → (0 < faults_of k v → 0 < n) → 0 < faults_of k (fault_found n i k w) → 0 < n
+noted_taken zero i k v w same known some_ = known (subst (λ (ms : List SlotMark). 0 < total (faults_link k) ms) same some_)
+noted_taken (suc n) i k v w same known some_ = omega arith
+
+pub came_home : {S : Type 0} (b t c : Me S View) (k : ℕ) (took : List ℕ) (next n m : ℕ) (x : ℕ × S) → t ≡ (fault_found n 0 k (with_hand b.0 (hand_of k took next)), x ∷ b.1) → m ≡ n → c ≡ (fault_left m k (without_hand t.0 k), rest t.1) → b.0.hands ≡ [] → c ≡ b
+came_home {S} b t c k took next n m x came same went empty = went ∙ ((λ i. (fault_left (same i) k (without_hand (came i).0 k), rest (came i).1)) ∙ (λ i. (left_found n b.0 k took next empty i, b.1)))
+
+pub in_hand : {S : Type 0} (b t : Me S View) (k : ℕ) (took took' : List ℕ) (next next' n : ℕ) (x : ℕ × S) → t ≡ (fault_found n 0 k (with_hand b.0 (hand_of k took next)), x ∷ b.1) → b.0.hands ≡ [] → took' ≡ took → next' ≡ next → t.0.hands ≡ hand_of k took' next' ∷ []
+in_hand {S} b t k took took' next next' n x came empty same also = ap (λ (m : Me S View). m.0.hands) came ∙ (ap (λ (v : View). v.hands) (found_alike n 0 k (with_hand b.0 (hand_of k took next))).others ∙ (λ i. hand_of k (sym same i) (sym also i) ∷ empty i))
 
 module _ (i from found : ℕ) (u a : View) (is : a ≡ recycled i from found u) (zero_ : 0 < marks_of (is_zero (version_of from)) i u) where
   -- lost

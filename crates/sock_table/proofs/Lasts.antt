@@ -18,7 +18,7 @@ use Rattle.sock_model.specs.declared.home.Home.TheVariants as home
 use Rattle.sock_rule.specs.declared.homes.LinkHome.{LinkHome}
 use Rattle.sock_rule.specs.declared.homes.SockHome.{SockHome}
 use Rattle.sock_rule.specs.declared.homes.SockHome.TheVariants.{Empty, Link, Message}
-use Rattle.sock_rule.specs.Shows.{shows}
+use Rattle.sock_rule.specs.Shows.{shows, rose}
 use Rattle.sock_rule.proofs.LinksBack.{AtHome, links_back, place_of}
 use Rattle.sock_model.specs.declared.home.Home.{Home}
 use Rattle.sock_model.specs.declared.view.View.{View}
@@ -107,11 +107,11 @@ by_value homes at k next took done (Message m) e s = let a = ap shows_link s in 
 by_value homes at k next took done (Link h) e s = (h, e)
 
 -- the table at the end, and the seat that took in all others
-module _ {O : Type 0} {g : Ghosts O} (q p : Plan) (id : ℕ) (v : View) (ws : List ℕ) (xs : List (SockHome O g)) (key : q ≡ p) (f : Final (Seen (OnTable (shows {O = O} {g = g}) q) id v) ws xs) (all : v.share ≡ p.seats) (done : IsDone p v) where
-  abbrev pub rule_at : OnTable (shows {O = O} {g = g}) p f.0
-  rule_at = subst (λ (r : Plan). OnTable (shows {O = O} {g = g}) r f.0) key f.1.0
+module _ {O : Type 0} {g : Ghosts O} (q p : Plan) (id : ℕ) (v : View) (ws : List ℕ) (xs : List (SockHome O g)) (key : q ≡ p) (f : Final (Seen (OnTable (shows {O = O} {g = g}) (rose {O = O} {g = g}) q) id v) ws xs) (all : v.share ≡ p.seats) (done : IsDone p v) where
+  abbrev pub rule_at : OnTable (shows {O = O} {g = g}) (rose {O = O} {g = g}) p f.0
+  rule_at = subst (λ (r : Plan). OnTable (shows {O = O} {g = g}) (rose {O = O} {g = g}) r f.0) key f.1.0
 
-  back : (k : ℕ) → k < p.links → AtHome (shows {O = O} {g = g}) p f.0 v rule_at.rule.lawful.log k
+  back : (k : ℕ) → k < p.links → AtHome (shows {O = O} {g = g}) (rose {O = O} {g = g}) p f.0 v rule_at.rule.lawful.log k
   back k kl = links_back f.0 rule_at id v f.1.1 all done.bare k kl
 
   pub are_links : AreLinks p.requests p.links xs
@@ -124,6 +124,7 @@ module _ {O : Type 0} {g : Ghosts O} (q p : Plan) (id : ℕ) (v : View) (ws : Li
         there = a.1;
         own = ap number s;
         took = b.took;
+        faulted = λ some_. subst (λ (y : SockHome O g). 0 < rose y) e (b.faulted some_);
         tells = subst (λ (l : List ℕ). ForSome (g.state a.0.out).took (λ y. y ≡ l)) (ap bytes s) a.0.tells;
         unfinished = λ i h il given unended. ap is_done s ∙ b.unfinished i h il given unended;
         took_is = subst (λ (l : List Entry). LinkTook p v l ws k b.took) (sym same) (subst (λ (y : List ℕ). LinkTook p v rule_at.rule.lawful.log y k b.took) f.2 b.took_is);

@@ -6,18 +6,20 @@ use Rattle.sock_words.specs.declared.plain.Plan.{Plan}
 use Rattle.sock_words.specs.Words.{socket_id_version, socket_id_slot}
 use Rattle.sock_model.specs.declared.marks.Mark.TheVariants.{Saw, Told, Met}
 use Rattle.sock_model.specs.declared.view.View.{View}
-use Rattle.sock_model.specs.Weights.{total, is_probe, is_claimed, is_any_coding, is_zero, is_met, is_told}
+use Rattle.sock_model.specs.Weights.{total, is_ref, is_probe, is_claimed, is_any_coding, is_zero, is_met, is_told}
 use Rattle.sock_model.specs.Marks.{about, without_pass}
 use Rattle.sock_model.specs.Seats.{carrier, joined}
 use Rattle.sock_model.specs.SlotRows.{marks_of, met_link, told_code}
 use Rattle.sock_model.specs.ChainRows.{without_hand, spent_hand}
 use Rattle.slot_laws.proofs.Sums.{total-append}
 use Rattle.sock_rule.specs.Becoming.{Became}
+use Rattle.sock_rule.specs.Faults.{fault_found, fault_left}
 use Rattle.sock_rule.specs.Hands.{hand_of}
 use Rattle.sock_rule.specs.OnTable.{is_put, put_in}
-use Rattle.sock_rule.proofs.Becoming.{then_, becomes, adds_mark, met_marks, back_again}
-use Rattle.sock_table.specs.Refs.{IsBetween, SameNotes}
+use Rattle.sock_rule.proofs.Becoming.{then_, becomes, adds_mark, met_marks}
+use Rattle.sock_table.specs.Refs.{IsBetween, SameTokens, SameNotes}
 use Rattle.sock_table.specs.Answers.{LinkOf, CodeOf}
+use Rattle.sock_table.proofs.Ending.{left_found}
 use Rattle.sock_table.proofs.Joining.{sum_of}
 use Rattle.sock_table.proofs.Making.{marks_same, pass_alone, spent_alone}
 use Rattle.sock_table.proofs.Quiet.{between}
@@ -64,12 +66,12 @@ both_between p v w y is a b = subst (IsBetween p) (sym is) record {
 }
 
 -- a pass was taken in, its link taken out of its home and put there again
-module _ (p : Plan) (u a x t c : View) (k next : ℕ) (took : List ℕ) (is : x ≡ carrier p (k ∷ [])) (took_in : a ≡ joined u x) (spent : t ≡ spent_hand a (hand_of k took next)) (went : c ≡ without_hand t k) (b : IsBetween p u) where
+module _ (p : Plan) (u a x t c : View) (k next n m : ℕ) (took : List ℕ) (is : x ≡ carrier p (k ∷ [])) (took_in : a ≡ joined u x) (spent : t ≡ fault_found n 0 k (spent_hand a (hand_of k took next))) (kept : m ≡ n) (went : c ≡ fault_left m k (without_hand t k)) (b : IsBetween p u) where
   no_hand : a.hands ≡ []
   no_hand = ap (λ (y : View). y.hands) took_in ∙ b.empty
 
   finished : c ≡ record a { passes = without_pass k a.passes }
-  finished = went ∙ (ap (λ (y : View). without_hand y k) spent ∙ back_again (record a { passes = without_pass k a.passes }) (hand_of k took next) no_hand)
+  finished = went ∙ ((λ i. fault_left (kept i) k (without_hand (spent i) k)) ∙ left_found n (record a { passes = without_pass k a.passes }) k took next no_hand)
 
   same_marks : c.marks ≡ u.marks
   same_marks = ap (λ (y : View). y.marks) finished ∙ marks_same p u a x k is took_in
@@ -83,6 +85,17 @@ module _ (p : Plan) (u a x t c : View) (k next : ℕ) (took : List ℕ) (is : x 
     no_rights = ap (λ (y : View). y.rights) finished ∙ (ap (λ (y : View). y.rights) took_in ∙ b.no_rights);
     empty = ap (λ (y : View). y.hands) finished ∙ no_hand;
     no_passes = ap (λ (y : View). y.passes) finished ∙ (ap (without_pass k) (pass_alone p u a x k is took_in b.no_passes) ∙ spent_alone k);
+  }
+
+  pub finished_tokens : SameTokens p u c
+  finished_tokens = record {
+    refs = λ i il. ap (λ es. total is_ref (about i es)) same_marks;
+    claims = ap (λ (y : View). y.claims) finished ∙ ap (λ (y : View). y.claims) took_in;
+    loose = ap (λ (y : View). y.loose) finished ∙ ap (λ (y : View). y.loose) took_in;
+    rights = ap (λ (y : View). y.rights) finished ∙ ap (λ (y : View). y.rights) took_in;
+    hands = ap (λ (y : View). y.hands) finished ∙ ap (λ (y : View). y.hands) took_in;
+    lists = ap (λ (y : View). y.lists) finished ∙ (ap (λ (y : View). y.lists) took_in ∙ (ap (λ (y : View). u.lists ++ y.lists) is ∙ append-nil u.lists));
+    share = (let e = ap (λ (y : View). y.share) finished in let f = ap (λ (y : View). y.share) took_in in let s = ap (λ (y : View). y.share) is in omega arith);
   }
 
   pub finished_notes : SameNotes u c

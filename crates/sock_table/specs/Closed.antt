@@ -1,5 +1,5 @@
 -- The seats that are handed in at the end, and what the table's last words say of them.
-use Rattle.std.specs.Prelude.{◌≡◌, ℕ, ◌+◌, ◌*◌, ◌<◌, ◌⊎◌, false, List, [], ◌∷◌, length}
+use Rattle.std.specs.Prelude.{◌≡◌, ℕ, ◌+◌, ◌*◌, ◌<◌, ◌⊎◌, false, List, [], ◌∷◌, length, vec_len, vec_capacity}
 use Rattle.std.specs.List.{flat_map}
 use Rattle.atomic_table.specs.Seated.{TableId}
 use Rattle.atomic_table.specs.declared.shared.Seat.{Seat}
@@ -10,6 +10,7 @@ use Rattle.sock_model.specs.declared.view.View.{View}
 use Rattle.sock_model.specs.Weights.{is_linked, is_freer}
 use Rattle.sock_model.specs.SlotRows.{marks_of}
 use Rattle.sock_model.specs.Layout.{ref_word, place_word}
+use Rattle.sock_rule.specs.Faults.{faults_of}
 use Rattle.sock_rule.specs.Seated.{IsSeat, IsDone}
 use Rattle.sock_rule.specs.Closing.{IsAtRest, Closing, Ordered, PlaceOf, IsDropTold, LinkTook}
 use Rattle.std.specs.Prelude.{slice_index}
@@ -17,6 +18,7 @@ use Rattle.std.specs.Option.{ForSome}
 use Rattle.sock_io.specs.declared.link.Out.{Ghosts}
 use Rattle.sock_io.specs.Link.{OutState}
 use Rattle.sock_model.specs.declared.chain.Entry.{Entry}
+use Rattle.sock_table.specs.declared.closing.Closed.{Closed}
 use Rattle.sock_rule.specs.declared.homes.LinkHome.{LinkHome}
 use Rattle.sock_rule.specs.declared.homes.SockHome.{SockHome}
 use Rattle.sock_rule.specs.declared.homes.SockHome.TheVariants.{Link}
@@ -54,8 +56,17 @@ pub record OutBack {O : Type 0} (state : O → OutState) (p : Plan) (v : View) (
   pub took : List ℕ
   pub tells : ForSome (state out).took (λ bytes. bytes ≡ took)
   pub took_is : LinkTook p v log words k took
+  -- it has faults where a seat noted one of its link
+  pub faulted : 0 < faults_of k v → 0 < (state out).faults
   -- it isn't finished where the life that it was given hasn't ended
   pub unfinished : (i h : ℕ) → i < p.slots → 0 < marks_of (is_linked h k) i v → marks_of (is_freer h) i v ≡ 0 → (state out).finished ≡ false
+
+-- room for what a table of this plan leaves: its words, and as many writing halves as it has links
+pub record IsRoomOf {O : Type 0} (p : Plan) (c : Closed O) : Type 0 where
+  pub places : length c.places.items ≡ 8 * p.operations
+  pub vrefs : length c.vrefs.items ≡ p.slots
+  pub empty : (c.outs.items ≡ []) × (vec_len c.outs ≡ 0)
+  pub room : vec_capacity c.outs ≡ p.links
 
 -- what the words and the notes of all seats, those of each in its place, say
 pub record ClosedBy {O S : Type 0} (state : O → OutState) (p : Plan) (seats : List (Seat S View)) (places : List PlaceWord) (vrefs : List Vref) (outs : List O) : Type 0 where

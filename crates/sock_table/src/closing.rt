@@ -7,7 +7,7 @@ ghost use Rattle.sock_model.specs.Layout.{all_words, ref_word, place_word};
 ghost use Rattle.std.specs.List.{flat_map};
 ghost use Rattle.sock_model.specs.Weights.{total};
 ghost use Rattle.sock_rule.specs.Seated.{IsSeat};
-ghost use Rattle.sock_table.specs.Closed.{AllDone, IsDoneSeat, WordsAre, AreLinks, OutsOf, ClosedBy};
+ghost use Rattle.sock_table.specs.Closed.{AllDone, IsDoneSeat, WordsAre, AreLinks, OutsOf, ClosedBy, IsRoomOf};
 
 use crate::table::SockTable;
 use atomic_table::Closed as ClosedTable;
@@ -55,10 +55,9 @@ fn join_all<O: Out>(rule: &RuleTable<O>, mut seats: Vec<SockSeat<O>>) -> SockSea
     seat
 }
 
-// The rooms of what is left, so that all memory is there before the table ends.
-fn rooms<O: Out>(alloc: Global, plan: &Plan) -> Result<Closed<O>, AllocError>
-    ensures sized { IfOk result (λ c. (length c.places.items ≡ 8 * plan.now.operations) × (length c.vrefs.items ≡ plan.now.slots)) }
-    ensures outs { IfOk result (λ c. (c.outs.items ≡ []) × (vec_len c.outs ≡ 0) × (vec_capacity c.outs ≡ plan.now.links)) }
+/// Room for what a table of this plan leaves.
+pub fn rooms<O: Out>(alloc: Global, plan: &Plan) -> Result<Closed<O>, AllocError>
+    ensures { IfOk result (IsRoomOf plan.now) }
 {
     let places = vec![in alloc; PlaceWord::NONE; 8 * plan.operations as usize]?;
     let vrefs = vec![in alloc; Vref::from_word(0); plan.slots as usize]?;
@@ -136,18 +135,14 @@ fn take_outs<O: Out>(table: &mut ClosedTable<SockHome<O>, Global>, plan: &Plan, 
 }
 
 impl<O: Out> SockTable<O> {
-    /// The seats are all that the table has but those that were taken in, and hold nothing. Where memory is wanting all is
-    /// untouched.
-    pub fn close(self, alloc: Global, seats: Vec<SockSeat<O>>) -> Result<Closed<O>, NotClosed<O>>
+    /// The seats are all that the table has but those that were taken in, and hold nothing. The room is there already.
+    pub fn close_in(self, left: Closed<O>, seats: Vec<SockSeat<O>>) -> Closed<O>
+        requires room { IsRoomOf self.rule.plan left }
         requires seats { AllDone self.rule.table.shared.table_id self.rule.plan seats.items }
         requires all { total (λ s. s.me.0.share) seats.items ≡ self.rule.plan.seats }
         requires some { 1 ≤ self.rule.plan.seats }
-        ensures closed { IfOk result (λ c. ClosedBy O.state self.rule.plan seats.items c.places.items c.vrefs.items c.outs.items) }
-        ensures untouched { IfErr result (λ e. (e.table ≡ self) × (e.seats ≡ seats)) }
+        ensures { ClosedBy O.state self.rule.plan seats.items result.places.items result.vrefs.items result.outs.items }
     {
-        let Ok(left) = rooms(alloc, &self.rule.plan) else {
-            return Err(NotClosed { table: self, seats });
-        };
         let seat = join_all(&self.rule, seats);
         let SockTable { rule } = self;
         let RuleTable { table, plan } = rule;
@@ -161,10 +156,24 @@ impl<O: Out> SockTable<O> {
         read_places(&table, &plan, &mut places);
         take_outs(&mut table, &plan, &mut outs);
         table.free();
-        Ok(Closed {
+        Closed {
             places,
             vrefs,
             outs,
-        })
+        }
+    }
+
+    /// As `close_in`. Where memory is wanting all is untouched.
+    pub fn close(self, alloc: Global, seats: Vec<SockSeat<O>>) -> Result<Closed<O>, NotClosed<O>>
+        requires seats { AllDone self.rule.table.shared.table_id self.rule.plan seats.items }
+        requires all { total (λ s. s.me.0.share) seats.items ≡ self.rule.plan.seats }
+        requires some { 1 ≤ self.rule.plan.seats }
+        ensures closed { IfOk result (λ c. ClosedBy O.state self.rule.plan seats.items c.places.items c.vrefs.items c.outs.items) }
+        ensures untouched { IfErr result (λ e. (e.table ≡ self) × (e.seats ≡ seats)) }
+    {
+        let Ok(left) = rooms(alloc, &self.rule.plan) else {
+            return Err(NotClosed { table: self, seats });
+        };
+        Ok(self.close_in(left, seats))
     }
 }

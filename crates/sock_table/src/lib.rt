@@ -7,7 +7,7 @@ mod passes;
 mod refs;
 mod table;
 
-pub use closing::{Closed, NotClosed};
+pub use closing::{Closed, NotClosed, rooms};
 pub use finding::Noted;
 pub use passes::{CreateFull, LinkPass};
 pub use refs::{Already, Gone, Look, Released, SockRef};

@@ -17,6 +17,8 @@ pub mod Whys
 pub mod Causes
 pub mod Names
 pub mod Whole
+pub mod Breaking
+pub mod Ends
 pub mod Reports
 pub mod Scripts
 pub mod Drops

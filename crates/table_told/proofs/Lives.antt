@@ -35,13 +35,13 @@ use Rattle.table_told.proofs.Sources.{IsOfLife, Source, opens, fails, writes, ac
 -- ## Weights
 
 pub born_life : (h : ℕ) → IsOfLife (is_born h)
-born_life h = record { known = λ k. refl; saw = λ w. refl; hold = λ k. refl; met = λ a b. refl; told = λ a b. refl; stored = λ a b. refl; tried = refl; freer = λ k. refl; recycling = λ w. refl }
+born_life h = record { known = λ k. refl; saw = λ w. refl; hold = λ k. refl; met = λ a b. refl; told = λ a b. refl; fault = λ k. refl; stored = λ a b. refl; tried = refl; freer = λ k. refl; recycling = λ w. refl }
 
 pub linked_life : (h k : ℕ) → IsOfLife (is_linked h k)
-linked_life h k = record { known = λ k. refl; saw = λ w. refl; hold = λ k. refl; met = λ a b. refl; told = λ a b. refl; stored = λ a b. refl; tried = refl; freer = λ k. refl; recycling = λ w. refl }
+linked_life h k = record { known = λ k. refl; saw = λ w. refl; hold = λ k. refl; met = λ a b. refl; told = λ a b. refl; fault = λ k. refl; stored = λ a b. refl; tried = refl; freer = λ k. refl; recycling = λ w. refl }
 
 pub failer_life : (h : ℕ) → IsOfLife (is_failer h)
-failer_life h = record { known = λ k. refl; saw = λ w. refl; hold = λ k. refl; met = λ a b. refl; told = λ a b. refl; stored = λ a b. refl; tried = refl; freer = λ k. refl; recycling = λ w. refl }
+failer_life h = record { known = λ k. refl; saw = λ w. refl; hold = λ k. refl; met = λ a b. refl; told = λ a b. refl; fault = λ k. refl; stored = λ a b. refl; tried = refl; freer = λ k. refl; recycling = λ w. refl }
 
 -- ## An `open` that made a socket
 

@@ -35,6 +35,7 @@ use Rattle.sock_programs.specs.Told.{IsTask, Became, TaskFits, OpFits}
 use Rattle.sock_programs.specs.ToldCalls.{Accepted, Order, Fixed, AreOrders, IsTaken, StandsAt, StandsOn, InOwnOrder, bytes_of, label}
 use Rattle.report_fits.proofs.Lists.{before_from}
 use Rattle.sock_rule.specs.Closing.{LifeFailed}
+use Rattle.sock_rule.specs.Faults.{faults_of}
 use Rattle.table_told.specs.Left.{accepted_of, orders_of, homes_of, core_of, gave_of}
 use Rattle.table_told.specs.Threads.{ThreadRun}
 use Rattle.table_told.proofs.Accepting.{log, places_differ, act_of_entry, entry_of_act, sent_place, in_order, asks_send}
@@ -112,7 +113,7 @@ module _ (p : Plan) (took : ℕ → List ℕ) (k : ℕ) (low : k < p.links) wher
       let q : p.requests + k ≡ length empty + k = (let e = replicate_long p.requests nothing in omega arith) in
       ap (get_elem? (homes_of p took)) q ∙ append_later empty links k (some (Link k (took k) 0 false)) (range_at (λ j. some (Link j (took j) 0 false)) 0 p.links k low ∙ ap (λ (j : ℕ). some (some (Link j (took j) 0 false))) (omega arith))
 
-  took_home : get_or (took_at_home p (homes_of p took)) k [] ≡ took k
+  pub took_home : get_or (took_at_home p (homes_of p took)) k [] ≡ took k
   took_home =
       let f : ℕ → List ℕ = λ j. flat_map taken_by (lies_at (homes_of p took) (link_place p j)) in
       let lies : flat_map taken_by (lies_at (homes_of p took) (link_place p k)) ≡ took k ++ [] = ap (λ o. flat_map taken_by (elim o as (λ o. List Home) [ none ↦ [] | some x ↦ elim x as (λ o. List Home) [ none ↦ [] | some y ↦ y ∷ [] ] ])) home_at in
@@ -141,10 +142,11 @@ module _ {O : Type 0} {g : Ghosts O} {state : O → OutState} {p : Plan} {client
     pub out : O
     pub there : get_elem? outs k ≡ some out
     pub own : (state out).link ≡ k
+    pub faulted : 0 < faults_of k run.closed.view → 0 < (state out).faults
     pub tells : ForSome (state out).took (λ bytes. bytes ≡ x.0)
 
   pub ends : (f : ℕ → List ℕ × ℕ) × ((k : ℕ) → k < p.links → LinkEnds k (f k))
-  ends = choose LinkEnds ([], 0) p.links (λ k low. (let b = run.closed.outs_back k low in ((b.took, b.took_is.kept), record { fifo = b.took_is.fifo (places_differ run); failed = b.took_is.failed; out = b.out; there = b.there; own = b.own; tells = b.tells })))
+  ends = choose LinkEnds ([], 0) p.links (λ k low. (let b = run.closed.outs_back k low in ((b.took, b.took_is.kept), record { fifo = b.took_is.fifo (places_differ run); failed = b.took_is.failed; out = b.out; there = b.there; own = b.own; faulted = b.faulted; tells = b.tells })))
 
   abbrev pub took : ℕ → List ℕ
   took k = (ends.0 k).0

@@ -16,13 +16,15 @@ use Rattle.brpc_model.specs.Complete.{FitsWhole}
 use Rattle.sock_programs.specs.Tasks.{plan_of}
 use Rattle.sock_programs.specs.Scripts.{all_tasks, is_callless, is_later}
 use Rattle.report_fits.specs.Calm.{IsCalm}
-use Rattle.report_fits.specs.Ends.{AreTold, AreEndsOf}
+use Rattle.report_fits.specs.Ends.{AreTold}
 use Rattle.report_fits.proofs.Callless.{not_later}
 use Rattle.report_fits.proofs.Lists.{has_from, has_none}
 use Rattle.report_fits.proofs.Numbering.{are_from}
 use Rattle.report_fits.proofs.Places as report
+use Rattle.table_told.specs.Back.{AreBackEnds}
 use Rattle.table_told.specs.Left.{gave_of}
 use Rattle.table_told.specs.Threads.{ThreadRun}
+use Rattle.table_told.proofs.Ends.{ends_of_threads}
 use Rattle.table_told.proofs.Failing.{fixed}
 use Rattle.table_told.proofs.Orders.{orders, left}
 use Rattle.table_told.proofs.Reports.{places_are}
@@ -50,7 +52,7 @@ module _ {O : Type 0} {g : Ghosts O} {state : O → OutState} (bytes : List ℕ)
     }
 
     -- a report of these outcomes and places fits the script, where the links are as the table gave them back
-    pub fits_of_threads : (text : Report) (took : List (List ℕ)) (ends : List LinkEnd) → IsReportOf script outcomes places took text → AreTold ends took → AreEndsOf script (left run) (fixed run) gave_of ends → FitsWhole script (report_text script text) ends nothing_late
-    fits_of_threads text took ends reports told given =
+    pub fits_of_threads : (text : Report) (took : List (List ℕ)) (ends : List LinkEnd) → IsReportOf script outcomes places took text → AreTold ends took → AreBackEnds state (plan_of script) outs ends → FitsWhole script (report_text script text) ends nothing_late
+    fits_of_threads text took ends reports told back =
         report.script_fits bytes script reads (left run) (fixed run) gave_of (orders run) long (told_of_threads run) text took ends
-        (subst (λ (l : List PlaceWord). IsReportOf script outcomes l took text) (places_are run) reports) told given (λ untroubled. calm)
+        (subst (λ (l : List PlaceWord). IsReportOf script outcomes l took text) (places_are run) reports) told (ends_of_threads script run ends back) (λ untroubled. calm)

@@ -29,6 +29,7 @@ use Rattle.sock_model.specs.Weights.{total, pair}
 use Rattle.slot_laws.proofs.Numbers.{pair_is}
 use Rattle.slot_laws.proofs.Sums.{about-here, about-other}
 use Rattle.sock_rule.specs.Becoming.{Became}
+use Rattle.sock_rule.specs.Faults.{fault as fault_mark}
 use Rattle.sock_rule.specs.OnTable.{is_put, put_in}
 use Rattle.sock_rule.specs.Rows.{PutAt}
 use Rattle.sock_rule.specs.declared.homes.Letter.{Letter}
@@ -38,7 +39,7 @@ use Rattle.sock_table.specs.Refs.{SameNotes, GaveBack, EndedBy, retired}
 use Rattle.sock_table.specs.declared.refs.SockRef.{SockRef}
 use Rattle.write_chain.specs.declared.entry.Refused.{Refused}
 use Rattle.write_chain.specs.declared.entry.Refused.TheVariants as refused
-use Rattle.write_chain.specs.Noting.{Noted, nothing, finding, failing, IsFinding, saw, met, told, Met_by}
+use Rattle.write_chain.specs.Noting.{Noted, nothing, finding, failing, IsFinding, saw, met, told, faulted, Met_by}
 use Rattle.write_chain.specs.Sending.{RefusedBy}
 use Rattle.rpc_client.specs.declared.acting.Action.{Action}
 use Rattle.rpc_client.specs.declared.acting.Action.TheVariants as action
@@ -60,6 +61,7 @@ pub record IsOfLife (f : Mark → ℕ) : Type 0 where
   pub hold : (h : ℕ) → f (Hold h) ≡ 0
   pub met : (h k : ℕ) → f (Met h k) ≡ 0
   pub told : (h c : ℕ) → f (Told h c) ≡ 0
+  pub fault : (k : ℕ) → f (fault_mark k) ≡ 0
   pub stored : (h c : ℕ) → f (Stored h c) ≡ 0
   pub tried : f Tried ≡ 0
   pub freer : (h : ℕ) → f (Freer h) ≡ 0
@@ -129,11 +131,12 @@ module _ (f : Mark → ℕ) (z : IsOfLife f) where
   finding_none h _ (saw w) = z.saw w
   finding_none h _ (met k) = z.met h k
   finding_none h _ (told c) = z.told h c
+  finding_none h _ (faulted k) = z.fault k
 
   noted_none : {O : Type 0} {state : O → OutState} {L : ℕ → Type 0} (h : ℕ) (ms : List Mark) → f (Failer h) ≡ 0 → Noted state L h ms → total f ms ≡ 0
   noted_none h _ e nothing = refl
   noted_none h _ e (finding m ms a b) = omega (arith, finding_none h m a, noted_none h ms e b)
-  noted_none h _ e (failing k ms a b c) = omega (arith, e, z.saw (h + 1), z.stored h 1009, z.told h 1009, noted_none h ms e c)
+  noted_none h _ e (failing k ms a b c) = omega (arith, e, z.fault k, z.saw (h + 1), z.stored h 1009, z.told h 1009, noted_none h ms e c)
 
   noted_by : {O : Type 0} {state : O → OutState} {L : ℕ → Type 0} (h : ℕ) (ms : List Mark) (noted : Noted state L h ms) → 0 < total f ms → (k : ℕ) × L k × (j : ℕ) × (get_elem? (noted_links h ms noted) j ≡ some k)
   noted_by h _ nothing less = absurd (omega arith)

@@ -2,3 +2,4 @@ pub mod Threads
 pub mod Left
 pub mod Moments
 pub mod Broken
+pub mod Back

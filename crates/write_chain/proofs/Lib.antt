@@ -1,5 +1,6 @@
 pub mod Accepting
 pub mod Noting
+pub mod Faulting
 pub mod Stepping
 pub mod Beginning
 pub mod Testing

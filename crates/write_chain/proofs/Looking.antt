@@ -22,12 +22,14 @@ use Rattle.slot_laws.proofs.Numbers.{only-same}
 use Rattle.sock_rule.specs.Becoming.{Became}
 use Rattle.sock_rule.specs.Holding.{LookedToWrite}
 use Rattle.sock_rule.specs.declared.homes.SockHome.{SockHome}
-use Rattle.sock_rule.proofs.Becoming.{looked_marks}
+use Rattle.sock_rule.specs.Faults.{fault}
+use Rattle.sock_rule.proofs.Becoming.{then_, looked_marks}
 use Rattle.sock_table.specs.Answers.{FailedBy, FoundFailed}
 use Rattle.sock_table.specs.declared.refs.Already.{Already}
 use Rattle.write_chain.specs.declared.right.InHand.{InHand}
-use Rattle.write_chain.specs.Noting.{saw, Faulted, Noted, nothing, failing, Met_by, Wrote}
+use Rattle.write_chain.specs.Noting.{saw, faulted, Faulted, Noted, nothing, finding, failing, Met_by, Wrote}
 use Rattle.write_chain.specs.Writing.{HasPart, IsClean, FoundDead}
+use Rattle.write_chain.proofs.Faulting.{became_faults}
 use Rattle.write_chain.proofs.Noting.{found_it}
 use Rattle.write_chain.proofs.Stepping.{part_noted, part_clean}
 
@@ -62,7 +64,7 @@ module _ {O : Type 0} {g : Ghosts O} {p : Plan} {id last : ℕ} (hand : InHand O
   noted_saw {L} = found_it (Saw (version_of found)) (saw (version_of found))
 
   pub live : version_of found % 2 ≡ 0 → IsClean p id last hand n
-  live even = part_clean {L = λ k. ⊥} hand m n (looked slot found m.0) (Saw (version_of found) ∷ []) noted_saw became_looked h (l.1 even)
+  live even = part_clean {L = λ k. ⊥} hand m n (looked slot found m.0) (Saw (version_of found) ∷ []) noted_saw became_looked (λ t. h.0.noted (became_faults hand.link (socket_id_slot id) m.0 (looked slot found m.0) _ _ became_looked refl t)) h (l.1 even)
 
   odd_is : version_of found % 2 ≢ 0 → version_of found ≡ socket_id_version id + 1
   odd_is odd = let a = l.0.held (socket_id_version id) (subst (λ (j : ℕ). 0 < marks_of (is_hold (socket_id_version id)) j m.0) (sym at) h.0.writer.holds.held) in omega arith
@@ -70,7 +72,7 @@ module _ {O : Type 0} {g : Ghosts O} {p : Plan} {id last : ℕ} (hand : InHand O
   pub dead : version_of found % 2 ≢ 0 → HasPart p id last hand n × FoundDead id n.0
   dead odd = let v = ap (λ (q : Me (SockHome O g) View). q.0) (l.2 odd) in let b : Became (socket_id_slot id) m.0 n.0 (Saw (version_of found) ∷ []) [] = subst (λ (y : View). Became (socket_id_slot id) m.0 y (Saw (version_of found) ∷ []) []) (sym v) became_looked in
       let one : is_saw (socket_id_version id + 1) (Saw (version_of found)) ≡ 1 = ap (λ (y : ℕ). is_saw (socket_id_version id + 1) (Saw y)) (odd_is odd) ∙ only-same (socket_id_version id + 1) in (
-        part_noted {L = λ k. ⊥} hand m n (Saw (version_of found) ∷ []) noted_saw b (ap (λ (q : Me (SockHome O g) View). q.1) (l.2 odd)) h,
+        part_noted {L = λ k. ⊥} hand m n (Saw (version_of found) ∷ []) noted_saw b (ap (λ (q : Me (SockHome O g) View). q.1) (l.2 odd)) (λ t. h.0.noted (became_faults hand.link (socket_id_slot id) m.0 n.0 _ _ b refl t)) h,
         (let x : marks_of (is_saw (socket_id_version id + 1)) (socket_id_slot id) n.0 + 0 ≡ marks_of (is_saw (socket_id_version id + 1)) (socket_id_slot id) m.0 + (is_saw (socket_id_version id + 1) (Saw (version_of found)) + 0) = b.here (is_saw (socket_id_version id + 1)) in omega arith),
       )
 
@@ -96,13 +98,14 @@ pub record Fails {O : Type 0} (state : O → OutState) (id : ℕ) (v w : View) :
   pub noted : Noted state (Met_by id w) (socket_id_version id) notes
   pub became : Became (socket_id_slot id) v w notes []
 
-pub fails : {O : Type 0} {state : O → OutState} (id k : ℕ) (v w : View) (r : Result (Unit {0}) Already) → IfOk r (λ _. FailedBy id 1009 v w) → IfErr r (λ e. FoundFailed id e.found.0 v w) → Faulted state k → Met_by id v k → Fails state id v w
-fails id k v w (Ok u) ok err fault met_ = record {
+-- a fault was noted, and then the socket was failed
+pub fails : {O : Type 0} {state : O → OutState} (id k : ℕ) (u v w : View) (r : Result (Unit {0}) Already) → Became (socket_id_slot id) u v (fault k ∷ []) [] → IfOk r (λ _. FailedBy id 1009 v w) → IfErr r (λ e. FoundFailed id e.found.0 v w) → Faulted state k → Met_by id u k → Fails state id u w
+fails id k u v w (Ok x) note ok err rose met_ = record {
   notes = _;
-  noted = failing k [] (let x : marks_of (is_met (socket_id_version id) k) (socket_id_slot id) w + 0 ≡ marks_of (is_met (socket_id_version id) k) (socket_id_slot id) v + 0 = ok.here (is_met (socket_id_version id) k) in omega arith) fault nothing;
-  became = ok;
+  noted = failing k [] (let y : marks_of (is_met (socket_id_version id) k) (socket_id_slot id) v + 0 ≡ marks_of (is_met (socket_id_version id) k) (socket_id_slot id) u + 0 = note.here (is_met (socket_id_version id) k) in let x : marks_of (is_met (socket_id_version id) k) (socket_id_slot id) w + 0 ≡ marks_of (is_met (socket_id_version id) k) (socket_id_slot id) v + 0 = ok.here (is_met (socket_id_version id) k) in omega arith) rose nothing;
+  became = then_ (socket_id_slot id) note ok;
 }
-fails id k v w (Err e) ok err fault met_ = record { notes = _; noted = found_it _ (saw (vref_version e.found.0)); became = err.1 }
+fails id k u v w (Err e) note ok err rose met_ = record { notes = _; noted = finding (fault k) _ (faulted k) (found_it _ (saw (vref_version e.found.0))); became = then_ (socket_id_slot id) note err.1 }
 
 pub fails_dead : (id : ℕ) (v w : View) (r : Result (Unit {0}) Already) → IfOk r (λ _. FailedBy id 1009 v w) → IfErr r (λ e. FoundFailed id e.found.0 v w) → FoundDead id w
 fails_dead id v w (Ok u) ok err = let one : is_saw (socket_id_version id + 1) (Saw (socket_id_version id + 1)) ≡ 1 = only-same (socket_id_version id + 1) in

@@ -16,12 +16,13 @@ use Rattle.sock_model.specs.SlotRows.{marks_of, wrote}
 use Rattle.sock_rule.specs.Becoming.{Became}
 use Rattle.sock_rule.proofs.Becoming.{then_, stays}
 use Rattle.sock_table.proofs.Quiet.{IsQuiet}
-use Rattle.write_chain.specs.Noting.{IsFinding, saw, met, told, Noted, nothing, finding, failing, Met_by, Wrote, WroteDrop}
+use Rattle.write_chain.specs.Noting.{IsFinding, saw, met, told, faulted, Noted, nothing, finding, failing, Met_by, Wrote, WroteDrop}
 
 finding_quiet : {h : ℕ} (m : Mark) → IsFinding h m → IsQuiet (m ∷ []) × (is_ref m ≡ 0)
 finding_quiet _ (saw w) = (record { claimed = refl; probe = refl; coding = refl; zeros = λ x. refl }, refl)
 finding_quiet _ (met l) = (record { claimed = refl; probe = refl; coding = refl; zeros = λ x. refl }, refl)
 finding_quiet _ (told c) = (record { claimed = refl; probe = refl; coding = refl; zeros = λ x. refl }, refl)
+finding_quiet _ (faulted k) = (record { claimed = refl; probe = refl; coding = refl; zeros = λ x. refl }, refl)
 
 module _ {O : Type 0} {state : O → OutState} {h : ℕ} where
   pub noted_as : {K L : ℕ → Type 0} (l : List Mark) → ((k : ℕ) → K k → L k) → Noted state K h l → Noted state L h l

@@ -20,6 +20,7 @@ use Rattle.sock_model.specs.Weights.{is_ref, is_hold, is_met}
 use Rattle.sock_model.specs.SlotRows.{met_link, wrote}
 use Rattle.sock_model.specs.ChainRows.{with_right, without_right, taken_right, placed_right, dropped_right, passing_right, freed_stage, freed_right, walking_right, reading_right, turned_right}
 use Rattle.sock_rule.specs.Becoming.{Became}
+use Rattle.sock_rule.specs.Faults.{faults_of, fault_found}
 use Rattle.sock_rule.specs.Holding.{Part, Follows, ends, goes_on, MayFreeRequest, MayLookToWrite, MayEmptyHead}
 use Rattle.sock_rule.specs.ChainPlays.{IsTicket}
 use Rattle.sock_rule.specs.declared.homes.LinkHome.{LinkHome}
@@ -29,6 +30,7 @@ use Rattle.sock_rule.specs.declared.homes.SockHome.TheVariants.{Empty}
 use Rattle.sock_rule.specs.Shows.{heading_of}
 use Rattle.sock_rule.proofs.Holding.{one_right}
 use Rattle.sock_rule.proofs.Becoming.{met_marks}
+use Rattle.sock_table.proofs.Ending.{noted_taken}
 use Rattle.sock_table.proofs.Quiet.{rests_on, rests_between}
 use Rattle.write_chain.specs.declared.right.InHand.{InHand}
 use Rattle.write_chain.specs.declared.right.LinkInHand.{LinkInHand}
@@ -37,6 +39,7 @@ use Rattle.write_chain.specs.Puts.{WentOn}
 use Rattle.write_chain.specs.declared.right.Doing.{Doing}
 use Rattle.write_chain.specs.declared.right.Doing.TheVariants as doing
 use Rattle.write_chain.specs.Writing.{IsWriter, Stands, HasLink, HasInHand, IsPart, HasPart, IsClean, HasWhole, GaveUp, IsLast}
+use Rattle.write_chain.proofs.Faulting.{found_marks, found_noted, found_became}
 use Rattle.write_chain.proofs.Noting.{noted_quiet, found_it, wrote_notes}
 
 -- ## The right changes
@@ -86,8 +89,8 @@ took_all sent begun bytes left took t b none_ = t ∙ ap (λ l. sent ++ l) (sym 
 
 module _ {O : Type 0} {g : Ghosts O} {p : Plan} {id last : ℕ} where
   -- what is in hand stays where notes come
-  pub part_noted : {L : ℕ → Type 0} (hand : InHand O g) (m n : Me (SockHome O g) View) (notes : List Mark) → Noted g.state L (socket_id_version id) notes → Became (socket_id_slot id) m.0 n.0 notes [] → n.1 ≡ m.1 → HasPart p id last hand m → HasPart p id last hand n
-  part_noted hand m n notes noted b slots h = (
+  pub part_noted : {L : ℕ → Type 0} (hand : InHand O g) (m n : Me (SockHome O g) View) (notes : List Mark) → Noted g.state L (socket_id_version id) notes → Became (socket_id_slot id) m.0 n.0 notes [] → n.1 ≡ m.1 → (0 < faults_of hand.link n.0 → 0 < (g.state hand.home.out).faults) → HasPart p id last hand m → HasPart p id last hand n
+  part_noted hand m n notes noted b slots faults h = (
     record {
       right_is = h.0.right_is;
       writer = writer_noted h.0.writer notes noted b;
@@ -100,6 +103,7 @@ module _ {O : Type 0} {g : Ghosts O} {p : Plan} {id last : ℕ} where
       begun = h.0.begun;
       bytes_are = h.0.bytes_are;
       took = h.0.took;
+      noted = faults;
       few = h.0.few;
       slots = slots ∙ h.0.slots;
     },
@@ -107,9 +111,9 @@ module _ {O : Type 0} {g : Ghosts O} {p : Plan} {id last : ℕ} where
   )
 
   -- the look found the life live
-  pub part_clean : {L : ℕ → Type 0} (hand : InHand O g) (m n : Me (SockHome O g) View) (v : View) (notes : List Mark) → Noted g.state L (socket_id_version id) notes → Became (socket_id_slot id) m.0 v notes [] → (h : HasPart p id last hand m)
+  pub part_clean : {L : ℕ → Type 0} (hand : InHand O g) (m n : Me (SockHome O g) View) (v : View) (notes : List Mark) → Noted g.state L (socket_id_version id) notes → Became (socket_id_slot id) m.0 v notes [] → (0 < faults_of hand.link v → 0 < (g.state hand.home.out).faults) → (h : HasPart p id last hand m)
       → n ≡ (with_right v (record h.0.right_is { clean = true }), m.1) → IsClean p id last hand n
-  part_clean hand m n v notes noted b h e = let w = writer_noted h.0.writer notes noted b in (
+  part_clean hand m n v notes noted b faults h e = let w = writer_noted h.0.writer notes noted b in (
     record {
       right_is = record h.0.right_is { clean = true };
       writer = writer_on w last (record h.0.right_is { clean = true }) refl w.last_is w.last_ticket (ap (λ (q : Me (SockHome O g) View). q.0) e);
@@ -122,6 +126,7 @@ module _ {O : Type 0} {g : Ghosts O} {p : Plan} {id last : ℕ} where
       begun = h.0.begun;
       bytes_are = h.0.bytes_are;
       took = h.0.took;
+      noted = λ t. faults (subst (λ (y : View). 0 < faults_of hand.link y) (ap (λ (q : Me (SockHome O g) View). q.0) e) t);
       few = h.0.few;
       slots = ap (λ (q : Me (SockHome O g) View). q.1) e ∙ h.0.slots;
     },
@@ -149,6 +154,7 @@ module _ {O : Type 0} {g : Ghosts O} {p : Plan} {id last : ℕ} where
       begun = h.begun ++ taken;
       bytes_are = h.bytes_are ∙ (ap (λ y. h.begun ++ y) w.left ∙ sym (append_assoc h.begun taken new.bytes.left));
       took = w.took ∙ (ap (λ y. y ++ taken) h.took ∙ append_assoc h.right_is.sent h.begun taken);
+      noted = λ t. (let a = h.noted (subst (λ (y : ℕ). 0 < faults_of y m.0) k t) in let b = w.later in omega arith);
       few = subst (λ (n : ℕ). n < 4294967295) (sym w.next) h.few;
       slots = h.slots ∙ (λ i. (slot_of (sym t i).0, Empty) ∷ (p.requests + sym k i, Empty) ∷ []);
     },
@@ -171,16 +177,20 @@ module _ {O : Type 0} {g : Ghosts O} {p : Plan} {id last : ℕ} where
 
   -- L1
   pub link_fetched : (link : ℕ) (at : Stage) (hand : LinkInHand O g) (m n : Me (SockHome O g) View) (s : Stands p id last at link m) → hand.link ≡ link → link < p.links → ((g.state hand.home.out).link ≡ link) × ((g.state hand.home.out).finished ≡ false)
-      → (hand.home.took.list ≡ s.right_is.sent) × (hand.home.next ≡ s.right_is.places) → n ≡ (with_right m.0 (record s.right_is { at_home = false }), (p.requests + link, Empty) ∷ m.1) → HasLink p id last at [] hand n
-  link_fetched link at hand m n s same low half took e = let x' : Right = record s.right_is { at_home = false } in record {
-    right_is = record s.right_is { at_home = false };
-    writer = subst (λ (y : ℕ). IsWriter p id last y (record s.right_is { at_home = false }) n.0) (sym same) (writer_on s.writer last x' refl s.writer.last_is s.writer.last_ticket (ap (λ (q : Me (SockHome O g) View). q.0) e));
-    has = record { away = refl; link_in = subst (λ (y : ℕ). y < p.links) (sym same) low; places_are = took.1; own = half.0 ∙ sym same; unfinished = half.1 };
-    stage_is = s.stage_is;
-    idle = s.idle;
-    took = took.0;
-    slots = ap (λ (q : Me (SockHome O g) View). q.1) e ∙ (λ i. (p.requests + sym same i, Empty) ∷ s.slots i);
-  }
+      → (hand.home.took.list ≡ s.right_is.sent) × (hand.home.next ≡ s.right_is.places) → (slot : ℕ) → slot ≡ socket_id_slot id → (0 < faults_of link m.0 → 0 < (g.state hand.home.out).faults)
+      → n ≡ (fault_found (g.state hand.home.out).faults slot link (with_right m.0 (record s.right_is { at_home = false })), (p.requests + link, Empty) ∷ m.1) → HasLink p id last at [] hand n
+  link_fetched link at hand m n s same low half took slot slot_is known e = let x' : Right = record s.right_is { at_home = false } in let u : View = with_right m.0 x' in let faults : ℕ = (g.state hand.home.out).faults in
+      let with_notes : IsWriter p id last link x' (fault_found faults slot link u) = writer_noted {O = O} {state = g.state} {L = λ k. ⊥} (writer_on s.writer last x' refl s.writer.last_is s.writer.last_ticket refl) (found_marks faults link) (found_noted faults link)
+      (subst (λ (j : ℕ). Became j u (fault_found faults slot link u) (found_marks faults link) []) slot_is (found_became faults slot link u)) in record {
+        right_is = record s.right_is { at_home = false };
+        writer = subst (λ (y : ℕ). IsWriter p id last y (record s.right_is { at_home = false }) n.0) (sym same) (subst (λ (z : View). IsWriter p id last link x' z) (sym (ap (λ (q : Me (SockHome O g) View). q.0) e)) with_notes);
+        has = record { away = refl; link_in = subst (λ (y : ℕ). y < p.links) (sym same) low; places_are = took.1; own = half.0 ∙ sym same; unfinished = half.1 };
+        stage_is = s.stage_is;
+        idle = s.idle;
+        took = took.0;
+        noted = λ t. noted_taken faults slot link m.0 u refl known (subst (λ (k : ℕ). 0 < faults_of k (fault_found faults slot link u)) same (subst (λ (y : View). 0 < faults_of hand.link y) (ap (λ (q : Me (SockHome O g) View). q.0) e) t));
+        slots = ap (λ (q : Me (SockHome O g) View). q.1) e ∙ (λ i. (p.requests + sym same i, Empty) ∷ s.slots i);
+      }
 
   -- the right changes, and what is in hand with it
   pub link_moves : {last' : ℕ} {at at' : Stage} {above above' : List (ℕ × SockHome O g)} (hand : LinkInHand O g) (m n : Me (SockHome O g) View) (h : HasLink p id last at above hand m) (x' : Right) (s : List (ℕ × SockHome O g)) → x'.link ≡ h.right_is.link → x'.last ≡ last' → IsTicket p last'
@@ -192,6 +202,7 @@ module _ {O : Type 0} {g : Ghosts O} {p : Plan} {id last : ℕ} where
     stage_is = stage;
     idle = idle;
     took = h.took ∙ sym sent;
+    noted = λ t. h.noted (subst (λ (y : View). 0 < faults_of hand.link y) (ap (λ (q : Me (SockHome O g) View). q.0) e) t);
     slots = ap (λ (q : Me (SockHome O g) View). q.1) e ∙ slots;
   }
 
@@ -218,6 +229,7 @@ module _ {O : Type 0} {g : Ghosts O} {p : Plan} {id last : ℕ} where
       begun = [];
       bytes_are = sym left;
       took = ap (λ (y : LinkHome O g). y.took.list) same_home ∙ (h.took ∙ sym (append-nil h.right_is.sent));
+      noted = λ t. subst (λ (y : LinkHome O g). 0 < (g.state y.out).faults) (sym same_home) (h.noted (subst (λ (k : ℕ). 0 < faults_of k m.0) same_link (subst (λ (y : View). 0 < faults_of new.link y) (ap (λ (q : Me (SockHome O g) View). q.0) e) t)));
       few = subst (λ (y : ℕ). y < 4294967295) (sym (ap (λ (y : LinkHome O g). y.next) same_home ∙ h.has.places_are)) few;
       slots = ap (λ (q : Me (SockHome O g) View). q.1) e ∙ ((λ i. (slot_of now, Empty) ∷ h.slots i) ∙ (λ i. (slot_of (sym same_now i), Empty) ∷ (p.requests + sym same_link i, Empty) ∷ []));
     },
@@ -234,6 +246,7 @@ module _ {O : Type 0} {g : Ghosts O} {p : Plan} {id last : ℕ} where
     stage_is = refl;
     idle = refl;
     took = more.0 ∙ took_all r.right_is.sent r.begun r.right_is.bytes hand.bytes.left hand.home.took.list r.took r.bytes_are h.2;
+    noted = λ t. subst (λ (y : O). 0 < (g.state y).faults) (sym out) (r.noted (subst (λ (y : View). 0 < faults_of hand.link y) (ap (λ (q : Me (SockHome O g) View). q.0) e) t));
     slots = ap (λ (q : Me (SockHome O g) View). q.1) e ∙ r.slots;
   }
 
@@ -255,6 +268,7 @@ module _ {O : Type 0} {g : Ghosts O} {p : Plan} {id last : ℕ} where
     stage_is = refl;
     idle = refl;
     took = more.0;
+    noted = λ t. subst (λ (y : O). 0 < (g.state y).faults) (sym out) (r.noted (subst (λ (y : View). 0 < faults_of hand.link y) (ap (λ (q : Me (SockHome O g) View). q.0) e) t));
     slots = ap (λ (q : Me (SockHome O g) View). q.1) e ∙ r.slots;
   }
 

@@ -13,12 +13,14 @@ use Rattle.sock_model.specs.Deliveries.{place_value}
 use Rattle.sock_model.specs.Marks.{noted}
 use Rattle.sock_model.specs.SlotRows.{marks_of}
 use Rattle.sock_rule.specs.Becoming.{Became}
+use Rattle.sock_rule.specs.Faults.{fault}
 
--- a version of the slot, the link of the life h, or its code
+-- a version of the slot, the link of the life h, its code, or that the half of a link has a fault
 pub data IsFinding (h : ℕ) : Mark → Type 0 where
   saw : (w : ℕ) → IsFinding h (Saw w)
   met : (k : ℕ) → IsFinding h (Met h k)
   told : (c : ℕ) → IsFinding h (Told h c)
+  faulted : (k : ℕ) → IsFinding h (fault k)
 
 -- the count of faults of the writing half of link k rose by a call before which it wasn't finished
 pub record Faulted {O : Type 0} (state : O → OutState) (k : ℕ) : Type 0 where
@@ -29,11 +31,11 @@ pub record Faulted {O : Type 0} (state : O → OutState) (k : ℕ) : Type 0 wher
   pub unfinished : (state before).finished ≡ false
   pub rose : Rose (state before).faults (state after).faults
 
--- the seat failed the life only where a fault of its link came
+-- the seat failed the life only where a fault of its link came, which it noted
 pub data Noted {O : Type 0} (state : O → OutState) (IsLink : ℕ → Type 0) (h : ℕ) : List Mark → Type 0 where
   nothing : Noted state IsLink h []
   finding : (m : Mark) (ms : List Mark) → IsFinding h m → Noted state IsLink h ms → Noted state IsLink h (m ∷ ms)
-  failing : (k : ℕ) (ms : List Mark) → IsLink k → Faulted state k → Noted state IsLink h ms → Noted state IsLink h (Failer h ∷ Saw (h + 1) ∷ Stored h 1009 ∷ Told h 1009 ∷ ms)
+  failing : (k : ℕ) (ms : List Mark) → IsLink k → Faulted state k → Noted state IsLink h ms → Noted state IsLink h (fault k ∷ Failer h ∷ Saw (h + 1) ∷ Stored h 1009 ∷ Told h 1009 ∷ ms)
 
 -- the seat found that the link of this life is k
 abbrev pub Met_by : ℕ → View → ℕ → Type 0

@@ -1,5 +1,5 @@
 -- How far a put comes.
-use Rattle.std.specs.Prelude.{◌≡◌, ℕ, ◌++◌, List}
+use Rattle.std.specs.Prelude.{◌≡◌, ℕ, ◌++◌, ◌≤◌, List}
 use Rattle.sock_io.specs.declared.link.Out.{Ghosts}
 use Rattle.write_chain.specs.declared.right.InHand.{InHand}
 
@@ -10,4 +10,5 @@ pub record WentOn {O : Type 0} {g : Ghosts O} (old new : InHand O g) (taken : Li
   pub next : new.home.next ≡ old.home.next
   pub link : (g.state new.home.out).link ≡ (g.state old.home.out).link
   pub finished : (g.state new.home.out).finished ≡ (g.state old.home.out).finished
+  pub later : (g.state old.home.out).faults ≤ (g.state new.home.out).faults
   pub others : (new.link ≡ old.link) × (new.now ≡ old.now) × (new.label ≡ old.label) × (new.owner ≡ old.owner)

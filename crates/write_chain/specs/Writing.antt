@@ -12,6 +12,7 @@ use Rattle.sock_model.specs.Entries.{slot_of}
 use Rattle.sock_model.specs.Links.{HoldsLink}
 use Rattle.sock_model.specs.Weights.{is_ref, is_saw}
 use Rattle.sock_model.specs.SlotRows.{marks_of}
+use Rattle.sock_rule.specs.Faults.{faults_of}
 use Rattle.sock_rule.specs.Holding.{Rights}
 use Rattle.sock_rule.specs.ChainPlays.{IsTicket}
 use Rattle.sock_rule.specs.declared.homes.LinkHome.{LinkHome}
@@ -86,6 +87,8 @@ pub record HasLink {O : Type 0} {g : Ghosts O} (p : Plan) (id last : ℕ) (at : 
   pub stage_is : right_is.stage ≡ at
   pub idle : right_is.taken ≡ false
   pub took : hand.home.took.list ≡ right_is.sent
+  -- its half has a fault where the seat noted one
+  pub noted : 0 < faults_of hand.link m.0 → 0 < (g.state hand.home.out).faults
   pub slots : m.1 ≡ above ++ (p.requests + hand.link, Empty) ∷ []
 
 -- the message of ticket `now` is in hand with the link, which took `begun` of it
@@ -101,6 +104,8 @@ pub record HasInHand {O : Type 0} {g : Ghosts O} (p : Plan) (id last : ℕ) (han
   pub begun : List ℕ
   pub bytes_are : right_is.bytes ≡ begun ++ hand.bytes.left
   pub took : hand.home.took.list ≡ right_is.sent ++ begun
+  -- the half has a fault where the seat noted one
+  pub noted : 0 < faults_of hand.link m.0 → 0 < (g.state hand.home.out).faults
   pub few : hand.home.next < 4294967295
   pub slots : m.1 ≡ (slot_of hand.now.0, Empty) ∷ (p.requests + hand.link, Empty) ∷ []
 

@@ -54,20 +54,21 @@ pub fn slot_at<O: Out>(table: &SockTable<O>, sock: &SockRef) -> u16
     slot as u16
 }
 
-/// The link that the seat may write comes into hand.
+/// The link that the seat may write comes into hand. Where its half has faults the seat notes that.
 pub fn fetch_link<O: Out>(
     table: &SockTable<O>,
     seat: &mut SockSeat<O>,
-    _sock: &SockRef,
+    sock: &SockRef,
     link: u16,
 ) -> LinkInHand<O>
     requires seat { IsSeat table.now.rule.table.shared.table_id table.now.rule.plan seat.old }
-    requires may { (last : ℕ) × (stage : Stage) × Stands table.now.rule.plan _sock.now.id.0 last stage link seat.old.me }
+    requires may { (last : ℕ) × (stage : Stage) × Stands table.now.rule.plan sock.now.id.0 last stage link seat.old.me }
     ensures seat { IsSeat table.now.rule.table.shared.table_id table.now.rule.plan seat.new }
-    ensures has { (last : ℕ) (stage : Stage) → Stands table.now.rule.plan _sock.now.id.0 last stage link seat.old.me → HasLink table.now.rule.plan _sock.now.id.0 last stage [] result seat.new.me }
-    ensures others { seat.new.me.0 ≡ record seat.old.me.0 { rights = seat.new.me.0.rights } }
+    ensures has { (last : ℕ) (stage : Stage) → Stands table.now.rule.plan sock.now.id.0 last stage link seat.old.me → HasLink table.now.rule.plan sock.now.id.0 last stage [] result seat.new.me }
+    ensures wrote { Wrote O.state sock.now.id.0 seat.old.me.0 seat.new.me.0 }
 {
-    let home = table.rule.take_link(seat, link);
+    let slot = slot_at(table, sock);
+    let home = table.rule.take_link(seat, slot, link);
     LinkInHand { link, home }
 }
 
@@ -223,7 +224,7 @@ pub fn look<O: Out>(
     !found.is_failed()
 }
 
-/// The link failed: so does the socket, unless it was failed before.
+/// The link failed, which the seat notes: so does the socket, unless it was failed before.
 pub fn fail_link<O: Out>(
     table: &SockTable<O>,
     seat: &mut SockSeat<O>,
@@ -234,11 +235,14 @@ pub fn fail_link<O: Out>(
     requires seat { IsSeat table.now.rule.table.shared.table_id table.now.rule.plan seat.old }
     requires may { HasPart table.now.rule.plan sock.now.id.0 _last.0 _hand.now seat.old.me }
     requires fault { Faulted O.state _hand.now.link }
+    requires rose { 0 < (O.state _hand.now.home.out).faults }
     ensures seat { IsSeat table.now.rule.table.shared.table_id table.now.rule.plan seat.new }
     ensures has { HasPart table.now.rule.plan sock.now.id.0 _last.0 _hand.entry.now seat.new.me }
     ensures dead { FoundDead sock.now.id.0 seat.new.me.0 }
     ensures wrote { Wrote O.state sock.now.id.0 seat.old.me.0 seat.new.me.0 }
 {
+    let slot = slot_at(table, sock);
+    table.rule.note_fault(seat, slot);
     let failed = table.fail(seat, sock, LINK_FAILED);
     drop(failed);
 }

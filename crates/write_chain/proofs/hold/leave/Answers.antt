@@ -19,7 +19,10 @@ pub put_own_link-requires-clause-top : goal.put_own_link-requires-clause-top
 put_own_link-requires-clause-top g c = let h = c.requires.may in h.slots ∙ ap (λ l. (c.args.table.now.rule.plan.requests + c.args.link.link, Empty) ∷ l) (sym (ap rest h.slots))
 
 pub put_own_link-requires-clause-right : goal.put_own_link-requires-clause-right
-put_own_link-requires-clause-right g c = let h = c.requires.may in (h.right_is, h.writer.one, h.writer.link_is, h.took, h.has.places_are)
+put_own_link-requires-clause-right g c = let h = c.requires.may in (h.right_is, h.writer.one, h.writer.link_is, h.has.away, h.took, h.has.places_are)
+
+pub put_own_link-requires-clause-noted : goal.put_own_link-requires-clause-noted
+put_own_link-requires-clause-noted g c = c.requires.may.noted
 
 pub put_own_link-requires-clause-link : goal.put_own_link-requires-clause-link
 put_own_link-requires-clause-link g c = (c.requires.may.has.own, c.requires.may.has.unfinished)

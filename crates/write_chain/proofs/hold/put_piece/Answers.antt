@@ -1,4 +1,5 @@
 use Rattle.std.proofs.Common.{inl, inr, refl, sym, ap, ◌∙◌}
+use Rattle.write_chain.proofs.Faulting.{rose_some}
 use Rattle.write_chain.proofs.Noting.{wrote_rights}
 use Rattle.write_chain.proofs.Stepping.{clean_put}
 use Rattle.write_chain.proofs.Looking.{is_none, is_some, some_piece, all_taken}
@@ -30,6 +31,9 @@ fail_link-requires-clause-may g c = let k = clean_put c.args.hand c.put-put.new.
 
 pub fail_link-requires-clause-fault : goal.fail_link-requires-clause-fault
 fail_link-requires-clause-fault g c = let h = c.requires.may.0.0.has in let k = clean_put c.args.hand c.put-put.new.self _ c.args.seat.now.me c.put-put.ensures.has c.requires.may.0 in record { before = c.args.hand.home.out; after = c.put-put.new.self.home.out; link_before = h.own ∙ sym c.put-put.ensures.has.others.0; link_after = k.0.has.own; unfinished = h.unfinished; rose = c.put-put.ensures.faults c.in-Failed.is h.unfinished }
+
+pub fail_link-requires-clause-rose : goal.fail_link-requires-clause-rose
+fail_link-requires-clause-rose g c = rose_some _ _ (c.put-put.ensures.faults c.in-Failed.is c.requires.may.0.0.has.unfinished)
 
 pub returns-in-Failed-clause-tried : goal.returns-in-Failed-clause-tried
 returns-in-Failed-clause-tried g c = (c.fail_link.ensures.has, tt)

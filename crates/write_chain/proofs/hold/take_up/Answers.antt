@@ -5,7 +5,7 @@ use Rattle.sock_model.specs.declared.marks.Mark.TheVariants.{Met}
 use Rattle.sock_model.specs.Weights.{is_hold, is_met}
 use Rattle.sock_model.specs.SlotRows.{marks_of}
 use Rattle.write_chain.specs.Noting.{met}
-use Rattle.write_chain.proofs.Noting.{found_it, wrote_then, wrote_rights, rights_then}
+use Rattle.write_chain.proofs.Noting.{found_it, wrote_then, wrote_rights}
 use Rattle.write_chain.proofs.Stepping.{met_stands, met_wrote}
 use Rattle.write_chain.proofs.hold.take_up.Goals as goal
 
@@ -24,4 +24,4 @@ take_next-requires-clause-may g c = (c.fetch_link-link.ensures.has c.args.last.0
 pub returns-clause-wrote : goal.returns-clause-wrote
 returns-clause-wrote g c = wrote_then c.args.seat.now.me.0 c.load_link-found.new.seat.me.0 c.take_next.new.seat.me.0
     (met_wrote c.args.seat.now.me c.load_link-found.new.seat.me c.slot_at-slot.result c.load_link-found.result c.slot_at-slot.ensures.slot c.requires.may.1 (c.load_link-found.ensures.same (socket_id_version c.args.sock.now.id.0) c.requires.may.0 (subst (λ (j : ℕ). 0 < marks_of (is_hold (socket_id_version c.args.sock.now.id.0)) j c.args.seat.now.me.0) (sym c.slot_at-slot.ensures.slot) c.requires.may.1.writer.holds.held) (subst (λ (j : ℕ). 0 < marks_of (is_met (socket_id_version c.args.sock.now.id.0) c.requires.may.0) j c.args.seat.now.me.0) (sym c.slot_at-slot.ensures.slot) c.requires.may.1.writer.holds.met)) (c.load_link-found.ensures.view (socket_id_version c.args.sock.now.id.0) (subst (λ (j : ℕ). 0 < marks_of (is_hold (socket_id_version c.args.sock.now.id.0)) j c.args.seat.now.me.0) (sym c.slot_at-slot.ensures.slot) c.requires.may.1.writer.holds.held)))
-    (wrote_rights c.load_link-found.new.seat.me.0 c.take_next.new.seat.me.0 (rights_then c.load_link-found.new.seat.me.0 c.fetch_link-link.new.seat.me.0 c.take_next.new.seat.me.0 c.fetch_link-link.ensures.others c.take_next.ensures.others))
+    (wrote_then c.load_link-found.new.seat.me.0 c.fetch_link-link.new.seat.me.0 c.take_next.new.seat.me.0 c.fetch_link-link.ensures.wrote (wrote_rights c.fetch_link-link.new.seat.me.0 c.take_next.new.seat.me.0 c.take_next.ensures.others))

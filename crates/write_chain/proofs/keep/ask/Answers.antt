@@ -1,4 +1,5 @@
 use Rattle.std.proofs.Common.{inl, inr, refl, sym, ◌∙◌}
+use Rattle.write_chain.proofs.Faulting.{rose_some}
 use Rattle.write_chain.proofs.Noting.{wrote_rights}
 use Rattle.write_chain.proofs.Stepping.{part_asked}
 use Rattle.write_chain.proofs.keep.ask.Goals as goal
@@ -20,6 +21,9 @@ fail_link-requires-clause-may g c = part_asked c.args.hand c.ready.new.self c.ar
 
 pub fail_link-requires-clause-fault : goal.fail_link-requires-clause-fault
 fail_link-requires-clause-fault g c = let h = c.requires.may.0.has in let k = part_asked c.args.hand c.ready.new.self c.args.seat.now.me c.ready.ensures.has c.requires.may in record { before = c.args.hand.home.out; after = c.ready.new.self.home.out; link_before = h.own ∙ sym c.ready.ensures.has.others.0; link_after = k.0.has.own; unfinished = h.unfinished; rose = c.ready.ensures.faults c.in-Failed.is h.unfinished }
+
+pub fail_link-requires-clause-rose : goal.fail_link-requires-clause-rose
+fail_link-requires-clause-rose g c = rose_some _ _ (c.ready.ensures.faults c.in-Failed.is c.requires.may.0.has.unfinished)
 
 pub returns-in-Failed-clause-goes : goal.returns-in-Failed-clause-goes
 returns-in-Failed-clause-goes g c = c.fail_link.ensures.has

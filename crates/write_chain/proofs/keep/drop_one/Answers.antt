@@ -13,6 +13,7 @@ use Rattle.sock_model.specs.Links.{HoldsLink}
 use Rattle.sock_rule.specs.declared.homes.SockHome.TheVariants.{Empty}
 use Rattle.write_chain.proofs.Noting.{wrote_notes, wrote_rights, drop_then, rights_but_store}
 use Rattle.write_chain.proofs.Stepping.{part_noted, part_of, part_dropped}
+use Rattle.write_chain.proofs.Faulting.{code_faults}
 use Rattle.write_chain.proofs.Dropping.{code_noted, is_code, still_dead, dead_dropped}
 use Rattle.write_chain.proofs.keep.drop_one.Goals as goal
 
@@ -20,7 +21,7 @@ pub code-told-requires-clause-held : goal.code-told-requires-clause-held
 code-told-requires-clause-held g c = let w = c.requires.may.0.0.writer in record { inside = w.holds.inside; held = w.holds.held }
 
 pub drop_place-home-requires-clause-may : goal.drop_place-home-requires-clause-may
-drop_place-home-requires-clause-may g c = let h = part_noted c.args.hand c.args.seat.now.me c.code-told.new.seat.me (code_noted {state = g.O.Out.state} c.code-told.result c.args.sock.now.id.0 c.args.seat.now.me.0 c.code-told.new.seat.me.0 c.code-told.ensures.code).notes (code_noted {state = g.O.Out.state} c.code-told.result c.args.sock.now.id.0 c.args.seat.now.me.0 c.code-told.new.seat.me.0 c.code-told.ensures.code).noted (code_noted {state = g.O.Out.state} c.code-told.result c.args.sock.now.id.0 c.args.seat.now.me.0 c.code-told.new.seat.me.0 c.code-told.ensures.code).became c.code-told.ensures.slots c.requires.may.0 in (
+drop_place-home-requires-clause-may g c = let h = part_noted c.args.hand c.args.seat.now.me c.code-told.new.seat.me (code_noted {state = g.O.Out.state} c.code-told.result c.args.sock.now.id.0 c.args.seat.now.me.0 c.code-told.new.seat.me.0 c.code-told.ensures.code).notes (code_noted {state = g.O.Out.state} c.code-told.result c.args.sock.now.id.0 c.args.seat.now.me.0 c.code-told.new.seat.me.0 c.code-told.ensures.code).noted (code_noted {state = g.O.Out.state} c.code-told.result c.args.sock.now.id.0 c.args.seat.now.me.0 c.code-told.new.seat.me.0 c.code-told.ensures.code).became c.code-told.ensures.slots (λ t. c.requires.may.0.0.noted (code_faults c.args.hand.link c.code-told.result c.args.sock.now.id.0 c.args.seat.now.me.0 c.code-told.new.seat.me.0 c.code-told.ensures.code t)) c.requires.may.0 in (
   c.args.hand.link,
   c.args.hand.home.next,
   record {
@@ -47,17 +48,17 @@ pub drop_place-home-requires-clause-ticket : goal.drop_place-home-requires-claus
 drop_place-home-requires-clause-ticket g c = let t = c.requires.may.0.0.ticket in (t.some_slot, t.small)
 
 pub drop_place-home-requires-clause-top : goal.drop_place-home-requires-clause-top
-drop_place-home-requires-clause-top g c = let h = part_noted c.args.hand c.args.seat.now.me c.code-told.new.seat.me (code_noted {state = g.O.Out.state} c.code-told.result c.args.sock.now.id.0 c.args.seat.now.me.0 c.code-told.new.seat.me.0 c.code-told.ensures.code).notes (code_noted {state = g.O.Out.state} c.code-told.result c.args.sock.now.id.0 c.args.seat.now.me.0 c.code-told.new.seat.me.0 c.code-told.ensures.code).noted (code_noted {state = g.O.Out.state} c.code-told.result c.args.sock.now.id.0 c.args.seat.now.me.0 c.code-told.new.seat.me.0 c.code-told.ensures.code).became c.code-told.ensures.slots c.requires.may.0 in h.0.slots ∙ ap (λ l. (slot_of c.args.hand.now.0, Empty) ∷ l) (sym (ap rest h.0.slots))
+drop_place-home-requires-clause-top g c = let h = part_noted c.args.hand c.args.seat.now.me c.code-told.new.seat.me (code_noted {state = g.O.Out.state} c.code-told.result c.args.sock.now.id.0 c.args.seat.now.me.0 c.code-told.new.seat.me.0 c.code-told.ensures.code).notes (code_noted {state = g.O.Out.state} c.code-told.result c.args.sock.now.id.0 c.args.seat.now.me.0 c.code-told.new.seat.me.0 c.code-told.ensures.code).noted (code_noted {state = g.O.Out.state} c.code-told.result c.args.sock.now.id.0 c.args.seat.now.me.0 c.code-told.new.seat.me.0 c.code-told.ensures.code).became c.code-told.ensures.slots (λ t. c.requires.may.0.0.noted (code_faults c.args.hand.link c.code-told.result c.args.sock.now.id.0 c.args.seat.now.me.0 c.code-told.new.seat.me.0 c.code-told.ensures.code t)) c.requires.may.0 in h.0.slots ∙ ap (λ l. (slot_of c.args.hand.now.0, Empty) ∷ l) (sym (ap rest h.0.slots))
 
 pub go_past-doing-requires-clause-may : goal.go_past-doing-requires-clause-may
-go_past-doing-requires-clause-may g c = let h = part_noted c.args.hand c.args.seat.now.me c.code-told.new.seat.me (code_noted {state = g.O.Out.state} c.code-told.result c.args.sock.now.id.0 c.args.seat.now.me.0 c.code-told.new.seat.me.0 c.code-told.ensures.code).notes (code_noted {state = g.O.Out.state} c.code-told.result c.args.sock.now.id.0 c.args.seat.now.me.0 c.code-told.new.seat.me.0 c.code-told.ensures.code).noted (code_noted {state = g.O.Out.state} c.code-told.result c.args.sock.now.id.0 c.args.seat.now.me.0 c.code-told.new.seat.me.0 c.code-told.ensures.code).became c.code-told.ensures.slots c.requires.may.0 in let is = c.drop_place-home.ensures.home in let n = c.count_place.ensures in (
+go_past-doing-requires-clause-may g c = let h = part_noted c.args.hand c.args.seat.now.me c.code-told.new.seat.me (code_noted {state = g.O.Out.state} c.code-told.result c.args.sock.now.id.0 c.args.seat.now.me.0 c.code-told.new.seat.me.0 c.code-told.ensures.code).notes (code_noted {state = g.O.Out.state} c.code-told.result c.args.sock.now.id.0 c.args.seat.now.me.0 c.code-told.new.seat.me.0 c.code-told.ensures.code).noted (code_noted {state = g.O.Out.state} c.code-told.result c.args.sock.now.id.0 c.args.seat.now.me.0 c.code-told.new.seat.me.0 c.code-told.ensures.code).became c.code-told.ensures.slots (λ t. c.requires.may.0.0.noted (code_faults c.args.hand.link c.code-told.result c.args.sock.now.id.0 c.args.seat.now.me.0 c.code-told.new.seat.me.0 c.code-told.ensures.code t)) c.requires.may.0 in let is = c.drop_place-home.ensures.home in let n = c.count_place.ensures in (
   part_dropped c.args.hand c.count_place.new.self c.code-told.new.seat.me c.drop_place-home.new.seat.me h.0 (n.same.0 ∙ ap (λ y. y.took.list) is, n.same.1 ∙ ap (λ y. y.next + 1) is) (n.out ∙ ap (λ y. y.out) is) (place_word c.args.table.now.rule.plan c.args.hand.label.place) c.pack-place.result.0
       (c.drop_place-home.ensures.view h.0.right_is c.args.hand.now.0 h.0.writer.one h.0.stage_is),
   h.0.ticket,
 )
 
 pub returns-clause-wrote : goal.returns-clause-wrote
-returns-clause-wrote g c = let h = part_noted c.args.hand c.args.seat.now.me c.code-told.new.seat.me (code_noted {state = g.O.Out.state} c.code-told.result c.args.sock.now.id.0 c.args.seat.now.me.0 c.code-told.new.seat.me.0 c.code-told.ensures.code).notes (code_noted {state = g.O.Out.state} c.code-told.result c.args.sock.now.id.0 c.args.seat.now.me.0 c.code-told.new.seat.me.0 c.code-told.ensures.code).noted (code_noted {state = g.O.Out.state} c.code-told.result c.args.sock.now.id.0 c.args.seat.now.me.0 c.code-told.new.seat.me.0 c.code-told.ensures.code).became c.code-told.ensures.slots c.requires.may.0 in
+returns-clause-wrote g c = let h = part_noted c.args.hand c.args.seat.now.me c.code-told.new.seat.me (code_noted {state = g.O.Out.state} c.code-told.result c.args.sock.now.id.0 c.args.seat.now.me.0 c.code-told.new.seat.me.0 c.code-told.ensures.code).notes (code_noted {state = g.O.Out.state} c.code-told.result c.args.sock.now.id.0 c.args.seat.now.me.0 c.code-told.new.seat.me.0 c.code-told.ensures.code).noted (code_noted {state = g.O.Out.state} c.code-told.result c.args.sock.now.id.0 c.args.seat.now.me.0 c.code-told.new.seat.me.0 c.code-told.ensures.code).became c.code-told.ensures.slots (λ t. c.requires.may.0.0.noted (code_faults c.args.hand.link c.code-told.result c.args.sock.now.id.0 c.args.seat.now.me.0 c.code-told.new.seat.me.0 c.code-told.ensures.code t)) c.requires.may.0 in
     let left = rights_but_store c.code-told.new.seat.me.0 c.drop_place-home.new.seat.me.0 c.go_past-doing.new.seat.me.0 (place_word c.args.table.now.rule.plan c.args.hand.label.place) c.pack-place.result.0 (dropped_right h.0.right_is c.args.hand.now.0 c.args.hand.home.took.list)
     (ap (λ m. m.0) (c.drop_place-home.ensures.view h.0.right_is c.args.hand.now.0 h.0.writer.one h.0.stage_is)) c.go_past-doing.ensures.others in
     let value : c.pack-place.result.0 ≡ place_value true c.args.hand.link c.args.hand.home.next = omega (arith, c.pack-place.ensures.word) in
@@ -74,5 +75,5 @@ pub returns-clause-dead : goal.returns-clause-dead
 returns-clause-dead g c = dead_dropped c.args.table.now.rule.plan c.args.sock.now.id.0 c.args.hand.label.place c.args.seat.now.me.0 c.go_past-doing.new.seat.me.0 (returns-clause-wrote g c) c.requires.may.1
 
 pub returns-clause-code : goal.returns-clause-code
-returns-clause-code g c = let h = part_noted c.args.hand c.args.seat.now.me c.code-told.new.seat.me (code_noted {state = g.O.Out.state} c.code-told.result c.args.sock.now.id.0 c.args.seat.now.me.0 c.code-told.new.seat.me.0 c.code-told.ensures.code).notes (code_noted {state = g.O.Out.state} c.code-told.result c.args.sock.now.id.0 c.args.seat.now.me.0 c.code-told.new.seat.me.0 c.code-told.ensures.code).noted (code_noted {state = g.O.Out.state} c.code-told.result c.args.sock.now.id.0 c.args.seat.now.me.0 c.code-told.new.seat.me.0 c.code-told.ensures.code).became c.code-told.ensures.slots c.requires.may.0 in is_code c.code_or-code.result c.code-told.result c.args.sock.now.id.0 c.args.seat.now.me.0 c.code-told.new.seat.me.0 c.go_past-doing.new.seat.me.0 c.code-told.ensures.code c.code_or-code.ensures.code
+returns-clause-code g c = let h = part_noted c.args.hand c.args.seat.now.me c.code-told.new.seat.me (code_noted {state = g.O.Out.state} c.code-told.result c.args.sock.now.id.0 c.args.seat.now.me.0 c.code-told.new.seat.me.0 c.code-told.ensures.code).notes (code_noted {state = g.O.Out.state} c.code-told.result c.args.sock.now.id.0 c.args.seat.now.me.0 c.code-told.new.seat.me.0 c.code-told.ensures.code).noted (code_noted {state = g.O.Out.state} c.code-told.result c.args.sock.now.id.0 c.args.seat.now.me.0 c.code-told.new.seat.me.0 c.code-told.ensures.code).became c.code-told.ensures.slots (λ t. c.requires.may.0.0.noted (code_faults c.args.hand.link c.code-told.result c.args.sock.now.id.0 c.args.seat.now.me.0 c.code-told.new.seat.me.0 c.code-told.ensures.code t)) c.requires.may.0 in is_code c.code_or-code.result c.code-told.result c.args.sock.now.id.0 c.args.seat.now.me.0 c.code-told.new.seat.me.0 c.go_past-doing.new.seat.me.0 c.code-told.ensures.code c.code_or-code.ensures.code
     (ap (λ v. v.marks) c.go_past-doing.ensures.others ∙ ap (λ m. m.0.marks) (c.drop_place-home.ensures.view h.0.right_is c.args.hand.now.0 h.0.writer.one h.0.stage_is))

@@ -36,7 +36,7 @@ pub returns-in-Walks-clause-went : goal.returns-in-Walks-clause-went
 returns-in-Walks-clause-went g c = let w = (subst (λ d. GoesBy c.args.table.now.rule.plan c.args.right.sock.id.0 c.args.right.last.0 d c.args.seat.now.me) c.in-Walks.is c.requires.may) in (refl, (c.fetch_link-link.ensures.has c.args.right.last.0 (Walks c.in-Walks.top.0 c.in-Walks.top.0 0) w.0, w.1, w.1))
 
 pub returns-in-Walks-clause-wrote : goal.returns-in-Walks-clause-wrote
-returns-in-Walks-clause-wrote g c = wrote_rights c.args.seat.now.me.0 c.fetch_link-link.new.seat.me.0 c.fetch_link-link.ensures.others
+returns-in-Walks-clause-wrote g c = c.fetch_link-link.ensures.wrote
 
 pub walk_back-requires-clause-may : goal.walk_back-requires-clause-may
 walk_back-requires-clause-may g c = (subst (λ d. GoesBy c.args.table.now.rule.plan c.args.right.sock.id.0 c.args.right.last.0 d c.args.seat.now.me) c.in-Back.is c.requires.may)

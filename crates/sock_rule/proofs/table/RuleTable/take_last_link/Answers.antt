@@ -1,9 +1,13 @@
 use Rattle.std.proofs.Common.{◌<◌, arith, refl, ◌∙◌, sym, ap, subst}
 use Rattle.sock_model.specs.Reads.{carries}
 use Rattle.sock_model.specs.Weights.{total}
-use Rattle.sock_rule.specs.Shows.{shows}
+use Rattle.sock_model.specs.ChainRows.{with_hand}
+use Rattle.sock_rule.specs.Hands.{hand_of}
+use Rattle.sock_rule.specs.Faults.{faults_of}
+use Rattle.sock_rule.specs.Shows.{shows, rose}
+use Rattle.sock_rule.proofs.Faults.{found_alike}
 use Rattle.sock_rule.proofs.Moving.{takes_last}
-use Rattle.sock_rule.proofs.Handing.{taken_slots, must_link, its_link, after_move}
+use Rattle.sock_rule.proofs.Handing.{taken_slots, must_link, its_link, its_known, after_move}
 use Rattle.sock_rule.proofs.Seating.{still_seat}
 use Rattle.sock_rule.proofs.table.RuleTable.take_last_link.Goals as goal
 
@@ -11,7 +15,7 @@ pub load-requires : goal.load-requires
 load-requires g c = let a = c.requires.seat in let r = c.requires.recycled in (
   a.0,
   omega (arith, c.args.self.now.sized, c.requires.slot),
-  takes_last shows c.args.self.now.table.shared.key _ _ _ (a.1 ∙ sym c.args.self.now.planned) a.2 c.args.at r.version c.args.link (subst (λ q. c.args.at < q.slots) (sym c.args.self.now.planned) c.requires.slot) r.recycled r.met (ap (total (carries c.args.link)) c.requires.empty),
+  takes_last shows rose c.args.self.now.table.shared.key _ _ _ (a.1 ∙ sym c.args.self.now.planned) a.2 c.args.at r.version c.args.link (subst (λ q. c.args.at < q.slots) (sym c.args.self.now.planned) c.requires.slot) r.recycled r.met (ap (total (carries c.args.link)) c.requires.empty),
 )
 
 pub exchange-value-requires : goal.exchange-value-requires
@@ -27,4 +31,7 @@ pub returns-clause-link : goal.returns-clause-link
 returns-clause-link g c = let t = c.load.ensures.2 c.args.at c.requires.recycled.version c.args.link refl c.requires.recycled.recycled c.requires.recycled.met in (its_link _ _ _ _ t _ _ c.exchange-value.ensures.2 c.in-Link.home c.in-Link.is, subst (λ q. c.args.link < q.links) c.requires.seat.1 t.inside)
 
 pub returns-clause-seat : goal.returns-clause-seat
-returns-clause-seat g c = let t = c.load.ensures.2 c.args.at c.requires.recycled.version c.args.link refl c.requires.recycled.recycled c.requires.recycled.met in still_seat _ _ c.args.seat.now c.exchange-value.new.seat _ c.requires.seat (c.exchange-value.ensures.0 ∙ c.load.ensures.0) (after_move _ _ _ _ t _ _ c.exchange-value.ensures.2 c.in-Link.home c.in-Link.is _ c.exchange-value.ensures.3) refl refl
+returns-clause-seat g c = let same = (found_alike (g.O.Out.state c.in-Link.home.out).faults 0 c.args.link (with_hand c.args.seat.now.me.0 (hand_of c.args.link c.in-Link.home.took.list c.in-Link.home.next))).others in let t = c.load.ensures.2 c.args.at c.requires.recycled.version c.args.link refl c.requires.recycled.recycled c.requires.recycled.met in still_seat _ _ c.args.seat.now c.exchange-value.new.seat _ c.requires.seat (c.exchange-value.ensures.0 ∙ c.load.ensures.0) (after_move _ _ _ _ t _ _ c.exchange-value.ensures.2 c.in-Link.home c.in-Link.is _ c.exchange-value.ensures.3) (ap (λ v. v.plan) same) (sym (ap (λ v. v.share) same))
+
+pub returns-clause-known : goal.returns-clause-known
+returns-clause-known g c = let t = c.load.ensures.2 c.args.at c.requires.recycled.version c.args.link refl c.requires.recycled.recycled c.requires.recycled.met in its_known _ _ _ _ t _ _ c.exchange-value.ensures.2 c.in-Link.home c.in-Link.is

@@ -1,0 +1,20 @@
+use Rattle.std.proofs.Common.{◌≡◌, ◌<◌, ◌++◌, length, map}
+use Rattle.std.specs.List.{AllByRecursion}
+use Rattle.std.specs.Vec.Iter.{into_iter_items}
+use Rattle.brpc_model.specs.Link.{LinkEnd}
+use Rattle.sock_io.specs.Link.{end_of}
+use Rattle.script_links.specs.Given.{AreNumbered}
+use Rattle.script_links.proofs.links.give_back.Given as goal
+
+abbrev pub invariant-loop-ends : goal.invariant-loop-ends
+invariant-loop-ends g l =
+    (goal.iterator-loop-ends g).can_next l.ends-iterator ×
+    (goal.iterator-loop-ends g).is_finite l.ends-iterator × record {
+      link : l.link ≡ length (g.L.Linker.back l.links);
+      numbered : AreNumbered l.link (map (λ e. end_of (g.L.O.Out.state e.out) (g.L.I.In.state e.inn)) (into_iter_items l.ends-iterator));
+      lower : AllByRecursion (λ (e : LinkEnd). e.link < l.link) (g.L.Linker.back l.links);
+      whole : g.L.Linker.back l.links ++ map (λ e. end_of (g.L.O.Out.state e.out) (g.L.I.In.state e.inn)) (into_iter_items l.ends-iterator) ≡ map (λ e. end_of (g.L.O.Out.state e.out) (g.L.I.In.state e.inn)) l.fn.ends.items;
+      asked : g.L.Linker.asked l.links ≡ g.L.Linker.asked l.initial.links;
+      faults : g.L.Linker.faults l.links ≡ g.L.Linker.faults l.initial.links;
+      prompt : g.L.Linker.prompt l.links ≡ g.L.Linker.prompt l.initial.links;
+    }

@@ -1,0 +1,27 @@
+use Rattle.std.proofs.Common.{arith, ◌∙◌}
+use Rattle.std.proofs.lemmas.Grind.{common_steps}
+use Rattle.script_links.proofs.Numbering.{asked_more, asked_whole, asked_front}
+use Rattle.script_links.proofs.links.open_links.Goals as goal
+
+pub returns-in_err-open_line-clause-front : goal.returns-in_err-open_line-clause-front
+returns-in_err-open_line-clause-front g c = asked_front c.args.lines.now c.loop-line.line-index _ (c.in_err-open_line.ensures.refused ∙ c.loop-line.invariant.asked)
+
+pub loop-line-preserved : goal.loop-line-preserved
+loop-line-preserved g c =
+    let i = c.loop-line.invariant in
+    let step = c.in_ok-open_line.ensures in record {
+      opened = step.opened;
+      asked = asked_more c.args.lines.now c.loop-line.line-index c.line-item.result _ _ c.loop-line-test.true c.line-item.is i.asked step.asked;
+      fresh = step.fresh i.fresh;
+      unfinished = step.unfinished i.unfinished;
+      unclosed = step.unclosed i.unclosed;
+      prompt_each = λ prompt. step.prompt_each (i.prompt ∙ prompt) (i.prompt_each prompt);
+      count = grind (arith, common_steps);
+      back = step.back ∙ i.back;
+      prompt = step.prompt ∙ i.prompt;
+      later = omega arith;
+      kept = grind (arith, common_steps);
+    }
+
+pub returns-clause-asked : goal.returns-clause-asked
+returns-clause-asked g c = asked_whole c.args.lines.now c.loop-line.line-index _ c.loop-line-test.false c.loop-line.invariant.asked

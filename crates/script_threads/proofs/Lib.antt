@@ -1,0 +1,11 @@
+pub mod Linked
+pub mod MayAsk
+pub mod Telling
+pub mod Outcomes
+pub mod Threading
+pub mod Ran
+pub mod Backs
+pub mod Whole
+pub mod Moving
+pub mod Plainly
+pub mod Giving

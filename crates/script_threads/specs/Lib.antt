@@ -1,0 +1,6 @@
+pub mod Asked
+pub mod Built
+pub mod Halves
+pub mod Ready
+pub mod Saying
+pub mod Told

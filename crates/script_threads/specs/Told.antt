@@ -1,0 +1,33 @@
+-- What is reported of a script without calls that was run on threads.
+use Rattle.std.specs.Prelude.{ℕ, ◌≡◌, List}
+use Rattle.brpc_model.specs.Items.{Item}
+use Rattle.brpc_model.specs.Link.{LinkEnd}
+use Rattle.brpc_model.specs.Report.{Report, report_text}
+use Rattle.brpc_model.specs.Run.{nothing_late}
+use Rattle.brpc_model.specs.Complete.{FitsWhole}
+use Rattle.sock_programs.specs.Cores.{Core}
+use Rattle.sock_programs.specs.Scripts.{Reports, all_tasks}
+use Rattle.sock_programs.specs.Tasks.{plan_of}
+use Rattle.sock_programs.specs.ToldCalls.{Fixed, Order, ToldCalls}
+use Rattle.report_fits.specs.Ends.{AreTold, AreEndsOf}
+use Rattle.table_told.specs.Left.{gave_of}
+
+-- The text reports a run of the script on threads, over the links that were given back. Each outcome has its cause, by what became of all others; and
+-- each link took the messages that it accepted in one order, whole and once, those of each client in its own order.
+pub record IsThreadText (script : List Item) (text : List ℕ) (ends : List LinkEnd) : Type 0 where
+  -- what the closed table left: its words, the messages that the links took, and what the clients told
+  pub core : Core
+  pub fixed : Fixed
+  -- what each link accepted, and how many messages it took whole
+  pub orders : ℕ → Order
+  pub tells : ToldCalls (plan_of script) (all_tasks script) core.outcomes fixed gave_of orders core
+  -- what is reported that the links took
+  pub took : List (List ℕ)
+  pub told : AreTold ends took
+  pub report : Report
+  pub reports : Reports script core took report
+  pub is_text : text ≡ report_text script report
+  -- the links are those of this run: they took what is at home, gave nothing, and show where they failed
+  pub ends_told : AreEndsOf script core fixed gave_of ends
+  -- the report fits the script and them, with nothing late; and where nothing went wrong, every send is placed
+  pub fits : FitsWhole script text ends nothing_late

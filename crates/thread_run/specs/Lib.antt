@@ -1,0 +1,4 @@
+pub mod Threads
+pub mod Working
+pub mod Hired
+pub mod Crew
