@@ -1,0 +1,24 @@
+ghost use Rattle.std.specs.Prelude.{◌≡◌, []};
+
+use brpc_eng::brpc;
+use sock_io::{Linker, MemSink, MemSource, OpenGate};
+use std::test::Fail;
+
+/// The status of `replay` over these links, and what it wrote.
+pub fn replayed<L: Linker>(
+    rt: &HostRuntime,
+    script: &str,
+    links: &mut L,
+) -> Result<(u8, Vec<u8>), Fail>
+    requires asked { L.asked links.old ≡ [] }
+    requires back { L.back links.old ≡ [] }
+{
+    let alloc = rt.alloc();
+    let mut source = MemSource::new(script.as_bytes().to_vec(alloc)?, Vec::new(alloc));
+    let mut out = MemSink::new(alloc, 1024, Vec::new(alloc))
+        .ok()
+        .ok_or("no memory")?;
+    let words = vec![in alloc; String::from_str(alloc, "replay")?]?;
+    let status = brpc(rt, alloc, &words, &mut source, &mut out, links, &OpenGate);
+    Ok((status, out.bytes().to_vec(alloc)?))
+}

@@ -1,0 +1,95 @@
+use crate::answer::replayed;
+use crate::noting::Noting;
+use loop_link::LoopLinker;
+use sock_io::SinkLinker;
+use std::test::Fail;
+
+/// Scripts whose links fail, and their reports.
+const ROWS: [(&str, &str); 10] = [
+    (
+        "open a again=2 fail=5 piece=1\nclient\nsend a 616263\n",
+        "0.1 open 0 0 0\n1.1 dropped 0 0\nlink 0 a accepted 1 placed 0 took 2 6162\norder 0 1.1.0\nend\n",
+    ),
+    (
+        "open a fail=1\nclient\nsend a 61\nsend a 62\n",
+        "0.1 open 0 0 0\n1.1 dropped 0 0\n1.2 gone 0000000200000000\nlink 0 a accepted 1 placed 0 took 0 -\norder 0 1.1.0\nend\n",
+    ),
+    (
+        "open a piece=3 fail=1\nclient\nsend a 61616161\nsend a 6262\nclient\nsend a 63636363\nsend a 6464\n",
+        "0.1 open 0 0 0\n1.1 dropped 0 0\n1.2 gone 0000000200000000\n2.1 dropped 0 1\n2.2 gone 0000000100000003\nlink 0 a accepted 2 placed 0 took 0 -\norder 0 1.1.0 2.1.0\nend\n",
+    ),
+    (
+        "open a piece=3 fail=2\nclient\nsend a 61616161\nsend a 6262\nclient\nsend a 63636363\nsend a 6464\n",
+        "0.1 open 0 0 0\n1.1 dropped 0 0\n1.2 gone 0000000200000000\n2.1 dropped 0 1\n2.2 dropped 0 2\nlink 0 a accepted 3 placed 0 took 3 616161\norder 0 1.1.0 2.1.0 2.2.0\nend\n",
+    ),
+    (
+        "open a piece=3 fail=3\nclient\nsend a 61616161\nsend a 6262\nclient\nsend a 63636363\nsend a 6464\n",
+        "0.1 open 0 0 0\n1.1 placed 0 0\n1.2 gone 0000000200000000\n2.1 dropped 0 1\n2.2 dropped 0 2\nlink 0 a accepted 3 placed 1 took 4 61616161\norder 0 1.1.0 2.1.0 2.2.0\nend\n",
+    ),
+    (
+        "open a piece=3 fail=4\nclient\nsend a 61616161\nsend a 6262\nclient\nsend a 63636363\nsend a 6464\n",
+        "0.1 open 0 0 0\n1.1 placed 0 0\n1.2 gone 0000000200000000\n2.1 dropped 0 1\n2.2 dropped 0 2\nlink 0 a accepted 3 placed 1 took 7 61616161636363\norder 0 1.1.0 2.1.0 2.2.0\nend\n",
+    ),
+    (
+        "open a piece=3 fail=5\nclient\nsend a 61616161\nsend a 6262\nclient\nsend a 63636363\nsend a 6464\n",
+        "0.1 open 0 0 0\n1.1 placed 0 0\n1.2 gone 0000000200000000\n2.1 placed 0 1\n2.2 dropped 0 2\nlink 0 a accepted 3 placed 2 took 8 6161616163636363\norder 0 1.1.0 2.1.0 2.2.0\nend\n",
+    ),
+    (
+        "open a piece=3 fail=6\nclient\nsend a 61616161\nsend a 6262\nclient\nsend a 63636363\nsend a 6464\n",
+        "0.1 open 0 0 0\n1.1 placed 0 0\n1.2 dropped 0 3\n2.1 placed 0 1\n2.2 placed 0 2\nlink 0 a accepted 4 placed 3 took 10 61616161636363636464\norder 0 1.1.0 2.1.0 2.2.0 1.2.0\nend\n",
+    ),
+    (
+        "open a piece=3 fail=7\nclient\nsend a 61616161\nsend a 6262\nclient\nsend a 63636363\nsend a 6464\n",
+        "0.1 open 0 0 0\n1.1 placed 0 0\n1.2 placed 0 3\n2.1 placed 0 1\n2.2 placed 0 2\nlink 0 a accepted 4 placed 4 took 12 616161616363636364646262\norder 0 1.1.0 2.1.0 2.2.0 1.2.0\nend\n",
+    ),
+    (
+        "open a piece=3 fail=8\nclient\nsend a 61616161\nsend a 6262\nclient\nsend a 63636363\nsend a 6464\n",
+        "0.1 open 0 0 0\n1.1 placed 0 0\n1.2 placed 0 3\n2.1 placed 0 1\n2.2 placed 0 2\nlink 0 a accepted 4 placed 4 took 12 616161616363636364646262\norder 0 1.1.0 2.1.0 2.2.0 1.2.0\nend\n",
+    ),
+];
+
+/// The report of a script over links in memory.
+fn report(rt: &HostRuntime, script: &str) -> Result<(u8, Vec<u8>), Fail> {
+    let mut links = LoopLinker::new(rt.alloc(), Vec::new(rt.alloc()));
+    replayed(rt, script, &mut links)
+}
+
+#[test]
+fn puts_fail_in_turn(rt: HostRuntime) -> Result<(), Fail> {
+    for (script, text) in ROWS {
+        let (status, written) = report(&rt, script)?;
+        assert_eq!(rt; status, 0, "at {script}");
+        assert_eq!(rt; written.as_slice(), text.as_bytes(), "at {script}");
+    }
+    Ok(())
+}
+
+/// A script that opens three links and puts a byte on the first.
+const THREE: &str = "open a\nopen b\nopen c\nclient\nsend a 61\n";
+
+/// Its status where the `open` of this number fails (0: none), and which links are given back then, with how many bytes each
+/// took.
+fn given_back(rt: &HostRuntime, fail: u32) -> Result<(u8, Vec<(u16, usize)>), Fail> {
+    let alloc = rt.alloc();
+    let inner = SinkLinker::new(alloc, vec![in alloc; fail]?, 0);
+    let mut links = Noting::new(alloc, inner);
+    let (status, _) = replayed(rt, THREE, &mut links)?;
+    Ok((status, links.noted().to_vec(alloc)?))
+}
+
+#[test]
+fn opened_links_are_given_back(rt: HostRuntime) -> Result<(), Fail> {
+    let (status, noted) = given_back(&rt, 0)?;
+    assert_eq!(rt; status, 0);
+    assert_eq!(rt; noted.as_slice(), [(0, 1), (1, 0), (2, 0)].as_slice());
+    let (status, noted) = given_back(&rt, 1)?;
+    assert_eq!(rt; status, 8);
+    assert_eq!(rt; noted.len(), 0);
+    let (status, noted) = given_back(&rt, 2)?;
+    assert_eq!(rt; status, 8);
+    assert_eq!(rt; noted.as_slice(), [(0, 0)].as_slice());
+    let (status, noted) = given_back(&rt, 3)?;
+    assert_eq!(rt; status, 8);
+    assert_eq!(rt; noted.as_slice(), [(0, 0), (1, 0)].as_slice());
+    Ok(())
+}

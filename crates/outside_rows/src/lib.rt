@@ -1,0 +1,12 @@
+//! Rows of the top call over an outside that isn't kind: links whose other ends give bytes that nobody would send, and
+//! outside calls that fail in turn. There is nothing here but tests.
+#![tactic(auto)]
+
+#[cfg(test)]
+mod answer;
+#[cfg(test)]
+mod failing;
+#[cfg(test)]
+mod giving;
+#[cfg(test)]
+mod noting;

@@ -1,0 +1,81 @@
+ghost use Rattle.std.specs.Prelude.{◌≡◌, ◌≢◌, ◌<◌, ◌++◌, ◌∷◌, [], length};
+ghost use Rattle.std.specs.List.{AllByRecursion};
+ghost use Rattle.brpc_model.specs.Link.{LinkEnd};
+ghost use Rattle.sock_io.specs.Link.{end_of};
+
+use sock_io::{Ends, LinkSpec, Linker, NoMemory, OpenFault, Out};
+use std::alloc::Global;
+
+/// A linker that notes each link that is given back, and how many bytes it took.
+#[derive(Drop)]
+pub struct Noting<L: Linker + Drop> {
+    inner: L,
+    noted: Vec<(u16, usize)>,
+}
+
+impl<L: Linker + Drop> Noting<L> {
+    pub fn new(alloc: Global, inner: L) -> Self
+        ensures { result.inner ≡ inner }
+    {
+        Noting {
+            inner,
+            noted: Vec::new(alloc),
+        }
+    }
+
+    pub fn noted(&self) -> &[(u16, usize)] {
+        &self.noted
+    }
+}
+
+impl<L: Linker + Drop> Linker for Noting<L> {
+    type O = L::O;
+
+    type I = L::I;
+
+    type P = L::P;
+
+    ghost asked = { λ l. L.asked l.inner };
+
+    ghost accepted = { λ l. L.accepted l.inner };
+
+    ghost back = { λ l. L.back l.inner };
+
+    ghost done = { λ l. L.done l.inner };
+
+    ghost faults = { λ l. L.faults l.inner };
+
+    ghost prompt = { λ l. L.prompt l.inner };
+
+    fn open(&mut self, spec: &LinkSpec) -> Result<Ends<L::O, L::I, L::P>, OpenFault> {
+        self.inner.open(spec)
+    }
+
+    fn settle(&mut self, ends: &mut Ends<L::O, L::I, L::P>) -> Result<(), NoMemory> {
+        self.inner.settle(ends)
+    }
+
+    fn accept(&mut self, port: u16) -> Result<(L::O, L::I), OpenFault> {
+        self.inner.accept(port)
+    }
+
+    fn done(&mut self, out: L::O, inn: L::I) {
+        self.inner.done(out, inn);
+    }
+
+    fn back(&mut self, link: u16, ends: Ends<L::O, L::I, L::P>)
+        requires opened { link < length (L.asked self.old.inner) }
+        requires own { (L.O.state ends.out).link ≡ link }
+        requires once { AllByRecursion (λ (e : LinkEnd). e.link ≢ link) (L.back self.old.inner) }
+        requires fewer { length (L.back self.old.inner) < length (L.asked self.old.inner) }
+        ensures back { L.back self.new.inner ≡ L.back self.old.inner ++ end_of (L.O.state ends.out) (L.I.state ends.inn) ∷ [] }
+        ensures done { L.done self.new.inner ≡ L.done self.old.inner }
+        ensures asked { L.asked self.new.inner ≡ L.asked self.old.inner }
+        ensures accepted { L.accepted self.new.inner ≡ L.accepted self.old.inner }
+        ensures stays_prompt { L.prompt self.new.inner ≡ L.prompt self.old.inner }
+        ensures faults { L.faults self.new.inner ≡ L.faults self.old.inner }
+    {
+        let _ = self.noted.push((link, ends.out.taken().len()));
+        self.inner.back(link, ends);
+    }
+}
