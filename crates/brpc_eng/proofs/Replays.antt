@@ -1,5 +1,5 @@
 -- How `replay` ends, by what its calls say.
-use Rattle.std.proofs.Common.{◌≡◌, ◌≢◌, ℕ, ◌≤◌, inl, false, List, length, Option, Some, None, Vec, Result, Ok, Err, refl, ap, sym, ◌∙◌, subst, arith, option_map}
+use Rattle.std.proofs.Common.{◌≡◌, ◌≢◌, ℕ, ◌≤◌, inl, false, List, length, Option, Some, Vec, Result, Ok, Err, refl, ap, sym, ◌∙◌, subst, arith, option_map}
 use Rattle.std.specs.declared.alloc.Global.{Global}
 use Rattle.brpc_model.specs.Items.{Item}
 use Rattle.brpc_model.specs.Script.{script_of}
@@ -54,18 +54,17 @@ replays_faulty ran input out links status line kind bytes seen read whole s e ba
 
 -- ## The words
 
-not_built : (command : Command) → (command ≡ Replay → ⊥) → ((seed : ℕ) → command ≡ Sim seed → ⊥) → (command ≡ Run None → ⊥) → ((draw : Draw) → command ≡ Gen draw → ⊥) → ((draw : Draw) → command ≡ Load draw → ⊥) → (command ≡ Frames → ⊥) → answer.is_built_command (meaning command) ≡ false
+not_built : (command : Command) → (command ≡ Replay → ⊥) → ((seed : ℕ) → command ≡ Sim seed → ⊥) → ((port : Option ℕ) → command ≡ Run port → ⊥) → ((draw : Draw) → command ≡ Gen draw → ⊥) → ((draw : Draw) → command ≡ Load draw → ⊥) → (command ≡ Frames → ⊥) → answer.is_built_command (meaning command) ≡ false
 not_built Replay h s r k l f = absurd (h refl)
 not_built (Sim seed) h s r k l f = absurd (s seed refl)
-not_built (Run None) h s r k l f = absurd (r refl)
-not_built (Run (Some port)) h s r k l f = refl
+not_built (Run port) h s r k l f = absurd (r port refl)
 not_built (Gen draw) h s r k l f = absurd (k draw refl)
 not_built (Load draw) h s r k l f = absurd (l draw refl)
 not_built Frames h s r k l f = absurd (f refl)
 not_built (Serve port connections) h s r k l f = refl
 
 -- a command that isn't built
-pub other_command : (words : List (List ℕ)) (input : answer.Input) (out : answer.Output) (links : answer.Links) (command : Command) → option_map meaning (Some command) ≡ model.command_of words → (command ≡ Replay → ⊥) → ((seed : ℕ) → command ≡ Sim seed → ⊥) → (command ≡ Run None → ⊥) → ((draw : Draw) → command ≡ Gen draw → ⊥) → ((draw : Draw) → command ≡ Load draw → ⊥) → (command ≡ Frames → ⊥) →
+pub other_command : (words : List (List ℕ)) (input : answer.Input) (out : answer.Output) (links : answer.Links) (command : Command) → option_map meaning (Some command) ≡ model.command_of words → (command ≡ Replay → ⊥) → ((seed : ℕ) → command ≡ Sim seed → ⊥) → ((port : Option ℕ) → command ≡ Run port → ⊥) → ((draw : Draw) → command ≡ Gen draw → ⊥) → ((draw : Draw) → command ≡ Load draw → ⊥) → (command ≡ Frames → ⊥) →
     input.left ≡ input.given → answer.OpenedNone links → answer.Wrote out answer.not_built_text → answer.Answers words input out links 10
 other_command words input out links command e other simulated threaded drawn loads framed same back wrote =
     answer.CommandNotBuilt refl (meaning command) (sym e) (not_built command other simulated threaded drawn loads framed) same back wrote
@@ -91,11 +90,6 @@ frames_command words input out links status command e is back printed = answer.P
 pub simulated : (words : List (List ℕ)) (input : answer.Input) (out : answer.Output) (links : answer.Links) (status : ℕ) (command : Command) (seed drawn : ℕ) → option_map meaning (Some command) ≡ model.command_of words → command ≡ Sim seed →
     drawn ≡ seed → answer.ReplayedInput (answer.by_turns (λ script. drawn_turns script drawn)) input out links status → answer.Answers words input out links status
 simulated words input out links status command seed drawn e is same replayed = answer.Simulates drawn (sym e ∙ ap (λ c. option_map meaning (Some c)) (is ∙ ap Sim (sym same))) replayed
-
--- a run on threads
-pub threads_command : (words : List (List ℕ)) (input : answer.Input) (out : answer.Output) (links : answer.Links) (status : ℕ) (command : Command) (port : Option ℕ) → option_map meaning (Some command) ≡ model.command_of words → command ≡ Run port →
-    port ≡ None → answer.ReplayedInput answer.RanOnThreads input out links status → answer.Answers words input out links status
-threads_command words input out links status command port e is none_ replayed = answer.RunsOnThreads (sym e ∙ ap (λ c. option_map meaning (Some c)) (is ∙ ap Run none_)) replayed
 
 -- ## The frames
 

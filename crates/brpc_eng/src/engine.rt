@@ -9,7 +9,7 @@ use crate::generated::print_generated;
 use crate::load::load;
 use crate::replay::{NOT_BUILT, replay, write_answer};
 use crate::status::Status;
-use crate::threads::run_threads;
+use crate::threads::run_command;
 use script_run::Schedule;
 use sock_io::{Gate, Linker, Sink, Source};
 use std::alloc::Global;
@@ -96,7 +96,7 @@ fn answer<R: Threads + Wait + Sync, S: Source, K: Sink, L: Linker, G: Gate + Syn
             Command::Sim(seed) => {
                 replay(alloc, source, out, links, Schedule::Drawn(u64::from(seed)))
             }
-            Command::Run(None) => run_threads(rt, alloc, source, out, links, gate),
+            Command::Run(port) => run_command(rt, alloc, port, source, out, links, gate),
             Command::Gen(draw) => print_generated(alloc, &draw, out),
             Command::Load(draw) => load(alloc, &draw, out, links),
             Command::Frames => frames(alloc, source, out),

@@ -1,10 +1,11 @@
-ghost use Rattle.std.specs.Prelude.{◌≡◌, ◌≢◌, ◌≤◌, ℕ, true, [], Ok, List, length};
+ghost use Rattle.std.specs.Prelude.{◌≡◌, ◌≢◌, ◌≤◌, ℕ, true, [], Ok, Some, List};
 ghost use Rattle.std.specs.List.{list_all};
+ghost use Rattle.brpc_model.specs.Commands.{Run, command_of};
 ghost use Rattle.brpc_model.specs.Script.{script_of};
 ghost use Rattle.script_links.specs.Given.{has_piece};
 ghost use Rattle.script_run.specs.Played.{TellClosed, TellOffers};
 ghost use Rattle.brpc_eng.specs.Status.{number_of};
-ghost use Rattle.brpc_eng.specs.Answers.{OpenedBy, RanOnThreads, ReplayedInput, CountsStand};
+ghost use Rattle.brpc_eng.specs.Answers.{Answers, OpenedBy, RanOnThreads, ReplayedInput, CountsStand};
 
 use crate::replay::{NOT_BUILT, write_answer, write_fault};
 use crate::run::write_report;
@@ -18,8 +19,39 @@ use std::alloc::Global;
 use std::sync::Wait;
 use std::thread::Threads;
 
+/// `run` over links in memory; over TCP it isn't built.
+pub fn run_command<R: Threads + Wait + Sync, S: Source, K: Sink, L: Linker, G: Gate + Sync>(
+    rt: &R,
+    alloc: Global,
+    port: Option<u32>,
+    source: &mut S,
+    out: &mut K,
+    links: &mut L,
+    gate: &G,
+) -> Status
+    requires asked { L.asked links.old ≡ [] }
+    requires back { L.back links.old ≡ [] }
+    ensures answers { (words : List (List ℕ)) → command_of words ≡ Some (Run port) → Answers words
+        (record { given = S.left source.old; left = S.left source.new; faults = record { before = S.faults source.old; now = S.faults source.new } })
+        (record { before = K.contents out.old; now = K.contents out.new; faults = record { before = K.faults out.old; now = K.faults out.new } })
+        (record { prompt = L.prompt links.old; tells = TellClosed L.I.state; offering = TellOffers L.O.state L.I.state; asked = L.asked links.new; ends = L.back links.new; faults = record { before = L.faults links.old; now = L.faults links.new } })
+        (number_of result) }
+    ensures counts { CountsStand
+        (record { before = S.faults source.old; now = S.faults source.new })
+        (record { before = L.faults links.old; now = L.faults links.new })
+        (number_of result) }
+{
+    match port {
+        None => run_threads(rt, alloc, source, out, links, gate),
+        Some(_) => {
+            write_answer(out, NOT_BUILT);
+            Status::NotBuilt
+        }
+    }
+}
+
 /// Reads a script and runs it on threads, whatever its schedule.
-pub fn run_threads<R: Threads + Wait + Sync, S: Source, K: Sink, L: Linker, G: Gate + Sync>(
+fn run_threads<R: Threads + Wait + Sync, S: Source, K: Sink, L: Linker, G: Gate + Sync>(
     rt: &R,
     alloc: Global,
     source: &mut S,

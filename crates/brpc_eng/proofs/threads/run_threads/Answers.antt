@@ -8,7 +8,7 @@ pub threads_and_report-requires-clause-script : goal.threads_and_report-requires
 threads_and_report-requires-clause-script g c κs within = (c.deref.result.now, c.in-Ok-read_script.ensures.script)
 
 pub threads_and_report-requires-clause-pieces : goal.threads_and_report-requires-clause-pieces
-threads_and_report-requires-clause-pieces g c κs within = pieces_too _ (has_pieces c.deref.result.now _ c.in-Ok-read_script.ensures.script)
+threads_and_report-requires-clause-pieces g c κs within = pieces_too c.in-Ok-read_script.script (has_pieces c.deref.result.now _ c.in-Ok-read_script.ensures.script)
 
 pub returns-in-Ok-read_script-clause-replayed : goal.returns-in-Ok-read_script-clause-replayed
 returns-in-Ok-read_script-clause-replayed g c =
