@@ -9,10 +9,7 @@ use std::thread::Threads;
 use std::{env, io};
 
 /// The program over its standard streams and links in memory: nothing but `run_with` over them.
-pub fn run_program<
-    R: Threads + Wait + Sync + Alloc<A = Global> + Env + Input + Print,
-    E: Print,
->(
+pub fn run_program<R: Threads + Wait + Sync + Alloc<A = Global> + Env + Input + Print, E: Print>(
     rt: &R,
     errors: &E,
 ) -> ExitCode {

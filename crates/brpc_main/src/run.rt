@@ -23,14 +23,7 @@ const NO_MEMORY: u8 = 7;
 /// with the number that it answers. Arguments that can't be had as text are no words. Where memory runs out for the list of
 /// words it ends with 7, and nothing is read, written or opened. Why it ends with a number that the output doesn't explain
 /// is written to `errors`, in one line.
-pub fn run_with<
-    R: Threads + Wait + Sync,
-    S: Source,
-    K: Sink,
-    L: Linker,
-    G: Gate + Sync,
-    E: Sink,
->(
+pub fn run_with<R: Threads + Wait + Sync, S: Source, K: Sink, L: Linker, G: Gate + Sync, E: Sink>(
     rt: &R,
     alloc: Global,
     args: io::Result<Args>,

@@ -52,7 +52,10 @@ const ROWS: [(&str, &str); 10] = [
 ];
 
 /// The report of a script over links in memory.
-fn report<R: Threads + Wait + Sync + Alloc<A = Global>>(rt: &R, script: &str) -> Result<(u8, Vec<u8>), Fail> {
+fn report<R: Threads + Wait + Sync + Alloc<A = Global>>(
+    rt: &R,
+    script: &str,
+) -> Result<(u8, Vec<u8>), Fail> {
     let mut links = LoopLinker::new(rt.alloc(), Vec::new(rt.alloc()));
     replayed(rt, script, &mut links)
 }
@@ -72,7 +75,10 @@ const THREE: &str = "open a\nopen b\nopen c\nclient\nsend a 61\n";
 
 /// Its status where the `open` of this number fails (0: none), and which links are given back then, with how many bytes each
 /// took.
-fn given_back<R: Threads + Wait + Sync + Alloc<A = Global>>(rt: &R, fail: u32) -> Result<(u8, Vec<(u16, usize)>), Fail> {
+fn given_back<R: Threads + Wait + Sync + Alloc<A = Global>>(
+    rt: &R,
+    fail: u32,
+) -> Result<(u8, Vec<(u16, usize)>), Fail> {
     let alloc = rt.alloc();
     let inner = SinkLinker::new(alloc, vec![in alloc; fail]?, 0);
     let mut links = Noting::new(alloc, inner);

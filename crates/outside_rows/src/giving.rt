@@ -48,7 +48,10 @@ const ROWS: [(&str, &str); 11] = [
 ];
 
 /// The report of the call over a link that gives these bytes.
-fn given<R: Threads + Wait + Sync + Alloc<A = Global>>(rt: &R, digits: &str) -> Result<(u8, Vec<u8>), Fail> {
+fn given<R: Threads + Wait + Sync + Alloc<A = Global>>(
+    rt: &R,
+    digits: &str,
+) -> Result<(u8, Vec<u8>), Fail> {
     let bytes = hex::decode(rt.alloc(), digits)?;
     let mut links = GiveLinker::new(rt.alloc(), 30, bytes);
     replayed(rt, CALL, &mut links)
