@@ -21,7 +21,7 @@ pub data Ends (input : Input) (bytes : List ℕ) (status : ℕ) : Type 0 where
   RanOut : status ≡ 7 → Ends input bytes status
 
 -- where a script was read, another status than that of a run doesn't come
-abbrev AreRuns : ScriptEnd → Type 0
+abbrev pub AreRuns : ScriptEnd → Type 1
 AreRuns ran = (script : List Item) (out : Output) (links : Links) (status : ℕ) → ran script out links status → IsRun status
 
 is_written : (out : Output) (text : List ℕ) (status : ℕ) → TextWritten out text status → IsRun status
@@ -140,7 +140,7 @@ ten_ran : (script : List Item) (out : Output) (links : Links) (status : ℕ) →
 ten_ran script out links status (ThreadsReported built text is wrote) unbuilt = let f : true ≡ false = sym built ∙ unbuilt in absurd (cc)
 ten_ran script out links status (ThreadsRanOut built s wrote) unbuilt = let f : true ≡ false = sym built ∙ unbuilt in absurd (cc)
 ten_ran script out links status (ThreadsNotOpened built s rose back wrote) unbuilt = let f : true ≡ false = sym built ∙ unbuilt in absurd (cc)
-ten_ran script out links status (ScriptNotBuilt no s none_ wrote) unbuilt = s
+ten_ran script out links status (ScriptNotBuilt same s none_ wrote) unbuilt = s
 
 -- the whole input was read, and is a script that isn't built
 abbrev pub IsUnbuilt : Input → List ℕ → Type 0
