@@ -1,8 +1,8 @@
 -- What the answers say together: 2 comes exactly where the words ask for no command, 10 exactly where they ask for one that isn't
--- built; with 0 no write failed; and where nothing stands in the way of a report, only it and want of memory come.
+-- built, or for `run` of a script that isn't; with 0 no write failed; and where nothing stands in the way of a report, only it and want of memory come.
 use Rattle.std.proofs.Common.{◌≡◌, ◌≢◌, ℕ, ◌<◌, ◌≤◌, ◌⊎◌, inl, inr, true, false, List, [], ◌∷◌, ◌++◌, map, refl, length, Option, Some, None, Result, Ok, Err, ap, sym, ◌∙◌, subst, arith, length-append, append-nil}
 use Rattle.std.specs.Io.KnownBytes.{Consumes}
-use Rattle.brpc_model.specs.Commands.{Command, Replay, Sim, Gen, Load, Frames, command_of}
+use Rattle.brpc_model.specs.Commands.{Command, Replay, Sim, Run, Gen, Load, Frames, command_of}
 use Rattle.brpc_model.specs.Items.{Item}
 use Rattle.brpc_model.specs.Operations.{Turn}
 use Rattle.brpc_model.specs.Script.{script_of}
@@ -17,9 +17,10 @@ use Rattle.sock_io.specs.Shape.{ShapedState, shaped_out}
 use Rattle.sock_io.specs.Memory.{MemInState, mem_in}
 use Rattle.loop_link.specs.Serving.{LoopInState, loop_in}
 use Rattle.script_run.specs.Played.{TellClosed, TellOffers}
-use Rattle.brpc_eng.proofs.Statuses.{each_script_is_run}
+use Rattle.script_threads.specs.Built.{is_built}
+use Rattle.brpc_eng.proofs.Statuses.{each_script_is_run, IsUnbuilt, unbuilt_script_exactly}
 use Rattle.brpc_eng.specs.Streams.{script_limit, IsAtEnd}
-use Rattle.brpc_eng.specs.Answers.{HaveRisen, StandStill, AllTell, edges_of, Input, Output, Links, TextWritten, Ran, Reported, MemoryRanOut, OpenFailed, FaultWritten, Replayed, RanScript, FaultyScript, SourceFailed, TooLong, NoMemory, Answers, NoCommand, CommandNotBuilt, Generated, Generates, LoadRan, LoadSummed, LoadRanOut, LoadNotOpened, Loads, PrintsInput, Replays, Simulates, is_built_command, frames_status, FramesPrinted}
+use Rattle.brpc_eng.specs.Answers.{HaveRisen, StandStill, AllTell, edges_of, Input, Output, Links, TextWritten, Ran, Reported, MemoryRanOut, OpenFailed, RanOnThreads, ThreadsReported, ThreadsRanOut, ThreadsNotOpened, ScriptNotBuilt, ScriptEnd, FaultWritten, Replayed, RanScript, FaultyScript, SourceFailed, TooLong, NoMemory, Answers, NoCommand, CommandNotBuilt, Generated, Generates, LoadRan, LoadSummed, LoadRanOut, LoadNotOpened, Loads, PrintsInput, Replays, Simulates, RunsOnThreads, is_built_command, frames_status, FramesPrinted}
 
 -- ## Status 2
 
@@ -32,16 +33,22 @@ not_two_ran turns script out links status (Reported text fits of_run wrote) = no
 not_two_ran turns script out links status (MemoryRanOut s wrote) = λ e. absurd (omega (arith, e, s))
 not_two_ran turns script out links status (OpenFailed s rose back wrote) = λ e. absurd (omega (arith, e, s))
 
+not_two_threads : (script : List Item) (out : Output) (links : Links) (status : ℕ) → RanOnThreads script out links status → status ≢ 2
+not_two_threads script out links status (ThreadsReported built text is wrote) = not_two_written out text status wrote
+not_two_threads script out links status (ThreadsRanOut built s wrote) = λ e. absurd (omega (arith, e, s))
+not_two_threads script out links status (ThreadsNotOpened built s rose back wrote) = λ e. absurd (omega (arith, e, s))
+not_two_threads script out links status (ScriptNotBuilt unbuilt s none_ wrote) = λ e. absurd (omega (arith, e, s))
+
 not_two_fault : (out : Output) (line kind status : ℕ) → FaultWritten out line kind status → status ≢ 2
 not_two_fault out line kind status (inl w) = λ e. absurd (omega (arith, e, w.0))
 not_two_fault out line kind status (inr w) = λ e. absurd (omega (arith, e, w.0))
 
-not_two : (turns : List Item → List Turn) (input : Input) (out : Output) (links : Links) (bytes : List ℕ) (status : ℕ) → Replayed turns input out links bytes status → status ≢ 2
-not_two turns input out links bytes status (RanScript end script is opened ran) = not_two_ran (turns script) script out links status ran
-not_two turns input out links bytes status (FaultyScript end line kind is back wrote) = not_two_fault out line kind status wrote
-not_two turns input out links bytes status (SourceFailed s rose back wrote) = λ e. absurd (omega (arith, e, s))
-not_two turns input out links bytes status (TooLong s long back wrote) = λ e. absurd (omega (arith, e, s))
-not_two turns input out links bytes status (NoMemory s back wrote) = λ e. absurd (omega (arith, e, s))
+not_two : (ran : ScriptEnd) (input : Input) (out : Output) (links : Links) (bytes : List ℕ) (status : ℕ) → ((script : List Item) → ran script out links status → status ≢ 2) → Replayed ran input out links bytes status → status ≢ 2
+not_two ran input out links bytes status runs (RanScript end script is opened ended) = runs script ended
+not_two ran input out links bytes status runs (FaultyScript end line kind is back wrote) = not_two_fault out line kind status wrote
+not_two ran input out links bytes status runs (SourceFailed s rose back wrote) = λ e. absurd (omega (arith, e, s))
+not_two ran input out links bytes status runs (TooLong s long back wrote) = λ e. absurd (omega (arith, e, s))
+not_two ran input out links bytes status runs (NoMemory s back wrote) = λ e. absurd (omega (arith, e, s))
 
 not_two_made : (seed clients count : ℕ) (out : Output) (status : ℕ) → Generated seed clients count out status → status ≢ 2
 not_two_made seed clients count out status (inl w) = not_two_written out _ status w
@@ -68,8 +75,10 @@ usage_exactly words input out links status (CommandNotBuilt s command is other s
 usage_exactly words input out links status (Generates seed clients count is same back made) = (λ e. absurd (not_two_made seed clients count out status made e), λ e. absurd (cc))
 usage_exactly words input out links status (Loads seed clients count is same made) = (λ e. absurd (not_two_loaded seed clients count out links status made.ran e), λ e. absurd (cc))
 usage_exactly words input out links status (PrintsInput is back printed) = (λ e. absurd (not_two_ended printed.ended status printed.numbered e), λ e. absurd (cc))
-usage_exactly words input out links status (Replays is replayed) = (λ e. absurd (not_two _ input out links replayed.bytes status replayed.replayed e), λ e. absurd (cc))
-usage_exactly words input out links status (Simulates seed is replayed) = (λ e. absurd (not_two _ input out links replayed.bytes status replayed.replayed e), λ e. absurd (cc))
+usage_exactly words input out links status (Replays is replayed) = (λ e. absurd (not_two _ input out links replayed.bytes status (λ script ran. not_two_ran _ script out links status ran) replayed.replayed e), λ e. absurd (cc))
+usage_exactly words input out links status (Simulates seed is replayed) = (λ e. absurd (not_two _ input out links replayed.bytes status (λ script ran. not_two_ran _ script out links status ran) replayed.replayed e), λ e. absurd (cc))
+usage_exactly words input out links status (RunsOnThreads is replayed) =
+    (λ e. absurd (not_two _ input out links replayed.bytes status (λ script ran. not_two_threads script out links status ran) replayed.replayed e), λ e. absurd (cc))
 
 -- ## A report, or want of memory
 
@@ -97,50 +106,70 @@ calm_ran turns script input out links status calm (Reported text fits of_run wro
 calm_ran turns script input out links status calm (MemoryRanOut s wrote) = inr s
 calm_ran turns script input out links status calm (OpenFailed s rose back wrote) = absurd (calm.linker rose)
 
-calm_replayed : (turns : List Item → List Turn) (script : List Item) (given : List ℕ) (input : Input) (out : Output) (links : Links) (bytes : List ℕ) (status : ℕ) → IsCalm input out links → Consumes (Some given) input.left bytes →
-    length given ≤ script_limit → script_of given ≡ Ok script → Replayed turns input out links bytes status → (status ≡ 0) ⊎ (status ≡ 7)
-calm_replayed turns script given input out links bytes status calm came few is (RanScript end read is' opened ran) = calm_ran (turns read) read input out links status calm ran
-calm_replayed turns script given input out links bytes status calm came few is (FaultyScript end line kind is' back wrote) =
+calm_threads : (script : List Item) (input : Input) (out : Output) (links : Links) (status : ℕ) → IsCalm input out links → is_built script ≡ true → RanOnThreads script out links status → (status ≡ 0) ⊎ (status ≡ 7)
+calm_threads script input out links status calm built (ThreadsReported same text is wrote) = inl (calm_written out text status calm.sink wrote)
+calm_threads script input out links status calm built (ThreadsRanOut same s wrote) = inr s
+calm_threads script input out links status calm built (ThreadsNotOpened same s rose back wrote) = absurd (calm.linker rose)
+calm_threads script input out links status calm built (ScriptNotBuilt unbuilt s none_ wrote) = let f : true ≡ false = sym built ∙ unbuilt in absurd (cc)
+
+calm_replayed : (ran : ScriptEnd) (script : List Item) (given : List ℕ) (input : Input) (out : Output) (links : Links) (bytes : List ℕ) (status : ℕ) → IsCalm input out links → Consumes (Some given) input.left bytes →
+    length given ≤ script_limit → script_of given ≡ Ok script → ((read : List Item) → read ≡ script → ran read out links status → (status ≡ 0) ⊎ (status ≡ 7)) → Replayed ran input out links bytes status → (status ≡ 0) ⊎ (status ≡ 7)
+calm_replayed ran script given input out links bytes status calm came few is runs (RanScript end read is' opened ended) =
+    let same : script_of bytes ≡ Ok script = ap script_of (came_all given bytes input.left came end) ∙ is in
+    let one : Ok read ≡ Ok script = sym is' ∙ same in
+    let alike : read ≡ script = cc in runs read alike ended
+calm_replayed ran script given input out links bytes status calm came few is runs (FaultyScript end line kind is' back wrote) =
     let same : script_of bytes ≡ Ok script = ap script_of (came_all given bytes input.left came end) ∙ is in absurd (cc)
-calm_replayed turns script given input out links bytes status calm came few is (SourceFailed s rose back wrote) = absurd (calm.source rose)
-calm_replayed turns script given input out links bytes status calm came few is (TooLong s long back wrote) = absurd (omega (arith, long, few, came_few given bytes input.left came))
-calm_replayed turns script given input out links bytes status calm came few is (NoMemory s back wrote) = inr s
+calm_replayed ran script given input out links bytes status calm came few is runs (SourceFailed s rose back wrote) = absurd (calm.source rose)
+calm_replayed ran script given input out links bytes status calm came few is runs (TooLong s long back wrote) = absurd (omega (arith, long, few, came_few given bytes input.left came))
+calm_replayed ran script given input out links bytes status calm came few is runs (NoMemory s back wrote) = inr s
 
--- a command that runs a script
-abbrev RunsScript : Command → Type 0
-RunsScript Replay = Unit {0}
-RunsScript (Sim seed) = Unit {0}
-RunsScript other = ⊥
+-- a command that runs this script
+abbrev RunsScript : List Item → Command → Type 0
+RunsScript script Replay = Unit {0}
+RunsScript script (Sim seed) = Unit {0}
+RunsScript script (Run None) = is_built script ≡ true
+RunsScript script other = ⊥
 
-never_unbuilt : (command : Command) → RunsScript command → is_built_command command ≡ false → ⊥
-never_unbuilt Replay h e = let f : true ≡ false = e in absurd (cc)
-never_unbuilt (Sim seed) h e = let f : true ≡ false = e in absurd (cc)
-never_unbuilt other h e = h
+never_unbuilt : (script : List Item) (command : Command) → RunsScript script command → is_built_command command ≡ false → ⊥
+never_unbuilt script Replay h e = let f : true ≡ false = e in absurd (cc)
+never_unbuilt script (Sim seed) h e = let f : true ≡ false = e in absurd (cc)
+never_unbuilt script (Run None) h e = let f : true ≡ false = e in absurd (cc)
+never_unbuilt script (Run (Some port)) h e = h
+never_unbuilt script other h e = h
 
--- `replay` and `sim` of a script, with no fault of the outside, end with its report or for want of memory
+-- `replay` and `sim` of a script, and `run` of one that is built, with no fault of the outside, end with its report or for want of memory
 pub report_comes : (script : List Item) (given : List ℕ) (words : List (List ℕ)) (input : Input) (out : Output) (links : Links) (status : ℕ) (command : Command) → Answers words input out links status →
-    command_of words ≡ Some command → RunsScript command → input.given ≡ Some given → length given ≤ script_limit → script_of given ≡ Ok script → IsCalm input out links →
+    command_of words ≡ Some command → RunsScript script command → input.given ≡ Some given → length given ≤ script_limit → script_of given ≡ Ok script → IsCalm input out links →
     (status ≡ 0) ⊎ (status ≡ 7)
 report_comes script given words input out links status command (NoCommand s none same back wrote) asked runs told few is calm = absurd (cc)
 report_comes script given words input out links status command (CommandNotBuilt s other named differs same back wrote) asked runs told few is calm =
     let one : Some other ≡ Some command = sym named ∙ asked in
     let alike : other ≡ command = cc in
-    absurd (never_unbuilt command runs (subst (λ (x : Command). is_built_command x ≡ false) alike differs))
+    absurd (never_unbuilt script command runs (subst (λ (x : Command). is_built_command x ≡ false) alike differs))
 report_comes script given words input out links status command (Generates seed clients count named same back made) asked runs told few is calm =
     let one : Some (Gen seed clients count) ≡ Some command = sym named ∙ asked in
-    let alike : Gen seed clients count ≡ command = cc in absurd (subst RunsScript (sym alike) runs)
+    let alike : Gen seed clients count ≡ command = cc in absurd (subst (RunsScript script) (sym alike) runs)
 report_comes script given words input out links status command (Loads seed clients count named same made) asked runs told few is calm =
     let one : Some (Load seed clients count) ≡ Some command = sym named ∙ asked in
-    let alike : Load seed clients count ≡ command = cc in absurd (subst RunsScript (sym alike) runs)
+    let alike : Load seed clients count ≡ command = cc in absurd (subst (RunsScript script) (sym alike) runs)
 report_comes script given words input out links status command (PrintsInput named back printed) asked runs told few is calm =
     let one : Some Frames ≡ Some command = sym named ∙ asked in
-    let alike : Frames ≡ command = cc in absurd (subst RunsScript (sym alike) runs)
+    let alike : Frames ≡ command = cc in absurd (subst (RunsScript script) (sym alike) runs)
 report_comes script given words input out links status command (Replays named replayed) asked runs told few is calm =
     let P : Option (List ℕ) → Type 0 = λ x. Consumes x input.left replayed.bytes in
-    calm_replayed _ script given input out links replayed.bytes status calm (subst P told replayed.came) few is replayed.replayed
+    calm_replayed _ script given input out links replayed.bytes status calm (subst P told replayed.came) few is (λ read alike ran. calm_ran _ read input out links status calm ran) replayed.replayed
 report_comes script given words input out links status command (Simulates seed named replayed) asked runs told few is calm =
     let P : Option (List ℕ) → Type 0 = λ x. Consumes x input.left replayed.bytes in
-    calm_replayed _ script given input out links replayed.bytes status calm (subst P told replayed.came) few is replayed.replayed
+    calm_replayed _ script given input out links replayed.bytes status calm (subst P told replayed.came) few is (λ read alike ran. calm_ran _ read input out links status calm ran) replayed.replayed
+
+report_comes script given words input out links status command (RunsOnThreads named replayed) asked runs told few is calm =
+    let P : Option (List ℕ) → Type 0 = λ x. Consumes x input.left replayed.bytes in
+    let one : Some (Run None) ≡ Some command = sym named ∙ asked in
+    let alike : Run None ≡ command = cc in
+    let built : is_built script ≡ true = subst (RunsScript script) (sym alike) runs in
+    calm_replayed _ script given input out links replayed.bytes status calm (subst P told replayed.came) few is
+    (λ read alike ran. calm_threads read input out links status calm (subst (λ (s : List Item). is_built s ≡ true) (sym alike) built) ran) replayed.replayed
 
 -- ## Status 10
 
@@ -166,14 +195,18 @@ not_ten_ended (Err fault_.NoMemory) status s = λ e. absurd (omega (arith, e, s)
 never_false : true ≡ false → ⊥
 never_false e = cc
 
--- 10 comes exactly where the command isn't built
+-- what came for `run` is a script that isn't built
+abbrev CameUnbuilt : Input → Type 0
+CameUnbuilt input = (bytes : List ℕ) × Consumes input.given input.left bytes × IsUnbuilt input bytes
+
+-- 10 comes exactly where the command isn't built, or is `run` and the script isn't
 pub unbuilt_exactly : (command : Command) (words : List (List ℕ)) (input : Input) (out : Output) (links : Links) (status : ℕ) → Answers words input out links status → command_of words ≡ Some command →
-    (status ≡ 10 → is_built_command command ≡ false) × (is_built_command command ≡ false → status ≡ 10)
+    (status ≡ 10 → (is_built_command command ≡ false) ⊎ ((command ≡ Run None) × CameUnbuilt input)) × (is_built_command command ≡ false → status ≡ 10)
 unbuilt_exactly command words input out links status (NoCommand s none same back wrote) asked = absurd (cc)
 unbuilt_exactly command words input out links status (CommandNotBuilt s other named differs same back wrote) asked =
     let one : Some other ≡ Some command = sym named ∙ asked in
     let alike : other ≡ command = cc in
-    (λ e. subst (λ (x : Command). is_built_command x ≡ false) alike differs, λ e. s)
+    (λ e. inl (subst (λ (x : Command). is_built_command x ≡ false) alike differs), λ e. s)
 unbuilt_exactly command words input out links status (Generates seed clients count named same back made) asked =
     let one : Some (Gen seed clients count) ≡ Some command = sym named ∙ asked in
     let alike : Gen seed clients count ≡ command = cc in
@@ -199,6 +232,13 @@ unbuilt_exactly command words input out links status (Simulates seed named repla
       λ differs. absurd (never_false (subst (λ (x : Command). is_built_command x ≡ false) (sym alike) differs)),
     )
 
+unbuilt_exactly command words input out links status (RunsOnThreads named replayed) asked =
+    let one : Some (Run None) ≡ Some command = sym named ∙ asked in
+    let alike : Run None ≡ command = cc in (
+      λ e. inr (sym alike, (replayed.bytes, replayed.came, (unbuilt_script_exactly input out links status replayed).0 e)),
+      λ differs. absurd (never_false (subst (λ (x : Command). is_built_command x ≡ false) (sym alike) differs)),
+    )
+
 -- ## Status 0
 
 still_written : (out : Output) (text : List ℕ) (status : ℕ) → TextWritten out text status → status ≡ 0 → StandStill out.faults
@@ -214,12 +254,18 @@ still_faulty : (out : Output) (line kind status : ℕ) → FaultWritten out line
 still_faulty out line kind status (inl w) e = absurd (omega (arith, e, w.0))
 still_faulty out line kind status (inr w) e = w.1.1
 
-still_replayed : (turns : List Item → List Turn) (input : Input) (out : Output) (links : Links) (bytes : List ℕ) (status : ℕ) → Replayed turns input out links bytes status → status ≡ 0 → StandStill out.faults
-still_replayed turns input out links bytes status (RanScript end script is opened ran) e = still_ran (turns script) script out links status ran e
-still_replayed turns input out links bytes status (FaultyScript end line kind is back wrote) e = still_faulty out line kind status wrote e
-still_replayed turns input out links bytes status (SourceFailed s rose back wrote) e = wrote.1
-still_replayed turns input out links bytes status (TooLong s long back wrote) e = wrote.1
-still_replayed turns input out links bytes status (NoMemory s back wrote) e = wrote.1
+still_threads : (script : List Item) (out : Output) (links : Links) (status : ℕ) → RanOnThreads script out links status → status ≡ 0 → StandStill out.faults
+still_threads script out links status (ThreadsReported built text is wrote) e = still_written out text status wrote e
+still_threads script out links status (ThreadsRanOut built s wrote) e = wrote.1
+still_threads script out links status (ThreadsNotOpened built s rose back wrote) e = wrote.1
+still_threads script out links status (ScriptNotBuilt unbuilt s none_ wrote) e = absurd (omega (arith, e, s))
+
+still_replayed : (ran : ScriptEnd) (input : Input) (out : Output) (links : Links) (bytes : List ℕ) (status : ℕ) → ((script : List Item) → ran script out links status → status ≡ 0 → StandStill out.faults) → Replayed ran input out links bytes status → status ≡ 0 → StandStill out.faults
+still_replayed ran input out links bytes status runs (RanScript end script is opened ended) e = runs script ended e
+still_replayed ran input out links bytes status runs (FaultyScript end line kind is back wrote) e = still_faulty out line kind status wrote e
+still_replayed ran input out links bytes status runs (SourceFailed s rose back wrote) e = wrote.1
+still_replayed ran input out links bytes status runs (TooLong s long back wrote) e = wrote.1
+still_replayed ran input out links bytes status runs (NoMemory s back wrote) e = wrote.1
 
 still_loaded : (seed clients count : ℕ) (out : Output) (links : Links) (status : ℕ) → LoadRan seed clients count out links status → status ≡ 0 → StandStill out.faults
 still_loaded seed clients count out links status (LoadSummed text is wrote) e = still_written out text status wrote e
@@ -242,8 +288,9 @@ no_write_failed words input out links status (Generates seed clients count named
 no_write_failed words input out links status (Generates seed clients count named same back (inr w)) e = w.1.1
 no_write_failed words input out links status (Loads seed clients count named same made) e = still_loaded seed clients count out links status made.ran e
 no_write_failed words input out links status (PrintsInput named back printed) e = still_ended input out printed.printed.bytes printed.ended status printed.numbered printed.printed.ended e
-no_write_failed words input out links status (Replays named replayed) e = still_replayed _ input out links replayed.bytes status replayed.replayed e
-no_write_failed words input out links status (Simulates seed named replayed) e = still_replayed _ input out links replayed.bytes status replayed.replayed e
+no_write_failed words input out links status (Replays named replayed) e = still_replayed _ input out links replayed.bytes status (λ script ran e. still_ran _ script out links status ran e) replayed.replayed e
+no_write_failed words input out links status (Simulates seed named replayed) e = still_replayed _ input out links replayed.bytes status (λ script ran e. still_ran _ script out links status ran e) replayed.replayed e
+no_write_failed words input out links status (RunsOnThreads named replayed) e = still_replayed _ input out links replayed.bytes status (λ script ran e. still_threads script out links status ran e) replayed.replayed e
 
 -- ## One text
 

@@ -7,7 +7,6 @@ use Rattle.brpc_model.specs.Commands as model
 use Rattle.brpc_eng.specs.declared.commands.Command.{Command}
 use Rattle.brpc_eng.specs.declared.draw.Draw.{Draw}
 use Rattle.brpc_eng.specs.declared.commands.Command.TheVariants.{Replay, Sim, Run, Gen, Load, Frames, Serve}
-use Rattle.brpc_model.specs.Operations.{Turn}
 use Rattle.sock_programs.specs.Scripts.{drawn_turns}
 use Rattle.brpc_eng.specs.Command.{meaning}
 use Rattle.brpc_eng.specs.Streams.{script_limit, ReadWhole}
@@ -27,9 +26,9 @@ fault_written out line kind text e wrote = let P : List ℕ → Type 0 = λ x. a
 within_limit : (given left : Option (List ℕ)) (bytes : List ℕ) (read : Vec ℕ Global) → ReadWhole given left bytes (Ok read) → length bytes ≤ script_limit
 within_limit given left bytes read whole = whole.within (λ e. absurd (cc)) (λ e. absurd (cc))
 
-whole_input : (turns : List Item → List Turn) (input : answer.Input) (out : answer.Output) (links : answer.Links) (bytes : List ℕ) (read : Vec ℕ Global) (status : ℕ) → ReadWhole input.given input.left bytes (Ok read) →
-    answer.Replayed turns input out links bytes status → answer.ReplayedInput turns input out links status
-whole_input turns input out links bytes read status whole replayed =
+whole_input : (ran : answer.ScriptEnd) (input : answer.Input) (out : answer.Output) (links : answer.Links) (bytes : List ℕ) (read : Vec ℕ Global) (status : ℕ) → ReadWhole input.given input.left bytes (Ok read) →
+    answer.Replayed ran input out links bytes status → answer.ReplayedInput ran input out links status
+whole_input ran input out links bytes read status whole replayed =
     let few = within_limit input.given input.left bytes read whole in
     record { bytes = bytes; came = whole.came; most = whole.most; too_long = λ long. absurd (omega (arith, long, few)); replayed = replayed }
 
@@ -40,34 +39,35 @@ came_is input bytes seen read whole e = e ∙ whole.whole.0
 pub read_few : (given left : Option (List ℕ)) (bytes seen : List ℕ) (read : Vec ℕ Global) → ReadWhole given left bytes (Ok read) → seen ≡ read.items → length seen ≤ script_limit
 read_few given left bytes seen read whole e = let few = within_limit given left bytes read whole in let long = ap length (e ∙ whole.whole.0) in omega (arith, few, long)
 
-pub replays_read : (turns : List Item → List Turn) (input : answer.Input) (out : answer.Output) (links : answer.Links) (status : ℕ) (bytes seen : List ℕ) (read : Vec ℕ Global) (script : List Item) →
+pub replays_read : (ran : answer.ScriptEnd) (input : answer.Input) (out : answer.Output) (links : answer.Links) (status : ℕ) (bytes seen : List ℕ) (read : Vec ℕ Global) (script : List Item) →
     ReadWhole input.given input.left bytes (Ok read) → seen ≡ read.items → script_of seen ≡ Ok script →
-    answer.OpenedBy script links status → answer.Ran (turns script) script out links status → answer.ReplayedInput turns input out links status
-replays_read turns input out links status bytes seen read script whole s e opened ran =
+    answer.OpenedBy script links status → ran script out links status → answer.ReplayedInput ran input out links status
+replays_read ran input out links status bytes seen read script whole s e opened ended =
     let is : script_of bytes ≡ Ok script = ap script_of (sym (came_is input bytes seen read whole s)) ∙ e in
-    whole_input turns input out links bytes read status whole (answer.RanScript whole.whole.1 script is opened ran)
+    whole_input ran input out links bytes read status whole (answer.RanScript whole.whole.1 script is opened ended)
 
-pub replays_faulty : (turns : List Item → List Turn) (input : answer.Input) (out : answer.Output) (links : answer.Links) (status line kind : ℕ) (bytes seen : List ℕ) (read : Vec ℕ Global) →
+pub replays_faulty : (ran : answer.ScriptEnd) (input : answer.Input) (out : answer.Output) (links : answer.Links) (status line kind : ℕ) (bytes seen : List ℕ) (read : Vec ℕ Global) →
     ReadWhole input.given input.left bytes (Ok read) → seen ≡ read.items → script_of seen ≡ Err (line, kind) → answer.OpenedNone links → answer.FaultWritten out line kind status →
-    answer.ReplayedInput turns input out links status
-replays_faulty turns input out links status line kind bytes seen read whole s e back wrote =
-    whole_input turns input out links bytes read status whole (answer.FaultyScript whole.whole.1 line kind (ap script_of (sym (came_is input bytes seen read whole s)) ∙ e) back wrote)
+    answer.ReplayedInput ran input out links status
+replays_faulty ran input out links status line kind bytes seen read whole s e back wrote =
+    whole_input ran input out links bytes read status whole (answer.FaultyScript whole.whole.1 line kind (ap script_of (sym (came_is input bytes seen read whole s)) ∙ e) back wrote)
 
 -- ## The words
 
-not_built : (command : Command) → (command ≡ Replay → ⊥) → ((seed : ℕ) → command ≡ Sim seed → ⊥) → ((draw : Draw) → command ≡ Gen draw → ⊥) → ((draw : Draw) → command ≡ Load draw → ⊥) → (command ≡ Frames → ⊥) → answer.is_built_command (meaning command) ≡ false
-not_built Replay h s k l f = absurd (h refl)
-not_built (Sim seed) h s k l f = absurd (s seed refl)
-not_built (Run port) h s k l f = refl
-not_built (Gen draw) h s k l f = absurd (k draw refl)
-not_built (Load draw) h s k l f = absurd (l draw refl)
-not_built Frames h s k l f = absurd (f refl)
-not_built (Serve port connections) h s k l f = refl
+not_built : (command : Command) → (command ≡ Replay → ⊥) → ((seed : ℕ) → command ≡ Sim seed → ⊥) → ((port : Option ℕ) → command ≡ Run port → ⊥) → ((draw : Draw) → command ≡ Gen draw → ⊥) → ((draw : Draw) → command ≡ Load draw → ⊥) → (command ≡ Frames → ⊥) → answer.is_built_command (meaning command) ≡ false
+not_built Replay h s r k l f = absurd (h refl)
+not_built (Sim seed) h s r k l f = absurd (s seed refl)
+not_built (Run port) h s r k l f = absurd (r port refl)
+not_built (Gen draw) h s r k l f = absurd (k draw refl)
+not_built (Load draw) h s r k l f = absurd (l draw refl)
+not_built Frames h s r k l f = absurd (f refl)
+not_built (Serve port connections) h s r k l f = refl
 
 -- a command that isn't built
-pub other_command : (words : List (List ℕ)) (input : answer.Input) (out : answer.Output) (links : answer.Links) (command : Command) → option_map meaning (Some command) ≡ model.command_of words → (command ≡ Replay → ⊥) → ((seed : ℕ) → command ≡ Sim seed → ⊥) → ((draw : Draw) → command ≡ Gen draw → ⊥) → ((draw : Draw) → command ≡ Load draw → ⊥) → (command ≡ Frames → ⊥) →
+pub other_command : (words : List (List ℕ)) (input : answer.Input) (out : answer.Output) (links : answer.Links) (command : Command) → option_map meaning (Some command) ≡ model.command_of words → (command ≡ Replay → ⊥) → ((seed : ℕ) → command ≡ Sim seed → ⊥) → ((port : Option ℕ) → command ≡ Run port → ⊥) → ((draw : Draw) → command ≡ Gen draw → ⊥) → ((draw : Draw) → command ≡ Load draw → ⊥) → (command ≡ Frames → ⊥) →
     input.left ≡ input.given → answer.OpenedNone links → answer.Wrote out answer.not_built_text → answer.Answers words input out links 10
-other_command words input out links command e other simulated drawn loads framed same back wrote = answer.CommandNotBuilt refl (meaning command) (sym e) (not_built command other simulated drawn loads framed) same back wrote
+other_command words input out links command e other simulated threaded drawn loads framed same back wrote =
+    answer.CommandNotBuilt refl (meaning command) (sym e) (not_built command other simulated threaded drawn loads framed) same back wrote
 
 -- a drawn script
 pub drawn_command : (words : List (List ℕ)) (input : answer.Input) (out : answer.Output) (links : answer.Links) (status : ℕ) (command : Command) (draw : Draw) → option_map meaning (Some command) ≡ model.command_of words → command ≡ Gen draw →
@@ -88,7 +88,7 @@ frames_command words input out links status command e is back printed = answer.P
 
 -- a simulation
 pub simulated : (words : List (List ℕ)) (input : answer.Input) (out : answer.Output) (links : answer.Links) (status : ℕ) (command : Command) (seed drawn : ℕ) → option_map meaning (Some command) ≡ model.command_of words → command ≡ Sim seed →
-    drawn ≡ seed → answer.ReplayedInput (λ script. drawn_turns script drawn) input out links status → answer.Answers words input out links status
+    drawn ≡ seed → answer.ReplayedInput (answer.by_turns (λ script. drawn_turns script drawn)) input out links status → answer.Answers words input out links status
 simulated words input out links status command seed drawn e is same replayed = answer.Simulates drawn (sym e ∙ ap (λ c. option_map meaning (Some c)) (is ∙ ap Sim (sym same))) replayed
 
 -- ## The frames

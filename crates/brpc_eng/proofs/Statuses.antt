@@ -1,16 +1,17 @@
--- Where the statuses 3 and 6 of `replay` and `sim` come: exactly where the bytes that came say so, unless memory ran out, the source
--- failed, or more came than a script may have, before; and 10 comes never.
-use Rattle.std.proofs.Common.{◌≡◌, ◌≢◌, ℕ, ◌<◌, ◌⊎◌, inl, inr, List, length, Ok, Err, sym, ◌∙◌, arith}
+-- Where the statuses 3 and 6 of `replay`, `sim` and `run` come: exactly where the bytes that came say so, unless memory ran out, the source
+-- failed, or more came than a script may have, before; so does 10 of `run`, and of the others it comes never.
+use Rattle.std.proofs.Common.{◌≡◌, ◌≢◌, ℕ, ◌<◌, ◌⊎◌, inl, inr, true, false, List, length, Ok, Err, sym, ◌∙◌, subst, arith}
 use Rattle.brpc_model.specs.Items.{Item}
 use Rattle.brpc_model.specs.Operations.{Turn}
 use Rattle.brpc_model.specs.Script.{script_of}
+use Rattle.script_threads.specs.Built.{is_built}
 use Rattle.brpc_eng.specs.Streams.{script_limit, IsAtEnd}
-use Rattle.brpc_eng.specs.Answers.{HaveRisen, Input, Output, Links, Ran, Reported, MemoryRanOut, OpenFailed, FaultWritten, Replayed, RanScript, FaultyScript, SourceFailed, TooLong, NoMemory, ReplayedInput}
+use Rattle.brpc_eng.specs.Answers.{HaveRisen, Input, Output, Links, TextWritten, Ran, Reported, MemoryRanOut, OpenFailed, RanOnThreads, ThreadsReported, ThreadsRanOut, ThreadsNotOpened, ScriptNotBuilt, ScriptEnd, by_turns, FaultWritten, Replayed, RanScript, FaultyScript, SourceFailed, TooLong, NoMemory, ReplayedInput}
 
 -- ## What each way of ending says of the bytes that came
 
 abbrev IsRun : ℕ → Type 0
-IsRun status = (status ≡ 0) ⊎ (status ≡ 5) ⊎ (status ≡ 7) ⊎ (status ≡ 8)
+IsRun status = (status ≡ 0) ⊎ (status ≡ 5) ⊎ (status ≡ 7) ⊎ (status ≡ 8) ⊎ (status ≡ 10)
 
 pub data Ends (input : Input) (bytes : List ℕ) (status : ℕ) : Type 0 where
   WasRun : IsAtEnd input.left → (script : List Item) → script_of bytes ≡ Ok script → IsRun status → Ends input bytes status
@@ -19,28 +20,45 @@ pub data Ends (input : Input) (bytes : List ℕ) (status : ℕ) : Type 0 where
   WasLong : status ≡ 6 → script_limit < length bytes → Ends input bytes status
   RanOut : status ≡ 7 → Ends input bytes status
 
+-- where a script was read, another status than that of a run doesn't come
+abbrev pub AreRuns : ScriptEnd → Type 1
+AreRuns ran = (script : List Item) (out : Output) (links : Links) (status : ℕ) → ran script out links status → IsRun status
+
+is_written : (out : Output) (text : List ℕ) (status : ℕ) → TextWritten out text status → IsRun status
+is_written out text status (inl w) = inl w.0
+is_written out text status (inr w) = inr (inl w.0)
+
 is_run : (turns : List Turn) (script : List Item) (out : Output) (links : Links) (status : ℕ) → Ran turns script out links status → IsRun status
-is_run turns script out links status (Reported text fits of_run (inl w)) = inl w.0
-is_run turns script out links status (Reported text fits of_run (inr w)) = inr (inl w.0)
+is_run turns script out links status (Reported text fits of_run wrote) = is_written out text status wrote
 is_run turns script out links status (MemoryRanOut s wrote) = inr (inr (inl s))
-is_run turns script out links status (OpenFailed s rose back wrote) = inr (inr (inr s))
+is_run turns script out links status (OpenFailed s rose back wrote) = inr (inr (inr (inl s)))
+
+pub turns_run : (turns : List Item → List Turn) → AreRuns (by_turns turns)
+turns_run turns script out links status ran = is_run (turns script) script out links status ran
+
+pub threads_run : AreRuns RanOnThreads
+threads_run script out links status (ThreadsReported built text is wrote) = is_written out text status wrote
+threads_run script out links status (ThreadsRanOut built s wrote) = inr (inr (inl s))
+threads_run script out links status (ThreadsNotOpened built s rose back wrote) = inr (inr (inr (inl s)))
+threads_run script out links status (ScriptNotBuilt unbuilt s none_ wrote) = inr (inr (inr (inr s)))
 
 fault_status : (out : Output) (line kind status : ℕ) → FaultWritten out line kind status → (status ≡ 3) ⊎ (status ≡ 7)
 fault_status out line kind status (inl w) = inl w.0
 fault_status out line kind status (inr w) = inr w.0
 
-ends_of : (turns : List Item → List Turn) (input : Input) (out : Output) (links : Links) (bytes : List ℕ) (status : ℕ) → Replayed turns input out links bytes status → Ends input bytes status
-ends_of turns input out links bytes status (RanScript end script is opened ran) = WasRun end script is (is_run (turns script) script out links status ran)
-ends_of turns input out links bytes status (FaultyScript end line kind is back wrote) = WasFaulty end line kind is (fault_status out line kind status wrote)
-ends_of turns input out links bytes status (SourceFailed s rose back wrote) = WasCut s rose
-ends_of turns input out links bytes status (TooLong s long back wrote) = WasLong s long
-ends_of turns input out links bytes status (NoMemory s back wrote) = RanOut s
+ends_of : (ran : ScriptEnd) → AreRuns ran → (input : Input) (out : Output) (links : Links) (bytes : List ℕ) (status : ℕ) → Replayed ran input out links bytes status → Ends input bytes status
+ends_of ran runs input out links bytes status (RanScript end script is opened ended) = WasRun end script is (runs script out links status ended)
+ends_of ran runs input out links bytes status (FaultyScript end line kind is back wrote) = WasFaulty end line kind is (fault_status out line kind status wrote)
+ends_of ran runs input out links bytes status (SourceFailed s rose back wrote) = WasCut s rose
+ends_of ran runs input out links bytes status (TooLong s long back wrote) = WasLong s long
+ends_of ran runs input out links bytes status (NoMemory s back wrote) = RanOut s
 
-not_run : (status n : ℕ) → IsRun status → status ≡ n → n ≢ 0 → n ≢ 5 → n ≢ 7 → n ≢ 8 → ⊥
-not_run status n (inl e) is a b c d = a (sym is ∙ e)
-not_run status n (inr (inl e)) is a b c d = b (sym is ∙ e)
-not_run status n (inr (inr (inl e))) is a b c d = c (sym is ∙ e)
-not_run status n (inr (inr (inr e))) is a b c d = d (sym is ∙ e)
+not_run : (status n : ℕ) → IsRun status → status ≡ n → n ≢ 0 → n ≢ 5 → n ≢ 7 → n ≢ 8 → n ≢ 10 → ⊥
+not_run status n (inl e) is a b c d f = a (sym is ∙ e)
+not_run status n (inr (inl e)) is a b c d f = b (sym is ∙ e)
+not_run status n (inr (inr (inl e))) is a b c d f = c (sym is ∙ e)
+not_run status n (inr (inr (inr (inl e)))) is a b c d f = d (sym is ∙ e)
+not_run status n (inr (inr (inr (inr e)))) is a b c d f = f (sym is ∙ e)
 
 -- ## The exact statuses
 
@@ -50,7 +68,7 @@ EndedBefore input bytes status = ((status ≡ 4) × HaveRisen input.faults) ⊎ 
 
 -- 3: the input was read to its end, and its bytes are no script
 three : (input : Input) (bytes : List ℕ) (status : ℕ) → Ends input bytes status → status ≡ 3 → IsAtEnd input.left × ((line : ℕ) × (kind : ℕ) × (script_of bytes ≡ Err (line, kind)))
-three input bytes status (WasRun end script is run) e = absurd (not_run status 3 run e (λ x. absurd (omega (arith, x))) (λ x. absurd (omega (arith, x))) (λ x. absurd (omega (arith, x))) (λ x. absurd (omega (arith, x))))
+three input bytes status (WasRun end script is run) e = absurd (not_run status 3 run e (λ x. absurd (omega (arith, x))) (λ x. absurd (omega (arith, x))) (λ x. absurd (omega (arith, x))) (λ x. absurd (omega (arith, x))) (λ x. absurd (omega (arith, x))))
 three input bytes status (WasFaulty end line kind is s) e = (end, (line, kind, is))
 three input bytes status (WasCut s rose) e = absurd (omega (arith, s, e))
 three input bytes status (WasLong s long) e = absurd (omega (arith, s, e))
@@ -64,34 +82,88 @@ no_script input bytes status line kind (WasCut s rose) e = inr (inl (s, rose))
 no_script input bytes status line kind (WasLong s long) e = inr (inr (inl (s, long)))
 no_script input bytes status line kind (RanOut s) e = inr (inr (inr s))
 
-pub faulty_script_exactly : (turns : List Item → List Turn) (input : Input) (out : Output) (links : Links) (status : ℕ) → (read : ReplayedInput turns input out links status) →
+pub faulty_script_exactly : (ran : ScriptEnd) → AreRuns ran → (input : Input) (out : Output) (links : Links) (status : ℕ) → (read : ReplayedInput ran input out links status) →
     (status ≡ 3 → IsAtEnd input.left × ((line : ℕ) × (kind : ℕ) × (script_of read.bytes ≡ Err (line, kind))))
     × ((line kind : ℕ) → script_of read.bytes ≡ Err (line, kind) → (status ≡ 3) ⊎ EndedBefore input read.bytes status)
-faulty_script_exactly turns input out links status read =
-    let ends = ends_of turns input out links read.bytes status read.replayed in
+faulty_script_exactly ran runs input out links status read =
+    let ends = ends_of ran runs input out links read.bytes status read.replayed in
     (three input read.bytes status ends, λ line kind e. no_script input read.bytes status line kind ends e)
 
 -- 6: more bytes came than a script may have, unless memory ran out before
 six : (input : Input) (bytes : List ℕ) (status : ℕ) → Ends input bytes status → status ≡ 6 → script_limit < length bytes
-six input bytes status (WasRun end script is run) e = absurd (not_run status 6 run e (λ x. absurd (omega (arith, x))) (λ x. absurd (omega (arith, x))) (λ x. absurd (omega (arith, x))) (λ x. absurd (omega (arith, x))))
+six input bytes status (WasRun end script is run) e = absurd (not_run status 6 run e (λ x. absurd (omega (arith, x))) (λ x. absurd (omega (arith, x))) (λ x. absurd (omega (arith, x))) (λ x. absurd (omega (arith, x))) (λ x. absurd (omega (arith, x))))
 six input bytes status (WasFaulty end line kind is (inl s)) e = absurd (omega (arith, s, e))
 six input bytes status (WasFaulty end line kind is (inr s)) e = absurd (omega (arith, s, e))
 six input bytes status (WasCut s rose) e = absurd (omega (arith, s, e))
 six input bytes status (WasLong s long) e = long
 six input bytes status (RanOut s) e = absurd (omega (arith, s, e))
 
-pub long_script_exactly : (turns : List Item → List Turn) (input : Input) (out : Output) (links : Links) (status : ℕ) → (read : ReplayedInput turns input out links status) →
+pub long_script_exactly : (ran : ScriptEnd) → AreRuns ran → (input : Input) (out : Output) (links : Links) (status : ℕ) → (read : ReplayedInput ran input out links status) →
     (status ≡ 6 → script_limit < length read.bytes) × (script_limit < length read.bytes → (status ≡ 6) ⊎ (status ≡ 7))
-long_script_exactly turns input out links status read = (six input read.bytes status (ends_of turns input out links read.bytes status read.replayed), read.too_long)
+long_script_exactly ran runs input out links status read = (six input read.bytes status (ends_of ran runs input out links read.bytes status read.replayed), read.too_long)
 
--- 10: a script that was read is run, whatever it asks of its links
-never_ten : (input : Input) (bytes : List ℕ) (status : ℕ) → Ends input bytes status → status ≢ 10
-never_ten input bytes status (WasRun end script is run) e = not_run status 10 run e (λ x. absurd (omega (arith, x))) (λ x. absurd (omega (arith, x))) (λ x. absurd (omega (arith, x))) (λ x. absurd (omega (arith, x)))
-never_ten input bytes status (WasFaulty end line kind is (inl s)) e = absurd (omega (arith, s, e))
-never_ten input bytes status (WasFaulty end line kind is (inr s)) e = absurd (omega (arith, s, e))
-never_ten input bytes status (WasCut s rose) e = absurd (omega (arith, s, e))
-never_ten input bytes status (WasLong s long) e = absurd (omega (arith, s, e))
-never_ten input bytes status (RanOut s) e = absurd (omega (arith, s, e))
+-- ## Status 10
 
-pub each_script_is_run : (turns : List Item → List Turn) (input : Input) (out : Output) (links : Links) (status : ℕ) → ReplayedInput turns input out links status → status ≢ 10
-each_script_is_run turns input out links status read = never_ten input read.bytes status (ends_of turns input out links read.bytes status read.replayed)
+not_ten_written : (out : Output) (text : List ℕ) (status : ℕ) → TextWritten out text status → status ≢ 10
+not_ten_written out text status (inl w) e = absurd (omega (arith, e, w.0))
+not_ten_written out text status (inr w) e = absurd (omega (arith, e, w.0))
+
+not_ten_ran : (turns : List Turn) (script : List Item) (out : Output) (links : Links) (status : ℕ) → Ran turns script out links status → status ≢ 10
+not_ten_ran turns script out links status (Reported text fits of_run wrote) e = not_ten_written out text status wrote e
+not_ten_ran turns script out links status (MemoryRanOut s wrote) e = absurd (omega (arith, e, s))
+not_ten_ran turns script out links status (OpenFailed s rose back wrote) e = absurd (omega (arith, e, s))
+
+not_ten_fault : (out : Output) (line kind status : ℕ) → FaultWritten out line kind status → status ≢ 10
+not_ten_fault out line kind status (inl w) e = absurd (omega (arith, e, w.0))
+not_ten_fault out line kind status (inr w) e = absurd (omega (arith, e, w.0))
+
+not_ten : (turns : List Item → List Turn) (input : Input) (out : Output) (links : Links) (bytes : List ℕ) (status : ℕ) → Replayed (by_turns turns) input out links bytes status → status ≢ 10
+not_ten turns input out links bytes status (RanScript end script is opened ran) e = not_ten_ran (turns script) script out links status ran e
+not_ten turns input out links bytes status (FaultyScript end line kind is back wrote) e = not_ten_fault out line kind status wrote e
+not_ten turns input out links bytes status (SourceFailed s rose back wrote) e = absurd (omega (arith, e, s))
+not_ten turns input out links bytes status (TooLong s long back wrote) e = absurd (omega (arith, e, s))
+not_ten turns input out links bytes status (NoMemory s back wrote) e = absurd (omega (arith, e, s))
+
+-- by a schedule each script that was read is run, whatever it asks of its links
+pub each_script_is_run : (turns : List Item → List Turn) (input : Input) (out : Output) (links : Links) (status : ℕ) → ReplayedInput (by_turns turns) input out links status → status ≢ 10
+each_script_is_run turns input out links status read = not_ten turns input out links read.bytes status read.replayed
+
+-- on threads, those that are built
+
+unbuilt_ran : (script : List Item) (out : Output) (links : Links) (status : ℕ) → RanOnThreads script out links status → status ≡ 10 → is_built script ≡ false
+unbuilt_ran script out links status (ThreadsReported built text is wrote) e = absurd (not_ten_written out text status wrote e)
+unbuilt_ran script out links status (ThreadsRanOut built s wrote) e = absurd (omega (arith, e, s))
+unbuilt_ran script out links status (ThreadsNotOpened built s rose back wrote) e = absurd (omega (arith, e, s))
+unbuilt_ran script out links status (ScriptNotBuilt unbuilt s none_ wrote) e = unbuilt
+
+ten_ran : (script : List Item) (out : Output) (links : Links) (status : ℕ) → RanOnThreads script out links status → is_built script ≡ false → status ≡ 10
+ten_ran script out links status (ThreadsReported built text is wrote) unbuilt = let f : true ≡ false = sym built ∙ unbuilt in absurd (cc)
+ten_ran script out links status (ThreadsRanOut built s wrote) unbuilt = let f : true ≡ false = sym built ∙ unbuilt in absurd (cc)
+ten_ran script out links status (ThreadsNotOpened built s rose back wrote) unbuilt = let f : true ≡ false = sym built ∙ unbuilt in absurd (cc)
+ten_ran script out links status (ScriptNotBuilt same s none_ wrote) unbuilt = s
+
+-- the whole input was read, and is a script that isn't built
+abbrev pub IsUnbuilt : Input → List ℕ → Type 0
+IsUnbuilt input bytes = IsAtEnd input.left × ((script : List Item) × (script_of bytes ≡ Ok script) × (is_built script ≡ false))
+
+unbuilt_by : (input : Input) (out : Output) (links : Links) (bytes : List ℕ) (status : ℕ) → Replayed RanOnThreads input out links bytes status → status ≡ 10 → IsUnbuilt input bytes
+unbuilt_by input out links bytes status (RanScript end script is opened ran) e = (end, (script, is, unbuilt_ran script out links status ran e))
+unbuilt_by input out links bytes status (FaultyScript end line kind is back wrote) e = absurd (not_ten_fault out line kind status wrote e)
+unbuilt_by input out links bytes status (SourceFailed s rose back wrote) e = absurd (omega (arith, e, s))
+unbuilt_by input out links bytes status (TooLong s long back wrote) e = absurd (omega (arith, e, s))
+unbuilt_by input out links bytes status (NoMemory s back wrote) e = absurd (omega (arith, e, s))
+
+ten_by : (input : Input) (out : Output) (links : Links) (bytes : List ℕ) (status : ℕ) (script : List Item) → Replayed RanOnThreads input out links bytes status → script_of bytes ≡ Ok script → is_built script ≡ false → (status ≡ 10) ⊎ EndedBefore input bytes status
+ten_by input out links bytes status script (RanScript end other is opened ran) reads unbuilt =
+    let one : Ok other ≡ Ok script = sym is ∙ reads in
+    let alike : other ≡ script = cc in
+    let no : is_built other ≡ false = subst (λ (s : List Item). is_built s ≡ false) (sym alike) unbuilt in
+    inl (ten_ran other out links status ran no)
+ten_by input out links bytes status script (FaultyScript end line kind is back wrote) reads unbuilt = absurd (cc)
+ten_by input out links bytes status script (SourceFailed s rose back wrote) reads unbuilt = inr (inl (s, rose))
+ten_by input out links bytes status script (TooLong s long back wrote) reads unbuilt = inr (inr (inl (s, long)))
+ten_by input out links bytes status script (NoMemory s back wrote) reads unbuilt = inr (inr (inr s))
+
+pub unbuilt_script_exactly : (input : Input) (out : Output) (links : Links) (status : ℕ) → (read : ReplayedInput RanOnThreads input out links status) →
+    (status ≡ 10 → IsUnbuilt input read.bytes) × ((script : List Item) → script_of read.bytes ≡ Ok script → is_built script ≡ false → (status ≡ 10) ⊎ EndedBefore input read.bytes status)
+unbuilt_script_exactly input out links status read = (unbuilt_by input out links read.bytes status read.replayed, λ script reads unbuilt. ten_by input out links read.bytes status script read.replayed reads unbuilt)

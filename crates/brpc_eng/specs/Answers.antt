@@ -2,7 +2,7 @@
 use Rattle.std.specs.Prelude.{ℕ, ◌≡◌, ◌≢◌, ◌<◌, ◌≤◌, ◌+◌, ◌⊎◌, ◌++◌, Bool, true, false, List, [], length, codes, decimal, is_some, Option, Some, None, Result, Ok, Err}
 use Rattle.std.specs.Io.KnownBytes.{Appends, Consumes}
 use Rattle.std.specs.List.{AllByRecursion}
-use Rattle.brpc_model.specs.Commands.{Command, Replay, Sim, Gen, Load, Frames, command_of, usage_text}
+use Rattle.brpc_model.specs.Commands.{Command, Replay, Sim, Run, Gen, Load, Frames, command_of, usage_text}
 use Rattle.brpc_model.specs.ScriptText.{script_text}
 use Rattle.brpc_model.specs.Drawn.{generated}
 use Rattle.brpc_model.specs.Items.{Item}
@@ -29,6 +29,8 @@ use Rattle.sock_io.specs.declared.link.LinkSpec.{LinkSpec}
 use Rattle.script_run.specs.Given.{AreNumbered, AreUntouched, IsBeginning, specs_of}
 use Rattle.script_run.specs.Causes.{CameLate, late_in}
 use Rattle.script_run.specs.Played.{IsRunText}
+use Rattle.script_threads.specs.Built.{is_built}
+use Rattle.script_threads.specs.Told.{IsThreadText}
 use Rattle.brpc_eng.specs.Streams.{script_limit, IsAtEnd}
 
 -- ## What a call finds outside, and what it leaves there
@@ -148,35 +150,56 @@ IsTextOfRun links script turns text = links.prompt ≡ true → links.tells → 
 abbrev pub TextWritten : Output → List ℕ → ℕ → Type 0
 TextWritten out text status = ((status ≡ 0) × WroteAll out text) ⊎ ((status ≡ 5) × WroteSome out text)
 
--- how the run of a script ends
+-- how the run of a script by these lines of a schedule ends
 pub data Ran (turns : List Turn) (script : List Item) (out : Output) (links : Links) (status : ℕ) : Type 0 where
   Reported : (text : List ℕ) → IsReport links script turns text → IsTextOfRun links script turns text → TextWritten out text status → Ran turns script out links status
   MemoryRanOut : status ≡ 7 → WroteNothing out → Ran turns script out links status
   -- the links that were opened before are given back, and nothing was done with them
   OpenFailed : status ≡ 8 → HaveRisen links.faults → AreUntouched 0 links.ends → WroteNothing out → Ran turns script out links status
 
--- ## `replay` and `sim`
+-- ## `run`
+
+-- how the run of a script on threads ends
+pub data RanOnThreads (script : List Item) (out : Output) (links : Links) (status : ℕ) : Type 0 where
+  -- each operation has its outcome by what became of all others, and each link took the messages of its lines in one order, whole and once, those of each
+  -- client in its own order; the text reports that, and fits
+  ThreadsReported : is_built script ≡ true → (text : List ℕ) → IsThreadText script text links.ends → TextWritten out text status → RanOnThreads script out links status
+  ThreadsRanOut : is_built script ≡ true → status ≡ 7 → WroteNothing out → RanOnThreads script out links status
+  -- the links that were opened before are given back, and nothing was done with them
+  ThreadsNotOpened : is_built script ≡ true → status ≡ 8 → HaveRisen links.faults → AreUntouched 0 links.ends → WroteNothing out → RanOnThreads script out links status
+  -- a line asks for a call or for something of one, or for a server behind its link: no link is opened
+  ScriptNotBuilt : is_built script ≡ false → status ≡ 10 → OpenedNone links → Wrote out not_built_text → RanOnThreads script out links status
+
+-- ## `replay`, `sim` and `run`
+
+-- how a script that was read ends, over this sink and these links
+abbrev pub ScriptEnd : Type 1
+ScriptEnd = List Item → Output → Links → ℕ → Type 0
+
+-- by the schedule that it has or is given
+abbrev pub by_turns : (List Item → List Turn) → ScriptEnd
+by_turns turns = λ script out links status. Ran (turns script) script out links status
 
 -- the fault was written, or memory ran out
 abbrev pub FaultWritten : Output → ℕ → ℕ → ℕ → Type 0
 FaultWritten out line kind status = ((status ≡ 3) × Wrote out (fault_text line kind)) ⊎ ((status ≡ 7) × WroteNothing out)
 
--- how a script is run where these bytes came, by the schedule that it has or is given
-pub data Replayed (turns : List Item → List Turn) (input : Input) (out : Output) (links : Links) (bytes : List ℕ) (status : ℕ) : Type 0 where
-  RanScript : IsAtEnd input.left → (script : List Item) → script_of bytes ≡ Ok script → OpenedBy script links status → Ran (turns script) script out links status → Replayed turns input out links bytes status
-  FaultyScript : IsAtEnd input.left → (line kind : ℕ) → script_of bytes ≡ Err (line, kind) → OpenedNone links → FaultWritten out line kind status → Replayed turns input out links bytes status
-  SourceFailed : status ≡ 4 → HaveRisen input.faults → OpenedNone links → WroteNothing out → Replayed turns input out links bytes status
-  TooLong : status ≡ 6 → script_limit < length bytes → OpenedNone links → WroteNothing out → Replayed turns input out links bytes status
-  NoMemory : status ≡ 7 → OpenedNone links → WroteNothing out → Replayed turns input out links bytes status
+-- how it ends where these bytes came
+pub data Replayed (ran : ScriptEnd) (input : Input) (out : Output) (links : Links) (bytes : List ℕ) (status : ℕ) : Type 0 where
+  RanScript : IsAtEnd input.left → (script : List Item) → script_of bytes ≡ Ok script → OpenedBy script links status → ran script out links status → Replayed ran input out links bytes status
+  FaultyScript : IsAtEnd input.left → (line kind : ℕ) → script_of bytes ≡ Err (line, kind) → OpenedNone links → FaultWritten out line kind status → Replayed ran input out links bytes status
+  SourceFailed : status ≡ 4 → HaveRisen input.faults → OpenedNone links → WroteNothing out → Replayed ran input out links bytes status
+  TooLong : status ≡ 6 → script_limit < length bytes → OpenedNone links → WroteNothing out → Replayed ran input out links bytes status
+  NoMemory : status ≡ 7 → OpenedNone links → WroteNothing out → Replayed ran input out links bytes status
 
 -- the run of what the source gives: of the input at most one byte more than a script may have is read, and where that
 -- one came no other status than 6 and 7 comes
-pub record ReplayedInput (turns : List Item → List Turn) (input : Input) (out : Output) (links : Links) (status : ℕ) : Type 0 where
+pub record ReplayedInput (ran : ScriptEnd) (input : Input) (out : Output) (links : Links) (status : ℕ) : Type 0 where
   pub bytes : List ℕ
   pub came : Consumes input.given input.left bytes
   pub most : length bytes ≤ script_limit + 1
   pub too_long : script_limit < length bytes → (status ≡ 6) ⊎ (status ≡ 7)
-  pub replayed : Replayed turns input out links bytes status
+  pub replayed : Replayed ran input out links bytes status
 
 -- ## `gen`
 
@@ -237,10 +260,11 @@ pub record FramesPrinted (input : Input) (out : Output) (status : ℕ) : Type 0 
 
 -- ## The program
 
--- the commands that are built
+-- the commands that are built; `run` on threads only over links in memory
 abbrev pub is_built_command : Command → Bool
 is_built_command Replay = true
 is_built_command (Sim seed) = true
+is_built_command (Run None) = true
 is_built_command (Gen seed clients count) = true
 is_built_command (Load seed clients count) = true
 is_built_command Frames = true
@@ -260,9 +284,11 @@ pub data Answers (words : List (List ℕ)) (input : Input) (out : Output) (links
   -- they ask for the frames of the input
   PrintsInput : command_of words ≡ Some Frames → OpenedNone links → FramesPrinted input out status → Answers words input out links status
   -- they ask for a run of the script by its own schedule
-  Replays : command_of words ≡ Some Replay → ReplayedInput schedule input out links status → Answers words input out links status
+  Replays : command_of words ≡ Some Replay → ReplayedInput (by_turns schedule) input out links status → Answers words input out links status
   -- or by one that is drawn from a seed
-  Simulates : (seed : ℕ) → command_of words ≡ Some (Sim seed) → ReplayedInput (λ script. drawn_turns script seed) input out links status → Answers words input out links status
+  Simulates : (seed : ℕ) → command_of words ≡ Some (Sim seed) → ReplayedInput (by_turns (λ script. drawn_turns script seed)) input out links status → Answers words input out links status
+  -- or on threads, whatever its schedule
+  RunsOnThreads : command_of words ≡ Some (Run None) → ReplayedInput RanOnThreads input out links status → Answers words input out links status
 
 -- ## The counts of the source and the linker
 

@@ -7,22 +7,23 @@ use crate::commands::{Command, read_command};
 use crate::frames::frames;
 use crate::generated::print_generated;
 use crate::load::load;
-use crate::replay::{replay, write_answer};
+use crate::replay::{NOT_BUILT, replay, write_answer};
 use crate::status::Status;
+use crate::threads::run_command;
 use script_run::Schedule;
 use sock_io::{Gate, Linker, Sink, Source};
 use std::alloc::Global;
+use std::sync::Wait;
+use std::thread::Threads;
 
 const USAGE: &[u8] =
     b"usage: replay | sim SEED | run [PORT] | gen SEED CLIENTS OPS | load SEED CLIENTS OPS | frames | serve PORT N\n";
-
-const NOT_BUILT: &[u8] = b"not built\n";
 
 /// All that the program does: it reads its words, does what they ask for, and answers its status.
 ///
 /// | status | comes |
 /// | --- | --- |
-/// | 0 | where the command was done; the input of `replay`, `sim` and `frames` was read to its end |
+/// | 0 | where the command was done; the input of `replay`, `sim`, `run` and `frames` was read to its end |
 /// | 2 | exactly where the words ask for no command; the usage line is written |
 /// | 3 | exactly where the whole input is no script; the first fault is written |
 /// | 4 | only where the source failed |
@@ -31,20 +32,20 @@ const NOT_BUILT: &[u8] = b"not built\n";
 /// | 7 | where memory ran out |
 /// | 8 | only where a link couldn't be opened; those opened before are given back untouched |
 /// | 9 | exactly where the bytes read by `frames` have a faulty frame, also where the sink fails; the frames before it and the fault are written |
-/// | 10 | exactly where the command isn't built; `not built` is written |
+/// | 10 | exactly where the command isn't built, or is `run` and the script has a line that isn't built for it; `not built` is written |
 ///
 /// Faults are met in the order words, source, size, script, opening, run, printing; want of memory
 /// may come at any place of it, and is the one answer that needs no cause. `frames` prints as it reads, so that with 4,
 /// 6 and 7 the lines of the frames that were whole stand written; where the sink fails the bytes of that read are judged to
 /// their end, and no more are read.
-pub fn brpc<R, S: Source, K: Sink, L: Linker, G: Gate>(
-    _rt: &R,
+pub fn brpc<R: Threads + Wait + Sync, S: Source, K: Sink, L: Linker, G: Gate + Sync>(
+    rt: &R,
     alloc: Global,
     words: &[String],
     source: &mut S,
     out: &mut K,
     links: &mut L,
-    _gate: &G,
+    gate: &G,
 ) -> u8
     requires asked { L.asked links.old ≡ [] }
     requires back { L.back links.old ≡ [] }
@@ -60,16 +61,18 @@ pub fn brpc<R, S: Source, K: Sink, L: Linker, G: Gate>(
         (record { before = L.faults links.old; now = L.faults links.new })
         result }
 {
-    answer(alloc, words, source, out, links).number()
+    answer(rt, alloc, words, source, out, links, gate).number()
 }
 
 /// What the words ask for is done.
-fn answer<S: Source, K: Sink, L: Linker>(
+fn answer<R: Threads + Wait + Sync, S: Source, K: Sink, L: Linker, G: Gate + Sync>(
+    rt: &R,
     alloc: Global,
     words: &[String],
     source: &mut S,
     out: &mut K,
     links: &mut L,
+    gate: &G,
 ) -> Status
     requires asked { L.asked links.old ≡ [] }
     requires back { L.back links.old ≡ [] }
@@ -93,6 +96,7 @@ fn answer<S: Source, K: Sink, L: Linker>(
             Command::Sim(seed) => {
                 replay(alloc, source, out, links, Schedule::Drawn(u64::from(seed)))
             }
+            Command::Run(port) => run_command(rt, alloc, port, source, out, links, gate),
             Command::Gen(draw) => print_generated(alloc, &draw, out),
             Command::Load(draw) => load(alloc, &draw, out, links),
             Command::Frames => frames(alloc, source, out),

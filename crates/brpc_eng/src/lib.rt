@@ -11,6 +11,7 @@ mod replay;
 mod run;
 mod status;
 mod streams;
+mod threads;
 #[cfg(test)]
 mod tests;
 

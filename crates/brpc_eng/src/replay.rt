@@ -1,7 +1,7 @@
 ghost use Rattle.std.specs.Prelude.{◌≡◌, []};
 ghost use Rattle.script_run.specs.Played.{TellClosed, TellOffers, turns_of};
 ghost use Rattle.brpc_eng.specs.Status.{number_of};
-ghost use Rattle.brpc_eng.specs.Answers.{Wrote, FaultWritten, ReplayedInput, CountsStand};
+ghost use Rattle.brpc_eng.specs.Answers.{Wrote, FaultWritten, ReplayedInput, by_turns, CountsStand};
 
 use crate::run::run_and_report;
 use crate::status::Status;
@@ -10,6 +10,8 @@ use script_lang::{ScriptError, read_script};
 use script_run::Schedule;
 use sock_io::{Linker, Sink, Source, write_all};
 use std::alloc::Global;
+
+pub const NOT_BUILT: &[u8] = b"not built\n";
 
 /// Reads a script and runs it by a schedule: its own, or one that is drawn.
 pub fn replay<S: Source, K: Sink, L: Linker>(
@@ -21,7 +23,7 @@ pub fn replay<S: Source, K: Sink, L: Linker>(
 ) -> Status
     requires asked { L.asked links.old ≡ [] }
     requires back { L.back links.old ≡ [] }
-    ensures replayed { ReplayedInput (λ script. turns_of script schedule)
+    ensures replayed { ReplayedInput (by_turns (λ script. turns_of script schedule))
         (record { given = S.left source.old; left = S.left source.new; faults = record { before = S.faults source.old; now = S.faults source.new } })
         (record { before = K.contents out.old; now = K.contents out.new; faults = record { before = K.faults out.old; now = K.faults out.new } })
         (record { prompt = L.prompt links.old; tells = TellClosed L.I.state; offering = TellOffers L.O.state L.I.state; asked = L.asked links.new; ends = L.back links.new; faults = record { before = L.faults links.old; now = L.faults links.new } })
@@ -45,7 +47,7 @@ pub fn replay<S: Source, K: Sink, L: Linker>(
 }
 
 /// Writes where a script is faulty.
-fn write_fault<K: Sink>(alloc: Global, line: u32, kind: u8, out: &mut K) -> Status
+pub fn write_fault<K: Sink>(alloc: Global, line: u32, kind: u8, out: &mut K) -> Status
     ensures { FaultWritten (record { before = K.contents out.old; now = K.contents out.new; faults = record { before = K.faults out.old; now = K.faults out.new } }) line kind (number_of result) }
 {
     match format!(in alloc; "script fault line {line} kind {kind}\n") {

@@ -1,7 +1,11 @@
 use crate::brpc;
 use loop_link::LoopLinker;
+use script_items::number;
 use sock_io::{MemSink, MemSource, OpenGate, SinkLinker};
+use std::alloc::Global;
+use std::sync::Wait;
 use std::test::Fail;
+use std::thread::Threads;
 
 /// The calls that fail, counted from 1 (0: none), and how much the sink takes.
 #[derive(Clone, Copy)]
@@ -22,8 +26,8 @@ const CALM: Outside = Outside {
 };
 
 /// The status of a call, and what it wrote.
-fn answer(
-    rt: &HostRuntime,
+fn answer<R: Threads + Wait + Sync + Alloc<A = Global>>(
+    rt: &R,
     words: &str,
     input: &[u8],
     outside: Outside,
@@ -368,7 +372,11 @@ const SERVED: [(&'static str, &'static str, &'static str); 6] = [
 ];
 
 /// The status of a call over such links, and what it wrote.
-fn served(rt: &HostRuntime, words: &str, input: &[u8]) -> Result<(u8, Vec<u8>), Fail> {
+fn served<R: Threads + Wait + Sync + Alloc<A = Global>>(
+    rt: &R,
+    words: &str,
+    input: &[u8],
+) -> Result<(u8, Vec<u8>), Fail> {
     let alloc = rt.alloc();
     let mut source = MemSource::new(input.to_vec(alloc)?, Vec::new(alloc));
     let mut out = MemSink::new(alloc, 8192, Vec::new(alloc))
@@ -402,7 +410,7 @@ fn answers_served(rt: HostRuntime) -> Result<(), Fail> {
 }
 
 /// Words, with the status.
-const WORDS: [(&str, u8); 16] = [
+const WORDS: [(&str, u8); 15] = [
     ("--help", 2),
     ("", 2),
     ("replay now", 2),
@@ -410,7 +418,6 @@ const WORDS: [(&str, u8); 16] = [
     ("sim 4294967296", 2),
     ("sim 07", 2),
     ("sim -1", 2),
-    ("run", 10),
     ("run 65535", 10),
     ("run 0", 2),
     ("load 0 1 0", 2),
@@ -462,7 +469,11 @@ fn answers_faults(rt: HostRuntime) -> Result<(), Fail> {
 }
 
 /// The answer to a send of so many bytes `61`, over a link whose put `put` fails (0: none).
-fn send_of(rt: &HostRuntime, length: usize, put: u32) -> Result<(u8, Vec<u8>), Fail> {
+fn send_of<R: Threads + Wait + Sync + Alloc<A = Global>>(
+    rt: &R,
+    length: usize,
+    put: u32,
+) -> Result<(u8, Vec<u8>), Fail> {
     let mut script = Vec::from_slice(rt.alloc(), b"open a\nclient\nsend a ")?;
     for _ in 0..length {
         script.extend_from_slice(b"61")?;
@@ -501,5 +512,73 @@ fn reads_up_to_the_limit(rt: HostRuntime) -> Result<(), Fail> {
     let (answered, written) = answer(&rt, "replay", &input, CALM)?;
     assert_eq!(rt; answered, 6);
     assert_eq!(rt; written.len(), 0);
+    Ok(())
+}
+
+// ## On threads
+
+#[test]
+fn runs_on_threads(rt: HostRuntime) -> Result<(), Fail> {
+    let (_, script, _, status, text) = FIRST;
+    let (answered, written) = answer(&rt, "run", script.as_bytes(), CALM)?;
+    assert_eq!(rt; answered, status);
+    assert_eq!(rt; written.as_slice(), text.as_bytes());
+    Ok(())
+}
+
+/// Scripts with a line that isn't built for threads.
+const UNBUILT: [&str; 3] = [
+    "open a serve\nclient\nsend a 61",
+    "open a end=3",
+    "open a\nclient\ncall a Echo.Echo -",
+];
+
+#[test]
+fn refuses_on_threads(rt: HostRuntime) -> Result<(), Fail> {
+    for script in UNBUILT {
+        let (answered, written) = answer(&rt, "run", script.as_bytes(), CALM)?;
+        assert_eq!(rt; answered, 10, "at {script}");
+        assert_eq!(rt; written.as_slice(), b"not built\n".as_slice(), "at {script}");
+    }
+    Ok(())
+}
+
+/// How many sends stand in an order in which those of each client rise.
+fn rising(order: &str) -> Option<usize> {
+    let mut last = [0u32; 9];
+    let mut count = 0usize;
+    for label in order.split(' ') {
+        let mut parts = label.split('.');
+        let client = number(parts.next()?.as_bytes(), 1, 8)?;
+        let send = number(parts.next()?.as_bytes(), 1, 10)?;
+        let place = last.get_mut(client as usize)?;
+        if send <= *place {
+            return None;
+        }
+        *place = send;
+        count = count.saturating_add(1);
+    }
+    Some(count)
+}
+
+#[test]
+fn orders_the_sends_of_threads(rt: HostRuntime) -> Result<(), Fail> {
+    let mut script = Vec::from_slice(rt.alloc(), b"open a\n")?;
+    for _ in 0..8 {
+        script.extend_from_slice(b"client\n")?;
+        for _ in 0..10 {
+            script.extend_from_slice(b"send a 6869\n")?;
+        }
+    }
+    let (status, written) = answer(&rt, "run", &script, CALM)?;
+    assert_eq!(rt; status, 0);
+    let text = String::from_utf8(written).ok().ok_or("no text")?;
+    let mut labels = None;
+    for line in text.split('\n') {
+        if let Some(order) = line.strip_prefix("order 0 ") {
+            labels = rising(order);
+        }
+    }
+    assert_eq!(rt; labels, Some(80));
     Ok(())
 }

@@ -13,6 +13,8 @@ use std::alloc::{AllocError, Global};
 use std::env::Args;
 use std::io;
 use std::process::ExitCode;
+use std::sync::Wait;
+use std::thread::Threads;
 
 /// The status of want of memory.
 const NO_MEMORY: u8 = 7;
@@ -21,7 +23,7 @@ const NO_MEMORY: u8 = 7;
 /// with the number that it answers. Arguments that can't be had as text are no words. Where memory runs out for the list of
 /// words it ends with 7, and nothing is read, written or opened. Why it ends with a number that the output doesn't explain
 /// is written to `errors`, in one line.
-pub fn run_with<R, S: Source, K: Sink, L: Linker, G: Gate, E: Sink>(
+pub fn run_with<R: Threads + Wait + Sync, S: Source, K: Sink, L: Linker, G: Gate + Sync, E: Sink>(
     rt: &R,
     alloc: Global,
     args: io::Result<Args>,
@@ -47,7 +49,7 @@ pub fn run_with<R, S: Source, K: Sink, L: Linker, G: Gate, E: Sink>(
 }
 
 /// The number that the top call answers to the arguments.
-fn answer<R, S: Source, K: Sink, L: Linker, G: Gate>(
+fn answer<R: Threads + Wait + Sync, S: Source, K: Sink, L: Linker, G: Gate + Sync>(
     rt: &R,
     alloc: Global,
     args: io::Result<Args>,

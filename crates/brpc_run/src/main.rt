@@ -5,5 +5,6 @@ use brpc_main::run_program;
 use std::process::ExitCode;
 
 fn main(rt: HostRuntime) -> ExitCode {
-    run_program(&rt)
+    let errors = rt.stderr();
+    run_program(&rt, &errors)
 }

@@ -2,11 +2,14 @@ ghost use Rattle.std.specs.Prelude.{◌≡◌, []};
 
 use brpc_eng::brpc;
 use sock_io::{Linker, MemSink, MemSource, OpenGate};
+use std::alloc::Global;
+use std::sync::Wait;
 use std::test::Fail;
+use std::thread::Threads;
 
 /// The status of `replay` over these links, and what it wrote.
-pub fn replayed<L: Linker>(
-    rt: &HostRuntime,
+pub fn replayed<R: Threads + Wait + Sync + Alloc<A = Global>, L: Linker>(
+    rt: &R,
     script: &str,
     links: &mut L,
 ) -> Result<(u8, Vec<u8>), Fail>

@@ -2,7 +2,10 @@ use crate::answer::replayed;
 use crate::noting::Noting;
 use loop_link::LoopLinker;
 use sock_io::SinkLinker;
+use std::alloc::Global;
+use std::sync::Wait;
 use std::test::Fail;
+use std::thread::Threads;
 
 /// Scripts whose links fail, and their reports.
 const ROWS: [(&str, &str); 10] = [
@@ -49,7 +52,10 @@ const ROWS: [(&str, &str); 10] = [
 ];
 
 /// The report of a script over links in memory.
-fn report(rt: &HostRuntime, script: &str) -> Result<(u8, Vec<u8>), Fail> {
+fn report<R: Threads + Wait + Sync + Alloc<A = Global>>(
+    rt: &R,
+    script: &str,
+) -> Result<(u8, Vec<u8>), Fail> {
     let mut links = LoopLinker::new(rt.alloc(), Vec::new(rt.alloc()));
     replayed(rt, script, &mut links)
 }
@@ -69,7 +75,10 @@ const THREE: &str = "open a\nopen b\nopen c\nclient\nsend a 61\n";
 
 /// Its status where the `open` of this number fails (0: none), and which links are given back then, with how many bytes each
 /// took.
-fn given_back(rt: &HostRuntime, fail: u32) -> Result<(u8, Vec<(u16, usize)>), Fail> {
+fn given_back<R: Threads + Wait + Sync + Alloc<A = Global>>(
+    rt: &R,
+    fail: u32,
+) -> Result<(u8, Vec<(u16, usize)>), Fail> {
     let alloc = rt.alloc();
     let inner = SinkLinker::new(alloc, vec![in alloc; fail]?, 0);
     let mut links = Noting::new(alloc, inner);

@@ -1,7 +1,10 @@
 use crate::answer::replayed;
 use prpc_frame::{BlockPool, Cutter};
 use sock_io::GiveLinker;
+use std::alloc::Global;
+use std::sync::Wait;
 use std::test::Fail;
+use std::thread::Threads;
 
 /// A call, over a link whose other end gives what is stated once the request was taken.
 const CALL: &str = "open a\nclient\ncall a Echo.Echo 6869\n";
@@ -45,7 +48,10 @@ const ROWS: [(&str, &str); 11] = [
 ];
 
 /// The report of the call over a link that gives these bytes.
-fn given(rt: &HostRuntime, digits: &str) -> Result<(u8, Vec<u8>), Fail> {
+fn given<R: Threads + Wait + Sync + Alloc<A = Global>>(
+    rt: &R,
+    digits: &str,
+) -> Result<(u8, Vec<u8>), Fail> {
     let bytes = hex::decode(rt.alloc(), digits)?;
     let mut links = GiveLinker::new(rt.alloc(), 30, bytes);
     replayed(rt, CALL, &mut links)
