@@ -162,7 +162,6 @@ report_comes script given words input out links status command (Replays named re
 report_comes script given words input out links status command (Simulates seed named replayed) asked runs told few is calm =
     let P : Option (List ℕ) → Type 0 = λ x. Consumes x input.left replayed.bytes in
     calm_replayed _ script given input out links replayed.bytes status calm (subst P told replayed.came) few is (λ read alike ran. calm_ran _ read input out links status calm ran) replayed.replayed
-
 report_comes script given words input out links status command (RunsOnThreads named replayed) asked runs told few is calm =
     let P : Option (List ℕ) → Type 0 = λ x. Consumes x input.left replayed.bytes in
     let one : Some (Run None) ≡ Some command = sym named ∙ asked in
@@ -231,7 +230,6 @@ unbuilt_exactly command words input out links status (Simulates seed named repla
       λ e. absurd (each_script_is_run _ input out links status replayed e),
       λ differs. absurd (never_false (subst (λ (x : Command). is_built_command x ≡ false) (sym alike) differs)),
     )
-
 unbuilt_exactly command words input out links status (RunsOnThreads named replayed) asked =
     let one : Some (Run None) ≡ Some command = sym named ∙ asked in
     let alike : Run None ≡ command = cc in (

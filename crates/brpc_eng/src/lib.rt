@@ -11,8 +11,8 @@ mod replay;
 mod run;
 mod status;
 mod streams;
-mod threads;
 #[cfg(test)]
 mod tests;
+mod threads;
 
 pub use engine::brpc;

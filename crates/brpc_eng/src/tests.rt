@@ -538,7 +538,11 @@ fn refuses_on_threads(rt: HostRuntime) -> Result<(), Fail> {
     for script in UNBUILT {
         let (answered, written) = answer(&rt, "run", script.as_bytes(), CALM)?;
         assert_eq!(rt; answered, 10, "at {script}");
-        assert_eq!(rt; written.as_slice(), b"not built\n".as_slice(), "at {script}");
+        assert_eq!(rt;
+            written.as_slice(),
+            b"not built\n".as_slice(),
+            "at {script}"
+        );
     }
     Ok(())
 }
