@@ -112,6 +112,11 @@ class Script:
             if item[0] == 'join' and not all('serve' in shape for _, shape in self.links):
                 raise Fault(place, 11)
 
+    def is_for_threads(self):
+        """Whether `run` runs it: no line on calls, and no link with a server or an end."""
+        on_calls = any(item[0] in ('call', 'expire', 'join') for _, _, item in self.operations)
+        return not on_calls and not any('serve' in shape or 'end' in shape for _, shape in self.links)
+
     def item(self, parts, first=b'', *words):
         """What a line says, by itself: its first word and what stands behind it."""
         first = first.decode()
