@@ -1,0 +1,104 @@
+ghost use Rattle.std.specs.Prelude.{◌≡◌, ◌≢◌, ◌<◌, ◌++◌, [], length};
+ghost use Rattle.sock_io.specs.Link.{IsTakeCount, given_of};
+ghost use Rattle.ring_link.specs.Halves.{IsTakenOf};
+
+use crate::cell::{Cell, MarkLast};
+use crate::packing::{CHUNK, unpack};
+use crate::writer::RingWriter;
+use rtrb::Consumer;
+use sock_io::{Ending, Take};
+use std::alloc::Global;
+use std::marker::Model;
+
+/// The end of a ring that takes its bytes, and then the mark behind them.
+#[derive(Drop)]
+pub(crate) struct RingReader {
+    cells: Consumer<Cell, Global, MarkLast>,
+    ending: Ending,
+}
+
+impl Model for RingReader {
+    ghost use Rattle.std.specs.Prelude.{◌≡◌};
+    ghost use Rattle.rtrb.specs.Ring.{received, known_items};
+    ghost use Rattle.ring_link.specs.Cells.{bytes_of, ending_of};
+    ghost use Rattle.ring_link.specs.Halves.{ReaderState, ring_of};
+
+    ghost Value = { ReaderState };
+
+    ghost view = { λ r. record { ring = ring_of r.cells.end; bytes = bytes_of (received r.cells); ending = ending_of (received r.cells); seen = known_items r.cells } };
+
+    ghost invariant = { λ r. r.ending ≡ ending_of (received r.cells) };
+}
+
+impl RingReader {
+    ghost use Rattle.std.specs.Prelude.{◌≡◌, []};
+    ghost use Rattle.rtrb.specs.Ring.{received, known_items};
+    ghost use Rattle.ring_link.specs.Halves.{ring_of};
+
+    /// The end of a ring from which nothing was taken.
+    pub(crate) fn new(cells: Consumer<Cell, Global, MarkLast>) -> RingReader
+        requires { (received cells ≡ []) × (known_items cells ≡ []) }
+        ensures { result ≡ record { ring = ring_of cells.end; bytes = []; ending = Ending.Open; seen = [] } }
+    {
+        RingReader {
+            cells,
+            ending: Ending::Open,
+        }
+    }
+
+    /// Takes bytes into the front of the room, and behind the last the mark.
+    pub(crate) fn take(&mut self, room: &mut [u8]) -> Take
+        requires { 0 < length room.old }
+        ensures ring { self.new.ring ≡ self.old.ring }
+        ensures count { IsTakeCount room.new result }
+        ensures bytes { self.new.bytes ≡ self.old.bytes ++ given_of room.new result }
+        ensures empty { result ≡ Take.Empty → (self.new.ending ≡ Ending.Open) × (self.new.seen ≡ []) }
+        ensures end { result ≡ Take.End → self.new.ending ≡ Ending.Ended }
+        ensures closed { result ≡ Take.Closed → self.new.ending ≡ Ending.Closed }
+        ensures marked { self.old.ending ≢ Ending.Open → self.new ≡ self.old }
+        ensures never { result ≢ Take.Failed }
+    {
+        match self.ending {
+            Ending::Open => self.take_open(room),
+            Ending::Ended => Take::End,
+            Ending::Closed => Take::Closed,
+        }
+    }
+
+    // The same, where no mark was taken.
+    fn take_open(&mut self, room: &mut [u8]) -> Take
+        requires { (0 < length room.old) × (self.old.ending ≡ Ending.Open) }
+        ensures ring { self.new.ring ≡ self.old.ring }
+        ensures count { IsTakeCount room.new result }
+        ensures bytes { self.new.bytes ≡ self.old.bytes ++ given_of room.new result }
+        ensures empty { result ≡ Take.Empty → (self.new.ending ≡ Ending.Open) × (self.new.seen ≡ []) }
+        ensures end { result ≡ Take.End → self.new.ending ≡ Ending.Ended }
+        ensures closed { result ≡ Take.Closed → self.new.ending ≡ Ending.Closed }
+        ensures never { result ≢ Take.Failed }
+    {
+        let mut cells = [Cell::Ended; CHUNK];
+        let most = room.len().min(CHUNK);
+        let count = self.cells.pop_partial_slice(&mut cells[..most]);
+        let (bytes, ending) = unpack(&cells[..count], room);
+        self.ending = ending;
+        if bytes > 0 {
+            return Take::Took(bytes);
+        }
+        match ending {
+            Ending::Open => Take::Empty,
+            Ending::Ended => Take::End,
+            Ending::Closed => Take::Closed,
+        }
+    }
+
+    /// On one thread with the other end of its ring: what was taken stands first in what was put; and where the mark was
+    /// taken, all was.
+    pub(crate) fn meet(&mut self, writer: &mut RingWriter)
+        requires { writer.old.ring ≡ self.old.ring }
+        ensures reader { self.new ≡ record self.old { seen = self.new.seen } }
+        ensures writer { writer.new ≡ record writer.old { places = writer.new.places } }
+        ensures taken { IsTakenOf self.new writer.new }
+    {
+        self.cells.slots_beside(&mut writer.cells);
+    }
+}
