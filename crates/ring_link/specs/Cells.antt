@@ -1,5 +1,5 @@
 -- What lies in a ring: the bytes of one direction of a link, and behind them the mark that ends or closes it.
-use Rattle.std.specs.Prelude.{ℕ, List, [], ◌∷◌, ◌++◌, map}
+use Rattle.std.specs.Prelude.{ℕ, ◌≡◌, List, [], ◌∷◌, ◌++◌, map}
 use Rattle.sock_io.specs.declared.ending.Ending.{Ending}
 use Rattle.sock_io.specs.declared.ending.Ending.TheVariants as ending
 use Rattle.ring_link.specs.declared.cell.Cell.{Cell}
@@ -18,6 +18,10 @@ ending_of [] = ending.Open
 ending_of (cell.Byte b ∷ cells) = ending_of cells
 ending_of (cell.Ended ∷ cells) = ending.Ended
 ending_of (cell.Closed ∷ cells) = ending.Closed
+
+-- no mark stands
+abbrev pub IsOpen : Ending → Type 0
+IsOpen e = e ≡ ending.Open
 
 -- a mark as it lies in the ring
 abbrev pub mark_cells : Ending → List Cell

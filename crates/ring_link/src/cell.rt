@@ -1,8 +1,6 @@
-ghost use Rattle.std.specs.Prelude.{◌≡◌};
-ghost use Rattle.ring_link.specs.Cells.{ending_of};
+ghost use Rattle.ring_link.specs.Cells.{IsOpen, ending_of};
 
 use rtrb::Protocol;
-use sock_io::Ending;
 
 /// What lies in a place of a ring: a byte, or the mark behind all bytes.
 #[derive(Clone, Copy, Debug, PartialEq, Eq)]
@@ -19,5 +17,5 @@ pub(crate) enum Cell {
 pub(crate) struct MarkLast;
 
 impl Protocol<Cell> for MarkLast {
-    ghost allows = { λ before _. ending_of before ≡ Ending.Open };
+    ghost allows = { λ before _. IsOpen (ending_of before) };
 }

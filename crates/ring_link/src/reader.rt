@@ -1,5 +1,6 @@
 ghost use Rattle.std.specs.Prelude.{◌≡◌, ◌≢◌, ◌<◌, ◌++◌, [], length};
 ghost use Rattle.sock_io.specs.Link.{IsTakeCount, given_of};
+ghost use Rattle.ring_link.specs.Cells.{IsOpen};
 ghost use Rattle.ring_link.specs.Halves.{IsTakenOf};
 
 use crate::cell::{Cell, MarkLast};
@@ -52,10 +53,10 @@ impl RingReader {
         ensures ring { self.new.ring ≡ self.old.ring }
         ensures count { IsTakeCount room.new result }
         ensures bytes { self.new.bytes ≡ self.old.bytes ++ given_of room.new result }
-        ensures empty { result ≡ Take.Empty → (self.new.ending ≡ Ending.Open) × (self.new.seen ≡ []) }
+        ensures empty { result ≡ Take.Empty → (IsOpen self.new.ending) × (self.new.seen ≡ []) }
         ensures end { result ≡ Take.End → self.new.ending ≡ Ending.Ended }
         ensures closed { result ≡ Take.Closed → self.new.ending ≡ Ending.Closed }
-        ensures marked { self.old.ending ≢ Ending.Open → self.new ≡ self.old }
+        ensures marked { (¬ IsOpen self.old.ending) → self.new ≡ self.old }
         ensures never { result ≢ Take.Failed }
     {
         match self.ending {
@@ -67,11 +68,11 @@ impl RingReader {
 
     // The same, where no mark was taken.
     fn take_open(&mut self, room: &mut [u8]) -> Take
-        requires { (0 < length room.old) × (self.old.ending ≡ Ending.Open) }
+        requires { (0 < length room.old) × (IsOpen self.old.ending) }
         ensures ring { self.new.ring ≡ self.old.ring }
         ensures count { IsTakeCount room.new result }
         ensures bytes { self.new.bytes ≡ self.old.bytes ++ given_of room.new result }
-        ensures empty { result ≡ Take.Empty → (self.new.ending ≡ Ending.Open) × (self.new.seen ≡ []) }
+        ensures empty { result ≡ Take.Empty → (IsOpen self.new.ending) × (self.new.seen ≡ []) }
         ensures end { result ≡ Take.End → self.new.ending ≡ Ending.Ended }
         ensures closed { result ≡ Take.Closed → self.new.ending ≡ Ending.Closed }
         ensures never { result ≢ Take.Failed }

@@ -1,5 +1,6 @@
 ghost use Rattle.std.specs.Prelude.{◌≡◌, ◌++◌, ◌∷◌, ◌<◌, [], false, length};
 ghost use Rattle.sock_io.specs.Link.{TakeStep, given_of, of_take};
+ghost use Rattle.ring_link.specs.Cells.{IsOpen};
 ghost use Rattle.ring_link.specs.Halves.{ring_in};
 
 use crate::reader::RingReader;
@@ -47,7 +48,7 @@ impl RingIn {
         ensures step { TakeStep (ring_in self.old) (ring_in (record self.new { takes = self.old.takes ++ of_take result ∷ [] })) room.new result }
         ensures bytes { self.new.reader.bytes ≡ self.old.reader.bytes ++ given_of room.new result }
         ensures ring { self.new.reader.ring ≡ self.old.reader.ring }
-        ensures empty { result ≡ Take.Empty → (self.new.reader.ending ≡ Ending.Open) × (self.new.reader.seen ≡ []) }
+        ensures empty { result ≡ Take.Empty → (IsOpen self.new.reader.ending) × (self.new.reader.seen ≡ []) }
         ensures end { result ≡ Take.End → self.new.reader.ending ≡ Ending.Ended }
         ensures closed { result ≡ Take.Closed → self.new.reader.ending ≡ Ending.Closed }
         ensures takes { self.new.takes ≡ self.old.takes }
@@ -79,7 +80,7 @@ impl In for RingIn {
         ensures step { TakeStep (ring_in self.old) (ring_in self.new) room.new result }
         ensures bytes { self.new.reader.bytes ≡ self.old.reader.bytes ++ given_of room.new result }
         ensures ring { self.new.reader.ring ≡ self.old.reader.ring }
-        ensures empty { result ≡ Take.Empty → (self.new.reader.ending ≡ Ending.Open) × (self.new.reader.seen ≡ []) }
+        ensures empty { result ≡ Take.Empty → (IsOpen self.new.reader.ending) × (self.new.reader.seen ≡ []) }
         ensures end { result ≡ Take.End → self.new.reader.ending ≡ Ending.Ended }
         ensures closed { result ≡ Take.Closed → self.new.reader.ending ≡ Ending.Closed }
     {

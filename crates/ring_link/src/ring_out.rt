@@ -1,5 +1,6 @@
 ghost use Rattle.std.specs.Prelude.{◌≡◌, ◌++◌, ◌-◌, ◌<◌, [], false, length};
 ghost use Rattle.sock_io.specs.Link.{FinishStep, PutStep, ReadyStep, taken_of};
+ghost use Rattle.ring_link.specs.Cells.{IsOpen};
 ghost use Rattle.ring_link.specs.Halves.{ring_out};
 
 use crate::writer::RingWriter;
@@ -31,7 +32,7 @@ impl Model for RingOut {
 impl RingOut {
     /// The writing half of the link of this number.
     pub(crate) fn new(link: u16, writer: RingWriter) -> RingOut
-        requires { writer.ending ≡ Ending.Open }
+        requires { IsOpen writer.ending }
         ensures { result ≡ record { link = link; writer = writer; again = false } }
     {
         RingOut {

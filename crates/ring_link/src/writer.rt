@@ -1,4 +1,5 @@
 ghost use Rattle.std.specs.Prelude.{◌≡◌, ℕ, ◌-◌, ◌<◌, ◌≤◌, ◌↔◌, ◌+◌, ◌++◌, [], length, map, take, IsTrue};
+ghost use Rattle.ring_link.specs.Cells.{IsOpen};
 ghost use Rattle.ring_link.specs.declared.cell.Cell.TheVariants.{Byte};
 
 use crate::cell::{Cell, MarkLast};
@@ -18,14 +19,14 @@ pub(crate) struct RingWriter {
 impl Model for RingWriter {
     ghost use Rattle.std.specs.Prelude.{◌≡◌, ◌-◌, ◌<◌};
     ghost use Rattle.rtrb.specs.Ring.{sent, known_free};
-    ghost use Rattle.ring_link.specs.Cells.{bytes_of, ending_of, cells_of};
+    ghost use Rattle.ring_link.specs.Cells.{IsOpen, bytes_of, ending_of, cells_of};
     ghost use Rattle.ring_link.specs.Halves.{WriterState, ring_of};
 
     ghost Value = { WriterState };
 
     ghost view = { λ w. record { ring = ring_of w.cells.end; bytes = bytes_of (sent w.cells); ending = ending_of (sent w.cells); places = known_free w.cells - 1 } };
 
-    ghost invariant = { λ w. (sent w.cells ≡ cells_of (bytes_of (sent w.cells)) (ending_of (sent w.cells))) × (ending_of (sent w.cells) ≡ Ending.Open → 0 < known_free w.cells) };
+    ghost invariant = { λ w. (sent w.cells ≡ cells_of (bytes_of (sent w.cells)) (ending_of (sent w.cells))) × (IsOpen (ending_of (sent w.cells)) → 0 < known_free w.cells) };
 }
 
 impl RingWriter {
@@ -43,7 +44,7 @@ impl RingWriter {
 
     // How many of so many places are free. Where it knows of fewer, it looks again.
     fn places_up_to(&mut self, wanted: usize) -> usize
-        requires { self.old.ending ≡ Ending.Open }
+        requires { IsOpen self.old.ending }
         ensures same { self.new ≡ record self.old { places = self.new.places } }
         ensures more { self.old.places ≤ self.new.places }
         ensures within { (result ≤ wanted) × (result ≤ self.new.places) }
@@ -58,7 +59,7 @@ impl RingWriter {
 
     /// Whether a place for a byte is free. Where it knows of none, it looks again.
     pub(crate) fn has_place(&mut self) -> bool
-        requires { self.old.ending ≡ Ending.Open }
+        requires { IsOpen self.old.ending }
         ensures same { self.new ≡ record self.old { places = self.new.places } }
         ensures more { self.old.places ≤ self.new.places }
         ensures value { IsTrue result ↔ (0 < self.new.places) }
@@ -68,14 +69,17 @@ impl RingWriter {
 
     /// Puts a front part of the piece, and answers how many bytes that is: none only where no place was free.
     pub(crate) fn put(&mut self, piece: &[u8]) -> usize
-        requires { (0 < length piece.now) × (self.old.ending ≡ Ending.Open) }
+        requires { (0 < length piece.now) × (IsOpen self.old.ending) }
         ensures ring { self.new.ring ≡ self.old.ring }
         ensures within { result ≤ length piece.now }
         ensures bytes { self.new.bytes ≡ self.old.bytes ++ take result piece.now }
-        ensures ending { self.new.ending ≡ Ending.Open }
+        ensures ending { IsOpen self.new.ending }
         ensures full { result ≡ 0 → (self.new.places ≡ 0) × (self.old.places ≡ 0) }
     {
         let count = self.places_up_to(piece.len().min(CHUNK));
+        if count == 0 {
+            return 0;
+        }
         let mut cells = [Cell::Ended; CHUNK];
         pack(&piece[..count], &mut cells);
         self.push(&cells[..count], &piece[..count]);
@@ -84,12 +88,12 @@ impl RingWriter {
 
     // Puts these bytes, which stand in the cells, where there are places for all.
     fn push(&mut self, cells: &[Cell], bytes: &[u8])
-        requires open { self.old.ending ≡ Ending.Open }
+        requires open { IsOpen self.old.ending }
         requires cells { cells.now ≡ map Byte bytes.now }
         requires room { length bytes.now ≤ self.old.places }
         ensures ring { self.new.ring ≡ self.old.ring }
         ensures bytes { self.new.bytes ≡ self.old.bytes ++ bytes.now }
-        ensures ending { self.new.ending ≡ Ending.Open }
+        ensures ending { IsOpen self.new.ending }
         ensures places { self.old.places ≤ self.new.places + length bytes.now }
     {
         let _ = bytes;
@@ -101,7 +105,7 @@ impl RingWriter {
 
     /// Puts the mark that ends the direction.
     pub(crate) fn end(&mut self)
-        requires { self.old.ending ≡ Ending.Open }
+        requires { IsOpen self.old.ending }
         ensures { (self.new.ring ≡ self.old.ring) × (self.new.bytes ≡ self.old.bytes) × (self.new.ending ≡ Ending.Ended) }
     {
         self.cells.push_reserved(Cell::Ended);
@@ -109,7 +113,7 @@ impl RingWriter {
 
     /// Puts the mark that closes it.
     pub(crate) fn close(&mut self)
-        requires { self.old.ending ≡ Ending.Open }
+        requires { IsOpen self.old.ending }
         ensures { (self.new.ring ≡ self.old.ring) × (self.new.bytes ≡ self.old.bytes) × (self.new.ending ≡ Ending.Closed) }
     {
         self.cells.push_reserved(Cell::Closed);
