@@ -6,6 +6,7 @@ use Rattle.sock_io.specs.declared.ending.Ending.{Ending}
 use Rattle.sock_io.specs.declared.ending.Ending.TheVariants as ending
 use Rattle.ring_link.specs.declared.cell.Cell.{Cell}
 use Rattle.ring_link.specs.declared.cell.Cell.TheVariants as cell
+use Rattle.ring_link.specs.Halves.{IsTakenOf, Ring}
 use Rattle.ring_link.specs.Cells.{bytes_of, ending_of, mark_cells, cells_of}
 
 pub bytes-map : (bs : List ℕ) (cells : List Cell) → bytes_of (map cell.Byte bs ++ cells) ≡ bs ++ bytes_of cells
@@ -98,3 +99,28 @@ bytes_all cells bs e = ap bytes_of (e ∙ sym (append-nil (map cell.Byte bs))) �
 
 pub ending_all : (cells : List Cell) (bs : List ℕ) → cells ≡ map cell.Byte bs → ending_of cells ≡ ending.Open
 ending_all cells bs e = ap ending_of (e ∙ sym (append-nil (map cell.Byte bs))) ∙ ending-map bs []
+
+-- neither a byte nor a mark
+pub no_cells : (cells : List Cell) → length (bytes_of cells) ≡ 0 → ending_of cells ≡ ending.Open → cells ≡ []
+no_cells [] n e = refl
+no_cells (cell.Byte b ∷ cells) n e = search rules
+no_cells (cell.Ended ∷ cells) n e = search rules
+no_cells (cell.Closed ∷ cells) n e = search rules
+
+-- ## What was taken of what was put
+
+taken_or_marked : (got left : List Cell) (r w : Ring) (seen : List Cell) (places : ℕ) (m : Ending) → ending_of got ≡ m
+    → IsTakenOf (record { ring = r; bytes = bytes_of got; ending = m; seen = seen }) (record { ring = w; bytes = bytes_of (got ++ left); ending = ending_of (got ++ left); places = places })
+taken_or_marked got left r w seen places ending.Open e = record { left = bytes_of left; begins = bytes-append got left e; marked = λ n. absurd (n refl) }
+taken_or_marked got left r w seen places ending.Ended e =
+    let n : ending_of got ≢ ending.Open = λ o. search (rules, sym e ∙ o) in
+    record { left = []; begins = bytes-marked got left n ∙ sym (append-nil (bytes_of got)); marked = λ _. (ending-marked got left n ∙ e, refl) }
+taken_or_marked got left r w seen places ending.Closed e =
+    let n : ending_of got ≢ ending.Open = λ o. search (rules, sym e ∙ o) in
+    record { left = []; begins = bytes-marked got left n ∙ sym (append-nil (bytes_of got)); marked = λ _. (ending-marked got left n ∙ e, refl) }
+
+pub taken_of : (got left all : List Cell) (r w : Ring) (places : ℕ) → got ++ left ≡ all
+    → IsTakenOf (record { ring = r; bytes = bytes_of got; ending = ending_of got; seen = left }) (record { ring = w; bytes = bytes_of all; ending = ending_of all; places = places })
+taken_of got left all r w places e =
+    subst (λ t. IsTakenOf (record { ring = r; bytes = bytes_of got; ending = ending_of got; seen = left }) (record { ring = w; bytes = bytes_of t; ending = ending_of t; places = places })) e
+    (taken_or_marked got left r w left places (ending_of got) refl)

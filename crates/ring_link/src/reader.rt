@@ -1,4 +1,4 @@
-ghost use Rattle.std.specs.Prelude.{◌≡◌, ◌≢◌, ◌<◌, ◌++◌, [], length};
+ghost use Rattle.std.specs.Prelude.{◌≡◌, ◌≢◌, ◌<◌, ◌≤◌, ◌++◌, [], length, take};
 ghost use Rattle.sock_io.specs.Link.{IsTakeCount, given_of};
 ghost use Rattle.ring_link.specs.Cells.{IsOpen};
 ghost use Rattle.ring_link.specs.Halves.{IsTakenOf};
@@ -79,9 +79,7 @@ impl RingReader {
     {
         let mut cells = [Cell::Ended; CHUNK];
         let most = room.len().min(CHUNK);
-        let count = self.cells.pop_partial_slice(&mut cells[..most]);
-        let (bytes, ending) = unpack(&cells[..count], room);
-        self.ending = ending;
+        let (bytes, ending) = self.take_by(&mut cells[..most], room);
         if bytes > 0 {
             return Take::Took(bytes);
         }
@@ -90,6 +88,21 @@ impl RingReader {
             Ending::Ended => Take::End,
             Ending::Closed => Take::Closed,
         }
+    }
+
+    // Takes as many cells as there are, up to these: how many bytes they are, and the mark behind them.
+    fn take_by(&mut self, cells: &mut [Cell], room: &mut [u8]) -> (usize, Ending)
+        requires { (0 < length cells.old) × (length cells.old ≤ length room.old) × IsOpen self.old.ending }
+        ensures ring { self.new.ring ≡ self.old.ring }
+        ensures within { result.0 ≤ length room.new }
+        ensures bytes { self.new.bytes ≡ self.old.bytes ++ take result.0 room.new }
+        ensures ending { self.new.ending ≡ result.1 }
+        ensures none { result.0 ≡ 0 → IsOpen result.1 → self.new.seen ≡ [] }
+    {
+        let count = self.cells.pop_partial_slice(cells);
+        let (bytes, ending) = unpack(&cells[..count], room);
+        self.ending = ending;
+        (bytes, ending)
     }
 
     /// On one thread with the other end of its ring: what was taken stands first in what was put; and where the mark was
