@@ -1,4 +1,4 @@
-use Rattle.std.proofs.Common.{rules, ℕ, ◌≡◌, ◌≤◌, ◌<◌, ◌++◌, [], List, length, take, ap, sym, ◌∙◌, arith}
+use Rattle.std.proofs.Common.{rules, ℕ, ◌≡◌, ◌≤◌, ◌<◌, ◌++◌, [], ◌∷◌, refl, List, length, take, ap, sym, ◌∙◌, arith}
 use Rattle.std.proofs.lemmas.List.{length-take-le}
 use Rattle.rtrb.specs.Ring.{received, known_items}
 use Rattle.ring_link.specs.declared.cell.Cell.{Cell}
@@ -28,12 +28,16 @@ returns-clause-bytes c =
 pub returns-clause-ending : goal.returns-clause-ending
 returns-clause-ending c = sym (invariant_of-self c)
 
+nil_of : (cells : List Cell) → length cells ≡ 0 → cells ≡ []
+nil_of [] e = refl
+nil_of (c ∷ cells) e = search rules
+
 none_seen : (n : ℕ) (slice seen : List Cell) (b : ℕ) → n ≤ length slice → 0 < length slice → (n < length slice → length seen ≡ 0) → b ≡ length (bytes_of (take n slice)) → b ≡ 0 → IsOpen (ending_of (take n slice)) → seen ≡ []
 none_seen n slice seen b within some most count none o =
     let e : take n slice ≡ [] = no_cells (take n slice) (sym count ∙ none) o in
     let z : n ≡ 0 = sym (length-take-le n slice within) ∙ ap length e in
     let l : n < length slice = omega (arith, z, some) in
-    search (rules, most l)
+    nil_of seen (most l)
 
 pub returns-clause-none : goal.returns-clause-none
 returns-clause-none c z o =
