@@ -61,7 +61,7 @@ ending_put xs bs e = ending-append xs (map cell.Byte bs) e ∙ ap ending_of (sym
 pub whole_put : (xs : List Cell) (bs : List ℕ) → IsWhole xs → ending_of xs ≡ ending.Open → IsWhole (xs ++ map cell.Byte bs)
 whole_put xs bs w e =
     ap (λ t. t ++ map cell.Byte bs) (open_whole xs w e) ∙ sym (map-append cell.Byte (bytes_of xs) bs) ∙ sym (append-nil (map cell.Byte (bytes_of xs ++ bs)))
-        ∙ sym (λ k. cells_of (bytes_put xs bs e k) (ending_put xs bs e k))
+    ∙ sym (λ k. cells_of (bytes_put xs bs e k) (ending_put xs bs e k))
 
 -- a mark behind bytes
 pub bytes_shut : (xs : List Cell) (m : Ending) → ending_of xs ≡ ending.Open → bytes_of (xs ++ mark_cells m) ≡ bytes_of xs

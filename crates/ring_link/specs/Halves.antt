@@ -5,7 +5,9 @@ use Rattle.std.specs.declared.alloc.Global.{Global}
 use Rattle.sock_io.specs.declared.ending.Ending.{Ending}
 use Rattle.sock_io.specs.declared.ending.Ending.TheVariants as ending
 use Rattle.sock_io.specs.Link.{OutState, InState}
-use Rattle.sock_io.specs.Peer.{has_ended}
+use Rattle.sock_io.specs.Peer.{PeerState, has_ended}
+use Rattle.sock_io.specs.declared.link.Take.{Take}
+use Rattle.sock_io.specs.declared.link.Take.TheVariants as take_
 use Rattle.brpc_model.specs.Link.{TakeAnswer}
 use Rattle.rtrb.specs.Shared.{Names}
 use Rattle.rtrb.specs.declared.end.End.{End}
@@ -53,8 +55,30 @@ pub record RingInState : Type 0 where
 abbrev pub ring_in : RingInState → InState
 ring_in i = record { gave = length i.reader.bytes; gave_end = i.gave_end; closed = Some i.closed; faults = 0; gave_bytes = Some i.reader.bytes; takes = Some i.takes; closing = None; offer = None }
 
+-- the other end of a link: its end of the ring from the link, and of the ring to it
+pub record RingPeerState : Type 0 where
+  pub reader : ReaderState
+  pub writer : WriterState
+
+abbrev pub ring_peer : RingPeerState → PeerState
+ring_peer p = record { present = true; took = length p.reader.bytes; took_bytes = Some p.reader.bytes; saw_finish = has_ended p.reader.ending; gave = length p.writer.bytes; gave_bytes = Some p.writer.bytes; ending = p.writer.ending }
+
+-- the mark that is given at this answer of the link behind
+abbrev pub mark_at : Take → Ending
+mark_at (take_.Took n) = ending.Open
+mark_at take_.Empty = ending.Open
+mark_at take_.End = ending.Ended
+mark_at take_.Closed = ending.Closed
+mark_at take_.Failed = ending.Open
+
 -- What was taken stands first in what was put; and where the mark was taken, all was.
 pub record IsTakenOf (r : ReaderState) (w : WriterState) : Type 0 where
   pub left : List ℕ
   pub begins : w.bytes ≡ r.bytes ++ left
   pub marked : r.ending ≢ ending.Open → (w.ending ≡ r.ending) × (left ≡ [])
+
+-- the two ends of a new ring
+pub record IsNewRing (w : WriterState) (r : ReaderState) : Type 0 where
+  pub ring : w.ring ≡ r.ring
+  pub writer : w ≡ record { ring = w.ring; bytes = []; ending = ending.Open; places = 65536 }
+  pub reader : r ≡ record { ring = r.ring; bytes = []; ending = ending.Open; seen = [] }

@@ -1,5 +1,6 @@
 ghost use Rattle.std.specs.Prelude.{◌≡◌, ◌≢◌, ◌<◌, ◌≤◌, ◌++◌, [], length, take};
 ghost use Rattle.sock_io.specs.Link.{IsTakeCount, given_of};
+ghost use Rattle.sock_io.specs.Peer.{has_ended};
 ghost use Rattle.ring_link.specs.Cells.{IsOpen};
 ghost use Rattle.ring_link.specs.Halves.{IsTakenOf};
 
@@ -44,6 +45,16 @@ impl RingReader {
         RingReader {
             cells,
             ending: Ending::Open,
+        }
+    }
+
+    /// Whether the mark was taken.
+    pub(crate) fn is_ended(&self) -> bool
+        ensures { result ≡ has_ended self.now.ending }
+    {
+        match self.ending {
+            Ending::Open => false,
+            Ending::Ended | Ending::Closed => true,
         }
     }
 

@@ -1,6 +1,7 @@
 ghost use Rattle.std.specs.Prelude.{◌≡◌, ℕ, ◌-◌, ◌<◌, ◌≤◌, ◌↔◌, ◌+◌, ◌++◌, [], length, map, take, IsTrue};
 ghost use Rattle.ring_link.specs.Cells.{IsOpen};
 ghost use Rattle.ring_link.specs.declared.cell.Cell.TheVariants.{Byte};
+ghost use Rattle.ring_link.specs.declared.packing.TheConstants.{CHUNK};
 
 use crate::cell::{Cell, MarkLast};
 use crate::packing::{CHUNK, pack};
@@ -42,8 +43,8 @@ impl RingWriter {
         RingWriter { cells }
     }
 
-    // How many of so many places are free. Where it knows of fewer, it looks again.
-    fn places_up_to(&mut self, wanted: usize) -> usize
+    /// How many of so many places are free. Where it knows of fewer, it looks again.
+    pub(crate) fn places_up_to(&mut self, wanted: usize) -> usize
         requires { IsOpen self.old.ending }
         ensures same { self.new ≡ record self.old { places = self.new.places } }
         ensures more { self.old.places ≤ self.new.places }
@@ -77,13 +78,23 @@ impl RingWriter {
         ensures full { result ≡ 0 → (self.new.places ≡ 0) × (self.old.places ≡ 0) }
     {
         let count = self.places_up_to(piece.len().min(CHUNK));
-        if count == 0 {
-            return 0;
+        if count > 0 {
+            self.put_all(&piece[..count]);
         }
-        let mut cells = [Cell::Ended; CHUNK];
-        pack(&piece[..count], &mut cells);
-        self.push(&cells[..count], &piece[..count]);
         count
+    }
+
+    /// Puts the piece, for which places are known to be free.
+    pub(crate) fn put_all(&mut self, piece: &[u8])
+        requires open { IsOpen self.old.ending }
+        requires room { (length piece.now ≤ self.old.places) × (length piece.now ≤ CHUNK) }
+        ensures ring { self.new.ring ≡ self.old.ring }
+        ensures bytes { self.new.bytes ≡ self.old.bytes ++ piece.now }
+        ensures ending { IsOpen self.new.ending }
+    {
+        let mut cells = [Cell::Ended; CHUNK];
+        pack(piece, &mut cells);
+        self.push(&cells[..piece.len()], piece);
     }
 
     // Puts these bytes, which stand in the cells, where there are places for all.

@@ -1,0 +1,151 @@
+ghost use Rattle.std.specs.Prelude.{◌≡◌, ◌≢◌, ◌<◌, ◌≤◌, ◌++◌, true, length, Ok};
+ghost use Rattle.sock_io.specs.Link.{IsTakeCount, given_of};
+ghost use Rattle.sock_io.specs.Peer.{ServeStep, has_ended};
+ghost use Rattle.ring_link.specs.Cells.{IsOpen};
+ghost use Rattle.ring_link.specs.Halves.{mark_at, ring_peer};
+ghost use Rattle.ring_link.specs.declared.packing.TheConstants.{CHUNK};
+
+use crate::inner::Inner;
+use crate::packing::CHUNK;
+use crate::reader::RingReader;
+use crate::writer::RingWriter;
+use sock_io::{NoMemory, Peer, Served, Take};
+use std::marker::Model;
+
+/// The other end of a link over rings: it hands what it takes from the one ring to a link in memory, and what that gives
+/// to the other ring. It reads no more of the link while what it has to give finds no place.
+#[derive(Drop)]
+pub struct RingPeer {
+    pub(crate) reader: RingReader,
+    pub(crate) writer: RingWriter,
+    inner: Inner,
+    ended: bool,
+}
+
+impl Model for RingPeer {
+    ghost use Rattle.std.specs.Prelude.{◌≡◌, false};
+    ghost use Rattle.sock_io.specs.Peer.{has_ended};
+    ghost use Rattle.ring_link.specs.Halves.{RingPeerState};
+
+    ghost Value = { RingPeerState };
+
+    ghost view = { λ p. record { reader = p.reader; writer = p.writer } };
+
+    ghost invariant = { λ p. (p.ended ≡ has_ended p.writer.ending) × (p.ended ≡ false → p.inner ≡ has_ended p.reader.ending) };
+}
+
+impl RingPeer {
+    ghost use Rattle.std.specs.Prelude.{◌≡◌, false};
+
+    /// An other end that took and gave nothing.
+    pub(crate) fn new(reader: RingReader, writer: RingWriter, inner: Inner) -> RingPeer
+        requires { IsOpen reader.ending × IsOpen writer.ending × (inner ≡ false) }
+        ensures { result ≡ record { reader = reader; writer = writer } }
+    {
+        RingPeer {
+            reader,
+            writer,
+            inner,
+            ended: false,
+        }
+    }
+
+    // Behind its end: takes from the link, and throws it away.
+    fn throw_away(&mut self) -> Served
+        requires { has_ended self.old.writer.ending ≡ true }
+        ensures { ServeStep (ring_peer self.old) (Ok result) (ring_peer self.new) }
+    {
+        if self.reader.is_ended() {
+            return Served::Done;
+        }
+        let mut room = [0; CHUNK];
+        match self.reader.take(&mut room) {
+            Take::Empty => Served::Waiting,
+            _ => self.moved(),
+        }
+    }
+
+    // What it answers where something moved.
+    fn moved(&self) -> Served
+        ensures done { result ≡ Served.Done → (has_ended self.now.writer.ending ≡ true) × (has_ended self.now.reader.ending ≡ true) }
+        ensures moved { result ≢ Served.Done → (result ≡ Served.Moved) × ((has_ended self.now.writer.ending && has_ended self.now.reader.ending) ≡ false) }
+    {
+        if self.ended && self.reader.is_ended() {
+            Served::Done
+        } else {
+            Served::Moved
+        }
+    }
+
+    // Gives what the link behind gives.
+    fn give(&mut self, room: &mut [u8]) -> Take
+        requires open { IsOpen self.old.writer.ending }
+        requires room { (0 < length room.old) × (length room.old ≤ self.old.writer.places) × (length room.old ≤ CHUNK) }
+        ensures reader { self.new.reader ≡ self.old.reader }
+        ensures ring { self.new.writer.ring ≡ self.old.writer.ring }
+        ensures count { IsTakeCount room.new result }
+        ensures bytes { self.new.writer.bytes ≡ self.old.writer.bytes ++ given_of room.new result }
+        ensures ending { self.new.writer.ending ≡ mark_at result }
+        ensures closed { result ≡ Take.Closed → has_ended self.old.reader.ending ≡ true }
+        ensures never { result ≢ Take.Failed }
+    {
+        let answer = self.inner.take(room);
+        match answer {
+            Take::Took(count) => self.writer.put_all(&room[..count]),
+            Take::End => {
+                self.writer.end();
+                self.ended = true;
+            }
+            Take::Closed => {
+                self.writer.close();
+                self.ended = true;
+            }
+            Take::Empty | Take::Failed => {}
+        }
+        answer
+    }
+
+    // Takes from the link, and hands it to the link behind.
+    fn feed(&mut self, room: &mut [u8]) -> Result<Served, NoMemory>
+        requires { (0 < length room.old) × IsOpen self.old.writer.ending }
+        ensures { ServeStep (ring_peer self.old) result (ring_peer self.new) }
+    {
+        if self.reader.is_ended() {
+            return Ok(Served::Waiting);
+        }
+        let count = match self.reader.take(room) {
+            Take::Took(count) => count,
+            Take::Empty => return Ok(Served::Waiting),
+            Take::End | Take::Closed | Take::Failed => 0,
+        };
+        match self.inner.feed(&room[..count], self.reader.is_ended()) {
+            Ok(()) => Ok(Served::Moved),
+            Err(fault) => {
+                self.writer.end();
+                self.ended = true;
+                Err(fault)
+            }
+        }
+    }
+}
+
+impl Peer for RingPeer {
+    ghost state = { ring_peer };
+
+    fn serve(&mut self) -> Result<Served, NoMemory>
+        ensures { ServeStep (ring_peer self.old) result (ring_peer self.new) }
+    {
+        if self.ended {
+            return Ok(self.throw_away());
+        }
+        let free = self.writer.places_up_to(CHUNK);
+        if free == 0 {
+            return Ok(Served::Waiting);
+        }
+        let mut room = [0; CHUNK];
+        match self.give(&mut room[..free]) {
+            Take::Empty => self.feed(&mut room),
+            _ => Ok(self.moved()),
+        }
+    }
+}
