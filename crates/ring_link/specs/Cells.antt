@@ -23,6 +23,9 @@ ending_of (cell.Closed ∷ cells) = ending.Closed
 abbrev pub IsOpen : Ending → Type 0
 IsOpen e = e ≡ ending.Open
 
+abbrev pub IsClosed : Ending → Type 0
+IsClosed e = e ≡ ending.Closed
+
 -- a mark as it lies in the ring
 abbrev pub mark_cells : Ending → List Cell
 mark_cells ending.Open = []

@@ -1,4 +1,4 @@
-ghost use Rattle.std.specs.Prelude.{◌≡◌, ◌≢◌, ◌<◌, ◌≤◌, ◌++◌, [], length, take};
+ghost use Rattle.std.specs.Prelude.{◌≡◌, ◌≢◌, ◌<◌, ◌≤◌, ◌++◌, ◌⊎◌, [], false, length, take, true, IfNone, IfSome};
 ghost use Rattle.sock_io.specs.Link.{IsTakeCount, given_of};
 ghost use Rattle.sock_io.specs.Peer.{has_ended};
 ghost use Rattle.ring_link.specs.Cells.{IsOpen};
@@ -74,6 +74,22 @@ impl RingReader {
             Ending::Open => self.take_open(room),
             Ending::Ended => Take::End,
             Ending::Closed => Take::Closed,
+        }
+    }
+
+    /// Takes bytes or the mark, and answers how many bytes it took; nothing where neither was seen.
+    pub(crate) fn fetch(&mut self, room: &mut [u8]) -> Option<usize>
+        requires { (0 < length room.old) × (has_ended self.old.ending ≡ false) }
+        ensures none { IfNone result ((self.new.bytes ≡ self.old.bytes) × (has_ended self.new.ending ≡ false)) }
+        ensures within { IfSome result (λ count. count ≤ length room.new) }
+        ensures bytes { IfSome result (λ count. self.new.bytes ≡ self.old.bytes ++ take count room.new) }
+        ensures some { IfSome result (λ count. (0 < count) ⊎ (has_ended self.new.ending ≡ true)) }
+    {
+        match self.take(room) {
+            Take::Took(count) => Some(count),
+            Take::Empty => None,
+            Take::End | Take::Closed => Some(0),
+            Take::Failed => unreachable!(),
         }
     }
 

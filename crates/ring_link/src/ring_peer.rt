@@ -1,6 +1,6 @@
-ghost use Rattle.std.specs.Prelude.{◌≡◌, ◌≢◌, ◌<◌, ◌≤◌, ◌++◌, true, length, Ok};
+ghost use Rattle.std.specs.Prelude.{◌≡◌, ◌≢◌, ◌<◌, ◌≤◌, ◌++◌, ◌⊎◌, true, false, length, Ok};
 ghost use Rattle.sock_io.specs.Link.{IsTakeCount, given_of};
-ghost use Rattle.sock_io.specs.Peer.{ServeStep, has_ended};
+ghost use Rattle.sock_io.specs.Peer.{ServeStep, has_ended, is_done};
 ghost use Rattle.ring_link.specs.Cells.{IsOpen};
 ghost use Rattle.ring_link.specs.Halves.{mark_at, ring_peer};
 ghost use Rattle.ring_link.specs.declared.packing.TheConstants.{CHUNK};
@@ -23,20 +23,19 @@ pub struct RingPeer {
 }
 
 impl Model for RingPeer {
-    ghost use Rattle.std.specs.Prelude.{◌≡◌, false};
+    ghost use Rattle.std.specs.Prelude.{◌≡◌, false, true};
     ghost use Rattle.sock_io.specs.Peer.{has_ended};
+    ghost use Rattle.ring_link.specs.Cells.{IsClosed};
     ghost use Rattle.ring_link.specs.Halves.{RingPeerState};
 
     ghost Value = { RingPeerState };
 
     ghost view = { λ p. record { reader = p.reader; writer = p.writer } };
 
-    ghost invariant = { λ p. (p.ended ≡ has_ended p.writer.ending) × (p.ended ≡ false → p.inner ≡ has_ended p.reader.ending) };
+    ghost invariant = { λ p. (p.ended ≡ has_ended p.writer.ending) × (p.ended ≡ false → p.inner ≡ has_ended p.reader.ending) × (IsClosed p.writer.ending → has_ended p.reader.ending ≡ true) };
 }
 
 impl RingPeer {
-    ghost use Rattle.std.specs.Prelude.{◌≡◌, false};
-
     /// An other end that took and gave nothing.
     pub(crate) fn new(reader: RingReader, writer: RingWriter, inner: Inner) -> RingPeer
         requires { IsOpen reader.ending × IsOpen writer.ending × (inner ≡ false) }
@@ -59,16 +58,15 @@ impl RingPeer {
             return Served::Done;
         }
         let mut room = [0; CHUNK];
-        match self.reader.take(&mut room) {
-            Take::Empty => Served::Waiting,
-            _ => self.moved(),
+        match self.reader.fetch(&mut room) {
+            Some(_) => self.moved(),
+            None => Served::Waiting,
         }
     }
 
     // What it answers where something moved.
     fn moved(&self) -> Served
-        ensures done { result ≡ Served.Done → (has_ended self.now.writer.ending ≡ true) × (has_ended self.now.reader.ending ≡ true) }
-        ensures moved { result ≢ Served.Done → (result ≡ Served.Moved) × ((has_ended self.now.writer.ending && has_ended self.now.reader.ending) ≡ false) }
+        ensures { ((result ≡ Served.Done) × (is_done (ring_peer self.now) ≡ true)) ⊎ ((result ≡ Served.Moved) × (is_done (ring_peer self.now) ≡ false)) }
     {
         if self.ended && self.reader.is_ended() {
             Served::Done
@@ -113,10 +111,8 @@ impl RingPeer {
         if self.reader.is_ended() {
             return Ok(Served::Waiting);
         }
-        let count = match self.reader.take(room) {
-            Take::Took(count) => count,
-            Take::Empty => return Ok(Served::Waiting),
-            Take::End | Take::Closed | Take::Failed => 0,
+        let Some(count) = self.reader.fetch(room) else {
+            return Ok(Served::Waiting);
         };
         match self.inner.feed(&room[..count], self.reader.is_ended()) {
             Ok(()) => Ok(Served::Moved),
