@@ -60,6 +60,10 @@ pub record RingPeerState : Type 0 where
   pub reader : ReaderState
   pub writer : WriterState
 
+-- no call changes which rings they are
+abbrev pub SameRings : RingPeerState → RingPeerState → Type 0
+SameRings old new = (new.reader.ring ≡ old.reader.ring) × (new.writer.ring ≡ old.writer.ring)
+
 abbrev pub ring_peer : RingPeerState → PeerState
 ring_peer p = record { present = true; took = length p.reader.bytes; took_bytes = Some p.reader.bytes; saw_finish = has_ended p.reader.ending; gave = length p.writer.bytes; gave_bytes = Some p.writer.bytes; ending = p.writer.ending }
 

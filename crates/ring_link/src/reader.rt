@@ -80,6 +80,7 @@ impl RingReader {
     /// Takes bytes or the mark, and answers how many bytes it took; nothing where neither was seen.
     pub(crate) fn fetch(&mut self, room: &mut [u8]) -> Option<usize>
         requires { (0 < length room.old) × (has_ended self.old.ending ≡ false) }
+        ensures ring { self.new.ring ≡ self.old.ring }
         ensures none { IfNone result ((self.new.bytes ≡ self.old.bytes) × (has_ended self.new.ending ≡ false)) }
         ensures within { IfSome result (λ count. count ≤ length room.new) }
         ensures bytes { IfSome result (λ count. self.new.bytes ≡ self.old.bytes ++ take count room.new) }

@@ -2,12 +2,14 @@ ghost use Rattle.std.specs.Prelude.{◌≡◌, ◌≢◌, ◌<◌, ◌≤◌, �
 ghost use Rattle.sock_io.specs.Link.{IsTakeCount, given_of};
 ghost use Rattle.sock_io.specs.Peer.{ServeStep, has_ended, is_done};
 ghost use Rattle.ring_link.specs.Cells.{IsOpen};
-ghost use Rattle.ring_link.specs.Halves.{mark_at, ring_peer};
+ghost use Rattle.ring_link.specs.Halves.{IsTakenOf, SameRings, mark_at, ring_in, ring_peer};
 ghost use Rattle.ring_link.specs.declared.packing.TheConstants.{CHUNK};
 
 use crate::inner::Inner;
 use crate::packing::CHUNK;
 use crate::reader::RingReader;
+use crate::ring_in::RingIn;
+use crate::ring_out::RingOut;
 use crate::writer::RingWriter;
 use sock_io::{NoMemory, Peer, Served, Take};
 use std::marker::Model;
@@ -49,10 +51,26 @@ impl RingPeer {
         }
     }
 
+    /// On one thread with both halves of its link: what this end took stands first in what the link took, and what the link
+    /// gave stands first in what this end gave; and where a mark was taken, all was.
+    pub fn meet(&mut self, out: &mut RingOut, inn: &mut RingIn)
+        requires there { out.old.writer.ring ≡ self.old.reader.ring }
+        requires back { self.old.writer.ring ≡ inn.old.reader.ring }
+        ensures peer { ring_peer self.new ≡ ring_peer self.old }
+        ensures out { out.new ≡ record out.old { writer = record out.old.writer { places = out.new.writer.places } } }
+        ensures inn { ring_in inn.new ≡ ring_in inn.old }
+        ensures took { IsTakenOf self.new.reader out.new.writer }
+        ensures gave { IsTakenOf inn.new.reader self.new.writer }
+    {
+        self.reader.meet(&mut out.writer);
+        inn.reader.meet(&mut self.writer);
+    }
+
     // Behind its end: takes from the link, and throws it away.
     fn throw_away(&mut self) -> Served
         requires { has_ended self.old.writer.ending ≡ true }
-        ensures { ServeStep (ring_peer self.old) (Ok result) (ring_peer self.new) }
+        ensures step { ServeStep (ring_peer self.old) (Ok result) (ring_peer self.new) }
+        ensures rings { SameRings self.old self.new }
     {
         if self.reader.is_ended() {
             return Served::Done;
@@ -106,7 +124,8 @@ impl RingPeer {
     // Takes from the link, and hands it to the link behind.
     fn feed(&mut self, room: &mut [u8]) -> Result<Served, NoMemory>
         requires { (0 < length room.old) × IsOpen self.old.writer.ending }
-        ensures { ServeStep (ring_peer self.old) result (ring_peer self.new) }
+        ensures step { ServeStep (ring_peer self.old) result (ring_peer self.new) }
+        ensures rings { SameRings self.old self.new }
     {
         if self.reader.is_ended() {
             return Ok(Served::Waiting);
@@ -129,7 +148,8 @@ impl Peer for RingPeer {
     ghost state = { ring_peer };
 
     fn serve(&mut self) -> Result<Served, NoMemory>
-        ensures { ServeStep (ring_peer self.old) result (ring_peer self.new) }
+        ensures step { ServeStep (ring_peer self.old) result (ring_peer self.new) }
+        ensures rings { SameRings self.old self.new }
     {
         if self.ended {
             return Ok(self.throw_away());

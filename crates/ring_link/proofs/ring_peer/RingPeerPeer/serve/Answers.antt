@@ -7,8 +7,8 @@ use Rattle.ring_link.specs.Halves.{RingPeerState, ReaderState}
 use Rattle.ring_link.proofs.Peers.{given}
 use Rattle.ring_link.proofs.ring_peer.RingPeerPeer.serve.Goals as goal
 
-pub returns-in_default : goal.returns-in_default
-returns-in_default c =
+pub returns-in_default-clause-step : goal.returns-in_default-clause-step
+returns-in_default-clause-step c =
     let p = c.args.self.now in
     let g = c.give in
     let o : p.writer.ending ≡ ending.Open = search rules in
