@@ -1,0 +1,88 @@
+-- The two ends of a ring, and the halves of a link over two of them, by what callers see.
+use Rattle.std.specs.Prelude.{ℕ, ◌≡◌, ◌≢◌, nat_lt, Bool, true, false, List, ◌++◌, [], length, None, Some}
+use denote.RawPtr.{Ptr}
+use Rattle.std.specs.declared.alloc.Global.{Global}
+use Rattle.sock_io.specs.declared.ending.Ending.{Ending}
+use Rattle.sock_io.specs.declared.ending.Ending.TheVariants as ending
+use Rattle.sock_io.specs.Link.{OutState, InState}
+use Rattle.sock_io.specs.Peer.{PeerState, has_ended}
+use Rattle.sock_io.specs.declared.link.Take.{Take}
+use Rattle.sock_io.specs.declared.link.Take.TheVariants as take_
+use Rattle.brpc_model.specs.Link.{TakeAnswer}
+use Rattle.rtrb.specs.Shared.{Names}
+use Rattle.rtrb.specs.declared.end.End.{End}
+use Rattle.ring_link.specs.declared.cell.Cell.{Cell}
+use Rattle.ring_link.specs.declared.cell.MarkLast.{MarkLast}
+
+-- which ring it is
+abbrev pub Ring : Type 0
+Ring = (Ptr × Ptr) × (Names × Global)
+
+abbrev pub ring_of : End Cell Global MarkLast → Ring
+ring_of e = ((e.words, e.slots), (e.names, e.heap))
+
+-- the end that puts: all bytes that it put, the mark behind them, and how many places for bytes it knows to be free
+pub record WriterState : Type 0 where
+  pub ring : Ring
+  pub bytes : List ℕ
+  pub ending : Ending
+  pub places : ℕ
+
+-- the end that takes: all bytes that it took, the mark that it took behind them, and what it has seen of what comes next
+pub record ReaderState : Type 0 where
+  pub ring : Ring
+  pub bytes : List ℕ
+  pub ending : Ending
+  pub seen : List Cell
+
+-- the writing half of a link: its number, its end of the ring, and whether its last put answered `Again`
+pub record RingOutState : Type 0 where
+  pub link : ℕ
+  pub writer : WriterState
+  pub again : Bool
+
+-- it keeps none of its bytes, and so tells none
+abbrev pub ring_out : RingOutState → OutState
+ring_out o = record { link = o.link; took = None; faults = 0; finished = has_ended o.writer.ending; clear = nat_lt 0 o.writer.places; prompt = false; again = o.again; steady = true; whole = false; answers = None }
+
+-- the reading half of a link: its end of the ring, whether it answered `End` or `Closed`, and all that it answered
+pub record RingInState : Type 0 where
+  pub reader : ReaderState
+  pub gave_end : Bool
+  pub closed : Bool
+  pub takes : List TakeAnswer
+
+abbrev pub ring_in : RingInState → InState
+ring_in i = record { gave = length i.reader.bytes; gave_end = i.gave_end; closed = Some i.closed; faults = 0; gave_bytes = Some i.reader.bytes; takes = Some i.takes; closing = None; offer = None }
+
+-- the other end of a link: its end of the ring from the link, and of the ring to it
+pub record RingPeerState : Type 0 where
+  pub reader : ReaderState
+  pub writer : WriterState
+
+-- no call changes which rings they are
+abbrev pub SameRings : RingPeerState → RingPeerState → Type 0
+SameRings old new = (new.reader.ring ≡ old.reader.ring) × (new.writer.ring ≡ old.writer.ring)
+
+abbrev pub ring_peer : RingPeerState → PeerState
+ring_peer p = record { present = true; took = length p.reader.bytes; took_bytes = Some p.reader.bytes; saw_finish = has_ended p.reader.ending; gave = length p.writer.bytes; gave_bytes = Some p.writer.bytes; ending = p.writer.ending }
+
+-- the mark that is given at this answer of the link behind
+abbrev pub mark_at : Take → Ending
+mark_at (take_.Took n) = ending.Open
+mark_at take_.Empty = ending.Open
+mark_at take_.End = ending.Ended
+mark_at take_.Closed = ending.Closed
+mark_at take_.Failed = ending.Open
+
+-- What was taken stands first in what was put; and where the mark was taken, all was.
+pub record IsTakenOf (r : ReaderState) (w : WriterState) : Type 0 where
+  pub left : List ℕ
+  pub begins : w.bytes ≡ r.bytes ++ left
+  pub marked : r.ending ≢ ending.Open → (w.ending ≡ r.ending) × (left ≡ [])
+
+-- the two ends of a new ring
+pub record IsNewRing (w : WriterState) (r : ReaderState) : Type 0 where
+  pub ring : w.ring ≡ r.ring
+  pub writer : w ≡ record { ring = w.ring; bytes = []; ending = ending.Open; places = 65536 }
+  pub reader : r ≡ record { ring = r.ring; bytes = []; ending = ending.Open; seen = [] }

@@ -1,0 +1,62 @@
+ghost use Rattle.std.specs.Prelude.{◌≡◌, [], false, length, IfOk};
+ghost use Rattle.sock_io.specs.declared.ending.Ending.TheVariants.{Open};
+ghost use Rattle.sock_io.specs.Link.{IsFresh};
+ghost use Rattle.sock_io.specs.Peer.{IsNewPeer};
+ghost use Rattle.rtrb.specs.Ring.{IsPair, sent, received, known_items, known_free};
+ghost use Rattle.ring_link.specs.Halves.{IsNewRing, ring_in, ring_out, ring_peer};
+
+use crate::cell::{Cell, MarkLast};
+use crate::inner::Inner;
+use crate::reader::RingReader;
+use crate::ring_in::RingIn;
+use crate::ring_out::RingOut;
+use crate::ring_peer::RingPeer;
+use crate::writer::RingWriter;
+use rtrb::RingBuffer;
+use sock_io::{Ends, LinkSpec, NoMemory};
+use std::alloc::Global;
+
+/// How many bytes lie in a ring. One place more is for the mark.
+const PLACES: usize = 65_536;
+
+// The two ends of a ring.
+#[derive(Drop)]
+struct Ring {
+    writer: RingWriter,
+    reader: RingReader,
+}
+
+fn new_ring(alloc: Global) -> Result<Ring, NoMemory>
+    ensures { IfOk result (λ r. IsNewRing r.writer r.reader) }
+{
+    match RingBuffer::<Cell>::with_protocol::<Global, MarkLast>(alloc, PLACES + 1) {
+        Ok((producer, consumer)) => Ok(Ring {
+            writer: RingWriter::new(producer),
+            reader: RingReader::new(consumer),
+        }),
+        Err(_) => Err(NoMemory),
+    }
+}
+
+/// A link of this number over two rings, of which each holds 65,536 bytes and a mark. Of what is asked it uses whether the
+/// other end is the server, and after how many responses that gives its end.
+pub fn open_ring(
+    alloc: Global,
+    spec: &LinkSpec,
+    link: u16,
+) -> Result<Ends<RingOut, RingIn, RingPeer>, NoMemory>
+    ensures fresh { IfOk result (λ ends. IsFresh (ring_out ends.out) (ring_in ends.inn) link) }
+    ensures peer { IfOk result (λ ends. IsNewPeer (ring_peer ends.peer)) }
+    ensures there { IfOk result (λ ends. ends.out.writer.ring ≡ ends.peer.reader.ring) }
+    ensures back { IfOk result (λ ends. ends.peer.writer.ring ≡ ends.inn.reader.ring) }
+    ensures places { IfOk result (λ ends. (ends.out.writer.places ≡ 65536) × (ends.peer.writer.places ≡ 65536)) }
+{
+    let there = new_ring(alloc)?;
+    let back = new_ring(alloc)?;
+    let inner = Inner::new(alloc, spec.serve, spec.end)?;
+    Ok(Ends {
+        out: RingOut::new(link, there.writer),
+        inn: RingIn::new(back.reader),
+        peer: RingPeer::new(there.reader, back.writer, inner),
+    })
+}
