@@ -1,0 +1,42 @@
+// A connection, with how its service ended.
+ghost use Rattle.std.specs.Prelude.{◌≡◌};
+ghost use Rattle.sock_io.specs.Link.{IsUnused};
+ghost use Rattle.serve_port.specs.Steps.{HasServed};
+
+use crate::service::{Service, ServiceEnd};
+use crate::talking::serve_one;
+use sock_io::{In, Out};
+use std::alloc::Global;
+use std::sync::Wait;
+
+/// The halves of a connection that was accepted, and how its service ended.
+#[derive(Drop)]
+pub struct Connection<O: Out, I: In> {
+    pub out: O,
+    pub inn: I,
+    pub service: Service,
+}
+
+impl<O: Out, I: In> Connection<O, I> {
+    /// One that wasn't served yet.
+    pub fn new(out: O, inn: I) -> Self
+        ensures { (result.out ≡ out) × (result.inn ≡ inn) }
+    {
+        Connection {
+            out,
+            inn,
+            service: Service {
+                end: ServiceEnd::NoMemory,
+                frames: 0,
+            },
+        }
+    }
+
+    /// Serves it.
+    pub fn serve<R: Wait>(&mut self, rt: &R, alloc: Global)
+        requires { IsUnused (O.state self.old.out) (I.state self.old.inn) }
+        ensures { HasServed O.state I.state self.new }
+    {
+        self.service = serve_one(rt, alloc, &mut self.out, &mut self.inn);
+    }
+}

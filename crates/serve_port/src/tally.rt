@@ -1,0 +1,93 @@
+// What the services of all connections come to.
+ghost use Rattle.std.specs.Prelude.{◌≡◌, ◌+◌, ◌∷◌, ◌++◌, ℕ, [], List};
+ghost use Rattle.sock_io.specs.Link.{ConnectionEnd};
+ghost use Rattle.serve_port.specs.Serving.{AnswersBy, ServedConnection, is_failing, is_faulty, is_whole};
+ghost use Rattle.serve_port.specs.Steps.{AcceptedBy, IsTally};
+
+use crate::service::{ServeFault, Service, ServiceEnd};
+use sock_io::OpenFault;
+
+impl ServiceEnd {
+    /// Whether a put or a take failed.
+    fn is_failing(self) -> bool
+        ensures { result ≡ is_failing self }
+    {
+        matches!(self, ServiceEnd::PutFailed | ServiceEnd::TakeFailed)
+    }
+
+    /// Whether the bytes went on with no frame.
+    fn is_faulty(self) -> bool
+        ensures { result ≡ is_faulty self }
+    {
+        matches!(self, ServiceEnd::AtFault)
+    }
+
+    /// Whether all was read, or the most that is read.
+    fn is_whole(self) -> bool
+        ensures { result ≡ is_whole self }
+    {
+        matches!(self, ServiceEnd::AtEnd | ServiceEnd::AtLimit)
+    }
+}
+
+/// How many replies were made, unless these are more than are counted; and whether a half failed, whether the bytes of a
+/// connection went on with no frame, and whether all were read whole.
+#[derive(Clone, Copy, Debug, PartialEq, Eq)]
+pub struct Tally {
+    pub frames: Option<u64>,
+    pub failing: bool,
+    pub faulty: bool,
+    pub whole: bool,
+}
+
+impl Tally {
+    /// That of no connection.
+    pub fn new() -> Tally
+        ensures { IsTally [] result }
+    {
+        Tally {
+            frames: Some(0),
+            failing: false,
+            faulty: false,
+            whole: true,
+        }
+    }
+
+    /// With one connection more.
+    pub fn with(self, service: Service) -> Tally
+        ensures { (served : List ServedConnection) (c : ConnectionEnd) → IsTally served self → IsTally (served ++ (record { service = service; connection = c }) ∷ []) result }
+    {
+        Tally {
+            frames: sum_of(self.frames, service.frames),
+            failing: self.failing || service.end.is_failing(),
+            faulty: self.faulty || service.end.is_faulty(),
+            whole: self.whole && service.end.is_whole(),
+        }
+    }
+
+    /// What serving so many connections answers, where so many were accepted.
+    pub fn answer(self, accepted: Result<(), OpenFault>) -> Result<u64, ServeFault>
+        ensures { (served : List ServedConnection) (count before now : ℕ) → IsTally served self → AcceptedBy count (length served) before now accepted → AnswersBy count before now served result }
+    {
+        if accepted == Err(OpenFault::Failed) {
+            return Err(ServeFault::AcceptFailed);
+        }
+        if self.failing {
+            return Err(ServeFault::ConnectionFailed);
+        }
+        if self.faulty {
+            return Err(ServeFault::FaultyFrame);
+        }
+        match self.frames {
+            Some(frames) if self.whole && accepted.is_ok() => Ok(frames),
+            _ => Err(ServeFault::NoMemory),
+        }
+    }
+}
+
+/// The sum, where it can be counted.
+fn sum_of(frames: Option<u64>, more: u64) -> Option<u64>
+    ensures { (sum : ℕ) → result ≡ Some sum → (n : ℕ) × (frames ≡ Some n) × (sum ≡ n + more) }
+{
+    frames?.checked_add(more)
+}
