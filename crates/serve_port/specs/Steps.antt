@@ -73,21 +73,21 @@ AcceptedBy count accepted before now (Err open_.Failed) = Rose before now
 AcceptedBy count accepted before now (Err open_.NoMemory) = now ≡ before
 
 -- These were accepted, in this order, and served, and stand behind those that were kept before, the last one first.
-pub record AcceptsRest {O I : Type 0} (out : O → OutState) (inn : I → InState) (count : ℕ) (old new : LinkerState) (kept kept' : List (Connection O I)) (result : Result (Unit {0}) OpenFault) : Type 0 where
-  pub news : List (Connection O I)
+pub record AcceptsRest {G : Type 0} (served : G → Type 0) (count : ℕ) (old new : LinkerState) (kept kept' : List G) (result : Result (Unit {0}) OpenFault) : Type 0 where
+  pub news : List G
   pub stacked : kept' ≡ kept ++ reverse news
   pub few : length news ≤ count
-  pub each : All (HasServed out inn) news
+  pub each : All served news
   pub links : new ≡ record old { accepted = old.accepted + length news; faults = new.faults }
   pub answer : AcceptedBy count (length news) old.faults new.faults result
 
 -- one was served beside these, and stands behind them
-pub record AcceptsBeside {O I : Type 0} (out : O → OutState) (inn : I → InState) (count : ℕ) (old new : LinkerState) (kept kept' : List (Connection O I)) (result : Result (Unit {0}) OpenFault) : Type 0 where
-  pub served : Connection O I
-  pub stack : List (Connection O I)
-  pub is_served : HasServed out inn served
-  pub last : kept' ≡ stack ++ served ∷ []
-  pub others : AcceptsRest out inn count old new kept stack result
+pub record AcceptsBeside {G : Type 0} (served : G → Type 0) (count : ℕ) (old new : LinkerState) (kept kept' : List G) (result : Result (Unit {0}) OpenFault) : Type 0 where
+  pub guest : G
+  pub stack : List G
+  pub is_served : served guest
+  pub last : kept' ≡ stack ++ guest ∷ []
+  pub others : AcceptsRest served count old new kept stack result
 
 -- what the services of these connections come to; no number where the replies are more than are counted
 pub record IsTally (served : List ServedConnection) (t : Tally) : Type 0 where

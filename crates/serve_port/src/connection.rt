@@ -3,6 +3,7 @@ ghost use Rattle.std.specs.Prelude.{◌≡◌};
 ghost use Rattle.sock_io.specs.Link.{IsUnused};
 ghost use Rattle.serve_port.specs.Steps.{HasServed};
 
+use crate::guest::Guest;
 use crate::service::{Service, ServiceEnd};
 use crate::talking::serve_one;
 use sock_io::{In, Out};
@@ -31,12 +32,17 @@ impl<O: Out, I: In> Connection<O, I> {
             },
         }
     }
+}
 
-    /// Serves it.
-    pub fn serve<R: Wait>(&mut self, rt: &R, alloc: Global)
-        requires { IsUnused (O.state self.old.out) (I.state self.old.inn) }
-        ensures { HasServed O.state I.state self.new }
-    {
+impl<O: Out, I: In> Guest for Connection<O, I> {
+    ghost use Rattle.sock_io.specs.Link.{IsUnused};
+    ghost use Rattle.serve_port.specs.Steps.{HasServed};
+
+    ghost waits = { λ c. IsUnused (O.state c.out) (I.state c.inn) };
+
+    ghost served = { HasServed O.state I.state };
+
+    fn serve<R: Wait>(&mut self, rt: &R, alloc: Global) {
         self.service = serve_one(rt, alloc, &mut self.out, &mut self.inn);
     }
 }

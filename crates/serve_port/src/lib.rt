@@ -1,8 +1,11 @@
 //! Serves connections that are accepted at a port: each on a thread of its own, with the built-in server behind it.
 #![tactic(auto)]
 
+mod accepting;
 mod answering;
 mod connection;
+mod guest;
+mod hall;
 mod port;
 mod putting;
 mod service;

@@ -1,89 +1,18 @@
-// Connections are accepted at a port and served, each on a thread of its own.
-ghost use Rattle.std.specs.Prelude.{◌≡◌, ◌+◌, ◌≤◌, ◌++◌, length, map, vec_capacity};
-ghost use Rattle.std.specs.Thread.{IsSync};
-ghost use Rattle.sock_io.specs.Link.{IsUnused, connection_of};
+// A port at which connections are served.
+ghost use Rattle.std.specs.Prelude.{◌≡◌, ◌+◌, ◌≤◌, ◌++◌, length, map};
+ghost use Rattle.sock_io.specs.Link.{connection_of};
 ghost use Rattle.serve_port.specs.Serving.{ServesAll};
-ghost use Rattle.serve_port.specs.Steps.{AcceptsBeside, AcceptsRest, HasServed, IsTally, as_served};
+ghost use Rattle.serve_port.specs.Steps.{IsTally, as_served};
 
+use crate::accepting::serve_rest;
 use crate::connection::Connection;
+use crate::hall::Hall;
 use crate::service::ServeFault;
 use crate::tally::Tally;
-use sock_io::{Linker, OpenFault};
+use sock_io::Linker;
 use std::alloc::Global;
 use std::sync::Wait;
-use std::thread::{Threads, join_mut};
-
-/// Accepts so many connections, each of which is served once it was accepted, and keeps them, the last one first.
-#[cycle(accepting)]
-fn serve_rest<R: Threads + Wait + Sync, L: Linker>(
-    rt: &R,
-    alloc: Global,
-    port: u16,
-    count: usize,
-    kept: &mut Vec<Connection<L::O, L::I>>,
-    links: &mut L,
-) -> Result<(), OpenFault>
-    requires room { length kept.old.items + count ≤ vec_capacity kept.old }
-    requires few { L.accepted links.old + count ≤ 256 }
-    ensures accepts { AcceptsRest L.O.state L.I.state count
-        (record { asked = L.asked links.old; accepted = L.accepted links.old; back = L.back links.old; done = L.done links.old; faults = L.faults links.old; prompt = L.prompt links.old })
-        (record { asked = L.asked links.new; accepted = L.accepted links.new; back = L.back links.new; done = L.done links.new; faults = L.faults links.new; prompt = L.prompt links.new })
-        kept.old.items kept.new.items result }
-    ensures capacity { vec_capacity kept.new ≡ vec_capacity kept.old }
-{
-    if count == 0 {
-        return Ok(());
-    }
-    match links.accept(port) {
-        Ok((out, inn)) => serve_beside(
-            rt,
-            alloc,
-            port,
-            count - 1,
-            Connection::new(out, inn),
-            kept,
-            links,
-        ),
-        Err(fault) => Err(fault),
-    }
-}
-
-/// Serves a connection on a thread of its own while so many more are accepted. A thread that can't be started has its work
-/// done here, behind the others.
-#[cycle(accepting)]
-fn serve_beside<R: Threads + Wait + Sync, L: Linker>(
-    rt: &R,
-    alloc: Global,
-    port: u16,
-    count: usize,
-    mut connection: Connection<L::O, L::I>,
-    kept: &mut Vec<Connection<L::O, L::I>>,
-    links: &mut L,
-) -> Result<(), OpenFault>
-    requires unused { IsUnused (L.O.state connection.out) (L.I.state connection.inn) }
-    requires room { length kept.old.items + (count + 1) ≤ vec_capacity kept.old }
-    requires few { L.accepted links.old + count ≤ 256 }
-    ensures accepts { AcceptsBeside L.O.state L.I.state count
-        (record { asked = L.asked links.old; accepted = L.accepted links.old; back = L.back links.old; done = L.done links.old; faults = L.faults links.old; prompt = L.prompt links.old })
-        (record { asked = L.asked links.new; accepted = L.accepted links.new; back = L.back links.new; done = L.done links.new; faults = L.faults links.new; prompt = L.prompt links.new })
-        kept.old.items kept.new.items result }
-    ensures capacity { vec_capacity kept.new ≡ vec_capacity kept.old }
-{
-    let mut here = ||
-        requires { IsSync R.row × IsUnused (L.O.state connection.out) (L.I.state connection.inn) }
-        ensures { HasServed L.O.state L.I.state connection.exit }
-    { connection.serve(rt, alloc) };
-    let mut rest = || -> Result<(), OpenFault>
-        requires { IsSync R.row × (length kept.now.items + count ≤ vec_capacity kept.now) × (L.accepted links.now + count ≤ 256) }
-        ensures { AcceptsRest L.O.state L.I.state count
-            (record { asked = L.asked links.entry.now; accepted = L.accepted links.entry.now; back = L.back links.entry.now; done = L.done links.entry.now; faults = L.faults links.entry.now; prompt = L.prompt links.entry.now })
-            (record { asked = L.asked links.exit.now; accepted = L.accepted links.exit.now; back = L.back links.exit.now; done = L.done links.exit.now; faults = L.faults links.exit.now; prompt = L.prompt links.exit.now })
-            kept.entry.now.items kept.exit.now.items result × (vec_capacity kept.exit.now ≡ vec_capacity kept.entry.now) }
-    { serve_rest(rt, alloc, port, count, kept, links) };
-    let ((), accepted) = join_mut(rt, &mut here, &mut rest);
-    kept.push_reserved(connection);
-    accepted
-}
+use std::thread::Threads;
 
 /// Gives the connections back, in order.
 fn give_back<L: Linker>(links: &mut L, kept: Vec<Connection<L::O, L::I>>) -> Tally
@@ -122,10 +51,13 @@ pub fn serve_all<R: Threads + Wait + Sync, L: Linker>(
         (record { asked = L.asked links.new; accepted = L.accepted links.new; back = L.back links.new; done = L.done links.new; faults = L.faults links.new; prompt = L.prompt links.new })
         result }
 {
-    let Ok(mut kept) = Vec::with_capacity(alloc, usize::from(count)) else {
+    let count = usize::from(count);
+    let Ok(kept) = Vec::with_capacity(alloc, count) else {
         return Err(ServeFault::NoMemory);
     };
-    let accepted = serve_rest(rt, alloc, port, usize::from(count), &mut kept, links);
+    let mut hall = Hall { kept, links };
+    let accepted = serve_rest(rt, alloc, port, count, &mut hall);
+    let Hall { mut kept, links } = hall;
     kept.reverse();
     let tally = give_back(links, kept);
     tally.answer(accepted)
