@@ -1,0 +1,4 @@
+mod Putting
+mod Talking
+mod Tallying
+mod Accepting

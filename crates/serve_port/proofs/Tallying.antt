@@ -1,0 +1,42 @@
+-- What services come to, one by one.
+use Rattle.std.proofs.Common.{◌≡◌, ℕ, ◌+◌, Bool, true, false, ◌||◌, ◌&&◌, List, [], ◌∷◌, ◌++◌, length, map, sum, Option, Some, None, Result, Ok, Err, refl, sym, ap, ◌∙◌, subst, arith}
+use Rattle.std.specs.Prelude.{IfSome}
+use Rattle.std.specs.List.{list_all, list_any}
+use Rattle.std.proofs.lemmas.List.Folds.{list_all-append, list_any-append}
+use Rattle.serve_port.specs.declared.tally.Tally.{Tally}
+use Rattle.serve_port.specs.Serving.{ServedConnection, is_failing, is_faulty, is_whole, any_failing, any_faulty, all_whole, frames_of}
+use Rattle.serve_port.specs.Steps.{IsTally}
+
+or_false : (b : Bool) → (b || false) ≡ b
+or_false true = refl
+or_false false = refl
+
+and_true : (b : Bool) → (b && true) ≡ b
+and_true true = refl
+and_true false = refl
+
+any_more : {X : Type 0} (p : X → Bool) (xs : List X) (x : X) (one : Bool) (next : Bool) → one ≡ list_any p xs → next ≡ (one || p x) → next ≡ list_any p (xs ++ x ∷ [])
+any_more p xs x one next e f = f ∙ ap (λ b. b || p x) e ∙ ap (λ b. list_any p xs || b) (sym (or_false (p x))) ∙ sym (list_any-append p xs (x ∷ []))
+
+all_more : {X : Type 0} (p : X → Bool) (xs : List X) (x : X) (one : Bool) (next : Bool) → one ≡ list_all p xs → next ≡ (one && p x) → next ≡ list_all p (xs ++ x ∷ [])
+all_more p xs x one next e f = f ∙ ap (λ b. b && p x) e ∙ ap (λ b. list_all p xs && b) (sym (and_true (p x))) ∙ sym (list_all-append p xs (x ∷ []))
+
+frames_more : (served : List ServedConnection) (x : ServedConnection) → frames_of (served ++ x ∷ []) ≡ frames_of served + x.service.frames
+frames_more [] x = omega arith
+frames_more (s ∷ ss) x = let h = frames_more ss x in omega (arith, h)
+
+told_sum : (served : List ServedConnection) (x : ServedConnection) (o p : Option ℕ) → IfSome o (λ n. n ≡ frames_of served) → ((m : ℕ) → p ≡ Some m → (n : ℕ) × (o ≡ Some n) × (m ≡ n + x.service.frames)) → IfSome p (λ n. n ≡ frames_of (served ++ x ∷ []))
+told_sum served x o None h f = tt
+told_sum served x o (Some m) h f =
+    let y = f m refl in
+    let k : y.0 ≡ frames_of served = subst (λ (q : Option ℕ). IfSome q (λ n. n ≡ frames_of served)) y.1 h in
+    let w = frames_more served x in let e = y.2 in omega (arith, e, k, w)
+
+pub tally_more : (served : List ServedConnection) (x : ServedConnection) (t t' : Tally) → IsTally served t → ((m : ℕ) → t'.frames ≡ Some m → (n : ℕ) × (t.frames ≡ Some n) × (m ≡ n + x.service.frames))
+    → t'.failing ≡ (t.failing || is_failing x.service.end) → t'.faulty ≡ (t.faulty || is_faulty x.service.end) → t'.whole ≡ (t.whole && is_whole x.service.end) → IsTally (served ++ x ∷ []) t'
+tally_more served x t t' k f a b w = record {
+  frames = told_sum served x t.frames t'.frames k.frames f;
+  failing = any_more (λ (s : ServedConnection). is_failing s.service.end) served x t.failing t'.failing k.failing a;
+  faulty = any_more (λ (s : ServedConnection). is_faulty s.service.end) served x t.faulty t'.faulty k.faulty b;
+  whole = all_more (λ (s : ServedConnection). is_whole s.service.end) served x t.whole t'.whole k.whole w;
+}
