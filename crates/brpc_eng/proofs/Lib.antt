@@ -9,3 +9,4 @@ pub mod Exactly
 pub mod Statuses
 pub mod SameLinks
 pub mod OnThreads
+pub mod Serving

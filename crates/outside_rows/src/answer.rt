@@ -15,6 +15,8 @@ pub fn replayed<R: Threads + Wait + Sync + Alloc<A = Global>, L: Linker>(
 ) -> Result<(u8, Vec<u8>), Fail>
     requires asked { L.asked links.old ≡ [] }
     requires back { L.back links.old ≡ [] }
+    requires accepted { L.accepted links.old ≡ 0 }
+    requires done { L.done links.old ≡ [] }
 {
     let alloc = rt.alloc();
     let mut source = MemSource::new(script.as_bytes().to_vec(alloc)?, Vec::new(alloc));
