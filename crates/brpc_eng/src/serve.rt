@@ -30,7 +30,13 @@ pub fn serve<R: Threads + Wait + Sync, K: Sink, L: Linker>(
         (number_of result) }
     ensures linker { number_of result ≢ 8 → L.faults links.new ≡ L.faults links.old }
 {
-    match serve_all(rt, alloc, links, doors.port as u16, doors.connections as u16) {
+    match serve_all(
+        rt,
+        alloc,
+        links,
+        doors.port as u16,
+        doors.connections as u16,
+    ) {
         Ok(frames) => write_served(alloc, doors.connections, frames, out),
         Err(ServeFault::AcceptFailed) => Status::OpenFailed,
         Err(ServeFault::ConnectionFailed) => Status::OpenFailed,
