@@ -7,6 +7,8 @@ mod streams;
 mod tcp_in;
 mod tcp_linker;
 mod tcp_out;
+#[cfg(test)]
+mod tests;
 
 pub use tcp_in::TcpIn;
 pub use tcp_linker::TcpLinker;
