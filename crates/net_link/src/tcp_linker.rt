@@ -10,6 +10,7 @@ use crate::counts::risen;
 use crate::streams::{accept, connect};
 use crate::tcp_in::TcpIn;
 use crate::tcp_out::TcpOut;
+use ghosts::Ghosts;
 use sock_io::{Ends, LinkSpec, Linker, Mode, NoMemory, NoPeer, OpenFault, Shape, Shaped};
 use std::alloc::Global;
 use std::marker::Model;
@@ -37,15 +38,17 @@ pub struct TcpLinker<N: Net<Stream = TcpStream, Listener = TcpListener> + Drop> 
     net: N,
     alloc: Global,
     listener: Option<TcpListener>,
-    asked: Vec<LinkSpec>,
+    opened: u16,
     accepted: u16,
     faults: u64,
-    links: Vec<Link>,
-    connections: Vec<Connection>,
+    /// What was asked of each link, and what was given back, for the proofs.
+    asked: Ghosts<LinkSpec>,
+    links: Ghosts<Link>,
+    connections: Ghosts<Connection>,
 }
 
 impl<N: Net<Stream = TcpStream, Listener = TcpListener> + Drop> Model for TcpLinker<N> {
-    ghost use Rattle.std.specs.Prelude.{◌≤◌, map, vec_len, vec_capacity};
+    ghost use Rattle.std.specs.Prelude.{◌≡◌, length, map};
     ghost use Rattle.sock_io.specs.Link.{connection_of, end_of};
     ghost use Rattle.sock_io.specs.Shape.{shaped_out};
     ghost use Rattle.net_link.specs.Halves.{tcp_in};
@@ -53,9 +56,9 @@ impl<N: Net<Stream = TcpStream, Listener = TcpListener> + Drop> Model for TcpLin
 
     ghost Value = { TcpLinkerState };
 
-    ghost view = { λ l. record { asked = l.asked.items; accepted = l.accepted; back = map (λ e. end_of (shaped_out e.out) (tcp_in e.inn)) l.links.items; done = map (λ c. connection_of (shaped_out c.out) (tcp_in c.inn)) l.connections.items; faults = l.faults } };
+    ghost view = { λ l. record { asked = l.asked.list; accepted = l.accepted; back = map (λ e. end_of (shaped_out e.out) (tcp_in e.inn)) l.links.list; done = map (λ c. connection_of (shaped_out c.out) (tcp_in c.inn)) l.connections.list; faults = l.faults } };
 
-    ghost invariant = { λ l. (vec_len l.asked ≤ vec_capacity l.links) × (vec_len l.links ≤ vec_len l.asked) × (l.accepted ≤ vec_capacity l.connections) × (vec_len l.connections ≤ l.accepted) };
+    ghost invariant = { λ l. length l.asked.list ≡ l.opened };
 }
 
 impl<N: Net<Stream = TcpStream, Listener = TcpListener> + Drop> TcpLinker<N> {
@@ -67,11 +70,12 @@ impl<N: Net<Stream = TcpStream, Listener = TcpListener> + Drop> TcpLinker<N> {
             net,
             alloc,
             listener: None,
-            asked: Vec::new(alloc),
+            opened: 0,
             accepted: 0,
             faults: 0,
-            links: Vec::new(alloc),
-            connections: Vec::new(alloc),
+            asked: Ghosts::of(&0u8),
+            links: Ghosts::of(&0u8),
+            connections: Ghosts::of(&0u8),
         }
     }
 
@@ -84,6 +88,17 @@ impl<N: Net<Stream = TcpStream, Listener = TcpListener> + Drop> TcpLinker<N> {
     {
         self.faults = risen(self.faults);
         OpenFault::Failed
+    }
+
+    /// Counts the link that is opened, and notes what was asked.
+    fn note(&mut self, spec: &LinkSpec)
+        requires { length self.old.asked < 256 }
+        ensures { self.new ≡ record self.old { asked = self.old.asked ++ spec.now ∷ [] } }
+    {
+        self.opened += 1;
+        let before: Ghosts<LinkSpec> = Ghosts::of(&self.asked);
+        let with = (before, *spec);
+        self.asked = Ghosts::of(&with);
     }
 }
 
@@ -122,12 +137,7 @@ impl<N: Net<Stream = TcpStream, Listener = TcpListener> + Drop> Linker for TcpLi
             Mode::Tcp(port) => port,
             Mode::Loop | Mode::Ring => return Err(self.fault()),
         };
-        let opened = self.asked.len();
-        let room = opened + 1 - self.links.len();
-        if self.asked.reserve(1).is_err() || self.links.reserve(room).is_err() {
-            return Err(OpenFault::NoMemory);
-        }
-        let (out, inn) = match connect(&self.net, port, opened as u16) {
+        let (out, inn) = match connect(&self.net, port, self.opened) {
             Ok(halves) => halves,
             Err(_) => return Err(self.fault()),
         };
@@ -138,7 +148,7 @@ impl<N: Net<Stream = TcpStream, Listener = TcpListener> + Drop> Linker for TcpLi
         };
         match Shaped::new(self.alloc, out, shape) {
             Ok(out) => {
-                self.asked.push_reserved(*spec);
+                self.note(spec);
                 Ok(Ends {
                     out,
                     inn,
@@ -167,10 +177,6 @@ impl<N: Net<Stream = TcpStream, Listener = TcpListener> + Drop> Linker for TcpLi
         ensures failed { IsErrOf result OpenFault.Failed → Rose self.old.faults self.new.faults }
         ensures kept { (¬ IsErrOf result OpenFault.Failed) → self.new.faults ≡ self.old.faults }
     {
-        let room = self.accepted as usize + 1 - self.connections.len();
-        if self.connections.reserve(room).is_err() {
-            return Err(OpenFault::NoMemory);
-        }
         let (out, inn) = match accept(&self.net, &mut self.listener, port) {
             Ok(halves) => halves,
             Err(_) => return Err(self.fault()),
@@ -193,19 +199,17 @@ impl<N: Net<Stream = TcpStream, Listener = TcpListener> + Drop> Linker for TcpLi
         requires { length self.old.done < self.old.accepted }
         ensures { self.new ≡ record self.old { done = self.old.done ++ connection_of (shaped_out out) (tcp_in inn) ∷ [] } }
     {
-        match self.connections.push(Connection { out, inn }) {
-            Ok(()) => {}
-            Err(_) => unreachable!(),
-        }
+        let before: Ghosts<Connection> = Ghosts::of(&self.connections);
+        let with = (before, Connection { out, inn });
+        self.connections = Ghosts::of(&with);
     }
 
     fn back(&mut self, _link: u16, ends: Link)
         requires { length self.old.back < length self.old.asked }
         ensures { self.new ≡ record self.old { back = self.old.back ++ end_of (shaped_out ends.out) (tcp_in ends.inn) ∷ [] } }
     {
-        match self.links.push(ends) {
-            Ok(()) => {}
-            Err(_) => unreachable!(),
-        }
+        let before: Ghosts<Link> = Ghosts::of(&self.links);
+        let with = (before, ends);
+        self.links = Ghosts::of(&with);
     }
 }
