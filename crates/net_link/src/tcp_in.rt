@@ -1,4 +1,4 @@
-ghost use Rattle.std.specs.Prelude.{◌≡◌, ◌≢◌, ◌++◌, ◌∷◌, ◌<◌, [], false, length};
+ghost use Rattle.std.specs.Prelude.{◌≡◌, ◌≢◌, ◌++◌, ◌∷◌, ◌<◌, [], true, length};
 ghost use Rattle.sock_io.specs.Link.{TakeStep, given_of, of_take};
 ghost use Rattle.net_link.specs.Halves.{new_in, tcp_in};
 
@@ -56,6 +56,8 @@ impl TcpIn {
         ensures given { self.new.given ≡ self.old.given }
         ensures takes { self.new.takes ≡ self.old.takes }
         ensures never { result ≢ Take.Empty }
+        ensures failed { result ≡ Take.Failed → self.new.failed ≡ true }
+        ensures lost { self.old.failed ≡ true → result ≡ Take.Failed }
     {
         if self.failed {
             self.faults = risen(self.faults);
@@ -95,6 +97,8 @@ impl In for TcpIn {
         requires { 0 < length room.old }
         ensures step { TakeStep (tcp_in self.old) (tcp_in self.new) room.new result }
         ensures never { result ≢ Take.Empty }
+        ensures failed { result ≡ Take.Failed → self.new.failed ≡ true }
+        ensures lost { self.old.failed ≡ true → result ≡ Take.Failed }
     {
         let answer = self.answer_take(room);
         self.note(room, answer);

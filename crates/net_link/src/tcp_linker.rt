@@ -33,6 +33,9 @@ struct Connection {
 ///
 /// An `open` fails where the link isn't to go over TCP, and where nobody listens at the port; an `accept` where the port
 /// can't be listened at. Both fail where the system has no more room for a stream. An `accept` waits for a connection.
+///
+/// A link or connection is closed as it is given back. What was told of it is kept for the proofs alone, so that giving
+/// back takes no memory.
 #[derive(Drop)]
 pub struct TcpLinker<N: Net<Stream = TcpStream, Listener = TcpListener> + Drop> {
     net: N,

@@ -149,6 +149,19 @@ fn lost_connection_fails(rt: HostRuntime) -> Result<(), Fail> {
     Ok(())
 }
 
+// The linker is still there then.
+#[test]
+fn link_is_closed_as_it_is_given_back(rt: HostRuntime) -> Result<(), Fail> {
+    let (listener, port) = listen(&rt)?;
+    let mut links = TcpLinker::new(&rt, rt.alloc());
+    let ends = links.open(&asked(Mode::Tcp(port))).ok().ok_or("memory")?;
+    let (mut far, _) = listener.accept()?;
+    links.back(0, ends);
+    assert_eq!(rt; far.read(&mut [0; 8])?, 0);
+    assert!(rt; links.open(&asked(Mode::Loop)).is_err());
+    Ok(())
+}
+
 /// A signal interrupts the first call; the second one moves what it can, the third nothing, and the fourth fails.
 #[derive(Drop)]
 struct Shaky {
