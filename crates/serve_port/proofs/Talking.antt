@@ -113,7 +113,7 @@ module _ (left n : ℕ) (c c' : Held) (out out' : OutState) (inn inn' : InState)
   long : length piece ≡ n
   long = let few = step.count.1 in omega (arith, ap length piece_is, length-take n room, few)
 
-  came' : List ℕ
+  abbrev came' : List ℕ
   came' = k.came ++ piece
 
   gave' : IfSome inn'.gave_bytes (λ x. x ≡ came')
@@ -165,7 +165,7 @@ module _ (left n : ℕ) (c c' : Held) (out out' : OutState) (inn inn' : InState)
       k.follows.faults piece ∙ sym g.0.fault,
       record { puts = g.2 ∙ k.puts; takes = takes' },
     )
-    ends_by end_.PutFailed g = (omega (arith, g, k.puts), takes')
+    ends_by end_.PutFailed g = (let one : 1 ≤ out'.faults = subst (λ n. Rose n out'.faults) k.puts g in omega (arith, one), takes')
     ends_by end_.NoMemory g = record { puts = g ∙ k.puts; takes = takes' }
 
     pub stops : (e : ServiceEnd) → result ≡ Err e → Serves (record { end = e; frames = c'.made }) (connection_of out' inn')
@@ -225,7 +225,7 @@ take_failed left c out inn inn' room t k s e = let step = subst (TakeStep inn in
   few = few_came left c out inn k;
   took = k.took;
   begins = append-nil (replies k.came);
-  ended = (answered left c out inn k, k.fine, (let rose = step.failed refl in omega (arith, rose, k.takes)), k.puts);
+  ended = (answered left c out inn k, k.fine, (let one : 1 ≤ inn'.faults = subst (λ n. Rose n inn'.faults) k.takes (step.failed refl) in omega (arith, one)), k.puts);
 }
 
 -- finishing the writing half changes nothing of that

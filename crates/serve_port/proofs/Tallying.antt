@@ -1,10 +1,12 @@
 -- What services come to, one by one.
 use Rattle.std.proofs.Common.{◌≡◌, ℕ, ◌+◌, Bool, true, false, ◌||◌, ◌&&◌, List, [], ◌∷◌, ◌++◌, length, map, sum, Option, Some, None, Result, Ok, Err, refl, sym, ap, ◌∙◌, subst, arith}
-use Rattle.std.specs.Prelude.{IfSome}
+use Rattle.std.specs.Prelude.{IfSome, IfOk, IfErr}
 use Rattle.std.specs.List.{list_all, list_any}
 use Rattle.std.proofs.lemmas.List.Folds.{list_all-append, list_any-append}
+use Rattle.serve_port.specs.declared.service.ServeFault.{ServeFault}
+use Rattle.serve_port.specs.declared.service.ServeFault.TheVariants as fault_
 use Rattle.serve_port.specs.declared.tally.Tally.{Tally}
-use Rattle.serve_port.specs.Serving.{ServedConnection, is_failing, is_faulty, is_whole, any_failing, any_faulty, all_whole, frames_of}
+use Rattle.serve_port.specs.Serving.{ServedConnection, is_failing, is_faulty, is_whole, any_failing, any_faulty, all_whole, frames_of, AnswersBy}
 use Rattle.serve_port.specs.Steps.{IsTally}
 
 or_false : (b : Bool) → (b || false) ≡ b
@@ -40,3 +42,15 @@ tally_more served x t t' k f a b w = record {
   faulty = any_more (λ (s : ServedConnection). is_faulty s.service.end) served x t.faulty t'.faulty k.faulty b;
   whole = all_more (λ (s : ServedConnection). is_whole s.service.end) served x t.whole t'.whole k.whole w;
 }
+
+-- what is answered where no accept failed
+pub answers_frames : (served : List ServedConnection) (count before now frames : ℕ) (t : Tally) (r : Result ℕ ServeFault) → IsTally served t → now ≡ before → Some frames ≡ t.frames → t.failing ≡ false → t.faulty ≡ false
+    → (IsAll : Type 0) → (IsAll → length served ≡ count) → IfOk r (λ n. (n ≡ frames) × IsAll × (t.whole ≡ true)) → IfErr r (λ e. e ≡ fault_.NoMemory) → AnswersBy count before now served r
+answers_frames served count before now frames t (Ok n) k same told failing faulty IsAll all h no =
+    let said : frames ≡ frames_of served = subst (λ (q : Option ℕ). IfSome q (λ n. n ≡ frames_of served)) (sym told) k.frames in
+    (all h.1, sym k.whole ∙ h.2, h.0 ∙ said, same)
+answers_frames served count before now frames t (Err e) k same told failing faulty IsAll all h no =
+    subst (λ (f : ServeFault). AnswersBy count before now served (Err f)) (sym no) (sym k.failing ∙ failing, sym k.faulty ∙ faulty, same)
+
+pub answers_none : (served : List ServedConnection) (count before now : ℕ) (t : Tally) → IsTally served t → now ≡ before → t.failing ≡ false → t.faulty ≡ false → AnswersBy count before now served (Err fault_.NoMemory)
+answers_none served count before now t k same failing faulty = (sym k.failing ∙ failing, sym k.faulty ∙ faulty, same)

@@ -1,5 +1,5 @@
 // What the services of all connections come to.
-ghost use Rattle.std.specs.Prelude.{◌≡◌, ◌+◌, ◌∷◌, ◌++◌, ℕ, [], List};
+ghost use Rattle.std.specs.Prelude.{◌≡◌, ◌+◌, ◌∷◌, ◌++◌, ℕ, true, [], List, Some, length, IfOk, IfErr};
 ghost use Rattle.sock_io.specs.Link.{ConnectionEnd};
 ghost use Rattle.serve_port.specs.Serving.{AnswersBy, ServedConnection, is_failing, is_faulty, is_whole};
 ghost use Rattle.serve_port.specs.Steps.{AcceptedBy, IsTally};
@@ -69,9 +69,17 @@ impl Tally {
     pub fn answer(self, accepted: Result<(), OpenFault>) -> Result<u64, ServeFault>
         ensures { (served : List ServedConnection) (count before now : ℕ) → IsTally served self → AcceptedBy count (length served) before now accepted → AnswersBy count before now served result }
     {
-        if accepted == Err(OpenFault::Failed) {
-            return Err(ServeFault::AcceptFailed);
+        match accepted {
+            Ok(()) => self.outcome(true),
+            Err(OpenFault::NoMemory) => self.outcome(false),
+            Err(OpenFault::Failed) => Err(ServeFault::AcceptFailed),
         }
+    }
+
+    /// The same where no accept failed.
+    fn outcome(self, all: bool) -> Result<u64, ServeFault>
+        ensures { (served : List ServedConnection) (count before now : ℕ) → IsTally served self → now ≡ before → (all ≡ true → length served ≡ count) → AnswersBy count before now served result }
+    {
         if self.failing {
             return Err(ServeFault::ConnectionFailed);
         }
@@ -79,9 +87,20 @@ impl Tally {
             return Err(ServeFault::FaultyFrame);
         }
         match self.frames {
-            Some(frames) if self.whole && accepted.is_ok() => Ok(frames),
-            _ => Err(ServeFault::NoMemory),
+            Some(frames) => self.number(all, frames),
+            None => Err(ServeFault::NoMemory),
         }
+    }
+
+    /// So many replies, where all were accepted and read whole.
+    fn number(self, all: bool, frames: u64) -> Result<u64, ServeFault>
+        ensures ok { IfOk result (λ n. (n ≡ frames) × (all ≡ true) × (self.whole ≡ true)) }
+        ensures err { IfErr result (λ e. e ≡ ServeFault.NoMemory) }
+    {
+        if all && self.whole {
+            return Ok(frames);
+        }
+        Err(ServeFault::NoMemory)
     }
 }
 
