@@ -1,12 +1,13 @@
 -- Guests that are accepted one by one, and kept the other way round.
-use Rattle.std.proofs.Common.{◌≡◌, ℕ, suc, ◌+◌, ◌-◌, ◌<◌, ◌≤◌, List, [], ◌∷◌, ◌++◌, length, reverse, Result, Ok, Err, refl, sym, ap, ◌∙◌, subst, arith, append_assoc, append-nil, length-append}
+use Rattle.std.proofs.Common.{◌≡◌, ℕ, suc, ◌+◌, ◌-◌, ◌<◌, ◌≤◌, List, [], ◌∷◌, ◌++◌, length, reverse, map, Result, Ok, Err, refl, sym, ap, ◌∙◌, subst, arith, append_assoc, append-nil, length-append}
 use Rattle.std.specs.Prelude.{All}
 use Rattle.std.proofs.lemmas.List.{length-reverse, reverse-append, reverse-reverse, length-map}
-use Rattle.std.proofs.lemmas.List.Elements.{All-nil, All-cons, All-map}
+use Rattle.std.proofs.lemmas.List.Elements.{All-nil, All-cons, All-map, All-weaker}
 use Rattle.sock_io.specs.declared.link.OpenFault.{OpenFault}
 use Rattle.sock_io.specs.declared.link.OpenFault.TheVariants as open_
 use Rattle.sock_io.specs.Causes.{Rose}
-use Rattle.serve_port.specs.Serving.{LinkerState}
+use Rattle.serve_port.specs.declared.service.ServeFault.{ServeFault}
+use Rattle.serve_port.specs.Serving.{LinkerState, ServedConnection, IsServed, AnswersBy, ServesAll}
 use Rattle.serve_port.specs.Steps.{AcceptedBy, AcceptsRest, AcceptsBeside}
 
 module _ {G : Type 0} (served : G → Type 0) where
@@ -67,3 +68,26 @@ module _ {G : Type 0} (served : G → Type 0) where
   -- turned round they stand in the order in which they were accepted
   pub in_order : (count : ℕ) (old new : LinkerState) (kept : List G) (r : Result (Unit {0}) OpenFault) → (a : AcceptsRest served count old new [] kept r) → reverse kept ≡ a.news
   in_order count old new kept r a = ap reverse a.stacked ∙ reverse-reverse a.news
+
+-- all were given back in that order
+module _ {G : Type 0} (served : G → Type 0) (f : G → ServedConnection) (is : (x : G) → served x → IsServed (f x)) where
+  all_are : (xs : List G) → All served xs → All IsServed (map f xs)
+  all_are xs a = All-map IsServed f xs (All-weaker served (λ x. IsServed (f x)) xs is a)
+
+  pub all_served : (count : ℕ) (old mid new : LinkerState) (kept turned : List G) (r : Result (Unit {0}) OpenFault) (result : Result ℕ ServeFault) → AcceptsRest served count old mid [] kept r → turned ≡ reverse kept
+      → new ≡ record mid { done = mid.done ++ map (λ (s : ServedConnection). s.connection) (map f turned) }
+      → (AcceptedBy count (length (map f turned)) old.faults mid.faults r → AnswersBy count old.faults mid.faults (map f turned) result) → ServesAll count old new result
+  all_served count old mid new kept turned r result a t n answers =
+      let same : turned ≡ a.news = t ∙ in_order served count old mid kept r a in
+      let long : length (map f turned) ≡ length a.news = length-map turned f ∙ ap length same in
+      let faults : new.faults ≡ mid.faults = ap (λ (s : LinkerState). s.faults) n in record {
+        served = map f turned;
+        few = let w = a.few in omega (arith, w, long);
+        each = subst (λ l. All IsServed (map f l)) (sym same) (all_are a.news a.each);
+        links = n ∙ (λ i. record (a.links i) {
+          accepted = (ap (λ (s : LinkerState). s.accepted) a.links ∙ (let e : old.accepted + length a.news ≡ old.accepted + length (map f turned) = omega (arith, long) in e)) i;
+          done = ap (λ (s : LinkerState). s.done) a.links i ++ map (λ (s : ServedConnection). s.connection) (map f turned);
+          faults = sym faults i;
+        });
+        answer = subst (λ k. AnswersBy count old.faults k (map f turned) result) (sym faults) (answers (subst (λ k. AcceptedBy count k old.faults mid.faults r) (sym long) a.answer));
+      }

@@ -1,8 +1,10 @@
 -- What services come to, one by one.
-use Rattle.std.proofs.Common.{◌≡◌, ℕ, ◌+◌, Bool, true, false, ◌||◌, ◌&&◌, List, [], ◌∷◌, ◌++◌, length, map, sum, Option, Some, None, Result, Ok, Err, refl, sym, ap, ◌∙◌, subst, arith}
+use Rattle.std.proofs.Common.{◌≡◌, ℕ, ◌+◌, ◌<◌, ◌≤◌, Bool, true, false, ◌||◌, ◌&&◌, List, [], ◌∷◌, ◌++◌, length, map, sum, Option, Some, None, Result, Ok, Err, refl, sym, ap, ◌∙◌, subst, arith, append_assoc, append-nil, length-append}
 use Rattle.std.specs.Prelude.{IfSome, IfOk, IfErr}
 use Rattle.std.specs.List.{list_all, list_any}
 use Rattle.std.proofs.lemmas.List.Folds.{list_all-append, list_any-append}
+use Rattle.std.proofs.lemmas.List.{length-map, map-append}
+use Rattle.sock_io.specs.Link.{ConnectionEnd}
 use Rattle.serve_port.specs.declared.service.ServeFault.{ServeFault}
 use Rattle.serve_port.specs.declared.service.ServeFault.TheVariants as fault_
 use Rattle.serve_port.specs.declared.tally.Tally.{Tally}
@@ -54,3 +56,34 @@ answers_frames served count before now frames t (Err e) k same told failing faul
 
 pub answers_none : (served : List ServedConnection) (count before now : ℕ) (t : Tally) → IsTally served t → now ≡ before → t.failing ≡ false → t.faulty ≡ false → AnswersBy count before now served (Err fault_.NoMemory)
 answers_none served count before now t k same failing faulty = (sym k.failing ∙ failing, sym k.faulty ∙ faulty, same)
+
+-- ## Given back one by one
+
+pub more_given : {A B : Type 0} (f : A → B) (given : List B) (left rest : List A) (x : A) (all : List B) → given ++ map f left ≡ all → left ≡ x ∷ rest → (given ++ f x ∷ []) ++ map f rest ≡ all
+more_given f given left rest x all h l = append_assoc given (f x ∷ []) (map f rest) ∙ (sym (ap (λ xs. given ++ map f xs) l) ∙ h)
+
+pub none_left : {A B : Type 0} (f : A → B) (given : List B) (left : List A) (all : List B) → given ++ map f left ≡ all → left ≡ [] → given ≡ all
+none_left f given left all h e = sym (append-nil given) ∙ (sym (ap (λ xs. given ++ map f xs) e) ∙ h)
+
+-- one more is given back than before
+pub done_more : (done done' first : List ConnectionEnd) (given : List ServedConnection) (s : ServedConnection) → done ≡ first ++ map (λ (x : ServedConnection). x.connection) given → done' ≡ done ++ s.connection ∷ []
+    → done' ≡ first ++ map (λ (x : ServedConnection). x.connection) (given ++ s ∷ [])
+done_more done done' first given s e f =
+    f ∙ ap (λ l. l ++ s.connection ∷ []) e ∙ append_assoc first (map (λ (x : ServedConnection). x.connection) given) (s.connection ∷ []) ∙ ap (λ l. first ++ l) (sym (map-append (λ (x : ServedConnection). x.connection) given (s ∷ [])))
+
+-- while one is left, fewer were given back than accepted
+pub may_give : {A : Type 0} (f : A → ServedConnection) (done first : List ConnectionEnd) (given : List ServedConnection) (left rest all : List A) (x : A) (accepted : ℕ) → done ≡ first ++ map (λ (x : ServedConnection). x.connection) given → given ++ map f left ≡ map f all
+    → left ≡ x ∷ rest → length first + length all ≤ accepted → length done < accepted
+may_give f done first given left rest all x accepted e h l few =
+    omega (
+      arith,
+      few,
+      ap length e,
+      length-append first (map (λ (x : ServedConnection). x.connection) given),
+      length-map given (λ (x : ServedConnection). x.connection),
+      ap length h,
+      length-append given (map f left),
+      length-map left f,
+      length-map all f,
+      ap length l,
+    )

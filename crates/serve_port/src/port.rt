@@ -1,6 +1,5 @@
 // A port at which connections are served.
 ghost use Rattle.std.specs.Prelude.{◌≡◌, ◌+◌, ◌≤◌, ◌++◌, length, map};
-ghost use Rattle.sock_io.specs.Link.{connection_of};
 ghost use Rattle.serve_port.specs.Serving.{ServesAll};
 ghost use Rattle.serve_port.specs.Steps.{IsTally, as_served};
 
@@ -17,7 +16,7 @@ use std::thread::Threads;
 /// Gives the connections back, in order.
 fn give_back<L: Linker>(links: &mut L, kept: Vec<Connection<L::O, L::I>>) -> Tally
     requires { length (L.done links.old) + length kept.items ≤ L.accepted links.old }
-    ensures done { L.done links.new ≡ L.done links.old ++ map (λ c. connection_of (L.O.state c.out) (L.I.state c.inn)) kept.items }
+    ensures done { L.done links.new ≡ L.done links.old ++ map (λ s. s.connection) (map (λ c. as_served L.O.state L.I.state c) kept.items) }
     ensures asked { L.asked links.new ≡ L.asked links.old }
     ensures accepted { L.accepted links.new ≡ L.accepted links.old }
     ensures back { L.back links.new ≡ L.back links.old }
