@@ -1,4 +1,4 @@
-mod Putting
-mod Talking
+mod Pieces
+mod Answered
 mod Tallying
-mod Accepting
+mod Guests

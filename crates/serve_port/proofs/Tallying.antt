@@ -3,6 +3,7 @@ use Rattle.std.proofs.Common.{◌≡◌, ℕ, ◌+◌, ◌<◌, ◌≤◌, Bool,
 use Rattle.std.specs.Prelude.{IfSome, IfOk, IfErr}
 use Rattle.std.specs.List.{list_all, list_any}
 use Rattle.std.proofs.lemmas.List.Folds.{list_all-append, list_any-append}
+use Rattle.std.proofs.lemmas.List.Sums.{sum_by-append}
 use Rattle.std.proofs.lemmas.List.{length-map, map-append}
 use Rattle.sock_io.specs.Link.{ConnectionEnd}
 use Rattle.serve_port.specs.declared.service.ServeFault.{ServeFault}
@@ -26,8 +27,10 @@ all_more : {X : Type 0} (p : X → Bool) (xs : List X) (x : X) (one : Bool) (nex
 all_more p xs x one next e f = f ∙ ap (λ b. b && p x) e ∙ ap (λ b. list_all p xs && b) (sym (and_true (p x))) ∙ sym (list_all-append p xs (x ∷ []))
 
 frames_more : (served : List ServedConnection) (x : ServedConnection) → frames_of (served ++ x ∷ []) ≡ frames_of served + x.service.frames
-frames_more [] x = omega arith
-frames_more (s ∷ ss) x = let h = frames_more ss x in omega (arith, h)
+frames_more served x =
+    let f : ServedConnection → ℕ = λ s. s.service.frames in
+    let a : frames_of (served ++ x ∷ []) ≡ frames_of served + sum (map f (x ∷ [])) = ap sum (map-append f served (x ∷ [])) ∙ sum_by-append (λ n. n) (map f served) (map f (x ∷ [])) in
+    let b : sum (map f (x ∷ [])) ≡ 0 + x.service.frames = refl in omega (arith, a, b)
 
 told_sum : (served : List ServedConnection) (x : ServedConnection) (o p : Option ℕ) → IfSome o (λ n. n ≡ frames_of served) → ((m : ℕ) → p ≡ Some m → (n : ℕ) × (o ≡ Some n) × (m ≡ n + x.service.frames)) → IfSome p (λ n. n ≡ frames_of (served ++ x ∷ []))
 told_sum served x o None h f = tt
@@ -48,11 +51,11 @@ tally_more served x t t' k f a b w = record {
 -- what is answered where no accept failed
 pub answers_frames : (served : List ServedConnection) (count before now frames : ℕ) (t : Tally) (r : Result ℕ ServeFault) → IsTally served t → now ≡ before → Some frames ≡ t.frames → t.failing ≡ false → t.faulty ≡ false
     → (IsAll : Type 0) → (IsAll → length served ≡ count) → IfOk r (λ n. (n ≡ frames) × IsAll × (t.whole ≡ true)) → IfErr r (λ e. e ≡ fault_.NoMemory) → AnswersBy count before now served r
-answers_frames served count before now frames t (Ok n) k same told failing faulty IsAll all h no =
+answers_frames served count before now frames t (Ok n) k same told failing faulty IsAll all h w =
     let said : frames ≡ frames_of served = subst (λ (q : Option ℕ). IfSome q (λ n. n ≡ frames_of served)) (sym told) k.frames in
     (all h.1, sym k.whole ∙ h.2, h.0 ∙ said, same)
-answers_frames served count before now frames t (Err e) k same told failing faulty IsAll all h no =
-    subst (λ (f : ServeFault). AnswersBy count before now served (Err f)) (sym no) (sym k.failing ∙ failing, sym k.faulty ∙ faulty, same)
+answers_frames served count before now frames t (Err e) k same told failing faulty IsAll all h w =
+    subst (λ (f : ServeFault). AnswersBy count before now served (Err f)) (sym w) (sym k.failing ∙ failing, sym k.faulty ∙ faulty, same)
 
 pub answers_none : (served : List ServedConnection) (count before now : ℕ) (t : Tally) → IsTally served t → now ≡ before → t.failing ≡ false → t.faulty ≡ false → AnswersBy count before now served (Err fault_.NoMemory)
 answers_none served count before now t k same failing faulty = (sym k.failing ∙ failing, sym k.faulty ∙ faulty, same)

@@ -61,14 +61,10 @@ impl<'a, L: Linker> Door for Hall<'a, L> {
     fn accept(&mut self, port: u16) -> Result<Connection<L::O, L::I>, OpenFault>
         requires { L.accepted self.old.links.now < 256 }
         ensures waits { IfOk result (λ c. IsUnused (L.O.state c.out) (L.I.state c.inn)) }
-        ensures accepted { IfOk result (λ _. L.accepted self.new.links.now ≡ L.accepted self.old.links.now + 1) }
-        ensures refused { OnErr result (L.accepted self.new.links.now ≡ L.accepted self.old.links.now) }
-        ensures asked { L.asked self.new.links.now ≡ L.asked self.old.links.now }
-        ensures back { L.back self.new.links.now ≡ L.back self.old.links.now }
-        ensures done { L.done self.new.links.now ≡ L.done self.old.links.now }
-        ensures prompt { L.prompt self.new.links.now ≡ L.prompt self.old.links.now }
+        ensures accepted { IfOk result (λ _. (record { asked = L.asked self.new.links.now; accepted = L.accepted self.new.links.now; back = L.back self.new.links.now; done = L.done self.new.links.now; faults = L.faults self.new.links.now; prompt = L.prompt self.new.links.now }) ≡ (record { asked = L.asked self.old.links.now; accepted = L.accepted self.old.links.now + 1; back = L.back self.old.links.now; done = L.done self.old.links.now; faults = L.faults self.old.links.now; prompt = L.prompt self.old.links.now })) }
+        ensures refused { OnErr result ((record { asked = L.asked self.new.links.now; accepted = L.accepted self.new.links.now; back = L.back self.new.links.now; done = L.done self.new.links.now; faults = L.faults self.new.links.now; prompt = L.prompt self.new.links.now }) ≡ (record { asked = L.asked self.old.links.now; accepted = L.accepted self.old.links.now; back = L.back self.old.links.now; done = L.done self.old.links.now; faults = L.faults self.new.links.now; prompt = L.prompt self.old.links.now })) }
         ensures failed { IsErrOf result OpenFault.Failed → Rose (L.faults self.old.links.now) (L.faults self.new.links.now) }
-        ensures still { (¬ IsErrOf result OpenFault.Failed) → L.faults self.new.links.now ≡ L.faults self.old.links.now }
+        ensures short { IsErrOf result OpenFault.NoMemory → L.faults self.new.links.now ≡ L.faults self.old.links.now }
         ensures kept { self.new.kept ≡ self.old.kept }
     {
         match self.links.accept(port) {

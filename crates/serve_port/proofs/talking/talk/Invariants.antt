@@ -1,5 +1,5 @@
 use Rattle.std.proofs.Common.{◌≡◌, length}
-use Rattle.serve_port.proofs.Talking.{Talks}
+use Rattle.serve_port.proofs.Answered.{Talks}
 use Rattle.serve_port.proofs.talking.talk.Given as goal
 
 abbrev pub invariant-takes : goal.invariant-takes

@@ -72,7 +72,7 @@ module _ {G : Type 0} (served : G → Type 0) where
 -- all were given back in that order
 module _ {G : Type 0} (served : G → Type 0) (f : G → ServedConnection) (is : (x : G) → served x → IsServed (f x)) where
   all_are : (xs : List G) → All served xs → All IsServed (map f xs)
-  all_are xs a = All-map IsServed f xs (All-weaker served (λ x. IsServed (f x)) xs is a)
+  all_are xs a = All-map IsServed f xs (All-weaker served (λ x. IsServed (f x)) is xs a)
 
   pub all_served : (count : ℕ) (old mid new : LinkerState) (kept turned : List G) (r : Result (Unit {0}) OpenFault) (result : Result ℕ ServeFault) → AcceptsRest served count old mid [] kept r → turned ≡ reverse kept
       → new ≡ record mid { done = mid.done ++ map (λ (s : ServedConnection). s.connection) (map f turned) }
