@@ -3,6 +3,7 @@ use Rattle.std.proofs.Common.{◌≡◌, ◌≢◌, ℕ, ◌+◌, ◌-◌, ◌<�
 use Rattle.std.specs.Prelude.{IfSome, flat_map}
 use Rattle.std.specs.Io.KnownBytes.{append_known}
 use Rattle.std.proofs.lemmas.Grind.{flat_map-append}
+use Rattle.std.proofs.lemmas.List.{take-append-le}
 use Rattle.brpc_model.specs.Causes.{reading_limit}
 use Rattle.brpc_model.specs.Frame.{frame_bytes}
 use Rattle.brpc_model.specs.Reply.{reply_frames, replies}
@@ -11,7 +12,7 @@ use Rattle.rpc_server.specs.Feeding.{has_fault, Replied}
 use Rattle.sock_io.specs.declared.link.Take.{Take}
 use Rattle.sock_io.specs.declared.link.Take.TheVariants as take_
 use Rattle.sock_io.specs.Causes.{Rose}
-use Rattle.sock_io.specs.Link.{OutState, InState, IsUnused, TakeStep, connection_of}
+use Rattle.sock_io.specs.Link.{OutState, InState, IsUnused, IsTakeCount, TakeStep, connection_of}
 use Rattle.serve_port.specs.declared.service.Service.{Service}
 use Rattle.serve_port.specs.declared.service.ServiceEnd.{ServiceEnd}
 use Rattle.serve_port.specs.declared.service.ServiceEnd.TheVariants as end_
@@ -231,3 +232,7 @@ take_failed left c out inn inn' room t k s e = let step = subst (TakeStep inn in
 -- finishing the writing half changes nothing of that
 pub finished_same : (s : Service) (out out' : OutState) (inn : InState) → out'.took ≡ out.took → out'.faults ≡ out.faults → Serves s (connection_of out inn) → Serves s (connection_of out' inn)
 finished_same s out out' inn took faults k = subst (Serves s) (λ i. record (connection_of out inn) { took = (sym took) i; put_faults = (sym faults) i }) k
+
+-- what stands in front of the room
+pub in_front : (room rest : List ℕ) (n : ℕ) (t : Take) → t ≡ take_.Took n → IsTakeCount room t → take n (room ++ rest) ≡ take n room
+in_front room rest n t is count = let few = (subst (IsTakeCount room) is count).1 in take-append-le n room rest few

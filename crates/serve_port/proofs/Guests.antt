@@ -7,6 +7,7 @@ use Rattle.sock_io.specs.declared.link.OpenFault.{OpenFault}
 use Rattle.sock_io.specs.declared.link.OpenFault.TheVariants as open_
 use Rattle.sock_io.specs.Causes.{Rose}
 use Rattle.serve_port.specs.declared.service.ServeFault.{ServeFault}
+use Rattle.serve_port.specs.declared.service.ServeFault.TheVariants as fault_
 use Rattle.serve_port.specs.Serving.{LinkerState, ServedConnection, IsServed, AnswersBy, ServesAll}
 use Rattle.serve_port.specs.Steps.{AcceptedBy, AcceptsRest, AcceptsBeside}
 
@@ -65,6 +66,9 @@ module _ {G : Type 0} (served : G → Type 0) where
       → AcceptsBeside served count old new kept kept' r
   beside count old mid new kept mid_kept kept' guest r is a links last = record { guest = guest; stack = mid_kept; is_served = is; last = last; others = subst (λ s. AcceptsRest served count old s kept mid_kept r) (sym links) a }
 
+  pub from_none : (count : ℕ) (old new : LinkerState) (kept kept' : List G) (r : Result (Unit {0}) OpenFault) → kept ≡ [] → AcceptsRest served count old new kept kept' r → AcceptsRest served count old new [] kept' r
+  from_none count old new kept kept' r e a = subst (λ (l : List G). AcceptsRest served count old new l kept' r) e a
+
   -- turned round they stand in the order in which they were accepted
   pub in_order : (count : ℕ) (old new : LinkerState) (kept : List G) (r : Result (Unit {0}) OpenFault) → (a : AcceptsRest served count old new [] kept r) → reverse kept ≡ a.news
   in_order count old new kept r a = ap reverse a.stacked ∙ reverse-reverse a.news
@@ -91,3 +95,13 @@ module _ {G : Type 0} (served : G → Type 0) (f : G → ServedConnection) (is :
         });
         answer = subst (λ k. AnswersBy count old.faults k (map f turned) result) (sym faults) (answers (subst (λ k. AcceptedBy count k old.faults mid.faults r) (sym long) a.answer));
       }
+
+-- none was accepted
+pub none_served : (count : ℕ) (s : LinkerState) → ServesAll count s s (Err fault_.NoMemory)
+none_served count s = record {
+  served = [];
+  few = omega arith;
+  each = All-nil IsServed;
+  links = let e : s.accepted ≡ s.accepted + 0 = omega arith in λ i. record s { accepted = e i; done = sym (append-nil s.done) i };
+  answer = (refl, refl, refl);
+}

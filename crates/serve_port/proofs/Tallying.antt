@@ -5,12 +5,15 @@ use Rattle.std.specs.List.{list_all, list_any}
 use Rattle.std.proofs.lemmas.List.Folds.{list_all-append, list_any-append}
 use Rattle.std.proofs.lemmas.List.Sums.{sum_by-append}
 use Rattle.std.proofs.lemmas.List.{length-map, map-append}
+use Rattle.sock_io.specs.declared.link.OpenFault.{OpenFault}
+use Rattle.sock_io.specs.declared.link.OpenFault.TheVariants as open_
+use Rattle.sock_io.specs.Causes.{Rose}
 use Rattle.sock_io.specs.Link.{ConnectionEnd}
 use Rattle.serve_port.specs.declared.service.ServeFault.{ServeFault}
 use Rattle.serve_port.specs.declared.service.ServeFault.TheVariants as fault_
 use Rattle.serve_port.specs.declared.tally.Tally.{Tally}
 use Rattle.serve_port.specs.Serving.{ServedConnection, is_failing, is_faulty, is_whole, any_failing, any_faulty, all_whole, frames_of, AnswersBy}
-use Rattle.serve_port.specs.Steps.{IsTally}
+use Rattle.serve_port.specs.Steps.{AcceptedBy, IsTally}
 
 or_false : (b : Bool) → (b || false) ≡ b
 or_false true = refl
@@ -90,3 +93,16 @@ may_give f done first given left rest all x accepted e h l few =
       length-map all f,
       ap length l,
     )
+
+-- where no accept failed, the linker's count stands still
+pub still_short : (count n before now : ℕ) (f : OpenFault) → f ≡ open_.NoMemory → AcceptedBy count n before now (Err f) → now ≡ before
+still_short count n before now f short a = subst (λ (x : OpenFault). AcceptedBy count n before now (Err x)) short a
+
+pub was_failed : (count n before now : ℕ) (f : OpenFault) → f ≡ open_.Failed → AcceptedBy count n before now (Err f) → Rose before now
+was_failed count n before now f failed a = subst (λ (x : OpenFault). AcceptedBy count n before now (Err x)) failed a
+
+pub was_refused : (count n before now : ℕ) (r : Result (Unit {0}) OpenFault) (f : OpenFault) → r ≡ Err f → AcceptedBy count n before now r → AcceptedBy count n before now (Err f)
+was_refused count n before now r f is a = subst (λ (x : Result (Unit {0}) OpenFault). AcceptedBy count n before now x) is a
+
+pub all_accepted : (count n before now : ℕ) (r : Result (Unit {0}) OpenFault) (u : Unit {0}) → r ≡ Ok u → AcceptedBy count n before now r → (n ≡ count) × (now ≡ before)
+all_accepted count n before now r u is a = subst (λ (x : Result (Unit {0}) OpenFault). AcceptedBy count n before now x) is a

@@ -1,5 +1,5 @@
 // What the services of all connections come to.
-ghost use Rattle.std.specs.Prelude.{◌≡◌, ◌+◌, ◌∷◌, ◌++◌, ℕ, true, [], List, Some, length, IfOk, IfErr};
+ghost use Rattle.std.specs.Prelude.{◌≡◌, ◌+◌, ◌∷◌, ◌++◌, ℕ, true, [], List, Some, Err, length, IfOk, IfErr};
 ghost use Rattle.sock_io.specs.Link.{ConnectionEnd};
 ghost use Rattle.serve_port.specs.Serving.{AnswersBy, ServedConnection, is_failing, is_faulty, is_whole};
 ghost use Rattle.serve_port.specs.Steps.{AcceptedBy, IsTally};
@@ -71,8 +71,17 @@ impl Tally {
     {
         match accepted {
             Ok(()) => self.outcome(true),
-            Err(OpenFault::NoMemory) => self.outcome(false),
-            Err(OpenFault::Failed) => Err(ServeFault::AcceptFailed),
+            Err(fault) => self.refused(fault),
+        }
+    }
+
+    /// The same where one wasn't accepted.
+    fn refused(self, fault: OpenFault) -> Result<u64, ServeFault>
+        ensures { (served : List ServedConnection) (count before now : ℕ) → IsTally served self → AcceptedBy count (length served) before now (Err fault) → AnswersBy count before now served result }
+    {
+        match fault {
+            OpenFault::NoMemory => self.outcome(false),
+            OpenFault::Failed => Err(ServeFault::AcceptFailed),
         }
     }
 

@@ -1,7 +1,26 @@
+use Rattle.std.proofs.Common.{◌≡◌, sym, subst, rules}
+use Rattle.serve_port.specs.Serving.{ServesAll}
+use Rattle.serve_port.specs.Steps.{HasServed, as_served}
+use Rattle.serve_port.proofs.Guests.{none_served, from_none, all_served}
 use Rattle.serve_port.proofs.port.serve_all.Goals as goal
 
 pub returns-in_default : goal.returns-in_default
-returns-in_default g c = ?
+returns-in_default g c = none_served _ _
 
 pub returns : goal.returns
-returns g c = ?
+returns g c =
+    let links : c.links-1.given.0 ≡ c.give_back-tally.new.links = search rules in
+    let e = c.give_back-tally.ensures in
+    let was = HasServed g.L.O.Out.state g.L.I.In.state in
+    let all = all_served was (as_served g.L.O.Out.state g.L.I.In.state) (λ x h. h) c.from-count.result _ _ (record {
+      asked = g.L.Linker.asked c.give_back-tally.new.links;
+      accepted = g.L.Linker.accepted c.give_back-tally.new.links;
+      back = g.L.Linker.back c.give_back-tally.new.links;
+      done = g.L.Linker.done c.give_back-tally.new.links;
+      faults = g.L.Linker.faults c.give_back-tally.new.links;
+      prompt = g.L.Linker.prompt c.give_back-tally.new.links;
+    }) _ c.reverse.new.self.items c.serve_rest-accepted.result c.answer.result
+    (from_none was c.from-count.result _ _ _ _ c.serve_rest-accepted.result c.in-Ok.ensures.items c.serve_rest-accepted.ensures.accepts)
+    c.reverse.ensures.items
+    (λ i. record { asked = e.asked i; accepted = e.accepted i; back = e.back i; done = e.done i; faults = e.faults i; prompt = e.prompt i })
+    (λ x. c.answer.ensures _ _ _ _ e.tally x) in ?
