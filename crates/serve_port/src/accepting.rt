@@ -23,6 +23,7 @@ pub fn serve_rest<R: Threads + Wait + Sync, D: Door>(
     requires few { (D.links door.old).accepted + count ≤ 256 }
     ensures accepts { AcceptsRest D.G.served count (D.links door.old) (D.links door.new) (D.kept door.old) (D.kept door.new) result }
     ensures room { D.room door.new ≡ D.room door.old }
+    ensures name { D.name door.new ≡ D.name door.old }
 {
     if count == 0 {
         return Ok(());
@@ -48,6 +49,7 @@ fn serve_beside<R: Threads + Wait + Sync, D: Door>(
     requires few { (D.links door.old).accepted + count ≤ 256 }
     ensures accepts { AcceptsBeside D.G.served count (D.links door.old) (D.links door.new) (D.kept door.old) (D.kept door.new) result }
     ensures room { D.room door.new ≡ D.room door.old }
+    ensures name { D.name door.new ≡ D.name door.old }
 {
     let mut guest = guest;
     let accepted = serve_both(rt, alloc, port, count, &mut guest, door);
@@ -71,6 +73,7 @@ fn serve_both<R: Threads + Wait + Sync, D: Door>(
     ensures served { D.G.served guest.new }
     ensures accepts { AcceptsRest D.G.served count (D.links door.old) (D.links door.new) (D.kept door.old) (D.kept door.new) result }
     ensures room { D.room door.new ≡ D.room door.old }
+    ensures name { D.name door.new ≡ D.name door.old }
 {
     let ((), accepted) = join_mut(
         rt,
@@ -80,7 +83,7 @@ fn serve_both<R: Threads + Wait + Sync, D: Door>(
         { guest.serve(rt, alloc) },
         &mut || -> Result<(), OpenFault>
             requires { IsSync R.row × (length (D.kept door.now) + count ≤ D.room door.now) × ((D.links door.now).accepted + count ≤ 256) }
-            ensures { AcceptsRest D.G.served count (D.links door.entry.now) (D.links door.exit.now) (D.kept door.entry.now) (D.kept door.exit.now) result × (D.room door.exit.now ≡ D.room door.entry.now) }
+            ensures { AcceptsRest D.G.served count (D.links door.entry.now) (D.links door.exit.now) (D.kept door.entry.now) (D.kept door.exit.now) result × (D.room door.exit.now ≡ D.room door.entry.now) × (D.name door.exit.now ≡ D.name door.entry.now) }
         { serve_rest(rt, alloc, port, count, door) },
     );
     accepted

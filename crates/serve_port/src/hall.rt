@@ -23,6 +23,9 @@ pub trait Door {
 
     ghost room: { Self → ℕ };
 
+    /// Which linker it is.
+    ghost name: { Self → ℕ };
+
     /// Lets the next one in.
     fn accept(&mut self, port: u16) -> Result<Self::G, OpenFault>
         requires { (links self.old).accepted < 256 }
@@ -32,14 +35,16 @@ pub trait Door {
         ensures failed { IsErrOf result OpenFault.Failed → Rose (links self.old).faults (links self.new).faults }
         ensures short { IsErrOf result OpenFault.NoMemory → (links self.new).faults ≡ (links self.old).faults }
         ensures kept { kept self.new ≡ kept self.old }
-        ensures room { room self.new ≡ room self.old };
+        ensures room { room self.new ≡ room self.old }
+        ensures name { name self.new ≡ name self.old };
 
     /// Keeps it.
     fn keep(&mut self, guest: Self::G)
         requires { length (kept self.old) < room self.old }
         ensures kept { kept self.new ≡ kept self.old ++ guest ∷ [] }
         ensures links { links self.new ≡ links self.old }
-        ensures room { room self.new ≡ room self.old };
+        ensures room { room self.new ≡ room self.old }
+        ensures name { name self.new ≡ name self.old };
 }
 
 /// A linker, and room for its connections.
@@ -59,6 +64,8 @@ impl<'a, L: Linker> Door for Hall<'a, L> {
 
     ghost room = { λ h. vec_capacity h.kept };
 
+    ghost name = { λ h. h.links.ghost_name };
+
     fn accept(&mut self, port: u16) -> Result<Connection<L::O, L::I>, OpenFault>
         requires { L.accepted self.old.links.now < 256 }
         ensures waits { IfOk result (λ c. IsUnused (L.O.state c.out) (L.I.state c.inn)) }
@@ -67,6 +74,7 @@ impl<'a, L: Linker> Door for Hall<'a, L> {
         ensures failed { IsErrOf result OpenFault.Failed → Rose (L.faults self.old.links.now) (L.faults self.new.links.now) }
         ensures short { IsErrOf result OpenFault.NoMemory → L.faults self.new.links.now ≡ L.faults self.old.links.now }
         ensures kept { self.new.kept ≡ self.old.kept }
+        ensures name { self.new.links.ghost_name ≡ self.old.links.ghost_name }
     {
         match self.links.accept(port) {
             Ok((out, inn)) => Ok(Connection::new(out, inn)),
@@ -79,6 +87,7 @@ impl<'a, L: Linker> Door for Hall<'a, L> {
         ensures kept { self.new.kept.items ≡ self.old.kept.items ++ guest ∷ [] }
         ensures links { self.new.links.now ≡ self.old.links.now }
         ensures room { vec_capacity self.new.kept ≡ vec_capacity self.old.kept }
+        ensures name { self.new.links.ghost_name ≡ self.old.links.ghost_name }
     {
         self.kept.push_reserved(guest);
     }
