@@ -67,9 +67,6 @@ pub mod EndedNames
 pub mod EndedNamed
 pub mod EndedLives
 pub mod EndedAttempts
-pub mod EndedTrials
-pub mod EndedTryLoops
-pub mod EndedTryPrograms
 pub mod EndedTryTicks
 pub mod EndedOnce
 pub mod EndedCauses

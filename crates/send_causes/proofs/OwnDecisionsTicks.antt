@@ -44,7 +44,7 @@ use Rattle.send_causes.proofs.Words.{made_on, finds_label, words_forward, makes_
 use Rattle.send_causes.proofs.Readings.{ticks_first}
 use Rattle.send_causes.proofs.Ticks.{calls_waiting, pair_one, pair_same, waits_set}
 use Rattle.send_causes.proofs.EndedNames.{ids_first, few_of}
-use Rattle.send_causes.proofs.EndedTryLoops.{id_back}
+use Rattle.label_runs.proofs.Loops.{id_back}
 use Rattle.send_causes.proofs.OwnDecisionsHomes.{HandFits, HomesFit, PutFits, hand_more, home_more, message_there, home_set, home_away, first_fits, others_fit, lies_fit, fed_fits, places_fit, hand_fits, homes_fit}
 use Rattle.send_causes.proofs.OwnDecisionsStands.{Stand, Calm, Trying, Past, Posted, Eases, MayPut, MayPost, MayAside, Stowing, unlocked_stand, Aims}
 use Rattle.send_causes.proofs.OwnDecisionsLoops.{aims_round}

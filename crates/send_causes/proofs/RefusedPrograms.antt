@@ -435,7 +435,7 @@ module _ (requests : ℕ) (is_call : Asked → Type 0) (reads : Bool) where
                   tt,
                   λ _ _. (
                     sending (DidStep (FindLink (socket_id_slot socket) (socket_id_version socket)) k ∷ DidStep (AddRef socket) found ∷ ds),
-                    (inr (id, n, k, refl, refl, low, few, refl), inl (refl, refl)),
+                    ((id, n, k, refl, refl, low, few, refl), inl (refl, refl)),
                     looks_goes (DidStep (FindLink (socket_id_slot socket) (socket_id_version socket)) k ∷ DidStep (AddRef socket) found ∷ ds) (inr (inr put)) (inr (inr load)),
                   ),
                 ),

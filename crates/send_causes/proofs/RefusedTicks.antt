@@ -572,8 +572,7 @@ module _ (p : Plan) (q : IdPlan) (narrow : q.slots ≤ 65536) (is_call : Asked �
 
         stored : (w : ℕ) (o : ℕ) → ((id n k : ℕ) → w ≡ at_word (id_first id) (id_slot id) k n → k < 65535 → n ≤ 6 → id_slot id < 65536 → (ids o ≡ id) × (id ≢ 0))
             → (y : Doing) → Storing o w t.trial y.trial → Held y → Charges p.requests is_call reads y (next found) → Ends
-        stored w o own y (inl e) held g = keeps y (inr e) held g
-        stored w o own y (inr x) held g = still y g held
+        stored w o own y x held g = still y g held
             (subst (TrialFits ids) (sym x.7) (let z = own x.0 x.1 x.2 x.4 x.5 x.6 (tried_low x.0 x.1 x.3) in (z.0, z.1, x.6)))
             (λ id n. (let a : of_trial id n y.trial ≡ pair_of id n x.0 x.1 = ap (of_trial id n) x.7 in let b : of_trial id n t.trial ≡ pair_of id n x.0 x.1 = ap (of_trial id n) x.3 in omega (arith, a, b)))
 

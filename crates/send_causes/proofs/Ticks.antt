@@ -429,8 +429,7 @@ module _ (p : Plan) (q : IdPlan) (narrow : q.slots ≤ 65536) (is_call : Asked �
 
       stored_ends : (o w : ℕ) (next : ℕ → Program) (found : ℕ) (answer : Option Taking) (is : found_in (StoreAt o w) c.calls answer ≡ some found) (may : MayId p q u (StoreAt o w)) → ((id n k : ℕ) → w ≡ at_word (id_first id) (id_slot id) k n → k < 65535 → n ≤ 6 → id_slot id < 65536 → (ids o ≡ id) × (id ≢ 0))
           → (x : Trial) → Storing o w t x → Labels is_call x (next found) → After (with_seat i (next found) seat.hand c.words c.homes (record c { calls = calls_after (StoreAt o w) found c.calls })) vs
-      stored_ends o w next found answer is may own x (inl e) g = keeps (StoreAt o w) next found answer is may tt x (inr e) g
-      stored_ends o w next found answer is may own x (inr s) g = still (StoreAt o w) next found answer is may tt x g
+      stored_ends o w next found answer is may own x s g = still (StoreAt o w) next found answer is may tt x g
           (subst (TrialFits ids) (sym s.7) (let y = own s.0 s.1 s.2 s.4 s.5 s.6 (tried_low s.0 s.1 s.3) in (y.0, y.1, s.6))) (λ id n. (let a : of_trial id n x ≡ pair_of id n s.0 s.1 = ap (of_trial id n) s.7 in let b : of_trial id n t ≡ pair_of id n s.0 s.1 = ap (of_trial id n) s.3 in omega (arith, a, b)))
 
       -- each step aside
