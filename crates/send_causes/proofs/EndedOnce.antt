@@ -42,7 +42,7 @@ use Rattle.send_causes.proofs.Early.{start, go, fitting}
 use Rattle.send_causes.proofs.Runs.{AreLabelledIn, IsCallOf, behind_ids}
 use Rattle.send_causes.proofs.Sends.{narrow}
 use Rattle.send_causes.proofs.Ticks.{none_asked}
-use Rattle.send_causes.proofs.EndedNamed.{asked_by}
+use Rattle.send_causes.proofs.AttemptedBegin.{asked_by}
 use Rattle.send_causes.proofs.EndedTryTicks.{of_try, OnceLaw, moves, once_ticks}
 use Rattle.send_causes.proofs.EndedWhole.{seats_played}
 

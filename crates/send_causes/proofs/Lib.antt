@@ -76,12 +76,6 @@ pub mod AttemptedBegin
 pub mod AttemptedRuns
 pub mod AttemptedCalls
 pub mod AttemptedSent
-pub mod AttemptedTrails
-pub mod AttemptedLoops
-pub mod AttemptedPrograms
-pub mod AttemptedNames
-pub mod AttemptedLives
-pub mod AttemptedNamed
 pub mod AttemptedRun
 pub mod AttemptedFacts
 pub mod AttemptedOwn
