@@ -13,7 +13,6 @@ pub mod ReaderRuns
 pub mod Early
 pub mod Places
 pub mod Rests
-pub mod Telling
 pub mod Storied
 pub mod Dropped
 pub mod Sends
