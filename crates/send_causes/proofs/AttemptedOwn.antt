@@ -40,10 +40,10 @@ use Rattle.sock_causes.proofs.Ticks.{elem_there}
 use Rattle.label_runs.specs.Labels.{FindsLabel}
 use Rattle.send_causes.specs.Counts.{word_of_id}
 use Rattle.send_causes.proofs.Words.{finds_label}
-use Rattle.send_causes.proofs.Ticks.{AreCalls, calls_waiting}
+use Rattle.send_causes.proofs.Ticks.{AreCalls, PutsCall, calls_behind, calls_waiting, few_of, ids_first, fits_as}
 use Rattle.send_causes.proofs.AttemptedWords.{Rise, is_new, is_same, is_more, IsMakeAt, risen, Advances}
-use Rattle.send_causes.proofs.EndedTrails.{StoresNext, with_stored, Of, NoCall, Makes, Knows, Trail, lost, Stays, GoesDo, GoesAside, Follows}
-use Rattle.send_causes.proofs.EndedNames.{follows_first, ids_first, fits_as, calls_behind, PutsCall, few_of, resolves}
+use Rattle.send_causes.proofs.EndedTrails.{StoresNext, Of, NoCall, Makes, Knows, Trail, lost, Stays, GoesDo, GoesAside, Follows}
+use Rattle.send_causes.proofs.EndedNames.{follows_first, resolves}
 use Rattle.send_causes.proofs.AttemptedFacts.{IsStored, IsStoring, IsOwn, Facts}
 
 -- what is known of a call

@@ -15,8 +15,6 @@ use Rattle.sock_message.specs.Asked.{Asked}
 use Rattle.sock_programs.specs.Beside.{call_at}
 use Rattle.sock_programs.specs.Clients.{client_from, ending_of}
 use Rattle.sock_programs.specs.Cores.{Core, SeatState, resolved, next_step}
-use Rattle.sock_programs.specs.declared.task.Op.{Op}
-use Rattle.sock_programs.specs.declared.task.Op.TheVariants as ops
 use Rattle.sock_programs.specs.declared.task.Sizes.{Sizes}
 use Rattle.sock_programs.specs.declared.task.Task.{Task}
 use Rattle.sock_programs.specs.Programs.{Program, Rest}
@@ -32,12 +30,10 @@ use Rattle.sock_runs.proofs.Opening.{mapped, appended}
 use Rattle.sock_runs.proofs.Ticks.{sound_ticks}
 use Rattle.sock_runs.proofs.Whole.{Begins, AreFittingIn, closing_of, rested_of, views_played, views_closed, views_ended, set_up_answered, end_answered, set_up_sound, played_sound, closing_sound, closed_sound, rested_ahead, rested_idle}
 use Rattle.sock_causes.specs.Kept.{Story}
-use Rattle.sock_causes.specs.PlainTasks.{told_tasks_of, OwnsCall}
+use Rattle.sock_causes.specs.PlainTasks.{told_tasks_of}
 use Rattle.sock_causes.specs.Stories.{Event, In}
 use Rattle.sock_causes.proofs.Begin.{start_story}
 use Rattle.sock_causes.proofs.Final.{at_there}
-use Rattle.sock_causes.proofs.Members.{all_in, all_of}
-use Rattle.sock_causes.proofs.Messages.{in_of_at}
 use Rattle.sock_causes.proofs.Plain.{in_left, in_right, in_both}
 use Rattle.sock_causes.proofs.Openings.{are_seats, all_explained}
 use Rattle.sock_causes.proofs.Runs.{IsStoried, set_up_over, ending_story, is_ending_story}
@@ -54,7 +50,7 @@ use Rattle.send_causes.proofs.Ticks.{none_asked}
 use Rattle.send_causes.proofs.AttemptedBegin.{asked_by}
 use Rattle.send_causes.proofs.EndedTrails.{Trail, lost, Follows}
 use Rattle.send_causes.proofs.EndedPrograms.{client_goes, ending_goes, reader_goes}
-use Rattle.send_causes.proofs.EndedNames.{ViewOver, NameLaw, StoredFor, for_up, lost_true, resolves, moves, name_ticks, tick_loads}
+use Rattle.send_causes.proofs.EndedNames.{NameLaw, StoredFor, for_up, lost_true, resolves, moves, name_ticks, tick_loads}
 
 -- ## How a run begins
 

@@ -1,5 +1,5 @@
 -- Each tick keeps that no attempt has two at words.
-use Rattle.std.proofs.Common.{◌≡◌, ◌≢◌, ℕ, zero, suc, ◌+◌, ◌<◌, ◌≤◌, ◌⊎◌, inl, inr, ⊎_elim, Bool, true, false, cond, eqb, eqb-true, eq-eqb, List, [], ◌∷◌, ◌++◌, length-set, get_or, set, refl, sym, ap, ◌∙◌, subst, arith}
+use Rattle.std.proofs.Common.{◌≡◌, ◌≢◌, ℕ, ◌+◌, ◌<◌, ◌≤◌, ◌⊎◌, inl, inr, ⊎_elim, Bool, true, false, cond, eqb, eqb-true, eq-eqb, List, [], ◌∷◌, ◌++◌, length-set, set, refl, sym, ap, ◌∙◌, subst, arith}
 use Rattle.std.specs.List.{AllByRecursion}
 use Rattle.std.specs.Prelude as std
 use mathlib.Core.Logic.{dite}
@@ -16,7 +16,7 @@ use Rattle.slot_laws.proofs.Sums.{term_le, total-append, total-set}
 use Rattle.corr_core.specs.Word.{parts}
 use Rattle.corr_core.specs.declared.marks.Plan.{Plan as IdPlan}
 use Rattle.id_runs.specs.Held.{IdView, MayId}
-use Rattle.id_runs.specs.Goes.{FitsSock, FindsId, IdGoesOn, SoundIds, IsFittingIds}
+use Rattle.id_runs.specs.Goes.{FindsId, IdGoesOn, SoundIds, IsFittingIds}
 use Rattle.id_runs.proofs.Steps.{finds_ids}
 use Rattle.sock_programs.specs.Asides.{Step, Found, ClaimId, PutCall, MakeId, StoreCall, LoadCall, StoreAt, LoadAt, LoadIdWord, LockId, PostId, UnlockId, EndId, FreeId, TakeCall, TakeBytes, Taking, call_id, id_slot, id_first}
 use Rattle.sock_message.specs.Asked.{Asked}
@@ -35,8 +35,7 @@ use Rattle.send_causes.specs.Counts.{pair_of, of_retry, WasMade, WasNow, StoresO
 use Rattle.send_causes.specs.EndedCalls.{Store, stores_by, stored_at}
 use Rattle.send_causes.proofs.Words.{made_on, finds_label, words_forward, makes_new, advances_new}
 use Rattle.send_causes.proofs.Readings.{ticks_first}
-use Rattle.send_causes.proofs.Ticks.{AreCalls, calls_waiting, pair_one, pair_same}
-use Rattle.send_causes.proofs.EndedNames.{ids_first, fits_as, PutsCall, calls_behind, few_of}
+use Rattle.send_causes.proofs.Ticks.{AreTries, few_more, few_of, AreCalls, PutsCall, calls_behind, calls_waiting, ids_first, fits_as, pair_one, pair_same, waits_set}
 use Rattle.label_runs.proofs.Loops.{labels_round}
 use Rattle.label_runs.proofs.Programs.{block_goes, retry_goes}
 
@@ -74,11 +73,6 @@ module _ (is_call : Asked → Type 0) (ids : ℕ → ℕ) (q : IdPlan) where
 
 -- ## Sums
 
-waits_set : {A : Type 0} (f : List A → ℕ) → f [] ≡ 0 → (ws : List (List A)) (i : ℕ) (x : List A) → total f (set ws i x) + f (get_or ws i []) ≤ total f ws + f x
-waits_set f none_ [] i x = omega (arith, none_)
-waits_set f none_ (w ∷ ws) zero x = omega arith
-waits_set f none_ (w ∷ ws) (suc i) x = let r = waits_set f none_ ws i x in omega (arith, r)
-
 pair_self : (id n : ℕ) → pair_of id n id n ≡ 1
 pair_self id n = ap (λ b. cond b (cond (eqb n n) 1 0) 0) (eq-eqb id id refl) ∙ ap (λ b. cond b 1 0) (eq-eqb n n refl)
 
@@ -86,13 +80,6 @@ word_attempt : (f s k n : ℕ) → f < 4294967296 → s < 65536 → k < 65535 �
 word_attempt f s k n first slot link few = omega (arith, first, slot, link, few)
 
 -- ## Retries that are kept and taken up
-
-abbrev AreFew : List Retry → Type 0
-AreFew ws = AllByRecursion (λ (r : Retry). r.attempt ≤ 6) ws
-
-few_more : (ws : List Retry) (r : Retry) → AreFew ws → r.attempt ≤ 6 → AreFew (ws ++ r ∷ [])
-few_more [] r all one = (one, tt)
-few_more (w ∷ ws) r all one = (all.0, few_more ws r all.1 one)
 
 record Resolved (is_call : Asked → Type 0) (t : Trial) (ws : List Retry) (x : Program) : Type 0 where
   pub trial : Trial
@@ -102,7 +89,7 @@ record Resolved (is_call : Asked → Type 0) (t : Trial) (ws : List Retry) (x : 
 stays : (is_call : Asked → Type 0) (t : Trial) (ws : List Retry) (x : Program) → Labels is_call t (next_step (resolved ws x)) → still_waiting ws x ≡ ws → Resolved is_call t ws x
 stays is_call t ws x g e = record { trial = t; stows = g; fewer = λ id n. (let z : total (of_retry id n) (still_waiting ws x) ≡ total (of_retry id n) ws = ap (total (of_retry id n)) e in omega (arith, z)) }
 
-resolves : (is_call : Asked → Type 0) (t : Trial) (ws : List Retry) (x : Program) → AreFew ws → Labels is_call t x → Resolved is_call t ws x
+resolves : (is_call : Asked → Type 0) (t : Trial) (ws : List Retry) (x : Program) → AreTries ws → Labels is_call t x → Resolved is_call t ws x
 resolves is_call t ws (Say o outcome next) few g = let r = resolves is_call t ws next few g in record { trial = r.trial; stows = r.stows; fewer = r.fewer }
 resolves is_call t ws (Sent o next) few g = let r = resolves is_call t ws next few g in record { trial = r.trial; stows = r.stows; fewer = r.fewer }
 resolves is_call t ws (Keep k next) few g = let r = resolves is_call Idle (ws ++ k ∷ []) next (few_more ws k few g.1) g.2 in record {
@@ -168,7 +155,7 @@ module _ (p : Plan) (q : IdPlan) (narrow : q.slots ≤ 65536) (is_call : Asked �
       pub bound : (id n : ℕ) → tries_of id n d trials + of_try id n t ≤ tries_of id n c ts + of_try id n u
 
     module _ (a : Calls) (x : Program) (hand : List Home) (ws : List ℕ) (hs : List (Option Home)) (u : Trial) (g : Goes a x u) where
-      few : AreFew (waiting_at a.waiting i)
+      few : AreTries (waiting_at a.waiting i)
       few = few_of q (waiting_at a.waiting i) (subst (λ (l : List (List Retry)). AllByRecursion (Rattle.id_runs.specs.Goes.FitsRetryId q) (waiting_at l i)) (sym g.kept) (real_ids.waiting i))
 
       abbrev r : Resolved is_call u (waiting_at a.waiting i) x
