@@ -222,6 +222,7 @@ module _ (p : Plan) (clients : List (List Task)) (are : AreTasks p clients) (ove
     pub early : (j h k : ℕ) → WasGiven timely.story j h k → WasFailed few timely.story j h → Contains few k ⊎ ((fail : ℕ) × Contains tells.fails (fail, k))
 
   pub told_so : Tells
+  unfolding told_tasks
   told_so = record { tells = told_tasks; early = failed_so }
 
   -- ## Drops
