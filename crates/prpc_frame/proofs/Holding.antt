@@ -1,9 +1,7 @@
 -- What a cutter holds, by the fault that it has noted.
-use Rattle.std.proofs.Common.{◌≡◌, ℕ, ℤ, pos, negsuc, Bool, true, false, cond, List, [], ◌++◌, length, take, drop, Option, Some, None, Result, Ok, Err, refl, ap, sym, ◌∙◌, subst, inl, inr, ◌-◌}
-use Rattle.std.specs.Prelude.{nat_lt, if◌then◌else◌, is_some, OnOk, OnErr}
-use Rattle.brpc_model.specs.Meta.{Meta, MetaFault}
-use Rattle.brpc_model.specs.Frame as model
-use Rattle.brpc_model.specs.Frame.{Judged, NoneYet, Faulty, Begins, with_attachment, body_judged, judged}
+use Rattle.std.proofs.Common.{◌≡◌, ℕ, true, false, List, ◌++◌, length, Option, Some, None, Result, Ok, Err, refl, ap, sym, ◌∙◌, subst, inl}
+use Rattle.std.specs.Prelude.{if◌then◌else◌, is_some, OnOk, OnErr}
+use Rattle.brpc_model.specs.Frame.{judged}
 use Rattle.brpc_model.specs.Stream.{stream_from}
 use Rattle.io_buf.specs.Buffer.{Buffer}
 use Rattle.prpc_frame.specs.Held.{Held, held_count, with_piece}
@@ -74,18 +72,3 @@ answers_at old now new kept r e k h =
     let P : List ℕ → Type 0 = λ l. Answers (judged l) l r kept in
     let Q : List ℕ → Type 0 = λ l. Answers (judged old) old r l in
     subst P e (subst Q k h)
-
-pub faulty_is_told : (j : Judged) (f : FrameFault) → IsFault j f → j ≡ NoneYet → ⊥
-faulty_is_told j f h n = let P : Judged → Type 0 = λ k. IsFaulty k in subst P n (is_fault (fault_of f) j h)
-
-attachment_is_told : (m : Meta) (z : ℤ) (behind : List ℕ) (body : ℕ) → with_attachment m z behind body ≡ NoneYet → ⊥
-attachment_is_told m (negsuc n) behind body e = let k : Faulty (model.AttachOver (negsuc n) (length behind)) ≡ NoneYet = e in cc
-attachment_is_told m (pos n) behind body e = by_room (nat_lt (length behind) n) e
-  where
-    by_room : (b : Bool) → (if b then Faulty (model.AttachOver (pos n) (length behind)) else Begins (record { meta = m; payload = take (length behind - n) behind; attachment = drop (length behind - n) behind }) body) ≡ NoneYet → ⊥
-    by_room true e = let k : Faulty (model.AttachOver (pos n) (length behind)) ≡ NoneYet = e in cc
-    by_room false e = let k : Begins (record { meta = m; payload = take (length behind - n) behind; attachment = drop (length behind - n) behind }) body ≡ NoneYet = e in cc
-
-pub body_is_told : (r : Result Meta MetaFault) (behind : List ℕ) (body : ℕ) → body_judged r behind body ≡ NoneYet → ⊥
-body_is_told (Err f) behind body e = let k : Faulty (model.BadMeta f) ≡ NoneYet = e in cc
-body_is_told (Ok m) behind body e = attachment_is_told m m.attachment_size behind body e

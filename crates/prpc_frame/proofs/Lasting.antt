@@ -9,11 +9,10 @@ use Rattle.brpc_model.specs.Frame.{Judged, NoneYet, Faulty, Begins, BadMagic, To
 use Rattle.brpc_model.specs.Stream.{Stream, Rest, Fault, goes_on, with_frame, stream_from}
 use Rattle.brpc_model.proofs.Streams.{stream_goes_on}
 use Rattle.prpc_frame.specs.Header.{magic_wrong, body_size, meta_size, inside_of}
-use Rattle.prpc_frame.specs.Meaning.{frame_of, fault_of, IsFault}
+use Rattle.prpc_frame.specs.Meaning.{frame_of, fault_of}
 use Rattle.prpc_frame.specs.Answers.{Cuts, Answers, IsFaulty, Fed}
 use Rattle.prpc_frame.specs.Leads.{ends, Leads}
 use Rattle.prpc_frame.specs.declared.frame.Frame.{Frame}
-use Rattle.prpc_frame.specs.declared.fault.FrameFault.{FrameFault}
 use Rattle.prpc_frame.specs.declared.fault.NextFault.{NextFault}
 use Rattle.prpc_frame.specs.declared.fault.NextFault.TheVariants as next
 use Rattle.prpc_frame.proofs.Judging.{told_wrong, told_short, told_big, told_over, told_lacking, told_whole, still_wrong, still_right, same_match, same_word, same_inside}
