@@ -7,7 +7,7 @@ mod keep;
 mod right;
 
 pub use entry::{Refused, Started, start};
-pub use hold::{LINK_FAILED, Once, write_once};
+pub use hold::{Once, write_once};
 pub use keep::{Kept, keep_write};
 pub use right::{Doing, InHand, LinkInHand, Undelivered, Walk, WriteRight};
 
