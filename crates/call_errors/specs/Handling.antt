@@ -26,13 +26,16 @@ abbrev pub decision : IdLock Asked → ℕ → Maybe ℕ → Decision
 decision k code attempt = decision_of (parts k.word.0).range (parts k.word.0).attempt code (is_whole attempt)
 
 -- the retry of the attempt behind the current one
-abbrev pub next_retry : IdLock Asked → Retry
-next_retry k = record { id = id_in k; attempt = (parts k.word.0).attempt + 1 }
+pub record IsNext (k : IdLock Asked) (r : Retry) : Type 0 where
+  pub id_is : r.id ≡ id_in k
+  pub attempt_is : r.attempt ≡ (parts k.word.0).attempt + 1
 
 -- the attempt advanced as the lock was given back, with this answer, and the retry is kept
 pub record Advanced (k : IdLock Asked) (answer : Unlocked Asked) (s t : CallStand) : Type 0 where
   pub unlocked : UnlockOk s.view t.view k.slot (parts k.word.0) k.content true answer
-  pub kept : t.books ≡ keeping (next_retry k) s.books
+  pub retry : Retry
+  pub is_next : IsNext k retry
+  pub kept : t.books ≡ keeping retry s.books
 
 -- the call ends with the error; it ends for want of memory, which was there before or is met as a retry is to be kept; its next
 -- attempt waits; or it does, and the error that was handed out instead of the lock is handled

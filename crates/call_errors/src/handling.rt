@@ -1,12 +1,11 @@
 // An error for which a seat has the lock.
-ghost use Rattle.std.specs.Prelude.{◌≡◌, ◌+◌, ◌<◌};
+ghost use Rattle.std.specs.Prelude.{◌≡◌, ◌+◌, ◌<◌, deque_len, deque_capacity};
 ghost use Rattle.corr_core.specs.Word.{parts};
 ghost use Rattle.corr_core.specs.declared.marks.Hand.TheVariants.{Empty};
 ghost use Rattle.corr_id.specs.Seats.{Sits, Stays};
 ghost use Rattle.corr_id.specs.Calls.{Locks};
 ghost use Rattle.call_errors.specs.Books.{stand_of, LetGo};
 ghost use Rattle.call_errors.specs.Handling.{is_whole as concerns_all, decision, Advanced, Decided};
-ghost use Rattle.call_table.specs.declared.errors.Decision.TheVariants.{Retry as again};
 
 use crate::ending::end_call;
 use crate::seats::{CallSeat, Retry};
@@ -39,6 +38,7 @@ fn advance(ids: &IdTable<Call>, calls: &mut CallSeat, lock: IdLock<Call>) -> Unl
     requires left { (parts lock.word.0).attempt + 2 < (parts lock.word.0).range }
     requires room { deque_len calls.old.retries < deque_capacity calls.old.retries }
     ensures seat { Stays calls.old.seat calls.new.seat }
+    ensures sits { Sits ids.now.table.shared.table_id calls.new.seat }
     ensures advanced { Advanced lock result (stand_of calls.old) (stand_of calls.new) }
 {
     let retry = Retry {
@@ -70,19 +70,21 @@ pub fn handle(
     if calls.starved {
         return end_call(ids, calls, lock, EINTERNAL);
     }
-    if decide(&lock, code, attempt) == Decision::End {
-        return end_call(ids, calls, lock, code);
-    }
-    if calls.retries.reserve(1).is_err() {
-        calls.starved = true;
-        return end_call(ids, calls, lock, EINTERNAL);
-    }
-    match advance(ids, calls, lock) {
-        Unlocked::Open => {}
-        Unlocked::Next {
-            lock,
-            code,
-            attempt,
-        } => handle(ids, calls, lock, code, attempt),
+    match decide(&lock, code, attempt) {
+        Decision::End => end_call(ids, calls, lock, code),
+        Decision::Retry => {
+            if calls.retries.reserve(1).is_err() {
+                calls.starved = true;
+                return end_call(ids, calls, lock, EINTERNAL);
+            }
+            match advance(ids, calls, lock) {
+                Unlocked::Open => {}
+                Unlocked::Next {
+                    lock: next,
+                    code: handed,
+                    attempt: of,
+                } => handle(ids, calls, next, handed, of),
+            }
+        }
     }
 }

@@ -12,7 +12,8 @@ mod starving;
 mod tests;
 
 pub use asking::{expire_one, join_one};
+pub use ending::end_call;
 pub use handling::handle;
 pub use posting::post_error;
 pub use seats::{CallSeat, Retry};
-pub use starving::starve;
+pub use starving::{give_up, starve};

@@ -29,7 +29,14 @@ pub fn post_error<R: Wait>(
     ensures free { IsFree calls.new.seat.me.0 }
     ensures posted { PostedBy ids.now.plan.slots (stand_of calls.old) id code attempt (stand_of calls.new) }
 {
-    if let Posted::Locked(lock) = ids.post(rt, &mut calls.seat, id, code, attempt) {
-        handle(ids, calls, lock, code, attempt);
+    match ids.post(rt, &mut calls.seat, id, code, attempt) {
+        Posted::Locked(lock) => handle(ids, calls, lock, code, attempt),
+        Posted::Queued => {}
+        Posted::Gone { found: _ } => {}
+        Posted::Stale { current: _ } => {}
+        Posted::Crowded {
+            first: _,
+            second: _,
+        } => {}
     }
 }

@@ -13,8 +13,8 @@ use std::collections::VecDeque;
 use std::mem;
 use std::sync::Wait;
 
-// The call with this id ends, unless it has ended.
-fn give_up<R: Wait>(rt: &R, ids: &IdTable<Call>, calls: &mut CallSeat, id: u64)
+/// The call with this id ends for want of memory, unless it has ended.
+pub fn give_up<R: Wait>(rt: &R, ids: &IdTable<Call>, calls: &mut CallSeat, id: u64)
     requires seat { Sits ids.now.table.shared.table_id calls.old.seat }
     requires free { IsFree calls.old.seat.me.0 }
     ensures seat { Stays calls.old.seat calls.new.seat }
