@@ -1,5 +1,5 @@
 -- Ways in which an error is decided on.
-use Rattle.std.proofs.Common.{◌≡◌, ◌≢◌, ℕ, ◌+◌, ◌-◌, ◌<◌, ◌≤◌, inl, inr, Bool, true, false, ◌||◌, if◌then◌else◌, List, eqb, eq-eqb, sym, refl, ap, ◌∙◌, subst, arith}
+use Rattle.std.proofs.Common.{◌≡◌, ◌≢◌, ℕ, ◌+◌, ◌-◌, ◌<◌, ◌≤◌, inl, inr, Bool, true, false, ◌||◌, if◌then◌else◌, List, [], ◌∷◌, ◌++◌, eqb, eq-eqb, sym, refl, ap, ◌∙◌, subst, arith}
 use Rattle.std.specs.Prelude.{Option as Maybe}
 use Rattle.sock_words.specs.Codes.{EINTERNAL}
 use Rattle.corr_core.specs.Word.{Parts, parts}
@@ -11,10 +11,12 @@ use Rattle.corr_id.specs.declared.calls.IdLock.{IdLock}
 use Rattle.corr_id.specs.declared.unlocks.Unlocked.{Unlocked}
 use Rattle.corr_id.specs.declared.unlocks.Unlocked.TheVariants.{Open, Next}
 use Rattle.corr_id.specs.Calls.{Locks, advance_note}
+use Rattle.corr_id.specs.Unlocks.{UnlockOk}
 use Rattle.call_table.specs.declared.errors.Decision.TheVariants as decisions
 use Rattle.call_table.specs.Errors.{is_final, decision_of}
-use Rattle.call_errors.specs.declared.seats.Retry.{Retry}
+use Rattle.call_errors.specs.declared.retries.Retry.{Retry}
 use Rattle.call_errors.specs.Books.{Books, CallStand, starving, LetGo}
+use Rattle.call_errors.specs.Locking.{id_in}
 use Rattle.call_errors.specs.Ending.{EndedWith}
 use Rattle.call_errors.specs.Handling.{decision, Advanced, Decided, ends, starves, waits, goes_on}
 use Rattle.call_errors.proofs.Hands.{let_go_did, let_go_then}
@@ -52,3 +54,13 @@ module _ (k : IdLock Asked) (s t : CallStand) where
 
   pub open_lets_go : Advanced k Open s t → LetGo k.slot s.view t.view
   open_lets_go a = let (found, q, replaced, none_, did) = a.unlocked in let_go_did k.slot s.view t.view (advance_note k.slot (parts k.word.0) q) did
+
+-- the lock was given back, and the retry stands behind the others
+pub advanced_by : (k : IdLock Asked) (answer : Unlocked Asked) (s : CallStand) (w : View Asked) (r : Retry) (rs : List Retry) → UnlockOk s.view w k.slot (parts k.word.0) k.content true answer
+    → r.id ≡ id_in k → r.attempt ≡ (parts k.word.0).attempt + 1 → rs ≡ s.books.retries ++ r ∷ [] → Advanced k answer s (record { view = w; books = record { retries = rs; told = s.books.told; starved = s.books.starved } })
+advanced_by k answer s w r rs u a b e = record {
+  unlocked = u;
+  retry = r;
+  is_next = record { id_is = a; attempt_is = b };
+  kept = λ z. record { retries = e z; told = s.books.told; starved = s.books.starved };
+}

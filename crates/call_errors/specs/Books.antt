@@ -5,7 +5,7 @@ use Rattle.id_rule.specs.Lawful.{tokens_in}
 use Rattle.sock_message.specs.Asked.{Asked}
 use Rattle.rpc_client.specs.declared.acting.Told.{Told}
 use Rattle.call_errors.specs.declared.seats.CallSeat.{CallSeat}
-use Rattle.call_errors.specs.declared.seats.Retry.{Retry}
+use Rattle.call_errors.specs.declared.retries.Retry.{Retry}
 
 -- the retries that wait, the oldest first; what it told; and whether memory was wanting, so that it ends each call whose error it gets
 pub record Books : Type 0 where

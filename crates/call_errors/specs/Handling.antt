@@ -11,7 +11,7 @@ use Rattle.corr_id.specs.Unlocks.{UnlockOk}
 use Rattle.call_table.specs.declared.errors.Decision.{Decision}
 use Rattle.call_table.specs.declared.errors.Decision.TheVariants as decisions
 use Rattle.call_table.specs.Errors.{decision_of}
-use Rattle.call_errors.specs.declared.seats.Retry.{Retry}
+use Rattle.call_errors.specs.declared.retries.Retry.{Retry}
 use Rattle.call_errors.specs.Books.{CallStand, starving, keeping}
 use Rattle.call_errors.specs.Locking.{id_in}
 use Rattle.call_errors.specs.Ending.{EndedWith}

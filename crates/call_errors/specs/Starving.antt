@@ -4,7 +4,7 @@ use Rattle.sock_words.specs.Codes.{EINTERNAL}
 use Rattle.corr_core.specs.declared.marks.View.{View}
 use Rattle.sock_message.specs.Asked.{Asked}
 use Rattle.corr_id.specs.declared.calls.IdLock.{IdLock}
-use Rattle.call_errors.specs.declared.seats.Retry.{Retry}
+use Rattle.call_errors.specs.declared.retries.Retry.{Retry}
 use Rattle.call_errors.specs.Books.{CallStand}
 use Rattle.call_errors.specs.Locking.{GotBy, GoneBy}
 use Rattle.call_errors.specs.Ending.{EndedWith}

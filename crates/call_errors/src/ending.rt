@@ -1,5 +1,5 @@
 // A call that ends with a code.
-ghost use Rattle.std.specs.Prelude.{◌≡◌, ◌<◌, ◌×◌};
+ghost use Rattle.std.specs.Prelude.{◌≡◌, ◌<◌};
 ghost use Rattle.corr_core.specs.Word.{parts};
 ghost use Rattle.corr_core.specs.declared.marks.Hand.TheVariants.{Empty};
 ghost use Rattle.corr_id.specs.Seats.{Sits, Stays};

@@ -1,5 +1,6 @@
 // An error for which a seat has the lock.
-ghost use Rattle.std.specs.Prelude.{◌≡◌, ◌+◌, ◌<◌, deque_len, deque_capacity};
+ghost use Rattle.std.specs.Prelude.{◌≡◌, ◌+◌, ◌<◌};
+ghost use Rattle.std.specs.VecDeque.{deque_len, deque_capacity};
 ghost use Rattle.corr_core.specs.Word.{parts};
 ghost use Rattle.corr_core.specs.declared.marks.Hand.TheVariants.{Empty};
 ghost use Rattle.corr_id.specs.Seats.{Sits, Stays};
@@ -8,7 +9,8 @@ ghost use Rattle.call_errors.specs.Books.{stand_of, LetGo};
 ghost use Rattle.call_errors.specs.Handling.{is_whole as concerns_all, decision, Advanced, Decided};
 
 use crate::ending::end_call;
-use crate::seats::{CallSeat, Retry};
+use crate::retries::Retry;
+use crate::seats::CallSeat;
 use call_table::{Decision, on_error};
 use corr_id::{IdLock, IdTable, Unlocked};
 use sock_message::Call;

@@ -6,6 +6,7 @@ mod asking;
 mod ending;
 mod handling;
 mod posting;
+mod retries;
 mod seats;
 mod starving;
 #[cfg(test)]
@@ -15,5 +16,6 @@ pub use asking::{expire_one, join_one};
 pub use ending::end_call;
 pub use handling::handle;
 pub use posting::post_error;
-pub use seats::{CallSeat, Retry};
+pub use retries::Retry;
+pub use seats::CallSeat;
 pub use starving::{give_up, starve};

@@ -1,20 +1,13 @@
 // What a client has for its calls.
-ghost use Rattle.std.specs.Prelude.{◌≡◌, ◌≤◌, [], false};
+ghost use Rattle.std.specs.Prelude.{◌≡◌, [], false};
 ghost use Rattle.call_errors.specs.Books.{books_of};
 
+use crate::retries::Retry;
 use corr_id::IdSeat;
 use rpc_client::Told;
 use sock_message::{BlockPool, Call};
 use std::alloc::Global;
 use std::collections::VecDeque;
-
-/// A retry that is kept: the id of its call, and the attempt that is to be tried.
-#[derive(Drop)]
-pub struct Retry {
-    pub id: u64,
-    pub attempt: u8,
-    pub ghost low: { attempt ≤ 6 },
-}
 
 /// A client's part for calls: its seat of the table of ids, the retries that it keeps, the oldest first, what it tells of the
 /// calls that it ended, and whether memory was wanting.
