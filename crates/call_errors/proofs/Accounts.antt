@@ -3,7 +3,7 @@ use Rattle.std.proofs.Common.{◌≡◌, ◌≢◌, ℕ, ◌+◌, ◌*◌, ◌<�
 use Rattle.std.specs.Prelude.{Option as Maybe}
 use mathlib.Core.Logic.{dite}
 use native.Mathlib.Decide.{ℕ_discrete}
-use Rattle.corr_core.specs.Word.{parts}
+use Rattle.corr_core.specs.Word.{Parts, parts}
 use Rattle.corr_core.specs.Law.{total, only, is_ended}
 use Rattle.corr_core.specs.declared.marks.Note.{Note}
 use Rattle.corr_core.specs.declared.marks.Note.TheVariants.{Tried, Made, Ended, Locker, Queued, Attempt, Saw}
@@ -11,6 +11,7 @@ use Rattle.corr_core.specs.declared.marks.Noted.{Noted}
 use Rattle.corr_core.specs.declared.marks.Token.{Token}
 use Rattle.corr_core.specs.declared.marks.View.{View}
 use Rattle.id_rule.specs.Lawful.{notes_of}
+use Rattle.sock_words.specs.Codes.{EINTERNAL}
 use Rattle.sock_words.specs.declared.outcome.Outcome.{Outcome}
 use Rattle.sock_words.specs.declared.outcome.Outcome.TheVariants.{CallFailed}
 use Rattle.sock_message.specs.Asked.{Asked}
@@ -19,13 +20,13 @@ use Rattle.corr_id.specs.declared.posts.Posted.{Posted}
 use Rattle.corr_id.specs.declared.posts.Posted.TheVariants.{Locked as HasLock, Queued as IsQueued, Gone, Stale, Crowded}
 use Rattle.corr_id.specs.declared.unlocks.Unlocked.{Unlocked}
 use Rattle.corr_id.specs.declared.unlocks.Unlocked.TheVariants.{Open, Next}
-use Rattle.corr_id.specs.Calls.{Did, Quiet, is_event, events, one, advance_note}
+use Rattle.corr_id.specs.Calls.{Did, Quiet, is_event, events, one, advance_note, slot_of, version_of, error_in}
 use Rattle.corr_id.specs.Posts.{PostOk}
 use Rattle.corr_id.proofs.Seats.{total_append, notes_append}
 use Rattle.rpc_client.specs.declared.acting.Told.{Told}
 use Rattle.call_errors.specs.declared.retries.Retry.{Retry}
-use Rattle.call_errors.specs.Books.{Books, CallStand, Tells, told, lost}
-use Rattle.call_errors.specs.Ending.{EndedWith}
+use Rattle.call_errors.specs.Books.{Books, CallStand, starving, Tells, told, lost}
+use Rattle.call_errors.specs.Ending.{EndedWith, failed}
 use Rattle.call_errors.specs.Handling.{Advanced, Decided, ends, starves, waits, goes_on}
 use Rattle.call_errors.specs.Posting.{Handled, PostedBy}
 use Rattle.call_errors.specs.Starving.{GivenUp, was_gone, ended, AllGivenUp, StarvedBy}
@@ -97,7 +98,7 @@ did_ends at v w ts es d h i f =
 quiet_ends : (v w : View Asked) → Quiet v w → (i f : ℕ) → noted_ends i f w ≡ noted_ends i f v
 quiet_ends v w q i f = sym (events_ends i f w.notes) ∙ (ap (λ (l : List (Noted Asked)). total (is_ended f) (notes_of i l)) q.events_same ∙ events_ends i f v.notes)
 
-no_end_advance : (at : ℕ) (p q : Rattle.corr_core.specs.Word.Parts) → NoEnd (advance_note at p q)
+no_end_advance : (at : ℕ) (p q : Parts) → NoEnd (advance_note at p q)
 no_end_advance at p q = by (eqb p.attempt q.attempt)
   where
     by : (b : Bool) → NoEnd (cond b [] (one at (Attempt p.first q.attempt)))
@@ -120,11 +121,11 @@ same_id i f j g fl gl = dite (ℕ_discrete j i)
 pub accounts_ended : (k : IdLock Asked) (code : ℕ) (s t : CallStand) → EndedWith k code s t → Accounts s t
 accounts_ended k code s t e = by e.tells
   where
-    by : Tells (record { number = k.content.operation; outcome = CallFailed (k.slot * 4294967296 + (parts k.word.0).first) code }) s.books t.books → Accounts s t
+    by : Tells (failed k code) s.books t.books → Accounts s t
     by (lost is) = inl (ap (λ (b : Books). b.starved) is)
     by (told is) = inr (λ i f fl.
         let first = (parts k.word.0).first in let low = k.fits.low in
-        let a : told_ends i f t.books ≡ told_ends i f s.books + (only (i * 4294967296 + f) (k.slot * 4294967296 + first) + 0) = ap (told_ends i f) is ∙ total_append (is_end (i * 4294967296 + f)) s.books.told _ in
+        let a : told_ends i f t.books ≡ told_ends i f s.books + (only (i * 4294967296 + f) (k.slot * 4294967296 + first) + 0) = ap (told_ends i f) is ∙ total_append (is_end (i * 4294967296 + f)) s.books.told (failed k code ∷ []) in
         let b : noted_ends i f t.view ≡ cond (eqb k.slot i) (only f first) 0 + noted_ends i f s.view = ap (λ (l : List (Noted Asked)). total (is_ended f) (notes_of i l)) e.ended.notes ∙ one_more i f (record { slot = k.slot; note = Ended first }) s.view.notes in
         let c = same_id i f k.slot first fl (omega (arith, low)) in omega arith)
 
@@ -141,13 +142,13 @@ advanced_accounts k (Next l code attempt) s t a = still s t (ap (λ (b : Books).
 
 pub decided_accounts : {s : CallStand} {k : IdLock Asked} {code : ℕ} {attempt : Maybe ℕ} {t : CallStand} → Decided s k code attempt t → Accounts s t
 decided_accounts (ends s k code attempt t a b e) = accounts_ended k code s t e
-decided_accounts (starves s k code attempt t a e) = ⊎_elim (λ x. inl x) (λ h. inr h) (accounts_ended k 2001 _ t e)
+decided_accounts (starves s k code attempt t a e) = accounts_ended k EINTERNAL (record { view = s.view; books = starving s.books }) t e
 decided_accounts (waits s k code attempt t a b e) = inr (advanced_accounts k Open s t e)
 decided_accounts (goes_on s k code attempt t u l next of a b e rest) = accounts_then s u t (advanced_accounts k (Next l next of) s u e) (decided_accounts rest)
 
 post_ends : (slots : ℕ) (v w : View Asked) (id code : ℕ) (attempt : Maybe ℕ) (answer : Posted Asked) → PostOk slots v w id code attempt answer → (i f : ℕ) → noted_ends i f w ≡ noted_ends i f v
-post_ends slots v w id code attempt (HasLock k) p = did_ends k.slot v w _ _ p.4.1.did (no_end_one k.slot _ (λ f. refl))
-post_ends slots v w id code attempt IsQueued p = did_ends _ v w _ _ p.0 (no_end_one _ _ (λ f. refl))
+post_ends slots v w id code attempt (HasLock k) p = did_ends k.slot v w _ _ p.4.1.did (no_end_one k.slot (Locker (parts k.word.0).first k.content) (λ f. refl))
+post_ends slots v w id code attempt IsQueued p = did_ends (slot_of id) v w _ _ p.0 (no_end_one (slot_of id) (Queued (version_of id) (error_in code attempt)) (λ f. refl))
 post_ends slots v w id code attempt (Gone found) p = quiet_ends v w p.0
 post_ends slots v w id code attempt (Stale current) p = quiet_ends v w p.0
 post_ends slots v w id code attempt (Crowded first second) p = quiet_ends v w p.0
