@@ -28,15 +28,22 @@ StopsAt stop.Waits left = judged left ≡ NoneYet
 StopsAt stop.Fault left = (fault : FrameFault) × (judged left ≡ Faulty fault)
 StopsAt stop.NoMemory left = Unit {0}
 
+-- why it ended behind a piece: the limit, a fault, or want of memory
+abbrev pub EndsFed : How → List ℕ → ℕ → Type 0
+EndsFed how.Limit left total = (total ≡ LIMIT) × (judged left ≡ NoneYet)
+EndsFed how.Fault left total = (fault : FrameFault) × (judged left ≡ Faulty fault)
+EndsFed how.NoMemory left total = Unit {0}
+EndsFed _ left total = ⊥
+
 -- why it ended, by what the last take answered, the bytes behind the last frame, and how many bytes came
 abbrev pub EndsBy : Bool → How → Take → List ℕ → ℕ → Type 0
 EndsBy ending how.End answer left total = (answer ≡ take_.End) × (judged left ≡ NoneYet)
 EndsBy ending how.Closed answer left total = (answer ≡ take_.Closed) × (judged left ≡ NoneYet)
 EndsBy ending how.Failed answer left total = (answer ≡ take_.Failed) × (judged left ≡ NoneYet)
 EndsBy ending how.Empty answer left total = (answer ≡ take_.Empty) × (ending ≡ true) × (judged left ≡ NoneYet)
-EndsBy ending how.Limit answer left total = (total ≡ LIMIT) × (judged left ≡ NoneYet)
-EndsBy ending how.Fault answer left total = (fault : FrameFault) × (judged left ≡ Faulty fault)
-EndsBy ending how.NoMemory answer left total = Unit {0}
+EndsBy ending how.Limit answer left total = EndsFed how.Limit left total
+EndsBy ending how.Fault answer left total = EndsFed how.Fault left total
+EndsBy ending how.NoMemory answer left total = EndsFed how.NoMemory left total
 
 -- the code with which it ended
 abbrev pub code_of : How → ℕ
@@ -44,7 +51,12 @@ code_of how.Fault = ERESPONSE
 code_of how.NoMemory = EINTERNAL
 code_of _ = EEOF
 
--- a piece went on behind the bytes that were held: more is to be taken, or the reading has ended
+-- a piece was fed behind the bytes that were held: more is to be taken, or the reading has ended
+abbrev pub FedIn : ℕ → List ℕ → Option How → Intake → Intake → Books → Books → Type 0
+FedIn slots piece None i i' b b' = MetAll slots (held_by i ++ piece) (held_by i') b b' × (judged (held_by i') ≡ NoneYet) × (i'.total < LIMIT)
+FedIn slots piece (Some how) i i' b b' = (left : List ℕ) × MetAll slots (held_by i ++ piece) left b b' × EndsFed how left i'.total
+
+-- the same of a take, by what it answered
 abbrev pub TookIn : ℕ → Bool → Take → List ℕ → Option How → Intake → Intake → Books → Books → Type 0
 TookIn slots ending answer piece None i i' b b' = MetAll slots (held_by i ++ piece) (held_by i') b b' × (judged (held_by i') ≡ NoneYet) × (i'.total < LIMIT) × (goes_on ending answer ≡ true)
 TookIn slots ending answer piece (Some how) i i' b b' = (left : List ℕ) × MetAll slots (held_by i ++ piece) left b b' × EndsBy ending how answer left i'.total
