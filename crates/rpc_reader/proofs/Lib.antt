@@ -1,0 +1,4 @@
+pub mod Locks
+pub mod Frames
+pub mod Takes
+pub mod Posts

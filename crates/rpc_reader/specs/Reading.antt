@@ -51,10 +51,14 @@ code_of how.Fault = ERESPONSE
 code_of how.NoMemory = EINTERNAL
 code_of _ = EEOF
 
--- a piece was fed behind the bytes that were held: more is to be taken, or the reading has ended
+-- the frames with which these bytes begin were met: more is to be taken behind what the cutter holds, or the reading has ended
+abbrev pub HeldMet : ℕ → List ℕ → Option How → Intake → Books → Books → Type 0
+HeldMet slots bytes None i b b' = MetAll slots bytes (held_by i) b b' × (judged (held_by i) ≡ NoneYet) × (i.total < LIMIT)
+HeldMet slots bytes (Some how) i b b' = (left : List ℕ) × MetAll slots bytes left b b' × EndsFed how left i.total
+
+-- the same behind a piece that was fed
 abbrev pub FedIn : ℕ → List ℕ → Option How → Intake → Intake → Books → Books → Type 0
-FedIn slots piece None i i' b b' = MetAll slots (held_by i ++ piece) (held_by i') b b' × (judged (held_by i') ≡ NoneYet) × (i'.total < LIMIT)
-FedIn slots piece (Some how) i i' b b' = (left : List ℕ) × MetAll slots (held_by i ++ piece) left b b' × EndsFed how left i'.total
+FedIn slots piece result i i' b b' = HeldMet slots (held_by i ++ piece) result i' b b'
 
 -- the same of a take, by what it answered
 abbrev pub TookIn : ℕ → Bool → Take → List ℕ → Option How → Intake → Intake → Books → Books → Type 0

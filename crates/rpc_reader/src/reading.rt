@@ -5,7 +5,7 @@ ghost use Rattle.sock_io.specs.Link.{TakeStep};
 ghost use Rattle.sock_io.specs.declared.link.Take.{Take as AnAnswer};
 ghost use Rattle.rpc_reader.specs.Seats.{IsOpen, Rests};
 ghost use Rattle.rpc_reader.specs.Books.{books};
-ghost use Rattle.rpc_reader.specs.Reading.{held_by, code_of, FedIn, ReadOnce, ReadBy};
+ghost use Rattle.rpc_reader.specs.Reading.{held_by, code_of, HeldMet, FedIn, ReadOnce, ReadBy};
 
 use crate::books::AnswerSeat;
 use crate::cutting::{Stop, meet_all};
@@ -60,7 +60,33 @@ pub struct Intake {
     pub total: u32,
 }
 
-// A piece is fed, and the frames that are whole by it are met. More is taken where none is whole below the limit.
+// The frames that are whole are met. More is taken where none is whole below the limit.
+fn meet_held<R: Wait>(
+    rt: &R,
+    ids: &IdTable<Call>,
+    calls: &mut AnswerSeat,
+    intake: &mut Intake,
+) -> Option<How>
+    requires seat { IsOpen ids.now.table.shared.table_id calls.old.seat }
+    requires few { intake.old.total ≤ 16777216 }
+    ensures rest { Rests calls.old.seat calls.new.seat }
+    ensures total { intake.new.total ≡ intake.old.total }
+    ensures met { HeldMet ids.now.plan.slots (held_by intake.old) result intake.new (books calls.old) (books calls.new) }
+{
+    match meet_all(rt, ids, calls, &mut intake.cutter) {
+        Stop::Fault => Some(How::Fault),
+        Stop::NoMemory => Some(How::NoMemory),
+        Stop::Waits => {
+            if intake.total < LIMIT {
+                None
+            } else {
+                Some(How::Limit)
+            }
+        }
+    }
+}
+
+// A piece is fed, and the frames that are whole by it are met.
 fn take_in<R: Wait>(
     rt: &R,
     ids: &IdTable<Call>,
@@ -76,19 +102,9 @@ fn take_in<R: Wait>(
     ensures fed { FedIn ids.now.plan.slots piece.now result intake.old intake.new (books calls.old) (books calls.new) }
 {
     intake.total += piece.len() as u32;
-    if intake.cutter.feed(&mut intake.pool, piece).is_err() {
-        return Some(How::NoMemory);
-    }
-    match meet_all(rt, ids, calls, &mut intake.cutter) {
-        Stop::Fault => Some(How::Fault),
-        Stop::NoMemory => Some(How::NoMemory),
-        Stop::Waits => {
-            if intake.total < LIMIT {
-                None
-            } else {
-                Some(How::Limit)
-            }
-        }
+    match intake.cutter.feed(&mut intake.pool, piece) {
+        Ok(()) => meet_held(rt, ids, calls, intake),
+        Err(_) => Some(How::NoMemory),
     }
 }
 

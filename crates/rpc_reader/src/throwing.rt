@@ -1,11 +1,19 @@
 // What a link gives behind a frame fault.
-ghost use Rattle.std.specs.Prelude.{◌≡◌, ◌+◌, ◌<◌, ◌≤◌, length};
+ghost use Rattle.std.specs.Prelude.{◌≡◌, ◌+◌, ◌<◌, ◌≤◌, true, false, length};
 ghost use Rattle.rpc_reader.specs.Throwing.{ThrewOnce, ThrewAway};
 
 use crate::reading::{LIMIT, room_behind};
 use crossbeam_utils::Backoff;
 use sock_io::{In, Take};
 use std::sync::Wait;
+
+// Whether as many bytes came as are read from a link.
+fn is_full(total: u32) -> bool
+    ensures full { result ≡ true → 16777216 ≤ total }
+    ensures below { result ≡ false → total < 16777216 }
+{
+    total >= LIMIT
+}
 
 // One take whose bytes are thrown away: whether it was the last.
 fn throw_once<I: In>(
@@ -21,7 +29,7 @@ fn throw_once<I: In>(
     match inn.take(room) {
         Take::Took(count) => {
             *total += count as u32;
-            *total >= LIMIT
+            is_full(*total)
         }
         Take::Empty => {
             if ending {
@@ -31,7 +39,9 @@ fn throw_once<I: In>(
                 false
             }
         }
-        Take::End | Take::Closed | Take::Failed => true,
+        Take::End => true,
+        Take::Closed => true,
+        Take::Failed => true,
     }
 }
 
