@@ -82,3 +82,6 @@ pub lacked : (slots word : ℕ) (f : Frame) (b b' : Books) → is_asked slots f 
     → b'.told ≡ b.told → KeptIf (is_early (version_in f) (parts word)) f b.early b.starved b'.early b'.starved → FrameMet slots f b b'
 lacked slots word f b b' e gone told kept = subst (λ (y : Bool). MetIf y slots f b b') (sym e)
     (⊎_elim (λ x. let within = asked_inside slots f e in let past = x.0 in absurd (omega arith)) (λ x. inr record { quiet = gone.0; word = word; found = x.0; lacks = x.1; told = told; kept = kept }) gone.1)
+
+pub stops_faulty : (o : Option model.FrameFault) (old new : List ℕ) → option_map (λ f. Faulty f) o ≡ Some (judged old) → new ≡ old → (f : model.FrameFault) × (judged new ≡ Faulty f)
+stops_faulty o old new is same = let f = faulty o (judged old) is in (f.0, ap judged same ∙ f.1)

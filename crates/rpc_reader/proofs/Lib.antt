@@ -2,3 +2,4 @@ pub mod Locks
 pub mod Frames
 pub mod Takes
 pub mod Posts
+pub mod Sockets

@@ -12,7 +12,7 @@ use Rattle.rpc_reader.specs.Posting.{PostedOne, PostedAll}
 use Rattle.rpc_reader.proofs.Frames.{for_responds}
 use mathlib.Core.Option.{some}
 use lib.ListN.{get_elem?}
-use Rattle.std.proofs.Common.{zero, suc, ap, arith}
+use Rattle.std.proofs.Common.{zero, suc, true, ap, arith}
 
 module _ (p : Plan) (link code : ℕ) where
   posted_more : (os : List ℕ) (o : ℕ) (b m b' : Books) → PostedAll p link code os b m → PostedOne p link code o m b' → PostedAll p link code (os ++ o ∷ []) b b'
@@ -31,3 +31,6 @@ pub stands : {A : Type 0} (xs : List A) (i : ℕ) (x : A) → i < length xs → 
 stands [] i x lt e = absurd (omega arith)
 stands (y ∷ ys) zero x lt e = ap some (sym e)
 stands (y ∷ ys) (suc n) x lt e = stands ys n x (omega arith) e
+
+pub first_inside : (slot : ℕ) (w : Parts) (early : List Frame) (i : ℕ) (f : Frame) → Some i ≡ position (is_for slot w) early → i < length early
+first_inside slot w early i f e = (position-Some (is_for slot w) early i f (sym e)).0

@@ -31,6 +31,9 @@ bytes_more xs x = flat_map-append piece_of xs (x ∷ []) ∙ ap (λ l. bytes_of 
 sized_more : (xs : List Took) (x : Took) (n m total : ℕ) → total ≡ n + length (bytes_of xs) → m ≡ total + length (piece_of x) → m ≡ n + length (bytes_of (xs ++ x ∷ []))
 sized_more xs x n m total a b = omega (arith, a, b, ap length (bytes_more xs x), length-append (bytes_of xs) (piece_of x))
 
+sized_all : (xs : List Took) (x : Took) (m total : ℕ) → total ≡ length (bytes_of xs) → m ≡ total + length (piece_of x) → m ≡ length (bytes_of (xs ++ x ∷ []))
+sized_all xs x m total a b = omega (arith, a, b, ap length (bytes_more xs x), length-append (bytes_of xs) (piece_of x))
+
 pub fed_ends : (ending : Bool) (how : How) (answer : Take) (left : List ℕ) (total : ℕ) → EndsFed how left total → EndsBy ending how answer left total
 fed_ends ending how.End answer left total e = absurd e
 fed_ends ending how.Closed answer left total e = absurd e
@@ -62,7 +65,7 @@ module _ (slots : ℕ) (ending : Bool) (s : InState) (b : Books) where
       takes = r.takes ++ o.last ∷ [];
       on = on_more ending r.takes o.last r.on o.by.3;
       steps = takes_more r.takes o.last s m t r.steps o.step;
-      total = sized_more r.takes o.last 0 i'.total i.total r.total o.total;
+      total = sized_all r.takes o.last i'.total i.total r.total o.total;
       met = subst (λ (l : List ℕ). MetAll slots l (held_by i') b d) (sym (bytes_more r.takes o.last)) (met_then slots (bytes_of r.takes) (held_by i) (piece_of o.last) (held_by i') b c d r.met o.by.0);
       waits = o.by.1;
       below = o.by.2;
@@ -76,7 +79,7 @@ module _ (slots : ℕ) (ending : Bool) (s : InState) (b : Books) where
       steps = takes_more r.takes o.last s m t r.steps o.step;
       left = o.by.0;
       met = subst (λ (l : List ℕ). MetAll slots l o.by.0 b d) (sym (bytes_more r.takes o.last)) (met_then slots (bytes_of r.takes) (held_by i) (piece_of o.last) o.by.0 b c d r.met o.by.1);
-      all = sized_more r.takes o.last 0 i'.total i.total r.total o.total;
+      all = sized_all r.takes o.last i'.total i.total r.total o.total;
       few = o.few;
       ends = o.by.2;
     }

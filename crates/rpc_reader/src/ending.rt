@@ -43,6 +43,6 @@ pub fn end_failed(ids: &IdTable<Call>, calls: &mut AnswerSeat, lock: IdLock<Call
     ensures early { calls.new.early ≡ calls.old.early }
 {
     let id = lock.id();
-    let call = ids.destroy(&mut calls.seat, lock);
-    calls.tell(call.operation, Outcome::CallFailed { id, code });
+    let lost = ids.destroy(&mut calls.seat, lock);
+    calls.tell(lost.operation, Outcome::CallFailed { id, code });
 }

@@ -1,5 +1,5 @@
 // A reader from its seats to what it tells.
-ghost use Rattle.std.specs.Prelude.{◌≡◌, ◌<◌, [], false, All};
+ghost use Rattle.std.specs.Prelude.{◌≡◌, ◌<◌, ◌≤◌, [], false, All};
 ghost use Rattle.std.specs.Result.{is_err};
 ghost use Rattle.sock_table.specs.Closed.{IsDoneSeat};
 ghost use Rattle.sock_table.specs.Refs.{Knows};
@@ -8,7 +8,7 @@ ghost use Rattle.rpc_client.specs.Holding.{IsHolder};
 ghost use Rattle.rpc_reader.specs.Seats.{IsOpen, Rests};
 ghost use Rattle.rpc_reader.specs.Books.{books};
 ghost use Rattle.rpc_reader.specs.Reading.{code_of};
-ghost use Rattle.rpc_reader.specs.Running.{fails, throws, is_starved, FailedIf, ReadToEnd, RanBy};
+ghost use Rattle.rpc_reader.specs.Running.{fails, throws, is_starved, FailedIf, ThrownIf, ReadToEnd, RanBy};
 
 use crate::books::AnswerSeat;
 use crate::failing::fail_id;
@@ -91,6 +91,27 @@ fn fail_if<O: Out>(table: &SockTable<O>, seat: &mut SockSeat<O>, id: SocketId, h
     }
 }
 
+// What comes behind a fault is thrown away.
+fn throw_if<I: In, R: Wait>(rt: &R, inn: &mut I, how: How, total: u32, ending: bool)
+    requires { total ≤ 16777216 }
+    ensures { ThrownIf (throws how) ending total (I.state inn.old) (I.state inn.new) }
+{
+    if how.throws() {
+        throw_all(rt, inn, total, ending);
+    }
+}
+
+// Whether memory was wanting nowhere.
+fn calm(starved: bool, how: How) -> Result<(), NoMemory>
+    ensures { is_err result ≡ false → (starved ≡ false) × (is_starved how ≡ false) }
+{
+    if starved || how.is_starved() {
+        Err(NoMemory)
+    } else {
+        Ok(())
+    }
+}
+
 impl<O: Out> Reader<O> {
     /// The reader of this link with these seats. It takes no memory.
     pub fn new(alloc: Global, seat: SockSeat<O>, ids: IdSeat<Call>, link: u16) -> Reader<O>
@@ -140,14 +161,8 @@ impl<O: Out> Reader<O> {
         let how = read_all(rt, ids, &mut self.calls, &mut intake, inn, ending);
         fail_if(socks, &mut self.seat, id, how);
         post_all(rt, ids, &mut self.calls, self.link, how.code(), calls);
-        if how.throws() {
-            throw_all(rt, inn, intake.total, ending);
-        }
-        if self.calls.starved || how.is_starved() {
-            Err(NoMemory)
-        } else {
-            Ok(())
-        }
+        throw_if(rt, inn, how, intake.total, ending);
+        calm(self.calls.starved, how)
     }
 
     /// Waits for the socket of its link, which is that of this `open`; reads the link to its end, unless it got no socket; and
