@@ -3,3 +3,4 @@ pub mod Frames
 pub mod Takes
 pub mod Posts
 pub mod Sockets
+pub mod Streams
