@@ -1,6 +1,6 @@
 -- Posts to one call behind another.
 use Rattle.std.proofs.Common.{◌≡◌, ℕ, ◌+◌, ◌<◌, List, [], ◌∷◌, ◌++◌, length, take, get_or, Some, refl, sym, subst}
-use Rattle.std.specs.Prelude.{Option, position}
+use Rattle.std.specs.Prelude.{position}
 use Rattle.std.proofs.lemmas.List.{take_more}
 use Rattle.std.proofs.lemmas.List.Quantifiers.{position-Some}
 use Rattle.corr_core.specs.Word.{Parts}

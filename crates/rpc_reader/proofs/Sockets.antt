@@ -1,5 +1,5 @@
 -- The socket of a reader's link.
-use Rattle.std.proofs.Common.{◌≡◌, ℕ, ◌<◌, ◌+◌, Bool, [], Some, None, inl, inr, refl, sym, ap, ◌∙◌, subst, arith}
+use Rattle.std.proofs.Common.{◌≡◌, ℕ, ◌<◌, Bool, [], Some, None, inr, sym, ap, subst, arith}
 use Rattle.std.specs.Prelude.{Option}
 use Rattle.atomic_table.specs.Seated.{TableId}
 use Rattle.atomic_table.specs.declared.shared.Seat.{Seat}
@@ -12,7 +12,6 @@ use Rattle.sock_model.specs.declared.view.View.{View}
 use Rattle.sock_model.specs.Weights.{is_ref}
 use Rattle.sock_model.specs.SlotRows.{marks_of}
 use Rattle.sock_model.specs.Layout.{open_word}
-use Rattle.sock_rule.specs.Rows.{NOTHING}
 use Rattle.sock_table.specs.Refs.{GaveBack, Knows, MayAddress}
 use Rattle.sock_table.specs.Answers.{Held, Holds, NoneLater}
 use Rattle.sock_table.specs.Closed.{IsDoneSeat}
@@ -20,7 +19,7 @@ use Rattle.sock_table.specs.declared.refs.SockRef.{SockRef}
 use Rattle.rpc_client.specs.Seats.{Idle, MayAct, StaysSeen, SameRefs, OneMore}
 use Rattle.rpc_client.specs.Holding.{IsHolder}
 use Rattle.rpc_client.specs.Failing.{SetBy}
-use Rattle.rpc_client.proofs.Counting.{refs_none, refs_then, finds_refs, one_more, given, then_more, holder_same}
+use Rattle.rpc_client.proofs.Counting.{refs_none, finds_refs, one_more, given, then_more}
 use Rattle.rpc_client.proofs.Finding.{seen_found, seen_more, has_one, set_refs}
 use Rattle.rpc_reader.specs.Failing.{OpenedBy, FailedBy}
 

@@ -1,6 +1,6 @@
 -- Takes, one behind another.
-use Rattle.std.proofs.Common.{◌≡◌, ℕ, ◌+◌, ◌<◌, ◌≤◌, Bool, true, false, List, [], ◌∷◌, ◌++◌, length, take, Some, None, inl, inr, ⊎_elim, ◌⊎◌, refl, sym, ap, ◌∙◌, subst, arith, append-nil, length-append}
-use Rattle.std.specs.Prelude.{flat_map, Option}
+use Rattle.std.proofs.Common.{◌≡◌, ℕ, ◌+◌, ◌<◌, ◌≤◌, Bool, true, false, List, [], ◌∷◌, ◌++◌, length, take, Some, None, inl, inr, ⊎_elim, refl, sym, ap, ◌∙◌, subst, arith, append-nil, length-append}
+use Rattle.std.specs.Prelude.{Option}
 use Rattle.std.proofs.lemmas.Grind.{flat_map-append}
 use Rattle.std.proofs.lemmas.List.{length-take-le}
 use Rattle.brpc_model.specs.Frame.{NoneYet, judged}
@@ -14,7 +14,7 @@ use Rattle.rpc_reader.specs.Books.{Books}
 use Rattle.rpc_reader.specs.Met.{MetAll}
 use Rattle.rpc_reader.specs.Taking.{Took, Takes, GoOn, goes_on, piece_of, bytes_of}
 use Rattle.rpc_reader.specs.Reading.{LIMIT, held_by, EndsFed, EndsBy, FedIn, TookIn, ReadOnce, ReadOn, ReadBy}
-use Rattle.rpc_reader.specs.Throwing.{ThrewBy, ThrewOnce, ThrewOn, ThrewSome, ThrewAway}
+use Rattle.rpc_reader.specs.Throwing.{ThrewBy, ThrewOnce, ThrewOn, ThrewAway}
 use Rattle.rpc_reader.proofs.Frames.{met_none, met_same, met_then}
 
 pub takes_more : (xs : List Took) (x : Took) (s m t : InState) → Takes xs s m → TakeStep m t x.room x.answer → Takes (xs ++ x ∷ []) s t

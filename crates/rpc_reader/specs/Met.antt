@@ -1,12 +1,10 @@
 -- What becomes of the whole frames that a link gave.
 use Rattle.std.specs.Prelude.{◌≡◌, ◌+◌, ◌<◌, ◌==◌, ◌&&◌, ◌⊎◌, ℕ, nat_lt, Bool, true, false, List, [], ◌∷◌, Option, Some, None, map}
-use Rattle.sock_words.specs.declared.outcome.Outcome.{Outcome}
 use Rattle.corr_core.specs.Word.{Parts, parts}
 use Rattle.corr_core.specs.declared.marks.View.{View}
 use Rattle.corr_id.specs.Calls.{slot_of, version_of, GotLock, Quiet, Found}
 use Rattle.corr_id.specs.Attempts.{LacksAttempt}
 use Rattle.sock_message.specs.Asked.{Asked}
-use Rattle.brpc_model.specs.Frame as model
 use Rattle.rpc_meta.specs.declared.meta.ResponseMeta.{ResponseMeta}
 use Rattle.prpc_frame.specs.Cuts.{Cut}
 use Rattle.prpc_frame.specs.Meaning.{frame_of}

@@ -1,5 +1,5 @@
 -- A reading, from its first take to its end.
-use Rattle.std.specs.Prelude.{◌≡◌, ◌+◌, ◌<◌, ◌≤◌, ℕ, Bool, true, false, List, [], ◌∷◌, ◌++◌, length, Option, Some, None}
+use Rattle.std.specs.Prelude.{◌≡◌, ◌+◌, ◌<◌, ◌≤◌, ℕ, Bool, true, List, [], ◌∷◌, ◌++◌, length, Option, Some, None}
 use Rattle.sock_words.specs.Codes.{EEOF, EINTERNAL, ERESPONSE}
 use Rattle.brpc_model.specs.Frame.{FrameFault, NoneYet, Faulty, judged}
 use Rattle.sock_io.specs.Link.{InState, TakeStep}

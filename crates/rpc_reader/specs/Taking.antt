@@ -1,5 +1,5 @@
 -- What the reading half of a link gave, take by take.
-use Rattle.std.specs.Prelude.{◌≡◌, ◌+◌, ◌<◌, ◌≤◌, ℕ, Bool, true, false, List, [], ◌∷◌, ◌++◌, length, flat_map, Option, Some, None}
+use Rattle.std.specs.Prelude.{◌≡◌, ℕ, Bool, true, false, List, [], ◌∷◌, flat_map}
 use Rattle.sock_io.specs.Link.{InState, TakeStep, given_of}
 use Rattle.sock_io.specs.declared.link.Take.{Take}
 use Rattle.sock_io.specs.declared.link.Take.TheVariants as take_

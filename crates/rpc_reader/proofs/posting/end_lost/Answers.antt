@@ -1,4 +1,4 @@
-use Rattle.std.proofs.Common.{ℕ, Some, sym, ap, ◌∙◌, subst}
+use Rattle.std.proofs.Common.{ℕ, sym, ap, ◌∙◌, subst}
 use Rattle.std.specs.Prelude.{Option, position}
 use Rattle.corr_core.specs.Word.{parts}
 use Rattle.rpc_reader.specs.Books.{books}

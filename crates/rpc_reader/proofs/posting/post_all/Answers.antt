@@ -1,5 +1,5 @@
 use Rattle.rpc_reader.specs.Books.{books}
-use Rattle.rpc_reader.proofs.Locks.{open_still, rests_none, rests_then}
+use Rattle.rpc_reader.proofs.Locks.{open_still, rests_then}
 use Rattle.rpc_reader.proofs.Posts.{posted_next}
 use Rattle.rpc_reader.proofs.posting.post_all.Goals as goal
 

@@ -1,4 +1,4 @@
-use Rattle.std.proofs.Common.{refl, subst, arith}
+use Rattle.std.proofs.Common.{refl, subst}
 use Rattle.rpc_reader.specs.Books.{books}
 use Rattle.rpc_reader.specs.Reading.{ReadOnce}
 use Rattle.rpc_reader.proofs.Locks.{open_still, rests_none, rests_then}

@@ -1,4 +1,4 @@
-use Rattle.std.proofs.Common.{List, ℕ, ◌++◌, refl, subst}
+use Rattle.std.proofs.Common.{List, ℕ, ◌++◌, subst}
 use Rattle.rpc_reader.specs.Books.{books}
 use Rattle.rpc_reader.specs.Reading.{HeldMet}
 use Rattle.rpc_reader.proofs.Frames.{met_none, fed_is}

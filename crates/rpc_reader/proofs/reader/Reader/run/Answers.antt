@@ -1,6 +1,6 @@
 use Rattle.std.proofs.Common.{[], Some, None, refl, ◌∙◌}
 use Rattle.rpc_client.proofs.Counting.{holder_same, refs_then}
-use Rattle.rpc_client.proofs.Finding.{rest_then, may_still}
+use Rattle.rpc_client.proofs.Finding.{may_still}
 use Rattle.rpc_reader.proofs.Locks.{rests_none}
 use Rattle.rpc_reader.proofs.Sockets.{idle_done, none_may}
 use Rattle.rpc_reader.proofs.reader.Reader.run.Goals as goal
