@@ -7,6 +7,5 @@ pub mod Replays
 pub mod GeneratedLemmas
 pub mod Exactly
 pub mod Statuses
-pub mod SameLinks
 pub mod OnThreads
 pub mod Serving

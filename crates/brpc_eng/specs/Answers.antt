@@ -28,7 +28,7 @@ use Rattle.whole_runs.specs.Heard.{as_told, heard_of, heard_takes}
 use Rattle.sock_io.specs.declared.link.LinkSpec.{LinkSpec}
 use Rattle.sock_io.specs.Link.{ConnectionEnd}
 use Rattle.serve_port.specs.Serving.{ServedConnection, IsServed, any_failing, any_faulty, all_whole, frames_of}
-use Rattle.script_run.specs.Given.{AreNumbered, AreUntouched, IsBeginning, specs_of}
+use Rattle.script_links.specs.Given.{AreNumbered, AreUntouched, IsBeginning, specs_of}
 use Rattle.script_run.specs.Causes.{CameLate, late_in}
 use Rattle.script_run.specs.Played.{IsRunText}
 use Rattle.script_threads.specs.Built.{is_built}

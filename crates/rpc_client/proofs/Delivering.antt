@@ -13,6 +13,7 @@ use Rattle.sock_model.specs.declared.marks.Mark.{Mark}
 use Rattle.sock_model.specs.declared.marks.Mark.TheVariants.{Saw}
 use Rattle.sock_model.specs.declared.view.View.{View}
 use Rattle.sock_model.specs.Weights.{total, is_ref}
+use Rattle.message_parts.specs.Parcels.{parcel_of}
 use Rattle.sock_rule.specs.Seated.{IsSeat}
 use Rattle.sock_rule.specs.declared.homes.Letter.{Letter}
 use Rattle.sock_table.specs.Refs.{IsBetween}
@@ -87,7 +88,7 @@ module _ {O : Type 0} (state : O → OutState) (p : Plan) (sock : SockRef) (msg 
   came_refs r u v w one c = given sock.id.0 u c.refused_at w c.returned.ended (then_more sock.id.0 u v c.refused_at one (refused_refs p sock msg r v c.refused_at c.refused_by)) c.returned.back
 
   pub delivered_refs : (o : Option Outcome) (u v w : View) → OneMore sock.id.0 u v → DeliveredBy state p sock msg o v w → SameRefs u w
-  delivered_refs None u v w one c = given sock.id.0 u c.through.wrote w c.through.returned.ended (then_more sock.id.0 u c.taken c.through.wrote (then_more sock.id.0 u v c.taken one (accepted_refs (Saw (socket_id_version sock.id.0) ∷ []) p sock.id.0 _ msg.bytes v c.taken refl c.accepted)) (all_refs p sock.id.0 c.taken c.through.wrote c.through.by)) c.through.returned.back
+  delivered_refs None u v w one c = given sock.id.0 u c.through.wrote w c.through.returned.ended (then_more sock.id.0 u c.taken c.through.wrote (then_more sock.id.0 u v c.taken one (accepted_refs (Saw (socket_id_version sock.id.0) ∷ []) p sock.id.0 _ (parcel_of msg.bytes).bytes v c.taken refl c.accepted)) (all_refs p sock.id.0 c.taken c.through.wrote c.through.by)) c.through.returned.back
   delivered_refs (Some (outcome.Gone found)) u v w one c = came_refs (refused.Failed sock msg found) u v w one c
   delivered_refs (Some outcome.Full) u v w one c = came_refs (refused.Full sock msg) u v w one c
   delivered_refs (Some _) u v w one c = elim c [ ]

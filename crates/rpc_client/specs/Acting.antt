@@ -1,5 +1,6 @@
 -- A client between two operations, and what one operation of it comes to.
 use Rattle.std.specs.Prelude.{◌≡◌, ◌≢◌, ℕ, ◌+◌, ◌*◌, ◌<◌, ◌≤◌, List, [], ◌∷◌, ◌++◌, length, Option, Some, None, All}
+use Rattle.std.proofs.Common.{zero-le}
 use Rattle.atomic_table.specs.Table.{Me}
 use Rattle.atomic_table.specs.Seated.{TableId}
 use Rattle.sock_io.specs.declared.link.Out.{Ghosts}
@@ -9,6 +10,7 @@ use Rattle.sock_words.specs.declared.plain.Label.{Label}
 use Rattle.sock_words.specs.declared.outcome.Outcome.{Outcome}
 use Rattle.sock_model.specs.declared.chain.Entry.{Entry}
 use Rattle.sock_model.specs.declared.view.View.{View}
+use Rattle.message_parts.specs.declared.parcel.Parcel.TheVariants as parcels
 use Rattle.sock_rule.specs.declared.homes.Letter.{Letter}
 use Rattle.sock_rule.specs.declared.homes.SockHome.{SockHome}
 use Rattle.sock_table.specs.declared.passes.LinkPass.{LinkPass}
@@ -33,9 +35,9 @@ pub record Stand {O : Type 0} (g : Ghosts O) : Type 0 where
 abbrev pub stand : {O : Type 0} {g : Ghosts O} → Client O g → Stand g
 stand c = record { me = c.seat.me; held = c.held.items; passes = c.passes.items }
 
--- the message of a send
+-- the message of a send, which has one attempt alone
 abbrev pub letter_of : Label → List ℕ → Letter
-letter_of label bytes = record { bytes = bytes; label = label; owner = 0 }
+letter_of label bytes = record { bytes = parcels.Message bytes; label = record label { attempt = 0 }; owner = 0; numbered = zero-le }
 
 -- the label of an operation of this client, which made so many before
 abbrev pub label_of : ℕ → ℕ → Operation → Label
@@ -56,10 +58,10 @@ pub record MayGo {O : Type 0} {g : Ghosts O} (z : TableId) (p : Plan) (n : ℕ) 
   pub few : length c.held.items ≤ n
   pub own : OwnList n c.seat.me.0
 
--- there is a pass for an `open`, and a code to fail with
+-- there is a pass for an `open`, and a code to fail with, from 1 to 4095
 abbrev pub Needs : Action → ℕ → Type 0
 Needs action.Open passes = 0 < passes
-Needs (action.Fail code) passes = code ≢ 0
+Needs (action.Fail code) passes = (1 ≤ code) × (code ≤ 4095)
 Needs _ passes = Unit {0}
 
 -- an operation that the table has

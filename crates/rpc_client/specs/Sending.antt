@@ -14,6 +14,7 @@ use Rattle.sock_model.specs.declared.view.StoredWord.{StoredWord}
 use Rattle.sock_model.specs.Layout.{place_word}
 use Rattle.sock_model.specs.Deliveries.{place_value}
 use Rattle.sock_model.specs.Marks as marks
+use Rattle.message_parts.specs.Parcels.{parcel_of}
 use Rattle.sock_rule.specs.Becoming.{Became}
 use Rattle.sock_rule.specs.Shows.{heading_of}
 use Rattle.sock_rule.specs.declared.homes.Letter.{Letter}
@@ -90,7 +91,7 @@ pub record CameBack (p : Plan) (sock : SockRef) (msg : Letter) (by : Refused) (v
 
 -- of a message that is sent with a reference: it was accepted, or the life had been failed, or each request was found taken
 abbrev pub DeliveredBy : {O : Type 0} → (O → OutState) → Plan → SockRef → Letter → Option Outcome → View → View → Type 0
-DeliveredBy state p sock msg None v w = WentOut state p sock.id.0 (heading_of msg) msg.bytes v w
+DeliveredBy state p sock msg None v w = WentOut state p sock.id.0 (heading_of msg) (parcel_of msg.bytes).bytes v w
 DeliveredBy state p sock msg (Some (outcome.Gone found)) v w = CameBack p sock msg (refused.Failed sock msg found) v w
 DeliveredBy state p sock msg (Some outcome.Full) v w = CameBack p sock msg (refused.Full sock msg) v w
 DeliveredBy state p sock msg (Some _) v w = ⊥

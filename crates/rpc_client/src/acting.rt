@@ -10,6 +10,7 @@ use crate::failing::fail_one;
 use crate::holding::{Held, drop_one, hold_one};
 use crate::opening::open_one;
 use crate::sending::send_one;
+use message_parts::Parcel;
 use sock_io::Out;
 use sock_message::{BlockPool, Message, NoMemory};
 use sock_rule::{Letter, SockSeat};
@@ -29,7 +30,7 @@ pub enum Action {
     Hold,
     /// Gives it back.
     Drop,
-    /// Sets the socket failed with this code.
+    /// Sets the socket failed with this code, from 1 to 4,095.
     Fail(u16),
 }
 
@@ -64,27 +65,35 @@ fn send_bytes<O: Out, R: Wait>(
     client: &mut Client<O>,
     rt: &R,
     table: &SockTable<O>,
-    label: Label,
-    name: u16,
+    of: u16,
+    order: u16,
+    operation: &Operation,
     bytes: &[u8],
 ) -> Result<Option<Outcome>, NoMemory>
     requires may { MayAct table.now.rule.table.shared.table_id table.now.rule.plan client.old.seat }
-    requires name { name < table.now.rule.plan.names }
+    requires order { order < 65535 }
+    requires name { operation.now.name < table.now.rule.plan.names }
+    requires number { operation.now.number < table.now.rule.plan.operations }
     requires room { HasRoom client.old.seat.me.0 }
-    requires label { label.place < 8 * table.now.rule.plan.operations }
     ensures rest { IfOk result (λ _. AtRest table.now.rule.table.shared.table_id table.now.rule.plan client.old.seat client.new.seat) }
-    ensures by { IfOk result (λ o. SentBy O.state table.now.rule.plan name (letter_of label bytes.now) o client.old.seat.me.0 client.new.seat.me.0) }
+    ensures by { IfOk result (λ o. SentBy O.state table.now.rule.plan operation.now.name (letter_of (label_of of order operation.now) bytes.now) o client.old.seat.me.0 client.new.seat.me.0) }
     ensures refs { IfOk result (λ _. SameRefs client.old.seat.me.0 client.new.seat.me.0) }
     ensures seen { IfOk result (λ _. StaysSeen client.old.seat.me.0 client.new.seat.me.0) }
     ensures none_ { IfErr result (λ _. client.new.seat ≡ client.old.seat) }
     ensures others { (client.new.passes ≡ client.old.passes) × (client.new.held ≡ client.old.held) × (client.new.outcomes ≡ client.old.outcomes) }
 {
-    let bytes = Message::new(client.alloc, &mut client.pool, bytes)?;
+    let message = Message::new(client.alloc, &mut client.pool, bytes)?;
     let msg = Letter {
-        bytes,
-        label,
+        bytes: Parcel::Message(message),
+        label: Label {
+            client: of,
+            operation: order + 1,
+            attempt: 0,
+            place: 8 * u32::from(operation.number),
+        },
         owner: 0,
     };
+    let name = operation.name;
     Ok(send_one(table, rt, &mut client.seat, name, msg))
 }
 
@@ -138,17 +147,10 @@ pub fn act<O: Out, R: Wait>(
     ensures capacity { vec_capacity client.new.held ≡ vec_capacity client.old.held }
 {
     let name = operation.name;
-    let number = operation.number;
     match &operation.action {
         Action::Open => Ok(Some(open_next(client, table, operation))),
         Action::Send(bytes) => {
-            let label = Label {
-                client: of,
-                operation: order + 1,
-                attempt: 0,
-                place: 8 * u32::from(number),
-            };
-            send_bytes(client, rt, table, label, name, bytes.as_slice())
+            send_bytes(client, rt, table, of, order, operation, bytes.as_slice())
         }
         Action::Hold => {
             let outcome = hold_one(table, &mut client.seat, &mut client.held, name);

@@ -24,6 +24,7 @@ fn fail_socket<O: Out>(
     requires held { Holds table.now.rule.plan seat.old.me.0 sock.now.id.0 }
     requires room { marks_of is_ref (socket_id_slot sock.now.id.0) seat.old.me.0 < 65540 }
     requires code { code ≢ 0 }
+    requires small { code < 4096 }
     ensures rest { AtRest table.now.rule.table.shared.table_id table.now.rule.plan seat.old seat.new }
     ensures by { SetBy sock.now.id.0 code result seat.old.me.0 seat.new.me.0 }
 {
@@ -46,6 +47,7 @@ pub fn fail_one<O: Out>(
     requires may { MayAct table.now.rule.table.shared.table_id table.now.rule.plan seat.old }
     requires name { name < table.now.rule.plan.names }
     requires code { code ≢ 0 }
+    requires small { code < 4096 }
     ensures rest { AtRest table.now.rule.table.shared.table_id table.now.rule.plan seat.old seat.new }
     ensures by { FailedBy table.now.rule.plan name code result seat.old.me.0 seat.new.me.0 }
     ensures refs { SameRefs seat.old.me.0 seat.new.me.0 }

@@ -64,7 +64,7 @@ fn write_all<O: Out, R: Wait>(
 }
 
 /// A message that was refused: the reference is given back.
-fn refuse<O: Out>(table: &SockTable<O>, seat: &mut SockSeat<O>, refused: Refused) -> Outcome
+pub fn refuse<O: Out>(table: &SockTable<O>, seat: &mut SockSeat<O>, refused: Refused) -> Outcome
     requires idle { Idle table.now.rule.table.shared.table_id table.now.rule.plan seat.old }
     requires held { RefusedHolds table.now.rule.plan refused seat.old.me.0 }
     ensures idle { Idle table.now.rule.table.shared.table_id table.now.rule.plan seat.new }

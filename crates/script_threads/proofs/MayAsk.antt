@@ -100,7 +100,7 @@ module _ (p : Plan) where
   needs_of (ops.Send n bytes) name (action.Send sent) h f x m e = tt
   needs_of (ops.Hold n) name action.Hold h f x m e = tt
   needs_of (ops.Drop n) name action.Drop h f x m e = tt
-  needs_of (ops.Fail n code) name (action.Fail c) h f x m e = λ zero_. f.1 (sym h.1 ∙ zero_)
+  needs_of (ops.Fail n code) name (action.Fail c) h f x m e = let some_ = f.1 in let low = f.2 in let same = h.1 in (omega arith, omega arith)
   needs_of op name a h f x m e = elim h [ ]
 
   left_are : (a : Action) (n m : ℕ) → n ≡ opens_in a + m → left_by a n ≡ m

@@ -10,6 +10,7 @@ use Rattle.sock_rule.specs.declared.homes.LinkHome.{LinkHome}
 use Rattle.sock_rule.specs.declared.homes.SockHome.{SockHome}
 use Rattle.sock_rule.specs.declared.homes.SockHome.TheVariants.{Empty, Link, Message}
 use Rattle.sock_model.specs.ChainRows.{without_hand}
+use Rattle.message_parts.specs.Parcels.{parcel_of}
 use Rattle.sock_rule.specs.declared.homes.Letter.{Letter}
 use Rattle.sock_model.specs.declared.chain.Heading.{Heading}
 use Rattle.sock_model.specs.declared.chain.Right.{Right}
@@ -143,13 +144,13 @@ module _ {O : Type 0} {g : Ghosts O} (m n : Me (SockHome O g) View) (r : Right) 
       by_value (Message w) e = none_ w e
 
   module _ (h : Letter) (is : x ≡ Message h) where
-    letter_shown : home.Message (heading_of h) h.bytes ≡ home.Message t.heading t.bytes
+    letter_shown : home.Message (heading_of h) (parcel_of h.bytes).bytes ≡ home.Message t.heading t.bytes
     letter_shown = ap shows (sym (letter_value ∙ is)) ∙ t.shown
 
     pub letter_label : h.label.place < 8 * m.0.plan.operations
     letter_label = subst (λ (y : Heading). y.place < 8 * m.0.plan.operations) (sym (ap (letter_heading (heading_of h)) letter_shown)) t.label_in
 
-    pub letter_after : slot ≡ slot_of now → (new : Me (SockHome O g) View) → new ≡ (n.0, (slot, Empty) ∷ rest n.1) → new ≡ (with_right m.0 (taken_right r (heading_of h) h.bytes), (slot_of now, Empty) ∷ m.1)
+    pub letter_after : slot ≡ slot_of now → (new : Me (SockHome O g) View) → new ≡ (n.0, (slot, Empty) ∷ rest n.1) → new ≡ (with_right m.0 (taken_right r (heading_of h) (parcel_of h.bytes).bytes), (slot_of now, Empty) ∷ m.1)
     letter_after at new e = let below : rest n.1 ≡ m.1 = ap rest t.slots in let l = ap (letter_heading (heading_of h)) letter_shown in let b = ap letter_bytes letter_shown in
         e ∙ ((λ i. (t.view i, (at i, Empty) ∷ below i)) ∙ (λ i. (with_right m.0 (taken_right r (sym l i) (sym b i)), (slot_of now, Empty) ∷ m.1)))
 

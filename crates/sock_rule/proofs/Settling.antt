@@ -27,7 +27,7 @@ module _ {S : Type 0} {p : Plan} {stored : List StoredWord} {placed : ℕ → �
   other_settled x n code request other place = record {
     names = still_named x n other;
     places = still_placed x n place;
-    codes = λ i il. subst (λ (y : ℕ). y < 65536) (sym (get_or-set_other ws x (code_word i) n 0 (code i il))) (t.codes i il);
+    codes = λ i il. subst (λ (y : ℕ). y < 4096) (sym (get_or-set_other ws x (code_word i) n 0 (code i il))) (t.codes i il);
     present = λ r rl even. t.present r rl (sym (ap (λ (y : ℕ). y % 2) (get_or-set_other ws x (request_word p r) n 0 (request r rl))) ∙ even);
   }
 
@@ -42,7 +42,7 @@ module _ {S : Type 0} {p : Plan} {stored : List StoredWord} {placed : ℕ → �
         (λ e. subst (λ (z : ℕ). get_or (set ws x n) z 0 ≡ latest z (record { place = x; word = n } ∷ stored)) (sym e) (get_or-set_same ws x n 0 long ∙ sym (ap (λ b. cond b n (latest x stored)) (eq-eqb x x refl))))
         (λ ne. get_or-set_other ws x y n 0 ne ∙ (t.names y yh yl ∙ sym (ap (λ b. cond b n (latest y stored)) (ne_eqb x y (λ e. ne (sym e))))));
     places = still_placed x n (λ l e. omega arith);
-    codes = λ i il. subst (λ (y : ℕ). y < 65536) (sym (get_or-set_other ws x (code_word i) n 0 (λ e. omega arith))) (t.codes i il);
+    codes = λ i il. subst (λ (y : ℕ). y < 4096) (sym (get_or-set_other ws x (code_word i) n 0 (λ e. omega arith))) (t.codes i il);
     present = λ r rl even. t.present r rl (sym (ap (λ (y : ℕ). y % 2) (get_or-set_other ws x (request_word p r) n 0 (λ e. omega arith))) ∙ even);
   }
 
@@ -57,17 +57,17 @@ module _ {S : Type 0} {p : Plan} {stored : List StoredWord} {placed : ℕ → �
     places = λ m ml. dite (ℕ_discrete m l)
         (λ e. ap (λ (z : ℕ). get_or (set ws (place_word p l) n) (place_word p z) 0) e ∙ (get_or-set_same ws (place_word p l) n 0 long ∙ sym (put-at placed l m n e)))
         (λ ne. get_or-set_other ws (place_word p l) (place_word p m) n 0 (λ e. ne (omega arith)) ∙ (t.places m ml ∙ sym (put-else placed l m n ne)));
-    codes = λ i il. subst (λ (y : ℕ). y < 65536) (sym (get_or-set_other ws (place_word p l) (code_word i) n 0 (λ e. omega arith))) (t.codes i il);
+    codes = λ i il. subst (λ (y : ℕ). y < 4096) (sym (get_or-set_other ws (place_word p l) (code_word i) n 0 (λ e. omega arith))) (t.codes i il);
     present = λ r rl even. t.present r rl (sym (ap (λ (y : ℕ). y % 2) (get_or-set_other ws (place_word p l) (request_word p r) n 0 (λ e. omega arith))) ∙ even);
   }
 
-  pub code_settled : (i n : ℕ) → i < p.slots → n < 65536 → code_word i < length ws → Settled p stored placed (set ws (code_word i) n) hs
+  pub code_settled : (i n : ℕ) → i < p.slots → n < 4096 → code_word i < length ws → Settled p stored placed (set ws (code_word i) n) hs
   code_settled i n il fits long = record {
     names = still_named (code_word i) n (λ y yh yl e. omega arith);
     places = still_placed (code_word i) n (λ l e. omega arith);
     codes = λ j jl. dite (ℕ_discrete j i)
-        (λ e. subst (λ (y : ℕ). get_or (set ws (code_word i) n) (code_word y) 0 < 65536) (sym e) (subst (λ (y : ℕ). y < 65536) (sym (get_or-set_same ws (code_word i) n 0 long)) fits))
-        (λ ne. subst (λ (y : ℕ). y < 65536) (sym (get_or-set_other ws (code_word i) (code_word j) n 0 (λ e. ne (omega arith)))) (t.codes j jl));
+        (λ e. subst (λ (y : ℕ). get_or (set ws (code_word i) n) (code_word y) 0 < 4096) (sym e) (subst (λ (y : ℕ). y < 4096) (sym (get_or-set_same ws (code_word i) n 0 long)) fits))
+        (λ ne. subst (λ (y : ℕ). y < 4096) (sym (get_or-set_other ws (code_word i) (code_word j) n 0 (λ e. ne (omega arith)))) (t.codes j jl));
     present = λ r rl even. t.present r rl (sym (ap (λ (y : ℕ). y % 2) (get_or-set_other ws (code_word i) (request_word p r) n 0 (λ e. omega arith))) ∙ even);
   }
 
@@ -89,7 +89,7 @@ module _ {S : Type 0} {p : Plan} {stored : List StoredWord} {placed : ℕ → �
   back_settled r n y low long = record {
     names = still_named (request_word p r) n (λ y yh yl e. omega arith);
     places = still_placed (request_word p r) n (λ l e. omega arith);
-    codes = λ i il. subst (λ (z : ℕ). z < 65536) (sym (get_or-set_other ws (request_word p r) (code_word i) n 0 (λ e. omega arith))) (t.codes i il);
+    codes = λ i il. subst (λ (z : ℕ). z < 4096) (sym (get_or-set_other ws (request_word p r) (code_word i) n 0 (λ e. omega arith))) (t.codes i il);
     present = λ q ql even. dite (ℕ_discrete q r)
         (λ e. (y, ap (get_elem? (set hs r (some y))) e ∙ set_at hs r (some y) long))
         (λ ne. let z = t.present q ql (sym (ap (λ (w : ℕ). w % 2) (get_or-set_other ws (request_word p r) (request_word p q) n 0 (λ e. ne (omega arith)))) ∙ even) in (z.0, set_else hs r q (some y) ne ∙ z.1));
@@ -108,7 +108,7 @@ module _ {S : Type 0} {p : Plan} {stored : List StoredWord} {placed : ℕ → �
   taken_settled r n low odd long = record {
     names = still_named (request_word p r) n (λ y yh yl e. omega arith);
     places = still_placed (request_word p r) n (λ l e. omega arith);
-    codes = λ i il. subst (λ (z : ℕ). z < 65536) (sym (get_or-set_other ws (request_word p r) (code_word i) n 0 (λ e. omega arith))) (t.codes i il);
+    codes = λ i il. subst (λ (z : ℕ). z < 4096) (sym (get_or-set_other ws (request_word p r) (code_word i) n 0 (λ e. omega arith))) (t.codes i il);
     present = λ q ql even. dite (ℕ_discrete q r)
         (λ e. let w : get_or (set ws (request_word p r) n) (request_word p q) 0 ≡ n = subst (λ (y : ℕ). get_or (set ws (request_word p r) n) (request_word p y) 0 ≡ n) (sym e) (get_or-set_same ws (request_word p r) n 0 long) in let o = ap (λ (y : ℕ). y % 2) w in absurd (omega arith))
         (λ ne. let z = t.present q ql (sym (ap (λ (w : ℕ). w % 2) (get_or-set_other ws (request_word p r) (request_word p q) n 0 (λ e. ne (omega arith)))) ∙ even) in (z.0, set_else hs r q none ne ∙ z.1));

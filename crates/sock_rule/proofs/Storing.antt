@@ -131,7 +131,7 @@ module _ {S : Type 0} (shows : S → Home) (rose : S → ℕ) (p : Plan) (slots 
     )
 
     -- S4 of a code
-    pub codes : (h c : ℕ) → 0 < marks_of (is_coding h) i v → c ≢ 0 → c < 65536 → Allows (OnTable shows rose p) slots id me (code_word i) (λ _. c) (λ _. code_told (step slots (code_word i) c 0 none) me c)
+    pub codes : (h c : ℕ) → 0 < marks_of (is_coding h) i v → c ≢ 0 → c < 4096 → Allows (OnTable shows rose p) slots id me (code_word i) (λ _. c) (λ _. code_told (step slots (code_word i) c 0 none) me c)
     codes h c there no_zero small s t long here fits = (
       coded i h c v,
       keeps,
@@ -146,7 +146,7 @@ module _ {S : Type 0} (shows : S → Home) (rose : S → ℕ) (p : Plan) (slots 
         let told : (g d : ℕ) → 0 < marks_of (is_hold g) i v → 0 < marks_of (is_told g d) i v → get_or s.words (code_word i) 0 ≡ d =
         λ g d a b. (code_stays p.first (slot_facts s i) (t.rule.lawful.references.slots i inside) id (about i v.marks) (at_map (λ (y : View). about i y.marks) s.views id v here) g d a b).0 in
         let also : (x g : ℕ) → i ≡ x → 0 < marks_of (is_hold g) x v → (d : ℕ) → 0 < marks_of (is_told g d) x v → get_or s.words (code_word i) 0 ≡ d = λ x g e other d td. told g d (at_slot (is_hold g) x e other) (at_slot (is_told g d) x e td) in
-        let small : get_or s.words (code_word i) 0 < 65536 = t.settled.codes i inside in
+        let small : get_or s.words (code_word i) 0 < 4096 = t.settled.codes i inside in
         dite (ℕ_discrete (get_or s.words (code_word i) 0) 0)
         (λ zero_. (
           v,

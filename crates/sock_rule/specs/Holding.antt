@@ -13,6 +13,7 @@ use Rattle.sock_model.specs.Slots.{version_of}
 use Rattle.sock_model.specs.SlotRows.{marks_of, looked}
 use Rattle.sock_model.specs.Weights.{is_saw}
 use Rattle.sock_model.specs.ChainRows.{with_right, without_right, walking_right, taken_right, passing_right, reading_right}
+use Rattle.message_parts.specs.Parcels.{parcel_of}
 use Rattle.sock_rule.specs.declared.homes.Letter.{Letter}
 use Rattle.sock_rule.specs.Shows.{heading_of}
 use Rattle.sock_rule.specs.ChainPlays.{IsTicket}
@@ -38,7 +39,7 @@ pub record MayTakeMsg (now : ℕ) (v : View) : Type 0 where
 
 -- M2: the message is in hand, and the home where it lay is out with the seat, empty
 abbrev pub TookMsg : {S : Type 0} → Right → ℕ → Letter → S → Me S View → Me S View → Type 0
-TookMsg r now msg empty m n = n ≡ (with_right m.0 (taken_right r (heading_of msg) msg.bytes), (slot_of now, empty) ∷ m.1)
+TookMsg r now msg empty m n = n ≡ (with_right m.0 (taken_right r (heading_of msg) (parcel_of msg.bytes).bytes), (slot_of now, empty) ∷ m.1)
 
 -- A8 of whoever writes link k, whose life it holds in slot i
 pub record MayLookToWrite (p : Plan) (i : ℕ) (v : View) : Type 0 where

@@ -61,14 +61,14 @@ pub record IsDropKept (p : Plan) (views : List View) (l word : ℕ) : Type 0 whe
   pub told : DROPPED ≤ word → 0 < total (put_in (place_word p l) word) views
   pub stays : total (labelled_in l) views ≤ 1 → (n : ℕ) → 0 < total (put_in (place_word p l) n) views → (word ≡ n) × (DROPPED ≤ n)
 
--- each code fits 16 bits, and a request that isn't taken has its home there: a seat that claims one takes its home with it, gives it back with the message in it, takes it
+-- each code is below 4096, and a request that isn't taken has its home there: a seat that claims one takes its home with it, gives it back with the message in it, takes it
 -- with the message, and gives it back where it frees the request
 pub record Settled {S : Type 0} (p : Plan) (stored : List StoredWord) (placed : ℕ → ℕ) (ws : List ℕ) (hs : List (Option S)) : Type 0 where
   -- the word of a name or of an operation is what was stored there last
   pub names : (x : ℕ) → 6 * p.slots ≤ x → x < 6 * p.slots + p.names + p.operations → slice_index ws x ≡ latest x stored
   -- the word of each place index is the one that is looked at beside what was noted of it
   pub places : (l : ℕ) → l < 8 * p.operations → slice_index ws (place_word p l) ≡ placed l
-  pub codes : (i : ℕ) → i < p.slots → slice_index ws (code_word i) < 65536
+  pub codes : (i : ℕ) → i < p.slots → slice_index ws (code_word i) < 4096
   pub present : (r : ℕ) → r < p.requests → slice_index ws (request_word p r) % 2 ≡ 0 → (y : S) × (get_elem? hs r ≡ some (some y))
 
 -- the label of each message that a seat had accepted, or that its claim has, is of a place word of the table

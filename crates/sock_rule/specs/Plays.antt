@@ -99,7 +99,7 @@ module _ {S : Type 0} where
 
   -- S5: a code other than 0 is noted
   abbrev pub read_told : Step S → Me S View → ℕ → Me S View → Type 0
-  read_told st m found n = (i h : ℕ) → st.word ≡ code_word i → 0 < marks_of (is_hold h) i m.0 → Becomes m n (cond (found == 0) m.0 (told_code i h found m.0)) × ((c : ℕ) → 0 < marks_of (is_told h c) i m.0 → found ≡ c) × (found < 65536)
+  read_told st m found n = (i h : ℕ) → st.word ≡ code_word i → 0 < marks_of (is_hold h) i m.0 → Becomes m n (cond (found == 0) m.0 (told_code i h found m.0)) × ((c : ℕ) → 0 < marks_of (is_told h c) i m.0 → found ≡ c) × (found < 4096)
 
   -- S6
   abbrev pub store_told : Step S → Me S View → ℕ → Me S View → Type 0

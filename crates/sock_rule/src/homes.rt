@@ -6,8 +6,8 @@ ghost use Rattle.sock_io.specs.Causes.{Rose};
 ghost use Rattle.sock_io.specs.Link.{taken_of, IsPutCount};
 
 use ghosts::Ghosts;
+use message_parts::Parcel;
 use sock_io::{Out, Put, Ready};
-use sock_message::Message;
 use sock_words::Label;
 
 /// The writing half of a link, and how many of its messages have places. What it took stands beside it for the proofs,
@@ -81,13 +81,14 @@ impl<O: Out> LinkHome<O> {
     }
 }
 
-/// A message as it lies at home until it is written: its bytes, its label, and its owner, which is the call's id, or 0 for a
-/// send.
+/// A message, or the frame of an attempt, as it lies at home until it is written: its bytes, its label, and its owner, which
+/// is the call's id, or 0 for a send. A call has at most seven attempts, counted from 0.
 #[derive(Drop)]
 pub struct Letter {
-    pub bytes: Message,
+    pub bytes: Parcel,
     pub label: Label,
     pub owner: u64,
+    pub ghost numbered: { label.attempt ≤ 6 },
 }
 
 /// What a home of the table holds.

@@ -8,6 +8,7 @@ ghost use Rattle.sock_model.specs.declared.chain.Loose.{Loose};
 ghost use Rattle.sock_model.specs.Weights.{is_hold, is_met};
 ghost use Rattle.sock_model.specs.SlotRows.{marks_of, met_link};
 ghost use Rattle.sock_model.specs.ChainRows.{with_claim, ready_claim, without_loose};
+ghost use Rattle.message_parts.specs.Parcels.{parcel_of};
 ghost use Rattle.sock_rule.specs.Seated.{IsSeat};
 ghost use Rattle.sock_rule.specs.Shows.{heading_of};
 ghost use Rattle.sock_rule.specs.Sending.{Asked, Claims, OnTop, filled_for, MaySwap, Swapped};
@@ -47,7 +48,7 @@ impl<O: Out> RuleTable<O> {
         requires home { OnTop at seat.old.me }
         requires label { msg.label.place < 8 * self.now.plan.operations }
         ensures seat { IsSeat self.now.table.shared.table_id self.now.plan seat.new }
-        ensures view { (c : Claim) (h : ℕ) → Claims c seat.old.me.0 → 0 < marks_of (is_hold h) slot seat.old.me.0 → seat.new.me ≡ (with_claim (met_link slot h result seat.old.me.0) (filled_for c result (heading_of msg) msg.bytes), rest seat.old.me.1) }
+        ensures view { (c : Claim) (h : ℕ) → Claims c seat.old.me.0 → 0 < marks_of (is_hold h) slot seat.old.me.0 → seat.new.me ≡ (with_claim (met_link slot h result seat.old.me.0) (filled_for c result (heading_of msg) (parcel_of msg.bytes).bytes), rest seat.old.me.1) }
         ensures link { result < self.now.plan.links }
         ensures met { (h k : ℕ) → 0 < marks_of (is_hold h) slot seat.old.me.0 → 0 < marks_of (is_met h k) slot seat.old.me.0 → result ≡ k }
     {

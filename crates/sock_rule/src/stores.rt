@@ -83,6 +83,7 @@ impl<O: Out> RuleTable<O> {
         requires slot { at < self.now.plan.slots }
         requires coding { (h : ℕ) × (0 < marks_of (is_coding h) at seat.old.me.0) }
         requires code { code ≢ 0 }
+        requires small { code < 4096 }
         ensures seat { IsSeat self.now.table.shared.table_id self.now.plan seat.new }
         ensures view { (h : ℕ) → 0 < marks_of (is_coding h) at seat.old.me.0 → seat.new.me ≡ (coded at h code seat.old.me.0, seat.old.me.1) }
     {
@@ -100,7 +101,7 @@ impl<O: Out> RuleTable<O> {
         ensures seat { IsSeat self.now.table.shared.table_id self.now.plan seat.new }
         ensures view { (h : ℕ) → 0 < marks_of (is_hold h) at seat.old.me.0 → seat.new.me ≡ (cond (result == 0) seat.old.me.0 (told_code at h result seat.old.me.0), seat.old.me.1) }
         ensures same { (h d : ℕ) → 0 < marks_of (is_hold h) at seat.old.me.0 → 0 < marks_of (is_told h d) at seat.old.me.0 → result ≡ d }
-        ensures small { result < 65536 }
+        ensures small { result < 4096 }
     {
         let word = 6 * at as usize + 4;
         self.table.shared.load::<ReadCode>(seat, word)

@@ -211,6 +211,7 @@ impl<O: Out> SockTable<O> {
         requires held { Holds self.now.rule.plan seat.old.me.0 sock.now.id.0 }
         ensures seat { IsSeat self.now.rule.table.shared.table_id self.now.rule.plan seat.new }
         ensures code { CodeOf result sock.now.id.0 seat.old.me.0 seat.new.me.0 }
+        ensures small { result < 4096 }
         ensures between { IsBetween self.now.rule.plan seat.old.me.0 → IsBetween self.now.rule.plan seat.new.me.0 }
         ensures slots { seat.new.me.1 ≡ seat.old.me.1 }
     {
@@ -218,12 +219,12 @@ impl<O: Out> SockTable<O> {
         let slot = sock.id.slot();
         prove!(slot < slots as u32);
         let found = self.rule.load_code(seat, slot as u16);
-        prove!(found < 65536);
+        prove!(found < 4096);
         found as u16
     }
 
-    /// Fails the socket, with a code that isn't 0. Already exactly where it had been failed.
-    /// bRPC's `SetFailed` (versioned_ref_with_id.h, socket.cpp). The code is 1 to 4,095.
+    /// Fails the socket, with a code from 1 to 4,095. Already exactly where it had been failed.
+    /// bRPC's `SetFailed` (versioned_ref_with_id.h, socket.cpp).
     pub fn set_failed(
         &self,
         seat: &mut SockSeat<O>,
@@ -235,6 +236,7 @@ impl<O: Out> SockTable<O> {
         requires room { marks_of is_ref (socket_id_slot sock.now.id.0) seat.old.me.0 < 65540 }
         requires between { IsBetween self.now.rule.plan seat.old.me.0 }
         requires code { code ≢ 0 }
+        requires small { code < 4096 }
         ensures seat { IsSeat self.now.rule.table.shared.table_id self.now.rule.plan seat.new }
         ensures ok { IfOk result (λ _. FailedBy sock.now.id.0 code seat.old.me.0 seat.new.me.0) }
         ensures err { IfErr result (λ e. FoundFailed sock.now.id.0 e.found.0 seat.old.me.0 seat.new.me.0) }
@@ -252,6 +254,7 @@ impl<O: Out> SockTable<O> {
         requires room { marks_of is_ref (socket_id_slot sock.now.id.0) seat.old.me.0 < 65540 }
         requires rests { Rests self.now.rule.plan seat.old.me.0 }
         requires code { code ≢ 0 }
+        requires small { code < 4096 }
         ensures seat { IsSeat self.now.rule.table.shared.table_id self.now.rule.plan seat.new }
         ensures ok { IfOk result (λ _. FailedBy sock.now.id.0 code seat.old.me.0 seat.new.me.0) }
         ensures err { IfErr result (λ e. FoundFailed sock.now.id.0 e.found.0 seat.old.me.0 seat.new.me.0) }

@@ -11,6 +11,7 @@ use lib.ListN.{get_elem?}
 use Rattle.atomic_table.specs.Table.{Me}
 use Rattle.sock_io.specs.declared.link.Out.{Ghosts}
 use Rattle.sock_io.specs.Link.{OutState}
+use Rattle.sock_words.specs.Codes.{EFAILEDSOCKET}
 use Rattle.sock_words.specs.declared.outcome.Outcome.{Outcome}
 use Rattle.sock_words.specs.declared.outcome.Outcome.TheVariants as outcome
 use Rattle.sock_words.specs.declared.plain.Label.{Label}
@@ -136,7 +137,7 @@ module _ (f : Mark → ℕ) (z : IsOfLife f) where
   noted_none : {O : Type 0} {state : O → OutState} {L : ℕ → Type 0} (h : ℕ) (ms : List Mark) → f (Failer h) ≡ 0 → Noted state L h ms → total f ms ≡ 0
   noted_none h _ e nothing = refl
   noted_none h _ e (finding m ms a b) = omega (arith, finding_none h m a, noted_none h ms e b)
-  noted_none h _ e (failing k ms a b c) = omega (arith, e, z.fault k, z.saw (h + 1), z.stored h 1009, z.told h 1009, noted_none h ms e c)
+  noted_none h _ e (failing k ms a b c) = omega (arith, e, z.fault k, z.saw (h + 1), z.stored h EFAILEDSOCKET, z.told h EFAILEDSOCKET, noted_none h ms e c)
 
   noted_by : {O : Type 0} {state : O → OutState} {L : ℕ → Type 0} (h : ℕ) (ms : List Mark) (noted : Noted state L h ms) → 0 < total f ms → (k : ℕ) × L k × (j : ℕ) × (get_elem? (noted_links h ms noted) j ≡ some k)
   noted_by h _ nothing less = absurd (omega arith)

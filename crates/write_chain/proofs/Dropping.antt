@@ -1,9 +1,10 @@
 -- What a message was dropped with.
-use Rattle.std.proofs.Common.{◌≡◌, ◌≢◌, ℕ, ◌+◌, ◌<◌, cond, eqb, ne_eqb, [], ◌∷◌, sym, ap, ◌∙◌, subst, arith}
+use Rattle.std.proofs.Common.{◌≡◌, ◌≢◌, ℕ, ◌+◌, ◌<◌, ◌≤◌, cond, eqb, eq-eqb, ne_eqb, [], ◌∷◌, sym, ap, ◌∙◌, subst, arith}
 use mathlib.Core.Logic.{dite}
 use native.Mathlib.Decide.{ℕ_discrete}
 use Rattle.sock_io.specs.Link.{OutState}
 use Rattle.sock_words.specs.declared.plain.Plan.{Plan}
+use Rattle.sock_words.specs.Codes.{EFAILEDSOCKET}
 use Rattle.sock_words.specs.Words.{socket_id_version, socket_id_slot}
 use Rattle.sock_model.specs.declared.marks.Mark.TheVariants.{Saw, Told}
 use Rattle.sock_model.specs.declared.view.View.{View}
@@ -31,17 +32,23 @@ code_noted c id v w k = dite (ℕ_discrete c 0)
 pub told_then : (c id : ℕ) (v w : View) → CodeOf c id v w → c ≢ 0 → 0 < marks_of (is_told (socket_id_version id) c) (socket_id_slot id) w
 told_then c id v w k some_ = let x = (k.told some_).here (is_told (socket_id_version id) c) in let y = pair-same (socket_id_version id) c in omega arith
 
-pub is_code : (code c id : ℕ) (v w x : View) → CodeOf c id v w → code ≡ cond (eqb c 0) 1009 c → x.marks ≡ w.marks → IsCode code id v x
-is_code code c id v w x k is same = record {
+code_fits : (code c : ℕ) → code ≡ cond (eqb c 0) EFAILEDSOCKET c → c < 4096 → (1 ≤ code) × (code ≤ 4095)
+code_fits code c is small = dite (ℕ_discrete c 0)
+    (λ none_. let e : code ≡ 1009 = is ∙ ap (λ b. cond b EFAILEDSOCKET c) (eq-eqb c 0 none_) in (omega (arith, e), omega (arith, e)))
+    (λ some_. let e : code ≡ c = is ∙ ap (λ b. cond b EFAILEDSOCKET c) (ne_eqb c 0 some_) in (omega (arith, e, some_), omega (arith, e, small)))
+
+pub is_code : (code c id : ℕ) (v w x : View) → CodeOf c id v w → code ≡ cond (eqb c 0) EFAILEDSOCKET c → c < 4096 → x.marks ≡ w.marks → IsCode code id v x
+is_code code c id v w x k is small same = record {
   word = c;
   code_is = is;
+  fits = code_fits code c is small;
   noted = λ some_. subst (λ l. 0 < total (is_told (socket_id_version id) c) (about (socket_id_slot id) l)) (sym same) (told_then c id v w k some_);
-  same = λ d some_ there. let e = k.same d there in is ∙ (ap (λ b. cond b 1009 c) (ne_eqb c 0 (λ z. some_ (sym e ∙ z))) ∙ e);
+  same = λ d some_ there. let e = k.same d there in is ∙ (ap (λ b. cond b EFAILEDSOCKET c) (ne_eqb c 0 (λ z. some_ (sym e ∙ z))) ∙ e);
 }
 
 -- of a seat that only wrote since
 pub code_before : {O : Type 0} {state : O → OutState} (code id : ℕ) (u v w : View) → Wrote state id u v → IsCode code id v w → IsCode code id u w
-code_before code id u v w a k = record { word = k.word; code_is = k.code_is; noted = k.noted; same = λ d some_ there. k.same d some_ (let x = wrote_more (is_told (socket_id_version id) d) u v a in omega arith) }
+code_before code id u v w a k = record { word = k.word; code_is = k.code_is; fits = k.fits; noted = k.noted; same = λ d some_ there. k.same d some_ (let x = wrote_more (is_told (socket_id_version id) d) u v a in omega arith) }
 
 pub still_dead : {O : Type 0} {state : O → OutState} (id : ℕ) (v w : View) → Wrote state id v w → FoundDead id v → FoundDead id w
 still_dead id v w a there = let x = wrote_more (is_saw (socket_id_version id + 1)) (v) w a in omega arith

@@ -1,8 +1,8 @@
 -- What a look finds, and what becomes of a socket whose link failed.
-use Rattle.std.proofs.Common.{◌≡◌, ◌≢◌, ℕ, ◌+◌, ◌-◌, ◌%◌, ◌<◌, zero, suc, Bool, true, false, not, cond, eqb, eqb-true, eq-eqb, List, [], ◌∷◌, ◌++◌, length, take, refl, sym, ap, ◌∙◌, subst, arith}
+use Rattle.std.proofs.Common.{◌≡◌, ◌≢◌, ℕ, ◌+◌, ◌-◌, ◌%◌, ◌<◌, zero, suc, Bool, true, false, not, cond, eqb, eqb-true, eq-eqb, ltb, ltb-true, min, List, [], ◌∷◌, ◌++◌, length, take, refl, sym, ap, ◌∙◌, subst, arith}
 use Rattle.std.specs.Prelude.{◌↔◌, IsTrue, Ok, Err, IfOk, IfErr}
 use Rattle.std.specs.declared.result.Result.{Result}
-use Rattle.sock_message.specs.Pieces.{piece}
+use Rattle.sock_programs.specs.Parts.{room_of_part, part}
 use mathlib.Core.Logic.{dite}
 use native.Mathlib.Decide.{ℕ_discrete}
 use Rattle.atomic_table.specs.Table.{Me}
@@ -11,6 +11,7 @@ use Rattle.sock_io.specs.Link.{OutState, taken_of}
 use Rattle.sock_io.specs.declared.link.Put.{Put}
 use Rattle.sock_io.specs.declared.link.Put.TheVariants.{Failed}
 use Rattle.sock_words.specs.declared.plain.Plan.{Plan}
+use Rattle.sock_words.specs.Codes.{EFAILEDSOCKET}
 use Rattle.sock_words.specs.Words.{socket_id_version, socket_id_slot, vref_version, IsFailedVref}
 use Rattle.sock_model.specs.declared.marks.Mark.{Mark}
 use Rattle.sock_model.specs.declared.marks.Mark.TheVariants.{Saw}
@@ -99,7 +100,7 @@ pub record Fails {O : Type 0} (state : O → OutState) (id : ℕ) (v w : View) :
   pub became : Became (socket_id_slot id) v w notes []
 
 -- a fault was noted, and then the socket was failed
-pub fails : {O : Type 0} {state : O → OutState} (id k : ℕ) (u v w : View) (r : Result (Unit {0}) Already) → Became (socket_id_slot id) u v (fault k ∷ []) [] → IfOk r (λ _. FailedBy id 1009 v w) → IfErr r (λ e. FoundFailed id e.found.0 v w) → Faulted state k → Met_by id u k → Fails state id u w
+pub fails : {O : Type 0} {state : O → OutState} (id k : ℕ) (u v w : View) (r : Result (Unit {0}) Already) → Became (socket_id_slot id) u v (fault k ∷ []) [] → IfOk r (λ _. FailedBy id EFAILEDSOCKET v w) → IfErr r (λ e. FoundFailed id e.found.0 v w) → Faulted state k → Met_by id u k → Fails state id u w
 fails id k u v w (Ok x) note ok err rose met_ = record {
   notes = _;
   noted = failing k [] (let y : marks_of (is_met (socket_id_version id) k) (socket_id_slot id) v + 0 ≡ marks_of (is_met (socket_id_version id) k) (socket_id_slot id) u + 0 = note.here (is_met (socket_id_version id) k) in let x : marks_of (is_met (socket_id_version id) k) (socket_id_slot id) w + 0 ≡ marks_of (is_met (socket_id_version id) k) (socket_id_slot id) v + 0 = ok.here (is_met (socket_id_version id) k) in omega arith) rose nothing;
@@ -107,7 +108,7 @@ fails id k u v w (Ok x) note ok err rose met_ = record {
 }
 fails id k u v w (Err e) note ok err rose met_ = record { notes = _; noted = finding (fault k) _ (faulted k) (found_it _ (saw (vref_version e.found.0))); became = then_ (socket_id_slot id) note err.1 }
 
-pub fails_dead : (id : ℕ) (v w : View) (r : Result (Unit {0}) Already) → IfOk r (λ _. FailedBy id 1009 v w) → IfErr r (λ e. FoundFailed id e.found.0 v w) → FoundDead id w
+pub fails_dead : (id : ℕ) (v w : View) (r : Result (Unit {0}) Already) → IfOk r (λ _. FailedBy id EFAILEDSOCKET v w) → IfErr r (λ e. FoundFailed id e.found.0 v w) → FoundDead id w
 fails_dead id v w (Ok u) ok err = let one : is_saw (socket_id_version id + 1) (Saw (socket_id_version id + 1)) ≡ 1 = only-same (socket_id_version id + 1) in
     let x : marks_of (is_saw (socket_id_version id + 1)) (socket_id_slot id) w + 0 ≡ marks_of (is_saw (socket_id_version id + 1)) (socket_id_slot id) v + (0 + (is_saw (socket_id_version id + 1) (Saw (socket_id_version id + 1)) + 0)) = ok.here (is_saw (socket_id_version id + 1)) in omega arith
 fails_dead id v w (Err e) ok err = let one : is_saw (socket_id_version id + 1) (Saw (vref_version e.found.0)) ≡ 1 = ap (λ (y : ℕ). is_saw (socket_id_version id + 1) (Saw y)) err.0 ∙ only-same (socket_id_version id + 1) in
@@ -126,14 +127,25 @@ pub is_some : (l : List ℕ) (b : Bool) → b ≡ eqb (length l) 0 → b ≡ fal
 is_some l b is f e = false_true (sym f ∙ (is ∙ eq-eqb (length l) 0 (ap length e)))
 
 -- where all was taken that was left, the put didn't fail
-pub all_taken : (l left : List ℕ) (taken : ℕ) (r : Put) → l ≢ [] → l ≡ taken_of (piece l taken) r ++ left → left ≡ [] → r ≢ Failed
-all_taken l left taken r some_ is none_ e = some_ (is ∙ (λ i. taken_of (piece l taken) (e i) ++ none_ i))
+pub all_taken : (l left next : List ℕ) (r : Put) → l ≢ [] → l ≡ taken_of next r ++ left → left ≡ [] → r ≢ Failed
+all_taken l left next r some_ is none_ e = some_ (is ∙ (λ i. taken_of next (e i) ++ none_ i))
 
 some_taken : (n : ℕ) (l : List ℕ) → 0 < n → l ≢ [] → 0 < length (take n l)
 some_taken zero l pos ne = absurd (omega arith)
 some_taken (suc n) [] pos ne = absurd (ne refl)
 some_taken (suc n) (x ∷ xs) pos ne = omega arith
 
+some_room : (ps : List ℕ) (taken : ℕ) → 0 < room_of_part ps taken
+some_room [] taken = omega arith
+some_room (n ∷ ns) taken = by_part (ltb taken n) refl (some_room ns (taken - n))
+  where
+    some_min : (a b : ℕ) → 0 < a → 0 < b → 0 < min a b
+    some_min a b x y = omega (arith, x, y)
+
+    by_part : (b : Bool) → ltb taken n ≡ b → 0 < room_of_part ns (taken - n) → 0 < cond b (min (n - taken) (8192 - taken % 8192)) (room_of_part ns (taken - n))
+    by_part true is more = let less : taken < n = ltb-true taken n is in some_min (n - taken) (8192 - taken % 8192) (omega (arith, less)) (omega arith)
+    by_part false is more = more
+
 -- a piece is put where bytes are left
-pub some_piece : (l : List ℕ) (taken : ℕ) → l ≢ [] → 0 < length (piece l taken)
-some_piece l taken ne = some_taken (8192 - taken % 8192) l (omega arith) ne
+pub some_piece : (ps l : List ℕ) (taken : ℕ) → l ≢ [] → 0 < length (part ps l taken)
+some_piece ps l taken ne = some_taken (room_of_part ps taken) l (some_room ps taken) ne

@@ -19,6 +19,7 @@ use Rattle.sock_model.specs.Links.{HoldsLink}
 use Rattle.sock_model.specs.Weights.{is_ref, is_hold, is_met}
 use Rattle.sock_model.specs.SlotRows.{met_link, wrote}
 use Rattle.sock_model.specs.ChainRows.{with_right, without_right, taken_right, placed_right, dropped_right, passing_right, freed_stage, freed_right, walking_right, reading_right, turned_right}
+use Rattle.message_parts.specs.Parcels.{parcel_of, outgoing_of}
 use Rattle.sock_rule.specs.Becoming.{Became}
 use Rattle.sock_rule.specs.Faults.{faults_of, fault_found}
 use Rattle.sock_rule.specs.Holding.{Part, Follows, ends, goes_on, MayFreeRequest, MayLookToWrite, MayEmptyHead}
@@ -152,7 +153,7 @@ module _ {O : Type 0} {g : Ghosts O} {p : Plan} {id last : ℕ} where
       place_is = h.place_is ∙ ap (λ (y : Label). y.place) (sym l);
       place_in = subst (λ (y : Label). y.place < 8 * p.operations) (sym l) h.place_in;
       begun = h.begun ++ taken;
-      bytes_are = h.bytes_are ∙ (ap (λ y. h.begun ++ y) w.left ∙ sym (append_assoc h.begun taken new.bytes.left));
+      bytes_are = h.bytes_are ∙ (ap (λ y. h.begun ++ y) w.left ∙ sym (append_assoc h.begun taken (outgoing_of new.bytes).left));
       took = w.took ∙ (ap (λ y. y ++ taken) h.took ∙ append_assoc h.right_is.sent h.begun taken);
       noted = λ t. (let a = h.noted (subst (λ (y : ℕ). 0 < faults_of y m.0) k t) in let b = w.later in omega arith);
       few = subst (λ (n : ℕ). n < 4294967295) (sym w.next) h.few;
@@ -169,7 +170,7 @@ module _ {O : Type 0} {g : Ghosts O} {p : Plan} {id last : ℕ} where
   pub part_asked : (old new : InHand O g) (m : Me (SockHome O g) View) → WentOn old new [] → HasPart p id last old m → HasPart p id last new m
   part_asked old new m w h = let r = went_on old new [] m w h.0 in (r.0, by_part h.1)
     where
-      by_part : IsPart h.0.right_is h.0.begun old.bytes.left → IsPart (went_on old new [] m w h.0).0.right_is (went_on old new [] m w h.0).0.begun new.bytes.left
+      by_part : IsPart h.0.right_is h.0.begun (outgoing_of old.bytes).left → IsPart (went_on old new [] m w h.0).0.right_is (went_on old new [] m w h.0).0.begun (outgoing_of new.bytes).left
       by_part (inl none_) = inl ((went_on old new [] m w h.0).2 ∙ (append-nil h.0.begun ∙ none_))
       by_part (inr more) = inr (ap (λ (y : Right). y.clean) (went_on old new [] m w h.0).1 ∙ more.0, λ e. more.1 (w.left ∙ e))
 
@@ -208,12 +209,12 @@ module _ {O : Type 0} {g : Ghosts O} {p : Plan} {id last : ℕ} where
 
   -- M2
   pub letter_taken : (hand : LinkInHand O g) (new : InHand O g) (now : ℕ) (msg : Letter) (m n : Me (SockHome O g) View) (h : HasLink p id last (Writes now) [] hand m) → IsTicket p now → msg.label.place < 8 * p.operations → h.right_is.places < 4294967295
-      → n ≡ (with_right m.0 (taken_right h.right_is (heading_of msg) msg.bytes), (slot_of now, Empty) ∷ m.1)
-      → new.link ≡ hand.link → new.home ≡ hand.home → new.now.0 ≡ now → new.bytes.left ≡ msg.bytes → new.label ≡ msg.label → HasPart p id last new n
-  letter_taken hand new now msg m n h ticket label few e same_link same_home same_now left same_label = let x' : Right = taken_right h.right_is (heading_of msg) msg.bytes in let its : LinkHome O g → ℕ = λ y. y.next in (
+      → n ≡ (with_right m.0 (taken_right h.right_is (heading_of msg) (parcel_of msg.bytes).bytes), (slot_of now, Empty) ∷ m.1)
+      → new.link ≡ hand.link → new.home ≡ hand.home → new.now.0 ≡ now → (outgoing_of new.bytes).left ≡ (parcel_of msg.bytes).bytes → new.label ≡ msg.label → HasPart p id last new n
+  letter_taken hand new now msg m n h ticket label few e same_link same_home same_now left same_label = let x' : Right = taken_right h.right_is (heading_of msg) (parcel_of msg.bytes).bytes in let its : LinkHome O g → ℕ = λ y. y.next in (
     record {
-      right_is = taken_right h.right_is (heading_of msg) msg.bytes;
-      writer = subst (λ (y : ℕ). IsWriter p id last y (taken_right h.right_is (heading_of msg) msg.bytes) n.0) (sym same_link) (writer_on h.writer last x' refl h.writer.last_is h.writer.last_ticket (ap (λ (q : Me (SockHome O g) View). q.0) e));
+      right_is = taken_right h.right_is (heading_of msg) (parcel_of msg.bytes).bytes;
+      writer = subst (λ (y : ℕ). IsWriter p id last y (taken_right h.right_is (heading_of msg) (parcel_of msg.bytes).bytes) n.0) (sym same_link) (writer_on h.writer last x' refl h.writer.last_is h.writer.last_ticket (ap (λ (q : Me (SockHome O g) View). q.0) e));
       has = record {
         away = h.has.away;
         link_in = subst (λ (y : ℕ). y < p.links) (sym same_link) h.has.link_in;
@@ -245,7 +246,7 @@ module _ {O : Type 0} {g : Ghosts O} {p : Plan} {id last : ℕ} where
     has = record { away = r.has.away; link_in = r.has.link_in; places_are = (let a = more.1 in let b = r.has.places_are in omega arith); own = ap (λ (y : O). (g.state y).link) out ∙ r.has.own; unfinished = ap (λ (y : O). (g.state y).finished) out ∙ r.has.unfinished };
     stage_is = refl;
     idle = refl;
-    took = more.0 ∙ took_all r.right_is.sent r.begun r.right_is.bytes hand.bytes.left hand.home.took.list r.took r.bytes_are h.2;
+    took = more.0 ∙ took_all r.right_is.sent r.begun r.right_is.bytes (outgoing_of hand.bytes).left hand.home.took.list r.took r.bytes_are h.2;
     noted = λ t. subst (λ (y : O). 0 < (g.state y).faults) (sym out) (r.noted (subst (λ (y : View). 0 < faults_of hand.link y) (ap (λ (q : Me (SockHome O g) View). q.0) e) t));
     slots = ap (λ (q : Me (SockHome O g) View). q.1) e ∙ r.slots;
   }
@@ -254,9 +255,9 @@ module _ {O : Type 0} {g : Ghosts O} {p : Plan} {id last : ℕ} where
   pub part_of : (hand : InHand O g) (m : Me (SockHome O g) View) (h : HasPart p id last hand m) → Part h.0.right_is hand.home.took.list
   part_of hand m h = by_part h.1
     where
-      by_part : IsPart h.0.right_is h.0.begun hand.bytes.left → Part h.0.right_is hand.home.took.list
+      by_part : IsPart h.0.right_is h.0.begun (outgoing_of hand.bytes).left → Part h.0.right_is hand.home.took.list
       by_part (inl none_) = inl (h.0.took ∙ (ap (λ l. h.0.right_is.sent ++ l) none_ ∙ append-nil h.0.right_is.sent))
-      by_part (inr more) = inr (more.0, h.0.begun, hand.bytes.left, h.0.took, h.0.bytes_are, more.1)
+      by_part (inr more) = inr (more.0, h.0.begun, (outgoing_of hand.bytes).left, h.0.took, h.0.bytes_are, more.1)
 
   -- P1 with the dropped bit
   pub part_dropped : (hand : InHand O g) (home : LinkHome O g) (m n : Me (SockHome O g) View) (h : HasInHand p id last hand m) → (home.took.list ≡ hand.home.took.list) × (home.next ≡ hand.home.next + 1) → home.out ≡ hand.home.out

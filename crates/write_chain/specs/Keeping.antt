@@ -1,8 +1,9 @@
 -- What keeping on writing comes to.
-use Rattle.std.specs.Prelude.{◌≡◌, ◌≢◌, ℕ, ◌<◌, ◌==◌, cond}
+use Rattle.std.specs.Prelude.{◌≡◌, ◌≢◌, ℕ, ◌<◌, ◌≤◌, ◌==◌, cond}
 use Rattle.atomic_table.specs.Table.{Me}
 use Rattle.sock_io.specs.declared.link.Out.{Ghosts}
 use Rattle.sock_words.specs.declared.plain.Plan.{Plan}
+use Rattle.sock_words.specs.Codes.{EFAILEDSOCKET}
 use Rattle.sock_words.specs.Words.{socket_id_version, socket_id_slot}
 use Rattle.sock_model.specs.declared.view.View.{View}
 use Rattle.sock_model.specs.Weights.{is_told}
@@ -16,10 +17,11 @@ use Rattle.write_chain.specs.declared.keep.Kept.TheVariants as kept
 use Rattle.write_chain.specs.Noting.{Wrote, WroteDrop}
 use Rattle.write_chain.specs.Writing.{MayGoOn, GaveUp, FoundDead, HasMore}
 
--- what a message was dropped with: the code word that was read, or 1009 where that was 0; it is the code that the seat found or stored before
+-- what a message was dropped with: the code word that was read, or EFAILEDSOCKET where that was 0; it is the code that the seat found or stored before
 pub record IsCode (code id : ℕ) (v w : View) : Type 0 where
   pub word : ℕ
-  pub code_is : code ≡ cond (word == 0) 1009 word
+  pub code_is : code ≡ cond (word == 0) EFAILEDSOCKET word
+  pub fits : (1 ≤ code) × (code ≤ 4095)
   pub noted : word ≢ 0 → 0 < marks_of (is_told (socket_id_version id) word) (socket_id_slot id) w
   pub same : (d : ℕ) → d ≢ 0 → 0 < marks_of (is_told (socket_id_version id) d) (socket_id_slot id) v → code ≡ d
 

@@ -3,6 +3,7 @@ use Rattle.std.specs.Prelude.{◌≡◌, ℕ, ◌+◌, ◌<◌, true, false, Lis
 use Rattle.sock_io.specs.Link.{OutState}
 use Rattle.sock_io.specs.Causes.{Rose}
 use Rattle.sock_words.specs.declared.plain.Plan.{Plan}
+use Rattle.sock_words.specs.Codes.{EFAILEDSOCKET}
 use Rattle.sock_words.specs.Words.{socket_id_version, socket_id_slot}
 use Rattle.sock_model.specs.declared.marks.Mark.{Mark}
 use Rattle.sock_model.specs.declared.marks.Mark.TheVariants.{Saw, Failer, Stored, Told, Met}
@@ -35,7 +36,7 @@ pub record Faulted {O : Type 0} (state : O → OutState) (k : ℕ) : Type 0 wher
 pub data Noted {O : Type 0} (state : O → OutState) (IsLink : ℕ → Type 0) (h : ℕ) : List Mark → Type 0 where
   nothing : Noted state IsLink h []
   finding : (m : Mark) (ms : List Mark) → IsFinding h m → Noted state IsLink h ms → Noted state IsLink h (m ∷ ms)
-  failing : (k : ℕ) (ms : List Mark) → IsLink k → Faulted state k → Noted state IsLink h ms → Noted state IsLink h (fault k ∷ Failer h ∷ Saw (h + 1) ∷ Stored h 1009 ∷ Told h 1009 ∷ ms)
+  failing : (k : ℕ) (ms : List Mark) → IsLink k → Faulted state k → Noted state IsLink h ms → Noted state IsLink h (fault k ∷ Failer h ∷ Saw (h + 1) ∷ Stored h EFAILEDSOCKET ∷ Told h EFAILEDSOCKET ∷ ms)
 
 -- the seat found that the link of this life is k
 abbrev pub Met_by : ℕ → View → ℕ → Type 0

@@ -12,6 +12,7 @@ use Rattle.sock_model.specs.Entries.{slot_of}
 use Rattle.sock_model.specs.Links.{HoldsLink}
 use Rattle.sock_model.specs.Weights.{is_ref, is_saw}
 use Rattle.sock_model.specs.SlotRows.{marks_of}
+use Rattle.message_parts.specs.Parcels.{outgoing_of}
 use Rattle.sock_rule.specs.Faults.{faults_of}
 use Rattle.sock_rule.specs.Holding.{Rights}
 use Rattle.sock_rule.specs.ChainPlays.{IsTicket}
@@ -102,7 +103,7 @@ pub record HasInHand {O : Type 0} {g : Ghosts O} (p : Plan) (id last : ℕ) (han
   pub place_is : right_is.heading.place ≡ hand.label.place
   pub place_in : hand.label.place < 8 * p.operations
   pub begun : List ℕ
-  pub bytes_are : right_is.bytes ≡ begun ++ hand.bytes.left
+  pub bytes_are : right_is.bytes ≡ begun ++ (outgoing_of hand.bytes).left
   pub took : hand.home.took.list ≡ right_is.sent ++ begun
   -- the half has a fault where the seat noted one
   pub noted : 0 < faults_of hand.link m.0 → 0 < (g.state hand.home.out).faults
@@ -114,7 +115,7 @@ abbrev pub IsPart : Right → List ℕ → List ℕ → Type 0
 IsPart x begun left = (begun ≡ []) ⊎ ((x.clean ≡ true) × (left ≢ []))
 
 abbrev pub HasPart : {O : Type 0} {g : Ghosts O} → Plan → ℕ → ℕ → InHand O g → Me (SockHome O g) View → Type 0
-HasPart p id last hand m = (h : HasInHand p id last hand m) × IsPart h.right_is h.begun hand.bytes.left
+HasPart p id last hand m = (h : HasInHand p id last hand m) × IsPart h.right_is h.begun (outgoing_of hand.bytes).left
 
 -- the look before a put found the life live
 abbrev pub IsClean : {O : Type 0} {g : Ghosts O} → Plan → ℕ → ℕ → InHand O g → Me (SockHome O g) View → Type 0
@@ -122,7 +123,7 @@ IsClean p id last hand m = (h : HasInHand p id last hand m) × (h.right_is.clean
 
 -- the link took the whole message, and the look before its last put found the life live
 abbrev pub HasWhole : {O : Type 0} {g : Ghosts O} → Plan → ℕ → ℕ → InHand O g → Me (SockHome O g) View → Type 0
-HasWhole p id last hand m = (h : HasInHand p id last hand m) × (h.right_is.clean ≡ true) × (hand.bytes.left ≡ [])
+HasWhole p id last hand m = (h : HasInHand p id last hand m) × (h.right_is.clean ≡ true) × ((outgoing_of hand.bytes).left ≡ [])
 
 -- the seat found that the life was failed
 abbrev pub FoundDead : ℕ → View → Type 0

@@ -5,6 +5,7 @@ ghost use Rattle.sock_model.specs.declared.chain.Claim.{Claim};
 ghost use Rattle.sock_model.specs.Weights.{is_ref};
 ghost use Rattle.sock_model.specs.SlotRows.{marks_of};
 ghost use Rattle.atomic_table.specs.Table.{rest};
+ghost use Rattle.message_parts.specs.Parcels.{parcel_of};
 ghost use Rattle.sock_rule.specs.Seated.{IsSeat};
 ghost use Rattle.sock_rule.specs.Shows.{heading_of};
 ghost use Rattle.sock_rule.specs.Sending.{Claims, OnTop};
@@ -55,7 +56,7 @@ pub fn accept<O: Out>(
     requires room { HasRoom seat.old.me.0 }
     requires label { msg.label.place < 8 * table.now.rule.plan.operations }
     ensures seat { IsSeat table.now.rule.table.shared.table_id table.now.rule.plan seat.new }
-    ensures started { StartedWith [] table.now.rule.plan sock (heading_of msg) msg.bytes result seat.old.me.0 seat.new.me.0 }
+    ensures started { StartedWith [] table.now.rule.plan sock (heading_of msg) (parcel_of msg.bytes).bytes result seat.old.me.0 seat.new.me.0 }
     ensures slots { seat.new.me.1 ≡ rest seat.old.me.1 }
 {
     let slots = table.rule.plan.slots;
@@ -92,7 +93,7 @@ pub fn start<O: Out>(
     requires may { MaySend table.now.rule.plan seat.old.me.0 }
     requires label { msg.label.place < 8 * table.now.rule.plan.operations }
     ensures seat { IsSeat table.now.rule.table.shared.table_id table.now.rule.plan seat.new }
-    ensures started { IfOk result (λ s. StartedBy table.now.rule.plan sock (heading_of msg) msg.bytes s seat.old.me.0 seat.new.me.0) }
+    ensures started { IfOk result (λ s. StartedBy table.now.rule.plan sock (heading_of msg) (parcel_of msg.bytes).bytes s seat.old.me.0 seat.new.me.0) }
     ensures refused { IfErr result (λ e. RefusedBy table.now.rule.plan sock msg e seat.old.me.0 seat.new.me.0) }
     ensures slots { seat.new.me.1 ≡ seat.old.me.1 }
     ensures begins { seat.old.me.1 ≡ [] → marks_of is_ref (socket_id_slot sock.id.0) seat.old.me.0 < 65540 → IfOk result (λ s. Begins table.now.rule.plan sock s seat.new.me) }

@@ -7,6 +7,7 @@ ghost use Rattle.sock_model.specs.declared.chain.Stage.{Stage};
 ghost use Rattle.sock_model.specs.declared.chain.Stage.TheVariants.{Writes, Placed, Empties};
 ghost use Rattle.sock_model.specs.ChainRows.{with_right, freed_right};
 ghost use Rattle.sock_model.specs.Entries.{slot_of};
+ghost use Rattle.message_parts.specs.Parcels.{outgoing_of};
 ghost use Rattle.sock_rule.specs.declared.homes.SockHome.TheVariants.{Empty};
 ghost use Rattle.sock_rule.specs.Seated.{IsSeat};
 ghost use Rattle.sock_rule.specs.ChainPlays.{IsTicket};
@@ -18,11 +19,7 @@ use crate::right::{Doing, InHand, LinkInHand, WriteRight};
 use sock_io::{Out, Put};
 use sock_rule::{Letter, SockSeat};
 use sock_table::{SockRef, SockTable};
-use sock_words::{PlaceWord, Ticket, Vref};
-
-/// The code of a socket whose link failed.
-/// bRPC's `EFAILEDSOCKET`.
-pub const LINK_FAILED: u16 = 1009;
+use sock_words::{EFAILEDSOCKET, PlaceWord, Ticket, Vref};
 
 /// A request of this generation isn't freed: its tickets are used up.
 const LAST_GENERATION: u64 = 140_737_488_355_327;
@@ -245,7 +242,7 @@ pub fn fail_link<O: Out>(
 {
     let slot = slot_at(table, sock);
     table.rule.note_fault(seat, slot);
-    let failed = table.fail(seat, sock, LINK_FAILED);
+    let failed = table.fail(seat, sock, EFAILEDSOCKET);
     drop(failed);
 }
 
@@ -258,7 +255,7 @@ pub fn put_piece<O: Out>(
     mut hand: InHand<O>,
 ) -> Tried<O>
     requires seat { IsSeat table.now.rule.table.shared.table_id table.now.rule.plan seat.old }
-    requires may { IsClean table.now.rule.plan sock.now.id.0 last.0 hand seat.old.me × (hand.bytes.left ≢ []) }
+    requires may { IsClean table.now.rule.plan sock.now.id.0 last.0 hand seat.old.me × ((outgoing_of hand.bytes).left ≢ []) }
     ensures seat { IsSeat table.now.rule.table.shared.table_id table.now.rule.plan seat.new }
     ensures tried { TriedBy table.now.rule.plan sock.now.id.0 last.0 hand.now.0 result seat.new.me }
     ensures faults { TriedFaults (O.state hand.home.out).faults sock.now.id.0 result seat.new.me.0 }

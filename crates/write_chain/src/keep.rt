@@ -7,15 +7,13 @@ ghost use Rattle.sock_model.specs.declared.chain.Stage.TheVariants.{Empties};
 ghost use Rattle.write_chain.specs.Writing.{MayGoOn, HasLink, HasPart, FoundDead, GoesBy, FaultsBy, HasMore};
 ghost use Rattle.write_chain.specs.Keeping.{IsCode, WentBy, WentWriting, KeptBy, KeptWriting, IsDropped, LeavesMore, KeptDropped};
 
-use crate::hold::{
-    LINK_FAILED, Once, Tried, fail_link, fetch_link, go_past, leave, place, take_next, try_put,
-};
+use crate::hold::{Once, Tried, fail_link, fetch_link, go_past, leave, place, take_next, try_put};
 use crate::right::{Doing, InHand, LinkInHand, Undelivered, Walk, WriteRight};
 use crossbeam_utils::Backoff;
 use sock_io::{Out, Ready};
 use sock_rule::SockSeat;
 use sock_table::{SockRef, SockTable};
-use sock_words::{PlaceWord, Ticket};
+use sock_words::{EFAILEDSOCKET, PlaceWord, Ticket};
 use std::sync::Wait;
 
 /// A next word that isn't connected yet.
@@ -40,12 +38,12 @@ pub enum Went<O: Out> {
 
 /// The code with which a message is dropped, where this word was read.
 pub fn code_or(told: u16) -> u16
-    ensures code { result ≡ cond (told == 0) 1009 told }
+    ensures code { result ≡ cond (told == 0) EFAILEDSOCKET told }
 {
-    if told == 0 { LINK_FAILED } else { told }
+    if told == 0 { EFAILEDSOCKET } else { told }
 }
 
-/// The message in hand is dropped, with the code of the socket, or 1009 where none was stored yet.
+/// The message in hand is dropped, with the code of the socket, or EFAILEDSOCKET where none was stored yet.
 pub fn drop_one<O: Out>(
     table: &SockTable<O>,
     seat: &mut SockSeat<O>,

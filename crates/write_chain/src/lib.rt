@@ -2,12 +2,13 @@
 #![tactic(auto)]
 
 mod entry;
+mod hand;
 mod hold;
 mod keep;
 mod right;
 
 pub use entry::{Refused, Started, start};
-pub use hold::{LINK_FAILED, Once, write_once};
+pub use hold::{Once, write_once};
 pub use keep::{Kept, keep_write};
 pub use right::{Doing, InHand, LinkInHand, Undelivered, Walk, WriteRight};
 

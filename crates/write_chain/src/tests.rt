@@ -11,12 +11,13 @@ use crate::entry::{Refused, Started, start};
 use crate::hold::{Once, write_once};
 use crate::keep::{Kept, keep_write};
 use crate::right::WriteRight;
+use message_parts::Parcel;
 use sock_io::{MemOut, Out, Shape, Shaped};
 use sock_message::{BlockPool, Message};
 use sock_open::{Made, new_table};
 use sock_rule::{Letter, SockSeat};
 use sock_table::{Closed, LinkPass, SockRef, SockTable};
-use sock_words::{Label, PlaceWord, Plan, SocketId};
+use sock_words::{EFAILEDSOCKET, Label, PlaceWord, Plan, SocketId};
 use std::alloc::Global;
 use std::sync::Wait;
 
@@ -140,7 +141,7 @@ fn letter(alloc: Global, bytes: &[u8], client: u16, place: u32) -> Option<Letter
         return None;
     };
     Some(Letter {
-        bytes,
+        bytes: Parcel::Message(bytes),
         label: Label {
             client,
             operation: 1,
@@ -428,7 +429,7 @@ fn a_link_that_fails_drops_its_chain(rt: HostRuntime) {
     };
     deliver(&rt, &table, &mut two, found, second);
     let wrote = write(&rt, &table, &mut one, right);
-    assert!(&rt; !wrote.at_once && wrote.dropped == 2 && wrote.code == 1009);
+    assert!(&rt; !wrote.at_once && wrote.dropped == 2 && wrote.code == EFAILEDSOCKET);
     assert!(&rt; wrote.labels == 816);
     let Some(closed) = end(alloc, table, one, two) else {
         panic!(&rt; "not closed");

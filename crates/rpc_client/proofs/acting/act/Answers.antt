@@ -1,5 +1,5 @@
-use Rattle.std.proofs.Common.{◌+◌, ◌*◌, arith}
-use Rattle.rpc_client.specs.Acting.{letter_of}
+use Rattle.std.proofs.Common.{arith}
+use Rattle.rpc_client.specs.Acting.{letter_of, label_of}
 use Rattle.rpc_client.proofs.Going.{may_act, sent_go}
 use Rattle.rpc_client.proofs.acting.act.Goals as goal
 
@@ -19,4 +19,4 @@ pub fail_one-requires-clause-may : goal.fail_one-requires-clause-may
 fail_one-requires-clause-may g c = may_act c.args.table.now.rule.table.shared.table_id c.args.table.now.rule.plan c.args.order c.args.client.now c.requires.go (omega arith)
 
 pub returns-in-Send-clause-go : goal.returns-in-Send-clause-go
-returns-in-Send-clause-go g c = sent_go g.O.Out.state c.args.table.now.rule.plan c.args.operation.now.name (letter_of record { client = c.args.of; operation = c.args.order + 1; attempt = 0; place = 8 * c.from.result } c.as_slice.result.now) c.args.table.now.rule.table.shared.table_id c.args.order c.args.client.now c.send_bytes.new.client c.send_bytes.result c.requires.go c.send_bytes.ensures.rest c.send_bytes.ensures.by c.send_bytes.ensures.refs c.send_bytes.ensures.others.0 c.send_bytes.ensures.others.1
+returns-in-Send-clause-go g c = sent_go g.O.Out.state c.args.table.now.rule.plan c.args.operation.now.name (letter_of (label_of c.args.of c.args.order c.args.operation.now) c.as_slice.result.now) c.args.table.now.rule.table.shared.table_id c.args.order c.args.client.now c.send_bytes.new.client c.send_bytes.result c.requires.go c.send_bytes.ensures.rest c.send_bytes.ensures.by c.send_bytes.ensures.refs c.send_bytes.ensures.others.0 c.send_bytes.ensures.others.1

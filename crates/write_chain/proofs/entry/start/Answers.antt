@@ -1,6 +1,7 @@
 use Rattle.std.proofs.Common.{[], refl, sym, ap, ◌∙◌}
 use Rattle.atomic_table.specs.Table.{rest}
 use Rattle.sock_model.specs.ChainRows.{fresh_claim}
+use Rattle.message_parts.specs.Parcels.{parcel_of}
 use Rattle.sock_rule.specs.ChainPlays.{blank}
 use Rattle.sock_rule.specs.Shows.{heading_of}
 use Rattle.write_chain.proofs.Accepting.{asks_first, asks_next, started_after, false_true}
@@ -31,7 +32,7 @@ accept-requires-clause-claimed g c = let y = c.claim_request-step.ensures.asked.
 
 pub returns-then-step-clause-started : goal.returns-then-step-clause-started
 returns-then-step-clause-started g c = let y = c.claim_request-step.ensures.asked.0 (c.claim_request-step.ensures.won.0 c.if-step.true) in
-    started_after c.args.table.now.rule.plan c.args.sock c.loop-at.at (heading_of c.args.msg) c.args.msg.bytes (fresh_claim 0 c.loop-at.at c.claim_request-step.result.found blank []) c.accept.result c.args.seat.now.me.0 c.loop-at.seat.me.0 c.claim_request-step.new.seat.me.0 c.accept.new.seat.me.0 c.loop-at.invariant.5 (ap (λ m. m.0) y.2) c.accept.ensures.started
+    started_after c.args.table.now.rule.plan c.args.sock c.loop-at.at (heading_of c.args.msg) (parcel_of c.args.msg.bytes).bytes (fresh_claim 0 c.loop-at.at c.claim_request-step.result.found blank []) c.accept.result c.args.seat.now.me.0 c.loop-at.seat.me.0 c.claim_request-step.new.seat.me.0 c.accept.new.seat.me.0 c.loop-at.invariant.5 (ap (λ m. m.0) y.2) c.accept.ensures.started
 
 pub returns-then-step-clause-begins : goal.returns-then-step-clause-begins
-returns-then-step-clause-begins g c = let y = c.claim_request-step.ensures.asked.0 (c.claim_request-step.ensures.won.0 c.if-step.true) in λ none_ room. begins c.args.table.now.rule.plan c.args.sock (heading_of c.args.msg) c.args.msg.bytes c.accept.result c.args.seat.now.me.0 c.accept.new.seat.me c.requires.may.between c.requires.held room (returns-then-step-clause-started g c) (c.accept.ensures.slots ∙ (ap (λ m. rest m.1) y.2 ∙ (c.loop-at.invariant.4 ∙ none_)))
+returns-then-step-clause-begins g c = let y = c.claim_request-step.ensures.asked.0 (c.claim_request-step.ensures.won.0 c.if-step.true) in λ none_ room. begins c.args.table.now.rule.plan c.args.sock (heading_of c.args.msg) (parcel_of c.args.msg.bytes).bytes c.accept.result c.args.seat.now.me.0 c.accept.new.seat.me c.requires.may.between c.requires.held room (returns-then-step-clause-started g c) (c.accept.ensures.slots ∙ (ap (λ m. rest m.1) y.2 ∙ (c.loop-at.invariant.4 ∙ none_)))

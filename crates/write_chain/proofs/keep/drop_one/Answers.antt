@@ -75,5 +75,5 @@ pub returns-clause-dead : goal.returns-clause-dead
 returns-clause-dead g c = dead_dropped c.args.table.now.rule.plan c.args.sock.now.id.0 c.args.hand.label.place c.args.seat.now.me.0 c.go_past-doing.new.seat.me.0 (returns-clause-wrote g c) c.requires.may.1
 
 pub returns-clause-code : goal.returns-clause-code
-returns-clause-code g c = let h = part_noted c.args.hand c.args.seat.now.me c.code-told.new.seat.me (code_noted {state = g.O.Out.state} c.code-told.result c.args.sock.now.id.0 c.args.seat.now.me.0 c.code-told.new.seat.me.0 c.code-told.ensures.code).notes (code_noted {state = g.O.Out.state} c.code-told.result c.args.sock.now.id.0 c.args.seat.now.me.0 c.code-told.new.seat.me.0 c.code-told.ensures.code).noted (code_noted {state = g.O.Out.state} c.code-told.result c.args.sock.now.id.0 c.args.seat.now.me.0 c.code-told.new.seat.me.0 c.code-told.ensures.code).became c.code-told.ensures.slots (λ t. c.requires.may.0.0.noted (code_faults c.args.hand.link c.code-told.result c.args.sock.now.id.0 c.args.seat.now.me.0 c.code-told.new.seat.me.0 c.code-told.ensures.code t)) c.requires.may.0 in is_code c.code_or-code.result c.code-told.result c.args.sock.now.id.0 c.args.seat.now.me.0 c.code-told.new.seat.me.0 c.go_past-doing.new.seat.me.0 c.code-told.ensures.code c.code_or-code.ensures.code
+returns-clause-code g c = let h = part_noted c.args.hand c.args.seat.now.me c.code-told.new.seat.me (code_noted {state = g.O.Out.state} c.code-told.result c.args.sock.now.id.0 c.args.seat.now.me.0 c.code-told.new.seat.me.0 c.code-told.ensures.code).notes (code_noted {state = g.O.Out.state} c.code-told.result c.args.sock.now.id.0 c.args.seat.now.me.0 c.code-told.new.seat.me.0 c.code-told.ensures.code).noted (code_noted {state = g.O.Out.state} c.code-told.result c.args.sock.now.id.0 c.args.seat.now.me.0 c.code-told.new.seat.me.0 c.code-told.ensures.code).became c.code-told.ensures.slots (λ t. c.requires.may.0.0.noted (code_faults c.args.hand.link c.code-told.result c.args.sock.now.id.0 c.args.seat.now.me.0 c.code-told.new.seat.me.0 c.code-told.ensures.code t)) c.requires.may.0 in is_code c.code_or-code.result c.code-told.result c.args.sock.now.id.0 c.args.seat.now.me.0 c.code-told.new.seat.me.0 c.go_past-doing.new.seat.me.0 c.code-told.ensures.code c.code_or-code.ensures.code c.code-told.ensures.small
     (ap (λ v. v.marks) c.go_past-doing.ensures.others ∙ ap (λ m. m.0.marks) (c.drop_place-home.ensures.view h.0.right_is c.args.hand.now.0 h.0.writer.one h.0.stage_is))

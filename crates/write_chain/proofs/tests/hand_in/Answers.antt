@@ -1,5 +1,6 @@
 use Rattle.std.proofs.Common.{ℕ, sym, ap, ◌∙◌, subst, IfSome}
 use Rattle.sock_words.specs.declared.socket_id.SocketId.{SocketId}
+use Rattle.message_parts.specs.Parcels.{parcel_of}
 use Rattle.sock_rule.specs.Shows.{heading_of}
 use Rattle.sock_table.specs.declared.refs.SockRef.{SockRef}
 use Rattle.write_chain.specs.Writing.{Begins}
@@ -14,10 +15,10 @@ pub start-requires-clause-may : goal.start-requires-clause-may
 start-requires-clause-may c = record { between = c.requires.up.between; claims = c.requires.one.claims; loose = c.requires.one.loose; room = c.requires.room }
 
 pub began-requires-clause-begins : goal.began-requires-clause-begins
-began-requires-clause-begins c = subst (λ (y : SockRef). Begins c.args.table.now.rule.plan y c.in-Ok.started c.start.new.seat.me) (sym (sock_is c.args.table.now.rule.plan c.args.sock (heading_of c.args.msg) c.args.msg.bytes c.in-Ok.started c.args.seat.now.me.0 c.start.new.seat.me.0 c.in-Ok.ensures.started)) (c.in-Ok.ensures.begins c.requires.up.slots (few_one c.args.table.now.rule.plan c.args.sock.id.0 c.args.seat.now.me.0 c.requires.up.holds.inside c.requires.one))
+began-requires-clause-begins c = subst (λ (y : SockRef). Begins c.args.table.now.rule.plan y c.in-Ok.started c.start.new.seat.me) (sym (sock_is c.args.table.now.rule.plan c.args.sock (heading_of c.args.msg) (parcel_of c.args.msg.bytes).bytes c.in-Ok.started c.args.seat.now.me.0 c.start.new.seat.me.0 c.in-Ok.ensures.started)) (c.in-Ok.ensures.begins c.requires.up.slots (few_one c.args.table.now.rule.plan c.args.sock.id.0 c.args.seat.now.me.0 c.requires.up.holds.inside c.requires.one))
 
 pub began-requires-clause-one : goal.began-requires-clause-one
-began-requires-clause-one c = started_one c.args.table.now.rule.plan c.args.sock (heading_of c.args.msg) c.args.msg.bytes c.in-Ok.started c.args.seat.now.me.0 c.start.new.seat.me.0 c.in-Ok.ensures.started c.requires.one
+began-requires-clause-one c = started_one c.args.table.now.rule.plan c.args.sock (heading_of c.args.msg) (parcel_of c.args.msg.bytes).bytes c.in-Ok.started c.args.seat.now.me.0 c.start.new.seat.me.0 c.in-Ok.ensures.started c.requires.one
 
 pub refuse-requires-clause-up : goal.refuse-requires-clause-up
 refuse-requires-clause-up c = refused_ups c.args.table.now.rule.plan c.args.sock c.args.msg c.in-Err.refused c.args.seat.now.me.0 c.start.new.seat.me c.in-Err.ensures.refused c.requires.up.between c.requires.up.holds (c.start.ensures.slots ∙ c.requires.up.slots)
