@@ -2,13 +2,14 @@
 //! `mutex`: a `Mutex<VecDeque>`; who finds nobody writing writes, until the queue is empty. `mpsc`: a thread writes what comes over
 //! std's channel. `chain`: the steps of the write chain on bare words, as `write_chain` makes them: an exchange of the head, the link
 //! to the request before, one put, and the walk over what came in the meantime.
-//! A put takes all of a message, and PUT_NANOS nanoseconds. With `latency` it prints how long sends took, at p50, p99 and p99.9.
+//! A put takes all of a message, and so many turns of a loop as take PUT_NANOS nanoseconds, as in chain_bench. With `latency` it prints
+//! how long sends took, at p50, p99 and p99.9.
 use std::cell::UnsafeCell;
 use std::collections::VecDeque;
 use std::ptr::null_mut;
 use std::sync::atomic::{AtomicPtr, AtomicUsize, Ordering::SeqCst};
 use std::sync::{mpsc, Mutex};
-use std::time::{Duration, Instant};
+use std::time::Instant;
 use std::{env, hint, thread};
 
 const SIZE: usize = 32;
@@ -17,17 +18,29 @@ type Message = [u8; SIZE];
 
 struct Link {
     taken: Vec<u8>,
-    nanos: u64,
+    turns: u64,
+}
+
+fn spin(turns: u64) {
+    for _ in 0..turns {
+        hint::spin_loop();
+    }
+}
+
+/// How many turns take so long.
+fn turns_for(nanos: u64) -> u64 {
+    const SAMPLE: u64 = 1_000_000;
+    if nanos == 0 {
+        return 0;
+    }
+    let begun = Instant::now();
+    spin(SAMPLE);
+    nanos * SAMPLE / (begun.elapsed().as_nanos() as u64).max(1)
 }
 
 impl Link {
     fn put(&mut self, message: &Message) {
-        if self.nanos != 0 {
-            let until = Instant::now() + Duration::from_nanos(self.nanos);
-            while Instant::now() < until {
-                hint::spin_loop();
-            }
-        }
+        spin(self.turns);
         self.taken.extend_from_slice(message);
     }
 }
@@ -176,7 +189,7 @@ fn main() {
     let words: Vec<String> = env::args().skip(1).collect();
     let (threads, count): (usize, usize) = (words[1].parse().unwrap(), words[2].parse().unwrap());
     let latency = words.len() > 4;
-    let link = Link { taken: Vec::with_capacity(threads * count * SIZE), nanos: words[3].parse().unwrap() };
+    let link = Link { taken: Vec::with_capacity(threads * count * SIZE), turns: turns_for(words[3].parse().unwrap()) };
     let from = Instant::now();
     let (mut took, taken) = match words[0].as_str() {
         "mutex" => {
