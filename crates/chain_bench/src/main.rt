@@ -120,14 +120,7 @@ fn main(rt: HostRuntime) -> io::Result<ExitCode> {
         return Ok(ExitCode::from(7));
     };
     let begun = Instant::now(&rt)?;
-    let told = on_threads(
-        &rt,
-        rt.alloc(),
-        room,
-        asked.threads,
-        asked.requests,
-        load,
-    );
+    let told = on_threads(&rt, rt.alloc(), room, asked.threads, asked.requests, load);
     let nanos = nanos_of(begun.elapsed(&rt)?);
     match told {
         Some(told) => tell(&rt, asked, told, nanos),

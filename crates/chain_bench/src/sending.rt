@@ -236,16 +236,7 @@ pub fn send_all<R: Wait + Clock>(
     let Ok(sock) = table.address(&mut seat, id) else {
         return Sent { seat, times };
     };
-    let sock = send_each(
-        rt,
-        alloc,
-        table,
-        &mut seat,
-        sock,
-        number,
-        load,
-        &mut times,
-    );
+    let sock = send_each(rt, alloc, table, &mut seat, sock, number, load, &mut times);
     table.release(&mut seat, sock);
     Sent { seat, times }
 }

@@ -1,4 +1,5 @@
 // What a link took, and how long sends took.
+ghost use Rattle.std.specs.Prelude.{◌≤◌};
 
 /// The number and the thread of a message.
 fn label_of(message: &[u8]) -> Option<(u64, u8)> {
