@@ -20,7 +20,7 @@ LIMIT = 16777216
 
 -- the bytes that a cutter holds
 abbrev pub held_by : Intake → List ℕ
-held_by i = i.cutter
+held_by i = i.cutter.bytes
 
 -- none of the bytes that are left is a whole frame; or they have a fault; or memory was wanting
 abbrev pub StopsAt : Stop → List ℕ → Type 0

@@ -31,8 +31,8 @@ pub fn meet_all<R: Wait>(
 ) -> Stop
     requires { IsOpen ids.now.table.shared.table_id calls.old.seat }
     ensures rest { Rests calls.old.seat calls.new.seat }
-    ensures met { MetAll ids.now.plan.slots cutter.old cutter.new (books calls.old) (books calls.new) }
-    ensures stops { StopsAt result cutter.new }
+    ensures met { MetAll ids.now.plan.slots cutter.old.bytes cutter.new.bytes (books calls.old) (books calls.new) }
+    ensures stops { StopsAt result cutter.new.bytes }
 {
     'frames: loop {
         match cutter.next() {

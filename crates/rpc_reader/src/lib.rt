@@ -15,3 +15,6 @@ mod throwing;
 
 pub use books::AnswerSeat;
 pub use reader::{Reader, Spent};
+
+#[cfg(test)]
+mod tests;

@@ -86,8 +86,8 @@ fn meet_held<R: Wait>(
     }
 }
 
-// A piece is fed, and the frames that are whole by it are met.
-fn take_in<R: Wait>(
+/// A piece is fed, and the frames that are whole by it are met.
+pub fn take_in<R: Wait>(
     rt: &R,
     ids: &IdTable<Call>,
     calls: &mut AnswerSeat,

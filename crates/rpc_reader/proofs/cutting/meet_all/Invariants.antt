@@ -7,8 +7,8 @@ use Rattle.rpc_reader.proofs.cutting.meet_all.Given as goal
 abbrev pub invariant-frames : goal.invariant-frames
 invariant-frames g l = record {
   rest : Rests l.fn.calls.seat l.calls.seat;
-  met : MetAll l.ids.plan.slots l.fn.cutter l.cutter (books l.fn.calls) (books l.calls);
+  met : MetAll l.ids.plan.slots l.fn.cutter.bytes l.cutter.bytes (books l.fn.calls) (books l.calls);
 }
 
 abbrev pub decreases-frames : goal.decreases-frames
-decreases-frames g l = length l.cutter
+decreases-frames g l = length l.cutter.bytes
