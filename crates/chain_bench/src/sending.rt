@@ -8,6 +8,7 @@ ghost use Rattle.chain_bench.specs.Senders.{HasRoomFor, IsHolding, IsLoad, MaySe
 
 use crate::out::SlowOut;
 use crossbeam_utils::Backoff;
+use message_parts::Parcel;
 use sock_message::{BlockPool, Message};
 use sock_rule::{Letter, SockSeat};
 use sock_table::{SockRef, SockTable};
@@ -63,7 +64,7 @@ fn letter(alloc: Global, pool: &mut BlockPool, sender: u8, number: u32) -> Optio
         place: number % PLACES,
     };
     Some(Letter {
-        bytes,
+        bytes: Parcel::Message(bytes),
         label,
         owner: 0,
     })

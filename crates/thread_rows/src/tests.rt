@@ -161,8 +161,8 @@ fn report_in(alloc: Global, labels: &[(u16, u16)]) -> Result<String, AllocError>
 fn messages_of(alloc: Global, labels: &[(u16, u16)]) -> Result<Vec<u8>, AllocError> {
     let mut bytes = Vec::new(alloc);
     for label in labels {
-        bytes.push(label.0 as u8)?;
-        bytes.push(label.1 as u8)?;
+        bytes.push((label.0 % 256) as u8)?;
+        bytes.push((label.1 % 256) as u8)?;
     }
     Ok(bytes)
 }

@@ -1,4 +1,5 @@
 use Rattle.std.proofs.Common.{◌*◌, ◌<◌, inl, refl, sym, ap, ◌∙◌, subst}
+use Rattle.message_parts.specs.Parcels.{parcel_of}
 use Rattle.sock_rule.specs.Shows.{heading_of}
 use Rattle.sock_rule.specs.declared.homes.Letter.{Letter}
 use Rattle.sock_table.specs.declared.refs.SockRef.{SockRef}
@@ -21,12 +22,12 @@ start-requires-clause-may g c = let h = c.tries.invariant.holding in record { be
 
 pub returns-in-Ok-clause-begins : goal.returns-in-Ok-clause-begins
 returns-in-Ok-clause-begins g c = let p = c.args.table.now.rule.plan in let h = c.tries.invariant.holding in let s = c.in-Ok.started in let by = c.in-Ok.ensures.started in (
-  subst (λ (y : SockRef). Begins p y s c.start.new.seat.me) (sym (sock_is p c.tries.sock (heading_of c.tries.msg) c.tries.msg.bytes s c.tries.seat.me.0 c.start.new.seat.me.0 by)) (c.in-Ok.ensures.begins h.up.slots (few_one p c.tries.sock.id.0 c.tries.seat.me.0 h.up.holds.inside h.one)),
-  started_one p c.tries.sock (heading_of c.tries.msg) c.tries.msg.bytes s c.tries.seat.me.0 c.start.new.seat.me.0 by h.one,
+  subst (λ (y : SockRef). Begins p y s c.start.new.seat.me) (sym (sock_is p c.tries.sock (heading_of c.tries.msg) (parcel_of c.tries.msg.bytes).bytes s c.tries.seat.me.0 c.start.new.seat.me.0 by)) (c.in-Ok.ensures.begins h.up.slots (few_one p c.tries.sock.id.0 c.tries.seat.me.0 h.up.holds.inside h.one)),
+  started_one p c.tries.sock (heading_of c.tries.msg) (parcel_of c.tries.msg.bytes).bytes s c.tries.seat.me.0 c.start.new.seat.me.0 by h.one,
 )
 
 pub returns-in-Ok-clause-lists : goal.returns-in-Ok-clause-lists
-returns-in-Ok-clause-lists g c = started_more c.args.table.now.rule.plan c.tries.sock (heading_of c.tries.msg) c.tries.msg.bytes c.in-Ok.started c.args.seat.now.me.0 c.tries.seat.me.0 c.start.new.seat.me.0 c.tries.invariant.lists c.in-Ok.ensures.started
+returns-in-Ok-clause-lists g c = started_more c.args.table.now.rule.plan c.tries.sock (heading_of c.tries.msg) (parcel_of c.tries.msg.bytes).bytes c.in-Ok.started c.args.seat.now.me.0 c.tries.seat.me.0 c.start.new.seat.me.0 c.tries.invariant.lists c.in-Ok.ensures.started
 
 pub returns-in-Err-Failed-clause-holding : goal.returns-in-Err-Failed-clause-holding
 returns-in-Err-Failed-clause-holding g c = let z = c.args.table.now.rule.table.shared.table_id in let p = c.args.table.now.rule.plan in let f = c.in-Err-Failed in
