@@ -410,7 +410,7 @@ fn answers_served(rt: HostRuntime) -> Result<(), Fail> {
 }
 
 /// Words, with the status.
-const WORDS: [(&str, u8); 15] = [
+const WORDS: [(&str, u8); 14] = [
     ("--help", 2),
     ("", 2),
     ("replay now", 2),
