@@ -59,5 +59,5 @@ fn asks_to_serve(args: io::Result<Args>) -> bool {
         return false;
     };
     let _name = args.next();
-    args.next().is_some_and(|word| word == "serve")
+    args.next().is_some_and(|word| word.as_str() == "serve")
 }
