@@ -22,6 +22,7 @@ use Rattle.sock_programs.specs.declared.task.Op.TheVariants as ops
 use Rattle.sock_programs.specs.declared.task.Task.{Task}
 use Rattle.sock_programs.specs.ToldCalls.{Accepted, IsSent, OfSend, IsFailing}
 use Rattle.report_fits.proofs.Lists.{all_from, within}
+use Rattle.rpc_client.specs.Acting.{label_of, letter_of}
 use Rattle.table_told.specs.Left.{gave_of, accepted_of}
 use Rattle.table_told.specs.Threads.{ThreadRun}
 use Rattle.table_told.proofs.Accepting.{log, act_of_entry, Sent, sent_place, asks_send}
@@ -61,7 +62,7 @@ module _ {O : Type 0} {g : Ghosts O} {state : O → OutState} {p : Plan} {client
       let h = socket_id_version id.0 in
       let low = s.sent.reached_it.1.0.inside in
       let name = a.m.operation.name in
-      let found = (delivered_grew state p s.sent.sock _ None s.sent.has (after run a) d).finds record { place = name_word p name; word = id.0 + 1 } (here_found p name s.sent.sock (before run a) s.sent.has s.sent.reached_it) in
+      let found = (delivered_grew state p s.sent.sock (letter_of (label_of a.y.client a.m.order a.m.operation) s.bytes) None s.sent.has (after run a) d).finds record { place = name_word p name; word = id.0 + 1 } (here_found p name s.sent.sock (before run a) s.sent.has s.sent.reached_it) in
       let made = found_made run a name id (name_low run a) found in
       let f : Mark → ℕ = is_met h d.accepted.entry.link in
       let link : d.accepted.entry.link ≡ e.link = ap (λ (x : Entry). x.link) s.entry in

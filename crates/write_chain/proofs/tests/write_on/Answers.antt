@@ -8,6 +8,15 @@ use Rattle.write_chain.proofs.tests.write_on.Goals as goal
 pub goes-init : goal.goes-init
 goes-init g c = record { can_go = tt; is_finite = tt; seat = c.requires.seat; may = c.requires.may; holds = c.requires.one }
 
+pub goes-preserved : goal.goes-preserved
+goes-preserved g c = record {
+  can_go = tt;
+  is_finite = tt;
+  seat = c.keep_write.ensures.seat;
+  may = c.in-Dropped.ensures.kept.1;
+  holds = subst (λ (y : SockRef). HoldsOne c.args.table.now.rule.plan y.id.0 c.keep_write.new.seat.me.0) (sym c.in-Dropped.ensures.kept.0) (dropped_one c.args.table.now.rule.plan c.goes.right.sock.id.0 _ c.goes.seat.me.0 c.keep_write.new.seat.me.0 c.in-Dropped.ensures.wrote c.goes.invariant.holds);
+}
+
 pub goes-preserved-in-Dropped : goal.goes-preserved-in-Dropped
 goes-preserved-in-Dropped g c = record {
   can_go = tt;
