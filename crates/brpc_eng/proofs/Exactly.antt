@@ -16,7 +16,8 @@ use Rattle.sock_io.specs.Link.{end_of}
 use Rattle.sock_io.specs.Shape.{ShapedState, shaped_out}
 use Rattle.sock_io.specs.Memory.{MemInState, mem_in}
 use Rattle.loop_link.specs.Serving.{LoopInState, loop_in}
-use Rattle.script_run.specs.Played.{TellClosed, TellOffers}
+use Rattle.script_links.specs.Offered.{TellOffers}
+use Rattle.script_run.specs.Played.{TellClosed}
 use Rattle.script_threads.specs.Built.{is_built}
 use Rattle.brpc_eng.proofs.Statuses.{each_script_is_run, IsUnbuilt, unbuilt_script_exactly}
 use Rattle.brpc_eng.specs.Streams.{script_limit, IsAtEnd}

@@ -7,5 +7,4 @@ pub mod Replays
 pub mod GeneratedLemmas
 pub mod Exactly
 pub mod Statuses
-pub mod SameLinks
 pub mod OnThreads

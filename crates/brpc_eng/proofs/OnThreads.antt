@@ -2,11 +2,10 @@
 use Rattle.std.proofs.Common.{◌≡◌, ℕ, true, List, refl, subst}
 use Rattle.brpc_model.specs.Items.{Item}
 use Rattle.sock_io.specs.Causes.{Rose}
-use Rattle.script_links.specs.Given as links
+use Rattle.script_links.specs.Given.{AreUntouched}
 use Rattle.script_threads.specs.Built.{is_built}
 use Rattle.script_threads.specs.Told.{IsThreadText}
 use Rattle.brpc_eng.specs.Answers as answer
-use Rattle.brpc_eng.proofs.SameLinks.{untouched}
 
 -- the text that was written is that of the run
 pub threads_reported : (script : List Item) (text text' : List ℕ) (out : answer.Output) (ends : answer.Links) (status : ℕ) → is_built script ≡ true → IsThreadText script text ends.ends → text' ≡ text → answer.TextWritten out text' status →
@@ -14,6 +13,6 @@ pub threads_reported : (script : List Item) (text text' : List ℕ) (out : answe
 threads_reported script text text' out ends status built is same wrote = answer.ThreadsReported built text is (subst (λ (x : List ℕ). answer.TextWritten out x status) same wrote)
 
 -- a link couldn't be opened
-pub threads_not_opened : (script : List Item) (out : answer.Output) (ends : answer.Links) → is_built script ≡ true → Rose ends.faults.before ends.faults.now → links.AreUntouched 0 ends.ends → answer.WroteNothing out →
+pub threads_not_opened : (script : List Item) (out : answer.Output) (ends : answer.Links) → is_built script ≡ true → Rose ends.faults.before ends.faults.now → AreUntouched 0 ends.ends → answer.WroteNothing out →
     answer.RanOnThreads script out ends 8
-threads_not_opened script out ends built rose fresh wrote = answer.ThreadsNotOpened built refl rose (untouched 0 ends.ends fresh) wrote
+threads_not_opened script out ends built rose fresh wrote = answer.ThreadsNotOpened built refl rose fresh wrote

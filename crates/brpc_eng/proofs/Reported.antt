@@ -36,7 +36,7 @@ use Rattle.calls_over.proofs.Over.{calls_over}
 use Rattle.served_fits.proofs.Served.{serves_fits}
 use Rattle.offered_runs.proofs.Runs.{offers_in_run}
 use Rattle.script_run.specs.Causes.{HasCauses, gave_in}
-use Rattle.script_run.specs.Given.{AreNumbered, IsBeginning, specs_of}
+use Rattle.script_links.specs.Given.{AreNumbered, IsBeginning, specs_of}
 use Rattle.script_run.specs.Played.{IsWholeRun, IsRunText, IsRunSummary}
 use Rattle.brpc_eng.specs.Answers as answer
 use Rattle.brpc_eng.specs.Streams.{script_limit}

@@ -26,7 +26,7 @@ use Rattle.sock_programs.specs.Cores.{Core}
 use Rattle.sock_programs.specs.Scripts.{IsRunWithCalls, is_callless, drawn_turns}
 use Rattle.whole_runs.specs.Heard.{as_told, heard_of, heard_takes}
 use Rattle.sock_io.specs.declared.link.LinkSpec.{LinkSpec}
-use Rattle.script_run.specs.Given.{AreNumbered, AreUntouched, IsBeginning, specs_of}
+use Rattle.script_links.specs.Given.{AreNumbered, AreUntouched, IsBeginning, specs_of}
 use Rattle.script_run.specs.Causes.{CameLate, late_in}
 use Rattle.script_run.specs.Played.{IsRunText}
 use Rattle.script_threads.specs.Built.{is_built}

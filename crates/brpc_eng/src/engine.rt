@@ -1,5 +1,6 @@
 ghost use Rattle.std.specs.Prelude.{◌≡◌, [], map, string_bytes};
-ghost use Rattle.script_run.specs.Played.{TellClosed, TellOffers};
+ghost use Rattle.script_links.specs.Offered.{TellOffers};
+ghost use Rattle.script_run.specs.Played.{TellClosed};
 ghost use Rattle.brpc_eng.specs.Answers.{Answers, CountsStand};
 ghost use Rattle.brpc_eng.specs.Status.{number_of};
 

@@ -1,5 +1,6 @@
 ghost use Rattle.std.specs.Prelude.{◌≡◌, []};
-ghost use Rattle.script_run.specs.Played.{TellClosed, TellOffers, turns_of};
+ghost use Rattle.script_links.specs.Offered.{TellOffers};
+ghost use Rattle.script_run.specs.Played.{TellClosed, turns_of};
 ghost use Rattle.brpc_eng.specs.Status.{number_of};
 ghost use Rattle.brpc_eng.specs.Answers.{Wrote, FaultWritten, ReplayedInput, by_turns, CountsStand};
 

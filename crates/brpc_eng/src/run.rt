@@ -1,8 +1,9 @@
 ghost use Rattle.std.specs.Prelude.{◌≡◌, ◌≢◌, ◌≤◌, ℕ, List, [], length, Ok, true};
 ghost use Rattle.std.specs.List.{list_all};
 ghost use Rattle.brpc_model.specs.Script.{script_of};
-ghost use Rattle.script_run.specs.Given.{has_piece};
-ghost use Rattle.script_run.specs.Played.{TellClosed, TellOffers, turns_of};
+ghost use Rattle.script_links.specs.Given.{has_piece};
+ghost use Rattle.script_links.specs.Offered.{TellOffers};
+ghost use Rattle.script_run.specs.Played.{TellClosed, turns_of};
 ghost use Rattle.brpc_eng.specs.Status.{number_of};
 ghost use Rattle.brpc_eng.specs.Streams.{script_limit};
 ghost use Rattle.brpc_eng.specs.Answers.{OpenedBy, Ran, TextWritten};

@@ -3,7 +3,8 @@ ghost use Rattle.std.specs.List.{list_all};
 ghost use Rattle.brpc_model.specs.Commands.{Run, command_of};
 ghost use Rattle.brpc_model.specs.Script.{script_of};
 ghost use Rattle.script_links.specs.Given.{has_piece};
-ghost use Rattle.script_run.specs.Played.{TellClosed, TellOffers};
+ghost use Rattle.script_links.specs.Offered.{TellOffers};
+ghost use Rattle.script_run.specs.Played.{TellClosed};
 ghost use Rattle.brpc_eng.specs.Status.{number_of};
 ghost use Rattle.brpc_eng.specs.Answers.{Answers, OpenedBy, RanOnThreads, ReplayedInput, CountsStand};
 

@@ -29,7 +29,8 @@ use Rattle.call_causes.specs.Lists.{shows_in}
 use Rattle.send_causes.specs.EndedCalls.{Store, stored_at}
 use Rattle.send_causes.proofs.Runs.{AreLabelledIn, IsCallOf}
 use Rattle.send_causes.proofs.EndedTrails.{lost}
-use Rattle.send_causes.proofs.EndedNamed.{asked_by, all_follow, begins_named, Named, Behind, seats_named, setup_named}
+use Rattle.send_causes.proofs.AttemptedBegin.{asked_by}
+use Rattle.send_causes.proofs.EndedNamed.{all_follow, begins_named, Named, Behind, seats_named, setup_named}
 use Rattle.send_causes.proofs.EndedNames.{NameLaw, StoredFor}
 use Rattle.sock_words.specs.Words as sockets
 use Rattle.sock_programs.specs.Asides.{id_slot, id_first}

@@ -4,4 +4,5 @@ pub mod Cuts
 pub mod Ends
 pub mod PieceLemmas
 pub mod FrameLines
+pub mod Holding
 pub mod Steps

@@ -16,6 +16,7 @@ use Rattle.prpc_frame.specs.Leads.{Leads}
 use Rattle.prpc_frame.specs.Meaning.{frame_of, fault_of, IsFault}
 use Rattle.prpc_frame.specs.declared.frame.Frame as code
 use Rattle.prpc_frame.specs.declared.fault.FrameFault.{FrameFault}
+use Rattle.frame_print.specs.declared.print.Met.{Met}
 use Rattle.frame_print.specs.Written.{Writes, Gathers}
 use Rattle.sock_io.specs.Writing.{WrotePart}
 use Rattle.frame_print.specs.declared.print.StreamEnd.TheVariants as end_
@@ -180,12 +181,13 @@ gathers_lost o p x y held now text e f r is w =
     subst P (sym is) lost
 
 -- no frame is whole
-pub cut_waits : (held new : List ℕ) (p q : Option (List ℕ)) (x y : ℕ) (o : Option FrameFault) → o ≡ None → CutsWhole held p x new q y (Ok o) → CutPrinted held p new q × (judged new ≡ NoneYet) × (y ≡ x)
-cut_waits held new p q x y o is h = let P : Option FrameFault → Type 0 = λ t. CutsWhole held p x new q y (Ok t) in subst P is h
+pub cut_waits : (held new : List ℕ) (p q : Option (List ℕ)) (x y : ℕ) (o : Option Met) → o ≡ None → CutsWhole held p x new q y (Ok o) → CutPrinted held p new q × (judged new ≡ NoneYet) × (y ≡ x)
+cut_waits held new p q x y o is h = let P : Option Met → Type 0 = λ t. CutsWhole held p x new q y (Ok t) in subst P is h
 
 -- there is a fault
-pub cut_faulty : (held new : List ℕ) (p q : Option (List ℕ)) (x y : ℕ) (f : FrameFault) (o : Option FrameFault) → o ≡ Some f → CutsWhole held p x new q y (Ok o) → CutPrinted held p new q × IsFault (judged new) f × (y ≡ x)
-cut_faulty held new p q x y f o is h = let P : Option FrameFault → Type 0 = λ t. CutsWhole held p x new q y (Ok t) in subst P is h
+pub cut_faulty : (held new : List ℕ) (p q : Option (List ℕ)) (x y : ℕ) (met : Met) (o : Option Met) → o ≡ Some met → CutsWhole held p x new q y (Ok o) →
+    CutPrinted held p new q × IsFault (judged new) met.fault × (y ≡ x) × (met.len ≡ length new)
+cut_faulty held new p q x y met o is h = let P : Option Met → Type 0 = λ t. CutsWhole held p x new q y (Ok t) in subst P is h
 
 -- ## Where the sink failed
 

@@ -1,5 +1,5 @@
 -- What printing the frames that are whole leaves of the bytes that a cutter held, and what printing a rest leaves.
-use Rattle.std.specs.Prelude.{ℕ, ◌≡◌, List, ◌++◌, flat_map, Option, Some, None, Result, Ok, Err}
+use Rattle.std.specs.Prelude.{ℕ, ◌≡◌, List, ◌++◌, length, flat_map, Option, Some, None, Result, Ok, Err}
 use Rattle.std.specs.Io.KnownBytes.{Appends}
 use Rattle.brpc_model.specs.Frame.{Frame, Judged, NoneYet, Faulty, judged}
 use Rattle.brpc_model.specs.Frame as model
@@ -8,8 +8,8 @@ use Rattle.brpc_model.specs.FramesText.{frame_line, ending_line}
 use Rattle.sock_io.specs.Causes.{Rose}
 use Rattle.prpc_frame.specs.Cuts.{Cut}
 use Rattle.prpc_frame.specs.Meaning.{IsFault}
-use Rattle.prpc_frame.specs.declared.fault.FrameFault.{FrameFault}
 use Rattle.sock_io.specs.Writing.{WrotePart}
+use Rattle.frame_print.specs.declared.print.Met.{Met}
 use Rattle.frame_print.specs.declared.print.StreamEnd.{StreamEnd}
 use Rattle.frame_print.specs.declared.print.StreamEnd.TheVariants as end_
 use Rattle.frame_print.specs.declared.print.PrintFault.{PrintFault}
@@ -37,9 +37,9 @@ pub record CutStopped (old : List ℕ) (before : Option (List ℕ)) (new : List 
   pub rose : Rose faults faults_now
 
 -- the frames that are whole were printed; then no frame is whole, or there is a fault, or printing stopped
-abbrev pub CutsWhole : List ℕ → Option (List ℕ) → ℕ → List ℕ → Option (List ℕ) → ℕ → Result (Option FrameFault) PrintFault → Type 0
+abbrev pub CutsWhole : List ℕ → Option (List ℕ) → ℕ → List ℕ → Option (List ℕ) → ℕ → Result (Option Met) PrintFault → Type 0
 CutsWhole old before faults new now faults_now (Ok None) = CutPrinted old before new now × (judged new ≡ NoneYet) × (faults_now ≡ faults)
-CutsWhole old before faults new now faults_now (Ok (Some fault)) = CutPrinted old before new now × IsFault (judged new) fault × (faults_now ≡ faults)
+CutsWhole old before faults new now faults_now (Ok (Some met)) = CutPrinted old before new now × IsFault (judged new) met.fault × (faults_now ≡ faults) × (met.len ≡ length new)
 CutsWhole old before faults new now faults_now (Err fault_.Sink) = CutStopped old before new now faults faults_now
 CutsWhole old before faults new now faults_now (Err fault_.NoMemory) = CutPrinted old before new now
 CutsWhole old before faults new now faults_now (Err other) = ⊥

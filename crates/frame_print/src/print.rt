@@ -1,4 +1,4 @@
-ghost use Rattle.std.specs.Prelude.{◌≡◌, [], OnOk};
+ghost use Rattle.std.specs.Prelude.{◌≡◌, [], false, None, IfOk, OnOk};
 ghost use Rattle.frame_print.specs.Printed.{Edges, PrintsFrames};
 ghost use Rattle.frame_print.specs.Cutting.{CutsWhole, EndsStopped, Judges, RestPrinted};
 
@@ -96,7 +96,7 @@ fn print_all<S: Source, K: Sink>(
             Err(Failed) => return Err(PrintFault::Source),
         };
         if count == 0 {
-            return end_in_rest(out, cutter.held_len());
+            return end_in_rest(out, cutter.held());
         }
         if read == FRAMES_LIMIT {
             return Err(PrintFault::TooLong);
@@ -109,11 +109,18 @@ fn print_all<S: Source, K: Sink>(
             Ok(whole) => whole,
             Err(stopped) => return end_stopped(&mut cutter, stopped),
         };
-        if let Some(fault) = whole {
-            let _ = print_fault(out, read - cutter.held_len(), fault);
+        if let Some(met) = whole {
+            let _ = print_fault(out, read - met.len, met.fault);
             return Ok(StreamEnd::Fault);
         }
     }
+}
+
+// A fault that was met, and how many bytes came from the beginning of its frame on.
+#[derive(Clone, Copy)]
+struct Met {
+    fault: FrameFault,
+    len: usize,
 }
 
 // Prints each frame that is whole, up to the first fault. Its lines are gathered, and written before it returns.
@@ -121,12 +128,15 @@ fn print_whole<K: Sink>(
     cutter: &mut Cutter,
     out: &mut K,
     lines: &mut Lines,
-) -> Result<Option<FrameFault>, PrintFault>
-    requires { lines.old.bytes ≡ [] }
-    ensures cuts { CutsWhole cutter.old (K.contents out.old) (K.faults out.old) cutter.new (K.contents out.new) (K.faults out.new) result }
+) -> Result<Option<Met>, PrintFault>
+    requires none { lines.old.bytes ≡ [] }
+    requires untold { cutter.old.told ≡ false }
+    ensures cuts { CutsWhole cutter.old.bytes (K.contents out.old) (K.faults out.old) cutter.new.bytes (K.contents out.new) (K.faults out.new) result }
     ensures none { OnOk result (lines.new.bytes ≡ []) }
+    ensures untold { IfOk result (λ met. met ≡ None → cutter.new.told ≡ false) }
 {
     loop {
+        let len = cutter.held();
         match cutter.next() {
             Ok(Some(frame)) => {
                 if lines.print(out, &frame).is_err() {
@@ -141,7 +151,7 @@ fn print_whole<K: Sink>(
             }
             Err(NextFault::Frame(fault)) => {
                 return match lines.flush(out) {
-                    Ok(()) => Ok(Some(fault)),
+                    Ok(()) => Ok(Some(Met { fault, len })),
                     Err(Failed) => Err(PrintFault::Sink),
                 };
             }
@@ -157,7 +167,7 @@ fn print_whole<K: Sink>(
 
 // How it ends where printing the frames stopped.
 fn end_stopped(cutter: &mut Cutter, stopped: PrintFault) -> Result<StreamEnd, PrintFault>
-    ensures { EndsStopped cutter.old cutter.new stopped result }
+    ensures { EndsStopped cutter.old.bytes cutter.new.bytes stopped result }
 {
     match stopped {
         PrintFault::Sink => judge_whole(cutter),
@@ -167,7 +177,7 @@ fn end_stopped(cutter: &mut Cutter, stopped: PrintFault) -> Result<StreamEnd, Pr
 
 // The sink failed: how the bytes end that came.
 fn judge_whole(cutter: &mut Cutter) -> Result<StreamEnd, PrintFault>
-    ensures { Judges cutter.old cutter.new result }
+    ensures { Judges cutter.old.bytes cutter.new.bytes result }
 {
     loop {
         match cutter.next() {

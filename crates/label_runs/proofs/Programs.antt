@@ -196,7 +196,7 @@ module _ (is_call : Asked → Type 0) where
     attempt_goes = address_goes (Tries id n) socket (Do (FindLink (socket_id_slot socket) (socket_id_version socket)) (λ k. Aside (StoreAt asked.operation (at_word (id_first id) (id_slot id) k n)) (λ _. Do (LookWord socket) (λ found. cond (eqb (vref_version found % 2) 0)
         (claims_from requests 0 socket (heading_for asked id n) (frame_of asked id n) (post id 3001 n (release (socket_id_slot socket) (λ _. next))) (release (socket_id_slot socket) (λ _. next))) (post id 1009 n (release (socket_id_slot socket) (λ _. next)))))))
         (λ _. post id 1009 n next)
-        (tt, λ k low. (Tries id n, inl refl, λ _ _. (Sends asked.operation id n, inr (id, n, k, refl, refl, low, few, refl), looks_goes (heading_for asked id n) (frame_of asked id n) (inr (asked, called, refl, refl, refl)))))
+        (tt, λ k low. (Tries id n, inl refl, λ _ _. (Sends asked.operation id n, (id, n, k, refl, refl, low, few, refl), looks_goes (heading_for asked id n) (frame_of asked id n) (inr (asked, called, refl, refl, refl)))))
         (λ _. post_goes is_call (Tries id n) id 1009 n next goes)
 
   -- ## Calls

@@ -31,8 +31,9 @@ Kept t u = (u ≡ t) ⊎ (u ≡ Idle)
 
 -- ## Steps aside
 
+-- the at word that is stored is that of the attempt that the seat tries
 abbrev pub Storing : ℕ → ℕ → Trial → Trial → Type 0
-Storing o w t u = (u ≡ Idle) ⊎ ((id n k : ℕ) × (t ≡ Tries id n) × (w ≡ at_word (id_first id) (id_slot id) k n) × (k < 65535) × (n ≤ 6) × (u ≡ Sends o id n))
+Storing o w t u = (id n k : ℕ) × (t ≡ Tries id n) × (w ≡ at_word (id_first id) (id_slot id) k n) × (k < 65535) × (n ≤ 6) × (u ≡ Sends o id n)
 
 -- the exchange that advances an attempt makes the next one
 abbrev pub unlocked_trial : ℕ → ℕ → Bool → ℕ → Trial → Trial

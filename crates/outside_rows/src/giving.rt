@@ -76,6 +76,6 @@ fn stated_size_takes_no_bytes(rt: HostRuntime) -> Result<(), Fail> {
     let mut cutter = Cutter::new(rt.alloc());
     cutter.feed(&mut pool, b"PRPC\x04\x00\x00\x00\x00\x00\x00\x00")?;
     assert!(rt; matches!(cutter.next(), Ok(None)));
-    assert_eq!(rt; cutter.held_len(), 12);
+    assert_eq!(rt; cutter.held(), 12);
     Ok(())
 }

@@ -1,6 +1,6 @@
 -- What was told of some bytes stays true with more bytes behind them, and so what is told of a stream.
 use Rattle.std.proofs.Common.{◌≡◌, ℕ, ◌+◌, ◌-◌, ◌<◌, ◌≤◌, Bool, true, false, List, ◌++◌, length, take, drop, Option, Some, None, Result, Ok, Err, refl, ap, sym, ◌∙◌, subst, inl, inr, arith, append_assoc, length-append, length-drop}
-use Rattle.std.specs.Prelude.{nat_lt, option_map, IfSome, is_some}
+use Rattle.std.specs.Prelude.{nat_lt, option_map}
 use Rattle.std.proofs.lemmas.Bool.{ltb-true, ltb-false}
 use Rattle.std.proofs.lemmas.List.{drop-append-le}
 use Rattle.brpc_model.specs.Meta.{read_meta}
@@ -9,11 +9,10 @@ use Rattle.brpc_model.specs.Frame.{Judged, NoneYet, Faulty, Begins, BadMagic, To
 use Rattle.brpc_model.specs.Stream.{Stream, Rest, Fault, goes_on, with_frame, stream_from}
 use Rattle.brpc_model.proofs.Streams.{stream_goes_on}
 use Rattle.prpc_frame.specs.Header.{magic_wrong, body_size, meta_size, inside_of}
-use Rattle.prpc_frame.specs.Meaning.{frame_of, fault_of, IsFault}
+use Rattle.prpc_frame.specs.Meaning.{frame_of, fault_of}
 use Rattle.prpc_frame.specs.Answers.{Cuts, Answers, IsFaulty, Fed}
 use Rattle.prpc_frame.specs.Leads.{ends, Leads}
 use Rattle.prpc_frame.specs.declared.frame.Frame.{Frame}
-use Rattle.prpc_frame.specs.declared.fault.FrameFault.{FrameFault}
 use Rattle.prpc_frame.specs.declared.fault.NextFault.{NextFault}
 use Rattle.prpc_frame.specs.declared.fault.NextFault.TheVariants as next
 use Rattle.prpc_frame.proofs.Judging.{told_wrong, told_short, told_big, told_over, told_lacking, told_whole, still_wrong, still_right, same_match, same_word, same_inside}
@@ -118,21 +117,8 @@ pub fed : (at : ℕ) (more old piece new : List ℕ) → Fed old piece new → s
 fed at more old piece new (inl e) = ap (λ (l : List ℕ). stream_from at (l ++ more)) e ∙ ap (λ (l : List ℕ). stream_from at l) (append_assoc old piece more)
 fed at more old piece new (inr h) = ap (λ (l : List ℕ). stream_from at (l ++ more)) h.1 ∙ fed_faulty at old piece more (judged old) refl h.0
 
--- ## The fault that is kept
+-- ## A fault that is answered
 
-is_fault : (o : Option model.FrameFault) (j : Judged) → option_map (λ f. Faulty f) o ≡ Some j → IsFaulty j
+pub is_fault : (o : Option model.FrameFault) (j : Judged) → option_map (λ f. Faulty f) o ≡ Some j → IsFaulty j
 is_fault None j e = absurd (cc)
 is_fault (Some f) j e = let is : Faulty f ≡ j = cc in let P : Judged → Type 0 = λ k. IsFaulty k in subst P is tt
-
-pub kept_faulty : (o : Option FrameFault) (held now : List ℕ) → is_some o ≡ true → held ≡ now → IfSome o (λ x. IsFault (judged held) x) → IsFaulty (judged now)
-kept_faulty None held now s e h = absurd (cc)
-kept_faulty (Some x) held now s e h = let P : List ℕ → Type 0 = λ l. IsFaulty (judged l) in subst P e (is_fault (fault_of x) (judged held) h)
-
-pub kept : (o : Option FrameFault) (held now : List ℕ) (x : FrameFault) → o ≡ Some x → held ≡ now → IfSome o (λ x. IsFault (judged held) x) → IsFault (judged now) x
-kept o held now x s e h =
-    let P : Option FrameFault → Type 0 = λ o. IfSome o (λ x. IsFault (judged held) x) in
-    let Q : List ℕ → Type 0 = λ l. IsFault (judged l) x in
-    subst Q e (subst P s h)
-
-pub leads_at : (at : ℕ) (more old now new : List ℕ) (r : Result (Option Frame) NextFault) → old ≡ now → Answers (judged old) old r new → Leads at more now r new
-leads_at at more old now new r e h = let P : List ℕ → Type 0 = λ l. Leads at more l r new in subst P e (leads at more old new r h)

@@ -1,5 +1,6 @@
 pub mod Judging
 pub mod Lasting
+pub mod Holding
 pub mod Bodies
 pub mod Headers
 pub mod Encoded

@@ -1,5 +1,5 @@
 -- What the calls of a cutter answer, by how the bytes that it holds are judged.
-use Rattle.std.specs.Prelude.{◌≡◌, ℕ, ◌+◌, ◌≤◌, ◌⊎◌, List, ◌++◌, length, drop, Option, Some, None, Result, Ok, Err}
+use Rattle.std.specs.Prelude.{◌≡◌, ℕ, Bool, true, false, ◌+◌, ◌≤◌, ◌⊎◌, List, ◌++◌, length, drop, Option, Some, None, Result, Ok, Err}
 use Rattle.brpc_model.specs.Frame.{Judged, NoneYet, Faulty, Begins, judged}
 use Rattle.brpc_model.specs.Frame as model
 use Rattle.prpc_frame.specs.Meaning.{frame_of, IsFault}
@@ -20,6 +20,12 @@ Answers j old (Ok None) new = (j ≡ NoneYet) × (new ≡ old)
 Answers j old (Ok (Some f)) new = Cuts j old (frame_of f) new
 Answers j old (Err (next.Frame fault)) new = IsFault j fault × (new ≡ old)
 Answers j old (Err next.NoMemory) new = new ≡ old
+
+-- the fault is answered
+abbrev pub tells_fault : Result (Option Frame) NextFault → Bool
+tells_fault (Ok there) = false
+tells_fault (Err (next.Frame fault)) = true
+tells_fault (Err next.NoMemory) = false
 
 -- these bytes have a fault
 abbrev pub IsFaulty : Judged → Type 0

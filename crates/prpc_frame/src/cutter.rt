@@ -1,34 +1,41 @@
-ghost use Rattle.std.specs.Prelude.{◌≡◌, ℕ, List, [], ◌++◌, length, OnOk, OnErr};
-ghost use Rattle.brpc_model.specs.Frame.{judged};
+ghost use Rattle.std.specs.Prelude.{◌≡◌, ℕ, List, ◌++◌, true, false, IsOk, OnOk, OnErr, MatchOption, Err};
+ghost use Rattle.brpc_model.specs.Frame.{NoneYet, judged};
 ghost use Rattle.brpc_model.specs.Stream.{stream_from};
-ghost use Rattle.prpc_frame.specs.Answers.{Answers, Fed};
+ghost use Rattle.prpc_frame.specs.declared.fault.NextFault.TheVariants.{Frame as frame_fault};
+ghost use Rattle.prpc_frame.specs.Answers.{Answers, Fed, tells_fault};
+ghost use Rattle.prpc_frame.specs.Held.{unfed, held_count, with_piece};
 ghost use Rattle.prpc_frame.specs.Leads.{Leads};
 
 use crate::body::read_frame;
 use crate::fault::{FrameFault, NextFault};
 use crate::frame::Frame;
 use crate::header::read_header;
+use ghosts::Ghosts;
 use io_buf::{BlockPool, IoBuf, NoMemory};
 use std::alloc::Global;
 use std::marker::Model;
 
 /// Cuts frames out of a stream that is fed to it in any pieces (brpc's baidu_std.md). Contracts see
-/// the bytes that were fed and not yet given.
+/// the bytes that were fed and not yet given, and whether it has answered their fault.
 #[derive(Drop)]
 pub struct Cutter {
     held: IoBuf,
     fault: Option<FrameFault>,
+    // The bytes that have the fault, for the proofs.
+    faulty: Ghosts<u8>,
     alloc: Global,
 }
 
 impl Model for Cutter {
-    ghost use Rattle.std.specs.Prelude.{ℕ, List};
+    ghost use Rattle.prpc_frame.specs.Held.{Held, held_code};
 
-    ghost Value = { List ℕ };
+    ghost Value = { Held };
 
-    ghost use Rattle.prpc_frame.specs.Inside.{KeepsFault};
+    ghost coded = { held_code };
 
-    ghost view = { λ c. c.held.items };
+    ghost use Rattle.prpc_frame.specs.Inside.{held_view, KeepsFault};
+
+    ghost view = { held_view };
 
     ghost invariant = { KeepsFault };
 }
@@ -36,28 +43,33 @@ impl Model for Cutter {
 impl Cutter {
     /// A cutter to which nothing was fed. It takes no memory.
     pub fn new(alloc: Global) -> Cutter
-        ensures { result ≡ [] }
+        ensures { result ≡ unfed }
     {
         Cutter {
             held: IoBuf::new(alloc),
             fault: None,
+            faulty: Ghosts::of(&0u8),
             alloc,
         }
     }
 
-    /// How many bytes were fed and not yet given: those of the rest, where `next` answers `None`.
-    pub fn held_len(&self) -> usize
-        ensures { result ≡ length self.now }
+    /// How many bytes it holds: those that were fed and stand in no frame that it gave, which are
+    /// those of the rest where `next` answers `None`; and 0 once `next` has answered a frame's fault.
+    pub fn held(&self) -> usize
+        ensures { result ≡ held_count self.now }
     {
         self.held.len()
     }
 
     /// Takes the next bytes of the stream. Once `next` has answered a frame's fault they are thrown
-    /// away. After a refusal it is unchanged.
+    /// away, and no memory is taken. After a refusal it is unchanged.
     pub fn feed(&mut self, pool: &mut BlockPool, piece: &[u8]) -> Result<(), NoMemory>
-        ensures ok { OnOk result (Fed self.old piece.now self.new) }
+        ensures ok { OnOk result (Fed self.old.bytes piece.now self.new.bytes) }
+        ensures kept { OnOk result (self.new ≡ with_piece self.old piece.now) }
+        ensures told { self.old.told ≡ true → IsOk result }
         // Whatever follows, the stream is that of the bytes before and the piece.
-        ensures stream { OnOk result ((at : ℕ) (more : List ℕ) → stream_from at (self.new ++ more) ≡ stream_from at (self.old ++ (piece.now ++ more))) }
+        ensures stream { OnOk result ((at : ℕ) (more : List ℕ)
+            → stream_from at (self.new.bytes ++ more) ≡ stream_from at (self.old.bytes ++ (piece.now ++ more))) }
         ensures err { OnErr result (self.new ≡ self.old) }
     {
         if self.fault.is_some() {
@@ -68,28 +80,44 @@ impl Cutter {
 
     /// The next frame, or `None` while it isn't whole.
     ///
-    /// Each fault comes as soon as the bytes that show it are there, and from then on for good.
-    /// `NoMemory` changes nothing. While nothing is whole a call costs the same, however much is
-    /// held, and a size that a header states reserves no room.
+    /// Each fault comes as soon as the bytes that show it are there, and from then on for good: those
+    /// bytes are let go. `NoMemory` changes nothing, and comes only where a frame is whole. While none is
+    /// a call costs the same, however much is held, and a size that a header states reserves no room.
     pub fn next(&mut self) -> Result<Option<Frame>, NextFault>
-        ensures exact { Answers (judged self.old) self.old result self.new }
+        ensures exact { Answers (judged self.old.bytes) self.old.bytes result self.new.bytes }
+        ensures told { self.new.told ≡ tells_fault result }
+        ensures again { self.old.told ≡ true → tells_fault result ≡ true }
+        ensures waits { judged self.old.bytes ≡ NoneYet → IsOk result }
         // In whatever pieces the stream goes on, it is this frame and the stream behind it.
-        ensures stream { (at : ℕ) (more : List ℕ) → Leads at more self.old result self.new }
+        ensures stream { (at : ℕ) (more : List ℕ) → Leads at more self.old.bytes result self.new.bytes }
     {
         if let Some(fault) = self.fault {
             return Err(NextFault::Frame(fault));
         }
         let next = cut_frame(self.alloc, &mut self.held);
-        if let Err(NextFault::Frame(fault)) = &next {
-            self.fault = Some(*fault);
+        if let Some(fault) = told_fault(&next) {
+            self.faulty = Ghosts::of(&self.held);
+            self.held = IoBuf::new(self.alloc);
+            self.fault = Some(fault);
         }
         next
     }
 }
 
+// The frame's fault that is answered, if one is.
+fn told_fault(next: &Result<Option<Frame>, NextFault>) -> Option<FrameFault>
+    ensures { MatchOption result (tells_fault next.now ≡ false) (λ fault. next.now ≡ Err (frame_fault fault)) }
+{
+    match next {
+        Err(NextFault::Frame(fault)) => Some(*fault),
+        Err(NextFault::NoMemory) | Ok(_) => None,
+    }
+}
+
 // Cuts the frame at the front off.
 fn cut_frame(alloc: Global, held: &mut IoBuf) -> Result<Option<Frame>, NextFault>
-    ensures { Answers (judged held.old.items) held.old.items result held.new.items }
+    ensures exact { Answers (judged held.old.items) held.old.items result held.new.items }
+    ensures waits { judged held.old.items ≡ NoneYet → IsOk result }
 {
     let Some(sizes) = read_header(held)? else {
         return Ok(None);

@@ -58,7 +58,7 @@ fn judged(
     cutter.feed(&mut pool, bytes)?;
     let first = cutter.next().err();
     let second = cutter.next().err();
-    Ok((first, second, cutter.held_len()))
+    Ok((first, second, cutter.held()))
 }
 
 #[test]
@@ -70,15 +70,40 @@ fn cuts(rt: HostRuntime) -> Result<(), Fail> {
 #[test]
 fn judges(rt: HostRuntime) -> Result<(), Fail> {
     let magic = Some(NextFault::Frame(FrameFault::BadMagic { at: 3 }));
-    assert_eq!(rt; judged(rt.alloc(), b"PRPD")?, (magic, magic, 4));
+    assert_eq!(rt; judged(rt.alloc(), b"PRPD")?, (magic, magic, 0));
     let big = Some(NextFault::Frame(FrameFault::TooBig { size: 67_108_865 }));
     let bytes = b"PRPC\x04\x00\x00\x01\x00\x00\x00\x00";
-    assert_eq!(rt; judged(rt.alloc(), bytes)?, (big, big, 12));
+    assert_eq!(rt; judged(rt.alloc(), bytes)?, (big, big, 0));
     let over = Some(NextFault::Frame(FrameFault::MetaOver { meta: 5, body: 4 }));
     let bytes = b"PRPC\x00\x00\x00\x04\x00\x00\x00\x05";
-    assert_eq!(rt; judged(rt.alloc(), bytes)?, (over, over, 12));
+    assert_eq!(rt; judged(rt.alloc(), bytes)?, (over, over, 0));
     let bytes = b"PRPC\x04\x00\x00\x01\x00\x00\x00";
     assert_eq!(rt; judged(rt.alloc(), bytes)?, (None, None, 11));
+    Ok(())
+}
+
+// The header of the largest body, behind which nothing came yet: only what was fed is held, and no answer wants memory.
+#[test]
+fn a_header_reserves_no_room(rt: HostRuntime) -> Result<(), Fail> {
+    let bytes = b"PRPC\x04\x00\x00\x00\x00\x00\x00\x00";
+    assert_eq!(rt; judged(rt.alloc(), bytes)?, (None, None, 12));
+    Ok(())
+}
+
+// What is held behind a fault that was answered, once more was fed.
+fn held_behind(alloc: Global, bytes: &[u8]) -> Result<usize, NextFault> {
+    let mut pool = BlockPool::new(alloc);
+    let mut cutter = Cutter::new(alloc);
+    cutter.feed(&mut pool, bytes)?;
+    let _ = cutter.next();
+    cutter.feed(&mut pool, bytes)?;
+    Ok(cutter.held())
+}
+
+#[test]
+fn keeps_nothing_behind_a_fault(rt: HostRuntime) -> Result<(), Fail> {
+    assert_eq!(rt; held_behind(rt.alloc(), b"PRPD")?, 0);
+    assert_eq!(rt; held_behind(rt.alloc(), b"PRP")?, 6);
     Ok(())
 }
 

@@ -63,7 +63,7 @@ impl Reader {
     /// The next response for one of so many id slots is cut out of the bytes that it has; where there is none it takes more
     /// below its limit, and behind a frame fault or at the limit the reading has ended.
     pub fn cut(self, cutter: &mut Cutter, ids: u16) -> Result<Cut, NoMemory>
-        ensures { IfOk result (λ cut. GoesOnBehind self ids cutter.old cutter.new cut) }
+        ensures { IfOk result (λ cut. GoesOnBehind self ids cutter.old.bytes cutter.new.bytes cut) }
     {
         loop {
             match cutter.next() {

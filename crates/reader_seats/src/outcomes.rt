@@ -1,5 +1,6 @@
 ghost use Rattle.std.specs.Prelude.{◌≡◌, ◌↔◌, pos, IsTrue, IfOk, Some, slice_set};
 ghost use Rattle.prpc_frame.specs.Meaning.{frame_of};
+ghost use Rattle.sock_words.specs.Codes.{ERESPONSE};
 ghost use Rattle.sock_programs.specs.Readers.{by_code, ending_of};
 ghost use Rattle.id_points.specs.Ids.{id_of};
 ghost use Rattle.reader_points.specs.Points.{code_by};
@@ -67,7 +68,7 @@ pub fn ending(alloc: Global, id: u64, frame: &Frame) -> Result<Outcome, NoMemory
 
 /// The outcome of the call with this id where its response can't be read.
 pub fn unread(id: u64) -> Outcome
-    ensures { result ≡ Outcome.CallFailed id 2002 }
+    ensures { result ≡ Outcome.CallFailed id ERESPONSE }
 {
     Outcome::CallFailed {
         id,

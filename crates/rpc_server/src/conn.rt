@@ -27,8 +27,8 @@ impl From<NoMemory> for ConnFault {
 }
 
 /// The server's end of a connection: it is fed what the client put, in any pieces, and answers each whole request frame in
-/// order. It holds no more than one frame that isn't whole. Contracts see the bytes that it holds, and how many replies it
-/// made.
+/// order. It holds no more than one frame that isn't whole. Behind a frame's fault it holds nothing. Contracts see
+/// the bytes that were fed and stand in no frame, and how many replies it made.
 #[derive(Drop)]
 pub struct Conn {
     cutter: Cutter,

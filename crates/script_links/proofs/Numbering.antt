@@ -84,6 +84,25 @@ all_with P old new x h e px = subst (AllByRecursion P) (sym e) (behind P old x h
     behind P [] x h px = (px, tt)
     behind P (y ∷ ys) x h px = (h.0, behind P ys x h.1 px)
 
+-- what holds of each holds of all of these
+pub all_so : {A : Type 0} (P : A → Type 0) → ((x : A) → P x) → (xs : List A) → AllByRecursion P xs
+all_so P h [] = tt
+all_so P h (x ∷ xs) = (h x, all_so P h xs)
+
+pub all_mapped : {A B : Type 0} (f : A → B) (P : B → Type 0) → ((x : A) → P (f x)) → (xs : List A) → AllByRecursion P (map f xs)
+all_mapped f P h [] = tt
+all_mapped f P h (x ∷ xs) = (h x, all_mapped f P h xs)
+
+-- links that are untouched took nothing
+pub unused_of : {A : Type 0} (f : A → LinkEnd) (n : ℕ) (xs : List A) → AreUntouched n (map f xs) → AllByRecursion (λ (x : A). IfSome (f x).took (λ bytes. bytes ≡ [])) xs
+unused_of f n [] h = tt
+unused_of f n (x ∷ xs) h = (h.0.took, unused_of f (n + 1) xs h.1)
+
+-- and gave nothing
+pub silent_of : {A : Type 0} (f : A → LinkEnd) (n : ℕ) (xs : List A) → AreUntouched n (map f xs) → AllByRecursion (λ (x : A). ((f x).gave_count ≡ 0) × IfSome (f x).gave (λ bytes. bytes ≡ [])) xs
+silent_of f n [] h = tt
+silent_of f n (x ∷ xs) h = ((h.0.gave_count, h.0.gave), silent_of f (n + 1) xs h.1)
+
 -- ## What the lines ask
 
 specs-append : (xs ys : List Line) → specs_of (map item (xs ++ ys)) ≡ specs_of (map item xs) ++ specs_of (map item ys)

@@ -8,6 +8,7 @@ ghost use Rattle.sock_io.specs.Causes.{Rose};
 ghost use Rattle.sock_io.specs.Link.{end_of};
 ghost use Rattle.script_items.specs.Meaning.{shape_of};
 ghost use Rattle.script_links.specs.Given.{IsUntouched, AreUntouched, AreNumbered, IsBeginning, has_piece, is_open_line, has_piece_line, spec_of, specs_of};
+ghost use Rattle.script_links.specs.Offered.{AreAsked, TellOffers};
 
 use script_items::{Line, OpenLine};
 use sock_io::{Ends, LinkSpec, Linker, Mode, OpenFault};
@@ -43,6 +44,7 @@ fn open_one<L: Linker>(
     ensures err { OnErr result (length ends.new.items ≡ length ends.old.items) }
     ensures asked { OnOk result (L.asked links.new ≡ L.asked links.old ++ spec_of (shape_of «open».now.shape) ∷ []) }
     ensures refused { OnErr result (L.asked links.new ≡ L.asked links.old) }
+    ensures offers { OnOk result (TellOffers L.O.state L.I.state → AreAsked (L.asked links.old) (map (λ e. L.O.state e.out) ends.old.items) (map (λ e. L.I.state e.inn) ends.old.items) → AreAsked (L.asked links.new) (map (λ e. L.O.state e.out) ends.new.items) (map (λ e. L.I.state e.inn) ends.new.items)) }
     ensures opened { length (L.asked links.new) ≡ length ends.new.items }
     ensures back { L.back links.new ≡ L.back links.old }
     ensures prompt { L.prompt links.new ≡ L.prompt links.old }
@@ -77,6 +79,7 @@ fn open_line<L: Linker>(
     ensures err { OnErr result (length ends.new.items ≡ length ends.old.items) }
     ensures asked { OnOk result (L.asked links.new ≡ L.asked links.old ++ specs_of (item line.now ∷ [])) }
     ensures refused { OnErr result (L.asked links.new ≡ L.asked links.old) }
+    ensures offers { OnOk result (TellOffers L.O.state L.I.state → AreAsked (L.asked links.old) (map (λ e. L.O.state e.out) ends.old.items) (map (λ e. L.I.state e.inn) ends.old.items) → AreAsked (L.asked links.new) (map (λ e. L.O.state e.out) ends.new.items) (map (λ e. L.I.state e.inn) ends.new.items)) }
     ensures opened { length (L.asked links.new) ≡ length ends.new.items }
     ensures back { L.back links.new ≡ L.back links.old }
     ensures prompt { L.prompt links.new ≡ L.prompt links.old }
@@ -108,6 +111,7 @@ pub fn open_links<L: Linker>(
     ensures most { length ends.new.items ≤ count_by is_open_line lines.now }
     ensures asked { OnOk result (L.asked links.new ≡ specs_of (map item lines.now)) }
     ensures front { IsBeginning (L.asked links.new) (specs_of (map item lines.now)) }
+    ensures offers { OnOk result (TellOffers L.O.state L.I.state → AreAsked (L.asked links.new) (map (λ e. L.O.state e.out) ends.new.items) (map (λ e. L.I.state e.inn) ends.new.items)) }
     ensures opened { length (L.asked links.new) ≡ length ends.new.items }
     ensures back { L.back links.new ≡ L.back links.old }
     ensures prompt { L.prompt links.new ≡ L.prompt links.old }

@@ -24,7 +24,7 @@ impl Draws {
         Draws { state: seed }
     }
 
-    /// The next number.
+    /// The next number, 0 to 2^31 - 1. It never fails.
     pub fn draw(&mut self) -> u64
         ensures number { result ≡ drawn self.old.state }
         ensures state { self.new.state ≡ drawn_state self.old.state }
@@ -41,7 +41,7 @@ impl Draws {
         (self.draw() % 256) as u8
     }
 
-    /// So many bytes.
+    /// So many bytes, each 0 to 255. The error is want of memory, after which some were drawn.
     pub fn bytes(&mut self, alloc: Global, count: usize) -> Result<Vec<u8>, AllocError>
         ensures bytes { IfOk result (λ b.
             b.items ≡ map (λ d. d % 256) (draws count self.old.state)) }

@@ -1,8 +1,6 @@
-pub mod Numbering
 pub mod Playing
 pub mod Lines
 pub mod Telling
-pub mod Offers
 pub mod Homes
 pub mod Running
 pub mod Saying

@@ -17,9 +17,9 @@ use Rattle.sock_core.specs.Runs.{SameLink, SameLinks, Ticked, Led}
 use Rattle.sock_core.proofs.Joining.{same_table_none, same_links_none, follows_none, follows_join, made_join}
 use Rattle.sock_core.specs.Driving.{FirstRests}
 use Rattle.sock_core.proofs.Resting.{Rests, idle_ran, beyond_rests}
-use Rattle.script_run.specs.Given.{AreUntouched, AreNumbered}
+use Rattle.script_links.specs.Given.{AreUntouched, AreNumbered}
 use Rattle.script_run.specs.Played.{IsPlayable, PlayedWith, HasPlayed}
-use Rattle.script_run.proofs.Numbering.{numbered_of}
+use Rattle.script_links.proofs.Numbering.{numbered_of}
 
 -- there are fewer seats than 65,535
 far_seats : (m : MachineState) → ∥ HasSizes m ∥₁ → (i : ℕ) → 65535 ≤ i → Rests m i

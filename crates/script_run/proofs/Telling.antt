@@ -18,7 +18,7 @@ use Rattle.script_report.proofs.Existing.{report_exists}
 use Rattle.script_run.specs.declared.report.Print.{Print}
 use Rattle.script_run.specs.declared.report.Print.TheVariants as print
 use Rattle.script_run.specs.Played.{IsPrintOf}
-use Rattle.script_run.proofs.Numbering.{map_more}
+use Rattle.script_links.proofs.Numbering.{map_more}
 
 first_told : (e other : LinkEnd) (bytes : List ℕ) → Some e ≡ Some other → IfSome e.took (λ told. bytes ≡ told) → IfSome other.took (λ told. bytes ≡ told)
 first_told e other bytes at h = let same : e ≡ other = cc in subst (λ (x : LinkEnd). IfSome x.took (λ told. bytes ≡ told)) same h

@@ -41,13 +41,14 @@ use Rattle.sock_core.specs.Links.{ArePrompt, TellClosing, IsOffering}
 use Rattle.sock_core.specs.Machines.{MachineState, core_with}
 use Rattle.sock_core.specs.Runs.{SameLink, SameLinks, ShowsTaking}
 use Rattle.script_run.specs.Causes.{HasCauses, EndedEarly, gave_in}
-use Rattle.script_run.specs.Given.{IsUntouched, AreUntouched, AreAsked, spec_of, specs_of}
+use Rattle.script_links.specs.Given.{IsUntouched, AreUntouched, spec_of, specs_of}
+use Rattle.script_links.specs.Offered.{AreAsked}
 use Rattle.script_report.specs.Sums.{told_of, sums_of, summary_text}
 use Rattle.script_run.specs.declared.report.Print.{Print}
 use Rattle.script_run.specs.declared.report.Print.TheVariants as print
 use Rattle.script_run.specs.Played.{IsMade, HasRun, AreHeard, IsWholeRun, IsEndTold, AreEndsTold, IsRunText, IsPrintOf, IsPrinted}
 use Rattle.script_run.proofs.Homes.{index_at, took_is, lies_is, told_is, tells_is}
-use Rattle.script_run.proofs.Offers.{asked_at, shapes_many}
+use Rattle.script_links.proofs.Offers.{asked_at, shapes_many}
 use Rattle.script_run.proofs.Idle.{clients_idle}
 use Rattle.script_run.proofs.Told.{has_causes}
 

@@ -78,10 +78,6 @@ HasTurns p (Some turn) c moments = Turns p c turn moments
 abbrev pub TellClosed : {A : Type 0} → (A → InState) → Type 0
 TellClosed {A} state = (inn : A) → ((state inn).closing ≢ None) × ((state inn).closed ≢ None)
 
--- each writing half tells what it took, and each reading half what it gave and what its other end offers
-abbrev pub TellOffers : {A B : Type 0} → (A → OutState) → (B → InState) → Type 0
-TellOffers {A} {B} out_state in_state = ((out : A) → (out_state out).took ≢ None) × ((inn : B) → ((in_state inn).gave_bytes ≢ None) × ((in_state inn).offer ≢ None))
-
 -- the machine was played from behind the setup to the end of a run, over links that are always ready in time
 pub record HasRun (script : List Item) (turns : List Turn) (start m : MachineState) : Type 0 where
   pub took : Taken

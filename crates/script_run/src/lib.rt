@@ -2,7 +2,6 @@
 //! back, and prints the report, or a summary of it.
 #![tactic(auto)]
 
-mod links;
 mod report;
 mod run;
 mod said;
@@ -10,7 +9,6 @@ mod schedule;
 #[cfg(test)]
 mod tests;
 
-pub use links::spec_of;
 pub use report::Print;
 pub use run::{RunFault, run_script};
 pub use schedule::Schedule;

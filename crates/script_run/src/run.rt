@@ -12,14 +12,15 @@ ghost use Rattle.sock_words.specs.declared.outcome.Outcome.{Outcome};
 ghost use Rattle.sock_core.specs.Finish.{told_from};
 ghost use Rattle.sock_core.specs.Links.{ArePrompt, TellClosing};
 ghost use Rattle.sock_core.specs.Runs.{SameLinks};
-ghost use Rattle.script_run.specs.Given.{AreNumbered, AreUntouched, AreAsked, IsBeginning, has_piece, specs_of};
-ghost use Rattle.script_run.specs.Played.{IsMade, HasRun, IsPrintOf, IsPrinted, TellClosed, TellOffers, turns_of};
+ghost use Rattle.script_links.specs.Given.{AreNumbered, AreUntouched, IsBeginning, has_piece, specs_of};
+ghost use Rattle.script_links.specs.Offered.{AreAsked, TellOffers};
+ghost use Rattle.script_run.specs.Played.{IsMade, HasRun, IsPrintOf, IsPrinted, TellClosed, turns_of};
 ghost use Rattle.report_fits.specs.Ends.{AreTold};
 
-use crate::links::{give_back, open_links};
 use crate::report::{Print, report};
 use crate::schedule::{Schedule, play_schedule};
 use script_items::Script;
+use script_links::{give_back, open_links};
 use sock_core::{Finished, Machine, NotMade};
 use sock_io::{Ends, In, Linker, NoMemory, OpenFault, Out, Peer};
 use sock_words::{Outcome, PlaceWord};

@@ -29,7 +29,7 @@ use Rattle.sock_programs.specs.Asides.{Step, Found, ClaimId, PutCall, MakeId, St
 use Rattle.sock_programs.specs.Heads.{Exit, Unlocks}
 use Rattle.sock_message.specs.Asked.{Asked}
 use Rattle.sock_programs.specs.Beside.{found_in, calls_after}
-use Rattle.sock_programs.specs.Calls.{Call, LoadName, ClaimRequest}
+use Rattle.sock_programs.specs.Calls.{Call, LoadName, FindLink, ClaimRequest}
 use Rattle.sock_programs.specs.Heads.{Retry}
 use Rattle.sock_programs.specs.Programs.{Program, Do, Say, Sent, Rest, TakeMessage, TakeHome, PutHome, PutBytes, AskReady, Write, Aside, Round, Keep, Retries}
 use Rattle.sock_programs.specs.Cores.{Calls, Core, SeatState, word_of, found_at, words_after, word_after, homes_after, hand_after, lies_at, first_of, others_of, link_place, resolved, waiting_at, next_step, with_seat}
@@ -40,10 +40,10 @@ use Rattle.sock_causes.proofs.Ticks.{elem_there}
 use Rattle.label_runs.specs.Labels.{FindsLabel}
 use Rattle.send_causes.specs.Counts.{word_of_id}
 use Rattle.send_causes.proofs.Words.{finds_label}
-use Rattle.send_causes.proofs.Ticks.{AreCalls, calls_waiting}
+use Rattle.send_causes.proofs.Ticks.{AreCalls, PutsCall, calls_behind, calls_waiting, few_of, ids_first, fits_as}
 use Rattle.send_causes.proofs.AttemptedWords.{Rise, is_new, is_same, is_more, IsMakeAt, risen, Advances}
-use Rattle.send_causes.proofs.AttemptedTrails.{StoresNext, Of, NoCall, Makes, Knows, Trail, lost, Stays, GoesDo, GoesAside, Follows}
-use Rattle.send_causes.proofs.AttemptedNames.{follows_first, ids_first, fits_as, calls_behind, PutsCall, few_of, resolves}
+use Rattle.send_causes.proofs.EndedTrails.{StoresNext, Of, NoCall, Makes, Knows, Trail, lost, Stays, GoesDo, GoesAside, Follows}
+use Rattle.send_causes.proofs.EndedNames.{follows_first, resolves}
 use Rattle.send_causes.proofs.AttemptedFacts.{IsStored, IsStoring, IsOwn, Facts}
 
 -- what is known of a call
@@ -126,6 +126,7 @@ module _ (p : Plan) (q : IdPlan) (narrow : q.slots ≤ 65536) (is_call : Asked �
     of_do : (call : Call) (found : ℕ) (u : Trail) → GoesDo t call found u → IsTrueOf q c t.of → IsTrueOf q c u.of
     of_do (LoadName m) found u g h = ⊎_elim (λ e. subst (λ (z : Trail). IsTrueOf q c z.of) (sym e) h) (λ x. ⊎_elim (λ e. subst (λ (z : Trail). IsTrueOf q c z.of) (sym e) tt) (λ y. subst (λ (z : Trail). IsTrueOf q c z.of) (sym y.1) h) x) g
     of_do (ClaimRequest s r) found u g h = ⊎_elim (λ e. subst (λ (z : Trail). IsTrueOf q c z.of) (sym e) h) (λ x. ⊎_elim (λ e. subst (λ (z : Trail). IsTrueOf q c z.of) (sym e) tt) (λ y. subst (λ (z : Trail). IsTrueOf q c z.of) (sym y.3) h) x) g
+    of_do (FindLink slot version) found u g h = ⊎_elim (λ e. subst (λ (z : Trail). IsTrueOf q c z.of) (sym e) h) (λ x. ⊎_elim (λ e. subst (λ (z : Trail). IsTrueOf q c z.of) (sym e) tt) (λ y. subst (λ (z : Trail). IsTrueOf q c z.of) (sym y.5) h) x) g
     of_do call found u g h = of_stays u g h
       where
         of_stays : (u : Trail) → Stays t u → IsTrueOf q c t.of → IsTrueOf q c u.of
@@ -300,7 +301,8 @@ module _ (p : Plan) (q : IdPlan) (narrow : q.slots ≤ 65536) (is_call : Asked �
       of_aside (MakeId k range) next found first_is may x ahead g = subst (λ (y : Trail). Holds (MakeId k range) found (next found) y) (sym g.0) tt
       of_aside (StoreCall o id) next found first_is may x ahead g = ⊎_elim (λ e. subst (λ (y : Trail). Holds (StoreCall o id) found (next found) y) (sym e) tt)
           (λ y. subst (λ (z : Trail). Holds (StoreCall o id) found (next found) z) (sym y.1) (record { inside = may.0; some_ = may.1; low = may.2; either = inl (stored_here o id may.0) })) g
-      of_aside (StoreAt o w) next found first_is may x ahead g = stays_of (StoreAt o w) next found first_is may x g.0
+      of_aside (StoreAt o w) next found first_is may x ahead g = ⊎_elim (λ e. stays_of (StoreAt o w) next found first_is may x (inr e))
+          (λ e. subst (λ (z : Trail). Holds (StoreAt o w) found (next found) z) (sym e) (stays_of (StoreAt o w) next found first_is may t (inl refl))) g.0
       of_aside (PutCall k asked) next found first_is may x ahead g = ⊎_elim (λ s. stays_of (PutCall k asked) next found first_is may x s)
           (λ y. subst (λ (z : Trail). Holds (PutCall k asked) found (next found) z) (sym y.4) (stays_aside (PutCall k asked) next found first_is may asked.operation (call_id k (parts y.0).first) (put_own k asked next found first_is may y.0 y.1 y.2 y.3 ahead))) g.0
       of_aside step next found first_is may x ahead g = stays_of step next found first_is may x g

@@ -31,13 +31,14 @@ use Rattle.owed_calls.proofs.Known.{run_all_rest}
 use Rattle.call_causes.specs.Lists.{attempts_of_run}
 use Rattle.send_causes.proofs.Apart as apart
 use Rattle.send_causes.proofs.Early.{start, go, fitting}
+use Rattle.send_causes.specs.EndedCalls.{stores_of_run}
 use Rattle.send_causes.proofs.Runs.{AreLabelledIn, IsCallOf, end_law}
 use Rattle.send_causes.proofs.Sends.{owed, orders_of_run, narrow, opening_claims}
 use Rattle.send_causes.proofs.AttemptedIds.{AreRisingIn}
 use Rattle.send_causes.proofs.AttemptedCalls.{AreStored}
 use Rattle.send_causes.proofs.AttemptedSent.{IsNamedOn, get_same, run_attempted}
-use Rattle.send_causes.proofs.AttemptedNamed.{tasks_are, end_named}
-use Rattle.send_causes.proofs.AttemptedLives.{all_over}
+use Rattle.send_causes.proofs.EndedNamed.{tasks_are, end_named}
+use Rattle.send_causes.proofs.EndedLives.{all_named}
 use Rattle.send_causes.proofs.AttemptedStored.{ids_at, stored_run, words_stored}
 use Rattle.sock_runs.proofs.LinkTicks.{RetriesGo}
 
@@ -70,7 +71,7 @@ module _ (script : List Item) (made : AreMade script) (there : AreThere script) 
 
   -- the link of each attempt is that of a life of its name
   pub run_named : (k : ℕ) → k < (plan_of script).links → AllByRecursion (λ (a : Accepted). IsSpoken (told_tasks_of script) a.operation → IsNamedOn script core k a) (orders_of_run script made turns core is closes k).accepted
-  run_named k low = let n = narrow script made turns core is closes in let k' = end_named script made.are vs begins goes turns core is fits n bare ids labelled in
+  run_named k low = let n = narrow script made turns core is closes in let k' = (end_named script made.are vs begins goes turns core is fits n bare ids labelled).named in
       let law = end_law script made.are vs begins goes turns core is fits n bare ids labelled in
       let sound = ended_sound script made.are vs begins goes turns core is fits in let rests = end_rests script made.are vs begins goes turns core is fits (owed script made turns core is closes) in
       let tasks = tasks_are script made.are vs begins goes turns core is fits n bare ids labelled in
@@ -79,8 +80,8 @@ module _ (script : List Item) (made : AreMade script) (there : AreThere script) 
       (λ a has spoken c t asked it number op. let x = has spoken in let same = one_asked x.0 asked x.1 c t it op (x.2 ∙ sym number) in
       (x.3, x.4, made_up (all_tasks script) (length (opens script)) core.outcomes (name_of asked a.attempt) k x.3 x.4 (subst (λ (z : Asked). Made (told_tasks_of script) core.outcomes (name_of z a.attempt) k x.3 x.4) same x.5)))
       (orders_of_run script made turns core is closes k).accepted
-      (all_over (plan_of script) (told_tasks_of script) tasks core (views_ended script turns core is vs) k'.events k'.lost_links sound k'.story rests (IsCallOf script) k'.trails k'.law
-      (λ i n e h not_. (apart.of_call_fits (plan_of script) (id_plan_of script) (IsCallOf script) ids (told_tasks_of script) tasks core (views_ended script turns core is vs) k'.events k'.lost_links sound k'.story rests law.0 law.1 i n e h not_).0) k)
+      (all_named (plan_of script) (told_tasks_of script) tasks core (views_ended script turns core is vs) k'.events k'.lost_links sound k'.story rests (IsCallOf script) (stores_of_run script turns core is) k'.trails k'.law ids
+      (λ i n e h not_. (let f = apart.of_call_fits (plan_of script) (id_plan_of script) (IsCallOf script) ids (told_tasks_of script) tasks core (views_ended script turns core is vs) k'.events k'.lost_links sound k'.story rests law.0 law.1 i n e h not_ in (f.0, f.1))) k)
 
   module _ (rising : AreRisingIn ids script turns core is) (stored : AreStored ids script core) (fixed : Fixed) (gave : ℕ → List ℕ) where
     -- each message that a link accepted is that of a `send` of which nothing is said, or of an attempt that was made of a call with an id, to a name of the link's socket

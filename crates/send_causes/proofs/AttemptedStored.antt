@@ -18,7 +18,7 @@ use Rattle.id_runs.specs.Goes.{IdGoesOn}
 use Rattle.id_runs.proofs.Opening.{unused, all_go}
 use Rattle.sock_message.specs.Asked.{Asked}
 use Rattle.sock_programs.specs.Asides.{StoreCall, StoreAt, call_id, id_slot, id_first}
-use Rattle.sock_programs.specs.Calls.{Call, LoadName, ClaimRequest}
+use Rattle.sock_programs.specs.Calls.{Call, LoadName, FindLink, ClaimRequest}
 use Rattle.sock_programs.specs.Clients.{ending_of}
 use Rattle.sock_programs.specs.Cores.{Core, with_seat, next_step, resolved}
 use Rattle.sock_programs.specs.declared.task.Task.{Task}
@@ -62,10 +62,10 @@ use Rattle.send_causes.proofs.AttemptedBegin.{asked_by}
 use Rattle.send_causes.proofs.AttemptedWords.{Rise, AdvancesAt, is_new, is_same, is_more, tick_rises}
 use Rattle.send_causes.proofs.AttemptedIds.{AdvancesId, AreRising, AreRisingIn}
 use Rattle.send_causes.specs.Refused.{WouldStore, WouldOwn, AllWouldOwn, RunWouldOwn}
-use Rattle.send_causes.proofs.AttemptedTrails.{Trail, Knows, lost, Follows, GoesDo, Stays, NoCall, Makes, Of}
-use Rattle.send_causes.proofs.AttemptedPrograms.{ending_goes}
-use Rattle.send_causes.proofs.AttemptedNames.{follows_first}
-use Rattle.send_causes.proofs.AttemptedNamed.{all_follow, begins_named}
+use Rattle.send_causes.proofs.EndedTrails.{Trail, Knows, lost, Follows, GoesDo, Stays, NoCall, Makes, Of}
+use Rattle.send_causes.proofs.EndedPrograms.{ending_goes}
+use Rattle.send_causes.proofs.EndedNames.{follows_first}
+use Rattle.send_causes.proofs.EndedNamed.{all_follow, begins_named}
 use Rattle.send_causes.proofs.AttemptedCalls.{AreStored}
 use Rattle.send_causes.proofs.AttemptedFacts.{IsStoring, IsOwn, facts}
 use Rattle.send_causes.proofs.AttemptedOwn.{IsTrueOf, CallLaw, beside, own_ticks}
@@ -87,6 +87,7 @@ stays_of t u (inr none_) = inr (ap (λ (x : Trail). x.of) none_)
 goes_of : (t u : Trail) (call : Call) (found : ℕ) → GoesDo t call found u → (u.of ≡ t.of) ⊎ (u.of ≡ NoCall)
 goes_of t u (LoadName m) found g = ⊎_elim (λ same. inl (ap (λ (x : Trail). x.of) same)) (λ rest. ⊎_elim (λ none_. inr (ap (λ (x : Trail). x.of) none_)) (λ a. inl (ap (λ (x : Trail). x.of) a.1)) rest) g
 goes_of t u (ClaimRequest s q) found g = ⊎_elim (λ same. inl (ap (λ (x : Trail). x.of) same)) (λ rest. ⊎_elim (λ none_. inr (ap (λ (x : Trail). x.of) none_)) (λ a. inl (ap (λ (x : Trail). x.of) a.3)) rest) g
+goes_of t u (FindLink i h) found g = ⊎_elim (λ same. inl (ap (λ (x : Trail). x.of) same)) (λ rest. ⊎_elim (λ none_. inr (ap (λ (x : Trail). x.of) none_)) (λ a. inl (ap (λ (x : Trail). x.of) a.5)) rest) g
 goes_of t u other found g = stays_of t u g
 
 -- whoever would store an at word knows its call
@@ -108,7 +109,7 @@ would_of is_call t (Do call next) o id n f (found, fits, would) = let g = f.1 fo
     ⊎_elim (λ same. record { own = r.own; attempt = r.attempt; link = r.link; other = r.other; word = r.word; knows = sym same ∙ r.knows; mine = r.mine; low = r.low; few = r.few; theirs = r.theirs; low_too = r.low_too })
     (λ none_. absurd (let z : NoCall ≡ Knows o r.own = sym none_ ∙ r.knows in cc)) (goes_of t g.0 call found g.1)
 would_of is_call t (Aside (StoreAt x w) next) o id n f (k, same, is, low) = let own = (f 0 tt).1.1 in
-    record { own = own.0; attempt = own.1; link = own.2; other = k; word = w; knows = own.3 ∙ ap (λ z. Knows z own.0) same; mine = own.4; low = own.5; few = own.6; theirs = is; low_too = low }
+    record { own = own.id; attempt = own.attempt; link = own.link; other = k; word = w; knows = own.knows ∙ ap (λ z. Knows z own.id) same; mine = own.word; low = own.small; few = own.few; theirs = is; low_too = low }
 would_of is_call t other o id n f would = absurd would
 
 -- behind seat 0, once it has nothing left to do
@@ -148,9 +149,9 @@ module _ (p : Plan) (q : IdPlan) (clients : List (List Task)) (gives : ℕ → L
     stores_own : (m : Moment) → StoresOwn ids c m
     stores_own m seat o w next at is id n l same low few slot = let t = elem_there c.seats k.trails m.seat seat k.law.each at in
         let f = subst (Follows is_call t.0) is (follows_first is_call t.0 seat.program (k.law.programs m.seat seat t.0 at t.1)) in let own = (f 0 tt).1.1 in
-        let knows : IsOwn q c o own.0 = subst (IsTrueOf q c) own.3 (k.law.knows m.seat t.0 t.1) in
-        let mine = named_id own.0 own.2 own.1 w own.4 own.5 own.6 (let z = knows.low in omega (arith, z, small)) in let theirs = named_id id l n w same low few slot in
-        let one : own.0 ≡ id = sym mine ∙ theirs in (are o own.0 knows ∙ one, (λ z. knows.some_ (one ∙ z)))
+        let knows : IsOwn q c o own.id = subst (IsTrueOf q c) own.knows (k.law.knows m.seat t.0 t.1) in
+        let mine = named_id own.id own.link own.attempt w own.word own.small own.few (let z = knows.low in omega (arith, z, small)) in let theirs = named_id id l n w same low few slot in
+        let one : own.id ≡ id = sym mine ∙ theirs in (are o own.id knows ∙ one, (λ z. knows.some_ (one ∙ z)))
 
     would_own : (m : Moment) → WouldOwn ids c m
     would_own m seat at o id n few slot would = let t = elem_there c.seats k.trails m.seat seat k.law.each at in
@@ -308,7 +309,7 @@ module _ (script : List Item) (made : AreMade script) (there : AreThere script) 
   opened_leads = run_leads (plan_of script) (id_plan_of script) (all_tasks script) (given core) (replicate is.setup (quiet 0)) (opened script) set_up_leads
 
   first : Has (opened script)
-  first = let n = begins_named (plan_of script) (id_plan_of script) (IsCallOf script) [] (all_programs (programs (sizes_of (plan_of script) (id_plan_of script)) (all_tasks script)) (readers_from (calls script) 0 (opens script)))
+  first = let n = begins_named (plan_of script) (id_plan_of script) (IsCallOf script) [] [] (all_programs (programs (sizes_of (plan_of script) (id_plan_of script)) (all_tasks script)) (readers_from (calls script) 0 (opens script)))
       (all_follow (IsCallOf script) (sizes_of (plan_of script) (id_plan_of script)) (all_tasks script) (asked_by script) (calls script) (opens script)) (first_views script)
       (λ i v at. (opening_claims (plan_of script) (all_seats (all_tasks script) (length (opens script))) i v at, opening_fresh (plan_of script) (all_seats (all_tasks script) (length (opens script))) i v at)) in record {
         posted = [];

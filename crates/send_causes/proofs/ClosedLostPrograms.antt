@@ -40,7 +40,7 @@ use Rattle.sock_programs.specs.Cores.{resolved, next_step}
 use Rattle.sock_runs.specs.Fits.{FitsHead, FitsRetry}
 use Rattle.sock_runs.specs.GoesOn.{GoesOn}
 use Rattle.sock_runs.specs.Sound.{first_step}
-use Rattle.send_causes.proofs.EndedTryLoops.{not_equal}
+use Rattle.label_runs.proofs.Loops.{not_equal}
 
 -- ## Where a seat stands with an attempt
 

@@ -118,7 +118,7 @@ module _ (p : Plan) (clients : List (List Task)) (are : AreTasks p clients) (c :
       entry_over i n e h = let all = (names.views i h.view h.here).1 in let one : AllByRecursion (AllByRecursion (EntryOver is_call seen es)) (h.made ∷ []) = subst (AllByRecursion (AllByRecursion (EntryOver is_call seen es))) h.lists all in
           all_in (EntryOver is_call seen es) h.made e one.0 (in_of_at h.made n e h.stands)
 
-      -- so is each message of a call that a link accepted
+      -- the at word of each message of a call that a link accepted was stored
       pub all_over : (k : ℕ) → AllByRecursion (λ (a : Accepted). IsSpoken clients a.operation → HasStored a.operation (ids a.operation) a.attempt k) (orders_of p c vs sound.lawful k).accepted
       all_over k = all_sent p c vs sound.lawful (each_made p clients are true c vs es lost sound story settled)
           (λ (a : Accepted). IsSpoken clients a.operation → HasStored a.operation (ids a.operation) a.attempt k) k
@@ -126,4 +126,14 @@ module _ (p : Plan) (clients : List (List Task)) (are : AreTasks p clients) (c :
           (λ is. λ spoken. let x = message_of p clients are true c vs es lost sound story settled i n e h is in absurd (spoken i x.task x.asks (sym (number_of p clients are true c vs es lost sound story settled i e x))))
           (λ not_. λ spoken. let f = owned i n e h not_ in subst (λ z. HasStored e.heading.operation (ids e.heading.operation) e.heading.attempt z) link
           (subst (λ z. HasStored e.heading.operation z e.heading.attempt e.link) (sym f.1) (over_made e.heading e.link (entry_over i n e h) f.0)))
+          (either_bool (is_of_send e)))
+
+      -- and over the link of a life that its name had
+      pub all_named : (k : ℕ) → AllByRecursion (λ (a : Accepted). IsSpoken clients a.operation → (asked : Asked) × is_call asked × (asked.operation ≡ a.operation) × (slot version : ℕ) × Made clients c.outcomes (name_of asked a.attempt) k slot version) (orders_of p c vs sound.lawful k).accepted
+      all_named k = all_sent p c vs sound.lawful (each_made p clients are true c vs es lost sound story settled)
+          (λ (a : Accepted). IsSpoken clients a.operation → (asked : Asked) × is_call asked × (asked.operation ≡ a.operation) × (slot version : ℕ) × Made clients c.outcomes (name_of asked a.attempt) k slot version) k
+          (λ i n e h link. ⊎_elim
+          (λ is. λ spoken. let x = message_of p clients are true c vs es lost sound story settled i n e h is in absurd (spoken i x.task x.asks (sym (number_of p clients are true c vs es lost sound story settled i e x))))
+          (λ not_. λ spoken. let o = entry_over i n e h (owned i n e h not_).0 in let life = named_life o.0 e.heading.attempt o.1 e.link o.4 o.5 in
+          (o.0, o.2, o.3, life.0, life.1, subst (λ z. Made clients c.outcomes (name_of o.0 e.heading.attempt) z life.0 life.1) link life.2))
           (either_bool (is_of_send e)))

@@ -15,8 +15,6 @@ use Rattle.sock_message.specs.Asked.{Asked}
 use Rattle.sock_programs.specs.Beside.{call_at}
 use Rattle.sock_programs.specs.Clients.{client_from, ending_of}
 use Rattle.sock_programs.specs.Cores.{Core, SeatState, resolved, next_step}
-use Rattle.sock_programs.specs.declared.task.Op.{Op}
-use Rattle.sock_programs.specs.declared.task.Op.TheVariants as ops
 use Rattle.sock_programs.specs.declared.task.Sizes.{Sizes}
 use Rattle.sock_programs.specs.declared.task.Task.{Task}
 use Rattle.sock_programs.specs.Programs.{Program, Rest}
@@ -32,12 +30,10 @@ use Rattle.sock_runs.proofs.Opening.{mapped, appended}
 use Rattle.sock_runs.proofs.Ticks.{sound_ticks}
 use Rattle.sock_runs.proofs.Whole.{Begins, AreFittingIn, closing_of, rested_of, views_played, views_closed, views_ended, set_up_answered, end_answered, set_up_sound, played_sound, closing_sound, closed_sound, rested_ahead, rested_idle}
 use Rattle.sock_causes.specs.Kept.{Story}
-use Rattle.sock_causes.specs.PlainTasks.{told_tasks_of, OwnsCall}
+use Rattle.sock_causes.specs.PlainTasks.{told_tasks_of}
 use Rattle.sock_causes.specs.Stories.{Event, In}
 use Rattle.sock_causes.proofs.Begin.{start_story}
 use Rattle.sock_causes.proofs.Final.{at_there}
-use Rattle.sock_causes.proofs.Members.{all_in, all_of}
-use Rattle.sock_causes.proofs.Messages.{in_of_at}
 use Rattle.sock_causes.proofs.Plain.{in_left, in_right, in_both}
 use Rattle.sock_causes.proofs.Openings.{are_seats, all_explained}
 use Rattle.sock_causes.proofs.Runs.{IsStoried, set_up_over, ending_story, is_ending_story}
@@ -51,28 +47,12 @@ use Rattle.send_causes.specs.Counts.{AreLabelled}
 use Rattle.send_causes.specs.EndedCalls.{Load, loaded_at, loads_of_run, Store, stored_at, stores_of_run}
 use Rattle.send_causes.proofs.Runs.{AreLabelledIn, IsCallOf, behind_ids}
 use Rattle.send_causes.proofs.Ticks.{none_asked}
+use Rattle.send_causes.proofs.AttemptedBegin.{asked_by}
 use Rattle.send_causes.proofs.EndedTrails.{Trail, lost, Follows}
 use Rattle.send_causes.proofs.EndedPrograms.{client_goes, ending_goes, reader_goes}
-use Rattle.send_causes.proofs.EndedNames.{ViewOver, NameLaw, StoredFor, for_up, lost_true, resolves, moves, name_ticks, tick_loads}
+use Rattle.send_causes.proofs.EndedNames.{NameLaw, StoredFor, for_up, lost_true, resolves, moves, name_ticks, tick_loads}
 
 -- ## How a run begins
-
--- the calls of a client's tasks are those of the script
-pub asked_by : (script : List Item) (i : ℕ) (ts : List Task) → get_elem? (all_tasks script) i ≡ some ts → AllByRecursion (λ (t : Task). OpCalls (IsCallOf script) t.op) ts
-asked_by script i ts at = all_of (λ (t : Task). OpCalls (IsCallOf script) t.op) ts of_task
-  where
-    of_task : (t : Task) → In t ts → OpCalls (IsCallOf script) t.op
-    of_task t m = of_op t.op refl
-      where
-        of_op : (o : Op) → t.op ≡ o → OpCalls (IsCallOf script) o
-        of_op (ops.Call asked) is = (i, ts, t, at, m, is, subst (OwnsCall t.number) is (all_in (λ (u : Task). OwnsCall u.number u.op) ts t (all_in (AllByRecursion (λ (u : Task). OwnsCall u.number u.op)) (all_tasks script) ts (own_from script 0 (clients script + 1)) (in_of_at (all_tasks script) i ts at)) m))
-        of_op (ops.Open n k) is = tt
-        of_op (ops.Send n bytes) is = tt
-        of_op (ops.Expire u) is = tt
-        of_op (ops.Join u) is = tt
-        of_op (ops.Hold n) is = tt
-        of_op (ops.Drop n) is = tt
-        of_op (ops.Fail n c) is = tt
 
 clients_follow : (is_call : Asked → Type 0) (sizes : Sizes) (cs : List (List Task)) → ((i : ℕ) (ts : List Task) → get_elem? cs i ≡ some ts → AllByRecursion (λ (t : Task). OpCalls is_call t.op) ts) → (i : ℕ) (x : Program) → get_elem? (programs sizes cs) i ≡ some x → Follows is_call lost x
 clients_follow is_call sizes cs asks i x e = let t = mapped (client_from sizes []) cs i x e in subst (Follows is_call lost) t.2 (client_goes is_call sizes [] t.0 (asks i t.0 t.1))

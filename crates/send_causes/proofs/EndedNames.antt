@@ -1,11 +1,11 @@
 -- Each tick keeps that the at word of an attempt tells the link of a socket that was found under its name, and that its message is over that socket.
-use Rattle.std.proofs.Common.{◌≡◌, ◌≢◌, ℕ, zero, suc, ◌+◌, ◌-◌, ◌*◌, ◌%◌, ◌<◌, ◌≤◌, ◌⊎◌, ◌==◌, inl, inr, ⊎_elim, Bool, true, false, cond, eqb, eqb-true, nat_lt, List, [], ◌∷◌, ◌++◌, length-set, get_or, set, get_or-set_other, refl, sym, ap, ◌∙◌, subst, arith}
+use Rattle.std.proofs.Common.{◌≡◌, ◌≢◌, ℕ, zero, suc, ◌+◌, ◌-◌, ◌%◌, ◌<◌, ◌≤◌, ◌⊎◌, ◌==◌, inl, inr, ⊎_elim, Bool, true, false, cond, eqb, nat_lt, List, [], ◌∷◌, ◌++◌, length-set, get_or, set, get_or-set_other, refl, sym, ap, ◌∙◌, subst, arith}
 use Rattle.std.specs.List.{AllByRecursion}
 use Rattle.std.specs.Prelude as std
 use Rattle.std.proofs.lemmas.Bool.{true≢false}
 use mathlib.Core.Logic.{dite}
 use native.Mathlib.Decide.{ℕ_discrete}
-use mathlib.Core.Option.{Option, some, none, some-injective, some-ne-none}
+use mathlib.Core.Option.{Option, some, none, some-injective}
 use lib.ListN.{get_elem?}
 use Rattle.atomic_table.proofs.Lists.{at_set, set_again}
 use Rattle.sock_words.specs.declared.plain.Plan.{Plan}
@@ -23,14 +23,12 @@ use Rattle.sock_model.specs.SlotRows.{met_link}
 use Rattle.corr_core.specs.declared.marks.Plan.{Plan as IdPlan}
 use Rattle.id_rule.specs.Lawful as ids
 use Rattle.id_runs.specs.Held.{IdView, MayId}
-use Rattle.id_runs.specs.Goes.{FitsRetryId, FitsSock, FindsId, IdGoesOn, SoundIds, FitsFirst, IsFittingIds}
+use Rattle.id_runs.specs.Goes.{FitsRetryId, FitsSock, IdGoesOn, SoundIds, IsFittingIds}
 use Rattle.id_runs.specs.Goes as goes
 use Rattle.id_runs.proofs.Steps.{finds_ids}
-use Rattle.id_runs.proofs.Loops.{ids_round}
-use Rattle.id_runs.proofs.Programs as id_programs
 use Rattle.sock_programs.specs.Asides.{Step, Found, ClaimId, PutCall, MakeId, StoreCall, LoadCall, StoreAt, LoadAt, LoadIdWord, LockId, PostId, UnlockId, EndId, FreeId, TakeCall, TakeBytes, Taking, Bytes, Nothing, NoMore, AtEnd, Closed, Broken, id_slot, id_first}
 use Rattle.sock_message.specs.Asked.{Asked, name_of}
-use Rattle.sock_programs.specs.Beside.{found_in, calls_after, call_at, more_given}
+use Rattle.sock_programs.specs.Beside.{found_in, calls_after, more_given}
 use Rattle.sock_programs.specs.Calls.{Call, StoreName, LoadName, FindLink, ClaimRequest, PutMessage, Unconnect, SwapHead}
 use Rattle.sock_programs.specs.Heads.{Retry}
 use Rattle.sock_programs.specs.Programs.{Program, Do, Say, Sent, Rest, TakeMessage, TakeHome, PutHome, PutBytes, AskReady, Write, Aside, Round, Keep, Retries}
@@ -52,7 +50,7 @@ use Rattle.sock_causes.proofs.Ticks.{elem_there}
 use Rattle.label_runs.specs.Labels.{FindsLabel}
 use Rattle.send_causes.specs.EndedCalls.{Load, loads_by, loaded_with, loaded_at, Store, stores_by, stored_at}
 use Rattle.send_causes.proofs.Words.{finds_label, makes_new}
-use Rattle.send_causes.proofs.Ticks.{AreCalls, none_asked, calls_waiting}
+use Rattle.send_causes.proofs.Ticks.{AreTries, few_more, few_of, AreCalls, PutsCall, calls_behind, calls_waiting, ids_first, fits_as}
 use Rattle.send_causes.proofs.Views.{row_same}
 use Rattle.send_causes.proofs.EndedTrails.{Of, NoCall, Makes, Knows, Trail, lost, Stays, IsOwnStore, MayAttempt, GoesDo, GoesAside, Follows}
 use Rattle.send_causes.proofs.EndedLoops.{follows_round}
@@ -75,74 +73,6 @@ follows_first is_call t (AskReady k next) g = g
 follows_first is_call t (Aside step next) g = g
 follows_first is_call t (Keep r next) g = g
 follows_first is_call t (Retries requests after) g = g
-
-pub ids_first : (p : Plan) (q : IdPlan) → q.slots ≤ 65536 → (u : IdView) (program : Program) → IdGoesOn p q u program → IdGoesOn p q u (first_step program)
-ids_first p q narrow u (Write w after) g = id_programs.block_goes p q narrow u w after g
-ids_first p q narrow u (Round head next) g = ids_round p q u head next g
-ids_first p q narrow u (Do call next) g = g
-ids_first p q narrow u (Say o outcome next) g = g
-ids_first p q narrow u (Sent o next) g = g
-ids_first p q narrow u Rest g = g
-ids_first p q narrow u (TakeMessage r next) g = g
-ids_first p q narrow u (TakeHome k next) g = g
-ids_first p q narrow u (PutHome k n after) g = g
-ids_first p q narrow u (PutBytes k asked bytes next) g = g
-ids_first p q narrow u (AskReady k next) g = g
-ids_first p q narrow u (Aside step next) g = g
-ids_first p q narrow u (Keep r next) g = g
-ids_first p q narrow u (Retries requests after) g = g
-
--- what is found of a step on the sockets
-pub fits_as : (p : Plan) (c : Core) (program : Program) (call : Call) (next : ℕ → Program) → first_step program ≡ Do call next → FitsFirst p c (goes.first_of program) → FitsSock call (found_at c.words (word_of p call))
-fits_as p c program call next e f = by program e f
-  where
-    by : (program : Program) → first_step program ≡ Do call next → FitsFirst p c (goes.first_of program) → FitsSock call (found_at c.words (word_of p call))
-    by (Write w after) e f = subst (FitsFirst p c) e f
-    by (Round head k) e f = subst (FitsFirst p c) e f
-    by (Do d k) e f = subst (FitsFirst p c) e f
-    by (Say o outcome k) e f = subst (FitsFirst p c) e f
-    by (Sent o k) e f = subst (FitsFirst p c) e f
-    by Rest e f = subst (FitsFirst p c) e f
-    by (TakeMessage q k) e f = subst (FitsFirst p c) e f
-    by (TakeHome l k) e f = subst (FitsFirst p c) e f
-    by (PutHome l n k) e f = subst (FitsFirst p c) e f
-    by (PutBytes l a b k) e f = subst (FitsFirst p c) e f
-    by (AskReady l k) e f = subst (FitsFirst p c) e f
-    by (Aside s k) e f = subst (FitsFirst p c) e f
-    by (Keep r k) e f = subst (FitsFirst p c) e f
-    by (Retries n k) e f = subst (FitsFirst p c) e f
-
--- ## Calls at home
-
-abbrev pub PutsCall : (Asked → Type 0) → Step → Type 0
-PutsCall is_call (PutCall i asked) = is_call asked
-PutsCall is_call other = Unit {0}
-
-home_is : (x : Option (Option (std.Option Asked))) (asked : Asked) → call_at x ≡ some asked → x ≡ some (some (std.Some asked))
-home_is none asked e = absurd (some-ne-none asked (sym e))
-home_is (some none) asked e = absurd (some-ne-none asked (sym e))
-home_is (some (some std.None)) asked e = absurd (some-ne-none asked (sym e))
-home_is (some (some (std.Some a))) asked e = ap (λ (z : Asked). some (some (std.Some z))) (some-injective a asked e)
-
-one_asked : (a b : Asked) → some (std.Some a) ≡ some (std.Some b) → a ≡ b
-one_asked a b e = cc
-
-no_asked : (a : Asked) → some none_asked ≡ some (std.Some a) → ⊥
-no_asked a e = cc
-
-calls_given : (is_call : Asked → Type 0) (k : ℕ) (t : Taking) (a : Calls) → AreCalls is_call a → AreCalls is_call (more_given k t a)
-calls_given is_call k (Bytes bytes) a h = h
-calls_given is_call k _ a h = h
-
-pub calls_behind : (is_call : Asked → Type 0) (x : Step) (found : Found x) (a : Calls) → PutsCall is_call x → AreCalls is_call a → AreCalls is_call (calls_after x found a)
-calls_behind is_call (PutCall i asked) found a puts h = λ n other at. ⊎_elim
-    (λ r. subst is_call (one_asked asked other r.1) puts) (λ r. h n other (ap call_at r.1))
-    (at_set a.homes i n (some (std.Some asked)) (some (std.Some other)) (home_is (get_elem? (set a.homes i (some (std.Some asked))) n) other at))
-calls_behind is_call (TakeCall i) found a puts h = λ n other at. ⊎_elim
-    (λ r. absurd (no_asked other r.1)) (λ r. h n other (ap call_at r.1))
-    (at_set a.homes i n (some std.None) (some (std.Some other)) (home_is (get_elem? (set a.homes i (some std.None)) n) other at))
-calls_behind is_call (TakeBytes k room) found a puts h = calls_given is_call k found a h
-calls_behind is_call _ found a puts h = h
 
 -- ## What is known of names and links
 
@@ -337,16 +267,8 @@ module _ (is_call : Asked → Type 0) (seen : List Store) (es fs : List Event) (
 
 -- ## A tick
 
-few_more : (ws : List Retry) (r : Retry) → AllByRecursion (λ (x : Retry). x.attempt ≤ 6) ws → r.attempt ≤ 6 → AllByRecursion (λ (x : Retry). x.attempt ≤ 6) (ws ++ r ∷ [])
-few_more [] r all one = (one, tt)
-few_more (w ∷ ws) r all one = (all.0, few_more ws r all.1 one)
-
-pub few_of : (q : IdPlan) (ws : List Retry) → AllByRecursion (FitsRetryId q) ws → AllByRecursion (λ (x : Retry). x.attempt ≤ 6) ws
-few_of q [] all = tt
-few_of q (w ∷ ws) all = (all.0.1, few_of q ws all.1)
-
 -- what follows once all is said
-pub resolves : (is_call : Asked → Type 0) (t : Trail) (ws : List Retry) (x : Program) → AllByRecursion (λ (r : Retry). r.attempt ≤ 6) ws → Follows is_call t x → (u : Trail) × Stays t u × Follows is_call u (next_step (resolved ws x))
+pub resolves : (is_call : Asked → Type 0) (t : Trail) (ws : List Retry) (x : Program) → AreTries ws → Follows is_call t x → (u : Trail) × Stays t u × Follows is_call u (next_step (resolved ws x))
 resolves is_call t ws (Say o outcome next) few g = resolves is_call t ws next few g
 resolves is_call t ws (Sent o next) few g = resolves is_call t ws next few g
 resolves is_call t ws (Keep k next) few g = let r = resolves is_call lost (ws ++ k ∷ []) next (few_more ws k few g.0) g.1 in (r.0, ⊎_elim (λ e. inr e) (λ e. inr e) r.1, r.2)

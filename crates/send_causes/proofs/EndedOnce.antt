@@ -32,8 +32,8 @@ use Rattle.sock_causes.proofs.Members.{contains_in}
 use Rattle.sock_causes.proofs.Plain.{in_left, in_right, in_both}
 use Rattle.sock_causes.proofs.Ticks.{elem_there}
 use Rattle.joint_runs.proofs.Runs.{AreMade, first_views}
-use Rattle.label_runs.specs.Labels.{Trial, Idle}
-use Rattle.label_runs.proofs.Programs.{OpCalls}
+use Rattle.label_runs.specs.Labels.{Trial, Idle, Labels}
+use Rattle.label_runs.proofs.Programs.{OpCalls, client_goes, ending_goes, reader_goes}
 use Rattle.owed_calls.specs.Lives.{ClosesInRun}
 use Rattle.call_causes.specs.Lists.{shows_in}
 use Rattle.send_causes.specs.Counts.{of_retry, AreLabelled}
@@ -42,28 +42,26 @@ use Rattle.send_causes.proofs.Early.{start, go, fitting}
 use Rattle.send_causes.proofs.Runs.{AreLabelledIn, IsCallOf, behind_ids}
 use Rattle.send_causes.proofs.Sends.{narrow}
 use Rattle.send_causes.proofs.Ticks.{none_asked}
-use Rattle.send_causes.proofs.EndedNamed.{asked_by}
-use Rattle.send_causes.proofs.EndedTrials.{Stows}
-use Rattle.send_causes.proofs.EndedTryPrograms.{client_goes, ending_goes, reader_goes}
+use Rattle.send_causes.proofs.AttemptedBegin.{asked_by}
 use Rattle.send_causes.proofs.EndedTryTicks.{of_try, OnceLaw, moves, once_ticks}
 use Rattle.send_causes.proofs.EndedWhole.{seats_played}
 
 -- ## How a run begins
 
-clients_stow : (is_call : Asked → Type 0) (sizes : Sizes) (cs : List (List Task)) → ((i : ℕ) (ts : List Task) → get_elem? cs i ≡ some ts → AllByRecursion (λ (t : Task). OpCalls is_call t.op) ts) → (i : ℕ) (x : Program) → get_elem? (programs sizes cs) i ≡ some x → Stows is_call Idle x
-clients_stow is_call sizes cs asks i x e = let t = mapped (client_from sizes []) cs i x e in subst (Stows is_call Idle) t.2 (client_goes is_call sizes [] t.0 (asks i t.0 t.1))
+clients_stow : (is_call : Asked → Type 0) (sizes : Sizes) (cs : List (List Task)) → ((i : ℕ) (ts : List Task) → get_elem? cs i ≡ some ts → AllByRecursion (λ (t : Task). OpCalls is_call t.op) ts) → (i : ℕ) (x : Program) → get_elem? (programs sizes cs) i ≡ some x → Labels is_call Idle x
+clients_stow is_call sizes cs asks i x e = let t = mapped (client_from sizes []) cs i x e in subst (Labels is_call Idle) t.2 (client_goes is_call sizes [] t.0 (asks i t.0 t.1))
 
-readers_stow : (is_call : Asked → Type 0) (calls os : List ℕ) (k i : ℕ) (x : Program) → get_elem? (readers_from calls k os) i ≡ some x → Stows is_call Idle x
+readers_stow : (is_call : Asked → Type 0) (calls os : List ℕ) (k i : ℕ) (x : Program) → get_elem? (readers_from calls k os) i ≡ some x → Labels is_call Idle x
 readers_stow is_call calls [] k i x at = absurd (some-ne-none x (sym at))
-readers_stow is_call calls (o ∷ os) k zero x at = subst (Stows is_call Idle) (some-injective (reader calls k o) x at) (reader_goes is_call calls k o)
+readers_stow is_call calls (o ∷ os) k zero x at = subst (Labels is_call Idle) (some-injective (reader calls k o) x at) (reader_goes is_call calls k o)
 readers_stow is_call calls (o ∷ os) k (suc i) x at = readers_stow is_call calls os (k + 1) i x at
 
-others_stow : (is_call : Asked → Type 0) (n : ℕ) (calls os : List ℕ) (k i : ℕ) (x : Program) → get_elem? (replicate n Rest ++ readers_from calls k os) i ≡ some x → Stows is_call Idle x
+others_stow : (is_call : Asked → Type 0) (n : ℕ) (calls os : List ℕ) (k i : ℕ) (x : Program) → get_elem? (replicate n Rest ++ readers_from calls k os) i ≡ some x → Labels is_call Idle x
 others_stow is_call zero calls os k i x at = readers_stow is_call calls os k i x at
-others_stow is_call (suc n) calls os k zero x at = subst (Stows is_call Idle) (some-injective Rest x at) tt
+others_stow is_call (suc n) calls os k zero x at = subst (Labels is_call Idle) (some-injective Rest x at) tt
 others_stow is_call (suc n) calls os k (suc i) x at = others_stow is_call n calls os k i x at
 
-all_stow : (is_call : Asked → Type 0) (sizes : Sizes) (cs : List (List Task)) → ((i : ℕ) (ts : List Task) → get_elem? cs i ≡ some ts → AllByRecursion (λ (t : Task). OpCalls is_call t.op) ts) → (calls os : List ℕ) (i : ℕ) (x : Program) → get_elem? (all_programs (programs sizes cs) (readers_from calls 0 os)) i ≡ some x → Stows is_call Idle x
+all_stow : (is_call : Asked → Type 0) (sizes : Sizes) (cs : List (List Task)) → ((i : ℕ) (ts : List Task) → get_elem? cs i ≡ some ts → AllByRecursion (λ (t : Task). OpCalls is_call t.op) ts) → (calls os : List ℕ) (i : ℕ) (x : Program) → get_elem? (all_programs (programs sizes cs) (readers_from calls 0 os)) i ≡ some x → Labels is_call Idle x
 all_stow is_call sizes cs asks calls os i x e = ⊎_elim (λ a. clients_stow is_call sizes cs asks i x a) (λ b. others_stow is_call (32 - length (programs sizes cs)) calls os 0 b.0 x b.1) (appended (programs sizes cs) (replicate (32 - length (programs sizes cs)) Rest ++ readers_from calls 0 os) i x e)
 
 none_home : (n k : ℕ) (asked : Asked) → call_at (get_elem? (replicate n (some none_asked)) k) ≡ some asked → ⊥
@@ -79,7 +77,7 @@ none_try : (id n : ℕ) (xs : List Program) → total (of_try id n) (map (λ (x 
 none_try id n [] = refl
 none_try id n (x ∷ xs) = let r = none_try id n xs in omega (arith, r)
 
-idle_stays : (is_call : Asked → Type 0) (x : Program) → Stows is_call Idle x → Stows is_call Idle (next_step (resolved [] x))
+idle_stays : (is_call : Asked → Type 0) (x : Program) → Labels is_call Idle x → Labels is_call Idle (next_step (resolved [] x))
 idle_stays is_call (Say o outcome next) g = idle_stays is_call next g
 idle_stays is_call (Sent o next) g = idle_stays is_call next g
 idle_stays is_call (Keep r next) g = absurd (let e = g.0 in cc)
@@ -96,14 +94,14 @@ idle_stays is_call (Aside step next) g = g
 idle_stays is_call (Round head next) g = g
 
 module _ (p : Plan) (q : IdPlan) (narrow : q.slots ≤ 65536) (is_call : Asked → Type 0) (ids : ℕ → ℕ) where
-  begins_once : (xs : List Program) → ((i : ℕ) (x : Program) → get_elem? xs i ≡ some x → Stows is_call Idle x) → OnceLaw is_call ids q [] (beginning p q xs) (map (λ (x : Program). Idle) xs)
+  begins_once : (xs : List Program) → ((i : ℕ) (x : Program) → get_elem? xs i ≡ some x → Labels is_call Idle x) → OnceLaw is_call ids q [] (beginning p q xs) (map (λ (x : Program). Idle) xs)
   begins_once xs goes = record {
     once = λ id n. (let a = none_try id n xs in let b = none_wait id n q.seats in omega (arith, a, b));
     made = λ id n some_. absurd (let a = none_try id n xs in let b = none_wait id n q.seats in omega (arith, a, b, some_));
     calls = λ k asked e. absurd (none_home q.slots k asked e);
     each = length-map xs (λ (x : Program). Idle) ∙ sym (length-map xs (λ (x : Program). record { program = next_step (resolved [] x); hand = [] }));
     programs = λ j seat t es et. let x = mapped (λ (x : Program). record { program = next_step (resolved [] x); hand = [] }) xs j seat es in
-        subst (λ (s : SeatState). Stows is_call t s.program) x.2 (subst (λ y. Stows is_call y (next_step (resolved [] x.0))) (mapped (λ (x : Program). Idle) xs j t et).2 (idle_stays is_call x.0 (goes j x.0 x.1)));
+        subst (λ (s : SeatState). Labels is_call t s.program) x.2 (subst (λ y. Labels is_call y (next_step (resolved [] x.0))) (mapped (λ (x : Program). Idle) xs j t et).2 (idle_stays is_call x.0 (goes j x.0 x.1)));
     gone = λ x there. absurd there;
     single = λ x y there. absurd there;
   }

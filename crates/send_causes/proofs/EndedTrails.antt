@@ -55,9 +55,9 @@ GoesDo t call found u = Stays t u
 -- ## Steps aside
 
 -- the next step stores the word of the call that has the id
-abbrev pub IsStoring : ℕ → Program → Type 0
-IsStoring id (Aside (StoreCall o x) next) = x ≡ id
-IsStoring id other = ⊥
+abbrev pub StoresNext : ℕ → Program → Type 0
+StoresNext id (Aside (StoreCall o x) next) = x ≡ id
+StoresNext id other = ⊥
 
 -- the call that was put back is that of the word whose lock is given back next
 abbrev pub PutsBack : ℕ → Asked → Program → Trail → Type 0
@@ -82,7 +82,7 @@ module _ (is_call : Asked → Type 0) where
     pub few : attempt ≤ 6
 
   abbrev pub GoesAside : Trail → (step : Step) → Program → Found step → Trail → Type 0
-  GoesAside t (MakeId i range) after found u = (u ≡ record { name = t.name; claimed = t.claimed; of = Makes (call_id i (parts found).first); linked = t.linked; stored = t.stored }) × IsStoring (call_id i (parts found).first) after
+  GoesAside t (MakeId i range) after found u = (u ≡ record { name = t.name; claimed = t.claimed; of = Makes (call_id i (parts found).first); linked = t.linked; stored = t.stored }) × StoresNext (call_id i (parts found).first) after
   GoesAside t (StoreCall o id) after found u = (u ≡ lost) ⊎ ((t.of ≡ Makes id) × (u ≡ record { name = t.name; claimed = t.claimed; of = Knows o id; linked = t.linked; stored = t.stored }))
   GoesAside t (StoreAt o w) after found u = ((u ≡ lost) ⊎ (u ≡ with_stored o w t)) × IsOwnStore t o w
   GoesAside t (PutCall i asked) after found u = (Stays t u ⊎ PutsBack i asked after u) × is_call asked

@@ -1,5 +1,5 @@
 -- Each tick keeps that no attempt has two at words.
-use Rattle.std.proofs.Common.{◌≡◌, ◌≢◌, ℕ, zero, suc, ◌+◌, ◌<◌, ◌≤◌, ◌⊎◌, inl, inr, ⊎_elim, Bool, true, false, cond, eqb, eqb-true, eq-eqb, List, [], ◌∷◌, ◌++◌, length-set, get_or, set, refl, sym, ap, ◌∙◌, subst, arith}
+use Rattle.std.proofs.Common.{◌≡◌, ◌≢◌, ℕ, ◌+◌, ◌<◌, ◌≤◌, ◌⊎◌, inl, inr, ⊎_elim, Bool, true, false, cond, eqb, eqb-true, eq-eqb, List, [], ◌∷◌, ◌++◌, length-set, set, refl, sym, ap, ◌∙◌, subst, arith}
 use Rattle.std.specs.List.{AllByRecursion}
 use Rattle.std.specs.Prelude as std
 use mathlib.Core.Logic.{dite}
@@ -16,7 +16,7 @@ use Rattle.slot_laws.proofs.Sums.{term_le, total-append, total-set}
 use Rattle.corr_core.specs.Word.{parts}
 use Rattle.corr_core.specs.declared.marks.Plan.{Plan as IdPlan}
 use Rattle.id_runs.specs.Held.{IdView, MayId}
-use Rattle.id_runs.specs.Goes.{FitsSock, FindsId, IdGoesOn, SoundIds, IsFittingIds}
+use Rattle.id_runs.specs.Goes.{FindsId, IdGoesOn, SoundIds, IsFittingIds}
 use Rattle.id_runs.proofs.Steps.{finds_ids}
 use Rattle.sock_programs.specs.Asides.{Step, Found, ClaimId, PutCall, MakeId, StoreCall, LoadCall, StoreAt, LoadAt, LoadIdWord, LockId, PostId, UnlockId, EndId, FreeId, TakeCall, TakeBytes, Taking, call_id, id_slot, id_first}
 use Rattle.sock_message.specs.Asked.{Asked}
@@ -30,16 +30,14 @@ use Rattle.sock_runs.specs.Sound.{Sound, first_step}
 use Rattle.sock_causes.specs.Stories.{In}
 use Rattle.sock_causes.proofs.Cases.{tick_cases}
 use Rattle.sock_causes.proofs.Ticks.{elem_there}
-use Rattle.label_runs.specs.Labels.{Trial, Idle, Tries, put_behind, Kept, unlocked_trial}
+use Rattle.label_runs.specs.Labels.{Trial, Idle, Tries, put_behind, Kept, Storing, unlocked_trial, Labels}
 use Rattle.send_causes.specs.Counts.{pair_of, of_retry, WasMade, WasNow, StoresOwn}
 use Rattle.send_causes.specs.EndedCalls.{Store, stores_by, stored_at}
 use Rattle.send_causes.proofs.Words.{made_on, finds_label, words_forward, makes_new, advances_new}
 use Rattle.send_causes.proofs.Readings.{ticks_first}
-use Rattle.send_causes.proofs.Ticks.{AreCalls, calls_waiting, pair_one, pair_same}
-use Rattle.send_causes.proofs.EndedNames.{ids_first, fits_as, PutsCall, calls_behind, few_of}
-use Rattle.send_causes.proofs.EndedTrials.{Stows, Stowing}
-use Rattle.send_causes.proofs.EndedTryLoops.{stows_round}
-use Rattle.send_causes.proofs.EndedTryPrograms.{block_goes, retry_goes}
+use Rattle.send_causes.proofs.Ticks.{AreTries, few_more, few_of, AreCalls, PutsCall, calls_behind, calls_waiting, ids_first, fits_as, pair_one, pair_same, waits_set}
+use Rattle.label_runs.proofs.Loops.{labels_round}
+use Rattle.label_runs.proofs.Programs.{block_goes, retry_goes}
 
 -- ## Attempts that are tried
 
@@ -69,16 +67,11 @@ module _ (is_call : Asked → Type 0) (ids : ℕ → ℕ) (q : IdPlan) where
     pub made : (id n : ℕ) → 0 < tries_of id n c ts → WasMade q c.calls.words id n
     pub calls : AreCalls is_call c.calls
     pub each : std.length ts ≡ std.length c.seats
-    pub programs : (j : ℕ) (seat : SeatState) (t : Trial) → get_elem? c.seats j ≡ some seat → get_elem? ts j ≡ some t → Stows is_call t seat.program
+    pub programs : (j : ℕ) (seat : SeatState) (t : Trial) → get_elem? c.seats j ≡ some seat → get_elem? ts j ≡ some t → Labels is_call t seat.program
     pub gone : (x : Store) → In x done → IsGone c ts x
     pub single : (x y : Store) → In x done → In y done → x.operation ≡ y.operation → at_word_attempt x.word ≡ at_word_attempt y.word → x.word ≡ y.word
 
 -- ## Sums
-
-waits_set : {A : Type 0} (f : List A → ℕ) → f [] ≡ 0 → (ws : List (List A)) (i : ℕ) (x : List A) → total f (set ws i x) + f (get_or ws i []) ≤ total f ws + f x
-waits_set f none_ [] i x = omega (arith, none_)
-waits_set f none_ (w ∷ ws) zero x = omega arith
-waits_set f none_ (w ∷ ws) (suc i) x = let r = waits_set f none_ ws i x in omega (arith, r)
 
 pair_self : (id n : ℕ) → pair_of id n id n ≡ 1
 pair_self id n = ap (λ b. cond b (cond (eqb n n) 1 0) 0) (eq-eqb id id refl) ∙ ap (λ b. cond b 1 0) (eq-eqb n n refl)
@@ -88,22 +81,15 @@ word_attempt f s k n first slot link few = omega (arith, first, slot, link, few)
 
 -- ## Retries that are kept and taken up
 
-abbrev AreFew : List Retry → Type 0
-AreFew ws = AllByRecursion (λ (r : Retry). r.attempt ≤ 6) ws
-
-few_more : (ws : List Retry) (r : Retry) → AreFew ws → r.attempt ≤ 6 → AreFew (ws ++ r ∷ [])
-few_more [] r all one = (one, tt)
-few_more (w ∷ ws) r all one = (all.0, few_more ws r all.1 one)
-
 record Resolved (is_call : Asked → Type 0) (t : Trial) (ws : List Retry) (x : Program) : Type 0 where
   pub trial : Trial
-  pub stows : Stows is_call trial (next_step (resolved ws x))
+  pub stows : Labels is_call trial (next_step (resolved ws x))
   pub fewer : (id n : ℕ) → of_try id n trial + total (of_retry id n) (still_waiting ws x) ≤ of_try id n t + total (of_retry id n) ws
 
-stays : (is_call : Asked → Type 0) (t : Trial) (ws : List Retry) (x : Program) → Stows is_call t (next_step (resolved ws x)) → still_waiting ws x ≡ ws → Resolved is_call t ws x
+stays : (is_call : Asked → Type 0) (t : Trial) (ws : List Retry) (x : Program) → Labels is_call t (next_step (resolved ws x)) → still_waiting ws x ≡ ws → Resolved is_call t ws x
 stays is_call t ws x g e = record { trial = t; stows = g; fewer = λ id n. (let z : total (of_retry id n) (still_waiting ws x) ≡ total (of_retry id n) ws = ap (total (of_retry id n)) e in omega (arith, z)) }
 
-resolves : (is_call : Asked → Type 0) (t : Trial) (ws : List Retry) (x : Program) → AreFew ws → Stows is_call t x → Resolved is_call t ws x
+resolves : (is_call : Asked → Type 0) (t : Trial) (ws : List Retry) (x : Program) → AreTries ws → Labels is_call t x → Resolved is_call t ws x
 resolves is_call t ws (Say o outcome next) few g = let r = resolves is_call t ws next few g in record { trial = r.trial; stows = r.stows; fewer = r.fewer }
 resolves is_call t ws (Sent o next) few g = let r = resolves is_call t ws next few g in record { trial = r.trial; stows = r.stows; fewer = r.fewer }
 resolves is_call t ws (Keep k next) few g = let r = resolves is_call Idle (ws ++ k ∷ []) next (few_more ws k few g.1) g.2 in record {
@@ -124,9 +110,9 @@ resolves is_call t ws (Write w after) few g = stays is_call t ws (Write w after)
 resolves is_call t ws (Aside step next) few g = stays is_call t ws (Aside step next) g refl
 resolves is_call t ws (Round head next) few g = stays is_call t ws (Round head next) g refl
 
-stows_first : (is_call : Asked → Type 0) (t : Trial) (program : Program) → Stows is_call t program → Stows is_call t (first_step program)
+stows_first : (is_call : Asked → Type 0) (t : Trial) (program : Program) → Labels is_call t program → Labels is_call t (first_step program)
 stows_first is_call t (Write w after) g = block_goes is_call t w after g
-stows_first is_call t (Round head next) g = stows_round is_call t head next g
+stows_first is_call t (Round head next) g = labels_round is_call t head next g
 stows_first is_call t (Do call next) g = g
 stows_first is_call t (Say o outcome next) g = g
 stows_first is_call t (Sent o next) g = g
@@ -154,7 +140,7 @@ module _ (p : Plan) (q : IdPlan) (narrow : q.slots ≤ 65536) (is_call : Asked �
   module _ (i : ℕ) (seat : SeatState) (t : Trial) (at_seat : get_elem? c.seats i ≡ some seat) (at_trial : get_elem? ts i ≡ some t) where
     -- the seat goes on with this program and trial; these attempts are made by the step
     record Goes (a : Calls) (x : Program) (u : Trial) : Type 0 where
-      pub stows : Stows is_call u x
+      pub stows : Labels is_call u x
       pub kept : a.waiting ≡ c.calls.waiting
       pub words : (id n : ℕ) → WasMade q c.calls.words id n → WasMade q a.words id n
       pub calls : AreCalls is_call a
@@ -169,7 +155,7 @@ module _ (p : Plan) (q : IdPlan) (narrow : q.slots ≤ 65536) (is_call : Asked �
       pub bound : (id n : ℕ) → tries_of id n d trials + of_try id n t ≤ tries_of id n c ts + of_try id n u
 
     module _ (a : Calls) (x : Program) (hand : List Home) (ws : List ℕ) (hs : List (Option Home)) (u : Trial) (g : Goes a x u) where
-      few : AreFew (waiting_at a.waiting i)
+      few : AreTries (waiting_at a.waiting i)
       few = few_of q (waiting_at a.waiting i) (subst (λ (l : List (List Retry)). AllByRecursion (Rattle.id_runs.specs.Goes.FitsRetryId q) (waiting_at l i)) (sym g.kept) (real_ids.waiting i))
 
       abbrev r : Resolved is_call u (waiting_at a.waiting i) x
@@ -210,7 +196,7 @@ module _ (p : Plan) (q : IdPlan) (narrow : q.slots ≤ 65536) (is_call : Asked �
           calls = g.calls;
           each = length-set ts i r.trial ∙ (law.each ∙ sym (length-set c.seats i next_seat));
           programs = λ j s' y es et. ⊎_elim
-              (λ b. ⊎_elim (λ d. subst (λ (z : SeatState). Stows is_call y z.program) b.1 (subst (λ z. Stows is_call z next_seat.program) d.1 r.stows)) (λ d. absurd (d.0 b.0)) (at_set ts i j r.trial y et))
+              (λ b. ⊎_elim (λ d. subst (λ (z : SeatState). Labels is_call y z.program) b.1 (subst (λ z. Labels is_call z next_seat.program) d.1 r.stows)) (λ d. absurd (d.0 b.0)) (at_set ts i j r.trial y et))
               (λ b. ⊎_elim (λ d. absurd (b.0 d.0)) (λ d. law.programs j s' y b.1 d.1) (at_set ts i j r.trial y et)) (at_set c.seats i j next_seat s' es);
           gone = λ y there. still_gone y (law.gone y there);
           single = law.single;
@@ -222,7 +208,7 @@ module _ (p : Plan) (q : IdPlan) (narrow : q.slots ≤ 65536) (is_call : Asked �
     none_new id n = 0
 
     -- a step that leaves the table of the ids, behind which the seat tries no more
-    leaves : (x : Program) (hand : List Home) (ws : List ℕ) (hs : List (Option Home)) (u : Trial) → ((id n : ℕ) → of_try id n u ≤ of_try id n t) → Stows is_call u x → After (with_seat i x hand ws hs (record c { calls = c.calls })) u none_new
+    leaves : (x : Program) (hand : List Home) (ws : List ℕ) (hs : List (Option Home)) (u : Trial) → ((id n : ℕ) → of_try id n u ≤ of_try id n t) → Labels is_call u x → After (with_seat i x hand ws hs (record c { calls = c.calls })) u none_new
     leaves x hand ws hs u fewer g = goes_on c.calls x hand ws hs u record {
       stows = g;
       kept = refl;
@@ -233,7 +219,7 @@ module _ (p : Plan) (q : IdPlan) (narrow : q.slots ≤ 65536) (is_call : Asked �
       fresh = λ id n z. absurd (omega (arith, z));
     }
 
-    pub moves : (x : Program) (hand : List Home) (hs : List (Option Home)) → Stows is_call Idle x → After (with_seat i x hand c.words hs (record c { calls = c.calls })) Idle none_new
+    pub moves : (x : Program) (hand : List Home) (hs : List (Option Home)) → Labels is_call Idle x → After (with_seat i x hand c.words hs (record c { calls = c.calls })) Idle none_new
     moves x hand hs g = leaves x hand c.words hs Idle (λ id n. omega arith) g
 
     module _ (u : IdView) (at : get_elem? us i ≡ some u) (step : Step) (next : Found step → Program) (found : Found step) (answer : Option Taking) (is : found_in step c.calls answer ≡ some found) (may : MayId p q u step) (puts : PutsCall is_call step) where
@@ -244,7 +230,7 @@ module _ (p : Plan) (q : IdPlan) (narrow : q.slots ≤ 65536) (is_call : Asked �
       words_on = made_on q c.calls.words (calls_after step found c.calls).words (words_forward p q c us real_ids i u at step answer found is may finds)
 
       -- the attempt of the seat stays, or is given up
-      aside : (w : Trial) → Stows is_call w (next found) → ((id n : ℕ) → of_try id n w ≤ of_try id n t) → After (with_seat i (next found) seat.hand c.words c.homes (record c { calls = calls_after step found c.calls })) w none_new
+      aside : (w : Trial) → Labels is_call w (next found) → ((id n : ℕ) → of_try id n w ≤ of_try id n t) → After (with_seat i (next found) seat.hand c.words c.homes (record c { calls = calls_after step found c.calls })) w none_new
       aside w g fewer = goes_on (calls_after step found c.calls) (next found) seat.hand c.words c.homes w record {
         stows = g;
         kept = calls_waiting step found c.calls;
@@ -256,7 +242,7 @@ module _ (p : Plan) (q : IdPlan) (narrow : q.slots ≤ 65536) (is_call : Asked �
       }
 
       -- a new attempt
-      makes : (id₀ n₀ : ℕ) → Stows is_call (Tries id₀ n₀) (next found) → WasNow q (calls_after step found c.calls).words id₀ n₀ → (WasMade q c.calls.words id₀ n₀ → ⊥) → After (with_seat i (next found) seat.hand c.words c.homes (record c { calls = calls_after step found c.calls })) (Tries id₀ n₀) (λ id n. pair_of id n id₀ n₀)
+      makes : (id₀ n₀ : ℕ) → Labels is_call (Tries id₀ n₀) (next found) → WasNow q (calls_after step found c.calls).words id₀ n₀ → (WasMade q c.calls.words id₀ n₀ → ⊥) → After (with_seat i (next found) seat.hand c.words c.homes (record c { calls = calls_after step found c.calls })) (Tries id₀ n₀) (λ id n. pair_of id n id₀ n₀)
       makes id₀ n₀ g made unmade = goes_on (calls_after step found c.calls) (next found) seat.hand c.words c.homes (Tries id₀ n₀) record {
         stows = g;
         kept = calls_waiting step found c.calls;
@@ -281,7 +267,7 @@ module _ (p : Plan) (q : IdPlan) (narrow : q.slots ≤ 65536) (is_call : Asked �
       tried id n e = let here : of_try id n t ≡ 1 = ap (of_try id n) e ∙ pair_self id n in let some_ = term_le (of_try id n) ts i t at_trial in omega (arith, here, some_)
 
       module _ (o w : ℕ) (next : ℕ → Program) (found : ℕ) (answer : Option Taking) (is : found_in (StoreAt o w) c.calls answer ≡ some found) (may : MayId p q u (StoreAt o w))
-          (own : (id n k : ℕ) → w ≡ at_word (id_first id) (id_slot id) k n → k < 65535 → n ≤ 6 → id_slot id < 65536 → (ids o ≡ id) × (id ≢ 0)) (x : Trial) (s : Stowing o w t x) (g : Stows is_call x (next found)) where
+          (own : (id n k : ℕ) → w ≡ at_word (id_first id) (id_slot id) k n → k < 65535 → n ≤ 6 → id_slot id < 65536 → (ids o ≡ id) × (id ≢ 0)) (x : Trial) (s : Storing o w t x) (g : Labels is_call x (next found)) where
         abbrev d : Core
         d = with_seat i (next found) seat.hand c.words c.homes (record c { calls = calls_after (StoreAt o w) found c.calls })
 
@@ -340,19 +326,19 @@ module _ (p : Plan) (q : IdPlan) (narrow : q.slots ≤ 65536) (is_call : Asked �
         )
 
       -- each step aside
-      asides : (step : Step) (next : Found step → Program) (found : Found step) (answer : Option Taking) → found_in step c.calls answer ≡ some found → MayId p q u step → Stows is_call t (Aside step next)
+      asides : (step : Step) (next : Found step → Program) (found : Found step) (answer : Option Taking) → found_in step c.calls answer ≡ some found → MayId p q u step → Labels is_call t (Aside step next)
           → ((o w : ℕ) → step ≡ StoreAt o w → (id n k : ℕ) → w ≡ at_word (id_first id) (id_slot id) k n → k < 65535 → n ≤ 6 → id_slot id < 65536 → (ids o ≡ id) × (id ≢ 0))
           → End (stores_by (Aside step next) ++ done) (with_seat i (next found) seat.hand c.words c.homes (record c { calls = calls_after step found c.calls }))
       asides (MakeId k range) next found answer is may g own = let x = g found tt in let m = makes_new p q c us real_ids i u at k range found is may (finds u at (MakeId k range) next found answer is may tt) in
-          let b = makes u at (MakeId k range) next found answer is may tt (call_id k (parts found).first) 0 (subst (λ y. Stows is_call y (next found)) x.1 x.2) m.0 (m.1 0) in (b.trials, b.behind)
+          let b = makes u at (MakeId k range) next found answer is may tt (call_id k (parts found).first) 0 (subst (λ y. Labels is_call y (next found)) x.1 x.2) m.0 (m.1 0) in (b.trials, b.behind)
       asides (StoreAt o w) next found answer is may g own = let x = g found tt in stored o w next found answer is may (own o w refl) x.0 x.1 x.2
       asides (UnlockId k from false) next found answer is may g own = let l = finds_label p q c us real_ids i u at (UnlockId k from false) found may (finds u at (UnlockId k from false) next found answer is may tt) in let x = g found l in
           let b = aside u at (UnlockId k from false) next found answer is may tt x.0 x.2 (λ id n. kept_count id n t x.0 (inl x.1)) in (b.trials, b.behind)
       asides (UnlockId k from true) next found answer is may g own = let l = finds_label p q c us real_ids i u at (UnlockId k from true) found may (finds u at (UnlockId k from true) next found answer is may tt) in let x = g found l in by (eqb found from) refl x.0 x.1 x.2
         where
-          by : (b : Bool) → eqb found from ≡ b → (y : Trial) → y ≡ unlocked_trial k from true found t → Stows is_call y (next found) → End done (with_seat i (next found) seat.hand c.words c.homes (record c { calls = calls_after (UnlockId k from true) found c.calls }))
+          by : (b : Bool) → eqb found from ≡ b → (y : Trial) → y ≡ unlocked_trial k from true found t → Labels is_call y (next found) → End done (with_seat i (next found) seat.hand c.words c.homes (record c { calls = calls_after (UnlockId k from true) found c.calls }))
           by true hit y e h = let m = advances_new p q c us real_ids i u at k from found is (eqb-true found from hit) may (finds_label p q c us real_ids i u at (UnlockId k from true) found may (finds u at (UnlockId k from true) next found answer is may tt)) in
-              let b = makes u at (UnlockId k from true) next found answer is may tt (call_id k (parts from).first) ((parts from).attempt + 1) (subst (λ z. Stows is_call z (next found)) (e ∙ ap (λ b. cond b (Tries (call_id k (parts from).first) ((parts from).attempt + 1)) t) hit) h) m.0 m.1 in (b.trials, b.behind)
+              let b = makes u at (UnlockId k from true) next found answer is may tt (call_id k (parts from).first) ((parts from).attempt + 1) (subst (λ z. Labels is_call z (next found)) (e ∙ ap (λ b. cond b (Tries (call_id k (parts from).first) ((parts from).attempt + 1)) t) hit) h) m.0 m.1 in (b.trials, b.behind)
           by false miss y e h = let b = aside u at (UnlockId k from true) next found answer is may tt y h (λ id n. kept_count id n t y (inl (e ∙ ap (λ b. cond b (Tries (call_id k (parts from).first) ((parts from).attempt + 1)) t) miss))) in (b.trials, b.behind)
       asides (ClaimId k) next found answer is may g own = let x = g found tt in let b = aside u at (ClaimId k) next found answer is may tt x.0 x.2 (λ id n. kept_count id n t x.0 x.1) in (b.trials, b.behind)
       asides (PutCall k asked) next found answer is may g own = let x = g found tt in let b = aside u at (PutCall k asked) next found answer is may x.1.1 x.0 x.2 (λ id n. kept_count id n t x.0 x.1.0) in (b.trials, b.behind)
@@ -378,8 +364,8 @@ module _ (p : Plan) (q : IdPlan) (narrow : q.slots ≤ 65536) (is_call : Asked �
     view_of : (seat : SeatState) → get_elem? c.seats m.seat ≡ some seat → (u : IdView) × (get_elem? us m.seat ≡ some u)
     view_of seat at = elem_there c.seats us m.seat seat real_ids.each at
 
-    first_as : (seat : SeatState) (at : get_elem? c.seats m.seat ≡ some seat) (x : Program) → first_step seat.program ≡ x → Stows is_call (trial_of seat at).0 x
-    first_as seat at x is = let t = trial_of seat at in subst (Stows is_call t.0) is (stows_first is_call t.0 seat.program (law.programs m.seat seat t.0 at t.1))
+    first_as : (seat : SeatState) (at : get_elem? c.seats m.seat ≡ some seat) (x : Program) → first_step seat.program ≡ x → Labels is_call (trial_of seat at).0 x
+    first_as seat at x is = let t = trial_of seat at in subst (Labels is_call t.0) is (stows_first is_call t.0 seat.program (law.programs m.seat seat t.0 at t.1))
 
     may_as : (seat : SeatState) (at : get_elem? c.seats m.seat ≡ some seat) (x : Program) → first_step seat.program ≡ x → IdGoesOn p q (view_of seat at).0 x
     may_as seat at x is = let u = view_of seat at in subst (IdGoesOn p q u.0) is (ids_first p q narrow u.0 seat.program (real_ids.seats m.seat seat u.0 at u.1))

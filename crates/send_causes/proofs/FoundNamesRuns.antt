@@ -26,7 +26,7 @@ use Rattle.call_causes.proofs.Numbered.{AreNumbered}
 use Rattle.call_causes.proofs.Ticks.{IsSetUp, other_there, story_lasts}
 use Rattle.send_causes.specs.Refused.{DidMiss, WouldStore, DidAt, DidIn}
 use Rattle.send_causes.proofs.AttemptedFacts.{IsOwn, facts}
-use Rattle.send_causes.proofs.AttemptedNames.{follows_first}
+use Rattle.send_causes.proofs.EndedNames.{follows_first}
 use Rattle.send_causes.proofs.AttemptedOwn.{IsTrueOf, own_ticks}
 use Rattle.send_causes.proofs.AttemptedStored.{Owns, AreSetUp, would_of}
 use Rattle.send_causes.proofs.FoundNames.{Missed, missed_on, missed_here}

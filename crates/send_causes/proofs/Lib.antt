@@ -13,7 +13,6 @@ pub mod ReaderRuns
 pub mod Early
 pub mod Places
 pub mod Rests
-pub mod Telling
 pub mod Storied
 pub mod Dropped
 pub mod Sends
@@ -67,9 +66,6 @@ pub mod EndedNames
 pub mod EndedNamed
 pub mod EndedLives
 pub mod EndedAttempts
-pub mod EndedTrials
-pub mod EndedTryLoops
-pub mod EndedTryPrograms
 pub mod EndedTryTicks
 pub mod EndedOnce
 pub mod EndedCauses
@@ -79,12 +75,6 @@ pub mod AttemptedBegin
 pub mod AttemptedRuns
 pub mod AttemptedCalls
 pub mod AttemptedSent
-pub mod AttemptedTrails
-pub mod AttemptedLoops
-pub mod AttemptedPrograms
-pub mod AttemptedNames
-pub mod AttemptedLives
-pub mod AttemptedNamed
 pub mod AttemptedRun
 pub mod AttemptedFacts
 pub mod AttemptedOwn

@@ -13,7 +13,7 @@ use Rattle.sock_programs.specs.Programs.{Program, Say, Aside, Round}
 use Rattle.sock_programs.specs.Readers.{answer, answered, responses, read_on, took, discarded, last_of, slot_in, version_in, has_response, ending_of, is_early, ended_by as how_ended, LIMIT}
 use Rattle.sock_programs.specs.Rounds.{round}
 use Rattle.label_runs.specs.Labels.{IsSoughtWord}
-use Rattle.send_causes.proofs.EndedTryLoops.{id_back, not_true, not_equal, and_left, locked_parts}
+use Rattle.label_runs.proofs.Loops.{id_back, not_true, not_equal, and_left, locked_parts}
 use Rattle.send_causes.proofs.OwnDecisionsStands.{Stand, Calm, Trying, Past, Posted, Eases, MayPost, MayDecide, IsTryingAt, FindsAside, unlocked_stand, unlocks_stand, posted_stand, locked_stand, LeavesUnlock, LeavesStand, Aims}
 
 pub way : (s : Stand) (b : Bool) (x y : Program) → (b ≡ true → Aims s x) → (b ≡ false → Aims s y) → Aims s (cond b x y)

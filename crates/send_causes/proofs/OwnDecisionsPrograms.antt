@@ -29,7 +29,7 @@ use Rattle.sock_programs.specs.Sends.{freed as given_back, one_more, passed_tell
 use Rattle.sock_programs.specs.Writings.{Holder, Writing, Puts, Waits, Empties, Walks}
 use Rattle.label_runs.specs.Labels.{LeavesLock}
 use Rattle.send_causes.proofs.OwnDecisionsStands.{Stand, Calm, Trying, Past, Posted, Eases, behind_message, MayPut, LeavesStand, locked_stand, posted_stand, Aims}
-use Rattle.send_causes.proofs.EndedTryLoops.{id_back, not_equal}
+use Rattle.label_runs.proofs.Loops.{id_back, not_equal}
 use Rattle.send_causes.proofs.OwnDecisionsLoops.{way, next_is, post_with_goes, posted_goes, post_goes, decide_goes, decided_goes, answer_goes}
 
 -- ## Parts on sockets

@@ -23,7 +23,7 @@ use Rattle.corr_core.specs.Word.{Parts, parts, error_of, attempt_of, made_word, 
 use Rattle.corr_core.specs.declared.marks.Plan.{Plan as IdPlan}
 use Rattle.id_rule.specs.Lawful.{all_words, tag_word, id_word, call_word, at_word}
 use Rattle.id_runs.specs.Held.{IdView, MayId}
-use Rattle.id_runs.specs.Goes.{FitsSock, FitsFirst, FindsId, FitsRetryId, IdGoesOn, SoundIds, IsFittingIds}
+use Rattle.id_runs.specs.Goes.{FitsFirst, FindsId, FitsRetryId, IdGoesOn, SoundIds, IsFittingIds}
 use Rattle.id_runs.specs.Goes as goes
 use Rattle.id_runs.proofs.Steps.{finds_ids}
 use Rattle.sock_programs.specs.Asides.{Step, Found, ClaimId, PutCall, MakeId, StoreCall, LoadCall, StoreAt, LoadAt, LoadIdWord, LockId, PostId, UnlockId, EndId, FreeId, TakeCall, TakeBytes, Taking, Bytes, call_id, id_slot, id_first}
@@ -42,9 +42,8 @@ use Rattle.sock_causes.proofs.Ticks.{elem_there}
 use Rattle.send_causes.specs.Counts.{pair_of, of_retry, word_of_id, WasMade, WasNow}
 use Rattle.send_causes.proofs.Words.{made_on, finds_label, words_forward, makes_new, advances_new}
 use Rattle.send_causes.proofs.Readings.{ticks_first}
-use Rattle.send_causes.proofs.Ticks.{calls_waiting, pair_one, pair_same, waits_set}
-use Rattle.send_causes.proofs.EndedNames.{ids_first, few_of}
-use Rattle.send_causes.proofs.EndedTryLoops.{id_back}
+use Rattle.send_causes.proofs.Ticks.{AreTries, few_more, few_of, ids_first, calls_waiting, pair_one, pair_same, waits_set}
+use Rattle.label_runs.proofs.Loops.{id_back}
 use Rattle.send_causes.proofs.OwnDecisionsHomes.{HandFits, HomesFit, PutFits, hand_more, home_more, message_there, home_set, home_away, first_fits, others_fit, lies_fit, fed_fits, places_fit, hand_fits, homes_fit}
 use Rattle.send_causes.proofs.OwnDecisionsStands.{Stand, Calm, Trying, Past, Posted, Eases, MayPut, MayPost, MayAside, Stowing, unlocked_stand, Aims}
 use Rattle.send_causes.proofs.OwnDecisionsLoops.{aims_round}
@@ -146,13 +145,6 @@ module _ (f s k n : ℕ) (first : f < 4294967296) (slot : s < 65536) (link : k <
 
 -- ## Retries that are kept and taken up
 
-abbrev AreFew : List Retry → Type 0
-AreFew ws = AllByRecursion (λ (r : Retry). r.attempt ≤ 6) ws
-
-few_more : (ws : List Retry) (r : Retry) → AreFew ws → r.attempt ≤ 6 → AreFew (ws ++ r ∷ [])
-few_more [] r all one = (one, tt)
-few_more (w ∷ ws) r all one = (all.0, few_more ws r all.1 one)
-
 record Resolved (s : Stand) (ws : List Retry) (x : Program) : Type 0 where
   pub stand : Stand
   pub aims : Aims stand (next_step (resolved ws x))
@@ -162,7 +154,7 @@ record Resolved (s : Stand) (ws : List Retry) (x : Program) : Type 0 where
 stays : (s : Stand) (ws : List Retry) (x : Program) → Aims s (next_step (resolved ws x)) → still_waiting ws x ≡ ws → Resolved s ws x
 stays s ws x g e = record { stand = s; aims = g; fewer = λ id n. (let z : total (of_retry id n) (still_waiting ws x) ≡ total (of_retry id n) ws = ap (total (of_retry id n)) e in omega (arith, z)); is = inl refl }
 
-resolves : (s : Stand) (ws : List Retry) (x : Program) → AreFew ws → Aims s x → Resolved s ws x
+resolves : (s : Stand) (ws : List Retry) (x : Program) → AreTries ws → Aims s x → Resolved s ws x
 resolves s ws (Say o outcome next) few g = let r = resolves s ws next few g in record { stand = r.stand; aims = r.aims; fewer = r.fewer; is = r.is }
 resolves s ws (Sent o next) few g = let r = resolves s ws next few g in record { stand = r.stand; aims = r.aims; fewer = r.fewer; is = r.is }
 resolves s ws (Keep k next) few g = let r = resolves Calm (ws ++ k ∷ []) next (few_more ws k few g.1) g.2 in record {
@@ -272,7 +264,7 @@ module _ (p : Plan) (q : IdPlan) (narrow : q.slots ≤ 65536) (Taken : Post → 
     tried id n e = let here : of_stand id n s ≡ 1 = ap (of_stand id n) e ∙ pair_self id n in let some_ = term_le (of_stand id n) ss i s at_stand in omega (arith, here, some_)
 
     module _ (L : List Post) (a : Calls) (x : Program) (hand : List Home) (ws : List ℕ) (hs : List (Option Home)) (u : Stand) (g : Goes L a x hand hs u) where
-      few : AreFew (waiting_at a.waiting i)
+      few : AreTries (waiting_at a.waiting i)
       few = few_of q (waiting_at a.waiting i) (subst (λ (l : List (List Retry)). AllByRecursion (FitsRetryId q) (waiting_at l i)) (sym g.kept) (ids.waiting i))
 
       abbrev r : Resolved u (waiting_at a.waiting i) x

@@ -23,7 +23,7 @@ use Rattle.sock_programs.specs.Asides.{StoreAt, call_id, id_slot, id_first}
 use Rattle.sock_programs.specs.Attempts.{claims_from, heading_for, attempt, begin_call, claim_id, call, tried_again, retry_locked, retry, expire_outcome, expire, join}
 use Rattle.sock_programs.specs.Calls.{Call, SubRef, AddRef, StoreCode, SetOdd, LoadLink, TakeLink, FinishLink, PutLink, FreeSlot, LoadName, FreeRequest, ReadNext, FindLink, LookWord, TurnNext, Connect, ClaimRequest, PutMessage, Recycle, LoadCode, DropPlace}
 use Rattle.sock_programs.specs.Clients.{HeldLife, held_under, without_name, give_back, drop_of, operation, client_from, ending_of}
-use Rattle.sock_programs.specs.Heads.{First, Unlocks, Locks, Joins, Reads, Discards, Posting, WasGone, WasStale, WasCrowded, WasQueued, HasLocked, Unlocking, IsOpen, HasNext, Locking, NotThere, Has, Ended}
+use Rattle.sock_programs.specs.Heads.{First, Joins, Reads, Discards, Posting, WasGone, WasStale, WasCrowded, WasQueued, HasLocked, Unlocking, IsOpen, HasNext, Locking, NotThere, Has, Ended}
 use Rattle.sock_programs.specs.Parts.{part}
 use Rattle.sock_programs.specs.Posts.{post_with, posted, post, decided}
 use Rattle.sock_programs.specs.Programs.{Program, Do, Say, Sent, Rest, TakeMessage, TakeHome, PutBytes, Write, Aside, Round, NO_SOCKET, LAST_VERSION, LAST_GENERATION, recycle, release, address, reach, set_failed, make_socket, open_from, fail_outcome, fail}
@@ -33,7 +33,7 @@ use Rattle.sock_programs.specs.Writings.{Holder, Writing, Puts, Waits, Empties, 
 use Rattle.sock_causes.specs.Stories.{In}
 use Rattle.label_runs.proofs.Loops.{not_equal}
 use Rattle.label_runs.proofs.Programs.{OpCalls}
-use Rattle.label_runs.specs.Labels.{Trial, Idle, Tries, Sends, IsOfTrial, MayPut, Kept, LeavesLabel, LeavesLock, LeavesUnlock, locked_trial}
+use Rattle.label_runs.specs.Labels.{Idle, Tries, Sends, MayPut, Kept, LeavesLabel, LeavesLock, LeavesUnlock, locked_trial}
 use Rattle.send_causes.specs.Refused.{Deed, DidStep, DidPut, DidRound, DidMiss, Charge, NoCharge, IsRefused, HasDropped, Doing, idle, begins, FoundTaken, WasOther, WasOdd, WasNone, WouldStore, IsPostOf}
 use Rattle.send_causes.proofs.RefusedLoops.{bare, Goes, way, Steps, step_way, aside_way, forgets, let_go, post_with_goes, posted_goes, decide_goes, decided_goes, answer_goes}
 
@@ -435,7 +435,7 @@ module _ (requests : ℕ) (is_call : Asked → Type 0) (reads : Bool) where
                   tt,
                   λ _ _. (
                     sending (DidStep (FindLink (socket_id_slot socket) (socket_id_version socket)) k ∷ DidStep (AddRef socket) found ∷ ds),
-                    (inr (id, n, k, refl, refl, low, few, refl), inl (refl, refl)),
+                    ((id, n, k, refl, refl, low, few, refl), inl (refl, refl)),
                     looks_goes (DidStep (FindLink (socket_id_slot socket) (socket_id_version socket)) k ∷ DidStep (AddRef socket) found ∷ ds) (inr (inr put)) (inr (inr load)),
                   ),
                 ),

@@ -40,7 +40,7 @@ use Rattle.owed_calls.proofs.EndsStill.{mapped_at}
 use Rattle.label_runs.specs.Labels.{Trial, Idle, Tries, Sends, IsOfTrial, MayPut, put_behind, Kept, Storing, unlocked_trial}
 use Rattle.send_causes.specs.Counts.{pair_of, of_trial, of_retry, of_view, times_of, WasMade, WasNow, TrialFits, StoresOwn}
 use Rattle.send_causes.specs.Refused.{Deed, DidStep, DidPut, Charge, NoCharge, IsRefused, HasDropped, Doing, idle, begins, trial_in, FoundTaken, FoundLost, WasOther, WasOdd, WasNone, WhyRefused, WouldStore, WouldOwn, IsTrying, IsLast, Refuses, Moves, Remembers, Charges, did_aside, DidAt, IsRefusal, IsDrop, IsSpent, ChargeFits, ChargeLaw}
-use Rattle.send_causes.proofs.Ticks.{AreCalls, calls_waiting, fits_as, ids_first, kept_count, kept_fits, pair_one, pair_same, waits_set}
+use Rattle.send_causes.proofs.Ticks.{few_more, few_of, AreCalls, calls_waiting, fits_as, ids_first, kept_count, kept_fits, pair_one, pair_same, waits_set}
 use Rattle.send_causes.proofs.Views.{put_of, row_count, rights_count}
 use Rattle.send_causes.proofs.Words.{made_on, finds_label, words_forward, makes_new, advances_new}
 use Rattle.send_causes.proofs.RefusedLoops.{bare, charges_round}
@@ -63,14 +63,6 @@ AreLater ws = AllByRecursion (λ (r : Retry). 0 < r.attempt) ws
 later_more : (ws : List Retry) (r : Retry) → AreLater ws → 0 < r.attempt → AreLater (ws ++ r ∷ [])
 later_more [] r all one = (one, tt)
 later_more (w ∷ ws) r all one = (all.0, later_more ws r all.1 one)
-
-few_more : (ws : List Retry) (r : Retry) → AllByRecursion (λ (r : Retry). r.attempt ≤ 6) ws → r.attempt ≤ 6 → AllByRecursion (λ (r : Retry). r.attempt ≤ 6) (ws ++ r ∷ [])
-few_more [] r all one = (one, tt)
-few_more (w ∷ ws) r all one = (all.0, few_more ws r all.1 one)
-
-few_of : (q : IdPlan) (ws : List Retry) → AllByRecursion (FitsRetryId q) ws → AllByRecursion (λ (r : Retry). r.attempt ≤ 6) ws
-few_of q [] all = tt
-few_of q (w ∷ ws) all = (all.0.1, few_of q ws all.1)
 
 -- the lists of retries with one changed
 set_waits : (P : List Retry → Type 0) (ws : List (List Retry)) (i j : ℕ) (x : List Retry) → P x → ((j : ℕ) → P (waiting_at ws j)) → P (waiting_at (set ws i x) j)
@@ -572,8 +564,7 @@ module _ (p : Plan) (q : IdPlan) (narrow : q.slots ≤ 65536) (is_call : Asked �
 
         stored : (w : ℕ) (o : ℕ) → ((id n k : ℕ) → w ≡ at_word (id_first id) (id_slot id) k n → k < 65535 → n ≤ 6 → id_slot id < 65536 → (ids o ≡ id) × (id ≢ 0))
             → (y : Doing) → Storing o w t.trial y.trial → Held y → Charges p.requests is_call reads y (next found) → Ends
-        stored w o own y (inl e) held g = keeps y (inr e) held g
-        stored w o own y (inr x) held g = still y g held
+        stored w o own y x held g = still y g held
             (subst (TrialFits ids) (sym x.7) (let z = own x.0 x.1 x.2 x.4 x.5 x.6 (tried_low x.0 x.1 x.3) in (z.0, z.1, x.6)))
             (λ id n. (let a : of_trial id n y.trial ≡ pair_of id n x.0 x.1 = ap (of_trial id n) x.7 in let b : of_trial id n t.trial ≡ pair_of id n x.0 x.1 = ap (of_trial id n) x.3 in omega (arith, a, b)))
 

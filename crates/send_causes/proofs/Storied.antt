@@ -41,7 +41,7 @@ use Rattle.sock_causes.proofs.Outcomes.{IsSaidOf, said_keeps, run_said, made_uns
 use Rattle.sock_programs.specs.ToldCalls.{Order}
 use Rattle.sock_causes.proofs.Delivered.{orders_of}
 use Rattle.sock_causes.proofs.Whys.{Timely}
-use Rattle.send_causes.proofs.Telling.{Tells, told_so}
+use Rattle.sock_causes.proofs.Told.{Tells, told_so}
 use Rattle.sock_causes.proofs.Scripts.{own_from, lost_of_run, MadeInRun}
 
 -- the views of a beginning, of which each keeps one list of accepted messages, so far empty

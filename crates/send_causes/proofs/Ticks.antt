@@ -38,7 +38,7 @@ use Rattle.sock_runs.proofs.Cases.{with_rights, right_rights, put_rights}
 use Rattle.sock_causes.proofs.Cases.{tick_cases}
 use Rattle.sock_causes.proofs.Ticks.{elem_there}
 use Rattle.sock_model.specs.ChainRows.{taken_right}
-use Rattle.label_runs.specs.Labels.{Trial, Idle, Tries, Sends, IsOfTrial, put_behind, Kept, AsideMove, Storing, unlocked_trial, FindsLabel, Labels}
+use Rattle.label_runs.specs.Labels.{Trial, Idle, Tries, Sends, IsOfTrial, put_behind, Kept, Storing, unlocked_trial, Labels}
 use Rattle.label_runs.proofs.Loops.{labels_round}
 use Rattle.label_runs.proofs.Programs.{block_goes, retry_goes}
 use Rattle.send_causes.specs.Counts.{pair_of, of_trial, of_retry, of_view, times_of, WasMade, WasNow, ViewFits, TrialFits, IsOfCall, LabelLaw, StoresOwn}
@@ -73,14 +73,15 @@ waits_set f none_ (w ∷ ws) (suc i) x = let r = waits_set f none_ ws i x in ome
 
 -- ## Retries that are kept and taken up
 
-abbrev AreFew : List Retry → Type 0
-AreFew ws = AllByRecursion (λ (r : Retry). r.attempt ≤ 6) ws
+-- each is an attempt that a call may have
+abbrev pub AreTries : List Retry → Type 0
+AreTries ws = AllByRecursion (λ (r : Retry). r.attempt ≤ 6) ws
 
-few_more : (ws : List Retry) (r : Retry) → AreFew ws → r.attempt ≤ 6 → AreFew (ws ++ r ∷ [])
+pub few_more : (ws : List Retry) (r : Retry) → AreTries ws → r.attempt ≤ 6 → AreTries (ws ++ r ∷ [])
 few_more [] r all one = (one, tt)
 few_more (w ∷ ws) r all one = (all.0, few_more ws r all.1 one)
 
-few_of : (q : IdPlan) (ws : List Retry) → AllByRecursion (FitsRetryId q) ws → AreFew ws
+pub few_of : (q : IdPlan) (ws : List Retry) → AllByRecursion (FitsRetryId q) ws → AreTries ws
 few_of q [] all = tt
 few_of q (w ∷ ws) all = (all.0.1, few_of q ws all.1)
 
@@ -93,7 +94,7 @@ record Resolved (is_call : Asked → Type 0) (ids : ℕ → ℕ) (t : Trial) (ws
 stays : (is_call : Asked → Type 0) (ids : ℕ → ℕ) (t : Trial) (ws : List Retry) (x : Program) → Labels is_call t (next_step (resolved ws x)) → still_waiting ws x ≡ ws → Resolved is_call ids t ws x
 stays is_call ids t ws x g e = record { trial = t; labels = g; fewer = λ id n. (let z : total (of_retry id n) (still_waiting ws x) ≡ total (of_retry id n) ws = ap (total (of_retry id n)) e in omega (arith, z)); fits = λ f. f }
 
-resolves : (is_call : Asked → Type 0) (ids : ℕ → ℕ) (t : Trial) (ws : List Retry) (x : Program) → AreFew ws → Labels is_call t x → Resolved is_call ids t ws x
+resolves : (is_call : Asked → Type 0) (ids : ℕ → ℕ) (t : Trial) (ws : List Retry) (x : Program) → AreTries ws → Labels is_call t x → Resolved is_call ids t ws x
 resolves is_call ids t ws (Say o outcome next) few g = let r = resolves is_call ids t ws next few g in record { trial = r.trial; labels = r.labels; fewer = r.fewer; fits = r.fits }
 resolves is_call ids t ws (Sent o next) few g = let r = resolves is_call ids t ws next few g in record { trial = r.trial; labels = r.labels; fewer = r.fewer; fits = r.fits }
 resolves is_call ids t ws (Keep k next) few g = let r = resolves is_call ids Idle (ws ++ k ∷ []) next (few_more ws k few g.1) g.2 in record {
@@ -179,7 +180,7 @@ fits_as p c program call next e f = by program e f
 abbrev pub AreCalls : (Asked → Type 0) → Calls → Type 0
 AreCalls is_call a = (k : ℕ) (asked : Asked) → call_at (get_elem? a.homes k) ≡ some asked → is_call asked
 
-abbrev PutsCall : (Asked → Type 0) → Step → Type 0
+abbrev pub PutsCall : (Asked → Type 0) → Step → Type 0
 PutsCall is_call (PutCall i asked) = is_call asked
 PutsCall is_call other = Unit {0}
 
@@ -202,7 +203,7 @@ calls_given : (is_call : Asked → Type 0) (k : ℕ) (t : Taking) (a : Calls) �
 calls_given is_call k (Bytes bytes) a h = h
 calls_given is_call k _ a h = h
 
-calls_behind : (is_call : Asked → Type 0) (x : Step) (found : Found x) (a : Calls) → PutsCall is_call x → AreCalls is_call a → AreCalls is_call (calls_after x found a)
+pub calls_behind : (is_call : Asked → Type 0) (x : Step) (found : Found x) (a : Calls) → PutsCall is_call x → AreCalls is_call a → AreCalls is_call (calls_after x found a)
 calls_behind is_call (PutCall i asked) found a puts h = λ n other at. ⊎_elim
     (λ r. subst is_call (one_asked asked other r.1) puts) (λ r. h n other (ap call_at r.1))
     (at_set a.homes i n (some (std.Some asked)) (some (std.Some other)) (home_is (get_elem? (set a.homes i (some (std.Some asked))) n) other at))
@@ -265,7 +266,7 @@ module _ (p : Plan) (q : IdPlan) (narrow : q.slots ≤ 65536) (is_call : Asked �
       pub fresh : (id n : ℕ) → 0 < new id n → (new id n ≤ 1) × (times_of id n c vs ts ≡ 0) × WasNow q a.words id n
 
     module _ (a : Calls) (x : Program) (hand : List Home) (ws : List ℕ) (hs : List (Option Home)) (u : Trial) (w : View) (g : Goes a x u w) where
-      few : AreFew (waiting_at a.waiting i)
+      few : AreTries (waiting_at a.waiting i)
       few = few_of q (waiting_at a.waiting i) (subst (λ (l : List (List Retry)). AllByRecursion (FitsRetryId q) (waiting_at l i)) (sym g.kept) (real_ids.waiting i))
 
       abbrev r : Resolved is_call ids u (waiting_at a.waiting i) x
@@ -429,8 +430,7 @@ module _ (p : Plan) (q : IdPlan) (narrow : q.slots ≤ 65536) (is_call : Asked �
 
       stored_ends : (o w : ℕ) (next : ℕ → Program) (found : ℕ) (answer : Option Taking) (is : found_in (StoreAt o w) c.calls answer ≡ some found) (may : MayId p q u (StoreAt o w)) → ((id n k : ℕ) → w ≡ at_word (id_first id) (id_slot id) k n → k < 65535 → n ≤ 6 → id_slot id < 65536 → (ids o ≡ id) × (id ≢ 0))
           → (x : Trial) → Storing o w t x → Labels is_call x (next found) → After (with_seat i (next found) seat.hand c.words c.homes (record c { calls = calls_after (StoreAt o w) found c.calls })) vs
-      stored_ends o w next found answer is may own x (inl e) g = keeps (StoreAt o w) next found answer is may tt x (inr e) g
-      stored_ends o w next found answer is may own x (inr s) g = still (StoreAt o w) next found answer is may tt x g
+      stored_ends o w next found answer is may own x s g = still (StoreAt o w) next found answer is may tt x g
           (subst (TrialFits ids) (sym s.7) (let y = own s.0 s.1 s.2 s.4 s.5 s.6 (tried_low s.0 s.1 s.3) in (y.0, y.1, s.6))) (λ id n. (let a : of_trial id n x ≡ pair_of id n s.0 s.1 = ap (of_trial id n) s.7 in let b : of_trial id n t ≡ pair_of id n s.0 s.1 = ap (of_trial id n) s.3 in omega (arith, a, b)))
 
       -- each step aside

@@ -4,7 +4,7 @@ use Rattle.std.specs.Prelude.{Option, Some, None, slice_get, slice_index, Contai
 use Rattle.std.proofs.lemmas.List.{length-map}
 use mathlib.Core.Option.{some}
 use lib.ListN.{get_elem?}
-use Rattle.sock_words.specs.Words.{socket_id_version, socket_id_slot}
+use Rattle.sock_words.specs.Words.{socket_id_version, socket_id_slot, vref_version}
 use Rattle.sock_words.specs.declared.plain.Plan.{Plan}
 use Rattle.sock_words.specs.declared.outcome.Outcome.{Outcome}
 use Rattle.sock_words.specs.declared.outcome.Outcome.TheVariants.{Freed, Kept}
@@ -19,7 +19,7 @@ use Rattle.sock_model.specs.References.{slot_facts}
 use Rattle.slot_laws.proofs.Clauses.{taken_for}
 use Rattle.slot_laws.proofs.Numbers.{life_le}
 use Rattle.sock_programs.specs.declared.task.Task.{Task}
-use Rattle.sock_programs.specs.Calls.{Call, SubRef, Recycle, ClaimRequest, LoadName}
+use Rattle.sock_programs.specs.Calls.{Call, SubRef, Recycle, SetOdd, ClaimRequest, LoadName}
 use Rattle.sock_programs.specs.Cores.{Core}
 use Rattle.sock_programs.specs.declared.task.Op.{Op}
 use Rattle.sock_programs.specs.declared.task.Op.TheVariants as ops
@@ -29,7 +29,7 @@ use Rattle.sock_runs.specs.GoesOn.{GoesOn, HasNothing}
 use Rattle.sock_runs.specs.Sound.{state, Sound, AllRest}
 use Rattle.sock_causes.specs.Stories.{Event, In, trace_of}
 use Rattle.sock_causes.specs.Explains.{step, Because, Explained, WonRecycling, GaveBackOnly}
-use Rattle.sock_causes.specs.Causes.{Asks, WasGiven}
+use Rattle.sock_causes.specs.Causes.{Asks, WasGiven, WasFailed}
 use Rattle.sock_causes.specs.Kept.{is_of_send, IsSpoken, StaysUsed, Story}
 use Rattle.sock_causes.specs.TaskCauses.{ToldTasks, DropsMade, IsSent, InOwnOrder}
 use Rattle.std.specs.List.{filter}
@@ -39,10 +39,10 @@ use Rattle.sock_causes.proofs.Members.{all_of, in_contains, from_trace, get_with
 use Rattle.sock_causes.proofs.Tasks.{one_task, setup_opens, same_some}
 use Rattle.sock_causes.proofs.Sending.{Within}
 use Rattle.sock_causes.proofs.Broken.{good_more}
-use Rattle.sock_causes.proofs.Events.{event, marked_fail}
+use Rattle.sock_causes.proofs.Events.{event, BeforeIn, marked_fail, cause_of}
 use Rattle.sock_causes.proofs.Final.{Final, IsMessage, sends, at_there, at_within, idle, final}
-use Rattle.sock_causes.proofs.Lives.{World, task_of, asks_of, named_life, one_life, given_made, fail_is}
-use Rattle.sock_causes.proofs.Fails.{Gathered, gather}
+use Rattle.sock_causes.proofs.Lives.{World, task_of, asks_of, named_life, one_life, given_made, given_later, link_means, fail_is}
+use Rattle.sock_causes.proofs.Fails.{Gathered, IsSender, gather}
 use Rattle.sock_causes.proofs.Whys.{Timely, why_told}
 use Rattle.sock_causes.proofs.Delivered.{accepted_of, orders_of, AreQuiet, places_all, requests_used, dropped_failed}
 use Rattle.sock_causes.proofs.Senders.{HasSent, all_sent, each_before, sent_stands}
@@ -193,6 +193,37 @@ module _ (p : Plan) (clients : List (List Task)) (are : AreTasks p clients) (ove
     own_order = λ k kl. each_before p c vs sound.lawful (each_made p clients are over c vs es failed sound story settled) (InOwnOrder clients c.outcomes) k own_before other_before;
     dropped = λ k kl less. link_failed k (dropped_failed p c vs sound.lawful quiet k kl (omega (arith, less, length-map (on k sound.lawful.log) accepted_of)));
   }
+
+  -- ## Links that failed in time
+
+  -- a life that was failed in the story so far was so by an operation that counts, or its link was lost so far
+  failed_so : (j h k : ℕ) → WasGiven timely.story j h k → WasFailed few timely.story j h → Contains few k ⊎ ((fail : ℕ) × Contains all_fails.fails (fail, k))
+  failed_so j h k given (inr lost) = let m = given_made p clients c.outcomes broken orders es world j h k (given_later p clients c.outcomes broken orders es world timely.story es timely.part j h k given) in
+      let g = given_made p clients c.outcomes broken orders es world j h lost.0 (given_later p clients c.outcomes broken orders es world timely.story es timely.part j h lost.0 lost.2) in
+      let same : k ≡ lost.0 = (one_life p clients c.outcomes broken orders es world m.0 g.0 k lost.0 j h m.1 g.1).1 in inl (in_contains few k (subst (λ z. In z few) (sym same) lost.1))
+  failed_so j h k given (inl was) = let made = given_made p clients c.outcomes broken orders es world j h k (given_later p clients c.outcomes broken orders es world timely.story es timely.part j h k given) in let y = marked_fail timely.story j h was in let e : Event = event y.client y.number (SetOdd j) y.found in
+      let m : In e es = timely.part e y.is in ⊎_elim
+      (λ there. inr (y.number, in_contains all_fails.fails (y.number, k) there))
+      (λ r. inl (in_contains few k (refused_in made.0 made.1 y.client y.number y.found (cause_of p clients few timely.story timely.good e y.is) y.even y.version r.1)))
+      (all_fails.all y.client y.number j y.found m y.even made.0 k (subst (λ z. Made clients c.outcomes made.0 k j z) (sym y.version) made.1))
+    where
+      refused_in : (n : ℕ) → Made clients c.outcomes n k j h → (d o found : ℕ) → (x : BeforeIn p clients few timely.story (event d o (SetOdd j) found)) → vref_version found % 2 ≡ 0 → vref_version found ≡ h → IsSender p clients c.outcomes broken orders es world d o → In k few
+      refused_in n made d o found x even version sends = ⊎_elim
+          (λ f. let q : ops.Send sends.3 sends.4 ≡ ops.Fail f.0 f.1 = sym sends.5 ∙ (ap (λ (z : Task). z.op) (one_task p clients are d d sends.0 x.cause.task sends.1 x.cause.is (sends.2 ∙ sym x.cause.numbered)).1 ∙ f.4) in absurd (cc))
+          (λ f. let l = link_means p clients c.outcomes broken orders es world few x.story d o j found x.cause (λ z m. timely.part z (x.part z m)) f in
+          let v : h ≡ socket_id_version l.id = sym version ∙ l.odd.0 even in
+          let other = given_made p clients c.outcomes broken orders es world j (socket_id_version l.id) l.link l.given in
+          let same : k ≡ l.link = (one_life p clients c.outcomes broken orders es world n other.0 k l.link j (socket_id_version l.id) (subst (λ z. Made clients c.outcomes n k j z) v made) other.1).1 in subst (λ z. In z few) (sym same) l.refused)
+          x.cause.fits
+
+  -- what is told, and why a link failed in time
+  pub record Tells : Type 0 where
+    pub tells : ToldTasks clients c.outcomes p orders broken few late
+    pub early : (j h k : ℕ) → WasGiven timely.story j h k → WasFailed few timely.story j h → Contains few k ⊎ ((fail : ℕ) × Contains tells.fails (fail, k))
+
+  pub told_so : Tells
+  unfolding told_tasks
+  told_so = record { tells = told_tasks; early = failed_so }
 
   -- ## Drops
 

@@ -3,7 +3,7 @@ use Rattle.std.specs.Prelude.{ℕ, ◌≡◌, ◌≢◌, ◌==◌, ◌++◌, tru
 use mathlib.Core.Option as core
 use lib.ListN.{get_elem?}
 use Rattle.sock_words.specs.declared.plain.Plan.{Plan}
-use Rattle.sock_io.specs.Link.{OutState, InState, Offer, IsServed}
+use Rattle.sock_io.specs.Link.{OutState, InState}
 use Rattle.sock_model.specs.declared.home.Home.{Home}
 use Rattle.sock_model.specs.declared.home.Home.TheVariants.{Link, Message}
 use Rattle.sock_programs.specs.Writings as heads
@@ -11,6 +11,7 @@ use Rattle.sock_programs.specs.Programs.{Program, PutBytes, Write}
 use Rattle.sock_programs.specs.Runs.{from_to}
 use Rattle.message_parts.specs.Parcels.{parcel_of}
 use Rattle.seat_points.specs.Points.{heading_by}
+use Rattle.script_links.specs.Offered.{IsOffered}
 use Rattle.sock_core.specs.declared.letter.Letter.{Letter}
 
 -- the message that lies at the home of a request
@@ -77,23 +78,6 @@ module _ (l : LinksData) where
   -- each of them is prompt
   abbrev pub ArePrompt : Type 0
   ArePrompt = (k : ℕ) (out : OutState) → get_elem? l.outs k ≡ core.some out → out.prompt ≡ true
-
--- Link k tells what it took and gave, and what its other end offers, which was asked to be the server or not and to give its end after so many
--- responses; and what it was offered belongs to it.
-pub record IsOffered (outs : List OutState) (inns : List InState) (k : ℕ) (serve : Bool) (end : Option ℕ) : Type 0 where
-  pub out : OutState
-  pub out_at : get_elem? outs k ≡ core.some out
-  pub inn : InState
-  pub inn_at : get_elem? inns k ≡ core.some inn
-  pub took : List ℕ
-  pub took_is : out.took ≡ Some took
-  pub gave : List ℕ
-  pub gave_is : inn.gave_bytes ≡ Some gave
-  pub offer : Offer
-  pub offer_is : inn.offer ≡ Some offer
-  pub serves : offer.serve ≡ serve
-  pub ends : offer.end ≡ end
-  pub served : IsServed took out.finished gave offer
 
 abbrev pub IsOffering : LinksData → ℕ → Bool → Option ℕ → Type 0
 IsOffering l k serve end = IsOffered l.outs l.inns k serve end

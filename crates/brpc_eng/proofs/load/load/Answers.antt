@@ -1,7 +1,7 @@
 use Rattle.std.proofs.Common.{ap, refl, subst, ⊎_elim, arith, ◌∙◌}
 use Rattle.brpc_model.specs.Drawn.{generated}
 use Rattle.brpc_model.specs.ScriptText.{script_text}
-use Rattle.script_run.specs.Given.{IsBeginning, specs_of}
+use Rattle.script_links.specs.Given.{IsBeginning, specs_of}
 use Rattle.brpc_eng.specs.Answers.{LoadRanOut}
 use Rattle.brpc_eng.proofs.Pieces.{has_pieces}
 use Rattle.brpc_eng.proofs.Reported.{opened_none, load_ran}

@@ -1,14 +1,13 @@
 use Rattle.std.proofs.Common.{◌∙◌, ap, ap₂, sym, Err}
 use Rattle.brpc_eng.proofs.Pieces.{has_pieces}
 use Rattle.brpc_eng.proofs.Replays.{replays_read, replays_faulty}
-use Rattle.brpc_eng.proofs.SameLinks.{pieces_too}
 use Rattle.brpc_eng.proofs.threads.run_threads.Goals as goal
 
 pub threads_and_report-requires-clause-script : goal.threads_and_report-requires-clause-script
 threads_and_report-requires-clause-script g c κs within = (c.deref.result.now, c.in-Ok-read_script.ensures.script)
 
 pub threads_and_report-requires-clause-pieces : goal.threads_and_report-requires-clause-pieces
-threads_and_report-requires-clause-pieces g c κs within = pieces_too c.in-Ok-read_script.script (has_pieces c.deref.result.now _ c.in-Ok-read_script.ensures.script)
+threads_and_report-requires-clause-pieces g c κs within = has_pieces c.deref.result.now _ c.in-Ok-read_script.ensures.script
 
 pub returns-in-Ok-read_script-clause-replayed : goal.returns-in-Ok-read_script-clause-replayed
 returns-in-Ok-read_script-clause-replayed g c =

@@ -4,7 +4,7 @@ use Rattle.prpc_frame.specs.Cuts.{Cut}
 use Rattle.frame_print.proofs.print.judge_whole.Given as goal
 
 abbrev pub invariant-loop-frame : goal.invariant-loop-frame
-invariant-loop-frame l = record { frames : List Frame; cut : Cut l.initial.cutter frames l.cutter }
+invariant-loop-frame l = record { frames : List Frame; cut : Cut l.initial.cutter.bytes frames l.cutter.bytes }
 
 abbrev pub decreases-loop-frame : goal.decreases-loop-frame
-decreases-loop-frame l = length l.cutter
+decreases-loop-frame l = length l.cutter.bytes

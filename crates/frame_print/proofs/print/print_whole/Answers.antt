@@ -3,7 +3,7 @@ use Rattle.frame_print.proofs.Steps.{gathered_none, gathered_next, gather_stoppe
 use Rattle.frame_print.proofs.print.print_whole.Goals as goal
 
 pub loop-frame-init : goal.loop-frame-init
-loop-frame-init g c = record { gathered = gathered_none _ _ _ c.requires; kept = refl }
+loop-frame-init g c = record { gathered = gathered_none _ _ _ c.requires.none; untold = c.requires.untold; kept = refl }
 
 pub returns-then-is_err-clause-cuts : goal.returns-then-is_err-clause-cuts
 returns-then-is_err-clause-cuts g c =
@@ -18,7 +18,7 @@ loop-frame-preserved g c =
     gathered_next _ _ _ _ _ _ c.loop-frame.lines.bytes c.print.new.self.bytes _ _ _ c.in-Ok-Some.frame c.in-Ok-Some.field-0 c.print.result i.gathered i.kept c.in-Ok-Some.field-0-is c.in-Ok-Some.ensures.stream
     (sym c.is_err.ensures.value ∙ c.if-is_err.false) c.print.ensures
     in
-    record { gathered = more.0; kept = more.1 }
+    record { gathered = more.0; untold = c.in-Ok-Some.ensures.told; kept = more.1 }
 
 pub returns-in-Err-clause-cuts : goal.returns-in-Err-clause-cuts
 returns-in-Err-clause-cuts g c =

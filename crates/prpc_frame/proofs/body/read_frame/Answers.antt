@@ -1,4 +1,4 @@
-use Rattle.std.proofs.Common.{◌-◌, ◌+◌, ℕ, List, drop, ap, sym, ◌∙◌}
+use Rattle.std.proofs.Common.{◌-◌, ℕ, List, drop, ap, sym, ◌∙◌}
 use Rattle.std.proofs.lemmas.Result.{err_from_is_err_and}
 use Rattle.brpc_model.specs.Frame.{Begins}
 use Rattle.rpc_meta.specs.Meaning.{meaning}

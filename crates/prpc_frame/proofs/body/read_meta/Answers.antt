@@ -1,4 +1,4 @@
-use Rattle.std.proofs.Common.{◌≡◌, ◌+◌, ◌≤◌, ◌∙◌, ℕ, List, length, take, drop, ap, subst, arith}
+use Rattle.std.proofs.Common.{◌∙◌, ℕ, List, take, drop, ap, subst, arith}
 use Rattle.std.specs.Prelude.{slice_index}
 use Rattle.prpc_frame.specs.Body.{MetaIs}
 use Rattle.prpc_frame.proofs.Bodies.{meta_lies}

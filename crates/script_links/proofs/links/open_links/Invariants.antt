@@ -4,12 +4,14 @@ use Rattle.sock_io.specs.declared.link.Ends.{Ends}
 use Rattle.sock_io.specs.Link.{end_of}
 use Rattle.script_items.specs.Meaning.{item}
 use Rattle.script_links.specs.Given.{AreUntouched, is_open_line, specs_of}
+use Rattle.script_links.specs.Offered.{AreAsked, TellOffers}
 use Rattle.script_links.proofs.links.open_links.Given as goal
 
 abbrev pub invariant-loop-line : goal.invariant-loop-line
 invariant-loop-line g l = record {
   opened : length (g.L.Linker.asked l.links) ≡ length l.ends.items;
   asked : g.L.Linker.asked l.links ≡ specs_of (map item (take l.line-index l.lines));
+  offers : TellOffers g.L.O.Out.state g.L.I.In.state → AreAsked (g.L.Linker.asked l.links) (map (λ e. g.L.O.Out.state e.out) l.ends.items) (map (λ e. g.L.I.In.state e.inn) l.ends.items);
   fresh : AreUntouched 0 (map (λ e. end_of (g.L.O.Out.state e.out) (g.L.I.In.state e.inn)) l.ends.items);
   unfinished : AllByRecursion (λ (e : Ends g.row.L-O.Denot g.row.L-I.Denot g.row.L-P.Denot). (g.L.O.Out.state e.out).finished ≡ false) l.ends.items;
   unclosed : AllByRecursion (λ (e : Ends g.row.L-O.Denot g.row.L-I.Denot g.row.L-P.Denot). IfSome (g.L.I.In.state e.inn).closing (λ closing. closing ≡ false)) l.ends.items;

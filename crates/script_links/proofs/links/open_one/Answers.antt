@@ -1,6 +1,7 @@
 use Rattle.std.proofs.Common.{◌<◌, ap, sym, subst, rules}
 use Rattle.sock_io.specs.declared.link.LinkSpec.{LinkSpec}
 use Rattle.script_links.proofs.Numbering.{untouched, opened_more, all_with}
+use Rattle.script_links.proofs.Offers.{asked_with}
 use Rattle.script_links.proofs.links.open_one.Goals as goal
 
 pub returns-clause-fresh : goal.returns-clause-fresh
@@ -17,3 +18,9 @@ open-requires-clause-piece g c = subst (λ (s : LinkSpec). 0 < s.piece) (sym c.s
 
 pub returns-clause-unclosed : goal.returns-clause-unclosed
 returns-clause-unclosed g c old = all_with _ _ _ c.in_ok-opened.opened old (search rules) c.in_ok-opened.ensures.fresh.closing
+
+pub returns-clause-offers : goal.returns-clause-offers
+returns-clause-offers g c tell old =
+    let opened = c.in_ok-opened in
+    asked_with (λ e. g.L.O.Out.state e.out) (λ e. g.L.I.In.state e.inn) _ _ _ _ opened.opened _ c.spec_of.result c.requires.opened opened.ensures.asked (search rules) opened.ensures.fresh opened.ensures.offer
+    (tell.0 opened.opened.out) (tell.1 opened.opened.inn).0 (tell.1 opened.opened.inn).1 old

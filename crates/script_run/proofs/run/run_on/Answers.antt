@@ -1,6 +1,7 @@
 use Rattle.std.proofs.Common.{map, sym, ap, length, arith, ◌∙◌}
 use Rattle.sock_io.specs.Link.{end_of}
-use Rattle.script_run.specs.Played.{TellOffers, turns_of}
+use Rattle.script_links.specs.Offered.{TellOffers}
+use Rattle.script_run.specs.Played.{turns_of}
 use Rattle.script_run.proofs.Playing.{numbered_later, count_later}
 use Rattle.script_run.proofs.Texts.{text_answered}
 use Rattle.script_run.proofs.run.run_on.Goals as goal

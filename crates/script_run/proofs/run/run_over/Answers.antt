@@ -2,7 +2,7 @@ use Rattle.std.proofs.Common.{◌≢◌, None, sym, subst}
 use Rattle.std.specs.List.{AllByRecursion}
 use Rattle.brpc_model.specs.Link.{LinkEnd}
 use Rattle.sock_io.specs.Link.{end_of}
-use Rattle.script_run.proofs.Numbering.{numbered_of, unused_of, silent_of, all_so, all_mapped}
+use Rattle.script_links.proofs.Numbering.{numbered_of, unused_of, silent_of, all_so, all_mapped}
 use Rattle.script_run.proofs.run.run_over.Goals as goal
 
 pub new-requires-clause-unused : goal.new-requires-clause-unused

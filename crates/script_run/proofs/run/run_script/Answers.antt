@@ -3,9 +3,10 @@ use Rattle.std.proofs.lemmas.Result.{IfOk-weaker}
 use Rattle.sock_io.specs.declared.link.OpenFault.TheVariants.{Failed}
 use Rattle.std.specs.List.{list_all}
 use Rattle.sock_io.specs.declared.link.LinkSpec.{LinkSpec}
-use Rattle.script_run.specs.Given.{AreAsked, has_piece, specs_of}
-use Rattle.script_run.specs.Played.{IsPrinted, TellClosed, TellOffers, turns_of}
-use Rattle.script_run.proofs.Numbering.{numbered_of, links_of, few_links, pieces_of}
+use Rattle.script_links.specs.Given.{has_piece, specs_of}
+use Rattle.script_links.specs.Offered.{AreAsked, TellOffers}
+use Rattle.script_run.specs.Played.{IsPrinted, TellClosed, turns_of}
+use Rattle.script_links.proofs.Numbering.{numbered_of, links_of, few_links, pieces_of}
 use Rattle.script_run.proofs.Running.{ok_all}
 use Rattle.script_run.proofs.run.run_script.Goals as goal
 

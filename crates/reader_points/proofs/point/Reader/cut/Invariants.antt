@@ -7,7 +7,7 @@ use Rattle.reader_points.proofs.point.Reader.cut.Given as goal
 
 -- the frames so far were no responses
 abbrev pub invariant-loop-frame : goal.invariant-loop-frame
-invariant-loop-frame l = record { frames : List Frame; cut : Cut l.initial.cutter frames l.cutter; left : IsLeft l.initial.cutter l.cutter; none : AllByRecursion (IsSkipped l.ids) frames }
+invariant-loop-frame l = record { frames : List Frame; cut : Cut l.initial.cutter.bytes frames l.cutter.bytes; left : IsLeft l.initial.cutter.bytes l.cutter.bytes; none : AllByRecursion (IsSkipped l.ids) frames }
 
 abbrev pub decreases-loop-frame : goal.decreases-loop-frame
-decreases-loop-frame l = length l.cutter
+decreases-loop-frame l = length l.cutter.bytes

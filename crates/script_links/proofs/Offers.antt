@@ -6,9 +6,10 @@ use Rattle.brpc_model.specs.Items.{Item, Shape, Open}
 use Rattle.brpc_model.specs.Operations.{link_names, link_shapes}
 use Rattle.sock_io.specs.declared.link.LinkSpec.{LinkSpec}
 use Rattle.sock_io.specs.Link.{OutState, InState, Offer, IsServed, IsNewOffer, IsFresh}
-use Rattle.sock_core.specs.Links.{IsOffered}
-use Rattle.script_run.specs.Given.{AreAsked, spec_of, specs_of}
-use Rattle.script_run.proofs.Numbering.{map_more}
+use Rattle.script_links.specs.Offered.{IsOffered}
+use Rattle.script_links.specs.Given.{spec_of, specs_of}
+use Rattle.script_links.specs.Offered.{AreAsked}
+use Rattle.script_links.proofs.Numbering.{map_more}
 
 -- what is told is there
 told_there : {A : Type 0} (o : Option A) → o ≢ None → (x : A) × (o ≡ Some x)
