@@ -1,0 +1,66 @@
+-- Ways in which an error is decided on.
+use Rattle.std.proofs.Common.{◌≡◌, ◌≢◌, ℕ, ◌+◌, ◌-◌, ◌<◌, ◌≤◌, inl, inr, Bool, true, false, ◌||◌, if◌then◌else◌, List, [], ◌∷◌, ◌++◌, eqb, eq-eqb, sym, refl, ap, ◌∙◌, subst, arith}
+use Rattle.std.specs.Prelude.{Option as Maybe}
+use Rattle.sock_words.specs.Codes.{EINTERNAL}
+use Rattle.corr_core.specs.Word.{Parts, parts}
+use Rattle.corr_core.specs.declared.marks.Hand.TheVariants.{Empty}
+use Rattle.corr_core.specs.declared.marks.View.{View}
+use Rattle.id_rule.specs.Plays.{LockFits}
+use Rattle.sock_message.specs.Asked.{Asked}
+use Rattle.corr_id.specs.declared.calls.IdLock.{IdLock}
+use Rattle.corr_id.specs.declared.unlocks.Unlocked.{Unlocked}
+use Rattle.corr_id.specs.declared.unlocks.Unlocked.TheVariants.{Open, Next}
+use Rattle.corr_id.specs.Calls.{Locks, advance_note}
+use Rattle.corr_id.specs.Unlocks.{UnlockOk}
+use Rattle.call_table.specs.declared.errors.Decision.TheVariants as decisions
+use Rattle.call_table.specs.Errors.{is_final, decision_of}
+use Rattle.call_errors.specs.declared.retries.Retry.{Retry}
+use Rattle.call_errors.specs.Books.{Books, CallStand, starving, LetGo}
+use Rattle.call_errors.specs.Locking.{id_in}
+use Rattle.call_errors.specs.Ending.{EndedWith}
+use Rattle.call_errors.specs.Handling.{decision, Advanced, Decided, ends, starves, waits, goes_on}
+use Rattle.call_errors.proofs.Hands.{let_go_did, let_go_then}
+
+not_last : (whole final last : Bool) → (if whole || (final || last) then decisions.End else decisions.Retry) ≡ decisions.Retry → last ≡ false
+not_last true final last e = let k : decisions.End ≡ decisions.Retry = e in cc
+not_last false true last e = let k : decisions.End ≡ decisions.Retry = e in cc
+not_last false false true e = let k : decisions.End ≡ decisions.Retry = e in cc
+not_last false false false e = refl
+
+-- where a retry is decided on, an attempt is left
+pub attempt_left : (w : Parts) (code : ℕ) (whole : Bool) → LockFits w → decision_of w.range w.attempt code whole ≡ decisions.Retry → w.attempt + 2 < w.range
+attempt_left w code whole fits e =
+    let last : eqb (w.attempt + 2) w.range ≡ false = not_last whole (is_final code) (eqb (w.attempt + 2) w.range) e in
+    let ne : w.attempt + 2 ≢ w.range = λ q. let k : true ≡ false = sym (eq-eqb (w.attempt + 2) w.range q) ∙ last in cc in
+    let room = fits.room in omega (arith, ne)
+
+module _ (k : IdLock Asked) (s t : CallStand) where
+  -- memory was wanting before
+  pub starves_before : (code : ℕ) (attempt : Maybe ℕ) → s.books.starved ≡ true → EndedWith k EINTERNAL s t → Decided s k code attempt t
+  starves_before code attempt e h = let b = s.books in
+      let same : b ≡ starving b = λ z. record { retries = b.retries; told = b.told; starved = e z } in
+      starves s k code attempt t (inl e) (subst (λ (y : Books). EndedWith k EINTERNAL (record { view = s.view; books = y }) t) same h)
+
+  -- no memory was there for the retry
+  pub starves_here : (code : ℕ) (attempt : Maybe ℕ) (rs : List Retry) → decision k code attempt ≡ decisions.Retry → rs ≡ s.books.retries
+      → EndedWith k EINTERNAL (record { view = s.view; books = record { retries = rs; told = s.books.told; starved = true } }) t → Decided s k code attempt t
+  starves_here code attempt rs d e h = starves s k code attempt t (inr d)
+      (subst (λ (y : List Retry). EndedWith k EINTERNAL (record { view = s.view; books = record { retries = y; told = s.books.told; starved = true } }) t) e h)
+
+  -- room for the retry was made before
+  pub advanced_from : (answer : Unlocked Asked) (rs : List Retry) → rs ≡ s.books.retries
+      → Advanced k answer (record { view = s.view; books = record { retries = rs; told = s.books.told; starved = s.books.starved } }) t → Advanced k answer s t
+  advanced_from answer rs e h = subst (λ (y : List Retry). Advanced k answer (record { view = s.view; books = record { retries = y; told = s.books.told; starved = s.books.starved } }) t) e h
+
+  pub open_lets_go : Advanced k Open s t → LetGo k.slot s.view t.view
+  open_lets_go a = let (found, q, replaced, none_, did) = a.unlocked in let_go_did k.slot s.view t.view (advance_note k.slot (parts k.word.0) q) did
+
+-- the lock was given back, and the retry stands behind the others
+pub advanced_by : (k : IdLock Asked) (answer : Unlocked Asked) (s : CallStand) (w : View Asked) (r : Retry) (rs : List Retry) → UnlockOk s.view w k.slot (parts k.word.0) k.content true answer
+    → r.id ≡ id_in k → r.attempt ≡ (parts k.word.0).attempt + 1 → rs ≡ s.books.retries ++ r ∷ [] → Advanced k answer s (record { view = w; books = record { retries = rs; told = s.books.told; starved = s.books.starved } })
+advanced_by k answer s w r rs u a b e = record {
+  unlocked = u;
+  retry = r;
+  is_next = record { id_is = a; attempt_is = b };
+  kept = λ z. record { retries = e z; told = s.books.told; starved = s.books.starved };
+}

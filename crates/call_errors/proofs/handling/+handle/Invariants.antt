@@ -1,0 +1,7 @@
+use Rattle.std.proofs.Common.{◌-◌}
+use Rattle.corr_core.specs.Word.{parts}
+use Rattle.call_errors.proofs.handling.+handle.Given as goal
+
+-- each advance leaves fewer attempts
+abbrev pub decreases-handle : goal.decreases-handle
+decreases-handle l = 8 - (parts l.lock.word.0).attempt

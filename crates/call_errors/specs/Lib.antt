@@ -1,0 +1,7 @@
+pub mod Books
+pub mod Locking
+pub mod Ending
+pub mod Handling
+pub mod Posting
+pub mod Asking
+pub mod Starving
