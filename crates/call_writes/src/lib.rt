@@ -3,6 +3,8 @@
 
 mod draining;
 mod sending;
+#[cfg(test)]
+mod tests;
 
 pub use draining::write_through;
 pub use sending::{see_through_calling, send_calling};
