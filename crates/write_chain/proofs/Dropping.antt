@@ -1,5 +1,5 @@
 -- What a message was dropped with.
-use Rattle.std.proofs.Common.{◌≡◌, ◌≢◌, ℕ, zero, suc, ◌+◌, ◌<◌, ◌≤◌, cond, eqb, ne_eqb, [], ◌∷◌, sym, ap, ◌∙◌, subst, arith}
+use Rattle.std.proofs.Common.{◌≡◌, ◌≢◌, ℕ, ◌+◌, ◌<◌, ◌≤◌, cond, eqb, eq-eqb, ne_eqb, [], ◌∷◌, sym, ap, ◌∙◌, subst, arith}
 use mathlib.Core.Logic.{dite}
 use native.Mathlib.Decide.{ℕ_discrete}
 use Rattle.sock_io.specs.Link.{OutState}
@@ -33,8 +33,9 @@ pub told_then : (c id : ℕ) (v w : View) → CodeOf c id v w → c ≢ 0 → 0 
 told_then c id v w k some_ = let x = (k.told some_).here (is_told (socket_id_version id) c) in let y = pair-same (socket_id_version id) c in omega arith
 
 code_fits : (code c : ℕ) → code ≡ cond (eqb c 0) EFAILEDSOCKET c → c < 4096 → (1 ≤ code) × (code ≤ 4095)
-code_fits code zero is small = (omega (arith, is), omega (arith, is))
-code_fits code (suc c) is small = (omega (arith, is), omega (arith, is, small))
+code_fits code c is small = dite (ℕ_discrete c 0)
+    (λ none_. let e : code ≡ 1009 = is ∙ ap (λ b. cond b EFAILEDSOCKET c) (eq-eqb c 0 none_) in (omega (arith, e), omega (arith, e)))
+    (λ some_. let e : code ≡ c = is ∙ ap (λ b. cond b EFAILEDSOCKET c) (ne_eqb c 0 some_) in (omega (arith, e, some_), omega (arith, e, small)))
 
 pub is_code : (code c id : ℕ) (v w x : View) → CodeOf c id v w → code ≡ cond (eqb c 0) EFAILEDSOCKET c → c < 4096 → x.marks ≡ w.marks → IsCode code id v x
 is_code code c id v w x k is small same = record {

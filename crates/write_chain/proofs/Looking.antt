@@ -1,5 +1,5 @@
 -- What a look finds, and what becomes of a socket whose link failed.
-use Rattle.std.proofs.Common.{◌≡◌, ◌≢◌, ℕ, ◌+◌, ◌-◌, ◌%◌, ◌<◌, zero, suc, Bool, true, false, not, cond, eqb, eqb-true, eq-eqb, List, [], ◌∷◌, ◌++◌, length, take, refl, sym, ap, ◌∙◌, subst, arith}
+use Rattle.std.proofs.Common.{◌≡◌, ◌≢◌, ℕ, ◌+◌, ◌-◌, ◌%◌, ◌<◌, zero, suc, Bool, true, false, not, cond, eqb, eqb-true, eq-eqb, ltb, ltb-true, min, List, [], ◌∷◌, ◌++◌, length, take, refl, sym, ap, ◌∙◌, subst, arith}
 use Rattle.std.specs.Prelude.{◌↔◌, IsTrue, Ok, Err, IfOk, IfErr}
 use Rattle.std.specs.declared.result.Result.{Result}
 use Rattle.sock_programs.specs.Parts.{room_of_part, part}
