@@ -32,9 +32,10 @@ fn tell_dropped<R: Wait>(
     ensures free { IsFree calls.new.seat.me.0 }
     ensures told { ToldDrop ids.now.plan.slots msg code (stand_of calls.old) (stand_of calls.new) }
 {
-    if msg.owner != 0 {
-        post_error(rt, ids, calls, msg.owner, code, Some(msg.label.attempt));
+    if msg.owner == 0 {
+        return;
     }
+    post_error(rt, ids, calls, msg.owner, code, Some(msg.label.attempt));
 }
 
 /// Writes until the head is empty. The call of each message that is dropped is told at once.
