@@ -17,6 +17,9 @@ deliver-requires-clause-few g c = let z = c.args.table.now.rule.table.shared.tab
 pub deliver-requires-clause-room : goal.deliver-requires-clause-room
 deliver-requires-clause-room g c = room_still c.args.seat.now.me.0 c.reach.new.seat.me.0 c.in-Here.ensures.lists c.requires.room
 
+pub returns-in-Unopened-clause-by : goal.returns-in-Unopened-clause-by
+returns-in-Unopened-clause-by g c = (c.in-Unopened.ensures.reached, refl)
+
 pub returns-in-Gone-clause-by : goal.returns-in-Gone-clause-by
 returns-in-Gone-clause-by g c = inl (c.in-Gone.ensures.reached, refl)
 
