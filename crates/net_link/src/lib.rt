@@ -1,0 +1,15 @@
+//! Links over TCP, between this process and another one on the same machine.
+#![tactic(auto)]
+
+mod counts;
+mod moving;
+mod streams;
+mod tcp_in;
+mod tcp_linker;
+mod tcp_out;
+#[cfg(test)]
+mod tests;
+
+pub use tcp_in::TcpIn;
+pub use tcp_linker::TcpLinker;
+pub use tcp_out::TcpOut;

@@ -1,0 +1,218 @@
+ghost use Rattle.std.specs.Prelude.{◌≡◌, ◌+◌, ◌≤◌, ◌<◌, ◌∷◌, ◌++◌, true, false, [], length, IfOk, IsErrOf, OnErr, Ok};
+ghost use Rattle.sock_io.specs.Causes.{Rose};
+ghost use Rattle.sock_io.specs.Giving.{shape_asked};
+ghost use Rattle.sock_io.specs.Link.{connection_of, end_of};
+ghost use Rattle.sock_io.specs.Shape.{shaped_out};
+ghost use Rattle.net_link.specs.Halves.{new_in, tcp_in};
+ghost use Rattle.net_link.specs.Linker.{connection_shape, is_tcp, new_half};
+
+use crate::counts::risen;
+use crate::streams::{accept, connect};
+use crate::tcp_in::TcpIn;
+use crate::tcp_out::TcpOut;
+use ghosts::Ghosts;
+use sock_io::{Ends, LinkSpec, Linker, Mode, NoMemory, NoPeer, OpenFault, Shape, Shaped};
+use std::alloc::Global;
+use std::marker::Model;
+use std::net::{Net, TcpListener, TcpStream};
+
+type Link = Ends<Shaped<TcpOut>, TcpIn, NoPeer>;
+
+/// How many bytes a put takes at most on a connection that was accepted.
+const PIECE: u32 = 65_536;
+
+/// The halves of a connection, as it was given back.
+#[derive(Drop)]
+struct Connection {
+    out: Shaped<TcpOut>,
+    inn: TcpIn,
+}
+
+/// Links over TCP to a port of 127.0.0.1, and connections that are accepted at one. What is at the other end is another
+/// process's, so that of a link that is asked for its server and its end aren't used.
+///
+/// An `open` fails where the link isn't to go over TCP, and where nobody listens at the port; an `accept` where the port
+/// can't be listened at. Both fail where the system has no more room for a stream. An `accept` waits for a connection.
+///
+/// A link or connection is closed as it is given back. What was told of it is kept for the proofs alone, so that giving
+/// back takes no memory.
+#[derive(Drop)]
+pub struct TcpLinker<N: Net<Stream = TcpStream, Listener = TcpListener> + Drop> {
+    net: N,
+    alloc: Global,
+    listener: Option<TcpListener>,
+    opened: u16,
+    accepted: u16,
+    faults: u64,
+    /// What was asked of each link, and what was given back, for the proofs.
+    asked: Ghosts<LinkSpec>,
+    links: Ghosts<Link>,
+    connections: Ghosts<Connection>,
+}
+
+impl<N: Net<Stream = TcpStream, Listener = TcpListener> + Drop> Model for TcpLinker<N> {
+    ghost use Rattle.std.specs.Prelude.{◌≡◌, length, map};
+    ghost use Rattle.sock_io.specs.Link.{connection_of, end_of};
+    ghost use Rattle.sock_io.specs.Shape.{shaped_out};
+    ghost use Rattle.net_link.specs.Halves.{tcp_in};
+    ghost use Rattle.net_link.specs.Linker.{TcpLinkerState};
+
+    ghost Value = { TcpLinkerState };
+
+    ghost view = { λ l. record { asked = l.asked.list; accepted = l.accepted; back = map (λ e. end_of (shaped_out e.out) (tcp_in e.inn)) l.links.list; done = map (λ c. connection_of (shaped_out c.out) (tcp_in c.inn)) l.connections.list; faults = l.faults } };
+
+    ghost invariant = { λ l. length l.asked.list ≡ l.opened };
+}
+
+impl<N: Net<Stream = TcpStream, Listener = TcpListener> + Drop> TcpLinker<N> {
+    /// A linker that opened and accepted nothing yet, over this network. It takes no memory.
+    pub fn new(net: N, alloc: Global) -> Self
+        ensures { result ≡ record { asked = []; accepted = 0; back = []; done = []; faults = 0 } }
+    {
+        TcpLinker {
+            net,
+            alloc,
+            listener: None,
+            opened: 0,
+            accepted: 0,
+            faults: 0,
+            asked: Ghosts::of(&0u8),
+            links: Ghosts::of(&0u8),
+            connections: Ghosts::of(&0u8),
+        }
+    }
+
+    /// Raises the count.
+    fn fault(&mut self) -> OpenFault
+        ensures fault { result ≡ OpenFault.Failed }
+        ensures linker { self.new ≡ record self.old { faults = self.new.faults } }
+        ensures later { self.old.faults ≤ self.new.faults }
+        ensures rose { Rose self.old.faults self.new.faults }
+    {
+        self.faults = risen(self.faults);
+        OpenFault::Failed
+    }
+
+    /// Counts the link that is opened, and notes what was asked.
+    fn note(&mut self, spec: &LinkSpec)
+        requires { length self.old.asked < 256 }
+        ensures { self.new ≡ record self.old { asked = self.old.asked ++ spec.now ∷ [] } }
+    {
+        self.opened += 1;
+        let before: Ghosts<LinkSpec> = Ghosts::of(&self.asked);
+        let with = (before, *spec);
+        self.asked = Ghosts::of(&with);
+    }
+}
+
+impl<N: Net<Stream = TcpStream, Listener = TcpListener> + Drop> Linker for TcpLinker<N> {
+    type O = Shaped<TcpOut>;
+
+    type I = TcpIn;
+
+    type P = NoPeer;
+
+    ghost asked = { λ l. l.asked };
+
+    ghost accepted = { λ l. l.accepted };
+
+    ghost back = { λ l. l.back };
+
+    ghost done = { λ l. l.done };
+
+    ghost faults = { λ l. l.faults };
+
+    ghost prompt = { λ _. true };
+
+    fn open(&mut self, spec: &LinkSpec) -> Result<Link, OpenFault>
+        requires piece { 0 < spec.now.piece }
+        requires few { length self.old.asked < 256 }
+        ensures mode { is_tcp spec.now.mode ≡ false → IsErrOf result OpenFault.Failed }
+        ensures out { IfOk result (λ ends. ends.out ≡ new_half (length self.old.asked) (shape_asked spec.now)) }
+        ensures inn { IfOk result (λ ends. ends.inn ≡ new_in) }
+        ensures linker { IfOk result (λ _. self.new ≡ record self.old { asked = self.old.asked ++ spec.now ∷ [] }) }
+        ensures refused { OnErr result (self.new ≡ record self.old { faults = self.new.faults }) }
+        ensures later { self.old.faults ≤ self.new.faults }
+        ensures failed { IsErrOf result OpenFault.Failed → Rose self.old.faults self.new.faults }
+        ensures kept { (¬ IsErrOf result OpenFault.Failed) → self.new.faults ≡ self.old.faults }
+    {
+        let port = match spec.mode {
+            Mode::Tcp(port) => port,
+            Mode::Loop | Mode::Ring => return Err(self.fault()),
+        };
+        let (out, inn) = match connect(&self.net, port, self.opened) {
+            Ok(halves) => halves,
+            Err(_) => return Err(self.fault()),
+        };
+        let shape = Shape {
+            piece: spec.piece,
+            again: spec.again,
+            fail: spec.fail,
+        };
+        match Shaped::new(self.alloc, out, shape) {
+            Ok(out) => {
+                self.note(spec);
+                Ok(Ends {
+                    out,
+                    inn,
+                    peer: NoPeer,
+                })
+            }
+            Err(_) => Err(OpenFault::NoMemory),
+        }
+    }
+
+    fn settle(&mut self, _ends: &mut Link) -> Result<(), NoMemory>
+        ensures ends { _ends.new ≡ _ends.old }
+        ensures linker { self.new ≡ self.old }
+        ensures never { result ≡ Ok tt }
+    {
+        Ok(())
+    }
+
+    fn accept(&mut self, port: u16) -> Result<(Shaped<TcpOut>, TcpIn), OpenFault>
+        requires { self.old.accepted < 256 }
+        ensures out { IfOk result (λ halves. halves.0 ≡ new_half 0 connection_shape) }
+        ensures inn { IfOk result (λ halves. halves.1 ≡ new_in) }
+        ensures linker { IfOk result (λ _. self.new ≡ record self.old { accepted = self.old.accepted + 1 }) }
+        ensures refused { OnErr result (self.new ≡ record self.old { faults = self.new.faults }) }
+        ensures later { self.old.faults ≤ self.new.faults }
+        ensures failed { IsErrOf result OpenFault.Failed → Rose self.old.faults self.new.faults }
+        ensures kept { (¬ IsErrOf result OpenFault.Failed) → self.new.faults ≡ self.old.faults }
+    {
+        let (out, inn) = match accept(&self.net, &mut self.listener, port) {
+            Ok(halves) => halves,
+            Err(_) => return Err(self.fault()),
+        };
+        let shape = Shape {
+            piece: PIECE,
+            again: 0,
+            fail: 0,
+        };
+        match Shaped::new(self.alloc, out, shape) {
+            Ok(out) => {
+                self.accepted += 1;
+                Ok((out, inn))
+            }
+            Err(_) => Err(OpenFault::NoMemory),
+        }
+    }
+
+    fn done(&mut self, out: Shaped<TcpOut>, inn: TcpIn)
+        requires { length self.old.done < self.old.accepted }
+        ensures { self.new ≡ record self.old { done = self.old.done ++ connection_of (shaped_out out) (tcp_in inn) ∷ [] } }
+    {
+        let before: Ghosts<Connection> = Ghosts::of(&self.connections);
+        let with = (before, Connection { out, inn });
+        self.connections = Ghosts::of(&with);
+    }
+
+    fn back(&mut self, _link: u16, ends: Link)
+        requires { length self.old.back < length self.old.asked }
+        ensures { self.new ≡ record self.old { back = self.old.back ++ end_of (shaped_out ends.out) (tcp_in ends.inn) ∷ [] } }
+    {
+        let before: Ghosts<Link> = Ghosts::of(&self.links);
+        let with = (before, ends);
+        self.links = Ghosts::of(&with);
+    }
+}
