@@ -1,38 +1,22 @@
 -- Ways in which an error is decided on.
-use Rattle.std.proofs.Common.{◌≡◌, ◌≢◌, ℕ, ◌+◌, ◌-◌, ◌<◌, ◌≤◌, inl, inr, Bool, true, false, ◌||◌, if◌then◌else◌, List, [], ◌∷◌, ◌++◌, eqb, eq-eqb, sym, refl, ap, ◌∙◌, subst, arith}
+use Rattle.std.proofs.Common.{◌≡◌, ℕ, ◌+◌, inl, inr, true, List, [], ◌∷◌, ◌++◌, ◌∙◌, subst}
 use Rattle.std.specs.Prelude.{Option as Maybe}
 use Rattle.sock_words.specs.Codes.{EINTERNAL}
-use Rattle.corr_core.specs.Word.{Parts, parts}
-use Rattle.corr_core.specs.declared.marks.Hand.TheVariants.{Empty}
+use Rattle.corr_core.specs.Word.{parts}
+use Rattle.corr_core.specs.declared.marks.Token.{Token}
+use Rattle.corr_core.specs.declared.marks.Noted.{Noted}
 use Rattle.corr_core.specs.declared.marks.View.{View}
-use Rattle.id_rule.specs.Plays.{LockFits}
 use Rattle.sock_message.specs.Asked.{Asked}
 use Rattle.corr_id.specs.declared.calls.IdLock.{IdLock}
 use Rattle.corr_id.specs.declared.unlocks.Unlocked.{Unlocked}
-use Rattle.corr_id.specs.declared.unlocks.Unlocked.TheVariants.{Open, Next}
-use Rattle.corr_id.specs.Calls.{Locks, advance_note}
+use Rattle.corr_id.specs.Calls.{Did}
 use Rattle.corr_id.specs.Unlocks.{UnlockOk}
 use Rattle.call_table.specs.declared.errors.Decision.TheVariants as decisions
-use Rattle.call_table.specs.Errors.{is_final, decision_of}
 use Rattle.call_errors.specs.declared.retries.Retry.{Retry}
 use Rattle.call_errors.specs.Books.{Books, CallStand, starving, LetGo}
 use Rattle.call_errors.specs.Locking.{id_in}
 use Rattle.call_errors.specs.Ending.{EndedWith}
-use Rattle.call_errors.specs.Handling.{decision, Advanced, Decided, ends, starves, waits, goes_on}
-use Rattle.call_errors.proofs.Hands.{let_go_did, let_go_then}
-
-not_last : (whole final last : Bool) → (if whole || (final || last) then decisions.End else decisions.Retry) ≡ decisions.Retry → last ≡ false
-not_last true final last e = let k : decisions.End ≡ decisions.Retry = e in cc
-not_last false true last e = let k : decisions.End ≡ decisions.Retry = e in cc
-not_last false false true e = let k : decisions.End ≡ decisions.Retry = e in cc
-not_last false false false e = refl
-
--- where a retry is decided on, an attempt is left
-pub attempt_left : (w : Parts) (code : ℕ) (whole : Bool) → LockFits w → decision_of w.range w.attempt code whole ≡ decisions.Retry → w.attempt + 2 < w.range
-attempt_left w code whole fits e =
-    let last : eqb (w.attempt + 2) w.range ≡ false = not_last whole (is_final code) (eqb (w.attempt + 2) w.range) e in
-    let ne : w.attempt + 2 ≢ w.range = λ q. let k : true ≡ false = sym (eq-eqb (w.attempt + 2) w.range q) ∙ last in cc in
-    let room = fits.room in omega (arith, ne)
+use Rattle.call_errors.specs.Handling.{decision, Advanced, Decided, starves}
 
 module _ (k : IdLock Asked) (s t : CallStand) where
   -- memory was wanting before
@@ -52,9 +36,6 @@ module _ (k : IdLock Asked) (s t : CallStand) where
       → Advanced k answer (record { view = s.view; books = record { retries = rs; told = s.books.told; starved = s.books.starved } }) t → Advanced k answer s t
   advanced_from answer rs e h = subst (λ (y : List Retry). Advanced k answer (record { view = s.view; books = record { retries = y; told = s.books.told; starved = s.books.starved } }) t) e h
 
-  pub open_lets_go : Advanced k Open s t → LetGo k.slot s.view t.view
-  open_lets_go a = let (found, q, replaced, none_, did) = a.unlocked in let_go_did k.slot s.view t.view (advance_note k.slot (parts k.word.0) q) did
-
 -- the lock was given back, and the retry stands behind the others
 pub advanced_by : (k : IdLock Asked) (answer : Unlocked Asked) (s : CallStand) (w : View Asked) (r : Retry) (rs : List Retry) → UnlockOk s.view w k.slot (parts k.word.0) k.content true answer
     → r.id ≡ id_in k → r.attempt ≡ (parts k.word.0).attempt + 1 → rs ≡ s.books.retries ++ r ∷ [] → Advanced k answer s (record { view = w; books = record { retries = rs; told = s.books.told; starved = s.books.starved } })
@@ -64,3 +45,7 @@ advanced_by k answer s w r rs u a b e = record {
   is_next = record { id_is = a; attempt_is = b };
   kept = λ z. record { retries = e z; told = s.books.told; starved = s.books.starved };
 }
+
+-- behind a step on the same slot
+pub let_go_then : (i : ℕ) (u v w : View Asked) (ts : List (Token Asked)) (es : List (Noted Asked)) → Did i u v ts es → LetGo i v w → LetGo i u w
+let_go_then i u v w ts es d l = record { nothing = l.nothing; others = λ j ne. l.others j ne ∙ d.others j ne }

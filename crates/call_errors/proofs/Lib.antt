@@ -1,2 +1,3 @@
-pub mod Hands
 pub mod Deciding
+pub mod Keeping
+pub mod Accounts

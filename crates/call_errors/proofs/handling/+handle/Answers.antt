@@ -2,8 +2,7 @@ use Rattle.std.proofs.Common.{ℕ, sym, subst}
 use Rattle.corr_id.specs.declared.unlocks.Unlocked.TheVariants.{Open, Next}
 use Rattle.call_errors.specs.Books.{stand_of, LetGo}
 use Rattle.call_errors.specs.Handling.{ends, waits, goes_on}
-use Rattle.call_errors.proofs.Hands.{let_go_then}
-use Rattle.call_errors.proofs.Deciding.{starves_before, starves_here, advanced_from}
+use Rattle.call_errors.proofs.Deciding.{starves_before, starves_here, advanced_from, let_go_then}
 use Rattle.call_errors.proofs.handling.+handle.Goals as goal
 
 pub returns-then-calls-clause-decided : goal.returns-then-calls-clause-decided
