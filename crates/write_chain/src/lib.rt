@@ -2,6 +2,7 @@
 #![tactic(auto)]
 
 mod entry;
+mod hand;
 mod hold;
 mod keep;
 mod right;

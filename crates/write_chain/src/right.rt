@@ -1,12 +1,7 @@
-ghost use Rattle.std.specs.Prelude.{◌≡◌, ◌≢◌, ◌<◌, ◌≤◌, [], false, length};
-ghost use Rattle.sock_io.specs.declared.link.Put.TheVariants.{Failed};
-ghost use Rattle.sock_io.specs.declared.link.Ready.TheVariants as ready;
-ghost use Rattle.sock_io.specs.Causes.{Rose};
-ghost use Rattle.sock_io.specs.Link.{taken_of};
-ghost use Rattle.write_chain.specs.Puts.{next_of, WentOn};
+ghost use Rattle.std.specs.Prelude.{◌≤◌};
 
 use message_parts::OutgoingParcel;
-use sock_io::{Out, Put, Ready};
+use sock_io::Out;
 use sock_rule::LinkHome;
 use sock_table::SockRef;
 use sock_words::{Label, Ticket};
@@ -28,31 +23,6 @@ pub struct InHand<O: Out> {
     pub label: Label,
     pub owner: u64,
     pub ghost numbered: { label.attempt ≤ 6 },
-}
-
-impl<O: Out> InHand<O> {
-    /// W1: the next piece of the message is put into the link.
-    pub fn put(&mut self) -> Put
-        requires some { 0 < length (next_of self.old.bytes) }
-        ensures has { WentOn self.old self.new (taken_of (next_of self.old.bytes) result) }
-        ensures faults { result ≡ Failed → (O.state self.old.home.out).finished ≡ false → Rose (O.state self.old.home.out).faults (O.state self.new.home.out).faults }
-        ensures kept { result ≢ Failed → (O.state self.new.home.out).faults ≡ (O.state self.old.home.out).faults }
-    {
-        let put = self.home.put(self.bytes.next_piece());
-        if let Put::Took(count) = put {
-            self.bytes.take(count);
-        }
-        put
-    }
-
-    /// W2: whether the link takes more.
-    pub fn ready(&mut self) -> Ready
-        ensures has { WentOn self.old self.new [] }
-        ensures faults { result ≡ ready.Failed → (O.state self.old.home.out).finished ≡ false → Rose (O.state self.old.home.out).faults (O.state self.new.home.out).faults }
-        ensures kept { result ≢ ready.Failed → (O.state self.new.home.out).faults ≡ (O.state self.old.home.out).faults }
-    {
-        self.home.ready()
-    }
 }
 
 /// A message that was dropped: what its link didn't take of it, its label, whose attempt is 6 at most, and its owner, which is
