@@ -2,7 +2,7 @@
 -- built, or for `run` of a script that isn't; with 0 no write failed; and where nothing stands in the way of a report, only it and want of memory come.
 use Rattle.std.proofs.Common.{◌≡◌, ◌≢◌, ℕ, ◌<◌, ◌≤◌, ◌⊎◌, inl, inr, true, false, List, [], ◌∷◌, ◌++◌, map, refl, length, Option, Some, None, Result, Ok, Err, ap, sym, ◌∙◌, subst, arith, length-append, append-nil}
 use Rattle.std.specs.Io.KnownBytes.{Consumes}
-use Rattle.brpc_model.specs.Commands.{Command, Replay, Sim, Run, Gen, Load, Frames, command_of}
+use Rattle.brpc_model.specs.Commands.{Command, Replay, Sim, Run, Gen, Load, Frames, Serve, command_of}
 use Rattle.brpc_model.specs.Items.{Item}
 use Rattle.brpc_model.specs.Operations.{Turn}
 use Rattle.brpc_model.specs.Script.{script_of}
@@ -19,9 +19,10 @@ use Rattle.loop_link.specs.Serving.{LoopInState, loop_in}
 use Rattle.script_links.specs.Offered.{TellOffers}
 use Rattle.script_run.specs.Played.{TellClosed}
 use Rattle.script_threads.specs.Built.{is_built}
+use Rattle.serve_port.specs.Serving.{ServedConnection}
 use Rattle.brpc_eng.proofs.Statuses.{each_script_is_run, IsUnbuilt, unbuilt_script_exactly}
 use Rattle.brpc_eng.specs.Streams.{script_limit, IsAtEnd}
-use Rattle.brpc_eng.specs.Answers.{HaveRisen, StandStill, AllTell, edges_of, Input, Output, Links, TextWritten, Ran, Reported, MemoryRanOut, OpenFailed, RanOnThreads, ThreadsReported, ThreadsRanOut, ThreadsNotOpened, ScriptNotBuilt, ScriptEnd, FaultWritten, Replayed, RanScript, FaultyScript, SourceFailed, TooLong, NoMemory, Answers, NoCommand, CommandNotBuilt, Generated, Generates, LoadRan, LoadSummed, LoadRanOut, LoadNotOpened, Loads, PrintsInput, Replays, Simulates, RunsOnThreads, is_built_command, frames_status, FramesPrinted}
+use Rattle.brpc_eng.specs.Answers.{HaveRisen, StandStill, AllTell, edges_of, Input, Output, Links, TextWritten, Ran, Reported, MemoryRanOut, OpenFailed, RanOnThreads, ThreadsReported, ThreadsRanOut, ThreadsNotOpened, ScriptNotBuilt, ScriptEnd, FaultWritten, Replayed, RanScript, FaultyScript, SourceFailed, TooLong, NoMemory, Answers, NoCommand, CommandNotBuilt, Generated, Generates, LoadRan, LoadSummed, LoadRanOut, LoadNotOpened, Loads, PrintsInput, Replays, Simulates, RunsOnThreads, ServeEnds, ServedWhole, NotAccepted, ConnectionFailed, MetFault, ServeRanOut, ServesPort, is_built_command, frames_status, FramesPrinted}
 
 -- ## Status 2
 
@@ -68,6 +69,13 @@ not_two_ended (Err fault_.Sink) status s = λ e. absurd (omega (arith, e, s))
 not_two_ended (Err fault_.TooLong) status s = λ e. absurd (omega (arith, e, s))
 not_two_ended (Err fault_.NoMemory) status s = λ e. absurd (omega (arith, e, s))
 
+not_two_served : (count : ℕ) (served : List ServedConnection) (out : Output) (links : Links) (status : ℕ) → ServeEnds count served out links status → status ≢ 2
+not_two_served count served out links status (ServedWhole all whole wrote) = not_two_written out _ status wrote
+not_two_served count served out links status (NotAccepted s rose wrote) = λ e. absurd (omega (arith, e, s))
+not_two_served count served out links status (ConnectionFailed s failing wrote) = λ e. absurd (omega (arith, e, s))
+not_two_served count served out links status (MetFault s fine faulty wrote) = λ e. absurd (omega (arith, e, s))
+not_two_served count served out links status (ServeRanOut s fine clean wrote) = λ e. absurd (omega (arith, e, s))
+
 -- the words ask for no command exactly where the status is 2
 pub usage_exactly : (words : List (List ℕ)) (input : Input) (out : Output) (links : Links) (status : ℕ) → Answers words input out links status →
     (status ≡ 2 → command_of words ≡ None) × (command_of words ≡ None → status ≡ 2)
@@ -80,6 +88,7 @@ usage_exactly words input out links status (Replays is replayed) = (λ e. absurd
 usage_exactly words input out links status (Simulates seed is replayed) = (λ e. absurd (not_two _ input out links replayed.bytes status (λ script ran. not_two_ran _ script out links status ran) replayed.replayed e), λ e. absurd (cc))
 usage_exactly words input out links status (RunsOnThreads is replayed) =
     (λ e. absurd (not_two _ input out links replayed.bytes status (λ script ran. not_two_threads script out links status ran) replayed.replayed e), λ e. absurd (cc))
+usage_exactly words input out links status (ServesPort port count is same served) = (λ e. absurd (not_two_served count served.served out links status served.ended e), λ e. absurd (cc))
 
 -- ## A report, or want of memory
 
@@ -170,6 +179,9 @@ report_comes script given words input out links status command (RunsOnThreads na
     let built : is_built script ≡ true = subst (RunsScript script) (sym alike) runs in
     calm_replayed _ script given input out links replayed.bytes status calm (subst P told replayed.came) few is
     (λ read alike ran. calm_threads read input out links status calm (subst (λ (s : List Item). is_built s ≡ true) (sym alike) built) ran) replayed.replayed
+report_comes script given words input out links status command (ServesPort port count named same served) asked runs told few is calm =
+    let one : Some (Serve port count) ≡ Some command = sym named ∙ asked in
+    let alike : Serve port count ≡ command = cc in absurd (subst (RunsScript script) (sym alike) runs)
 
 -- ## Status 10
 
@@ -191,6 +203,14 @@ not_ten_ended (Err fault_.Source) status s = λ e. absurd (omega (arith, e, s))
 not_ten_ended (Err fault_.Sink) status s = λ e. absurd (omega (arith, e, s))
 not_ten_ended (Err fault_.TooLong) status s = λ e. absurd (omega (arith, e, s))
 not_ten_ended (Err fault_.NoMemory) status s = λ e. absurd (omega (arith, e, s))
+
+not_ten_served : (count : ℕ) (served : List ServedConnection) (out : Output) (links : Links) (status : ℕ) → ServeEnds count served out links status → status ≢ 10
+not_ten_served count served out links status (ServedWhole all whole (inl w)) = λ e. absurd (omega (arith, e, w.0))
+not_ten_served count served out links status (ServedWhole all whole (inr w)) = λ e. absurd (omega (arith, e, w.0))
+not_ten_served count served out links status (NotAccepted s rose wrote) = λ e. absurd (omega (arith, e, s))
+not_ten_served count served out links status (ConnectionFailed s failing wrote) = λ e. absurd (omega (arith, e, s))
+not_ten_served count served out links status (MetFault s fine faulty wrote) = λ e. absurd (omega (arith, e, s))
+not_ten_served count served out links status (ServeRanOut s fine clean wrote) = λ e. absurd (omega (arith, e, s))
 
 never_false : true ≡ false → ⊥
 never_false e = cc
@@ -237,6 +257,12 @@ unbuilt_exactly command words input out links status (RunsOnThreads named replay
       λ e. inr (sym alike, (replayed.bytes, replayed.came, (unbuilt_script_exactly input out links status replayed).0 e)),
       λ differs. absurd (never_false (subst (λ (x : Command). is_built_command x ≡ false) (sym alike) differs)),
     )
+unbuilt_exactly command words input out links status (ServesPort port count named same served) asked =
+    let one : Some (Serve port count) ≡ Some command = sym named ∙ asked in
+    let alike : Serve port count ≡ command = cc in (
+      λ e. absurd (not_ten_served count served.served out links status served.ended e),
+      λ differs. absurd (never_false (subst (λ (x : Command). is_built_command x ≡ false) (sym alike) differs)),
+    )
 
 -- ## Status 0
 
@@ -279,6 +305,13 @@ still_ended input out bytes (Err fault_.Sink) status s h e = absurd (omega (arit
 still_ended input out bytes (Err fault_.TooLong) status s h e = absurd (omega (arith, e, s))
 still_ended input out bytes (Err fault_.NoMemory) status s h e = absurd (omega (arith, e, s))
 
+still_served : (count : ℕ) (served : List ServedConnection) (out : Output) (links : Links) (status : ℕ) → ServeEnds count served out links status → status ≡ 0 → StandStill out.faults
+still_served count served out links status (ServedWhole all whole wrote) e = still_written out _ status wrote e
+still_served count served out links status (NotAccepted s rose wrote) e = wrote.1
+still_served count served out links status (ConnectionFailed s failing wrote) e = wrote.1
+still_served count served out links status (MetFault s fine faulty wrote) e = wrote.1
+still_served count served out links status (ServeRanOut s fine clean wrote) e = wrote.1
+
 -- with 0 the sink's count stands still
 pub no_write_failed : (words : List (List ℕ)) (input : Input) (out : Output) (links : Links) (status : ℕ) → Answers words input out links status → status ≡ 0 → StandStill out.faults
 no_write_failed words input out links status (NoCommand s none same back wrote) e = absurd (omega (arith, e, s))
@@ -290,6 +323,7 @@ no_write_failed words input out links status (PrintsInput named back printed) e 
 no_write_failed words input out links status (Replays named replayed) e = still_replayed _ input out links replayed.bytes status (λ script ran e. still_ran _ script out links status ran e) replayed.replayed e
 no_write_failed words input out links status (Simulates seed named replayed) e = still_replayed _ input out links replayed.bytes status (λ script ran e. still_ran _ script out links status ran e) replayed.replayed e
 no_write_failed words input out links status (RunsOnThreads named replayed) e = still_replayed _ input out links replayed.bytes status (λ script ran e. still_threads script out links status ran e) replayed.replayed e
+no_write_failed words input out links status (ServesPort port count named same served) e = still_served count served.served out links status served.ended e
 
 -- ## One text
 

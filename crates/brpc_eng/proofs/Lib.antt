@@ -8,3 +8,4 @@ pub mod GeneratedLemmas
 pub mod Exactly
 pub mod Statuses
 pub mod OnThreads
+pub mod Serving

@@ -1,12 +1,12 @@
 -- How `replay` ends, by what its calls say.
-use Rattle.std.proofs.Common.{◌≡◌, ◌≢◌, ℕ, ◌≤◌, inl, false, List, length, Option, Some, Vec, Result, Ok, Err, refl, ap, sym, ◌∙◌, subst, arith, option_map}
+use Rattle.std.proofs.Common.{◌≡◌, ◌≢◌, ℕ, ◌≤◌, inl, List, length, Option, Some, Vec, Result, Ok, Err, refl, ap, sym, ◌∙◌, subst, arith, option_map}
 use Rattle.std.specs.declared.alloc.Global.{Global}
 use Rattle.brpc_model.specs.Items.{Item}
 use Rattle.brpc_model.specs.Script.{script_of}
 use Rattle.brpc_model.specs.Commands as model
 use Rattle.brpc_eng.specs.declared.commands.Command.{Command}
 use Rattle.brpc_eng.specs.declared.draw.Draw.{Draw}
-use Rattle.brpc_eng.specs.declared.commands.Command.TheVariants.{Replay, Sim, Run, Gen, Load, Frames, Serve}
+use Rattle.brpc_eng.specs.declared.commands.Command.TheVariants.{Sim, Gen, Load, Frames}
 use Rattle.sock_programs.specs.Scripts.{drawn_turns}
 use Rattle.brpc_eng.specs.Command.{meaning}
 use Rattle.brpc_eng.specs.Streams.{script_limit, ReadWhole}
@@ -53,21 +53,6 @@ replays_faulty ran input out links status line kind bytes seen read whole s e ba
     whole_input ran input out links bytes read status whole (answer.FaultyScript whole.whole.1 line kind (ap script_of (sym (came_is input bytes seen read whole s)) ∙ e) back wrote)
 
 -- ## The words
-
-not_built : (command : Command) → (command ≡ Replay → ⊥) → ((seed : ℕ) → command ≡ Sim seed → ⊥) → ((port : Option ℕ) → command ≡ Run port → ⊥) → ((draw : Draw) → command ≡ Gen draw → ⊥) → ((draw : Draw) → command ≡ Load draw → ⊥) → (command ≡ Frames → ⊥) → answer.is_built_command (meaning command) ≡ false
-not_built Replay h s r k l f = absurd (h refl)
-not_built (Sim seed) h s r k l f = absurd (s seed refl)
-not_built (Run port) h s r k l f = absurd (r port refl)
-not_built (Gen draw) h s r k l f = absurd (k draw refl)
-not_built (Load draw) h s r k l f = absurd (l draw refl)
-not_built Frames h s r k l f = absurd (f refl)
-not_built (Serve port connections) h s r k l f = refl
-
--- a command that isn't built
-pub other_command : (words : List (List ℕ)) (input : answer.Input) (out : answer.Output) (links : answer.Links) (command : Command) → option_map meaning (Some command) ≡ model.command_of words → (command ≡ Replay → ⊥) → ((seed : ℕ) → command ≡ Sim seed → ⊥) → ((port : Option ℕ) → command ≡ Run port → ⊥) → ((draw : Draw) → command ≡ Gen draw → ⊥) → ((draw : Draw) → command ≡ Load draw → ⊥) → (command ≡ Frames → ⊥) →
-    input.left ≡ input.given → answer.OpenedNone links → answer.Wrote out answer.not_built_text → answer.Answers words input out links 10
-other_command words input out links command e other simulated threaded drawn loads framed same back wrote =
-    answer.CommandNotBuilt refl (meaning command) (sym e) (not_built command other simulated threaded drawn loads framed) same back wrote
 
 -- a drawn script
 pub drawn_command : (words : List (List ℕ)) (input : answer.Input) (out : answer.Output) (links : answer.Links) (status : ℕ) (command : Command) (draw : Draw) → option_map meaning (Some command) ≡ model.command_of words → command ≡ Gen draw →

@@ -1,8 +1,8 @@
 -- The answers of the program: the status, its cause, and what is written with it.
-use Rattle.std.specs.Prelude.{ℕ, ◌≡◌, ◌≢◌, ◌<◌, ◌≤◌, ◌+◌, ◌⊎◌, ◌++◌, Bool, true, false, List, [], length, codes, decimal, is_some, Option, Some, None, Result, Ok, Err}
+use Rattle.std.specs.Prelude.{ℕ, ◌≡◌, ◌≢◌, ◌<◌, ◌≤◌, ◌+◌, ◌⊎◌, ◌++◌, Bool, true, false, List, [], length, map, All, codes, decimal, is_some, Option, Some, None, Result, Ok, Err}
 use Rattle.std.specs.Io.KnownBytes.{Appends, Consumes}
 use Rattle.std.specs.List.{AllByRecursion}
-use Rattle.brpc_model.specs.Commands.{Command, Replay, Sim, Run, Gen, Load, Frames, command_of, usage_text}
+use Rattle.brpc_model.specs.Commands.{Command, Replay, Sim, Run, Gen, Load, Frames, Serve, command_of, usage_text}
 use Rattle.brpc_model.specs.ScriptText.{script_text}
 use Rattle.brpc_model.specs.Drawn.{generated}
 use Rattle.brpc_model.specs.Items.{Item}
@@ -26,6 +26,8 @@ use Rattle.sock_programs.specs.Cores.{Core}
 use Rattle.sock_programs.specs.Scripts.{IsRunWithCalls, is_callless, drawn_turns}
 use Rattle.whole_runs.specs.Heard.{as_told, heard_of, heard_takes}
 use Rattle.sock_io.specs.declared.link.LinkSpec.{LinkSpec}
+use Rattle.sock_io.specs.Link.{ConnectionEnd}
+use Rattle.serve_port.specs.Serving.{ServedConnection, IsServed, any_failing, any_faulty, all_whole, frames_of}
 use Rattle.script_links.specs.Given.{AreNumbered, AreUntouched, IsBeginning, specs_of}
 use Rattle.script_run.specs.Causes.{CameLate, late_in}
 use Rattle.script_run.specs.Played.{IsRunText}
@@ -61,13 +63,15 @@ pub record Output : Type 0 where
   pub faults : Faults
 
 -- a linker: whether its links are always ready in time, that each reading half tells whether it is found closed, that each link tells what it took, gave and is offered, what was asked of each
--- link that was opened, and those that were given back
+-- link that was opened, and those that were given back; and how many connections were accepted, and those that were given back
 pub record Links : Type 1 where
   pub prompt : Bool
   pub tells : Type 0
   pub offering : Type 0
   pub asked : List LinkSpec
   pub ends : List LinkEnd
+  pub accepted : ℕ
+  pub done : List ConnectionEnd
   pub faults : Faults
 
 -- no link was opened
@@ -258,9 +262,34 @@ pub record FramesPrinted (input : Input) (out : Output) (status : ℕ) : Type 0 
   pub numbered : status ≡ frames_status ended
   pub printed : PrintsFrames (edges_of input out) ended
 
+-- ## `serve`
+
+abbrev pub served_text : ℕ → ℕ → List ℕ
+served_text count frames = codes "served " ++ decimal count ++ codes " frames " ++ decimal frames ++ codes "\n"
+
+-- how it ends, where these connections were served of so many
+pub data ServeEnds (count : ℕ) (served : List ServedConnection) (out : Output) (links : Links) (status : ℕ) : Type 0 where
+  -- each was read to its end, or to the most that is read of one, and took the replies to all that it gave; and so many these are in all
+  ServedWhole : length served ≡ count → all_whole served ≡ true → TextWritten out (served_text count (frames_of served)) status → ServeEnds count served out links status
+  NotAccepted : status ≡ 8 → HaveRisen links.faults → WroteNothing out → ServeEnds count served out links status
+  -- a put or a take of one failed, by its own count
+  ConnectionFailed : status ≡ 8 → any_failing served ≡ true → WroteNothing out → ServeEnds count served out links status
+  MetFault : status ≡ 9 → any_failing served ≡ false → any_faulty served ≡ true → WroteNothing out → ServeEnds count served out links status
+  ServeRanOut : status ≡ 7 → any_failing served ≡ false → any_faulty served ≡ false → WroteNothing out → ServeEnds count served out links status
+
+-- of so many connections these were accepted, each was served, and all were given back, in the order in which they were accepted
+pub record ServedPort (count : ℕ) (out : Output) (links : Links) (status : ℕ) : Type 0 where
+  pub served : List ServedConnection
+  pub few : length served ≤ count
+  pub each : All IsServed served
+  pub accepted : links.accepted ≡ length served
+  pub given_back : links.done ≡ map (λ (s : ServedConnection). s.connection) served
+  pub none_opened : OpenedNone links
+  pub ended : ServeEnds count served out links status
+
 -- ## The program
 
--- the commands that are built; `run` on threads only over links in memory
+-- the commands that are built: all but `run` over TCP
 abbrev pub is_built_command : Command → Bool
 is_built_command Replay = true
 is_built_command (Sim seed) = true
@@ -268,6 +297,7 @@ is_built_command (Run None) = true
 is_built_command (Gen seed clients count) = true
 is_built_command (Load seed clients count) = true
 is_built_command Frames = true
+is_built_command (Serve port count) = true
 is_built_command other = false
 
 -- why the program ends with a status
@@ -289,6 +319,8 @@ pub data Answers (words : List (List ℕ)) (input : Input) (out : Output) (links
   Simulates : (seed : ℕ) → command_of words ≡ Some (Sim seed) → ReplayedInput (by_turns (λ script. drawn_turns script seed)) input out links status → Answers words input out links status
   -- or on threads, whatever its schedule
   RunsOnThreads : command_of words ≡ Some (Run None) → ReplayedInput RanOnThreads input out links status → Answers words input out links status
+  -- they ask for so many connections to be served at a port, and nothing is read
+  ServesPort : (port count : ℕ) → command_of words ≡ Some (Serve port count) → input.left ≡ input.given → ServedPort count out links status → Answers words input out links status
 
 -- ## The counts of the source and the linker
 

@@ -11,4 +11,4 @@ meaning (command.Run port) = model.Run port
 meaning (command.Gen draw) = model.Gen draw.seed draw.clients draw.operations
 meaning (command.Load draw) = model.Load draw.seed draw.clients draw.operations
 meaning command.Frames = model.Frames
-meaning (command.Serve port connections) = model.Serve port connections
+meaning (command.Serve doors) = model.Serve doors.port doors.connections

@@ -3,6 +3,7 @@ ghost use Rattle.brpc_model.specs.Commands.{command_of, sim_of, run_of, drawn_of
 ghost use Rattle.brpc_model.specs.Commands as model;
 ghost use Rattle.brpc_eng.specs.Command.{meaning};
 
+use crate::doors::Doors;
 use crate::draw::Draw;
 use script_items::number;
 
@@ -22,7 +23,7 @@ pub enum Command {
     /// `frames`: the frames of the input are printed.
     Frames,
     /// `serve PORT N`: so many connections are served.
-    Serve { port: u32, connections: u32 },
+    Serve(Doors),
 }
 
 /// The first word, and those behind it.
@@ -118,7 +119,7 @@ fn serve(words: &[String]) -> Option<Command>
     }
     let port = number(port.as_bytes(), 1, 65_535)?;
     let connections = number(connections.as_bytes(), 1, 31)?;
-    Some(Command::Serve { port, connections })
+    Some(Command::Serve(Doors { port, connections }))
 }
 
 /// What the words of the command line ask for, where they have the form of a command.

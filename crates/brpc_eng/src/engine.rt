@@ -8,7 +8,8 @@ use crate::commands::{Command, read_command};
 use crate::frames::frames;
 use crate::generated::print_generated;
 use crate::load::load;
-use crate::replay::{NOT_BUILT, replay, write_answer};
+use crate::replay::{replay, write_answer};
+use crate::serve::serve;
 use crate::status::Status;
 use crate::threads::run_command;
 use script_run::Schedule;
@@ -31,12 +32,13 @@ const USAGE: &[u8] =
 /// | 5 | only where the sink failed, in place of 0; a beginning of the report was written |
 /// | 6 | exactly where more than 1,048,576 bytes came, in `frames` more than 268,435,456 |
 /// | 7 | where memory ran out |
-/// | 8 | only where a link couldn't be opened; those opened before are given back untouched |
-/// | 9 | exactly where the bytes read by `frames` have a faulty frame, also where the sink fails; the frames before it and the fault are written |
-/// | 10 | exactly where the command isn't built, or is `run` and the script has a line that isn't built for it; `not built` is written |
+/// | 8 | only where a link couldn't be opened, and those opened before are given back untouched; in `serve` only where an accept failed, or a put or a take of a connection |
+/// | 9 | exactly where the bytes read by `frames` have a faulty frame, also where the sink fails; the frames before it and the fault are written; in `serve` exactly where the bytes of a connection have one, and 8 isn't answered |
+/// | 10 | exactly where the command is `run` with a port, or `run` and the script has a line that isn't built for it; `not built` is written |
 ///
 /// Faults are met in the order words, source, size, script, opening, run, printing; want of memory
-/// may come at any place of it, and is the one answer that needs no cause. `frames` prints as it reads, so that with 4,
+/// may come at any place of it, and is the one answer that needs no cause. `serve` reads nothing: it gives each connection that
+/// it accepted back, whatever the status. `frames` prints as it reads, so that with 4,
 /// 6 and 7 the lines of the frames that were whole stand written; where the sink fails the bytes of that read are judged to
 /// their end, and no more are read.
 pub fn brpc<R: Threads + Wait + Sync, S: Source, K: Sink, L: Linker, G: Gate + Sync>(
@@ -50,12 +52,14 @@ pub fn brpc<R: Threads + Wait + Sync, S: Source, K: Sink, L: Linker, G: Gate + S
 ) -> u8
     requires asked { L.asked links.old ≡ [] }
     requires back { L.back links.old ≡ [] }
+    requires accepted { L.accepted links.old ≡ 0 }
+    requires done { L.done links.old ≡ [] }
     // `TellClosed`: a reading half of this type tells whether it is found closed. Each kind of link of this project does. `TellOffers`: its links tell what
     // they took, gave and are offered, as those whose other end is the built-in server do.
     ensures answers { Answers (map string_bytes words.now)
         (record { given = S.left source.old; left = S.left source.new; faults = record { before = S.faults source.old; now = S.faults source.new } })
         (record { before = K.contents out.old; now = K.contents out.new; faults = record { before = K.faults out.old; now = K.faults out.new } })
-        (record { prompt = L.prompt links.old; tells = TellClosed L.I.state; offering = TellOffers L.O.state L.I.state; asked = L.asked links.new; ends = L.back links.new; faults = record { before = L.faults links.old; now = L.faults links.new } })
+        (record { prompt = L.prompt links.old; tells = TellClosed L.I.state; offering = TellOffers L.O.state L.I.state; asked = L.asked links.new; ends = L.back links.new; accepted = L.accepted links.new; done = L.done links.new; faults = record { before = L.faults links.old; now = L.faults links.new } })
         result }
     ensures counts { CountsStand
         (record { before = S.faults source.old; now = S.faults source.new })
@@ -77,10 +81,12 @@ fn answer<R: Threads + Wait + Sync, S: Source, K: Sink, L: Linker, G: Gate + Syn
 ) -> Status
     requires asked { L.asked links.old ≡ [] }
     requires back { L.back links.old ≡ [] }
+    requires accepted { L.accepted links.old ≡ 0 }
+    requires done { L.done links.old ≡ [] }
     ensures answers { Answers (map string_bytes words.now)
         (record { given = S.left source.old; left = S.left source.new; faults = record { before = S.faults source.old; now = S.faults source.new } })
         (record { before = K.contents out.old; now = K.contents out.new; faults = record { before = K.faults out.old; now = K.faults out.new } })
-        (record { prompt = L.prompt links.old; tells = TellClosed L.I.state; offering = TellOffers L.O.state L.I.state; asked = L.asked links.new; ends = L.back links.new; faults = record { before = L.faults links.old; now = L.faults links.new } })
+        (record { prompt = L.prompt links.old; tells = TellClosed L.I.state; offering = TellOffers L.O.state L.I.state; asked = L.asked links.new; ends = L.back links.new; accepted = L.accepted links.new; done = L.done links.new; faults = record { before = L.faults links.old; now = L.faults links.new } })
         (number_of result) }
     ensures counts { CountsStand
         (record { before = S.faults source.old; now = S.faults source.new })
@@ -101,10 +107,7 @@ fn answer<R: Threads + Wait + Sync, S: Source, K: Sink, L: Linker, G: Gate + Syn
             Command::Gen(draw) => print_generated(alloc, &draw, out),
             Command::Load(draw) => load(alloc, &draw, out, links),
             Command::Frames => frames(alloc, source, out),
-            _ => {
-                write_answer(out, NOT_BUILT);
-                Status::NotBuilt
-            }
+            Command::Serve(doors) => serve(rt, alloc, &doors, out, links),
         },
     }
 }

@@ -2,6 +2,7 @@
 #![tactic(auto)]
 
 mod commands;
+mod doors;
 mod draw;
 mod engine;
 mod frames;
@@ -9,6 +10,7 @@ mod generated;
 mod load;
 mod replay;
 mod run;
+mod serve;
 mod status;
 mod streams;
 #[cfg(test)]

@@ -424,7 +424,6 @@ const WORDS: [(&str, u8); 15] = [
     ("gen 7 31 133", 2),
     ("load 7 32 1", 2),
     ("sim 01", 2),
-    ("serve 80 31", 10),
     ("serve 80 32", 2),
 ];
 
@@ -440,6 +439,14 @@ fn answers_words(rt: HostRuntime) -> Result<(), Fail> {
         };
         assert_eq!(rt; written.as_slice(), text.as_bytes(), "at {words}");
     }
+    Ok(())
+}
+
+#[test]
+fn serves_what_ends_at_once(rt: HostRuntime) -> Result<(), Fail> {
+    let (status, written) = answer(&rt, "serve 80 31", b"", CALM)?;
+    assert_eq!(rt; status, 0);
+    assert_eq!(rt; written.as_slice(), b"served 31 frames 0\n".as_slice());
     Ok(())
 }
 

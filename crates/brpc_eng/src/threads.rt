@@ -35,7 +35,7 @@ pub fn run_command<R: Threads + Wait + Sync, S: Source, K: Sink, L: Linker, G: G
     ensures answers { (words : List (List ℕ)) → command_of words ≡ Some (Run port) → Answers words
         (record { given = S.left source.old; left = S.left source.new; faults = record { before = S.faults source.old; now = S.faults source.new } })
         (record { before = K.contents out.old; now = K.contents out.new; faults = record { before = K.faults out.old; now = K.faults out.new } })
-        (record { prompt = L.prompt links.old; tells = TellClosed L.I.state; offering = TellOffers L.O.state L.I.state; asked = L.asked links.new; ends = L.back links.new; faults = record { before = L.faults links.old; now = L.faults links.new } })
+        (record { prompt = L.prompt links.old; tells = TellClosed L.I.state; offering = TellOffers L.O.state L.I.state; asked = L.asked links.new; ends = L.back links.new; accepted = L.accepted links.new; done = L.done links.new; faults = record { before = L.faults links.old; now = L.faults links.new } })
         (number_of result) }
     ensures counts { CountsStand
         (record { before = S.faults source.old; now = S.faults source.new })
@@ -65,7 +65,7 @@ fn run_threads<R: Threads + Wait + Sync, S: Source, K: Sink, L: Linker, G: Gate 
     ensures replayed { ReplayedInput RanOnThreads
         (record { given = S.left source.old; left = S.left source.new; faults = record { before = S.faults source.old; now = S.faults source.new } })
         (record { before = K.contents out.old; now = K.contents out.new; faults = record { before = K.faults out.old; now = K.faults out.new } })
-        (record { prompt = L.prompt links.old; tells = TellClosed L.I.state; offering = TellOffers L.O.state L.I.state; asked = L.asked links.new; ends = L.back links.new; faults = record { before = L.faults links.old; now = L.faults links.new } })
+        (record { prompt = L.prompt links.old; tells = TellClosed L.I.state; offering = TellOffers L.O.state L.I.state; asked = L.asked links.new; ends = L.back links.new; accepted = L.accepted links.new; done = L.done links.new; faults = record { before = L.faults links.old; now = L.faults links.new } })
         (number_of result) }
     ensures counts { CountsStand
         (record { before = S.faults source.old; now = S.faults source.new })
@@ -100,10 +100,10 @@ fn threads_and_report<R: Threads + Wait + Sync, K: Sink, L: Linker, G: Gate + Sy
     requires pieces { list_all has_piece script.now ≡ true }
     ensures ran { RanOnThreads script.now
         (record { before = K.contents out.old; now = K.contents out.new; faults = record { before = K.faults out.old; now = K.faults out.new } })
-        (record { prompt = L.prompt links.old; tells = TellClosed L.I.state; offering = TellOffers L.O.state L.I.state; asked = L.asked links.new; ends = L.back links.new; faults = record { before = L.faults links.old; now = L.faults links.new } })
+        (record { prompt = L.prompt links.old; tells = TellClosed L.I.state; offering = TellOffers L.O.state L.I.state; asked = L.asked links.new; ends = L.back links.new; accepted = L.accepted links.new; done = L.done links.new; faults = record { before = L.faults links.old; now = L.faults links.new } })
         (number_of result) }
     ensures opened { OpenedBy script.now
-        (record { prompt = L.prompt links.old; tells = TellClosed L.I.state; offering = TellOffers L.O.state L.I.state; asked = L.asked links.new; ends = L.back links.new; faults = record { before = L.faults links.old; now = L.faults links.new } })
+        (record { prompt = L.prompt links.old; tells = TellClosed L.I.state; offering = TellOffers L.O.state L.I.state; asked = L.asked links.new; ends = L.back links.new; accepted = L.accepted links.new; done = L.done links.new; faults = record { before = L.faults links.old; now = L.faults links.new } })
         (number_of result) }
     ensures linker { number_of result ≢ 8 → L.faults links.new ≡ L.faults links.old }
 {

@@ -1,12 +1,13 @@
 -- What is said beside the output where a command ended early.
 use Rattle.std.specs.Prelude.{ℕ, ◌==◌, if◌then◌else◌, List, [], codes}
 
--- a line for each status that the output itself doesn't explain: nothing stands there, or a part
+-- a line for each status that the output itself doesn't always explain: nothing stands there, or a part
 abbrev pub reason_text : ℕ → List ℕ
 reason_text status =
     if status == 4 then codes "brpc: the input failed\n"
     else if status == 5 then codes "brpc: the output failed\n"
     else if status == 6 then codes "brpc: the input is longer than the command takes\n"
     else if status == 7 then codes "brpc: memory ran out\n"
-    else if status == 8 then codes "brpc: a link could not be opened\n"
+    else if status == 8 then codes "brpc: a link could not be opened, or a connection failed\n"
+    else if status == 9 then codes "brpc: a frame is faulty\n"
     else []

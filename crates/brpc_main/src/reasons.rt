@@ -13,7 +13,8 @@ fn reason(status: u8) -> &'static [u8]
         5 => b"brpc: the output failed\n",
         6 => b"brpc: the input is longer than the command takes\n",
         7 => b"brpc: memory ran out\n",
-        8 => b"brpc: a link could not be opened\n",
+        8 => b"brpc: a link could not be opened, or a connection failed\n",
+        9 => b"brpc: a frame is faulty\n",
         _ => b"",
     }
 }

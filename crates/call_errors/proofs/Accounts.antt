@@ -1,16 +1,20 @@
 -- What a client tells of ended calls is what it ended: of each id as often, unless memory is wanting.
 use Rattle.std.proofs.Common.{◌≡◌, ◌≢◌, ℕ, ◌+◌, ◌*◌, ◌<◌, ◌≤◌, ◌⊎◌, inl, inr, ⊎_elim, Bool, true, false, cond, eqb, eq-eqb, ne_eqb, List, [], ◌∷◌, ◌++◌, refl, ◌∙◌, ap, sym, subst, arith}
+use Rattle.std.specs.Prelude.{None}
 use Rattle.std.specs.Prelude.{Option as Maybe}
 use mathlib.Core.Logic.{dite}
 use native.Mathlib.Decide.{ℕ_discrete}
-use Rattle.corr_core.specs.Word.{parts}
+use Rattle.corr_core.specs.Word.{Parts, parts}
 use Rattle.corr_core.specs.Law.{total, only, is_ended}
 use Rattle.corr_core.specs.declared.marks.Note.{Note}
 use Rattle.corr_core.specs.declared.marks.Note.TheVariants.{Tried, Made, Ended, Locker, Queued, Attempt, Saw}
 use Rattle.corr_core.specs.declared.marks.Noted.{Noted}
 use Rattle.corr_core.specs.declared.marks.Token.{Token}
 use Rattle.corr_core.specs.declared.marks.View.{View}
+use Rattle.corr_core.specs.declared.marks.Plan.{Plan}
+use Rattle.corr_core.proofs.Notes.{only-at, only-else}
 use Rattle.id_rule.specs.Lawful.{notes_of}
+use Rattle.sock_words.specs.Codes.{EINTERNAL, ERPCTIMEDOUT}
 use Rattle.sock_words.specs.declared.outcome.Outcome.{Outcome}
 use Rattle.sock_words.specs.declared.outcome.Outcome.TheVariants.{CallFailed}
 use Rattle.sock_message.specs.Asked.{Asked}
@@ -19,16 +23,15 @@ use Rattle.corr_id.specs.declared.posts.Posted.{Posted}
 use Rattle.corr_id.specs.declared.posts.Posted.TheVariants.{Locked as HasLock, Queued as IsQueued, Gone, Stale, Crowded}
 use Rattle.corr_id.specs.declared.unlocks.Unlocked.{Unlocked}
 use Rattle.corr_id.specs.declared.unlocks.Unlocked.TheVariants.{Open, Next}
-use Rattle.corr_id.specs.Calls.{Did, Quiet, is_event, events, one, advance_note}
+use Rattle.corr_id.specs.Calls.{Did, Quiet, is_event, events, one, advance_note, slot_of, version_of, error_in}
 use Rattle.corr_id.specs.Posts.{PostOk}
 use Rattle.corr_id.proofs.Seats.{total_append, notes_append}
 use Rattle.rpc_client.specs.declared.acting.Told.{Told}
-use Rattle.call_errors.specs.declared.retries.Retry.{Retry}
-use Rattle.call_errors.specs.Books.{Books, CallStand, Tells, told, lost}
-use Rattle.call_errors.specs.Ending.{EndedWith}
+use Rattle.call_errors.specs.Books.{Books, CallStand, starving, Tells, told, lost}
+use Rattle.call_errors.specs.Ending.{EndedWith, failed}
 use Rattle.call_errors.specs.Handling.{Advanced, Decided, ends, starves, waits, goes_on}
 use Rattle.call_errors.specs.Posting.{Handled, PostedBy}
-use Rattle.call_errors.specs.Starving.{GivenUp, was_gone, ended, AllGivenUp, StarvedBy}
+use Rattle.call_errors.specs.Asking.{found_id, TimedOut, SawEnd}
 
 -- the outcome is that of the call with this id, which failed
 abbrev pub fails : ℕ → Outcome → ℕ
@@ -70,16 +73,14 @@ none_here : (b : Bool) (x : ℕ) → x ≡ 0 → cond b x 0 ≡ 0
 none_here true x e = e
 none_here false x e = refl
 
+events_by : (i f : ℕ) (n : Noted Asked) (ns : List (Noted Asked)) → total (is_ended f) (notes_of i (events ns)) ≡ total (is_ended f) (notes_of i ns) → (b : Bool) → is_event n.note ≡ b
+    → total (is_ended f) (notes_of i (cond b (n ∷ events ns) (events ns))) ≡ total (is_ended f) (notes_of i (n ∷ ns))
+events_by i f n ns r true e = let a = one_more i f n ns in let c = one_more i f n (events ns) in omega arith
+events_by i f n ns r false e = let a = one_more i f n ns in let c = none_here (eqb n.slot i) (is_ended f n.note) (quiet_note f n.note e) in omega arith
+
 events_ends : (i f : ℕ) (ns : List (Noted Asked)) → total (is_ended f) (notes_of i (events ns)) ≡ total (is_ended f) (notes_of i ns)
 events_ends i f [] = refl
-events_ends i f (n ∷ ns) = by (is_event n.note) refl
-  where
-    rest : total (is_ended f) (notes_of i (events ns)) ≡ total (is_ended f) (notes_of i ns)
-    rest = events_ends i f ns
-
-    by : (b : Bool) → is_event n.note ≡ b → total (is_ended f) (notes_of i (cond b (n ∷ events ns) (events ns))) ≡ total (is_ended f) (notes_of i (n ∷ ns))
-    by true e = let a = one_more i f n ns in let c = one_more i f n (events ns) in let r = rest in omega arith
-    by false e = let a = one_more i f n ns in let c = none_here (eqb n.slot i) (is_ended f n.note) (quiet_note f n.note e) in let r = rest in omega arith
+events_ends i f (n ∷ ns) = events_by i f n ns (events_ends i f ns) (is_event n.note) refl
 
 -- the seat noted no end
 abbrev NoEnd : List (Noted Asked) → Type 0
@@ -97,7 +98,7 @@ did_ends at v w ts es d h i f =
 quiet_ends : (v w : View Asked) → Quiet v w → (i f : ℕ) → noted_ends i f w ≡ noted_ends i f v
 quiet_ends v w q i f = sym (events_ends i f w.notes) ∙ (ap (λ (l : List (Noted Asked)). total (is_ended f) (notes_of i l)) q.events_same ∙ events_ends i f v.notes)
 
-no_end_advance : (at : ℕ) (p q : Rattle.corr_core.specs.Word.Parts) → NoEnd (advance_note at p q)
+no_end_advance : (at : ℕ) (p q : Parts) → NoEnd (advance_note at p q)
 no_end_advance at p q = by (eqb p.attempt q.attempt)
   where
     by : (b : Bool) → NoEnd (cond b [] (one at (Attempt p.first q.attempt)))
@@ -106,25 +107,38 @@ no_end_advance at p q = by (eqb p.attempt q.attempt)
 
 -- ## Ids
 
-same_id : (i f j g : ℕ) → f < 4294967296 → g < 4294967296 → only (i * 4294967296 + f) (j * 4294967296 + g) ≡ cond (eqb j i) (only f g) 0
-unfolding only
+if_so : (b : Bool) (x : ℕ) → b ≡ true → cond b x 0 ≡ x
+if_so true x e = refl
+if_so false x e = let k : false ≡ true = e in cc
+
+if_not : (b : Bool) (x : ℕ) → b ≡ false → cond b x 0 ≡ 0
+if_not true x e = let k : true ≡ false = e in cc
+if_not false x e = refl
+
+abbrev SameId : ℕ → ℕ → ℕ → ℕ → Type 0
+SameId i f j g = only (i * 4294967296 + f) (j * 4294967296 + g) ≡ cond (eqb j i) (only f g) 0
+
+-- in one slot
+same_first : (i f g : ℕ) → SameId i f i g
+same_first i f g = dite (ℕ_discrete g f)
+    (λ d. only-at (i * 4294967296 + f) (i * 4294967296 + g) (ap (λ (n : ℕ). i * 4294967296 + n) d) ∙ sym (if_so (eqb i i) (only f g) (eq-eqb i i refl) ∙ only-at f g d))
+    (λ n. only-else (i * 4294967296 + f) (i * 4294967296 + g) (λ q. n (omega (arith, q))) ∙ sym (if_so (eqb i i) (only f g) (eq-eqb i i refl) ∙ only-else f g n))
+
+same_id : (i f j g : ℕ) → f < 4294967296 → g < 4294967296 → SameId i f j g
 same_id i f j g fl gl = dite (ℕ_discrete j i)
-    (λ e. subst (λ (y : ℕ). cond (eqb (y * 4294967296 + g) (i * 4294967296 + f)) 1 0 ≡ cond (eqb y i) (cond (eqb g f) 1 0) 0) (sym e)
-    (dite (ℕ_discrete g f)
-    (λ d. ap (λ b. cond b 1 0) (eq-eqb (i * 4294967296 + g) (i * 4294967296 + f) (ap (λ n. i * 4294967296 + n) d)) ∙ sym (ap (λ b. cond b (cond (eqb g f) 1 0) 0) (eq-eqb i i refl) ∙ ap (λ b. cond b 1 0) (eq-eqb g f d)))
-    (λ n. ap (λ b. cond b 1 0) (ne_eqb (i * 4294967296 + g) (i * 4294967296 + f) (λ q. n (omega (arith, q)))) ∙ sym (ap (λ b. cond b (cond (eqb g f) 1 0) 0) (eq-eqb i i refl) ∙ ap (λ b. cond b 1 0) (ne_eqb g f n)))))
-    (λ n. ap (λ b. cond b 1 0) (ne_eqb (j * 4294967296 + g) (i * 4294967296 + f) (λ q. n (omega (arith, q, fl, gl)))) ∙ sym (ap (λ b. cond b (cond (eqb g f) 1 0) 0) (ne_eqb j i n)))
+    (λ e. subst (λ (y : ℕ). SameId i f y g) (sym e) (same_first i f g))
+    (λ n. only-else (i * 4294967296 + f) (j * 4294967296 + g) (λ q. n (omega (arith, q, fl, gl))) ∙ sym (if_not (eqb j i) (only f g) (ne_eqb j i n)))
 
 -- ## What was ended is told
 
 pub accounts_ended : (k : IdLock Asked) (code : ℕ) (s t : CallStand) → EndedWith k code s t → Accounts s t
 accounts_ended k code s t e = by e.tells
   where
-    by : Tells (record { number = k.content.operation; outcome = CallFailed (k.slot * 4294967296 + (parts k.word.0).first) code }) s.books t.books → Accounts s t
+    by : Tells (failed k code) s.books t.books → Accounts s t
     by (lost is) = inl (ap (λ (b : Books). b.starved) is)
     by (told is) = inr (λ i f fl.
         let first = (parts k.word.0).first in let low = k.fits.low in
-        let a : told_ends i f t.books ≡ told_ends i f s.books + (only (i * 4294967296 + f) (k.slot * 4294967296 + first) + 0) = ap (told_ends i f) is ∙ total_append (is_end (i * 4294967296 + f)) s.books.told _ in
+        let a : told_ends i f t.books ≡ told_ends i f s.books + (only (i * 4294967296 + f) (k.slot * 4294967296 + first) + 0) = ap (told_ends i f) is ∙ total_append (is_end (i * 4294967296 + f)) s.books.told (failed k code ∷ []) in
         let b : noted_ends i f t.view ≡ cond (eqb k.slot i) (only f first) 0 + noted_ends i f s.view = ap (λ (l : List (Noted Asked)). total (is_ended f) (notes_of i l)) e.ended.notes ∙ one_more i f (record { slot = k.slot; note = Ended first }) s.view.notes in
         let c = same_id i f k.slot first fl (omega (arith, low)) in omega arith)
 
@@ -141,13 +155,13 @@ advanced_accounts k (Next l code attempt) s t a = still s t (ap (λ (b : Books).
 
 pub decided_accounts : {s : CallStand} {k : IdLock Asked} {code : ℕ} {attempt : Maybe ℕ} {t : CallStand} → Decided s k code attempt t → Accounts s t
 decided_accounts (ends s k code attempt t a b e) = accounts_ended k code s t e
-decided_accounts (starves s k code attempt t a e) = ⊎_elim (λ x. inl x) (λ h. inr h) (accounts_ended k 2001 _ t e)
+decided_accounts (starves s k code attempt t a e) = accounts_ended k EINTERNAL (record { view = s.view; books = starving s.books }) t e
 decided_accounts (waits s k code attempt t a b e) = inr (advanced_accounts k Open s t e)
 decided_accounts (goes_on s k code attempt t u l next of a b e rest) = accounts_then s u t (advanced_accounts k (Next l next of) s u e) (decided_accounts rest)
 
 post_ends : (slots : ℕ) (v w : View Asked) (id code : ℕ) (attempt : Maybe ℕ) (answer : Posted Asked) → PostOk slots v w id code attempt answer → (i f : ℕ) → noted_ends i f w ≡ noted_ends i f v
-post_ends slots v w id code attempt (HasLock k) p = did_ends k.slot v w _ _ p.4.1.did (no_end_one k.slot _ (λ f. refl))
-post_ends slots v w id code attempt IsQueued p = did_ends _ v w _ _ p.0 (no_end_one _ _ (λ f. refl))
+post_ends slots v w id code attempt (HasLock k) p = did_ends k.slot v w _ _ p.4.1.did (no_end_one k.slot (Locker (parts k.word.0).first k.content) (λ f. refl))
+post_ends slots v w id code attempt IsQueued p = did_ends (slot_of id) v w _ _ p.0 (no_end_one (slot_of id) (Queued (version_of id) (error_in code attempt)) (λ f. refl))
 post_ends slots v w id code attempt (Gone found) p = quiet_ends v w p.0
 post_ends slots v w id code attempt (Stale current) p = quiet_ends v w p.0
 post_ends slots v w id code attempt (Crowded first second) p = quiet_ends v w p.0
@@ -165,3 +179,10 @@ handled_accounts code attempt (Crowded first second) s t h = same_accounts s t h
 pub posted_accounts : (slots : ℕ) (s : CallStand) (id code : ℕ) (attempt : Maybe ℕ) (t : CallStand) → PostedBy slots s id code attempt t → Accounts s t
 posted_accounts slots s id code attempt t p = let x = p.1 in let u : CallStand = record { view = x.view; books = s.books } in
     accounts_then s u t (still s u refl (post_ends slots s.view x.view id code attempt p.0 x.post)) (handled_accounts code attempt p.0 u t x.handled)
+
+pub timed_out_accounts : (p : Plan) (operation : ℕ) (by : Outcome) (s t : CallStand) → TimedOut p operation by s t → Accounts s t
+timed_out_accounts p operation by s t h = posted_accounts p.slots (found_id p operation h.id s) h.id ERPCTIMEDOUT None t (h.answer, h.posted)
+
+pub saw_end_accounts : (p : Plan) (operation : ℕ) (s t : CallStand) → SawEnd p operation s t → Accounts s t
+saw_end_accounts p operation s t h = let u : CallStand = record { view = h.view; books = s.books } in
+    inr (subst (λ (y : CallStand). Accounted s y) (sym h.after) (still s u refl (quiet_ends (found_id p operation h.id s).view h.view h.quiet)))

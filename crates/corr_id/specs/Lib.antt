@@ -6,3 +6,4 @@ pub mod Closed
 pub mod Opening
 pub mod Posts
 pub mod Unlocks
+pub mod Attempts

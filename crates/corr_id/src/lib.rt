@@ -2,6 +2,7 @@
 //! atomic steps of one seat.
 #![tactic(auto)]
 
+mod attempts;
 mod calls;
 mod closing;
 mod kinds;

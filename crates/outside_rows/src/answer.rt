@@ -7,6 +7,27 @@ use std::sync::Wait;
 use std::test::Fail;
 use std::thread::Threads;
 
+/// The status of a command over this input and these links, and what it wrote.
+pub fn answered<R: Threads + Wait + Sync + Alloc<A = Global>, L: Linker>(
+    rt: &R,
+    words: &[String],
+    input: &str,
+    links: &mut L,
+) -> Result<(u8, Vec<u8>), Fail>
+    requires asked { L.asked links.old ≡ [] }
+    requires back { L.back links.old ≡ [] }
+    requires accepted { L.accepted links.old ≡ 0 }
+    requires done { L.done links.old ≡ [] }
+{
+    let alloc = rt.alloc();
+    let mut source = MemSource::new(input.as_bytes().to_vec(alloc)?, Vec::new(alloc));
+    let mut out = MemSink::new(alloc, 1024, Vec::new(alloc))
+        .ok()
+        .ok_or("no memory")?;
+    let status = brpc(rt, alloc, words, &mut source, &mut out, links, &OpenGate);
+    Ok((status, out.bytes().to_vec(alloc)?))
+}
+
 /// The status of `replay` over these links, and what it wrote.
 pub fn replayed<R: Threads + Wait + Sync + Alloc<A = Global>, L: Linker>(
     rt: &R,
@@ -15,13 +36,29 @@ pub fn replayed<R: Threads + Wait + Sync + Alloc<A = Global>, L: Linker>(
 ) -> Result<(u8, Vec<u8>), Fail>
     requires asked { L.asked links.old ≡ [] }
     requires back { L.back links.old ≡ [] }
+    requires accepted { L.accepted links.old ≡ 0 }
+    requires done { L.done links.old ≡ [] }
 {
     let alloc = rt.alloc();
-    let mut source = MemSource::new(script.as_bytes().to_vec(alloc)?, Vec::new(alloc));
-    let mut out = MemSink::new(alloc, 1024, Vec::new(alloc))
-        .ok()
-        .ok_or("no memory")?;
     let words = vec![in alloc; String::from_str(alloc, "replay")?]?;
-    let status = brpc(rt, alloc, &words, &mut source, &mut out, links, &OpenGate);
-    Ok((status, out.bytes().to_vec(alloc)?))
+    answered(rt, &words, script, links)
+}
+
+/// The status of `serve` for one connection over these links, and what it wrote.
+pub fn served<R: Threads + Wait + Sync + Alloc<A = Global>, L: Linker>(
+    rt: &R,
+    links: &mut L,
+) -> Result<(u8, Vec<u8>), Fail>
+    requires asked { L.asked links.old ≡ [] }
+    requires back { L.back links.old ≡ [] }
+    requires accepted { L.accepted links.old ≡ 0 }
+    requires done { L.done links.old ≡ [] }
+{
+    let alloc = rt.alloc();
+    let words = vec![in alloc;
+        String::from_str(alloc, "serve")?,
+        String::from_str(alloc, "1")?,
+        String::from_str(alloc, "1")?,
+    ]?;
+    answered(rt, &words, "", links)
 }

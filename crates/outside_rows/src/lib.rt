@@ -10,3 +10,5 @@ mod failing;
 mod giving;
 #[cfg(test)]
 mod noting;
+#[cfg(test)]
+mod serving;

@@ -1,16 +1,18 @@
 ghost use Rattle.std.specs.Prelude.{◌≡◌, ◌≢◌, ◌<◌, ◌++◌, ◌∷◌, [], length};
 ghost use Rattle.std.specs.List.{AllByRecursion};
 ghost use Rattle.brpc_model.specs.Link.{LinkEnd};
-ghost use Rattle.sock_io.specs.Link.{end_of};
+ghost use Rattle.sock_io.specs.Link.{connection_of, end_of};
 
 use sock_io::{Ends, LinkSpec, Linker, NoMemory, OpenFault, Out};
 use std::alloc::Global;
 
-/// A linker that notes each link that is given back, and how many bytes it took.
+/// A linker that notes each link that is given back, and how many bytes it took; and what the connections took that are given
+/// back, one behind another.
 #[derive(Drop)]
 pub struct Noting<L: Linker + Drop> {
     inner: L,
     noted: Vec<(u16, usize)>,
+    taken: Vec<u8>,
 }
 
 impl<L: Linker + Drop> Noting<L> {
@@ -20,11 +22,16 @@ impl<L: Linker + Drop> Noting<L> {
         Noting {
             inner,
             noted: Vec::new(alloc),
+            taken: Vec::new(alloc),
         }
     }
 
     pub fn noted(&self) -> &[(u16, usize)] {
         &self.noted
+    }
+
+    pub fn taken(&self) -> &[u8] {
+        &self.taken
     }
 }
 
@@ -59,7 +66,16 @@ impl<L: Linker + Drop> Linker for Noting<L> {
         self.inner.accept(port)
     }
 
-    fn done(&mut self, out: L::O, inn: L::I) {
+    fn done(&mut self, out: L::O, inn: L::I)
+        requires { length (L.done self.old.inner) < L.accepted self.old.inner }
+        ensures done { L.done self.new.inner ≡ L.done self.old.inner ++ connection_of (L.O.state out) (L.I.state inn) ∷ [] }
+        ensures asked { L.asked self.new.inner ≡ L.asked self.old.inner }
+        ensures accepted { L.accepted self.new.inner ≡ L.accepted self.old.inner }
+        ensures back { L.back self.new.inner ≡ L.back self.old.inner }
+        ensures stays_prompt { L.prompt self.new.inner ≡ L.prompt self.old.inner }
+        ensures faults { L.faults self.new.inner ≡ L.faults self.old.inner }
+    {
+        let _ = self.taken.extend_from_slice(out.taken());
         self.inner.done(out, inn);
     }
 

@@ -4,14 +4,11 @@ use Rattle.script_run.specs.Played.{TellClosed}
 use Rattle.brpc_eng.specs.Answers as answer
 use Rattle.brpc_eng.specs.Command.{meaning}
 use Rattle.brpc_eng.specs.Status.{number_of}
-use Rattle.brpc_eng.proofs.Replays.{other_command, drawn_command, load_command, frames_command, simulated}
+use Rattle.brpc_eng.proofs.Replays.{drawn_command, load_command, frames_command, simulated}
 use Rattle.brpc_eng.proofs.engine.answer.Goals as goal
 
 pub returns-in-None-clause-answers : goal.returns-in-None-clause-answers
 returns-in-None-clause-answers g c = answer.NoCommand refl (sym c.in-None.ensures) refl (c.requires.asked, c.requires.back) c.write_answer.ensures
-
-pub returns-in_default-clause-answers : goal.returns-in_default-clause-answers
-returns-in_default-clause-answers g c = other_command _ _ _ _ c.in-Some.command c.in-Some.ensures c.in_default.not-Replay c.in_default.not-Sim c.in_default.not-Run c.in_default.not-Gen c.in_default.not-Load c.in_default.not-Frames refl (c.requires.asked, c.requires.back) c.write_answer-in_default.ensures
 
 pub returns-in-Gen-clause-answers : goal.returns-in-Gen-clause-answers
 returns-in-Gen-clause-answers g c = drawn_command _ _ _ _ _ c.in-Some.command c.in-Gen.draw c.in-Some.ensures c.in-Gen.is refl (c.requires.asked, c.requires.back) c.print_generated.ensures
@@ -46,9 +43,17 @@ returns-in-Sim-clause-answers g c =
       offering = TellOffers g.L.O.Out.state g.L.I.In.state;
       asked = g.L.Linker.asked c.replay-in-Sim.new.links;
       ends = g.L.Linker.back c.replay-in-Sim.new.links;
+      accepted = g.L.Linker.accepted c.replay-in-Sim.new.links;
+      done = g.L.Linker.done c.replay-in-Sim.new.links;
       faults = record { before = g.L.Linker.faults c.args.links.now; now = g.L.Linker.faults c.replay-in-Sim.new.links };
     } in
     simulated _ input out links (number_of c.replay-in-Sim.result) c.in-Some.command c.in-Sim.seed c.from.result c.in-Some.ensures c.in-Sim.is c.from.ensures c.replay-in-Sim.ensures.replayed
 
 pub returns-in-Run-clause-answers : goal.returns-in-Run-clause-answers
 returns-in-Run-clause-answers g c = c.run_command.ensures.answers _ (sym c.in-Some.ensures ∙ ap (λ command. option_map meaning (Some command)) c.in-Run.is)
+
+pub returns-in-Serve-clause-answers : goal.returns-in-Serve-clause-answers
+returns-in-Serve-clause-answers g c = answer.ServesPort c.in-Serve.doors.port c.in-Serve.doors.connections (sym c.in-Some.ensures ∙ ap (λ command. option_map meaning (Some command)) c.in-Serve.is) refl c.serve.ensures.served
+
+pub returns-in-Serve-clause-counts : goal.returns-in-Serve-clause-counts
+returns-in-Serve-clause-counts g c = record { source_still = λ other. refl; linker_still = c.serve.ensures.linker }

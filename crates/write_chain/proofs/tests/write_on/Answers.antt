@@ -8,8 +8,8 @@ use Rattle.write_chain.proofs.tests.write_on.Goals as goal
 pub goes-init : goal.goes-init
 goes-init g c = record { can_go = tt; is_finite = tt; seat = c.requires.seat; may = c.requires.may; holds = c.requires.one }
 
-pub goes-preserved : goal.goes-preserved
-goes-preserved g c = record {
+pub goes-preserved-in-Dropped : goal.goes-preserved-in-Dropped
+goes-preserved-in-Dropped g c = record {
   can_go = tt;
   is_finite = tt;
   seat = c.keep_write.ensures.seat;

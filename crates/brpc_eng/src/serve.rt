@@ -1,0 +1,58 @@
+ghost use Rattle.std.specs.Prelude.{◌≡◌, ◌≢◌, ◌⊎◌, []};
+ghost use Rattle.script_links.specs.Offered.{TellOffers};
+ghost use Rattle.script_run.specs.Played.{TellClosed};
+ghost use Rattle.brpc_eng.specs.Status.{number_of};
+ghost use Rattle.brpc_eng.specs.Answers.{ServedPort, TextWritten, WroteNothing, served_text};
+
+use crate::doors::Doors;
+use crate::run::write_report;
+use crate::status::Status;
+use serve_port::{ServeFault, serve_all};
+use sock_io::{Linker, Sink};
+use std::alloc::Global;
+use std::sync::Wait;
+use std::thread::Threads;
+
+/// Serves connections at a port, and writes how many frames had replies.
+pub fn serve<R: Threads + Wait + Sync, K: Sink, L: Linker>(
+    rt: &R,
+    alloc: Global,
+    doors: &Doors,
+    out: &mut K,
+    links: &mut L,
+) -> Status
+    requires asked { L.asked links.old ≡ [] }
+    requires back { L.back links.old ≡ [] }
+    requires accepted { L.accepted links.old ≡ 0 }
+    requires done { L.done links.old ≡ [] }
+    ensures served { ServedPort doors.now.connections
+        (record { before = K.contents out.old; now = K.contents out.new; faults = record { before = K.faults out.old; now = K.faults out.new } })
+        (record { prompt = L.prompt links.old; tells = TellClosed L.I.state; offering = TellOffers L.O.state L.I.state; asked = L.asked links.new; ends = L.back links.new; accepted = L.accepted links.new; done = L.done links.new; faults = record { before = L.faults links.old; now = L.faults links.new } })
+        (number_of result) }
+    ensures linker { number_of result ≢ 8 → L.faults links.new ≡ L.faults links.old }
+{
+    match serve_all(
+        rt,
+        alloc,
+        links,
+        doors.port as u16,
+        doors.connections as u16,
+    ) {
+        Ok(frames) => write_served(alloc, doors.connections, frames, out),
+        Err(ServeFault::AcceptFailed) => Status::OpenFailed,
+        Err(ServeFault::ConnectionFailed) => Status::OpenFailed,
+        Err(ServeFault::FaultyFrame) => Status::FaultyFrames,
+        Err(ServeFault::NoMemory) => Status::NoMemory,
+    }
+}
+
+/// Writes how many connections were served, and how many frames had replies.
+fn write_served<K: Sink>(alloc: Global, connections: u32, frames: u64, out: &mut K) -> Status
+    ensures { TextWritten (record { before = K.contents out.old; now = K.contents out.new; faults = record { before = K.faults out.old; now = K.faults out.new } }) (served_text connections frames) (number_of result)
+        ⊎ ((number_of result ≡ 7) × WroteNothing (record { before = K.contents out.old; now = K.contents out.new; faults = record { before = K.faults out.old; now = K.faults out.new } })) }
+{
+    match format!(in alloc; "served {connections} frames {frames}\n") {
+        Ok(text) => write_report(out, text.as_bytes()),
+        Err(_) => Status::NoMemory,
+    }
+}

@@ -1,0 +1,6 @@
+pub mod Locks
+pub mod Frames
+pub mod Takes
+pub mod Posts
+pub mod Sockets
+pub mod Streams

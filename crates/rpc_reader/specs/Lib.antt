@@ -1,0 +1,9 @@
+pub mod Seats
+pub mod Books
+pub mod Met
+pub mod Taking
+pub mod Reading
+pub mod Posting
+pub mod Failing
+pub mod Throwing
+pub mod Running

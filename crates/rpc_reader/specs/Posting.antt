@@ -1,0 +1,66 @@
+-- The calls whose last attempt is on the link whose reading has ended.
+use Rattle.std.specs.Prelude.{◌≡◌, ◌+◌, ◌*◌, ◌==◌, ℕ, Bool, true, false, List, [], ◌∷◌, Option, Some, None, if◌then◌else◌, position, nat_lt}
+use Rattle.std.specs.List.{remove}
+use mathlib.Core.Option.{some}
+use lib.ListN.{get_elem?}
+use Rattle.sock_words.specs.Words.{at_word_first, at_word_slot, at_word_link, at_word_attempt}
+use Rattle.sock_words.specs.declared.at_word.AtWord.{AtWord}
+use Rattle.sock_words.specs.declared.outcome.Outcome.TheVariants.{CallFailed}
+use Rattle.corr_core.specs.Word.{Parts, parts}
+use Rattle.corr_core.specs.declared.marks.Plan.{Plan}
+use Rattle.corr_core.specs.declared.marks.View.{View}
+use Rattle.id_rule.specs.Lawful.{at_word, with_kept}
+use Rattle.corr_id.specs.declared.posts.Posted.{Posted}
+use Rattle.corr_id.specs.declared.posts.Posted.TheVariants as posted
+use Rattle.corr_id.specs.Posts.{PostOk}
+use Rattle.sock_message.specs.Asked.{Asked}
+use Rattle.prpc_frame.specs.Meaning.{frame_of}
+use Rattle.prpc_frame.specs.declared.frame.Frame.{Frame}
+use Rattle.call_table.specs.Responses.{ending_of}
+use Rattle.rpc_reader.specs.Books.{Books, EndedAs, id_of}
+use Rattle.rpc_reader.specs.Met.{is_for}
+
+-- the first kept response of an attempt of the id ends its call; where none was kept, the code does
+abbrev pub LostBy : ℕ → Parts → Asked → ℕ → Option ℕ → Books → Books → Type 0
+LostBy slot w call code None b b' = EndedAs slot w call (CallFailed (id_of slot w) code) b b' × (b'.early ≡ b.early)
+LostBy slot w call code (Some i) b b' = (f : Frame) × (get_elem? b.early i ≡ some f) × (b'.early ≡ remove b.early i) × EndedAs slot w call (ending_of (id_of slot w) (frame_of f)) b b'
+
+abbrev pub LockLost : ℕ → Parts → Asked → ℕ → Books → Books → Type 0
+LockLost slot w call code b b' = LostBy slot w call code (position (is_for slot w) b.early) b b'
+
+-- a call ends only by a post that locked its id
+abbrev pub PostedTo : ℕ → Posted Asked → Books → Books → Type 0
+PostedTo code (posted.Locked k) b b' = LockLost k.slot (parts k.word.0) k.content code b b'
+PostedTo code other b b' = b' ≡ b
+
+-- the call and the attempt that an at word names; it has no attempt above 6
+abbrev pub call_at : ℕ → ℕ
+call_at w = at_word_slot w * 4294967296 + at_word_first w
+
+abbrev pub attempt_at : ℕ → Option ℕ
+attempt_at w = if nat_lt (at_word_attempt w) 7 then Some (at_word_attempt w) else None
+
+-- the code was posted to the id for that attempt
+pub record PostedLast (slots code w : ℕ) (b b' : Books) : Type 0 where
+  pub answer : Posted Asked
+  pub seen : View Asked
+  pub posted : PostOk slots b.view seen (call_at w) code (attempt_at w) answer
+  pub then_ : PostedTo code answer (record b { view = seen }) b'
+
+-- where the at word names this link
+abbrev pub PostedIf : Bool → ℕ → ℕ → ℕ → Books → Books → Type 0
+PostedIf true slots code w b b' = PostedLast slots code w b b'
+PostedIf false slots code w b b' = b' ≡ b
+
+-- what the at word of the call of this operation led to
+abbrev pub PostedAt : Plan → ℕ → ℕ → ℕ → Option AtWord → Books → Books → Type 0
+PostedAt p link code operation None b b' = b' ≡ b
+PostedAt p link code operation (Some w) b b' = PostedIf (at_word_link w.0 == link) p.slots code w.0 (record b { view = with_kept (at_word p operation) false w.0 b.view }) b'
+
+abbrev pub PostedOne : Plan → ℕ → ℕ → ℕ → Books → Books → Type 0
+PostedOne p link code operation b b' = (found : Option AtWord) × PostedAt p link code operation found b b'
+
+-- all calls of the script, in their order
+abbrev pub PostedAll : Plan → ℕ → ℕ → List ℕ → Books → Books → Type 0
+PostedAll p link code [] b b' = b' ≡ b
+PostedAll p link code (o ∷ os) b b' = (m : Books) × PostedOne p link code o b m × PostedAll p link code os m b'

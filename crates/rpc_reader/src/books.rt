@@ -1,0 +1,103 @@
+// What a reader has for calls, and what it tells of those that it ends.
+ghost use Rattle.std.specs.Prelude.{◌≡◌, IfOk, true};
+ghost use Rattle.prpc_frame.specs.Meaning.{frame_of};
+ghost use Rattle.call_table.specs.Responses.{outcome_of, ending_of};
+ghost use Rattle.rpc_reader.specs.Books.{ToldBy, KeptBy};
+ghost use Rattle.rpc_reader.specs.Met.{has_response as responds};
+
+use call_table::{Call, Ending, on_response};
+use corr_id::IdSeat;
+use prpc_frame::{Frame, IoBuf, NoMemory};
+use rpc_client::Told;
+use sock_words::{ERESPONSE, OutBytes, Outcome};
+use std::alloc::Global;
+
+/// A reader's part for calls: its seat of the ids, the responses that came before their ranges were made, the oldest first, what it
+/// tells of the calls that it ended, and whether memory was wanting.
+#[derive(Drop)]
+pub struct AnswerSeat {
+    pub seat: IdSeat<Call>,
+    pub early: Vec<Frame>,
+    pub told: Vec<Told>,
+    pub starved: bool,
+    pub alloc: Global,
+}
+
+// A copy of these bytes.
+fn copied(alloc: Global, bytes: &IoBuf) -> Result<OutBytes, NoMemory>
+    ensures { IfOk result (λ out. out ≡ bytes.now.items) }
+{
+    let mut copy = vec![in alloc; 0; bytes.len()]?;
+    bytes.copy_to(&mut copy);
+    Ok(OutBytes::new(copy))
+}
+
+// The outcome of the call with this id that ends so.
+fn outcome(alloc: Global, id: u64, ending: &Ending) -> Result<Outcome, NoMemory>
+    ensures { IfOk result (λ outcome. outcome ≡ outcome_of id ending.now) }
+{
+    match ending {
+        Ending::Unread => Ok(Outcome::CallFailed {
+            id,
+            code: ERESPONSE,
+        }),
+        Ending::Answered {
+            payload,
+            attachment,
+        } => Ok(Outcome::Answered {
+            id,
+            payload: copied(alloc, payload)?,
+            attachment: copied(alloc, attachment)?,
+        }),
+        Ending::Peer { code } => Ok(Outcome::Peer { id, code: *code }),
+    }
+}
+
+// Whether the frame has a response.
+pub fn has_response(frame: &Frame) -> bool
+    ensures { result ≡ responds frame.now.meta.response }
+{
+    match &frame.meta.response {
+        Some(_) => true,
+        None => false,
+    }
+}
+
+impl AnswerSeat {
+    /// What became of the call of this operation is told.
+    pub fn tell(&mut self, number: u16, outcome: Outcome)
+        ensures same { self.new ≡ record self.old { told = self.new.told; starved = self.new.starved } }
+        ensures told { ToldBy number outcome self.old.told.items self.old.starved self.new.told.items self.new.starved }
+    {
+        if self.told.reserve(1).is_err() {
+            self.starved = true;
+            return;
+        }
+        self.told.push_reserved(Told { number, outcome });
+    }
+
+    /// That the call of this operation, which has this id, ended with a response is told.
+    pub fn tell_response(&mut self, number: u16, id: u64, frame: Frame)
+        requires { responds frame.meta.response ≡ true }
+        ensures same { self.new ≡ record self.old { told = self.new.told; starved = self.new.starved } }
+        ensures told { ToldBy number (ending_of id (frame_of frame)) self.old.told.items self.old.starved self.new.told.items self.new.starved }
+    {
+        let ending = on_response(frame);
+        match outcome(self.alloc, id, &ending) {
+            Ok(outcome) => self.tell(number, outcome),
+            Err(_) => self.starved = true,
+        }
+    }
+
+    /// The response is kept.
+    pub fn keep(&mut self, frame: Frame)
+        ensures same { self.new ≡ record self.old { early = self.new.early; starved = self.new.starved } }
+        ensures kept { KeptBy frame self.old.early.items self.old.starved self.new.early.items self.new.starved }
+    {
+        if self.early.reserve(1).is_err() {
+            self.starved = true;
+            return;
+        }
+        self.early.push_reserved(frame);
+    }
+}

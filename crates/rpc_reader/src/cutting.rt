@@ -1,0 +1,50 @@
+// The whole frames of what a link gave.
+ghost use Rattle.std.specs.Prelude.{◌≡◌, List};
+ghost use Rattle.rpc_reader.specs.Seats.{IsOpen, Rests};
+ghost use Rattle.rpc_reader.specs.Books.{books};
+ghost use Rattle.rpc_reader.specs.Met.{MetAll};
+ghost use Rattle.rpc_reader.specs.Reading.{StopsAt};
+
+use crate::books::AnswerSeat;
+use crate::meeting::meet;
+use call_table::Call;
+use corr_id::IdTable;
+use prpc_frame::{Cutter, NextFault};
+use std::sync::Wait;
+
+/// Why no further frame is cut.
+#[derive(Clone, Copy, Debug, PartialEq, Eq)]
+pub enum Stop {
+    /// No more is whole.
+    Waits,
+    /// What is left is no frame.
+    Fault,
+    NoMemory,
+}
+
+/// Each frame that is whole is met, in order.
+pub fn meet_all<R: Wait>(
+    rt: &R,
+    ids: &IdTable<Call>,
+    calls: &mut AnswerSeat,
+    cutter: &mut Cutter,
+) -> Stop
+    requires { IsOpen ids.now.table.shared.table_id calls.old.seat }
+    ensures rest { Rests calls.old.seat calls.new.seat }
+    ensures met { MetAll ids.now.plan.slots cutter.old cutter.new (books calls.old) (books calls.new) }
+    ensures stops { StopsAt result cutter.new }
+{
+    'frames: loop {
+        match cutter.next() {
+            Ok(Some(frame)) => {
+                meet(rt, ids, calls, frame);
+                if calls.starved {
+                    return Stop::NoMemory;
+                }
+            }
+            Ok(None) => return Stop::Waits,
+            Err(NextFault::Frame(_)) => return Stop::Fault,
+            Err(NextFault::NoMemory) => return Stop::NoMemory,
+        }
+    }
+}

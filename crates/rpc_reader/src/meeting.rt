@@ -1,0 +1,42 @@
+// What becomes of a whole frame.
+ghost use Rattle.std.specs.Prelude.{◌≡◌};
+ghost use Rattle.rpc_reader.specs.Seats.{IsOpen, Rests};
+ghost use Rattle.rpc_reader.specs.Books.{books};
+ghost use Rattle.rpc_reader.specs.Met.{is_asked as asks, FrameMet};
+
+use crate::books::{AnswerSeat, has_response};
+use crate::ending::end_answered;
+use call_table::{Call, is_early};
+use corr_id::IdTable;
+use prpc_frame::Frame;
+use sock_words::IdWord;
+use std::sync::Wait;
+
+// Whether the frame is a response of one of so many id slots.
+fn is_asked(frame: &Frame, slots: u16) -> bool
+    ensures { result ≡ asks slots frame.now }
+{
+    has_response(frame) && frame.meta.correlation_id / 4_294_967_296 < u64::from(slots)
+}
+
+/// A response ends the call whose id its correlation id is a version of, where that id is open. Where its range wasn't made yet,
+/// it is kept. Other frames are passed over.
+pub fn meet<R: Wait>(rt: &R, ids: &IdTable<Call>, calls: &mut AnswerSeat, frame: Frame)
+    requires { IsOpen ids.now.table.shared.table_id calls.old.seat }
+    ensures rest { Rests calls.old.seat calls.new.seat }
+    ensures met { FrameMet ids.now.plan.slots frame (books calls.old) (books calls.new) }
+{
+    if !is_asked(&frame, ids.plan.slots) {
+        return;
+    }
+    let version = frame.meta.correlation_id;
+    match ids.lock_attempt(rt, &mut calls.seat, version) {
+        Ok(lock) => end_answered(ids, calls, lock, frame),
+        Err(gone) => {
+            let word = IdWord::from_word(gone.found);
+            if is_early(word, (version % 4_294_967_296) as u32) {
+                calls.keep(frame);
+            }
+        }
+    }
+}

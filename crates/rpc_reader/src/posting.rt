@@ -1,0 +1,139 @@
+// The calls that wait for a link whose reading has ended.
+ghost use Rattle.std.specs.Prelude.{◌≡◌, ◌≢◌, ◌==◌, ◌<◌, ◌≤◌, ℕ, [], All, MatchOption, position};
+ghost use Rattle.sock_words.specs.Words.{at_word_link};
+ghost use Rattle.corr_core.specs.Word.{parts};
+ghost use Rattle.corr_core.specs.declared.marks.Hand.TheVariants.{Empty};
+ghost use Rattle.id_rule.specs.Lawful.{tokens_in};
+ghost use Rattle.corr_id.specs.Calls.{Locks};
+ghost use Rattle.corr_id.specs.Seats.{Sits};
+ghost use Rattle.rpc_reader.specs.Seats.{IsOpen, Rests};
+ghost use Rattle.rpc_reader.specs.Books.{books};
+ghost use Rattle.rpc_reader.specs.Met.{is_for as answers};
+ghost use Rattle.rpc_reader.specs.Posting.{LockLost, attempt_at, call_at, PostedLast, PostedOne, PostedAll};
+
+use crate::books::{AnswerSeat, has_response};
+use crate::ending::{end_answered, end_failed};
+use call_table::{Call, has_version};
+use corr_id::{IdLock, IdTable, Posted};
+use prpc_frame::Frame;
+use sock_words::{AtWord, IdWord};
+use std::sync::Wait;
+
+// Whether the frame is a response of an attempt of the id that has this word in this slot.
+fn is_for(frame: &Frame, slot: u16, word: IdWord) -> bool
+    ensures { result ≡ answers slot (parts word.0) frame.now }
+{
+    let version = frame.meta.correlation_id;
+    has_response(frame)
+        && version / 4_294_967_296 == u64::from(slot)
+        && has_version(word, (version % 4_294_967_296) as u32)
+}
+
+// The first response among these that is one of an attempt of the id with this word.
+fn first_for(early: &[Frame], slot: u16, word: IdWord) -> Option<usize>
+    ensures { result ≡ position (answers slot (parts word.0)) early.now }
+{
+    early.iter().position(|frame| is_for(frame, slot, word))
+}
+
+// The call of the lock ends with the first response that was kept for it, or with the code.
+fn end_lost(ids: &IdTable<Call>, calls: &mut AnswerSeat, lock: IdLock<Call>, code: u16)
+    requires seat { Sits ids.now.table.shared.table_id calls.old.seat }
+    requires lock { (lock.slot < ids.now.plan.slots) × Locks lock.slot calls.old.seat.me.0 (parts lock.word.0) lock.content Empty }
+    requires others { (j : ℕ) → j ≢ lock.slot → tokens_in j calls.old.seat.me.0 ≡ [] }
+    ensures rest { Rests calls.old.seat calls.new.seat }
+    ensures lost { LockLost lock.slot (parts lock.word.0) lock.content code (books calls.old) (books calls.new) }
+{
+    match first_for(calls.early.as_slice(), lock.slot, lock.word) {
+        Some(at) => {
+            let frame = calls.early.remove(at);
+            end_answered(ids, calls, lock, frame);
+        }
+        None => end_failed(ids, calls, lock, code),
+    }
+}
+
+// The link that this at word names.
+fn link_of(word: AtWord) -> u16
+    ensures { result ≡ at_word_link word.0 }
+{
+    ((word.word() / 64 % 65_536) as u16).saturating_sub(1)
+}
+
+// The attempt that it names.
+fn attempt_of(word: AtWord) -> Option<u8>
+    ensures attempt { result ≡ attempt_at word.0 }
+    ensures fits { MatchOption result (Unit {0}) (λ n. n ≤ 6) }
+{
+    let attempt = word.attempt();
+    if attempt < 7 { Some(attempt) } else { None }
+}
+
+// The id that it names.
+fn id_at(word: AtWord) -> u64
+    ensures { result ≡ call_at word.0 }
+{
+    u64::from(word.slot()) * 4_294_967_296 + u64::from(word.first())
+}
+
+// The code is posted to the id that this at word names, for its attempt.
+fn post_last<R: Wait>(rt: &R, ids: &IdTable<Call>, calls: &mut AnswerSeat, code: u16, word: AtWord)
+    requires seat { IsOpen ids.now.table.shared.table_id calls.old.seat }
+    requires code { (0 < code) × (code < 4096) }
+    ensures rest { Rests calls.old.seat calls.new.seat }
+    ensures posted { PostedLast ids.now.plan.slots code word.0 (books calls.old) (books calls.new) }
+{
+    let attempt = attempt_of(word);
+    match ids.post(rt, &mut calls.seat, id_at(word), code, attempt) {
+        Posted::Locked(lock) => end_lost(ids, calls, lock, code),
+        Posted::Queued | Posted::Gone { found: _ } | Posted::Stale { current: _ } => {}
+        Posted::Crowded {
+            first: _,
+            second: _,
+        } => {}
+    }
+}
+
+// The call of this operation, where its last attempt is on this link.
+fn post_one<R: Wait>(
+    rt: &R,
+    ids: &IdTable<Call>,
+    calls: &mut AnswerSeat,
+    link: u16,
+    code: u16,
+    operation: u16,
+)
+    requires seat { IsOpen ids.now.table.shared.table_id calls.old.seat }
+    requires code { (0 < code) × (code < 4096) }
+    requires operation { operation < ids.now.plan.operations }
+    ensures rest { Rests calls.old.seat calls.new.seat }
+    ensures posted { PostedOne ids.now.plan link code operation (books calls.old) (books calls.new) }
+{
+    let Some(word) = ids.at(&mut calls.seat, operation) else {
+        return;
+    };
+    if link_of(word) == link {
+        post_last(rt, ids, calls, code, word);
+    }
+}
+
+/// Each of these calls whose last attempt is on this link gets the code with which its reading has ended: where its id is open, a
+/// response that was kept for it ends it, or the code does.
+pub fn post_all<R: Wait>(
+    rt: &R,
+    ids: &IdTable<Call>,
+    calls: &mut AnswerSeat,
+    link: u16,
+    code: u16,
+    operations: &[u16],
+)
+    requires seat { IsOpen ids.now.table.shared.table_id calls.old.seat }
+    requires code { (0 < code) × (code < 4096) }
+    requires operations { All (λ o. o < ids.now.plan.operations) operations.now }
+    ensures rest { Rests calls.old.seat calls.new.seat }
+    ensures posted { PostedAll ids.now.plan link code operations.now (books calls.old) (books calls.new) }
+{
+    'posts: for operation in operations {
+        post_one(rt, ids, calls, link, code, *operation);
+    }
+}

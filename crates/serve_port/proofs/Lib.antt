@@ -1,0 +1,4 @@
+mod Pieces
+mod Answered
+mod Tallying
+mod Guests

@@ -1,0 +1,63 @@
+// A port at which connections are served.
+ghost use Rattle.std.specs.Prelude.{◌≡◌, ◌+◌, ◌≤◌, ◌++◌, length, map};
+ghost use Rattle.serve_port.specs.Serving.{ServesAll};
+ghost use Rattle.serve_port.specs.Steps.{IsTally, as_served};
+
+use crate::accepting::serve_rest;
+use crate::connection::Connection;
+use crate::hall::Hall;
+use crate::service::ServeFault;
+use crate::tally::Tally;
+use sock_io::Linker;
+use std::alloc::Global;
+use std::sync::Wait;
+use std::thread::Threads;
+
+/// Gives the connections back, in order.
+fn give_back<L: Linker>(links: &mut L, kept: Vec<Connection<L::O, L::I>>) -> Tally
+    requires { length (L.done links.old) + length kept.items ≤ L.accepted links.old }
+    ensures done { L.done links.new ≡ L.done links.old ++ map (λ s. s.connection) (map (λ c. as_served L.O.state L.I.state c) kept.items) }
+    ensures asked { L.asked links.new ≡ L.asked links.old }
+    ensures accepted { L.accepted links.new ≡ L.accepted links.old }
+    ensures back { L.back links.new ≡ L.back links.old }
+    ensures faults { L.faults links.new ≡ L.faults links.old }
+    ensures prompt { L.prompt links.new ≡ L.prompt links.old }
+    ensures tally { IsTally (map (λ c. as_served L.O.state L.I.state c) kept.items) result }
+{
+    let mut tally = Tally::new();
+    'gives: for connection in kept {
+        let Connection { out, inn, service } = connection;
+        links.done(out, inn);
+        tally = tally.with(service);
+    }
+    tally
+}
+
+/// Accepts so many connections at a port, serves each on a thread of its own once it was accepted, and gives all back in the
+/// order in which they were accepted: how many replies were made in all. Where an accept fails, those accepted before are
+/// served to their end all the same. Where memory is wanting for them, none is accepted.
+pub fn serve_all<R: Threads + Wait + Sync, L: Linker>(
+    rt: &R,
+    alloc: Global,
+    links: &mut L,
+    port: u16,
+    count: u16,
+) -> Result<u64, ServeFault>
+    requires few { L.accepted links.old + count ≤ 256 }
+    requires done { length (L.done links.old) ≤ L.accepted links.old }
+    ensures { ServesAll count
+        (record { asked = L.asked links.old; accepted = L.accepted links.old; back = L.back links.old; done = L.done links.old; faults = L.faults links.old; prompt = L.prompt links.old })
+        (record { asked = L.asked links.new; accepted = L.accepted links.new; back = L.back links.new; done = L.done links.new; faults = L.faults links.new; prompt = L.prompt links.new })
+        result }
+{
+    let count = usize::from(count);
+    let Ok(kept) = Vec::with_capacity(alloc, count) else {
+        return Err(ServeFault::NoMemory);
+    };
+    let mut hall = Hall { kept, links };
+    let accepted = serve_rest(rt, alloc, port, count, &mut hall);
+    let Hall { mut kept, links } = hall;
+    kept.reverse();
+    let tally = give_back(links, kept);
+    tally.answer(accepted)
+}
