@@ -20,6 +20,7 @@ use Rattle.id_rule.specs.Lawful.{at_word, with_kept}
 use Rattle.corr_id.specs.Calls.{slot_of, version_of}
 use Rattle.rpc_client.specs.Sending.{Returned}
 use Rattle.call_attempts.specs.Both.{Both, PostedFor}
+use Rattle.call_attempts.specs.Letters.{bytes_of}
 use Rattle.call_attempts.specs.Through.{SeenThrough}
 
 -- the message of a refusal
@@ -49,7 +50,7 @@ module _ {O : Type 0} (state : O → OutState) (p : Plan) (q : id_plan.Plan) (so
   -- the frame was accepted, and then it was seen through
   pub record WentOut (s t : Both) : Type 0 where
     pub taken : View
-    pub accepted : Accepted (Saw (socket_id_version socket.0) ∷ []) p socket.0 (heading_of msg) msg.bytes s.socks taken
+    pub accepted : Accepted (Saw (socket_id_version socket.0) ∷ []) p socket.0 (heading_of msg) (bytes_of msg) s.socks taken
     pub through : SeenThrough state p q.slots socket.0 (record { socks = taken; calls = s.calls }) t
 
   -- it was refused for this reason

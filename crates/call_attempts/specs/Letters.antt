@@ -1,8 +1,12 @@
 -- The frame of an attempt, as it goes to a link.
-use Rattle.std.specs.Prelude.{ℕ, ◌+◌, ◌*◌}
+use Rattle.std.specs.Prelude.{ℕ, ◌+◌, ◌*◌, List}
 use Rattle.sock_message.specs.Asked.{Asked, frame_of}
 use Rattle.sock_words.specs.declared.plain.Label.{Label}
 use Rattle.sock_rule.specs.declared.homes.Letter.{Letter}
+
+-- the bytes of a message or a frame
+abbrev pub bytes_of : Letter → List ℕ
+bytes_of m = m.bytes
 
 -- the label of an attempt of the call that is this operation of the script
 abbrev pub attempt_label : ℕ → ℕ → Label

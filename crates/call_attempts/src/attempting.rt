@@ -114,11 +114,24 @@ pub fn attempt_one<O: Out, R: Wait>(
     match tables.socks.address(seat, socket) {
         Ok(sock) => {
             let link = tables.socks.link_of(seat, &sock);
-            tables.ids.set_at(&mut calls.seat, msg.label.operation, msg.owner, link, attempt);
+            tables.ids.set_at(
+                &mut calls.seat,
+                msg.label.operation,
+                msg.owner,
+                link,
+                attempt,
+            );
             deliver_frame(rt, tables, seat, calls, sock, msg);
         }
         Err(_) => {
-            post_error(rt, &tables.ids, calls, msg.owner, EFAILEDSOCKET, Some(attempt));
+            post_error(
+                rt,
+                &tables.ids,
+                calls,
+                msg.owner,
+                EFAILEDSOCKET,
+                Some(attempt),
+            );
         }
     }
 }

@@ -8,13 +8,7 @@ use sock_words::Label;
 use std::sync::Wait;
 
 /// The message of an attempt, counted from 0, of the call that is this operation of the script and has this id.
-pub fn letter_of<R: Wait>(
-    rt: &R,
-    frame: CallFrame,
-    operation: u16,
-    id: u64,
-    attempt: u8,
-) -> Letter
+pub fn letter_of<R: Wait>(rt: &R, frame: CallFrame, operation: u16, id: u64, attempt: u8) -> Letter
     requires { attempt ≤ 6 }
     ensures { result ≡ record { bytes = frame.bytes; label = attempt_label operation attempt; owner = id } }
 {

@@ -23,8 +23,7 @@ use std::sync::Wait;
 const MOST_SENT: u32 = 33_554_431;
 
 // Whether the tables have the name and the operation. No call lacks them that a client of these tables begins.
-fn is_stray<O: Out>(tables: &Tables<O>, name: u16, operation: u16) -> bool
-{
+fn is_stray<O: Out>(tables: &Tables<O>, name: u16, operation: u16) -> bool {
     name >= tables.socks.rule.plan.names
         || operation >= tables.socks.rule.plan.operations
         || operation >= tables.ids.plan.operations
@@ -94,7 +93,7 @@ pub fn retry_one<O: Out, R: Wait>(
     let name = lock.content.name(n);
     let Ok(frame) = CallFrame::new(calls.alloc, &mut calls.pool, lock.content(), id, n) else {
         calls.starved = true;
-        end_call(&tables.ids, calls, lock, EINTERNAL);
+        end_call(rt, &tables.ids, calls, lock, EINTERNAL);
         return Err(NoMemory);
     };
     match tables.ids.unlock(&mut calls.seat, lock, false) {
@@ -102,7 +101,7 @@ pub fn retry_one<O: Out, R: Wait>(
             lock: next,
             code,
             attempt,
-        } => handle(&tables.ids, calls, next, code, attempt),
+        } => handle(rt, &tables.ids, calls, next, code, attempt),
         Unlocked::Open => {
             let msg = letter_of(rt, frame, operation, id, n);
             go_to(rt, tables, seat, calls, name, msg);
@@ -112,8 +111,7 @@ pub fn retry_one<O: Out, R: Wait>(
 }
 
 // The oldest retry, where memory isn't wanting and one message more may be accepted.
-fn next_retry(calls: &mut CallSeat, sent: u32) -> Result<Option<Retry>, NoMemory>
-{
+fn next_retry(calls: &mut CallSeat, sent: u32) -> Result<Option<Retry>, NoMemory> {
     if calls.starved {
         return Err(NoMemory);
     }

@@ -1,0 +1,169 @@
+-- What an attempt leaves of a client at both tables.
+use Rattle.std.proofs.Common.{◌≡◌, ℕ, ◌+◌, ◌<◌, ◌≤◌, ◌⊎◌, inl, inr, Bool, Some, None, List, [], ◌∷◌, ◌++◌, length, length-append, refl, sym, ap, ◌∙◌, subst, arith}
+use Rattle.std.specs.Prelude.{Option as Maybe}
+use Rattle.atomic_table.specs.Seated.{TableId}
+use Rattle.atomic_table.specs.declared.shared.Seat.{Seat}
+use Rattle.sock_io.specs.Link.{OutState}
+use Rattle.sock_words.specs.declared.plain.Plan.{Plan}
+use Rattle.sock_words.specs.declared.socket_id.SocketId.{SocketId}
+use Rattle.sock_words.specs.declared.outcome.Outcome.{Outcome}
+use Rattle.sock_words.specs.declared.outcome.Outcome.TheVariants as outcome
+use Rattle.sock_words.specs.Words.{socket_id_version, socket_id_slot}
+use Rattle.sock_model.specs.declared.chain.Entry.{Entry}
+use Rattle.sock_model.specs.declared.marks.Mark.TheVariants.{Saw, Met}
+use Rattle.sock_model.specs.declared.view.View.{View}
+use Rattle.sock_model.specs.ChainRows.{more}
+use Rattle.sock_model.specs.Layout.{name_word}
+use Rattle.sock_rule.specs.Shows.{heading_of}
+use Rattle.sock_rule.specs.declared.homes.Letter.{Letter}
+use Rattle.sock_table.specs.Named.{Found}
+use Rattle.sock_table.specs.declared.refs.SockRef.{SockRef}
+use Rattle.write_chain.specs.declared.entry.Refused.{Refused}
+use Rattle.write_chain.specs.declared.entry.Refused.TheVariants as refused
+use Rattle.write_chain.specs.Sending.{RefusedBy}
+use Rattle.corr_core.specs.declared.marks.Plan as id_plan
+use Rattle.corr_core.specs.declared.marks.View as id_view
+use Rattle.id_rule.specs.Lawful.{tokens_in, with_kept}
+use Rattle.corr_id.specs.Seats.{Sits, Stays, IsFree}
+use Rattle.corr_id.proofs.Testing.{sits_on}
+use Rattle.sock_message.specs.Asked.{Asked}
+use Rattle.rpc_client.specs.Seats.{StaysSeen, SameRefs, OneMore}
+use Rattle.rpc_client.specs.Acting.{OwnList}
+use Rattle.rpc_client.specs.Sending as sending
+use Rattle.rpc_client.proofs.Counting.{same_refs, refs_then, refs_none, one_more, then_more, given, gone_refs, finds_refs}
+use Rattle.rpc_client.proofs.Finding.{seen_same, seen_then, seen_became, seen_found}
+use Rattle.rpc_client.proofs.Writing.{all_refs}
+use Rattle.rpc_client.proofs.Delivering.{accepted_refs, delivered_refs, delivered_share, delivered_seen, came_lists}
+use Rattle.call_attempts.specs.Both.{Both}
+use Rattle.call_attempts.specs.Letters.{bytes_of}
+use Rattle.call_attempts.specs.Through.{Drained}
+use Rattle.call_attempts.specs.Attempting.{message_of, code_for, reference_of, WentOut, CameBack, DeliveredBy, went_out, came_back, Linked, AttemptedBy, nowhere, over_link}
+
+-- ## The seat of the ids
+
+-- a word of an operation that was stored
+pub kept_free : {C : Type 0} (z : TableId) (s t : Seat (Maybe C) (id_view.View C)) (x : ℕ) (own : Bool) (word : ℕ) → Sits z s → IsFree s.me.0 → Stays s t → t.me.0 ≡ with_kept x own word s.me.0 → Sits z t × IsFree t.me.0
+kept_free {C} z s t x own word sits free stays e = (sits_on z s t stays (ap (λ (v : id_view.View C). v.share) e) sits, (λ j. ap (λ (v : id_view.View C). tokens_in j v) e ∙ free j))
+
+-- ## The seat of the sockets
+
+-- the same references, all that was seen, and at most one message more in its own list
+pub record Leaves (v w : View) : Type 0 where
+  pub refs : SameRefs v w
+  pub seen : StaysSeen v w
+  pub share : w.share ≡ v.share
+  pub lists : (w.lists ≡ v.lists) ⊎ ((e : Entry) × (w.lists ≡ more v.lists e))
+
+own_by : (n : ℕ) (v w : View) → (w.lists ≡ v.lists) ⊎ ((e : Entry) × (w.lists ≡ more v.lists e)) → OwnList n v → OwnList (n + 1) w
+own_by n v w (inl e) o = record { made = o.made; taken_in = o.taken_in; lists = e ∙ o.lists; few = (let a = o.few in omega arith) }
+own_by n v w (inr (e, is)) o = record { made = o.made ++ e ∷ []; taken_in = o.taken_in; lists = is ∙ ap (λ l. more l e) o.lists; few = (let a = o.few in let b = length-append o.made (e ∷ []) in omega arith) }
+
+pub own_after : (v w : View) → Leaves v w → (n : ℕ) → OwnList n v → OwnList (n + 1) w
+own_after v w l n o = own_by n v w l.lists o
+
+-- a reference came, and else notes alone
+pub record Comes (id : ℕ) (v w : View) : Type 0 where
+  pub one : OneMore id v w
+  pub seen : StaysSeen v w
+  pub share : w.share ≡ v.share
+  pub lists : w.lists ≡ v.lists
+
+-- ## A refused frame
+
+pub message_is : (p : Plan) (sock : SockRef) (msg : Letter) (r : Refused) (v w : View) → RefusedBy p sock msg r v w → message_of r ≡ msg
+message_is p sock msg (refused.Failed s m found) v w b = b.1
+message_is p sock msg (refused.Full s m) v w b = b.1
+
+pub reference_is : (p : Plan) (sock : SockRef) (msg : Letter) (r : Refused) (v w : View) → RefusedBy p sock msg r v w → reference_of r ≡ sock
+reference_is p sock msg (refused.Failed s m found) v w b = b.0
+reference_is p sock msg (refused.Full s m) v w b = b.0
+
+-- ## An attempt
+
+module _ {O : Type 0} (state : O → OutState) (p : Plan) (q : id_plan.Plan) (socket : SocketId) (msg : Letter) where
+  abbrev sock : SockRef
+  sock = record { id = socket }
+
+  drained_refs : (s t : Both) → Drained state p q.slots socket.0 s t → SameRefs s.socks t.socks
+  drained_refs s t d = all_refs p socket.0 s.socks t.socks d
+
+  drained_others : (s t : Both) → Drained state p q.slots socket.0 s t → (t.socks.found ≡ s.socks.found) × (t.socks.share ≡ s.socks.share) × (t.socks.lists ≡ s.socks.lists)
+  drained_others s t d = let e = d.became.others in (ap (λ (y : View). y.found) e, ap (λ (y : View). y.share) e, ap (λ (y : View). y.lists) e)
+
+  went_leaves : (u : View) (s t : Both) → Comes socket.0 u s.socks → WentOut state p q socket msg s t → Leaves u t.socks
+  went_leaves u s t c w = record {
+    refs = given socket.0 u wrote t.socks back.ended (then_more socket.0 u w.taken wrote (then_more socket.0 u s.socks w.taken c.one taken) (drained_refs _ _ w.through.by)) back.back;
+    seen = seen_then u s.socks t.socks c.seen (seen_then s.socks w.taken t.socks w.accepted.seen (seen_then w.taken wrote t.socks (seen_same w.taken wrote others.0) (seen_became (socket_id_slot socket.0) wrote t.socks _ _ back.back.became)));
+    share = ap (λ (y : View). y.share) back.back.became.others ∙ (others.1 ∙ (w.accepted.share ∙ c.share));
+    lists = inr (w.accepted.entry, ap (λ (y : View). y.lists) back.back.became.others ∙ (others.2 ∙ (w.accepted.lists ∙ ap (λ l. more l w.accepted.entry) c.lists)));
+  }
+    where
+      wrote : View
+      wrote = w.through.wrote.socks
+
+      back : sending.Returned socket.0 wrote t.socks
+      back = w.through.returned
+
+      taken : SameRefs s.socks w.taken
+      taken = accepted_refs (Saw (socket_id_version socket.0) ∷ []) p socket.0 (heading_of msg) (bytes_of msg) s.socks w.taken refl w.accepted
+
+      others : (wrote.found ≡ w.taken.found) × (wrote.share ≡ w.taken.share) × (wrote.lists ≡ w.taken.lists)
+      others = drained_others (record { socks = w.taken; calls = s.calls }) w.through.wrote w.through.by
+
+  -- as a message that is sent
+  came_as : (by : Outcome) (why : Refused) (u v w : View) → Comes socket.0 u v → sending.CameBack p sock msg why v w → sending.DeliveredBy state p sock msg (Some by) v w → Leaves u w
+  came_as by why u v w c back d = record {
+    refs = delivered_refs state p sock msg (Some by) u v w c.one d;
+    seen = seen_then u v w c.seen (delivered_seen state p sock msg (Some by) v w d);
+    share = delivered_share state p sock msg (Some by) v w d ∙ c.share;
+    lists = inl (came_lists p sock msg why v w back ∙ c.lists);
+  }
+
+  came_leaves : (u : View) (s t : Both) → Comes socket.0 u s.socks → (by : Refused) → CameBack state p q socket msg by s t → Leaves u t.socks
+  came_leaves u s t c (refused.Failed k m found) b = let back = record { refused_at = b.refused_at; refused_by = (refl, refl, b.refused_by.2, b.refused_by.3); returned = b.returned } in came_as (outcome.Gone found) (refused.Failed sock msg found) u s.socks t.socks c back back
+  came_leaves u s t c (refused.Full k m) b = let r = b.refused_by in let back = record { refused_at = b.refused_at; refused_by = (refl, refl, r.2, r.3, r.4, r.5, r.6, r.7, r.8, r.9); returned = b.returned } in came_as outcome.Full (refused.Full sock msg) u s.socks t.socks c back back
+
+  delivered_leaves : (u : View) (s t : Both) → Comes socket.0 u s.socks → DeliveredBy state p q socket msg s t → Leaves u t.socks
+  delivered_leaves u s t c (went_out w) = went_leaves u s t c w
+  delivered_leaves u s t c (came_back by b) = came_leaves u s t c by b
+
+  -- the reference that the seat has then
+  pub linked_comes : (s t : Both) → Linked state p q socket msg s t → Comes socket.0 s.socks t.socks
+  linked_comes s t l = record {
+    one = then_more socket.0 s.socks l.has t.socks (one_more socket.0 s.socks l.has l.held) (same_refs (socket_id_slot socket.0) l.has t.socks _ [] l.link_of.became refl refl);
+    seen = seen_then s.socks l.has t.socks (seen_became (socket_id_slot socket.0) s.socks l.has _ _ l.held) (seen_became (socket_id_slot socket.0) l.has t.socks _ _ l.link_of.became);
+    share = ap (λ (y : View). y.share) l.link_of.became.others ∙ ap (λ (y : View). y.share) l.held.others;
+    lists = ap (λ (y : View). y.lists) l.link_of.became.others ∙ ap (λ (y : View). y.lists) l.held.others;
+  }
+
+  pub attempted_leaves : (s t : Both) → AttemptedBy state p q socket msg s t → Leaves s.socks t.socks
+  attempted_leaves s t (nowhere g) = record {
+    refs = gone_refs socket.0 g.found.0 s.socks t.socks g.gone;
+    seen = seen_became (socket_id_slot socket.0) s.socks t.socks _ _ g.gone.became;
+    share = ap (λ (y : View). y.share) g.gone.became.others;
+    lists = inl (ap (λ (y : View). y.lists) g.gone.became.others);
+  }
+  attempted_leaves s t (over_link u l d) = delivered_leaves s.socks u t (linked_comes s u l) d
+
+-- ## A name that is read
+
+-- the same references, all that was seen, and the same lists
+pub record Keeps (v w : View) : Type 0 where
+  pub refs : SameRefs v w
+  pub seen : StaysSeen v w
+  pub share : w.share ≡ v.share
+  pub lists : w.lists ≡ v.lists
+
+pub keeps_leaves : (v w : View) → Keeps v w → Leaves v w
+keeps_leaves v w k = record { refs = k.refs; seen = k.seen; share = k.share; lists = inl k.lists }
+
+lists_then : (u v w : View) → v.lists ≡ u.lists → (w.lists ≡ v.lists) ⊎ ((e : Entry) × (w.lists ≡ more v.lists e)) → (w.lists ≡ u.lists) ⊎ ((e : Entry) × (w.lists ≡ more u.lists e))
+lists_then u v w a (inl e) = inl (e ∙ a)
+lists_then u v w a (inr (e, is)) = inr (e, is ∙ ap (λ l. more l e) a)
+
+pub keeps_then : (u v w : View) → Keeps u v → Leaves v w → Leaves u w
+keeps_then u v w k l = record { refs = refs_then u v w k.refs l.refs; seen = seen_then u v w k.seen l.seen; share = l.share ∙ k.share; lists = lists_then u v w k.lists l.lists }
+
+pub found_keeps : (p : Plan) (n : ℕ) (by : Maybe SocketId) (v w : View) → Found p n by v w → Keeps v w
+found_keeps p n (Some id) v w f = let e = f.1.view in record { refs = finds_refs (name_word p n) id.0 v w f.1; seen = seen_found (name_word p n) id.0 v w f.1; share = ap (λ (y : View). y.share) e; lists = ap (λ (y : View). y.lists) e }
+found_keeps p n None v w f = let e = f.0 in record { refs = refs_none v w (ap (λ (y : View). y.marks) e); seen = seen_same v w (ap (λ (y : View). y.found) e); share = ap (λ (y : View). y.share) e; lists = ap (λ (y : View). y.lists) e }
