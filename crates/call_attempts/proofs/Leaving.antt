@@ -16,6 +16,9 @@ use Rattle.sock_model.specs.ChainRows.{more}
 use Rattle.sock_model.specs.Layout.{name_word}
 use Rattle.sock_rule.specs.Shows.{heading_of}
 use Rattle.sock_rule.specs.declared.homes.Letter.{Letter}
+use Rattle.sock_model.specs.SlotRows.{marks_of}
+use Rattle.sock_model.specs.Weights.{is_ref}
+use Rattle.sock_table.specs.Answers.{LinkOf}
 use Rattle.sock_table.specs.Named.{Found}
 use Rattle.sock_table.specs.declared.refs.SockRef.{SockRef}
 use Rattle.write_chain.specs.declared.entry.Refused.{Refused}
@@ -167,3 +170,17 @@ keeps_then u v w k l = record { refs = refs_then u v w k.refs l.refs; seen = see
 pub found_keeps : (p : Plan) (n : ℕ) (by : Maybe SocketId) (v w : View) → Found p n by v w → Keeps v w
 found_keeps p n (Some id) v w f = let e = f.1.view in record { refs = finds_refs (name_word p n) id.0 v w f.1; seen = seen_found (name_word p n) id.0 v w f.1; share = ap (λ (y : View). y.share) e; lists = ap (λ (y : View). y.lists) e }
 found_keeps p n None v w f = let e = f.0 in record { refs = refs_none v w (ap (λ (y : View). y.marks) e); seen = seen_same v w (ap (λ (y : View). y.found) e); share = ap (λ (y : View). y.share) e; lists = ap (λ (y : View). y.lists) e }
+
+-- ## The link of a socket that is held
+
+pub link_keeps : (p : Plan) (k id : ℕ) (v w : View) → LinkOf p k id v w → Keeps v w
+link_keeps p k id v w l = record {
+  refs = same_refs (socket_id_slot id) v w _ [] l.became refl refl;
+  seen = seen_became (socket_id_slot id) v w _ _ l.became;
+  share = ap (λ (y : View). y.share) l.became.others;
+  lists = ap (λ (y : View). y.lists) l.became.others;
+}
+
+-- what is held is held, and few references are there still
+pub few_still : (i : ℕ) (v w : View) → Keeps v w → marks_of is_ref i v < 65540 → marks_of is_ref i w < 65540
+few_still i v w k few = let a = k.refs.refs i in omega arith

@@ -1,5 +1,5 @@
 -- What becomes of a retry that waited, and of all of them.
-use Rattle.std.specs.Prelude.{◌≡◌, ℕ, ◌≤◌, ◌⊎◌, false, true, Option as Maybe, Some, None, List, [], ◌∷◌}
+use Rattle.std.specs.Prelude.{◌≡◌, ℕ, ◌<◌, ◌≤◌, ◌⊎◌, false, true, Option as Maybe, Some, None, List, [], ◌∷◌}
 use Rattle.sock_io.specs.Link.{OutState}
 use Rattle.sock_words.specs.Codes.{EFAILEDSOCKET, EINTERNAL}
 use Rattle.sock_words.specs.declared.plain.Plan.{Plan}
@@ -14,7 +14,7 @@ use Rattle.corr_id.specs.declared.unlocks.Unlocked.TheVariants.{Open, Next}
 use Rattle.corr_id.specs.Unlocks.{UnlockOk}
 use Rattle.sock_message.specs.Asked.{Asked, name_of}
 use Rattle.call_errors.specs.declared.seats.Retry.{Retry}
-use Rattle.call_errors.specs.Books.{CallStand}
+use Rattle.call_errors.specs.Books.{Books, CallStand}
 use Rattle.call_errors.specs.Locking.{GotBy, GoneBy}
 use Rattle.call_errors.specs.Ending.{EndedWith}
 use Rattle.call_errors.specs.Handling.{Decided}
@@ -22,14 +22,22 @@ use Rattle.call_attempts.specs.Both.{Both, PostedFor, wanting}
 use Rattle.call_attempts.specs.Letters.{letter_for}
 use Rattle.call_attempts.specs.Attempting.{PostedOf, AttemptedBy}
 
-module _ {O : Type 0} (state : O → OutState) (p : Plan) (q : id_plan.Plan) where
-  -- the tables lack the name or the operation: a call is no such one by which client it was begun
-  abbrev pub IsStray : ℕ → ℕ → Type 0
-  IsStray name operation = (p.names ≤ name) ⊎ ((p.operations ≤ operation) ⊎ (q.operations ≤ operation))
+-- the tables lack the name or the operation, which no call does that a client of these tables begins
+abbrev pub IsStray : Plan → id_plan.Plan → ℕ → ℕ → Type 0
+IsStray p q name operation = (p.names ≤ name) ⊎ ((p.operations ≤ operation) ⊎ (q.operations ≤ operation))
 
+abbrev pub IsAtHome : Plan → id_plan.Plan → ℕ → ℕ → Type 0
+IsAtHome p q name operation = (name < p.names) × (operation < p.operations) × (operation < q.operations)
+
+-- the oldest retry was taken out, or there was none
+abbrev pub TookNext : Maybe Retry → Books → Books → Type 0
+TookNext None b c = (b.retries ≡ []) × (b.starved ≡ false) × (c ≡ b)
+TookNext (Some r) b c = (b.retries ≡ r ∷ c.retries) × (b.starved ≡ false) × (c ≡ record { retries = c.retries; told = b.told; starved = false })
+
+module _ {O : Type 0} (state : O → OutState) (p : Plan) (q : id_plan.Plan) where
   -- an attempt goes to the socket of its name; where there is none that is posted to the call
   pub data WentTo (name : ℕ) (msg : Letter) (s t : Both) : Type 0 where
-    stray : IsStray name msg.label.operation → t.socks ≡ s.socks → PostedOf q msg EFAILEDSOCKET s t → WentTo name msg s t
+    stray : IsStray p q name msg.label.operation → t.socks ≡ s.socks → PostedOf q msg EFAILEDSOCKET s t → WentTo name msg s t
     unopened : Found p name None s.socks t.socks → PostedOf q msg EFAILEDSOCKET s t → WentTo name msg s t
     to_socket : (socket : SocketId) (u : Both) → Found p name (Some socket) s.socks u.socks → u.calls ≡ s.calls → AttemptedBy state p q socket msg u t → WentTo name msg s t
 
@@ -90,8 +98,7 @@ module _ {O : Type 0} (state : O → OutState) (p : Plan) (q : id_plan.Plan) whe
     pub none_waits : t.calls.books.retries ≡ []
     pub fed : t.calls.books.starved ≡ false
 
-  -- or memory was wanting: for a frame, or before as an error was handled, or for one message more that its seat's socket table accepts
-  pub data RanOut (s t : Both) : Type 0 where
-    for_frame : (u : Both) (r : Retry) (rest : List Retry) → Retried s u → u.calls.books.retries ≡ r ∷ rest → GaveUp r (without_oldest rest u) t → RanOut s t
-    behind : Retried s t → t.calls.books.starved ≡ true → RanOut s t
-    for_message : (u : Both) → Retried s u → t ≡ record { socks = u.socks; calls = wanting u.calls } → RanOut s t
+  -- or memory was wanting: for a frame; or before the next one, as an error was handled, or since so many messages of the seat are accepted that there is no room in its list for one more
+  pub data RanOut (sent : ℕ) (s t : Both) : Type 0 where
+    for_frame : (u : Both) (r : Retry) (rest : List Retry) → Retried s u → u.calls.books.retries ≡ r ∷ rest → u.calls.books.starved ≡ false → GaveUp r (without_oldest rest u) t → RanOut sent s t
+    before_next : (u : Both) → Retried s u → (u.calls.books.starved ≡ true) ⊎ (33554431 ≤ sent) → t ≡ record { socks = u.socks; calls = wanting u.calls } → RanOut sent s t

@@ -123,7 +123,7 @@ pub fn attempt_one<O: Out, R: Wait>(
             );
             deliver_frame(rt, tables, seat, calls, sock, msg);
         }
-        Err(_) => {
+        Err(_gone) => {
             post_error(
                 rt,
                 &tables.ids,

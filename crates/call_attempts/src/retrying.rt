@@ -1,11 +1,12 @@
 // Retries that a client keeps.
-ghost use Rattle.std.specs.Prelude.{◌≡◌, ◌+◌, ◌*◌, ◌<◌, ◌≤◌, ℕ, IfOk, IfErr, All};
+ghost use Rattle.std.specs.Prelude.{◌≡◌, ◌+◌, ◌*◌, ◌<◌, ◌≤◌, ◌⊎◌, ℕ, true, false, IfOk, IfErr};
 ghost use Rattle.write_chain.specs.Sending.{HasRoom};
 ghost use Rattle.corr_id.specs.Seats.{Stays};
 ghost use Rattle.rpc_client.specs.Seats.{MayAct, AtRest, StaysSeen, SameRefs};
 ghost use Rattle.rpc_client.specs.Acting.{OwnList};
 ghost use Rattle.call_attempts.specs.Both.{both, HasNoLock, IsCallId};
-ghost use Rattle.call_attempts.specs.Retrying.{WentTo, RetriedBy, GaveUp, RetriedAll, RanOut};
+ghost use Rattle.call_errors.specs.Books.{books_of, starving};
+ghost use Rattle.call_attempts.specs.Retrying.{IsStray, IsAtHome, TookNext, WentTo, RetriedBy, GaveUp, RetriedAll, RanOut};
 
 use crate::attempting::attempt_one;
 use crate::letters::letter_of;
@@ -23,7 +24,10 @@ use std::sync::Wait;
 const MOST_SENT: u32 = 33_554_431;
 
 // Whether the tables have the name and the operation. No call lacks them that a client of these tables begins.
-fn is_stray<O: Out>(tables: &Tables<O>, name: u16, operation: u16) -> bool {
+fn is_stray<O: Out>(tables: &Tables<O>, name: u16, operation: u16) -> bool
+    ensures stray { result ≡ true → IsStray tables.now.socks.rule.plan tables.now.ids.plan name operation }
+    ensures at_home { result ≡ false → IsAtHome tables.now.socks.rule.plan tables.now.ids.plan name operation }
+{
     name >= tables.socks.rule.plan.names
         || operation >= tables.socks.rule.plan.operations
         || operation >= tables.ids.plan.operations
@@ -111,7 +115,11 @@ pub fn retry_one<O: Out, R: Wait>(
 }
 
 // The oldest retry, where memory isn't wanting and one message more may be accepted.
-fn next_retry(calls: &mut CallSeat, sent: u32) -> Result<Option<Retry>, NoMemory> {
+fn next_retry(calls: &mut CallSeat, sent: u32) -> Result<Option<Retry>, NoMemory>
+    ensures seat { calls.new.seat ≡ calls.old.seat }
+    ensures next { IfOk result (λ r. TookNext r (books_of calls.old) (books_of calls.new) × (sent < 33554431)) }
+    ensures wanting { IfErr result (λ _. ((calls.old.starved ≡ true) ⊎ (33554431 ≤ sent)) × (books_of calls.new ≡ starving (books_of calls.old))) }
+{
     if calls.starved {
         return Err(NoMemory);
     }
@@ -139,7 +147,7 @@ pub fn retry_all<O: Out, R: Wait>(
     ensures ids { HasNoLock tables.now.ids.table.shared.table_id calls.new }
     ensures same { Stays calls.old.seat calls.new.seat }
     ensures all { IfOk result (λ _. RetriedAll O.state tables.now.socks.rule.plan tables.now.ids.plan (both seat.old.me.0 calls.old) (both seat.new.me.0 calls.new)) }
-    ensures ran_out { IfErr result (λ _. RanOut O.state tables.now.socks.rule.plan tables.now.ids.plan (both seat.old.me.0 calls.old) (both seat.new.me.0 calls.new)) }
+    ensures ran_out { IfErr result (λ _. RanOut O.state tables.now.socks.rule.plan tables.now.ids.plan sent.new (both seat.old.me.0 calls.old) (both seat.new.me.0 calls.new)) }
     ensures refs { SameRefs seat.old.me.0 seat.new.me.0 }
     ensures seen { StaysSeen seat.old.me.0 seat.new.me.0 }
 {
