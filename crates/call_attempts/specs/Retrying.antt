@@ -32,7 +32,11 @@ IsAtHome p q name operation = (name < p.names) × (operation < p.operations) × 
 -- the oldest retry was taken out, or there was none
 abbrev pub TookNext : Maybe Retry → Books → Books → Type 0
 TookNext None b c = (b.retries ≡ []) × (b.starved ≡ false) × (c ≡ b)
-TookNext (Some r) b c = (b.retries ≡ r ∷ c.retries) × (b.starved ≡ false) × (c ≡ record { retries = c.retries; told = b.told; starved = false })
+TookNext (Some r) b c = (b.retries ≡ r ∷ c.retries) × (b.starved ≡ false) × (c ≡ record { retries = c.retries; told = b.told; starved = b.starved })
+
+-- the retries without the oldest
+abbrev pub without_oldest : List Retry → Both → Both
+without_oldest rest s = record { socks = s.socks; calls = record { view = s.calls.view; books = record { retries = rest; told = s.calls.books.told; starved = s.calls.books.starved } } }
 
 module _ {O : Type 0} (state : O → OutState) (p : Plan) (q : id_plan.Plan) where
   -- an attempt goes to the socket of its name; where there is none that is posted to the call
@@ -82,10 +86,6 @@ module _ {O : Type 0} (state : O → OutState) (p : Plan) (q : id_plan.Plan) whe
       pub locked : Locked lock s at
       pub ended : EndedWith lock EINTERNAL (wanting at.calls) t.calls
       pub socks : t.socks ≡ at.socks
-
-  -- the retries without the oldest
-  abbrev pub without_oldest : List Retry → Both → Both
-  without_oldest rest s = record { socks = s.socks; calls = record { view = s.calls.view; books = record { retries = rest; told = s.calls.books.told; starved = s.calls.books.starved } } }
 
   -- the retries that waited were made, the oldest first, so far
   pub data Retried (s : Both) : Both → Type 0 where
