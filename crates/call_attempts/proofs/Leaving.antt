@@ -4,6 +4,8 @@ use Rattle.std.specs.Prelude.{Option as Maybe}
 use Rattle.atomic_table.specs.Seated.{TableId}
 use Rattle.atomic_table.specs.declared.shared.Seat.{Seat}
 use Rattle.sock_io.specs.Link.{OutState}
+use Rattle.sock_words.specs.Codes.{EFAILEDSOCKET, EREQUESTS}
+use Rattle.sock_words.specs.declared.vref.Vref.{Vref}
 use Rattle.sock_words.specs.declared.plain.Plan.{Plan}
 use Rattle.sock_words.specs.declared.socket_id.SocketId.{SocketId}
 use Rattle.sock_words.specs.declared.outcome.Outcome.{Outcome}
@@ -37,10 +39,14 @@ use Rattle.rpc_client.proofs.Counting.{same_refs, refs_then, refs_none, one_more
 use Rattle.rpc_client.proofs.Finding.{seen_same, seen_then, seen_became, seen_found}
 use Rattle.rpc_client.proofs.Writing.{all_refs}
 use Rattle.rpc_client.proofs.Delivering.{accepted_refs, delivered_refs, delivered_share, delivered_seen, came_lists}
-use Rattle.call_attempts.specs.Both.{Both}
+use Rattle.call_errors.specs.declared.seats.CallSeat.{CallSeat}
+use Rattle.call_errors.specs.declared.retries.Retry.{Retry}
+use Rattle.call_errors.specs.Books.{books_of, stand_of, starving}
+use Rattle.call_attempts.specs.Both.{Both, both, wanting}
+use Rattle.call_attempts.specs.Retrying.{TookNext, without_oldest}
 use Rattle.call_attempts.specs.Letters.{bytes_of}
 use Rattle.call_attempts.specs.Through.{Drained}
-use Rattle.call_attempts.specs.Attempting.{message_of, code_for, reference_of, WentOut, CameBack, DeliveredBy, went_out, came_back, Linked, AttemptedBy, nowhere, over_link}
+use Rattle.call_attempts.specs.Attempting.{message_of, reference_of, PostedOf, RefusedFor, WentOut, CameBack, DeliveredBy, went_out, came_back, Linked, AttemptedBy, nowhere, over_link}
 
 -- ## The seat of the ids
 
@@ -81,6 +87,18 @@ pub reference_is : (p : Plan) (sock : SockRef) (msg : Letter) (r : Refused) (v w
 reference_is p sock msg (refused.Failed s m found) v w b = b.0
 reference_is p sock msg (refused.Full s m) v w b = b.0
 
+pub refused_failed : (q : id_plan.Plan) (r : Refused) (sock : SockRef) (msg : Letter) (found : Vref) (s t : Both) → r ≡ refused.Failed sock msg found → PostedOf q msg EFAILEDSOCKET s t → sending.Returned sock.id.0 s.socks t.socks → RefusedFor q r s t
+refused_failed q r sock msg found s t is a b = subst (λ (y : Refused). RefusedFor q y s t) (sym is) now
+  where
+    now : RefusedFor q (refused.Failed sock msg found) s t
+    now = record { posted = a; returned = b }
+
+pub refused_full : (q : id_plan.Plan) (r : Refused) (sock : SockRef) (msg : Letter) (s t : Both) → r ≡ refused.Full sock msg → PostedOf q msg EREQUESTS s t → sending.Returned sock.id.0 s.socks t.socks → RefusedFor q r s t
+refused_full q r sock msg s t is a b = subst (λ (y : Refused). RefusedFor q y s t) (sym is) now
+  where
+    now : RefusedFor q (refused.Full sock msg) s t
+    now = record { posted = a; returned = b }
+
 -- ## An attempt
 
 module _ {O : Type 0} (state : O → OutState) (p : Plan) (q : id_plan.Plan) (socket : SocketId) (msg : Letter) where
@@ -95,7 +113,7 @@ module _ {O : Type 0} (state : O → OutState) (p : Plan) (q : id_plan.Plan) (so
 
   went_leaves : (u : View) (s t : Both) → Comes socket.0 u s.socks → WentOut state p q socket msg s t → Leaves u t.socks
   went_leaves u s t c w = record {
-    refs = given socket.0 u wrote t.socks back.ended (then_more socket.0 u w.taken wrote (then_more socket.0 u s.socks w.taken c.one taken) (drained_refs _ _ w.through.by)) back.back;
+    refs = given socket.0 u wrote t.socks back.ended (then_more socket.0 u w.taken wrote (then_more socket.0 u s.socks w.taken c.one taken) (drained_refs (record { socks = w.taken; calls = s.calls }) w.through.wrote w.through.by)) back.back;
     seen = seen_then u s.socks t.socks c.seen (seen_then s.socks w.taken t.socks w.accepted.seen (seen_then w.taken wrote t.socks (seen_same w.taken wrote others.0) (seen_became (socket_id_slot socket.0) wrote t.socks _ _ back.back.became)));
     share = ap (λ (y : View). y.share) back.back.became.others ∙ (others.1 ∙ (w.accepted.share ∙ c.share));
     lists = inr (w.accepted.entry, ap (λ (y : View). y.lists) back.back.became.others ∙ (others.2 ∙ (w.accepted.lists ∙ ap (λ l. more l w.accepted.entry) c.lists)));
@@ -123,8 +141,8 @@ module _ {O : Type 0} (state : O → OutState) (p : Plan) (q : id_plan.Plan) (so
   }
 
   came_leaves : (u : View) (s t : Both) → Comes socket.0 u s.socks → (by : Refused) → CameBack state p q socket msg by s t → Leaves u t.socks
-  came_leaves u s t c (refused.Failed k m found) b = let back = record { refused_at = b.refused_at; refused_by = (refl, refl, b.refused_by.2, b.refused_by.3); returned = b.returned } in came_as (outcome.Gone found) (refused.Failed sock msg found) u s.socks t.socks c back back
-  came_leaves u s t c (refused.Full k m) b = let r = b.refused_by in let back = record { refused_at = b.refused_at; refused_by = (refl, refl, r.2, r.3, r.4, r.5, r.6, r.7, r.8, r.9); returned = b.returned } in came_as outcome.Full (refused.Full sock msg) u s.socks t.socks c back back
+  came_leaves u s t c (refused.Failed k m found) b = let back : sending.CameBack p sock msg (refused.Failed sock msg found) s.socks t.socks = record { refused_at = b.refused_at; refused_by = (refl, refl, b.refused_by.2, b.refused_by.3); returned = b.returned } in came_as (outcome.Gone found) (refused.Failed sock msg found) u s.socks t.socks c back back
+  came_leaves u s t c (refused.Full k m) b = let r = b.refused_by in let back : sending.CameBack p sock msg (refused.Full sock msg) s.socks t.socks = record { refused_at = b.refused_at; refused_by = (refl, refl, r.2, r.3, r.4, r.5, r.6, r.7, r.8, r.9); returned = b.returned } in came_as outcome.Full (refused.Full sock msg) u s.socks t.socks c back back
 
   delivered_leaves : (u : View) (s t : Both) → Comes socket.0 u s.socks → DeliveredBy state p q socket msg s t → Leaves u t.socks
   delivered_leaves u s t c (went_out w) = went_leaves u s t c w
@@ -184,3 +202,14 @@ link_keeps p k id v w l = record {
 -- what is held is held, and few references are there still
 pub few_still : (i : ℕ) (v w : View) → Keeps v w → marks_of is_ref i v < 65540 → marks_of is_ref i w < 65540
 few_still i v w k few = let a = k.refs.refs i in omega arith
+
+-- ## The oldest retry is taken out
+
+pub took_is : (v : View) (c d : CallSeat) (r : Retry) → d.seat ≡ c.seat → TookNext (Some r) (books_of c) (books_of d) → both v d ≡ without_oldest d.retries.items (both v c)
+took_is v c d r e k = λ z. record { socks = v; calls = record { view = (e z).me.0; books = k.2 z } }
+
+pub took_none : (v : View) (c d : CallSeat) → d.seat ≡ c.seat → TookNext None (books_of c) (books_of d) → both v d ≡ both v c
+took_none v c d e k = λ z. record { socks = v; calls = record { view = (e z).me.0; books = k.2 z } }
+
+pub wants_is : (v : View) (c d : CallSeat) → d.seat ≡ c.seat → books_of d ≡ starving (books_of c) → both v d ≡ record { socks = v; calls = wanting (stand_of c) }
+wants_is v c d e k = λ z. record { socks = v; calls = record { view = (e z).me.0; books = k z } }

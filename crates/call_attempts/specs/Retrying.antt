@@ -13,7 +13,7 @@ use Rattle.corr_id.specs.declared.calls.IdLock.{IdLock}
 use Rattle.corr_id.specs.declared.unlocks.Unlocked.TheVariants.{Open, Next}
 use Rattle.corr_id.specs.Unlocks.{UnlockOk}
 use Rattle.sock_message.specs.Asked.{Asked, name_of}
-use Rattle.call_errors.specs.declared.seats.Retry.{Retry}
+use Rattle.call_errors.specs.declared.retries.Retry.{Retry}
 use Rattle.call_errors.specs.Books.{Books, CallStand}
 use Rattle.call_errors.specs.Locking.{GotBy, GoneBy}
 use Rattle.call_errors.specs.Ending.{EndedWith}

@@ -113,7 +113,11 @@ pub fn attempt_one<O: Out, R: Wait>(
     let attempt = msg.label.attempt;
     match tables.socks.address(seat, socket) {
         Ok(sock) => {
+            let slots = tables.ids.plan.slots;
+            prove!(msg.owner / 4_294_967_296 < slots as u64);
             let link = tables.socks.link_of(seat, &sock);
+            let links = tables.socks.rule.plan.links;
+            prove!(link < links);
             tables.ids.set_at(
                 &mut calls.seat,
                 msg.label.operation,

@@ -62,6 +62,8 @@ pub fn call_one<O: Out, R: Wait>(
     let Ok(id) = tables.ids.create(&mut calls.seat, range, call) else {
         return Ok(Called::NoSlot);
     };
+    let slots = tables.ids.plan.slots;
+    prove!(id / 4_294_967_296 < slots as u64);
     tables.ids.note(&mut calls.seat, operation, id);
     let Ok(frame) = CallFrame::new(calls.alloc, &mut calls.pool, &kept, id, 0) else {
         calls.starved = true;

@@ -93,6 +93,8 @@ pub fn retry_one<O: Out, R: Wait>(
     let Ok(lock) = tables.ids.lock(rt, &mut calls.seat, id) else {
         return Ok(());
     };
+    let slots = tables.ids.plan.slots;
+    prove!(id / 4_294_967_296 < slots as u64);
     let operation = lock.content.operation;
     let name = lock.content.name(n);
     let Ok(frame) = CallFrame::new(calls.alloc, &mut calls.pool, lock.content(), id, n) else {
@@ -105,13 +107,16 @@ pub fn retry_one<O: Out, R: Wait>(
             lock: next,
             code,
             attempt,
-        } => handle(rt, &tables.ids, calls, next, code, attempt),
+        } => {
+            handle(rt, &tables.ids, calls, next, code, attempt);
+            Ok(())
+        }
         Unlocked::Open => {
             let msg = letter_of(rt, frame, operation, id, n);
             go_to(rt, tables, seat, calls, name, msg);
+            Ok(())
         }
     }
-    Ok(())
 }
 
 // The oldest retry, where memory isn't wanting and one message more may be accepted.

@@ -1,7 +1,7 @@
 // TO BE REPLACED by that of call_writes.
 ghost use Rattle.std.specs.Prelude.{◌≡◌, []};
 ghost use Rattle.sock_rule.specs.Seated.{IsSeat};
-ghost use Rattle.write_chain.specs.Ready.{sock_of};
+ghost use Rattle.rpc_client.specs.Sending.{sock_of};
 ghost use Rattle.write_chain.specs.Writing.{Begins};
 ghost use Rattle.rpc_client.specs.Seats.{Idle};
 ghost use Rattle.corr_id.specs.Seats.{Stays};

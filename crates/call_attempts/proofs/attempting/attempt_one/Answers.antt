@@ -1,4 +1,4 @@
-use Rattle.std.proofs.Common.{◌×◌, ◌<◌, ◌∙◌, ap, sym, refl, subst, arith}
+use Rattle.std.proofs.Common.{◌<◌, ◌∙◌, ap, sym, refl, subst, arith}
 use Rattle.sock_words.specs.Words.{socket_id_slot}
 use Rattle.sock_words.specs.declared.socket_id.SocketId.{SocketId}
 use Rattle.sock_model.specs.Weights.{is_ref}
@@ -32,7 +32,7 @@ deliver_frame-requires-clause-idle g c = let z = c.args.tables.now.socks.rule.ta
     (rest_became z p (socket_id_slot c.in-Ok.sock.id.0) c.address.new.seat c.link_of-link.new.seat _ _ a.idle c.link_of-link.ensures.seat c.link_of-link.ensures.slots (c.link_of-link.ensures.between c.address.ensures.between) c.link_of-link.ensures.link.became).idle
 
 pub deliver_frame-requires-clause-held : goal.deliver_frame-requires-clause-held
-deliver_frame-requires-clause-held g c = let p = c.args.tables.now.socks.rule.plan in holds_still p c.in-Ok.sock.id.0 c.address.new.seat.me.0 c.link_of-link.new.seat.me.0 (link_of-link-requires-clause-held g c) (link_keeps p c.link_of-link.result c.in-Ok.sock.id.0 c.address.new.seat.me.0 c.link_of-link.new.seat.me.0 c.link_of-link.ensures.link).refs
+deliver_frame-requires-clause-held g c = let p = c.args.tables.now.socks.rule.plan in holds_still p c.in-Ok.sock.id.0 c.address.new.seat.me.0 c.link_of-link.new.seat.me.0 (subst (λ (y : SocketId). Holds p c.address.new.seat.me.0 y.0) (sym c.in-Ok.ensures.held.0) (has_one c.args.tables.now.socks.rule.table.shared.table_id p c.args.socket.0 c.args.seat.now c.address.new.seat.me.0 c.requires.may c.requires.known.inside (one_more c.args.socket.0 c.args.seat.now.me.0 c.address.new.seat.me.0 c.in-Ok.ensures.held.1)).0) (link_keeps p c.link_of-link.result c.in-Ok.sock.id.0 c.address.new.seat.me.0 c.link_of-link.new.seat.me.0 c.link_of-link.ensures.link).refs
 
 pub deliver_frame-requires-clause-few : goal.deliver_frame-requires-clause-few
 deliver_frame-requires-clause-few g c = let z = c.args.tables.now.socks.rule.table.shared.table_id in let p = c.args.tables.now.socks.rule.plan in
