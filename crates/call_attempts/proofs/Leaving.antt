@@ -1,6 +1,8 @@
 -- What an attempt leaves of a client at both tables.
 use Rattle.std.proofs.Common.{◌≡◌, ℕ, ◌+◌, ◌<◌, ◌≤◌, ◌⊎◌, inl, inr, Bool, Some, None, List, [], ◌∷◌, ◌++◌, length, length-append, refl, sym, ap, ◌∙◌, subst, arith}
-use Rattle.std.specs.Prelude.{Option as Maybe}
+use Rattle.std.specs.Prelude.{Option as Maybe, IfErr}
+use Rattle.std.specs.declared.result.Result.{Result}
+use Rattle.std.specs.declared.result.Result.TheVariants.{Ok, Err}
 use Rattle.atomic_table.specs.Seated.{TableId}
 use Rattle.atomic_table.specs.declared.shared.Seat.{Seat}
 use Rattle.sock_io.specs.Link.{OutState}
@@ -213,3 +215,19 @@ took_none v c d e k = λ z. record { socks = v; calls = record { view = (e z).me
 
 pub wants_is : (v : View) (c d : CallSeat) → d.seat ≡ c.seat → books_of d ≡ starving (books_of c) → both v d ≡ record { socks = v; calls = wanting (stand_of c) }
 wants_is v c d e k = λ z. record { socks = v; calls = record { view = (e z).me.0; books = k z } }
+
+-- ## What isn't a value is the other
+
+pub not_ok : {A E : Type 0} (r : Result A E) (P : E → Type 0) → ((x : A) → r ≡ Ok x → ⊥) → IfErr r P → (e : E) × P e
+not_ok (Ok x) P n h = absurd (n x refl)
+not_ok (Err e) P n h = (e, h)
+
+pub not_named : (p : Plan) (n : ℕ) (r : Maybe SocketId) (v w : View) → ((x : SocketId) → r ≡ Some x → ⊥) → Found p n r v w → Found p n None v w
+not_named p n (Some id) v w no f = absurd (no id refl)
+not_named p n None v w no f = f
+
+pub own_keeps : (n : ℕ) (v w : View) → Keeps v w → OwnList n v → OwnList n w
+own_keeps n v w k o = record { made = o.made; taken_in = o.taken_in; lists = k.lists ∙ o.lists; few = o.few }
+
+pub none_keeps : (v : View) → Keeps v v
+none_keeps v = record { refs = record { refs = λ i. refl; lives = λ i h. refl }; seen = λ x h. h; share = refl; lists = refl }
