@@ -95,6 +95,7 @@ impl<C> IdTable<C> {
         requires range { (2 ≤ range) × (range ≤ 8) }
         ensures seat { Stays seat.old seat.new }
         ensures made { IfOk result (λ id. MadeAs seat.old.me.0 seat.new.me.0 self.now.plan.slots id range content) }
+        ensures low { IfOk result (λ id. version_of id ≤ LAST) }
         ensures full { IfErr result (λ e. (e.content ≡ content) × Quiet seat.old.me.0 seat.new.me.0 × ((i : ℕ) → i < self.now.plan.slots → 0 < total is_tried (notes_of i seat.new.me.0.notes))) }
     {
         let slots = self.plan.slots;
