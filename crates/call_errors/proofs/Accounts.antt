@@ -1,5 +1,5 @@
 -- What a client tells of ended calls is what it ended: of each id as often, unless memory is wanting.
-use Rattle.std.proofs.Common.{◌≡◌, ◌≢◌, ℕ, ◌+◌, ◌*◌, ◌<◌, ◌≤◌, ◌⊎◌, inl, inr, ⊎_elim, Bool, true, false, cond, eqb, eq-eqb, ne_eqb, List, [], ◌∷◌, ◌++◌, refl, ◌∙◌, ap, sym, subst, arith}
+use Rattle.std.proofs.Common.{◌≡◌, ℕ, ◌+◌, ◌*◌, ◌<◌, ◌⊎◌, inl, inr, ⊎_elim, Bool, true, false, cond, eqb, eq-eqb, ne_eqb, List, [], ◌∷◌, ◌++◌, refl, ◌∙◌, ap, sym, subst, arith}
 use Rattle.std.specs.Prelude.{None}
 use Rattle.std.specs.Prelude.{Option as Maybe}
 use mathlib.Core.Logic.{dite}

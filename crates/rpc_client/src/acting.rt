@@ -82,6 +82,8 @@ fn send_bytes<O: Out, R: Wait>(
     ensures none_ { IfErr result (λ _. client.new.seat ≡ client.old.seat) }
     ensures others { (client.new.passes ≡ client.old.passes) × (client.new.held ≡ client.old.held) × (client.new.outcomes ≡ client.old.outcomes) }
 {
+    let name = operation.name;
+    let number = operation.number;
     let message = Message::new(client.alloc, &mut client.pool, bytes)?;
     let msg = Letter {
         bytes: Parcel::Message(message),
@@ -89,11 +91,10 @@ fn send_bytes<O: Out, R: Wait>(
             client: of,
             operation: order + 1,
             attempt: 0,
-            place: 8 * u32::from(operation.number),
+            place: 8 * u32::from(number),
         },
         owner: 0,
     };
-    let name = operation.name;
     Ok(send_one(table, rt, &mut client.seat, name, msg))
 }
 
