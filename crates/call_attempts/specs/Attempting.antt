@@ -23,7 +23,6 @@ use Rattle.rpc_client.specs.Sending.{Returned}
 use Rattle.call_writes.specs.Sending.{SeenCalling}
 use Rattle.call_attempts.specs.Both.{Both, PostedFor}
 
-
 -- the message of a refusal
 abbrev pub message_of : Refused → Letter
 message_of (refused.Failed sock msg found) = msg

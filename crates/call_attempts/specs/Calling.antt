@@ -1,5 +1,6 @@
 -- How a call begins.
 use Rattle.std.specs.Prelude.{◌≡◌, ℕ, ◌<◌, true, Some, None}
+use Rattle.std.proofs.Common.{zero-le}
 use Rattle.sock_io.specs.Link.{OutState}
 use Rattle.sock_words.specs.declared.plain.Plan.{Plan}
 use Rattle.sock_words.specs.declared.socket_id.SocketId.{SocketId}
@@ -44,7 +45,7 @@ module _ {O : Type 0} (state : O → OutState) (p : Plan) (q : id_plan.Plan) (as
     pub socket : SocketId
     pub at : Both
     pub made_for : MadeFor id socket s at
-    pub attempted : AttemptedBy state p q socket (letter_for asked id 0) at t
+    pub attempted : AttemptedBy state p q socket (letter_for asked id 0 zero-le) at t
 
   abbrev pub CalledBy : Called → Both → Both → Type 0
   CalledBy Unopened s t = Found p (name_of asked 0) None s.socks t.socks × (t.calls ≡ s.calls)

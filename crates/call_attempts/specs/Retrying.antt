@@ -72,7 +72,7 @@ module _ {O : Type 0} (state : O → OutState) (p : Plan) (q : id_plan.Plan) whe
     pub record WentAgain (k : IdLock Asked) (s t : Both) : Type 0 where
       pub view : id_view.View Asked
       pub unlocked : UnlockOk s.calls.view view k.slot (parts k.word.0) k.content false Open
-      pub went : WentTo (name_of k.content r.attempt) (letter_for k.content r.id r.attempt) (record { socks = s.socks; calls = record { view = view; books = s.calls.books } }) t
+      pub went : WentTo (name_of k.content r.attempt) (letter_for k.content r.id r.attempt r.low) (record { socks = s.socks; calls = record { view = view; books = s.calls.books } }) t
 
     pub data RetriedBy (s t : Both) : Type 0 where
       had_ended : HadEnded s t → RetriedBy s t

@@ -11,7 +11,7 @@ ghost use Rattle.rpc_client.specs.Seats.{Idle, MayAct, AtRest, StaysSeen, SameRe
 ghost use Rattle.rpc_client.specs.Acting.{OwnList};
 ghost use Rattle.rpc_client.specs.Sending.{RefusedHolds};
 ghost use Rattle.call_attempts.specs.Both.{both, HasNoLock, IsCallId};
-ghost use Rattle.call_attempts.specs.Attempting.{message_of, RefusedFor, DeliveredBy, AttemptedBy};
+ghost use Rattle.call_attempts.specs.Attempting.{RefusedFor, DeliveredBy, AttemptedBy};
 
 use crate::tables::Tables;
 use call_errors::{CallSeat, post_error};
@@ -34,7 +34,6 @@ fn refuse_frame<O: Out, R: Wait>(
     requires idle { Idle tables.now.socks.rule.table.shared.table_id tables.now.socks.rule.plan seat.old }
     requires held { RefusedHolds tables.now.socks.rule.plan refused seat.old.me.0 }
     requires ids { HasNoLock tables.now.ids.table.shared.table_id calls.old }
-    requires attempt { (message_of refused).label.attempt ≤ 6 }
     ensures rest { AtRest tables.now.socks.rule.table.shared.table_id tables.now.socks.rule.plan seat.old seat.new }
     ensures ids { HasNoLock tables.now.ids.table.shared.table_id calls.new }
     ensures same { Stays calls.old.seat calls.new.seat }
@@ -68,7 +67,6 @@ fn deliver_frame<O: Out, R: Wait>(
     requires few { marks_of is_ref (socket_id_slot sock.id.0) seat.old.me.0 < 65540 }
     requires room { HasRoom seat.old.me.0 }
     requires label { msg.label.place < 8 * tables.now.socks.rule.plan.operations }
-    requires attempt { msg.label.attempt ≤ 6 }
     requires ids { HasNoLock tables.now.ids.table.shared.table_id calls.old }
     ensures idle { Idle tables.now.socks.rule.table.shared.table_id tables.now.socks.rule.plan seat.new }
     ensures ids { HasNoLock tables.now.ids.table.shared.table_id calls.new }
@@ -100,7 +98,6 @@ pub fn attempt_one<O: Out, R: Wait>(
     requires ids { HasNoLock tables.now.ids.table.shared.table_id calls.old }
     requires operation { msg.label.operation < tables.now.ids.plan.operations }
     requires id { IsCallId tables.now.ids.plan msg.owner }
-    requires attempt { msg.label.attempt ≤ 6 }
     requires label { msg.label.place < 8 * tables.now.socks.rule.plan.operations }
     ensures rest { AtRest tables.now.socks.rule.table.shared.table_id tables.now.socks.rule.plan seat.old seat.new }
     ensures ids { HasNoLock tables.now.ids.table.shared.table_id calls.new }

@@ -1,5 +1,6 @@
 // The frame of an attempt as it goes to a link.
 ghost use Rattle.std.specs.Prelude.{◌≡◌, ◌≤◌};
+ghost use Rattle.message_parts.specs.declared.parcel.Parcel.TheVariants.{Frame};
 ghost use Rattle.call_attempts.specs.Letters.{attempt_label};
 
 use message_parts::{CallFrame, Parcel};
@@ -9,7 +10,9 @@ use sock_words::Label;
 /// The letter of an attempt, counted from 0, of the call that is this operation of the script and has this id.
 pub fn letter_of(frame: CallFrame, operation: u16, id: u64, attempt: u8) -> Letter
     requires { attempt ≤ 6 }
-    ensures { result ≡ record { bytes = Parcel.Frame frame; label = attempt_label operation attempt; owner = id } }
+    ensures bytes { result.bytes ≡ Frame frame }
+    ensures label { result.label ≡ attempt_label operation attempt }
+    ensures owner { result.owner ≡ id }
 {
     let label = Label {
         client: 0,

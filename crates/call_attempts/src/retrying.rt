@@ -46,7 +46,6 @@ fn go_to<O: Out, R: Wait>(
     requires room { HasRoom seat.old.me.0 }
     requires ids { HasNoLock tables.now.ids.table.shared.table_id calls.old }
     requires id { IsCallId tables.now.ids.plan msg.owner }
-    requires attempt { msg.label.attempt ≤ 6 }
     requires place { msg.label.place ≡ 8 * msg.label.operation + msg.label.attempt }
     ensures rest { AtRest tables.now.socks.rule.table.shared.table_id tables.now.socks.rule.plan seat.old seat.new }
     ensures ids { HasNoLock tables.now.ids.table.shared.table_id calls.new }

@@ -1,4 +1,4 @@
-use Rattle.std.proofs.Common.{◌≤◌, sym, subst}
+use Rattle.std.proofs.Common.{sym, subst}
 use Rattle.sock_rule.specs.Shows.{heading_of}
 use Rattle.sock_rule.specs.declared.homes.Letter.{Letter}
 use Rattle.sock_table.specs.declared.refs.SockRef.{SockRef}
@@ -28,9 +28,6 @@ refuse_frame-requires-clause-idle g c = refused_idle c.args.tables.now.socks.rul
 
 pub refuse_frame-requires-clause-held : goal.refuse_frame-requires-clause-held
 refuse_frame-requires-clause-held g c = refused_holds c.args.tables.now.socks.rule.plan c.args.sock c.args.msg c.in-Err.refused c.args.seat.now.me.0 c.start.new.seat.me.0 c.requires.held c.in-Err.ensures.refused
-
-pub refuse_frame-requires-clause-attempt : goal.refuse_frame-requires-clause-attempt
-refuse_frame-requires-clause-attempt g c = subst (λ (m : Letter). m.label.attempt ≤ 6) (sym (message_is c.args.tables.now.socks.rule.plan c.args.sock c.args.msg c.in-Err.refused c.args.seat.now.me.0 c.start.new.seat.me.0 c.in-Err.ensures.refused)) c.requires.attempt
 
 pub returns-in-Ok-clause-by : goal.returns-in-Ok-clause-by
 returns-in-Ok-clause-by g c = let p = c.args.tables.now.socks.rule.plan in let q = c.args.tables.now.ids.plan in let is = sock_is p c.args.sock (heading_of c.args.msg) (parcel_of c.args.msg.bytes).bytes c.in-Ok.started c.args.seat.now.me.0 c.start.new.seat.me.0 c.in-Ok.ensures.started in went_out record {

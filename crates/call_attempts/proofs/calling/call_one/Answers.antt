@@ -1,4 +1,5 @@
-use Rattle.std.proofs.Common.{◌≡◌, ℕ, ◌<◌, ◌≤◌, ◌+◌, ◌*◌, ◌∙◌, Some, None, ap, sym, refl, subst, arith}
+use Rattle.std.proofs.Common.{◌≡◌, ℕ, ◌<◌, ◌≤◌, ◌+◌, ◌*◌, ◌∙◌, Some, None, zero-le, ap, sym, refl, subst, arith}
+use Rattle.sock_words.specs.declared.plain.Label.{Label}
 use Rattle.sock_rule.specs.declared.homes.Letter.{Letter}
 use Rattle.corr_id.proofs.Testing.{sits_on, quiet_free}
 use Rattle.rpc_client.proofs.Counting.{refs_then}
@@ -45,16 +46,13 @@ pub attempt_one-requires-clause-ids : goal.attempt_one-requires-clause-ids
 attempt_one-requires-clause-ids g c = noted_free c.args.tables.now.ids.table.shared.table_id c.args.calls.now.seat c.create.new.seat c.note.new.seat _ _ _ _ _ _ c.requires.ids.0 c.requires.ids.1 c.create.ensures.seat c.in-Ok.ensures.made c.note.ensures.seat c.note.ensures.stored
 
 pub attempt_one-requires-clause-operation : goal.attempt_one-requires-clause-operation
-attempt_one-requires-clause-operation g c = subst (λ (m : Letter). m.label.operation < c.args.tables.now.ids.plan.operations) (sym c.letter_of-msg.ensures) c.requires.operation.1
+attempt_one-requires-clause-operation g c = subst (λ (l : Label). l.operation < c.args.tables.now.ids.plan.operations) (sym c.letter_of-msg.ensures.label) c.requires.operation.1
 
 pub attempt_one-requires-clause-id : goal.attempt_one-requires-clause-id
-attempt_one-requires-clause-id g c = subst (λ (m : Letter). IsCallId c.args.tables.now.ids.plan m.owner) (sym c.letter_of-msg.ensures) record { inside = c.in-Ok.ensures.made.inside; low = omega (arith, c.in-Ok.ensures.low) }
-
-pub attempt_one-requires-clause-attempt : goal.attempt_one-requires-clause-attempt
-attempt_one-requires-clause-attempt g c = subst (λ (m : Letter). m.label.attempt ≤ 6) (sym c.letter_of-msg.ensures) (omega arith)
+attempt_one-requires-clause-id g c = subst (λ (o : ℕ). IsCallId c.args.tables.now.ids.plan o) (sym c.letter_of-msg.ensures.owner) record { inside = c.in-Ok.ensures.made.inside; low = omega (arith, c.in-Ok.ensures.low) }
 
 pub attempt_one-requires-clause-label : goal.attempt_one-requires-clause-label
-attempt_one-requires-clause-label g c = subst (λ (m : Letter). m.label.place < 8 * c.args.tables.now.socks.rule.plan.operations) (sym c.letter_of-msg.ensures) (omega (arith, c.requires.operation.0))
+attempt_one-requires-clause-label g c = subst (λ (l : Label). l.place < 8 * c.args.tables.now.socks.rule.plan.operations) (sym c.letter_of-msg.ensures.label) (omega (arith, c.requires.operation.0))
 
 pub returns-in_default-clause-rest : goal.returns-in_default-clause-rest
 returns-in_default-clause-rest g c = (rest_same c.args.tables.now.socks.rule.table.shared.table_id c.args.tables.now.socks.rule.plan c.args.seat.now c.find.new.seat c.requires.may.idle c.find.ensures.seat c.find.ensures.slots (c.find.ensures.between c.requires.may.idle.between) c.find.ensures.same)
@@ -132,7 +130,7 @@ pub returns-clause-same : goal.returns-clause-same
 returns-clause-same g c = (c.attempt_one.ensures.same.0 ∙ (c.note.ensures.seat.0 ∙ c.create.ensures.seat.0), c.attempt_one.ensures.same.1 ∙ (c.note.ensures.seat.1 ∙ c.create.ensures.seat.1), c.attempt_one.ensures.same.2 ∙ (c.note.ensures.seat.2 ∙ c.create.ensures.seat.2))
 
 pub returns-clause-by : goal.returns-clause-by
-returns-clause-by g c = record { socket = c.in-Some.socket; at = (both c.find.new.seat.me.0 (record c.args.calls.now { seat = c.note.new.seat })); made_for = record { found = (subst (λ (n : ℕ). Found c.args.tables.now.socks.rule.plan n (Some c.in-Some.socket) c.args.seat.now.me.0 c.find.new.seat.me.0) c.name.ensures.name c.in-Some.ensures.found); view = c.create.new.seat.me.0; made = c.in-Ok.ensures.made; noted = c.note.ensures.stored; books = refl }; attempted = subst (λ (m : Letter). AttemptedBy g.O.Out.state c.args.tables.now.socks.rule.plan c.args.tables.now.ids.plan c.in-Some.socket m (both c.find.new.seat.me.0 (record c.args.calls.now { seat = c.note.new.seat })) (both c.attempt_one.new.seat.me.0 c.attempt_one.new.calls)) (letter_is c.args.call c.in_ok-kept.kept c.in-Ok.id 0 c.in-Ok-new.frame c.letter_of-msg.result c.in_ok-kept.ensures c.in-Ok-new.ensures c.letter_of-msg.ensures) c.attempt_one.ensures.by }
+returns-clause-by g c = record { socket = c.in-Some.socket; at = (both c.find.new.seat.me.0 (record c.args.calls.now { seat = c.note.new.seat })); made_for = record { found = (subst (λ (n : ℕ). Found c.args.tables.now.socks.rule.plan n (Some c.in-Some.socket) c.args.seat.now.me.0 c.find.new.seat.me.0) c.name.ensures.name c.in-Some.ensures.found); view = c.create.new.seat.me.0; made = c.in-Ok.ensures.made; noted = c.note.ensures.stored; books = refl }; attempted = subst (λ (m : Letter). AttemptedBy g.O.Out.state c.args.tables.now.socks.rule.plan c.args.tables.now.ids.plan c.in-Some.socket m (both c.find.new.seat.me.0 (record c.args.calls.now { seat = c.note.new.seat })) (both c.attempt_one.new.seat.me.0 c.attempt_one.new.calls)) (letter_is c.args.call c.in_ok-kept.kept c.in-Ok.id 0 zero-le c.in-Ok-new.frame c.letter_of-msg.result c.in_ok-kept.ensures c.in-Ok-new.ensures c.letter_of-msg.ensures.bytes c.letter_of-msg.ensures.label c.letter_of-msg.ensures.owner) c.attempt_one.ensures.by }
 
 pub returns-clause-refs : goal.returns-clause-refs
 returns-clause-refs g c = refs_then c.args.seat.now.me.0 c.find.new.seat.me.0 c.attempt_one.new.seat.me.0 (found_keeps c.args.tables.now.socks.rule.plan c.name.result c.find.result c.args.seat.now.me.0 c.find.new.seat.me.0 c.find.ensures.found).refs c.attempt_one.ensures.refs

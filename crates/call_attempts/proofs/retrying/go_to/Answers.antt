@@ -18,7 +18,7 @@ pub attempt_one-requires-clause-room : goal.attempt_one-requires-clause-room
 attempt_one-requires-clause-room g c = room_still c.args.seat.now.me.0 c.find.new.seat.me.0 (found_keeps c.args.tables.now.socks.rule.plan c.args.name c.find.result c.args.seat.now.me.0 c.find.new.seat.me.0 c.find.ensures.found).lists c.requires.room
 
 pub attempt_one-requires-clause-label : goal.attempt_one-requires-clause-label
-attempt_one-requires-clause-label g c = omega (arith, c.requires.place, c.requires.attempt, (c.is_stray.ensures.at_home c.if-is_stray.false).1)
+attempt_one-requires-clause-label g c = omega (arith, c.requires.place, c.args.msg.numbered, (c.is_stray.ensures.at_home c.if-is_stray.false).1)
 
 pub attempt_one-requires-clause-operation : goal.attempt_one-requires-clause-operation
 attempt_one-requires-clause-operation g c = (c.is_stray.ensures.at_home c.if-is_stray.false).2

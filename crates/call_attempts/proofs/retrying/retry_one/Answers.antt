@@ -1,4 +1,5 @@
 use Rattle.std.proofs.Common.{◌≡◌, ℕ, ◌+◌, ◌*◌, ◌≤◌, ◌∙◌, ap, sym, refl, subst, arith}
+use Rattle.sock_words.specs.declared.plain.Label.{Label}
 use Rattle.sock_rule.specs.declared.homes.Letter.{Letter}
 use Rattle.corr_core.specs.Word.{parts}
 use Rattle.corr_id.proofs.Testing.{sits_on, did_free, quiet_free}
@@ -86,7 +87,7 @@ pub returns-in-Open-clause-same : goal.returns-in-Open-clause-same
 returns-in-Open-clause-same g c = (c.go_to.ensures.same.0 ∙ (c.unlock.ensures.seat.0 ∙ c.lock.ensures.seat.0), c.go_to.ensures.same.1 ∙ (c.unlock.ensures.seat.1 ∙ c.lock.ensures.seat.1), c.go_to.ensures.same.2 ∙ (c.unlock.ensures.seat.2 ∙ c.lock.ensures.seat.2))
 
 pub returns-in-Open-clause-by : goal.returns-in-Open-clause-by
-returns-in-Open-clause-by g c = let m = letter_is c.in-Ok.lock.content c.in-Ok.lock.content c.args.retry.id c.args.retry.attempt c.in-Ok-new.frame c.letter_of-msg.result refl c.in-Ok-new.ensures c.letter_of-msg.ensures in went_again c.in-Ok.lock (both c.args.seat.now.me.0 (record c.args.calls.now { seat = c.lock.new.seat })) record { got = record { slot_is = c.in-Ok.ensures.locked.0; inside = c.in-Ok.ensures.inside; from_first = c.in-Ok.ensures.of_range.0; to_last = c.in-Ok.ensures.of_range.1; word = c.in-Ok.ensures.locked.1.0; got = c.in-Ok.ensures.locked.1.1 }; books = refl; socks = refl } record {
+returns-in-Open-clause-by g c = let m = letter_is c.in-Ok.lock.content c.in-Ok.lock.content c.args.retry.id c.args.retry.attempt c.args.retry.low c.in-Ok-new.frame c.letter_of-msg.result refl c.in-Ok-new.ensures c.letter_of-msg.ensures.bytes c.letter_of-msg.ensures.label c.letter_of-msg.ensures.owner in went_again c.in-Ok.lock (both c.args.seat.now.me.0 (record c.args.calls.now { seat = c.lock.new.seat })) record { got = record { slot_is = c.in-Ok.ensures.locked.0; inside = c.in-Ok.ensures.inside; from_first = c.in-Ok.ensures.of_range.0; to_last = c.in-Ok.ensures.of_range.1; word = c.in-Ok.ensures.locked.1.0; got = c.in-Ok.ensures.locked.1.1 }; books = refl; socks = refl } record {
   view = c.unlock.new.seat.me.0;
   unlocked = c.in-Open.ensures.unlocked;
   went = subst (λ (x : Letter). WentTo g.O.Out.state c.args.tables.now.socks.rule.plan c.args.tables.now.ids.plan (name_of c.in-Ok.lock.content c.args.retry.attempt) x (both c.args.seat.now.me.0 (record c.args.calls.now { seat = c.unlock.new.seat })) (both c.go_to.new.seat.me.0 c.go_to.new.calls)) m (subst (λ (n : ℕ). WentTo g.O.Out.state c.args.tables.now.socks.rule.plan c.args.tables.now.ids.plan n c.letter_of-msg.result (both c.args.seat.now.me.0 (record c.args.calls.now { seat = c.unlock.new.seat })) (both c.go_to.new.seat.me.0 c.go_to.new.calls)) c.name.ensures.name c.go_to.ensures.by);
@@ -96,10 +97,7 @@ pub go_to-requires-clause-ids : goal.go_to-requires-clause-ids
 go_to-requires-clause-ids g c = (sits_on c.args.tables.now.ids.table.shared.table_id c.lock.new.seat c.unlock.new.seat c.unlock.ensures.seat c.in-Open.ensures.unlocked.4.share (unlock-requires-clause-seat g c), did_free c.in-Ok.lock.slot c.lock.new.seat.me.0 c.unlock.new.seat.me.0 _ c.in-Open.ensures.unlocked.4 (locked_but c.in-Ok.lock.slot c.in-Ok.ensures.locked.1.0 _ c.in-Ok.lock.content c.args.calls.now.seat.me.0 c.lock.new.seat.me.0 c.in-Ok.ensures.locked.1.1 c.requires.ids.1))
 
 pub go_to-requires-clause-id : goal.go_to-requires-clause-id
-go_to-requires-clause-id g c = subst (λ (m : Letter). IsCallId c.args.tables.now.ids.plan m.owner) (sym c.letter_of-msg.ensures) record { inside = omega (arith, c.in-Ok.ensures.inside, c.in-Ok.ensures.locked.0); low = omega (arith, c.type_inv.lock, c.in-Ok.ensures.of_range.1) }
-
-pub go_to-requires-clause-attempt : goal.go_to-requires-clause-attempt
-go_to-requires-clause-attempt g c = subst (λ (m : Letter). m.label.attempt ≤ 6) (sym c.letter_of-msg.ensures) (omega arith)
+go_to-requires-clause-id g c = subst (λ (o : ℕ). IsCallId c.args.tables.now.ids.plan o) (sym c.letter_of-msg.ensures.owner) record { inside = omega (arith, c.in-Ok.ensures.inside, c.in-Ok.ensures.locked.0); low = omega (arith, c.type_inv.lock, c.in-Ok.ensures.of_range.1) }
 
 pub go_to-requires-clause-place : goal.go_to-requires-clause-place
-go_to-requires-clause-place g c = subst (λ (m : Letter). m.label.place ≡ 8 * m.label.operation + m.label.attempt) (sym c.letter_of-msg.ensures) refl
+go_to-requires-clause-place g c = subst (λ (l : Label). l.place ≡ 8 * l.operation + l.attempt) (sym c.letter_of-msg.ensures.label) refl
