@@ -1,5 +1,5 @@
 -- What an attempt leaves of a client at both tables.
-use Rattle.std.proofs.Common.{◌≡◌, ℕ, ◌+◌, ◌<◌, ◌≤◌, ◌⊎◌, inl, inr, Bool, Some, None, List, [], ◌∷◌, ◌++◌, length, length-append, refl, sym, ap, ◌∙◌, subst, arith}
+use Rattle.std.proofs.Common.{◌≡◌, ℕ, ◌+◌, ◌<◌, ◌≤◌, ◌⊎◌, inl, inr, Bool, true, Some, None, List, [], ◌∷◌, ◌++◌, length, length-append, refl, sym, ap, ◌∙◌, subst, arith}
 use Rattle.std.specs.Prelude.{Option as Maybe, IfErr}
 use Rattle.std.specs.declared.result.Result.{Result}
 use Rattle.std.specs.declared.result.Result.TheVariants.{Ok, Err}
@@ -27,7 +27,7 @@ use Rattle.sock_table.specs.Named.{Found}
 use Rattle.sock_table.specs.declared.refs.SockRef.{SockRef}
 use Rattle.write_chain.specs.declared.entry.Refused.{Refused}
 use Rattle.write_chain.specs.declared.entry.Refused.TheVariants as refused
-use Rattle.write_chain.specs.Sending.{RefusedBy}
+use Rattle.write_chain.specs.Sending.{HasRoom, RefusedBy}
 use Rattle.corr_core.specs.declared.marks.Plan as id_plan
 use Rattle.corr_core.specs.declared.marks.View as id_view
 use Rattle.id_rule.specs.Lawful.{tokens_in, with_kept}
@@ -37,16 +37,17 @@ use Rattle.sock_message.specs.Asked.{Asked}
 use Rattle.rpc_client.specs.Seats.{StaysSeen, SameRefs, OneMore}
 use Rattle.rpc_client.specs.Acting.{OwnList}
 use Rattle.rpc_client.specs.Sending as sending
-use Rattle.rpc_client.proofs.Counting.{same_refs, refs_then, refs_none, one_more, then_more, given, gone_refs, finds_refs}
+use Rattle.rpc_client.proofs.Counting as counting
+use Rattle.rpc_client.proofs.Counting.{same_refs, refs_then, refs_none, then_more, given, gone_refs, finds_refs}
 use Rattle.rpc_client.proofs.Finding.{seen_same, seen_then, seen_became, seen_found}
 use Rattle.rpc_client.proofs.Delivering.{accepted_refs, delivered_refs, delivered_share, delivered_seen, came_lists}
 use Rattle.call_errors.specs.declared.seats.CallSeat.{CallSeat}
 use Rattle.call_errors.specs.declared.retries.Retry.{Retry}
-use Rattle.call_errors.specs.Books.{books_of, stand_of, starving}
-use Rattle.call_attempts.specs.Both.{Both, both, wanting}
-use Rattle.call_attempts.specs.Retrying.{TookNext, without_oldest}
+use Rattle.call_errors.specs.Books.{Books, books_of, stand_of, starving}
+use Rattle.call_attempts.specs.Both.{Both, both, wanting, HasNoLock}
+use Rattle.call_attempts.specs.Retrying.{TookNext, without_oldest, RetriedBy, GaveUp, Retried, one_more, RetriedAll, RanOut, for_frame, before_next}
 use Rattle.message_parts.specs.Parcels.{parcel_of}
-use Rattle.call_writes.proofs.Draining.{drained_refs, drained_same}
+use Rattle.call_writes.proofs.Drains.{drained_refs, drained_same}
 use Rattle.call_attempts.specs.Attempting.{message_of, reference_of, PostedOf, RefusedFor, WentOut, CameBack, DeliveredBy, went_out, came_back, Linked, AttemptedBy, nowhere, over_link}
 
 -- ## The seat of the ids
@@ -146,7 +147,7 @@ module _ {O : Type 0} (state : O → OutState) (p : Plan) (q : id_plan.Plan) (so
   -- the reference that the seat has then
   pub linked_comes : (s t : Both) → Linked state p q socket msg s t → Comes socket.0 s.socks t.socks
   linked_comes s t l = record {
-    one = then_more socket.0 s.socks l.has t.socks (one_more socket.0 s.socks l.has l.held) (same_refs (socket_id_slot socket.0) l.has t.socks _ [] l.link_of.became refl refl);
+    one = then_more socket.0 s.socks l.has t.socks (counting.one_more socket.0 s.socks l.has l.held) (same_refs (socket_id_slot socket.0) l.has t.socks _ [] l.link_of.became refl refl);
     seen = seen_then s.socks l.has t.socks (seen_became (socket_id_slot socket.0) s.socks l.has _ _ l.held) (seen_became (socket_id_slot socket.0) l.has t.socks _ _ l.link_of.became);
     share = ap (λ (y : View). y.share) l.link_of.became.others ∙ ap (λ (y : View). y.share) l.held.others;
     lists = ap (λ (y : View). y.lists) l.link_of.became.others ∙ ap (λ (y : View). y.lists) l.held.others;
@@ -224,3 +225,42 @@ own_keeps n v w k o = record { made = o.made; taken_in = o.taken_in; lists = k.l
 
 pub none_keeps : (v : View) → Keeps v v
 none_keeps v = record { refs = record { refs = λ i. refl; lives = λ i h. refl }; seen = λ x h. h; share = refl; lists = refl }
+
+-- ## A client between two retries
+
+pub no_lock_same : (z : TableId) (c d : CallSeat) → d.seat ≡ c.seat → HasNoLock z c → HasNoLock z d
+no_lock_same z c d e h = subst (λ (s : Seat (Maybe Asked) (id_view.View Asked)). Sits z s × IsFree s.me.0) (sym e) h
+
+-- a retry was taken out between the two
+pub stays_by : (c d e f : CallSeat) → Stays c.seat d.seat → e.seat ≡ d.seat → Stays e.seat f.seat → Stays c.seat f.seat
+stays_by c d e f a same b = let m = subst (λ (s : Seat (Maybe Asked) (id_view.View Asked)). Stays c.seat s) (sym same) a in (b.0 ∙ m.0, b.1 ∙ m.1, b.2 ∙ m.2)
+
+pub stays_then : (c d e : CallSeat) → Stays c.seat d.seat → e.seat ≡ d.seat → Stays c.seat e.seat
+stays_then c d e a same = subst (λ (s : Seat (Maybe Asked) (id_view.View Asked)). Stays c.seat s) (sym same) a
+
+pub own_room : (n : ℕ) (v : View) → OwnList n v → n < 33554431 → HasRoom v
+own_room n v o lt = record { made = o.made; taken_in = o.taken_in; lists = o.lists; room = (let few = o.few in omega arith) }
+
+pub none_taken : (r : Maybe Retry) (b c : Books) → ((x : Retry) → r ≡ Some x → ⊥) → TookNext r b c → TookNext None b c
+none_taken (Some x) b c no k = absurd (no x refl)
+none_taken None b c no k = k
+
+pub one_taken : (r : Maybe Retry) (x : Retry) (b c : Books) → r ≡ Some x → TookNext r b c → TookNext (Some x) b c
+one_taken r x b c e k = subst (λ (y : Maybe Retry). TookNext y b c) e k
+
+module _ {O : Type 0} (state : O → OutState) (p : Plan) (q : id_plan.Plan) (s : Both) (v : View) (c d : CallSeat) (same : d.seat ≡ c.seat) (before : Retried state p q s (both v c)) where
+  -- none waits
+  pub ends_fed : TookNext None (books_of c) (books_of d) → RetriedAll state p q s (both v d)
+  ends_fed k = record { retried = subst (λ (y : Both). Retried state p q s y) (sym (took_none v c d same k)) before; none_waits = ap (λ (b : Books). b.retries) k.2 ∙ k.0; fed = ap (λ (b : Books). b.starved) k.2 ∙ k.1 }
+
+  -- the oldest one was made
+  pub made_one : (r : Retry) (t : Both) → TookNext (Some r) (books_of c) (books_of d) → RetriedBy state p q r (both v d) t → Retried state p q s t
+  made_one r t k by = one_more (both v c) t r d.retries.items before k.0 k.1 (subst (λ (y : Both). RetriedBy state p q r y t) (took_is v c d r same k) by)
+
+  -- or there was no memory for its frame
+  pub gave_out : (sent : ℕ) (r : Retry) (t : Both) → TookNext (Some r) (books_of c) (books_of d) → GaveUp state p q r (both v d) t → RanOut state p q sent s t
+  gave_out sent r t k by = for_frame (both v c) r d.retries.items before k.0 k.1 (subst (λ (y : Both). GaveUp state p q r y t) (took_is v c d r same k) by)
+
+  -- or before the next one
+  pub wanting_before : (sent : ℕ) → (c.starved ≡ true) ⊎ (33554431 ≤ sent) → books_of d ≡ starving (books_of c) → RanOut state p q sent s (both v d)
+  wanting_before sent cause k = before_next (both v c) before cause (wants_is v c d same k)

@@ -12,7 +12,7 @@ use Rattle.rpc_client.specs.Reaching.{ReachedBy}
 use Rattle.rpc_client.specs.Sending.{DeliveredBy}
 use Rattle.call_errors.specs.Books.{CallStand}
 use Rattle.call_writes.specs.Sending.{DeliveredCalling, SentCalling}
-use Rattle.call_writes.proofs.Draining.{drained_all}
+use Rattle.call_writes.proofs.Drains.{drained_all}
 
 module _ {O : Type 0} (state : O → OutState) (p : Plan) (slots : ℕ) (sock : SockRef) (msg : Letter) where
   pub plainly : (o : Option Outcome) (v w : View) (s t : CallStand) → DeliveredCalling state p slots sock msg o v s w t → DeliveredBy state p sock msg o v w

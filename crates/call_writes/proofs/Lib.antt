@@ -1,3 +1,3 @@
-pub mod Draining
+pub mod Drains
 pub mod Delivering
 pub mod Testing

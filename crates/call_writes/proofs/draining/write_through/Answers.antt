@@ -3,7 +3,7 @@ use Rattle.sock_table.specs.declared.refs.SockRef.{SockRef}
 use Rattle.write_chain.specs.Writing.{GaveUp}
 use Rattle.call_errors.specs.Books.{stand_of}
 use Rattle.call_writes.specs.Draining.{Drained}
-use Rattle.call_writes.proofs.Draining.{drained_wrote, drained_after}
+use Rattle.call_writes.proofs.Drains.{drained_wrote, drained_after}
 use Rattle.call_writes.proofs.draining.write_through.Goals as goal
 
 pub returns-in-Done-clause-drained : goal.returns-in-Done-clause-drained

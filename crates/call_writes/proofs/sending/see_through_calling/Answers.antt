@@ -6,7 +6,7 @@ use Rattle.sock_table.specs.Answers.{Holds, is_freed}
 use Rattle.sock_table.specs.declared.refs.SockRef.{SockRef}
 use Rattle.rpc_client.specs.Sending.{sock_of}
 use Rattle.call_errors.specs.Books.{stand_of}
-use Rattle.call_writes.proofs.Draining.{drained_all}
+use Rattle.call_writes.proofs.Drains.{drained_all}
 use Rattle.call_writes.proofs.sending.see_through_calling.Goals as goal
 
 pub release-requires-clause-held : goal.release-requires-clause-held

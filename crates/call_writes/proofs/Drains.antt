@@ -1,5 +1,5 @@
 -- A seat that writes until the head is empty, with calls.
-use Rattle.std.proofs.Common.{◌≡◌, ◌×◌, ◌⊎◌, ℕ, inl, inr, refl, sym, ap, ◌∙◌, subst}
+use Rattle.std.proofs.Common.{◌≡◌, ◌⊎◌, ℕ, inl, inr, refl, sym, ap, ◌∙◌, subst}
 use Rattle.sock_io.specs.Link.{OutState}
 use Rattle.sock_words.specs.declared.plain.Plan.{Plan}
 use Rattle.sock_model.specs.declared.view.View.{View}
@@ -31,26 +31,26 @@ module _ {O : Type 0} {state : O → OutState} (p : Plan) (slots id : ℕ) where
     told = one.told;
   }
 
-  all_after : (u v w : View) (s t : CallStand) → Wrote state id u v → DroppedAll state p slots id v s w t → ((w ≡ v) × (t ≡ s)) ⊎ DroppedAll state p slots id u s w t
-  all_after u v _ s _ a none = inl (refl, refl)
-  all_after u v _ s _ a (one_more x r w t more one) = elim (all_after u v x s r a more) [
+  all_after : (u v : View) (s : CallStand) (w : View) (t : CallStand) → Wrote state id u v → DroppedAll state p slots id v s w t → ((w ≡ v) × (t ≡ s)) ⊎ DroppedAll state p slots id u s w t
+  all_after u v s _ _ a none = inl (refl, refl)
+  all_after u v s _ _ a (one_more x r w t more one) = elim (all_after u v s x r a more) [
     | inl same ↦ inr (one_more u s w t none (one_after u v w s t a (subst (λ (y : View). DroppedOne state p slots id y s w t) same.0 (subst (λ (y : CallStand). DroppedOne state p slots id x y w t) same.1 one))))
     | inr all ↦ inr (one_more x r w t all one)
   ]
 
   pub drained_after : (u v w : View) (s t : CallStand) → Wrote state id u v → Drained state p slots id v s w t → Drained state p slots id u s w t
-  drained_after u v w s t a d = elim (all_after u v d.last s t a d.dropped) [
+  drained_after u v w s t a d = elim (all_after u v s d.last t a d.dropped) [
     | inl same ↦ record { last = u; dropped = subst (λ (y : CallStand). DroppedAll state p slots id u s u y) (sym same.1) none; wrote = wrote_then u v w a (subst (λ (y : View). Wrote state id y w) same.0 d.wrote) }
     | inr all ↦ record { last = d.last; dropped = all; wrote = d.wrote }
   ]
 
   -- of sockets alone
-  all_wrote_all : (v w : View) (s t : CallStand) → DroppedAll state p slots id v s w t → WroteAll state p id v w
-  all_wrote_all v _ s _ none = all_none p id v
-  all_wrote_all v _ s _ (one_more x r w t more one) = all_then p id v x w (all_wrote_all v x s r more) (all_dropped p id one.msg.label.place x w one.wrote)
+  all_wrote_all : (v : View) (s : CallStand) (w : View) (t : CallStand) → DroppedAll state p slots id v s w t → WroteAll state p id v w
+  all_wrote_all v s _ _ none = all_none p id v
+  all_wrote_all v s _ _ (one_more x r w t more one) = all_then p id v x w (all_wrote_all v s x r more) (all_dropped p id one.msg.label.place x w one.wrote)
 
   pub drained_all : (v w : View) (s t : CallStand) → Drained state p slots id v s w t → WroteAll state p id v w
-  drained_all v w s t d = all_then p id v d.last w (all_wrote_all v d.last s t d.dropped) (all_wrote p id d.last w d.wrote)
+  drained_all v w s t d = all_then p id v d.last w (all_wrote_all v s d.last t d.dropped) (all_wrote p id d.last w d.wrote)
 
   -- all else that the seat has is as it was, but for notes
   pub drained_refs : (v w : View) (s t : CallStand) → Drained state p slots id v s w t → SameRefs v w
