@@ -1,5 +1,5 @@
 -- A message that was sent with calls, as one of sockets alone.
-use Rattle.std.proofs.Common.{◌≡◌, ◌⊎◌, ℕ, Option, Some, None, refl, inl, inr}
+use Rattle.std.proofs.Common.{ℕ, Option, Some, None, refl, inr}
 use Rattle.sock_io.specs.Link.{OutState}
 use Rattle.sock_words.specs.declared.plain.Plan.{Plan}
 use Rattle.sock_words.specs.declared.outcome.Outcome.{Outcome}

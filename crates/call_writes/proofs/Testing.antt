@@ -1,10 +1,9 @@
 -- What the seat of a test has.
-use Rattle.std.proofs.Common.{◌≡◌, ℕ, ◌<◌, arith, ◌∙◌}
+use Rattle.std.proofs.Common.{◌≡◌, arith, ◌∙◌}
 use Rattle.atomic_table.specs.Seated.{TableId}
 use Rattle.atomic_table.specs.declared.shared.Seat.{Seat}
 use Rattle.sock_words.specs.declared.plain.Plan.{Plan}
 use Rattle.sock_model.specs.declared.view.View.{View}
-use Rattle.sock_model.specs.Rule.{MOST_ACCEPTED}
 use Rattle.write_chain.specs.Sending.{HasRoom}
 use Rattle.rpc_client.specs.Seats.{MayAct, AtRest, SameRefs}
 use Rattle.rpc_client.specs.Acting.{OwnList}
