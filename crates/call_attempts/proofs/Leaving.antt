@@ -216,9 +216,14 @@ pub not_ok : {A E : Type 0} (r : Result A E) (P : E → Type 0) → ((x : A) →
 not_ok (Ok x) P n h = absurd (n x refl)
 not_ok (Err e) P n h = (e, h)
 
+-- what holds of any error holds of the one that was met
+pub err_by : {A E : Type 0} (r : Result A E) (P : E → Type 0) → ((e : E) → P e) → IfErr r P
+err_by (Ok x) P h = tt
+err_by (Err e) P h = h e
+
 pub not_named : (p : Plan) (n : ℕ) (r : Maybe SocketId) (v w : View) → ((x : SocketId) → r ≡ Some x → ⊥) → Found p n r v w → Found p n None v w
-not_named p n (Some id) v w no f = absurd (no id refl)
-not_named p n None v w no f = f
+not_named p n (Some id) v w never f = absurd (never id refl)
+not_named p n None v w _ f = f
 
 pub own_keeps : (n : ℕ) (v w : View) → Keeps v w → OwnList n v → OwnList n w
 own_keeps n v w k o = record { made = o.made; taken_in = o.taken_in; lists = k.lists ∙ o.lists; few = o.few }
@@ -242,8 +247,8 @@ pub own_room : (n : ℕ) (v : View) → OwnList n v → n < 33554431 → HasRoom
 own_room n v o lt = record { made = o.made; taken_in = o.taken_in; lists = o.lists; room = (let few = o.few in omega arith) }
 
 pub none_taken : (r : Maybe Retry) (b c : Books) → ((x : Retry) → r ≡ Some x → ⊥) → TookNext r b c → TookNext None b c
-none_taken (Some x) b c no k = absurd (no x refl)
-none_taken None b c no k = k
+none_taken (Some x) b c never k = absurd (never x refl)
+none_taken None b c _ k = k
 
 pub one_taken : (r : Maybe Retry) (x : Retry) (b c : Books) → r ≡ Some x → TookNext r b c → TookNext (Some x) b c
 one_taken r x b c e k = subst (λ (y : Maybe Retry). TookNext y b c) e k
