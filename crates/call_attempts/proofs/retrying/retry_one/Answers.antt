@@ -93,7 +93,7 @@ pub returns-in-Open-clause-by : goal.returns-in-Open-clause-by
 returns-in-Open-clause-by g c = let m = letter_is c.in-Ok.lock.content c.content.result.now c.args.retry.id c.args.retry.attempt c.args.retry.low c.in-Ok-new.frame c.letter_of-msg.result c.content.ensures c.in-Ok-new.ensures c.letter_of-msg.ensures.bytes (subst (λ (k : IdLock Asked). c.letter_of-msg.result.label ≡ attempt_label k.content.operation c.args.retry.attempt) c.lock-2.view_is c.letter_of-msg.ensures.label) c.letter_of-msg.ensures.owner in went_again c.in-Ok.lock (both c.args.seat.now.me.0 (record c.args.calls.now { seat = c.lock.new.seat })) record { got = record { slot_is = c.in-Ok.ensures.locked.0; inside = c.in-Ok.ensures.inside; from_first = c.in-Ok.ensures.of_range.0; to_last = c.in-Ok.ensures.of_range.1; word = c.in-Ok.ensures.locked.1.0; got = c.in-Ok.ensures.locked.1.1 }; books = refl; socks = refl } record {
   view = c.unlock.new.seat.me.0;
   unlocked = c.in-Open.ensures.unlocked;
-  went = subst (λ (x : Letter). WentTo g.O.Out.state c.args.tables.now.socks.rule.plan c.args.tables.now.ids.plan (name_of c.in-Ok.lock.content c.args.retry.attempt) x (both c.args.seat.now.me.0 (record c.args.calls.now { seat = c.unlock.new.seat })) (both c.go_to.new.seat.me.0 c.go_to.new.calls)) m (subst (λ (n : ℕ). WentTo g.O.Out.state c.args.tables.now.socks.rule.plan c.args.tables.now.ids.plan n c.letter_of-msg.result (both c.args.seat.now.me.0 (record c.args.calls.now { seat = c.unlock.new.seat })) (both c.go_to.new.seat.me.0 c.go_to.new.calls)) c.name.ensures.name c.go_to.ensures.by);
+  went = subst (λ (x : Letter). WentTo g.O.Out.state c.args.tables.now.socks.rule.plan c.args.tables.now.ids.plan (name_of c.in-Ok.lock.content c.args.retry.attempt) x (both c.args.seat.now.me.0 (record c.args.calls.now { seat = c.unlock.new.seat })) (both c.go_to.new.seat.me.0 c.go_to.new.calls)) m (subst (λ (n : ℕ). WentTo g.O.Out.state c.args.tables.now.socks.rule.plan c.args.tables.now.ids.plan n c.letter_of-msg.result (both c.args.seat.now.me.0 (record c.args.calls.now { seat = c.unlock.new.seat })) (both c.go_to.new.seat.me.0 c.go_to.new.calls)) c.name-name.ensures.name c.go_to.ensures.by);
 }
 
 pub go_to-requires-clause-ids : goal.go_to-requires-clause-ids
