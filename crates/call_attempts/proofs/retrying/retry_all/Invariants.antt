@@ -1,0 +1,19 @@
+use Rattle.rpc_client.specs.Acting.{OwnList}
+use Rattle.rpc_client.specs.Seats.{AtRest, StaysSeen, SameRefs}
+use Rattle.corr_id.specs.Seats.{Stays}
+use Rattle.call_attempts.specs.Both.{both, HasNoLock}
+use Rattle.call_attempts.specs.Retrying.{Retried}
+use Rattle.call_attempts.proofs.retrying.retry_all.Given as goal
+
+abbrev pub invariant-retries : goal.invariant-retries
+invariant-retries g l = record {
+  can_go : (goal.iterator-retries g).can_next l.iterator';
+  is_finite : (goal.iterator-retries g).is_finite l.iterator';
+  rest : AtRest l.tables.socks.rule.table.shared.table_id l.tables.socks.rule.plan l.fn.seat l.seat;
+  own : OwnList l.sent l.seat.me.0;
+  ids : HasNoLock l.tables.ids.table.shared.table_id l.calls;
+  same : Stays l.fn.calls.seat l.calls.seat;
+  retried : Retried g.O.Out.state l.tables.socks.rule.plan l.tables.ids.plan (both l.fn.seat.me.0 l.fn.calls) (both l.seat.me.0 l.calls);
+  refs : SameRefs l.fn.seat.me.0 l.seat.me.0;
+  seen : StaysSeen l.fn.seat.me.0 l.seat.me.0;
+}

@@ -1,0 +1,36 @@
+-- What a client has at both tables.
+use Rattle.std.specs.Prelude.{◌≡◌, ℕ, ◌<◌, ◌≤◌, Some}
+use Rattle.atomic_table.specs.Seated.{TableId}
+use Rattle.corr_core.specs.Law.{LAST}
+use Rattle.corr_core.specs.declared.marks.Plan.{Plan}
+use Rattle.corr_id.specs.Seats.{Sits, IsFree}
+use Rattle.corr_id.specs.Calls.{slot_of, version_of}
+use Rattle.sock_model.specs.declared.view.View.{View}
+use Rattle.call_errors.specs.declared.seats.CallSeat.{CallSeat}
+use Rattle.call_errors.specs.Books.{CallStand, stand_of, starving}
+use Rattle.call_errors.specs.Posting.{PostedBy}
+
+-- what its seat of the sockets knows, and what it knows of calls
+pub record Both : Type 0 where
+  pub socks : View
+  pub calls : CallStand
+
+abbrev pub both : View → CallSeat → Both
+both v c = record { socks = v; calls = stand_of c }
+
+-- its seat of the ids is one of this table, and has no lock
+abbrev pub HasNoLock : TableId → CallSeat → Type 0
+HasNoLock z c = Sits z c.seat × IsFree c.seat.me.0
+
+-- the id of a call in a slot of this table
+pub record IsCallId (q : Plan) (id : ℕ) : Type 0 where
+  pub inside : slot_of id < q.slots
+  pub low : version_of id < 67108864
+
+-- an error was posted to a call for one of its attempts
+abbrev pub PostedFor : Plan → ℕ → ℕ → ℕ → Both → Both → Type 0
+PostedFor q id attempt code s t = PostedBy q.slots s.calls id code (Some attempt) t.calls
+
+-- memory is wanting from here on
+abbrev pub wanting : CallStand → CallStand
+wanting s = record { view = s.view; books = starving s.books }

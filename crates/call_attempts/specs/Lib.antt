@@ -1,0 +1,5 @@
+pub mod Both
+pub mod Letters
+pub mod Attempting
+pub mod Calling
+pub mod Retrying

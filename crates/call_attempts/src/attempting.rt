@@ -1,0 +1,138 @@
+// An attempt of a call.
+ghost use Rattle.std.specs.Prelude.{◌≡◌, ◌+◌, ◌*◌, ◌<◌, ◌≤◌, ℕ};
+ghost use Rattle.sock_words.specs.Words.{socket_id_slot};
+ghost use Rattle.sock_model.specs.Weights.{is_ref};
+ghost use Rattle.sock_model.specs.SlotRows.{marks_of};
+ghost use Rattle.sock_table.specs.Answers.{Holds};
+ghost use Rattle.sock_table.specs.Refs.{Knows};
+ghost use Rattle.write_chain.specs.Sending.{HasRoom};
+ghost use Rattle.corr_id.specs.Seats.{Stays};
+ghost use Rattle.rpc_client.specs.Seats.{Idle, MayAct, AtRest, StaysSeen, SameRefs};
+ghost use Rattle.rpc_client.specs.Acting.{OwnList};
+ghost use Rattle.rpc_client.specs.Sending.{RefusedHolds};
+ghost use Rattle.call_attempts.specs.Both.{both, HasNoLock, IsCallId};
+ghost use Rattle.call_attempts.specs.Attempting.{RefusedFor, DeliveredBy, AttemptedBy};
+
+use crate::tables::Tables;
+use call_errors::{CallSeat, post_error};
+use call_writes::see_through_calling;
+use sock_io::Out;
+use sock_rule::{Letter, SockSeat};
+use sock_table::SockRef;
+use sock_words::{EFAILEDSOCKET, EREQUESTS, SocketId};
+use std::sync::Wait;
+use write_chain::{Refused, start};
+
+// A frame that was refused: that is posted to its call, and then the reference is given back.
+fn refuse_frame<O: Out, R: Wait>(
+    rt: &R,
+    tables: &Tables<O>,
+    seat: &mut SockSeat<O>,
+    calls: &mut CallSeat,
+    refused: Refused,
+)
+    requires idle { Idle tables.now.socks.rule.table.shared.table_id tables.now.socks.rule.plan seat.old }
+    requires held { RefusedHolds tables.now.socks.rule.plan refused seat.old.me.0 }
+    requires ids { HasNoLock tables.now.ids.table.shared.table_id calls.old }
+    ensures rest { AtRest tables.now.socks.rule.table.shared.table_id tables.now.socks.rule.plan seat.old seat.new }
+    ensures ids { HasNoLock tables.now.ids.table.shared.table_id calls.new }
+    ensures same { Stays calls.old.seat calls.new.seat }
+    ensures by { RefusedFor tables.now.ids.plan refused (both seat.old.me.0 calls.old) (both seat.new.me.0 calls.new) }
+{
+    match refused {
+        Refused::Failed(sock, msg, _) => {
+            let attempt = Some(msg.label.attempt);
+            post_error(rt, &tables.ids, calls, msg.owner, EFAILEDSOCKET, attempt);
+            tables.socks.release(seat, sock);
+        }
+        Refused::Full(sock, msg) => {
+            let attempt = Some(msg.label.attempt);
+            post_error(rt, &tables.ids, calls, msg.owner, EREQUESTS, attempt);
+            tables.socks.release(seat, sock);
+        }
+    }
+}
+
+// A frame is sent to a socket to which the seat has a reference, which it gives back.
+fn deliver_frame<O: Out, R: Wait>(
+    rt: &R,
+    tables: &Tables<O>,
+    seat: &mut SockSeat<O>,
+    calls: &mut CallSeat,
+    sock: SockRef,
+    msg: Letter,
+)
+    requires idle { Idle tables.now.socks.rule.table.shared.table_id tables.now.socks.rule.plan seat.old }
+    requires held { Holds tables.now.socks.rule.plan seat.old.me.0 sock.id.0 }
+    requires few { marks_of is_ref (socket_id_slot sock.id.0) seat.old.me.0 < 65540 }
+    requires room { HasRoom seat.old.me.0 }
+    requires label { msg.label.place < 8 * tables.now.socks.rule.plan.operations }
+    requires ids { HasNoLock tables.now.ids.table.shared.table_id calls.old }
+    ensures idle { Idle tables.now.socks.rule.table.shared.table_id tables.now.socks.rule.plan seat.new }
+    ensures ids { HasNoLock tables.now.ids.table.shared.table_id calls.new }
+    ensures same { Stays calls.old.seat calls.new.seat }
+    ensures by { DeliveredBy O.state tables.now.socks.rule.plan tables.now.ids.plan sock.id msg (both seat.old.me.0 calls.old) (both seat.new.me.0 calls.new) }
+{
+    match start(&tables.socks, seat, sock, msg) {
+        Ok(started) => {
+            see_through_calling(rt, &tables.socks, &tables.ids, seat, calls, started);
+        }
+        Err(refused) => refuse_frame(rt, tables, seat, calls, refused),
+    }
+}
+
+/// An attempt of a call over the socket with this id: the link is stored in the word of the call's operation before the frame is
+/// started. Where the socket is gone or fails, or each request is taken, that is posted to the call.
+/// bRPC's `Controller::IssueRPC`.
+pub fn attempt_one<O: Out, R: Wait>(
+    rt: &R,
+    tables: &Tables<O>,
+    seat: &mut SockSeat<O>,
+    calls: &mut CallSeat,
+    socket: SocketId,
+    msg: Letter,
+)
+    requires may { MayAct tables.now.socks.rule.table.shared.table_id tables.now.socks.rule.plan seat.old }
+    requires known { Knows tables.now.socks.rule.plan seat.old.me.0 socket.0 }
+    requires room { HasRoom seat.old.me.0 }
+    requires ids { HasNoLock tables.now.ids.table.shared.table_id calls.old }
+    requires operation { msg.label.operation < tables.now.ids.plan.operations }
+    requires id { IsCallId tables.now.ids.plan msg.owner }
+    requires label { msg.label.place < 8 * tables.now.socks.rule.plan.operations }
+    ensures rest { AtRest tables.now.socks.rule.table.shared.table_id tables.now.socks.rule.plan seat.old seat.new }
+    ensures ids { HasNoLock tables.now.ids.table.shared.table_id calls.new }
+    ensures same { Stays calls.old.seat calls.new.seat }
+    ensures by { AttemptedBy O.state tables.now.socks.rule.plan tables.now.ids.plan socket msg (both seat.old.me.0 calls.old) (both seat.new.me.0 calls.new) }
+    ensures refs { SameRefs seat.old.me.0 seat.new.me.0 }
+    ensures seen { StaysSeen seat.old.me.0 seat.new.me.0 }
+    ensures own { (n : ℕ) → OwnList n seat.old.me.0 → OwnList (n + 1) seat.new.me.0 }
+{
+    let attempt = msg.label.attempt;
+    match tables.socks.address(seat, socket) {
+        Ok(sock) => {
+            let slots = tables.ids.plan.slots;
+            prove!(msg.owner / 4_294_967_296 < slots as u64);
+            let link = tables.socks.link_of(seat, &sock);
+            let links = tables.socks.rule.plan.links;
+            prove!(link < links);
+            tables.ids.set_at(
+                &mut calls.seat,
+                msg.label.operation,
+                msg.owner,
+                link,
+                attempt,
+            );
+            deliver_frame(rt, tables, seat, calls, sock, msg);
+        }
+        Err(_gone) => {
+            post_error(
+                rt,
+                &tables.ids,
+                calls,
+                msg.owner,
+                EFAILEDSOCKET,
+                Some(attempt),
+            );
+        }
+    }
+}

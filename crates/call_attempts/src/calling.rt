@@ -1,0 +1,76 @@
+// A call begins.
+ghost use Rattle.std.specs.Prelude.{◌≡◌, ◌+◌, ◌<◌, ℕ, IfOk, IfErr};
+ghost use Rattle.sock_message.specs.Asked.{name_of};
+ghost use Rattle.write_chain.specs.Sending.{HasRoom};
+ghost use Rattle.corr_id.specs.Seats.{Stays};
+ghost use Rattle.rpc_client.specs.Seats.{MayAct, AtRest, StaysSeen, SameRefs};
+ghost use Rattle.rpc_client.specs.Acting.{OwnList};
+ghost use Rattle.call_attempts.specs.Both.{both, HasNoLock};
+ghost use Rattle.call_attempts.specs.Calling.{CalledBy, WantedBy};
+
+use crate::attempting::attempt_one;
+use crate::letters::letter_of;
+use crate::tables::Tables;
+use call_errors::{CallSeat, give_up};
+use message_parts::CallFrame;
+use sock_io::Out;
+use sock_message::{Call, NoMemory};
+use sock_rule::SockSeat;
+use std::sync::Wait;
+
+/// How a call begins.
+#[derive(Clone, Copy, Debug, PartialEq, Eq)]
+pub enum Called {
+    /// Nothing was opened under its first name yet, and no id was made.
+    Unopened,
+    /// Each id slot was found taken.
+    NoSlot,
+    /// It has this id, and its first attempt was made.
+    Begun(u64),
+}
+
+/// A call with its first attempt, which goes to its first name. Where memory is wanting before its id is made, nothing was done;
+/// behind that, the call ends by it.
+/// bRPC's `Channel::CallMethod`.
+pub fn call_one<O: Out, R: Wait>(
+    rt: &R,
+    tables: &Tables<O>,
+    seat: &mut SockSeat<O>,
+    calls: &mut CallSeat,
+    call: Call,
+) -> Result<Called, NoMemory>
+    requires may { MayAct tables.now.socks.rule.table.shared.table_id tables.now.socks.rule.plan seat.old }
+    requires room { HasRoom seat.old.me.0 }
+    requires ids { HasNoLock tables.now.ids.table.shared.table_id calls.old }
+    requires name { name_of call 0 < tables.now.socks.rule.plan.names }
+    requires operation { (call.operation < tables.now.socks.rule.plan.operations) × (call.operation < tables.now.ids.plan.operations) }
+    ensures rest { AtRest tables.now.socks.rule.table.shared.table_id tables.now.socks.rule.plan seat.old seat.new }
+    ensures ids { HasNoLock tables.now.ids.table.shared.table_id calls.new }
+    ensures same { Stays calls.old.seat calls.new.seat }
+    ensures by { IfOk result (λ c. CalledBy O.state tables.now.socks.rule.plan tables.now.ids.plan call c (both seat.old.me.0 calls.old) (both seat.new.me.0 calls.new)) }
+    ensures wanted { IfErr result (λ _. WantedBy O.state tables.now.socks.rule.plan tables.now.ids.plan call (both seat.old.me.0 calls.old) (both seat.new.me.0 calls.new)) }
+    ensures refs { SameRefs seat.old.me.0 seat.new.me.0 }
+    ensures seen { StaysSeen seat.old.me.0 seat.new.me.0 }
+    ensures own { (n : ℕ) → OwnList n seat.old.me.0 → OwnList (n + 1) seat.new.me.0 }
+{
+    let Some(socket) = tables.socks.find(seat, call.name(0)) else {
+        return Ok(Called::Unopened);
+    };
+    let operation = call.operation;
+    let range = call.range;
+    let kept = call.share()?;
+    let Ok(id) = tables.ids.create(&mut calls.seat, range, call) else {
+        return Ok(Called::NoSlot);
+    };
+    let slots = tables.ids.plan.slots;
+    prove!(id / 4_294_967_296 < slots as u64);
+    tables.ids.note(&mut calls.seat, operation, id);
+    let Ok(frame) = CallFrame::new(calls.alloc, &mut calls.pool, &kept, id, 0) else {
+        calls.starved = true;
+        give_up(rt, &tables.ids, calls, id);
+        return Err(NoMemory);
+    };
+    let msg = letter_of(frame, operation, id, 0);
+    attempt_one(rt, tables, seat, calls, socket, msg);
+    Ok(Called::Begun(id))
+}
