@@ -139,11 +139,11 @@ impl Linker for HeldLinker {
 
     ghost asked = { λ l. l.inner.asked };
 
-    ghost accepted = { λ _. 0 };
+    ghost accepted = { λ l. l.inner.accepted };
 
     ghost back = { λ l. l.inner.back };
 
-    ghost done = { λ _. [] };
+    ghost done = { λ l. l.inner.done };
 
     ghost faults = { λ l. l.inner.faults };
 
@@ -171,8 +171,9 @@ impl Linker for HeldLinker {
         Err(OpenFault::NoMemory)
     }
 
-    fn done(&mut self, _out: HeldOut, _inn: MemIn) {
-        unreachable!()
+    fn done(&mut self, out: HeldOut, inn: MemIn) {
+        let HeldOut { half, flags: _ } = out;
+        self.inner.done(half, inn);
     }
 
     fn back(&mut self, link: u16, ends: Link)
