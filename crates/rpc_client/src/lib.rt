@@ -16,6 +16,7 @@ pub use failing::fail_one;
 pub use holding::{Held, drop_one, give_back, hold_one};
 pub use opening::{open_none, open_one};
 pub use reaching::{Reached, reach};
+pub use running::give_all;
 pub use sending::{refuse, send_one};
 
 #[cfg(test)]

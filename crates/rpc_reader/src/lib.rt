@@ -14,6 +14,8 @@ mod reading;
 mod throwing;
 
 pub use books::AnswerSeat;
+pub use failing::fail_id;
+pub use opening::wait_open;
 pub use reader::{Reader, Spent};
 
 #[cfg(test)]

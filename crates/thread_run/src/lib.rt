@@ -9,4 +9,5 @@ mod waiting;
 mod worker;
 
 pub use running::{NoRun, Ran, run_on};
+pub use waiting::wait_all;
 pub use worker::Worker;
