@@ -1,0 +1,131 @@
+// A client with calls, from its seats and passes to its outcomes.
+ghost use Rattle.std.specs.Prelude.{◌≡◌, ◌≤◌, ℕ, [], false, All, IfOk, length};
+ghost use Rattle.std.specs.Result.{is_err};
+ghost use Rattle.atomic_table.specs.Seated.{TableId};
+ghost use Rattle.sock_words.specs.declared.plain.Plan.{Plan};
+ghost use Rattle.sock_table.specs.Passes.{IsPass};
+ghost use Rattle.sock_table.specs.Closed.{IsDoneSeat};
+ghost use Rattle.sock_open.specs.Made.{IsNewSeat};
+ghost use Rattle.corr_id.specs.Seats.{Sits, Stays, IsFree};
+ghost use Rattle.call_errors.specs.Books.{books_of};
+ghost use Rattle.call_attempts.specs.Both.{HasNoLock};
+ghost use Rattle.call_client.specs.Acting.{MayGo};
+ghost use Rattle.call_client.specs.Running.{MayMakeAll, RunBy};
+
+use call_attempts::Tables;
+use call_errors::CallSeat;
+use corr_id::IdSeat;
+use rpc_client::{Held, Told};
+use sock_io::{Gate, Out};
+use sock_message::{Call, NoMemory};
+use sock_programs::Task;
+use sock_rule::SockSeat;
+use sock_table::LinkPass;
+use std::alloc::Global;
+use std::collections::VecDeque;
+use std::sync::Wait;
+
+/// A client with calls: its seat of the sockets, the passes of its `open`s, the next one last, the references that it keeps, what
+/// it tells of its own operations, its part for calls, and how many messages of its seat were accepted at most.
+#[derive(Drop)]
+pub struct Caller<O: Out> {
+    pub seat: SockSeat<O>,
+    pub passes: Vec<LinkPass<O>>,
+    pub held: Vec<Held>,
+    pub outcomes: Vec<Told>,
+    pub calls: CallSeat,
+    pub sent: u32,
+}
+
+/// What a client leaves: its seats, the outcomes of its operations in their order, but of the calls that have begun, and those of
+/// the calls that it ended, which may be other clients'.
+#[derive(Drop)]
+pub struct Spent<O: Out> {
+    pub seat: SockSeat<O>,
+    pub ids: IdSeat<Call>,
+    pub outcomes: Vec<Told>,
+    pub ended: Vec<Told>,
+}
+
+impl<O: Out> Caller<O> {
+    /// A client with these seats. The passes are those of its `open`s, the next one last. It takes no memory.
+    pub fn new(
+        alloc: Global,
+        seat: SockSeat<O>,
+        ids: IdSeat<Call>,
+        passes: Vec<LinkPass<O>>,
+    ) -> Caller<O>
+        ensures seats { (result.seat ≡ seat) × (result.calls.seat ≡ ids) }
+        ensures passes { result.passes ≡ passes }
+        ensures empty { (result.held.items ≡ []) × (result.outcomes.items ≡ []) × (result.sent ≡ 0) }
+        ensures books { books_of result.calls ≡ record { retries = []; told = []; starved = false } }
+        ensures go { (z y : TableId) (p : Plan) → IsNewSeat z p seat → Sits y ids → IsFree ids.me.0 → All (IsPass z p) passes.items → MayGo z p y 0 result }
+    {
+        Caller {
+            seat,
+            passes,
+            held: Vec::new(alloc),
+            outcomes: Vec::new(alloc),
+            calls: CallSeat::new(alloc, ids),
+            sent: 0,
+        }
+    }
+
+    /// Makes the operations in their order, behind the gate, and before each and behind the last the retries that wait; and gives all
+    /// references back. Where memory is wanting, no further operation is made, each `open` that is left gets no socket, and
+    /// each call whose retry waits ends by that. In each case the seats have nothing in the end, and no retry waits.
+    pub fn run<R: Wait, G: Gate>(
+        &mut self,
+        rt: &R,
+        tables: &Tables<O>,
+        of: u16,
+        tasks: VecDeque<Task>,
+        gate: &G,
+    ) -> Result<(), NoMemory>
+        requires few { length tasks.items ≤ 65535 }
+        requires go { MayGo tables.now.socks.rule.table.shared.table_id tables.now.socks.rule.plan tables.now.ids.table.shared.table_id 0 self.old }
+        requires may { MayMakeAll tables.now.socks.rule.plan tables.now.ids.plan tasks.items (length self.old.passes.items) }
+        requires fed { self.old.calls.starved ≡ false }
+        ensures done { IsDoneSeat tables.now.socks.rule.table.shared.table_id tables.now.socks.rule.plan self.new.seat }
+        ensures share { self.new.seat.me.0.share ≡ self.old.seat.me.0.share }
+        ensures ids { HasNoLock tables.now.ids.table.shared.table_id self.new.calls }
+        ensures same { Stays self.old.calls.seat self.new.calls.seat }
+        ensures id_share { self.new.calls.seat.me.0.share ≡ self.old.calls.seat.me.0.share }
+        ensures empty { (self.new.held.items ≡ []) × (self.new.passes.items ≡ []) × (self.new.calls.retries.items ≡ []) }
+        ensures fed { IfOk result (λ _. self.new.calls.starved ≡ false) }
+        ensures ran { RunBy O.state tables.now.socks.rule.plan tables.now.ids.plan (is_err result) tasks.items self.old self.new }
+    {
+        'waits: for _ in rt.forever() {
+            gate.pass(rt, of, 1);
+        }
+        unreachable!()
+    }
+
+    /// What it leaves.
+    pub fn spent(self) -> Spent<O>
+        ensures { (result.seat ≡ self.seat) × (result.ids ≡ self.calls.seat) × (result.outcomes ≡ self.outcomes) × (result.ended ≡ self.calls.told) }
+    {
+        let Caller {
+            seat,
+            passes: _,
+            held: _,
+            outcomes,
+            calls,
+            sent: _,
+        } = self;
+        let CallSeat {
+            seat: ids,
+            retries: _,
+            told,
+            starved: _,
+            pool: _,
+            alloc: _,
+        } = calls;
+        Spent {
+            seat,
+            ids,
+            outcomes,
+            ended: told,
+        }
+    }
+}

@@ -1,0 +1,7 @@
+//! A client with calls, on the tables of sockets and ids that threads share: its operations, each with its outcome, and before each
+//! of them the retries that wait.
+#![tactic(auto)]
+
+mod caller;
+
+pub use caller::{Caller, Spent};
