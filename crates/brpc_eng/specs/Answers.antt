@@ -26,6 +26,7 @@ use Rattle.sock_programs.specs.Cores.{Core}
 use Rattle.sock_programs.specs.Scripts.{IsRunWithCalls, is_callless, drawn_turns}
 use Rattle.whole_runs.specs.Heard.{as_told, heard_of, heard_takes}
 use Rattle.sock_io.specs.declared.link.LinkSpec.{LinkSpec}
+use Rattle.sock_io.specs.declared.link.Mode.TheVariants as mode
 use Rattle.sock_io.specs.Link.{ConnectionEnd}
 use Rattle.serve_port.specs.Serving.{ServedConnection, IsServed, any_failing, any_faulty, all_whole, frames_of}
 use Rattle.script_links.specs.Given.{AreNumbered, AreUntouched, IsBeginning, specs_of}
@@ -81,8 +82,8 @@ OpenedNone links = (links.asked ≡ []) × (links.ends ≡ [])
 -- the links that the lines of a script ask for were opened as they ask, all of them where a report was written or begun, else the
 -- first of them; and each is given back, in order
 pub record OpenedBy (script : List Item) (links : Links) (status : ℕ) : Type 0 where
-  pub front : IsBeginning links.asked (specs_of script)
-  pub whole : (status ≡ 0) ⊎ (status ≡ 5) → links.asked ≡ specs_of script
+  pub front : IsBeginning links.asked (specs_of mode.Loop script)
+  pub whole : (status ≡ 0) ⊎ (status ≡ 5) → links.asked ≡ specs_of mode.Loop script
   pub given_back : length links.ends ≡ length links.asked
   pub numbered : AreNumbered 0 links.ends
 

@@ -15,7 +15,7 @@ use crate::streams::{InputFault, read_all};
 use script_items::Script;
 use script_lang::{ScriptError, read_script};
 use script_threads::{is_built, run_script_on_threads};
-use sock_io::{Gate, Linker, OpenFault, Sink, Source};
+use sock_io::{Gate, Linker, Mode, OpenFault, Sink, Source};
 use std::alloc::Global;
 use std::sync::Wait;
 use std::thread::Threads;
@@ -111,7 +111,7 @@ fn threads_and_report<R: Threads + Wait + Sync, K: Sink, L: Linker, G: Gate + Sy
         write_answer(out, NOT_BUILT);
         return Status::NotBuilt;
     }
-    match run_script_on_threads(rt, alloc, script, links, gate) {
+    match run_script_on_threads(rt, alloc, Mode::Loop, script, links, gate) {
         Ok(text) => write_report(out, &text),
         Err(OpenFault::Failed) => Status::OpenFailed,
         Err(OpenFault::NoMemory) => Status::NoMemory,

@@ -8,7 +8,7 @@ use crate::held::{HeldGate, HeldLinker, is_done, new_flags};
 use script_items::Script;
 use script_lang::read_script;
 use script_threads::{is_built, run_script_on_threads};
-use sock_io::{Gate, Linker, OpenGate};
+use sock_io::{Gate, Linker, Mode, OpenGate};
 use std::alloc::{AllocError, Global};
 use std::sync::{Arc, Wait};
 use std::thread::Threads;
@@ -45,7 +45,7 @@ fn report_over<L: Linker, G: Gate + Sync, R: Threads + Wait + Sync>(
     requires back { L.back links.old ≡ [] }
 {
     let script = plain_script(alloc, text)?;
-    match run_script_on_threads(rt, alloc, &script, links, gate) {
+    match run_script_on_threads(rt, alloc, Mode::Loop, &script, links, gate) {
         Ok(report) => Some(report),
         Err(_fault) => None,
     }
