@@ -2,6 +2,8 @@
 //! of them the retries that wait.
 #![tactic(auto)]
 
+mod acting;
 mod caller;
+mod running;
 
 pub use caller::{Caller, Spent};
