@@ -112,7 +112,6 @@ module _ {O : Type 0} {g : Ghosts O} (state : O → OutState) (p : Plan) (q : id
   begun_known : (asked : Asked) (id : ℕ) (s t : Both) → BegunAs state p q asked id s t → HasSeen (name_word p (name_of asked 0)) t.socks
   begun_known asked id s t b = (attempted_leaves state p q b.socket (letter_for asked id 0 zero-le) b.at t b.attempted).seen (name_word p (name_of asked 0)) (found_known p (name_of asked 0) b.socket s.socks b.at.socks b.made_for.found)
 
-
   one_known : (s : Stand g) (n : ℕ) → HasSeen (name_word p n) s.me.0 → All (λ m. HasSeen (name_word p m) s.me.0) (n ∷ [])
   one_known s n h = All-cons (λ m. HasSeen (name_word p m) s.me.0) n [] h (All-nil (λ m. HasSeen (name_word p m) s.me.0))
 
