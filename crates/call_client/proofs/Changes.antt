@@ -1,5 +1,5 @@
 -- What a client's run does to what it knows of calls, as changes of few kinds, one after the other.
-use Rattle.std.proofs.Common.{◌≡◌, ◌⊎◌, ◌×◌, ℕ, zero, suc, inl, inr, Bool, true, false, List, [], ◌∷◌, Option, Some, None, refl, ap, ◌∙◌, sym, drop}
+use Rattle.std.proofs.Common.{◌≡◌, ℕ, zero, suc, inl, inr, Bool, true, false, List, [], ◌∷◌, Some, None, refl, ap, drop}
 use Rattle.std.specs.Prelude.{Option as Maybe}
 use Rattle.sock_io.specs.declared.link.Out.{Ghosts}
 use Rattle.sock_io.specs.Link.{OutState}
@@ -18,7 +18,7 @@ use Rattle.write_chain.specs.declared.right.Undelivered.{Undelivered}
 use Rattle.corr_core.specs.Word.{parts}
 use Rattle.corr_core.specs.declared.marks.Plan as id_plan
 use Rattle.corr_core.specs.declared.marks.View.{View}
-use Rattle.id_rule.specs.Lawful.{with_kept}
+use Rattle.id_rule.specs.Lawful.{call_word, with_kept}
 use Rattle.sock_message.specs.Asked.{Asked}
 use Rattle.corr_id.specs.declared.calls.IdLock.{IdLock}
 use Rattle.corr_id.specs.declared.unlocks.Unlocked.{Unlocked}
@@ -43,8 +43,8 @@ use Rattle.call_attempts.specs.Attempting.{code_for, DeliveredBy, went_out, came
 use Rattle.call_attempts.specs.Calling.{MadeFor, CalledBy, WantedBy, before_id, behind_id}
 use Rattle.call_attempts.specs.Retrying.{without_oldest, WentTo, stray, unopened, to_socket, Locked, RetriedBy, had_ended, overtaken, went_again, GaveUp, Retried, none_yet, one_more, RanOut, for_frame, before_next}
 use Rattle.call_client.specs.declared.caller.Caller.{Caller}
-use Rattle.call_client.specs.Acting.{Stand, both_of, Acted}
-use Rattle.call_client.specs.Running.{Course, RetriedHere, Made, Ran, NotCalled, for_memory, for_slots, Stops, without_room, while_retrying, while_calling, LeftBy, LeftAll, EndsBy, RunBy}
+use Rattle.call_client.specs.Acting.{Stand, stand, both_of, letter_of, Acted}
+use Rattle.call_client.specs.Running.{Course, RetriedHere, Made, Ran, NotCalled, for_memory, for_slots, Stops, without_room, while_retrying, while_calling, LeftBy, LeftAll, EndsBy, begins, RunBy}
 
 -- the seat noted something, and no call ended by that
 pub data Sees : View Asked → View Asked → Type 0 where
@@ -86,7 +86,7 @@ starved_by slots s t h =
 
 timed_out : (q : id_plan.Plan) (operation : ℕ) (by : Outcome) (s t : CallStand) → TimedOut q operation by s t → Changes s t
 timed_out q operation by s t h = let u = found_id q operation h.id s in
-    in_turn s u t (sees s u (keeps s.view u.view _ _ _ refl) refl) (posts u t q.slots h.id ERPCTIMEDOUT None (h.answer, h.posted))
+    in_turn s u t (sees s u (keeps s.view u.view (call_word q operation) false h.id refl) refl) (posts u t q.slots h.id ERPCTIMEDOUT None (h.answer, h.posted))
 
 expired_by : (q : id_plan.Plan) (operation : ℕ) (by : Outcome) (s t : CallStand) → ExpiredBy q operation by s t → Changes s t
 expired_by q operation outcome.NotBegun s t h = same s t h.same
@@ -99,7 +99,7 @@ expired_by q operation _ s t h = elim h [ ]
 joined_by : (q : id_plan.Plan) (operation : ℕ) (by : Outcome) (s t : CallStand) → JoinedBy q operation by s t → Changes s t
 joined_by q operation outcome.NotBegun s t h = same s t h.same
 joined_by q operation outcome.Joined s t h = let u = found_id q operation h.id s in let x : CallStand = record { view = h.view; books = s.books } in
-    in_turn s u t (sees s u (keeps s.view u.view _ _ _ refl) refl) (in_turn u x t (sees u x (finds u.view h.view h.quiet) refl) (same x t h.after))
+    in_turn s u t (sees s u (keeps s.view u.view (call_word q operation) false h.id refl) refl) (in_turn u x t (sees u x (finds u.view h.view h.quiet) refl) (same x t h.after))
 joined_by q operation _ s t h = elim h [ ]
 
 -- ## Messages
@@ -116,13 +116,13 @@ module _ {O : Type 0} (state : O → OutState) (p : Plan) (slots : ℕ) where
   drained : (id : ℕ) (v : sock_view.View) (s : CallStand) (w : sock_view.View) (t : CallStand) → Drained state p slots id v s w t → Changes s t
   drained id v s w t d = dropped_all id v s d.last t d.dropped
 
-  delivered : (sock : SockRef) (msg : Letter) (by : Option Outcome) (v : sock_view.View) (s : CallStand) (w : sock_view.View) (t : CallStand) → DeliveredCalling state p slots sock msg by v s w t → Changes s t
+  delivered : (sock : SockRef) (msg : Letter) (by : Maybe Outcome) (v : sock_view.View) (s : CallStand) (w : sock_view.View) (t : CallStand) → DeliveredCalling state p slots sock msg by v s w t → Changes s t
   delivered sock msg None v s w t d = drained sock.id.0 d.taken s d.through.wrote t d.through.drained
   delivered sock msg (Some (outcome.Gone found)) v s w t d = same s t d.1
   delivered sock msg (Some outcome.Full) v s w t d = same s t d.1
   delivered sock msg (Some _) v s w t d = elim d [ ]
 
-  sent_calling : (n : ℕ) (msg : Letter) (by : Option Outcome) (v : sock_view.View) (s : CallStand) (w : sock_view.View) (t : CallStand) → SentCalling state p slots n msg by v s w t → Changes s t
+  sent_calling : (n : ℕ) (msg : Letter) (by : Maybe Outcome) (v : sock_view.View) (s : CallStand) (w : sock_view.View) (t : CallStand) → SentCalling state p slots n msg by v s w t → Changes s t
   sent_calling n msg None v s w t h = delivered h.sock msg None h.has s w t h.delivered
   sent_calling n msg (Some outcome.Unopened) v s w t h = same s t h.1
   sent_calling n msg (Some (outcome.Gone found)) v s w t (inl h) = same s t h.1
@@ -191,9 +191,9 @@ module _ {O : Type 0} {g : Ghosts O} (state : O → OutState) (p : Plan) (q : id
   retried_here : (s t : Stand g) → RetriedHere state p q s t → Changes s.calls t.calls
   retried_here s t r = retried state p q (both_of s) (both_of t) r.all.retried
 
-  acted : (number : ℕ) (op : Op) (by : Option Outcome) (s t : Stand g) → Acted state p q number op by s t → Changes s.calls t.calls
+  acted : (number : ℕ) (op : Op) (by : Maybe Outcome) (s t : Stand g) → Acted state p q number op by s t → Changes s.calls t.calls
   acted number (ops.Open n k) (Some by) s t h = same s.calls t.calls h.2
-  acted number (ops.Send n bytes) by s t h = sent_calling state p q.slots n _ by s.me.0 s.calls t.me.0 t.calls h.0
+  acted number (ops.Send n bytes) by s t h = sent_calling state p q.slots n (letter_of number bytes) by s.me.0 s.calls t.me.0 t.calls h.0
   acted number (ops.Call asked) (Some outcome.Unopened) s t h = called_by state p q asked called.Unopened (both_of s) (both_of t) h.0
   acted number (ops.Call asked) None s t h = called_by state p q asked (called.Begun h.0) (both_of s) (both_of t) h.1
   acted number (ops.Expire of) (Some by) s t h = expired_by q of by s.calls t.calls h.0
@@ -234,5 +234,5 @@ left_all p (x ∷ xs) s t h = in_turn s.calls h.0.calls t.calls (left_by p x.num
 pub run_changes : {O : Type 0} {g : Ghosts O} {state : O → OutState} {p : Plan} {q : id_plan.Plan} {short : Bool} {xs : List Task} (c d : Caller O g) → RunBy state p q short xs c d → Changes (stand_of c.calls) (stand_of d.calls)
 run_changes {O} {g} {state} {p} {q} {short} {xs} c d r =
     let a = stand_of c.calls in let b = stand_of r.came.calls in let e = stand_of d.calls in
-    in_turn a b e (ran state p q xs r.made _ _ r.ran.ran) (in_turn b r.last.calls e (ends_by state p q short xs r.made _ r.last r.ends)
+    in_turn a b e (ran state p q xs r.made (begins c) (record { has = stand r.came; told = r.came.outcomes.items; names = r.ran.names }) r.ran.ran) (in_turn b r.last.calls e (ends_by state p q short xs r.made (stand r.came) r.last r.ends)
     (in_turn r.last.calls r.end.calls e (left_all p (drop r.made xs) r.last r.end r.left) (same r.end.calls e r.calls)))

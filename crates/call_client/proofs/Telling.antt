@@ -3,6 +3,7 @@ use Rattle.std.proofs.Common.{◌≡◌, ◌⊎◌, inl, inr, ⊎_elim, ℕ, ◌
 use Rattle.std.specs.Prelude.{Option as Maybe}
 use Rattle.sock_io.specs.declared.link.Out.{Ghosts}
 use Rattle.sock_io.specs.Link.{OutState}
+use Rattle.sock_words.specs.Codes.{EINTERNAL}
 use Rattle.sock_words.specs.declared.plain.Plan.{Plan}
 use Rattle.sock_programs.specs.declared.task.Task.{Task}
 use Rattle.corr_core.specs.Word.{Parts, parts}
@@ -19,9 +20,9 @@ use Rattle.corr_id.specs.declared.calls.IdLock.{IdLock}
 use Rattle.corr_id.specs.declared.posts.Posted.{Posted}
 use Rattle.corr_id.specs.declared.posts.Posted.TheVariants.{Locked as HasLock, Queued as IsQueued, Gone, Stale, Crowded}
 use Rattle.corr_id.specs.declared.unlocks.Unlocked.TheVariants.{Open, Next}
-use Rattle.corr_id.specs.Calls.{Did, Quiet, is_event, events, one, advance_note}
+use Rattle.corr_id.specs.Calls.{slot_of, version_of, Did, Quiet, is_event, events, one, advance_note}
 use Rattle.corr_id.proofs.Seats.{total_append, notes_append}
-use Rattle.call_errors.specs.Books.{Books, CallStand, stand_of, Tells, told, lost}
+use Rattle.call_errors.specs.Books.{Books, CallStand, stand_of, starving, Tells, told, lost}
 use Rattle.call_errors.specs.Ending.{EndedWith, failed}
 use Rattle.call_errors.specs.Handling.{Decided}
 use Rattle.call_errors.specs.Handling as handling
@@ -85,7 +86,7 @@ advance_ends at p q i f = elim (eqb p.attempt q.attempt) as (λ b. total (is_end
 sees_ends : {v w : View Asked} → Sees v w → (i f : ℕ) → noted_ends i f w ≡ noted_ends i f v
 sees_ends (keeps v w place own word e) i f = ap (λ (y : View Asked). noted_ends i f y) e
 sees_ends (finds v w q) i f = quiet_total (is_ended f) (ended_silent f) v w q i
-sees_ends (makes v w slots id range asked m) i f = did_ends _ v w _ _ m.did (λ j h. none_of_one (is_ended h) (ended_silent h) _ (Made _ range asked) refl j) i f
+sees_ends (makes v w slots id range asked m) i f = did_ends (slot_of id) v w _ _ m.did (λ j h. none_of_one (is_ended h) (ended_silent h) (slot_of id) (Made (version_of id) range asked) refl j) i f
 sees_ends (locks v w slots version k g) i f = did_ends k.slot v w _ _ g.got.did (λ j h. none_of_one (is_ended h) (ended_silent h) k.slot (Locker (parts k.word.0).first k.content) refl j) i f
 sees_ends (unlocks v w k advance Open u) i f = did_ends k.slot v w _ _ u.4 (advance_ends k.slot (parts k.word.0) u.1) i f
 sees_ends (unlocks v w k advance (Next l code attempt) u) i f = did_ends k.slot v w _ _ u.3 (advance_ends k.slot (parts k.word.0) (parts l.word.0)) i f
@@ -101,7 +102,7 @@ ended_starved k code s t e h = by e.tells
 
 decided_starved : {s : CallStand} {k : IdLock Asked} {code : ℕ} {attempt : Maybe ℕ} {t : CallStand} → Decided s k code attempt t → s.books.starved ≡ true → t.books.starved ≡ true
 decided_starved (handling.ends s k code attempt t a b e) h = ended_starved k code s t e h
-decided_starved (handling.starves s k code attempt t a e) h = ended_starved k _ _ t e refl
+decided_starved (handling.starves s k code attempt t a e) h = ended_starved k EINTERNAL (record { view = s.view; books = starving s.books }) t e refl
 decided_starved (handling.waits s k code attempt t a b e) h = ap (λ (y : Books). y.starved) e.kept ∙ h
 decided_starved (handling.goes_on s k code attempt t u l next of a b e rest) h = decided_starved rest (ap (λ (y : Books). y.starved) e.kept ∙ h)
 
