@@ -1,5 +1,5 @@
 -- An outcome that is told and is an answer comes from a response that a link gave.
-use Rattle.std.proofs.Common.{◌≡◌, ℕ, zero, suc, ◌+◌, ◌≤◌, ◌<◌, true, false, List, [], ◌∷◌, ◌++◌, Some, None, pos, negsuc, replicate, refl, sym, ap, ◌∙◌, subst, arith, ◌/◌, ◌^◌}
+use Rattle.std.proofs.Common.{◌≡◌, ℕ, zero, suc, ◌+◌, ◌≤◌, ◌<◌, true, false, List, [], ◌∷◌, ◌++◌, Some, None, pos, negsuc, replicate, refl, sym, ap, ◌∙◌, subst, arith, ◌/◌, ◌%◌, ◌^◌}
 use Rattle.std.specs.Prelude.{ℤ, Option, IfSome, slice_set}
 use Rattle.std.specs.List.{AllByRecursion}
 use Rattle.std.proofs.Math.Nat.{mod-lt}
@@ -17,7 +17,7 @@ use Rattle.call_told.specs.Answers.{IsGivenResponse, EndedBy, by_code as with_co
 use Rattle.call_told.proofs.Lists.{all_then}
 
 range_low : (w : Parts) (word : ℕ) → w ≡ locked_word (parts word) → w.range ≤ 8
-range_low w word e = let a = mod-lt (word / 2 ^ 33) {8} (omega arith) in let b = ap (λ (x : Parts). x.range) e in omega arith
+range_low w word e = let some : 0 < 8 = omega arith in let a : word / 2 ^ 33 % 8 < 8 = mod-lt (word / 2 ^ 33) some in let b = ap (λ (x : Parts). x.range) e in omega arith
 
 module _ (links : ℕ) (gave : ℕ → List ℕ) where
   module _ (slot : ℕ) (w : Parts) (f : Frame) (given : IsGivenResponse links gave slot w f) (low : w.range ≤ 8) where

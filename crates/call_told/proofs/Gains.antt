@@ -58,7 +58,7 @@ threw : (ending : Bool) (total : ℕ) (s t : InState) → ThrewAway ending total
 threw ending total s t (inl e) = ([], gains_none s t e.1)
 threw ending total s t (inr h) = (bytes_of (h.earlier ++ h.last ∷ []), gains_all (h.earlier ++ h.last ∷ []) s t h.steps)
 
-thrown : (b ending : Bool) (total : ℕ) (s t : InState) → ThrownIf b ending total s t → (more : List ℕ) × Gains s t more
+pub thrown : (b ending : Bool) (total : ℕ) (s t : InState) → ThrownIf b ending total s t → (more : List ℕ) × Gains s t more
 thrown true ending total s t h = threw ending total s t h
 thrown false ending total s t e = ([], gains_none s t e)
 

@@ -12,7 +12,7 @@ use Rattle.id_rule.specs.Lawful.{notes_of}
 use Rattle.sock_message.specs.Asked.{Asked}
 use Rattle.corr_id.specs.declared.posts.Posted.{Posted}
 use Rattle.corr_id.specs.declared.posts.Posted.TheVariants.{Locked as HasLock, Queued as IsQueued, Gone, Stale, Crowded}
-use Rattle.corr_id.specs.Calls.{Became, Did, Quiet, GotLock, one, events}
+use Rattle.corr_id.specs.Calls.{Became, Did, Quiet, GotLock, one, events, is_saw}
 use Rattle.corr_id.specs.Posts.{PostOk}
 use Rattle.corr_id.proofs.Doing.{quiet_none, did_none, did_more}
 use Rattle.call_told.specs.Answers.{HasNoted, HasEnded}
@@ -59,7 +59,7 @@ noted_later slot n v w l h = let x : Noted Asked = record { slot = slot; note = 
 pub ended_later : (slot : ℕ) (w : Parts) (call : Asked) (u v : View Asked) → Later u v → HasEnded slot w call u → HasEnded slot w call v
 ended_later slot w call u v l h = record {
   word = h.word;
-  found = (let a = h.found in let b = l.grows slot _ in omega arith);
+  found = (let a = h.found in let b = l.grows slot (is_saw h.word) in omega arith);
   was_open = h.was_open;
   word_is = h.word_is;
   locked = noted_later slot (Locker w.first call) u v l h.locked;
@@ -73,7 +73,7 @@ has_ended slot w call u v v' word got b =
     let l = did_later slot v v' [] _ d in
     record {
       word = word;
-      found = (let a = got.found in let c = l.grows slot _ in omega arith);
+      found = (let a = got.found in let c = l.grows slot (is_saw word) in omega arith);
       was_open = got.was_open;
       word_is = got.word_is;
       locked = noted_later slot (Locker w.first call) v v' l (0, ap (λ (es : List (Noted Asked)). slice_get es 0) got.did.added);
