@@ -1,6 +1,6 @@
 -- An outcome that is told and is an answer comes from a response that a link gave.
-use Rattle.std.proofs.Common.{◌≡◌, ℕ, zero, suc, ◌+◌, ◌≤◌, ◌<◌, true, false, List, [], ◌∷◌, ◌++◌, Some, None, pos, negsuc, replicate, refl, sym, ap, ◌∙◌, subst, arith, ◌/◌, ◌%◌, ◌^◌}
-use Rattle.std.specs.Prelude.{ℤ, Option, IfSome, slice_set}
+use Rattle.std.proofs.Common.{◌≡◌, ℕ, zero, suc, ◌≤◌, ◌<◌, true, false, List, [], ◌∷◌, ◌++◌, Some, None, pos, negsuc, replicate, refl, sym, ap, ◌∙◌, subst, arith, ◌/◌, ◌%◌, ◌^◌}
+use Rattle.std.specs.Prelude.{ℤ, Option, slice_set}
 use Rattle.std.specs.List.{AllByRecursion}
 use Rattle.std.proofs.Math.Nat.{mod-lt}
 use Rattle.sock_words.specs.declared.outcome.Outcome.{Outcome}

@@ -1,5 +1,5 @@
 -- How calls end for whoever meets frames, posts the end of a reading, and ends what is left.
-use Rattle.std.proofs.Common.{◌≡◌, ℕ, zero, suc, ◌+◌, ◌<◌, Bool, true, false, List, [], ◌∷◌, ◌++◌, append_assoc, append-nil, ◌⊎◌, inl, inr, Some, None, refl, sym, ap, ◌∙◌, subst}
+use Rattle.std.proofs.Common.{◌≡◌, ℕ, suc, Bool, true, false, List, [], ◌∷◌, ◌++◌, append_assoc, append-nil, ◌⊎◌, inl, inr, Some, None, refl, sym, ap, ◌∙◌, subst}
 use Rattle.std.specs.Prelude.{Option, slice_get, position, ◌==◌}
 use Rattle.std.proofs.lemmas.List.Quantifiers.{position-Some}
 use Rattle.sock_words.specs.Words.{at_word_link}
@@ -22,7 +22,7 @@ use Rattle.call_table.specs.Responses.{ending_of, is_early}
 use Rattle.rpc_client.specs.declared.acting.Told.{Told}
 use Rattle.rpc_reader.specs.Books.{Books, EndedAs, ToldBy, id_of}
 use Rattle.rpc_reader.specs.Met.{has_response, slot_in, version_in, is_asked, is_for, AnsweredBy, LackedBy, KeptIf, MetIf, FrameMet, FramesMet}
-use Rattle.rpc_reader.specs.Posting.{LostBy, LockLost, PostedTo, PostedLast, PostedIf, PostedAt, PostedOne, PostedAll, call_at, attempt_at}
+use Rattle.rpc_reader.specs.Posting.{LostBy, LockLost, PostedTo, PostedIf, PostedAt, PostedAll, call_at, attempt_at}
 use Rattle.rpc_reader.specs.Resting.{HadEnded, EndedLast, OneEnded, RestEnded}
 use Rattle.rpc_reader.proofs.Frames.{asked_responds}
 use Rattle.call_told.specs.Answers.{IsGiven, AreGiven, IsLossCode, EndedBy, by_code, by_response, ToldFrom, TellsFrom}

@@ -1,5 +1,5 @@
 -- The frames that are cut off what a link gave are frames of its stream, and a response's correlation id is that of an attempt.
-use Rattle.std.proofs.Common.{◌≡◌, ℕ, ◌+◌, ◌*◌, ◌<◌, Bool, true, false, List, ◌++◌, map, Some, None, refl, sym, ap, ◌∙◌, subst, arith, eqb, eqb-true, ltb-true}
+use Rattle.std.proofs.Common.{◌≡◌, ℕ, ◌+◌, ◌*◌, ◌<◌, Bool, true, false, List, ◌++◌, map, Some, None, refl, ap, ◌∙◌, arith, eqb-true, ltb-true}
 use Rattle.std.specs.Prelude.{Option, option_map, slice_get, IsSome, ◌&&◌, ◌==◌, nat_lt, not}
 use Rattle.std.proofs.lemmas.Nat.{div-add-mod'}
 use Rattle.std.proofs.lemmas.Option.{slice_get-map}
@@ -12,11 +12,9 @@ use Rattle.prpc_frame.specs.Meaning.{frame_of}
 use Rattle.prpc_frame.specs.declared.frame.Frame.{Frame}
 use Rattle.prpc_frame.proofs.Cuts.{stream_begins}
 use Rattle.corr_core.specs.Word.{Parts}
-use Rattle.corr_id.specs.Calls.{slot_of, version_of}
 use Rattle.call_table.specs.Responses.{has_version}
-use Rattle.rpc_reader.specs.Books.{id_of}
 use Rattle.rpc_reader.specs.Met.{has_response, slot_in, version_in, is_for}
-use Rattle.call_told.specs.Answers.{Gave, IsGiven, IsGivenResponse}
+use Rattle.call_told.specs.Answers.{IsGiven, IsGivenResponse}
 use Rattle.call_told.proofs.Lists.{at_front}
 
 responds : (o : Option ResponseMeta) → has_response o ≡ true → IsSome (option_map response_of o)

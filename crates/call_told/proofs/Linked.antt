@@ -1,6 +1,6 @@
 -- Links that are read one behind the other, and what is told of calls by that.
-use Rattle.std.proofs.Common.{◌≡◌, ℕ, zero, suc, ◌+◌, ◌<◌, true, false, List, [], ◌∷◌, ◌++◌, length, inl, inr, Some, None, refl, sym, ap, ◌∙◌, subst, arith}
-use Rattle.std.specs.Prelude.{Bool, Option, slice_get, IfSome}
+use Rattle.std.proofs.Common.{◌≡◌, ℕ, zero, suc, ◌+◌, true, false, List, [], ◌∷◌, ◌++◌, length, Some, refl, sym, subst, arith}
+use Rattle.std.specs.Prelude.{slice_get}
 use Rattle.brpc_model.specs.Frame as model
 use Rattle.prpc_frame.specs.declared.frame.Frame.{Frame}
 use Rattle.corr_core.specs.declared.marks.Plan as ids
@@ -12,7 +12,6 @@ use Rattle.rpc_reader.specs.declared.reading.How.{How}
 use Rattle.rpc_reader.specs.declared.reading.How.TheVariants as how
 use Rattle.rpc_reader.specs.Books.{Books}
 use Rattle.rpc_reader.specs.Reading.{code_of}
-use Rattle.rpc_reader.specs.Running.{ReadLink}
 use Rattle.rpc_reader.specs.Linked.{ReadServed, ReadLinks}
 use Rattle.rpc_reader.specs.Resting.{RestEnded}
 use Rattle.call_told.specs.Answers.{IsGiven, AreGiven, IsLossCode, at_end, at_fault, at_want, TellsFrom, GaveBetween, AnsweredFrom}

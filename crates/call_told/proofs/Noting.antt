@@ -1,6 +1,6 @@
 -- What a seat noted stays noted.
-use Rattle.std.proofs.Common.{◌≡◌, ℕ, ◌≤◌, List, [], ◌∷◌, ◌++◌, append_assoc, refl, sym, ap, ◌∙◌, arith}
-use Rattle.std.specs.Prelude.{Option as Maybe, slice_get, Some}
+use Rattle.std.proofs.Common.{◌≡◌, ℕ, ◌≤◌, List, [], ◌++◌, append_assoc, sym, ap, ◌∙◌, arith}
+use Rattle.std.specs.Prelude.{Option as Maybe, slice_get}
 use Rattle.corr_core.specs.Word.{Parts}
 use Rattle.corr_core.specs.Law.{total}
 use Rattle.corr_core.specs.declared.marks.Note.{Note}

@@ -1,5 +1,5 @@
 -- By what calls end: what whoever reads the links tells of calls, and what clients tell.
-use Rattle.std.specs.Prelude.{◌≡◌, ℕ, ◌+◌, ◌<◌, ◌⊎◌, Bool, true, false, List, [], ◌++◌, length, slice_get, ℤ, pos, Option, Some, IfSome, IsSome}
+use Rattle.std.specs.Prelude.{◌≡◌, ℕ, ◌+◌, ◌<◌, Bool, true, false, List, [], ◌++◌, length, slice_get, ℤ, pos, Option, Some, IfSome, IsSome}
 use Rattle.std.specs.List.{AllByRecursion}
 use Rattle.sock_words.specs.Codes.{EEOF, EINTERNAL, ERESPONSE}
 use Rattle.sock_words.specs.declared.outcome.Outcome.{Outcome}
