@@ -22,7 +22,7 @@ use std::sync::Wait;
 type Half = Shaped<MemOut>;
 
 /// The writing half of a link whose put of this number fails, or none for 0.
-fn half(alloc: Global, link: u16, fail: u64) -> Option<Half> {
+fn half(alloc: Global, link: u16, fail: u32) -> Option<Half> {
     let shape = Shape {
         piece: 8192,
         again: 0,
