@@ -1,6 +1,8 @@
 -- How a run goes on by an operation, and what of its list is left then.
 use Rattle.std.proofs.Common.{◌≡◌, ◌≢◌, ℕ, zero, suc, ◌+◌, ◌<◌, ◌≤◌, Bool, true, false, cond, Some, None, inl, inr, List, [], ◌∷◌, ◌++◌, length, drop, length-append, add-one, refl, sym, ap, ◌∙◌, subst, arith}
-use Rattle.std.specs.Prelude.{Option as Maybe, All}
+use Rattle.std.specs.Prelude.{Option as Maybe, All, IfOk, IfErr}
+use Rattle.std.specs.declared.result.Result.{Result}
+use Rattle.std.specs.declared.result.Result.TheVariants.{Ok, Err}
 use Rattle.std.proofs.lemmas.List.Elements.{All-nil, All-append, All-weaker}
 use mathlib.Core.Option.{some}
 use lib.ListN.{get_elem?}
@@ -20,9 +22,10 @@ use Rattle.rpc_client.specs.Seats.{StaysSeen}
 use Rattle.rpc_client.specs.Running.{telling, finds_name}
 use Rattle.call_errors.specs.Books.{stand_of}
 use Rattle.call_errors.specs.Starving.{StarvedBy}
+use Rattle.call_attempts.specs.Both.{wanting}
 use Rattle.call_client.specs.declared.caller.Caller.{Caller}
 use Rattle.call_client.specs.Acting.{Stand, stand, KeepsOwn, MayMake, Acted}
-use Rattle.call_client.specs.Running.{names_in, Course, RetriedHere, Made, Ran, NotCalled, Stops, while_calling, begins, RanTo, left_by, MayMakeAll, LeftBy, LeftAll, EndsBy}
+use Rattle.call_client.specs.Running.{names_in, Course, RetriedHere, Made, Ran, NotCalled, Stops, without_room, while_calling, begins, RanTo, left_by, MayMakeAll, LeftBy, LeftAll, EndsBy}
 use Rattle.call_client.specs.Making.{NotMade, IsRest, ComesTo, CameBy}
 use Rattle.call_client.proofs.Knowing.{acted_known, unopened_new}
 
@@ -51,6 +54,19 @@ none_left p q xs passes e m = nothing passes (subst (λ (l : List Task). MayMake
     nothing : {A : Type 0} (l : List A) → length l ≡ 0 → l ≡ []
     nothing [] z = refl
     nothing (x ∷ xs) z = absurd (omega arith)
+
+-- what holds of any value or error that a call gives holds by each consequence
+pub ok_then : {A E : Type 0} (r : Result A E) (P Q : A → Type 0) → ((x : A) → P x → Q x) → IfOk r P → IfOk r Q
+ok_then (Ok x) P Q f h = f x h
+ok_then (Err e) P Q f h = tt
+
+pub err_then : {A E : Type 0} (r : Result A E) (P Q : E → Type 0) → ((x : E) → P x → Q x) → IfErr r P → IfErr r Q
+err_then (Ok x) P Q f h = tt
+err_then (Err e) P Q f h = f e h
+
+-- room was made, and nothing else
+pub begins_same : {O : Type 0} {g : Ghosts O} (b c : Caller O g) → c.seat ≡ b.seat → c.held.items ≡ b.held.items → c.passes ≡ b.passes → c.calls ≡ b.calls → c.outcomes.items ≡ b.outcomes.items → begins c ≡ begins b
+begins_same b c seat held passes calls told = λ i. record { has = record { me = (seat i).me; held = held i; passes = (passes i).items; calls = stand_of (calls i) }; told = told i; names = [] }
 
 module _ {O : Type 0} {g : Ghosts O} (state : O → OutState) (p : Plan) (q : id_plan.Plan) where
   -- ## Passes
@@ -121,6 +137,13 @@ module _ {O : Type 0} {g : Ghosts O} (state : O → OutState) (p : Plan) (q : id
     ran_before n b c d e r = record { names = r.names; ran = subst (λ (u : Course g). Ran state p q xs n u record { has = stand d; told = d.outcomes.items; names = r.names }) e r.ran; known = r.known }
 
     -- ## No operation more
+
+    pub came_before : (by : ℕ → Stand g → Stand g → Type 0) (rest : List Task) (b c d : Caller O g) → begins c ≡ begins b → CameBy state p q by xs rest c d → CameBy state p q by xs rest b d
+    came_before by rest b c d e k = record { made = k.made; few = k.few; came = k.came; ran = ran_before k.made b c k.came e k.ran; told = k.told; ends = k.ends; left = k.left }
+
+    -- there is no room, and nothing was done
+    pub roomless : (b c d : Caller O g) → begins c ≡ begins b → d.outcomes ≡ c.outcomes → stand d ≡ record (stand c) { calls = wanting (stand c).calls } → CameBy state p q (ComesTo state p q true xs) xs xs b d
+    roomless b c d e told is = record { made = 0; few = omega arith; came = c; ran = ran_before 0 b c c e (ran_none c); told = told; ends = without_room is; left = inl refl }
 
     -- a call that was not made is left out
     short_by : (n number : ℕ) (op : Op) (rest : List Task) (s r t : Stand g) → drop n xs ≡ record { number = number; op = op } ∷ rest → RetriedHere state p q s r → NotMade state p q op r t → Stops state p q xs n s t × IsRest xs n rest

@@ -19,7 +19,7 @@ use Rattle.sock_open.specs.Made.{IsNewSeat}
 use Rattle.corr_id.specs.Seats.{Sits, IsFree}
 use Rattle.rpc_client.specs.declared.holding.Held.{Held}
 use Rattle.rpc_client.specs.declared.acting.Client.{Client}
-use Rattle.rpc_client.specs.Seats.{MayAct, AtRest, SameRefs}
+use Rattle.rpc_client.specs.Seats.{Idle, MayAct, AtRest, SameRefs}
 use Rattle.rpc_client.specs.Holding.{is_there, IsHolder, HeldBy, DroppedBy}
 use Rattle.rpc_client.specs.Acting.{OwnList}
 use Rattle.rpc_client.proofs.Counting.{holder_same}
@@ -86,6 +86,12 @@ module _ {O : Type 0} {g : Ghosts O} (z : TableId) (p : Plan) (y : TableId) wher
   pub same_passes : (c d : Caller O g) → d.passes ≡ c.passes → All (IsPass z p) c.passes.items → All (IsPass z p) d.passes.items
   same_passes c d e all = subst (λ l. All (IsPass z p) l.items) (sym e) all
 
+  pub same_sent : (c d : Caller O g) → d.sent ≡ c.sent → d.seat.me.0.lists ≡ c.seat.me.0.lists → OwnList c.sent c.seat.me.0 → OwnList d.sent d.seat.me.0
+  same_sent c d sent lists own = subst (λ k. OwnList k d.seat.me.0) (sym sent) (own_still c.sent c.seat.me.0 d.seat.me.0 lists own)
+
+  pub same_ids : (c d : Caller O g) → d.calls ≡ c.calls → HasNoLock y c.calls → HasNoLock y d.calls
+  same_ids c d calls ids = subst (λ k. HasNoLock y k) (sym calls) ids
+
   -- behind one that changes them
   pub held_go : (n : ℕ) (c d : Caller O g) → MayGo z p y n c → AtRest z p c.seat d.seat → IsHolder p d.held.items d.seat.me.0 → length d.held.items ≤ length c.held.items + 1 → d.passes ≡ c.passes → d.seat.me.0.lists ≡ c.seat.me.0.lists → d.sent ≡ c.sent → d.calls ≡ c.calls → MayGo z p y (n + 1) d
   held_go n c d go rest holder few passes lists sent calls = record {
@@ -93,17 +99,17 @@ module _ {O : Type 0} {g : Ghosts O} (z : TableId) (p : Plan) (y : TableId) wher
     holder = holder;
     passes = same_passes c d passes go.passes;
     few = (let a = go.few in omega arith);
-    own = subst (λ k. OwnList k d.seat.me.0) (sym sent) (own_still c.sent c.seat.me.0 d.seat.me.0 lists go.own);
-    ids = subst (λ k. HasNoLock y k) (sym calls) go.ids;
+    own = same_sent c d sent lists go.own;
+    ids = same_ids c d calls go.ids;
   }
 
   -- behind one on calls alone
-  pub asked_go : (n : ℕ) (c d : Caller O g) → MayGo z p y n c → d.seat ≡ c.seat → d.held ≡ c.held → d.passes ≡ c.passes → d.sent ≡ c.sent → HasNoLock y d.calls → MayGo z p y (n + 1) d
-  asked_go n c d go seat held passes sent ids = record {
-    idle = subst (λ s. Rattle.rpc_client.specs.Seats.Idle z p s) (sym seat) go.idle;
-    holder = subst (λ s. IsHolder p d.held.items s.me.0) (sym seat) (subst (λ h. IsHolder p h.items c.seat.me.0) (sym held) go.holder);
+  pub same_go : (n m : ℕ) (c d : Caller O g) → MayGo z p y n c → n ≤ m → d.seat ≡ c.seat → d.held.items ≡ c.held.items → d.passes ≡ c.passes → d.sent ≡ c.sent → HasNoLock y d.calls → MayGo z p y m d
+  same_go n m c d go le seat held passes sent ids = record {
+    idle = subst (λ s. Idle z p s) (sym seat) go.idle;
+    holder = subst (λ s. IsHolder p d.held.items s.me.0) (sym seat) (subst (λ (h : List Held). IsHolder p h c.seat.me.0) (sym held) go.holder);
     passes = same_passes c d passes go.passes;
-    few = (let a = go.few in let b = ap (λ h. length h.items) held in omega arith);
+    few = (let a = go.few in let b = ap length held in omega arith);
     own = subst (λ k. OwnList k d.seat.me.0) (sym sent) (subst (λ s. OwnList c.sent s.me.0) (sym seat) go.own);
     ids = ids;
   }

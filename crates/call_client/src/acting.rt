@@ -46,6 +46,22 @@ fn open_next<O: Out>(caller: &mut Caller<O>, tables: &Tables<O>, name: u16, numb
     open_one(&tables.socks, &mut caller.seat, name, number, pass)
 }
 
+/// The letter of the send that is this operation.
+fn send_letter(number: u16, message: Message) -> Letter
+    ensures { result ≡ letter_of number message }
+{
+    Letter {
+        bytes: Parcel::Message(message),
+        label: Label {
+            client: 0,
+            operation: number,
+            attempt: 0,
+            place: 8 * u32::from(number),
+        },
+        owner: 0,
+    }
+}
+
 /// A message is sent.
 fn send_message<O: Out, R: Wait>(
     caller: &mut Caller<O>,
@@ -70,16 +86,7 @@ fn send_message<O: Out, R: Wait>(
     ensures seen { StaysSeen caller.old.seat.me.0 caller.new.seat.me.0 }
     ensures others { (caller.new.held ≡ caller.old.held) × (caller.new.passes ≡ caller.old.passes) × (caller.new.outcomes ≡ caller.old.outcomes) }
 {
-    let msg = Letter {
-        bytes: Parcel::Message(message),
-        label: Label {
-            client: 0,
-            operation: number,
-            attempt: 0,
-            place: 8 * u32::from(number),
-        },
-        owner: 0,
-    };
+    let msg = send_letter(number, message);
     caller.sent += 1;
     send_calling(
         rt,

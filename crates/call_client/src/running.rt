@@ -1,5 +1,5 @@
 // A client's run with calls.
-ghost use Rattle.std.specs.Prelude.{◌≡◌, ◌+◌, ◌<◌, ◌≤◌, ◌++◌, ℕ, [], true, false, Option, IfOk, IfErr, All, length, vec_capacity};
+ghost use Rattle.std.specs.Prelude.{◌≡◌, ◌+◌, ◌<◌, ◌≤◌, ◌++◌, ◌∷◌, ℕ, [], true, false, Option, IfOk, IfErr, All, length, vec_capacity};
 ghost use Rattle.std.specs.Result.{is_err};
 ghost use Rattle.sock_words.specs.declared.outcome.Outcome.{Outcome as AnOutcome};
 ghost use Rattle.sock_table.specs.Passes.{IsPass};
@@ -94,6 +94,25 @@ fn make<O: Out, R: Wait>(
     Ok(())
 }
 
+/// Whether no operation is left.
+fn is_done(tasks: &VecDeque<Task>) -> bool
+    ensures done { result ≡ true → tasks.now.items ≡ [] }
+    ensures next { result ≡ false → 0 < length tasks.now.items }
+{
+    tasks.is_empty()
+}
+
+/// The next operation.
+fn next_of(tasks: &mut VecDeque<Task>) -> Task
+    requires { 0 < length tasks.old.items }
+    ensures { tasks.old.items ≡ result ∷ tasks.new.items }
+{
+    let Some(task) = tasks.pop_front() else {
+        unreachable!();
+    };
+    task
+}
+
 /// The operations are made, one after the other, behind the gate, with the retries that wait before each of them and behind the
 /// last; until memory is wanting.
 fn make_all<O: Out, R: Wait, G: Gate>(
@@ -117,10 +136,12 @@ fn make_all<O: Out, R: Wait, G: Gate>(
 {
     let mut made = 0u16;
     'makes: loop {
-        be_ready(caller, rt, tables, made, tasks.is_empty())?;
-        let Some(task) = tasks.pop_front() else {
+        let last = is_done(tasks);
+        be_ready(caller, rt, tables, made, last)?;
+        if last {
             return Ok(());
-        };
+        }
+        let task = next_of(tasks);
         gate.pass(rt, of, made + 1);
         make(caller, rt, tables, made, task)?;
         made += 1;
@@ -157,11 +178,13 @@ fn make_some<O: Out, R: Wait, G: Gate>(
     ensures share { caller.new.seat.me.0.share ≡ caller.old.seat.me.0.share }
     ensures same { Stays caller.old.calls.seat caller.new.calls.seat }
 {
-    if make_room(caller, tasks.len()).is_err() {
-        caller.calls.starved = true;
-        return Err(NoMemory);
+    match make_room(caller, tasks.len()) {
+        Ok(()) => make_all(caller, rt, tables, of, tasks, gate),
+        Err(e) => {
+            caller.calls.starved = true;
+            Err(e)
+        }
     }
-    make_all(caller, rt, tables, of, tasks, gate)
 }
 
 /// The operations are made, until memory is wanting: then each call whose retry waits ends by that.

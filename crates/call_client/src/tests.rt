@@ -1,5 +1,6 @@
-ghost use Rattle.std.specs.Prelude.{◌≡◌, ◌≤◌, IfSome, length};
-ghost use Rattle.sock_open.specs.Made.{AreMade, AreNewSeats, PassesFrom};
+ghost use Rattle.std.specs.Prelude.{◌≡◌, ◌≤◌, false, IfSome, length};
+ghost use Rattle.sock_open.specs.Made.{AreMade, IsNewSeat, AreNewSeats, PassesFrom};
+ghost use Rattle.corr_id.specs.Seats.{Sits, IsFree};
 ghost use Rattle.corr_id.specs.Opening.{AreNew};
 ghost use Rattle.call_client.specs.Acting.{MayGo};
 ghost use Rattle.call_client.specs.Running.{MayMakeAll};
@@ -13,7 +14,7 @@ use sock_message::{BlockPool, Call};
 use sock_open::{Made, new_table};
 use sock_programs::{Op, Task};
 use sock_rule::SockSeat;
-use sock_table::LinkPass;
+use sock_table::{LinkPass, SockTable};
 use sock_words::{EFAILEDSOCKET, Outcome, Plan};
 use std::alloc::Global;
 use std::collections::VecDeque;
@@ -22,7 +23,7 @@ use std::sync::Wait;
 type Half = Shaped<MemOut>;
 
 /// The writing half of a link whose put of this number fails, or none for 0.
-fn half(alloc: Global, link: u16, fail: u64) -> Option<Half> {
+fn half(alloc: Global, link: u16, fail: u32) -> Option<Half> {
     let shape = Shape {
         piece: 8192,
         again: 0,
@@ -67,12 +68,32 @@ fn ids_of(alloc: Global) -> Option<(IdTable<Call>, Vec<IdSeat<Call>>)>
     }
 }
 
+/// The seat of the table of sockets.
+fn seat_of(table: &SockTable<Half>, mut seats: Vec<SockSeat<Half>>) -> Option<SockSeat<Half>>
+    requires { AreNewSeats table.now.rule.table.shared.table_id table.now.rule.plan seats.items }
+    ensures { IfSome result (λ s. IsNewSeat table.now.rule.table.shared.table_id table.now.rule.plan s) }
+{
+    let seat = seats.pop()?;
+    Some(seat)
+}
+
+/// And that of the table of ids.
+fn id_seat_of(ids: &IdTable<Call>, mut seats: Vec<IdSeat<Call>>) -> Option<IdSeat<Call>>
+    requires { AreNew ids.now.table.shared.table_id seats.items }
+    ensures { IfSome result (λ s. Sits ids.now.table.shared.table_id s × IsFree s.me.0) }
+{
+    match seats.pop() {
+        Some(seat) => Some(seat),
+        None => None,
+    }
+}
+
 /// A client with the seats. The link 1 is the first one that it opens.
 fn caller_of(
     alloc: Global,
     tables: &Tables<Half>,
-    mut seats: Vec<SockSeat<Half>>,
-    mut id_seats: Vec<IdSeat<Call>>,
+    seats: Vec<SockSeat<Half>>,
+    id_seats: Vec<IdSeat<Call>>,
     passes: Vec<LinkPass<Half>>,
 ) -> Option<Caller<Half>>
     requires seats { AreNewSeats tables.now.socks.rule.table.shared.table_id tables.now.socks.rule.plan seats.items }
@@ -82,8 +103,8 @@ fn caller_of(
     ensures passes { IfSome result (λ c. c.passes ≡ passes) }
     ensures fed { IfSome result (λ c. c.calls.starved ≡ false) }
 {
-    let seat = seats.pop()?;
-    let ids = id_seats.pop()?;
+    let seat = seat_of(&tables.socks, seats)?;
+    let ids = id_seat_of(&tables.ids, id_seats)?;
     Some(Caller::new(alloc, seat, ids, passes))
 }
 
