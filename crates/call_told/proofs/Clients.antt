@@ -135,17 +135,17 @@ joined_own q operation outcome.NotBegun s t h = refl
 joined_own q operation outcome.Joined s t h = refl
 joined_own q operation _ s t h = elim h [ ]
 
-module _ {O : Type 0} {g : Ghosts O} (state : O → OutState) (p : Plan) (q : id_plan.Plan) where
-  sent_own : (n : ℕ) (msg : Letter) (by : Maybe Outcome) (v : View) (s : CallStand) (w : View) (t : CallStand) → SentCalling state p q.slots n msg by v s w t → IsOwnBy by
-  sent_own n msg None v s w t h = tt
-  sent_own n msg (Some outcome.Unopened) v s w t h = refl
-  sent_own n msg (Some (outcome.Gone found)) v s w t h = refl
-  sent_own n msg (Some outcome.Full) v s w t h = refl
-  sent_own n msg (Some _) v s w t h = elim h [ ]
+sent_own : {O : Type 0} (state : O → OutState) (p : Plan) (slots n : ℕ) (msg : Letter) (by : Maybe Outcome) (v : View) (s : CallStand) (w : View) (t : CallStand) → SentCalling state p slots n msg by v s w t → IsOwnBy by
+sent_own state p slots n msg None v s w t h = tt
+sent_own state p slots n msg (Some outcome.Unopened) v s w t h = refl
+sent_own state p slots n msg (Some (outcome.Gone found)) v s w t h = refl
+sent_own state p slots n msg (Some outcome.Full) v s w t h = refl
+sent_own state p slots n msg (Some _) v s w t h = elim h [ ]
 
+module _ {O : Type 0} {g : Ghosts O} (state : O → OutState) (p : Plan) (q : id_plan.Plan) where
   acted_own : (number : ℕ) (op : Op) (by : Maybe Outcome) (s t : Stand g) → Acted state p q number op by s t → IsOwnBy by
   acted_own number (ops.Open n k) (Some by) s t h = opened_own p n number _ by s.me t.me h.0.opened
-  acted_own number (ops.Send n bytes) by s t h = sent_own n (letter_of number bytes) by s.me.0 s.calls t.me.0 t.calls h.0
+  acted_own number (ops.Send n bytes) by s t h = sent_own state p q.slots n (letter_of number bytes) by s.me.0 s.calls t.me.0 t.calls h.0
   acted_own number (ops.Call asked) (Some outcome.Unopened) s t h = refl
   acted_own number (ops.Call asked) None s t h = tt
   acted_own number (ops.Expire of) (Some by) s t h = expired_own q of by s.calls t.calls h.0
