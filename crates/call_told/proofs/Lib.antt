@@ -6,3 +6,4 @@ pub mod Ending
 pub mod Linked
 pub mod Clients
 pub mod Answering
+pub mod Backs
