@@ -1,6 +1,7 @@
 pub mod Lists
 pub mod Noting
 pub mod Given
+pub mod Counting
 pub mod Gains
 pub mod Ending
 pub mod Linked
