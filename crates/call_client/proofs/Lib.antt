@@ -1,0 +1,4 @@
+pub mod Knowing
+pub mod Coursing
+pub mod Leaving
+pub mod Going
