@@ -38,3 +38,6 @@ returns-clause-ran g c = let k = c.make_or_starve-made.ensures.came in let xs = 
   given = c.give_all.ensures.given;
   calls = refl;
 }
+
+pub returns-clause-id_share : goal.returns-clause-id_share
+returns-clause-id_share g c = run_share c.args.self.now (record c.leave_all.new.self { seat = c.give_all.new.seat; held = c.give_all.new.held }) (returns-clause-ran g c)
