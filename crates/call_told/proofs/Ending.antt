@@ -1,5 +1,5 @@
 -- How calls end for whoever meets frames, posts the end of a reading, and ends what is left.
-use Rattle.std.proofs.Common.{◌≡◌, ℕ, suc, Bool, true, false, List, [], ◌∷◌, ◌++◌, append_assoc, append-nil, ◌⊎◌, ⊎_elim, inl, inr, ◌+◌, ◌*◌, ◌<◌, arith, Some, None, refl, sym, ap, ◌∙◌, subst}
+use Rattle.std.proofs.Common.{◌≡◌, ℕ, suc, Bool, true, false, List, [], ◌∷◌, ◌++◌, append_assoc, append-nil, ◌⊎◌, inl, inr, Some, None, refl, sym, ap, ◌∙◌, subst}
 use Rattle.std.specs.Prelude.{Option, slice_get, position, ◌==◌}
 use Rattle.std.proofs.lemmas.List.Quantifiers.{position-Some}
 use Rattle.sock_words.specs.Words.{at_word_link}
@@ -7,7 +7,6 @@ use Rattle.sock_words.specs.declared.at_word.AtWord.{AtWord}
 use Rattle.sock_words.specs.declared.outcome.Outcome.{Outcome}
 use Rattle.sock_words.specs.declared.outcome.Outcome.TheVariants.{CallFailed}
 use Rattle.corr_core.specs.Word.{Parts, parts}
-use Rattle.corr_core.specs.Law.{only}
 use Rattle.corr_core.specs.declared.marks.Note.TheVariants.{Ended}
 use Rattle.corr_core.specs.declared.marks.Plan.{Plan}
 use Rattle.corr_core.specs.declared.marks.View.{View}
@@ -16,7 +15,6 @@ use Rattle.corr_id.specs.declared.posts.Posted.{Posted}
 use Rattle.corr_id.specs.declared.posts.Posted.TheVariants.{Locked as HasLock, Queued as IsQueued, Gone, Stale, Crowded}
 use Rattle.corr_id.specs.Calls.{GotLock, one, slot_of}
 use Rattle.corr_id.specs.Posts.{PostOk}
-use Rattle.corr_id.proofs.Seats.{total_append}
 use Rattle.sock_message.specs.Asked.{Asked}
 use Rattle.prpc_frame.specs.Meaning.{frame_of}
 use Rattle.prpc_frame.specs.declared.frame.Frame.{Frame}
@@ -29,9 +27,7 @@ use Rattle.rpc_reader.specs.Resting.{HadEnded, EndedLast, OneEnded, RestEnded}
 use Rattle.rpc_reader.proofs.Frames.{asked_responds}
 use Rattle.call_told.specs.Answers.{IsGiven, AreGiven, IsLossCode, EndedBy, by_code, by_response, ToldFrom, TellsFrom}
 use Rattle.call_told.proofs.Lists.{all_both, all_but, all_at, all_then, elem_or}
-use Rattle.call_told.specs.Counts.{ends_id, told_of, Tallies, AreTallied}
-use Rattle.call_told.proofs.Noting.{Later, later_then, did_later, became_did, ended_later, has_ended}
-use Rattle.call_told.proofs.Counting.{Still, still_same, quiet_still, lock_still, post_still, version_low, ended_counts, ending_names}
+use Rattle.call_told.proofs.Noting.{Later, later_same, later_then, quiet_later, did_later, became_did, post_later, ended_later, has_ended}
 use Rattle.call_told.proofs.Given.{given_response, for_is}
 
 module _ (links : ℕ) (gave : ℕ → List ℕ) where
@@ -41,22 +37,14 @@ module _ (links : ℕ) (gave : ℕ → List ℕ) where
   -- from these books to those, whatever was kept before
   pub record Step (b b' : Books) : Type 0 where
     pub later : Later b.view b'.view
-    pub starves : b.starved ≡ true → b'.starved ≡ true
-    pub counts : AreTallied b b'
     pub tells : GivenAll b.early → TellsFrom links gave b b'
 
   told_later : (u v : View Asked) → Later u v → (x : Told) → ToldFrom links gave u x → ToldFrom links gave v x
   told_later u v l x t = record { slot = t.slot; word = t.word; call = t.call; lock = ended_later t.slot t.word t.call u v l t.lock; number = t.number; by = t.by }
 
-  tallied_then : (a b c : Books) → Tallies a b → AreTallied b c → AreTallied a c
-  tallied_then a b c h (inl k) = inl k
-  tallied_then a b c h (inr k) = inr (λ i f fl. let x = h i f fl in let y = k i f fl in omega arith)
-
   pub step_then : (a b c : Books) → Step a b → Step b c → Step a c
   step_then a b c s t = record {
     later = later_then a.view b.view c.view s.later t.later;
-    starves = λ h. t.starves (s.starves h);
-    counts = ⊎_elim (λ h. inl (t.starves h)) (λ h. tallied_then a b c h t.counts) s.counts;
     tells = λ given. let x = s.tells given in let y = t.tells x.early in record {
       more = x.more ++ y.more;
       told = y.told ∙ ap (λ (l : List Told). l ++ y.more) x.told ∙ append_assoc a.told x.more y.more;
@@ -66,39 +54,25 @@ module _ (links : ℕ) (gave : ℕ → List ℕ) where
   }
 
   -- nothing was told
-  step_quiet : (b b' : Books) → Still b.view b'.view → b'.told ≡ b.told → (b.starved ≡ true → b'.starved ≡ true) → (GivenAll b.early → GivenAll b'.early) → Step b b'
-  step_quiet b b' l e s f = record { later = l.later; starves = s; counts = inr (λ i g gl. let x = ap (told_of (i * 4294967296 + g)) e in let y = l.same i g in omega arith); tells = λ given. record { more = []; told = e ∙ sym (append-nil b.told); each = tt; early = f given } }
+  step_quiet : (b b' : Books) → Later b.view b'.view → b'.told ≡ b.told → (GivenAll b.early → GivenAll b'.early) → Step b b'
+  step_quiet b b' l e f = record { later = l; tells = λ given. record { more = []; told = e ∙ sym (append-nil b.told); each = tt; early = f given } }
 
   pub step_same : (b b' : Books) → b' ≡ b → Step b b'
-  step_same b b' e = step_quiet b b' (still_same b.view b'.view (ap (λ (x : Books). x.view.notes) e)) (ap (λ (x : Books). x.told) e) (λ h. ap (λ (x : Books). x.starved) e ∙ h) (subst (λ (x : Books). GivenAll x.early) (sym e))
+  step_same b b' e = step_quiet b b' (later_same b.view b'.view (ap (λ (x : Books). x.view.notes) e)) (ap (λ (x : Books). x.told) e) (subst (λ (x : Books). GivenAll x.early) (sym e))
 
   -- only the view is another
-  step_seen : (b : Books) (v : View Asked) → Still b.view v → Step b (record b { view = v })
-  step_seen b v l = step_quiet b (record b { view = v }) l refl (λ h. h) (λ given. given)
+  step_seen : (b : Books) (v : View Asked) → Later b.view v → Step b (record b { view = v })
+  step_seen b v l = step_quiet b (record b { view = v }) l refl (λ given. given)
 
   -- a call ended for which the seat has the lock
-  ended_step : (slot : ℕ) (w : Parts) (call : Asked) (by : Outcome) (u : View Asked) (word : ℕ) (b b' : Books) → GotLock slot u b.view word w call → w.first < 4294967296 → ((id : ℕ) → ends_id id by ≡ only id (id_of slot w)) → EndedAs slot w call by b b' → (GivenAll b.early → EndedBy links gave slot w by × GivenAll b'.early) → Step b b'
-  ended_step slot w call by u word b b' got low names e f = record {
-    starves = starves e.told;
-    counts = counts e.told;
+  ended_step : (slot : ℕ) (w : Parts) (call : Asked) (by : Outcome) (u : View Asked) (word : ℕ) (b b' : Books) → GotLock slot u b.view word w call → EndedAs slot w call by b b' → (GivenAll b.early → EndedBy links gave slot w by × GivenAll b'.early) → Step b b'
+  ended_step slot w call by u word b b' got e f = record {
     later = did_later slot b.view b'.view [] _ (became_did slot b.view b'.view [] (one slot (Ended w.first)) e.ended);
     tells = λ given. let h = f given in tells h.0 h.1 e.told;
   }
     where
       now : Told
       now = record { number = call.operation; outcome = by }
-
-      starves : ToldBy call.operation by b.told b.starved b'.told b'.starved → b.starved ≡ true → b'.starved ≡ true
-      starves (inl t) h = t.1 ∙ h
-      starves (inr t) h = t.1
-
-      counts : ToldBy call.operation by b.told b.starved b'.told b'.starved → AreTallied b b'
-      counts (inr t) = inl t.1
-      counts (inl t) = inr (λ i f fl.
-          let id = i * 4294967296 + f in
-          let x : told_of id b'.told ≡ told_of id b.told + (ends_id id by + 0) = ap (told_of id) t.0 ∙ total_append (λ (y : Told). ends_id id y.outcome) b.told (now ∷ []) in
-          let y = ended_counts slot w b.view b'.view low e.ended i f fl in
-          let z = names id in omega arith)
 
       tells : EndedBy links gave slot w by → GivenAll b'.early → ToldBy call.operation by b.told b.starved b'.told b'.starved → TellsFrom links gave b b'
       tells why early (inl t) = record {
@@ -115,8 +89,8 @@ module _ (links : ℕ) (gave : ℕ → List ℕ) where
     answered_step : AnsweredBy slots f b b' → Step b b'
     answered_step a =
         let u : Books = record b { view = a.locked } in
-        step_then b u b' (step_seen b a.locked (lock_still (slot_in f) b.view a.locked a.found a.word a.call a.got))
-        (ended_step (slot_in f) a.word a.call (ending_of (id_of (slot_in f) a.word) (frame_of f)) b.view a.found u b' a.got (let x = a.version.0 in let y = version_low f.meta.correlation_id in omega arith) (λ id. ending_names id (id_of (slot_in f) a.word) (frame_of f)) a.ended
+        step_then b u b' (step_seen b a.locked (did_later (slot_in f) b.view a.locked _ _ a.got.did))
+        (ended_step (slot_in f) a.word a.call (ending_of (id_of (slot_in f) a.word) (frame_of f)) b.view a.found u b' a.got a.ended
             (λ kept. (by_response (frame_of f) (given_response links gave (slot_in f) a.word f given refl a.version.0 a.version.1) refl, subst (λ (l : List Frame). GivenAll l) (sym a.early) kept)))
 
     kept_given : (c : Bool) → KeptIf c f b.early b.starved b'.early b'.starved → GivenAll b.early → GivenAll b'.early
@@ -124,13 +98,8 @@ module _ (links : ℕ) (gave : ℕ → List ℕ) where
     kept_given true (inr k) kept = subst (λ (l : List Frame). GivenAll l) (sym k.0) kept
     kept_given false k kept = subst (λ (l : List Frame). GivenAll l) (sym k.0) kept
 
-    starved_by : (c : Bool) → KeptIf c f b.early b.starved b'.early b'.starved → b.starved ≡ true → b'.starved ≡ true
-    starved_by true (inl k) h = k.1 ∙ h
-    starved_by true (inr k) h = k.1
-    starved_by false k h = k.1 ∙ h
-
     lacked_step : LackedBy f b b' → Step b b'
-    lacked_step l = step_quiet b b' (quiet_still b.view b'.view l.quiet) l.told (starved_by (is_early (version_in f) (parts l.word)) l.kept) (kept_given (is_early (version_in f) (parts l.word)) l.kept)
+    lacked_step l = step_quiet b b' (quiet_later b.view b'.view l.quiet) l.told (kept_given (is_early (version_in f) (parts l.word)) l.kept)
 
   frame_step : (slots : ℕ) (f : Frame) (b b' : Books) → (has_response f.meta.response ≡ true → IsGiven links gave (frame_of f)) → FrameMet slots f b b' → Step b b'
   frame_step slots f b b' given met = by (is_asked slots f) refl met
@@ -147,21 +116,21 @@ module _ (links : ℕ) (gave : ℕ → List ℕ) where
   -- ## Codes
 
   module _ (code : ℕ) (loss : IsLossCode code) where
-    lost_step : (slot : ℕ) (w : Parts) (call : Asked) (u : View Asked) (word : ℕ) (b b' : Books) → GotLock slot u b.view word w call → w.first < 4294967296 → LockLost slot w call code b b' → Step b b'
-    lost_step slot w call u word b b' got low lost = by (position (is_for slot w) b.early) refl lost
+    lost_step : (slot : ℕ) (w : Parts) (call : Asked) (u : View Asked) (word : ℕ) (b b' : Books) → GotLock slot u b.view word w call → LockLost slot w call code b b' → Step b b'
+    lost_step slot w call u word b b' got lost = by (position (is_for slot w) b.early) refl lost
       where
         by : (o : Option ℕ) → position (is_for slot w) b.early ≡ o → LostBy slot w call code o b b' → Step b b'
-        by None e l = ended_step slot w call (CallFailed (id_of slot w) code) u word b b' got low (λ id. refl) l.0 (λ kept. (by_code code loss refl, subst (λ (fs : List Frame). GivenAll fs) (sym l.1) kept))
+        by None e l = ended_step slot w call (CallFailed (id_of slot w) code) u word b b' got l.0 (λ kept. (by_code code loss refl, subst (λ (fs : List Frame). GivenAll fs) (sym l.1) kept))
         by (Some i) e l =
             let f = l.0 in
             let passes = (position-Some (is_for slot w) b.early i f e).1 in
             let is = for_is slot w f (ap (is_for slot w) (sym (elem_or b.early i f f l.1)) ∙ passes) in
-            ended_step slot w call (ending_of (id_of slot w) (frame_of f)) u word b b' got low (λ id. ending_names id (id_of slot w) (frame_of f)) l.3
+            ended_step slot w call (ending_of (id_of slot w) (frame_of f)) u word b b' got l.3
             (λ kept. (by_response (frame_of f) (given_response links gave slot w f (all_at (λ x. IsGiven links gave (frame_of x)) b.early i f kept l.1) is.0 is.1 is.2) refl,
                 subst (λ (fs : List Frame). GivenAll fs) (sym l.2) (all_but (λ x. IsGiven links gave (frame_of x)) i b.early kept)))
 
     posted_to : (slots : ℕ) (v : View Asked) (id : ℕ) (attempt : Option ℕ) (answer : Posted Asked) (b b' : Books) → PostOk slots v b.view id code attempt answer → PostedTo code answer b b' → Step b b'
-    posted_to slots v id attempt (HasLock k) b b' post h = lost_step k.slot (parts k.word.0) k.content v post.4.0 b b' post.4.1 (let x = post.2 in let y = version_low id in omega arith) h
+    posted_to slots v id attempt (HasLock k) b b' post h = lost_step k.slot (parts k.word.0) k.content v post.4.0 b b' post.4.1 h
     posted_to slots v id attempt IsQueued b b' post h = step_same b b' h
     posted_to slots v id attempt (Gone found) b b' post h = step_same b b' h
     posted_to slots v id attempt (Stale current) b b' post h = step_same b b' h
@@ -171,14 +140,14 @@ module _ (links : ℕ) (gave : ℕ → List ℕ) where
     posted_if false slots w b b' h = step_same b b' h
     posted_if true slots w b b' h =
         let u : Books = record b { view = h.seen } in
-        step_then b u b' (step_seen b h.seen (post_still slots b.view h.seen (call_at w) code (attempt_at w) h.answer h.posted)) (posted_to slots b.view (call_at w) (attempt_at w) h.answer u b' h.posted h.then_)
+        step_then b u b' (step_seen b h.seen (post_later slots b.view h.seen (call_at w) code (attempt_at w) h.answer h.posted)) (posted_to slots b.view (call_at w) (attempt_at w) h.answer u b' h.posted h.then_)
 
     posted_at : (p : Plan) (link operation : ℕ) (found : Option AtWord) (b b' : Books) → PostedAt p link code operation found b b' → Step b b'
     posted_at p link operation None b b' h = step_same b b' h
     posted_at p link operation (Some w) b b' h =
         let v = with_kept (at_word p operation) false w.0 b.view in
         let u : Books = record b { view = v } in
-        step_then b u b' (step_seen b v (still_same b.view v refl)) (posted_if (at_word_link w.0 == link) p.slots w.0 u b' h)
+        step_then b u b' (step_seen b v (later_same b.view v refl)) (posted_if (at_word_link w.0 == link) p.slots w.0 u b' h)
 
     pub posted_all : (p : Plan) (link : ℕ) (os : List ℕ) (b b' : Books) → PostedAll p link code os b b' → Step b b'
     posted_all p link [] b b' h = step_same b b' h
@@ -191,10 +160,10 @@ module _ (links : ℕ) (gave : ℕ → List ℕ) where
     rest_one p operation v w b b' (inr n) = by n.ends
       where
         by : HadEnded p.slots n.id b b' ⊎ EndedLast p.slots code n.id b b' → Step b b'
-        by (inl h) = step_quiet b b' (quiet_still b.view b'.view h.quiet) (ap (λ (x : Books). x.told) h.same) (λ s. ap (λ (x : Books). x.starved) h.same ∙ s) (subst (λ (l : List Frame). GivenAll l) (sym (ap (λ (x : Books). x.early) h.same)))
+        by (inl h) = step_quiet b b' (quiet_later b.view b'.view h.quiet) (ap (λ (x : Books). x.told) h.same) (subst (λ (l : List Frame). GivenAll l) (sym (ap (λ (x : Books). x.early) h.same)))
         by (inr l) =
             let u : Books = record b { view = l.locked } in
-            step_then b u b' (step_seen b l.locked (lock_still (slot_of n.id) b.view l.locked l.found l.word l.call l.got)) (lost_step (slot_of n.id) l.word l.call b.view l.found u b' l.got (let x = l.range.0 in let y = version_low n.id in omega arith) l.lost)
+            step_then b u b' (step_seen b l.locked (did_later (slot_of n.id) b.view l.locked _ _ l.got.did)) (lost_step (slot_of n.id) l.word l.call b.view l.found u b' l.got l.lost)
 
     pub rest_step : (p : Plan) (os : List ℕ) (v w : View Asked) (b b' : Books) → RestEnded p code os v w b b' → Step b b'
     rest_step p [] v w b b' h = step_same b b' h.1

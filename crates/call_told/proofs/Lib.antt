@@ -1,7 +1,6 @@
 pub mod Lists
 pub mod Noting
 pub mod Given
-pub mod Counting
 pub mod Gains
 pub mod Ending
 pub mod Linked

@@ -15,7 +15,6 @@ use Rattle.rpc_reader.specs.Reading.{code_of}
 use Rattle.rpc_reader.specs.Linked.{ReadServed, ReadLinks}
 use Rattle.rpc_reader.specs.Resting.{RestEnded}
 use Rattle.call_told.specs.Answers.{IsGiven, AreGiven, IsLossCode, at_end, at_fault, at_want, TellsFrom, GaveBetween, AnsweredFrom}
-use Rattle.call_told.specs.Counts.{AreTallied}
 use Rattle.call_told.proofs.Lists.{some_same}
 use Rattle.call_told.proofs.Given.{given_by}
 use Rattle.call_told.proofs.Gains.{Gains, gains_then, gains_settled, gains_read, gains_tell, met_bytes, rest_bytes}
@@ -113,15 +112,6 @@ module _ {O I P : Type 0} (out : O → OutState) (inn : I → InState) (q : ids.
       between = gave_between;
       tells = (step_then (length es) gave_by b m b' (links_step (length es) gave_by 0 es es' b m r (λ f g. g)) (rest_step (length es) gave_by code loss q os v w m b' rest)).tells (subst (λ (l : List Frame). AreGiven (length es) gave_by l) (sym e) tt);
     }
-
--- what is told is what was ended: of each id as often, unless memory is wanting
-module _ {O I P : Type 0} (out : O → OutState) (inn : I → InState) (q : ids.Plan) (calls : List ℕ) (es es' : List (Ends O I P)) (b m : Books) (r : ReadLinks out inn q calls 0 es es' b m) where
-  pub read_tallied : AreTallied b m
-  read_tallied = (links_step out inn q calls (length es) (gave_by out inn q calls es es' b m r) 0 es es' b m r (λ f g. g)).counts
-
-  pub all_tallied : (code : ℕ) (os : List ℕ) (v w : View Asked) (b' : Books) → IsLossCode code → RestEnded q code os v w m b' → AreTallied b b'
-  all_tallied code os v w b' loss rest = let n = length es in let gave = gave_by out inn q calls es es' b m r in
-      (step_then n gave b m b' (links_step out inn q calls n gave 0 es es' b m r (λ f g. g)) (rest_step n gave code loss q os v w m b' rest)).counts
 
 -- what was left of calls was ended with this code, with responses kept that those links gave
 pub rest_told : (links : ℕ) (gave : ℕ → List ℕ) (q : ids.Plan) (code : ℕ) (os : List ℕ) (v w : View Asked) (b b' : Books) → IsLossCode code → RestEnded q code os v w b b' → AreGiven links gave b.early → TellsFrom links gave b b'
