@@ -14,7 +14,6 @@ use Rattle.sock_words.specs.declared.outcome.Outcome.TheVariants as outcome
 use Rattle.sock_model.specs.Layout.{name_word}
 use Rattle.sock_table.specs.Named.{HasSeen}
 use Rattle.corr_core.specs.declared.marks.Plan as id_plan
-use Rattle.sock_message.specs.Asked.{Asked}
 use Rattle.sock_programs.specs.declared.task.Op.{Op}
 use Rattle.sock_programs.specs.declared.task.Op.TheVariants as ops
 use Rattle.sock_programs.specs.declared.task.Task.{Task}
@@ -24,8 +23,8 @@ use Rattle.call_errors.specs.Books.{stand_of}
 use Rattle.call_errors.specs.Starving.{StarvedBy}
 use Rattle.call_attempts.specs.Both.{wanting}
 use Rattle.call_client.specs.declared.caller.Caller.{Caller}
-use Rattle.call_client.specs.Acting.{Stand, stand, KeepsOwn, MayMake, Acted}
-use Rattle.call_client.specs.Running.{names_in, Course, RetriedHere, Made, Ran, NotCalled, Stops, without_room, while_calling, begins, RanTo, left_by, MayMakeAll, LeftBy, LeftAll, EndsBy}
+use Rattle.call_client.specs.Acting.{Stand, stand, MayMake, Acted}
+use Rattle.call_client.specs.Running.{names_in, Course, RetriedHere, Ran, Stops, without_room, while_calling, begins, RanTo, left_by, MayMakeAll, LeftBy, LeftAll, EndsBy}
 use Rattle.call_client.specs.Making.{NotMade, IsRest, ComesTo, CameBy}
 use Rattle.call_client.proofs.Knowing.{acted_known, unopened_new}
 

@@ -15,7 +15,6 @@ use Rattle.sock_words.specs.Words.{socket_id_slot}
 use Rattle.sock_model.specs.declared.view.View.{View}
 use Rattle.sock_model.specs.Layout.{name_word}
 use Rattle.sock_rule.specs.declared.homes.Letter.{Letter}
-use Rattle.sock_rule.specs.declared.homes.SockHome.{SockHome}
 use Rattle.sock_table.specs.Named.{HasSeen, Found}
 use Rattle.sock_table.specs.declared.refs.SockRef.{SockRef}
 use Rattle.corr_core.specs.declared.marks.Plan as id_plan

@@ -1,4 +1,4 @@
-use Rattle.std.proofs.Common.{◌≡◌, ℕ, ◌+◌, ◌<◌, ◌≤◌, refl, sym, subst, ap, arith}
+use Rattle.std.proofs.Common.{ℕ, ◌+◌, refl, sym, subst, ap, arith}
 use Rattle.std.specs.Prelude.{IfOk, IfErr}
 use Rattle.sock_programs.specs.declared.task.Op.{Op}
 use Rattle.sock_programs.specs.declared.task.Op.TheVariants as ops

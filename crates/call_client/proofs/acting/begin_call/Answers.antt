@@ -1,4 +1,4 @@
-use Rattle.std.proofs.Common.{◌≡◌, ◌+◌, ◌<◌, refl, subst}
+use Rattle.std.proofs.Common.{◌+◌, refl, subst}
 use Rattle.call_attempts.specs.Calling.{CalledBy}
 use Rattle.call_attempts.proofs.Leaving.{err_by}
 use Rattle.call_client.specs.Acting.{stand, both_of}

@@ -1,4 +1,4 @@
-use Rattle.std.proofs.Common.{◌≤◌, true, inr, refl, arith}
+use Rattle.std.proofs.Common.{true, inr, refl, arith}
 use Rattle.call_attempts.specs.Retrying.{RanOut, before_next}
 use Rattle.call_attempts.specs.Both.{both}
 use Rattle.call_attempts.proofs.Leaving.{err_by}

@@ -1,4 +1,4 @@
-use Rattle.std.proofs.Common.{◌≡◌, ◌∷◌, ◌∙◌, [], length, sym, subst, refl}
+use Rattle.std.proofs.Common.{◌≡◌, ◌∷◌, ◌∙◌, length, sym, subst}
 use Rattle.std.specs.Prelude.{List}
 use Rattle.sock_programs.specs.declared.task.Task.{Task}
 use Rattle.rpc_client.proofs.Counting.{refs_then}

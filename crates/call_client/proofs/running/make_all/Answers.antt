@@ -1,5 +1,4 @@
-use Rattle.std.proofs.Common.{◌≡◌, ◌≢◌, ℕ, suc, ◌+◌, ◌<◌, ◌≤◌, ◌∷◌, [], add-one, drop, length, vec_capacity, true, inl, ap, ◌∙◌, sym, subst, refl, arith}
-use Rattle.sock_programs.specs.declared.task.Task.{Task}
+use Rattle.std.proofs.Common.{◌≡◌, ℕ, ◌+◌, add-one, drop, length, vec_capacity, true, inl, ap, ◌∙◌, sym, subst, refl, arith}
 use Rattle.rpc_client.proofs.Coursing.{told_room}
 use Rattle.call_attempts.proofs.Leaving.{err_by}
 use Rattle.call_client.specs.Acting.{stand}

@@ -1,4 +1,4 @@
-use Rattle.std.proofs.Common.{◌≡◌, ◌≤◌, ◌∙◌, length, refl, arith}
+use Rattle.std.proofs.Common.{◌∙◌, length, refl, arith}
 use Rattle.call_errors.specs.Books.{stand_of}
 use Rattle.call_client.proofs.Coursing.{starved_then, all_then}
 use Rattle.call_client.proofs.Going.{same_go}

@@ -1,4 +1,4 @@
-use Rattle.std.proofs.Common.{◌≡◌, ◌≤◌, true, false, length, ap, sym, subst, refl, arith}
+use Rattle.std.proofs.Common.{true, false, length, sym, subst, refl, arith}
 use Rattle.call_attempts.specs.Both.{HasNoLock}
 use Rattle.call_client.specs.Making.{ComesTo, CameBy}
 use Rattle.call_client.proofs.Coursing.{ok_then, err_then, begins_same, came_before, roomless}

@@ -1,13 +1,9 @@
-use Rattle.std.proofs.Common.{◌≡◌, ◌∙◌, [], length, sym, subst, refl}
-use Rattle.std.specs.Result.{is_err}
+use Rattle.std.proofs.Common.{◌≡◌, ◌∙◌, [], sym, subst, refl}
 use Rattle.corr_id.specs.Seats.{Stays}
 use Rattle.rpc_client.specs.Holding.{IsHolder}
 use Rattle.rpc_client.proofs.Counting.{holder_same}
-use Rattle.call_errors.specs.Books.{stand_of}
 use Rattle.call_attempts.specs.Both.{HasNoLock}
-use Rattle.call_client.specs.declared.caller.Caller.{Caller}
 use Rattle.call_client.specs.Acting.{stand}
-use Rattle.call_client.specs.Running.{RunBy}
 use Rattle.call_client.proofs.Coursing.{left_behind}
 use Rattle.call_client.proofs.Shares.{run_share}
 use Rattle.call_client.proofs.caller.Caller.run.Goals as goal
