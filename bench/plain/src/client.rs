@@ -1,39 +1,17 @@
-//! A client's seat, and that of the setup: one atomic step a tick. What no generated script comes to is left out: a socket
-//! that is failed, a put that fails, a message that is dropped, requests or slots that run out, retries, `hold`, `drop`,
-//! `fail`, `expire` and `join`.
+//! A client's seat, and that of the setup: one atomic step a tick. What no generated script comes to is left out: a
+//! socket that fails before the ending, a put that fails, a message that is dropped, slots or requests that run out,
+//! retries, `hold`, `drop`, `fail`, `expire`, `join`, and the lines of a schedule.
 use crate::frames::encode_request;
-use crate::links::Put;
 use crate::script::{Call, Task};
+use crate::sockets::{EndStep, OpenStep, Opening, ReleaseStep};
 use crate::table::*;
+use crate::writing::{HoldStep, WriteStep, Writer};
 use crate::Tick;
 use std::rc::Rc;
 
-const EEOF: u64 = 1_014;
-const LAST_VERSION: u64 = 4_294_967_292;
-
+/// The steps of a call before the look with which a send of its frame begins.
 #[derive(Clone, Copy)]
-struct Opening {
-    operation: u16,
-    name: u16,
-    link: u16,
-    slot: usize,
-    /// The version that it was born with.
-    version: u64,
-}
-
-#[derive(Clone, Copy)]
-enum OpenStep {
-    Claim,
-    StoreLink,
-    ResetHead,
-    WipeCode,
-    GiveBirth,
-    StoreOpen,
-    StoreName,
-}
-
-#[derive(Clone, Copy)]
-enum CallStep {
+pub enum CallStep {
     LoadName,
     ClaimId(usize),
     PutCall(usize),
@@ -44,9 +22,9 @@ enum CallStep {
     StoreAt(u64, u16),
 }
 
-/// The tickets in these are the seat's own.
+/// The first ticket in these is the seat's own.
 #[derive(Clone, Copy)]
-enum SendStep {
+pub enum SendStep {
     LoadName(u16),
     AddRef,
     Look,
@@ -55,65 +33,17 @@ enum SendStep {
     Unconnect(u64),
     SwapHead(u64),
     Connect(u64, u64),
-    FindLink(u64),
-    TakeHome(u64, u16),
-    TakeMessage(u64, u16, u32),
 }
 
-/// Who writes a link: it goes on up to the last ticket that it knows of.
+/// Where a seat stands: its next step, and what it needs for it, such as the id of its socket.
 #[derive(Clone, Copy)]
-struct Writer {
-    socket: u64,
-    link: u16,
-    last: u64,
-    placed: u32,
-}
-
-#[derive(Clone, Copy)]
-enum WriteStep {
-    Look(u64),
-    Put(u64),
-    Ask(u64),
-    StorePlace(u64),
-    ReadNext(u64),
-    Free(u64, Option<u64>),
-    TakeMessage(u64),
-    PutHome,
-    EmptyHead,
-    TakeHome(u64),
-    Walk { top: u64, at: u64, after: u64 },
-    Turn { top: u64, at: u64, after: u64, before: u64 },
-    TakeFirst { top: u64, at: u64 },
-}
-
-#[derive(Clone, Copy)]
-enum ReleaseStep {
-    SubRef,
-    Recycle(u64),
-    LoadLink(u64),
-    TakeLink(u64, u16),
-    FinishLink(u64, u16),
-    PutLink(u64, u16),
-    FreeSlot,
-}
-
-/// The ending of the socket of an `open`, by the setup's seat.
-#[derive(Clone, Copy)]
-enum EndStep {
-    LoadOpen(u16),
-    AddRef(u64),
-    SetOdd(u64),
-    StoreCode(u64),
-    SubRef(u64),
-}
-
-#[derive(Clone, Copy)]
-enum Point {
+pub enum Point {
     Rest,
     Open(Opening, OpenStep),
     Call(u64, CallStep),
     Send(u64, SendStep),
     Write(Writer, WriteStep),
+    Hold(Writer, HoldStep),
     Release(usize, ReleaseStep),
     End(EndStep),
 }
@@ -122,12 +52,12 @@ pub struct Client {
     tasks: std::vec::IntoIter<Task>,
     /// The `open`s that it has still to end.
     ending: std::vec::IntoIter<u16>,
-    point: Point,
+    pub point: Point,
     call: Option<Rc<Call>>,
-    /// What it sends, before it lies at the home of a request.
+    /// What it sends, until it lies at the home of a request.
     message: Option<Letter>,
     /// What it writes.
-    out: Option<Letter>,
+    pub out: Option<Letter>,
 }
 
 impl Client {
@@ -144,7 +74,7 @@ impl Client {
         self.go_on();
     }
 
-    fn go_on(&mut self) {
+    pub fn go_on(&mut self) {
         self.point = match self.tasks.next() {
             Some(Task::Open { operation, name, link }) => {
                 Point::Open(Opening { operation, name, link, slot: 0, version: 0 }, OpenStep::Claim)
@@ -170,55 +100,14 @@ impl Client {
             Point::Open(opening, step) => self.open(table, opening, step),
             Point::Call(socket, step) => self.call(table, socket, step),
             Point::Send(socket, step) => self.send(table, socket, step),
-            Point::Write(writer, step) => return self.write(table, writer, step),
+            Point::Write(writer, step) => self.write(table, writer, step),
+            Point::Hold(writer, step) => return self.hold(table, writer, step),
             Point::Release(slot, step) => self.release(table, slot, step),
             Point::End(step) => self.end_socket(table, step),
         }
         Tick::Moved
     }
 
-    fn open(&mut self, table: &mut Table, mut opening: Opening, step: OpenStep) {
-        let Opening { operation, name, link, slot, version } = opening;
-        let word = (version << 32 | slot as u64) + 1;
-        let next = match step {
-            OpenStep::Claim => {
-                if swap(table.slot(slot, Part::Tag), 1) == 0 {
-                    OpenStep::StoreLink
-                } else {
-                    opening.slot += 1;
-                    OpenStep::Claim
-                }
-            }
-            OpenStep::StoreLink => {
-                *table.slot(slot, Part::Link) = u64::from(link);
-                OpenStep::ResetHead
-            }
-            OpenStep::ResetHead => {
-                *table.slot(slot, Part::Head) = IDLE;
-                OpenStep::WipeCode
-            }
-            OpenStep::WipeCode => {
-                *table.slot(slot, Part::Code) = 0;
-                OpenStep::GiveBirth
-            }
-            OpenStep::GiveBirth => {
-                opening.version = version_of(fetch_add(table.slot(slot, Part::Vref), 1));
-                OpenStep::StoreOpen
-            }
-            OpenStep::StoreOpen => {
-                *table.open(operation) = word;
-                OpenStep::StoreName
-            }
-            OpenStep::StoreName => {
-                *table.name(name) = word;
-                table.tell(operation, Outcome::Opened { slot, version, link });
-                return self.go_on();
-            }
-        };
-        self.point = Point::Open(opening, next);
-    }
-
-    /// A call up to the look with which a send of its frame begins.
     fn call(&mut self, table: &mut Table, mut socket: u64, step: CallStep) {
         let call = self.call.as_ref().unwrap();
         let next = match step {
@@ -226,13 +115,8 @@ impl Client {
                 socket = *table.name(call.name) - 1;
                 CallStep::ClaimId(0)
             }
-            CallStep::ClaimId(slot) => {
-                if swap(&mut table.ids.tags[slot], 1) == 0 {
-                    CallStep::PutCall(slot)
-                } else {
-                    CallStep::ClaimId(slot + 1)
-                }
-            }
+            CallStep::ClaimId(slot) if swap(&mut table.ids.tags[slot], 1) != 0 => CallStep::ClaimId(slot + 1),
+            CallStep::ClaimId(slot) => CallStep::PutCall(slot),
             CallStep::PutCall(slot) => {
                 table.ids.homes[slot] = Some(call.clone());
                 CallStep::MakeId(slot)
@@ -248,7 +132,7 @@ impl Client {
                 CallStep::AddRef(id)
             }
             CallStep::AddRef(id) => {
-                reached(table, socket);
+                table.reach(socket);
                 CallStep::FindLink(id)
             }
             CallStep::FindLink(id) => CallStep::StoreAt(id, *table.slot(slot_of(socket), Part::Link) as u16),
@@ -269,14 +153,17 @@ impl Client {
                 SendStep::AddRef
             }
             SendStep::AddRef => {
-                reached(table, socket);
+                table.reach(socket);
                 SendStep::Look
             }
             SendStep::Look => {
                 table.look(socket);
                 SendStep::Claim(0)
             }
-            SendStep::Claim(request) => claim(table, request),
+            SendStep::Claim(request) => match fetch_or(table.request(request), 1) {
+                found if found % 2 == 0 => SendStep::PutMessage(ticket(found / 2, request)),
+                _ => SendStep::Claim(request + 1),
+            },
             SendStep::PutMessage(own) => {
                 *table.letter(own) = self.message.take();
                 SendStep::Unconnect(own)
@@ -285,176 +172,18 @@ impl Client {
                 *table.next(own) = UNCONNECTED;
                 SendStep::SwapHead(own)
             }
-            SendStep::SwapHead(own) => {
-                let found = swap(table.slot(slot, Part::Head), own);
-                if found & IDLE != 0 { SendStep::FindLink(own) } else { SendStep::Connect(own, found) }
-            }
+            SendStep::SwapHead(own) => match swap(table.slot(slot, Part::Head), own) {
+                found if found & IDLE == 0 => SendStep::Connect(own, found),
+                _ => return self.hold_first(socket, own),
+            },
             SendStep::Connect(own, before) => {
                 *table.next(own) = before;
                 self.point = Point::Release(slot, ReleaseStep::SubRef);
                 return;
             }
-            SendStep::FindLink(own) => SendStep::TakeHome(own, *table.slot(slot, Part::Link) as u16),
-            SendStep::TakeHome(own, link) => SendStep::TakeMessage(own, link, table.take_home(link)),
-            SendStep::TakeMessage(own, link, placed) => {
-                self.out = table.letter(own).take();
-                self.point = Point::Write(Writer { socket, link, last: own, placed }, WriteStep::Look(own));
-                return;
-            }
         };
         self.point = Point::Send(socket, next);
     }
-
-    fn write(&mut self, table: &mut Table, mut writer: Writer, step: WriteStep) -> Tick {
-        let slot = slot_of(writer.socket);
-        let next = match step {
-            WriteStep::Look(now) => {
-                table.look(writer.socket);
-                WriteStep::Put(now)
-            }
-            WriteStep::Put(now) => self.put(table, writer.link, now),
-            // A link in memory always takes more.
-            WriteStep::Ask(now) => WriteStep::Look(now),
-            WriteStep::StorePlace(now) => self.place(table, &mut writer, now),
-            WriteStep::ReadNext(now) => WriteStep::Free(now, Some(*table.next(now))),
-            WriteStep::Free(now, next) => {
-                *table.request(request_of(now)) = (generation_of(now) + 1) << 1;
-                next.map_or(WriteStep::PutHome, WriteStep::TakeMessage)
-            }
-            WriteStep::TakeMessage(now) => self.take_message(table, now),
-            WriteStep::PutHome => {
-                table.put_home(writer.link, writer.placed);
-                WriteStep::EmptyHead
-            }
-            WriteStep::EmptyHead => {
-                let found = compare_exchange(table.slot(slot, Part::Head), writer.last, IDLE | writer.last);
-                if found == writer.last {
-                    self.point = Point::Release(slot, ReleaseStep::SubRef);
-                    return Tick::Moved;
-                }
-                WriteStep::TakeHome(found)
-            }
-            WriteStep::TakeHome(top) => {
-                writer.placed = table.take_home(writer.link);
-                WriteStep::Walk { top, at: top, after: 0 }
-            }
-            WriteStep::Walk { top, at, after } => match *table.next(at) {
-                UNCONNECTED => return Tick::Waits,
-                before => WriteStep::Turn { top, at, after, before },
-            },
-            WriteStep::Turn { top, at, after, before } => {
-                *table.next(at) = after;
-                if before == writer.last { WriteStep::TakeFirst { top, at } } else { WriteStep::Walk { top, at: before, after: at } }
-            }
-            WriteStep::TakeFirst { top, at } => {
-                writer.last = top;
-                self.take_message(table, at)
-            }
-        };
-        self.point = Point::Write(writer, next);
-        Tick::Moved
-    }
-
-    fn put(&mut self, table: &mut Table, link: u16, now: u64) -> WriteStep {
-        let out = self.out.as_mut().unwrap();
-        match table.home(link).link.put(out.piece()) {
-            Put::Took(count) => {
-                out.taken += count;
-                if out.taken == out.bytes.len() { WriteStep::StorePlace(now) } else { WriteStep::Look(now) }
-            }
-            Put::Again => WriteStep::Ask(now),
-        }
-    }
-
-    fn place(&mut self, table: &mut Table, writer: &mut Writer, now: u64) -> WriteStep {
-        let out = self.out.take().unwrap();
-        *table.place(out.operation) = place_word(writer.link, writer.placed);
-        writer.placed += 1;
-        if now == writer.last { WriteStep::Free(now, None) } else { WriteStep::ReadNext(now) }
-    }
-
-    fn take_message(&mut self, table: &mut Table, now: u64) -> WriteStep {
-        self.out = table.letter(now).take();
-        WriteStep::Look(now)
-    }
-
-    /// A reference is given back; who gives the last one of a failed socket ends its link and frees its slot.
-    fn release(&mut self, table: &mut Table, slot: usize, step: ReleaseStep) {
-        let next = match step {
-            ReleaseStep::SubRef => {
-                let found = fetch_add(table.slot(slot, Part::Vref), 1_u64.wrapping_neg());
-                if version_of(found) % 2 == 0 || found as u32 != 1 {
-                    return self.go_on();
-                }
-                ReleaseStep::Recycle(found - 1)
-            }
-            ReleaseStep::Recycle(from) => {
-                let version = version_of(from) + 1;
-                if compare_exchange(table.slot(slot, Part::Vref), from, version << 32) != from {
-                    return self.go_on();
-                }
-                ReleaseStep::LoadLink(version)
-            }
-            ReleaseStep::LoadLink(version) => ReleaseStep::TakeLink(version, *table.slot(slot, Part::Link) as u16),
-            ReleaseStep::TakeLink(version, link) => {
-                table.take_home(link);
-                ReleaseStep::FinishLink(version, link)
-            }
-            ReleaseStep::FinishLink(version, link) => {
-                table.home(link).link.finish();
-                ReleaseStep::PutLink(version, link)
-            }
-            ReleaseStep::PutLink(version, link) => {
-                let placed = table.home(link).placed;
-                table.put_home(link, placed);
-                if version > LAST_VERSION {
-                    return self.go_on();
-                }
-                ReleaseStep::FreeSlot
-            }
-            ReleaseStep::FreeSlot => {
-                *table.slot(slot, Part::Tag) = 0;
-                return self.go_on();
-            }
-        };
-        self.point = Point::Release(slot, next);
-    }
-
-    fn end_socket(&mut self, table: &mut Table, step: EndStep) {
-        let next = match step {
-            EndStep::LoadOpen(open) => EndStep::AddRef(*table.open(open) - 1),
-            EndStep::AddRef(socket) => {
-                reached(table, socket);
-                EndStep::SetOdd(socket)
-            }
-            EndStep::SetOdd(socket) => {
-                *table.slot(slot_of(socket), Part::Vref) |= 1 << 32;
-                EndStep::StoreCode(socket)
-            }
-            EndStep::StoreCode(socket) => {
-                *table.slot(slot_of(socket), Part::Code) = EEOF;
-                EndStep::SubRef(socket)
-            }
-            EndStep::SubRef(socket) => {
-                fetch_add(table.slot(slot_of(socket), Part::Vref), 1_u64.wrapping_neg());
-                self.point = Point::Release(slot_of(socket), ReleaseStep::SubRef);
-                return;
-            }
-        };
-        self.point = Point::End(next);
-    }
-}
-
-/// A reference to the life of this id is added, which is there.
-fn reached(table: &mut Table, socket: u64) {
-    assert!(version_of(table.add_ref(socket)) == version_of(socket), "no socket is recycled here before the ending");
-}
-
-fn claim(table: &mut Table, request: usize) -> SendStep {
-    let word = table.request(request);
-    let found = *word;
-    *word = found | 1;
-    if found % 2 == 0 { SendStep::PutMessage(ticket(found / 2, request)) } else { SendStep::Claim(request + 1) }
 }
 
 /// The frame of a call's first attempt, whose version is the one behind the id's own.

@@ -7,8 +7,6 @@ pub struct Request {
 
 pub struct Meta {
     pub request: Option<Request>,
-    /// The code of a response, whose text is always empty here.
-    pub response: Option<i32>,
     pub id: u64,
     pub attachment: i32,
 }
@@ -33,61 +31,70 @@ fn size(mut n: u64) -> usize {
     size
 }
 
-fn put_request(out: &mut Vec<u8>, request: &Request) {
-    let (s, m) = (request.service.len(), request.method.len());
+// A frame is begun by its header, whose sizes are written last. These are inlined, since each does little.
+#[inline(always)]
+fn begin(out: &mut Vec<u8>) -> usize {
+    let at = out.len();
+    out.extend_from_slice(b"PRPC\0\0\0\0\0\0\0\0");
+    at
+}
+
+#[inline(always)]
+fn put_request(out: &mut Vec<u8>, r: &Request) {
+    let (s, m) = (r.service.len(), r.method.len());
     out.push(0x0a);
     put(out, (1 + size(s as u64) + s + 1 + size(m as u64) + m) as u64);
     out.push(0x0a);
     put(out, s as u64);
-    out.extend_from_slice(&request.service);
+    out.extend_from_slice(&r.service);
     out.push(0x12);
     put(out, m as u64);
-    out.extend_from_slice(&request.method);
+    out.extend_from_slice(&r.method);
 }
 
-fn put_response(out: &mut Vec<u8>, code: i32) {
-    let code = i64::from(code) as u64;
-    out.push(0x12);
-    put(out, 1 + size(code) as u64);
-    out.push(0x08);
-    put(out, code);
-}
-
-/// A frame without its payload and attachment, which have so many bytes. Its sizes are written last.
-#[inline]
-fn put_head(out: &mut Vec<u8>, request: Option<&Request>, meta: (Option<i32>, u64, i32), rest: usize) {
-    let at = out.len();
-    out.extend_from_slice(b"PRPC\0\0\0\0\0\0\0\0");
-    let (response, id, attachment) = meta;
-    if let Some(request) = request {
-        put_request(out, request);
-    }
-    if let Some(code) = response {
-        put_response(out, code);
-    }
+#[inline(always)]
+fn put_id(out: &mut Vec<u8>, id: u64, attachment: i32) {
     out.push(0x20);
     put(out, id);
     if attachment != 0 {
         out.push(0x28);
         put(out, attachment as i64 as u64);
     }
-    let meta_size = (out.len() - at - 12) as u32;
-    let body = meta_size + rest as u32;
-    out[at + 4..at + 8].copy_from_slice(&body.to_be_bytes());
-    out[at + 8..at + 12].copy_from_slice(&meta_size.to_be_bytes());
 }
 
-pub fn encode(out: &mut Vec<u8>, meta: &Meta, payload: &[u8], attachment: &[u8]) {
-    let rest = payload.len() + attachment.len();
-    put_head(out, meta.request.as_ref(), (meta.response, meta.id, meta.attachment), rest);
+#[inline(always)]
+fn finish(out: &mut Vec<u8>, at: usize, payload: &[u8], attachment: &[u8]) {
+    let meta_size = (out.len() - at - 12) as u32;
+    let body = meta_size + (payload.len() + attachment.len()) as u32;
+    out[at + 4..at + 8].copy_from_slice(&body.to_be_bytes());
+    out[at + 8..at + 12].copy_from_slice(&meta_size.to_be_bytes());
     out.extend_from_slice(payload);
     out.extend_from_slice(attachment);
 }
 
+pub fn encode(out: &mut Vec<u8>, meta: &Meta, payload: &[u8], attachment: &[u8]) {
+    let at = begin(out);
+    if let Some(request) = &meta.request {
+        put_request(out, request);
+    }
+    put_id(out, meta.id, meta.attachment);
+    finish(out, at, payload, attachment);
+}
+
 /// The frame of a request that others use too.
 pub fn encode_request(out: &mut Vec<u8>, request: &Request, id: u64, payload: &[u8]) {
-    put_head(out, Some(request), (None, id, 0), payload.len());
-    out.extend_from_slice(payload);
+    let at = begin(out);
+    put_request(out, request);
+    put_id(out, id, 0);
+    finish(out, at, payload, b"");
+}
+
+/// The frame of a response with the code 0.
+pub fn encode_response(out: &mut Vec<u8>, id: u64, payload: &[u8], attachment: &[u8]) {
+    let at = begin(out);
+    out.extend_from_slice(&[0x12, 2, 0x08, 0]);
+    put_id(out, id, attachment.len() as i32);
+    finish(out, at, payload, attachment);
 }
 
 fn varint(bytes: &[u8], at: &mut usize) -> Option<u64> {
@@ -140,22 +147,11 @@ fn read_request(bytes: &[u8]) -> Option<Request> {
     Some(Request { service: service?.to_vec(), method: method?.to_vec() })
 }
 
-fn read_response(bytes: &[u8]) -> Option<i32> {
-    let (mut at, mut code) = (0, 0);
-    while at < bytes.len() {
-        if let (1, Value::Number(n)) = field(bytes, &mut at)? {
-            code = n as u32 as i32;
-        }
-    }
-    Some(code)
-}
-
 fn read_meta(bytes: &[u8]) -> Option<Meta> {
-    let (mut at, mut meta) = (0, Meta { request: None, response: None, id: 0, attachment: 0 });
+    let (mut at, mut meta) = (0, Meta { request: None, id: 0, attachment: 0 });
     while at < bytes.len() {
         match field(bytes, &mut at)? {
             (1, Value::Span(r)) => meta.request = Some(read_request(r)?),
-            (2, Value::Span(r)) => meta.response = Some(read_response(r)?),
             (4, Value::Number(id)) => meta.id = id,
             (5, Value::Number(n)) => meta.attachment = n as u32 as i32,
             _ => {}
@@ -164,8 +160,22 @@ fn read_meta(bytes: &[u8]) -> Option<Meta> {
     Some(meta)
 }
 
-/// The frame in front, if it is whole, and how many bytes it has.
-pub fn first_frame(bytes: &[u8]) -> Option<(Frame<'_>, usize)> {
+/// The id of a response's meta. Each code is 0 here, and no response has an attachment.
+fn read_id(bytes: &[u8]) -> Option<u64> {
+    let (mut at, mut id, mut is_response) = (0, 0, false);
+    while at < bytes.len() {
+        match field(bytes, &mut at)? {
+            (2, Value::Span(r)) => is_response = r == [0x08, 0],
+            (4, Value::Number(n)) => id = n,
+            _ => {}
+        }
+    }
+    is_response.then_some(id)
+}
+
+/// The meta of the frame in front and what comes behind it, if it is whole.
+#[inline(always)]
+fn first_parts(bytes: &[u8]) -> Option<(&[u8], &[u8])> {
     if bytes.len() < 12 {
         return None;
     }
@@ -176,10 +186,17 @@ pub fn first_frame(bytes: &[u8]) -> Option<(Frame<'_>, usize)> {
     if bytes.len() < 12 + body {
         return None;
     }
-    let meta = read_meta(&bytes[12..12 + meta_size]).unwrap();
-    let rest = &bytes[12 + meta_size..12 + body];
+    Some(bytes[12..12 + body].split_at(meta_size))
+}
+
+/// The frame in front, if it is whole, and how many bytes it has.
+#[inline(always)]
+pub fn first_frame(bytes: &[u8]) -> Option<(Frame<'_>, usize)> {
+    let (meta, rest) = first_parts(bytes)?;
+    let size = 12 + meta.len() + rest.len();
+    let meta = read_meta(meta).unwrap();
     let (payload, attachment) = rest.split_at(rest.len() - meta.attachment as usize);
-    Some(((meta, payload, attachment), 12 + body))
+    Some(((meta, payload, attachment), size))
 }
 
 #[derive(Default)]
@@ -204,6 +221,13 @@ impl Cutter {
         let (frame, size) = first_frame(&self.held[self.at..])?;
         self.at += size;
         Some(frame)
+    }
+
+    /// The id of the next response, and its payload.
+    pub fn next_response(&mut self) -> Option<(u64, &[u8])> {
+        let (meta, payload) = first_parts(&self.held[self.at..])?;
+        self.at += 12 + meta.len() + payload.len();
+        Some((read_id(meta).unwrap(), payload))
     }
 
     /// How many bytes are left that are no whole frame yet.

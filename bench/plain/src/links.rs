@@ -1,6 +1,6 @@
-//! Links in memory, whose other end is the built-in server or takes all and gives nothing. A put never fails here, since
-//! no generated script asks for it.
-use crate::frames::{encode, first_frame, Frame, Meta};
+//! Links in memory, whose other end is the built-in server or takes all and gives nothing. A put never fails here,
+//! since no generated script asks for it.
+use crate::frames::{encode_response, first_frame, Frame};
 
 pub enum Put {
     Took(usize),
@@ -33,12 +33,11 @@ fn reply(out: &mut Vec<u8>, (meta, payload, attachment): Frame<'_>) {
     let Some(request) = meta.request else {
         return;
     };
-    let answer = Meta { request: None, response: Some(0), id: meta.id, attachment: meta.attachment };
     match (&request.service[..], &request.method[..]) {
-        (b"Echo", b"Echo") => encode(out, &answer, payload, attachment),
+        (b"Echo", b"Echo") => encode_response(out, meta.id, payload, attachment),
         (b"Echo", b"Reverse") => {
             let reversed: Vec<u8> = payload.iter().rev().copied().collect();
-            encode(out, &Meta { attachment: 0, ..answer }, &reversed, b"");
+            encode_response(out, meta.id, &reversed, b"");
         }
         _ => unimplemented!("generated scripts ask for no other service"),
     }

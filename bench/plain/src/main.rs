@@ -8,12 +8,14 @@ mod machine;
 mod reader;
 mod report;
 mod script;
+mod sockets;
 mod table;
+mod writing;
 
 use frames::{encode, Cutter, Frame, Meta, Request};
 use machine::Machine;
 use report::{push_hex, report};
-use script::Script;
+use script::{bytes_of, Script};
 use std::hint::black_box;
 use std::io::{Read, Write};
 
@@ -27,7 +29,6 @@ pub enum Tick {
 fn echo() -> Meta {
     Meta {
         request: Some(Request { service: b"Echo".to_vec(), method: b"Echo".to_vec() }),
-        response: None,
         id: 12_345,
         attachment: 0,
     }
@@ -107,18 +108,12 @@ fn script_text(sends: usize) -> String {
     text
 }
 
-fn digit(c: u8) -> Option<u8> {
-    (c as char).to_digit(16).map(|d| d as u8)
-}
-
 fn read_line(line: &str) -> Option<Send<'_>> {
     let mut words = line.split(' ');
     match words.next()? {
         "send" => {
             let name = words.next()?;
-            let hex = words.next()?.as_bytes();
-            let bytes = hex.chunks(2).map(|p| Some(digit(p[0])? << 4 | digit(*p.get(1)?)?)).collect::<Option<_>>()?;
-            Some(Send { name, bytes })
+            Some(Send { name, bytes: bytes_of(words.next()?)? })
         }
         "open" => Some(Send { name: words.next()?, bytes: vec![] }),
         _ => Some(Send { name: "", bytes: vec![] }),

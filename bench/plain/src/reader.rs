@@ -1,6 +1,6 @@
-//! The seat of a link's reader: it ends each call by its response. What no generated script comes to is left out: an id
-//! that another seat has locked or that isn't there, a call that is still open when its link ends, and bytes that are no
-//! frame.
+//! The seat of a link's reader: it ends each call by its response. What no generated script comes to is left out: an
+//! id that another seat has locked or that isn't there, a call that is still open when its link ends, and bytes that
+//! are no frame.
 use crate::frames::Cutter;
 use crate::links::Take;
 use crate::script::Call;
@@ -59,8 +59,8 @@ impl Reader {
             Point::LoadAt(next) => self.look_through(table, calls, next),
             Point::LoadLost(at, next) => {
                 let id = id_at(at);
-                let word = table.ids.words[(id >> 32) as usize];
-                assert!(first_of(word) != id as u32 as u64 || state_of(word) == FREE, "no call is open at the ending");
+                let word = table.ids.words[slot_in(id)];
+                assert!(first_of(word) != version_in(id) || state_of(word) == FREE, "no call is open at the ending");
                 posts(calls, next)
             }
             step => self.answer(table, step),
@@ -85,14 +85,11 @@ impl Reader {
     /// The next response that is whole comes in hand.
     fn cut(&mut self) -> Point {
         self.call = None;
-        while let Some((meta, payload, _)) = self.cutter.next() {
-            if meta.response.is_some() {
-                let (slot, version) = ((meta.id >> 32) as usize, meta.id & 0xffff_ffff);
-                self.response = Some(Response { slot, version, payload: payload.to_vec() });
-                return Point::LoadId;
-            }
-        }
-        Point::Take
+        let Some((id, payload)) = self.cutter.next_response() else {
+            return Point::Take;
+        };
+        self.response = Some(Response { slot: slot_in(id), version: version_in(id), payload: payload.to_vec() });
+        Point::LoadId
     }
 
     /// The steps by which the response in hand ends its call.
@@ -102,7 +99,10 @@ impl Reader {
             Point::LoadId => {
                 let word = table.ids.words[slot];
                 let first = first_of(word);
-                assert!(state_of(word) == OPEN && first < version && version < first + range_of(word), "its call is open");
+                assert!(
+                    state_of(word) == OPEN && first < version && version < first + range_of(word),
+                    "its call is open"
+                );
                 Point::LockId(word)
             }
             Point::LockId(from) => {
@@ -117,7 +117,11 @@ impl Reader {
             Point::EndId(word) => {
                 let next = first_of(word) + range_of(word);
                 table.ids.words[slot] = id_word(next, FREE, 1);
-                if next <= LAST_FIRST { Point::FreeId(word) } else { self.tell(table, word) }
+                if next <= LAST_FIRST {
+                    Point::FreeId(word)
+                } else {
+                    self.tell(table, word)
+                }
             }
             Point::FreeId(word) => {
                 table.ids.tags[slot] = 0;
@@ -147,5 +151,9 @@ impl Reader {
 }
 
 fn posts(calls: &[u16], next: usize) -> Point {
-    if next < calls.len() { Point::LoadAt(next) } else { Point::Rest }
+    if next < calls.len() {
+        Point::LoadAt(next)
+    } else {
+        Point::Rest
+    }
 }

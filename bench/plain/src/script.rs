@@ -1,7 +1,9 @@
-//! Scripts as `gen` makes them: `open` with piece, again and serve, `client`, `send`, and `call` of one name without an
-//! attachment. All other lines and options are left out here, and refused.
+//! Scripts as `gen` makes them: a setup of `open` lines with piece, again and serve; `client`, `send`, and `call` of
+//! one name without an attachment, with bytes that fit one block. All other lines and options are refused here.
 use crate::frames::Request;
 use std::rc::Rc;
+
+const BLOCK: usize = 8_192;
 
 pub struct Call {
     pub operation: u16,
@@ -43,10 +45,7 @@ fn digit(c: u8) -> Option<u8> {
     (c as char).to_digit(16).map(|d| d as u8)
 }
 
-fn bytes_of(hex: &str) -> Option<Vec<u8>> {
-    if hex == "-" {
-        return Some(vec![]);
-    }
+pub fn bytes_of(hex: &str) -> Option<Vec<u8>> {
     hex.as_bytes().chunks(2).map(|pair| Some(digit(pair[0])? << 4 | digit(*pair.get(1)?)?)).collect()
 }
 
@@ -87,16 +86,15 @@ impl<'a> Script<'a> {
         self.operations.len() as u16
     }
 
-    /// The number of a name, by the order in which they are met.
-    fn name(&mut self, name: &'a str) -> u16 {
-        let known = self.names.iter().position(|known| *known == name);
-        known.unwrap_or_else(|| {
-            self.names.push(name);
-            self.names.len() - 1
-        }) as u16
+    /// The number of a name that was opened.
+    fn name(&self, name: &str) -> Option<u16> {
+        self.names.iter().position(|known| *known == name).map(|number| number as u16)
     }
 
     fn read_open(&mut self, mut words: impl Iterator<Item = &'a str>) -> Option<Task> {
+        if self.clients.len() > 1 || self.links.len() == 31 {
+            return None;
+        }
         let name = words.next()?;
         let (open, link) = (self.operation(), self.links.len() as u16);
         let mut spec = LinkSpec { name, open, piece: 65_536, again: 0, serve: false };
@@ -109,29 +107,33 @@ impl<'a> Script<'a> {
             }
         }
         self.links.push(spec);
-        let name = self.name(name);
-        Some(Task::Open { operation: open, name, link })
+        if self.name(name).is_none() {
+            self.names.push(name);
+        }
+        Some(Task::Open { operation: open, name: self.name(name)?, link })
     }
 
     fn read_send(&mut self, mut words: impl Iterator<Item = &'a str>) -> Option<Task> {
-        let name = self.name(words.next()?);
+        let name = self.name(words.next()?)?;
         let bytes = bytes_of(words.next()?)?;
-        let task = Task::Send { operation: self.operation(), name, bytes };
-        words.next().is_none().then_some(task)
+        let is_whole = words.next().is_none() && (1..=BLOCK).contains(&bytes.len());
+        is_whole.then(|| Task::Send { operation: self.operation(), name, bytes })
     }
 
     fn read_call(&mut self, mut words: impl Iterator<Item = &'a str>) -> Option<Task> {
         let operation = self.operation();
-        let name = self.name(words.next()?);
+        let name = self.name(words.next()?)?;
         let (service, method) = words.next()?.rsplit_once('.')?;
         let payload = bytes_of(words.next()?)?;
         let retry = match words.next() {
-            Some(word) => word.strip_prefix("retry=")?.parse().ok()?,
+            Some(word) => word.strip_prefix("retry=")?.parse().ok().filter(|retry| *retry <= 6)?,
             None => 0,
         };
+        if words.next().is_some() || payload.is_empty() || payload.len() > BLOCK {
+            return None;
+        }
         self.calls.push(operation);
         let request = Request { service: service.into(), method: method.into() };
-        let call = Call { operation, name, range: retry + 2, request, payload };
-        words.next().is_none().then(|| Task::Call(Rc::new(call)))
+        Some(Task::Call(Rc::new(Call { operation, name, range: retry + 2, request, payload })))
     }
 }

@@ -117,9 +117,10 @@ impl Table {
         &mut self.homes[usize::from(link)]
     }
 
-    /// One reference more; the word found.
-    pub fn add_ref(&mut self, id: u64) -> u64 {
-        fetch_add(self.slot(slot_of(id), Part::Vref), 1)
+    /// A reference more to the life of this id, which is always there.
+    pub fn reach(&mut self, id: u64) {
+        let found = fetch_add(self.slot(slot_of(id), Part::Vref), 1);
+        assert!(version_of(found) == version_of(id), "no socket is recycled here before the ending");
     }
 
     /// The look at a socket before a put or a claim. Each is live until the clients are at rest.
@@ -145,8 +146,8 @@ impl Table {
     }
 }
 
-/// The call ids: the tag and the word of each slot, the call at home there, and for each operation the id of its call and
-/// the link on which it was sent.
+/// The call ids: the tag and the word of each slot, the call at home there, and for each operation the id of its call
+/// and the link on which it was sent.
 pub struct Ids {
     pub tags: Vec<u64>,
     pub words: Vec<u64>,
@@ -169,7 +170,19 @@ impl Ids {
 
 pub fn fetch_add(word: &mut u64, more: u64) -> u64 {
     let found = *word;
-    *word = found.wrapping_add(more);
+    *word = found + more;
+    found
+}
+
+pub fn fetch_sub(word: &mut u64, less: u64) -> u64 {
+    let found = *word;
+    *word = found - less;
+    found
+}
+
+pub fn fetch_or(word: &mut u64, bits: u64) -> u64 {
+    let found = *word;
+    *word = found | bits;
     found
 }
 
@@ -214,6 +227,15 @@ pub const FREE: u64 = 0;
 pub const OPEN: u64 = 1;
 pub const LOCKED: u64 = 2;
 
+/// The slot of a call id, and its version: the first one of its range, or that of an attempt.
+pub fn slot_in(id: u64) -> usize {
+    (id >> 32) as usize
+}
+
+pub fn version_in(id: u64) -> u64 {
+    id & 0xffff_ffff
+}
+
 /// The word of an id slot, without errors that wait; its attempt is always the first one here.
 pub fn id_word(first: u64, state: u64, range: u64) -> u64 {
     first << 38 | state << 36 | (range - 1) << 33
@@ -233,7 +255,7 @@ pub fn range_of(word: u64) -> u64 {
 
 /// The link and the id of a call's attempt, as its operation keeps them for the readers.
 pub fn at_word(id: u64, link: u16) -> u64 {
-    (id & 0xffff_ffff) << 38 | (id >> 32) << 22 | (u64::from(link) + 1) << 6
+    version_in(id) << 38 | (id >> 32) << 22 | (u64::from(link) + 1) << 6
 }
 
 pub fn link_at(word: u64) -> u64 {
