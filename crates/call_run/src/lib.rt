@@ -1,6 +1,7 @@
 //! A script with calls on threads: a client on each, over one table of sockets and one of ids.
 #![tactic(auto)]
 
+mod failing;
 mod hiring;
 mod leaving;
 mod opened;
