@@ -1,5 +1,5 @@
 -- How clients get their seats and their passes.
-use Rattle.std.proofs.Common.{◌≡◌, ℕ, suc, ◌+◌, ◌-◌, ◌≤◌, List, [], ◌∷◌, ◌++◌, length, map, length-append, refl, sym, ap, ◌∙◌, subst, arith}
+use Rattle.std.proofs.Common.{◌≡◌, ℕ, suc, ◌+◌, ◌-◌, ◌≤◌, List, [], ◌∷◌, ◌++◌, length, map, length-append, sym, ap, ◌∙◌, subst, arith}
 use Rattle.std.specs.Prelude.{All, Option}
 use Rattle.std.proofs.lemmas.List.{append_assoc, map-append}
 use Rattle.atomic_table.specs.Seated.{TableId}
@@ -11,14 +11,13 @@ use Rattle.sock_rule.specs.declared.homes.SockHome.{SockHome}
 use Rattle.sock_table.specs.declared.passes.LinkPass.{LinkPass}
 use Rattle.sock_table.specs.Passes.{IsPass}
 use Rattle.sock_open.specs.Made.{IsNewSeat, AreNewSeats}
-use Rattle.corr_core.specs.Law.{Each, total}
 use Rattle.corr_core.specs.declared.marks.View as id_view
 use Rattle.corr_id.specs.Opening.{AreNew}
 use Rattle.corr_id.specs.Seats.{Sits, IsFree}
+use Rattle.corr_id.proofs.Testing.{new_sits}
 use Rattle.sock_message.specs.Asked.{Asked}
 use Rattle.thread_run.specs.Threads.{LinksDown}
 use Rattle.thread_run.proofs.Dealing.{all_split, down_split, seats_last}
-use Rattle.call_client.specs.declared.caller.Caller.{Caller}
 use Rattle.call_client.specs.Acting.{MayGo}
 use Rattle.call_run.specs.declared.hiring.Room.{Room}
 use Rattle.call_run.specs.declared.worker.Worker.{Worker}
@@ -31,12 +30,6 @@ module _ {C : Type 0} (y : TableId) where
   pub ids_last : (xs : List (Seat (Option C) (id_view.View C))) (x : Seat (Option C) (id_view.View C)) → AreNew y (xs ++ x ∷ []) → AreNew y xs × IsNewId y x
   ids_last [] x a = (tt, a.0)
   ids_last (s ∷ xs) x a = let b = ids_last xs x a.1 in ((a.0, b.0), b.1)
-
-  pub id_sits : (s : Seat (Option C) (id_view.View C)) → IsNewId y s → Sits y s
-  id_sits s n = (n.0, (let e = ap (λ m. m.0.share) n.1 in omega arith))
-
-  pub id_free : (s : Seat (Option C) (id_view.View C)) → IsNewId y s → IsFree s.me.0
-  id_free s n = subst (λ m. IsFree m.0) (sym n.1) (λ j. refl)
 
 -- ## Clients
 
@@ -93,7 +86,7 @@ module _ {O : Type 0} {g : Ghosts O} (z : TableId) (p : Plan) (y : TableId) wher
           links = subst (λ (k : ℕ). LinksDown k w.caller.passes.items) (omega arith) down.1;
           count = count ∙ sym same;
           nothing = nothing;
-          go = go ss.1 (id_sits y i is.1) (id_free y i is.1) ok.1;
+          go = (let has = new_sits y i is.1 in go ss.1 has.0 has.1 ok.1);
         };
         next = (let o = opens_by-snoc workers w in omega arith);
         rooms = (λ k d lt. h.rooms (suc k) d (omega arith));

@@ -4,10 +4,10 @@ use Rattle.std.proofs.lemmas.List.Sorted.{All-permutation}
 use Rattle.sock_table.specs.Passes.{IsPass}
 use Rattle.sock_open.specs.Made.{IsNewSeat}
 use Rattle.sock_open.specs.Opening.{IsRoom}
+use Rattle.corr_id.proofs.Testing.{new_sits}
 use Rattle.rpc_client.proofs.Going.{passes_all}
 use Rattle.call_run.specs.Threads.{opens_of}
 use Rattle.call_run.specs.Hired.{IsNewId, AreHired}
-use Rattle.call_run.proofs.Dealing.{id_sits, id_free}
 use Rattle.call_run.proofs.Manning.{enough, share}
 use Rattle.call_run.proofs.running.crew_of.Goals as goal
 
@@ -36,7 +36,7 @@ returns g c = let z = c.args.tables.now.socks.rule.table.shared.table_id in let 
         links = s.links;
         count = e.count ∙ sym (ap (λ v. opens_of v.items) e.others.1);
         nothing = e.nothing;
-        go = e.go z y p s.seat (id_sits y c.in-Some-2.id_seat s.id) (id_free y c.in-Some-2.id_seat s.id) s.passes;
+        go = (let has = new_sits y c.in-Some-2.id_seat s.id in e.go z y p s.seat has.0 has.1 s.passes);
       };
       hired = subst (λ k. AreHired z p y 1 k c.hire_all.new.workers.items) s.next c.hire_all.ensures.hired;
       tasks = c.hire_all.ensures.tasks;
