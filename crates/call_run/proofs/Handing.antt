@@ -8,6 +8,10 @@ use Rattle.call_run.specs.declared.worker.Worker.{Worker}
 use Rattle.call_run.specs.declared.leaving.Left.{Left}
 use Rattle.call_run.specs.Crew.{HasMore, HandedIn}
 
+or_false : (b : Bool) → (b || false) ≡ b
+or_false true = refl
+or_false false = refl
+
 module _ {O : Type 0} {g : Ghosts O} where
   -- with what those of the rest leave it is what all leave
   pub record Handing (rest all : List (Worker O g)) (l m : Left O g) : Type 0 where
@@ -17,10 +21,6 @@ module _ {O : Type 0} {g : Ghosts O} where
     pub ended : m.ended.items ++ map (λ (w : Worker O g). w.caller.calls.told) rest ≡ l.ended.items ++ map (λ (w : Worker O g). w.caller.calls.told) all
     pub short : (m.short || list_any (λ (w : Worker O g). w.short) rest) ≡ (l.short || list_any (λ (w : Worker O g). w.short) all)
     pub room : (vec_capacity m.seats ≡ vec_capacity l.seats) × (vec_capacity m.ids ≡ vec_capacity l.ids) × (vec_capacity m.told ≡ vec_capacity l.told) × (vec_capacity m.ended ≡ vec_capacity l.ended)
-
-  or_false : (b : Bool) → (b || false) ≡ b
-  or_false true = refl
-  or_false false = refl
 
   pub handed_all : (all : List (Worker O g)) (rest : List (Worker O g)) (l m : Left O g) → Handing rest all l m → rest ≡ [] → HandedIn all l m
   handed_all all rest l m h e = record {

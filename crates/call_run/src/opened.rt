@@ -43,10 +43,13 @@ fn push_opening(task: &Task, found: &mut Vec<Opening>) -> Result<(), AllocError>
     ensures { OnOk result (found.new.items ≡ found.old.items ++ opening_in task.now.number task.now.op) }
 {
     match &task.op {
-        Op::Open(name, _) => found.push(Opening {
-            number: task.number,
-            name: *name,
-        }),
+        Op::Open(name, _) => {
+            found.push(Opening {
+                number: task.number,
+                name: *name,
+            })?;
+            Ok(())
+        }
         _ => Ok(()),
     }
 }
