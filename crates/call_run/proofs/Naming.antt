@@ -47,7 +47,7 @@ names_on told os i o names more lt at e m = ap (λ l. l ++ opened_names told (dr
     ∙ (sym (ap (λ l. names ++ opened_names told l) (drop_more os i o lt ∙ ap (λ (x : Opening). x ∷ drop (i + 1) os) (sym at))) ∙ e))
 
 pub names_all : (told : List Told) (os : List Opening) (i : ℕ) (names : List ℕ) → length os ≤ i → names ++ opened_names told (drop i os) ≡ opened_names told os → names ≡ opened_names told os
-names_all told os i names le e = sym (append-nil names) ∙ (sym (ap (λ l. names ++ opened_names told l) (drop_all os i le)) ∙ e)
+names_all told os i names le e = sym (append-nil names) ∙ (sym (ap (λ l. names ++ opened_names told l) (drop_all i os le)) ∙ e)
 
 -- they are names of the table
 module _ (p : Plan) (q : id_plan.Plan) (told : List Told) where

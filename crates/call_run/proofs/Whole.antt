@@ -1,6 +1,8 @@
 -- A run over two tables, from those that are to run to what is left.
 use Rattle.std.proofs.Common.{◌≡◌, ℕ, ◌<◌, Bool, false, ◌||◌, List, [], ◌∷◌, ◌++◌, map, length, get_or, refl, sym, ap, ◌∙◌, subst, arith}
-use Rattle.std.specs.Prelude.{Option}
+use Rattle.std.specs.Prelude.{Option, IfOk}
+use Rattle.std.specs.declared.result.Result.{Result}
+use Rattle.std.specs.declared.result.Result.TheVariants.{Ok, Err}
 use Rattle.std.proofs.lemmas.List.{length-map}
 use Rattle.std.specs.List.{list_any}
 use Rattle.atomic_table.specs.Seated.{TableId}
@@ -11,10 +13,11 @@ use Rattle.sock_words.specs.declared.plain.Plan.{Plan}
 use Rattle.sock_model.specs.declared.view.View.{View}
 use Rattle.sock_model.specs.Weights.{total}
 use Rattle.sock_rule.specs.declared.homes.SockHome.{SockHome}
-use Rattle.sock_table.specs.Closed.{IsDoneSeat, AllDone}
+use Rattle.sock_table.specs.Closed.{IsDoneSeat, AllDone, ClosedBy}
 use Rattle.corr_core.specs.Law.{total as id_total}
 use Rattle.corr_core.specs.declared.marks.Plan as id_plan
 use Rattle.corr_core.specs.declared.marks.View as id_view
+use Rattle.corr_id.specs.declared.table.IdTable.{IdTable}
 use Rattle.sock_message.specs.Asked.{Asked}
 use Rattle.sock_programs.specs.declared.task.Task.{Task}
 use Rattle.thread_run.proofs.Weaving.{none_short}
@@ -22,8 +25,9 @@ use Rattle.thread_run.proofs.Ending.{one_and}
 use Rattle.call_run.specs.declared.worker.Worker.{Worker}
 use Rattle.call_run.specs.declared.leaving.Left.{Left}
 use Rattle.call_run.specs.declared.running.Crew.{Crew}
+use Rattle.call_run.specs.declared.running.Ran.{Ran}
 use Rattle.call_run.specs.Ending.{EndedEach}
-use Rattle.call_run.specs.Threads.{opens_of, openings, opened_names, AreThreads}
+use Rattle.call_run.specs.Threads.{opens_of, openings, opened_names, ids_of, AreThreads, AllRan, RanOn}
 use Rattle.call_run.specs.Working.{HasWorked}
 use Rattle.call_run.specs.Crew.{HandedIn, AreLeft, IsCrew, CrewRan}
 use Rattle.call_run.proofs.Weaving.{thread_of, one_thread, one_share, one_id, Woven, weave}
@@ -90,3 +94,23 @@ module _ {O : Type 0} {g : Ghosts O} (state : O → OutState) (z : TableId) (p :
       seats_are = ap (λ l. last ∷ l) woven.seats ∙ sym seats;
     };
   }
+
+-- behind them the table of sockets was closed
+pub run_ended : {O E : Type 0} {g : Ghosts O} (state : O → OutState) (z : TableId) (p plan : Plan) (y : TableId) (q : id_plan.Plan) (slots : ℕ) (s t setup : List Task) (cs ds clients : List (List Task)) (opens : List ℕ) (l : Left O g) (table : IdTable Asked) (result : Result (Ran O g) E)
+    → p ≡ plan → q ≡ ids_of plan slots → s ≡ t → t ≡ setup → cs ≡ ds → ds ≡ clients → CrewRan state z p y q s cs opens l
+    → IfOk result (λ r. (l.short ≡ false) × (r.told ≡ l.told) × (r.ended ≡ l.ended) × (r.ids ≡ table) × (r.seats ≡ l.ids) × ClosedBy state p l.seats.items r.places.items r.vrefs.items r.outs.items)
+    → IfOk result (λ r. RanOn g state plan slots setup clients opens (map (λ v. v.items) r.told.items) (map (λ v. v.items) r.ended.items) r.places.items r.vrefs.items r.outs.items (map (λ (x : Seat (Option Asked) (id_view.View Asked)). x.me.0) r.seats.items))
+run_ended state z p plan y q slots s t setup cs ds clients opens l table (Err x) pe qe se te ce de ran e = tt
+run_ended {O} {E} {g} state z p plan y q slots s t setup cs ds clients opens l table (Ok r) pe qe se te ce de ran e = record {
+  seats = l.seats.items;
+  ran =
+      let ids = map (λ (x : Seat (Option Asked) (id_view.View Asked)). x.me.0) l.ids.items in let told = map (λ v. v.items) l.told.items in let ended = map (λ v. v.items) l.ended.items in
+      subst (λ v. AllRan g state plan (ids_of plan slots) setup clients opens (map (λ w. w.items) r.told.items) (map (λ w. w.items) r.ended.items) l.seats.items (map (λ (x : Seat (Option Asked) (id_view.View Asked)). x.me.0) v.items)) (sym e.4)
+      (subst (λ v. AllRan g state plan (ids_of plan slots) setup clients opens (map (λ w. w.items) r.told.items) (map (λ w. w.items) v.items) l.seats.items ids) (sym e.2)
+      (subst (λ v. AllRan g state plan (ids_of plan slots) setup clients opens (map (λ w. w.items) v.items) ended l.seats.items ids) (sym e.1)
+      (subst (λ v. AllRan g state plan (ids_of plan slots) setup v opens told ended l.seats.items ids) (ce ∙ de)
+      (subst (λ v. AllRan g state plan (ids_of plan slots) v cs opens told ended l.seats.items ids) (se ∙ te)
+      (subst (λ v. AllRan g state plan v s cs opens told ended l.seats.items ids) qe
+      (subst (λ v. AllRan g state v q s cs opens told ended l.seats.items ids) pe (ran.ran e.0)))))));
+  closed = subst (λ v. ClosedBy state v l.seats.items r.places.items r.vrefs.items r.outs.items) pe e.5;
+}

@@ -11,7 +11,7 @@ use std::alloc::{AllocError, Global};
 use std::collections::VecDeque;
 
 /// An `open`: its number, and its name.
-#[derive(Clone, Copy)]
+#[derive(Drop)]
 pub struct Opening {
     pub number: u16,
     pub name: u16,
@@ -92,9 +92,9 @@ fn was_opened(told: &[Told], number: u16) -> bool
 }
 
 /// The name of an `open` that got a socket.
-fn push_name(told: &[Told], opening: Opening, names: &mut Vec<u16>)
+fn push_name(told: &[Told], opening: &Opening, names: &mut Vec<u16>)
     requires room { length names.old.items < vec_capacity names.old }
-    ensures items { names.new.items ≡ names.old.items ++ name_if told.now opening }
+    ensures items { names.new.items ≡ names.old.items ++ name_if told.now opening.now }
     ensures capacity { vec_capacity names.new ≡ vec_capacity names.old }
 {
     let opened = was_opened(told, opening.number);
@@ -109,6 +109,6 @@ pub fn opened_names(told: &[Told], openings: &[Opening], names: &mut Vec<u16>)
     ensures { names.new.items ≡ opened_names told.now openings.now }
 {
     'names: for opening in openings {
-        push_name(told, *opening, names);
+        push_name(told, opening, names);
     }
 }
