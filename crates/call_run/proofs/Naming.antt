@@ -42,9 +42,8 @@ if_few told o = by (opened_in o.number told)
     by true = omega arith
     by false = omega arith
 
-pub names_on : (told : List Told) (os : List Opening) (i : ℕ) (o : Opening) (names more : List ℕ) → i < length os → o ≡ get_or os i o → names ++ opened_names told (drop i os) ≡ opened_names told os → more ≡ names ++ name_if told o → more ++ opened_names told (drop (i + 1) os) ≡ opened_names told os
-names_on told os i o names more lt at e m = ap (λ l. l ++ opened_names told (drop (i + 1) os)) m ∙ (append_assoc names (name_if told o) (opened_names told (drop (i + 1) os))
-    ∙ (sym (ap (λ l. names ++ opened_names told l) (drop_more os i o lt ∙ ap (λ (x : Opening). x ∷ drop (i + 1) os) (sym at))) ∙ e))
+pub names_on : (told : List Told) (os : List Opening) (i : ℕ) (o : Opening) (names more : List ℕ) → i < length os → names ++ opened_names told (drop i os) ≡ opened_names told os → more ≡ names ++ name_if told (get_or os i o) → more ++ opened_names told (drop (i + 1) os) ≡ opened_names told os
+names_on told os i o names more lt e m = ap (λ l. l ++ opened_names told (drop (i + 1) os)) m ∙ (append_assoc names (name_if told (get_or os i o)) (opened_names told (drop (i + 1) os)) ∙ (sym (ap (λ l. names ++ opened_names told l) (drop_more os i o lt)) ∙ e))
 
 pub names_all : (told : List Told) (os : List Opening) (i : ℕ) (names : List ℕ) → length os ≤ i → names ++ opened_names told (drop i os) ≡ opened_names told os → names ≡ opened_names told os
 names_all told os i names le e = sym (append-nil names) ∙ (sym (ap (λ l. names ++ opened_names told l) (drop_all i os le)) ∙ e)

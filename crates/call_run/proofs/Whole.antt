@@ -96,7 +96,7 @@ module _ {O : Type 0} {g : Ghosts O} (state : O → OutState) (z : TableId) (p :
   }
 
 -- behind them the table of sockets was closed
-pub run_ended : {O E : Type 0} {g : Ghosts O} (state : O → OutState) (z : TableId) (p plan : Plan) (y : TableId) (q : id_plan.Plan) (slots : ℕ) (s t setup : List Task) (cs ds clients : List (List Task)) (opens : List ℕ) (l : Left O g) (table : IdTable Asked) (result : Result (Ran O g) E)
+pub run_ended : {O E : Type 0} {g : Ghosts O} (state : O → OutState) (z : TableId) (p plan : Plan) (y : TableId) (q : id_plan.Plan) (slots : ℕ) (s t setup : List Task) (cs ds clients : List (List Task)) (opens : List ℕ) (l : Left O g) (table : IdTable Asked) (result : Result (Ran O) E)
     → p ≡ plan → q ≡ ids_of plan slots → s ≡ t → t ≡ setup → cs ≡ ds → ds ≡ clients → CrewRan state z p y q s cs opens l
     → IfOk result (λ r. (l.short ≡ false) × (r.told ≡ l.told) × (r.ended ≡ l.ended) × (r.ids ≡ table) × (r.seats ≡ l.ids) × ClosedBy state p l.seats.items r.places.items r.vrefs.items r.outs.items)
     → IfOk result (λ r. RanOn g state plan slots setup clients opens (map (λ v. v.items) r.told.items) (map (λ v. v.items) r.ended.items) r.places.items r.vrefs.items r.outs.items (map (λ (x : Seat (Option Asked) (id_view.View Asked)). x.me.0) r.seats.items))
