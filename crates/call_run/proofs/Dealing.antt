@@ -1,5 +1,5 @@
 -- How clients get their seats and their passes.
-use Rattle.std.proofs.Common.{◌≡◌, ℕ, suc, ◌+◌, ◌-◌, ◌≤◌, List, [], ◌∷◌, ◌++◌, length, map, length-append, sym, ap, ◌∙◌, subst, arith}
+use Rattle.std.proofs.Common.{◌≡◌, ℕ, suc, ◌+◌, ◌-◌, List, [], ◌∷◌, ◌++◌, length, map, length-append, sym, ap, ◌∙◌, subst, arith}
 use Rattle.std.specs.Prelude.{All, Option}
 use Rattle.std.proofs.lemmas.List.{append_assoc, map-append}
 use Rattle.atomic_table.specs.Seated.{TableId}

@@ -1,9 +1,9 @@
 -- What clients leave is handed in, one after the other.
-use Rattle.std.proofs.Common.{◌≡◌, ◌+◌, ◌≤◌, Bool, true, false, ◌||◌, List, [], ◌∷◌, ◌++◌, map, length, length-append, refl, sym, ap, ◌∙◌, arith}
+use Rattle.std.proofs.Common.{◌≡◌, ◌+◌, Bool, true, false, ◌||◌, List, [], ◌∷◌, ◌++◌, map, length, length-append, refl, ap, ◌∙◌, arith}
 use Rattle.std.specs.List.{list_any}
 use Rattle.std.specs.Vec.{vec_capacity}
 use Rattle.sock_io.specs.declared.link.Out.{Ghosts}
-use Rattle.thread_run.proofs.Outcomes.{more_left, none_left, any_left}
+use Rattle.thread_run.proofs.Outcomes.{more_left, any_left}
 use Rattle.call_run.specs.declared.worker.Worker.{Worker}
 use Rattle.call_run.specs.declared.leaving.Left.{Left}
 use Rattle.call_run.specs.Crew.{HasMore, HandedIn}
@@ -21,16 +21,6 @@ module _ {O : Type 0} {g : Ghosts O} where
     pub ended : m.ended.items ++ map (λ (w : Worker O g). w.caller.calls.told) rest ≡ l.ended.items ++ map (λ (w : Worker O g). w.caller.calls.told) all
     pub short : (m.short || list_any (λ (w : Worker O g). w.short) rest) ≡ (l.short || list_any (λ (w : Worker O g). w.short) all)
     pub room : (vec_capacity m.seats ≡ vec_capacity l.seats) × (vec_capacity m.ids ≡ vec_capacity l.ids) × (vec_capacity m.told ≡ vec_capacity l.told) × (vec_capacity m.ended ≡ vec_capacity l.ended)
-
-  pub handed_all : (all : List (Worker O g)) (rest : List (Worker O g)) (l m : Left O g) → Handing rest all l m → rest ≡ [] → HandedIn all l m
-  handed_all all rest l m h e = record {
-    seats = none_left (λ (x : Worker O g). x.caller.seat) m.seats.items rest _ h.seats e;
-    ids = none_left (λ (x : Worker O g). x.caller.calls.seat) m.ids.items rest _ h.ids e;
-    told = none_left (λ (x : Worker O g). x.caller.outcomes) m.told.items rest _ h.told e;
-    ended = none_left (λ (x : Worker O g). x.caller.calls.told) m.ended.items rest _ h.ended e;
-    short = sym (or_false m.short) ∙ (sym (ap (λ xs. m.short || list_any (λ (x : Worker O g). x.short) xs) e) ∙ h.short);
-    room = h.room;
-  }
 
   pub handing_next : (left rest all : List (Worker O g)) (w : Worker O g) (l m n : Left O g) → Handing left all l m → left ≡ w ∷ rest → HandedIn (w ∷ []) m n → Handing rest all l n
   handing_next left rest all w l m n h e one = record {

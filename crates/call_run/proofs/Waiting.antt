@@ -1,5 +1,5 @@
 -- A client behind the wait for its names.
-use Rattle.std.proofs.Common.{◌≡◌, ℕ, List, ◌∙◌}
+use Rattle.std.proofs.Common.{ℕ, List, ◌∙◌}
 use Rattle.atomic_table.specs.Seated.{TableId}
 use Rattle.atomic_table.specs.declared.shared.Seat.{Seat}
 use Rattle.sock_io.specs.declared.link.Out.{Ghosts}

@@ -20,7 +20,6 @@ use Rattle.sock_message.specs.Asked.{Asked}
 use Rattle.call_client.specs.Running.{MayMakeAll, RunBy}
 use Rattle.thread_run.specs.Threads.{FoundEach, LinksDown}
 use Rattle.thread_run.proofs.Weaving.{none_short}
-use Rattle.call_errors.specs.Books.{books_of}
 use Rattle.call_run.specs.declared.worker.Worker.{Worker}
 use Rattle.call_run.specs.Threads.{opens_of, DidNothing, Thread, IsThread, AreThreads, MayRun, AllMayRun}
 use Rattle.call_run.specs.Hired.{IsHired, AreHired}

@@ -6,7 +6,7 @@ ghost use Rattle.sock_open.specs.Made.{AreMade};
 ghost use Rattle.sock_open.specs.Opening.{MayBegin, AreFresh};
 ghost use Rattle.sock_table.specs.Closed.{ClosedBy, IsRoomOf};
 ghost use Rattle.thread_run.specs.Crew.{IsLeft, AreBack};
-ghost use Rattle.call_run.specs.Threads.{ids_of, openings, MayRunAll, RanOn};
+ghost use Rattle.call_run.specs.Threads.{ids_of, MayRunAll, RanOn};
 ghost use Rattle.call_run.specs.Crew.{AreLeft, IsCast, IsCrew, CrewRan};
 
 use crate::failing::end_each;

@@ -1,5 +1,4 @@
-use Rattle.std.specs.Vec.Iter.{into_iter_items}
-use Rattle.call_run.proofs.Handing.{handing_next, room_next, room_one, handed_all}
+use Rattle.call_run.proofs.Handing.{handing_next, room_next, room_one}
 use Rattle.call_run.proofs.leaving.hand_in_all.Goals as goal
 
 pub hand_in-requires : goal.hand_in-requires

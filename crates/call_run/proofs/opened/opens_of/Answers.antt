@@ -1,4 +1,4 @@
-use Rattle.std.proofs.Common.{ap, sym, ◌∙◌, arith}
+use Rattle.std.proofs.Common.{ap, arith}
 use Rattle.std.specs.VecDeque.Iter.{deque_iter_rest}
 use Rattle.call_run.specs.Threads.{opens_of}
 use Rattle.call_run.proofs.Naming.{opens_few}
