@@ -1,0 +1,8 @@
+pub mod Naming
+pub mod Sockets
+pub mod Waiting
+pub mod Handing
+pub mod Dealing
+pub mod Manning
+pub mod Weaving
+pub mod Whole

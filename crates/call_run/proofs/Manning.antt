@@ -1,0 +1,76 @@
+-- Main's client and the others get what the new tables have.
+use Rattle.std.proofs.Common.{◌≡◌, ℕ, ◌+◌, ◌-◌, ◌<◌, ◌≤◌, List, [], ◌∷◌, ◌++◌, length, reverse, map, length-append, refl, sym, ap, ◌∙◌, subst, arith}
+use Rattle.std.specs.Prelude.{All, Option}
+use Rattle.std.proofs.lemmas.List.{length-reverse, length-map}
+use Rattle.atomic_table.specs.Seated.{TableId}
+use Rattle.atomic_table.specs.declared.shared.Seat.{Seat}
+use Rattle.sock_io.specs.declared.link.Out.{Ghosts}
+use Rattle.sock_words.specs.declared.plain.Plan.{Plan}
+use Rattle.sock_model.specs.declared.view.View.{View}
+use Rattle.sock_rule.specs.declared.homes.SockHome.{SockHome}
+use Rattle.sock_table.specs.declared.passes.LinkPass.{LinkPass}
+use Rattle.sock_table.specs.Passes.{IsPass}
+use Rattle.sock_open.specs.Made.{IsNewSeat, AreNewSeats, AreMade}
+use Rattle.corr_core.specs.declared.marks.Plan as id_plan
+use Rattle.corr_core.specs.declared.marks.View as id_view
+use Rattle.corr_id.specs.Opening.{AreNew}
+use Rattle.sock_message.specs.Asked.{Asked}
+use Rattle.sock_programs.specs.declared.task.Task.{Task}
+use Rattle.rpc_client.specs.declared.acting.Told.{Told}
+use Rattle.thread_run.specs.Threads.{LinksDown}
+use Rattle.thread_run.proofs.Dealing.{all_split, down_split, down_of, seats_last}
+use Rattle.call_client.specs.Running.{MayMakeAll}
+use Rattle.call_run.specs.declared.opened.Opening.{Opening}
+use Rattle.call_run.specs.declared.hiring.Room.{Room}
+use Rattle.call_run.specs.Threads.{opens_of, opens_of_each, openings, opened_names, MayRunAll}
+use Rattle.call_run.specs.Hired.{opens_of_all, HasRoom, IsNewId, MayHire}
+use Rattle.call_run.proofs.Dealing.{ids_last}
+use Rattle.call_run.proofs.Naming.{names_fit}
+
+module _ {O : Type 0} {g : Ghosts O} where
+  opens_each : (rooms : List (Room O g)) → opens_of_each (map (λ (r : Room O g). r.tasks.items) rooms) ≡ opens_of_all rooms
+  opens_each [] = refl
+  opens_each (r ∷ rs) = omega (arith, opens_each rs)
+
+  pub enough : (p : Plan) (q : id_plan.Plan) (z : TableId) (setup : List Task) (rooms : List (Room O g)) (dealt : List (Seat (SockHome O g) View)) (passes back : List (LinkPass O g)) → AreMade z p dealt passes → MayRunAll p q setup (map (λ (r : Room O g). r.tasks.items) rooms) → back ≡ reverse passes → opens_of setup ≤ length back
+  enough p q z setup rooms dealt passes back made may is = let a = ap length is ∙ length-reverse passes in let b = made.links in let d = may.links in omega arith
+
+  -- what main's client has, and the others may have
+  pub record Shared (z : TableId) (p : Plan) (y : TableId) (setup : List Task) (rooms : List (Room O g)) (left : List (Seat (SockHome O g) View)) (s : Seat (SockHome O g) View) (fewer_ids : List (Seat (Option Asked) (id_view.View Asked))) (i : Seat (Option Asked) (id_view.View Asked)) (fewer own : List (LinkPass O g)) : Type 0 where
+    pub others : MayHire z p y rooms left fewer_ids fewer
+    pub seat : IsNewSeat z p s
+    pub id : IsNewId y i
+    pub links : LinksDown 0 own
+    pub passes : All (IsPass z p) own
+    pub next : p.links - length fewer ≡ opens_of setup
+
+  pub share : (z : TableId) (p : Plan) (y : TableId) (q : id_plan.Plan) (setup : List Task) (rooms : List (Room O g)) (dealt left : List (Seat (SockHome O g) View)) (s : Seat (SockHome O g) View) (ids fewer_ids : List (Seat (Option Asked) (id_view.View Asked))) (i : Seat (Option Asked) (id_view.View Asked)) (passes back fewer own : List (LinkPass O g))
+      → AreMade z p dealt passes → AreNew y ids → length ids ≡ p.seats → MayRunAll p q setup (map (λ (r : Room O g). r.tasks.items) rooms) → All HasRoom rooms → dealt ≡ left ++ s ∷ [] → ids ≡ fewer_ids ++ i ∷ [] → back ≡ reverse passes → All (IsPass z p) back → back ≡ fewer ++ own → length own ≡ opens_of setup
+      → Shared z p y setup rooms left s fewer_ids i fewer own
+  share z p y q setup rooms dealt left s ids fewer_ids i passes back fewer own made new many may has se ie is ok parts count =
+      let down = down_split 0 fewer own (subst (LinksDown 0) parts (subst (LinksDown 0) (sym is) (down_of z p 0 passes made.passes_are))) in
+      let oks = all_split (IsPass z p) fewer own (subst (All (IsPass z p)) parts ok) in
+      let ss = seats_last z p left s (subst (AreNewSeats z p) se made.seats_are) in
+      let ii = ids_last y fewer_ids i (subst (AreNew y) ie new) in
+      let a = ap length is ∙ length-reverse passes in let b = ap length parts ∙ length-append fewer own in let d = made.links in let l = may.links in let o = opens_each rooms in
+      let m = ap length se ∙ length-append left (s ∷ []) in let im = ap length ie ∙ length-append fewer_ids (i ∷ []) in let n = made.count in let r = may.seats in let t = length-map rooms (λ (r : Room O g). r.tasks.items) in let k = count in let j = many in record {
+        others = record {
+          rooms_are = has;
+          seats_are = ss.0;
+          ids_are = ii.0;
+          as_many = (omega arith, omega arith);
+          few = omega arith;
+          links = subst (λ (j : ℕ). LinksDown j fewer) (omega arith) down.0;
+          passes_are = oks.0;
+          count = omega arith;
+        };
+        seat = ss.1;
+        id = ii.1;
+        links = down.1;
+        passes = oks.1;
+        next = omega arith;
+      }
+
+-- the names that were found opened are those of the table
+pub fit_names : (p : Plan) (q : id_plan.Plan) (told : List Told) (os : List Opening) (setup : List Task) (names : List ℕ) (passes : ℕ) → names ≡ opened_names told os → os ≡ openings setup → MayMakeAll p q setup passes → All (λ (n : ℕ). n < p.names) names
+fit_names p q told os setup names passes is same may = subst (All (λ (n : ℕ). n < p.names)) (sym (is ∙ ap (opened_names told) same)) (names_fit p q told setup passes may)

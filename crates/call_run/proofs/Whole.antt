@@ -1,0 +1,116 @@
+-- A run over two tables, from those that are to run to what is left.
+use Rattle.std.proofs.Common.{◌≡◌, ℕ, ◌<◌, Bool, false, ◌||◌, List, [], ◌∷◌, map, length, get_or, refl, sym, ap, ◌∙◌, subst, arith}
+use Rattle.std.specs.Prelude.{Option, IfOk}
+use Rattle.std.specs.declared.result.Result.{Result}
+use Rattle.std.specs.declared.result.Result.TheVariants.{Ok, Err}
+use Rattle.std.proofs.lemmas.List.{length-map}
+use Rattle.std.specs.List.{list_any}
+use Rattle.atomic_table.specs.Seated.{TableId}
+use Rattle.atomic_table.specs.declared.shared.Seat.{Seat}
+use Rattle.sock_io.specs.declared.link.Out.{Ghosts}
+use Rattle.sock_io.specs.Link.{OutState}
+use Rattle.sock_words.specs.declared.plain.Plan.{Plan}
+use Rattle.sock_model.specs.declared.view.View.{View}
+use Rattle.sock_model.specs.Weights.{total}
+use Rattle.sock_rule.specs.declared.homes.SockHome.{SockHome}
+use Rattle.sock_table.specs.Closed.{IsDoneSeat, AllDone, ClosedBy}
+use Rattle.corr_core.specs.Law.{total as id_total}
+use Rattle.corr_core.specs.declared.marks.Plan as id_plan
+use Rattle.corr_core.specs.declared.marks.View as id_view
+use Rattle.corr_id.specs.declared.table.IdTable.{IdTable}
+use Rattle.sock_message.specs.Asked.{Asked}
+use Rattle.sock_programs.specs.declared.task.Task.{Task}
+use Rattle.thread_run.proofs.Weaving.{none_short}
+use Rattle.thread_run.proofs.Ending.{one_and}
+use Rattle.call_run.specs.declared.worker.Worker.{Worker}
+use Rattle.call_run.specs.declared.leaving.Left.{Left}
+use Rattle.call_run.specs.declared.running.Crew.{Crew}
+use Rattle.call_run.specs.declared.running.Ran.{Ran}
+use Rattle.call_run.specs.Ending.{EndedEach}
+use Rattle.call_run.specs.Threads.{opens_of, openings, opened_names, ids_of, AreThreads, AllRan, RanOn}
+use Rattle.call_run.specs.Working.{HasWorked}
+use Rattle.call_run.specs.Crew.{HandedIn, AreLeft, IsCrew, CrewRan}
+use Rattle.call_run.proofs.Weaving.{thread_of, one_thread, one_share, one_id, Woven, weave}
+
+abbrev pub made_by : {O : Type 0} {g : Ghosts O} → List (Worker O g) → List (List Task)
+made_by {O} {g} workers = map (λ (w : Worker O g). w.tasks.items) workers
+
+twice : {A B C : Type 0} (f : A → B) (h : B → C) (xs : List A) → map h (map f xs) ≡ map (λ x. h (f x)) xs
+twice f h [] = refl
+twice f h (x ∷ xs) = ap (λ l. h (f x) ∷ l) (twice f h xs)
+
+-- a client whose seat of the sockets went on
+abbrev pub with_seat : {O : Type 0} {g : Ghosts O} → Worker O g → Seat (SockHome O g) View → Worker O g
+with_seat w s = record w { caller = record w.caller { seat = s } }
+
+module _ {O : Type 0} {g : Ghosts O} (state : O → OutState) (z : TableId) (p : Plan) (y : TableId) (q : id_plan.Plan) (c : Crew O g) (m : Worker O g) (names : List ℕ) (ys : List (Worker O g)) (opens : List ℕ) (last : Seat (SockHome O g) View) (l1 l2 : Left O g)
+    (is : IsCrew z p y q c.main.tasks.items (made_by c.workers.items) c) (h : HasWorked state z p y q [] c.main m) (named : names ≡ opened_names m.caller.outcomes.items (openings c.main.tasks.items)) (len : length ys ≡ length c.workers.items)
+    (each : (i : ℕ) (d : Worker O g) → i < length c.workers.items → HasWorked state z p y q names (get_or c.workers.items i d) (get_or ys i d))
+    (done : IsDoneSeat z p last) (share : last.me.0.share ≡ m.caller.seat.me.0.share) (failed : EndedEach p opens m.caller.seat.me.0 last.me.0)
+    (whole : List (Worker O g)) (one : HandedIn (with_seat m last ∷ []) c.left l1) (all : HandedIn whole l1 l2) (lent : whole ≡ ys) where
+  woven : Woven z p y q state names (opens_of c.main.tasks.items) c.workers.items ys
+  woven = weave z p y q state names 1 (opens_of c.main.tasks.items) c.workers.items ys len is.hired each
+
+  main_id : AreLeft y (m.caller.calls.seat ∷ []) × (m.caller.calls.seat.me.0.share ≡ 1)
+  main_id = one_id z p y q state [] 0 0 c.main m h is.main_hired
+
+  seats : l2.seats.items ≡ last ∷ map (λ (w : Worker O g). w.caller.seat) ys
+  seats = one_and (λ (w : Worker O g). w.caller.seat) c.left.seats.items l1.seats.items l2.seats.items last whole ys is.left.seats.0 one.seats all.seats lent
+
+  ids : l2.ids.items ≡ m.caller.calls.seat ∷ map (λ (w : Worker O g). w.caller.calls.seat) ys
+  ids = one_and (λ (w : Worker O g). w.caller.calls.seat) c.left.ids.items l1.ids.items l2.ids.items m.caller.calls.seat whole ys is.left.ids.0 one.ids all.ids lent
+
+  told : l2.told.items ≡ m.caller.outcomes ∷ map (λ (w : Worker O g). w.caller.outcomes) ys
+  told = one_and (λ (w : Worker O g). w.caller.outcomes) c.left.told.items l1.told.items l2.told.items m.caller.outcomes whole ys is.left.told.0 one.told all.told lent
+
+  ended : l2.ended.items ≡ m.caller.calls.told ∷ map (λ (w : Worker O g). w.caller.calls.told) ys
+  ended = one_and (λ (w : Worker O g). w.caller.calls.told) c.left.ended.items l1.ended.items l2.ended.items m.caller.calls.told whole ys is.left.ended.0 one.ended all.ended lent
+
+  short : l2.short ≡ ((m.short || false) || list_any (λ (w : Worker O g). w.short) ys)
+  short = all.short ∙ (λ i. ((one.short ∙ ap (λ (b : Bool). b || (m.short || false)) is.left.calm) i || ap (list_any (λ (w : Worker O g). w.short)) lent i))
+
+  -- main's client and the others ran
+  pub crew_ran : CrewRan state z p y q c.main.tasks.items (made_by c.workers.items) opens l2
+  crew_ran = record {
+    left = record {
+      done = subst (AllDone z p) (sym seats) (done, woven.done);
+      all = ap (total (λ (s : Seat (SockHome O g) View). s.me.0.share)) seats ∙ omega (arith, share, one_share z p y q state [] 0 0 c.main m h is.main_hired, woven.share, is.may.seats, length-map c.workers.items (λ (w : Worker O g). w.tasks.items));
+    };
+    ids = subst (AreLeft y) (sym ids) (main_id.0.0, woven.left);
+    all_ids = ap (id_total (λ (s : Seat (Option Asked) (id_view.View Asked)). s.me.0.share)) ids ∙ omega (arith, main_id.1, woven.id_share, is.may.seats, is.as_many, length-map c.workers.items (λ (w : Worker O g). w.tasks.items));
+    ran = λ calm. let b = none_short (m.short || false) (list_any (λ (w : Worker O g). w.short) ys) (sym short ∙ calm) in let b0 = none_short m.short false b.0 in record {
+      main = thread_of z p y q state [] c.main m h;
+      others = woven.threads;
+      setup_asked = refl;
+      asked = woven.asked;
+      alone = refl;
+      main_is = one_thread z p y q state [] 0 0 c.main m h is.main_hired b0.0;
+      others_are = subst (λ ns. AreThreads state p q ns (opens_of c.main.tasks.items) woven.threads) named (woven.are b.1);
+      told_is = ap (λ l. m.caller.outcomes.items ∷ l) (woven.told ∙ sym (twice (λ (w : Worker O g). w.caller.outcomes) (λ v. v.items) ys)) ∙ sym (ap (map (λ v. v.items)) told);
+      ended_is = ap (λ l. m.caller.calls.told.items ∷ l) (woven.ended ∙ sym (twice (λ (w : Worker O g). w.caller.calls.told) (λ v. v.items) ys)) ∙ sym (ap (map (λ v. v.items)) ended);
+      ids_are = ap (λ l. m.caller.calls.seat.me.0 ∷ l) (woven.ids ∙ sym (twice (λ (w : Worker O g). w.caller.calls.seat) (λ (s : Seat (Option Asked) (id_view.View Asked)). s.me.0) ys)) ∙ sym (ap (map (λ (s : Seat (Option Asked) (id_view.View Asked)). s.me.0)) ids);
+      last = last;
+      failed = failed;
+      seats_are = ap (λ l. last ∷ l) woven.seats ∙ sym seats;
+    };
+  }
+
+-- behind them the table of sockets was closed
+pub run_ended : {O E : Type 0} {g : Ghosts O} (state : O → OutState) (z : TableId) (p plan : Plan) (y : TableId) (q : id_plan.Plan) (slots : ℕ) (s t setup : List Task) (cs ds clients : List (List Task)) (opens : List ℕ) (l : Left O g) (table : IdTable Asked) (result : Result (Ran O) E)
+    → p ≡ plan → q ≡ ids_of plan slots → s ≡ t → t ≡ setup → cs ≡ ds → ds ≡ clients → CrewRan state z p y q s cs opens l
+    → IfOk result (λ r. (l.short ≡ false) × (r.told ≡ l.told) × (r.ended ≡ l.ended) × (r.ids ≡ table) × (r.seats ≡ l.ids) × ClosedBy state p l.seats.items r.places.items r.vrefs.items r.outs.items)
+    → IfOk result (λ r. RanOn g state plan slots setup clients opens (map (λ v. v.items) r.told.items) (map (λ v. v.items) r.ended.items) r.places.items r.vrefs.items r.outs.items (map (λ (x : Seat (Option Asked) (id_view.View Asked)). x.me.0) r.seats.items))
+run_ended state z p plan y q slots s t setup cs ds clients opens l table (Err x) pe qe se te ce de ran e = tt
+run_ended {O} {E} {g} state z p plan y q slots s t setup cs ds clients opens l table (Ok r) pe qe se te ce de ran e = record {
+  seats = l.seats.items;
+  ran =
+      let ids = map (λ (x : Seat (Option Asked) (id_view.View Asked)). x.me.0) l.ids.items in let told = map (λ v. v.items) l.told.items in let ended = map (λ v. v.items) l.ended.items in
+      subst (λ v. AllRan g state plan (ids_of plan slots) setup clients opens (map (λ w. w.items) r.told.items) (map (λ w. w.items) r.ended.items) l.seats.items (map (λ (x : Seat (Option Asked) (id_view.View Asked)). x.me.0) v.items)) (sym e.4)
+      (subst (λ v. AllRan g state plan (ids_of plan slots) setup clients opens (map (λ w. w.items) r.told.items) (map (λ w. w.items) v.items) l.seats.items ids) (sym e.2)
+      (subst (λ v. AllRan g state plan (ids_of plan slots) setup clients opens (map (λ w. w.items) v.items) ended l.seats.items ids) (sym e.1)
+      (subst (λ v. AllRan g state plan (ids_of plan slots) setup v opens told ended l.seats.items ids) (ce ∙ de)
+      (subst (λ v. AllRan g state plan (ids_of plan slots) v cs opens told ended l.seats.items ids) (se ∙ te)
+      (subst (λ v. AllRan g state plan v s cs opens told ended l.seats.items ids) qe
+      (subst (λ v. AllRan g state v q s cs opens told ended l.seats.items ids) pe (ran.ran e.0)))))));
+  closed = subst (λ v. ClosedBy state v l.seats.items r.places.items r.vrefs.items r.outs.items) pe e.5;
+}

@@ -1,0 +1,22 @@
+use Rattle.std.proofs.Common.{ap, sym, subst}
+use Rattle.thread_run.specs.Crew.{AreBack}
+use Rattle.thread_run.proofs.Ending.{fresh_back}
+use Rattle.call_run.proofs.Whole.{run_ended}
+use Rattle.call_run.proofs.running.run_on.Goals as goal
+
+pub returns-in_default-clause-back : goal.returns-in_default-clause-back
+returns-in_default-clause-back g c = fresh_back g.O.Out.state c.args.plan.now c.args.outs.items c.requires.outs
+
+pub returns-in_default-prepare-clause-back : goal.returns-in_default-prepare-clause-back
+returns-in_default-prepare-clause-back g c = fresh_back g.O.Out.state c.args.plan.now c.args.outs.items c.requires.outs
+
+pub returns-in-Err-clause-back : goal.returns-in-Err-clause-back
+returns-in-Err-clause-back g c = subst (AreBack g.O.Out.state c.args.plan.now) (sym c.in-Err.ensures.back) (fresh_back g.O.Out.state c.args.plan.now c.args.outs.items c.requires.outs)
+
+pub returns-in_default-new-clause-back : goal.returns-in_default-new-clause-back
+returns-in_default-new-clause-back g c = fresh_back g.O.Out.state c.args.plan.now c.args.outs.items c.requires.outs
+
+pub returns-in-Ok-new_table-clause-ran : goal.returns-in-Ok-new_table-clause-ran
+returns-in-Ok-new_table-clause-ran g c = let t = c.in-Ok-new_table.field-0.table.rule in let i = c.in-Ok-new.ids in let crew = c.crew_of-crew.ensures in let cast = c.in-Ok-prepare.ensures in
+    let same_ids = ap (λ x. x.plan) c.in-Ok-new.ids-is in let made_ids = c.in-Ok-new.ensures.plan in
+    run_ended g.O.Out.state t.table.shared.table_id t.plan c.args.plan.now i.table.shared.table_id i.plan c.args.slots _ _ _ _ _ _ c.args.opens.now c.run_crew-left.result i c.end.result c.in-Ok-new_table.ensures.plan (cc) crew.main_is cast.main_is crew.tasks cast.tasks c.run_crew-left.ensures c.end.ensures.ran

@@ -1,0 +1,264 @@
+// The clients of a script with calls on threads, over tables of their own.
+ghost use Rattle.std.specs.Prelude.{◌≡◌, ◌<◌, ◌≤◌, false, All, IfOk, IfErr, length, map};
+ghost use Rattle.corr_core.specs.Law.{total};
+ghost use Rattle.corr_id.specs.Opening.{AreNew};
+ghost use Rattle.sock_open.specs.Made.{AreMade};
+ghost use Rattle.sock_open.specs.Opening.{MayBegin, AreFresh};
+ghost use Rattle.sock_table.specs.Closed.{ClosedBy, IsRoomOf};
+ghost use Rattle.thread_run.specs.Crew.{IsLeft, AreBack};
+ghost use Rattle.call_run.specs.Threads.{ids_of, MayRunAll, RanOn};
+ghost use Rattle.call_run.specs.Crew.{AreLeft, IsCast, IsCrew, CrewRan};
+
+use crate::failing::end_each;
+use crate::hiring::{Room, hire, hire_all, room_for, rooms_for};
+use crate::leaving::{Left, hand_in, hand_in_all, room_to_leave};
+use crate::opened::{Opening, opened_names, openings};
+use crate::worker::{Worker, run_workers};
+use call_attempts::Tables;
+use corr_id::{IdSeat, IdTable};
+use rpc_client::Told;
+use sock_io::{Gate, OpenGate, Out};
+use sock_message::Call;
+use sock_open::{Made, NoTable, new_table};
+use sock_programs::Task;
+use sock_rule::SockSeat;
+use sock_table::{Closed, LinkPass, rooms};
+use sock_words::{PlaceWord, Plan, Vref};
+use std::alloc::{AllocError, Global};
+use std::collections::VecDeque;
+use std::sync::Wait;
+use std::thread::Threads;
+
+/// What a run leaves: what each client told of its operations, and of the calls that it ended, that of the setup first; the place
+/// words and the reference words; the writing halves, in their order; and the table of ids with the seats of the clients, in
+/// their order.
+#[derive(Drop)]
+pub struct Ran<O: Out> {
+    pub told: Vec<Vec<Told>>,
+    pub ended: Vec<Vec<Told>>,
+    pub places: Vec<PlaceWord>,
+    pub vrefs: Vec<Vref>,
+    pub outs: Vec<O>,
+    pub ids: IdTable<Call>,
+    pub seats: Vec<IdSeat<Call>>,
+}
+
+/// Memory was wanting. The writing halves come back, in their order.
+#[derive(Drop)]
+pub struct NoRun<O: Out> {
+    pub outs: Vec<O>,
+}
+
+/// All that a run needs of memory before its tables are made.
+#[derive(Drop)]
+pub struct Cast<O: Out> {
+    pub main: Room<O>,
+    pub rooms: Vec<Room<O>>,
+    pub workers: Vec<Worker<O>>,
+    pub openings: Vec<Opening>,
+    pub names: Vec<u16>,
+    pub left: Left<O>,
+}
+
+fn prepare<O: Out>(
+    alloc: Global,
+    setup: VecDeque<Task>,
+    clients: Vec<VecDeque<Task>>,
+) -> Result<Cast<O>, AllocError>
+    requires few { length clients.items ≤ 63 }
+    ensures { IfOk result (IsCast setup.items (map (λ v. v.items) clients.items)) }
+{
+    let count = clients.len();
+    let openings = openings(alloc, &setup)?;
+    let names = Vec::with_capacity(alloc, openings.len())?;
+    let workers = Vec::with_capacity(alloc, count)?;
+    let left = room_to_leave(alloc, count + 1)?;
+    let main = room_for(alloc, setup)?;
+    let rooms = rooms_for(alloc, clients)?;
+    Ok(Cast {
+        main,
+        rooms,
+        workers,
+        openings,
+        names,
+        left,
+    })
+}
+
+/// Those that run, with room for what they leave. The setup is main's.
+#[derive(Drop)]
+pub struct Crew<O: Out> {
+    pub main: Worker<O>,
+    pub workers: Vec<Worker<O>>,
+    pub openings: Vec<Opening>,
+    pub names: Vec<u16>,
+    pub left: Left<O>,
+}
+
+/// Each client gets its seats, and the passes of its links.
+fn crew_of<O: Out>(
+    alloc: Global,
+    tables: &Tables<O>,
+    mut dealt: Vec<SockSeat<O>>,
+    mut ids: Vec<IdSeat<Call>>,
+    mut passes: Vec<LinkPass<O>>,
+    cast: Cast<O>,
+) -> Crew<O>
+    requires made { AreMade tables.now.socks.rule.table.shared.table_id tables.now.socks.rule.plan dealt.items passes.items }
+    requires ids { AreNew tables.now.ids.table.shared.table_id ids.items }
+    requires as_many { (length ids.items ≡ tables.now.socks.rule.plan.seats) × (tables.now.ids.plan.seats ≡ tables.now.socks.rule.plan.seats) }
+    requires cast { IsCast cast.main.tasks.items (map (λ r. r.tasks.items) cast.rooms.items) cast }
+    requires may { MayRunAll tables.now.socks.rule.plan tables.now.ids.plan cast.main.tasks.items (map (λ r. r.tasks.items) cast.rooms.items) }
+    requires few { length cast.rooms.items ≤ 63 }
+    ensures { IsCrew tables.now.socks.rule.table.shared.table_id tables.now.socks.rule.plan tables.now.ids.table.shared.table_id tables.now.ids.plan cast.main.tasks.items (map (λ r. r.tasks.items) cast.rooms.items) result }
+{
+    let Cast {
+        main,
+        rooms,
+        mut workers,
+        openings,
+        names,
+        left,
+    } = cast;
+    passes.reverse();
+    let Some(seat) = dealt.pop() else {
+        unreachable!();
+    };
+    let Some(id_seat) = ids.pop() else {
+        unreachable!();
+    };
+    let main = hire(alloc, 0, main, seat, id_seat, &mut passes);
+    hire_all(
+        alloc,
+        tables,
+        rooms,
+        &mut dealt,
+        &mut ids,
+        &mut passes,
+        &mut workers,
+    );
+    Crew {
+        main,
+        workers,
+        openings,
+        names,
+        left,
+    }
+}
+
+/// Main makes the setup. Then each client makes its operations, on a thread of its own, once it found what the setup opened.
+/// When all have ended, main ends the sockets of these `open`s.
+fn run_crew<O: Out + Send, G: Gate + Sync, R: Threads + Wait + Sync>(
+    rt: &R,
+    tables: &Tables<O>,
+    gate: &G,
+    opens: &[u16],
+    crew: Crew<O>,
+) -> Left<O>
+    requires crew { IsCrew tables.now.socks.rule.table.shared.table_id tables.now.socks.rule.plan tables.now.ids.table.shared.table_id tables.now.ids.plan crew.main.tasks.items (map (λ w. w.tasks.items) crew.workers.items) crew }
+    requires opens { All (λ o. o < tables.now.socks.rule.plan.operations) opens.now }
+    ensures { CrewRan O.state tables.now.socks.rule.table.shared.table_id tables.now.socks.rule.plan tables.now.ids.table.shared.table_id tables.now.ids.plan crew.main.tasks.items (map (λ w. w.tasks.items) crew.workers.items) opens.now result }
+{
+    let Crew {
+        mut main,
+        mut workers,
+        openings,
+        mut names,
+        mut left,
+    } = crew;
+    main.work(rt, tables, &[], &OpenGate);
+    opened_names(
+        main.caller.outcomes.as_slice(),
+        openings.as_slice(),
+        &mut names,
+    );
+    run_workers(rt, tables, names.as_slice(), gate, workers.as_mut_slice());
+    end_each(rt, &tables.socks, &mut main.caller.seat, opens);
+    hand_in(main, &mut left);
+    hand_in_all(workers, &mut left);
+    left
+}
+
+/// The table of sockets ends.
+fn end<O: Out>(tables: Tables<O>, room: Closed<O>, left: Left<O>) -> Result<Ran<O>, NoRun<O>>
+    requires plan { MayBegin tables.socks.rule.plan }
+    requires room { IsRoomOf tables.socks.rule.plan room }
+    requires done { IsLeft tables.socks.rule.table.shared.table_id tables.socks.rule.plan left.seats.items }
+    ensures ran { IfOk result (λ r. (left.short ≡ false) × (r.told ≡ left.told) × (r.ended ≡ left.ended) × (r.ids ≡ tables.ids) × (r.seats ≡ left.ids) × ClosedBy O.state tables.socks.rule.plan left.seats.items r.places.items r.vrefs.items r.outs.items) }
+    ensures back { IfErr result (λ e. AreBack O.state tables.socks.rule.plan e.outs.items) }
+{
+    let Tables { socks, ids } = tables;
+    let Left {
+        seats,
+        ids: id_seats,
+        told,
+        ended,
+        short,
+    } = left;
+    let Closed {
+        places,
+        vrefs,
+        outs,
+    } = socks.close_in(room, seats);
+    if short {
+        return Err(NoRun { outs });
+    }
+    Ok(Ran {
+        told,
+        ended,
+        places,
+        vrefs,
+        outs,
+        ids,
+        seats: id_seats,
+    })
+}
+
+/// Runs these clients over tables of their own, main the setup before. Behind them the sockets of these `open`s are set failed,
+/// and the table of sockets is closed; that of ids is left open, for the readers.
+pub fn run_on<O: Out + Send, G: Gate + Sync, R: Threads + Wait + Sync>(
+    rt: &R,
+    alloc: Global,
+    plan: &Plan,
+    slots: u16,
+    setup: VecDeque<Task>,
+    clients: Vec<VecDeque<Task>>,
+    opens: &[u16],
+    outs: Vec<O>,
+    gate: &G,
+) -> Result<Ran<O>, NoRun<O>>
+    requires plan { MayBegin plan.now }
+    requires slots { slots ≤ 4096 }
+    requires operations { plan.now.operations ≤ 4096 }
+    requires outs { AreFresh O.state plan.now outs.items }
+    requires may { MayRunAll plan.now (ids_of plan.now slots) setup.items (map (λ v. v.items) clients.items) }
+    requires opens { All (λ o. o < plan.now.operations) opens.now }
+    ensures ran { IfOk result (λ r. RanOn O.Out O.state plan.now slots setup.items (map (λ v. v.items) clients.items) opens.now (map (λ v. v.items) r.told.items) (map (λ v. v.items) r.ended.items) r.places.items r.vrefs.items r.outs.items (map (λ s. s.me.0) r.seats.items)) }
+    ensures ids { IfOk result (λ r. (r.ids.plan ≡ ids_of plan.now slots) × AreLeft r.ids.table.shared.table_id r.seats.items × (total (λ s. s.me.0.share) r.seats.items ≡ r.ids.plan.seats)) }
+    ensures back { IfErr result (λ e. AreBack O.state plan.now e.outs.items) }
+{
+    let Ok(room) = rooms(alloc, plan) else {
+        return Err(NoRun { outs });
+    };
+    let Ok(cast) = prepare(alloc, setup, clients) else {
+        return Err(NoRun { outs });
+    };
+    let Ok((ids, id_seats)) = IdTable::new(alloc, slots, plan.operations, plan.seats) else {
+        return Err(NoRun { outs });
+    };
+    match new_table(alloc, plan, outs) {
+        Ok(
+            Made {
+                table,
+                seats,
+                passes,
+            },
+        ) => {
+            let tables = Tables { socks: table, ids };
+            let crew = crew_of(alloc, &tables, seats, id_seats, passes, cast);
+            let left = run_crew(rt, &tables, gate, opens, crew);
+            end(tables, room, left)
+        }
+        Err(NoTable { outs }) => Err(NoRun { outs }),
+    }
+}
