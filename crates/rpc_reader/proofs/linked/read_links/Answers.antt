@@ -17,11 +17,13 @@ links-preserved g c = let i = c.links.one-index in let d = c.one-item.result in 
   rest = rests_then c.args.calls.now.seat c.links.calls.seat c.read_served.new.calls.seat on.rest c.read_served.ensures.ids;
   stand = stand_next i c.args.ends.now c.links.ends v on.stand (search rules);
   outs = map-set_same (λ e. g.L.O.Out.state e.out) c.links.ends i v d c.read_served.ensures.out ∙ on.outs;
-  read = λ e. elim c.if-is_err.branch [ then-is_err w ↦ absurd (false≢true (sym e ∙ w.lacks-is))
+  read = λ e. elim c.if-is_err.branch [
+    | then-is_err w ↦ absurd (false≢true (sym e ∙ w.lacks-is))
     | else-is_err w ↦
-      let one = was_ok c.read_served.result _ (sym c.is_err.ensures.value ∙ w.if-is_err.false) c.read_served.ensures.read in
-      read_next g.L.O.Out.state g.L.I.In.state c.args.ids.now.plan c.args.operations.now i c.args.ends.now c.links.ends d v (books c.args.calls.now) b b' (let long : length c.links.ends ≡ length c.args.ends.now = on.stand.sized in omega arith) on.stand (on.read (sym w.lacks-is ∙ e))
-      (subst (λ (n : ℕ). ReadServed g.L.O.Out.state g.L.I.In.state c.args.ids.now.plan c.args.operations.now n (get_or c.links.ends i d) v b b') on.number one) ];
+        let one = was_ok c.read_served.result _ (sym c.is_err.ensures.value ∙ w.if-is_err.false) c.read_served.ensures.read in
+        read_next g.L.O.Out.state g.L.I.In.state c.args.ids.now.plan c.args.operations.now i c.args.ends.now c.links.ends d v (books c.args.calls.now) b b' (let long : length c.links.ends ≡ length c.args.ends.now = on.stand.sized in omega arith) on.stand (on.read (sym w.lacks-is ∙ e))
+        (subst (λ (n : ℕ). ReadServed g.L.O.Out.state g.L.I.In.state c.args.ids.now.plan c.args.operations.now n (get_or c.links.ends i d) v b b') on.number one)
+  ];
   asked = c.read_served.ensures.asked ∙ on.asked;
   accepted = c.read_served.ensures.accepted ∙ on.accepted;
   back = c.read_served.ensures.back ∙ on.back;
