@@ -1,7 +1,8 @@
 -- A client tells of each id as many ends as its seat noted, unless memory was wanting.
-use Rattle.std.proofs.Common.{◌≡◌, ℕ, ◌+◌, ◌*◌, ◌⊎◌, inl, inr, true, false, List, [], ◌∷◌, ◌++◌, drop, drop_all, length, refl, ◌∙◌, ap, sym, subst, arith}
+use Rattle.std.proofs.Common.{◌≡◌, ℕ, ◌+◌, ◌*◌, ◌⊎◌, inl, inr, true, false, List, [], ◌∷◌, ◌++◌, drop, length, refl, ◌∙◌, ap, sym, subst, arith}
 use Rattle.std.specs.Prelude.{Option}
 use Rattle.std.specs.List.{AllByRecursion}
+use Rattle.std.proofs.lemmas.List.{drop_all}
 use Rattle.atomic_table.specs.Table.{Me}
 use Rattle.sock_io.specs.declared.link.Out.{Ghosts}
 use Rattle.sock_io.specs.Link.{OutState}
@@ -54,7 +55,7 @@ module _ {O : Type 0} {g : Ghosts O} (state : O → OutState) (p : Plan) (q : id
   -- memory was not wanting where the run says so
   run_fed : {xs : List Task} (c d : Caller O g) → RunBy state p q false xs c d → d.calls.starved ≡ false
   run_fed {xs} c d r =
-      let all : drop r.made xs ≡ [] = ap (λ (n : ℕ). drop n xs) r.ends.0 ∙ drop_all xs in
+      let all : drop r.made xs ≡ [] = let n = r.ends.0 in drop_all r.made xs (omega arith) in
       ap (λ (s : CallStand). s.books.starved) r.calls ∙ (ap (λ (s : Stand g). s.calls.books.starved) (none_left r.last r.end (drop r.made xs) all r.left) ∙ r.ends.1.all.fed)
 
   -- a client that began with a new seat and had told nothing

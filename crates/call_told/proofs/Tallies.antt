@@ -113,7 +113,7 @@ outcome_is id ended f (negsuc n) o = refl
 ending_is : (id ended : ℕ) (f : model.Frame) → ends_of id (ending_of ended f) ≡ only id ended
 ending_is id ended f = outcome_is id ended f f.meta.compress_type f.meta.response
 
-version_low : (id : ℕ) → version_of id < 4294967296
+pub version_low : (id : ℕ) → version_of id < 4294967296
 version_low id = let some : 0 < 4294967296 = omega arith in mod-lt id some
 
 ended_tally : (slot : ℕ) (w : Parts) (call : Asked) (by : Outcome) (b b' : Books) → w.first < 4294967296 → ((id : ℕ) → ends_of id by ≡ only id (id_of slot w)) → EndedAs slot w call by b b' → Tally b b'
