@@ -100,13 +100,13 @@ module _ {O : Type 0} {g : Ghosts O} (state : O → OutState) (p : Plan) (q : id
     -- ## One operation more
 
     module _ (n : ℕ) (x : Task) (c d e f : Caller O g) (by : Maybe Outcome) (r : RanTo state p q xs n c d) (ready : RetriedHere state p q (stand d) (stand e)) (acted : Acted state p q x.number x.op by (stand e) (stand f)) (kept : StaysSeen d.seat.me.0 e.seat.me.0) (seen : StaysSeen e.seat.me.0 f.seat.me.0) where
-      knows : Caller O g → ℕ → Type 0
+      abbrev knows : Caller O g → ℕ → Type 0
       knows h m = HasSeen (name_word p m) h.seat.me.0
 
       was_known : All (knows e) r.names
       was_known = All-weaker (knows d) (knows e) (λ m has. kept (name_word p m) has) r.names r.known
 
-      names_then : List ℕ
+      abbrev names_then : List ℕ
       names_then = cond (finds_name by) (names_in x.op ++ r.names) r.names
 
       before : All (knows f) r.names

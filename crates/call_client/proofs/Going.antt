@@ -1,5 +1,5 @@
 -- What a client has behind each operation.
-use Rattle.std.proofs.Common.{◌≡◌, ℕ, ◌+◌, ◌<◌, ◌≤◌, Some, List, [], ◌∷◌, ◌++◌, length, take, drop, length-append, length-take, length-drop, ap, ◌∙◌, sym, subst, arith}
+use Rattle.std.proofs.Common.{◌≡◌, ℕ, suc, ◌+◌, ◌<◌, ◌≤◌, Some, List, [], ◌∷◌, ◌++◌, length, take, drop, length-append, length-take, length-drop, ap, ◌∙◌, sym, subst, arith}
 use Rattle.std.specs.Prelude.{All, Option as Maybe}
 use Rattle.std.specs.List.{remove}
 use Rattle.atomic_table.specs.Seated.{TableId}
@@ -36,8 +36,7 @@ few_there i [] = omega arith
 few_there i (x ∷ xs) = let a = few_there i xs in let b = only_le i (socket_id_slot x.id.0) in omega arith
 
 short_removed : {A : Type 0} (h : List A) (at : ℕ) → length (remove h at) ≤ length h
-short_removed [] at = omega (arith, length-append (take at []) (drop (at + 1) []))
-short_removed (x ∷ xs) at = let a = length-take at (x ∷ xs) in let b = length-drop (at + 1) (x ∷ xs) in omega (arith, length-append (take at (x ∷ xs)) (drop (at + 1) (x ∷ xs)))
+short_removed h at = let a = length-take at h in let b = length-drop (suc at) h in let c = length-append (take at h) (drop (suc at) h) in omega arith
 
 pub held_few : (p : Plan) (n : ℕ) (by : Outcome) (h : List Held) (v : View) (k : List Held) (w : View) → HeldBy p n by h v k w → length k ≤ length h + 1
 held_few p n outcome.Unopened h v k w b = let e = ap length b.0 in omega arith

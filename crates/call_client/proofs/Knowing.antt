@@ -108,10 +108,10 @@ module _ {O : Type 0} (state : O → OutState) (p : Plan) (slots n : ℕ) (msg :
 
 -- ## An operation
 
-module _ {O : Type 0} {g : Ghosts O} (state : O → OutState) (p : Plan) (q : id_plan.Plan) where
-  begun_known : (asked : Asked) (id : ℕ) (s t : Both) → BegunAs state p q asked id s t → HasSeen (name_word p (name_of asked 0)) t.socks
-  begun_known asked id s t b = (attempted_leaves state p q b.socket (letter_for asked id 0 zero-le) b.at t b.attempted).seen (name_word p (name_of asked 0)) (found_known p (name_of asked 0) b.socket s.socks b.at.socks b.made_for.found)
+begun_known : {O : Type 0} (state : O → OutState) (p : Plan) (q : id_plan.Plan) (asked : Asked) (id : ℕ) (s t : Both) → BegunAs state p q asked id s t → HasSeen (name_word p (name_of asked 0)) t.socks
+begun_known state p q asked id s t b = (attempted_leaves state p q b.socket (letter_for asked id 0 zero-le) b.at t b.attempted).seen (name_word p (name_of asked 0)) (found_known p (name_of asked 0) b.socket s.socks b.at.socks b.made_for.found)
 
+module _ {O : Type 0} {g : Ghosts O} (state : O → OutState) (p : Plan) (q : id_plan.Plan) where
   one_known : (s : Stand g) (n : ℕ) → HasSeen (name_word p n) s.me.0 → All (λ m. HasSeen (name_word p m) s.me.0) (n ∷ [])
   one_known s n h = All-cons (λ m. HasSeen (name_word p m) s.me.0) n [] h (All-nil (λ m. HasSeen (name_word p m) s.me.0))
 
@@ -120,7 +120,7 @@ module _ {O : Type 0} {g : Ghosts O} (state : O → OutState) (p : Plan) (q : id
   acted_known number (ops.Open n k) (Some by) s t f b = one_known t n (opened_known p n number b.0.pass.link by s.me t.me f b.0.opened)
   acted_known number (ops.Send n bytes) by s t f b = one_known t n (sent_known state p q.slots n (letter_of number bytes) by s.me.0 t.me.0 f (sent_plainly state p q.slots n (letter_of number bytes) by s.me.0 t.me.0 s.calls t.calls b.0))
   acted_known number (ops.Call asked) (Some outcome.Unopened) s t f b = absurd (false_true f)
-  acted_known number (ops.Call asked) None s t f b = one_known t (name_of asked 0) (begun_known asked b.0 (both_of s) (both_of t) b.1)
+  acted_known number (ops.Call asked) None s t f b = one_known t (name_of asked 0) (begun_known state p q asked b.0 (both_of s) (both_of t) b.1)
   acted_known number (ops.Call asked) (Some _) s t f b = elim b [ ]
   acted_known number (ops.Expire of) by s t f b = All-nil (λ n. HasSeen (name_word p n) t.me.0)
   acted_known number (ops.Join of) by s t f b = All-nil (λ n. HasSeen (name_word p n) t.me.0)

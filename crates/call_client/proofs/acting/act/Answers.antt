@@ -1,4 +1,11 @@
-use Rattle.std.proofs.Common.{◌≡◌, ◌+◌, ◌<◌, ◌≤◌, refl, arith}
+use Rattle.std.proofs.Common.{◌≡◌, ℕ, ◌+◌, ◌<◌, ◌≤◌, refl, sym, subst, ap, arith}
+use Rattle.std.specs.Prelude.{IfOk, IfErr}
+use Rattle.sock_programs.specs.declared.task.Op.{Op}
+use Rattle.sock_programs.specs.declared.task.Op.TheVariants as ops
+use Rattle.call_client.specs.Acting.{stand, Acted}
+use Rattle.call_client.specs.Running.{NotCalled}
+use Rattle.call_client.specs.Making.{NotMade}
+use Rattle.call_client.proofs.Coursing.{ok_then, err_then}
 use Rattle.call_client.proofs.Going.{may_act_now, kept_go, same_passes, same_sent, same_ids, held_go, same_go, held_few, dropped_few}
 use Rattle.call_client.proofs.acting.act.Goals as goal
 
@@ -43,3 +50,11 @@ returns-in-Drop-clause-go g c = let e = c.drop_one-outcome.ensures in let n = c.
 
 pub returns-in-Fail-clause-go : goal.returns-in-Fail-clause-go
 returns-in-Fail-clause-go g c = let e = c.fail_one-outcome.ensures in let n = c.fail_one-outcome.new in let d = record c.args.caller.now { seat = n.seat } in kept_go c.args.tables.now.socks.rule.table.shared.table_id c.args.tables.now.socks.rule.plan c.args.tables.now.ids.table.shared.table_id c.args.made (c.args.made + 1) c.args.caller.now d c.requires.go (omega arith) e.rest e.refs refl c.requires.go.passes (same_sent c.args.tables.now.socks.rule.table.shared.table_id c.args.tables.now.socks.rule.plan c.args.tables.now.ids.table.shared.table_id c.args.caller.now d refl e.lists c.requires.go.own) c.requires.go.ids
+
+pub returns-in-Call-clause-acted : goal.returns-in-Call-clause-acted
+returns-in-Call-clause-acted g c = subst (λ (x : Op). IfOk c.begin_call.result (λ o. Acted g.O.Out.state c.args.tables.now.socks.rule.plan c.args.tables.now.ids.plan c.args.number x o (stand c.args.caller.now) (stand c.begin_call.new.caller))) (sym c.in-Call.is)
+    (ok_then c.begin_call.result (λ o. (number : ℕ) → Acted g.O.Out.state c.args.tables.now.socks.rule.plan c.args.tables.now.ids.plan number (ops.Call c.in-Call.call) o (stand c.args.caller.now) (stand c.begin_call.new.caller)) (λ o. Acted g.O.Out.state c.args.tables.now.socks.rule.plan c.args.tables.now.ids.plan c.args.number (ops.Call c.in-Call.call) o (stand c.args.caller.now) (stand c.begin_call.new.caller)) (λ o k. k c.args.number) c.begin_call.ensures.called)
+
+pub returns-in-Call-clause-not_made : goal.returns-in-Call-clause-not_made
+returns-in-Call-clause-not_made g c = subst (λ (x : Op). IfErr c.begin_call.result (λ _. NotMade g.O.Out.state c.args.tables.now.socks.rule.plan c.args.tables.now.ids.plan x (stand c.args.caller.now) (stand c.begin_call.new.caller))) (sym c.in-Call.is)
+    (err_then c.begin_call.result (λ _. NotCalled g.O.Out.state c.args.tables.now.socks.rule.plan c.args.tables.now.ids.plan c.in-Call.call (stand c.args.caller.now) (stand c.begin_call.new.caller)) (λ _. NotMade g.O.Out.state c.args.tables.now.socks.rule.plan c.args.tables.now.ids.plan (ops.Call c.in-Call.call) (stand c.args.caller.now) (stand c.begin_call.new.caller)) (λ _ k. (k, record { held = ap (λ v. v.items) c.begin_call.ensures.others.0; passes = ap (λ v. v.items) c.begin_call.ensures.others.1 })) c.begin_call.ensures.not_called)

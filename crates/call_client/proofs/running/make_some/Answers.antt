@@ -6,7 +6,7 @@ use Rattle.call_client.proofs.Going.{same_go}
 use Rattle.call_client.proofs.running.make_some.Goals as goal
 
 pub make_all-requires-clause-go : goal.make_all-requires-clause-go
-make_all-requires-clause-go g c = let o = c.make_room.ensures.others in same_go c.args.tables.now.socks.rule.table.shared.table_id c.args.tables.now.socks.rule.plan c.args.tables.now.ids.table.shared.table_id 0 0 c.args.caller.now c.make_room.new.caller c.requires.go (omega arith) o.0 c.make_room.ensures.lists.0 o.1 o.3 (subst (λ k. HasNoLock c.args.tables.now.ids.table.shared.table_id k) (sym o.2) c.requires.go.ids)
+make_all-requires-clause-go g c κs within = let o = c.make_room.ensures.others in same_go c.args.tables.now.socks.rule.table.shared.table_id c.args.tables.now.socks.rule.plan c.args.tables.now.ids.table.shared.table_id 0 0 c.args.caller.now c.make_room.new.caller c.requires.go (omega arith) o.0 c.make_room.ensures.lists.0 o.1 o.3 (subst (λ k. HasNoLock c.args.tables.now.ids.table.shared.table_id k) (sym o.2) c.requires.go.ids)
 
 pub returns-in-Ok-clause-all : goal.returns-in-Ok-clause-all
 returns-in-Ok-clause-all g c = let p = c.args.tables.now.socks.rule.plan in let q = c.args.tables.now.ids.plan in let xs = c.args.tasks.now.items in let o = c.make_room.ensures.others in
