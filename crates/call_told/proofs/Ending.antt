@@ -91,7 +91,7 @@ module _ (links : ℕ) (gave : ℕ → List ℕ) where
         let u : Books = record b { view = a.locked } in
         step_then b u b' (step_seen b a.locked (did_later (slot_in f) b.view a.locked _ _ a.got.did))
         (ended_step (slot_in f) a.word a.call (ending_of (id_of (slot_in f) a.word) (frame_of f)) b.view a.found u b' a.got a.ended
-            (λ kept. (by_response (frame_of f) (given_response links gave (slot_in f) a.word f given refl a.version.0 a.version.1) refl, subst (λ (l : List Frame). GivenAll l) (sym a.early) kept)))
+        (λ kept. (by_response (frame_of f) (given_response links gave (slot_in f) a.word f given refl a.version.0 a.version.1) refl, subst (λ (l : List Frame). GivenAll l) (sym a.early) kept)))
 
     kept_given : (c : Bool) → KeptIf c f b.early b.starved b'.early b'.starved → GivenAll b.early → GivenAll b'.early
     kept_given true (inl k) kept = subst (λ (l : List Frame). GivenAll l) (sym k.0) (all_both (λ x. IsGiven links gave (frame_of x)) b.early (f ∷ []) kept (given, tt))
@@ -126,8 +126,10 @@ module _ (links : ℕ) (gave : ℕ → List ℕ) where
             let passes = (position-Some (is_for slot w) b.early i f e).1 in
             let is = for_is slot w f (ap (is_for slot w) (sym (elem_or b.early i f f l.1)) ∙ passes) in
             ended_step slot w call (ending_of (id_of slot w) (frame_of f)) u word b b' got l.3
-            (λ kept. (by_response (frame_of f) (given_response links gave slot w f (all_at (λ x. IsGiven links gave (frame_of x)) b.early i f kept l.1) is.0 is.1 is.2) refl,
-                subst (λ (fs : List Frame). GivenAll fs) (sym l.2) (all_but (λ x. IsGiven links gave (frame_of x)) i b.early kept)))
+            (λ kept. (
+              by_response (frame_of f) (given_response links gave slot w f (all_at (λ x. IsGiven links gave (frame_of x)) b.early i f kept l.1) is.0 is.1 is.2) refl,
+              subst (λ (fs : List Frame). GivenAll fs) (sym l.2) (all_but (λ x. IsGiven links gave (frame_of x)) i b.early kept),
+            ))
 
     posted_to : (slots : ℕ) (v : View Asked) (id : ℕ) (attempt : Option ℕ) (answer : Posted Asked) (b b' : Books) → PostOk slots v b.view id code attempt answer → PostedTo code answer b b' → Step b b'
     posted_to slots v id attempt (HasLock k) b b' post h = lost_step k.slot (parts k.word.0) k.content v post.4.0 b b' post.4.1 h

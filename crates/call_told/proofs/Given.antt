@@ -31,8 +31,11 @@ module _ (links : ℕ) (gave : ℕ → List ℕ) where
   given_by k bytes more left fs lt is c m f at r = record {
     link = k;
     place = m;
-    whole = (lt, ap (λ (l : List ℕ). slice_get (stream l).frames m) is ∙ ap (λ (l : List model.Frame). slice_get l m) (cut_front bytes more left (map frame_of fs) c)
-        ∙ at_front (map frame_of fs) _ m (frame_of f) (slice_get-map frame_of fs m ∙ ap (option_map frame_of) at));
+    whole = (
+      lt,
+      ap (λ (l : List ℕ). slice_get (stream l).frames m) is ∙ ap (λ (l : List model.Frame). slice_get l m) (cut_front bytes more left (map frame_of fs) c)
+          ∙ at_front (map frame_of fs) _ m (frame_of f) (slice_get-map frame_of fs m ∙ ap (option_map frame_of) at),
+    );
     responds = responds f.meta.response r;
   }
 

@@ -10,3 +10,4 @@ pub mod Balance
 pub mod Tallies
 pub mod Runs
 pub mod Once
+pub mod Shown

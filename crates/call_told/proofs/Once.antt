@@ -1,12 +1,11 @@
 -- No call is told twice: over all that is told in a run, the end of a call is told once at most.
-use Rattle.std.proofs.Common.{◌≡◌, ℕ, ◌+◌, ◌*◌, ◌/◌, ◌%◌, ◌<◌, ◌≤◌, inl, inr, true, false, List, [], ◌∷◌, ◌++◌, map, refl, ◌∙◌, ap, sym, subst, arith}
+use Rattle.std.proofs.Common.{◌≡◌, ℕ, ◌+◌, ◌*◌, ◌<◌, ◌≤◌, inl, inr, true, false, List, [], ◌∷◌, ◌++◌, map, ◌∙◌, ap, sym, subst, arith}
 use Rattle.std.specs.List.{flat_map}
 use Rattle.std.proofs.lemmas.Nat.{div-add-mod'}
 use Rattle.sock_io.specs.declared.link.Ends.{Ends}
 use Rattle.sock_io.specs.Link.{OutState, InState}
-use Rattle.corr_core.specs.Law.{total, is_ended}
+use Rattle.corr_core.specs.Law.{total}
 use Rattle.corr_core.specs.declared.marks.Kept.{Kept}
-use Rattle.corr_core.specs.declared.marks.Noted.{Noted}
 use Rattle.corr_core.specs.declared.marks.Plan.{Plan}
 use Rattle.corr_core.specs.declared.marks.View.{View}
 use Rattle.corr_id.specs.Calls.{slot_of, version_of}
@@ -19,7 +18,7 @@ use Rattle.rpc_reader.specs.Linked.{ReadLinks}
 use Rattle.call_told.specs.Once.{told_ends, ToldOnce}
 use Rattle.call_told.specs.Rested.{AllRested}
 use Rattle.call_told.proofs.Balance.{noted_ends, Accounted, AreBalanced, noted_all, balanced_all}
-use Rattle.call_told.proofs.Tallies.{Accounts, Tally, tally_then, read_accounts, rests_account, rests_note, version_low}
+use Rattle.call_told.proofs.Tallies.{Accounts, tally_then, read_accounts, rests_account, rests_note, version_low}
 
 -- memory was not wanting
 calm_accounts : (b b' : Books) → Accounts b b' → b'.starved ≡ false → Accounted b.told b.view.notes b'.told b'.view.notes

@@ -1,5 +1,5 @@
 -- Whoever reads links, and ends the calls that are left, tells of each id as many ends as its seat noted, unless memory was wanting.
-use Rattle.std.proofs.Common.{◌≡◌, ℕ, zero, suc, ◌+◌, ◌*◌, ◌%◌, ◌<◌, ◌⊎◌, inl, inr, Bool, true, false, List, [], ◌∷◌, ◌++◌, Some, None, pos, negsuc, refl, ◌∙◌, ap, arith}
+use Rattle.std.proofs.Common.{◌≡◌, ℕ, zero, suc, ◌+◌, ◌*◌, ◌<◌, ◌⊎◌, inl, inr, Bool, true, false, List, [], ◌∷◌, ◌++◌, Some, None, pos, negsuc, refl, ◌∙◌, ap, arith}
 use Rattle.std.specs.Prelude.{ℤ, Option, position, ◌==◌}
 use Rattle.std.proofs.Math.Nat.{mod-lt}
 use Rattle.sock_words.specs.Words.{at_word_link}
@@ -18,7 +18,7 @@ use Rattle.corr_core.specs.declared.marks.Noted.{Noted}
 use Rattle.corr_core.specs.declared.marks.Plan.{Plan}
 use Rattle.corr_core.specs.declared.marks.Token.{Token}
 use Rattle.corr_core.specs.declared.marks.View.{View}
-use Rattle.id_rule.specs.Lawful.{at_word, notes_of, with_kept}
+use Rattle.id_rule.specs.Lawful.{at_word, with_kept}
 use Rattle.corr_id.specs.declared.posts.Posted.{Posted}
 use Rattle.corr_id.specs.declared.posts.Posted.TheVariants.{Locked as HasLock, Queued as IsQueued, Gone, Stale, Crowded}
 use Rattle.corr_id.specs.Calls.{slot_of, version_of, error_in, is_event, one, Quiet, Did, GotLock}
@@ -29,7 +29,7 @@ use Rattle.prpc_frame.specs.declared.frame.Frame.{Frame}
 use Rattle.call_table.specs.Responses.{by_code, outcome_by, ending_of, is_early}
 use Rattle.rpc_client.specs.declared.acting.Told.{Told}
 use Rattle.rpc_reader.specs.Books.{Books, EndedAs, ToldBy, id_of}
-use Rattle.rpc_reader.specs.Met.{slot_in, version_in, is_asked, is_for, AnsweredBy, LackedBy, KeptIf, MetIf, FrameMet, FramesMet}
+use Rattle.rpc_reader.specs.Met.{slot_in, version_in, is_asked, is_for, AnsweredBy, LackedBy, KeptIf, MetIf, FramesMet}
 use Rattle.rpc_reader.specs.Posting.{LostBy, LockLost, PostedTo, PostedIf, PostedAt, PostedAll, call_at, attempt_at}
 use Rattle.rpc_reader.specs.Reading.{code_of}
 use Rattle.rpc_reader.specs.Linked.{ReadServed, ReadLinks}

@@ -1,5 +1,5 @@
 -- How often it is told that a call ended: once at most, over all that is told in a run.
-use Rattle.std.specs.Prelude.{ℕ, ◌<◌, ◌≤◌, List}
+use Rattle.std.specs.Prelude.{ℕ, ◌<◌, ◌≤◌, List, Option, Some, None}
 use Rattle.sock_words.specs.declared.outcome.Outcome.{Outcome}
 use Rattle.sock_words.specs.declared.outcome.Outcome.TheVariants.{Answered, Peer, CallFailed}
 use Rattle.corr_core.specs.Law.{total, only}
@@ -20,3 +20,12 @@ told_ends id told = total (λ (x : Told). ends_of id x.outcome) told
 -- over all that tell of calls, the end of a call whose id is in one of so many slots is told once at most
 abbrev pub ToldOnce : ℕ → List (List Told) → Type 0
 ToldOnce slots tellers = (id : ℕ) → slot_of id < slots → total (told_ends id) tellers ≤ 1
+
+-- 1 where an operation has an outcome, which is the end of that call
+abbrev pub shows : ℕ → Option Outcome → ℕ
+shows id None = 0
+shows id (Some outcome) = ends_of id outcome
+
+-- of all operations one at most has the end of a call, whose id is in one of so many slots, as its outcome
+abbrev pub ShownOnce : ℕ → List (Option Outcome) → Type 0
+ShownOnce slots outcomes = (id : ℕ) → slot_of id < slots → total (shows id) outcomes ≤ 1
