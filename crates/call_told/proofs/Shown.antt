@@ -1,11 +1,10 @@
 -- Where no end of a call is told twice, no two operations have it as their outcome.
-use Rattle.std.proofs.Common.{◌≡◌, ℕ, zero, suc, ◌+◌, ◌<◌, ◌≤◌, true, false, List, [], ◌∷◌, ◌++◌, Some, None, replicate, refl, arith}
+use Rattle.std.proofs.Common.{◌≡◌, ℕ, zero, suc, ◌+◌, ◌≤◌, true, false, List, [], ◌∷◌, ◌++◌, Some, None, replicate, refl, arith}
 use Rattle.std.specs.Prelude.{Option, slice_set}
 use Rattle.std.specs.List.{AllByRecursion}
 use Rattle.sock_words.specs.declared.outcome.Outcome.{Outcome}
 use Rattle.sock_words.specs.declared.outcome.Outcome.TheVariants as outcomes
 use Rattle.corr_core.specs.Law.{total}
-use Rattle.corr_id.specs.Calls.{slot_of}
 use Rattle.corr_id.proofs.Seats.{total_append}
 use Rattle.rpc_client.specs.declared.acting.Told.{Told}
 use Rattle.call_told.specs.Answers.{ends_call, IsOwn}
