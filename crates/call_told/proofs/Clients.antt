@@ -1,5 +1,5 @@
 -- Clients tell no answer: each call that a client ended failed, and what it tells of its own operations is no end of a call.
-use Rattle.std.proofs.Common.{◌≡◌, ℕ, zero, suc, true, false, List, [], ◌∷◌, ◌++◌, append_assoc, append-nil, Some, None, refl, sym, ap, ◌∙◌, subst}
+use Rattle.std.proofs.Common.{◌≡◌, ℕ, zero, suc, false, List, [], ◌∷◌, ◌++◌, append_assoc, append-nil, Some, None, refl, sym, ap, ◌∙◌, subst}
 use Rattle.std.specs.Prelude.{Bool, Option as Maybe}
 use Rattle.atomic_table.specs.Table.{Me}
 use Rattle.sock_io.specs.declared.link.Out.{Ghosts}
@@ -34,7 +34,7 @@ use Rattle.call_errors.specs.Asking.{ExpiredBy, JoinedBy}
 use Rattle.call_writes.specs.Sending.{SentCalling}
 use Rattle.call_client.specs.declared.caller.Caller.{Caller}
 use Rattle.call_client.specs.Acting.{Stand, stand, letter_of, Acted}
-use Rattle.call_client.specs.Running.{Course, Made, Ran, begins, RunBy}
+use Rattle.call_client.specs.Running.{Course, Ran, begins, RunBy}
 use Rattle.call_client.proofs.Changes.{Changes, same, in_turn, sees, ends, decides, posts, wants, shelves, run_changes}
 use Rattle.call_told.specs.Answers.{IsFailure, ends_call, IsOwn, TellsOnly, ClientTells}
 use Rattle.call_told.proofs.Lists.{all_both}

@@ -6,6 +6,7 @@ pub mod Ending
 pub mod Linked
 pub mod Clients
 pub mod Answering
+pub mod Backs
 pub mod Balance
 pub mod Tallies
 pub mod Runs

@@ -47,6 +47,11 @@ module _ {A : Type 0} where
     all_at (y ∷ xs) zero x a e = subst P (core.some-injective y x e) a.0
     all_at (y ∷ xs) (suc i) x a e = all_at xs i x a.1 e
 
+    pub all_there : (xs : List A) (i : ℕ) (x : A) → AllByRecursion P xs → slice_get xs i ≡ Some x → P x
+    all_there [] i x a e = absurd (cc)
+    all_there (y ∷ xs) zero x a e = subst P (some_same y x e) a.0
+    all_there (y ∷ xs) (suc i) x a e = all_there xs i x a.1 e
+
   pub all_then : (P Q : A → Type 0) (xs : List A) → ((x : A) → P x → Q x) → AllByRecursion P xs → AllByRecursion Q xs
   all_then P Q [] f a = tt
   all_then P Q (x ∷ xs) f a = (f x a.0, all_then P Q xs f a.1)

@@ -6,6 +6,7 @@ use Rattle.sock_words.specs.declared.outcome.Outcome.{Outcome}
 use Rattle.sock_words.specs.declared.outcome.Outcome.TheVariants.{Answered, Peer, CallFailed}
 use Rattle.brpc_model.specs.Frame.{Frame}
 use Rattle.brpc_model.specs.Meta.{ResponseMeta}
+use Rattle.brpc_model.specs.Link.{LinkEnd}
 use Rattle.brpc_model.specs.Stream.{stream}
 use Rattle.sock_io.specs.declared.link.Ends.{Ends}
 use Rattle.sock_io.specs.declared.link.Out.{Ghosts}
@@ -153,3 +154,14 @@ module _ (links : ℕ) (gave : ℕ → List ℕ) where
   -- each of those that are told
   abbrev pub HaveAnswers : List (Option Outcome) → Type 0
   HaveAnswers outcomes = AllByRecursion (λ o. IfSome o HasAnswer) outcomes
+
+-- what is said that link k gave is what it tells, and as many bytes as it counts
+pub record IsGiver (gave : ℕ → List ℕ) (k : ℕ) (e : LinkEnd) : Type 0 where
+  pub gives : IfSome e.gave (λ bytes. bytes ≡ gave k)
+  pub counted : length (gave k) ≡ e.gave_count
+
+-- the answers among these outcomes come from responses that these links gave
+pub record AreAnsweredBy (outcomes : List (Option Outcome)) (ends : List LinkEnd) : Type 0 where
+  pub gave : ℕ → List ℕ
+  pub givers : (k : ℕ) (e : LinkEnd) → slice_get ends k ≡ Some e → IsGiver gave k e
+  pub each : HaveAnswers (length ends) gave outcomes
