@@ -7,3 +7,8 @@ pub mod Linked
 pub mod Clients
 pub mod Answering
 pub mod Backs
+pub mod Balance
+pub mod Tallies
+pub mod Runs
+pub mod Once
+pub mod Shown

@@ -1,0 +1,91 @@
+-- Counts of what is told of calls that ended, beside what seats noted of them.
+use Rattle.std.proofs.Common.{◌≡◌, ℕ, ◌+◌, ◌*◌, ◌<◌, Bool, true, false, cond, eqb, eq-eqb, ne_eqb, List, [], ◌∷◌, ◌++◌, map, refl, ◌∙◌, ap, sym, subst, arith}
+use Rattle.std.specs.List.{AllByRecursion, flat_map}
+use mathlib.Core.Logic.{dite}
+use native.Mathlib.Decide.{ℕ_discrete}
+use Rattle.corr_core.specs.Law.{total, only, is_ended}
+use Rattle.corr_core.specs.declared.marks.Note.TheVariants.{Ended}
+use Rattle.corr_core.specs.declared.marks.Noted.{Noted}
+use Rattle.corr_core.specs.declared.marks.View.{View}
+use Rattle.corr_core.proofs.Notes.{only-at, only-else}
+use Rattle.id_rule.specs.Lawful.{notes_of}
+use Rattle.sock_message.specs.Asked.{Asked}
+use Rattle.corr_id.specs.Calls.{one}
+use Rattle.corr_id.proofs.Seats.{total_append, notes_append}
+use Rattle.rpc_client.specs.declared.acting.Told.{Told}
+use Rattle.call_told.specs.Once.{ends_of, told_ends}
+
+-- how often it was noted that the range of this slot with this first version ended
+abbrev pub noted_ends : ℕ → ℕ → List (Noted Asked) → ℕ
+noted_ends slot first notes = total (is_ended first) (notes_of slot notes)
+
+-- of each id as much was told more as was noted more
+abbrev pub Accounted : List Told → List (Noted Asked) → List Told → List (Noted Asked) → Type 0
+Accounted told notes told' notes' = (slot first : ℕ) → first < 4294967296 → told_ends (slot * 4294967296 + first) told' + noted_ends slot first notes ≡ told_ends (slot * 4294967296 + first) told + noted_ends slot first notes'
+
+-- of each id as much was told as was noted
+abbrev pub Balanced : List Told → List (Noted Asked) → Type 0
+Balanced told notes = (slot first : ℕ) → first < 4294967296 → told_ends (slot * 4294967296 + first) told ≡ noted_ends slot first notes
+
+-- the same of each of these that told something, with what its seat noted
+abbrev pub AreBalanced : List (List Told) → List (View Asked) → Type 0
+AreBalanced [] [] = Unit {0}
+AreBalanced (t ∷ ts) (v ∷ vs) = Balanced t v.notes × AreBalanced ts vs
+AreBalanced [] (v ∷ vs) = ⊥
+AreBalanced (t ∷ ts) [] = ⊥
+
+pub told_more : (id : ℕ) (xs ys : List Told) → told_ends id (xs ++ ys) ≡ told_ends id xs + told_ends id ys
+told_more id xs ys = total_append (λ (x : Told). ends_of id x.outcome) xs ys
+
+pub noted_more : (slot first : ℕ) (ns ms : List (Noted Asked)) → noted_ends slot first (ns ++ ms) ≡ noted_ends slot first ns + noted_ends slot first ms
+noted_more slot first ns ms = ap (total (is_ended first)) (notes_append slot ns ms) ∙ total_append (is_ended first) (notes_of slot ns) (notes_of slot ms)
+
+pub balanced_more : (told told' : List Told) (notes notes' : List (Noted Asked)) → Accounted told notes told' notes' → Balanced told notes → Balanced told' notes'
+balanced_more told told' notes notes' a b slot first low = let x = a slot first low in let y = b slot first low in omega arith
+
+pub balanced_each : {X : Type 0} (told : X → List Told) (view : X → View Asked) (xs : List X) → AllByRecursion (λ x. Balanced (told x) (view x).notes) xs → AreBalanced (map told xs) (map view xs)
+balanced_each told view [] a = tt
+balanced_each told view (x ∷ xs) a = (a.0, balanced_each told view xs a.1)
+
+module _ {S : Type 0} (view : S → View Asked) where
+  -- over the notes of all seats
+  pub noted_all : (slot first : ℕ) (ss : List S) → noted_ends slot first (flat_map (λ (s : S). (view s).notes) ss) ≡ total (λ (s : S). noted_ends slot first (view s).notes) ss
+  noted_all slot first [] = refl
+  noted_all slot first (s ∷ ss) = let a = noted_more slot first (view s).notes (flat_map (λ (x : S). (view x).notes) ss) in let b = noted_all slot first ss in omega arith
+
+  pub balanced_all : (tellers : List (List Told)) (ss : List S) → AreBalanced tellers (map view ss) → (slot first : ℕ) → first < 4294967296 → total (told_ends (slot * 4294967296 + first)) tellers ≡ total (λ (s : S). noted_ends slot first (view s).notes) ss
+  balanced_all [] [] a slot first low = refl
+  balanced_all (t ∷ ts) (s ∷ ss) a slot first low = let x = a.0 slot first low in let y = balanced_all ts ss a.1 slot first low in omega arith
+  balanced_all [] (s ∷ ss) a slot first low = absurd a
+  balanced_all (t ∷ ts) [] a slot first low = absurd a
+
+-- ## One end
+
+if_so : (b : Bool) (x : ℕ) → b ≡ true → cond b x 0 ≡ x
+if_so true x e = refl
+if_so false x e = let k : false ≡ true = e in cc
+
+if_not : (b : Bool) (x : ℕ) → b ≡ false → cond b x 0 ≡ 0
+if_not true x e = let k : true ≡ false = e in cc
+if_not false x e = refl
+
+-- the ids are the same where the slots and the first versions are
+abbrev SameId : ℕ → ℕ → ℕ → ℕ → Type 0
+SameId i f j g = only (i * 4294967296 + f) (j * 4294967296 + g) ≡ cond (eqb j i) (only f g) 0
+
+same_first : (i f g : ℕ) → SameId i f i g
+same_first i f g = dite (ℕ_discrete g f)
+    (λ d. only-at (i * 4294967296 + f) (i * 4294967296 + g) (ap (λ (n : ℕ). i * 4294967296 + n) d) ∙ sym (if_so (eqb i i) (only f g) (eq-eqb i i refl) ∙ only-at f g d))
+    (λ n. only-else (i * 4294967296 + f) (i * 4294967296 + g) (λ q. n (omega (arith, q))) ∙ sym (if_so (eqb i i) (only f g) (eq-eqb i i refl) ∙ only-else f g n))
+
+same_id : (i f j g : ℕ) → f < 4294967296 → g < 4294967296 → SameId i f j g
+same_id i f j g fl gl = dite (ℕ_discrete j i)
+    (λ e. subst (λ (y : ℕ). SameId i f y g) (sym e) (same_first i f g))
+    (λ n. only-else (i * 4294967296 + f) (j * 4294967296 + g) (λ q. n (omega (arith, q, fl, gl))) ∙ sym (if_not (eqb j i) (only f g) (ne_eqb j i n)))
+
+noted_one : (slot first at of_ : ℕ) → noted_ends slot first (one at (Ended of_)) ≡ cond (eqb at slot) (only first of_) 0
+noted_one slot first at of_ = elim (eqb at slot) as (λ b. total (is_ended {C = Asked} first) (cond b (Ended of_ ∷ []) []) ≡ cond b (only first of_) 0) [ true ↦ omega arith | false ↦ refl ]
+
+-- one end is told where one is noted
+pub one_end : (slot first at of_ : ℕ) → first < 4294967296 → of_ < 4294967296 → only (slot * 4294967296 + first) (at * 4294967296 + of_) ≡ noted_ends slot first (one at (Ended of_))
+one_end slot first at of_ fl ol = same_id slot first at of_ fl ol ∙ sym (noted_one slot first at of_)

@@ -1,0 +1,246 @@
+-- Whoever reads links, and ends the calls that are left, tells of each id as many ends as its seat noted, unless memory was wanting.
+use Rattle.std.proofs.Common.{◌≡◌, ℕ, zero, suc, ◌+◌, ◌*◌, ◌<◌, ◌⊎◌, inl, inr, Bool, true, false, List, [], ◌∷◌, ◌++◌, Some, None, pos, negsuc, refl, ◌∙◌, ap, arith}
+use Rattle.std.specs.Prelude.{ℤ, Option, position, ◌==◌}
+use Rattle.std.proofs.Math.Nat.{mod-lt}
+use Rattle.sock_words.specs.Words.{at_word_link}
+use Rattle.sock_words.specs.declared.at_word.AtWord.{AtWord}
+use Rattle.sock_words.specs.declared.outcome.Outcome.{Outcome}
+use Rattle.sock_words.specs.declared.outcome.Outcome.TheVariants.{CallFailed}
+use Rattle.brpc_model.specs.Frame as model
+use Rattle.brpc_model.specs.Meta.{ResponseMeta}
+use Rattle.sock_io.specs.declared.link.Ends.{Ends}
+use Rattle.sock_io.specs.Link.{OutState, InState}
+use Rattle.corr_core.specs.Word.{Parts, parts}
+use Rattle.corr_core.specs.Law.{total, only, is_ended}
+use Rattle.corr_core.specs.declared.marks.Note.{Note}
+use Rattle.corr_core.specs.declared.marks.Note.TheVariants.{Tried, Made, Ended, Locker, Queued, Attempt, Saw}
+use Rattle.corr_core.specs.declared.marks.Noted.{Noted}
+use Rattle.corr_core.specs.declared.marks.Plan.{Plan}
+use Rattle.corr_core.specs.declared.marks.Token.{Token}
+use Rattle.corr_core.specs.declared.marks.View.{View}
+use Rattle.id_rule.specs.Lawful.{at_word, with_kept}
+use Rattle.corr_id.specs.declared.posts.Posted.{Posted}
+use Rattle.corr_id.specs.declared.posts.Posted.TheVariants.{Locked as HasLock, Queued as IsQueued, Gone, Stale, Crowded}
+use Rattle.corr_id.specs.Calls.{slot_of, version_of, error_in, is_event, one, Quiet, Did, GotLock}
+use Rattle.corr_id.specs.Posts.{PostOk}
+use Rattle.sock_message.specs.Asked.{Asked}
+use Rattle.prpc_frame.specs.Meaning.{frame_of}
+use Rattle.prpc_frame.specs.declared.frame.Frame.{Frame}
+use Rattle.call_table.specs.Responses.{by_code, outcome_by, ending_of, is_early}
+use Rattle.rpc_client.specs.declared.acting.Told.{Told}
+use Rattle.rpc_reader.specs.Books.{Books, EndedAs, ToldBy, id_of}
+use Rattle.rpc_reader.specs.Met.{slot_in, version_in, is_asked, is_for, AnsweredBy, LackedBy, KeptIf, MetIf, FramesMet}
+use Rattle.rpc_reader.specs.Posting.{LostBy, LockLost, PostedTo, PostedIf, PostedAt, PostedAll, call_at, attempt_at}
+use Rattle.rpc_reader.specs.Reading.{code_of}
+use Rattle.rpc_reader.specs.Linked.{ReadServed, ReadLinks}
+use Rattle.rpc_reader.specs.Resting.{HadEnded, EndedLast, OneEnded, RestEnded}
+use Rattle.call_client.proofs.Telling.{quiet_total, did_total, none_of_one}
+use Rattle.call_told.specs.Once.{ends_of, told_ends}
+use Rattle.call_told.specs.Rested.{AllRested}
+use Rattle.call_told.proofs.Balance.{noted_ends, Accounted, told_more, noted_more, one_end}
+
+abbrev pub Accounts : Books → Books → Type 0
+Accounts b b' = (b'.starved ≡ true) ⊎ Accounted b.told b.view.notes b'.told b'.view.notes
+
+-- from these books to those
+pub record Tally (b b' : Books) : Type 0 where
+  pub starved : b.starved ≡ true → b'.starved ≡ true
+  pub accounts : Accounts b b'
+
+pub tally_then : (a b c : Books) → Tally a b → Tally b c → Tally a c
+tally_then a b c s t = record { starved = λ h. t.starved (s.starved h); accounts = by s.accounts t.accounts }
+  where
+    by : Accounts a b → Accounts b c → Accounts a c
+    by (inl x) y = inl (t.starved x)
+    by (inr x) (inl y) = inl y
+    by (inr x) (inr y) = inr (λ slot first low. let p = x slot first low in let q = y slot first low in omega arith)
+
+-- no end was noted
+abbrev SameEnds : List (Noted Asked) → List (Noted Asked) → Type 0
+SameEnds ns ms = (slot first : ℕ) → noted_ends slot first ms ≡ noted_ends slot first ns
+
+-- nor told
+tally_quiet : (b b' : Books) → (b.starved ≡ true → b'.starved ≡ true) → b'.told ≡ b.told → SameEnds b.view.notes b'.view.notes → Tally b b'
+tally_quiet b b' s e h = record { starved = s; accounts = inr (λ slot first low. let x = ap (told_ends (slot * 4294967296 + first)) e in let y = h slot first in omega arith) }
+
+pub tally_same : (b b' : Books) → b' ≡ b → Tally b b'
+tally_same b b' e = tally_quiet b b' (λ h. ap (λ (x : Books). x.starved) e ∙ h) (ap (λ (x : Books). x.told) e) (λ slot first. ap (λ (x : Books). noted_ends slot first x.view.notes) e)
+
+-- only the view is another
+tally_seen : (b : Books) (v : View Asked) → SameEnds b.view.notes v.notes → Tally b (record b { view = v })
+tally_seen b v h = tally_quiet b (record b { view = v }) (λ s. s) refl h
+
+-- ## No call ended by what the seat noted
+
+ended_silent : (first : ℕ) (n : Note Asked) → is_event n ≡ false → is_ended first n ≡ 0
+ended_silent first Tried e = refl
+ended_silent first (Saw w) e = refl
+ended_silent first (Made a b c) e = refl
+ended_silent first (Ended g) e = let k : true ≡ false = e in cc
+ended_silent first (Locker g c) e = refl
+ended_silent first (Queued g d) e = refl
+ended_silent first (Attempt g n) e = refl
+
+quiet_ends : (v w : View Asked) → Quiet v w → SameEnds v.notes w.notes
+quiet_ends v w q slot first = quiet_total (is_ended first) (ended_silent first) v w q slot
+
+one_ends : (at : ℕ) (v w : View Asked) (ts : List (Token Asked)) (n : Note Asked) → Did at v w ts (one at n) → ((first : ℕ) → is_ended first n ≡ 0) → SameEnds v.notes w.notes
+one_ends at v w ts n d none slot first = let a = did_total (is_ended first) (ended_silent first) at v w ts (one at n) d slot in let b = none_of_one (is_ended first) (ended_silent first) at n (none first) slot in omega arith
+
+got_ends : (at : ℕ) (v w : View Asked) (word : ℕ) (k : Parts) (call : Asked) → GotLock at v w word k call → SameEnds v.notes w.notes
+got_ends at v w word k call got = one_ends at v w _ (Locker k.first call) got.did (λ first. refl)
+
+post_ends : (slots : ℕ) (v w : View Asked) (id code : ℕ) (attempt : Option ℕ) (answer : Posted Asked) → PostOk slots v w id code attempt answer → SameEnds v.notes w.notes
+post_ends slots v w id code attempt (HasLock k) p = got_ends k.slot v w p.4.0 (parts k.word.0) k.content p.4.1
+post_ends slots v w id code attempt IsQueued p = one_ends (slot_of id) v w _ (Queued (version_of id) (error_in code attempt)) p.0 (λ first. refl)
+post_ends slots v w id code attempt (Gone found) p = quiet_ends v w p.0
+post_ends slots v w id code attempt (Stale current) p = quiet_ends v w p.0
+post_ends slots v w id code attempt (Crowded first second) p = quiet_ends v w p.0
+
+-- ## A call ended
+
+coded_is : (id ended : ℕ) (f : model.Frame) (code : ℤ) → ends_of id (by_code ended f code) ≡ only id ended
+coded_is id ended f (pos zero) = refl
+coded_is id ended f (pos (suc n)) = refl
+coded_is id ended f (negsuc n) = refl
+
+outcome_is : (id ended : ℕ) (f : model.Frame) (z : ℤ) (o : Option ResponseMeta) → ends_of id (outcome_by ended f z o) ≡ only id ended
+outcome_is id ended f (pos zero) (Some r) = coded_is id ended f r.code
+outcome_is id ended f (pos zero) None = refl
+outcome_is id ended f (pos (suc n)) o = refl
+outcome_is id ended f (negsuc n) o = refl
+
+ending_is : (id ended : ℕ) (f : model.Frame) → ends_of id (ending_of ended f) ≡ only id ended
+ending_is id ended f = outcome_is id ended f f.meta.compress_type f.meta.response
+
+pub version_low : (id : ℕ) → version_of id < 4294967296
+version_low id = let some : 0 < 4294967296 = omega arith in mod-lt id some
+
+ended_tally : (slot : ℕ) (w : Parts) (call : Asked) (by : Outcome) (b b' : Books) → w.first < 4294967296 → ((id : ℕ) → ends_of id by ≡ only id (id_of slot w)) → EndedAs slot w call by b b' → Tally b b'
+ended_tally slot w call by b b' low is e = tallies e.told
+  where
+    now : Told
+    now = record { number = call.operation; outcome = by }
+
+    accounted : b'.told ≡ b.told ++ now ∷ [] → Accounted b.told b.view.notes b'.told b'.view.notes
+    accounted t i f fl =
+        let id = i * 4294967296 + f in
+        let x : told_ends id b'.told ≡ told_ends id b.told + (ends_of id by + 0) = ap (told_ends id) t ∙ told_more id b.told (now ∷ []) in
+        let y : noted_ends i f b'.view.notes ≡ noted_ends i f (one slot (Ended w.first)) + noted_ends i f b.view.notes = ap (noted_ends i f) e.ended.notes ∙ noted_more i f (one slot (Ended w.first)) b.view.notes in
+        let z = is id in let o = one_end i f slot w.first fl low in omega arith
+
+    tallies : ToldBy call.operation by b.told b.starved b'.told b'.starved → Tally b b'
+    tallies (inl t) = record { starved = λ h. t.1 ∙ h; accounts = inr (accounted t.0) }
+    tallies (inr t) = record { starved = λ h. t.1; accounts = inl t.1 }
+
+-- ## Frames
+
+module _ (slots : ℕ) (f : Frame) (b b' : Books) where
+  answered_tally : AnsweredBy slots f b b' → Tally b b'
+  answered_tally a =
+      let u : Books = record b { view = a.locked } in
+      tally_then b u b' (tally_seen b a.locked (got_ends (slot_in f) b.view a.locked a.found a.word a.call a.got))
+      (ended_tally (slot_in f) a.word a.call (ending_of (id_of (slot_in f) a.word) (frame_of f)) u b' (let x = a.version.0 in let y = version_low f.meta.correlation_id in omega arith) (λ id. ending_is id (id_of (slot_in f) a.word) (frame_of f)) a.ended)
+
+  kept_starved : (c : Bool) → KeptIf c f b.early b.starved b'.early b'.starved → b.starved ≡ true → b'.starved ≡ true
+  kept_starved true (inl k) h = k.1 ∙ h
+  kept_starved true (inr k) h = k.1
+  kept_starved false k h = k.1 ∙ h
+
+  lacked_tally : LackedBy f b b' → Tally b b'
+  lacked_tally l = tally_quiet b b' (kept_starved (is_early (version_in f) (parts l.word)) l.kept) l.told (quiet_ends b.view b'.view l.quiet)
+
+  met_tally : (a : Bool) → MetIf a slots f b b' → Tally b b'
+  met_tally true (inl a) = answered_tally a
+  met_tally true (inr l) = lacked_tally l
+  met_tally false e = tally_same b b' e
+
+frames_tally : (slots : ℕ) (fs : List Frame) (b b' : Books) → FramesMet slots fs b b' → Tally b b'
+frames_tally slots [] b b' m = tally_same b b' m
+frames_tally slots (f ∷ fs) b b' m = tally_then b m.0 b' (met_tally slots f b m.0 (is_asked slots f) m.1) (frames_tally slots fs m.0 b' m.2)
+
+-- ## Codes
+
+module _ (code : ℕ) where
+  lost_tally : (slot : ℕ) (w : Parts) (call : Asked) (b b' : Books) → w.first < 4294967296 → LockLost slot w call code b b' → Tally b b'
+  lost_tally slot w call b b' low lost = by (position (is_for slot w) b.early) lost
+    where
+      by : (o : Option ℕ) → LostBy slot w call code o b b' → Tally b b'
+      by None l = ended_tally slot w call (CallFailed (id_of slot w) code) b b' low (λ id. refl) l.0
+      by (Some i) l = ended_tally slot w call (ending_of (id_of slot w) (frame_of l.0)) b b' low (λ id. ending_is id (id_of slot w) (frame_of l.0)) l.3
+
+  posted_to : (answer : Posted Asked) (b b' : Books) → PostedTo code answer b b' → Tally b b'
+  posted_to (HasLock k) b b' h = lost_tally k.slot (parts k.word.0) k.content b b' (let low = k.fits.low in omega arith) h
+  posted_to IsQueued b b' h = tally_same b b' h
+  posted_to (Gone found) b b' h = tally_same b b' h
+  posted_to (Stale current) b b' h = tally_same b b' h
+  posted_to (Crowded first second) b b' h = tally_same b b' h
+
+  posted_if : (a : Bool) (slots w : ℕ) (b b' : Books) → PostedIf a slots code w b b' → Tally b b'
+  posted_if false slots w b b' h = tally_same b b' h
+  posted_if true slots w b b' h =
+      let u : Books = record b { view = h.seen } in
+      tally_then b u b' (tally_seen b h.seen (post_ends slots b.view h.seen (call_at w) code (attempt_at w) h.answer h.posted)) (posted_to h.answer u b' h.then_)
+
+  posted_at : (p : Plan) (link operation : ℕ) (found : Option AtWord) (b b' : Books) → PostedAt p link code operation found b b' → Tally b b'
+  posted_at p link operation None b b' h = tally_same b b' h
+  posted_at p link operation (Some w) b b' h =
+      let v = with_kept (at_word p operation) false w.0 b.view in
+      let u : Books = record b { view = v } in
+      tally_then b u b' (tally_seen b v (λ slot first. refl)) (posted_if (at_word_link w.0 == link) p.slots w.0 u b' h)
+
+  posted_all : (p : Plan) (link : ℕ) (os : List ℕ) (b b' : Books) → PostedAll p link code os b b' → Tally b b'
+  posted_all p link [] b b' h = tally_same b b' h
+  posted_all p link (o ∷ os) b b' h = tally_then b h.0 b' (posted_at p link o h.1.0 b h.0 h.1.1) (posted_all p link os h.0 b' h.2)
+
+  -- ## What is left
+
+  rest_one : (p : Plan) (operation : ℕ) (v w : View Asked) (b b' : Books) → OneEnded p code operation v w b b' → Tally b b'
+  rest_one p operation v w b b' (inl n) = tally_same b b' n.books
+  rest_one p operation v w b b' (inr n) = by n.ends
+    where
+      by : HadEnded p.slots n.id b b' ⊎ EndedLast p.slots code n.id b b' → Tally b b'
+      by (inl h) = tally_quiet b b' (λ s. ap (λ (x : Books). x.starved) h.same ∙ s) (ap (λ (x : Books). x.told) h.same) (quiet_ends b.view b'.view h.quiet)
+      by (inr l) =
+          let u : Books = record b { view = l.locked } in
+          tally_then b u b' (tally_seen b l.locked (got_ends (slot_of n.id) b.view l.locked l.found l.word l.call l.got))
+          (lost_tally (slot_of n.id) l.word l.call u b' (let x = l.range.0 in let y = version_low n.id in omega arith) l.lost)
+
+  pub rest_accounts : (p : Plan) (os : List ℕ) (v w : View Asked) (b b' : Books) → RestEnded p code os v w b b' → Tally b b'
+  rest_accounts p [] v w b b' h = tally_same b b' h.1
+  rest_accounts p (o ∷ os) v w b b' h = tally_then b h.1 b' (rest_one p o v h.0 b h.1 h.2) (rest_accounts p os h.0 w h.1 b' h.3)
+
+  -- the seat that asked noted nothing
+  one_noted : (p : Plan) (operation : ℕ) (v w : View Asked) (b b' : Books) → OneEnded p code operation v w b b' → w.notes ≡ v.notes
+  one_noted p operation v w b b' (inl n) = ap (λ (x : View Asked). x.notes) n.same
+  one_noted p operation v w b b' (inr n) = ap (λ (x : View Asked). x.notes) n.kept
+
+  pub rest_notes : (p : Plan) (os : List ℕ) (v w : View Asked) (b b' : Books) → RestEnded p code os v w b b' → w.notes ≡ v.notes
+  rest_notes p [] v w b b' h = ap (λ (x : View Asked). x.notes) h.0
+  rest_notes p (o ∷ os) v w b b' h = rest_notes p os h.0 w h.1 b' h.3 ∙ one_noted p o v h.0 b h.1 h.2
+
+  module _ {S : Type 0} (view : S → View Asked) (p : Plan) (os : List ℕ) where
+    pub rests_account : (ss ts : List S) (b b' : Books) → AllRested view p code os ss ts b b' → Tally b b'
+    rests_account [] [] b b' h = tally_same b b' h
+    rests_account (s ∷ ss) (t ∷ ts) b b' h = tally_then b h.0 b' (rest_accounts p os (view s) (view t) b h.0 h.1) (rests_account ss ts h.0 b' h.2)
+    rests_account [] (t ∷ ts) b b' h = absurd h
+    rests_account (s ∷ ss) [] b b' h = absurd h
+
+    pub rests_note : (ss ts : List S) (b b' : Books) → AllRested view p code os ss ts b b' → (slot first : ℕ) → total (λ (s : S). noted_ends slot first (view s).notes) ts ≡ total (λ (s : S). noted_ends slot first (view s).notes) ss
+    rests_note [] [] b b' h slot first = refl
+    rests_note (s ∷ ss) (t ∷ ts) b b' h slot first = let x = ap (noted_ends slot first) (rest_notes p os (view s) (view t) b h.0 h.1) in let y = rests_note ss ts h.0 b' h.2 slot first in omega arith
+    rests_note [] (t ∷ ts) b b' h slot first = absurd h
+    rests_note (s ∷ ss) [] b b' h slot first = absurd h
+
+-- ## Links
+
+module _ {O I P : Type 0} (out : O → OutState) (inn : I → InState) (q : Plan) (calls : List ℕ) where
+  link_tally : (link : ℕ) (e e' : Ends O I P) (b b' : Books) → ReadServed out inn q calls link e e' b b' → Tally b b'
+  link_tally link e e' b b' r = let m = r.read.met in let met = r.read.read.met in
+      tally_then b m b' (frames_tally q.slots met.frames b m met.met) (posted_all (code_of r.read.how) q link calls m b' r.read.posted)
+
+  pub read_accounts : (link : ℕ) (es es' : List (Ends O I P)) (b b' : Books) → ReadLinks out inn q calls link es es' b b' → Tally b b'
+  read_accounts link [] [] b b' r = tally_same b b' r
+  read_accounts link (e ∷ es) (e' ∷ es') b b' r = tally_then b r.0 b' (link_tally link e e' b r.0 r.1) (read_accounts (link + 1) es es' r.0 b' r.2)
+  read_accounts link [] (e' ∷ es') b b' r = absurd r
+  read_accounts link (e ∷ es) [] b b' r = absurd r
