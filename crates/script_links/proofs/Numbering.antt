@@ -14,6 +14,7 @@ use Rattle.std.specs.List.{AllByRecursion, list_all}
 use Rattle.brpc_model.specs.Link.{LinkEnd}
 use Rattle.sock_io.specs.Link.{OutState, InState, IsFresh, end_of}
 use Rattle.sock_io.specs.declared.link.LinkSpec.{LinkSpec}
+use Rattle.sock_io.specs.declared.link.Mode.{Mode}
 use Rattle.script_links.specs.Given.{IsUntouched, AreUntouched, AreNumbered, IsBeginning, is_open_line, has_piece, has_piece_line, spec_asked, specs_of}
 
 -- one more untouched link
@@ -105,25 +106,25 @@ silent_of f n (x ∷ xs) h = ((h.0.gave_count, h.0.gave), silent_of f (n + 1) xs
 
 -- ## What the lines ask
 
-specs-append : (xs ys : List Line) → specs_of (map item (xs ++ ys)) ≡ specs_of (map item xs) ++ specs_of (map item ys)
-specs-append xs ys = ap specs_of (map-append item xs ys) ∙ filter_map-append spec_asked (map item xs) (map item ys)
+specs-append : (mode : Mode) (xs ys : List Line) → specs_of mode (map item (xs ++ ys)) ≡ specs_of mode (map item xs) ++ specs_of mode (map item ys)
+specs-append mode xs ys = ap (specs_of mode) (map-append item xs ys) ∙ filter_map-append (spec_asked mode) (map item xs) (map item ys)
 
 -- one line more
-pub asked_more : (lines : List Line) (i : ℕ) (line : Line) (old new : List LinkSpec) → i < length lines → line ≡ get_or lines i line → old ≡ specs_of (map item (take i lines)) → new ≡ old ++ specs_of (item line ∷ []) →
-    new ≡ specs_of (map item (take (i + 1) lines))
-asked_more lines i line old new within at was is =
-    is ∙ ap (λ a. a ++ specs_of (item line ∷ [])) was ∙ sym (specs-append (take i lines) (line ∷ []))
-    ∙ sym (ap (λ ls. specs_of (map item ls)) (take_more lines i line within ∙ ap (λ l. take i lines ++ l ∷ []) (sym at)))
+pub asked_more : (mode : Mode) (lines : List Line) (i : ℕ) (line : Line) (old new : List LinkSpec) → i < length lines → line ≡ get_or lines i line → old ≡ specs_of mode (map item (take i lines)) → new ≡ old ++ specs_of mode (item line ∷ []) →
+    new ≡ specs_of mode (map item (take (i + 1) lines))
+asked_more mode lines i line old new within at was is =
+    is ∙ ap (λ a. a ++ specs_of mode (item line ∷ [])) was ∙ sym (specs-append mode (take i lines) (line ∷ []))
+    ∙ sym (ap (λ ls. specs_of mode (map item ls)) (take_more lines i line within ∙ ap (λ l. take i lines ++ l ∷ []) (sym at)))
 
 -- all lines
-pub asked_whole : (lines : List Line) (i : ℕ) (asked : List LinkSpec) → length lines ≤ i → asked ≡ specs_of (map item (take i lines)) → asked ≡ specs_of (map item lines)
-asked_whole lines i asked all is = is ∙ ap (λ ls. specs_of (map item ls)) (take_all i lines all)
+pub asked_whole : (mode : Mode) (lines : List Line) (i : ℕ) (asked : List LinkSpec) → length lines ≤ i → asked ≡ specs_of mode (map item (take i lines)) → asked ≡ specs_of mode (map item lines)
+asked_whole mode lines i asked all is = is ∙ ap (λ ls. specs_of mode (map item ls)) (take_all i lines all)
 
 -- what the first lines ask is a beginning of what all of them ask
-pub asked_front : (lines : List Line) (i : ℕ) (asked : List LinkSpec) → asked ≡ specs_of (map item (take i lines)) → IsBeginning asked (specs_of (map item lines))
-asked_front lines i asked is = (
-  specs_of (map item (drop i lines)),
-  ap (λ a. a ++ specs_of (map item (drop i lines))) is ∙ sym (specs-append (take i lines) (drop i lines)) ∙ ap (λ ls. specs_of (map item ls)) (take-append-drop i lines),
+pub asked_front : (mode : Mode) (lines : List Line) (i : ℕ) (asked : List LinkSpec) → asked ≡ specs_of mode (map item (take i lines)) → IsBeginning asked (specs_of mode (map item lines))
+asked_front mode lines i asked is = (
+  specs_of mode (map item (drop i lines)),
+  ap (λ a. a ++ specs_of mode (map item (drop i lines))) is ∙ sym (specs-append mode (take i lines) (drop i lines)) ∙ ap (λ ls. specs_of mode (map item ls)) (take-append-drop i lines),
 )
 
 pub begins_whole : (asked whole : List LinkSpec) → asked ≡ whole → IsBeginning asked whole

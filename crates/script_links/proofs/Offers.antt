@@ -5,6 +5,7 @@ use lib.ListN.{get_elem?}
 use Rattle.brpc_model.specs.Items.{Item, Shape, Open}
 use Rattle.brpc_model.specs.Operations.{link_names, link_shapes}
 use Rattle.sock_io.specs.declared.link.LinkSpec.{LinkSpec}
+use Rattle.sock_io.specs.declared.link.Mode.{Mode}
 use Rattle.sock_io.specs.Link.{OutState, InState, Offer, IsServed, IsNewOffer, IsFresh}
 use Rattle.script_links.specs.Offered.{IsOffered}
 use Rattle.script_links.specs.Given.{spec_of, specs_of}
@@ -87,11 +88,11 @@ none_asked [] outs inns none_ k spec at = absurd (cc)
 none_asked (s ∷ ss) outs inns none_ k spec at = absurd (cc)
 
 -- what is asked of the link of an `open`
-pub asked_at : (script : List Item) (k : ℕ) (shape : Shape) → slice_get (link_shapes script) k ≡ Some shape → slice_get (specs_of script) k ≡ Some (spec_of shape)
-asked_at [] k shape at = absurd (cc)
-asked_at (Open name other ∷ items) zero shape at = let same : other ≡ shape = cc in ap (λ s. Some (spec_of s)) same
-asked_at (Open name other ∷ items) (suc k) shape at = asked_at items k shape at
-asked_at (item ∷ items) k shape at = asked_at items k shape at
+pub asked_at : (mode : Mode) (script : List Item) (k : ℕ) (shape : Shape) → slice_get (link_shapes script) k ≡ Some shape → slice_get (specs_of mode script) k ≡ Some (spec_of mode shape)
+asked_at mode [] k shape at = absurd (cc)
+asked_at mode (Open name other ∷ items) zero shape at = let same : other ≡ shape = cc in ap (λ s. Some (spec_of mode s)) same
+asked_at mode (Open name other ∷ items) (suc k) shape at = asked_at mode items k shape at
+asked_at mode (item ∷ items) k shape at = asked_at mode items k shape at
 
 -- each name of a link has a shape
 pub shapes_many : (script : List Item) → length (link_shapes script) ≡ length (link_names script)

@@ -6,7 +6,7 @@ use Rattle.script_items.specs.Meaning.{item}
 use Rattle.script_items.specs.declared.line.Line.{Line}
 use Rattle.brpc_model.specs.Link.{LinkEnd}
 use Rattle.sock_io.specs.declared.link.LinkSpec.{LinkSpec}
-use Rattle.sock_io.specs.declared.link.Mode.TheVariants as mode
+use Rattle.sock_io.specs.declared.link.Mode.{Mode}
 
 -- the link of this number took, gave and answered nothing, did not fail, and was not found closed
 pub record IsUntouched (number : ℕ) (e : LinkEnd) : Type 0 where
@@ -46,18 +46,18 @@ has_piece_line line = has_piece (item line)
 
 -- ## What is asked of links
 
--- what a link of this shape is asked, in memory
-abbrev pub spec_of : Shape → LinkSpec
-spec_of shape = record { mode = mode.Loop; piece = shape.piece; again = shape.again; fail = shape.fail; serve = shape.serve; end = shape.end }
+-- what a link of this shape is asked, made in this mode
+abbrev pub spec_of : Mode → Shape → LinkSpec
+spec_of mode shape = record { mode = mode; piece = shape.piece; again = shape.again; fail = shape.fail; serve = shape.serve; end = shape.end }
 
 -- what a line asks of its link, where it opens one
-abbrev pub spec_asked : Item → Option LinkSpec
-spec_asked (Open name shape) = Some (spec_of shape)
-spec_asked other = None
+abbrev pub spec_asked : Mode → Item → Option LinkSpec
+spec_asked mode (Open name shape) = Some (spec_of mode shape)
+spec_asked mode other = None
 
 -- what the lines of a script ask of their links, in order
-abbrev pub specs_of : List Item → List LinkSpec
-specs_of script = filter_map spec_asked script
+abbrev pub specs_of : Mode → List Item → List LinkSpec
+specs_of mode script = filter_map (spec_asked mode) script
 
 -- the first are a beginning of the others
 abbrev pub IsBeginning : List LinkSpec → List LinkSpec → Type 0

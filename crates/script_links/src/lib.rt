@@ -1,4 +1,4 @@
-//! Opens the links of a script, in order, and gives them back.
+//! Opens the links of a script, in order and in one mode, and gives them back.
 #![tactic(auto)]
 
 mod links;

@@ -13,12 +13,12 @@ ghost use Rattle.script_links.specs.Offered.{AreAsked, TellOffers};
 use script_items::{Line, OpenLine};
 use sock_io::{Ends, LinkSpec, Linker, Mode, OpenFault};
 
-/// What a line asks of its link.
-pub fn spec_of(open: &OpenLine) -> LinkSpec
-    ensures { result ≡ spec_of (shape_of «open».now.shape) }
+/// What a line asks of its link, made in this mode.
+pub fn spec_of(mode: Mode, open: &OpenLine) -> LinkSpec
+    ensures { result ≡ spec_of mode (shape_of «open».now.shape) }
 {
     LinkSpec {
-        mode: Mode::Loop,
+        mode,
         piece: open.shape.piece,
         again: open.shape.again,
         fail: open.shape.fail,
@@ -29,6 +29,7 @@ pub fn spec_of(open: &OpenLine) -> LinkSpec
 
 /// Opens the link of a line behind those that were opened before.
 fn open_one<L: Linker>(
+    mode: Mode,
     open: &OpenLine,
     links: &mut L,
     ends: &mut Vec<Ends<L::O, L::I, L::P>>,
@@ -39,10 +40,10 @@ fn open_one<L: Linker>(
     ensures fresh { AreUntouched 0 (map (λ e. end_of (L.O.state e.out) (L.I.state e.inn)) ends.old.items) → AreUntouched 0 (map (λ e. end_of (L.O.state e.out) (L.I.state e.inn)) ends.new.items) }
     ensures unfinished { AllByRecursion (λ (e : Ends L.O L.I L.P). (L.O.state e.out).finished ≡ false) ends.old.items → AllByRecursion (λ (e : Ends L.O L.I L.P). (L.O.state e.out).finished ≡ false) ends.new.items }
     ensures unclosed { AllByRecursion (λ (e : Ends L.O L.I L.P). IfSome (L.I.state e.inn).closing (λ closing. closing ≡ false)) ends.old.items → AllByRecursion (λ (e : Ends L.O L.I L.P). IfSome (L.I.state e.inn).closing (λ closing. closing ≡ false)) ends.new.items }
-    ensures prompt_each { L.prompt links.old ≡ true → AllByRecursion (λ (e : Ends L.O L.I L.P). (L.O.state e.out).prompt ≡ true) ends.old.items → AllByRecursion (λ (e : Ends L.O L.I L.P). (L.O.state e.out).prompt ≡ true) ends.new.items }
+    ensures prompt_each { L.prompt links.old ≡ true → mode ≡ Mode.Loop → AllByRecursion (λ (e : Ends L.O L.I L.P). (L.O.state e.out).prompt ≡ true) ends.old.items → AllByRecursion (λ (e : Ends L.O L.I L.P). (L.O.state e.out).prompt ≡ true) ends.new.items }
     ensures count { OnOk result (length ends.new.items ≡ length ends.old.items + 1) }
     ensures err { OnErr result (length ends.new.items ≡ length ends.old.items) }
-    ensures asked { OnOk result (L.asked links.new ≡ L.asked links.old ++ spec_of (shape_of «open».now.shape) ∷ []) }
+    ensures asked { OnOk result (L.asked links.new ≡ L.asked links.old ++ spec_of mode (shape_of «open».now.shape) ∷ []) }
     ensures refused { OnErr result (L.asked links.new ≡ L.asked links.old) }
     ensures offers { OnOk result (TellOffers L.O.state L.I.state → AreAsked (L.asked links.old) (map (λ e. L.O.state e.out) ends.old.items) (map (λ e. L.I.state e.inn) ends.old.items) → AreAsked (L.asked links.new) (map (λ e. L.O.state e.out) ends.new.items) (map (λ e. L.I.state e.inn) ends.new.items)) }
     ensures opened { length (L.asked links.new) ≡ length ends.new.items }
@@ -55,7 +56,7 @@ fn open_one<L: Linker>(
     if ends.try_reserve(1).is_err() {
         return Err(OpenFault::NoMemory);
     }
-    let opened = links.open(&spec_of(open))?;
+    let opened = links.open(&spec_of(mode, open))?;
     if ends.push(opened).is_err() {
         return Err(OpenFault::NoMemory);
     }
@@ -64,6 +65,7 @@ fn open_one<L: Linker>(
 
 /// Opens the link of a line, where it is an `open` line.
 fn open_line<L: Linker>(
+    mode: Mode,
     line: &Line,
     links: &mut L,
     ends: &mut Vec<Ends<L::O, L::I, L::P>>,
@@ -74,10 +76,10 @@ fn open_line<L: Linker>(
     ensures fresh { AreUntouched 0 (map (λ e. end_of (L.O.state e.out) (L.I.state e.inn)) ends.old.items) → AreUntouched 0 (map (λ e. end_of (L.O.state e.out) (L.I.state e.inn)) ends.new.items) }
     ensures unfinished { AllByRecursion (λ (e : Ends L.O L.I L.P). (L.O.state e.out).finished ≡ false) ends.old.items → AllByRecursion (λ (e : Ends L.O L.I L.P). (L.O.state e.out).finished ≡ false) ends.new.items }
     ensures unclosed { AllByRecursion (λ (e : Ends L.O L.I L.P). IfSome (L.I.state e.inn).closing (λ closing. closing ≡ false)) ends.old.items → AllByRecursion (λ (e : Ends L.O L.I L.P). IfSome (L.I.state e.inn).closing (λ closing. closing ≡ false)) ends.new.items }
-    ensures prompt_each { L.prompt links.old ≡ true → AllByRecursion (λ (e : Ends L.O L.I L.P). (L.O.state e.out).prompt ≡ true) ends.old.items → AllByRecursion (λ (e : Ends L.O L.I L.P). (L.O.state e.out).prompt ≡ true) ends.new.items }
+    ensures prompt_each { L.prompt links.old ≡ true → mode ≡ Mode.Loop → AllByRecursion (λ (e : Ends L.O L.I L.P). (L.O.state e.out).prompt ≡ true) ends.old.items → AllByRecursion (λ (e : Ends L.O L.I L.P). (L.O.state e.out).prompt ≡ true) ends.new.items }
     ensures count { OnOk result (length ends.new.items ≡ length ends.old.items + (if is_open (item line.now) then 1 else 0)) }
     ensures err { OnErr result (length ends.new.items ≡ length ends.old.items) }
-    ensures asked { OnOk result (L.asked links.new ≡ L.asked links.old ++ specs_of (item line.now ∷ [])) }
+    ensures asked { OnOk result (L.asked links.new ≡ L.asked links.old ++ specs_of mode (item line.now ∷ [])) }
     ensures refused { OnErr result (L.asked links.new ≡ L.asked links.old) }
     ensures offers { OnOk result (TellOffers L.O.state L.I.state → AreAsked (L.asked links.old) (map (λ e. L.O.state e.out) ends.old.items) (map (λ e. L.I.state e.inn) ends.old.items) → AreAsked (L.asked links.new) (map (λ e. L.O.state e.out) ends.new.items) (map (λ e. L.I.state e.inn) ends.new.items)) }
     ensures opened { length (L.asked links.new) ≡ length ends.new.items }
@@ -88,13 +90,14 @@ fn open_line<L: Linker>(
     ensures kept { (¬ IsErrOf result OpenFault.Failed) → L.faults links.new ≡ L.faults links.old }
 {
     match line {
-        Line::Open(open) => open_one(open, links, ends),
+        Line::Open(open) => open_one(mode, open, links, ends),
         _ => Ok(()),
     }
 }
 
-/// Opens the link of each `open` line, in order. Where one can't be opened, those before it are in `ends`.
+/// Opens the link of each `open` line in this mode, in order. Where one can't be opened, those before it are in `ends`.
 pub fn open_links<L: Linker>(
+    mode: Mode,
     lines: &[Line],
     links: &mut L,
     ends: &mut Vec<Ends<L::O, L::I, L::P>>,
@@ -106,11 +109,11 @@ pub fn open_links<L: Linker>(
     ensures fresh { AreUntouched 0 (map (λ e. end_of (L.O.state e.out) (L.I.state e.inn)) ends.new.items) }
     ensures unfinished { AllByRecursion (λ (e : Ends L.O L.I L.P). (L.O.state e.out).finished ≡ false) ends.new.items }
     ensures unclosed { AllByRecursion (λ (e : Ends L.O L.I L.P). IfSome (L.I.state e.inn).closing (λ closing. closing ≡ false)) ends.new.items }
-    ensures prompt_each { L.prompt links.old ≡ true → AllByRecursion (λ (e : Ends L.O L.I L.P). (L.O.state e.out).prompt ≡ true) ends.new.items }
+    ensures prompt_each { L.prompt links.old ≡ true → mode ≡ Mode.Loop → AllByRecursion (λ (e : Ends L.O L.I L.P). (L.O.state e.out).prompt ≡ true) ends.new.items }
     ensures whole { OnOk result (length ends.new.items ≡ count_by is_open_line lines.now) }
     ensures most { length ends.new.items ≤ count_by is_open_line lines.now }
-    ensures asked { OnOk result (L.asked links.new ≡ specs_of (map item lines.now)) }
-    ensures front { IsBeginning (L.asked links.new) (specs_of (map item lines.now)) }
+    ensures asked { OnOk result (L.asked links.new ≡ specs_of mode (map item lines.now)) }
+    ensures front { IsBeginning (L.asked links.new) (specs_of mode (map item lines.now)) }
     ensures offers { OnOk result (TellOffers L.O.state L.I.state → AreAsked (L.asked links.new) (map (λ e. L.O.state e.out) ends.new.items) (map (λ e. L.I.state e.inn) ends.new.items)) }
     ensures opened { length (L.asked links.new) ≡ length ends.new.items }
     ensures back { L.back links.new ≡ L.back links.old }
@@ -120,7 +123,7 @@ pub fn open_links<L: Linker>(
     ensures kept { (¬ IsErrOf result OpenFault.Failed) → L.faults links.new ≡ L.faults links.old }
 {
     for line in lines {
-        open_line(line, links, ends)?;
+        open_line(mode, line, links, ends)?;
     }
     Ok(())
 }

@@ -14,6 +14,7 @@ use Rattle.brpc_model.specs.Link.{LinkEnd, HalfAnswer, TakeAnswer}
 use Rattle.brpc_model.specs.Operations.{Turn, link_names, link_shapes, operations}
 use Rattle.brpc_model.specs.Causes.{HasFault}
 use Rattle.brpc_model.specs.PlaceWords.{ArePlaces, HasEachOutcome, IsReportText, outcomes_from}
+use Rattle.sock_io.specs.declared.link.Mode.TheVariants as mode
 use Rattle.sock_io.specs.Link.{OutState, InState, more_told}
 use Rattle.sock_model.specs.declared.home.Home.TheVariants.{Link}
 use Rattle.sock_programs.specs.Asides.{Taking, AtEnd, Closed, Broken}
@@ -87,7 +88,7 @@ module _ (bytes : List ℕ) (script : List Item) (turns : List Turn) (start m : 
     (ran : HasRun script turns start m) (plan : m.plan ≡ plan_of script) (tell : TellClosing start.links) (told_closed : AllByRecursion (λ (e : LinkEnd). e.closed ≢ None) start.ends)
     (outs : map (λ (o : OutState). o.took) m.links.outs ≡ map (λ (e : LinkEnd). e.took) m.ends) (counts : map (λ (i : InState). i.gave) m.links.inns ≡ map (λ (e : LinkEnd). e.gave_count) m.ends)
     (given : map (λ (i : InState). i.gave_bytes) m.links.inns ≡ map (λ (e : LinkEnd). e.gave) m.ends) (letters : length m.letters ≡ m.plan.requests)
-    (Offering : Type 0) (asked : Offering → AreAsked (specs_of script) start.links.outs start.links.inns) where
+    (Offering : Type 0) (asked : Offering → AreAsked (specs_of mode.Loop script) start.links.outs start.links.inns) where
   abbrev end_core : Core
   end_core = core_with m ran.took ran.gave
 
@@ -176,7 +177,7 @@ module _ (bytes : List ℕ) (script : List Item) (turns : List Turn) (start m : 
   -- ## What they were offered
 
   offered : Offering → (k : ℕ) (shape : Shape) → slice_get (link_shapes script) k ≡ Some shape → OffersInRun script turns end_core ran.run k shape.serve shape.end × IsOffering m.links k shape.serve shape.end
-  offered offering k shape at = ran.offers k shape.serve shape.end (asked offering k (spec_of shape) (asked_at script k shape at))
+  offered offering k shape at = ran.offers k shape.serve shape.end (asked offering k (spec_of mode.Loop shape) (asked_at mode.Loop script k shape at))
 
   tells : Offering → (k : ℕ) (e : LinkEnd) → slice_get m.ends k ≡ Some e → IsSome e.took
   tells offering k e at =
@@ -253,7 +254,7 @@ pub text_answered : {T E F S P C : Type 0} (shows : Print) (items : T → List �
     map (λ (i : InState). i.gave_bytes) m.links.inns ≡ map (λ (e : LinkEnd). e.gave) m.ends → length m.letters ≡ m.plan.requests →
     outcomes ≡ told_from 0 m.outcomes → words ≡ place_words m.plan m.words → ends ≡ m.ends → back ≡ ends →
     (IsOk r → IsOk q) → (P → ArePrompt start.links) → (C → TellClosing start.links) → (C → AllByRecursion (λ (e : LinkEnd). e.closed ≢ None) start.ends) →
-    (Offering : Type 0) → (Offering → AreAsked (specs_of script) start.links.outs start.links.inns) → OnOk q (ArePrompt start.links → HasRun script turns start m) → OnOk q ((m.plan ≡ start.plan) × (m.ids.plan ≡ start.ids.plan)) →
+    (Offering : Type 0) → (Offering → AreAsked (specs_of mode.Loop script) start.links.outs start.links.inns) → OnOk q (ArePrompt start.links → HasRun script turns start m) → OnOk q ((m.plan ≡ start.plan) × (m.ids.plan ≡ start.ids.plan)) →
     IfOk r (λ t. (os : List (Option Outcome)) → length os ≡ length (operations script) → outcomes ≡ told_from 0 os → ArePlaces words → HasEachOutcome words os → (took : List (List ℕ)) × AreTold ends took × IsPrintOf shows script os words took (items t)) →
     IfOk r (λ t. P → C → IsPrinted Offering shows script turns (items t) back)
 text_answered shows items (Err e) q bytes script turns start m outcomes words ends back reads made untouched many same outs counts given letters outcomes_are words_are ends_same back_is played prompt tell closed Offering asked ran sized told = tt

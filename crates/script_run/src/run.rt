@@ -22,7 +22,7 @@ use crate::schedule::{Schedule, play_schedule};
 use script_items::Script;
 use script_links::{give_back, open_links};
 use sock_core::{Finished, Machine, NotMade};
-use sock_io::{Ends, In, Linker, NoMemory, OpenFault, Out, Peer};
+use sock_io::{Ends, In, Linker, Mode, NoMemory, OpenFault, Out, Peer};
 use sock_words::{Outcome, PlaceWord};
 use std::alloc::Global;
 
@@ -53,8 +53,8 @@ pub fn run_script<L: Linker>(
     ensures unopened { IsErrOf result RunFault.OpenFailed → AreUntouched 0 (L.back links.new) }
     ensures all { OnOk result (length (L.back links.new) ≡ length (link_names script.now)) }
     // What is asked of the links is what the lines of the script ask, all of it unless one could not be opened.
-    ensures asked { OnOk result (L.asked links.new ≡ specs_of script.now) }
-    ensures front { IsBeginning (L.asked links.new) (specs_of script.now) }
+    ensures asked { OnOk result (L.asked links.new ≡ specs_of Mode.Loop script.now) }
+    ensures front { IsBeginning (L.asked links.new) (specs_of Mode.Loop script.now) }
     ensures given_back { length (L.back links.new) ≡ length (L.asked links.new) }
     ensures numbered { AreNumbered 0 (L.back links.new) }
     ensures prompt { L.prompt links.new ≡ L.prompt links.old }
@@ -63,7 +63,7 @@ pub fn run_script<L: Linker>(
     ensures kept { (¬ IsErrOf result RunFault.OpenFailed) → L.faults links.new ≡ L.faults links.old }
 {
     let mut ends = Vec::new(alloc);
-    let opened = open_links(script.lines(), links, &mut ends);
+    let opened = open_links(Mode::Loop, script.lines(), links, &mut ends);
     match opened {
         Ok(()) => run_over(alloc, script, schedule, print, links, ends),
         Err(fault) => {
@@ -98,7 +98,7 @@ fn run_over<L: Linker>(
     requires unfinished { AllByRecursion (λ (e : Ends L.O L.I L.P). (L.O.state e.out).finished ≡ false) ends.items }
     requires unclosed { AllByRecursion (λ (e : Ends L.O L.I L.P). IfSome (L.I.state e.inn).closing (λ closing. closing ≡ false)) ends.items }
     requires prompt { L.prompt links.old ≡ true → AllByRecursion (λ (e : Ends L.O L.I L.P). (L.O.state e.out).prompt ≡ true) ends.items }
-    requires offers { TellOffers L.O.state L.I.state → AreAsked (specs_of script.now) (map (λ e. L.O.state e.out) ends.items) (map (λ e. L.I.state e.inn) ends.items) }
+    requires offers { TellOffers L.O.state L.I.state → AreAsked (specs_of Mode.Loop script.now) (map (λ e. L.O.state e.out) ends.items) (map (λ e. L.I.state e.inn) ends.items) }
     requires all { length ends.items ≡ length (link_names script.now) }
     requires few { length ends.items ≤ 256 }
     requires opened { length (L.asked links.old) ≡ length ends.items }
@@ -136,7 +136,7 @@ fn run_on<L: Linker>(
     requires prompt { L.prompt links.old ≡ true → ArePrompt machine.links }
     requires tell { TellClosed L.I.state → TellClosing machine.links }
     requires closed { TellClosed L.I.state → AllByRecursion (λ (e : LinkEnd). e.closed ≢ None) machine.ends }
-    requires offers { TellOffers L.O.state L.I.state → AreAsked (specs_of script.now) machine.links.outs machine.links.inns }
+    requires offers { TellOffers L.O.state L.I.state → AreAsked (specs_of Mode.Loop script.now) machine.links.outs machine.links.inns }
     requires all { length machine.ends ≡ length (link_names script.now) }
     requires few { length machine.ends ≤ 256 }
     requires opened { length (L.asked links.old) ≡ length machine.ends }

@@ -23,7 +23,7 @@ use script_items::Script;
 use script_links::{give_back, open_links};
 use script_report::print_report;
 use script_tasks::{NoMemory, plan_of};
-use sock_io::{Ends, Gate, In, Linker, OpenFault, Out, Peer};
+use sock_io::{Ends, Gate, In, Linker, Mode, OpenFault, Out, Peer};
 use sock_words::{PlaceWord, Plan};
 use std::alloc::{AllocError, Global};
 use std::sync::Wait;
@@ -162,11 +162,12 @@ fn run_over<L: Linker, G: Gate + Sync, R: Threads + Wait + Sync>(
 
 /// Runs a script without calls on threads: the text of its report.
 ///
-/// Its links are opened in order and all given back, in order, whatever becomes of the run. Where one can't be opened, nothing
+/// Its links are opened in this mode, in order, and all given back, in order, whatever becomes of the run. Where one can't be opened, nothing
 /// is run, and nothing is put on the others.
 pub fn run_script_on_threads<L: Linker, G: Gate + Sync, R: Threads + Wait + Sync>(
     rt: &R,
     alloc: Global,
+    mode: Mode,
     script: &Script,
     links: &mut L,
     gate: &G,
@@ -179,8 +180,8 @@ pub fn run_script_on_threads<L: Linker, G: Gate + Sync, R: Threads + Wait + Sync
     ensures text { IfOk result (λ text. IsThreadText script.now text.items (L.back links.new)) }
     ensures unopened { IsErrOf result OpenFault.Failed → AreUntouched 0 (L.back links.new) }
     ensures all { OnOk result (length (L.back links.new) ≡ length (link_names script.now)) }
-    ensures asked { OnOk result (L.asked links.new ≡ specs_of script.now) }
-    ensures front { IsBeginning (L.asked links.new) (specs_of script.now) }
+    ensures asked { OnOk result (L.asked links.new ≡ specs_of mode script.now) }
+    ensures front { IsBeginning (L.asked links.new) (specs_of mode script.now) }
     ensures given_back { length (L.back links.new) ≡ length (L.asked links.new) }
     ensures numbered { AreNumbered 0 (L.back links.new) }
     ensures prompt { L.prompt links.new ≡ L.prompt links.old }
@@ -189,7 +190,7 @@ pub fn run_script_on_threads<L: Linker, G: Gate + Sync, R: Threads + Wait + Sync
     ensures kept { (¬ IsErrOf result OpenFault.Failed) → L.faults links.new ≡ L.faults links.old }
 {
     let mut ends = Vec::new(alloc);
-    match open_links(script.lines(), links, &mut ends) {
+    match open_links(mode, script.lines(), links, &mut ends) {
         Ok(()) => run_over(rt, alloc, script, links, ends, gate),
         Err(fault) => {
             give_back(links, ends);

@@ -4,19 +4,19 @@ use Rattle.script_links.proofs.Numbering.{asked_more, asked_whole, asked_front}
 use Rattle.script_links.proofs.links.open_links.Goals as goal
 
 pub returns-in_err-open_line-clause-front : goal.returns-in_err-open_line-clause-front
-returns-in_err-open_line-clause-front g c = asked_front c.args.lines.now c.loop-line.line-index _ (c.in_err-open_line.ensures.refused ∙ c.loop-line.invariant.asked)
+returns-in_err-open_line-clause-front g c = asked_front c.args.mode c.args.lines.now c.loop-line.line-index _ (c.in_err-open_line.ensures.refused ∙ c.loop-line.invariant.asked)
 
 pub loop-line-preserved : goal.loop-line-preserved
 loop-line-preserved g c =
     let i = c.loop-line.invariant in
     let step = c.in_ok-open_line.ensures in record {
       opened = step.opened;
-      asked = asked_more c.args.lines.now c.loop-line.line-index c.line-item.result _ _ c.loop-line-test.true c.line-item.is i.asked step.asked;
+      asked = asked_more c.args.mode c.args.lines.now c.loop-line.line-index c.line-item.result _ _ c.loop-line-test.true c.line-item.is i.asked step.asked;
       offers = λ tell. step.offers tell (i.offers tell);
       fresh = step.fresh i.fresh;
       unfinished = step.unfinished i.unfinished;
       unclosed = step.unclosed i.unclosed;
-      prompt_each = λ prompt. step.prompt_each (i.prompt ∙ prompt) (i.prompt_each prompt);
+      prompt_each = λ prompt loop. step.prompt_each (i.prompt ∙ prompt) loop (i.prompt_each prompt loop);
       count = grind (arith, common_steps);
       back = step.back ∙ i.back;
       prompt = step.prompt ∙ i.prompt;
@@ -25,4 +25,4 @@ loop-line-preserved g c =
     }
 
 pub returns-clause-asked : goal.returns-clause-asked
-returns-clause-asked g c = asked_whole c.args.lines.now c.loop-line.line-index _ c.loop-line-test.false c.loop-line.invariant.asked
+returns-clause-asked g c = asked_whole c.args.mode c.args.lines.now c.loop-line.line-index _ c.loop-line-test.false c.loop-line.invariant.asked

@@ -1,6 +1,7 @@
 use Rattle.std.proofs.Common.{◌≡◌, ◌≤◌, length, map, count_by, take, true, false, IfSome}
 use Rattle.std.specs.List.{AllByRecursion}
 use Rattle.sock_io.specs.declared.link.Ends.{Ends}
+use Rattle.sock_io.specs.declared.link.Mode.TheVariants as mode
 use Rattle.sock_io.specs.Link.{end_of}
 use Rattle.script_items.specs.Meaning.{item}
 use Rattle.script_links.specs.Given.{AreUntouched, is_open_line, specs_of}
@@ -10,12 +11,12 @@ use Rattle.script_links.proofs.links.open_links.Given as goal
 abbrev pub invariant-loop-line : goal.invariant-loop-line
 invariant-loop-line g l = record {
   opened : length (g.L.Linker.asked l.links) ≡ length l.ends.items;
-  asked : g.L.Linker.asked l.links ≡ specs_of (map item (take l.line-index l.lines));
+  asked : g.L.Linker.asked l.links ≡ specs_of l.fn.mode (map item (take l.line-index l.lines));
   offers : TellOffers g.L.O.Out.state g.L.I.In.state → AreAsked (g.L.Linker.asked l.links) (map (λ e. g.L.O.Out.state e.out) l.ends.items) (map (λ e. g.L.I.In.state e.inn) l.ends.items);
   fresh : AreUntouched 0 (map (λ e. end_of (g.L.O.Out.state e.out) (g.L.I.In.state e.inn)) l.ends.items);
   unfinished : AllByRecursion (λ (e : Ends g.row.L-O.Denot g.row.L-I.Denot g.row.L-P.Denot). (g.L.O.Out.state e.out).finished ≡ false) l.ends.items;
   unclosed : AllByRecursion (λ (e : Ends g.row.L-O.Denot g.row.L-I.Denot g.row.L-P.Denot). IfSome (g.L.I.In.state e.inn).closing (λ closing. closing ≡ false)) l.ends.items;
-  prompt_each : g.L.Linker.prompt l.initial.links ≡ true → AllByRecursion (λ (e : Ends g.row.L-O.Denot g.row.L-I.Denot g.row.L-P.Denot). (g.L.O.Out.state e.out).prompt ≡ true) l.ends.items;
+  prompt_each : g.L.Linker.prompt l.initial.links ≡ true → l.fn.mode ≡ mode.Loop → AllByRecursion (λ (e : Ends g.row.L-O.Denot g.row.L-I.Denot g.row.L-P.Denot). (g.L.O.Out.state e.out).prompt ≡ true) l.ends.items;
   count : length l.ends.items ≡ count_by is_open_line (take l.line-index l.lines);
   back : g.L.Linker.back l.links ≡ g.L.Linker.back l.initial.links;
   prompt : g.L.Linker.prompt l.links ≡ g.L.Linker.prompt l.initial.links;

@@ -1,8 +1,9 @@
-use Rattle.std.proofs.Common.{◌≡◌, true, Err, List, map, ap, subst, ◌∙◌, arith}
+use Rattle.std.proofs.Common.{◌≡◌, true, Err, List, map, refl, ap, sym, subst, ◌∙◌, arith}
 use Rattle.std.proofs.lemmas.Result.{IfOk-weaker}
 use Rattle.sock_io.specs.declared.link.OpenFault.TheVariants.{Failed}
 use Rattle.std.specs.List.{list_all}
 use Rattle.sock_io.specs.declared.link.LinkSpec.{LinkSpec}
+use Rattle.sock_io.specs.declared.link.Mode.TheVariants as mode
 use Rattle.script_links.specs.Given.{has_piece, specs_of}
 use Rattle.script_links.specs.Offered.{AreAsked, TellOffers}
 use Rattle.script_run.specs.Played.{IsPrinted, TellClosed, turns_of}
@@ -25,10 +26,13 @@ run_over-requires-clause-few g c κs within =
     let most = c.in-Ok.ensures.most in
     let few = few_links c.requires.script.0 c.args.script.now c.lines.result.now c.requires.script.1 c.lines.ensures in omega (arith, most, few)
 
+pub run_over-requires-clause-prompt : goal.run_over-requires-clause-prompt
+run_over-requires-clause-prompt g c κs within prompt = c.in-Ok.ensures.prompt_each (sym c.in-Ok.ensures.prompt ∙ prompt) refl
+
 pub run_over-requires-clause-offers : goal.run_over-requires-clause-offers
 run_over-requires-clause-offers g c κs within tell =
     subst (λ (specs : List LinkSpec). AreAsked specs (map (λ e. g.L.O.Out.state e.out) c.open_links-opened.new.ends.items) (map (λ e. g.L.I.In.state e.inn) c.open_links-opened.new.ends.items))
-    (c.in-Ok.ensures.asked ∙ ap specs_of c.lines.ensures) (c.in-Ok.ensures.offers tell)
+    (c.in-Ok.ensures.asked ∙ ap (specs_of mode.Loop) c.lines.ensures) (c.in-Ok.ensures.offers tell)
 
 pub give_back-requires-clause-numbered : goal.give_back-requires-clause-numbered
 give_back-requires-clause-numbered g c κs within = numbered_of 0 _ c.in-Err.ensures.fresh

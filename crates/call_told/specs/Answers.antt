@@ -1,0 +1,167 @@
+-- By what calls end: what whoever reads the links tells of calls, and what clients tell.
+use Rattle.std.specs.Prelude.{◌≡◌, ℕ, ◌+◌, ◌<◌, Bool, true, false, List, [], ◌++◌, length, slice_get, ℤ, pos, Option, Some, IfSome, IsSome}
+use Rattle.std.specs.List.{AllByRecursion}
+use Rattle.sock_words.specs.Codes.{EEOF, EINTERNAL, ERESPONSE}
+use Rattle.sock_words.specs.declared.outcome.Outcome.{Outcome}
+use Rattle.sock_words.specs.declared.outcome.Outcome.TheVariants.{Answered, Peer, CallFailed}
+use Rattle.brpc_model.specs.Frame.{Frame}
+use Rattle.brpc_model.specs.Meta.{ResponseMeta}
+use Rattle.brpc_model.specs.Link.{LinkEnd}
+use Rattle.brpc_model.specs.Stream.{stream}
+use Rattle.sock_io.specs.declared.link.Ends.{Ends}
+use Rattle.sock_io.specs.declared.link.Out.{Ghosts}
+use Rattle.sock_io.specs.Link.{InState}
+use Rattle.corr_core.specs.Word.{Parts, parts, locked_word}
+use Rattle.corr_core.specs.declared.marks.Note.{Note}
+use Rattle.corr_core.specs.declared.marks.Note.TheVariants.{Ended, Locker}
+use Rattle.corr_core.specs.declared.marks.View.{View}
+use Rattle.corr_id.specs.Calls.{Found, events}
+use Rattle.sock_message.specs.Asked.{Asked}
+use Rattle.prpc_frame.specs.Meaning.{frame_of}
+use Rattle.prpc_frame.specs.declared.frame.Frame as frames
+use Rattle.call_table.specs.Responses.{ending_of}
+use Rattle.rpc_client.specs.declared.acting.Told.{Told}
+use Rattle.rpc_reader.specs.Books.{Books, id_of}
+use Rattle.call_client.specs.declared.caller.Caller.{Caller}
+
+-- ## Responses that links gave
+
+-- so many links, of which each gave these bytes
+module _ (links : ℕ) (gave : ℕ → List ℕ) where
+  -- link k gave this whole frame, behind n others
+  abbrev pub Gave : ℕ → ℕ → Frame → Type 0
+  Gave k n f = (k < links) × (slice_get (stream (gave k)).frames n ≡ Some f)
+
+  -- one of them gave it whole, and it has a response
+  pub record IsGiven (f : Frame) : Type 0 where
+    pub link : ℕ
+    pub place : ℕ
+    pub whole : Gave link place f
+    pub responds : IsSome f.meta.response
+
+  -- and that is one of a version of the id that has this word in this slot
+  pub record IsGivenResponse (slot : ℕ) (w : Parts) (f : Frame) : Type 0 where
+    pub given : IsGiven f
+    pub behind : id_of slot w < f.meta.correlation_id
+    pub below : f.meta.correlation_id < id_of slot w + w.range
+
+  abbrev pub AreGiven : List frames.Frame → Type 0
+  AreGiven fs = AllByRecursion (λ f. IsGiven (frame_of f)) fs
+
+-- ## How calls end for whoever reads the links
+
+-- the codes with which a call ends then: nothing more comes, what came is no frame, or memory is wanting
+pub data IsLossCode (code : ℕ) : Type 0 where
+  at_end : code ≡ EEOF → IsLossCode code
+  at_fault : code ≡ ERESPONSE → IsLossCode code
+  at_want : code ≡ EINTERNAL → IsLossCode code
+
+-- the seat noted this event of the slot
+abbrev pub HasNoted : ℕ → Note Asked → View Asked → Type 0
+HasNoted slot n v = (i : ℕ) × (slice_get (events v.notes) i ≡ Some record { slot = slot; note = n })
+
+-- the seat found this id open in this slot, locked it, with this call as its content, and ended it; the word is the one of its lock
+pub record HasEnded (slot : ℕ) (w : Parts) (call : Asked) (v : View Asked) : Type 0 where
+  pub word : ℕ
+  pub found : Found slot word v
+  pub was_open : (parts word).state ≡ 1
+  pub word_is : w ≡ locked_word (parts word)
+  pub locked : HasNoted slot (Locker w.first call) v
+  pub ended : HasNoted slot (Ended w.first) v
+
+module _ (links : ℕ) (gave : ℕ → List ℕ) where
+  -- the call of this lock ended with a code, or by a response that a link gave
+  pub data EndedBy (slot : ℕ) (w : Parts) (by : Outcome) : Type 0 where
+    by_code : (code : ℕ) → IsLossCode code → by ≡ CallFailed (id_of slot w) code → EndedBy slot w by
+    by_response : (f : Frame) → IsGivenResponse links gave slot w f → by ≡ ending_of (id_of slot w) f → EndedBy slot w by
+
+  -- what was told is the end of a call for which the seat had the lock
+  pub record ToldFrom (v : View Asked) (x : Told) : Type 0 where
+    pub slot : ℕ
+    pub word : Parts
+    pub call : Asked
+    pub lock : HasEnded slot word call v
+    pub number : x.number ≡ call.operation
+    pub by : EndedBy slot word x.outcome
+
+  -- what was told behind those before, and what is kept then
+  pub record TellsFrom (b b' : Books) : Type 0 where
+    pub more : List Told
+    pub told : b'.told ≡ b.told ++ more
+    pub each : AllByRecursion (ToldFrom b'.view) more
+    pub early : AreGiven links gave b'.early
+
+-- ## What the links tell
+
+-- each link of which it is told what it gave, and which had given nothing before, gave these bytes; and each gave so many more
+pub record GaveBetween {O I P : Type 0} (inn : I → InState) (gave : ℕ → List ℕ) (old new : List (Ends O I P)) : Type 0 where
+  pub as_many : length new ≡ length old
+  pub tells : (k : ℕ) (e e' : Ends O I P) → slice_get old k ≡ Some e → slice_get new k ≡ Some e' → IfSome (inn e.inn).gave_bytes (λ bytes. bytes ≡ []) → IfSome (inn e'.inn).gave_bytes (λ bytes. bytes ≡ gave k)
+  pub counts : (k : ℕ) (e e' : Ends O I P) → slice_get old k ≡ Some e → slice_get new k ≡ Some e' → (inn e'.inn).gave ≡ (inn e.inn).gave + length (gave k)
+
+-- all links were read and what was left of calls was ended: the links gave such bytes, and from them come all responses that end calls
+pub record AnsweredFrom {O I P : Type 0} (inn : I → InState) (old new : List (Ends O I P)) (b b' : Books) : Type 0 where
+  pub gave : ℕ → List ℕ
+  pub between : GaveBetween inn gave old new
+  pub tells : TellsFrom (length old) gave b b'
+
+-- ## What clients tell
+
+-- the end of a call, with its code
+pub record IsFailure (x : Told) : Type 0 where
+  pub id : ℕ
+  pub code : ℕ
+  pub is : x.outcome ≡ CallFailed id code
+
+-- whether it is the outcome of a call that ended
+abbrev pub ends_call : Outcome → Bool
+ends_call (Answered id payload attachment) = true
+ends_call (Peer id code) = true
+ends_call (CallFailed id code) = true
+ends_call _ = false
+
+abbrev pub IsOwn : Told → Type 0
+IsOwn x = ends_call x.outcome ≡ false
+
+-- behind what was told before
+abbrev pub TellsOnly : (Told → Type 0) → List Told → List Told → Type 0
+TellsOnly P old new = (more : List Told) × (new ≡ old ++ more) × AllByRecursion P more
+
+-- each call that the client ended failed, and no outcome of its own operations is that of a call that ended
+pub record ClientTells {O : Type 0} {g : Ghosts O} (c d : Caller O g) : Type 0 where
+  pub ended : TellsOnly IsFailure c.calls.told.items d.calls.told.items
+  pub own : TellsOnly IsOwn c.outcomes.items d.outcomes.items
+
+-- ## By the outcome alone
+
+module _ (links : ℕ) (gave : ℕ → List ℕ) where
+  -- a response of one of the versions of this id, of which there are eight at most; it isn't compressed, and has this code
+  pub record IsAnswer (id : ℕ) (code : ℤ) (f : Frame) : Type 0 where
+    pub given : IsGiven links gave f
+    pub behind : id < f.meta.correlation_id
+    pub near : f.meta.correlation_id < id + 8
+    pub plain : f.meta.compress_type ≡ pos 0
+    pub response : ResponseMeta
+    pub has : f.meta.response ≡ Some response
+    pub coded : response.code ≡ code
+
+  -- an outcome that is an answer comes from a response that a link gave
+  abbrev pub HasAnswer : Outcome → Type 0
+  HasAnswer (Answered id payload attachment) = (f : Frame) × IsAnswer id (pos 0) f × (f.payload ≡ payload) × (f.attachment ≡ attachment)
+  HasAnswer (Peer id code) = (f : Frame) × IsAnswer id code f
+  HasAnswer _ = Unit {0}
+
+  -- each of those that are told
+  abbrev pub HaveAnswers : List (Option Outcome) → Type 0
+  HaveAnswers outcomes = AllByRecursion (λ o. IfSome o HasAnswer) outcomes
+
+-- what is said that link k gave is what it tells, and as many bytes as it counts
+pub record IsGiver (gave : ℕ → List ℕ) (k : ℕ) (e : LinkEnd) : Type 0 where
+  pub gives : IfSome e.gave (λ bytes. bytes ≡ gave k)
+  pub counted : length (gave k) ≡ e.gave_count
+
+-- the answers among these outcomes come from responses that these links gave
+pub record AreAnsweredBy (outcomes : List (Option Outcome)) (ends : List LinkEnd) : Type 0 where
+  pub gave : ℕ → List ℕ
+  pub givers : (k : ℕ) (e : LinkEnd) → slice_get ends k ≡ Some e → IsGiver gave k e
+  pub each : HaveAnswers (length ends) gave outcomes
