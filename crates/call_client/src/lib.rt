@@ -7,3 +7,6 @@ mod caller;
 mod running;
 
 pub use caller::{Caller, Spent};
+
+#[cfg(test)]
+mod tests;
