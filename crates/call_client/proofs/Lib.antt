@@ -5,3 +5,4 @@ pub mod Going
 pub mod Changes
 pub mod Shares
 pub mod Telling
+pub mod Testing

@@ -1,5 +1,6 @@
-ghost use Rattle.std.specs.Prelude.{◌≡◌, ◌≤◌, false, IfSome, length};
+ghost use Rattle.std.specs.Prelude.{◌≡◌, ◌≤◌, [], false, IfSome, length};
 ghost use Rattle.sock_open.specs.Made.{AreMade, IsNewSeat, AreNewSeats, PassesFrom};
+ghost use Rattle.sock_message.specs.Asked.{name_of};
 ghost use Rattle.corr_id.specs.Seats.{Sits, IsFree};
 ghost use Rattle.corr_id.specs.Opening.{AreNew};
 ghost use Rattle.call_client.specs.Acting.{MayGo};
@@ -22,14 +23,19 @@ use std::sync::Wait;
 
 type Half = Shaped<MemOut>;
 
-/// The writing half of a link whose put of this number fails, or none for 0.
-fn half(alloc: Global, link: u16, fail: u32) -> Option<Half> {
+/// The writing half of a link whose puts from this number on fail, or none for 0.
+fn half(alloc: Global, link: u16, fail: u32) -> Option<Half>
+    ensures { IfSome result (λ s. (s.inner.link ≡ link) × (s.inner.finished ≡ false) × (s.taken ≡ [])) }
+{
     let shape = Shape {
         piece: 8192,
         again: 0,
         fail,
     };
-    Shaped::new(alloc, MemOut::new(link), shape).ok()
+    match Shaped::new(alloc, MemOut::new(link), shape) {
+        Ok(half) => Some(half),
+        Err(_) => None,
+    }
 }
 
 /// A table of two slots, two links and two names, with one seat. The link 1 fails at its first put.
@@ -108,37 +114,44 @@ fn caller_of(
     Some(Caller::new(alloc, seat, ids, passes))
 }
 
-/// Opens both names, and calls over them in turn, with so many versions of the call's id.
-fn tasks_of(alloc: Global, range: u8) -> Option<VecDeque<Task>>
+/// The operation 2, a call over both names in turn, with so many versions of its id.
+fn call_of(alloc: Global, range: u8) -> Option<Call>
     requires { (2 ≤ range) × (range ≤ 8) }
-    ensures { IfSome result (λ t. MayMakeAll (record { slots = 2; links = 2; requests = 4; names = 2; operations = 3; seats = 1; first = 0 }) (record { slots = 1; operations = 4; seats = 1 }) t.items 2 × (length t.items ≡ 3)) }
+    ensures { IfSome result (λ c. (name_of c 0 ≡ 0) × (c.operation ≡ 2)) }
 {
     let mut pool = BlockPool::new(alloc);
-    let names = vec![in alloc; 0u16, 1u16].ok()?;
-    let call = Call::new(
+    let Ok(names) = vec![in alloc; 0u16, 1u16] else {
+        return None;
+    };
+    match Call::new(
         alloc, &mut pool, 2, names, b"Echo", b"Echo", b"hi", b"", range,
-    )
-    .ok()?;
-    let mut tasks = VecDeque::new(alloc);
-    tasks
-        .push_back(Task {
-            number: 0,
-            op: Op::Open(0, 1),
-        })
-        .ok()?;
-    tasks
-        .push_back(Task {
-            number: 1,
-            op: Op::Open(1, 0),
-        })
-        .ok()?;
-    tasks
-        .push_back(Task {
-            number: 2,
-            op: Op::Call(call),
-        })
-        .ok()?;
-    Some(tasks)
+    ) {
+        Ok(call) => Some(call),
+        Err(_) => None,
+    }
+}
+
+/// Opens both names, and makes this call.
+fn tasks_of(alloc: Global, call: Call) -> Option<VecDeque<Task>>
+    requires { (name_of call 0 ≡ 0) × (call.operation ≡ 2) }
+    ensures { IfSome result (λ t. MayMakeAll (record { slots = 2; links = 2; requests = 4; names = 2; operations = 3; seats = 1; first = 0 }) (record { slots = 1; operations = 4; seats = 1 }) t.items 2 × (length t.items ≡ 3)) }
+{
+    let first = Task {
+        number: 0,
+        op: Op::Open(0, 1),
+    };
+    let second = Task {
+        number: 1,
+        op: Op::Open(1, 0),
+    };
+    let third = Task {
+        number: 2,
+        op: Op::Call(call),
+    };
+    match VecDeque::from_array(alloc, [first, second, third]) {
+        Ok(tasks) => Some(tasks),
+        Err(_) => None,
+    }
 }
 
 /// What a client of these seats leaves that makes them.
@@ -169,7 +182,8 @@ fn all_spent<R: Wait>(rt: &R, alloc: Global, range: u8) -> Option<Spent<Half>>
     let (ids, id_seats) = ids_of(alloc)?;
     let tables = Tables { socks: table, ids };
     let caller = caller_of(alloc, &tables, seats, id_seats, passes)?;
-    let tasks = tasks_of(alloc, range)?;
+    let call = call_of(alloc, range)?;
+    let tasks = tasks_of(alloc, call)?;
     spent_by(rt, &tables, caller, tasks)
 }
 
