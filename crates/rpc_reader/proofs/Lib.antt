@@ -4,3 +4,5 @@ pub mod Takes
 pub mod Posts
 pub mod Sockets
 pub mod Streams
+pub mod Series
+pub mod Noting

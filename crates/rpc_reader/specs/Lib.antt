@@ -7,3 +7,5 @@ pub mod Posting
 pub mod Failing
 pub mod Throwing
 pub mod Running
+pub mod Linked
+pub mod Resting

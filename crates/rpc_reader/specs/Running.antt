@@ -51,6 +51,17 @@ module _ (q : ids.Plan) (link : ℕ) (calls : List ℕ) (ending short : Bool) (s
     -- where memory was wanting nowhere
     pub calm : short ≡ false → (b'.starved ≡ false) × (is_starved how ≡ false)
 
+  -- the same of a link whose socket isn't seen to
+  pub record ReadLink (b b' : Books) : Type 0 where
+    pub how : How
+    pub between : InState
+    pub total : ℕ
+    pub met : Books
+    pub read : ReadBy q.slots ending how s between total b met
+    pub posted : PostedAll q link (code_of how) calls met b'
+    pub thrown : ThrownIf (throws how) ending total between t
+    pub calm : short ≡ false → (b'.starved ≡ false) × (is_starved how ≡ false)
+
   -- an `open` that got no socket has no link to be read
   abbrev pub ReadIf : Option SocketId → View → View → Books → Books → Type 0
   ReadIf None v w b b' = (w ≡ v) × (t ≡ s) × (b' ≡ b)

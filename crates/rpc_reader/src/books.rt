@@ -1,5 +1,5 @@
 // What a reader has for calls, and what it tells of those that it ends.
-ghost use Rattle.std.specs.Prelude.{◌≡◌, IfOk, true};
+ghost use Rattle.std.specs.Prelude.{◌≡◌, IfOk, [], true, false};
 ghost use Rattle.prpc_frame.specs.Meaning.{frame_of};
 ghost use Rattle.call_table.specs.Responses.{outcome_of, ending_of};
 ghost use Rattle.rpc_reader.specs.Books.{ToldBy, KeptBy};
@@ -64,6 +64,20 @@ pub fn has_response(frame: &Frame) -> bool
 }
 
 impl AnswerSeat {
+    /// A part for calls with this seat of the ids. It takes no memory.
+    pub fn new(alloc: Global, seat: IdSeat<Call>) -> AnswerSeat
+        ensures seat { result.seat ≡ seat }
+        ensures empty { (result.early.items ≡ []) × (result.told.items ≡ []) × (result.starved ≡ false) }
+    {
+        AnswerSeat {
+            seat,
+            early: Vec::new(alloc),
+            told: Vec::new(alloc),
+            starved: false,
+            alloc,
+        }
+    }
+
     /// What became of the call of this operation is told.
     pub fn tell(&mut self, number: u16, outcome: Outcome)
         ensures same { self.new ≡ record self.old { told = self.new.told; starved = self.new.starved } }

@@ -6,17 +6,21 @@ mod books;
 mod cutting;
 mod ending;
 mod failing;
+mod linked;
 mod meeting;
 mod opening;
 mod posting;
 mod reader;
 mod reading;
+mod resting;
 mod throwing;
 
 pub use books::AnswerSeat;
 pub use failing::fail_id;
+pub use linked::{read_link, read_links};
 pub use opening::wait_open;
 pub use reader::{Reader, Spent};
+pub use resting::end_rest;
 
 #[cfg(test)]
 mod tests;

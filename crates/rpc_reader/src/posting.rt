@@ -36,8 +36,8 @@ fn first_for(early: &[Frame], slot: u16, word: IdWord) -> Option<usize>
     early.iter().position(|frame| is_for(frame, slot, word))
 }
 
-// The call of the lock ends with the first response that was kept for it, or with the code.
-fn end_lost(ids: &IdTable<Call>, calls: &mut AnswerSeat, lock: IdLock<Call>, code: u16)
+/// The call of the lock ends with the first response that was kept for it, or with the code.
+pub fn end_lost(ids: &IdTable<Call>, calls: &mut AnswerSeat, lock: IdLock<Call>, code: u16)
     requires seat { Sits ids.now.table.shared.table_id calls.old.seat }
     requires lock { (lock.slot < ids.now.plan.slots) × Locks lock.slot calls.old.seat.me.0 (parts lock.word.0) lock.content Empty }
     requires others { (j : ℕ) → j ≢ lock.slot → tokens_in j calls.old.seat.me.0 ≡ [] }

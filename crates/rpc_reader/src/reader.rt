@@ -91,8 +91,8 @@ fn fail_if<O: Out>(table: &SockTable<O>, seat: &mut SockSeat<O>, id: SocketId, h
     }
 }
 
-// What comes behind a fault is thrown away.
-fn throw_if<I: In, R: Wait>(rt: &R, inn: &mut I, how: How, total: u32, ending: bool)
+/// What comes behind a fault is thrown away.
+pub fn throw_if<I: In, R: Wait>(rt: &R, inn: &mut I, how: How, total: u32, ending: bool)
     requires { total ≤ 16777216 }
     ensures { ThrownIf (throws how) ending total (I.state inn.old) (I.state inn.new) }
 {
@@ -101,8 +101,8 @@ fn throw_if<I: In, R: Wait>(rt: &R, inn: &mut I, how: How, total: u32, ending: b
     }
 }
 
-// Whether memory was wanting nowhere.
-fn calm(starved: bool, how: How) -> Result<(), NoMemory>
+/// Whether memory was wanting nowhere.
+pub fn calm(starved: bool, how: How) -> Result<(), NoMemory>
     ensures { is_err result ≡ false → (starved ≡ false) × (is_starved how ≡ false) }
 {
     if starved || how.is_starved() {
@@ -121,13 +121,7 @@ impl<O: Out> Reader<O> {
         Reader {
             seat,
             link,
-            calls: AnswerSeat {
-                seat: ids,
-                early: Vec::new(alloc),
-                told: Vec::new(alloc),
-                starved: false,
-                alloc,
-            },
+            calls: AnswerSeat::new(alloc, ids),
         }
     }
 

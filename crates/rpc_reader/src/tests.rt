@@ -28,14 +28,7 @@ fn begin(alloc: Global) -> Option<(IdTable<Call>, AnswerSeat)>
         return None;
     };
     let seat = seats.pop()?;
-    let calls = AnswerSeat {
-        seat,
-        early: Vec::new(alloc),
-        told: Vec::new(alloc),
-        starved: false,
-        alloc,
-    };
-    Some((table, calls))
+    Some((table, AnswerSeat::new(alloc, seat)))
 }
 
 /// A call of Echo.Echo with one attempt, the operation 7.
