@@ -1,0 +1,24 @@
+-- How main ends the sockets of a run, once all clients have ended.
+use Rattle.std.specs.Prelude.{◌≡◌, ℕ, List, [], ◌∷◌, Option, Some, None}
+use Rattle.sock_words.specs.Codes.{EEOF}
+use Rattle.sock_words.specs.declared.plain.Plan.{Plan}
+use Rattle.sock_words.specs.declared.socket_id.SocketId.{SocketId}
+use Rattle.sock_model.specs.declared.view.View.{View}
+use Rattle.rpc_reader.specs.Failing.{OpenedBy, FailedBy}
+
+-- the socket was set failed as at the end of its link; an `open` may have got none
+abbrev pub FailedIf : Option SocketId → View → View → Type 0
+FailedIf None v w = w ≡ v
+FailedIf (Some id) v w = FailedBy id.0 EEOF v w
+
+-- what was noted for the `open` was read, and its socket was set failed
+pub record EndedOne (p : Plan) (operation : ℕ) (v w : View) : Type 0 where
+  pub id : Option SocketId
+  pub noted : View
+  pub opened : OpenedBy p operation id v noted
+  pub failed : FailedIf id noted w
+
+-- those of these `open`s, one after the other
+abbrev pub EndedEach : Plan → List ℕ → View → View → Type 0
+EndedEach p [] v w = w ≡ v
+EndedEach p (o ∷ os) v w = (u : View) × EndedOne p o v u × EndedEach p os u w

@@ -1,0 +1,5 @@
+pub mod Ending
+pub mod Threads
+pub mod Working
+pub mod Hired
+pub mod Crew
