@@ -1,1 +1,5 @@
 pub mod Placing
+pub mod Numbers
+pub mod MayCall
+pub mod Resting
+pub mod Reporting

@@ -39,6 +39,8 @@ pub record HasRead {O I P : Type 0} (out : O → OutState) (inn : I → InState)
   pub rested : EachRested p EEOF operations asking asked between last
   pub told_is : told ≡ last.told
   pub calm : last.starved ≡ false
-  -- the last words of the id slots
+  -- the first seat in the end, and the last words of the id slots
+  pub left : IdSeat
+  pub left_is : left.me.0 ≡ last.view
   pub words : List ℕ
-  pub closing : Closing p (flat_map (λ (s : IdSeat). s.me.0.notes) asked ++ last.view.notes) (flat_map (λ (s : IdSeat). s.me.0.kept) asked ++ last.view.kept) words
+  pub closing : Closing p (flat_map (λ (s : IdSeat). s.me.0.notes) (asked ++ left ∷ [])) (flat_map (λ (s : IdSeat). s.me.0.kept) (asked ++ left ∷ [])) words

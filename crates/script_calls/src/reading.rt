@@ -1,7 +1,6 @@
 // What is read once all clients of a run have ended, and how the table of ids ends.
 ghost use Rattle.std.specs.Prelude.{◌≡◌, ◌<◌, ◌≤◌, All, IfOk, length, map};
 ghost use Rattle.corr_core.specs.Law.{total};
-ghost use Rattle.sock_words.specs.Codes.{EEOF as LINK_ENDED};
 ghost use Rattle.rpc_reader.specs.Books.{books};
 ghost use Rattle.rpc_reader.specs.Seats.{IsOpen, Rests};
 ghost use Rattle.call_run.specs.Crew.{AreLeft};
@@ -31,7 +30,7 @@ fn end_each<R: Wait>(
     ensures ids { Rests calls.old.seat calls.new.seat }
     ensures left { AreLeft ids.now.table.shared.table_id asking.new }
     ensures all { total (λ s. s.me.0.share) asking.new ≡ total (λ s. s.me.0.share) asking.old }
-    ensures rest { EachRested ids.now.plan LINK_ENDED operations.now asking.old asking.new (books calls.old) (books calls.new) }
+    ensures rest { EachRested ids.now.plan EEOF operations.now asking.old asking.new (books calls.old) (books calls.new) }
 {
     'asks: for seat in asking.iter_mut() {
         end_rest(rt, ids, calls, seat, operations, EEOF);
@@ -74,8 +73,10 @@ pub fn read_rest<L: Linker, R: Wait>(
         alloc: _,
     } = calls;
     seats.push_reserved(seat);
-    let closed = ids.close(alloc, seats);
-    if read.is_err() || starved || closed.is_err() {
+    let Ok(_words) = ids.close(alloc, seats) else {
+        return Err(NoMemory);
+    };
+    if read.is_err() || starved {
         return Err(NoMemory);
     }
     Ok(told)
