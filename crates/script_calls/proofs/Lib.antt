@@ -3,3 +3,4 @@ pub mod Numbers
 pub mod MayCall
 pub mod Resting
 pub mod Reporting
+pub mod Joinless

@@ -8,4 +8,6 @@ mod run;
 mod saying;
 
 pub use built::is_built;
+pub use halves::{Halves, Rest, join, part, room_for};
 pub use run::run_script_on_threads;
+pub use saying::said_of;
