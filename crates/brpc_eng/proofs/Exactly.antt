@@ -18,11 +18,11 @@ use Rattle.sock_io.specs.Memory.{MemInState, mem_in}
 use Rattle.loop_link.specs.Serving.{LoopInState, loop_in}
 use Rattle.script_links.specs.Offered.{TellOffers}
 use Rattle.script_run.specs.Played.{TellClosed}
-use Rattle.script_calls.specs.Built.{is_joinless}
+use Rattle.script_threads.specs.Built.{is_built}
 use Rattle.serve_port.specs.Serving.{ServedConnection}
 use Rattle.brpc_eng.proofs.Statuses.{each_script_is_run, IsUnbuilt, unbuilt_script_exactly}
 use Rattle.brpc_eng.specs.Streams.{script_limit, IsAtEnd}
-use Rattle.brpc_eng.specs.Answers.{HaveRisen, StandStill, AllTell, edges_of, Input, Output, Links, TextWritten, Ran, Reported, MemoryRanOut, OpenFailed, RanOnThreads, ThreadsReported, CallsReported, ThreadsRanOut, ThreadsNotOpened, ScriptNotBuilt, ScriptEnd, FaultWritten, Replayed, RanScript, FaultyScript, SourceFailed, TooLong, NoMemory, Answers, NoCommand, CommandNotBuilt, Generated, Generates, LoadRan, LoadSummed, LoadRanOut, LoadNotOpened, Loads, PrintsInput, Replays, Simulates, RunsOnThreads, ServeEnds, ServedWhole, NotAccepted, ConnectionFailed, MetFault, ServeRanOut, ServesPort, is_built_command, frames_status, FramesPrinted}
+use Rattle.brpc_eng.specs.Answers.{HaveRisen, StandStill, AllTell, edges_of, Input, Output, Links, TextWritten, Ran, Reported, MemoryRanOut, OpenFailed, RanOnThreads, ThreadsReported, ThreadsRanOut, ThreadsNotOpened, ScriptNotBuilt, ScriptEnd, FaultWritten, Replayed, RanScript, FaultyScript, SourceFailed, TooLong, NoMemory, Answers, NoCommand, CommandNotBuilt, Generated, Generates, LoadRan, LoadSummed, LoadRanOut, LoadNotOpened, Loads, PrintsInput, Replays, Simulates, RunsOnThreads, ServeEnds, ServedWhole, NotAccepted, ConnectionFailed, MetFault, ServeRanOut, ServesPort, is_built_command, frames_status, FramesPrinted}
 
 -- ## Status 2
 
@@ -37,7 +37,6 @@ not_two_ran turns script out links status (OpenFailed s rose back wrote) = λ e.
 
 not_two_threads : (script : List Item) (out : Output) (links : Links) (status : ℕ) → RanOnThreads script out links status → status ≢ 2
 not_two_threads script out links status (ThreadsReported built text is wrote) = not_two_written out text status wrote
-not_two_threads script out links status (CallsReported unbuilt_ joinless text is wrote) = not_two_written out text status wrote
 not_two_threads script out links status (ThreadsRanOut built s wrote) = λ e. absurd (omega (arith, e, s))
 not_two_threads script out links status (ThreadsNotOpened built s rose back wrote) = λ e. absurd (omega (arith, e, s))
 not_two_threads script out links status (ScriptNotBuilt unbuilt s none_ wrote) = λ e. absurd (omega (arith, e, s))
@@ -117,9 +116,8 @@ calm_ran turns script input out links status calm (Reported text fits of_run wro
 calm_ran turns script input out links status calm (MemoryRanOut s wrote) = inr s
 calm_ran turns script input out links status calm (OpenFailed s rose back wrote) = absurd (calm.linker rose)
 
-calm_threads : (script : List Item) (input : Input) (out : Output) (links : Links) (status : ℕ) → IsCalm input out links → is_joinless script ≡ true → RanOnThreads script out links status → (status ≡ 0) ⊎ (status ≡ 7)
+calm_threads : (script : List Item) (input : Input) (out : Output) (links : Links) (status : ℕ) → IsCalm input out links → is_built script ≡ true → RanOnThreads script out links status → (status ≡ 0) ⊎ (status ≡ 7)
 calm_threads script input out links status calm built (ThreadsReported same text is wrote) = inl (calm_written out text status calm.sink wrote)
-calm_threads script input out links status calm built (CallsReported unbuilt_ joinless text is wrote) = inl (calm_written out text status calm.sink wrote)
 calm_threads script input out links status calm built (ThreadsRanOut same s wrote) = inr s
 calm_threads script input out links status calm built (ThreadsNotOpened same s rose back wrote) = absurd (calm.linker rose)
 calm_threads script input out links status calm built (ScriptNotBuilt unbuilt s none_ wrote) = let f : true ≡ false = sym built ∙ unbuilt in absurd (cc)
@@ -140,7 +138,7 @@ calm_replayed ran script given input out links bytes status calm came few is run
 abbrev RunsScript : List Item → Command → Type 0
 RunsScript script Replay = Unit {0}
 RunsScript script (Sim seed) = Unit {0}
-RunsScript script (Run None) = is_joinless script ≡ true
+RunsScript script (Run None) = is_built script ≡ true
 RunsScript script other = ⊥
 
 never_unbuilt : (script : List Item) (command : Command) → RunsScript script command → is_built_command command ≡ false → ⊥
@@ -178,9 +176,9 @@ report_comes script given words input out links status command (RunsOnThreads na
     let P : Option (List ℕ) → Type 0 = λ x. Consumes x input.left replayed.bytes in
     let one : Some (Run None) ≡ Some command = sym named ∙ asked in
     let alike : Run None ≡ command = cc in
-    let built : is_joinless script ≡ true = subst (RunsScript script) (sym alike) runs in
+    let built : is_built script ≡ true = subst (RunsScript script) (sym alike) runs in
     calm_replayed _ script given input out links replayed.bytes status calm (subst P told replayed.came) few is
-    (λ read alike ran. calm_threads read input out links status calm (subst (λ (s : List Item). is_joinless s ≡ true) (sym alike) built) ran) replayed.replayed
+    (λ read alike ran. calm_threads read input out links status calm (subst (λ (s : List Item). is_built s ≡ true) (sym alike) built) ran) replayed.replayed
 report_comes script given words input out links status command (ServesPort port count named same served) asked runs told few is calm =
     let one : Some (Serve port count) ≡ Some command = sym named ∙ asked in
     let alike : Serve port count ≡ command = cc in absurd (subst (RunsScript script) (sym alike) runs)
@@ -283,7 +281,6 @@ still_faulty out line kind status (inr w) e = w.1.1
 
 still_threads : (script : List Item) (out : Output) (links : Links) (status : ℕ) → RanOnThreads script out links status → status ≡ 0 → StandStill out.faults
 still_threads script out links status (ThreadsReported built text is wrote) e = still_written out text status wrote e
-still_threads script out links status (CallsReported unbuilt_ joinless text is wrote) e = still_written out text status wrote e
 still_threads script out links status (ThreadsRanOut built s wrote) e = wrote.1
 still_threads script out links status (ThreadsNotOpened built s rose back wrote) e = wrote.1
 still_threads script out links status (ScriptNotBuilt unbuilt s none_ wrote) e = absurd (omega (arith, e, s))

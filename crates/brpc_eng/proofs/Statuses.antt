@@ -4,10 +4,9 @@ use Rattle.std.proofs.Common.{◌≡◌, ◌≢◌, ℕ, ◌<◌, ◌⊎◌, inl
 use Rattle.brpc_model.specs.Items.{Item}
 use Rattle.brpc_model.specs.Operations.{Turn}
 use Rattle.brpc_model.specs.Script.{script_of}
-use Rattle.script_calls.specs.Built.{is_joinless}
-use Rattle.script_calls.proofs.Joinless.{built_joinless}
+use Rattle.script_threads.specs.Built.{is_built}
 use Rattle.brpc_eng.specs.Streams.{script_limit, IsAtEnd}
-use Rattle.brpc_eng.specs.Answers.{HaveRisen, Input, Output, Links, TextWritten, Ran, Reported, MemoryRanOut, OpenFailed, RanOnThreads, ThreadsReported, CallsReported, ThreadsRanOut, ThreadsNotOpened, ScriptNotBuilt, ScriptEnd, by_turns, FaultWritten, Replayed, RanScript, FaultyScript, SourceFailed, TooLong, NoMemory, ReplayedInput}
+use Rattle.brpc_eng.specs.Answers.{HaveRisen, Input, Output, Links, TextWritten, Ran, Reported, MemoryRanOut, OpenFailed, RanOnThreads, ThreadsReported, ThreadsRanOut, ThreadsNotOpened, ScriptNotBuilt, ScriptEnd, by_turns, FaultWritten, Replayed, RanScript, FaultyScript, SourceFailed, TooLong, NoMemory, ReplayedInput}
 
 -- ## What each way of ending says of the bytes that came
 
@@ -39,7 +38,6 @@ turns_run turns script out links status ran = is_run (turns script) script out l
 
 pub threads_run : AreRuns RanOnThreads
 threads_run script out links status (ThreadsReported built text is wrote) = is_written out text status wrote
-threads_run script out links status (CallsReported unbuilt_ joinless text is wrote) = is_written out text status wrote
 threads_run script out links status (ThreadsRanOut built s wrote) = inr (inr (inl s))
 threads_run script out links status (ThreadsNotOpened built s rose back wrote) = inr (inr (inr (inl s)))
 threads_run script out links status (ScriptNotBuilt unbuilt s none_ wrote) = inr (inr (inr (inr s)))
@@ -132,23 +130,21 @@ each_script_is_run turns input out links status read = not_ten turns input out l
 
 -- on threads, those that are built
 
-unbuilt_ran : (script : List Item) (out : Output) (links : Links) (status : ℕ) → RanOnThreads script out links status → status ≡ 10 → is_joinless script ≡ false
+unbuilt_ran : (script : List Item) (out : Output) (links : Links) (status : ℕ) → RanOnThreads script out links status → status ≡ 10 → is_built script ≡ false
 unbuilt_ran script out links status (ThreadsReported built text is wrote) e = absurd (not_ten_written out text status wrote e)
-unbuilt_ran script out links status (CallsReported unbuilt_ joinless text is wrote) e = absurd (not_ten_written out text status wrote e)
 unbuilt_ran script out links status (ThreadsRanOut built s wrote) e = absurd (omega (arith, e, s))
 unbuilt_ran script out links status (ThreadsNotOpened built s rose back wrote) e = absurd (omega (arith, e, s))
 unbuilt_ran script out links status (ScriptNotBuilt unbuilt s none_ wrote) e = unbuilt
 
-ten_ran : (script : List Item) (out : Output) (links : Links) (status : ℕ) → RanOnThreads script out links status → is_joinless script ≡ false → status ≡ 10
-ten_ran script out links status (ThreadsReported built text is wrote) unbuilt = let f : true ≡ false = sym (built_joinless script built) ∙ unbuilt in absurd (cc)
-ten_ran script out links status (CallsReported unbuilt_ joinless text is wrote) unbuilt = let f : true ≡ false = sym joinless ∙ unbuilt in absurd (cc)
+ten_ran : (script : List Item) (out : Output) (links : Links) (status : ℕ) → RanOnThreads script out links status → is_built script ≡ false → status ≡ 10
+ten_ran script out links status (ThreadsReported built text is wrote) unbuilt = let f : true ≡ false = sym built ∙ unbuilt in absurd (cc)
 ten_ran script out links status (ThreadsRanOut built s wrote) unbuilt = let f : true ≡ false = sym built ∙ unbuilt in absurd (cc)
 ten_ran script out links status (ThreadsNotOpened built s rose back wrote) unbuilt = let f : true ≡ false = sym built ∙ unbuilt in absurd (cc)
 ten_ran script out links status (ScriptNotBuilt same s none_ wrote) unbuilt = s
 
 -- the whole input was read, and is a script that isn't built
 abbrev pub IsUnbuilt : Input → List ℕ → Type 0
-IsUnbuilt input bytes = IsAtEnd input.left × ((script : List Item) × (script_of bytes ≡ Ok script) × (is_joinless script ≡ false))
+IsUnbuilt input bytes = IsAtEnd input.left × ((script : List Item) × (script_of bytes ≡ Ok script) × (is_built script ≡ false))
 
 unbuilt_by : (input : Input) (out : Output) (links : Links) (bytes : List ℕ) (status : ℕ) → Replayed RanOnThreads input out links bytes status → status ≡ 10 → IsUnbuilt input bytes
 unbuilt_by input out links bytes status (RanScript end script is opened ran) e = (end, (script, is, unbuilt_ran script out links status ran e))
@@ -157,11 +153,11 @@ unbuilt_by input out links bytes status (SourceFailed s rose back wrote) e = abs
 unbuilt_by input out links bytes status (TooLong s long back wrote) e = absurd (omega (arith, e, s))
 unbuilt_by input out links bytes status (NoMemory s back wrote) e = absurd (omega (arith, e, s))
 
-ten_by : (input : Input) (out : Output) (links : Links) (bytes : List ℕ) (status : ℕ) (script : List Item) → Replayed RanOnThreads input out links bytes status → script_of bytes ≡ Ok script → is_joinless script ≡ false → (status ≡ 10) ⊎ EndedBefore input bytes status
+ten_by : (input : Input) (out : Output) (links : Links) (bytes : List ℕ) (status : ℕ) (script : List Item) → Replayed RanOnThreads input out links bytes status → script_of bytes ≡ Ok script → is_built script ≡ false → (status ≡ 10) ⊎ EndedBefore input bytes status
 ten_by input out links bytes status script (RanScript end other is opened ran) reads unbuilt =
     let one : Ok other ≡ Ok script = sym is ∙ reads in
     let alike : other ≡ script = cc in
-    let no : is_joinless other ≡ false = subst (λ (s : List Item). is_joinless s ≡ false) (sym alike) unbuilt in
+    let no : is_built other ≡ false = subst (λ (s : List Item). is_built s ≡ false) (sym alike) unbuilt in
     inl (ten_ran other out links status ran no)
 ten_by input out links bytes status script (FaultyScript end line kind is back wrote) reads unbuilt = absurd (cc)
 ten_by input out links bytes status script (SourceFailed s rose back wrote) reads unbuilt = inr (inl (s, rose))
@@ -169,5 +165,5 @@ ten_by input out links bytes status script (TooLong s long back wrote) reads unb
 ten_by input out links bytes status script (NoMemory s back wrote) reads unbuilt = inr (inr (inr s))
 
 pub unbuilt_script_exactly : (input : Input) (out : Output) (links : Links) (status : ℕ) → (read : ReplayedInput RanOnThreads input out links status) →
-    (status ≡ 10 → IsUnbuilt input read.bytes) × ((script : List Item) → script_of read.bytes ≡ Ok script → is_joinless script ≡ false → (status ≡ 10) ⊎ EndedBefore input read.bytes status)
+    (status ≡ 10 → IsUnbuilt input read.bytes) × ((script : List Item) → script_of read.bytes ≡ Ok script → is_built script ≡ false → (status ≡ 10) ⊎ EndedBefore input read.bytes status)
 unbuilt_script_exactly input out links status read = (unbuilt_by input out links read.bytes status read.replayed, λ script reads unbuilt. ten_by input out links read.bytes status script read.replayed reads unbuilt)

@@ -34,8 +34,6 @@ use Rattle.script_run.specs.Causes.{CameLate, late_in}
 use Rattle.script_run.specs.Played.{IsRunText}
 use Rattle.script_threads.specs.Built.{is_built}
 use Rattle.script_threads.specs.Told.{IsThreadText}
-use Rattle.script_calls.specs.Built.{is_joinless}
-use Rattle.script_calls.specs.Told.{IsCallText}
 use Rattle.brpc_eng.specs.Streams.{script_limit, IsAtEnd}
 
 -- ## What a call finds outside, and what it leaves there
@@ -171,14 +169,11 @@ pub data RanOnThreads (script : List Item) (out : Output) (links : Links) (statu
   -- each operation has its outcome by what became of all others, and each link took the messages of its lines in one order, whole and once, those of each
   -- client in its own order; the text reports that, and fits
   ThreadsReported : is_built script ≡ true → (text : List ℕ) → IsThreadText script text links.ends → TextWritten out text status → RanOnThreads script out links status
-  -- with calls, or with servers behind its links: the place words of the run tell an order of each link, each operation has an outcome or a message with a
-  -- place, and the text reports that
-  CallsReported : is_built script ≡ false → is_joinless script ≡ true → (text : List ℕ) → IsCallText script text links.ends → TextWritten out text status → RanOnThreads script out links status
-  ThreadsRanOut : is_joinless script ≡ true → status ≡ 7 → WroteNothing out → RanOnThreads script out links status
+  ThreadsRanOut : is_built script ≡ true → status ≡ 7 → WroteNothing out → RanOnThreads script out links status
   -- the links that were opened before are given back, and nothing was done with them
-  ThreadsNotOpened : is_joinless script ≡ true → status ≡ 8 → HaveRisen links.faults → AreUntouched 0 links.ends → WroteNothing out → RanOnThreads script out links status
-  -- a line waits for a call: no link is opened
-  ScriptNotBuilt : is_joinless script ≡ false → status ≡ 10 → OpenedNone links → Wrote out not_built_text → RanOnThreads script out links status
+  ThreadsNotOpened : is_built script ≡ true → status ≡ 8 → HaveRisen links.faults → AreUntouched 0 links.ends → WroteNothing out → RanOnThreads script out links status
+  -- a line asks for a call or for something of one, or for a server behind its link: no link is opened
+  ScriptNotBuilt : is_built script ≡ false → status ≡ 10 → OpenedNone links → Wrote out not_built_text → RanOnThreads script out links status
 
 -- ## `replay`, `sim` and `run`
 

@@ -1,10 +1,8 @@
-ghost use Rattle.std.specs.Prelude.{◌≡◌, ◌≢◌, ◌≤◌, ℕ, true, false, [], Ok, Some, List};
+ghost use Rattle.std.specs.Prelude.{◌≡◌, ◌≢◌, ◌≤◌, ℕ, true, [], Ok, Some, List};
 ghost use Rattle.std.specs.List.{list_all};
 ghost use Rattle.brpc_model.specs.Commands.{Run, command_of};
 ghost use Rattle.brpc_model.specs.Script.{script_of};
 ghost use Rattle.script_links.specs.Given.{has_piece};
-ghost use Rattle.script_threads.specs.Built.{is_built};
-ghost use Rattle.script_calls.specs.Built.{is_joinless};
 ghost use Rattle.script_links.specs.Offered.{TellOffers};
 ghost use Rattle.script_run.specs.Played.{TellClosed};
 ghost use Rattle.brpc_eng.specs.Status.{number_of};
@@ -16,7 +14,6 @@ use crate::status::Status;
 use crate::streams::{InputFault, read_all};
 use script_items::Script;
 use script_lang::{ScriptError, read_script};
-use script_calls::{is_joinless, run_calls_on_threads};
 use script_threads::{is_built, run_script_on_threads};
 use sock_io::{Gate, Linker, Mode, OpenFault, Sink, Source};
 use std::alloc::Global;
@@ -88,68 +85,7 @@ fn run_threads<R: Threads + Wait + Sync, S: Source, K: Sink, L: Linker, G: Gate 
     }
 }
 
-/// Runs a script without calls on threads and writes its report.
-fn plain_and_report<R: Threads + Wait + Sync, K: Sink, L: Linker, G: Gate + Sync>(
-    rt: &R,
-    alloc: Global,
-    script: &Script,
-    out: &mut K,
-    links: &mut L,
-    gate: &G,
-) -> Status
-    requires asked { L.asked links.old ≡ [] }
-    requires back { L.back links.old ≡ [] }
-    requires script { (bytes : List ℕ) × (script_of bytes ≡ Ok script.now) }
-    requires pieces { list_all has_piece script.now ≡ true }
-    requires built { is_built script.now ≡ true }
-    ensures ran { RanOnThreads script.now
-        (record { before = K.contents out.old; now = K.contents out.new; faults = record { before = K.faults out.old; now = K.faults out.new } })
-        (record { prompt = L.prompt links.old; tells = TellClosed L.I.state; offering = TellOffers L.O.state L.I.state; asked = L.asked links.new; ends = L.back links.new; accepted = L.accepted links.new; done = L.done links.new; faults = record { before = L.faults links.old; now = L.faults links.new } })
-        (number_of result) }
-    ensures opened { OpenedBy script.now
-        (record { prompt = L.prompt links.old; tells = TellClosed L.I.state; offering = TellOffers L.O.state L.I.state; asked = L.asked links.new; ends = L.back links.new; accepted = L.accepted links.new; done = L.done links.new; faults = record { before = L.faults links.old; now = L.faults links.new } })
-        (number_of result) }
-    ensures linker { number_of result ≢ 8 → L.faults links.new ≡ L.faults links.old }
-{
-    match run_script_on_threads(rt, alloc, Mode::Loop, script, links, gate) {
-        Ok(text) => write_report(out, &text),
-        Err(OpenFault::Failed) => Status::OpenFailed,
-        Err(OpenFault::NoMemory) => Status::NoMemory,
-    }
-}
-
-/// Runs a script with calls, or with servers behind its links, on threads and writes its report.
-fn calls_and_report<R: Threads + Wait + Sync, K: Sink, L: Linker, G: Gate + Sync>(
-    rt: &R,
-    alloc: Global,
-    script: &Script,
-    out: &mut K,
-    links: &mut L,
-    gate: &G,
-) -> Status
-    requires asked { L.asked links.old ≡ [] }
-    requires back { L.back links.old ≡ [] }
-    requires script { (bytes : List ℕ) × (script_of bytes ≡ Ok script.now) }
-    requires pieces { list_all has_piece script.now ≡ true }
-    requires unbuilt { is_built script.now ≡ false }
-    requires joinless { is_joinless script.now ≡ true }
-    ensures ran { RanOnThreads script.now
-        (record { before = K.contents out.old; now = K.contents out.new; faults = record { before = K.faults out.old; now = K.faults out.new } })
-        (record { prompt = L.prompt links.old; tells = TellClosed L.I.state; offering = TellOffers L.O.state L.I.state; asked = L.asked links.new; ends = L.back links.new; accepted = L.accepted links.new; done = L.done links.new; faults = record { before = L.faults links.old; now = L.faults links.new } })
-        (number_of result) }
-    ensures opened { OpenedBy script.now
-        (record { prompt = L.prompt links.old; tells = TellClosed L.I.state; offering = TellOffers L.O.state L.I.state; asked = L.asked links.new; ends = L.back links.new; accepted = L.accepted links.new; done = L.done links.new; faults = record { before = L.faults links.old; now = L.faults links.new } })
-        (number_of result) }
-    ensures linker { number_of result ≢ 8 → L.faults links.new ≡ L.faults links.old }
-{
-    match run_calls_on_threads(rt, alloc, Mode::Loop, script, links, gate) {
-        Ok(text) => write_report(out, &text),
-        Err(OpenFault::Failed) => Status::OpenFailed,
-        Err(OpenFault::NoMemory) => Status::NoMemory,
-    }
-}
-
-/// Runs a script on threads and writes its report. One with a line that waits for a call is refused, and no link is opened.
+/// Runs a script on threads and writes its report. One with a line that isn't built for threads is refused, and no link is opened.
 fn threads_and_report<R: Threads + Wait + Sync, K: Sink, L: Linker, G: Gate + Sync>(
     rt: &R,
     alloc: Global,
@@ -171,13 +107,13 @@ fn threads_and_report<R: Threads + Wait + Sync, K: Sink, L: Linker, G: Gate + Sy
         (number_of result) }
     ensures linker { number_of result ≢ 8 → L.faults links.new ≡ L.faults links.old }
 {
-    if !is_joinless(script) {
+    if !is_built(script) {
         write_answer(out, NOT_BUILT);
         return Status::NotBuilt;
     }
-    if is_built(script) {
-        plain_and_report(rt, alloc, script, out, links, gate)
-    } else {
-        calls_and_report(rt, alloc, script, out, links, gate)
+    match run_script_on_threads(rt, alloc, Mode::Loop, script, links, gate) {
+        Ok(text) => write_report(out, &text),
+        Err(OpenFault::Failed) => Status::OpenFailed,
+        Err(OpenFault::NoMemory) => Status::NoMemory,
     }
 }
