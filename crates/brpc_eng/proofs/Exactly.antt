@@ -1,5 +1,5 @@
--- What the answers say together: 2 comes exactly where the words ask for no command, 10 exactly where they ask for one that isn't
--- built, or for `run` of a script that isn't; with 0 no write failed; and where nothing stands in the way of a report, only it and want of memory come.
+-- What the answers say together: 2 comes exactly where the words ask for no command, 10 only where they ask for `run` of a script that
+-- isn't built for it; with 0 no write failed; and where nothing stands in the way of a report, only it and want of memory come.
 use Rattle.std.proofs.Common.{◌≡◌, ◌≢◌, ℕ, ◌<◌, ◌≤◌, ◌⊎◌, inl, inr, true, false, List, [], ◌∷◌, ◌++◌, map, refl, length, Option, Some, None, Result, Ok, Err, ap, sym, ◌∙◌, subst, arith, length-append, append-nil}
 use Rattle.std.specs.Io.KnownBytes.{Consumes}
 use Rattle.brpc_model.specs.Commands.{Command, Replay, Sim, Run, Gen, Load, Frames, Serve, command_of}
@@ -13,6 +13,7 @@ use Rattle.frame_print.specs.declared.print.StreamEnd.TheVariants as end_
 use Rattle.frame_print.specs.declared.print.PrintFault.{PrintFault}
 use Rattle.frame_print.specs.declared.print.PrintFault.TheVariants as fault_
 use Rattle.sock_io.specs.Link.{end_of}
+use Rattle.sock_io.specs.declared.link.Mode.{Mode}
 use Rattle.sock_io.specs.Shape.{ShapedState, shaped_out}
 use Rattle.sock_io.specs.Memory.{MemInState, mem_in}
 use Rattle.loop_link.specs.Serving.{LoopInState, loop_in}
@@ -22,7 +23,7 @@ use Rattle.script_threads.specs.Built.{is_built}
 use Rattle.serve_port.specs.Serving.{ServedConnection}
 use Rattle.brpc_eng.proofs.Statuses.{each_script_is_run, IsUnbuilt, unbuilt_script_exactly}
 use Rattle.brpc_eng.specs.Streams.{script_limit, IsAtEnd}
-use Rattle.brpc_eng.specs.Answers.{HaveRisen, StandStill, AllTell, edges_of, Input, Output, Links, TextWritten, Ran, Reported, MemoryRanOut, OpenFailed, RanOnThreads, ThreadsReported, ThreadsRanOut, ThreadsNotOpened, ScriptNotBuilt, ScriptEnd, FaultWritten, Replayed, RanScript, FaultyScript, SourceFailed, TooLong, NoMemory, Answers, NoCommand, CommandNotBuilt, Generated, Generates, LoadRan, LoadSummed, LoadRanOut, LoadNotOpened, Loads, PrintsInput, Replays, Simulates, RunsOnThreads, ServeEnds, ServedWhole, NotAccepted, ConnectionFailed, MetFault, ServeRanOut, ServesPort, is_built_command, frames_status, FramesPrinted}
+use Rattle.brpc_eng.specs.Answers.{HaveRisen, StandStill, AllTell, edges_of, Input, Output, Links, TextWritten, Ran, Reported, MemoryRanOut, OpenFailed, RanOnThreads, ThreadsReported, ThreadsRanOut, ThreadsNotOpened, ScriptNotBuilt, ScriptEnd, FaultWritten, Replayed, RanScript, FaultyScript, SourceFailed, TooLong, NoMemory, Answers, NoCommand, Generated, Generates, LoadRan, LoadSummed, LoadRanOut, LoadNotOpened, Loads, PrintsInput, Replays, Simulates, RunsOnThreads, ServeEnds, ServedWhole, NotAccepted, ConnectionFailed, MetFault, ServeRanOut, ServesPort, run_mode, frames_status, FramesPrinted}
 
 -- ## Status 2
 
@@ -35,17 +36,17 @@ not_two_ran turns script out links status (Reported text fits of_run wrote) = no
 not_two_ran turns script out links status (MemoryRanOut s wrote) = λ e. absurd (omega (arith, e, s))
 not_two_ran turns script out links status (OpenFailed s rose back wrote) = λ e. absurd (omega (arith, e, s))
 
-not_two_threads : (script : List Item) (out : Output) (links : Links) (status : ℕ) → RanOnThreads script out links status → status ≢ 2
-not_two_threads script out links status (ThreadsReported built text is wrote) = not_two_written out text status wrote
-not_two_threads script out links status (ThreadsRanOut built s wrote) = λ e. absurd (omega (arith, e, s))
-not_two_threads script out links status (ThreadsNotOpened built s rose back wrote) = λ e. absurd (omega (arith, e, s))
-not_two_threads script out links status (ScriptNotBuilt unbuilt s none_ wrote) = λ e. absurd (omega (arith, e, s))
+not_two_threads : (mode : Mode) (script : List Item) (out : Output) (links : Links) (status : ℕ) → RanOnThreads mode script out links status → status ≢ 2
+not_two_threads mode script out links status (ThreadsReported built text is wrote) = not_two_written out text status wrote
+not_two_threads mode script out links status (ThreadsRanOut built s wrote) = λ e. absurd (omega (arith, e, s))
+not_two_threads mode script out links status (ThreadsNotOpened built s rose back wrote) = λ e. absurd (omega (arith, e, s))
+not_two_threads mode script out links status (ScriptNotBuilt unbuilt s none_ wrote) = λ e. absurd (omega (arith, e, s))
 
 not_two_fault : (out : Output) (line kind status : ℕ) → FaultWritten out line kind status → status ≢ 2
 not_two_fault out line kind status (inl w) = λ e. absurd (omega (arith, e, w.0))
 not_two_fault out line kind status (inr w) = λ e. absurd (omega (arith, e, w.0))
 
-not_two : (ran : ScriptEnd) (input : Input) (out : Output) (links : Links) (bytes : List ℕ) (status : ℕ) → ((script : List Item) → ran script out links status → status ≢ 2) → Replayed ran input out links bytes status → status ≢ 2
+not_two : {mode : Mode} (ran : ScriptEnd) (input : Input) (out : Output) (links : Links) (bytes : List ℕ) (status : ℕ) → ((script : List Item) → ran script out links status → status ≢ 2) → Replayed mode ran input out links bytes status → status ≢ 2
 not_two ran input out links bytes status runs (RanScript end script is opened ended) = runs script ended
 not_two ran input out links bytes status runs (FaultyScript end line kind is back wrote) = not_two_fault out line kind status wrote
 not_two ran input out links bytes status runs (SourceFailed s rose back wrote) = λ e. absurd (omega (arith, e, s))
@@ -80,14 +81,13 @@ not_two_served count served out links status (ServeRanOut s fine clean wrote) = 
 pub usage_exactly : (words : List (List ℕ)) (input : Input) (out : Output) (links : Links) (status : ℕ) → Answers words input out links status →
     (status ≡ 2 → command_of words ≡ None) × (command_of words ≡ None → status ≡ 2)
 usage_exactly words input out links status (NoCommand s none same back wrote) = (λ e. none, λ e. s)
-usage_exactly words input out links status (CommandNotBuilt s command is other same back wrote) = (λ e. absurd (omega (arith, e, s)), λ e. absurd (cc))
 usage_exactly words input out links status (Generates seed clients count is same back made) = (λ e. absurd (not_two_made seed clients count out status made e), λ e. absurd (cc))
 usage_exactly words input out links status (Loads seed clients count is same made) = (λ e. absurd (not_two_loaded seed clients count out links status made.ran e), λ e. absurd (cc))
 usage_exactly words input out links status (PrintsInput is back printed) = (λ e. absurd (not_two_ended printed.ended status printed.numbered e), λ e. absurd (cc))
 usage_exactly words input out links status (Replays is replayed) = (λ e. absurd (not_two _ input out links replayed.bytes status (λ script ran. not_two_ran _ script out links status ran) replayed.replayed e), λ e. absurd (cc))
 usage_exactly words input out links status (Simulates seed is replayed) = (λ e. absurd (not_two _ input out links replayed.bytes status (λ script ran. not_two_ran _ script out links status ran) replayed.replayed e), λ e. absurd (cc))
-usage_exactly words input out links status (RunsOnThreads is replayed) =
-    (λ e. absurd (not_two _ input out links replayed.bytes status (λ script ran. not_two_threads script out links status ran) replayed.replayed e), λ e. absurd (cc))
+usage_exactly words input out links status (RunsOnThreads port is replayed) =
+    (λ e. absurd (not_two _ input out links replayed.bytes status (λ script ran. not_two_threads (run_mode port) script out links status ran) replayed.replayed e), λ e. absurd (cc))
 usage_exactly words input out links status (ServesPort port count is same served) = (λ e. absurd (not_two_served count served.served out links status served.ended e), λ e. absurd (cc))
 
 -- ## A report, or want of memory
@@ -116,14 +116,14 @@ calm_ran turns script input out links status calm (Reported text fits of_run wro
 calm_ran turns script input out links status calm (MemoryRanOut s wrote) = inr s
 calm_ran turns script input out links status calm (OpenFailed s rose back wrote) = absurd (calm.linker rose)
 
-calm_threads : (script : List Item) (input : Input) (out : Output) (links : Links) (status : ℕ) → IsCalm input out links → is_built script ≡ true → RanOnThreads script out links status → (status ≡ 0) ⊎ (status ≡ 7)
-calm_threads script input out links status calm built (ThreadsReported same text is wrote) = inl (calm_written out text status calm.sink wrote)
-calm_threads script input out links status calm built (ThreadsRanOut same s wrote) = inr s
-calm_threads script input out links status calm built (ThreadsNotOpened same s rose back wrote) = absurd (calm.linker rose)
-calm_threads script input out links status calm built (ScriptNotBuilt unbuilt s none_ wrote) = let f : true ≡ false = sym built ∙ unbuilt in absurd (cc)
+calm_threads : (mode : Mode) (script : List Item) (input : Input) (out : Output) (links : Links) (status : ℕ) → IsCalm input out links → is_built mode script ≡ true → RanOnThreads mode script out links status → (status ≡ 0) ⊎ (status ≡ 7)
+calm_threads mode script input out links status calm built (ThreadsReported same text is wrote) = inl (calm_written out text status calm.sink wrote)
+calm_threads mode script input out links status calm built (ThreadsRanOut same s wrote) = inr s
+calm_threads mode script input out links status calm built (ThreadsNotOpened same s rose back wrote) = absurd (calm.linker rose)
+calm_threads mode script input out links status calm built (ScriptNotBuilt unbuilt s none_ wrote) = let f : true ≡ false = sym built ∙ unbuilt in absurd (cc)
 
-calm_replayed : (ran : ScriptEnd) (script : List Item) (given : List ℕ) (input : Input) (out : Output) (links : Links) (bytes : List ℕ) (status : ℕ) → IsCalm input out links → Consumes (Some given) input.left bytes →
-    length given ≤ script_limit → script_of given ≡ Ok script → ((read : List Item) → read ≡ script → ran read out links status → (status ≡ 0) ⊎ (status ≡ 7)) → Replayed ran input out links bytes status → (status ≡ 0) ⊎ (status ≡ 7)
+calm_replayed : {mode : Mode} (ran : ScriptEnd) (script : List Item) (given : List ℕ) (input : Input) (out : Output) (links : Links) (bytes : List ℕ) (status : ℕ) → IsCalm input out links → Consumes (Some given) input.left bytes →
+    length given ≤ script_limit → script_of given ≡ Ok script → ((read : List Item) → read ≡ script → ran read out links status → (status ≡ 0) ⊎ (status ≡ 7)) → Replayed mode ran input out links bytes status → (status ≡ 0) ⊎ (status ≡ 7)
 calm_replayed ran script given input out links bytes status calm came few is runs (RanScript end read is' opened ended) =
     let same : script_of bytes ≡ Ok script = ap script_of (came_all given bytes input.left came end) ∙ is in
     let one : Ok read ≡ Ok script = sym is' ∙ same in
@@ -138,25 +138,14 @@ calm_replayed ran script given input out links bytes status calm came few is run
 abbrev RunsScript : List Item → Command → Type 0
 RunsScript script Replay = Unit {0}
 RunsScript script (Sim seed) = Unit {0}
-RunsScript script (Run None) = is_built script ≡ true
+RunsScript script (Run port) = is_built (run_mode port) script ≡ true
 RunsScript script other = ⊥
-
-never_unbuilt : (script : List Item) (command : Command) → RunsScript script command → is_built_command command ≡ false → ⊥
-never_unbuilt script Replay h e = let f : true ≡ false = e in absurd (cc)
-never_unbuilt script (Sim seed) h e = let f : true ≡ false = e in absurd (cc)
-never_unbuilt script (Run None) h e = let f : true ≡ false = e in absurd (cc)
-never_unbuilt script (Run (Some port)) h e = h
-never_unbuilt script other h e = h
 
 -- `replay` and `sim` of a script, and `run` of one that is built, with no fault of the outside, end with its report or for want of memory
 pub report_comes : (script : List Item) (given : List ℕ) (words : List (List ℕ)) (input : Input) (out : Output) (links : Links) (status : ℕ) (command : Command) → Answers words input out links status →
     command_of words ≡ Some command → RunsScript script command → input.given ≡ Some given → length given ≤ script_limit → script_of given ≡ Ok script → IsCalm input out links →
     (status ≡ 0) ⊎ (status ≡ 7)
 report_comes script given words input out links status command (NoCommand s none same back wrote) asked runs told few is calm = absurd (cc)
-report_comes script given words input out links status command (CommandNotBuilt s other named differs same back wrote) asked runs told few is calm =
-    let one : Some other ≡ Some command = sym named ∙ asked in
-    let alike : other ≡ command = cc in
-    absurd (never_unbuilt script command runs (subst (λ (x : Command). is_built_command x ≡ false) alike differs))
 report_comes script given words input out links status command (Generates seed clients count named same back made) asked runs told few is calm =
     let one : Some (Gen seed clients count) ≡ Some command = sym named ∙ asked in
     let alike : Gen seed clients count ≡ command = cc in absurd (subst (RunsScript script) (sym alike) runs)
@@ -172,13 +161,13 @@ report_comes script given words input out links status command (Replays named re
 report_comes script given words input out links status command (Simulates seed named replayed) asked runs told few is calm =
     let P : Option (List ℕ) → Type 0 = λ x. Consumes x input.left replayed.bytes in
     calm_replayed _ script given input out links replayed.bytes status calm (subst P told replayed.came) few is (λ read alike ran. calm_ran _ read input out links status calm ran) replayed.replayed
-report_comes script given words input out links status command (RunsOnThreads named replayed) asked runs told few is calm =
+report_comes script given words input out links status command (RunsOnThreads port named replayed) asked runs told few is calm =
     let P : Option (List ℕ) → Type 0 = λ x. Consumes x input.left replayed.bytes in
-    let one : Some (Run None) ≡ Some command = sym named ∙ asked in
-    let alike : Run None ≡ command = cc in
-    let built : is_built script ≡ true = subst (RunsScript script) (sym alike) runs in
+    let one : Some (Run port) ≡ Some command = sym named ∙ asked in
+    let alike : Run port ≡ command = cc in
+    let built : is_built (run_mode port) script ≡ true = subst (RunsScript script) (sym alike) runs in
     calm_replayed _ script given input out links replayed.bytes status calm (subst P told replayed.came) few is
-    (λ read alike ran. calm_threads read input out links status calm (subst (λ (s : List Item). is_built s ≡ true) (sym alike) built) ran) replayed.replayed
+    (λ read alike ran. calm_threads (run_mode port) read input out links status calm (subst (λ (s : List Item). is_built (run_mode port) s ≡ true) (sym alike) built) ran) replayed.replayed
 report_comes script given words input out links status command (ServesPort port count named same served) asked runs told few is calm =
     let one : Some (Serve port count) ≡ Some command = sym named ∙ asked in
     let alike : Serve port count ≡ command = cc in absurd (subst (RunsScript script) (sym alike) runs)
@@ -212,57 +201,23 @@ not_ten_served count served out links status (ConnectionFailed s failing wrote) 
 not_ten_served count served out links status (MetFault s fine faulty wrote) = λ e. absurd (omega (arith, e, s))
 not_ten_served count served out links status (ServeRanOut s fine clean wrote) = λ e. absurd (omega (arith, e, s))
 
-never_false : true ≡ false → ⊥
-never_false e = cc
+-- what came for `run` is a script that isn't built for links of this mode
+abbrev CameUnbuilt : Mode → Input → Type 0
+CameUnbuilt mode input = (bytes : List ℕ) × Consumes input.given input.left bytes × IsUnbuilt mode input bytes
 
--- what came for `run` is a script that isn't built
-abbrev CameUnbuilt : Input → Type 0
-CameUnbuilt input = (bytes : List ℕ) × Consumes input.given input.left bytes × IsUnbuilt input bytes
-
--- 10 comes exactly where the command isn't built, or is `run` and the script isn't
-pub unbuilt_exactly : (command : Command) (words : List (List ℕ)) (input : Input) (out : Output) (links : Links) (status : ℕ) → Answers words input out links status → command_of words ≡ Some command →
-    (status ≡ 10 → (is_built_command command ≡ false) ⊎ ((command ≡ Run None) × CameUnbuilt input)) × (is_built_command command ≡ false → status ≡ 10)
-unbuilt_exactly command words input out links status (NoCommand s none same back wrote) asked = absurd (cc)
-unbuilt_exactly command words input out links status (CommandNotBuilt s other named differs same back wrote) asked =
-    let one : Some other ≡ Some command = sym named ∙ asked in
-    let alike : other ≡ command = cc in
-    (λ e. inl (subst (λ (x : Command). is_built_command x ≡ false) alike differs), λ e. s)
-unbuilt_exactly command words input out links status (Generates seed clients count named same back made) asked =
-    let one : Some (Gen seed clients count) ≡ Some command = sym named ∙ asked in
-    let alike : Gen seed clients count ≡ command = cc in
-    (λ e. absurd (not_ten_made seed clients count out status made e), λ differs. absurd (never_false (subst (λ (x : Command). is_built_command x ≡ false) (sym alike) differs)))
-unbuilt_exactly command words input out links status (Loads seed clients count named same made) asked =
-    let one : Some (Load seed clients count) ≡ Some command = sym named ∙ asked in
-    let alike : Load seed clients count ≡ command = cc in
-    (λ e. absurd (not_ten_loaded seed clients count out links status made.ran e), λ differs. absurd (never_false (subst (λ (x : Command). is_built_command x ≡ false) (sym alike) differs)))
-unbuilt_exactly command words input out links status (PrintsInput named back printed) asked =
-    let one : Some Frames ≡ Some command = sym named ∙ asked in
-    let alike : Frames ≡ command = cc in
-    (λ e. absurd (not_ten_ended printed.ended status printed.numbered e), λ differs. absurd (never_false (subst (λ (x : Command). is_built_command x ≡ false) (sym alike) differs)))
-unbuilt_exactly command words input out links status (Replays named replayed) asked =
-    let one : Some Replay ≡ Some command = sym named ∙ asked in
-    let alike : Replay ≡ command = cc in (
-      λ e. absurd (each_script_is_run _ input out links status replayed e),
-      λ differs. absurd (never_false (subst (λ (x : Command). is_built_command x ≡ false) (sym alike) differs)),
-    )
-unbuilt_exactly command words input out links status (Simulates seed named replayed) asked =
-    let one : Some (Sim seed) ≡ Some command = sym named ∙ asked in
-    let alike : Sim seed ≡ command = cc in (
-      λ e. absurd (each_script_is_run _ input out links status replayed e),
-      λ differs. absurd (never_false (subst (λ (x : Command). is_built_command x ≡ false) (sym alike) differs)),
-    )
-unbuilt_exactly command words input out links status (RunsOnThreads named replayed) asked =
-    let one : Some (Run None) ≡ Some command = sym named ∙ asked in
-    let alike : Run None ≡ command = cc in (
-      λ e. inr (sym alike, (replayed.bytes, replayed.came, (unbuilt_script_exactly input out links status replayed).0 e)),
-      λ differs. absurd (never_false (subst (λ (x : Command). is_built_command x ≡ false) (sym alike) differs)),
-    )
-unbuilt_exactly command words input out links status (ServesPort port count named same served) asked =
-    let one : Some (Serve port count) ≡ Some command = sym named ∙ asked in
-    let alike : Serve port count ≡ command = cc in (
-      λ e. absurd (not_ten_served count served.served out links status served.ended e),
-      λ differs. absurd (never_false (subst (λ (x : Command). is_built_command x ≡ false) (sym alike) differs)),
-    )
+-- 10 comes only where the command is `run`, and the script isn't built for it
+pub unbuilt_exactly : (command : Command) (words : List (List ℕ)) (input : Input) (out : Output) (links : Links) (status : ℕ) → Answers words input out links status → command_of words ≡ Some command → status ≡ 10 →
+    (port : Option ℕ) × (command ≡ Run port) × CameUnbuilt (run_mode port) input
+unbuilt_exactly command words input out links status (NoCommand s none same back wrote) asked e = absurd (cc)
+unbuilt_exactly command words input out links status (Generates seed clients count named same back made) asked e = absurd (not_ten_made seed clients count out status made e)
+unbuilt_exactly command words input out links status (Loads seed clients count named same made) asked e = absurd (not_ten_loaded seed clients count out links status made.ran e)
+unbuilt_exactly command words input out links status (PrintsInput named back printed) asked e = absurd (not_ten_ended printed.ended status printed.numbered e)
+unbuilt_exactly command words input out links status (Replays named replayed) asked e = absurd (each_script_is_run _ input out links status replayed e)
+unbuilt_exactly command words input out links status (Simulates seed named replayed) asked e = absurd (each_script_is_run _ input out links status replayed e)
+unbuilt_exactly command words input out links status (RunsOnThreads port named replayed) asked e =
+    let one : Some command ≡ Some (Run port) = sym asked ∙ named in
+    let alike : command ≡ Run port = cc in (port, alike, (replayed.bytes, replayed.came, (unbuilt_script_exactly (run_mode port) input out links status replayed).0 e))
+unbuilt_exactly command words input out links status (ServesPort port count named same served) asked e = absurd (not_ten_served count served.served out links status served.ended e)
 
 -- ## Status 0
 
@@ -279,13 +234,13 @@ still_faulty : (out : Output) (line kind status : ℕ) → FaultWritten out line
 still_faulty out line kind status (inl w) e = absurd (omega (arith, e, w.0))
 still_faulty out line kind status (inr w) e = w.1.1
 
-still_threads : (script : List Item) (out : Output) (links : Links) (status : ℕ) → RanOnThreads script out links status → status ≡ 0 → StandStill out.faults
-still_threads script out links status (ThreadsReported built text is wrote) e = still_written out text status wrote e
-still_threads script out links status (ThreadsRanOut built s wrote) e = wrote.1
-still_threads script out links status (ThreadsNotOpened built s rose back wrote) e = wrote.1
-still_threads script out links status (ScriptNotBuilt unbuilt s none_ wrote) e = absurd (omega (arith, e, s))
+still_threads : (mode : Mode) (script : List Item) (out : Output) (links : Links) (status : ℕ) → RanOnThreads mode script out links status → status ≡ 0 → StandStill out.faults
+still_threads mode script out links status (ThreadsReported built text is wrote) e = still_written out text status wrote e
+still_threads mode script out links status (ThreadsRanOut built s wrote) e = wrote.1
+still_threads mode script out links status (ThreadsNotOpened built s rose back wrote) e = wrote.1
+still_threads mode script out links status (ScriptNotBuilt unbuilt s none_ wrote) e = absurd (omega (arith, e, s))
 
-still_replayed : (ran : ScriptEnd) (input : Input) (out : Output) (links : Links) (bytes : List ℕ) (status : ℕ) → ((script : List Item) → ran script out links status → status ≡ 0 → StandStill out.faults) → Replayed ran input out links bytes status → status ≡ 0 → StandStill out.faults
+still_replayed : {mode : Mode} (ran : ScriptEnd) (input : Input) (out : Output) (links : Links) (bytes : List ℕ) (status : ℕ) → ((script : List Item) → ran script out links status → status ≡ 0 → StandStill out.faults) → Replayed mode ran input out links bytes status → status ≡ 0 → StandStill out.faults
 still_replayed ran input out links bytes status runs (RanScript end script is opened ended) e = runs script ended e
 still_replayed ran input out links bytes status runs (FaultyScript end line kind is back wrote) e = still_faulty out line kind status wrote e
 still_replayed ran input out links bytes status runs (SourceFailed s rose back wrote) e = wrote.1
@@ -315,14 +270,13 @@ still_served count served out links status (ServeRanOut s fine clean wrote) e = 
 -- with 0 the sink's count stands still
 pub no_write_failed : (words : List (List ℕ)) (input : Input) (out : Output) (links : Links) (status : ℕ) → Answers words input out links status → status ≡ 0 → StandStill out.faults
 no_write_failed words input out links status (NoCommand s none same back wrote) e = absurd (omega (arith, e, s))
-no_write_failed words input out links status (CommandNotBuilt s other named differs same back wrote) e = absurd (omega (arith, e, s))
 no_write_failed words input out links status (Generates seed clients count named same back (inl w)) e = still_written out _ status w e
 no_write_failed words input out links status (Generates seed clients count named same back (inr w)) e = w.1.1
 no_write_failed words input out links status (Loads seed clients count named same made) e = still_loaded seed clients count out links status made.ran e
 no_write_failed words input out links status (PrintsInput named back printed) e = still_ended input out printed.printed.bytes printed.ended status printed.numbered printed.printed.ended e
 no_write_failed words input out links status (Replays named replayed) e = still_replayed _ input out links replayed.bytes status (λ script ran e. still_ran _ script out links status ran e) replayed.replayed e
 no_write_failed words input out links status (Simulates seed named replayed) e = still_replayed _ input out links replayed.bytes status (λ script ran e. still_ran _ script out links status ran e) replayed.replayed e
-no_write_failed words input out links status (RunsOnThreads named replayed) e = still_replayed _ input out links replayed.bytes status (λ script ran e. still_threads script out links status ran e) replayed.replayed e
+no_write_failed words input out links status (RunsOnThreads port named replayed) e = still_replayed _ input out links replayed.bytes status (λ script ran e. still_threads (run_mode port) script out links status ran e) replayed.replayed e
 no_write_failed words input out links status (ServesPort port count named same served) e = still_served count served.served out links status served.ended e
 
 -- ## One text

@@ -2,17 +2,18 @@
 use Rattle.std.proofs.Common.{◌≡◌, ℕ, true, List, refl, subst}
 use Rattle.brpc_model.specs.Items.{Item}
 use Rattle.sock_io.specs.Causes.{Rose}
+use Rattle.sock_io.specs.declared.link.Mode.{Mode}
 use Rattle.script_links.specs.Given.{AreUntouched}
 use Rattle.script_threads.specs.Built.{is_built}
 use Rattle.script_threads.specs.Told.{IsThreadText}
 use Rattle.brpc_eng.specs.Answers as answer
 
 -- the text that was written is that of the run
-pub threads_reported : (script : List Item) (text text' : List ℕ) (out : answer.Output) (ends : answer.Links) (status : ℕ) → is_built script ≡ true → IsThreadText script text ends.ends → text' ≡ text → answer.TextWritten out text' status →
-    answer.RanOnThreads script out ends status
-threads_reported script text text' out ends status built is same wrote = answer.ThreadsReported built text is (subst (λ (x : List ℕ). answer.TextWritten out x status) same wrote)
+pub threads_reported : (mode : Mode) (script : List Item) (text text' : List ℕ) (out : answer.Output) (ends : answer.Links) (status : ℕ) → is_built mode script ≡ true → IsThreadText script text ends.ends → text' ≡ text → answer.TextWritten out text' status →
+    answer.RanOnThreads mode script out ends status
+threads_reported mode script text text' out ends status built is same wrote = answer.ThreadsReported built text is (subst (λ (x : List ℕ). answer.TextWritten out x status) same wrote)
 
 -- a link couldn't be opened
-pub threads_not_opened : (script : List Item) (out : answer.Output) (ends : answer.Links) → is_built script ≡ true → Rose ends.faults.before ends.faults.now → AreUntouched 0 ends.ends → answer.WroteNothing out →
-    answer.RanOnThreads script out ends 8
-threads_not_opened script out ends built rose fresh wrote = answer.ThreadsNotOpened built refl rose fresh wrote
+pub threads_not_opened : (mode : Mode) (script : List Item) (out : answer.Output) (ends : answer.Links) → is_built mode script ≡ true → Rose ends.faults.before ends.faults.now → AreUntouched 0 ends.ends → answer.WroteNothing out →
+    answer.RanOnThreads mode script out ends 8
+threads_not_opened mode script out ends built rose fresh wrote = answer.ThreadsNotOpened built refl rose fresh wrote

@@ -36,7 +36,7 @@ use Rattle.calls_over.proofs.Over.{calls_over}
 use Rattle.served_fits.proofs.Served.{serves_fits}
 use Rattle.offered_runs.proofs.Runs.{offers_in_run}
 use Rattle.script_run.specs.Causes.{HasCauses, gave_in}
-use Rattle.sock_io.specs.declared.link.Mode.TheVariants as mode
+use Rattle.sock_io.specs.declared.link.Mode.{Mode}
 use Rattle.script_links.specs.Given.{AreNumbered, IsBeginning, specs_of}
 use Rattle.script_run.specs.Played.{IsWholeRun, IsRunText, IsRunSummary}
 use Rattle.brpc_eng.specs.Answers as answer
@@ -180,9 +180,9 @@ ran_reported turns bytes script text text' out links status reads short ran t wr
 -- ## A summary
 
 -- no link was opened
-pub opened_none : (script : List Item) (links : answer.Links) (status : ℕ) → links.asked ≡ [] → links.ends ≡ [] → ((status ≡ 0) ⊎ (status ≡ 5) → ⊥) → answer.OpenedBy script links status
-opened_none script links status asked ends unwritten = record {
-  front = subst (λ l. IsBeginning l (specs_of mode.Loop script)) (sym asked) (specs_of mode.Loop script, refl);
+pub opened_none : (mode : Mode) (script : List Item) (links : answer.Links) (status : ℕ) → links.asked ≡ [] → links.ends ≡ [] → ((status ≡ 0) ⊎ (status ≡ 5) → ⊥) → answer.OpenedBy mode script links status
+opened_none mode script links status asked ends unwritten = record {
+  front = subst (λ l. IsBeginning l (specs_of mode script)) (sym asked) (specs_of mode script, refl);
   whole = λ written. absurd (unwritten written);
   given_back = ap length ends ∙ sym (ap length asked);
   numbered = subst (AreNumbered 0) (sym ends) tt;

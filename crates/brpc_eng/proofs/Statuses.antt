@@ -4,6 +4,7 @@ use Rattle.std.proofs.Common.{◌≡◌, ◌≢◌, ℕ, ◌<◌, ◌⊎◌, inl
 use Rattle.brpc_model.specs.Items.{Item}
 use Rattle.brpc_model.specs.Operations.{Turn}
 use Rattle.brpc_model.specs.Script.{script_of}
+use Rattle.sock_io.specs.declared.link.Mode.{Mode}
 use Rattle.script_threads.specs.Built.{is_built}
 use Rattle.brpc_eng.specs.Streams.{script_limit, IsAtEnd}
 use Rattle.brpc_eng.specs.Answers.{HaveRisen, Input, Output, Links, TextWritten, Ran, Reported, MemoryRanOut, OpenFailed, RanOnThreads, ThreadsReported, ThreadsRanOut, ThreadsNotOpened, ScriptNotBuilt, ScriptEnd, by_turns, FaultWritten, Replayed, RanScript, FaultyScript, SourceFailed, TooLong, NoMemory, ReplayedInput}
@@ -36,17 +37,17 @@ is_run turns script out links status (OpenFailed s rose back wrote) = inr (inr (
 pub turns_run : (turns : List Item → List Turn) → AreRuns (by_turns turns)
 turns_run turns script out links status ran = is_run (turns script) script out links status ran
 
-pub threads_run : AreRuns RanOnThreads
-threads_run script out links status (ThreadsReported built text is wrote) = is_written out text status wrote
-threads_run script out links status (ThreadsRanOut built s wrote) = inr (inr (inl s))
-threads_run script out links status (ThreadsNotOpened built s rose back wrote) = inr (inr (inr (inl s)))
-threads_run script out links status (ScriptNotBuilt unbuilt s none_ wrote) = inr (inr (inr (inr s)))
+pub threads_run : (mode : Mode) → AreRuns (RanOnThreads mode)
+threads_run mode script out links status (ThreadsReported built text is wrote) = is_written out text status wrote
+threads_run mode script out links status (ThreadsRanOut built s wrote) = inr (inr (inl s))
+threads_run mode script out links status (ThreadsNotOpened built s rose back wrote) = inr (inr (inr (inl s)))
+threads_run mode script out links status (ScriptNotBuilt unbuilt s none_ wrote) = inr (inr (inr (inr s)))
 
 fault_status : (out : Output) (line kind status : ℕ) → FaultWritten out line kind status → (status ≡ 3) ⊎ (status ≡ 7)
 fault_status out line kind status (inl w) = inl w.0
 fault_status out line kind status (inr w) = inr w.0
 
-ends_of : (ran : ScriptEnd) → AreRuns ran → (input : Input) (out : Output) (links : Links) (bytes : List ℕ) (status : ℕ) → Replayed ran input out links bytes status → Ends input bytes status
+ends_of : {mode : Mode} (ran : ScriptEnd) → AreRuns ran → (input : Input) (out : Output) (links : Links) (bytes : List ℕ) (status : ℕ) → Replayed mode ran input out links bytes status → Ends input bytes status
 ends_of ran runs input out links bytes status (RanScript end script is opened ended) = WasRun end script is (runs script out links status ended)
 ends_of ran runs input out links bytes status (FaultyScript end line kind is back wrote) = WasFaulty end line kind is (fault_status out line kind status wrote)
 ends_of ran runs input out links bytes status (SourceFailed s rose back wrote) = WasCut s rose
@@ -82,7 +83,7 @@ no_script input bytes status line kind (WasCut s rose) e = inr (inl (s, rose))
 no_script input bytes status line kind (WasLong s long) e = inr (inr (inl (s, long)))
 no_script input bytes status line kind (RanOut s) e = inr (inr (inr s))
 
-pub faulty_script_exactly : (ran : ScriptEnd) → AreRuns ran → (input : Input) (out : Output) (links : Links) (status : ℕ) → (read : ReplayedInput ran input out links status) →
+pub faulty_script_exactly : {mode : Mode} (ran : ScriptEnd) → AreRuns ran → (input : Input) (out : Output) (links : Links) (status : ℕ) → (read : ReplayedInput mode ran input out links status) →
     (status ≡ 3 → IsAtEnd input.left × ((line : ℕ) × (kind : ℕ) × (script_of read.bytes ≡ Err (line, kind))))
     × ((line kind : ℕ) → script_of read.bytes ≡ Err (line, kind) → (status ≡ 3) ⊎ EndedBefore input read.bytes status)
 faulty_script_exactly ran runs input out links status read =
@@ -98,7 +99,7 @@ six input bytes status (WasCut s rose) e = absurd (omega (arith, s, e))
 six input bytes status (WasLong s long) e = long
 six input bytes status (RanOut s) e = absurd (omega (arith, s, e))
 
-pub long_script_exactly : (ran : ScriptEnd) → AreRuns ran → (input : Input) (out : Output) (links : Links) (status : ℕ) → (read : ReplayedInput ran input out links status) →
+pub long_script_exactly : {mode : Mode} (ran : ScriptEnd) → AreRuns ran → (input : Input) (out : Output) (links : Links) (status : ℕ) → (read : ReplayedInput mode ran input out links status) →
     (status ≡ 6 → script_limit < length read.bytes) × (script_limit < length read.bytes → (status ≡ 6) ⊎ (status ≡ 7))
 long_script_exactly ran runs input out links status read = (six input read.bytes status (ends_of ran runs input out links read.bytes status read.replayed), read.too_long)
 
@@ -117,7 +118,7 @@ not_ten_fault : (out : Output) (line kind status : ℕ) → FaultWritten out lin
 not_ten_fault out line kind status (inl w) e = absurd (omega (arith, e, w.0))
 not_ten_fault out line kind status (inr w) e = absurd (omega (arith, e, w.0))
 
-not_ten : (turns : List Item → List Turn) (input : Input) (out : Output) (links : Links) (bytes : List ℕ) (status : ℕ) → Replayed (by_turns turns) input out links bytes status → status ≢ 10
+not_ten : {mode : Mode} (turns : List Item → List Turn) (input : Input) (out : Output) (links : Links) (bytes : List ℕ) (status : ℕ) → Replayed mode (by_turns turns) input out links bytes status → status ≢ 10
 not_ten turns input out links bytes status (RanScript end script is opened ran) e = not_ten_ran (turns script) script out links status ran e
 not_ten turns input out links bytes status (FaultyScript end line kind is back wrote) e = not_ten_fault out line kind status wrote e
 not_ten turns input out links bytes status (SourceFailed s rose back wrote) e = absurd (omega (arith, e, s))
@@ -125,45 +126,45 @@ not_ten turns input out links bytes status (TooLong s long back wrote) e = absur
 not_ten turns input out links bytes status (NoMemory s back wrote) e = absurd (omega (arith, e, s))
 
 -- by a schedule each script that was read is run, whatever it asks of its links
-pub each_script_is_run : (turns : List Item → List Turn) (input : Input) (out : Output) (links : Links) (status : ℕ) → ReplayedInput (by_turns turns) input out links status → status ≢ 10
+pub each_script_is_run : {mode : Mode} (turns : List Item → List Turn) (input : Input) (out : Output) (links : Links) (status : ℕ) → ReplayedInput mode (by_turns turns) input out links status → status ≢ 10
 each_script_is_run turns input out links status read = not_ten turns input out links read.bytes status read.replayed
 
 -- on threads, those that are built
 
-unbuilt_ran : (script : List Item) (out : Output) (links : Links) (status : ℕ) → RanOnThreads script out links status → status ≡ 10 → is_built script ≡ false
-unbuilt_ran script out links status (ThreadsReported built text is wrote) e = absurd (not_ten_written out text status wrote e)
-unbuilt_ran script out links status (ThreadsRanOut built s wrote) e = absurd (omega (arith, e, s))
-unbuilt_ran script out links status (ThreadsNotOpened built s rose back wrote) e = absurd (omega (arith, e, s))
-unbuilt_ran script out links status (ScriptNotBuilt unbuilt s none_ wrote) e = unbuilt
+unbuilt_ran : (mode : Mode) (script : List Item) (out : Output) (links : Links) (status : ℕ) → RanOnThreads mode script out links status → status ≡ 10 → is_built mode script ≡ false
+unbuilt_ran mode script out links status (ThreadsReported built text is wrote) e = absurd (not_ten_written out text status wrote e)
+unbuilt_ran mode script out links status (ThreadsRanOut built s wrote) e = absurd (omega (arith, e, s))
+unbuilt_ran mode script out links status (ThreadsNotOpened built s rose back wrote) e = absurd (omega (arith, e, s))
+unbuilt_ran mode script out links status (ScriptNotBuilt unbuilt s none_ wrote) e = unbuilt
 
-ten_ran : (script : List Item) (out : Output) (links : Links) (status : ℕ) → RanOnThreads script out links status → is_built script ≡ false → status ≡ 10
-ten_ran script out links status (ThreadsReported built text is wrote) unbuilt = let f : true ≡ false = sym built ∙ unbuilt in absurd (cc)
-ten_ran script out links status (ThreadsRanOut built s wrote) unbuilt = let f : true ≡ false = sym built ∙ unbuilt in absurd (cc)
-ten_ran script out links status (ThreadsNotOpened built s rose back wrote) unbuilt = let f : true ≡ false = sym built ∙ unbuilt in absurd (cc)
-ten_ran script out links status (ScriptNotBuilt same s none_ wrote) unbuilt = s
+ten_ran : (mode : Mode) (script : List Item) (out : Output) (links : Links) (status : ℕ) → RanOnThreads mode script out links status → is_built mode script ≡ false → status ≡ 10
+ten_ran mode script out links status (ThreadsReported built text is wrote) unbuilt = let f : true ≡ false = sym built ∙ unbuilt in absurd (cc)
+ten_ran mode script out links status (ThreadsRanOut built s wrote) unbuilt = let f : true ≡ false = sym built ∙ unbuilt in absurd (cc)
+ten_ran mode script out links status (ThreadsNotOpened built s rose back wrote) unbuilt = let f : true ≡ false = sym built ∙ unbuilt in absurd (cc)
+ten_ran mode script out links status (ScriptNotBuilt same s none_ wrote) unbuilt = s
 
--- the whole input was read, and is a script that isn't built
-abbrev pub IsUnbuilt : Input → List ℕ → Type 0
-IsUnbuilt input bytes = IsAtEnd input.left × ((script : List Item) × (script_of bytes ≡ Ok script) × (is_built script ≡ false))
+-- the whole input was read, and is a script that isn't built for links of this mode
+abbrev pub IsUnbuilt : Mode → Input → List ℕ → Type 0
+IsUnbuilt mode input bytes = IsAtEnd input.left × ((script : List Item) × (script_of bytes ≡ Ok script) × (is_built mode script ≡ false))
 
-unbuilt_by : (input : Input) (out : Output) (links : Links) (bytes : List ℕ) (status : ℕ) → Replayed RanOnThreads input out links bytes status → status ≡ 10 → IsUnbuilt input bytes
-unbuilt_by input out links bytes status (RanScript end script is opened ran) e = (end, (script, is, unbuilt_ran script out links status ran e))
-unbuilt_by input out links bytes status (FaultyScript end line kind is back wrote) e = absurd (not_ten_fault out line kind status wrote e)
-unbuilt_by input out links bytes status (SourceFailed s rose back wrote) e = absurd (omega (arith, e, s))
-unbuilt_by input out links bytes status (TooLong s long back wrote) e = absurd (omega (arith, e, s))
-unbuilt_by input out links bytes status (NoMemory s back wrote) e = absurd (omega (arith, e, s))
+unbuilt_by : (mode : Mode) (input : Input) (out : Output) (links : Links) (bytes : List ℕ) (status : ℕ) → Replayed mode (RanOnThreads mode) input out links bytes status → status ≡ 10 → IsUnbuilt mode input bytes
+unbuilt_by mode input out links bytes status (RanScript end script is opened ran) e = (end, (script, is, unbuilt_ran mode script out links status ran e))
+unbuilt_by mode input out links bytes status (FaultyScript end line kind is back wrote) e = absurd (not_ten_fault out line kind status wrote e)
+unbuilt_by mode input out links bytes status (SourceFailed s rose back wrote) e = absurd (omega (arith, e, s))
+unbuilt_by mode input out links bytes status (TooLong s long back wrote) e = absurd (omega (arith, e, s))
+unbuilt_by mode input out links bytes status (NoMemory s back wrote) e = absurd (omega (arith, e, s))
 
-ten_by : (input : Input) (out : Output) (links : Links) (bytes : List ℕ) (status : ℕ) (script : List Item) → Replayed RanOnThreads input out links bytes status → script_of bytes ≡ Ok script → is_built script ≡ false → (status ≡ 10) ⊎ EndedBefore input bytes status
-ten_by input out links bytes status script (RanScript end other is opened ran) reads unbuilt =
+ten_by : (mode : Mode) (input : Input) (out : Output) (links : Links) (bytes : List ℕ) (status : ℕ) (script : List Item) → Replayed mode (RanOnThreads mode) input out links bytes status → script_of bytes ≡ Ok script → is_built mode script ≡ false → (status ≡ 10) ⊎ EndedBefore input bytes status
+ten_by mode input out links bytes status script (RanScript end other is opened ran) reads unbuilt =
     let one : Ok other ≡ Ok script = sym is ∙ reads in
     let alike : other ≡ script = cc in
-    let no : is_built other ≡ false = subst (λ (s : List Item). is_built s ≡ false) (sym alike) unbuilt in
-    inl (ten_ran other out links status ran no)
-ten_by input out links bytes status script (FaultyScript end line kind is back wrote) reads unbuilt = absurd (cc)
-ten_by input out links bytes status script (SourceFailed s rose back wrote) reads unbuilt = inr (inl (s, rose))
-ten_by input out links bytes status script (TooLong s long back wrote) reads unbuilt = inr (inr (inl (s, long)))
-ten_by input out links bytes status script (NoMemory s back wrote) reads unbuilt = inr (inr (inr s))
+    let no : is_built mode other ≡ false = subst (λ (s : List Item). is_built mode s ≡ false) (sym alike) unbuilt in
+    inl (ten_ran mode other out links status ran no)
+ten_by mode input out links bytes status script (FaultyScript end line kind is back wrote) reads unbuilt = absurd (cc)
+ten_by mode input out links bytes status script (SourceFailed s rose back wrote) reads unbuilt = inr (inl (s, rose))
+ten_by mode input out links bytes status script (TooLong s long back wrote) reads unbuilt = inr (inr (inl (s, long)))
+ten_by mode input out links bytes status script (NoMemory s back wrote) reads unbuilt = inr (inr (inr s))
 
-pub unbuilt_script_exactly : (input : Input) (out : Output) (links : Links) (status : ℕ) → (read : ReplayedInput RanOnThreads input out links status) →
-    (status ≡ 10 → IsUnbuilt input read.bytes) × ((script : List Item) → script_of read.bytes ≡ Ok script → is_built script ≡ false → (status ≡ 10) ⊎ EndedBefore input read.bytes status)
-unbuilt_script_exactly input out links status read = (unbuilt_by input out links read.bytes status read.replayed, λ script reads unbuilt. ten_by input out links read.bytes status script read.replayed reads unbuilt)
+pub unbuilt_script_exactly : (mode : Mode) (input : Input) (out : Output) (links : Links) (status : ℕ) → (read : ReplayedInput mode (RanOnThreads mode) input out links status) →
+    (status ≡ 10 → IsUnbuilt mode input read.bytes) × ((script : List Item) → script_of read.bytes ≡ Ok script → is_built mode script ≡ false → (status ≡ 10) ⊎ EndedBefore input read.bytes status)
+unbuilt_script_exactly mode input out links status read = (unbuilt_by mode input out links read.bytes status read.replayed, λ script reads unbuilt. ten_by mode input out links read.bytes status script read.replayed reads unbuilt)

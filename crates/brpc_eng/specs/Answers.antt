@@ -26,7 +26,8 @@ use Rattle.sock_programs.specs.Cores.{Core}
 use Rattle.sock_programs.specs.Scripts.{IsRunWithCalls, is_callless, drawn_turns}
 use Rattle.whole_runs.specs.Heard.{as_told, heard_of, heard_takes}
 use Rattle.sock_io.specs.declared.link.LinkSpec.{LinkSpec}
-use Rattle.sock_io.specs.declared.link.Mode.TheVariants as mode
+use Rattle.sock_io.specs.declared.link.Mode.{Mode}
+use Rattle.sock_io.specs.declared.link.Mode.TheVariants as modes
 use Rattle.sock_io.specs.Link.{ConnectionEnd}
 use Rattle.serve_port.specs.Serving.{ServedConnection, IsServed, any_failing, any_faulty, all_whole, frames_of}
 use Rattle.script_links.specs.Given.{AreNumbered, AreUntouched, IsBeginning, specs_of}
@@ -79,11 +80,11 @@ pub record Links : Type 1 where
 abbrev pub OpenedNone : Links → Type 0
 OpenedNone links = (links.asked ≡ []) × (links.ends ≡ [])
 
--- the links that the lines of a script ask for were opened as they ask, all of them where a report was written or begun, else the
+-- the links that the lines of a script ask for were opened as they ask, in this mode, all of them where a report was written or begun, else the
 -- first of them; and each is given back, in order
-pub record OpenedBy (script : List Item) (links : Links) (status : ℕ) : Type 0 where
-  pub front : IsBeginning links.asked (specs_of mode.Loop script)
-  pub whole : (status ≡ 0) ⊎ (status ≡ 5) → links.asked ≡ specs_of mode.Loop script
+pub record OpenedBy (mode : Mode) (script : List Item) (links : Links) (status : ℕ) : Type 0 where
+  pub front : IsBeginning links.asked (specs_of mode script)
+  pub whole : (status ≡ 0) ⊎ (status ≡ 5) → links.asked ≡ specs_of mode script
   pub given_back : length links.ends ≡ length links.asked
   pub numbered : AreNumbered 0 links.ends
 
@@ -164,16 +165,21 @@ pub data Ran (turns : List Turn) (script : List Item) (out : Output) (links : Li
 
 -- ## `run`
 
--- how the run of a script on threads ends
-pub data RanOnThreads (script : List Item) (out : Output) (links : Links) (status : ℕ) : Type 0 where
+-- how `run` makes its links: in memory, or over TCP to the port that is named
+abbrev pub run_mode : Option ℕ → Mode
+run_mode None = modes.Loop
+run_mode (Some port) = modes.Tcp port
+
+-- how the run of a script on threads ends, over links of this mode
+pub data RanOnThreads (mode : Mode) (script : List Item) (out : Output) (links : Links) (status : ℕ) : Type 0 where
   -- each operation has its outcome by what became of all others, and each link took the messages of its lines in one order, whole and once, those of each
   -- client in its own order; the text reports that, and fits
-  ThreadsReported : is_built script ≡ true → (text : List ℕ) → IsThreadText script text links.ends → TextWritten out text status → RanOnThreads script out links status
-  ThreadsRanOut : is_built script ≡ true → status ≡ 7 → WroteNothing out → RanOnThreads script out links status
+  ThreadsReported : is_built mode script ≡ true → (text : List ℕ) → IsThreadText script text links.ends → TextWritten out text status → RanOnThreads mode script out links status
+  ThreadsRanOut : is_built mode script ≡ true → status ≡ 7 → WroteNothing out → RanOnThreads mode script out links status
   -- the links that were opened before are given back, and nothing was done with them
-  ThreadsNotOpened : is_built script ≡ true → status ≡ 8 → HaveRisen links.faults → AreUntouched 0 links.ends → WroteNothing out → RanOnThreads script out links status
-  -- a line asks for a call or for something of one, or for a server behind its link: no link is opened
-  ScriptNotBuilt : is_built script ≡ false → status ≡ 10 → OpenedNone links → Wrote out not_built_text → RanOnThreads script out links status
+  ThreadsNotOpened : is_built mode script ≡ true → status ≡ 8 → HaveRisen links.faults → AreUntouched 0 links.ends → WroteNothing out → RanOnThreads mode script out links status
+  -- a line asks for a call or for something of one, or for a server in this process: no link is opened
+  ScriptNotBuilt : is_built mode script ≡ false → status ≡ 10 → OpenedNone links → Wrote out not_built_text → RanOnThreads mode script out links status
 
 -- ## `replay`, `sim` and `run`
 
@@ -189,22 +195,22 @@ by_turns turns = λ script out links status. Ran (turns script) script out links
 abbrev pub FaultWritten : Output → ℕ → ℕ → ℕ → Type 0
 FaultWritten out line kind status = ((status ≡ 3) × Wrote out (fault_text line kind)) ⊎ ((status ≡ 7) × WroteNothing out)
 
--- how it ends where these bytes came
-pub data Replayed (ran : ScriptEnd) (input : Input) (out : Output) (links : Links) (bytes : List ℕ) (status : ℕ) : Type 0 where
-  RanScript : IsAtEnd input.left → (script : List Item) → script_of bytes ≡ Ok script → OpenedBy script links status → ran script out links status → Replayed ran input out links bytes status
-  FaultyScript : IsAtEnd input.left → (line kind : ℕ) → script_of bytes ≡ Err (line, kind) → OpenedNone links → FaultWritten out line kind status → Replayed ran input out links bytes status
-  SourceFailed : status ≡ 4 → HaveRisen input.faults → OpenedNone links → WroteNothing out → Replayed ran input out links bytes status
-  TooLong : status ≡ 6 → script_limit < length bytes → OpenedNone links → WroteNothing out → Replayed ran input out links bytes status
-  NoMemory : status ≡ 7 → OpenedNone links → WroteNothing out → Replayed ran input out links bytes status
+-- how it ends where these bytes came, over links of this mode
+pub data Replayed (mode : Mode) (ran : ScriptEnd) (input : Input) (out : Output) (links : Links) (bytes : List ℕ) (status : ℕ) : Type 0 where
+  RanScript : IsAtEnd input.left → (script : List Item) → script_of bytes ≡ Ok script → OpenedBy mode script links status → ran script out links status → Replayed mode ran input out links bytes status
+  FaultyScript : IsAtEnd input.left → (line kind : ℕ) → script_of bytes ≡ Err (line, kind) → OpenedNone links → FaultWritten out line kind status → Replayed mode ran input out links bytes status
+  SourceFailed : status ≡ 4 → HaveRisen input.faults → OpenedNone links → WroteNothing out → Replayed mode ran input out links bytes status
+  TooLong : status ≡ 6 → script_limit < length bytes → OpenedNone links → WroteNothing out → Replayed mode ran input out links bytes status
+  NoMemory : status ≡ 7 → OpenedNone links → WroteNothing out → Replayed mode ran input out links bytes status
 
 -- the run of what the source gives: of the input at most one byte more than a script may have is read, and where that
 -- one came no other status than 6 and 7 comes
-pub record ReplayedInput (ran : ScriptEnd) (input : Input) (out : Output) (links : Links) (status : ℕ) : Type 0 where
+pub record ReplayedInput (mode : Mode) (ran : ScriptEnd) (input : Input) (out : Output) (links : Links) (status : ℕ) : Type 0 where
   pub bytes : List ℕ
   pub came : Consumes input.given input.left bytes
   pub most : length bytes ≤ script_limit + 1
   pub too_long : script_limit < length bytes → (status ≡ 6) ⊎ (status ≡ 7)
-  pub replayed : Replayed ran input out links bytes status
+  pub replayed : Replayed mode ran input out links bytes status
 
 -- ## `gen`
 
@@ -230,7 +236,7 @@ pub data LoadRan (seed clients count : ℕ) (out : Output) (links : Links) (stat
   LoadNotOpened : status ≡ 8 → HaveRisen links.faults → AreUntouched 0 links.ends → WroteNothing out → LoadRan seed clients count out links status
 
 pub record Loaded (seed clients count : ℕ) (out : Output) (links : Links) (status : ℕ) : Type 0 where
-  pub opened : OpenedBy (generated seed clients count) links status
+  pub opened : OpenedBy modes.Loop (generated seed clients count) links status
   pub ran : LoadRan seed clients count out links status
 
 -- ## `frames`
@@ -290,24 +296,10 @@ pub record ServedPort (count : ℕ) (out : Output) (links : Links) (status : ℕ
 
 -- ## The program
 
--- the commands that are built: all but `run` over TCP
-abbrev pub is_built_command : Command → Bool
-is_built_command Replay = true
-is_built_command (Sim seed) = true
-is_built_command (Run None) = true
-is_built_command (Gen seed clients count) = true
-is_built_command (Load seed clients count) = true
-is_built_command Frames = true
-is_built_command (Serve port count) = true
-is_built_command other = false
-
 -- why the program ends with a status
 pub data Answers (words : List (List ℕ)) (input : Input) (out : Output) (links : Links) (status : ℕ) : Type 0 where
   -- the words ask for no command, and nothing is read
   NoCommand : status ≡ 2 → command_of words ≡ None → input.left ≡ input.given → OpenedNone links → Wrote out usage_text → Answers words input out links status
-  -- they ask for one that isn't built, and nothing is read
-  CommandNotBuilt : status ≡ 10 → (command : Command) → command_of words ≡ Some command → is_built_command command ≡ false → input.left ≡ input.given → OpenedNone links → Wrote out not_built_text →
-      Answers words input out links status
   -- they ask for a drawn script, and nothing is read
   Generates : (seed clients count : ℕ) → command_of words ≡ Some (Gen seed clients count) → input.left ≡ input.given → OpenedNone links → Generated seed clients count out status → Answers words input out links status
   -- they ask for a summary of its run, and nothing is read
@@ -315,11 +307,11 @@ pub data Answers (words : List (List ℕ)) (input : Input) (out : Output) (links
   -- they ask for the frames of the input
   PrintsInput : command_of words ≡ Some Frames → OpenedNone links → FramesPrinted input out status → Answers words input out links status
   -- they ask for a run of the script by its own schedule
-  Replays : command_of words ≡ Some Replay → ReplayedInput (by_turns schedule) input out links status → Answers words input out links status
+  Replays : command_of words ≡ Some Replay → ReplayedInput modes.Loop (by_turns schedule) input out links status → Answers words input out links status
   -- or by one that is drawn from a seed
-  Simulates : (seed : ℕ) → command_of words ≡ Some (Sim seed) → ReplayedInput (by_turns (λ script. drawn_turns script seed)) input out links status → Answers words input out links status
-  -- or on threads, whatever its schedule
-  RunsOnThreads : command_of words ≡ Some (Run None) → ReplayedInput RanOnThreads input out links status → Answers words input out links status
+  Simulates : (seed : ℕ) → command_of words ≡ Some (Sim seed) → ReplayedInput modes.Loop (by_turns (λ script. drawn_turns script seed)) input out links status → Answers words input out links status
+  -- or on threads, whatever its schedule, over links in memory or over TCP
+  RunsOnThreads : (port : Option ℕ) → command_of words ≡ Some (Run port) → ReplayedInput (run_mode port) (RanOnThreads (run_mode port)) input out links status → Answers words input out links status
   -- they ask for so many connections to be served at a port, and nothing is read
   ServesPort : (port count : ℕ) → command_of words ≡ Some (Serve port count) → input.left ≡ input.given → ServedPort count out links status → Answers words input out links status
 

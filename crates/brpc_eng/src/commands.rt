@@ -14,8 +14,8 @@ pub enum Command {
     Replay,
     /// `sim SEED`: it is run by a drawn schedule.
     Sim(u32),
-    /// `run [PORT]`: it is run on threads.
-    Run(Option<u32>),
+    /// `run [PORT]`: it is run on threads, over links in memory or over TCP to that port.
+    Run(Option<u16>),
     /// `gen SEED CLIENTS OPS`: a script is drawn and printed.
     Gen(Draw),
     /// `load SEED CLIENTS OPS`: a script is drawn and run, and a summary is printed.
@@ -70,7 +70,7 @@ fn run(words: &[String]) -> Option<Command>
         return None;
     }
     let port = number(port.as_bytes(), 1, 65_535)?;
-    Some(Command::Run(Some(port)))
+    Some(Command::Run(Some(port as u16)))
 }
 
 /// `SEED CLIENTS OPS` behind `gen` or `load`.

@@ -1,6 +1,7 @@
 ghost use Rattle.std.specs.Prelude.{◌≡◌, ◌≢◌, ◌≤◌, ℕ, List, [], length, Ok, true};
 ghost use Rattle.std.specs.List.{list_all};
 ghost use Rattle.brpc_model.specs.Script.{script_of};
+ghost use Rattle.sock_io.specs.declared.link.Mode.TheVariants as modes;
 ghost use Rattle.script_links.specs.Given.{has_piece};
 ghost use Rattle.script_links.specs.Offered.{TellOffers};
 ghost use Rattle.script_run.specs.Played.{TellClosed, turns_of};
@@ -30,7 +31,7 @@ pub fn run_and_report<K: Sink, L: Linker>(
         (record { before = K.contents out.old; now = K.contents out.new; faults = record { before = K.faults out.old; now = K.faults out.new } })
         (record { prompt = L.prompt links.old; tells = TellClosed L.I.state; offering = TellOffers L.O.state L.I.state; asked = L.asked links.new; ends = L.back links.new; accepted = L.accepted links.new; done = L.done links.new; faults = record { before = L.faults links.old; now = L.faults links.new } })
         (number_of result) }
-    ensures opened { OpenedBy script.now
+    ensures opened { OpenedBy modes.Loop script.now
         (record { prompt = L.prompt links.old; tells = TellClosed L.I.state; offering = TellOffers L.O.state L.I.state; asked = L.asked links.new; ends = L.back links.new; accepted = L.accepted links.new; done = L.done links.new; faults = record { before = L.faults links.old; now = L.faults links.new } })
         (number_of result) }
     ensures linker { number_of result ≢ 8 → L.faults links.new ≡ L.faults links.old }

@@ -409,35 +409,31 @@ fn answers_served(rt: HostRuntime) -> Result<(), Fail> {
     Ok(())
 }
 
-/// Words, with the status.
-const WORDS: [(&str, u8); 14] = [
-    ("--help", 2),
-    ("", 2),
-    ("replay now", 2),
-    ("sim", 2),
-    ("sim 4294967296", 2),
-    ("sim 07", 2),
-    ("sim -1", 2),
-    ("run 65535", 10),
-    ("run 0", 2),
-    ("load 0 1 0", 2),
-    ("gen 7 31 133", 2),
-    ("load 7 32 1", 2),
-    ("sim 01", 2),
-    ("serve 80 32", 2),
+/// Words that ask for no command.
+const WORDS: [&str; 13] = [
+    "--help",
+    "",
+    "replay now",
+    "sim",
+    "sim 4294967296",
+    "sim 07",
+    "sim -1",
+    "run 0",
+    "load 0 1 0",
+    "gen 7 31 133",
+    "load 7 32 1",
+    "sim 01",
+    "serve 80 32",
 ];
 
 #[test]
 fn answers_words(rt: HostRuntime) -> Result<(), Fail> {
-    for (words, status) in WORDS {
+    let usage =
+        b"usage: replay | sim SEED | run [PORT] | gen SEED CLIENTS OPS | load SEED CLIENTS OPS | frames | serve PORT N\n";
+    for words in WORDS {
         let (answered, written) = answer(&rt, words, b"client\n", CALM)?;
-        assert_eq!(rt; answered, status, "at {words}");
-        let text = if status == 2 {
-            "usage: replay | sim SEED | run [PORT] | gen SEED CLIENTS OPS | load SEED CLIENTS OPS | frames | serve PORT N\n"
-        } else {
-            "not built\n"
-        };
-        assert_eq!(rt; written.as_slice(), text.as_bytes(), "at {words}");
+        assert_eq!(rt; answered, 2, "at {words}");
+        assert_eq!(rt; written.as_slice(), usage.as_slice(), "at {words}");
     }
     Ok(())
 }
@@ -527,9 +523,11 @@ fn reads_up_to_the_limit(rt: HostRuntime) -> Result<(), Fail> {
 #[test]
 fn runs_on_threads(rt: HostRuntime) -> Result<(), Fail> {
     let (_, script, _, status, text) = FIRST;
-    let (answered, written) = answer(&rt, "run", script.as_bytes(), CALM)?;
-    assert_eq!(rt; answered, status);
-    assert_eq!(rt; written.as_slice(), text.as_bytes());
+    for words in ["run", "run 65535"] {
+        let (answered, written) = answer(&rt, words, script.as_bytes(), CALM)?;
+        assert_eq!(rt; answered, status, "at {words}");
+        assert_eq!(rt; written.as_slice(), text.as_bytes(), "at {words}");
+    }
     Ok(())
 }
 

@@ -10,8 +10,8 @@ use std::sync::Wait;
 use std::thread::Threads;
 use std::{env, io};
 
-/// The program over its standard streams: nothing but `run_with` over them, over TCP where it is to serve, and otherwise over
-/// links in memory.
+/// The program over its standard streams: nothing but `run_with` over them, over TCP where the words name a port, and otherwise
+/// over links in memory.
 pub fn run_program<
     R: Threads
         + Wait
@@ -26,7 +26,7 @@ pub fn run_program<
     let mut source = StdSource::new(rt.reader());
     let mut out = StdSink::new(io::writer(rt));
     let mut errors = StdSink::new(io::writer(errors));
-    if asks_to_serve(env::args(rt)) {
+    if names_a_port(env::args(rt)) {
         let mut links = TcpLinker::new(rt, rt.alloc());
         run_with(
             rt,
@@ -53,11 +53,14 @@ pub fn run_program<
     }
 }
 
-/// Whether the word behind the program's name is `serve`.
-fn asks_to_serve(args: io::Result<Args>) -> bool {
+/// Whether the words behind the program's name begin with `serve`, or with `run` and another one.
+fn names_a_port(args: io::Result<Args>) -> bool {
     let Ok(mut args) = args else {
         return false;
     };
     let _name = args.next();
-    args.next().is_some_and(|word| word.as_str() == "serve")
+    let Some(word) = args.next() else {
+        return false;
+    };
+    word.as_str() == "serve" || (word.as_str() == "run" && args.next().is_some())
 }

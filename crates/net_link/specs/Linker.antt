@@ -23,10 +23,6 @@ is_tcp mode.Loop = false
 is_tcp mode.Ring = false
 is_tcp (mode.Tcp port) = true
 
--- the shape of a connection that was accepted
-abbrev pub connection_shape : Shape
-connection_shape = record { piece = 65536; again = 0; fail = 0 }
-
 -- a half of this shape over TCP that took nothing yet
 abbrev pub new_half : ℕ → Shape → ShapedState
 new_half link shape = record { inner = tcp_out (new_out link); shape = shape; puts = 0; paused = false; taken = []; faults = 0; answers = [] }

@@ -4,12 +4,14 @@
 mod counts;
 mod moving;
 mod streams;
+mod tcp_half;
 mod tcp_in;
 mod tcp_linker;
 mod tcp_out;
 #[cfg(test)]
 mod tests;
 
+pub use tcp_half::TcpHalf;
 pub use tcp_in::TcpIn;
 pub use tcp_linker::TcpLinker;
 pub use tcp_out::TcpOut;

@@ -2,29 +2,26 @@ ghost use Rattle.std.specs.Prelude.{◌≡◌, ◌+◌, ◌≤◌, ◌<◌, ◌�
 ghost use Rattle.sock_io.specs.Causes.{Rose};
 ghost use Rattle.sock_io.specs.Giving.{shape_asked};
 ghost use Rattle.sock_io.specs.Link.{connection_of, end_of};
-ghost use Rattle.sock_io.specs.Shape.{shaped_out};
-ghost use Rattle.net_link.specs.Halves.{new_in, tcp_in};
-ghost use Rattle.net_link.specs.Linker.{connection_shape, is_tcp, new_half};
+ghost use Rattle.net_link.specs.Halves.{new_in, new_out, tcp_in};
+ghost use Rattle.net_link.specs.Linker.{is_tcp, new_half};
+ghost use Rattle.net_link.specs.Writing.{tcp_half};
 
 use crate::counts::risen;
 use crate::streams::{accept, connect};
+use crate::tcp_half::TcpHalf;
 use crate::tcp_in::TcpIn;
-use crate::tcp_out::TcpOut;
 use ghosts::Ghosts;
 use sock_io::{Ends, LinkSpec, Linker, Mode, NoMemory, NoPeer, OpenFault, Shape, Shaped};
 use std::alloc::Global;
 use std::marker::Model;
 use std::net::{Net, TcpListener, TcpStream};
 
-type Link = Ends<Shaped<TcpOut>, TcpIn, NoPeer>;
-
-/// How many bytes a put takes at most on a connection that was accepted.
-const PIECE: u32 = 65_536;
+type Link = Ends<TcpHalf, TcpIn, NoPeer>;
 
 /// The halves of a connection, as it was given back.
 #[derive(Drop)]
 struct Connection {
-    out: Shaped<TcpOut>,
+    out: TcpHalf,
     inn: TcpIn,
 }
 
@@ -32,7 +29,8 @@ struct Connection {
 /// process's, so that of a link that is asked for its server and its end aren't used.
 ///
 /// An `open` fails where the link isn't to go over TCP, and where nobody listens at the port; an `accept` where the port
-/// can't be listened at. Both fail where the system has no more room for a stream. An `accept` waits for a connection.
+/// can't be listened at. Both fail where the system has no more room for a stream. An `accept` waits for a connection, and
+/// takes no memory.
 ///
 /// A link or connection is closed as it is given back. What was told of it is kept for the proofs alone, so that giving
 /// back takes no memory.
@@ -53,13 +51,13 @@ pub struct TcpLinker<N: Net<Stream = TcpStream, Listener = TcpListener> + Drop> 
 impl<N: Net<Stream = TcpStream, Listener = TcpListener> + Drop> Model for TcpLinker<N> {
     ghost use Rattle.std.specs.Prelude.{◌≡◌, length, map};
     ghost use Rattle.sock_io.specs.Link.{connection_of, end_of};
-    ghost use Rattle.sock_io.specs.Shape.{shaped_out};
     ghost use Rattle.net_link.specs.Halves.{tcp_in};
     ghost use Rattle.net_link.specs.Linker.{TcpLinkerState};
+    ghost use Rattle.net_link.specs.Writing.{tcp_half};
 
     ghost Value = { TcpLinkerState };
 
-    ghost view = { λ l. record { asked = l.asked.list; accepted = l.accepted; back = map (λ e. end_of (shaped_out e.out) (tcp_in e.inn)) l.links.list; done = map (λ c. connection_of (shaped_out c.out) (tcp_in c.inn)) l.connections.list; faults = l.faults } };
+    ghost view = { λ l. record { asked = l.asked.list; accepted = l.accepted; back = map (λ e. end_of (tcp_half e.out) (tcp_in e.inn)) l.links.list; done = map (λ c. connection_of (tcp_half c.out) (tcp_in c.inn)) l.connections.list; faults = l.faults } };
 
     ghost invariant = { λ l. length l.asked.list ≡ l.opened };
 }
@@ -106,7 +104,7 @@ impl<N: Net<Stream = TcpStream, Listener = TcpListener> + Drop> TcpLinker<N> {
 }
 
 impl<N: Net<Stream = TcpStream, Listener = TcpListener> + Drop> Linker for TcpLinker<N> {
-    type O = Shaped<TcpOut>;
+    type O = TcpHalf;
 
     type I = TcpIn;
 
@@ -128,7 +126,7 @@ impl<N: Net<Stream = TcpStream, Listener = TcpListener> + Drop> Linker for TcpLi
         requires piece { 0 < spec.now.piece }
         requires few { length self.old.asked < 256 }
         ensures mode { is_tcp spec.now.mode ≡ false → IsErrOf result OpenFault.Failed }
-        ensures out { IfOk result (λ ends. ends.out ≡ new_half (length self.old.asked) (shape_asked spec.now)) }
+        ensures out { IfOk result (λ ends. ends.out ≡ TcpHalf.Opened (new_half (length self.old.asked) (shape_asked spec.now))) }
         ensures inn { IfOk result (λ ends. ends.inn ≡ new_in) }
         ensures linker { IfOk result (λ _. self.new ≡ record self.old { asked = self.old.asked ++ spec.now ∷ [] }) }
         ensures refused { OnErr result (self.new ≡ record self.old { faults = self.new.faults }) }
@@ -153,7 +151,7 @@ impl<N: Net<Stream = TcpStream, Listener = TcpListener> + Drop> Linker for TcpLi
             Ok(out) => {
                 self.note(spec);
                 Ok(Ends {
-                    out,
+                    out: TcpHalf::Opened(out),
                     inn,
                     peer: NoPeer,
                 })
@@ -170,9 +168,9 @@ impl<N: Net<Stream = TcpStream, Listener = TcpListener> + Drop> Linker for TcpLi
         Ok(())
     }
 
-    fn accept(&mut self, port: u16) -> Result<(Shaped<TcpOut>, TcpIn), OpenFault>
+    fn accept(&mut self, port: u16) -> Result<(TcpHalf, TcpIn), OpenFault>
         requires { self.old.accepted < 256 }
-        ensures out { IfOk result (λ halves. halves.0 ≡ new_half 0 connection_shape) }
+        ensures out { IfOk result (λ halves. halves.0 ≡ TcpHalf.Accepted (new_out 0)) }
         ensures inn { IfOk result (λ halves. halves.1 ≡ new_in) }
         ensures linker { IfOk result (λ _. self.new ≡ record self.old { accepted = self.old.accepted + 1 }) }
         ensures refused { OnErr result (self.new ≡ record self.old { faults = self.new.faults }) }
@@ -180,27 +178,18 @@ impl<N: Net<Stream = TcpStream, Listener = TcpListener> + Drop> Linker for TcpLi
         ensures failed { IsErrOf result OpenFault.Failed → Rose self.old.faults self.new.faults }
         ensures kept { (¬ IsErrOf result OpenFault.Failed) → self.new.faults ≡ self.old.faults }
     {
-        let (out, inn) = match accept(&self.net, &mut self.listener, port) {
-            Ok(halves) => halves,
-            Err(_) => return Err(self.fault()),
-        };
-        let shape = Shape {
-            piece: PIECE,
-            again: 0,
-            fail: 0,
-        };
-        match Shaped::new(self.alloc, out, shape) {
-            Ok(out) => {
+        match accept(&self.net, &mut self.listener, port) {
+            Ok((out, inn)) => {
                 self.accepted += 1;
-                Ok((out, inn))
+                Ok((TcpHalf::Accepted(out), inn))
             }
-            Err(_) => Err(OpenFault::NoMemory),
+            Err(_) => Err(self.fault()),
         }
     }
 
-    fn done(&mut self, out: Shaped<TcpOut>, inn: TcpIn)
+    fn done(&mut self, out: TcpHalf, inn: TcpIn)
         requires { length self.old.done < self.old.accepted }
-        ensures { self.new ≡ record self.old { done = self.old.done ++ connection_of (shaped_out out) (tcp_in inn) ∷ [] } }
+        ensures { self.new ≡ record self.old { done = self.old.done ++ connection_of (tcp_half out) (tcp_in inn) ∷ [] } }
     {
         let before: Ghosts<Connection> = Ghosts::of(&self.connections);
         let with = (before, Connection { out, inn });
@@ -209,7 +198,7 @@ impl<N: Net<Stream = TcpStream, Listener = TcpListener> + Drop> Linker for TcpLi
 
     fn back(&mut self, _link: u16, ends: Link)
         requires { length self.old.back < length self.old.asked }
-        ensures { self.new ≡ record self.old { back = self.old.back ++ end_of (shaped_out ends.out) (tcp_in ends.inn) ∷ [] } }
+        ensures { self.new ≡ record self.old { back = self.old.back ++ end_of (tcp_half ends.out) (tcp_in ends.inn) ∷ [] } }
     {
         let before: Ghosts<Link> = Ghosts::of(&self.links);
         let with = (before, ends);

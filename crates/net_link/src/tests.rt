@@ -1,7 +1,7 @@
 ghost use Rattle.std.specs.Prelude.{◌≡◌, ◌≤◌, IfOk};
 
-use crate::TcpLinker;
 use crate::moving::{read_some, write_some};
+use crate::{TcpHalf, TcpIn, TcpLinker};
 use sock_io::{Ends, Failed, In, LinkSpec, Linker, Mode, NoPeer, OpenFault, Out, Put, Take};
 use std::alloc::Global;
 use std::io::{ErrorKind, Read, Write};
@@ -208,6 +208,94 @@ fn interrupted_calls_are_made_again(rt: HostRuntime) {
     for want in [Ok(3), Err(Failed), Err(Failed)] {
         assert_eq!(rt; write_some(&mut writer, b"abcd"), want);
     }
+}
+
+// How many bytes a link has room for.
+const LINK_ROOM: usize = 2_097_152;
+
+// Puts twice as many bytes as a link has room for, and tells how many were taken.
+fn flood(out: &mut TcpHalf) -> usize {
+    let piece = [97; 4_096];
+    let mut put = 0usize;
+    for _ in 0..1_024 {
+        match out.put(&piece) {
+            Put::Took(count) => put = put.saturating_add(count),
+            Put::Again | Put::Failed => return put,
+        }
+    }
+    put
+}
+
+// Takes all that comes, and tells how many bytes came.
+fn drain(inn: &mut TcpIn) -> usize {
+    let mut room = [0; 4_096];
+    let mut taken = 0usize;
+    for _ in 0..10_000_000 {
+        match inn.take(&mut room) {
+            Take::Took(count) => taken = taken.saturating_add(count),
+            _ => return taken,
+        }
+    }
+    taken
+}
+
+// Accepts a connection and floods it.
+fn flood_next<N: Net<Stream = TcpStream, Listener = TcpListener>>(
+    net: &N,
+    alloc: Global,
+    port: u16,
+) -> usize {
+    let mut links = TcpLinker::new(net, alloc);
+    let Ok((mut out, inn)) = links.accept(port) else {
+        return 0;
+    };
+    let put = flood(&mut out);
+    out.finish();
+    links.done(out, inn);
+    put
+}
+
+// Opens a link and takes all that comes; nothing where nobody listens yet.
+fn drain_one<N: Net<Stream = TcpStream, Listener = TcpListener>>(
+    net: &N,
+    alloc: Global,
+    port: u16,
+) -> Option<usize> {
+    let mut links = TcpLinker::new(net, alloc);
+    let mut ends = links.open(&asked(Mode::Tcp(port))).ok()?;
+    let taken = drain(&mut ends.inn);
+    links.back(0, ends);
+    Some(taken)
+}
+
+// The same, as soon as somebody listens.
+fn drain_once_heard<N: Net<Stream = TcpStream, Listener = TcpListener>>(
+    net: &N,
+    alloc: Global,
+    port: u16,
+) -> usize {
+    for _ in 0..1_000_000 {
+        if let Some(taken) = drain_one(net, alloc, port) {
+            return taken;
+        }
+        thread::yield_now();
+    }
+    0
+}
+
+#[test]
+fn connection_takes_more_than_a_link_has_room_for(rt: HostRuntime) -> Result<(), Fail> {
+    let port = free_port(&rt)?;
+    let net = &rt;
+    let alloc = rt.alloc();
+    let (put, taken) = thread::join(
+        &rt,
+        move || flood_next(net, alloc, port),
+        move || drain_once_heard(net, alloc, port),
+    );
+    assert_eq!(rt; put, 2 * LINK_ROOM);
+    assert_eq!(rt; taken, put);
+    Ok(())
 }
 
 fn are_send_and_sync<T: Send + Sync + Drop>(_halves: T) {}

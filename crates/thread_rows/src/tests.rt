@@ -26,7 +26,7 @@ fn plain_script(alloc: Global, text: &[u8]) -> Option<Script>
     let Ok(script) = read_script(alloc, text) else {
         return None;
     };
-    if is_built(&script) {
+    if is_built(Mode::Loop, &script) {
         Some(script)
     } else {
         None

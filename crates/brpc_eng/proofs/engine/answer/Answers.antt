@@ -4,7 +4,7 @@ use Rattle.script_run.specs.Played.{TellClosed}
 use Rattle.brpc_eng.specs.Answers as answer
 use Rattle.brpc_eng.specs.Command.{meaning}
 use Rattle.brpc_eng.specs.Status.{number_of}
-use Rattle.brpc_eng.proofs.Replays.{drawn_command, load_command, frames_command, simulated}
+use Rattle.brpc_eng.proofs.Replays.{drawn_command, load_command, frames_command, simulated, threaded}
 use Rattle.brpc_eng.proofs.engine.answer.Goals as goal
 
 pub returns-in-None-clause-answers : goal.returns-in-None-clause-answers
@@ -50,7 +50,7 @@ returns-in-Sim-clause-answers g c =
     simulated _ input out links (number_of c.replay-in-Sim.result) c.in-Some.command c.in-Sim.seed c.from.result c.in-Some.ensures c.in-Sim.is c.from.ensures c.replay-in-Sim.ensures.replayed
 
 pub returns-in-Run-clause-answers : goal.returns-in-Run-clause-answers
-returns-in-Run-clause-answers g c = c.run_command.ensures.answers _ (sym c.in-Some.ensures ∙ ap (λ command. option_map meaning (Some command)) c.in-Run.is)
+returns-in-Run-clause-answers g c = threaded _ _ _ _ _ c.in-Some.command c.in-Run.port _ c.in-Some.ensures c.in-Run.is c.run_mode.ensures c.run_threads.ensures.replayed
 
 pub returns-in-Serve-clause-answers : goal.returns-in-Serve-clause-answers
 returns-in-Serve-clause-answers g c = answer.ServesPort c.in-Serve.doors.port c.in-Serve.doors.connections (sym c.in-Some.ensures ∙ ap (λ command. option_map meaning (Some command)) c.in-Serve.is) refl c.serve.ensures.served
