@@ -1,9 +1,11 @@
-// Which scripts are run on threads with their calls.
+// Which scripts are run on threads, with calls or without.
 ghost use Rattle.std.specs.Prelude.{◌≡◌};
 ghost use Rattle.script_items.specs.Meaning.{item};
-ghost use Rattle.script_calls.specs.Built.{is_awake, is_joinless};
+ghost use Rattle.script_calls.specs.Built.{is_awake, is_joinless, is_runnable};
 
 use script_items::{Line, Script};
+use script_threads::is_built;
+use sock_io::Mode;
 
 /// It doesn't wait for a call.
 fn is_awake(line: &Line) -> bool
@@ -16,7 +18,7 @@ fn is_awake(line: &Line) -> bool
 }
 
 /// Whether no line of a script waits for a call.
-pub fn is_joinless(script: &Script) -> bool
+fn is_joinless(script: &Script) -> bool
     ensures { result ≡ is_joinless script.now }
 {
     'lines: for line in script.lines() {
@@ -26,4 +28,14 @@ pub fn is_joinless(script: &Script) -> bool
         }
     }
     true
+}
+
+/// Whether a script is run over links of this mode: in this process one that waits for no call, to another process one without calls.
+pub fn is_runnable(mode: Mode, script: &Script) -> bool
+    ensures { result ≡ is_runnable mode script.now }
+{
+    match mode {
+        Mode::Loop | Mode::Ring => is_joinless(script),
+        Mode::Tcp(_) => is_built(mode, script),
+    }
 }

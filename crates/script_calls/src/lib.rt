@@ -9,5 +9,5 @@ mod reading;
 mod reporting;
 mod run;
 
-pub use built::is_joinless;
+pub use built::is_runnable;
 pub use run::run_calls_on_threads;
