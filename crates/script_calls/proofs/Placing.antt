@@ -81,11 +81,13 @@ module _ (words : List PlaceWord) (rows : List (List ℕ)) (each : EachAt words 
         let told = in_row words (0 + link) 0 x.row lower n.0 (in_rows words 0 rows link x.row each x.row_at) n.1 in
         let k : 0 + link ≡ link = omega arith in
         let p : 0 + lower ≡ lower = omega arith in
-        let m : n.0 ≡ 8 * (n.0 / 8) + n.0 % 8 = omega arith in
-        (record { operation = n.0 / 8; attempt = n.0 % 8 }, record {
-          attempt = omega arith;
-          told = subst (λ (i : ℕ). Tells (word_at words i) link lower) m (subst (λ (i : ℕ). Tells (word_at words n.0) link i) p (subst (λ (i : ℕ). Tells (word_at words n.0) i (0 + lower)) k told));
-        }));
+        let m : n.0 ≡ 8 * (n.0 / 8) + n.0 % 8 = omega arith in (
+          record { operation = n.0 / 8; attempt = n.0 % 8 },
+          record {
+            attempt = omega arith;
+            told = subst (λ (i : ℕ). Tells (word_at words i) link lower) m (subst (λ (i : ℕ). Tells (word_at words n.0) link i) p (subst (λ (i : ℕ). Tells (word_at words n.0) i (0 + lower)) k told));
+          },
+        ));
   }
 
 -- ## One more of each, and none

@@ -139,7 +139,16 @@ fn run_over<L: Linker, G: Gate + Sync, R: Threads + Wait + Sync>(
                 ids,
                 seats,
             };
-            let text = finish(rt, alloc, script, plan.operations, &calls, left, links, back.as_mut_slice());
+            let text = finish(
+                rt,
+                alloc,
+                script,
+                plan.operations,
+                &calls,
+                left,
+                links,
+                back.as_mut_slice(),
+            );
             give_back(links, back);
             or_no_memory(text)
         }
