@@ -1,11 +1,16 @@
 -- The numbers of the operations of one sort are below that of operations, and no more than they are.
-use Rattle.std.proofs.Common.{◌≡◌, ℕ, suc, ◌+◌, ◌<◌, ◌≤◌, Bool, true, false, List, [], ◌∷◌, length, filter_map, Option, Some, None, refl, subst, ap, arith, cond}
+use Rattle.std.proofs.Common.{◌≡◌, ℕ, suc, ◌+◌, ◌<◌, ◌≤◌, Bool, true, false, List, [], ◌∷◌, length, filter_map, Option, Some, None, Ok, refl, sym, subst, ap, arith, cond}
 use Rattle.std.specs.Prelude.{unwrap_or}
 use Rattle.std.specs.List.{All, AllByRecursion, cons_option}
 use Rattle.std.proofs.lemmas.List.Elements.{All-from_recursion}
 use Rattle.brpc_model.specs.Items.{Item, is_open, is_call}
-use Rattle.brpc_model.specs.Operations.{Operation, operations}
+use Rattle.brpc_model.specs.Operations.{Operation, operations, clients}
+use Rattle.brpc_model.specs.Script.{script_of}
+use Rattle.sock_words.specs.declared.plain.Plan.{Plan}
+use Rattle.corr_core.specs.declared.marks.Plan.{Plan as IdPlan}
+use Rattle.report_fits.proofs.Sizes.{keeps_limits}
 use Rattle.sock_programs.specs.Tasks.{Numbered, numbered_from, opens, calls, plan_of}
+use Rattle.call_run.specs.Threads.{ids_of}
 
 module _ (sort : Item → Bool) where
   more_low : (found : Option ℕ) (os : List ℕ) (n : ℕ) → AllByRecursion (λ (o : ℕ). o < n) os → ((o : ℕ) → found ≡ Some o → o < n) → AllByRecursion (λ (o : ℕ). o < n) (cons_option found os)
@@ -33,11 +38,29 @@ module _ (sort : Item → Bool) where
     few_of (number + 1) (cond (is_open op.item) (link + 1) link) ops,
   )
 
-pub opens_low : (script : List Item) → All (λ (o : ℕ). o < (plan_of script).operations) (opens script)
-opens_low script = All-from_recursion (λ (o : ℕ). o < (plan_of script).operations) (opens script) (all_low is_open 0 0 (operations script) (length (operations script)) (omega arith))
+module _ (script : List Item) (p : Plan) (plan : p ≡ plan_of script) where
+  -- a run takes these numbers
+  pub opens_below : (os : List ℕ) → os ≡ opens script → All (λ (o : ℕ). o < p.operations) os
+  opens_below os are =
+      subst (λ (q : Plan). All (λ (o : ℕ). o < q.operations) os) (sym plan) (subst (All (λ (o : ℕ). o < (plan_of script).operations)) (sym are)
+      (All-from_recursion (λ (o : ℕ). o < (plan_of script).operations) (opens script) (all_low is_open 0 0 (operations script) (length (operations script)) (omega arith))))
 
-pub calls_low : (script : List Item) → All (λ (o : ℕ). o < (plan_of script).operations + 1) (calls script)
-calls_low script = All-from_recursion (λ (o : ℕ). o < (plan_of script).operations + 1) (calls script) (all_low is_call 0 0 (operations script) (length (operations script) + 1) (omega arith))
+  pub calls_below : (slots : ℕ) (q : IdPlan) → q ≡ ids_of p slots → (cs : List ℕ) → cs ≡ calls script → All (λ (o : ℕ). o < q.operations) cs
+  calls_below slots q same cs are =
+      subst (λ (x : IdPlan). All (λ (o : ℕ). o < x.operations) cs) (sym same) (subst (λ (x : Plan). All (λ (o : ℕ). o < x.operations + 1) cs) (sym plan) (subst (All (λ (o : ℕ). o < (plan_of script).operations + 1)) (sym are)
+      (All-from_recursion (λ (o : ℕ). o < (plan_of script).operations + 1) (calls script) (all_low is_call 0 0 (operations script) (length (operations script) + 1) (omega arith)))))
 
-pub calls_few : (script : List Item) → length (calls script) ≤ length (operations script)
-calls_few script = few_of is_call 0 0 (operations script)
+  -- each of the two tables has a seat, and that of ids an operation
+  pub some_ids : (slots : ℕ) (q : IdPlan) → q ≡ ids_of p slots → (1 ≤ q.seats) × (1 ≤ q.operations)
+  some_ids slots q same =
+      let seats : p.seats ≡ clients script + 1 = ap (λ (x : Plan). x.seats) plan in
+      let s : q.seats ≡ p.seats = ap (λ (x : IdPlan). x.seats) same in
+      let o : q.operations ≡ p.operations + 1 = ap (λ (x : IdPlan). x.operations) same in
+      (omega arith, omega arith)
+
+module _ (bytes : List ℕ) (script : List Item) (reads : script_of bytes ≡ Ok script) where
+  pub few_operations : (p : Plan) → p ≡ plan_of script → p.operations ≤ 4096
+  few_operations p plan = let k = keeps_limits bytes script reads in let n = k.operations in let s : p.operations ≡ length (operations script) = ap (λ (x : Plan). x.operations) plan in omega (arith, n, s)
+
+  pub few_calls : (slots : ℕ) → slots ≡ length (calls script) → slots ≤ 4096
+  few_calls slots many = let k = keeps_limits bytes script reads in let n = k.operations in omega (arith, n, many, few_of is_call 0 0 (operations script))

@@ -1,5 +1,5 @@
 -- The report of what a run left, and the links of a run as they are given back.
-use Rattle.std.proofs.Common.{◌≡◌, ℕ, zero, suc, ◌+◌, List, [], ◌∷◌, ◌++◌, length, map, replicate, Option, None, IfSome, refl, sym, ap, ◌∙◌, subst, arith}
+use Rattle.std.proofs.Common.{◌≡◌, ℕ, zero, suc, ◌+◌, List, [], ◌∷◌, ◌++◌, length, map, replicate, Option, None, IfSome, Result, Ok, Err, IfOk, refl, sym, ap, ◌∙◌, subst, arith}
 use Rattle.sock_io.specs.declared.link.Out.{Ghosts}
 use Rattle.sock_io.specs.declared.link.Ends.{Ends}
 use Rattle.sock_io.specs.Link.{OutState, InState, end_of}
@@ -108,3 +108,7 @@ module _ {O I P : Type 0} (out : O → OutState) (inn : I → InState) where
               (subst (λ (l : List PlaceWord). IsReported script text (outcomes_of (plan_of script).operations told ended last) l (map end_at ends')) ew
               (subst (λ (x : Plan). IsReported script text (outcomes_of x.operations told ended last) words (map end_at ends')) ep reported));
         }
+
+  pub text_if : (g : Ghosts O) (script : List Item) (links : List LinkEnd) {T E : Type 0} (items : T → List ℕ) (r : Result T E) → IfOk r (λ t. IsCallRun {P = P} g out inn script (items t) links) → IfOk r (λ t. IsCallText script (items t) links)
+  text_if g script links items (Ok t) h = text_of g script (items t) links h
+  text_if g script links items (Err e) h = tt
