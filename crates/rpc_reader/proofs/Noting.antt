@@ -15,10 +15,10 @@ use Rattle.rpc_reader.specs.Resting.{OneEnded, RestEnded}
 module _ {C : Type 0} where
   -- a seat that keeps a word in mind
   pub rests_kept : (x n : ℕ) (own : Bool) (s t : Seat (Option C) (View C)) → IsFree s.me.0 → Stays s t → t.me.0 ≡ with_kept x own n s.me.0 → Rests s t
-  rests_kept x n own s t free stays e = record { stays = stays; share = ap (λ (v : View C). v.share) e; free = subst IsFree (sym e) free }
+  rests_kept x n own s t free stays e = record { stays = stays; share = ap (λ (v : View C). v.share) e; free = subst (λ (v : View C). IsFree v) (sym e) free }
 
   pub rests_same : (s t : Seat (Option C) (View C)) → IsFree s.me.0 → Stays s t → t.me.0 ≡ s.me.0 → Rests s t
-  rests_same s t free stays e = record { stays = stays; share = ap (λ (v : View C). v.share) e; free = subst IsFree (sym e) free }
+  rests_same s t free stays e = record { stays = stays; share = ap (λ (v : View C). v.share) e; free = subst (λ (v : View C). IsFree v) (sym e) free }
 
 module _ (p : Plan) (code : ℕ) where
   ended_more : (os : List ℕ) (o : ℕ) (v u w : View Asked) (b m b' : Books) → RestEnded p code os v u b m → OneEnded p code o u w m b' → RestEnded p code (os ++ o ∷ []) v w b b'

@@ -1,8 +1,10 @@
 -- Links that are read one behind the other.
-use Rattle.std.proofs.Common.{◌≡◌, ◌≢◌, ℕ, ◌+◌, ◌<◌, ◌≤◌, Bool, false, List, [], ◌∷◌, ◌++◌, length, take, get_or, map, refl, sym, ap, ◌∙◌, subst, arith}
+use Rattle.std.proofs.Common.{◌≡◌, ◌≢◌, ℕ, ◌+◌, ◌<◌, ◌≤◌, Bool, false, List, [], ◌∷◌, ◌++◌, length, take, get_or, Ok, Err, refl, sym, ap, ◌∙◌, subst, arith}
 use Rattle.std.proofs.Math.ListN.{set}
-use Rattle.std.proofs.Math.Seq.{map-set_same}
-use Rattle.std.proofs.lemmas.List.{take_more, take_more_set, take_all, length-take-le, get_or-set_other, get_or_default}
+use Rattle.std.proofs.lemmas.List.{take_more, take_more_set, take_all, length-take-le, get_or-set_other}
+use Rattle.std.proofs.lemmas.Bool.{false≢true}
+use Rattle.std.specs.Prelude.{Result, IfOk}
+use Rattle.std.specs.Result.{is_err}
 use Rattle.corr_core.specs.declared.marks.Plan as ids
 use Rattle.sock_io.specs.declared.link.Ends.{Ends}
 use Rattle.sock_io.specs.Link.{OutState, InState}
@@ -29,22 +31,17 @@ module _ {O I P : Type 0} (out : O → OutState) (inn : I → InState) (q : ids.
   read_more n k (x ∷ xs) [] e e' b m b' at r one = absurd r
 
   -- one more
-  pub read_next : (i : ℕ) (old now : List (Ends O I P)) (x v : Ends O I P) (b m b' : Books) → i < length old → StandFrom i old now → x ≡ get_or now i x → ReadLinks out inn q calls 0 (take i old) (take i now) b m → ReadServed out inn q calls i x v m b' → ReadLinks out inn q calls 0 (take (i + 1) old) (take (i + 1) (set now i v)) b b'
-  read_next i old now x v b m b' lt s is r one =
-      let here : x ≡ get_or old i x = is ∙ s.each i x (omega arith) in
+  pub read_next : (i : ℕ) (old now : List (Ends O I P)) (d v : Ends O I P) (b m b' : Books) → i < length old → StandFrom i old now → ReadLinks out inn q calls 0 (take i old) (take i now) b m → ReadServed out inn q calls i (get_or now i d) v m b' → ReadLinks out inn q calls 0 (take (i + 1) old) (take (i + 1) (set now i v)) b b'
+  read_next i old now d v b m b' lt s r one =
+      let x = get_or now i d in
       let count : length (take i old) ≡ i = length-take-le i old (omega arith) in
-      let before : take (i + 1) old ≡ take i old ++ x ∷ [] = take_more old i x lt ∙ ap (λ (y : Ends O I P). take i old ++ y ∷ []) (sym here) in
+      let before : take (i + 1) old ≡ take i old ++ x ∷ [] = take_more old i d lt ∙ ap (λ (y : Ends O I P). take i old ++ y ∷ []) (sym (s.each i d (omega arith))) in
       let behind : take (i + 1) (set now i v) ≡ take i now ++ v ∷ [] = take_more_set now i v (let z = s.sized in omega arith) in
       subst (λ (l : List (Ends O I P)). ReadLinks out inn q calls 0 l (take (i + 1) (set now i v)) b b') (sym before)
       (subst (λ (l : List (Ends O I P)). ReadLinks out inn q calls 0 (take i old ++ x ∷ []) l b b') (sym behind)
       (read_more 0 i (take i old) (take i now) x v b m b' (let z = count in omega arith) r one))
 
-  -- and all
-  pub read_whole : (i : ℕ) (old now : List (Ends O I P)) (b b' : Books) → length old ≤ i → length now ≡ length old → ReadLinks out inn q calls 0 (take i old) (take i now) b b' → ReadLinks out inn q calls 0 old now b b'
-  read_whole i old now b b' le e r =
-      subst (λ (l : List (Ends O I P)). ReadLinks out inn q calls 0 l now b b') (take_all i old le)
-      (subst (λ (l : List (Ends O I P)). ReadLinks out inn q calls 0 (take i old) l b b') (take_all i now (let z = e in omega arith)) r)
-
-  -- the writing halves are as they were
-  pub outs_next : (i : ℕ) (now : List (Ends O I P)) (x v : Ends O I P) → x ≡ get_or now i x → out v.out ≡ out x.out → map (λ (e : Ends O I P). out e.out) (set now i v) ≡ map (λ (e : Ends O I P). out e.out) now
-  outs_next i now x v is same = map-set_same (λ (e : Ends O I P). out e.out) now i v x (same ∙ ap (λ (e : Ends O I P). out e.out) is)
+-- where it wasn't refused
+pub was_ok : {A E : Type 0} (r : Result A E) (P : Type 0) → is_err r ≡ false → IfOk r (λ _. P) → P
+was_ok (Ok a) P e h = h
+was_ok (Err x) P e h = absurd (false≢true (sym e))

@@ -1,14 +1,17 @@
-ghost use Rattle.std.specs.Prelude.{◌≡◌, ◌+◌, ◌≤◌, [], length, IfSome};
+ghost use Rattle.std.specs.Prelude.{◌≡◌, ◌+◌, ◌<◌, ◌≤◌, [], length, IfSome};
 ghost use Rattle.brpc_model.specs.Frame.{NoneYet, judged};
 ghost use Rattle.rpc_reader.specs.Seats.{IsOpen};
 ghost use Rattle.rpc_reader.specs.Reading.{held_by};
 
 use crate::books::AnswerSeat;
+use crate::linked::read_links;
 use crate::reading::{Intake, take_in};
+use crate::resting::end_rest;
 use call_table::Call;
-use corr_id::IdTable;
+use corr_id::{IdSeat, IdTable};
 use prpc_frame::{BlockPool, Cutter, NoMemory};
 use rpc_client::Told;
+use sock_io::{GiveLinker, LinkSpec, Linker, Mode};
 use sock_words::Outcome;
 use std::alloc::Global;
 use std::sync::Wait;
@@ -20,15 +23,28 @@ const ANSWER: &[u8] = b"PRPC\x00\x00\x00\x08\x00\x00\x00\x06\x12\x02\x08\x00\x20
 // The same with the compress_type 1.
 const COMPRESSED: &[u8] = b"PRPC\x00\x00\x00\x0a\x00\x00\x00\x08\x12\x02\x08\x00\x18\x01\x20\x02hi";
 
-/// A table of one id slot, and a reader's part for it.
-fn begin(alloc: Global) -> Option<(IdTable<Call>, AnswerSeat)>
-    ensures { IfSome result (λ t. IsOpen t.0.table.shared.table_id t.1.seat) }
+// A link that its other end gives bytes as it is settled.
+const SPEC: LinkSpec = LinkSpec {
+    mode: Mode::Loop,
+    piece: 8,
+    again: 0,
+    fail: 0,
+    serve: false,
+    end: None,
+};
+
+/// A table of one id slot, a reader's part for it, and the seat of a client.
+fn begin(alloc: Global) -> Option<(IdTable<Call>, AnswerSeat, IdSeat<Call>)>
+    ensures reader { IfSome result (λ t. IsOpen t.0.table.shared.table_id t.1.seat) }
+    ensures client { IfSome result (λ t. IsOpen t.0.table.shared.table_id t.2) }
+    ensures operations { IfSome result (λ t. 0 < t.0.plan.operations) }
 {
-    let Ok((table, mut seats)) = IdTable::new(alloc, 1, 1, 1) else {
+    let Ok((table, mut seats)) = IdTable::new(alloc, 1, 1, 2) else {
         return None;
     };
     let seat = seats.pop()?;
-    Some((table, AnswerSeat::new(alloc, seat)))
+    let client = seats.pop()?;
+    Some((table, AnswerSeat::new(alloc, seat), client))
 }
 
 /// A call of Echo.Echo with one attempt, the operation 7.
@@ -46,6 +62,19 @@ fn make(table: &IdTable<Call>, calls: &mut AnswerSeat, call: Call) -> Option<u64
         return Some(id);
     }
     None
+}
+
+/// Its id is made by a client, and noted for the operation 0: whether it was.
+fn make_noted(table: &IdTable<Call>, client: &mut IdSeat<Call>, call: Call) -> bool
+    requires client { IsOpen table.now.table.shared.table_id client.old }
+    requires operation { 0 < table.now.plan.operations }
+    ensures { IsOpen table.now.table.shared.table_id client.new }
+{
+    if let Ok(id) = table.create(client, 2, call) {
+        table.note(client, 0, id);
+        return true;
+    }
+    false
 }
 
 /// A cutter to which nothing was fed.
@@ -94,17 +123,20 @@ fn is_answered(told: &[Told]) -> bool {
     }
 }
 
-/// Whether it was told to have failed with 2002.
-fn is_unread(told: &[Told]) -> bool {
+/// Whether it was told to have failed with this code.
+fn is_failed(told: &[Told], by: u16) -> bool {
     match told {
-        [one] => matches!(one.outcome, Outcome::CallFailed { id: 1, code: 2002 }),
+        [one] => match one.outcome {
+            Outcome::CallFailed { id, code } => id == 1 && code == by,
+            _ => false,
+        },
         _ => false,
     }
 }
 
 #[test]
 fn a_response_in_single_bytes_ends_its_call(rt: HostRuntime) -> Result<(), Fail> {
-    let Some((table, mut calls)) = begin(rt.alloc()) else {
+    let Some((table, mut calls, _)) = begin(rt.alloc()) else {
         panic!(&rt; "no memory");
     };
     let mut intake = unfed(rt.alloc());
@@ -117,13 +149,42 @@ fn a_response_in_single_bytes_ends_its_call(rt: HostRuntime) -> Result<(), Fail>
 
 #[test]
 fn a_compressed_response_tells_2002(rt: HostRuntime) -> Result<(), Fail> {
-    let Some((table, mut calls)) = begin(rt.alloc()) else {
+    let Some((table, mut calls, _)) = begin(rt.alloc()) else {
         panic!(&rt; "no memory");
     };
     let mut intake = unfed(rt.alloc());
     let call = call_of(rt.alloc(), &mut intake.pool)?;
     assert_eq!(&rt; make(&table, &mut calls, call), Some(1));
     assert!(&rt; feed_each(&rt, &table, &mut calls, &mut intake, COMPRESSED));
-    assert!(&rt; is_unread(calls.told.as_slice()));
+    assert!(&rt; is_failed(calls.told.as_slice(), 2002));
+    Ok(())
+}
+
+#[test]
+fn links_that_are_read_answer_a_call(rt: HostRuntime) -> Result<(), Fail> {
+    let Some((table, mut calls, _)) = begin(rt.alloc()) else {
+        panic!(&rt; "no memory");
+    };
+    let mut pool = BlockPool::new(rt.alloc());
+    let call = call_of(rt.alloc(), &mut pool)?;
+    assert_eq!(&rt; make(&table, &mut calls, call), Some(1));
+    let mut links = GiveLinker::new(rt.alloc(), 0, ANSWER.to_vec(rt.alloc())?);
+    let opened = links.open(&SPEC).ok().ok_or("memory")?;
+    let mut ends = [opened];
+    assert!(&rt; read_links(&rt, &table, &mut calls, &[0], &mut links, &mut ends).is_ok());
+    assert!(&rt; is_answered(calls.told.as_slice()));
+    Ok(())
+}
+
+#[test]
+fn a_call_that_is_left_ends_with_the_code(rt: HostRuntime) -> Result<(), Fail> {
+    let Some((table, mut calls, mut client)) = begin(rt.alloc()) else {
+        panic!(&rt; "no memory");
+    };
+    let mut pool = BlockPool::new(rt.alloc());
+    let call = call_of(rt.alloc(), &mut pool)?;
+    assert!(&rt; make_noted(&table, &mut client, call));
+    end_rest(&rt, &table, &mut calls, &mut client, &[0], 1014);
+    assert!(&rt; is_failed(calls.told.as_slice(), 1014));
     Ok(())
 }
