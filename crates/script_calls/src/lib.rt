@@ -11,3 +11,6 @@ mod run;
 
 pub use built::is_runnable;
 pub use run::run_calls_on_threads;
+
+#[cfg(test)]
+mod tests;
