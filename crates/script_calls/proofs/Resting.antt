@@ -1,5 +1,5 @@
 -- The seats of a table of ids, one of which is used after the other.
-use Rattle.std.proofs.Common.{◌≡◌, ℕ, zero, suc, ◌+◌, ◌<◌, ◌≤◌, List, [], ◌∷◌, ◌++◌, length, take, get_or, map, refl, sym, ap, ◌∙◌, subst, arith}
+use Rattle.std.proofs.Common.{◌≡◌, ℕ, zero, suc, ◌+◌, ◌<◌, ◌≤◌, false, List, [], ◌∷◌, ◌++◌, length, take, get_or, map, refl, sym, ap, ◌∙◌, subst, arith}
 use Rattle.std.proofs.Math.ListN.{set}
 use Rattle.std.proofs.lemmas.List.{take_more, take_more_set, take_all, length-take-le}
 use Rattle.atomic_table.specs.Seated.{TableId}
@@ -7,12 +7,13 @@ use Rattle.corr_core.specs.Law.{Each, total}
 use Rattle.corr_core.specs.declared.marks.Plan.{Plan}
 use Rattle.corr_id.specs.Closed.{AllOf}
 use Rattle.rpc_reader.specs.Seats.{IsOpen, Rests}
-use Rattle.rpc_reader.specs.Books.{Books}
+use Rattle.rpc_reader.specs.Books.{Books, books}
+use Rattle.rpc_reader.specs.declared.books.AnswerSeat.{AnswerSeat}
 use Rattle.rpc_reader.specs.Resting.{RestEnded}
 use Rattle.rpc_reader.proofs.Locks.{open_still}
 use Rattle.rpc_reader.proofs.Series.{StandFrom}
 use Rattle.call_run.specs.Crew.{AreLeft}
-use Rattle.script_calls.specs.Reading.{IdSeat, EachRested}
+use Rattle.script_calls.specs.Reading.{IdSeat, EachRested, begins}
 
 -- ## One of a list
 
@@ -21,7 +22,7 @@ each_set P [] i v h p = tt
 each_set P (x ∷ xs) zero v h p = (p, h.1)
 each_set P (x ∷ xs) (suc i) v h p = (h.0, each_set P xs i v h.1 p)
 
-pub each_at : {A : Type 0} (P : A → Type 0) (xs : List A) (i : ℕ) (x : A) → i < length xs → x ≡ get_or xs i x → Each P xs → P x
+each_at : {A : Type 0} (P : A → Type 0) (xs : List A) (i : ℕ) (x : A) → i < length xs → x ≡ get_or xs i x → Each P xs → P x
 each_at P [] i x low is h = absurd (omega arith)
 each_at P (y ∷ ys) zero x low is h = subst P (sym is) h.0
 each_at P (y ∷ ys) (suc i) x low is h = each_at P ys i x (omega arith) is h.1
@@ -46,6 +47,9 @@ share_of s = s.me.0.share
 
 abbrev IsLeft : TableId → IdSeat → Type 0
 IsLeft z s = IsOpen z s × (s.me.1 ≡ [])
+
+pub left_at : (z : TableId) (seats : List IdSeat) (i : ℕ) (s : IdSeat) → i < length seats → s ≡ get_or seats i s → AreLeft z seats → IsOpen z s
+left_at z seats i s low is left = (each_at (IsLeft z) seats i s low is left).0
 
 module _ (z : TableId) (seats : List IdSeat) (i : ℕ) (s t : IdSeat) (low : i < length seats) (is : s ≡ get_or seats i s) (rests : Rests s t) (left : AreLeft z seats) where
   -- one of them was used, and rests
@@ -81,3 +85,14 @@ module _ (p : Plan) (code : ℕ) (operations : List ℕ) where
   rested_whole i old now b b' le e r =
       subst (λ (l : List IdSeat). EachRested p code operations l now b b') (take_all i old le)
       (subst (λ (l : List IdSeat). EachRested p code operations (take i old) l b b') (take_all i now (let n = e in omega arith)) r)
+
+-- ## What main read
+
+-- a table of ids with a seat has one
+pub some_seats : (seats : List IdSeat) (n : ℕ) → total share_of seats ≡ n → 1 ≤ n → 0 < length seats
+some_seats [] n all some_ = absurd (omega (arith, all, some_))
+some_seats (s ∷ ss) n all some_ = omega arith
+
+-- a reader that is new
+pub begins_as : (c : AnswerSeat) (main : IdSeat) → c.seat ≡ main → (c.early.items ≡ []) × (c.told.items ≡ []) × (c.starved ≡ false) → books c ≡ begins main
+begins_as c main seat empty = λ i. record { view = (seat i).me.0; early = empty.0 i; told = empty.1 i; starved = empty.2 i }
