@@ -68,8 +68,10 @@ fn read_served<L: Linker, R: Wait>(
     ensures prompt { L.prompt links.new ≡ L.prompt links.old }
     ensures faults { L.faults links.new ≡ L.faults links.old }
 {
-    links.settle(ends)?;
-    read_link(rt, ids, calls, link, operations, &mut ends.inn, true)
+    match links.settle(ends) {
+        Ok(()) => read_link(rt, ids, calls, link, operations, &mut ends.inn, true),
+        Err(_) => Err(NoMemory),
+    }
 }
 
 /// Each link is served and read to its end, in order, and the calls that wait for it are told so. Where memory was wanting for one,
