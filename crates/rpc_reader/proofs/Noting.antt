@@ -1,28 +1,31 @@
 -- Calls that end one behind the other, by the ids that a seat found.
-use Rattle.std.proofs.Common.{◌≡◌, ℕ, ◌+◌, ◌<◌, List, [], ◌∷◌, ◌++◌, length, take, get_or, refl, sym, subst, ◌∙◌, ap}
-use Rattle.std.specs.Prelude.{Bool, Option}
+use Rattle.std.proofs.Common.{◌≡◌, ℕ, ◌+◌, ◌<◌, ◌≤◌, List, [], ◌∷◌, ◌++◌, length, take, get_or, refl, sym, subst}
 use Rattle.std.proofs.lemmas.List.{take_more}
-use Rattle.atomic_table.specs.declared.shared.Seat.{Seat}
+use Rattle.corr_core.specs.Word.{Parts}
 use Rattle.corr_core.specs.declared.marks.Plan.{Plan}
 use Rattle.corr_core.specs.declared.marks.View.{View}
-use Rattle.id_rule.specs.Lawful.{with_kept}
-use Rattle.corr_id.specs.Seats.{Stays, IsFree}
+use Rattle.corr_id.specs.Calls.{slot_of, version_of, GotLock}
 use Rattle.sock_message.specs.Asked.{Asked}
 use Rattle.rpc_reader.specs.Books.{Books}
-use Rattle.rpc_reader.specs.Seats.{Rests}
-use Rattle.rpc_reader.specs.Resting.{OneEnded, RestEnded}
+use Rattle.rpc_reader.specs.Posting.{LockLost}
+use Rattle.rpc_reader.specs.Resting.{EndedLast, OneEnded, RestEnded}
 
-module _ {C : Type 0} where
-  -- a seat that keeps a word in mind
-  pub rests_kept : (x n : ℕ) (own : Bool) (s t : Seat (Option C) (View C)) → IsFree s.me.0 → Stays s t → t.me.0 ≡ with_kept x own n s.me.0 → Rests s t
-  rests_kept x n own s t free stays e = record { stays = stays; share = ap (λ (v : View C). v.share) e; free = subst (λ (v : View C). IsFree v) (sym e) free }
-
-  pub rests_same : (s t : Seat (Option C) (View C)) → IsFree s.me.0 → Stays s t → t.me.0 ≡ s.me.0 → Rests s t
-  rests_same s t free stays e = record { stays = stays; share = ap (λ (v : View C). v.share) e; free = subst (λ (v : View C). IsFree v) (sym e) free }
+-- a lock that was got by an id, and whose call ended
+pub ended_last : (slots code id slot : ℕ) (locked : View Asked) (found : ℕ) (word : Parts) (call : Asked) (b b' : Books) → slot ≡ slot_of id → slot < slots → (word.first ≤ version_of id) × (version_of id < word.first + word.range) → GotLock slot b.view locked found word call → LockLost slot word call code (record b { view = locked }) b' → EndedLast slots code id b b'
+ended_last slots code id slot locked found word call b b' e inside range got lost = record {
+  inside = subst (λ (n : ℕ). n < slots) e inside;
+  locked = locked;
+  found = found;
+  word = word;
+  call = call;
+  range = range;
+  got = subst (λ (n : ℕ). GotLock n b.view locked found word call) e got;
+  lost = subst (λ (n : ℕ). LockLost n word call code (record b { view = locked }) b') e lost;
+}
 
 module _ (p : Plan) (code : ℕ) where
   ended_more : (os : List ℕ) (o : ℕ) (v u w : View Asked) (b m b' : Books) → RestEnded p code os v u b m → OneEnded p code o u w m b' → RestEnded p code (os ++ o ∷ []) v w b b'
-  ended_more [] o v u w b m b' a one = (w, b', subst (λ (n : Books). OneEnded p code o v w n b') a.1 (subst (λ (y : View Asked). OneEnded p code o y w m b') a.0 one), refl, refl)
+  ended_more [] o v u w b m b' a one = (w, b', subst (λ (n : Books). OneEnded p code o v w n b') a.1 (subst (λ (y : View Asked). OneEnded p code o y w m b') a.0 one), (refl, refl))
   ended_more (x ∷ xs) o v u w b m b' a one = (a.0, a.1, a.2, ended_more xs o a.0 u w a.1 m b' a.3 one)
 
   pub ended_next : (os : List ℕ) (i : ℕ) (v u w : View Asked) (b m b' : Books) → i < length os → RestEnded p code (take i os) v u b m → OneEnded p code (get_or os i 0) u w m b' → RestEnded p code (take (i + 1) os) v w b b'

@@ -3,13 +3,13 @@ use Rattle.std.proofs.Math.Seq.{map-set_same}
 use Rattle.std.proofs.lemmas.Bool.{false≢true}
 use Rattle.rpc_reader.specs.Books.{books}
 use Rattle.rpc_reader.specs.Linked.{ReadServed}
-use Rattle.rpc_reader.proofs.Locks.{open_still, rests_none, rests_then}
+use Rattle.rpc_reader.proofs.Locks.{open_still, rests_then}
 use Rattle.rpc_reader.proofs.Series.{stand_next, read_next, was_ok}
 use Rattle.rpc_reader.proofs.linked.read_links.Goals as goal
 use Rattle.rpc_reader.proofs.linked.read_links.Goals.{then-is_err, else-is_err}
 
 pub read_served-requires-clause-seat : goal.read_served-requires-clause-seat
-read_served-requires-clause-seat g c = open_still c.args.ids.now.table.shared.table_id c.args.calls.now.seat c.links.calls.seat c.requires.seat c.links.invariant.rest
+read_served-requires-clause-seat g c = λ _ _. open_still c.args.ids.now.table.shared.table_id c.args.calls.now.seat c.links.calls.seat c.requires.seat c.links.invariant.rest
 
 pub links-preserved : goal.links-preserved
 links-preserved g c = let i = c.links.one-index in let d = c.one-item.result in let v = c.read_served.new.ends in let b = books c.links.calls in let b' = books c.read_served.new.calls in let on = c.links.invariant in record {
