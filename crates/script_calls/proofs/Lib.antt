@@ -2,5 +2,5 @@ pub mod Placing
 pub mod Numbers
 pub mod MayCall
 pub mod Resting
-pub mod Reporting
+pub mod Reports
 pub mod Joinless

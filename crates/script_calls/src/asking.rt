@@ -1,5 +1,5 @@
 // What a script asks of its clients, and the room that a run needs for its links.
-ghost use Rattle.std.specs.Prelude.{◌≡◌, ℕ, List, Ok, map, IfOk};
+ghost use Rattle.std.specs.Prelude.{◌≡◌, ℕ, List, Ok, length, map, IfOk};
 ghost use Rattle.brpc_model.specs.Script.{script_of};
 ghost use Rattle.sock_programs.specs.Scripts.{all_tasks};
 ghost use Rattle.sock_programs.specs.Tasks.{opens, calls};

@@ -1,5 +1,5 @@
 // The report of a run with calls.
-ghost use Rattle.std.specs.Prelude.{◌≡◌, IfOk, map};
+ghost use Rattle.std.specs.Prelude.{◌≡◌, IfOk, IfSome, map};
 ghost use Rattle.sock_io.specs.declared.link.Ends.{Ends};
 ghost use Rattle.sock_io.specs.Link.{end_of};
 ghost use Rattle.script_threads.specs.Halves.{AreTaken};

@@ -9,7 +9,7 @@ use Rattle.script_threads.proofs.Moving.{front_of}
 use Rattle.script_calls.proofs.asking.prepare.Goals as goal
 
 pub plan_of-requires : goal.plan_of-requires
-plan_of-requires g c = subst KeepsLimits (sym c.lines.ensures) (keeps_limits c.requires.0 c.args.script.now c.requires.1)
+plan_of-requires g c = subst KeepsLimits (sym c.lines.ensures) (keeps_limits c.requires.script.0 c.args.script.now c.requires.script.1)
 
 pub remove-setup-requires : goal.remove-setup-requires
 remove-setup-requires g c =

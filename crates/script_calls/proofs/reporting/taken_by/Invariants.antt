@@ -5,6 +5,6 @@ use Rattle.script_calls.proofs.reporting.taken_by.Given as goal
 
 abbrev pub invariant-takes : goal.invariant-takes
 invariant-takes g l = record {
-  told : AreTaken (λ (e : Ends g.O g.I g.P). g.O.Out.state e.out) (take l.link-index l.ends) (map (λ bytes. bytes.now) l.took.items);
+  told : AreTaken (λ (e : Ends g.row.O.Denot g.row.I.Denot g.row.P.Denot). g.O.Out.state e.out) (take l.link-index l.ends) (map (λ bytes. bytes.now) l.took.items);
   as_many : length l.took.items ≡ l.link-index;
 }

@@ -2,7 +2,7 @@ use Rattle.std.proofs.Common.{ap, ◌∙◌, arith}
 use Rattle.std.specs.List.{list_all}
 use Rattle.script_links.specs.Given.{has_piece}
 use Rattle.script_links.proofs.Numbering.{numbered_of, links_of, few_links, pieces_of}
-use Rattle.script_calls.proofs.Reporting.{text_if}
+use Rattle.script_calls.proofs.Reports.{text_if}
 use Rattle.script_calls.proofs.run.run_calls_on_threads.Goals as goal
 
 pub open_links-requires-clause-few : goal.open_links-requires-clause-few

@@ -11,7 +11,7 @@ use Rattle.script_threads.proofs.Giving.{closed_back, give_numbered, give_long}
 use Rattle.script_threads.proofs.MayAsk.{script_begins}
 use Rattle.script_calls.proofs.MayCall.{script_may}
 use Rattle.script_calls.proofs.Numbers.{few_calls, few_operations, opens_below, calls_below, some_ids}
-use Rattle.script_calls.proofs.Reporting.{numbered_still, run_is, joined_outs}
+use Rattle.script_calls.proofs.Reports.{numbered_still, run_is, joined_outs}
 use Rattle.script_calls.proofs.run.run_over.Goals as goal
 
 pub give_back-requires-clause-numbered : goal.give_back-requires-clause-numbered

@@ -30,6 +30,11 @@ long_replicate : {A : Type 0} (n : ℕ) (x : A) → length (replicate n x) ≡ n
 long_replicate zero x = refl
 long_replicate (suc n) x = ap suc (long_replicate n x)
 
+-- writing halves of links of these numbers, from this one on
+AreNumberedOuts : ℕ → List OutState → Type 0
+AreNumberedOuts n [] = Unit {0}
+AreNumberedOuts n (s ∷ ss) = (s.link ≡ n) × AreNumberedOuts (n + 1) ss
+
 module _ {O I P : Type 0} (out : O → OutState) (inn : I → InState) where
   abbrev pub end_at : Ends O I P → LinkEnd
   end_at e = end_of (out e.out) (inn e.inn)
@@ -42,10 +47,6 @@ module _ {O I P : Type 0} (out : O → OutState) (inn : I → InState) where
   told_of ends took h k e at = let w = at_map end_at ends k e at in subst (λ (l : LinkEnd). IfSome l.took (λ bytes. took_at took k ≡ bytes)) w.2 (h k w.0 w.1)
 
   -- ## Links with the same writing halves have the same numbers
-
-  AreNumberedOuts : ℕ → List OutState → Type 0
-  AreNumberedOuts n [] = Unit {0}
-  AreNumberedOuts n (s ∷ ss) = (s.link ≡ n) × AreNumberedOuts (n + 1) ss
 
   numbered_outs : (n : ℕ) (ends : List (Ends O I P)) → AreNumbered n (map end_at ends) → AreNumberedOuts n (map out_at ends)
   unfolding AreNumberedOuts
