@@ -1,168 +1,33 @@
 //! The loops of the crate `brpc_bench` as one writes them in Rust with std alone: a buffer that is reused, copies in
-//! place of shared blocks, and frames seen where they lie.
+//! place of shared blocks, and frames seen where they lie. And `sim` and `replay` of generated scripts, on a machine
+//! without proofs.
+mod client;
+mod frames;
+mod links;
+mod machine;
+mod reader;
+mod report;
+mod script;
+mod table;
+
+use frames::{encode, Cutter, Frame, Meta, Request};
+use machine::Machine;
+use report::{push_hex, report};
+use script::Script;
 use std::hint::black_box;
 use std::io::{Read, Write};
 
-struct Request {
-    service: Vec<u8>,
-    method: Vec<u8>,
-}
-
-struct Meta {
-    request: Option<Request>,
-    id: u64,
-    attachment: i32,
-}
-
-fn put(out: &mut Vec<u8>, mut n: u64) {
-    while n >= 0x80 {
-        out.push(n as u8 | 0x80);
-        n >>= 7;
-    }
-    out.push(n as u8);
-}
-
-fn size(mut n: u64) -> usize {
-    let mut size = 1;
-    while n >= 0x80 {
-        n >>= 7;
-        size += 1;
-    }
-    size
-}
-
-fn encode(out: &mut Vec<u8>, meta: &Meta, payload: &[u8], attachment: &[u8]) {
-    let at = out.len();
-    out.extend_from_slice(b"PRPC\0\0\0\0\0\0\0\0");
-    if let Some(r) = &meta.request {
-        let (s, m) = (r.service.len(), r.method.len());
-        out.push(0x0a);
-        put(out, (1 + size(s as u64) + s + 1 + size(m as u64) + m) as u64);
-        out.push(0x0a);
-        put(out, s as u64);
-        out.extend_from_slice(&r.service);
-        out.push(0x12);
-        put(out, m as u64);
-        out.extend_from_slice(&r.method);
-    }
-    out.push(0x20);
-    put(out, meta.id);
-    if meta.attachment != 0 {
-        out.push(0x28);
-        put(out, meta.attachment as i64 as u64);
-    }
-    let meta_size = (out.len() - at - 12) as u32;
-    let body = meta_size + (payload.len() + attachment.len()) as u32;
-    out[at + 4..at + 8].copy_from_slice(&body.to_be_bytes());
-    out[at + 8..at + 12].copy_from_slice(&meta_size.to_be_bytes());
-    out.extend_from_slice(payload);
-    out.extend_from_slice(attachment);
-}
-
-fn varint(bytes: &[u8], at: &mut usize) -> Option<u64> {
-    let mut n = 0;
-    for shift in 0..10 {
-        let byte = *bytes.get(*at)?;
-        *at += 1;
-        n |= u64::from(byte & 0x7f) << (7 * shift);
-        if byte < 0x80 {
-            return Some(n);
-        }
-    }
-    None
-}
-
-enum Value<'a> {
-    Number(u64),
-    Span(&'a [u8]),
-    Other,
-}
-
-fn field<'a>(bytes: &'a [u8], at: &mut usize) -> Option<(u64, Value<'a>)> {
-    let key = varint(bytes, at)?;
-    let value = match key & 7 {
-        0 => Value::Number(varint(bytes, at)?),
-        1 | 5 => {
-            *at += if key & 7 == 1 { 8 } else { 4 };
-            Value::Other
-        }
-        2 => {
-            let n = varint(bytes, at)? as usize;
-            let span = bytes.get(*at..at.checked_add(n)?)?;
-            *at += n;
-            Value::Span(span)
-        }
-        _ => return None,
-    };
-    (*at <= bytes.len() && key >> 3 > 0).then_some((key >> 3, value))
-}
-
-fn read_request(bytes: &[u8]) -> Option<Request> {
-    let (mut at, mut service, mut method) = (0, None, None);
-    while at < bytes.len() {
-        match field(bytes, &mut at)? {
-            (1, Value::Span(s)) => service = Some(s),
-            (2, Value::Span(m)) => method = Some(m),
-            _ => {}
-        }
-    }
-    Some(Request { service: service?.to_vec(), method: method?.to_vec() })
-}
-
-fn read_meta(bytes: &[u8]) -> Option<Meta> {
-    let (mut at, mut meta) = (0, Meta { request: None, id: 0, attachment: 0 });
-    while at < bytes.len() {
-        match field(bytes, &mut at)? {
-            (1, Value::Span(r)) => meta.request = Some(read_request(r)?),
-            (4, Value::Number(id)) => meta.id = id,
-            (5, Value::Number(n)) => meta.attachment = n as u32 as i32,
-            _ => {}
-        }
-    }
-    Some(meta)
-}
-
-#[derive(Default)]
-struct Cutter {
-    held: Vec<u8>,
-    at: usize,
-}
-
-impl Cutter {
-    fn feed(&mut self, piece: &[u8]) {
-        if self.at == self.held.len() {
-            self.held.clear();
-            self.at = 0;
-        } else if self.at > 65_536 && self.at > self.held.len() / 2 {
-            self.held.drain(..self.at);
-            self.at = 0;
-        }
-        self.held.extend_from_slice(piece);
-    }
-
-    fn next(&mut self) -> Option<(Meta, &[u8], &[u8])> {
-        let bytes = &self.held[self.at..];
-        if bytes.len() < 12 {
-            return None;
-        }
-        assert!(&bytes[..4] == b"PRPC");
-        let body = u32::from_be_bytes(bytes[4..8].try_into().unwrap()) as usize;
-        let meta_size = u32::from_be_bytes(bytes[8..12].try_into().unwrap()) as usize;
-        assert!(body <= 67_108_864 && meta_size <= body);
-        if bytes.len() < 12 + body {
-            return None;
-        }
-        let meta = read_meta(&bytes[12..12 + meta_size]).unwrap();
-        let rest = &bytes[12 + meta_size..12 + body];
-        let (payload, attachment) = rest.split_at(rest.len() - meta.attachment as usize);
-        self.at += 12 + body;
-        Some((meta, payload, attachment))
-    }
+/// What a tick of a seat did.
+pub enum Tick {
+    Moved,
+    Waits,
+    Idle,
 }
 
 fn echo() -> Meta {
     Meta {
         request: Some(Request { service: b"Echo".to_vec(), method: b"Echo".to_vec() }),
+        response: None,
         id: 12_345,
         attachment: 0,
     }
@@ -298,17 +163,7 @@ fn write_stream(size: usize) {
     std::io::stdout().write_all(&all).unwrap();
 }
 
-fn push_hex(text: &mut Vec<u8>, bytes: &[u8]) {
-    if bytes.is_empty() {
-        text.push(b'-');
-    }
-    for byte in bytes {
-        text.push(b"0123456789abcdef"[usize::from(byte >> 4)]);
-        text.push(b"0123456789abcdef"[usize::from(byte & 15)]);
-    }
-}
-
-fn push_frame(text: &mut Vec<u8>, (meta, payload, attachment): (Meta, &[u8], &[u8])) {
+fn push_frame(text: &mut Vec<u8>, (meta, payload, attachment): Frame<'_>) {
     text.extend_from_slice(b"frame");
     if let Some(request) = &meta.request {
         text.extend_from_slice(b" request ");
@@ -334,7 +189,7 @@ fn print_frames() {
             push_frame(&mut text, frame);
         }
         if n == 0 {
-            writeln!(text, "rest {}", cutter.held.len() - cutter.at).unwrap();
+            writeln!(text, "rest {}", cutter.rest()).unwrap();
         }
         std::io::stdout().write_all(&text).unwrap();
         text.clear();
@@ -344,8 +199,41 @@ fn print_frames() {
     }
 }
 
+// A script by turns, or by a drawn schedule: its report, or how many ticks it has and how many of them move.
+fn run(seed: Option<u64>, counts: bool) -> Result<Vec<u8>, String> {
+    let mut text = String::new();
+    std::io::stdin().read_to_string(&mut text).map_err(|fault| fault.to_string())?;
+    let mut script = Script::read(&text)?;
+    let tasks = std::mem::take(&mut script.clients);
+    let mut machine = Machine::new(&script, tasks);
+    if let Some(seed) = seed {
+        machine.play_drawn(seed);
+    }
+    machine.settle();
+    if counts {
+        return Ok(format!("{} {}\n", machine.ticks, machine.moved).into_bytes());
+    }
+    report(&script, &machine.table).map_err(|fault| fault.to_string())
+}
+
+fn print_run(words: &[String], counts: bool) {
+    let seed = (words[0] == "sim").then(|| words[1].parse().unwrap());
+    match run(seed, counts) {
+        Ok(text) => std::io::stdout().write_all(&text).unwrap(),
+        Err(fault) => {
+            eprintln!("{fault}");
+            std::process::exit(3);
+        }
+    }
+}
+
 fn main() {
     let words: Vec<String> = std::env::args().skip(1).collect();
+    match &words[0][..] {
+        "sim" | "replay" => return print_run(&words, false),
+        "ticks" => return print_run(&words[1..], true),
+        _ => {}
+    }
     let number = |i: usize| words[i].parse().unwrap();
     let (size, count) = (number(1), number(2));
     let bytes = match &words[0][..] {

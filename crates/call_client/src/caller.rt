@@ -12,10 +12,11 @@ ghost use Rattle.call_attempts.specs.Both.{HasNoLock};
 ghost use Rattle.call_client.specs.Acting.{MayGo};
 ghost use Rattle.call_client.specs.Running.{MayMakeAll, RunBy};
 
+use crate::running::{leave_all, make_or_starve};
 use call_attempts::Tables;
 use call_errors::CallSeat;
 use corr_id::IdSeat;
-use rpc_client::{Held, Told};
+use rpc_client::{Held, Told, give_all};
 use sock_io::{Gate, Out};
 use sock_message::{Call, NoMemory};
 use sock_programs::Task;
@@ -79,7 +80,7 @@ impl<O: Out> Caller<O> {
         rt: &R,
         tables: &Tables<O>,
         of: u16,
-        tasks: VecDeque<Task>,
+        mut tasks: VecDeque<Task>,
         gate: &G,
     ) -> Result<(), NoMemory>
         requires few { length tasks.items ≤ 65535 }
@@ -95,10 +96,10 @@ impl<O: Out> Caller<O> {
         ensures fed { IfOk result (λ _. self.new.calls.starved ≡ false) }
         ensures ran { RunBy O.state tables.now.socks.rule.plan tables.now.ids.plan (is_err result) tasks.items self.old self.new }
     {
-        'waits: for _ in rt.forever() {
-            gate.pass(rt, of, 1);
-        }
-        unreachable!()
+        let made = make_or_starve(self, rt, tables, of, &mut tasks, gate);
+        leave_all(self, tables, tasks);
+        give_all(&tables.socks, &mut self.seat, &mut self.held);
+        made
     }
 
     /// What it leaves.

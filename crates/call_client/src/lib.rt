@@ -2,6 +2,11 @@
 //! of them the retries that wait.
 #![tactic(auto)]
 
+mod acting;
 mod caller;
+mod running;
 
 pub use caller::{Caller, Spent};
+
+#[cfg(test)]
+mod tests;

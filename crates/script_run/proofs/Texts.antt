@@ -14,6 +14,7 @@ use Rattle.brpc_model.specs.Link.{LinkEnd, HalfAnswer, TakeAnswer}
 use Rattle.brpc_model.specs.Operations.{Turn, link_names, link_shapes, operations}
 use Rattle.brpc_model.specs.Causes.{HasFault}
 use Rattle.brpc_model.specs.PlaceWords.{ArePlaces, HasEachOutcome, IsReportText, outcomes_from}
+use Rattle.sock_io.specs.declared.link.Mode.TheVariants as mode
 use Rattle.sock_io.specs.Link.{OutState, InState, more_told}
 use Rattle.sock_model.specs.declared.home.Home.TheVariants.{Link}
 use Rattle.sock_programs.specs.Asides.{Taking, AtEnd, Closed, Broken}

@@ -14,7 +14,7 @@ use std::sync::{Arc, Wait};
 use std::thread::Threads;
 
 /// The script of a text that threads run.
-#[tactic(auto, using(script_threads::proofs::Plainly::built_callless, crate::proofs::Pieces::has_pieces))]
+#[tactic(auto, using(crate::proofs::Plain::loop_callless, crate::proofs::Pieces::has_pieces))]
 fn plain_script(alloc: Global, text: &[u8]) -> Option<Script>
     ensures script { IfSome result (λ script. (bytes : List ℕ) × (script_of bytes ≡ Ok script)) }
     ensures callless { IfSome result (λ script. is_callless script ≡ true) }

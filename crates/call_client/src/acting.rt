@@ -1,0 +1,184 @@
+// One operation of a client with calls.
+ghost use Rattle.std.specs.Prelude.{◌≡◌, ◌+◌, ◌<◌, ℕ, IfOk, IfErr, All, length, vec_capacity};
+ghost use Rattle.sock_table.specs.Passes.{IsPass};
+ghost use Rattle.sock_message.specs.Asked.{name_of};
+ghost use Rattle.corr_id.specs.Seats.{Stays};
+ghost use Rattle.rpc_client.specs.Seats.{MayAct, AtRest, StaysSeen, SameRefs};
+ghost use Rattle.rpc_client.specs.Acting.{OwnList};
+ghost use Rattle.call_errors.specs.Books.{stand_of};
+ghost use Rattle.call_writes.specs.Sending.{SentCalling};
+ghost use Rattle.call_attempts.specs.Both.{HasNoLock};
+ghost use Rattle.call_client.specs.Acting.{letter_of, stand, OpenedNext, MayGo, Needs, Acted};
+ghost use Rattle.call_client.specs.Running.{NotCalled};
+ghost use Rattle.call_client.specs.Making.{NotMade};
+
+use crate::caller::Caller;
+use call_attempts::{Called, Tables, call_one};
+use call_errors::{expire_one, join_one};
+use call_writes::send_calling;
+use message_parts::Parcel;
+use rpc_client::{drop_one, fail_one, hold_one, open_one};
+use sock_io::Out;
+use sock_message::{Call, Message, NoMemory};
+use sock_programs::Op;
+use sock_rule::Letter;
+use sock_words::{Label, Outcome};
+use std::sync::Wait;
+
+/// The next pass becomes a socket.
+fn open_next<O: Out>(caller: &mut Caller<O>, tables: &Tables<O>, name: u16, number: u16) -> Outcome
+    requires may { MayAct tables.now.socks.rule.table.shared.table_id tables.now.socks.rule.plan caller.old.seat }
+    requires name { name < tables.now.socks.rule.plan.names }
+    requires number { number < tables.now.socks.rule.plan.operations }
+    requires passes { All (IsPass tables.now.socks.rule.table.shared.table_id tables.now.socks.rule.plan) caller.old.passes.items }
+    requires pass { 0 < length caller.old.passes.items }
+    ensures rest { AtRest tables.now.socks.rule.table.shared.table_id tables.now.socks.rule.plan caller.old.seat caller.new.seat }
+    ensures by { OpenedNext tables.now.socks.rule.plan name number result caller.old.passes.items caller.old.seat.me caller.new.passes.items caller.new.seat.me }
+    ensures passes { All (IsPass tables.now.socks.rule.table.shared.table_id tables.now.socks.rule.plan) caller.new.passes.items }
+    ensures refs { SameRefs caller.old.seat.me.0 caller.new.seat.me.0 }
+    ensures lists { caller.new.seat.me.0.lists ≡ caller.old.seat.me.0.lists }
+    ensures seen { StaysSeen caller.old.seat.me.0 caller.new.seat.me.0 }
+    ensures others { (caller.new.held ≡ caller.old.held) × (caller.new.outcomes ≡ caller.old.outcomes) × (caller.new.calls ≡ caller.old.calls) × (caller.new.sent ≡ caller.old.sent) }
+{
+    let Some(pass) = caller.passes.pop() else {
+        unreachable!();
+    };
+    open_one(&tables.socks, &mut caller.seat, name, number, pass)
+}
+
+/// The letter of the send that is this operation.
+fn send_letter(number: u16, message: Message) -> Letter
+    ensures { result ≡ letter_of number message }
+{
+    Letter {
+        bytes: Parcel::Message(message),
+        label: Label {
+            client: 0,
+            operation: number,
+            attempt: 0,
+            place: 8 * u32::from(number),
+        },
+        owner: 0,
+    }
+}
+
+/// A message is sent.
+fn send_message<O: Out, R: Wait>(
+    caller: &mut Caller<O>,
+    rt: &R,
+    tables: &Tables<O>,
+    name: u16,
+    number: u16,
+    message: Message,
+) -> Option<Outcome>
+    requires may { MayAct tables.now.socks.rule.table.shared.table_id tables.now.socks.rule.plan caller.old.seat }
+    requires own { OwnList caller.old.sent caller.old.seat.me.0 }
+    requires room { caller.old.sent < 33554431 }
+    requires ids { HasNoLock tables.now.ids.table.shared.table_id caller.old.calls }
+    requires name { name < tables.now.socks.rule.plan.names }
+    requires number { number < tables.now.socks.rule.plan.operations }
+    ensures rest { AtRest tables.now.socks.rule.table.shared.table_id tables.now.socks.rule.plan caller.old.seat caller.new.seat }
+    ensures own { OwnList caller.new.sent caller.new.seat.me.0 }
+    ensures ids { HasNoLock tables.now.ids.table.shared.table_id caller.new.calls }
+    ensures same { Stays caller.old.calls.seat caller.new.calls.seat }
+    ensures by { SentCalling O.state tables.now.socks.rule.plan tables.now.ids.plan.slots name (letter_of number message) result caller.old.seat.me.0 (stand_of caller.old.calls) caller.new.seat.me.0 (stand_of caller.new.calls) }
+    ensures refs { SameRefs caller.old.seat.me.0 caller.new.seat.me.0 }
+    ensures seen { StaysSeen caller.old.seat.me.0 caller.new.seat.me.0 }
+    ensures others { (caller.new.held ≡ caller.old.held) × (caller.new.passes ≡ caller.old.passes) × (caller.new.outcomes ≡ caller.old.outcomes) }
+{
+    let msg = send_letter(number, message);
+    caller.sent += 1;
+    send_calling(
+        rt,
+        &tables.socks,
+        &tables.ids,
+        &mut caller.seat,
+        &mut caller.calls,
+        name,
+        msg,
+    )
+}
+
+/// A call begins. Where it doesn't, for want of memory or of an id slot, it isn't made.
+fn begin_call<O: Out, R: Wait>(
+    caller: &mut Caller<O>,
+    rt: &R,
+    tables: &Tables<O>,
+    call: Call,
+) -> Result<Option<Outcome>, NoMemory>
+    requires may { MayAct tables.now.socks.rule.table.shared.table_id tables.now.socks.rule.plan caller.old.seat }
+    requires own { OwnList caller.old.sent caller.old.seat.me.0 }
+    requires room { caller.old.sent < 33554431 }
+    requires ids { HasNoLock tables.now.ids.table.shared.table_id caller.old.calls }
+    requires name { name_of call 0 < tables.now.socks.rule.plan.names }
+    requires operation { (call.operation < tables.now.socks.rule.plan.operations) × (call.operation < tables.now.ids.plan.operations) }
+    ensures rest { AtRest tables.now.socks.rule.table.shared.table_id tables.now.socks.rule.plan caller.old.seat caller.new.seat }
+    ensures own { OwnList caller.new.sent caller.new.seat.me.0 }
+    ensures ids { HasNoLock tables.now.ids.table.shared.table_id caller.new.calls }
+    ensures same { Stays caller.old.calls.seat caller.new.calls.seat }
+    ensures called { IfOk result (λ o. (number : ℕ) → Acted O.state tables.now.socks.rule.plan tables.now.ids.plan number (Op.Call call) o (stand caller.old) (stand caller.new)) }
+    ensures not_called { IfErr result (λ _. NotCalled O.state tables.now.socks.rule.plan tables.now.ids.plan call (stand caller.old) (stand caller.new)) }
+    ensures refs { SameRefs caller.old.seat.me.0 caller.new.seat.me.0 }
+    ensures seen { StaysSeen caller.old.seat.me.0 caller.new.seat.me.0 }
+    ensures others { (caller.new.held ≡ caller.old.held) × (caller.new.passes ≡ caller.old.passes) × (caller.new.outcomes ≡ caller.old.outcomes) }
+{
+    caller.sent += 1;
+    let called = call_one(rt, tables, &mut caller.seat, &mut caller.calls, call)?;
+    match called {
+        Called::Unopened => Ok(Some(Outcome::Unopened)),
+        Called::NoSlot => Err(NoMemory),
+        Called::Begun(_) => Ok(None),
+    }
+}
+
+/// What becomes of an operation, of which the client made `made` before. Nothing is told of a send that was accepted, and of a call
+/// that has begun.
+pub fn act<O: Out, R: Wait>(
+    caller: &mut Caller<O>,
+    rt: &R,
+    tables: &Tables<O>,
+    made: u16,
+    number: u16,
+    op: Op,
+) -> Result<Option<Outcome>, NoMemory>
+    requires made { made < 65535 }
+    requires go { MayGo tables.now.socks.rule.table.shared.table_id tables.now.socks.rule.plan tables.now.ids.table.shared.table_id made caller.old }
+    requires number { number < tables.now.socks.rule.plan.operations }
+    requires needs { Needs tables.now.socks.rule.plan tables.now.ids.plan number op (length caller.old.passes.items) }
+    requires sent { caller.old.sent < 33554431 }
+    requires room { length caller.old.held.items < vec_capacity caller.old.held }
+    ensures go { MayGo tables.now.socks.rule.table.shared.table_id tables.now.socks.rule.plan tables.now.ids.table.shared.table_id (made + 1) caller.new }
+    ensures acted { IfOk result (λ o. Acted O.state tables.now.socks.rule.plan tables.now.ids.plan number op o (stand caller.old) (stand caller.new)) }
+    ensures not_made { IfErr result (λ _. NotMade O.state tables.now.socks.rule.plan tables.now.ids.plan op (stand caller.old) (stand caller.new)) }
+    ensures seen { StaysSeen caller.old.seat.me.0 caller.new.seat.me.0 }
+    ensures share { caller.new.seat.me.0.share ≡ caller.old.seat.me.0.share }
+    ensures same { Stays caller.old.calls.seat caller.new.calls.seat }
+    ensures told { caller.new.outcomes ≡ caller.old.outcomes }
+    ensures capacity { vec_capacity caller.new.held ≡ vec_capacity caller.old.held }
+{
+    match op {
+        Op::Open(name, _) => Ok(Some(open_next(caller, tables, name, number))),
+        Op::Send(name, message) => { Ok(send_message(caller, rt, tables, name, number, message)) }
+        Op::Call(call) => begin_call(caller, rt, tables, call),
+        Op::Expire(of) => {
+            let outcome = expire_one(rt, &tables.ids, &mut caller.calls, of);
+            Ok(Some(outcome))
+        }
+        Op::Join(of) => {
+            let outcome = join_one(rt, &tables.ids, &mut caller.calls, of);
+            Ok(Some(outcome))
+        }
+        Op::Hold(name) => {
+            let outcome = hold_one(&tables.socks, &mut caller.seat, &mut caller.held, name);
+            Ok(Some(outcome))
+        }
+        Op::Drop(name) => {
+            let outcome = drop_one(&tables.socks, &mut caller.seat, &mut caller.held, name);
+            Ok(Some(outcome))
+        }
+        Op::Fail(name, code) => {
+            let outcome = fail_one(&tables.socks, &mut caller.seat, name, code);
+            Ok(Some(outcome))
+        }
+    }
+}
