@@ -72,7 +72,7 @@ module _ {O I P : Type 0} (out : O → OutState) (inn : I → InState) where
 
   module _ (g : Ghosts O) (script : List Item) (text : List ℕ) (links : List LinkEnd) where
     -- it has the outcomes and place words of its report
-    pub text_of : IsCallRun {P = P} g out inn script text links → IsCallText script text links
+    pub text_of : IsCallRun P g out inn script text links → IsCallText script text links
     text_of r = record {
       outcomes = outcomes_of (plan_of script).operations r.told r.ended r.last;
       places = r.places;
@@ -84,7 +84,7 @@ module _ {O I P : Type 0} (out : O → OutState) (inn : I → InState) where
         → p ≡ plan_of script → slots ≡ length (calls script) → os ≡ opens script → cs ≡ calls script → q ≡ ids_of p slots → words ≡ places
         → setup ∷ clients ≡ all_tasks script → RanOn g out p slots setup clients os told ended places vrefs outs (map (λ (s : IdSeat). s.me.0) ids)
         → map (λ (e : Ends O I P). e.out) ends ≡ outs → HasRead out inn q cs ids ends ends' last → links ≡ map end_at ends'
-        → IsReported script text (outcomes_of p.operations told ended last) words (map end_at ends') → IsCallRun {P = P} g out inn script text links
+        → IsReported script text (outcomes_of p.operations told ended last) words (map end_at ends') → IsCallRun P g out inn script text links
     run_is p slots setup clients os cs told ended places words vrefs outs ids q ends ends' last ep es eo ec eq ew tasks ran halves read given reported =
         let qs : q ≡ ids_of (plan_of script) (length (calls script)) = eq ∙ (ap (λ (x : Plan). ids_of x slots) ep ∙ ap (ids_of (plan_of script)) es) in record {
           setup = setup;
@@ -110,6 +110,6 @@ module _ {O I P : Type 0} (out : O → OutState) (inn : I → InState) where
               (subst (λ (x : Plan). IsReported script text (outcomes_of x.operations told ended last) words (map end_at ends')) ep reported));
         }
 
-  pub text_if : (g : Ghosts O) (script : List Item) (links : List LinkEnd) {T E : Type 0} (items : T → List ℕ) (r : Result T E) → IfOk r (λ t. IsCallRun {P = P} g out inn script (items t) links) → IfOk r (λ t. IsCallText script (items t) links)
+  pub text_if : (g : Ghosts O) (script : List Item) (links : List LinkEnd) {T E : Type 0} (items : T → List ℕ) (r : Result T E) → IfOk r (λ t. IsCallRun P g out inn script (items t) links) → IfOk r (λ t. IsCallText script (items t) links)
   text_if g script links items (Ok t) h = text_of g script (items t) links h
   text_if g script links items (Err e) h = tt

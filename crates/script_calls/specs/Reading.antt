@@ -17,11 +17,10 @@ use Rattle.rpc_reader.specs.Resting.{RestEnded}
 abbrev pub IdSeat : Type 0
 IdSeat = Seat (Option Asked) (View Asked)
 
--- each of these seats asked for the calls of these operations, one seat after the other, and ended those that hadn't ended
+-- each of these seats asked for the calls of these operations, one seat after the other, the last one first, and ended those that hadn't ended; the seats as they were left, in that order
 abbrev pub EachRested : Plan → ℕ → List ℕ → List IdSeat → List IdSeat → Books → Books → Type 0
-EachRested p code operations [] [] b b' = b' ≡ b
-EachRested p code operations (s ∷ ss) (t ∷ ts) b b' = (m : Books) × RestEnded p code operations s.me.0 t.me.0 b m × EachRested p code operations ss ts m b'
-EachRested p code operations ss ts b b' = ⊥
+EachRested p code operations [] left b b' = (left ≡ []) × (b' ≡ b)
+EachRested p code operations (s ∷ ss) left b b' = (t : IdSeat) × (ts : List IdSeat) × (m : Books) × (left ≡ ts ++ t ∷ []) × EachRested p code operations ss ts b m × RestEnded p code operations s.me.0 t.me.0 m b'
 
 -- a reader that read nothing yet, with this seat
 abbrev pub begins : IdSeat → Books

@@ -42,7 +42,7 @@ pub record IsCallText (script : List Item) (text : List ℕ) (ends : List LinkEn
 
 -- The script was run: its clients on threads, and behind them main read the links and saw to the calls that were left; the text reports what became of its
 -- operations by that, over the links that were given back.
-pub record IsCallRun {O I P : Type 0} (g : Ghosts O) (out : O → OutState) (inn : I → InState) (script : List Item) (text : List ℕ) (links : List LinkEnd) : Type 0 where
+pub record IsCallRun (P : Type 0) {O I : Type 0} (g : Ghosts O) (out : O → OutState) (inn : I → InState) (script : List Item) (text : List ℕ) (links : List LinkEnd) : Type 0 where
   pub setup : List Task
   pub clients : List (List Task)
   pub tasks : setup ∷ clients ≡ all_tasks script

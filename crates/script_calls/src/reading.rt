@@ -1,5 +1,5 @@
 // What is read once all clients of a run have ended, and how the table of ids ends.
-ghost use Rattle.std.specs.Prelude.{◌≡◌, ◌<◌, ◌≤◌, All, IfOk, length, map};
+ghost use Rattle.std.specs.Prelude.{◌≡◌, ◌<◌, ◌≤◌, [], All, IfOk, length, map, vec_len, vec_capacity};
 ghost use Rattle.corr_core.specs.Law.{total};
 ghost use Rattle.rpc_reader.specs.Books.{books};
 ghost use Rattle.rpc_reader.specs.Seats.{IsOpen, Rests};
@@ -16,24 +16,29 @@ use sock_words::EEOF;
 use std::alloc::Global;
 use std::sync::Wait;
 
-/// Each of these calls that hasn't ended ends, as one of these seats after the other finds it.
+/// Each of these calls that hasn't ended ends, as one of these seats after the other finds it, the last one first. The seats are
+/// handed over in that order.
 fn end_each<R: Wait>(
     rt: &R,
     ids: &IdTable<Call>,
     calls: &mut AnswerSeat,
-    asking: &mut [IdSeat<Call>],
+    mut asking: Vec<IdSeat<Call>>,
+    done: &mut Vec<IdSeat<Call>>,
     operations: &[u16],
 )
     requires seat { IsOpen ids.now.table.shared.table_id calls.old.seat }
-    requires asking { AreLeft ids.now.table.shared.table_id asking.old }
+    requires asking { AreLeft ids.now.table.shared.table_id asking.items }
     requires operations { All (λ o. o < ids.now.plan.operations) operations.now }
+    requires room { (done.old.items ≡ []) × (vec_len done.old ≡ 0) × (length asking.items < vec_capacity done.old) }
     ensures ids { Rests calls.old.seat calls.new.seat }
-    ensures left { AreLeft ids.now.table.shared.table_id asking.new }
-    ensures all { total (λ s. s.me.0.share) asking.new ≡ total (λ s. s.me.0.share) asking.old }
-    ensures rest { EachRested ids.now.plan EEOF operations.now asking.old asking.new (books calls.old) (books calls.new) }
+    ensures left { AreLeft ids.now.table.shared.table_id done.new.items }
+    ensures all { total (λ s. s.me.0.share) done.new.items ≡ total (λ s. s.me.0.share) asking.items }
+    ensures rest { EachRested ids.now.plan EEOF operations.now asking.items done.new.items (books calls.old) (books calls.new) }
+    ensures room { vec_len done.new < vec_capacity done.new }
 {
-    'asks: for seat in asking.iter_mut() {
-        end_rest(rt, ids, calls, seat, operations, EEOF);
+    'asks: while let Some(mut seat) = asking.pop() {
+        end_rest(rt, ids, calls, &mut seat, operations, EEOF);
+        done.push_reserved(seat);
     }
 }
 
@@ -61,10 +66,11 @@ pub fn read_rest<L: Linker, R: Wait>(
     ensures prompt { L.prompt links.new ≡ L.prompt links.old }
     ensures faults { L.faults links.new ≡ L.faults links.old }
 {
+    let mut done = Vec::with_capacity(alloc, seats.len())?;
     let main = seats.remove(0);
     let mut calls = AnswerSeat::new(alloc, main);
     let read = read_links(rt, &ids, &mut calls, operations, links, ends);
-    end_each(rt, &ids, &mut calls, seats.as_mut_slice(), operations);
+    end_each(rt, &ids, &mut calls, seats, &mut done, operations);
     let AnswerSeat {
         seat,
         early: _,
@@ -72,8 +78,8 @@ pub fn read_rest<L: Linker, R: Wait>(
         starved,
         alloc: _,
     } = calls;
-    seats.push_reserved(seat);
-    let Ok(_words) = ids.close(alloc, seats) else {
+    done.push_reserved(seat);
+    let Ok(_words) = ids.close(alloc, done) else {
         return Err(NoMemory);
     };
     if read.is_err() || starved {

@@ -92,7 +92,7 @@ fn run_over<L: Linker, G: Gate + Sync, R: Threads + Wait + Sync>(
     requires few { length ends.items ≤ 256 }
     requires opened { length (L.asked links.old) ≡ length ends.items }
     requires back { L.back links.old ≡ [] }
-    ensures ran { IfOk result (λ text. IsCallRun {P = L.P} L.O.Out L.O.state L.I.state script.now text.items (L.back links.new)) }
+    ensures ran { IfOk result (λ text. IsCallRun L.P L.O.Out L.O.state L.I.state script.now text.items (L.back links.new)) }
     ensures back { length (L.back links.new) ≡ length ends.items }
     ensures numbered { AreNumbered 0 (L.back links.new) }
     ensures asked { L.asked links.new ≡ L.asked links.old }
@@ -188,7 +188,7 @@ pub fn run_calls_on_threads<L: Linker, G: Gate + Sync, R: Threads + Wait + Sync>
     requires pieces { list_all has_piece script.now ≡ true }
     requires asked { L.asked links.old ≡ [] }
     requires back { L.back links.old ≡ [] }
-    ensures ran { IfOk result (λ text. IsCallRun {P = L.P} L.O.Out L.O.state L.I.state script.now text.items (L.back links.new)) }
+    ensures ran { IfOk result (λ text. IsCallRun L.P L.O.Out L.O.state L.I.state script.now text.items (L.back links.new)) }
     ensures text { IfOk result (λ text. IsCallText script.now text.items (L.back links.new)) }
     ensures unopened { IsErrOf result OpenFault.Failed → AreUntouched 0 (L.back links.new) }
     ensures all { OnOk result (length (L.back links.new) ≡ length (link_names script.now)) }
