@@ -83,11 +83,11 @@ returns-in-Ok-run_on-clause-ran g c =
     let count = c.in-Ok-run_on.ensures.ran.closed.count in
     let links = ap (λ (x : Plan). x.links) c.in-Ok.ensures.plan in let all = c.requires.all in
     if_moved _ _ c.or_no_memory.result c.finish-text.result c.or_no_memory.ensures.ok c.finish-text.ensures.text (λ t q.
-      run_is g.row.L-P.Denot g.L.O.Out.state g.L.I.In.state g.L.O.Out c.args.script.now t.items _ c.in-Ok.ready.plan c.in-Ok.ready.slots c.in-Ok.ready.setup.items (map (λ v. v.items) c.in-Ok.ready.clients.items) c.deref.result.now c.deref-in-Ok-run_on.result.now
-      (map (λ v. v.items) r.told.items) (map (λ v. v.items) r.ended.items) r.places.items r.places.items r.vrefs.items r.outs.items r.seats.items r.ids.plan c.as_mut_slice.result.now c.finish-text.new.ends q.0
-      c.in-Ok.ensures.plan c.in-Ok.ensures.slots (c.deref.ensures.value ∙ c.in-Ok.ensures.opens_are) (c.deref-in-Ok-run_on.ensures.value ∙ c.in-Ok.ensures.calls_are) c.in-Ok-run_on.ensures.ids.0 refl c.in-Ok.ensures.tasks c.in-Ok-run_on.ensures.ran
-      (ap (map (λ e. e.out)) (c.as_mut_slice.ensures.value ∙ c.join.ensures) ∙ joined_outs g.L.O.Out.state g.L.I.In.state _ _ (omega (arith, rests, count, links, all)))
-      q.1 (c.give_back-in-Ok-run_on.ensures.back ∙ ap (map (end_at g.L.O.Out.state g.L.I.In.state)) lent) q.2)
+    run_is g.row.L-P.Denot g.L.O.Out.state g.L.I.In.state g.L.O.Out c.args.script.now t.items _ c.in-Ok.ready.plan c.in-Ok.ready.slots c.in-Ok.ready.setup.items (map (λ v. v.items) c.in-Ok.ready.clients.items) c.deref.result.now c.deref-in-Ok-run_on.result.now
+    (map (λ v. v.items) r.told.items) (map (λ v. v.items) r.ended.items) r.places.items r.places.items r.vrefs.items r.outs.items r.seats.items r.ids.plan c.as_mut_slice.result.now c.finish-text.new.ends q.0
+    c.in-Ok.ensures.plan c.in-Ok.ensures.slots (c.deref.ensures.value ∙ c.in-Ok.ensures.opens_are) (c.deref-in-Ok-run_on.ensures.value ∙ c.in-Ok.ensures.calls_are) c.in-Ok-run_on.ensures.ids.0 refl c.in-Ok.ensures.tasks c.in-Ok-run_on.ensures.ran
+    (ap (map (λ e. e.out)) (c.as_mut_slice.ensures.value ∙ c.join.ensures) ∙ joined_outs g.L.O.Out.state g.L.I.In.state _ _ (omega (arith, rests, count, links, all)))
+    q.1 (c.give_back-in-Ok-run_on.ensures.back ∙ ap (map (end_at g.L.O.Out.state g.L.I.In.state)) lent) q.2)
 
 pub returns-in-Ok-run_on-clause-back : goal.returns-in-Ok-run_on-clause-back
 returns-in-Ok-run_on-clause-back g c =
