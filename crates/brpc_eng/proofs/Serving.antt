@@ -1,11 +1,10 @@
 -- How `serve` ends, by what its call says.
-use Rattle.std.proofs.Common.{◌≡◌, ℕ, ◌+◌, ◌⊎◌, inl, inr, Bool, true, false, ◌&&◌, ◌||◌, List, [], ◌∷◌, ◌++◌, length, map, Result, Ok, Err, refl, sym, ap, ◌∙◌, subst, arith}
+use Rattle.std.proofs.Common.{◌≡◌, ℕ, ◌⊎◌, inl, inr, Bool, true, false, ◌&&◌, ◌||◌, List, [], ◌∷◌, ◌++◌, map, Result, Ok, refl, ap, ◌∙◌, subst, arith}
 use Rattle.serve_port.specs.declared.service.ServiceEnd.{ServiceEnd}
 use Rattle.serve_port.specs.declared.service.ServiceEnd.TheVariants as end_
 use Rattle.serve_port.specs.declared.service.ServeFault.{ServeFault}
-use Rattle.serve_port.specs.declared.service.ServeFault.TheVariants as fault_
 use Rattle.serve_port.specs.Serving.{ServedConnection, LinkerState, ServesAll, is_failing, is_faulty, is_whole, any_failing, any_faulty, all_whole}
-use Rattle.brpc_eng.specs.Answers.{HaveRisen, Output, Links, TextWritten, WroteNothing, ServeEnds, ServedWhole, NotAccepted, ConnectionFailed, MetFault, ServeRanOut, ServedPort, served_text}
+use Rattle.brpc_eng.specs.Answers.{Output, Links, TextWritten, WroteNothing, ServeEnds, ServedWhole, ServeRanOut, ServedPort, served_text}
 
 pub served_written : (out : Output) (count frames status : ℕ) (text : List ℕ) → text ≡ served_text count frames → TextWritten out text status → TextWritten out (served_text count frames) status ⊎ ((status ≡ 7) × WroteNothing out)
 served_written out count frames status text e w = inl (subst (λ x. TextWritten out x status) e w)
