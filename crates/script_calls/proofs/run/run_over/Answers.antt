@@ -1,6 +1,5 @@
-use Rattle.std.proofs.Common.{◌≡◌, ◌≤◌, refl, map, length, ap, sym, subst, ◌∙◌, arith}
+use Rattle.std.proofs.Common.{refl, map, length, ap, sym, subst, ◌∙◌, arith}
 use Rattle.std.proofs.lemmas.List.{length-map}
-use Rattle.sock_io.specs.Link.{end_of}
 use Rattle.sock_open.specs.Opening.{MayBegin, AreFresh}
 use Rattle.sock_programs.specs.Tasks.{plan_of}
 use Rattle.sock_words.specs.declared.plain.Plan.{Plan}
@@ -10,7 +9,7 @@ use Rattle.script_threads.proofs.Backs.{are_fresh}
 use Rattle.script_threads.proofs.Giving.{closed_back, give_numbered, give_long}
 use Rattle.script_threads.proofs.MayAsk.{script_begins}
 use Rattle.script_calls.proofs.MayCall.{script_may}
-use Rattle.script_calls.proofs.Numbers.{few_calls, few_operations, opens_below, calls_below, some_ids}
+use Rattle.script_calls.proofs.Numbers.{few_calls, few_operations, opens_below, calls_below}
 use Rattle.thread_run.proofs.Manning.{whole_lent}
 use Rattle.script_threads.specs.Halves.{rest_of}
 use Rattle.script_links.specs.Given.{AreNumbered}
