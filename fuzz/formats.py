@@ -114,9 +114,8 @@ class Script:
                 raise Fault(place, 11)
 
     def is_for_threads(self):
-        """Whether `run` runs it: no line on calls, and no link with a server or an end."""
-        on_calls = any(item[0] in ('call', 'expire', 'join') for _, _, item in self.operations)
-        return not on_calls and not any('serve' in shape or 'end' in shape for _, shape in self.links)
+        """Whether `run` runs it over links in memory: no line waits for a call."""
+        return not any(item[0] == 'join' for _, _, item in self.operations)
 
     def item(self, parts, first=b'', *words):
         """What a line says, by itself: its first word and what stands behind it."""

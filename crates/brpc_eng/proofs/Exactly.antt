@@ -19,11 +19,11 @@ use Rattle.sock_io.specs.Memory.{MemInState, mem_in}
 use Rattle.loop_link.specs.Serving.{LoopInState, loop_in}
 use Rattle.script_links.specs.Offered.{TellOffers}
 use Rattle.script_run.specs.Played.{TellClosed}
-use Rattle.script_threads.specs.Built.{is_built}
+use Rattle.script_calls.specs.Built.{is_runnable}
 use Rattle.serve_port.specs.Serving.{ServedConnection}
 use Rattle.brpc_eng.proofs.Statuses.{each_script_is_run, IsUnbuilt, unbuilt_script_exactly}
 use Rattle.brpc_eng.specs.Streams.{script_limit, IsAtEnd}
-use Rattle.brpc_eng.specs.Answers.{HaveRisen, StandStill, AllTell, edges_of, Input, Output, Links, TextWritten, Ran, Reported, MemoryRanOut, OpenFailed, RanOnThreads, ThreadsReported, ThreadsRanOut, ThreadsNotOpened, ScriptNotBuilt, ScriptEnd, FaultWritten, Replayed, RanScript, FaultyScript, SourceFailed, TooLong, NoMemory, Answers, NoCommand, Generated, Generates, LoadRan, LoadSummed, LoadRanOut, LoadNotOpened, Loads, PrintsInput, Replays, Simulates, RunsOnThreads, ServeEnds, ServedWhole, NotAccepted, ConnectionFailed, MetFault, ServeRanOut, ServesPort, run_mode, frames_status, FramesPrinted}
+use Rattle.brpc_eng.specs.Answers.{HaveRisen, StandStill, AllTell, edges_of, Input, Output, Links, TextWritten, Ran, Reported, MemoryRanOut, OpenFailed, RanOnThreads, ThreadsReported, CallsReported, ThreadsRanOut, ThreadsNotOpened, ScriptNotBuilt, ScriptEnd, FaultWritten, Replayed, RanScript, FaultyScript, SourceFailed, TooLong, NoMemory, Answers, NoCommand, Generated, Generates, LoadRan, LoadSummed, LoadRanOut, LoadNotOpened, Loads, PrintsInput, Replays, Simulates, RunsOnThreads, ServeEnds, ServedWhole, NotAccepted, ConnectionFailed, MetFault, ServeRanOut, ServesPort, run_mode, frames_status, FramesPrinted}
 
 -- ## Status 2
 
@@ -38,6 +38,7 @@ not_two_ran turns script out links status (OpenFailed s rose back wrote) = λ e.
 
 not_two_threads : (mode : Mode) (script : List Item) (out : Output) (links : Links) (status : ℕ) → RanOnThreads mode script out links status → status ≢ 2
 not_two_threads mode script out links status (ThreadsReported built text is wrote) = not_two_written out text status wrote
+not_two_threads mode script out links status (CallsReported unbuilt_ taken text is wrote) = not_two_written out text status wrote
 not_two_threads mode script out links status (ThreadsRanOut built s wrote) = λ e. absurd (omega (arith, e, s))
 not_two_threads mode script out links status (ThreadsNotOpened built s rose back wrote) = λ e. absurd (omega (arith, e, s))
 not_two_threads mode script out links status (ScriptNotBuilt unbuilt s none_ wrote) = λ e. absurd (omega (arith, e, s))
@@ -116,8 +117,9 @@ calm_ran turns script input out links status calm (Reported text fits of_run wro
 calm_ran turns script input out links status calm (MemoryRanOut s wrote) = inr s
 calm_ran turns script input out links status calm (OpenFailed s rose back wrote) = absurd (calm.linker rose)
 
-calm_threads : (mode : Mode) (script : List Item) (input : Input) (out : Output) (links : Links) (status : ℕ) → IsCalm input out links → is_built mode script ≡ true → RanOnThreads mode script out links status → (status ≡ 0) ⊎ (status ≡ 7)
+calm_threads : (mode : Mode) (script : List Item) (input : Input) (out : Output) (links : Links) (status : ℕ) → IsCalm input out links → is_runnable mode script ≡ true → RanOnThreads mode script out links status → (status ≡ 0) ⊎ (status ≡ 7)
 calm_threads mode script input out links status calm built (ThreadsReported same text is wrote) = inl (calm_written out text status calm.sink wrote)
+calm_threads mode script input out links status calm built (CallsReported unbuilt_ taken text is wrote) = inl (calm_written out text status calm.sink wrote)
 calm_threads mode script input out links status calm built (ThreadsRanOut same s wrote) = inr s
 calm_threads mode script input out links status calm built (ThreadsNotOpened same s rose back wrote) = absurd (calm.linker rose)
 calm_threads mode script input out links status calm built (ScriptNotBuilt unbuilt s none_ wrote) = let f : true ≡ false = sym built ∙ unbuilt in absurd (cc)
@@ -138,7 +140,7 @@ calm_replayed ran script given input out links bytes status calm came few is run
 abbrev RunsScript : List Item → Command → Type 0
 RunsScript script Replay = Unit {0}
 RunsScript script (Sim seed) = Unit {0}
-RunsScript script (Run port) = is_built (run_mode port) script ≡ true
+RunsScript script (Run port) = is_runnable (run_mode port) script ≡ true
 RunsScript script other = ⊥
 
 -- `replay` and `sim` of a script, and `run` of one that is built, with no fault of the outside, end with its report or for want of memory
@@ -165,9 +167,9 @@ report_comes script given words input out links status command (RunsOnThreads po
     let P : Option (List ℕ) → Type 0 = λ x. Consumes x input.left replayed.bytes in
     let one : Some (Run port) ≡ Some command = sym named ∙ asked in
     let alike : Run port ≡ command = cc in
-    let built : is_built (run_mode port) script ≡ true = subst (RunsScript script) (sym alike) runs in
+    let built : is_runnable (run_mode port) script ≡ true = subst (RunsScript script) (sym alike) runs in
     calm_replayed _ script given input out links replayed.bytes status calm (subst P told replayed.came) few is
-    (λ read alike ran. calm_threads (run_mode port) read input out links status calm (subst (λ (s : List Item). is_built (run_mode port) s ≡ true) (sym alike) built) ran) replayed.replayed
+    (λ read alike ran. calm_threads (run_mode port) read input out links status calm (subst (λ (s : List Item). is_runnable (run_mode port) s ≡ true) (sym alike) built) ran) replayed.replayed
 report_comes script given words input out links status command (ServesPort port count named same served) asked runs told few is calm =
     let one : Some (Serve port count) ≡ Some command = sym named ∙ asked in
     let alike : Serve port count ≡ command = cc in absurd (subst (RunsScript script) (sym alike) runs)
@@ -236,6 +238,7 @@ still_faulty out line kind status (inr w) e = w.1.1
 
 still_threads : (mode : Mode) (script : List Item) (out : Output) (links : Links) (status : ℕ) → RanOnThreads mode script out links status → status ≡ 0 → StandStill out.faults
 still_threads mode script out links status (ThreadsReported built text is wrote) e = still_written out text status wrote e
+still_threads mode script out links status (CallsReported unbuilt_ taken text is wrote) e = still_written out text status wrote e
 still_threads mode script out links status (ThreadsRanOut built s wrote) e = wrote.1
 still_threads mode script out links status (ThreadsNotOpened built s rose back wrote) e = wrote.1
 still_threads mode script out links status (ScriptNotBuilt unbuilt s none_ wrote) e = absurd (omega (arith, e, s))

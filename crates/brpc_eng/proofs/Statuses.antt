@@ -5,9 +5,10 @@ use Rattle.brpc_model.specs.Items.{Item}
 use Rattle.brpc_model.specs.Operations.{Turn}
 use Rattle.brpc_model.specs.Script.{script_of}
 use Rattle.sock_io.specs.declared.link.Mode.{Mode}
-use Rattle.script_threads.specs.Built.{is_built}
+use Rattle.script_calls.specs.Built.{is_runnable}
+use Rattle.script_calls.proofs.Joinless.{built_runnable}
 use Rattle.brpc_eng.specs.Streams.{script_limit, IsAtEnd}
-use Rattle.brpc_eng.specs.Answers.{HaveRisen, Input, Output, Links, TextWritten, Ran, Reported, MemoryRanOut, OpenFailed, RanOnThreads, ThreadsReported, ThreadsRanOut, ThreadsNotOpened, ScriptNotBuilt, ScriptEnd, by_turns, FaultWritten, Replayed, RanScript, FaultyScript, SourceFailed, TooLong, NoMemory, ReplayedInput}
+use Rattle.brpc_eng.specs.Answers.{HaveRisen, Input, Output, Links, TextWritten, Ran, Reported, MemoryRanOut, OpenFailed, RanOnThreads, ThreadsReported, CallsReported, ThreadsRanOut, ThreadsNotOpened, ScriptNotBuilt, ScriptEnd, by_turns, FaultWritten, Replayed, RanScript, FaultyScript, SourceFailed, TooLong, NoMemory, ReplayedInput}
 
 -- ## What each way of ending says of the bytes that came
 
@@ -39,6 +40,7 @@ turns_run turns script out links status ran = is_run (turns script) script out l
 
 pub threads_run : (mode : Mode) → AreRuns (RanOnThreads mode)
 threads_run mode script out links status (ThreadsReported built text is wrote) = is_written out text status wrote
+threads_run mode script out links status (CallsReported unbuilt_ taken text is wrote) = is_written out text status wrote
 threads_run mode script out links status (ThreadsRanOut built s wrote) = inr (inr (inl s))
 threads_run mode script out links status (ThreadsNotOpened built s rose back wrote) = inr (inr (inr (inl s)))
 threads_run mode script out links status (ScriptNotBuilt unbuilt s none_ wrote) = inr (inr (inr (inr s)))
@@ -131,21 +133,23 @@ each_script_is_run turns input out links status read = not_ten turns input out l
 
 -- on threads, those that are built
 
-unbuilt_ran : (mode : Mode) (script : List Item) (out : Output) (links : Links) (status : ℕ) → RanOnThreads mode script out links status → status ≡ 10 → is_built mode script ≡ false
+unbuilt_ran : (mode : Mode) (script : List Item) (out : Output) (links : Links) (status : ℕ) → RanOnThreads mode script out links status → status ≡ 10 → is_runnable mode script ≡ false
 unbuilt_ran mode script out links status (ThreadsReported built text is wrote) e = absurd (not_ten_written out text status wrote e)
+unbuilt_ran mode script out links status (CallsReported unbuilt_ taken text is wrote) e = absurd (not_ten_written out text status wrote e)
 unbuilt_ran mode script out links status (ThreadsRanOut built s wrote) e = absurd (omega (arith, e, s))
 unbuilt_ran mode script out links status (ThreadsNotOpened built s rose back wrote) e = absurd (omega (arith, e, s))
 unbuilt_ran mode script out links status (ScriptNotBuilt unbuilt s none_ wrote) e = unbuilt
 
-ten_ran : (mode : Mode) (script : List Item) (out : Output) (links : Links) (status : ℕ) → RanOnThreads mode script out links status → is_built mode script ≡ false → status ≡ 10
-ten_ran mode script out links status (ThreadsReported built text is wrote) unbuilt = let f : true ≡ false = sym built ∙ unbuilt in absurd (cc)
+ten_ran : (mode : Mode) (script : List Item) (out : Output) (links : Links) (status : ℕ) → RanOnThreads mode script out links status → is_runnable mode script ≡ false → status ≡ 10
+ten_ran mode script out links status (ThreadsReported built text is wrote) unbuilt = let f : true ≡ false = sym (built_runnable mode script built) ∙ unbuilt in absurd (cc)
+ten_ran mode script out links status (CallsReported unbuilt_ taken text is wrote) unbuilt = let f : true ≡ false = sym taken ∙ unbuilt in absurd (cc)
 ten_ran mode script out links status (ThreadsRanOut built s wrote) unbuilt = let f : true ≡ false = sym built ∙ unbuilt in absurd (cc)
 ten_ran mode script out links status (ThreadsNotOpened built s rose back wrote) unbuilt = let f : true ≡ false = sym built ∙ unbuilt in absurd (cc)
 ten_ran mode script out links status (ScriptNotBuilt same s none_ wrote) unbuilt = s
 
 -- the whole input was read, and is a script that isn't built for links of this mode
 abbrev pub IsUnbuilt : Mode → Input → List ℕ → Type 0
-IsUnbuilt mode input bytes = IsAtEnd input.left × ((script : List Item) × (script_of bytes ≡ Ok script) × (is_built mode script ≡ false))
+IsUnbuilt mode input bytes = IsAtEnd input.left × ((script : List Item) × (script_of bytes ≡ Ok script) × (is_runnable mode script ≡ false))
 
 unbuilt_by : (mode : Mode) (input : Input) (out : Output) (links : Links) (bytes : List ℕ) (status : ℕ) → Replayed mode (RanOnThreads mode) input out links bytes status → status ≡ 10 → IsUnbuilt mode input bytes
 unbuilt_by mode input out links bytes status (RanScript end script is opened ran) e = (end, (script, is, unbuilt_ran mode script out links status ran e))
@@ -154,11 +158,11 @@ unbuilt_by mode input out links bytes status (SourceFailed s rose back wrote) e 
 unbuilt_by mode input out links bytes status (TooLong s long back wrote) e = absurd (omega (arith, e, s))
 unbuilt_by mode input out links bytes status (NoMemory s back wrote) e = absurd (omega (arith, e, s))
 
-ten_by : (mode : Mode) (input : Input) (out : Output) (links : Links) (bytes : List ℕ) (status : ℕ) (script : List Item) → Replayed mode (RanOnThreads mode) input out links bytes status → script_of bytes ≡ Ok script → is_built mode script ≡ false → (status ≡ 10) ⊎ EndedBefore input bytes status
+ten_by : (mode : Mode) (input : Input) (out : Output) (links : Links) (bytes : List ℕ) (status : ℕ) (script : List Item) → Replayed mode (RanOnThreads mode) input out links bytes status → script_of bytes ≡ Ok script → is_runnable mode script ≡ false → (status ≡ 10) ⊎ EndedBefore input bytes status
 ten_by mode input out links bytes status script (RanScript end other is opened ran) reads unbuilt =
     let one : Ok other ≡ Ok script = sym is ∙ reads in
     let alike : other ≡ script = cc in
-    let no : is_built mode other ≡ false = subst (λ (s : List Item). is_built mode s ≡ false) (sym alike) unbuilt in
+    let no : is_runnable mode other ≡ false = subst (λ (s : List Item). is_runnable mode s ≡ false) (sym alike) unbuilt in
     inl (ten_ran mode other out links status ran no)
 ten_by mode input out links bytes status script (FaultyScript end line kind is back wrote) reads unbuilt = absurd (cc)
 ten_by mode input out links bytes status script (SourceFailed s rose back wrote) reads unbuilt = inr (inl (s, rose))
@@ -166,5 +170,5 @@ ten_by mode input out links bytes status script (TooLong s long back wrote) read
 ten_by mode input out links bytes status script (NoMemory s back wrote) reads unbuilt = inr (inr (inr s))
 
 pub unbuilt_script_exactly : (mode : Mode) (input : Input) (out : Output) (links : Links) (status : ℕ) → (read : ReplayedInput mode (RanOnThreads mode) input out links status) →
-    (status ≡ 10 → IsUnbuilt mode input read.bytes) × ((script : List Item) → script_of read.bytes ≡ Ok script → is_built mode script ≡ false → (status ≡ 10) ⊎ EndedBefore input read.bytes status)
+    (status ≡ 10 → IsUnbuilt mode input read.bytes) × ((script : List Item) → script_of read.bytes ≡ Ok script → is_runnable mode script ≡ false → (status ≡ 10) ⊎ EndedBefore input read.bytes status)
 unbuilt_script_exactly mode input out links status read = (unbuilt_by mode input out links read.bytes status read.replayed, λ script reads unbuilt. ten_by mode input out links read.bytes status script read.replayed reads unbuilt)

@@ -35,6 +35,8 @@ use Rattle.script_run.specs.Causes.{CameLate, late_in}
 use Rattle.script_run.specs.Played.{IsRunText}
 use Rattle.script_threads.specs.Built.{is_built}
 use Rattle.script_threads.specs.Told.{IsThreadText}
+use Rattle.script_calls.specs.Built.{is_runnable}
+use Rattle.script_calls.specs.Told.{IsCallText}
 use Rattle.brpc_eng.specs.Streams.{script_limit, IsAtEnd}
 
 -- ## What a call finds outside, and what it leaves there
@@ -175,11 +177,14 @@ pub data RanOnThreads (mode : Mode) (script : List Item) (out : Output) (links :
   -- each operation has its outcome by what became of all others, and each link took the messages of its lines in one order, whole and once, those of each
   -- client in its own order; the text reports that, and fits
   ThreadsReported : is_built mode script ≡ true → (text : List ℕ) → IsThreadText script text links.ends → TextWritten out text status → RanOnThreads mode script out links status
-  ThreadsRanOut : is_built mode script ≡ true → status ≡ 7 → WroteNothing out → RanOnThreads mode script out links status
+  -- with calls, or with servers behind its links: the place words of the run tell an order of each link, each operation has an outcome or a message with a
+  -- place, and the text reports that
+  CallsReported : is_built mode script ≡ false → is_runnable mode script ≡ true → (text : List ℕ) → IsCallText script text links.ends → TextWritten out text status → RanOnThreads mode script out links status
+  ThreadsRanOut : is_runnable mode script ≡ true → status ≡ 7 → WroteNothing out → RanOnThreads mode script out links status
   -- the links that were opened before are given back, and nothing was done with them
-  ThreadsNotOpened : is_built mode script ≡ true → status ≡ 8 → HaveRisen links.faults → AreUntouched 0 links.ends → WroteNothing out → RanOnThreads mode script out links status
-  -- a line asks for a call or for something of one, or for a server in this process: no link is opened
-  ScriptNotBuilt : is_built mode script ≡ false → status ≡ 10 → OpenedNone links → Wrote out not_built_text → RanOnThreads mode script out links status
+  ThreadsNotOpened : is_runnable mode script ≡ true → status ≡ 8 → HaveRisen links.faults → AreUntouched 0 links.ends → WroteNothing out → RanOnThreads mode script out links status
+  -- a line waits for a call; or over links to another process a line asks for a call or for something of one: no link is opened
+  ScriptNotBuilt : is_runnable mode script ≡ false → status ≡ 10 → OpenedNone links → Wrote out not_built_text → RanOnThreads mode script out links status
 
 -- ## `replay`, `sim` and `run`
 

@@ -31,7 +31,7 @@ const USAGE: &[u8] =
 /// | 4 | only where the source failed |
 /// | 5 | only where the sink failed, in place of 0; a beginning of the report was written |
 /// | 6 | exactly where more than 1,048,576 bytes came, in `frames` more than 268,435,456 |
-/// | 7 | where memory ran out |
+/// | 7 | where memory ran out; in `run` of a script with calls also where no report could be made of what its threads left |
 /// | 8 | only where a link couldn't be opened, and those opened before are given back untouched; in `serve` only where an accept failed, or a put or a take of a connection |
 /// | 9 | exactly where the bytes read by `frames` have a faulty frame, also where the sink fails; the frames before it and the fault are written; in `serve` exactly where the bytes of a connection have one, and 8 isn't answered |
 /// | 10 | exactly where the command is `run` and the script has a line that isn't built for it; `not built` is written |

@@ -531,17 +531,19 @@ fn runs_on_threads(rt: HostRuntime) -> Result<(), Fail> {
     Ok(())
 }
 
-/// Scripts with a line that isn't built for threads.
-const UNBUILT: [&str; 3] = [
-    "open a serve\nclient\nsend a 61",
-    "open a end=3",
-    "open a\nclient\ncall a Echo.Echo -",
+/// Words and scripts with a line that isn't built for threads.
+const UNBUILT: [(&'static str, &'static str); 2] = [
+    (
+        "run",
+        "open a serve\nclient\ncall a Echo.Echo -\njoin 1.1",
+    ),
+    ("run 65535", "open a\nclient\ncall a Echo.Echo -"),
 ];
 
 #[test]
 fn refuses_on_threads(rt: HostRuntime) -> Result<(), Fail> {
-    for script in UNBUILT {
-        let (answered, written) = answer(&rt, "run", script.as_bytes(), CALM)?;
+    for (words, script) in UNBUILT {
+        let (answered, written) = answer(&rt, words, script.as_bytes(), CALM)?;
         assert_eq!(rt; answered, 10, "at {script}");
         assert_eq!(rt;
             written.as_slice(),
@@ -549,6 +551,57 @@ fn refuses_on_threads(rt: HostRuntime) -> Result<(), Fail> {
             "at {script}"
         );
     }
+    Ok(())
+}
+
+/// Scripts with calls or servers, and the reports of their runs on threads.
+const CALLED: [(&'static str, &'static str); 6] = [
+    (
+        "open a serve\nclient\ncall a Echo.Echo 6869",
+        "0.1 open 0 0 0\n1.1 call 1 answered 6869 -\nlink 0 a accepted 1 placed 1 took 30 5052504300000012000000100a0c0a044563686f12044563686f20026869\norder 0 1.1.0\nend\n",
+    ),
+    (
+        "open a\nclient\ncall a Echo.Echo 6869",
+        "0.1 open 0 0 0\n1.1 call 1 failed 1014\nlink 0 a accepted 1 placed 1 took 30 5052504300000012000000100a0c0a044563686f12044563686f20026869\norder 0 1.1.0\nend\n",
+    ),
+    (
+        "open a serve\nclient\ncall a Echo.Echo 6869\nexpire 1.1\nexpire 1.1",
+        "0.1 open 0 0 0\n1.1 call 1 failed 1008\n1.2 expired\n1.3 late\nlink 0 a accepted 1 placed 1 took 30 5052504300000012000000100a0c0a044563686f12044563686f20026869\norder 0 1.1.0\nend\n",
+    ),
+    (
+        "open a serve fail=1\nopen b serve\nclient\ncall a,b Echo.Echo 6869 retry=1",
+        "0.1 open 0 0 0\n0.2 open 1 0 1\n1.1 call 1 answered 6869 -\nlink 0 a accepted 1 placed 0 took 0 -\norder 0 1.1.0\nlink 1 b accepted 1 placed 1 took 30 5052504300000012000000100a0c0a044563686f12044563686f20036869\norder 1 1.1.1\nend\n",
+    ),
+    (
+        "open a serve\nclient\nsend a 61",
+        "0.1 open 0 0 0\n1.1 placed 0 0\nlink 0 a accepted 1 placed 1 took 1 61\norder 0 1.1.0\nend\n",
+    ),
+    (
+        "open a end=3",
+        "0.1 open 0 0 0\nlink 0 a accepted 0 placed 0 took 0 -\norder 0\nend\n",
+    ),
+];
+
+#[test]
+fn runs_calls_on_threads(rt: HostRuntime) -> Result<(), Fail> {
+    for (script, text) in CALLED {
+        let (status, written) = served(&rt, "run", script.as_bytes())?;
+        assert_eq!(rt; status, 0, "at {script}");
+        assert_eq!(rt; written.as_slice(), text.as_bytes(), "at {script}");
+    }
+    Ok(())
+}
+
+/// An `expire` comes before the call has begun, or ends it.
+#[test]
+fn races_an_expiry(rt: HostRuntime) -> Result<(), Fail> {
+    let script = b"open a serve\nclient\ncall a Echo.Echo 6869\nclient\nexpire 1.1";
+    let early: &[u8] = b"0.1 open 0 0 0\n1.1 call 1 answered 6869 -\n2.1 not begun\nlink 0 a accepted 1 placed 1 took 30 5052504300000012000000100a0c0a044563686f12044563686f20026869\norder 0 1.1.0\nend\n";
+    let late: &[u8] = b"0.1 open 0 0 0\n1.1 call 1 failed 1008\n2.1 expired\nlink 0 a accepted 1 placed 1 took 30 5052504300000012000000100a0c0a044563686f12044563686f20026869\norder 0 1.1.0\nend\n";
+    let (status, written) = served(&rt, "run", script)?;
+    assert_eq!(rt; status, 0);
+    let text = written.as_slice();
+    assert!(rt; text == early || text == late);
     Ok(())
 }
 

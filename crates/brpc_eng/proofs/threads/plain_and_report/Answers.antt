@@ -1,0 +1,17 @@
+use Rattle.std.proofs.Common.{rules, refl}
+use Rattle.script_threads.proofs.Plainly.{built_callless}
+use Rattle.script_calls.proofs.Joinless.{built_runnable}
+use Rattle.brpc_eng.proofs.OnThreads.{threads_reported, threads_ran_out, threads_not_opened}
+use Rattle.brpc_eng.proofs.threads.plain_and_report.Goals as goal
+
+pub run_script_on_threads-requires-clause-callless : goal.run_script_on_threads-requires-clause-callless
+run_script_on_threads-requires-clause-callless g c κs within = built_callless c.args.mode c.args.script.now c.requires.built
+
+pub returns-in-Ok-clause-ran : goal.returns-in-Ok-clause-ran
+returns-in-Ok-clause-ran g c = threads_reported c.args.mode c.args.script.now c.in-Ok.text.items c.deref.result.now _ _ _ c.requires.built c.in-Ok.ensures.text c.deref.ensures.value c.write_report.ensures
+
+pub returns-in-Err-Failed-clause-ran : goal.returns-in-Err-Failed-clause-ran
+returns-in-Err-Failed-clause-ran g c = threads_not_opened c.args.mode c.args.script.now _ _ (built_runnable c.args.mode c.args.script.now c.requires.built) (search rules) (search rules) (refl, refl)
+
+pub returns-in-Err-NoMemory-clause-ran : goal.returns-in-Err-NoMemory-clause-ran
+returns-in-Err-NoMemory-clause-ran g c = threads_ran_out c.args.mode c.args.script.now _ _ (built_runnable c.args.mode c.args.script.now c.requires.built) (refl, refl)

@@ -1,0 +1,6 @@
+pub mod Placing
+pub mod Numbers
+pub mod MayCall
+pub mod Resting
+pub mod Reports
+pub mod Joinless

@@ -1,0 +1,66 @@
+-- The numbers of the operations of one sort are below that of operations, and no more than they are.
+use Rattle.std.proofs.Common.{◌≡◌, ℕ, suc, ◌+◌, ◌<◌, ◌≤◌, Bool, true, false, List, [], ◌∷◌, length, filter_map, Option, Some, None, Ok, refl, sym, subst, ap, arith, cond}
+use Rattle.std.specs.Prelude.{unwrap_or}
+use Rattle.std.specs.List.{All, AllByRecursion, cons_option}
+use Rattle.std.proofs.lemmas.List.Elements.{All-from_recursion}
+use Rattle.brpc_model.specs.Items.{Item, is_open, is_call}
+use Rattle.brpc_model.specs.Operations.{Operation, operations, clients}
+use Rattle.brpc_model.specs.Script.{script_of}
+use Rattle.sock_words.specs.declared.plain.Plan.{Plan}
+use Rattle.corr_core.specs.declared.marks.Plan.{Plan as IdPlan}
+use Rattle.report_fits.proofs.Sizes.{keeps_limits}
+use Rattle.sock_programs.specs.Tasks.{Numbered, numbered_from, opens, calls, plan_of}
+use Rattle.call_run.specs.Threads.{ids_of}
+
+module _ (sort : Item → Bool) where
+  more_low : (found : Option ℕ) (os : List ℕ) (n : ℕ) → AllByRecursion (λ (o : ℕ). o < n) os → ((o : ℕ) → found ≡ Some o → o < n) → AllByRecursion (λ (o : ℕ). o < n) (cons_option found os)
+  more_low None os n all one = all
+  more_low (Some o) os n all one = (one o refl, all)
+
+  one_low : (b : Bool) (number o n : ℕ) → number < n → cond b (Some number) None ≡ Some o → o < n
+  one_low true number o n less e = subst (λ x. x < n) (ap (λ (q : Option ℕ). unwrap_or q 0) e) less
+  one_low false number o n less e = cc
+
+  all_low : (number link : ℕ) (ops : List Operation) (n : ℕ) → number + length ops ≤ n → AllByRecursion (λ (o : ℕ). o < n) (filter_map (λ (x : Numbered). cond (sort x.op.item) (Some x.number) None) (numbered_from number link ops))
+  all_low number link [] n e = tt
+  all_low number link (op ∷ ops) n e = more_low (cond (sort op.item) (Some number) None) (filter_map (λ (x : Numbered). cond (sort x.op.item) (Some x.number) None) (numbered_from (number + 1) (cond (is_open op.item) (link + 1) link) ops)) n
+      (all_low (number + 1) (cond (is_open op.item) (link + 1) link) ops n (omega (arith, e))) (λ o is. one_low (sort op.item) number o n (omega (arith, e)) is)
+
+  few_more : (found : Option ℕ) (os : List ℕ) → length (cons_option found os) ≤ suc (length os)
+  few_more None os = omega arith
+  few_more (Some o) os = omega arith
+
+  few_of : (number link : ℕ) (ops : List Operation) → length (filter_map (λ (x : Numbered). cond (sort x.op.item) (Some x.number) None) (numbered_from number link ops)) ≤ length ops
+  few_of number link [] = omega arith
+  few_of number link (op ∷ ops) = omega (
+    arith,
+    few_more (cond (sort op.item) (Some number) None) (filter_map (λ (x : Numbered). cond (sort x.op.item) (Some x.number) None) (numbered_from (number + 1) (cond (is_open op.item) (link + 1) link) ops)),
+    few_of (number + 1) (cond (is_open op.item) (link + 1) link) ops,
+  )
+
+module _ (script : List Item) (p : Plan) (plan : p ≡ plan_of script) where
+  -- a run takes these numbers
+  pub opens_below : (os : List ℕ) → os ≡ opens script → All (λ (o : ℕ). o < p.operations) os
+  opens_below os are =
+      subst (λ (q : Plan). All (λ (o : ℕ). o < q.operations) os) (sym plan) (subst (All (λ (o : ℕ). o < (plan_of script).operations)) (sym are)
+      (All-from_recursion (λ (o : ℕ). o < (plan_of script).operations) (opens script) (all_low is_open 0 0 (operations script) (length (operations script)) (omega arith))))
+
+  pub calls_below : (slots : ℕ) (q : IdPlan) → q ≡ ids_of p slots → (cs : List ℕ) → cs ≡ calls script → All (λ (o : ℕ). o < q.operations) cs
+  calls_below slots q same cs are =
+      subst (λ (x : IdPlan). All (λ (o : ℕ). o < x.operations) cs) (sym same) (subst (λ (x : Plan). All (λ (o : ℕ). o < x.operations + 1) cs) (sym plan) (subst (All (λ (o : ℕ). o < (plan_of script).operations + 1)) (sym are)
+      (All-from_recursion (λ (o : ℕ). o < (plan_of script).operations + 1) (calls script) (all_low is_call 0 0 (operations script) (length (operations script) + 1) (omega arith)))))
+
+  -- each of the two tables has a seat, and that of ids an operation
+  pub some_ids : (slots : ℕ) (q : IdPlan) → q ≡ ids_of p slots → (1 ≤ q.seats) × (1 ≤ q.operations)
+  some_ids slots q same =
+      let seats : p.seats ≡ clients script + 1 = ap (λ (x : Plan). x.seats) plan in
+      let s : q.seats ≡ p.seats = ap (λ (x : IdPlan). x.seats) same in
+      let o : q.operations ≡ p.operations + 1 = ap (λ (x : IdPlan). x.operations) same in
+      (omega arith, omega arith)
+
+module _ (bytes : List ℕ) (script : List Item) (reads : script_of bytes ≡ Ok script) where
+  pub few_operations : (p : Plan) → p ≡ plan_of script → p.operations ≤ 4096
+  few_operations p plan = let k = keeps_limits bytes script reads in let n = k.operations in let s : p.operations ≡ length (operations script) = ap (λ (x : Plan). x.operations) plan in omega (arith, n, s)
+
+  pub few_calls : (slots : ℕ) → slots ≡ length (calls script) → slots ≤ 4096
+  few_calls slots many = let k = keeps_limits bytes script reads in let n = k.operations in omega (arith, n, many, few_of is_call 0 0 (operations script))

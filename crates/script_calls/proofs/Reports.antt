@@ -1,0 +1,115 @@
+-- The report of what a run left, and the links of a run as they are given back.
+use Rattle.std.proofs.Common.{◌≡◌, ℕ, zero, suc, ◌+◌, List, [], ◌∷◌, ◌++◌, length, map, replicate, Option, None, IfSome, Result, Ok, Err, IfOk, refl, sym, ap, ◌∙◌, subst, arith}
+use Rattle.sock_io.specs.declared.link.Out.{Ghosts}
+use Rattle.sock_io.specs.declared.link.Ends.{Ends}
+use Rattle.sock_io.specs.Link.{OutState, InState, end_of}
+use Rattle.sock_words.specs.declared.outcome.Outcome.{Outcome}
+use Rattle.sock_words.specs.declared.plain.Plan.{Plan}
+use Rattle.sock_words.specs.declared.place_word.PlaceWord.{PlaceWord}
+use Rattle.sock_words.specs.declared.vref.Vref.{Vref}
+use Rattle.brpc_model.specs.Items.{Item}
+use Rattle.brpc_model.specs.Link.{LinkEnd}
+use Rattle.brpc_model.specs.Operations.{operations}
+use Rattle.brpc_model.specs.PlaceWords.{took_at}
+use Rattle.report_fits.specs.Ends.{AreTold}
+use Rattle.report_fits.proofs.Flat.{at_map}
+use Rattle.sock_programs.specs.declared.task.Task.{Task}
+use Rattle.sock_programs.specs.Scripts.{all_tasks}
+use Rattle.sock_programs.specs.Tasks.{plan_of, opens, calls}
+use Rattle.corr_core.specs.declared.marks.Plan as id_plan
+use Rattle.rpc_client.specs.declared.acting.Told.{Told}
+use Rattle.script_links.specs.Given.{AreNumbered}
+use Rattle.script_threads.specs.declared.halves.Rest.{Rest}
+use Rattle.script_threads.specs.Halves.{AreTaken, joined}
+use Rattle.script_threads.proofs.Telling.{long_each}
+use Rattle.call_run.specs.Threads.{ids_of, RanOn}
+use Rattle.script_calls.specs.Reading.{IdSeat, HasRead}
+use Rattle.script_calls.specs.Told.{outcomes_of, IsReported, IsCallText, IsCallRun}
+
+long_replicate : {A : Type 0} (n : ℕ) (x : A) → length (replicate n x) ≡ n
+long_replicate zero x = refl
+long_replicate (suc n) x = ap suc (long_replicate n x)
+
+-- writing halves of links of these numbers, from this one on
+AreNumberedOuts : ℕ → List OutState → Type 0
+AreNumberedOuts n [] = Unit {0}
+AreNumberedOuts n (s ∷ ss) = (s.link ≡ n) × AreNumberedOuts (n + 1) ss
+
+module _ {O I P : Type 0} (out : O → OutState) (inn : I → InState) where
+  abbrev pub end_at : Ends O I P → LinkEnd
+  end_at e = end_of (out e.out) (inn e.inn)
+
+  abbrev pub out_at : Ends O I P → OutState
+  out_at e = out e.out
+
+  -- what is said of the writing halves is said of the links
+  pub told_of : (ends : List (Ends O I P)) (took : List (List ℕ)) → AreTaken out_at ends took → AreTold (map end_at ends) took
+  told_of ends took h k e at = let w = at_map end_at ends k e at in subst (λ (l : LinkEnd). IfSome l.took (λ bytes. took_at took k ≡ bytes)) w.2 (h k w.0 w.1)
+
+  -- ## Links with the same writing halves have the same numbers
+
+  numbered_outs : (n : ℕ) (ends : List (Ends O I P)) → AreNumbered n (map end_at ends) → AreNumberedOuts n (map out_at ends)
+  unfolding AreNumberedOuts
+  numbered_outs n [] h = tt
+  numbered_outs n (e ∷ es) h = (h.0, numbered_outs (n + 1) es h.1)
+
+  outs_numbered : (n : ℕ) (ends : List (Ends O I P)) → AreNumberedOuts n (map out_at ends) → AreNumbered n (map end_at ends)
+  unfolding AreNumberedOuts
+  outs_numbered n [] h = tt
+  outs_numbered n (e ∷ es) h = (h.0, outs_numbered (n + 1) es h.1)
+
+  pub numbered_still : (ends ends' : List (Ends O I P)) → map out_at ends' ≡ map out_at ends → AreNumbered 0 (map end_at ends) → AreNumbered 0 (map end_at ends')
+  numbered_still ends ends' same h = outs_numbered 0 ends' (subst (AreNumberedOuts 0) (sym same) (numbered_outs 0 ends h))
+
+  -- ## The halves that are put together
+
+  pub joined_outs : (outs : List O) (rests : List (Rest I P)) → length outs ≡ length rests → map (λ (e : Ends O I P). e.out) (joined outs rests) ≡ outs
+  joined_outs [] rests same = refl
+  joined_outs (o ∷ os) [] same = absurd (omega arith)
+  joined_outs (o ∷ os) (r ∷ rs) same = ap (λ l. o ∷ l) (joined_outs os rs (omega arith))
+
+  -- ## The run
+
+  module _ (g : Ghosts O) (script : List Item) (text : List ℕ) (links : List LinkEnd) where
+    -- it has the outcomes and place words of its report
+    pub text_of : IsCallRun P g out inn script text links → IsCallText script text links
+    text_of r = record {
+      outcomes = outcomes_of (plan_of script).operations r.told r.ended r.last;
+      places = r.places;
+      one_each = long_each (replicate (plan_of script).operations None) _ ∙ long_replicate (plan_of script).operations None;
+      reported = r.reported;
+    }
+
+    pub run_is : (p : Plan) (slots : ℕ) (setup : List Task) (clients : List (List Task)) (os cs : List ℕ) (told ended : List (List Told)) (places words : List PlaceWord) (vrefs : List Vref) (outs : List O) (ids : List IdSeat) (q : id_plan.Plan) (ends ends' : List (Ends O I P)) (last : List Told)
+        → p ≡ plan_of script → slots ≡ length (calls script) → os ≡ opens script → cs ≡ calls script → q ≡ ids_of p slots → words ≡ places
+        → setup ∷ clients ≡ all_tasks script → RanOn g out p slots setup clients os told ended places vrefs outs (map (λ (s : IdSeat). s.me.0) ids)
+        → map (λ (e : Ends O I P). e.out) ends ≡ outs → HasRead out inn q cs ids ends ends' last → links ≡ map end_at ends'
+        → IsReported script text (outcomes_of p.operations told ended last) words (map end_at ends') → IsCallRun P g out inn script text links
+    run_is p slots setup clients os cs told ended places words vrefs outs ids q ends ends' last ep es eo ec eq ew tasks ran halves read given reported =
+        let qs : q ≡ ids_of (plan_of script) (length (calls script)) = eq ∙ (ap (λ (x : Plan). ids_of x slots) ep ∙ ap (ids_of (plan_of script)) es) in record {
+          setup = setup;
+          clients = clients;
+          tasks = tasks;
+          told = told;
+          ended = ended;
+          places = places;
+          vrefs = vrefs;
+          outs = outs;
+          ids = ids;
+          ran = subst (λ (l : List ℕ). RanOn g out (plan_of script) (length (calls script)) setup clients l told ended places vrefs outs (map (λ (s : IdSeat). s.me.0) ids)) eo
+              (subst (λ (n : ℕ). RanOn g out (plan_of script) n setup clients os told ended places vrefs outs (map (λ (s : IdSeat). s.me.0) ids)) es
+              (subst (λ (x : Plan). RanOn g out x slots setup clients os told ended places vrefs outs (map (λ (s : IdSeat). s.me.0) ids)) ep ran));
+          ends = ends;
+          ends' = ends';
+          halves = halves;
+          last = last;
+          read = subst (λ (l : List ℕ). HasRead out inn (ids_of (plan_of script) (length (calls script))) l ids ends ends' last) ec (subst (λ (x : id_plan.Plan). HasRead out inn x cs ids ends ends' last) qs read);
+          given_back = given;
+          reported = subst (IsReported script text (outcomes_of (plan_of script).operations told ended last) places) (sym given)
+              (subst (λ (l : List PlaceWord). IsReported script text (outcomes_of (plan_of script).operations told ended last) l (map end_at ends')) ew
+              (subst (λ (x : Plan). IsReported script text (outcomes_of x.operations told ended last) words (map end_at ends')) ep reported));
+        }
+
+  pub text_if : (g : Ghosts O) (script : List Item) (links : List LinkEnd) {T E : Type 0} (items : T → List ℕ) (r : Result T E) → IfOk r (λ t. IsCallRun P g out inn script (items t) links) → IfOk r (λ t. IsCallText script (items t) links)
+  text_if g script links items (Ok t) h = text_of g script (items t) links h
+  text_if g script links items (Err e) h = tt

@@ -1,0 +1,76 @@
+// The report of a run with calls.
+ghost use Rattle.std.specs.Prelude.{◌≡◌, IfOk, IfSome, map};
+ghost use Rattle.sock_io.specs.declared.link.Ends.{Ends};
+ghost use Rattle.sock_io.specs.Link.{end_of};
+ghost use Rattle.script_threads.specs.Halves.{AreTaken};
+ghost use Rattle.script_calls.specs.Told.{IsReported, outcomes_of};
+
+use crate::places::{are_places, has_each_outcome};
+use rpc_client::Told;
+use script_items::Script;
+use script_report::print_report;
+use script_tasks::NoMemory;
+use script_threads::said_of;
+use sock_io::{Ends, In, Out, Peer};
+use sock_words::{Outcome, PlaceWord};
+use std::alloc::{AllocError, Global};
+
+/// What became of so many operations, by what each client told of its own, what each told of the calls that it ended, and what was
+/// told of those that main ended.
+pub fn outcomes_of(
+    alloc: Global,
+    operations: u16,
+    told: Vec<Vec<Told>>,
+    mut ended: Vec<Vec<Told>>,
+    read: Vec<Told>,
+) -> Result<Vec<Option<Outcome>>, AllocError>
+    ensures { IfOk result (λ said. said.items ≡ outcomes_of operations (map (λ own. own.items) told.items) (map (λ own. own.items) ended.items) read.items) }
+{
+    let mut all = told;
+    all.append(&mut ended)?;
+    all.push(read)?;
+    said_of(alloc, operations, all)
+}
+
+/// What a link took, as it tells.
+fn taken<O: Out, I: In, P: Peer>(link: &Ends<O, I, P>) -> &[u8]
+    ensures { IfSome (O.state link.now.out).took (λ bytes. result.now ≡ bytes) }
+{
+    link.out.taken()
+}
+
+/// What each link took, as it tells.
+fn taken_by<O: Out, I: In, P: Peer>(
+    alloc: Global,
+    ends: &[Ends<O, I, P>],
+) -> Result<Vec<&[u8]>, AllocError>
+    ensures { IfOk result (λ took. AreTaken (λ (e : Ends O I P). O.state e.out) ends.now (map (λ bytes. bytes.now) took.items)) }
+{
+    let mut took = Vec::new(alloc);
+    'takes: for link in ends {
+        took.push(taken(link))?;
+    }
+    Ok(took)
+}
+
+/// The text of the report. Where no report can be made of these place words and outcomes, that is answered as want of memory.
+pub fn report<O: Out, I: In, P: Peer>(
+    alloc: Global,
+    script: &Script,
+    said: &[Option<Outcome>],
+    places: &[PlaceWord],
+    ends: &[Ends<O, I, P>],
+) -> Result<Vec<u8>, NoMemory>
+    ensures { IfOk result (λ text. IsReported script.now text.items said.now places.now (map (λ e. end_of (O.state e.out) (I.state e.inn)) ends.now)) }
+{
+    let placed = are_places(alloc, ends.len(), places)?;
+    if !placed {
+        return Err(NoMemory);
+    }
+    if !has_each_outcome(places, said) {
+        return Err(NoMemory);
+    }
+    let took = taken_by(alloc, ends)?;
+    let text = print_report(alloc, script.lines(), said, places, &took)?;
+    Ok(text)
+}
