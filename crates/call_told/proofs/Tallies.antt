@@ -23,6 +23,7 @@ use Rattle.corr_id.specs.declared.posts.Posted.{Posted}
 use Rattle.corr_id.specs.declared.posts.Posted.TheVariants.{Locked as HasLock, Queued as IsQueued, Gone, Stale, Crowded}
 use Rattle.corr_id.specs.Calls.{slot_of, version_of, error_in, is_event, one, Quiet, Did, GotLock}
 use Rattle.corr_id.specs.Posts.{PostOk}
+use Rattle.corr_id.proofs.Seats.{total_append}
 use Rattle.sock_message.specs.Asked.{Asked}
 use Rattle.prpc_frame.specs.Meaning.{frame_of}
 use Rattle.prpc_frame.specs.declared.frame.Frame.{Frame}
@@ -220,17 +221,16 @@ module _ (code : ℕ) where
   rest_notes p (o ∷ os) v w b b' h = rest_notes p os h.0 w h.1 b' h.3 ∙ one_noted p o v h.0 b h.1 h.2
 
   module _ {S : Type 0} (view : S → View Asked) (p : Plan) (os : List ℕ) where
-    pub rests_account : (ss ts : List S) (b b' : Books) → AllRested view p code os ss ts b b' → Tally b b'
-    rests_account [] [] b b' h = tally_same b b' h
-    rests_account (s ∷ ss) (t ∷ ts) b b' h = tally_then b h.0 b' (rest_accounts p os (view s) (view t) b h.0 h.1) (rests_account ss ts h.0 b' h.2)
-    rests_account [] (t ∷ ts) b b' h = absurd h
-    rests_account (s ∷ ss) [] b b' h = absurd h
+    pub rests_account : (ss left : List S) (b b' : Books) → AllRested view p code os ss left b b' → Tally b b'
+    rests_account [] left b b' h = tally_same b b' h.1
+    rests_account (s ∷ ss) left b b' h = tally_then b h.2 b' (rests_account ss h.1 b h.2 h.4) (rest_accounts p os (view s) (view h.0) h.2 b' h.5)
 
-    pub rests_note : (ss ts : List S) (b b' : Books) → AllRested view p code os ss ts b b' → (slot first : ℕ) → total (λ (s : S). noted_ends slot first (view s).notes) ts ≡ total (λ (s : S). noted_ends slot first (view s).notes) ss
-    rests_note [] [] b b' h slot first = refl
-    rests_note (s ∷ ss) (t ∷ ts) b b' h slot first = let x = ap (noted_ends slot first) (rest_notes p os (view s) (view t) b h.0 h.1) in let y = rests_note ss ts h.0 b' h.2 slot first in omega arith
-    rests_note [] (t ∷ ts) b b' h slot first = absurd h
-    rests_note (s ∷ ss) [] b b' h slot first = absurd h
+    pub rests_note : (ss left : List S) (b b' : Books) → AllRested view p code os ss left b b' → (slot first : ℕ) → total (λ (s : S). noted_ends slot first (view s).notes) left ≡ total (λ (s : S). noted_ends slot first (view s).notes) ss
+    rests_note [] left b b' h slot first = ap (total (λ (s : S). noted_ends slot first (view s).notes)) h.0
+    rests_note (s ∷ ss) left b b' h slot first =
+        let noted : S → ℕ = λ s. noted_ends slot first (view s).notes in
+        let a = ap (total noted) h.3 in let c = total_append noted h.1 (h.0 ∷ []) in
+        let x = ap (noted_ends slot first) (rest_notes p os (view s) (view h.0) h.2 b' h.5) in let y = rests_note ss h.1 b h.2 h.4 slot first in omega arith
 
 -- ## Links
 
