@@ -533,10 +533,7 @@ fn runs_on_threads(rt: HostRuntime) -> Result<(), Fail> {
 
 /// Words and scripts with a line that isn't built for threads.
 const UNBUILT: [(&'static str, &'static str); 2] = [
-    (
-        "run",
-        "open a serve\nclient\ncall a Echo.Echo -\njoin 1.1",
-    ),
+    ("run", "open a serve\nclient\ncall a Echo.Echo -\njoin 1.1"),
     ("run 65535", "open a\nclient\ncall a Echo.Echo -"),
 ];
 
@@ -596,8 +593,10 @@ fn runs_calls_on_threads(rt: HostRuntime) -> Result<(), Fail> {
 #[test]
 fn races_an_expiry(rt: HostRuntime) -> Result<(), Fail> {
     let script = b"open a serve\nclient\ncall a Echo.Echo 6869\nclient\nexpire 1.1";
-    let early: &[u8] = b"0.1 open 0 0 0\n1.1 call 1 answered 6869 -\n2.1 not begun\nlink 0 a accepted 1 placed 1 took 30 5052504300000012000000100a0c0a044563686f12044563686f20026869\norder 0 1.1.0\nend\n";
-    let late: &[u8] = b"0.1 open 0 0 0\n1.1 call 1 failed 1008\n2.1 expired\nlink 0 a accepted 1 placed 1 took 30 5052504300000012000000100a0c0a044563686f12044563686f20026869\norder 0 1.1.0\nend\n";
+    let early: &[u8] =
+        b"0.1 open 0 0 0\n1.1 call 1 answered 6869 -\n2.1 not begun\nlink 0 a accepted 1 placed 1 took 30 5052504300000012000000100a0c0a044563686f12044563686f20026869\norder 0 1.1.0\nend\n";
+    let late: &[u8] =
+        b"0.1 open 0 0 0\n1.1 call 1 failed 1008\n2.1 expired\nlink 0 a accepted 1 placed 1 took 30 5052504300000012000000100a0c0a044563686f12044563686f20026869\norder 0 1.1.0\nend\n";
     let (status, written) = served(&rt, "run", script)?;
     assert_eq!(rt; status, 0);
     let text = written.as_slice();

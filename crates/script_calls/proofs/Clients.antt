@@ -1,5 +1,5 @@
 -- What the clients of a run told: of their own operations no end of a call, of each call that they ended that it failed, and of each id as many ends as their seats noted.
-use Rattle.std.proofs.Common.{◌≡◌, ℕ, List, [], ◌∷◌, ◌++◌, map, sym, ap, ◌∙◌, subst}
+use Rattle.std.proofs.Common.{◌≡◌, ℕ, ◌+◌, List, [], ◌∷◌, ◌++◌, map, sym, ap, ◌∙◌, subst}
 use Rattle.std.specs.List.{AllByRecursion}
 use Rattle.atomic_table.specs.declared.shared.Seat.{Seat}
 use Rattle.sock_io.specs.declared.link.Out.{Ghosts}
@@ -13,7 +13,7 @@ use Rattle.corr_core.specs.declared.marks.View as id_view
 use Rattle.sock_message.specs.Asked.{Asked}
 use Rattle.rpc_client.specs.declared.acting.Told.{Told}
 use Rattle.call_errors.specs.Books.{Books}
-use Rattle.call_run.specs.Threads.{Thread, IsThread, AreThreads, AllRan}
+use Rattle.call_run.specs.Threads.{opens_of, openings, opened_names, Thread, IsThread, AreThreads, AllRan}
 use Rattle.call_told.specs.Answers.{IsFailure, IsOwn, TellsOnly}
 use Rattle.call_told.proofs.Balance.{Balanced, AreBalanced, balanced_each}
 use Rattle.call_told.proofs.Clients.{ended_fails}
@@ -43,11 +43,11 @@ module _ {O : Type 0} {g : Ghosts O} (state : O → OutState) (p : Plan) (q : id
 
   all_say : (P : Thread g → Type 0) → ((x : Thread g) → Says x → P x) → (names : List ℕ) (first : ℕ) (xs : List (Thread g)) → AreThreads state p q names first xs → AllByRecursion P xs
   all_say P f names first [] h = tt
-  all_say P f names first (x ∷ xs) h = (f x (says first x h.0), all_say P f names _ xs h.2)
+  all_say P f names first (x ∷ xs) h = (f x (says first x h.0), all_say P f names (first + opens_of x.tasks) xs h.2)
 
   module _ (setup : List Task) (clients : List (List Task)) (opens : List ℕ) (told ended : List (List Told)) (seats : List (Seat (SockHome O g) View)) (ids : List (id_view.View Asked)) (r : AllRan g state p q setup clients opens told ended seats ids) where
     each : (P : Thread g → Type 0) → ((x : Thread g) → Says x → P x) → AllByRecursion P (r.main ∷ r.others)
-    each P f = (f r.main (says 0 r.main r.main_is), all_say P f _ _ r.others r.others_are)
+    each P f = (f r.main (says 0 r.main r.main_is), all_say P f (opened_names r.main.ended.outcomes.items (openings setup)) (opens_of setup) r.others r.others_are)
 
     pub owns : AllByRecursion (λ ts. AllByRecursion IsOwn ts) told
     owns = subst (AllByRecursion (λ ts. AllByRecursion IsOwn ts)) r.told_is (all_of (λ (x : Thread g). x.ended.outcomes.items) (λ ts. AllByRecursion IsOwn ts) (r.main ∷ r.others) (each (λ x. AllByRecursion IsOwn x.ended.outcomes.items) (λ x s. s.own)))

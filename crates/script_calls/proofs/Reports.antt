@@ -1,16 +1,14 @@
 -- The report of what a run left, and the links of a run as they are given back.
-use Rattle.std.proofs.Common.{◌≡◌, ℕ, zero, suc, ◌+◌, List, [], ◌∷◌, ◌++◌, length, map, replicate, Option, None, IfSome, Result, Ok, Err, IfOk, refl, sym, ap, ◌∙◌, subst, arith}
+use Rattle.std.proofs.Common.{◌≡◌, ℕ, zero, suc, ◌+◌, List, [], ◌∷◌, ◌++◌, length, map, replicate, None, IfSome, Result, Ok, Err, IfOk, OnOk, refl, sym, ap, ◌∙◌, subst, arith}
 use Rattle.std.specs.List.{AllByRecursion}
 use Rattle.sock_io.specs.declared.link.Out.{Ghosts}
 use Rattle.sock_io.specs.declared.link.Ends.{Ends}
 use Rattle.sock_io.specs.Link.{OutState, InState, end_of}
-use Rattle.sock_words.specs.declared.outcome.Outcome.{Outcome}
 use Rattle.sock_words.specs.declared.plain.Plan.{Plan}
 use Rattle.sock_words.specs.declared.place_word.PlaceWord.{PlaceWord}
 use Rattle.sock_words.specs.declared.vref.Vref.{Vref}
 use Rattle.brpc_model.specs.Items.{Item}
 use Rattle.brpc_model.specs.Link.{LinkEnd}
-use Rattle.brpc_model.specs.Operations.{operations}
 use Rattle.brpc_model.specs.PlaceWords.{took_at}
 use Rattle.report_fits.specs.Ends.{AreTold}
 use Rattle.report_fits.proofs.Flat.{at_map}
@@ -19,10 +17,10 @@ use Rattle.sock_programs.specs.Scripts.{all_tasks}
 use Rattle.sock_programs.specs.Tasks.{plan_of, opens, calls}
 use Rattle.corr_core.specs.declared.marks.Plan as id_plan
 use Rattle.rpc_client.specs.declared.acting.Told.{Told}
-use Rattle.script_links.specs.Given.{AreNumbered}
+use Rattle.script_links.specs.Given.{AreUntouched, AreNumbered}
 use Rattle.script_threads.specs.declared.halves.Rest.{Rest}
-use Rattle.script_threads.specs.Halves.{AreTaken, joined}
-use Rattle.script_threads.proofs.Backs.{IsSilent}
+use Rattle.script_threads.specs.Halves.{AreTaken, rest_of, joined}
+use Rattle.script_threads.proofs.Backs.{IsSilent, are_silent}
 use Rattle.script_threads.proofs.Telling.{long_each}
 use Rattle.call_run.specs.Threads.{ids_of, RanOn}
 use Rattle.call_told.specs.Answers.{IsFailure, IsOwn, AreAnsweredBy}
@@ -76,13 +74,17 @@ module _ {O I P : Type 0} (out : O → OutState) (inn : I → InState) where
   joined_outs (o ∷ os) (r ∷ rs) same = ap (λ l. o ∷ l) (joined_outs os rs (omega arith))
 
   -- their links gave nothing where the reading halves didn't
-  pub joined_silent : (outs : List O) (rests : List (Rest I P)) → AllByRecursion (IsSilent out inn) rests → AllByRecursion (HasGivenNone inn) (joined outs rests)
+  joined_silent : (outs : List O) (rests : List (Rest I P)) → AllByRecursion (IsSilent out inn) rests → AllByRecursion (HasGivenNone inn) (joined outs rests)
   joined_silent [] rests silent = tt
   joined_silent (o ∷ os) [] silent = tt
   joined_silent (o ∷ os) (r ∷ rs) silent = (silent.0, joined_silent os rs silent.1)
 
-  -- ## The run
+  pub back_silent : (ends back : List (Ends O I P)) (outs : List O) (rests : List (Rest I P)) → AreUntouched 0 (map end_at ends) → rests ≡ map rest_of ends → back ≡ joined outs rests → AllByRecursion (HasGivenNone inn) back
+  back_silent ends back outs rests untouched are is = subst (AllByRecursion (HasGivenNone inn)) (sym is) (joined_silent outs rests (subst (AllByRecursion (IsSilent out inn)) (sym are) (are_silent out inn 0 ends untouched)))
 
+-- ## The run
+
+module _ (P : Type 0) {O I : Type 0} (out : O → OutState) (inn : I → InState) where
   module _ (g : Ghosts O) (script : List Item) (text : List ℕ) (links : List LinkEnd) where
     -- what its clients told
     own_told : (r : IsCallRun P g out inn script text links) → AllByRecursion (λ ts. AllByRecursion IsOwn ts) r.told
@@ -99,7 +101,7 @@ module _ {O I P : Type 0} (out : O → OutState) (inn : I → InState) where
     text_of r = record {
       outcomes = outcomes_of (plan_of script).operations r.told r.ended r.last;
       places = r.places;
-      one_each = long_each (replicate (plan_of script).operations None) _ ∙ long_replicate (plan_of script).operations None;
+      one_each = long_each (replicate (plan_of script).operations None) ((r.told ++ r.ended) ++ r.last ∷ []) ∙ long_replicate (plan_of script).operations None;
       reported = r.reported;
       answered = subst (AreAnsweredBy (outcomes_of (plan_of script).operations r.told r.ended r.last)) (sym r.given_back)
           (run_answered out inn (ids_of (plan_of script) (length (calls script))) (calls script) (plan_of script).operations r.told r.ended r.last r.ids r.ends r.ends' (own_told r) (failures_told r) r.silent r.read);
@@ -109,8 +111,8 @@ module _ {O I P : Type 0} (out : O → OutState) (inn : I → InState) where
     pub run_is : (p : Plan) (slots : ℕ) (setup : List Task) (clients : List (List Task)) (os cs : List ℕ) (told ended : List (List Told)) (places words : List PlaceWord) (vrefs : List Vref) (outs : List O) (ids : List IdSeat) (q : id_plan.Plan) (ends ends' : List (Ends O I P)) (last : List Told)
         → p ≡ plan_of script → slots ≡ length (calls script) → os ≡ opens script → cs ≡ calls script → q ≡ ids_of p slots → words ≡ places
         → setup ∷ clients ≡ all_tasks script → RanOn g out p slots setup clients os told ended places vrefs outs (map (λ (s : IdSeat). s.me.0) ids)
-        → map (λ (e : Ends O I P). e.out) ends ≡ outs → AllByRecursion (HasGivenNone inn) ends → HasRead out inn q cs ids ends ends' last → links ≡ map end_at ends'
-        → IsReported script text (outcomes_of p.operations told ended last) words (map end_at ends') → IsCallRun P g out inn script text links
+        → map (λ (e : Ends O I P). e.out) ends ≡ outs → AllByRecursion (HasGivenNone inn) ends → HasRead out inn q cs ids ends ends' last → links ≡ map (end_at out inn) ends'
+        → IsReported script text (outcomes_of p.operations told ended last) words (map (end_at out inn) ends') → IsCallRun P g out inn script text links
     run_is p slots setup clients os cs told ended places words vrefs outs ids q ends ends' last ep es eo ec eq ew tasks ran halves silent read given reported =
         let qs : q ≡ ids_of (plan_of script) (length (calls script)) = eq ∙ (ap (λ (x : Plan). ids_of x slots) ep ∙ ap (ids_of (plan_of script)) es) in record {
           setup = setup;
@@ -133,10 +135,21 @@ module _ {O I P : Type 0} (out : O → OutState) (inn : I → InState) where
           read = subst (λ (l : List ℕ). HasRead out inn (ids_of (plan_of script) (length (calls script))) l ids ends ends' last) ec (subst (λ (x : id_plan.Plan). HasRead out inn x cs ids ends ends' last) qs read);
           given_back = given;
           reported = subst (IsReported script text (outcomes_of (plan_of script).operations told ended last) places) (sym given)
-              (subst (λ (l : List PlaceWord). IsReported script text (outcomes_of (plan_of script).operations told ended last) l (map end_at ends')) ew
-              (subst (λ (x : Plan). IsReported script text (outcomes_of x.operations told ended last) words (map end_at ends')) ep reported));
+              (subst (λ (l : List PlaceWord). IsReported script text (outcomes_of (plan_of script).operations told ended last) l (map (end_at out inn) ends')) ew
+              (subst (λ (x : Plan). IsReported script text (outcomes_of x.operations told ended last) words (map (end_at out inn) ends')) ep reported));
         }
 
   pub text_if : (g : Ghosts O) (script : List Item) (links : List LinkEnd) {T E : Type 0} (items : T → List ℕ) (r : Result T E) → IfOk r (λ t. IsCallRun P g out inn script (items t) links) → IfOk r (λ t. IsCallText script (items t) links)
   text_if g script links items (Ok t) h = text_of g script (items t) links h
   text_if g script links items (Err e) h = tt
+
+-- ## Results
+
+-- what is known of a value that was handed on
+pub if_moved : {T E F : Type 0} (Q R : T → Type 0) (r : Result T E) (f : Result T F) → IfOk r (λ t. f ≡ Ok t) → IfOk f Q → ((t : T) → Q t → R t) → IfOk r R
+if_moved Q R (Ok t) f e h go = go t (subst (λ x. IfOk x Q) e h)
+if_moved Q R (Err x) f e h go = tt
+
+pub on_ok : {T E : Type 0} (r : Result T E) (P : Type 0) → P → OnOk r P
+on_ok (Ok t) P p = p
+on_ok (Err x) P p = tt

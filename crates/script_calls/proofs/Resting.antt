@@ -7,7 +7,7 @@ use Rattle.corr_id.specs.Closed.{AllOf}
 use Rattle.rpc_reader.specs.Seats.{IsOpen, Rests}
 use Rattle.rpc_reader.specs.Books.{books}
 use Rattle.rpc_reader.specs.declared.books.AnswerSeat.{AnswerSeat}
-use Rattle.rpc_reader.proofs.Locks.{open_still}
+use Rattle.rpc_reader.proofs.Locks.{open_still, rests_then}
 use Rattle.call_run.specs.Crew.{AreLeft}
 use Rattle.script_calls.specs.Reading.{IdSeat, begins}
 
@@ -78,3 +78,21 @@ begins_as c main seat empty = λ i. record { view = (seat i).me.0; early = empty
 -- none is left
 pub past_all : (asking past all : List IdSeat) → asking ≡ [] → asking ++ past ≡ all → past ≡ all
 past_all asking past all none_ parts = sym (ap (λ (l : List IdSeat). l ++ past) none_) ∙ parts
+
+-- ## The seats with which the table is closed
+
+module _ (z : TableId) (seats rest : List IdSeat) (main : IdSeat) (are : seats ≡ main ∷ rest) (new mid left : IdSeat) (same : new ≡ main) (first : Rests new mid) (then_ : Rests mid left) (asked more : List IdSeat) (pushed : more ≡ asked ++ left ∷ []) where
+  whole : Rests new left
+  whole = rests_then new mid left first then_
+
+  pub closing_left : AreLeft z seats → AreLeft z asked → AllOf z more
+  closing_left h k =
+      let m : IsLeft z main = (subst (AreLeft z) are h).0 in
+      let o : IsOpen z new = subst (IsOpen z) (sym same) m.0 in
+      all_of z more (subst (AreLeft z) (sym pushed) (each_last (IsLeft z) asked left k (open_still z new left o whole, whole.stays.2 ∙ (ap (λ (s : IdSeat). s.me.1) same ∙ m.1))))
+
+  pub closing_all : total share_of asked ≡ total share_of rest → total share_of more ≡ total share_of seats
+  closing_all h =
+      let a = ap (total share_of) pushed ∙ total_last share_of asked left in
+      let b = whole.share ∙ ap share_of same in
+      let c = ap (total share_of) are in omega arith

@@ -1,5 +1,5 @@
 -- What is read once all clients of a run have ended, and what the table of ids says in the end.
-use Rattle.std.specs.Prelude.{◌≡◌, ℕ, false, List, [], ◌∷◌, ◌++◌, map, Option}
+use Rattle.std.specs.Prelude.{◌≡◌, ℕ, false, List, [], ◌∷◌, ◌++◌, Option}
 use Rattle.std.specs.List.{flat_map}
 use Rattle.atomic_table.specs.declared.shared.Seat.{Seat}
 use Rattle.corr_core.specs.declared.marks.Plan.{Plan}

@@ -1,10 +1,8 @@
-use Rattle.std.proofs.Common.{◌≡◌, ◌+◌, List, [], ◌∷◌, ◌++◌, length, length-append, append-nil, refl, sym, ap, ◌∙◌, subst, arith}
+use Rattle.std.proofs.Common.{◌≡◌, [], ◌∷◌, ◌++◌, length, length-append, append-nil, refl, sym, ap, ◌∙◌, subst, arith}
 use Rattle.corr_core.specs.Law.{total}
-use Rattle.sock_words.specs.Codes.{EEOF}
 use Rattle.rpc_reader.specs.Books.{books}
 use Rattle.rpc_reader.proofs.Locks.{open_still, rests_then, rests_none}
 use Rattle.call_run.specs.Crew.{AreLeft}
-use Rattle.script_calls.specs.Reading.{IdSeat, EachRested}
 use Rattle.script_calls.proofs.Resting.{share_of, last_open, rest_left, done_left, all_still, parts_next}
 use Rattle.script_calls.proofs.reading.end_each.Goals as goal
 
