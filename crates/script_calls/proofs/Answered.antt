@@ -1,12 +1,11 @@
 -- Each answer that is reported is a whole response that a link gave.
-use Rattle.std.proofs.Common.{◌≡◌, ℕ, List, [], ◌∷◌, ◌++◌, length, map, replicate, Option, None, Some, refl, sym, ap, subst}
+use Rattle.std.proofs.Common.{◌≡◌, ℕ, List, [], ◌∷◌, ◌++◌, length, map, replicate, Option, None, Some, refl, sym, subst}
 use Rattle.std.specs.Prelude.{slice_set}
 use Rattle.std.specs.List.{AllByRecursion}
 use Rattle.sock_io.specs.declared.link.Ends.{Ends}
 use Rattle.sock_io.specs.Link.{OutState, InState, end_of}
 use Rattle.sock_words.specs.Codes.{EEOF}
 use Rattle.sock_words.specs.declared.outcome.Outcome.{Outcome}
-use Rattle.brpc_model.specs.Link.{LinkEnd}
 use Rattle.corr_core.specs.declared.marks.Plan.{Plan}
 use Rattle.rpc_client.specs.declared.acting.Told.{Told}
 use Rattle.rpc_reader.specs.Books.{Books}

@@ -1,5 +1,5 @@
 -- No call is told twice in a run, and so no two outcomes of its report show the end of one call.
-use Rattle.std.proofs.Common.{◌≡◌, ℕ, ◌+◌, ◌≤◌, List, [], ◌∷◌, ◌++◌, append_assoc, map, Some, None, replicate, refl, sym, ap, subst, arith}
+use Rattle.std.proofs.Common.{ℕ, ◌+◌, ◌≤◌, List, [], ◌∷◌, ◌++◌, append_assoc, map, Some, None, replicate, refl, sym, ap, subst, arith}
 use Rattle.std.specs.Prelude.{Option, slice_set}
 use Rattle.std.specs.List.{AllByRecursion}
 use Rattle.sock_words.specs.Codes.{EEOF}
