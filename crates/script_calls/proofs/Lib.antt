@@ -2,5 +2,8 @@ pub mod Placing
 pub mod Numbers
 pub mod MayCall
 pub mod Resting
+pub mod Clients
+pub mod Answered
+pub mod Shown
 pub mod Reports
 pub mod Joinless

@@ -1,5 +1,6 @@
 -- The report of what a run left, and the links of a run as they are given back.
 use Rattle.std.proofs.Common.{◌≡◌, ℕ, zero, suc, ◌+◌, List, [], ◌∷◌, ◌++◌, length, map, replicate, None, IfSome, Result, Ok, Err, IfOk, OnOk, refl, sym, ap, ◌∙◌, subst, arith}
+use Rattle.std.specs.List.{AllByRecursion}
 use Rattle.sock_io.specs.declared.link.Out.{Ghosts}
 use Rattle.sock_io.specs.declared.link.Ends.{Ends}
 use Rattle.sock_io.specs.Link.{OutState, InState, end_of}
@@ -16,13 +17,19 @@ use Rattle.sock_programs.specs.Scripts.{all_tasks}
 use Rattle.sock_programs.specs.Tasks.{plan_of, opens, calls}
 use Rattle.corr_core.specs.declared.marks.Plan as id_plan
 use Rattle.rpc_client.specs.declared.acting.Told.{Told}
-use Rattle.script_links.specs.Given.{AreNumbered}
+use Rattle.script_links.specs.Given.{AreUntouched, AreNumbered}
 use Rattle.script_threads.specs.declared.halves.Rest.{Rest}
-use Rattle.script_threads.specs.Halves.{AreTaken, joined}
+use Rattle.script_threads.specs.Halves.{AreTaken, rest_of, joined}
+use Rattle.script_threads.proofs.Backs.{IsSilent, are_silent}
 use Rattle.script_threads.proofs.Telling.{long_each}
 use Rattle.call_run.specs.Threads.{ids_of, RanOn}
+use Rattle.call_told.specs.Answers.{IsFailure, IsOwn, AreAnsweredBy}
+use Rattle.call_told.proofs.Balance.{AreBalanced}
 use Rattle.script_calls.specs.Reading.{IdSeat, HasRead}
-use Rattle.script_calls.specs.Told.{outcomes_of, IsReported, IsCallText, IsCallRun}
+use Rattle.script_calls.specs.Told.{outcomes_of, HasGivenNone, IsReported, IsCallText, IsCallRun}
+use Rattle.script_calls.proofs.Clients.{owns, failures, balanced}
+use Rattle.script_calls.proofs.Answered.{run_answered}
+use Rattle.script_calls.proofs.Shown.{run_shown}
 
 long_replicate : {A : Type 0} (n : ℕ) (x : A) → length (replicate n x) ≡ n
 long_replicate zero x = refl
@@ -66,10 +73,29 @@ module _ {O I P : Type 0} (out : O → OutState) (inn : I → InState) where
   joined_outs (o ∷ os) [] same = absurd (omega arith)
   joined_outs (o ∷ os) (r ∷ rs) same = ap (λ l. o ∷ l) (joined_outs os rs (omega arith))
 
+  -- their links gave nothing where the reading halves didn't
+  joined_silent : (outs : List O) (rests : List (Rest I P)) → AllByRecursion (IsSilent out inn) rests → AllByRecursion (HasGivenNone inn) (joined outs rests)
+  joined_silent [] rests silent = tt
+  joined_silent (o ∷ os) [] silent = tt
+  joined_silent (o ∷ os) (r ∷ rs) silent = (silent.0, joined_silent os rs silent.1)
+
+  pub back_silent : (ends back : List (Ends O I P)) (outs : List O) (rests : List (Rest I P)) → AreUntouched 0 (map end_at ends) → rests ≡ map rest_of ends → back ≡ joined outs rests → AllByRecursion (HasGivenNone inn) back
+  back_silent ends back outs rests untouched are is = subst (AllByRecursion (HasGivenNone inn)) (sym is) (joined_silent outs rests (subst (AllByRecursion (IsSilent out inn)) (sym are) (are_silent out inn 0 ends untouched)))
+
 -- ## The run
 
 module _ (P : Type 0) {O I : Type 0} (out : O → OutState) (inn : I → InState) where
   module _ (g : Ghosts O) (script : List Item) (text : List ℕ) (links : List LinkEnd) where
+    -- what its clients told
+    own_told : (r : IsCallRun P g out inn script text links) → AllByRecursion (λ ts. AllByRecursion IsOwn ts) r.told
+    own_told r = owns out (plan_of script) (ids_of (plan_of script) (length (calls script))) r.setup r.clients (opens script) r.told r.ended r.ran.seats (map (λ (s : IdSeat). s.me.0) r.ids) r.ran.ran
+
+    failures_told : (r : IsCallRun P g out inn script text links) → AllByRecursion (λ ts. AllByRecursion IsFailure ts) r.ended
+    failures_told r = failures out (plan_of script) (ids_of (plan_of script) (length (calls script))) r.setup r.clients (opens script) r.told r.ended r.ran.seats (map (λ (s : IdSeat). s.me.0) r.ids) r.ran.ran
+
+    balanced_told : (r : IsCallRun P g out inn script text links) → AreBalanced r.ended (map (λ (s : IdSeat). s.me.0) r.ids)
+    balanced_told r = balanced out (plan_of script) (ids_of (plan_of script) (length (calls script))) r.setup r.clients (opens script) r.told r.ended r.ran.seats (map (λ (s : IdSeat). s.me.0) r.ids) r.ran.ran
+
     -- it has the outcomes and place words of its report
     pub text_of : IsCallRun P g out inn script text links → IsCallText script text links
     text_of r = record {
@@ -77,14 +103,17 @@ module _ (P : Type 0) {O I : Type 0} (out : O → OutState) (inn : I → InState
       places = r.places;
       one_each = long_each (replicate (plan_of script).operations None) ((r.told ++ r.ended) ++ r.last ∷ []) ∙ long_replicate (plan_of script).operations None;
       reported = r.reported;
+      answered = subst (AreAnsweredBy (outcomes_of (plan_of script).operations r.told r.ended r.last)) (sym r.given_back)
+          (run_answered out inn (ids_of (plan_of script) (length (calls script))) (calls script) (plan_of script).operations r.told r.ended r.last r.ids r.ends r.ends' (own_told r) (failures_told r) r.silent r.read);
+      once = run_shown out inn (ids_of (plan_of script) (length (calls script))) (calls script) (plan_of script).operations r.told r.ended r.last r.ids r.ends r.ends' (own_told r) (balanced_told r) r.read;
     }
 
     pub run_is : (p : Plan) (slots : ℕ) (setup : List Task) (clients : List (List Task)) (os cs : List ℕ) (told ended : List (List Told)) (places words : List PlaceWord) (vrefs : List Vref) (outs : List O) (ids : List IdSeat) (q : id_plan.Plan) (ends ends' : List (Ends O I P)) (last : List Told)
         → p ≡ plan_of script → slots ≡ length (calls script) → os ≡ opens script → cs ≡ calls script → q ≡ ids_of p slots → words ≡ places
         → setup ∷ clients ≡ all_tasks script → RanOn g out p slots setup clients os told ended places vrefs outs (map (λ (s : IdSeat). s.me.0) ids)
-        → map (λ (e : Ends O I P). e.out) ends ≡ outs → HasRead out inn q cs ids ends ends' last → links ≡ map (end_at out inn) ends'
+        → map (λ (e : Ends O I P). e.out) ends ≡ outs → AllByRecursion (HasGivenNone inn) ends → HasRead out inn q cs ids ends ends' last → links ≡ map (end_at out inn) ends'
         → IsReported script text (outcomes_of p.operations told ended last) words (map (end_at out inn) ends') → IsCallRun P g out inn script text links
-    run_is p slots setup clients os cs told ended places words vrefs outs ids q ends ends' last ep es eo ec eq ew tasks ran halves read given reported =
+    run_is p slots setup clients os cs told ended places words vrefs outs ids q ends ends' last ep es eo ec eq ew tasks ran halves silent read given reported =
         let qs : q ≡ ids_of (plan_of script) (length (calls script)) = eq ∙ (ap (λ (x : Plan). ids_of x slots) ep ∙ ap (ids_of (plan_of script)) es) in record {
           setup = setup;
           clients = clients;
@@ -101,6 +130,7 @@ module _ (P : Type 0) {O I : Type 0} (out : O → OutState) (inn : I → InState
           ends = ends;
           ends' = ends';
           halves = halves;
+          silent = silent;
           last = last;
           read = subst (λ (l : List ℕ). HasRead out inn (ids_of (plan_of script) (length (calls script))) l ids ends ends' last) ec (subst (λ (x : id_plan.Plan). HasRead out inn x cs ids ends ends' last) qs read);
           given_back = given;

@@ -1,5 +1,6 @@
 -- What is reported of a script with calls that was run on threads.
-use Rattle.std.specs.Prelude.{ℕ, ◌≡◌, List, [], ◌∷◌, ◌++◌, map, length, replicate, Option, None}
+use Rattle.std.specs.Prelude.{ℕ, ◌≡◌, List, [], ◌∷◌, ◌++◌, map, length, replicate, Option, None, IfSome}
+use Rattle.std.specs.List.{AllByRecursion}
 use Rattle.sock_words.specs.declared.outcome.Outcome.{Outcome}
 use Rattle.sock_words.specs.declared.place_word.PlaceWord.{PlaceWord}
 use Rattle.sock_words.specs.declared.vref.Vref.{Vref}
@@ -17,6 +18,8 @@ use Rattle.sock_programs.specs.Tasks.{plan_of, opens, calls}
 use Rattle.rpc_client.specs.declared.acting.Told.{Told}
 use Rattle.script_threads.specs.Saying.{said_by_each}
 use Rattle.call_run.specs.Threads.{ids_of, RanOn}
+use Rattle.call_told.specs.Answers.{AreAnsweredBy}
+use Rattle.call_told.specs.Once.{ShownOnce}
 use Rattle.script_calls.specs.Reading.{IdSeat, HasRead}
 
 -- what became of so many operations: by what each client told of its own, of the calls that it ended, and by what was told of those that ended behind them
@@ -39,6 +42,14 @@ pub record IsCallText (script : List Item) (text : List ℕ) (ends : List LinkEn
   pub places : List PlaceWord
   pub one_each : length outcomes ≡ length (operations script)
   pub reported : IsReported script text outcomes places ends
+  -- each answer among them is a whole response that one of these links gave
+  pub answered : AreAnsweredBy outcomes ends
+  -- no two operations have the end of one call as their outcome, of those whose ids are in the slots that the calls of the script have
+  pub once : ShownOnce (length (calls script)) outcomes
+
+-- the link gave nothing so far
+abbrev pub HasGivenNone : {O I P : Type 0} → (I → InState) → Ends O I P → Type 0
+HasGivenNone inn e = ((inn e.inn).gave ≡ 0) × IfSome (inn e.inn).gave_bytes (λ bytes. bytes ≡ [])
 
 -- The script was run: its clients on threads, and behind them main read the links and saw to the calls that were left; the text reports what became of its
 -- operations by that, over the links that were given back.
@@ -57,6 +68,7 @@ pub record IsCallRun (P : Type 0) {O I : Type 0} (g : Ghosts O) (out : O → Out
   pub ends : List (Ends O I P)
   pub ends' : List (Ends O I P)
   pub halves : map (λ (e : Ends O I P). e.out) ends ≡ outs
+  pub silent : AllByRecursion (HasGivenNone inn) ends
   pub last : List Told
   pub read : HasRead out inn (ids_of (plan_of script) (length (calls script))) (calls script) ids ends ends' last
   pub given_back : links ≡ map (λ (e : Ends O I P). end_of (out e.out) (inn e.inn)) ends'

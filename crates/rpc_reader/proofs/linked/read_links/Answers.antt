@@ -3,7 +3,7 @@ use Rattle.std.proofs.Math.Seq.{map-set_same}
 use Rattle.std.proofs.lemmas.Bool.{false≢true}
 use Rattle.rpc_reader.specs.Books.{books}
 use Rattle.rpc_reader.specs.Linked.{ReadServed}
-use Rattle.rpc_reader.proofs.Locks.{open_still, rests_none, rests_then}
+use Rattle.rpc_reader.proofs.Locks.{open_still, rests_then}
 use Rattle.rpc_reader.proofs.Series.{stand_next, read_next, was_ok}
 use Rattle.rpc_reader.proofs.linked.read_links.Goals as goal
 use Rattle.rpc_reader.proofs.linked.read_links.Goals.{then-is_err, else-is_err}

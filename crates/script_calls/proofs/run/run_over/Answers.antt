@@ -13,7 +13,7 @@ use Rattle.script_calls.proofs.Numbers.{few_calls, few_operations, opens_below, 
 use Rattle.thread_run.proofs.Manning.{whole_lent}
 use Rattle.script_threads.specs.Halves.{rest_of}
 use Rattle.script_links.specs.Given.{AreNumbered}
-use Rattle.script_calls.proofs.Reports.{end_at, out_at, numbered_still, run_is, joined_outs, if_moved}
+use Rattle.script_calls.proofs.Reports.{end_at, out_at, numbered_still, run_is, joined_outs, back_silent, if_moved}
 use Rattle.script_calls.proofs.run.run_over.Goals as goal
 
 pub give_back-requires-clause-numbered : goal.give_back-requires-clause-numbered
@@ -86,6 +86,7 @@ returns-in-Ok-run_on-clause-ran g c =
     (map (λ v. v.items) r.told.items) (map (λ v. v.items) r.ended.items) r.places.items r.places.items r.vrefs.items r.outs.items r.seats.items r.ids.plan c.as_mut_slice.result.now c.finish-text.new.ends q.0
     c.in-Ok.ensures.plan c.in-Ok.ensures.slots (c.deref.ensures.value ∙ c.in-Ok.ensures.opens_are) (c.deref-in-Ok-run_on.ensures.value ∙ c.in-Ok.ensures.calls_are) c.in-Ok-run_on.ensures.ids.0 refl c.in-Ok.ensures.tasks c.in-Ok-run_on.ensures.ran
     (ap (map (λ e. e.out)) (c.as_mut_slice.ensures.value ∙ c.join.ensures) ∙ joined_outs g.L.O.Out.state g.L.I.In.state _ _ (omega (arith, rests, count, links, all)))
+    (back_silent g.L.O.Out.state g.L.I.In.state c.args.ends.items c.as_mut_slice.result.now _ _ c.requires.untouched c.part.ensures.rests (c.as_mut_slice.ensures.value ∙ c.join.ensures))
     q.1 (c.give_back-in-Ok-run_on.ensures.back ∙ ap (map (end_at g.L.O.Out.state g.L.I.In.state)) lent) q.2)
 
 pub returns-in-Ok-run_on-clause-back : goal.returns-in-Ok-run_on-clause-back

@@ -1,0 +1,59 @@
+-- No call is told twice in a run, and so no two outcomes of its report show the end of one call.
+use Rattle.std.proofs.Common.{ℕ, ◌+◌, ◌≤◌, List, [], ◌∷◌, ◌++◌, append_assoc, map, Some, None, replicate, refl, sym, ap, subst, arith}
+use Rattle.std.specs.Prelude.{Option, slice_set}
+use Rattle.std.specs.List.{AllByRecursion}
+use Rattle.sock_words.specs.Codes.{EEOF}
+use Rattle.sock_words.specs.declared.outcome.Outcome.{Outcome}
+use Rattle.sock_io.specs.declared.link.Ends.{Ends}
+use Rattle.sock_io.specs.Link.{OutState, InState}
+use Rattle.corr_core.specs.Law.{total}
+use Rattle.corr_core.specs.declared.marks.Plan.{Plan}
+use Rattle.corr_core.specs.declared.marks.View.{View}
+use Rattle.sock_message.specs.Asked.{Asked}
+use Rattle.rpc_client.specs.declared.acting.Told.{Told}
+use Rattle.rpc_reader.specs.Books.{Books}
+use Rattle.script_threads.specs.Saying.{said_by, said_by_each}
+use Rattle.call_told.specs.Answers.{IsOwn}
+use Rattle.call_told.specs.Once.{told_ends, ToldOnce, shows, ShownOnce}
+use Rattle.call_told.specs.Rested.{AllRested}
+use Rattle.call_told.proofs.Balance.{AreBalanced}
+use Rattle.call_told.proofs.Once.{told_once}
+use Rattle.call_told.proofs.Shown.{shown_none, shown_set, shown_once}
+use Rattle.script_calls.specs.Reading.{IdSeat, EachRested, begins, HasRead}
+use Rattle.script_calls.specs.Told.{outcomes_of}
+
+abbrev view_of : IdSeat → View Asked
+view_of s = s.me.0
+
+rested_all : (p : Plan) (code : ℕ) (os : List ℕ) (ss ts : List IdSeat) (b b' : Books) → EachRested p code os ss ts b b' → AllRested view_of p code os ss ts b b'
+rested_all p code os [] left b b' h = h
+rested_all p code os (s ∷ ss) left b b' h = (h.0, h.1, h.2, h.3, rested_all p code os ss h.1 b h.2 h.4, h.5)
+
+-- ## Put together by the numbers of operations
+
+said_few : (id : ℕ) (said : List (Option Outcome)) (ts : List Told) → total (shows id) (said_by said ts) ≤ total (shows id) said + told_ends id ts
+said_few id said [] = omega arith
+said_few id said (t ∷ ts) = let a = said_few id (slice_set said t.number (Some t.outcome)) ts in let b = shown_set id said t.number t.outcome in omega arith
+
+each_few : (id : ℕ) (said : List (Option Outcome)) (tss : List (List Told)) → total (shows id) (said_by_each said tss) ≤ total (shows id) said + total (told_ends id) tss
+each_few id said [] = omega arith
+each_few id said (ts ∷ tss) = let a = each_few id (said_by said ts) tss in let b = said_few id said ts in omega arith
+
+outcomes_few : (n : ℕ) (told ended : List (List Told)) (read : List Told) (id : ℕ) → total (shows id) (outcomes_of n told ended read) ≤ total (told_ends id) (told ++ (ended ++ read ∷ []))
+outcomes_few n told ended read id =
+    let a = each_few id (replicate n None) ((told ++ ended) ++ read ∷ []) in
+    let b = shown_none id n in
+    let c = ap (total (told_ends id)) (append_assoc told ended (read ∷ [])) in omega arith
+
+module _ {O I P : Type 0} (out : O → OutState) (inn : I → InState) (q : Plan) (operations : List ℕ) where
+  -- the clients told what their seats noted, and the rest was read: no call is told twice
+  read_once : (seats : List IdSeat) (es es' : List (Ends O I P)) (ended : List (List Told)) (told : List Told) → AreBalanced ended (map view_of seats) → HasRead out inn q operations seats es es' told → ToldOnce q.slots (ended ++ told ∷ [])
+  read_once seats es es' ended told balanced h =
+      subst (λ (t : List Told). ToldOnce q.slots (ended ++ t ∷ [])) (sym h.told_is)
+      (told_once view_of out inn q operations EEOF ended h.main h.asking h.asked h.left es es' (begins h.main) h.between h.last _ h.words
+      (subst (λ (l : List IdSeat). AreBalanced ended (map view_of l)) h.seats_are balanced) refl refl h.read (rested_all q EEOF operations h.asking h.asked h.between h.last h.rested) h.calm h.left_is h.closing)
+
+  -- the outcomes of clients that tell no end of a call of their own operations, with what main told behind them
+  pub run_shown : (n : ℕ) (told ended : List (List Told)) (last : List Told) (seats : List IdSeat) (es es' : List (Ends O I P)) → AllByRecursion (λ ts. AllByRecursion IsOwn ts) told → AreBalanced ended (map view_of seats) → HasRead out inn q operations seats es es' last
+      → ShownOnce q.slots (outcomes_of n told ended last)
+  run_shown n told ended last seats es es' owns balanced h = shown_once q.slots (outcomes_of n told ended last) told (ended ++ last ∷ []) (outcomes_few n told ended last) owns (read_once seats es es' ended last balanced h)
