@@ -1,4 +1,4 @@
-use crate::answer::replayed;
+use crate::answer::{answered, replayed};
 use crate::noting::Noting;
 use loop_link::LoopLinker;
 use sock_io::SinkLinker;
@@ -66,6 +66,44 @@ fn puts_fail_in_turn(rt: HostRuntime) -> Result<(), Fail> {
         let (status, written) = report(&rt, script)?;
         assert_eq!(rt; status, 0, "at {script}");
         assert_eq!(rt; written.as_slice(), text.as_bytes(), "at {script}");
+    }
+    Ok(())
+}
+
+/// Scripts of one client whose first link fails each put in turn, by the number of the put, while a frame of 30 bytes goes out in
+/// pieces of 7: the call is retried over the second link.
+const RETRIED: [&str; 8] = [
+    "open a serve piece=7 fail=1\nopen b serve\nclient\ncall a,b Echo.Echo 6869 retry=1\nsend a 61\n",
+    "open a serve piece=7 fail=2\nopen b serve\nclient\ncall a,b Echo.Echo 6869 retry=1\nsend a 61\n",
+    "open a serve piece=7 fail=3\nopen b serve\nclient\ncall a,b Echo.Echo 6869 retry=1\nsend a 61\n",
+    "open a serve piece=7 fail=4\nopen b serve\nclient\ncall a,b Echo.Echo 6869 retry=1\nsend a 61\n",
+    "open a serve piece=7 fail=5\nopen b serve\nclient\ncall a,b Echo.Echo 6869 retry=1\nsend a 61\n",
+    "open a serve piece=7 fail=6\nopen b serve\nclient\ncall a,b Echo.Echo 6869 retry=1\nsend a 61\n",
+    "open a serve piece=7 fail=7\nopen b serve\nclient\ncall a,b Echo.Echo 6869 retry=1\nsend a 61\n",
+    "open a serve piece=7 fail=8\nopen b serve\nclient\ncall a,b Echo.Echo 6869 retry=1\nsend a 61\n",
+];
+
+/// The status of a command over links in memory, and what it wrote.
+fn told<R: Threads + Wait + Sync + Alloc<A = Global>>(
+    rt: &R,
+    command: &str,
+    script: &str,
+) -> Result<(u8, Vec<u8>), Fail> {
+    let alloc = rt.alloc();
+    let words = vec![in alloc; String::from_str(alloc, command)?]?;
+    let mut links = LoopLinker::new(alloc, Vec::new(alloc));
+    answered(rt, &words, script, &mut links)
+}
+
+/// On threads they end as they do step by step.
+#[test]
+fn puts_fail_on_threads(rt: HostRuntime) -> Result<(), Fail> {
+    for script in RETRIED {
+        let (status, text) = told(&rt, "replay", script)?;
+        assert_eq!(rt; status, 0, "at {script}");
+        let (status, written) = told(&rt, "run", script)?;
+        assert_eq!(rt; status, 0, "at {script}");
+        assert_eq!(rt; written.as_slice(), text.as_slice(), "at {script}");
     }
     Ok(())
 }
