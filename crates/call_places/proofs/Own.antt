@@ -1,0 +1,80 @@
+-- A client's own list of accepted messages has those of its deeds, in their order; and each operation of the client is one of its deeds.
+use Rattle.std.proofs.Common.{◌≡◌, ℕ, zero, suc, ◌<◌, List, [], ◌∷◌, ◌++◌, length, drop, flat_map, append_assoc, append-nil, refl, sym, ap, ◌∙◌, subst, arith}
+use Rattle.std.specs.Prelude.{Option}
+use Rattle.std.proofs.lemmas.List.{drop_all}
+use Rattle.sock_io.specs.declared.link.Out.{Ghosts}
+use Rattle.sock_io.specs.Link.{OutState}
+use Rattle.sock_words.specs.declared.outcome.Outcome.{Outcome}
+use Rattle.sock_words.specs.declared.plain.Plan.{Plan}
+use Rattle.sock_model.specs.declared.chain.Entry.{Entry}
+use Rattle.sock_model.specs.declared.view.View.{View}
+use Rattle.sock_model.specs.Seats.{newcomer}
+use Rattle.sock_programs.specs.declared.task.Task.{Task}
+use Rattle.corr_core.specs.declared.marks.Plan as id_plan
+use Rattle.call_attempts.specs.Both.{Both}
+use Rattle.call_attempts.specs.Retrying.{without_oldest, Retried, none_yet, one_more}
+use Rattle.call_client.specs.Acting.{Stand, stand, both_of}
+use Rattle.call_client.specs.Running.{Course, Ran, begins, LeftAll}
+use Rattle.call_run.specs.Threads.{Thread, IsThread}
+use Rattle.table_told.proofs.Moments.{flat-append}
+use Rattle.call_places.specs.Deeds.{Deed, operates, retries, retries_of, ran_deeds, deeds, entries_of, own_entries}
+use Rattle.call_places.proofs.Lists.{Grown, grown_none, waited_lists, gave_lists, retry_grows, acted_grows}
+
+grown_then : (es fs : List Entry) (u v w : View) → Grown es u v → Grown fs v w → Grown (es ++ fs) u w
+grown_then es fs u v w a b l ls is = b (l ++ es) ls (a l ls is) ∙ ap (λ x. x ∷ ls) (append_assoc l es fs)
+
+grown_as : (es fs : List Entry) (v w : View) → es ≡ fs → Grown es v w → Grown fs v w
+grown_as es fs v w e = subst (λ l. Grown l v w) e
+
+module _ {O : Type 0} {g : Ghosts O} (state : O → OutState) (p : Plan) (q : id_plan.Plan) where
+  -- by these deeds
+  abbrev GrownBy : List (Deed g state p q) → View → View → Type 0
+  GrownBy ds v w = Grown (flat_map entries_of ds) v w
+
+  by_then : (ds es : List (Deed g state p q)) (u v w : View) → GrownBy ds u v → GrownBy es v w → GrownBy (ds ++ es) u w
+  by_then ds es u v w a b = grown_as (flat_map entries_of ds ++ flat_map entries_of es) (flat_map entries_of (ds ++ es)) u w (sym (flat-append entries_of ds es)) (grown_then (flat_map entries_of ds) (flat_map entries_of es) u v w a b)
+
+  by_one : (d : Deed g state p q) (v w : View) → Grown (entries_of d) v w → GrownBy (d ∷ []) v w
+  by_one d v w a = grown_as (entries_of d) (flat_map entries_of (d ∷ [])) v w (sym (append-nil (entries_of d))) a
+
+  retries_grow : (s t : Both) (r : Retried state p q s t) → GrownBy (retries_of {g = g} state p q s t r) s.socks t.socks
+  retries_grow s _ none_yet = grown_none s.socks s.socks refl
+  retries_grow s _ (one_more u t r rest before waits fed by) = by_then (retries_of {g = g} state p q s u before) (retries r (without_oldest rest u) t by ∷ []) s.socks u.socks t.socks
+      (retries_grow s u before) (by_one (retries r (without_oldest rest u) t by) u.socks t.socks (retry_grows state p q r (without_oldest rest u) t by))
+
+  ran_grows : (xs : List Task) (n : ℕ) (s t : Course g) (h : Ran state p q xs n s t) → GrownBy (ran_deeds state p q xs n s t h) s.has.me.0 t.has.me.0
+  ran_grows xs zero s t e = grown_none s.has.me.0 t.has.me.0 (ap (λ (c : Course g). c.has.me.0.lists) e)
+  ran_grows xs (suc n) s t h =
+      let m = h.4 in
+      let now : Deed g state p q = operates h.1 m.by m.ready t.has m.acted in
+      let waited : List (Deed g state p q) = retries_of state p q (both_of h.0.has) (both_of m.ready) m.retried.all.retried in
+      by_then (ran_deeds state p q xs n s h.0 h.2) (waited ++ now ∷ []) s.has.me.0 h.0.has.me.0 t.has.me.0 (ran_grows xs n s h.0 h.2)
+      (by_then waited (now ∷ []) h.0.has.me.0 m.ready.me.0 t.has.me.0 (retries_grow (both_of h.0.has) (both_of m.ready) m.retried.all.retried)
+      (by_one now m.ready.me.0 t.has.me.0 (acted_grows state p q h.1.number h.1.op m.by m.ready t.has m.acted)))
+
+-- ## A whole run
+
+module _ {O : Type 0} {g : Ghosts O} {state : O → OutState} {p : Plan} {q : id_plan.Plan} {first : ℕ} (x : Thread g) (th : IsThread state p q first x) where
+  -- where it had come by all its operations
+  abbrev pub came : Course g
+  came = record { has = stand th.ran.came; told = th.ran.came.outcomes.items; names = th.ran.ran.names }
+
+  all_made : drop th.ran.made x.tasks ≡ []
+  all_made = let n = th.ran.ends.0 in drop_all th.ran.made x.tasks (omega arith)
+
+  left_none : (s t : Stand g) (ts : List Task) → ts ≡ [] → LeftAll p ts s t → t ≡ s
+  left_none s t ts e h = subst (λ (l : List Task). LeftAll p l s t) e h
+
+  -- no operation was left
+  pub end_is : th.ran.end ≡ th.ran.last
+  end_is = left_none th.ran.last th.ran.end (drop th.ran.made x.tasks) all_made th.ran.left
+
+  pub own_list : x.ended.seat.me.0.lists ≡ own_entries x th ∷ []
+  own_list =
+      let before = waited_lists p x.names (newcomer p [] th.spare) x.began.seat.me.0 th.waited in
+      let behind = gave_lists th.ran.end.held _ th.ran.end.me.0 x.ended.seat.me.0 th.ran.given in
+      let last : List (Deed g state p q) = retries_of state p q (both_of (stand th.ran.came)) (both_of th.ran.last) th.ran.ends.1.all.retried in
+      behind ∙ (ap (λ (s : Stand g). s.me.0.lists) end_is
+      ∙ by_then state p q (ran_deeds state p q x.tasks th.ran.made (begins x.began) came th.ran.ran.ran) last x.began.seat.me.0 th.ran.came.seat.me.0 th.ran.last.me.0
+      (ran_grows state p q x.tasks th.ran.made (begins x.began) came th.ran.ran.ran)
+      (retries_grow state p q (both_of (stand th.ran.came)) (both_of th.ran.last) th.ran.ends.1.all.retried) [] [] before)
