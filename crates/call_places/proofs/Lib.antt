@@ -9,3 +9,4 @@ pub mod Ids
 pub mod Log
 pub mod Clients
 pub mod Places
+pub mod Reader

@@ -1,7 +1,11 @@
 -- A client's own list of accepted messages has those of its deeds, in their order; and each operation of the client is one of its deeds.
-use Rattle.std.proofs.Common.{◌≡◌, ℕ, zero, suc, ◌<◌, List, [], ◌∷◌, ◌++◌, length, drop, flat_map, append_assoc, append-nil, refl, sym, ap, ◌∙◌, subst, arith}
+use Rattle.std.proofs.Common.{◌≡◌, ℕ, zero, suc, ◌+◌, ◌<◌, List, [], ◌∷◌, ◌++◌, length, drop, flat_map, append_assoc, append-nil, refl, sym, ap, ◌∙◌, subst, arith}
 use Rattle.std.specs.Prelude.{Option}
 use Rattle.std.proofs.lemmas.List.{drop_all}
+use mathlib.Core.Logic.{dite}
+use mathlib.Core.Option.{some, some-injective, some-ne-none}
+use native.Mathlib.Decide.{ℕ_discrete}
+use lib.ListN.{get_elem?}
 use Rattle.sock_io.specs.declared.link.Out.{Ghosts}
 use Rattle.sock_io.specs.Link.{OutState}
 use Rattle.sock_words.specs.declared.outcome.Outcome.{Outcome}
@@ -13,9 +17,10 @@ use Rattle.sock_programs.specs.declared.task.Task.{Task}
 use Rattle.corr_core.specs.declared.marks.Plan as id_plan
 use Rattle.call_attempts.specs.Both.{Both}
 use Rattle.call_attempts.specs.Retrying.{without_oldest, Retried, none_yet, one_more}
-use Rattle.call_client.specs.Acting.{Stand, stand, both_of}
+use Rattle.call_client.specs.Acting.{Stand, stand, both_of, Acted}
 use Rattle.call_client.specs.Running.{Course, Ran, begins, LeftAll}
 use Rattle.call_run.specs.Threads.{Thread, IsThread}
+use Rattle.table_told.proofs.Flats.{append_first, append_later}
 use Rattle.table_told.proofs.Moments.{flat-append}
 use Rattle.call_places.specs.Deeds.{Deed, operates, retries, retries_of, ran_deeds, deeds, entries_of, own_entries}
 use Rattle.call_places.proofs.Lists.{Grown, grown_none, waited_lists, gave_lists, retry_grows, acted_grows}
@@ -52,6 +57,33 @@ module _ {O : Type 0} {g : Ghosts O} (state : O → OutState) (p : Plan) (q : id
       (by_then waited (now ∷ []) h.0.has.me.0 m.ready.me.0 t.has.me.0 (retries_grow (both_of h.0.has) (both_of m.ready) m.retried.all.retried)
       (by_one now m.ready.me.0 t.has.me.0 (acted_grows state p q h.1.number h.1.op m.by m.ready t.has m.acted)))
 
+  -- the task was made, as one of these deeds
+  pub record IsMade (ds : List (Deed g state p q)) (x : Task) : Type 0 where
+    pub place : ℕ
+    pub by : Option Outcome
+    pub before : Stand g
+    pub after : Stand g
+    pub acted : Acted state p q x.number x.op by before after
+    pub there : get_elem? ds place ≡ some (operates x by before after acted)
+
+  made_first : (ds es : List (Deed g state p q)) (x : Task) → IsMade ds x → IsMade (ds ++ es) x
+  made_first ds es x m = record { place = m.place; by = m.by; before = m.before; after = m.after; acted = m.acted; there = append_first ds es m.place _ m.there }
+
+  made_later : (ds es : List (Deed g state p q)) (x : Task) → IsMade es x → IsMade (ds ++ es) x
+  made_later ds es x m = record { place = length ds + m.place; by = m.by; before = m.before; after = m.after; acted = m.acted; there = append_later ds es m.place _ m.there }
+
+  ran_made : (xs : List Task) (n : ℕ) (s t : Course g) (h : Ran state p q xs n s t) (k : ℕ) (x : Task) → k < n → get_elem? xs k ≡ some x → IsMade (ran_deeds state p q xs n s t h) x
+  ran_made xs zero s t e k x low at = absurd (omega arith)
+  ran_made xs (suc n) s t h k x low at =
+      let m = h.4 in
+      let now : Deed g state p q = operates h.1 m.by m.ready t.has m.acted in
+      let waited : List (Deed g state p q) = retries_of state p q (both_of h.0.has) (both_of m.ready) m.retried.all.retried in
+      let earlier : List (Deed g state p q) = ran_deeds state p q xs n s h.0 h.2 in
+      dite (ℕ_discrete k n)
+      (λ e. let same : h.1 ≡ x = some-injective h.1 x (sym h.3 ∙ (ap (get_elem? xs) (sym e) ∙ at)) in
+      subst (IsMade (earlier ++ (waited ++ now ∷ []))) same (made_later earlier (waited ++ now ∷ []) h.1 (made_later waited (now ∷ []) h.1 (record { place = 0; by = m.by; before = m.ready; after = t.has; acted = m.acted; there = refl }))))
+      (λ ne. made_first earlier (waited ++ now ∷ []) x (ran_made xs n s h.0 h.2 k x (omega (arith, low, ne)) at))
+
 -- ## A whole run
 
 module _ {O : Type 0} {g : Ghosts O} {state : O → OutState} {p : Plan} {q : id_plan.Plan} {first : ℕ} (x : Thread g) (th : IsThread state p q first x) where
@@ -78,3 +110,15 @@ module _ {O : Type 0} {g : Ghosts O} {state : O → OutState} {p : Plan} {q : id
       ∙ by_then state p q (ran_deeds state p q x.tasks th.ran.made (begins x.began) came th.ran.ran.ran) last x.began.seat.me.0 th.ran.came.seat.me.0 th.ran.last.me.0
       (ran_grows state p q x.tasks th.ran.made (begins x.began) came th.ran.ran.ran)
       (retries_grow state p q (both_of (stand th.ran.came)) (both_of th.ran.last) th.ran.ends.1.all.retried) [] [] before)
+
+  at_low : (xs : List Task) (i : ℕ) (t : Task) → get_elem? xs i ≡ some t → i < length xs
+  at_low [] i t e = absurd (some-ne-none t (sym e))
+  at_low (y ∷ ys) zero t e = omega arith
+  at_low (y ∷ ys) (suc i) t e = let a = at_low ys i t e in omega arith
+
+  -- each of its tasks is one of its deeds
+  pub deed_of : (k : ℕ) (t : Task) → get_elem? x.tasks k ≡ some t → IsMade state p q (deeds x th) t
+  deed_of k t at =
+      let low = at_low x.tasks k t at in let n = th.ran.ends.0 in
+      made_first state p q (ran_deeds state p q x.tasks th.ran.made (begins x.began) came th.ran.ran.ran) (retries_of state p q (both_of (stand th.ran.came)) (both_of th.ran.last) th.ran.ends.1.all.retried) t
+      (ran_made state p q x.tasks th.ran.made (begins x.began) came th.ran.ran.ran k t (omega arith) at)

@@ -8,13 +8,16 @@ use lib.ListN.{get_elem?}
 use Rattle.atomic_table.specs.declared.shared.Seat.{Seat}
 use Rattle.sock_io.specs.declared.link.Out.{Ghosts}
 use Rattle.sock_io.specs.Link.{OutState}
+use Rattle.sock_words.specs.declared.outcome.Outcome.{Outcome}
 use Rattle.sock_words.specs.declared.plain.Plan.{Plan}
 use Rattle.sock_words.specs.declared.place_word.PlaceWord.{PlaceWord}
 use Rattle.sock_words.specs.declared.vref.Vref.{Vref}
 use Rattle.sock_words.specs.Words.{no_place, HasPosition, IsPlaceWord}
 use Rattle.brpc_model.specs.Operations.{Label}
 use Rattle.brpc_model.specs.PlaceWords.{word_at, StandsAt, ArePlaces}
+use Rattle.sock_model.specs.Authors.{pick}
 use Rattle.sock_model.specs.declared.chain.Entry.{Entry}
+use Rattle.sock_model.specs.declared.chain.Heading.{Heading}
 use Rattle.sock_model.specs.declared.view.View as sock_view
 use Rattle.sock_model.specs.Deliveries.{place_value}
 use Rattle.sock_model.specs.Entries.{on}
@@ -23,6 +26,8 @@ use Rattle.chain_laws.proofs.Lists.{distinct_filter}
 use Rattle.sock_rule.specs.Closing.{PlacesDiffer}
 use Rattle.sock_rule.specs.declared.homes.SockHome.{SockHome}
 use Rattle.report_fits.proofs.PlaceValues.{is_place}
+use Rattle.sock_programs.specs.declared.task.Op.{Op}
+use Rattle.sock_programs.specs.declared.task.Op.TheVariants as ops
 use Rattle.sock_programs.specs.declared.task.Task.{Task}
 use Rattle.sock_programs.specs.Told.{AreTasks}
 use Rattle.corr_core.specs.Law.{total}
@@ -32,18 +37,20 @@ use Rattle.corr_core.specs.declared.marks.View.{View}
 use Rattle.corr_core.proofs.Notes.{only-at}
 use Rattle.sock_message.specs.Asked.{Asked}
 use Rattle.rpc_client.specs.declared.acting.Told.{Told}
+use Rattle.call_client.specs.Acting.{Stand, Acted}
 use Rattle.call_client.specs.Running.{MayMakeAll}
 use Rattle.call_run.specs.Threads.{Thread, IsThread, AreThreads, RanOn, AllMayRun, MayRunAll, ids_of, opens_of}
-use Rattle.table_told.proofs.Entries.{from_on}
+use Rattle.table_told.proofs.Entries.{from_pick, from_on, on_there}
+use Rattle.table_told.proofs.Flats.{flat_there}
 use Rattle.call_places.specs.Counted.{HaveNotesOf}
-use Rattle.call_places.specs.Deeds.{own_entries}
+use Rattle.call_places.specs.Deeds.{acted_entries, entries_of, own_entries}
 use Rattle.call_places.proofs.Weights.{term}
 use Rattle.call_places.proofs.Lists.{each_ended_lists}
-use Rattle.call_places.proofs.Own.{own_list}
+use Rattle.call_places.proofs.Own.{IsMade, own_list}
 use Rattle.call_places.proofs.Labels.{at_place}
 use Rattle.call_places.proofs.Numbers.{numbered, numbered_once}
 use Rattle.call_places.proofs.Ids.{IdLaws}
-use Rattle.call_places.proofs.Clients.{Client, total_map, view_of, tasks_of, own_of, once, inside}
+use Rattle.call_places.proofs.Clients.{Client, total_map, view_of, tasks_of, deeds_of, own_of, once, inside}
 use Rattle.call_places.proofs.Log as log
 
 -- ## Lists by places
@@ -72,6 +79,19 @@ there : {A : Type 0} (xs : List A) (i : ℕ) → i < length xs → (x : A) × (g
 there [] i low = absurd (omega arith)
 there (x ∷ xs) zero low = (x, refl)
 there (x ∷ xs) (suc i) low = there xs i (omega arith)
+
+-- the entry of a send that was accepted
+send_entry : {O : Type 0} {g : Ghosts O} (state : O → OutState) (p : Plan) (q : id_plan.Plan) (number n : ℕ) (bytes : List ℕ) (op : Op) → op ≡ ops.Send n bytes → (by : Option Outcome) → by ≡ None → (s t : Stand g) (a : Acted state p q number op by s t)
+    → (e : Entry) × (get_elem? (acted_entries state p q number op by s t a) 0 ≡ some e) × (e.heading.place ≡ 8 * number + 0) × (e.link < p.links)
+send_entry state p q number n bytes (ops.Send m bs) is None untold s t a = let x = a.0.delivered.accepted in (x.entry, refl, ap (λ (h : Heading). h.place) x.heading_is, x.inside)
+send_entry state p q number n bytes (ops.Send m bs) is (Some by) untold s t a = absurd (cc)
+send_entry state p q number n bytes (ops.Open m k) is by untold s t a = absurd (cc)
+send_entry state p q number n bytes (ops.Call asked) is by untold s t a = absurd (cc)
+send_entry state p q number n bytes (ops.Expire of) is by untold s t a = absurd (cc)
+send_entry state p q number n bytes (ops.Join of) is by untold s t a = absurd (cc)
+send_entry state p q number n bytes (ops.Hold m) is by untold s t a = absurd (cc)
+send_entry state p q number n bytes (ops.Drop m) is by untold s t a = absurd (cc)
+send_entry state p q number n bytes (ops.Fail m code) is by untold s t a = absurd (cc)
 
 -- ## The clients of a run
 
@@ -242,3 +262,15 @@ module _ {O : Type 0} {g : Ghosts O} {state : O → OutState} {p : Plan} {slots 
               let n : ℕ = 8 * (e.heading.place / 8) + e.heading.place % 8 in
               let t = tells n k lower (record { inside = low_link; entry = e; at = at; place = omega arith }) in
               (record { operation = e.heading.place / 8; attempt = e.heading.place % 8 }, record { attempt = omega arith; told = record { accepted = t.1.has_position; link_is = t.1.link_is; position_is = t.1.position_is } })
+
+      -- ## Sends
+
+      -- the message of a send that was accepted has a place
+      pub send_placed : (j : ℕ) (c : Client g state p (ids_of p slots)) → get_elem? all j ≡ some c → (t : Task) (n : ℕ) (bytes : List ℕ) → t.op ≡ ops.Send n bytes → (m : IsMade state p (ids_of p slots) (deeds_of c) t) → m.by ≡ None → HasPosition (word_at places (8 * t.number))
+      send_placed j c at t n bytes is m untold =
+          let e = send_entry state p (ids_of p slots) t.number n bytes t.op is m.by untold m.before m.after m.acted in
+          let own = flat_there entries_of (deeds_of c) m.place _ 0 e.0 m.there e.1 in
+          let list = map_from (λ a. pick a run.closed.ordered.by accepted) run.closed.ordered.names j (own_of c) (ap (λ l. get_elem? l j) (sym run.closed.ordered.lists_are ∙ lists_are) ∙ map_place own_of all j c at) in
+          let q = from_pick list.0 run.closed.ordered.by accepted own.0 e.0 (ap (λ l. get_elem? l own.0) list.2 ∙ own.1) in
+          let i = on_there e.0.link accepted q.0 e.0 q.2 refl in
+          (tells (8 * t.number) e.0.link i.0 (record { inside = e.3; entry = e.0; at = i.1; place = omega (arith, e.2) })).1.has_position
