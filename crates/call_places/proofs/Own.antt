@@ -1,6 +1,7 @@
 -- A client's own list of accepted messages has those of its deeds, in their order; and each operation of the client is one of its deeds.
 use Rattle.std.proofs.Common.{◌≡◌, ℕ, zero, suc, ◌+◌, ◌<◌, List, [], ◌∷◌, ◌++◌, length, drop, flat_map, append_assoc, append-nil, refl, sym, ap, ◌∙◌, subst, arith}
-use Rattle.std.specs.Prelude.{Option}
+use Rattle.std.specs.Prelude.{Option, Some, None}
+use Rattle.std.proofs.lemmas.Option.{same_Some}
 use Rattle.std.proofs.lemmas.List.{drop_all}
 use mathlib.Core.Logic.{dite}
 use mathlib.Core.Option.{some, some-injective, some-ne-none}
@@ -15,6 +16,8 @@ use Rattle.sock_model.specs.declared.view.View.{View}
 use Rattle.sock_model.specs.Seats.{newcomer}
 use Rattle.sock_programs.specs.declared.task.Task.{Task}
 use Rattle.corr_core.specs.declared.marks.Plan as id_plan
+use Rattle.rpc_client.specs.declared.acting.Told.{Told}
+use Rattle.rpc_client.specs.Running.{telling}
 use Rattle.call_attempts.specs.Both.{Both}
 use Rattle.call_attempts.specs.Retrying.{without_oldest, Retried, none_yet, one_more}
 use Rattle.call_client.specs.Acting.{Stand, stand, both_of, Acted}
@@ -57,32 +60,55 @@ module _ {O : Type 0} {g : Ghosts O} (state : O → OutState) (p : Plan) (q : id
       (by_then waited (now ∷ []) h.0.has.me.0 m.ready.me.0 t.has.me.0 (retries_grow (both_of h.0.has) (both_of m.ready) m.retried.all.retried)
       (by_one now m.ready.me.0 t.has.me.0 (acted_grows state p q h.1.number h.1.op m.by m.ready t.has m.acted)))
 
-  -- the task was made, as one of these deeds
-  pub record IsMade (ds : List (Deed g state p q)) (x : Task) : Type 0 where
+  -- the task was made, as one of these deeds, and its outcome is told
+  pub record IsMade (ds : List (Deed g state p q)) (told : List Told) (x : Task) : Type 0 where
     pub place : ℕ
     pub by : Option Outcome
     pub before : Stand g
     pub after : Stand g
     pub acted : Acted state p q x.number x.op by before after
     pub there : get_elem? ds place ≡ some (operates x by before after acted)
+    pub tells : (o : Outcome) → by ≡ Some o → (i : ℕ) × (get_elem? told i ≡ some (record { number = x.number; outcome = o }))
 
-  made_first : (ds es : List (Deed g state p q)) (x : Task) → IsMade ds x → IsMade (ds ++ es) x
-  made_first ds es x m = record { place = m.place; by = m.by; before = m.before; after = m.after; acted = m.acted; there = append_first ds es m.place _ m.there }
+  made_first : (ds es : List (Deed g state p q)) (told more : List Told) (x : Task) → IsMade ds told x → IsMade (ds ++ es) (told ++ more) x
+  made_first ds es told more x m = record {
+    place = m.place;
+    by = m.by;
+    before = m.before;
+    after = m.after;
+    acted = m.acted;
+    there = append_first ds es m.place _ m.there;
+    tells = λ o e. (let i = m.tells o e in (i.0, append_first told more i.0 _ i.1));
+  }
 
-  made_later : (ds es : List (Deed g state p q)) (x : Task) → IsMade es x → IsMade (ds ++ es) x
-  made_later ds es x m = record { place = length ds + m.place; by = m.by; before = m.before; after = m.after; acted = m.acted; there = append_later ds es m.place _ m.there }
+  -- the operation that is told behind these
+  told_last : (number : ℕ) (by : Option Outcome) (told : List Told) (o : Outcome) → by ≡ Some o → (i : ℕ) × (get_elem? (told ++ telling number by) i ≡ some (record { number = number; outcome = o }))
+  told_last number None told o e = absurd (cc)
+  told_last number (Some x) told o e = (length told + 0, append_later told (record { number = number; outcome = x } ∷ []) 0 (record { number = number; outcome = o }) (let same : x ≡ o = same_Some x o e in ap (λ (y : Outcome). some (record { number = number; outcome = y })) same))
 
-  ran_made : (xs : List Task) (n : ℕ) (s t : Course g) (h : Ran state p q xs n s t) (k : ℕ) (x : Task) → k < n → get_elem? xs k ≡ some x → IsMade (ran_deeds state p q xs n s t h) x
+  made_now : (ds waited : List (Deed g state p q)) (told : List Told) (x : Task) (by : Option Outcome) (s t : Stand g) (a : Acted state p q x.number x.op by s t) → IsMade (ds ++ (waited ++ operates x by s t a ∷ [])) (told ++ telling x.number by) x
+  made_now ds waited told x by s t a = let now : Deed g state p q = operates x by s t a in record {
+    place = length ds + (length waited + 0);
+    by = by;
+    before = s;
+    after = t;
+    acted = a;
+    there = append_later ds (waited ++ now ∷ []) (length waited + 0) now (append_later waited (now ∷ []) 0 now refl);
+    tells = told_last x.number by told;
+  }
+
+  ran_made : (xs : List Task) (n : ℕ) (s t : Course g) (h : Ran state p q xs n s t) (k : ℕ) (x : Task) → k < n → get_elem? xs k ≡ some x → IsMade (ran_deeds state p q xs n s t h) t.told x
   ran_made xs zero s t e k x low at = absurd (omega arith)
   ran_made xs (suc n) s t h k x low at =
       let m = h.4 in
-      let now : Deed g state p q = operates h.1 m.by m.ready t.has m.acted in
       let waited : List (Deed g state p q) = retries_of state p q (both_of h.0.has) (both_of m.ready) m.retried.all.retried in
       let earlier : List (Deed g state p q) = ran_deeds state p q xs n s h.0 h.2 in
-      dite (ℕ_discrete k n)
+      let now : Deed g state p q = operates h.1 m.by m.ready t.has m.acted in
+      subst (λ (l : List Told). IsMade (earlier ++ (waited ++ now ∷ [])) l x) (sym m.told)
+      (dite (ℕ_discrete k n)
       (λ e. let same : h.1 ≡ x = some-injective h.1 x (sym h.3 ∙ (ap (get_elem? xs) (sym e) ∙ at)) in
-      subst (IsMade (earlier ++ (waited ++ now ∷ []))) same (made_later earlier (waited ++ now ∷ []) h.1 (made_later waited (now ∷ []) h.1 (record { place = 0; by = m.by; before = m.ready; after = t.has; acted = m.acted; there = refl }))))
-      (λ ne. made_first earlier (waited ++ now ∷ []) x (ran_made xs n s h.0 h.2 k x (omega (arith, low, ne)) at))
+      subst (IsMade (earlier ++ (waited ++ now ∷ [])) (h.0.told ++ telling h.1.number m.by)) same (made_now earlier waited h.0.told h.1 m.by m.ready t.has m.acted))
+      (λ ne. made_first earlier (waited ++ now ∷ []) h.0.told (telling h.1.number m.by) x (ran_made xs n s h.0 h.2 k x (omega (arith, low, ne)) at)))
 
 -- ## A whole run
 
@@ -117,8 +143,12 @@ module _ {O : Type 0} {g : Ghosts O} {state : O → OutState} {p : Plan} {q : id
   at_low (y ∷ ys) (suc i) t e = let a = at_low ys i t e in omega arith
 
   -- each of its tasks is one of its deeds
-  pub deed_of : (k : ℕ) (t : Task) → get_elem? x.tasks k ≡ some t → IsMade state p q (deeds x th) t
+  pub deed_of : (k : ℕ) (t : Task) → get_elem? x.tasks k ≡ some t → IsMade state p q (deeds x th) x.ended.outcomes.items t
   deed_of k t at =
       let low = at_low x.tasks k t at in let n = th.ran.ends.0 in
-      made_first state p q (ran_deeds state p q x.tasks th.ran.made (begins x.began) came th.ran.ran.ran) (retries_of state p q (both_of (stand th.ran.came)) (both_of th.ran.last) th.ran.ends.1.all.retried) t
-      (ran_made state p q x.tasks th.ran.made (begins x.began) came th.ran.ran.ran k t (omega arith) at)
+      let last : List (Deed g state p q) = retries_of state p q (both_of (stand th.ran.came)) (both_of th.ran.last) th.ran.ends.1.all.retried in
+      let all : List (Deed g state p q) = ran_deeds state p q x.tasks th.ran.made (begins x.began) came th.ran.ran.ran ++ last in
+      let told : th.ran.came.outcomes.items ++ [] ≡ x.ended.outcomes.items = append-nil th.ran.came.outcomes.items ∙ sym (ap (λ v. v.items) th.ran.told) in
+      subst (λ (l : List Told). IsMade state p q all l t) told
+      (made_first state p q (ran_deeds state p q x.tasks th.ran.made (begins x.began) came th.ran.ran.ran) last th.ran.came.outcomes.items [] t
+      (ran_made state p q x.tasks th.ran.made (begins x.began) came th.ran.ran.ran k t (omega arith) at))

@@ -266,7 +266,7 @@ module _ {O : Type 0} {g : Ghosts O} {state : O → OutState} {p : Plan} {slots 
       -- ## Sends
 
       -- the message of a send that was accepted has a place
-      pub send_placed : (j : ℕ) (c : Client g state p (ids_of p slots)) → get_elem? all j ≡ some c → (t : Task) (n : ℕ) (bytes : List ℕ) → t.op ≡ ops.Send n bytes → (m : IsMade state p (ids_of p slots) (deeds_of c) t) → m.by ≡ None → HasPosition (word_at places (8 * t.number))
+      pub send_placed : (j : ℕ) (c : Client g state p (ids_of p slots)) → get_elem? all j ≡ some c → (t : Task) (n : ℕ) (bytes : List ℕ) → t.op ≡ ops.Send n bytes → (m : IsMade state p (ids_of p slots) (deeds_of c) c.thread.ended.outcomes.items t) → m.by ≡ None → HasPosition (word_at places (8 * t.number))
       send_placed j c at t n bytes is m untold =
           let e = send_entry state p (ids_of p slots) t.number n bytes t.op is m.by untold m.before m.after m.acted in
           let own = flat_there entries_of (deeds_of c) m.place _ 0 e.0 m.there e.1 in

@@ -148,8 +148,10 @@ tells_retries x b c (told e) = ap (λ (y : Books). y.retries) e
 tells_retries x b c (lost e) = ap (λ (y : Books). y.retries) e
 
 ended_still : (k : IdLock Asked) (code : ℕ) (s t : CallStand) → EndedWith k code s t → Still s t
-ended_still k code s t h = by_view s t (tells_retries (failed k code) s.books t.books h.tells) (became_grows k.slot s.view t.view [] (one k.slot (Ended (parts k.word.0).first)) h.ended)
-    (λ o. became_all (makes o) k.slot s.view t.view [] (one k.slot (Ended (parts k.word.0).first)) h.ended)
+ended_still k code s t h =
+    let one_end : List (Noted Asked) = one k.slot (Ended (parts k.word.0).first) in
+    by_view s t (tells_retries (failed k code) s.books t.books h.tells) (became_grows k.slot s.view t.view [] one_end h.ended)
+    (λ o. let a : total (makes o) t.view.notes ≡ 0 + total (makes o) s.view.notes = became_all (makes o) k.slot s.view t.view [] one_end h.ended in omega arith)
 
 -- an id is known by its slot and its first version
 id_differs : (i f j g : ℕ) → f < 4294967296 → g < 4294967296 → j * 4294967296 + g ≡ i * 4294967296 + f → (j ≡ i) × (g ≡ f)
