@@ -124,17 +124,17 @@ module _ {O : Type 0} {g : Ghosts O} {state : O → OutState} {p : Plan} {slots 
   abbrev pub all : List (Client g state p (ids_of p slots))
   all = record { thread = run.ran.main; first = 0; is = run.ran.main_is } ∷ clients_from state p (ids_of p slots) _ (opens_of setup) run.ran.others run.ran.others_are
 
-  all_are : {B : Type 0} (f : Thread g → B) → map (λ (c : Client g state p (ids_of p slots)). f c.thread) all ≡ map f (run.ran.main ∷ run.ran.others)
+  pub all_are : {B : Type 0} (f : Thread g → B) → map (λ (c : Client g state p (ids_of p slots)). f c.thread) all ≡ map f (run.ran.main ∷ run.ran.others)
   all_are f = ap (λ l. f run.ran.main ∷ l) (threads_are state p (ids_of p slots) f _ (opens_of setup) run.ran.others run.ran.others_are)
 
-  views_are : map view_of all ≡ ids
+  pub views_are : map view_of all ≡ ids
   views_are = all_are (λ (x : Thread g). x.ended.calls.seat.me.0) ∙ run.ran.ids_are
 
-  tasks_are : map tasks_of all ≡ setup ∷ clients
+  pub tasks_are : map tasks_of all ≡ setup ∷ clients
   tasks_are = all_are (λ (x : Thread g). x.tasks) ∙ (ap (λ (t : List Task). t ∷ map (λ (x : Thread g). x.tasks) run.ran.others) run.ran.setup_asked ∙ ap (λ l. setup ∷ l) run.ran.asked)
 
   -- each seat's list is its client's own
-  lists_are : run.closed.view.lists ≡ map own_of all
+  pub lists_are : run.closed.view.lists ≡ map own_of all
   lists_are =
       let f : Seat (SockHome O g) sock_view.View → List (List Entry) = λ s. s.me.0.lists in
       let rest : List (List Entry) = flat_map f (map (λ (x : Thread g). x.ended.seat) run.ran.others) in
