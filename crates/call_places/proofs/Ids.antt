@@ -1,21 +1,16 @@
 -- The retries of an operation's call have one id: the one that was made for it.
-use Rattle.std.proofs.Common.{◌≡◌, ◌≢◌, ℕ, zero, suc, ◌+◌, ◌*◌, ◌<◌, ◌≤◌, List, [], ◌∷◌, map, refl, sym, ap, ◌∙◌, subst, arith}
+use Rattle.std.proofs.Common.{◌≡◌, ℕ, ◌+◌, ◌*◌, ◌<◌, ◌≤◌, List, sym, ap, ◌∙◌, subst, arith}
 use Rattle.std.proofs.lemmas.Nat.{div-add-mod'}
 use Rattle.std.proofs.Math.Nat.{mod-lt}
 use mathlib.Core.Logic.{dite}
 use mathlib.Core.Option.{some, some-injective}
 use native.Mathlib.Decide.{ℕ_discrete, dec_lt}
 use lib.ListN.{get_elem?}
-use Rattle.sock_io.specs.declared.link.Out.{Ghosts}
-use Rattle.sock_io.specs.Link.{OutState}
-use Rattle.sock_words.specs.declared.plain.Plan.{Plan}
-use Rattle.sock_programs.specs.declared.task.Task.{Task}
 use Rattle.corr_core.specs.Word.{parts}
-use Rattle.corr_core.specs.Law.{total, only, pair, is_made, is_attempt}
+use Rattle.corr_core.specs.Law.{total, is_made, is_attempt}
 use Rattle.corr_core.specs.declared.marks.Note.{Note}
 use Rattle.corr_core.specs.declared.marks.Note.TheVariants.{Tried, Made, Ended, Locker, Queued, Attempt, Saw}
 use Rattle.corr_core.specs.declared.marks.Noted.{Noted}
-use Rattle.corr_core.specs.declared.marks.Plan as id_plan
 use Rattle.corr_core.specs.declared.marks.View.{View}
 use Rattle.corr_core.proofs.Notes.{only-at, only-else, pair-else, pair-else_first, total_some}
 use Rattle.id_rule.specs.Lawful.{notes_of}
@@ -23,10 +18,8 @@ use Rattle.sock_message.specs.Asked.{Asked}
 use Rattle.corr_id.specs.declared.calls.IdLock.{IdLock}
 use Rattle.corr_id.specs.Calls.{is_saw, slot_of, version_of}
 use Rattle.call_errors.specs.Locking.{GotBy}
-use Rattle.call_run.specs.Threads.{Thread, IsThread}
-use Rattle.call_places.specs.Counted.{makes, HaveNotesOf}
-use Rattle.call_places.specs.Deeds.{Deed, deeds}
-use Rattle.call_places.proofs.Weights.{term, two_terms, noted_at}
+use Rattle.call_places.specs.Counted.{makes}
+use Rattle.call_places.proofs.Weights.{two_terms, noted_at}
 use Rattle.call_places.proofs.Still.{advances}
 use Rattle.call_places.proofs.Counts.{locks_for, KnowsLock}
 
@@ -112,7 +105,7 @@ module _ {slots : ℕ} {notes : List (Noted Asked)} (laws : IdLaws slots notes) 
         first = f;
         inside = got.inside;
         low = omega (arith, same, low);
-        id_is = (let a = div-add-mod' id 4294967296 in let b = got.slot_is in let c : slot_of id * 4294967296 + f0 ≡ id = a in ap (λ (j : ℕ). j) (sym c) ∙ λ z. sym b z * 4294967296 + sym same z);
+        id_is = (let a = div-add-mod' id 4294967296 in let b = got.slot_is in omega (arith, a, b, same));
         range = two.0;
         asked = lk.0;
         place = two.1;

@@ -1,5 +1,5 @@
 -- What a client does to its own list of accepted messages: each message that is accepted stands behind the others, and nothing else changes it.
-use Rattle.std.proofs.Common.{◌≡◌, ℕ, zero, suc, ◌⊎◌, inl, inr, ⊎_elim, Option, Some, None, List, [], ◌∷◌, ◌++◌, append-nil, refl, sym, ap, ◌∙◌, subst}
+use Rattle.std.proofs.Common.{◌≡◌, ℕ, zero, suc, inl, inr, ⊎_elim, Option, Some, None, List, [], ◌∷◌, ◌++◌, append-nil, sym, ap, ◌∙◌}
 use Rattle.atomic_table.specs.Table.{Me}
 use Rattle.sock_io.specs.declared.link.Out.{Ghosts}
 use Rattle.sock_io.specs.Link.{OutState}
@@ -12,14 +12,11 @@ use Rattle.sock_model.specs.declared.view.View.{View}
 use Rattle.sock_model.specs.ChainRows.{more}
 use Rattle.sock_rule.specs.declared.homes.Letter.{Letter}
 use Rattle.sock_rule.specs.declared.homes.SockHome.{SockHome}
-use Rattle.sock_table.specs.Named.{Found, NotedAs}
-use Rattle.sock_table.specs.declared.finding.Noted.{Noted}
-use Rattle.sock_table.specs.declared.finding.Noted.TheVariants as noted
+use Rattle.sock_table.specs.Named.{Found}
 use Rattle.sock_programs.specs.declared.task.Op.{Op}
 use Rattle.sock_programs.specs.declared.task.Op.TheVariants as ops
 use Rattle.corr_core.specs.declared.marks.Plan as id_plan
 use Rattle.rpc_client.specs.declared.acting.Action.TheVariants as action
-use Rattle.rpc_client.specs.declared.acting.Operation.{Operation}
 use Rattle.rpc_client.specs.declared.reaching.Reached.{Reached}
 use Rattle.rpc_client.specs.declared.reaching.Reached.TheVariants as reached
 use Rattle.rpc_client.specs.declared.holding.Held.{Held}
@@ -36,7 +33,7 @@ use Rattle.call_writes.specs.Sending.{SeenCalling, SentWithCalling, SentCalling}
 use Rattle.call_writes.proofs.Drains.{drained_same}
 use Rattle.call_attempts.specs.Both.{Both}
 use Rattle.call_attempts.specs.Attempting.{DeliveredBy, went_out, came_back, AttemptedBy, nowhere, over_link}
-use Rattle.call_attempts.specs.Retrying.{without_oldest, WentTo, stray, unopened, to_socket, RetriedBy, had_ended, overtaken, went_again}
+use Rattle.call_attempts.specs.Retrying.{WentTo, stray, unopened, to_socket, RetriedBy, had_ended, overtaken, went_again}
 use Rattle.call_client.specs.Acting.{Stand, both_of, letter_of, Acted}
 use Rattle.call_run.specs.Ending.{FailedIf, EndedEach}
 use Rattle.table_told.proofs.Owning as table

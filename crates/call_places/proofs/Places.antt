@@ -1,5 +1,5 @@
 -- The place words that a run with calls leaves tell an order of each link.
-use Rattle.std.proofs.Common.{◌≡◌, ◌≢◌, ℕ, zero, suc, ◌+◌, ◌*◌, ◌/◌, ◌%◌, ◌<◌, ◌≤◌, ◌⊎◌, inl, inr, ⊎_elim, Bool, true, false, eqb, List, [], ◌∷◌, ◌++◌, length, map, flat_map, slice_get, slice_index, unwrap_or, option_map, Option, Some, None, refl, sym, ap, ◌∙◌, subst, arith}
+use Rattle.std.proofs.Common.{◌≡◌, ℕ, zero, suc, ◌+◌, ◌*◌, ◌/◌, ◌%◌, ◌<◌, ◌≤◌, ◌⊎◌, inl, inr, ⊎_elim, Bool, true, false, eqb, List, [], ◌∷◌, ◌++◌, length, map, flat_map, slice_get, slice_index, unwrap_or, option_map, Option, Some, None, refl, sym, ap, ◌∙◌, subst, arith}
 use Rattle.std.proofs.lemmas.Option.{slice_get_past}
 use mathlib.Core.Logic.{dite}
 use mathlib.Core.Option.{some, some-injective, some-ne-none}
@@ -39,7 +39,7 @@ use Rattle.sock_message.specs.Asked.{Asked}
 use Rattle.rpc_client.specs.declared.acting.Told.{Told}
 use Rattle.call_client.specs.Acting.{Stand, Acted}
 use Rattle.call_client.specs.Running.{MayMakeAll}
-use Rattle.call_run.specs.Threads.{Thread, IsThread, AreThreads, RanOn, AllMayRun, MayRunAll, ids_of, opens_of, opened_names, openings}
+use Rattle.call_run.specs.Threads.{Thread, AreThreads, RanOn, AllMayRun, MayRunAll, ids_of, opens_of, opened_names, openings}
 use Rattle.table_told.proofs.Entries.{before, from_pick, from_on, on_there}
 use Rattle.table_told.proofs.Flats.{flat_there}
 use Rattle.call_places.specs.Counted.{HaveNotesOf}
