@@ -1,5 +1,5 @@
 -- What the lists of all seats say at the end.
-use Rattle.std.specs.Prelude.{◌≡◌, ◌≢◌, ℕ, ◌<◌, ◌≤◌, cond, nat_lt, List, slice_index}
+use Rattle.std.specs.Prelude.{◌≡◌, ◌≢◌, ℕ, ◌+◌, ◌<◌, ◌≤◌, cond, nat_lt, List, slice_index}
 use mathlib.Core.Option.{some}
 use lib.ListN.{get_elem?}
 use Rattle.corr_core.specs.Word.{parts}
@@ -27,6 +27,9 @@ module _ {C : Type 0} where
     pub ended_is : (i f : ℕ) → i < p.slots → f < (parts (slice_index words i)).first → total (is_ended f) (notes_of i notes) ≡ total (is_made f) (notes_of i notes)
     pub ended_not : (i f : ℕ) → i < p.slots → (parts (slice_index words i)).first ≤ f → total (is_ended f) (notes_of i notes) ≡ 0
     pub later_is : (i f w : ℕ) → i < p.slots → 0 < total (is_saw w) (notes_of i notes) → f < (parts w).first → total (is_ended f) (notes_of i notes) ≡ total (is_made f) (notes_of i notes)
+    -- no two ranges of a slot have a version in common, and what advanced was made
+    pub ranges_apart : (i f g r s j k : ℕ) (c d : C) → i < p.slots → get_elem? (notes_of i notes) j ≡ some (Made f r c) → get_elem? (notes_of i notes) k ≡ some (Made g s d) → f < g → f + r ≤ g
+    pub advanced_made : (i f n : ℕ) → i < p.slots → 0 < total (is_attempt f n) (notes_of i notes) → 0 < total (is_made f) (notes_of i notes)
     -- a word that was found open or locked has a range that was made, as long as it was made
     pub range_is : (i w : ℕ) → i < p.slots → 0 < total (is_saw w) (notes_of i notes) → 0 < (parts w).state → (c : C) × (j : ℕ) × (get_elem? (notes_of i notes) j ≡ some (Made (parts w).first (parts w).range c))
     -- a word that was found locked, with errors queued, or at an attempt
