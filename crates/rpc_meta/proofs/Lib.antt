@@ -5,3 +5,4 @@ pub mod Appending
 pub mod Pieces
 pub mod RoundTrip
 pub mod Counting
+mod NextFields

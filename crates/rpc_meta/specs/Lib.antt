@@ -5,3 +5,4 @@ pub mod Steps
 pub mod Answer
 pub mod Writing
 pub mod Held
+pub mod Straight

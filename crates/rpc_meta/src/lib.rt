@@ -9,6 +9,7 @@ mod gather;
 mod meta;
 mod parts;
 mod read;
+mod straight;
 #[cfg(test)]
 mod tests;
 mod write;
