@@ -1,4 +1,4 @@
-use Rattle.std.proofs.Common.{◌≡◌, ℕ, length, subst, sym, arith}
+use Rattle.std.proofs.Common.{◌≡◌, ℕ, length, subst, arith}
 use Rattle.rpc_meta.specs.Straight.{SpanNext, NumberOrNone}
 use Rattle.rpc_meta.proofs.NextFields.{straight_is}
 use Rattle.rpc_meta.proofs.straight.gather_straight.Goals as goal

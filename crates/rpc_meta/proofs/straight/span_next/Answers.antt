@@ -1,5 +1,4 @@
 use Rattle.std.proofs.Common.{◌≡◌, ◌+◌, ◌*◌, get_or, refl, arith}
-use Rattle.std.specs.Prelude.{slice_index}
 use Rattle.rpc_meta.proofs.NextFields.{span_is}
 use Rattle.rpc_meta.proofs.straight.span_next.Goals as goal
 
