@@ -1,7 +1,7 @@
 use Rattle.std.proofs.Common.{◌≡◌, ◌++◌, ℕ, List, length, drop, ap, subst, ◌∙◌, arith, length-append}
 use Rattle.prpc_frame.specs.Header.{HeaderSays}
 use Rattle.prpc_frame.proofs.Headers.{split_front}
-use Rattle.prpc_frame.proofs.header.read_header.Goals as goal
+use Rattle.prpc_frame.proofs.header.copy_header.Goals as goal
 
 pub returns : goal.returns
 returns c =
