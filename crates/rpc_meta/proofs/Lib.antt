@@ -6,3 +6,4 @@ pub mod Pieces
 pub mod RoundTrip
 pub mod Counting
 pub mod Varints
+mod NextFields

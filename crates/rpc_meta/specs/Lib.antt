@@ -6,3 +6,4 @@ pub mod Answer
 pub mod Writing
 pub mod Held
 pub mod Sizes
+pub mod Straight

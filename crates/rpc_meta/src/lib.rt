@@ -12,6 +12,7 @@ mod parts;
 mod read;
 mod sizes;
 mod spell;
+mod straight;
 #[cfg(test)]
 mod tests;
 mod write;
