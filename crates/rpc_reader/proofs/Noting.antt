@@ -24,9 +24,9 @@ ended_last slots code id slot locked found word call b b' e inside range got los
 }
 
 module _ (p : Plan) (code : ℕ) where
-  ended_more : (os : List ℕ) (o : ℕ) (v u w : View Asked) (b m b' : Books) → RestEnded p code os v u b m → OneEnded p code o u w m b' → RestEnded p code (os ++ o ∷ []) v w b b'
-  ended_more [] o v u w b m b' a one = (w, b', subst (λ (n : Books). OneEnded p code o v w n b') a.1 (subst (λ (y : View Asked). OneEnded p code o y w m b') a.0 one), (refl, refl))
-  ended_more (x ∷ xs) o v u w b m b' a one = (a.0, a.1, a.2, ended_more xs o a.0 u w a.1 m b' a.3 one)
+  ended_more : (os : List ℕ) (o : ℕ) (b m b' : Books) → RestEnded p code os b m → OneEnded p code o m b' → RestEnded p code (os ++ o ∷ []) b b'
+  ended_more [] o b m b' a one = (b', subst (λ (n : Books). OneEnded p code o n b') a one, refl)
+  ended_more (x ∷ xs) o b m b' a one = (a.0, a.1, ended_more xs o a.0 m b' a.2 one)
 
-  pub ended_next : (os : List ℕ) (i : ℕ) (v u w : View Asked) (b m b' : Books) → i < length os → RestEnded p code (take i os) v u b m → OneEnded p code (get_or os i 0) u w m b' → RestEnded p code (take (i + 1) os) v w b b'
-  ended_next os i v u w b m b' lt a one = subst (λ (l : List ℕ). RestEnded p code l v w b b') (sym (take_more os i 0 lt)) (ended_more (take i os) (get_or os i 0) v u w b m b' a one)
+  pub ended_next : (os : List ℕ) (i : ℕ) (b m b' : Books) → i < length os → RestEnded p code (take i os) b m → OneEnded p code (get_or os i 0) m b' → RestEnded p code (take (i + 1) os) b b'
+  ended_next os i b m b' lt a one = subst (λ (l : List ℕ). RestEnded p code l b b') (sym (take_more os i 0 lt)) (ended_more (take i os) (get_or os i 0) b m b' a one)
