@@ -23,7 +23,7 @@ use Rattle.rpc_client.specs.declared.acting.Told.{Told}
 use Rattle.rpc_reader.specs.Books.{Books, EndedAs, ToldBy, id_of}
 use Rattle.rpc_reader.specs.Met.{has_response, slot_in, version_in, is_asked, is_for, AnsweredBy, LackedBy, KeptIf, MetIf, FrameMet, FramesMet}
 use Rattle.rpc_reader.specs.Posting.{LostBy, LockLost, PostedTo, PostedIf, PostedAt, PostedAll, call_at, attempt_at}
-use Rattle.rpc_reader.specs.Resting.{HadEnded, EndedLast, OneEnded, RestEnded}
+use Rattle.rpc_reader.specs.Resting.{HadEnded, EndedLast, with_id, OneEnded, RestEnded}
 use Rattle.rpc_reader.proofs.Frames.{asked_responds}
 use Rattle.call_told.specs.Answers.{IsGiven, AreGiven, IsLossCode, EndedBy, by_code, by_response, ToldFrom, TellsFrom}
 use Rattle.call_told.proofs.Lists.{all_both, all_but, all_at, all_then, elem_or}
@@ -157,16 +157,17 @@ module _ (links : ℕ) (gave : ℕ → List ℕ) where
 
     -- ## What is left
 
-    rest_one : (p : Plan) (operation : ℕ) (v w : View Asked) (b b' : Books) → OneEnded p code operation v w b b' → Step b b'
-    rest_one p operation v w b b' (inl n) = step_same b b' n.books
-    rest_one p operation v w b b' (inr n) = by n.ends
-      where
-        by : HadEnded p.slots n.id b b' ⊎ EndedLast p.slots code n.id b b' → Step b b'
-        by (inl h) = step_quiet b b' (quiet_later b.view b'.view h.quiet) (ap (λ (x : Books). x.told) h.same) (subst (λ (l : List Frame). GivenAll l) (sym (ap (λ (x : Books). x.early) h.same)))
-        by (inr l) =
-            let u : Books = record b { view = l.locked } in
-            step_then b u b' (step_seen b l.locked (did_later (slot_of n.id) b.view l.locked _ _ l.got.did)) (lost_step (slot_of n.id) l.word l.call b.view l.found u b' l.got l.lost)
+    module _ (p : Plan) where
+      id_step : (id : ℕ) (b b' : Books) → HadEnded p.slots id b b' ⊎ EndedLast p.slots code id b b' → Step b b'
+      id_step id b b' (inl h) = step_quiet b b' (quiet_later b.view b'.view h.quiet) (ap (λ (x : Books). x.told) h.same) (subst (λ (l : List Frame). GivenAll l) (sym (ap (λ (x : Books). x.early) h.same)))
+      id_step id b b' (inr l) =
+          let u : Books = record b { view = l.locked } in
+          step_then b u b' (step_seen b l.locked (did_later (slot_of id) b.view l.locked _ _ l.got.did)) (lost_step (slot_of id) l.word l.call b.view l.found u b' l.got l.lost)
 
-    pub rest_step : (p : Plan) (os : List ℕ) (v w : View Asked) (b b' : Books) → RestEnded p code os v w b b' → Step b b'
-    rest_step p [] v w b b' h = step_same b b' h.1
-    rest_step p (o ∷ os) v w b b' h = step_then b h.1 b' (rest_one p o v h.0 b h.1 h.2) (rest_step p os h.0 w h.1 b' h.3)
+      rest_one : (operation : ℕ) (b b' : Books) → OneEnded p code operation b b' → Step b b'
+      rest_one operation b b' (inl n) = step_same b b' n.same
+      rest_one operation b b' (inr n) = let u = with_id p operation n.id b in step_then b u b' (step_seen b u.view (later_same b.view u.view refl)) (id_step n.id u b' n.ends)
+
+      pub rest_step : (os : List ℕ) (b b' : Books) → RestEnded p code os b b' → Step b b'
+      rest_step [] b b' h = step_same b b' h
+      rest_step (o ∷ os) b b' h = step_then b h.0 b' (rest_one o b h.0 h.1) (rest_step os h.0 b' h.2)

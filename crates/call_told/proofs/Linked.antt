@@ -4,7 +4,6 @@ use Rattle.std.specs.Prelude.{slice_get}
 use Rattle.brpc_model.specs.Frame as model
 use Rattle.prpc_frame.specs.declared.frame.Frame.{Frame}
 use Rattle.corr_core.specs.declared.marks.Plan as ids
-use Rattle.corr_core.specs.declared.marks.View.{View}
 use Rattle.sock_io.specs.declared.link.Ends.{Ends}
 use Rattle.sock_io.specs.Link.{OutState, InState}
 use Rattle.sock_message.specs.Asked.{Asked}
@@ -106,13 +105,13 @@ module _ {O I P : Type 0} (out : O → OutState) (inn : I → InState) (q : ids.
     read_told e = record { gave = gave_by; between = gave_between; tells = read_tells (subst (λ (l : List Frame). AreGiven (length es) gave_by l) (sym e) tt) }
 
     -- and then what was left of calls was ended with this code
-    pub all_told : (code : ℕ) (os : List ℕ) (v w : View Asked) (b' : Books) → b.early ≡ [] → IsLossCode code → RestEnded q code os v w m b' → AnsweredFrom inn es es' b b'
-    all_told code os v w b' e loss rest = record {
+    pub all_told : (code : ℕ) (os : List ℕ) (b' : Books) → b.early ≡ [] → IsLossCode code → RestEnded q code os m b' → AnsweredFrom inn es es' b b'
+    all_told code os b' e loss rest = record {
       gave = gave_by;
       between = gave_between;
-      tells = (step_then (length es) gave_by b m b' (links_step (length es) gave_by 0 es es' b m r (λ f g. g)) (rest_step (length es) gave_by code loss q os v w m b' rest)).tells (subst (λ (l : List Frame). AreGiven (length es) gave_by l) (sym e) tt);
+      tells = (step_then (length es) gave_by b m b' (links_step (length es) gave_by 0 es es' b m r (λ f g. g)) (rest_step (length es) gave_by code loss q os m b' rest)).tells (subst (λ (l : List Frame). AreGiven (length es) gave_by l) (sym e) tt);
     }
 
 -- what was left of calls was ended with this code, with responses kept that those links gave
-pub rest_told : (links : ℕ) (gave : ℕ → List ℕ) (q : ids.Plan) (code : ℕ) (os : List ℕ) (v w : View Asked) (b b' : Books) → IsLossCode code → RestEnded q code os v w b b' → AreGiven links gave b.early → TellsFrom links gave b b'
-rest_told links gave q code os v w b b' loss rest given = (rest_step links gave code loss q os v w b b' rest).tells given
+pub rest_told : (links : ℕ) (gave : ℕ → List ℕ) (q : ids.Plan) (code : ℕ) (os : List ℕ) (b b' : Books) → IsLossCode code → RestEnded q code os b b' → AreGiven links gave b.early → TellsFrom links gave b b'
+rest_told links gave q code os b b' loss rest given = (rest_step links gave code loss q os b b' rest).tells given
