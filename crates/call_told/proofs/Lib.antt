@@ -8,8 +8,14 @@ pub mod Clients
 pub mod Making
 pub mod Answering
 pub mod Backs
+pub mod Growing
 pub mod Balance
 pub mod Tallies
+pub mod Resting
+pub mod Ends
 pub mod Runs
+pub mod Moves
+pub mod Coming
 pub mod Once
+pub mod Least
 pub mod Shown
