@@ -82,3 +82,8 @@ module _ {O : Type 0} {g : Ghosts O} (state : O → OutState) (p : Plan) (q : id
       let others = subst (AllByRecursion (AskIn script)) (sym r.asked) asks.1 in
       all_notes ids (subst (AllByRecursion (λ (v : id_view.View Asked). AllMade Fits v.notes)) r.ids_are
       (thread_made 0 r.main r.main_is own, threads_made (opened_names r.main.ended.outcomes.items (openings setup)) (opens_of setup) r.others r.others_are others))
+
+-- the same over seats
+pub notes_of_seats : {S : Type 0} (view : S → id_view.View Asked) (ss : List S) → flat_map (λ (v : id_view.View Asked). v.notes) (map view ss) ≡ flat_map (λ (s : S). (view s).notes) ss
+notes_of_seats view [] = refl
+notes_of_seats view (s ∷ ss) = ap (λ (l : List (Noted Asked)). (view s).notes ++ l) (notes_of_seats view ss)
