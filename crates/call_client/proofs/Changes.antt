@@ -200,6 +200,10 @@ module _ (xs : List Task) where
   abbrev Asks : Op → Type 0
   Asks op = (asked : Asked) → op ≡ ops.Call asked → AsksFor xs asked
 
+  -- what the operation at this place asks for
+  asks_at : (n : ℕ) (x : Task) → get_elem? xs n ≡ some x → Asks x.op
+  asks_at n x at asked is = let task : Op → Task = λ op. record { number = x.number; op = op } in record { place = n; number = x.number; there = at ∙ ap (λ (op : Op). some (task op)) is }
+
   module _ {O : Type 0} {g : Ghosts O} (state : O → OutState) (p : Plan) (q : id_plan.Plan) where
     retried_here : (s t : Stand g) → RetriedHere state p q s t → Changes s.calls t.calls
     retried_here s t r = retried state p q (both_of s) (both_of t) r.all.retried
@@ -218,10 +222,6 @@ module _ (xs : List Task) where
 
     made : (x : Task) → Asks x.op → (s t : Course g) → Made state p q x s t → Changes s.has.calls t.has.calls
     made x own s t m = in_turn s.has.calls m.ready.calls t.has.calls (retried_here s.has m.ready m.retried) (acted x.number x.op own m.by m.ready t.has m.acted)
-
-    -- what the operation at this place asks for
-    asks_at : (n : ℕ) (x : Task) → get_elem? xs n ≡ some x → Asks x.op
-    asks_at n x at asked is = let task : Op → Task = λ op. record { number = x.number; op = op } in record { place = n; number = x.number; there = at ∙ ap (λ (op : Op). some (task op)) is }
 
     ran : (n : ℕ) (s t : Course g) → Ran state p q xs n s t → Changes s.has.calls t.has.calls
     ran zero s t e = same s.has.calls t.has.calls (ap (λ (c : Course g). c.has.calls) e)
