@@ -1,5 +1,5 @@
 -- An outcome that is told and is an answer is that of a call, and comes from a response to it that a link gave.
-use Rattle.std.proofs.Common.{◌≡◌, ℕ, zero, suc, ◌+◌, ◌<◌, Bool, true, false, cond, eqb, eqb-true, List, [], ◌∷◌, ◌++◌, Some, None, pos, negsuc, refl, sym, ap, ◌∙◌, subst, arith}
+use Rattle.std.proofs.Common.{◌≡◌, ℕ, zero, suc, ◌+◌, ◌<◌, Bool, true, false, cond, eqb, eq-eqb, List, [], ◌∷◌, ◌++◌, Some, None, pos, negsuc, refl, sym, ap, ◌∙◌, subst, arith}
 use Rattle.std.specs.Prelude.{ℤ, Option, slice_get}
 use Rattle.std.specs.List.{AllByRecursion}
 use mathlib.Core.Option.{some}
@@ -29,24 +29,25 @@ use Rattle.call_told.specs.Answers.{IsGivenResponse, EndedBy, by_code as with_co
 use Rattle.call_told.proofs.Lists.{some_same, all_then}
 use Rattle.call_told.proofs.Making.{AllMade, made_fits}
 
--- a lock that a seat noted stands among the notes of its slot
-noted_place : (slot : ℕ) (n : Note Asked) (ns : List (Noted Asked)) (i : ℕ) → slice_get (events ns) i ≡ Some record { slot = slot; note = n } → (k : ℕ) × (get_elem? (notes_of slot ns) k ≡ some n)
-noted_place slot n [] i e = absurd (cc)
-noted_place slot n (m ∷ ns) i e = by (is_event m.note) i e
-  where
-    x : Noted Asked
-    x = record { slot = slot; note = n }
+-- an event that a seat noted stands among the notes of its slot
+module _ (slot : ℕ) (n : Note Asked) where
+  abbrev Stands : List (Noted Asked) → Type 0
+  Stands ns = (k : ℕ) × (get_elem? (notes_of slot ns) k ≡ some n)
 
-    later : (k : ℕ) × (get_elem? (notes_of slot ns) k ≡ some n) → (k : ℕ) × (get_elem? (notes_of slot (m ∷ ns)) k ≡ some n)
-    later h = elim (eqb m.slot slot) as (λ b. (k : ℕ) × (get_elem? (cond b (m.note ∷ notes_of slot ns) (notes_of slot ns)) k ≡ some n)) [ true ↦ (suc h.0, h.1) | false ↦ h ]
+  stands_later : (m : Noted Asked) (ns : List (Noted Asked)) → Stands ns → Stands (m ∷ ns)
+  stands_later m ns h = elim (eqb m.slot slot) as (λ b. (k : ℕ) × (get_elem? (cond b (m.note ∷ notes_of slot ns) (notes_of slot ns)) k ≡ some n)) [ true ↦ (suc h.0, h.1) | false ↦ h ]
 
-    here : m ≡ x → (k : ℕ) × (get_elem? (notes_of slot (m ∷ ns)) k ≡ some n)
-    here same = subst (λ (y : Noted Asked). (k : ℕ) × (get_elem? (notes_of slot (y ∷ ns)) k ≡ some n)) (sym same) (subst (λ (b : Bool). (k : ℕ) × (get_elem? (cond b (n ∷ notes_of slot ns) (notes_of slot ns)) k ≡ some n)) (sym (eq-eqb slot slot refl)) (0, refl))
+  stands_here : (m : Noted Asked) (ns : List (Noted Asked)) → m ≡ record { slot = slot; note = n } → Stands (m ∷ ns)
+  stands_here m ns same = subst (λ (y : Noted Asked). Stands (y ∷ ns)) (sym same) (subst (λ (b : Bool). (k : ℕ) × (get_elem? (cond b (n ∷ notes_of slot ns) (notes_of slot ns)) k ≡ some n)) (sym (eq-eqb slot slot refl)) (0, refl))
 
-    by : (b : Bool) (i : ℕ) → slice_get (cond b (m ∷ events ns) (events ns)) i ≡ Some x → (k : ℕ) × (get_elem? (notes_of slot (m ∷ ns)) k ≡ some n)
-    by true zero e = here (some_same m x e)
-    by true (suc j) e = later (noted_place slot n ns j e)
-    by false j e = later (noted_place slot n ns j e)
+  stands_by : (m : Noted Asked) (ns : List (Noted Asked)) → ((j : ℕ) → slice_get (events ns) j ≡ Some (record { slot = slot; note = n }) → Stands ns) → (b : Bool) (i : ℕ) → slice_get (cond b (m ∷ events ns) (events ns)) i ≡ Some (record { slot = slot; note = n }) → Stands (m ∷ ns)
+  stands_by m ns rest true zero e = stands_here m ns (some_same m (record { slot = slot; note = n }) e)
+  stands_by m ns rest true (suc j) e = stands_later m ns (rest j e)
+  stands_by m ns rest false j e = stands_later m ns (rest j e)
+
+  noted_place : (ns : List (Noted Asked)) (i : ℕ) → slice_get (events ns) i ≡ Some (record { slot = slot; note = n }) → Stands ns
+  noted_place [] i e = absurd (cc)
+  noted_place (m ∷ ns) i e = stands_by m ns (noted_place ns) (is_event m.note) i e
 
 -- the operation of a call in these has as many versions as the call is tried, and one more
 abbrev pub IsAskedIn : List Operation → ℕ → Asked → Type 0

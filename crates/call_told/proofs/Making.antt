@@ -1,5 +1,5 @@
 -- What is known of each id that a seat made: a client makes ids of its own calls alone, and whoever reads links makes none.
-use Rattle.std.proofs.Common.{◌≡◌, ℕ, zero, suc, Bool, true, false, cond, eqb, List, [], ◌∷◌, ◌++◌, Some, None, refl, sym, ap, ◌∙◌, subst}
+use Rattle.std.proofs.Common.{◌≡◌, ℕ, zero, suc, Bool, true, false, cond, eqb, List, [], ◌∷◌, ◌++◌, Some, None, refl, sym, ap, subst, arith}
 use Rattle.std.specs.Prelude.{Option as Maybe}
 use Rattle.std.specs.List.{AllByRecursion}
 use mathlib.Core.Option.{some, some-injective, some-ne-none}
@@ -126,13 +126,13 @@ module _ (P : ℕ → Asked → Type 0) where
   event_fits (Attempt f n) e = tt
   event_fits (Saw w) e = tt
 
+  all_by : (n : Noted Asked) (ns : List (Noted Asked)) → (AllMade (events ns) → AllMade ns) → (b : Bool) → is_event n.note ≡ b → AllMade (cond b (n ∷ events ns) (events ns)) → AllMade (n ∷ ns)
+  all_by n ns rest true e h = (h.0, rest h.1)
+  all_by n ns rest false e h = (event_fits n.note e, rest h)
+
   pub all_made : (ns : List (Noted Asked)) → AllMade (events ns) → AllMade ns
   all_made [] h = tt
-  all_made (n ∷ ns) h = by (is_event n.note) refl h
-    where
-      by : (b : Bool) → is_event n.note ≡ b → AllMade (cond b (n ∷ events ns) (events ns)) → AllMade (n ∷ ns)
-      by true e h = (h.0, all_made ns h.1)
-      by false e h = (event_fits n.note e, all_made ns h)
+  all_made (n ∷ ns) h = all_by n ns (all_made ns) (is_event n.note) refl h
 
   pub events_made : (ns : List (Noted Asked)) → AllMade ns → AllMade (events ns)
   events_made [] h = tt

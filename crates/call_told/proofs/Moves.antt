@@ -68,7 +68,7 @@ next_locked : (k l : IdLock Asked) (v w : View Asked) → ((j : ℕ) (g : Note A
     → HasLocked k.slot (parts k.word.0).first k.content.operation v → HasLocked l.slot (parts l.word.0).first l.content.operation w
 next_locked k l v w grows slot first content h =
     let a : total (is_locked_for (parts l.word.0).first l.content.operation) (notes_of l.slot w.notes) ≡ total (is_locked_for (parts k.word.0).first k.content.operation) (notes_of k.slot w.notes)
-        = λ i. total (is_locked_for (first i) (content i).operation) (notes_of (slot i) w.notes) in
+    = λ i. total (is_locked_for (first i) (content i).operation) (notes_of (slot i) w.notes) in
     let b = grows k.slot (is_locked_for (parts k.word.0).first k.content.operation) in omega arith
 
 -- the word of an operation's call is none that tells of its attempts

@@ -138,6 +138,7 @@ ended_tally slot w call by b b' low is locked e = tallies e.told
         let z = is id in let o = one_end i f slot w.first fl low in omega arith
 
     tallies : ToldBy call.operation by b.told b.starved b'.told b'.starved → Tally b b'
+
     grows : (x : ℕ) → Grows x 0 b.view b'.view
     grows x = ended_grows x slot b.view b'.view [] (one slot (Ended w.first)) e.ended
 
@@ -146,7 +147,6 @@ ended_tally slot w call by b b' low is locked e = tallies e.told
 
     one_more : IsEndOf b'.view now
     one_more = record { slot = slot; first = w.first; low = low; is_end = is; locked = (let a = (grows 0).notes slot (is_locked_for w.first call.operation) in omega arith) }
-
     tallies (inl t) = record { starved = λ h. t.1 ∙ h; accounts = inr (accounted t.0); grows = grows; ends = λ a. subst (AreEnds b'.view) (sym t.0) (all_both (IsEndOf b'.view) b.told (now ∷ []) (still a) (one_more, tt)) }
     tallies (inr t) = record { starved = λ h. t.1; accounts = inl t.1; grows = grows; ends = λ a. subst (AreEnds b'.view) (sym t.0) (still a) }
 
