@@ -23,7 +23,7 @@ use Rattle.rpc_client.specs.declared.acting.Told.{Told}
 use Rattle.rpc_reader.specs.Books.{Books, EndedAs, ToldBy, id_of}
 use Rattle.rpc_reader.specs.Met.{has_response, slot_in, version_in, is_asked, is_for, AnsweredBy, LackedBy, KeptIf, MetIf, FrameMet, FramesMet}
 use Rattle.rpc_reader.specs.Posting.{LostBy, LockLost, PostedTo, PostedIf, PostedAt, PostedAll, call_at, attempt_at}
-use Rattle.rpc_reader.specs.Resting.{HadEnded, EndedLast, with_id, OneEnded, RestEnded}
+use Rattle.rpc_reader.specs.Resting.{HadEnded, EndedLast, OneEnded, RestEnded}
 use Rattle.rpc_reader.proofs.Frames.{asked_responds}
 use Rattle.call_told.specs.Answers.{IsGiven, AreGiven, IsLossCode, EndedBy, by_code, by_response, ToldFrom, TellsFrom}
 use Rattle.call_told.proofs.Lists.{all_both, all_but, all_at, all_then, elem_or}
@@ -165,8 +165,8 @@ module _ (links : ℕ) (gave : ℕ → List ℕ) where
           step_then b u b' (step_seen b l.locked (did_later (slot_of id) b.view l.locked _ _ l.got.did)) (lost_step (slot_of id) l.word l.call b.view l.found u b' l.got l.lost)
 
       rest_one : (operation : ℕ) (b b' : Books) → OneEnded p code operation b b' → Step b b'
-      rest_one operation b b' (inl n) = step_same b b' n.same
-      rest_one operation b b' (inr n) = let u = with_id p operation n.id b in step_then b u b' (step_seen b u.view (later_same b.view u.view refl)) (id_step n.id u b' n.ends)
+      rest_one operation b b' (inl n) = step_same b b' (n.same ∙ ap (λ (v : View Asked). record b { view = v }) n.view)
+      rest_one operation b b' (inr n) = let u : Books = record b { view = n.seen } in step_then b u b' (step_seen b n.seen (later_same b.view n.seen (ap (λ (v : View Asked). v.notes) n.kept))) (id_step n.id u b' n.ends)
 
       pub rest_step : (os : List ℕ) (b b' : Books) → RestEnded p code os b b' → Step b b'
       rest_step [] b b' h = step_same b b' h

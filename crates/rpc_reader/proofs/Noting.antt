@@ -1,43 +1,33 @@
 -- Calls that end one behind the other, by the ids that a seat found.
-use Rattle.std.proofs.Common.{◌≡◌, ℕ, ◌+◌, ◌<◌, ◌≤◌, ◌⊎◌, List, [], ◌∷◌, ◌++◌, length, take, get_or, refl, sym, subst}
+use Rattle.std.proofs.Common.{◌≡◌, ℕ, ◌+◌, ◌<◌, ◌≤◌, List, [], ◌∷◌, ◌++◌, length, take, get_or, refl, sym, subst}
 use Rattle.std.proofs.lemmas.List.{take_more}
 use Rattle.corr_core.specs.Law.{total, is_made}
-use Rattle.corr_core.specs.Word.{Parts, parts}
+use Rattle.corr_core.specs.Word.{Parts}
 use Rattle.corr_core.specs.declared.marks.Plan.{Plan}
 use Rattle.corr_core.specs.declared.marks.View.{View}
 use Rattle.id_rule.specs.Lawful.{notes_of}
-use Rattle.corr_id.specs.Calls.{slot_of, version_of, GotLock, Quiet, Found, OutOf}
+use Rattle.corr_id.specs.Calls.{slot_of, version_of, GotLock}
 use Rattle.sock_message.specs.Asked.{Asked}
 use Rattle.rpc_reader.specs.Books.{Books}
 use Rattle.rpc_reader.specs.Posting.{LockLost}
-use Rattle.rpc_reader.specs.Resting.{HadEnded, EndedLast, OneEnded, RestEnded}
+use Rattle.rpc_reader.specs.Resting.{EndedLast, OneEnded, RestEnded}
 
 -- the seat knows of this id that it was made
 abbrev pub IsKnown : ℕ → View Asked → Type 0
 IsKnown id v = 0 < total (is_made (version_of id)) (notes_of (slot_of id) v.notes)
 
 -- a lock that was got by an id, and whose call ended
-pub ended_last : (slots code id slot : ℕ) (u locked : View Asked) (found : ℕ) (word : Parts) (call : Asked) (b b' : Books) → u ≡ b.view → slot ≡ slot_of id → slot < slots → (word.first ≤ version_of id) × (version_of id < word.first + word.range) → (IsKnown id u → word.first ≡ version_of id) → GotLock slot u locked found word call → LockLost slot word call code (record b { view = locked }) b' → EndedLast slots code id b b'
-ended_last slots code id slot u locked found word call b b' seen e inside range own got lost = record {
+pub ended_last : (slots code id slot : ℕ) (locked : View Asked) (found : ℕ) (word : Parts) (call : Asked) (b b' : Books) → slot ≡ slot_of id → slot < slots → (word.first ≤ version_of id) × (version_of id < word.first + word.range) → (0 < total (is_made (version_of id)) (notes_of (slot_of id) b.view.notes) → word.first ≡ version_of id) → GotLock slot b.view locked found word call → LockLost slot word call code (record b { view = locked }) b' → EndedLast slots code id b b'
+ended_last slots code id slot locked found word call b b' e inside range own got lost = record {
   inside = subst (λ (n : ℕ). n < slots) e inside;
   locked = locked;
   found = found;
   word = word;
   call = call;
   range = range;
-  own = subst (λ (v : View Asked). IsKnown id v → word.first ≡ version_of id) seen own;
-  got = subst (λ (v : View Asked). GotLock (slot_of id) v locked found word call) seen (subst (λ (n : ℕ). GotLock n u locked found word call) e got);
+  own = own;
+  got = subst (λ (n : ℕ). GotLock n b.view locked found word call) e got;
   lost = subst (λ (n : ℕ). LockLost n word call code (record b { view = locked }) b') e lost;
-}
-
--- no lock was got
-pub had_ended : (slots id : ℕ) (u : View Asked) (word : ℕ) (b b' : Books) → u ≡ b.view → Quiet u b'.view → ((slots ≤ slot_of id) × (word ≡ 0)) ⊎ (Found (slot_of id) word b'.view × OutOf (parts word) (version_of id)) → (slot_of id < slots → IsKnown id u → version_of id < (parts word).first) → b' ≡ record b { view = b'.view } → HadEnded slots id b b'
-had_ended slots id u word b b' seen quiet cause later same = record {
-  quiet = subst (λ (v : View Asked). Quiet v b'.view) seen quiet;
-  word = word;
-  cause = cause;
-  later = subst (λ (v : View Asked). slot_of id < slots → IsKnown id v → version_of id < (parts word).first) seen later;
-  same = same;
 }
 
 module _ (p : Plan) (code : ℕ) where

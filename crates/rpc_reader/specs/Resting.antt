@@ -14,7 +14,8 @@ use Rattle.rpc_reader.specs.Posting.{LockLost}
 -- the operation's word was 0, and the seat knew of no id there
 pub record NoneNoted (p : Plan) (operation : ℕ) (b b' : Books) : Type 0 where
   pub unknown : total (is_place (call_word p operation)) b.view.kept ≡ 0
-  pub same : b' ≡ b
+  pub view : b'.view ≡ b.view
+  pub same : b' ≡ record b { view = b'.view }
 
 -- the range of this id had ended: there is no such slot, or the word that was found there has no range with the id
 pub record HadEnded (slots id : ℕ) (b b' : Books) : Type 0 where
@@ -38,15 +39,13 @@ pub record EndedLast (slots code id : ℕ) (b b' : Books) : Type 0 where
   pub got : GotLock (slot_of id) b.view locked found word call
   pub lost : LockLost (slot_of id) word call code (record b { view = locked }) b'
 
--- the seat keeps in mind that the operation's word had this id
-abbrev pub with_id : Plan → ℕ → ℕ → Books → Books
-with_id p operation id b = record b { view = with_kept (call_word p operation) false id b.view }
-
--- the operation's word had an id, and with that no call is left
+-- the operation's word had an id, which the seat keeps in mind; and with that no call is left
 pub record NotedEnds (p : Plan) (code operation : ℕ) (b b' : Books) : Type 0 where
   pub id : ℕ
   pub some : id ≢ 0
-  pub ends : HadEnded p.slots id (with_id p operation id b) b' ⊎ EndedLast p.slots code id (with_id p operation id b) b'
+  pub seen : View Asked
+  pub kept : seen ≡ with_kept (call_word p operation) false id b.view
+  pub ends : HadEnded p.slots id (record b { view = seen }) b' ⊎ EndedLast p.slots code id (record b { view = seen }) b'
 
 abbrev pub OneEnded : Plan → ℕ → ℕ → Books → Books → Type 0
 OneEnded p code operation b b' = NoneNoted p operation b b' ⊎ NotedEnds p code operation b b'
