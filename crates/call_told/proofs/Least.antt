@@ -28,7 +28,7 @@ use Rattle.rpc_reader.specs.Books.{Books}
 use Rattle.rpc_reader.specs.Linked.{ReadLinks}
 use Rattle.rpc_reader.specs.Resting.{RestEnded}
 use Rattle.call_told.specs.Once.{ends_of, told_ends}
-use Rattle.call_told.specs.Least.{is_made_for, is_locked_for, HasBegun, IsEndTold}
+use Rattle.call_told.specs.Least.{is_made_for, is_locked_for, HasBegun, IsEndTold, ToldLeast}
 use Rattle.call_told.proofs.Balance.{noted_ends, AreBalanced}
 use Rattle.call_told.proofs.Ends.{IsEndOf, AreEnds}
 use Rattle.call_told.proofs.Growing.{own_at}
@@ -273,3 +273,7 @@ module _ {O I P : Type 0} (out : O → OutState) (inn : I → InState) (q : Plan
                 is_end = (let a = e.is_end id in let c = only_le id (e.slot * 4294967296 + e.first) in let d = x.3 in omega arith);
               },
             )
+
+    -- so of all that began, if they are among the calls that were asked for, and no two ids were stored for one of them
+    pub told_all : ((operation : ℕ) → total (λ (w : View Asked). total (own_at (call_word q operation)) w.kept) seats ≤ 1) → ((k : ℕ) (v : View Asked) (operation id : ℕ) → get_elem? seats k ≡ some v → HasBegun q operation id v → (j : ℕ) × (slice_get calls j ≡ Some operation)) → ToldLeast q seats tellers
+    told_all few listed k v operation id at begun = let l = listed k v operation id at begun in told_least k v operation id at begun (few operation) l.0 l.1

@@ -18,11 +18,11 @@ use Rattle.sock_words.specs.declared.outcome.Outcome.{Outcome}
 use Rattle.rpc_reader.specs.Books.{Books, EndedAs}
 use Rattle.rpc_reader.specs.Met.{is_for}
 use Rattle.rpc_reader.specs.Posting.{LostBy, LockLost}
-use Rattle.rpc_reader.specs.Resting.{HadEnded, EndedLast, with_id, OneEnded, RestEnded}
+use Rattle.rpc_reader.specs.Resting.{HadEnded, EndedLast, OneEnded, RestEnded}
 use Rattle.call_told.proofs.Balance.{noted_ends, noted_more, noted_one}
 use Rattle.call_told.proofs.Growing.{Grows}
 use Rattle.call_told.proofs.Lists.{some_same}
-use Rattle.call_told.proofs.Tallies.{Tally, seen_tally, id_tally, one_tally, rest_accounts}
+use Rattle.call_told.proofs.Tallies.{id_tally, one_tally, rest_accounts}
 
 -- 1 where it is this word at this place
 abbrev pub is_word : ℕ → ℕ → Kept → ℕ
@@ -91,12 +91,13 @@ module _ (p : Plan) (code operation id : ℕ) (inside : slot_of id < p.slots) wh
   one_seen : (b b' : Books) → IsKnown b → IsNoted b → OneEnded p code operation b b' → IsSeen b'
   one_seen b b' known noted (inl n) = absurd (let a = n.unknown in omega arith)
   one_seen b b' known noted (inr n) =
-      let u = with_id p operation n.id b in
-      let here : total (is_word place n.id) u.view.kept ≡ pair place n.id place n.id + total (is_word place n.id) b.view.kept = refl in
+      let u : Books = record b { view = n.seen } in
+      let here = ap (λ (v : View Asked). total (is_word place n.id) v.kept) n.kept in
+      let still = ap (λ (v : View Asked). total (is_made first) (notes_of slot v.notes)) n.kept in
       let g = (id_tally code p n.id u b' n.ends).grows place in record {
         found = n.id;
         word = (let a = g.kept (is_word place n.id) in let c = pair-same place n.id in omega arith);
-        over = λ e. id_over u b' known (subst (λ (x : ℕ). HadEnded p.slots x u b' ⊎ EndedLast p.slots code x u b') e n.ends);
+        over = λ e. id_over u b' (omega arith) (subst (λ (x : ℕ). HadEnded p.slots x u b' ⊎ EndedLast p.slots code x u b') e n.ends);
       }
 
   -- it was asked for the operation among others

@@ -34,7 +34,7 @@ use Rattle.rpc_reader.specs.Met.{slot_in, version_in, is_asked, is_for, Answered
 use Rattle.rpc_reader.specs.Posting.{LostBy, LockLost, PostedTo, PostedIf, PostedAt, PostedAll, call_at, attempt_at}
 use Rattle.rpc_reader.specs.Reading.{code_of}
 use Rattle.rpc_reader.specs.Linked.{ReadServed, ReadLinks}
-use Rattle.rpc_reader.specs.Resting.{HadEnded, EndedLast, with_id, OneEnded, RestEnded}
+use Rattle.rpc_reader.specs.Resting.{HadEnded, EndedLast, OneEnded, RestEnded}
 use Rattle.call_client.proofs.Telling.{quiet_total, did_total, none_of_one}
 use Rattle.call_told.specs.Once.{ends_of, told_ends}
 use Rattle.call_told.proofs.Balance.{noted_ends, Accounted, told_more, noted_more, one_end}
@@ -221,12 +221,12 @@ module _ (code : ℕ) where
         tally_then b u b' (tally_seen b l.locked (got_ends (slot_of id) b.view l.locked l.found l.word l.call l.got) (λ x. did_grows x (slot_of id) b.view l.locked _ _ l.got.did))
         (lost_tally (slot_of id) l.word l.call u b' (let x = l.range.0 in let y = version_low id in omega arith) (got_locked (slot_of id) b.view l.locked l.found l.word l.call l.got) l.lost)
 
-    pub seen_tally : (operation id : ℕ) (b : Books) → Tally b (with_id p operation id b)
-    seen_tally operation id b = tally_seen b (with_id p operation id b).view (λ slot first. refl) (λ x. kept_grows x 0 b.view (with_id p operation id b).view (call_word p operation) false id refl (omega arith))
+    pub noted_tally : (operation id : ℕ) (b : Books) (seen : View Asked) → seen ≡ with_kept (call_word p operation) false id b.view → Tally b (record b { view = seen })
+    noted_tally operation id b seen e = tally_seen b seen (λ slot first. ap (λ (y : View Asked). noted_ends slot first y.notes) e) (λ x. kept_grows x 0 b.view seen (call_word p operation) false id e (omega arith))
 
     pub one_tally : (operation : ℕ) (b b' : Books) → OneEnded p code operation b b' → Tally b b'
-    one_tally operation b b' (inl n) = tally_same b b' n.same
-    one_tally operation b b' (inr n) = tally_then b (with_id p operation n.id b) b' (seen_tally operation n.id b) (id_tally n.id (with_id p operation n.id b) b' n.ends)
+    one_tally operation b b' (inl n) = tally_same b b' (n.same ∙ ap (λ (v : View Asked). record b { view = v }) n.view)
+    one_tally operation b b' (inr n) = let u : Books = record b { view = n.seen } in tally_then b u b' (noted_tally operation n.id b n.seen n.kept) (id_tally n.id u b' n.ends)
 
     pub rest_accounts : (os : List ℕ) (b b' : Books) → RestEnded p code os b b' → Tally b b'
     rest_accounts [] b b' h = tally_same b b' h

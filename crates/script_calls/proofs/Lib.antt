@@ -1,4 +1,3 @@
-pub mod Placing
 pub mod Numbers
 pub mod MayCall
 pub mod Resting
@@ -8,3 +7,6 @@ pub mod Answered
 pub mod Shown
 pub mod Reports
 pub mod Joinless
+pub mod Said
+pub mod Began
+pub mod Each

@@ -27,7 +27,7 @@ use Rattle.call_run.specs.Threads.{ids_of, RanOn}
 use Rattle.call_told.specs.Answers.{IsFailure, IsOwn, AreAnsweredBy}
 use Rattle.call_told.proofs.Balance.{AreBalanced}
 use Rattle.script_calls.specs.Reading.{IdSeat, HasRead}
-use Rattle.script_calls.specs.Told.{outcomes_of, HasGivenNone, IsReported, IsCallText, IsCallRun}
+use Rattle.script_calls.specs.Told.{outcomes_of, HasGivenNone, IsLeft, IsReported, IsCallText, IsCallRun}
 use Rattle.script_calls.proofs.Clients.{owns, failures, balanced}
 use Rattle.call_told.proofs.Making.{AllMade}
 use Rattle.call_told.proofs.Answering.{IsAskedIn}
@@ -85,6 +85,21 @@ module _ {O I P : Type 0} (out : O → OutState) (inn : I → InState) where
 
   pub back_silent : (ends back : List (Ends O I P)) (outs : List O) (rests : List (Rest I P)) → AreUntouched 0 (map end_at ends) → rests ≡ map rest_of ends → back ≡ joined outs rests → AllByRecursion (HasGivenNone inn) back
   back_silent ends back outs rests untouched are is = subst (AllByRecursion (HasGivenNone inn)) (sym is) (joined_silent outs rests (subst (AllByRecursion (IsSilent out inn)) (sym are) (are_silent out inn 0 ends untouched)))
+
+module _ {O : Type 0} (g : Ghosts O) (out : O → OutState) (script : List Item) where
+  -- what the clients of the script left
+  pub left_is : (p : Plan) (slots : ℕ) (setup : List Task) (clients : List (List Task)) (os : List ℕ) (told ended : List (List Told)) (places : List PlaceWord) (vrefs : List Vref) (outs : List O) (ids : List IdSeat)
+      → p ≡ plan_of script → slots ≡ length (calls script) → setup ∷ clients ≡ all_tasks script → RanOn g out p slots setup clients os told ended places vrefs outs (map (λ (s : IdSeat). s.me.0) ids) → IsLeft g out script told ended places ids
+  left_is p slots setup clients os told ended places vrefs outs ids ep es tasks ran = record {
+    setup = setup;
+    clients = clients;
+    tasks = tasks;
+    opened = os;
+    vrefs = vrefs;
+    outs = outs;
+    ran = subst (λ (n : ℕ). RanOn g out (plan_of script) n setup clients os told ended places vrefs outs (map (λ (s : IdSeat). s.me.0) ids)) es
+        (subst (λ (x : Plan). RanOn g out x slots setup clients os told ended places vrefs outs (map (λ (s : IdSeat). s.me.0) ids)) ep ran);
+  }
 
 -- ## The run
 
