@@ -25,7 +25,7 @@ use Rattle.sock_message.specs.Asked.{Asked}
 use Rattle.call_table.specs.Responses.{by_code, outcome_by}
 use Rattle.rpc_client.specs.declared.acting.Told.{Told}
 use Rattle.rpc_reader.specs.Books.{Books, id_of}
-use Rattle.call_told.specs.Answers.{IsGivenResponse, EndedBy, by_code as with_code, by_response, HasNoted, HasEnded, ToldFrom, TellsFrom, IsFailure, ends_call, IsOwn, TellsOnly, IsAnswer, HasAnswer}
+use Rattle.call_told.specs.Answers.{IsGivenResponse, EndedBy, by_code as with_code, by_response, HasEnded, ToldFrom, TellsFrom, IsFailure, ends_call, IsOwn, TellsOnly, IsAnswer, HasAnswer}
 use Rattle.call_told.proofs.Lists.{some_same, all_then}
 use Rattle.call_told.proofs.Making.{AllMade, made_fits}
 

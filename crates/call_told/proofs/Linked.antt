@@ -6,7 +6,6 @@ use Rattle.prpc_frame.specs.declared.frame.Frame.{Frame}
 use Rattle.corr_core.specs.declared.marks.Plan as ids
 use Rattle.sock_io.specs.declared.link.Ends.{Ends}
 use Rattle.sock_io.specs.Link.{OutState, InState}
-use Rattle.sock_message.specs.Asked.{Asked}
 use Rattle.rpc_reader.specs.declared.reading.How.{How}
 use Rattle.rpc_reader.specs.declared.reading.How.TheVariants as how
 use Rattle.rpc_reader.specs.Books.{Books}

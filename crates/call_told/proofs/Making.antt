@@ -1,12 +1,11 @@
 -- What is known of each id that a seat made: a client makes ids of its own calls alone, and whoever reads links makes none.
-use Rattle.std.proofs.Common.{◌≡◌, ℕ, zero, suc, Bool, true, false, cond, eqb, List, [], ◌∷◌, ◌++◌, Some, None, refl, sym, ap, subst, arith}
+use Rattle.std.proofs.Common.{◌≡◌, ℕ, zero, suc, Bool, true, false, cond, eqb, List, [], ◌∷◌, refl, sym, ap, subst, arith}
 use Rattle.std.specs.Prelude.{Option as Maybe}
 use Rattle.std.specs.List.{AllByRecursion}
 use mathlib.Core.Option.{some, some-injective, some-ne-none}
 use lib.ListN.{get_elem?}
 use Rattle.sock_io.specs.declared.link.Out.{Ghosts}
 use Rattle.sock_io.specs.Link.{OutState}
-use Rattle.sock_words.specs.Codes.{EINTERNAL}
 use Rattle.sock_words.specs.declared.plain.Plan.{Plan}
 use Rattle.sock_programs.specs.declared.task.Task.{Task}
 use Rattle.corr_core.specs.Word.{Parts, parts}
@@ -23,9 +22,9 @@ use Rattle.corr_id.specs.declared.posts.Posted.{Posted}
 use Rattle.corr_id.specs.declared.posts.Posted.TheVariants.{Locked as HasLock, Queued as IsQueued, Gone, Stale, Crowded}
 use Rattle.corr_id.specs.declared.unlocks.Unlocked.{Unlocked}
 use Rattle.corr_id.specs.declared.unlocks.Unlocked.TheVariants.{Open, Next}
-use Rattle.corr_id.specs.Calls.{is_event, events, one, advance_note, slot_of, version_of}
+use Rattle.corr_id.specs.Calls.{is_event, events, one, advance_note}
 use Rattle.corr_id.specs.Unlocks.{UnlockOk}
-use Rattle.call_errors.specs.Books.{CallStand, stand_of, starving}
+use Rattle.call_errors.specs.Books.{CallStand}
 use Rattle.call_errors.specs.Handling.{Decided, ends as ends_by, starves, waits, goes_on}
 use Rattle.call_errors.specs.Posting.{Handled}
 use Rattle.call_client.specs.declared.caller.Caller.{Caller}
