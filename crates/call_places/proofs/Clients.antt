@@ -2,7 +2,6 @@
 use Rattle.std.proofs.Common.{◌≡◌, ◌≢◌, ℕ, zero, suc, ◌+◌, ◌*◌, ◌/◌, ◌%◌, ◌<◌, ◌≤◌, List, [], ◌∷◌, ◌++◌, map, refl, sym, ap, ◌∙◌, subst, arith}
 use Rattle.std.specs.List.{AllByRecursion}
 use Rattle.std.proofs.lemmas.Nat.{div-add-mod'}
-use Rattle.std.proofs.Math.Nat.{mod-lt}
 use mathlib.Core.Logic.{dite}
 use mathlib.Core.Option.{some, some-injective, some-ne-none}
 use native.Mathlib.Decide.{ℕ_discrete}
@@ -33,7 +32,7 @@ use Rattle.call_places.proofs.Still.{is_retry, advances}
 use Rattle.call_places.proofs.Counts.{call_in, by_task, by_retry, Knows, tried_few, made_few, all_known, task_total}
 use Rattle.call_places.proofs.Labels.{at_place, labels, again_at, own_place, none_again}
 use Rattle.call_places.proofs.Numbers.{numbered, own_calls, own_labels, low_number, no_labels}
-use Rattle.call_places.proofs.Ids.{IdLaws, IsIdOf, lock_id, one_id}
+use Rattle.call_places.proofs.Ids.{IdLaws, IsIdOf, version_low, lock_id, one_id}
 
 -- a client's whole run
 pub record Client {O : Type 0} (g : Ghosts O) (state : O → OutState) (p : Plan) (q : id_plan.Plan) : Type 0 where
@@ -123,13 +122,19 @@ module _ {O : Type 0} {g : Ghosts O} {state : O → OutState} {p : Plan} {q : id
         let knows = all_at (Knows (view_of c)) (deeds_of c) i d (all_known c.thread c.is) there in
         let counted = term (by_retry (is_retry (slot * 4294967296 + version) r.attempt)) (deeds_of c) i d there in
         let one = pair-at (slot * 4294967296 + version) r.attempt r.id r.attempt (sym whole) refl in
-        let few = tried_few c.thread c.is slot version r.attempt (mod-lt r.id 4294967296 (omega arith)) in
+        let few = tried_few c.thread c.is slot version r.attempt (version_low r.id) in
         record {
           retry = r;
           own = λ f. refl;
           id = of_operation l k.content.operation r.id (omega (arith, place, low)) (lock_id laws r.id r.attempt k s.calls.view (view_of c) u.calls.view lock.got knows (among j c at) (omega arith));
           attempt = omega (arith, place, low);
         }
+
+    again_le : (l : ℕ) (d : Deed g state p q) → again_at l d ≤ 1
+    again_le l (operates x by s t a) = omega arith
+    again_le l (retries r s t (had_ended h)) = omega arith
+    again_le l (retries r s t (overtaken k u a b)) = omega arith
+    again_le l (retries r s t (went_again k u a b)) = only_le l (8 * k.content.operation + r.attempt)
 
     -- each is one of the attempt that this one has
     same_again : (l : ℕ) (e : Deed g state p q) (first : IsAgain l e) (j : ℕ) (c : Client g state p q) → get_elem? all j ≡ some c → (i : ℕ) (d : Deed g state p q) → get_elem? (deeds_of c) i ≡ some d
@@ -142,12 +147,6 @@ module _ {O : Type 0} {g : Ghosts O} {state : O → OutState} {p : Plan} {q : id
         let one = pair-at (first.id.slot * 4294967296 + first.id.first) (l % 8) h.retry.id h.retry.attempt same h.attempt in
         let own = h.own (is_retry (first.id.slot * 4294967296 + first.id.first) (l % 8)) in
         let few = again_le l d in omega arith)
-      where
-        again_le : (l : ℕ) (d : Deed g state p q) → again_at l d ≤ 1
-        again_le l (operates x by s t a) = omega arith
-        again_le l (retries r s t (had_ended h)) = omega arith
-        again_le l (retries r s t (overtaken k u a b)) = omega arith
-        again_le l (retries r s t (went_again k u a b)) = only_le l (8 * k.content.operation + r.attempt)
 
     -- so there is one at most
     again_once : (l : ℕ) → total (λ (c : Client g state p q). total (again_at l) (deeds_of c)) all ≤ 1

@@ -116,9 +116,6 @@ lock_known slots version k v w g = record {
   locked = here;
 }
   where
-    f : ℕ
-    f = (parts k.word.0).first
-
     here : 0 < total (locks_for (parts k.word.0).first k.content.operation) (notes_of k.slot w.notes)
     here =
         let o = k.content.operation in let n : Note Asked = Locker (parts k.word.0).first k.content in
@@ -126,12 +123,18 @@ lock_known slots version k v w g = record {
         let b = ap (λ (b : Bool). total (locks_for (parts k.word.0).first o) (cond b (n ∷ []) [])) (eq-eqb k.slot k.slot refl) in
         let c = pair-same (parts k.word.0).first o in omega arith
 
-module _ {O : Type 0} {g : Ghosts O} {state : O → OutState} {p : Plan} {q : id_plan.Plan} where
+module _ {O : Type 0} {state : O → OutState} {p : Plan} {q : id_plan.Plan} where
   abbrev pub KnowsBy : (v : View Asked) (r : Retry) (s t : Both) → RetriedBy state p q r s t → Type 0
   KnowsBy v r s t (had_ended h) = Unit {0}
   KnowsBy v r s t (overtaken k u l o) = Unit {0}
   KnowsBy v r s t (went_again k u l w) = KnowsLock k v
 
+  known_by : (r : Retry) (s t : Both) (by : RetriedBy state p q r s t) → KnowsBy t.calls.view r s t by
+  known_by r s t (had_ended h) = tt
+  known_by r s t (overtaken k u l o) = tt
+  known_by r s t (went_again k u l w) = lock_stays k u.calls.view t.calls.view (again_still state p q r k u t w).grows (lock_known q.slots r.id k s.calls.view u.calls.view l.got)
+
+module _ {O : Type 0} {g : Ghosts O} {state : O → OutState} {p : Plan} {q : id_plan.Plan} where
   -- of each retry that went to a socket again
   abbrev pub Knows : View Asked → Deed g state p q → Type 0
   Knows v (operates x by s t a) = Unit {0}
@@ -142,11 +145,6 @@ module _ {O : Type 0} {g : Ghosts O} {state : O → OutState} {p : Plan} {q : id
   known_stays v w grows (retries r s t (had_ended e)) h = tt
   known_stays v w grows (retries r s t (overtaken k u l o)) h = tt
   known_stays v w grows (retries r s t (went_again k u l o)) h = lock_stays k v w grows h
-
-  known_by : (r : Retry) (s t : Both) (by : RetriedBy state p q r s t) → KnowsBy t.calls.view r s t by
-  known_by r s t (had_ended h) = tt
-  known_by r s t (overtaken k u l o) = tt
-  known_by r s t (went_again k u l w) = lock_stays k u.calls.view t.calls.view (again_still state p q r k u t w).grows (lock_known q.slots r.id k s.calls.view u.calls.view l.got)
 
   -- ## Along deeds
 
@@ -253,6 +251,23 @@ module _ {O : Type 0} (state : O → OutState) (p : Plan) (q : id_plan.Plan) whe
         counts_then (ran_deeds state p q xs n s h.0 h.2) (waited ++ now ∷ []) s.has.calls h.0.has.calls t.has.calls (ran_counts xs n s h.0 h.2)
         (counts_then waited (now ∷ []) h.0.has.calls m.ready.calls t.has.calls (retries_count (both_of h.0.has) (both_of m.ready) m.retried.all.retried) (counts_operation h.1 m.by m.ready t.has m.acted))
 
+-- ## The first of a list
+
+none_taken : {A : Type 0} (W : A → ℕ) (ys : List A) → total W (take 0 ys) ≡ 0
+none_taken W [] = refl
+none_taken W (y ∷ ys) = refl
+
+first_some : {A : Type 0} (W : A → ℕ) (ys : List A) (n : ℕ) (y : A) → get_elem? ys n ≡ some y → total W (take (suc n) ys) ≡ total W (take n ys) + W y
+first_some W [] n y e = absurd (some-ne-none y (sym e))
+first_some W (z ∷ zs) zero y e = let a = ap W (some-injective z y e) in let b = none_taken W zs in omega arith
+first_some W (z ∷ zs) (suc n) y e = let a = first_some W zs n y e in omega arith
+
+all_taken : {A : Type 0} (W : A → ℕ) (ys : List A) (n : ℕ) → length ys ≤ n → total W (take n ys) ≡ total W ys
+all_taken W [] zero low = refl
+all_taken W [] (suc n) low = refl
+all_taken W (y ∷ ys) zero low = absurd (omega arith)
+all_taken W (y ∷ ys) (suc n) low = let a = all_taken W ys n (omega arith) in omega arith
+
 -- ## A whole run
 
 module _ {O : Type 0} {g : Ghosts O} {state : O → OutState} {p : Plan} {q : id_plan.Plan} {first : ℕ} (x : Thread g) (th : IsThread state p q first x) where
@@ -292,21 +307,6 @@ module _ {O : Type 0} {g : Ghosts O} {state : O → OutState} {p : Plan} {q : id
   no_operation W s _ (one_more u t r rest before waits fed by) =
       let a = no_operation W s u before in let one : Deed g state p q = retries r (without_oldest rest u) t by in
       let b = total_append (by_task W) (retries_of {g = g} state p q s u before) (one ∷ []) in omega arith
-
-  first_some : {A : Type 0} (W : A → ℕ) (ys : List A) (n : ℕ) (y : A) → get_elem? ys n ≡ some y → total W (take (suc n) ys) ≡ total W (take n ys) + W y
-  first_some W [] n y e = absurd (some-ne-none y (sym e))
-  first_some W (z ∷ zs) zero y e = let a = ap W (some-injective z y e) in let b = none_taken zs in omega arith
-    where
-      none_taken : (ws : List A) → total W (take 0 ws) ≡ 0
-      none_taken [] = refl
-      none_taken (w ∷ ws) = refl
-  first_some W (z ∷ zs) (suc n) y e = let a = first_some W zs n y e in omega arith
-
-  all_taken : {A : Type 0} (W : A → ℕ) (ys : List A) (n : ℕ) → length ys ≤ n → total W (take n ys) ≡ total W ys
-  all_taken W [] zero low = refl
-  all_taken W [] (suc n) low = refl
-  all_taken W (y ∷ ys) zero low = absurd (omega arith)
-  all_taken W (y ∷ ys) (suc n) low = let a = all_taken W ys n (omega arith) in omega arith
 
   ran_total : (W : Task → ℕ) (ys : List Task) (n : ℕ) (s t : Course g) (h : Ran state p q ys n s t) → total (by_task W) (ran_deeds state p q ys n s t h) ≡ total W (take n ys)
   ran_total W [] zero s t e = refl

@@ -82,6 +82,9 @@ pub record IsIdOf (slots : ℕ) (notes : List (Noted Asked)) (o id : ℕ) : Type
   pub made : get_elem? (notes_of slot notes) place ≡ some (Made first range asked)
   pub operation : asked.operation ≡ o
 
+pub version_low : (id : ℕ) → version_of id < 4294967296
+version_low id = let some_ : 0 < 4294967296 = omega arith in mod-lt id some_
+
 module _ {slots : ℕ} {notes : List (Noted Asked)} (laws : IdLaws slots notes) where
   -- of the range with which it was locked by this id, which was advanced
   pub lock_id : (id n : ℕ) (k : IdLock Asked) (u v w : View Asked) → GotBy slots id k u w → KnowsLock k v → ((i : ℕ) (f : Note Asked → ℕ) → total f (notes_of i v.notes) ≤ total f (notes_of i notes)) → 0 < advances (slot_of id) (version_of id) n v
@@ -99,7 +102,7 @@ module _ {slots : ℕ} {notes : List (Noted Asked)} (laws : IdLaws slots notes) 
       let m = total_some (is_made f0) (notes_of i notes) (laws.advanced_made i f0 n got.inside here) in
       let mk = made_of f0 m.1 m.3 in
       let three : get_elem? (notes_of i notes) m.0 ≡ some (Made f0 mk.0 mk.1) = m.2 ∙ ap some mk.2 in
-      let low : f0 < 4294967296 = mod-lt id 4294967296 (omega arith) in
+      let low : f0 < 4294967296 = version_low id in
       let same : f ≡ f0 = dite (dec_lt f f0)
       (λ lt. absurd (let a = laws.ranges_apart i (parts knows.word).first f0 (parts knows.word).range mk.0 one.1 m.0 one.0 mk.1 got.inside one.2 three (let e = knows.first_is in omega arith) in
       let b = got.to_last in let c = knows.first_is in let d = knows.range_is in omega arith))

@@ -101,22 +101,22 @@ module _ {O : Type 0} (state : O → OutState) (p : Plan) where
 
   module _ (q : id_plan.Plan) where
     delivered_grows : (socket : SocketId) (msg : Letter) (s t : Both) (d : DeliveredBy state p q socket msg s t) → Grown (delivered_entries state p q socket msg s t d) s.socks t.socks
-    delivered_grows socket msg s t (went_out w) l ls is = seen_lists q.slots socket.0 w.taken s.calls t.socks t.calls w.through ∙ (w.accepted.lists ∙ ap (λ x. more x w.accepted.entry) is)
+    delivered_grows socket msg s t (went_out w) = λ l ls is. seen_lists q.slots socket.0 w.taken s.calls t.socks t.calls w.through ∙ (w.accepted.lists ∙ ap (λ x. more x w.accepted.entry) is)
     delivered_grows socket msg s t (came_back by c) = grown_none s.socks t.socks (came_lists p (record { id = socket }) msg by s.socks t.socks (record { refused_at = c.refused_at; refused_by = c.refused_by; returned = c.returned }))
 
     attempt_grows : (socket : SocketId) (msg : Letter) (s t : Both) (a : AttemptedBy state p q socket msg s t) → Grown (attempt_entries state p q socket msg s t a) s.socks t.socks
     attempt_grows socket msg s t (nowhere n) = grown_none s.socks t.socks (ap (λ (y : View). y.lists) n.gone.became.others)
-    attempt_grows socket msg s t (over_link u k d) l ls is = delivered_grows socket msg u t d l ls (ap (λ (y : View). y.lists) k.link_of.became.others ∙ (ap (λ (y : View). y.lists) k.held.others ∙ is))
+    attempt_grows socket msg s t (over_link u k d) = λ l ls is. delivered_grows socket msg u t d l ls (ap (λ (y : View). y.lists) k.link_of.became.others ∙ (ap (λ (y : View). y.lists) k.held.others ∙ is))
 
     went_grows : (name : ℕ) (msg : Letter) (s t : Both) (w : WentTo state p q name msg s t) → Grown (went_entries state p q name msg s t w) s.socks t.socks
     went_grows name msg s t (stray a e c) = grown_none s.socks t.socks (ap (λ (y : View). y.lists) e)
     went_grows name msg s t (unopened f c) = grown_none s.socks t.socks (found_lists p name None s.socks t.socks f)
-    went_grows name msg s t (to_socket socket u f e a) l ls is = attempt_grows socket msg u t a l ls (found_lists p name (Some socket) s.socks u.socks f ∙ is)
+    went_grows name msg s t (to_socket socket u f e a) = λ l ls is. attempt_grows socket msg u t a l ls (found_lists p name (Some socket) s.socks u.socks f ∙ is)
 
     pub retry_grows : (r : Retry) (s t : Both) (by : RetriedBy state p q r s t) → Grown (retry_entries state p q r s t by) s.socks t.socks
     retry_grows r s t (had_ended h) = grown_none s.socks t.socks (ap (λ (y : View). y.lists) h.socks)
     retry_grows r s t (overtaken k u l o) = grown_none s.socks t.socks (ap (λ (y : View). y.lists) (o.socks ∙ l.socks))
-    retry_grows r s t (went_again k u o w) l ls is = went_grows _ _ (record { socks = u.socks; calls = record { view = w.view; books = u.calls.books } }) t w.went l ls (ap (λ (y : View). y.lists) o.socks ∙ is)
+    retry_grows r s t (went_again k u o w) = λ l ls is. went_grows _ _ (record { socks = u.socks; calls = record { view = w.view; books = u.calls.books } }) t w.went l ls (ap (λ (y : View). y.lists) o.socks ∙ is)
 
     module _ {g : Ghosts O} where
       -- as a client without calls has it
@@ -125,10 +125,10 @@ module _ {O : Type 0} (state : O → OutState) (p : Plan) where
 
       pub acted_grows : (number : ℕ) (op : Op) (by : Option Outcome) (s t : Stand g) (a : Acted state p q number op by s t) → Grown (acted_entries state p q number op by s t a) s.me.0 t.me.0
       acted_grows number (ops.Open n k) (Some by) s t a = grown_none s.me.0 t.me.0 a.0.lists
-      acted_grows number (ops.Send n bytes) None s t a l ls is = sent_lists q.slots n (letter_of number bytes) s.me.0 s.calls t.me.0 t.calls a.0 ∙ ap (λ x. more x a.0.delivered.accepted.entry) is
+      acted_grows number (ops.Send n bytes) None s t a = λ l ls is. sent_lists q.slots n (letter_of number bytes) s.me.0 s.calls t.me.0 t.calls a.0 ∙ ap (λ x. more x a.0.delivered.accepted.entry) is
       acted_grows number (ops.Send n bytes) (Some by) s t a = grown_none s.me.0 t.me.0 (refused_lists q.slots n (letter_of number bytes) by s.me.0 s.calls t.me.0 t.calls a.0)
       acted_grows number (ops.Call asked) (Some outcome.Unopened) s t a = grown_none s.me.0 t.me.0 (found_lists p _ None s.me.0 t.me.0 a.0.0)
-      acted_grows number (ops.Call asked) None s t a l ls is = attempt_grows a.1.socket _ a.1.at (both_of t) a.1.attempted l ls (found_lists p _ (Some a.1.socket) s.me.0 a.1.at.socks a.1.made_for.found ∙ is)
+      acted_grows number (ops.Call asked) None s t a = λ l ls is. attempt_grows a.1.socket _ a.1.at (both_of t) a.1.attempted l ls (found_lists p _ (Some a.1.socket) s.me.0 a.1.at.socks a.1.made_for.found ∙ is)
       acted_grows number (ops.Expire of) (Some by) s t a = grown_none s.me.0 t.me.0 (ap (λ m. m.0.lists) a.1)
       acted_grows number (ops.Join of) (Some by) s t a = grown_none s.me.0 t.me.0 (ap (λ m. m.0.lists) a.1)
       acted_grows number (ops.Hold n) (Some by) s t a = table.acted_lists state p (record { client = 0; operation = 0; attempt = 0; place = 0 }) (record { number = number; name = n; action = action.Hold }) action.Hold (Some by) (on_socks s) (on_socks t) (a.0, a.1)

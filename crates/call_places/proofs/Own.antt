@@ -34,7 +34,12 @@ grown_then es fs u v w a b l ls is = b (l ++ es) ls (a l ls is) ∙ ap (λ x. x 
 grown_as : (es fs : List Entry) (v w : View) → es ≡ fs → Grown es v w → Grown fs v w
 grown_as es fs v w e = subst (λ l. Grown l v w) e
 
-module _ {O : Type 0} {g : Ghosts O} (state : O → OutState) (p : Plan) (q : id_plan.Plan) where
+-- the operation that is told behind these
+told_last : (number : ℕ) (by : Option Outcome) (told : List Told) (o : Outcome) → by ≡ Some o → (i : ℕ) × (get_elem? (told ++ telling number by) i ≡ some (record { number = number; outcome = o }))
+told_last number None told o e = absurd (cc)
+told_last number (Some x) told o e = (length told + 0, append_later told (record { number = number; outcome = x } ∷ []) 0 (record { number = number; outcome = o }) (let same : x ≡ o = same_Some x o e in ap (λ (y : Outcome). some (record { number = number; outcome = y })) same))
+
+module _ {O : Type 0} (g : Ghosts O) (state : O → OutState) (p : Plan) (q : id_plan.Plan) where
   -- by these deeds
   abbrev GrownBy : List (Deed g state p q) → View → View → Type 0
   GrownBy ds v w = Grown (flat_map entries_of ds) v w
@@ -80,11 +85,6 @@ module _ {O : Type 0} {g : Ghosts O} (state : O → OutState) (p : Plan) (q : id
     there = append_first ds es m.place _ m.there;
     tells = λ o e. (let i = m.tells o e in (i.0, append_first told more i.0 _ i.1));
   }
-
-  -- the operation that is told behind these
-  told_last : (number : ℕ) (by : Option Outcome) (told : List Told) (o : Outcome) → by ≡ Some o → (i : ℕ) × (get_elem? (told ++ telling number by) i ≡ some (record { number = number; outcome = o }))
-  told_last number None told o e = absurd (cc)
-  told_last number (Some x) told o e = (length told + 0, append_later told (record { number = number; outcome = x } ∷ []) 0 (record { number = number; outcome = o }) (let same : x ≡ o = same_Some x o e in ap (λ (y : Outcome). some (record { number = number; outcome = y })) same))
 
   made_now : (ds waited : List (Deed g state p q)) (told : List Told) (x : Task) (by : Option Outcome) (s t : Stand g) (a : Acted state p q x.number x.op by s t) → IsMade (ds ++ (waited ++ operates x by s t a ∷ [])) (told ++ telling x.number by) x
   made_now ds waited told x by s t a = let now : Deed g state p q = operates x by s t a in record {
@@ -133,9 +133,9 @@ module _ {O : Type 0} {g : Ghosts O} {state : O → OutState} {p : Plan} {q : id
       let behind = gave_lists th.ran.end.held _ th.ran.end.me.0 x.ended.seat.me.0 th.ran.given in
       let last : List (Deed g state p q) = retries_of state p q (both_of (stand th.ran.came)) (both_of th.ran.last) th.ran.ends.1.all.retried in
       behind ∙ (ap (λ (s : Stand g). s.me.0.lists) end_is
-      ∙ by_then state p q (ran_deeds state p q x.tasks th.ran.made (begins x.began) came th.ran.ran.ran) last x.began.seat.me.0 th.ran.came.seat.me.0 th.ran.last.me.0
-      (ran_grows state p q x.tasks th.ran.made (begins x.began) came th.ran.ran.ran)
-      (retries_grow state p q (both_of (stand th.ran.came)) (both_of th.ran.last) th.ran.ends.1.all.retried) [] [] before)
+      ∙ by_then g state p q (ran_deeds state p q x.tasks th.ran.made (begins x.began) came th.ran.ran.ran) last x.began.seat.me.0 th.ran.came.seat.me.0 th.ran.last.me.0
+      (ran_grows g state p q x.tasks th.ran.made (begins x.began) came th.ran.ran.ran)
+      (retries_grow g state p q (both_of (stand th.ran.came)) (both_of th.ran.last) th.ran.ends.1.all.retried) [] [] before)
 
   at_low : (xs : List Task) (i : ℕ) (t : Task) → get_elem? xs i ≡ some t → i < length xs
   at_low [] i t e = absurd (some-ne-none t (sym e))
@@ -143,12 +143,12 @@ module _ {O : Type 0} {g : Ghosts O} {state : O → OutState} {p : Plan} {q : id
   at_low (y ∷ ys) (suc i) t e = let a = at_low ys i t e in omega arith
 
   -- each of its tasks is one of its deeds
-  pub deed_of : (k : ℕ) (t : Task) → get_elem? x.tasks k ≡ some t → IsMade state p q (deeds x th) x.ended.outcomes.items t
+  pub deed_of : (k : ℕ) (t : Task) → get_elem? x.tasks k ≡ some t → IsMade g state p q (deeds x th) x.ended.outcomes.items t
   deed_of k t at =
       let low = at_low x.tasks k t at in let n = th.ran.ends.0 in
       let last : List (Deed g state p q) = retries_of state p q (both_of (stand th.ran.came)) (both_of th.ran.last) th.ran.ends.1.all.retried in
       let all : List (Deed g state p q) = ran_deeds state p q x.tasks th.ran.made (begins x.began) came th.ran.ran.ran ++ last in
       let told : th.ran.came.outcomes.items ++ [] ≡ x.ended.outcomes.items = append-nil th.ran.came.outcomes.items ∙ sym (ap (λ v. v.items) th.ran.told) in
-      subst (λ (l : List Told). IsMade state p q all l t) told
-      (made_first state p q (ran_deeds state p q x.tasks th.ran.made (begins x.began) came th.ran.ran.ran) last th.ran.came.outcomes.items [] t
-      (ran_made state p q x.tasks th.ran.made (begins x.began) came th.ran.ran.ran k t (omega arith) at))
+      subst (λ (l : List Told). IsMade g state p q all l t) told
+      (made_first g state p q (ran_deeds state p q x.tasks th.ran.made (begins x.began) came th.ran.ran.ran) last th.ran.came.outcomes.items [] t
+      (ran_made g state p q x.tasks th.ran.made (begins x.began) came th.ran.ran.ran k t (omega arith) at))

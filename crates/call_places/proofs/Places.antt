@@ -95,7 +95,7 @@ send_entry state p q number n bytes (ops.Fail m code) is by untold s t a = absur
 
 -- ## The clients of a run
 
-module _ {O : Type 0} {g : Ghosts O} {state : O → OutState} {p : Plan} {q : id_plan.Plan} where
+module _ {O : Type 0} {g : Ghosts O} (state : O → OutState) (p : Plan) (q : id_plan.Plan) where
   pub clients_from : (names : List ℕ) (first : ℕ) (xs : List (Thread g)) → AreThreads state p q names first xs → List (Client g state p q)
   clients_from names first [] a = []
   clients_from names first (x ∷ xs) a = record { thread = x; first = first; is = a.0 } ∷ clients_from names (first + opens_of x.tasks) xs a.2
@@ -122,24 +122,24 @@ module _ {O : Type 0} {g : Ghosts O} {state : O → OutState} {p : Plan} {slots 
     (run : RanOn g state p slots setup clients opens told ended places vrefs outs ids) where
   -- the setup's client and all others
   abbrev pub all : List (Client g state p (ids_of p slots))
-  all = record { thread = run.ran.main; first = 0; is = run.ran.main_is } ∷ clients_from _ (opens_of setup) run.ran.others run.ran.others_are
+  all = record { thread = run.ran.main; first = 0; is = run.ran.main_is } ∷ clients_from state p (ids_of p slots) _ (opens_of setup) run.ran.others run.ran.others_are
 
-  all_are : {B : Type 0} (f : Thread g → B) → map (λ (c : Client g state p (ids_of p slots)). f c.thread) all ≡ map f (run.ran.main ∷ run.ran.others)
-  all_are f = ap (λ l. f run.ran.main ∷ l) (threads_are f _ (opens_of setup) run.ran.others run.ran.others_are)
+  pub all_are : {B : Type 0} (f : Thread g → B) → map (λ (c : Client g state p (ids_of p slots)). f c.thread) all ≡ map f (run.ran.main ∷ run.ran.others)
+  all_are f = ap (λ l. f run.ran.main ∷ l) (threads_are state p (ids_of p slots) f _ (opens_of setup) run.ran.others run.ran.others_are)
 
-  views_are : map view_of all ≡ ids
+  pub views_are : map view_of all ≡ ids
   views_are = all_are (λ (x : Thread g). x.ended.calls.seat.me.0) ∙ run.ran.ids_are
 
-  tasks_are : map tasks_of all ≡ setup ∷ clients
+  pub tasks_are : map tasks_of all ≡ setup ∷ clients
   tasks_are = all_are (λ (x : Thread g). x.tasks) ∙ (ap (λ (t : List Task). t ∷ map (λ (x : Thread g). x.tasks) run.ran.others) run.ran.setup_asked ∙ ap (λ l. setup ∷ l) run.ran.asked)
 
   -- each seat's list is its client's own
-  lists_are : run.closed.view.lists ≡ map own_of all
+  pub lists_are : run.closed.view.lists ≡ map own_of all
   lists_are =
       let f : Seat (SockHome O g) sock_view.View → List (List Entry) = λ s. s.me.0.lists in
       let rest : List (List Entry) = flat_map f (map (λ (x : Thread g). x.ended.seat) run.ran.others) in
       let mains : f run.ran.last ≡ own_entries run.ran.main run.ran.main_is ∷ [] = each_ended_lists p opens run.ran.main.ended.seat.me.0 run.ran.last.me.0 run.ran.failed ∙ own_list run.ran.main run.ran.main_is in
-      run.closed.lists ∙ (ap (flat_map f) (sym run.ran.seats_are) ∙ (ap (λ l. l ++ rest) mains ∙ ap (λ l. own_entries run.ran.main run.ran.main_is ∷ l) (others_lists _ (opens_of setup) run.ran.others run.ran.others_are)))
+      run.closed.lists ∙ (ap (flat_map f) (sym run.ran.seats_are) ∙ (ap (λ l. l ++ rest) mains ∙ ap (λ l. own_entries run.ran.main run.ran.main_is ∷ l) (others_lists state p (ids_of p slots) _ (opens_of setup) run.ran.others run.ran.others_are)))
 
   module _ (tasks : AreTasks p (setup ∷ clients)) (may : MayRunAll p (ids_of p slots) setup clients) (notes : List (Noted Asked)) (laws : IdLaws slots notes) (have : HaveNotesOf ids notes) where
     may_make : (j : ℕ) (c : Client g state p (ids_of p slots)) → get_elem? all j ≡ some c → (n : ℕ) × MayMakeAll p (ids_of p slots) (tasks_of c) n
@@ -266,7 +266,7 @@ module _ {O : Type 0} {g : Ghosts O} {state : O → OutState} {p : Plan} {slots 
       -- ## Sends
 
       -- the message of a send that was accepted has a place
-      pub send_placed : (j : ℕ) (c : Client g state p (ids_of p slots)) → get_elem? all j ≡ some c → (t : Task) (n : ℕ) (bytes : List ℕ) → t.op ≡ ops.Send n bytes → (m : IsMade state p (ids_of p slots) (deeds_of c) c.thread.ended.outcomes.items t) → m.by ≡ None → HasPosition (word_at places (8 * t.number))
+      pub send_placed : (j : ℕ) (c : Client g state p (ids_of p slots)) → get_elem? all j ≡ some c → (t : Task) (n : ℕ) (bytes : List ℕ) → t.op ≡ ops.Send n bytes → (m : IsMade g state p (ids_of p slots) (deeds_of c) c.thread.ended.outcomes.items t) → m.by ≡ None → HasPosition (word_at places (8 * t.number))
       send_placed j c at t n bytes is m untold =
           let e = send_entry state p (ids_of p slots) t.number n bytes t.op is m.by untold m.before m.after m.acted in
           let own = flat_there entries_of (deeds_of c) m.place _ 0 e.0 m.there e.1 in
