@@ -8,15 +8,18 @@ use native.Mathlib.Decide.{ℕ_discrete, dec_lt}
 use lib.ListN.{get_elem?}
 use Rattle.corr_core.specs.Word.{parts}
 use Rattle.corr_core.specs.Law.{total, is_made, is_attempt}
+use Rattle.corr_core.specs.declared.marks.Kept.{Kept}
 use Rattle.corr_core.specs.declared.marks.Note.{Note}
 use Rattle.corr_core.specs.declared.marks.Note.TheVariants.{Tried, Made, Ended, Locker, Queued, Attempt, Saw}
 use Rattle.corr_core.specs.declared.marks.Noted.{Noted}
+use Rattle.corr_core.specs.declared.marks.Plan as id_plan
 use Rattle.corr_core.specs.declared.marks.View.{View}
 use Rattle.corr_core.proofs.Notes.{only-at, only-else, pair-else, pair-else_first, total_some}
 use Rattle.id_rule.specs.Lawful.{notes_of}
 use Rattle.sock_message.specs.Asked.{Asked}
 use Rattle.corr_id.specs.declared.calls.IdLock.{IdLock}
 use Rattle.corr_id.specs.Calls.{is_saw, slot_of, version_of}
+use Rattle.corr_id.specs.Closing.{Closing}
 use Rattle.call_errors.specs.Locking.{GotBy}
 use Rattle.call_places.specs.Counted.{makes}
 use Rattle.call_places.proofs.Weights.{two_terms, noted_at}
@@ -30,6 +33,9 @@ pub record IdLaws (slots : ℕ) (notes : List (Noted Asked)) : Type 0 where
   pub locked_made : (i f k : ℕ) (c : Asked) → i < slots → get_elem? (notes_of i notes) k ≡ some (Locker f c) → (r j : ℕ) × (get_elem? (notes_of i notes) j ≡ some (Made f r c))
   pub range_is : (i w : ℕ) → i < slots → 0 < total (is_saw w) (notes_of i notes) → 0 < (parts w).state → (c : Asked) × (j : ℕ) × (get_elem? (notes_of i notes) j ≡ some (Made (parts w).first (parts w).range c))
   pub ranges_apart : (i f g r s j k : ℕ) (c d : Asked) → i < slots → get_elem? (notes_of i notes) j ≡ some (Made f r c) → get_elem? (notes_of i notes) k ≡ some (Made g s d) → f < g → f + r ≤ g
+
+pub laws_of : (p : id_plan.Plan) (notes : List (Noted Asked)) (kept : List Kept) (words : List ℕ) → Closing p notes kept words → IdLaws p.slots notes
+laws_of p notes kept words c = record { advanced_once = c.advanced_once; advanced_made = c.advanced_made; locked_made = c.locked_made; range_is = c.range_is; ranges_apart = c.ranges_apart }
 
 -- ## Notes by their weights
 

@@ -31,11 +31,13 @@ use Rattle.sock_programs.specs.declared.task.Op.TheVariants as ops
 use Rattle.sock_programs.specs.declared.task.Task.{Task}
 use Rattle.sock_programs.specs.Told.{AreTasks}
 use Rattle.corr_core.specs.Law.{total}
+use Rattle.corr_core.specs.declared.marks.Kept.{Kept}
 use Rattle.corr_core.specs.declared.marks.Noted.{Noted}
 use Rattle.corr_core.specs.declared.marks.Plan as id_plan
 use Rattle.corr_core.specs.declared.marks.View.{View}
 use Rattle.corr_core.proofs.Notes.{only-at}
 use Rattle.sock_message.specs.Asked.{Asked}
+use Rattle.corr_id.specs.Closing.{Closing}
 use Rattle.rpc_client.specs.declared.acting.Told.{Told}
 use Rattle.call_client.specs.Acting.{Stand, Acted}
 use Rattle.call_client.specs.Running.{MayMakeAll}
@@ -49,7 +51,7 @@ use Rattle.call_places.proofs.Lists.{each_ended_lists}
 use Rattle.call_places.proofs.Own.{IsMade, own_list}
 use Rattle.call_places.proofs.Labels.{at_place}
 use Rattle.call_places.proofs.Numbers.{numbered, numbered_once}
-use Rattle.call_places.proofs.Ids.{IdLaws}
+use Rattle.call_places.proofs.Ids.{IdLaws, laws_of}
 use Rattle.call_places.proofs.Clients.{Client, total_map, view_of, tasks_of, deeds_of, own_of, once, inside}
 use Rattle.call_places.proofs.Log as log
 
@@ -275,3 +277,9 @@ module _ {O : Type 0} {g : Ghosts O} {state : O → OutState} {p : Plan} {slots 
           let q = from_pick list.0 run.closed.ordered.by accepted own.0 e.0 (ap (λ l. get_elem? l own.0) list.2 ∙ own.1) in
           let i = on_there e.0.link accepted q.0 e.0 q.2 refl in
           (tells (8 * t.number) e.0.link i.0 (record { inside = e.3; entry = e.0; at = i.1; place = omega (arith, e.2) })).1.has_position
+
+-- of a run behind which the table of ids was closed, over notes that have those of the clients' seats and no made id besides
+pub closed_places : {O : Type 0} {g : Ghosts O} {state : O → OutState} {p : Plan} {slots : ℕ} {setup : List Task} {clients : List (List Task)} {opens : List ℕ} {told ended : List (List Told)} {places : List PlaceWord} {vrefs : List Vref} {outs : List O} {ids : List (View Asked)}
+    → RanOn g state p slots setup clients opens told ended places vrefs outs ids → AreTasks p (setup ∷ clients) → MayRunAll p (ids_of p slots) setup clients → p.links ≤ 65536 → p.operations ≤ 65536
+    → (notes : List (Noted Asked)) (kept : List Kept) (words : List ℕ) → Closing (ids_of p slots) notes kept words → HaveNotesOf ids notes → ArePlaces places
+closed_places {p = p} {slots = slots} run tasks may few low notes kept words closing have = are_places run tasks may notes (laws_of (ids_of p slots) notes kept words closing) have few low
