@@ -12,13 +12,8 @@ use Rattle.sock_rule.specs.Closing.{Ordered, PlacesDiffer}
 use Rattle.corr_core.specs.Law.{total, only}
 use Rattle.corr_core.proofs.Notes.{only-at, only-else, only_le}
 use Rattle.table_told.proofs.Entries.{before, pick_at, before_rises}
-use Rattle.call_places.proofs.Weights.{term, two_terms, all_zero, few_places}
+use Rattle.call_places.proofs.Weights.{term, two_terms, all_zero, mapped, few_places}
 use Rattle.call_places.proofs.Labels.{at_place}
-
-map_place : {A B : Type 0} (f : A → B) (xs : List A) (c : ℕ) (x : A) → get_elem? xs c ≡ some x → get_elem? (map f xs) c ≡ some (f x)
-map_place f [] c x e = absurd (some-ne-none x (sym e))
-map_place f (y ∷ ys) zero x e = ap (λ z. some (f z)) (some-injective y x e)
-map_place f (y ∷ ys) (suc c) x e = map_place f ys c x e
 
 module _ (p : Plan) (found : List ℕ) (lists : List (List Entry)) (o : Ordered p found lists) where
   -- the entry stands in the list of its author
@@ -40,7 +35,7 @@ module _ (p : Plan) (found : List ℕ) (lists : List (List Entry)) (o : Ordered 
         by_author = au.1;
         seat = n.0;
         name = n.1;
-        list = ap (λ l. get_elem? l n.0) o.lists_are ∙ map_place (λ a. pick a o.by o.log) o.names n.0 au.0 n.1;
+        list = ap (λ l. get_elem? l n.0) o.lists_are ∙ mapped (λ a. pick a o.by o.log) o.names n.0 au.0 n.1;
         place = pick_at au.0 o.by o.log q e au.1 there;
       }
 

@@ -26,6 +26,7 @@ use Rattle.call_run.specs.Threads.{Thread, IsThread}
 use Rattle.table_told.proofs.Flats.{append_first, append_later}
 use Rattle.table_told.proofs.Moments.{flat-append}
 use Rattle.call_places.specs.Deeds.{Deed, operates, retries, retries_of, ran_deeds, deeds, entries_of, own_entries}
+use Rattle.call_places.proofs.Weights.{at_low}
 use Rattle.call_places.proofs.Lists.{Grown, grown_none, waited_lists, gave_lists, retry_grows, acted_grows}
 
 grown_then : (es fs : List Entry) (u v w : View) → Grown es u v → Grown fs v w → Grown (es ++ fs) u w
@@ -138,11 +139,6 @@ module _ {O : Type 0} {g : Ghosts O} {state : O → OutState} {p : Plan} {q : id
       ∙ by_then g state p q (ran_deeds state p q x.tasks th.ran.made (begins x.began) came th.ran.ran.ran) last x.began.seat.me.0 th.ran.came.seat.me.0 th.ran.last.me.0
       (ran_grows g state p q x.tasks th.ran.made (begins x.began) came th.ran.ran.ran)
       (retries_grow g state p q (both_of (stand th.ran.came)) (both_of th.ran.last) th.ran.ends.1.all.retried) [] [] before)
-
-  at_low : (xs : List Task) (i : ℕ) (t : Task) → get_elem? xs i ≡ some t → i < length xs
-  at_low [] i t e = absurd (some-ne-none t (sym e))
-  at_low (y ∷ ys) zero t e = omega arith
-  at_low (y ∷ ys) (suc i) t e = let a = at_low ys i t e in omega arith
 
   -- each of its tasks is one of its deeds
   pub deed_of : (k : ℕ) (t : Task) → get_elem? x.tasks k ≡ some t → IsMade g state p q (deeds x th) x.ended.outcomes.items t

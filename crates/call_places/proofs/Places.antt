@@ -46,7 +46,7 @@ use Rattle.table_told.proofs.Entries.{before, from_pick, from_on, on_there}
 use Rattle.table_told.proofs.Flats.{flat_there}
 use Rattle.call_places.specs.Counted.{HaveNotesOf}
 use Rattle.call_places.specs.Deeds.{acted_entries, entries_of, own_entries}
-use Rattle.call_places.proofs.Weights.{term}
+use Rattle.call_places.proofs.Weights.{term, at_low, there, mapped}
 use Rattle.call_places.proofs.Lists.{each_ended_lists}
 use Rattle.call_places.proofs.Own.{IsMade, own_list}
 use Rattle.call_places.proofs.Labels.{at_place}
@@ -57,11 +57,6 @@ use Rattle.call_places.proofs.Log as log
 
 -- ## Lists by places
 
-map_place : {A B : Type 0} (f : A → B) (xs : List A) (c : ℕ) (x : A) → get_elem? xs c ≡ some x → get_elem? (map f xs) c ≡ some (f x)
-map_place f [] c x e = absurd (some-ne-none x (sym e))
-map_place f (y ∷ ys) zero x e = ap (λ z. some (f z)) (some-injective y x e)
-map_place f (y ∷ ys) (suc c) x e = map_place f ys c x e
-
 map_from : {A B : Type 0} (f : A → B) (xs : List A) (c : ℕ) (b : B) → get_elem? (map f xs) c ≡ some b → (x : A) × (get_elem? xs c ≡ some x) × (f x ≡ b)
 map_from f [] c b e = absurd (some-ne-none b (sym e))
 map_from f (y ∷ ys) zero b e = (y, refl, some-injective (f y) b e)
@@ -71,16 +66,6 @@ got : {A : Type 0} (xs : List A) (i : ℕ) (x : A) → get_elem? xs i ≡ some x
 got [] i x e = absurd (some-ne-none x (sym e))
 got (y ∷ ys) zero x e = ap Some (some-injective y x e)
 got (y ∷ ys) (suc i) x e = got ys i x e
-
-at_low : {A : Type 0} (xs : List A) (i : ℕ) (x : A) → get_elem? xs i ≡ some x → i < length xs
-at_low [] i x e = absurd (some-ne-none x (sym e))
-at_low (y ∷ ys) zero x e = omega arith
-at_low (y ∷ ys) (suc i) x e = let a = at_low ys i x e in omega arith
-
-there : {A : Type 0} (xs : List A) (i : ℕ) → i < length xs → (x : A) × (get_elem? xs i ≡ some x)
-there [] i low = absurd (omega arith)
-there (x ∷ xs) zero low = (x, refl)
-there (x ∷ xs) (suc i) low = there xs i (omega arith)
 
 -- the entry of a send that was accepted
 send_entry : {O : Type 0} {g : Ghosts O} (state : O → OutState) (p : Plan) (q : id_plan.Plan) (number n : ℕ) (bytes : List ℕ) (op : Op) → op ≡ ops.Send n bytes → (by : Option Outcome) → by ≡ None → (s t : Stand g) (a : Acted state p q number op by s t)
@@ -145,7 +130,7 @@ module _ {O : Type 0} {g : Ghosts O} {state : O → OutState} {p : Plan} {slots 
 
   module _ (tasks : AreTasks p (setup ∷ clients)) (may : MayRunAll p (ids_of p slots) setup clients) (notes : List (Noted Asked)) (laws : IdLaws slots notes) (have : HaveNotesOf ids notes) where
     may_make : (j : ℕ) (c : Client g state p (ids_of p slots)) → get_elem? all j ≡ some c → (n : ℕ) × MayMakeAll p (ids_of p slots) (tasks_of c) n
-    may_make j c at = may_at p (ids_of p slots) (setup ∷ clients) (may.setup_may, may.clients_may) j (tasks_of c) (ap (λ l. get_elem? l j) (sym tasks_are) ∙ map_place tasks_of all j c at)
+    may_make j c at = may_at p (ids_of p slots) (setup ∷ clients) (may.setup_may, may.clients_may) j (tasks_of c) (ap (λ l. get_elem? l j) (sym tasks_are) ∙ mapped tasks_of all j c at)
 
     numbers : (o : ℕ) → total (λ (c : Client g state p (ids_of p slots)). total (numbered o) (tasks_of c)) all ≤ 1
     numbers o = let a = total_map (λ (ts : List Task). total (numbered o) ts) tasks_of all in let b = ap (total (λ (ts : List Task). total (numbered o) ts)) tasks_are in let d = numbered_once p (setup ∷ clients) tasks o in omega arith
@@ -273,7 +258,7 @@ module _ {O : Type 0} {g : Ghosts O} {state : O → OutState} {p : Plan} {slots 
       send_placed j c at t n bytes is m untold =
           let e = send_entry state p (ids_of p slots) t.number n bytes t.op is m.by untold m.before m.after m.acted in
           let own = flat_there entries_of (deeds_of c) m.place _ 0 e.0 m.there e.1 in
-          let list = map_from (λ a. pick a run.closed.ordered.by accepted) run.closed.ordered.names j (own_of c) (ap (λ l. get_elem? l j) (sym run.closed.ordered.lists_are ∙ lists_are) ∙ map_place own_of all j c at) in
+          let list = map_from (λ a. pick a run.closed.ordered.by accepted) run.closed.ordered.names j (own_of c) (ap (λ l. get_elem? l j) (sym run.closed.ordered.lists_are ∙ lists_are) ∙ mapped own_of all j c at) in
           let q = from_pick list.0 run.closed.ordered.by accepted own.0 e.0 (ap (λ l. get_elem? l own.0) list.2 ∙ own.1) in
           let i = on_there e.0.link accepted q.0 e.0 q.2 refl in
           (tells (8 * t.number) e.0.link i.0 (record { inside = e.3; entry = e.0; at = i.1; place = omega (arith, e.2) })).1.has_position
