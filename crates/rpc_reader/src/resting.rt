@@ -11,13 +11,7 @@ use corr_id::IdTable;
 use std::sync::Wait;
 
 /// The call of this operation ends, unless it has ended or never began.
-fn end_one<R: Wait>(
-    rt: &R,
-    ids: &IdTable<Call>,
-    calls: &mut AnswerSeat,
-    operation: u16,
-    code: u16,
-)
+fn end_one<R: Wait>(rt: &R, ids: &IdTable<Call>, calls: &mut AnswerSeat, operation: u16, code: u16)
     requires seat { IsOpen ids.now.table.shared.table_id calls.old.seat }
     requires operation { operation < ids.now.plan.operations }
     ensures ids { Rests calls.old.seat calls.new.seat }
