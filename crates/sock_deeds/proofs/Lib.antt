@@ -1,0 +1,4 @@
+pub mod Growing
+pub mod Sources
+pub mod Stores
+pub mod Chains
