@@ -1,5 +1,5 @@
 -- Lists that are put together of lists, by places.
-use Rattle.std.proofs.Common.{◌≡◌, ℕ, zero, suc, ◌+◌, ◌<◌, ◌≤◌, ◌⊎◌, inl, inr, List, [], ◌∷◌, ◌++◌, length, length-append, flat_map, refl, sym, ap, ◌∙◌, arith}
+use Rattle.std.proofs.Common.{◌≡◌, ℕ, zero, suc, ◌+◌, ◌<◌, ◌≤◌, ◌⊎◌, inl, inr, List, [], ◌∷◌, ◌++◌, length, length-append, append_assoc, flat_map, refl, sym, ap, ◌∙◌, arith}
 use mathlib.Core.Option.{some, some-injective, some-ne-none}
 use lib.ListN.{get_elem?}
 
@@ -91,3 +91,26 @@ module _ {C : Type 0} where
   flat_long f g [] (b ∷ bs) long each = absurd (omega arith)
   flat_long f g (a ∷ as_) [] long each = absurd (omega arith)
   flat_long f g (a ∷ as_) (b ∷ bs) long each = omega (arith, length-append (f a) (flat_map f as_), length-append (g b) (flat_map g bs), each zero a b refl refl, flat_long f g as_ bs (omega arith) (λ j u v h i. each (suc j) u v h i))
+
+pub flat-append : {A B : Type 0} (f : A → List B) (l m : List A) → flat_map f (l ++ m) ≡ flat_map f l ++ flat_map f m
+flat-append f [] m = refl
+flat-append f (x ∷ xs) m = ap (λ l. f x ++ l) (flat-append f xs m) ∙ sym (append_assoc (f x) (flat_map f xs) (flat_map f m))
+
+module _ {A B : Type 0} (f : A → List B) where
+  -- what comes from an earlier element stands before what comes from a later one
+  pub flat_places : (xs : List A) (j k m n : ℕ) (x w : A) (y z : B) → j < k → get_elem? xs j ≡ some x → get_elem? xs k ≡ some w → get_elem? (f x) m ≡ some y → get_elem? (f w) n ≡ some z
+      → (i l : ℕ) × (i < l) × (get_elem? (flat_map f xs) i ≡ some y) × (get_elem? (flat_map f xs) l ≡ some z)
+  flat_places [] j k m n x w y z less e h a b = absurd (some-ne-none x (sym e))
+  flat_places (v ∷ vs) j zero m n x w y z less e h a b = absurd (omega arith)
+  flat_places (v ∷ vs) zero (suc k) m n x w y z less e h a b =
+      let here : get_elem? (f v) m ≡ some y = ap (λ u. get_elem? (f u) m) (some-injective v x e) ∙ a in
+      let r = flat_there f vs k w n z h b in
+      (m, length (f v) + r.0, omega (arith, low (f v) m y here), append_first (f v) (flat_map f vs) m y here, append_later (f v) (flat_map f vs) r.0 z r.1)
+    where
+      low : {C : Type 0} (l : List C) (i : ℕ) (c : C) → get_elem? l i ≡ some c → i < length l
+      low [] i c at = absurd (some-ne-none c (sym at))
+      low (c ∷ cs) zero d at = omega arith
+      low (c ∷ cs) (suc i) d at = let q = low cs i d at in omega arith
+  flat_places (v ∷ vs) (suc j) (suc k) m n x w y z less e h a b =
+      let r = flat_places vs j k m n x w y z (omega arith) e h a b in
+      (length (f v) + r.0, length (f v) + r.1, (let q = r.2 in omega arith), append_later (f v) (flat_map f vs) r.0 y r.3, append_later (f v) (flat_map f vs) r.1 z r.4)

@@ -88,8 +88,8 @@ found_grew x id v w d = record {
   puts = λ y n. (let e = ap (λ (z : View). put_in y n z) d.view in omega arith);
 }
 
-became_marks : (i : ℕ) (v w : View) (adds drops : List Mark) (f : Mark → ℕ) → total f drops ≡ 0 → Became i v w adds drops → (j : ℕ) → marks_of f j v ≤ marks_of f j w
-became_marks i v w adds drops f none_ b j = dite (ℕ_discrete j i)
+became_marks : (i : ℕ) (v w : View) (adds gone : List Mark) (f : Mark → ℕ) → total f gone ≡ 0 → Became i v w adds gone → (j : ℕ) → marks_of f j v ≤ marks_of f j w
+became_marks i v w adds gone f none_ b j = dite (ℕ_discrete j i)
     (λ same. subst (λ k. marks_of f k v ≤ marks_of f k w) (sym same) (let h = b.here f in omega arith))
     (λ ne. let e = ap (total f) (b.elsewhere j ne) in omega arith)
 
@@ -102,8 +102,8 @@ others_grew v w e marks = record {
   puts = λ x n. (let q = ap (λ (z : View). put_in x n z) e in omega arith);
 }
 
-pub became_grew : (i : ℕ) (v w : View) (adds drops : List Mark) → ((f : Mark → ℕ) → IsNote f → total f drops ≡ 0) → Became i v w adds drops → Grew v w
-became_grew i v w adds drops none_ b = others_grew v w b.others (λ f note j. became_marks i v w adds drops f (none_ f note) b j)
+pub became_grew : (i : ℕ) (v w : View) (adds gone : List Mark) → ((f : Mark → ℕ) → IsNote f → total f gone ≡ 0) → Became i v w adds gone → Grew v w
+became_grew i v w adds gone none_ b = others_grew v w b.others (λ f note j. became_marks i v w adds gone f (none_ f note) b j)
 
 pub added_grew : (i : ℕ) (v w : View) (adds : List Mark) → Became i v w adds [] → Grew v w
 added_grew i v w adds b = became_grew i v w adds [] (λ f note. refl) b

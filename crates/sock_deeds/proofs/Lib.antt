@@ -5,3 +5,4 @@ pub mod Chains
 pub mod Messages
 pub mod Flats
 pub mod Acts
+pub mod Tasks

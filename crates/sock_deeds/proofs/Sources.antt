@@ -86,14 +86,14 @@ one_mark f i j m es none_ = dite (ℕ_discrete i j)
     (λ same. subst (λ k. total f (about i (at k m ∷ es)) ≡ total f (about i es)) same (let e = ap (total f) (about-here i m es) in omega arith))
     (λ ne. ap (total f) (about-other i j m es ne))
 
-became_same : (f : Mark → ℕ) (i : ℕ) (v w : View) (adds drops : List Mark) → total f adds ≡ 0 → total f drops ≡ 0 → Became i v w adds drops → Same f v w
-became_same f i v w adds drops a d b j = dite (ℕ_discrete j i)
+became_same : (f : Mark → ℕ) (i : ℕ) (v w : View) (adds gone : List Mark) → total f adds ≡ 0 → total f gone ≡ 0 → Became i v w adds gone → Same f v w
+became_same f i v w adds gone a d b j = dite (ℕ_discrete j i)
     (λ same. subst (λ k. marks_of f k w ≡ marks_of f k v) (sym same) (let h = b.here f in omega arith))
     (λ ne. ap (total f) (b.elsewhere j ne))
 
 -- marks of one slot alone came
-became_slot : (f : Mark → ℕ) (i : ℕ) (v w : View) (adds drops : List Mark) → total f drops ≡ 0 → Became i v w adds drops → (j : ℕ) → marks_of f j v < marks_of f j w → (i ≡ j) × (0 < total f adds)
-became_slot f i v w adds drops d b j less = dite (ℕ_discrete j i)
+became_slot : (f : Mark → ℕ) (i : ℕ) (v w : View) (adds gone : List Mark) → total f gone ≡ 0 → Became i v w adds gone → (j : ℕ) → marks_of f j v < marks_of f j w → (i ≡ j) × (0 < total f adds)
+became_slot f i v w adds gone d b j less = dite (ℕ_discrete j i)
     (λ same. (sym same, subst (λ k. marks_of f k v < marks_of f k w → 0 < total f adds) (sym same) (λ l. (let h = b.here f in omega arith)) less))
     (λ ne. absurd (let e = ap (total f) (b.elsewhere j ne) in omega arith))
 
@@ -268,7 +268,7 @@ module _ (f : Mark → ℕ) (z : IsOfLife f) where
 
   looked_same : (p : Plan) (number : ℕ) (n : NotedKind) (v w : View) → NotedAs p number n v w → Same f v w
   looked_same p number noteds.NotYet v w b = same_as f v w b.0
-  looked_same p number noteds.Nothing v w b i = ap (marks_of f i) b.view
+  looked_same p number noteds.Nothing v w b = λ i. ap (marks_of f i) b.view
   looked_same p number (noteds.Id id) v w b = found_same (open_word p number) id.0 v w b.1
 
   gone_same : (id found : ℕ) (v w : View) → GoneFrom id found v w → Same f v w

@@ -26,24 +26,24 @@ use Rattle.sock_deeds.specs.Deeds.{Hand, Did, opens, sends, holds, drops, fails,
 -- ## What deeds are done for
 
 -- the operation of this number is this one, of client c
-abbrev pub Asks : List (List Task) → List (Option Outcome) → ℕ → ℕ → Op → Type 0
-Asks clients outcomes c number op = IsTask clients outcomes c record { number = number; op = op }
+abbrev pub IsOperation : List (List Task) → List (Option Outcome) → ℕ → ℕ → Op → Type 0
+IsOperation clients outcomes c number op = IsTask clients outcomes c record { number = number; op = op }
 
 module _ (clients : List (List Task)) (outcomes : List (Option Outcome)) where
   -- a message is that of a send, of which nothing is told where it was accepted; or an attempt of a call, the first one by the client that began it, with the frame that has its id.
   -- The place word of a message is that of its operation and its attempt
   pub data IsMessage (c name number attempt : ℕ) (msg : Letter) (by : Option Outcome) : Type 0 where
-    of_send : (bytes : List ℕ) → Asks clients outcomes c number (ops.Send name bytes) → attempt ≡ 0 → (parcel_of msg.bytes).bytes ≡ bytes → slice_get outcomes number ≡ Some by → IsMessage c name number attempt msg by
-    of_call : (client : ℕ) (asked : Asked) → Asks clients outcomes client number (ops.Call asked) → (attempt ≡ 0 → client ≡ c) → attempt ≤ 6 → name ≡ name_of asked attempt → (parcel_of msg.bytes).bytes ≡ frame_of asked msg.owner attempt
+    of_send : (bytes : List ℕ) → IsOperation clients outcomes c number (ops.Send name bytes) → attempt ≡ 0 → (parcel_of msg.bytes).bytes ≡ bytes → slice_get outcomes number ≡ Some by → IsMessage c name number attempt msg by
+    of_call : (client : ℕ) (asked : Asked) → IsOperation clients outcomes client number (ops.Call asked) → (attempt ≡ 0 → client ≡ c) → attempt ≤ 6 → name ≡ name_of asked attempt → (parcel_of msg.bytes).bytes ≡ frame_of asked msg.owner attempt
         → (attempt ≡ 0 → by ≡ Some outcome.Unopened → Became clients outcomes number outcome.Unopened) → IsMessage c name number attempt msg by
 
   -- a deed of client c is done for a task that asks for it, and what became of it is told of that task
   abbrev pub IsFor : ℕ → Did → Type 0
-  IsFor c (opens name number link by) = Asks clients outcomes c number (ops.Open name link) × Became clients outcomes number by
+  IsFor c (opens name number link by) = IsOperation clients outcomes c number (ops.Open name link) × Became clients outcomes number by
   IsFor c (sends name number attempt msg by) = IsMessage c name number attempt msg by × (msg.label.place ≡ 8 * number + attempt)
-  IsFor c (holds name number by) = Asks clients outcomes c number (ops.Hold name) × Became clients outcomes number by
-  IsFor c (drops name number by) = Asks clients outcomes c number (ops.Drop name) × Became clients outcomes number by
-  IsFor c (fails name number code by) = Asks clients outcomes c number (ops.Fail name code) × Became clients outcomes number by
+  IsFor c (holds name number by) = IsOperation clients outcomes c number (ops.Hold name) × Became clients outcomes number by
+  IsFor c (drops name number by) = IsOperation clients outcomes c number (ops.Drop name) × Became clients outcomes number by
+  IsFor c (fails name number code by) = IsOperation clients outcomes c number (ops.Fail name code) × Became clients outcomes number by
   IsFor c other = Unit {0}
 
 -- the operation is done at the table of sockets, or begins there
@@ -83,5 +83,5 @@ pub record DeedRun {O : Type 0} (g : Ghosts O) (state : O → OutState) (p : Pla
   -- what is told is told of tasks
   pub alone : (n : ℕ) (by : Outcome) → Became clients outcomes n by → (c : ℕ) × (t : Task) × IsTask clients outcomes c t × (t.number ≡ n)
   -- before its first operation each client but the setup waited for each name that the setup opened
-  pub waited : (c : ℕ) (y : Seated g state p) → get_elem? seats c ≡ some y → 0 < c → (number n link slot version : ℕ) → Asks clients outcomes 0 number (ops.Open n link) → Became clients outcomes number (outcome.Opened slot version link)
+  pub waited : (c : ℕ) (y : Seated g state p) → get_elem? seats c ≡ some y → 0 < c → (number n link slot version : ℕ) → IsOperation clients outcomes 0 number (ops.Open n link) → Became clients outcomes number (outcome.Opened slot version link)
       → (i : ℕ) × (d : Deed g state p) × (get_elem? y.deeds i ≡ some d) × (d.did ≡ waits n) × ((j m : ℕ) (e : Deed g state p) → get_elem? y.deeds j ≡ some e → own_number e.did ≡ Some m → i < j)
