@@ -1,1 +1,4 @@
 pub mod Messages
+pub mod Acts
+pub mod Links
+pub mod Ran

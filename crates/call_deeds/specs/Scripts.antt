@@ -7,14 +7,13 @@ use Rattle.sock_io.specs.Link.{OutState}
 use Rattle.sock_words.specs.declared.outcome.Outcome.{Outcome}
 use Rattle.sock_words.specs.declared.plain.Plan.{Plan}
 use Rattle.corr_core.specs.declared.marks.Plan as id_plan
-use Rattle.sock_message.specs.Asked.{Asked}
 use Rattle.sock_programs.specs.declared.task.Op.{Op}
 use Rattle.sock_programs.specs.declared.task.Op.TheVariants as ops
 use Rattle.sock_programs.specs.declared.task.Task.{Task}
 use Rattle.sock_programs.specs.Told.{IsTask, Became}
 use Rattle.rpc_client.specs.declared.acting.Told.{Told}
 use Rattle.call_run.specs.Threads.{opens_in, opens_of, Thread, IsThread, AreThreads}
-use Rattle.call_deeds.specs.Retried.{all_asked}
+use Rattle.call_deeds.specs.Retried.{Again, all_asked}
 use Rattle.sock_deeds.specs.Runs.{IsOperation}
 
 -- ## Links
@@ -42,12 +41,13 @@ module _ (clients : List (List Task)) (outcomes : List (Option Outcome)) where
         → ((d i : ℕ) (ts : List Told) (t : Told) → get_elem? told d ≡ some ts → get_elem? ts i ≡ some t → t.number ≢ number) → slice_get outcomes number ≡ Some None
     pub alone : (n : ℕ) (by : Outcome) → Became clients outcomes n by → (c : ℕ) × (t : Task) × IsTask clients outcomes c t × (t.number ≡ n)
 
-  -- a call of one of the clients asked for this
-  pub record IsCall (asked : Asked) : Type 0 where
+  -- a call of one of the clients asked for this, and it is a later attempt of it
+  pub record IsLater (a : Again) : Type 0 where
     pub client : ℕ
-    pub is : IsOperation clients outcomes client asked.operation (ops.Call asked)
+    pub is : IsOperation clients outcomes client a.asked.operation (ops.Call a.asked)
+    pub later : 0 < a.attempt
 
-  -- so did each call of which these clients made a retry
-  abbrev pub AllCalled : {O : Type 0} {g : Ghosts O} (state : O → OutState) (p : Plan) (q : id_plan.Plan) (names : List ℕ) (first : ℕ) (xs : List (Thread g)) → AreThreads state p q names first xs → Type 0
-  AllCalled state p q names first [] a = Unit {0}
-  AllCalled state p q names first (x ∷ xs) a = ((i : ℕ) (asked : Asked) → get_elem? (all_asked x a.0) i ≡ some asked → IsCall asked) × AllCalled state p q names (first + opens_of x.tasks) xs a.2
+  -- so is each retry that these clients made
+  abbrev pub AllLater : {O : Type 0} {g : Ghosts O} (state : O → OutState) (p : Plan) (q : id_plan.Plan) (names : List ℕ) (first : ℕ) (xs : List (Thread g)) → AreThreads state p q names first xs → Type 0
+  AllLater state p q names first [] a = Unit {0}
+  AllLater state p q names first (x ∷ xs) a = ((i : ℕ) (again : Again) → get_elem? (all_asked x a.0) i ≡ some again → IsLater again) × AllLater state p q names (first + opens_of x.tasks) xs a.2

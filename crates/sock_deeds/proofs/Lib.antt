@@ -2,7 +2,9 @@ pub mod Growing
 pub mod Sources
 pub mod Stores
 pub mod Chains
-pub mod Messages
 pub mod Flats
+pub mod Messages
 pub mod Acts
 pub mod Tasks
+pub mod Lives
+pub mod Steps
