@@ -63,53 +63,57 @@ module _ {O : Type 0} {g : Ghosts O} (state : O → OutState) (p : Plan) (q : id
       h.4.told ∙ (ap (λ l. l ++ telling_of last) (told_is xs n s h.0 h.2) ∙ (append_assoc s.told (flat_map telling_of rs) (telling_of last)
       ∙ ap (λ l. s.told ++ l) (ap (λ l. flat_map telling_of rs ++ l) (sym (append-nil (telling_of last))) ∙ sym (flat-append telling_of rs (last ∷ [])))))
 
-  module _ (clients : List (List Task)) (outcomes : List (Option Outcome)) (c : ℕ) where
-    abbrev pub AreLater : List Again → Type 0
-    AreLater l = (i : ℕ) (again : Again) → get_elem? l i ≡ some again → IsLater clients outcomes again
+module _ (clients : List (List Task)) (outcomes : List (Option Outcome)) where
+  abbrev pub AreLater : List Again → Type 0
+  AreLater l = (i : ℕ) (again : Again) → get_elem? l i ≡ some again → IsLater clients outcomes again
 
-    later_first : (a b : List Again) → AreLater (a ++ b) → AreLater a
-    later_first a b all i x at = all i x (append_first a b i x at)
+  pub later_first : (a b : List Again) → AreLater (a ++ b) → AreLater a
+  later_first a b all i x at = all i x (append_first a b i x at)
 
-    later_last : (a b : List Again) → AreLater (a ++ b) → AreLater b
-    later_last a b all i x at = all (length a + i) x (append_later a b i x at)
+  pub later_last : (a b : List Again) → AreLater (a ++ b) → AreLater b
+  later_last a b all i x at = all (length a + i) x (append_later a b i x at)
 
-    abbrev pub Steps_ : List ℕ → Hand → Hand → Type 0
-    Steps_ ns s t = StepsFor {g = g} state p q clients outcomes c ns s t
+module _ {O : Type 0} (g : Ghosts O) (state : O → OutState) (p : Plan) (q : id_plan.Plan) (clients : List (List Task)) (outcomes : List (Option Outcome)) (c : ℕ) where
+  abbrev StepsHere : List ℕ → Hand → Hand → Type 0
+  StepsHere ns s t = StepsFor g state p clients outcomes c ns s t
 
-    -- the retries that waited
-    pub retried_steps : (held : List Held) (s t : Both) (r : Retried state p q s t) → AreLater (asked_in state p q s t r) → Steps_ [] (socks_in {g = g} state p q clients outcomes c held s) (socks_in {g = g} state p q clients outcomes c held t)
-    retried_steps held s _ none_yet are = no_step (socks_in {g = g} state p q clients outcomes c held s) (socks_in {g = g} state p q clients outcomes c held s) refl
-    retried_steps held s _ (one_more u t r rest before waits fed by) are =
-        let first = asked_in state p q s u before in
-        let then = asked_by state p q r (without_oldest rest u) t by in
-        then_steps [] [] (socks_in {g = g} state p q clients outcomes c held s) (socks_in {g = g} state p q clients outcomes c held u) (socks_in {g = g} state p q clients outcomes c held t)
-        (retried_steps held s u before (later_first first then are)) (retry_steps state p q clients outcomes c held r (without_oldest rest u) t by (later_last first then are))
+  abbrev Later : List Again → Type 0
+  Later l = AreLater clients outcomes l
 
-    pub waiting_steps : (s t : Stand g) (r : RetriedHere state p q s t) → AreLater (asked_in state p q (both_of s) (both_of t) r.all.retried) → Steps_ [] (hand_of s) (hand_of t)
-    waiting_steps s t r are = subst (λ (held : List Held). Steps_ [] (hand_of s) record { view = t.me.0; held = held }) (sym r.own.held) (retried_steps s.held (both_of s) (both_of t) r.all.retried are)
+  -- the retries that waited
+  pub retried_steps : (held : List Held) (s t : Both) (r : Retried state p q s t) → Later (asked_in state p q s t r) → StepsHere [] (socks_in held s) (socks_in held t)
+  retried_steps held s _ none_yet are = no_step (socks_in held s) (socks_in held s) refl
+  retried_steps held s _ (one_more u t r rest before waits fed by) are =
+      let first = asked_in state p q s u before in
+      let then = asked_by state p q r (without_oldest rest u) t by in
+      then_steps [] [] (socks_in held s) (socks_in held u) (socks_in held t)
+      (retried_steps held s u before (later_first clients outcomes first then are)) (retry_steps g state p q clients outcomes c held r (without_oldest rest u) t by (later_last clients outcomes first then are))
 
-    -- the first n operations
-    pub ran_steps : (first : ℕ) (xs : List Task) → HaveLinks first xs → ((k : ℕ) (x : Task) → get_elem? xs k ≡ some x → IsOperation clients outcomes c x.number x.op × IsOwnCall x.number x.op)
-        → (n : ℕ) (s t : Course g) (h : Ran state p q xs n s t) → LinksDown first s.has.passes → ((k : ℕ) (r : Result) → get_elem? (results xs n s t h) k ≡ some r → IsSaid clients outcomes r.task.number r.task.op r.by) → AreLater (asked_before state p q xs n s t h)
-        → Steps_ (flat_map numbers_at (take n xs)) (hand_of s.has) (hand_of t.has)
-    ran_steps first xs links tasks zero s t e down said are = steps_as [] (flat_map numbers_at (take zero xs)) (hand_of s.has) (hand_of t.has) (none_taken xs) (no_step (hand_of s.has) (hand_of t.has) (ap (λ (u : Course g). hand_of u.has) e))
-      where
-        none_taken : (ts : List Task) → [] ≡ flat_map numbers_at (take zero ts)
-        none_taken [] = refl
-        none_taken (y ∷ ys) = refl
-    ran_steps first xs links tasks (suc n) s t h down said are =
-        let m = h.4 in
-        let x = h.1 in
-        let last : Result = record { task = x; by = m.by } in
-        let rs = results xs n s h.0 h.2 in
-        let early = asked_before state p q xs n s h.0 h.2 in
-        let late = asked_in state p q (both_of h.0.has) (both_of m.ready) m.retried.all.retried in
-        let before = ran_steps first xs links tasks n s h.0 h.2 down (λ k r at. said k r (append_first rs (last ∷ []) k r at)) (later_first early late are) in
-        let retried = waiting_steps h.0.has m.ready m.retried (later_last early late are) in
-        let here = said (length rs + 0) last (append_later rs (last ∷ []) 0 last refl) in
-        let down_here = subst (λ l. LinksDown (first + opens_of (take n xs)) l) (sym m.retried.own.passes) (links_after state p q first xs n s h.0 down h.2) in
-        let right = right_by state p q (first + opens_of (take n xs)) x.number x.op m.ready t.has down_here (link_at first xs n x links h.3) (tasks n x h.3).1 in
-        let now = acted_steps state p q clients outcomes c x.number x.op m.by m.ready t.has (tasks n x h.3).0 here right m.acted in
-        let numbers : flat_map numbers_at (take n xs) ++ numbers_at x ≡ flat_map numbers_at (take (suc n) xs) = ap (λ l. flat_map numbers_at (take n xs) ++ l) (sym (append-nil (numbers_at x))) ∙ (sym (flat-append numbers_at (take n xs) (x ∷ [])) ∙ ap (flat_map numbers_at) (sym (take_next xs n x h.3))) in
-        steps_as (flat_map numbers_at (take n xs) ++ numbers_at x) (flat_map numbers_at (take (suc n) xs)) (hand_of s.has) (hand_of t.has) numbers
-        (then_steps (flat_map numbers_at (take n xs)) (numbers_at x) (hand_of s.has) (hand_of h.0.has) (hand_of t.has) before (then_steps [] (numbers_at x) (hand_of h.0.has) (hand_of m.ready) (hand_of t.has) retried now))
+  pub waiting_steps : (s t : Stand g) (r : RetriedHere state p q s t) → Later (asked_in state p q (both_of s) (both_of t) r.all.retried) → StepsHere [] (hand_of s) (hand_of t)
+  waiting_steps s t r are = subst (λ (held : List Held). StepsHere [] (hand_of s) record { view = t.me.0; held = held }) (sym r.own.held) (retried_steps s.held (both_of s) (both_of t) r.all.retried are)
+
+  -- the first n operations
+  pub ran_steps : (first : ℕ) (xs : List Task) → HaveLinks first xs → ((k : ℕ) (x : Task) → get_elem? xs k ≡ some x → IsOperation clients outcomes c x.number x.op × IsOwnCall x.number x.op)
+      → (n : ℕ) (s t : Course g) (h : Ran state p q xs n s t) → LinksDown first s.has.passes → ((k : ℕ) (r : Result) → get_elem? (results xs n s t h) k ≡ some r → IsSaid clients outcomes r.task.number r.task.op r.by) → Later (asked_before state p q xs n s t h)
+      → StepsHere (flat_map numbers_at (take n xs)) (hand_of s.has) (hand_of t.has)
+  ran_steps first xs links tasks zero s t e down said are = steps_as [] (flat_map numbers_at (take zero xs)) (hand_of s.has) (hand_of t.has) (none_taken xs) (no_step (hand_of s.has) (hand_of t.has) (ap (λ (u : Course g). hand_of u.has) e))
+    where
+      none_taken : (ts : List Task) → [] ≡ flat_map numbers_at (take zero ts)
+      none_taken [] = refl
+      none_taken (y ∷ ys) = refl
+  ran_steps first xs links tasks (suc n) s t h down said are =
+      let m = h.4 in
+      let x = h.1 in
+      let last : Result = record { task = x; by = m.by } in
+      let rs = results xs n s h.0 h.2 in
+      let early = asked_before state p q xs n s h.0 h.2 in
+      let late = asked_in state p q (both_of h.0.has) (both_of m.ready) m.retried.all.retried in
+      let before = ran_steps first xs links tasks n s h.0 h.2 down (λ k r at. said k r (append_first rs (last ∷ []) k r at)) (later_first clients outcomes early late are) in
+      let retried = waiting_steps h.0.has m.ready m.retried (later_last clients outcomes early late are) in
+      let here = said (length rs + 0) last (append_later rs (last ∷ []) 0 last refl) in
+      let down_here = subst (λ l. LinksDown (first + opens_of (take n xs)) l) (sym m.retried.own.passes) (links_after state p q first xs n s h.0 down h.2) in
+      let right = right_by state p q (first + opens_of (take n xs)) x.number x.op m.ready t.has down_here (link_at first xs n x links h.3) (tasks n x h.3).1 in
+      let now = acted_steps g state p q clients outcomes c x.number x.op m.by m.ready t.has (tasks n x h.3).0 here right m.acted in
+      let numbers : flat_map numbers_at (take n xs) ++ numbers_at x ≡ flat_map numbers_at (take (suc n) xs) = ap (λ l. flat_map numbers_at (take n xs) ++ l) (sym (append-nil (numbers_at x))) ∙ (sym (flat-append numbers_at (take n xs) (x ∷ [])) ∙ ap (flat_map numbers_at) (sym (take_next xs n x h.3))) in
+      steps_as (flat_map numbers_at (take n xs) ++ numbers_at x) (flat_map numbers_at (take (suc n) xs)) (hand_of s.has) (hand_of t.has) numbers
+      (then_steps (flat_map numbers_at (take n xs)) (numbers_at x) (hand_of s.has) (hand_of h.0.has) (hand_of t.has) before (then_steps [] (numbers_at x) (hand_of h.0.has) (hand_of m.ready) (hand_of t.has) retried now))
