@@ -19,7 +19,7 @@ use Rattle.corr_core.specs.declared.marks.Plan as id_plan
 use Rattle.rpc_client.specs.declared.holding.Held.{Held}
 use Rattle.call_attempts.specs.Both.{Both}
 use Rattle.call_client.specs.Acting.{Stand, stand, both_of}
-use Rattle.call_client.specs.Running.{Course, Ran, begins, LeftAll}
+use Rattle.call_client.specs.Running.{begins, LeftAll}
 use Rattle.call_run.specs.Threads.{Thread, IsThread}
 use Rattle.sock_deeds.specs.Deeds.{Hand, Did, waits, own_number, Deed, Chain}
 use Rattle.sock_deeds.specs.Runs.{IsOperation, IsFor, Seated}
@@ -31,7 +31,8 @@ use Rattle.call_deeds.specs.Scripts.{HaveLinks}
 use Rattle.call_deeds.proofs.Acts.{hand_of, IsSaid, StepsFor}
 use Rattle.call_deeds.proofs.Ends.{Waiting, waiting, gave_steps}
 use Rattle.call_deeds.proofs.Links.{IsOwnCall}
-use Rattle.call_deeds.proofs.Ran.{Result, numbers_at, results, AreLater, later_first, later_last, waiting_steps, ran_steps}
+use Rattle.call_deeds.proofs.Ran.{Result, numbers_at, AreLater, later_first, later_last, waiting_steps, ran_steps}
+use Rattle.call_deeds.proofs.Told.{came, made, all_results}
 
 -- ## Deeds behind those by which a client waited
 
@@ -69,13 +70,6 @@ module _ {O : Type 0} (g : Ghosts O) (state : O → OutState) (p : Plan) (P : Di
 -- ## A whole client
 
 module _ {O : Type 0} (g : Ghosts O) (state : O → OutState) (p : Plan) (q : id_plan.Plan) (clients : List (List Task)) (outcomes : List (Option Outcome)) (c first : ℕ) (x : Thread g) (th : IsThread state p q first x) where
-  -- where it had come by all its operations
-  abbrev pub came : Course g
-  came = record { has = stand th.ran.came; told = th.ran.came.outcomes.items; names = th.ran.ran.names }
-
-  abbrev pub made : Ran state p q x.tasks th.ran.made (begins x.began) came
-  made = th.ran.ran.ran
-
   all_made : drop th.ran.made x.tasks ≡ []
   all_made = let n = th.ran.ends.0 in drop_all th.ran.made x.tasks (omega arith)
 
@@ -94,13 +88,13 @@ module _ {O : Type 0} (g : Ghosts O) (state : O → OutState) (p : Plan) (q : id
   FitsTasks = (k : ℕ) (t : Task) → get_elem? x.tasks k ≡ some t → IsOperation clients outcomes c t.number t.op × IsOwnCall t.number t.op
 
   abbrev pub SaysAll : Type 0
-  SaysAll = (k : ℕ) (r : Result) → get_elem? (results state p q x.tasks th.ran.made (begins x.began) came made) k ≡ some r → IsSaid clients outcomes r.task.number r.task.op r.by
+  SaysAll = (k : ℕ) (r : Result) → get_elem? (all_results x th) k ≡ some r → IsSaid clients outcomes r.task.number r.task.op r.by
 
   pub client_steps : HaveLinks first x.tasks → FitsTasks → SaysAll → AreLater clients outcomes (all_asked x th) → StepsFor g state p clients outcomes c (flat_map numbers_at x.tasks) record { view = x.began.seat.me.0; held = [] } left_hand
   client_steps links fits says later =
-      let early = asked_before state p q x.tasks th.ran.made (begins x.began) came made in
+      let early = asked_before state p q x.tasks th.ran.made (begins x.began) (came x th) (made x th) in
       let late = asked_in state p q (both_of (stand th.ran.came)) (both_of th.ran.last) th.ran.ends.1.all.retried in
-      let ran = ran_steps g state p q clients outcomes c first x.tasks links fits th.ran.made (begins x.began) came made th.passes says (later_first clients outcomes early late later) in
+      let ran = ran_steps g state p q clients outcomes c first x.tasks links fits th.ran.made (begins x.began) (came x th) (made x th) th.passes says (later_first clients outcomes early late later) in
       let waited = waiting_steps g state p q clients outcomes c (stand th.ran.came) th.ran.last th.ran.ends.1 (later_last clients outcomes early late later) in
       let at_end = subst (λ (s : Stand g). StepsFor g state p clients outcomes c [] (hand_of (stand th.ran.came)) (hand_of s)) (sym end_is) waited in
       let gave = gave_steps g state p clients outcomes c th.ran.end.held th.ran.end.held (length th.ran.end.held) th.ran.end.me.0 x.ended.seat.me.0 th.ran.given in

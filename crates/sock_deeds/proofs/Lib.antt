@@ -8,3 +8,4 @@ pub mod Acts
 pub mod Tasks
 pub mod Lives
 pub mod Steps
+pub mod Places
