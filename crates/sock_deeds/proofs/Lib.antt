@@ -9,3 +9,5 @@ pub mod Tasks
 pub mod Lives
 pub mod Steps
 pub mod Places
+pub mod Fails
+pub mod Failing

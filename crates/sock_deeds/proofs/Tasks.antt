@@ -79,7 +79,7 @@ name_in (fails name number code by) = Some name
 name_in other = None
 
 module _ {O : Type 0} {g : Ghosts O} {state : O → OutState} {p : Plan} {clients : List (List Task)} {outcomes : List (Option Outcome)} {places : List PlaceWord} {vrefs : List Vref} {outs : List O} (run : DeedRun g state p clients outcomes places vrefs outs) where
-  asks_of : (c : ℕ) (t : Task) → IsTask clients outcomes c t → Asks clients c t
+  pub asks_of : (c : ℕ) (t : Task) → IsTask clients outcomes c t → Asks clients c t
   asks_of c t is = let h = has_from is.0 t is.2 in (is.0, is.1, in_at is.0 h.0 t h.1)
 
   -- a number is one task's
