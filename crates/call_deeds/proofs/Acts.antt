@@ -92,7 +92,7 @@ module _ {O : Type 0} (g : Ghosts O) (state : O → OutState) (p : Plan) (q : id
   pub acted_steps : (number : ℕ) (op : Op) (by : Option Outcome) (s t : Stand g) → IsOperation clients outcomes c number op → IsSaid clients outcomes number op by → IsRight number op s t → Acted state p q number op by s t → StepsHere (number_at number op) (hand_of s) (hand_of t)
   acted_steps number (ops.Open n k) (Some by) s t is said right a =
       let same = right a.0.pass a.0.next in
-      one (opens n number k by) (number ∷ []) (hand_of s) (hand_of t) ((s.me.1, t.me.1, subst (λ l. OpenedBy p n number l by s.me t.me) same a.0.opened), a.1) (is, said by refl) refl
+      one (opens n number k by) (number ∷ []) (hand_of s) (hand_of t) ((s.me.1, t.me.1, subst (λ l. OpenedBy p n number l by s.me t.me) same a.0.opened), a.1, a.0.lists) (is, said by refl) refl
   acted_steps number (ops.Send n bytes) by s t is said right a =
       one (sends n number 0 (letter_of number bytes) by) (number ∷ []) (hand_of s) (hand_of t) (send_message state p q.slots (letter_of number bytes) n by s.me.0 s.calls t.me.0 t.calls a.0, a.1.held) (of_send bytes is refl refl said, refl) refl
   acted_steps number (ops.Call asked) (Some outcome.Unopened) s t is said right a = call_unopened number asked s t right is (said outcome.Unopened refl) a.0.0 a.1.held

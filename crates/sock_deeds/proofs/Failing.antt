@@ -23,11 +23,11 @@ use Rattle.sock_programs.specs.declared.task.Task.{Task}
 use Rattle.sock_programs.specs.Runs.{from_to}
 use Rattle.sock_programs.specs.Told.{IsTask, Became, IsFail}
 use Rattle.report_fits.proofs.Lists.{Has, contains_from, all_from, has_filter_map, filter_map_has, before_filter_map, before_from}
-use Rattle.sock_deeds.specs.Deeds.{Did, fails, sets, Deed}
+use Rattle.sock_deeds.specs.Deeds.{Did, fails, sets, own_number, Deed}
 use Rattle.sock_deeds.specs.Broken.{faults_of}
 use Rattle.sock_deeds.specs.Runs.{IsOperation, Seated, DeedRun}
 use Rattle.sock_deeds.proofs.Acts.{Act, All, before, after, did_of, done_of, has_marks, marks_from}
-use Rattle.sock_deeds.proofs.Fails.{FailedLife, failed_life, life_by, fail_for, as_fail, fails_once, same_link, life_is}
+use Rattle.sock_deeds.proofs.Fails.{FailedLife, number_of_fail, failed_life, life_by, fail_for, as_fail, fails_once, same_link, life_is}
 use Rattle.sock_deeds.proofs.Flats.{flat_there}
 use Rattle.sock_deeds.proofs.Lives.{MadeHere, linked_made, failer_life}
 use Rattle.sock_deeds.proofs.Places.{to_slice}
@@ -89,7 +89,7 @@ module _ {O : Type 0} {g : Ghosts O} {state : O → OutState} {p : Plan} {client
       let w = task_does run f.client record { number = o; op = ops.Fail f.name f.code } f.is tt in
       let d = w.2.1 ∙ ap (fails f.name o f.code) (one_outcome run o w.2.0 outcome.Failed w.2.2 f.became) in
       let l = failed_life run w.0 f.name o f.code d in
-      (l.link, record { a = w.0; life = l; number = refl; link = refl })
+      (l.link, record { a = w.0; life = l; number = same_Some l.number o (sym (number_of_fail run w.0 l) ∙ ap own_number d); link = refl })
 
   failed_or_not : (o : ℕ) → FailedAt o ⊎ (FailedAt o → ⊥)
   failed_or_not o = by_cases (slice_get outcomes o) refl

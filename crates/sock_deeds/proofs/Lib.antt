@@ -11,3 +11,7 @@ pub mod Steps
 pub mod Places
 pub mod Fails
 pub mod Failing
+pub mod Owning
+pub mod Entries
+pub mod Accepting
+pub mod Causes

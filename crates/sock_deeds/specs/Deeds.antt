@@ -81,7 +81,7 @@ OpenedOn {O} g p name number link by v w = (a b : List (ℕ × SockHome O g)) ×
 
 module _ {O : Type 0} (g : Ghosts O) (state : O → OutState) (p : Plan) where
   abbrev pub DoneBy : Did → Hand → Hand → Type 0
-  DoneBy (opens name number link by) s t = OpenedOn g p name number link by s.view t.view × (t.held ≡ s.held)
+  DoneBy (opens name number link by) s t = OpenedOn g p name number link by s.view t.view × (t.held ≡ s.held) × (t.view.lists ≡ s.view.lists)
   DoneBy (sends name number attempt msg by) s t = MessageBy state p name msg by s.view t.view × (t.held ≡ s.held)
   DoneBy (holds name number by) s t = HeldBy p name by s.held s.view t.held t.view
   DoneBy (drops name number by) s t = DroppedBy name by s.held s.view t.held t.view
