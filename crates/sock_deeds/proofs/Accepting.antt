@@ -157,5 +157,5 @@ module _ {O : Type 0} {g : Ghosts O} {state : O → OutState} {p : Plan} {client
       let py = sent_place b e y in
       let lx = low_attempt a.c x.name x.number x.attempt x.msg (sent_for a d x).0 in
       let ly = low_attempt b.c y.name y.number y.attempt y.msg (sent_for b e y).0 in
-      let rise = rises run a b x.number y.number (w.1 ∙ sym w.2) w.4 (first_number a d x (omega arith)) (first_number b e y (omega arith)) in
+      let rise = rises run a b x.number y.number (w.2 ∙ sym w.3) w.4 (first_number a d x (omega arith)) (first_number b e y (omega arith)) in
       omega arith
