@@ -94,7 +94,7 @@ module _ {O : Type 0} (g : Ghosts O) (state : O → OutState) (p : Plan) (q : id
 
   -- the first n operations
   pub ran_steps : (first : ℕ) (xs : List Task) → HaveLinks first xs → ((k : ℕ) (x : Task) → get_elem? xs k ≡ some x → IsOperation clients outcomes c x.number x.op × IsOwnCall x.number x.op)
-      → (n : ℕ) (s t : Course g) (h : Ran state p q xs n s t) → LinksDown first s.has.passes → ((k : ℕ) (r : Result) → get_elem? (results xs n s t h) k ≡ some r → IsSaid clients outcomes r.task.number r.task.op r.by) → Later (asked_before state p q xs n s t h)
+      → (n : ℕ) (s t : Course g) (h : Ran state p q xs n s t) → LinksDown first s.has.passes → ((k : ℕ) (r : Result) → get_elem? (results state p q xs n s t h) k ≡ some r → IsSaid clients outcomes r.task.number r.task.op r.by) → Later (asked_before state p q xs n s t h)
       → StepsHere (flat_map numbers_at (take n xs)) (hand_of s.has) (hand_of t.has)
   ran_steps first xs links tasks zero s t e down said are = steps_as [] (flat_map numbers_at (take zero xs)) (hand_of s.has) (hand_of t.has) (none_taken xs) (no_step (hand_of s.has) (hand_of t.has) (ap (λ (u : Course g). hand_of u.has) e))
     where
@@ -105,7 +105,7 @@ module _ {O : Type 0} (g : Ghosts O) (state : O → OutState) (p : Plan) (q : id
       let m = h.4 in
       let x = h.1 in
       let last : Result = record { task = x; by = m.by } in
-      let rs = results xs n s h.0 h.2 in
+      let rs = results state p q xs n s h.0 h.2 in
       let early = asked_before state p q xs n s h.0 h.2 in
       let late = asked_in state p q (both_of h.0.has) (both_of m.ready) m.retried.all.retried in
       let before = ran_steps first xs links tasks n s h.0 h.2 down (λ k r at. said k r (append_first rs (last ∷ []) k r at)) (later_first clients outcomes early late are) in

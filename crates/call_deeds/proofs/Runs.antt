@@ -111,11 +111,11 @@ opened_there (t ∷ ts) (suc i) number slot version link e = or_true ((t.number 
     or_true false b h = h
 
 names_there : (told : List Told) (ts : List Task) (k number n link : ℕ) → get_elem? ts k ≡ some record { number = number; op = ops.Open n link } → opened_in number told ≡ true → (i : ℕ) × (get_elem? (opened_names told (openings ts)) i ≡ some n)
-names_there told [] k number n link e yes = absurd (some-ne-none _ (sym e))
-names_there told (t ∷ ts) zero number n link e yes =
+names_there told [] k number n link e seen = absurd (some-ne-none _ (sym e))
+names_there told (t ∷ ts) zero number n link e seen =
     let same = some-injective t record { number = number; op = ops.Open n link } e in
-    (0, ap (λ (x : Task). get_elem? (opened_names told (opening_in x.number x.op ++ openings ts)) 0) same ∙ ap (λ b. get_elem? ((if b then n ∷ [] else []) ++ opened_names told (openings ts)) 0) yes)
-names_there told (t ∷ ts) (suc k) number n link e yes = behind (opening_in t.number t.op) (names_there told ts k number n link e yes)
+    (0, ap (λ (x : Task). get_elem? (opened_names told (opening_in x.number x.op ++ openings ts)) 0) same ∙ ap (λ b. get_elem? ((if b then n ∷ [] else []) ++ opened_names told (openings ts)) 0) seen)
+names_there told (t ∷ ts) (suc k) number n link e seen = behind (opening_in t.number t.op) (names_there told ts k number n link e seen)
   where
     behind : (os : List Opening) → (i : ℕ) × (get_elem? (opened_names told (openings ts)) i ≡ some n) → (i : ℕ) × (get_elem? (opened_names told (os ++ openings ts)) i ≡ some n)
     behind [] w = w
@@ -181,11 +181,11 @@ module _ {O : Type 0} (g : Ghosts O) (state : O → OutState) (p : Plan) (q : id
         where
           each_of : (i : ℕ) (z : Seated g state p) → get_elem? (y ∷ rest.ys) i ≡ some z → (w : Thread g) × (get_elem? (x ∷ xs) i ≡ some w) × SeatOf (c + i) w z
           each_of zero z at = (x, refl, subst (SeatOf (c + 0) x) (some-injective y z at) is)
-          each_of (suc i) z at = let r = rest.each i z at in (r.0, r.1, subst (λ k. SeatOf k r.0 z) (omega arith) r.2)
+          each_of (suc i) z at = let r = rest.each i z at in let e : (c + 1) + i ≡ c + suc i = omega arith in (r.0, r.1, subst (λ k. SeatOf k r.0 z) e r.2)
 
           there_of : (i : ℕ) (w : Thread g) → get_elem? (x ∷ xs) i ≡ some w → (z : Seated g state p) × (get_elem? (y ∷ rest.ys) i ≡ some z) × SeatOf (c + i) w z
           there_of zero w at = (y, refl, subst (λ (v : Thread g). SeatOf (c + 0) v y) (some-injective x w at) is)
-          there_of (suc i) w at = let r = rest.there i w at in (r.0, r.1, subst (λ k. SeatOf k w r.0) (omega arith) r.2)
+          there_of (suc i) w at = let r = rest.there i w at in let e : (c + 1) + i ≡ c + suc i = omega arith in (r.0, r.1, subst (λ k. SeatOf k w r.0) e r.2)
 
 -- ## What is said of their operations
 
@@ -277,21 +277,21 @@ module _ {O : Type 0} {g : Ghosts O} {state : O → OutState} {p : Plan} {slots 
 
   others_dealt : Dealt g state p q all outcomes tasks 1 run.ran.others (map (λ (x : Thread g). x.ended.seat) run.ran.others)
   others_dealt = deal g state p q all outcomes tasks names 1 (opens_of setup) run.ran.others run.ran.others_are (λ i x at. others_known i x at) (subst (AllMayRun p q) (sym run.ran.asked) may.clients_may)
-      (subst (λ k. AllHaveLinks k (map (λ (x : Thread g). x.tasks) run.ran.others)) (omega arith) (subst (AllHaveLinks (0 + opens_of setup)) (sym run.ran.asked) links.1)) others_later
+      (let none_ : 0 + opens_of setup ≡ opens_of setup = omega arith in subst (λ k. AllHaveLinks k (map (λ (x : Thread g). x.tasks) run.ran.others)) none_ (subst (AllHaveLinks (0 + opens_of setup)) (sym run.ran.asked) links.1)) others_later
     where
       others_known : (i : ℕ) (x : Thread g) → get_elem? run.ran.others i ≡ some x → (slice_get all (1 + i) ≡ Some x.tasks) × SaidOf g state p q all outcomes tasks (1 + i) x
-      others_known i x at = subst (λ k. (slice_get all k ≡ Some x.tasks) × SaidOf g state p q all outcomes tasks k x) (omega arith) (tasks_there (suc i) x at, says (suc i) x at)
+      others_known i x at = let e : suc i ≡ 1 + i = omega arith in subst (λ k. (slice_get all k ≡ Some x.tasks) × SaidOf g state p q all outcomes tasks k x) e (tasks_there (suc i) x at, says (suc i) x at)
 
   abbrev seats : List (Seated g state p)
   seats = main_seated.0 ∷ others_dealt.ys
 
   each : (c : ℕ) (y : Seated g state p) → get_elem? seats c ≡ some y → (x : Thread g) × (get_elem? threads c ≡ some x) × SeatHere c x y
   each zero y at = (run.ran.main, refl, subst (SeatHere 0 run.ran.main) (some-injective main_seated.0 y at) main_seated.2)
-  each (suc i) y at = let w = others_dealt.each i y at in (w.0, w.1, subst (λ k. SeatHere k w.0 y) (omega arith) w.2)
+  each (suc i) y at = let w = others_dealt.each i y at in let e : 1 + i ≡ suc i = omega arith in (w.0, w.1, subst (λ k. SeatHere k w.0 y) e w.2)
 
   there : (c : ℕ) (x : Thread g) → get_elem? threads c ≡ some x → (y : Seated g state p) × (get_elem? seats c ≡ some y) × SeatHere c x y
   there zero x at = (main_seated.0, refl, subst (λ (z : Thread g). SeatHere 0 z main_seated.0) (some-injective run.ran.main x at) main_seated.2)
-  there (suc i) x at = let w = others_dealt.there i x at in (w.0, w.1, subst (λ k. SeatHere k x w.0) (omega arith) w.2)
+  there (suc i) x at = let w = others_dealt.there i x at in let e : 1 + i ≡ suc i = omega arith in (w.0, w.1, subst (λ k. SeatHere k x w.0) e w.2)
 
   seats_are : map seat_of seats ≡ run.seats
   seats_are = (λ i. main_seated.1 i ∷ others_dealt.seats_are i) ∙ run.ran.seats_are
