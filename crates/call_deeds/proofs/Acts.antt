@@ -27,8 +27,8 @@ use Rattle.call_attempts.specs.Calling.{BegunAs}
 use Rattle.call_attempts.specs.Retrying.{WentTo, stray, unopened, to_socket, RetriedBy, had_ended, overtaken, went_again}
 use Rattle.call_client.specs.Acting.{Stand, both_of, letter_of, KeepsOwn, OpenedNext, Acted}
 use Rattle.sock_deeds.specs.Deeds.{Hand, MessageBy, Did, opens, sends, holds, drops, fails, own_number, DoneBy, Deed}
-use Rattle.sock_deeds.specs.Runs.{IsOperation, of_send, of_call, IsFor}
-use Rattle.sock_deeds.proofs.Steps.{listed, Steps, no_step, one_step, steps_as}
+use Rattle.sock_deeds.specs.Runs.{IsOperation, of_send, of_call, IsFor, number_at, listed}
+use Rattle.sock_deeds.proofs.Steps.{Steps, no_step, one_step, steps_as}
 use Rattle.call_deeds.specs.Retried.{Again, asked_by}
 use Rattle.call_deeds.specs.Scripts.{IsLater}
 use Rattle.call_deeds.proofs.Messages.{send_message, Attempted, attempt_message}
@@ -36,12 +36,6 @@ use Rattle.call_deeds.proofs.Messages.{send_message, Attempted, attempt_message}
 -- what a client has of sockets
 abbrev pub hand_of : {O : Type 0} {g : Ghosts O} → Stand g → Hand
 hand_of s = record { view = s.me.0; held = s.held }
-
--- the number of an operation that is done at the table of sockets
-abbrev pub number_at : ℕ → Op → List ℕ
-number_at number (ops.Expire o) = []
-number_at number (ops.Join o) = []
-number_at number other = number ∷ []
 
 -- what is told of the operation is what became of it; of a send in any case
 abbrev pub IsSaid : List (List Task) → List (Option Outcome) → ℕ → Op → Option Outcome → Type 0

@@ -22,16 +22,16 @@ use Rattle.call_client.specs.Acting.{Stand, stand, both_of}
 use Rattle.call_client.specs.Running.{begins, LeftAll}
 use Rattle.call_run.specs.Threads.{Thread, IsThread}
 use Rattle.sock_deeds.specs.Deeds.{Hand, Did, waits, own_number, Deed, Chain}
-use Rattle.sock_deeds.specs.Runs.{IsOperation, IsFor, Seated}
+use Rattle.sock_deeds.specs.Runs.{IsOperation, IsFor, numbers_at, listed, numbers_of, Seated}
 use Rattle.sock_deeds.proofs.Chains.{chain_then}
 use Rattle.sock_deeds.proofs.Flats.{append_cases, append_first, flat-append}
-use Rattle.sock_deeds.proofs.Steps.{listed, numbers_of, Steps, then_steps, steps_as}
+use Rattle.sock_deeds.proofs.Steps.{Steps, then_steps, steps_as}
 use Rattle.call_deeds.specs.Retried.{asked_before, asked_in, all_asked}
 use Rattle.call_deeds.specs.Scripts.{HaveLinks}
 use Rattle.call_deeds.proofs.Acts.{hand_of, IsSaid, StepsFor}
 use Rattle.call_deeds.proofs.Ends.{Waiting, waiting, gave_steps}
 use Rattle.call_deeds.proofs.Links.{IsOwnCall}
-use Rattle.call_deeds.proofs.Ran.{Result, numbers_at, AreLater, later_first, later_last, waiting_steps, ran_steps}
+use Rattle.call_deeds.proofs.Ran.{Result, AreLater, later_first, later_last, waiting_steps, ran_steps}
 use Rattle.call_deeds.proofs.Told.{came, made, all_results}
 
 -- ## Deeds behind those by which a client waited

@@ -17,8 +17,8 @@ use Rattle.rpc_reader.specs.Failing as reader
 use Rattle.thread_run.specs.Threads.{FoundEach}
 use Rattle.call_run.specs.Ending.{FailedIf, EndedOne, EndedEach}
 use Rattle.sock_deeds.specs.Deeds.{Hand, Did, waits, looks, takes, misses, sets, returns, own_number, DoneBy, Deed, Chain}
-use Rattle.sock_deeds.specs.Runs.{IsFor}
-use Rattle.sock_deeds.proofs.Steps.{listed, no_step, one_step, then_steps, steps_as}
+use Rattle.sock_deeds.specs.Runs.{IsFor, listed}
+use Rattle.sock_deeds.proofs.Steps.{no_step, one_step, then_steps, steps_as}
 use Rattle.call_deeds.proofs.Acts.{StepsFor}
 
 module _ {O : Type 0} (g : Ghosts O) (state : O → OutState) (p : Plan) where

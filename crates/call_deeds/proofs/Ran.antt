@@ -19,12 +19,12 @@ use Rattle.call_client.specs.Acting.{Stand, both_of}
 use Rattle.call_client.specs.Running.{Course, Ran, RetriedHere}
 use Rattle.call_run.specs.Threads.{opens_of}
 use Rattle.sock_deeds.specs.Deeds.{Hand}
-use Rattle.sock_deeds.specs.Runs.{IsOperation}
+use Rattle.sock_deeds.specs.Runs.{IsOperation, numbers_at}
 use Rattle.sock_deeds.proofs.Flats.{append_first, append_later, flat-append}
 use Rattle.sock_deeds.proofs.Steps.{no_step, then_steps, steps_as}
 use Rattle.call_deeds.specs.Retried.{Again, asked_by, asked_in, asked_before}
 use Rattle.call_deeds.specs.Scripts.{IsLater, HaveLinks}
-use Rattle.call_deeds.proofs.Acts.{hand_of, socks_in, number_at, IsSaid, StepsFor, retry_steps, acted_steps}
+use Rattle.call_deeds.proofs.Acts.{hand_of, socks_in, IsSaid, StepsFor, retry_steps, acted_steps}
 use Rattle.call_deeds.proofs.Links.{take_next, link_at, IsOwnCall, right_by, links_after}
 
 -- an operation that was made, and what its client told of it at once
@@ -34,9 +34,6 @@ pub record Result : Type 0 where
 
 abbrev pub telling_of : Result → List Told
 telling_of r = telling r.task.number r.by
-
-abbrev pub numbers_at : Task → List ℕ
-numbers_at t = number_at t.number t.op
 
 module _ {O : Type 0} {g : Ghosts O} (state : O → OutState) (p : Plan) (q : id_plan.Plan) where
   -- those of the first n operations

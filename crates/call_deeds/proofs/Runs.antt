@@ -1,5 +1,6 @@
 -- A run of clients with calls as a run of deeds at the table of sockets.
 use Rattle.std.proofs.Common.{◌≡◌, ◌≢◌, ℕ, zero, suc, ◌+◌, ◌<◌, ◌≤◌, ◌==◌, ◌&&◌, ◌||◌, true, false, Bool, if◌then◌else◌, inl, inr, Option, Some, None, List, [], ◌∷◌, ◌++◌, length, map, flat_map, slice_get, Contains, eq-eqb, refl, sym, ap, ◌∙◌, subst, arith}
+use Rattle.std.proofs.lemmas.List.{length-map}
 use Rattle.std.proofs.lemmas.Option.{none-some, same_Some}
 use mathlib.Core.Logic.{dite}
 use native.Mathlib.Decide.{ℕ_discrete, dec_lt}
@@ -16,7 +17,6 @@ use Rattle.sock_words.specs.declared.place_word.PlaceWord.{PlaceWord}
 use Rattle.sock_words.specs.declared.vref.Vref.{Vref}
 use Rattle.sock_model.specs.declared.view.View.{View}
 use Rattle.sock_rule.specs.declared.homes.SockHome.{SockHome}
-use Rattle.sock_table.specs.Closed.{ClosedBy}
 use Rattle.sock_programs.specs.declared.task.Op.{Op}
 use Rattle.sock_programs.specs.declared.task.Op.TheVariants as ops
 use Rattle.sock_programs.specs.declared.task.Task.{Task}
@@ -24,7 +24,7 @@ use Rattle.sock_programs.specs.Told.{AreTasks, IsTask, Became}
 use Rattle.sock_causes.specs.Stories.{In}
 use Rattle.sock_causes.proofs.Seats.{Less}
 use Rattle.sock_causes.proofs.Tasks.{one_task, sorted_of}
-use Rattle.report_fits.proofs.Lists.{has_from, contains_from, before_at}
+use Rattle.report_fits.proofs.Lists.{has_from, contains_from}
 use Rattle.corr_core.specs.declared.marks.Plan as id_plan
 use Rattle.corr_core.specs.declared.marks.View as id_view
 use Rattle.sock_message.specs.Asked.{Asked}
@@ -34,68 +34,18 @@ use Rattle.call_client.specs.Running.{MayMakeAll}
 use Rattle.call_run.specs.declared.opened.Opening.{Opening}
 use Rattle.call_run.specs.Threads.{ids_of, opens_of, opening_in, openings, name_if, opened_names, Thread, IsThread, AreThreads, MayRun, AllMayRun, MayRunAll, RanOn}
 use Rattle.sock_deeds.specs.Deeds.{Hand, Did, opens, waits, own_number, Deed}
-use Rattle.sock_deeds.specs.Runs.{IsOperation, IsFor, IsOnSockets, Seated, seat_of, DeedRun}
-use Rattle.sock_deeds.proofs.Flats.{append_first, append_later, flat_from, flat_there, flat_rises, flat_places}
+use Rattle.sock_deeds.specs.Runs.{IsOperation, IsFor, numbers_at, Seated, seat_of, DeedRun}
+use Rattle.sock_deeds.proofs.Flats.{append_later}
 use Rattle.sock_deeds.proofs.Places.{to_slice, to_elem, map_there, map_back}
-use Rattle.sock_deeds.proofs.Steps.{listed, numbers_of, no_step}
+use Rattle.sock_deeds.proofs.Steps.{no_step}
 use Rattle.call_deeds.specs.Scripts.{HaveLinks, AllHaveLinks, Reports, AllLater}
 use Rattle.call_deeds.specs.Retried.{all_asked}
-use Rattle.call_deeds.proofs.Acts.{number_at, IsSaid}
+use Rattle.call_deeds.proofs.Acts.{IsSaid}
 use Rattle.call_deeds.proofs.Clients.{Waited, left_hand, FitsTasks, SaysAll, client_seated}
 use Rattle.call_deeds.proofs.Ends.{ended_steps}
 use Rattle.call_deeds.proofs.Links.{call_at}
-use Rattle.call_deeds.proofs.Ran.{Result, numbers_at, AreLater}
+use Rattle.call_deeds.proofs.Ran.{Result, AreLater}
 use Rattle.call_deeds.proofs.Told.{all_results, task_at, result_of, said_at, said_of, unsaid_at, open_said}
-
--- ## Numbers of tasks
-
-at_sockets : (t : Task) → IsOnSockets t.op → get_elem? (numbers_at t) 0 ≡ some t.number
-at_sockets t on = by_op t.op on
-  where
-    by_op : (op : Op) → IsOnSockets op → get_elem? (number_at t.number op) 0 ≡ some t.number
-    by_op (ops.Expire o) on = elim on [ ]
-    by_op (ops.Join o) on = elim on [ ]
-    by_op (ops.Open n k) on = refl
-    by_op (ops.Send n bytes) on = refl
-    by_op (ops.Call asked) on = refl
-    by_op (ops.Hold n) on = refl
-    by_op (ops.Drop n) on = refl
-    by_op (ops.Fail n code) on = refl
-
-only_number : (number j m : ℕ) → get_elem? (number ∷ []) j ≡ some m → m ≡ number
-only_number number zero m e = sym (some-injective number m e)
-only_number number (suc j) m e = absurd (some-ne-none m (sym e))
-
-number_is : (number : ℕ) (op : Op) (j m : ℕ) → get_elem? (number_at number op) j ≡ some m → m ≡ number
-number_is number (ops.Expire o) j m e = absurd (some-ne-none m (sym e))
-number_is number (ops.Join o) j m e = absurd (some-ne-none m (sym e))
-number_is number (ops.Open n k) j m e = only_number number j m e
-number_is number (ops.Send n bytes) j m e = only_number number j m e
-number_is number (ops.Call asked) j m e = only_number number j m e
-number_is number (ops.Hold n) j m e = only_number number j m e
-number_is number (ops.Drop n) j m e = only_number number j m e
-number_is number (ops.Fail n code) j m e = only_number number j m e
-
-few_numbers : (t : Task) → length (numbers_at t) ≤ 1
-few_numbers t = by_op t.op
-  where
-    by_op : (op : Op) → length (number_at t.number op) ≤ 1
-    by_op (ops.Expire o) = omega arith
-    by_op (ops.Join o) = omega arith
-    by_op (ops.Open n k) = omega arith
-    by_op (ops.Send n bytes) = omega arith
-    by_op (ops.Call asked) = omega arith
-    by_op (ops.Hold n) = omega arith
-    by_op (ops.Drop n) = omega arith
-    by_op (ops.Fail n code) = omega arith
-
-listed_is : (o : Option ℕ) (j m : ℕ) → get_elem? (listed o) j ≡ some m → o ≡ Some m
-listed_is None j m e = absurd (some-ne-none m (sym e))
-listed_is (Some x) zero m e = ap Some (some-injective x m e)
-listed_is (Some x) (suc j) m e = absurd (some-ne-none m (sym e))
-
-listed_there : (o : Option ℕ) (m : ℕ) → o ≡ Some m → get_elem? (listed o) 0 ≡ some m
-listed_there o m e = ap (λ x. get_elem? (listed x) 0) e
 
 -- ## Names that were opened
 
@@ -298,27 +248,13 @@ module _ {O : Type 0} {g : Ghosts O} {state : O → OutState} {p : Plan} {slots 
 
   -- ## What its deeds are done for
 
-  done_at : (c : ℕ) (t : Task) → IsTask all outcomes c t → IsOnSockets t.op → (y : Seated g state p) × (k : ℕ) × (d : Deed g state p) × (get_elem? seats c ≡ some y) × (get_elem? y.deeds k ≡ some d) × (own_number d.did ≡ Some t.number)
-  done_at c t is on =
-      let h = has_from is.0 t is.2 in
-      let w = map_back (λ (x : Thread g). x.tasks) threads c is.0 (ap (λ l. get_elem? l c) tasks_all ∙ to_elem all c is.0 is.1) in
-      let at : get_elem? w.0.tasks h.0 ≡ some t = ap (λ l. get_elem? l h.0) w.2 ∙ to_elem is.0 h.0 t h.1 in
-      let m = flat_there numbers_at w.0.tasks h.0 t 0 t.number at (at_sockets t on) in
-      let s = there c w.0 w.1 in
-      let d = flat_from numbers_of s.0.deeds m.0 t.number (ap (λ l. get_elem? l m.0) s.2.numbered ∙ m.1) in
-      (s.0, d.0, d.1, s.1, d.2, listed_is (own_number d.1.did) d.3 t.number d.4)
-
-  rise_at : (c j k m n : ℕ) (y : Seated g state p) (d e : Deed g state p) → get_elem? seats c ≡ some y → j < k → get_elem? y.deeds j ≡ some d → get_elem? y.deeds k ≡ some e → own_number d.did ≡ Some m → own_number e.did ≡ Some n → m < n
-  rise_at c j k m n y d e at less dj ek dm en =
-      let w = each c y at in
-      let x = w.0 in
-      let f = flat_places numbers_of y.deeds j k 0 0 d e m n less dj ek (listed_there (own_number d.did) m dm) (listed_there (own_number e.did) n en) in
-      let r = flat_rises numbers_at few_numbers x.tasks f.0 f.1 m n f.2 (ap (λ l. get_elem? l f.0) (sym w.2.numbered) ∙ f.3) (ap (λ l. get_elem? l f.1) (sym w.2.numbered) ∙ f.4) in
-      let t = r.2 in
-      let u = r.3 in
-      let a = number_is t.number t.op 0 m r.7 in
-      let b = number_is u.number u.op 0 n r.8 in
-      let lt = before_at Less x.tasks (sorted c x w.1) r.0 r.1 t u r.4 (to_slice x.tasks r.0 t r.5) (to_slice x.tasks r.1 u r.6) in
+  seats_many : length seats ≡ length all
+  seats_many =
+      let a = length-map others_dealt.ys seat_of in
+      let b = length-map run.ran.others (λ (x : Thread g). x.ended.seat) in
+      let c = length-map run.ran.others (λ (x : Thread g). x.tasks) in
+      let d = ap length others_dealt.seats_are in
+      let e = ap length run.ran.asked in
       omega arith
 
   -- the setup's name is one that each other client waited for
@@ -355,10 +291,12 @@ module _ {O : Type 0} {g : Ghosts O} {state : O → OutState} {p : Plan} {slots 
     tasks = tasks;
     long = long;
     seats = seats;
-    closed = subst (λ (l : List (Seat (SockHome O g) View)). ClosedBy state p l places vrefs outs) (sym seats_are) run.closed;
+    left = run.seats;
+    left_are = seats_are;
+    closed = run.closed;
     for_task = λ c k y d at dk. (each c y at).2.each k d dk;
-    each_done = done_at;
-    rises = rise_at;
+    as_many = seats_many;
+    numbered = λ c y ts at is. (let w = each c y at in w.2.numbered ∙ ap (flat_map numbers_at) (same_Some w.0.tasks ts (sym (tasks_there c w.0 w.1) ∙ is)));
     alone = reports.alone;
     waited = wait_at;
   }

@@ -59,7 +59,7 @@ module _ {O : Type 0} {g : Ghosts O} {state : O → OutState} {p : Plan} {client
 
   lists_same : map own run.seats ≡ map (λ a. pick a run.closed.ordered.by log) run.closed.ordered.names
   lists_same = sym (flat_ones (λ (y : Seated g state p). (final_of y).lists) own run.seats (λ c y at. own_list y))
-      ∙ (sym (flat_mapped (λ (s : Seat (SockHome O g) View). s.me.0.lists) seat_of run.seats) ∙ (sym run.closed.lists ∙ run.closed.ordered.lists_are))
+      ∙ (sym (flat_mapped (λ (s : Seat (SockHome O g) View). s.me.0.lists) seat_of run.seats) ∙ (ap (flat_map (λ (s : Seat (SockHome O g) View). s.me.0.lists)) run.left_are ∙ (sym run.closed.lists ∙ run.closed.ordered.lists_are)))
 
   -- ## Whose an entry is
 

@@ -96,10 +96,10 @@ module _ {O : Type 0} {g : Ghosts O} {state : O → OutState} {p : Plan} {client
   All = run.closed.view
 
   all_marks : (f : Mark → ℕ) (i : ℕ) → marks_of f i All ≡ total (λ (y : Seated g state p). marks_of f i (final_of y)) run.seats
-  all_marks f i = ap (λ l. total f (about i l)) run.closed.marks ∙ (seats_marks f i (map seat_of run.seats) ∙ total_map (λ (s : Seat (SockHome O g) View). marks_of f i s.me.0) seat_of run.seats)
+  all_marks f i = ap (λ l. total f (about i l)) (run.closed.marks ∙ ap (flat_map (λ (s : Seat (SockHome O g) View). s.me.0.marks)) (sym run.left_are)) ∙ (seats_marks f i (map seat_of run.seats) ∙ total_map (λ (s : Seat (SockHome O g) View). marks_of f i s.me.0) seat_of run.seats)
 
   all_puts : (x n : ℕ) → put_in x n All ≡ total (λ (y : Seated g state p). put_in x n (final_of y)) run.seats
-  all_puts x n = ap (total (total (is_put x n))) run.closed.stores ∙ (seats_puts x n (map seat_of run.seats) ∙ total_map (λ (s : Seat (SockHome O g) View). put_in x n s.me.0) seat_of run.seats)
+  all_puts x n = ap (total (total (is_put x n))) (run.closed.stores ∙ ap (flat_map (λ (s : Seat (SockHome O g) View). s.me.0.stores)) (sym run.left_are)) ∙ (seats_puts x n (map seat_of run.seats) ∙ total_map (λ (s : Seat (SockHome O g) View). put_in x n s.me.0) seat_of run.seats)
 
   -- ## Deeds
 
@@ -132,13 +132,13 @@ module _ {O : Type 0} {g : Ghosts O} {state : O → OutState} {p : Plan} {client
   has_found a x h =
       let l = (later a.y a.k a.d a.is).finds x h in
       let r = flat_place (λ (s : Seat (SockHome O g) View). s.me.0.finds) (map seat_of run.seats) a.c (seat_of a.y) x (map_place seat_of run.seats a.c a.y a.at) l.0 l.1 in
-      (r.0, ap (λ l. get_elem? l r.0) run.closed.finds ∙ r.1)
+      (r.0, ap (λ l. get_elem? l r.0) (run.closed.finds ∙ ap (flat_map (λ (s : Seat (SockHome O g) View). s.me.0.finds)) (sym run.left_are)) ∙ r.1)
 
   pub has_seen : (a : Act) (x : ℕ) → HasSeen x (after a) → HasSeen x All
   has_seen a x h =
       let l = (later a.y a.k a.d a.is).seen x h in
       let r = flat_place (λ (s : Seat (SockHome O g) View). s.me.0.found) (map seat_of run.seats) a.c (seat_of a.y) x (map_place seat_of run.seats a.c a.y a.at) l.0 l.1 in
-      (r.0, ap (λ l. get_elem? l r.0) run.closed.found ∙ r.1)
+      (r.0, ap (λ l. get_elem? l r.0) (run.closed.found ∙ ap (flat_map (λ (s : Seat (SockHome O g) View). s.me.0.found)) (sym run.left_are)) ∙ r.1)
 
   -- what all have together came by a deed
   pub marks_from : (f : Mark → ℕ) → IsNote f → (i : ℕ) → 0 < marks_of f i All → (a : Act) × (marks_of f i (before a) < marks_of f i (after a))

@@ -5,6 +5,7 @@ pub mod Chains
 pub mod Flats
 pub mod Messages
 pub mod Acts
+pub mod Numbered
 pub mod Tasks
 pub mod Lives
 pub mod Steps
@@ -15,3 +16,7 @@ pub mod Owning
 pub mod Entries
 pub mod Accepting
 pub mod Causes
+pub mod Names
+pub mod Orders
+pub mod Drops
+pub mod Whole

@@ -23,7 +23,8 @@ use Rattle.sock_programs.specs.declared.task.Task.{Task}
 use Rattle.sock_programs.specs.Told.{Became, Made}
 use Rattle.rpc_client.specs.Opening.{OpenedBy}
 use Rattle.sock_deeds.specs.Deeds.{Hand, Did, opens, DoneBy, Deed, own_number}
-use Rattle.sock_deeds.specs.Runs.{IsFor, IsOnSockets, DeedRun}
+use Rattle.sock_deeds.specs.Runs.{IsFor, DeedRun}
+use Rattle.sock_deeds.proofs.Numbered.{IsOnSockets}
 use Rattle.sock_deeds.proofs.Acts.{Act, All, before, after, did_of, done_of, has_found, marks_from, puts_from, once_added, same_deed}
 use Rattle.sock_deeds.proofs.Growing.{HasFound, put_grew}
 use Rattle.sock_deeds.proofs.Sources.{IsOfLife, Source, by_open, by_fail, by_set, by_write, done_source}

@@ -6,17 +6,10 @@ use lib.ListN.{get_elem?}
 use Rattle.sock_io.specs.declared.link.Out.{Ghosts}
 use Rattle.sock_io.specs.Link.{OutState}
 use Rattle.sock_words.specs.declared.plain.Plan.{Plan}
-use Rattle.sock_deeds.specs.Deeds.{Hand, Did, own_number, Deed, Chain}
+use Rattle.sock_deeds.specs.Deeds.{Hand, Did, Deed, Chain}
+use Rattle.sock_deeds.specs.Runs.{numbers_of}
 use Rattle.sock_deeds.proofs.Chains.{chain_then}
 use Rattle.sock_deeds.proofs.Flats.{append_cases, flat-append}
-
-abbrev pub listed : {A : Type 0} → Option A → List A
-listed None = []
-listed (Some x) = x ∷ []
-
--- the number of the operation that a deed is
-abbrev pub numbers_of : {O : Type 0} {g : Ghosts O} {state : O → OutState} {p : Plan} → Deed g state p → List ℕ
-numbers_of d = listed (own_number d.did)
 
 pub record Steps {O : Type 0} (g : Ghosts O) (state : O → OutState) (p : Plan) (P : Did → Type 0) (numbers : List ℕ) (s t : Hand) : Type 0 where
   pub deeds : List (Deed g state p)

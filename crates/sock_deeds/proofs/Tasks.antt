@@ -25,8 +25,9 @@ use Rattle.sock_causes.proofs.Members.{all_in}
 use Rattle.sock_causes.proofs.Tasks.{one_task, fits_of}
 use Rattle.report_fits.proofs.Lists.{has_from}
 use Rattle.sock_deeds.specs.Deeds.{Did, opens, sends, holds, drops, fails, waits, looks, takes, misses, sets, returns, own_number, Deed}
-use Rattle.sock_deeds.specs.Runs.{IsOperation, IsMessage, of_send, of_call, IsFor, IsOnSockets, Seated, DeedRun}
+use Rattle.sock_deeds.specs.Runs.{IsOperation, IsMessage, of_send, of_call, IsFor, Seated, DeedRun}
 use Rattle.sock_deeds.proofs.Acts.{Act, did_of, same_seat, same_deed}
+use Rattle.sock_deeds.proofs.Numbered.{IsOnSockets, each_done, deeds_rise}
 
 in_at : (ts : List Task) (k : ℕ) (t : Task) → slice_get ts k ≡ Some t → In t ts
 in_at [] k t e = none-some t e
@@ -124,7 +125,7 @@ module _ {O : Type 0} {g : Ghosts O} {state : O → OutState} {p : Plan} {client
   -- ## Each task's deed
 
   pub act_of : (c : ℕ) (t : Task) → IsTask clients outcomes c t → IsOnSockets t.op → (a : Act run) × (a.c ≡ c) × (own_number (did_of run a) ≡ Some t.number)
-  act_of c t is on = let w = run.each_done c t is on in (record { c = c; y = w.0; at = w.3; k = w.1; d = w.2; is = w.4 }, refl, w.5)
+  act_of c t is on = let w = each_done run c t is on in (record { c = c; y = w.0; at = w.3; k = w.1; d = w.2; is = w.4 }, refl, w.5)
 
   -- a deed that has a task's number does what the task asks for, and is its client's
   pub act_does : (a : Act run) (c : ℕ) (t : Task) → IsTask clients outcomes c t → own_number (did_of run a) ≡ Some t.number → (a.c ≡ c) × Does clients outcomes t.number t.op (did_of run a)
@@ -140,7 +141,7 @@ module _ {O : Type 0} {g : Ghosts O} {state : O → OutState} {p : Plan} {client
 
   -- of two deeds of a seat the earlier one has the lower number
   pub rises : (a b : Act run) (m n : ℕ) → a.c ≡ b.c → a.k < b.k → own_number (did_of run a) ≡ Some m → own_number (did_of run b) ≡ Some n → m < n
-  rises a b m n same less ea eb = run.rises a.c a.k b.k m n a.y a.d b.d a.at less a.is (ap (λ (y : Seated g state p). get_elem? y.deeds b.k) (sym (same_seat run a b same)) ∙ b.is) ea eb
+  rises a b m n same less ea eb = deeds_rise run a.c a.k b.k m n a.y a.d b.d a.at less a.is (ap (λ (y : Seated g state p). get_elem? y.deeds b.k) (sym (same_seat run a b same)) ∙ b.is) ea eb
 
   -- and the deed of the lower number is the earlier one
   pub earlier : (a b : Act run) (m n : ℕ) → a.c ≡ b.c → m < n → own_number (did_of run a) ≡ Some m → own_number (did_of run b) ≡ Some n → a.k < b.k

@@ -1,5 +1,5 @@
 -- A run as the table of sockets sees it: what each seat did, for which tasks of the clients, and the table that was closed behind them.
-use Rattle.std.specs.Prelude.{◌≡◌, ℕ, zero, ◌+◌, ◌*◌, ◌<◌, ◌≤◌, List, [], length, map, slice_get, Option, Some, None}
+use Rattle.std.specs.Prelude.{◌≡◌, ℕ, zero, ◌+◌, ◌*◌, ◌<◌, ◌≤◌, List, [], ◌∷◌, length, map, flat_map, slice_get, Option, Some, None}
 use mathlib.Core.Option.{some}
 use lib.ListN.{get_elem?}
 use Rattle.atomic_table.specs.declared.shared.Seat.{Seat}
@@ -46,11 +46,22 @@ module _ (clients : List (List Task)) (outcomes : List (Option Outcome)) where
   IsFor c (fails name number code by) = IsOperation clients outcomes c number (ops.Fail name code) × Became clients outcomes number by
   IsFor c other = Unit {0}
 
--- the operation is done at the table of sockets, or begins there
-abbrev pub IsOnSockets : Op → Type 0
-IsOnSockets (ops.Expire t) = ⊥
-IsOnSockets (ops.Join t) = ⊥
-IsOnSockets other = Unit {0}
+-- the number of an operation that is done at the table of sockets, or begins there
+abbrev pub number_at : ℕ → Op → List ℕ
+number_at number (ops.Expire o) = []
+number_at number (ops.Join o) = []
+number_at number other = number ∷ []
+
+abbrev pub numbers_at : Task → List ℕ
+numbers_at t = number_at t.number t.op
+
+-- the number of the operation that a deed is
+abbrev pub listed : {A : Type 0} → Option A → List A
+listed None = []
+listed (Some x) = x ∷ []
+
+abbrev pub numbers_of : {O : Type 0} {g : Ghosts O} {state : O → OutState} {p : Plan} → Deed g state p → List ℕ
+numbers_of d = listed (own_number d.did)
 
 -- ## A seat
 
@@ -73,13 +84,15 @@ pub record DeedRun {O : Type 0} (g : Ghosts O) (state : O → OutState) (p : Pla
   pub tasks : AreTasks p clients
   pub long : length outcomes ≡ p.operations
   pub seats : List (Seated g state p)
-  pub closed : ClosedBy state p (map seat_of seats) places vrefs outs
+  -- the table was closed with these seats
+  pub left : List (Seat (SockHome O g) View)
+  pub left_are : map seat_of seats ≡ left
+  pub closed : ClosedBy state p left places vrefs outs
   -- each deed is for a task
   pub for_task : (c k : ℕ) (y : Seated g state p) (d : Deed g state p) → get_elem? seats c ≡ some y → get_elem? y.deeds k ≡ some d → IsFor clients outcomes c d.did
-  -- each task that is done there has its deed
-  pub each_done : (c : ℕ) (t : Task) → IsTask clients outcomes c t → IsOnSockets t.op → (y : Seated g state p) × (k : ℕ) × (d : Deed g state p) × (get_elem? seats c ≡ some y) × (get_elem? y.deeds k ≡ some d) × (own_number d.did ≡ Some t.number)
-  -- in the order of their numbers
-  pub rises : (c j k m n : ℕ) (y : Seated g state p) (d e : Deed g state p) → get_elem? seats c ≡ some y → j < k → get_elem? y.deeds j ≡ some d → get_elem? y.deeds k ≡ some e → own_number d.did ≡ Some m → own_number e.did ≡ Some n → m < n
+  -- there is a seat for each client, and each task that is done at the table has one deed, in the order of the tasks
+  pub as_many : length seats ≡ length clients
+  pub numbered : (c : ℕ) (y : Seated g state p) (ts : List Task) → get_elem? seats c ≡ some y → slice_get clients c ≡ Some ts → flat_map numbers_of y.deeds ≡ flat_map numbers_at ts
   -- what is told is told of tasks
   pub alone : (n : ℕ) (by : Outcome) → Became clients outcomes n by → (c : ℕ) × (t : Task) × IsTask clients outcomes c t × (t.number ≡ n)
   -- before its first operation each client but the setup waited for each name that the setup opened
