@@ -23,49 +23,15 @@ use Rattle.call_client.specs.Running.{begins, LeftAll}
 use Rattle.call_run.specs.Threads.{Thread, IsThread}
 use Rattle.sock_deeds.specs.Deeds.{Hand, Did, waits, own_number, Deed, Chain}
 use Rattle.sock_deeds.specs.Runs.{IsOperation, IsFor, numbers_at, listed, numbers_of, Seated}
-use Rattle.sock_deeds.proofs.Chains.{chain_then}
-use Rattle.sock_deeds.proofs.Flats.{append_cases, append_first, flat-append}
-use Rattle.sock_deeds.proofs.Steps.{Steps, then_steps, steps_as}
+use Rattle.sock_deeds.proofs.Steps.{then_steps, steps_as}
+use Rattle.sock_deeds.proofs.Waiting.{Waited, seated}
 use Rattle.call_deeds.specs.Retried.{asked_before, asked_in, all_asked}
 use Rattle.call_deeds.specs.Scripts.{HaveLinks}
 use Rattle.call_deeds.proofs.Acts.{hand_of, IsSaid, StepsFor}
-use Rattle.call_deeds.proofs.Ends.{Waiting, waiting, gave_steps}
+use Rattle.call_deeds.proofs.Ends.{waiting, gave_steps}
 use Rattle.call_deeds.proofs.Links.{IsOwnCall}
 use Rattle.call_deeds.proofs.Ran.{Result, AreLater, later_first, later_last, waiting_steps, ran_steps}
 use Rattle.call_deeds.proofs.Told.{came, made, all_results}
-
--- ## Deeds behind those by which a client waited
-
-module _ {O : Type 0} (g : Ghosts O) (state : O → OutState) (p : Plan) (P : Did → Type 0) (names : List ℕ) where
-  -- a seat with these names waited for before it did what has these numbers
-  pub record Waited (numbers : List ℕ) (y : Seated g state p) : Type 0 where
-    pub each : (k : ℕ) (d : Deed g state p) → get_elem? y.deeds k ≡ some d → P d.did
-    pub numbered : flat_map numbers_of y.deeds ≡ numbers
-    pub first : (i n : ℕ) → get_elem? names i ≡ some n → (d : Deed g state p) × (get_elem? y.deeds i ≡ some d) × (d.did ≡ waits n) × ((j m : ℕ) (e : Deed g state p) → get_elem? y.deeds j ≡ some e → own_number e.did ≡ Some m → i < j)
-
-  at_low : {A : Type 0} (l : List A) (k : ℕ) (x : A) → get_elem? l k ≡ some x → k < length l
-  at_low [] k x e = absurd (some-ne-none x (sym e))
-  at_low (y ∷ ys) zero x e = omega arith
-  at_low (y ∷ ys) (suc k) x e = let a = at_low ys k x e in omega arith
-
-  none_numbered : (ds : List (Deed g state p)) → ((k : ℕ) (d : Deed g state p) → get_elem? ds k ≡ some d → (n : ℕ) × (d.did ≡ waits n)) → flat_map numbers_of ds ≡ []
-  none_numbered [] all = refl
-  none_numbered (d ∷ ds) all = let w = all 0 d refl in ap (λ x. listed (own_number x) ++ flat_map numbers_of ds) w.1 ∙ none_numbered ds (λ k e at. all (suc k) e at)
-
-  pub seated : (numbers : List ℕ) (spare : ℕ) (w : View) → ((n : ℕ) → P (waits n)) → Waiting g state p names (newcomer p [] spare) w → (t : Hand) → Steps g state p P numbers record { view = w; held = [] } t → (seat : Seat (SockHome O g) View) → seat.me.0 ≡ t.view → (y : Seated g state p) × (y.seat ≡ seat) × Waited numbers y
-  seated numbers spare w may a t b seat left =
-      let y : Seated g state p = record { spare = spare; deeds = a.deeds ++ b.deeds; ended = t; chain = chain_then a.deeds b.deeds record { view = newcomer p [] spare; held = [] } record { view = w; held = [] } t a.chain b.chain; seat = seat; left = left } in
-      (y, refl, record {
-        each = λ k d at. elim (append_cases a.deeds b.deeds k d at) [ inl h ↦ (let n = a.all k d h in subst P (sym n.1) (may n.0)) | inr q ↦ b.each q.0 d q.2 ];
-        numbered = flat-append numbers_of a.deeds b.deeds ∙ (ap (λ l. l ++ flat_map numbers_of b.deeds) (none_numbered a.deeds a.all) ∙ b.numbered);
-        first = λ i n at. (let d = a.each i n at in (d.0, append_first a.deeds b.deeds i d.0 d.1, d.2, λ j m e there own. behind i d.0 d.1 j m e there own));
-      })
-    where
-      behind : (i : ℕ) (d : Deed g state p) → get_elem? a.deeds i ≡ some d → (j m : ℕ) (e : Deed g state p) → get_elem? (a.deeds ++ b.deeds) j ≡ some e → own_number e.did ≡ Some m → i < j
-      behind i d at j m e there own = elim (append_cases a.deeds b.deeds j e there) [
-        | inl h ↦ absurd (let n = a.all j e h in none-some m (sym (ap own_number n.1) ∙ own))
-        | inr q ↦ (let low = at_low a.deeds i d at in let place = q.1 in omega arith)
-      ]
 
 -- ## A whole client
 

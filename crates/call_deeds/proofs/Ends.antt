@@ -19,36 +19,15 @@ use Rattle.call_run.specs.Ending.{FailedIf, EndedOne, EndedEach}
 use Rattle.sock_deeds.specs.Deeds.{Hand, Did, waits, looks, takes, misses, sets, returns, own_number, DoneBy, Deed, Chain}
 use Rattle.sock_deeds.specs.Runs.{IsFor, listed}
 use Rattle.sock_deeds.proofs.Steps.{no_step, one_step, then_steps, steps_as}
+use Rattle.sock_deeds.proofs.Waiting.{Waiting, no_wait, one_wait}
 use Rattle.call_deeds.proofs.Acts.{StepsFor}
 
 module _ {O : Type 0} (g : Ghosts O) (state : O → OutState) (p : Plan) where
   -- ## Waiting
 
-  -- a deed for each of these names, in their order
-  pub record Waiting (names : List ℕ) (v w : View) : Type 0 where
-    pub deeds : List (Deed g state p)
-    pub chain : Chain g state p deeds record { view = v; held = [] } record { view = w; held = [] }
-    pub all : (k : ℕ) (d : Deed g state p) → get_elem? deeds k ≡ some d → (n : ℕ) × (d.did ≡ waits n)
-    pub each : (k n : ℕ) → get_elem? names k ≡ some n → (d : Deed g state p) × (get_elem? deeds k ≡ some d) × (d.did ≡ waits n)
-
-  pub waiting : (names : List ℕ) (v w : View) → FoundEach p names v w → Waiting names v w
-  waiting [] v w e = record { deeds = []; chain = ap (λ (x : View). record { view = x; held = [] }) e; all = λ k d at. absurd (some-ne-none d (sym at)); each = λ k n at. absurd (some-ne-none n (sym at)) }
-  waiting (n ∷ ns) v w r =
-      let rest = waiting ns r.1 w r.3 in
-      let d : Deed g state p = record { did = waits n; before = record { view = v; held = [] }; after = record { view = r.1; held = [] }; done = ((r.0, r.2), refl) } in record {
-        deeds = d ∷ rest.deeds;
-        chain = (refl, rest.chain);
-        all = all_of d refl rest;
-        each = each_of d refl rest;
-      }
-    where
-      all_of : (d : Deed g state p) → d.did ≡ waits n → (rest : Waiting ns r.1 w) (k : ℕ) (e : Deed g state p) → get_elem? (d ∷ rest.deeds) k ≡ some e → (m : ℕ) × (e.did ≡ waits m)
-      all_of d is rest zero e at = (n, ap (λ (x : Deed g state p). x.did) (sym (some-injective d e at)) ∙ is)
-      all_of d is rest (suc k) e at = rest.all k e at
-
-      each_of : (d : Deed g state p) → d.did ≡ waits n → (rest : Waiting ns r.1 w) (k m : ℕ) → get_elem? (n ∷ ns) k ≡ some m → (e : Deed g state p) × (get_elem? (d ∷ rest.deeds) k ≡ some e) × (e.did ≡ waits m)
-      each_of d is rest zero m at = (d, refl, is ∙ ap waits (some-injective n m at))
-      each_of d is rest (suc k) m at = rest.each k m at
+  pub waiting : (names : List ℕ) (v w : View) → FoundEach p names v w → Waiting g state p names v w
+  waiting [] v w e = no_wait v w e
+  waiting (n ∷ ns) v w r = one_wait n ns v r.1 w r.0 r.2 (waiting ns r.1 w r.3)
 
   -- ## What is given back in the end
 

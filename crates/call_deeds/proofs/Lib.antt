@@ -6,3 +6,4 @@ pub mod Told
 pub mod Ends
 pub mod Clients
 pub mod Runs
+pub mod Whole

@@ -41,7 +41,8 @@ use Rattle.sock_deeds.proofs.Steps.{no_step}
 use Rattle.call_deeds.specs.Scripts.{HaveLinks, AllHaveLinks, Reports, AllLater}
 use Rattle.call_deeds.specs.Retried.{all_asked}
 use Rattle.call_deeds.proofs.Acts.{IsSaid}
-use Rattle.call_deeds.proofs.Clients.{Waited, left_hand, FitsTasks, SaysAll, client_seated}
+use Rattle.sock_deeds.proofs.Waiting.{Waited}
+use Rattle.call_deeds.proofs.Clients.{left_hand, FitsTasks, SaysAll, client_seated}
 use Rattle.call_deeds.proofs.Ends.{ended_steps}
 use Rattle.call_deeds.proofs.Links.{call_at}
 use Rattle.call_deeds.proofs.Ran.{Result, AreLater}
@@ -286,7 +287,7 @@ module _ {O : Type 0} {g : Ghosts O} {state : O → OutState} {p : Plan} {slots 
       (i.0, f.0, f.1, f.2, f.3)
 
   -- what all clients and main did at the table of sockets
-  pub deed_run : DeedRun g state p (setup ∷ clients) outcomes places vrefs outs
+  abbrev pub deed_run : DeedRun g state p (setup ∷ clients) outcomes places vrefs outs
   deed_run = record {
     tasks = tasks;
     long = long;

@@ -109,6 +109,10 @@ alike clients outcomes n number (ops.Fail m code) d b e = (ap (λ x. does_well n
 alike clients outcomes n number (ops.Expire o) d b e = elim e [ ]
 alike clients outcomes n number (ops.Join o) d b e = elim e [ ]
 
+both_true : (a b : Bool) → a ≡ true → b ≡ true → (a && b) ≡ true
+both_true true b e f = f
+both_true false b e f = absurd (cc)
+
 cons_first : {A : Type 0} {x y : A} {s t : List A} → x ∷ s ≡ y ∷ t → x ≡ y
 cons_first e = cc
 
@@ -141,10 +145,6 @@ module _ {O : Type 0} {g : Ghosts O} {state : O → OutState} {p : Plan} where
     -- a deed with a task's number does what the task asks for
     abbrev Match : List (Deed g state p) → List Task → Type 0
     Match ds ts = (j k : ℕ) (d : Deed g state p) (t : Task) → get_elem? ds j ≡ some d → get_elem? ts k ≡ some t → own_number d.did ≡ Some t.number → Does clients outcomes t.number t.op d.did
-
-    both_true : (a b : Bool) → a ≡ true → b ≡ true → (a && b) ≡ true
-    both_true true b e f = f
-    both_true false b e f = absurd (cc)
 
     abbrev Aligns : List (Deed g state p) → Type 0
     Aligns ds = (ts : List Task) (b : Bool) → flat_map numbers_of ds ≡ flat_map numbers_at ts → Match ds ts → alternate n b ts ≡ true → deeds_alternate n b ds ≡ true

@@ -10,6 +10,7 @@ pub mod Tasks
 pub mod Lives
 pub mod Steps
 pub mod Places
+pub mod Waiting
 pub mod Fails
 pub mod Failing
 pub mod Owning
