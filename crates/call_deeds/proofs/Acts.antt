@@ -1,8 +1,7 @@
 -- An operation of a client with calls, and a retry, as deeds of its seat of the sockets.
-use Rattle.std.proofs.Common.{◌≡◌, ◌≢◌, ℕ, zero, suc, ◌+◌, ◌*◌, ◌<◌, ◌≤◌, Option, Some, None, List, [], ◌∷◌, ◌++◌, slice_get, zero-le, refl, sym, ap, ◌∙◌, subst, arith}
+use Rattle.std.proofs.Common.{◌≡◌, ℕ, zero, suc, ◌+◌, ◌*◌, ◌<◌, ◌≤◌, Option, Some, None, List, [], ◌∷◌, ◌++◌, slice_get, zero-le, refl, ap, ◌∙◌, subst, arith}
 use mathlib.Core.Option.{some}
 use lib.ListN.{get_elem?}
-use Rattle.message_parts.specs.Parcels.{parcel_of}
 use Rattle.sock_io.specs.declared.link.Out.{Ghosts}
 use Rattle.sock_io.specs.Link.{OutState}
 use Rattle.sock_words.specs.declared.outcome.Outcome.{Outcome}
@@ -10,7 +9,6 @@ use Rattle.sock_words.specs.declared.outcome.Outcome.TheVariants as outcome
 use Rattle.sock_words.specs.declared.plain.Plan.{Plan}
 use Rattle.sock_model.specs.declared.view.View.{View}
 use Rattle.sock_rule.specs.declared.homes.Letter.{Letter}
-use Rattle.sock_rule.specs.declared.homes.SockHome.{SockHome}
 use Rattle.sock_table.specs.declared.passes.LinkPass.{LinkPass}
 use Rattle.sock_message.specs.Asked.{Asked, name_of}
 use Rattle.sock_programs.specs.declared.task.Op.{Op}
@@ -25,13 +23,13 @@ use Rattle.call_attempts.specs.Both.{Both}
 use Rattle.call_attempts.specs.Letters.{letter_for}
 use Rattle.call_attempts.specs.Calling.{BegunAs}
 use Rattle.call_attempts.specs.Retrying.{WentTo, stray, unopened, to_socket, RetriedBy, had_ended, overtaken, went_again}
-use Rattle.call_client.specs.Acting.{Stand, both_of, letter_of, KeepsOwn, OpenedNext, Acted}
-use Rattle.sock_deeds.specs.Deeds.{Hand, MessageBy, Did, opens, sends, holds, drops, fails, own_number, DoneBy, Deed}
+use Rattle.call_client.specs.Acting.{Stand, both_of, letter_of, Acted}
+use Rattle.sock_deeds.specs.Deeds.{Hand, MessageBy, Did, opens, sends, holds, drops, fails, own_number, DoneBy}
 use Rattle.sock_deeds.specs.Runs.{IsOperation, of_send, of_call, IsFor, number_at, listed}
 use Rattle.sock_deeds.proofs.Steps.{Steps, no_step, one_step, steps_as}
 use Rattle.call_deeds.specs.Retried.{Again, asked_by}
 use Rattle.call_deeds.specs.Scripts.{IsLater}
-use Rattle.call_deeds.proofs.Messages.{send_message, Attempted, attempt_message}
+use Rattle.call_deeds.proofs.Messages.{send_message, attempt_message}
 
 -- what a client has of sockets
 abbrev pub hand_of : {O : Type 0} {g : Ghosts O} → Stand g → Hand

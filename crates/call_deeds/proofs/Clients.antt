@@ -1,10 +1,7 @@
 -- A whole client with calls as a seat of the sockets with its deeds.
-use Rattle.std.proofs.Common.{◌≡◌, ℕ, zero, suc, ◌+◌, ◌<◌, ◌≤◌, false, inl, inr, Option, Some, None, List, [], ◌∷◌, ◌++◌, length, take, drop, flat_map, append-nil, refl, sym, ap, ◌∙◌, subst, arith}
+use Rattle.std.proofs.Common.{◌≡◌, ℕ, ◌+◌, Option, List, [], ◌++◌, length, take, drop, flat_map, append-nil, sym, ap, ◌∙◌, subst, arith}
 use Rattle.std.proofs.lemmas.List.{take_all, drop_all}
-use Rattle.std.proofs.lemmas.Option.{none-some}
-use mathlib.Core.Logic.{dite}
-use native.Mathlib.Decide.{dec_lt}
-use mathlib.Core.Option.{some, some-ne-none}
+use mathlib.Core.Option.{some}
 use lib.ListN.{get_elem?}
 use Rattle.atomic_table.specs.declared.shared.Seat.{Seat}
 use Rattle.sock_io.specs.declared.link.Out.{Ghosts}
@@ -17,12 +14,11 @@ use Rattle.sock_rule.specs.declared.homes.SockHome.{SockHome}
 use Rattle.sock_programs.specs.declared.task.Task.{Task}
 use Rattle.corr_core.specs.declared.marks.Plan as id_plan
 use Rattle.rpc_client.specs.declared.holding.Held.{Held}
-use Rattle.call_attempts.specs.Both.{Both}
 use Rattle.call_client.specs.Acting.{Stand, stand, both_of}
 use Rattle.call_client.specs.Running.{begins, LeftAll}
 use Rattle.call_run.specs.Threads.{Thread, IsThread}
-use Rattle.sock_deeds.specs.Deeds.{Hand, Did, waits, own_number, Deed, Chain}
-use Rattle.sock_deeds.specs.Runs.{IsOperation, IsFor, numbers_at, listed, numbers_of, Seated}
+use Rattle.sock_deeds.specs.Deeds.{Hand}
+use Rattle.sock_deeds.specs.Runs.{IsOperation, IsFor, numbers_at, Seated}
 use Rattle.sock_deeds.proofs.Steps.{then_steps, steps_as}
 use Rattle.sock_deeds.proofs.Waiting.{Waited, seated}
 use Rattle.call_deeds.specs.Retried.{asked_before, asked_in, all_asked}

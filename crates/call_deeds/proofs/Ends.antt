@@ -1,7 +1,5 @@
 -- What a client does at the table of sockets besides its operations: it waits for names, gives back what it holds, and main ends the sockets.
-use Rattle.std.proofs.Common.{◌≡◌, ◌⊎◌, ℕ, zero, suc, ◌<◌, inl, inr, Option, Some, None, List, [], ◌∷◌, length, refl, sym, ap, ◌∙◌, subst}
-use mathlib.Core.Option.{some, some-injective, some-ne-none}
-use lib.ListN.{get_elem?}
+use Rattle.std.proofs.Common.{◌≡◌, ℕ, zero, suc, inl, inr, Option, Some, None, List, [], ◌∷◌, refl, ap}
 use Rattle.sock_io.specs.declared.link.Out.{Ghosts}
 use Rattle.sock_io.specs.Link.{OutState}
 use Rattle.sock_words.specs.Codes.{EEOF}
@@ -15,8 +13,8 @@ use Rattle.rpc_client.specs.declared.holding.Held.{Held}
 use Rattle.rpc_client.specs.Running.{GaveFirst}
 use Rattle.rpc_reader.specs.Failing as reader
 use Rattle.thread_run.specs.Threads.{FoundEach}
-use Rattle.call_run.specs.Ending.{FailedIf, EndedOne, EndedEach}
-use Rattle.sock_deeds.specs.Deeds.{Hand, Did, waits, looks, takes, misses, sets, returns, own_number, DoneBy, Deed, Chain}
+use Rattle.call_run.specs.Ending.{FailedIf, EndedEach}
+use Rattle.sock_deeds.specs.Deeds.{Hand, Did, waits, looks, takes, misses, sets, returns, own_number, DoneBy}
 use Rattle.sock_deeds.specs.Runs.{IsFor, listed}
 use Rattle.sock_deeds.proofs.Steps.{no_step, one_step, then_steps, steps_as}
 use Rattle.sock_deeds.proofs.Waiting.{Waiting, no_wait, one_wait}

@@ -1,5 +1,5 @@
 -- A message of a client with calls, as a deed of its seat of the sockets: of a send, and of an attempt of a call.
-use Rattle.std.proofs.Common.{◌≡◌, ◌≢◌, ℕ, inl, inr, Option, Some, None, refl}
+use Rattle.std.proofs.Common.{◌≢◌, ℕ, inl, inr, Option, Some, None, refl}
 use Rattle.sock_io.specs.Link.{OutState}
 use Rattle.sock_words.specs.declared.outcome.Outcome.TheVariants as outcome
 use Rattle.sock_words.specs.declared.outcome.Outcome.{Outcome}

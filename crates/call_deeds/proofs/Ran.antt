@@ -1,6 +1,6 @@
 -- The operations of a client with calls, one after the other, as deeds of its seat of the sockets.
-use Rattle.std.proofs.Common.{◌≡◌, ℕ, zero, suc, ◌+◌, ◌<◌, inl, inr, Option, Some, None, List, [], ◌∷◌, ◌++◌, length, take, flat_map, length-append, append_assoc, append-nil, refl, sym, ap, ◌∙◌, subst, arith}
-use mathlib.Core.Option.{some, some-injective, some-ne-none}
+use Rattle.std.proofs.Common.{◌≡◌, ℕ, zero, suc, ◌+◌, Option, List, [], ◌∷◌, ◌++◌, length, take, flat_map, length-append, append_assoc, append-nil, refl, sym, ap, ◌∙◌, subst, arith}
+use mathlib.Core.Option.{some, some-ne-none}
 use lib.ListN.{get_elem?}
 use Rattle.sock_io.specs.declared.link.Out.{Ghosts}
 use Rattle.sock_io.specs.Link.{OutState}

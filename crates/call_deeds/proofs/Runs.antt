@@ -1,9 +1,9 @@
 -- A run of clients with calls as a run of deeds at the table of sockets.
-use Rattle.std.proofs.Common.{◌≡◌, ◌≢◌, ℕ, zero, suc, ◌+◌, ◌<◌, ◌≤◌, ◌==◌, ◌&&◌, ◌||◌, true, false, Bool, if◌then◌else◌, inl, inr, Option, Some, None, List, [], ◌∷◌, ◌++◌, length, map, flat_map, slice_get, Contains, eq-eqb, refl, sym, ap, ◌∙◌, subst, arith}
+use Rattle.std.proofs.Common.{◌≡◌, ◌≢◌, ℕ, zero, suc, ◌+◌, ◌<◌, ◌==◌, ◌&&◌, ◌||◌, true, false, Bool, if◌then◌else◌, inl, inr, Option, Some, None, List, [], ◌∷◌, ◌++◌, length, map, flat_map, slice_get, eq-eqb, refl, sym, ap, ◌∙◌, subst, arith}
 use Rattle.std.proofs.lemmas.List.{length-map}
 use Rattle.std.proofs.lemmas.Option.{none-some, same_Some}
 use mathlib.Core.Logic.{dite}
-use native.Mathlib.Decide.{ℕ_discrete, dec_lt}
+use native.Mathlib.Decide.{ℕ_discrete}
 use mathlib.Core.Option.{some, some-injective, some-ne-none}
 use lib.ListN.{get_elem?}
 use Rattle.atomic_table.specs.declared.shared.Seat.{Seat}
@@ -33,7 +33,7 @@ use Rattle.thread_run.specs.Threads.{is_opened, opened_in}
 use Rattle.call_client.specs.Running.{MayMakeAll}
 use Rattle.call_run.specs.declared.opened.Opening.{Opening}
 use Rattle.call_run.specs.Threads.{ids_of, opens_of, opening_in, openings, name_if, opened_names, Thread, IsThread, AreThreads, MayRun, AllMayRun, MayRunAll, RanOn}
-use Rattle.sock_deeds.specs.Deeds.{Hand, Did, opens, waits, own_number, Deed}
+use Rattle.sock_deeds.specs.Deeds.{waits, own_number, Deed}
 use Rattle.sock_deeds.specs.Runs.{IsOperation, IsFor, numbers_at, Seated, seat_of, DeedRun}
 use Rattle.sock_deeds.proofs.Flats.{append_later}
 use Rattle.sock_deeds.proofs.Places.{to_slice, to_elem, map_there, map_back}
@@ -94,7 +94,7 @@ module _ {O : Type 0} (g : Ghosts O) (state : O → OutState) (p : Plan) (q : id
   SeatOf c x y = Waited g state p (IsFor all outcomes c) x.names (flat_map numbers_at x.tasks) y
 
   -- the seats of these clients, from client c on
-  record Dealt (c : ℕ) (xs : List (Thread g)) (seats : List (Seat (SockHome O g) View)) : Type 0 where
+  pub record Dealt (c : ℕ) (xs : List (Thread g)) (seats : List (Seat (SockHome O g) View)) : Type 0 where
     pub ys : List (Seated g state p)
     pub seats_are : map seat_of ys ≡ seats
     pub each : (i : ℕ) (y : Seated g state p) → get_elem? ys i ≡ some y → (x : Thread g) × (get_elem? xs i ≡ some x) × SeatOf (c + i) x y
@@ -175,7 +175,7 @@ module _ {O : Type 0} {g : Ghosts O} {state : O → OutState} {p : Plan} {slots 
   tasks_all : map (λ (x : Thread g). x.tasks) threads ≡ all
   tasks_all i = run.ran.setup_asked i ∷ run.ran.asked i
 
-  tasks_there : (c : ℕ) (x : Thread g) → get_elem? threads c ≡ some x → slice_get all c ≡ Some x.tasks
+  pub tasks_there : (c : ℕ) (x : Thread g) → get_elem? threads c ≡ some x → slice_get all c ≡ Some x.tasks
   tasks_there c x at = ap (λ l. slice_get l c) (sym tasks_all) ∙ to_slice (map (λ (x : Thread g). x.tasks) threads) c x.tasks (map_there (λ (x : Thread g). x.tasks) threads c x at)
 
   told_there : (c : ℕ) (x : Thread g) → get_elem? threads c ≡ some x → get_elem? told c ≡ some (told_items x)
@@ -216,7 +216,7 @@ module _ {O : Type 0} {g : Ghosts O} {state : O → OutState} {p : Plan} {slots 
 
   -- ## Seats
 
-  main_seated : (y : Seated g state p) × (y.seat ≡ run.ran.last) × SeatHere 0 run.ran.main y
+  pub main_seated : (y : Seated g state p) × (y.seat ≡ run.ran.last) × SeatHere 0 run.ran.main y
   main_seated =
       let x = run.ran.main in
       let th = run.ran.main_is in
@@ -226,7 +226,7 @@ module _ {O : Type 0} {g : Ghosts O} {state : O → OutState} {p : Plan} {slots 
       client_seated g state p q all outcomes 0 0 x th setup_links (fits_tasks g state p q all outcomes tasks 0 x 0 (opens_of x.tasks) th there setup_may.may) (says 0 x refl 0 th) main_later
       record { view = run.ran.last.me.0; held = th.ran.end.held } (ended_steps g state p all outcomes 0 th.ran.end.held opens_ x.ended.seat.me.0 run.ran.last.me.0 run.ran.failed) run.ran.last refl
 
-  others_dealt : Dealt g state p q all outcomes tasks 1 run.ran.others (map (λ (x : Thread g). x.ended.seat) run.ran.others)
+  pub others_dealt : Dealt g state p q all outcomes tasks 1 run.ran.others (map (λ (x : Thread g). x.ended.seat) run.ran.others)
   others_dealt = deal g state p q all outcomes tasks names 1 (opens_of setup) run.ran.others run.ran.others_are (λ i x at. others_known i x at) (subst (AllMayRun p q) (sym run.ran.asked) may.clients_may)
       (let none_ : 0 + opens_of setup ≡ opens_of setup = omega arith in subst (λ k. AllHaveLinks k (map (λ (x : Thread g). x.tasks) run.ran.others)) none_ (subst (AllHaveLinks (0 + opens_of setup)) (sym run.ran.asked) links.1)) others_later
     where
@@ -236,20 +236,20 @@ module _ {O : Type 0} {g : Ghosts O} {state : O → OutState} {p : Plan} {slots 
   abbrev seats : List (Seated g state p)
   seats = main_seated.0 ∷ others_dealt.ys
 
-  each : (c : ℕ) (y : Seated g state p) → get_elem? seats c ≡ some y → (x : Thread g) × (get_elem? threads c ≡ some x) × SeatHere c x y
+  pub each : (c : ℕ) (y : Seated g state p) → get_elem? seats c ≡ some y → (x : Thread g) × (get_elem? threads c ≡ some x) × SeatHere c x y
   each zero y at = (run.ran.main, refl, subst (SeatHere 0 run.ran.main) (some-injective main_seated.0 y at) main_seated.2)
   each (suc i) y at = let w = others_dealt.each i y at in let e : 1 + i ≡ suc i = omega arith in (w.0, w.1, subst (λ k. SeatHere k w.0 y) e w.2)
 
-  there : (c : ℕ) (x : Thread g) → get_elem? threads c ≡ some x → (y : Seated g state p) × (get_elem? seats c ≡ some y) × SeatHere c x y
+  pub there : (c : ℕ) (x : Thread g) → get_elem? threads c ≡ some x → (y : Seated g state p) × (get_elem? seats c ≡ some y) × SeatHere c x y
   there zero x at = (main_seated.0, refl, subst (λ (z : Thread g). SeatHere 0 z main_seated.0) (some-injective run.ran.main x at) main_seated.2)
   there (suc i) x at = let w = others_dealt.there i x at in let e : 1 + i ≡ suc i = omega arith in (w.0, w.1, subst (λ k. SeatHere k x w.0) e w.2)
 
-  seats_are : map seat_of seats ≡ run.seats
+  pub seats_are : map seat_of seats ≡ run.seats
   seats_are = (λ i. main_seated.1 i ∷ others_dealt.seats_are i) ∙ run.ran.seats_are
 
   -- ## What its deeds are done for
 
-  seats_many : length seats ≡ length all
+  pub seats_many : length seats ≡ length all
   seats_many =
       let a = length-map others_dealt.ys seat_of in
       let b = length-map run.ran.others (λ (x : Thread g). x.ended.seat) in
@@ -276,7 +276,7 @@ module _ {O : Type 0} {g : Ghosts O} {state : O → OutState} {p : Plan} {slots 
       let told_it : get_elem? (told_items x) said.0 ≡ some record { number = number; outcome = outcome.Opened slot version link } = said.1 ∙ (λ i. some record { number = number_ i; outcome = same i }) in
       names_there (told_items x) setup h.0 number n link at (opened_there (told_items x) said.0 number slot version link told_it)
 
-  wait_at : (c : ℕ) (y : Seated g state p) → get_elem? seats c ≡ some y → 0 < c → (number n link slot version : ℕ) → IsOperation all outcomes 0 number (ops.Open n link) → Became all outcomes number (outcome.Opened slot version link)
+  pub wait_at : (c : ℕ) (y : Seated g state p) → get_elem? seats c ≡ some y → 0 < c → (number n link slot version : ℕ) → IsOperation all outcomes 0 number (ops.Open n link) → Became all outcomes number (outcome.Opened slot version link)
       → (i : ℕ) × (d : Deed g state p) × (get_elem? y.deeds i ≡ some d) × (d.did ≡ waits n) × ((j m : ℕ) (e : Deed g state p) → get_elem? y.deeds j ≡ some e → own_number e.did ≡ Some m → i < j)
   wait_at zero y at some_ number n link slot version is became = absurd (omega arith)
   wait_at (suc c) y at some_ number n link slot version is became =

@@ -1,5 +1,5 @@
 -- What a run of clients with calls goes by: the links of the sockets that they open, and what is reported of their operations.
-use Rattle.std.specs.Prelude.{◌≡◌, ◌≢◌, ℕ, ◌+◌, ◌<◌, List, [], ◌∷◌, length, slice_get, Option, Some, None}
+use Rattle.std.specs.Prelude.{◌≡◌, ◌≢◌, ℕ, ◌+◌, ◌<◌, List, [], ◌∷◌, slice_get, Option, Some, None}
 use mathlib.Core.Option.{some}
 use lib.ListN.{get_elem?}
 use Rattle.sock_io.specs.declared.link.Out.{Ghosts}
@@ -12,7 +12,7 @@ use Rattle.sock_programs.specs.declared.task.Op.TheVariants as ops
 use Rattle.sock_programs.specs.declared.task.Task.{Task}
 use Rattle.sock_programs.specs.Told.{IsTask, Became}
 use Rattle.rpc_client.specs.declared.acting.Told.{Told}
-use Rattle.call_run.specs.Threads.{opens_in, opens_of, Thread, IsThread, AreThreads}
+use Rattle.call_run.specs.Threads.{opens_in, opens_of, Thread, AreThreads}
 use Rattle.call_deeds.specs.Retried.{Again, all_asked}
 use Rattle.sock_deeds.specs.Runs.{IsOperation}
 

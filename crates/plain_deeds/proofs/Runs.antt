@@ -1,11 +1,9 @@
 -- A run of clients without calls as a run of deeds at the table of sockets.
-use Rattle.std.proofs.Common.{◌≡◌, ◌⊎◌, ℕ, zero, suc, ◌+◌, ◌*◌, ◌<◌, ◌≤◌, inl, inr, Option, Some, None, List, [], ◌∷◌, ◌++◌, length, drop, length-drop, map, flat_map, slice_get, append-nil, refl, sym, ap, ◌∙◌, subst, arith}
+use Rattle.std.proofs.Common.{◌≡◌, ℕ, zero, suc, ◌+◌, ◌<◌, Option, Some, None, List, [], ◌∷◌, ◌++◌, length, drop, length-drop, map, flat_map, slice_get, append-nil, refl, sym, ap, ◌∙◌, subst, arith}
 use Rattle.std.proofs.lemmas.List.{nil_from_length, length-map}
-use Rattle.std.proofs.lemmas.Option.{none-some, same_Some}
+use Rattle.std.proofs.lemmas.Option.{same_Some}
 use mathlib.Core.Option.{some, some-injective, some-ne-none}
 use lib.ListN.{get_elem?}
-use Rattle.atomic_table.specs.declared.shared.Seat.{Seat}
-use Rattle.message_parts.specs.Parcels.{parcel_of}
 use Rattle.sock_io.specs.declared.link.Out.{Ghosts}
 use Rattle.sock_io.specs.Link.{OutState}
 use Rattle.sock_words.specs.declared.outcome.Outcome.{Outcome}
@@ -16,7 +14,6 @@ use Rattle.sock_words.specs.declared.place_word.PlaceWord.{PlaceWord}
 use Rattle.sock_words.specs.declared.vref.Vref.{Vref}
 use Rattle.sock_model.specs.declared.view.View.{View}
 use Rattle.sock_model.specs.Seats.{newcomer}
-use Rattle.sock_rule.specs.declared.homes.SockHome.{SockHome}
 use Rattle.sock_programs.specs.declared.task.Op.{Op}
 use Rattle.sock_programs.specs.declared.task.Op.TheVariants as ops
 use Rattle.sock_programs.specs.declared.task.Task.{Task}
@@ -28,17 +25,16 @@ use Rattle.rpc_client.specs.declared.holding.Held.{Held}
 use Rattle.rpc_client.specs.Acting.{Stand, stand, Acted, letter_of, label_of}
 use Rattle.rpc_client.specs.Opening.{OpenedBy}
 use Rattle.rpc_client.specs.Running.{Course, Ran, GaveFirst, LeftFirst}
-use Rattle.chain_laws.proofs.Lists.{old, new, at_snoc}
 use Rattle.table_told.specs.Moments.{Moment, moments, moments_of}
 use Rattle.table_told.specs.Threads.{Thread, IsThread, Threaded, ThreadRun, FoundEach, AreAsked, AsksFor, tasks_of, seat_of as plain_seat}
 use Rattle.table_told.proofs.Acts as plain
 use Rattle.table_told.proofs.Moments.{moments_long}
 use Rattle.table_told.proofs.OneThread.{first, last}
-use Rattle.table_told.proofs.Outcomes.{task_of, number_of, asked_of, is_task, act_told, act_of}
+use Rattle.table_told.proofs.Outcomes.{task_of, asked_of, is_task, act_told, act_of}
 use Rattle.table_told.proofs.Passes.{opened_link}
 use Rattle.table_told.proofs.Whys.{untold}
 use Rattle.sock_deeds.specs.Deeds.{Hand, Did, opens, sends, holds, drops, fails, waits, returns, own_number, DoneBy, Deed}
-use Rattle.sock_deeds.specs.Runs.{IsOperation, of_send, IsFor, number_at, numbers_at, listed, numbers_of, Seated, seat_of, DeedRun}
+use Rattle.sock_deeds.specs.Runs.{IsOperation, of_send, IsFor, number_at, numbers_at, listed, Seated, seat_of, DeedRun}
 use Rattle.sock_deeds.proofs.Flats.{append_first, append_later, flat-append}
 use Rattle.sock_deeds.proofs.Messages.{message_of}
 use Rattle.sock_deeds.proofs.Places.{to_slice, to_elem, map_there}
@@ -169,7 +165,7 @@ module _ {O : Type 0} {g : Ghosts O} {state : O → OutState} {p : Plan} {client
     abbrev act : (k : ℕ) (m : Moment g state p y.client) → get_elem? ms k ≡ some m → plain.Act run
     act k m is = record { c = c; y = y; at = at; k = k; m = m; is = is }
 
-    tasks_there : slice_get clients c ≡ Some y.tasks
+    pub tasks_there : slice_get clients c ≡ Some y.tasks
     tasks_there = ap (λ l. slice_get l c) (sym run.all) ∙ to_slice (map tasks_of run.threads) c y.tasks (map_there tasks_of run.threads c y at)
 
     ms_long : length ms ≡ length y.tasks
@@ -208,7 +204,7 @@ module _ {O : Type 0} {g : Ghosts O} {state : O → OutState} {p : Plan} {client
   SeatOf c y z = Waited g state p (IsFor clients outcomes c) y.thread.names (flat_map numbers_at y.tasks) z
 
   -- the seats of these clients, from client c on
-  record Dealt (c : ℕ) (ys : List (Threaded g state p)) : Type 0 where
+  pub record Dealt (c : ℕ) (ys : List (Threaded g state p)) : Type 0 where
     pub zs : List (Seated g state p)
     pub seats_are : map seat_of zs ≡ map plain_seat ys
     pub each : (i : ℕ) (z : Seated g state p) → get_elem? zs i ≡ some z → (y : Threaded g state p) × (get_elem? ys i ≡ some y) × SeatOf (c + i) y z
@@ -228,13 +224,13 @@ module _ {O : Type 0} {g : Ghosts O} {state : O → OutState} {p : Plan} {client
           each_of zero w at = (y, refl, subst (SeatOf (c + 0) y) (some-injective z w at) is)
           each_of (suc i) w at = let r = rest.each i w at in let e : (c + 1) + i ≡ c + suc i = omega arith in (r.0, r.1, subst (λ k. SeatOf k r.0 w) e r.2)
 
-  dealt_all : Dealt 0 run.threads
+  pub dealt_all : Dealt 0 run.threads
   dealt_all = deal 0 run.threads (λ i y at. (let e : i ≡ 0 + i = omega arith in subst (λ k. get_elem? run.threads k ≡ some y) e at))
 
-  each : (c : ℕ) (z : Seated g state p) → get_elem? dealt_all.zs c ≡ some z → (y : Threaded g state p) × (get_elem? run.threads c ≡ some y) × SeatOf c y z
+  pub each : (c : ℕ) (z : Seated g state p) → get_elem? dealt_all.zs c ≡ some z → (y : Threaded g state p) × (get_elem? run.threads c ≡ some y) × SeatOf c y z
   each c z at = let w = dealt_all.each c z at in let e : 0 + c ≡ c = omega arith in (w.0, w.1, subst (λ k. SeatOf k w.0 z) e w.2)
 
-  seats_many : length dealt_all.zs ≡ length clients
+  pub seats_many : length dealt_all.zs ≡ length clients
   seats_many =
       let a = length-map dealt_all.zs seat_of in
       let b = length-map run.threads plain_seat in
@@ -243,7 +239,7 @@ module _ {O : Type 0} {g : Ghosts O} {state : O → OutState} {p : Plan} {client
       let e = ap length run.all in
       omega arith
 
-  wait_at : (c : ℕ) (z : Seated g state p) → get_elem? dealt_all.zs c ≡ some z → 0 < c → (number n link slot version : ℕ) → IsOperation clients outcomes 0 number (ops.Open n link) → Became clients outcomes number (outcome.Opened slot version link)
+  pub wait_at : (c : ℕ) (z : Seated g state p) → get_elem? dealt_all.zs c ≡ some z → 0 < c → (number n link slot version : ℕ) → IsOperation clients outcomes 0 number (ops.Open n link) → Became clients outcomes number (outcome.Opened slot version link)
       → (i : ℕ) × (d : Deed g state p) × (get_elem? z.deeds i ≡ some d) × (d.did ≡ waits n) × ((j m : ℕ) (e : Deed g state p) → get_elem? z.deeds j ≡ some e → own_number e.did ≡ Some m → i < j)
   wait_at c z at some_ number n link slot version is became =
       let w = each c z at in
@@ -251,7 +247,7 @@ module _ {O : Type 0} {g : Ghosts O} {state : O → OutState} {p : Plan} {client
       let f = w.2.first i.0 n i.1 in
       (i.0, f.0, f.1, f.2, f.3)
 
-  alone : (n : ℕ) (by : Outcome) → Became clients outcomes n by → (c : ℕ) × (t : Task) × IsTask clients outcomes c t × (t.number ≡ n)
+  pub alone : (n : ℕ) (by : Outcome) → Became clients outcomes n by → (c : ℕ) × (t : Task) × IsTask clients outcomes c t × (t.number ≡ n)
   alone n by became = let a = act_of run n by became in (a.0.c, task_of run a.0, is_task run a.0, sym (asked_of run a.0).number ∙ a.1)
 
   -- what all clients did at the table of sockets

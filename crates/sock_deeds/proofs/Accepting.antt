@@ -1,7 +1,5 @@
 -- Each message in the log is that of one deed: which deed sent it, and in which order.
-use Rattle.std.proofs.Common.{◌≡◌, ◌≢◌, ℕ, zero, suc, ◌+◌, ◌*◌, ◌<◌, List, [], ◌∷◌, ◌++◌, flat_map, map, Option, Some, None, refl, sym, ap, ◌∙◌, subst, arith}
-use mathlib.Core.Logic.{dite}
-use native.Mathlib.Decide.{ℕ_discrete, dec_lt}
+use Rattle.std.proofs.Common.{◌≡◌, ℕ, zero, suc, ◌+◌, ◌*◌, ◌<◌, List, [], ◌∷◌, ◌++◌, flat_map, map, Option, Some, None, refl, sym, ap, ◌∙◌, subst, arith}
 use mathlib.Core.Option.{some, some-injective, some-ne-none}
 use lib.ListN.{get_elem?}
 use Rattle.atomic_table.specs.declared.shared.Seat.{Seat}
@@ -19,7 +17,7 @@ use Rattle.chain_laws.proofs.Lists.{at_some, at_length}
 use Rattle.sock_programs.specs.declared.task.Task.{Task}
 use Rattle.sock_rule.specs.declared.homes.Letter.{Letter}
 use Rattle.sock_rule.specs.declared.homes.SockHome.{SockHome}
-use Rattle.sock_deeds.specs.Deeds.{Did, sends, own_number}
+use Rattle.sock_deeds.specs.Deeds.{sends, own_number}
 use Rattle.sock_deeds.specs.Runs.{IsMessage, of_send, of_call, IsFor, Seated, seat_of, DeedRun}
 use Rattle.sock_deeds.proofs.Acts.{Act, final_of, did_of, done_of}
 use Rattle.sock_deeds.proofs.Entries.{before, pick_at, before_rises, from_pick}

@@ -28,10 +28,9 @@ use Rattle.sock_rule.proofs.Closes.{two_terms}
 use Rattle.sock_table.specs.Named.{HasSeen}
 use Rattle.sock_deeds.specs.Deeds.{Hand, Did, Deed, DoneBy}
 use Rattle.sock_deeds.specs.Runs.{Seated, seat_of, DeedRun}
-use Rattle.sock_deeds.proofs.Chains.{gain, stored, ends_grew, begins_grew, between_grew, gains, stores}
+use Rattle.sock_deeds.proofs.Chains.{gain, stored, ends_grew, between_grew, gains, stores}
 use Rattle.sock_deeds.proofs.Flats.{append_first, append_later}
 use Rattle.sock_deeds.proofs.Growing.{IsNote, HasFound, Grew}
-use Rattle.sock_deeds.proofs.Sources.{IsOfLife}
 
 -- ## What all seats have together
 

@@ -1,9 +1,7 @@
 -- Why a deed found the life of a name dead, or no request free, or a life at all.
-use Rattle.std.proofs.Common.{◌≡◌, ◌≢◌, ℕ, ◌+◌, ◌%◌, ◌<◌, ◌≤◌, inl, inr, List, [], ◌∷◌, Option, Some, None, refl, sym, ap, ◌∙◌, subst, arith}
-use Rattle.std.proofs.lemmas.Option.{same_Some}
+use Rattle.std.proofs.Common.{◌≡◌, ◌≢◌, ℕ, ◌+◌, ◌%◌, ◌<◌, ◌≤◌, List, [], ◌∷◌, Option, Some, refl, sym, ap, ◌∙◌, subst, arith}
 use mathlib.Core.Logic.{dite}
 use native.Mathlib.Decide.{ℕ_discrete, dec_lt}
-use mathlib.Core.Option.{some}
 use lib.ListN.{get_elem?}
 use Rattle.sock_io.specs.declared.link.Out.{Ghosts}
 use Rattle.sock_io.specs.Link.{OutState}
@@ -23,19 +21,18 @@ use Rattle.sock_model.specs.Weights.{is_known, is_saw, only, total}
 use Rattle.slot_laws.proofs.Numbers.{only-same}
 use Rattle.sock_rule.specs.Becoming.{Became as Becomes}
 use Rattle.sock_rule.specs.declared.homes.Letter.{Letter}
-use Rattle.sock_programs.specs.declared.task.Op.TheVariants as ops
 use Rattle.sock_programs.specs.declared.task.Task.{Task}
 use Rattle.sock_programs.specs.Told.{HasLife}
 use Rattle.sock_table.specs.declared.refs.SockRef.{SockRef}
 use Rattle.rpc_client.specs.declared.reaching.Reached.TheVariants as reached
 use Rattle.rpc_client.specs.Failing.{TriedTo}
 use Rattle.rpc_client.specs.Reaching.{ReachedBy}
-use Rattle.sock_deeds.specs.Deeds.{SentOver, Did, opens, fails, Deed, own_number}
+use Rattle.sock_deeds.specs.Deeds.{SentOver, opens, fails, Deed, own_number}
 use Rattle.sock_deeds.specs.Runs.{DeedRun}
 use Rattle.sock_deeds.proofs.Acts.{Act, before, after, did_of, has_marks, act_between, same_deed}
 use Rattle.sock_deeds.proofs.Fails.{here_found, made_born, number_of_fail}
 use Rattle.sock_deeds.proofs.Failing.{FailedBy, WhyFailed, life_failed}
-use Rattle.sock_deeds.proofs.Growing.{Grew, HasFound, grew_then, added_grew, back_grew, found_grew, returned_grew, delivered_grew, over_grew}
+use Rattle.sock_deeds.proofs.Growing.{Grew, HasFound, grew_then, added_grew, back_grew, found_grew, returned_grew, over_grew}
 use Rattle.sock_deeds.proofs.Lives.{MadeHere, made_of, found_made, made_inside}
 use Rattle.sock_deeds.proofs.Tasks.{earlier, one_place}
 

@@ -1,9 +1,9 @@
 -- What a seat holds: of each name the reference of its last `hold`, where that was `held` and no `drop` came since. So a `drop` has its outcome by that `hold`'s.
-use Rattle.std.proofs.Common.{◌≡◌, ◌≢◌, ℕ, zero, suc, ◌+◌, ◌<◌, ◌≤◌, ◌==◌, ◌&&◌, ◌⊎◌, inl, inr, Bool, true, false, cond, not, eq-eqb, ne_eqb, eqb-true, if◌then◌else◌, List, [], ◌∷◌, ◌++◌, length, get_or, flat_map, slice_get, Option, Some, None, refl, sym, ap, ◌∙◌, subst, arith}
+use Rattle.std.proofs.Common.{◌≡◌, ◌≢◌, ℕ, zero, suc, ◌+◌, ◌<◌, ◌≤◌, ◌==◌, ◌&&◌, ◌⊎◌, inl, inr, Bool, true, false, cond, not, eq-eqb, ne_eqb, eqb-true, if◌then◌else◌, List, [], ◌∷◌, ◌++◌, length, get_or, flat_map, Option, Some, None, refl, sym, ap, ◌∙◌, subst, arith}
 use Rattle.std.specs.List.{remove, position_or_len}
 use Rattle.std.proofs.lemmas.List.Quantifiers.{position-Some}
 use Rattle.std.proofs.lemmas.List.Sums.{fails_before_first}
-use Rattle.std.proofs.lemmas.Option.{none-some, same_Some}
+use Rattle.std.proofs.lemmas.Option.{none-some}
 use Rattle.std.proofs.lemmas.Bool.Decides.{nat_tests}
 use mathlib.Core.Logic.{dite}
 use native.Mathlib.Decide.{ℕ_discrete, dec_lt}
@@ -22,7 +22,7 @@ use Rattle.slot_laws.proofs.Sums.{total-append}
 use Rattle.sock_programs.specs.declared.task.Op.{Op}
 use Rattle.sock_programs.specs.declared.task.Op.TheVariants as ops
 use Rattle.sock_programs.specs.declared.task.Task.{Task}
-use Rattle.sock_programs.specs.Told.{IsTask, Became, AfterHold, goes_well, in_hand_behind, alternate}
+use Rattle.sock_programs.specs.Told.{IsTask, AfterHold, goes_well, in_hand_behind, alternate}
 use Rattle.sock_causes.proofs.Tests.{split_eq, both_left, both_right, none_of}
 use Rattle.report_fits.proofs.Lists.{all_at, contains_from}
 use Rattle.rpc_client.specs.declared.holding.Held.{Held}

@@ -1,5 +1,5 @@
 -- The list of `fail`s that failed a life, the links that failed, and why each failed life was failed.
-use Rattle.std.proofs.Common.{◌≡◌, ◌≢◌, ℕ, zero, suc, ◌+◌, ◌<◌, ◌⊎◌, inl, inr, List, [], ◌∷◌, flat_map, filter_map, slice_get, option_map, Option, Some, None, Contains, refl, sym, ap, ◌∙◌, subst, arith}
+use Rattle.std.proofs.Common.{◌≡◌, ◌≢◌, ℕ, zero, suc, ◌+◌, ◌<◌, ◌⊎◌, inl, inr, List, flat_map, filter_map, slice_get, option_map, Option, Some, None, Contains, refl, sym, ap, ◌∙◌, subst, arith}
 use Rattle.std.specs.List.{AllByRecursion}
 use Rattle.std.proofs.lemmas.Option.{none-some, same_Some, slice_get_within}
 use native.Mathlib.Decide.{dec_lt}
@@ -21,9 +21,9 @@ use Rattle.sock_programs.specs.declared.task.Op.{Op}
 use Rattle.sock_programs.specs.declared.task.Op.TheVariants as ops
 use Rattle.sock_programs.specs.declared.task.Task.{Task}
 use Rattle.sock_programs.specs.Runs.{from_to}
-use Rattle.sock_programs.specs.Told.{IsTask, Became, IsFail}
+use Rattle.sock_programs.specs.Told.{Became, IsFail}
 use Rattle.report_fits.proofs.Lists.{Has, contains_from, all_from, has_filter_map, filter_map_has, before_filter_map, before_from}
-use Rattle.sock_deeds.specs.Deeds.{Did, fails, sets, own_number, Deed}
+use Rattle.sock_deeds.specs.Deeds.{fails, sets, own_number}
 use Rattle.sock_deeds.specs.Broken.{faults_of}
 use Rattle.sock_deeds.specs.Runs.{IsOperation, Seated, DeedRun}
 use Rattle.sock_deeds.proofs.Acts.{Act, All, before, after, did_of, done_of, has_marks, marks_from}

@@ -1,7 +1,7 @@
 -- Lives that were failed by a `fail` of their name.
-use Rattle.std.proofs.Common.{◌≡◌, ◌≢◌, ℕ, ◌+◌, ◌<◌, ◌≤◌, List, [], ◌∷◌, Option, Some, None, refl, sym, ap, ◌∙◌, subst, arith}
+use Rattle.std.proofs.Common.{◌≡◌, ℕ, ◌+◌, ◌<◌, ◌≤◌, List, [], ◌∷◌, Option, Some, refl, sym, ap, ◌∙◌, subst, arith}
 use Rattle.std.specs.Prelude.{slice_index}
-use Rattle.std.proofs.lemmas.Option.{none-some, same_Some}
+use Rattle.std.proofs.lemmas.Option.{same_Some}
 use mathlib.Core.Logic.{dite}
 use native.Mathlib.Decide.{dec_lt}
 use mathlib.Core.Option as core
@@ -27,13 +27,12 @@ use Rattle.sock_programs.specs.declared.task.Op.{Op}
 use Rattle.sock_programs.specs.declared.task.Op.TheVariants as ops
 use Rattle.sock_programs.specs.declared.task.Task.{Task}
 use Rattle.sock_programs.specs.Told.{IsTask, Became, IsFail}
-use Rattle.sock_causes.specs.Causes.{Asks}
 use Rattle.sock_causes.proofs.Tasks.{one_link}
 use Rattle.sock_table.specs.declared.refs.SockRef.{SockRef}
 use Rattle.rpc_client.specs.declared.reaching.Reached.TheVariants as reached
 use Rattle.rpc_client.specs.Failing.{TriedTo}
 use Rattle.rpc_client.specs.Reaching.{ReachedBy}
-use Rattle.sock_deeds.specs.Deeds.{Hand, Did, fails, DoneBy, Deed, own_number}
+use Rattle.sock_deeds.specs.Deeds.{Did, fails, DoneBy, Deed, own_number}
 use Rattle.sock_deeds.specs.Runs.{IsFor, DeedRun}
 use Rattle.sock_deeds.proofs.Acts.{Act, All, before, after, did_of, done_of, has_marks, once_added, same_deed}
 use Rattle.sock_deeds.proofs.Growing.{HasFound, grew_then, added_grew, back_grew, reached_grew}

@@ -21,3 +21,4 @@ pub mod Names
 pub mod Orders
 pub mod Drops
 pub mod Whole
+pub mod Sent

@@ -1,6 +1,6 @@
 -- Lives and the deeds that made them.
-use Rattle.std.proofs.Common.{◌≡◌, ℕ, ◌+◌, ◌<◌, List, Option, Some, None, refl, sym, ap, ◌∙◌, subst, arith}
-use Rattle.std.proofs.lemmas.Option.{none-some, same_Some}
+use Rattle.std.proofs.Common.{◌≡◌, ℕ, ◌+◌, ◌<◌, List, Option, refl, sym, ap, ◌∙◌, subst, arith}
+use Rattle.std.proofs.lemmas.Option.{same_Some}
 use Rattle.atomic_table.specs.Table.{Me}
 use Rattle.sock_io.specs.declared.link.Out.{Ghosts}
 use Rattle.sock_io.specs.Link.{OutState}
@@ -20,7 +20,7 @@ use Rattle.slot_laws.proofs.Numbers.{only-same, pair_is}
 use Rattle.sock_programs.specs.declared.task.Op.{Op}
 use Rattle.sock_programs.specs.declared.task.Op.TheVariants as ops
 use Rattle.sock_programs.specs.declared.task.Task.{Task}
-use Rattle.sock_programs.specs.Told.{Became, Made}
+use Rattle.sock_programs.specs.Told.{Made}
 use Rattle.rpc_client.specs.Opening.{OpenedBy}
 use Rattle.sock_deeds.specs.Deeds.{Hand, Did, opens, DoneBy, Deed, own_number}
 use Rattle.sock_deeds.specs.Runs.{IsFor, DeedRun}
@@ -29,7 +29,7 @@ use Rattle.sock_deeds.proofs.Acts.{Act, All, before, after, did_of, done_of, has
 use Rattle.sock_deeds.proofs.Growing.{HasFound, put_grew}
 use Rattle.sock_deeds.proofs.Sources.{IsOfLife, Source, by_open, by_fail, by_set, by_write, done_source}
 use Rattle.sock_deeds.proofs.Stores.{done_puts}
-use Rattle.sock_deeds.proofs.Tasks.{Does, is_for, same_task, one_outcome, task_does, one_place}
+use Rattle.sock_deeds.proofs.Tasks.{Does, is_for, one_outcome, task_does}
 
 -- ## Weights
 

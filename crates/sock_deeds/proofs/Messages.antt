@@ -1,5 +1,5 @@
 -- A message that a client sends, as a deed of its seat.
-use Rattle.std.proofs.Common.{◌≡◌, ◌⊎◌, ℕ, inl, inr, Option, Some, None, refl}
+use Rattle.std.proofs.Common.{ℕ, inl, inr, Option, Some, None, refl}
 use Rattle.sock_io.specs.Link.{OutState}
 use Rattle.sock_words.specs.declared.outcome.Outcome.TheVariants as outcome
 use Rattle.sock_words.specs.declared.outcome.Outcome.{Outcome}

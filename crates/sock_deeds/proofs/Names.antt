@@ -1,7 +1,5 @@
 -- Why a name led to no socket, each slot was found taken, or each request.
-use Rattle.std.proofs.Common.{◌≡◌, ◌≢◌, ◌⊎◌, ℕ, ◌+◌, ◌<◌, ◌≤◌, inl, inr, List, [], ◌∷◌, length, slice_get, Option, Some, None, refl, sym, ap, ◌∙◌, subst, arith}
-use Rattle.std.proofs.lemmas.Option.{same_Some}
-use mathlib.Core.Option.{some}
+use Rattle.std.proofs.Common.{◌≡◌, ◌⊎◌, ℕ, ◌<◌, ◌≤◌, inl, inr, List, length, Option, Some, None, refl, sym, ap, ◌∙◌, subst, arith}
 use lib.ListN.{get_elem?}
 use Rattle.atomic_table.specs.Table.{Me}
 use Rattle.sock_io.specs.declared.link.Out.{Ghosts}
@@ -10,7 +8,6 @@ use Rattle.sock_words.specs.declared.outcome.Outcome.{Outcome}
 use Rattle.sock_words.specs.declared.outcome.Outcome.TheVariants as outcome
 use Rattle.sock_words.specs.declared.plain.Plan.{Plan}
 use Rattle.sock_words.specs.declared.place_word.PlaceWord.{PlaceWord}
-use Rattle.sock_words.specs.declared.socket_id.SocketId.{SocketId}
 use Rattle.sock_words.specs.declared.vref.Vref.{Vref}
 use Rattle.sock_words.specs.Words.{socket_id_slot}
 use Rattle.sock_message.specs.Asked.{name_of}
@@ -30,7 +27,7 @@ use Rattle.rpc_client.specs.declared.holding.Held.{Held}
 use Rattle.rpc_client.specs.declared.reaching.Reached.TheVariants as reached
 use Rattle.rpc_client.specs.Failing.{SetBy, FailedBy, TriedTo}
 use Rattle.rpc_client.specs.Holding.{HeldBy}
-use Rattle.rpc_client.specs.Opening.{FoundFull, OpenedBy}
+use Rattle.rpc_client.specs.Opening.{OpenedBy}
 use Rattle.rpc_client.specs.Reaching.{ReachedBy}
 use Rattle.sock_deeds.specs.Deeds.{SentOver, MessageBy, Did, opens, sends, holds, fails, waits, DoneBy, own_number}
 use Rattle.sock_deeds.specs.Runs.{DeedRun}

@@ -30,17 +30,17 @@ use Rattle.sock_programs.specs.declared.task.Task.{Task}
 use Rattle.sock_programs.specs.Cores.{Core, link_place, lies_at}
 use Rattle.sock_programs.specs.Runs.{from_to}
 use Rattle.sock_programs.specs.Scripts.{taken_by, took_at_home}
-use Rattle.sock_programs.specs.Told.{IsTask, Became}
+use Rattle.sock_programs.specs.Told.{IsTask}
 use Rattle.sock_programs.specs.ToldCalls.{Accepted, Order, Fixed, AreOrders, IsTaken, StandsAt, StandsOn, InOwnOrder, bytes_of, label}
 use Rattle.report_fits.proofs.Lists.{before_from}
 use Rattle.sock_rule.specs.Closing.{LifeFailed, PlacesDiffer}
 use Rattle.sock_rule.specs.declared.homes.Letter.{Letter}
 use Rattle.sock_rule.specs.Faults.{faults_of}
 use Rattle.sock_message.specs.Asked.{Asked, frame_of}
-use Rattle.sock_deeds.specs.Deeds.{Did, sends, own_number}
+use Rattle.sock_deeds.specs.Deeds.{Did, sends}
 use Rattle.sock_deeds.specs.Left.{accepted_of, orders_of, homes_of}
 use Rattle.sock_deeds.specs.Runs.{IsMessage, of_send, of_call, DeedRun}
-use Rattle.sock_deeds.proofs.Accepting.{log, Sent, Sender, sender, sender_act, act_of_entry, entry_of_act, sent_for, sent_place, in_order}
+use Rattle.sock_deeds.proofs.Accepting.{log, Sender, sender, sender_act, act_of_entry, entry_of_act, sent_for, sent_place, in_order}
 use Rattle.sock_deeds.proofs.Acts.{Act, did_of}
 use Rattle.sock_deeds.proofs.Entries.{from_on, on_there, on_rises}
 use Rattle.sock_deeds.proofs.Failing.{choose}

@@ -1,7 +1,5 @@
 -- Which deeds make a life, or fail one.
-use Rattle.std.proofs.Common.{◌≡◌, ◌≢◌, ℕ, zero, suc, ◌+◌, ◌<◌, ◌≤◌, ◌⊎◌, Bool, true, false, cond, Option, Some, None, inl, inr, nat_le, List, [], ◌∷◌, ◌++◌, refl, sym, ap, ◌∙◌, subst, arith}
-use Rattle.std.specs.Prelude.{All}
-use Rattle.std.proofs.lemmas.List.Elements.{All-head, All-tail}
+use Rattle.std.proofs.Common.{◌≡◌, ℕ, ◌+◌, ◌<◌, ◌⊎◌, Bool, true, false, cond, Option, Some, None, inl, inr, nat_le, List, [], ◌∷◌, refl, sym, ap, ◌∙◌, subst, arith}
 use mathlib.Core.Logic.{dite}
 use mathlib.Core.Option.{some}
 use native.Mathlib.Decide.{ℕ_discrete, dec_lt}
@@ -13,22 +11,18 @@ use Rattle.sock_words.specs.Codes.{EFAILEDSOCKET}
 use Rattle.sock_words.specs.declared.outcome.Outcome.{Outcome}
 use Rattle.sock_words.specs.declared.outcome.Outcome.TheVariants as outcome
 use Rattle.sock_words.specs.declared.plain.Plan.{Plan}
-use Rattle.sock_words.specs.declared.socket_id.SocketId.{SocketId}
 use Rattle.sock_words.specs.Words.{socket_id_version, socket_id_slot, vref_version}
 use Rattle.sock_model.specs.declared.marks.Mark.{Mark}
 use Rattle.sock_model.specs.declared.marks.Mark.TheVariants.{Hold, Known, Saw, Met, Told, Tried, Freer, Recycling, Stored, Failer, Born, Linked}
 use Rattle.sock_model.specs.declared.marks.SlotMark.{SlotMark}
-use Rattle.sock_model.specs.declared.view.StoredWord.{StoredWord}
 use Rattle.sock_model.specs.declared.view.View.{View}
-use Rattle.sock_model.specs.Layout.{name_word, open_word, place_word}
+use Rattle.sock_model.specs.Layout.{name_word, open_word}
 use Rattle.sock_model.specs.Marks.{about, at, noted}
 use Rattle.sock_model.specs.SlotRows.{marks_of}
-use Rattle.sock_model.specs.Weights.{total, pair}
-use Rattle.slot_laws.proofs.Numbers.{pair_is}
+use Rattle.sock_model.specs.Weights.{total}
 use Rattle.slot_laws.proofs.Sums.{about-here, about-other}
 use Rattle.sock_rule.specs.Becoming.{Became}
 use Rattle.sock_rule.specs.Faults.{fault as fault_mark}
-use Rattle.sock_rule.specs.OnTable.{is_put, put_in}
 use Rattle.sock_rule.specs.Rows.{PutAt}
 use Rattle.sock_rule.specs.declared.homes.Letter.{Letter}
 use Rattle.sock_table.specs.Answers.{Held as HeldOne, GoneFrom, LinkOf}
@@ -45,7 +39,7 @@ use Rattle.write_chain.specs.Sending.{RefusedBy}
 use Rattle.rpc_client.specs.declared.holding.Held.{Held}
 use Rattle.rpc_client.specs.declared.reaching.Reached.{Reached}
 use Rattle.rpc_client.specs.declared.reaching.Reached.TheVariants as reached
-use Rattle.rpc_client.specs.Failing.{SetBy, TriedTo, FailedBy}
+use Rattle.rpc_client.specs.Failing.{TriedTo, FailedBy}
 use Rattle.rpc_client.specs.Holding.{HeldBy, DroppedBy, GaveOne}
 use Rattle.rpc_client.specs.Opening.{OpenedBy, GotNone}
 use Rattle.rpc_client.specs.Reaching.{ReachedBy}

@@ -1,5 +1,5 @@
 -- A seat that first waited for names, and what it did then.
-use Rattle.std.proofs.Common.{◌≡◌, ℕ, zero, suc, ◌+◌, ◌<◌, inl, inr, Option, Some, None, List, [], ◌∷◌, ◌++◌, length, flat_map, refl, sym, ap, ◌∙◌, subst, arith}
+use Rattle.std.proofs.Common.{◌≡◌, ℕ, zero, suc, ◌+◌, ◌<◌, inl, inr, Some, List, [], ◌∷◌, ◌++◌, flat_map, refl, sym, ap, ◌∙◌, subst, arith}
 use Rattle.std.proofs.lemmas.Option.{none-some}
 use mathlib.Core.Option.{some, some-injective, some-ne-none}
 use lib.ListN.{get_elem?}
@@ -60,16 +60,18 @@ module _ {O : Type 0} (g : Ghosts O) (state : O → OutState) (p : Plan) (P : Di
 
   pub seated : (numbers : List ℕ) (spare : ℕ) (w : View) → ((n : ℕ) → P (waits n)) → Waiting g state p names (newcomer p [] spare) w → (t : Hand) → Steps g state p P numbers record { view = w; held = [] } t → (seat : Seat (SockHome O g) View) → seat.me.0 ≡ t.view → (y : Seated g state p) × (y.seat ≡ seat) × Waited numbers y
   seated numbers spare w may a t b seat left =
-      let y : Seated g state p = record { spare = spare; deeds = a.deeds ++ b.deeds; ended = t; chain = chain_then a.deeds b.deeds record { view = newcomer p [] spare; held = [] } record { view = w; held = [] } t a.chain b.chain; seat = seat; left = left } in
-      (y, refl, record {
-        each = λ k d at. elim (append_cases a.deeds b.deeds k d at) [ inl h ↦ (let n = a.all k d h in subst P (sym n.1) (may n.0)) | inr q ↦ b.each q.0 d q.2 ];
-        numbered = flat-append numbers_of a.deeds b.deeds ∙ (ap (λ l. l ++ flat_map numbers_of b.deeds) (none_numbered a.deeds a.all) ∙ b.numbered);
-        first = λ i n at. (let d = a.each i n at in (d.0, append_first a.deeds b.deeds i d.0 d.1, d.2, λ j m e there own. behind i d.0 d.1 j m e there own));
-      })
+      let y : Seated g state p = record { spare = spare; deeds = a.deeds ++ b.deeds; ended = t; chain = chain_then a.deeds b.deeds record { view = newcomer p [] spare; held = [] } record { view = w; held = [] } t a.chain b.chain; seat = seat; left = left } in (
+        y,
+        refl,
+        record {
+          each = λ k d at. elim (append_cases a.deeds b.deeds k d at) [ inl h ↦ (let n = a.all k d h in subst P (sym n.1) (may n.0)) | inr q ↦ b.each q.0 d q.2 ];
+          numbered = flat-append numbers_of a.deeds b.deeds ∙ (ap (λ l. l ++ flat_map numbers_of b.deeds) (none_numbered a.deeds a.all) ∙ b.numbered);
+          first = λ i n at. (let d = a.each i n at in (d.0, append_first a.deeds b.deeds i d.0 d.1, d.2, λ j m e there own. behind i d.0 d.1 j m e there own));
+        },
+      )
     where
       behind : (i : ℕ) (d : Deed g state p) → get_elem? a.deeds i ≡ some d → (j m : ℕ) (e : Deed g state p) → get_elem? (a.deeds ++ b.deeds) j ≡ some e → own_number e.did ≡ Some m → i < j
       behind i d at j m e there own = elim (append_cases a.deeds b.deeds j e there) [
         | inl h ↦ absurd (let n = a.all j e h in none-some m (sym (ap own_number n.1) ∙ own))
         | inr q ↦ (let low = place_low a.deeds i d at in let place = q.1 in omega arith)
       ]
-

@@ -1,7 +1,7 @@
 -- All that is told of sockets in a run of deeds.
-use Rattle.std.proofs.Common.{◌≡◌, ◌≢◌, ◌⊎◌, ℕ, zero, suc, ◌+◌, ◌<◌, ◌≤◌, ◌==◌, ◌&&◌, Bool, true, false, cond, if◌then◌else◌, inl, inr, List, [], ◌∷◌, length, flat_map, map, sum_by, slice_get, Option, Some, None, Contains, eq-eqb, ne_eqb, refl, sym, ap, ◌∙◌, subst, arith}
+use Rattle.std.proofs.Common.{◌≡◌, ◌≢◌, ◌⊎◌, ℕ, zero, suc, ◌+◌, ◌<◌, ◌≤◌, ◌==◌, ◌&&◌, true, cond, if◌then◌else◌, inl, inr, List, [], ◌∷◌, length, flat_map, map, sum_by, slice_get, Option, Some, None, Contains, eq-eqb, ne_eqb, refl, sym, ap, ◌∙◌, subst, arith}
 use Rattle.std.proofs.lemmas.List.Sums.{sum_by-cons}
-use Rattle.std.proofs.lemmas.Option.{none-some, same_Some}
+use Rattle.std.proofs.lemmas.Option.{same_Some}
 use mathlib.Core.Logic.{dite}
 use native.Mathlib.Decide.{ℕ_discrete}
 use mathlib.Core.Option.{some}
@@ -24,12 +24,12 @@ use Rattle.sock_programs.specs.declared.task.Task.{Task}
 use Rattle.sock_programs.specs.Cores.{Core}
 use Rattle.sock_programs.specs.Runs.{from_to}
 use Rattle.sock_programs.specs.Told.{IsTask, Became, IsOpen}
-use Rattle.sock_programs.specs.ToldCalls.{Fixed, StandsOn, FoundFailed, FoundNone, MayFail, IsFailing, Why, all_accepted}
+use Rattle.sock_programs.specs.ToldCalls.{Fixed, StandsOn, FoundFailed, MayFail, IsFailing, Why, all_accepted}
 use Rattle.sock_causes.proofs.Tasks.{setup_opens}
 use Rattle.report_fits.proofs.Lists.{contains_from}
 use Rattle.rpc_client.specs.Failing.{FailedBy as FailedAs}
 use Rattle.rpc_client.specs.Holding.{HeldBy}
-use Rattle.sock_deeds.specs.Deeds.{SentOver, MessageBy, OpenedOn, Did, opens, sends, holds, drops, fails, sets, own_number, DoneBy, Deed}
+use Rattle.sock_deeds.specs.Deeds.{SentOver, MessageBy, OpenedOn, Did, opens, sends, holds, drops, fails, own_number, DoneBy, Deed}
 use Rattle.sock_deeds.specs.Left.{accepted_of}
 use Rattle.sock_deeds.specs.Runs.{IsOperation, Seated, DeedRun}
 use Rattle.sock_deeds.specs.Told.{link_if, set_links, all_set, fixed_by, IsOfSockets, ToldSockets}
@@ -38,7 +38,7 @@ use Rattle.sock_deeds.proofs.Acts.{Act, before, after, did_of, done_of}
 use Rattle.sock_deeds.proofs.Causes.{FailsNone, FoundDead, gone_cause, refused_cause, already_cause, has_life, opened_cause}
 use Rattle.sock_deeds.proofs.Drops.{WhyDrop, drop_cause}
 use Rattle.sock_deeds.proofs.Fails.{fail_for}
-use Rattle.sock_deeds.proofs.Failing.{FailedAt, FailedBy, SetBy, WhyFailed, by_name, by_id, by_link, life_failed, all_fails, each_failed, broken, are, once}
+use Rattle.sock_deeds.proofs.Failing.{FailedBy, SetBy, WhyFailed, by_name, by_id, by_link, life_failed, all_fails, each_failed, broken, are, once}
 use Rattle.sock_deeds.proofs.Flats.{flat_there}
 use Rattle.sock_deeds.proofs.Growing.{stays, over_grew}
 use Rattle.sock_deeds.proofs.Lives.{MadeHere, linked_made, lives}
