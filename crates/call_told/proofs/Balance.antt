@@ -47,17 +47,12 @@ pub balanced_each : {X : Type 0} (told : X → List Told) (view : X → View Ask
 balanced_each told view [] a = tt
 balanced_each told view (x ∷ xs) a = (a.0, balanced_each told view xs a.1)
 
-module _ {S : Type 0} (view : S → View Asked) where
-  -- over the notes of all seats
-  pub noted_all : (slot first : ℕ) (ss : List S) → noted_ends slot first (flat_map (λ (s : S). (view s).notes) ss) ≡ total (λ (s : S). noted_ends slot first (view s).notes) ss
-  noted_all slot first [] = refl
-  noted_all slot first (s ∷ ss) = let a = noted_more slot first (view s).notes (flat_map (λ (x : S). (view x).notes) ss) in let b = noted_all slot first ss in omega arith
-
-  pub balanced_all : (tellers : List (List Told)) (ss : List S) → AreBalanced tellers (map view ss) → (slot first : ℕ) → first < 4294967296 → total (told_ends (slot * 4294967296 + first)) tellers ≡ total (λ (s : S). noted_ends slot first (view s).notes) ss
-  balanced_all [] [] a slot first low = refl
-  balanced_all (t ∷ ts) (s ∷ ss) a slot first low = let x = a.0 slot first low in let y = balanced_all ts ss a.1 slot first low in omega arith
-  balanced_all [] (s ∷ ss) a slot first low = absurd a
-  balanced_all (t ∷ ts) [] a slot first low = absurd a
+-- what is told by all is what is noted in the notes of all their seats together
+pub balanced_all : (tellers : List (List Told)) (vs : List (View Asked)) → AreBalanced tellers vs → (slot first : ℕ) → first < 4294967296 → total (told_ends (slot * 4294967296 + first)) tellers ≡ noted_ends slot first (flat_map (λ (v : View Asked). v.notes) vs)
+balanced_all [] [] a slot first low = refl
+balanced_all (t ∷ ts) (v ∷ vs) a slot first low = let x = a.0 slot first low in let y = balanced_all ts vs a.1 slot first low in let z = noted_more slot first v.notes (flat_map (λ (w : View Asked). w.notes) vs) in omega arith
+balanced_all [] (v ∷ vs) a slot first low = absurd a
+balanced_all (t ∷ ts) [] a slot first low = absurd a
 
 -- ## One end
 
@@ -83,7 +78,7 @@ same_id i f j g fl gl = dite (ℕ_discrete j i)
     (λ e. subst (λ (y : ℕ). SameId i f y g) (sym e) (same_first i f g))
     (λ n. only-else (i * 4294967296 + f) (j * 4294967296 + g) (λ q. n (omega (arith, q, fl, gl))) ∙ sym (if_not (eqb j i) (only f g) (ne_eqb j i n)))
 
-noted_one : (slot first at of_ : ℕ) → noted_ends slot first (one at (Ended of_)) ≡ cond (eqb at slot) (only first of_) 0
+pub noted_one : (slot first at of_ : ℕ) → noted_ends slot first (one at (Ended of_)) ≡ cond (eqb at slot) (only first of_) 0
 noted_one slot first at of_ = elim (eqb at slot) as (λ b. total (is_ended {C = Asked} first) (cond b (Ended of_ ∷ []) []) ≡ cond b (only first of_) 0) [ true ↦ omega arith | false ↦ refl ]
 
 -- one end is told where one is noted

@@ -5,10 +5,17 @@ pub mod Gains
 pub mod Ending
 pub mod Linked
 pub mod Clients
+pub mod Making
 pub mod Answering
 pub mod Backs
+pub mod Growing
 pub mod Balance
 pub mod Tallies
+pub mod Resting
+pub mod Ends
 pub mod Runs
+pub mod Moves
+pub mod Coming
 pub mod Once
+pub mod Least
 pub mod Shown

@@ -49,7 +49,7 @@ module _ {O : Type 0} {g : Ghosts O} (state : O → OutState) (p : Plan) (q : id
       by (inl x) = inl x
       by (inr a) = inr (λ slot first low. let x = a slot first low in let y = only_failures (slot * 4294967296 + first) c.calls.told.items d.calls.told.items (ended_fails state p q c d r).ended in omega arith)
 
-  none_left : (s t : Stand g) (xs : List Task) → xs ≡ [] → LeftAll p xs s t → t ≡ s
+  pub none_left : (s t : Stand g) (xs : List Task) → xs ≡ [] → LeftAll p xs s t → t ≡ s
   none_left s t xs e h = subst (λ (l : List Task). LeftAll p l s t) e h
 
   -- memory was not wanting where the run says so

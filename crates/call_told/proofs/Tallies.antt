@@ -1,5 +1,5 @@
--- Whoever reads links, and ends the calls that are left, tells of each id as many ends as its seat noted, unless memory was wanting.
-use Rattle.std.proofs.Common.{◌≡◌, ℕ, zero, suc, ◌+◌, ◌*◌, ◌<◌, ◌⊎◌, inl, inr, Bool, true, false, List, [], ◌∷◌, ◌++◌, Some, None, pos, negsuc, refl, ◌∙◌, ap, arith}
+-- Whoever reads links, and ends the calls that are left, tells of each id as many ends as its seat noted, unless memory was wanting; and what the seat knows it knows still.
+use Rattle.std.proofs.Common.{◌≡◌, ℕ, zero, suc, ◌+◌, ◌*◌, ◌<◌, ◌⊎◌, inl, inr, Bool, true, false, List, [], ◌∷◌, ◌++◌, Some, None, pos, negsuc, refl, ◌∙◌, ap, sym, subst, arith}
 use Rattle.std.specs.Prelude.{ℤ, Option, position, ◌==◌}
 use Rattle.std.proofs.Math.Nat.{mod-lt}
 use Rattle.sock_words.specs.Words.{at_word_link}
@@ -11,19 +11,18 @@ use Rattle.brpc_model.specs.Meta.{ResponseMeta}
 use Rattle.sock_io.specs.declared.link.Ends.{Ends}
 use Rattle.sock_io.specs.Link.{OutState, InState}
 use Rattle.corr_core.specs.Word.{Parts, parts}
-use Rattle.corr_core.specs.Law.{total, only, is_ended}
+use Rattle.corr_core.specs.Law.{only, is_ended}
 use Rattle.corr_core.specs.declared.marks.Note.{Note}
 use Rattle.corr_core.specs.declared.marks.Note.TheVariants.{Tried, Made, Ended, Locker, Queued, Attempt, Saw}
 use Rattle.corr_core.specs.declared.marks.Noted.{Noted}
 use Rattle.corr_core.specs.declared.marks.Plan.{Plan}
 use Rattle.corr_core.specs.declared.marks.Token.{Token}
 use Rattle.corr_core.specs.declared.marks.View.{View}
-use Rattle.id_rule.specs.Lawful.{at_word, with_kept}
+use Rattle.id_rule.specs.Lawful.{at_word, call_word, with_kept}
 use Rattle.corr_id.specs.declared.posts.Posted.{Posted}
 use Rattle.corr_id.specs.declared.posts.Posted.TheVariants.{Locked as HasLock, Queued as IsQueued, Gone, Stale, Crowded}
 use Rattle.corr_id.specs.Calls.{slot_of, version_of, error_in, is_event, one, Quiet, Did, GotLock}
 use Rattle.corr_id.specs.Posts.{PostOk}
-use Rattle.corr_id.proofs.Seats.{total_append}
 use Rattle.sock_message.specs.Asked.{Asked}
 use Rattle.prpc_frame.specs.Meaning.{frame_of}
 use Rattle.prpc_frame.specs.declared.frame.Frame.{Frame}
@@ -37,8 +36,11 @@ use Rattle.rpc_reader.specs.Linked.{ReadServed, ReadLinks}
 use Rattle.rpc_reader.specs.Resting.{HadEnded, EndedLast, OneEnded, RestEnded}
 use Rattle.call_client.proofs.Telling.{quiet_total, did_total, none_of_one}
 use Rattle.call_told.specs.Once.{ends_of, told_ends}
-use Rattle.call_told.specs.Rested.{AllRested}
 use Rattle.call_told.proofs.Balance.{noted_ends, Accounted, told_more, noted_more, one_end}
+use Rattle.call_told.specs.Least.{is_locked_for}
+use Rattle.call_told.proofs.Ends.{HasLocked, got_locked, IsEndOf, AreEnds, ends_later}
+use Rattle.call_told.proofs.Lists.{all_both}
+use Rattle.call_told.proofs.Growing.{Grows, grows_same, grows_then, quiet_grows, did_grows, ended_grows, post_grows, kept_grows}
 
 abbrev pub Accounts : Books → Books → Type 0
 Accounts b b' = (b'.starved ≡ true) ⊎ Accounted b.told b.view.notes b'.told b'.view.notes
@@ -47,9 +49,13 @@ Accounts b b' = (b'.starved ≡ true) ⊎ Accounted b.told b.view.notes b'.told 
 pub record Tally (b b' : Books) : Type 0 where
   pub starved : b.starved ≡ true → b'.starved ≡ true
   pub accounts : Accounts b b'
+  -- the seat stored no word of an operation
+  pub grows : (x : ℕ) → Grows x 0 b.view b'.view
+  -- what it told more are ends of calls that it had locked
+  pub ends : AreEnds b.view b.told → AreEnds b'.view b'.told
 
 pub tally_then : (a b c : Books) → Tally a b → Tally b c → Tally a c
-tally_then a b c s t = record { starved = λ h. t.starved (s.starved h); accounts = by s.accounts t.accounts }
+tally_then a b c s t = record { starved = λ h. t.starved (s.starved h); accounts = by s.accounts t.accounts; grows = λ x. grows_then x 0 0 0 a.view b.view c.view (omega arith) (s.grows x) (t.grows x); ends = λ h. t.ends (s.ends h) }
   where
     by : Accounts a b → Accounts b c → Accounts a c
     by (inl x) y = inl (t.starved x)
@@ -61,15 +67,15 @@ abbrev SameEnds : List (Noted Asked) → List (Noted Asked) → Type 0
 SameEnds ns ms = (slot first : ℕ) → noted_ends slot first ms ≡ noted_ends slot first ns
 
 -- nor told
-tally_quiet : (b b' : Books) → (b.starved ≡ true → b'.starved ≡ true) → b'.told ≡ b.told → SameEnds b.view.notes b'.view.notes → Tally b b'
-tally_quiet b b' s e h = record { starved = s; accounts = inr (λ slot first low. let x = ap (told_ends (slot * 4294967296 + first)) e in let y = h slot first in omega arith) }
+tally_quiet : (b b' : Books) → (b.starved ≡ true → b'.starved ≡ true) → b'.told ≡ b.told → SameEnds b.view.notes b'.view.notes → ((x : ℕ) → Grows x 0 b.view b'.view) → Tally b b'
+tally_quiet b b' s e h grows = record { starved = s; accounts = inr (λ slot first low. let x = ap (told_ends (slot * 4294967296 + first)) e in let y = h slot first in omega arith); grows = grows; ends = λ a. subst (AreEnds b'.view) (sym e) (ends_later b.view b'.view (grows 0).notes b.told a) }
 
 pub tally_same : (b b' : Books) → b' ≡ b → Tally b b'
-tally_same b b' e = tally_quiet b b' (λ h. ap (λ (x : Books). x.starved) e ∙ h) (ap (λ (x : Books). x.told) e) (λ slot first. ap (λ (x : Books). noted_ends slot first x.view.notes) e)
+tally_same b b' e = tally_quiet b b' (λ h. ap (λ (x : Books). x.starved) e ∙ h) (ap (λ (x : Books). x.told) e) (λ slot first. ap (λ (x : Books). noted_ends slot first x.view.notes) e) (λ x. grows_same x 0 b.view b'.view (ap (λ (y : Books). y.view) e))
 
 -- only the view is another
-tally_seen : (b : Books) (v : View Asked) → SameEnds b.view.notes v.notes → Tally b (record b { view = v })
-tally_seen b v h = tally_quiet b (record b { view = v }) (λ s. s) refl h
+tally_seen : (b : Books) (v : View Asked) → SameEnds b.view.notes v.notes → ((x : ℕ) → Grows x 0 b.view v) → Tally b (record b { view = v })
+tally_seen b v h grows = tally_quiet b (record b { view = v }) (λ s. s) refl h grows
 
 -- ## No call ended by what the seat noted
 
@@ -117,8 +123,8 @@ ending_is id ended f = outcome_is id ended f f.meta.compress_type f.meta.respons
 pub version_low : (id : ℕ) → version_of id < 4294967296
 version_low id = let some : 0 < 4294967296 = omega arith in mod-lt id some
 
-ended_tally : (slot : ℕ) (w : Parts) (call : Asked) (by : Outcome) (b b' : Books) → w.first < 4294967296 → ((id : ℕ) → ends_of id by ≡ only id (id_of slot w)) → EndedAs slot w call by b b' → Tally b b'
-ended_tally slot w call by b b' low is e = tallies e.told
+ended_tally : (slot : ℕ) (w : Parts) (call : Asked) (by : Outcome) (b b' : Books) → w.first < 4294967296 → ((id : ℕ) → ends_of id by ≡ only id (id_of slot w)) → HasLocked slot w.first call.operation b.view → EndedAs slot w call by b b' → Tally b b'
+ended_tally slot w call by b b' low is locked e = tallies e.told
   where
     now : Told
     now = record { number = call.operation; outcome = by }
@@ -130,9 +136,18 @@ ended_tally slot w call by b b' low is e = tallies e.told
         let y : noted_ends i f b'.view.notes ≡ noted_ends i f (one slot (Ended w.first)) + noted_ends i f b.view.notes = ap (noted_ends i f) e.ended.notes ∙ noted_more i f (one slot (Ended w.first)) b.view.notes in
         let z = is id in let o = one_end i f slot w.first fl low in omega arith
 
+    grows : (x : ℕ) → Grows x 0 b.view b'.view
+    grows x = ended_grows x slot b.view b'.view [] (one slot (Ended w.first)) e.ended
+
+    still : AreEnds b.view b.told → AreEnds b'.view b.told
+    still a = ends_later b.view b'.view (grows 0).notes b.told a
+
+    one_more : IsEndOf b'.view now
+    one_more = record { slot = slot; first = w.first; low = low; is_end = is; locked = (let a = (grows 0).notes slot (is_locked_for w.first call.operation) in omega arith) }
+
     tallies : ToldBy call.operation by b.told b.starved b'.told b'.starved → Tally b b'
-    tallies (inl t) = record { starved = λ h. t.1 ∙ h; accounts = inr (accounted t.0) }
-    tallies (inr t) = record { starved = λ h. t.1; accounts = inl t.1 }
+    tallies (inl t) = record { starved = λ h. t.1 ∙ h; accounts = inr (accounted t.0); grows = grows; ends = λ a. subst (AreEnds b'.view) (sym t.0) (all_both (IsEndOf b'.view) b.told (now ∷ []) (still a) (one_more, tt)) }
+    tallies (inr t) = record { starved = λ h. t.1; accounts = inl t.1; grows = grows; ends = λ a. subst (AreEnds b'.view) (sym t.0) (still a) }
 
 -- ## Frames
 
@@ -140,8 +155,8 @@ module _ (slots : ℕ) (f : Frame) (b b' : Books) where
   answered_tally : AnsweredBy slots f b b' → Tally b b'
   answered_tally a =
       let u : Books = record b { view = a.locked } in
-      tally_then b u b' (tally_seen b a.locked (got_ends (slot_in f) b.view a.locked a.found a.word a.call a.got))
-      (ended_tally (slot_in f) a.word a.call (ending_of (id_of (slot_in f) a.word) (frame_of f)) u b' (let x = a.version.0 in let y = version_low f.meta.correlation_id in omega arith) (λ id. ending_is id (id_of (slot_in f) a.word) (frame_of f)) a.ended)
+      tally_then b u b' (tally_seen b a.locked (got_ends (slot_in f) b.view a.locked a.found a.word a.call a.got) (λ x. did_grows x (slot_in f) b.view a.locked _ _ a.got.did))
+      (ended_tally (slot_in f) a.word a.call (ending_of (id_of (slot_in f) a.word) (frame_of f)) u b' (let x = a.version.0 in let y = version_low f.meta.correlation_id in omega arith) (λ id. ending_is id (id_of (slot_in f) a.word) (frame_of f)) (got_locked (slot_in f) b.view a.locked a.found a.word a.call a.got) a.ended)
 
   kept_starved : (c : Bool) → KeptIf c f b.early b.starved b'.early b'.starved → b.starved ≡ true → b'.starved ≡ true
   kept_starved true (inl k) h = k.1 ∙ h
@@ -149,7 +164,7 @@ module _ (slots : ℕ) (f : Frame) (b b' : Books) where
   kept_starved false k h = k.1 ∙ h
 
   lacked_tally : LackedBy f b b' → Tally b b'
-  lacked_tally l = tally_quiet b b' (kept_starved (is_early (version_in f) (parts l.word)) l.kept) l.told (quiet_ends b.view b'.view l.quiet)
+  lacked_tally l = tally_quiet b b' (kept_starved (is_early (version_in f) (parts l.word)) l.kept) l.told (quiet_ends b.view b'.view l.quiet) (λ x. quiet_grows x b.view b'.view l.quiet)
 
   met_tally : (a : Bool) → MetIf a slots f b b' → Tally b b'
   met_tally true (inl a) = answered_tally a
@@ -163,32 +178,32 @@ frames_tally slots (f ∷ fs) b b' m = tally_then b m.0 b' (met_tally slots f b 
 -- ## Codes
 
 module _ (code : ℕ) where
-  lost_tally : (slot : ℕ) (w : Parts) (call : Asked) (b b' : Books) → w.first < 4294967296 → LockLost slot w call code b b' → Tally b b'
-  lost_tally slot w call b b' low lost = by (position (is_for slot w) b.early) lost
+  lost_tally : (slot : ℕ) (w : Parts) (call : Asked) (b b' : Books) → w.first < 4294967296 → HasLocked slot w.first call.operation b.view → LockLost slot w call code b b' → Tally b b'
+  lost_tally slot w call b b' low locked lost = by (position (is_for slot w) b.early) lost
     where
       by : (o : Option ℕ) → LostBy slot w call code o b b' → Tally b b'
-      by None l = ended_tally slot w call (CallFailed (id_of slot w) code) b b' low (λ id. refl) l.0
-      by (Some i) l = ended_tally slot w call (ending_of (id_of slot w) (frame_of l.0)) b b' low (λ id. ending_is id (id_of slot w) (frame_of l.0)) l.3
+      by None l = ended_tally slot w call (CallFailed (id_of slot w) code) b b' low (λ id. refl) locked l.0
+      by (Some i) l = ended_tally slot w call (ending_of (id_of slot w) (frame_of l.0)) b b' low (λ id. ending_is id (id_of slot w) (frame_of l.0)) locked l.3
 
-  posted_to : (answer : Posted Asked) (b b' : Books) → PostedTo code answer b b' → Tally b b'
-  posted_to (HasLock k) b b' h = lost_tally k.slot (parts k.word.0) k.content b b' (let low = k.fits.low in omega arith) h
-  posted_to IsQueued b b' h = tally_same b b' h
-  posted_to (Gone found) b b' h = tally_same b b' h
-  posted_to (Stale current) b b' h = tally_same b b' h
-  posted_to (Crowded first second) b b' h = tally_same b b' h
+  posted_to : (slots : ℕ) (v : View Asked) (id : ℕ) (attempt : Option ℕ) (answer : Posted Asked) (b b' : Books) → PostOk slots v b.view id code attempt answer → PostedTo code answer b b' → Tally b b'
+  posted_to slots v id attempt (HasLock k) b b' post h = lost_tally k.slot (parts k.word.0) k.content b b' (let low = k.fits.low in omega arith) (got_locked k.slot v b.view post.4.0 (parts k.word.0) k.content post.4.1) h
+  posted_to slots v id attempt IsQueued b b' post h = tally_same b b' h
+  posted_to slots v id attempt (Gone found) b b' post h = tally_same b b' h
+  posted_to slots v id attempt (Stale current) b b' post h = tally_same b b' h
+  posted_to slots v id attempt (Crowded first second) b b' post h = tally_same b b' h
 
   posted_if : (a : Bool) (slots w : ℕ) (b b' : Books) → PostedIf a slots code w b b' → Tally b b'
   posted_if false slots w b b' h = tally_same b b' h
   posted_if true slots w b b' h =
       let u : Books = record b { view = h.seen } in
-      tally_then b u b' (tally_seen b h.seen (post_ends slots b.view h.seen (call_at w) code (attempt_at w) h.answer h.posted)) (posted_to h.answer u b' h.then_)
+      tally_then b u b' (tally_seen b h.seen (post_ends slots b.view h.seen (call_at w) code (attempt_at w) h.answer h.posted) (λ x. post_grows x slots b.view h.seen (call_at w) code (attempt_at w) h.answer h.posted)) (posted_to slots b.view (call_at w) (attempt_at w) h.answer u b' h.posted h.then_)
 
   posted_at : (p : Plan) (link operation : ℕ) (found : Option AtWord) (b b' : Books) → PostedAt p link code operation found b b' → Tally b b'
   posted_at p link operation None b b' h = tally_same b b' h
   posted_at p link operation (Some w) b b' h =
       let v = with_kept (at_word p operation) false w.0 b.view in
       let u : Books = record b { view = v } in
-      tally_then b u b' (tally_seen b v (λ slot first. refl)) (posted_if (at_word_link w.0 == link) p.slots w.0 u b' h)
+      tally_then b u b' (tally_seen b v (λ slot first. refl) (λ x. kept_grows x 0 b.view v (at_word p operation) false w.0 refl (omega arith))) (posted_if (at_word_link w.0 == link) p.slots w.0 u b' h)
 
   posted_all : (p : Plan) (link : ℕ) (os : List ℕ) (b b' : Books) → PostedAll p link code os b b' → Tally b b'
   posted_all p link [] b b' h = tally_same b b' h
@@ -196,41 +211,25 @@ module _ (code : ℕ) where
 
   -- ## What is left
 
-  rest_one : (p : Plan) (operation : ℕ) (v w : View Asked) (b b' : Books) → OneEnded p code operation v w b b' → Tally b b'
-  rest_one p operation v w b b' (inl n) = tally_same b b' n.books
-  rest_one p operation v w b b' (inr n) = by n.ends
-    where
-      by : HadEnded p.slots n.id b b' ⊎ EndedLast p.slots code n.id b b' → Tally b b'
-      by (inl h) = tally_quiet b b' (λ s. ap (λ (x : Books). x.starved) h.same ∙ s) (ap (λ (x : Books). x.told) h.same) (quiet_ends b.view b'.view h.quiet)
-      by (inr l) =
-          let u : Books = record b { view = l.locked } in
-          tally_then b u b' (tally_seen b l.locked (got_ends (slot_of n.id) b.view l.locked l.found l.word l.call l.got))
-          (lost_tally (slot_of n.id) l.word l.call u b' (let x = l.range.0 in let y = version_low n.id in omega arith) l.lost)
+  module _ (p : Plan) where
+    -- what becomes of the call of an id
+    pub id_tally : (id : ℕ) (b b' : Books) → HadEnded p.slots id b b' ⊎ EndedLast p.slots code id b b' → Tally b b'
+    id_tally id b b' (inl h) = tally_quiet b b' (λ s. ap (λ (x : Books). x.starved) h.same ∙ s) (ap (λ (x : Books). x.told) h.same) (quiet_ends b.view b'.view h.quiet) (λ x. quiet_grows x b.view b'.view h.quiet)
+    id_tally id b b' (inr l) =
+        let u : Books = record b { view = l.locked } in
+        tally_then b u b' (tally_seen b l.locked (got_ends (slot_of id) b.view l.locked l.found l.word l.call l.got) (λ x. did_grows x (slot_of id) b.view l.locked _ _ l.got.did))
+        (lost_tally (slot_of id) l.word l.call u b' (let x = l.range.0 in let y = version_low id in omega arith) (got_locked (slot_of id) b.view l.locked l.found l.word l.call l.got) l.lost)
 
-  pub rest_accounts : (p : Plan) (os : List ℕ) (v w : View Asked) (b b' : Books) → RestEnded p code os v w b b' → Tally b b'
-  rest_accounts p [] v w b b' h = tally_same b b' h.1
-  rest_accounts p (o ∷ os) v w b b' h = tally_then b h.1 b' (rest_one p o v h.0 b h.1 h.2) (rest_accounts p os h.0 w h.1 b' h.3)
+    pub noted_tally : (operation id : ℕ) (b : Books) (seen : View Asked) → seen ≡ with_kept (call_word p operation) false id b.view → Tally b (record b { view = seen })
+    noted_tally operation id b seen e = tally_seen b seen (λ slot first. ap (λ (y : View Asked). noted_ends slot first y.notes) e) (λ x. kept_grows x 0 b.view seen (call_word p operation) false id e (omega arith))
 
-  -- the seat that asked noted nothing
-  one_noted : (p : Plan) (operation : ℕ) (v w : View Asked) (b b' : Books) → OneEnded p code operation v w b b' → w.notes ≡ v.notes
-  one_noted p operation v w b b' (inl n) = ap (λ (x : View Asked). x.notes) n.same
-  one_noted p operation v w b b' (inr n) = ap (λ (x : View Asked). x.notes) n.kept
+    pub one_tally : (operation : ℕ) (b b' : Books) → OneEnded p code operation b b' → Tally b b'
+    one_tally operation b b' (inl n) = tally_same b b' (n.same ∙ ap (λ (v : View Asked). record b { view = v }) n.view)
+    one_tally operation b b' (inr n) = let u : Books = record b { view = n.seen } in tally_then b u b' (noted_tally operation n.id b n.seen n.kept) (id_tally n.id u b' n.ends)
 
-  pub rest_notes : (p : Plan) (os : List ℕ) (v w : View Asked) (b b' : Books) → RestEnded p code os v w b b' → w.notes ≡ v.notes
-  rest_notes p [] v w b b' h = ap (λ (x : View Asked). x.notes) h.0
-  rest_notes p (o ∷ os) v w b b' h = rest_notes p os h.0 w h.1 b' h.3 ∙ one_noted p o v h.0 b h.1 h.2
-
-  module _ {S : Type 0} (view : S → View Asked) (p : Plan) (os : List ℕ) where
-    pub rests_account : (ss left : List S) (b b' : Books) → AllRested view p code os ss left b b' → Tally b b'
-    rests_account [] left b b' h = tally_same b b' h.1
-    rests_account (s ∷ ss) left b b' h = tally_then b h.2 b' (rests_account ss h.1 b h.2 h.4) (rest_accounts p os (view s) (view h.0) h.2 b' h.5)
-
-    pub rests_note : (ss left : List S) (b b' : Books) → AllRested view p code os ss left b b' → (slot first : ℕ) → total (λ (s : S). noted_ends slot first (view s).notes) left ≡ total (λ (s : S). noted_ends slot first (view s).notes) ss
-    rests_note [] left b b' h slot first = ap (total (λ (s : S). noted_ends slot first (view s).notes)) h.0
-    rests_note (s ∷ ss) left b b' h slot first =
-        let noted : S → ℕ = λ s. noted_ends slot first (view s).notes in
-        let a = ap (total noted) h.3 in let c = total_append noted h.1 (h.0 ∷ []) in
-        let x = ap (noted_ends slot first) (rest_notes p os (view s) (view h.0) h.2 b' h.5) in let y = rests_note ss h.1 b h.2 h.4 slot first in omega arith
+    pub rest_accounts : (os : List ℕ) (b b' : Books) → RestEnded p code os b b' → Tally b b'
+    rest_accounts [] b b' h = tally_same b b' h
+    rest_accounts (o ∷ os) b b' h = tally_then b h.0 b' (one_tally o b h.0 h.1) (rest_accounts os h.0 b' h.2)
 
 -- ## Links
 

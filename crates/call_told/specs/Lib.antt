@@ -1,3 +1,3 @@
 pub mod Answers
 pub mod Once
-pub mod Rested
+pub mod Least

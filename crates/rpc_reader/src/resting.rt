@@ -7,26 +7,23 @@ ghost use Rattle.rpc_reader.specs.Resting.{HadEnded, EndedLast, OneEnded, RestEn
 use crate::books::AnswerSeat;
 use crate::posting::end_lost;
 use call_table::Call;
-use corr_id::{IdSeat, IdTable};
+use corr_id::IdTable;
 use std::sync::Wait;
 
-/// The call of this operation ends, unless it has ended or never began. The seat that asks for its id is another than the reader's.
+/// The call of this operation ends, unless it has ended or never began.
 fn end_one<R: Wait>(
     rt: &R,
     ids: &IdTable<Call>,
     calls: &mut AnswerSeat,
-    asking: &mut IdSeat<Call>,
     operation: u16,
     code: u16,
 )
     requires seat { IsOpen ids.now.table.shared.table_id calls.old.seat }
-    requires asking { IsOpen ids.now.table.shared.table_id asking.old }
     requires operation { operation < ids.now.plan.operations }
     ensures ids { Rests calls.old.seat calls.new.seat }
-    ensures asks { Rests asking.old asking.new }
-    ensures ended { OneEnded ids.now.plan code operation asking.old.me.0 asking.new.me.0 (books calls.old) (books calls.new) }
+    ensures ended { OneEnded ids.now.plan code operation (books calls.old) (books calls.new) }
 {
-    let Some(id) = ids.noted(asking, operation) else {
+    let Some(id) = ids.noted(&mut calls.seat, operation) else {
         return;
     };
     if let Ok(lock) = ids.lock(rt, &mut calls.seat, id) {
@@ -35,23 +32,20 @@ fn end_one<R: Wait>(
 }
 
 /// Each call of these operations that hasn't ended ends: with the first response that was kept for it, or with the code. Their ids
-/// are those that the asking seat finds, which knows at least of those that it noted itself.
+/// are those that the seat finds, which knows at least of those that it noted itself, or a seat that it took in.
 pub fn end_rest<R: Wait>(
     rt: &R,
     ids: &IdTable<Call>,
     calls: &mut AnswerSeat,
-    asking: &mut IdSeat<Call>,
     operations: &[u16],
     code: u16,
 )
     requires seat { IsOpen ids.now.table.shared.table_id calls.old.seat }
-    requires asking { IsOpen ids.now.table.shared.table_id asking.old }
     requires operations { All (λ o. o < ids.now.plan.operations) operations.now }
     ensures ids { Rests calls.old.seat calls.new.seat }
-    ensures asks { Rests asking.old asking.new }
-    ensures rest { RestEnded ids.now.plan code operations.now asking.old.me.0 asking.new.me.0 (books calls.old) (books calls.new) }
+    ensures rest { RestEnded ids.now.plan code operations.now (books calls.old) (books calls.new) }
 {
     'rests: for operation in operations {
-        end_one(rt, ids, calls, asking, *operation, code);
+        end_one(rt, ids, calls, *operation, code);
     }
 }

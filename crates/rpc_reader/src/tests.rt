@@ -184,7 +184,7 @@ fn a_call_that_is_left_ends_with_the_code(rt: HostRuntime) -> Result<(), Fail> {
     let mut pool = BlockPool::new(rt.alloc());
     let call = call_of(rt.alloc(), &mut pool)?;
     assert!(&rt; make_noted(&table, &mut client, call));
-    end_rest(&rt, &table, &mut calls, &mut client, &[0], 1014);
+    end_rest(&rt, &table, &mut calls, &[0], 1014);
     assert!(&rt; is_failed(calls.told.as_slice(), 1014));
     Ok(())
 }

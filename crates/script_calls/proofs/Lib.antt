@@ -1,9 +1,12 @@
-pub mod Placing
 pub mod Numbers
 pub mod MayCall
 pub mod Resting
 pub mod Clients
+pub mod Asked
 pub mod Answered
 pub mod Shown
 pub mod Reports
 pub mod Joinless
+pub mod Said
+pub mod Began
+pub mod Each

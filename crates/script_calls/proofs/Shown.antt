@@ -1,7 +1,7 @@
 -- No call is told twice in a run, and so no two outcomes of its report show the end of one call.
-use Rattle.std.proofs.Common.{ℕ, ◌+◌, ◌≤◌, List, [], ◌∷◌, ◌++◌, append_assoc, map, Some, None, replicate, refl, sym, ap, subst, arith}
+use Rattle.std.proofs.Common.{◌≡◌, ℕ, ◌+◌, ◌≤◌, List, [], ◌∷◌, ◌++◌, append_assoc, map, Some, None, replicate, refl, sym, ap, ◌∙◌, subst, arith}
 use Rattle.std.specs.Prelude.{Option, slice_set}
-use Rattle.std.specs.List.{AllByRecursion}
+use Rattle.std.specs.List.{AllByRecursion, flat_map}
 use Rattle.sock_words.specs.Codes.{EEOF}
 use Rattle.sock_words.specs.declared.outcome.Outcome.{Outcome}
 use Rattle.sock_io.specs.declared.link.Ends.{Ends}
@@ -11,23 +11,21 @@ use Rattle.corr_core.specs.declared.marks.Plan.{Plan}
 use Rattle.corr_core.specs.declared.marks.View.{View}
 use Rattle.sock_message.specs.Asked.{Asked}
 use Rattle.rpc_client.specs.declared.acting.Told.{Told}
-use Rattle.rpc_reader.specs.Books.{Books}
 use Rattle.script_threads.specs.Saying.{said_by, said_by_each}
 use Rattle.call_told.specs.Answers.{IsOwn}
 use Rattle.call_told.specs.Once.{told_ends, ToldOnce, shows, ShownOnce}
-use Rattle.call_told.specs.Rested.{AllRested}
 use Rattle.call_told.proofs.Balance.{AreBalanced}
 use Rattle.call_told.proofs.Once.{told_once}
 use Rattle.call_told.proofs.Shown.{shown_none, shown_set, shown_once}
-use Rattle.script_calls.specs.Reading.{IdSeat, EachRested, begins, HasRead}
+use Rattle.script_calls.specs.Reading.{IdSeat, begins, HasRead}
 use Rattle.script_calls.specs.Told.{outcomes_of}
 
-abbrev view_of : IdSeat → View Asked
+abbrev pub view_of : IdSeat → View Asked
 view_of s = s.me.0
 
-rested_all : (p : Plan) (code : ℕ) (os : List ℕ) (ss ts : List IdSeat) (b b' : Books) → EachRested p code os ss ts b b' → AllRested view_of p code os ss ts b b'
-rested_all p code os [] left b b' h = h
-rested_all p code os (s ∷ ss) left b b' h = (h.0, h.1, h.2, h.3, rested_all p code os ss h.1 b h.2 h.4, h.5)
+pub flat_mapped : {A B C : Type 0} (f : A → B) (g : B → List C) (xs : List A) → flat_map (λ x. g (f x)) xs ≡ flat_map g (map f xs)
+flat_mapped f g [] = refl
+flat_mapped f g (x ∷ xs) = ap (λ l. g (f x) ++ l) (flat_mapped f g xs)
 
 -- ## Put together by the numbers of operations
 
@@ -50,8 +48,8 @@ module _ {O I P : Type 0} (out : O → OutState) (inn : I → InState) (q : Plan
   read_once : (seats : List IdSeat) (es es' : List (Ends O I P)) (ended : List (List Told)) (told : List Told) → AreBalanced ended (map view_of seats) → HasRead out inn q operations seats es es' told → ToldOnce q.slots (ended ++ told ∷ [])
   read_once seats es es' ended told balanced h =
       subst (λ (t : List Told). ToldOnce q.slots (ended ++ t ∷ [])) (sym h.told_is)
-      (told_once view_of out inn q operations EEOF ended h.main h.asking h.asked h.left es es' (begins h.main) h.between h.last _ h.words
-      (subst (λ (l : List IdSeat). AreBalanced ended (map view_of l)) h.seats_are balanced) refl refl h.read (rested_all q EEOF operations h.asking h.asked h.between h.last h.rested) h.calm h.left_is h.closing)
+      (told_once out inn q operations EEOF ended (map view_of seats) es es' (begins h.main) h.between h.last h.last.view.kept h.words
+      balanced (h.took.notes ∙ flat_mapped view_of (λ (v : View Asked). v.notes) seats) refl h.read h.rest h.calm h.closing)
 
   -- the outcomes of clients that tell no end of a call of their own operations, with what main told behind them
   pub run_shown : (n : ℕ) (told ended : List (List Told)) (last : List Told) (seats : List IdSeat) (es es' : List (Ends O I P)) → AllByRecursion (λ ts. AllByRecursion IsOwn ts) told → AreBalanced ended (map view_of seats) → HasRead out inn q operations seats es es' last

@@ -1,5 +1,4 @@
 pub mod Built
-pub mod Places
 pub mod Ready
 pub mod Reading
 pub mod Told

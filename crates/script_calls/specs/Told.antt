@@ -42,10 +42,20 @@ pub record IsCallText (script : List Item) (text : List ℕ) (ends : List LinkEn
   pub places : List PlaceWord
   pub one_each : length outcomes ≡ length (operations script)
   pub reported : IsReported script text outcomes places ends
-  -- each answer among them is a whole response that one of these links gave
-  pub answered : AreAnsweredBy outcomes ends
+  -- each answer among them is that of a call, and a whole response to it that one of these links gave
+  pub answered : AreAnsweredBy (operations script) outcomes ends
   -- no two operations have the end of one call as their outcome, of those whose ids are in the slots that the calls of the script have
   pub once : ShownOnce (length (calls script)) outcomes
+
+-- the clients of the script left this: what they told of their own operations and of the calls that they ended, the place words, and their seats of the ids
+pub record IsLeft {O : Type 0} (g : Ghosts O) (out : O → OutState) (script : List Item) (told ended : List (List Told)) (places : List PlaceWord) (seats : List IdSeat) : Type 0 where
+  pub setup : List Task
+  pub clients : List (List Task)
+  pub tasks : setup ∷ clients ≡ all_tasks script
+  pub opened : List ℕ
+  pub vrefs : List Vref
+  pub outs : List O
+  pub ran : RanOn g out (plan_of script) (length (calls script)) setup clients opened told ended places vrefs outs (map (λ (s : IdSeat). s.me.0) seats)
 
 -- the link gave nothing so far
 abbrev pub HasGivenNone : {O I P : Type 0} → (I → InState) → Ends O I P → Type 0

@@ -4,13 +4,9 @@
 
 mod asking;
 mod built;
-mod places;
 mod reading;
 mod reporting;
 mod run;
 
 pub use built::is_runnable;
 pub use run::run_calls_on_threads;
-
-#[cfg(test)]
-mod tests;

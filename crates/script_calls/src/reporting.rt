@@ -1,11 +1,11 @@
 // The report of a run with calls.
 ghost use Rattle.std.specs.Prelude.{◌≡◌, IfOk, IfSome, map};
+ghost use Rattle.brpc_model.specs.PlaceWords.{ArePlaces, HasEachOutcome};
 ghost use Rattle.sock_io.specs.declared.link.Ends.{Ends};
 ghost use Rattle.sock_io.specs.Link.{end_of};
 ghost use Rattle.script_threads.specs.Halves.{AreTaken};
 ghost use Rattle.script_calls.specs.Told.{IsReported, outcomes_of};
 
-use crate::places::{are_places, has_each_outcome};
 use rpc_client::Told;
 use script_items::Script;
 use script_report::print_report;
@@ -53,7 +53,7 @@ fn taken_by<O: Out, I: In, P: Peer>(
     Ok(took)
 }
 
-/// The text of the report. Where no report can be made of these place words and outcomes, that is answered as want of memory.
+/// The text of the report of these outcomes and place words.
 pub fn report<O: Out, I: In, P: Peer>(
     alloc: Global,
     script: &Script,
@@ -61,15 +61,10 @@ pub fn report<O: Out, I: In, P: Peer>(
     places: &[PlaceWord],
     ends: &[Ends<O, I, P>],
 ) -> Result<Vec<u8>, NoMemory>
+    requires places { ArePlaces places.now }
+    requires each { HasEachOutcome places.now said.now }
     ensures { IfOk result (λ text. IsReported script.now text.items said.now places.now (map (λ e. end_of (O.state e.out) (I.state e.inn)) ends.now)) }
 {
-    let placed = are_places(alloc, ends.len(), places)?;
-    if !placed {
-        return Err(NoMemory);
-    }
-    if !has_each_outcome(places, said) {
-        return Err(NoMemory);
-    }
     let took = taken_by(alloc, ends)?;
     let text = print_report(alloc, script.lines(), said, places, &took)?;
     Ok(text)

@@ -8,9 +8,11 @@ ghost use Rattle.sock_io.specs.declared.link.Ends.{Ends};
 ghost use Rattle.sock_io.specs.Causes.{Rose};
 ghost use Rattle.sock_io.specs.Link.{end_of};
 ghost use Rattle.script_links.specs.Given.{AreNumbered, AreUntouched, IsBeginning, has_piece, specs_of};
+ghost use Rattle.sock_programs.specs.Tasks.{plan_of, calls};
 ghost use Rattle.call_run.specs.Crew.{AreLeft};
+ghost use Rattle.call_run.specs.Threads.{ids_of};
 ghost use Rattle.script_calls.specs.Reading.{HasRead};
-ghost use Rattle.script_calls.specs.Told.{IsCallText, IsCallRun, IsReported, outcomes_of};
+ghost use Rattle.script_calls.specs.Told.{IsCallText, IsCallRun, IsLeft, IsReported, outcomes_of};
 
 use crate::asking::{Ready, prepare};
 use crate::reading::read_rest;
@@ -55,6 +57,9 @@ fn finish<L: Linker, R: Wait>(
     requires some { (1 ≤ left.ids.plan.seats) × (1 ≤ left.ids.plan.operations) }
     requires calls { All (λ o. o < left.ids.plan.operations) calls.now }
     requires few { length ends.old < 65536 }
+    requires script { (bytes : List ℕ) × (script_of bytes ≡ Ok script.now) }
+    requires plan { (operations ≡ (plan_of script.now).operations) × (left.ids.plan ≡ ids_of (plan_of script.now) (length (calls script.now))) × (calls.now ≡ calls script.now) }
+    requires ran { IsLeft L.O.Out L.O.state script.now (map (λ own. own.items) left.told.items) (map (λ own. own.items) left.ended.items) left.places.items left.seats.items }
     ensures text { IfOk result (λ text. (last : List Told) × HasRead L.O.state L.I.state left.ids.plan calls.now left.seats.items ends.old ends.new last
         × IsReported script.now text.items (outcomes_of operations (map (λ own. own.items) left.told.items) (map (λ own. own.items) left.ended.items) last) left.places.items (map (λ e. end_of (L.O.state e.out) (L.I.state e.inn)) ends.new)) }
     ensures ends { length ends.new ≡ length ends.old }
@@ -174,8 +179,7 @@ fn or_no_memory(text: Result<Vec<u8>, NoMemory>) -> Result<Vec<u8>, OpenFault>
 /// Runs a script on threads, with its calls: the text of its report.
 ///
 /// Its links are opened in order and all given back, in order, whatever becomes of the run. Where one can't be opened, nothing
-/// is run, and nothing is put on the others. Want of memory is also answered where no report can be made of what the run left;
-/// that this never comes isn't proved.
+/// is run, and nothing is put on the others.
 pub fn run_calls_on_threads<L: Linker, G: Gate + Sync, R: Threads + Wait + Sync>(
     rt: &R,
     alloc: Global,

@@ -6,12 +6,8 @@ use Rattle.rpc_reader.proofs.resting.end_rest.Goals as goal
 pub end_one-requires-clause-seat : goal.end_one-requires-clause-seat
 end_one-requires-clause-seat g c = open_still c.args.ids.now.table.shared.table_id c.args.calls.now.seat c.rests.calls.seat c.requires.seat c.rests.invariant.rest
 
-pub end_one-requires-clause-asking : goal.end_one-requires-clause-asking
-end_one-requires-clause-asking g c = open_still c.args.ids.now.table.shared.table_id c.args.asking.now c.rests.asking c.requires.asking c.rests.invariant.asks
-
 pub rests-preserved : goal.rests-preserved
 rests-preserved g c = record {
   rest = rests_then c.args.calls.now.seat c.rests.calls.seat c.end_one.new.calls.seat c.rests.invariant.rest c.end_one.ensures.ids;
-  asks = rests_then c.args.asking.now c.rests.asking c.end_one.new.asking c.rests.invariant.asks c.end_one.ensures.asks;
-  ended = ended_next c.args.ids.now.plan c.args.code c.args.operations.now c.rests.operation-index c.args.asking.now.me.0 c.rests.asking.me.0 c.end_one.new.asking.me.0 (books c.args.calls.now) (books c.rests.calls) (books c.end_one.new.calls) c.rests-test.true c.rests.invariant.ended c.end_one.ensures.ended;
+  ended = ended_next c.args.ids.now.plan c.args.code c.args.operations.now c.rests.operation-index (books c.args.calls.now) (books c.rests.calls) (books c.end_one.new.calls) c.rests-test.true c.rests.invariant.ended c.end_one.ensures.ended;
 }

@@ -5,13 +5,11 @@ use Rattle.script_calls.proofs.Reports.{told_of}
 use Rattle.script_calls.proofs.reporting.report.Goals as goal
 
 pub returns : goal.returns
-returns g c =
-    let places = c.in_ok-placed.ensures c.if-not-placed.false in
-    let each = c.has_each_outcome.ensures c.if-not-has_each_outcome.false in record {
-      are_places = places;
-      each = each;
-      took = map (λ bytes. bytes.now) c.in_ok-took.took.items;
-      told = told_of g.O.Out.state g.I.In.state c.args.ends.now _ c.in_ok-took.ensures;
-      report = subst (λ script. IsReportText script c.args.said.now c.args.places.now (map (λ bytes. bytes.now) c.in_ok-took.took.items) c.in_ok-text.text.items) c.lines.ensures
-          (subst (λ took. IsReportText (map item c.lines.result.now) c.args.said.now c.args.places.now (map (λ bytes. bytes.now) took) c.in_ok-text.text.items) c.deref.ensures.value (c.in_ok-text.ensures places each));
-    }
+returns g c = record {
+  are_places = c.requires.places;
+  each = c.requires.each;
+  took = map (λ bytes. bytes.now) c.in_ok-took.took.items;
+  told = told_of g.O.Out.state g.I.In.state c.args.ends.now _ c.in_ok-took.ensures;
+  report = subst (λ script. IsReportText script c.args.said.now c.args.places.now (map (λ bytes. bytes.now) c.in_ok-took.took.items) c.in_ok-text.text.items) c.lines.ensures
+      (subst (λ took. IsReportText (map item c.lines.result.now) c.args.said.now c.args.places.now (map (λ bytes. bytes.now) took) c.in_ok-text.text.items) c.deref.ensures.value (c.in_ok-text.ensures c.requires.places c.requires.each));
+}

@@ -13,7 +13,7 @@ use Rattle.script_calls.proofs.Numbers.{few_calls, few_operations, opens_below, 
 use Rattle.thread_run.proofs.Manning.{whole_lent}
 use Rattle.script_threads.specs.Halves.{rest_of}
 use Rattle.script_links.specs.Given.{AreNumbered}
-use Rattle.script_calls.proofs.Reports.{end_at, out_at, numbered_still, run_is, joined_outs, back_silent, if_moved}
+use Rattle.script_calls.proofs.Reports.{end_at, out_at, numbered_still, left_is, run_is, joined_outs, back_silent, if_moved}
 use Rattle.script_calls.proofs.run.run_over.Goals as goal
 
 pub give_back-requires-clause-numbered : goal.give_back-requires-clause-numbered
@@ -43,6 +43,19 @@ run_on-requires-clause-opens g c κs within = opens_below c.args.script.now c.in
 
 pub finish-text-requires-clause-calls : goal.finish-text-requires-clause-calls
 finish-text-requires-clause-calls g c κs within = calls_below c.args.script.now c.in-Ok.ready.plan c.in-Ok.ensures.plan c.in-Ok.ready.slots c.in-Ok-run_on.field-0.ids.plan c.in-Ok-run_on.ensures.ids.0 c.deref-in-Ok-run_on.result.now (c.deref-in-Ok-run_on.ensures.value ∙ c.in-Ok.ensures.calls_are)
+
+pub finish-text-requires-clause-plan : goal.finish-text-requires-clause-plan
+finish-text-requires-clause-plan g c κs within = (
+  ap (λ (x : Plan). x.operations) c.in-Ok.ensures.plan,
+  c.in-Ok-run_on.ensures.ids.0 ∙ (ap (λ (x : Plan). ids_of x c.in-Ok.ready.slots) c.in-Ok.ensures.plan ∙ ap (ids_of (plan_of c.args.script.now)) c.in-Ok.ensures.slots),
+  c.deref-in-Ok-run_on.ensures.value ∙ c.in-Ok.ensures.calls_are,
+)
+
+pub finish-text-requires-clause-ran : goal.finish-text-requires-clause-ran
+finish-text-requires-clause-ran g c κs within =
+    let r = c.in-Ok-run_on.field-0 in
+    left_is g.L.O.Out g.L.O.Out.state c.args.script.now c.in-Ok.ready.plan c.in-Ok.ready.slots c.in-Ok.ready.setup.items (map (λ v. v.items) c.in-Ok.ready.clients.items) c.deref.result.now
+    (map (λ v. v.items) r.told.items) (map (λ v. v.items) r.ended.items) r.places.items r.vrefs.items r.outs.items r.seats.items c.in-Ok.ensures.plan c.in-Ok.ensures.slots c.in-Ok.ensures.tasks c.in-Ok-run_on.ensures.ran
 
 pub finish-text-requires-clause-few : goal.finish-text-requires-clause-few
 finish-text-requires-clause-few g c κs within =

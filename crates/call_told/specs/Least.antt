@@ -1,0 +1,45 @@
+-- That the end of each call that began is told.
+use Rattle.std.specs.Prelude.{◌≡◌, ℕ, ◌<◌, ◌≤◌, List}
+use mathlib.Core.Option.{some}
+use lib.ListN.{get_elem?}
+use Rattle.corr_core.specs.Law.{total, pair}
+use Rattle.corr_core.specs.declared.marks.Note.{Note}
+use Rattle.corr_core.specs.declared.marks.Note.TheVariants.{Made, Locker}
+use Rattle.corr_core.specs.declared.marks.Plan.{Plan}
+use Rattle.corr_core.specs.declared.marks.View.{View}
+use Rattle.id_rule.specs.Lawful.{call_word, notes_of, is_stored}
+use Rattle.sock_message.specs.Asked.{Asked}
+use Rattle.corr_id.specs.Calls.{slot_of, version_of}
+use Rattle.rpc_client.specs.declared.acting.Told.{Told}
+use Rattle.call_told.specs.Once.{ends_of, told_ends}
+
+-- 1 where the range with this first version was made for the call that is this operation
+abbrev pub is_made_for : ℕ → ℕ → Note Asked → ℕ
+is_made_for first operation (Made f range call) = pair first operation f call.operation
+is_made_for first operation _ = 0
+
+-- and where it was locked with such a call as its content
+abbrev pub is_locked_for : ℕ → ℕ → Note Asked → ℕ
+is_locked_for first operation (Locker f call) = pair first operation f call.operation
+is_locked_for first operation _ = 0
+
+-- the seat made the id for the call that is this operation, and stored it where the operation's word is
+pub record HasBegun (q : Plan) (operation id : ℕ) (v : View Asked) : Type 0 where
+  pub inside : slot_of id < q.slots
+  pub made : 0 < total (is_made_for (version_of id) operation) (notes_of (slot_of id) v.notes)
+  pub stored : 0 < total (is_stored (call_word q operation) id) v.kept
+
+-- by one of these the end of the call with this id is told, as what became of this operation
+pub record IsEndTold (operation id : ℕ) (tellers : List (List Told)) : Type 0 where
+  pub teller : ℕ
+  pub place : ℕ
+  pub told : List Told
+  pub one : Told
+  pub by : get_elem? tellers teller ≡ some told
+  pub at : get_elem? told place ≡ some one
+  pub number : one.number ≡ operation
+  pub is_end : ends_of id one.outcome ≡ 1
+
+-- of each call that one of these seats began the end is told, over all that tell of calls: with its operation's number
+abbrev pub ToldLeast : Plan → List (View Asked) → List (List Told) → Type 0
+ToldLeast q seats tellers = (k : ℕ) (v : View Asked) (operation id : ℕ) → get_elem? seats k ≡ some v → HasBegun q operation id v → (1 ≤ total (told_ends id) tellers) × IsEndTold operation id tellers

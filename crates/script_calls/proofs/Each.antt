@@ -1,0 +1,163 @@
+-- Each operation of a run with calls has an outcome that is told, or is a message that has a place.
+use Rattle.std.proofs.Common.{◌≡◌, ℕ, ◌+◌, ◌*◌, ◌<◌, ◌≤◌, ◌⊎◌, inl, inr, true, cond, List, [], ◌∷◌, ◌++◌, length, map, replicate, Some, None, Ok, refl, sym, ap, ◌∙◌, subst, arith}
+use Rattle.std.specs.Prelude.{Option, slice_get}
+use Rattle.std.specs.List.{AllByRecursion}
+use Rattle.std.proofs.lemmas.Option.{slice_get_within}
+use mathlib.Core.Option.{some}
+use lib.ListN.{get_elem?}
+use Rattle.sock_io.specs.declared.link.Out.{Ghosts}
+use Rattle.sock_io.specs.declared.link.Ends.{Ends}
+use Rattle.sock_io.specs.Link.{OutState, InState}
+use Rattle.sock_words.specs.Codes.{EEOF}
+use Rattle.sock_words.specs.Words.{HasPosition}
+use Rattle.sock_words.specs.declared.outcome.Outcome.{Outcome}
+use Rattle.sock_words.specs.declared.plain.Plan.{Plan}
+use Rattle.sock_words.specs.declared.place_word.PlaceWord.{PlaceWord}
+use Rattle.sock_words.specs.declared.vref.Vref.{Vref}
+use Rattle.brpc_model.specs.Items.{Item, is_call}
+use Rattle.brpc_model.specs.Operations.{Operation, operations}
+use Rattle.brpc_model.specs.Places.{names}
+use Rattle.brpc_model.specs.PlaceWords.{word_at, HasEachOutcome}
+use Rattle.brpc_model.specs.Script.{script_of}
+use Rattle.corr_core.specs.Law.{total}
+use Rattle.corr_core.specs.declared.marks.Plan as id_plan
+use Rattle.corr_core.specs.declared.marks.View.{View}
+use Rattle.id_rule.specs.Lawful.{call_word}
+use Rattle.sock_message.specs.Asked.{Asked}
+use Rattle.sock_programs.specs.declared.task.Op.{Op}
+use Rattle.sock_programs.specs.declared.task.Op.TheVariants as ops
+use Rattle.sock_programs.specs.declared.task.Task.{Task}
+use Rattle.sock_programs.specs.Scripts.{all_tasks}
+use Rattle.sock_programs.specs.Tasks.{Numbered, numbered, plan_of, calls}
+use Rattle.sock_programs.specs.Told.{AreTasks}
+use Rattle.report_fits.proofs.Lists.{has_from, has_filter_map, within, all_map, all_at as all_there}
+use Rattle.report_fits.proofs.Numbering.{link_at, numbered_at}
+use Rattle.report_fits.proofs.TaskLemmas.{asks_at, numbers_at, asked_at, operation_task, call_asks}
+use Rattle.report_fits.proofs.Tasks.{tasks_of_script}
+use Rattle.rpc_client.specs.declared.acting.Told.{Told}
+use Rattle.script_threads.proofs.Telling.{to_slice, from_slice, long_each, none_long}
+use Rattle.call_run.specs.Threads.{ids_of, RanOn}
+use Rattle.call_told.specs.Least.{HasBegun, IsEndTold}
+use Rattle.call_told.proofs.Coming.{HasCome, tells, began, sends}
+use Rattle.call_told.proofs.Growing.{own_at}
+use Rattle.call_told.proofs.Least.{AllEnded, told_least}
+use Rattle.call_told.proofs.Moves.{Fits}
+use Rattle.script_calls.specs.Reading.{IdSeat, begins, HasRead}
+use Rattle.script_calls.specs.Told.{outcomes_of}
+use Rattle.script_calls.proofs.Began.{each_one, tell, few, IsOneOf, one_of, one_come}
+use Rattle.script_calls.proofs.Clients.{balanced}
+use Rattle.script_calls.proofs.MayCall.{IsOwn, IsOwnTask, all_own}
+use Rattle.script_calls.proofs.Said.{IsSaid, own_said, end_said, said_some}
+use Rattle.script_calls.proofs.Shown.{view_of, flat_mapped}
+
+-- ## The operations of a script
+
+task_fits : (t : Task) → IsOwnTask t → Fits t
+task_fits t own asked e = subst (IsOwn t.number) e own
+
+-- the number of a call is one of those of calls
+listed : (script : List Item) (o : ℕ) (operation : Operation) → slice_get (operations script) o ≡ Some operation → is_call operation.item ≡ true → (j : ℕ) × (slice_get (calls script) j ≡ Some o)
+listed script o operation at is =
+    let x : Numbered = record { number = 0 + o; link = 0 + link_at (operations script) o; op = operation } in
+    let number : 0 + o ≡ o = omega arith in
+    has_filter_map (λ (n : Numbered). cond (is_call n.op.item) (Some n.number) None) (numbered script) x o (o, numbered_at 0 0 (operations script) o operation at) (ap (λ b. cond b (Some (0 + o)) None) is ∙ ap Some number)
+
+module _ {O I P : Type 0} (g : Ghosts O) (out : O → OutState) (inn : I → InState) (bytes : List ℕ) (script : List Item) (reads : script_of bytes ≡ Ok script) where
+  abbrev p : Plan
+  p = plan_of script
+
+  abbrev q : id_plan.Plan
+  q = ids_of p (length (calls script))
+
+  module _ (setup : List Task) (clients : List (List Task)) (tasks : setup ∷ clients ≡ all_tasks script) (opens : List ℕ) (told ended : List (List Told)) (places : List PlaceWord) (vrefs : List Vref) (outs : List O) (seats : List IdSeat)
+      (ran : RanOn g out p (length (calls script)) setup clients opens told ended places vrefs outs (map view_of seats)) (ends ends' : List (Ends O I P)) (last : List Told) (read : HasRead out inn q (calls script) seats ends ends' last)
+      -- a `send` of which nothing is told has a place
+      (sent : (c k : ℕ) (ts : List Task) (t : Task) (n : ℕ) (bytes : List ℕ) → get_elem? (setup ∷ clients) c ≡ some ts → get_elem? ts k ≡ some t → t.op ≡ ops.Send n bytes
+      → ((own : List Told) × (i : ℕ) × (x : Told) × (get_elem? told c ≡ some own) × (get_elem? own i ≡ some x) × (x.number ≡ t.number)) ⊎ HasPosition (word_at places (8 * t.number))) where
+    abbrev ids : List (View Asked)
+    ids = map view_of seats
+
+    are : AreTasks p (setup ∷ clients)
+    are = subst (AreTasks p) (sym tasks) (tasks_of_script bytes script reads)
+
+    owns : AllByRecursion (AllByRecursion IsOwnTask) (setup ∷ clients)
+    owns = subst (AllByRecursion (AllByRecursion IsOwnTask)) (sym tasks) (all_own script)
+
+    fits : AllByRecursion (AllByRecursion Fits) (setup ∷ clients)
+    fits = all_map (AllByRecursion IsOwnTask) (AllByRecursion Fits) (λ ts h. all_map IsOwnTask Fits (λ t own. task_fits t own) ts h) (setup ∷ clients) owns
+
+    -- one id at most is stored for an operation
+    one_stored : (o : ℕ) → total (λ (v : View Asked). total (own_at (call_word q o)) v.kept) ids ≤ 1
+    one_stored o = let a = few out p q setup clients opens told ended ran.seats ids ran.ran fits o in let b = each_one o (setup ∷ clients) are.in_order are.differ in omega arith
+
+    all_ended : AllEnded out inn q (calls script) EEOF ended ids ends ends' (begins read.main) read.between read.last read.words
+    all_ended = record {
+      balanced = balanced out p q setup clients opens told ended ran.seats ids ran.ran;
+      tell = tell out p q setup clients opens told ended ran.seats ids ran.ran fits;
+      notes = read.took.notes ∙ flat_mapped view_of (λ (v : View Asked). v.notes) seats;
+      kept = read.took.kept ∙ flat_mapped view_of (λ (v : View Asked). v.kept) seats;
+      none_told = refl;
+      read = read.read;
+      rest = read.rest;
+      calm = read.calm;
+      closing = read.closing;
+    }
+
+    -- the end of each call that began is told
+    call_told : (k : ℕ) (v : View Asked) (operation id j : ℕ) → get_elem? ids k ≡ some v → HasBegun q operation id v → slice_get (calls script) j ≡ Some operation → IsEndTold operation id (ended ++ last ∷ [])
+    call_told k v operation id j at begun is_listed =
+        subst (λ (l : List Told). IsEndTold operation id (ended ++ l ∷ [])) (sym read.told_is)
+        (told_least out inn q (calls script) EEOF ended ids ends ends' (begins read.main) read.between read.last read.words all_ended k v operation id at begun (one_stored operation) j is_listed).1
+
+    abbrev outcomes : List (Option Outcome)
+    outcomes = outcomes_of p.operations told ended last
+
+    module _ (o : ℕ) (less : o < p.operations) where
+      -- it is told, or has a place
+      abbrev HasIt : Type 0
+      HasIt = IsSaid outcomes o ⊎ HasPosition (word_at places (8 * o))
+
+      -- the operation, which is one of a client's tasks
+      module _ (operation : Operation) (at : slice_get (operations script) o ≡ Some operation) (op : Op) (asks : asks_at script o operation ≡ Some op) (c j : ℕ) (ts : List Task) (of_client : get_elem? (setup ∷ clients) c ≡ some ts) (in_it : get_elem? ts j ≡ some (record { number = o; op = op })) where
+        abbrev t : Task
+        t = record { number = o; op = op }
+
+        who : IsOneOf out p q ids told c ts
+        who = one_of out p q setup clients opens told ended ran.seats ids ran.ran fits c ts of_client
+
+        -- a call that began
+        ended_call : (asked : Asked) (id : ℕ) → op ≡ ops.Call asked → HasBegun q asked.operation id who.thread.ended.calls.seat.me.0 → HasIt
+        ended_call asked id is begun =
+            let x = call_asks (numbered script) (names script) (numbers_at script o operation) operation.item asked (asks ∙ ap Some is) in
+            let own : asked.operation ≡ o = task_fits t (all_there IsOwnTask ts t (all_there (AllByRecursion IsOwnTask) (setup ∷ clients) ts owns (c, to_slice (setup ∷ clients) c ts of_client)) (j, to_slice ts j t in_it)) asked is in
+            let l = listed script o operation at (ap is_call x.1) in
+            let e = call_told c who.thread.ended.calls.seat.me.0 asked.operation id l.0 who.id_at begun (l.1 ∙ ap Some (sym own)) in
+            inl (end_said p.operations told ended last o less record { teller = e.teller; place = e.place; told = e.told; one = e.one; by = e.by; at = e.at; number = e.number ∙ own })
+
+        came : HasCome q t who.thread.ended.outcomes.items who.thread.ended.calls.seat.me.0 → HasIt
+        came (tells i x there is) = inl (own_said p.operations told ended last o less record { teller = c; place = i; told = who.thread.ended.outcomes.items; one = x; by = who.told_at; at = there; number = is })
+        came (began asked id is begun) = ended_call asked id is begun
+        came (sends n message is) = by (sent c j ts t n message of_client in_it is)
+          where
+            by : ((own : List Told) × (i : ℕ) × (x : Told) × (get_elem? told c ≡ some own) × (get_elem? own i ≡ some x) × (x.number ≡ o)) ⊎ HasPosition (word_at places (8 * o)) → HasIt
+            by (inl w) = inl (own_said p.operations told ended last o less record { teller = c; place = w.1; told = w.0; one = w.2; by = w.3; at = w.4; number = w.5 })
+            by (inr h) = inr h
+
+        has_it : HasIt
+        has_it = came (one_come out p q ids told c ts who j t in_it)
+
+    pub each_outcome : HasEachOutcome places outcomes
+    each_outcome o none_ = by has
+      where
+        less : o < p.operations
+        less = let a = slice_get_within outcomes o None none_ in let b = long_each (replicate p.operations None) ((told ++ ended) ++ last ∷ []) in let d = none_long p.operations in omega arith
+
+        has : IsSaid outcomes o ⊎ HasPosition (word_at places (8 * o))
+        has =
+            let w = within (operations script) o less in let a = asked_at script o w.0 w.1 in
+            let task = operation_task script [] o w.0 a.0 w.1 a.1 in let t : Task = record { number = o; op = a.0 } in let k = has_from task.0 t task.2 in
+            has_it o less w.0 w.1 a.0 a.1 w.0.client k.0 task.0 (ap (λ (l : List (List Task)). get_elem? l w.0.client) tasks ∙ from_slice (all_tasks script) w.0.client task.0 task.1) (from_slice task.0 k.0 t k.1)
+
+        by : IsSaid outcomes o ⊎ HasPosition (word_at places (8 * o)) → HasPosition (word_at places (8 * o))
+        by (inl said) = absurd (said_some outcomes o said none_)
+        by (inr h) = h

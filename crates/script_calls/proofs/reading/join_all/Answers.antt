@@ -1,0 +1,12 @@
+use Rattle.corr_id.proofs.Joins.{first, next, last_ok}
+use Rattle.script_calls.proofs.Resting.{all_of, joined_last, joined_open, joined_share, took_all}
+use Rattle.script_calls.proofs.reading.join_all.Goals as goal
+
+pub joins-init : goal.joins-init
+joins-init g c = first c.args.ids.now.table.shared.table_id c.args.seats.items c.pop.new.self.items c.in-Some.seat c.in-Some.ensures.items (all_of c.args.ids.now.table.shared.table_id c.args.seats.items c.requires.seats)
+
+pub take_in-requires-clause-seat : goal.take_in-requires-clause-seat
+take_in-requires-clause-seat g c = last_ok c.args.ids.now.table.shared.table_id c.args.seats.items c.joins.seats.items c.pop-in-joins.new.self.items c.joins.seat c.in-Some-pop.earlier c.joins.invariant c.in-Some-pop.ensures.items
+
+pub joins-preserved : goal.joins-preserved
+joins-preserved g c = next c.args.ids.now.table.shared.table_id c.args.seats.items c.joins.seats.items c.pop-in-joins.new.self.items c.joins.seat c.in-Some-pop.earlier c.take_in.new.seat c.joins.invariant c.in-Some-pop.ensures.items c.take_in.ensures.seat.0 c.take_in.ensures.view
