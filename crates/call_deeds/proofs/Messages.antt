@@ -1,0 +1,75 @@
+-- A message of a client with calls, as a deed of its seat of the sockets: of a send, and of an attempt of a call.
+use Rattle.std.proofs.Common.{◌≢◌, ℕ, inl, inr, Option, Some, None, refl}
+use Rattle.sock_io.specs.Link.{OutState}
+use Rattle.sock_words.specs.declared.outcome.Outcome.TheVariants as outcome
+use Rattle.sock_words.specs.declared.outcome.Outcome.{Outcome}
+use Rattle.sock_words.specs.declared.plain.Plan.{Plan}
+use Rattle.sock_words.specs.declared.socket_id.SocketId.{SocketId}
+use Rattle.sock_model.specs.declared.view.View.{View}
+use Rattle.sock_rule.specs.declared.homes.Letter.{Letter}
+use Rattle.sock_table.specs.Named.{Found}
+use Rattle.sock_table.specs.declared.refs.SockRef.{SockRef}
+use Rattle.write_chain.specs.declared.entry.Refused.{Refused}
+use Rattle.write_chain.specs.declared.entry.Refused.TheVariants as refused
+use Rattle.corr_core.specs.declared.marks.Plan as id_plan
+use Rattle.rpc_client.specs.Sending.{SeenThrough, SentWith, SentBy, DeliveredBy as Delivered}
+use Rattle.call_errors.specs.Books.{CallStand}
+use Rattle.call_writes.specs.Sending.{SeenCalling, DeliveredCalling, SentWithCalling, SentCalling}
+use Rattle.call_writes.proofs.Drains.{drained_all}
+use Rattle.call_attempts.specs.Both.{Both}
+use Rattle.call_attempts.specs.Attempting.{CameBack, DeliveredBy, went_out, came_back, AttemptedBy, nowhere, over_link}
+use Rattle.sock_deeds.specs.Deeds.{SentOver, MessageBy}
+use Rattle.sock_deeds.proofs.Messages.{message_of}
+
+module _ {O : Type 0} (state : O → OutState) (p : Plan) where
+  -- whoever had the right wrote, and told calls besides
+  pub seen_through : (slots id : ℕ) (v : View) (s : CallStand) (w : View) (t : CallStand) → SeenCalling state p slots id v s w t → SeenThrough state p id v w
+  seen_through slots id v s w t h = record { wrote = h.wrote; by = drained_all p slots id v h.wrote s t h.drained; returned = h.returned }
+
+  -- ## A send
+
+  module _ (slots : ℕ) (msg : Letter) where
+    delivered_of : (sock : SockRef) (by : Option Outcome) (v : View) (s : CallStand) (w : View) (t : CallStand) → DeliveredCalling state p slots sock msg by v s w t → Delivered state p sock msg by v w
+    delivered_of sock None v s w t d = record { taken = d.taken; accepted = d.accepted; through = seen_through slots sock.id.0 d.taken s w t d.through }
+    delivered_of sock (Some (outcome.Gone found)) v s w t d = d.0
+    delivered_of sock (Some outcome.Full) v s w t d = d.0
+    delivered_of sock (Some _) v s w t d = elim d [ ]
+
+    with_of : (n : ℕ) (by : Option Outcome) (v : View) (s : CallStand) (w : View) (t : CallStand) → SentWithCalling state p slots n msg by v s w t → SentWith state p n msg by v w
+    with_of n by v s w t h = record { sock = h.sock; has = h.has; reached_it = h.reached_it; delivered = delivered_of h.sock by h.has s w t h.delivered }
+
+    -- at the table of sockets it is the send of a client without calls
+    pub sent_of : (n : ℕ) (by : Option Outcome) (v : View) (s : CallStand) (w : View) (t : CallStand) → SentCalling state p slots n msg by v s w t → SentBy state p n msg by v w
+    sent_of n None v s w t h = with_of n None v s w t h
+    sent_of n (Some outcome.Unopened) v s w t h = h.0
+    sent_of n (Some (outcome.Gone found)) v s w t h = elim h [ inl r ↦ inl r.0 | inr d ↦ inr (with_of n (Some (outcome.Gone found)) v s w t d) ]
+    sent_of n (Some outcome.Full) v s w t h = with_of n (Some outcome.Full) v s w t h
+    sent_of n (Some _) v s w t h = elim h [ ]
+
+    pub send_message : (n : ℕ) (by : Option Outcome) (v : View) (s : CallStand) (w : View) (t : CallStand) → SentCalling state p slots n msg by v s w t → MessageBy state p n msg by v w
+    send_message n by v s w t h = message_of state p n msg by v w (sent_of n by v s w t h)
+
+  -- ## An attempt of a call
+
+  module _ (q : id_plan.Plan) (socket : SocketId) (msg : Letter) where
+    abbrev sock : SockRef
+    sock = record { id = socket }
+
+    -- what became of it at the table of sockets; its name had been found
+    abbrev pub Attempted : ℕ → View → View → Type 0
+    Attempted name v w = (by : Option Outcome) × (by ≢ Some outcome.Unopened) × MessageBy state p name msg by v w
+
+    came_of : (by : Refused) (s t : Both) → CameBack state p q socket msg by s t → (o : Outcome) × (Some o ≢ Some outcome.Unopened) × Delivered state p sock msg (Some o) s.socks t.socks × ((name : ℕ) (v : View) → SentOver state p name msg (Some o) v t.socks → MessageBy state p name msg (Some o) v t.socks)
+    came_of (refused.Failed s_ m found) s t c = let b = c.refused_by in (outcome.Gone found, (λ e. cc), record { refused_at = c.refused_at; refused_by = (refl, refl, b.2, b.3); returned = c.returned }, λ name v over. inr over)
+    came_of (refused.Full s_ m) s t c = let b = c.refused_by in (outcome.Full, (λ e. cc), record { refused_at = c.refused_at; refused_by = (refl, refl, b.2, b.3, b.4, b.5, b.6, b.7, b.8, b.9); returned = c.returned }, λ name v over. over)
+
+    pub attempt_message : (name : ℕ) (v : View) (s t : Both) → Found p name (Some socket) v s.socks → AttemptedBy state p q socket msg s t → Attempted name v t.socks
+    attempt_message name v s t found (nowhere n) = (Some (outcome.Gone n.found), (λ e. cc), inl (socket, s.socks, found, n.gone))
+    attempt_message name v s t found (over_link u l d) = by_delivery d
+      where
+        over : (o : Option Outcome) → Delivered state p sock msg o u.socks t.socks → SentOver state p name msg o v t.socks
+        over o delivered = record { sock = sock; has = l.has; reached_it = (s.socks, found, l.held, l.none_later); addressed = u.socks; link_asked = inr (l.link, l.link_of); delivered = delivered }
+
+        by_delivery : DeliveredBy state p q socket msg u t → Attempted name v t.socks
+        by_delivery (went_out w) = (None, (λ e. cc), over None record { taken = w.taken; accepted = w.accepted; through = seen_through q.slots socket.0 w.taken u.calls t.socks t.calls w.through })
+        by_delivery (came_back by c) = let r = came_of by u t c in (Some r.0, r.1, r.3 name v (over (Some r.0) r.2))

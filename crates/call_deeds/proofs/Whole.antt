@@ -1,0 +1,36 @@
+-- What is told of sockets in a run with calls.
+use Rattle.std.proofs.Common.{◌≡◌, ℕ, List, ◌∷◌, length, Option}
+use Rattle.sock_io.specs.declared.link.Out.{Ghosts}
+use Rattle.sock_io.specs.Link.{OutState}
+use Rattle.sock_words.specs.declared.outcome.Outcome.{Outcome}
+use Rattle.sock_words.specs.declared.plain.Plan.{Plan}
+use Rattle.sock_words.specs.declared.place_word.PlaceWord.{PlaceWord}
+use Rattle.sock_words.specs.declared.vref.Vref.{Vref}
+use Rattle.sock_rule.specs.Closing.{PlacesDiffer}
+use Rattle.sock_programs.specs.declared.task.Task.{Task}
+use Rattle.sock_programs.specs.Cores.{Core}
+use Rattle.sock_programs.specs.Told.{AreTasks}
+use Rattle.corr_core.specs.declared.marks.View as id_view
+use Rattle.sock_message.specs.Asked.{Asked}
+use Rattle.rpc_client.specs.declared.acting.Told.{Told}
+use Rattle.call_run.specs.Threads.{ids_of, opens_of, openings, opened_names, MayRunAll, RanOn}
+use Rattle.sock_deeds.specs.Told.{ToldSockets}
+use Rattle.sock_deeds.specs.Runs.{DeedRun}
+use Rattle.sock_deeds.proofs.Orders.{orders, IsLeft}
+use Rattle.sock_deeds.proofs.Whole.{fixed, told_of_deeds}
+use Rattle.call_deeds.specs.Retried.{all_asked}
+use Rattle.call_deeds.specs.Scripts.{AllHaveLinks, Reports, AllLater}
+use Rattle.call_deeds.proofs.Ran.{AreLater}
+use Rattle.call_deeds.proofs.Runs.{deed_run}
+
+module _ {O : Type 0} {g : Ghosts O} {state : O → OutState} {p : Plan} {slots : ℕ} {setup : List Task} {clients : List (List Task)} {opens_ : List ℕ} {told ended : List (List Told)} {places : List PlaceWord} {vrefs : List Vref} {outs : List O} {ids : List (id_view.View Asked)}
+    (run : RanOn g state p slots setup clients opens_ told ended places vrefs outs ids) (outcomes : List (Option Outcome)) (tasks : AreTasks p (setup ∷ clients)) (may : MayRunAll p (ids_of p slots) setup clients) (links : AllHaveLinks 0 (setup ∷ clients))
+    (long : length outcomes ≡ p.operations) (reports : Reports (setup ∷ clients) outcomes told) (main_later : AreLater (setup ∷ clients) outcomes (all_asked run.ran.main run.ran.main_is))
+    (others_later : AllLater (setup ∷ clients) outcomes state p (ids_of p slots) (opened_names run.ran.main.ended.outcomes.items (openings setup)) (opens_of setup) run.ran.others run.ran.others_are)
+    -- no two messages have one place word
+    (differ : PlacesDiffer run.closed.ordered.log) (gave : ℕ → List ℕ) where
+  abbrev pub deeds : DeedRun g state p (setup ∷ clients) outcomes places vrefs outs
+  deeds = deed_run run outcomes tasks may links long reports main_later others_later
+
+  pub told_of_run : (c : Core) → IsLeft deeds differ c → ToldSockets p (setup ∷ clients) outcomes (fixed deeds differ gave) gave (orders deeds differ) c
+  told_of_run c left = told_of_deeds deeds differ gave c left

@@ -1,0 +1,181 @@
+-- The deeds of all seats, and what the table's last words and notes say of them.
+use Rattle.std.proofs.Common.{◌≡◌, ℕ, zero, suc, ◌+◌, ◌<◌, ◌≤◌, List, [], ◌∷◌, length, flat_map, map, slice_get, Option, Some, refl, sym, ap, ◌∙◌, subst, arith}
+use Rattle.std.proofs.lemmas.Option.{none-some, same_Some}
+use mathlib.Core.Logic.{dite}
+use mathlib.Core.Option.{some, some-injective, some-ne-none}
+use native.Mathlib.Decide.{ℕ_discrete}
+use lib.ListN.{get_elem?}
+use Rattle.atomic_table.specs.declared.shared.Seat.{Seat}
+use Rattle.sock_io.specs.declared.link.Out.{Ghosts}
+use Rattle.sock_io.specs.Link.{OutState}
+use Rattle.sock_words.specs.declared.outcome.Outcome.{Outcome}
+use Rattle.sock_words.specs.declared.plain.Plan.{Plan}
+use Rattle.sock_words.specs.declared.place_word.PlaceWord.{PlaceWord}
+use Rattle.sock_words.specs.declared.vref.Vref.{Vref}
+use Rattle.sock_model.specs.declared.marks.Mark.{Mark}
+use Rattle.sock_model.specs.declared.view.StoredWord.{StoredWord}
+use Rattle.sock_model.specs.declared.view.View.{View}
+use Rattle.sock_model.specs.Marks.{about}
+use Rattle.sock_model.specs.Seats.{newcomer}
+use Rattle.sock_model.specs.SlotRows.{marks_of}
+use Rattle.sock_model.specs.Weights.{total}
+use Rattle.slot_laws.proofs.Seats.{about-append}
+use Rattle.slot_laws.proofs.Sums.{total-append, total_some, term_le}
+use Rattle.sock_programs.specs.declared.task.Task.{Task}
+use Rattle.sock_rule.specs.OnTable.{is_put, put_in}
+use Rattle.sock_rule.specs.declared.homes.SockHome.{SockHome}
+use Rattle.sock_rule.proofs.Closes.{two_terms}
+use Rattle.sock_table.specs.Named.{HasSeen}
+use Rattle.sock_deeds.specs.Deeds.{Hand, Did, Deed, DoneBy}
+use Rattle.sock_deeds.specs.Runs.{Seated, seat_of, DeedRun}
+use Rattle.sock_deeds.proofs.Chains.{gain, stored, ends_grew, between_grew, gains, stores}
+use Rattle.sock_deeds.proofs.Flats.{append_first, append_later}
+use Rattle.sock_deeds.proofs.Growing.{IsNote, HasFound, Grew}
+
+-- ## What all seats have together
+
+flat_place : {A B : Type 0} (f : A → List B) (xs : List A) (c : ℕ) (x : A) (b : B) → get_elem? xs c ≡ some x → (k : ℕ) → get_elem? (f x) k ≡ some b → (i : ℕ) × (get_elem? (flat_map f xs) i ≡ some b)
+flat_place f [] c x b e k h = absurd (some-ne-none x (sym e))
+flat_place f (y ∷ ys) zero x b e k h = (k, append_first (f y) (flat_map f ys) k b (ap (λ z. get_elem? (f z) k) (some-injective y x e) ∙ h))
+flat_place f (y ∷ ys) (suc c) x b e k h = let r = flat_place f ys c x b e k h in (length (f y) + r.0, append_later (f y) (flat_map f ys) r.0 b r.1)
+
+map_place : {A B : Type 0} (f : A → B) (xs : List A) (c : ℕ) (x : A) → get_elem? xs c ≡ some x → get_elem? (map f xs) c ≡ some (f x)
+map_place f [] c x e = absurd (some-ne-none x (sym e))
+map_place f (y ∷ ys) zero x e = ap (λ z. some (f z)) (some-injective y x e)
+map_place f (y ∷ ys) (suc c) x e = map_place f ys c x e
+
+pub map_get : {A B : Type 0} (f : A → B) (xs : List A) (c : ℕ) (x : A) → get_elem? xs c ≡ some x → slice_get (map f xs) c ≡ Some (f x)
+map_get f [] c x e = absurd (some-ne-none x (sym e))
+map_get f (y ∷ ys) zero x e = ap (λ z. Some (f z)) (some-injective y x e)
+map_get f (y ∷ ys) (suc c) x e = map_get f ys c x e
+
+pub get_map : {A B : Type 0} (f : A → B) (xs : List A) (c : ℕ) (b : B) → slice_get (map f xs) c ≡ Some b → (x : A) × (get_elem? xs c ≡ some x) × (f x ≡ b)
+get_map f [] c b e = absurd (none-some b e)
+get_map f (y ∷ ys) zero b e = (y, refl, same_Some (f y) b e)
+get_map f (y ∷ ys) (suc c) b e = get_map f ys c b e
+
+module _ {S : Type 0} where
+  seats_marks : (f : Mark → ℕ) (i : ℕ) (ss : List (Seat S View)) → total f (about i (flat_map (λ (s : Seat S View). s.me.0.marks) ss)) ≡ total (λ (s : Seat S View). marks_of f i s.me.0) ss
+  seats_marks f i [] = refl
+  seats_marks f i (s ∷ ss) = let rest = flat_map (λ (s : Seat S View). s.me.0.marks) ss in let e = ap (total f) (about-append i s.me.0.marks rest) in
+      omega (arith, seats_marks f i ss, total-append f (about i s.me.0.marks) (about i rest))
+
+  seats_puts : (y n : ℕ) (ss : List (Seat S View)) → total (total (is_put y n)) (flat_map (λ (s : Seat S View). s.me.0.stores) ss) ≡ total (λ (s : Seat S View). put_in y n s.me.0) ss
+  seats_puts y n [] = refl
+  seats_puts y n (s ∷ ss) = omega (arith, seats_puts y n ss, total-append (total (is_put y n)) s.me.0.stores (flat_map (λ (s : Seat S View). s.me.0.stores) ss))
+
+total_map : {A B : Type 0} (g : B → ℕ) (f : A → B) (xs : List A) → total g (map f xs) ≡ total (λ x. g (f x)) xs
+total_map g f [] = refl
+total_map g f (x ∷ xs) = omega (arith, total_map g f xs)
+
+-- ## What a seat has in the end
+
+module _ {O : Type 0} {g : Ghosts O} {state : O → OutState} {p : Plan} (y : Seated g state p) where
+  abbrev pub final_of : View
+  final_of = y.seat.me.0
+
+  -- a new seat
+  abbrev fresh : Hand
+  fresh = record { view = newcomer p [] y.spare; held = [] }
+
+  pub later : (k : ℕ) (d : Deed g state p) → get_elem? y.deeds k ≡ some d → Grew d.after.view final_of
+  later k d e = subst (λ (v : View). Grew d.after.view v) (sym y.left) (ends_grew y.deeds fresh y.ended y.chain k d e)
+
+  pub between : (j k : ℕ) (a b : Deed g state p) → j < k → get_elem? y.deeds j ≡ some a → get_elem? y.deeds k ≡ some b → Grew a.after.view b.before.view
+  between j k a b less e f = between_grew y.deeds fresh y.ended y.chain j k a b less e f
+
+  pub all_gains : (f : Mark → ℕ) → IsNote f → (i : ℕ) → marks_of f i final_of ≡ total (gain f i) y.deeds
+  all_gains f note i = omega (arith, ap (marks_of f i) y.left, gains f note i y.deeds fresh y.ended y.chain)
+
+  pub all_stored : (x n : ℕ) → put_in x n final_of ≡ total (stored x n) y.deeds
+  all_stored x n = omega (arith, ap (put_in x n) y.left, stores x n y.deeds fresh y.ended y.chain)
+
+module _ {O : Type 0} {g : Ghosts O} {state : O → OutState} {p : Plan} {clients : List (List Task)} {outcomes : List (Option Outcome)} {places : List PlaceWord} {vrefs : List Vref} {outs : List O} (run : DeedRun g state p clients outcomes places vrefs outs) where
+  abbrev pub All : View
+  All = run.closed.view
+
+  all_marks : (f : Mark → ℕ) (i : ℕ) → marks_of f i All ≡ total (λ (y : Seated g state p). marks_of f i (final_of y)) run.seats
+  all_marks f i = ap (λ l. total f (about i l)) (run.closed.marks ∙ ap (flat_map (λ (s : Seat (SockHome O g) View). s.me.0.marks)) (sym run.left_are)) ∙ (seats_marks f i (map seat_of run.seats) ∙ total_map (λ (s : Seat (SockHome O g) View). marks_of f i s.me.0) seat_of run.seats)
+
+  all_puts : (x n : ℕ) → put_in x n All ≡ total (λ (y : Seated g state p). put_in x n (final_of y)) run.seats
+  all_puts x n = ap (total (total (is_put x n))) (run.closed.stores ∙ ap (flat_map (λ (s : Seat (SockHome O g) View). s.me.0.stores)) (sym run.left_are)) ∙ (seats_puts x n (map seat_of run.seats) ∙ total_map (λ (s : Seat (SockHome O g) View). put_in x n s.me.0) seat_of run.seats)
+
+  -- ## Deeds
+
+  -- deed k of seat c
+  pub record Act : Type 0 where
+    pub c : ℕ
+    pub y : Seated g state p
+    pub at : get_elem? run.seats c ≡ some y
+    pub k : ℕ
+    pub d : Deed g state p
+    pub is : get_elem? y.deeds k ≡ some d
+
+  abbrev pub before : Act → View
+  before a = a.d.before.view
+
+  abbrev pub after : Act → View
+  after a = a.d.after.view
+
+  abbrev pub did_of : Act → Did
+  did_of a = a.d.did
+
+  abbrev pub done_of : (a : Act) → DoneBy g state p (did_of a) a.d.before a.d.after
+  done_of a = a.d.done
+
+  -- what it noted all seats together have
+  pub has_marks : (a : Act) (f : Mark → ℕ) → IsNote f → (i : ℕ) → marks_of f i (after a) ≤ marks_of f i All
+  has_marks a f note i = let l = (later a.y a.k a.d a.is).marks f note i in omega (arith, all_marks f i, term_le (λ (y : Seated g state p). marks_of f i (final_of y)) run.seats a.c a.y a.at)
+
+  pub has_found : (a : Act) (x : StoredWord) → HasFound x (after a) → HasFound x All
+  has_found a x h =
+      let l = (later a.y a.k a.d a.is).finds x h in
+      let r = flat_place (λ (s : Seat (SockHome O g) View). s.me.0.finds) (map seat_of run.seats) a.c (seat_of a.y) x (map_place seat_of run.seats a.c a.y a.at) l.0 l.1 in
+      (r.0, ap (λ l. get_elem? l r.0) (run.closed.finds ∙ ap (flat_map (λ (s : Seat (SockHome O g) View). s.me.0.finds)) (sym run.left_are)) ∙ r.1)
+
+  pub has_seen : (a : Act) (x : ℕ) → HasSeen x (after a) → HasSeen x All
+  has_seen a x h =
+      let l = (later a.y a.k a.d a.is).seen x h in
+      let r = flat_place (λ (s : Seat (SockHome O g) View). s.me.0.found) (map seat_of run.seats) a.c (seat_of a.y) x (map_place seat_of run.seats a.c a.y a.at) l.0 l.1 in
+      (r.0, ap (λ l. get_elem? l r.0) (run.closed.found ∙ ap (flat_map (λ (s : Seat (SockHome O g) View). s.me.0.found)) (sym run.left_are)) ∙ r.1)
+
+  -- what all have together came by a deed
+  pub marks_from : (f : Mark → ℕ) → IsNote f → (i : ℕ) → 0 < marks_of f i All → (a : Act) × (marks_of f i (before a) < marks_of f i (after a))
+  marks_from f note i some_ =
+      let one = total_some (λ (y : Seated g state p). marks_of f i (final_of y)) run.seats (omega (arith, all_marks f i)) in
+      let y = one.1 in
+      let two = total_some (gain f i) y.deeds (omega (arith, one.3, all_gains y f note i)) in
+      (record { c = one.0; y = y; at = one.2; k = two.0; d = two.1; is = two.2 }, (let h = two.3 in omega arith))
+
+  pub puts_from : (x n : ℕ) → 0 < put_in x n All → (a : Act) × (put_in x n (before a) < put_in x n (after a))
+  puts_from x n some_ =
+      let one = total_some (λ (y : Seated g state p). put_in x n (final_of y)) run.seats (omega (arith, all_puts x n)) in
+      let y = one.1 in
+      let two = total_some (stored x n) y.deeds (omega (arith, one.3, all_stored y x n)) in
+      (record { c = one.0; y = y; at = one.2; k = two.0; d = two.1; is = two.2 }, (let h = two.3 in omega arith))
+
+  -- the seat of a place is one
+  pub same_seat : (a b : Act) → a.c ≡ b.c → b.y ≡ a.y
+  same_seat a b same = some-injective b.y a.y (sym b.at ∙ (ap (get_elem? run.seats) (sym same) ∙ a.at))
+
+  -- and the deed of a place
+  pub same_deed : (a b : Act) → a.c ≡ b.c → a.k ≡ b.k → a.d ≡ b.d
+  same_deed a b client place = some-injective a.d b.d (sym a.is ∙ (ap (λ (y : Seated g state p). get_elem? y.deeds a.k) (sym (same_seat a b client)) ∙ (ap (get_elem? b.y.deeds) place ∙ b.is)))
+
+  -- what was noted behind a deed is noted before each later one of its seat
+  pub act_between : (a b : Act) → a.c ≡ b.c → a.k < b.k → Grew (after a) (before b)
+  act_between a b client less = between a.y a.k b.k a.d b.d less a.is (ap (λ (y : Seated g state p). get_elem? y.deeds b.k) (sym (same_seat a b client)) ∙ b.is)
+
+  -- two deeds that added marks are one, where there is one mark
+  pub once_added : (f : Mark → ℕ) → IsNote f → (i : ℕ) → marks_of f i All ≤ 1 → (a b : Act) → marks_of f i (before a) < marks_of f i (after a) → marks_of f i (before b) < marks_of f i (after b) → (a.c ≡ b.c) × (a.k ≡ b.k)
+  once_added f note i few a b more_a more_b = dite (ℕ_discrete a.c b.c)
+      (λ same. (same, one_seat same))
+      (λ ne. absurd (omega (arith, all_marks f i, two_terms (λ (y : Seated g state p). marks_of f i (final_of y)) run.seats a.c b.c a.y b.y a.at b.at (λ e. ne (sym e)), each a more_a, each b more_b)))
+    where
+      each : (a : Act) → marks_of f i (before a) < marks_of f i (after a) → 0 < marks_of f i (final_of a.y)
+      each a more_ = omega (arith, all_gains a.y f note i, term_le (gain f i) a.y.deeds a.k a.d a.is)
+
+      one_seat : a.c ≡ b.c → a.k ≡ b.k
+      one_seat same =
+          let also : get_elem? a.y.deeds b.k ≡ some b.d = ap (λ (y : Seated g state p). get_elem? y.deeds b.k) (sym (same_seat a b same)) ∙ b.is in
+          dite (ℕ_discrete a.k b.k) (λ e. e) (λ ne. absurd (omega (arith, all_marks f i, term_le (λ (y : Seated g state p). marks_of f i (final_of y)) run.seats a.c a.y a.at, all_gains a.y f note i, two_terms (gain f i) a.y.deeds a.k b.k a.d b.d a.is also (λ e. ne (sym e)))))

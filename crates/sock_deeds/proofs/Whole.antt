@@ -1,0 +1,246 @@
+-- All that is told of sockets in a run of deeds.
+use Rattle.std.proofs.Common.{◌≡◌, ◌≢◌, ◌⊎◌, ℕ, zero, suc, ◌+◌, ◌<◌, ◌≤◌, ◌==◌, ◌&&◌, true, cond, if◌then◌else◌, inl, inr, List, [], ◌∷◌, length, flat_map, map, sum_by, slice_get, Option, Some, None, Contains, eq-eqb, ne_eqb, refl, sym, ap, ◌∙◌, subst, arith}
+use Rattle.std.proofs.lemmas.List.Sums.{sum_by-cons}
+use Rattle.std.proofs.lemmas.Option.{same_Some}
+use mathlib.Core.Logic.{dite}
+use native.Mathlib.Decide.{ℕ_discrete}
+use mathlib.Core.Option.{some}
+use lib.ListN.{get_elem?}
+use Rattle.sock_io.specs.declared.link.Out.{Ghosts}
+use Rattle.sock_io.specs.Link.{OutState}
+use Rattle.sock_words.specs.declared.outcome.Outcome.{Outcome}
+use Rattle.sock_words.specs.declared.outcome.Outcome.TheVariants as outcome
+use Rattle.sock_words.specs.declared.plain.Plan.{Plan}
+use Rattle.sock_words.specs.declared.place_word.PlaceWord.{PlaceWord}
+use Rattle.sock_words.specs.declared.vref.Vref.{Vref}
+use Rattle.sock_words.specs.Words.{socket_id_version, socket_id_slot, vref_version}
+use Rattle.sock_model.specs.declared.chain.Entry.{Entry}
+use Rattle.sock_model.specs.Entries.{on}
+use Rattle.sock_rule.specs.Closing.{PlacesDiffer}
+use Rattle.sock_rule.specs.declared.homes.Letter.{Letter}
+use Rattle.sock_programs.specs.declared.task.Op.{Op}
+use Rattle.sock_programs.specs.declared.task.Op.TheVariants as ops
+use Rattle.sock_programs.specs.declared.task.Task.{Task}
+use Rattle.sock_programs.specs.Cores.{Core}
+use Rattle.sock_programs.specs.Runs.{from_to}
+use Rattle.sock_programs.specs.Told.{IsTask, Became, IsOpen}
+use Rattle.sock_programs.specs.ToldCalls.{Fixed, StandsOn, FoundFailed, MayFail, IsFailing, Why, all_accepted}
+use Rattle.sock_causes.proofs.Tasks.{setup_opens}
+use Rattle.report_fits.proofs.Lists.{contains_from}
+use Rattle.rpc_client.specs.Failing.{FailedBy as FailedAs}
+use Rattle.rpc_client.specs.Holding.{HeldBy}
+use Rattle.sock_deeds.specs.Deeds.{SentOver, MessageBy, OpenedOn, Did, opens, sends, holds, drops, fails, own_number, DoneBy, Deed}
+use Rattle.sock_deeds.specs.Left.{accepted_of}
+use Rattle.sock_deeds.specs.Runs.{IsOperation, Seated, DeedRun}
+use Rattle.sock_deeds.specs.Told.{link_if, set_links, all_set, fixed_by, IsOfSockets, ToldSockets}
+use Rattle.sock_deeds.proofs.Accepting.{log, act_of_entry}
+use Rattle.sock_deeds.proofs.Acts.{Act, before, after, did_of, done_of}
+use Rattle.sock_deeds.proofs.Causes.{FailsNone, FoundDead, gone_cause, refused_cause, already_cause, has_life, opened_cause}
+use Rattle.sock_deeds.proofs.Drops.{WhyDrop, drop_cause}
+use Rattle.sock_deeds.proofs.Fails.{fail_for}
+use Rattle.sock_deeds.proofs.Failing.{FailedBy, SetBy, WhyFailed, by_name, by_id, by_link, life_failed, all_fails, each_failed, broken, are, once}
+use Rattle.sock_deeds.proofs.Flats.{flat_there}
+use Rattle.sock_deeds.proofs.Growing.{stays, over_grew}
+use Rattle.sock_deeds.proofs.Lives.{MadeHere, linked_made, lives}
+use Rattle.sock_deeds.proofs.Names.{unopened_cause, full_cause, was_full}
+use Rattle.sock_deeds.proofs.Numbered.{IsOnSockets}
+use Rattle.sock_deeds.proofs.Orders.{orders, ends, IsLeft, are_orders, accepted_stands, own_order}
+use Rattle.sock_deeds.proofs.Places.{to_elem, to_slice}
+use Rattle.sock_deeds.proofs.Tasks.{Does, asks_of, same_task, one_outcome, fits, task_does}
+
+-- ## How many messages there are
+
+abbrev size : ℕ → List Entry → ℕ
+size k l = length (map accepted_of (on k l))
+
+abbrev sizes : ℕ → ℕ → List Entry → ℕ
+sizes a n l = sum_by (λ k. size k l) (from_to a n)
+
+size_here : (k : ℕ) (e : Entry) (es : List Entry) → e.link ≡ k → size k (e ∷ es) ≡ suc (size k es)
+size_here k e es y = ap (λ b. length (map accepted_of (cond b (e ∷ on k es) (on k es)))) (eq-eqb e.link k y)
+
+size_else : (k : ℕ) (e : Entry) (es : List Entry) → e.link ≢ k → size k (e ∷ es) ≡ size k es
+size_else k e es n = ap (λ b. length (map accepted_of (cond b (e ∷ on k es) (on k es)))) (ne_eqb e.link k n)
+
+sizes_cons : (a n : ℕ) (l : List Entry) → sizes a (suc n) l ≡ size a l + sizes (a + 1) n l
+sizes_cons a n l = sum_by-cons (λ k. size k l) a (from_to (a + 1) n)
+
+sizes_else : (a n : ℕ) (e : Entry) (es : List Entry) → e.link < a → sizes a n (e ∷ es) ≡ sizes a n es
+sizes_else a zero e es l = refl
+sizes_else a (suc n) e es l = omega (arith, sizes_cons a n (e ∷ es), sizes_cons a n es, size_else a e es (λ q. omega arith), sizes_else (a + 1) n e es (omega arith))
+
+sizes_in : (a n : ℕ) (e : Entry) (es : List Entry) → a ≤ e.link → e.link < a + n → sizes a n (e ∷ es) ≡ suc (sizes a n es)
+sizes_in a zero e es low high = absurd (omega arith)
+sizes_in a (suc n) e es low high = dite (ℕ_discrete e.link a)
+    (λ y. omega (arith, sizes_cons a n (e ∷ es), sizes_cons a n es, size_here a e es y, sizes_else (a + 1) n e es (omega arith)))
+    (λ ne. omega (arith, sizes_cons a n (e ∷ es), sizes_cons a n es, size_else a e es ne, sizes_in (a + 1) n e es (omega arith) (omega arith)))
+
+sizes_none : (a n : ℕ) → sizes a n [] ≡ 0
+sizes_none a zero = refl
+sizes_none a (suc n) = omega (arith, sizes_cons a n [], sizes_none (a + 1) n)
+
+-- the chains of all links are the log
+sizes_all : (n : ℕ) (l : List Entry) → ((i : ℕ) (e : Entry) → get_elem? l i ≡ some e → e.link < n) → sizes 0 n l ≡ length l
+sizes_all n [] below = sizes_none 0 n
+sizes_all n (e ∷ es) below = omega (arith, sizes_in 0 n e es (omega arith) (omega (arith, below 0 e refl)), sizes_all n es (λ i x g. below (suc i) x g))
+
+module _ {O : Type 0} {g : Ghosts O} {state : O → OutState} {p : Plan} {clients : List (List Task)} {outcomes : List (Option Outcome)} {places : List PlaceWord} {vrefs : List Vref} {outs : List O} (run : DeedRun g state p clients outcomes places vrefs outs) (differ : PlacesDiffer (log run)) (gave : ℕ → List ℕ) where
+  -- the links of the lives that were set failed by their ids
+  abbrev pub ended : List ℕ
+  ended = all_set outcomes run.seats
+
+  abbrev pub fixed : Fixed
+  fixed = fixed_by (broken run) ended (all_fails run)
+
+  -- ## Lives that were failed
+
+  set_listed : (n k i h : ℕ) → MadeHere run n k i h → SetBy run i h → Contains ended k
+  set_listed n k i h m s =
+      let o : Option Outcome = Some (outcome.Opened i h k) in
+      let test : ((i == socket_id_slot s.id) && (h == socket_id_version s.id)) ≡ true = ap (λ b. b && (h == socket_id_version s.id)) (eq-eqb i (socket_id_slot s.id) (sym s.slot)) ∙ eq-eqb h (socket_id_version s.id) (sym s.version) in
+      let here : get_elem? (link_if s.id o) 0 ≡ some k = ap (λ b. get_elem? (if b then k ∷ [] else []) 0) test in
+      let one = flat_there (link_if s.id) outcomes m.task.number o 0 k (to_elem outcomes m.task.number o m.became) here in
+      let two : get_elem? (set_links outcomes s.a.d.did) one.0 ≡ some k = ap (λ d. get_elem? (set_links outcomes d) one.0) s.did_is ∙ one.1 in
+      let three = flat_there (λ (d : Deed g state p). set_links outcomes d.did) s.a.y.deeds s.a.k s.a.d one.0 k s.a.is two in
+      let four = flat_there (λ (y : Seated g state p). flat_map (λ (d : Deed g state p). set_links outcomes d.did) y.deeds) run.seats s.a.c s.a.y three.0 k s.a.at three.1 in
+      contains_from ended k (four.0, to_slice ended four.0 k four.1)
+
+  failing_by : (n k i h : ℕ) → MadeHere run n k i h → WhyFailed run i h k → IsFailing p clients outcomes fixed gave (orders run differ) k
+  failing_by n k i h m (by_name f) = inl (f.life.number, f.listed, tt)
+  failing_by n k i h m (by_id s) = inr (inr (inr (set_listed n k i h m s)))
+  failing_by n k i h m (by_link b) = inr (inl b)
+
+  -- by no later operation of the client that found it
+  found_failed : (b : Act run) (n m : ℕ) (P : ℕ → Type 0) → FoundDead run b n P → own_number (did_of run b) ≡ Some m → FoundFailed p clients outcomes fixed gave (orders run differ) b.c m n P
+  found_failed b n m P d mine = record { link = d.link; slot = d.slot; version = d.version; made = d.made; holds = d.holds; failed = inl (may d.why (d.no_later m mine)) }
+    where
+      may : WhyFailed run d.slot d.version d.link → ((f : FailedBy run d.slot d.version d.link) → f.a.c ≡ b.c → f.life.number < m) → MayFail p clients outcomes fixed gave (orders run differ) b.c m d.link
+      may (by_name f) no_later = inl (f.life.number, f.listed, λ t is e. no_later f (same_task run f.a.c b.c record { number = f.life.number; op = ops.Fail f.life.name f.life.code } t (fail_for run f.a f.life).0 is (sym e)).0)
+      may (by_id s) no_later = inr (inr (inr (set_listed n d.link d.slot d.version d.made s)))
+      may (by_link x) no_later = inr (inl x)
+
+  dropped : (k : ℕ) → k < p.links → ((orders run differ) k).placed < length ((orders run differ) k).accepted → IsFailing p clients outcomes fixed gave (orders run differ) k
+  dropped k low few =
+      let n = map_long accepted_of (on k (log run)) in
+      let f = ((ends run differ).1 k low).failed (omega arith) in
+      let m = linked_made run f.slot f.version k f.given in
+      failing_by m.0 k f.slot f.version m.1 (life_failed run m.0 k f.slot f.version f.inside m.1 f.failed)
+    where
+      map_long : {A B : Type 0} (f : A → B) (xs : List A) → length (map f xs) ≡ length xs
+      map_long f [] = refl
+      map_long f (x ∷ xs) = ap suc (map_long f xs)
+
+  -- ## Each operation
+
+  links_low : (q : ℕ) (e : Entry) → get_elem? (log run) q ≡ some e → e.link < p.links
+  links_low q e at = let w = act_of_entry run q e at in subst (λ (x : Entry). x.link < p.links) w.1.entry w.1.sent.delivered.accepted.inside
+
+  requests_full : (b : Act run) (n : ℕ) (msg : Letter) → SentOver state p n msg (Some outcome.Full) (before run b) (after run b) → p.requests ≤ all_accepted p.links (orders run differ)
+  requests_full b n msg s = let full = was_full run b n msg s in omega (arith, sizes_all p.links (log run) links_low)
+
+  -- only an `open` is the setup's
+  is_client : (c number : ℕ) (op : Op) → IsOperation clients outcomes c number op → (IsOpen op → ⊥) → 0 < c
+  is_client c number op is other = dite (ℕ_discrete c 0)
+      (λ none_. absurd (other (setup_opens p clients run.tasks record { number = number; op = op } (asks_of run 0 record { number = number; op = op } (subst (λ x. IsOperation clients outcomes x number op) none_ is)))))
+      (λ ne. omega arith)
+
+  as_did : (a : Act run) (d : Did) → did_of run a ≡ d → DoneBy g state p d a.d.before a.d.after
+  as_did a d e = subst (λ (x : Did). DoneBy g state p x a.d.before a.d.after) e (done_of run a)
+
+  -- the deed fails nothing
+  no_fail : (a : Act run) (d : Did) → did_of run a ≡ d → ((name number code : ℕ) → d ≡ fails name number code outcome.Failed → ⊥) → FailsNone run a
+  no_fail a d is ne name number code e = ne name number code (sym is ∙ e)
+
+  module _ (last : ℕ → ℕ) where
+    abbrev WhyHere : ℕ → ℕ → Op → Outcome → Type 0
+    WhyHere c number op o = Why p clients outcomes fixed gave (orders run differ) last c number op o
+
+    why_open : (a : Act run) (number n k : ℕ) (o : Outcome) → did_of run a ≡ opens n number k o → OpenedOn g p n number k o (before run a) (after run a) → WhyHere a.c number (ops.Open n k) o
+    why_open a number n k (outcome.Opened slot version l) is b = let same : l ≡ k = b.2.3 in let w = opened_cause run a n number k slot version (is ∙ ap (λ x. opens n number k (outcome.Opened slot version x)) same) in (same, w.0, w.1, w.2)
+    why_open a number n k outcome.SlotsFull is b = full_cause run a n number k is
+    why_open a number n k other is b = elim b.2 [ ]
+
+    why_send : (a : Act run) (number n : ℕ) (bytes : List ℕ) (msg : Letter) (o : Outcome) → n < p.names → 0 < a.c → did_of run a ≡ sends n number 0 msg (Some o) → MessageBy state p n msg (Some o) (before run a) (after run a) → WhyHere a.c number (ops.Send n bytes) o
+    why_send a number n bytes msg outcome.Unopened named client is b = unopened_cause run fixed gave (orders run differ) a number n (ap own_number is) b.1 client
+    why_send a number n bytes msg (outcome.Gone found) named client is b =
+        let none_ = no_fail a (sends n number 0 msg (Some (outcome.Gone found))) is (λ x y z e. cc) in
+        found_failed a n number (λ version. vref_version found.0 ≢ version) (elim b [ inl r ↦ gone_cause run a none_ n named found r | inr s ↦ refused_cause run a none_ n named found msg s ]) (ap own_number is)
+    why_send a number n bytes msg outcome.Full named client is b = (has_life run a n named b.sock b.has b.reached_it (over_grew state p n msg (Some outcome.Full) (before run a) (after run a) b), requests_full a n msg b)
+    why_send a number n bytes msg other named client is b = elim b [ ]
+
+    why_hold : (a : Act run) (number n : ℕ) (o : Outcome) → n < p.names → 0 < a.c → did_of run a ≡ holds n number o → HeldBy p n o a.d.before.held (before run a) a.d.after.held (after run a) → WhyHere a.c number (ops.Hold n) o
+    why_hold a number n outcome.Unopened named client is b = unopened_cause run fixed gave (orders run differ) a number n (ap own_number is) b.1.1 client
+    why_hold a number n (outcome.Gone found) named client is b = found_failed a n number (λ version. vref_version found.0 ≢ version) (gone_cause run a (no_fail a (holds n number (outcome.Gone found)) is (λ x y z e. cc)) n named found b.1) (ap own_number is)
+    why_hold a number n outcome.Held named client is b = has_life run a n named record { id = b.0 } (after run a) b.2 (stays (after run a))
+    why_hold a number n other named client is b = elim b [ ]
+
+    why_fail : (a : Act run) (number n code : ℕ) (o : Outcome) → n < p.names → 0 < a.c → IsOperation clients outcomes a.c number (ops.Fail n code) → Became clients outcomes number o → did_of run a ≡ fails n number code o → FailedAs p n code o (before run a) (after run a) → WhyHere a.c number (ops.Fail n code) o
+    why_fail a number n code outcome.Unopened named client task became is b = unopened_cause run fixed gave (orders run differ) a number n (ap own_number is) b.1 client
+    why_fail a number n code (outcome.Gone found) named client task became is b = found_failed a n number (λ version. vref_version found.0 ≢ version) (gone_cause run a (no_fail a (fails n number code (outcome.Gone found)) is (λ x y z e. cc)) n named found b) (ap own_number is)
+    why_fail a number n code outcome.Failed named client task became is b = let w = each_failed run number record { client = a.c; name = n; code = code; is = task; became = became } in (w.0, w.1)
+    why_fail a number n code (outcome.Already found) named client task became is b = found_failed a n number _ (already_cause run a (no_fail a (fails n number code (outcome.Already found)) is (λ x y z e. cc)) n named found code b) (ap own_number is)
+    why_fail a number n code other named client task became is b = elim b [ ]
+
+    why_drop : (a : Act run) (number n : ℕ) (o : Outcome) → did_of run a ≡ drops n number o → WhyHere a.c number (ops.Drop n) o
+    why_drop a number n o is = by_outcome o (drop_cause run a n number o is)
+      where
+        by_outcome : (x : Outcome) → WhyDrop run a.c number n x → WhyHere a.c number (ops.Drop n) x
+        by_outcome outcome.NotHeld w = w
+        by_outcome outcome.Freed w = w
+        by_outcome outcome.Kept w = w
+        by_outcome other w = elim w [ ]
+
+    why_op : (a : Act run) (number : ℕ) (op : Op) (o : Outcome) → IsOperation clients outcomes a.c number op → Became clients outcomes number o → IsOfSockets op → Does clients outcomes number op (did_of run a) → WhyHere a.c number op o
+    why_op a number (ops.Open n k) o is became on d =
+        let e = d.1 ∙ ap (opens n number k) (one_outcome run number d.0 o d.2 became) in
+        why_open a number n k o e (as_did a (opens n number k o) e).0
+    why_op a number (ops.Send n bytes) o is became on d =
+        let same : d.1 ≡ Some o = same_Some d.1 (Some o) (sym d.4 ∙ became) in
+        let e = d.2 ∙ ap (sends n number 0 d.0) same in
+        why_send a number n bytes d.0 o (fits run a.c record { number = number; op = ops.Send n bytes } is).1.0 (is_client a.c number (ops.Send n bytes) is (λ h. h)) e (as_did a (sends n number 0 d.0 (Some o)) e).0
+    why_op a number (ops.Hold n) o is became on d =
+        let e = d.1 ∙ ap (holds n number) (one_outcome run number d.0 o d.2 became) in
+        why_hold a number n o (fits run a.c record { number = number; op = ops.Hold n } is).1 (is_client a.c number (ops.Hold n) is (λ h. h)) e (as_did a (holds n number o) e)
+    why_op a number (ops.Fail n code) o is became on d =
+        let e = d.1 ∙ ap (fails n number code) (one_outcome run number d.0 o d.2 became) in
+        why_fail a number n code o (fits run a.c record { number = number; op = ops.Fail n code } is).1.0 (is_client a.c number (ops.Fail n code) is (λ h. h)) is became e (as_did a (fails n number code o) e).0
+    why_op a number (ops.Drop n) o is became on d = why_drop a number n o (d.1 ∙ ap (drops n number) (one_outcome run number d.0 o d.2 became))
+    why_op a number (ops.Call asked) o is became on d = elim on [ ]
+    why_op a number (ops.Expire t) o is became on d = elim on [ ]
+    why_op a number (ops.Join t) o is became on d = elim on [ ]
+
+    on_sockets : (op : Op) → IsOfSockets op → IsOnSockets op
+    on_sockets (ops.Open n k) on = tt
+    on_sockets (ops.Send n bytes) on = tt
+    on_sockets (ops.Hold n) on = tt
+    on_sockets (ops.Drop n) on = tt
+    on_sockets (ops.Fail n code) on = tt
+    on_sockets (ops.Call asked) on = elim on [ ]
+    on_sockets (ops.Expire t) on = elim on [ ]
+    on_sockets (ops.Join t) on = elim on [ ]
+
+    why : (c : ℕ) (t : Task) (o : Outcome) → IsTask clients outcomes c t → Became clients outcomes t.number o → IsOfSockets t.op → WhyHere c t.number t.op o
+    why c t o is became on =
+        let w = task_does run c t is (on_sockets t.op on) in
+        subst (λ x. WhyHere x t.number t.op o) w.1 (why_op w.0 t.number t.op o (subst (λ x. IsTask clients outcomes x t) (sym w.1) is) became on w.2)
+
+  -- each `send` has an outcome, or its message was accepted
+  told : (c number name : ℕ) (bytes : List ℕ) → IsOperation clients outcomes c number (ops.Send name bytes) → ((o : Outcome) × Became clients outcomes number o) ⊎ ((k : ℕ) × StandsOn p clients outcomes fixed gave (orders run differ) number 0 k)
+  told c number name bytes is = let w = task_does run c record { number = number; op = ops.Send name bytes } is tt in let d = w.2 in by_outcome w.0 d.0 d.1 d.2 d.4
+    where
+      by_outcome : (a : Act run) (msg : Letter) (by : Option Outcome) → did_of run a ≡ sends name number 0 msg by → slice_get outcomes number ≡ Some by → ((o : Outcome) × Became clients outcomes number o) ⊎ ((k : ℕ) × StandsOn p clients outcomes fixed gave (orders run differ) number 0 k)
+      by_outcome a msg None e said = inr (accepted_stands run differ fixed gave a name number 0 msg e)
+      by_outcome a msg (Some o) e said = inl (o, said)
+
+  -- all that is told of sockets
+  pub told_of_deeds : (c : Core) → IsLeft run differ c → ToldSockets p clients outcomes fixed gave (orders run differ) c
+  told_of_deeds c left = record {
+    are_orders = are_orders run differ c left;
+    told = told;
+    are = are run;
+    once = once run;
+    lives = lives run;
+    why = why;
+    own_order = λ k low. own_order run differ fixed gave k;
+    dropped = dropped;
+  }
