@@ -14,9 +14,8 @@ use Rattle.corr_core.specs.declared.marks.Note.{Note}
 use Rattle.corr_core.specs.declared.marks.Note.TheVariants.{Tried, Made, Ended, Locker, Queued, Attempt, Saw}
 use Rattle.corr_core.specs.declared.marks.Kept.{Kept}
 use Rattle.corr_core.specs.declared.marks.View.{View}
-use Rattle.corr_core.proofs.Notes.{each_at, total_some, only-else}
+use Rattle.corr_core.proofs.Notes.{each_at, total_some, only-else, pair-else, pair-else_first}
 use Rattle.corr_core.proofs.Stories.{born_le}
-use Rattle.corr_core.proofs.Slots.{one_content}
 use Rattle.id_rule.specs.Lawful.{id_word, KeptFits, kept_in, is_stored, tokens_of, notes_of, tokens_in, notes_in, share_of, local, IsBare, Lawful}
 use Rattle.corr_id.specs.Calls.{is_saw}
 use Rattle.corr_id.specs.Closing.{Closing}
@@ -61,6 +60,20 @@ made_of f (Queued g e) h = absurd (omega arith)
 made_of f (Attempt g n) h = absurd (omega arith)
 made_of f (Saw x) h = absurd (omega arith)
 
+attempt_of : {C : Type 0} (f m : ℕ) (n : Note C) → 0 < is_attempt f m n → n ≡ Attempt f m
+attempt_of f m Tried h = absurd (omega arith)
+attempt_of f m (Made g r c) h = absurd (omega arith)
+attempt_of f m (Ended g) h = absurd (omega arith)
+attempt_of f m (Locker g c) h = absurd (omega arith)
+attempt_of f m (Queued g e) h = absurd (omega arith)
+attempt_of f m (Attempt g n) h = dite (ℕ_discrete g f)
+    (λ e. dite (ℕ_discrete n m) (λ d. λ i. Attempt (e i) (d i)) (λ d. let k = pair-else f m g n d in absurd (omega arith)))
+    (λ e. let k = pair-else_first f m g n e in absurd (omega arith))
+attempt_of f m (Saw x) h = absurd (omega arith)
+
+made_as : {C : Type 0} (ns : List (Note C)) (j f : ℕ) (x y : ℕ × C) → x ≡ y → get_elem? ns j ≡ some (Made f x.0 x.1) → get_elem? ns j ≡ some (Made f y.0 y.1)
+made_as {C} ns j f x y same at = subst (λ (z : ℕ × C). get_elem? ns j ≡ some (Made f z.0 z.1)) same at
+
 module _ {C : Type 0} (p : Plan) (s : State (Maybe C) (View C)) (law : Lawful p s) (id : ℕ) (v : View C) (here : get_elem? s.views id ≡ some v) (all : v.share ≡ p.seats) where
   others : (j : ℕ) (u : View C) → get_elem? s.views j ≡ some u → ¬ (j ≡ id) → IsBare u
   others j u e ne = let a = two_terms share_of s.views id j v u here e ne in let b = law.shares in law.bare j u e (omega arith)
@@ -81,16 +94,39 @@ module _ {C : Type 0} (p : Plan) (s : State (Maybe C) (View C)) (law : Lawful p 
         subst (λ (ns : List (Note C)). SawFits o.b (local s i).word.first ns (parts w)) (notes_are i)
         (each_at (NoteFits o.b (local s i).word.first (local s i).notes) (local s i).notes k.0 (Saw w) o.story.fits (ap (λ (ns : List (Note C)). get_elem? ns k.0) (notes_are i) ∙ at))
 
+    -- a range that was made was noted, with its length and content
+    made_at : (f r : ℕ) (c : C) → o.b f ≡ some (r, c) → (j : ℕ) × (get_elem? (notes_of i v.notes) j ≡ some (Made f r c))
+    made_at f r c has =
+        let one : born (o.b f) ≡ 1 = ap born has in let m = o.story.made f in
+        let found = total_some (is_made f) (local s i).notes (omega arith) in let is = made_of f found.1 found.3 in
+        let at : get_elem? (local s i).notes found.0 ≡ some (Made f is.0 is.1) = found.2 ∙ ap some is.2 in
+        let fits : o.b f ≡ some (is.0, is.1) = each_at (NoteFits o.b (local s i).word.first (local s i).notes) (local s i).notes found.0 (Made f is.0 is.1) o.story.fits at in
+        let same : (is.0, is.1) ≡ (r, c) = some-injective (is.0, is.1) (r, c) (sym fits ∙ has) in
+        (found.0, made_as (notes_of i v.notes) found.0 f (is.0, is.1) (r, c) same (sym (ap (λ (ns : List (Note C)). get_elem? ns found.0) (notes_are i)) ∙ at))
+
+    was_made : (f r j : ℕ) (c : C) → get_elem? (notes_of i v.notes) j ≡ some (Made f r c) → o.b f ≡ some (r, c)
+    was_made f r j c at = each_at (NoteFits o.b (local s i).word.first (local s i).notes) (local s i).notes j (Made f r c) o.story.fits (ap (λ (ns : List (Note C)). get_elem? ns j) (notes_are i) ∙ at)
+
+    apart : (f g r q j k : ℕ) (c d : C) → get_elem? (notes_of i v.notes) j ≡ some (Made f r c) → get_elem? (notes_of i v.notes) k ≡ some (Made g q d) → f < g → f + r ≤ g
+    apart f g r q j k c d at there lt = o.story.apart f g (r, c) (q, d) (was_made f r j c at) (was_made g q k d there) lt
+
+    -- what advanced was made
+    advance_made : (f n : ℕ) → 0 < total (is_attempt f n) (notes_of i v.notes) → 0 < total (is_made f) (notes_of i v.notes)
+    advance_made f n some_ =
+        let k = total_some (is_attempt f n) (notes_of i v.notes) some_ in let at : get_elem? (notes_of i v.notes) k.0 ≡ some (Attempt f n) = k.2 ∙ ap some (attempt_of f n k.1 k.3) in
+        let one : born (o.b f) ≡ 1 = each_at (NoteFits o.b (local s i).word.first (local s i).notes) (local s i).notes k.0 (Attempt f n) o.story.fits (ap (λ (ns : List (Note C)). get_elem? ns k.0) (notes_are i) ∙ at) in
+        let m = o.story.made f in let same = ap (total (is_made f)) (notes_are i) in omega arith
+
     -- the content of a lock is the one with which the range was made
     lock_made : (f k : ℕ) (c : C) → get_elem? (notes_of i v.notes) k ≡ some (Locker f c) → (r j : ℕ) × (get_elem? (notes_of i v.notes) j ≡ some (Made f r c))
     lock_made f k c at =
         let there = ap (λ (ns : List (Note C)). get_elem? ns k) (notes_are i) ∙ at in
         let fits : (r : ℕ) × (o.b f ≡ some (r, c)) = each_at (NoteFits o.b (local s i).word.first (local s i).notes) (local s i).notes k (Locker f c) o.story.fits there in
-        let one : born (o.b f) ≡ 1 = ap born fits.1 in let m = o.story.made f in
-        let found = total_some (is_made f) (local s i).notes (omega arith) in let is = made_of f found.1 found.3 in
-        let at' : get_elem? (local s i).notes found.0 ≡ some (Made f is.0 is.1) = found.2 ∙ ap some is.2 in
-        let same : c ≡ is.1 = one_content (local s i) o found.0 k f is.0 is.1 c at' there in
-        (is.0, found.0, sym (ap (λ (ns : List (Note C)). get_elem? ns found.0) (notes_are i)) ∙ (at' ∙ ap (λ d. some (Made f is.0 d)) (sym same)))
+        let m = made_at f fits.0 c fits.1 in (fits.0, m.0, m.1)
+
+    -- a word that was found open or locked
+    range_made : (w : ℕ) → 0 < total (is_saw w) (notes_of i v.notes) → 0 < (parts w).state → (c : C) × (j : ℕ) × (get_elem? (notes_of i v.notes) j ≡ some (Made (parts w).first (parts w).range c))
+    range_made w e some_state = let t = (saw w e).is_born some_state in let m = made_at (parts w).first (parts w).range t.0 t.1 in (t.0, m.0, m.1)
 
     count : (g : Note C → ℕ) → total g (local s i).notes ≡ total g (notes_of i v.notes)
     count g = ap (total g) (notes_are i)
@@ -117,6 +153,9 @@ module _ {C : Type 0} (p : Plan) (s : State (Maybe C) (View C)) (law : Lawful p 
     ended_is = λ i f il lt. past i il f (subst (λ (w : ℕ). f < (parts w).first) (words i il) lt);
     ended_not = λ i f il le. not_yet i il f (subst (λ (w : ℕ). (parts w).first ≤ f) (words i il) le);
     later_is = λ i f w il e lt. let a = (saw i il w e).not_later in past i il f (omega arith);
+    ranges_apart = λ i f g r q j k c d il at there lt. apart i il f g r q j k c d at there lt;
+    advanced_made = λ i f n il e. advance_made i il f n e;
+    range_is = λ i w il e z. range_made i il w e z;
     locked_is = λ i w il e z. (saw i il w e).was_locked z;
     oldest_is = λ i w il e z n. (saw i il w e).oldest_by z n;
     second_is = λ i w il e z n. (saw i il w e).second_by z n;

@@ -1,5 +1,5 @@
 -- What a whole call does to the tokens and to the lists of events.
-use Rattle.std.proofs.Common.{◌≡◌, ◌≢◌, ℕ, ◌≤◌, ◌⊎◌, ⊎_elim, Some, None, true, false, cond, eq-eqb, List, [], ◌∷◌, ◌++◌, append_assoc, sym, refl, ap, ◌∙◌, subst, arith}
+use Rattle.std.proofs.Common.{◌≡◌, ◌≢◌, ℕ, ◌<◌, ◌≤◌, ◌⊎◌, inl, inr, ⊎_elim, Some, None, true, false, cond, eq-eqb, List, [], ◌∷◌, ◌++◌, append_assoc, sym, refl, ap, ◌∙◌, subst, arith}
 use mathlib.Core.Logic.{dite}
 use native.Mathlib.Decide.{ℕ_discrete}
 use Rattle.std.specs.Prelude.{Option as Maybe, MatchOption}
@@ -8,14 +8,15 @@ use Rattle.corr_core.proofs.Notes.{only-same}
 use Rattle.corr_core.specs.declared.marks.Hand.TheVariants.{Empty, Full}
 use Rattle.corr_core.specs.declared.marks.Token.TheVariants.{Locked}
 use Rattle.corr_core.specs.declared.marks.Note.TheVariants.{Locker, Queued, Saw}
-use Rattle.corr_core.specs.Law.{total}
+use Rattle.corr_core.specs.Law.{total, is_made}
 use Rattle.corr_core.specs.declared.marks.Token.{Token}
 use Rattle.corr_core.specs.declared.marks.Note.{Note}
 use Rattle.corr_core.specs.declared.marks.Noted.{Noted}
 use Rattle.corr_core.specs.declared.marks.View.{View}
 use Rattle.id_rule.specs.Lawful.{tokens_in, notes_of}
 use Rattle.id_rule.specs.Plays.{LockFits}
-use Rattle.corr_id.specs.Calls.{Became, one, is_event, events, is_saw, Found, Quiet, Did, GotLock, error_in}
+use Rattle.corr_id.specs.Calls.{Became, one, is_event, events, is_saw, Found, OutOf, Quiet, Did, GotLock, error_in}
+use Rattle.corr_id.specs.Ruled.{IsBehind}
 use Rattle.corr_id.proofs.Seats.{notes_append, total_append}
 
 module _ {C : Type 0} where
@@ -123,6 +124,21 @@ module _ {C : Type 0} where
       share = b.did.share ∙ a.share;
     };
   }
+
+-- ## An id that the seat knows to be made
+
+pub made_still : {C : Type 0} (i f : ℕ) (u v : View C) → Quiet u v → 0 < total (is_made f) (notes_of i u.notes) → 0 < total (is_made f) (notes_of i v.notes)
+made_still i f u v q known = let a = q.grows i (is_made f) in omega arith
+
+-- a word without it is a later one
+pub gone_behind : (f : ℕ) (w : Parts) → IsBehind f w → OutOf w f → f < w.first
+gone_behind f w (inl past) out = past
+gone_behind f w (inr now) out = absurd (⊎_elim (λ z. let a = now.1 in omega arith) (λ o. ⊎_elim (λ less. let e = now.0 in omega arith) (λ past. let e = now.0 in let r = now.2 in omega arith) o) out)
+
+-- and one that has it begins with it
+pub own_behind : (f : ℕ) (w : Parts) → IsBehind f w → w.first ≤ f → w.first ≡ f
+own_behind f w (inl past) from = absurd (omega arith)
+own_behind f w (inr now) from = sym now.0
 
 pub error_is : (attempt : Maybe ℕ) (r code : ℕ) → MatchOption attempt (r ≡ error_of code 7) (λ n. r ≡ error_of code n) → r ≡ error_in code attempt
 error_is None r code h = h

@@ -11,3 +11,5 @@ pub mod Closes
 pub mod Ending
 pub mod Beginning
 pub mod Testing
+pub mod Rooms
+pub mod Ranges

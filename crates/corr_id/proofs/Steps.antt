@@ -1,25 +1,31 @@
 -- Each step with what it tells.
-use Rattle.std.proofs.Common.{◌≡◌, ◌≢◌, ℕ, ◌+◌, ◌*◌, ◌<◌, ◌≤◌, ◌⊎◌, ⊎_elim, true, cond, eqb, eq-eqb, ne_eqb, List, [], ◌∷◌, get_or, sym, refl, ap, ◌∙◌, subst, arith}
+use Rattle.std.proofs.Common.{◌≡◌, ◌≢◌, ℕ, zero, suc, ◌+◌, ◌*◌, ◌<◌, ◌≤◌, ◌⊎◌, inl, inr, ⊎_elim, true, cond, eqb, eq-eqb, ne_eqb, List, [], ◌∷◌, get_or, sym, refl, ap, ◌∙◌, subst, arith}
 use Rattle.std.specs.Prelude.{Option as Maybe}
+use Rattle.std.specs.List.{flat_map}
 use mathlib.Core.Logic.{dite}
-use mathlib.Core.Option.{none}
+use mathlib.Core.Option.{none, some, some-injective, some-ne-none}
 use native.Mathlib.Decide.{ℕ_discrete}
+use lib.ListN.{get_elem?}
 use prog.Atomic.{either}
 use Rattle.atomic_table.specs.Table.{State, Me, step, Act, keeps, takes, gives, stepped, homes_after, carried_after, Allows}
 use Rattle.corr_core.specs.Word.{Parts, parts, made_word, locked_word, posted_word, unlocked_word, free_word}
+use Rattle.corr_core.specs.Law.{total, born, is_made}
 use Rattle.corr_core.specs.declared.marks.Plan.{Plan}
 use Rattle.corr_core.specs.declared.marks.Hand.{Hand}
 use Rattle.corr_core.specs.declared.marks.Hand.TheVariants.{Empty, Out, Full}
 use Rattle.corr_core.specs.declared.marks.Token.{Token}
 use Rattle.corr_core.specs.declared.marks.Token.TheVariants.{Claimed, Locked, Leaving}
+use Rattle.corr_core.specs.declared.marks.Note.{Note}
 use Rattle.corr_core.specs.declared.marks.Note.TheVariants.{Made, Queued, Attempt, Saw}
 use Rattle.corr_core.specs.declared.marks.View.{View}
+use Rattle.corr_core.proofs.Stories.{born_is, born_le}
 use Rattle.corr_core.proofs.Slots.{queued_word, open_word, popped_word, same_token, claim_home, no_tokens, is_lock}
 use Rattle.corr_core.proofs.Gather.{gather_none}
-use Rattle.id_rule.specs.Lawful.{tag_word, id_word, all_words, tokens_in, local, with_token, no_token, with_note, with_kept}
+use Rattle.id_rule.specs.Lawful.{tag_word, id_word, all_words, tokens_in, notes_in, local, with_token, no_token, with_note, with_kept}
 use Rattle.id_rule.specs.Plays.{IsHome, NotLeaving, Fitting, hand_of, with_hand, value_of, hand_by, claimed_view, locked_view, claim_told, read_told, take_told, give_told, make_told, lock_told, queue_told, end_told, free_told, store_told, found_view, put_error, popped_view, advanced_view, ended_view}
 use Rattle.id_rule.proofs.Allowed.{own, known, o}
-use Rattle.corr_id.specs.Ruled.{IsFresh, FreshBehind, Ruled, see_told, unlock_told, load_told}
+use Rattle.corr_id.specs.Ruled.{IsFresh, FreshBehind, IsBehind, Ruled, see_told, unlock_told, load_told}
+use Rattle.corr_id.proofs.Seats.{total_append}
 use Rattle.corr_id.proofs.Ruling.{claims_ruled, reads_ruled, sees_ruled, makes_ruled, locks_ruled, queues_ruled, relocks_ruled, unlocks_ruled, advances_ruled, behind, ends_ruled, frees_ruled, takes_ruled, gives_ruled, stores_ruled, finds_ruled, kept_stays}
 
 opened_is : (w : Parts) (more : ℕ) → w.oldest ≡ 0 → w.second ≡ 0 → unlocked_word w more ≡ open_word w more
@@ -64,8 +70,31 @@ module _ {C : Type 0} (p : Plan) (slots id : ℕ) (me : Me (Maybe C) (View C)) (
         ((λ z. (with_token (e z) (Claimed f (hh z)) me.0, me.1)), l.first_some, (claim_home (local s i) l seen h (own p id me i inside real s r.lawful here (Claimed seen h) has)).2),
   )
 
+  -- what is counted of the notes of one seat is no more than what is of all
+  counted : (g : Note C → ℕ) (vs : List (View C)) (j : ℕ) (v : View C) → get_elem? vs j ≡ some v → total g (notes_in i v) ≤ total g (flat_map (notes_in i) vs)
+  counted g [] j v e = absurd (some-ne-none v (sym e))
+  counted g (x ∷ xs) zero v e = let a = ap (λ y. total g (notes_in i y)) (some-injective x v e) in omega (arith, total_append g (notes_in i x) (flat_map (notes_in i) xs))
+  counted g (x ∷ xs) (suc j) v e = let a : total g (notes_in i v) ≤ total g (flat_map (notes_in i) xs) = counted g xs j v e in omega (arith, total_append g (notes_in i x) (flat_map (notes_in i) xs))
+
+  -- the word of the slot, where the seat knows of an id that was made there
+  seen_behind : (s : State (Maybe C) (View C)) → Ruled p s → get_elem? s.views id ≡ some me.0 → (f : ℕ) → 0 < total (is_made f) (notes_in i me.0) → IsBehind f (local s i).word
+  seen_behind s r here f h =
+      let l = o p id me i inside real s r.lawful here in
+      let some_ : born (l.b f) ≡ 1 = (let a = counted (is_made f) s.views id me.0 here in let b = born_le (l.b f) in let c = l.story.made f in omega arith) in
+      let x = born_is (l.b f) some_ in let y = l.story.births f x.0 x.1 in
+      ⊎_elim
+      (λ past. inl (let k = y.0 in omega arith))
+      (λ now. let w = l.now.is_born now.1 in inr (now.0, now.1, (l.story.births (local s i).word.first ((local s i).word.range, w.0) w.1).0))
+      y.1
+
   pub seeing : Allows (Ruled p) slots id me (id_word i) (λ n. n) (see_told (step slots (id_word i) 0 0 none) me)
-  seeing s r long here fits = let n : ℕ = get_or s.words (id_word i) 0 in (with_note i (Saw n) me.0, keeps, tt, sees_ruled p id me i inside real s r here, λ x at. (of_id (λ y. with_note y (Saw n) me.0) x at, (o p id me i inside real s r.lawful here).first_some))
+  seeing s r long here fits = let n : ℕ = get_or s.words (id_word i) 0 in let l = o p id me i inside real s r.lawful here in (
+    with_note i (Saw n) me.0,
+    keeps,
+    tt,
+    sees_ruled p id me i inside real s r here,
+    λ x at. (of_id (λ y. with_note y (Saw n) me.0) x at, l.first_some, λ f h. let e : i ≡ x = omega arith in seen_behind s r here f (let y = ap (λ (z : ℕ). total (is_made f) (notes_in z me.0)) e in omega arith)),
+  )
 
   pub taking : (t : Token C) → tokens_in i me.0 ≡ t ∷ [] → IsHome (hand_of t) → Allows (Ruled p) slots id me (tag_word i) (λ n. n) (take_told (step slots (tag_word i) 0 0 none) me)
   taking t has ready s r long here fits = let k = takes_ruled p id me i inside real s r here t has ready in (

@@ -3,7 +3,7 @@ use Rattle.std.specs.Prelude.{◌≡◌, ◌≢◌, ℕ, ◌<◌, ◌≤◌, ◌
 use Rattle.std.specs.Prelude.{Option as Maybe}
 use Rattle.atomic_table.specs.Table.{State, Me, Step}
 use Rattle.corr_core.specs.Word.{Parts, parts, attempt_of}
-use Rattle.corr_core.specs.Law.{Each, total, only}
+use Rattle.corr_core.specs.Law.{Each, total, only, is_made}
 use Rattle.corr_core.specs.declared.marks.Plan.{Plan}
 use Rattle.corr_core.specs.declared.marks.Hand.TheVariants.{Full}
 use Rattle.corr_core.specs.declared.marks.Token.{Token}
@@ -11,7 +11,7 @@ use Rattle.corr_core.specs.declared.marks.Token.TheVariants.{Claimed, Locked, Le
 use Rattle.corr_core.specs.declared.marks.Note.TheVariants.{Saw}
 use Rattle.corr_core.specs.declared.marks.Kept.{Kept}
 use Rattle.corr_core.specs.declared.marks.View.{View}
-use Rattle.id_rule.specs.Lawful.{id_word, local, Lawful, with_token, with_note}
+use Rattle.id_rule.specs.Lawful.{id_word, notes_in, local, Lawful, with_token, with_note}
 use Rattle.id_rule.specs.Plays.{Becomes, has_token, Longer, popped_view, advanced_view, found_view}
 
 -- a word of this place
@@ -21,6 +21,10 @@ is_place x k = only x k.place
 -- the error is for this attempt, or for the whole call
 abbrev pub IsFresh : ℕ → ℕ → Type 0
 IsFresh attempt e = (attempt_of e ≡ 7) ⊎ (attempt_of e ≡ attempt)
+
+-- a word that was found once the id with this first version was made: it has the id's range, or a later one
+abbrev pub IsBehind : ℕ → Parts → Type 0
+IsBehind f w = (f < w.first) ⊎ ((f ≡ w.first) × (0 < w.state) × (1 ≤ w.range))
 
 module _ {C : Type 0} where
   -- the errors behind those that the lock's holder noted are for the current attempt or for the whole call
@@ -34,9 +38,9 @@ module _ {C : Type 0} where
     pub lawful : Lawful p s
     pub fresh : (i : ℕ) → i < p.slots → Each (FreshBehind (local s i).word) (local s i).tokens
 
-  -- I7: a word is never 0
+  -- I7: a word is never 0, and none that is found behind an id that the seat knows to be made has an earlier range
   abbrev pub see_told : Step (Maybe C) → Me (Maybe C) (View C) → ℕ → Me (Maybe C) (View C) → Type 0
-  see_told st m found n = (i : ℕ) → st.word ≡ id_word i → Becomes m n (with_note i (Saw found) m.0) × (1 ≤ (parts found).first)
+  see_told st m found n = (i : ℕ) → st.word ≡ id_word i → Becomes m n (with_note i (Saw found) m.0) × (1 ≤ (parts found).first) × ((f : ℕ) → 0 < total (is_made f) (notes_in i m.0) → IsBehind f (parts found))
 
   -- I5: the word found is noted; where another one was expected, the errors in it are now noted
   abbrev pub unlock_told : Step (Maybe C) → Me (Maybe C) (View C) → ℕ → Me (Maybe C) (View C) → Type 0

@@ -1,13 +1,13 @@
 // A call for each kind of step.
 ghost use Rattle.std.specs.Prelude.{◌≡◌, ◌≢◌, ◌+◌, ◌*◌, ◌<◌, ◌≤◌, ℕ, [], ◌∷◌, IsTrue, MatchOption};
 ghost use Rattle.corr_core.specs.Word.{parts, made_word, locked_word, posted_word, unlocked_word, free_word, tick};
-ghost use Rattle.corr_core.specs.Law.{LAST};
+ghost use Rattle.corr_core.specs.Law.{LAST, total, is_made};
 ghost use Rattle.corr_core.specs.declared.marks.Hand.TheVariants.{Empty, Full};
 ghost use Rattle.corr_core.specs.declared.marks.Token.TheVariants.{Claimed, Locked, Leaving};
 ghost use Rattle.corr_core.specs.declared.marks.Note.TheVariants.{Tried, Made, Ended, Locker, Queued, Saw};
-ghost use Rattle.id_rule.specs.Lawful.{tokens_in, with_note};
+ghost use Rattle.id_rule.specs.Lawful.{tokens_in, notes_in, with_note};
 ghost use Rattle.id_rule.specs.Plays.{LockFits, Longer};
-ghost use Rattle.corr_id.specs.Ruled.{FreshBehind, IsFresh};
+ghost use Rattle.corr_id.specs.Ruled.{FreshBehind, IsBehind, IsFresh};
 ghost use Rattle.corr_id.specs.Seats.{Sits, Stays};
 ghost use Rattle.corr_id.specs.Calls.{Became, one, MayMove, Moved, Claims, Locks, tokens_left, advance_note};
 
@@ -49,6 +49,7 @@ impl<C> IdTable<C> {
         ensures seat { Stays seat.old seat.new }
         ensures saw { Became at seat.old.me.0 seat.new.me.0 (tokens_in at seat.old.me.0) (one at (Saw result)) }
         ensures first { 1 ≤ (parts result).first }
+        ensures behind { (f : ℕ) → 0 < total (is_made f) (notes_in at seat.old.me.0) → IsBehind f (parts result) }
     {
         let word = 2 * at as usize + 1;
         self.table.shared.load::<See>(seat, word)

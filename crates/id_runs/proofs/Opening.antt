@@ -73,6 +73,7 @@ module _ {C : Type 0} where
     story = record {
       fits = tt;
       births = λ g x e. absurd (some-ne-none x (sym e));
+      apart = λ g k x y e u lt. absurd (some-ne-none x (sym e));
       made = λ g. refl;
       ended_past = λ g past. refl;
       ended_not = λ g past. refl;

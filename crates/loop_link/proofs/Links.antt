@@ -98,6 +98,7 @@ step_taken old new room room' result long step answer bytes same peer = record {
   takes = step.takes;
   only_closing = step.only_closing;
   closing = step.closing;
+  way = refl;
   offer = (offer_of new, refl, offer_taken old new room' result step (answer ∙ ap (take_answer old.half.waiting old.half.ending) (sym long)) bytes same peer);
   later = step.later;
   failed = step.failed;

@@ -11,7 +11,7 @@ pub record TcpOutState : Type 0 where
 
 -- it keeps none of its bytes, and so tells none; it waits inside a put, and never asks to be called again
 abbrev pub tcp_out : TcpOutState → OutState
-tcp_out o = record { link = o.link; took = None; faults = o.faults; finished = o.finished; clear = true; prompt = true; again = false; steady = true; whole = false; answers = None }
+tcp_out o = record { link = o.link; took = None; put_bytes = None; way = []; faults = o.faults; finished = o.finished; clear = true; prompt = true; again = false; steady = true; whole = false; answers = None }
 
 -- a half that took nothing so far
 abbrev pub new_out : ℕ → TcpOutState
@@ -27,7 +27,7 @@ pub record TcpInState : Type 0 where
 
 -- it can't know why the other end ended its half, and so never answers `Closed`; what the other end offers it doesn't tell
 abbrev pub tcp_in : TcpInState → InState
-tcp_in i = record { gave = length i.given; gave_end = i.gave_end; closed = Some false; faults = i.faults; gave_bytes = Some i.given; takes = Some i.takes; closing = Some false; offer = None }
+tcp_in i = record { gave = length i.given; gave_end = i.gave_end; closed = Some false; faults = i.faults; gave_bytes = Some i.given; takes = Some i.takes; closing = Some false; offer = None; way = [] }
 
 -- a half that gave nothing so far
 abbrev pub new_in : TcpInState

@@ -62,6 +62,10 @@ impl<L: Linker + Drop> Linker for Noting<L> {
         self.inner.settle(ends)
     }
 
+    fn meet(&mut self, ends: &mut Ends<L::O, L::I, L::P>) {
+        self.inner.meet(ends);
+    }
+
     fn accept(&mut self, port: u16) -> Result<(L::O, L::I), OpenFault> {
         self.inner.accept(port)
     }

@@ -9,6 +9,7 @@ use rpc_meta::{MetaFault, RpcMeta};
 use std::alloc::Global;
 
 /// The frame of these sizes at the front. Its payload and attachment are shared.
+#[inline(always)]
 pub fn read_frame(alloc: Global, held: &IoBuf, sizes: Sizes) -> Result<Frame, NextFault>
     requires meta { sizes.meta ≤ sizes.body }
     requires body { 12 + sizes.body ≤ length held.now.items }
@@ -39,19 +40,30 @@ pub fn read_frame(alloc: Global, held: &IoBuf, sizes: Sizes) -> Result<Frame, Ne
 
 // The meta that stands behind the header: read where it lies where it is in the first piece, else
 // copied first.
+#[inline(always)]
 fn read_meta(alloc: Global, held: &IoBuf, size: usize) -> Result<RpcMeta, NextFault>
     requires { 12 + size ≤ length held.now.items }
     ensures { MetaSays held.now.items size result }
 {
-    if let Some(bytes) = meta_in(held.first_piece(), size) {
-        return meta_of(alloc, bytes);
+    match meta_in(held.first_piece(), size) {
+        Some(bytes) => meta_of(alloc, bytes),
+        None => copy_meta(alloc, held, size),
     }
+}
+
+// As `read_meta`, from a copy of the bytes.
+#[inline(never)]
+fn copy_meta(alloc: Global, held: &IoBuf, size: usize) -> Result<RpcMeta, NextFault>
+    requires { 12 + size ≤ length held.now.items }
+    ensures { MetaSays held.now.items size result }
+{
     let mut bytes = vec![in alloc; 0; size]?;
     held.copy_at(12, &mut bytes);
     meta_of(alloc, &bytes)
 }
 
 // The bytes of the meta, where all of them are in the first piece.
+#[inline(always)]
 fn meta_in(front: &[u8], size: usize) -> Option<&[u8]>
     ensures { IfSome result (λ bytes. (bytes.now ≡ take size (drop 12 front.now)) × (12 + size ≤ length front.now)) }
 {
@@ -62,6 +74,7 @@ fn meta_in(front: &[u8], size: usize) -> Option<&[u8]>
 }
 
 // The meta that these bytes are.
+#[inline(always)]
 fn meta_of(alloc: Global, bytes: &[u8]) -> Result<RpcMeta, NextFault>
     ensures { MetaIs bytes.now result }
 {
@@ -73,6 +86,7 @@ fn meta_of(alloc: Global, bytes: &[u8]) -> Result<RpcMeta, NextFault>
 }
 
 // How many bytes the attachment has, where it fits in the room behind the meta.
+#[inline(always)]
 fn attachment_bytes(meta: &RpcMeta, room: u32) -> Result<u32, FrameFault>
     ensures { AttachmentSays meta.now.attachment_size room result }
 {

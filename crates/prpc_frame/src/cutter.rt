@@ -105,6 +105,7 @@ impl Cutter {
 }
 
 // The frame's fault that is answered, if one is.
+#[inline(always)]
 fn told_fault(next: &Result<Option<Frame>, NextFault>) -> Option<FrameFault>
     ensures { MatchOption result (tells_fault next.now ≡ false) (λ fault. next.now ≡ Err (frame_fault fault)) }
 {
@@ -115,6 +116,7 @@ fn told_fault(next: &Result<Option<Frame>, NextFault>) -> Option<FrameFault>
 }
 
 // Cuts the frame at the front off.
+#[inline(always)]
 fn cut_frame(alloc: Global, held: &mut IoBuf) -> Result<Option<Frame>, NextFault>
     ensures exact { Answers (judged held.old.items) held.old.items result held.new.items }
     ensures waits { judged held.old.items ≡ NoneYet → IsOk result }

@@ -1,21 +1,22 @@
-ghost use Rattle.std.specs.Prelude.{◌≡◌, ℕ, List, ◌+◌, ◌-◌, ◌≤◌, ◌∷◌, ◌++◌, pos, length, All, Ok, IfOk, OnOk};
+ghost use Rattle.std.specs.Prelude.{◌≡◌, ℕ, List, [], ◌+◌, ◌-◌, ◌≤◌, ◌∷◌, ◌++◌, pos, length, All, Ok, IfOk, OnOk};
 ghost use Rattle.io_buf.specs.Buffer.{block_sizes, IsSize};
 ghost use Rattle.std.specs.Int.{w32, to_be_bytes};
 ghost use Rattle.brpc_model.specs.Frame.{Frame as ModelFrame, IsFrame, Begins, magic, body_limit, frame_bytes, judged};
 ghost use Rattle.brpc_model.specs.Meta.{read_meta};
 ghost use Rattle.brpc_model.specs.Spelling.{meta_bytes};
 ghost use Rattle.rpc_meta.specs.Meaning.{meaning};
+ghost use Rattle.rpc_meta.specs.Sizes.{AreSizes};
 ghost use Rattle.rpc_meta.specs.Writing.{HasPart};
 ghost use Rattle.prpc_frame.specs.Meaning.{frame_with};
 
 use crate::header::MAGIC;
 use io_buf::{BLOCK_BYTES, BlockPool, IoBuf, NoMemory};
-use rpc_meta::RpcMeta;
+use rpc_meta::{FRONT_BYTES, Front, MetaSizes, RpcMeta};
 use std::alloc::Global;
 
 /// Writes a frame (brpc's baidu_std.md). The payload and the attachment are shared, not copied.
-/// Header and meta are spelled in the pool's scratch memory, so in a stream of frames no call takes
-/// memory but for a block, and once for more than two references.
+/// Header and meta are spelled in place up to 128 bytes, and in the pool's scratch memory above, so in
+/// a stream of frames no call takes memory but for a block, and once for more than two references.
 ///
 /// The meta's attachment_size is the attachment's length, the meta has a request or a response, and
 /// the body has at most 67,108,864 bytes.
@@ -43,11 +44,8 @@ pub fn encode(
         → b.sizes ≡ (12 + length (meta_bytes (meaning meta.now))) ∷ payload.now.sizes ++ attachment.now.sizes) }
     ensures each { IfOk result (λ b. All IsSize b.sizes) }
 {
-    let mut front = pool.lend_scratch();
-    spell_front(&mut front, meta, payload.len() + attachment.len())?;
     let mut frame = IoBuf::new(alloc);
-    frame.append_bytes(pool, &front)?;
-    pool.keep_scratch(front);
+    append_front(&mut frame, pool, meta, payload.len() + attachment.len())?;
     append_shared(&mut frame, payload)?;
     append_shared(&mut frame, attachment)?;
     let _ = frame.refs();
@@ -61,17 +59,76 @@ pub fn begins_with_one_frame()
         → (bytes ≡ others) × (f ≡ g) }
 {}
 
-// Spells the header and the meta, before so many bytes of payload and attachment. The meta's size is
-// counted first, since it stands before it.
-fn spell_front(front: &mut Vec<u8>, meta: &RpcMeta, behind: usize) -> Result<(), NoMemory>
+// Appends the header and the meta to an empty buffer, before so many bytes of payload and attachment.
+// The meta's size is counted first, since it stands before it. Few bytes are spelled in place.
+fn append_front(
+    frame: &mut IoBuf,
+    pool: &mut BlockPool,
+    meta: &RpcMeta,
+    behind: usize,
+) -> Result<(), NoMemory>
+    requires empty { frame.old.items ≡ [] }
     requires part { HasPart (meaning meta.now) }
+    requires small { length (meta_bytes (meaning meta.now)) + behind ≤ body_limit }
+    ensures front { OnOk result (frame.new.items ≡ magic ++ to_be_bytes w32 (length (meta_bytes (meaning meta.now)) + behind) ++ to_be_bytes w32 (length (meta_bytes (meaning meta.now))) ++ meta_bytes (meaning meta.now)) }
+    ensures sizes { OnOk result (frame.new.sizes ≡ block_sizes (12 + length (meta_bytes (meaning meta.now)))) }
+    ensures reads_back { OnOk result (read_meta (meta_bytes (meaning meta.now)) ≡ Ok (meaning meta.now)) }
+{
+    let Some(sizes) = meta.sizes() else {
+        return Err(NoMemory);
+    };
+    if sizes.all <= FRONT_BYTES - 12 {
+        let mut front = Front::new();
+        spell_front(&mut front, meta, sizes, behind);
+        return frame.append_bytes(pool, front.as_slice());
+    }
+    let mut front = pool.lend_scratch();
+    spell_long(&mut front, meta, sizes.all, behind)?;
+    frame.append_bytes(pool, &front)?;
+    pool.keep_scratch(front);
+    Ok(())
+}
+
+// Spells the header and the meta in place.
+fn spell_front(front: &mut Front, meta: &RpcMeta, sizes: MetaSizes, behind: usize)
+    requires empty { front.old ≡ [] }
+    requires part { HasPart (meaning meta.now) }
+    requires sizes { AreSizes sizes (meaning meta.now) }
+    requires room { 12 + sizes.all ≤ FRONT_BYTES }
+    requires small { length (meta_bytes (meaning meta.now)) + behind ≤ body_limit }
+    ensures front { front.new ≡ magic ++ to_be_bytes w32 (length (meta_bytes (meaning meta.now)) + behind) ++ to_be_bytes w32 (length (meta_bytes (meaning meta.now))) ++ meta_bytes (meaning meta.now) }
+    ensures reads_back { read_meta (meta_bytes (meaning meta.now)) ≡ Ok (meaning meta.now) }
+{
+    put_header(sizes.all, behind, front);
+    meta.spell_to(sizes, front);
+}
+
+// Spells the header in place, before a meta of this size and so many bytes of payload and attachment.
+fn put_header(size: usize, behind: usize, front: &mut Front)
+    requires empty { front.old ≡ [] }
+    requires small { size + behind ≤ body_limit }
+    ensures { front.new ≡ magic ++ to_be_bytes w32 (size + behind) ++ to_be_bytes w32 size }
+{
+    let meta_bytes = size as u32;
+    let body_bytes = (size + behind) as u32;
+    front.extend(&MAGIC);
+    front.extend(&body_bytes.to_be_bytes());
+    front.extend(&meta_bytes.to_be_bytes());
+}
+
+// Spells the header and a meta of this size in memory.
+fn spell_long(
+    front: &mut Vec<u8>,
+    meta: &RpcMeta,
+    size: usize,
+    behind: usize,
+) -> Result<(), NoMemory>
+    requires part { HasPart (meaning meta.now) }
+    requires size { size ≡ length (meta_bytes (meaning meta.now)) }
     requires small { length (meta_bytes (meaning meta.now)) + behind ≤ body_limit }
     ensures front { OnOk result (front.new.items ≡ magic ++ to_be_bytes w32 (length (meta_bytes (meaning meta.now)) + behind) ++ to_be_bytes w32 (length (meta_bytes (meaning meta.now))) ++ meta_bytes (meaning meta.now)) }
     ensures reads_back { OnOk result (read_meta (meta_bytes (meaning meta.now)) ≡ Ok (meaning meta.now)) }
 {
-    let Some(size) = meta.spelled_size() else {
-        return Err(NoMemory);
-    };
     spell_header(size, behind, front)?;
     match meta.write_to(front) {
         Ok(()) => Ok(()),

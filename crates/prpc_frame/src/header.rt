@@ -1,4 +1,4 @@
-ghost use Rattle.std.specs.Prelude.{◌≡◌, ℕ, List, [], ◌+◌, ◌<◌, ◌≤◌, ◌++◌, length, take, drop, min, true, false, MatchOption};
+ghost use Rattle.std.specs.Prelude.{◌≡◌, ℕ, List, [], ◌+◌, ◌<◌, ◌≤◌, ◌++◌, length, take, drop, min, true, false, IfSome, MatchOption};
 ghost use Rattle.brpc_model.specs.Frame.{high_first, matching};
 ghost use Rattle.prpc_frame.specs.Header.{magic_wrong, HeaderSays};
 
@@ -22,8 +22,36 @@ pub struct Sizes {
     pub body: u32,
 }
 
-/// The sizes of the frame at the front, or `None` where it isn't whole and has no fault yet.
+/// The sizes of the frame at the front, or `None` where it isn't whole and has no fault yet. The header is read
+/// where it lies where it is in the first piece, else copied first.
+#[inline(always)]
 pub fn read_header(held: &IoBuf) -> Result<Option<Sizes>, FrameFault>
+    ensures { HeaderSays held.now.items result }
+{
+    match header_in(held) {
+        Some(front) => judge_header(front, held.len()),
+        None => copy_header(held),
+    }
+}
+
+// The header, where all of it is in the first piece.
+#[inline(always)]
+fn header_in(held: &IoBuf) -> Option<&[u8]>
+    ensures { IfSome result (λ front. (front.now ≡ take 12 held.now.items) × (12 ≤ length held.now.items)) }
+{
+    if held.is_empty() {
+        return None;
+    }
+    let piece = held.first_piece();
+    if piece.len() < HEADER_BYTES {
+        return None;
+    }
+    Some(&piece[..HEADER_BYTES])
+}
+
+// As `read_header`, from a copy of the first bytes.
+#[inline(never)]
+fn copy_header(held: &IoBuf) -> Result<Option<Sizes>, FrameFault>
     ensures { HeaderSays held.now.items result }
 {
     let mut room = [0; HEADER_BYTES];
@@ -34,6 +62,7 @@ pub fn read_header(held: &IoBuf) -> Result<Option<Sizes>, FrameFault>
 }
 
 // Judges the first twelve bytes, or all where there are fewer, of `len` bytes.
+#[inline(always)]
 fn judge_header(front: &[u8], len: usize) -> Result<Option<Sizes>, FrameFault>
     requires { length front.now ≡ min len 12 }
     ensures { (more : List ℕ) → length front.now + length more ≡ len → HeaderSays (front.now ++ more) result }
@@ -59,6 +88,7 @@ fn judge_header(front: &[u8], len: usize) -> Result<Option<Sizes>, FrameFault>
 }
 
 // The first place at which the bytes differ from the magic, as far as they go.
+#[inline(always)]
 fn wrong_at(front: &[u8]) -> Option<u8>
     ensures { MatchOption result (magic_wrong front.now ≡ false) (λ at. (magic_wrong front.now ≡ true) × (at ≡ matching front.now)) }
 {
@@ -73,6 +103,7 @@ fn wrong_at(front: &[u8]) -> Option<u8>
 }
 
 // The number that four bytes are, the highest first.
+#[inline(always)]
 fn u32_at(bytes: &[u8], at: usize) -> u32
     requires { at + 4 ≤ length bytes.now }
     ensures { result ≡ high_first (take 4 (drop at bytes.now)) }

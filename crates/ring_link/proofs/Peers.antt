@@ -9,7 +9,7 @@ use Rattle.sock_io.specs.Link.{IsTakeCount, given_of}
 use Rattle.sock_io.specs.declared.link.Served.{Served}
 use Rattle.sock_io.specs.declared.link.Served.TheVariants as served
 use Rattle.sock_io.specs.Peer.{PeerState, Moves, Moved, HasMoved, Grew, ServeStep, has_ended, is_done}
-use Rattle.ring_link.specs.Halves.{ReaderState, RingPeerState, mark_at, ring_peer}
+use Rattle.ring_link.specs.Halves.{ReaderState, RingPeerState, SameRings, mark_at, ring_peer, way_of}
 
 abbrev pub Told : Served → PeerState → Type 0
 Told result new = ((result ≡ served.Done) × (is_done new ≡ true)) ⊎ ((result ≡ served.Moved) × (is_done new ≡ false))
@@ -27,13 +27,13 @@ cc_of n = cc
 unlike : {A : Type 0} → true ≡ false → A
 unlike n = absurd (cc_of n)
 
-pub moves : (p q : RingPeerState) (got gave : List ℕ) → q.reader.bytes ≡ p.reader.bytes ++ got → q.writer.bytes ≡ p.writer.bytes ++ gave
+pub moves : (p q : RingPeerState) (got gave : List ℕ) → SameRings p q → q.reader.bytes ≡ p.reader.bytes ++ got → q.writer.bytes ≡ p.writer.bytes ++ gave
     → (has_ended p.reader.ending ≡ true → (has_ended q.reader.ending ≡ true) × (got ≡ [])) → (p.writer.ending ≢ ending.Open → (q.writer.ending ≡ p.writer.ending) × (gave ≡ []))
     → (q.writer.ending ≡ ending.Closed → has_ended q.reader.ending ≡ true) → Moved (ring_peer p) (ring_peer q)
-moves p q got gave e f finished ended closed = (
+moves p q got gave same e f finished ended closed = (
   got,
   gave,
-  record { present = refl; took = grew p.reader.bytes q.reader.bytes got e; gave = grew p.writer.bytes q.writer.bytes gave f; finished = finished; ended = ended; closed = closed; absent = λ n. unlike n },
+  record { present = refl; asked = (same.2, same.3); ways = (ap way_of same.0, ap way_of same.1); took = grew p.reader.bytes q.reader.bytes got e; gave = grew p.writer.bytes q.writer.bytes gave f; finished = finished; ended = ended; closed = closed; absent = λ n. unlike n },
 )
 
 longer : (old new got : List ℕ) → new ≡ old ++ got → 0 < length got → length old < length new
@@ -50,7 +50,7 @@ has_fetched p q got e o (inr h) = inr (inr (inl (other (has_ended p.reader.endin
 
 pub idle : (p : RingPeerState) → (p.writer.ending ≡ ending.Closed → has_ended p.reader.ending ≡ true) → Moved (ring_peer p) (ring_peer p)
 idle p closed =
-    moves p p [] [] (sym (append-nil p.reader.bytes)) (sym (append-nil p.writer.bytes)) (λ e. (e, refl)) (λ _. (refl, refl)) closed
+    moves p p [] [] (refl, refl, refl, refl) (sym (append-nil p.reader.bytes)) (sym (append-nil p.writer.bytes)) (λ e. (e, refl)) (λ _. (refl, refl)) closed
 
 not_closed : (e : Ending) → e ≡ ending.Open → e ≡ ending.Closed → ⊥
 not_closed e o c = cc
@@ -69,20 +69,20 @@ some_got count room A w (inl l) = inl (subst (λ m. 0 < m) (sym (length-take-le 
 some_got count room A w (inr h) = inr h
 
 -- bytes or the mark were taken, and the other direction goes on
-pub fed : (p q : RingPeerState) (got : List ℕ) → p.writer.ending ≡ ending.Open → has_ended p.reader.ending ≡ false → q.writer.bytes ≡ p.writer.bytes → q.writer.ending ≡ p.writer.ending
+pub fed : (p q : RingPeerState) (got : List ℕ) → SameRings p q → p.writer.ending ≡ ending.Open → has_ended p.reader.ending ≡ false → q.writer.bytes ≡ p.writer.bytes → q.writer.ending ≡ p.writer.ending
     → q.reader.bytes ≡ p.reader.bytes ++ got → (0 < length got) ⊎ (has_ended q.reader.ending ≡ true) → Moved (ring_peer p) (ring_peer q) × HasMoved (ring_peer p) (ring_peer q) × (is_done (ring_peer q) ≡ false)
-fed p q got o live kept same more some = (
-  moves p q got [] more (kept ∙ sym (append-nil p.writer.bytes)) (λ h. absurd (both_not (has_ended p.reader.ending) live h)) (λ n. absurd (n o))
+fed p q got rings o live kept same more some = (
+  moves p q got [] rings more (kept ∙ sym (append-nil p.writer.bytes)) (λ h. absurd (both_not (has_ended p.reader.ending) live h)) (λ n. absurd (n o))
       (λ c. absurd (not_closed q.writer.ending (same ∙ o) c)),
   has_fetched p q got more live some,
   open_not_done q.writer.ending (has_ended q.reader.ending) (same ∙ o),
 )
 
 -- the same where memory was short, so that the end was given
-pub starved : (p q : RingPeerState) (got : List ℕ) → p.writer.ending ≡ ending.Open → has_ended p.reader.ending ≡ false → q.writer.bytes ≡ p.writer.bytes → q.writer.ending ≡ ending.Ended
+pub starved : (p q : RingPeerState) (got : List ℕ) → SameRings p q → p.writer.ending ≡ ending.Open → has_ended p.reader.ending ≡ false → q.writer.bytes ≡ p.writer.bytes → q.writer.ending ≡ ending.Ended
     → q.reader.bytes ≡ p.reader.bytes ++ got → Moved (ring_peer p) (ring_peer q)
-starved p q got o live kept ended more =
-    moves p q got [] more (kept ∙ sym (append-nil p.writer.bytes)) (λ h. absurd (both_not (has_ended p.reader.ending) live h)) (λ n. absurd (n o))
+starved p q got rings o live kept ended more =
+    moves p q got [] rings more (kept ∙ sym (append-nil p.writer.bytes)) (λ h. absurd (both_not (has_ended p.reader.ending) live h)) (λ n. absurd (n o))
     (λ c. absurd (ended_not_closed q.writer.ending ended c))
 
 no_mark : (e : Ending) → e ≡ ending.Open → e ≢ ending.Ended
@@ -106,12 +106,12 @@ closing_mark take_.End e m c = cc
 closing_mark take_.Closed e m c = refl
 closing_mark take_.Failed e m c = cc
 
-pub given : (p q : RingPeerState) (room : List ℕ) (t : Take) (result : Served) → p.writer.ending ≡ ending.Open → q.reader ≡ p.reader → IsTakeCount room t
+pub given : (p q : RingPeerState) (room : List ℕ) (t : Take) (result : Served) → SameRings p q → p.writer.ending ≡ ending.Open → q.reader ≡ p.reader → IsTakeCount room t
     → q.writer.bytes ≡ p.writer.bytes ++ given_of room t → q.writer.ending ≡ mark_at t → (t ≡ take_.Closed → has_ended p.reader.ending ≡ true) → t ≢ take_.Failed → t ≢ take_.Empty
     → Told result (ring_peer q) → ServeStep (ring_peer p) (Ok result) (ring_peer q)
-given p q room t result o reader count more mark closed f e told =
+given p q room t result rings o reader count more mark closed f e told =
     let bytes : q.reader.bytes ≡ p.reader.bytes = ap (λ (r : ReaderState). r.bytes) reader in
     let seen : has_ended q.reader.ending ≡ has_ended p.reader.ending = ap (λ (r : ReaderState). has_ended r.ending) reader in
     told_step (ring_peer p) (ring_peer q) result
-    (moves p q [] (given_of room t) (bytes ∙ sym (append-nil p.reader.bytes)) more (λ h. (seen ∙ h, refl)) (λ n. absurd (n o)) (λ c. seen ∙ closed (closing_mark t q.writer.ending mark c)))
+    (moves p q [] (given_of room t) rings (bytes ∙ sym (append-nil p.reader.bytes)) more (λ h. (seen ∙ h, refl)) (λ n. absurd (n o)) (λ c. seen ∙ closed (closing_mark t q.writer.ending mark c)))
     (has_given p q room t o count more mark f e) told

@@ -1,6 +1,6 @@
 -- The two ends of a ring, and the halves of a link over two of them, by what callers see.
-use Rattle.std.specs.Prelude.{ℕ, ◌≡◌, ◌≢◌, nat_lt, Bool, true, false, List, ◌++◌, [], length, None, Some}
-use denote.RawPtr.{Ptr}
+use Rattle.std.specs.Prelude.{ℕ, ◌≡◌, ◌≢◌, nat_lt, Bool, true, false, List, ◌++◌, ◌∷◌, [], length, Option, None, Some}
+use denote.RawPtr.{Ptr, block_ptr, null_ptr, block_of, count_of}
 use Rattle.std.specs.declared.alloc.Global.{Global}
 use Rattle.sock_io.specs.declared.ending.Ending.{Ending}
 use Rattle.sock_io.specs.declared.ending.Ending.TheVariants as ending
@@ -20,6 +20,14 @@ Ring = (Ptr × Ptr) × (Names × Global)
 
 abbrev pub ring_of : End Cell Global MarkLast → Ring
 ring_of e = ((e.words, e.slots), (e.names, e.heap))
+
+-- which ring it is, in numbers: two rings have the same ones only where they are one
+abbrev pub kind_of : Ptr → ℕ
+kind_of (block_ptr b o) = 1
+kind_of null_ptr = 0
+
+abbrev pub way_of : Ring → List ℕ
+way_of r = kind_of r.0.0 ∷ block_of r.0.0 ∷ count_of r.0.0 ∷ kind_of r.0.1 ∷ block_of r.0.1 ∷ count_of r.0.1 ∷ r.1.0.0 ∷ r.1.0.1.0 ∷ r.1.0.1.1 ∷ []
 
 -- the end that puts: all bytes that it put, the mark behind them, and how many places for bytes it knows to be free
 pub record WriterState : Type 0 where
@@ -43,7 +51,7 @@ pub record RingOutState : Type 0 where
 
 -- it keeps none of its bytes, and so tells none
 abbrev pub ring_out : RingOutState → OutState
-ring_out o = record { link = o.link; took = None; faults = 0; finished = has_ended o.writer.ending; clear = nat_lt 0 o.writer.places; prompt = false; again = o.again; steady = true; whole = false; answers = None }
+ring_out o = record { link = o.link; took = None; put_bytes = Some o.writer.bytes; way = way_of o.writer.ring; faults = 0; finished = has_ended o.writer.ending; clear = nat_lt 0 o.writer.places; prompt = false; again = o.again; steady = true; whole = false; answers = None }
 
 -- the reading half of a link: its end of the ring, whether it answered `End` or `Closed`, and all that it answered
 pub record RingInState : Type 0 where
@@ -53,19 +61,22 @@ pub record RingInState : Type 0 where
   pub takes : List TakeAnswer
 
 abbrev pub ring_in : RingInState → InState
-ring_in i = record { gave = length i.reader.bytes; gave_end = i.gave_end; closed = Some i.closed; faults = 0; gave_bytes = Some i.reader.bytes; takes = Some i.takes; closing = None; offer = None }
+ring_in i = record { gave = length i.reader.bytes; gave_end = i.gave_end; closed = Some i.closed; faults = 0; gave_bytes = Some i.reader.bytes; takes = Some i.takes; closing = None; offer = None; way = way_of i.reader.ring }
 
--- the other end of a link: its end of the ring from the link, and of the ring to it
+-- the other end of a link: its end of the ring from the link, and of the ring to it; whether it is the server, and after how many responses that
+-- gives its end
 pub record RingPeerState : Type 0 where
   pub reader : ReaderState
   pub writer : WriterState
+  pub serve : Bool
+  pub end : Option ℕ
 
--- no call changes which rings they are
+-- no call changes which rings they are, nor what it was asked to be
 abbrev pub SameRings : RingPeerState → RingPeerState → Type 0
-SameRings old new = (new.reader.ring ≡ old.reader.ring) × (new.writer.ring ≡ old.writer.ring)
+SameRings old new = (new.reader.ring ≡ old.reader.ring) × (new.writer.ring ≡ old.writer.ring) × (new.serve ≡ old.serve) × (new.end ≡ old.end)
 
 abbrev pub ring_peer : RingPeerState → PeerState
-ring_peer p = record { present = true; took = length p.reader.bytes; took_bytes = Some p.reader.bytes; saw_finish = has_ended p.reader.ending; gave = length p.writer.bytes; gave_bytes = Some p.writer.bytes; ending = p.writer.ending }
+ring_peer p = record { present = true; serve = p.serve; end = p.end; way_in = way_of p.reader.ring; way_out = way_of p.writer.ring; took = length p.reader.bytes; took_bytes = Some p.reader.bytes; saw_finish = has_ended p.reader.ending; gave = length p.writer.bytes; gave_bytes = Some p.writer.bytes; ending = p.writer.ending }
 
 -- the mark that is given at this answer of the link behind
 abbrev pub mark_at : Take → Ending

@@ -1,6 +1,7 @@
 ghost use Rattle.std.specs.Prelude.{◌≡◌, [], false, length, IfOk};
 ghost use Rattle.sock_io.specs.declared.ending.Ending.TheVariants.{Open};
 ghost use Rattle.sock_io.specs.Link.{IsFresh};
+ghost use Rattle.sock_io.specs.Meeting.{AreEnds, IsAskedPeer};
 ghost use Rattle.sock_io.specs.Peer.{IsNewPeer};
 ghost use Rattle.rtrb.specs.Ring.{IsPair, sent, received, known_items, known_free};
 ghost use Rattle.ring_link.specs.Halves.{IsNewRing, ring_in, ring_out, ring_peer};
@@ -47,6 +48,8 @@ pub fn open_ring(
 ) -> Result<Ends<RingOut, RingIn, RingPeer>, NoMemory>
     ensures fresh { IfOk result (λ ends. IsFresh (ring_out ends.out) (ring_in ends.inn) link) }
     ensures peer { IfOk result (λ ends. IsNewPeer (ring_peer ends.peer)) }
+    ensures other { IfOk result (λ ends. IsAskedPeer spec.now (ring_peer ends.peer)) }
+    ensures one { IfOk result (λ ends. AreEnds (ring_out ends.out) (ring_peer ends.peer) (ring_in ends.inn)) }
     ensures there { IfOk result (λ ends. ends.out.writer.ring ≡ ends.peer.reader.ring) }
     ensures back { IfOk result (λ ends. ends.peer.writer.ring ≡ ends.inn.reader.ring) }
     ensures places { IfOk result (λ ends. (ends.out.writer.places ≡ 65536) × (ends.peer.writer.places ≡ 65536)) }
@@ -57,6 +60,6 @@ pub fn open_ring(
     Ok(Ends {
         out: RingOut::new(link, there.writer),
         inn: RingIn::new(back.reader),
-        peer: RingPeer::new(there.reader, back.writer, inner),
+        peer: RingPeer::new(there.reader, back.writer, inner, spec),
     })
 }

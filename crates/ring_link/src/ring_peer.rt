@@ -11,7 +11,7 @@ use crate::reader::RingReader;
 use crate::ring_in::RingIn;
 use crate::ring_out::RingOut;
 use crate::writer::RingWriter;
-use sock_io::{NoMemory, Peer, Served, Take};
+use sock_io::{LinkSpec, NoMemory, Peer, Served, Take};
 use std::marker::Model;
 
 /// The other end of a link over rings: it hands what it takes from the one ring to a link in memory, and what that gives
@@ -21,6 +21,8 @@ pub struct RingPeer {
     pub(crate) reader: RingReader,
     pub(crate) writer: RingWriter,
     inner: Inner,
+    serve: bool,
+    end: Option<u32>,
     ended: bool,
 }
 
@@ -32,21 +34,28 @@ impl Model for RingPeer {
 
     ghost Value = { RingPeerState };
 
-    ghost view = { λ p. record { reader = p.reader; writer = p.writer } };
+    ghost view = { λ p. record { reader = p.reader; writer = p.writer; serve = p.serve; end = p.end } };
 
     ghost invariant = { λ p. (p.ended ≡ has_ended p.writer.ending) × (p.ended ≡ false → p.inner ≡ has_ended p.reader.ending) × (IsClosed p.writer.ending → has_ended p.reader.ending ≡ true) };
 }
 
 impl RingPeer {
     /// An other end that took and gave nothing.
-    pub(crate) fn new(reader: RingReader, writer: RingWriter, inner: Inner) -> RingPeer
+    pub(crate) fn new(
+        reader: RingReader,
+        writer: RingWriter,
+        inner: Inner,
+        spec: &LinkSpec,
+    ) -> RingPeer
         requires { IsOpen reader.ending × IsOpen writer.ending × (inner ≡ false) }
-        ensures { result ≡ record { reader = reader; writer = writer } }
+        ensures { result ≡ record { reader = reader; writer = writer; serve = spec.now.serve; end = spec.now.end } }
     {
         RingPeer {
             reader,
             writer,
             inner,
+            serve: spec.serve,
+            end: spec.end,
             ended: false,
         }
     }
@@ -98,7 +107,7 @@ impl RingPeer {
         requires open { IsOpen self.old.writer.ending }
         requires room { (0 < length room.old) × (length room.old ≤ self.old.writer.places) × (length room.old ≤ CHUNK) }
         ensures reader { self.new.reader ≡ self.old.reader }
-        ensures ring { self.new.writer.ring ≡ self.old.writer.ring }
+        ensures rings { SameRings self.old self.new }
         ensures count { IsTakeCount room.new result }
         ensures bytes { self.new.writer.bytes ≡ self.old.writer.bytes ++ given_of room.new result }
         ensures ending { self.new.writer.ending ≡ mark_at result }

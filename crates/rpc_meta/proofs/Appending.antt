@@ -1,5 +1,5 @@
 -- One append behind another.
-use Rattle.std.proofs.Common.{◌≡◌, ℕ, List, ◌++◌, length, take, Result, Ok, Err, refl, ap, sym, ◌∙◌, append_assoc, arith}
+use Rattle.std.proofs.Common.{◌≡◌, ℕ, ◌+◌, ◌≤◌, List, ◌++◌, length, take, Result, Ok, Err, refl, ap, sym, ◌∙◌, append_assoc, arith}
 use Rattle.std.proofs.lemmas.List.{take_at, take-take, length-append}
 use Rattle.rpc_meta.specs.Writing.{Appends}
 
@@ -19,3 +19,11 @@ behind first old new piece more (Err x) e h = kept first old new piece e h
 -- two pieces are one
 pub joined : (first old new piece more : List ℕ) → old ≡ first ++ piece → new ≡ old ++ more → new ≡ first ++ (piece ++ more)
 joined first old new piece more e h = h ∙ ap (λ l. l ++ more) e ∙ append_assoc first piece more
+
+-- where there is room for two pieces there is for the first
+pub room_for : (old piece more : List ℕ) (most : ℕ) → length old + length (piece ++ more) ≤ most → length old + length piece ≤ most
+room_for old piece more most h = omega (arith, h, length-append piece more)
+
+-- and for the second behind it
+pub room_behind : (old new piece more : List ℕ) (most : ℕ) → new ≡ old ++ piece → length old + length (piece ++ more) ≤ most → length new + length more ≤ most
+room_behind old new piece more most e h = omega (arith, h, ap length e, length-append old piece, length-append piece more)

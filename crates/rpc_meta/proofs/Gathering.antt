@@ -8,7 +8,8 @@ use Rattle.pb_wire.specs.Reading.{Reading, ahead, behind, sizeless, left_with, l
 use Rattle.pb_wire.proofs.Readings.{read_on}
 use Rattle.rpc_meta.specs.Gathered.{Gathered, part_added}
 
-folded_front : {A S : Type 0} (step : S → A → S) (s : S) (a : A) (r : Wire (List A)) →
+-- what is added first, and then the rest
+pub folded_front : {A S : Type 0} (step : S → A → S) (s : S) (a : A) (r : Wire (List A)) →
     (r >>= (λ rest. Ok (a ∷ rest))) >>= (λ l. Ok (fold step s l)) ≡ r >>= (λ rest. Ok (fold step (step s a) rest))
 folded_front step s a (Ok rest) = refl
 folded_front step s a (Err x) = refl

@@ -5,3 +5,5 @@ pub mod Appending
 pub mod Pieces
 pub mod RoundTrip
 pub mod Counting
+pub mod Varints
+mod NextFields

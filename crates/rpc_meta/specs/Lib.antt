@@ -5,3 +5,5 @@ pub mod Steps
 pub mod Answer
 pub mod Writing
 pub mod Held
+pub mod Sizes
+pub mod Straight

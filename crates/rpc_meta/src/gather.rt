@@ -5,10 +5,23 @@ ghost use Rattle.rpc_meta.specs.Parts.{names_of, outcome_of, gathered_of};
 ghost use Rattle.rpc_meta.specs.Steps.{request_read, response_read, parts_read, names_after, outcome_after, part_after, gathered_after};
 
 use crate::parts::{MetaParts, RequestParts, ResponseParts, add_to_request, add_to_response};
+use crate::straight::gather_straight;
 use pb_wire::{Field, Fields, Value, WireFault};
 
-/// Gathers the parts of the meta that these bytes are, in one pass; a message inside it is read where it stands.
+/// Gathers the parts of the meta that these bytes are: at once where they are spelled as most are, else field by field.
+#[inline(always)]
 pub fn gather(bytes: &[u8]) -> Result<MetaParts<'_>, WireFault>
+    ensures { parts_read result ≡ gathered_after nothing bytes.now }
+{
+    match gather_straight(bytes) {
+        Some(parts) => Ok(parts),
+        None => gather_each(bytes),
+    }
+}
+
+/// Gathers the parts of the meta that these bytes are, in one pass; a message inside it is read where it stands.
+#[inline(never)]
+fn gather_each(bytes: &[u8]) -> Result<MetaParts<'_>, WireFault>
     ensures { parts_read result ≡ gathered_after nothing bytes.now }
 {
     let mut parts = MetaParts {

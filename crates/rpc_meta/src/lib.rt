@@ -5,13 +5,19 @@
 #![tactic(auto)]
 
 mod fault;
+mod front;
 mod gather;
 mod meta;
 mod parts;
 mod read;
+mod sizes;
+mod spell;
+mod straight;
 #[cfg(test)]
 mod tests;
 mod write;
 
 pub use fault::MetaFault;
+pub use front::{FRONT_BYTES, Front};
 pub use meta::{MetaBytes, RequestMeta, ResponseMeta, RpcMeta};
+pub use sizes::MetaSizes;

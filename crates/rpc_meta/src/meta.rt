@@ -40,6 +40,7 @@ impl MetaBytes {
     }
 
     /// A copy of these bytes. Few take no memory.
+    #[inline(always)]
     pub fn copy(alloc: Global, bytes: &[u8]) -> Result<MetaBytes, AllocError>
         ensures { IfOk result (λ b. b ≡ bytes.now) }
     {
@@ -62,6 +63,7 @@ impl MetaBytes {
     }
 
     // A copy of few bytes.
+    #[inline(always)]
     fn few(alloc: Global, bytes: &[u8]) -> MetaBytes
         requires { length bytes.now ≤ HERE_BYTES }
         ensures { result ≡ bytes.now }

@@ -17,6 +17,7 @@ impl RpcMeta {
     /// of a response, and a known field of another wire type is skipped like an unknown one. Faults come in the
     /// order of [`MetaFault`]: first the whole wire form, messages inside it where they stand. Only `NoMemory`
     /// may come at any time.
+    #[inline(always)]
     pub fn read(alloc: Global, bytes: &[u8]) -> Result<RpcMeta, MetaFault>
         ensures { IfSome (answer result) (λ read. read ≡ read_meta bytes.now) }
     {
@@ -37,6 +38,7 @@ impl RpcMeta {
 }
 
 /// A request must have its service, and then its method.
+#[inline(always)]
 fn build_request(
     alloc: Global,
     parts: Option<RequestParts<'_>>,
@@ -62,6 +64,7 @@ fn build_request(
 }
 
 /// A response with its code and its text.
+#[inline(always)]
 fn build_response(
     alloc: Global,
     parts: Option<ResponseParts<'_>>,
@@ -79,6 +82,7 @@ fn build_response(
 }
 
 /// An int32: the low 32 bits of its varint, signed.
+#[inline(always)]
 fn low_signed(number: u64) -> i32
     ensures { result ≡ int32 number }
 {

@@ -127,6 +127,19 @@ fn has_response(meta: &RpcMeta, row: &Row) -> bool {
     }
 }
 
+// Whether the meta is spelled in place as these bytes.
+fn is_spelled_so(meta: &RpcMeta, bytes: &[u8]) -> bool {
+    let Some(sizes) = meta.sizes() else {
+        return false;
+    };
+    if sizes.all > FRONT_BYTES {
+        return false;
+    }
+    let mut front = Front::new();
+    meta.spell_to(sizes, &mut front);
+    front.as_slice() == bytes
+}
+
 #[test]
 fn reads_and_writes_what_protoc_does(rt: HostRuntime) {
     for row in &ROWS {
@@ -141,6 +154,7 @@ fn reads_and_writes_what_protoc_does(rt: HostRuntime) {
                 assert!(rt; meta.write_to(&mut out).is_ok());
                 assert_eq!(rt; out.as_slice() == row.bytes, row.spelled_so);
                 assert_eq!(rt; meta.spelled_size(), Some(out.len()));
+                assert_eq!(rt; is_spelled_so(&meta, row.bytes), row.spelled_so);
             }
             Err(fault) => assert!(rt; false, "{fault:?}"),
         }

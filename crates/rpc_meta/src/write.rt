@@ -3,9 +3,11 @@ ghost use Rattle.brpc_model.specs.Wire.{varint_bytes};
 ghost use Rattle.brpc_model.specs.Meta.{read_meta};
 ghost use Rattle.brpc_model.specs.Spelling.{spelled_int, number_field, bytes_field, where_not_0, where_not_empty, where_some, request_bytes, response_bytes, meta_bytes};
 ghost use Rattle.rpc_meta.specs.Meaning.{request_of, response_of, meaning};
+ghost use Rattle.rpc_meta.specs.Sizes.{IsRequestSize, IsResponseSize, AreSizes};
 ghost use Rattle.rpc_meta.specs.Writing.{Appends, HasPart, RequestFits, ResponseFits, MetaFits};
 
 use crate::meta::{RequestMeta, ResponseMeta, RpcMeta};
+use crate::sizes::MetaSizes;
 use pb_wire::{NoMemory, varint_size, write_varint};
 
 impl RpcMeta {
@@ -30,12 +32,26 @@ impl RpcMeta {
     pub fn spelled_size(&self) -> Option<usize>
         ensures { IfSome result (λ n. n ≡ length (meta_bytes (meaning self.now))) }
     {
-        let asked = asked_size(&self.request)?;
-        let answered = answered_size(&self.response)?;
+        Some(self.sizes()?.all)
+    }
+
+    /// How many bytes `write_to` appends, all and of the parts, where that fits.
+    pub fn sizes(&self) -> Option<MetaSizes>
+        ensures { IfSome result (λ s. AreSizes s (meaning self.now)) }
+    {
+        let request = asked_size(&self.request)?;
+        let response = answered_size(&self.response)?;
+        let asked = whole_request(&self.request, request)?;
+        let answered = whole_response(&self.response, response)?;
         let numbers = int_size(3, self.compress_type)
             + number_size(4, self.correlation_id)
             + int_size(5, self.attachment_size);
-        asked.checked_add(answered)?.checked_add(numbers)
+        let all = asked.checked_add(answered)?.checked_add(numbers)?;
+        Some(MetaSizes {
+            all,
+            request,
+            response,
+        })
     }
 }
 
@@ -148,22 +164,44 @@ fn append_head(number: u8, size: usize, out: &mut Vec<u8>) -> Result<(), NoMemor
     write_varint(out, size as u64)
 }
 
-/// How many bytes the request has where there is one, where that fits.
+/// How many bytes the request's fields have where there is one, where that fits.
 fn asked_size(request: &Option<RequestMeta>) -> Option<usize>
-    ensures { IfSome result (λ n. n ≡ length (where_some (λ r. bytes_field 1 (request_bytes r)) (option_map request_of request.now))) }
+    ensures { IfSome result (IsRequestSize (option_map request_of request.now)) }
 {
     match request {
-        Some(request) => bytes_size(1, request_size(request)?),
+        Some(request) => request_size(request),
         None => Some(0),
     }
 }
 
-/// How many bytes the response has where there is one, where that fits.
+/// How many bytes the response's fields have where there is one, where that fits.
 fn answered_size(response: &Option<ResponseMeta>) -> Option<usize>
+    ensures { IfSome result (IsResponseSize (option_map response_of response.now)) }
+{
+    match response {
+        Some(response) => response_size(response),
+        None => Some(0),
+    }
+}
+
+/// How many bytes the request has where there is one, with what stands before its fields, where that fits.
+fn whole_request(request: &Option<RequestMeta>, size: usize) -> Option<usize>
+    requires { IsRequestSize (option_map request_of request.now) size }
+    ensures { IfSome result (λ n. n ≡ length (where_some (λ r. bytes_field 1 (request_bytes r)) (option_map request_of request.now))) }
+{
+    match request {
+        Some(_) => bytes_size(1, size),
+        None => Some(0),
+    }
+}
+
+/// How many bytes the response has where there is one, with what stands before its fields, where that fits.
+fn whole_response(response: &Option<ResponseMeta>, size: usize) -> Option<usize>
+    requires { IsResponseSize (option_map response_of response.now) size }
     ensures { IfSome result (λ n. n ≡ length (where_some (λ r. bytes_field 2 (response_bytes r)) (option_map response_of response.now))) }
 {
     match response {
-        Some(response) => bytes_size(2, response_size(response)?),
+        Some(_) => bytes_size(2, size),
         None => Some(0),
     }
 }
@@ -228,7 +266,7 @@ fn bytes_size(number: u8, len: usize) -> Option<usize>
 }
 
 /// An int32 as the number of 64 bits that its varint spells.
-fn spelled(value: i32) -> u64
+pub(crate) fn spelled(value: i32) -> u64
     ensures { result ≡ spelled_int value }
 {
     i64::from(value).cast_unsigned()

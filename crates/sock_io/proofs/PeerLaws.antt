@@ -32,7 +32,7 @@ unmoved old new m s e =
     let gave : new.gave ≡ old.gave = omega (arith, m.gave.count) in
     let took_bytes : new.took_bytes ≡ old.took_bytes = m.took.known ∙ known_stay old.took_bytes in
     let gave_bytes : new.gave_bytes ≡ old.gave_bytes = m.gave.known ∙ known_stay old.gave_bytes in
-    λ i. record { present = present i; took = took i; took_bytes = took_bytes i; saw_finish = s i; gave = gave i; gave_bytes = gave_bytes i; ending = e i }
+    λ i. record { present = present i; serve = m.asked.0 i; end = m.asked.1 i; way_in = m.ways.0 i; way_out = m.ways.1 i; took = took i; took_bytes = took_bytes i; saw_finish = s i; gave = gave i; gave_bytes = gave_bytes i; ending = e i }
 
 -- whichever way it is done
 still_if : (old new : PeerState) (taken given : List ℕ) → (old.present ≡ false) ⊎ ((old.saw_finish ≡ true) × (old.ending ≢ ending.Open)) → Moves old new taken given → new ≡ old

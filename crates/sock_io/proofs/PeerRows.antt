@@ -5,19 +5,19 @@ use Rattle.sock_io.specs.declared.link.Served.TheVariants as served
 use Rattle.sock_io.specs.Peer.{PeerState, HasMoved, ServeStep}
 
 abbrev fresh : PeerState
-fresh = record { present = true; took = 0; took_bytes = Some []; saw_finish = false; gave = 0; gave_bytes = None; ending = ending.Open }
+fresh = record { present = true; serve = true; end = None; way_in = []; way_out = []; took = 0; took_bytes = Some []; saw_finish = false; gave = 0; gave_bytes = None; ending = ending.Open }
 
 -- three bytes came in, and two went out
 abbrev answered : PeerState
-answered = record { present = true; took = 3; took_bytes = Some (1 ∷ 2 ∷ 3 ∷ []); saw_finish = false; gave = 2; gave_bytes = None; ending = ending.Open }
+answered = record { present = true; serve = true; end = None; way_in = []; way_out = []; took = 3; took_bytes = Some (1 ∷ 2 ∷ 3 ∷ []); saw_finish = false; gave = 2; gave_bytes = None; ending = ending.Open }
 
 -- the link was finished, and it closed its half
 abbrev closed : PeerState
-closed = record { present = true; took = 3; took_bytes = Some (1 ∷ 2 ∷ 3 ∷ []); saw_finish = true; gave = 2; gave_bytes = None; ending = ending.Closed }
+closed = record { present = true; serve = true; end = None; way_in = []; way_out = []; took = 3; took_bytes = Some (1 ∷ 2 ∷ 3 ∷ []); saw_finish = true; gave = 2; gave_bytes = None; ending = ending.Closed }
 
 -- it gave its end, and takes what still comes
 abbrev ended : PeerState
-ended = record { present = true; took = 3; took_bytes = Some (1 ∷ 2 ∷ 3 ∷ []); saw_finish = false; gave = 2; gave_bytes = None; ending = ending.Ended }
+ended = record { present = true; serve = true; end = None; way_in = []; way_out = []; took = 3; took_bytes = Some (1 ∷ 2 ∷ 3 ∷ []); saw_finish = false; gave = 2; gave_bytes = None; ending = ending.Ended }
 
 moves_bytes : ServeStep fresh (Ok served.Moved) answered
 moves_bytes = (
@@ -26,6 +26,8 @@ moves_bytes = (
     7 ∷ 8 ∷ [],
     record {
       present = refl;
+      asked = (refl, refl);
+      ways = (refl, refl);
       took = record { count = refl; known = refl };
       gave = record { count = refl; known = refl };
       finished = λ e. cc;
@@ -48,6 +50,8 @@ closes = (
     [],
     record {
       present = refl;
+      asked = (refl, refl);
+      ways = (refl, refl);
       took = record { count = refl; known = refl };
       gave = record { count = refl; known = refl };
       finished = λ e. cc;
@@ -66,6 +70,8 @@ gives_its_end = (
     7 ∷ 8 ∷ [],
     record {
       present = refl;
+      asked = (refl, refl);
+      ways = (refl, refl);
       took = record { count = refl; known = refl };
       gave = record { count = refl; known = refl };
       finished = λ e. cc;

@@ -4,6 +4,7 @@ pub mod Giving
 pub mod Link
 pub mod Answered
 pub mod Linker
+pub mod Meeting
 pub mod Memory
 pub mod Peer
 pub mod Shape

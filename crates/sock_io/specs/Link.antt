@@ -22,6 +22,10 @@ pub record OutState : Type 0 where
   pub link : ℕ
   -- all bytes that it took, where it tells them
   pub took : Option (List ℕ)
+  -- all bytes that were put through it, where that is known, also where it keeps none of them
+  pub put_bytes : Option (List ℕ)
+  -- which way its bytes go, where that is known: the other end of the link stands at the end of the same way
+  pub way : List ℕ
   -- its count of faults
   pub faults : ℕ
   -- whether it was finished
@@ -91,6 +95,8 @@ pub record InState : Type 0 where
   pub closing : Option Bool
   -- what its other end offers, where it tells
   pub offer : Option Offer
+  -- which way its bytes come, where that is known
+  pub way : List ℕ
 
 -- what a put took of the piece
 abbrev pub taken_of : List ℕ → Put → List ℕ
@@ -126,10 +132,11 @@ abbrev pub IsPutCount : List ℕ → Put → Type 0
 IsPutCount piece (put.Took n) = (0 < n) × (n ≤ length piece)
 IsPutCount piece other = Unit {0}
 
--- which link it is stays, and whether it is always ready
+-- which link it is stays, which way its bytes go, and whether it is always ready
 pub record SameOut (old new : OutState) : Type 0 where
   pub link : new.link ≡ old.link
   pub prompt : new.prompt ≡ old.prompt
+  pub way : new.way ≡ old.way
   pub later : old.faults ≤ new.faults
 
 -- how it paces its puts stays
@@ -140,6 +147,7 @@ pub record SameKind (old new : OutState) : Type 0 where
 pub record PutStep (old new : OutState) (piece : List ℕ) (result : Put) : Type 0 where
   pub count : IsPutCount piece result
   pub took : new.took ≡ append_known old.took (taken_of piece result)
+  pub put_bytes : new.put_bytes ≡ append_known old.put_bytes (taken_of piece result)
   pub answers : new.answers ≡ more_told old.answers (of_put result ∷ [])
   pub same : SameOut old new
   pub kind : SameKind old new
@@ -154,6 +162,7 @@ pub record PutStep (old new : OutState) (piece : List ℕ) (result : Put) : Type
 
 pub record ReadyStep (old new : OutState) (result : Ready) : Type 0 where
   pub took : new.took ≡ old.took
+  pub put_bytes : new.put_bytes ≡ old.put_bytes
   pub answers : new.answers ≡ more_told old.answers (of_ready result ∷ [])
   pub same : SameOut old new
   pub kind : SameKind old new
@@ -171,6 +180,7 @@ pub record ReadyStep (old new : OutState) (result : Ready) : Type 0 where
 
 pub record FinishStep (old new : OutState) : Type 0 where
   pub took : new.took ≡ old.took
+  pub put_bytes : new.put_bytes ≡ old.put_bytes
   pub answers : new.answers ≡ old.answers
   pub same : SameOut old new
   pub kind : SameKind old new
@@ -214,6 +224,7 @@ pub record TakeStep (old new : InState) (room : List ℕ) (result : Take) : Type
   pub only_closing : result ≡ take_.Closed → old.closing ≢ Some false
   pub closing : new.closing ≡ old.closing
   pub offer : OffersTaken old.offer new.offer (given_of room result) result
+  pub way : new.way ≡ old.way
   pub later : old.faults ≤ new.faults
   pub failed : result ≡ take_.Failed → Rose old.faults new.faults
   pub kept : result ≢ take_.Failed → new.faults ≡ old.faults

@@ -44,7 +44,7 @@ is_closing ending.Closed = true
 
 -- such a half as a reading half, which never fails
 abbrev pub mem_in : MemInState → InState
-mem_in i = record { gave = length i.given; gave_end = i.gave_end; closed = Some i.closed; faults = 0; gave_bytes = Some i.given; takes = Some i.takes; closing = Some (is_closing i.ending); offer = None }
+mem_in i = record { gave = length i.given; gave_end = i.gave_end; closed = Some i.closed; faults = 0; gave_bytes = Some i.given; takes = Some i.takes; closing = Some (is_closing i.ending); offer = None; way = [] }
 
 -- what a take answers: as many bytes as wait and the room takes; where none waits, what comes behind them
 abbrev pub take_answer : List ℕ → Ending → (room : ℕ) → Take

@@ -11,6 +11,12 @@ use Rattle.sock_io.specs.declared.stream.NoMemory.{NoMemory}
 pub record PeerState : Type 0 where
   -- whether there is one that `serve` moves
   pub present : Bool
+  -- whether it is the built-in server, and after how many responses that gives its end
+  pub serve : Bool
+  pub end : Option ℕ
+  -- which way bytes come to it, and which way its own go, where that is known
+  pub way_in : List ℕ
+  pub way_out : List ℕ
   -- how many bytes it took from the link
   pub took : ℕ
   -- which they are, where it tells them
@@ -44,6 +50,8 @@ pub record Grew (old new : ℕ) (old_bytes new_bytes : Option (List ℕ)) (bytes
 -- only where it saw the finish
 pub record Moves (old new : PeerState) (taken given : List ℕ) : Type 0 where
   pub present : new.present ≡ old.present
+  pub asked : (new.serve ≡ old.serve) × (new.end ≡ old.end)
+  pub ways : (new.way_in ≡ old.way_in) × (new.way_out ≡ old.way_out)
   pub took : Grew old.took new.took old.took_bytes new.took_bytes taken
   pub gave : Grew old.gave new.gave old.gave_bytes new.gave_bytes given
   pub finished : old.saw_finish ≡ true → (new.saw_finish ≡ true) × (taken ≡ [])
@@ -79,4 +87,4 @@ pub record IsNewPeer (peer : PeerState) : Type 0 where
 
 -- no other end
 abbrev pub no_peer : PeerState
-no_peer = record { present = false; took = 0; took_bytes = None; saw_finish = false; gave = 0; gave_bytes = None; ending = ending.Open }
+no_peer = record { present = false; serve = false; end = None; way_in = []; way_out = []; took = 0; took_bytes = None; saw_finish = false; gave = 0; gave_bytes = None; ending = ending.Open }

@@ -3,6 +3,7 @@ ghost use Rattle.std.specs.List.{AllByRecursion};
 ghost use Rattle.brpc_model.specs.Link.{LinkEnd};
 ghost use Rattle.sock_io.specs.Causes.{Rose};
 ghost use Rattle.sock_io.specs.Link.{OutState, InState, PutStep, ReadyStep, FinishStep, TakeStep, SettleStep, IsSettled, IsNewOffer, IsFresh, IsUnused, ConnectionEnd, end_of, connection_of};
+ghost use Rattle.sock_io.specs.Meeting.{AreEnds, IsAskedPeer, MeetOut, MeetStep};
 ghost use Rattle.sock_io.specs.Peer.{PeerState, ServeStep, IsNewPeer};
 
 use crate::stream::NoMemory;
@@ -51,7 +52,8 @@ pub enum Take {
 /// It has a count of faults that never falls: it rises where a call answers `Failed`, and stands still at every other
 /// answer. A count that stands at its last value, 2^64 - 1, counts as risen.
 pub trait Out: Drop {
-    /// Which link it is, what it took and answered, its count of faults, and whether it was finished.
+    /// Which link it is, what it took and answered, what was put through it, its count of faults, and whether it was
+    /// finished.
     ghost state: { Self → OutState };
 
     /// Takes a part of the piece, from its front: 1 byte at least, or nothing at `Again` and `Failed`.
@@ -104,7 +106,8 @@ pub enum Served {
 /// It takes the bytes of the link in their order and none behind the finish, and gives bytes in theirs and none behind its
 /// own end. It closes its half only after the link was finished.
 pub trait Peer: Drop {
-    /// Whether there is an other end to serve, what it took and gave, and the marks that it saw and gave.
+    /// Whether there is an other end to serve, what it was asked to be, what it took and gave, and the marks that it saw
+    /// and gave.
     ghost state: { Self → PeerState };
 
     /// Moves what can be moved now. An other end that finds no memory gives its end in this call and throws later bytes
@@ -162,11 +165,11 @@ pub enum OpenFault {
 pub trait Linker {
     ghost use Rattle.sock_io.specs.declared.link.LinkSpec.{LinkSpec};
 
-    type O: Out + Send + Sync;
+    type O: Out + Send;
 
-    type I: In + Send + Sync;
+    type I: In + Send;
 
-    type P: Peer + Send + Sync;
+    type P: Peer + Send;
 
     /// What was asked of each link that was opened, in order.
     ghost asked: { Self → List LinkSpec };
@@ -192,6 +195,8 @@ pub trait Linker {
         ensures fresh { IfOk result (λ ends. IsFresh (Self.O.state ends.out) (Self.I.state ends.inn) (length (asked self.old))) }
         ensures peer { IfOk result (λ ends. IsNewPeer (Self.P.state ends.peer)) }
         ensures offer { IfOk result (λ ends. IfSome (Self.I.state ends.inn).offer (λ o. IsNewOffer spec.now o)) }
+        ensures one { IfOk result (λ ends. AreEnds (Self.O.state ends.out) (Self.P.state ends.peer) (Self.I.state ends.inn)) }
+        ensures other { IfOk result (λ ends. IsAskedPeer spec.now (Self.P.state ends.peer)) }
         ensures prompt { IfOk result (λ ends. prompt self.old ≡ true → spec.now.mode ≡ Mode.Loop → (Self.O.state ends.out).prompt ≡ true) }
         ensures asked { IfOk result (λ _. asked self.new ≡ asked self.old ++ spec.now ∷ []) }
         ensures refused { OnErr result (asked self.new ≡ asked self.old) }
@@ -208,6 +213,7 @@ pub trait Linker {
     /// here. Besides that, what is told of the halves stays as it is, also where memory is short.
     fn settle(&mut self, ends: &mut Ends<Self::O, Self::I, Self::P>) -> Result<(), NoMemory>
         ensures out { Self.O.state ends.new.out ≡ Self.O.state ends.old.out }
+        ensures peer { Self.P.state ends.new.peer ≡ Self.P.state ends.old.peer }
         ensures inn { SettleStep (Self.O.state ends.old.out) (Self.I.state ends.old.inn) (Self.I.state ends.new.inn) }
         ensures settled { OnOk result (IsSettled (Self.O.state ends.old.out) (Self.I.state ends.old.inn) (Self.I.state ends.new.inn)) }
         ensures err { OnErr result ((self.new ≡ self.old) × (ends.new ≡ ends.old)) }
@@ -217,6 +223,21 @@ pub trait Linker {
         ensures done { done self.new ≡ done self.old }
         ensures stays_prompt { prompt self.new ≡ prompt self.old }
         ensures faults { faults self.new ≡ faults self.old };
+
+    /// Compares the ends of a link, once nobody else moves them: what its other end offers may become known by that.
+    /// Besides that, what is told of the halves stays as it is. Most kinds of link do nothing here.
+    fn meet(&mut self, _ends: &mut Ends<Self::O, Self::I, Self::P>)
+        requires { AreEnds (Self.O.state _ends.old.out) (Self.P.state _ends.old.peer) (Self.I.state _ends.old.inn) }
+        ensures out { MeetOut (Self.O.state _ends.old.out) (Self.O.state _ends.new.out) }
+        ensures peer { Self.P.state _ends.new.peer ≡ Self.P.state _ends.old.peer }
+        ensures inn { MeetStep (Self.O.state _ends.old.out) (Self.P.state _ends.old.peer) (Self.I.state _ends.old.inn) (Self.I.state _ends.new.inn) }
+        ensures asked { asked self.new ≡ asked self.old }
+        ensures accepted { accepted self.new ≡ accepted self.old }
+        ensures back { back self.new ≡ back self.old }
+        ensures done { done self.new ≡ done self.old }
+        ensures stays_prompt { prompt self.new ≡ prompt self.old }
+        ensures faults { faults self.new ≡ faults self.old }
+    {}
 
     /// Accepts the next connection, and reserves the room for its `done`. The first call listens on 127.0.0.1 at the
     /// port.

@@ -1,5 +1,5 @@
 ghost use Rattle.sock_io.specs.declared.shaped.TheConstants.{TAKEN_ROOM};
-ghost use Rattle.std.specs.Prelude.{◌≡◌, ℕ, ◌-◌, ◌<◌, ◌++◌, ◌∷◌, false, true, IfOk, [], length};
+ghost use Rattle.std.specs.Prelude.{◌≡◌, ℕ, ◌-◌, ◌<◌, ◌++◌, ◌∷◌, false, true, IfOk, IfSome, [], length};
 ghost use Rattle.sock_io.specs.Causes.{next_number};
 ghost use Rattle.sock_io.specs.Answered.{half_answer};
 ghost use Rattle.sock_io.specs.Link.{PutStep, ReadyStep, FinishStep, SameKind, of_put, of_ready};
@@ -24,7 +24,8 @@ pub const TAKEN_ROOM: usize = 2_097_152;
 /// room full fails. What is left is as the half inside has it.
 #[derive(Drop)]
 pub struct Shaped<O: Out> {
-    inner: O,
+    /// Open to linkers that compare the ends of a link: what was put through it is what was taken.
+    pub inner: O,
     taken: Vec<u8>,
     shape: Shape,
     puts: u64,
@@ -37,7 +38,7 @@ pub struct Shaped<O: Out> {
 
 impl<O: Out> Model for Shaped<O> {
     ghost use Rattle.sock_io.specs.declared.shaped.TheConstants.{TAKEN_ROOM};
-    ghost use Rattle.std.specs.Prelude.{◌≡◌, ◌<◌, ◌≤◌, true, map, vec_capacity, vec_len};
+    ghost use Rattle.std.specs.Prelude.{◌≡◌, ◌<◌, ◌≤◌, true, map, vec_capacity, vec_len, IfSome};
     ghost use Rattle.sock_io.specs.Answered.{half_answer};
     ghost use Rattle.sock_io.specs.Shape.{ShapedState};
 
@@ -45,16 +46,17 @@ impl<O: Out> Model for Shaped<O> {
 
     ghost view = { λ s. record { inner = O.state s.inner; shape = s.shape; puts = s.puts; paused = s.paused; taken = s.taken.items; faults = s.faults; answers = map half_answer s.answers.list } };
 
-    ghost invariant = { λ s. (0 < s.shape.piece) × (TAKEN_ROOM ≤ vec_capacity s.taken) × (vec_len s.taken ≤ TAKEN_ROOM) × ((O.state s.inner).finished ≡ s.finished) × ((O.state s.inner).steady ≡ true) };
+    ghost invariant = { λ s. (0 < s.shape.piece) × (TAKEN_ROOM ≤ vec_capacity s.taken) × (vec_len s.taken ≤ TAKEN_ROOM) × ((O.state s.inner).finished ≡ s.finished) × ((O.state s.inner).steady ≡ true) × IfSome (O.state s.inner).put_bytes (λ bytes. bytes ≡ s.taken.items) };
 }
 
 impl<O: Out> Shaped<O> {
-    /// A half with this shape, and the room for what it takes. The half inside isn't finished, and its `Now` always
-    /// clears its next put.
+    /// A half with this shape, and the room for what it takes. The half inside took nothing, isn't finished, and its `Now`
+    /// always clears its next put.
     pub fn new(alloc: Global, inner: O, shape: Shape) -> Result<Self, NoMemory>
         requires piece { 0 < shape.piece }
         requires open { (O.state inner).finished ≡ false }
         requires steady { (O.state inner).steady ≡ true }
+        requires fresh { IfSome (O.state inner).put_bytes (λ bytes. bytes ≡ []) }
         ensures { IfOk result (λ s. s ≡ record { inner = O.state inner; shape = shape; puts = 0; paused = false; taken = []; faults = 0; answers = [] }) }
     {
         match Vec::with_capacity(alloc, TAKEN_ROOM) {

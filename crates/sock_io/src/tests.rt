@@ -150,7 +150,8 @@ fn reading_half_in_memory(rt: HostRuntime) {
     assert_eq!(rt; inn.take(&mut room), Take::End);
 }
 
-/// Opens a link, puts two bytes into it, finishes it, settles it and gives it back: what its halves answered.
+/// Opens a link, puts two bytes into it, finishes it, settles it, compares its ends and gives it back: what its halves
+/// answered.
 fn use_link<L: Linker>(links: &mut L, spec: &LinkSpec) -> Result<(Put, Take, Take), OpenFault>
     requires piece { 0 < spec.now.piece }
     requires first { L.asked links.old ≡ [] }
@@ -162,6 +163,7 @@ fn use_link<L: Linker>(links: &mut L, spec: &LinkSpec) -> Result<(Put, Take, Tak
     let before = ends.inn.take(&mut room);
     ends.out.finish();
     let settled = links.settle(&mut ends);
+    links.meet(&mut ends);
     let after = ends.inn.take(&mut room);
     links.back(0, ends);
     match settled {

@@ -14,17 +14,14 @@ returns-clause-only c = λ (more : List ℕ).
     let frame = frame_with (meaning c.args.meta.now) c.args.payload.now.items c.args.attachment.now.items in
     let made : c.append_shared-2.new.frame.items ≡ frame_bytes frame = first_of (search rules, grind (arith, common_steps)) in
     let is_frame : IsFrame c.append_shared-2.new.frame.items frame =
-    record { spelled = meta_bytes (meaning c.args.meta.now); means = c.in_ok-spell_front.ensures.reads_back; made = made; sized = c.requires.sized; small = c.requires.small }
+    record { spelled = meta_bytes (meaning c.args.meta.now); means = c.in_ok-append_front.ensures.reads_back; made = made; sized = c.requires.sized; small = c.requires.small }
     in
     frame_judged c.append_shared-2.new.frame.items more frame is_frame
 
 parts : (c : goal.After-refs) → c.append_shared-2.new.frame.sizes ≡ block_sizes (12 + length (meta_bytes (meaning c.args.meta.now))) ++ c.args.payload.now.sizes ++ c.args.attachment.now.sizes
 parts c =
-    let bytes : List ℕ = meta_bytes (meaning c.args.meta.now) in
-    let head : length c.deref.result.now ≡ 12 + length bytes = omega (arith, ap length (c.deref.ensures.value ∙ c.in_ok-spell_front.ensures.front)) in
     c.in_ok-append_shared-2.ensures.sizes
-    ∙ ap (λ (l : List ℕ). l ++ c.args.attachment.now.sizes)
-    (c.in_ok-append_shared.ensures.sizes ∙ ap (λ (l : List ℕ). l ++ c.args.payload.now.sizes) (c.in_ok-append_bytes.ensures.empty c.new-frame.ensures.items ∙ ap block_sizes head))
+    ∙ ap (λ (l : List ℕ). l ++ c.args.attachment.now.sizes) (c.in_ok-append_shared.ensures.sizes ∙ ap (λ (l : List ℕ). l ++ c.args.payload.now.sizes) c.in_ok-append_front.ensures.sizes)
 
 pub returns-clause-sizes : goal.returns-clause-sizes
 returns-clause-sizes c = parts c

@@ -1,4 +1,4 @@
-use Rattle.std.proofs.Common.{◌≡◌, ℕ, ◌+◌, ◌*◌, ◌++◌, length, ◌∙◌, ap}
+use Rattle.std.proofs.Common.{ℕ, ◌+◌, ◌*◌, ◌++◌, length, ◌∙◌, ap}
 use Rattle.brpc_model.specs.Wire.{varint_bytes}
 use Rattle.brpc_model.specs.Spelling.{request_bytes}
 use Rattle.rpc_meta.specs.Meaning.{request_of}

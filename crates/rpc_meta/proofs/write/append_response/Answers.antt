@@ -1,4 +1,4 @@
-use Rattle.std.proofs.Common.{◌≡◌, ℕ, ◌+◌, ◌*◌, ◌++◌, length, ◌∙◌, ap}
+use Rattle.std.proofs.Common.{ℕ, ◌+◌, ◌*◌, ◌++◌, length, ◌∙◌, ap}
 use Rattle.brpc_model.specs.Wire.{varint_bytes}
 use Rattle.brpc_model.specs.Spelling.{response_bytes}
 use Rattle.rpc_meta.specs.Meaning.{response_of}

@@ -3,7 +3,7 @@ use Rattle.sock_io.specs.declared.ending.Ending.TheVariants as ending
 use Rattle.sock_io.specs.declared.link.Take.TheVariants as take_
 use Rattle.sock_io.specs.Link.{given_of}
 use Rattle.sock_io.specs.Peer.{has_ended}
-use Rattle.ring_link.specs.Halves.{RingPeerState, ReaderState}
+use Rattle.ring_link.specs.Halves.{RingPeerState, ReaderState, SameRings}
 use Rattle.ring_link.proofs.Peers.{given}
 use Rattle.ring_link.proofs.ring_peer.RingPeerPeer.serve.Goals as goal
 
@@ -13,6 +13,7 @@ returns-in_default-clause-step c =
     let g = c.give in
     let o : p.writer.ending ≡ ending.Open = search rules in
     let reader : g.new.self.reader ≡ p.reader = g.ensures.reader ∙ ap (λ (s : RingPeerState). s.reader) c.self.view_is in
+    let rings : SameRings p g.new.self = search rules in
     let more : g.new.self.writer.bytes ≡ p.writer.bytes ++ given_of g.new.room g.result = search rules in
     let closed : g.result ≡ take_.Closed → has_ended p.reader.ending ≡ true = λ e. ap (λ (s : RingPeerState). has_ended s.reader.ending) (sym c.self.view_is) ∙ g.ensures.closed e in
-    given p g.new.self g.new.room g.result c.moved.result o reader g.ensures.count more g.ensures.ending closed g.ensures.never c.in_default.not-Empty c.moved.ensures
+    given p g.new.self g.new.room g.result c.moved.result rings o reader g.ensures.count more g.ensures.ending closed g.ensures.never c.in_default.not-Empty c.moved.ensures

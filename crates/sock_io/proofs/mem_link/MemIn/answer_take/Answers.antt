@@ -32,6 +32,7 @@ returns-then-count-gt0-clause-step c =
       only_closing = search rules;
       closing = search rules;
       offer = search rules;
+      way = search rules;
       later = search rules;
       failed = search rules;
       kept = search rules;

@@ -9,6 +9,8 @@ returns c = (
     [],
     record {
       present = refl;
+      asked = (refl, refl);
+      ways = (refl, refl);
       took = record { count = refl; known = refl };
       gave = record { count = refl; known = refl };
       finished = search rules;

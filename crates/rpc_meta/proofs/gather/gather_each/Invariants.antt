@@ -5,7 +5,7 @@ use Rattle.pb_wire.specs.Reading.{left_with}
 use Rattle.rpc_meta.specs.Gathered.{nothing, part_added}
 use Rattle.rpc_meta.specs.Parts.{gathered_of}
 use Rattle.rpc_meta.specs.Steps.{gathered_after}
-use Rattle.rpc_meta.proofs.gather.gather.Given as goal
+use Rattle.rpc_meta.proofs.gather.gather_each.Given as goal
 
 -- the parts so far and those that are left are the whole
 abbrev pub invariant-loop-field : goal.invariant-loop-field

@@ -1,0 +1,139 @@
+ghost use Rattle.std.specs.Prelude.{◌≡◌, ◌+◌, ◌*◌, ◌≤◌, ◌++◌, length, option_map, Some, Ok};
+ghost use Rattle.brpc_model.specs.Wire.{varint_bytes};
+ghost use Rattle.brpc_model.specs.Meta.{read_meta};
+ghost use Rattle.brpc_model.specs.Spelling.{number_field, bytes_field, where_not_0, where_not_empty, where_some, request_bytes, response_bytes, meta_bytes};
+ghost use Rattle.rpc_meta.specs.Meaning.{request_of, response_of, meaning};
+ghost use Rattle.rpc_meta.specs.Sizes.{IsRequestSize, IsResponseSize, AreSizes};
+ghost use Rattle.rpc_meta.specs.Writing.{HasPart, RequestFits, ResponseFits, MetaFits};
+
+use crate::front::{FRONT_BYTES, Front};
+use crate::meta::{RequestMeta, ResponseMeta, RpcMeta};
+use crate::sizes::MetaSizes;
+use crate::write::spelled;
+
+impl RpcMeta {
+    /// Spells the meta in place, as `write_to` does, where there is room for it.
+    pub fn spell_to(&self, sizes: MetaSizes, out: &mut Front)
+        requires sizes { AreSizes sizes (meaning self.now) }
+        requires room { length out.old + sizes.all ≤ FRONT_BYTES }
+        ensures exact { out.new ≡ out.old ++ meta_bytes (meaning self.now) }
+        ensures reads_back { HasPart (meaning self.now) → read_meta (meta_bytes (meaning self.now)) ≡ Ok (meaning self.now) }
+    {
+        spell_meta(self, sizes, out);
+    }
+}
+
+/// Spells the meta.
+fn spell_meta(meta: &RpcMeta, sizes: MetaSizes, out: &mut Front)
+    requires sizes { AreSizes sizes (meaning meta.now) }
+    requires room { length out.old + sizes.all ≤ FRONT_BYTES }
+    ensures exact { out.new ≡ out.old ++ meta_bytes (meaning meta.now) }
+    ensures fits { MetaFits (meaning meta.now) }
+{
+    spell_request(&meta.request, sizes.request, out);
+    spell_response(&meta.response, sizes.response, out);
+    spell_int(3, meta.compress_type, out);
+    spell_number(4, meta.correlation_id, out);
+    spell_int(5, meta.attachment_size, out);
+}
+
+/// Spells the request where there is one, behind its length.
+fn spell_request(request: &Option<RequestMeta>, size: usize, out: &mut Front)
+    requires size { IsRequestSize (option_map request_of request.now) size }
+    requires room { length out.old + length (where_some (λ r. bytes_field 1 (request_bytes r)) (option_map request_of request.now)) ≤ FRONT_BYTES }
+    ensures exact { out.new ≡ out.old ++ where_some (λ r. bytes_field 1 (request_bytes r)) (option_map request_of request.now) }
+    ensures fits { RequestFits (option_map request_of request.now) }
+{
+    if let Some(request) = request {
+        spell_head(1, size, out);
+        spell_names(request, out);
+    }
+}
+
+/// Spells the fields of a request.
+fn spell_names(request: &RequestMeta, out: &mut Front)
+    requires { length out.old + length (request_bytes (request_of request.now)) ≤ FRONT_BYTES }
+    ensures exact { out.new ≡ out.old ++ request_bytes (request_of request.now) }
+    ensures fits { RequestFits (Some (request_of request.now)) }
+{
+    spell_bytes(1, request.service.as_slice(), out);
+    spell_bytes(2, request.method.as_slice(), out);
+    if let Some(log_id) = request.log_id {
+        spell_number(3, log_id, out);
+    }
+}
+
+/// Spells the response where there is one, in the same way.
+fn spell_response(response: &Option<ResponseMeta>, size: usize, out: &mut Front)
+    requires size { IsResponseSize (option_map response_of response.now) size }
+    requires room { length out.old + length (where_some (λ r. bytes_field 2 (response_bytes r)) (option_map response_of response.now)) ≤ FRONT_BYTES }
+    ensures exact { out.new ≡ out.old ++ where_some (λ r. bytes_field 2 (response_bytes r)) (option_map response_of response.now) }
+    ensures fits { ResponseFits (option_map response_of response.now) }
+{
+    if let Some(response) = response {
+        spell_head(2, size, out);
+        spell_outcome(response, out);
+    }
+}
+
+/// Spells the fields of a response.
+fn spell_outcome(response: &ResponseMeta, out: &mut Front)
+    requires { length out.old + length (response_bytes (response_of response.now)) ≤ FRONT_BYTES }
+    ensures exact { out.new ≡ out.old ++ response_bytes (response_of response.now) }
+    ensures fits { ResponseFits (Some (response_of response.now)) }
+{
+    spell_number(1, spelled(response.code), out);
+    spell_text(2, response.text.as_slice(), out);
+}
+
+/// Spells an int32 where it isn't 0.
+#[inline(always)]
+fn spell_int(number: u8, value: i32, out: &mut Front)
+    requires { length out.old + length (where_not_0 number value) ≤ FRONT_BYTES }
+    ensures { out.new ≡ out.old ++ where_not_0 number value }
+{
+    if value != 0 {
+        spell_number(number, spelled(value), out);
+    }
+}
+
+/// Spells a varint under a number.
+#[inline(always)]
+fn spell_number(number: u8, value: u64, out: &mut Front)
+    requires { length out.old + length (number_field number value) ≤ FRONT_BYTES }
+    ensures { out.new ≡ out.old ++ number_field number value }
+{
+    out.put_varint(u64::from(number) * 8);
+    out.put_varint(value);
+}
+
+/// Spells bytes under a number, where there are any.
+#[inline(always)]
+fn spell_text(number: u8, bytes: &[u8], out: &mut Front)
+    requires { length out.old + length (where_not_empty number bytes.now) ≤ FRONT_BYTES }
+    ensures { out.new ≡ out.old ++ where_not_empty number bytes.now }
+{
+    if !bytes.is_empty() {
+        spell_bytes(number, bytes, out);
+    }
+}
+
+/// Spells bytes under a number.
+#[inline(always)]
+fn spell_bytes(number: u8, bytes: &[u8], out: &mut Front)
+    requires { length out.old + length (bytes_field number bytes.now) ≤ FRONT_BYTES }
+    ensures { out.new ≡ out.old ++ bytes_field number bytes.now }
+{
+    spell_head(number, bytes.len(), out);
+    out.extend(bytes);
+}
+
+/// Spells what stands before so many bytes under a number.
+#[inline(always)]
+fn spell_head(number: u8, size: usize, out: &mut Front)
+    requires { length out.old + length (varint_bytes (number * 8 + 2) ++ varint_bytes size) ≤ FRONT_BYTES }
+    ensures { out.new ≡ out.old ++ (varint_bytes (number * 8 + 2) ++ varint_bytes size) }
+{
+    out.put_varint(u64::from(number) * 8 + 2);
+    out.put_varint(size as u64);
+}
