@@ -14,15 +14,15 @@ use Rattle.call_client.specs.declared.caller.Caller.{Caller}
 use Rattle.call_client.specs.Running.{RunBy}
 use Rattle.call_client.proofs.Changes.{Sees, keeps, finds, makes, locks, unlocks, Changes, same, in_turn, sees, ends, decides, posts, wants, shelves, run_changes}
 
-sees_share : {v w : View Asked} → Sees v w → w.share ≡ v.share
+sees_share : {xs : List Task} {v w : View Asked} → Sees xs v w → w.share ≡ v.share
 sees_share (keeps v w place own word e) = ap (λ (y : View Asked). y.share) e
 sees_share (finds v w q) = q.share
-sees_share (makes v w slots id range asked m) = m.did.share
+sees_share (makes v w slots id asked own m) = m.did.share
 sees_share (locks v w slots version k g) = g.got.did.share
 sees_share (unlocks v w k advance Open u) = u.4.share
 sees_share (unlocks v w k advance (Next l code attempt) u) = u.3.share
 
-changes_share : {s t : CallStand} → Changes s t → t.view.share ≡ s.view.share
+changes_share : {xs : List Task} {s t : CallStand} → Changes xs s t → t.view.share ≡ s.view.share
 changes_share (same s t e) = ap (λ (y : CallStand). y.view.share) e
 changes_share (in_turn s u t a b) = changes_share b ∙ changes_share a
 changes_share (sees s t v e) = sees_share v

@@ -83,10 +83,10 @@ advance_ends : (at : ℕ) (p q : Parts) (i f : ℕ) → total (is_ended f) (note
 advance_ends at p q i f = elim (eqb p.attempt q.attempt) as (λ b. total (is_ended f) (notes_of i (cond b [] (one {C = Asked} at (Attempt p.first q.attempt)))) ≡ 0)
     [ true ↦ refl | false ↦ none_of_one (is_ended f) (ended_silent f) at (Attempt p.first q.attempt) refl i ]
 
-sees_ends : {v w : View Asked} → Sees v w → (i f : ℕ) → noted_ends i f w ≡ noted_ends i f v
+sees_ends : {xs : List Task} {v w : View Asked} → Sees xs v w → (i f : ℕ) → noted_ends i f w ≡ noted_ends i f v
 sees_ends (keeps v w place own word e) i f = ap (λ (y : View Asked). noted_ends i f y) e
 sees_ends (finds v w q) i f = quiet_total (is_ended f) (ended_silent f) v w q i
-sees_ends (makes v w slots id range asked m) i f = did_ends (slot_of id) v w _ _ m.did (λ j h. none_of_one (is_ended h) (ended_silent h) (slot_of id) (Made (version_of id) range asked) refl j) i f
+sees_ends (makes v w slots id asked own m) i f = did_ends (slot_of id) v w _ _ m.did (λ j h. none_of_one (is_ended h) (ended_silent h) (slot_of id) (Made (version_of id) asked.range asked) refl j) i f
 sees_ends (locks v w slots version k g) i f = did_ends k.slot v w _ _ g.got.did (λ j h. none_of_one (is_ended h) (ended_silent h) k.slot (Locker (parts k.word.0).first k.content) refl j) i f
 sees_ends (unlocks v w k advance Open u) i f = did_ends k.slot v w _ _ u.4 (advance_ends k.slot (parts k.word.0) u.1) i f
 sees_ends (unlocks v w k advance (Next l code attempt) u) i f = did_ends k.slot v w _ _ u.3 (advance_ends k.slot (parts k.word.0) (parts l.word.0)) i f
@@ -113,7 +113,7 @@ handled_starved code attempt (Gone found) s t e h = ap (λ (y : CallStand). y.bo
 handled_starved code attempt (Stale current) s t e h = ap (λ (y : CallStand). y.books.starved) e ∙ h
 handled_starved code attempt (Crowded first second) s t e h = ap (λ (y : CallStand). y.books.starved) e ∙ h
 
-changes_starved : {s t : CallStand} → Changes s t → s.books.starved ≡ true → t.books.starved ≡ true
+changes_starved : {xs : List Task} {s t : CallStand} → Changes xs s t → s.books.starved ≡ true → t.books.starved ≡ true
 changes_starved (same s t e) h = ap (λ (y : CallStand). y.books.starved) e ∙ h
 changes_starved (in_turn s u t a b) h = changes_starved b (changes_starved a h)
 changes_starved (sees s t v e) h = ap (λ (y : Books). y.starved) e ∙ h
@@ -125,7 +125,7 @@ changes_starved (shelves s t waiting e) h = ap (λ (y : CallStand). y.books.star
 
 -- ## What ended is told
 
-changes_accounts : {s t : CallStand} → Changes s t → Accounts s t
+changes_accounts : {xs : List Task} {s t : CallStand} → Changes xs s t → Accounts s t
 changes_accounts (same s t e) = inr (λ i f fl. let a = ap (λ (y : CallStand). told_ends i f y.books) e in let b = ap (λ (y : CallStand). noted_ends i f y.view) e in omega arith)
 changes_accounts (in_turn s u t a b) = ⊎_elim (λ x. inl (changes_starved b x)) (λ h. accounts_then s u t h (changes_accounts b)) (changes_accounts a)
 changes_accounts (sees s t v e) = inr (λ i f fl. let a = ap (told_ends i f) e in let b = sees_ends v i f in omega arith)

@@ -1,10 +1,11 @@
 -- What the links that are given back tell of the answers.
-use Rattle.std.proofs.Common.{◌≡◌, ℕ, ◌+◌, ◌<◌, List, [], length, map, get_or, Some, None, refl, sym, ap, ◌∙◌, subst, arith}
+use Rattle.std.proofs.Common.{◌≡◌, ℕ, ◌<◌, List, [], length, map, get_or, Some, None, refl, sym, ◌∙◌, subst, arith}
 use Rattle.std.specs.Prelude.{Option, option_map, slice_get, IfSome}
 use Rattle.std.specs.List.{AllByRecursion}
 use Rattle.std.proofs.lemmas.List.{length-map}
 use Rattle.std.proofs.lemmas.Option.{slice_get-map, slice_get-get_or, slice_get_within}
 use Rattle.brpc_model.specs.Link.{LinkEnd}
+use Rattle.brpc_model.specs.Operations.{Operation}
 use Rattle.sock_io.specs.declared.link.Ends.{Ends}
 use Rattle.sock_io.specs.Link.{OutState, InState, end_of}
 use Rattle.sock_words.specs.declared.outcome.Outcome.{Outcome}
@@ -38,9 +39,9 @@ module _ {O I P : Type 0} (out : O → OutState) (inn : I → InState) where
       subst (IsGiver gave k) m.2 record { gives = g.tells k e e' there m.1 was.1; counted = (let c = g.counts k e e' there m.1 in let z = was.0 in omega arith) }
 
   -- links that gave nothing before, and were given back behind that
-  pub answered_by : (old new : List (Ends O I P)) (b b' : Books) (a : AnsweredFrom inn old new b b') (outcomes : List (Option Outcome)) → AllByRecursion IsSilent old → HaveAnswers (length old) a.gave outcomes → AreAnsweredBy outcomes (map end_at new)
-  answered_by old new b b' a outcomes silent h = record {
+  pub answered_by : (slots : ℕ) (ops : List Operation) (old new : List (Ends O I P)) (b b' : Books) (a : AnsweredFrom slots inn old new b b') (outcomes : List (Option Outcome)) → AllByRecursion IsSilent old → HaveAnswers (length old) a.gave ops outcomes → AreAnsweredBy ops outcomes (map end_at new)
+  answered_by slots ops old new b b' a outcomes silent h = record {
     gave = a.gave;
     givers = giver a.gave old new a.between silent;
-    each = subst (λ (n : ℕ). HaveAnswers n a.gave outcomes) (sym (length-map new end_at ∙ a.between.as_many)) h;
+    each = subst (λ (n : ℕ). HaveAnswers n a.gave ops outcomes) (sym (length-map new end_at ∙ a.between.as_many)) h;
   }

@@ -77,7 +77,7 @@ handled_fails code attempt (Gone found) s t e = fails_same s t (ap (λ (y : Call
 handled_fails code attempt (Stale current) s t e = fails_same s t (ap (λ (y : CallStand). y.books.told) e)
 handled_fails code attempt (Crowded first second) s t e = fails_same s t (ap (λ (y : CallStand). y.books.told) e)
 
-changes_fail : {s t : CallStand} → Changes s t → Fails s t
+changes_fail : {xs : List Task} {s t : CallStand} → Changes xs s t → Fails s t
 changes_fail (same s t e) = fails_same s t (ap (λ (y : CallStand). y.books.told) e)
 changes_fail (in_turn s u t a b) = fails_then s u t (changes_fail a) (changes_fail b)
 changes_fail (sees s t v e) = fails_same s t (ap (λ (y : Books). y.told) e)

@@ -1,5 +1,5 @@
 -- What has come of each operation that a client made: its outcome is told, its call has begun, or it is a message that was accepted.
-use Rattle.std.proofs.Common.{◌≡◌, ℕ, zero, suc, ◌+◌, ◌<◌, ◌≤◌, true, false, List, [], ◌∷◌, ◌++◌, append-nil, Some, None, refl, sym, ap, ◌∙◌, subst, arith}
+use Rattle.std.proofs.Common.{◌≡◌, ℕ, zero, suc, ◌<◌, false, List, [], ◌∷◌, ◌++◌, append-nil, Some, None, refl, sym, ap, ◌∙◌, subst, arith}
 use Rattle.std.specs.Prelude.{Option as Maybe}
 use Rattle.std.specs.List.{AllByRecursion}
 use mathlib.Core.Logic.{dite}
@@ -13,9 +13,8 @@ use Rattle.sock_words.specs.declared.outcome.Outcome.{Outcome}
 use Rattle.sock_programs.specs.declared.task.Op.{Op}
 use Rattle.sock_programs.specs.declared.task.Op.TheVariants as ops
 use Rattle.sock_programs.specs.declared.task.Task.{Task}
-use Rattle.corr_core.specs.Law.{total, only, pair}
+use Rattle.corr_core.specs.Law.{total}
 use Rattle.corr_core.specs.declared.marks.Note.TheVariants.{Made as made_note}
-use Rattle.corr_core.specs.declared.marks.Kept.{Kept}
 use Rattle.corr_core.specs.declared.marks.Plan as id_plan
 use Rattle.corr_core.specs.declared.marks.View.{View}
 use Rattle.corr_core.proofs.Notes.{pair-same, at_length}
@@ -24,10 +23,9 @@ use Rattle.sock_message.specs.Asked.{Asked}
 use Rattle.corr_id.specs.Calls.{slot_of, version_of, one}
 use Rattle.rpc_client.specs.declared.acting.Told.{Told}
 use Rattle.rpc_client.specs.Running.{telling}
-use Rattle.call_errors.specs.Books.{stand_of}
 use Rattle.call_attempts.specs.Both.{Both}
 use Rattle.call_attempts.specs.declared.calling.Called.TheVariants as called
-use Rattle.call_attempts.specs.Calling.{MadeFor, CalledBy}
+use Rattle.call_attempts.specs.Calling.{CalledBy}
 use Rattle.call_client.specs.declared.caller.Caller.{Caller}
 use Rattle.call_client.specs.Acting.{Stand, stand, both_of, Acted}
 use Rattle.call_client.specs.Running.{Course, Made, Ran, begins, RunBy}
@@ -68,6 +66,11 @@ module _ (q : id_plan.Plan) where
   come_later y n x told more v w g (began asked id is h) = began asked id is (begun_later y n asked.operation id v w g h)
   come_later y n x told more v w g (sends m bytes is) = sends m bytes is
 
+  told_one : (number : ℕ) (x : Task) (by : Outcome) (old new : List Told) (v : View Asked) → number ≡ x.number → new ≡ old ++ telling number (Some by) → HasCome q x new v
+  told_one number x by old new v e is =
+      let t : Told = record { number = number; outcome = by } in let r = last_there old t in
+      tells r.0 t (ap (λ (l : List Told). get_elem? l r.0) is ∙ r.1) e
+
   module _ {O : Type 0} (state : O → OutState) (p : Plan) where
     -- the id of a call is made and noted
     made_begun : (asked : Asked) (id : ℕ) (s t : Both) → CalledBy state p q asked (called.Begun id) s t → HasBegun q asked.operation id t.calls.view
@@ -81,11 +84,6 @@ module _ (q : id_plan.Plan) where
         begun_later (call_word q 0) 0 o id u t.calls.view (attempted_by q 0 state p h.socket _ h.at t h.attempted).grows begun
 
     module _ {g : Ghosts O} where
-      told_one : (number : ℕ) (x : Task) (by : Outcome) (old new : List Told) (v : View Asked) → number ≡ x.number → new ≡ old ++ telling number (Some by) → HasCome q x new v
-      told_one number x by old new v e is =
-          let t : Told = record { number = number; outcome = by } in let r = last_there old t in
-          tells r.0 t (ap (λ (l : List Told). get_elem? l r.0) is ∙ r.1) e
-
       acted_come : (x : Task) (op : Op) → x.op ≡ op → (by : Maybe Outcome) (s t : Stand g) (old new : List Told) → Acted state p q x.number op by s t → new ≡ old ++ telling x.number by → HasCome q x new t.calls.view
       acted_come x op is (Some by) s t old new h e = told_one x.number x by old new t.calls.view refl e
       acted_come x (ops.Send n bytes) is None s t old new h e = sends n bytes is

@@ -1,5 +1,5 @@
 -- How calls end for whoever meets frames, posts the end of a reading, and ends what is left.
-use Rattle.std.proofs.Common.{◌≡◌, ℕ, suc, Bool, true, false, List, [], ◌∷◌, ◌++◌, append_assoc, append-nil, ◌⊎◌, inl, inr, Some, None, refl, sym, ap, ◌∙◌, subst}
+use Rattle.std.proofs.Common.{◌≡◌, ℕ, suc, ◌<◌, Bool, true, false, List, [], ◌∷◌, ◌++◌, append_assoc, append-nil, ◌⊎◌, inl, inr, Some, None, refl, sym, ap, ◌∙◌, subst}
 use Rattle.std.specs.Prelude.{Option, slice_get, position, ◌==◌}
 use Rattle.std.proofs.lemmas.List.Quantifiers.{position-Some}
 use Rattle.sock_words.specs.Words.{at_word_link}
@@ -7,13 +7,12 @@ use Rattle.sock_words.specs.declared.at_word.AtWord.{AtWord}
 use Rattle.sock_words.specs.declared.outcome.Outcome.{Outcome}
 use Rattle.sock_words.specs.declared.outcome.Outcome.TheVariants.{CallFailed}
 use Rattle.corr_core.specs.Word.{Parts, parts}
-use Rattle.corr_core.specs.declared.marks.Note.TheVariants.{Ended}
 use Rattle.corr_core.specs.declared.marks.Plan.{Plan}
 use Rattle.corr_core.specs.declared.marks.View.{View}
 use Rattle.id_rule.specs.Lawful.{at_word, with_kept}
 use Rattle.corr_id.specs.declared.posts.Posted.{Posted}
 use Rattle.corr_id.specs.declared.posts.Posted.TheVariants.{Locked as HasLock, Queued as IsQueued, Gone, Stale, Crowded}
-use Rattle.corr_id.specs.Calls.{GotLock, one, slot_of}
+use Rattle.corr_id.specs.Calls.{GotLock, slot_of}
 use Rattle.corr_id.specs.Posts.{PostOk}
 use Rattle.sock_message.specs.Asked.{Asked}
 use Rattle.prpc_frame.specs.Meaning.{frame_of}
@@ -27,20 +26,20 @@ use Rattle.rpc_reader.specs.Resting.{HadEnded, EndedLast, OneEnded, RestEnded}
 use Rattle.rpc_reader.proofs.Frames.{asked_responds}
 use Rattle.call_told.specs.Answers.{IsGiven, AreGiven, IsLossCode, EndedBy, by_code, by_response, ToldFrom, TellsFrom}
 use Rattle.call_told.proofs.Lists.{all_both, all_but, all_at, all_then, elem_or}
-use Rattle.call_told.proofs.Noting.{Later, later_same, later_then, quiet_later, did_later, became_did, post_later, ended_later, has_ended}
+use Rattle.call_told.proofs.Noting.{Later, later_same, later_then, quiet_later, got_later, end_later, post_later, ended_later, has_ended}
 use Rattle.call_told.proofs.Given.{given_response, for_is}
 
-module _ (links : ℕ) (gave : ℕ → List ℕ) where
+module _ (p : Plan) (links : ℕ) (gave : ℕ → List ℕ) where
   abbrev GivenAll : List Frame → Type 0
   GivenAll fs = AreGiven links gave fs
 
   -- from these books to those, whatever was kept before
   pub record Step (b b' : Books) : Type 0 where
     pub later : Later b.view b'.view
-    pub tells : GivenAll b.early → TellsFrom links gave b b'
+    pub tells : GivenAll b.early → TellsFrom p.slots links gave b b'
 
-  told_later : (u v : View Asked) → Later u v → (x : Told) → ToldFrom links gave u x → ToldFrom links gave v x
-  told_later u v l x t = record { slot = t.slot; word = t.word; call = t.call; lock = ended_later t.slot t.word t.call u v l t.lock; number = t.number; by = t.by }
+  told_later : (u v : View Asked) → Later u v → (x : Told) → ToldFrom p.slots links gave u x → ToldFrom p.slots links gave v x
+  told_later u v l x t = record { slot = t.slot; inside = t.inside; word = t.word; call = t.call; lock = ended_later t.slot t.word t.call u v l t.lock; number = t.number; by = t.by }
 
   pub step_then : (a b c : Books) → Step a b → Step b c → Step a c
   step_then a b c s t = record {
@@ -48,7 +47,7 @@ module _ (links : ℕ) (gave : ℕ → List ℕ) where
     tells = λ given. let x = s.tells given in let y = t.tells x.early in record {
       more = x.more ++ y.more;
       told = y.told ∙ ap (λ (l : List Told). l ++ y.more) x.told ∙ append_assoc a.told x.more y.more;
-      each = all_both (ToldFrom links gave c.view) x.more y.more (all_then (ToldFrom links gave b.view) (ToldFrom links gave c.view) x.more (told_later b.view c.view t.later) x.each) y.each;
+      each = all_both (ToldFrom p.slots links gave c.view) x.more y.more (all_then (ToldFrom p.slots links gave b.view) (ToldFrom p.slots links gave c.view) x.more (told_later b.view c.view t.later) x.each) y.each;
       early = y.early;
     };
   }
@@ -65,32 +64,32 @@ module _ (links : ℕ) (gave : ℕ → List ℕ) where
   step_seen b v l = step_quiet b (record b { view = v }) l refl (λ given. given)
 
   -- a call ended for which the seat has the lock
-  ended_step : (slot : ℕ) (w : Parts) (call : Asked) (by : Outcome) (u : View Asked) (word : ℕ) (b b' : Books) → GotLock slot u b.view word w call → EndedAs slot w call by b b' → (GivenAll b.early → EndedBy links gave slot w by × GivenAll b'.early) → Step b b'
-  ended_step slot w call by u word b b' got e f = record {
-    later = did_later slot b.view b'.view [] _ (became_did slot b.view b'.view [] (one slot (Ended w.first)) e.ended);
+  ended_step : (slot : ℕ) → slot < p.slots → (w : Parts) (call : Asked) (by : Outcome) (u : View Asked) (word : ℕ) (b b' : Books) → GotLock slot u b.view word w call → EndedAs slot w call by b b' → (GivenAll b.early → EndedBy links gave slot w by × GivenAll b'.early) → Step b b'
+  ended_step slot inside w call by u word b b' got e f = record {
+    later = end_later slot w.first b.view b'.view e.ended;
     tells = λ given. let h = f given in tells h.0 h.1 e.told;
   }
     where
       now : Told
       now = record { number = call.operation; outcome = by }
 
-      tells : EndedBy links gave slot w by → GivenAll b'.early → ToldBy call.operation by b.told b.starved b'.told b'.starved → TellsFrom links gave b b'
+      tells : EndedBy links gave slot w by → GivenAll b'.early → ToldBy call.operation by b.told b.starved b'.told b'.starved → TellsFrom p.slots links gave b b'
       tells why early (inl t) = record {
         more = now ∷ [];
         told = t.0;
-        each = (record { slot = slot; word = w; call = call; lock = has_ended slot w call u b.view b'.view word got e.ended; number = refl; by = why }, tt);
+        each = (record { slot = slot; inside = inside; word = w; call = call; lock = has_ended slot w call u b.view b'.view word got e.ended; number = refl; by = why }, tt);
         early = early;
       }
       tells why early (inr t) = record { more = []; told = t.0 ∙ sym (append-nil b.told); each = tt; early = early }
 
   -- ## Frames
 
-  module _ (slots : ℕ) (f : Frame) (b b' : Books) (given : IsGiven links gave (frame_of f)) where
-    answered_step : AnsweredBy slots f b b' → Step b b'
+  module _ (f : Frame) (b b' : Books) (given : IsGiven links gave (frame_of f)) where
+    answered_step : AnsweredBy p.slots f b b' → Step b b'
     answered_step a =
         let u : Books = record b { view = a.locked } in
-        step_then b u b' (step_seen b a.locked (did_later (slot_in f) b.view a.locked _ _ a.got.did))
-        (ended_step (slot_in f) a.word a.call (ending_of (id_of (slot_in f) a.word) (frame_of f)) b.view a.found u b' a.got a.ended
+        step_then b u b' (step_seen b a.locked (got_later (slot_in f) a.found a.word a.call b.view a.locked a.got))
+        (ended_step (slot_in f) a.inside a.word a.call (ending_of (id_of (slot_in f) a.word) (frame_of f)) b.view a.found u b' a.got a.ended
         (λ kept. (by_response (frame_of f) (given_response links gave (slot_in f) a.word f given refl a.version.0 a.version.1) refl, subst (λ (l : List Frame). GivenAll l) (sym a.early) kept)))
 
     kept_given : (c : Bool) → KeptIf c f b.early b.starved b'.early b'.starved → GivenAll b.early → GivenAll b'.early
@@ -101,73 +100,72 @@ module _ (links : ℕ) (gave : ℕ → List ℕ) where
     lacked_step : LackedBy f b b' → Step b b'
     lacked_step l = step_quiet b b' (quiet_later b.view b'.view l.quiet) l.told (kept_given (is_early (version_in f) (parts l.word)) l.kept)
 
-  frame_step : (slots : ℕ) (f : Frame) (b b' : Books) → (has_response f.meta.response ≡ true → IsGiven links gave (frame_of f)) → FrameMet slots f b b' → Step b b'
-  frame_step slots f b b' given met = by (is_asked slots f) refl met
+  frame_step : (f : Frame) (b b' : Books) → (has_response f.meta.response ≡ true → IsGiven links gave (frame_of f)) → FrameMet p.slots f b b' → Step b b'
+  frame_step f b b' given met = by (is_asked p.slots f) refl met
     where
-      by : (a : Bool) → is_asked slots f ≡ a → MetIf a slots f b b' → Step b b'
+      by : (a : Bool) → is_asked p.slots f ≡ a → MetIf a p.slots f b b' → Step b b'
       by false e m = step_same b b' m
-      by true e (inl a) = answered_step slots f b b' (given (asked_responds slots f e)) a
-      by true e (inr l) = lacked_step slots f b b' (given (asked_responds slots f e)) l
+      by true e (inl a) = answered_step f b b' (given (asked_responds p.slots f e)) a
+      by true e (inr l) = lacked_step f b b' (given (asked_responds p.slots f e)) l
 
-  pub frames_step : (slots : ℕ) (fs : List Frame) (b b' : Books) → ((m : ℕ) (f : Frame) → slice_get fs m ≡ Some f → has_response f.meta.response ≡ true → IsGiven links gave (frame_of f)) → FramesMet slots fs b b' → Step b b'
-  frames_step slots [] b b' given m = step_same b b' m
-  frames_step slots (f ∷ fs) b b' given m = step_then b m.0 b' (frame_step slots f b m.0 (given 0 f refl) m.1) (frames_step slots fs m.0 b' (λ i x e. given (suc i) x e) m.2)
+  pub frames_step : (fs : List Frame) (b b' : Books) → ((m : ℕ) (f : Frame) → slice_get fs m ≡ Some f → has_response f.meta.response ≡ true → IsGiven links gave (frame_of f)) → FramesMet p.slots fs b b' → Step b b'
+  frames_step [] b b' given m = step_same b b' m
+  frames_step (f ∷ fs) b b' given m = step_then b m.0 b' (frame_step f b m.0 (given 0 f refl) m.1) (frames_step fs m.0 b' (λ i x e. given (suc i) x e) m.2)
 
   -- ## Codes
 
   module _ (code : ℕ) (loss : IsLossCode code) where
-    lost_step : (slot : ℕ) (w : Parts) (call : Asked) (u : View Asked) (word : ℕ) (b b' : Books) → GotLock slot u b.view word w call → LockLost slot w call code b b' → Step b b'
-    lost_step slot w call u word b b' got lost = by (position (is_for slot w) b.early) refl lost
+    lost_step : (slot : ℕ) → slot < p.slots → (w : Parts) (call : Asked) (u : View Asked) (word : ℕ) (b b' : Books) → GotLock slot u b.view word w call → LockLost slot w call code b b' → Step b b'
+    lost_step slot inside w call u word b b' got lost = by (position (is_for slot w) b.early) refl lost
       where
         by : (o : Option ℕ) → position (is_for slot w) b.early ≡ o → LostBy slot w call code o b b' → Step b b'
-        by None e l = ended_step slot w call (CallFailed (id_of slot w) code) u word b b' got l.0 (λ kept. (by_code code loss refl, subst (λ (fs : List Frame). GivenAll fs) (sym l.1) kept))
+        by None e l = ended_step slot inside w call (CallFailed (id_of slot w) code) u word b b' got l.0 (λ kept. (by_code code loss refl, subst (λ (fs : List Frame). GivenAll fs) (sym l.1) kept))
         by (Some i) e l =
             let f = l.0 in
             let passes = (position-Some (is_for slot w) b.early i f e).1 in
             let is = for_is slot w f (ap (is_for slot w) (sym (elem_or b.early i f f l.1)) ∙ passes) in
-            ended_step slot w call (ending_of (id_of slot w) (frame_of f)) u word b b' got l.3
+            ended_step slot inside w call (ending_of (id_of slot w) (frame_of f)) u word b b' got l.3
             (λ kept. (
               by_response (frame_of f) (given_response links gave slot w f (all_at (λ x. IsGiven links gave (frame_of x)) b.early i f kept l.1) is.0 is.1 is.2) refl,
               subst (λ (fs : List Frame). GivenAll fs) (sym l.2) (all_but (λ x. IsGiven links gave (frame_of x)) i b.early kept),
             ))
 
-    posted_to : (slots : ℕ) (v : View Asked) (id : ℕ) (attempt : Option ℕ) (answer : Posted Asked) (b b' : Books) → PostOk slots v b.view id code attempt answer → PostedTo code answer b b' → Step b b'
-    posted_to slots v id attempt (HasLock k) b b' post h = lost_step k.slot (parts k.word.0) k.content v post.4.0 b b' post.4.1 h
-    posted_to slots v id attempt IsQueued b b' post h = step_same b b' h
-    posted_to slots v id attempt (Gone found) b b' post h = step_same b b' h
-    posted_to slots v id attempt (Stale current) b b' post h = step_same b b' h
-    posted_to slots v id attempt (Crowded first second) b b' post h = step_same b b' h
+    posted_to : (v : View Asked) (id : ℕ) (attempt : Option ℕ) (answer : Posted Asked) (b b' : Books) → PostOk p.slots v b.view id code attempt answer → PostedTo code answer b b' → Step b b'
+    posted_to v id attempt (HasLock k) b b' post h = lost_step k.slot post.1 (parts k.word.0) k.content v post.4.0 b b' post.4.1 h
+    posted_to v id attempt IsQueued b b' post h = step_same b b' h
+    posted_to v id attempt (Gone found) b b' post h = step_same b b' h
+    posted_to v id attempt (Stale current) b b' post h = step_same b b' h
+    posted_to v id attempt (Crowded first second) b b' post h = step_same b b' h
 
-    posted_if : (a : Bool) (slots w : ℕ) (b b' : Books) → PostedIf a slots code w b b' → Step b b'
-    posted_if false slots w b b' h = step_same b b' h
-    posted_if true slots w b b' h =
+    posted_if : (a : Bool) (w : ℕ) (b b' : Books) → PostedIf a p.slots code w b b' → Step b b'
+    posted_if false w b b' h = step_same b b' h
+    posted_if true w b b' h =
         let u : Books = record b { view = h.seen } in
-        step_then b u b' (step_seen b h.seen (post_later slots b.view h.seen (call_at w) code (attempt_at w) h.answer h.posted)) (posted_to slots b.view (call_at w) (attempt_at w) h.answer u b' h.posted h.then_)
+        step_then b u b' (step_seen b h.seen (post_later p.slots b.view h.seen (call_at w) code (attempt_at w) h.answer h.posted)) (posted_to b.view (call_at w) (attempt_at w) h.answer u b' h.posted h.then_)
 
-    posted_at : (p : Plan) (link operation : ℕ) (found : Option AtWord) (b b' : Books) → PostedAt p link code operation found b b' → Step b b'
-    posted_at p link operation None b b' h = step_same b b' h
-    posted_at p link operation (Some w) b b' h =
+    posted_at : (link operation : ℕ) (found : Option AtWord) (b b' : Books) → PostedAt p link code operation found b b' → Step b b'
+    posted_at link operation None b b' h = step_same b b' h
+    posted_at link operation (Some w) b b' h =
         let v = with_kept (at_word p operation) false w.0 b.view in
         let u : Books = record b { view = v } in
-        step_then b u b' (step_seen b v (later_same b.view v refl)) (posted_if (at_word_link w.0 == link) p.slots w.0 u b' h)
+        step_then b u b' (step_seen b v (later_same b.view v refl)) (posted_if (at_word_link w.0 == link) w.0 u b' h)
 
-    pub posted_all : (p : Plan) (link : ℕ) (os : List ℕ) (b b' : Books) → PostedAll p link code os b b' → Step b b'
-    posted_all p link [] b b' h = step_same b b' h
-    posted_all p link (o ∷ os) b b' h = step_then b h.0 b' (posted_at p link o h.1.0 b h.0 h.1.1) (posted_all p link os h.0 b' h.2)
+    pub posted_all : (link : ℕ) (os : List ℕ) (b b' : Books) → PostedAll p link code os b b' → Step b b'
+    posted_all link [] b b' h = step_same b b' h
+    posted_all link (o ∷ os) b b' h = step_then b h.0 b' (posted_at link o h.1.0 b h.0 h.1.1) (posted_all link os h.0 b' h.2)
 
     -- ## What is left
 
-    module _ (p : Plan) where
-      id_step : (id : ℕ) (b b' : Books) → HadEnded p.slots id b b' ⊎ EndedLast p.slots code id b b' → Step b b'
-      id_step id b b' (inl h) = step_quiet b b' (quiet_later b.view b'.view h.quiet) (ap (λ (x : Books). x.told) h.same) (subst (λ (l : List Frame). GivenAll l) (sym (ap (λ (x : Books). x.early) h.same)))
-      id_step id b b' (inr l) =
-          let u : Books = record b { view = l.locked } in
-          step_then b u b' (step_seen b l.locked (did_later (slot_of id) b.view l.locked _ _ l.got.did)) (lost_step (slot_of id) l.word l.call b.view l.found u b' l.got l.lost)
+    id_step : (id : ℕ) (b b' : Books) → HadEnded p.slots id b b' ⊎ EndedLast p.slots code id b b' → Step b b'
+    id_step id b b' (inl h) = step_quiet b b' (quiet_later b.view b'.view h.quiet) (ap (λ (x : Books). x.told) h.same) (subst (λ (l : List Frame). GivenAll l) (sym (ap (λ (x : Books). x.early) h.same)))
+    id_step id b b' (inr l) =
+        let u : Books = record b { view = l.locked } in
+        step_then b u b' (step_seen b l.locked (got_later (slot_of id) l.found l.word l.call b.view l.locked l.got)) (lost_step (slot_of id) l.inside l.word l.call b.view l.found u b' l.got l.lost)
 
-      rest_one : (operation : ℕ) (b b' : Books) → OneEnded p code operation b b' → Step b b'
-      rest_one operation b b' (inl n) = step_same b b' (n.same ∙ ap (λ (v : View Asked). record b { view = v }) n.view)
-      rest_one operation b b' (inr n) = let u : Books = record b { view = n.seen } in step_then b u b' (step_seen b n.seen (later_same b.view n.seen (ap (λ (v : View Asked). v.notes) n.kept))) (id_step n.id u b' n.ends)
+    rest_one : (operation : ℕ) (b b' : Books) → OneEnded p code operation b b' → Step b b'
+    rest_one operation b b' (inl n) = step_same b b' (n.same ∙ ap (λ (v : View Asked). record b { view = v }) n.view)
+    rest_one operation b b' (inr n) = let u : Books = record b { view = n.seen } in step_then b u b' (step_seen b n.seen (later_same b.view n.seen (ap (λ (v : View Asked). v.notes) n.kept))) (id_step n.id u b' n.ends)
 
-      pub rest_step : (os : List ℕ) (b b' : Books) → RestEnded p code os b b' → Step b b'
-      rest_step [] b b' h = step_same b b' h
-      rest_step (o ∷ os) b b' h = step_then b h.0 b' (rest_one o b h.0 h.1) (rest_step os h.0 b' h.2)
+    pub rest_step : (os : List ℕ) (b b' : Books) → RestEnded p code os b b' → Step b b'
+    rest_step [] b b' h = step_same b b' h
+    rest_step (o ∷ os) b b' h = step_then b h.0 b' (rest_one o b h.0 h.1) (rest_step os h.0 b' h.2)

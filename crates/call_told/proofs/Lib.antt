@@ -5,6 +5,7 @@ pub mod Gains
 pub mod Ending
 pub mod Linked
 pub mod Clients
+pub mod Making
 pub mod Answering
 pub mod Backs
 pub mod Growing

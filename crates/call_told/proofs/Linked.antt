@@ -6,7 +6,6 @@ use Rattle.prpc_frame.specs.declared.frame.Frame.{Frame}
 use Rattle.corr_core.specs.declared.marks.Plan as ids
 use Rattle.sock_io.specs.declared.link.Ends.{Ends}
 use Rattle.sock_io.specs.Link.{OutState, InState}
-use Rattle.sock_message.specs.Asked.{Asked}
 use Rattle.rpc_reader.specs.declared.reading.How.{How}
 use Rattle.rpc_reader.specs.declared.reading.How.TheVariants as how
 use Rattle.rpc_reader.specs.Books.{Books}
@@ -15,6 +14,7 @@ use Rattle.rpc_reader.specs.Linked.{ReadServed, ReadLinks}
 use Rattle.rpc_reader.specs.Resting.{RestEnded}
 use Rattle.call_told.specs.Answers.{IsGiven, AreGiven, IsLossCode, at_end, at_fault, at_want, TellsFrom, GaveBetween, AnsweredFrom}
 use Rattle.call_told.proofs.Lists.{some_same}
+use Rattle.call_told.proofs.Noting.{Later}
 use Rattle.call_told.proofs.Given.{given_by}
 use Rattle.call_told.proofs.Gains.{Gains, gains_then, gains_settled, gains_read, gains_tell, met_bytes, rest_bytes}
 use Rattle.call_told.proofs.Ending.{Step, step_then, step_same, frames_step, posted_all, rest_step}
@@ -42,11 +42,11 @@ module _ {O I P : Type 0} (out : O → OutState) (inn : I → InState) (q : ids.
     link_gains = gains_then (inn e.inn) r.served (inn e'.inn) [] link_gave (gains_settled (out e.out) (inn e.inn) r.served r.step) (gains_read q link calls true false r.served (inn e'.inn) b b' r.read)
 
     -- it is the k-th of those links
-    link_step : (links : ℕ) (gave : ℕ → List ℕ) → ((f : model.Frame) → IsGiven 1 (λ k. link_gave) f → IsGiven links gave f) → Step links gave b b'
+    link_step : (links : ℕ) (gave : ℕ → List ℕ) → ((f : model.Frame) → IsGiven 1 (λ k. link_gave) f → IsGiven links gave f) → Step q links gave b b'
     link_step links gave given = let m = r.read.met in let met = r.read.read.met in
-        step_then links gave b m b'
-        (frames_step links gave q.slots met.frames b m (λ i f at responds. given _ (given_by 1 (λ k. link_gave) 0 cut_bytes (rest_bytes q link calls true false r.served (inn e'.inn) b b' r.read) r.read.read.left met.frames (omega arith) refl met.cut i f at responds)) met.met)
-        (posted_all links gave (code_of r.read.how) (loss_of r.read.how) q link calls m b' r.read.posted)
+        step_then q links gave b m b'
+        (frames_step q links gave met.frames b m (λ i f at responds. given _ (given_by 1 (λ k. link_gave) 0 cut_bytes (rest_bytes q link calls true false r.served (inn e'.inn) b b' r.read) r.read.read.left met.frames (omega arith) refl met.cut i f at responds)) met.met)
+        (posted_all q links gave (code_of r.read.how) (loss_of r.read.how) link calls m b' r.read.posted)
 
   -- ## All links
 
@@ -78,9 +78,9 @@ module _ {O I P : Type 0} (out : O → OutState) (inn : I → InState) (q : ids.
     of_later : (f : model.Frame) → IsGiven (length es) (links_gave (link + 1) es es' r.0 b' r.2) f → IsGiven (length (e ∷ es)) (links_gave link (e ∷ es) (e' ∷ es') b b' r) f
     of_later f g = record { link = suc g.link; place = g.place; whole = ((let n = g.whole.0 in omega arith), g.whole.1); responds = g.responds }
 
-  links_step : (links : ℕ) (gave : ℕ → List ℕ) (link : ℕ) (es es' : List (Ends O I P)) (b b' : Books) (r : ReadLinks out inn q calls link es es' b b') → ((f : model.Frame) → IsGiven (length es) (links_gave link es es' b b' r) f → IsGiven links gave f) → Step links gave b b'
-  links_step links gave link [] [] b b' r given = step_same links gave b b' r
-  links_step links gave link (e ∷ es) (e' ∷ es') b b' r given = step_then links gave b r.0 b'
+  links_step : (links : ℕ) (gave : ℕ → List ℕ) (link : ℕ) (es es' : List (Ends O I P)) (b b' : Books) (r : ReadLinks out inn q calls link es es' b b') → ((f : model.Frame) → IsGiven (length es) (links_gave link es es' b b' r) f → IsGiven links gave f) → Step q links gave b b'
+  links_step links gave link [] [] b b' r given = step_same q links gave b b' r
+  links_step links gave link (e ∷ es) (e' ∷ es') b b' r given = step_then q links gave b r.0 b'
       (link_step link e e' b r.0 r.1 links gave (λ f g. given f (of_first e e' es es' link b b' r f g)))
       (links_step links gave (link + 1) es es' r.0 b' r.2 (λ f g. given f (of_later e e' es es' link b b' r f g)))
   links_step links gave link [] (e' ∷ es') b b' r given = absurd r
@@ -98,20 +98,27 @@ module _ {O I P : Type 0} (out : O → OutState) (inn : I → InState) (q : ids.
     }
 
     -- all links were read: each response that ended a call is one that a link gave, or one that was kept before
-    pub read_tells : AreGiven (length es) gave_by b.early → TellsFrom (length es) gave_by b m
+    pub read_tells : AreGiven (length es) gave_by b.early → TellsFrom q.slots (length es) gave_by b m
     read_tells given = (links_step (length es) gave_by 0 es es' b m r (λ f g. g)).tells given
 
-    pub read_told : b.early ≡ [] → AnsweredFrom inn es es' b m
+    pub read_told : b.early ≡ [] → AnsweredFrom q.slots inn es es' b m
     read_told e = record { gave = gave_by; between = gave_between; tells = read_tells (subst (λ (l : List Frame). AreGiven (length es) gave_by l) (sym e) tt) }
 
+    -- no id was made meanwhile
+    pub read_later : Later b.view m.view
+    read_later = (links_step (length es) gave_by 0 es es' b m r (λ f g. g)).later
+
     -- and then what was left of calls was ended with this code
-    pub all_told : (code : ℕ) (os : List ℕ) (b' : Books) → b.early ≡ [] → IsLossCode code → RestEnded q code os m b' → AnsweredFrom inn es es' b b'
+    pub all_told : (code : ℕ) (os : List ℕ) (b' : Books) → b.early ≡ [] → IsLossCode code → RestEnded q code os m b' → AnsweredFrom q.slots inn es es' b b'
     all_told code os b' e loss rest = record {
       gave = gave_by;
       between = gave_between;
-      tells = (step_then (length es) gave_by b m b' (links_step (length es) gave_by 0 es es' b m r (λ f g. g)) (rest_step (length es) gave_by code loss q os m b' rest)).tells (subst (λ (l : List Frame). AreGiven (length es) gave_by l) (sym e) tt);
+      tells = (step_then q (length es) gave_by b m b' (links_step (length es) gave_by 0 es es' b m r (λ f g. g)) (rest_step q (length es) gave_by code loss os m b' rest)).tells (subst (λ (l : List Frame). AreGiven (length es) gave_by l) (sym e) tt);
     }
 
+pub rest_later : (q : ids.Plan) (code : ℕ) (os : List ℕ) (b b' : Books) → IsLossCode code → RestEnded q code os b b' → Later b.view b'.view
+rest_later q code os b b' loss rest = (rest_step q 0 (λ k. []) code loss os b b' rest).later
+
 -- what was left of calls was ended with this code, with responses kept that those links gave
-pub rest_told : (links : ℕ) (gave : ℕ → List ℕ) (q : ids.Plan) (code : ℕ) (os : List ℕ) (b b' : Books) → IsLossCode code → RestEnded q code os b b' → AreGiven links gave b.early → TellsFrom links gave b b'
-rest_told links gave q code os b b' loss rest given = (rest_step links gave code loss q os b b' rest).tells given
+pub rest_told : (links : ℕ) (gave : ℕ → List ℕ) (q : ids.Plan) (code : ℕ) (os : List ℕ) (b b' : Books) → IsLossCode code → RestEnded q code os b b' → AreGiven links gave b.early → TellsFrom q.slots links gave b b'
+rest_told links gave q code os b b' loss rest given = (rest_step q links gave code loss os b b' rest).tells given

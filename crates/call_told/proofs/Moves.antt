@@ -1,5 +1,5 @@
 -- What a client notes, keeps in mind and tells of calls by its run: what it knows it knows still, it stores an id for an operation once for each call that is this operation, and what it tells are ends of calls that it had locked.
-use Rattle.std.proofs.Common.{◌≡◌, ◌≢◌, ℕ, zero, suc, ◌+◌, ◌*◌, ◌<◌, ◌≤◌, inl, inr, Bool, true, false, List, [], ◌∷◌, ◌++◌, Some, None, length, take, drop, refl, sym, ap, ◌∙◌, subst, arith}
+use Rattle.std.proofs.Common.{◌≡◌, ℕ, zero, suc, ◌+◌, ◌≤◌, inl, inr, true, false, List, [], ◌∷◌, Some, None, take, drop, refl, sym, ap, ◌∙◌, subst, arith}
 use Rattle.std.specs.Prelude.{Option as Maybe}
 use Rattle.std.specs.List.{AllByRecursion}
 use Rattle.std.proofs.lemmas.List.{drop_all}
@@ -28,19 +28,15 @@ use Rattle.corr_core.specs.declared.marks.Note.TheVariants.{Ended}
 use Rattle.corr_core.specs.declared.marks.Plan as id_plan
 use Rattle.corr_core.specs.declared.marks.View.{View}
 use Rattle.corr_core.proofs.Notes.{only-at, only-else}
-use Rattle.id_rule.specs.Lawful.{at_word, call_word, notes_of, with_kept}
+use Rattle.id_rule.specs.Lawful.{at_word, call_word, notes_of}
 use Rattle.sock_message.specs.Asked.{Asked}
 use Rattle.corr_id.specs.declared.calls.IdLock.{IdLock}
 use Rattle.corr_id.specs.declared.posts.Posted.{Posted}
 use Rattle.corr_id.specs.declared.posts.Posted.TheVariants.{Locked as HasLock, Queued as IsQueued, Gone, Stale, Crowded}
-use Rattle.corr_id.specs.declared.unlocks.Unlocked.TheVariants as unlocked
 use Rattle.corr_id.specs.Calls.{slot_of, one}
 use Rattle.corr_id.specs.Posts.{PostOk}
-use Rattle.corr_id.specs.Unlocks.{UnlockOk}
-use Rattle.rpc_client.specs.declared.acting.Told.{Told}
 use Rattle.call_errors.specs.declared.retries.Retry.{Retry}
 use Rattle.call_errors.specs.Books.{Books, CallStand, stand_of, starving, Tells, told, lost}
-use Rattle.call_errors.specs.Locking.{GotBy}
 use Rattle.call_errors.specs.Ending.{EndedWith, failed}
 use Rattle.call_errors.specs.Handling.{Decided}
 use Rattle.call_errors.specs.Handling as handling
@@ -56,10 +52,10 @@ use Rattle.call_attempts.specs.Calling.{MadeFor, CalledBy}
 use Rattle.call_attempts.specs.Retrying.{without_oldest, WentTo, stray, unopened, to_socket, Locked, RetriedBy, had_ended, overtaken, went_again, Retried, none_yet, one_more}
 use Rattle.call_client.specs.declared.caller.Caller.{Caller}
 use Rattle.call_client.specs.Acting.{Stand, stand, both_of, letter_of, Acted}
-use Rattle.call_client.specs.Running.{Course, RetriedHere, Made, Ran, LeftAll, begins, RunBy}
+use Rattle.call_client.specs.Running.{Course, RetriedHere, Made, Ran, begins, RunBy}
 use Rattle.call_told.specs.Least.{is_locked_for}
 use Rattle.call_told.proofs.Ends.{HasLocked, got_locked, IsEndOf, AreEnds, ends_later}
-use Rattle.call_told.proofs.Growing.{own_at, Grows, grows_same, grows_then, quiet_grows, did_grows, ended_grows, post_grows, kept_grows}
+use Rattle.call_told.proofs.Growing.{Grows, grows_same, grows_then, quiet_grows, did_grows, ended_grows, post_grows, kept_grows}
 use Rattle.call_told.proofs.Lists.{all_both, all_at}
 use Rattle.call_told.proofs.Runs.{none_left}
 
@@ -68,7 +64,7 @@ next_locked : (k l : IdLock Asked) (v w : View Asked) → ((j : ℕ) (g : Note A
     → HasLocked k.slot (parts k.word.0).first k.content.operation v → HasLocked l.slot (parts l.word.0).first l.content.operation w
 next_locked k l v w grows slot first content h =
     let a : total (is_locked_for (parts l.word.0).first l.content.operation) (notes_of l.slot w.notes) ≡ total (is_locked_for (parts k.word.0).first k.content.operation) (notes_of k.slot w.notes)
-        = λ i. total (is_locked_for (first i) (content i).operation) (notes_of (slot i) w.notes) in
+    = λ i. total (is_locked_for (first i) (content i).operation) (notes_of (slot i) w.notes) in
     let b = grows k.slot (is_locked_for (parts k.word.0).first k.content.operation) in omega arith
 
 -- the word of an operation's call is none that tells of its attempts
@@ -256,6 +252,19 @@ module _ (q : id_plan.Plan) (operation : ℕ) where
 
     -- ## A client's run
 
+    abbrev is_it : Task → ℕ
+    is_it x = is_task operation x
+
+    took_one : (xs : List Task) (n : ℕ) (x : Task) → get_elem? xs n ≡ some x → total is_it (take n xs) + is_it x ≤ total is_it (take (suc n) xs)
+    took_one [] n x e = absurd (some-ne-none x (sym e))
+    took_one (y ∷ xs) zero x e = let a = ap is_it (some-injective y x e) in omega arith
+    took_one (y ∷ xs) (suc n) x e = let a = took_one xs n x e in omega arith
+
+    took_few : (xs : List Task) (n : ℕ) → total is_it (take n xs) ≤ total is_it xs
+    took_few xs zero = omega arith
+    took_few [] (suc n) = omega arith
+    took_few (x ∷ xs) (suc n) = let a = took_few xs n in omega arith
+
     module _ {g : Ghosts O} where
       retried_here : (s t : Stand g) → RetriedHere state p q s t → Moves 0 s.calls t.calls
       retried_here s t r = retried (both_of s) (both_of t) r.all.retried
@@ -274,19 +283,6 @@ module _ (q : id_plan.Plan) (operation : ℕ) where
 
       pub made_moves : (x : Task) (s t : Course g) → Fits x → Made state p q x s t → Moves (only operation x.number) s.has.calls t.has.calls
       made_moves x s t fits m = moves_then 0 (only operation x.number) (only operation x.number) s.has.calls m.ready.calls t.has.calls (omega arith) (retried_here s.has m.ready m.retried) (acted x.number x.op fits m.by m.ready t.has m.acted)
-
-      abbrev is_it : Task → ℕ
-      is_it x = is_task operation x
-
-      took_one : (xs : List Task) (n : ℕ) (x : Task) → get_elem? xs n ≡ some x → total is_it (take n xs) + is_it x ≤ total is_it (take (suc n) xs)
-      took_one [] n x e = absurd (some-ne-none x (sym e))
-      took_one (y ∷ xs) zero x e = let a = ap is_it (some-injective y x e) in omega arith
-      took_one (y ∷ xs) (suc n) x e = let a = took_one xs n x e in omega arith
-
-      took_few : (xs : List Task) (n : ℕ) → total is_it (take n xs) ≤ total is_it xs
-      took_few xs zero = omega arith
-      took_few [] (suc n) = omega arith
-      took_few (x ∷ xs) (suc n) = let a = took_few xs n in omega arith
 
       ran_moves : (xs : List Task) → AllByRecursion Fits xs → (n : ℕ) (s t : Course g) → Ran state p q xs n s t → Moves (total is_it (take n xs)) s.has.calls t.has.calls
       ran_moves xs fits zero s t e = moves_same (total is_it (take 0 xs)) s.has.calls t.has.calls (ap (λ (c : Course g). c.has.calls) e)

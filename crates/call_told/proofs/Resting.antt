@@ -1,5 +1,5 @@
 -- Each call whose id was made and noted has ended once it was asked for all calls that are left.
-use Rattle.std.proofs.Common.{◌≡◌, ℕ, zero, suc, ◌+◌, ◌*◌, ◌<◌, ◌≤◌, ◌⊎◌, inl, inr, cond, eqb, eq-eqb, List, [], ◌∷◌, Some, None, refl, sym, ap, ◌∙◌, subst, arith}
+use Rattle.std.proofs.Common.{◌≡◌, ℕ, zero, suc, ◌<◌, ◌≤◌, ◌⊎◌, inl, inr, cond, eq-eqb, List, [], ◌∷◌, Some, None, refl, ap, ◌∙◌, subst, arith}
 use Rattle.std.specs.Prelude.{Option, slice_get, position}
 use Rattle.corr_core.specs.Word.{Parts, parts}
 use Rattle.corr_core.specs.Law.{total, only, pair, is_made, is_ended}
@@ -7,13 +7,12 @@ use Rattle.corr_core.specs.declared.marks.Kept.{Kept}
 use Rattle.corr_core.specs.declared.marks.Note.TheVariants.{Ended}
 use Rattle.corr_core.specs.declared.marks.Plan.{Plan}
 use Rattle.corr_core.specs.declared.marks.View.{View}
-use Rattle.corr_core.proofs.Notes.{only-at, only-same, pair-same}
+use Rattle.corr_core.proofs.Notes.{only-same, pair-same}
 use Rattle.id_rule.specs.Lawful.{call_word, notes_of}
 use Rattle.sock_message.specs.Asked.{Asked}
-use Rattle.corr_id.specs.Calls.{Became, Found, OutOf, slot_of, version_of, one, is_saw}
+use Rattle.corr_id.specs.Calls.{Found, OutOf, slot_of, version_of, one, is_saw}
 use Rattle.corr_id.specs.Closing.{Closing}
 use Rattle.corr_id.specs.Ruled.{is_place}
-use Rattle.prpc_frame.specs.Meaning.{frame_of}
 use Rattle.sock_words.specs.declared.outcome.Outcome.{Outcome}
 use Rattle.rpc_reader.specs.Books.{Books, EndedAs}
 use Rattle.rpc_reader.specs.Met.{is_for}

@@ -11,7 +11,7 @@ use Rattle.brpc_model.specs.Meta.{ResponseMeta}
 use Rattle.sock_io.specs.declared.link.Ends.{Ends}
 use Rattle.sock_io.specs.Link.{OutState, InState}
 use Rattle.corr_core.specs.Word.{Parts, parts}
-use Rattle.corr_core.specs.Law.{total, only, is_ended}
+use Rattle.corr_core.specs.Law.{only, is_ended}
 use Rattle.corr_core.specs.declared.marks.Note.{Note}
 use Rattle.corr_core.specs.declared.marks.Note.TheVariants.{Tried, Made, Ended, Locker, Queued, Attempt, Saw}
 use Rattle.corr_core.specs.declared.marks.Noted.{Noted}
@@ -23,7 +23,6 @@ use Rattle.corr_id.specs.declared.posts.Posted.{Posted}
 use Rattle.corr_id.specs.declared.posts.Posted.TheVariants.{Locked as HasLock, Queued as IsQueued, Gone, Stale, Crowded}
 use Rattle.corr_id.specs.Calls.{slot_of, version_of, error_in, is_event, one, Quiet, Did, GotLock}
 use Rattle.corr_id.specs.Posts.{PostOk}
-use Rattle.corr_id.proofs.Seats.{total_append}
 use Rattle.sock_message.specs.Asked.{Asked}
 use Rattle.prpc_frame.specs.Meaning.{frame_of}
 use Rattle.prpc_frame.specs.declared.frame.Frame.{Frame}
@@ -137,7 +136,6 @@ ended_tally slot w call by b b' low is locked e = tallies e.told
         let y : noted_ends i f b'.view.notes ≡ noted_ends i f (one slot (Ended w.first)) + noted_ends i f b.view.notes = ap (noted_ends i f) e.ended.notes ∙ noted_more i f (one slot (Ended w.first)) b.view.notes in
         let z = is id in let o = one_end i f slot w.first fl low in omega arith
 
-    tallies : ToldBy call.operation by b.told b.starved b'.told b'.starved → Tally b b'
     grows : (x : ℕ) → Grows x 0 b.view b'.view
     grows x = ended_grows x slot b.view b'.view [] (one slot (Ended w.first)) e.ended
 
@@ -147,6 +145,7 @@ ended_tally slot w call by b b' low is locked e = tallies e.told
     one_more : IsEndOf b'.view now
     one_more = record { slot = slot; first = w.first; low = low; is_end = is; locked = (let a = (grows 0).notes slot (is_locked_for w.first call.operation) in omega arith) }
 
+    tallies : ToldBy call.operation by b.told b.starved b'.told b'.starved → Tally b b'
     tallies (inl t) = record { starved = λ h. t.1 ∙ h; accounts = inr (accounted t.0); grows = grows; ends = λ a. subst (AreEnds b'.view) (sym t.0) (all_both (IsEndOf b'.view) b.told (now ∷ []) (still a) (one_more, tt)) }
     tallies (inr t) = record { starved = λ h. t.1; accounts = inl t.1; grows = grows; ends = λ a. subst (AreEnds b'.view) (sym t.0) (still a) }
 

@@ -1,11 +1,13 @@
 -- By what calls end: what whoever reads the links tells of calls, and what clients tell.
-use Rattle.std.specs.Prelude.{◌≡◌, ℕ, ◌+◌, ◌<◌, Bool, true, false, List, [], ◌++◌, length, slice_get, ℤ, pos, Option, Some, IfSome, IsSome}
+use Rattle.std.specs.Prelude.{◌≡◌, ◌≢◌, ℕ, ◌+◌, ◌<◌, Bool, true, false, List, [], ◌++◌, length, slice_get, ℤ, pos, Option, Some, IfSome, IsSome}
 use Rattle.std.specs.List.{AllByRecursion}
 use Rattle.sock_words.specs.Codes.{EEOF, EINTERNAL, ERESPONSE}
 use Rattle.sock_words.specs.declared.outcome.Outcome.{Outcome}
 use Rattle.sock_words.specs.declared.outcome.Outcome.TheVariants.{Answered, Peer, CallFailed}
 use Rattle.brpc_model.specs.Frame.{Frame}
-use Rattle.brpc_model.specs.Meta.{ResponseMeta}
+use Rattle.brpc_model.specs.Items.{Item, Call, CallLine}
+use Rattle.brpc_model.specs.Operations.{Operation}
+use Rattle.brpc_model.specs.Attempts.{IsResponse, HasCode}
 use Rattle.brpc_model.specs.Link.{LinkEnd}
 use Rattle.brpc_model.specs.Stream.{stream}
 use Rattle.sock_io.specs.declared.link.Ends.{Ends}
@@ -75,14 +77,17 @@ module _ (links : ℕ) (gave : ℕ → List ℕ) where
     by_code : (code : ℕ) → IsLossCode code → by ≡ CallFailed (id_of slot w) code → EndedBy slot w by
     by_response : (f : Frame) → IsGivenResponse links gave slot w f → by ≡ ending_of (id_of slot w) f → EndedBy slot w by
 
+-- over so many id slots
+module _ (slots links : ℕ) (gave : ℕ → List ℕ) where
   -- what was told is the end of a call for which the seat had the lock
   pub record ToldFrom (v : View Asked) (x : Told) : Type 0 where
     pub slot : ℕ
+    pub inside : slot < slots
     pub word : Parts
     pub call : Asked
     pub lock : HasEnded slot word call v
     pub number : x.number ≡ call.operation
-    pub by : EndedBy slot word x.outcome
+    pub by : EndedBy links gave slot word x.outcome
 
   -- what was told behind those before, and what is kept then
   pub record TellsFrom (b b' : Books) : Type 0 where
@@ -100,10 +105,10 @@ pub record GaveBetween {O I P : Type 0} (inn : I → InState) (gave : ℕ → Li
   pub counts : (k : ℕ) (e e' : Ends O I P) → slice_get old k ≡ Some e → slice_get new k ≡ Some e' → (inn e'.inn).gave ≡ (inn e.inn).gave + length (gave k)
 
 -- all links were read and what was left of calls was ended: the links gave such bytes, and from them come all responses that end calls
-pub record AnsweredFrom {O I P : Type 0} (inn : I → InState) (old new : List (Ends O I P)) (b b' : Books) : Type 0 where
+pub record AnsweredFrom {O I P : Type 0} (slots : ℕ) (inn : I → InState) (old new : List (Ends O I P)) (b b' : Books) : Type 0 where
   pub gave : ℕ → List ℕ
   pub between : GaveBetween inn gave old new
-  pub tells : TellsFrom (length old) gave b b'
+  pub tells : TellsFrom slots (length old) gave b b'
 
 -- ## What clients tell
 
@@ -135,33 +140,29 @@ pub record ClientTells {O : Type 0} {g : Ghosts O} (c d : Caller O g) : Type 0 w
 -- ## By the outcome alone
 
 module _ (links : ℕ) (gave : ℕ → List ℕ) where
-  -- a response of one of the versions of this id, of which there are eight at most; it isn't compressed, and has this code
-  pub record IsAnswer (id : ℕ) (code : ℤ) (f : Frame) : Type 0 where
+  -- a whole response of one of the versions of this call's id, which a link gave; it isn't compressed, and has this code
+  pub record IsAnswer (call : CallLine) (id : ℕ) (code : ℤ) (f : Frame) : Type 0 where
     pub given : IsGiven links gave f
-    pub behind : id < f.meta.correlation_id
-    pub near : f.meta.correlation_id < id + 8
-    pub plain : f.meta.compress_type ≡ pos 0
-    pub response : ResponseMeta
-    pub has : f.meta.response ≡ Some response
-    pub coded : response.code ≡ code
+    pub response : IsResponse call id f
+    pub coded : HasCode code f
 
-  -- an outcome that is an answer comes from a response that a link gave
-  abbrev pub HasAnswer : Outcome → Type 0
-  HasAnswer (Answered id payload attachment) = (f : Frame) × IsAnswer id (pos 0) f × (f.payload ≡ payload) × (f.attachment ≡ attachment)
-  HasAnswer (Peer id code) = (f : Frame) × IsAnswer id code f
-  HasAnswer _ = Unit {0}
+  -- an outcome that is an answer is that of a call, and comes from a response that a link gave
+  abbrev pub HasAnswer : Item → Outcome → Type 0
+  HasAnswer item (Answered id payload attachment) = (call : CallLine) × (item ≡ Call call) × (f : Frame) × IsAnswer call id (pos 0) f × (f.payload ≡ payload) × (f.attachment ≡ attachment)
+  HasAnswer item (Peer id code) = (call : CallLine) × (item ≡ Call call) × (f : Frame) × IsAnswer call id code f × (code ≢ pos 0)
+  HasAnswer item _ = Unit {0}
 
-  -- each of those that are told
-  abbrev pub HaveAnswers : List (Option Outcome) → Type 0
-  HaveAnswers outcomes = AllByRecursion (λ o. IfSome o HasAnswer) outcomes
+  -- so each of those that are told of these operations
+  abbrev pub HaveAnswers : List Operation → List (Option Outcome) → Type 0
+  HaveAnswers ops outcomes = (n : ℕ) (by : Outcome) → slice_get outcomes n ≡ Some (Some by) → (op : Operation) → slice_get ops n ≡ Some op → HasAnswer op.item by
 
 -- what is said that link k gave is what it tells, and as many bytes as it counts
 pub record IsGiver (gave : ℕ → List ℕ) (k : ℕ) (e : LinkEnd) : Type 0 where
   pub gives : IfSome e.gave (λ bytes. bytes ≡ gave k)
   pub counted : length (gave k) ≡ e.gave_count
 
--- the answers among these outcomes come from responses that these links gave
-pub record AreAnsweredBy (outcomes : List (Option Outcome)) (ends : List LinkEnd) : Type 0 where
+-- the answers among the outcomes of these operations are of calls, and come from responses to them that these links gave
+pub record AreAnsweredBy (ops : List Operation) (outcomes : List (Option Outcome)) (ends : List LinkEnd) : Type 0 where
   pub gave : ℕ → List ℕ
   pub givers : (k : ℕ) (e : LinkEnd) → slice_get ends k ≡ Some e → IsGiver gave k e
-  pub each : HaveAnswers (length ends) gave outcomes
+  pub each : HaveAnswers (length ends) gave ops outcomes

@@ -2,6 +2,7 @@ pub mod Numbers
 pub mod MayCall
 pub mod Resting
 pub mod Clients
+pub mod Asked
 pub mod Answered
 pub mod Shown
 pub mod Reports

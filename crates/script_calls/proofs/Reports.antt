@@ -1,6 +1,6 @@
 -- The report of what a run left, and the links of a run as they are given back.
 use Rattle.std.proofs.Common.{◌≡◌, ℕ, zero, suc, ◌+◌, List, [], ◌∷◌, ◌++◌, length, map, replicate, None, IfSome, Result, Ok, Err, IfOk, OnOk, refl, sym, ap, ◌∙◌, subst, arith}
-use Rattle.std.specs.List.{AllByRecursion}
+use Rattle.std.specs.List.{AllByRecursion, flat_map}
 use Rattle.sock_io.specs.declared.link.Out.{Ghosts}
 use Rattle.sock_io.specs.declared.link.Ends.{Ends}
 use Rattle.sock_io.specs.Link.{OutState, InState, end_of}
@@ -9,6 +9,7 @@ use Rattle.sock_words.specs.declared.place_word.PlaceWord.{PlaceWord}
 use Rattle.sock_words.specs.declared.vref.Vref.{Vref}
 use Rattle.brpc_model.specs.Items.{Item}
 use Rattle.brpc_model.specs.Link.{LinkEnd}
+use Rattle.brpc_model.specs.Operations.{operations}
 use Rattle.brpc_model.specs.PlaceWords.{took_at}
 use Rattle.report_fits.specs.Ends.{AreTold}
 use Rattle.report_fits.proofs.Flat.{at_map}
@@ -28,7 +29,10 @@ use Rattle.call_told.proofs.Balance.{AreBalanced}
 use Rattle.script_calls.specs.Reading.{IdSeat, HasRead}
 use Rattle.script_calls.specs.Told.{outcomes_of, HasGivenNone, IsLeft, IsReported, IsCallText, IsCallRun}
 use Rattle.script_calls.proofs.Clients.{owns, failures, balanced}
+use Rattle.call_told.proofs.Making.{AllMade}
+use Rattle.call_told.proofs.Answering.{IsAskedIn}
 use Rattle.script_calls.proofs.Answered.{run_answered}
+use Rattle.script_calls.proofs.Asked.{ids_made, notes_of_seats}
 use Rattle.script_calls.proofs.Shown.{run_shown}
 
 long_replicate : {A : Type 0} (n : ℕ) (x : A) → length (replicate n x) ≡ n
@@ -108,6 +112,10 @@ module _ (P : Type 0) {O I : Type 0} (out : O → OutState) (inn : I → InState
     failures_told : (r : IsCallRun P g out inn script text links) → AllByRecursion (λ ts. AllByRecursion IsFailure ts) r.ended
     failures_told r = failures out (plan_of script) (ids_of (plan_of script) (length (calls script))) r.setup r.clients (opens script) r.told r.ended r.ran.seats (map (λ (s : IdSeat). s.me.0) r.ids) r.ran.ran
 
+    made_told : (r : IsCallRun P g out inn script text links) → AllMade (IsAskedIn (operations script)) (flat_map (λ (s : IdSeat). s.me.0.notes) r.ids)
+    made_told r = subst (AllMade (IsAskedIn (operations script))) (notes_of_seats (λ (s : IdSeat). s.me.0) r.ids)
+        (ids_made out (plan_of script) (ids_of (plan_of script) (length (calls script))) script r.setup r.clients (opens script) r.told r.ended r.ran.seats (map (λ (s : IdSeat). s.me.0) r.ids) r.ran.ran r.tasks)
+
     balanced_told : (r : IsCallRun P g out inn script text links) → AreBalanced r.ended (map (λ (s : IdSeat). s.me.0) r.ids)
     balanced_told r = balanced out (plan_of script) (ids_of (plan_of script) (length (calls script))) r.setup r.clients (opens script) r.told r.ended r.ran.seats (map (λ (s : IdSeat). s.me.0) r.ids) r.ran.ran
 
@@ -118,8 +126,8 @@ module _ (P : Type 0) {O I : Type 0} (out : O → OutState) (inn : I → InState
       places = r.places;
       one_each = long_each (replicate (plan_of script).operations None) ((r.told ++ r.ended) ++ r.last ∷ []) ∙ long_replicate (plan_of script).operations None;
       reported = r.reported;
-      answered = subst (AreAnsweredBy (outcomes_of (plan_of script).operations r.told r.ended r.last)) (sym r.given_back)
-          (run_answered out inn (ids_of (plan_of script) (length (calls script))) (calls script) (plan_of script).operations r.told r.ended r.last r.ids r.ends r.ends' (own_told r) (failures_told r) r.silent r.read);
+      answered = subst (AreAnsweredBy (operations script) (outcomes_of (plan_of script).operations r.told r.ended r.last)) (sym r.given_back)
+          (run_answered out inn (ids_of (plan_of script) (length (calls script))) (calls script) (operations script) (plan_of script).operations r.told r.ended r.last r.ids r.ends r.ends' (own_told r) (failures_told r) r.silent (made_told r) r.read);
       once = run_shown out inn (ids_of (plan_of script) (length (calls script))) (calls script) (plan_of script).operations r.told r.ended r.last r.ids r.ends r.ends' (own_told r) (balanced_told r) r.read;
     }
 

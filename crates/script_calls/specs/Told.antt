@@ -42,8 +42,8 @@ pub record IsCallText (script : List Item) (text : List ℕ) (ends : List LinkEn
   pub places : List PlaceWord
   pub one_each : length outcomes ≡ length (operations script)
   pub reported : IsReported script text outcomes places ends
-  -- each answer among them is a whole response that one of these links gave
-  pub answered : AreAnsweredBy outcomes ends
+  -- each answer among them is that of a call, and a whole response to it that one of these links gave
+  pub answered : AreAnsweredBy (operations script) outcomes ends
   -- no two operations have the end of one call as their outcome, of those whose ids are in the slots that the calls of the script have
   pub once : ShownOnce (length (calls script)) outcomes
 
