@@ -104,8 +104,8 @@ module _ {O I P : Type 0} (g : Ghosts O) (out : O → OutState) (inn : I → InS
     }
 
     -- the end of each call that began is told
-    call_told : (k : ℕ) (v : View Asked) (operation id j : ℕ) → get_elem? ids k ≡ some v → HasBegun q operation id v → slice_get (calls script) j ≡ Some operation → IsEndTold operation id (ended ++ last ∷ [])
-    call_told k v operation id j at begun is_listed =
+    least_told : (k : ℕ) (v : View Asked) (operation id j : ℕ) → get_elem? ids k ≡ some v → HasBegun q operation id v → slice_get (calls script) j ≡ Some operation → IsEndTold operation id (ended ++ last ∷ [])
+    least_told k v operation id j at begun is_listed =
         subst (λ (l : List Told). IsEndTold operation id (ended ++ l ∷ [])) (sym read.told_is)
         (told_least out inn q (calls script) EEOF ended ids ends ends' (begins read.main) read.between read.last read.words all_ended k v operation id at begun (one_stored operation) j is_listed).1
 
@@ -122,7 +122,7 @@ module _ {O I P : Type 0} (g : Ghosts O) (out : O → OutState) (inn : I → InS
         abbrev t : Task
         t = record { number = o; op = op }
 
-        who : IsOneOf out p q ids told c ts
+        who : IsOneOf {g = g} out p q ids told c ts
         who = one_of out p q setup clients opens told ended ran.seats ids ran.ran fits c ts of_client
 
         -- a call that began
@@ -131,7 +131,7 @@ module _ {O I P : Type 0} (g : Ghosts O) (out : O → OutState) (inn : I → InS
             let x = call_asks (numbered script) (names script) (numbers_at script o operation) operation.item asked (asks ∙ ap Some is) in
             let own : asked.operation ≡ o = task_fits t (all_there IsOwnTask ts t (all_there (AllByRecursion IsOwnTask) (setup ∷ clients) ts owns (c, to_slice (setup ∷ clients) c ts of_client)) (j, to_slice ts j t in_it)) asked is in
             let l = listed script o operation at (ap is_call x.1) in
-            let e = call_told c who.thread.ended.calls.seat.me.0 asked.operation id l.0 who.id_at begun (l.1 ∙ ap Some (sym own)) in
+            let e = least_told c who.thread.ended.calls.seat.me.0 asked.operation id l.0 who.id_at begun (l.1 ∙ ap Some (sym own)) in
             inl (end_said p.operations told ended last o less record { teller = e.teller; place = e.place; told = e.told; one = e.one; by = e.by; at = e.at; number = e.number ∙ own })
 
         came : HasCome q t who.thread.ended.outcomes.items who.thread.ended.calls.seat.me.0 → HasIt

@@ -83,7 +83,7 @@ mapped_from f (x ∷ xs) (suc c) y e = mapped_from f xs c y e
 
 mapped_at : {A B : Type 0} (f : A → B) (xs : List A) (c : ℕ) (x : A) → get_elem? xs c ≡ some x → get_elem? (map f xs) c ≡ some (f x)
 mapped_at f [] c x e = absurd (some-ne-none x (sym e))
-mapped_at f (y ∷ ys) zero x e = ap (λ (z : _). some (f z)) (some-injective y x e)
+mapped_at {A} {B} f (y ∷ ys) zero x e = ap (λ (z : A). some (f z)) (some-injective y x e)
 mapped_at f (y ∷ ys) (suc c) x e = mapped_at f ys c x e
 
 -- ## A run of a script

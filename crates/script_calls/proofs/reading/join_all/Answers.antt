@@ -10,3 +10,6 @@ take_in-requires-clause-seat g c = last_ok c.args.ids.now.table.shared.table_id 
 
 pub joins-preserved : goal.joins-preserved
 joins-preserved g c = next c.args.ids.now.table.shared.table_id c.args.seats.items c.joins.seats.items c.pop-in-joins.new.self.items c.joins.seat c.in-Some-pop.earlier c.take_in.new.seat c.joins.invariant c.in-Some-pop.ensures.items c.take_in.ensures.seat.0 c.take_in.ensures.view
+
+pub returns : goal.returns
+returns g c = ?
