@@ -3,6 +3,7 @@ use crate::noting::Noting;
 use loop_link::LoopLinker;
 use sock_io::SinkLinker;
 use std::alloc::Global;
+use std::process::Abort;
 use std::sync::Wait;
 use std::test::Fail;
 use std::thread::Threads;
@@ -83,6 +84,19 @@ const RETRIED: [&str; 8] = [
     "open a serve piece=7 fail=8\nopen b serve\nclient\ncall a,b Echo.Echo 6869 retry=1\nsend a 61\n",
 ];
 
+/// Scripts of one client whose link fails each put in turn, by the number of the put.
+const ALONE: [&str; 9] = [
+    "open a again=2 fail=5 piece=1\nclient\nsend a 616263\n",
+    "open a piece=3 fail=1\nclient\nsend a 61616161\nsend a 6262\nsend a 63636363\nsend a 6464\n",
+    "open a piece=3 fail=2\nclient\nsend a 61616161\nsend a 6262\nsend a 63636363\nsend a 6464\n",
+    "open a piece=3 fail=3\nclient\nsend a 61616161\nsend a 6262\nsend a 63636363\nsend a 6464\n",
+    "open a piece=3 fail=4\nclient\nsend a 61616161\nsend a 6262\nsend a 63636363\nsend a 6464\n",
+    "open a piece=3 fail=5\nclient\nsend a 61616161\nsend a 6262\nsend a 63636363\nsend a 6464\n",
+    "open a piece=3 fail=6\nclient\nsend a 61616161\nsend a 6262\nsend a 63636363\nsend a 6464\n",
+    "open a piece=3 fail=7\nclient\nsend a 61616161\nsend a 6262\nsend a 63636363\nsend a 6464\n",
+    "open a piece=3 fail=8\nclient\nsend a 61616161\nsend a 6262\nsend a 63636363\nsend a 6464\n",
+];
+
 /// The status of a command over links in memory, and what it wrote.
 fn told<R: Threads + Wait + Sync + Alloc<A = Global>>(
     rt: &R,
@@ -95,48 +109,81 @@ fn told<R: Threads + Wait + Sync + Alloc<A = Global>>(
     answered(rt, &words, script, &mut links)
 }
 
-/// On threads they end as they do step by step.
+/// A script ends on threads as it does step by step.
+fn end_alike<R: Threads + Wait + Sync + Abort + Alloc<A = Global>>(
+    rt: &R,
+    script: &str,
+) -> Result<(), Fail> {
+    let (status, text) = told(rt, "replay", script)?;
+    assert_eq!(rt; status, 0, "at {script}");
+    let (status, written) = told(rt, "run", script)?;
+    assert_eq!(rt; status, 0, "at {script}");
+    assert_eq!(rt; written.as_slice(), text.as_slice(), "at {script}");
+    Ok(())
+}
+
 #[test]
 fn puts_fail_on_threads(rt: HostRuntime) -> Result<(), Fail> {
+    for script in ALONE {
+        end_alike(&rt, script)?;
+    }
     for script in RETRIED {
-        let (status, text) = told(&rt, "replay", script)?;
-        assert_eq!(rt; status, 0, "at {script}");
-        let (status, written) = told(&rt, "run", script)?;
-        assert_eq!(rt; status, 0, "at {script}");
-        assert_eq!(rt; written.as_slice(), text.as_slice(), "at {script}");
+        end_alike(&rt, script)?;
     }
     Ok(())
 }
 
-/// A script that opens three links and puts a byte on the first.
+/// A script that opens three links and puts a byte on the first, and one that puts a frame of 30 bytes behind it.
 const THREE: &str = "open a\nopen b\nopen c\nclient\nsend a 61\n";
 
-/// Its status where the `open` of this number fails (0: none), and which links are given back then, with how many bytes each
-/// took.
+const THREE_AND_CALL: &str = "open a\nopen b\nopen c\nclient\nsend a 61\ncall a Echo.Echo 6869\n";
+
+/// The status of a command over a script where the `open` of this number fails (0: none), and which links are given back then,
+/// with how many bytes each took.
 fn given_back<R: Threads + Wait + Sync + Alloc<A = Global>>(
     rt: &R,
+    command: &str,
+    script: &str,
     fail: u32,
 ) -> Result<(u8, Vec<(u16, usize)>), Fail> {
     let alloc = rt.alloc();
+    let words = vec![in alloc; String::from_str(alloc, command)?]?;
     let inner = SinkLinker::new(alloc, vec![in alloc; fail]?, 0);
     let mut links = Noting::new(alloc, inner);
-    let (status, _) = replayed(rt, THREE, &mut links)?;
+    let (status, _) = answered(rt, &words, script, &mut links)?;
     Ok((status, links.noted().to_vec(alloc)?))
+}
+
+/// Each `open` fails in turn: the links that were opened before are given back in their order, and none took a byte. Where none
+/// fails, the first took so many.
+fn opens_fail<R: Threads + Wait + Sync + Abort + Alloc<A = Global>>(
+    rt: &R,
+    command: &str,
+    script: &str,
+    taken: usize,
+) -> Result<(), Fail> {
+    let (status, noted) = given_back(rt, command, script, 0)?;
+    assert_eq!(rt; status, 0);
+    assert_eq!(rt; noted.as_slice(), [(0, taken), (1, 0), (2, 0)].as_slice());
+    let (status, noted) = given_back(rt, command, script, 1)?;
+    assert_eq!(rt; status, 8);
+    assert_eq!(rt; noted.len(), 0);
+    let (status, noted) = given_back(rt, command, script, 2)?;
+    assert_eq!(rt; status, 8);
+    assert_eq!(rt; noted.as_slice(), [(0, 0)].as_slice());
+    let (status, noted) = given_back(rt, command, script, 3)?;
+    assert_eq!(rt; status, 8);
+    assert_eq!(rt; noted.as_slice(), [(0, 0), (1, 0)].as_slice());
+    Ok(())
 }
 
 #[test]
 fn opened_links_are_given_back(rt: HostRuntime) -> Result<(), Fail> {
-    let (status, noted) = given_back(&rt, 0)?;
-    assert_eq!(rt; status, 0);
-    assert_eq!(rt; noted.as_slice(), [(0, 1), (1, 0), (2, 0)].as_slice());
-    let (status, noted) = given_back(&rt, 1)?;
-    assert_eq!(rt; status, 8);
-    assert_eq!(rt; noted.len(), 0);
-    let (status, noted) = given_back(&rt, 2)?;
-    assert_eq!(rt; status, 8);
-    assert_eq!(rt; noted.as_slice(), [(0, 0)].as_slice());
-    let (status, noted) = given_back(&rt, 3)?;
-    assert_eq!(rt; status, 8);
-    assert_eq!(rt; noted.as_slice(), [(0, 0), (1, 0)].as_slice());
-    Ok(())
+    opens_fail(&rt, "replay", THREE, 1)
+}
+
+#[test]
+fn opened_links_of_threads_are_given_back(rt: HostRuntime) -> Result<(), Fail> {
+    opens_fail(&rt, "run", THREE, 1)?;
+    opens_fail(&rt, "run", THREE_AND_CALL, 31)
 }

@@ -1,5 +1,5 @@
 //! Rows of the top call over an outside that isn't kind: links whose other ends give bytes that nobody would send, and
-//! outside calls that fail in turn. There is nothing here but tests.
+//! outside calls that fail in turn, step by step and on threads. There is nothing here but tests.
 #![tactic(auto)]
 
 #[cfg(test)]
@@ -12,3 +12,5 @@ mod giving;
 mod noting;
 #[cfg(test)]
 mod serving;
+#[cfg(test)]
+mod streams;

@@ -45,7 +45,7 @@ module _ {O I P : Type 0} (out : O → OutState) (inn : I → InState) (q : Plan
       let b = begins h.main in
       let a = all_told out inn q operations es es' b h.between h.read EEOF operations h.last refl (at_end refl) h.rest in
       let later = later_then b.view h.between.view h.last.view (read_later out inn q operations es es' b h.between h.read) (rest_later q EEOF operations h.between h.last (at_end refl) h.rest) in
-      let began : AllMade (IsAskedIn ops) h.main.me.0.notes = subst (AllMade (IsAskedIn ops)) (sym h.all_notes) made in
+      let began : AllMade (IsAskedIn ops) h.main.me.0.notes = subst (AllMade (IsAskedIn ops)) (sym h.took.notes) made in
       let in_all : AllMade (IsAskedIn ops) h.last.view.notes = all_made (IsAskedIn ops) h.last.view.notes (later_made (IsAskedIn ops) b.view h.last.view later (events_made (IsAskedIn ops) h.main.me.0.notes began)) in
       let has : AllHave (length es) a.gave ops last = subst (AllHave (length es) a.gave ops) (sym h.told_is) (tells_answers (length es) a.gave ops q h.last.view h.last.view.kept h.words h.closing in_all b h.last refl refl a.tells) in
       answered_by out inn q.slots ops es es' b h.last a (outcomes_of n told ended last) silent (outcomes_have (length es) a.gave ops n told ended last owns failures has)

@@ -1,0 +1,12 @@
+pub mod Weights
+pub mod Lists
+pub mod Own
+pub mod Still
+pub mod Counts
+pub mod Labels
+pub mod Numbers
+pub mod Ids
+pub mod Log
+pub mod Clients
+pub mod Places
+pub mod Reader

@@ -1,0 +1,276 @@
+-- The place words that a run with calls leaves tell an order of each link.
+use Rattle.std.proofs.Common.{◌≡◌, ◌≢◌, ℕ, zero, suc, ◌+◌, ◌*◌, ◌/◌, ◌%◌, ◌<◌, ◌≤◌, ◌⊎◌, inl, inr, ⊎_elim, Bool, true, false, eqb, List, [], ◌∷◌, ◌++◌, length, map, flat_map, slice_get, slice_index, unwrap_or, option_map, Option, Some, None, refl, sym, ap, ◌∙◌, subst, arith}
+use Rattle.std.proofs.lemmas.Option.{slice_get_past}
+use mathlib.Core.Logic.{dite}
+use mathlib.Core.Option.{some, some-injective, some-ne-none}
+use native.Mathlib.Decide.{dec_lt}
+use lib.ListN.{get_elem?}
+use Rattle.atomic_table.specs.declared.shared.Seat.{Seat}
+use Rattle.sock_io.specs.declared.link.Out.{Ghosts}
+use Rattle.sock_io.specs.Link.{OutState}
+use Rattle.sock_words.specs.declared.outcome.Outcome.{Outcome}
+use Rattle.sock_words.specs.declared.plain.Plan.{Plan}
+use Rattle.sock_words.specs.declared.place_word.PlaceWord.{PlaceWord}
+use Rattle.sock_words.specs.declared.vref.Vref.{Vref}
+use Rattle.sock_words.specs.Words.{no_place, HasPosition, IsPlaceWord}
+use Rattle.brpc_model.specs.Operations.{Label}
+use Rattle.brpc_model.specs.PlaceWords.{word_at, StandsAt, ArePlaces}
+use Rattle.sock_model.specs.Authors.{pick}
+use Rattle.sock_model.specs.declared.chain.Entry.{Entry}
+use Rattle.sock_model.specs.declared.chain.Heading.{Heading}
+use Rattle.sock_model.specs.declared.view.View as sock_view
+use Rattle.sock_model.specs.Deliveries.{place_value}
+use Rattle.sock_model.specs.Entries.{on}
+use Rattle.sock_model.specs.Layout.{place_word}
+use Rattle.chain_laws.proofs.Lists.{distinct_filter}
+use Rattle.sock_rule.specs.Closing.{PlacesDiffer}
+use Rattle.sock_rule.specs.declared.homes.SockHome.{SockHome}
+use Rattle.report_fits.proofs.PlaceValues.{is_place}
+use Rattle.sock_programs.specs.declared.task.Op.{Op}
+use Rattle.sock_programs.specs.declared.task.Op.TheVariants as ops
+use Rattle.sock_programs.specs.declared.task.Task.{Task}
+use Rattle.sock_programs.specs.Told.{AreTasks}
+use Rattle.corr_core.specs.Law.{total}
+use Rattle.corr_core.specs.declared.marks.Noted.{Noted}
+use Rattle.corr_core.specs.declared.marks.Plan as id_plan
+use Rattle.corr_core.specs.declared.marks.View.{View}
+use Rattle.corr_core.proofs.Notes.{only-at}
+use Rattle.sock_message.specs.Asked.{Asked}
+use Rattle.rpc_client.specs.declared.acting.Told.{Told}
+use Rattle.call_client.specs.Acting.{Stand, Acted}
+use Rattle.call_client.specs.Running.{MayMakeAll}
+use Rattle.call_run.specs.Threads.{Thread, IsThread, AreThreads, RanOn, AllMayRun, MayRunAll, ids_of, opens_of}
+use Rattle.table_told.proofs.Entries.{from_pick, from_on, on_there}
+use Rattle.table_told.proofs.Flats.{flat_there}
+use Rattle.call_places.specs.Counted.{HaveNotesOf}
+use Rattle.call_places.specs.Deeds.{acted_entries, entries_of, own_entries}
+use Rattle.call_places.proofs.Weights.{term}
+use Rattle.call_places.proofs.Lists.{each_ended_lists}
+use Rattle.call_places.proofs.Own.{IsMade, own_list}
+use Rattle.call_places.proofs.Labels.{at_place}
+use Rattle.call_places.proofs.Numbers.{numbered, numbered_once}
+use Rattle.call_places.proofs.Ids.{IdLaws}
+use Rattle.call_places.proofs.Clients.{Client, total_map, view_of, tasks_of, deeds_of, own_of, once, inside}
+use Rattle.call_places.proofs.Log as log
+
+-- ## Lists by places
+
+map_place : {A B : Type 0} (f : A → B) (xs : List A) (c : ℕ) (x : A) → get_elem? xs c ≡ some x → get_elem? (map f xs) c ≡ some (f x)
+map_place f [] c x e = absurd (some-ne-none x (sym e))
+map_place f (y ∷ ys) zero x e = ap (λ z. some (f z)) (some-injective y x e)
+map_place f (y ∷ ys) (suc c) x e = map_place f ys c x e
+
+map_from : {A B : Type 0} (f : A → B) (xs : List A) (c : ℕ) (b : B) → get_elem? (map f xs) c ≡ some b → (x : A) × (get_elem? xs c ≡ some x) × (f x ≡ b)
+map_from f [] c b e = absurd (some-ne-none b (sym e))
+map_from f (y ∷ ys) zero b e = (y, refl, some-injective (f y) b e)
+map_from f (y ∷ ys) (suc c) b e = map_from f ys c b e
+
+got : {A : Type 0} (xs : List A) (i : ℕ) (x : A) → get_elem? xs i ≡ some x → slice_get xs i ≡ Some x
+got [] i x e = absurd (some-ne-none x (sym e))
+got (y ∷ ys) zero x e = ap Some (some-injective y x e)
+got (y ∷ ys) (suc i) x e = got ys i x e
+
+at_low : {A : Type 0} (xs : List A) (i : ℕ) (x : A) → get_elem? xs i ≡ some x → i < length xs
+at_low [] i x e = absurd (some-ne-none x (sym e))
+at_low (y ∷ ys) zero x e = omega arith
+at_low (y ∷ ys) (suc i) x e = let a = at_low ys i x e in omega arith
+
+there : {A : Type 0} (xs : List A) (i : ℕ) → i < length xs → (x : A) × (get_elem? xs i ≡ some x)
+there [] i low = absurd (omega arith)
+there (x ∷ xs) zero low = (x, refl)
+there (x ∷ xs) (suc i) low = there xs i (omega arith)
+
+-- the entry of a send that was accepted
+send_entry : {O : Type 0} {g : Ghosts O} (state : O → OutState) (p : Plan) (q : id_plan.Plan) (number n : ℕ) (bytes : List ℕ) (op : Op) → op ≡ ops.Send n bytes → (by : Option Outcome) → by ≡ None → (s t : Stand g) (a : Acted state p q number op by s t)
+    → (e : Entry) × (get_elem? (acted_entries state p q number op by s t a) 0 ≡ some e) × (e.heading.place ≡ 8 * number + 0) × (e.link < p.links)
+send_entry state p q number n bytes (ops.Send m bs) is None untold s t a = let x = a.0.delivered.accepted in (x.entry, refl, ap (λ (h : Heading). h.place) x.heading_is, x.inside)
+send_entry state p q number n bytes (ops.Send m bs) is (Some by) untold s t a = absurd (cc)
+send_entry state p q number n bytes (ops.Open m k) is by untold s t a = absurd (cc)
+send_entry state p q number n bytes (ops.Call asked) is by untold s t a = absurd (cc)
+send_entry state p q number n bytes (ops.Expire of) is by untold s t a = absurd (cc)
+send_entry state p q number n bytes (ops.Join of) is by untold s t a = absurd (cc)
+send_entry state p q number n bytes (ops.Hold m) is by untold s t a = absurd (cc)
+send_entry state p q number n bytes (ops.Drop m) is by untold s t a = absurd (cc)
+send_entry state p q number n bytes (ops.Fail m code) is by untold s t a = absurd (cc)
+
+-- ## The clients of a run
+
+module _ {O : Type 0} {g : Ghosts O} (state : O → OutState) (p : Plan) (q : id_plan.Plan) where
+  pub clients_from : (names : List ℕ) (first : ℕ) (xs : List (Thread g)) → AreThreads state p q names first xs → List (Client g state p q)
+  clients_from names first [] a = []
+  clients_from names first (x ∷ xs) a = record { thread = x; first = first; is = a.0 } ∷ clients_from names (first + opens_of x.tasks) xs a.2
+
+  threads_are : {B : Type 0} (f : Thread g → B) (names : List ℕ) (first : ℕ) (xs : List (Thread g)) (a : AreThreads state p q names first xs) → map (λ (c : Client g state p q). f c.thread) (clients_from names first xs a) ≡ map f xs
+  unfolding clients_from
+  threads_are f names first [] a = refl
+  threads_are f names first (x ∷ xs) a = ap (λ l. f x ∷ l) (threads_are f names (first + opens_of x.tasks) xs a.2)
+
+  others_lists : (names : List ℕ) (first : ℕ) (xs : List (Thread g)) (a : AreThreads state p q names first xs)
+      → flat_map (λ (s : Seat (SockHome O g) sock_view.View). s.me.0.lists) (map (λ (x : Thread g). x.ended.seat) xs) ≡ map own_of (clients_from names first xs a)
+  unfolding clients_from
+  others_lists names first [] a = refl
+  others_lists names first (x ∷ xs) a =
+      let rest : List (List Entry) = flat_map (λ (s : Seat (SockHome O g) sock_view.View). s.me.0.lists) (map (λ (x : Thread g). x.ended.seat) xs) in
+      ap (λ l. l ++ rest) (own_list x a.0) ∙ ap (λ l. own_entries x a.0 ∷ l) (others_lists names (first + opens_of x.tasks) xs a.2)
+
+may_at : (p : Plan) (q : id_plan.Plan) (tss : List (List Task)) → AllMayRun p q tss → (j : ℕ) (ts : List Task) → get_elem? tss j ≡ some ts → (n : ℕ) × MayMakeAll p q ts n
+may_at p q [] a j ts e = absurd (some-ne-none ts (sym e))
+may_at p q (us ∷ tss) a zero ts e = subst (λ (x : List Task). (n : ℕ) × MayMakeAll p q x n) (some-injective us ts e) (opens_of us, a.0.may)
+may_at p q (us ∷ tss) a (suc j) ts e = may_at p q tss a.1 j ts e
+
+module _ {O : Type 0} {g : Ghosts O} {state : O → OutState} {p : Plan} {slots : ℕ} {setup : List Task} {clients : List (List Task)} {opens : List ℕ} {told ended : List (List Told)} {places : List PlaceWord} {vrefs : List Vref} {outs : List O} {ids : List (View Asked)}
+    (run : RanOn g state p slots setup clients opens told ended places vrefs outs ids) where
+  -- the setup's client and all others
+  abbrev pub all : List (Client g state p (ids_of p slots))
+  all = record { thread = run.ran.main; first = 0; is = run.ran.main_is } ∷ clients_from state p (ids_of p slots) _ (opens_of setup) run.ran.others run.ran.others_are
+
+  pub all_are : {B : Type 0} (f : Thread g → B) → map (λ (c : Client g state p (ids_of p slots)). f c.thread) all ≡ map f (run.ran.main ∷ run.ran.others)
+  all_are f = ap (λ l. f run.ran.main ∷ l) (threads_are state p (ids_of p slots) f _ (opens_of setup) run.ran.others run.ran.others_are)
+
+  pub views_are : map view_of all ≡ ids
+  views_are = all_are (λ (x : Thread g). x.ended.calls.seat.me.0) ∙ run.ran.ids_are
+
+  pub tasks_are : map tasks_of all ≡ setup ∷ clients
+  tasks_are = all_are (λ (x : Thread g). x.tasks) ∙ (ap (λ (t : List Task). t ∷ map (λ (x : Thread g). x.tasks) run.ran.others) run.ran.setup_asked ∙ ap (λ l. setup ∷ l) run.ran.asked)
+
+  -- each seat's list is its client's own
+  pub lists_are : run.closed.view.lists ≡ map own_of all
+  lists_are =
+      let f : Seat (SockHome O g) sock_view.View → List (List Entry) = λ s. s.me.0.lists in
+      let rest : List (List Entry) = flat_map f (map (λ (x : Thread g). x.ended.seat) run.ran.others) in
+      let mains : f run.ran.last ≡ own_entries run.ran.main run.ran.main_is ∷ [] = each_ended_lists p opens run.ran.main.ended.seat.me.0 run.ran.last.me.0 run.ran.failed ∙ own_list run.ran.main run.ran.main_is in
+      run.closed.lists ∙ (ap (flat_map f) (sym run.ran.seats_are) ∙ (ap (λ l. l ++ rest) mains ∙ ap (λ l. own_entries run.ran.main run.ran.main_is ∷ l) (others_lists state p (ids_of p slots) _ (opens_of setup) run.ran.others run.ran.others_are)))
+
+  module _ (tasks : AreTasks p (setup ∷ clients)) (may : MayRunAll p (ids_of p slots) setup clients) (notes : List (Noted Asked)) (laws : IdLaws slots notes) (have : HaveNotesOf ids notes) where
+    may_make : (j : ℕ) (c : Client g state p (ids_of p slots)) → get_elem? all j ≡ some c → (n : ℕ) × MayMakeAll p (ids_of p slots) (tasks_of c) n
+    may_make j c at = may_at p (ids_of p slots) (setup ∷ clients) (may.setup_may, may.clients_may) j (tasks_of c) (ap (λ l. get_elem? l j) (sym tasks_are) ∙ map_place tasks_of all j c at)
+
+    numbers : (o : ℕ) → total (λ (c : Client g state p (ids_of p slots)). total (numbered o) (tasks_of c)) all ≤ 1
+    numbers o = let a = total_map (λ (ts : List Task). total (numbered o) ts) tasks_of all in let b = ap (total (λ (ts : List Task). total (numbered o) ts)) tasks_are in let d = numbered_once p (setup ∷ clients) tasks o in omega arith
+
+    have_all : HaveNotesOf (map view_of all) notes
+    have_all = subst (λ (vs : List (View Asked)). HaveNotesOf vs notes) (sym views_are) have
+
+    -- ## The log
+
+    abbrev pub accepted : List Entry
+    accepted = run.closed.ordered.log
+
+    once_listed : (l : ℕ) → total (λ (es : List Entry). total (at_place l) es) run.closed.view.lists ≤ 1
+    once_listed l =
+        let a = ap (total (λ (es : List Entry). total (at_place l) es)) lists_are in let b = total_map (λ (es : List Entry). total (at_place l) es) own_of all in
+        let d = once all notes laws have_all may_make numbers l in omega arith
+
+    -- no two messages have one place index
+    pub places_differ : PlacesDiffer accepted
+    places_differ = log.places_differ p run.closed.view.found run.closed.view.lists run.closed.ordered once_listed
+
+    -- and each has one of the plan
+    low_place : (k : ℕ) (e : Entry) → get_elem? accepted k ≡ some e → e.heading.place < 8 * p.operations
+    low_place k e at =
+        let w = log.authored p run.closed.view.found run.closed.view.lists run.closed.ordered k e at in
+        let c = map_from own_of all w.seat _ (ap (λ l. get_elem? l w.seat) (sym lists_are) ∙ w.list) in
+        let here = term (at_place e.heading.place) (own_of c.0) _ e (ap (λ l. get_elem? l _) c.2 ∙ w.place) in
+        let one = only-at e.heading.place e.heading.place refl in
+        inside all notes laws have_all may_make numbers e.heading.place w.seat c.0 c.1 (omega arith)
+
+    low_on : (k i : ℕ) (e : Entry) → get_elem? (on k accepted) i ≡ some e → e.heading.place < 8 * p.operations
+    low_on k i e at = let w = from_on k accepted i e at in low_place w.0 e w.1
+
+    few_on : (k : ℕ) → length (on k accepted) ≤ 8 * p.operations
+    few_on k = log.few_entries (8 * p.operations) (on k accepted) (λ i j a b at bt same. distinct_filter (λ (x : Entry). x.heading.place) (λ (x : Entry). eqb x.link k) accepted places_differ i j a b at bt same) (low_on k)
+
+    -- ## The words
+
+    word_here : (n : ℕ) → n < 8 * p.operations → word_at places n ≡ slice_index run.closed.words (place_word p n)
+    word_here n low = let r = run.closed.placed n low in ap (λ (o : Option PlaceWord). unwrap_or (option_map (λ (word : PlaceWord). word.0) o) no_place) (got places n r.0 r.1) ∙ r.2
+
+    word_beyond : (n : ℕ) → 8 * p.operations ≤ n → word_at places n ≡ no_place
+    word_beyond n high = ap (λ (o : Option PlaceWord). unwrap_or (option_map (λ (word : PlaceWord). word.0) o) no_place) (slice_get_past places n (let e = run.closed.sized.1 in omega arith))
+
+    -- a message with this place index stands at this position of this link
+    pub record IsMessage (n k i : ℕ) : Type 0 where
+      pub inside : k < p.links
+      pub entry : Entry
+      pub at : get_elem? (on k accepted) i ≡ some entry
+      pub place : entry.heading.place ≡ n
+
+    none_or_message : (n : ℕ) → (word_at places n ≡ no_place) ⊎ ((k i : ℕ) × IsMessage n k i)
+    none_or_message n = dite (dec_lt n (8 * p.operations))
+        (λ low. ⊎_elim (λ e. inl (word_here n low ∙ e)) (λ w. inr (w.link, w.position, record { inside = w.inside; entry = w.entry; at = w.there; place = w.own })) (run.closed.shown n low))
+        (λ high. inl (word_beyond n (omega arith)))
+
+    module _ (few : p.links ≤ 65536) (low : p.operations ≤ 65536) where
+      -- and its word tells that
+      tells : (n k i : ℕ) → IsMessage n k i → (b : Bool) × IsPlaceWord (word_at places n) b k i
+      tells n k i m =
+          let back = run.closed.outs_back k m.inside in
+          let fifo = back.took_is.fifo places_differ in
+          let here = low_on k i m.entry m.at in
+          let position = at_low (on k accepted) i m.entry m.at in
+          let most = few_on k in
+          let word = word_here m.entry.heading.place here in
+          subst (λ (x : ℕ). (b : Bool) × IsPlaceWord (word_at places x) b k i) m.place
+          (dite (dec_lt i back.took_is.kept)
+          (λ lt. by false (omega (arith, m.inside, few)) (omega (arith, position, most, low)) (word ∙ fifo.placed i m.entry m.at lt))
+          (λ ge. by true (omega (arith, m.inside, few)) (omega (arith, position, most, low)) (word ∙ fifo.dropped i m.entry m.at (omega arith))))
+        where
+          by : (b : Bool) → k < 65536 → i < 4294967295 → word_at places m.entry.heading.place ≡ place_value b k i → (b : Bool) × IsPlaceWord (word_at places m.entry.heading.place) b k i
+          by b small short e = (b, subst (λ (w : ℕ). IsPlaceWord w b k i) (sym e) (is_place b k i small short))
+
+      -- a word that tells a position is that of a message there
+      message_at : (label : Label) (k i : ℕ) → StandsAt places label k i → IsMessage (8 * label.operation + label.attempt) k i
+      message_at label k i h = by_word (none_or_message (8 * label.operation + label.attempt))
+        where
+          n : ℕ
+          n = 8 * label.operation + label.attempt
+
+          by_word : (word_at places (8 * label.operation + label.attempt) ≡ no_place) ⊎ ((k i : ℕ) × IsMessage (8 * label.operation + label.attempt) k i) → IsMessage (8 * label.operation + label.attempt) k i
+          by_word (inl e) = absurd (let z : HasPosition no_place = subst (λ (x : ℕ). HasPosition x) e h.told.accepted in omega (arith, z))
+          by_word (inr w) =
+              let t = tells (8 * label.operation + label.attempt) w.0 w.1 w.2 in
+              let link : w.0 ≡ k = sym t.1.link_is ∙ h.told.link_is in
+              let position : w.1 ≡ i = sym t.1.position_is ∙ h.told.position_is in
+              subst (λ (x : ℕ). IsMessage (8 * label.operation + label.attempt) k x) position (subst (λ (x : ℕ). IsMessage (8 * label.operation + label.attempt) x w.1) link w.2)
+
+      -- the label of a place index
+      label_is : (a b : Label) → a.attempt < 8 → b.attempt < 8 → 8 * a.operation + a.attempt ≡ 8 * b.operation + b.attempt → a ≡ b
+      label_is a b small less e =
+          let operation : a.operation ≡ b.operation = omega (arith, small, less, e) in
+          let attempt : a.attempt ≡ b.attempt = omega (arith, small, less, e) in
+          λ z. record { operation = operation z; attempt = attempt z }
+
+      -- the place words tell an order of each link
+      pub are_places : ArePlaces places
+      are_places = record {
+        tell = λ n. by_word n (none_or_message n);
+        once = λ a b k i h u.
+            let x = message_at a k i h in let y = message_at b k i u in
+            label_is a b h.attempt u.attempt (sym x.place ∙ (ap (λ (e : Entry). e.heading.place) (some-injective x.entry y.entry (sym x.at ∙ y.at)) ∙ y.place));
+        no_gap = λ a k i lower h less.
+            let x = message_at a k i h in
+            let e = there (on k accepted) lower (let z = at_low (on k accepted) i x.entry x.at in omega (arith, z, less)) in
+            below k lower e.0 x.inside e.1;
+      }
+        where
+          by_word : (n : ℕ) → (word_at places n ≡ no_place) ⊎ ((k i : ℕ) × IsMessage n k i) → (word_at places n ≡ no_place) ⊎ HasPosition (word_at places n)
+          by_word n (inl e) = inl e
+          by_word n (inr w) = inr ((tells n w.0 w.1 w.2).1.has_position)
+
+          below : (k lower : ℕ) (e : Entry) → k < p.links → get_elem? (on k accepted) lower ≡ some e → (b : Label) × StandsAt places b k lower
+          below k lower e low_link at =
+              let n : ℕ = 8 * (e.heading.place / 8) + e.heading.place % 8 in
+              let t = tells n k lower (record { inside = low_link; entry = e; at = at; place = omega arith }) in
+              (record { operation = e.heading.place / 8; attempt = e.heading.place % 8 }, record { attempt = omega arith; told = record { accepted = t.1.has_position; link_is = t.1.link_is; position_is = t.1.position_is } })
+
+      -- ## Sends
+
+      -- the message of a send that was accepted has a place
+      pub send_placed : (j : ℕ) (c : Client g state p (ids_of p slots)) → get_elem? all j ≡ some c → (t : Task) (n : ℕ) (bytes : List ℕ) → t.op ≡ ops.Send n bytes → (m : IsMade g state p (ids_of p slots) (deeds_of c) c.thread.ended.outcomes.items t) → m.by ≡ None → HasPosition (word_at places (8 * t.number))
+      send_placed j c at t n bytes is m untold =
+          let e = send_entry state p (ids_of p slots) t.number n bytes t.op is m.by untold m.before m.after m.acted in
+          let own = flat_there entries_of (deeds_of c) m.place _ 0 e.0 m.there e.1 in
+          let list = map_from (λ a. pick a run.closed.ordered.by accepted) run.closed.ordered.names j (own_of c) (ap (λ l. get_elem? l j) (sym run.closed.ordered.lists_are ∙ lists_are) ∙ map_place own_of all j c at) in
+          let q = from_pick list.0 run.closed.ordered.by accepted own.0 e.0 (ap (λ l. get_elem? l own.0) list.2 ∙ own.1) in
+          let i = on_there e.0.link accepted q.0 e.0 q.2 refl in
+          (tells (8 * t.number) e.0.link i.0 (record { inside = e.3; entry = e.0; at = i.1; place = omega (arith, e.2) })).1.has_position
