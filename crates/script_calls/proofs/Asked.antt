@@ -55,33 +55,34 @@ all_ask script = all_by_place (AskIn script) (all_tasks script) (λ c ts at. sub
 
 -- ## The ids of a run
 
-module _ {O : Type 0} {g : Ghosts O} (state : O → OutState) (p : Plan) (q : id_plan.Plan) (script : List Item) where
+module _ (script : List Item) where
   abbrev Fits : ℕ → Asked → Type 0
   Fits = IsAskedIn (operations script)
-
-  abbrev seat_of : Thread g → id_view.View Asked
-  seat_of x = x.ended.calls.seat.me.0
-
-  thread_made : (first : ℕ) (x : Thread g) → IsThread state p q first x → AskIn script x.tasks → AllMade Fits (seat_of x).notes
-  thread_made first x t asks = all_made Fits (seat_of x).notes (run_made Fits x.began x.ended asks t.ran (subst (λ (m : Me (Option Asked) (id_view.View Asked)). SeatMade Fits m.0) (sym t.ids) tt))
-
-  threads_made : (names : List ℕ) (first : ℕ) (xs : List (Thread g)) → AreThreads state p q names first xs → AllByRecursion (AskIn script) (map (λ (x : Thread g). x.tasks) xs) → AllByRecursion (λ (v : id_view.View Asked). AllMade Fits v.notes) (map seat_of xs)
-  threads_made names first [] h a = tt
-  threads_made names first (x ∷ xs) h a = (thread_made first x h.0 a.0, threads_made names (first + opens_of x.tasks) xs h.2 a.1)
 
   all_notes : (vs : List (id_view.View Asked)) → AllByRecursion (λ (v : id_view.View Asked). AllMade Fits v.notes) vs → AllMade Fits (flat_map (λ (v : id_view.View Asked). v.notes) vs)
   all_notes [] h = tt
   all_notes (v ∷ vs) h = all_both (λ (n : Noted Asked). FitsMade Fits n.note) v.notes (flat_map (λ (x : id_view.View Asked). x.notes) vs) h.0 (all_notes vs h.1)
 
-  -- all that the clients noted, one behind the other
-  pub ids_made : (setup : List Task) (clients : List (List Task)) (opens : List ℕ) (told ended : List (List Told)) (seats : List (Seat (SockHome O g) View)) (ids : List (id_view.View Asked)) → AllRan g state p q setup clients opens told ended seats ids → setup ∷ clients ≡ all_tasks script
-      → AllMade Fits (flat_map (λ (v : id_view.View Asked). v.notes) ids)
-  ids_made setup clients opens told ended seats ids r tasks_are =
-      let asks : AllByRecursion (AskIn script) (setup ∷ clients) = subst (AllByRecursion (AskIn script)) (sym tasks_are) (all_ask script) in
-      let own = subst (AskIn script) (sym r.setup_asked) asks.0 in
-      let others = subst (AllByRecursion (AskIn script)) (sym r.asked) asks.1 in
-      all_notes ids (subst (AllByRecursion (λ (v : id_view.View Asked). AllMade Fits v.notes)) r.ids_are
-      (thread_made 0 r.main r.main_is own, threads_made (opened_names r.main.ended.outcomes.items (openings setup)) (opens_of setup) r.others r.others_are others))
+  module _ {O : Type 0} {g : Ghosts O} (state : O → OutState) (p : Plan) (q : id_plan.Plan) where
+    abbrev seat_of : Thread g → id_view.View Asked
+    seat_of x = x.ended.calls.seat.me.0
+
+    thread_made : (first : ℕ) (x : Thread g) → IsThread state p q first x → AskIn script x.tasks → AllMade Fits (seat_of x).notes
+    thread_made first x t asks = all_made Fits (seat_of x).notes (run_made Fits x.began x.ended asks t.ran (subst (λ (m : Me (Option Asked) (id_view.View Asked)). SeatMade Fits m.0) (sym t.ids) tt))
+
+    threads_made : (names : List ℕ) (first : ℕ) (xs : List (Thread g)) → AreThreads state p q names first xs → AllByRecursion (AskIn script) (map (λ (x : Thread g). x.tasks) xs) → AllByRecursion (λ (v : id_view.View Asked). AllMade Fits v.notes) (map seat_of xs)
+    threads_made names first [] h a = tt
+    threads_made names first (x ∷ xs) h a = (thread_made first x h.0 a.0, threads_made names (first + opens_of x.tasks) xs h.2 a.1)
+
+    -- all that the clients noted, one behind the other
+    pub ids_made : (setup : List Task) (clients : List (List Task)) (opens : List ℕ) (told ended : List (List Told)) (seats : List (Seat (SockHome O g) View)) (ids : List (id_view.View Asked)) → AllRan g state p q setup clients opens told ended seats ids → setup ∷ clients ≡ all_tasks script
+        → AllMade Fits (flat_map (λ (v : id_view.View Asked). v.notes) ids)
+    ids_made setup clients opens told ended seats ids r tasks_are =
+        let asks : AllByRecursion (AskIn script) (setup ∷ clients) = subst (AllByRecursion (AskIn script)) (sym tasks_are) (all_ask script) in
+        let own = subst (AskIn script) (sym r.setup_asked) asks.0 in
+        let others = subst (AllByRecursion (AskIn script)) (sym r.asked) asks.1 in
+        all_notes ids (subst (AllByRecursion (λ (v : id_view.View Asked). AllMade Fits v.notes)) r.ids_are
+        (thread_made 0 r.main r.main_is own, threads_made (opened_names r.main.ended.outcomes.items (openings setup)) (opens_of setup) r.others r.others_are others))
 
 -- the same over seats
 pub notes_of_seats : {S : Type 0} (view : S → id_view.View Asked) (ss : List S) → flat_map (λ (v : id_view.View Asked). v.notes) (map view ss) ≡ flat_map (λ (s : S). (view s).notes) ss

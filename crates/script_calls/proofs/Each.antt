@@ -71,7 +71,7 @@ module _ {O I P : Type 0} (g : Ghosts O) (out : O → OutState) (inn : I → InS
       (ran : RanOn g out (plan_of script) (length (calls script)) setup clients opens told ended places vrefs outs (map view_of seats)) (ends ends' : List (Ends O I P)) (last : List Told) (read : HasRead out inn (sizes script) (calls script) seats ends ends' last)
       -- a `send` of which nothing is told has a place
       (sent : (c k : ℕ) (ts : List Task) (t : Task) (n : ℕ) (bytes : List ℕ) → get_elem? (setup ∷ clients) c ≡ some ts → get_elem? ts k ≡ some t → t.op ≡ ops.Send n bytes
-          → ((own : List Told) × (i : ℕ) × (x : Told) × (get_elem? told c ≡ some own) × (get_elem? own i ≡ some x) × (x.number ≡ t.number)) ⊎ HasPosition (word_at places (8 * t.number))) where
+      → ((own : List Told) × (i : ℕ) × (x : Told) × (get_elem? told c ≡ some own) × (get_elem? own i ≡ some x) × (x.number ≡ t.number)) ⊎ HasPosition (word_at places (8 * t.number))) where
     abbrev ids : List (View Asked)
     ids = map view_of seats
 

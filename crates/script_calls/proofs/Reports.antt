@@ -114,7 +114,7 @@ module _ (P : Type 0) {O I : Type 0} (out : O → OutState) (inn : I → InState
 
     made_told : (r : IsCallRun P g out inn script text links) → AllMade (IsAskedIn (operations script)) (flat_map (λ (s : IdSeat). s.me.0.notes) r.ids)
     made_told r = subst (AllMade (IsAskedIn (operations script))) (notes_of_seats (λ (s : IdSeat). s.me.0) r.ids)
-        (ids_made out (plan_of script) (ids_of (plan_of script) (length (calls script))) script r.setup r.clients (opens script) r.told r.ended r.ran.seats (map (λ (s : IdSeat). s.me.0) r.ids) r.ran.ran r.tasks)
+        (ids_made script out (plan_of script) (ids_of (plan_of script) (length (calls script))) r.setup r.clients (opens script) r.told r.ended r.ran.seats (map (λ (s : IdSeat). s.me.0) r.ids) r.ran.ran r.tasks)
 
     balanced_told : (r : IsCallRun P g out inn script text links) → AreBalanced r.ended (map (λ (s : IdSeat). s.me.0) r.ids)
     balanced_told r = balanced out (plan_of script) (ids_of (plan_of script) (length (calls script))) r.setup r.clients (opens script) r.told r.ended r.ran.seats (map (λ (s : IdSeat). s.me.0) r.ids) r.ran.ran
