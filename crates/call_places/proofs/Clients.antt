@@ -1,5 +1,5 @@
 -- The clients of a run: over all of them no two messages have one place index.
-use Rattle.std.proofs.Common.{◌≡◌, ◌≢◌, ℕ, zero, suc, ◌+◌, ◌*◌, ◌/◌, ◌%◌, ◌<◌, ◌≤◌, List, [], ◌∷◌, ◌++◌, map, refl, sym, ap, ◌∙◌, subst, arith}
+use Rattle.std.proofs.Common.{◌≡◌, ℕ, zero, suc, ◌+◌, ◌*◌, ◌/◌, ◌%◌, ◌<◌, ◌≤◌, List, [], ◌∷◌, map, refl, sym, ◌∙◌, subst, arith}
 use Rattle.std.specs.List.{AllByRecursion}
 use Rattle.std.proofs.lemmas.Nat.{div-add-mod'}
 use mathlib.Core.Logic.{dite}
@@ -11,7 +11,7 @@ use Rattle.sock_io.specs.Link.{OutState}
 use Rattle.sock_words.specs.declared.plain.Plan.{Plan}
 use Rattle.sock_model.specs.declared.chain.Entry.{Entry}
 use Rattle.sock_programs.specs.declared.task.Task.{Task}
-use Rattle.corr_core.specs.Law.{total, only, is_attempt}
+use Rattle.corr_core.specs.Law.{total, is_attempt}
 use Rattle.corr_core.specs.declared.marks.Note.{Note}
 use Rattle.corr_core.specs.declared.marks.Note.TheVariants.{Made}
 use Rattle.corr_core.specs.declared.marks.Noted.{Noted}
@@ -22,15 +22,15 @@ use Rattle.id_rule.specs.Lawful.{notes_of}
 use Rattle.sock_message.specs.Asked.{Asked}
 use Rattle.corr_id.specs.Calls.{slot_of, version_of}
 use Rattle.call_errors.specs.declared.retries.Retry.{Retry}
-use Rattle.call_attempts.specs.Retrying.{RetriedBy, had_ended, overtaken, went_again}
+use Rattle.call_attempts.specs.Retrying.{had_ended, overtaken, went_again}
 use Rattle.call_client.specs.Running.{MayMakeAll}
 use Rattle.call_run.specs.Threads.{Thread, IsThread}
 use Rattle.call_places.specs.Counted.{makes, HaveNotesOf}
 use Rattle.call_places.specs.Deeds.{Deed, operates, retries, deeds, own_entries}
 use Rattle.call_places.proofs.Weights.{term, each_less, noted_at}
-use Rattle.call_places.proofs.Still.{is_retry, advances}
-use Rattle.call_places.proofs.Counts.{call_in, by_task, by_retry, Knows, tried_few, made_few, all_known, task_total}
-use Rattle.call_places.proofs.Labels.{at_place, labels, again_at, own_place, none_again}
+use Rattle.call_places.proofs.Still.{is_retry}
+use Rattle.call_places.proofs.Counts.{call_in, by_retry, Knows, tried_few, made_few, all_known, task_total}
+use Rattle.call_places.proofs.Labels.{at_place, again_at, own_place, none_again}
 use Rattle.call_places.proofs.Numbers.{numbered, own_calls, own_labels, low_number, no_labels}
 use Rattle.call_places.proofs.Ids.{IdLaws, IsIdOf, version_low, lock_id, one_id}
 

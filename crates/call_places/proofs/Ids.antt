@@ -1,17 +1,14 @@
 -- The retries of an operation's call have one id: the one that was made for it.
-use Rattle.std.proofs.Common.{◌≡◌, ◌≢◌, ℕ, zero, suc, ◌+◌, ◌*◌, ◌<◌, ◌≤◌, List, [], ◌∷◌, map, refl, sym, ap, ◌∙◌, subst, arith}
+use Rattle.std.proofs.Common.{◌≡◌, ℕ, ◌+◌, ◌*◌, ◌<◌, ◌≤◌, List, sym, ap, ◌∙◌, subst, arith}
 use Rattle.std.proofs.lemmas.Nat.{div-add-mod'}
 use Rattle.std.proofs.Math.Nat.{mod-lt}
 use mathlib.Core.Logic.{dite}
 use mathlib.Core.Option.{some, some-injective}
 use native.Mathlib.Decide.{ℕ_discrete, dec_lt}
 use lib.ListN.{get_elem?}
-use Rattle.sock_io.specs.declared.link.Out.{Ghosts}
-use Rattle.sock_io.specs.Link.{OutState}
-use Rattle.sock_words.specs.declared.plain.Plan.{Plan}
-use Rattle.sock_programs.specs.declared.task.Task.{Task}
 use Rattle.corr_core.specs.Word.{parts}
-use Rattle.corr_core.specs.Law.{total, only, pair, is_made, is_attempt}
+use Rattle.corr_core.specs.Law.{total, is_made, is_attempt}
+use Rattle.corr_core.specs.declared.marks.Kept.{Kept}
 use Rattle.corr_core.specs.declared.marks.Note.{Note}
 use Rattle.corr_core.specs.declared.marks.Note.TheVariants.{Tried, Made, Ended, Locker, Queued, Attempt, Saw}
 use Rattle.corr_core.specs.declared.marks.Noted.{Noted}
@@ -22,11 +19,10 @@ use Rattle.id_rule.specs.Lawful.{notes_of}
 use Rattle.sock_message.specs.Asked.{Asked}
 use Rattle.corr_id.specs.declared.calls.IdLock.{IdLock}
 use Rattle.corr_id.specs.Calls.{is_saw, slot_of, version_of}
+use Rattle.corr_id.specs.Closing.{Closing}
 use Rattle.call_errors.specs.Locking.{GotBy}
-use Rattle.call_run.specs.Threads.{Thread, IsThread}
-use Rattle.call_places.specs.Counted.{makes, HaveNotesOf}
-use Rattle.call_places.specs.Deeds.{Deed, deeds}
-use Rattle.call_places.proofs.Weights.{term, two_terms, noted_at}
+use Rattle.call_places.specs.Counted.{makes}
+use Rattle.call_places.proofs.Weights.{two_terms, noted_at}
 use Rattle.call_places.proofs.Still.{advances}
 use Rattle.call_places.proofs.Counts.{locks_for, KnowsLock}
 
@@ -37,6 +33,9 @@ pub record IdLaws (slots : ℕ) (notes : List (Noted Asked)) : Type 0 where
   pub locked_made : (i f k : ℕ) (c : Asked) → i < slots → get_elem? (notes_of i notes) k ≡ some (Locker f c) → (r j : ℕ) × (get_elem? (notes_of i notes) j ≡ some (Made f r c))
   pub range_is : (i w : ℕ) → i < slots → 0 < total (is_saw w) (notes_of i notes) → 0 < (parts w).state → (c : Asked) × (j : ℕ) × (get_elem? (notes_of i notes) j ≡ some (Made (parts w).first (parts w).range c))
   pub ranges_apart : (i f g r s j k : ℕ) (c d : Asked) → i < slots → get_elem? (notes_of i notes) j ≡ some (Made f r c) → get_elem? (notes_of i notes) k ≡ some (Made g s d) → f < g → f + r ≤ g
+
+pub laws_of : (p : id_plan.Plan) (notes : List (Noted Asked)) (kept : List Kept) (words : List ℕ) → Closing p notes kept words → IdLaws p.slots notes
+laws_of p notes kept words c = record { advanced_once = c.advanced_once; advanced_made = c.advanced_made; locked_made = c.locked_made; range_is = c.range_is; ranges_apart = c.ranges_apart }
 
 -- ## Notes by their weights
 
@@ -61,6 +60,13 @@ made_of f (Locker g c) h = absurd (omega arith)
 made_of f (Queued g e) h = absurd (omega arith)
 made_of f (Attempt g n) h = absurd (omega arith)
 made_of f (Saw w) h = absurd (omega arith)
+
+-- where they stand
+locker_there : (f o : ℕ) (ns : List (Note Asked)) → 0 < total (locks_for f o) ns → (c : Asked) × (k : ℕ) × (get_elem? ns k ≡ some (Locker f c)) × (c.operation ≡ o)
+locker_there f o ns some_ = let l = total_some (locks_for f o) ns some_ in let n = locker_of f o l.1 l.3 in (n.0, l.0, l.2 ∙ ap some n.1, n.2)
+
+made_there : (f : ℕ) (ns : List (Note Asked)) → 0 < total (is_made f) ns → (r : ℕ) × (c : Asked) × (k : ℕ) × (get_elem? ns k ≡ some (Made f r c))
+made_there f ns some_ = let m = total_some (is_made f) ns some_ in let n = made_of f m.1 m.3 in (n.0, n.1, m.0, m.2 ∙ ap some n.2)
 
 -- the first version of a range that was made
 first_of : Note Asked → ℕ
@@ -94,17 +100,14 @@ module _ {slots : ℕ} {notes : List (Noted Asked)} (laws : IdLaws slots notes) 
       let seen : 0 < total (is_saw knows.word) (notes_of i notes) = (let a = knows.found in let b = among i (is_saw knows.word) in omega arith) in
       let one = laws.range_is i knows.word got.inside seen (let a = knows.was_open in omega arith) in
       let locked : 0 < total (locks_for f o) (notes_of i notes) = (let a = knows.locked in let b = among i (locks_for f o) in omega arith) in
-      let l = total_some (locks_for f o) (notes_of i notes) locked in
-      let lk = locker_of f o l.1 l.3 in
-      let two = laws.locked_made i f l.0 lk.0 got.inside (l.2 ∙ ap some lk.1) in
+      let l = locker_there f o (notes_of i notes) locked in
+      let two = laws.locked_made i f l.1 l.0 got.inside l.2 in
       let here : 0 < total (is_attempt f0 n) (notes_of i notes) =
       (let a : 0 < total (is_attempt f0 n) (notes_of i v.notes) = subst (λ (j : ℕ). 0 < total (is_attempt f0 n) (notes_of j v.notes)) (sym got.slot_is) advanced in let b = among i (is_attempt f0 n) in omega arith) in
-      let m = total_some (is_made f0) (notes_of i notes) (laws.advanced_made i f0 n got.inside here) in
-      let mk = made_of f0 m.1 m.3 in
-      let three : get_elem? (notes_of i notes) m.0 ≡ some (Made f0 mk.0 mk.1) = m.2 ∙ ap some mk.2 in
+      let m = made_there f0 (notes_of i notes) (laws.advanced_made i f0 n got.inside here) in
       let low : f0 < 4294967296 = version_low id in
       let same : f ≡ f0 = dite (dec_lt f f0)
-      (λ lt. absurd (let a = laws.ranges_apart i (parts knows.word).first f0 (parts knows.word).range mk.0 one.1 m.0 one.0 mk.1 got.inside one.2 three (let e = knows.first_is in omega arith) in
+      (λ lt. absurd (let a = laws.ranges_apart i (parts knows.word).first f0 (parts knows.word).range m.0 one.1 m.2 one.0 m.1 got.inside one.2 m.3 (let e = knows.first_is in omega arith) in
       let b = got.to_last in let c = knows.first_is in let d = knows.range_is in omega arith))
       (λ ge. let b = got.from_first in omega arith) in
       record {
@@ -112,12 +115,12 @@ module _ {slots : ℕ} {notes : List (Noted Asked)} (laws : IdLaws slots notes) 
         first = f;
         inside = got.inside;
         low = omega (arith, same, low);
-        id_is = (let a = div-add-mod' id 4294967296 in let b = got.slot_is in let c : slot_of id * 4294967296 + f0 ≡ id = a in ap (λ (j : ℕ). j) (sym c) ∙ λ z. sym b z * 4294967296 + sym same z);
+        id_is = (let a = div-add-mod' id 4294967296 in let b = got.slot_is in omega (arith, a, b, same));
         range = two.0;
-        asked = lk.0;
+        asked = l.0;
         place = two.1;
         made = two.2;
-        operation = lk.2;
+        operation = l.3;
       }
 
 -- two ids of one operation are the same, where one was made for it at most

@@ -1,5 +1,6 @@
 -- What a client does to its own list of accepted messages: each message that is accepted stands behind the others, and nothing else changes it.
-use Rattle.std.proofs.Common.{◌≡◌, ℕ, zero, suc, ◌⊎◌, inl, inr, ⊎_elim, Option, Some, None, List, [], ◌∷◌, ◌++◌, append-nil, refl, sym, ap, ◌∙◌, subst}
+use Rattle.std.proofs.Common.{◌≡◌, ℕ, zero, suc, inl, inr, ⊎_elim, Option, Some, None, List, [], ◌∷◌, ◌++◌, append-nil, sym, ap, ◌∙◌}
+use Rattle.atomic_table.specs.Table.{Me}
 use Rattle.sock_io.specs.declared.link.Out.{Ghosts}
 use Rattle.sock_io.specs.Link.{OutState}
 use Rattle.sock_words.specs.declared.outcome.Outcome.{Outcome}
@@ -10,14 +11,12 @@ use Rattle.sock_model.specs.declared.chain.Entry.{Entry}
 use Rattle.sock_model.specs.declared.view.View.{View}
 use Rattle.sock_model.specs.ChainRows.{more}
 use Rattle.sock_rule.specs.declared.homes.Letter.{Letter}
-use Rattle.sock_table.specs.Named.{Found, NotedAs}
-use Rattle.sock_table.specs.declared.finding.Noted.{Noted}
-use Rattle.sock_table.specs.declared.finding.Noted.TheVariants as noted
+use Rattle.sock_rule.specs.declared.homes.SockHome.{SockHome}
+use Rattle.sock_table.specs.Named.{Found}
 use Rattle.sock_programs.specs.declared.task.Op.{Op}
 use Rattle.sock_programs.specs.declared.task.Op.TheVariants as ops
 use Rattle.corr_core.specs.declared.marks.Plan as id_plan
 use Rattle.rpc_client.specs.declared.acting.Action.TheVariants as action
-use Rattle.rpc_client.specs.declared.acting.Operation.{Operation}
 use Rattle.rpc_client.specs.declared.reaching.Reached.{Reached}
 use Rattle.rpc_client.specs.declared.reaching.Reached.TheVariants as reached
 use Rattle.rpc_client.specs.declared.holding.Held.{Held}
@@ -34,7 +33,7 @@ use Rattle.call_writes.specs.Sending.{SeenCalling, SentWithCalling, SentCalling}
 use Rattle.call_writes.proofs.Drains.{drained_same}
 use Rattle.call_attempts.specs.Both.{Both}
 use Rattle.call_attempts.specs.Attempting.{DeliveredBy, went_out, came_back, AttemptedBy, nowhere, over_link}
-use Rattle.call_attempts.specs.Retrying.{without_oldest, WentTo, stray, unopened, to_socket, RetriedBy, had_ended, overtaken, went_again}
+use Rattle.call_attempts.specs.Retrying.{WentTo, stray, unopened, to_socket, RetriedBy, had_ended, overtaken, went_again}
 use Rattle.call_client.specs.Acting.{Stand, both_of, letter_of, Acted}
 use Rattle.call_run.specs.Ending.{FailedIf, EndedEach}
 use Rattle.table_told.proofs.Owning as table
@@ -129,8 +128,8 @@ module _ {O : Type 0} (state : O → OutState) (p : Plan) where
       acted_grows number (ops.Send n bytes) (Some by) s t a = grown_none s.me.0 t.me.0 (refused_lists q.slots n (letter_of number bytes) by s.me.0 s.calls t.me.0 t.calls a.0)
       acted_grows number (ops.Call asked) (Some outcome.Unopened) s t a = grown_none s.me.0 t.me.0 (found_lists p _ None s.me.0 t.me.0 a.0.0)
       acted_grows number (ops.Call asked) None s t a = λ l ls is. attempt_grows a.1.socket _ a.1.at (both_of t) a.1.attempted l ls (found_lists p _ (Some a.1.socket) s.me.0 a.1.at.socks a.1.made_for.found ∙ is)
-      acted_grows number (ops.Expire of) (Some by) s t a = grown_none s.me.0 t.me.0 (ap (λ m. m.0.lists) a.1)
-      acted_grows number (ops.Join of) (Some by) s t a = grown_none s.me.0 t.me.0 (ap (λ m. m.0.lists) a.1)
+      acted_grows number (ops.Expire of) (Some by) s t a = grown_none s.me.0 t.me.0 (ap (λ (m : Me (SockHome O g) View). m.0.lists) a.1)
+      acted_grows number (ops.Join of) (Some by) s t a = grown_none s.me.0 t.me.0 (ap (λ (m : Me (SockHome O g) View). m.0.lists) a.1)
       acted_grows number (ops.Hold n) (Some by) s t a = table.acted_lists state p (record { client = 0; operation = 0; attempt = 0; place = 0 }) (record { number = number; name = n; action = action.Hold }) action.Hold (Some by) (on_socks s) (on_socks t) (a.0, a.1)
       acted_grows number (ops.Drop n) (Some by) s t a = table.acted_lists state p (record { client = 0; operation = 0; attempt = 0; place = 0 }) (record { number = number; name = n; action = action.Drop }) action.Drop (Some by) (on_socks s) (on_socks t) (a.0, a.1)
       acted_grows number (ops.Fail n code) (Some by) s t a = table.acted_lists state p (record { client = 0; operation = 0; attempt = 0; place = 0 }) (record { number = number; name = n; action = action.Fail code }) (action.Fail code) (Some by) (on_socks s) (on_socks t) (a.0, a.1.held, a.1.passes)

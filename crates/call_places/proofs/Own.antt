@@ -37,7 +37,9 @@ grown_as es fs v w e = subst (λ l. Grown l v w) e
 -- the operation that is told behind these
 told_last : (number : ℕ) (by : Option Outcome) (told : List Told) (o : Outcome) → by ≡ Some o → (i : ℕ) × (get_elem? (told ++ telling number by) i ≡ some (record { number = number; outcome = o }))
 told_last number None told o e = absurd (cc)
-told_last number (Some x) told o e = (length told + 0, append_later told (record { number = number; outcome = x } ∷ []) 0 (record { number = number; outcome = o }) (let same : x ≡ o = same_Some x o e in ap (λ (y : Outcome). some (record { number = number; outcome = y })) same))
+told_last number (Some x) told o e =
+    let of : Outcome → Told = λ y. record { number = number; outcome = y } in
+    (length told + 0, append_later told (of x ∷ []) 0 (of o) (ap (λ (y : Outcome). some (of y)) (same_Some x o e)))
 
 module _ {O : Type 0} (g : Ghosts O) (state : O → OutState) (p : Plan) (q : id_plan.Plan) where
   -- by these deeds

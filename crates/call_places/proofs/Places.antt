@@ -1,5 +1,5 @@
 -- The place words that a run with calls leaves tell an order of each link.
-use Rattle.std.proofs.Common.{◌≡◌, ◌≢◌, ℕ, zero, suc, ◌+◌, ◌*◌, ◌/◌, ◌%◌, ◌<◌, ◌≤◌, ◌⊎◌, inl, inr, ⊎_elim, Bool, true, false, eqb, List, [], ◌∷◌, ◌++◌, length, map, flat_map, slice_get, slice_index, unwrap_or, option_map, Option, Some, None, refl, sym, ap, ◌∙◌, subst, arith}
+use Rattle.std.proofs.Common.{◌≡◌, ℕ, zero, suc, ◌+◌, ◌*◌, ◌/◌, ◌%◌, ◌<◌, ◌≤◌, ◌⊎◌, inl, inr, ⊎_elim, Bool, true, false, eqb, List, [], ◌∷◌, ◌++◌, length, map, flat_map, slice_get, slice_index, unwrap_or, option_map, Option, Some, None, refl, sym, ap, ◌∙◌, subst, arith}
 use Rattle.std.proofs.lemmas.Option.{slice_get_past}
 use mathlib.Core.Logic.{dite}
 use mathlib.Core.Option.{some, some-injective, some-ne-none}
@@ -31,16 +31,18 @@ use Rattle.sock_programs.specs.declared.task.Op.TheVariants as ops
 use Rattle.sock_programs.specs.declared.task.Task.{Task}
 use Rattle.sock_programs.specs.Told.{AreTasks}
 use Rattle.corr_core.specs.Law.{total}
+use Rattle.corr_core.specs.declared.marks.Kept.{Kept}
 use Rattle.corr_core.specs.declared.marks.Noted.{Noted}
 use Rattle.corr_core.specs.declared.marks.Plan as id_plan
 use Rattle.corr_core.specs.declared.marks.View.{View}
 use Rattle.corr_core.proofs.Notes.{only-at}
 use Rattle.sock_message.specs.Asked.{Asked}
+use Rattle.corr_id.specs.Closing.{Closing}
 use Rattle.rpc_client.specs.declared.acting.Told.{Told}
 use Rattle.call_client.specs.Acting.{Stand, Acted}
 use Rattle.call_client.specs.Running.{MayMakeAll}
-use Rattle.call_run.specs.Threads.{Thread, IsThread, AreThreads, RanOn, AllMayRun, MayRunAll, ids_of, opens_of}
-use Rattle.table_told.proofs.Entries.{from_pick, from_on, on_there}
+use Rattle.call_run.specs.Threads.{Thread, AreThreads, RanOn, AllMayRun, MayRunAll, ids_of, opens_of, opened_names, openings}
+use Rattle.table_told.proofs.Entries.{before, from_pick, from_on, on_there}
 use Rattle.table_told.proofs.Flats.{flat_there}
 use Rattle.call_places.specs.Counted.{HaveNotesOf}
 use Rattle.call_places.specs.Deeds.{acted_entries, entries_of, own_entries}
@@ -49,7 +51,7 @@ use Rattle.call_places.proofs.Lists.{each_ended_lists}
 use Rattle.call_places.proofs.Own.{IsMade, own_list}
 use Rattle.call_places.proofs.Labels.{at_place}
 use Rattle.call_places.proofs.Numbers.{numbered, numbered_once}
-use Rattle.call_places.proofs.Ids.{IdLaws}
+use Rattle.call_places.proofs.Ids.{IdLaws, laws_of}
 use Rattle.call_places.proofs.Clients.{Client, total_map, view_of, tasks_of, deeds_of, own_of, once, inside}
 use Rattle.call_places.proofs.Log as log
 
@@ -122,10 +124,10 @@ module _ {O : Type 0} {g : Ghosts O} {state : O → OutState} {p : Plan} {slots 
     (run : RanOn g state p slots setup clients opens told ended places vrefs outs ids) where
   -- the setup's client and all others
   abbrev pub all : List (Client g state p (ids_of p slots))
-  all = record { thread = run.ran.main; first = 0; is = run.ran.main_is } ∷ clients_from state p (ids_of p slots) _ (opens_of setup) run.ran.others run.ran.others_are
+  all = record { thread = run.ran.main; first = 0; is = run.ran.main_is } ∷ clients_from state p (ids_of p slots) (opened_names run.ran.main.ended.outcomes.items (openings setup)) (opens_of setup) run.ran.others run.ran.others_are
 
   pub all_are : {B : Type 0} (f : Thread g → B) → map (λ (c : Client g state p (ids_of p slots)). f c.thread) all ≡ map f (run.ran.main ∷ run.ran.others)
-  all_are f = ap (λ l. f run.ran.main ∷ l) (threads_are state p (ids_of p slots) f _ (opens_of setup) run.ran.others run.ran.others_are)
+  all_are f = ap (λ l. f run.ran.main ∷ l) (threads_are state p (ids_of p slots) f (opened_names run.ran.main.ended.outcomes.items (openings setup)) (opens_of setup) run.ran.others run.ran.others_are)
 
   pub views_are : map view_of all ≡ ids
   views_are = all_are (λ (x : Thread g). x.ended.calls.seat.me.0) ∙ run.ran.ids_are
@@ -139,7 +141,7 @@ module _ {O : Type 0} {g : Ghosts O} {state : O → OutState} {p : Plan} {slots 
       let f : Seat (SockHome O g) sock_view.View → List (List Entry) = λ s. s.me.0.lists in
       let rest : List (List Entry) = flat_map f (map (λ (x : Thread g). x.ended.seat) run.ran.others) in
       let mains : f run.ran.last ≡ own_entries run.ran.main run.ran.main_is ∷ [] = each_ended_lists p opens run.ran.main.ended.seat.me.0 run.ran.last.me.0 run.ran.failed ∙ own_list run.ran.main run.ran.main_is in
-      run.closed.lists ∙ (ap (flat_map f) (sym run.ran.seats_are) ∙ (ap (λ l. l ++ rest) mains ∙ ap (λ l. own_entries run.ran.main run.ran.main_is ∷ l) (others_lists state p (ids_of p slots) _ (opens_of setup) run.ran.others run.ran.others_are)))
+      run.closed.lists ∙ (ap (flat_map f) (sym run.ran.seats_are) ∙ (ap (λ l. l ++ rest) mains ∙ ap (λ l. own_entries run.ran.main run.ran.main_is ∷ l) (others_lists state p (ids_of p slots) (opened_names run.ran.main.ended.outcomes.items (openings setup)) (opens_of setup) run.ran.others run.ran.others_are)))
 
   module _ (tasks : AreTasks p (setup ∷ clients)) (may : MayRunAll p (ids_of p slots) setup clients) (notes : List (Noted Asked)) (laws : IdLaws slots notes) (have : HaveNotesOf ids notes) where
     may_make : (j : ℕ) (c : Client g state p (ids_of p slots)) → get_elem? all j ≡ some c → (n : ℕ) × MayMakeAll p (ids_of p slots) (tasks_of c) n
@@ -170,7 +172,8 @@ module _ {O : Type 0} {g : Ghosts O} {state : O → OutState} {p : Plan} {slots 
     low_place k e at =
         let w = log.authored p run.closed.view.found run.closed.view.lists run.closed.ordered k e at in
         let c = map_from own_of all w.seat _ (ap (λ l. get_elem? l w.seat) (sym lists_are) ∙ w.list) in
-        let here = term (at_place e.heading.place) (own_of c.0) _ e (ap (λ l. get_elem? l _) c.2 ∙ w.place) in
+        let m : ℕ = before w.author run.closed.ordered.by k in
+        let here = term (at_place e.heading.place) (own_of c.0) m e (ap (λ l. get_elem? l m) c.2 ∙ w.place) in
         let one = only-at e.heading.place e.heading.place refl in
         inside all notes laws have_all may_make numbers e.heading.place w.seat c.0 c.1 (omega arith)
 
@@ -222,9 +225,6 @@ module _ {O : Type 0} {g : Ghosts O} {state : O → OutState} {p : Plan} {slots 
       message_at : (label : Label) (k i : ℕ) → StandsAt places label k i → IsMessage (8 * label.operation + label.attempt) k i
       message_at label k i h = by_word (none_or_message (8 * label.operation + label.attempt))
         where
-          n : ℕ
-          n = 8 * label.operation + label.attempt
-
           by_word : (word_at places (8 * label.operation + label.attempt) ≡ no_place) ⊎ ((k i : ℕ) × IsMessage (8 * label.operation + label.attempt) k i) → IsMessage (8 * label.operation + label.attempt) k i
           by_word (inl e) = absurd (let z : HasPosition no_place = subst (λ (x : ℕ). HasPosition x) e h.told.accepted in omega (arith, z))
           by_word (inr w) =
@@ -244,13 +244,16 @@ module _ {O : Type 0} {g : Ghosts O} {state : O → OutState} {p : Plan} {slots 
       pub are_places : ArePlaces places
       are_places = record {
         tell = λ n. by_word n (none_or_message n);
-        once = λ a b k i h u.
-            let x = message_at a k i h in let y = message_at b k i u in
-            label_is a b h.attempt u.attempt (sym x.place ∙ (ap (λ (e : Entry). e.heading.place) (some-injective x.entry y.entry (sym x.at ∙ y.at)) ∙ y.place));
-        no_gap = λ a k i lower h less.
+        once = λ a b k i h u. (
+            let x = message_at a k i h in
+            let y = message_at b k i u in
+            label_is a b h.attempt u.attempt (sym x.place ∙ (ap (λ (e : Entry). e.heading.place) (some-injective x.entry y.entry (sym x.at ∙ y.at)) ∙ y.place))
+            );
+        no_gap = λ a k i lower h less. (
             let x = message_at a k i h in
             let e = there (on k accepted) lower (let z = at_low (on k accepted) i x.entry x.at in omega (arith, z, less)) in
-            below k lower e.0 x.inside e.1;
+            below k lower e.0 x.inside e.1
+            );
       }
         where
           by_word : (n : ℕ) → (word_at places n ≡ no_place) ⊎ ((k i : ℕ) × IsMessage n k i) → (word_at places n ≡ no_place) ⊎ HasPosition (word_at places n)
@@ -259,8 +262,8 @@ module _ {O : Type 0} {g : Ghosts O} {state : O → OutState} {p : Plan} {slots 
 
           below : (k lower : ℕ) (e : Entry) → k < p.links → get_elem? (on k accepted) lower ≡ some e → (b : Label) × StandsAt places b k lower
           below k lower e low_link at =
-              let n : ℕ = 8 * (e.heading.place / 8) + e.heading.place % 8 in
-              let t = tells n k lower (record { inside = low_link; entry = e; at = at; place = omega arith }) in
+              let same : e.heading.place ≡ 8 * (e.heading.place / 8) + e.heading.place % 8 = omega arith in
+              let t = tells (8 * (e.heading.place / 8) + e.heading.place % 8) k lower (record { inside = low_link; entry = e; at = at; place = same }) in
               (record { operation = e.heading.place / 8; attempt = e.heading.place % 8 }, record { attempt = omega arith; told = record { accepted = t.1.has_position; link_is = t.1.link_is; position_is = t.1.position_is } })
 
       -- ## Sends
@@ -274,3 +277,9 @@ module _ {O : Type 0} {g : Ghosts O} {state : O → OutState} {p : Plan} {slots 
           let q = from_pick list.0 run.closed.ordered.by accepted own.0 e.0 (ap (λ l. get_elem? l own.0) list.2 ∙ own.1) in
           let i = on_there e.0.link accepted q.0 e.0 q.2 refl in
           (tells (8 * t.number) e.0.link i.0 (record { inside = e.3; entry = e.0; at = i.1; place = omega (arith, e.2) })).1.has_position
+
+-- of a run behind which the table of ids was closed, over notes that have those of the clients' seats and no made id besides
+pub closed_places : {O : Type 0} {g : Ghosts O} {state : O → OutState} {p : Plan} {slots : ℕ} {setup : List Task} {clients : List (List Task)} {opens : List ℕ} {told ended : List (List Told)} {places : List PlaceWord} {vrefs : List Vref} {outs : List O} {ids : List (View Asked)}
+    → RanOn g state p slots setup clients opens told ended places vrefs outs ids → AreTasks p (setup ∷ clients) → MayRunAll p (ids_of p slots) setup clients → p.links ≤ 65536 → p.operations ≤ 65536
+    → (notes : List (Noted Asked)) (kept : List Kept) (words : List ℕ) → Closing (ids_of p slots) notes kept words → HaveNotesOf ids notes → ArePlaces places
+closed_places {p = p} {slots = slots} run tasks may few low notes kept words closing have = are_places run tasks may notes (laws_of (ids_of p slots) notes kept words closing) have few low

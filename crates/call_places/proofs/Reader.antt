@@ -1,5 +1,5 @@
 -- Whoever reads links, and ends the calls that are left, makes no id, and what its seat noted stays noted.
-use Rattle.std.proofs.Common.{◌≡◌, ℕ, zero, suc, ◌+◌, ◌≤◌, ◌⊎◌, inl, inr, Bool, true, false, List, [], ◌∷◌, Some, None, refl, ap, ◌∙◌, arith}
+use Rattle.std.proofs.Common.{◌≡◌, ℕ, ◌+◌, ◌≤◌, ◌⊎◌, inl, inr, Bool, true, false, List, [], ◌∷◌, Some, None, refl, ap, ◌∙◌, arith}
 use Rattle.std.specs.Prelude.{Option, position, ◌==◌}
 use Rattle.sock_words.specs.Words.{at_word_link}
 use Rattle.sock_words.specs.declared.at_word.AtWord.{AtWord}
@@ -15,18 +15,18 @@ use Rattle.corr_core.specs.declared.marks.Plan.{Plan}
 use Rattle.corr_core.specs.declared.marks.Token.{Token}
 use Rattle.corr_core.specs.declared.marks.Noted.{Noted}
 use Rattle.corr_core.specs.declared.marks.View.{View}
-use Rattle.id_rule.specs.Lawful.{notes_of, at_word, call_word, with_kept}
+use Rattle.id_rule.specs.Lawful.{notes_of, at_word, with_kept}
 use Rattle.sock_message.specs.Asked.{Asked}
 use Rattle.corr_id.specs.declared.posts.Posted.{Posted}
 use Rattle.corr_id.specs.declared.posts.Posted.TheVariants.{Locked as HasLock, Queued as IsQueued, Gone, Stale, Crowded}
-use Rattle.corr_id.specs.Calls.{slot_of, version_of, error_in, one, Quiet, Became, Did, GotLock}
+use Rattle.corr_id.specs.Calls.{slot_of, version_of, error_in, one, Quiet, Did, GotLock}
 use Rattle.corr_id.specs.Posts.{PostOk}
 use Rattle.corr_id.proofs.Doing.{became_grows}
 use Rattle.prpc_frame.specs.Meaning.{frame_of}
 use Rattle.prpc_frame.specs.declared.frame.Frame.{Frame}
 use Rattle.call_table.specs.Responses.{ending_of}
 use Rattle.rpc_reader.specs.Books.{Books, EndedAs, id_of}
-use Rattle.rpc_reader.specs.Met.{slot_in, is_asked, is_for, AnsweredBy, MetIf, FramesMet}
+use Rattle.rpc_reader.specs.Met.{slot_in, is_asked, is_for, MetIf, FramesMet}
 use Rattle.rpc_reader.specs.Posting.{LostBy, LockLost, PostedTo, PostedIf, PostedAt, PostedAll, call_at, attempt_at}
 use Rattle.rpc_reader.specs.Reading.{code_of}
 use Rattle.rpc_reader.specs.Linked.{ReadServed, ReadLinks}

@@ -1,5 +1,5 @@
 -- What a seat does to its notes and to the retries that wait, where it makes no id and takes out no retry: for each retry that is kept more, the attempt was noted as an advance.
-use Rattle.std.proofs.Common.{◌≡◌, ◌≢◌, ℕ, zero, suc, ◌+◌, ◌*◌, ◌<◌, ◌≤◌, inl, inr, Bool, true, false, cond, eqb, eq-eqb, ne_eqb, List, [], ◌∷◌, ◌++◌, Some, None, refl, sym, ap, ◌∙◌, subst, arith}
+use Rattle.std.proofs.Common.{◌≡◌, ℕ, ◌+◌, ◌*◌, ◌<◌, ◌≤◌, inl, inr, Bool, true, false, cond, eqb, eq-eqb, ne_eqb, List, [], ◌∷◌, Some, None, refl, sym, ap, ◌∙◌, arith}
 use Rattle.std.specs.Prelude.{Option as Maybe}
 use mathlib.Core.Logic.{dite}
 use native.Mathlib.Decide.{ℕ_discrete}
@@ -21,7 +21,7 @@ use Rattle.corr_core.specs.declared.marks.Noted.{Noted}
 use Rattle.corr_core.specs.declared.marks.Plan as id_plan
 use Rattle.corr_core.specs.declared.marks.Token.{Token}
 use Rattle.corr_core.specs.declared.marks.View.{View}
-use Rattle.corr_core.proofs.Notes.{only-at, only-else, pair-at, pair-else, pair-else_first}
+use Rattle.corr_core.proofs.Notes.{only-else, pair-at, pair-else, pair-else_first}
 use Rattle.id_rule.specs.Lawful.{notes_of, call_word, with_kept}
 use Rattle.sock_message.specs.Asked.{Asked}
 use Rattle.corr_id.specs.declared.calls.IdLock.{IdLock}
@@ -29,14 +29,14 @@ use Rattle.corr_id.specs.declared.posts.Posted.{Posted}
 use Rattle.corr_id.specs.declared.posts.Posted.TheVariants.{Locked as HasLock, Queued as IsQueued, Gone, Stale, Crowded}
 use Rattle.corr_id.specs.declared.unlocks.Unlocked.{Unlocked}
 use Rattle.corr_id.specs.declared.unlocks.Unlocked.TheVariants.{Open, Next}
-use Rattle.corr_id.specs.Calls.{Became, Did, Quiet, GotLock, one, is_event, advance_note, slot_of, version_of, error_in}
+use Rattle.corr_id.specs.Calls.{Did, Quiet, GotLock, one, is_event, advance_note, slot_of, version_of, error_in}
 use Rattle.corr_id.specs.Posts.{PostOk}
 use Rattle.corr_id.specs.Unlocks.{UnlockOk}
 use Rattle.corr_id.proofs.Seats.{total_append}
 use Rattle.corr_id.proofs.Doing.{became_grows}
 use Rattle.call_errors.specs.declared.retries.Retry.{Retry}
 use Rattle.call_errors.specs.Books.{Books, CallStand, starving, keeping, Tells, told, lost}
-use Rattle.call_errors.specs.Locking.{id_in, GotBy}
+use Rattle.call_errors.specs.Locking.{GotBy}
 use Rattle.call_errors.specs.Ending.{EndedWith, failed}
 use Rattle.call_errors.specs.Handling.{Advanced, IsNext, Decided, ends, starves, waits, goes_on}
 use Rattle.call_errors.specs.Posting.{Handled, PostedBy}

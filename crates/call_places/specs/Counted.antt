@@ -1,5 +1,5 @@
 -- What the closed table of ids has of the seats of the clients.
-use Rattle.std.specs.Prelude.{◌≡◌, ℕ, ◌≤◌, List}
+use Rattle.std.specs.Prelude.{ℕ, ◌≤◌, List}
 use Rattle.corr_core.specs.Law.{total, only}
 use Rattle.corr_core.specs.declared.marks.Note.{Note}
 use Rattle.corr_core.specs.declared.marks.Note.TheVariants.{Made}
