@@ -68,7 +68,7 @@ each_one o (ts ∷ tss) order differ = dite (ℕ_discrete (total (is_task o) ts)
 
 -- ## Clients
 
-module _ {O : Type 0} {g : Ghosts O} (state : O → OutState) (p : Plan) (q : id_plan.Plan) where
+module _ {O : Type 0} (g : Ghosts O) (state : O → OutState) (p : Plan) (q : id_plan.Plan) where
   abbrev ids_of_thread : Thread g → id_view.View Asked
   ids_of_thread x = x.ended.calls.seat.me.0
 

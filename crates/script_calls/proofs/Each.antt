@@ -62,23 +62,21 @@ listed script o operation at is =
     let number : 0 + o ≡ o = omega arith in
     has_filter_map (λ (n : Numbered). cond (is_call n.op.item) (Some n.number) None) (numbered script) x o (o, numbered_at 0 0 (operations script) o operation at) (ap (λ b. cond b (Some (0 + o)) None) is ∙ ap Some number)
 
+-- the sizes of its table of ids
+abbrev sizes : List Item → id_plan.Plan
+sizes script = ids_of (plan_of script) (length (calls script))
+
 module _ {O I P : Type 0} (g : Ghosts O) (out : O → OutState) (inn : I → InState) (bytes : List ℕ) (script : List Item) (reads : script_of bytes ≡ Ok script) where
-  abbrev p : Plan
-  p = plan_of script
-
-  abbrev q : id_plan.Plan
-  q = ids_of p (length (calls script))
-
   module _ (setup : List Task) (clients : List (List Task)) (tasks : setup ∷ clients ≡ all_tasks script) (opens : List ℕ) (told ended : List (List Told)) (places : List PlaceWord) (vrefs : List Vref) (outs : List O) (seats : List IdSeat)
-      (ran : RanOn g out p (length (calls script)) setup clients opens told ended places vrefs outs (map view_of seats)) (ends ends' : List (Ends O I P)) (last : List Told) (read : HasRead out inn q (calls script) seats ends ends' last)
+      (ran : RanOn g out (plan_of script) (length (calls script)) setup clients opens told ended places vrefs outs (map view_of seats)) (ends ends' : List (Ends O I P)) (last : List Told) (read : HasRead out inn (sizes script) (calls script) seats ends ends' last)
       -- a `send` of which nothing is told has a place
       (sent : (c k : ℕ) (ts : List Task) (t : Task) (n : ℕ) (bytes : List ℕ) → get_elem? (setup ∷ clients) c ≡ some ts → get_elem? ts k ≡ some t → t.op ≡ ops.Send n bytes
       → ((own : List Told) × (i : ℕ) × (x : Told) × (get_elem? told c ≡ some own) × (get_elem? own i ≡ some x) × (x.number ≡ t.number)) ⊎ HasPosition (word_at places (8 * t.number))) where
     abbrev ids : List (View Asked)
     ids = map view_of seats
 
-    are : AreTasks p (setup ∷ clients)
-    are = subst (AreTasks p) (sym tasks) (tasks_of_script bytes script reads)
+    are : AreTasks (plan_of script) (setup ∷ clients)
+    are = subst (AreTasks (plan_of script)) (sym tasks) (tasks_of_script bytes script reads)
 
     owns : AllByRecursion (AllByRecursion IsOwnTask) (setup ∷ clients)
     owns = subst (AllByRecursion (AllByRecursion IsOwnTask)) (sym tasks) (all_own script)
@@ -87,13 +85,13 @@ module _ {O I P : Type 0} (g : Ghosts O) (out : O → OutState) (inn : I → InS
     fits = all_map (AllByRecursion IsOwnTask) (AllByRecursion Fits) (λ ts h. all_map IsOwnTask Fits (λ t own. task_fits t own) ts h) (setup ∷ clients) owns
 
     -- one id at most is stored for an operation
-    one_stored : (o : ℕ) → total (λ (v : View Asked). total (own_at (call_word q o)) v.kept) ids ≤ 1
-    one_stored o = let a = few out p q setup clients opens told ended ran.seats ids ran.ran fits o in let b = each_one o (setup ∷ clients) are.in_order are.differ in omega arith
+    one_stored : (o : ℕ) → total (λ (v : View Asked). total (own_at (call_word (sizes script) o)) v.kept) ids ≤ 1
+    one_stored o = let a = few g out (plan_of script) (sizes script) setup clients opens told ended ran.seats ids ran.ran fits o in let b = each_one o (setup ∷ clients) are.in_order are.differ in omega arith
 
-    all_ended : AllEnded out inn q (calls script) EEOF ended ids ends ends' (begins read.main) read.between read.last read.words
+    all_ended : AllEnded out inn (sizes script) (calls script) EEOF ended ids ends ends' (begins read.main) read.between read.last read.words
     all_ended = record {
-      balanced = balanced out p q setup clients opens told ended ran.seats ids ran.ran;
-      tell = tell out p q setup clients opens told ended ran.seats ids ran.ran fits;
+      balanced = balanced out (plan_of script) (sizes script) setup clients opens told ended ran.seats ids ran.ran;
+      tell = tell g out (plan_of script) (sizes script) setup clients opens told ended ran.seats ids ran.ran fits;
       notes = read.took.notes ∙ flat_mapped view_of (λ (v : View Asked). v.notes) seats;
       kept = read.took.kept ∙ flat_mapped view_of (λ (v : View Asked). v.kept) seats;
       none_told = refl;
@@ -104,15 +102,15 @@ module _ {O I P : Type 0} (g : Ghosts O) (out : O → OutState) (inn : I → InS
     }
 
     -- the end of each call that began is told
-    call_told : (k : ℕ) (v : View Asked) (operation id j : ℕ) → get_elem? ids k ≡ some v → HasBegun q operation id v → slice_get (calls script) j ≡ Some operation → IsEndTold operation id (ended ++ last ∷ [])
-    call_told k v operation id j at begun is_listed =
+    least_told : (k : ℕ) (v : View Asked) (operation id j : ℕ) → get_elem? ids k ≡ some v → HasBegun (sizes script) operation id v → slice_get (calls script) j ≡ Some operation → IsEndTold operation id (ended ++ last ∷ [])
+    least_told k v operation id j at begun is_listed =
         subst (λ (l : List Told). IsEndTold operation id (ended ++ l ∷ [])) (sym read.told_is)
-        (told_least out inn q (calls script) EEOF ended ids ends ends' (begins read.main) read.between read.last read.words all_ended k v operation id at begun (one_stored operation) j is_listed).1
+        (told_least out inn (sizes script) (calls script) EEOF ended ids ends ends' (begins read.main) read.between read.last read.words all_ended k v operation id at begun (one_stored operation) j is_listed).1
 
     abbrev outcomes : List (Option Outcome)
-    outcomes = outcomes_of p.operations told ended last
+    outcomes = outcomes_of (plan_of script).operations told ended last
 
-    module _ (o : ℕ) (less : o < p.operations) where
+    module _ (o : ℕ) (less : o < (plan_of script).operations) where
       -- it is told, or has a place
       abbrev HasIt : Type 0
       HasIt = IsSaid outcomes o ⊎ HasPosition (word_at places (8 * o))
@@ -122,35 +120,35 @@ module _ {O I P : Type 0} (g : Ghosts O) (out : O → OutState) (inn : I → InS
         abbrev t : Task
         t = record { number = o; op = op }
 
-        who : IsOneOf out p q ids told c ts
-        who = one_of out p q setup clients opens told ended ran.seats ids ran.ran fits c ts of_client
+        who : IsOneOf g out (plan_of script) (sizes script) ids told c ts
+        who = one_of g out (plan_of script) (sizes script) setup clients opens told ended ran.seats ids ran.ran fits c ts of_client
 
         -- a call that began
-        ended_call : (asked : Asked) (id : ℕ) → op ≡ ops.Call asked → HasBegun q asked.operation id who.thread.ended.calls.seat.me.0 → HasIt
+        ended_call : (asked : Asked) (id : ℕ) → op ≡ ops.Call asked → HasBegun (sizes script) asked.operation id who.thread.ended.calls.seat.me.0 → HasIt
         ended_call asked id is begun =
             let x = call_asks (numbered script) (names script) (numbers_at script o operation) operation.item asked (asks ∙ ap Some is) in
             let own : asked.operation ≡ o = task_fits t (all_there IsOwnTask ts t (all_there (AllByRecursion IsOwnTask) (setup ∷ clients) ts owns (c, to_slice (setup ∷ clients) c ts of_client)) (j, to_slice ts j t in_it)) asked is in
             let l = listed script o operation at (ap is_call x.1) in
-            let e = call_told c who.thread.ended.calls.seat.me.0 asked.operation id l.0 who.id_at begun (l.1 ∙ ap Some (sym own)) in
-            inl (end_said p.operations told ended last o less record { teller = e.teller; place = e.place; told = e.told; one = e.one; by = e.by; at = e.at; number = e.number ∙ own })
+            let e = least_told c who.thread.ended.calls.seat.me.0 asked.operation id l.0 who.id_at begun (l.1 ∙ ap Some (sym own)) in
+            inl (end_said (plan_of script).operations told ended last o less record { teller = e.teller; place = e.place; told = e.told; one = e.one; by = e.by; at = e.at; number = e.number ∙ own })
 
-        came : HasCome q t who.thread.ended.outcomes.items who.thread.ended.calls.seat.me.0 → HasIt
-        came (tells i x there is) = inl (own_said p.operations told ended last o less record { teller = c; place = i; told = who.thread.ended.outcomes.items; one = x; by = who.told_at; at = there; number = is })
+        came : HasCome (sizes script) t who.thread.ended.outcomes.items who.thread.ended.calls.seat.me.0 → HasIt
+        came (tells i x there is) = inl (own_said (plan_of script).operations told ended last o less record { teller = c; place = i; told = who.thread.ended.outcomes.items; one = x; by = who.told_at; at = there; number = is })
         came (began asked id is begun) = ended_call asked id is begun
         came (sends n message is) = by (sent c j ts t n message of_client in_it is)
           where
             by : ((own : List Told) × (i : ℕ) × (x : Told) × (get_elem? told c ≡ some own) × (get_elem? own i ≡ some x) × (x.number ≡ o)) ⊎ HasPosition (word_at places (8 * o)) → HasIt
-            by (inl w) = inl (own_said p.operations told ended last o less record { teller = c; place = w.1; told = w.0; one = w.2; by = w.3; at = w.4; number = w.5 })
+            by (inl w) = inl (own_said (plan_of script).operations told ended last o less record { teller = c; place = w.1; told = w.0; one = w.2; by = w.3; at = w.4; number = w.5 })
             by (inr h) = inr h
 
         has_it : HasIt
-        has_it = came (one_come out p q ids told c ts who j t in_it)
+        has_it = came (one_come g out (plan_of script) (sizes script) ids told c ts who j t in_it)
 
     pub each_outcome : HasEachOutcome places outcomes
     each_outcome o none_ = by has
       where
-        less : o < p.operations
-        less = let a = slice_get_within outcomes o None none_ in let b = long_each (replicate p.operations None) ((told ++ ended) ++ last ∷ []) in let d = none_long p.operations in omega arith
+        less : o < (plan_of script).operations
+        less = let a = slice_get_within outcomes o None none_ in let b = long_each (replicate (plan_of script).operations None) ((told ++ ended) ++ last ∷ []) in let d = none_long (plan_of script).operations in omega arith
 
         has : IsSaid outcomes o ⊎ HasPosition (word_at places (8 * o))
         has =

@@ -10,3 +10,4 @@ pub mod Joinless
 pub mod Said
 pub mod Began
 pub mod Each
+pub mod Placed

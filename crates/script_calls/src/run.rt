@@ -41,13 +41,13 @@ struct Left {
     seats: Vec<IdSeat<Call>>,
 }
 
-/// The report of a run over these links, once they are read and no call is left.
+/// The report of a run over these links, once they are read and no call is left: those of these numbers.
 fn finish<L: Linker, R: Wait>(
     rt: &R,
     alloc: Global,
     script: &Script,
     operations: u16,
-    calls: &[u16],
+    numbers: &[u16],
     left: Left,
     links: &mut L,
     ends: &mut [Ends<L::O, L::I, L::P>],
@@ -55,12 +55,12 @@ fn finish<L: Linker, R: Wait>(
     requires seats { AreLeft left.ids.table.shared.table_id left.seats.items }
     requires all { total (λ s. s.me.0.share) left.seats.items ≡ left.ids.plan.seats }
     requires some { (1 ≤ left.ids.plan.seats) × (1 ≤ left.ids.plan.operations) }
-    requires calls { All (λ o. o < left.ids.plan.operations) calls.now }
+    requires calls { All (λ o. o < left.ids.plan.operations) numbers.now }
     requires few { length ends.old < 65536 }
     requires script { (bytes : List ℕ) × (script_of bytes ≡ Ok script.now) }
-    requires plan { (operations ≡ (plan_of script.now).operations) × (left.ids.plan ≡ ids_of (plan_of script.now) (length (calls script.now))) × (calls.now ≡ calls script.now) }
+    requires plan { (operations ≡ (plan_of script.now).operations) × (left.ids.plan ≡ ids_of (plan_of script.now) (length (calls script.now))) × (numbers.now ≡ calls script.now) }
     requires ran { IsLeft L.O.Out L.O.state script.now (map (λ own. own.items) left.told.items) (map (λ own. own.items) left.ended.items) left.places.items left.seats.items }
-    ensures text { IfOk result (λ text. (last : List Told) × HasRead L.O.state L.I.state left.ids.plan calls.now left.seats.items ends.old ends.new last
+    ensures text { IfOk result (λ text. (last : List Told) × HasRead L.O.state L.I.state left.ids.plan numbers.now left.seats.items ends.old ends.new last
         × IsReported script.now text.items (outcomes_of operations (map (λ own. own.items) left.told.items) (map (λ own. own.items) left.ended.items) last) left.places.items (map (λ e. end_of (L.O.state e.out) (L.I.state e.inn)) ends.new)) }
     ensures ends { length ends.new ≡ length ends.old }
     ensures outs { map (λ e. L.O.state e.out) ends.new ≡ map (λ e. L.O.state e.out) ends.old }
@@ -76,7 +76,7 @@ fn finish<L: Linker, R: Wait>(
         ids,
         seats,
     } = left;
-    let last = read_rest(rt, alloc, ids, seats, calls, links, ends)?;
+    let last = read_rest(rt, alloc, ids, seats, numbers, links, ends)?;
     let said = outcomes_of(alloc, operations, told, ended, last)?;
     report(alloc, script, &said, &places, ends)
 }
