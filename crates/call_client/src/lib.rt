@@ -7,6 +7,3 @@ mod caller;
 mod running;
 
 pub use caller::{Caller, Spent};
-
-#[cfg(test)]
-mod tests;

@@ -35,9 +35,10 @@ use Rattle.call_deeds.proofs.Messages.{send_message, attempt_message}
 abbrev pub hand_of : {O : Type 0} {g : Ghosts O} → Stand g → Hand
 hand_of s = record { view = s.me.0; held = s.held }
 
--- what is told of the operation is what became of it; of a send in any case
+-- what is told of the operation is what became of it; of a send in any case; and a call of which nothing is told at once isn't unopened
 abbrev pub IsSaid : List (List Task) → List (Option Outcome) → ℕ → Op → Option Outcome → Type 0
 IsSaid clients outcomes number (ops.Send n bytes) by = slice_get outcomes number ≡ Some by
+IsSaid clients outcomes number (ops.Call asked) by = ((o : Outcome) → by ≡ Some o → Became clients outcomes number o) × (by ≡ None → Became clients outcomes number outcome.Unopened → ⊥)
 IsSaid clients outcomes number other by = (o : Outcome) → by ≡ Some o → Became clients outcomes number o
 
 -- the pass that an `open` spends is that of its link, and a call has the number of its operation
@@ -73,13 +74,13 @@ module _ {O : Type 0} (g : Ghosts O) (state : O → OutState) (p : Plan) (q : id
   call_unopened : (number : ℕ) (asked : Asked) (s t : Stand g) → asked.operation ≡ number → IsOperation clients outcomes c number (ops.Call asked) → Became clients outcomes number outcome.Unopened
       → MessageBy state p (name_of asked 0) (letter_for asked 0 0 zero-le) (Some outcome.Unopened) s.me.0 t.me.0 → t.held ≡ s.held → StepsHere (number ∷ []) (hand_of s) (hand_of t)
   call_unopened number asked s t mine is said sent held = one (sends (name_of asked 0) number 0 (letter_for asked 0 0 zero-le) (Some outcome.Unopened)) (number ∷ []) (hand_of s) (hand_of t) (sent, held)
-      (of_call c asked is (λ e. refl) zero-le refl refl (λ e f. said), label_of asked number 0 mine) refl
+      (of_call c asked is (λ e. refl) zero-le refl refl (λ e. (λ f. said, λ f. refl)), label_of asked number 0 mine) refl
 
-  call_begun : (number : ℕ) (asked : Asked) (id : ℕ) (s t : Stand g) → asked.operation ≡ number → IsOperation clients outcomes c number (ops.Call asked) → BegunAs state p q asked id (both_of s) (both_of t) → t.held ≡ s.held → StepsHere (number ∷ []) (hand_of s) (hand_of t)
-  call_begun number asked id s t mine is b held =
+  call_begun : (number : ℕ) (asked : Asked) (id : ℕ) (s t : Stand g) → asked.operation ≡ number → IsOperation clients outcomes c number (ops.Call asked) → (Became clients outcomes number outcome.Unopened → ⊥) → BegunAs state p q asked id (both_of s) (both_of t) → t.held ≡ s.held → StepsHere (number ∷ []) (hand_of s) (hand_of t)
+  call_begun number asked id s t mine is opened b held =
       let m = attempt_message state p q b.socket (letter_for asked id 0 zero-le) (name_of asked 0) s.me.0 b.at (both_of t) b.made_for.found b.attempted in
       one (sends (name_of asked 0) number 0 (letter_for asked id 0 zero-le) m.0) (number ∷ []) (hand_of s) (hand_of t) (m.2, held)
-      (of_call c asked is (λ e. refl) zero-le refl refl (λ e f. absurd (m.1 f)), label_of asked number 0 mine) refl
+      (of_call c asked is (λ e. refl) zero-le refl refl (λ e. (λ f. absurd (m.1 f), λ f. absurd (opened f))), label_of asked number 0 mine) refl
 
   pub acted_steps : (number : ℕ) (op : Op) (by : Option Outcome) (s t : Stand g) → IsOperation clients outcomes c number op → IsSaid clients outcomes number op by → IsRight number op s t → Acted state p q number op by s t → StepsHere (number_at number op) (hand_of s) (hand_of t)
   acted_steps number (ops.Open n k) (Some by) s t is said right a =
@@ -87,8 +88,8 @@ module _ {O : Type 0} (g : Ghosts O) (state : O → OutState) (p : Plan) (q : id
       one (opens n number k by) (number ∷ []) (hand_of s) (hand_of t) ((s.me.1, t.me.1, subst (λ l. OpenedBy p n number l by s.me t.me) same a.0.opened), a.1, a.0.lists) (is, said by refl) refl
   acted_steps number (ops.Send n bytes) by s t is said right a =
       one (sends n number 0 (letter_of number bytes) by) (number ∷ []) (hand_of s) (hand_of t) (send_message state p q.slots (letter_of number bytes) n by s.me.0 s.calls t.me.0 t.calls a.0, a.1.held) (of_send bytes is refl refl said, refl) refl
-  acted_steps number (ops.Call asked) (Some outcome.Unopened) s t is said right a = call_unopened number asked s t right is (said outcome.Unopened refl) a.0.0 a.1.held
-  acted_steps number (ops.Call asked) None s t is said right a = call_begun number asked a.0 s t right is a.1 a.2.held
+  acted_steps number (ops.Call asked) (Some outcome.Unopened) s t is said right a = call_unopened number asked s t right is (said.0 outcome.Unopened refl) a.0.0 a.1.held
+  acted_steps number (ops.Call asked) None s t is said right a = call_begun number asked a.0 s t right is (said.1 refl) a.1 a.2.held
   acted_steps number (ops.Expire o) (Some by) s t is said right a = no_step (hand_of s) (hand_of t) (λ i. record { view = (a.1 i).0; held = a.2.held i })
   acted_steps number (ops.Join o) (Some by) s t is said right a = no_step (hand_of s) (hand_of t) (λ i. record { view = (a.1 i).0; held = a.2.held i })
   acted_steps number (ops.Hold n) (Some by) s t is said right a = one (holds n number by) (number ∷ []) (hand_of s) (hand_of t) a.0 (is, said by refl) refl
@@ -103,7 +104,7 @@ module _ {O : Type 0} (g : Ghosts O) (state : O → OutState) (p : Plan) (q : id
   again_step held asked id n low by v w is sent =
       let later = is.later in
       one (sends (name_of asked n) asked.operation n (letter_for asked id n low) by) [] record { view = v; held = held } record { view = w; held = held } (sent, refl)
-      (of_call is.client asked is.is (λ e. absurd (omega arith)) low refl refl (λ e f. absurd (omega arith)), refl) (own_later (name_of asked n) asked.operation n (letter_for asked id n low) by later)
+      (of_call is.client asked is.is (λ e. absurd (omega arith)) low refl refl (λ e. absurd (omega arith)), refl) (own_later (name_of asked n) asked.operation n (letter_for asked id n low) by later)
 
   same_socks : (held : List Held) (s t : Both) → t.socks ≡ s.socks → StepsHere [] (socks_in held s) (socks_in held t)
   same_socks held s t e = no_step (socks_in held s) (socks_in held t) (ap (λ (v : View). record { view = v; held = held }) e)

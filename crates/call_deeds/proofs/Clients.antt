@@ -1,16 +1,13 @@
 -- A whole client with calls as a seat of the sockets with its deeds.
-use Rattle.std.proofs.Common.{◌≡◌, ℕ, ◌+◌, Option, List, [], ◌++◌, length, take, drop, flat_map, append-nil, sym, ap, ◌∙◌, subst, arith}
+use Rattle.std.proofs.Common.{◌≡◌, ℕ, Option, List, [], ◌++◌, length, take, drop, flat_map, append-nil, refl, sym, ap, ◌∙◌, subst, arith}
 use Rattle.std.proofs.lemmas.List.{take_all, drop_all}
 use mathlib.Core.Option.{some}
 use lib.ListN.{get_elem?}
-use Rattle.atomic_table.specs.declared.shared.Seat.{Seat}
 use Rattle.sock_io.specs.declared.link.Out.{Ghosts}
 use Rattle.sock_io.specs.Link.{OutState}
 use Rattle.sock_words.specs.declared.outcome.Outcome.{Outcome}
 use Rattle.sock_words.specs.declared.plain.Plan.{Plan}
-use Rattle.sock_model.specs.declared.view.View.{View}
 use Rattle.sock_model.specs.Seats.{newcomer}
-use Rattle.sock_rule.specs.declared.homes.SockHome.{SockHome}
 use Rattle.sock_programs.specs.declared.task.Task.{Task}
 use Rattle.corr_core.specs.declared.marks.Plan as id_plan
 use Rattle.rpc_client.specs.declared.holding.Held.{Held}
@@ -67,10 +64,7 @@ module _ {O : Type 0} (g : Ghosts O) (state : O → OutState) (p : Plan) (q : id
       (then_steps (flat_map numbers_at (take th.ran.made x.tasks)) [] (hand_of (stand x.began)) (hand_of (stand th.ran.came)) left_hand ran
       (then_steps [] [] (hand_of (stand th.ran.came)) (hand_of th.ran.end) left_hand at_end gave)))
 
-  -- with what its seat does behind them
-  pub client_seated : HaveLinks first x.tasks → FitsTasks → SaysAll → AreLater clients outcomes (all_asked x th) → (t : Hand) → StepsFor g state p clients outcomes c [] left_hand t → (seat : Seat (SockHome O g) View) → seat.me.0 ≡ t.view
-      → (y : Seated g state p) × (y.seat ≡ seat) × Waited g state p (IsFor clients outcomes c) x.names (flat_map numbers_at x.tasks) y
-  client_seated links fits says later t more seat left =
-      let all = steps_as (flat_map numbers_at x.tasks ++ []) (flat_map numbers_at x.tasks) record { view = x.began.seat.me.0; held = [] } t (append-nil (flat_map numbers_at x.tasks))
-      (then_steps (flat_map numbers_at x.tasks) [] record { view = x.began.seat.me.0; held = [] } left_hand t (client_steps links fits says later) more) in
-      seated g state p (IsFor clients outcomes c) x.names (flat_map numbers_at x.tasks) th.spare x.began.seat.me.0 (λ n. tt) (waiting g state p x.names (newcomer p [] th.spare) x.began.seat.me.0 th.waited) t all seat left
+  -- as a seat
+  pub client_seated : HaveLinks first x.tasks → FitsTasks → SaysAll → AreLater clients outcomes (all_asked x th) → (y : Seated g state p) × (y.seat ≡ x.ended.seat) × Waited g state p (IsFor clients outcomes c) x.names (flat_map numbers_at x.tasks) y
+  client_seated links fits says later =
+      seated g state p (IsFor clients outcomes c) x.names (flat_map numbers_at x.tasks) th.spare x.began.seat.me.0 (λ n. tt) (waiting g state p x.names (newcomer p [] th.spare) x.began.seat.me.0 th.waited) left_hand (client_steps links fits says later) x.ended.seat refl

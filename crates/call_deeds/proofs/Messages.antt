@@ -1,53 +1,77 @@
 -- A message of a client with calls, as a deed of its seat of the sockets: of a send, and of an attempt of a call.
-use Rattle.std.proofs.Common.{◌≢◌, ℕ, inl, inr, Option, Some, None, refl}
+use Rattle.std.proofs.Common.{◌≢◌, ℕ, ◌<◌, inl, inr, Option, Some, None, refl, arith}
+use mathlib.Core.Logic.{dite}
+use native.Mathlib.Decide.{dec_lt}
 use Rattle.sock_io.specs.Link.{OutState}
 use Rattle.sock_words.specs.declared.outcome.Outcome.TheVariants as outcome
 use Rattle.sock_words.specs.declared.outcome.Outcome.{Outcome}
 use Rattle.sock_words.specs.declared.plain.Plan.{Plan}
 use Rattle.sock_words.specs.declared.socket_id.SocketId.{SocketId}
+use Rattle.sock_words.specs.declared.vref.Vref.{Vref}
 use Rattle.sock_model.specs.declared.view.View.{View}
+use Rattle.sock_rule.specs.OnTable.{put_in}
 use Rattle.sock_rule.specs.declared.homes.Letter.{Letter}
 use Rattle.sock_table.specs.Named.{Found}
 use Rattle.sock_table.specs.declared.refs.SockRef.{SockRef}
 use Rattle.write_chain.specs.declared.entry.Refused.{Refused}
 use Rattle.write_chain.specs.declared.entry.Refused.TheVariants as refused
 use Rattle.corr_core.specs.declared.marks.Plan as id_plan
-use Rattle.rpc_client.specs.Sending.{SeenThrough, SentWith, SentBy, DeliveredBy as Delivered}
+use Rattle.rpc_client.specs.Sending.{SeenThrough, DeliveredBy as Delivered}
 use Rattle.call_errors.specs.Books.{CallStand}
+use Rattle.call_writes.specs.Draining.{DroppedAll, none, one_more, Drained}
 use Rattle.call_writes.specs.Sending.{SeenCalling, DeliveredCalling, SentWithCalling, SentCalling}
 use Rattle.call_writes.proofs.Drains.{drained_all}
 use Rattle.call_attempts.specs.Both.{Both}
 use Rattle.call_attempts.specs.Attempting.{CameBack, DeliveredBy, went_out, came_back, AttemptedBy, nowhere, over_link}
-use Rattle.sock_deeds.specs.Deeds.{SentOver, MessageBy}
-use Rattle.sock_deeds.proofs.Messages.{message_of}
+use Rattle.sock_deeds.specs.Deeds.{IsDropWord, StoresDrops, DropsBy, SentOver, MessageBy}
+use Rattle.sock_deeds.proofs.Words.{no_word, word_stays, word_kept, word_dropped}
 
 module _ {O : Type 0} (state : O → OutState) (p : Plan) where
+  -- ## What a seat stores while it writes a link
+
+  all_words : (slots id x n : ℕ) (v : View) (s : CallStand) (w : View) (t : CallStand) → DroppedAll state p slots id v s w t → put_in x n v < put_in x n w → IsDropWord p id w x n
+  all_words slots id x n v s _ _ none less = absurd (omega arith)
+  all_words slots id x n v s _ _ (one_more u r w t more one) less = dite (dec_lt (put_in x n v) (put_in x n u))
+      (λ lt. word_kept p id x n one.msg.label.place u w one.wrote (all_words slots id x n v s u r more lt))
+      (λ ge. word_dropped p id x n one.msg.label.place u w one.wrote one.dead (omega arith))
+
   -- whoever had the right wrote, and told calls besides
-  pub seen_through : (slots id : ℕ) (v : View) (s : CallStand) (w : View) (t : CallStand) → SeenCalling state p slots id v s w t → SeenThrough state p id v w
+  drained_words : (slots id : ℕ) (v : View) (s : CallStand) (w : View) (t : CallStand) → Drained state p slots id v s w t → StoresDrops p id v w
+  drained_words slots id v s w t d x n less = let e = no_word p id x n d.last w d.wrote in word_stays p id x n d.last w d.wrote (all_words slots id x n v s d.last t d.dropped (omega arith))
+
+  abbrev pub seen_through : (slots id : ℕ) (v : View) (s : CallStand) (w : View) (t : CallStand) → SeenCalling state p slots id v s w t → SeenThrough state p id v w
   seen_through slots id v s w t h = record { wrote = h.wrote; by = drained_all p slots id v h.wrote s t h.drained; returned = h.returned }
 
   -- ## A send
 
   module _ (slots : ℕ) (msg : Letter) where
-    delivered_of : (sock : SockRef) (by : Option Outcome) (v : View) (s : CallStand) (w : View) (t : CallStand) → DeliveredCalling state p slots sock msg by v s w t → Delivered state p sock msg by v w
-    delivered_of sock None v s w t d = record { taken = d.taken; accepted = d.accepted; through = seen_through slots sock.id.0 d.taken s w t d.through }
-    delivered_of sock (Some (outcome.Gone found)) v s w t d = d.0
-    delivered_of sock (Some outcome.Full) v s w t d = d.0
-    delivered_of sock (Some _) v s w t d = elim d [ ]
+    abbrev went_of : (sock : SockRef) (v : View) (s : CallStand) (w : View) (t : CallStand) → DeliveredCalling state p slots sock msg None v s w t → Delivered state p sock msg None v w
+    went_of sock v s w t d = record { taken = d.taken; accepted = d.accepted; through = seen_through slots sock.id.0 d.taken s w t d.through }
 
-    with_of : (n : ℕ) (by : Option Outcome) (v : View) (s : CallStand) (w : View) (t : CallStand) → SentWithCalling state p slots n msg by v s w t → SentWith state p n msg by v w
-    with_of n by v s w t h = record { sock = h.sock; has = h.has; reached_it = h.reached_it; delivered = delivered_of h.sock by h.has s w t h.delivered }
+    -- it doesn't ask for the link first
+    sent_of : (n : ℕ) (v : View) (s : CallStand) (w : View) (t : CallStand) → SentWithCalling state p slots n msg None v s w t → SentOver state p n msg None v w
+    sent_of n v s w t h = record {
+      sock = h.sock;
+      has = h.has;
+      reached_it = h.reached_it;
+      addressed = h.has;
+      link_asked = inl refl;
+      delivered = went_of h.sock h.has s w t h.delivered;
+      dropped = drained_words slots h.sock.id.0 h.delivered.taken s h.delivered.through.wrote t h.delivered.through.drained;
+    }
 
-    -- at the table of sockets it is the send of a client without calls
-    pub sent_of : (n : ℕ) (by : Option Outcome) (v : View) (s : CallStand) (w : View) (t : CallStand) → SentCalling state p slots n msg by v s w t → SentBy state p n msg by v w
-    sent_of n None v s w t h = with_of n None v s w t h
-    sent_of n (Some outcome.Unopened) v s w t h = h.0
-    sent_of n (Some (outcome.Gone found)) v s w t h = elim h [ inl r ↦ inl r.0 | inr d ↦ inr (with_of n (Some (outcome.Gone found)) v s w t d) ]
-    sent_of n (Some outcome.Full) v s w t h = with_of n (Some outcome.Full) v s w t h
-    sent_of n (Some _) v s w t h = elim h [ ]
+    gone_of : (n : ℕ) (found : Vref) (v : View) (s : CallStand) (w : View) (t : CallStand) → SentWithCalling state p slots n msg (Some (outcome.Gone found)) v s w t → SentOver state p n msg (Some (outcome.Gone found)) v w
+    gone_of n found v s w t h = record { sock = h.sock; has = h.has; reached_it = h.reached_it; addressed = h.has; link_asked = inl refl; delivered = h.delivered.0; dropped = tt }
+
+    full_of : (n : ℕ) (v : View) (s : CallStand) (w : View) (t : CallStand) → SentWithCalling state p slots n msg (Some outcome.Full) v s w t → SentOver state p n msg (Some outcome.Full) v w
+    full_of n v s w t h = record { sock = h.sock; has = h.has; reached_it = h.reached_it; addressed = h.has; link_asked = inl refl; delivered = h.delivered.0; dropped = tt }
 
     pub send_message : (n : ℕ) (by : Option Outcome) (v : View) (s : CallStand) (w : View) (t : CallStand) → SentCalling state p slots n msg by v s w t → MessageBy state p n msg by v w
-    send_message n by v s w t h = message_of state p n msg by v w (sent_of n by v s w t h)
+    send_message n None v s w t h = sent_of n v s w t h
+    send_message n (Some outcome.Unopened) v s w t h = h.0
+    send_message n (Some (outcome.Gone found)) v s w t h = elim h [ inl r ↦ inl r.0 | inr d ↦ inr (gone_of n found v s w t d) ]
+    send_message n (Some outcome.Full) v s w t h = full_of n v s w t h
+    send_message n (Some _) v s w t h = elim h [ ]
 
   -- ## An attempt of a call
 
@@ -67,9 +91,9 @@ module _ {O : Type 0} (state : O → OutState) (p : Plan) where
     attempt_message name v s t found (nowhere n) = (Some (outcome.Gone n.found), (λ e. cc), inl (socket, s.socks, found, n.gone))
     attempt_message name v s t found (over_link u l d) = by_delivery d
       where
-        over : (o : Option Outcome) → Delivered state p sock msg o u.socks t.socks → SentOver state p name msg o v t.socks
-        over o delivered = record { sock = sock; has = l.has; reached_it = (s.socks, found, l.held, l.none_later); addressed = u.socks; link_asked = inr (l.link, l.link_of); delivered = delivered }
+        over : (o : Option Outcome) (delivered : Delivered state p sock msg o u.socks t.socks) → DropsBy state p sock msg o u.socks t.socks delivered → SentOver state p name msg o v t.socks
+        over o delivered dropped = record { sock = sock; has = l.has; reached_it = (s.socks, found, l.held, l.none_later); addressed = u.socks; link_asked = inr (l.link, l.link_of); delivered = delivered; dropped = dropped }
 
         by_delivery : DeliveredBy state p q socket msg u t → Attempted name v t.socks
-        by_delivery (went_out w) = (None, (λ e. cc), over None record { taken = w.taken; accepted = w.accepted; through = seen_through q.slots socket.0 w.taken u.calls t.socks t.calls w.through })
-        by_delivery (came_back by c) = let r = came_of by u t c in (Some r.0, r.1, r.3 name v (over (Some r.0) r.2))
+        by_delivery (went_out w) = (None, (λ e. cc), over None record { taken = w.taken; accepted = w.accepted; through = seen_through q.slots socket.0 w.taken u.calls t.socks t.calls w.through } (drained_words q.slots socket.0 w.taken u.calls w.through.wrote t.calls w.through.drained))
+        by_delivery (came_back by c) = let r = came_of by u t c in (Some r.0, r.1, r.3 name v (over (Some r.0) r.2 tt))

@@ -32,18 +32,18 @@ use Rattle.rpc_client.specs.declared.acting.Told.{Told}
 use Rattle.thread_run.specs.Threads.{is_opened, opened_in}
 use Rattle.call_client.specs.Running.{MayMakeAll}
 use Rattle.call_run.specs.declared.opened.Opening.{Opening}
+use Rattle.call_run.specs.Ending.{EndedBehind}
 use Rattle.call_run.specs.Threads.{ids_of, opens_of, opening_in, openings, name_if, opened_names, Thread, IsThread, AreThreads, MayRun, AllMayRun, MayRunAll, RanOn}
 use Rattle.sock_deeds.specs.Deeds.{waits, own_number, Deed}
-use Rattle.sock_deeds.specs.Runs.{IsOperation, IsFor, numbers_at, Seated, seat_of, DeedRun}
+use Rattle.sock_deeds.specs.Runs.{IsOperation, IsFor, numbers_at, Seated, Ended, seat_of, DeedRun}
 use Rattle.sock_deeds.proofs.Flats.{append_later}
 use Rattle.sock_deeds.proofs.Places.{to_slice, to_elem, map_there, map_back}
-use Rattle.sock_deeds.proofs.Steps.{no_step}
 use Rattle.call_deeds.specs.Scripts.{HaveLinks, AllHaveLinks, Reports, AllLater}
 use Rattle.call_deeds.specs.Retried.{all_asked}
 use Rattle.call_deeds.proofs.Acts.{IsSaid}
 use Rattle.sock_deeds.proofs.Waiting.{Waited}
-use Rattle.call_deeds.proofs.Clients.{left_hand, FitsTasks, SaysAll, client_seated}
-use Rattle.call_deeds.proofs.Ends.{ended_steps}
+use Rattle.call_deeds.proofs.Clients.{FitsTasks, SaysAll, client_seated}
+use Rattle.call_deeds.proofs.Ends.{ended_behind}
 use Rattle.call_deeds.proofs.Links.{call_at}
 use Rattle.call_deeds.proofs.Ran.{Result, AreLater}
 use Rattle.call_deeds.proofs.Told.{all_results, task_at, result_of, said_at, said_of, unsaid_at, open_said}
@@ -109,7 +109,7 @@ module _ {O : Type 0} (g : Ghosts O) (state : O → OutState) (p : Plan) (q : id
 
   deal_one : (c first : ℕ) (x : Thread g) (th : IsThread state p q first x) → slice_get all c ≡ Some x.tasks → MayRun p q x.tasks → HaveLinks first x.tasks → SaidOf c x → AreLater all outcomes (all_asked x th) → (y : Seated g state p) × (y.seat ≡ x.ended.seat) × SeatOf c x y
   deal_one c first x th there may links said later =
-      client_seated g state p q all outcomes c first x th links (fits_tasks c x first (opens_of x.tasks) th there may.may) (said first th) later (left_hand g state p q all outcomes c first x th) (no_step (left_hand g state p q all outcomes c first x th) (left_hand g state p q all outcomes c first x th) refl) x.ended.seat refl
+      client_seated g state p q all outcomes c first x th links (fits_tasks c x first (opens_of x.tasks) th there may.may) (said first th) later
 
   deal : (names : List ℕ) (c first : ℕ) (xs : List (Thread g)) (a : AreThreads state p q names first xs) → ((i : ℕ) (x : Thread g) → get_elem? xs i ≡ some x → (slice_get all (c + i) ≡ Some x.tasks) × SaidOf (c + i) x) → AllMayRun p q (map (λ (x : Thread g). x.tasks) xs) → AllHaveLinks first (map (λ (x : Thread g). x.tasks) xs)
       → AllLater all outcomes state p q names first xs a → Dealt c xs (map (λ (x : Thread g). x.ended.seat) xs)
@@ -140,16 +140,16 @@ module _ {O : Type 0} (g : Ghosts O) (state : O → OutState) (p : Plan) (q : id
 
 -- ## What is said of their operations
 
-is_said : (clients : List (List Task)) (outcomes : List (Option Outcome)) (number : ℕ) (op : Op) (by : Option Outcome) → ((o : Outcome) → by ≡ Some o → Became clients outcomes number o) → (by ≡ None → (n : ℕ) (bytes : List ℕ) → op ≡ ops.Send n bytes → slice_get outcomes number ≡ Some None) → IsSaid clients outcomes number op by
-is_said clients outcomes number (ops.Send n bytes) None said unsaid = unsaid refl n bytes refl
-is_said clients outcomes number (ops.Send n bytes) (Some o) said unsaid = said o refl
-is_said clients outcomes number (ops.Open n k) by said unsaid = said
-is_said clients outcomes number (ops.Call asked) by said unsaid = said
-is_said clients outcomes number (ops.Expire o) by said unsaid = said
-is_said clients outcomes number (ops.Join o) by said unsaid = said
-is_said clients outcomes number (ops.Hold n) by said unsaid = said
-is_said clients outcomes number (ops.Drop n) by said unsaid = said
-is_said clients outcomes number (ops.Fail n code) by said unsaid = said
+is_said : (clients : List (List Task)) (outcomes : List (Option Outcome)) (number : ℕ) (op : Op) (by : Option Outcome) → ((o : Outcome) → by ≡ Some o → Became clients outcomes number o) → (by ≡ None → (n : ℕ) (bytes : List ℕ) → op ≡ ops.Send n bytes → slice_get outcomes number ≡ Some None) → (by ≡ None → Became clients outcomes number outcome.Unopened → ⊥) → IsSaid clients outcomes number op by
+is_said clients outcomes number (ops.Send n bytes) None said unsaid opened = unsaid refl n bytes refl
+is_said clients outcomes number (ops.Send n bytes) (Some o) said unsaid opened = said o refl
+is_said clients outcomes number (ops.Open n k) by said unsaid opened = said
+is_said clients outcomes number (ops.Call asked) by said unsaid opened = (said, opened)
+is_said clients outcomes number (ops.Expire o) by said unsaid opened = said
+is_said clients outcomes number (ops.Join o) by said unsaid opened = said
+is_said clients outcomes number (ops.Hold n) by said unsaid opened = said
+is_said clients outcomes number (ops.Drop n) by said unsaid opened = said
+is_said clients outcomes number (ops.Fail n code) by said unsaid opened = said
 
 -- ## The run
 
@@ -213,18 +213,16 @@ module _ {O : Type 0} {g : Ghosts O} {state : O → OutState} {p : Plan} {slots 
   says : (c : ℕ) (x : Thread g) → get_elem? threads c ≡ some x → SaidOf g state p q all outcomes tasks c x
   says c x at first th k r here = is_said all outcomes r.task.number r.task.op r.by (λ o by. became_of c x at first th k r o here by)
       (λ none_ n bytes op. reports.unsaid c r.task.number n bytes (subst (λ o. IsOperation all outcomes c r.task.number o) op (is_task g state p q all outcomes tasks c x.tasks k r.task (tasks_there c x at) (task_at x th k r here))) (unsaid_of c x at first th k r here none_))
+      (λ none_ became. (let w = reports.unopened r.task.number became in unsaid_of c x at first th k r here none_ w.0 w.1 w.2 w.3 w.4 w.5 w.6))
 
   -- ## Seats
 
-  pub main_seated : (y : Seated g state p) × (y.seat ≡ run.ran.last) × SeatHere 0 run.ran.main y
+  pub main_seated : (y : Seated g state p) × (y.seat ≡ run.ran.main.ended.seat) × SeatHere 0 run.ran.main y
   main_seated =
       let x = run.ran.main in
-      let th = run.ran.main_is in
       let setup_links = subst (HaveLinks 0) (sym run.ran.setup_asked) links.0 in
       let setup_may = subst (MayRun p q) (sym run.ran.setup_asked) may.setup_may in
-      let there = tasks_there 0 x refl in
-      client_seated g state p q all outcomes 0 0 x th setup_links (fits_tasks g state p q all outcomes tasks 0 x 0 (opens_of x.tasks) th there setup_may.may) (says 0 x refl 0 th) main_later
-      record { view = run.ran.last.me.0; held = th.ran.end.held } (ended_steps g state p all outcomes 0 th.ran.end.held opens_ x.ended.seat.me.0 run.ran.last.me.0 run.ran.failed) run.ran.last refl
+      deal_one g state p q all outcomes tasks 0 0 x run.ran.main_is (tasks_there 0 x refl) setup_may setup_links (says 0 x refl) main_later
 
   pub others_dealt : Dealt g state p q all outcomes tasks 1 run.ran.others (map (λ (x : Thread g). x.ended.seat) run.ran.others)
   others_dealt = deal g state p q all outcomes tasks names 1 (opens_of setup) run.ran.others run.ran.others_are (λ i x at. others_known i x at) (subst (AllMayRun p q) (sym run.ran.asked) may.clients_may)
@@ -244,8 +242,12 @@ module _ {O : Type 0} {g : Ghosts O} {state : O → OutState} {p : Plan} {slots 
   there zero x at = (main_seated.0, refl, subst (λ (z : Thread g). SeatHere 0 z main_seated.0) (some-injective run.ran.main x at) main_seated.2)
   there (suc i) x at = let w = others_dealt.there i x at in let e : 1 + i ≡ suc i = omega arith in (w.0, w.1, subst (λ k. SeatHere k x w.0) e w.2)
 
-  pub seats_are : map seat_of seats ≡ run.seats
-  seats_are = (λ i. main_seated.1 i ∷ others_dealt.seats_are i) ∙ run.ran.seats_are
+  pub seats_are : map seat_of seats ≡ map (λ (x : Thread g). x.ended.seat) threads
+  seats_are i = main_seated.1 i ∷ others_dealt.seats_are i
+
+  -- and the one that ended the sockets behind them
+  pub ended_all : (e : Ended g state p (map seat_of seats)) × (e.seat ∷ [] ≡ run.seats)
+  ended_all = ended_behind g state p opens_ (map seat_of seats) run.seats (subst (λ (l : List (Seat (SockHome O g) View)). EndedBehind p opens_ l run.seats) (sym seats_are) run.ran.ending)
 
   -- ## What its deeds are done for
 
@@ -292,8 +294,9 @@ module _ {O : Type 0} {g : Ghosts O} {state : O → OutState} {p : Plan} {slots 
     tasks = tasks;
     long = long;
     seats = seats;
+    ending = ended_all.0;
     left = run.seats;
-    left_are = seats_are;
+    left_is = ended_all.1;
     closed = run.closed;
     for_task = λ c k y d at dk. (each c y at).2.each k d dk;
     as_many = seats_many;

@@ -1,5 +1,5 @@
 -- What is told of sockets in a run with calls.
-use Rattle.std.proofs.Common.{◌≡◌, ℕ, List, ◌∷◌, length, Option}
+use Rattle.std.proofs.Common.{◌≡◌, ℕ, ◌≤◌, List, ◌∷◌, length, Option}
 use Rattle.sock_io.specs.declared.link.Out.{Ghosts}
 use Rattle.sock_io.specs.Link.{OutState}
 use Rattle.sock_words.specs.declared.outcome.Outcome.{Outcome}
@@ -32,5 +32,5 @@ module _ {O : Type 0} {g : Ghosts O} {state : O → OutState} {p : Plan} {slots 
   abbrev pub deeds : DeedRun g state p (setup ∷ clients) outcomes places vrefs outs
   deeds = deed_run run outcomes tasks may links long reports main_later others_later
 
-  pub told_of_run : (c : Core) → IsLeft deeds differ c → ToldSockets p (setup ∷ clients) outcomes (fixed deeds differ gave) gave (orders deeds differ) c
-  told_of_run c left = told_of_deeds deeds differ gave c left
+  pub told_of_run : p.operations ≤ 65536 → (c : Core) → IsLeft deeds differ c → ToldSockets p (setup ∷ clients) outcomes (fixed deeds differ gave) gave (orders deeds differ) c
+  told_of_run few c left = told_of_deeds deeds differ gave few c left

@@ -5,6 +5,7 @@ use lib.ListN.{get_elem?}
 use Rattle.sock_io.specs.declared.link.Out.{Ghosts}
 use Rattle.sock_io.specs.Link.{OutState}
 use Rattle.sock_words.specs.declared.outcome.Outcome.{Outcome}
+use Rattle.sock_words.specs.declared.outcome.Outcome.TheVariants as outcome
 use Rattle.sock_words.specs.declared.plain.Plan.{Plan}
 use Rattle.corr_core.specs.declared.marks.Plan as id_plan
 use Rattle.sock_programs.specs.declared.task.Op.{Op}
@@ -34,11 +35,12 @@ AllHaveLinks first (ts ∷ tss) = HaveLinks first ts × AllHaveLinks (first + op
 -- ## What is reported
 
 module _ (clients : List (List Task)) (outcomes : List (Option Outcome)) where
-  -- what each client told of its operations is what became of them; of a send of which no client told, nothing is said; and nothing is said of an operation that no client has
+  -- what each client told of its operations is what became of them; of a send of which no client told, nothing is said; nothing is said of an operation that no client has; and that one is unopened is said only where a client told of it
   pub record Reports (told : List (List Told)) : Type 0 where
     pub said : (c i : ℕ) (ts : List Told) (t : Told) → get_elem? told c ≡ some ts → get_elem? ts i ≡ some t → Became clients outcomes t.number t.outcome
     pub unsaid : (c number n : ℕ) (bytes : List ℕ) → IsOperation clients outcomes c number (ops.Send n bytes)
         → ((d i : ℕ) (ts : List Told) (t : Told) → get_elem? told d ≡ some ts → get_elem? ts i ≡ some t → t.number ≢ number) → slice_get outcomes number ≡ Some None
+    pub unopened : (n : ℕ) → Became clients outcomes n outcome.Unopened → (c i : ℕ) × (ts : List Told) × (t : Told) × (get_elem? told c ≡ some ts) × (get_elem? ts i ≡ some t) × (t.number ≡ n)
     pub alone : (n : ℕ) (by : Outcome) → Became clients outcomes n by → (c : ℕ) × (t : Task) × IsTask clients outcomes c t × (t.number ≡ n)
 
   -- a call of one of the clients asked for this, and it is a later attempt of it

@@ -9,8 +9,6 @@ mod posting;
 mod retries;
 mod seats;
 mod starving;
-#[cfg(test)]
-mod tests;
 
 pub use asking::{expire_one, join_one};
 pub use ending::end_call;

@@ -87,7 +87,7 @@ pub record KnowsLock (k : IdLock Asked) (v : View Asked) : Type 0 where
 abbrev pub Grows : View Asked → View Asked → Type 0
 Grows v w = (i : ℕ) (f : Note Asked → ℕ) → total f (notes_of i v.notes) ≤ total f (notes_of i w.notes)
 
-lock_stays : (k : IdLock Asked) (v w : View Asked) → Grows v w → KnowsLock k v → KnowsLock k w
+pub lock_stays : (k : IdLock Asked) (v w : View Asked) → Grows v w → KnowsLock k v → KnowsLock k w
 lock_stays k v w grows h = record {
   word = h.word;
   found = (let a = grows k.slot (is_saw h.word) in let b = h.found in omega arith);
@@ -106,7 +106,7 @@ locks_silent f o (Queued g d) e = refl
 locks_silent f o (Attempt g n) e = refl
 locks_silent f o (Saw w) e = refl
 
-lock_known : (slots version : ℕ) (k : IdLock Asked) (v w : View Asked) → GotBy slots version k v w → KnowsLock k w
+pub lock_known : (slots version : ℕ) (k : IdLock Asked) (v w : View Asked) → GotBy slots version k v w → KnowsLock k w
 lock_known slots version k v w g = record {
   word = g.word;
   found = g.got.found;
@@ -196,10 +196,10 @@ pub record Might (m : ℕ → ℕ) (s t : CallStand) : Type 0 where
   pub backed : (i f n : ℕ) → f < 4294967296 → waiting (i * 4294967296 + f) n t.books + advances i f n s.view ≤ waiting (i * 4294967296 + f) n s.books + advances i f n t.view
   pub first : total is_first t.books.retries ≤ total is_first s.books.retries
 
-might_still : (m : ℕ → ℕ) (s t : CallStand) → Still s t → Might m s t
+pub might_still : (m : ℕ → ℕ) (s t : CallStand) → Still s t → Might m s t
 might_still m s t a = record { grows = a.grows; made = λ o. (let x = a.made o in omega arith); backed = a.backed; first = a.first }
 
-might_then : (m : ℕ → ℕ) (s u t : CallStand) → Might m s u → Still u t → Might m s t
+pub might_then : (m : ℕ → ℕ) (s u t : CallStand) → Might m s u → Still u t → Might m s t
 might_then m s u t a b = record {
   grows = λ i f. (let x = a.grows i f in let y = b.grows i f in omega arith);
   made = λ o. (let x = a.made o in let y = b.made o in omega arith);
@@ -209,7 +209,7 @@ might_then m s u t a b = record {
 
 module _ {O : Type 0} (state : O → OutState) (p : Plan) (q : id_plan.Plan) where
   -- an id was made
-  might_make : (asked : Asked) (id : ℕ) (socket : SocketId) (s t : Both) → MadeFor state p q asked id socket s t → Might (λ o. only o asked.operation) s.calls t.calls
+  pub might_make : (asked : Asked) (id : ℕ) (socket : SocketId) (s t : Both) → MadeFor state p q asked id socket s t → Might (λ o. only o asked.operation) s.calls t.calls
   might_make asked id socket s t m =
       let noted = ap (λ (v : View Asked). v.notes) m.noted in let rs = ap (λ (b : Books). b.retries) m.books in
       let d = m.made.did in record {
@@ -221,7 +221,7 @@ module _ {O : Type 0} (state : O → OutState) (p : Plan) (q : id_plan.Plan) whe
       }
 
   module _ {g : Ghosts O} where
-    acted_might : (number : ℕ) (op : Op) (by : Option Outcome) (s t : Stand g) → Acted state p q number op by s t → Might (λ o. call_in o op) s.calls t.calls
+    pub acted_might : (number : ℕ) (op : Op) (by : Option Outcome) (s t : Stand g) → Acted state p q number op by s t → Might (λ o. call_in o op) s.calls t.calls
     acted_might number (ops.Open n k) (Some by) s t a = might_still (λ o. 0) s.calls t.calls (still_same s.calls t.calls a.2)
     acted_might number (ops.Send n bytes) by s t a = might_still (λ o. 0) s.calls t.calls (sent_still state p q.slots n (letter_of number bytes) by s.me.0 s.calls t.me.0 t.calls a.0)
     acted_might number (ops.Call asked) (Some outcome.Unopened) s t a = might_still (λ o. only o asked.operation) s.calls t.calls (still_same s.calls t.calls a.0.1)
@@ -233,7 +233,7 @@ module _ {O : Type 0} (state : O → OutState) (p : Plan) (q : id_plan.Plan) whe
     acted_might number (ops.Fail n code) (Some by) s t a = might_still (λ o. 0) s.calls t.calls (still_same s.calls t.calls a.2)
     acted_might number _ _ s t a = elim a [ ]
 
-    counts_operation : (x : Task) (by : Option Outcome) (s t : Stand g) (a : Acted state p q x.number x.op by s t) → Counts {g = g} {state = state} {p = p} {q = q} (operates x by s t a ∷ []) s.calls t.calls
+    pub counts_operation : (x : Task) (by : Option Outcome) (s t : Stand g) (a : Acted state p q x.number x.op by s t) → Counts {g = g} {state = state} {p = p} {q = q} (operates x by s t a ∷ []) s.calls t.calls
     counts_operation x by s t a = let m = acted_might x.number x.op by s t a in record {
       grows = m.grows;
       made = λ o. (let y = m.made o in omega arith);

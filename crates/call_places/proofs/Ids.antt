@@ -39,7 +39,7 @@ laws_of p notes kept words c = record { advanced_once = c.advanced_once; advance
 
 -- ## Notes by their weights
 
-locker_of : (f o : ℕ) (n : Note Asked) → 0 < locks_for f o n → (c : Asked) × (n ≡ Locker f c) × (c.operation ≡ o)
+pub locker_of : (f o : ℕ) (n : Note Asked) → 0 < locks_for f o n → (c : Asked) × (n ≡ Locker f c) × (c.operation ≡ o)
 locker_of f o Tried h = absurd (omega arith)
 locker_of f o (Made g r c) h = absurd (omega arith)
 locker_of f o (Ended g) h = absurd (omega arith)
@@ -62,7 +62,7 @@ made_of f (Attempt g n) h = absurd (omega arith)
 made_of f (Saw w) h = absurd (omega arith)
 
 -- where they stand
-locker_there : (f o : ℕ) (ns : List (Note Asked)) → 0 < total (locks_for f o) ns → (c : Asked) × (k : ℕ) × (get_elem? ns k ≡ some (Locker f c)) × (c.operation ≡ o)
+pub locker_there : (f o : ℕ) (ns : List (Note Asked)) → 0 < total (locks_for f o) ns → (c : Asked) × (k : ℕ) × (get_elem? ns k ≡ some (Locker f c)) × (c.operation ≡ o)
 locker_there f o ns some_ = let l = total_some (locks_for f o) ns some_ in let n = locker_of f o l.1 l.3 in (n.0, l.0, l.2 ∙ ap some n.1, n.2)
 
 made_there : (f : ℕ) (ns : List (Note Asked)) → 0 < total (is_made f) ns → (r : ℕ) × (c : Asked) × (k : ℕ) × (get_elem? ns k ≡ some (Made f r c))

@@ -1,5 +1,6 @@
 -- The place words that a run with calls leaves tell an order of each link.
 use Rattle.std.proofs.Common.{◌≡◌, ℕ, zero, suc, ◌+◌, ◌*◌, ◌/◌, ◌%◌, ◌<◌, ◌≤◌, ◌⊎◌, inl, inr, ⊎_elim, Bool, true, false, eqb, List, [], ◌∷◌, ◌++◌, length, map, flat_map, slice_get, slice_index, unwrap_or, option_map, Option, Some, None, refl, sym, ap, ◌∙◌, subst, arith}
+use Rattle.std.proofs.lemmas.List.{append-nil}
 use Rattle.std.proofs.lemmas.Option.{slice_get_past}
 use mathlib.Core.Logic.{dite}
 use mathlib.Core.Option.{some, some-injective, some-ne-none}
@@ -120,13 +121,16 @@ module _ {O : Type 0} {g : Ghosts O} {state : O → OutState} {p : Plan} {slots 
   pub tasks_are : map tasks_of all ≡ setup ∷ clients
   tasks_are = all_are (λ (x : Thread g). x.tasks) ∙ (ap (λ (t : List Task). t ∷ map (λ (x : Thread g). x.tasks) run.ran.others) run.ran.setup_asked ∙ ap (λ l. setup ∷ l) run.ran.asked)
 
-  -- each seat's list is its client's own
+  -- one list for each client, its own: the seat that is left took in those of all, and ended the sockets without a list more
   pub lists_are : run.closed.view.lists ≡ map own_of all
   lists_are =
       let f : Seat (SockHome O g) sock_view.View → List (List Entry) = λ s. s.me.0.lists in
       let rest : List (List Entry) = flat_map f (map (λ (x : Thread g). x.ended.seat) run.ran.others) in
-      let mains : f run.ran.last ≡ own_entries run.ran.main run.ran.main_is ∷ [] = each_ended_lists p opens run.ran.main.ended.seat.me.0 run.ran.last.me.0 run.ran.failed ∙ own_list run.ran.main run.ran.main_is in
-      run.closed.lists ∙ (ap (flat_map f) (sym run.ran.seats_are) ∙ (ap (λ l. l ++ rest) mains ∙ ap (λ l. own_entries run.ran.main run.ran.main_is ∷ l) (others_lists state p (ids_of p slots) (opened_names run.ran.main.ended.outcomes.items (openings setup)) (opens_of setup) run.ran.others run.ran.others_are)))
+      let end = run.ran.ending in
+      let last : end.last.me.0.lists ≡ f run.ran.main.ended.seat ++ rest = each_ended_lists p opens end.joined end.last.me.0 end.failed ∙ end.took_in.lists in
+      let mains : f run.ran.main.ended.seat ≡ own_entries run.ran.main run.ran.main_is ∷ [] = own_list run.ran.main run.ran.main_is in
+      run.closed.lists ∙ (ap (flat_map f) (sym end.alone) ∙ (append-nil (f end.last) ∙ (last
+      ∙ (ap (λ l. l ++ rest) mains ∙ ap (λ l. own_entries run.ran.main run.ran.main_is ∷ l) (others_lists state p (ids_of p slots) (opened_names run.ran.main.ended.outcomes.items (openings setup)) (opens_of setup) run.ran.others run.ran.others_are)))))
 
   module _ (tasks : AreTasks p (setup ∷ clients)) (may : MayRunAll p (ids_of p slots) setup clients) (notes : List (Noted Asked)) (laws : IdLaws slots notes) (have : HaveNotesOf ids notes) where
     may_make : (j : ℕ) (c : Client g state p (ids_of p slots)) → get_elem? all j ≡ some c → (n : ℕ) × MayMakeAll p (ids_of p slots) (tasks_of c) n
@@ -149,8 +153,8 @@ module _ {O : Type 0} {g : Ghosts O} {state : O → OutState} {p : Plan} {slots 
         let d = once all notes laws have_all may_make numbers l in omega arith
 
     -- no two messages have one place index
-    pub places_differ : PlacesDiffer accepted
-    places_differ = log.places_differ p run.closed.view.found run.closed.view.lists run.closed.ordered once_listed
+    pub log_differs : PlacesDiffer accepted
+    log_differs = log.places_differ p run.closed.view.found run.closed.view.lists run.closed.ordered once_listed
 
     -- and each has one of the plan
     low_place : (k : ℕ) (e : Entry) → get_elem? accepted k ≡ some e → e.heading.place < 8 * p.operations
@@ -166,7 +170,7 @@ module _ {O : Type 0} {g : Ghosts O} {state : O → OutState} {p : Plan} {slots 
     low_on k i e at = let w = from_on k accepted i e at in low_place w.0 e w.1
 
     few_on : (k : ℕ) → length (on k accepted) ≤ 8 * p.operations
-    few_on k = log.few_entries (8 * p.operations) (on k accepted) (λ i j a b at bt same. distinct_filter (λ (x : Entry). x.heading.place) (λ (x : Entry). eqb x.link k) accepted places_differ i j a b at bt same) (low_on k)
+    few_on k = log.few_entries (8 * p.operations) (on k accepted) (λ i j a b at bt same. distinct_filter (λ (x : Entry). x.heading.place) (λ (x : Entry). eqb x.link k) accepted log_differs i j a b at bt same) (low_on k)
 
     -- ## The words
 
@@ -193,7 +197,7 @@ module _ {O : Type 0} {g : Ghosts O} {state : O → OutState} {p : Plan} {slots 
       tells : (n k i : ℕ) → IsMessage n k i → (b : Bool) × IsPlaceWord (word_at places n) b k i
       tells n k i m =
           let back = run.closed.outs_back k m.inside in
-          let fifo = back.took_is.fifo places_differ in
+          let fifo = back.took_is.fifo log_differs in
           let here = low_on k i m.entry m.at in
           let position = at_low (on k accepted) i m.entry m.at in
           let most = few_on k in

@@ -1,13 +1,15 @@
 -- The sockets of a run, which main ends.
-use Rattle.std.proofs.Common.{ℕ, ◌+◌, ◌<◌, List, [], ◌∷◌, ◌++◌, length, take, get_or, refl, sym, ◌∙◌, subst, arith}
+use Rattle.std.proofs.Common.{◌≡◌, ℕ, ◌+◌, ◌<◌, List, [], ◌∷◌, ◌++◌, length, take, get_or, refl, sym, ap, ◌∙◌, subst, arith}
 use Rattle.std.proofs.lemmas.List.{take_more}
 use Rattle.atomic_table.specs.Seated.{TableId}
 use Rattle.atomic_table.specs.declared.shared.Seat.{Seat}
 use Rattle.sock_words.specs.declared.plain.Plan.{Plan}
 use Rattle.sock_model.specs.declared.view.View.{View}
-use Rattle.sock_table.specs.Closed.{IsDoneSeat}
+use Rattle.sock_model.specs.Weights.{total}
+use Rattle.sock_table.specs.Closed.{IsDoneSeat, AllDone}
 use Rattle.sock_open.proofs.Testing.{done_between}
 use Rattle.rpc_client.specs.Seats.{Idle, MayAct, SameRefs}
+use Rattle.thread_run.specs.Crew.{IsLeft}
 use Rattle.call_run.specs.Ending.{EndedOne, EndedEach}
 
 module _ {S : Type 0} (z : TableId) (p : Plan) where
@@ -27,6 +29,13 @@ module _ {S : Type 0} (z : TableId) (p : Plan) where
       done = record { bare = record { claims = idle.claims; loose = idle.loose; rights = idle.between.no_rights; hands = idle.between.empty }; unheld = λ i il. refs.refs i ∙ d.done.unheld i il };
       rest = record { unclaimed = idle.between.unclaimed; uncoding = idle.between.uncoding; no_zero = idle.between.no_zero; no_passes = idle.between.no_passes };
     }
+
+  -- one seat that took in all seats of the table, and went on, stands for them alone
+  pub left_alone : (seats behind : List (Seat S View)) (s t : Seat S View) → IsLeft z p seats → s.me.0.share ≡ total (λ (x : Seat S View). x.me.0.share) seats → IsDoneSeat z p t → t.me.0.share ≡ s.me.0.share → behind ≡ t ∷ [] → IsLeft z p behind
+  left_alone seats behind s t l took done went is = record {
+    done = subst (AllDone z p) (sym is) (done, tt);
+    all = ap (total (λ (x : Seat S View). x.me.0.share)) is ∙ omega (arith, l.all, took, went);
+  }
 
 -- one more socket was ended
 module _ (p : Plan) where

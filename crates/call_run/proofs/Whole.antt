@@ -1,6 +1,7 @@
 -- A run over two tables, from those that are to run to what is left.
 use Rattle.std.proofs.Common.{◌≡◌, ℕ, ◌<◌, Bool, false, ◌||◌, List, [], ◌∷◌, map, length, get_or, refl, sym, ap, ◌∙◌, subst, arith}
-use Rattle.std.specs.Prelude.{Option, IfOk}
+use Rattle.std.specs.Prelude.{Option, IfOk, Vec}
+use Rattle.std.specs.declared.alloc.Global.{Global}
 use Rattle.std.specs.declared.result.Result.{Result}
 use Rattle.std.specs.declared.result.Result.TheVariants.{Ok, Err}
 use Rattle.std.proofs.lemmas.List.{length-map}
@@ -13,20 +14,21 @@ use Rattle.sock_words.specs.declared.plain.Plan.{Plan}
 use Rattle.sock_model.specs.declared.view.View.{View}
 use Rattle.sock_model.specs.Weights.{total}
 use Rattle.sock_rule.specs.declared.homes.SockHome.{SockHome}
-use Rattle.sock_table.specs.Closed.{IsDoneSeat, AllDone, ClosedBy}
+use Rattle.sock_table.specs.Closed.{AllDone, ClosedBy}
 use Rattle.corr_core.specs.Law.{total as id_total}
 use Rattle.corr_core.specs.declared.marks.Plan as id_plan
 use Rattle.corr_core.specs.declared.marks.View as id_view
 use Rattle.corr_id.specs.declared.table.IdTable.{IdTable}
 use Rattle.sock_message.specs.Asked.{Asked}
 use Rattle.sock_programs.specs.declared.task.Task.{Task}
+use Rattle.thread_run.specs.Crew.{IsLeft}
 use Rattle.thread_run.proofs.Weaving.{none_short}
 use Rattle.thread_run.proofs.Ending.{one_and}
 use Rattle.call_run.specs.declared.worker.Worker.{Worker}
 use Rattle.call_run.specs.declared.leaving.Left.{Left}
 use Rattle.call_run.specs.declared.running.Crew.{Crew}
 use Rattle.call_run.specs.declared.running.Ran.{Ran}
-use Rattle.call_run.specs.Ending.{EndedEach}
+use Rattle.call_run.specs.Ending.{EndedBehind}
 use Rattle.call_run.specs.Threads.{opens_of, openings, opened_names, ids_of, AreThreads, AllRan, RanOn}
 use Rattle.call_run.specs.Working.{HasWorked}
 use Rattle.call_run.specs.Crew.{HandedIn, AreLeft, IsCrew, CrewRan}
@@ -39,23 +41,18 @@ twice : {A B C : Type 0} (f : A → B) (h : B → C) (xs : List A) → map h (ma
 twice f h [] = refl
 twice f h (x ∷ xs) = ap (λ l. h (f x) ∷ l) (twice f h xs)
 
--- a client whose seat of the sockets went on
-abbrev pub with_seat : {O : Type 0} {g : Ghosts O} → Worker O g → Seat (SockHome O g) View → Worker O g
-with_seat w s = record w { caller = record w.caller { seat = s } }
-
-module _ {O : Type 0} {g : Ghosts O} (state : O → OutState) (z : TableId) (p : Plan) (y : TableId) (q : id_plan.Plan) (c : Crew O g) (m : Worker O g) (names : List ℕ) (ys : List (Worker O g)) (opens : List ℕ) (last : Seat (SockHome O g) View) (l1 l2 : Left O g)
+module _ {O : Type 0} {g : Ghosts O} (state : O → OutState) (z : TableId) (p : Plan) (y : TableId) (q : id_plan.Plan) (c : Crew O g) (m : Worker O g) (names : List ℕ) (ys : List (Worker O g)) (l1 l2 : Left O g)
     (is : IsCrew z p y q c.main.tasks.items (made_by c.workers.items) c) (h : HasWorked state z p y q [] c.main m) (named : names ≡ opened_names m.caller.outcomes.items (openings c.main.tasks.items)) (len : length ys ≡ length c.workers.items)
     (each : (i : ℕ) (d : Worker O g) → i < length c.workers.items → HasWorked state z p y q names (get_or c.workers.items i d) (get_or ys i d))
-    (done : IsDoneSeat z p last) (share : last.me.0.share ≡ m.caller.seat.me.0.share) (failed : EndedEach p opens m.caller.seat.me.0 last.me.0)
-    (whole : List (Worker O g)) (one : HandedIn (with_seat m last ∷ []) c.left l1) (all : HandedIn whole l1 l2) (lent : whole ≡ ys) where
+    (whole : List (Worker O g)) (one : HandedIn (m ∷ []) c.left l1) (all : HandedIn whole l1 l2) (lent : whole ≡ ys) where
   woven : Woven z p y q state names (opens_of c.main.tasks.items) c.workers.items ys
   woven = weave z p y q state names 1 (opens_of c.main.tasks.items) c.workers.items ys len is.hired each
 
   main_id : AreLeft y (m.caller.calls.seat ∷ []) × (m.caller.calls.seat.me.0.share ≡ 1)
   main_id = one_id z p y q state [] 0 0 c.main m h is.main_hired
 
-  seats : l2.seats.items ≡ last ∷ map (λ (w : Worker O g). w.caller.seat) ys
-  seats = one_and (λ (w : Worker O g). w.caller.seat) c.left.seats.items l1.seats.items l2.seats.items last whole ys is.left.seats.0 one.seats all.seats lent
+  seats : l2.seats.items ≡ m.caller.seat ∷ map (λ (w : Worker O g). w.caller.seat) ys
+  seats = one_and (λ (w : Worker O g). w.caller.seat) c.left.seats.items l1.seats.items l2.seats.items m.caller.seat whole ys is.left.seats.0 one.seats all.seats lent
 
   ids : l2.ids.items ≡ m.caller.calls.seat ∷ map (λ (w : Worker O g). w.caller.calls.seat) ys
   ids = one_and (λ (w : Worker O g). w.caller.calls.seat) c.left.ids.items l1.ids.items l2.ids.items m.caller.calls.seat whole ys is.left.ids.0 one.ids all.ids lent
@@ -69,13 +66,17 @@ module _ {O : Type 0} {g : Ghosts O} (state : O → OutState) (z : TableId) (p :
   short : l2.short ≡ ((m.short || false) || list_any (λ (w : Worker O g). w.short) ys)
   short = all.short ∙ (λ i. ((one.short ∙ ap (λ (b : Bool). b || (m.short || false)) is.left.calm) i || ap (list_any (λ (w : Worker O g). w.short)) lent i))
 
-  -- main's client and the others ran
-  pub crew_ran : CrewRan state z p y q c.main.tasks.items (made_by c.workers.items) opens l2
-  crew_ran = record {
-    left = record {
-      done = subst (AllDone z p) (sym seats) (done, woven.done);
-      all = ap (total (λ (s : Seat (SockHome O g) View). s.me.0.share)) seats ∙ omega (arith, share, one_share z p y q state [] 0 0 c.main m h is.main_hired, woven.share, is.may.seats, length-map c.workers.items (λ (w : Worker O g). w.tasks.items));
-    };
+  -- these are all seats of the table of sockets
+  pub all_left : IsLeft z p l2.seats.items
+  all_left = record {
+    done = subst (AllDone z p) (sym seats) (h.done, woven.done);
+    all = ap (total (λ (s : Seat (SockHome O g) View). s.me.0.share)) seats ∙ omega (arith, one_share z p y q state [] 0 0 c.main m h is.main_hired, woven.share, is.may.seats, length-map c.workers.items (λ (w : Worker O g). w.tasks.items));
+  }
+
+  -- main's client and the others ran, and the sockets were ended with what all of them had noted
+  pub crew_ran : (opens : List ℕ) (last : Vec (Seat (SockHome O g) View) Global) → IsLeft z p last.items → EndedBehind p opens l2.seats.items last.items → CrewRan state z p y q c.main.tasks.items (made_by c.workers.items) opens (record l2 { seats = last })
+  crew_ran opens last left behind = record {
+    left = left;
     ids = subst (AreLeft y) (sym ids) (main_id.0.0, woven.left);
     all_ids = ap (id_total (λ (s : Seat (Option Asked) (id_view.View Asked)). s.me.0.share)) ids ∙ omega (arith, main_id.1, woven.id_share, is.may.seats, is.as_many, length-map c.workers.items (λ (w : Worker O g). w.tasks.items));
     ran = λ calm. let b = none_short (m.short || false) (list_any (λ (w : Worker O g). w.short) ys) (sym short ∙ calm) in let b0 = none_short m.short false b.0 in record {
@@ -89,9 +90,7 @@ module _ {O : Type 0} {g : Ghosts O} (state : O → OutState) (z : TableId) (p :
       told_is = ap (λ l. m.caller.outcomes.items ∷ l) (woven.told ∙ sym (twice (λ (w : Worker O g). w.caller.outcomes) (λ v. v.items) ys)) ∙ sym (ap (map (λ v. v.items)) told);
       ended_is = ap (λ l. m.caller.calls.told.items ∷ l) (woven.ended ∙ sym (twice (λ (w : Worker O g). w.caller.calls.told) (λ v. v.items) ys)) ∙ sym (ap (map (λ v. v.items)) ended);
       ids_are = ap (λ l. m.caller.calls.seat.me.0 ∷ l) (woven.ids ∙ sym (twice (λ (w : Worker O g). w.caller.calls.seat) (λ (s : Seat (Option Asked) (id_view.View Asked)). s.me.0) ys)) ∙ sym (ap (map (λ (s : Seat (Option Asked) (id_view.View Asked)). s.me.0)) ids);
-      last = last;
-      failed = failed;
-      seats_are = ap (λ l. last ∷ l) woven.seats ∙ sym seats;
+      ending = subst (λ l. EndedBehind p opens l last.items) (seats ∙ ap (λ l. m.caller.seat ∷ l) (sym woven.seats)) behind;
     };
   }
 

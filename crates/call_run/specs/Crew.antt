@@ -64,6 +64,7 @@ pub record IsCast {O : Type 0} {g : Ghosts O} (setup : List Task) (clients : Lis
   pub openings_are : c.openings.items ≡ openings setup
   pub names : IsRoom (length (openings setup)) c.names
   pub left : IsRoomFor (length clients + 1) c.left
+  pub last : IsRoom 1 c.last
 
 -- each has its seats and the passes of its links
 pub record IsCrew {O : Type 0} {g : Ghosts O} (z : TableId) (p : Plan) (y : TableId) (q : id_plan.Plan) (setup : List Task) (clients : List (List Task)) (c : Crew O g) : Type 0 where
@@ -76,6 +77,7 @@ pub record IsCrew {O : Type 0} {g : Ghosts O} (z : TableId) (p : Plan) (y : Tabl
   pub openings_are : c.openings.items ≡ openings setup
   pub names : IsRoom (length (openings setup)) c.names
   pub left : IsRoomFor (length clients + 1) c.left
+  pub last : IsRoom 1 c.last
 
 -- all operations were made and all sockets ended, unless memory was wanting; all seats are left
 pub record CrewRan {O : Type 0} {g : Ghosts O} (state : O → OutState) (z : TableId) (p : Plan) (y : TableId) (q : id_plan.Plan) (setup : List Task) (clients : List (List Task)) (opens : List ℕ) (l : Left O g) : Type 0 where

@@ -23,7 +23,7 @@ use Rattle.call_errors.specs.Books.{books_of}
 use Rattle.call_client.specs.declared.caller.Caller.{Caller}
 use Rattle.call_client.specs.Running.{MayMakeAll, RunBy}
 use Rattle.call_run.specs.declared.opened.Opening.{Opening}
-use Rattle.call_run.specs.Ending.{EndedEach}
+use Rattle.call_run.specs.Ending.{EndedBehind}
 
 -- ## What clients open
 
@@ -111,7 +111,7 @@ pub record MayRunAll (p : Plan) (q : id_plan.Plan) (setup : List Task) (clients 
   pub seats : length clients + 1 ≡ p.seats
   pub links : opens_of setup + opens_of_each clients ≡ p.links
 
--- the setup is the first client, and all others wait for the names that it opened; once they have ended, its seat ends the sockets of these `open`s
+-- the setup is the first client, and all others wait for the names that it opened; once all have ended, main takes in their seats, and ends the sockets of these `open`s
 pub record AllRan {O : Type 0} (g : Ghosts O) (state : O → OutState) (p : Plan) (q : id_plan.Plan) (setup : List Task) (clients : List (List Task)) (opens : List ℕ) (told ended : List (List Told)) (seats : List (Seat (SockHome O g) View)) (ids : List (id_view.View Asked)) : Type 0 where
   pub main : Thread g
   pub others : List (Thread g)
@@ -123,9 +123,7 @@ pub record AllRan {O : Type 0} (g : Ghosts O) (state : O → OutState) (p : Plan
   pub told_is : map (λ (x : Thread g). x.ended.outcomes.items) (main ∷ others) ≡ told
   pub ended_is : map (λ (x : Thread g). x.ended.calls.told.items) (main ∷ others) ≡ ended
   pub ids_are : map (λ (x : Thread g). x.ended.calls.seat.me.0) (main ∷ others) ≡ ids
-  pub last : Seat (SockHome O g) View
-  pub failed : EndedEach p opens main.ended.seat.me.0 last.me.0
-  pub seats_are : last ∷ map (λ (x : Thread g). x.ended.seat) others ≡ seats
+  pub ending : EndedBehind p opens (map (λ (x : Thread g). x.ended.seat) (main ∷ others)) seats
 
 -- and the table of sockets was closed behind them
 pub record RanOn {O : Type 0} (g : Ghosts O) (state : O → OutState) (p : Plan) (slots : ℕ) (setup : List Task) (clients : List (List Task)) (opens : List ℕ) (told ended : List (List Told)) (places : List PlaceWord) (vrefs : List Vref) (outs : List O) (ids : List (id_view.View Asked)) : Type 0 where

@@ -1,7 +1,9 @@
 // The sockets of a run end once all clients have ended.
-ghost use Rattle.std.specs.Prelude.{◌≡◌, ◌<◌, All};
+ghost use Rattle.std.specs.Prelude.{◌≡◌, ◌<◌, ◌≤◌, All};
+ghost use Rattle.sock_open.specs.Opening.{IsRoom};
 ghost use Rattle.sock_table.specs.Closed.{IsDoneSeat};
-ghost use Rattle.call_run.specs.Ending.{EndedOne, EndedEach};
+ghost use Rattle.thread_run.specs.Crew.{IsLeft};
+ghost use Rattle.call_run.specs.Ending.{EndedOne, EndedEach, EndedBehind};
 
 use rpc_reader::{fail_id, wait_open};
 use sock_io::Out;
@@ -25,12 +27,7 @@ fn end_one<O: Out, R: Wait>(rt: &R, table: &SockTable<O>, seat: &mut SockSeat<O>
 }
 
 /// Those that these `open`s got, one after the other.
-pub fn end_each<O: Out, R: Wait>(
-    rt: &R,
-    table: &SockTable<O>,
-    seat: &mut SockSeat<O>,
-    opens: &[u16],
-)
+fn end_each<O: Out, R: Wait>(rt: &R, table: &SockTable<O>, seat: &mut SockSeat<O>, opens: &[u16])
     requires done { IsDoneSeat table.now.rule.table.shared.table_id table.now.rule.plan seat.old }
     requires opens { All (λ o. o < table.now.rule.plan.operations) opens.now }
     ensures done { IsDoneSeat table.now.rule.table.shared.table_id table.now.rule.plan seat.new }
@@ -40,4 +37,26 @@ pub fn end_each<O: Out, R: Wait>(
     'ends: for operation in opens {
         end_one(rt, table, seat, *operation);
     }
+}
+
+/// One seat takes in all of these, and then ends the sockets that these `open`s got: so whatever a client found was there before
+/// the ending. It is left alone, in the room that is there for it.
+pub fn end_sockets<O: Out, R: Wait>(
+    rt: &R,
+    table: &SockTable<O>,
+    opens: &[u16],
+    seats: Vec<SockSeat<O>>,
+    mut last: Vec<SockSeat<O>>,
+) -> Vec<SockSeat<O>>
+    requires seats { IsLeft table.now.rule.table.shared.table_id table.now.rule.plan seats.items }
+    requires some { 1 ≤ table.now.rule.plan.seats }
+    requires room { IsRoom 1 last }
+    requires opens { All (λ o. o < table.now.rule.plan.operations) opens.now }
+    ensures left { IsLeft table.now.rule.table.shared.table_id table.now.rule.plan result.items }
+    ensures ended { EndedBehind table.now.rule.plan opens.now seats.items result.items }
+{
+    let mut seat = table.join_seats(seats);
+    end_each(rt, table, &mut seat, opens);
+    last.push_reserved(seat);
+    last
 }

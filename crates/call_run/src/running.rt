@@ -9,7 +9,7 @@ ghost use Rattle.thread_run.specs.Crew.{IsLeft, AreBack};
 ghost use Rattle.call_run.specs.Threads.{ids_of, MayRunAll, RanOn};
 ghost use Rattle.call_run.specs.Crew.{AreLeft, IsCast, IsCrew, CrewRan};
 
-use crate::failing::end_each;
+use crate::failing::end_sockets;
 use crate::hiring::{Room, hire, hire_all, room_for, rooms_for};
 use crate::leaving::{Left, hand_in, hand_in_all, room_to_leave};
 use crate::opened::{Opening, opened_names, openings};
@@ -49,7 +49,7 @@ pub struct NoRun<O: Out> {
     pub outs: Vec<O>,
 }
 
-/// All that a run needs of memory before its tables are made.
+/// All that a run needs of memory before its tables are made. `last` has room for the seat that takes in all others.
 #[derive(Drop)]
 pub struct Cast<O: Out> {
     pub main: Room<O>,
@@ -58,6 +58,7 @@ pub struct Cast<O: Out> {
     pub openings: Vec<Opening>,
     pub names: Vec<u16>,
     pub left: Left<O>,
+    pub last: Vec<SockSeat<O>>,
 }
 
 fn prepare<O: Out>(
@@ -73,6 +74,7 @@ fn prepare<O: Out>(
     let names = Vec::with_capacity(alloc, openings.len())?;
     let workers = Vec::with_capacity(alloc, count)?;
     let left = room_to_leave(alloc, count + 1)?;
+    let last = Vec::with_capacity(alloc, 1)?;
     let main = room_for(alloc, setup)?;
     let rooms = rooms_for(alloc, clients)?;
     Ok(Cast {
@@ -82,6 +84,7 @@ fn prepare<O: Out>(
         openings,
         names,
         left,
+        last,
     })
 }
 
@@ -93,6 +96,7 @@ pub struct Crew<O: Out> {
     pub openings: Vec<Opening>,
     pub names: Vec<u16>,
     pub left: Left<O>,
+    pub last: Vec<SockSeat<O>>,
 }
 
 /// Each client gets its seats, and the passes of its links.
@@ -119,6 +123,7 @@ fn crew_of<O: Out>(
         openings,
         names,
         left,
+        last,
     } = cast;
     passes.reverse();
     let Some(seat) = dealt.pop() else {
@@ -143,11 +148,12 @@ fn crew_of<O: Out>(
         openings,
         names,
         left,
+        last,
     }
 }
 
 /// Main makes the setup. Then each client makes its operations, on a thread of its own, once it found what the setup opened.
-/// When all have ended, main ends the sockets of these `open`s.
+/// When all have ended, main takes in their seats, and ends the sockets of these `open`s.
 fn run_crew<O: Out + Send, G: Gate + Sync, R: Threads + Wait + Sync>(
     rt: &R,
     tables: &Tables<O>,
@@ -165,6 +171,7 @@ fn run_crew<O: Out + Send, G: Gate + Sync, R: Threads + Wait + Sync>(
         openings,
         mut names,
         mut left,
+        last,
     } = crew;
     main.work(rt, tables, &[], &OpenGate);
     opened_names(
@@ -173,10 +180,23 @@ fn run_crew<O: Out + Send, G: Gate + Sync, R: Threads + Wait + Sync>(
         &mut names,
     );
     run_workers(rt, tables, names.as_slice(), gate, workers.as_mut_slice());
-    end_each(rt, &tables.socks, &mut main.caller.seat, opens);
     hand_in(main, &mut left);
     hand_in_all(workers, &mut left);
-    left
+    let Left {
+        seats,
+        ids,
+        told,
+        ended,
+        short,
+    } = left;
+    let seats = end_sockets(rt, &tables.socks, opens, seats, last);
+    Left {
+        seats,
+        ids,
+        told,
+        ended,
+        short,
+    }
 }
 
 /// The table of sockets ends.

@@ -45,7 +45,7 @@ module _ (slot : ℕ) (n : Note Asked) where
   stands_by m ns rest true (suc j) e = stands_later m ns (rest j e)
   stands_by m ns rest false j e = stands_later m ns (rest j e)
 
-  noted_place : (ns : List (Noted Asked)) (i : ℕ) → slice_get (events ns) i ≡ Some (record { slot = slot; note = n }) → Stands ns
+  pub noted_place : (ns : List (Noted Asked)) (i : ℕ) → slice_get (events ns) i ≡ Some (record { slot = slot; note = n }) → Stands ns
   noted_place [] i e = absurd (cc)
   noted_place (m ∷ ns) i e = stands_by m ns (noted_place ns) (is_event m.note) i e
 

@@ -65,3 +65,15 @@ end_later v w grows x e = record { slot = e.slot; first = e.first; low = e.low; 
 
 pub ends_later : (v w : View Asked) → ((slot : ℕ) (g : Note Asked → ℕ) → total g (notes_of slot v.notes) ≤ total g (notes_of slot w.notes)) → (xs : List Told) → AreEnds v xs → AreEnds w xs
 ends_later v w grows xs a = all_then (IsEndOf v) (IsEndOf w) xs (end_later v w grows) a
+
+-- and its id is in one of so many slots
+pub record IsEndIn (slots : ℕ) (v : View Asked) (x : Told) : Type 0 where
+  pub is : IsEndOf v x
+  pub inside : is.slot < slots
+
+abbrev pub AreEndsIn : ℕ → View Asked → List Told → Type 0
+AreEndsIn slots v told = AllByRecursion (IsEndIn slots v) told
+
+pub ends_in_later : (slots : ℕ) (v w : View Asked) → ((slot : ℕ) (g : Note Asked → ℕ) → total g (notes_of slot v.notes) ≤ total g (notes_of slot w.notes)) → (xs : List Told) → AreEndsIn slots v xs → AreEndsIn slots w xs
+unfolding end_later
+ends_in_later slots v w grows xs a = all_then (IsEndIn slots v) (IsEndIn slots w) xs (λ x e. record { is = end_later v w grows x e.is; inside = e.inside }) a

@@ -103,7 +103,7 @@ word_is x word k h = dite (ℕ_discrete k.place x)
     (λ n. absurd (let a = pair-else_first x word k.place k.word n in omega arith))
 
 -- the lock of a range with a call
-lock_of : (f o : ℕ) (n : Note Asked) → 0 < is_locked_for f o n → (call : Asked) × (n ≡ Locker f call) × (call.operation ≡ o)
+pub lock_of : (f o : ℕ) (n : Note Asked) → 0 < is_locked_for f o n → (call : Asked) × (n ≡ Locker f call) × (call.operation ≡ o)
 lock_of f o (Locker g c) h = dite (ℕ_discrete g f)
     (λ e. dite (ℕ_discrete c.operation o) (λ d. (c, ap (λ (y : ℕ). Locker y c) e, d)) (λ n. absurd (let a = pair-else f o g c.operation n in omega arith)))
     (λ n. absurd (let a = pair-else_first f o g c.operation n in omega arith))

@@ -1,5 +1,5 @@
 -- What a client notes, keeps in mind and tells of calls by its run: what it knows it knows still, it stores an id for an operation once for each call that is this operation, and what it tells are ends of calls that it had locked.
-use Rattle.std.proofs.Common.{◌≡◌, ℕ, zero, suc, ◌+◌, ◌≤◌, inl, inr, true, false, List, [], ◌∷◌, Some, None, take, drop, refl, sym, ap, ◌∙◌, subst, arith}
+use Rattle.std.proofs.Common.{◌≡◌, ℕ, zero, suc, ◌+◌, ◌<◌, ◌≤◌, inl, inr, true, false, List, [], ◌∷◌, Some, None, take, drop, refl, sym, ap, ◌∙◌, subst, arith}
 use Rattle.std.specs.Prelude.{Option as Maybe}
 use Rattle.std.specs.List.{AllByRecursion}
 use Rattle.std.proofs.lemmas.List.{drop_all}
@@ -54,7 +54,7 @@ use Rattle.call_client.specs.declared.caller.Caller.{Caller}
 use Rattle.call_client.specs.Acting.{Stand, stand, both_of, letter_of, Acted}
 use Rattle.call_client.specs.Running.{Course, RetriedHere, Made, Ran, begins, RunBy}
 use Rattle.call_told.specs.Least.{is_locked_for}
-use Rattle.call_told.proofs.Ends.{HasLocked, got_locked, IsEndOf, AreEnds, ends_later}
+use Rattle.call_told.proofs.Ends.{HasLocked, got_locked, IsEndIn, AreEndsIn, ends_in_later}
 use Rattle.call_told.proofs.Growing.{Grows, grows_same, grows_then, quiet_grows, did_grows, ended_grows, post_grows, kept_grows}
 use Rattle.call_told.proofs.Lists.{all_both, all_at}
 use Rattle.call_told.proofs.Runs.{none_left}
@@ -89,7 +89,7 @@ module _ (q : id_plan.Plan) (operation : ℕ) where
   -- so many ids more are stored for this operation at most
   pub record Moves (n : ℕ) (s t : CallStand) : Type 0 where
     pub grows : Grows (call_word q operation) n s.view t.view
-    pub ends : AreEnds s.view s.books.told → AreEnds t.view t.books.told
+    pub ends : AreEndsIn q.slots s.view s.books.told → AreEndsIn q.slots t.view t.books.told
 
   abbrev place : ℕ
   place = call_word q operation
@@ -102,16 +102,19 @@ module _ (q : id_plan.Plan) (operation : ℕ) where
   in_turn s u t a b = moves_then 0 0 0 s u t (omega arith) a b
 
   moves_seen : (n : ℕ) (s t : CallStand) → Grows place n s.view t.view → t.books.told ≡ s.books.told → Moves n s t
-  moves_seen n s t g e = record { grows = g; ends = λ h. subst (AreEnds t.view) (sym e) (ends_later s.view t.view g.notes s.books.told h) }
+  moves_seen n s t g e = record { grows = g; ends = λ h. subst (AreEndsIn q.slots t.view) (sym e) (ends_in_later q.slots s.view t.view g.notes s.books.told h) }
 
   moves_same : (n : ℕ) (s t : CallStand) → t ≡ s → Moves n s t
   moves_same n s t e = moves_seen n s t (grows_same place n s.view t.view (ap (λ (y : CallStand). y.view) e)) (ap (λ (y : CallStand). y.books.told) e)
 
   -- ## Errors of calls
 
-  -- the call of a lock
+  -- the call of a lock, whose slot is one of the table's
   abbrev HasIt : IdLock Asked → View Asked → Type 0
-  HasIt k v = HasLocked k.slot (parts k.word.0).first k.content.operation v
+  HasIt k v = (k.slot < q.slots) × HasLocked k.slot (parts k.word.0).first k.content.operation v
+
+  next_it : (k l : IdLock Asked) (v w : View Asked) → ((j : ℕ) (g : Note Asked → ℕ) → total g (notes_of j v.notes) ≤ total g (notes_of j w.notes)) → l.slot ≡ k.slot → (parts l.word.0).first ≡ (parts k.word.0).first → l.content ≡ k.content → HasIt k v → HasIt l w
+  next_it k l v w grows slot first content h = (subst (λ (n : ℕ). n < q.slots) (sym slot) h.0, next_locked k l v w grows slot first content h.1)
 
   lock_ends : (k : IdLock Asked) (code : ℕ) (s t : CallStand) → HasIt k s.view → EndedWith k code s t → Moves 0 s t
   lock_ends k code s t has e = record { grows = grown; ends = λ h. by h e.tells }
@@ -119,18 +122,21 @@ module _ (q : id_plan.Plan) (operation : ℕ) where
       grown : Grows place 0 s.view t.view
       grown = ended_grows place k.slot s.view t.view [] (one k.slot (Ended (parts k.word.0).first)) e.ended
 
-      now : IsEndOf t.view (failed k code)
+      now : IsEndIn q.slots t.view (failed k code)
       now = record {
-        slot = k.slot;
-        first = (parts k.word.0).first;
-        low = (let a = k.fits.low in omega arith);
-        is_end = λ id. refl;
-        locked = (let a = grown.notes k.slot (is_locked_for (parts k.word.0).first k.content.operation) in omega arith);
+        is = record {
+          slot = k.slot;
+          first = (parts k.word.0).first;
+          low = (let a = k.fits.low in omega arith);
+          is_end = λ id. refl;
+          locked = (let a = grown.notes k.slot (is_locked_for (parts k.word.0).first k.content.operation) in let b = has.1 in omega arith);
+        };
+        inside = has.0;
       }
 
-      by : AreEnds s.view s.books.told → Tells (failed k code) s.books t.books → AreEnds t.view t.books.told
-      by h (told is) = subst (AreEnds t.view) (sym (ap (λ (b : Books). b.told) is)) (all_both (IsEndOf t.view) s.books.told (failed k code ∷ []) (ends_later s.view t.view grown.notes s.books.told h) (now, tt))
-      by h (lost is) = subst (AreEnds t.view) (sym (ap (λ (b : Books). b.told) is)) (ends_later s.view t.view grown.notes s.books.told h)
+      by : AreEndsIn q.slots s.view s.books.told → Tells (failed k code) s.books t.books → AreEndsIn q.slots t.view t.books.told
+      by h (told is) = subst (AreEndsIn q.slots t.view) (sym (ap (λ (b : Books). b.told) is)) (all_both (IsEndIn q.slots t.view) s.books.told (failed k code ∷ []) (ends_in_later q.slots s.view t.view grown.notes s.books.told h) (now, tt))
+      by h (lost is) = subst (AreEndsIn q.slots t.view) (sym (ap (λ (b : Books). b.told) is)) (ends_in_later q.slots s.view t.view grown.notes s.books.told h)
 
   starved_ends : (k : IdLock Asked) (s t : CallStand) → HasIt k s.view → EndedWith k EINTERNAL (record { view = s.view; books = starving s.books }) t → Moves 0 s t
   starved_ends k s t has e = let m = lock_ends k EINTERNAL (record { view = s.view; books = starving s.books }) t has e in record { grows = m.grows; ends = m.ends }
@@ -142,26 +148,26 @@ module _ (q : id_plan.Plan) (operation : ℕ) where
   decided (handling.goes_on s k code attempt t u l next of a b e rest) has =
       let g = did_grows place k.slot s.view u.view _ _ e.unlocked.3 in let r = e.unlocked.4.1 in
       in_turn s u t (moves_seen 0 s u g (ap (λ (y : Books). y.told) e.kept))
-      (decided rest (next_locked k l s.view u.view g.notes e.unlocked.0 (ap (λ (w : Parts). w.first) r.left.1 ∙ r.same_id) e.unlocked.1 has))
+      (decided rest (next_it k l s.view u.view g.notes e.unlocked.0 (ap (λ (w : Parts). w.first) r.left.1 ∙ r.same_id) e.unlocked.1 has))
 
-  handled : (slots id code : ℕ) (attempt : Maybe ℕ) (answer : Posted Asked) (u s t : CallStand) → PostOk slots u.view s.view id code attempt answer → Handled code attempt answer s t → Moves 0 s t
-  handled slots id code attempt (HasLock k) u s t post d = decided d (got_locked k.slot u.view s.view post.4.0 (parts k.word.0) k.content post.4.1)
-  handled slots id code attempt IsQueued u s t post e = moves_same 0 s t e
-  handled slots id code attempt (Gone found) u s t post e = moves_same 0 s t e
-  handled slots id code attempt (Stale current) u s t post e = moves_same 0 s t e
-  handled slots id code attempt (Crowded first second) u s t post e = moves_same 0 s t e
+  handled : (id code : ℕ) (attempt : Maybe ℕ) (answer : Posted Asked) (u s t : CallStand) → PostOk q.slots u.view s.view id code attempt answer → Handled code attempt answer s t → Moves 0 s t
+  handled id code attempt (HasLock k) u s t post d = decided d (post.1, got_locked k.slot u.view s.view post.4.0 (parts k.word.0) k.content post.4.1)
+  handled id code attempt IsQueued u s t post e = moves_same 0 s t e
+  handled id code attempt (Gone found) u s t post e = moves_same 0 s t e
+  handled id code attempt (Stale current) u s t post e = moves_same 0 s t e
+  handled id code attempt (Crowded first second) u s t post e = moves_same 0 s t e
 
-  posted : (slots : ℕ) (s : CallStand) (id code : ℕ) (attempt : Maybe ℕ) (t : CallStand) → PostedBy slots s id code attempt t → Moves 0 s t
-  posted slots s id code attempt t p =
+  posted : (s : CallStand) (id code : ℕ) (attempt : Maybe ℕ) (t : CallStand) → PostedBy q.slots s id code attempt t → Moves 0 s t
+  posted s id code attempt t p =
       let v = p.1.view in let u : CallStand = record { view = v; books = s.books } in
-      in_turn s u t (moves_seen 0 s u (post_grows place slots s.view v id code attempt p.0 p.1.post) refl) (handled slots id code attempt p.0 s u t p.1.post p.1.handled)
+      in_turn s u t (moves_seen 0 s u (post_grows place q.slots s.view v id code attempt p.0 p.1.post) refl) (handled id code attempt p.0 s u t p.1.post p.1.handled)
 
   -- an id was found noted
   seen_id : (number id : ℕ) (s : CallStand) → Moves 0 s (found_id q number id s)
   seen_id number id s = let u = found_id q number id s in moves_seen 0 s u (kept_grows place 0 s.view u.view (call_word q number) false id refl (omega arith)) refl
 
   timed_out : (number : ℕ) (by : Outcome) (s t : CallStand) → TimedOut q number by s t → Moves 0 s t
-  timed_out number by s t h = let u = found_id q number h.id s in in_turn s u t (seen_id number h.id s) (posted q.slots u h.id ERPCTIMEDOUT None t (h.answer, h.posted))
+  timed_out number by s t h = let u = found_id q number h.id s in in_turn s u t (seen_id number h.id s) (posted u h.id ERPCTIMEDOUT None t (h.answer, h.posted))
 
   expired_by : (number : ℕ) (by : Outcome) (s t : CallStand) → ExpiredBy q number by s t → Moves 0 s t
   expired_by number outcome.NotBegun s t h = moves_same 0 s t h.same
@@ -179,20 +185,20 @@ module _ (q : id_plan.Plan) (operation : ℕ) where
 
   -- ## Messages
 
-  told_drop : (slots : ℕ) (msg : Undelivered) (code : ℕ) (s t : CallStand) → ToldDrop slots msg code s t → Moves 0 s t
-  told_drop slots msg code s t (of_send e is) = moves_same 0 s t is
-  told_drop slots msg code s t (of_call ne p) = posted slots s msg.owner code (Some msg.label.attempt) t p
+  told_drop : (msg : Undelivered) (code : ℕ) (s t : CallStand) → ToldDrop q.slots msg code s t → Moves 0 s t
+  told_drop msg code s t (of_send e is) = moves_same 0 s t is
+  told_drop msg code s t (of_call ne p) = posted s msg.owner code (Some msg.label.attempt) t p
 
   module _ {O : Type 0} (state : O → OutState) (p : Plan) where
-    dropped_all : (slots id : ℕ) (v : sock_view.View) (s : CallStand) (w : sock_view.View) (t : CallStand) → DroppedAll state p slots id v s w t → Moves 0 s t
-    dropped_all slots id v s _ _ draining.none = moves_same 0 s s refl
-    dropped_all slots id v s _ _ (draining.one_more u r w t more one) = in_turn s r t (dropped_all slots id v s u r more) (told_drop slots one.msg one.code r t one.told)
+    dropped_all : (id : ℕ) (v : sock_view.View) (s : CallStand) (w : sock_view.View) (t : CallStand) → DroppedAll state p q.slots id v s w t → Moves 0 s t
+    dropped_all id v s _ _ draining.none = moves_same 0 s s refl
+    dropped_all id v s _ _ (draining.one_more u r w t more one) = in_turn s r t (dropped_all id v s u r more) (told_drop one.msg one.code r t one.told)
 
-    drained : (slots id : ℕ) (v : sock_view.View) (s : CallStand) (w : sock_view.View) (t : CallStand) → Drained state p slots id v s w t → Moves 0 s t
-    drained slots id v s w t d = dropped_all slots id v s d.last t d.dropped
+    drained : (id : ℕ) (v : sock_view.View) (s : CallStand) (w : sock_view.View) (t : CallStand) → Drained state p q.slots id v s w t → Moves 0 s t
+    drained id v s w t d = dropped_all id v s d.last t d.dropped
 
     delivered : (sock : SockRef) (msg : Letter) (by : Maybe Outcome) (v : sock_view.View) (s : CallStand) (w : sock_view.View) (t : CallStand) → DeliveredCalling state p q.slots sock msg by v s w t → Moves 0 s t
-    delivered sock msg None v s w t d = drained q.slots sock.id.0 d.taken s d.through.wrote t d.through.drained
+    delivered sock msg None v s w t d = drained sock.id.0 d.taken s d.through.wrote t d.through.drained
     delivered sock msg (Some (outcome.Gone found)) v s w t d = moves_same 0 s t d.1
     delivered sock msg (Some outcome.Full) v s w t d = moves_same 0 s t d.1
     delivered sock msg (Some _) v s w t d = elim d [ ]
@@ -208,11 +214,11 @@ module _ (q : id_plan.Plan) (operation : ℕ) where
     -- ## Attempts
 
     delivered_by : (socket : SocketId) (msg : Letter) (s t : Both) → DeliveredBy state p q socket msg s t → Moves 0 s.calls t.calls
-    delivered_by socket msg s t (went_out w) = drained q.slots socket.0 w.taken s.calls w.through.wrote t.calls w.through.drained
-    delivered_by socket msg s t (came_back by c) = posted q.slots s.calls msg.owner (code_for by) (Some msg.label.attempt) t.calls c.posted
+    delivered_by socket msg s t (went_out w) = drained socket.0 w.taken s.calls w.through.wrote t.calls w.through.drained
+    delivered_by socket msg s t (came_back by c) = posted s.calls msg.owner (code_for by) (Some msg.label.attempt) t.calls c.posted
 
     pub attempted_by : (socket : SocketId) (msg : Letter) (s t : Both) → AttemptedBy state p q socket msg s t → Moves 0 s.calls t.calls
-    attempted_by socket msg s t (nowhere g) = posted q.slots s.calls msg.owner EFAILEDSOCKET (Some msg.label.attempt) t.calls g.posted
+    attempted_by socket msg s t (nowhere g) = posted s.calls msg.owner EFAILEDSOCKET (Some msg.label.attempt) t.calls g.posted
     attempted_by socket msg s t (over_link u l d) = in_turn s.calls u.calls t.calls
         (moves_seen 0 s.calls u.calls (kept_grows place 0 s.calls.view u.calls.view (at_word q msg.label.operation) true _ l.stored (at_no_call q operation msg.label.operation)) (ap (λ (y : Books). y.told) l.books)) (delivered_by socket msg u t d)
 
@@ -226,8 +232,8 @@ module _ (q : id_plan.Plan) (operation : ℕ) where
     begun_by asked id s t h = let n = only operation asked.operation in moves_then n 0 n s.calls h.at.calls t.calls (omega arith) (made_for asked id h.socket s h.at h.made_for) (attempted_by h.socket _ h.at t h.attempted)
 
     went_to : (name : ℕ) (msg : Letter) (s t : Both) → WentTo state p q name msg s t → Moves 0 s.calls t.calls
-    went_to name msg s t (stray a e h) = posted q.slots s.calls msg.owner EFAILEDSOCKET (Some msg.label.attempt) t.calls h
-    went_to name msg s t (unopened f h) = posted q.slots s.calls msg.owner EFAILEDSOCKET (Some msg.label.attempt) t.calls h
+    went_to name msg s t (stray a e h) = posted s.calls msg.owner EFAILEDSOCKET (Some msg.label.attempt) t.calls h
+    went_to name msg s t (unopened f h) = posted s.calls msg.owner EFAILEDSOCKET (Some msg.label.attempt) t.calls h
     went_to name msg s t (to_socket socket u f e a) = in_turn s.calls u.calls t.calls (moves_same 0 s.calls u.calls e) (attempted_by socket msg u t a)
 
     locked : (r : Retry) (k : IdLock Asked) (s t : Both) → Locked state p q r k s t → Moves 0 s.calls t.calls
@@ -239,7 +245,7 @@ module _ (q : id_plan.Plan) (operation : ℕ) where
         let x : CallStand = record { view = o.view; books = u.calls.books } in
         let g = did_grows place k.slot u.calls.view o.view _ _ o.unlocked.3 in let n = o.unlocked.4.1 in
         in_turn s.calls u.calls t.calls (locked r k s u l) (in_turn u.calls x t.calls (moves_seen 0 u.calls x g refl)
-        (decided o.decided (next_locked k o.next u.calls.view o.view g.notes o.unlocked.0 (ap (λ (w : Parts). w.first) n.left.1 ∙ n.same_id) o.unlocked.1 (got_locked k.slot s.calls.view u.calls.view l.got.word (parts k.word.0) k.content l.got.got))))
+        (decided o.decided (next_it k o.next u.calls.view o.view g.notes o.unlocked.0 (ap (λ (w : Parts). w.first) n.left.1 ∙ n.same_id) o.unlocked.1 (l.got.inside, got_locked k.slot s.calls.view u.calls.view l.got.word (parts k.word.0) k.content l.got.got))))
     retried_by r s t (went_again k u l w) =
         let x : CallStand = record { view = w.view; books = u.calls.books } in
         in_turn s.calls u.calls t.calls (locked r k s u l) (in_turn u.calls x t.calls (moves_seen 0 u.calls x (did_grows place k.slot u.calls.view w.view _ _ w.unlocked.4) refl) (went_to _ _ (record { socks = u.socks; calls = x }) t w.went))

@@ -117,7 +117,7 @@ outcome_is id ended f (pos zero) None = refl
 outcome_is id ended f (pos (suc n)) o = refl
 outcome_is id ended f (negsuc n) o = refl
 
-ending_is : (id ended : ℕ) (f : model.Frame) → ends_of id (ending_of ended f) ≡ only id ended
+pub ending_is : (id ended : ℕ) (f : model.Frame) → ends_of id (ending_of ended f) ≡ only id ended
 ending_is id ended f = outcome_is id ended f f.meta.compress_type f.meta.response
 
 pub version_low : (id : ℕ) → version_of id < 4294967296

@@ -3,8 +3,6 @@
 
 mod draining;
 mod sending;
-#[cfg(test)]
-mod tests;
 
 pub use draining::write_through;
 pub use sending::{see_through_calling, send_calling};

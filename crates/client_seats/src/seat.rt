@@ -225,9 +225,9 @@ impl Seat {
         Ok(())
     }
 
-    /// Before its step: what this needs in hand is made. The frame of a call's first attempt is made in the step that tells its
-    /// id, and that of a retry once its call is in hand. The program stays.
-    pub fn prepare(&mut self, alloc: Global, pool: &mut BlockPool) -> Result<(), NoMemory>
+    /// What the step needs in hand of the call is made. The program stays.
+    #[inline(never)]
+    fn prepare_call(&mut self, alloc: Global, pool: &mut BlockPool) -> Result<(), NoMemory>
         ensures { OnOk result ((sizes : Sizes) → IsPrepared sizes (seat_data self.old) (seat_data self.new)) }
     {
         match self.point {
@@ -240,6 +240,20 @@ impl Seat {
                 self.frame(alloc, pool, id, number)?;
                 self.point = Point::Retry(self.retrying(id, number), step);
                 Ok(())
+            }
+            _ => Ok(()),
+        }
+    }
+
+    /// Before its step: what this needs in hand is made. The frame of a call's first attempt is made in the step that tells its
+    /// id, and that of a retry once its call is in hand. The program stays.
+    #[inline(always)]
+    pub fn prepare(&mut self, alloc: Global, pool: &mut BlockPool) -> Result<(), NoMemory>
+        ensures { OnOk result ((sizes : Sizes) → IsPrepared sizes (seat_data self.old) (seat_data self.new)) }
+    {
+        match self.point {
+            Point::Call(CallStep::StoreCall(_, _)) | Point::Retry(_, _) => {
+                self.prepare_call(alloc, pool)
             }
             _ => Ok(()),
         }
@@ -378,8 +392,9 @@ impl Seat {
         self.waiting.push_reserved(Kept { id, attempt });
     }
 
-    /// The seat goes on behind a step.
-    pub fn follow(&mut self, sizes: Sizes, next: Next, outcomes: &mut [Option<Outcome>])
+    /// The seat goes on behind a step that ended its operation, or that ended a call or keeps a retry.
+    #[inline(never)]
+    fn follow_end(&mut self, sizes: Sizes, next: Next, outcomes: &mut [Option<Outcome>])
         requires room { (o name : ℕ) (id : SocketId) → next ≡ Next.Held o name id → vec_len self.old.held < vec_capacity self.old.held }
         requires more { IsFlat next ⊎ (vec_len self.old.waiting < vec_capacity self.old.waiting) }
         ensures { FollowsOn sizes (seat_data self.old) (seat_data self.new) (next_program (around sizes (seat_data self.old)) next) outcomes.old outcomes.new }
@@ -402,6 +417,18 @@ impl Seat {
                 self.point = Point::Decide(error, after, DecideStep::Take(word));
             }
             flat => self.follow_flat(sizes, flat, outcomes),
+        }
+    }
+
+    /// The seat goes on behind a step. Mostly it stays in its operation.
+    pub fn follow(&mut self, sizes: Sizes, next: Next, outcomes: &mut [Option<Outcome>])
+        requires room { (o name : ℕ) (id : SocketId) → next ≡ Next.Held o name id → vec_len self.old.held < vec_capacity self.old.held }
+        requires more { IsFlat next ⊎ (vec_len self.old.waiting < vec_capacity self.old.waiting) }
+        ensures { FollowsOn sizes (seat_data self.old) (seat_data self.new) (next_program (around sizes (seat_data self.old)) next) outcomes.old outcomes.new }
+    {
+        match next {
+            Next::Point(point) => self.point = point,
+            other => self.follow_end(sizes, other, outcomes),
         }
     }
 }

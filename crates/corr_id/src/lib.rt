@@ -10,8 +10,6 @@ mod opening;
 mod plays;
 mod posts;
 mod table;
-#[cfg(test)]
-mod tests;
 mod unlocks;
 mod words;
 

@@ -8,7 +8,5 @@ mod lines;
 mod output;
 mod piece;
 mod print;
-#[cfg(test)]
-mod tests;
 
 pub use print::{PrintFault, StreamEnd, print_frames};

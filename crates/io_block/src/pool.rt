@@ -74,14 +74,24 @@ impl BlockPool {
 
     /// Lets a reference to a block go. Where it was the last one the block came free, and is taken
     /// back; the bytes of a block that is in use elsewhere stay as they are.
+    #[inline(always)]
     pub fn recycle(&mut self, piece: Bytes)
         ensures at_least { self.old ≤ self.new }
         ensures at_most { self.new ≤ min KEPT_BLOCKS (self.old + 1) }
     {
         let _ = self.kept.count();
-        if !piece.is_unique() {
-            return;
+        if piece.is_unique() {
+            self.take_back(piece);
         }
+    }
+
+    // Takes the block back that the last reference to it is given up for.
+    #[inline(never)]
+    fn take_back(&mut self, piece: Bytes)
+        ensures at_least { self.old ≤ self.new }
+        ensures at_most { self.new ≤ min KEPT_BLOCKS (self.old + 1) }
+    {
+        let _ = self.kept.count();
         let Ok(mut block) = piece.try_into_mut() else {
             return;
         };
@@ -117,6 +127,7 @@ impl BlockPool {
 
     /// Copies the bytes behind those that were written last, where the rest of that block takes
     /// them, and into a whole block otherwise; returns a reference to them.
+    #[inline(always)]
     pub fn write(&mut self, bytes: &[u8]) -> Result<Bytes, NoMemory>
         requires { length bytes.now ≤ BLOCK_BYTES }
         ensures ok { IfOk result (λ piece. piece ≡ bytes.now) }

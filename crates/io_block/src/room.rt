@@ -35,6 +35,7 @@ impl Room {
         }
     }
 
+    #[inline(always)]
     pub fn left(&self) -> usize
         ensures value { result ≡ self.now }
         ensures at_most { result ≤ BLOCK_BYTES }
@@ -43,6 +44,7 @@ impl Room {
     }
 
     /// Copies the bytes into the block, and returns a reference to them.
+    #[inline(always)]
     pub fn write(&mut self, bytes: &[u8]) -> Result<Bytes, NoMemory>
         requires { length bytes.now ≤ self.old }
         ensures ok { IfOk result (λ piece. piece ≡ bytes.now) }
@@ -60,6 +62,7 @@ impl Room {
     }
 
     /// A whole block: the same one where nothing refers to it any more, or another.
+    #[inline(never)]
     pub fn renew(&mut self, kept: &mut Kept) -> Result<(), NoMemory>
         ensures room { OnOk result (self.new ≡ BLOCK_BYTES) }
         ensures kept { kept.new ≤ kept.old }

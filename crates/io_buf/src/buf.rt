@@ -46,6 +46,7 @@ impl IoBuf {
     ghost use Rattle.io_buf.specs.Buffer.{piece_at, IsPiece, IsSize, AddsPiece};
 
     /// An empty buffer. It takes no memory, nor do two references.
+    #[inline(always)]
     pub fn new(alloc: Global) -> IoBuf
         ensures items { result.items ≡ [] }
         ensures sizes { result.sizes ≡ [] }
@@ -59,6 +60,7 @@ impl IoBuf {
     }
 
     /// How many bytes it has.
+    #[inline(always)]
     pub fn len(&self) -> usize
         ensures { result ≡ length self.now.items }
     {
@@ -104,6 +106,7 @@ impl IoBuf {
     }
 
     /// Makes room for n references, so that adding them takes no memory.
+    #[inline(always)]
     pub fn reserve_refs(&mut self, n: usize) -> Result<(), NoMemory>
         ensures items { self.new.items ≡ self.old.items }
         ensures sizes { self.new.sizes ≡ self.old.sizes }
@@ -116,6 +119,19 @@ impl IoBuf {
         if n <= self.pieces.capacity() - refs {
             return Ok(());
         }
+        self.grow_refs(n)
+    }
+
+    // Makes room for n references in memory.
+    #[inline(never)]
+    fn grow_refs(&mut self, n: usize) -> Result<(), NoMemory>
+        ensures items { self.new.items ≡ self.old.items }
+        ensures sizes { self.new.sizes ≡ self.old.sizes }
+        ensures ok { OnOk result (n ≤ self.new.spare) }
+        ensures err { OnErr result (self.new ≡ self.old) }
+        ensures spare { self.old.spare ≤ self.new.spare }
+    {
+        let refs = self.pieces.len();
         if n > MOST_REFS - refs {
             return Err(NoMemory);
         }
@@ -126,6 +142,7 @@ impl IoBuf {
     }
 
     // Adds a reference, for which there is room.
+    #[inline(always)]
     fn push_reserved(&mut self, piece: Bytes)
         requires room { 0 < self.old.spare }
         requires piece { IsPiece piece }

@@ -1,7 +1,8 @@
-ghost use Rattle.std.specs.Prelude.{◌≡◌, ◌+◌, ◌^◌, ◌<◌, ◌≤◌, [], ◌∷◌, ◌++◌, length, drop, max, slice_index_or, MatchOption, OnOk, OnErr};
+ghost use Rattle.std.specs.Prelude.{◌≡◌, ◌+◌, ◌^◌, ◌<◌, ◌≤◌, [], ◌∷◌, ◌++◌, length, drop, max, slice_index_or, None, MatchOption, OnOk, OnErr};
 ghost use Rattle.std.specs.Option.{option_to_list};
 
 use bytes::Bytes;
+use io_block::BlockPool;
 use std::alloc::{AllocError, Global};
 use std::collections::VecDeque;
 use std::marker::Model;
@@ -27,6 +28,7 @@ impl Model for Refs {
 }
 
 impl Refs {
+    #[inline(always)]
     pub(crate) fn new(alloc: Global) -> Refs
         ensures items { result.items ≡ [] }
         ensures capacity { result.capacity ≡ 2 }
@@ -41,6 +43,7 @@ impl Refs {
         }
     }
 
+    #[inline(always)]
     pub(crate) fn len(&self) -> usize
         ensures { result ≡ length self.now.items }
     {
@@ -53,12 +56,14 @@ impl Refs {
         2 + self.rest.len()
     }
 
+    #[inline(always)]
     pub(crate) fn capacity(&self) -> usize
         ensures { result ≡ self.now.capacity }
     {
         2 + self.rest.capacity()
     }
 
+    #[inline(always)]
     pub(crate) fn get(&self, place: usize) -> &Bytes
         requires { place < length self.now.items }
         ensures value { result.now ≡ slice_index_or self.now.items place result.now }
@@ -78,6 +83,7 @@ impl Refs {
         }
     }
 
+    #[inline(always)]
     pub(crate) fn push_back_reserved(&mut self, piece: Bytes)
         requires { length self.old.items < self.old.capacity }
         ensures items { self.new.items ≡ self.old.items ++ piece ∷ [] }
@@ -104,11 +110,15 @@ impl Refs {
         }
     }
 
+    #[inline(always)]
     pub(crate) fn pop_front(&mut self) -> Option<Bytes>
         ensures items { self.old.items ≡ option_to_list result ++ self.new.items }
         ensures capacity { self.new.capacity ≡ self.old.capacity }
         ensures cases { MatchOption result ((self.old.items ≡ []) × (self.new ≡ self.old)) (λ _. length self.new.items + 1 ≡ length self.old.items) }
     {
+        if self.second.is_none() {
+            return mem::replace(&mut self.first, None);
+        }
         let third = self.rest.pop_front();
         let second = mem::replace(&mut self.second, third);
         mem::replace(&mut self.first, second)
@@ -128,6 +138,18 @@ impl Refs {
         mem::replace(&mut self.first, None)
     }
 
+    /// Gives each reference up where it lies, from the last to the first.
+    #[inline(never)]
+    pub(crate) fn recycle(&mut self, pool: &mut BlockPool)
+        ensures { pool.old ≤ pool.new }
+    {
+        while let Some(piece) = self.rest.pop_back() {
+            pool.recycle(piece);
+        }
+        recycle_place(&mut self.second, pool);
+        recycle_place(&mut self.first, pool);
+    }
+
     pub(crate) fn reserve_exact(&mut self, more: usize) -> Result<(), AllocError>
         requires { length self.old.items + more ≤ 2 ^ 50 }
         ensures items { self.new.items ≡ self.old.items }
@@ -142,5 +164,30 @@ impl Refs {
             0
         };
         self.rest.reserve_exact(more.saturating_sub(within))
+    }
+}
+
+// Gives the reference at a place up, and moves it out only where its block came free so.
+#[inline(always)]
+fn recycle_place(place: &mut Option<Bytes>, pool: &mut BlockPool)
+    ensures none { place.new ≡ None }
+    ensures pool { pool.old ≤ pool.new }
+{
+    if let Some(piece) = place
+        && piece.is_unique()
+    {
+        recycle_last(mem::replace(place, None), pool);
+        return;
+    }
+    *place = None;
+}
+
+// Gives the last reference to a block up.
+#[inline(never)]
+fn recycle_last(last: Option<Bytes>, pool: &mut BlockPool)
+    ensures { pool.old ≤ pool.new }
+{
+    if let Some(piece) = last {
+        pool.recycle(piece);
     }
 }

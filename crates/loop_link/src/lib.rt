@@ -8,8 +8,6 @@ mod loop_in;
 mod loop_linker;
 mod loop_peer;
 mod server;
-#[cfg(test)]
-mod tests;
 
 pub use loop_in::LoopIn;
 pub use loop_linker::LoopLinker;

@@ -6,8 +6,6 @@
 
 mod fault;
 mod message;
-#[cfg(test)]
-mod tests;
 mod values;
 mod varint;
 

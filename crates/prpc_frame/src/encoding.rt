@@ -20,6 +20,7 @@ use std::alloc::Global;
 ///
 /// The meta's attachment_size is the attachment's length, the meta has a request or a response, and
 /// the body has at most 67,108,864 bytes.
+#[inline(always)]
 pub fn encode(
     alloc: Global,
     pool: &mut BlockPool,
@@ -61,6 +62,7 @@ pub fn begins_with_one_frame()
 
 // Appends the header and the meta to an empty buffer, before so many bytes of payload and attachment.
 // The meta's size is counted first, since it stands before it. Few bytes are spelled in place.
+#[inline(never)]
 fn append_front(
     frame: &mut IoBuf,
     pool: &mut BlockPool,
@@ -151,6 +153,7 @@ fn spell_header(size: usize, behind: usize, front: &mut Vec<u8>) -> Result<(), N
 }
 
 // Appends references to the part's bytes.
+#[inline(always)]
 fn append_shared(frame: &mut IoBuf, part: &IoBuf) -> Result<(), NoMemory>
     ensures items { OnOk result (frame.new.items ≡ frame.old.items ++ part.now.items) }
     ensures sizes { OnOk result (frame.new.sizes ≡ frame.old.sizes ++ part.now.sizes) }

@@ -11,8 +11,6 @@ mod encoding;
 mod fault;
 mod frame;
 mod header;
-#[cfg(test)]
-mod tests;
 
 pub use cutter::Cutter;
 pub use encoding::{begins_with_one_frame, encode};

@@ -1,2 +1,5 @@
 pub mod CellLists
+mod Finding
+mod Insides
 pub mod Peers
+mod Repeating

@@ -1,5 +1,5 @@
 -- What a call of the other end moves.
-use Rattle.std.proofs.Common.{◌≡◌, ◌≢◌, ◌⊎◌, inl, inr, ℕ, ◌<◌, ◌≤◌, ◌+◌, ◌&&◌, Bool, true, false, List, [], ◌++◌, length, take, Some, Ok, Err, refl, ap, sym, ◌∙◌, subst, arith, rules}
+use Rattle.std.proofs.Common.{◌≡◌, ◌≢◌, ◌⊎◌, inl, inr, ℕ, ◌<◌, ◌≤◌, ◌+◌, ◌&&◌, Bool, true, false, List, [], ◌++◌, length, take, Some, Ok, refl, ap, sym, ◌∙◌, subst, arith}
 use Rattle.std.proofs.lemmas.List.{append-nil, length-append, length-take-le}
 use Rattle.sock_io.specs.declared.ending.Ending.{Ending}
 use Rattle.sock_io.specs.declared.ending.Ending.TheVariants as ending
@@ -8,8 +8,8 @@ use Rattle.sock_io.specs.declared.link.Take.TheVariants as take_
 use Rattle.sock_io.specs.Link.{IsTakeCount, given_of}
 use Rattle.sock_io.specs.declared.link.Served.{Served}
 use Rattle.sock_io.specs.declared.link.Served.TheVariants as served
-use Rattle.sock_io.specs.Peer.{PeerState, Moves, Moved, HasMoved, Grew, ServeStep, has_ended, is_done}
-use Rattle.ring_link.specs.Halves.{ReaderState, RingPeerState, SameRings, mark_at, ring_peer, way_of}
+use Rattle.sock_io.specs.Peer.{PeerState, Moved, HasMoved, Grew, ServeStep, has_ended, is_done}
+use Rattle.ring_link.specs.Halves.{ReaderState, WriterState, RingPeerState, SameRings, mark_at, ring_peer, way_of}
 
 abbrev pub Told : Served → PeerState → Type 0
 Told result new = ((result ≡ served.Done) × (is_done new ≡ true)) ⊎ ((result ≡ served.Moved) × (is_done new ≡ false))
@@ -33,7 +33,7 @@ pub moves : (p q : RingPeerState) (got gave : List ℕ) → SameRings p q → q.
 moves p q got gave same e f finished ended closed = (
   got,
   gave,
-  record { present = refl; asked = (same.2, same.3); ways = (ap way_of same.0, ap way_of same.1); took = grew p.reader.bytes q.reader.bytes got e; gave = grew p.writer.bytes q.writer.bytes gave f; finished = finished; ended = ended; closed = closed; absent = λ n. unlike n },
+  record { present = refl; asked = same.2; ways = (ap way_of same.0, ap way_of same.1); took = grew p.reader.bytes q.reader.bytes got e; gave = grew p.writer.bytes q.writer.bytes gave f; finished = finished; ended = ended; closed = closed; absent = λ n. unlike n },
 )
 
 longer : (old new got : List ℕ) → new ≡ old ++ got → 0 < length got → length old < length new
@@ -50,7 +50,7 @@ has_fetched p q got e o (inr h) = inr (inr (inl (other (has_ended p.reader.endin
 
 pub idle : (p : RingPeerState) → (p.writer.ending ≡ ending.Closed → has_ended p.reader.ending ≡ true) → Moved (ring_peer p) (ring_peer p)
 idle p closed =
-    moves p p [] [] (refl, refl, refl, refl) (sym (append-nil p.reader.bytes)) (sym (append-nil p.writer.bytes)) (λ e. (e, refl)) (λ _. (refl, refl)) closed
+    moves p p [] [] (refl, refl, (refl, refl)) (sym (append-nil p.reader.bytes)) (sym (append-nil p.writer.bytes)) (λ e. (e, refl)) (λ _. (refl, refl)) closed
 
 not_closed : (e : Ending) → e ≡ ending.Open → e ≡ ending.Closed → ⊥
 not_closed e o c = cc
@@ -84,6 +84,16 @@ pub starved : (p q : RingPeerState) (got : List ℕ) → SameRings p q → p.wri
 starved p q got rings o live kept ended more =
     moves p q got [] rings more (kept ∙ sym (append-nil p.writer.bytes)) (λ h. absurd (both_not (has_ended p.reader.ending) live h)) (λ n. absurd (n o))
     (λ c. absurd (ended_not_closed q.writer.ending ended c))
+
+-- behind the end, bytes or the mark were taken, and thrown away
+pub thrown : (p q : RingPeerState) (got : List ℕ) (result : Served) → SameRings p q → has_ended p.reader.ending ≡ false → q.writer ≡ p.writer → q.reader.bytes ≡ p.reader.bytes ++ got
+    → (0 < length got) ⊎ (has_ended q.reader.ending ≡ true) → (p.writer.ending ≡ ending.Closed → has_ended p.reader.ending ≡ true) → Told result (ring_peer q) → ServeStep (ring_peer p) (Ok result) (ring_peer q)
+thrown p q got result rings live kept more some closed told =
+    let mark : q.writer.ending ≡ p.writer.ending = ap (λ (w : WriterState). w.ending) kept in
+    told_step (ring_peer p) (ring_peer q) result
+    (moves p q got [] rings more (ap (λ (w : WriterState). w.bytes) kept ∙ sym (append-nil p.writer.bytes)) (λ h. absurd (both_not (has_ended p.reader.ending) live h)) (λ _. (mark, refl))
+    (λ c. absurd (both_not (has_ended p.reader.ending) live (closed (sym mark ∙ c)))))
+    (has_fetched p q got more live some) told
 
 no_mark : (e : Ending) → e ≡ ending.Open → e ≢ ending.Ended
 no_mark e o n = cc

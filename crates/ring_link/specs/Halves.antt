@@ -1,5 +1,5 @@
 -- The two ends of a ring, and the halves of a link over two of them, by what callers see.
-use Rattle.std.specs.Prelude.{ℕ, ◌≡◌, ◌≢◌, nat_lt, Bool, true, false, List, ◌++◌, ◌∷◌, [], length, Option, None, Some}
+use Rattle.std.specs.Prelude.{ℕ, ◌≡◌, ◌≢◌, nat_lt, Bool, true, false, List, ◌++◌, ◌∷◌, [], length, None, Some}
 use denote.RawPtr.{Ptr, block_ptr, null_ptr, block_of, count_of}
 use Rattle.std.specs.declared.alloc.Global.{Global}
 use Rattle.sock_io.specs.declared.ending.Ending.{Ending}
@@ -11,6 +11,8 @@ use Rattle.sock_io.specs.declared.link.Take.TheVariants as take_
 use Rattle.brpc_model.specs.Link.{TakeAnswer}
 use Rattle.rtrb.specs.Shared.{Names}
 use Rattle.rtrb.specs.declared.end.End.{End}
+use Rattle.loop_link.specs.Serving.{LoopInState}
+use Rattle.ring_link.specs.Inside.{InnerState, IsServing, SameAsked, inner_gave, offer_met}
 use Rattle.ring_link.specs.declared.cell.Cell.{Cell}
 use Rattle.ring_link.specs.declared.cell.MarkLast.{MarkLast}
 
@@ -53,30 +55,35 @@ pub record RingOutState : Type 0 where
 abbrev pub ring_out : RingOutState → OutState
 ring_out o = record { link = o.link; took = None; put_bytes = Some o.writer.bytes; way = way_of o.writer.ring; faults = 0; finished = has_ended o.writer.ending; clear = nat_lt 0 o.writer.places; prompt = false; again = o.again; steady = true; whole = false; answers = None }
 
--- the reading half of a link: its end of the ring, whether it answered `End` or `Closed`, and all that it answered
+-- the same as the wrapper tells it that keeps what was put
+abbrev pub told_out : RingOutState → OutState
+told_out o = record (ring_out o) { took = Some o.writer.bytes }
+
+-- the reading half of a link: its end of the ring, whether it answered `End` or `Closed`, all that it answered, and what it knows of its other end
 pub record RingInState : Type 0 where
   pub reader : ReaderState
   pub gave_end : Bool
   pub closed : Bool
   pub takes : List TakeAnswer
+  pub met : List LoopInState
 
 abbrev pub ring_in : RingInState → InState
-ring_in i = record { gave = length i.reader.bytes; gave_end = i.gave_end; closed = Some i.closed; faults = 0; gave_bytes = Some i.reader.bytes; takes = Some i.takes; closing = None; offer = None; way = way_of i.reader.ring }
+ring_in i = record { gave = length i.reader.bytes; gave_end = i.gave_end; closed = Some i.closed; faults = 0; gave_bytes = Some i.reader.bytes; takes = Some i.takes; closing = None; offer = offer_met i.met i.reader.ending; way = way_of i.reader.ring }
 
--- the other end of a link: its end of the ring from the link, and of the ring to it; whether it is the server, and after how many responses that
--- gives its end
+-- the other end of a link: its end of the ring from the link, and of the ring to it; the link in memory behind it, to which it hands what comes;
+-- and whether memory was wanting
 pub record RingPeerState : Type 0 where
   pub reader : ReaderState
   pub writer : WriterState
-  pub serve : Bool
-  pub end : Option ℕ
+  pub inner : InnerState
+  pub starved : Bool
 
 -- no call changes which rings they are, nor what it was asked to be
 abbrev pub SameRings : RingPeerState → RingPeerState → Type 0
-SameRings old new = (new.reader.ring ≡ old.reader.ring) × (new.writer.ring ≡ old.writer.ring) × (new.serve ≡ old.serve) × (new.end ≡ old.end)
+SameRings old new = (new.reader.ring ≡ old.reader.ring) × (new.writer.ring ≡ old.writer.ring) × SameAsked old.inner new.inner
 
 abbrev pub ring_peer : RingPeerState → PeerState
-ring_peer p = record { present = true; serve = p.serve; end = p.end; way_in = way_of p.reader.ring; way_out = way_of p.writer.ring; took = length p.reader.bytes; took_bytes = Some p.reader.bytes; saw_finish = has_ended p.reader.ending; gave = length p.writer.bytes; gave_bytes = Some p.writer.bytes; ending = p.writer.ending }
+ring_peer p = record { present = true; serve = p.inner.inn.peer.serve; end = p.inner.inn.peer.end; way_in = way_of p.reader.ring; way_out = way_of p.writer.ring; took = length p.reader.bytes; took_bytes = Some p.reader.bytes; saw_finish = has_ended p.reader.ending; gave = length p.writer.bytes; gave_bytes = Some p.writer.bytes; ending = p.writer.ending }
 
 -- the mark that is given at this answer of the link behind
 abbrev pub mark_at : Take → Ending
@@ -97,3 +104,14 @@ pub record IsNewRing (w : WriterState) (r : ReaderState) : Type 0 where
   pub ring : w.ring ≡ r.ring
   pub writer : w ≡ record { ring = w.ring; bytes = []; ending = ending.Open; places = 65536 }
   pub reader : r ≡ record { ring = r.ring; bytes = []; ending = ending.Open; seen = [] }
+
+-- Where memory wasn't wanting: what went out is what the link behind gave; what came in is what that took, and behind an end maybe more; and a mark
+-- that went out is that which the link behind gave behind all its bytes. What that offers belongs to it.
+pub record Repeats (l : InnerState) (r : ReaderState) (w : WriterState) : Type 0 where
+  pub served : IsServing l
+  pub gave : w.bytes ≡ inner_gave l
+  pub rest : List ℕ
+  pub took : r.bytes ≡ l.took ++ rest
+  pub goes_on : w.ending ≡ ending.Open → rest ≡ []
+  pub ended : w.ending ≡ ending.Ended → (l.inn.half.waiting ≡ []) × (l.inn.half.ending ≡ ending.Ended)
+  pub closed : w.ending ≡ ending.Closed → (l.inn.half.waiting ≡ []) × (l.inn.half.ending ≡ ending.Closed) × (rest ≡ []) × (has_ended r.ending ≡ true)

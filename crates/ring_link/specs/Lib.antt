@@ -1,2 +1,4 @@
 pub mod Cells
 pub mod Halves
+pub mod Inside
+pub mod Linker

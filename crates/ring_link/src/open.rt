@@ -1,6 +1,6 @@
 ghost use Rattle.std.specs.Prelude.{◌≡◌, [], false, length, IfOk};
 ghost use Rattle.sock_io.specs.declared.ending.Ending.TheVariants.{Open};
-ghost use Rattle.sock_io.specs.Link.{IsFresh};
+ghost use Rattle.sock_io.specs.Link.{IsFresh, IsUnused};
 ghost use Rattle.sock_io.specs.Meeting.{AreEnds, IsAskedPeer};
 ghost use Rattle.sock_io.specs.Peer.{IsNewPeer};
 ghost use Rattle.rtrb.specs.Ring.{IsPair, sent, received, known_items, known_free};
@@ -50,6 +50,7 @@ pub fn open_ring(
     ensures peer { IfOk result (λ ends. IsNewPeer (ring_peer ends.peer)) }
     ensures other { IfOk result (λ ends. IsAskedPeer spec.now (ring_peer ends.peer)) }
     ensures one { IfOk result (λ ends. AreEnds (ring_out ends.out) (ring_peer ends.peer) (ring_in ends.inn)) }
+    ensures unused { IfOk result (λ ends. (ends.out.writer.bytes ≡ []) × (ends.inn.met ≡ [])) }
     ensures there { IfOk result (λ ends. ends.out.writer.ring ≡ ends.peer.reader.ring) }
     ensures back { IfOk result (λ ends. ends.peer.writer.ring ≡ ends.inn.reader.ring) }
     ensures places { IfOk result (λ ends. (ends.out.writer.places ≡ 65536) × (ends.peer.writer.places ≡ 65536)) }
@@ -60,6 +61,20 @@ pub fn open_ring(
     Ok(Ends {
         out: RingOut::new(link, there.writer),
         inn: RingIn::new(back.reader),
-        peer: RingPeer::new(there.reader, back.writer, inner, spec),
+        peer: RingPeer::new(there.reader, back.writer, inner),
     })
+}
+
+/// The halves of a connection, whose other end gave its end at once and takes nothing.
+pub(crate) fn open_connection(alloc: Global) -> Result<(RingOut, RingIn), NoMemory>
+    ensures unused { IfOk result (λ halves. IsUnused (ring_out halves.0) (ring_in halves.1)) }
+    ensures none { IfOk result (λ halves. halves.0.writer.bytes ≡ []) }
+{
+    let Ring { writer, reader: _ } = new_ring(alloc)?;
+    let Ring {
+        writer: mut other,
+        reader,
+    } = new_ring(alloc)?;
+    other.end();
+    Ok((RingOut::new(0, writer), RingIn::new(reader)))
 }

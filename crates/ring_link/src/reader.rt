@@ -3,6 +3,7 @@ ghost use Rattle.sock_io.specs.Link.{IsTakeCount, given_of};
 ghost use Rattle.sock_io.specs.Peer.{has_ended};
 ghost use Rattle.ring_link.specs.Cells.{IsOpen};
 ghost use Rattle.ring_link.specs.Halves.{IsTakenOf};
+ghost use Rattle.ring_link.specs.Inside.{answer_behind};
 
 use crate::cell::{Cell, MarkLast};
 use crate::packing::{CHUNK, unpack};
@@ -67,7 +68,7 @@ impl RingReader {
         ensures empty { result ≡ Take.Empty → (IsOpen self.new.ending) × (self.new.seen ≡ []) }
         ensures end { result ≡ Take.End → self.new.ending ≡ Ending.Ended }
         ensures closed { result ≡ Take.Closed → self.new.ending ≡ Ending.Closed }
-        ensures marked { (¬ IsOpen self.old.ending) → self.new ≡ self.old }
+        ensures marked { (¬ IsOpen self.old.ending) → (self.new ≡ self.old) × (result ≡ answer_behind self.old.ending) }
         ensures never { result ≢ Take.Failed }
     {
         match self.ending {

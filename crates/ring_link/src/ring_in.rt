@@ -2,9 +2,12 @@ ghost use Rattle.std.specs.Prelude.{◌≡◌, ◌++◌, ◌∷◌, ◌<◌, [],
 ghost use Rattle.sock_io.specs.Link.{TakeStep, given_of, of_take};
 ghost use Rattle.ring_link.specs.Cells.{IsOpen};
 ghost use Rattle.ring_link.specs.Halves.{ring_in};
+ghost use Rattle.ring_link.specs.Inside.{met_after};
 
+use crate::inner::Inner;
 use crate::reader::RingReader;
 use ghosts::Ghosts;
+use loop_link::LoopIn;
 use sock_io::{Ending, In, Take};
 use std::marker::Model;
 
@@ -15,30 +18,39 @@ pub struct RingIn {
     pub(crate) reader: RingReader,
     gave_end: bool,
     closed: bool,
-    /// All that it answered, for the proofs.
+    /// Whether it knows what its other end offered, and all that it answered and knows, for the proofs.
+    learnt: bool,
     takes: Ghosts<Take>,
+    met: Ghosts<LoopIn>,
 }
 
 impl Model for RingIn {
-    ghost use Rattle.std.specs.Prelude.{map};
+    ghost use Rattle.std.specs.Prelude.{◌≡◌, map, true};
+    ghost use Rattle.sock_io.specs.declared.ending.Ending.TheVariants.{Closed, Ended};
     ghost use Rattle.sock_io.specs.Link.{of_take};
+    ghost use Rattle.sock_io.specs.Peer.{has_ended};
+    ghost use Rattle.ring_link.specs.Inside.{is_met};
     ghost use Rattle.ring_link.specs.Halves.{RingInState};
 
     ghost Value = { RingInState };
 
-    ghost view = { λ i. record { reader = i.reader; gave_end = i.gave_end; closed = i.closed; takes = map of_take i.takes.list } };
+    ghost view = { λ i. record { reader = i.reader; gave_end = i.gave_end; closed = i.closed; takes = map of_take i.takes.list; met = i.met.list } };
+
+    ghost invariant = { λ i. (i.gave_end ≡ true → i.reader.ending ≡ Ended) × (i.closed ≡ true → i.reader.ending ≡ Closed) × (i.learnt ≡ is_met i.met.list) × (i.learnt ≡ true → has_ended i.reader.ending ≡ true) };
 }
 
 impl RingIn {
     /// A half from which nothing was taken.
     pub(crate) fn new(reader: RingReader) -> RingIn
-        ensures { result ≡ record { reader = reader; gave_end = false; closed = false; takes = [] } }
+        ensures { result ≡ record { reader = reader; gave_end = false; closed = false; takes = []; met = [] } }
     {
         RingIn {
             reader,
             gave_end: false,
             closed: false,
+            learnt: false,
             takes: Ghosts::of(&0u8),
+            met: Ghosts::of(&0u8),
         }
     }
 
@@ -52,6 +64,7 @@ impl RingIn {
         ensures end { result ≡ Take.End → self.new.reader.ending ≡ Ending.Ended }
         ensures closed { result ≡ Take.Closed → self.new.reader.ending ≡ Ending.Closed }
         ensures takes { self.new.takes ≡ self.old.takes }
+        ensures met { self.new.met ≡ self.old.met }
     {
         let answer = self.reader.take(room);
         match answer {
@@ -70,6 +83,17 @@ impl RingIn {
         let with = (before, answer);
         self.takes = Ghosts::of(&with);
     }
+
+    /// What its other end handed on is what this link in memory gave, where memory wasn't wanting. It learns that once the
+    /// mark was taken, and keeps what it knows.
+    pub(crate) fn learn(&mut self, inner: &Inner, whole: bool)
+        ensures { self.new ≡ record self.old { met = met_after whole self.old.reader.ending self.old.met inner.now.inn } }
+    {
+        if !self.learnt && (self.reader.is_ended() && whole) {
+            self.met = Ghosts::of(inner);
+            self.learnt = true;
+        }
+    }
 }
 
 impl In for RingIn {
@@ -83,6 +107,7 @@ impl In for RingIn {
         ensures empty { result ≡ Take.Empty → (IsOpen self.new.reader.ending) × (self.new.reader.seen ≡ []) }
         ensures end { result ≡ Take.End → self.new.reader.ending ≡ Ending.Ended }
         ensures closed { result ≡ Take.Closed → self.new.reader.ending ≡ Ending.Closed }
+        ensures met { self.new.met ≡ self.old.met }
     {
         let answer = self.answer_take(room);
         self.note(answer);

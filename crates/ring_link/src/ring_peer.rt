@@ -1,8 +1,9 @@
-ghost use Rattle.std.specs.Prelude.{◌≡◌, ◌≢◌, ◌<◌, ◌≤◌, ◌++◌, ◌⊎◌, true, false, length, Ok};
+ghost use Rattle.std.specs.Prelude.{◌≡◌, ◌≢◌, ◌<◌, ◌≤◌, ◌++◌, ◌⊎◌, true, false, length, None, Ok};
 ghost use Rattle.sock_io.specs.Link.{IsTakeCount, given_of};
 ghost use Rattle.sock_io.specs.Peer.{ServeStep, has_ended, is_done};
 ghost use Rattle.ring_link.specs.Cells.{IsOpen};
-ghost use Rattle.ring_link.specs.Halves.{IsTakenOf, SameRings, mark_at, ring_in, ring_peer};
+ghost use Rattle.sock_io.specs.Meeting.{MeetStep};
+ghost use Rattle.ring_link.specs.Halves.{IsTakenOf, Repeats, SameRings, mark_at, ring_in, ring_peer, told_out};
 ghost use Rattle.ring_link.specs.declared.packing.TheConstants.{CHUNK};
 
 use crate::inner::Inner;
@@ -11,7 +12,7 @@ use crate::reader::RingReader;
 use crate::ring_in::RingIn;
 use crate::ring_out::RingOut;
 use crate::writer::RingWriter;
-use sock_io::{LinkSpec, NoMemory, Peer, Served, Take};
+use sock_io::{NoMemory, Peer, Served, Take};
 use std::marker::Model;
 
 /// The other end of a link over rings: it hands what it takes from the one ring to a link in memory, and what that gives
@@ -21,58 +22,57 @@ pub struct RingPeer {
     pub(crate) reader: RingReader,
     pub(crate) writer: RingWriter,
     inner: Inner,
-    serve: bool,
-    end: Option<u32>,
     ended: bool,
+    /// Whether memory was wanting.
+    starved: bool,
 }
 
 impl Model for RingPeer {
     ghost use Rattle.std.specs.Prelude.{◌≡◌, false, true};
     ghost use Rattle.sock_io.specs.Peer.{has_ended};
     ghost use Rattle.ring_link.specs.Cells.{IsClosed};
-    ghost use Rattle.ring_link.specs.Halves.{RingPeerState};
+    ghost use Rattle.ring_link.specs.Halves.{Repeats, RingPeerState};
 
     ghost Value = { RingPeerState };
 
-    ghost view = { λ p. record { reader = p.reader; writer = p.writer; serve = p.serve; end = p.end } };
+    ghost view = { λ p. record { reader = p.reader; writer = p.writer; inner = p.inner; starved = p.starved } };
 
-    ghost invariant = { λ p. (p.ended ≡ has_ended p.writer.ending) × (p.ended ≡ false → p.inner ≡ has_ended p.reader.ending) × (IsClosed p.writer.ending → has_ended p.reader.ending ≡ true) };
+    ghost invariant = { λ p. (p.ended ≡ has_ended p.writer.ending) × (p.ended ≡ false → p.inner.finished ≡ has_ended p.reader.ending) × (IsClosed p.writer.ending → has_ended p.reader.ending ≡ true) × (p.starved ≡ false → Repeats p.inner p.reader p.writer) };
 }
 
 impl RingPeer {
     /// An other end that took and gave nothing.
-    pub(crate) fn new(
-        reader: RingReader,
-        writer: RingWriter,
-        inner: Inner,
-        spec: &LinkSpec,
-    ) -> RingPeer
-        requires { IsOpen reader.ending × IsOpen writer.ending × (inner ≡ false) }
-        ensures { result ≡ record { reader = reader; writer = writer; serve = spec.now.serve; end = spec.now.end } }
+    pub(crate) fn new(reader: RingReader, writer: RingWriter, inner: Inner) -> RingPeer
+        requires { IsOpen reader.ending × IsOpen writer.ending × (inner.finished ≡ false) × Repeats inner reader writer }
+        ensures { result ≡ record { reader = reader; writer = writer; inner = inner; starved = false } }
     {
         RingPeer {
             reader,
             writer,
             inner,
-            serve: spec.serve,
-            end: spec.end,
             ended: false,
+            starved: false,
         }
     }
 
     /// On one thread with both halves of its link: what this end took stands first in what the link took, and what the link
-    /// gave stands first in what this end gave; and where a mark was taken, all was.
+    /// gave stands first in what this end gave; and where a mark was taken, all was. Where the link took all that this end
+    /// gave and memory wasn't wanting, it learns what it was offered.
     pub fn meet(&mut self, out: &mut RingOut, inn: &mut RingIn)
         requires there { out.old.writer.ring ≡ self.old.reader.ring }
         requires back { self.old.writer.ring ≡ inn.old.reader.ring }
         ensures peer { ring_peer self.new ≡ ring_peer self.old }
+        ensures starved { self.new.starved ≡ self.old.starved }
         ensures out { out.new ≡ record out.old { writer = record out.old.writer { places = out.new.writer.places } } }
-        ensures inn { ring_in inn.new ≡ ring_in inn.old }
+        ensures inn { MeetStep (told_out out.old) (ring_peer self.old) (ring_in inn.old) (ring_in inn.new) }
         ensures took { IsTakenOf self.new.reader out.new.writer }
         ensures gave { IsTakenOf inn.new.reader self.new.writer }
+        ensures known { self.old.starved ≡ false → has_ended inn.old.reader.ending ≡ true → (ring_in inn.new).offer ≢ None }
+        ensures repeats { self.old.starved ≡ false → Repeats self.new.inner self.new.reader self.new.writer }
     {
         self.reader.meet(&mut out.writer);
         inn.reader.meet(&mut self.writer);
+        inn.learn(&self.inner, !self.starved);
     }
 
     // Behind its end: takes from the link, and throws it away.
@@ -115,18 +115,7 @@ impl RingPeer {
         ensures never { result ≢ Take.Failed }
     {
         let answer = self.inner.take(room);
-        match answer {
-            Take::Took(count) => self.writer.put_all(&room[..count]),
-            Take::End => {
-                self.writer.end();
-                self.ended = true;
-            }
-            Take::Closed => {
-                self.writer.close();
-                self.ended = true;
-            }
-            Take::Empty | Take::Failed => {}
-        }
+        self.ended = self.writer.hand_on(answer, room);
         answer
     }
 
@@ -147,6 +136,7 @@ impl RingPeer {
             Err(fault) => {
                 self.writer.end();
                 self.ended = true;
+                self.starved = true;
                 Err(fault)
             }
         }

@@ -1,5 +1,7 @@
-use crate::{RingIn, RingOut, RingPeer, open_ring};
-use sock_io::{Ends, In, LinkSpec, Mode, Out, Peer, Put, Served, Take};
+ghost use Rattle.std.specs.Prelude.{◌≡◌};
+
+use crate::{RingIn, RingLinker, RingOut, RingPeer, open_ring};
+use sock_io::{Ends, In, LinkSpec, Linker, Mode, Out, Peer, Put, Served, Take};
 use std::sync::Wait;
 use std::test::Fail;
 use std::thread;
@@ -11,7 +13,9 @@ const REQUEST: &[u8] =
 
 const REPLY: &[u8] = b"PRPC\x00\x00\x00\x08\x00\x00\x00\x06\x12\x02\x08\x00\x20\x02hi";
 
-fn asked() -> LinkSpec {
+fn asked() -> LinkSpec
+    ensures { result.piece ≡ 64 }
+{
     LinkSpec {
         mode: Mode::Ring,
         piece: 64,
@@ -118,5 +122,30 @@ fn call_across<R: Threads + Wait + Sync>(
 fn one_thread_calls_and_another_serves(rt: HostRuntime) -> Result<(), Fail> {
     let ends = open_ring(rt.alloc(), &asked(), 0).ok().ok_or("memory")?;
     assert_eq!(rt; call_across(&rt, ends, 3_000), 60_000);
+    Ok(())
+}
+
+#[test]
+fn the_ends_of_a_link_are_compared(rt: HostRuntime) -> Result<(), Fail> {
+    let mut links = RingLinker::new(&rt);
+    let mut ends = links.open(&asked()).ok().ok_or("memory")?;
+    let mut room = [0; 64];
+    ends.out.finish();
+    assert_eq!(rt; ends.peer.serve().ok(), Some(Served::Moved));
+    assert_eq!(rt; ends.peer.serve().ok(), Some(Served::Done));
+    assert_eq!(rt; ends.inn.take(&mut room), Take::Closed);
+    links.meet(&mut ends);
+    assert_eq!(rt; ends.inn.take(&mut room), Take::Closed);
+    Ok(())
+}
+
+#[test]
+fn links_and_connections_are_given_back(rt: HostRuntime) -> Result<(), Fail> {
+    let mut links = RingLinker::new(&rt);
+    let ends = links.open(&asked()).ok().ok_or("memory")?;
+    links.back(0, ends);
+    let (out, mut inn) = links.accept(8000).ok().ok_or("memory")?;
+    assert_eq!(rt; inn.take(&mut [0; 2]), Take::End);
+    links.done(out, inn);
     Ok(())
 }

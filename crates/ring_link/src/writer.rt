@@ -1,12 +1,15 @@
 ghost use Rattle.std.specs.Prelude.{◌≡◌, ℕ, ◌-◌, ◌<◌, ◌≤◌, ◌↔◌, ◌+◌, ◌++◌, [], length, map, take, IsTrue};
+ghost use Rattle.sock_io.specs.Link.{IsTakeCount, given_of};
+ghost use Rattle.sock_io.specs.Peer.{has_ended};
 ghost use Rattle.ring_link.specs.Cells.{IsOpen};
+ghost use Rattle.ring_link.specs.Halves.{mark_at};
 ghost use Rattle.ring_link.specs.declared.cell.Cell.TheVariants.{Byte};
 ghost use Rattle.ring_link.specs.declared.packing.TheConstants.{CHUNK};
 
 use crate::cell::{Cell, MarkLast};
 use crate::packing::{CHUNK, pack};
 use rtrb::Producer;
-use sock_io::Ending;
+use sock_io::{Ending, Take};
 use std::alloc::Global;
 use std::marker::Model;
 
@@ -111,6 +114,33 @@ impl RingWriter {
         match self.cells.push_entire_slice(cells) {
             Ok(()) => {}
             Err(_) => unreachable!(),
+        }
+    }
+
+    /// Puts what a take gave, or the mark that it answered, and answers whether that was a mark.
+    pub(crate) fn hand_on(&mut self, answer: Take, room: &[u8]) -> bool
+        requires open { IsOpen self.old.ending }
+        requires count { IsTakeCount room.now answer }
+        requires room { (length room.now ≤ self.old.places) × (length room.now ≤ CHUNK) }
+        ensures ring { self.new.ring ≡ self.old.ring }
+        ensures bytes { self.new.bytes ≡ self.old.bytes ++ given_of room.now answer }
+        ensures ending { self.new.ending ≡ mark_at answer }
+        ensures ended { result ≡ has_ended (mark_at answer) }
+    {
+        match answer {
+            Take::Took(count) => {
+                self.put_all(&room[..count]);
+                false
+            }
+            Take::End => {
+                self.end();
+                true
+            }
+            Take::Closed => {
+                self.close();
+                true
+            }
+            Take::Empty | Take::Failed => false,
         }
     }
 

@@ -18,6 +18,3 @@ pub use opening::{open_none, open_one};
 pub use reaching::{Reached, reach};
 pub use running::give_all;
 pub use sending::{refuse, send_one};
-
-#[cfg(test)]
-mod tests;

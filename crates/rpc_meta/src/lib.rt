@@ -13,8 +13,6 @@ mod read;
 mod sizes;
 mod spell;
 mod straight;
-#[cfg(test)]
-mod tests;
 mod write;
 
 pub use fault::MetaFault;

@@ -21,6 +21,3 @@ pub use linked::{read_link, read_links};
 pub use opening::wait_open;
 pub use reader::{Reader, Spent};
 pub use resting::end_rest;
-
-#[cfg(test)]
-mod tests;

@@ -5,8 +5,6 @@
 mod conn;
 mod reply;
 mod service;
-#[cfg(test)]
-mod tests;
 
 pub use conn::{Conn, ConnFault};
 pub use reply::reply_to;

@@ -7,6 +7,7 @@ use Rattle.sock_io.specs.declared.link.Ends.{Ends}
 use Rattle.sock_io.specs.Link.{OutState, InState, end_of}
 use Rattle.sock_words.specs.Codes.{EEOF}
 use Rattle.corr_core.specs.declared.marks.Plan.{Plan}
+use Rattle.sock_message.specs.Asked.{Asked}
 use Rattle.rpc_client.specs.declared.acting.Told.{Told}
 use Rattle.script_threads.proofs.Telling.{told_each, none_told}
 use Rattle.call_told.specs.Answers.{IsFailure, IsOwn, HasAnswer, HaveAnswers, AreAnsweredBy, at_end}
@@ -37,6 +38,14 @@ module _ (links : ℕ) (gave : ℕ → List ℕ) (ops : List Operation) where
           (all_then (λ ts. AllByRecursion IsFailure ts) (AllHave links gave ops) ended (λ ts. all_then IsFailure (Answers links gave ops) ts (failure_answer links gave ops)) failures))
           (has, tt)
 
+-- what is known of all ids that the clients made is known of all that were made behind the reading
+pub read_made : {O I P : Type 0} (out : O → OutState) (inn : I → InState) (q : Plan) (operations : List ℕ) (Q : ℕ → Asked → Type 0) (last : List Told) (seats : List IdSeat) (es es' : List (Ends O I P))
+    → AllMade Q (flat_map (λ (s : IdSeat). s.me.0.notes) seats) → (h : HasRead out inn q operations seats es es' last) → AllMade Q h.last.view.notes
+read_made out inn q operations Q last seats es es' made h =
+    let b = begins h.main in
+    let later = later_then b.view h.between.view h.last.view (read_later out inn q operations es es' b h.between h.read) (rest_later q EEOF operations h.between h.last (at_end refl) h.rest) in
+    all_made Q h.last.view.notes (later_made Q b.view h.last.view later (events_made Q h.main.me.0.notes (subst (AllMade Q) (sym h.took.notes) made)))
+
 module _ {O I P : Type 0} (out : O → OutState) (inn : I → InState) (q : Plan) (operations : List ℕ) (ops : List Operation) where
   -- The outcomes of a run of clients that told no answer and made ids as these operations ask, with what main told behind them, over links that gave nothing before main read them
   pub run_answered : (n : ℕ) (told ended : List (List Told)) (last : List Told) (seats : List IdSeat) (es es' : List (Ends O I P)) → AllByRecursion (λ ts. AllByRecursion IsOwn ts) told → AllByRecursion (λ ts. AllByRecursion IsFailure ts) ended → AllByRecursion (HasGivenNone inn) es
@@ -44,8 +53,6 @@ module _ {O I P : Type 0} (out : O → OutState) (inn : I → InState) (q : Plan
   run_answered n told ended last seats es es' owns failures silent made h =
       let b = begins h.main in
       let a = all_told out inn q operations es es' b h.between h.read EEOF operations h.last refl (at_end refl) h.rest in
-      let later = later_then b.view h.between.view h.last.view (read_later out inn q operations es es' b h.between h.read) (rest_later q EEOF operations h.between h.last (at_end refl) h.rest) in
-      let began : AllMade (IsAskedIn ops) h.main.me.0.notes = subst (AllMade (IsAskedIn ops)) (sym h.took.notes) made in
-      let in_all : AllMade (IsAskedIn ops) h.last.view.notes = all_made (IsAskedIn ops) h.last.view.notes (later_made (IsAskedIn ops) b.view h.last.view later (events_made (IsAskedIn ops) h.main.me.0.notes began)) in
+      let in_all = read_made out inn q operations (IsAskedIn ops) last seats es es' made h in
       let has : AllHave (length es) a.gave ops last = subst (AllHave (length es) a.gave ops) (sym h.told_is) (tells_answers (length es) a.gave ops q h.last.view h.last.view.kept h.words h.closing in_all b h.last refl refl a.tells) in
       answered_by out inn q.slots ops es es' b h.last a (outcomes_of n told ended last) silent (outcomes_have (length es) a.gave ops n told ended last owns failures has)

@@ -42,23 +42,21 @@ script_asks script c asked a op at =
     let same : w.operation ≡ op = some_is w.operation op (sym w.there ∙ (ap (slice_get (operations script)) (sym number) ∙ at)) in
     (k.0, sym (ap (λ (o : Operation). o.item) same) ∙ k.1, ap (λ (y : Asked). y.range) k.2)
 
--- each call among these is one of the script
-abbrev AskIn : List Item → List Task → Type 0
-AskIn script ts = (asked : Asked) → AsksFor ts asked → IsAskedIn (operations script) asked.range asked
+-- this is known of each call among these
+abbrev pub AskFor : (ℕ → Asked → Type 0) → List Task → Type 0
+AskFor P ts = (asked : Asked) → AsksFor ts asked → P asked.range asked
 
-all_by_place : {A : Type 0} (P : A → Type 0) (xs : List A) → ((k : ℕ) (x : A) → slice_get xs k ≡ Some x → P x) → AllByRecursion P xs
+pub all_by_place : {A : Type 0} (P : A → Type 0) (xs : List A) → ((k : ℕ) (x : A) → slice_get xs k ≡ Some x → P x) → AllByRecursion P xs
 all_by_place P [] h = tt
 all_by_place P (x ∷ xs) h = (h zero x refl, all_by_place P xs (λ k y e. h (suc k) y e))
 
-all_ask : (script : List Item) → AllByRecursion (AskIn script) (all_tasks script)
-all_ask script = all_by_place (AskIn script) (all_tasks script) (λ c ts at. subst (AskIn script) (of_tasks script c ts at).1 (script_asks script c))
+-- each call of the script's clients is one of its operations
+pub all_ask : (script : List Item) → AllByRecursion (AskFor (IsAskedIn (operations script))) (all_tasks script)
+all_ask script = all_by_place (AskFor (IsAskedIn (operations script))) (all_tasks script) (λ c ts at. subst (AskFor (IsAskedIn (operations script))) (of_tasks script c ts at).1 (script_asks script c))
 
 -- ## The ids of a run
 
-module _ (script : List Item) where
-  abbrev Fits : ℕ → Asked → Type 0
-  Fits = IsAskedIn (operations script)
-
+module _ (Fits : ℕ → Asked → Type 0) where
   all_notes : (vs : List (id_view.View Asked)) → AllByRecursion (λ (v : id_view.View Asked). AllMade Fits v.notes) vs → AllMade Fits (flat_map (λ (v : id_view.View Asked). v.notes) vs)
   all_notes [] h = tt
   all_notes (v ∷ vs) h = all_both (λ (n : Noted Asked). FitsMade Fits n.note) v.notes (flat_map (λ (x : id_view.View Asked). x.notes) vs) h.0 (all_notes vs h.1)
@@ -67,20 +65,19 @@ module _ (script : List Item) where
     abbrev seat_of : Thread g → id_view.View Asked
     seat_of x = x.ended.calls.seat.me.0
 
-    thread_made : (first : ℕ) (x : Thread g) → IsThread state p q first x → AskIn script x.tasks → AllMade Fits (seat_of x).notes
+    thread_made : (first : ℕ) (x : Thread g) → IsThread state p q first x → AskFor Fits x.tasks → AllMade Fits (seat_of x).notes
     thread_made first x t asks = all_made Fits (seat_of x).notes (run_made Fits x.began x.ended asks t.ran (subst (λ (m : Me (Option Asked) (id_view.View Asked)). SeatMade Fits m.0) (sym t.ids) tt))
 
-    threads_made : (names : List ℕ) (first : ℕ) (xs : List (Thread g)) → AreThreads state p q names first xs → AllByRecursion (AskIn script) (map (λ (x : Thread g). x.tasks) xs) → AllByRecursion (λ (v : id_view.View Asked). AllMade Fits v.notes) (map seat_of xs)
+    threads_made : (names : List ℕ) (first : ℕ) (xs : List (Thread g)) → AreThreads state p q names first xs → AllByRecursion (AskFor Fits) (map (λ (x : Thread g). x.tasks) xs) → AllByRecursion (λ (v : id_view.View Asked). AllMade Fits v.notes) (map seat_of xs)
     threads_made names first [] h a = tt
     threads_made names first (x ∷ xs) h a = (thread_made first x h.0 a.0, threads_made names (first + opens_of x.tasks) xs h.2 a.1)
 
     -- all that the clients noted, one behind the other
-    pub ids_made : (setup : List Task) (clients : List (List Task)) (opens : List ℕ) (told ended : List (List Told)) (seats : List (Seat (SockHome O g) View)) (ids : List (id_view.View Asked)) → AllRan g state p q setup clients opens told ended seats ids → setup ∷ clients ≡ all_tasks script
+    pub ids_made : (setup : List Task) (clients : List (List Task)) (opens : List ℕ) (told ended : List (List Told)) (seats : List (Seat (SockHome O g) View)) (ids : List (id_view.View Asked)) → AllRan g state p q setup clients opens told ended seats ids → AllByRecursion (AskFor Fits) (setup ∷ clients)
         → AllMade Fits (flat_map (λ (v : id_view.View Asked). v.notes) ids)
-    ids_made setup clients opens told ended seats ids r tasks_are =
-        let asks : AllByRecursion (AskIn script) (setup ∷ clients) = subst (AllByRecursion (AskIn script)) (sym tasks_are) (all_ask script) in
-        let own = subst (AskIn script) (sym r.setup_asked) asks.0 in
-        let others = subst (AllByRecursion (AskIn script)) (sym r.asked) asks.1 in
+    ids_made setup clients opens told ended seats ids r asks =
+        let own = subst (AskFor Fits) (sym r.setup_asked) asks.0 in
+        let others = subst (AllByRecursion (AskFor Fits)) (sym r.asked) asks.1 in
         all_notes ids (subst (AllByRecursion (λ (v : id_view.View Asked). AllMade Fits v.notes)) r.ids_are
         (thread_made 0 r.main r.main_is own, threads_made (opened_names r.main.ended.outcomes.items (openings setup)) (opens_of setup) r.others r.others_are others))
 

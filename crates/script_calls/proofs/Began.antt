@@ -1,6 +1,5 @@
 -- What the clients of a run know and told of calls: each tells the ends of calls that it had locked, one id at most is stored for an operation, and of each operation something has come.
-use Rattle.std.proofs.Common.{◌≡◌, ◌≢◌, ℕ, zero, suc, ◌+◌, ◌≤◌, ◌<◌, List, [], ◌∷◌, ◌++◌, length, map, Some, None, refl, sym, ap, ◌∙◌, subst, arith}
-use Rattle.std.specs.Prelude.{slice_get}
+use Rattle.std.proofs.Common.{◌≡◌, ◌≢◌, ℕ, zero, suc, ◌+◌, ◌≤◌, ◌<◌, List, [], ◌∷◌, map, refl, sym, ap, ◌∙◌, subst, arith}
 use Rattle.std.specs.List.{AllByRecursion}
 use mathlib.Core.Logic.{dite}
 use mathlib.Core.Option.{some, some-injective, some-ne-none}
@@ -15,7 +14,6 @@ use Rattle.sock_io.specs.Link.{OutState}
 use Rattle.sock_words.specs.declared.plain.Plan.{Plan}
 use Rattle.sock_model.specs.declared.view.View.{View}
 use Rattle.sock_rule.specs.declared.homes.SockHome.{SockHome}
-use Rattle.sock_programs.specs.declared.task.Op.TheVariants as ops
 use Rattle.sock_programs.specs.declared.task.Task.{Task}
 use Rattle.sock_programs.specs.Told.{Differ, HaveOwnLinks}
 use Rattle.corr_core.specs.Law.{total, only}
@@ -30,7 +28,7 @@ use Rattle.script_threads.proofs.Telling.{to_slice}
 use Rattle.call_errors.specs.Books.{Books}
 use Rattle.call_run.specs.Threads.{opens_of, openings, opened_names, Thread, IsThread, AreThreads, AllRan}
 use Rattle.call_told.proofs.Coming.{HasCome, run_come}
-use Rattle.call_told.proofs.Ends.{AreEnds}
+use Rattle.call_told.proofs.Ends.{IsEndOf, AreEnds, IsEndIn, AreEndsIn}
 use Rattle.call_told.proofs.Growing.{own_at}
 use Rattle.call_told.proofs.Least.{TellEnds}
 use Rattle.call_told.proofs.Moves.{Fits, is_task, run_moves}
@@ -54,7 +52,7 @@ each_none o t e [] h = refl
 each_none o t e (us ∷ tss) h =
     let a = none_is o us (all_map (Differ t) (λ (b : Task). b.number ≢ o) (λ b d same. d.0 (e ∙ sym same)) us h.0) in let b = each_none o t e tss h.1 in omega arith
 
-only_is : (a b : ℕ) → 0 < only a b → b ≡ a
+pub only_is : (a b : ℕ) → 0 < only a b → b ≡ a
 only_is a b h = dite (ℕ_discrete b a) (λ e. e) (λ n. absurd (let z = only-else a b n in omega arith))
 
 pub each_one : (o : ℕ) (tss : List (List Task)) → AllByRecursion (EachBefore (λ (a b : Task). (a.number < b.number) × HaveOwnLinks a.op b.op)) tss → EachBefore (λ (ts us : List Task). AllByRecursion (λ (t : Task). AllByRecursion (Differ t) us) ts) tss
@@ -72,8 +70,11 @@ module _ {O : Type 0} (g : Ghosts O) (state : O → OutState) (p : Plan) (q : id
   abbrev ids_of_thread : Thread g → id_view.View Asked
   ids_of_thread x = x.ended.calls.seat.me.0
 
+  pub thread_ends_in : (first : ℕ) (x : Thread g) → AllByRecursion Fits x.tasks → IsThread state p q first x → AreEndsIn q.slots (ids_of_thread x) x.ended.calls.told.items
+  thread_ends_in first x fits t = (run_moves q 0 state p x.tasks x.began x.ended fits t.ran).ends (subst (AreEndsIn q.slots x.began.calls.seat.me.0) (sym (ap (λ (b : Books). b.told) t.nothing.books)) tt)
+
   thread_ends : (first : ℕ) (x : Thread g) → AllByRecursion Fits x.tasks → IsThread state p q first x → AreEnds (ids_of_thread x) x.ended.calls.told.items
-  thread_ends first x fits t = (run_moves q 0 state p x.tasks x.began x.ended fits t.ran).ends (subst (AreEnds x.began.calls.seat.me.0) (sym (ap (λ (b : Books). b.told) t.nothing.books)) tt)
+  thread_ends first x fits t = all_map (IsEndIn q.slots (ids_of_thread x)) (IsEndOf (ids_of_thread x)) (λ y e. e.is) x.ended.calls.told.items (thread_ends_in first x fits t)
 
   thread_few : (o first : ℕ) (x : Thread g) → AllByRecursion Fits x.tasks → IsThread state p q first x → total (own_at (call_word q o)) (ids_of_thread x).kept ≤ total (is_task o) x.tasks
   thread_few o first x fits t =

@@ -11,7 +11,6 @@ use Rattle.sock_io.specs.Link.{OutState, InState}
 use Rattle.sock_words.specs.Codes.{EEOF}
 use Rattle.sock_words.specs.Words.{HasPosition}
 use Rattle.sock_words.specs.declared.outcome.Outcome.{Outcome}
-use Rattle.sock_words.specs.declared.plain.Plan.{Plan}
 use Rattle.sock_words.specs.declared.place_word.PlaceWord.{PlaceWord}
 use Rattle.sock_words.specs.declared.vref.Vref.{Vref}
 use Rattle.brpc_model.specs.Items.{Item, is_call}
@@ -52,7 +51,7 @@ use Rattle.script_calls.proofs.Shown.{view_of, flat_mapped}
 
 -- ## The operations of a script
 
-task_fits : (t : Task) → IsOwnTask t → Fits t
+pub task_fits : (t : Task) → IsOwnTask t → Fits t
 task_fits t own asked e = subst (IsOwn t.number) e own
 
 -- the number of a call is one of those of calls

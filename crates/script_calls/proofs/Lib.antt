@@ -11,3 +11,12 @@ pub mod Said
 pub mod Began
 pub mod Each
 pub mod Placed
+pub mod Linked
+pub mod Begun
+pub mod Retrying
+pub mod Later
+pub mod Telling
+pub mod Sockets
+pub mod Versions
+pub mod Expiring
+pub mod Whole

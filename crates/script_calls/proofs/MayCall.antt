@@ -47,7 +47,7 @@ one_opens : (op : Op) → opens_in op ≡ length (link_of op)
 one_opens (ops.Open n k) = refl
 one_opens other = refl
 
-opens_are : (ts : List Task) → opens_of ts ≡ length (links_of ts)
+pub opens_are : (ts : List Task) → opens_of ts ≡ length (links_of ts)
 opens_are [] = refl
 opens_are (t ∷ ts) = omega (arith, one_opens t.op, opens_are ts, length-append (link_of t.op) (links_of ts))
 

@@ -1,5 +1,5 @@
 -- The place words of a run with calls tell an order of each link, and a `send` of which nothing is told has a place.
-use Rattle.std.proofs.Common.{◌≡◌, ℕ, zero, suc, ◌+◌, ◌*◌, ◌<◌, ◌≤◌, ◌⊎◌, inl, inr, List, [], ◌∷◌, ◌++◌, flat_map, length, map, Some, None, Ok, refl, sym, ap, ◌∙◌, subst, arith}
+use Rattle.std.proofs.Common.{◌≡◌, ℕ, zero, suc, ◌*◌, ◌≤◌, ◌⊎◌, inl, inr, List, [], ◌∷◌, flat_map, length, map, Some, None, Ok, refl, sym, ap, ◌∙◌, subst, arith}
 use Rattle.std.specs.Prelude.{Option}
 use mathlib.Core.Option.{some, some-injective, some-ne-none}
 use lib.ListN.{get_elem?}
@@ -58,7 +58,7 @@ rest_none : (p : id_plan.Plan) (code : ℕ) (os : List ℕ) (b b' : Books) → R
 rest_none p code [] b b' h = none_noted b.view b'.view (ap (λ (x : Books). x.view.notes) h)
 rest_none p code (o ∷ os) b b' h = none_then b.view h.0.view b'.view (one_none p code o b h.0 h.1) (rest_none p code os h.0 b' h.2)
 
-each_notes : (i : ℕ) (f : Note Asked → ℕ) (vs : List (View Asked)) → total f (notes_of i (flat_map (λ (v : View Asked). v.notes) vs)) ≡ total (λ (v : View Asked). total f (notes_of i v.notes)) vs
+pub each_notes : (i : ℕ) (f : Note Asked → ℕ) (vs : List (View Asked)) → total f (notes_of i (flat_map (λ (v : View Asked). v.notes) vs)) ≡ total (λ (v : View Asked). total f (notes_of i v.notes)) vs
 each_notes i f [] = refl
 each_notes i f (v ∷ vs) =
     let rest : List (Noted Asked) = flat_map (λ (w : View Asked). w.notes) vs in
@@ -76,12 +76,12 @@ laws_of p notes kept words c = record { advanced_once = c.advanced_once; advance
 
 -- ## By places
 
-mapped_from : {A B : Type 0} (f : A → B) (xs : List A) (c : ℕ) (y : B) → get_elem? (map f xs) c ≡ some y → (x : A) × (get_elem? xs c ≡ some x) × (f x ≡ y)
+pub mapped_from : {A B : Type 0} (f : A → B) (xs : List A) (c : ℕ) (y : B) → get_elem? (map f xs) c ≡ some y → (x : A) × (get_elem? xs c ≡ some x) × (f x ≡ y)
 mapped_from f [] c y e = absurd (some-ne-none y (sym e))
 mapped_from f (x ∷ xs) zero y e = (x, refl, some-injective (f x) y e)
 mapped_from f (x ∷ xs) (suc c) y e = mapped_from f xs c y e
 
-mapped_at : {A B : Type 0} (f : A → B) (xs : List A) (c : ℕ) (x : A) → get_elem? xs c ≡ some x → get_elem? (map f xs) c ≡ some (f x)
+pub mapped_at : {A B : Type 0} (f : A → B) (xs : List A) (c : ℕ) (x : A) → get_elem? xs c ≡ some x → get_elem? (map f xs) c ≡ some (f x)
 mapped_at f [] c x e = absurd (some-ne-none x (sym e))
 mapped_at {A} {B} f (y ∷ ys) zero x e = ap (λ (z : A). some (f z)) (some-injective y x e)
 mapped_at f (y ∷ ys) (suc c) x e = mapped_at f ys c x e
@@ -99,23 +99,23 @@ module _ {O I P : Type 0} (g : Ghosts O) (out : O → OutState) (inn : I → InS
   abbrev q : id_plan.Plan
   q = ids_of p slots
 
-  are : AreTasks p (left.setup ∷ left.clients)
+  pub are : AreTasks p (left.setup ∷ left.clients)
   are = subst (AreTasks p) (sym left.tasks) (tasks_of_script bytes script reads)
 
-  may : MayRunAll p q left.setup left.clients
+  pub may : MayRunAll p q left.setup left.clients
   may = script_may bytes script reads slots left.setup left.clients left.tasks
 
-  have : HaveNotesOf (map view_of seats) read.last.view.notes
+  pub have : HaveNotesOf (map view_of seats) read.last.view.notes
   have = have_notes (map view_of seats) read.main.me.0 read.last.view (read.took.notes ∙ flat_mapped view_of (λ (v : View Asked). v.notes) seats)
       (none_then read.main.me.0 read.between.view read.last.view (read_none out inn q (calls script) 0 ends ends' (begins read.main) read.between read.read) (rest_none q EEOF (calls script) read.between read.last read.rest))
 
-  laws : IdLaws slots read.last.view.notes
+  pub laws : IdLaws slots read.last.view.notes
   laws = laws_of q read.last.view.notes read.last.view.kept read.words read.closing
 
-  few : p.links ≤ 65536
+  pub few : p.links ≤ 65536
   few = omega (arith, (keeps_limits bytes script reads).links)
 
-  low : p.operations ≤ 65536
+  pub low : p.operations ≤ 65536
   low = omega (arith, few_operations bytes script reads p refl)
 
   pub left_places : ArePlaces places

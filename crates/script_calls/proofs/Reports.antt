@@ -11,6 +11,7 @@ use Rattle.brpc_model.specs.Items.{Item}
 use Rattle.brpc_model.specs.Link.{LinkEnd}
 use Rattle.brpc_model.specs.Operations.{operations}
 use Rattle.brpc_model.specs.PlaceWords.{took_at}
+use Rattle.brpc_model.specs.Script.{script_of}
 use Rattle.report_fits.specs.Ends.{AreTold}
 use Rattle.report_fits.proofs.Flat.{at_map}
 use Rattle.sock_programs.specs.declared.task.Task.{Task}
@@ -32,8 +33,11 @@ use Rattle.script_calls.proofs.Clients.{owns, failures, balanced}
 use Rattle.call_told.proofs.Making.{AllMade}
 use Rattle.call_told.proofs.Answering.{IsAskedIn}
 use Rattle.script_calls.proofs.Answered.{run_answered}
-use Rattle.script_calls.proofs.Asked.{ids_made, notes_of_seats}
+use Rattle.script_calls.proofs.Asked.{AskFor, all_ask, ids_made, notes_of_seats}
 use Rattle.script_calls.proofs.Shown.{run_shown}
+use Rattle.script_calls.proofs.Expiring.{calls_told}
+use Rattle.script_calls.proofs.Sockets.{sockets_told}
+use Rattle.script_calls.proofs.Whole.{whole_if}
 
 long_replicate : {A : Type 0} (n : ℕ) (x : A) → length (replicate n x) ≡ n
 long_replicate zero x = refl
@@ -114,29 +118,41 @@ module _ (P : Type 0) {O I : Type 0} (out : O → OutState) (inn : I → InState
 
     made_told : (r : IsCallRun P g out inn script text links) → AllMade (IsAskedIn (operations script)) (flat_map (λ (s : IdSeat). s.me.0.notes) r.ids)
     made_told r = subst (AllMade (IsAskedIn (operations script))) (notes_of_seats (λ (s : IdSeat). s.me.0) r.ids)
-        (ids_made script out (plan_of script) (ids_of (plan_of script) (length (calls script))) r.setup r.clients (opens script) r.told r.ended r.ran.seats (map (λ (s : IdSeat). s.me.0) r.ids) r.ran.ran r.tasks)
+        (ids_made (IsAskedIn (operations script)) out (plan_of script) (ids_of (plan_of script) (length (calls script))) r.setup r.clients (opens script) r.told r.ended r.ran.seats (map (λ (s : IdSeat). s.me.0) r.ids) r.ran.ran (subst (AllByRecursion (AskFor (IsAskedIn (operations script)))) (sym r.tasks) (all_ask script)))
 
     balanced_told : (r : IsCallRun P g out inn script text links) → AreBalanced r.ended (map (λ (s : IdSeat). s.me.0) r.ids)
     balanced_told r = balanced out (plan_of script) (ids_of (plan_of script) (length (calls script))) r.setup r.clients (opens script) r.told r.ended r.ran.seats (map (λ (s : IdSeat). s.me.0) r.ids) r.ran.ran
 
+    abbrev left_of : (r : IsCallRun P g out inn script text links) → IsLeft g out script r.told r.ended r.places r.ids
+    left_of r = record { setup = r.setup; clients = r.clients; tasks = r.tasks; opened = opens script; vrefs = r.vrefs; outs = r.outs; ran = r.ran }
+
+    answered_told : (r : IsCallRun P g out inn script text links) → AreAnsweredBy (operations script) (outcomes_of (plan_of script).operations r.told r.ended r.last) links
+    answered_told r = subst (AreAnsweredBy (operations script) (outcomes_of (plan_of script).operations r.told r.ended r.last)) (sym r.given_back)
+        (run_answered out inn (ids_of (plan_of script) (length (calls script))) (calls script) (operations script) (plan_of script).operations r.told r.ended r.last r.ids r.ends r.ends' (own_told r) (failures_told r) r.silent (made_told r) r.read)
+
     -- it has the outcomes and place words of its report
-    pub text_of : IsCallRun P g out inn script text links → IsCallText script text links
-    text_of r = record {
-      outcomes = outcomes_of (plan_of script).operations r.told r.ended r.last;
-      places = r.places;
-      one_each = long_each (replicate (plan_of script).operations None) ((r.told ++ r.ended) ++ r.last ∷ []) ∙ long_replicate (plan_of script).operations None;
-      reported = r.reported;
-      answered = subst (AreAnsweredBy (operations script) (outcomes_of (plan_of script).operations r.told r.ended r.last)) (sym r.given_back)
-          (run_answered out inn (ids_of (plan_of script) (length (calls script))) (calls script) (operations script) (plan_of script).operations r.told r.ended r.last r.ids r.ends r.ends' (own_told r) (failures_told r) r.silent (made_told r) r.read);
-      once = run_shown out inn (ids_of (plan_of script) (length (calls script))) (calls script) (plan_of script).operations r.told r.ended r.last r.ids r.ends r.ends' (own_told r) (balanced_told r) r.read;
-    }
+    pub text_of : (bytes : List ℕ) → script_of bytes ≡ Ok script → IsCallRun P g out inn script text links → IsCallText script text links
+    text_of bytes reads r =
+        let answered = answered_told r in
+        let long = long_each (replicate (plan_of script).operations None) ((r.told ++ r.ended) ++ r.last ∷ []) ∙ long_replicate (plan_of script).operations None in
+        let sockets = sockets_told g out inn bytes script reads r.told r.ended r.places r.ids (left_of r) r.ends r.ends' r.last r.read r.halves r.kept answered.gave links r.given_back answered.givers in record {
+          outcomes = outcomes_of (plan_of script).operations r.told r.ended r.last;
+          places = r.places;
+          one_each = long;
+          reported = r.reported;
+          answered = answered;
+          sockets = sockets;
+          on_calls = calls_told g out inn bytes script reads r.told r.ended r.places r.ids (left_of r) r.ends r.ends' r.last r.read;
+          once = run_shown out inn (ids_of (plan_of script) (length (calls script))) (calls script) (plan_of script).operations r.told r.ended r.last r.ids r.ends r.ends' (own_told r) (balanced_told r) r.read;
+          whole = whole_if bytes script reads text (outcomes_of (plan_of script).operations r.told r.ended r.last) r.places answered.gave links long r.reported sockets;
+        }
 
     pub run_is : (p : Plan) (slots : ℕ) (setup : List Task) (clients : List (List Task)) (os cs : List ℕ) (told ended : List (List Told)) (places words : List PlaceWord) (vrefs : List Vref) (outs : List O) (ids : List IdSeat) (q : id_plan.Plan) (ends ends' : List (Ends O I P)) (last : List Told)
         → p ≡ plan_of script → slots ≡ length (calls script) → os ≡ opens script → cs ≡ calls script → q ≡ ids_of p slots → words ≡ places
         → setup ∷ clients ≡ all_tasks script → RanOn g out p slots setup clients os told ended places vrefs outs (map (λ (s : IdSeat). s.me.0) ids)
-        → map (λ (e : Ends O I P). e.out) ends ≡ outs → AllByRecursion (HasGivenNone inn) ends → HasRead out inn q cs ids ends ends' last → links ≡ map (end_at out inn) ends'
+        → map (λ (e : Ends O I P). e.out) ends ≡ outs → AllByRecursion (HasGivenNone inn) ends → map (out_at out inn) ends' ≡ map (out_at out inn) ends → HasRead out inn q cs ids ends ends' last → links ≡ map (end_at out inn) ends'
         → IsReported script text (outcomes_of p.operations told ended last) words (map (end_at out inn) ends') → IsCallRun P g out inn script text links
-    run_is p slots setup clients os cs told ended places words vrefs outs ids q ends ends' last ep es eo ec eq ew tasks ran halves silent read given reported =
+    run_is p slots setup clients os cs told ended places words vrefs outs ids q ends ends' last ep es eo ec eq ew tasks ran halves silent kept read given reported =
         let qs : q ≡ ids_of (plan_of script) (length (calls script)) = eq ∙ (ap (λ (x : Plan). ids_of x slots) ep ∙ ap (ids_of (plan_of script)) es) in record {
           setup = setup;
           clients = clients;
@@ -154,6 +170,7 @@ module _ (P : Type 0) {O I : Type 0} (out : O → OutState) (inn : I → InState
           ends' = ends';
           halves = halves;
           silent = silent;
+          kept = kept;
           last = last;
           read = subst (λ (l : List ℕ). HasRead out inn (ids_of (plan_of script) (length (calls script))) l ids ends ends' last) ec (subst (λ (x : id_plan.Plan). HasRead out inn x cs ids ends ends' last) qs read);
           given_back = given;
@@ -162,9 +179,9 @@ module _ (P : Type 0) {O I : Type 0} (out : O → OutState) (inn : I → InState
               (subst (λ (x : Plan). IsReported script text (outcomes_of x.operations told ended last) words (map (end_at out inn) ends')) ep reported));
         }
 
-  pub text_if : (g : Ghosts O) (script : List Item) (links : List LinkEnd) {T E : Type 0} (items : T → List ℕ) (r : Result T E) → IfOk r (λ t. IsCallRun P g out inn script (items t) links) → IfOk r (λ t. IsCallText script (items t) links)
-  text_if g script links items (Ok t) h = text_of g script (items t) links h
-  text_if g script links items (Err e) h = tt
+  pub text_if : (g : Ghosts O) (script : List Item) (links : List LinkEnd) {T E : Type 0} (items : T → List ℕ) (r : Result T E) → (bytes : List ℕ) × (script_of bytes ≡ Ok script) → IfOk r (λ t. IsCallRun P g out inn script (items t) links) → IfOk r (λ t. IsCallText script (items t) links)
+  text_if g script links items (Ok t) reads h = text_of g script (items t) links reads.0 reads.1 h
+  text_if g script links items (Err e) reads h = tt
 
 -- ## Results
 

@@ -45,7 +45,7 @@ outcomes_few n told ended read id =
 
 module _ {O I P : Type 0} (out : O → OutState) (inn : I → InState) (q : Plan) (operations : List ℕ) where
   -- the clients told what their seats noted, and the rest was read: no call is told twice
-  read_once : (seats : List IdSeat) (es es' : List (Ends O I P)) (ended : List (List Told)) (told : List Told) → AreBalanced ended (map view_of seats) → HasRead out inn q operations seats es es' told → ToldOnce q.slots (ended ++ told ∷ [])
+  pub read_once : (seats : List IdSeat) (es es' : List (Ends O I P)) (ended : List (List Told)) (told : List Told) → AreBalanced ended (map view_of seats) → HasRead out inn q operations seats es es' told → ToldOnce q.slots (ended ++ told ∷ [])
   read_once seats es es' ended told balanced h =
       subst (λ (t : List Told). ToldOnce q.slots (ended ++ t ∷ [])) (sym h.told_is)
       (told_once out inn q operations EEOF ended (map view_of seats) es es' (begins h.main) h.between h.last h.last.view.kept h.words

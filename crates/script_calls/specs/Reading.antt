@@ -1,5 +1,5 @@
 -- What is read once all clients of a run have ended, and what the table of ids says in the end.
-use Rattle.std.specs.Prelude.{◌≡◌, ℕ, false, List, [], Option}
+use Rattle.std.specs.Prelude.{◌≡◌, ◌<◌, ℕ, false, List, [], Option, slice_index}
 use Rattle.std.specs.List.{flat_map}
 use Rattle.atomic_table.specs.declared.shared.Seat.{Seat}
 use Rattle.corr_core.specs.declared.marks.Plan.{Plan}
@@ -39,3 +39,5 @@ pub record HasRead {O I P : Type 0} (out : O → OutState) (inn : I → InState)
   -- the last words of the id slots
   pub words : List ℕ
   pub closing : Closing p last.view.notes last.view.kept words
+  -- each is a word of 64 bits
+  pub low : (i : ℕ) → slice_index words i < 18446744073709551616

@@ -1,5 +1,5 @@
 // What is read once all clients of a run have ended, and how the table of ids ends.
-ghost use Rattle.std.specs.Prelude.{◌≡◌, ◌<◌, ◌≤◌, [], All, IfOk, length, map};
+ghost use Rattle.std.specs.Prelude.{◌≡◌, ◌<◌, ◌≤◌, ℕ, [], All, IfOk, length, map, slice_index};
 ghost use Rattle.corr_core.specs.Law.{total};
 ghost use Rattle.rpc_reader.specs.Seats.{IsOpen};
 ghost use Rattle.call_run.specs.Crew.{AreLeft};
@@ -11,7 +11,7 @@ use rpc_reader::{AnswerSeat, end_rest, read_links};
 use script_tasks::NoMemory;
 use sock_io::{Ends, In, Linker, Out, Peer};
 use sock_message::Call;
-use sock_words::EEOF;
+use sock_words::{EEOF, IdWord};
 use std::alloc::Global;
 use std::sync::Wait;
 
@@ -33,6 +33,17 @@ fn join_all(ids: &IdTable<Call>, mut seats: Vec<IdSeat<Call>>) -> IdSeat<Call>
         seat = earlier;
     }
     seat
+}
+
+/// Each of these words is one of 64 bits: reading it shows that.
+fn see_words(words: &Vec<IdWord>)
+    ensures { (i : ℕ) → slice_index (map (λ w. w.0) words.now.items) i < 18446744073709551616 }
+{
+    let mut i = 0;
+    while i < words.len() {
+        let _word = words[i].word();
+        i += 1;
+    }
 }
 
 /// One of these seats takes in the others. All links are read to their ends with it, in order; then each of these calls that hasn't
@@ -71,9 +82,10 @@ pub fn read_rest<L: Linker, R: Wait>(
         alloc: _,
     } = calls;
     done.push_reserved(seat);
-    let Ok(_words) = ids.close(alloc, done) else {
+    let Ok(words) = ids.close(alloc, done) else {
         return Err(NoMemory);
     };
+    see_words(&words);
     if read.is_err() || starved {
         return Err(NoMemory);
     }

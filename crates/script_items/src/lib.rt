@@ -21,6 +21,3 @@ pub use names::Names;
 pub use numbers::number;
 pub use read::read_line;
 pub use script::Script;
-
-#[cfg(test)]
-mod tests;

@@ -9,8 +9,6 @@ mod names;
 mod read;
 mod reader;
 mod sizes;
-#[cfg(test)]
-mod tests;
 mod text;
 mod uses;
 

@@ -8,8 +8,6 @@ mod parts;
 mod print;
 mod script_text;
 mod seats;
-#[cfg(test)]
-mod tests;
 
 pub use generator::generate;
 pub use print::{PrintFault, print_script};

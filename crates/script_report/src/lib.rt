@@ -12,6 +12,3 @@ mod words;
 pub use links::Accepted;
 pub use summary::{Load, print_summary};
 pub use told::print_report;
-
-#[cfg(test)]
-mod tests;

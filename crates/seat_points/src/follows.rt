@@ -14,18 +14,18 @@ use sock_programs::Sizes;
 impl Point {
     /// Where a seat goes on, over a table of these sizes and with this call in hand, by the word that its step found; 0 where
     /// it was none on a word.
-    pub fn next(self, sizes: Sizes, calling: Calling, found: u64) -> Next
-        requires within { IsWithin sizes self }
-        requires ids { IsWithinIds sizes self }
-        requires word { MayFind self found }
-        requires aside { MayFindAside self found }
-        requires link { HasLinkAt self }
-        requires told { TellsCodeAt self }
-        requires step { GoesByWord self }
-        ensures program { (a : Around) → a.sizes ≡ sizes → IsCalling a calling → HasInHand a self → next_program (framed self a) result ≡ after_word (point_program a self) found }
-        ensures hand { link_behind result ≡ link_left self }
+    pub fn next(&self, sizes: Sizes, calling: Calling, found: u64) -> Next
+        requires within { IsWithin sizes self.now }
+        requires ids { IsWithinIds sizes self.now }
+        requires word { MayFind self.now found }
+        requires aside { MayFindAside self.now found }
+        requires link { HasLinkAt self.now }
+        requires told { TellsCodeAt self.now }
+        requires step { GoesByWord self.now }
+        ensures program { (a : Around) → a.sizes ≡ sizes → IsCalling a calling → HasInHand a self.now → next_program (framed self.now a) result ≡ after_word (point_program a self.now) found }
+        ensures hand { link_behind result ≡ link_left self.now }
     {
-        match self {
+        match *self {
             Point::Rest => Next::Ended,
             Point::Open(opening, step) => opening.next(sizes.slots, step, found),
             Point::Seek(aim, step) => aim.next(step, found),

@@ -96,11 +96,11 @@ impl ReleaseStep {
 
 impl Point {
     /// The next step, if there is one, with this call in hand.
-    pub fn step(self, calling: Calling) -> Option<Step>
-        requires { HasLinkAt self }
-        ensures { (a : Around) → IsCalling a calling → HasInHand a self → option_map (step_as a) result ≡ first_in (point_program a self) }
+    pub fn step(&self, calling: Calling) -> Option<Step>
+        requires { HasLinkAt self.now }
+        ensures { (a : Around) → IsCalling a calling → HasInHand a self.now → option_map (step_as a) result ≡ first_in (point_program a self.now) }
     {
-        match self {
+        match *self {
             Point::Rest => None,
             Point::Open(opening, step) => Some(Step::Call(opening.call(step))),
             Point::Seek(aim, step) => Some(Step::Call(aim.call(step))),
@@ -121,10 +121,10 @@ impl Point {
 
 impl Step {
     /// Its kind, as a schedule names it.
-    pub fn kind(self) -> Kind
-        ensures { (a : Around) → result ≡ kind_of_first (step_as a self) }
+    pub fn kind(&self) -> Kind
+        ensures { (a : Around) → result ≡ kind_of_first (step_as a self.now) }
     {
-        match self {
+        match *self {
             Step::Call(call) => call.kind(),
             Step::Aside(aside) => aside.kind(),
             Step::PutMessage(_, _) => Kind::M1,

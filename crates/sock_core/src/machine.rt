@@ -122,7 +122,7 @@ impl<O: Out, I: In, P: Peer> Machine<O, I, P> {
         let Some(step) = self.tables.next_step(seat) else {
             return Ok(Tick::Idle);
         };
-        self.tables.step(seat, step)
+        self.tables.step(seat, &step)
     }
 
     /// A step of the reader of a link.
@@ -193,7 +193,7 @@ impl<O: Out, I: In, P: Peer> Machine<O, I, P> {
         ensures sizes { ∥ HasSizes self.new ∥₁ }
     {
         match self.tables.next_step(0) {
-            Some(step) => self.tables.step_first(step),
+            Some(step) => self.tables.step_first(&step),
             None => Tick::Idle,
         }
     }

@@ -1,4 +1,4 @@
-ghost use Rattle.std.specs.Prelude.{◌≡◌, ◌<◌, ◌⊎◌, ℕ, Bool, true, false, IfOk, OnOk, OnErr, IsOk};
+ghost use Rattle.std.specs.Prelude.{◌≡◌, ◌<◌, ◌⊎◌, ℕ, Bool, true, false, IfOk, IfSome, OnOk, OnErr, IsOk, is_some};
 ghost use Rattle.sock_programs.specs.Cores.{word_of, found_at};
 ghost use Rattle.sock_programs.specs.Ticks.{Unasked, OfPut, OfReady};
 ghost use Rattle.seat_points.specs.Steps.{step_of};
@@ -7,7 +7,8 @@ ghost use Rattle.client_seats.specs.Following.{HasRoom};
 ghost use Rattle.sock_core.specs.Driving.{AsksNone};
 ghost use Rattle.sock_core.specs.Machines.{table_sizes};
 ghost use Rattle.sock_core.specs.Steps.{IsSized, IsNext, IsReady, IsOnWord, MayStand, Fits, Makes, FoundBeside};
-ghost use Rattle.sock_core.specs.Telling.{StepTold};
+ghost use Rattle.sock_core.specs.Runs.{IsWaitingFor};
+ghost use Rattle.sock_core.specs.Telling.{StepTold, waits_by};
 ghost use Rattle.sock_core.specs.Reading.{IsCutTable};
 
 use crate::letter::Letter;
@@ -96,41 +97,45 @@ impl<O: Out, I: In, P: Peer> Table<O, I, P> {
         }
     }
 
-    /// A step on a word, or a move that tells nothing; the word found. Only a seat that comes to hold a life or to keep a retry
+    /// A step on a word, or a move that tells nothing; for what its seat waits, if it does. Only a seat that comes to hold a life or to keep a retry
     /// wants room for it.
-    pub fn make_call(&mut self, place: &mut Seat, seat: u16, call: Call) -> u64
+    pub fn make_call(&mut self, place: &mut Seat, seat: u16, call: Call) -> Option<On>
         requires next { IsNext self.old (seat_data place.old) (Step.Call call) }
         requires stand { IsReady self.old (seat_data place.old) × MayStand (seat_data place.old) }
         requires fits { Fits self.old (seat_data place.old) (Step.Call call) }
         requires sized { IsSized self.old }
         requires room { HasRoom place.old ⊎ AsksNone (seat_program (table_sizes self.old) (seat_data place.old)) }
         ensures made { Makes self.old self.new seat (seat_data place.old) (seat_data place.new) (Step.Call call) Unasked }
-        ensures found { result ≡ found_at self.old.words (word_of self.old.plan (step_of call)) }
+        ensures waits { is_some result ≡ waits_by (seat_program (table_sizes self.old) (seat_data place.old)) (found_at self.old.words (word_of self.old.plan (step_of call))) }
+        ensures on { IfSome result (IsWaitingFor (seat_program (table_sizes self.old) (seat_data place.old))) }
     {
         let found = step_word(&self.plan, &mut self.words, call);
         pass_link(&mut self.holders, seat, call);
         end_link(&mut self.ends, call);
+        let waits = awaited(&place.point, found);
         let sizes = self.sizes();
         let next = place.point.next(sizes, place.calling(), found);
         place.follow(sizes, next, &mut self.outcomes);
-        found
+        waits
     }
 
-    /// A step on the ids that finds a word; the word found.
-    pub fn make_aside(&mut self, place: &mut Seat, step: Aside) -> u64
+    /// A step on the ids that finds a word; for what its seat waits, if it does.
+    pub fn make_aside(&mut self, place: &mut Seat, step: Aside) -> Option<On>
         requires kind { IsOnWord step }
         requires next { IsNext self.old (seat_data place.old) (Step.Aside step) }
         requires stand { IsReady self.old (seat_data place.old) × MayStand (seat_data place.old) }
         requires fits { Fits self.old (seat_data place.old) (Step.Aside step) }
         requires room { HasRoom place.old }
         ensures made { (seat : ℕ) → Makes self.old self.new seat (seat_data place.old) (seat_data place.new) (Step.Aside step) Unasked }
-        ensures found { FoundBeside self.old (seat_data place.old) step result }
+        ensures waits { (found : ℕ) × FoundBeside self.old (seat_data place.old) step found × (is_some result ≡ waits_by (seat_program (table_sizes self.old) (seat_data place.old)) found) }
+        ensures on { IfSome result (IsWaitingFor (seat_program (table_sizes self.old) (seat_data place.old))) }
     {
         let found = self.ids.step(step);
+        let waits = awaited(&place.point, found);
         let sizes = self.sizes();
         let next = place.point.next(sizes, place.calling(), found);
         place.follow(sizes, next, &mut self.outcomes);
-        found
+        waits
     }
 
     /// The call in the seat's hand goes into its home, as an equal one.
@@ -291,38 +296,30 @@ impl<O: Out, I: In, P: Peer> Table<O, I, P> {
                 self.take_call(place, slot)?;
                 Ok(Tick::Moved(kind))
             }
-            _ => {
-                let point = place.point;
-                let found = self.make_aside(place, step);
-                match awaited(point, found) {
-                    Some(on) => Ok(Tick::Waits(on)),
-                    None => Ok(Tick::Moved(kind)),
-                }
-            }
+            _ => match self.make_aside(place, step) {
+                Some(on) => Ok(Tick::Waits(on)),
+                None => Ok(Tick::Moved(kind)),
+            },
         }
     }
 
     /// The next step of a seat; what its tick answers.
-    pub fn step(&mut self, place: &mut Seat, seat: u16, step: Step) -> Result<Tick, NoMemory>
-        requires next { IsNext self.old (seat_data place.old) step }
+    pub fn step(&mut self, place: &mut Seat, seat: u16, step: &Step) -> Result<Tick, NoMemory>
+        requires next { IsNext self.old (seat_data place.old) step.now }
         requires stand { IsReady self.old (seat_data place.old) × MayStand (seat_data place.old) }
-        requires fits { Fits self.old (seat_data place.old) step }
+        requires fits { Fits self.old (seat_data place.old) step.now }
         requires sized { IsSized self.old }
         requires room { HasRoom place.old ⊎ AsksNone (seat_program (table_sizes self.old) (seat_data place.old)) }
-        ensures ok { IfOk result (λ tick. StepTold self.old self.new seat (seat_data place.old) (seat_data place.new) step tick) }
+        ensures ok { IfOk result (λ tick. StepTold self.old self.new seat (seat_data place.old) (seat_data place.new) step.now tick) }
         ensures err { OnErr result (IsCutTable self.old self.new) }
         ensures none { AsksNone (seat_program (table_sizes self.old) (seat_data place.old)) → IsOk result }
     {
         let kind = step.kind();
-        match step {
-            Step::Call(call) => {
-                let point = place.point;
-                let found = self.make_call(place, seat, call);
-                match awaited(point, found) {
-                    Some(on) => Ok(Tick::Waits(on)),
-                    None => Ok(Tick::Moved(kind)),
-                }
-            }
+        match *step {
+            Step::Call(call) => match self.make_call(place, seat, call) {
+                Some(on) => Ok(Tick::Waits(on)),
+                None => Ok(Tick::Moved(kind)),
+            },
             Step::Aside(step) => self.step_aside(place, step),
             Step::PutMessage(request, author) => {
                 self.put_message(place, request, author);

@@ -13,7 +13,7 @@ use crate::waiting::stands;
 use client_seats::Seat;
 use reader_points::ReadStep;
 use reader_seats::ReaderSeat;
-use seat_points::Step;
+use seat_points::{Point, Step};
 use sock_io::{In, Linker, NoMemory, Out, Peer};
 use sock_message::BlockPool;
 use sock_programs::Sizes;
@@ -69,6 +69,7 @@ fn has_reader(link: u16) -> bool
 }
 
 /// What the next step of a client needs in hand is made, where it isn't there; whether it is, and the client's point stands.
+#[inline(always)]
 fn is_prepared(place: &mut Seat, alloc: Global, pool: &mut BlockPool) -> bool
     ensures prepared { result ≡ true → (sizes : Sizes) → IsPrepared sizes (seat_data place.old) (seat_data place.new) }
     ensures stand { result ≡ true → MayStand (seat_data place.new) }
@@ -120,19 +121,22 @@ impl<O: Out, I: In, P: Peer> Tables<O, I, P> {
         let at = usize::from(seat);
         if at < self.seats.len() {
             let place = &self.seats[at];
-            place.point.step(place.calling())
+            match place.point {
+                Point::Rest => None,
+                _ => place.point.step(place.calling()),
+            }
         } else {
             None
         }
     }
 
     /// Makes the next step of a client; what its tick answers.
-    pub fn step(&mut self, seat: u16, step: Step) -> Result<Tick, NoMemory>
-        requires next { NextIs self.old seat step }
+    pub fn step(&mut self, seat: u16, step: &Step) -> Result<Tick, NoMemory>
+        requires next { NextIs self.old seat step.now }
         requires ready { ReadyAt self.old seat }
-        requires fits { StepFits self.old seat step }
+        requires fits { StepFits self.old seat step.now }
         requires sized { IsSized (table_of self.old) }
-        ensures ok { IfOk result (λ tick. TickTold self.old self.new seat step tick) }
+        ensures ok { IfOk result (λ tick. TickTold self.old self.new seat step.now tick) }
         ensures err { OnErr result (IsCutShort self.old self.new) }
     {
         let place = &mut self.seats[usize::from(seat)];
@@ -148,13 +152,13 @@ impl<O: Out, I: In, P: Peer> Tables<O, I, P> {
     }
 
     /// Makes the next step of seat 0, which asks no link, holds no life and calls nothing. It takes no memory.
-    pub fn step_first(&mut self, step: Step) -> Tick
+    pub fn step_first(&mut self, step: &Step) -> Tick
         requires plain { IsPlain self.old }
-        requires next { NextIs self.old 0 step }
+        requires next { NextIs self.old 0 step.now }
         requires ready { ReadyAt self.old 0 }
-        requires fits { StepFits self.old 0 step }
+        requires fits { StepFits self.old 0 step.now }
         requires sized { IsSized (table_of self.old) }
-        ensures { TickTold self.old self.new 0 step result }
+        ensures { TickTold self.old self.new 0 step.now result }
     {
         let place = &mut self.seats[0];
         match self.table.step(place, 0, step) {

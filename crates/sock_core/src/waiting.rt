@@ -26,12 +26,12 @@ fn is_locked(there: bool, word: IdWord) -> bool
 }
 
 /// For what a client at this point waits, if its step, which found this word, shows that it waits.
-pub fn awaited(point: Point, found: u64) -> Option<On>
-    ensures waits { (a : Around) → is_some result ≡ waits_by (point_program a point) found }
-    ensures on { (a : Around) → IfSome result (IsWaitingFor (point_program a point)) }
+pub fn awaited(point: &Point, found: u64) -> Option<On>
+    ensures waits { (a : Around) → is_some result ≡ waits_by (point_program a point.now) found }
+    ensures on { (a : Around) → IfSome result (IsWaitingFor (point_program a point.now)) }
 {
     let word = IdWord::from_word(found);
-    match point {
+    match *point {
         Point::Write(_, step) => match step {
             WriteStep::Walk(_, at, _) => {
                 if found == UNCONNECTED {

@@ -19,7 +19,7 @@ use Rattle.sock_rule.specs.declared.homes.Letter.{Letter}
 use Rattle.sock_rule.specs.declared.homes.SockHome.{SockHome}
 use Rattle.sock_deeds.specs.Deeds.{sends, own_number}
 use Rattle.sock_deeds.specs.Runs.{IsMessage, of_send, of_call, IsFor, Seated, seat_of, DeedRun}
-use Rattle.sock_deeds.proofs.Acts.{Act, final_of, did_of, done_of}
+use Rattle.sock_deeds.proofs.Acts.{Act, final_of, all_lists, did_of, done_of}
 use Rattle.sock_deeds.proofs.Entries.{before, pick_at, before_rises, from_pick}
 use Rattle.sock_deeds.proofs.Flats.{flat_from, flat_there, flat_rises}
 use Rattle.sock_deeds.proofs.Owning.{IsSent, entries_of, entry_source, entry_there, entries_small, own_list}
@@ -57,7 +57,7 @@ module _ {O : Type 0} {g : Ghosts O} {state : O → OutState} {p : Plan} {client
 
   lists_same : map own run.seats ≡ map (λ a. pick a run.closed.ordered.by log) run.closed.ordered.names
   lists_same = sym (flat_ones (λ (y : Seated g state p). (final_of y).lists) own run.seats (λ c y at. own_list y))
-      ∙ (sym (flat_mapped (λ (s : Seat (SockHome O g) View). s.me.0.lists) seat_of run.seats) ∙ (ap (flat_map (λ (s : Seat (SockHome O g) View). s.me.0.lists)) run.left_are ∙ (sym run.closed.lists ∙ run.closed.ordered.lists_are)))
+      ∙ (sym (flat_mapped (λ (s : Seat (SockHome O g) View). s.me.0.lists) seat_of run.seats) ∙ (sym (all_lists run) ∙ run.closed.ordered.lists_are))
 
   -- ## Whose an entry is
 

@@ -1,9 +1,9 @@
 -- The deeds of all seats, and what the table's last words and notes say of them.
-use Rattle.std.proofs.Common.{◌≡◌, ℕ, zero, suc, ◌+◌, ◌<◌, ◌≤◌, List, [], ◌∷◌, length, flat_map, map, slice_get, Option, Some, refl, sym, ap, ◌∙◌, subst, arith}
+use Rattle.std.proofs.Common.{◌≡◌, ℕ, zero, suc, ◌+◌, ◌<◌, ◌≤◌, ◌⊎◌, inl, inr, List, [], ◌∷◌, length, flat_map, map, slice_get, Option, Some, append-nil, refl, sym, ap, ◌∙◌, subst, arith}
 use Rattle.std.proofs.lemmas.Option.{none-some, same_Some}
 use mathlib.Core.Logic.{dite}
 use mathlib.Core.Option.{some, some-injective, some-ne-none}
-use native.Mathlib.Decide.{ℕ_discrete}
+use native.Mathlib.Decide.{ℕ_discrete, dec_lt}
 use lib.ListN.{get_elem?}
 use Rattle.atomic_table.specs.declared.shared.Seat.{Seat}
 use Rattle.sock_io.specs.declared.link.Out.{Ghosts}
@@ -12,7 +12,9 @@ use Rattle.sock_words.specs.declared.outcome.Outcome.{Outcome}
 use Rattle.sock_words.specs.declared.plain.Plan.{Plan}
 use Rattle.sock_words.specs.declared.place_word.PlaceWord.{PlaceWord}
 use Rattle.sock_words.specs.declared.vref.Vref.{Vref}
+use Rattle.sock_words.specs.Words.{socket_id_version}
 use Rattle.sock_model.specs.declared.marks.Mark.{Mark}
+use Rattle.sock_model.specs.declared.marks.Mark.TheVariants.{Failer}
 use Rattle.sock_model.specs.declared.view.StoredWord.{StoredWord}
 use Rattle.sock_model.specs.declared.view.View.{View}
 use Rattle.sock_model.specs.Marks.{about}
@@ -28,9 +30,11 @@ use Rattle.sock_rule.proofs.Closes.{two_terms}
 use Rattle.sock_table.specs.Named.{HasSeen}
 use Rattle.sock_deeds.specs.Deeds.{Hand, Did, Deed, DoneBy}
 use Rattle.sock_deeds.specs.Runs.{Seated, seat_of, DeedRun}
-use Rattle.sock_deeds.proofs.Chains.{gain, stored, ends_grew, between_grew, gains, stores}
+use Rattle.sock_deeds.proofs.Chains.{gain, stored, chain_grew, ends_grew, begins_grew, between_grew, gains, stores}
+use Rattle.sock_deeds.proofs.Ending.{Keeps, ids_kept, SetNow, id_source}
 use Rattle.sock_deeds.proofs.Flats.{append_first, append_later}
 use Rattle.sock_deeds.proofs.Growing.{IsNote, HasFound, Grew}
+use Rattle.sock_deeds.proofs.Sources.{IsOfLife}
 
 -- ## What all seats have together
 
@@ -94,11 +98,31 @@ module _ {O : Type 0} {g : Ghosts O} {state : O → OutState} {p : Plan} {client
   abbrev pub All : View
   All = run.closed.view
 
-  all_marks : (f : Mark → ℕ) (i : ℕ) → marks_of f i All ≡ total (λ (y : Seated g state p). marks_of f i (final_of y)) run.seats
-  all_marks f i = ap (λ l. total f (about i l)) (run.closed.marks ∙ ap (flat_map (λ (s : Seat (SockHome O g) View). s.me.0.marks)) (sym run.left_are)) ∙ (seats_marks f i (map seat_of run.seats) ∙ total_map (λ (s : Seat (SockHome O g) View). marks_of f i s.me.0) seat_of run.seats)
+  -- what all clients noted, before the sockets were ended
+  abbrev pub Joined : View
+  Joined = run.ending.began.view
+
+  abbrev Ends : View
+  Ends = run.ending.ended.view
+
+  flat_alone : {A : Type 0} (f : View → List A) → flat_map (λ (s : Seat (SockHome O g) View). f s.me.0) run.left ≡ f Ends
+  flat_alone f = ap (flat_map (λ (s : Seat (SockHome O g) View). f s.me.0)) (sym run.left_is) ∙ (append-nil (f run.ending.seat.me.0) ∙ ap f run.ending.left)
+
+  joined_marks : (f : Mark → ℕ) (i : ℕ) → marks_of f i Joined ≡ total (λ (y : Seated g state p). marks_of f i (final_of y)) run.seats
+  joined_marks f i = ap (λ l. total f (about i l)) run.ending.took_in.marks ∙ (seats_marks f i (map seat_of run.seats) ∙ total_map (λ (s : Seat (SockHome O g) View). marks_of f i s.me.0) seat_of run.seats)
+
+  ended_marks : (f : Mark → ℕ) → IsNote f → (i : ℕ) → marks_of f i All ≡ marks_of f i Joined + total (gain f i) run.ending.deeds
+  ended_marks f note i = ap (λ l. total f (about i l)) (run.closed.marks ∙ flat_alone (λ (v : View). v.marks)) ∙ gains f note i run.ending.deeds run.ending.began run.ending.ended run.ending.chain
+
+  kept : Keeps Joined Ends
+  kept = ids_kept g state p run.ending.deeds run.ending.began run.ending.ended run.ending.chain run.ending.by_ids
 
   all_puts : (x n : ℕ) → put_in x n All ≡ total (λ (y : Seated g state p). put_in x n (final_of y)) run.seats
-  all_puts x n = ap (total (total (is_put x n))) (run.closed.stores ∙ ap (flat_map (λ (s : Seat (SockHome O g) View). s.me.0.stores)) (sym run.left_are)) ∙ (seats_puts x n (map seat_of run.seats) ∙ total_map (λ (s : Seat (SockHome O g) View). put_in x n s.me.0) seat_of run.seats)
+  all_puts x n = ap (total (total (is_put x n))) (run.closed.stores ∙ (flat_alone (λ (v : View). v.stores) ∙ (kept.1 ∙ run.ending.took_in.stores))) ∙ (seats_puts x n (map seat_of run.seats) ∙ total_map (λ (s : Seat (SockHome O g) View). put_in x n s.me.0) seat_of run.seats)
+
+  -- the lists of accepted messages are those of the clients
+  pub all_lists : All.lists ≡ flat_map (λ (s : Seat (SockHome O g) View). s.me.0.lists) (map seat_of run.seats)
+  all_lists = run.closed.lists ∙ (flat_alone (λ (v : View). v.lists) ∙ (kept.0 ∙ run.ending.took_in.lists))
 
   -- ## Deeds
 
@@ -123,29 +147,69 @@ module _ {O : Type 0} {g : Ghosts O} {state : O → OutState} {p : Plan} {client
   abbrev pub done_of : (a : Act) → DoneBy g state p (did_of a) a.d.before a.d.after
   done_of a = a.d.done
 
-  -- what it noted all seats together have
+  -- what it noted stood before the sockets were ended
+  pub joined_has : (a : Act) (f : Mark → ℕ) → IsNote f → (i : ℕ) → marks_of f i (after a) ≤ marks_of f i Joined
+  joined_has a f note i = let l = (later a.y a.k a.d a.is).marks f note i in omega (arith, joined_marks f i, term_le (λ (y : Seated g state p). marks_of f i (final_of y)) run.seats a.c a.y a.at)
+
+  -- and all together have it
   pub has_marks : (a : Act) (f : Mark → ℕ) → IsNote f → (i : ℕ) → marks_of f i (after a) ≤ marks_of f i All
-  has_marks a f note i = let l = (later a.y a.k a.d a.is).marks f note i in omega (arith, all_marks f i, term_le (λ (y : Seated g state p). marks_of f i (final_of y)) run.seats a.c a.y a.at)
+  has_marks a f note i = omega (arith, joined_has a f note i, ended_marks f note i)
+
+  ends_grew_all : Grew Joined Ends
+  ends_grew_all = chain_grew run.ending.deeds run.ending.began run.ending.ended run.ending.chain
 
   pub has_found : (a : Act) (x : StoredWord) → HasFound x (after a) → HasFound x All
   has_found a x h =
       let l = (later a.y a.k a.d a.is).finds x h in
       let r = flat_place (λ (s : Seat (SockHome O g) View). s.me.0.finds) (map seat_of run.seats) a.c (seat_of a.y) x (map_place seat_of run.seats a.c a.y a.at) l.0 l.1 in
-      (r.0, ap (λ l. get_elem? l r.0) (run.closed.finds ∙ ap (flat_map (λ (s : Seat (SockHome O g) View). s.me.0.finds)) (sym run.left_are)) ∙ r.1)
+      let e = ends_grew_all.finds x (r.0, ap (λ l. get_elem? l r.0) run.ending.took_in.finds ∙ r.1) in
+      (e.0, ap (λ l. get_elem? l e.0) (run.closed.finds ∙ flat_alone (λ (v : View). v.finds)) ∙ e.1)
 
   pub has_seen : (a : Act) (x : ℕ) → HasSeen x (after a) → HasSeen x All
   has_seen a x h =
       let l = (later a.y a.k a.d a.is).seen x h in
       let r = flat_place (λ (s : Seat (SockHome O g) View). s.me.0.found) (map seat_of run.seats) a.c (seat_of a.y) x (map_place seat_of run.seats a.c a.y a.at) l.0 l.1 in
-      (r.0, ap (λ l. get_elem? l r.0) (run.closed.found ∙ ap (flat_map (λ (s : Seat (SockHome O g) View). s.me.0.found)) (sym run.left_are)) ∙ r.1)
+      let e = ends_grew_all.seen x (r.0, ap (λ l. get_elem? l r.0) run.ending.took_in.found ∙ r.1) in
+      (e.0, ap (λ l. get_elem? l e.0) (run.closed.found ∙ flat_alone (λ (v : View). v.found)) ∙ e.1)
 
-  -- what all have together came by a deed
-  pub marks_from : (f : Mark → ℕ) → IsNote f → (i : ℕ) → 0 < marks_of f i All → (a : Act) × (marks_of f i (before a) < marks_of f i (after a))
-  marks_from f note i some_ =
-      let one = total_some (λ (y : Seated g state p). marks_of f i (final_of y)) run.seats (omega (arith, all_marks f i)) in
+  -- ## The ending
+
+  -- deed k of the one that ended the sockets
+  pub record Late : Type 0 where
+    pub k : ℕ
+    pub d : Deed g state p
+    pub is : get_elem? run.ending.deeds k ≡ some d
+
+  -- all that a client noted stood before it
+  pub noted_before : (a : Act) (l : Late) (f : Mark → ℕ) → IsNote f → (i : ℕ) → marks_of f i (after a) ≤ marks_of f i l.d.before.view
+  noted_before a l f note i = let h = (begins_grew run.ending.deeds run.ending.began run.ending.ended run.ending.chain l.k l.d l.is).marks f note i in omega (arith, joined_has a f note i)
+
+  -- ## Whence it came
+
+  -- what all clients had before the sockets were ended came by a deed of one
+  joined_from : (f : Mark → ℕ) → IsNote f → (i : ℕ) → 0 < marks_of f i Joined → (a : Act) × (marks_of f i (before a) < marks_of f i (after a))
+  joined_from f note i some_ =
+      let one = total_some (λ (y : Seated g state p). marks_of f i (final_of y)) run.seats (omega (arith, joined_marks f i)) in
       let y = one.1 in
       let two = total_some (gain f i) y.deeds (omega (arith, one.3, all_gains y f note i)) in
       (record { c = one.0; y = y; at = one.2; k = two.0; d = two.1; is = two.2 }, (let h = two.3 in omega arith))
+
+  -- and the rest set a life failed
+  pub marks_from : (f : Mark → ℕ) (z : IsOfLife f) (i : ℕ) → 0 < marks_of f i All → ((a : Act) × (marks_of f i (before a) < marks_of f i (after a))) ⊎ ((l : Late) × SetNow g state p f i l.d.before.view)
+  marks_from f z i some_ = dite (dec_lt 0 (marks_of f i Joined))
+      (λ lt. inl (joined_from f (λ h. z.hold h) i lt))
+      (λ ge. (
+      let two = total_some (gain f i) run.ending.deeds (omega (arith, ended_marks f (λ h. z.hold h) i)) in
+      let d = two.1 in
+      let more_ = two.3 in
+      inr (record { k = two.0; d = d; is = two.2 }, id_source g state p f z d.did d.before d.after d.done i (run.ending.by_ids two.0 d two.2) (omega arith))))
+
+  -- so lives are made and linked by clients alone
+  pub lives_from : (f : Mark → ℕ) (z : IsOfLife f) → ((h : ℕ) → f (Failer h) ≡ 0) → (i : ℕ) → 0 < marks_of f i All → (a : Act) × (marks_of f i (before a) < marks_of f i (after a))
+  lives_from f z none_ i some_ = elim (marks_from f z i some_) [
+    | inl w ↦ w
+    | inr w ↦ absurd (let s = w.1.weighs in let e = none_ (socket_id_version w.1.id) in omega arith)
+  ]
 
   pub puts_from : (x n : ℕ) → 0 < put_in x n All → (a : Act) × (put_in x n (before a) < put_in x n (after a))
   puts_from x n some_ =
@@ -170,7 +234,7 @@ module _ {O : Type 0} {g : Ghosts O} {state : O → OutState} {p : Plan} {client
   pub once_added : (f : Mark → ℕ) → IsNote f → (i : ℕ) → marks_of f i All ≤ 1 → (a b : Act) → marks_of f i (before a) < marks_of f i (after a) → marks_of f i (before b) < marks_of f i (after b) → (a.c ≡ b.c) × (a.k ≡ b.k)
   once_added f note i few a b more_a more_b = dite (ℕ_discrete a.c b.c)
       (λ same. (same, one_seat same))
-      (λ ne. absurd (omega (arith, all_marks f i, two_terms (λ (y : Seated g state p). marks_of f i (final_of y)) run.seats a.c b.c a.y b.y a.at b.at (λ e. ne (sym e)), each a more_a, each b more_b)))
+      (λ ne. absurd (omega (arith, joined_marks f i, ended_marks f note i, two_terms (λ (y : Seated g state p). marks_of f i (final_of y)) run.seats a.c b.c a.y b.y a.at b.at (λ e. ne (sym e)), each a more_a, each b more_b)))
     where
       each : (a : Act) → marks_of f i (before a) < marks_of f i (after a) → 0 < marks_of f i (final_of a.y)
       each a more_ = omega (arith, all_gains a.y f note i, term_le (gain f i) a.y.deeds a.k a.d a.is)
@@ -178,4 +242,4 @@ module _ {O : Type 0} {g : Ghosts O} {state : O → OutState} {p : Plan} {client
       one_seat : a.c ≡ b.c → a.k ≡ b.k
       one_seat same =
           let also : get_elem? a.y.deeds b.k ≡ some b.d = ap (λ (y : Seated g state p). get_elem? y.deeds b.k) (sym (same_seat a b same)) ∙ b.is in
-          dite (ℕ_discrete a.k b.k) (λ e. e) (λ ne. absurd (omega (arith, all_marks f i, term_le (λ (y : Seated g state p). marks_of f i (final_of y)) run.seats a.c a.y a.at, all_gains a.y f note i, two_terms (gain f i) a.y.deeds a.k b.k a.d b.d a.is also (λ e. ne (sym e)))))
+          dite (ℕ_discrete a.k b.k) (λ e. e) (λ ne. absurd (omega (arith, joined_marks f i, ended_marks f note i, term_le (λ (y : Seated g state p). marks_of f i (final_of y)) run.seats a.c a.y a.at, all_gains a.y f note i, two_terms (gain f i) a.y.deeds a.k b.k a.d b.d a.is also (λ e. ne (sym e)))))

@@ -1,5 +1,5 @@
 -- Why a deed found the life of a name dead, or no request free, or a life at all.
-use Rattle.std.proofs.Common.{◌≡◌, ◌≢◌, ℕ, ◌+◌, ◌%◌, ◌<◌, ◌≤◌, List, [], ◌∷◌, Option, Some, refl, sym, ap, ◌∙◌, subst, arith}
+use Rattle.std.proofs.Common.{◌≡◌, ◌≢◌, ℕ, ◌+◌, ◌%◌, ◌<◌, ◌≤◌, inl, inr, List, [], ◌∷◌, Option, Some, refl, sym, ap, ◌∙◌, subst, arith}
 use mathlib.Core.Logic.{dite}
 use native.Mathlib.Decide.{ℕ_discrete, dec_lt}
 use lib.ListN.{get_elem?}
@@ -92,7 +92,11 @@ module _ {O : Type 0} {g : Ghosts O} {state : O → OutState} {p : Plan} {client
         version = h;
         made = made.1;
         holds = holds;
-        why = life_failed run n made.0 i h low made.1 (omega arith);
+        why = elim (life_failed run n made.0 i h low made.1 (omega arith)) [
+          | inl why ↦ why
+          -- the sockets were ended behind what it saw
+          | inr alive ↦ absurd (let e = alive b w saw in omega arith)
+        ];
         no_later = λ m mine f client. not_later b other id w saw less made.0 m mine f client;
       }
 

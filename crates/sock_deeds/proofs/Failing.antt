@@ -1,5 +1,5 @@
 -- The list of `fail`s that failed a life, the links that failed, and why each failed life was failed.
-use Rattle.std.proofs.Common.{◌≡◌, ◌≢◌, ℕ, zero, suc, ◌+◌, ◌<◌, ◌⊎◌, inl, inr, List, flat_map, filter_map, slice_get, option_map, Option, Some, None, Contains, refl, sym, ap, ◌∙◌, subst, arith}
+use Rattle.std.proofs.Common.{◌≡◌, ◌≢◌, ℕ, zero, suc, ◌+◌, ◌<◌, ◌≤◌, ◌⊎◌, inl, inr, List, flat_map, filter_map, slice_get, option_map, Option, Some, None, Contains, refl, sym, ap, ◌∙◌, subst, arith}
 use Rattle.std.specs.List.{AllByRecursion}
 use Rattle.std.proofs.lemmas.Option.{none-some, same_Some, slice_get_within}
 use native.Mathlib.Decide.{dec_lt}
@@ -15,7 +15,7 @@ use Rattle.sock_words.specs.declared.place_word.PlaceWord.{PlaceWord}
 use Rattle.sock_words.specs.declared.vref.Vref.{Vref}
 use Rattle.sock_words.specs.Words.{socket_id_version, socket_id_slot}
 use Rattle.sock_model.specs.SlotRows.{marks_of}
-use Rattle.sock_model.specs.Weights.{is_failer, is_met}
+use Rattle.sock_model.specs.Weights.{is_saw, is_failer, is_met}
 use Rattle.slot_laws.proofs.Numbers.{only_is}
 use Rattle.sock_programs.specs.declared.task.Op.{Op}
 use Rattle.sock_programs.specs.declared.task.Op.TheVariants as ops
@@ -23,16 +23,17 @@ use Rattle.sock_programs.specs.declared.task.Task.{Task}
 use Rattle.sock_programs.specs.Runs.{from_to}
 use Rattle.sock_programs.specs.Told.{Became, IsFail}
 use Rattle.report_fits.proofs.Lists.{Has, contains_from, all_from, has_filter_map, filter_map_has, before_filter_map, before_from}
-use Rattle.sock_deeds.specs.Deeds.{fails, sets, own_number}
+use Rattle.sock_deeds.specs.Deeds.{fails, own_number}
 use Rattle.sock_deeds.specs.Broken.{faults_of}
-use Rattle.sock_deeds.specs.Runs.{IsOperation, Seated, DeedRun}
-use Rattle.sock_deeds.proofs.Acts.{Act, All, before, after, did_of, done_of, has_marks, marks_from}
+use Rattle.sock_deeds.specs.Runs.{IsOperation, IsFor, Seated, DeedRun}
+use Rattle.sock_deeds.proofs.Acts.{Act, All, after, did_of, done_of, has_marks, Late, noted_before, marks_from}
+use Rattle.sock_deeds.proofs.Ending.{SetNow}
 use Rattle.sock_deeds.proofs.Fails.{FailedLife, number_of_fail, failed_life, life_by, fail_for, as_fail, fails_once, same_link, life_is}
 use Rattle.sock_deeds.proofs.Flats.{flat_there}
 use Rattle.sock_deeds.proofs.Lives.{MadeHere, linked_made, failer_life}
 use Rattle.sock_deeds.proofs.Places.{to_slice}
 use Rattle.sock_deeds.proofs.Sources.{Source, by_open, by_fail, by_set, by_write, done_source}
-use Rattle.sock_deeds.proofs.Tasks.{same_task, one_outcome, task_does}
+use Rattle.sock_deeds.proofs.Tasks.{is_for, same_task, one_outcome, task_does}
 
 -- ## A value for each number below a bound
 
@@ -201,26 +202,28 @@ module _ {O : Type 0} {g : Ghosts O} {state : O → OutState} {p : Plan} {client
     pub version : socket_id_version life.tried.sock.id.0 ≡ h
     pub listed : Contains all_fails (life.number, k)
 
-  -- or a seat set it failed by its id
-  pub record SetBy (i h : ℕ) : Type 0 where
-    pub a : Act run
-    pub id : ℕ
-    pub code : ℕ
-    pub did_is : did_of run a ≡ sets id code outcome.Failed
-    pub slot : socket_id_slot id ≡ i
-    pub version : socket_id_version id ≡ h
-
   -- or its link failed
   pub data WhyFailed (i h k : ℕ) : Type 0 where
     by_name : FailedBy i h k → WhyFailed i h k
-    by_id : SetBy i h → WhyFailed i h k
     by_link : Contains broken k → WhyFailed i h k
 
-  pub life_failed : (n k i h : ℕ) → i < p.slots → MadeHere run n k i h → 0 < marks_of (is_failer h) i (All run) → WhyFailed i h k
-  life_failed n k i h low made some_ =
-      let w = marks_from run (is_failer h) (λ x. refl) i some_ in
-      by_source w.0 (done_source (is_failer h) (failer_life h) g state p (did_of run w.0) w.0.d.before w.0.d.after (done_of run w.0) i w.1)
+  -- or it was failed when the sockets were ended, and no client had seen a later version
+  abbrev pub EndedAlive : ℕ → ℕ → Type 0
+  EndedAlive i h = (a : Act run) (w : ℕ) → 0 < marks_of (is_saw w) i (after run a) → w ≤ h
+
+  pub life_failed : (n k i h : ℕ) → i < p.slots → MadeHere run n k i h → 0 < marks_of (is_failer h) i (All run) → WhyFailed i h k ⊎ EndedAlive i h
+  life_failed n k i h low made some_ = elim (marks_from run (is_failer h) (failer_life h) i some_) [
+    | inl w ↦ inl (by_source w.0 (done_source (is_failer h) (failer_life h) g state p (did_of run w.0) w.0.d.before w.0.d.after (done_of run w.0) i w.1))
+    | inr w ↦ inr (alive w.0 w.1)
+  ]
     where
+      alive : (l : Late run) → SetNow g state p (is_failer h) i l.d.before.view → EndedAlive i h
+      alive l s a w saw =
+          let version = only_is h (socket_id_version s.id) s.weighs in
+          let then = noted_before run a l (is_saw w) (λ x. refl) i in
+          let low_ = s.live w (subst (λ j. 0 < marks_of (is_saw w) j l.d.before.view) (sym s.slot) (omega arith)) in
+          omega arith
+
       at_life : (m l j v : ℕ) → j ≡ i → v ≡ h → MadeHere run m l j v → MadeHere run m l i h
       at_life m l j v a b made = subst (λ x. MadeHere run m l x h) a (subst (λ x. MadeHere run m l j x) b made)
 
@@ -242,7 +245,7 @@ module _ {O : Type 0} {g : Ghosts O} {state : O → OutState} {p : Plan} {client
       by_source : (a : Act run) → Source (is_failer h) (failer_life h) g state p i (did_of run a) a.d.before a.d.after (done_of run a) → WhyFailed i h k
       by_source a (by_open name number version link e weighs) = absurd (omega arith)
       by_source a (by_fail name number code e f) = here a (life_by run a name number code e f.0) f.2 (only_is h (socket_id_version f.0.sock.id.0) f.3)
-      by_source a (by_set id code e slot weighs) = by_id record { a = a; id = id; code = code; did_is = e; slot = slot; version = only_is h (socket_id_version id) weighs }
+      by_source a (by_set id code e slot weighs) = absurd (subst (IsFor clients outcomes a.c) e (is_for run a))
       by_source a (by_write id v w all grew f listed) =
           let version = only_is h (socket_id_version id) f.weighs in
           let met : 0 < marks_of (is_met h f.link) i w = subst (λ x. 0 < marks_of (is_met h f.link) x w) f.slot (subst (λ x. 0 < marks_of (is_met x f.link) (socket_id_slot id) w) version f.link_met) in

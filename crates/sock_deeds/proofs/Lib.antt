@@ -1,9 +1,10 @@
 pub mod Growing
 pub mod Sources
 pub mod Stores
+pub mod Words
 pub mod Chains
 pub mod Flats
-pub mod Messages
+pub mod Ending
 pub mod Acts
 pub mod Numbered
 pub mod Tasks
@@ -13,12 +14,15 @@ pub mod Places
 pub mod Waiting
 pub mod Fails
 pub mod Failing
+pub mod Breaking
 pub mod Owning
 pub mod Entries
 pub mod Accepting
 pub mod Causes
 pub mod Names
 pub mod Orders
+pub mod Few
+pub mod Losses
 pub mod Drops
 pub mod Whole
 pub mod Sent

@@ -25,7 +25,7 @@ use Rattle.rpc_client.specs.Opening.{OpenedBy}
 use Rattle.sock_deeds.specs.Deeds.{Hand, Did, opens, DoneBy, Deed, own_number}
 use Rattle.sock_deeds.specs.Runs.{IsFor, DeedRun}
 use Rattle.sock_deeds.proofs.Numbered.{IsOnSockets}
-use Rattle.sock_deeds.proofs.Acts.{Act, All, before, after, did_of, done_of, has_found, marks_from, puts_from, once_added, same_deed}
+use Rattle.sock_deeds.proofs.Acts.{Act, All, before, after, did_of, done_of, has_found, lives_from, puts_from, once_added, same_deed}
 use Rattle.sock_deeds.proofs.Growing.{HasFound, put_grew}
 use Rattle.sock_deeds.proofs.Sources.{IsOfLife, Source, by_open, by_fail, by_set, by_write, done_source}
 use Rattle.sock_deeds.proofs.Stores.{done_puts}
@@ -93,7 +93,7 @@ module _ {O : Type 0} {g : Ghosts O} {state : O → OutState} {p : Plan} {client
   -- the life of a slot that was made with a link was made by an `open` of that link
   pub linked_made : (i h k : ℕ) → 0 < marks_of (is_linked h k) i (All run) → (n : ℕ) × MadeHere n k i h
   linked_made i h k some_ =
-      let w = marks_from run (is_linked h k) (λ x. refl) i some_ in
+      let w = lives_from run (is_linked h k) (linked_life h k) (λ x. refl) i some_ in
       by_source w.0 (done_source (is_linked h k) (linked_life h k) g state p (did_of run w.0) w.0.d.before w.0.d.after (done_of run w.0) i w.1)
     where
       by_source : (a : Act run) → Source (is_linked h k) (linked_life h k) g state p i (did_of run a) a.d.before a.d.after (done_of run a) → (n : ℕ) × MadeHere n k i h

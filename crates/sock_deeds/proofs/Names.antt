@@ -33,7 +33,7 @@ use Rattle.sock_deeds.specs.Deeds.{SentOver, MessageBy, Did, opens, sends, holds
 use Rattle.sock_deeds.specs.Runs.{DeedRun}
 use Rattle.sock_deeds.proofs.Numbered.{IsOnSockets}
 use Rattle.sock_deeds.proofs.Accepting.{log}
-use Rattle.sock_deeds.proofs.Acts.{Act, All, before, after, did_of, done_of, has_marks, has_seen, marks_from, act_between}
+use Rattle.sock_deeds.proofs.Acts.{Act, All, before, after, did_of, done_of, has_marks, has_seen, lives_from, act_between}
 use Rattle.sock_deeds.proofs.Growing.{added_grew, back_grew, grew_then, none_grew, returned_grew, over_grew}
 use Rattle.sock_deeds.proofs.Lives.{MadeHere, made_of, born_life}
 use Rattle.sock_deeds.proofs.Sources.{Source, by_open, by_fail, by_set, by_write, done_source}
@@ -162,7 +162,7 @@ module _ {O : Type 0} {g : Ghosts O} {state : O → OutState} {p : Plan} {client
 
   born_made : (i h : ℕ) → 0 < marks_of (is_born h) i (All run) → (n k version : ℕ) × MadeHere run n k i version
   born_made i h some_ =
-      let w = marks_from run (is_born h) (λ x. refl) i some_ in
+      let w = lives_from run (is_born h) (born_life h) (λ x. refl) i some_ in
       by_source w.0 (done_source (is_born h) (born_life h) g state p (did_of run w.0) w.0.d.before w.0.d.after (done_of run w.0) i w.1)
     where
       by_source : (a : Act run) → Source (is_born h) (born_life h) g state p i (did_of run a) a.d.before a.d.after (done_of run a) → (n k v : ℕ) × MadeHere run n k i v

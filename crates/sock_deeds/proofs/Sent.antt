@@ -1,5 +1,5 @@
 -- What the links accepted: each message is that of a send of which nothing is told, or of an attempt of a call, to a name of the link's socket.
-use Rattle.std.proofs.Common.{◌≡◌, ◌⊎◌, ℕ, ◌+◌, ◌*◌, ◌≤◌, inl, inr, List, slice_get, Option, Some, None, refl, sym, ap, ◌∙◌, subst, arith}
+use Rattle.std.proofs.Common.{◌≡◌, ◌⊎◌, ℕ, ◌+◌, ◌*◌, inl, inr, List, slice_get, Option, Some, None, refl, sym, ap, ◌∙◌, subst, arith}
 use Rattle.std.specs.List.{AllByRecursion}
 use mathlib.Core.Option.{some}
 use lib.ListN.{get_elem?}
@@ -11,7 +11,7 @@ use Rattle.sock_words.specs.declared.plain.Plan.{Plan}
 use Rattle.sock_words.specs.declared.place_word.PlaceWord.{PlaceWord}
 use Rattle.sock_words.specs.declared.vref.Vref.{Vref}
 use Rattle.sock_words.specs.Words.{socket_id_version, socket_id_slot}
-use Rattle.sock_message.specs.Asked.{Asked, name_of, frame_of}
+use Rattle.sock_message.specs.Asked.{name_of, frame_of}
 use Rattle.sock_model.specs.declared.chain.Entry.{Entry}
 use Rattle.sock_model.specs.declared.marks.Mark.{Mark}
 use Rattle.sock_model.specs.Layout.{name_word}
@@ -26,6 +26,7 @@ use Rattle.sock_programs.specs.Told.{Made}
 use Rattle.sock_programs.specs.ToldCalls.{Accepted, Fixed, IsSent as IsSentBy, OfSend}
 use Rattle.report_fits.proofs.Lists.{all_from}
 use Rattle.sock_deeds.specs.Left.{accepted_of}
+use Rattle.sock_deeds.specs.Told.{IsAttempt}
 use Rattle.sock_deeds.specs.Runs.{IsOperation, IsMessage, of_send, of_call, DeedRun}
 use Rattle.sock_deeds.proofs.Accepting.{log, Sent, act_of_entry, sent_for, sent_place}
 use Rattle.sock_deeds.proofs.Acts.{Act, before, after, has_marks}
@@ -34,18 +35,6 @@ use Rattle.sock_deeds.proofs.Growing.{grew_then, wrote_grew, returned_grew, over
 use Rattle.sock_deeds.proofs.Lives.{MadeHere, linked_made, found_made}
 use Rattle.sock_deeds.proofs.Orders.{orders, entry_on}
 use Rattle.sock_deeds.proofs.Tasks.{name_in, act_name}
-
--- message a, which link k accepted, is an attempt of a call, with the frame that has its id, to a name of the link's socket
-pub record IsAttempt (clients : List (List Task)) (outcomes : List (Option Outcome)) (k : ℕ) (a : Accepted) : Type 0 where
-  pub client : ℕ
-  pub asked : Asked
-  pub is : IsOperation clients outcomes client a.operation (ops.Call asked)
-  pub low : a.attempt ≤ 6
-  pub id : ℕ
-  pub frame : a.bytes ≡ frame_of asked id a.attempt
-  pub slot : ℕ
-  pub version : ℕ
-  pub made : Made clients outcomes (name_of asked a.attempt) k slot version
 
 module _ {O : Type 0} {g : Ghosts O} {state : O → OutState} {p : Plan} {clients : List (List Task)} {outcomes : List (Option Outcome)} {places : List PlaceWord} {vrefs : List Vref} {outs : List O} (run : DeedRun g state p clients outcomes places vrefs outs) where
   -- the link on which a message was accepted is that of a life of its name

@@ -17,7 +17,7 @@ use Rattle.sock_model.specs.declared.marks.Mark.TheVariants.{Hold, Known, Saw, M
 use Rattle.sock_model.specs.declared.marks.SlotMark.{SlotMark}
 use Rattle.sock_model.specs.declared.view.View.{View}
 use Rattle.sock_model.specs.Layout.{name_word, open_word}
-use Rattle.sock_model.specs.Marks.{about, at, noted}
+use Rattle.sock_model.specs.Marks.{about, at}
 use Rattle.sock_model.specs.SlotRows.{marks_of}
 use Rattle.sock_model.specs.Weights.{total}
 use Rattle.slot_laws.proofs.Sums.{about-here, about-other}

@@ -3,7 +3,6 @@ use Rattle.std.proofs.Common.{◌≡◌, ℕ, zero, suc, ◌<◌, inl, inr, List
 use Rattle.std.proofs.lemmas.Option.{none-some, same_Some}
 use mathlib.Core.Logic.{dite}
 use native.Mathlib.Decide.{ℕ_discrete, dec_lt}
-use mathlib.Core.Option.{some}
 use lib.ListN.{get_elem?}
 use Rattle.message_parts.specs.Parcels.{parcel_of}
 use Rattle.sock_io.specs.declared.link.Out.{Ghosts}
@@ -40,7 +39,7 @@ module _ (clients : List (List Task)) (outcomes : List (Option Outcome)) where
   abbrev pub Does : ℕ → Op → Did → Type 0
   Does number (ops.Open n k) d = (by : Outcome) × (d ≡ opens n number k by) × Became clients outcomes number by
   Does number (ops.Send n bytes) d = (msg : Letter) × (by : Option Outcome) × (d ≡ sends n number 0 msg by) × ((parcel_of msg.bytes).bytes ≡ bytes) × (slice_get outcomes number ≡ Some by)
-  Does number (ops.Call asked) d = (msg : Letter) × (by : Option Outcome) × (d ≡ sends (name_of asked 0) number 0 msg by) × (by ≡ Some outcome.Unopened → Became clients outcomes number outcome.Unopened)
+  Does number (ops.Call asked) d = (msg : Letter) × (by : Option Outcome) × (d ≡ sends (name_of asked 0) number 0 msg by) × (by ≡ Some outcome.Unopened → Became clients outcomes number outcome.Unopened) × (Became clients outcomes number outcome.Unopened → by ≡ Some outcome.Unopened)
   Does number (ops.Expire o) d = ⊥
   Does number (ops.Join o) d = ⊥
   Does number (ops.Hold n) d = (by : Outcome) × (d ≡ holds n number by) × Became clients outcomes number by
@@ -54,7 +53,7 @@ module _ (clients : List (List Task)) (outcomes : List (Option Outcome)) where
   does_message : (c name number : ℕ) (msg : Letter) (by : Option Outcome) → IsMessage clients outcomes c name number 0 msg by → DoesFor c number (sends name number 0 msg by)
   does_message c name number msg by (of_send bytes is first sent told) = (ops.Send name bytes, is, (msg, by, refl, sent, told))
   does_message c name number msg by (of_call client asked is mine low name_is sent told) =
-      (ops.Call asked, subst (λ x. IsOperation clients outcomes x number (ops.Call asked)) (mine refl) is, (msg, by, ap (λ n. sends n number 0 msg by) name_is, told refl))
+      (ops.Call asked, subst (λ x. IsOperation clients outcomes x number (ops.Call asked)) (mine refl) is, (msg, by, ap (λ n. sends n number 0 msg by) name_is, (told refl).0, (told refl).1))
 
   pub does : (c : ℕ) (d : Did) (number : ℕ) → own_number d ≡ Some number → IsFor clients outcomes c d → DoesFor c number d
   does c (opens name n link by) number e is = subst (λ x. DoesFor c x (opens name n link by)) (same_Some n number e) (ops.Open name link, is.0, (by, refl, is.1))

@@ -1,5 +1,6 @@
 -- All that is told of sockets in a run of deeds.
-use Rattle.std.proofs.Common.{◌≡◌, ◌≢◌, ◌⊎◌, ℕ, zero, suc, ◌+◌, ◌<◌, ◌≤◌, ◌==◌, ◌&&◌, true, cond, if◌then◌else◌, inl, inr, List, [], ◌∷◌, length, flat_map, map, sum_by, slice_get, Option, Some, None, Contains, eq-eqb, ne_eqb, refl, sym, ap, ◌∙◌, subst, arith}
+use Rattle.std.proofs.Common.{◌≡◌, ◌≢◌, ◌⊎◌, ℕ, zero, suc, ◌+◌, ◌<◌, ◌≤◌, cond, inl, inr, List, [], ◌∷◌, length, map, sum_by, slice_get, Option, Some, None, eq-eqb, ne_eqb, refl, sym, ap, ◌∙◌, subst, arith}
+use Rattle.std.proofs.lemmas.List.{length-map}
 use Rattle.std.proofs.lemmas.List.Sums.{sum_by-cons}
 use Rattle.std.proofs.lemmas.Option.{same_Some}
 use mathlib.Core.Logic.{dite}
@@ -13,7 +14,8 @@ use Rattle.sock_words.specs.declared.outcome.Outcome.TheVariants as outcome
 use Rattle.sock_words.specs.declared.plain.Plan.{Plan}
 use Rattle.sock_words.specs.declared.place_word.PlaceWord.{PlaceWord}
 use Rattle.sock_words.specs.declared.vref.Vref.{Vref}
-use Rattle.sock_words.specs.Words.{socket_id_version, socket_id_slot, vref_version}
+use Rattle.sock_words.specs.Words.{vref_version}
+use Rattle.sock_message.specs.Asked.{Asked, name_of}
 use Rattle.sock_model.specs.declared.chain.Entry.{Entry}
 use Rattle.sock_model.specs.Entries.{on}
 use Rattle.sock_rule.specs.Closing.{PlacesDiffer}
@@ -24,28 +26,27 @@ use Rattle.sock_programs.specs.declared.task.Task.{Task}
 use Rattle.sock_programs.specs.Cores.{Core}
 use Rattle.sock_programs.specs.Runs.{from_to}
 use Rattle.sock_programs.specs.Told.{IsTask, Became, IsOpen}
-use Rattle.sock_programs.specs.ToldCalls.{Fixed, StandsOn, FoundFailed, MayFail, IsFailing, Why, all_accepted}
+use Rattle.sock_programs.specs.ToldCalls.{Fixed, StandsOn, FoundNone, FoundFailed, MayFail, IsFailing, Why, all_accepted}
 use Rattle.sock_causes.proofs.Tasks.{setup_opens}
-use Rattle.report_fits.proofs.Lists.{contains_from}
 use Rattle.rpc_client.specs.Failing.{FailedBy as FailedAs}
 use Rattle.rpc_client.specs.Holding.{HeldBy}
-use Rattle.sock_deeds.specs.Deeds.{SentOver, MessageBy, OpenedOn, Did, opens, sends, holds, drops, fails, own_number, DoneBy, Deed}
+use Rattle.sock_deeds.specs.Deeds.{SentOver, MessageBy, OpenedOn, Did, opens, sends, holds, drops, fails, own_number, DoneBy}
 use Rattle.sock_deeds.specs.Left.{accepted_of}
-use Rattle.sock_deeds.specs.Runs.{IsOperation, Seated, DeedRun}
-use Rattle.sock_deeds.specs.Told.{link_if, set_links, all_set, fixed_by, IsOfSockets, ToldSockets}
+use Rattle.sock_deeds.specs.Runs.{IsOperation, DeedRun}
+use Rattle.sock_deeds.specs.Told.{fixed_by, IsOfSockets, ToldSockets}
 use Rattle.sock_deeds.proofs.Accepting.{log, act_of_entry}
 use Rattle.sock_deeds.proofs.Acts.{Act, before, after, did_of, done_of}
 use Rattle.sock_deeds.proofs.Causes.{FailsNone, FoundDead, gone_cause, refused_cause, already_cause, has_life, opened_cause}
 use Rattle.sock_deeds.proofs.Drops.{WhyDrop, drop_cause}
 use Rattle.sock_deeds.proofs.Fails.{fail_for}
-use Rattle.sock_deeds.proofs.Failing.{FailedBy, SetBy, WhyFailed, by_name, by_id, by_link, life_failed, all_fails, each_failed, broken, are, once}
-use Rattle.sock_deeds.proofs.Flats.{flat_there}
+use Rattle.sock_deeds.proofs.Failing.{FailedBy, WhyFailed, by_name, by_link, all_fails, each_failed, broken, are, once}
 use Rattle.sock_deeds.proofs.Growing.{stays, over_grew}
-use Rattle.sock_deeds.proofs.Lives.{MadeHere, linked_made, lives}
+use Rattle.sock_deeds.proofs.Losses.{lost_by}
+use Rattle.sock_deeds.proofs.Lives.{lives}
 use Rattle.sock_deeds.proofs.Names.{unopened_cause, full_cause, was_full}
 use Rattle.sock_deeds.proofs.Numbered.{IsOnSockets}
-use Rattle.sock_deeds.proofs.Orders.{orders, ends, IsLeft, are_orders, accepted_stands, own_order}
-use Rattle.sock_deeds.proofs.Places.{to_elem, to_slice}
+use Rattle.sock_deeds.proofs.Orders.{orders, IsLeft, are_orders, accepted_stands, own_order}
+use Rattle.sock_deeds.proofs.Sent.{whose}
 use Rattle.sock_deeds.proofs.Tasks.{Does, asks_of, same_task, one_outcome, fits, task_does}
 
 -- ## How many messages there are
@@ -85,30 +86,10 @@ sizes_all n [] below = sizes_none 0 n
 sizes_all n (e ∷ es) below = omega (arith, sizes_in 0 n e es (omega arith) (omega (arith, below 0 e refl)), sizes_all n es (λ i x g. below (suc i) x g))
 
 module _ {O : Type 0} {g : Ghosts O} {state : O → OutState} {p : Plan} {clients : List (List Task)} {outcomes : List (Option Outcome)} {places : List PlaceWord} {vrefs : List Vref} {outs : List O} (run : DeedRun g state p clients outcomes places vrefs outs) (differ : PlacesDiffer (log run)) (gave : ℕ → List ℕ) where
-  -- the links of the lives that were set failed by their ids
-  abbrev pub ended : List ℕ
-  ended = all_set outcomes run.seats
-
   abbrev pub fixed : Fixed
-  fixed = fixed_by (broken run) ended (all_fails run)
+  fixed = fixed_by (broken run) (all_fails run)
 
   -- ## Lives that were failed
-
-  set_listed : (n k i h : ℕ) → MadeHere run n k i h → SetBy run i h → Contains ended k
-  set_listed n k i h m s =
-      let o : Option Outcome = Some (outcome.Opened i h k) in
-      let test : ((i == socket_id_slot s.id) && (h == socket_id_version s.id)) ≡ true = ap (λ b. b && (h == socket_id_version s.id)) (eq-eqb i (socket_id_slot s.id) (sym s.slot)) ∙ eq-eqb h (socket_id_version s.id) (sym s.version) in
-      let here : get_elem? (link_if s.id o) 0 ≡ some k = ap (λ b. get_elem? (if b then k ∷ [] else []) 0) test in
-      let one = flat_there (link_if s.id) outcomes m.task.number o 0 k (to_elem outcomes m.task.number o m.became) here in
-      let two : get_elem? (set_links outcomes s.a.d.did) one.0 ≡ some k = ap (λ d. get_elem? (set_links outcomes d) one.0) s.did_is ∙ one.1 in
-      let three = flat_there (λ (d : Deed g state p). set_links outcomes d.did) s.a.y.deeds s.a.k s.a.d one.0 k s.a.is two in
-      let four = flat_there (λ (y : Seated g state p). flat_map (λ (d : Deed g state p). set_links outcomes d.did) y.deeds) run.seats s.a.c s.a.y three.0 k s.a.at three.1 in
-      contains_from ended k (four.0, to_slice ended four.0 k four.1)
-
-  failing_by : (n k i h : ℕ) → MadeHere run n k i h → WhyFailed run i h k → IsFailing p clients outcomes fixed gave (orders run differ) k
-  failing_by n k i h m (by_name f) = inl (f.life.number, f.listed, tt)
-  failing_by n k i h m (by_id s) = inr (inr (inr (set_listed n k i h m s)))
-  failing_by n k i h m (by_link b) = inr (inl b)
 
   -- by no later operation of the client that found it
   found_failed : (b : Act run) (n m : ℕ) (P : ℕ → Type 0) → FoundDead run b n P → own_number (did_of run b) ≡ Some m → FoundFailed p clients outcomes fixed gave (orders run differ) b.c m n P
@@ -116,19 +97,17 @@ module _ {O : Type 0} {g : Ghosts O} {state : O → OutState} {p : Plan} {client
     where
       may : WhyFailed run d.slot d.version d.link → ((f : FailedBy run d.slot d.version d.link) → f.a.c ≡ b.c → f.life.number < m) → MayFail p clients outcomes fixed gave (orders run differ) b.c m d.link
       may (by_name f) no_later = inl (f.life.number, f.listed, λ t is e. no_later f (same_task run f.a.c b.c record { number = f.life.number; op = ops.Fail f.life.name f.life.code } t (fail_for run f.a f.life).0 is (sym e)).0)
-      may (by_id s) no_later = inr (inr (inr (set_listed n d.link d.slot d.version d.made s)))
       may (by_link x) no_later = inr (inl x)
 
-  dropped : (k : ℕ) → k < p.links → ((orders run differ) k).placed < length ((orders run differ) k).accepted → IsFailing p clients outcomes fixed gave (orders run differ) k
-  dropped k low few =
-      let n = map_long accepted_of (on k (log run)) in
-      let f = ((ends run differ).1 k low).failed (omega arith) in
-      let m = linked_made run f.slot f.version k f.given in
-      failing_by m.0 k f.slot f.version m.1 (life_failed run m.0 k f.slot f.version f.inside m.1 f.failed)
-    where
-      map_long : {A B : Type 0} (f : A → B) (xs : List A) → length (map f xs) ≡ length xs
-      map_long f [] = refl
-      map_long f (x ∷ xs) = ap suc (map_long f xs)
+  failing_by : (k i h : ℕ) → WhyFailed run i h k → IsFailing p clients outcomes fixed gave (orders run differ) k
+  failing_by k i h (by_name f) = inl (f.life.number, f.listed, tt)
+  failing_by k i h (by_link b) = inr (inl b)
+
+  dropped : p.operations ≤ 65536 → (k : ℕ) → k < p.links → ((orders run differ) k).placed < length ((orders run differ) k).accepted → IsFailing p clients outcomes fixed gave (orders run differ) k
+  dropped few k low less =
+      let n = length-map (on k (log run)) accepted_of in
+      let w = lost_by run differ few k low (omega arith) in
+      failing_by k w.slot w.version w.why
 
   -- ## Each operation
 
@@ -224,6 +203,17 @@ module _ {O : Type 0} {g : Ghosts O} {state : O → OutState} {p : Plan} {client
         let w = task_does run c t is (on_sockets t.op on) in
         subst (λ x. WhyHere x t.number t.op o) w.1 (why_op w.0 t.number t.op o (subst (λ x. IsTask clients outcomes x t) (sym w.1) is) became on w.2)
 
+  -- a call that found no socket
+  unopened : (c number : ℕ) (asked : Asked) → IsOperation clients outcomes c number (ops.Call asked) → Became clients outcomes number outcome.Unopened → FoundNone p clients outcomes fixed gave (orders run differ) c number (name_of asked 0)
+  unopened c number asked is became =
+      let w = task_does run c record { number = number; op = ops.Call asked } is tt in
+      let d = w.2 in
+      let e = d.2 ∙ ap (sends (name_of asked 0) number 0 d.0) (d.4 became) in
+      let client = is_client c number (ops.Call asked) is (λ h. h) in
+      let same = w.1 in
+      let b = as_did w.0 (sends (name_of asked 0) number 0 d.0 (Some outcome.Unopened)) e in
+      subst (λ x. FoundNone p clients outcomes fixed gave (orders run differ) x number (name_of asked 0)) same (unopened_cause run fixed gave (orders run differ) w.0 number (name_of asked 0) (ap own_number e) b.0.1 (omega arith))
+
   -- each `send` has an outcome, or its message was accepted
   told : (c number name : ℕ) (bytes : List ℕ) → IsOperation clients outcomes c number (ops.Send name bytes) → ((o : Outcome) × Became clients outcomes number o) ⊎ ((k : ℕ) × StandsOn p clients outcomes fixed gave (orders run differ) number 0 k)
   told c number name bytes is = let w = task_does run c record { number = number; op = ops.Send name bytes } is tt in let d = w.2 in by_outcome w.0 d.0 d.1 d.2 d.4
@@ -233,14 +223,16 @@ module _ {O : Type 0} {g : Ghosts O} {state : O → OutState} {p : Plan} {client
       by_outcome a msg (Some o) e said = inl (o, said)
 
   -- all that is told of sockets
-  pub told_of_deeds : (c : Core) → IsLeft run differ c → ToldSockets p clients outcomes fixed gave (orders run differ) c
-  told_of_deeds c left = record {
+  pub told_of_deeds : p.operations ≤ 65536 → (c : Core) → IsLeft run differ c → ToldSockets p clients outcomes fixed gave (orders run differ) c
+  told_of_deeds few c left = record {
     are_orders = are_orders run differ c left;
     told = told;
     are = are run;
     once = once run;
     lives = lives run;
     why = why;
+    unopened = unopened;
+    sent = λ last k low. whose run differ fixed gave last k;
     own_order = λ k low. own_order run differ fixed gave k;
-    dropped = dropped;
+    dropped = dropped few;
   }

@@ -1,5 +1,5 @@
 -- What a seat does at the table of sockets, one deed after the other: whoever sits there, and whatever he does besides.
-use Rattle.std.specs.Prelude.{◌≡◌, ◌⊎◌, ℕ, zero, List, [], ◌∷◌, Option, Some, None}
+use Rattle.std.specs.Prelude.{◌≡◌, ◌⊎◌, ℕ, zero, ◌<◌, true, List, [], ◌∷◌, Option, Some, None}
 use Rattle.sock_io.specs.declared.link.Out.{Ghosts}
 use Rattle.sock_io.specs.Link.{OutState}
 use Rattle.sock_words.specs.declared.plain.Plan.{Plan}
@@ -7,12 +7,17 @@ use Rattle.sock_words.specs.declared.outcome.Outcome.{Outcome}
 use Rattle.sock_words.specs.declared.outcome.Outcome.TheVariants as outcome
 use Rattle.sock_words.specs.declared.socket_id.SocketId.{SocketId}
 use Rattle.sock_model.specs.declared.view.View.{View}
+use Rattle.sock_model.specs.Deliveries.{place_value}
+use Rattle.sock_model.specs.Layout.{place_word}
+use Rattle.sock_rule.specs.OnTable.{put_in}
 use Rattle.sock_rule.specs.declared.homes.Letter.{Letter}
 use Rattle.sock_rule.specs.declared.homes.SockHome.{SockHome}
 use Rattle.sock_table.specs.declared.finding.Noted.{Noted}
 use Rattle.sock_table.specs.declared.refs.SockRef.{SockRef}
 use Rattle.sock_table.specs.Named.{Found, NotedAs}
 use Rattle.sock_table.specs.Answers.{Held as HeldOne, GoneFrom, NoneLater, LinkOf}
+use Rattle.write_chain.specs.Noting.{Met_by}
+use Rattle.write_chain.specs.Writing.{FoundDead}
 use Rattle.rpc_client.specs.declared.holding.Held.{Held}
 use Rattle.rpc_client.specs.declared.reaching.Reached.TheVariants as reached
 use Rattle.rpc_client.specs.Reaching.{ReachedBy}
@@ -28,6 +33,25 @@ pub record Hand : Type 0 where
 
 -- ## Messages
 
+-- a word that is stored while the link of the life of this id is written: it stands at the place of a message of this link that was dropped, and the seat had found the life failed
+pub record IsDropWord (p : Plan) (id : ℕ) (v : View) (x n : ℕ) : Type 0 where
+  pub place : ℕ
+  pub at_place : x ≡ place_word p place
+  pub link : ℕ
+  pub position : ℕ
+  pub low : position < 4294967295
+  pub word_is : n ≡ place_value true link position
+  pub met : Met_by id v link
+  pub dead : FoundDead id v
+
+abbrev pub StoresDrops : Plan → ℕ → View → View → Type 0
+StoresDrops p id v w = (x n : ℕ) → put_in x n v < put_in x n w → IsDropWord p id w x n
+
+-- whoever sees a message through stores no other words
+abbrev pub DropsBy : {O : Type 0} (state : O → OutState) (p : Plan) (sock : SockRef) (msg : Letter) (by : Option Outcome) (v w : View) → DeliveredBy state p sock msg by v w → Type 0
+DropsBy state p sock msg None v w d = StoresDrops p sock.id.0 d.taken d.through.wrote
+DropsBy state p sock msg (Some by) v w d = Unit {0}
+
 -- a message that was sent with a reference, which was got by the name; its sender may have asked for the link first
 pub record SentOver {O : Type 0} (state : O → OutState) (p : Plan) (n : ℕ) (msg : Letter) (by : Option Outcome) (v w : View) : Type 0 where
   pub sock : SockRef
@@ -36,6 +60,7 @@ pub record SentOver {O : Type 0} (state : O → OutState) (p : Plan) (n : ℕ) (
   pub addressed : View
   pub link_asked : (addressed ≡ has) ⊎ ((k : ℕ) × LinkOf p k sock.id.0 has addressed)
   pub delivered : DeliveredBy state p sock msg by addressed w
+  pub dropped : DropsBy state p sock msg by addressed w delivered
 
 -- none of a message that was accepted
 abbrev pub MessageBy : {O : Type 0} → (O → OutState) → Plan → ℕ → Letter → Option Outcome → View → View → Type 0
@@ -60,7 +85,7 @@ pub data Did : Type 0 where
   waits : (name : ℕ) → Did
   -- what was noted for the `open` of this number was read
   looks : (number : ℕ) (noted : Noted) → Did
-  -- by the id: a reference was taken, or was not since the id is gone; the life was set failed; the reference was given back
+  -- by the id: a reference was taken, or was not since the id is gone; the life was set failed, of whose slot no later version had been seen; the reference was given back
   takes : (id : ℕ) → Did
   misses : (id found : ℕ) → Did
   sets : (id code : ℕ) (by : Outcome) → Did
@@ -90,7 +115,7 @@ module _ {O : Type 0} (g : Ghosts O) (state : O → OutState) (p : Plan) where
   DoneBy (looks number noted) s t = NotedAs p number noted s.view t.view × (t.held ≡ s.held)
   DoneBy (takes id) s t = NoneLater id s.view × HeldOne id s.view t.view × (t.held ≡ s.held)
   DoneBy (misses id found) s t = GoneFrom id found s.view t.view × (t.held ≡ s.held)
-  DoneBy (sets id code by) s t = SetBy id code by s.view t.view × (t.held ≡ s.held)
+  DoneBy (sets id code by) s t = SetBy id code by s.view t.view × (t.held ≡ s.held) × NoneLater id s.view
   DoneBy (returns id) s t = Returned id s.view t.view × (t.held ≡ s.held)
 
   -- a deed, with what the seat had before and behind it

@@ -16,12 +16,12 @@ use Rattle.sock_model.specs.declared.view.View.{View}
 use Rattle.sock_model.specs.Seats.{newcomer}
 use Rattle.sock_rule.specs.declared.homes.Letter.{Letter}
 use Rattle.sock_rule.specs.declared.homes.SockHome.{SockHome}
-use Rattle.sock_table.specs.Closed.{ClosedBy}
+use Rattle.sock_table.specs.Closed.{HasAll, ClosedBy}
 use Rattle.sock_programs.specs.declared.task.Op.{Op}
 use Rattle.sock_programs.specs.declared.task.Op.TheVariants as ops
 use Rattle.sock_programs.specs.declared.task.Task.{Task}
 use Rattle.sock_programs.specs.Told.{AreTasks, IsTask, Became}
-use Rattle.sock_deeds.specs.Deeds.{Hand, Did, opens, sends, holds, drops, fails, waits, own_number, Deed, Chain}
+use Rattle.sock_deeds.specs.Deeds.{Hand, Did, opens, sends, holds, drops, fails, waits, looks, takes, misses, sets, returns, own_number, Deed, Chain}
 
 -- ## What deeds are done for
 
@@ -30,21 +30,23 @@ abbrev pub IsOperation : List (List Task) → List (Option Outcome) → ℕ → 
 IsOperation clients outcomes c number op = IsTask clients outcomes c record { number = number; op = op }
 
 module _ (clients : List (List Task)) (outcomes : List (Option Outcome)) where
-  -- a message is that of a send, of which nothing is told where it was accepted; or an attempt of a call, the first one by the client that began it, with the frame that has its id.
+  -- a message is that of a send, of which nothing is told where it was accepted; or an attempt of a call, the first one by the client that began it, with the frame that has its id; and a call became unopened exactly where its first attempt found no socket.
   -- The place word of a message is that of its operation and its attempt
   pub data IsMessage (c name number attempt : ℕ) (msg : Letter) (by : Option Outcome) : Type 0 where
     of_send : (bytes : List ℕ) → IsOperation clients outcomes c number (ops.Send name bytes) → attempt ≡ 0 → (parcel_of msg.bytes).bytes ≡ bytes → slice_get outcomes number ≡ Some by → IsMessage c name number attempt msg by
     of_call : (client : ℕ) (asked : Asked) → IsOperation clients outcomes client number (ops.Call asked) → (attempt ≡ 0 → client ≡ c) → attempt ≤ 6 → name ≡ name_of asked attempt → (parcel_of msg.bytes).bytes ≡ frame_of asked msg.owner attempt
-        → (attempt ≡ 0 → by ≡ Some outcome.Unopened → Became clients outcomes number outcome.Unopened) → IsMessage c name number attempt msg by
+        → (attempt ≡ 0 → (by ≡ Some outcome.Unopened → Became clients outcomes number outcome.Unopened) × (Became clients outcomes number outcome.Unopened → by ≡ Some outcome.Unopened)) → IsMessage c name number attempt msg by
 
-  -- a deed of client c is done for a task that asks for it, and what became of it is told of that task
+  -- a deed of client c is done for a task that asks for it, and what became of it is told of that task; besides, a client waits for names, and gives back in the end what it holds
   abbrev pub IsFor : ℕ → Did → Type 0
   IsFor c (opens name number link by) = IsOperation clients outcomes c number (ops.Open name link) × Became clients outcomes number by
   IsFor c (sends name number attempt msg by) = IsMessage c name number attempt msg by × (msg.label.place ≡ 8 * number + attempt)
   IsFor c (holds name number by) = IsOperation clients outcomes c number (ops.Hold name) × Became clients outcomes number by
   IsFor c (drops name number by) = IsOperation clients outcomes c number (ops.Drop name) × Became clients outcomes number by
   IsFor c (fails name number code by) = IsOperation clients outcomes c number (ops.Fail name code) × Became clients outcomes number by
-  IsFor c other = Unit {0}
+  IsFor c (waits name) = Unit {0}
+  IsFor c (returns id) = Unit {0}
+  IsFor c other = ⊥
 
 -- the number of an operation that is done at the table of sockets, or begins there
 abbrev pub number_at : ℕ → Op → List ℕ
@@ -74,6 +76,26 @@ pub record Seated {O : Type 0} (g : Ghosts O) (state : O → OutState) (p : Plan
   pub seat : Seat (SockHome O g) View
   pub left : seat.me.0 ≡ ended.view
 
+-- a deed that is done by an `open`'s number or by an id
+abbrev pub IsById : Did → Type 0
+IsById (looks number noted) = Unit {0}
+IsById (takes id) = Unit {0}
+IsById (misses id found) = Unit {0}
+IsById (sets id code by) = Unit {0}
+IsById (returns id) = Unit {0}
+IsById other = ⊥
+
+-- one seat more, which has all that these noted, in their order, before its first deed; so whatever they noted stood before all that it did
+pub record Ended {O : Type 0} (g : Ghosts O) (state : O → OutState) (p : Plan) (seats : List (Seat (SockHome O g) View)) : Type 0 where
+  pub began : Hand
+  pub took_in : HasAll seats began.view
+  pub deeds : List (Deed g state p)
+  pub ended : Hand
+  pub chain : Chain g state p deeds began ended
+  pub by_ids : (k : ℕ) (d : Deed g state p) → get_elem? deeds k ≡ some d → IsById d.did
+  pub seat : Seat (SockHome O g) View
+  pub left : seat.me.0 ≡ ended.view
+
 abbrev pub seat_of : {O : Type 0} {g : Ghosts O} {state : O → OutState} {p : Plan} → Seated g state p → Seat (SockHome O g) View
 seat_of y = y.seat
 
@@ -84,9 +106,10 @@ pub record DeedRun {O : Type 0} (g : Ghosts O) (state : O → OutState) (p : Pla
   pub tasks : AreTasks p clients
   pub long : length outcomes ≡ p.operations
   pub seats : List (Seated g state p)
-  -- the table was closed with these seats
+  -- behind all of them the sockets were ended, by one seat that took them in; and the table was closed with it alone
+  pub ending : Ended g state p (map seat_of seats)
   pub left : List (Seat (SockHome O g) View)
-  pub left_are : map seat_of seats ≡ left
+  pub left_is : ending.seat ∷ [] ≡ left
   pub closed : ClosedBy state p left places vrefs outs
   -- each deed is for a task
   pub for_task : (c k : ℕ) (y : Seated g state p) (d : Deed g state p) → get_elem? seats c ≡ some y → get_elem? y.deeds k ≡ some d → IsFor clients outcomes c d.did

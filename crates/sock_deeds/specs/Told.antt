@@ -1,39 +1,21 @@
 -- What is told of sockets in a run, whatever else it does: why each operation on sockets has its outcome, and each link took what it took.
-use Rattle.std.specs.Prelude.{ℕ, ◌≡◌, ◌<◌, ◌⊎◌, ◌==◌, ◌&&◌, if◌then◌else◌, List, [], ◌∷◌, length, flat_map, Option, Some}
+use Rattle.std.specs.Prelude.{ℕ, ◌≡◌, ◌<◌, ◌≤◌, ◌⊎◌, List, [], length, Option}
 use Rattle.std.specs.List.{AllByRecursion}
-use Rattle.sock_io.specs.declared.link.Out.{Ghosts}
-use Rattle.sock_io.specs.Link.{OutState}
 use Rattle.sock_words.specs.declared.outcome.Outcome.{Outcome}
 use Rattle.sock_words.specs.declared.outcome.Outcome.TheVariants as outcome
 use Rattle.sock_words.specs.declared.plain.Plan.{Plan}
-use Rattle.sock_words.specs.Words.{socket_id_version, socket_id_slot}
+use Rattle.sock_message.specs.Asked.{Asked, name_of, frame_of}
 use Rattle.brpc_model.specs.Order.{EachBefore}
 use Rattle.sock_programs.specs.declared.task.Op.{Op}
 use Rattle.sock_programs.specs.declared.task.Op.TheVariants as ops
 use Rattle.sock_programs.specs.declared.task.Task.{Task}
 use Rattle.sock_programs.specs.Cores.{Core}
 use Rattle.sock_programs.specs.Told.{IsTask, Became, Made, IsFail}
-use Rattle.sock_programs.specs.ToldCalls.{Order, Fixed, AreOrders, StandsOn, InOwnOrder, IsFailing, Why}
-use Rattle.sock_deeds.specs.Deeds.{Did, sets, Deed}
-use Rattle.sock_deeds.specs.Runs.{Seated}
+use Rattle.sock_programs.specs.ToldCalls.{Accepted, Order, Fixed, AreOrders, StandsOn, InOwnOrder, FoundNone, IsFailing, IsSent, Why}
 
--- the link of an `open` that made the life of this id
-abbrev pub link_if : ℕ → Option Outcome → List ℕ
-link_if id (Some (outcome.Opened slot version link)) = if (slot == socket_id_slot id) && (version == socket_id_version id) then link ∷ [] else []
-link_if id other = []
-
--- the links of the lives that a seat set failed by their ids
-abbrev pub set_links : List (Option Outcome) → Did → List ℕ
-set_links outcomes (sets id code outcome.Failed) = flat_map (link_if id) outcomes
-set_links outcomes other = []
-
--- those of all seats; they count with the links that became a socket's while the run was ending
-abbrev pub all_set : {O : Type 0} {g : Ghosts O} {state : O → OutState} {p : Plan} → List (Option Outcome) → List (Seated g state p) → List ℕ
-all_set {O} {g} {state} {p} outcomes seats = flat_map (λ (y : Seated g state p). flat_map (λ (d : Deed g state p). set_links outcomes d.did) y.deeds) seats
-
--- what the table of sockets fixes besides: the links that failed, the lives that were failed, and those that were set failed by their ids
-abbrev pub fixed_by : List ℕ → List ℕ → List (ℕ × ℕ) → Fixed
-fixed_by broken late_links fails = record { broken = broken; early = []; closed = []; silent = []; late = []; late_links = late_links; soon = []; fails = fails }
+-- what the table of sockets fixes besides: the links that failed, and the lives that were failed
+abbrev pub fixed_by : List ℕ → List (ℕ × ℕ) → Fixed
+fixed_by broken fails = record { broken = broken; early = []; closed = []; silent = []; late = []; late_links = []; soon = []; fails = fails }
 
 -- the operation is on sockets alone
 abbrev pub IsOfSockets : Op → Type 0
@@ -41,6 +23,18 @@ IsOfSockets (ops.Call asked) = ⊥
 IsOfSockets (ops.Expire o) = ⊥
 IsOfSockets (ops.Join o) = ⊥
 IsOfSockets op = Unit {0}
+
+-- message a, which link k accepted, is an attempt of a call, with the frame that has its id, to a name of the link's socket
+pub record IsAttempt (clients : List (List Task)) (outcomes : List (Option Outcome)) (k : ℕ) (a : Accepted) : Type 0 where
+  pub client : ℕ
+  pub asked : Asked
+  pub is : IsTask clients outcomes client record { number = a.operation; op = ops.Call asked }
+  pub low : a.attempt ≤ 6
+  pub id : ℕ
+  pub frame : a.bytes ≡ frame_of asked id a.attempt
+  pub slot : ℕ
+  pub version : ℕ
+  pub made : Made clients outcomes (name_of asked a.attempt) k slot version
 
 module _ (p : Plan) (clients : List (List Task)) (outcomes : List (Option Outcome)) (fixed : Fixed) (gave : ℕ → List ℕ) (orders : ℕ → Order) where
   pub record ToldSockets (c : Core) : Type 0 where
@@ -53,6 +47,10 @@ module _ (p : Plan) (clients : List (List Task)) (outcomes : List (Option Outcom
     -- no two opens made the same life
     pub lives : (n k m l slot version : ℕ) (a : Made clients outcomes n k slot version) (b : Made clients outcomes m l slot version) → a.task.number ≡ b.task.number
     pub why : (last : ℕ → ℕ) (client : ℕ) (t : Task) (outcome : Outcome) → IsTask clients outcomes client t → Became clients outcomes t.number outcome → IsOfSockets t.op → Why p clients outcomes fixed gave orders last client t.number t.op outcome
+    -- a call that became unopened found no socket under the name of its first attempt
+    pub unopened : (client number : ℕ) (asked : Asked) → IsTask clients outcomes client record { number = number; op = ops.Call asked } → Became clients outcomes number outcome.Unopened → FoundNone p clients outcomes fixed gave orders client number (name_of asked 0)
+    -- each message that a link accepted is that of a `send` of which nothing is said, or an attempt of a call, to a name of the link's socket
+    pub sent : (last : ℕ → ℕ) (k : ℕ) → k < p.links → AllByRecursion (λ (a : Accepted). IsSent p clients outcomes fixed gave orders last k a ⊎ IsAttempt clients outcomes k a) (orders k).accepted
     -- of each client sends and first attempts stand in the order of its operations
     pub own_order : (k : ℕ) → k < p.links → EachBefore (InOwnOrder p clients outcomes fixed gave orders) (orders k).accepted
     -- and messages are dropped only where the link's life was failed

@@ -15,8 +15,6 @@ mod shaped;
 mod sink_linker;
 mod std_edge;
 mod stream;
-#[cfg(test)]
-mod tests;
 mod writing;
 
 pub use answered::Answered;

@@ -36,6 +36,15 @@ abbrev pub AllDone : {S : Type 0} → TableId → Plan → List (Seat S View) �
 AllDone z p [] = Unit {0}
 AllDone z p (s ∷ ss) = IsDoneSeat z p s × AllDone z p ss
 
+-- a view has what these seats noted, that of each in its place
+pub record HasAll {S : Type 0} (seats : List (Seat S View)) (v : View) : Type 0 where
+  pub marks : v.marks ≡ flat_map (λ (s : Seat S View). s.me.0.marks) seats
+  pub finds : v.finds ≡ flat_map (λ (s : Seat S View). s.me.0.finds) seats
+  pub histories : v.histories ≡ flat_map (λ (s : Seat S View). s.me.0.histories) seats
+  pub stores : v.stores ≡ flat_map (λ (s : Seat S View). s.me.0.stores) seats
+  pub lists : v.lists ≡ flat_map (λ (s : Seat S View). s.me.0.lists) seats
+  pub found : v.found ≡ flat_map (λ (s : Seat S View). s.me.0.found) seats
+
 -- n of them have the words that stand at these places
 abbrev pub WordsAre : {A : Type 0} → (A → ℕ) → (ℕ → ℕ) → ℕ → List A → List ℕ → Type 0
 WordsAre {A} word at n xs ws = (i : ℕ) → i < n → (x : A) × (get_elem? xs i ≡ some x) × (word x ≡ slice_index ws (at i))

@@ -7,7 +7,7 @@ ghost use Rattle.sock_model.specs.Layout.{all_words, ref_word, place_word};
 ghost use Rattle.std.specs.List.{flat_map};
 ghost use Rattle.sock_model.specs.Weights.{total};
 ghost use Rattle.sock_rule.specs.Seated.{IsSeat};
-ghost use Rattle.sock_table.specs.Closed.{AllDone, IsDoneSeat, WordsAre, AreLinks, OutsOf, ClosedBy, IsRoomOf};
+ghost use Rattle.sock_table.specs.Closed.{AllDone, IsDoneSeat, WordsAre, AreLinks, OutsOf, ClosedBy, IsRoomOf, HasAll};
 
 use crate::table::SockTable;
 use atomic_table::Closed as ClosedTable;
@@ -135,6 +135,17 @@ fn take_outs<O: Out>(table: &mut ClosedTable<SockHome<O>, Global>, plan: &Plan, 
 }
 
 impl<O: Out> SockTable<O> {
+    /// One seat that has what all of these noted, in their order. As `take_in`, for many.
+    pub fn join_seats(&self, seats: Vec<SockSeat<O>>) -> SockSeat<O>
+        requires seats { AllDone self.now.rule.table.shared.table_id self.now.rule.plan seats.items }
+        requires some { 1 ≤ total (λ s. s.me.0.share) seats.items }
+        ensures seat { IsDoneSeat self.now.rule.table.shared.table_id self.now.rule.plan result }
+        ensures share { result.me.0.share ≡ total (λ s. s.me.0.share) seats.items }
+        ensures all { HasAll seats.items result.me.0 }
+    {
+        join_all(&self.rule, seats)
+    }
+
     /// The seats are all that the table has but those that were taken in, and hold nothing. The room is there already.
     pub fn close_in(self, left: Closed<O>, seats: Vec<SockSeat<O>>) -> Closed<O>
         requires room { IsRoomOf self.rule.plan left }

@@ -83,6 +83,7 @@ module _ {O : Type 0} {state : O → OutState} {id : ℕ} where
   drop_then p place u v w a b = let same = wrote_stores u v a in record {
     link = b.link;
     position = b.position;
+    low = b.low;
     met = b.met;
     stores = b.stores ∙ ap (noted record { place = place_word p place; word = place_value true b.link b.position }) same;
     wrote = subst (λ (l : List (List StoredWord)). Wrote state id u (record w { stores = l })) same (wrote_then u v (record w { stores = v.stores }) a b.wrote);

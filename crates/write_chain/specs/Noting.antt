@@ -52,6 +52,8 @@ pub record Wrote {O : Type 0} (state : O → OutState) (id : ℕ) (v w : View) :
 pub record WroteDrop {O : Type 0} (state : O → OutState) (p : Plan) (id place : ℕ) (v w : View) : Type 0 where
   pub link : ℕ
   pub position : ℕ
+  -- so the word tells its link
+  pub low : position < 4294967295
   pub met : Met_by id w link
   pub stores : w.stores ≡ noted record { place = place_word p place; word = place_value true link position } v.stores
   pub wrote : Wrote state id v (record w { stores = v.stores })

@@ -11,6 +11,3 @@ pub use entry::{Refused, Started, start};
 pub use hold::{Once, write_once};
 pub use keep::{Kept, keep_write};
 pub use right::{Doing, InHand, LinkInHand, Undelivered, Walk, WriteRight};
-
-#[cfg(test)]
-mod tests;

@@ -23,8 +23,7 @@ impl IoBuf {
             return Ok(());
         }
         if bytes.len() <= BLOCK_BYTES && (fresh || bytes.len() <= pool.left()) {
-            let piece = pool.write(bytes)?;
-            return self.push_piece(piece);
+            return self.write_piece(pool, bytes);
         }
         let added = in_blocks(self.alloc, pool, bytes, fresh)?;
         self.reserve_refs(added.refs())?;
@@ -46,15 +45,20 @@ impl IoBuf {
 
     /// Lets the buffer go, and gives each block that comes free so back to the pool: those that no
     /// other buffer has a reference to.
-    pub fn recycle(mut self, pool: &mut BlockPool)
+    #[inline(always)]
+    pub fn recycle(self, pool: &mut BlockPool)
         ensures { pool.old ≤ pool.new }
     {
-        while let Some(piece) = self.pop_piece() {
-            pool.recycle(piece);
-        }
+        let IoBuf {
+            mut pieces,
+            len: _,
+            alloc: _,
+        } = self;
+        pieces.recycle(pool);
     }
 
     // Adds a reference.
+    #[inline(always)]
     pub(super) fn push_piece(&mut self, piece: Bytes) -> Result<(), NoMemory>
         requires { IsPiece piece }
         ensures items { OnOk result (self.new.items ≡ self.old.items ++ piece) }
@@ -66,6 +70,19 @@ impl IoBuf {
         Ok(())
     }
 
+    // Copies at most a block of bytes, and adds the reference to them. It is the one place where the pool
+    // writes, so that the new reference is put where it belongs at once.
+    #[inline(never)]
+    fn write_piece(&mut self, pool: &mut BlockPool, bytes: &[u8]) -> Result<(), NoMemory>
+        requires { (0 < length bytes.now) × (length bytes.now ≤ BLOCK_BYTES) }
+        ensures items { OnOk result (self.new.items ≡ self.old.items ++ bytes.now) }
+        ensures sizes { OnOk result (self.new.sizes ≡ self.old.sizes ++ length bytes.now ∷ []) }
+        ensures err { OnErr result (self.new ≡ self.old) }
+    {
+        let piece = pool.write(bytes)?;
+        self.push_piece(piece)
+    }
+
     // Writes the bytes in pieces of a block.
     fn fill_blocks(&mut self, pool: &mut BlockPool, bytes: &[u8]) -> Result<(), NoMemory>
         ensures items { OnOk result (self.new.items ≡ self.old.items ++ bytes.now) }
@@ -75,7 +92,7 @@ impl IoBuf {
         let mut at = 0;
         while at < bytes.len() {
             let end = at + BLOCK_BYTES.min(bytes.len() - at);
-            self.push_piece(pool.write(&bytes[at..end])?)?;
+            self.write_piece(pool, &bytes[at..end])?;
             at = end;
         }
         Ok(())
@@ -99,7 +116,7 @@ fn in_blocks(
         added.fill_blocks(pool, bytes)?;
         return Ok(added);
     }
-    added.push_piece(pool.write(&bytes[..within])?)?;
+    added.write_piece(pool, &bytes[..within])?;
     added.fill_blocks(pool, &bytes[within..])?;
     Ok(added)
 }

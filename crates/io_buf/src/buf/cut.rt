@@ -22,7 +22,20 @@ impl IoBuf {
 
     /// Appends references to the other buffer's bytes. It copies nothing. After a refusal it has a
     /// beginning of them besides its own.
+    #[inline(always)]
     pub fn append_shared(&mut self, other: &IoBuf) -> Result<(), NoMemory>
+        ensures items { OnOk result (self.new.items ≡ self.old.items ++ other.now.items) }
+        ensures sizes { OnOk result (self.new.sizes ≡ self.old.sizes ++ other.now.sizes) }
+    {
+        if other.len == 0 {
+            return Ok(());
+        }
+        self.append_each(other)
+    }
+
+    // Appends references to the other buffer's bytes.
+    #[inline(never)]
+    fn append_each(&mut self, other: &IoBuf) -> Result<(), NoMemory>
         ensures items { OnOk result (self.new.items ≡ self.old.items ++ other.now.items) }
         ensures sizes { OnOk result (self.new.sizes ≡ self.old.sizes ++ other.now.sizes) }
     {
@@ -94,6 +107,7 @@ impl IoBuf {
     }
 
     // Adds references to the first n bytes of the pieces.
+    #[inline(always)]
     fn add_front(&mut self, pieces: &Refs, n: usize) -> Result<(), NoMemory>
         requires pieces { All IsPiece pieces.now.items }
         requires n { n ≤ length (concat pieces.now.items) }

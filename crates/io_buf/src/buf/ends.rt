@@ -55,6 +55,7 @@ impl IoBuf {
     }
 
     // Takes the first reference.
+    #[inline(always)]
     pub(super) fn pop_piece(&mut self) -> Option<Bytes>
         ensures { MatchOption result ((self.old.sizes ≡ []) × (self.old.items ≡ []) × (self.new ≡ self.old))
             (λ piece. IsPiece piece × PutsPieceFirst self.new self.old piece) }

@@ -45,4 +45,5 @@ returns g c = let z = c.args.tables.now.socks.rule.table.shared.table_id in let 
       openings_are = r.cast.openings_are;
       names = r.cast.names;
       left = r.cast.left;
+      last = r.cast.last;
     }

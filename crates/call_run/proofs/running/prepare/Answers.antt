@@ -13,4 +13,5 @@ returns g c = let n = length-map c.args.clients.items (λ v. v.items) in let m =
   openings_are = c.in_ok-openings.ensures;
   names = (c.in_ok-names.ensures.items, c.in_ok-names.ensures.len, c.in_ok-names.ensures.exact ∙ omega arith);
   left = subst (λ (x : ℕ). IsRoomFor x c.in_ok-left.left) (omega arith) l;
+  last = (c.in_ok-last.ensures.items, c.in_ok-last.ensures.len, c.in_ok-last.ensures.exact);
 }

@@ -7,7 +7,7 @@ use Rattle.call_run.specs.Threads.{opens_of, opened_names}
 use Rattle.call_run.specs.Working.{IsReady, HasWorked}
 use Rattle.call_run.proofs.Weaving.{one_ready, all_ready}
 use Rattle.call_run.proofs.Manning.{fit_names}
-use Rattle.call_run.proofs.Whole.{crew_ran}
+use Rattle.call_run.proofs.Whole.{all_left, crew_ran}
 use Rattle.call_run.proofs.running.run_crew.Goals as goal
 
 pub work-requires-after_bounds : goal.work-requires-after_bounds
@@ -26,13 +26,23 @@ run_workers-requires g c = let z = c.args.tables.now.socks.rule.table.shared.tab
       ),
     )
 
-pub returns : goal.returns
-returns g c = let z = c.args.tables.now.socks.rule.table.shared.table_id in let p = c.args.tables.now.socks.rule.plan in let y = c.args.tables.now.ids.table.shared.table_id in let q = c.args.tables.now.ids.plan in let names = c.as_slice-3.result.now in let was = c.args.crew.workers.items in let ys = c.run_workers.new.workers in let m = c.work.new.self in
+pub end_sockets-seats-requires-clause-seats : goal.end_sockets-seats-requires-clause-seats
+end_sockets-seats-requires-clause-seats g c = let z = c.args.tables.now.socks.rule.table.shared.table_id in let p = c.args.tables.now.socks.rule.plan in let y = c.args.tables.now.ids.table.shared.table_id in let q = c.args.tables.now.ids.plan in let names = c.as_slice-3.result.now in let was = c.args.crew.workers.items in let m = c.work.new.self in let ys = c.run_workers.new.workers in
     let len = c.run_workers.ensures.length ∙ ap length c.as_mut_slice.ensures.value in
-    crew_ran g.O.Out.state z p y q c.args.crew m names ys c.args.opens.now c.end_each.new.seat c.hand_in.new.left c.hand_in_all.new.left c.requires.crew c.work.ensures
+    all_left g.O.Out.state z p y q c.args.crew m names ys c.hand_in.new.left c.hand_in_all.new.left c.requires.crew c.work.ensures
     (c.as_slice-3.ensures.value ∙ (c.opened_names.ensures ∙ (λ i. opened_names (c.as_slice.ensures.value i) ((c.as_slice-2.ensures.value ∙ c.requires.crew.openings_are) i))))
     len
     (subst (λ l. (i : ℕ) (d : Worker g.row.O.Denot g.O.Out) → i < length l → HasWorked g.O.Out.state z p y q names (get_or l i d) (get_or ys i d)) c.as_mut_slice.ensures.value c.run_workers.ensures.each)
-    c.end_each.ensures.done c.end_each.ensures.share c.end_each.ensures.ended
     _ c.hand_in.ensures c.hand_in_all.ensures
     (whole_lent ys was c.args.crew.workers.len (omega (arith, c.args.crew.workers.ok.0)) len)
+
+pub returns : goal.returns
+returns g c = let z = c.args.tables.now.socks.rule.table.shared.table_id in let p = c.args.tables.now.socks.rule.plan in let y = c.args.tables.now.ids.table.shared.table_id in let q = c.args.tables.now.ids.plan in let names = c.as_slice-3.result.now in let was = c.args.crew.workers.items in let m = c.work.new.self in let ys = c.run_workers.new.workers in
+    let len = c.run_workers.ensures.length ∙ ap length c.as_mut_slice.ensures.value in
+    crew_ran g.O.Out.state z p y q c.args.crew m names ys c.hand_in.new.left c.hand_in_all.new.left c.requires.crew c.work.ensures
+    (c.as_slice-3.ensures.value ∙ (c.opened_names.ensures ∙ (λ i. opened_names (c.as_slice.ensures.value i) ((c.as_slice-2.ensures.value ∙ c.requires.crew.openings_are) i))))
+    len
+    (subst (λ l. (i : ℕ) (d : Worker g.row.O.Denot g.O.Out) → i < length l → HasWorked g.O.Out.state z p y q names (get_or l i d) (get_or ys i d)) c.as_mut_slice.ensures.value c.run_workers.ensures.each)
+    _ c.hand_in.ensures c.hand_in_all.ensures
+    (whole_lent ys was c.args.crew.workers.len (omega (arith, c.args.crew.workers.ok.0)) len)
+    c.args.opens.now c.end_sockets-seats.result c.end_sockets-seats.ensures.left c.end_sockets-seats.ensures.ended

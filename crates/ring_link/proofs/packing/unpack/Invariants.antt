@@ -1,4 +1,4 @@
-use Rattle.std.proofs.Common.{◌≡◌, length, map, take}
+use Rattle.std.proofs.Common.{◌≡◌, map, take}
 use Rattle.ring_link.specs.declared.cell.Cell.TheVariants.{Byte}
 use Rattle.ring_link.proofs.packing.unpack.Given as goal
 

@@ -100,7 +100,7 @@ returns-in-Ok-run_on-clause-ran g c =
     c.in-Ok.ensures.plan c.in-Ok.ensures.slots (c.deref.ensures.value ∙ c.in-Ok.ensures.opens_are) (c.deref-in-Ok-run_on.ensures.value ∙ c.in-Ok.ensures.calls_are) c.in-Ok-run_on.ensures.ids.0 refl c.in-Ok.ensures.tasks c.in-Ok-run_on.ensures.ran
     (ap (map (λ e. e.out)) (c.as_mut_slice.ensures.value ∙ c.join.ensures) ∙ joined_outs g.L.O.Out.state g.L.I.In.state _ _ (omega (arith, rests, count, links, all)))
     (back_silent g.L.O.Out.state g.L.I.In.state c.args.ends.items c.as_mut_slice.result.now _ _ c.requires.untouched c.part.ensures.rests (c.as_mut_slice.ensures.value ∙ c.join.ensures))
-    q.1 (c.give_back-in-Ok-run_on.ensures.back ∙ ap (map (end_at g.L.O.Out.state g.L.I.In.state)) lent) q.2)
+    c.finish-text.ensures.outs q.1 (c.give_back-in-Ok-run_on.ensures.back ∙ ap (map (end_at g.L.O.Out.state g.L.I.In.state)) lent) q.2)
 
 pub returns-in-Ok-run_on-clause-back : goal.returns-in-Ok-run_on-clause-back
 returns-in-Ok-run_on-clause-back g c =

@@ -66,6 +66,7 @@ returns-clause-wrote g c = let h = part_noted c.args.hand c.args.seat.now.me c.c
     drop_then {state = g.O.Out.state} c.args.table.now.rule.plan c.args.hand.label.place c.args.seat.now.me.0 c.code-told.new.seat.me.0 c.go_past-doing.new.seat.me.0 begun record {
       link = c.args.hand.link;
       position = c.args.hand.home.next;
+      low = c.requires.may.0.0.few;
       met = subst (λ (l : List SlotMark). 0 < total (is_met (socket_id_version c.args.sock.now.id.0) c.args.hand.link) (about (socket_id_slot c.args.sock.now.id.0) l)) (sym (ap (λ (y : View). y.marks) left.0)) h.0.writer.holds.met;
       stores = left.1 ∙ ap (λ (x : ℕ). noted record { place = place_word c.args.table.now.rule.plan c.args.hand.label.place; word = x } c.code-told.new.seat.me.0.stores) value;
       wrote = wrote_rights c.code-told.new.seat.me.0 (record c.go_past-doing.new.seat.me.0 { stores = c.code-told.new.seat.me.0.stores }) left.0;

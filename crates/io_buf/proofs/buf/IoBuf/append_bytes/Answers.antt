@@ -16,17 +16,15 @@ pub returns-then-bytes-left-clause-empty : goal.returns-then-bytes-left-clause-e
 returns-then-bytes-left-clause-empty c =
     let P : Buffer → Type 0 = λ b. b.items ≡ [] → b.sizes ≡ [] in
     let ps = c.self.inside.pieces.items in
-    let size : length c.in_ok-piece.piece ≡ length c.args.bytes.now = ap length c.in_ok-piece.ensures.ok in
     let filled : length c.args.bytes.now ≡ 0 → ⊥ = eqb-false (length c.args.bytes.now) 0 (sym c.if-is_empty.ensures) in
     let some : 0 < length c.args.bytes.now = omega arith in
-    on_ok_weaker c.push_piece.result (λ e none.
+    on_ok_weaker c.write_piece.result (λ e none.
     e
-    ∙ ap (λ (l : List ℕ). l ++ length c.in_ok-piece.piece ∷ []) (subst P c.self.view_is (no_sizes ps c.self.invariant.pieces) none)
-    ∙ ap (λ (n : ℕ). n ∷ []) size
-    ∙ sym (block_sizes-one (length c.args.bytes.now) some (omega (arith, c.if-bytes-le-BLOCK_BYTES.true)))) c.push_piece.ensures.sizes
+    ∙ ap (λ (l : List ℕ). l ++ length c.args.bytes.now ∷ []) (subst P c.self.view_is (no_sizes ps c.self.invariant.pieces) none)
+    ∙ sym (block_sizes-one (length c.args.bytes.now) some (omega (arith, c.if-bytes-le-BLOCK_BYTES.true)))) c.write_piece.ensures.sizes
 
 pub returns-then-bytes-left-clause-kept : goal.returns-then-bytes-left-clause-kept
-returns-then-bytes-left-clause-kept c = on_ok_weaker c.push_piece.result (λ e. (length c.in_ok-piece.piece ∷ [], e)) c.push_piece.ensures.sizes
+returns-then-bytes-left-clause-kept c = on_ok_weaker c.write_piece.result (λ e. (length c.args.bytes.now ∷ [], e)) c.write_piece.ensures.sizes
 
 pub returns-clause-empty : goal.returns-clause-empty
 returns-clause-empty c = λ none.

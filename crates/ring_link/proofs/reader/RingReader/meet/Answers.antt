@@ -1,9 +1,4 @@
-use Rattle.std.proofs.Common.{rules, ◌≡◌, ◌≢◌, ◌++◌, [], List, ap, sym, ◌∙◌, subst, refl}
 use Rattle.rtrb.specs.Ring.{sent, received, known_items}
-use Rattle.sock_io.specs.declared.ending.Ending.{Ending}
-use Rattle.ring_link.specs.declared.cell.Cell.{Cell}
-use Rattle.ring_link.specs.Cells.{bytes_of, ending_of}
-use Rattle.ring_link.specs.Halves.{IsTakenOf, ReaderState, WriterState, Ring}
 use Rattle.ring_link.proofs.CellLists.{taken_of}
 use Rattle.ring_link.proofs.reader.RingReader.meet.Goals as goal
 

@@ -2,7 +2,7 @@ use Rattle.std.proofs.Common.{rules, ◌≡◌, ◌++◌, ◌∷◌, [], ap, sym
 use Rattle.sock_io.specs.declared.ending.Ending.TheVariants as ending
 use Rattle.rtrb.specs.Ring.{sent}
 use Rattle.ring_link.specs.declared.cell.Cell.TheVariants.{Ended}
-use Rattle.ring_link.specs.Cells.{IsOpen, bytes_of, ending_of, mark_cells}
+use Rattle.ring_link.specs.Cells.{IsOpen, bytes_of, ending_of}
 use Rattle.ring_link.specs.Halves.{WriterState}
 use Rattle.ring_link.proofs.CellLists.{IsWhole, bytes_shut, ending_shut, whole_shut}
 use Rattle.ring_link.proofs.writer.RingWriter.end.Goals as goal

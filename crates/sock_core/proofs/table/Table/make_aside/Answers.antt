@@ -63,8 +63,16 @@ returns-clause-made g c seat_number =
       );
     })
 
-pub returns-clause-found : goal.returns-clause-found
-returns-clause-found g c = subst (λ (x : TableState). FoundBeside x (seat_data c.args.place.now) c.args.step c.step-found.result) c.self.view_is ((c.step-found.ensures (asked_of (seat_data c.args.place.now).call)).finds [] [] c.self.inside.ending core.none)
+pub returns-clause-waits : goal.returns-clause-waits
+returns-clause-waits g c =
+    let seat = seat_data c.args.place.now in (
+      c.step-found.result,
+      subst (λ (x : TableState). FoundBeside x seat c.args.step c.step-found.result) c.self.view_is ((c.step-found.ensures (asked_of seat.call)).finds [] [] c.self.inside.ending core.none),
+      c.awaited-waits.ensures.waits (around (table_sizes c.args.self.now) seat),
+    )
+
+pub returns-clause-on : goal.returns-clause-on
+returns-clause-on g c = c.awaited-waits.ensures.on (around (table_sizes c.args.self.now) (seat_data c.args.place.now))
 
 pub invariant_of-self : goal.invariant_of-self
 invariant_of-self g c = let asked = asked_of (seat_data c.args.place.now).call in

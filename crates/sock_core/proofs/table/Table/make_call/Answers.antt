@@ -9,6 +9,7 @@ use Rattle.client_seats.specs.Seats.{seat_data, around, seat_program}
 use Rattle.sock_programs.specs.Scripts.{sizes_of}
 use Rattle.sock_core.specs.Machines.{TableState, table_sizes}
 use Rattle.sock_core.specs.Steps.{IsReady, MayGoOn}
+use Rattle.sock_core.specs.Telling.{waits_by}
 use Rattle.sock_core.proofs.Stepping.{written, makes_along, goes, outs_in}
 use Rattle.sock_core.proofs.TableRoom.{room_for}
 use Rattle.sock_core.proofs.TableGoes.{may_next, next_is, flat_next, follows_as}
@@ -64,3 +65,14 @@ returns-clause-made g c =
         },
       );
     })
+
+pub returns-clause-waits : goal.returns-clause-waits
+returns-clause-waits g c =
+    let seat = seat_data c.args.place.now in
+    let call = step_of c.args.call in
+    let program = seat_program (table_sizes c.args.self.now) seat in
+    let found = c.step_word-found.ensures.found ∙ ap (λ (ws : List ℕ). found_at ws (word_of c.self.inside.plan call)) c.deref_mut.ensures.value ∙ ap (λ (x : TableState). found_at x.words (word_of x.plan call)) c.self.view_is in
+    c.awaited-waits.ensures.waits (around (table_sizes c.args.self.now) seat) ∙ ap (waits_by program) found
+
+pub returns-clause-on : goal.returns-clause-on
+returns-clause-on g c = c.awaited-waits.ensures.on (around (table_sizes c.args.self.now) (seat_data c.args.place.now))

@@ -1,8 +1,9 @@
-use Rattle.std.proofs.Common.{◌≢◌, ◌∙◌, sym, subst, ⊎_elim}
+use Rattle.std.proofs.Common.{◌≢◌, ◌∙◌, refl, sym, subst, ⊎_elim}
+use Rattle.sock_programs.specs.Cores.{word_of, found_at}
 use Rattle.sock_io.specs.declared.link.Ready.TheVariants as asks
 use Rattle.seat_points.specs.declared.point.Step.{Step}
 use Rattle.seat_points.specs.declared.point.Step.TheVariants as firsts
-use Rattle.seat_points.specs.Steps.{step_as}
+use Rattle.seat_points.specs.Steps.{step_of, step_as}
 use Rattle.client_seats.specs.Seats.{seat_data, around, seat_program}
 use Rattle.sock_core.specs.Machines.{table_sizes}
 use Rattle.sock_core.specs.Steps.{IsNext}
@@ -21,16 +22,20 @@ pub returns-in-Some-clause-ok : goal.returns-in-Some-clause-ok
 returns-in-Some-clause-ok g c =
     let seat = seat_data c.args.place.now in
     let own = around (table_sizes c.args.self.now) seat in
-    call_waited c.kind-kind.result c.requires.next (c.kind-kind.ensures own) c.in-Call.call c.make_call-found.result c.awaited.result c.in-Some.on c.in-Call.is c.make_call-found.ensures.made c.make_call-found.ensures.found (c.awaited.ensures.waits own) (c.awaited.ensures.on own) c.in-Some.is
+    let t = c.args.self.now in
+    let found = found_at t.words (word_of t.plan (step_of c.in-Call.call)) in
+    call_waited c.kind-kind.result c.requires.next (c.kind-kind.ensures own) c.in-Call.call found c.make_call.result c.in-Some.on c.in-Call.is c.make_call.ensures.made refl c.make_call.ensures.waits c.make_call.ensures.on c.in-Some.is
 
 pub returns-in-None-clause-ok : goal.returns-in-None-clause-ok
 returns-in-None-clause-ok g c =
     let seat = seat_data c.args.place.now in
     let own = around (table_sizes c.args.self.now) seat in
-    call_moved c.kind-kind.result c.requires.next (c.kind-kind.ensures own) c.in-Call.call c.make_call-found.result c.awaited.result c.in-Call.is c.make_call-found.ensures.made c.make_call-found.ensures.found (c.awaited.ensures.waits own) c.in-None.is
+    let t = c.args.self.now in
+    let found = found_at t.words (word_of t.plan (step_of c.in-Call.call)) in
+    call_moved c.kind-kind.result c.requires.next (c.kind-kind.ensures own) c.in-Call.call found c.make_call.result c.in-Call.is c.make_call.ensures.made refl c.make_call.ensures.waits c.in-None.is
 
 pub returns-in-Aside-clause-ok : goal.returns-in-Aside-clause-ok
-returns-in-Aside-clause-ok g c = told_aside c.args.self.now c.step_aside.new.self (seat_data c.args.place.now) (seat_data c.step_aside.new.place) c.args.step c.in-Aside.step c.step_aside.result c.in-Aside.is c.step_aside.ensures.ok c.args.seat
+returns-in-Aside-clause-ok g c = told_aside c.args.self.now c.step_aside.new.self (seat_data c.args.place.now) (seat_data c.step_aside.new.place) c.args.step.now c.in-Aside.step c.step_aside.result c.in-Aside.is c.step_aside.ensures.ok c.args.seat
 
 pub returns-in-Aside-clause-none : goal.returns-in-Aside-clause-none
 returns-in-Aside-clause-none g c plain =

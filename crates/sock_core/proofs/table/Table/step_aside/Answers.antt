@@ -33,14 +33,14 @@ returns-in_ok-take_call-in-TakeCall-clause-ok g c i =
 pub returns-in-Some-clause-ok : goal.returns-in-Some-clause-ok
 returns-in-Some-clause-ok g c i =
     let seat = seat_data c.args.place.now in
-    let own = around (table_sizes c.args.self.now) seat in
-    aside_waited c.kind-kind.result c.requires.next (c.kind-kind.ensures (asked_of seat.call)) c.args.step c.make_aside-found.result c.awaited.result c.in-Some.on refl (c.make_aside-found.ensures.made i) c.make_aside-found.ensures.found (c.awaited.ensures.waits own) (c.awaited.ensures.on own) c.in-Some.is
+    let waits = c.make_aside.ensures.waits in
+    aside_waited c.kind-kind.result c.requires.next (c.kind-kind.ensures (asked_of seat.call)) c.args.step waits.0 c.make_aside.result c.in-Some.on refl (c.make_aside.ensures.made i) waits.1 waits.2 c.make_aside.ensures.on c.in-Some.is
 
 pub returns-in-None-clause-ok : goal.returns-in-None-clause-ok
 returns-in-None-clause-ok g c i =
     let seat = seat_data c.args.place.now in
-    let own = around (table_sizes c.args.self.now) seat in
-    aside_moved c.kind-kind.result c.requires.next (c.kind-kind.ensures (asked_of seat.call)) c.args.step c.make_aside-found.result c.awaited.result refl (c.make_aside-found.ensures.made i) c.make_aside-found.ensures.found (c.awaited.ensures.waits own) c.in-None.is
+    let waits = c.make_aside.ensures.waits in
+    aside_moved c.kind-kind.result c.requires.next (c.kind-kind.ensures (asked_of seat.call)) c.args.step waits.0 c.make_aside.result refl (c.make_aside.ensures.made i) waits.1 waits.2 c.in-None.is
 
 on_word : (s : code.Aside) → ((i : ℕ) → s ≡ steps.PutCall i → ⊥) → ((i : ℕ) → s ≡ steps.TakeCall i → ⊥) → ((k n : ℕ) → s ≡ steps.TakeBytes k n → ⊥) → IsOnWord s
 on_word (steps.PutCall i) put take bytes = put i refl
@@ -60,8 +60,8 @@ on_word (steps.EndId i) put take bytes = tt
 on_word (steps.FreeId i) put take bytes = tt
 
 -- no client takes bytes of a link
-pub make_aside-found-requires-clause-kind : goal.make_aside-found-requires-clause-kind
-make_aside-found-requires-clause-kind g c =
+pub make_aside-requires-clause-kind : goal.make_aside-requires-clause-kind
+make_aside-requires-clause-kind g c =
     let seat = seat_data c.args.place.now in
     let t = c.args.self.now in
     on_word c.args.step c.in_default.not-PutCall c.in_default.not-TakeCall (λ k n e. takes_none (around (table_sizes t) seat) seat.point k n (subst (λ (s : code.Aside). IsNext t seat (firsts.Aside s)) e c.requires.next))

@@ -19,17 +19,17 @@ returns-then-not-has_room-clause-err g c =
 
 pub step-requires-clause-next : goal.step-requires-clause-next
 step-requires-clause-next g c =
-    next_here c.self.inside.table c.self.inside.seats.items c.self.inside.readers.items c.self.inside.opens.items c.self.inside.short c.args.seat c.from.result c.from.ensures c.index_mut-place.result.now c.has_room.new.place c.index_mut-place.ensures.value c.has_room.ensures.same c.args.step (next_in c.self.view_is c.requires.next)
+    next_here c.self.inside.table c.self.inside.seats.items c.self.inside.readers.items c.self.inside.opens.items c.self.inside.short c.args.seat c.from.result c.from.ensures c.index_mut-place.result.now c.has_room.new.place c.index_mut-place.ensures.value c.has_room.ensures.same c.args.step.now (next_in c.self.view_is c.requires.next)
 
 pub step-requires-clause-stand : goal.step-requires-clause-stand
 step-requires-clause-stand g c = (
-  ready_here c.self.inside.table c.self.inside.seats.items c.self.inside.readers.items c.self.inside.opens.items c.self.inside.short c.args.seat c.from.result c.from.ensures c.index_mut-place.result.now c.has_room.new.place c.index_mut-place.ensures.value c.has_room.ensures.same c.args.step (next_in c.self.view_is c.requires.next) (subst (λ (m : MachineState). ReadyAt m c.args.seat) (sym c.self.view_is) c.requires.ready),
-  (fits_here c.self.inside.table c.self.inside.seats.items c.self.inside.readers.items c.self.inside.opens.items c.self.inside.short c.args.seat c.from.result c.from.ensures c.index_mut-place.result.now c.has_room.new.place c.index_mut-place.ensures.value c.has_room.ensures.same c.args.step (next_in c.self.view_is c.requires.next) (subst (λ (m : MachineState). StepFits m c.args.seat c.args.step) (sym c.self.view_is) c.requires.fits)).0,
+  ready_here c.self.inside.table c.self.inside.seats.items c.self.inside.readers.items c.self.inside.opens.items c.self.inside.short c.args.seat c.from.result c.from.ensures c.index_mut-place.result.now c.has_room.new.place c.index_mut-place.ensures.value c.has_room.ensures.same c.args.step.now (next_in c.self.view_is c.requires.next) (subst (λ (m : MachineState). ReadyAt m c.args.seat) (sym c.self.view_is) c.requires.ready),
+  (fits_here c.self.inside.table c.self.inside.seats.items c.self.inside.readers.items c.self.inside.opens.items c.self.inside.short c.args.seat c.from.result c.from.ensures c.index_mut-place.result.now c.has_room.new.place c.index_mut-place.ensures.value c.has_room.ensures.same c.args.step.now (next_in c.self.view_is c.requires.next) (subst (λ (m : MachineState). StepFits m c.args.seat c.args.step.now) (sym c.self.view_is) c.requires.fits)).0,
 )
 
 pub step-requires-clause-fits : goal.step-requires-clause-fits
 step-requires-clause-fits g c =
-    (fits_here c.self.inside.table c.self.inside.seats.items c.self.inside.readers.items c.self.inside.opens.items c.self.inside.short c.args.seat c.from.result c.from.ensures c.index_mut-place.result.now c.has_room.new.place c.index_mut-place.ensures.value c.has_room.ensures.same c.args.step (next_in c.self.view_is c.requires.next) (subst (λ (m : MachineState). StepFits m c.args.seat c.args.step) (sym c.self.view_is) c.requires.fits)).1
+    (fits_here c.self.inside.table c.self.inside.seats.items c.self.inside.readers.items c.self.inside.opens.items c.self.inside.short c.args.seat c.from.result c.from.ensures c.index_mut-place.result.now c.has_room.new.place c.index_mut-place.ensures.value c.has_room.ensures.same c.args.step.now (next_in c.self.view_is c.requires.next) (subst (λ (m : MachineState). StepFits m c.args.seat c.args.step.now) (sym c.self.view_is) c.requires.fits)).1
 
 pub step-requires-clause-sized : goal.step-requires-clause-sized
 step-requires-clause-sized g c = subst (λ (m : MachineState). IsSized (table_of m)) (sym c.self.view_is) c.requires.sized
@@ -43,4 +43,4 @@ returns-in_default-clause-err g c =
 
 pub returns-clause-ok : goal.returns-clause-ok
 returns-clause-ok g c =
-    told_along c.self.view_is (told_here c.self.inside.table c.self.inside.seats.items c.self.inside.readers.items c.self.inside.opens.items c.self.inside.short c.args.seat c.from.result c.from.ensures c.index_mut-place.result.now c.has_room.new.place c.index_mut-place.ensures.value c.has_room.ensures.same c.args.step (next_in c.self.view_is c.requires.next) c.step.new.place c.in-Ok.ensures.ok)
+    told_along c.self.view_is (told_here c.self.inside.table c.self.inside.seats.items c.self.inside.readers.items c.self.inside.opens.items c.self.inside.short c.args.seat c.from.result c.from.ensures c.index_mut-place.result.now c.has_room.new.place c.index_mut-place.ensures.value c.has_room.ensures.same c.args.step.now (next_in c.self.view_is c.requires.next) c.step.new.place c.in-Ok.ensures.ok)

@@ -16,27 +16,27 @@ index_mut-place-requires g c =
 
 pub step-requires-clause-next : goal.step-requires-clause-next
 step-requires-clause-next g c =
-    next_here c.self.inside.table c.self.inside.seats.items c.self.inside.readers.items c.self.inside.opens.items c.self.inside.short 0 0 refl c.index_mut-place.result.now c.index_mut-place.result.now c.index_mut-place.ensures.value refl c.args.step (next_in c.self.view_is c.requires.next)
+    next_here c.self.inside.table c.self.inside.seats.items c.self.inside.readers.items c.self.inside.opens.items c.self.inside.short 0 0 refl c.index_mut-place.result.now c.index_mut-place.result.now c.index_mut-place.ensures.value refl c.args.step.now (next_in c.self.view_is c.requires.next)
 
 pub step-requires-clause-stand : goal.step-requires-clause-stand
 step-requires-clause-stand g c = (
-  ready_here c.self.inside.table c.self.inside.seats.items c.self.inside.readers.items c.self.inside.opens.items c.self.inside.short 0 0 refl c.index_mut-place.result.now c.index_mut-place.result.now c.index_mut-place.ensures.value refl c.args.step (next_in c.self.view_is c.requires.next) (subst (λ (m : MachineState). ReadyAt m 0) (sym c.self.view_is) c.requires.ready),
-  (fits_here c.self.inside.table c.self.inside.seats.items c.self.inside.readers.items c.self.inside.opens.items c.self.inside.short 0 0 refl c.index_mut-place.result.now c.index_mut-place.result.now c.index_mut-place.ensures.value refl c.args.step (next_in c.self.view_is c.requires.next) (subst (λ (m : MachineState). StepFits m 0 c.args.step) (sym c.self.view_is) c.requires.fits)).0,
+  ready_here c.self.inside.table c.self.inside.seats.items c.self.inside.readers.items c.self.inside.opens.items c.self.inside.short 0 0 refl c.index_mut-place.result.now c.index_mut-place.result.now c.index_mut-place.ensures.value refl c.args.step.now (next_in c.self.view_is c.requires.next) (subst (λ (m : MachineState). ReadyAt m 0) (sym c.self.view_is) c.requires.ready),
+  (fits_here c.self.inside.table c.self.inside.seats.items c.self.inside.readers.items c.self.inside.opens.items c.self.inside.short 0 0 refl c.index_mut-place.result.now c.index_mut-place.result.now c.index_mut-place.ensures.value refl c.args.step.now (next_in c.self.view_is c.requires.next) (subst (λ (m : MachineState). StepFits m 0 c.args.step.now) (sym c.self.view_is) c.requires.fits)).0,
 )
 
 pub step-requires-clause-fits : goal.step-requires-clause-fits
 step-requires-clause-fits g c =
-    (fits_here c.self.inside.table c.self.inside.seats.items c.self.inside.readers.items c.self.inside.opens.items c.self.inside.short 0 0 refl c.index_mut-place.result.now c.index_mut-place.result.now c.index_mut-place.ensures.value refl c.args.step (next_in c.self.view_is c.requires.next) (subst (λ (m : MachineState). StepFits m 0 c.args.step) (sym c.self.view_is) c.requires.fits)).1
+    (fits_here c.self.inside.table c.self.inside.seats.items c.self.inside.readers.items c.self.inside.opens.items c.self.inside.short 0 0 refl c.index_mut-place.result.now c.index_mut-place.result.now c.index_mut-place.ensures.value refl c.args.step.now (next_in c.self.view_is c.requires.next) (subst (λ (m : MachineState). StepFits m 0 c.args.step.now) (sym c.self.view_is) c.requires.fits)).1
 
 pub step-requires-clause-sized : goal.step-requires-clause-sized
 step-requires-clause-sized g c = subst (λ (m : MachineState). IsSized (table_of m)) (sym c.self.view_is) c.requires.sized
 
 pub step-requires-clause-room : goal.step-requires-clause-room
 step-requires-clause-room g c =
-    inr (plain_here c.self.inside.table c.self.inside.seats.items c.self.inside.readers.items c.self.inside.opens.items c.self.inside.short 0 0 refl c.index_mut-place.result.now c.index_mut-place.result.now c.index_mut-place.ensures.value refl c.args.step (next_in c.self.view_is c.requires.next) refl (subst IsPlain (sym c.self.view_is) c.requires.plain))
+    inr (plain_here c.self.inside.table c.self.inside.seats.items c.self.inside.readers.items c.self.inside.opens.items c.self.inside.short 0 0 refl c.index_mut-place.result.now c.index_mut-place.result.now c.index_mut-place.ensures.value refl c.args.step.now (next_in c.self.view_is c.requires.next) refl (subst IsPlain (sym c.self.view_is) c.requires.plain))
 
 pub returns : goal.returns
 returns g c = elim c.match-step.branch [
-  | in-Ok w ↦ tick_as w.result-is (told_along c.self.view_is (told_here c.self.inside.table c.self.inside.seats.items c.self.inside.readers.items c.self.inside.opens.items c.self.inside.short 0 0 refl c.index_mut-place.result.now c.index_mut-place.result.now c.index_mut-place.ensures.value refl c.args.step (next_in c.self.view_is c.requires.next) c.step.new.place w.in-Ok.ensures.ok))
-  | in-Err w ↦ absurd (false≢true (w.in-Err.ensures.none (plain_here c.self.inside.table c.self.inside.seats.items c.self.inside.readers.items c.self.inside.opens.items c.self.inside.short 0 0 refl c.index_mut-place.result.now c.index_mut-place.result.now c.index_mut-place.ensures.value refl c.args.step (next_in c.self.view_is c.requires.next) refl (subst IsPlain (sym c.self.view_is) c.requires.plain))))
+  | in-Ok w ↦ tick_as w.result-is (told_along c.self.view_is (told_here c.self.inside.table c.self.inside.seats.items c.self.inside.readers.items c.self.inside.opens.items c.self.inside.short 0 0 refl c.index_mut-place.result.now c.index_mut-place.result.now c.index_mut-place.ensures.value refl c.args.step.now (next_in c.self.view_is c.requires.next) c.step.new.place w.in-Ok.ensures.ok))
+  | in-Err w ↦ absurd (false≢true (w.in-Err.ensures.none (plain_here c.self.inside.table c.self.inside.seats.items c.self.inside.readers.items c.self.inside.opens.items c.self.inside.short 0 0 refl c.index_mut-place.result.now c.index_mut-place.result.now c.index_mut-place.ensures.value refl c.args.step.now (next_in c.self.view_is c.requires.next) refl (subst IsPlain (sym c.self.view_is) c.requires.plain))))
 ]

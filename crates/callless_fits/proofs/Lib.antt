@@ -1,0 +1,6 @@
+pub mod Socketed
+pub mod Words
+pub mod Each
+pub mod Telling
+pub mod Regave
+pub mod Fits

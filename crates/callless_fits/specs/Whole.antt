@@ -1,0 +1,55 @@
+-- What is reported of a script without calls, whatever its links gave.
+use Rattle.std.specs.Prelude.{ℕ, ◌≡◌, Bool, false, List, [], option_map}
+use Rattle.brpc_model.specs.Items.{Item}
+use Rattle.brpc_model.specs.Link.{LinkEnd}
+use Rattle.brpc_model.specs.Report.{Report, report_text}
+use Rattle.brpc_model.specs.Run.{nothing_late}
+use Rattle.brpc_model.specs.Complete.{FitsWhole}
+use Rattle.sock_programs.specs.Cores.{Core}
+use Rattle.sock_programs.specs.Scripts.{Reports, all_tasks}
+use Rattle.sock_programs.specs.Tasks.{plan_of}
+use Rattle.sock_programs.specs.ToldCalls.{Fixed, Order, ToldCalls}
+use Rattle.report_fits.specs.Ends.{AreTold, AreEndsOf}
+
+-- The text reports a run of the script, over the links that were given back. Each outcome has its cause, by what became of all others; and each link took
+-- the messages that it accepted in one order, whole and once, those of each client in its own order. What the links gave is of no account.
+pub record IsWholeText (script : List Item) (text : List ℕ) (gave : ℕ → List ℕ) (ends : List LinkEnd) : Type 0 where
+  -- what the closed table left: its words, the messages that the links took, and what the clients told
+  pub core : Core
+  pub fixed : Fixed
+  -- what each link accepted, and how many messages it took whole
+  pub orders : ℕ → Order
+  pub tells : ToldCalls (plan_of script) (all_tasks script) core.outcomes fixed gave orders core
+  -- what is reported that the links took
+  pub took : List (List ℕ)
+  pub told : AreTold ends took
+  pub report : Report
+  pub reports : Reports script core took report
+  pub is_text : text ≡ report_text script report
+  -- the links are those of this run: they took what is at home, gave what is said of them, and show where they failed
+  pub ends_told : AreEndsOf script core fixed gave ends
+  -- the report fits the script and them, with nothing late; and where nothing went wrong, every send is placed
+  pub fits : FitsWhole script text ends nothing_late
+
+-- ## As if nothing had been read
+
+abbrev pub gave_none : ℕ → List ℕ
+gave_none link = []
+
+abbrev pub none_of : {A : Type 0} → List A → List A
+none_of xs = []
+
+-- the link as it would have been given back if nobody had read it
+abbrev pub unread : LinkEnd → LinkEnd
+unread e = record {
+  link = e.link;
+  took = e.took;
+  put_faults = e.put_faults;
+  gave = option_map none_of e.gave;
+  gave_count = 0;
+  take_faults = 0;
+  gave_end = false;
+  closed = option_map (λ (answered : Bool). false) e.closed;
+  answers = e.answers;
+  takes = option_map none_of e.takes;
+}

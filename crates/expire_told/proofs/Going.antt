@@ -1,0 +1,307 @@
+-- What a client knows of calls it knows still, what it told stays told, and memory that is there was always there; and an id is stored for an operation only by its call.
+use Rattle.std.proofs.Common.{◌≡◌, ℕ, zero, suc, ◌+◌, ◌≤◌, ◌⊎◌, inl, inr, true, false, List, [], ◌∷◌, ◌++◌, Some, None, take, drop, refl, sym, ap, ◌∙◌, subst, arith}
+use Rattle.std.specs.Prelude.{Option as Maybe}
+use Rattle.std.specs.List.{AllByRecursion}
+use Rattle.std.proofs.lemmas.List.{drop_all, append_assoc, append-nil}
+use mathlib.Core.Logic.{dite}
+use mathlib.Core.Option.{some, some-injective, some-ne-none}
+use native.Mathlib.Decide.{ℕ_discrete}
+use lib.ListN.{get_elem?}
+use Rattle.sock_io.specs.declared.link.Out.{Ghosts}
+use Rattle.sock_io.specs.Link.{OutState}
+use Rattle.sock_words.specs.Codes.{EFAILEDSOCKET, EINTERNAL, ERPCTIMEDOUT}
+use Rattle.sock_words.specs.declared.plain.Plan.{Plan}
+use Rattle.sock_words.specs.declared.socket_id.SocketId.{SocketId}
+use Rattle.sock_words.specs.declared.outcome.Outcome.{Outcome}
+use Rattle.sock_words.specs.declared.outcome.Outcome.TheVariants as outcome
+use Rattle.sock_model.specs.declared.view.View as sock_view
+use Rattle.sock_rule.specs.declared.homes.Letter.{Letter}
+use Rattle.sock_table.specs.declared.refs.SockRef.{SockRef}
+use Rattle.sock_programs.specs.declared.task.Op.{Op}
+use Rattle.sock_programs.specs.declared.task.Op.TheVariants as ops
+use Rattle.sock_programs.specs.declared.task.Task.{Task}
+use Rattle.write_chain.specs.declared.right.Undelivered.{Undelivered}
+use Rattle.corr_core.specs.Word.{parts}
+use Rattle.corr_core.specs.Law.{total, only}
+use Rattle.corr_core.specs.declared.marks.Note.TheVariants.{Ended}
+use Rattle.corr_core.specs.declared.marks.Plan as id_plan
+use Rattle.corr_core.proofs.Notes.{only-at, only-else}
+use Rattle.id_rule.specs.Lawful.{at_word, call_word}
+use Rattle.sock_message.specs.Asked.{Asked}
+use Rattle.corr_id.specs.declared.calls.IdLock.{IdLock}
+use Rattle.corr_id.specs.declared.posts.Posted.{Posted}
+use Rattle.corr_id.specs.declared.posts.Posted.TheVariants.{Locked as HasLock, Queued as IsQueued, Gone, Stale, Crowded}
+use Rattle.corr_id.specs.Calls.{slot_of, one}
+use Rattle.call_errors.specs.declared.retries.Retry.{Retry}
+use Rattle.call_errors.specs.Books.{Books, CallStand, stand_of, starving, keeping, Tells, told, lost}
+use Rattle.call_errors.specs.Ending.{EndedWith, failed}
+use Rattle.call_errors.specs.Handling.{Decided}
+use Rattle.call_errors.specs.Handling as handling
+use Rattle.call_errors.specs.Posting.{Handled, PostedBy}
+use Rattle.call_errors.specs.Asking.{found_id, TimedOut, ExpiredBy, JoinedBy}
+use Rattle.call_writes.specs.Draining.{ToldDrop, of_send, of_call, DroppedAll, Drained}
+use Rattle.call_writes.specs.Draining as draining
+use Rattle.call_writes.specs.Sending.{DeliveredCalling, SentCalling}
+use Rattle.call_attempts.specs.declared.calling.Called.TheVariants as called
+use Rattle.call_attempts.specs.Both.{Both}
+use Rattle.call_attempts.specs.Attempting.{code_for, DeliveredBy, went_out, came_back, AttemptedBy, nowhere, over_link}
+use Rattle.call_attempts.specs.Calling.{MadeFor, CalledBy}
+use Rattle.call_attempts.specs.Retrying.{without_oldest, WentTo, stray, unopened, to_socket, Locked, RetriedBy, had_ended, overtaken, went_again, Retried, none_yet, one_more}
+use Rattle.call_client.specs.declared.caller.Caller.{Caller}
+use Rattle.call_client.specs.Acting.{Stand, stand, both_of, letter_of, Acted}
+use Rattle.call_client.specs.Running.{Course, RetriedHere, Made, Ran, begins, RunBy}
+use Rattle.rpc_client.specs.declared.acting.Told.{Told}
+use Rattle.call_told.proofs.Growing.{Grows, grows_same, grows_then, quiet_grows, did_grows, ended_grows, post_grows, kept_grows}
+use Rattle.call_told.proofs.Lists.{all_at}
+use Rattle.call_told.proofs.Moves.{Fits, is_task}
+use Rattle.call_told.proofs.Runs.{none_left}
+
+-- the word of an operation's call is none that tells of its attempts
+at_no_call : (q : id_plan.Plan) (o n : ℕ) → only (call_word q o) (at_word q n) ≤ 0
+at_no_call q o n = let e = only-else (call_word q o) (at_word q n) (λ (h : at_word q n ≡ call_word q o). omega arith) in omega arith
+
+-- and another one for each operation
+call_of_one : (q : id_plan.Plan) (o n : ℕ) → only (call_word q o) (call_word q n) ≤ only o n
+call_of_one q o n = dite (ℕ_discrete n o)
+    (λ e. let a = only-at o n e in let b = only-at (call_word q o) (call_word q n) (ap (call_word q) e) in omega arith)
+    (λ ne. let b = only-else (call_word q o) (call_word q n) (λ (h : call_word q n ≡ call_word q o). ne (omega arith)) in omega arith)
+
+-- there was told no less, and memory that is there was there before
+pub record Onward (b c : Books) : Type 0 where
+  pub told : (more : List Told) × (c.told ≡ b.told ++ more)
+  pub fed : c.starved ≡ false → b.starved ≡ false
+
+onward_as : (b c : Books) → c.told ≡ b.told → c.starved ≡ b.starved → Onward b c
+onward_as b c e f = record { told = ([], e ∙ sym (append-nil b.told)); fed = λ h. sym f ∙ h }
+
+pub onward_same : (b c : Books) → c ≡ b → Onward b c
+onward_same b c e = onward_as b c (ap (λ (y : Books). y.told) e) (ap (λ (y : Books). y.starved) e)
+
+pub onward_then : (b c d : Books) → Onward b c → Onward c d → Onward b d
+onward_then b c d x y = record { told = (x.told.0 ++ y.told.0, y.told.1 ∙ (ap (λ (l : List Told). l ++ y.told.0) x.told.1 ∙ append_assoc b.told x.told.0 y.told.0)); fed = λ h. x.fed (y.fed h) }
+
+onward_starving : (b : Books) → Onward b (starving b)
+onward_starving b = record { told = ([], sym (append-nil b.told)); fed = λ (h : true ≡ false). cc }
+
+onward_tells : (x : Told) (b c : Books) → Tells x b c → Onward b c
+onward_tells x b c (told e) = record { told = (x ∷ [], ap (λ (y : Books). y.told) e); fed = λ h. sym (ap (λ (y : Books). y.starved) e) ∙ h }
+onward_tells x b c (lost e) = onward_then b (starving b) c (onward_starving b) (onward_same (starving b) c e)
+
+module _ (q : id_plan.Plan) (operation : ℕ) where
+  -- so many ids more are stored for this operation at most, and what was known and told stays
+  pub record Goes (n : ℕ) (s t : CallStand) : Type 0 where
+    pub grows : Grows (call_word q operation) n s.view t.view
+    pub books : Onward s.books t.books
+
+  abbrev place : ℕ
+  place = call_word q operation
+
+  pub goes_then : (m n k : ℕ) (s u t : CallStand) → m + n ≤ k → Goes m s u → Goes n u t → Goes k s t
+  goes_then m n k s u t le a b = record { grows = grows_then place m n k s.view u.view t.view le a.grows b.grows; books = onward_then s.books u.books t.books a.books b.books }
+
+  -- both store nothing for it
+  pub in_turn : (s u t : CallStand) → Goes 0 s u → Goes 0 u t → Goes 0 s t
+  in_turn s u t a b = goes_then 0 0 0 s u t (omega arith) a b
+
+  goes_seen : (n : ℕ) (s t : CallStand) → Grows place n s.view t.view → t.books ≡ s.books → Goes n s t
+  goes_seen n s t g e = record { grows = g; books = onward_same s.books t.books e }
+
+  pub goes_same : (n : ℕ) (s t : CallStand) → t ≡ s → Goes n s t
+  goes_same n s t e = goes_seen n s t (grows_same place n s.view t.view (ap (λ (y : CallStand). y.view) e)) (ap (λ (y : CallStand). y.books) e)
+
+  -- ## Errors of calls
+
+  lock_ends : (k : IdLock Asked) (code : ℕ) (s t : CallStand) → EndedWith k code s t → Goes 0 s t
+  lock_ends k code s t e = record { grows = ended_grows place k.slot s.view t.view [] (one k.slot (Ended (parts k.word.0).first)) e.ended; books = onward_tells (failed k code) s.books t.books e.tells }
+
+  starved_ends : (k : IdLock Asked) (s t : CallStand) → EndedWith k EINTERNAL (record { view = s.view; books = starving s.books }) t → Goes 0 s t
+  starved_ends k s t e = let m = lock_ends k EINTERNAL (record { view = s.view; books = starving s.books }) t e in record { grows = m.grows; books = onward_then s.books (starving s.books) t.books (onward_starving s.books) m.books }
+
+  -- a retry more is kept
+  keeps : (s t : CallStand) (r : Retry) → Grows place 0 s.view t.view → t.books ≡ keeping r s.books → Goes 0 s t
+  keeps s t r g e = record { grows = g; books = onward_as s.books t.books (ap (λ (y : Books). y.told) e) (ap (λ (y : Books). y.starved) e) }
+
+  pub decided : {s : CallStand} {k : IdLock Asked} {code : ℕ} {attempt : Maybe ℕ} {t : CallStand} → Decided s k code attempt t → Goes 0 s t
+  decided (handling.ends s k code attempt t a b e) = lock_ends k code s t e
+  decided (handling.starves s k code attempt t a e) = starved_ends k s t e
+  decided (handling.waits s k code attempt t a b e) = keeps s t e.retry (did_grows place k.slot s.view t.view _ _ e.unlocked.4) e.kept
+  decided (handling.goes_on s k code attempt t u l next of a b e rest) = in_turn s u t (keeps s u e.retry (did_grows place k.slot s.view u.view _ _ e.unlocked.3) e.kept) (decided rest)
+
+  handled : (code : ℕ) (attempt : Maybe ℕ) (answer : Posted Asked) (s t : CallStand) → Handled code attempt answer s t → Goes 0 s t
+  handled code attempt (HasLock k) s t d = decided d
+  handled code attempt IsQueued s t e = goes_same 0 s t e
+  handled code attempt (Gone found) s t e = goes_same 0 s t e
+  handled code attempt (Stale current) s t e = goes_same 0 s t e
+  handled code attempt (Crowded first second) s t e = goes_same 0 s t e
+
+  pub posted : (slots : ℕ) (s : CallStand) (id code : ℕ) (attempt : Maybe ℕ) (t : CallStand) → PostedBy slots s id code attempt t → Goes 0 s t
+  posted slots s id code attempt t p =
+      let v = p.1.view in let u : CallStand = record { view = v; books = s.books } in
+      in_turn s u t (goes_seen 0 s u (post_grows place slots s.view v id code attempt p.0 p.1.post) refl) (handled code attempt p.0 u t p.1.handled)
+
+  -- an id was found noted
+  pub seen_id : (number id : ℕ) (s : CallStand) → Goes 0 s (found_id q number id s)
+  seen_id number id s = let u = found_id q number id s in goes_seen 0 s u (kept_grows place 0 s.view u.view (call_word q number) false id refl (omega arith)) refl
+
+  timed_out : (number : ℕ) (by : Outcome) (s t : CallStand) → TimedOut q number by s t → Goes 0 s t
+  timed_out number by s t h = let u = found_id q number h.id s in in_turn s u t (seen_id number h.id s) (posted q.slots u h.id ERPCTIMEDOUT None t (h.answer, h.posted))
+
+  pub expired_by : (number : ℕ) (by : Outcome) (s t : CallStand) → ExpiredBy q number by s t → Goes 0 s t
+  expired_by number outcome.NotBegun s t h = goes_same 0 s t h.same
+  expired_by number outcome.Expired s t h = timed_out number outcome.Expired s t h
+  expired_by number outcome.Queued s t h = timed_out number outcome.Queued s t h
+  expired_by number outcome.Late s t h = timed_out number outcome.Late s t h
+  expired_by number (outcome.Crowded first second) s t h = timed_out number (outcome.Crowded first second) s t h
+  expired_by number _ s t h = elim h [ ]
+
+  joined_by : (number : ℕ) (by : Outcome) (s t : CallStand) → JoinedBy q number by s t → Goes 0 s t
+  joined_by number outcome.NotBegun s t h = goes_same 0 s t h.same
+  joined_by number outcome.Joined s t h = let u = found_id q number h.id s in
+      in_turn s u t (seen_id number h.id s) (goes_seen 0 u t (grows_then place 0 0 0 u.view h.view t.view (omega arith) (quiet_grows place u.view h.view h.quiet) (grows_same place 0 h.view t.view (ap (λ (y : CallStand). y.view) h.after))) (ap (λ (y : CallStand). y.books) h.after))
+  joined_by number _ s t h = elim h [ ]
+
+  -- ## Messages
+
+  told_drop : (slots : ℕ) (msg : Undelivered) (code : ℕ) (s t : CallStand) → ToldDrop slots msg code s t → Goes 0 s t
+  told_drop slots msg code s t (of_send e is) = goes_same 0 s t is
+  told_drop slots msg code s t (of_call ne p) = posted slots s msg.owner code (Some msg.label.attempt) t p
+
+  module _ {O : Type 0} (state : O → OutState) (p : Plan) where
+    dropped_all : (slots id : ℕ) (v : sock_view.View) (s : CallStand) (w : sock_view.View) (t : CallStand) → DroppedAll state p slots id v s w t → Goes 0 s t
+    dropped_all slots id v s _ _ draining.none = goes_same 0 s s refl
+    dropped_all slots id v s _ _ (draining.one_more u r w t more one) = in_turn s r t (dropped_all slots id v s u r more) (told_drop slots one.msg one.code r t one.told)
+
+    drained : (slots id : ℕ) (v : sock_view.View) (s : CallStand) (w : sock_view.View) (t : CallStand) → Drained state p slots id v s w t → Goes 0 s t
+    drained slots id v s w t d = dropped_all slots id v s d.last t d.dropped
+
+    delivered : (sock : SockRef) (msg : Letter) (by : Maybe Outcome) (v : sock_view.View) (s : CallStand) (w : sock_view.View) (t : CallStand) → DeliveredCalling state p q.slots sock msg by v s w t → Goes 0 s t
+    delivered sock msg None v s w t d = drained q.slots sock.id.0 d.taken s d.through.wrote t d.through.drained
+    delivered sock msg (Some (outcome.Gone found)) v s w t d = goes_same 0 s t d.1
+    delivered sock msg (Some outcome.Full) v s w t d = goes_same 0 s t d.1
+    delivered sock msg (Some _) v s w t d = elim d [ ]
+
+    sent_calling : (n : ℕ) (msg : Letter) (by : Maybe Outcome) (v : sock_view.View) (s : CallStand) (w : sock_view.View) (t : CallStand) → SentCalling state p q.slots n msg by v s w t → Goes 0 s t
+    sent_calling n msg None v s w t h = delivered h.sock msg None h.has s w t h.delivered
+    sent_calling n msg (Some outcome.Unopened) v s w t h = goes_same 0 s t h.1
+    sent_calling n msg (Some (outcome.Gone found)) v s w t (inl h) = goes_same 0 s t h.1
+    sent_calling n msg (Some (outcome.Gone found)) v s w t (inr h) = delivered h.sock msg (Some (outcome.Gone found)) h.has s w t h.delivered
+    sent_calling n msg (Some outcome.Full) v s w t h = delivered h.sock msg (Some outcome.Full) h.has s w t h.delivered
+    sent_calling n msg (Some _) v s w t h = elim h [ ]
+
+    -- ## Attempts
+
+    delivered_by : (socket : SocketId) (msg : Letter) (s t : Both) → DeliveredBy state p q socket msg s t → Goes 0 s.calls t.calls
+    delivered_by socket msg s t (went_out w) = drained q.slots socket.0 w.taken s.calls w.through.wrote t.calls w.through.drained
+    delivered_by socket msg s t (came_back by c) = posted q.slots s.calls msg.owner (code_for by) (Some msg.label.attempt) t.calls c.posted
+
+    pub attempted_by : (socket : SocketId) (msg : Letter) (s t : Both) → AttemptedBy state p q socket msg s t → Goes 0 s.calls t.calls
+    attempted_by socket msg s t (nowhere g) = posted q.slots s.calls msg.owner EFAILEDSOCKET (Some msg.label.attempt) t.calls g.posted
+    attempted_by socket msg s t (over_link u l d) = in_turn s.calls u.calls t.calls
+        (goes_seen 0 s.calls u.calls (kept_grows place 0 s.calls.view u.calls.view (at_word q msg.label.operation) true _ l.stored (at_no_call q operation msg.label.operation)) l.books) (delivered_by socket msg u t d)
+
+    pub made_for : (asked : Asked) (id : ℕ) (socket : SocketId) (s t : Both) → MadeFor state p q asked id socket s t → Goes (only operation asked.operation) s.calls t.calls
+    made_for asked id socket s t m =
+        let n = only operation asked.operation in let u : CallStand = record { view = m.view; books = s.calls.books } in
+        goes_then 0 n n s.calls u t.calls (omega arith) (goes_seen 0 s.calls u (did_grows place (slot_of id) s.calls.view m.view _ _ m.made.did) refl)
+        (goes_seen n u t.calls (kept_grows place n m.view t.calls.view (call_word q asked.operation) true id m.noted (call_of_one q operation asked.operation)) m.books)
+
+    pub begun_by : (asked : Asked) (id : ℕ) (s t : Both) → CalledBy state p q asked (called.Begun id) s t → Goes (only operation asked.operation) s.calls t.calls
+    begun_by asked id s t h = let n = only operation asked.operation in goes_then n 0 n s.calls h.at.calls t.calls (omega arith) (made_for asked id h.socket s h.at h.made_for) (attempted_by h.socket _ h.at t h.attempted)
+
+    went_to : (name : ℕ) (msg : Letter) (s t : Both) → WentTo state p q name msg s t → Goes 0 s.calls t.calls
+    went_to name msg s t (stray a e h) = posted q.slots s.calls msg.owner EFAILEDSOCKET (Some msg.label.attempt) t.calls h
+    went_to name msg s t (unopened f h) = posted q.slots s.calls msg.owner EFAILEDSOCKET (Some msg.label.attempt) t.calls h
+    went_to name msg s t (to_socket socket u f e a) = in_turn s.calls u.calls t.calls (goes_same 0 s.calls u.calls e) (attempted_by socket msg u t a)
+
+    locked : (r : Retry) (k : IdLock Asked) (s t : Both) → Locked state p q r k s t → Goes 0 s.calls t.calls
+    locked r k s t l = goes_seen 0 s.calls t.calls (did_grows place k.slot s.calls.view t.calls.view _ _ l.got.got.did) l.books
+
+    retried_by : (r : Retry) (s t : Both) → RetriedBy state p q r s t → Goes 0 s.calls t.calls
+    retried_by r s t (had_ended h) = goes_seen 0 s.calls t.calls (quiet_grows place s.calls.view t.calls.view h.gone.quiet) h.books
+    retried_by r s t (overtaken k u l o) =
+        let x : CallStand = record { view = o.view; books = u.calls.books } in
+        let g = did_grows place k.slot u.calls.view o.view _ _ o.unlocked.3 in
+        in_turn s.calls u.calls t.calls (locked r k s u l) (in_turn u.calls x t.calls (goes_seen 0 u.calls x g refl) (decided o.decided))
+    retried_by r s t (went_again k u l w) =
+        let x : CallStand = record { view = w.view; books = u.calls.books } in
+        in_turn s.calls u.calls t.calls (locked r k s u l) (in_turn u.calls x t.calls (goes_seen 0 u.calls x (did_grows place k.slot u.calls.view w.view _ _ w.unlocked.4) refl) (went_to _ _ (record { socks = u.socks; calls = x }) t w.went))
+
+    shelved : (s t : CallStand) → t.view ≡ s.view → t.books.told ≡ s.books.told → t.books.starved ≡ s.books.starved → Goes 0 s t
+    shelved s t v e f = record { grows = grows_same place 0 s.view t.view v; books = onward_as s.books t.books e f }
+
+    retried : (s t : Both) → Retried state p q s t → Goes 0 s.calls t.calls
+    retried s _ none_yet = goes_same 0 s.calls s.calls refl
+    retried s _ (one_more u t r rest more e f by) =
+        let x = without_oldest rest u in
+        in_turn s.calls u.calls t.calls (retried s u more) (in_turn u.calls x.calls t.calls (shelved u.calls x.calls refl refl refl) (retried_by r x t by))
+
+    -- ## A client's run
+
+    abbrev is_it : Task → ℕ
+    is_it x = is_task operation x
+
+    took_one : (xs : List Task) (n : ℕ) (x : Task) → get_elem? xs n ≡ some x → total is_it (take n xs) + is_it x ≤ total is_it (take (suc n) xs)
+    took_one [] n x e = absurd (some-ne-none x (sym e))
+    took_one (y ∷ xs) zero x e = let a = ap is_it (some-injective y x e) in omega arith
+    took_one (y ∷ xs) (suc n) x e = let a = took_one xs n x e in omega arith
+
+    took_few : (xs : List Task) (n : ℕ) → total is_it (take n xs) ≤ total is_it xs
+    took_few xs zero = omega arith
+    took_few [] (suc n) = omega arith
+    took_few (x ∷ xs) (suc n) = let a = took_few xs n in omega arith
+
+    module _ {g : Ghosts O} where
+      pub retried_here : (s t : Stand g) → RetriedHere state p q s t → Goes 0 s.calls t.calls
+      retried_here s t r = retried (both_of s) (both_of t) r.all.retried
+
+      pub acted : (number : ℕ) (op : Op) → ((asked : Asked) → op ≡ ops.Call asked → asked.operation ≡ number) → (by : Maybe Outcome) (s t : Stand g) → Acted state p q number op by s t → Goes (only operation number) s.calls t.calls
+      acted number (ops.Open n k) fits (Some by) s t h = goes_same (only operation number) s.calls t.calls h.2
+      acted number (ops.Send n bytes) fits by s t h = goes_then 0 0 (only operation number) s.calls s.calls t.calls (omega arith) (goes_same 0 s.calls s.calls refl) (sent_calling n (letter_of number bytes) by s.me.0 s.calls t.me.0 t.calls h.0)
+      acted number (ops.Call asked) fits (Some outcome.Unopened) s t h = goes_same (only operation number) s.calls t.calls h.0.1
+      acted number (ops.Call asked) fits None s t h = subst (λ (n : ℕ). Goes (only operation n) s.calls t.calls) (fits asked refl) (begun_by asked h.0 (both_of s) (both_of t) h.1)
+      acted number (ops.Expire of) fits (Some by) s t h = goes_then 0 0 (only operation number) s.calls s.calls t.calls (omega arith) (goes_same 0 s.calls s.calls refl) (expired_by of by s.calls t.calls h.0)
+      acted number (ops.Join of) fits (Some by) s t h = goes_then 0 0 (only operation number) s.calls s.calls t.calls (omega arith) (goes_same 0 s.calls s.calls refl) (joined_by of by s.calls t.calls h.0)
+      acted number (ops.Hold n) fits (Some by) s t h = goes_same (only operation number) s.calls t.calls h.2
+      acted number (ops.Drop n) fits (Some by) s t h = goes_same (only operation number) s.calls t.calls h.2
+      acted number (ops.Fail n code) fits (Some by) s t h = goes_same (only operation number) s.calls t.calls h.2
+      acted number _ fits _ s t h = elim h [ ]
+
+      -- a call began
+      pub record BeginsCall (op : Op) (s t : Stand g) : Type 0 where
+        pub asked : Asked
+        pub is_call : op ≡ ops.Call asked
+        pub id : ℕ
+        pub called : CalledBy state p q asked (called.Begun id) (both_of s) (both_of t)
+
+      -- or no id was stored
+      pub acted_or : (number : ℕ) (op : Op) (by : Maybe Outcome) (s t : Stand g) → Acted state p q number op by s t → Goes 0 s.calls t.calls ⊎ BeginsCall op s t
+      acted_or number (ops.Open n k) (Some by) s t h = inl (goes_same 0 s.calls t.calls h.2)
+      acted_or number (ops.Send n bytes) by s t h = inl (sent_calling n (letter_of number bytes) by s.me.0 s.calls t.me.0 t.calls h.0)
+      acted_or number (ops.Call asked) (Some outcome.Unopened) s t h = inl (goes_same 0 s.calls t.calls h.0.1)
+      acted_or number (ops.Call asked) None s t h = inr record { asked = asked; is_call = refl; id = h.0; called = h.1 }
+      acted_or number (ops.Expire of) (Some by) s t h = inl (expired_by of by s.calls t.calls h.0)
+      acted_or number (ops.Join of) (Some by) s t h = inl (joined_by of by s.calls t.calls h.0)
+      acted_or number (ops.Hold n) (Some by) s t h = inl (goes_same 0 s.calls t.calls h.2)
+      acted_or number (ops.Drop n) (Some by) s t h = inl (goes_same 0 s.calls t.calls h.2)
+      acted_or number (ops.Fail n code) (Some by) s t h = inl (goes_same 0 s.calls t.calls h.2)
+      acted_or number _ _ s t h = elim h [ ]
+
+      pub made_goes : (x : Task) (s t : Course g) → Fits x → Made state p q x s t → Goes (only operation x.number) s.has.calls t.has.calls
+      made_goes x s t fits m = goes_then 0 (only operation x.number) (only operation x.number) s.has.calls m.ready.calls t.has.calls (omega arith) (retried_here s.has m.ready m.retried) (acted x.number x.op fits m.by m.ready t.has m.acted)
+
+      pub ran_goes : (xs : List Task) → AllByRecursion Fits xs → (n : ℕ) (s t : Course g) → Ran state p q xs n s t → Goes (total is_it (take n xs)) s.has.calls t.has.calls
+      ran_goes xs fits zero s t e = goes_same (total is_it (take 0 xs)) s.has.calls t.has.calls (ap (λ (c : Course g). c.has.calls) e)
+      ran_goes xs fits (suc n) s t h =
+          goes_then (total is_it (take n xs)) (is_it h.1) (total is_it (take (suc n) xs)) s.has.calls h.0.has.calls t.has.calls (took_one xs n h.1 h.3) (ran_goes xs fits n s h.0 h.2) (made_goes h.1 h.0 t (all_at Fits xs n h.1 fits h.3) h.4)
+
+      -- behind the operations: the retries that waited, and then nothing more
+      pub end_goes : (xs : List Task) (c d : Caller O g) (r : RunBy state p q false xs c d) → Goes 0 (stand_of r.came.calls) (stand_of d.calls)
+      end_goes xs c d r =
+          let all : drop r.made xs ≡ [] = let n = r.ends.0 in drop_all r.made xs (omega arith) in
+          in_turn (stand_of r.came.calls) r.last.calls (stand_of d.calls) (retried_here (stand r.came) r.last r.ends.1)
+          (goes_same 0 r.last.calls (stand_of d.calls) (r.calls ∙ ap (λ (s : Stand g). s.calls) (none_left state p q r.last r.end (drop r.made xs) all r.left)))
+
+      pub run_goes : (xs : List Task) (c d : Caller O g) → AllByRecursion Fits xs → RunBy state p q false xs c d → Goes (total (is_task operation) xs) (stand_of c.calls) (stand_of d.calls)
+      run_goes xs c d fits r =
+          goes_then (total is_it (take r.made xs)) 0 (total is_it xs) (stand_of c.calls) (stand_of r.came.calls) (stand_of d.calls) (let a = took_few xs r.made in omega arith)
+          (ran_goes xs fits r.made (begins c) (record { has = stand r.came; told = r.came.outcomes.items; names = r.ran.names }) r.ran.ran) (end_goes xs c d r)

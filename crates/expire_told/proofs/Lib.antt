@@ -1,0 +1,7 @@
+pub mod Going
+pub mod Doing
+pub mod Begun
+pub mod Expiring
+pub mod Making
+pub mod Expires
+pub mod Whole

@@ -1,8 +1,0 @@
-use Rattle.std.proofs.Common.{◌≤◌, length}
-use Rattle.io_buf.proofs.buf.IoBuf.recycle.Given as goal
-
-abbrev pub invariant-loop-piece : goal.invariant-loop-piece
-invariant-loop-piece l = l.fn.pool ≤ l.pool
-
-abbrev pub decreases-loop-piece : goal.decreases-loop-piece
-decreases-loop-piece l = length l.self.sizes

@@ -1,0 +1,4 @@
+pub mod Gave
+pub mod Meets
+pub mod Moving
+pub mod Ways

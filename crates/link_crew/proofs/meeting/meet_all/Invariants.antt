@@ -1,0 +1,16 @@
+use Rattle.std.proofs.Common.{◌≡◌}
+use Rattle.rpc_reader.proofs.Series.{StandFrom}
+use Rattle.link_crew.specs.Meeting.{MetBelow}
+use Rattle.link_crew.proofs.meeting.meet_all.Given as goal
+
+abbrev pub invariant-meets : goal.invariant-meets
+invariant-meets g l = record {
+  stand : StandFrom l.one-index l.fn.ends l.ends;
+  met : MetBelow g.L.O.Out.state g.L.P.Peer.state g.L.I.In.state l.one-index l.fn.ends l.ends;
+  asked : g.L.Linker.asked l.links ≡ g.L.Linker.asked l.fn.links;
+  accepted : g.L.Linker.accepted l.links ≡ g.L.Linker.accepted l.fn.links;
+  back : g.L.Linker.back l.links ≡ g.L.Linker.back l.fn.links;
+  done : g.L.Linker.done l.links ≡ g.L.Linker.done l.fn.links;
+  prompt : g.L.Linker.prompt l.links ≡ g.L.Linker.prompt l.fn.links;
+  faults : g.L.Linker.faults l.links ≡ g.L.Linker.faults l.fn.links;
+}

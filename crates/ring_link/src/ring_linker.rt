@@ -1,0 +1,195 @@
+ghost use Rattle.std.specs.Prelude.{◌≡◌, ◌≢◌, ◌+◌, ◌<◌, ◌∷◌, ◌++◌, false, true, None, Ok, [], length, IfOk, IsErrOf, OnErr, OnOk};
+ghost use Rattle.sock_io.specs.Giving.{shape_asked};
+ghost use Rattle.sock_io.specs.Link.{IsFresh, IsSettled, IsUnused, connection_of, end_of};
+ghost use Rattle.sock_io.specs.Meeting.{AreEnds, IsAskedPeer, MeetOut, MeetStep};
+ghost use Rattle.sock_io.specs.Peer.{IsNewPeer, has_ended};
+ghost use Rattle.sock_io.specs.Shape.{shaped_out};
+ghost use Rattle.ring_link.specs.Halves.{ring_in, ring_peer};
+
+use crate::open::{open_connection, open_ring};
+use crate::ring_in::RingIn;
+use crate::ring_out::RingOut;
+use crate::ring_peer::RingPeer;
+use ghosts::Ghosts;
+use sock_io::{Ends, LinkSpec, Linker, NoMemory, OpenFault, Shape, Shaped};
+use std::marker::Model;
+
+type Link = Ends<Shaped<RingOut>, RingIn, RingPeer>;
+
+/// The halves of a connection, as it was given back.
+#[derive(Drop)]
+struct Connection {
+    out: Shaped<RingOut>,
+    inn: RingIn,
+}
+
+/// Links over two rings, whatever the mode: each end may go to a thread of its own. The other end is `Ends::peer`, which
+/// whoever has it serves: the built-in server, where it is asked for, or one that gives nothing. The reading half of a
+/// connection gives its end at once.
+///
+/// `open` and `accept` fail for want of memory alone. A link or connection is let go as it is given back. What was told of
+/// it is kept for the proofs alone, so that giving back takes no memory.
+#[derive(Drop)]
+pub struct RingLinker<R: AllocGlobal + Drop> {
+    rt: R,
+    opened: u16,
+    accepted: u16,
+    /// What was asked of each link, and what was given back, for the proofs.
+    asked: Ghosts<LinkSpec>,
+    links: Ghosts<Link>,
+    connections: Ghosts<Connection>,
+}
+
+impl<R: AllocGlobal + Drop> Model for RingLinker<R> {
+    ghost use Rattle.std.specs.Prelude.{◌≡◌, length, map};
+    ghost use Rattle.sock_io.specs.Link.{connection_of, end_of};
+    ghost use Rattle.sock_io.specs.Shape.{shaped_out};
+    ghost use Rattle.ring_link.specs.Halves.{ring_in};
+    ghost use Rattle.ring_link.specs.Linker.{RingLinkerState};
+
+    ghost Value = { RingLinkerState };
+
+    ghost view = { λ l. record { asked = l.asked.list; accepted = l.accepted; back = map (λ e. end_of (shaped_out e.out) (ring_in e.inn)) l.links.list; done = map (λ c. connection_of (shaped_out c.out) (ring_in c.inn)) l.connections.list } };
+
+    ghost invariant = { λ l. length l.asked.list ≡ l.opened };
+}
+
+impl<R: AllocGlobal + Drop> RingLinker<R> {
+    /// A linker that opened and accepted nothing yet, over the memory of this runtime. It takes none.
+    pub fn new(rt: R) -> Self
+        ensures { result ≡ record { asked = []; accepted = 0; back = []; done = [] } }
+    {
+        RingLinker {
+            rt,
+            opened: 0,
+            accepted: 0,
+            asked: Ghosts::of(&0u8),
+            links: Ghosts::of(&0u8),
+            connections: Ghosts::of(&0u8),
+        }
+    }
+
+    /// Counts the link that is opened, and notes what was asked.
+    fn note(&mut self, spec: &LinkSpec)
+        requires { length self.old.asked < 256 }
+        ensures { self.new ≡ record self.old { asked = self.old.asked ++ spec.now ∷ [] } }
+    {
+        self.opened += 1;
+        let before: Ghosts<LinkSpec> = Ghosts::of(&self.asked);
+        let with = (before, *spec);
+        self.asked = Ghosts::of(&with);
+    }
+}
+
+impl<R: AllocGlobal + Drop> Linker for RingLinker<R> {
+    type O = Shaped<RingOut>;
+
+    type I = RingIn;
+
+    type P = RingPeer;
+
+    ghost asked = { λ l. l.asked };
+
+    ghost accepted = { λ l. l.accepted };
+
+    ghost back = { λ l. l.back };
+
+    ghost done = { λ l. l.done };
+
+    ghost faults = { λ _. 0 };
+
+    ghost prompt = { λ _. false };
+
+    fn open(&mut self, spec: &LinkSpec) -> Result<Link, OpenFault>
+        requires piece { 0 < spec.now.piece }
+        requires few { length self.old.asked < 256 }
+        ensures fresh { IfOk result (λ ends. IsFresh (shaped_out ends.out) (ring_in ends.inn) (length self.old.asked)) }
+        ensures peer { IfOk result (λ ends. IsNewPeer (ring_peer ends.peer)) }
+        ensures other { IfOk result (λ ends. IsAskedPeer spec.now (ring_peer ends.peer)) }
+        ensures one { IfOk result (λ ends. AreEnds (shaped_out ends.out) (ring_peer ends.peer) (ring_in ends.inn)) }
+        ensures unknown { IfOk result (λ ends. (ring_in ends.inn).offer ≡ None) }
+        ensures shape { IfOk result (λ ends. ends.out.shape ≡ shape_asked spec.now) }
+        ensures linker { IfOk result (λ _. self.new ≡ record self.old { asked = self.old.asked ++ spec.now ∷ [] }) }
+        ensures refused { OnErr result (self.new ≡ self.old) }
+        ensures never { ¬ IsErrOf result OpenFault.Failed }
+    {
+        let Ok(ends) = open_ring(self.rt.alloc(), spec, self.opened) else {
+            return Err(OpenFault::NoMemory);
+        };
+        let Ends { out, inn, peer } = ends;
+        let shape = Shape {
+            piece: spec.piece,
+            again: spec.again,
+            fail: spec.fail,
+        };
+        match Shaped::new(self.rt.alloc(), out, shape) {
+            Ok(out) => {
+                self.note(spec);
+                Ok(Ends { out, inn, peer })
+            }
+            Err(_) => Err(OpenFault::NoMemory),
+        }
+    }
+
+    fn settle(&mut self, _ends: &mut Link) -> Result<(), NoMemory>
+        ensures ends { _ends.new ≡ _ends.old }
+        ensures settled { OnOk result (IsSettled (shaped_out _ends.old.out) (ring_in _ends.old.inn) (ring_in _ends.new.inn)) }
+        ensures linker { self.new ≡ self.old }
+        ensures never { result ≡ Ok tt }
+    {
+        Ok(())
+    }
+
+    fn meet(&mut self, ends: &mut Link)
+        requires { AreEnds (shaped_out ends.old.out) (ring_peer ends.old.peer) (ring_in ends.old.inn) }
+        ensures out { MeetOut (shaped_out ends.old.out) (shaped_out ends.new.out) }
+        ensures peer { ring_peer ends.new.peer ≡ ring_peer ends.old.peer }
+        ensures inn { MeetStep (shaped_out ends.old.out) (ring_peer ends.old.peer) (ring_in ends.old.inn) (ring_in ends.new.inn) }
+        ensures known { ends.old.peer.starved ≡ false → has_ended ends.old.inn.reader.ending ≡ true → (ring_in ends.new.inn).offer ≢ None }
+        ensures linker { self.new ≡ self.old }
+    {
+        ends.peer.meet(&mut ends.out.inner, &mut ends.inn);
+    }
+
+    fn accept(&mut self, _port: u16) -> Result<(Shaped<RingOut>, RingIn), OpenFault>
+        requires { self.old.accepted < 256 }
+        ensures fresh { IfOk result (λ halves. IsUnused (shaped_out halves.0) (ring_in halves.1)) }
+        ensures linker { IfOk result (λ _. self.new ≡ record self.old { accepted = self.old.accepted + 1 }) }
+        ensures refused { OnErr result (self.new ≡ self.old) }
+        ensures never { ¬ IsErrOf result OpenFault.Failed }
+    {
+        let Ok((out, inn)) = open_connection(self.rt.alloc()) else {
+            return Err(OpenFault::NoMemory);
+        };
+        let shape = Shape {
+            piece: u32::MAX,
+            again: 0,
+            fail: 0,
+        };
+        match Shaped::new(self.rt.alloc(), out, shape) {
+            Ok(out) => {
+                self.accepted += 1;
+                Ok((out, inn))
+            }
+            Err(_) => Err(OpenFault::NoMemory),
+        }
+    }
+
+    fn done(&mut self, out: Shaped<RingOut>, inn: RingIn)
+        requires { length self.old.done < self.old.accepted }
+        ensures { self.new ≡ record self.old { done = self.old.done ++ connection_of (shaped_out out) (ring_in inn) ∷ [] } }
+    {
+        let before: Ghosts<Connection> = Ghosts::of(&self.connections);
+        let with = (before, Connection { out, inn });
+        self.connections = Ghosts::of(&with);
+    }
+
+    fn back(&mut self, _link: u16, ends: Link)
+        requires { length self.old.back < length self.old.asked }
+        ensures { self.new ≡ record self.old { back = self.old.back ++ end_of (shaped_out ends.out) (ring_in ends.inn) ∷ [] } }
+    {
+        let before: Ghosts<Link> = Ghosts::of(&self.links);
+        let with = (before, ends);
+        self.links = Ghosts::of(&with);
+    }
+}

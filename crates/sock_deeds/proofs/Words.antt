@@ -1,0 +1,40 @@
+-- Words that a seat stores while it writes a link: those of the messages that it drops.
+use Rattle.std.proofs.Common.{◌≡◌, ℕ, ◌+◌, ◌<◌, true, sym, ap, arith}
+use Rattle.sock_io.specs.Link.{OutState}
+use Rattle.sock_words.specs.declared.plain.Plan.{Plan}
+use Rattle.sock_words.specs.Words.{socket_id_version}
+use Rattle.sock_model.specs.declared.view.View.{View}
+use Rattle.sock_model.specs.Deliveries.{place_value}
+use Rattle.sock_model.specs.Layout.{place_word}
+use Rattle.sock_model.specs.Weights.{total, is_met, is_saw}
+use Rattle.slot_laws.proofs.Numbers.{pair_is}
+use Rattle.sock_rule.specs.OnTable.{is_put, put_in}
+use Rattle.write_chain.specs.Noting.{Wrote, WroteDrop}
+use Rattle.write_chain.specs.Writing.{FoundDead}
+use Rattle.write_chain.proofs.Noting.{wrote_more, wrote_stores}
+use Rattle.sock_deeds.specs.Deeds.{IsDropWord}
+use Rattle.sock_deeds.proofs.Stores.{note_is}
+
+module _ {O : Type 0} {state : O → OutState} (p : Plan) (id x n : ℕ) where
+  pub no_word : (v w : View) → Wrote state id v w → put_in x n w ≡ put_in x n v
+  no_word v w a = ap (total (total (is_put x n))) (wrote_stores v w a)
+
+  pub word_stays : (v w : View) → Wrote state id v w → IsDropWord p id v x n → IsDropWord p id w x n
+  word_stays v w a d =
+      let m = wrote_more (is_met (socket_id_version id) d.link) v w a in
+      let s = wrote_more (is_saw (socket_id_version id + 1)) v w a in
+      let met = d.met in
+      let dead = d.dead in
+      record { place = d.place; at_place = d.at_place; link = d.link; position = d.position; low = d.low; word_is = d.word_is; met = omega arith; dead = omega arith }
+
+  -- behind a drop too
+  pub word_kept : (place : ℕ) (v w : View) → WroteDrop state p id place v w → IsDropWord p id v x n → IsDropWord p id w x n
+  word_kept place v w a d = let k = word_stays v (record w { stores = v.stores }) a.wrote d in record { place = k.place; at_place = k.at_place; link = k.link; position = k.position; low = k.low; word_is = k.word_is; met = k.met; dead = k.dead }
+
+  -- the word of a drop
+  pub word_dropped : (place : ℕ) (v w : View) → WroteDrop state p id place v w → FoundDead id w → put_in x n v < put_in x n w → IsDropWord p id w x n
+  word_dropped place v w a dead less =
+      let e = ap (total (total (is_put x n))) a.stores in
+      let f = note_is x n record { place = place_word p place; word = place_value true a.link a.position } v.stores in
+      let q = pair_is x n (place_word p place) (place_value true a.link a.position) (omega arith) in
+      record { place = place; at_place = sym q.0; link = a.link; position = a.position; low = a.low; word_is = sym q.1; met = a.met; dead = dead }
