@@ -4,8 +4,8 @@ use Rattle.brpc_model.specs.Items.{Item}
 use Rattle.sock_io.specs.Causes.{Rose}
 use Rattle.sock_io.specs.declared.link.Mode.{Mode}
 use Rattle.script_links.specs.Given.{AreUntouched}
-use Rattle.script_threads.specs.Built.{is_built}
-use Rattle.script_threads.specs.Told.{IsThreadText}
+use Rattle.script_calls.specs.script_threads.specs.Built.{is_built}
+use Rattle.script_calls.specs.script_threads.specs.Told.{IsThreadText}
 use Rattle.script_calls.specs.Built.{is_runnable}
 use Rattle.script_calls.specs.Told.{IsCallText}
 use Rattle.brpc_eng.specs.Answers as answer

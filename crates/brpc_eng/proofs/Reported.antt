@@ -23,17 +23,17 @@ use Rattle.sock_programs.specs.Tasks.{plan_of}
 use Rattle.sock_programs.specs.ToldCalls.{Fixed}
 use Rattle.report_fits.proofs.Lists.{within, has_from, has_none}
 use Rattle.report_fits.proofs.Places.{lateness}
-use Rattle.whole_runs.specs.Heard.{as_told, as_taken, take_answers, heard_of, heard_takes}
-use Rattle.whole_runs.specs.Unserved.{IsInTime}
-use Rattle.whole_runs.proofs.HeardRuns.{one_text_told}
-use Rattle.whole_runs.proofs.Gave.{same_takes}
-use Rattle.whole_runs.proofs.Lengths.{ended_length}
-use Rattle.whole_runs.proofs.Starts.{made}
-use Rattle.served_runs.specs.Offered.{OffersInRun}
-use Rattle.served_calls.specs.Quiet.{AreShown}
-use Rattle.served_fits.specs.Shown.{AreSo, TellTook}
+use Rattle.calls_over.specs.whole_runs.specs.Heard.{as_told, as_taken, take_answers, heard_of, heard_takes}
+use Rattle.calls_over.specs.whole_runs.specs.Unserved.{IsInTime}
+use Rattle.calls_over.specs.whole_runs.proofs.HeardRuns.{one_text_told}
+use Rattle.calls_over.specs.whole_runs.proofs.Gave.{same_takes}
+use Rattle.calls_over.specs.whole_runs.proofs.Lengths.{ended_length}
+use Rattle.calls_over.specs.whole_runs.proofs.Starts.{made}
+use Rattle.offered_runs.specs.served_runs.specs.Offered.{OffersInRun}
+use Rattle.calls_over.specs.served_calls.specs.Quiet.{AreShown}
+use Rattle.calls_over.specs.served_fits.specs.Shown.{AreSo, TellTook}
 use Rattle.calls_over.proofs.Over.{calls_over}
-use Rattle.served_fits.proofs.Served.{serves_fits}
+use Rattle.calls_over.specs.served_fits.proofs.Served.{serves_fits}
 use Rattle.offered_runs.proofs.Runs.{offers_in_run}
 use Rattle.script_run.specs.Causes.{HasCauses, gave_in}
 use Rattle.sock_io.specs.declared.link.Mode.{Mode}

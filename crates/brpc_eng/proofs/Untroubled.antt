@@ -33,7 +33,7 @@ use Rattle.report_fits.proofs.Lives as lives
 use Rattle.report_fits.proofs.Causes as causes
 use Rattle.report_fits.proofs.Fitting.{fits_run}
 use Rattle.report_fits.proofs.Places.{lateness, known_of}
-use Rattle.whole_runs.specs.Unserved.{IsInTime}
+use Rattle.calls_over.specs.whole_runs.specs.Unserved.{IsInTime}
 
 -- ## Links without a server
 

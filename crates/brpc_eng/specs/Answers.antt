@@ -24,7 +24,7 @@ use Rattle.frame_print.specs.declared.print.PrintFault.{PrintFault}
 use Rattle.frame_print.specs.declared.print.PrintFault.TheVariants as fault_
 use Rattle.sock_programs.specs.Cores.{Core}
 use Rattle.sock_programs.specs.Scripts.{IsRunWithCalls, is_callless, drawn_turns}
-use Rattle.whole_runs.specs.Heard.{as_told, heard_of, heard_takes}
+use Rattle.calls_over.specs.whole_runs.specs.Heard.{as_told, heard_of, heard_takes}
 use Rattle.sock_io.specs.declared.link.LinkSpec.{LinkSpec}
 use Rattle.sock_io.specs.declared.link.Mode.{Mode}
 use Rattle.sock_io.specs.declared.link.Mode.TheVariants as modes
@@ -33,8 +33,8 @@ use Rattle.serve_port.specs.Serving.{ServedConnection, IsServed, any_failing, an
 use Rattle.script_links.specs.Given.{AreNumbered, AreUntouched, IsBeginning, specs_of}
 use Rattle.script_run.specs.Causes.{CameLate, late_in}
 use Rattle.script_run.specs.Played.{IsRunText}
-use Rattle.script_threads.specs.Built.{is_built}
-use Rattle.script_threads.specs.Told.{IsThreadText}
+use Rattle.script_calls.specs.script_threads.specs.Built.{is_built}
+use Rattle.script_calls.specs.script_threads.specs.Told.{IsThreadText}
 use Rattle.script_calls.specs.Built.{is_runnable}
 use Rattle.script_calls.specs.Told.{IsCallText}
 use Rattle.brpc_eng.specs.Streams.{script_limit, IsAtEnd}

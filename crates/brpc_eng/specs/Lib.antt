@@ -2,3 +2,4 @@ pub mod Streams
 pub mod Answers
 pub mod Status
 pub mod Command
+pub use Rattle.script_run

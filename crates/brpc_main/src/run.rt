@@ -2,7 +2,7 @@ ghost use Rattle.std.specs.Prelude.{◌≡◌, ◌⊎◌, [], IfOk, drop};
 ghost use Rattle.std.specs.Process.{exit_status};
 ghost use Rattle.std.specs.Vec.Iter.{into_iter_items};
 ghost use Rattle.script_links.specs.Offered.{TellOffers};
-ghost use Rattle.script_run.specs.Played.{TellClosed};
+ghost use Rattle.brpc_eng.specs.script_run.specs.Played.{TellClosed};
 ghost use Rattle.brpc_eng.specs.Answers.{Answers, Wrote};
 ghost use Rattle.brpc_main.specs.Reasons.{reason_text};
 ghost use Rattle.brpc_main.specs.Words.{arguments, words_behind};

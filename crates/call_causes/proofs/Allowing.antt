@@ -10,12 +10,12 @@ use Rattle.sock_programs.specs.Sends.{block}
 use Rattle.sock_programs.specs.Rounds.{round}
 use Rattle.sock_programs.specs.Cores.{Core}
 use Rattle.sock_programs.specs.Ticks.{Moment}
-use Rattle.sock_runs.specs.May.{May}
-use Rattle.sock_runs.specs.GoesOn.{GoesOn}
-use Rattle.sock_runs.specs.Sound.{Sound, first_step}
-use Rattle.sock_runs.proofs.Cases as cases
-use Rattle.sock_runs.proofs.Rounds.{begins_round}
-use Rattle.sock_runs.proofs.Passes.{goes_round}
+use Rattle.sock_causes.specs.sock_runs.specs.May.{May}
+use Rattle.sock_causes.specs.sock_runs.specs.GoesOn.{GoesOn}
+use Rattle.sock_causes.specs.sock_runs.specs.Sound.{Sound, first_step}
+use Rattle.sock_causes.specs.sock_runs.proofs.Cases as cases
+use Rattle.sock_causes.specs.sock_runs.proofs.Rounds.{begins_round}
+use Rattle.sock_causes.specs.sock_runs.proofs.Passes.{goes_round}
 use Rattle.id_runs.specs.Goes as goes
 use Rattle.call_causes.proofs.SockWords.{IsInside}
 use Rattle.call_causes.proofs.Ticks.{other_there, AllowsDo}

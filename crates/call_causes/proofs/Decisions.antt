@@ -17,9 +17,9 @@ use Rattle.sock_programs.specs.Tasks.{plan_of, id_plan_of}
 use Rattle.sock_programs.specs.Told.{IsTask, Became}
 use Rattle.sock_programs.specs.ToldCalls.{Fixed, Order}
 use Rattle.sock_programs.specs.Scripts.{all_tasks, opened, ending, set_up, played, IsRunWithCalls}
-use Rattle.joint_runs.proofs.Runs.{AreMade}
-use Rattle.report_fits.proofs.Reading.{InRange}
-use Rattle.report_fits.proofs.Targets.{AreThere}
+use Rattle.owed_calls.specs.joint_runs.proofs.Runs.{AreMade}
+use Rattle.owed_calls.specs.report_fits.proofs.Reading.{InRange}
+use Rattle.owed_calls.specs.report_fits.proofs.Targets.{AreThere}
 use Rattle.owed_calls.specs.Lives.{ClosesInRun}
 use Rattle.call_causes.specs.Lists.{given, times, shows_in, shows_in_run, attempts_of_run}
 use Rattle.call_causes.specs.Posts.{Post, posts_of_run}

@@ -11,7 +11,7 @@ use Rattle.sock_programs.specs.Posts.{end_id, ends_call, unlocked, decides_round
 use Rattle.sock_programs.specs.Programs.{Program, Do, Say, Sent, Rest, TakeMessage, TakeHome, PutHome, PutBytes, AskReady, Write, Aside, Round, Keep, Retries}
 use Rattle.sock_programs.specs.Rounds.{round}
 use Rattle.sock_programs.specs.Sends.{block}
-use Rattle.sock_runs.specs.Sound.{first_step}
+use Rattle.sock_causes.specs.sock_runs.specs.Sound.{first_step}
 use Rattle.call_causes.specs.Scenes.{Scene, IsBorn}
 use Rattle.call_causes.specs.Says.{Mark, MayAside, AtHead, SaysOn}
 use Rattle.call_causes.proofs.Posts.{id_back}

@@ -13,10 +13,10 @@ use Rattle.sock_programs.specs.Programs.{Program, Do, Say, Sent, Rest, TakeMessa
 use Rattle.sock_programs.specs.Cores.{Core, SeatState}
 use Rattle.sock_programs.specs.Ticks.{Moment, quiet, ticked, run}
 use Rattle.sock_programs.specs.Runs.{IsAtRest}
-use Rattle.sock_runs.specs.Sound.{IsAhead, first_step, views_after}
-use Rattle.sock_runs.proofs.Along.{seat_rests, ticked_ahead}
-use Rattle.sock_runs.proofs.Quiets.{ticked_rests}
-use Rattle.joint_runs.proofs.Both.{BothSound, AreBoth}
+use Rattle.sock_causes.specs.sock_runs.specs.Sound.{IsAhead, first_step, views_after}
+use Rattle.sock_causes.specs.sock_runs.proofs.Along.{seat_rests, ticked_ahead}
+use Rattle.sock_causes.specs.sock_runs.proofs.Quiets.{ticked_rests}
+use Rattle.owed_calls.specs.joint_runs.proofs.Both.{BothSound, AreBoth}
 use Rattle.id_runs.specs.Held.{IdView}
 use Rattle.id_runs.specs.Goes.{IdGoesOn, SoundIds}
 use Rattle.id_runs.proofs.Loops.{ids_round}

@@ -13,7 +13,7 @@ use Rattle.sock_programs.specs.Posts.{WHOLE, packed, advance_of, is_final, is_fi
 use Rattle.sock_programs.specs.Readers.{LIMIT, ending_of, slot_in, answer, discarded, kept_for, ends_with, posted_last, post_each, thrown_away, read}
 use Rattle.sock_programs.specs.Rounds.{round}
 use Rattle.sock_programs.specs.Cores.{resolved, next_step}
-use Rattle.sock_runs.specs.Sound.{first_step}
+use Rattle.sock_causes.specs.sock_runs.specs.Sound.{first_step}
 
 -- ## Behind the end of a reading
 

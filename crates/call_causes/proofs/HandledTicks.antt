@@ -16,7 +16,7 @@ use Rattle.brpc_model.specs.Frame.{Frame}
 use Rattle.corr_core.specs.Word.{parts}
 use Rattle.corr_core.specs.declared.marks.Plan.{Plan as IdPlan}
 use Rattle.id_rule.specs.Lawful.{id_word}
-use Rattle.sock_steps.proofs.Quiet.{either_way}
+use Rattle.owed_calls.specs.sock_steps.proofs.Quiet.{either_way}
 use Rattle.sock_programs.specs.Asides.{Step, ClaimId, PutCall, MakeId, StoreCall, LoadCall, StoreAt, LoadAt, LoadIdWord, LockId, PostId, UnlockId, EndId, FreeId, TakeCall, TakeBytes, Taking, Bytes, Nothing, NoMore, AtEnd, Closed, Broken, Found, id_slot, id_first}
 use Rattle.sock_programs.specs.Heads.{Exit, Retry, Decides, Locks}
 use Rattle.sock_programs.specs.Programs.{Program, Do, Say, Sent, Rest, TakeMessage, TakeHome, PutHome, PutBytes, AskReady, Write, Aside, Round, Keep, Retries}
@@ -28,7 +28,7 @@ use Rattle.sock_programs.specs.Beside.{found_in, calls_after}
 use Rattle.sock_programs.specs.Readers.{has_response, slot_in, version_in, is_early}
 use Rattle.sock_programs.specs.Cores.{Core, SeatState, word_of, found_at, words_after, word_after, homes_after, hand_after, lies_at, first_of, others_of, link_place, resolved, waiting_at, next_step, with_seat}
 use Rattle.sock_programs.specs.Ticks.{Answer, Unasked, OfPut, OfReady, OfTake, Moment, fed, with_places, onto_first, taken, with_message, with_link, with_put, with_ready, with_found, step_with, tick_with, ticked}
-use Rattle.sock_runs.specs.Sound.{first_step}
+use Rattle.sock_causes.specs.sock_runs.specs.Sound.{first_step}
 use Rattle.call_causes.specs.Lists.{Take, taken_link, takes_by, takes_at, given, is_soon, soon_from, soon_by, soon_at}
 use Rattle.call_causes.specs.Scenes.{In}
 use Rattle.call_causes.proofs.Attempts.{in_behind}

@@ -8,7 +8,7 @@ use Rattle.atomic_table.proofs.Lists.{at_set}
 use Rattle.brpc_model.specs.Items.{Item}
 use Rattle.brpc_model.specs.Operations.{Turn}
 use Rattle.brpc_model.specs.Frame.{Frame}
-use Rattle.chain_laws.proofs.Lists.{at_some}
+use Rattle.owed_calls.specs.chain_laws.proofs.Lists.{at_some}
 use Rattle.sock_words.specs.declared.outcome.Outcome.TheVariants as outcomes
 use Rattle.sock_message.specs.Asked.{Asked}
 use Rattle.sock_programs.specs.declared.task.Op.TheVariants as ops
@@ -23,15 +23,15 @@ use Rattle.sock_programs.specs.Cores.{Core, SeatState, resolved, waiting_at, nex
 use Rattle.sock_programs.specs.Ticks.{Moment, quiet, run}
 use Rattle.sock_programs.specs.Tasks.{opens, calls, plan_of, id_plan_of}
 use Rattle.sock_programs.specs.Scripts.{sizes_of, programs, all_tasks, opened, ending, set_up, played, is_ending, IsRunWithCalls}
-use Rattle.sock_runs.proofs.OpensStay.{readers_begin}
-use Rattle.sock_runs.proofs.Whole.{views_played, views_closed, views_ended}
-use Rattle.client_laws.proofs.Beginning as clients_begin
+use Rattle.sock_causes.specs.sock_runs.proofs.OpensStay.{readers_begin}
+use Rattle.sock_causes.specs.sock_runs.proofs.Whole.{views_played, views_closed, views_ended}
+use Rattle.owed_calls.specs.client_laws.proofs.Beginning as clients_begin
 use Rattle.id_runs.specs.Held.{IdView}
 use Rattle.id_runs.specs.Goes.{SoundIds}
-use Rattle.joint_runs.proofs.Both.{BothSound}
-use Rattle.joint_runs.proofs.Runs.{AreMade, first_views, joint_runs}
-use Rattle.report_fits.proofs.Reading.{InRange}
-use Rattle.report_fits.proofs.Targets.{AreThere}
+use Rattle.owed_calls.specs.joint_runs.proofs.Both.{BothSound}
+use Rattle.owed_calls.specs.joint_runs.proofs.Runs.{AreMade, first_views, joint_runs}
+use Rattle.owed_calls.specs.report_fits.proofs.Reading.{InRange}
+use Rattle.owed_calls.specs.report_fits.proofs.Targets.{AreThere}
 use Rattle.call_causes.specs.Lists.{given, soon_at, shows_in, shows_in_run, soon_of_run}
 use Rattle.call_causes.specs.Posts.{Post, posted_at}
 use Rattle.call_causes.specs.Decided.{posted_by, Decision, decided_by, posted_behind, late_in}

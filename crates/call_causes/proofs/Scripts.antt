@@ -15,14 +15,14 @@ use Rattle.sock_programs.specs.declared.task.Task.{Task}
 use Rattle.sock_programs.specs.Tasks.{Numbered, numbered, number_of, tasks, opens, calls, op_of, plan_of, id_plan_of}
 use Rattle.sock_programs.specs.Scripts.{all_tasks}
 use Rattle.sock_programs.specs.Told.{HaveOwnLinks, IsOpen}
-use Rattle.client_laws.proofs.Beginning as beginning
-use Rattle.joint_runs.proofs.Runs.{AreMade}
-use Rattle.report_fits.proofs.Lists.{Has, has_later, some_is, has_filter_map, all_at}
-use Rattle.report_fits.proofs.Reading.{InRange}
-use Rattle.report_fits.proofs.Numbering.{link_at, numbered_at, are_from}
-use Rattle.report_fits.proofs.Targets.{IsTarget, AreThere, expired, joined}
-use Rattle.report_fits.proofs.TaskLemmas as lemmas
-use Rattle.report_fits.proofs.TaskLemmas.{of_tasks, has_task, asks_at, numbers_at, call_asks, expire_asks, join_asks, fail_asks}
+use Rattle.owed_calls.specs.client_laws.proofs.Beginning as beginning
+use Rattle.owed_calls.specs.joint_runs.proofs.Runs.{AreMade}
+use Rattle.owed_calls.specs.report_fits.proofs.Lists.{Has, has_later, some_is, has_filter_map, all_at}
+use Rattle.owed_calls.specs.report_fits.proofs.Reading.{InRange}
+use Rattle.owed_calls.specs.report_fits.proofs.Numbering.{link_at, numbered_at, are_from}
+use Rattle.owed_calls.specs.report_fits.proofs.Targets.{IsTarget, AreThere, expired, joined}
+use Rattle.owed_calls.specs.report_fits.proofs.TaskLemmas as lemmas
+use Rattle.owed_calls.specs.report_fits.proofs.TaskLemmas.{of_tasks, has_task, asks_at, numbers_at, call_asks, expire_asks, join_asks, fail_asks}
 use Rattle.call_causes.specs.Scenes.{In, IsTaskOf}
 use Rattle.call_causes.proofs.BirthTicks.{all_in, in_all}
 use Rattle.call_causes.proofs.Numbered.{AllDistinct, AreNumbered}

@@ -12,11 +12,11 @@ use Rattle.sock_programs.specs.declared.task.Op.TheVariants as ops
 use Rattle.sock_programs.specs.Tasks.{plan_of, id_plan_of}
 use Rattle.sock_programs.specs.Scripts.{all_tasks, IsRunWithCalls}
 use Rattle.sock_programs.specs.ToldCalls.{Fixed, Order}
-use Rattle.sock_runs.specs.Sound.{AllRest}
+use Rattle.sock_causes.specs.sock_runs.specs.Sound.{AllRest}
 use Rattle.sock_causes.specs.Facts.{Seeks, CallsFoundNone}
-use Rattle.joint_runs.proofs.Runs.{AreMade}
-use Rattle.report_fits.proofs.Reading.{InRange}
-use Rattle.report_fits.proofs.Targets.{AreThere}
+use Rattle.owed_calls.specs.joint_runs.proofs.Runs.{AreMade}
+use Rattle.owed_calls.specs.report_fits.proofs.Reading.{InRange}
+use Rattle.owed_calls.specs.report_fits.proofs.Targets.{AreThere}
 use Rattle.owed_calls.specs.Lives.{ClosesInRun}
 use Rattle.owed_calls.proofs.Known.{run_all_ended, run_all_rest}
 use Rattle.call_causes.specs.Lists.{given, times, shows_in_run, attempts_of_run}

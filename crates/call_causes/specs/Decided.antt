@@ -10,7 +10,7 @@ use Rattle.sock_programs.specs.Heads.{Decides}
 use Rattle.sock_programs.specs.Programs.{Program, Do, Aside, Round}
 use Rattle.sock_programs.specs.Cores.{Core}
 use Rattle.sock_programs.specs.Ticks.{Moment, ticked}
-use Rattle.sock_runs.specs.Sound.{first_step}
+use Rattle.sock_causes.specs.sock_runs.specs.Sound.{first_step}
 use Rattle.call_causes.specs.Lists.{shows_in}
 use Rattle.call_causes.specs.Posts.{Post, posted_at}
 

@@ -5,3 +5,8 @@ pub mod Says
 pub mod Stories
 pub mod Posts
 pub mod Decided
+pub use Rattle.owed_calls.specs.client_laws
+pub use Rattle.owed_calls.specs.joint_runs
+pub use Rattle.owed_calls
+pub use Rattle.prpc_frame
+pub use Rattle.prpc_frame.specs.rpc_meta

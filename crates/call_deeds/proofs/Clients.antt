@@ -10,9 +10,9 @@ use Rattle.sock_words.specs.declared.plain.Plan.{Plan}
 use Rattle.sock_model.specs.Seats.{newcomer}
 use Rattle.sock_programs.specs.declared.task.Task.{Task}
 use Rattle.corr_core.specs.declared.marks.Plan as id_plan
-use Rattle.rpc_client.specs.declared.holding.Held.{Held}
-use Rattle.call_client.specs.Acting.{Stand, stand, both_of}
-use Rattle.call_client.specs.Running.{begins, LeftAll}
+use Rattle.sock_deeds.specs.rpc_client.specs.declared.holding.Held.{Held}
+use Rattle.call_run.specs.call_client.specs.Acting.{Stand, stand, both_of}
+use Rattle.call_run.specs.call_client.specs.Running.{begins, LeftAll}
 use Rattle.call_run.specs.Threads.{Thread, IsThread}
 use Rattle.sock_deeds.specs.Deeds.{Hand}
 use Rattle.sock_deeds.specs.Runs.{IsOperation, IsFor, numbers_at, Seated}

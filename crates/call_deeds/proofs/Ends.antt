@@ -8,13 +8,13 @@ use Rattle.sock_words.specs.declared.outcome.Outcome.{Outcome}
 use Rattle.sock_words.specs.declared.plain.Plan.{Plan}
 use Rattle.sock_words.specs.declared.socket_id.SocketId.{SocketId}
 use Rattle.sock_model.specs.declared.view.View.{View}
-use Rattle.sock_rule.specs.declared.homes.SockHome.{SockHome}
-use Rattle.sock_table.specs.declared.finding.Noted.TheVariants as noted
+use Rattle.sock_deeds.specs.sock_rule.specs.declared.homes.SockHome.{SockHome}
+use Rattle.sock_deeds.specs.sock_table.specs.declared.finding.Noted.TheVariants as noted
 use Rattle.sock_programs.specs.declared.task.Task.{Task}
-use Rattle.rpc_client.specs.declared.holding.Held.{Held}
-use Rattle.rpc_client.specs.Running.{GaveFirst}
-use Rattle.rpc_reader.specs.Failing as reader
-use Rattle.thread_run.specs.Threads.{FoundEach}
+use Rattle.sock_deeds.specs.rpc_client.specs.declared.holding.Held.{Held}
+use Rattle.sock_deeds.specs.rpc_client.specs.Running.{GaveFirst}
+use Rattle.call_run.specs.rpc_reader.specs.Failing as reader
+use Rattle.call_run.specs.thread_run.specs.Threads.{FoundEach}
 use Rattle.call_run.specs.Ending.{FailedIf, EndedEach, EndedBehind}
 use Rattle.sock_deeds.specs.Deeds.{Hand, Did, looks, takes, misses, sets, returns, own_number, DoneBy}
 use Rattle.sock_deeds.specs.Runs.{IsFor, listed, IsById, Ended}

@@ -16,21 +16,21 @@ use Rattle.sock_words.specs.declared.plain.Plan.{Plan}
 use Rattle.sock_words.specs.declared.place_word.PlaceWord.{PlaceWord}
 use Rattle.sock_words.specs.declared.vref.Vref.{Vref}
 use Rattle.sock_model.specs.declared.view.View.{View}
-use Rattle.sock_rule.specs.declared.homes.SockHome.{SockHome}
+use Rattle.sock_deeds.specs.sock_rule.specs.declared.homes.SockHome.{SockHome}
 use Rattle.sock_programs.specs.declared.task.Op.{Op}
 use Rattle.sock_programs.specs.declared.task.Op.TheVariants as ops
 use Rattle.sock_programs.specs.declared.task.Task.{Task}
 use Rattle.sock_programs.specs.Told.{AreTasks, IsTask, Became}
-use Rattle.sock_causes.specs.Stories.{In}
-use Rattle.sock_causes.proofs.Seats.{Less}
-use Rattle.sock_causes.proofs.Tasks.{one_task, sorted_of}
+use Rattle.sock_deeds.specs.sock_causes.specs.Stories.{In}
+use Rattle.sock_deeds.specs.sock_causes.proofs.Seats.{Less}
+use Rattle.sock_deeds.specs.sock_causes.proofs.Tasks.{one_task, sorted_of}
 use Rattle.report_fits.proofs.Lists.{has_from, contains_from}
 use Rattle.corr_core.specs.declared.marks.Plan as id_plan
 use Rattle.corr_core.specs.declared.marks.View as id_view
 use Rattle.sock_message.specs.Asked.{Asked}
-use Rattle.rpc_client.specs.declared.acting.Told.{Told}
-use Rattle.thread_run.specs.Threads.{is_opened, opened_in}
-use Rattle.call_client.specs.Running.{MayMakeAll}
+use Rattle.sock_deeds.specs.rpc_client.specs.declared.acting.Told.{Told}
+use Rattle.call_run.specs.thread_run.specs.Threads.{is_opened, opened_in}
+use Rattle.call_run.specs.call_client.specs.Running.{MayMakeAll}
 use Rattle.call_run.specs.declared.opened.Opening.{Opening}
 use Rattle.call_run.specs.Ending.{EndedBehind}
 use Rattle.call_run.specs.Threads.{ids_of, opens_of, opening_in, openings, name_if, opened_names, Thread, IsThread, AreThreads, MayRun, AllMayRun, MayRunAll, RanOn}

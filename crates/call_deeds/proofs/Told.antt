@@ -14,13 +14,13 @@ use Rattle.chain_laws.proofs.Lists.{old, new, at_snoc}
 use Rattle.sock_programs.specs.declared.task.Op.{Op}
 use Rattle.sock_programs.specs.declared.task.Op.TheVariants as ops
 use Rattle.sock_programs.specs.declared.task.Task.{Task}
-use Rattle.sock_causes.proofs.Seats.{Less}
+use Rattle.sock_deeds.specs.sock_causes.proofs.Seats.{Less}
 use Rattle.report_fits.proofs.Lists.{before_at}
 use Rattle.corr_core.specs.declared.marks.Plan as id_plan
-use Rattle.rpc_client.specs.declared.acting.Told.{Told}
-use Rattle.rpc_client.specs.Running.{telling}
-use Rattle.call_client.specs.Acting.{Stand, stand, Acted}
-use Rattle.call_client.specs.Running.{Course, Ran, begins}
+use Rattle.sock_deeds.specs.rpc_client.specs.declared.acting.Told.{Told}
+use Rattle.sock_deeds.specs.rpc_client.specs.Running.{telling}
+use Rattle.call_run.specs.call_client.specs.Acting.{Stand, stand, Acted}
+use Rattle.call_run.specs.call_client.specs.Running.{Course, Ran, begins}
 use Rattle.call_run.specs.Threads.{Thread, IsThread}
 use Rattle.sock_deeds.proofs.Flats.{flat_from, flat_there}
 use Rattle.sock_deeds.proofs.Places.{to_slice, place_low, place_there}

@@ -10,31 +10,31 @@ use Rattle.sock_words.specs.declared.socket_id.SocketId.{SocketId}
 use Rattle.sock_model.specs.declared.chain.Entry.{Entry}
 use Rattle.sock_model.specs.declared.view.View.{View}
 use Rattle.sock_model.specs.ChainRows.{more}
-use Rattle.sock_rule.specs.declared.homes.Letter.{Letter}
-use Rattle.sock_rule.specs.declared.homes.SockHome.{SockHome}
-use Rattle.sock_table.specs.Named.{Found}
+use Rattle.call_run.specs.sock_rule.specs.declared.homes.Letter.{Letter}
+use Rattle.call_run.specs.sock_rule.specs.declared.homes.SockHome.{SockHome}
+use Rattle.call_run.specs.sock_table.specs.Named.{Found}
 use Rattle.sock_programs.specs.declared.task.Op.{Op}
 use Rattle.sock_programs.specs.declared.task.Op.TheVariants as ops
 use Rattle.corr_core.specs.declared.marks.Plan as id_plan
-use Rattle.rpc_client.specs.declared.acting.Action.TheVariants as action
-use Rattle.rpc_client.specs.declared.reaching.Reached.{Reached}
-use Rattle.rpc_client.specs.declared.reaching.Reached.TheVariants as reached
-use Rattle.rpc_client.specs.declared.holding.Held.{Held}
-use Rattle.rpc_client.specs.Acting as plain
-use Rattle.rpc_client.specs.Reaching.{ReachedBy}
-use Rattle.rpc_client.specs.Running.{GaveFirst}
-use Rattle.rpc_client.proofs.Delivering.{came_lists}
-use Rattle.rpc_client.proofs.Finding.{set_others}
-use Rattle.rpc_reader.specs.Failing as reader
-use Rattle.thread_run.specs.Threads.{FoundEach}
-use Rattle.call_errors.specs.declared.retries.Retry.{Retry}
-use Rattle.call_errors.specs.Books.{CallStand}
-use Rattle.call_writes.specs.Sending.{SeenCalling, SentWithCalling, SentCalling}
-use Rattle.call_writes.proofs.Drains.{drained_same}
-use Rattle.call_attempts.specs.Both.{Both}
-use Rattle.call_attempts.specs.Attempting.{DeliveredBy, went_out, came_back, AttemptedBy, nowhere, over_link}
-use Rattle.call_attempts.specs.Retrying.{WentTo, stray, unopened, to_socket, RetriedBy, had_ended, overtaken, went_again}
-use Rattle.call_client.specs.Acting.{Stand, both_of, letter_of, Acted}
+use Rattle.table_told.specs.rpc_client.specs.declared.acting.Action.TheVariants as action
+use Rattle.table_told.specs.rpc_client.specs.declared.reaching.Reached.{Reached}
+use Rattle.table_told.specs.rpc_client.specs.declared.reaching.Reached.TheVariants as reached
+use Rattle.table_told.specs.rpc_client.specs.declared.holding.Held.{Held}
+use Rattle.table_told.specs.rpc_client.specs.Acting as plain
+use Rattle.table_told.specs.rpc_client.specs.Reaching.{ReachedBy}
+use Rattle.table_told.specs.rpc_client.specs.Running.{GaveFirst}
+use Rattle.table_told.specs.rpc_client.proofs.Delivering.{came_lists}
+use Rattle.table_told.specs.rpc_client.proofs.Finding.{set_others}
+use Rattle.call_run.specs.rpc_reader.specs.Failing as reader
+use Rattle.call_run.specs.thread_run.specs.Threads.{FoundEach}
+use Rattle.call_run.specs.call_errors.specs.declared.retries.Retry.{Retry}
+use Rattle.call_run.specs.call_errors.specs.Books.{CallStand}
+use Rattle.call_run.specs.call_writes.specs.Sending.{SeenCalling, SentWithCalling, SentCalling}
+use Rattle.call_run.specs.call_writes.proofs.Drains.{drained_same}
+use Rattle.call_run.specs.call_attempts.specs.Both.{Both}
+use Rattle.call_run.specs.call_attempts.specs.Attempting.{DeliveredBy, went_out, came_back, AttemptedBy, nowhere, over_link}
+use Rattle.call_run.specs.call_attempts.specs.Retrying.{WentTo, stray, unopened, to_socket, RetriedBy, had_ended, overtaken, went_again}
+use Rattle.call_run.specs.call_client.specs.Acting.{Stand, both_of, letter_of, Acted}
 use Rattle.call_run.specs.Ending.{FailedIf, EndedEach}
 use Rattle.table_told.proofs.Owning as table
 use Rattle.call_places.specs.Deeds.{delivered_entries, attempt_entries, went_entries, retry_entries, acted_entries}

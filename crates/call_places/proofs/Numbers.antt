@@ -12,8 +12,8 @@ use Rattle.sock_programs.specs.Told.{AreTasks, Differ, HaveOwnLinks}
 use Rattle.corr_core.specs.Law.{total, only}
 use Rattle.corr_core.specs.declared.marks.Plan as id_plan
 use Rattle.corr_core.proofs.Notes.{only-at, only-else, only_le}
-use Rattle.call_client.specs.Acting.{Needs}
-use Rattle.call_client.specs.Running.{MayMakeAll, left_by}
+use Rattle.call_run.specs.call_client.specs.Acting.{Needs}
+use Rattle.call_run.specs.call_client.specs.Running.{MayMakeAll, left_by}
 use Rattle.call_places.proofs.Counts.{call_in}
 use Rattle.call_places.proofs.Labels.{label_in, labels}
 

@@ -24,9 +24,9 @@ use Rattle.sock_model.specs.Deliveries.{place_value}
 use Rattle.sock_model.specs.Entries.{on}
 use Rattle.sock_model.specs.Layout.{place_word}
 use Rattle.chain_laws.proofs.Lists.{distinct_filter}
-use Rattle.sock_rule.specs.Closing.{PlacesDiffer}
-use Rattle.sock_rule.specs.declared.homes.SockHome.{SockHome}
-use Rattle.report_fits.proofs.PlaceValues.{is_place}
+use Rattle.call_run.specs.sock_rule.specs.Closing.{PlacesDiffer}
+use Rattle.call_run.specs.sock_rule.specs.declared.homes.SockHome.{SockHome}
+use Rattle.table_told.specs.report_fits.proofs.PlaceValues.{is_place}
 use Rattle.sock_programs.specs.declared.task.Op.{Op}
 use Rattle.sock_programs.specs.declared.task.Op.TheVariants as ops
 use Rattle.sock_programs.specs.declared.task.Task.{Task}
@@ -39,9 +39,9 @@ use Rattle.corr_core.specs.declared.marks.View.{View}
 use Rattle.corr_core.proofs.Notes.{only-at}
 use Rattle.sock_message.specs.Asked.{Asked}
 use Rattle.corr_id.specs.Closing.{Closing}
-use Rattle.rpc_client.specs.declared.acting.Told.{Told}
-use Rattle.call_client.specs.Acting.{Stand, Acted}
-use Rattle.call_client.specs.Running.{MayMakeAll}
+use Rattle.table_told.specs.rpc_client.specs.declared.acting.Told.{Told}
+use Rattle.call_run.specs.call_client.specs.Acting.{Stand, Acted}
+use Rattle.call_run.specs.call_client.specs.Running.{MayMakeAll}
 use Rattle.call_run.specs.Threads.{Thread, AreThreads, RanOn, AllMayRun, MayRunAll, ids_of, opens_of, opened_names, openings}
 use Rattle.table_told.proofs.Entries.{before, from_pick, from_on, on_there}
 use Rattle.table_told.proofs.Flats.{flat_there}

@@ -6,17 +6,17 @@ use Rattle.sock_words.specs.declared.outcome.Outcome.{Outcome}
 use Rattle.sock_words.specs.declared.plain.Plan.{Plan}
 use Rattle.sock_words.specs.declared.socket_id.SocketId.{SocketId}
 use Rattle.sock_model.specs.declared.chain.Entry.{Entry}
-use Rattle.sock_rule.specs.declared.homes.Letter.{Letter}
+use Rattle.call_run.specs.sock_rule.specs.declared.homes.Letter.{Letter}
 use Rattle.sock_programs.specs.declared.task.Op.{Op}
 use Rattle.sock_programs.specs.declared.task.Op.TheVariants as ops
 use Rattle.sock_programs.specs.declared.task.Task.{Task}
 use Rattle.corr_core.specs.declared.marks.Plan as id_plan
-use Rattle.call_errors.specs.declared.retries.Retry.{Retry}
-use Rattle.call_attempts.specs.Both.{Both}
-use Rattle.call_attempts.specs.Attempting.{DeliveredBy, went_out, came_back, AttemptedBy, nowhere, over_link}
-use Rattle.call_attempts.specs.Retrying.{without_oldest, WentTo, stray, unopened, to_socket, RetriedBy, had_ended, overtaken, went_again, Retried, none_yet, one_more}
-use Rattle.call_client.specs.Acting.{Stand, stand, both_of, Acted}
-use Rattle.call_client.specs.Running.{Course, Ran, begins}
+use Rattle.call_run.specs.call_errors.specs.declared.retries.Retry.{Retry}
+use Rattle.call_run.specs.call_attempts.specs.Both.{Both}
+use Rattle.call_run.specs.call_attempts.specs.Attempting.{DeliveredBy, went_out, came_back, AttemptedBy, nowhere, over_link}
+use Rattle.call_run.specs.call_attempts.specs.Retrying.{without_oldest, WentTo, stray, unopened, to_socket, RetriedBy, had_ended, overtaken, went_again, Retried, none_yet, one_more}
+use Rattle.call_run.specs.call_client.specs.Acting.{Stand, stand, both_of, Acted}
+use Rattle.call_run.specs.call_client.specs.Running.{Course, Ran, begins}
 use Rattle.call_run.specs.Threads.{Thread, IsThread}
 
 -- each with what the client had before and behind it

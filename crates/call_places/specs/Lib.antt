@@ -1,2 +1,15 @@
 pub mod Deeds
 pub mod Counted
+pub use Rattle.call_run.specs.call_attempts
+pub use Rattle.call_run.specs.call_errors
+pub use Rattle.call_run
+pub use Rattle.call_run.specs.call_table
+pub use Rattle.call_run.specs.call_writes
+pub use Rattle.table_told.specs.report_fits
+pub use Rattle.table_told.specs.rpc_client
+pub use Rattle.table_told.specs.sock_causes
+pub use Rattle.call_run.specs.sock_open
+pub use Rattle.call_run.specs.sock_rule
+pub use Rattle.call_run.specs.sock_table
+pub use Rattle.table_told
+pub use Rattle.call_run.specs.write_chain

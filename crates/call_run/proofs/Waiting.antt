@@ -5,9 +5,9 @@ use Rattle.atomic_table.specs.declared.shared.Seat.{Seat}
 use Rattle.sock_io.specs.declared.link.Out.{Ghosts}
 use Rattle.sock_words.specs.declared.plain.Plan.{Plan}
 use Rattle.sock_model.specs.declared.view.View.{View}
-use Rattle.sock_rule.specs.declared.homes.SockHome.{SockHome}
-use Rattle.rpc_client.specs.Seats.{AtRest}
-use Rattle.rpc_client.proofs.Counting.{holder_same}
+use Rattle.call_client.specs.sock_rule.specs.declared.homes.SockHome.{SockHome}
+use Rattle.rpc_reader.specs.rpc_client.specs.Seats.{AtRest}
+use Rattle.rpc_reader.specs.rpc_client.proofs.Counting.{holder_same}
 use Rattle.thread_run.specs.Threads.{FoundEach}
 use Rattle.thread_run.proofs.Finding.{each_refs, each_lists}
 use Rattle.call_client.specs.declared.caller.Caller.{Caller}

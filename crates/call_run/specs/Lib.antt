@@ -3,3 +3,15 @@ pub mod Threads
 pub mod Working
 pub mod Hired
 pub mod Crew
+pub use Rattle.call_client.specs.call_attempts
+pub use Rattle.call_client
+pub use Rattle.call_client.specs.call_errors
+pub use Rattle.call_client.specs.call_table
+pub use Rattle.call_client.specs.call_writes
+pub use Rattle.rpc_reader.specs.prpc_frame
+pub use Rattle.rpc_reader
+pub use Rattle.call_client.specs.sock_open
+pub use Rattle.call_client.specs.sock_rule
+pub use Rattle.call_client.specs.sock_table
+pub use Rattle.thread_run
+pub use Rattle.call_client.specs.write_chain

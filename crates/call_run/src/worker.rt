@@ -2,8 +2,8 @@
 ghost use Rattle.std.specs.Prelude.{◌≡◌, ◌<◌, ℕ, All, length, slice_index_or};
 ghost use Rattle.call_run.specs.Working.{IsReady, HasWorked};
 
-use call_attempts::Tables;
 use call_client::Caller;
+use call_client::call_attempts::Tables;
 use sock_io::{Gate, Out};
 use sock_programs::Task;
 use std::collections::VecDeque;

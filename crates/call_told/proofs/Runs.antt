@@ -14,9 +14,9 @@ use Rattle.corr_core.specs.declared.marks.View.{View}
 use Rattle.id_rule.specs.Lawful.{newcomer}
 use Rattle.sock_message.specs.Asked.{Asked}
 use Rattle.corr_id.proofs.Seats.{total_append}
-use Rattle.rpc_client.specs.declared.acting.Told.{Told}
-use Rattle.call_errors.specs.Books.{Books, CallStand, stand_of, books_of}
-use Rattle.call_errors.proofs.Accounts as errors
+use Rattle.rpc_reader.specs.rpc_client.specs.declared.acting.Told.{Told}
+use Rattle.call_client.specs.call_errors.specs.Books.{Books, CallStand, stand_of, books_of}
+use Rattle.call_client.specs.call_errors.proofs.Accounts as errors
 use Rattle.call_client.specs.declared.caller.Caller.{Caller}
 use Rattle.call_client.specs.Acting.{Stand}
 use Rattle.call_client.specs.Running.{LeftAll, RunBy}

@@ -26,8 +26,8 @@ use Rattle.corr_id.specs.Posts.{PostOk}
 use Rattle.sock_message.specs.Asked.{Asked}
 use Rattle.prpc_frame.specs.Meaning.{frame_of}
 use Rattle.prpc_frame.specs.declared.frame.Frame.{Frame}
-use Rattle.call_table.specs.Responses.{by_code, outcome_by, ending_of, is_early}
-use Rattle.rpc_client.specs.declared.acting.Told.{Told}
+use Rattle.call_client.specs.call_table.specs.Responses.{by_code, outcome_by, ending_of, is_early}
+use Rattle.rpc_reader.specs.rpc_client.specs.declared.acting.Told.{Told}
 use Rattle.rpc_reader.specs.Books.{Books, EndedAs, ToldBy, id_of}
 use Rattle.rpc_reader.specs.Met.{slot_in, version_in, is_asked, is_for, AnsweredBy, LackedBy, KeptIf, MetIf, FramesMet}
 use Rattle.rpc_reader.specs.Posting.{LostBy, LockLost, PostedTo, PostedIf, PostedAt, PostedAll, call_at, attempt_at}

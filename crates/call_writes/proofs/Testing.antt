@@ -4,9 +4,9 @@ use Rattle.atomic_table.specs.Seated.{TableId}
 use Rattle.atomic_table.specs.declared.shared.Seat.{Seat}
 use Rattle.sock_words.specs.declared.plain.Plan.{Plan}
 use Rattle.sock_model.specs.declared.view.View.{View}
-use Rattle.write_chain.specs.Sending.{HasRoom}
-use Rattle.rpc_client.specs.Seats.{MayAct, AtRest, SameRefs}
-use Rattle.rpc_client.specs.Acting.{OwnList}
+use Rattle.call_errors.specs.write_chain.specs.Sending.{HasRoom}
+use Rattle.call_errors.specs.rpc_client.specs.Seats.{MayAct, AtRest, SameRefs}
+use Rattle.call_errors.specs.rpc_client.specs.Acting.{OwnList}
 
 pub still_may : {S : Type 0} (z : TableId) (p : Plan) (s t : Seat S View) → MayAct z p s → AtRest z p s t → SameRefs s.me.0 t.me.0 → MayAct z p t
 still_may z p s t m r same = record { idle = r.idle; room = λ i il. (let a = m.room i il in let b = same.refs i in omega arith) }

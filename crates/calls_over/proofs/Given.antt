@@ -22,8 +22,8 @@ use Rattle.sock_programs.specs.Ticks.{Answer, Unasked, OfPut, OfReady, OfTake, M
 use Rattle.sock_programs.specs.Scripts.{set_up, played, AreStill, ticks_of, IsRunWithCalls}
 use Rattle.sock_runs.specs.Sound.{first_step}
 use Rattle.owed_calls.proofs.EndsStill.{all_still, in_round, run_parts}
-use Rattle.served_runs.specs.Offered.{GaveAll, OffersAt, IsOffered, AreOffered, OffersInRun}
-use Rattle.served_runs.proofs.Served.{shapes_many}
+use Rattle.served_fits.specs.served_runs.specs.Offered.{GaveAll, OffersAt, IsOffered, AreOffered, OffersInRun}
+use Rattle.served_fits.specs.served_runs.proofs.Served.{shapes_many}
 
 -- ## Parts of runs
 

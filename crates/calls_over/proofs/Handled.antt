@@ -20,15 +20,15 @@ use Rattle.client_laws.proofs.Beginning as clients_begin
 use Rattle.joint_runs.proofs.Runs.{AreMade, first_views}
 use Rattle.report_fits.proofs.Reading.{InRange}
 use Rattle.report_fits.proofs.Targets.{AreThere}
-use Rattle.call_causes.specs.Lists.{given, soon_at, shows_in}
-use Rattle.call_causes.specs.Scenes.{In, LeadsTo}
-use Rattle.call_causes.proofs.Scripts.{are_numbered, have_slots, begins}
-use Rattle.call_causes.proofs.Run as runs
-use Rattle.call_causes.proofs.Handled.{word_of, frames_in, all_at, IsResp, Done, Over, Frozen}
-use Rattle.call_causes.proofs.HandledSteps.{State, waiting, reading, seeking, taking, ending_, freeing, over}
-use Rattle.call_causes.proofs.HandledStates.{After}
-use Rattle.call_causes.proofs.HandledTicks.{sit}
-use Rattle.call_causes.proofs.HandledRuns.{AreKnown, setup_known, played_known, Reads', reads_along}
+use Rattle.served_fits.specs.call_causes.specs.Lists.{given, soon_at, shows_in}
+use Rattle.served_fits.specs.call_causes.specs.Scenes.{In, LeadsTo}
+use Rattle.served_fits.specs.call_causes.proofs.Scripts.{are_numbered, have_slots, begins}
+use Rattle.served_fits.specs.call_causes.proofs.Run as runs
+use Rattle.served_fits.specs.call_causes.proofs.Handled.{word_of, frames_in, all_at, IsResp, Done, Over, Frozen}
+use Rattle.served_fits.specs.call_causes.proofs.HandledSteps.{State, waiting, reading, seeking, taking, ending_, freeing, over}
+use Rattle.served_fits.specs.call_causes.proofs.HandledStates.{After}
+use Rattle.served_fits.specs.call_causes.proofs.HandledTicks.{sit}
+use Rattle.served_fits.specs.call_causes.proofs.HandledRuns.{AreKnown, setup_known, played_known, Reads', reads_along}
 
 each_at : {A : Type 0} (P : A → Type 0) (xs : List A) → AllByRecursion P xs → (i : ℕ) (x : A) → get_elem? xs i ≡ some x → P x
 each_at P [] all i x at = absurd (some-ne-none x (sym at))

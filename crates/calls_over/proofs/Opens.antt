@@ -40,21 +40,21 @@ use Rattle.joint_runs.proofs.Runs.{AreMade, first_views}
 use Rattle.owed_calls.specs.Lives.{ClosesInRun}
 use Rattle.owed_calls.specs.Sound.{id_word_of, at_of, IsOpen}
 use Rattle.owed_calls.proofs.Known.{run_all_rest}
-use Rattle.whole_runs.proofs.Lengths.{ended_length}
-use Rattle.whole_runs.proofs.Starts.{made}
-use Rattle.call_causes.specs.Lists.{given, shows_in, times, advanced_at, attempts_of_run}
-use Rattle.call_causes.proofs.Posted.{run_few_attempts}
-use Rattle.send_causes.proofs.Assembled.{fixed_in_run}
-use Rattle.send_causes.proofs.AttemptedRuns.{Counted, played_counted, times_append}
-use Rattle.send_causes.proofs.AttemptedSent.{get_same}
-use Rattle.send_causes.proofs.AttemptedStored.{ids_at, stored_run}
-use Rattle.send_causes.proofs.ClosedLostTicks.{word_link, word_attempt}
-use Rattle.send_causes.proofs.Early.{start, go, fitting, known}
-use Rattle.send_causes.proofs.OwnIds.{labelled_at, single_at}
-use Rattle.send_causes.proofs.Runs.{AreLabelledIn, IsCallOf}
-use Rattle.send_causes.proofs.Sends.{narrow, opening_claims}
-use Rattle.served_runs.specs.Offered.{OffersInRun}
-use Rattle.served_calls.specs.Quiet.{AreShown, HasServer}
+use Rattle.served_fits.specs.whole_runs.proofs.Lengths.{ended_length}
+use Rattle.served_fits.specs.whole_runs.proofs.Starts.{made}
+use Rattle.served_fits.specs.call_causes.specs.Lists.{given, shows_in, times, advanced_at, attempts_of_run}
+use Rattle.served_fits.specs.call_causes.proofs.Posted.{run_few_attempts}
+use Rattle.served_fits.specs.send_causes.proofs.Assembled.{fixed_in_run}
+use Rattle.served_fits.specs.send_causes.proofs.AttemptedRuns.{Counted, played_counted, times_append}
+use Rattle.served_fits.specs.send_causes.proofs.AttemptedSent.{get_same}
+use Rattle.served_fits.specs.send_causes.proofs.AttemptedStored.{ids_at, stored_run}
+use Rattle.served_fits.specs.send_causes.proofs.ClosedLostTicks.{word_link, word_attempt}
+use Rattle.served_fits.specs.send_causes.proofs.Early.{start, go, fitting, known}
+use Rattle.served_fits.specs.send_causes.proofs.OwnIds.{labelled_at, single_at}
+use Rattle.served_fits.specs.send_causes.proofs.Runs.{AreLabelledIn, IsCallOf}
+use Rattle.served_fits.specs.send_causes.proofs.Sends.{narrow, opening_claims}
+use Rattle.served_fits.specs.served_runs.specs.Offered.{OffersInRun}
+use Rattle.served_fits.specs.served_calls.specs.Quiet.{AreShown, HasServer}
 use Rattle.calls_over.specs.Open.{OpenCall}
 use Rattle.calls_over.proofs.OpensEntered.{early_log, IsAccepted, AllTaken, own_early, accepted_so, accepted_or}
 use Rattle.calls_over.proofs.OpensFull.{IsIn, taken_has}

@@ -26,16 +26,16 @@ use Rattle.sock_causes.proofs.Members.{in_contains}
 use Rattle.sock_causes.proofs.Plain.{in_both, in_left, in_right}
 use Rattle.joint_runs.proofs.Runs.{AreMade, first_views}
 use Rattle.owed_calls.specs.Lives.{ClosesInRun}
-use Rattle.call_causes.specs.Lists.{shows_in}
-use Rattle.send_causes.specs.EndedCalls.{Store, stored_at, stores_of_run}
-use Rattle.send_causes.proofs.ClosedLost.{setup_fates, played_fates, early_ended}
-use Rattle.send_causes.proofs.ClosedLostTicks.{AreTaken, Ended, word_link, word_attempt}
-use Rattle.send_causes.proofs.Early.{start, go, fitting}
-use Rattle.send_causes.proofs.EndedAttempts.{all_stored, at_place, spoken_call, own_store}
-use Rattle.send_causes.proofs.EndedOnce.{run_stored_once}
-use Rattle.send_causes.proofs.LateRests.{HasNone, played_idle}
-use Rattle.send_causes.proofs.Runs.{AreLabelledIn}
-use Rattle.send_causes.proofs.Sends.{orders_of_run}
+use Rattle.served_fits.specs.call_causes.specs.Lists.{shows_in}
+use Rattle.served_fits.specs.send_causes.specs.EndedCalls.{Store, stored_at, stores_of_run}
+use Rattle.served_fits.specs.send_causes.proofs.ClosedLost.{setup_fates, played_fates, early_ended}
+use Rattle.served_fits.specs.send_causes.proofs.ClosedLostTicks.{AreTaken, Ended, word_link, word_attempt}
+use Rattle.served_fits.specs.send_causes.proofs.Early.{start, go, fitting}
+use Rattle.served_fits.specs.send_causes.proofs.EndedAttempts.{all_stored, at_place, spoken_call, own_store}
+use Rattle.served_fits.specs.send_causes.proofs.EndedOnce.{run_stored_once}
+use Rattle.served_fits.specs.send_causes.proofs.LateRests.{HasNone, played_idle}
+use Rattle.served_fits.specs.send_causes.proofs.Runs.{AreLabelledIn}
+use Rattle.served_fits.specs.send_causes.proofs.Sends.{orders_of_run}
 use Rattle.calls_over.proofs.OpensHeld.{IsHeld, run_held}
 use Rattle.calls_over.proofs.OpensLog.{log, held_logged, logged_held, logged_on}
 use Rattle.calls_over.proofs.OpensNamed.{IsEarly}

@@ -37,8 +37,8 @@ use Rattle.sock_runs.proofs.Whole.{views_played}
 use Rattle.sock_causes.proofs.Delivered.{accepted_of, accepted_at}
 use Rattle.joint_runs.proofs.Runs.{AreMade, first_views}
 use Rattle.owed_calls.specs.Lives.{ClosesInRun}
-use Rattle.send_causes.proofs.ClosedLostTicks.{AreTaken}
-use Rattle.send_causes.proofs.Sends.{orders_of_run}
+use Rattle.served_fits.specs.send_causes.proofs.ClosedLostTicks.{AreTaken}
+use Rattle.served_fits.specs.send_causes.proofs.Sends.{orders_of_run}
 use Rattle.calls_over.proofs.OpensEntered.{NoOld, early_log, late_log, rested_sound, idle_there, StandsLater, stands_later}
 
 range_small : (item : Item) → InRange item → attempts_of item ≤ 8

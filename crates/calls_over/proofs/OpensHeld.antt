@@ -26,7 +26,7 @@ use Rattle.sock_causes.specs.Stories.{In}
 use Rattle.sock_causes.proofs.Cases.{tick_cases}
 use Rattle.sock_causes.proofs.Final.{at_within}
 use Rattle.sock_causes.proofs.Plain.{in_left}
-use Rattle.send_causes.proofs.Views.{row_same}
+use Rattle.served_fits.specs.send_causes.proofs.Views.{row_same}
 
 module _ (e : Entry) where
   abbrev pub IsThere : List (List Entry) → Type 0

@@ -25,13 +25,13 @@ use Rattle.sock_causes.proofs.Openings.{are_seats, all_explained}
 use Rattle.sock_causes.proofs.Runs.{IsStoried, set_up_over}
 use Rattle.sock_causes.proofs.Scripts.{own_from}
 use Rattle.id_rule.specs.Lawful.{at_word}
-use Rattle.call_causes.specs.Lists.{shows_in}
-use Rattle.send_causes.specs.EndedCalls.{Store, stored_at}
-use Rattle.send_causes.proofs.Runs.{AreLabelledIn, IsCallOf}
-use Rattle.send_causes.proofs.EndedTrails.{lost}
-use Rattle.send_causes.proofs.AttemptedBegin.{asked_by}
-use Rattle.send_causes.proofs.EndedNamed.{all_follow, begins_named, Named, Behind, seats_named, setup_named}
-use Rattle.send_causes.proofs.EndedNames.{NameLaw, StoredFor}
+use Rattle.served_fits.specs.call_causes.specs.Lists.{shows_in}
+use Rattle.served_fits.specs.send_causes.specs.EndedCalls.{Store, stored_at}
+use Rattle.served_fits.specs.send_causes.proofs.Runs.{AreLabelledIn, IsCallOf}
+use Rattle.served_fits.specs.send_causes.proofs.EndedTrails.{lost}
+use Rattle.served_fits.specs.send_causes.proofs.AttemptedBegin.{asked_by}
+use Rattle.served_fits.specs.send_causes.proofs.EndedNamed.{all_follow, begins_named, Named, Behind, seats_named, setup_named}
+use Rattle.served_fits.specs.send_causes.proofs.EndedNames.{NameLaw, StoredFor}
 use Rattle.sock_words.specs.Words as sockets
 use Rattle.sock_programs.specs.Asides.{id_slot, id_first}
 use Rattle.client_laws.specs.Openings.{all_seats}
@@ -39,8 +39,8 @@ use Rattle.client_laws.proofs.Fresh.{opening_fresh}
 use Rattle.joint_runs.proofs.Runs.{AreMade, first_views}
 use Rattle.owed_calls.specs.Lives.{ClosesInRun}
 use Rattle.owed_calls.specs.Sound.{at_of}
-use Rattle.send_causes.proofs.Early.{start, go, fitting}
-use Rattle.send_causes.proofs.Sends.{narrow, opening_claims}
+use Rattle.served_fits.specs.send_causes.proofs.Early.{start, go, fitting}
+use Rattle.served_fits.specs.send_causes.proofs.Sends.{narrow, opening_claims}
 use Rattle.calls_over.proofs.OpensStill.{both}
 
 -- what is known of an at word that was stored before the ending

@@ -53,11 +53,11 @@ use Rattle.owed_calls.proofs.OwingRuns.{Reaches, id_is, run_owing, reach_back}
 use Rattle.owed_calls.proofs.Saying.{says_along}
 use Rattle.owed_calls.proofs.WholeOwing.{links_stand}
 use Rattle.owed_calls.proofs.WordsGiven.{Named, names_others, beginning_named, run_named}
-use Rattle.call_causes.proofs.Handled.{Sit}
-use Rattle.call_causes.proofs.HandledSteps.{State, waiting, reading, seeking, taking, ending_, freeing, over}
-use Rattle.call_causes.proofs.HandledStates.{After}
-use Rattle.send_causes.proofs.Early.{start, go, fitting, known, opens_apart, clients_take_none}
-use Rattle.send_causes.proofs.Takeless.{NoTakes}
+use Rattle.served_fits.specs.call_causes.proofs.Handled.{Sit}
+use Rattle.served_fits.specs.call_causes.proofs.HandledSteps.{State, waiting, reading, seeking, taking, ending_, freeing, over}
+use Rattle.served_fits.specs.call_causes.proofs.HandledStates.{After}
+use Rattle.served_fits.specs.send_causes.proofs.Early.{start, go, fitting, known, opens_apart, clients_take_none}
+use Rattle.served_fits.specs.send_causes.proofs.Takeless.{NoTakes}
 use Rattle.calls_over.proofs.Handled.{reads_before}
 use Rattle.calls_over.proofs.OpensStill.{Stands, resting, joining, opening, discarding, both, stands}
 use Rattle.calls_over.proofs.OpensStill as still

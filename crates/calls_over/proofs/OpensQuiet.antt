@@ -51,27 +51,27 @@ use Rattle.client_laws.specs.Openings.{all_seats}
 use Rattle.client_laws.proofs.Fresh.{opening_fresh}
 use Rattle.joint_runs.proofs.Runs.{AreMade, first_views}
 use Rattle.owed_calls.specs.Lives.{ClosesInRun}
-use Rattle.whole_runs.specs.Heard.{heard_takes, given_by}
-use Rattle.whole_runs.proofs.Gave.{gave_heard}
-use Rattle.whole_runs.proofs.Lengths.{ended_length}
-use Rattle.whole_runs.proofs.Starts.{made}
-use Rattle.call_causes.specs.Lists.{given}
-use Rattle.call_causes.specs.Scenes.{LeadsTo}
-use Rattle.send_causes.proofs.AttemptedStored.{played_leads}
-use Rattle.send_causes.proofs.Early.{start, go, fitting, closed_early}
-use Rattle.send_causes.proofs.Faults.{Faults, fault_stays}
-use Rattle.send_causes.proofs.Sends.{owed}
-use Rattle.send_causes.proofs.Storied.{run_tells, failed_early}
-use Rattle.served_runs.specs.Offered.{OffersInRun}
-use Rattle.served_runs.specs.Served.{IsForCalls}
-use Rattle.served_runs.proofs.Ends.{Holds}
-use Rattle.served_runs.proofs.Own.{id_small}
-use Rattle.served_runs.proofs.Readings.{Goes}
-use Rattle.served_runs.proofs.Replies.{played_holds}
-use Rattle.served_runs.proofs.Served.{shapes_many, gives_last, gives_no_fault}
-use Rattle.served_calls.specs.Quiet.{AreShown, HasServer}
-use Rattle.served_calls.proofs.Requests.{never_last}
-use Rattle.served_sizes.proofs.Few as sizes
+use Rattle.served_fits.specs.whole_runs.specs.Heard.{heard_takes, given_by}
+use Rattle.served_fits.specs.whole_runs.proofs.Gave.{gave_heard}
+use Rattle.served_fits.specs.whole_runs.proofs.Lengths.{ended_length}
+use Rattle.served_fits.specs.whole_runs.proofs.Starts.{made}
+use Rattle.served_fits.specs.call_causes.specs.Lists.{given}
+use Rattle.served_fits.specs.call_causes.specs.Scenes.{LeadsTo}
+use Rattle.served_fits.specs.send_causes.proofs.AttemptedStored.{played_leads}
+use Rattle.served_fits.specs.send_causes.proofs.Early.{start, go, fitting, closed_early}
+use Rattle.served_fits.specs.send_causes.proofs.Faults.{Faults, fault_stays}
+use Rattle.served_fits.specs.send_causes.proofs.Sends.{owed}
+use Rattle.served_fits.specs.send_causes.proofs.Storied.{run_tells, failed_early}
+use Rattle.served_fits.specs.served_runs.specs.Offered.{OffersInRun}
+use Rattle.served_fits.specs.served_runs.specs.Served.{IsForCalls}
+use Rattle.served_fits.specs.served_runs.proofs.Ends.{Holds}
+use Rattle.served_fits.specs.served_runs.proofs.Own.{id_small}
+use Rattle.served_fits.specs.served_runs.proofs.Readings.{Goes}
+use Rattle.served_fits.specs.served_runs.proofs.Replies.{played_holds}
+use Rattle.served_fits.specs.served_runs.proofs.Served.{shapes_many, gives_last, gives_no_fault}
+use Rattle.served_fits.specs.served_calls.specs.Quiet.{AreShown, HasServer}
+use Rattle.served_fits.specs.served_calls.proofs.Requests.{never_last}
+use Rattle.served_fits.specs.served_sizes.proofs.Few as sizes
 use Rattle.calls_over.proofs.OpensEntered.{rested_sound}
 use Rattle.calls_over.proofs.OpensOwed.{NoneThrown}
 use Rattle.calls_over.proofs.Soon.{named_shape, no_end, no_stray}
@@ -197,7 +197,7 @@ module _ (bytes : List ℕ) (script : List Item) (reads : script_of bytes ≡ Ok
       (held.reader seat there)
     where
       low : k < length (link_names script)
-      low = let i = place_inside (opens script) k o at in let many = (let x = Rattle.send_causes.proofs.Early.known script are_made turns core is in x.as_many) in omega (arith, i, many)
+      low = let i = place_inside (opens script) k o at in let many = (let x = Rattle.served_fits.specs.send_causes.proofs.Early.known script are_made turns core is in x.as_many) in omega (arith, i, many)
 
       server : HasServer script turns core is k
       server = has_server k low

@@ -34,20 +34,20 @@ use Rattle.sock_causes.proofs.Delivered.{accepted_of}
 use Rattle.joint_runs.proofs.Runs.{AreMade, first_views}
 use Rattle.owed_calls.specs.Lives.{ClosesInRun}
 use Rattle.owed_calls.proofs.OpensStored.{at_place}
-use Rattle.whole_runs.proofs.Starts.{made}
-use Rattle.call_causes.specs.Lists.{given}
-use Rattle.send_causes.proofs.AllTold.{told_of_run}
-use Rattle.send_causes.proofs.Assembled.{fixed_in_run}
-use Rattle.send_causes.proofs.AttemptedSent.{get_same}
-use Rattle.send_causes.proofs.AttemptedStored.{ids_at}
-use Rattle.send_causes.proofs.OwnIds.{own_id}
-use Rattle.send_causes.proofs.Sends.{orders_of_run}
-use Rattle.served_runs.specs.Offered.{OffersInRun, TookSoFar}
-use Rattle.served_runs.proofs.Frames.{IsPiece, IsSmall, request_is}
-use Rattle.served_runs.proofs.Own.{id_small}
-use Rattle.served_calls.specs.Quiet.{AreShown}
-use Rattle.served_calls.proofs.Frames.{piece_has}
-use Rattle.served_calls.proofs.Requests.{IsCalled, small_call}
+use Rattle.served_fits.specs.whole_runs.proofs.Starts.{made}
+use Rattle.served_fits.specs.call_causes.specs.Lists.{given}
+use Rattle.served_fits.specs.send_causes.proofs.AllTold.{told_of_run}
+use Rattle.served_fits.specs.send_causes.proofs.Assembled.{fixed_in_run}
+use Rattle.served_fits.specs.send_causes.proofs.AttemptedSent.{get_same}
+use Rattle.served_fits.specs.send_causes.proofs.AttemptedStored.{ids_at}
+use Rattle.served_fits.specs.send_causes.proofs.OwnIds.{own_id}
+use Rattle.served_fits.specs.send_causes.proofs.Sends.{orders_of_run}
+use Rattle.served_fits.specs.served_runs.specs.Offered.{OffersInRun, TookSoFar}
+use Rattle.served_fits.specs.served_runs.proofs.Frames.{IsPiece, IsSmall, request_is}
+use Rattle.served_fits.specs.served_runs.proofs.Own.{id_small}
+use Rattle.served_fits.specs.served_calls.specs.Quiet.{AreShown}
+use Rattle.served_fits.specs.served_calls.proofs.Frames.{piece_has}
+use Rattle.served_fits.specs.served_calls.proofs.Requests.{IsCalled, small_call}
 use Rattle.calls_over.proofs.OpensEntered.{early_log, rested_sound, idle_there, StandsLater, stands_later}
 use Rattle.calls_over.proofs.OpensQuiet.{unsent, unfailed}
 use Rattle.calls_over.proofs.OpensTook.{IsHome, home}

@@ -29,8 +29,8 @@ use Rattle.owed_calls.specs.Settled as settled
 use Rattle.owed_calls.specs.Sound.{id_word_of}
 use Rattle.owed_calls.proofs.AllSettled.{not_locked}
 use Rattle.owed_calls.proofs.EndsStill.{view_of}
-use Rattle.send_causes.proofs.Early.{start, go, fitting}
-use Rattle.send_causes.proofs.Rests.{still, aside}
+use Rattle.served_fits.specs.send_causes.proofs.Early.{start, go, fitting}
+use Rattle.served_fits.specs.send_causes.proofs.Rests.{still, aside}
 
 -- a range that has ended isn't sought
 not_sought : (sought : Sought) (w : Parts) → w.state ≡ 0 → is_sought sought w ≡ true → ⊥

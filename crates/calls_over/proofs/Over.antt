@@ -15,10 +15,10 @@ use Rattle.sock_programs.specs.ToldCalls.{Order, Fixed, ToldCalls}
 use Rattle.sock_programs.specs.Scripts.{Reports, all_tasks, IsRunWithCalls}
 use Rattle.sock_causes.specs.Facts.{broken_of_run}
 use Rattle.owed_calls.specs.Lives.{ClosesInRun}
-use Rattle.whole_runs.proofs.Starts.{made}
-use Rattle.call_causes.specs.Lists.{given}
-use Rattle.served_runs.specs.Offered.{OffersInRun}
-use Rattle.served_calls.specs.Quiet.{AreShown}
+use Rattle.served_fits.specs.whole_runs.proofs.Starts.{made}
+use Rattle.served_fits.specs.call_causes.specs.Lists.{given}
+use Rattle.served_fits.specs.served_runs.specs.Offered.{OffersInRun}
+use Rattle.served_fits.specs.served_calls.specs.Quiet.{AreShown}
 use Rattle.served_fits.specs.Shown.{AreSo}
 use Rattle.served_fits.proofs.Whole as fits
 use Rattle.calls_over.proofs.Opens.{open_call}

@@ -37,13 +37,13 @@ use Rattle.sock_programs.specs.ToldCalls.{Order, Fixed, ToldCalls}
 use Rattle.sock_programs.specs.Scripts.{Reports, all_tasks, IsRunWithCalls}
 use Rattle.owed_calls.specs.Lives.{ClosesInRun}
 use Rattle.owed_calls.specs.Sound.{id_word_of}
-use Rattle.whole_runs.proofs.Lengths.{ended_length}
-use Rattle.whole_runs.proofs.Starts.{made}
-use Rattle.call_causes.specs.Lists.{given}
-use Rattle.call_causes.proofs.Handled.{IsResp}
-use Rattle.served_runs.specs.Offered.{OffersInRun}
-use Rattle.served_runs.proofs.Frames.{IsPiece, reply_is}
-use Rattle.served_calls.proofs.Frames.{SaysReply, piece_has, reply_to, reply_says}
+use Rattle.served_fits.specs.whole_runs.proofs.Lengths.{ended_length}
+use Rattle.served_fits.specs.whole_runs.proofs.Starts.{made}
+use Rattle.served_fits.specs.call_causes.specs.Lists.{given}
+use Rattle.served_fits.specs.call_causes.proofs.Handled.{IsResp}
+use Rattle.served_fits.specs.served_runs.specs.Offered.{OffersInRun}
+use Rattle.served_fits.specs.served_runs.proofs.Frames.{IsPiece, reply_is}
+use Rattle.served_fits.specs.served_calls.proofs.Frames.{SaysReply, piece_has, reply_to, reply_says}
 use Rattle.calls_over.specs.Open.{before, OpenCall}
 use Rattle.calls_over.proofs.Given.{gave_before}
 use Rattle.calls_over.proofs.Handled.{in_soon}

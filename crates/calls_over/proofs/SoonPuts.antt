@@ -27,8 +27,8 @@ use Rattle.sock_runs.specs.Sound.{Sound, IsFitting, IsOfRight, AreHeld, first_st
 use Rattle.sock_runs.proofs.LinkTicks.{RetriesGo}
 use Rattle.sock_causes.proofs.Cases.{tick_cases}
 use Rattle.owed_calls.specs.Lives.{InHand}
-use Rattle.served_runs.specs.Offered.{Lies, TookSoFar}
-use Rattle.served_runs.proofs.Places.{IsPut, all_lay}
+use Rattle.served_fits.specs.served_runs.specs.Offered.{Lies, TookSoFar}
+use Rattle.served_fits.specs.served_runs.proofs.Places.{IsPut, all_lay}
 
 module _ (p : Plan) (k : ℕ) (retries : RetriesGo p) (c : Core) (vs : List View) (m : Moment) (sound : Sound p c vs) where
   -- the front of the messages that it accepted

@@ -14,11 +14,11 @@ use Rattle.sock_programs.specs.Asides.{id_slot, id_first}
 use Rattle.sock_programs.specs.Cores.{Core}
 use Rattle.sock_programs.specs.Readers.{has_response, slot_in, version_in, is_early}
 use Rattle.owed_calls.specs.Sound.{id_word_of}
-use Rattle.call_causes.specs.Lists.{Take, given, is_soon, soon_from, soon_by}
-use Rattle.call_causes.specs.Scenes.{In}
-use Rattle.call_causes.proofs.Handled.{bound, early_is}
-use Rattle.call_causes.proofs.Streams.{frames_stay}
-use Rattle.served_runs.proofs.Frames.{IsPiece, piece_frames, reply_is}
+use Rattle.served_fits.specs.call_causes.specs.Lists.{Take, given, is_soon, soon_from, soon_by}
+use Rattle.served_fits.specs.call_causes.specs.Scenes.{In}
+use Rattle.served_fits.specs.call_causes.proofs.Handled.{bound, early_is}
+use Rattle.served_fits.specs.call_causes.proofs.Streams.{frames_stay}
+use Rattle.served_fits.specs.served_runs.proofs.Frames.{IsPiece, piece_frames, reply_is}
 use Rattle.calls_over.proofs.SoonPieces.{IsLow}
 
 -- ## One reply

@@ -32,18 +32,18 @@ use Rattle.client_laws.specs.Openings.{all_seats}
 use Rattle.client_laws.proofs.Fresh.{opening_fresh}
 use Rattle.joint_runs.proofs.Runs.{AreMade, first_views, joint_runs}
 use Rattle.owed_calls.specs.Lives.{ClosesInRun, InHand}
-use Rattle.whole_runs.proofs.Lengths.{tick_long}
-use Rattle.call_causes.specs.Scenes.{In}
-use Rattle.send_causes.proofs.AttemptedBegin.{begins_labels, asked_by}
-use Rattle.send_causes.proofs.Early.{start, go, fitting}
-use Rattle.send_causes.proofs.Labelled.{ids_of_run}
-use Rattle.send_causes.proofs.Runs.{IsCallOf, programs_go}
-use Rattle.send_causes.proofs.Sends.{narrow, few_clients, opening_claims, labelled}
-use Rattle.send_causes.proofs.Whole.{get_same}
-use Rattle.served_runs.specs.Offered.{TookSoFar, offered_by, OffersInRun}
-use Rattle.served_runs.proofs.Parts.{IsPart, part_along}
-use Rattle.served_runs.proofs.Runs.{quiet_offered}
-use Rattle.served_runs.proofs.Served.{shapes_many}
+use Rattle.served_fits.specs.whole_runs.proofs.Lengths.{tick_long}
+use Rattle.served_fits.specs.call_causes.specs.Scenes.{In}
+use Rattle.served_fits.specs.send_causes.proofs.AttemptedBegin.{begins_labels, asked_by}
+use Rattle.served_fits.specs.send_causes.proofs.Early.{start, go, fitting}
+use Rattle.served_fits.specs.send_causes.proofs.Labelled.{ids_of_run}
+use Rattle.served_fits.specs.send_causes.proofs.Runs.{IsCallOf, programs_go}
+use Rattle.served_fits.specs.send_causes.proofs.Sends.{narrow, few_clients, opening_claims, labelled}
+use Rattle.served_fits.specs.send_causes.proofs.Whole.{get_same}
+use Rattle.served_fits.specs.served_runs.specs.Offered.{TookSoFar, offered_by, OffersInRun}
+use Rattle.served_fits.specs.served_runs.proofs.Parts.{IsPart, part_along}
+use Rattle.served_fits.specs.served_runs.proofs.Runs.{quiet_offered}
+use Rattle.served_fits.specs.served_runs.proofs.Served.{shapes_many}
 use Rattle.calls_over.proofs.Handled.{known_setup, known_clients, soon_setup, soon_clients}
 use Rattle.calls_over.proofs.SoonPieces.{IsLow, NonePlain}
 use Rattle.calls_over.proofs.SoonReplies.{in_two}

@@ -19,18 +19,18 @@ use Rattle.sock_programs.specs.Ticks.{Moment, IsAnswered, AreAnswered, quiet, ti
 use Rattle.sock_runs.specs.Sound.{views_after, views_along}
 use Rattle.sock_runs.proofs.LinkTicks.{RetriesGo}
 use Rattle.joint_runs.proofs.Both.{BothSound, FitsBoth, AreBoth, are_fitting}
-use Rattle.label_runs.specs.Labels.{Trial}
+use Rattle.served_fits.specs.label_runs.specs.Labels.{Trial}
 use Rattle.owed_calls.specs.Sound.{id_word_of}
-use Rattle.whole_runs.proofs.Lengths.{tick_long}
-use Rattle.call_causes.specs.Lists.{Take, taken_link, takes_by, takes_at, given, soon_by, soon_at, shows_in}
-use Rattle.call_causes.specs.Scenes.{In}
-use Rattle.call_causes.proofs.Handled.{bound}
-use Rattle.call_causes.proofs.HandledTicks.{Known}
-use Rattle.call_causes.proofs.HandledRuns.{AreKnown}
-use Rattle.send_causes.specs.Counts.{times_of, LabelLaw, StoresOwn, AreLabelled}
-use Rattle.send_causes.proofs.Ticks.{label_ticks}
-use Rattle.served_runs.specs.Offered.{TookSoFar, AreOffered}
-use Rattle.served_runs.proofs.Parts.{IsPart, part_along}
+use Rattle.served_fits.specs.whole_runs.proofs.Lengths.{tick_long}
+use Rattle.served_fits.specs.call_causes.specs.Lists.{Take, taken_link, takes_by, takes_at, given, soon_by, soon_at, shows_in}
+use Rattle.served_fits.specs.call_causes.specs.Scenes.{In}
+use Rattle.served_fits.specs.call_causes.proofs.Handled.{bound}
+use Rattle.served_fits.specs.call_causes.proofs.HandledTicks.{Known}
+use Rattle.served_fits.specs.call_causes.proofs.HandledRuns.{AreKnown}
+use Rattle.served_fits.specs.send_causes.specs.Counts.{times_of, LabelLaw, StoresOwn, AreLabelled}
+use Rattle.served_fits.specs.send_causes.proofs.Ticks.{label_ticks}
+use Rattle.served_fits.specs.served_runs.specs.Offered.{TookSoFar, AreOffered}
+use Rattle.served_fits.specs.served_runs.proofs.Parts.{IsPart, part_along}
 use Rattle.calls_over.proofs.SoonLists.{run_stay}
 use Rattle.calls_over.proofs.SoonPieces.{IsLow, low_on, NonePlain, all_map, front_low}
 use Rattle.calls_over.proofs.SoonPuts.{took_behind, took_before}

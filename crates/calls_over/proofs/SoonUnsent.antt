@@ -32,11 +32,11 @@ use Rattle.client_laws.proofs.Fresh.{opening_fresh}
 use Rattle.joint_runs.proofs.Runs.{AreMade, first_views}
 use Rattle.owed_calls.specs.Lives.{ClosesInRun}
 use Rattle.owed_calls.proofs.EndsStill as still
-use Rattle.send_causes.specs.Counts.{EntryFits}
-use Rattle.send_causes.proofs.Early.{start, go, fitting}
-use Rattle.send_causes.proofs.Runs.{IsCallOf, end_law}
-use Rattle.send_causes.proofs.Sends.{owed, narrow, few_clients, opening_claims, labelled}
-use Rattle.send_causes.proofs.Labelled.{ids_of_run}
+use Rattle.served_fits.specs.send_causes.specs.Counts.{EntryFits}
+use Rattle.served_fits.specs.send_causes.proofs.Early.{start, go, fitting}
+use Rattle.served_fits.specs.send_causes.proofs.Runs.{IsCallOf, end_law}
+use Rattle.served_fits.specs.send_causes.proofs.Sends.{owed, narrow, few_clients, opening_claims, labelled}
+use Rattle.served_fits.specs.send_causes.proofs.Labelled.{ids_of_run}
 use Rattle.calls_over.proofs.SoonLists.{Stood, run_stay}
 use Rattle.calls_over.proofs.SoonPieces.{NonePlain}
 

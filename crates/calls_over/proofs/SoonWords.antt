@@ -21,8 +21,8 @@ use Rattle.sock_programs.specs.Cores.{Core, SeatState}
 use Rattle.sock_programs.specs.Ticks.{Answer, Unasked, OfPut, OfReady, OfTake, Moment, taken, with_message, with_link, with_put, with_ready, with_found, step_with, tick_with, ticked}
 use Rattle.sock_runs.specs.Sound.{first_step}
 use Rattle.owed_calls.specs.Sound.{id_word_of}
-use Rattle.call_causes.proofs.Handled.{bound, Goes, goes_same}
-use Rattle.call_causes.proofs.HandledTicks.{Known}
+use Rattle.served_fits.specs.call_causes.proofs.Handled.{bound, Goes, goes_same}
+use Rattle.served_fits.specs.call_causes.proofs.HandledTicks.{Known}
 
 -- ## One range
 

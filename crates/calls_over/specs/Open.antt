@@ -14,7 +14,7 @@ use Rattle.sock_programs.specs.Scripts.{played, IsRunWithCalls}
 use Rattle.sock_programs.specs.Tasks.{opens, plan_of, id_plan_of}
 use Rattle.report_fits.proofs.Lists.{Has}
 use Rattle.owed_calls.specs.Sound.{id_word_of}
-use Rattle.served_runs.specs.Offered.{TookSoFar}
+use Rattle.served_fits.specs.served_runs.specs.Offered.{TookSoFar}
 
 module _ (script : List Item) (turns : List Turn) (core : Core) (is : IsRunWithCalls script turns core) where
   -- where the ending begins

@@ -21,19 +21,19 @@ use Rattle.sock_programs.specs.Tasks.{opens, calls, plan_of, id_plan_of}
 use Rattle.sock_programs.specs.Ticks.{quiet}
 use Rattle.sock_runs.proofs.Opening.{mapped}
 use Rattle.sock_runs.proofs.Whole.{closing_of, views_played, views_closed, end_answered}
-use Rattle.sock_causes.specs.Causes.{Asks}
-use Rattle.sock_causes.specs.Explains.{plain_tasks}
-use Rattle.sock_causes.specs.Facts.{put_at, shown_in, numbers_of, is_said_late, late_of_run, late_links_of_run}
-use Rattle.sock_causes.specs.Kept.{IsSpoken}
-use Rattle.sock_causes.specs.PlainTasks.{told_tasks_of}
-use Rattle.sock_causes.specs.Stories.{In}
-use Rattle.sock_causes.proofs.Plain.{in_both}
-use Rattle.client_laws.specs.Openings.{all_seats}
-use Rattle.client_laws.proofs.Fresh.{opening_fresh}
-use Rattle.joint_runs.proofs.Runs.{AreMade, first_views}
+use Rattle.send_causes.specs.sock_causes.specs.Causes.{Asks}
+use Rattle.send_causes.specs.sock_causes.specs.Explains.{plain_tasks}
+use Rattle.send_causes.specs.sock_causes.specs.Facts.{put_at, shown_in, numbers_of, is_said_late, late_of_run, late_links_of_run}
+use Rattle.send_causes.specs.sock_causes.specs.Kept.{IsSpoken}
+use Rattle.send_causes.specs.sock_causes.specs.PlainTasks.{told_tasks_of}
+use Rattle.send_causes.specs.sock_causes.specs.Stories.{In}
+use Rattle.send_causes.specs.sock_causes.proofs.Plain.{in_both}
+use Rattle.send_causes.specs.client_laws.specs.Openings.{all_seats}
+use Rattle.send_causes.specs.client_laws.proofs.Fresh.{opening_fresh}
+use Rattle.send_causes.specs.joint_runs.proofs.Runs.{AreMade, first_views}
 use Rattle.send_causes.proofs.Early.{start, go, fitting, known}
 use Rattle.send_causes.proofs.Storied as stories
-use Rattle.owed_calls.specs.Settled.{IsAtRest}
+use Rattle.send_causes.specs.owed_calls.specs.Settled.{IsAtRest}
 use Rattle.calm_runs.specs.Calm.{IsCalm}
 use Rattle.calm_runs.proofs.Along.{calm_setup, calm_along, StaysQuiet, quiet_along}
 use Rattle.calm_runs.proofs.Programs.{ending_calm, reader_calm}

@@ -31,14 +31,14 @@ use Rattle.sock_runs.proofs.Opening.{mapped}
 use Rattle.sock_runs.proofs.Passes.{and_left, and_right}
 use Rattle.sock_runs.proofs.Waiting.{StandsAside}
 use Rattle.sock_runs.proofs.Whole.{views_played, set_up_answered, set_up_sound, rested_ahead}
-use Rattle.id_runs.specs.Held.{IdView}
-use Rattle.id_runs.specs.Goes.{IdGoesOn}
-use Rattle.joint_runs.proofs.Both.{BothSound, behind_both}
-use Rattle.joint_runs.proofs.Runs.{AreMade, first_views, joint_runs}
-use Rattle.owed_calls.specs.Settled as settled
-use Rattle.owed_calls.specs.Sound.{id_word_of}
-use Rattle.owed_calls.proofs.AllSettled.{not_locked}
-use Rattle.owed_calls.proofs.EndsStill.{view_of}
+use Rattle.send_causes.specs.id_runs.specs.Held.{IdView}
+use Rattle.send_causes.specs.id_runs.specs.Goes.{IdGoesOn}
+use Rattle.send_causes.specs.joint_runs.proofs.Both.{BothSound, behind_both}
+use Rattle.send_causes.specs.joint_runs.proofs.Runs.{AreMade, first_views, joint_runs}
+use Rattle.send_causes.specs.owed_calls.specs.Settled as settled
+use Rattle.send_causes.specs.owed_calls.specs.Sound.{id_word_of}
+use Rattle.send_causes.specs.owed_calls.proofs.AllSettled.{not_locked}
+use Rattle.send_causes.specs.owed_calls.proofs.EndsStill.{view_of}
 use Rattle.send_causes.proofs.DropWhole.{get_same}
 use Rattle.send_causes.proofs.Early.{start, go, fitting, known, before_readers}
 use Rattle.send_causes.proofs.Rests.{still, aside}

@@ -27,8 +27,8 @@ use Rattle.sock_programs.specs.Posts.{packed, end_id, unlocked}
 use Rattle.sock_programs.specs.Programs.{Program, Do, Say, Rest, TakeMessage, TakeHome, PutHome, PutBytes, AskReady, Aside, Round}
 use Rattle.sock_programs.specs.Ticks.{Answer, OfPut, OfReady, Moment, taken, ticked, step_with, tick_with, with_message, with_link, with_put, with_ready, with_found}
 use Rattle.sock_runs.specs.Sound.{first_step}
-use Rattle.sock_causes.specs.Facts.{born_at, born_of, put_at, put_by}
-use Rattle.call_causes.proofs.Sayings.{got_other}
+use Rattle.send_causes.specs.sock_causes.specs.Facts.{born_at, born_of, put_at, put_by}
+use Rattle.send_causes.specs.call_causes.proofs.Sayings.{got_other}
 use Rattle.send_causes.proofs.Readings.{ticks_first}
 use Rattle.calm_runs.specs.Calm.{IsCalm}
 use Rattle.calm_runs.proofs.Programs.{calm_end_id, calm_posts, calm_locking, calm_took, calm_discarded}

@@ -1,1 +1,2 @@
 pub mod Calm
+pub use Rattle.send_causes

@@ -6,7 +6,7 @@ use lib.Seq.{set-get_or}
 use lib.ListN.{get_elem?}
 use mathlib.Core.Option.{none, some}
 use Rattle.atomic_table.specs.Table.{State, stepped, keeps}
-use Rattle.sock_words.specs.declared.plain.Plan.{Plan}
+use Rattle.sock_model.specs.sock_words.specs.declared.plain.Plan.{Plan}
 use Rattle.sock_model.specs.declared.chain.Heading.{Heading}
 use Rattle.sock_model.specs.declared.chain.Right.{Right}
 use Rattle.sock_model.specs.declared.chain.Stage.{Stage}
@@ -21,10 +21,10 @@ use Rattle.sock_model.specs.Reads.{link_home}
 use Rattle.sock_model.specs.Lawful.{Lawful}
 use Rattle.sock_model.specs.Keeping.{KeepsRule, LawfulAfter}
 use Rattle.sock_model.specs.Rule.{Rule, noting}
-use Rattle.chain_laws.proofs.Lists.{at_length}
-use Rattle.chain_laws.proofs.Grow.{last_small}
-use Rattle.chain_laws.proofs.Heads.{held_of}
-use Rattle.chain_laws.proofs.Frees.{Leads, to_end, to_next}
+use Rattle.sock_steps.specs.chain_laws.proofs.Lists.{at_length}
+use Rattle.sock_steps.specs.chain_laws.proofs.Grow.{last_small}
+use Rattle.sock_steps.specs.chain_laws.proofs.Heads.{held_of}
+use Rattle.sock_steps.specs.chain_laws.proofs.Frees.{Leads, to_end, to_next}
 use Rattle.sock_steps.proofs.RightSteps.{right_in, right_alone}
 use Rattle.sock_steps.proofs.Maps.{set_at}
 use Rattle.sock_steps.proofs.SlotSteps.{idle_law}

@@ -2,7 +2,7 @@
 use Rattle.std.specs.Prelude.{◌≡◌, ◌≢◌, ℕ, ◌+◌, ◌<◌, ◌⊎◌, []}
 use mathlib.Core.Option.{some}
 use lib.ListN.{get_elem?}
-use Rattle.sock_words.specs.declared.plain.Plan.{Plan}
+use Rattle.sock_model.specs.sock_words.specs.declared.plain.Plan.{Plan}
 use Rattle.sock_model.specs.declared.chain.Right.{Right}
 use Rattle.sock_model.specs.declared.chain.Stage.TheVariants.{Placed, Passes, Walks}
 use Rattle.sock_model.specs.declared.view.View.{View}

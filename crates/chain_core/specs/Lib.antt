@@ -1,3 +1,4 @@
 pub mod Conditions
 pub mod Rights
 pub mod Taken
+pub use Rattle.sock_steps

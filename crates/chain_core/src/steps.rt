@@ -8,7 +8,7 @@ ghost use Rattle.chain_core.specs.Conditions.{MayLook, MayClaim, MaySwap, MayCon
 ghost use Rattle.chain_core.specs.Rights.{TakesRight};
 ghost use Rattle.chain_core.specs.Taken.{NotesTaken};
 
-use sock_words::{Step, Ticket};
+use sock_model::sock_words::{Step, Ticket};
 
 /// The next word of a request whose writer has not connected it yet (socket.cpp, `WriteRequest::UNCONNECTED`).
 pub const UNCONNECTED: u64 = u64::MAX;

@@ -13,15 +13,15 @@ use Rattle.sock_model.specs.SlotRows.{looked, met_link}
 use Rattle.sock_model.specs.ChainRows.{with_claim}
 use Rattle.slot_laws.proofs.Numbers.{only-same}
 use Rattle.corr_core.specs.Word.{parts}
-use Rattle.sock_message.specs.Asked.{Asked, name_of, meta_of, frame_of}
+use Rattle.sock_programs.specs.sock_message.specs.Asked.{Asked, name_of, meta_of, frame_of}
 use Rattle.sock_programs.specs.Asides.{StoreAt, call_id, id_first, id_slot}
 use Rattle.sock_programs.specs.Programs.{Program, Do, Say, Aside, release}
 use Rattle.sock_programs.specs.Calls.{FindLink, LookWord}
 use Rattle.sock_programs.specs.Sends.{accept}
 use Rattle.sock_programs.specs.Clients.{HeldLife}
 use Rattle.sock_programs.specs.Posts.{post}
-use Rattle.brpc_model.specs.Frame.{magic, framed}
-use Rattle.brpc_model.specs.Spelling.{meta_bytes}
+use Rattle.sock_runs.specs.brpc_model.specs.Frame.{magic, framed}
+use Rattle.sock_runs.specs.brpc_model.specs.Spelling.{meta_bytes}
 use Rattle.std.specs.Int.{w32, to_be_bytes}
 use Rattle.sock_programs.specs.Attempts.{claims_from, heading_for, attempt, begin_call, claim_id, call}
 use Rattle.sock_programs.specs.Told.{AskedFits}

@@ -11,7 +11,7 @@ use Rattle.corr_core.specs.declared.marks.Plan.{Plan as IdPlan}
 use Rattle.sock_programs.specs.declared.task.Op.{Op}
 use Rattle.sock_programs.specs.declared.task.Op.TheVariants as ops
 use Rattle.sock_programs.specs.declared.task.Task.{Task}
-use Rattle.sock_message.specs.Asked.{Asked, name_of}
+use Rattle.sock_programs.specs.sock_message.specs.Asked.{Asked, name_of}
 use Rattle.sock_programs.specs.Calls.{ClaimSlot, GiveBirth, StoreLink, ResetHead, WipeCode, StoreName, LoadName, StoreOpen, LoadOpen, LookWord, ClaimRequest}
 use Rattle.sock_programs.specs.Asides.{call_id}
 use Rattle.sock_programs.specs.Heads.{Joins}

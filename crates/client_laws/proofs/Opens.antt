@@ -29,7 +29,7 @@ use Rattle.sock_runs.specs.Fits.{FitsRetry}
 use Rattle.sock_runs.proofs.Along.{seat_rests}
 use Rattle.sock_runs.proofs.LinkTicks.{come_goes}
 use Rattle.slot_laws.proofs.Sums.{total-append}
-use Rattle.sock_steps.proofs.Reseat.{opening_law, splitting_law}
+use Rattle.sock_runs.specs.sock_steps.proofs.Reseat.{opening_law, splitting_law}
 use Rattle.client_laws.specs.Openings.{links_of, links_of_all, without_passes, client_view, opening_views, all_seats}
 use Rattle.client_laws.proofs.Has.{has_nothing}
 use Rattle.client_laws.proofs.Parts.{Ready}

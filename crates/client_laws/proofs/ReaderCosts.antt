@@ -4,7 +4,7 @@ use Rattle.sock_words.specs.declared.plain.Plan.{Plan}
 use Rattle.sock_words.specs.Words.{socket_id_slot, at_word_first, at_word_slot, at_word_link, at_word_attempt}
 use Rattle.sock_model.specs.declared.view.View.{View}
 use Rattle.corr_core.specs.Word.{parts, error_of}
-use Rattle.brpc_model.specs.Frame.{Frame}
+use Rattle.sock_runs.specs.brpc_model.specs.Frame.{Frame}
 use Rattle.sock_programs.specs.Asides.{LoadAt, call_id, id_first}
 use Rattle.sock_programs.specs.Heads.{Reads, Discards, Posting, WasGone, WasStale, WasCrowded, WasQueued, HasLocked, Deciding, HasEnded, GoesOn, Ended}
 use Rattle.sock_programs.specs.Programs.{Program, Rest, Aside, Round, NO_SOCKET, address, release, set_failed}

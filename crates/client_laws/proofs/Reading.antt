@@ -5,7 +5,7 @@ use Rattle.sock_words.specs.Words.{socket_id_slot, at_word_first, at_word_slot, 
 use Rattle.sock_model.specs.declared.chain.Entry.{Entry}
 use Rattle.sock_model.specs.declared.view.View.{View}
 use Rattle.corr_core.specs.Word.{parts, error_of}
-use Rattle.brpc_model.specs.Frame.{Frame}
+use Rattle.sock_runs.specs.brpc_model.specs.Frame.{Frame}
 use Rattle.sock_programs.specs.Asides.{call_id, id_first}
 use Rattle.sock_programs.specs.Heads.{Reads, Discards, Posting, WasGone, WasStale, WasCrowded, WasQueued, HasLocked, Ended}
 use Rattle.sock_programs.specs.Programs.{Program, Rest, Round, NO_SOCKET, address, release, set_failed}

@@ -3,8 +3,8 @@ use Rattle.std.proofs.Common.{ℕ, ◌-◌, ◌≤◌, List, [], ◌∷◌, leng
 use Rattle.sock_words.specs.declared.plain.Plan.{Plan}
 use Rattle.sock_model.specs.declared.chain.Entry.{Entry}
 use Rattle.sock_model.specs.declared.view.View.{View}
-use Rattle.brpc_model.specs.Spelling.{meta_bytes}
-use Rattle.sock_message.specs.Asked.{Asked, name_of, meta_of}
+use Rattle.sock_runs.specs.brpc_model.specs.Spelling.{meta_bytes}
+use Rattle.sock_programs.specs.sock_message.specs.Asked.{Asked, name_of, meta_of}
 use Rattle.sock_programs.specs.Heads.{Retry, Unlocking, IsOpen, HasNext, Locking, NotThere, Has as HasLock}
 use Rattle.sock_programs.specs.Programs.{Program, Retries}
 use Rattle.sock_programs.specs.Clients.{HeldLife}

@@ -1,13 +1,13 @@
 ghost use Rattle.std.specs.Prelude.{◌≡◌, ◌<◌, IfSome};
 ghost use Rattle.sock_open.specs.Made.{AreMade, AreNewSeats, PassesFrom};
-ghost use Rattle.write_chain.specs.Sending.{HasRoom};
+ghost use Rattle.rpc_client.specs.write_chain.specs.Sending.{HasRoom};
 ghost use Rattle.rpc_client.specs.Seats.{MayAct};
 ghost use Rattle.rpc_client.specs.Acting.{MayGo};
 ghost use Rattle.corr_id.specs.Seats.{Sits, IsFree};
 ghost use Rattle.corr_id.specs.Opening.{AreNew};
 
-use call_errors::CallSeat;
-use call_writes::send_calling;
+use call_client::call_errors::CallSeat;
+use call_client::call_writes::send_calling;
 use corr_id::{IdSeat, IdTable};
 use message_parts::{CallFrame, Parcel};
 use rpc_client::{Client, open_one};

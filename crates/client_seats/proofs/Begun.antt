@@ -24,7 +24,7 @@ use Rattle.sock_programs.specs.declared.task.Sizes.{Sizes}
 use Rattle.sock_programs.specs.Heads.{Retry}
 use Rattle.sock_programs.specs.Programs.{Program, Do, Say, Sent, Rest, TakeMessage, TakeHome, PutHome, PutBytes, AskReady, Write, Aside, Round, Keep, Retries}
 use Rattle.sock_programs.specs.Cores.{resolved, still_waiting, said, next_step}
-use Rattle.sock_runs.specs.Sound.{is_begun}
+use Rattle.seat_points.specs.sock_runs.specs.Sound.{is_begun}
 use Rattle.seat_points.specs.Points.{Around, point_program, look_program}
 use Rattle.client_seats.specs.Seats.{SeatData, seat_program}
 use Rattle.client_seats.specs.Following.{FollowsOn}

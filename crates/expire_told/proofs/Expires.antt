@@ -35,16 +35,16 @@ use Rattle.sock_message.specs.Asked.{Asked}
 use Rattle.corr_id.specs.Calls.{slot_of, version_of}
 use Rattle.corr_id.specs.Closing.{Closing}
 use Rattle.corr_id.specs.Ruled.{is_place}
-use Rattle.rpc_client.specs.declared.acting.Told.{Told}
-use Rattle.rpc_client.specs.Running.{telling}
-use Rattle.table_told.proofs.Flats.{append_first, append_later}
-use Rattle.call_errors.specs.Books.{CallStand, stand_of}
-use Rattle.call_errors.specs.Ending.{failed}
-use Rattle.call_errors.specs.Locking.{id_in}
-use Rattle.call_errors.specs.Asking.{ExpiredBy}
-use Rattle.call_client.specs.Acting.{Stand, stand, both_of, Acted}
-use Rattle.call_client.specs.Running.{begins, MayMakeAll}
-use Rattle.call_run.specs.Threads.{Thread, RanOn, AllMayRun, MayRunAll, ids_of}
+use Rattle.call_places.specs.rpc_client.specs.declared.acting.Told.{Told}
+use Rattle.call_places.specs.rpc_client.specs.Running.{telling}
+use Rattle.call_places.specs.table_told.proofs.Flats.{append_first, append_later}
+use Rattle.call_places.specs.call_errors.specs.Books.{CallStand, stand_of}
+use Rattle.call_places.specs.call_errors.specs.Ending.{failed}
+use Rattle.call_places.specs.call_errors.specs.Locking.{id_in}
+use Rattle.call_places.specs.call_errors.specs.Asking.{ExpiredBy}
+use Rattle.call_told.specs.call_client.specs.Acting.{Stand, stand, both_of, Acted}
+use Rattle.call_told.specs.call_client.specs.Running.{begins, MayMakeAll}
+use Rattle.call_places.specs.call_run.specs.Threads.{Thread, RanOn, AllMayRun, MayRunAll, ids_of}
 use Rattle.call_places.specs.Counted.{HaveNotesOf}
 use Rattle.call_places.proofs.Weights.{term, two_terms, mapped}
 use Rattle.call_places.proofs.Numbers.{numbered_once}
@@ -70,8 +70,8 @@ all_fits : (p : Plan) (q : id_plan.Plan) (ts : List Task) (n : ℕ) → MayMakeA
 all_fits p q [] n m = tt
 all_fits p q (t ∷ ts) n m = (λ asked is. one t.op is m.0.needs, all_fits p q ts _ m.1)
   where
-    one : (op : Op) {asked : Asked} → op ≡ ops.Call asked → Rattle.call_client.specs.Acting.Needs p q t.number op n → asked.operation ≡ t.number
-    one op {asked} is needs = let h : Rattle.call_client.specs.Acting.Needs p q t.number (ops.Call asked) n = subst (λ (x : Op). Rattle.call_client.specs.Acting.Needs p q t.number x n) is needs in h.1
+    one : (op : Op) {asked : Asked} → op ≡ ops.Call asked → Rattle.call_told.specs.call_client.specs.Acting.Needs p q t.number op n → asked.operation ≡ t.number
+    one op {asked} is needs = let h : Rattle.call_told.specs.call_client.specs.Acting.Needs p q t.number (ops.Call asked) n = subst (λ (x : Op). Rattle.call_told.specs.call_client.specs.Acting.Needs p q t.number x n) is needs in h.1
 
 each_fits : (p : Plan) (q : id_plan.Plan) (tss : List (List Task)) → AllMayRun p q tss → AllByRecursion (AllByRecursion Fits) tss
 each_fits p q [] m = tt

@@ -20,9 +20,9 @@ use Rattle.corr_core.specs.declared.marks.View.{View}
 use Rattle.id_rule.specs.Lawful.{call_word}
 use Rattle.sock_message.specs.Asked.{Asked}
 use Rattle.corr_id.specs.Closing.{Closing}
-use Rattle.rpc_client.specs.declared.acting.Told.{Told}
-use Rattle.call_errors.specs.Asking.{ExpiredBy, TimedOut}
-use Rattle.call_run.specs.Threads.{RanOn, MayRunAll, ids_of}
+use Rattle.call_places.specs.rpc_client.specs.declared.acting.Told.{Told}
+use Rattle.call_places.specs.call_errors.specs.Asking.{ExpiredBy, TimedOut}
+use Rattle.call_places.specs.call_run.specs.Threads.{RanOn, MayRunAll, ids_of}
 use Rattle.call_places.specs.Counted.{HaveNotesOf}
 use Rattle.call_places.proofs.Weights.{mapped}
 use Rattle.call_places.proofs.Clients.{tasks_of, view_of}

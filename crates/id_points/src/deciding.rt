@@ -1,6 +1,6 @@
 ghost use Rattle.std.specs.Prelude.{◌≡◌, ◌+◌, nat_le, not};
-ghost use Rattle.corr_core.specs.Law.{LAST};
-ghost use Rattle.corr_core.specs.Word.{parts};
+ghost use Rattle.sock_programs.specs.corr_core.specs.Law.{LAST};
+ghost use Rattle.sock_programs.specs.corr_core.specs.Word.{parts};
 ghost use Rattle.sock_programs.specs.Posts.{ends_call, is_final};
 ghost use Rattle.sock_programs.specs.Readers.{is_early};
 

@@ -1,5 +1,5 @@
 ghost use Rattle.std.specs.Prelude.{◌≡◌, ◌==◌, ◌+◌, ℕ, None, Some, MatchOption, if◌then◌else◌, not, ◌&&◌};
-ghost use Rattle.corr_core.specs.Word.{parts, posted_word};
+ghost use Rattle.sock_programs.specs.corr_core.specs.Word.{parts, posted_word};
 ghost use Rattle.sock_programs.specs.Heads.{Locking, Has};
 ghost use Rattle.sock_programs.specs.Programs.{Program};
 ghost use Rattle.sock_programs.specs.Posts.{packed, locking, is_sought, is_first, has_version};

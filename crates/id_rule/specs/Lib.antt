@@ -1,2 +1,3 @@
 pub mod Lawful
 pub mod Plays
+pub use Rattle.corr_core

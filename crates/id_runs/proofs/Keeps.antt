@@ -26,7 +26,7 @@ use Rattle.id_rule.specs.Plays.{hand_of, with_hand, value_of, claimed_view, lock
 use Rattle.id_rule.proofs.Frames.{token_here, drop_here, note_here, aside_token, aside_drop, aside_note, aside_both, own_tokens}
 use Rattle.id_rule.proofs.Allowed as allowed
 use Rattle.id_rule.proofs.Kept as kept
-use Rattle.sock_message.specs.Asked.{Asked}
+use Rattle.sock_programs.specs.sock_message.specs.Asked.{Asked}
 use Rattle.sock_programs.specs.Asides.{ClaimId, PutCall, MakeId, LockId, PostId, UnlockId, EndId, FreeId, TakeCall}
 use Rattle.sock_programs.specs.Posts.{packed, advance_of}
 use Rattle.sock_programs.specs.Cores.{Calls}

@@ -11,9 +11,9 @@ use Rattle.corr_core.specs.declared.marks.Token.TheVariants.{Locked, Leaving}
 use Rattle.corr_core.specs.declared.marks.Note.TheVariants.{Queued, Saw, Attempt, Ended}
 use Rattle.id_rule.specs.Lawful.{tokens_of, without, with_token, no_token, with_note}
 use Rattle.id_rule.specs.Plays.{with_hand, Longer, popped_view, advanced_view}
-use Rattle.brpc_model.specs.Frame.{Frame}
-use Rattle.brpc_model.specs.Stream as streams
-use Rattle.sock_message.specs.Asked.{Asked}
+use Rattle.sock_programs.specs.brpc_model.specs.Frame.{Frame}
+use Rattle.sock_programs.specs.brpc_model.specs.Stream as streams
+use Rattle.sock_programs.specs.sock_message.specs.Asked.{Asked}
 use Rattle.sock_programs.specs.Asides.{PutCall, FreeId, Taking, Bytes, Nothing, NoMore, AtEnd, Closed, Broken, id_slot, id_first, call_id}
 use Rattle.sock_programs.specs.Heads.{Head, Exit, Retry, Sought, First, Version, Reading, Posts, Unlocks, Decides, Locks, Joins, Opens, Reads, Discards, Posting, WasGone, WasStale, WasCrowded, WasQueued, HasLocked, Unlocking, IsOpen, HasNext, Deciding, HasEnded, GoesOn, Locking, NotThere, Has, Ended as Over}
 use Rattle.sock_programs.specs.Programs.{Program, Say, Aside, Round}

@@ -16,7 +16,7 @@ use Rattle.corr_core.specs.declared.marks.Token.{Token}
 use Rattle.corr_core.specs.declared.marks.Note.{Note}
 use Rattle.corr_core.specs.declared.marks.Kept.{Kept}
 use Rattle.id_rule.specs.Lawful.{Lawful, Unused, KeptFits, kept_in, share_of, tokens_in, notes_in, newcomer, tag_word, id_word, call_word, at_word}
-use Rattle.sock_message.specs.Asked.{Asked}
+use Rattle.sock_programs.specs.sock_message.specs.Asked.{Asked}
 use Rattle.sock_programs.specs.declared.task.Task.{Task}
 use Rattle.sock_programs.specs.Heads.{Retry}
 use Rattle.sock_programs.specs.Programs.{Program, Rest}

@@ -5,13 +5,13 @@ use Rattle.std.specs.List.{AllByRecursion}
 use Rattle.sock_words.specs.Words.{socket_id_version, socket_id_slot, vref_version, vref_nref, at_word, at_word_slot, at_word_first}
 use Rattle.sock_words.specs.declared.plain.Plan.{Plan}
 use Rattle.sock_words.specs.declared.outcome.Outcome.TheVariants as outcomes
-use Rattle.sock_io.specs.declared.link.Put.{Put}
-use Rattle.sock_io.specs.declared.link.Put.TheVariants as puts
-use Rattle.sock_io.specs.declared.link.Ready.{Ready}
-use Rattle.sock_io.specs.declared.link.Ready.TheVariants as asks
-use Rattle.sock_model.specs.declared.chain.Heading.{Heading}
-use Rattle.sock_model.specs.Entries.{generation_of, slot_of, ticket_of}
-use Rattle.sock_model.specs.Memory.{IDLE, UNCONNECTED}
+use Rattle.sock_programs.specs.sock_io.specs.declared.link.Put.{Put}
+use Rattle.sock_programs.specs.sock_io.specs.declared.link.Put.TheVariants as puts
+use Rattle.sock_programs.specs.sock_io.specs.declared.link.Ready.{Ready}
+use Rattle.sock_programs.specs.sock_io.specs.declared.link.Ready.TheVariants as asks
+use Rattle.sock_programs.specs.sock_model.specs.declared.chain.Heading.{Heading}
+use Rattle.sock_programs.specs.sock_model.specs.Entries.{generation_of, slot_of, ticket_of}
+use Rattle.sock_programs.specs.sock_model.specs.Memory.{IDLE, UNCONNECTED}
 use Rattle.corr_core.specs.Word.{parts, error_of}
 use Rattle.corr_core.specs.declared.marks.Plan.{Plan as IdPlan}
 use Rattle.corr_core.specs.declared.marks.Hand.TheVariants.{Empty, Full}
@@ -21,7 +21,7 @@ use Rattle.corr_core.specs.declared.marks.Note.TheVariants.{Tried, Made}
 use Rattle.id_rule.specs.Lawful.{call_word, at_word as at_place, with_token, no_token, with_note, with_kept}
 use Rattle.id_rule.specs.Plays.{with_hand, found_view}
 use Rattle.sock_programs.specs.Parts.{part}
-use Rattle.sock_message.specs.Asked.{Asked, frame_of}
+use Rattle.sock_programs.specs.sock_message.specs.Asked.{Asked, frame_of}
 use Rattle.sock_programs.specs.Calls.{SubRef, AddRef, SetOdd, StoreCode, Recycle, LoadLink, TakeLink, FinishLink, PutLink, FreeSlot, LoadName, FreeRequest, ReadNext, DropPlace, LoadCode, ClaimRequest}
 use Rattle.sock_programs.specs.Asides.{PutCall, MakeId, StoreCall, StoreAt, call_id, id_slot, id_first}
 use Rattle.sock_programs.specs.Heads.{Retry, Unlocks, Joins, Unlocking, IsOpen, HasNext, Deciding, HasEnded, GoesOn, Locking, NotThere, Has}

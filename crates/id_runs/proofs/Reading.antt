@@ -5,7 +5,7 @@ use Rattle.sock_words.specs.declared.plain.Plan.{Plan}
 use Rattle.sock_words.specs.Words.{socket_id_slot, at_word_first, at_word_slot, at_word_link, at_word_attempt}
 use Rattle.corr_core.specs.Word.{parts, error_of}
 use Rattle.corr_core.specs.declared.marks.Plan.{Plan as IdPlan}
-use Rattle.brpc_model.specs.Frame.{Frame}
+use Rattle.sock_programs.specs.brpc_model.specs.Frame.{Frame}
 use Rattle.id_rule.specs.Lawful.{at_word as at_place, with_kept}
 use Rattle.sock_programs.specs.Asides.{call_id, id_slot, id_first}
 use Rattle.sock_programs.specs.Heads.{Reads, Discards, Posting, WasGone, WasStale, WasCrowded, WasQueued, HasLocked, Deciding, HasEnded, GoesOn, Ended}

@@ -12,7 +12,7 @@ use Rattle.corr_core.specs.declared.marks.Token.TheVariants.{Locked}
 use Rattle.id_rule.specs.Lawful.{tag_word, id_word, call_word, at_word, local, Lawful}
 use Rattle.id_rule.specs.Plays.{Longer, IsHome, value_of}
 use Rattle.id_rule.proofs.Allowed as allowed
-use Rattle.sock_message.specs.Asked.{Asked}
+use Rattle.sock_programs.specs.sock_message.specs.Asked.{Asked}
 use Rattle.sock_programs.specs.Asides.{Step, Found, ClaimId, PutCall, MakeId, StoreCall, LoadCall, StoreAt, LoadAt, LoadIdWord, LockId, PostId, UnlockId, EndId, FreeId, TakeCall, TakeBytes, Taking, Bytes}
 use Rattle.sock_programs.specs.Cores.{Calls}
 use Rattle.sock_programs.specs.Beside.{found_in, calls_after, more_given, call_at}

@@ -7,13 +7,13 @@ use mathlib.Core.Option.{Option, none, some, some-injective, some-ne-none}
 use lib.ListN.{get_elem?}
 use Rattle.atomic_table.proofs.Lists.{at_set, set_again}
 use Rattle.sock_words.specs.declared.plain.Plan.{Plan}
-use Rattle.sock_io.specs.declared.link.Put.{Put}
-use Rattle.sock_io.specs.declared.link.Ready.{Ready}
-use Rattle.sock_model.specs.declared.chain.Heading.{Heading}
-use Rattle.sock_model.specs.declared.home.Home.{Home}
-use Rattle.sock_model.specs.declared.home.Home.TheVariants.{Empty, Link, Message}
-use Rattle.sock_model.specs.Messages.{Letter}
-use Rattle.sock_model.specs.Reads.{letter_of, shown, message, link_home}
+use Rattle.sock_programs.specs.sock_io.specs.declared.link.Put.{Put}
+use Rattle.sock_programs.specs.sock_io.specs.declared.link.Ready.{Ready}
+use Rattle.sock_programs.specs.sock_model.specs.declared.chain.Heading.{Heading}
+use Rattle.sock_programs.specs.sock_model.specs.declared.home.Home.{Home}
+use Rattle.sock_programs.specs.sock_model.specs.declared.home.Home.TheVariants.{Empty, Link, Message}
+use Rattle.sock_programs.specs.sock_model.specs.Messages.{Letter}
+use Rattle.sock_programs.specs.sock_model.specs.Reads.{letter_of, shown, message, link_home}
 use Rattle.corr_core.specs.Word.{parts, made_word, posted_word, unlocked_word, free_word}
 use Rattle.corr_core.specs.Law.{LAST}
 use Rattle.corr_core.specs.declared.marks.Plan.{Plan as IdPlan}
@@ -23,7 +23,7 @@ use Rattle.corr_core.specs.declared.marks.Token.TheVariants.{Claimed, Locked, Le
 use Rattle.corr_core.specs.declared.marks.Note.TheVariants.{Tried, Queued, Saw, Attempt}
 use Rattle.id_rule.specs.Lawful.{Lawful, all_words, tag_word, id_word, call_word, at_word, tokens_in, with_token, no_token, with_note}
 use Rattle.id_rule.specs.Plays.{popped_view, advanced_view, with_hand}
-use Rattle.sock_message.specs.Asked.{Asked}
+use Rattle.sock_programs.specs.sock_message.specs.Asked.{Asked}
 use Rattle.sock_programs.specs.Asides.{Step, Found, ClaimId, PutCall, MakeId, StoreCall, LoadCall, StoreAt, LoadAt, LoadIdWord, LockId, PostId, UnlockId, EndId, FreeId, TakeCall, TakeBytes, Taking, Bytes}
 use Rattle.sock_programs.specs.Heads.{Retry}
 use Rattle.sock_programs.specs.Programs.{Program, Do, Say, Sent, Rest, TakeMessage, TakeHome, PutHome, PutBytes, AskReady, Write, Aside, Round, Keep, Retries}

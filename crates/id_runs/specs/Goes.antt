@@ -3,16 +3,16 @@ use Rattle.std.specs.Prelude.{ℕ, ◌≡◌, ◌≢◌, ◌+◌, ◌<◌, ◌�
 use mathlib.Core.Option as core
 use lib.ListN.{get_elem?}
 use Rattle.sock_words.specs.declared.plain.Plan.{Plan}
-use Rattle.sock_io.specs.declared.link.Put.{Put}
-use Rattle.sock_io.specs.declared.link.Ready.{Ready}
-use Rattle.sock_model.specs.declared.chain.Heading.{Heading}
+use Rattle.sock_programs.specs.sock_io.specs.declared.link.Put.{Put}
+use Rattle.sock_programs.specs.sock_io.specs.declared.link.Ready.{Ready}
+use Rattle.sock_programs.specs.sock_model.specs.declared.chain.Heading.{Heading}
 use Rattle.corr_core.specs.Word.{Parts, parts}
 use Rattle.corr_core.specs.declared.marks.Plan.{Plan as IdPlan}
 use Rattle.corr_core.specs.declared.marks.Hand.TheVariants.{Empty, Full}
 use Rattle.corr_core.specs.declared.marks.Token.TheVariants.{Locked}
 use Rattle.id_rule.specs.Lawful.{Lawful, call_word, at_word}
 use Rattle.id_rule.specs.Plays.{Longer}
-use Rattle.sock_message.specs.Asked.{Asked}
+use Rattle.sock_programs.specs.sock_message.specs.Asked.{Asked}
 use Rattle.sock_programs.specs.Calls.{Call, FindLink, LoadCode, StoreCode, PutMessage}
 use Rattle.sock_programs.specs.Writings.{Writing, Puts, Waits}
 use Rattle.sock_programs.specs.Asides.{Step, LoadCall, LoadAt, MakeId, LoadIdWord, LockId, PostId, UnlockId, TakeCall, Found, id_slot}
@@ -24,9 +24,9 @@ use Rattle.sock_programs.specs.Cores.{Core, SeatState, word_of, found_at, waitin
 use Rattle.sock_programs.specs.Sends.{block}
 use Rattle.sock_programs.specs.Rounds.{round}
 use Rattle.sock_programs.specs.Ticks.{Moment}
-use Rattle.sock_model.specs.declared.home.Home.{Home}
-use Rattle.sock_model.specs.declared.home.Home.TheVariants.{Message}
-use Rattle.sock_model.specs.Layout.{code_word}
+use Rattle.sock_programs.specs.sock_model.specs.declared.home.Home.{Home}
+use Rattle.sock_programs.specs.sock_model.specs.declared.home.Home.TheVariants.{Message}
+use Rattle.sock_programs.specs.sock_model.specs.Layout.{code_word}
 use Rattle.sock_programs.specs.Told.{AskedFits}
 use Rattle.id_runs.specs.Held.{IdView, id_state, one, HasOne, CallFits, AtFits, MayId, id_row}
 

@@ -13,7 +13,7 @@ use Rattle.corr_core.specs.declared.marks.Held.{Held}
 use Rattle.corr_core.specs.declared.marks.View.{View}
 use Rattle.id_rule.specs.Lawful.{call_word, at_word, tokens_in, with_token, no_token, with_note, with_kept}
 use Rattle.id_rule.specs.Plays.{hand_of, with_hand, claimed_view, locked_view, popped_view, advanced_view, ended_view, found_view, Longer}
-use Rattle.sock_message.specs.Asked.{Asked}
+use Rattle.sock_programs.specs.sock_message.specs.Asked.{Asked}
 use Rattle.sock_words.specs.Words.{at_word_slot, at_word_first}
 use Rattle.sock_programs.specs.Asides.{call_id, id_slot, Step, ClaimId, PutCall, MakeId, StoreCall, LoadCall, StoreAt, LoadAt, LoadIdWord, LockId, PostId, UnlockId, EndId, FreeId, TakeCall, TakeBytes, Found}
 use Rattle.sock_programs.specs.Posts.{advance_of}

@@ -1,2 +1,3 @@
 pub mod Held
 pub mod Goes
+pub use Rattle.id_rule

@@ -3,17 +3,17 @@ use Rattle.std.proofs.Common.{ℕ, ◌≡◌, ◌<◌, ◌≤◌, List, [], ◌�
 use Rattle.sock_words.specs.declared.plain.Plan.{Plan}
 use Rattle.sock_model.specs.declared.view.View.{View}
 use Rattle.corr_core.specs.declared.marks.Plan.{Plan as IdPlan}
-use Rattle.sock_programs.specs.Cores.{Core}
-use Rattle.sock_programs.specs.Ticks.{Moment, IsAnswered, AreAnswered, IsPrompt, ticked, run}
-use Rattle.sock_runs.specs.Sound.{Sound, IsFitting, AreFitting, views_after, views_along}
-use Rattle.sock_runs.specs.Lasts.{IsCounted, AreCounted, MOST_PAID}
-use Rattle.sock_runs.proofs.Bounded.{IsBounded, bounded_ticks}
+use Rattle.client_laws.specs.sock_programs.specs.Cores.{Core}
+use Rattle.client_laws.specs.sock_programs.specs.Ticks.{Moment, IsAnswered, AreAnswered, IsPrompt, ticked, run}
+use Rattle.client_laws.specs.sock_runs.specs.Sound.{Sound, IsFitting, AreFitting, views_after, views_along}
+use Rattle.client_laws.specs.sock_runs.specs.Lasts.{IsCounted, AreCounted, MOST_PAID}
+use Rattle.client_laws.specs.sock_runs.proofs.Bounded.{IsBounded, bounded_ticks}
 use Rattle.std.specs.List.{AllByRecursion}
-use Rattle.sock_runs.proofs.Ticks.{sound_ticks}
+use Rattle.client_laws.specs.sock_runs.proofs.Ticks.{sound_ticks}
 use Rattle.client_laws.proofs.Retrying.{retries_go}
-use Rattle.id_runs.specs.Held.{IdView}
-use Rattle.id_runs.specs.Goes.{SoundIds, IsFittingIds}
-use Rattle.id_runs.proofs.Ticks.{ids_ticks}
+use Rattle.client_laws.specs.id_runs.specs.Held.{IdView}
+use Rattle.client_laws.specs.id_runs.specs.Goes.{SoundIds, IsFittingIds}
+use Rattle.client_laws.specs.id_runs.proofs.Ticks.{ids_ticks}
 use Rattle.joint_runs.proofs.Joint.{is_fitting, is_counted, is_fitting_ids}
 
 -- the table of the sockets is sound with these views, and that of the ids with some

@@ -5,29 +5,29 @@ use lib.ListN.{get_elem?}
 use Rattle.sock_words.specs.declared.plain.Plan.{Plan}
 use Rattle.sock_model.specs.declared.view.View.{View}
 use Rattle.corr_core.specs.declared.marks.Plan.{Plan as IdPlan}
-use Rattle.sock_programs.specs.Asides.{Step, Found, ClaimId, PutCall, MakeId, StoreCall, LoadCall, StoreAt, LoadAt, LoadIdWord, LockId, PostId, UnlockId, EndId, FreeId, TakeCall, TakeBytes}
-use Rattle.sock_programs.specs.Calls.{Call, FindLink, LoadCode}
-use Rattle.sock_programs.specs.Programs.{Program, Do, Say, Sent, Rest, TakeMessage, TakeHome, PutHome, PutBytes, AskReady, Write, Aside, Round, Keep, Retries}
-use Rattle.sock_programs.specs.Cores.{Core, word_of, found_at}
-use Rattle.sock_programs.specs.Beside.{found_in, call_at, at_last}
-use Rattle.sock_programs.specs.Sends.{block}
-use Rattle.sock_programs.specs.Rounds.{round}
-use Rattle.sock_programs.specs.Ticks.{Answer, Moment, IsAnswer, IsAnswered, taken}
-use Rattle.sock_runs.specs.Fits.{FitsFound}
-use Rattle.sock_runs.specs.May.{May}
-use Rattle.sock_runs.specs.GoesOn.{GoesOn}
-use Rattle.sock_runs.specs.Sound.{state, Sound, FitsBeside, IsFitting, first_step}
-use Rattle.sock_runs.specs.Lasts.{IsSlot, IsCountedStep, IsCountedAt, IsCounted}
-use Rattle.sock_runs.proofs.Cases as cases
-use Rattle.sock_runs.proofs.Founds.{finds}
-use Rattle.sock_runs.proofs.Rounds.{begins_round}
-use Rattle.sock_runs.proofs.Passes.{goes_round}
-use Rattle.id_runs.specs.Held.{IdView, MayId}
-use Rattle.id_runs.specs.Goes.{FindsId, IdGoesOn, SoundIds, FitsSock, FitsFirst, IsFittingIds}
-use Rattle.id_runs.specs.Goes as goes
-use Rattle.id_runs.proofs.Steps.{finds_ids, call_there}
-use Rattle.id_runs.proofs.Loops.{ids_round}
-use Rattle.id_runs.proofs.Programs.{block_goes}
+use Rattle.client_laws.specs.sock_programs.specs.Asides.{Step, Found, ClaimId, PutCall, MakeId, StoreCall, LoadCall, StoreAt, LoadAt, LoadIdWord, LockId, PostId, UnlockId, EndId, FreeId, TakeCall, TakeBytes}
+use Rattle.client_laws.specs.sock_programs.specs.Calls.{Call, FindLink, LoadCode}
+use Rattle.client_laws.specs.sock_programs.specs.Programs.{Program, Do, Say, Sent, Rest, TakeMessage, TakeHome, PutHome, PutBytes, AskReady, Write, Aside, Round, Keep, Retries}
+use Rattle.client_laws.specs.sock_programs.specs.Cores.{Core, word_of, found_at}
+use Rattle.client_laws.specs.sock_programs.specs.Beside.{found_in, call_at, at_last}
+use Rattle.client_laws.specs.sock_programs.specs.Sends.{block}
+use Rattle.client_laws.specs.sock_programs.specs.Rounds.{round}
+use Rattle.client_laws.specs.sock_programs.specs.Ticks.{Answer, Moment, IsAnswer, IsAnswered, taken}
+use Rattle.client_laws.specs.sock_runs.specs.Fits.{FitsFound}
+use Rattle.client_laws.specs.sock_runs.specs.May.{May}
+use Rattle.client_laws.specs.sock_runs.specs.GoesOn.{GoesOn}
+use Rattle.client_laws.specs.sock_runs.specs.Sound.{state, Sound, FitsBeside, IsFitting, first_step}
+use Rattle.client_laws.specs.sock_runs.specs.Lasts.{IsSlot, IsCountedStep, IsCountedAt, IsCounted}
+use Rattle.client_laws.specs.sock_runs.proofs.Cases as cases
+use Rattle.client_laws.specs.sock_runs.proofs.Founds.{finds}
+use Rattle.client_laws.specs.sock_runs.proofs.Rounds.{begins_round}
+use Rattle.client_laws.specs.sock_runs.proofs.Passes.{goes_round}
+use Rattle.client_laws.specs.id_runs.specs.Held.{IdView, MayId}
+use Rattle.client_laws.specs.id_runs.specs.Goes.{FindsId, IdGoesOn, SoundIds, FitsSock, FitsFirst, IsFittingIds}
+use Rattle.client_laws.specs.id_runs.specs.Goes as goes
+use Rattle.client_laws.specs.id_runs.proofs.Steps.{finds_ids, call_there}
+use Rattle.client_laws.specs.id_runs.proofs.Loops.{ids_round}
+use Rattle.client_laws.specs.id_runs.proofs.Programs.{block_goes}
 
 -- what a step may find by the rule of the ids fits
 fits_found : (p : Plan) (q : IdPlan) (u : IdView) (step : Step) (found : Found step) → MayId p q u step → FindsId p q u step found → FitsFound p step found

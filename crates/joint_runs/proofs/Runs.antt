@@ -2,23 +2,23 @@
 use Rattle.std.proofs.Common.{ℕ, zero, suc, ◌+◌, ◌*◌, ◌<◌, List, [], ◌∷◌, ◌++◌, length, replicate, sym, subst, arith}
 use Rattle.std.specs.List.{AllByRecursion}
 use Rattle.sock_model.specs.declared.view.View.{View}
-use Rattle.brpc_model.specs.Items.{Item}
-use Rattle.brpc_model.specs.Operations.{Turn}
-use Rattle.sock_programs.specs.Tasks.{opens, calls, plan_of, id_plan_of}
-use Rattle.sock_programs.specs.Cores.{Core}
-use Rattle.sock_programs.specs.Ticks.{Moment, AreAnswered, IsPrompt, quiet, run}
-use Rattle.sock_programs.specs.Runs.{IsAtRest}
-use Rattle.sock_programs.specs.Scripts.{sizes_of, programs, readers_from, all_programs, all_tasks, opened, set_up, played, IsRunWithCalls}
-use Rattle.sock_runs.specs.Sound.{IsAhead, views_along}
-use Rattle.sock_runs.proofs.Along.{run_ahead, beginning_ahead}
-use Rattle.sock_runs.proofs.Unasked.{quiet_answered}
-use Rattle.sock_runs.proofs.Quiets.{run_rests}
-use Rattle.sock_runs.proofs.Whole.{closing_of, views_played, views_closed, views_ended, AreFittingIn, Begins}
+use Rattle.client_laws.specs.brpc_model.specs.Items.{Item}
+use Rattle.client_laws.specs.brpc_model.specs.Operations.{Turn}
+use Rattle.client_laws.specs.sock_programs.specs.Tasks.{opens, calls, plan_of, id_plan_of}
+use Rattle.client_laws.specs.sock_programs.specs.Cores.{Core}
+use Rattle.client_laws.specs.sock_programs.specs.Ticks.{Moment, AreAnswered, IsPrompt, quiet, run}
+use Rattle.client_laws.specs.sock_programs.specs.Runs.{IsAtRest}
+use Rattle.client_laws.specs.sock_programs.specs.Scripts.{sizes_of, programs, readers_from, all_programs, all_tasks, opened, set_up, played, IsRunWithCalls}
+use Rattle.client_laws.specs.sock_runs.specs.Sound.{IsAhead, views_along}
+use Rattle.client_laws.specs.sock_runs.proofs.Along.{run_ahead, beginning_ahead}
+use Rattle.client_laws.specs.sock_runs.proofs.Unasked.{quiet_answered}
+use Rattle.client_laws.specs.sock_runs.proofs.Quiets.{run_rests}
+use Rattle.client_laws.specs.sock_runs.proofs.Whole.{closing_of, views_played, views_closed, views_ended, AreFittingIn, Begins}
 use Rattle.client_laws.specs.Openings.{opening_views, all_seats}
 use Rattle.client_laws.proofs.Fresh.{opening_blank}
 use Rattle.client_laws.proofs.Opens.{ending_sound}
-use Rattle.sock_runs.specs.Lasts.{MOST_TICKS, MOST_PAID}
-use Rattle.sock_runs.proofs.Bounded.{IsBounded}
+use Rattle.client_laws.specs.sock_runs.specs.Lasts.{MOST_TICKS, MOST_PAID}
+use Rattle.client_laws.specs.sock_runs.proofs.Bounded.{IsBounded}
 use Rattle.client_laws.proofs.Lasting.{ending_bounded, told_bounded}
 use Rattle.joint_runs.proofs.Both.{BothSound, AreBoth, AreBounded, joint_along, behind_both, bounded_along, behind_bounded, are_fitting}
 use Rattle.joint_runs.proofs.Starts.{AreFor, narrow, opens_both, opens_bounded, ending_both, told_both}

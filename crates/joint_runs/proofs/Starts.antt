@@ -6,23 +6,23 @@ use Rattle.sock_model.specs.declared.home.Home.TheVariants.{Empty, Link, Message
 use Rattle.sock_model.specs.declared.view.View.{View}
 use Rattle.sock_model.specs.Lawful.{PlanFits}
 use Rattle.corr_core.specs.declared.marks.Plan.{Plan as IdPlan}
-use Rattle.sock_programs.specs.declared.task.Task.{Task}
-use Rattle.sock_programs.specs.Programs.{Program}
-use Rattle.sock_programs.specs.Clients.{ending_of}
-use Rattle.sock_programs.specs.Cores.{Core, with_seat}
-use Rattle.sock_programs.specs.Runs.{IsAtRest}
-use Rattle.sock_programs.specs.Scripts.{opening_words, opening_homes, sizes_of, programs, readers_from, all_programs, is_ending}
-use Rattle.sock_programs.specs.Told.{AreTasks}
-use Rattle.sock_runs.specs.Sound.{IsWithinLimits, IsAhead}
-use Rattle.sock_runs.proofs.Along.{seat_rests}
+use Rattle.client_laws.specs.sock_programs.specs.declared.task.Task.{Task}
+use Rattle.client_laws.specs.sock_programs.specs.Programs.{Program}
+use Rattle.client_laws.specs.sock_programs.specs.Clients.{ending_of}
+use Rattle.client_laws.specs.sock_programs.specs.Cores.{Core, with_seat}
+use Rattle.client_laws.specs.sock_programs.specs.Runs.{IsAtRest}
+use Rattle.client_laws.specs.sock_programs.specs.Scripts.{opening_words, opening_homes, sizes_of, programs, readers_from, all_programs, is_ending}
+use Rattle.client_laws.specs.sock_programs.specs.Told.{AreTasks}
+use Rattle.client_laws.specs.sock_runs.specs.Sound.{IsWithinLimits, IsAhead}
+use Rattle.client_laws.specs.sock_runs.proofs.Along.{seat_rests}
 use Rattle.client_laws.specs.Openings.{opening_views, all_seats}
 use Rattle.client_laws.proofs.Beginning.{unused, no_message}
-use Rattle.sock_runs.specs.Lasts.{MOST_TICKS}
-use Rattle.sock_runs.proofs.Bounded.{IsBounded}
+use Rattle.client_laws.specs.sock_runs.specs.Lasts.{MOST_TICKS}
+use Rattle.client_laws.specs.sock_runs.proofs.Bounded.{IsBounded}
 use Rattle.client_laws.proofs.Lasting.{length_all, length_seats, opening_bounded}
 use Rattle.client_laws.proofs.Opens.{begun_core, opens_sound, ending_sound, told_sound}
-use Rattle.id_runs.specs.Goes.{HomesFit, CodesFit}
-use Rattle.id_runs.proofs.Opening.{all_go, begins_ids, first_views, ending_ids, told_ids}
+use Rattle.client_laws.specs.id_runs.specs.Goes.{HomesFit, CodesFit}
+use Rattle.client_laws.specs.id_runs.proofs.Opening.{all_go, begins_ids, first_views, ending_ids, told_ids}
 use Rattle.joint_runs.proofs.Both.{BothSound}
 
 -- the two tables are made for these clients, calls and `open` operations

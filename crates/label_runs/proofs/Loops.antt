@@ -5,7 +5,7 @@ use Rattle.brpc_model.specs.Stream as streams
 use Rattle.corr_core.specs.Word.{Parts, parts, locked_word, posted_word, unlocked_word, code_of}
 use Rattle.corr_core.specs.Law.{LAST}
 use Rattle.id_runs.proofs.Keeps.{parts_packed}
-use Rattle.sock_message.specs.Asked.{Asked}
+use Rattle.sock_programs.specs.sock_message.specs.Asked.{Asked}
 use Rattle.sock_programs.specs.Asides.{FreeId, Taking, Bytes, Nothing, NoMore, AtEnd, Closed, Broken, PutCall, id_slot, id_first, call_id}
 use Rattle.sock_programs.specs.Heads.{Head, Exit, Sought, First, Version, Reading, Posts, Unlocks, Decides, Locks, Joins, Opens, Reads, Discards, Retry, Posting, WasGone, WasStale, WasCrowded, WasQueued, HasLocked, Unlocking, IsOpen, HasNext, Deciding, HasEnded, GoesOn, Locking, NotThere, Has, Ended}
 use Rattle.sock_programs.specs.Posts.{packed, advance_of, is_first, is_sought, is_stale, is_full, judged, posted, post_with, post, popped, end_id, ends_call, decide, decided, unlocked, locking}

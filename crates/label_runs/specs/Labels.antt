@@ -6,7 +6,7 @@ use Rattle.sock_model.specs.declared.chain.Heading.{Heading}
 use Rattle.sock_words.specs.Words.{at_word}
 use Rattle.corr_core.specs.Word.{parts}
 use Rattle.id_runs.specs.Goes.{FitsSock}
-use Rattle.sock_message.specs.Asked.{Asked, frame_of}
+use Rattle.sock_programs.specs.sock_message.specs.Asked.{Asked, frame_of}
 use Rattle.sock_programs.specs.Asides.{Step, Found, PutCall, MakeId, StoreAt, UnlockId, TakeCall, call_id, id_slot, id_first}
 use Rattle.sock_programs.specs.Attempts.{heading_for}
 use Rattle.sock_programs.specs.Calls.{Call, PutMessage}

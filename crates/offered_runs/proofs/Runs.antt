@@ -18,14 +18,14 @@ use Rattle.sock_runs.proofs.LinkTicks.{RetriesGo}
 use Rattle.sock_runs.proofs.Ticks.{sound_ticks}
 use Rattle.sock_runs.proofs.Whole.{closing_of, views_played, views_closed, set_up_answered, end_answered, set_up_sound, closing_sound, closed_sound}
 use Rattle.id_runs.specs.Goes as goes
-use Rattle.joint_runs.proofs.Runs.{AreMade, first_views}
-use Rattle.owed_calls.specs.Lives.{IsFinished, ClosesAt, ClosesInTime, ClosesInRun}
-use Rattle.owed_calls.proofs.OwingRuns.{same_first}
-use Rattle.whole_runs.specs.Offered.{GaveSo, HasTaken}
-use Rattle.whole_runs.specs.Offered as told
-use Rattle.whole_runs.specs.OfferedRuns as runs
-use Rattle.call_causes.specs.Lists.{given}
-use Rattle.send_causes.proofs.Early.{start, go, fitting}
+use Rattle.served_runs.specs.joint_runs.proofs.Runs.{AreMade, first_views}
+use Rattle.served_runs.specs.owed_calls.specs.Lives.{IsFinished, ClosesAt, ClosesInTime, ClosesInRun}
+use Rattle.served_runs.specs.owed_calls.proofs.OwingRuns.{same_first}
+use Rattle.served_runs.specs.whole_runs.specs.Offered.{GaveSo, HasTaken}
+use Rattle.served_runs.specs.whole_runs.specs.Offered as told
+use Rattle.served_runs.specs.whole_runs.specs.OfferedRuns as runs
+use Rattle.served_runs.specs.call_causes.specs.Lists.{given}
+use Rattle.served_runs.specs.send_causes.proofs.Early.{start, go, fitting}
 use Rattle.served_runs.specs.Offered.{TookSoFar, IsDone, IsOfferedSo, OffersAt, AreOffered, OffersInRun}
 use Rattle.offered_runs.proofs.Once.{IsOnce, one_link, once_tick, once_along, once_opened, once_ending}
 

@@ -16,8 +16,8 @@ use Rattle.sock_programs.specs.Programs.{Program, Rest, Round}
 use Rattle.sock_programs.specs.Posts.{is_first, is_sought}
 use Rattle.sock_programs.specs.Cores.{Core, SeatState}
 use Rattle.sock_programs.specs.Ticks.{Answer, Unasked, OfPut, OfReady, OfTake, waits_in, is_nothing}
-use Rattle.id_runs.specs.Held.{IdView, id_state}
-use Rattle.id_runs.specs.Goes.{IdGoesOn, SoundIds}
+use Rattle.joint_runs.specs.id_runs.specs.Held.{IdView, id_state}
+use Rattle.joint_runs.specs.id_runs.specs.Goes.{IdGoesOn, SoundIds}
 use Rattle.owed_calls.specs.Owing.{Free, Owing, InList, DutyTo, Among}
 use Rattle.owed_calls.specs.Owes.{OwesOn}
 use Rattle.owed_calls.specs.Sound.{id_word_of, Owed, by_seat, by_retry, by_reader, Failed, SoundOwing, AllRest, retry_tokens}

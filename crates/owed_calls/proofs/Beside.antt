@@ -11,7 +11,7 @@ use Rattle.sock_programs.specs.Asides.{LockId, PostId, UnlockId, call_id, id_slo
 use Rattle.sock_programs.specs.Posts.{packed, advance_of}
 use Rattle.sock_programs.specs.Cores.{Core, SeatState, Calls}
 use Rattle.sock_programs.specs.Beside.{calls_after}
-use Rattle.id_runs.proofs.Keeps.{parts_packed}
+use Rattle.joint_runs.specs.id_runs.proofs.Keeps.{parts_packed}
 use Rattle.owed_calls.specs.Owing.{Duty, Free, Trying, Linked, Looking, Telling, Owing, Posting, MayOwe, unlocked_by}
 use Rattle.owed_calls.specs.Sound.{id_word_of, at_of, Past, ErrorPast, Stored, OwingLaw}
 use Rattle.owed_calls.proofs.Posts.{not_equal}

@@ -17,13 +17,13 @@ use Rattle.sock_model.specs.Reads.{as_link, shown, carries, hands_of}
 use Rattle.sock_model.specs.Weights.{total, is_freer, is_linked}
 use Rattle.sock_model.specs.Slots.{count}
 use Rattle.sock_model.specs.References.{slot_facts}
-use Rattle.slot_laws.proofs.Sums.{term_le}
-use Rattle.slot_laws.proofs.Numbers.{only-same, life_is}
-use Rattle.sock_steps.proofs.Maps.{is_none}
+use Rattle.joint_runs.specs.slot_laws.proofs.Sums.{term_le}
+use Rattle.joint_runs.specs.slot_laws.proofs.Numbers.{only-same, life_is}
+use Rattle.joint_runs.specs.sock_steps.proofs.Maps.{is_none}
 use Rattle.sock_programs.specs.Cores.{Core, SeatState, link_place}
-use Rattle.sock_runs.specs.Sound.{state, Sound, AreInHand, AreHeld, IsOfRight}
-use Rattle.sock_runs.proofs.Bounds.{law}
-use Rattle.sock_runs.proofs.LinksOpening.{OpensLink}
+use Rattle.joint_runs.specs.sock_runs.specs.Sound.{state, Sound, AreInHand, AreHeld, IsOfRight}
+use Rattle.joint_runs.specs.sock_runs.proofs.Bounds.{law}
+use Rattle.joint_runs.specs.sock_runs.proofs.LinksOpening.{OpensLink}
 use Rattle.owed_calls.proofs.EndsStill.{view_of}
 use Rattle.owed_calls.specs.Lives.{InHand, IsFinished}
 use Rattle.owed_calls.proofs.WordsGiven.{Named}

@@ -10,8 +10,8 @@ use Rattle.id_rule.specs.Lawful.{local, tokens_in, tokens_of}
 use Rattle.sock_programs.specs.Asides.{call_id, id_slot, id_first}
 use Rattle.sock_programs.specs.Programs.{Rest}
 use Rattle.sock_programs.specs.Cores.{Core}
-use Rattle.id_runs.specs.Held.{IdView, id_state}
-use Rattle.id_runs.specs.Goes.{IdGoesOn, SoundIds}
+use Rattle.joint_runs.specs.id_runs.specs.Held.{IdView, id_state}
+use Rattle.joint_runs.specs.id_runs.specs.Goes.{IdGoesOn, SoundIds}
 use Rattle.owed_calls.specs.Owing.{Duty, Owing, InList, DutyTo, Among}
 use Rattle.owed_calls.specs.Owes.{OwesOn}
 use Rattle.owed_calls.specs.Sound.{id_word_of, Owed, by_seat, by_retry, by_reader, SoundOwing, AllRest, retry_tokens}

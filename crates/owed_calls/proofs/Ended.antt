@@ -14,13 +14,13 @@ use Rattle.sock_programs.specs.Cores.{Core}
 use Rattle.sock_programs.specs.Ticks.{Moment, IsPrompt, waits, waits_at}
 use Rattle.sock_programs.specs.Runs.{kind_in, IsSettled}
 use Rattle.sock_programs.specs.Runs as runs
-use Rattle.sock_runs.specs.Sound.{Sound, IsAhead}
-use Rattle.sock_runs.proofs.Along.{seat_rests, place_inside}
-use Rattle.sock_runs.proofs.Waiting.{StandsAside, still_settles}
-use Rattle.sock_runs.proofs.Rested.{IsPast}
-use Rattle.sock_runs.proofs.ReaderSeats.{AtReader, waits_own}
-use Rattle.id_runs.specs.Held.{IdView}
-use Rattle.id_runs.specs.Goes.{SoundIds}
+use Rattle.joint_runs.specs.sock_runs.specs.Sound.{Sound, IsAhead}
+use Rattle.joint_runs.specs.sock_runs.proofs.Along.{seat_rests, place_inside}
+use Rattle.joint_runs.specs.sock_runs.proofs.Waiting.{StandsAside, still_settles}
+use Rattle.joint_runs.specs.sock_runs.proofs.Rested.{IsPast}
+use Rattle.joint_runs.specs.sock_runs.proofs.ReaderSeats.{AtReader, waits_own}
+use Rattle.joint_runs.specs.id_runs.specs.Held.{IdView}
+use Rattle.joint_runs.specs.id_runs.specs.Goes.{SoundIds}
 use Rattle.owed_calls.specs.Owing.{Owing}
 use Rattle.owed_calls.specs.Owes.{OwesOn}
 use Rattle.owed_calls.specs.Sound.{id_word_of, SoundOwing, AllRest}

@@ -23,7 +23,7 @@ use Rattle.sock_programs.specs.Cores.{Calls, Core, SeatState}
 use Rattle.sock_programs.specs.Ticks.{Answer, Unasked, OfPut, OfReady, OfTake, Moment, seats_of, taken, with_message, with_link, with_put, with_ready, with_found, step_with, tick_with, ticked, run, waits, IsPrompt}
 use Rattle.sock_programs.specs.Runs.{kind_in, IsAtRest, from_to}
 use Rattle.sock_programs.specs.Scripts.{AreStill}
-use Rattle.sock_runs.proofs.Waiting.{still}
+use Rattle.joint_runs.specs.sock_runs.proofs.Waiting.{still}
 
 -- ## The run stays one that is ending
 

@@ -12,11 +12,11 @@ use Rattle.corr_core.specs.declared.marks.Token.TheVariants.{Claimed, Locked}
 use Rattle.id_rule.specs.Lawful.{id_word, local, Lawful}
 use Rattle.id_rule.specs.Plays.{Longer}
 use Rattle.id_rule.proofs.Allowed as allowed
-use Rattle.sock_message.specs.Asked.{Asked}
+use Rattle.sock_programs.specs.sock_message.specs.Asked.{Asked}
 use Rattle.sock_programs.specs.Heads.{Retry}
 use Rattle.sock_programs.specs.Cores.{Calls}
-use Rattle.id_runs.specs.Held.{IdView, id_state, HasOne}
-use Rattle.id_runs.specs.Goes.{FitsRetryId, FindsLonger}
+use Rattle.joint_runs.specs.id_runs.specs.Held.{IdView, id_state, HasOne}
+use Rattle.joint_runs.specs.id_runs.specs.Goes.{FitsRetryId, FindsLonger}
 use Rattle.owed_calls.proofs.Seats.{Few}
 
 -- retries that wait are of few attempts

@@ -24,27 +24,27 @@ use Rattle.sock_programs.specs.Ticks.{Unasked, Moment, quiet, ticked, run, IsPro
 use Rattle.sock_programs.specs.Runs as runs
 use Rattle.sock_programs.specs.Runs.{kind_in}
 use Rattle.sock_programs.specs.Scripts.{ticks_of, sizes_of, programs, readers_from, all_programs, all_tasks, opened, ending, is_ending, set_up, played, IsRunWithCalls}
-use Rattle.sock_runs.specs.Sound.{AllRest, views_along}
-use Rattle.sock_runs.proofs.LinkTicks.{RetriesGo}
-use Rattle.sock_runs.proofs.Along.{seat_rests, place_inside}
-use Rattle.sock_runs.proofs.Quiets.{run_seats, run_rests}
-use Rattle.sock_runs.proofs.Records.{stores}
-use Rattle.sock_runs.proofs.Through.{Passes, Follows}
-use Rattle.sock_runs.proofs.ThroughCalls.{through_next}
+use Rattle.joint_runs.specs.sock_runs.specs.Sound.{AllRest, views_along}
+use Rattle.joint_runs.specs.sock_runs.proofs.LinkTicks.{RetriesGo}
+use Rattle.joint_runs.specs.sock_runs.proofs.Along.{seat_rests, place_inside}
+use Rattle.joint_runs.specs.sock_runs.proofs.Quiets.{run_seats, run_rests}
+use Rattle.joint_runs.specs.sock_runs.proofs.Records.{stores}
+use Rattle.joint_runs.specs.sock_runs.proofs.Through.{Passes, Follows}
+use Rattle.joint_runs.specs.sock_runs.proofs.ThroughCalls.{through_next}
 use Rattle.sock_programs.specs.Calls.{Call, StoreOpen}
-use Rattle.id_runs.specs.Goes as goes
-use Rattle.sock_runs.proofs.WillStore.{WillStore, IsToStore, will_client, run_stores, rested_stored}
-use Rattle.sock_runs.proofs.LinksOpening.{OpensLink}
-use Rattle.sock_runs.proofs.Whole.{AreFittingIn, Begins, IsOwed, IsListed, views_closed, set_up_answered, end_answered, set_up_sound, closing_sound, closed_sound, views_played, rested_ahead, rested_idle, ended_idle, end_rests}
-use Rattle.id_runs.proofs.Opening.{unused}
-use Rattle.client_laws.proofs.Beginning as clients_begin
-use Rattle.client_laws.proofs.Retrying.{retries_go}
+use Rattle.joint_runs.specs.id_runs.specs.Goes as goes
+use Rattle.joint_runs.specs.sock_runs.proofs.WillStore.{WillStore, IsToStore, will_client, run_stores, rested_stored}
+use Rattle.joint_runs.specs.sock_runs.proofs.LinksOpening.{OpensLink}
+use Rattle.joint_runs.specs.sock_runs.proofs.Whole.{AreFittingIn, Begins, IsOwed, IsListed, views_closed, set_up_answered, end_answered, set_up_sound, closing_sound, closed_sound, views_played, rested_ahead, rested_idle, ended_idle, end_rests}
+use Rattle.joint_runs.specs.id_runs.proofs.Opening.{unused}
+use Rattle.joint_runs.specs.client_laws.proofs.Beginning as clients_begin
+use Rattle.joint_runs.specs.client_laws.proofs.Retrying.{retries_go}
 use Rattle.joint_runs.proofs.Both.{AreBoth, behind_both}
 use Rattle.joint_runs.proofs.Runs.{AreMade, first_views, begins, IsSoundRun, are_fitting_in, joint_runs}
 use Rattle.report_fits.proofs.Lists.{some_is, before_from, before_at, before_filter_map}
 use Rattle.report_fits.proofs.Numbering.{is_numbered}
 use Rattle.report_fits.proofs.TaskLemmas.{tasks_length}
-use Rattle.chain_laws.proofs.Lists.{at_some}
+use Rattle.joint_runs.specs.chain_laws.proofs.Lists.{at_some}
 use Rattle.owed_calls.specs.Owing.{Owing}
 use Rattle.owed_calls.specs.Sound.{id_word_of, SoundOwing}
 use Rattle.owed_calls.specs.Owns.{Owned}

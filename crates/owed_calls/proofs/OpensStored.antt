@@ -10,7 +10,7 @@ use Rattle.sock_programs.specs.declared.task.Op.{Op}
 use Rattle.sock_programs.specs.declared.task.Task.{Task}
 use Rattle.sock_programs.specs.Tasks.{Numbered, numbered, op_of, opens}
 use Rattle.sock_programs.specs.Scripts.{all_tasks}
-use Rattle.sock_runs.proofs.Opening.{is_opening, opens_in}
+use Rattle.joint_runs.specs.sock_runs.proofs.Opening.{is_opening, opens_in}
 use Rattle.report_fits.proofs.Lists.{filter_map_has, has_from, some_is}
 use Rattle.report_fits.proofs.Numbering.{is_numbered}
 use Rattle.report_fits.proofs.TaskLemmas.{numbers_at, asked_at, operation_task}

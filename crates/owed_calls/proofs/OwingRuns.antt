@@ -16,25 +16,25 @@ use Rattle.sock_programs.specs.Asides.{Step, Found, StoreAt, TakeBytes}
 use Rattle.sock_programs.specs.Programs.{Program, Do, Say, Sent, Rest, TakeMessage, TakeHome, PutHome, PutBytes, AskReady, Write, Aside, Round, Keep, Retries, NO_SOCKET}
 use Rattle.sock_programs.specs.Cores.{Core, SeatState, word_of, found_at}
 use Rattle.sock_programs.specs.Ticks.{Answer, Moment, ticked, run, AreAnswered}
-use Rattle.sock_runs.specs.May.{May}
-use Rattle.sock_runs.specs.GoesOn.{GoesOn}
-use Rattle.sock_runs.specs.Sound.{state, Sound, AreFitting, first_step, views_after, views_along}
-use Rattle.sock_runs.proofs.Along.{place_inside}
-use Rattle.sock_runs.proofs.Cases.{goes_first}
-use Rattle.sock_runs.proofs.Rounds.{begins_round}
-use Rattle.sock_runs.proofs.Passes.{goes_round}
-use Rattle.sock_runs.proofs.LinkTicks.{RetriesGo}
-use Rattle.sock_runs.proofs.Ticks.{sound_ticks}
-use Rattle.sock_runs.proofs.Founds.{finds}
-use Rattle.sock_runs.proofs.Quiets.{run_seats}
-use Rattle.sock_runs.proofs.Records.{loads}
-use Rattle.sock_runs.proofs.Recorded.{Recorded, recorded_ticks}
-use Rattle.sock_runs.proofs.ReaderSeats.{AtReader, run_reader, loads_own, steps_behind}
-use Rattle.sock_runs.proofs.OpensStay.{run_word}
-use Rattle.sock_runs.proofs.LinksStay.{IsGiven, run_given, finds_given}
-use Rattle.id_runs.specs.Goes as goes
-use Rattle.id_runs.specs.Goes.{SoundIds}
-use Rattle.id_runs.specs.Held.{IdView}
+use Rattle.joint_runs.specs.sock_runs.specs.May.{May}
+use Rattle.joint_runs.specs.sock_runs.specs.GoesOn.{GoesOn}
+use Rattle.joint_runs.specs.sock_runs.specs.Sound.{state, Sound, AreFitting, first_step, views_after, views_along}
+use Rattle.joint_runs.specs.sock_runs.proofs.Along.{place_inside}
+use Rattle.joint_runs.specs.sock_runs.proofs.Cases.{goes_first}
+use Rattle.joint_runs.specs.sock_runs.proofs.Rounds.{begins_round}
+use Rattle.joint_runs.specs.sock_runs.proofs.Passes.{goes_round}
+use Rattle.joint_runs.specs.sock_runs.proofs.LinkTicks.{RetriesGo}
+use Rattle.joint_runs.specs.sock_runs.proofs.Ticks.{sound_ticks}
+use Rattle.joint_runs.specs.sock_runs.proofs.Founds.{finds}
+use Rattle.joint_runs.specs.sock_runs.proofs.Quiets.{run_seats}
+use Rattle.joint_runs.specs.sock_runs.proofs.Records.{loads}
+use Rattle.joint_runs.specs.sock_runs.proofs.Recorded.{Recorded, recorded_ticks}
+use Rattle.joint_runs.specs.sock_runs.proofs.ReaderSeats.{AtReader, run_reader, loads_own, steps_behind}
+use Rattle.joint_runs.specs.sock_runs.proofs.OpensStay.{run_word}
+use Rattle.joint_runs.specs.sock_runs.proofs.LinksStay.{IsGiven, run_given, finds_given}
+use Rattle.joint_runs.specs.id_runs.specs.Goes as goes
+use Rattle.joint_runs.specs.id_runs.specs.Goes.{SoundIds}
+use Rattle.joint_runs.specs.id_runs.specs.Held.{IdView}
 use Rattle.owed_calls.specs.Owing.{Owing, FindsCall, IsLifeOf}
 use Rattle.owed_calls.specs.Sound.{SoundOwing}
 use Rattle.owed_calls.specs.Fits.{StepFits}

@@ -27,12 +27,12 @@ use Rattle.sock_programs.specs.Rounds.{round}
 use Rattle.sock_programs.specs.Cores.{Calls, Core, SeatState, homes_after, lies_at, first_of, others_of, link_place, waiting_at, with_seat, stepped}
 use Rattle.sock_programs.specs.Beside.{taking_in, at_last, more_given, found_in, calls_after}
 use Rattle.sock_programs.specs.Ticks.{Answer, Unasked, OfPut, OfReady, OfTake, Moment, fed, with_places, onto_first, taken, with_message, with_link, with_put, with_ready, with_found, step_with, tick_with, ticked}
-use Rattle.id_runs.specs.Held.{IdView, MayId}
-use Rattle.id_runs.specs.Goes.{FindsId, IdGoesOn, SoundIds}
-use Rattle.id_runs.specs.Goes as goes
-use Rattle.id_runs.proofs.Steps.{finds_ids}
-use Rattle.id_runs.proofs.Loops.{ids_round}
-use Rattle.id_runs.proofs.Programs as idprograms
+use Rattle.joint_runs.specs.id_runs.specs.Held.{IdView, MayId}
+use Rattle.joint_runs.specs.id_runs.specs.Goes.{FindsId, IdGoesOn, SoundIds}
+use Rattle.joint_runs.specs.id_runs.specs.Goes as goes
+use Rattle.joint_runs.specs.id_runs.proofs.Steps.{finds_ids}
+use Rattle.joint_runs.specs.id_runs.proofs.Loops.{ids_round}
+use Rattle.joint_runs.specs.id_runs.proofs.Programs as idprograms
 use Rattle.owed_calls.specs.Owing.{Owing, FindsUnlock, MayOwe, Linked, takes, closes, Taken, MayCall, KnowsOwner}
 use Rattle.owed_calls.specs.Owes.{OwesOn}
 use Rattle.owed_calls.specs.Sound.{id_word_of, at_of, Past, Failed, OwingLaw, SoundOwing}

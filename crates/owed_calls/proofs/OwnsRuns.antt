@@ -25,13 +25,13 @@ use Rattle.sock_programs.specs.Told.{HaveOwnLinks}
 use Rattle.sock_programs.specs.Cores.{Core, SeatState, resolved, next_step, with_seat}
 use Rattle.sock_programs.specs.Ticks.{Moment, ticked, run}
 use Rattle.sock_programs.specs.Scripts.{sizes_of, programs, readers_from, all_programs, opened, tasks_from, all_tasks, is_ending}
-use Rattle.sock_runs.proofs.Opening.{mapped, appended, or_cases, second_true}
-use Rattle.id_runs.specs.Held.{IdView}
-use Rattle.id_runs.specs.Goes.{IdGoesOn, SoundIds}
-use Rattle.id_runs.specs.Goes as goes
-use Rattle.id_runs.proofs.Loops.{ids_round}
-use Rattle.id_runs.proofs.Programs as idprograms
-use Rattle.id_runs.proofs.Opening.{unused}
+use Rattle.joint_runs.specs.sock_runs.proofs.Opening.{mapped, appended, or_cases, second_true}
+use Rattle.joint_runs.specs.id_runs.specs.Held.{IdView}
+use Rattle.joint_runs.specs.id_runs.specs.Goes.{IdGoesOn, SoundIds}
+use Rattle.joint_runs.specs.id_runs.specs.Goes as goes
+use Rattle.joint_runs.specs.id_runs.proofs.Loops.{ids_round}
+use Rattle.joint_runs.specs.id_runs.proofs.Programs as idprograms
+use Rattle.joint_runs.specs.id_runs.proofs.Opening.{unused}
 use Rattle.joint_runs.proofs.Both.{AreBoth}
 use Rattle.joint_runs.proofs.Runs.{AreMade}
 use Rattle.report_fits.proofs.Lists.{Has, has_later, some_is, all_from, has_filter_map}
@@ -139,7 +139,7 @@ module _ (script : List Item) where
   own_call c t w = by_op t.op refl
     where
       by_op : (op : Op) → t.op ≡ op → CallsOwn t.number op
-      by_op (ops.Call asked) e = let a = call_asks (numbered script) (names script) (numbers_at script t.number w.operation) w.operation.item asked (w.asks ∙ ap Some e) in ap (λ (x : Rattle.sock_message.specs.Asked.Asked). x.operation) a.2
+      by_op (ops.Call asked) e = let a = call_asks (numbered script) (names script) (numbers_at script t.number w.operation) w.operation.item asked (w.asks ∙ ap Some e) in ap (λ (x : Rattle.sock_programs.specs.sock_message.specs.Asked.Asked). x.operation) a.2
       by_op other e = tt
 
   own_calls : (client n : ℕ) → AllByRecursion (AllByRecursion (λ (t : Task). CallsOwn t.number t.op)) (tasks_from script client n)

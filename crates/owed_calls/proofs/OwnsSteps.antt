@@ -7,7 +7,7 @@ use native.Mathlib.Decide.{ℕ_discrete}
 use mathlib.Core.Option.{Option, none, some, some-injective, some-ne-none}
 use lib.ListN.{get_elem?}
 use Rattle.atomic_table.proofs.Lists.{set_else}
-use Rattle.chain_laws.proofs.Lists.{at_length}
+use Rattle.joint_runs.specs.chain_laws.proofs.Lists.{at_length}
 use Rattle.sock_words.specs.declared.plain.Plan.{Plan}
 use Rattle.corr_core.specs.Word.{Parts, parts, made_word, locked_word, posted_word, unlocked_word, free_word}
 use Rattle.corr_core.specs.Law.{Stands, HomeIs, vacant, retired, claimed, opened, locked, leaving}
@@ -18,14 +18,14 @@ use Rattle.corr_core.specs.declared.marks.Token.{Token}
 use Rattle.corr_core.specs.declared.marks.Token.TheVariants.{Claimed, Locked}
 use Rattle.id_rule.specs.Lawful.{tag_word, id_word, call_word, at_word, local, tokens_in}
 use Rattle.id_rule.proofs.Allowed as allowed
-use Rattle.sock_message.specs.Asked.{Asked}
+use Rattle.sock_programs.specs.sock_message.specs.Asked.{Asked}
 use Rattle.sock_programs.specs.Asides.{Step, Found, ClaimId, PutCall, MakeId, StoreCall, LoadCall, StoreAt, LoadAt, LoadIdWord, LockId, PostId, UnlockId, EndId, FreeId, TakeCall, TakeBytes, Taking, Bytes, Nothing, NoMore, AtEnd, Closed, Broken}
 use Rattle.sock_programs.specs.Posts.{packed, advance_of}
 use Rattle.sock_programs.specs.Beside.{found_in, calls_after, more_given}
 use Rattle.sock_programs.specs.Cores.{Calls, Core}
-use Rattle.id_runs.specs.Held.{IdView, id_state, HasOne, MayId}
-use Rattle.id_runs.specs.Goes.{SoundIds, FindsId}
-use Rattle.id_runs.proofs.Keeps.{parts_packed}
+use Rattle.joint_runs.specs.id_runs.specs.Held.{IdView, id_state, HasOne, MayId}
+use Rattle.joint_runs.specs.id_runs.specs.Goes.{SoundIds, FindsId}
+use Rattle.joint_runs.specs.id_runs.proofs.Keeps.{parts_packed}
 use Rattle.owed_calls.specs.Sound.{id_word_of}
 
 -- ## Words

@@ -21,9 +21,9 @@ use Rattle.corr_core.specs.declared.marks.Token.{Token}
 use Rattle.corr_core.specs.declared.marks.Token.TheVariants.{Locked}
 use Rattle.corr_core.specs.declared.marks.Hand.TheVariants.{Empty}
 use Rattle.id_rule.specs.Lawful.{tag_word, id_word, call_word, at_word, tokens_of}
-use Rattle.sock_message.specs.Asked.{Asked}
+use Rattle.sock_programs.specs.sock_message.specs.Asked.{Asked}
 use Rattle.sock_programs.specs.Asides.{Step, Found, ClaimId, PutCall, MakeId, StoreCall, LoadCall, StoreAt, LoadAt, LoadIdWord, LockId, PostId, UnlockId, EndId, FreeId, TakeCall, TakeBytes, Taking, Bytes, Nothing, NoMore, AtEnd, Closed, Broken, call_id, id_slot, id_first}
-use Rattle.sock_steps.proofs.Quiet.{either_way}
+use Rattle.joint_runs.specs.sock_steps.proofs.Quiet.{either_way}
 use Rattle.sock_programs.specs.Heads.{Head, Exit, Retry, Posts, Unlocks, Decides, Locks, Joins, Opens, Reads, Discards}
 use Rattle.sock_programs.specs.Programs.{Program, Do, Say, Sent, Rest, TakeMessage, TakeHome, PutHome, PutBytes, AskReady, Write, Aside, Round, Keep, Retries}
 use Rattle.sock_programs.specs.Posts.{packed, advance_of, ends_call}
@@ -32,13 +32,13 @@ use Rattle.sock_programs.specs.Rounds.{round}
 use Rattle.sock_programs.specs.Beside.{found_in, calls_after, call_at, more_given}
 use Rattle.sock_programs.specs.Cores.{Calls, Core, SeatState, word_of, found_at, resolved, next_step, waiting_at, with_seat}
 use Rattle.sock_programs.specs.Ticks.{Answer, Unasked, OfPut, OfReady, OfTake, Moment, taken, with_message, with_link, with_put, with_ready, with_found, step_with, tick_with, ticked}
-use Rattle.id_runs.specs.Held.{IdView, one, HasOne, MayId}
-use Rattle.id_runs.specs.Goes.{FitsRetryId, FindsId, IsTaken, IdGoesOn, SoundIds, FitsFirst, IsFittingIds}
-use Rattle.id_runs.specs.Goes as goes
-use Rattle.id_runs.proofs.Keeps.{parts_packed}
-use Rattle.id_runs.proofs.Steps.{finds_ids}
-use Rattle.id_runs.proofs.Loops.{ids_round}
-use Rattle.id_runs.proofs.Programs as idprograms
+use Rattle.joint_runs.specs.id_runs.specs.Held.{IdView, one, HasOne, MayId}
+use Rattle.joint_runs.specs.id_runs.specs.Goes.{FitsRetryId, FindsId, IsTaken, IdGoesOn, SoundIds, FitsFirst, IsFittingIds}
+use Rattle.joint_runs.specs.id_runs.specs.Goes as goes
+use Rattle.joint_runs.specs.id_runs.proofs.Keeps.{parts_packed}
+use Rattle.joint_runs.specs.id_runs.proofs.Steps.{finds_ids}
+use Rattle.joint_runs.specs.id_runs.proofs.Loops.{ids_round}
+use Rattle.joint_runs.specs.id_runs.proofs.Programs as idprograms
 use Rattle.owed_calls.proofs.EndsStill.{view_of}
 use Rattle.owed_calls.specs.Owing.{InList}
 use Rattle.owed_calls.specs.Sound.{id_word_of, at_of}

@@ -11,7 +11,7 @@ use Rattle.sock_model.specs.Entries.{generation_of, slot_of, ticket_of}
 use Rattle.sock_model.specs.Memory.{IDLE, UNCONNECTED}
 use Rattle.corr_core.specs.Word.{parts, attempt_of, error_of}
 use Rattle.sock_programs.specs.Parts.{part}
-use Rattle.sock_message.specs.Asked.{Asked, name_of, frame_of}
+use Rattle.sock_programs.specs.sock_message.specs.Asked.{Asked, name_of, frame_of}
 use Rattle.sock_programs.specs.Calls.{SubRef, AddRef, StoreCode, LoadLink, TakeLink, FinishLink, PutLink, FreeSlot, LoadName, FreeRequest, ReadNext, FindLink, LookWord, TurnNext, Connect}
 use Rattle.sock_programs.specs.Asides.{PutCall, StoreAt, TakeCall, call_id, id_slot, id_first}
 use Rattle.sock_programs.specs.Heads.{First, Unlocks, Joins, Unlocking, IsOpen, HasNext, Locking, NotThere, Has}

@@ -12,15 +12,15 @@ use Rattle.sock_programs.specs.Programs.{Program, Do, Say, Sent, Rest, TakeMessa
 use Rattle.sock_programs.specs.Readers.{reader}
 use Rattle.sock_programs.specs.Cores.{Core, SeatState, waiting_at}
 use Rattle.sock_programs.specs.Ticks.{Answer, Moment, ticked, run, AreAnswered}
-use Rattle.sock_runs.specs.Sound.{Sound, AreFitting, first_step, views_after, views_along}
-use Rattle.sock_runs.proofs.LinkTicks.{RetriesGo}
-use Rattle.sock_runs.proofs.Along.{place_inside}
-use Rattle.sock_runs.proofs.Ticks.{sound_ticks}
-use Rattle.sock_runs.proofs.Quiets.{run_seats}
-use Rattle.sock_runs.proofs.Recorded.{Recorded, recorded_ticks}
-use Rattle.sock_runs.proofs.ReaderSeats.{AtReader, run_reader}
-use Rattle.sock_runs.proofs.LinksOpening.{OpensLink}
-use Rattle.id_runs.specs.Goes as goes
+use Rattle.joint_runs.specs.sock_runs.specs.Sound.{Sound, AreFitting, first_step, views_after, views_along}
+use Rattle.joint_runs.specs.sock_runs.proofs.LinkTicks.{RetriesGo}
+use Rattle.joint_runs.specs.sock_runs.proofs.Along.{place_inside}
+use Rattle.joint_runs.specs.sock_runs.proofs.Ticks.{sound_ticks}
+use Rattle.joint_runs.specs.sock_runs.proofs.Quiets.{run_seats}
+use Rattle.joint_runs.specs.sock_runs.proofs.Recorded.{Recorded, recorded_ticks}
+use Rattle.joint_runs.specs.sock_runs.proofs.ReaderSeats.{AtReader, run_reader}
+use Rattle.joint_runs.specs.sock_runs.proofs.LinksOpening.{OpensLink}
+use Rattle.joint_runs.specs.id_runs.specs.Goes as goes
 use Rattle.joint_runs.proofs.Both.{AreBoth}
 use Rattle.owed_calls.proofs.EndsStill.{view_of}
 use Rattle.owed_calls.specs.Owing.{Duty, Linked, Owing, Among, duty_tokens}

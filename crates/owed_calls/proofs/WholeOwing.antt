@@ -15,18 +15,18 @@ use Rattle.sock_programs.specs.Clients.{ending_of}
 use Rattle.sock_programs.specs.Cores.{Core, SeatState, resolved, next_step, waiting_at, with_seat}
 use Rattle.sock_programs.specs.Ticks.{Moment, run, AreAnswered}
 use Rattle.sock_programs.specs.Scripts.{is_ending}
-use Rattle.sock_runs.specs.Sound.{state, Sound, AreFitting, views_along}
-use Rattle.sock_runs.proofs.Bounds.{law, lives_le}
-use Rattle.sock_runs.proofs.Records.{next_stores}
-use Rattle.sock_runs.proofs.LinkTicks.{RetriesGo}
-use Rattle.sock_runs.proofs.Quiets.{run_seats}
-use Rattle.sock_runs.proofs.ThroughSends.{through_end}
-use Rattle.sock_runs.proofs.ThroughCalls.{through_next}
-use Rattle.sock_runs.proofs.Recorded.{Recorded}
-use Rattle.sock_runs.proofs.LinksRecorded.{Gives, gives_passes, gives_opens, gives_follow, Stored, Stores, Linked, run_linked}
-use Rattle.sock_runs.proofs.LinksOpening.{OpensLink}
-use Rattle.sock_runs.proofs.LinksStay.{IsGiven}
-use Rattle.sock_runs.proofs.ReaderSeats.{AtReader, run_reader}
+use Rattle.joint_runs.specs.sock_runs.specs.Sound.{state, Sound, AreFitting, views_along}
+use Rattle.joint_runs.specs.sock_runs.proofs.Bounds.{law, lives_le}
+use Rattle.joint_runs.specs.sock_runs.proofs.Records.{next_stores}
+use Rattle.joint_runs.specs.sock_runs.proofs.LinkTicks.{RetriesGo}
+use Rattle.joint_runs.specs.sock_runs.proofs.Quiets.{run_seats}
+use Rattle.joint_runs.specs.sock_runs.proofs.ThroughSends.{through_end}
+use Rattle.joint_runs.specs.sock_runs.proofs.ThroughCalls.{through_next}
+use Rattle.joint_runs.specs.sock_runs.proofs.Recorded.{Recorded}
+use Rattle.joint_runs.specs.sock_runs.proofs.LinksRecorded.{Gives, gives_passes, gives_opens, gives_follow, Stored, Stores, Linked, run_linked}
+use Rattle.joint_runs.specs.sock_runs.proofs.LinksOpening.{OpensLink}
+use Rattle.joint_runs.specs.sock_runs.proofs.LinksStay.{IsGiven}
+use Rattle.joint_runs.specs.sock_runs.proofs.ReaderSeats.{AtReader, run_reader}
 use Rattle.owed_calls.specs.Owing.{Owing}
 use Rattle.owed_calls.specs.Sound.{SoundOwing}
 use Rattle.owed_calls.specs.Lives.{id_of, life_of, AreSaying}

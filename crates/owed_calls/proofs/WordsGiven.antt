@@ -23,10 +23,10 @@ use Rattle.sock_model.specs.Layout.{all_words, open_word}
 use Rattle.sock_model.specs.SlotRows.{marks_of}
 use Rattle.sock_model.specs.Slots.{version_of}
 use Rattle.corr_core.specs.declared.marks.Plan.{Plan as IdPlan}
-use Rattle.slot_laws.proofs.Sums.{about-here}
-use Rattle.slot_laws.proofs.Numbers.{pair-same}
-use Rattle.sock_steps.proofs.Places.{counts, own_count}
-use Rattle.sock_steps.proofs.Quiet.{either_way}
+use Rattle.joint_runs.specs.slot_laws.proofs.Sums.{about-here}
+use Rattle.joint_runs.specs.slot_laws.proofs.Numbers.{pair-same}
+use Rattle.joint_runs.specs.sock_steps.proofs.Places.{counts, own_count}
+use Rattle.joint_runs.specs.sock_steps.proofs.Quiet.{either_way}
 use Rattle.sock_programs.specs.declared.task.Op.{Op}
 use Rattle.sock_programs.specs.declared.task.Op.TheVariants as ops
 use Rattle.sock_programs.specs.declared.task.Task.{Task}
@@ -41,23 +41,23 @@ use Rattle.sock_programs.specs.Cores.{Calls, Core, SeatState, word_of, word_afte
 use Rattle.sock_programs.specs.Ticks.{Moment, ticked, run, IsAnswered, AreAnswered}
 use Rattle.sock_programs.specs.Scripts.{sizes_of, beginning, programs, readers_from, is_ending}
 use Rattle.owed_calls.proofs.EndsStill.{all_at}
-use Rattle.sock_runs.specs.Rows.{row, hand_at}
-use Rattle.sock_runs.specs.May.{May}
-use Rattle.sock_runs.specs.Sound.{state, Sound, first_step, IsFitting, AreFitting, views_after, views_along}
-use Rattle.sock_runs.proofs.Notes.{bears}
-use Rattle.sock_runs.proofs.LinkNotes.{links_stay}
-use Rattle.sock_runs.proofs.LinksStay.{IsGiven}
-use Rattle.sock_runs.proofs.Records.{stores, opens_same}
-use Rattle.sock_runs.proofs.Opening.{mapped, appended}
-use Rattle.sock_runs.proofs.LinksOpening.{OwnsLink}
-use Rattle.sock_runs.proofs.Through.{Passes, PassesOpens, Follows, comes_follows, through_release, through_fail, through_hold, through_drop}
-use Rattle.sock_runs.proofs.ThroughSends.{through_send, through_end}
-use Rattle.sock_runs.proofs.ThroughCalls.{through_call, through_expire, through_join, through_reader, through_first, through_next}
-use Rattle.sock_runs.proofs.Cases.{ComesNext, with_rights, tick_keeps_marks}
-use Rattle.sock_runs.proofs.Rounds.{begins_round}
-use Rattle.sock_runs.proofs.Passes.{goes_round}
-use Rattle.sock_runs.proofs.LinkTicks.{RetriesGo}
-use Rattle.sock_runs.proofs.Ticks.{sound_ticks}
+use Rattle.joint_runs.specs.sock_runs.specs.Rows.{row, hand_at}
+use Rattle.joint_runs.specs.sock_runs.specs.May.{May}
+use Rattle.joint_runs.specs.sock_runs.specs.Sound.{state, Sound, first_step, IsFitting, AreFitting, views_after, views_along}
+use Rattle.joint_runs.specs.sock_runs.proofs.Notes.{bears}
+use Rattle.joint_runs.specs.sock_runs.proofs.LinkNotes.{links_stay}
+use Rattle.joint_runs.specs.sock_runs.proofs.LinksStay.{IsGiven}
+use Rattle.joint_runs.specs.sock_runs.proofs.Records.{stores, opens_same}
+use Rattle.joint_runs.specs.sock_runs.proofs.Opening.{mapped, appended}
+use Rattle.joint_runs.specs.sock_runs.proofs.LinksOpening.{OwnsLink}
+use Rattle.joint_runs.specs.sock_runs.proofs.Through.{Passes, PassesOpens, Follows, comes_follows, through_release, through_fail, through_hold, through_drop}
+use Rattle.joint_runs.specs.sock_runs.proofs.ThroughSends.{through_send, through_end}
+use Rattle.joint_runs.specs.sock_runs.proofs.ThroughCalls.{through_call, through_expire, through_join, through_reader, through_first, through_next}
+use Rattle.joint_runs.specs.sock_runs.proofs.Cases.{ComesNext, with_rights, tick_keeps_marks}
+use Rattle.joint_runs.specs.sock_runs.proofs.Rounds.{begins_round}
+use Rattle.joint_runs.specs.sock_runs.proofs.Passes.{goes_round}
+use Rattle.joint_runs.specs.sock_runs.proofs.LinkTicks.{RetriesGo}
+use Rattle.joint_runs.specs.sock_runs.proofs.Ticks.{sound_ticks}
 
 -- ## Programs
 

@@ -13,7 +13,7 @@ use Rattle.sock_programs.specs.Asides.{StoreAt, TakeBytes, Closed, call_id}
 use Rattle.sock_programs.specs.Programs.{Program, Do, PutHome, Aside}
 use Rattle.sock_programs.specs.Cores.{Core, SeatState, word_of, word_after, found_at, words_after, first_of}
 use Rattle.sock_programs.specs.Ticks.{Answer, Moment, taken}
-use Rattle.id_runs.specs.Goes as goes
+use Rattle.joint_runs.specs.id_runs.specs.Goes as goes
 use Rattle.owed_calls.specs.Owing.{Linked, Owing, InList, FindsCall}
 use Rattle.owed_calls.specs.Sound.{at_of, FailedIn}
 

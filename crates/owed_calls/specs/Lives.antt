@@ -16,9 +16,9 @@ use Rattle.sock_programs.specs.Asides.{StoreAt, TakeBytes, Closed, call_id}
 use Rattle.sock_programs.specs.Programs.{Program, Aside, NO_SOCKET}
 use Rattle.sock_programs.specs.Cores.{Core, SeatState, link_place}
 use Rattle.sock_programs.specs.Ticks.{Answer, Moment, taken, ticked}
-use Rattle.id_runs.specs.Held.{IdView}
-use Rattle.id_runs.specs.Goes.{SoundIds}
-use Rattle.id_runs.specs.Goes as goes
+use Rattle.joint_runs.specs.id_runs.specs.Held.{IdView}
+use Rattle.joint_runs.specs.id_runs.specs.Goes.{SoundIds}
+use Rattle.joint_runs.specs.id_runs.specs.Goes as goes
 use Rattle.owed_calls.specs.Owing.{Linked, Owing, InList}
 use Rattle.owed_calls.specs.Sound.{at_of, FailedIn, SoundOwing}
 

@@ -2,3 +2,4 @@ pub mod Points
 pub mod Steps
 pub mod Cuts
 pub mod Kept
+pub use Rattle.seat_points

@@ -7,7 +7,7 @@ use Rattle.sock_programs.specs.Programs.{Program, Do, Say, Sent, Rest, TakeMessa
 use Rattle.call_points.specs.declared.ending.EndStep.TheVariants as ends
 use Rattle.call_points.specs.declared.locking.LockStep.TheVariants as locks
 use Rattle.call_points.specs.declared.posting.PostStep.TheVariants as posts
-use Rattle.seat_points.specs.declared.point.ReleaseStep.TheVariants as releases
+use Rattle.reader_points.specs.seat_points.specs.declared.point.ReleaseStep.TheVariants as releases
 use Rattle.reader_points.specs.declared.point.AnswerStep.TheVariants as answers
 use Rattle.reader_points.specs.declared.point.CloseStep.TheVariants as closes
 use Rattle.reader_points.specs.declared.point.FailStep.TheVariants as fails

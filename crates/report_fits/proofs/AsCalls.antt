@@ -16,9 +16,9 @@ use Rattle.brpc_model.specs.Report.{Report, report_text}
 use Rattle.brpc_model.specs.Run.{nothing_late}
 use Rattle.brpc_model.specs.PlaceWords.{ArePlaces, HasEachOutcome}
 use Rattle.brpc_model.specs.Complete.{FitsWhole}
-use Rattle.sock_model.specs.Layout.{place_word}
-use Rattle.sock_model.specs.Deliveries.{place_value}
-use Rattle.sock_message.specs.Asked.{Asked}
+use Rattle.sock_programs.specs.sock_model.specs.Layout.{place_word}
+use Rattle.sock_programs.specs.sock_model.specs.Deliveries.{place_value}
+use Rattle.sock_programs.specs.sock_message.specs.Asked.{Asked}
 use Rattle.sock_programs.specs.declared.task.Op.{Op}
 use Rattle.sock_programs.specs.declared.task.Op.TheVariants as ops
 use Rattle.sock_programs.specs.declared.task.Task.{Task}

@@ -19,7 +19,7 @@ use Rattle.brpc_model.specs.Outcomes.{SendCause, CallCause, ExpireCause, JoinCau
 use Rattle.sock_programs.specs.declared.task.Op.{Op}
 use Rattle.sock_programs.specs.declared.task.Op.TheVariants as ops
 use Rattle.sock_programs.specs.declared.task.Task.{Task}
-use Rattle.sock_message.specs.Asked.{Asked, name_of}
+use Rattle.sock_programs.specs.sock_message.specs.Asked.{Asked, name_of}
 use Rattle.sock_programs.specs.Tasks.{numbered, name_number, number_of, asked_of, op_of, plan_of}
 use Rattle.sock_programs.specs.Scripts.{all_tasks}
 use Rattle.sock_programs.specs.Told.{IsTask, Made}

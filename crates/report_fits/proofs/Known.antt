@@ -12,7 +12,7 @@ use Rattle.brpc_model.specs.Frame.{frame_bytes}
 use Rattle.brpc_model.specs.Messages.{request_frame, shown_id}
 use Rattle.brpc_model.specs.Order.{EachBefore}
 use Rattle.brpc_model.specs.Places.{names}
-use Rattle.sock_message.specs.Asked.{Asked, name_of, frame_of}
+use Rattle.sock_programs.specs.sock_message.specs.Asked.{Asked, name_of, frame_of}
 use Rattle.sock_programs.specs.declared.task.Op.TheVariants as ops
 use Rattle.sock_programs.specs.declared.task.Task.{Task}
 use Rattle.sock_programs.specs.Cores.{Core}

@@ -17,7 +17,7 @@ use Rattle.brpc_model.specs.Outcomes.{FoundFailed as RunFoundFailed, AfterHold a
 use Rattle.sock_programs.specs.declared.task.Op.{Op}
 use Rattle.sock_programs.specs.declared.task.Op.TheVariants as ops
 use Rattle.sock_programs.specs.declared.task.Task.{Task}
-use Rattle.sock_message.specs.Asked.{Asked}
+use Rattle.sock_programs.specs.sock_message.specs.Asked.{Asked}
 use Rattle.sock_programs.specs.Cores.{Core}
 use Rattle.sock_programs.specs.Tasks.{Numbered, numbered, name_number, asked_of, op_of, plan_of}
 use Rattle.sock_programs.specs.Scripts.{all_tasks}

@@ -8,8 +8,8 @@ use Rattle.sock_words.specs.Words.{no_place, HasPosition, IsPlaceWord}
 use Rattle.brpc_model.specs.Operations.{Label}
 use Rattle.brpc_model.specs.Report.{LinkLine}
 use Rattle.brpc_model.specs.PlaceWords.{word_at, word_of, StandsAt as Stands, IsOrder, is_placed, IsLineOf, ArePlaces}
-use Rattle.sock_model.specs.Layout.{place_word}
-use Rattle.sock_model.specs.Deliveries.{place_value}
+use Rattle.sock_programs.specs.sock_model.specs.Layout.{place_word}
+use Rattle.sock_programs.specs.sock_model.specs.Deliveries.{place_value}
 use Rattle.sock_programs.specs.Cores.{Core}
 use Rattle.sock_programs.specs.Runs.{from_to}
 use Rattle.sock_programs.specs.Scripts.{place_words}

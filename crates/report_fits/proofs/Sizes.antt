@@ -7,7 +7,7 @@ use Rattle.brpc_model.specs.Items.{Item, Slots, Requests, First, Client, is_clie
 use Rattle.brpc_model.specs.Operations.{operations_from, clients, link_names, size, slots_in, requests_in, first_in}
 use Rattle.brpc_model.specs.Places.{names}
 use Rattle.brpc_model.specs.Script.{script_of}
-use Rattle.sock_model.specs.Lawful.{PlanFits}
+use Rattle.sock_programs.specs.sock_model.specs.Lawful.{PlanFits}
 use Rattle.sock_programs.specs.Tasks.{plan_of}
 use Rattle.sock_programs.specs.Scripts.{all_tasks}
 use Rattle.report_fits.specs.Limits.{KeepsLimits}

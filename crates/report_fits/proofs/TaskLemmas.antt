@@ -9,7 +9,7 @@ use Rattle.brpc_model.specs.Places.{names}
 use Rattle.sock_programs.specs.declared.task.Op.{Op}
 use Rattle.sock_programs.specs.declared.task.Op.TheVariants as ops
 use Rattle.sock_programs.specs.declared.task.Task.{Task}
-use Rattle.sock_message.specs.Asked.{Asked}
+use Rattle.sock_programs.specs.sock_message.specs.Asked.{Asked}
 use Rattle.sock_programs.specs.Tasks.{Numbered, numbered, of_client, op_of, task_of, tasks, name_number, number_of, asked_of}
 use Rattle.sock_programs.specs.Scripts.{tasks_from, all_tasks}
 use Rattle.sock_programs.specs.Told.{IsTask}

@@ -7,18 +7,18 @@ use Rattle.std.specs.Prelude.{All}
 use Rattle.std.proofs.Common.{add-one}
 use Rattle.std.proofs.lemmas.List.Elements.{All-nil, All-cons, All-weaker}
 use Rattle.atomic_table.specs.Table.{Me}
-use Rattle.sock_io.specs.declared.link.Out.{Ghosts}
-use Rattle.sock_io.specs.Link.{OutState}
+use Rattle.write_chain.specs.sock_io.specs.declared.link.Out.{Ghosts}
+use Rattle.write_chain.specs.sock_io.specs.Link.{OutState}
 use Rattle.sock_words.specs.declared.plain.Plan.{Plan}
 use Rattle.sock_words.specs.declared.plain.Label.{Label}
 use Rattle.sock_words.specs.declared.vref.Vref.{Vref}
 use Rattle.sock_words.specs.Words.{socket_id_slot}
 use Rattle.sock_model.specs.Layout.{name_word}
-use Rattle.sock_rule.specs.Rows.{PutAt}
-use Rattle.sock_rule.specs.declared.homes.Letter.{Letter}
-use Rattle.sock_rule.specs.declared.homes.SockHome.{SockHome}
-use Rattle.sock_table.specs.Named.{HasSeen}
-use Rattle.sock_table.specs.declared.refs.SockRef.{SockRef}
+use Rattle.write_chain.specs.sock_rule.specs.Rows.{PutAt}
+use Rattle.write_chain.specs.sock_rule.specs.declared.homes.Letter.{Letter}
+use Rattle.write_chain.specs.sock_rule.specs.declared.homes.SockHome.{SockHome}
+use Rattle.write_chain.specs.sock_table.specs.Named.{HasSeen}
+use Rattle.write_chain.specs.sock_table.specs.declared.refs.SockRef.{SockRef}
 use Rattle.rpc_client.specs.declared.acting.Action.{Action}
 use Rattle.rpc_client.specs.declared.acting.Action.TheVariants as action
 use Rattle.rpc_client.specs.declared.acting.Client.{Client}

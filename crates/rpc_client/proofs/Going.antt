@@ -3,8 +3,8 @@ use Rattle.std.proofs.Common.{◌≡◌, ℕ, ◌+◌, ◌<◌, ◌≤◌, Optio
 use Rattle.std.specs.declared.result.Result.{Result}
 use Rattle.std.specs.declared.result.Result.TheVariants.{Ok, Err}
 use Rattle.atomic_table.specs.Seated.{TableId}
-use Rattle.sock_io.specs.declared.link.Out.{Ghosts}
-use Rattle.sock_io.specs.Link.{OutState}
+use Rattle.write_chain.specs.sock_io.specs.declared.link.Out.{Ghosts}
+use Rattle.write_chain.specs.sock_io.specs.Link.{OutState}
 use Rattle.sock_words.specs.declared.plain.Plan.{Plan}
 use Rattle.sock_words.specs.declared.outcome.Outcome.{Outcome}
 use Rattle.sock_words.specs.declared.outcome.Outcome.TheVariants as outcome
@@ -13,9 +13,9 @@ use Rattle.sock_model.specs.declared.chain.Entry.{Entry}
 use Rattle.sock_model.specs.declared.view.View.{View}
 use Rattle.sock_model.specs.ChainRows.{more}
 use Rattle.sock_model.specs.Weights.{total}
-use Rattle.slot_laws.proofs.Numbers.{only_le}
-use Rattle.sock_rule.specs.declared.homes.Letter.{Letter}
-use Rattle.sock_table.specs.declared.refs.SockRef.{SockRef}
+use Rattle.write_chain.specs.slot_laws.proofs.Numbers.{only_le}
+use Rattle.write_chain.specs.sock_rule.specs.declared.homes.Letter.{Letter}
+use Rattle.write_chain.specs.sock_table.specs.declared.refs.SockRef.{SockRef}
 use Rattle.rpc_client.specs.declared.acting.Client.{Client}
 use Rattle.rpc_client.specs.declared.holding.Held.{Held}
 use Rattle.rpc_client.specs.declared.reaching.Reached.TheVariants.{Here}
@@ -24,10 +24,10 @@ use Rattle.rpc_client.specs.Reaching.{ReachedBy}
 use Rattle.rpc_client.specs.Holding.{is_there, IsHolder}
 use Rattle.std.specs.Prelude.{All}
 use Rattle.std.proofs.lemmas.List.Elements.{All-nil, All-cons}
-use Rattle.sock_table.specs.Passes.{IsPass}
-use Rattle.sock_open.specs.Made.{IsNewSeat, PassesFrom}
-use Rattle.sock_table.specs.declared.passes.LinkPass.{LinkPass}
-use Rattle.sock_open.proofs.Making.{new_view, new_is_seat, new_between}
+use Rattle.write_chain.specs.sock_table.specs.Passes.{IsPass}
+use Rattle.write_chain.specs.sock_open.specs.Made.{IsNewSeat, PassesFrom}
+use Rattle.write_chain.specs.sock_table.specs.declared.passes.LinkPass.{LinkPass}
+use Rattle.write_chain.specs.sock_open.proofs.Making.{new_view, new_is_seat, new_between}
 use Rattle.rpc_client.specs.Sending.{SentBy}
 use Rattle.rpc_client.specs.Acting.{OwnList, MayGo}
 use Rattle.rpc_client.proofs.Counting.{holder_same}

@@ -3,18 +3,18 @@ use Rattle.std.specs.Prelude.{◌≡◌, ◌≢◌, ℕ, ◌+◌, ◌*◌, ◌<�
 use Rattle.std.proofs.Common.{zero-le}
 use Rattle.atomic_table.specs.Table.{Me}
 use Rattle.atomic_table.specs.Seated.{TableId}
-use Rattle.sock_io.specs.declared.link.Out.{Ghosts}
-use Rattle.sock_io.specs.Link.{OutState}
+use Rattle.write_chain.specs.sock_io.specs.declared.link.Out.{Ghosts}
+use Rattle.write_chain.specs.sock_io.specs.Link.{OutState}
 use Rattle.sock_words.specs.declared.plain.Plan.{Plan}
 use Rattle.sock_words.specs.declared.plain.Label.{Label}
 use Rattle.sock_words.specs.declared.outcome.Outcome.{Outcome}
 use Rattle.sock_model.specs.declared.chain.Entry.{Entry}
 use Rattle.sock_model.specs.declared.view.View.{View}
-use Rattle.message_parts.specs.declared.parcel.Parcel.TheVariants as parcels
-use Rattle.sock_rule.specs.declared.homes.Letter.{Letter}
-use Rattle.sock_rule.specs.declared.homes.SockHome.{SockHome}
-use Rattle.sock_table.specs.declared.passes.LinkPass.{LinkPass}
-use Rattle.sock_table.specs.Passes.{IsPass}
+use Rattle.write_chain.specs.message_parts.specs.declared.parcel.Parcel.TheVariants as parcels
+use Rattle.write_chain.specs.sock_rule.specs.declared.homes.Letter.{Letter}
+use Rattle.write_chain.specs.sock_rule.specs.declared.homes.SockHome.{SockHome}
+use Rattle.write_chain.specs.sock_table.specs.declared.passes.LinkPass.{LinkPass}
+use Rattle.write_chain.specs.sock_table.specs.Passes.{IsPass}
 use Rattle.rpc_client.specs.declared.acting.Action.{Action}
 use Rattle.rpc_client.specs.declared.acting.Action.TheVariants as action
 use Rattle.rpc_client.specs.declared.acting.Client.{Client}

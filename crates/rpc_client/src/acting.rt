@@ -1,6 +1,6 @@
 // One operation of a client.
 ghost use Rattle.std.specs.Prelude.{◌≡◌, ◌+◌, ◌*◌, ◌<◌, IfOk, IfErr, All, length, vec_len, vec_capacity};
-ghost use Rattle.sock_table.specs.Passes.{IsPass};
+ghost use Rattle.write_chain.specs.sock_table.specs.Passes.{IsPass};
 ghost use Rattle.write_chain.specs.Sending.{HasRoom};
 ghost use Rattle.rpc_client.specs.Seats.{MayAct, AtRest, StaysSeen, SameRefs};
 ghost use Rattle.rpc_client.specs.Sending.{SentBy};
@@ -10,14 +10,14 @@ use crate::failing::fail_one;
 use crate::holding::{Held, drop_one, hold_one};
 use crate::opening::open_one;
 use crate::sending::send_one;
-use message_parts::Parcel;
-use sock_io::Out;
-use sock_message::{BlockPool, Message, NoMemory};
-use sock_rule::{Letter, SockSeat};
-use sock_table::{LinkPass, SockTable};
 use sock_words::{Label, Outcome};
 use std::alloc::Global;
 use std::sync::Wait;
+use write_chain::message_parts::Parcel;
+use write_chain::sock_io::Out;
+use write_chain::sock_message::{BlockPool, Message, NoMemory};
+use write_chain::sock_rule::{Letter, SockSeat};
+use write_chain::sock_table::{LinkPass, SockTable};
 
 /// What a client does with a name.
 #[derive(Debug, Drop)]

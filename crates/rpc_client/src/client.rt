@@ -2,20 +2,20 @@
 ghost use Rattle.std.specs.Prelude.{◌≡◌, ◌<◌, ◌≤◌, ℕ, [], IfOk, IfErr, All, length, reverse};
 ghost use Rattle.atomic_table.specs.Seated.{TableId};
 ghost use Rattle.sock_words.specs.declared.plain.Plan.{Plan};
-ghost use Rattle.sock_table.specs.Passes.{IsPass};
-ghost use Rattle.sock_table.specs.Closed.{IsDoneSeat};
-ghost use Rattle.sock_open.specs.Made.{IsNewSeat};
+ghost use Rattle.write_chain.specs.sock_table.specs.Passes.{IsPass};
+ghost use Rattle.write_chain.specs.sock_table.specs.Closed.{IsDoneSeat};
+ghost use Rattle.write_chain.specs.sock_open.specs.Made.{IsNewSeat};
 ghost use Rattle.rpc_client.specs.Acting.{MayGo};
 ghost use Rattle.rpc_client.specs.Running.{MayMakeAll, RunBy};
 
 use crate::acting::{Client, Operation, Told};
 use crate::running::{give_all, leave_all, make_some};
-use sock_io::{Gate, Out};
-use sock_message::{BlockPool, NoMemory};
-use sock_rule::SockSeat;
-use sock_table::{LinkPass, SockTable};
 use std::alloc::Global;
 use std::sync::Wait;
+use write_chain::sock_io::{Gate, Out};
+use write_chain::sock_message::{BlockPool, NoMemory};
+use write_chain::sock_rule::SockSeat;
+use write_chain::sock_table::{LinkPass, SockTable};
 
 /// There was no memory. All is untouched.
 #[derive(Drop)]

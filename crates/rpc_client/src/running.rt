@@ -1,8 +1,8 @@
 // A client's run.
 ghost use Rattle.std.specs.Prelude.{◌≡◌, ◌+◌, ◌<◌, ◌≤◌, ◌++◌, ℕ, [], Option, IfOk, IfErr, All, drop, length, vec_len, vec_capacity};
 ghost use Rattle.sock_words.specs.declared.outcome.Outcome.{Outcome as AnOutcome};
-ghost use Rattle.sock_table.specs.Passes.{IsPass};
-ghost use Rattle.sock_table.specs.Closed.{IsDoneSeat};
+ghost use Rattle.write_chain.specs.sock_table.specs.Passes.{IsPass};
+ghost use Rattle.write_chain.specs.sock_table.specs.Closed.{IsDoneSeat};
 ghost use Rattle.rpc_client.specs.Seats.{Idle, AtRest, StaysSeen, SameRefs};
 ghost use Rattle.rpc_client.specs.Holding.{IsHolder};
 ghost use Rattle.rpc_client.specs.Acting.{label_of, MayGo, MayMake, ActedBy, stand};
@@ -11,11 +11,11 @@ ghost use Rattle.rpc_client.specs.Running.{telling, MayMakeAll, RanTo, LeftBy, L
 use crate::acting::{Action, Client, Operation, Told, act};
 use crate::holding::{Held, give_back};
 use crate::opening::open_none;
-use sock_io::{Gate, Out};
-use sock_message::NoMemory;
-use sock_rule::SockSeat;
-use sock_table::{LinkPass, SockTable};
 use std::sync::Wait;
+use write_chain::sock_io::{Gate, Out};
+use write_chain::sock_message::NoMemory;
+use write_chain::sock_rule::SockSeat;
+use write_chain::sock_table::{LinkPass, SockTable};
 
 /// An operation is made, and what becomes of it is told.
 fn make<O: Out, R: Wait>(

@@ -3,19 +3,19 @@ ghost use Rattle.std.specs.Prelude.{◌≡◌, ◌+◌, ◌*◌, ◌<◌, []};
 ghost use Rattle.sock_words.specs.Words.{socket_id_slot};
 ghost use Rattle.sock_model.specs.Weights.{is_ref};
 ghost use Rattle.sock_model.specs.SlotRows.{marks_of};
-ghost use Rattle.sock_rule.specs.Seated.{IsSeat};
-ghost use Rattle.sock_table.specs.Answers.{Holds};
+ghost use Rattle.write_chain.specs.sock_rule.specs.Seated.{IsSeat};
+ghost use Rattle.write_chain.specs.sock_table.specs.Answers.{Holds};
 ghost use Rattle.write_chain.specs.Sending.{HasRoom};
 ghost use Rattle.write_chain.specs.Writing.{MayBegin, MayGoOn, GaveUp, Begins};
 ghost use Rattle.rpc_client.specs.Seats.{Idle, MayAct, AtRest, StaysSeen, SameRefs};
 ghost use Rattle.rpc_client.specs.Sending.{WroteAll, RefusedHolds, RefusedAs, sock_of, SeenThrough, DeliveredBy, SentBy};
 
 use crate::reaching::{Reached, reach};
-use sock_io::Out;
-use sock_rule::{Letter, SockSeat};
-use sock_table::{SockRef, SockTable};
 use sock_words::Outcome;
 use std::sync::Wait;
+use write_chain::sock_io::Out;
+use write_chain::sock_rule::{Letter, SockSeat};
+use write_chain::sock_table::{SockRef, SockTable};
 use write_chain::{Kept, Once, Refused, Started, WriteRight, keep_write, start, write_once};
 
 /// Writes until the head is empty, whatever is dropped meanwhile: no message of a call is among it.

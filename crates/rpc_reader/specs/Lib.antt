@@ -9,3 +9,5 @@ pub mod Throwing
 pub mod Running
 pub mod Linked
 pub mod Resting
+pub use Rattle.prpc_frame
+pub use Rattle.rpc_client

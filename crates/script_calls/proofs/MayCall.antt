@@ -15,11 +15,11 @@ use Rattle.sock_programs.specs.Told.{AreTasks, OpFits, TaskFits}
 use Rattle.report_fits.proofs.Lists.{all_from}
 use Rattle.report_fits.proofs.TaskLemmas.{IsTaskOf, numbers_at, of_tasks, has_task, call_asks, tasks_length}
 use Rattle.report_fits.proofs.Tasks.{tasks_of_script}
-use Rattle.table_told.specs.Threads.{link_of, links_of}
+use Rattle.script_threads.specs.table_told.specs.Threads.{link_of, links_of}
 use Rattle.script_threads.proofs.Linked.{links_in, all_links}
-use Rattle.call_client.specs.Acting.{Needs}
-use Rattle.call_client.specs.Running.{left_by, MayMakeAll}
-use Rattle.call_run.specs.Threads.{opens_in, opens_of, opens_of_each, ids_of, MayRun, AllMayRun, MayRunAll}
+use Rattle.call_whys.specs.call_client.specs.Acting.{Needs}
+use Rattle.call_whys.specs.call_client.specs.Running.{left_by, MayMakeAll}
+use Rattle.call_deeds.specs.call_run.specs.Threads.{opens_in, opens_of, opens_of_each, ids_of, MayRun, AllMayRun, MayRunAll}
 
 -- ## The numbers of calls
 

@@ -23,13 +23,13 @@ use Rattle.sock_programs.specs.Tasks.{plan_of, opens, calls}
 use Rattle.sock_programs.specs.Told.{IsTask, Became}
 use Rattle.sock_programs.specs.ToldCalls.{Order}
 use Rattle.expire_told.specs.Said.{WhyExpired}
-use Rattle.sock_deeds.specs.Told.{fixed_by, ToldSockets}
+use Rattle.call_deeds.specs.sock_deeds.specs.Told.{fixed_by, ToldSockets}
 use Rattle.rpc_client.specs.declared.acting.Told.{Told}
 use Rattle.callless_fits.specs.Whole.{IsWholeText, gave_none, unread}
 use Rattle.script_threads.specs.Saying.{said_by_each}
-use Rattle.call_run.specs.Threads.{ids_of, RanOn}
-use Rattle.call_told.specs.Answers.{AreAnsweredBy}
-use Rattle.call_told.specs.Once.{ShownOnce}
+use Rattle.call_deeds.specs.call_run.specs.Threads.{ids_of, RanOn}
+use Rattle.call_whys.specs.call_told.specs.Answers.{AreAnsweredBy}
+use Rattle.call_whys.specs.call_told.specs.Once.{ShownOnce}
 use Rattle.script_calls.specs.Reading.{IdSeat, HasRead}
 
 -- what became of so many operations: by what each client told of its own, of the calls that it ended, and by what was told of those that ended behind them

@@ -10,3 +10,4 @@ mod run;
 
 pub use built::is_runnable;
 pub use run::run_calls_on_threads;
+pub use script_threads;

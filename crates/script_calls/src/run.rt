@@ -9,15 +9,15 @@ ghost use Rattle.sock_io.specs.Causes.{Rose};
 ghost use Rattle.sock_io.specs.Link.{end_of};
 ghost use Rattle.script_links.specs.Given.{AreNumbered, AreUntouched, IsBeginning, has_piece, specs_of};
 ghost use Rattle.sock_programs.specs.Tasks.{plan_of, calls};
-ghost use Rattle.call_run.specs.Crew.{AreLeft};
-ghost use Rattle.call_run.specs.Threads.{ids_of};
+ghost use Rattle.call_deeds.specs.call_run.specs.Crew.{AreLeft};
+ghost use Rattle.call_deeds.specs.call_run.specs.Threads.{ids_of};
 ghost use Rattle.script_calls.specs.Reading.{HasRead};
 ghost use Rattle.script_calls.specs.Told.{IsCallText, IsCallRun, IsLeft, IsReported, outcomes_of};
 
 use crate::asking::{Ready, prepare};
 use crate::reading::read_rest;
 use crate::reporting::{outcomes_of, report};
-use call_run::{NoRun, Ran, run_on};
+use call_deeds::call_run::{NoRun, Ran, run_on};
 use corr_id::{IdSeat, IdTable};
 use rpc_client::Told;
 use script_items::Script;

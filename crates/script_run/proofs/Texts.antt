@@ -21,16 +21,16 @@ use Rattle.sock_programs.specs.Asides.{Taking, AtEnd, Closed, Broken}
 use Rattle.sock_programs.specs.Cores.{Core}
 use Rattle.sock_programs.specs.Scripts.{place_words}
 use Rattle.sock_programs.specs.Tasks.{plan_of}
-use Rattle.client_laws.proofs.Retrying.{retries_go}
-use Rattle.whole_runs.specs.Heard.{as_told, as_taken, take_answers, heard_of, taken_of, heard_takes}
-use Rattle.whole_runs.specs.OfferedRuns.{OffersInRun}
-use Rattle.whole_runs.specs.Over.{IsAllOver}
-use Rattle.whole_runs.proofs.Ended.{run_all_over}
-use Rattle.whole_runs.proofs.Gave.{gave_heard}
-use Rattle.whole_runs.proofs.Lengths.{ended_length}
-use Rattle.whole_runs.proofs.Runs.{run_drops_told}
-use Rattle.whole_runs.proofs.Starts.{made, starts, fitting}
-use Rattle.owed_calls.proofs.Known.{run_owed_of}
+use Rattle.run_laws.specs.client_laws.proofs.Retrying.{retries_go}
+use Rattle.send_causes.specs.whole_runs.specs.Heard.{as_told, as_taken, take_answers, heard_of, taken_of, heard_takes}
+use Rattle.send_causes.specs.whole_runs.specs.OfferedRuns.{OffersInRun}
+use Rattle.send_causes.specs.whole_runs.specs.Over.{IsAllOver}
+use Rattle.send_causes.specs.whole_runs.proofs.Ended.{run_all_over}
+use Rattle.send_causes.specs.whole_runs.proofs.Gave.{gave_heard}
+use Rattle.send_causes.specs.whole_runs.proofs.Lengths.{ended_length}
+use Rattle.send_causes.specs.whole_runs.proofs.Runs.{run_drops_told}
+use Rattle.send_causes.specs.whole_runs.proofs.Starts.{made, starts, fitting}
+use Rattle.send_causes.specs.owed_calls.proofs.Known.{run_owed_of}
 use Rattle.run_laws.proofs.Laws.{keeps_laws}
 use Rattle.report_fits.specs.Ends.{IsEndOf, AreEndsOf, AreTold, EndsEarly}
 use Rattle.report_fits.proofs.Lists.{within, has_from, all_at}

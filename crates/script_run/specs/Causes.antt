@@ -20,8 +20,8 @@ use Rattle.sock_causes.specs.Facts.{broken_of_run, is_said_late, late_of_run, la
 use Rattle.sock_causes.specs.Losses.{lost_in}
 use Rattle.sock_causes.specs.TaskCauses.{ToldTasks, DropsMade}
 use Rattle.sock_causes.proofs.Scripts.{MadeInRun, lost_of_run}
-use Rattle.call_causes.specs.Lists.{attempts_of_run, silent_of_run, soon_of_run}
-use Rattle.whole_runs.specs.Heard.{heard_takes, given_by}
+use Rattle.send_causes.specs.call_causes.specs.Lists.{attempts_of_run, silent_of_run, soon_of_run}
+use Rattle.send_causes.specs.whole_runs.specs.Heard.{heard_takes, given_by}
 
 -- the links that answered that they failed in a run, before its ending and behind it
 abbrev pub broken_of : {script : List Item} {turns : List Turn} {end_ : Core} → IsRunWithCalls script turns end_ → List ℕ

@@ -10,7 +10,7 @@ use Rattle.brpc_model.specs.Link.{LinkEnd}
 use Rattle.sock_io.specs.declared.link.Ends.{Ends}
 use Rattle.sock_io.specs.Link.{OutState, InState, end_of}
 use Rattle.sock_words.specs.declared.plain.Plan.{Plan}
-use Rattle.sock_open.specs.Opening.{AreFresh}
+use Rattle.table_told.specs.sock_open.specs.Opening.{AreFresh}
 use Rattle.script_links.specs.Given.{AreUntouched, AreNumbered}
 use Rattle.script_threads.specs.declared.halves.Rest.{Rest}
 use Rattle.script_threads.specs.Halves.{rest_of, joined}

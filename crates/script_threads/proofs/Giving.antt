@@ -21,9 +21,9 @@ use Rattle.brpc_model.specs.Script.{script_of}
 use Rattle.report_fits.proofs.Tasks.{tasks_of_script}
 use Rattle.sock_programs.specs.Scripts.{all_tasks, is_callless}
 use Rattle.sock_programs.specs.Tasks.{plan_of}
-use Rattle.sock_table.specs.Closed.{ClosedBy}
-use Rattle.rpc_client.specs.declared.acting.Operation.{Operation}
-use Rattle.rpc_client.specs.declared.acting.Told.{Told}
+use Rattle.table_told.specs.sock_table.specs.Closed.{ClosedBy}
+use Rattle.table_told.specs.rpc_client.specs.declared.acting.Operation.{Operation}
+use Rattle.table_told.specs.rpc_client.specs.declared.acting.Told.{Told}
 use Rattle.table_told.specs.Back.{AreBackEnds}
 use Rattle.table_told.specs.Threads.{ThreadRun}
 use Rattle.table_told.proofs.Scripts.{places_of_threads}

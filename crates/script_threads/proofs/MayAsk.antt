@@ -12,18 +12,18 @@ use Rattle.sock_programs.specs.declared.task.Task.{Task}
 use Rattle.sock_programs.specs.Scripts.{all_tasks, is_callless, is_later}
 use Rattle.sock_programs.specs.Tasks.{numbered, plan_of}
 use Rattle.sock_programs.specs.Told.{AreTasks, OpFits, TaskFits}
-use Rattle.sock_open.specs.Opening.{MayBegin}
+use Rattle.table_told.specs.sock_open.specs.Opening.{MayBegin}
 use Rattle.report_fits.proofs.Callless.{not_later}
 use Rattle.report_fits.proofs.Lists.{all_from}
 use Rattle.report_fits.proofs.Numbering.{are_from}
 use Rattle.report_fits.proofs.Sizes.{keeps_limits}
 use Rattle.report_fits.proofs.TaskLemmas.{IsTaskOf, numbers_at, of_tasks, has_task, call_asks, expire_asks, join_asks, tasks_length}
 use Rattle.report_fits.proofs.Tasks.{tasks_of_script}
-use Rattle.rpc_client.specs.declared.acting.Action.{Action}
-use Rattle.rpc_client.specs.declared.acting.Action.TheVariants as action
-use Rattle.rpc_client.specs.declared.acting.Operation.{Operation}
-use Rattle.rpc_client.specs.Acting.{Needs}
-use Rattle.rpc_client.specs.Running.{left_by, MayMakeAll}
+use Rattle.table_told.specs.rpc_client.specs.declared.acting.Action.{Action}
+use Rattle.table_told.specs.rpc_client.specs.declared.acting.Action.TheVariants as action
+use Rattle.table_told.specs.rpc_client.specs.declared.acting.Operation.{Operation}
+use Rattle.table_told.specs.rpc_client.specs.Acting.{Needs}
+use Rattle.table_told.specs.rpc_client.specs.Running.{left_by, MayMakeAll}
 use Rattle.table_told.specs.Threads.{AsksFor, AreAsked, link_of, links_of}
 use Rattle.thread_run.specs.Threads.{opens_in, opens_of, opens_of_each, MayRun, AllMayRun, MayRunAll}
 use Rattle.script_threads.specs.Asked.{IsPlain, IsPlainTask, ArePlain, EachAsked}

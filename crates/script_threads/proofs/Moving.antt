@@ -6,8 +6,8 @@ use Rattle.sock_io.specs.declared.link.Ends.{Ends}
 use Rattle.sock_io.specs.Link.{OutState}
 use Rattle.sock_words.specs.declared.outcome.Outcome.{Outcome}
 use Rattle.sock_programs.specs.declared.task.Task.{Task}
-use Rattle.rpc_client.specs.declared.acting.Operation.{Operation}
-use Rattle.rpc_client.specs.declared.acting.Told.{Told}
+use Rattle.table_told.specs.rpc_client.specs.declared.acting.Operation.{Operation}
+use Rattle.table_told.specs.rpc_client.specs.declared.acting.Told.{Told}
 use Rattle.table_told.specs.Threads.{IsAsked, AreAsked}
 use Rattle.script_threads.specs.declared.halves.Rest.{Rest}
 use Rattle.script_threads.specs.Asked.{EachAsked}

@@ -11,12 +11,12 @@ use Rattle.sock_words.specs.declared.plain.Plan.{Plan}
 use Rattle.brpc_model.specs.Order.{EachBefore}
 use Rattle.sock_programs.specs.declared.task.Task.{Task}
 use Rattle.sock_programs.specs.Told.{AreTasks, TaskFits}
-use Rattle.sock_causes.specs.Stories.{In}
-use Rattle.sock_causes.proofs.Seats.{Less}
-use Rattle.sock_causes.proofs.Tasks.{sorted_of, fits_of, numbers_differ}
+use Rattle.table_told.specs.sock_causes.specs.Stories.{In}
+use Rattle.table_told.specs.sock_causes.proofs.Seats.{Less}
+use Rattle.table_told.specs.sock_causes.proofs.Tasks.{sorted_of, fits_of, numbers_differ}
 use Rattle.report_fits.proofs.Lists.{all_from, all_at, before_from, before_at}
-use Rattle.rpc_client.specs.declared.acting.Told.{Told}
-use Rattle.rpc_client.specs.Running.{telling}
+use Rattle.table_told.specs.rpc_client.specs.declared.acting.Told.{Told}
+use Rattle.table_told.specs.rpc_client.specs.Running.{telling}
 use Rattle.table_told.specs.Moments.{tells, moments_of}
 use Rattle.table_told.specs.Threads.{Threaded, AreOutcomes, tasks_of}
 use Rattle.table_told.proofs.Acts.{map_get, get_map}

@@ -18,13 +18,13 @@ use Rattle.sock_model.specs.declared.view.View.{View}
 use Rattle.sock_programs.specs.declared.task.Op.TheVariants as ops
 use Rattle.sock_programs.specs.declared.task.Task.{Task}
 use Rattle.sock_programs.specs.Told.{AreTasks, IsTask, Became}
-use Rattle.sock_rule.specs.declared.homes.SockHome.{SockHome}
-use Rattle.sock_table.specs.Closed.{ClosedBy}
+use Rattle.table_told.specs.sock_rule.specs.declared.homes.SockHome.{SockHome}
+use Rattle.table_told.specs.sock_table.specs.Closed.{ClosedBy}
 use Rattle.report_fits.proofs.Lists.{has_from}
-use Rattle.rpc_client.specs.declared.acting.Action.{Action}
-use Rattle.rpc_client.specs.declared.acting.Action.TheVariants as action
-use Rattle.rpc_client.specs.declared.acting.Operation.{Operation}
-use Rattle.rpc_client.specs.declared.acting.Told.{Told}
+use Rattle.table_told.specs.rpc_client.specs.declared.acting.Action.{Action}
+use Rattle.table_told.specs.rpc_client.specs.declared.acting.Action.TheVariants as action
+use Rattle.table_told.specs.rpc_client.specs.declared.acting.Operation.{Operation}
+use Rattle.table_told.specs.rpc_client.specs.declared.acting.Told.{Told}
 use Rattle.table_told.specs.Threads.{Threaded, ThreadRun, AreAsked, AsksFor, links_of, tasks_of}
 use Rattle.table_told.proofs.Flats.{append_later}
 use Rattle.table_told.proofs.OneThread.{asked_of}

@@ -9,7 +9,7 @@ use lib.ListN.{get_elem?}
 use Rattle.sock_words.specs.declared.outcome.Outcome.{Outcome}
 use Rattle.brpc_model.specs.Order.{EachBefore}
 use Rattle.report_fits.proofs.Lists.{all_map, all_at}
-use Rattle.rpc_client.specs.declared.acting.Told.{Told}
+use Rattle.table_told.specs.rpc_client.specs.declared.acting.Told.{Told}
 use Rattle.script_threads.specs.Saying.{said_by, said_by_each}
 
 -- ## One place of a list

@@ -9,7 +9,7 @@ use Rattle.sock_words.specs.declared.plain.Plan.{Plan}
 use Rattle.sock_model.specs.declared.view.View.{View}
 use Rattle.sock_programs.specs.declared.task.Task.{Task}
 use Rattle.sock_programs.specs.Runs.{from_to}
-use Rattle.sock_table.specs.declared.passes.LinkPass.{LinkPass}
+use Rattle.table_told.specs.sock_table.specs.declared.passes.LinkPass.{LinkPass}
 use Rattle.table_told.specs.Threads.{Thread, FoundEach, IsThread, Threaded, AreAsked, links_of, tasks_of, seat_of}
 use Rattle.thread_run.specs.Threads.{LinksDown, AreThreads}
 use Rattle.thread_run.specs.Threads.{Thread as Run, FoundEach as WaitedEach, IsThread as HasRun}

@@ -4,7 +4,7 @@ use Rattle.std.specs.List.{AllByRecursion}
 use Rattle.sock_programs.specs.declared.task.Op.{Op}
 use Rattle.sock_programs.specs.declared.task.Op.TheVariants as ops
 use Rattle.sock_programs.specs.declared.task.Task.{Task}
-use Rattle.rpc_client.specs.declared.acting.Operation.{Operation}
+use Rattle.table_told.specs.rpc_client.specs.declared.acting.Operation.{Operation}
 use Rattle.table_told.specs.Threads.{AreAsked}
 
 -- what a thread can be asked for

@@ -4,3 +4,5 @@ pub mod Halves
 pub mod Ready
 pub mod Saying
 pub mod Told
+pub use Rattle.table_told
+pub use Rattle.thread_run

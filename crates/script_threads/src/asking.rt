@@ -6,13 +6,13 @@ ghost use Rattle.brpc_model.specs.Script.{script_of};
 ghost use Rattle.table_told.specs.Threads.{IsAsked, AreAsked};
 ghost use Rattle.script_threads.specs.Asked.{IsPlainTask, ArePlain, EachAsked};
 
-use rpc_client::{Action, Operation};
 use script_items::Script;
 use script_tasks::{BlockPool, NoMemory, tasks_of};
 use sock_message::Message;
 use sock_programs::{Op, Task};
 use std::alloc::{AllocError, Global};
 use std::collections::VecDeque;
+use table_told::rpc_client::{Action, Operation};
 
 /// The bytes of a message.
 fn bytes_of(alloc: Global, message: Message) -> Result<Vec<u8>, AllocError>

@@ -1,6 +1,6 @@
 // The halves of links: the writing halves go to the threads, and the others wait.
 ghost use Rattle.std.specs.Prelude.{◌≡◌, ◌≤◌, ◌+◌, [], ℕ, List, length, map, IfOk, IfSome};
-ghost use Rattle.sock_open.specs.Opening.{IsRoom};
+ghost use Rattle.table_told.specs.sock_open.specs.Opening.{IsRoom};
 ghost use Rattle.script_threads.specs.Halves.{rest_of, joined, AreTaken, HasRoomFor};
 
 use sock_io::{Ends, In, Out, Peer};

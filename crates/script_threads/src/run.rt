@@ -18,7 +18,6 @@ ghost use Rattle.script_threads.specs.Told.{IsThreadText};
 use crate::asking::asked_by;
 use crate::halves::{Halves, join, part, room_for, taken_by};
 use crate::saying::said_of;
-use rpc_client::{Operation, Told};
 use script_items::Script;
 use script_links::{give_back, open_links};
 use script_report::print_report;
@@ -28,6 +27,7 @@ use sock_words::{PlaceWord, Plan};
 use std::alloc::{AllocError, Global};
 use std::sync::Wait;
 use std::thread::Threads;
+use table_told::rpc_client::{Operation, Told};
 use thread_run::{NoRun, Ran, run_on};
 
 /// All that a run needs besides its links.

@@ -3,9 +3,9 @@ ghost use Rattle.std.specs.Prelude.{◌≡◌, ℕ, List, Option, Some, None, ma
 ghost use Rattle.sock_words.specs.declared.outcome.Outcome.{Outcome};
 ghost use Rattle.script_threads.specs.Saying.{said_by, said_by_each};
 
-use rpc_client::Told;
 use sock_words::Outcome;
 use std::alloc::{AllocError, Global};
+use table_told::rpc_client::Told;
 
 /// So many operations of which nothing is told.
 fn untold(alloc: Global, operations: u16) -> Result<Vec<Option<Outcome>>, AllocError>

@@ -1,2 +1,3 @@
 pub mod Points
 pub mod Steps
+pub use Rattle.sock_runs

@@ -8,10 +8,10 @@ use Rattle.sock_programs.specs.Cores.{Core}
 use Rattle.sock_programs.specs.Tasks.{plan_of}
 use Rattle.sock_programs.specs.Scripts.{all_tasks, IsRunWithCalls}
 use Rattle.sock_programs.specs.ToldCalls.{ToldCalls}
-use Rattle.joint_runs.proofs.Runs.{AreMade}
+use Rattle.call_causes.specs.joint_runs.proofs.Runs.{AreMade}
 use Rattle.report_fits.proofs.Reading.{InRange}
 use Rattle.report_fits.proofs.Targets.{AreThere}
-use Rattle.owed_calls.specs.Lives.{ClosesInRun}
+use Rattle.call_causes.specs.owed_calls.specs.Lives.{ClosesInRun}
 use Rattle.call_causes.specs.Lists.{given}
 use Rattle.send_causes.proofs.Assembled.{last_in_run, fixed_in_run, orders_in_run, told_calls}
 use Rattle.send_causes.proofs.Assembled as assembled

@@ -21,13 +21,13 @@ use Rattle.sock_causes.specs.PlainTasks.{told_tasks_of}
 use Rattle.sock_causes.proofs.Lifted.{made_up}
 use Rattle.sock_causes.proofs.Members.{contains_in}
 use Rattle.sock_causes.proofs.Tasks.{one_task}
-use Rattle.client_laws.specs.Openings.{all_seats}
-use Rattle.client_laws.proofs.Fresh.{opening_fresh}
-use Rattle.joint_runs.proofs.Runs.{AreMade, first_views}
+use Rattle.call_causes.specs.client_laws.specs.Openings.{all_seats}
+use Rattle.call_causes.specs.client_laws.proofs.Fresh.{opening_fresh}
+use Rattle.call_causes.specs.joint_runs.proofs.Runs.{AreMade, first_views}
 use Rattle.report_fits.proofs.Reading.{InRange}
 use Rattle.report_fits.proofs.Targets.{AreThere}
-use Rattle.owed_calls.specs.Lives.{ClosesInRun}
-use Rattle.owed_calls.proofs.Known.{run_all_rest}
+use Rattle.call_causes.specs.owed_calls.specs.Lives.{ClosesInRun}
+use Rattle.call_causes.specs.owed_calls.proofs.Known.{run_all_rest}
 use Rattle.call_causes.specs.Lists.{attempts_of_run}
 use Rattle.send_causes.proofs.Apart as apart
 use Rattle.send_causes.proofs.Early.{start, go, fitting}

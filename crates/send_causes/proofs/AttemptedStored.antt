@@ -33,9 +33,9 @@ use Rattle.sock_runs.proofs.Quiets.{ticked_rests, run_rests, run_seats}
 use Rattle.sock_runs.proofs.Whole.{views_played, views_closed, set_up_answered, end_answered}
 use Rattle.sock_causes.proofs.Final.{at_there}
 use Rattle.sock_causes.proofs.Ticks.{elem_there}
-use Rattle.client_laws.proofs.Lasting.{length_all}
-use Rattle.joint_runs.proofs.Both.{BothSound, AreBoth, behind_both}
-use Rattle.joint_runs.proofs.Runs.{AreMade, first_views, joint_runs}
+use Rattle.call_causes.specs.client_laws.proofs.Lasting.{length_all}
+use Rattle.call_causes.specs.joint_runs.proofs.Both.{BothSound, AreBoth, behind_both}
+use Rattle.call_causes.specs.joint_runs.proofs.Runs.{AreMade, first_views, joint_runs}
 use Rattle.report_fits.proofs.Reading.{InRange}
 use Rattle.report_fits.proofs.Targets.{AreThere}
 use Rattle.call_causes.specs.Lists.{given, advanced_at}
@@ -56,8 +56,8 @@ use Rattle.send_causes.specs.Counts.{word_of_id, StoresOwn, AreLabelled}
 use Rattle.send_causes.proofs.Early.{start, go, fitting}
 use Rattle.send_causes.proofs.Runs.{AreLabelledIn, IsCallOf}
 use Rattle.send_causes.proofs.Sends.{opening_claims}
-use Rattle.client_laws.specs.Openings.{all_seats}
-use Rattle.client_laws.proofs.Fresh.{opening_fresh}
+use Rattle.call_causes.specs.client_laws.specs.Openings.{all_seats}
+use Rattle.call_causes.specs.client_laws.proofs.Fresh.{opening_fresh}
 use Rattle.send_causes.proofs.AttemptedBegin.{asked_by}
 use Rattle.send_causes.proofs.AttemptedWords.{Rise, AdvancesAt, is_new, is_same, is_more, tick_rises}
 use Rattle.send_causes.proofs.AttemptedIds.{AdvancesId, AreRising, AreRisingIn}
@@ -70,7 +70,7 @@ use Rattle.send_causes.proofs.AttemptedCalls.{AreStored}
 use Rattle.send_causes.proofs.AttemptedFacts.{IsStoring, IsOwn, facts}
 use Rattle.send_causes.proofs.AttemptedOwn.{IsTrueOf, CallLaw, beside, own_ticks}
 use Rattle.sock_runs.proofs.Opening.{mapped}
-use Rattle.joint_runs.proofs.Starts.{narrow}
+use Rattle.call_causes.specs.joint_runs.proofs.Starts.{narrow}
 
 -- the id that an at word names
 named_id : (id k n w : ℕ) → w ≡ at_word (id_first id) (id_slot id) k n → k < 65535 → n ≤ 6 → id_slot id < 65536 → call_id (at_word_slot w) (at_word_first w) ≡ id

@@ -32,7 +32,7 @@ use Rattle.sock_programs.specs.Programs.{Program, Do, Say, Sent, Rest, TakeMessa
 use Rattle.sock_programs.specs.Rounds.{round}
 use Rattle.sock_programs.specs.Sends.{block}
 use Rattle.sock_programs.specs.Ticks.{Answer, Unasked, OfPut, OfReady, OfTake, Moment, taken, with_message, with_link, with_put, with_ready, with_found, step_with, tick_with, ticked}
-use Rattle.owed_calls.proofs.EndsStill.{view_of}
+use Rattle.call_causes.specs.owed_calls.proofs.EndsStill.{view_of}
 use Rattle.call_causes.specs.Lists.{advances_by, called_at, advanced_with, advanced_at}
 use Rattle.send_causes.specs.Counts.{word_of_id}
 

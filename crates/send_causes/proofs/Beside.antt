@@ -15,10 +15,10 @@ use Rattle.sock_runs.specs.Sound.{state}
 use Rattle.sock_runs.proofs.Whole.{views_played}
 use Rattle.sock_causes.specs.Facts.{CallsFoundNone, ToldPlain, last_attempt, closed_before_ending}
 use Rattle.sock_causes.specs.Stories.{In}
-use Rattle.client_laws.specs.Openings.{all_seats}
-use Rattle.client_laws.proofs.Fresh.{opening_fresh}
-use Rattle.joint_runs.proofs.Runs.{AreMade, first_views}
-use Rattle.owed_calls.specs.Lives.{ClosesInRun}
+use Rattle.call_causes.specs.client_laws.specs.Openings.{all_seats}
+use Rattle.call_causes.specs.client_laws.proofs.Fresh.{opening_fresh}
+use Rattle.call_causes.specs.joint_runs.proofs.Runs.{AreMade, first_views}
+use Rattle.call_causes.specs.owed_calls.specs.Lives.{ClosesInRun}
 use Rattle.whole_runs.specs.Heard.{heard_takes, given_by}
 use Rattle.call_causes.specs.Lists.{early_of_run, closed_of_run, silent_of_run, soon_of_run}
 use Rattle.send_causes.specs.Sent.{IsAttempt}

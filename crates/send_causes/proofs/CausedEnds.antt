@@ -25,10 +25,10 @@ use Rattle.sock_programs.specs.Scripts.{all_tasks, IsRunWithCalls}
 use Rattle.sock_programs.specs.Told.{IsTask, Became}
 use Rattle.sock_programs.specs.ToldCalls.{Fixed, Order, Gave, IsResponse, IsUnordered, StandsOn, WasFull, IsFailing, MayBeOn, EndedWith}
 use Rattle.sock_causes.specs.Stories.{In}
-use Rattle.joint_runs.proofs.Runs.{AreMade}
+use Rattle.call_causes.specs.joint_runs.proofs.Runs.{AreMade}
 use Rattle.report_fits.proofs.Reading.{InRange}
 use Rattle.report_fits.proofs.Targets.{AreThere}
-use Rattle.owed_calls.specs.Lives.{ClosesInRun}
+use Rattle.call_causes.specs.owed_calls.specs.Lives.{ClosesInRun}
 use Rattle.whole_runs.proofs.Gave.{gave_heard}
 use Rattle.call_causes.specs.Decided.{posted_by, decided_by}
 use Rattle.call_causes.specs.Lists.{given, shows_in_run}

@@ -11,7 +11,7 @@ use Rattle.sock_programs.specs.Tasks.{plan_of}
 use Rattle.sock_programs.specs.Scripts.{all_tasks, IsRunWithCalls}
 use Rattle.sock_programs.specs.Told.{AskedFits, OpFits, TaskFits, IsTask}
 use Rattle.sock_causes.proofs.Members.{all_in, contains_in, get_all}
-use Rattle.joint_runs.proofs.Runs.{AreMade}
+use Rattle.call_causes.specs.joint_runs.proofs.Runs.{AreMade}
 use Rattle.report_fits.proofs.Reading.{InRange}
 use Rattle.report_fits.proofs.Targets.{AreThere}
 use Rattle.call_causes.specs.Lists.{attempts_of_run}

@@ -22,7 +22,7 @@ use Rattle.id_runs.specs.Goes.{first_of}
 use Rattle.sock_causes.specs.Stories.{In}
 use Rattle.sock_causes.proofs.Members.{in_contains}
 use Rattle.sock_causes.proofs.Plain.{in_left, in_right, in_both}
-use Rattle.joint_runs.proofs.Runs.{AreMade, first_views}
+use Rattle.call_causes.specs.joint_runs.proofs.Runs.{AreMade, first_views}
 use Rattle.call_causes.specs.Lists.{shows_in, shows_in_run}
 use Rattle.call_causes.specs.Posts.{Post, posted_with, posted_at}
 use Rattle.call_causes.specs.Decided.{posted_by}

@@ -42,10 +42,10 @@ use Rattle.sock_causes.proofs.Runs.{Goes as ToldGoes}
 use Rattle.sock_causes.proofs.Scripts.{seats, ended_told, final_told, story_end}
 use Rattle.sock_causes.proofs.Senders.{sent_stands}
 use Rattle.sock_causes.proofs.Ticks.{elem_there}
-use Rattle.client_laws.specs.Openings.{all_seats}
-use Rattle.client_laws.proofs.Fresh.{opening_fresh}
-use Rattle.joint_runs.proofs.Runs.{AreMade, first_views}
-use Rattle.owed_calls.specs.Lives.{ClosesInRun}
+use Rattle.call_causes.specs.client_laws.specs.Openings.{all_seats}
+use Rattle.call_causes.specs.client_laws.proofs.Fresh.{opening_fresh}
+use Rattle.call_causes.specs.joint_runs.proofs.Runs.{AreMade, first_views}
+use Rattle.call_causes.specs.owed_calls.specs.Lives.{ClosesInRun}
 use Rattle.call_causes.specs.Lists.{shows_in}
 use Rattle.call_causes.specs.Posts.{Post}
 use Rattle.send_causes.specs.EndedCalls.{Store, stored_at, stores_of_run, loads_of_run, IsEndPost}

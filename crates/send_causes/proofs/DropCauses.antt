@@ -18,8 +18,8 @@ use Rattle.sock_programs.specs.ToldCalls.{Accepted, Order, Fixed, StandsAt, IsSe
 use Rattle.sock_causes.specs.Causes.{Asks}
 use Rattle.sock_causes.proofs.Members.{all_in, contains_in, get_all, get_within}
 use Rattle.sock_causes.proofs.Tasks.{one_link, one_task}
-use Rattle.joint_runs.proofs.Runs.{AreMade}
-use Rattle.owed_calls.specs.Lives.{ClosesInRun}
+use Rattle.call_causes.specs.joint_runs.proofs.Runs.{AreMade}
+use Rattle.call_causes.specs.owed_calls.specs.Lives.{ClosesInRun}
 use Rattle.call_causes.specs.Posts.{Post}
 use Rattle.call_causes.proofs.Clients.{FitsOp}
 use Rattle.call_causes.proofs.Scripts.{begins}

@@ -28,9 +28,9 @@ use Rattle.sock_runs.proofs.Whole.{closing_of, views_played, views_closed, views
 use Rattle.sock_causes.specs.Causes.{WasGiven}
 use Rattle.sock_causes.specs.Stories.{In}
 use Rattle.sock_causes.proofs.Members.{in_contains}
-use Rattle.joint_runs.proofs.Runs.{AreMade, first_views}
-use Rattle.owed_calls.specs.Lives.{ClosesInRun}
-use Rattle.owed_calls.proofs.WordsGiven.{Named, IsOfLink, run_named, named_ending, named_on}
+use Rattle.call_causes.specs.joint_runs.proofs.Runs.{AreMade, first_views}
+use Rattle.call_causes.specs.owed_calls.specs.Lives.{ClosesInRun}
+use Rattle.call_causes.specs.owed_calls.proofs.WordsGiven.{Named, IsOfLink, run_named, named_ending, named_on}
 use Rattle.call_causes.specs.Lists.{given}
 use Rattle.call_causes.specs.Posts.{Post}
 use Rattle.send_causes.specs.PostCauses.{PostCause, OfFault}

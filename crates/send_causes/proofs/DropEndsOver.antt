@@ -32,8 +32,8 @@ use Rattle.sock_causes.specs.Causes.{WasGiven}
 use Rattle.sock_causes.proofs.Final.{at_there}
 use Rattle.sock_causes.proofs.Members.{contains_in}
 use Rattle.sock_causes.proofs.Tasks.{one_task}
-use Rattle.joint_runs.proofs.Runs.{AreMade, first_views}
-use Rattle.owed_calls.specs.Lives.{ClosesInRun}
+use Rattle.call_causes.specs.joint_runs.proofs.Runs.{AreMade, first_views}
+use Rattle.call_causes.specs.owed_calls.specs.Lives.{ClosesInRun}
 use Rattle.call_causes.specs.Lists.{given, early_of_run, closed_of_run, silent_of_run}
 use Rattle.call_causes.specs.Posts.{Post}
 use Rattle.send_causes.specs.PostCauses.{PostCause, OfEnd}

@@ -29,8 +29,8 @@ use Rattle.sock_runs.specs.Sound.{views_along}
 use Rattle.sock_runs.proofs.Opening.{mapped}
 use Rattle.sock_runs.proofs.Whole.{IsListed, closing_of, rested_of, views_played, views_closed, set_up_answered, end_answered, set_up_sound, closing_sound, closed_sound, recorded_opened, recorded_set_up, recorded_closing, recorded_closed}
 use Rattle.sock_causes.specs.Stories.{In}
-use Rattle.client_laws.proofs.Beginning as clients_begin
-use Rattle.joint_runs.proofs.Runs.{AreMade, first_views}
+use Rattle.call_causes.specs.client_laws.proofs.Beginning as clients_begin
+use Rattle.call_causes.specs.joint_runs.proofs.Runs.{AreMade, first_views}
 use Rattle.send_causes.specs.Refused.{DidStep, DidEarly, DidInRun}
 use Rattle.send_causes.proofs.DropCodes.{NoFail, Stores, OwnsFail, client_codes, ending_codes, codes_next}
 use Rattle.send_causes.proofs.DropEnds.{StoresThose, EndsLaw, EndsAlong, Whose, ends_along}

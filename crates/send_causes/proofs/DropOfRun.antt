@@ -59,10 +59,10 @@ use Rattle.sock_causes.proofs.Lifted.{up, task_up, made_up, made_down}
 use Rattle.sock_causes.proofs.Lives.{World, birth_means, task_of, given_made, one_life, odd_means, odd_life, fail_says}
 use Rattle.sock_causes.proofs.Members.{all_in, contains_in, in_contains}
 use Rattle.sock_causes.proofs.Tasks.{one_task}
-use Rattle.client_laws.specs.Openings.{all_seats}
-use Rattle.client_laws.proofs.Fresh.{opening_fresh}
-use Rattle.joint_runs.proofs.Runs.{AreMade, first_views, joint_runs, joint_bounded}
-use Rattle.owed_calls.specs.Lives.{ClosesInRun}
+use Rattle.call_causes.specs.client_laws.specs.Openings.{all_seats}
+use Rattle.call_causes.specs.client_laws.proofs.Fresh.{opening_fresh}
+use Rattle.call_causes.specs.joint_runs.proofs.Runs.{AreMade, first_views, joint_runs, joint_bounded}
+use Rattle.call_causes.specs.owed_calls.specs.Lives.{ClosesInRun}
 use Rattle.call_causes.specs.Posts.{Post}
 use Rattle.send_causes.specs.Refused.{Deed, DidStep, DidRound, DidInRun, IsDrop}
 use Rattle.send_causes.proofs.Beside.{gave_of_run, fixed_of_run, orders_here}

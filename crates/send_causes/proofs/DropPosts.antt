@@ -7,8 +7,8 @@ use Rattle.sock_message.specs.Asked.{Asked}
 use Rattle.sock_programs.specs.Cores.{Core}
 use Rattle.sock_programs.specs.Scripts.{IsRunWithCalls}
 use Rattle.sock_causes.specs.Stories.{In}
-use Rattle.joint_runs.proofs.Runs.{AreMade}
-use Rattle.owed_calls.specs.Lives.{ClosesInRun}
+use Rattle.call_causes.specs.joint_runs.proofs.Runs.{AreMade}
+use Rattle.call_causes.specs.owed_calls.specs.Lives.{ClosesInRun}
 use Rattle.call_causes.specs.Decided.{posted_by}
 use Rattle.call_causes.specs.Lists.{shows_in_run}
 use Rattle.call_causes.specs.Posts.{Post}

@@ -42,7 +42,7 @@ use Rattle.label_runs.specs.Labels.{Trial}
 use Rattle.send_causes.specs.Counts.{LabelLaw, StoresOwn, AreLabelled}
 use Rattle.id_runs.specs.Goes.{SoundIds, IsFittingIds}
 use Rattle.id_runs.specs.Held.{IdView}
-use Rattle.joint_runs.proofs.Both.{AreBounded}
+use Rattle.call_causes.specs.joint_runs.proofs.Both.{AreBounded}
 use Rattle.send_causes.specs.Refused.{Deed, DidStep, DidRound, DidAt, DidIn}
 use Rattle.send_causes.proofs.DropPlaces.{log_calls, in_hand, place_stays}
 use Rattle.send_causes.proofs.DropTicks.{IsKnown, CodesLaw, known_later, codes_ticks}

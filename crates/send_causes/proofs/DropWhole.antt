@@ -41,7 +41,7 @@ use Rattle.sock_causes.proofs.Members.{all_of}
 use Rattle.sock_causes.proofs.Openings.{are_seats, all_explained}
 use Rattle.sock_causes.proofs.Runs.{set_up_over, ending_story, is_ending_story}
 use Rattle.sock_causes.proofs.Scripts.{own_from}
-use Rattle.joint_runs.proofs.Both.{AreBounded}
+use Rattle.call_causes.specs.joint_runs.proofs.Both.{AreBounded}
 use Rattle.send_causes.specs.Refused.{Deed, DidInRun}
 use Rattle.send_causes.proofs.DropCodes.{Failing, NoFail, Stores, OwnsFail, IsOtherCode, client_codes, ending_codes, reader_codes, codes_next}
 use Rattle.send_causes.proofs.DropRuns.{Tells, tells_on, Scene, Along, seats_along, setup_along}

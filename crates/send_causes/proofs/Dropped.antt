@@ -154,7 +154,7 @@ module _ (p : Plan) (calls os : List ℕ) (in_os : (k o : ℕ) → get_elem? os 
   resting_places l low [] c vs taken sound answered fitting recorded lasting ahead rests k = refl
   resting_places l low (m ∷ ms) c vs taken sound answered fitting recorded lasting ahead rests k =
       resting_places l low ms (ticked p c m) (views_after p c vs m) _ (sound_ticks p go c vs m sound answered.0 fitting.0) answered.1 fitting.1 (recorded_ticks p Q c vs m sound answered.0 fitting.0 recorded)
-      (λ e. lasting (sym (Rattle.owed_calls.proofs.EndsStill.run_ending p c (m ∷ [])) ∙ e)) (ticked_ahead p c m ahead) (λ j less inside. ticked_rests p c m j (rests j less (let s = ticked_seats p c m in omega (arith, inside, s))))
+      (λ e. lasting (sym (Rattle.call_causes.specs.owed_calls.proofs.EndsStill.run_ending p c (m ∷ [])) ∙ e)) (ticked_ahead p c m ahead) (λ j less inside. ticked_rests p c m j (rests j less (let s = ticked_seats p c m in omega (arith, inside, s))))
       (keeps_along p calls os in_os Odd Lasts ends Q go (m ∷ []) c vs taken sound (answered.0, tt) (fitting.0, tt) recorded lasting k)
       ∙ places_ticks p l low c vs m sound answered.0 fitting.0 none_
     where

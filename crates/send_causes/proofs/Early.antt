@@ -50,15 +50,15 @@ use Rattle.sock_causes.specs.Losses.{lost_by, closed_at}
 use Rattle.sock_causes.specs.Stories.{In}
 use Rattle.sock_causes.proofs.Members.{in_contains}
 use Rattle.sock_causes.proofs.Plain.{in_left, in_right, in_both}
-use Rattle.client_laws.proofs.Beginning as clients_begin
-use Rattle.client_laws.specs.Openings.{links_of_all, without_passes, client_view, opening_views, all_seats}
-use Rattle.client_laws.proofs.Retrying.{retries_go}
-use Rattle.joint_runs.proofs.Runs.{AreMade, first_views, begins, are_fitting_in, joint_runs}
-use Rattle.owed_calls.proofs.EndsStill.{run_ending}
-use Rattle.owed_calls.proofs.Known.{known_of}
-use Rattle.owed_calls.proofs.Owed.{IsKnown, tasks_own, opened_seats}
-use Rattle.owed_calls.proofs.OpensStored.{place_at}
-use Rattle.owed_calls.proofs.WordsGiven.{Named, names_others, beginning_named, run_named}
+use Rattle.call_causes.specs.client_laws.proofs.Beginning as clients_begin
+use Rattle.call_causes.specs.client_laws.specs.Openings.{links_of_all, without_passes, client_view, opening_views, all_seats}
+use Rattle.call_causes.specs.client_laws.proofs.Retrying.{retries_go}
+use Rattle.call_causes.specs.joint_runs.proofs.Runs.{AreMade, first_views, begins, are_fitting_in, joint_runs}
+use Rattle.call_causes.specs.owed_calls.proofs.EndsStill.{run_ending}
+use Rattle.call_causes.specs.owed_calls.proofs.Known.{known_of}
+use Rattle.call_causes.specs.owed_calls.proofs.Owed.{IsKnown, tasks_own, opened_seats}
+use Rattle.call_causes.specs.owed_calls.proofs.OpensStored.{place_at}
+use Rattle.call_causes.specs.owed_calls.proofs.WordsGiven.{Named, names_others, beginning_named, run_named}
 use Rattle.whole_runs.specs.Heard.{as_taken, bytes_found, taken_link, taken_at, taken_in, heard_takes, given_by}
 use Rattle.whole_runs.proofs.HeardRuns.{taken_append}
 use Rattle.send_causes.proofs.Faults.{Faults, fault_stays}

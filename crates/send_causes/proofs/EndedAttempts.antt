@@ -35,10 +35,10 @@ use Rattle.sock_causes.proofs.Lifted.{up, made_up}
 use Rattle.sock_causes.proofs.Members.{in_contains, contains_in}
 use Rattle.sock_causes.proofs.Plain.{in_both}
 use Rattle.sock_causes.proofs.Tasks.{one_task}
-use Rattle.client_laws.specs.Openings.{all_seats}
-use Rattle.client_laws.proofs.Fresh.{opening_fresh}
-use Rattle.joint_runs.proofs.Runs.{AreMade, first_views}
-use Rattle.owed_calls.specs.Lives.{ClosesInRun}
+use Rattle.call_causes.specs.client_laws.specs.Openings.{all_seats}
+use Rattle.call_causes.specs.client_laws.proofs.Fresh.{opening_fresh}
+use Rattle.call_causes.specs.joint_runs.proofs.Runs.{AreMade, first_views}
+use Rattle.call_causes.specs.owed_calls.specs.Lives.{ClosesInRun}
 use Rattle.whole_runs.proofs.Gave.{gave_heard}
 use Rattle.call_causes.specs.Lists.{shows_in}
 use Rattle.call_causes.specs.Posts.{Post}

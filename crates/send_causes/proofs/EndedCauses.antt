@@ -16,8 +16,8 @@ use Rattle.sock_programs.specs.ToldCalls.{MayBeOn, IsFailing, FailedBy, ByFrameF
 use Rattle.sock_causes.specs.Stories.{In}
 use Rattle.sock_causes.proofs.Members.{contains_in}
 use Rattle.sock_causes.proofs.Tasks.{one_task}
-use Rattle.joint_runs.proofs.Runs.{AreMade}
-use Rattle.owed_calls.specs.Lives.{ClosesInRun}
+use Rattle.call_causes.specs.joint_runs.proofs.Runs.{AreMade}
+use Rattle.call_causes.specs.owed_calls.specs.Lives.{ClosesInRun}
 use Rattle.call_causes.specs.Lists.{early_of_run, closed_of_run, silent_of_run}
 use Rattle.call_causes.specs.Posts.{Post, posts_of_run}
 use Rattle.send_causes.specs.EndedCalls.{reader_posts_of_run, client_posts_of_run, EndedSo}

@@ -31,10 +31,10 @@ use Rattle.sock_causes.proofs.Final.{at_there}
 use Rattle.sock_causes.proofs.Members.{contains_in}
 use Rattle.sock_causes.proofs.Plain.{in_left, in_right, in_both}
 use Rattle.sock_causes.proofs.Ticks.{elem_there}
-use Rattle.joint_runs.proofs.Runs.{AreMade, first_views}
+use Rattle.call_causes.specs.joint_runs.proofs.Runs.{AreMade, first_views}
 use Rattle.label_runs.specs.Labels.{Trial, Idle, Labels}
 use Rattle.label_runs.proofs.Programs.{OpCalls, client_goes, ending_goes, reader_goes}
-use Rattle.owed_calls.specs.Lives.{ClosesInRun}
+use Rattle.call_causes.specs.owed_calls.specs.Lives.{ClosesInRun}
 use Rattle.call_causes.specs.Lists.{shows_in}
 use Rattle.send_causes.specs.Counts.{of_retry, AreLabelled}
 use Rattle.send_causes.specs.EndedCalls.{Store, stored_at, stores_of_run, AreStoredOnce}

@@ -25,7 +25,7 @@ use Rattle.sock_programs.specs.Cores.{Core, SeatState, word_of, found_at, waitin
 use Rattle.sock_programs.specs.Ticks.{Answer, Unasked, OfPut, OfReady, OfTake, Moment, taken, with_message, with_link, with_put, with_ready, with_found, step_with, tick_with, ticked}
 use Rattle.sock_runs.specs.Sound.{first_step}
 use Rattle.sock_causes.specs.Stories.{In}
-use Rattle.owed_calls.proofs.OwingRuns.{same_first}
+use Rattle.call_causes.specs.owed_calls.proofs.OwingRuns.{same_first}
 use Rattle.whole_runs.specs.Heard.{as_taken, taken_link}
 use Rattle.call_causes.specs.Posts.{Post, posts_by, posted_with, posted_at}
 use Rattle.send_causes.specs.EndedCalls.{Load, loaded_with, loaded_at}

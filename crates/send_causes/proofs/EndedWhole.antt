@@ -35,10 +35,10 @@ use Rattle.sock_causes.specs.Stories.{In}
 use Rattle.sock_causes.proofs.Lifted.{filtered_in}
 use Rattle.sock_causes.proofs.Members.{in_contains}
 use Rattle.sock_causes.proofs.Plain.{in_left, in_right, in_both}
-use Rattle.client_laws.proofs.Beginning as clients_begin
-use Rattle.client_laws.specs.Openings.{all_seats}
-use Rattle.joint_runs.proofs.Runs.{AreMade, first_views}
-use Rattle.owed_calls.proofs.Owed.{opened_seats}
+use Rattle.call_causes.specs.client_laws.proofs.Beginning as clients_begin
+use Rattle.call_causes.specs.client_laws.specs.Openings.{all_seats}
+use Rattle.call_causes.specs.joint_runs.proofs.Runs.{AreMade, first_views}
+use Rattle.call_causes.specs.owed_calls.proofs.Owed.{opened_seats}
 use Rattle.whole_runs.specs.Heard.{as_taken, bytes_found, taken_in, heard_takes, given_by}
 use Rattle.whole_runs.proofs.Gave.{gave_heard}
 use Rattle.whole_runs.proofs.HeardRuns.{taken_append}

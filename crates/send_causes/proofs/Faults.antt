@@ -5,7 +5,7 @@ use Rattle.brpc_model.specs.Meta.{Meta, MetaFault, read_meta}
 use Rattle.brpc_model.specs.Frame.{Frame, FrameFault, BadMagic, TooBig, MetaOver, AttachOver, Judged, NoneYet, Faulty, Begins, high_first, matching, body_limit, with_attachment, body_judged, judged}
 use Rattle.brpc_model.specs.Stream.{Stream, Rest, Fault, goes_on, stream_up_to, stream_from}
 use Rattle.brpc_model.proofs.Streams.{stream_goes_on}
-use Rattle.prpc_frame.proofs.Lasting.{stays}
+use Rattle.call_causes.specs.prpc_frame.proofs.Lasting.{stays}
 use Rattle.sock_programs.specs.Readers.{last_of}
 
 -- ## The room of a frame

@@ -13,7 +13,7 @@ use Rattle.sock_programs.specs.Cores.{Core, SeatState}
 use Rattle.sock_programs.specs.Ticks.{Moment, AreAnswered, ticked, run}
 use Rattle.sock_runs.specs.Sound.{first_step, views_after}
 use Rattle.sock_causes.proofs.Ticks.{elem_there}
-use Rattle.joint_runs.proofs.Both.{AreBoth}
+use Rattle.call_causes.specs.joint_runs.proofs.Both.{AreBoth}
 use Rattle.call_causes.specs.Lists.{advanced_at}
 use Rattle.call_causes.specs.Posts.{Post, posted_at}
 use Rattle.call_causes.specs.Scenes.{Scene, LeadsTo, Later}

@@ -22,12 +22,12 @@ use Rattle.sock_programs.specs.Scripts.{sizes_of, readers_from, all_tasks, opene
 use Rattle.sock_runs.specs.Sound.{AllRest, views_along}
 use Rattle.sock_runs.proofs.Quiets.{run_rests}
 use Rattle.sock_runs.proofs.Whole.{views_played, views_closed}
-use Rattle.joint_runs.proofs.Both.{behind_both}
-use Rattle.joint_runs.proofs.Runs.{AreMade, first_views, joint_runs}
+use Rattle.call_causes.specs.joint_runs.proofs.Both.{behind_both}
+use Rattle.call_causes.specs.joint_runs.proofs.Runs.{AreMade, first_views, joint_runs}
 use Rattle.report_fits.proofs.Reading.{InRange}
 use Rattle.report_fits.proofs.Targets.{AreThere}
-use Rattle.owed_calls.specs.Lives.{ClosesInRun}
-use Rattle.owed_calls.proofs.Known.{run_all_ended, run_all_rest}
+use Rattle.call_causes.specs.owed_calls.specs.Lives.{ClosesInRun}
+use Rattle.call_causes.specs.owed_calls.proofs.Known.{run_all_ended, run_all_rest}
 use Rattle.call_causes.specs.Lists.{given}
 use Rattle.call_causes.specs.Posts.{Post}
 use Rattle.call_causes.specs.Scenes.{Scene, In, IsOpened, SeeksName, IsTaskOf, HasNoneOf}

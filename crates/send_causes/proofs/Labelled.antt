@@ -17,16 +17,16 @@ use Rattle.sock_programs.specs.Scripts.{all_tasks, opened, set_up, played, IsRun
 use Rattle.sock_runs.specs.Sound.{first_step, views_along}
 use Rattle.sock_runs.proofs.Quiets.{run_seats}
 use Rattle.sock_runs.proofs.Whole.{closing_of, views_played, views_closed}
-use Rattle.joint_runs.proofs.Both.{AreBoth, behind_both}
-use Rattle.joint_runs.proofs.Runs.{AreMade, first_views, joint_runs}
-use Rattle.owed_calls.specs.Owns.{Grows, Behind, Other, IsIdOf, Owns, Owned}
-use Rattle.owed_calls.proofs.OwnsLoops.{grows_same, owns_any, owns_round}
-use Rattle.owed_calls.proofs.OwnsSends.{block_goes}
-use Rattle.owed_calls.proofs.OwnsTicks.{own_at, on_sockets, owns_ticks}
-use Rattle.owed_calls.proofs.OwnsCalls.{ending_goes}
-use Rattle.owed_calls.proofs.OwnsRuns.{first_left, none_yet, owned_begins, owned_on}
-use Rattle.owed_calls.proofs.EndsStill.{view_of}
-use Rattle.owed_calls.proofs.Owed.{opened_seats}
+use Rattle.call_causes.specs.joint_runs.proofs.Both.{AreBoth, behind_both}
+use Rattle.call_causes.specs.joint_runs.proofs.Runs.{AreMade, first_views, joint_runs}
+use Rattle.call_causes.specs.owed_calls.specs.Owns.{Grows, Behind, Other, IsIdOf, Owns, Owned}
+use Rattle.call_causes.specs.owed_calls.proofs.OwnsLoops.{grows_same, owns_any, owns_round}
+use Rattle.call_causes.specs.owed_calls.proofs.OwnsSends.{block_goes}
+use Rattle.call_causes.specs.owed_calls.proofs.OwnsTicks.{own_at, on_sockets, owns_ticks}
+use Rattle.call_causes.specs.owed_calls.proofs.OwnsCalls.{ending_goes}
+use Rattle.call_causes.specs.owed_calls.proofs.OwnsRuns.{first_left, none_yet, owned_begins, owned_on}
+use Rattle.call_causes.specs.owed_calls.proofs.EndsStill.{view_of}
+use Rattle.call_causes.specs.owed_calls.proofs.Owed.{opened_seats}
 use Rattle.send_causes.specs.Counts.{StoresOwn, AreLabelled}
 use Rattle.send_causes.specs.Refused.{WouldStore, WouldOwn, AllWouldOwn, RunWouldOwn}
 use Rattle.send_causes.proofs.Runs.{AreLabelledIn}

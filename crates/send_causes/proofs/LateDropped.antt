@@ -26,9 +26,9 @@ use Rattle.sock_causes.specs.Facts.{late_links_of_run}
 use Rattle.sock_causes.specs.Stories.{In}
 use Rattle.sock_causes.proofs.Delivered.{orders_of}
 use Rattle.sock_causes.proofs.Members.{get_there, in_contains}
-use Rattle.joint_runs.proofs.Both.{AreBounded}
-use Rattle.joint_runs.proofs.Runs.{AreMade, first_views, joint_runs, joint_bounded}
-use Rattle.owed_calls.specs.Lives.{ClosesInRun}
+use Rattle.call_causes.specs.joint_runs.proofs.Both.{AreBounded}
+use Rattle.call_causes.specs.joint_runs.proofs.Runs.{AreMade, first_views, joint_runs, joint_bounded}
+use Rattle.call_causes.specs.owed_calls.specs.Lives.{ClosesInRun}
 use Rattle.send_causes.proofs.Beside.{gave_of_run, fixed_of_run, orders_here, failing_of_run}
 use Rattle.send_causes.proofs.Dropped.{ending_begins, ending_places}
 use Rattle.send_causes.proofs.Early.{start, go, fitting}

@@ -27,8 +27,8 @@ use Rattle.sock_causes.specs.Causes.{WasGiven}
 use Rattle.sock_causes.specs.PlainTasks.{told_tasks_of}
 use Rattle.sock_causes.specs.Stories.{In}
 use Rattle.sock_causes.proofs.Members.{all_in, in_contains}
-use Rattle.joint_runs.proofs.Runs.{AreMade}
-use Rattle.owed_calls.specs.Lives.{ClosesInRun}
+use Rattle.call_causes.specs.joint_runs.proofs.Runs.{AreMade}
+use Rattle.call_causes.specs.owed_calls.specs.Lives.{ClosesInRun}
 use Rattle.call_causes.specs.Decided.{posted_by}
 use Rattle.call_causes.specs.Lists.{given, shows_in_run}
 use Rattle.call_causes.specs.Posts.{Post}

@@ -28,7 +28,7 @@ use Rattle.sock_runs.proofs.Passes.{goes_round}
 use Rattle.sock_runs.proofs.Rounds.{begins_round}
 use Rattle.sock_runs.proofs.Ticks.{sound_ticks}
 use Rattle.sock_runs.proofs.Whole.{views_closed, views_ended, closed_sound}
-use Rattle.joint_runs.proofs.Runs.{AreMade, first_views}
+use Rattle.call_causes.specs.joint_runs.proofs.Runs.{AreMade, first_views}
 use Rattle.send_causes.specs.Refused.{DidStep, DidAt, DidIn}
 use Rattle.send_causes.proofs.Early.{start, go, fitting}
 use Rattle.send_causes.proofs.LateLives.{WasPast, Lives, lives_tell, lives_ticks}

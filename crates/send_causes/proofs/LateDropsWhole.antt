@@ -26,9 +26,9 @@ use Rattle.sock_runs.proofs.Recorded.{Recorded}
 use Rattle.sock_runs.proofs.Whole.{IsListed, closing_of, views_played, views_closed, set_up_answered, end_answered, set_up_sound, closing_sound, closed_sound, closed_ahead, recorded_opened, recorded_set_up, recorded_closing, recorded_closed}
 use Rattle.sock_causes.specs.Stories.{In}
 use Rattle.sock_causes.proofs.Plain.{in_left, in_right, in_both}
-use Rattle.client_laws.proofs.Beginning as clients_begin
-use Rattle.joint_runs.proofs.Runs.{AreMade, first_views}
-use Rattle.owed_calls.specs.Lives.{ClosesInRun}
+use Rattle.call_causes.specs.client_laws.proofs.Beginning as clients_begin
+use Rattle.call_causes.specs.joint_runs.proofs.Runs.{AreMade, first_views}
+use Rattle.call_causes.specs.owed_calls.specs.Lives.{ClosesInRun}
 use Rattle.call_causes.specs.Decided.{posted_by, posted_behind}
 use Rattle.call_causes.specs.Lists.{shows_in, shows_in_run}
 use Rattle.call_causes.specs.Posts.{Post, posted_at}

@@ -46,7 +46,7 @@ use Rattle.sock_runs.proofs.ThroughSends.{through_end}
 use Rattle.sock_runs.proofs.Ticks.{sound_ticks}
 use Rattle.sock_runs.proofs.Versions.{versions_on, odd_past}
 use Rattle.sock_runs.proofs.Whole.{closing_of, views_played, views_closed, end_answered, closing_sound, rested_ahead, recorded_closing, closed_ahead}
-use Rattle.joint_runs.proofs.Runs.{AreMade, first_views}
+use Rattle.call_causes.specs.joint_runs.proofs.Runs.{AreMade, first_views}
 use Rattle.send_causes.proofs.Early.{start, go, fitting}
 use Rattle.send_causes.proofs.Rests.{many, aside}
 

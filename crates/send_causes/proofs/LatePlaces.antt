@@ -23,7 +23,7 @@ use Rattle.sock_runs.proofs.LinkTicks.{RetriesGo}
 use Rattle.sock_runs.proofs.Passes.{goes_round}
 use Rattle.sock_runs.proofs.Rounds.{begins_round}
 use Rattle.sock_runs.proofs.Ticks.{sound_ticks}
-use Rattle.joint_runs.proofs.Both.{AreBounded}
+use Rattle.call_causes.specs.joint_runs.proofs.Both.{AreBounded}
 use Rattle.sock_causes.specs.Facts.{born_at, shown_in}
 use Rattle.sock_causes.specs.Stories.{In}
 use Rattle.sock_causes.proofs.Plain.{in_left, in_right}

@@ -16,11 +16,11 @@ use Rattle.sock_runs.specs.Sound.{views_along}
 use Rattle.sock_runs.proofs.Whole.{closing_of, views_played, views_closed}
 use Rattle.sock_causes.proofs.Final.{at_there}
 use Rattle.sock_causes.proofs.Ticks.{elem_there}
-use Rattle.joint_runs.proofs.Both.{behind_both}
-use Rattle.joint_runs.proofs.Runs.{AreMade, first_views, IsSoundRun, joint_runs}
+use Rattle.call_causes.specs.joint_runs.proofs.Both.{behind_both}
+use Rattle.call_causes.specs.joint_runs.proofs.Runs.{AreMade, first_views, IsSoundRun, joint_runs}
 use Rattle.report_fits.proofs.Reading.{InRange}
 use Rattle.report_fits.proofs.Targets.{AreThere}
-use Rattle.owed_calls.specs.Lives.{ClosesInRun}
+use Rattle.call_causes.specs.owed_calls.specs.Lives.{ClosesInRun}
 use Rattle.call_causes.specs.Decided.{posted_by, Decision, decided_by}
 use Rattle.call_causes.specs.Lists.{given, shows_in, shows_in_run}
 use Rattle.call_causes.specs.Posts.{Post, posted_at}

@@ -13,7 +13,7 @@ use Rattle.id_rule.specs.Lawful.{at_word}
 use Rattle.id_runs.specs.Held.{IdView}
 use Rattle.id_runs.specs.Goes.{SoundIds}
 use Rattle.id_runs.proofs.Opening.{unused}
-use Rattle.client_laws.proofs.Beginning.{no_message}
+use Rattle.call_causes.specs.client_laws.proofs.Beginning.{no_message}
 use Rattle.sock_message.specs.Asked.{Asked}
 use Rattle.sock_model.specs.declared.chain.Heading.{Heading}
 use Rattle.sock_programs.specs.declared.task.Sizes.{Sizes}
@@ -31,7 +31,7 @@ use Rattle.sock_runs.specs.Sound.{IsAhead, views_after}
 use Rattle.sock_runs.proofs.Along.{seat_rests, ticked_ahead}
 use Rattle.sock_runs.proofs.Opening.{mapped, appended}
 use Rattle.sock_runs.proofs.Quiets.{ticked_rests}
-use Rattle.joint_runs.proofs.Both.{BothSound, AreBoth}
+use Rattle.call_causes.specs.joint_runs.proofs.Both.{BothSound, AreBoth}
 use Rattle.call_causes.specs.Decided.{posted_by, Decision, decided_at, decided_by}
 use Rattle.call_causes.specs.Lists.{times, shows_in, advanced_at}
 use Rattle.call_causes.specs.Posts.{Post, posted_at}

@@ -23,11 +23,11 @@ use Rattle.sock_programs.specs.Scripts.{all_tasks, IsRunWithCalls}
 use Rattle.sock_programs.specs.Told.{IsTask, Became}
 use Rattle.sock_programs.specs.ToldCalls.{Accepted, Fixed, Order, IsSent, Gave, IsResponse, StandsOn, MayBeOn, IsFailing, GaveFault}
 use Rattle.sock_causes.specs.Stories.{In}
-use Rattle.joint_runs.proofs.Runs.{AreMade}
+use Rattle.call_causes.specs.joint_runs.proofs.Runs.{AreMade}
 use Rattle.report_fits.proofs.Reading.{InRange}
 use Rattle.report_fits.proofs.Targets.{AreThere}
-use Rattle.owed_calls.specs.Lives.{ClosesInRun}
-use Rattle.owed_calls.proofs.Known.{run_all_rest}
+use Rattle.call_causes.specs.owed_calls.specs.Lives.{ClosesInRun}
+use Rattle.call_causes.specs.owed_calls.proofs.Known.{run_all_rest}
 use Rattle.call_causes.specs.Decided.{posted_by}
 use Rattle.call_causes.specs.Lists.{given, shows_in_run}
 use Rattle.call_causes.specs.Posts.{Post}

@@ -21,8 +21,8 @@ use Rattle.sock_causes.specs.Facts.{broken_of_run, closed_before_ending, last_at
 use Rattle.sock_causes.specs.Stories.{In}
 use Rattle.sock_causes.proofs.Members.{in_contains, contains_in}
 use Rattle.sock_causes.proofs.Plain.{in_left, in_right, in_both}
-use Rattle.joint_runs.proofs.Runs.{AreMade}
-use Rattle.owed_calls.specs.Lives.{ClosesInRun}
+use Rattle.call_causes.specs.joint_runs.proofs.Runs.{AreMade}
+use Rattle.call_causes.specs.owed_calls.specs.Lives.{ClosesInRun}
 use Rattle.whole_runs.specs.Heard.{heard_takes, given_by}
 use Rattle.send_causes.proofs.Early.{closed_early}
 use Rattle.send_causes.proofs.Sends.{fixed, orders_of_run, run_sends}

@@ -32,10 +32,10 @@ use Rattle.sock_causes.proofs.Runs.{Goes}
 use Rattle.sock_causes.proofs.Scripts.{seats, ended_told, final_told, story_end}
 use Rattle.sock_causes.proofs.Senders.{HasSent, all_sent}
 use Rattle.sock_causes.proofs.Tasks.{one_task}
-use Rattle.client_laws.specs.Openings.{all_seats}
-use Rattle.client_laws.proofs.Fresh.{opening_fresh}
-use Rattle.joint_runs.proofs.Runs.{AreMade, first_views}
-use Rattle.owed_calls.specs.Lives.{ClosesInRun}
+use Rattle.call_causes.specs.client_laws.specs.Openings.{all_seats}
+use Rattle.call_causes.specs.client_laws.proofs.Fresh.{opening_fresh}
+use Rattle.call_causes.specs.joint_runs.proofs.Runs.{AreMade, first_views}
+use Rattle.call_causes.specs.owed_calls.specs.Lives.{ClosesInRun}
 use Rattle.send_causes.specs.Counts.{pair_of, of_heading, of_entry, of_view}
 use Rattle.send_causes.specs.Refused.{RunWouldOwn}
 use Rattle.send_causes.proofs.Apart.{of_call_fits}

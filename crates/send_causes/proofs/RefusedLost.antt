@@ -38,10 +38,10 @@ use Rattle.sock_causes.proofs.Openings.{are_seats, all_explained}
 use Rattle.sock_causes.proofs.Plain.{in_left, in_right}
 use Rattle.sock_causes.proofs.Runs.{IsStoried, set_up_over, ending_story, is_ending_story}
 use Rattle.sock_causes.proofs.Scripts.{own_from}
-use Rattle.client_laws.specs.Openings.{all_seats}
-use Rattle.client_laws.proofs.Fresh.{opening_fresh}
-use Rattle.joint_runs.proofs.Runs.{AreMade, first_views}
-use Rattle.owed_calls.specs.Lives.{ClosesInRun}
+use Rattle.call_causes.specs.client_laws.specs.Openings.{all_seats}
+use Rattle.call_causes.specs.client_laws.proofs.Fresh.{opening_fresh}
+use Rattle.call_causes.specs.joint_runs.proofs.Runs.{AreMade, first_views}
+use Rattle.call_causes.specs.owed_calls.specs.Lives.{ClosesInRun}
 use Rattle.send_causes.specs.Refused.{Deed, DidStep, DidPut, DidMiss, DidIn, DidEarly, DidLate, FoundLost, WasOther, WasOdd, WasNone}
 use Rattle.send_causes.proofs.Beside.{fixed_of_run, gave_of_run, orders_here, failing_of_run}
 use Rattle.send_causes.proofs.Early.{start, go, fitting}

@@ -13,8 +13,8 @@ use Rattle.sock_programs.specs.Tasks.{plan_of}
 use Rattle.sock_programs.specs.Scripts.{all_tasks, IsRunWithCalls}
 use Rattle.sock_programs.specs.ToldCalls.{IsUnordered, WhyLost, WasFull}
 use Rattle.sock_causes.specs.Stories.{In}
-use Rattle.joint_runs.proofs.Runs.{AreMade}
-use Rattle.owed_calls.specs.Lives.{ClosesInRun}
+use Rattle.call_causes.specs.joint_runs.proofs.Runs.{AreMade}
+use Rattle.call_causes.specs.owed_calls.specs.Lives.{ClosesInRun}
 use Rattle.call_causes.specs.Decided.{posted_by}
 use Rattle.call_causes.specs.Lists.{shows_in_run}
 use Rattle.call_causes.specs.Posts.{Post}

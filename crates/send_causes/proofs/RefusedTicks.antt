@@ -36,7 +36,7 @@ use Rattle.sock_runs.proofs.Cases.{with_rights, right_rights, put_rights}
 use Rattle.sock_causes.specs.Stories.{In}
 use Rattle.sock_causes.proofs.Cases.{tick_cases}
 use Rattle.sock_causes.proofs.Ticks.{elem_there}
-use Rattle.owed_calls.proofs.EndsStill.{mapped_at}
+use Rattle.call_causes.specs.owed_calls.proofs.EndsStill.{mapped_at}
 use Rattle.label_runs.specs.Labels.{Trial, Idle, Tries, Sends, IsOfTrial, MayPut, put_behind, Kept, Storing, unlocked_trial}
 use Rattle.send_causes.specs.Counts.{pair_of, of_trial, of_retry, of_view, times_of, WasMade, WasNow, TrialFits, StoresOwn}
 use Rattle.send_causes.specs.Refused.{Deed, DidStep, DidPut, Charge, NoCharge, IsRefused, HasDropped, Doing, idle, begins, trial_in, FoundTaken, FoundLost, WasOther, WasOdd, WasNone, WhyRefused, WouldStore, WouldOwn, IsTrying, IsLast, Refuses, Moves, Remembers, Charges, did_aside, DidAt, IsRefusal, IsDrop, IsSpent, ChargeFits, ChargeLaw}

@@ -15,8 +15,8 @@ use Rattle.sock_runs.specs.Sound.{Sound, views_along}
 use Rattle.sock_runs.proofs.Whole.{closing_of, views_played, views_closed, set_up_answered, end_answered, set_up_sound, closing_sound, closed_sound, ended_sound, end_rests}
 use Rattle.sock_causes.specs.Stories.{In}
 use Rattle.sock_causes.proofs.Delivered.{requests_used}
-use Rattle.joint_runs.proofs.Runs.{AreMade, first_views}
-use Rattle.owed_calls.specs.Lives.{ClosesInRun}
+use Rattle.call_causes.specs.joint_runs.proofs.Runs.{AreMade, first_views}
+use Rattle.call_causes.specs.owed_calls.specs.Lives.{ClosesInRun}
 use Rattle.send_causes.specs.Refused.{Deed, DidStep, DidPut, DidRound, DidMiss, DidEarly, DidLate, FoundTaken}
 use Rattle.send_causes.proofs.Beside.{fixed_of_run, gave_of_run, orders_here}
 use Rattle.send_causes.proofs.Early.{start, go, fitting}

@@ -26,10 +26,10 @@ use Rattle.id_runs.specs.Goes.{IdGoesOn}
 use Rattle.sock_runs.proofs.Quiets.{run_seats, run_rests}
 use Rattle.sock_runs.proofs.Waiting.{StandsAside, still_settles}
 use Rattle.sock_runs.proofs.Whole.{views_played, rested_ahead, rested_idle, played_sound}
-use Rattle.joint_runs.proofs.Both.{behind_both}
-use Rattle.joint_runs.proofs.Runs.{AreMade, first_views, joint_runs}
-use Rattle.owed_calls.proofs.EndsStill.{view_of, all_still, one_of_still, run_parts, second_part, in_round, rest_at, mapped_at}
-use Rattle.owed_calls.proofs.Owed.{opened_seats}
+use Rattle.call_causes.specs.joint_runs.proofs.Both.{behind_both}
+use Rattle.call_causes.specs.joint_runs.proofs.Runs.{AreMade, first_views, joint_runs}
+use Rattle.call_causes.specs.owed_calls.proofs.EndsStill.{view_of, all_still, one_of_still, run_parts, second_part, in_round, rest_at, mapped_at}
+use Rattle.call_causes.specs.owed_calls.proofs.Owed.{opened_seats}
 use Rattle.send_causes.proofs.Early.{start, go, fitting, known, clients_take_none}
 use Rattle.send_causes.proofs.Takeless.{NoTakes}
 

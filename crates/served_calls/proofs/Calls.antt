@@ -26,9 +26,9 @@ use Rattle.sock_programs.specs.Told.{IsTask, Became, Made, IsFail}
 use Rattle.sock_programs.specs.ToldCalls as told
 use Rattle.sock_programs.specs.ToldCalls.{Accepted, Order, Fixed, ToldCalls, OfSend, OfCall}
 use Rattle.sock_programs.specs.Scripts.{all_tasks, IsRunWithCalls}
-use Rattle.joint_runs.proofs.Runs.{AreMade}
-use Rattle.whole_runs.specs.Heard.{heard_takes}
-use Rattle.call_causes.specs.Lists.{given, attempts_of_run}
+use Rattle.served_runs.specs.joint_runs.proofs.Runs.{AreMade}
+use Rattle.served_runs.specs.whole_runs.specs.Heard.{heard_takes}
+use Rattle.served_runs.specs.call_causes.specs.Lists.{given, attempts_of_run}
 use Rattle.served_runs.proofs.Served.{shapes_many}
 use Rattle.served_runs.specs.Served.{request_with, IsServed, IsForCalls, IsReplyToCall, GivesReplies, GivesLast, GivesNoFault, GivesCallReplies}
 use Rattle.served_runs.proofs.Frames.{request_is}

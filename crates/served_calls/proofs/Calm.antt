@@ -35,10 +35,10 @@ use Rattle.sock_programs.specs.Tasks.{numbered, asked_of, plan_of}
 use Rattle.sock_programs.specs.Told.{IsTask, Made}
 use Rattle.sock_programs.specs.ToldCalls.{Order, Fixed, ToldCalls, IsUnordered, WasFull}
 use Rattle.sock_programs.specs.Scripts.{Reports, all_tasks, IsRunWithCalls}
-use Rattle.whole_runs.specs.Heard.{heard_takes, given_by}
-use Rattle.whole_runs.proofs.Gave.{gave_heard}
-use Rattle.whole_runs.proofs.Starts.{made}
-use Rattle.call_causes.specs.Lists.{given, attempts_of_run}
+use Rattle.served_runs.specs.whole_runs.specs.Heard.{heard_takes, given_by}
+use Rattle.served_runs.specs.whole_runs.proofs.Gave.{gave_heard}
+use Rattle.served_runs.specs.whole_runs.proofs.Starts.{made}
+use Rattle.served_runs.specs.call_causes.specs.Lists.{given, attempts_of_run}
 use Rattle.served_runs.specs.Served.{GivesReplies, GivesLast, GivesNoFault, GivesCallReplies}
 use Rattle.served_calls.specs.Quiet.{AreShown, GivesFew, HasServer, AreEarly, IsQuiet, IsTimely, IsForServers, IsUnexpired, CallIsDone}
 use Rattle.served_runs.proofs.Served.{shapes_many}

@@ -22,9 +22,9 @@ use Rattle.sock_programs.specs.Tasks.{plan_of}
 use Rattle.sock_programs.specs.Told.{IsTask}
 use Rattle.sock_programs.specs.ToldCalls.{Order, Fixed, ToldCalls}
 use Rattle.sock_programs.specs.Scripts.{Reports, all_tasks, IsRunWithCalls}
-use Rattle.owed_calls.specs.Lives.{ClosesInRun}
-use Rattle.whole_runs.proofs.Starts.{made}
-use Rattle.call_causes.specs.Lists.{given, attempts_of_run}
+use Rattle.served_runs.specs.owed_calls.specs.Lives.{ClosesInRun}
+use Rattle.served_runs.specs.whole_runs.proofs.Starts.{made}
+use Rattle.served_runs.specs.call_causes.specs.Lists.{given, attempts_of_run}
 use Rattle.served_runs.specs.Offered.{OffersInRun}
 use Rattle.served_runs.proofs.Own.{id_small}
 use Rattle.served_runs.proofs.Served.{gives_replies, gives_last, gives_no_fault, gives_call_replies}

@@ -20,9 +20,9 @@ use Rattle.sock_programs.specs.Tasks.{plan_of}
 use Rattle.sock_programs.specs.Told.{IsTask, Made}
 use Rattle.sock_programs.specs.ToldCalls.{Fixed, Order, FoundNone, IsUnordered, WasFull}
 use Rattle.sock_programs.specs.Scripts.{all_tasks, IsRunWithCalls}
-use Rattle.sock_causes.specs.Facts.{late_links_of_run}
-use Rattle.whole_runs.specs.Heard.{heard_takes, given_by}
-use Rattle.call_causes.specs.Lists.{given}
+use Rattle.served_runs.specs.sock_causes.specs.Facts.{late_links_of_run}
+use Rattle.served_runs.specs.whole_runs.specs.Heard.{heard_takes, given_by}
+use Rattle.served_runs.specs.call_causes.specs.Lists.{given}
 use Rattle.served_runs.specs.Served.{request_with}
 
 -- the call with this outcome has what the reply to the request of its first attempt gives

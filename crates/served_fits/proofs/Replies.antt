@@ -30,15 +30,15 @@ use Rattle.sock_programs.specs.Tasks.{name_number, plan_of}
 use Rattle.sock_programs.specs.Told.{Made}
 use Rattle.sock_programs.specs.ToldCalls.{Order, Fixed, ToldCalls}
 use Rattle.sock_programs.specs.Scripts.{Reports, all_tasks, IsRunWithCalls}
-use Rattle.sock_causes.specs.Facts.{late_links_of_run}
-use Rattle.owed_calls.specs.Lives.{ClosesInRun}
-use Rattle.whole_runs.proofs.Lengths.{ended_length}
-use Rattle.whole_runs.proofs.Starts.{made}
-use Rattle.call_causes.specs.Lists.{given}
-use Rattle.served_runs.specs.Offered.{OffersInRun}
-use Rattle.served_runs.specs.Served.{IsServed, took_in_all}
-use Rattle.served_runs.proofs.Model.{link_own_replies}
-use Rattle.served_runs.proofs.Served.{gives_replies}
+use Rattle.served_calls.specs.sock_causes.specs.Facts.{late_links_of_run}
+use Rattle.served_calls.specs.owed_calls.specs.Lives.{ClosesInRun}
+use Rattle.served_calls.specs.whole_runs.proofs.Lengths.{ended_length}
+use Rattle.served_calls.specs.whole_runs.proofs.Starts.{made}
+use Rattle.served_calls.specs.call_causes.specs.Lists.{given}
+use Rattle.served_calls.specs.served_runs.specs.Offered.{OffersInRun}
+use Rattle.served_calls.specs.served_runs.specs.Served.{IsServed, took_in_all}
+use Rattle.served_calls.specs.served_runs.proofs.Model.{link_own_replies}
+use Rattle.served_calls.specs.served_runs.proofs.Served.{gives_replies}
 use Rattle.served_calls.specs.Quiet.{AreShown}
 use Rattle.served_fits.specs.Shown.{TellTook}
 

@@ -23,14 +23,14 @@ use Rattle.sock_runs.proofs.Waiting.{StandsAside}
 use Rattle.sock_runs.proofs.Whole.{views_played, rested_ahead}
 use Rattle.id_runs.specs.Held.{IdView}
 use Rattle.id_runs.specs.Goes.{IdGoesOn}
-use Rattle.joint_runs.proofs.Both.{BothSound, behind_both}
-use Rattle.joint_runs.proofs.Runs.{AreMade, first_views, joint_runs}
-use Rattle.owed_calls.specs.Settled as settled
-use Rattle.owed_calls.specs.Sound.{id_word_of}
-use Rattle.owed_calls.proofs.EndsStill.{view_of}
-use Rattle.send_causes.proofs.Early.{start, go, fitting, clients_take_none}
-use Rattle.send_causes.proofs.Rests.{still, aside}
-use Rattle.send_causes.proofs.Takeless.{NoTakes}
+use Rattle.served_calls.specs.joint_runs.proofs.Both.{BothSound, behind_both}
+use Rattle.served_calls.specs.joint_runs.proofs.Runs.{AreMade, first_views, joint_runs}
+use Rattle.served_calls.specs.owed_calls.specs.Settled as settled
+use Rattle.served_calls.specs.owed_calls.specs.Sound.{id_word_of}
+use Rattle.served_calls.specs.owed_calls.proofs.EndsStill.{view_of}
+use Rattle.calm_runs.specs.send_causes.proofs.Early.{start, go, fitting, clients_take_none}
+use Rattle.calm_runs.specs.send_causes.proofs.Rests.{still, aside}
+use Rattle.calm_runs.specs.send_causes.proofs.Takeless.{NoTakes}
 use Rattle.served_fits.specs.Shown.{NoneOpen}
 
 -- a range that has ended isn't sought

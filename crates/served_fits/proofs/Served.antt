@@ -18,10 +18,10 @@ use Rattle.sock_programs.specs.Cores.{Core}
 use Rattle.sock_programs.specs.Tasks.{plan_of}
 use Rattle.sock_programs.specs.ToldCalls.{Order, Fixed, ToldCalls}
 use Rattle.sock_programs.specs.Scripts.{Reports, all_tasks, IsRunWithCalls}
-use Rattle.sock_causes.specs.Facts.{late_links_of_run}
-use Rattle.owed_calls.specs.Lives.{ClosesInRun}
-use Rattle.call_causes.specs.Lists.{given}
-use Rattle.served_runs.specs.Offered.{OffersInRun}
+use Rattle.served_calls.specs.sock_causes.specs.Facts.{late_links_of_run}
+use Rattle.served_calls.specs.owed_calls.specs.Lives.{ClosesInRun}
+use Rattle.served_calls.specs.call_causes.specs.Lists.{given}
+use Rattle.served_calls.specs.served_runs.specs.Offered.{OffersInRun}
 use Rattle.served_calls.specs.Quiet.{AreShown}
 use Rattle.served_fits.specs.Shown.{AreSo, TellTook, IsInTime}
 use Rattle.served_fits.proofs.Replies.{all_given, reported, run_gives_replies, run_gives_own_replies}

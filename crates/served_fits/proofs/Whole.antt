@@ -16,13 +16,13 @@ use Rattle.sock_programs.specs.Cores.{Core}
 use Rattle.sock_programs.specs.Tasks.{plan_of}
 use Rattle.sock_programs.specs.ToldCalls.{Order, Fixed, ToldCalls}
 use Rattle.sock_programs.specs.Scripts.{Reports, all_tasks, IsRunWithCalls}
-use Rattle.sock_causes.specs.Facts.{late_of_run, late_links_of_run}
-use Rattle.owed_calls.specs.Lives.{ClosesInRun}
-use Rattle.whole_runs.proofs.Lengths.{ended_length}
-use Rattle.whole_runs.proofs.Starts.{made}
-use Rattle.whole_runs.proofs.Unjoined.{no_join}
-use Rattle.call_causes.specs.Lists.{given}
-use Rattle.served_runs.specs.Offered.{OffersInRun}
+use Rattle.served_calls.specs.sock_causes.specs.Facts.{late_of_run, late_links_of_run}
+use Rattle.served_calls.specs.owed_calls.specs.Lives.{ClosesInRun}
+use Rattle.served_calls.specs.whole_runs.proofs.Lengths.{ended_length}
+use Rattle.served_calls.specs.whole_runs.proofs.Starts.{made}
+use Rattle.served_calls.specs.whole_runs.proofs.Unjoined.{no_join}
+use Rattle.served_calls.specs.call_causes.specs.Lists.{given}
+use Rattle.served_calls.specs.served_runs.specs.Offered.{OffersInRun}
 use Rattle.calm_runs.proofs.Nothing.{nothing_behind, nothing_late}
 use Rattle.served_calls.specs.Quiet.{AreShown, GivesFew, IsTimely}
 use Rattle.served_calls.proofs.Whole.{offered_run}

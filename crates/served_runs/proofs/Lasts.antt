@@ -20,12 +20,12 @@ use Rattle.sock_runs.proofs.LinkTicks.{RetriesGo}
 use Rattle.sock_runs.proofs.OpensStay.{run_word}
 use Rattle.sock_runs.proofs.Recorded.{Recorded, recorded_ticks}
 use Rattle.sock_runs.proofs.Ticks.{sound_ticks}
-use Rattle.sock_causes.specs.Stories.{In}
-use Rattle.sock_causes.proofs.Plain.{in_both}
-use Rattle.whole_runs.specs.Heard.{as_taken, taken_link, taken_at, taken_in, bytes_found}
-use Rattle.whole_runs.proofs.HeardRuns.{taken_append}
-use Rattle.whole_runs.proofs.Lengths.{tick_long}
-use Rattle.call_causes.specs.Lists.{given}
+use Rattle.send_causes.specs.sock_causes.specs.Stories.{In}
+use Rattle.send_causes.specs.sock_causes.proofs.Plain.{in_both}
+use Rattle.send_causes.specs.whole_runs.specs.Heard.{as_taken, taken_link, taken_at, taken_in, bytes_found}
+use Rattle.send_causes.specs.whole_runs.proofs.HeardRuns.{taken_append}
+use Rattle.send_causes.specs.whole_runs.proofs.Lengths.{tick_long}
+use Rattle.send_causes.specs.call_causes.specs.Lists.{given}
 use Rattle.send_causes.proofs.Early.{Any, ends_anyhow}
 use Rattle.send_causes.proofs.EndedTicks.{seats_else}
 use Rattle.send_causes.proofs.ReaderRuns.{keeps_ticks}

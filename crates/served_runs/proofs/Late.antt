@@ -13,11 +13,11 @@ use Rattle.sock_runs.proofs.Cases.{goes_first}
 use Rattle.sock_runs.proofs.Passes.{goes_round}
 use Rattle.sock_runs.proofs.Rounds.{begins_round}
 use Rattle.sock_runs.proofs.Whole.{views_closed}
-use Rattle.sock_causes.specs.Facts.{born_at, shown_in, late_links_of_run}
-use Rattle.sock_causes.specs.Stories.{In}
-use Rattle.sock_causes.proofs.Plain.{in_left, in_right}
-use Rattle.joint_runs.proofs.Runs.{AreMade, first_views}
-use Rattle.owed_calls.proofs.EndsStill.{view_of}
+use Rattle.send_causes.specs.sock_causes.specs.Facts.{born_at, shown_in, late_links_of_run}
+use Rattle.send_causes.specs.sock_causes.specs.Stories.{In}
+use Rattle.send_causes.specs.sock_causes.proofs.Plain.{in_left, in_right}
+use Rattle.send_causes.specs.joint_runs.proofs.Runs.{AreMade, first_views}
+use Rattle.send_causes.specs.owed_calls.proofs.EndsStill.{view_of}
 use Rattle.send_causes.proofs.LateEnding.{ended_past}
 use Rattle.send_causes.proofs.LateLives.{WasPast, Lives, lives_tell, lives_ticks}
 use Rattle.send_causes.proofs.LateLooks.{Mode, Idle, Saw, Claims, Writes}

@@ -25,9 +25,9 @@ use Rattle.sock_programs.specs.Cores.{Core}
 use Rattle.sock_programs.specs.Tasks.{numbered, asked_of, op_of}
 use Rattle.sock_programs.specs.Told.{IsTask, Made}
 use Rattle.sock_programs.specs.Scripts.{all_tasks, IsRunWithCalls}
-use Rattle.joint_runs.proofs.Runs.{AreMade}
-use Rattle.owed_calls.specs.Lives.{ClosesInRun}
-use Rattle.call_causes.specs.Lists.{given}
+use Rattle.send_causes.specs.joint_runs.proofs.Runs.{AreMade}
+use Rattle.send_causes.specs.owed_calls.specs.Lives.{ClosesInRun}
+use Rattle.send_causes.specs.call_causes.specs.Lists.{given}
 use Rattle.served_runs.specs.Offered.{OffersInRun}
 use Rattle.served_runs.specs.Served.{IsForCalls, request_with}
 use Rattle.served_runs.proofs.Served.{gives_no_fault, gives_call_replies, gives_own_replies}

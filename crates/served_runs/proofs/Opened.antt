@@ -19,18 +19,18 @@ use Rattle.sock_programs.specs.Tasks.{opens, plan_of}
 use Rattle.sock_programs.specs.Told.{Made}
 use Rattle.sock_programs.specs.Scripts.{all_tasks, IsRunWithCalls}
 use Rattle.sock_runs.proofs.Whole.{views_ended, ended_sound}
-use Rattle.sock_causes.specs.Causes.{Asks, WasGiven}
-use Rattle.sock_causes.specs.Explains.{step, Because, Explained}
-use Rattle.sock_causes.specs.PlainTasks.{told_tasks_of}
-use Rattle.sock_causes.specs.Stories.{trace_of}
-use Rattle.sock_causes.proofs.Events.{given_by}
-use Rattle.sock_causes.proofs.Final.{Final, final}
-use Rattle.sock_causes.proofs.Lifted.{made_down}
-use Rattle.sock_causes.proofs.Members.{contains_in, from_trace}
-use Rattle.sock_causes.proofs.Openings.{are_seats}
-use Rattle.joint_runs.proofs.Runs.{AreMade, first_views}
-use Rattle.owed_calls.specs.Lives.{ClosesInRun}
-use Rattle.owed_calls.proofs.Known.{run_all_rest}
+use Rattle.send_causes.specs.sock_causes.specs.Causes.{Asks, WasGiven}
+use Rattle.send_causes.specs.sock_causes.specs.Explains.{step, Because, Explained}
+use Rattle.send_causes.specs.sock_causes.specs.PlainTasks.{told_tasks_of}
+use Rattle.send_causes.specs.sock_causes.specs.Stories.{trace_of}
+use Rattle.send_causes.specs.sock_causes.proofs.Events.{given_by}
+use Rattle.send_causes.specs.sock_causes.proofs.Final.{Final, final}
+use Rattle.send_causes.specs.sock_causes.proofs.Lifted.{made_down}
+use Rattle.send_causes.specs.sock_causes.proofs.Members.{contains_in, from_trace}
+use Rattle.send_causes.specs.sock_causes.proofs.Openings.{are_seats}
+use Rattle.send_causes.specs.joint_runs.proofs.Runs.{AreMade, first_views}
+use Rattle.send_causes.specs.owed_calls.specs.Lives.{ClosesInRun}
+use Rattle.send_causes.specs.owed_calls.proofs.Known.{run_all_rest}
 use Rattle.send_causes.proofs.AttemptedStored.{ids_at}
 use Rattle.send_causes.proofs.DropEndsCauses.{own_link}
 use Rattle.send_causes.proofs.DropOfRun.{EndStory, IsOpened, ends, given_opened}

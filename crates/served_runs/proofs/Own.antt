@@ -27,16 +27,16 @@ use Rattle.sock_programs.specs.Tasks.{plan_of, id_plan_of}
 use Rattle.sock_programs.specs.Told.{AskedFits, OpFits, TaskFits, IsTask, Became, Made}
 use Rattle.sock_programs.specs.ToldCalls.{Accepted, IsTaken, IsSent, OfSend, OfCall, bytes_of}
 use Rattle.sock_programs.specs.Scripts.{all_tasks, took_at_home, IsRunWithCalls}
-use Rattle.sock_causes.proofs.Members.{contains_in}
-use Rattle.sock_causes.proofs.Tasks.{one_task}
-use Rattle.joint_runs.proofs.Runs.{AreMade}
-use Rattle.owed_calls.specs.Lives.{ClosesInRun}
-use Rattle.call_causes.specs.Lists.{given, attempts_of_run}
-use Rattle.call_causes.specs.Scenes.{Scene, In, WhyOwn}
-use Rattle.call_causes.proofs.End.{call_of, shows_own}
-use Rattle.call_causes.proofs.Posted.{run_few_attempts}
-use Rattle.call_causes.proofs.Streams.{frames_stay, faults_more}
-use Rattle.call_causes.proofs.Whole.{run_has_story, run_has_ended, run_told_in_part}
+use Rattle.send_causes.specs.sock_causes.proofs.Members.{contains_in}
+use Rattle.send_causes.specs.sock_causes.proofs.Tasks.{one_task}
+use Rattle.send_causes.specs.joint_runs.proofs.Runs.{AreMade}
+use Rattle.send_causes.specs.owed_calls.specs.Lives.{ClosesInRun}
+use Rattle.send_causes.specs.call_causes.specs.Lists.{given, attempts_of_run}
+use Rattle.send_causes.specs.call_causes.specs.Scenes.{Scene, In, WhyOwn}
+use Rattle.send_causes.specs.call_causes.proofs.End.{call_of, shows_own}
+use Rattle.send_causes.specs.call_causes.proofs.Posted.{run_few_attempts}
+use Rattle.send_causes.specs.call_causes.proofs.Streams.{frames_stay, faults_more}
+use Rattle.send_causes.specs.call_causes.proofs.Whole.{run_has_story, run_has_ended, run_told_in_part}
 use Rattle.send_causes.proofs.AttemptedRun.{attempted_of_run}
 use Rattle.send_causes.proofs.Beside.{fixed_of_run, orders_here}
 use Rattle.send_causes.proofs.Early.{known}

@@ -3,7 +3,7 @@ use Rattle.std.proofs.Common.{◌≡◌, ℕ, ◌+◌, ◌-◌, ◌%◌, ◌≤�
 use Rattle.std.proofs.lemmas.Bool.{true≢false}
 use Rattle.std.specs.Prelude.{Option, Some, None}
 use Rattle.sock_words.specs.Words.{socket_id_version, socket_id_slot, vref_version, vref_nref, at_word_first, at_word_slot, at_word_link, at_word_attempt}
-use Rattle.sock_steps.proofs.Quiet.{either_way}
+use Rattle.send_causes.specs.sock_steps.proofs.Quiet.{either_way}
 use Rattle.corr_core.specs.Word.{parts, posted_word, unlocked_word, code_of, error_of}
 use Rattle.corr_core.specs.Law.{LAST}
 use Rattle.brpc_model.specs.Frame.{Frame}
@@ -16,7 +16,7 @@ use Rattle.sock_programs.specs.Readers.{LIMIT, ending_of, slot_in, version_in, h
 use Rattle.sock_programs.specs.Rounds.{round}
 use Rattle.sock_programs.specs.Cores.{resolved, next_step}
 use Rattle.sock_runs.specs.Sound.{first_step}
-use Rattle.whole_runs.specs.Heard.{bytes_found}
+use Rattle.send_causes.specs.whole_runs.specs.Heard.{bytes_found}
 use Rattle.send_causes.proofs.Faults.{Faults, fault_stays, fault_follows}
 
 -- ## How a reading ends

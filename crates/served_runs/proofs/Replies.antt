@@ -31,18 +31,18 @@ use Rattle.sock_runs.proofs.OpensStay.{readers_begin}
 use Rattle.sock_runs.proofs.Quiets.{run_seats}
 use Rattle.sock_runs.proofs.Whole.{IsListed, closing_of, views_played, views_closed, views_ended, set_up_answered, end_answered, set_up_sound, closing_sound, closed_sound, ended_sound, recorded_opened, recorded_set_up, recorded_closing, recorded_closed}
 use Rattle.sock_runs.proofs.HandTicks.{AtHome}
-use Rattle.sock_causes.specs.Facts.{late_links_of_run}
-use Rattle.sock_causes.specs.Stories.{In}
-use Rattle.sock_causes.proofs.Plain.{in_left, in_right, in_both}
-use Rattle.client_laws.proofs.Beginning as clients_begin
-use Rattle.joint_runs.proofs.Runs.{AreMade, first_views}
-use Rattle.owed_calls.specs.Lives.{ClosesInRun}
-use Rattle.owed_calls.proofs.EndsStill.{run_ending}
-use Rattle.owed_calls.proofs.Known.{run_all_rest}
-use Rattle.whole_runs.specs.Heard.{as_taken, taken_in, heard_takes}
-use Rattle.whole_runs.proofs.HeardRuns.{taken_append}
-use Rattle.whole_runs.proofs.Lengths.{tick_long}
-use Rattle.call_causes.specs.Lists.{given}
+use Rattle.send_causes.specs.sock_causes.specs.Facts.{late_links_of_run}
+use Rattle.send_causes.specs.sock_causes.specs.Stories.{In}
+use Rattle.send_causes.specs.sock_causes.proofs.Plain.{in_left, in_right, in_both}
+use Rattle.send_causes.specs.client_laws.proofs.Beginning as clients_begin
+use Rattle.send_causes.specs.joint_runs.proofs.Runs.{AreMade, first_views}
+use Rattle.send_causes.specs.owed_calls.specs.Lives.{ClosesInRun}
+use Rattle.send_causes.specs.owed_calls.proofs.EndsStill.{run_ending}
+use Rattle.send_causes.specs.owed_calls.proofs.Known.{run_all_rest}
+use Rattle.send_causes.specs.whole_runs.specs.Heard.{as_taken, taken_in, heard_takes}
+use Rattle.send_causes.specs.whole_runs.proofs.HeardRuns.{taken_append}
+use Rattle.send_causes.specs.whole_runs.proofs.Lengths.{tick_long}
+use Rattle.send_causes.specs.call_causes.specs.Lists.{given}
 use Rattle.send_causes.proofs.Early.{Any, ends_anyhow, start, go, fitting, known}
 use Rattle.send_causes.proofs.EndedWhole.{opened_keeps, closing_keeps, closed_keeps}
 use Rattle.send_causes.proofs.ReaderRuns.{founds, keeps_along}

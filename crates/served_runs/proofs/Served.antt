@@ -19,13 +19,13 @@ use Rattle.sock_programs.specs.Asides.{AtEnd, Broken}
 use Rattle.sock_programs.specs.Cores.{Core}
 use Rattle.sock_programs.specs.Tasks.{opens, plan_of}
 use Rattle.sock_programs.specs.Scripts.{IsRunWithCalls}
-use Rattle.sock_causes.specs.Facts.{late_links_of_run}
-use Rattle.sock_causes.proofs.Members.{in_contains, contains_in}
-use Rattle.joint_runs.proofs.Runs.{AreMade}
-use Rattle.owed_calls.specs.Lives.{ClosesInRun}
-use Rattle.whole_runs.specs.Heard.{heard_takes}
+use Rattle.send_causes.specs.sock_causes.specs.Facts.{late_links_of_run}
+use Rattle.send_causes.specs.sock_causes.proofs.Members.{in_contains, contains_in}
+use Rattle.send_causes.specs.joint_runs.proofs.Runs.{AreMade}
+use Rattle.send_causes.specs.owed_calls.specs.Lives.{ClosesInRun}
+use Rattle.send_causes.specs.whole_runs.specs.Heard.{heard_takes}
 use Rattle.served_runs.specs.Offered.{OffersInRun}
-use Rattle.call_causes.specs.Lists.{given}
+use Rattle.send_causes.specs.call_causes.specs.Lists.{given}
 use Rattle.send_causes.proofs.Early.{known}
 use Rattle.served_runs.specs.Served.{took_in_all, IsForCalls, GivesReplies, GivesFront, GivesLast, GivesNothing, GivesNoFault, GivesCallReplies, GivesOwnReplies}
 use Rattle.served_runs.proofs.Opened.{opened_word}

@@ -10,7 +10,7 @@ use Rattle.sock_io.specs.declared.link.Ready.{Ready}
 use Rattle.sock_model.specs.Layout.{open_word}
 use Rattle.sock_model.specs.Messages.{Letter}
 use Rattle.sock_model.specs.Reads.{message, link_home}
-use Rattle.sock_steps.proofs.Quiet.{either_way}
+use Rattle.send_causes.specs.sock_steps.proofs.Quiet.{either_way}
 use Rattle.corr_core.specs.Word.{parts}
 use Rattle.sock_programs.specs.Asides.{Step, Found, ClaimId, PutCall, MakeId, StoreCall, LoadCall, StoreAt, LoadAt, LoadIdWord, LockId, PostId, UnlockId, EndId, FreeId, TakeCall, TakeBytes, Taking, Bytes, Nothing, NoMore, AtEnd, Closed, Broken}
 use Rattle.sock_programs.specs.Beside.{at_last, found_in, calls_after, more_given}
@@ -23,8 +23,8 @@ use Rattle.sock_programs.specs.Writings.{Puts, Waits, Empties, Walks}
 use Rattle.sock_programs.specs.Cores.{Core, SeatState, word_of, found_at, waiting_at, with_seat, resolved, next_step}
 use Rattle.sock_programs.specs.Ticks.{Answer, OfPut, OfReady, OfTake, Moment, taken, with_message, with_link, with_put, with_ready, with_found, step_with, tick_with, ticked}
 use Rattle.sock_runs.specs.Sound.{first_step}
-use Rattle.whole_runs.specs.Heard.{taken_link, bytes_found}
-use Rattle.call_causes.specs.Lists.{given}
+use Rattle.send_causes.specs.whole_runs.specs.Heard.{taken_link, bytes_found}
+use Rattle.send_causes.specs.call_causes.specs.Lists.{given}
 use Rattle.send_causes.proofs.Readings.{IsTake, ticks_first}
 use Rattle.served_runs.proofs.Readings.{Goes, is_last, goes_first, goes_next, begins_reading}
 

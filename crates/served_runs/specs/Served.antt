@@ -18,9 +18,9 @@ use Rattle.sock_programs.specs.Cores.{Core}
 use Rattle.sock_programs.specs.Tasks.{plan_of}
 use Rattle.sock_programs.specs.Told.{IsTask, Became, Made}
 use Rattle.sock_programs.specs.Scripts.{all_tasks, took_at_home, IsRunWithCalls}
-use Rattle.sock_causes.specs.Facts.{late_links_of_run}
-use Rattle.whole_runs.specs.Heard.{heard_takes}
-use Rattle.call_causes.specs.Lists.{given, attempts_of_run}
+use Rattle.send_causes.specs.sock_causes.specs.Facts.{late_links_of_run}
+use Rattle.send_causes.specs.whole_runs.specs.Heard.{heard_takes}
+use Rattle.send_causes.specs.call_causes.specs.Lists.{given, attempts_of_run}
 
 -- the request of a call under a correlation id
 abbrev pub request_with : Asked → ℕ → Frame

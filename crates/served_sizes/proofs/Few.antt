@@ -27,9 +27,9 @@ use Rattle.sock_programs.specs.Cores.{Core}
 use Rattle.sock_programs.specs.Tasks.{numbered, plan_of}
 use Rattle.sock_programs.specs.ToldCalls.{Accepted, Order, Fixed, ToldCalls, IsTaken, IsSent, OfSend, OfCall, label, bytes_of}
 use Rattle.sock_programs.specs.Scripts.{all_tasks, IsRunWithCalls}
-use Rattle.owed_calls.specs.Lives.{ClosesInRun}
-use Rattle.whole_runs.proofs.Starts.{made}
-use Rattle.call_causes.specs.Lists.{given}
+use Rattle.served_runs.specs.owed_calls.specs.Lives.{ClosesInRun}
+use Rattle.served_runs.specs.whole_runs.proofs.Starts.{made}
+use Rattle.served_runs.specs.call_causes.specs.Lists.{given}
 use Rattle.served_runs.specs.Offered.{OffersInRun}
 use Rattle.served_runs.specs.Served.{took_in_all}
 use Rattle.served_runs.proofs.Served.{gives_front}

@@ -10,7 +10,7 @@ use Rattle.atomic_table.proofs.Lists.{at_map, set_again}
 use Rattle.sock_model.specs.declared.marks.Mark.{Mark}
 use Rattle.sock_model.specs.declared.marks.SlotMark.{SlotMark}
 use Rattle.sock_model.specs.declared.view.View.{View}
-use Rattle.sock_words.specs.declared.plain.Plan.{Plan}
+use Rattle.sock_model.specs.sock_words.specs.declared.plain.Plan.{Plan}
 use Rattle.sock_model.specs.Weights.{total, tally, only, is_born, uses}
 use Rattle.sock_model.specs.Marks.{about, without, without_at, without_pass}
 use Rattle.sock_model.specs.Layout.{tag_word, ref_word, link_word, code_word, name_word, open_word}

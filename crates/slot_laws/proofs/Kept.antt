@@ -11,7 +11,7 @@ use Rattle.sock_model.specs.declared.marks.Mark.{Mark}
 use Rattle.sock_model.specs.declared.marks.Mark.TheVariants.{Claimed, Recycling, Hold, Probe, Zero, Coding, Tried, Known, Born, Saw, Failer, Freer, Linked}
 use Rattle.sock_model.specs.declared.marks.SlotMark.{SlotMark}
 use Rattle.sock_model.specs.declared.view.View.{View}
-use Rattle.sock_words.specs.declared.plain.Plan.{Plan}
+use Rattle.sock_model.specs.sock_words.specs.declared.plain.Plan.{Plan}
 use Rattle.sock_model.specs.Weights.{total, tally, only, is_busy, is_claimed, is_ref, is_probe, is_any_coding, is_stage, is_hold, is_known, is_born, is_zero, is_recycled, is_recycling}
 use Rattle.sock_model.specs.Marks.{about, at, without, without_at, dropped}
 use Rattle.sock_model.specs.Layout.{tag_word, ref_word}

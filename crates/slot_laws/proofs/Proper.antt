@@ -3,7 +3,7 @@ use Rattle.std.proofs.Common.{ℕ}
 use Rattle.std.proofs.Props.{props}
 use Rattle.atomic_table.specs.Table.{State}
 use Rattle.sock_model.specs.declared.view.View.{View}
-use Rattle.sock_words.specs.declared.plain.Plan.{Plan}
+use Rattle.sock_model.specs.sock_words.specs.declared.plain.Plan.{Plan}
 use Rattle.sock_model.specs.Slots.{SlotFacts, SlotLaw}
 use Rattle.sock_model.specs.References.{References}
 

@@ -11,7 +11,7 @@ use Rattle.atomic_table.proofs.Lists.{at_map, at_snoc, set_again, set_else}
 use Rattle.sock_model.specs.declared.marks.Mark.{Mark}
 use Rattle.sock_model.specs.declared.marks.SlotMark.{SlotMark}
 use Rattle.sock_model.specs.declared.view.View.{View}
-use Rattle.sock_words.specs.declared.plain.Plan.{Plan}
+use Rattle.sock_model.specs.sock_words.specs.declared.plain.Plan.{Plan}
 use Rattle.sock_model.specs.Weights.{total, tally, only, is_ref, is_busy, is_claimed, is_recycling, is_tried, is_recycled, is_hold, is_saw, is_zero, is_known, is_born, is_failer, is_freer, is_coding, is_coded, is_any_coding, is_stored, is_told, is_stage, is_linked, is_met}
 use Rattle.sock_model.specs.Marks.{about, says}
 use Rattle.sock_model.specs.Layout.{ref_word, name_word, open_word}

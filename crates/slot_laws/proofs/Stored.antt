@@ -11,7 +11,7 @@ use Rattle.sock_model.specs.declared.marks.Mark.{Mark}
 use Rattle.sock_model.specs.declared.marks.Mark.TheVariants.{Claimed, Coding, Known, Saw, Stored, Told, Met}
 use Rattle.sock_model.specs.declared.marks.SlotMark.{SlotMark}
 use Rattle.sock_model.specs.declared.view.View.{View}
-use Rattle.sock_words.specs.declared.plain.Plan.{Plan}
+use Rattle.sock_model.specs.sock_words.specs.declared.plain.Plan.{Plan}
 use Rattle.sock_model.specs.Weights.{life, total, tally, only, is_busy, is_coding, is_stage, is_hold, is_known, is_born, is_recycled, is_recycling, is_linked}
 use Rattle.sock_model.specs.Marks.{about, without, without_at, latest, says, noted}
 use Rattle.sock_model.specs.Layout.{link_word, head_word, code_word, name_word, open_word}

@@ -11,8 +11,8 @@ use Rattle.sock_model.specs.Weights.{total, is_probe, is_hold, is_stage, is_recy
 use Rattle.sock_model.specs.Marks.{about, at, without_at}
 use Rattle.sock_model.specs.Slots.{version_of, nref_of}
 use Rattle.sock_model.specs.SlotRows.{marks_of, back, subbed, recycled}
-use Rattle.slot_laws.proofs.Slots.{zero_is, hold_is, probe_is, stage_is}
-use Rattle.sock_steps.proofs.Quiet.{less_without, more_without}
+use Rattle.sock_runs.specs.slot_laws.proofs.Slots.{zero_is, hold_is, probe_is, stage_is}
+use Rattle.sock_runs.specs.sock_steps.proofs.Quiet.{less_without, more_without}
 use Rattle.sock_programs.specs.Calls.{Call, ClaimSlot, GiveBirth, AddRef, SubRef, SetOdd, Recycle, FreeSlot, StoreLink, LoadLink, ResetHead, WipeCode, StoreCode, StoreName, LoadName, StoreOpen, LoadOpen, TakeLink, FinishLink, PutLink}
 use Rattle.sock_runs.specs.Rows.{row, is_id, found_id, taken}
 use Rattle.sock_runs.proofs.Leaves.{sending_marks}

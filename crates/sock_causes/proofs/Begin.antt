@@ -16,10 +16,10 @@ use Rattle.sock_model.specs.Weights.{is_busy, is_claimed, is_born, is_failer, is
 use Rattle.sock_model.specs.Layout.{tag_word, ref_word, all_words}
 use Rattle.sock_model.specs.Slots.{SlotFacts, SlotLaw, live, count}
 use Rattle.sock_model.specs.References.{slot_facts}
-use Rattle.slot_laws.proofs.Sums.{tally_mono}
-use Rattle.slot_laws.proofs.Numbers.{live-free, life-none}
+use Rattle.sock_runs.specs.slot_laws.proofs.Sums.{tally_mono}
+use Rattle.sock_runs.specs.slot_laws.proofs.Numbers.{live-free, life-none}
 use Rattle.sock_programs.specs.declared.task.Task.{Task}
-use Rattle.sock_message.specs.Asked.{Asked}
+use Rattle.sock_programs.specs.sock_message.specs.Asked.{Asked}
 use Rattle.corr_core.specs.declared.marks.Plan.{Plan as IdPlan}
 use Rattle.sock_programs.specs.Beside.{call_at}
 use Rattle.sock_programs.specs.Programs.{Program}

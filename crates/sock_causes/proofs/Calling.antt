@@ -12,7 +12,7 @@ use Rattle.sock_io.specs.declared.link.Ready.TheVariants as asks
 use Rattle.sock_model.specs.declared.chain.Heading.{Heading}
 use Rattle.sock_model.specs.Entries.{ticket_of, slot_of, generation_of}
 use Rattle.sock_model.specs.Memory.{IDLE, UNCONNECTED}
-use Rattle.sock_message.specs.Asked.{Asked, name_of, frame_of}
+use Rattle.sock_programs.specs.sock_message.specs.Asked.{Asked, name_of, frame_of}
 use Rattle.sock_programs.specs.declared.task.Task.{Task}
 use Rattle.sock_programs.specs.Calls.{Call, LoadName, AddRef, SubRef, SetOdd, StoreCode, LookWord, FindLink, LoadLink, LoadCode, TakeLink, FinishLink, PutLink, FreeSlot, ClaimRequest, PutMessage, Unconnect, SwapHead, Connect, EmptyHead, ReadNext, TurnNext, FreeRequest, StorePlace, DropPlace}
 use Rattle.sock_programs.specs.Asides.{StoreAt, id_slot, id_first, call_id}

@@ -22,10 +22,10 @@ use Rattle.sock_model.specs.Reads.{tokens, rights_on, claims_of}
 use Rattle.sock_model.specs.Requests.{free_phase, claimed_phase, used_phase, retired_phase}
 use Rattle.sock_model.specs.Lawful.{Lawful}
 use Rattle.sock_model.specs.Links.{Failed}
-use Rattle.chain_laws.proofs.Frames.{no_token}
-use Rattle.chain_laws.proofs.Settles.{all_placed}
-use Rattle.chain_laws.proofs.Totals.{log_full}
-use Rattle.sock_steps.proofs.Maps.{gather_nil}
+use Rattle.sock_runs.specs.chain_laws.proofs.Frames.{no_token}
+use Rattle.sock_runs.specs.chain_laws.proofs.Settles.{all_placed}
+use Rattle.sock_runs.specs.chain_laws.proofs.Totals.{log_full}
+use Rattle.sock_runs.specs.sock_steps.proofs.Maps.{gather_nil}
 use Rattle.sock_programs.specs.Cores.{Core}
 use Rattle.sock_programs.specs.Runs.{from_to}
 use Rattle.sock_programs.specs.ToldCalls.{Accepted, Order, all_accepted}

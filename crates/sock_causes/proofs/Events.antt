@@ -7,7 +7,7 @@ use Rattle.sock_words.specs.Words.{vref_version}
 use Rattle.sock_model.specs.declared.marks.Mark.{Mark}
 use Rattle.sock_model.specs.declared.marks.Mark.TheVariants.{Born, Failer, Linked}
 use Rattle.sock_model.specs.Weights.{total, is_born, is_failer, is_linked, is_tried}
-use Rattle.slot_laws.proofs.Numbers.{only_is, only-at, pair_is, pair-at}
+use Rattle.sock_runs.specs.slot_laws.proofs.Numbers.{only_is, only-at, pair_is, pair-at}
 use Rattle.sock_programs.specs.declared.task.Task.{Task}
 use Rattle.sock_programs.specs.Calls.{Call, ClaimSlot, GiveBirth, SetOdd, StoreName}
 use Rattle.sock_causes.specs.Stories.{Entry, Event, In, trace_of, stored_by, last_name, adds, added_by, marked}

@@ -13,10 +13,10 @@ use Rattle.sock_model.specs.Weights.{total, is_hold, is_stage, is_recycling, is_
 use Rattle.sock_model.specs.Marks.{about, at, without, without_at}
 use Rattle.sock_model.specs.Slots.{version_of, nref_of}
 use Rattle.sock_model.specs.SlotRows.{marks_of, back, subbed}
-use Rattle.slot_laws.proofs.Numbers.{only-at, only-else}
-use Rattle.slot_laws.proofs.Frame.{about-without, about-without_else}
-use Rattle.slot_laws.proofs.Slots.{zero_is, stage_is}
-use Rattle.sock_steps.proofs.Quiet.{More, more_all, more_add, more_without}
+use Rattle.sock_runs.specs.slot_laws.proofs.Numbers.{only-at, only-else}
+use Rattle.sock_runs.specs.slot_laws.proofs.Frame.{about-without, about-without_else}
+use Rattle.sock_runs.specs.slot_laws.proofs.Slots.{zero_is, stage_is}
+use Rattle.sock_runs.specs.sock_steps.proofs.Quiet.{More, more_all, more_add, more_without}
 use Rattle.sock_programs.specs.Calls.{Call, ClaimSlot, GiveBirth, AddRef, SubRef, SetOdd, Recycle, FreeSlot, StoreLink, LoadLink, ResetHead, WipeCode, StoreCode, StoreName, LoadName, StoreOpen, LoadOpen, TakeLink, FinishLink, PutLink}
 use Rattle.sock_runs.specs.Rows.{row, is_id, found_id}
 use Rattle.sock_runs.proofs.Leaves.{sending_marks}

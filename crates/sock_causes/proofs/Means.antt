@@ -17,9 +17,9 @@ use Rattle.sock_model.specs.Slots.{SlotLaw, live, count}
 use Rattle.sock_model.specs.References.{slot_facts}
 use Rattle.sock_model.specs.SlotRows.{marks_of}
 use Rattle.sock_model.specs.Lawful.{Lawful}
-use Rattle.slot_laws.proofs.Sums.{total_mono}
-use Rattle.slot_laws.proofs.Numbers.{live_le, life_is, life-in, pair_le}
-use Rattle.sock_steps.proofs.Places.{own_count}
+use Rattle.sock_runs.specs.slot_laws.proofs.Sums.{total_mono}
+use Rattle.sock_runs.specs.slot_laws.proofs.Numbers.{live_le, life_is, life-in, pair_le}
+use Rattle.sock_runs.specs.sock_steps.proofs.Places.{own_count}
 use Rattle.sock_programs.specs.Calls.{Call, ClaimSlot, GiveBirth, AddRef, SetOdd, LoadName, LookWord, FindLink}
 use Rattle.sock_programs.specs.Cores.{Core, word_of, found_at}
 use Rattle.sock_programs.specs.declared.task.Task.{Task}

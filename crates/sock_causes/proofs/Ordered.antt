@@ -18,9 +18,9 @@ use Rattle.sock_model.specs.Entries.{on}
 use Rattle.sock_model.specs.Deliveries.{whole, Taken, no_place, one_place}
 use Rattle.sock_model.specs.Reads.{as_link, took_of, shown, link_home}
 use Rattle.sock_model.specs.Lawful.{Lawful}
-use Rattle.chain_laws.proofs.Lists.{Distinct, distinct_filter, at_length}
-use Rattle.chain_laws.proofs.Frames.{in_log}
-use Rattle.chain_laws.proofs.Settles.{shown_as}
+use Rattle.sock_runs.specs.chain_laws.proofs.Lists.{Distinct, distinct_filter, at_length}
+use Rattle.sock_runs.specs.chain_laws.proofs.Frames.{in_log}
+use Rattle.sock_runs.specs.chain_laws.proofs.Settles.{shown_as}
 use Rattle.sock_programs.specs.Cores.{Core, link_place, lies_at}
 use Rattle.sock_programs.specs.Runs.{from_to}
 use Rattle.sock_programs.specs.Scripts.{taken_by, took_at_home}

@@ -12,8 +12,8 @@ use Rattle.sock_model.specs.declared.view.View.{View}
 use Rattle.sock_model.specs.Entries.{on}
 use Rattle.sock_model.specs.Authors.{pick}
 use Rattle.sock_model.specs.Lawful.{Lawful}
-use Rattle.chain_laws.proofs.Lists.{at_length, at_some, filter_at, filter_in}
-use Rattle.chain_laws.proofs.Frames.{in_log}
+use Rattle.sock_runs.specs.chain_laws.proofs.Lists.{at_length, at_some, filter_at, filter_in}
+use Rattle.sock_runs.specs.chain_laws.proofs.Frames.{in_log}
 use Rattle.sock_programs.specs.Cores.{Core}
 use Rattle.sock_programs.specs.ToldCalls.{Accepted, StandsAt}
 use Rattle.sock_runs.specs.Sound.{state}

@@ -27,12 +27,12 @@ use Rattle.sock_model.specs.SlotRows.{marks_of}
 use Rattle.sock_model.specs.Slots.{count}
 use Rattle.sock_model.specs.References.{slot_facts}
 use Rattle.sock_model.specs.ChainRows.{taken_right}
-use Rattle.sock_steps.proofs.Places.{counts}
+use Rattle.sock_runs.specs.sock_steps.proofs.Places.{counts}
 use Rattle.sock_programs.specs.declared.task.Task.{Task}
 use Rattle.sock_programs.specs.Writings.{Puts, Waits, Empties, Walks}
 use Rattle.sock_programs.specs.Calls.{Call, ClaimSlot, GiveBirth, SetOdd, StoreName, LoadOpen, FindLink, ClaimRequest, SwapHead}
 use Rattle.sock_programs.specs.Programs.{Program, Do, Say, Sent, Rest, TakeMessage, TakeHome, PutHome, PutBytes, AskReady, Write, Aside, Round, Keep, Retries}
-use Rattle.sock_message.specs.Asked.{Asked}
+use Rattle.sock_programs.specs.sock_message.specs.Asked.{Asked}
 use Rattle.sock_programs.specs.Asides.{Step, Found, PutCall, TakeCall, TakeBytes, Taking, Bytes}
 use Rattle.sock_programs.specs.Heads.{Retry}
 use Rattle.sock_programs.specs.Beside.{call_at, found_in, more_given, calls_after}

@@ -16,8 +16,8 @@ use Rattle.sock_model.specs.Layout.{request_word}
 use Rattle.sock_model.specs.Links.{Failed}
 use Rattle.sock_model.specs.Slots.{SlotLaw, live}
 use Rattle.sock_model.specs.References.{slot_facts}
-use Rattle.slot_laws.proofs.Clauses.{taken_for}
-use Rattle.slot_laws.proofs.Numbers.{life_le}
+use Rattle.sock_runs.specs.slot_laws.proofs.Clauses.{taken_for}
+use Rattle.sock_runs.specs.slot_laws.proofs.Numbers.{life_le}
 use Rattle.sock_programs.specs.declared.task.Task.{Task}
 use Rattle.sock_programs.specs.Calls.{Call, SubRef, Recycle, SetOdd, ClaimRequest, LoadName}
 use Rattle.sock_programs.specs.Cores.{Core}

@@ -10,8 +10,8 @@ use Rattle.brpc_model.specs.Items.{Item}
 use Rattle.brpc_model.specs.Operations.{Turn}
 use Rattle.brpc_model.specs.Order.{EachBefore}
 use Rattle.corr_core.specs.Word.{parts}
-use Rattle.id_rule.specs.Lawful.{id_word}
-use Rattle.sock_message.specs.Asked.{Asked, name_of}
+use Rattle.sock_programs.specs.id_rule.specs.Lawful.{id_word}
+use Rattle.sock_programs.specs.sock_message.specs.Asked.{Asked, name_of}
 use Rattle.sock_programs.specs.declared.task.Op.{Op}
 use Rattle.sock_programs.specs.declared.task.Op.TheVariants as ops
 use Rattle.sock_programs.specs.declared.task.Task.{Task}

@@ -15,7 +15,7 @@ use Rattle.sock_model.specs.Layout.{name_word, request_word}
 use Rattle.sock_model.specs.Slots.{count}
 use Rattle.sock_model.specs.References.{slot_facts}
 use Rattle.sock_model.specs.SlotRows.{marks_of}
-use Rattle.sock_message.specs.Asked.{Asked}
+use Rattle.sock_programs.specs.sock_message.specs.Asked.{Asked}
 use Rattle.sock_programs.specs.Beside.{call_at}
 use Rattle.sock_programs.specs.Calls.{ClaimRequest, PutMessage, Unconnect, LoadName, FindLink}
 use Rattle.sock_programs.specs.declared.task.Op.TheVariants as ops

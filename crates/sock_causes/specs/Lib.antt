@@ -6,3 +6,4 @@ pub mod Losses
 pub mod TaskCauses
 pub mod PlainTasks
 pub mod Facts
+pub use Rattle.sock_runs

@@ -23,7 +23,7 @@ use Rattle.sock_programs.specs.Ticks.{Answer, Unasked, OfPut, OfReady, Moment, t
 use Rattle.sock_programs.specs.Runs.{from_to}
 use Rattle.id_runs.specs.Goes.{first_of}
 use Rattle.whole_runs.specs.Offered.{HasTaken}
-use Rattle.owed_calls.specs.Lives.{InHand, IsFinished, ClosesAt, ClosesInTime}
+use Rattle.whole_runs.specs.owed_calls.specs.Lives.{InHand, IsFinished, ClosesAt, ClosesInTime}
 use Rattle.seat_points.specs.declared.point.Step.{Step}
 use Rattle.seat_points.specs.Steps.{First, OfCall, OfAside, OfMessage, OfLink, OfHome}
 use Rattle.seat_points.specs.Steps as kinds

@@ -31,8 +31,8 @@ use Rattle.sock_runs.proofs.Along.{place_inside, seat_ahead, seat_rests}
 use Rattle.sock_runs.proofs.Held.{held_in_hand}
 use Rattle.id_runs.specs.Goes.{SoundIds}
 use Rattle.id_runs.proofs.Opening.{ending_ids, told_ids}
-use Rattle.client_laws.proofs.Opens.{ending_resolved, ending_sound, told_sound}
-use Rattle.client_laws.proofs.Lasting.{ending_lasts, told_lasts}
+use Rattle.whole_runs.specs.client_laws.proofs.Opens.{ending_resolved, ending_sound, told_sound}
+use Rattle.whole_runs.specs.client_laws.proofs.Lasting.{ending_lasts, told_lasts}
 use Rattle.call_slots.specs.Slots.{SlotState, calls_with}
 use Rattle.reader_seats.specs.Readers.{ReaderData}
 use Rattle.client_seats.specs.Seats.{SeatData, seat_program}

@@ -17,7 +17,7 @@ use Rattle.whole_runs.specs.Answers.{said_at}
 use Rattle.whole_runs.specs.Heard.{as_told, as_taken, answer_of, take_answers, taken_link, heard_at, heard_in, taken_at, taken_in}
 use Rattle.whole_runs.proofs.HeardRuns.{told_append, taken_append, heard_on, taken_on}
 use Rattle.id_runs.specs.Goes.{first_of}
-use Rattle.owed_calls.specs.Lives.{ClosesAt, ClosesInTime}
+use Rattle.whole_runs.specs.owed_calls.specs.Lives.{ClosesAt, ClosesInTime}
 use Rattle.whole_runs.specs.Offered.{OffersAt, AreOffered}
 use Rattle.sock_programs.specs.Asides.{TakeBytes, Taking, Bytes, Nothing, NoMore, AtEnd, Closed, Broken}
 use Rattle.sock_programs.specs.Programs.{Program, Aside, Say, Sent, Rest, Keep, Retries}

@@ -31,10 +31,10 @@ use Rattle.sock_runs.proofs.LinkTicks.{link_asked_there}
 use Rattle.sock_runs.proofs.Few.{few_lasts}
 use Rattle.sock_runs.proofs.Waiting.{waits_still}
 use Rattle.sock_runs.proofs.HeadMoves.{calls_last}
-use Rattle.client_laws.proofs.Retrying.{retries_go}
+use Rattle.whole_runs.specs.client_laws.proofs.Retrying.{retries_go}
 use Rattle.id_runs.specs.Held.{IdView}
 use Rattle.id_runs.specs.Goes.{SoundIds}
-use Rattle.joint_runs.proofs.Both.{BothSound, FitsBoth, fits_both, joint_ticks}
+use Rattle.whole_runs.specs.joint_runs.proofs.Both.{BothSound, FitsBoth, fits_both, joint_ticks}
 use Rattle.call_points.specs.Steps.{after_word}
 use Rattle.seat_points.specs.Points.{Around, after_put, after_ready}
 use Rattle.seat_points.specs.Steps.{First, OfCall, OfAside, OfMessage, OfLink, OfHome, step_as, first_in}

@@ -24,7 +24,7 @@ use Rattle.sock_programs.specs.Tasks.{calls, opens, plan_of, id_plan_of}
 use Rattle.sock_programs.specs.Told.{AreTasks, IsOpen}
 use Rattle.report_fits.proofs.TaskLemmas.{tasks_length}
 use Rattle.whole_runs.proofs.Starts.{made}
-use Rattle.joint_runs.proofs.Starts.{AreFor}
+use Rattle.whole_runs.specs.joint_runs.proofs.Starts.{AreFor}
 use Rattle.call_slots.specs.Slots.{SlotState}
 use Rattle.reader_seats.specs.Readers.{ReaderData}
 use Rattle.client_seats.specs.Seats.{SeatData, seat_program}

@@ -16,7 +16,7 @@ use Rattle.sock_programs.specs.Programs.{Program}
 use Rattle.sock_programs.specs.Cores.{Core, SeatState}
 use Rattle.sock_programs.specs.Ticks.{Answer, Moment, AreAnswered, run, broken_in}
 use Rattle.sock_runs.proofs.Along.{place_inside}
-use Rattle.owed_calls.specs.Lives.{ClosesInTime}
+use Rattle.whole_runs.specs.owed_calls.specs.Lives.{ClosesInTime}
 use Rattle.whole_runs.specs.Offered.{AreOffered}
 use Rattle.whole_runs.specs.Heard.{heard_in, taken_in}
 use Rattle.call_slots.specs.Slots.{calls_with}

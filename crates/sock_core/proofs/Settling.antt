@@ -4,7 +4,7 @@ use Rattle.sock_words.specs.declared.plain.Plan.{Plan}
 use Rattle.sock_programs.specs.Cores.{Core}
 use Rattle.sock_programs.specs.Ticks.{quiet, run, AreAnswered, broken_in}
 use Rattle.sock_programs.specs.Scripts.{is_ending}
-use Rattle.owed_calls.specs.Lives.{ClosesInTime}
+use Rattle.whole_runs.specs.owed_calls.specs.Lives.{ClosesInTime}
 use Rattle.whole_runs.specs.Offered.{AreOffered}
 use Rattle.whole_runs.specs.Heard.{heard_in, taken_in}
 use Rattle.sock_core.specs.Links.{LinksData, Taken, Given, Agrees, AgreesGave, ArePrompt, TellClosing, IsOffering}

@@ -28,11 +28,11 @@ use Rattle.sock_runs.proofs.Cases.{goes_first}
 use Rattle.sock_runs.proofs.Rounds.{begins_round}
 use Rattle.sock_runs.proofs.Passes.{goes_round}
 use Rattle.sock_runs.proofs.Allowed.{sound_allows, view_there}
-use Rattle.client_laws.proofs.Retrying.{retries_go}
+use Rattle.whole_runs.specs.client_laws.proofs.Retrying.{retries_go}
 use Rattle.id_runs.specs.Held.{IdView, MayId}
 use Rattle.id_runs.specs.Goes.{IdGoesOn, FitsSock, FitsFirst}
 use Rattle.id_runs.specs.Goes as goes
-use Rattle.joint_runs.proofs.Joint.{is_fitting_ids}
+use Rattle.whole_runs.specs.joint_runs.proofs.Joint.{is_fitting_ids}
 use Rattle.call_points.specs.Steps.{aside_of, aside_in}
 use Rattle.call_slots.proofs.Fitting.{may_next}
 use Rattle.seat_points.specs.Steps.{First, OfCall, OfAside, OfMessage, OfLink, first_of, first_in}

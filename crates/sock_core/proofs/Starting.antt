@@ -25,11 +25,11 @@ use Rattle.sock_programs.specs.Runs.{from_to}
 use Rattle.sock_programs.specs.Scripts.{sizes_of, programs, readers_from, all_programs, beginning, opening_homes, opening_words, opening_calls, new_links}
 use Rattle.sock_runs.specs.Lasts.{Lasts}
 use Rattle.sock_runs.specs.Sound.{IsAhead, Sound}
-use Rattle.client_laws.specs.Openings.{opening_views, all_seats}
+use Rattle.whole_runs.specs.client_laws.specs.Openings.{opening_views, all_seats}
 use Rattle.id_rule.specs.Lawful.{call_word}
 use Rattle.id_runs.proofs.Opening.{unused}
 use Rattle.id_runs.specs.Goes.{SoundIds}
-use Rattle.joint_runs.proofs.Starts.{AreFor, opens_both, opens_bounded}
+use Rattle.whole_runs.specs.joint_runs.proofs.Starts.{AreFor, opens_both, opens_bounded}
 use Rattle.call_slots.specs.Slots.{calls_with}
 use Rattle.reader_seats.specs.Readers.{ReaderData, reader_program}
 use Rattle.sock_core.specs.declared.letter.Letter.{Letter}

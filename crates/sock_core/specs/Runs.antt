@@ -16,7 +16,7 @@ use Rattle.sock_programs.specs.Ticks.{Answer, Moment, quiet, seats_of, run, wait
 use Rattle.sock_programs.specs.Runs.{IsAtRest, LeadsUpTo, next_kind, from_to}
 use Rattle.sock_programs.specs.Scripts.{AreStill, is_ending}
 use Rattle.sock_io.specs.Link.{more_told}
-use Rattle.owed_calls.specs.Lives.{ClosesInTime}
+use Rattle.whole_runs.specs.owed_calls.specs.Lives.{ClosesInTime}
 use Rattle.whole_runs.specs.Offered.{AreOffered}
 use Rattle.whole_runs.specs.Heard.{as_told, as_taken, take_answers, heard_in, taken_in}
 use Rattle.sock_core.specs.declared.machine.On.{On}

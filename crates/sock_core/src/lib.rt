@@ -17,3 +17,4 @@ mod words;
 
 pub use finished::Finished;
 pub use machine::{Machine, NotMade, On, Tick};
+pub use script_tasks;

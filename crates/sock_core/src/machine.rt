@@ -7,7 +7,7 @@ ghost use Rattle.sock_io.specs.Link.{OutState, InState, end_of};
 ghost use Rattle.sock_programs.specs.Scripts.{beginning, programs, readers_from, all_programs, set_up, sizes_of, place_words};
 ghost use Rattle.sock_programs.specs.Tasks.{plan_of, id_plan_of, opens, calls};
 ghost use Rattle.sock_core.specs.Finish.{told_from};
-ghost use Rattle.joint_runs.proofs.Starts.{AreFor};
+ghost use Rattle.whole_runs.specs.joint_runs.proofs.Starts.{AreFor};
 ghost use Rattle.sock_core.specs.Links.{Taken, Given, Agrees, AgreesGave, ArePrompt, StayOffered, TellClosing};
 ghost use Rattle.sock_core.specs.Machines.{MOST_LEFT as most_left, HasSizes, core_with, ending_by};
 ghost use Rattle.sock_core.specs.Runs.{SameLinks, SameTable, Ticked, Led, Still, HasMoved, PlayedOn, RanFirst, Settled};

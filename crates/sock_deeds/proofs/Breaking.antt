@@ -17,8 +17,8 @@ use Rattle.sock_programs.specs.declared.task.Task.{Task}
 use Rattle.sock_rule.specs.Faults.{is_fault}
 use Rattle.sock_rule.specs.Faults as faults
 use Rattle.report_fits.proofs.Lists.{has_from}
-use Rattle.write_chain.specs.Noting.{Noted, nothing, finding, failing}
-use Rattle.write_chain.proofs.Faulting.{slot_fault}
+use Rattle.rpc_client.specs.write_chain.specs.Noting.{Noted, nothing, finding, failing}
+use Rattle.rpc_client.specs.write_chain.proofs.Faulting.{slot_fault}
 use Rattle.sock_deeds.specs.Broken.{noted_links, faults_by, faults_of}
 use Rattle.sock_deeds.specs.Deeds.{Hand, Did, opens, sends, holds, drops, fails, waits, looks, takes, misses, sets, returns, DoneBy}
 use Rattle.sock_deeds.specs.Runs.{Seated, DeedRun}

@@ -32,9 +32,9 @@ use Rattle.sock_table.specs.Refs.{SameNotes, GaveBack}
 use Rattle.sock_table.specs.declared.finding.Noted.{Noted}
 use Rattle.sock_table.specs.declared.finding.Noted.TheVariants as noteds
 use Rattle.sock_table.specs.declared.refs.SockRef.{SockRef}
-use Rattle.write_chain.specs.declared.entry.Refused.{Refused}
-use Rattle.write_chain.specs.declared.entry.Refused.TheVariants as refused
-use Rattle.write_chain.specs.Sending.{RefusedBy}
+use Rattle.rpc_client.specs.write_chain.specs.declared.entry.Refused.{Refused}
+use Rattle.rpc_client.specs.write_chain.specs.declared.entry.Refused.TheVariants as refused
+use Rattle.rpc_client.specs.write_chain.specs.Sending.{RefusedBy}
 use Rattle.rpc_client.specs.declared.holding.Held.{Held}
 use Rattle.rpc_client.specs.declared.reaching.Reached.{Reached}
 use Rattle.rpc_client.specs.declared.reaching.Reached.TheVariants as reached

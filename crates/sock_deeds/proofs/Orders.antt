@@ -10,7 +10,7 @@ use mathlib.Core.Option as core
 use mathlib.Core.Option.{some, none, some-injective, some-ne-none}
 use lib.ListN.{get_elem?}
 use Rattle.brpc_model.specs.Order.{IsCut, EachBefore}
-use Rattle.message_parts.specs.Parcels.{parcel_of}
+use Rattle.sock_rule.specs.message_parts.specs.Parcels.{parcel_of}
 use Rattle.sock_io.specs.declared.link.Out.{Ghosts}
 use Rattle.sock_io.specs.Link.{OutState}
 use Rattle.sock_words.specs.declared.outcome.Outcome.{Outcome}

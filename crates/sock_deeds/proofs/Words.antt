@@ -9,9 +9,9 @@ use Rattle.sock_model.specs.Layout.{place_word}
 use Rattle.sock_model.specs.Weights.{total, is_met, is_saw}
 use Rattle.slot_laws.proofs.Numbers.{pair_is}
 use Rattle.sock_rule.specs.OnTable.{is_put, put_in}
-use Rattle.write_chain.specs.Noting.{Wrote, WroteDrop}
-use Rattle.write_chain.specs.Writing.{FoundDead}
-use Rattle.write_chain.proofs.Noting.{wrote_more, wrote_stores}
+use Rattle.rpc_client.specs.write_chain.specs.Noting.{Wrote, WroteDrop}
+use Rattle.rpc_client.specs.write_chain.specs.Writing.{FoundDead}
+use Rattle.rpc_client.specs.write_chain.proofs.Noting.{wrote_more, wrote_stores}
 use Rattle.sock_deeds.specs.Deeds.{IsDropWord}
 use Rattle.sock_deeds.proofs.Stores.{note_is}
 

@@ -5,7 +5,7 @@ use Rattle.sock_io.specs.Link.{OutState}
 use Rattle.sock_words.specs.declared.plain.Plan.{Plan}
 use Rattle.sock_words.specs.Words.{socket_id_version}
 use Rattle.sock_model.specs.declared.marks.Mark.{Mark}
-use Rattle.write_chain.specs.Noting.{Noted, nothing, finding, failing}
+use Rattle.rpc_client.specs.write_chain.specs.Noting.{Noted, nothing, finding, failing}
 use Rattle.sock_deeds.specs.Deeds.{Hand, Did, sends, DoneBy, Deed}
 
 -- those of which a fault came

@@ -16,8 +16,8 @@ use Rattle.sock_table.specs.declared.finding.Noted.{Noted}
 use Rattle.sock_table.specs.declared.refs.SockRef.{SockRef}
 use Rattle.sock_table.specs.Named.{Found, NotedAs}
 use Rattle.sock_table.specs.Answers.{Held as HeldOne, GoneFrom, NoneLater, LinkOf}
-use Rattle.write_chain.specs.Noting.{Met_by}
-use Rattle.write_chain.specs.Writing.{FoundDead}
+use Rattle.rpc_client.specs.write_chain.specs.Noting.{Met_by}
+use Rattle.rpc_client.specs.write_chain.specs.Writing.{FoundDead}
 use Rattle.rpc_client.specs.declared.holding.Held.{Held}
 use Rattle.rpc_client.specs.declared.reaching.Reached.TheVariants as reached
 use Rattle.rpc_client.specs.Reaching.{ReachedBy}

@@ -2,7 +2,7 @@
 use Rattle.std.proofs.Common.{◌≡◌, ℕ, zero, suc, ◌+◌, ◌-◌, ◌%◌, ◌<◌, ◌≤◌, inl, inr, min, List, length, take, drop, get_or, arith, ap, ◌∙◌, length-drop}
 use Rattle.std.proofs.lemmas.Bool.{cases_lt}
 use Rattle.std.proofs.lemmas.List.{take_min}
-use Rattle.io_block.specs.declared.pool.TheConstants.{BLOCK_BYTES}
+use Rattle.io_buf.specs.io_block.specs.declared.pool.TheConstants.{BLOCK_BYTES}
 use Rattle.io_buf.specs.Buffer.{Buffer, block_sizes, rest_sizes}
 use Rattle.io_buf.proofs.Sizes.{rest_sizes-less, rest_sizes-more, rest_sizes-zero, rest_sizes-rest_sizes, block_sizes-step}
 use Rattle.sock_message.specs.Inside.{LiesBehind}

@@ -1,7 +1,7 @@
 -- The steps that seats make: each is one atomic step on a word, one move of a link, or one call on the link in hand.
 use Rattle.std.specs.Prelude.{ℕ, List}
-use Rattle.sock_words.specs.declared.kind.Kind.{Kind}
-use Rattle.sock_words.specs.declared.kind.Kind.TheVariants.{A1, A2, A3, A4, A5, A6, A7, A8, C1, C2, C3, C4, C5, C6, C7, C8, M1, P1, S1, S2, S3, S4, S5, S6, S7, L1, L2, W3}
+use Rattle.sock_model.specs.sock_words.specs.declared.kind.Kind.{Kind}
+use Rattle.sock_model.specs.sock_words.specs.declared.kind.Kind.TheVariants.{A1, A2, A3, A4, A5, A6, A7, A8, C1, C2, C3, C4, C5, C6, C7, C8, M1, P1, S1, S2, S3, S4, S5, S6, S7, L1, L2, W3}
 use Rattle.sock_model.specs.declared.chain.Heading.{Heading}
 
 -- a step: the number of the slot, name, operation or link of which it is, and what it is to store; behind these, where the

@@ -1,7 +1,7 @@
 -- The program of a client: its tasks in order, and then each held reference given back, the oldest first.
 use Rattle.std.specs.Prelude.{ℕ, ◌==◌, not, if◌then◌else◌, List, [], ◌∷◌, ◌++◌, filter, Option, Some, None}
-use Rattle.sock_words.specs.declared.outcome.Outcome.TheVariants.{NotHeld}
-use Rattle.sock_words.specs.Words.{socket_id_slot}
+use Rattle.sock_model.specs.sock_words.specs.declared.outcome.Outcome.TheVariants.{NotHeld}
+use Rattle.sock_model.specs.sock_words.specs.Words.{socket_id_slot}
 use Rattle.sock_programs.specs.declared.task.Op.{Op}
 use Rattle.sock_programs.specs.declared.task.Op.TheVariants as ops
 use Rattle.sock_programs.specs.declared.task.Task.{Task}

@@ -2,12 +2,12 @@
 use Rattle.std.specs.Prelude.{ℕ, ◌≡◌, ◌≢◌, ◌-◌, ◌%◌, ◌<◌, ◌⊎◌, List, [], ◌∷◌, ◌++◌, slice_get, Option, Some, None, Contains}
 use mathlib.Core.Option.{none, some}
 use lib.ListN.{get_elem?}
-use Rattle.sock_words.specs.declared.plain.Plan.{Plan}
-use Rattle.sock_words.specs.Words.{vref_version, vref_nref}
-use Rattle.sock_words.specs.declared.outcome.Outcome.{Outcome}
-use Rattle.sock_words.specs.declared.outcome.Outcome.TheVariants.{Freed, Kept}
-use Rattle.brpc_model.specs.Items.{Item}
-use Rattle.brpc_model.specs.Operations.{Turn}
+use Rattle.sock_model.specs.sock_words.specs.declared.plain.Plan.{Plan}
+use Rattle.sock_model.specs.sock_words.specs.Words.{vref_version, vref_nref}
+use Rattle.sock_model.specs.sock_words.specs.declared.outcome.Outcome.{Outcome}
+use Rattle.sock_model.specs.sock_words.specs.declared.outcome.Outcome.TheVariants.{Freed, Kept}
+use Rattle.sock_message.specs.brpc_model.specs.Items.{Item}
+use Rattle.sock_message.specs.brpc_model.specs.Operations.{Turn}
 use Rattle.sock_model.specs.Entries.{slot_of}
 use Rattle.sock_programs.specs.declared.task.Op.TheVariants as ops
 use Rattle.sock_programs.specs.declared.task.Task.{Task}

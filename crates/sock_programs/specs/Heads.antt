@@ -1,6 +1,6 @@
 -- The heads of loops on ids and at reading halves, and how each loop ends.
 use Rattle.std.specs.Prelude.{ℕ, Bool, List, Option}
-use Rattle.brpc_model.specs.Frame.{Frame}
+use Rattle.sock_message.specs.brpc_model.specs.Frame.{Frame}
 use Rattle.sock_message.specs.Asked.{Asked}
 
 -- what is sought in an id slot: the range with this first version, or the one that has this version behind its first

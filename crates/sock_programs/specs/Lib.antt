@@ -19,3 +19,9 @@ pub mod Scripts
 pub mod Told
 pub mod ToldCalls
 pub mod Drops
+pub use Rattle.sock_message.specs.brpc_model
+pub use Rattle.id_rule.specs.corr_core
+pub use Rattle.id_rule
+pub use Rattle.sock_io
+pub use Rattle.sock_message
+pub use Rattle.sock_model

@@ -1,13 +1,13 @@
 -- The program of the reader of a link (bRPC's baidu_std.md for frames and correlation ids, bthread_id.md for who ends a call).
 use Rattle.std.specs.Prelude.{ℕ, ◌+◌, ◌-◌, ◌==◌, ◌&&◌, Bool, true, false, List, [], ◌∷◌, ◌++◌, length, drop, filter, nat_lt, nat_le, min, if◌then◌else◌, ℤ, pos, zero, Option, Some, None}
-use Rattle.sock_words.specs.Codes.{EEOF, ERESPONSE}
-use Rattle.sock_words.specs.Words.{socket_id_slot, at_word_first, at_word_slot, at_word_link, at_word_attempt}
-use Rattle.sock_words.specs.declared.outcome.Outcome.{Outcome}
-use Rattle.sock_words.specs.declared.outcome.Outcome.TheVariants.{Answered, Peer, CallFailed}
-use Rattle.corr_core.specs.Word.{parts, error_of}
-use Rattle.brpc_model.specs.Meta.{ResponseMeta}
-use Rattle.brpc_model.specs.Frame.{Frame}
-use Rattle.brpc_model.specs.Stream as streams
+use Rattle.sock_model.specs.sock_words.specs.Codes.{EEOF, ERESPONSE}
+use Rattle.sock_model.specs.sock_words.specs.Words.{socket_id_slot, at_word_first, at_word_slot, at_word_link, at_word_attempt}
+use Rattle.sock_model.specs.sock_words.specs.declared.outcome.Outcome.{Outcome}
+use Rattle.sock_model.specs.sock_words.specs.declared.outcome.Outcome.TheVariants.{Answered, Peer, CallFailed}
+use Rattle.id_rule.specs.corr_core.specs.Word.{parts, error_of}
+use Rattle.sock_message.specs.brpc_model.specs.Meta.{ResponseMeta}
+use Rattle.sock_message.specs.brpc_model.specs.Frame.{Frame}
+use Rattle.sock_message.specs.brpc_model.specs.Stream as streams
 use Rattle.sock_programs.specs.Calls.{LoadOpen}
 use Rattle.sock_programs.specs.Asides.{LoadAt, TakeCall, TakeBytes, Taking, Bytes, Nothing, Closed, call_id, id_slot, id_first}
 use Rattle.sock_programs.specs.Heads.{Version, Reading, Locks, Opens, Reads, Discards, Posting, HasLocked, Locking, NotThere, Has, Ended}

@@ -2,11 +2,11 @@
 use Rattle.std.specs.Prelude.{ℕ, zero, suc, ◌≡◌, ◌≢◌, ◌+◌, ◌<◌, ◌⊎◌, true, false, List, [], ◌∷◌, ◌++◌, length, replicate, Option, Some, None}
 use mathlib.Core.Option.{none, some}
 use lib.ListN.{get_elem?}
-use Rattle.sock_words.specs.declared.kind.Kind.{Kind}
-use Rattle.sock_words.specs.declared.kind.Kind.TheVariants.{A8, C5, L1, L2, M2, W1, W2}
-use Rattle.sock_words.specs.KindText.{kind_text}
-use Rattle.sock_words.specs.declared.plain.Plan.{Plan}
-use Rattle.brpc_model.specs.Operations.{Turn, Ticks, Until}
+use Rattle.sock_model.specs.sock_words.specs.declared.kind.Kind.{Kind}
+use Rattle.sock_model.specs.sock_words.specs.declared.kind.Kind.TheVariants.{A8, C5, L1, L2, M2, W1, W2}
+use Rattle.sock_model.specs.sock_words.specs.KindText.{kind_text}
+use Rattle.sock_model.specs.sock_words.specs.declared.plain.Plan.{Plan}
+use Rattle.sock_message.specs.brpc_model.specs.Operations.{Turn, Ticks, Until}
 use Rattle.sock_programs.specs.Calls.{kind_of}
 use Rattle.sock_programs.specs.Writings.{Writing, Puts, Waits, Empties, Walks}
 use Rattle.sock_programs.specs.Programs.{Program, Do, TakeMessage, TakeHome, PutHome, PutBytes, AskReady, Write, Aside, Round}

@@ -2,19 +2,19 @@
 use Rattle.std.specs.Prelude.{ℕ, zero, suc, ◌≡◌, ◌⊎◌, ◌+◌, ◌-◌, ◌*◌, Bool, true, false, not, List, [], ◌∷◌, ◌++◌, map, flat_map, fold, length, replicate, slice_index, None}
 use Rattle.std.specs.List.{AllByRecursion, list_any}
 use mathlib.Core.Option as core
-use Rattle.sock_words.specs.declared.plain.Plan.{Plan}
-use Rattle.sock_words.specs.declared.place_word.PlaceWord.{PlaceWord}
+use Rattle.sock_model.specs.sock_words.specs.declared.plain.Plan.{Plan}
+use Rattle.sock_model.specs.sock_words.specs.declared.place_word.PlaceWord.{PlaceWord}
 use Rattle.sock_model.specs.declared.home.Home.{Home}
 use Rattle.sock_model.specs.declared.home.Home.TheVariants.{Link}
 use Rattle.sock_model.specs.Layout.{all_words, place_word}
-use Rattle.brpc_model.specs.Items.{Item, Send, Call, Expire, Join}
-use Rattle.brpc_model.specs.Operations.{Turn, Ticks, clients, link_names}
-use Rattle.brpc_model.specs.Drawn.{sim_seats}
-use Rattle.brpc_model.specs.Report.{Report}
-use Rattle.brpc_model.specs.PlaceWords.{IsReportOf}
+use Rattle.sock_message.specs.brpc_model.specs.Items.{Item, Send, Call, Expire, Join}
+use Rattle.sock_message.specs.brpc_model.specs.Operations.{Turn, Ticks, clients, link_names}
+use Rattle.sock_message.specs.brpc_model.specs.Drawn.{sim_seats}
+use Rattle.sock_message.specs.brpc_model.specs.Report.{Report}
+use Rattle.sock_message.specs.brpc_model.specs.PlaceWords.{IsReportOf}
 use Rattle.sock_programs.specs.Programs.{Program, Rest}
 use Rattle.sock_programs.specs.Readers.{reader}
-use Rattle.corr_core.specs.declared.marks.Plan.{Plan as IdPlan}
+use Rattle.id_rule.specs.corr_core.specs.declared.marks.Plan.{Plan as IdPlan}
 use Rattle.sock_programs.specs.declared.task.Task.{Task}
 use Rattle.sock_programs.specs.declared.task.Sizes.{Sizes}
 use Rattle.sock_programs.specs.Tasks.{tasks, opens, calls, plan_of, id_plan_of}

@@ -1,8 +1,8 @@
 -- The program of a `send`, and of whoever writes a link: each loop unrolled by one round.
 use Rattle.std.specs.Prelude.{ℕ, zero, suc, ◌+◌, ◌*◌, ◌/◌, ◌%◌, ◌==◌, true, false, List, [], length, drop, nat_lt, nat_le, if◌then◌else◌}
-use Rattle.sock_words.specs.Codes.{EFAILEDSOCKET}
-use Rattle.sock_words.specs.Words.{socket_id_version, socket_id_slot, vref_version}
-use Rattle.sock_words.specs.declared.outcome.Outcome.TheVariants.{Unopened, Gone, Full}
+use Rattle.sock_model.specs.sock_words.specs.Codes.{EFAILEDSOCKET}
+use Rattle.sock_model.specs.sock_words.specs.Words.{socket_id_version, socket_id_slot, vref_version}
+use Rattle.sock_model.specs.sock_words.specs.declared.outcome.Outcome.TheVariants.{Unopened, Gone, Full}
 use Rattle.sock_io.specs.declared.link.Put.{Put}
 use Rattle.sock_io.specs.declared.link.Put.TheVariants as puts
 use Rattle.sock_io.specs.declared.link.Ready.{Ready}

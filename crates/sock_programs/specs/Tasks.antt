@@ -1,14 +1,14 @@
 -- The operations of a script with numbers in place of names and links.
 use Rattle.std.specs.Prelude.{ℕ, ◌+◌, ◌==◌, ◌&&◌, if◌then◌else◌, List, [], ◌∷◌, length, map, filter, filter_map, option_map, bytes_eq, Option, Some, None}
-use Rattle.sock_words.specs.declared.plain.Plan.{Plan}
+use Rattle.sock_model.specs.sock_words.specs.declared.plain.Plan.{Plan}
 use Rattle.sock_programs.specs.declared.task.Op.{Op}
 use Rattle.sock_programs.specs.declared.task.Op.TheVariants as ops
 use Rattle.sock_programs.specs.declared.task.Task.{Task}
 use Rattle.sock_message.specs.Asked.{Asked}
-use Rattle.corr_core.specs.declared.marks.Plan.{Plan as IdPlan}
-use Rattle.brpc_model.specs.Items.{Item, Open, Send, Call, Expire, Join, Fail, Hold, Drop, CallLine, is_open, is_call}
-use Rattle.brpc_model.specs.Places.{names}
-use Rattle.brpc_model.specs.Operations.{Operation, operations, clients, link_names, slots, requests, first_version}
+use Rattle.id_rule.specs.corr_core.specs.declared.marks.Plan.{Plan as IdPlan}
+use Rattle.sock_message.specs.brpc_model.specs.Items.{Item, Open, Send, Call, Expire, Join, Fail, Hold, Drop, CallLine, is_open, is_call}
+use Rattle.sock_message.specs.brpc_model.specs.Places.{names}
+use Rattle.sock_message.specs.brpc_model.specs.Operations.{Operation, operations, clients, link_names, slots, requests, first_version}
 
 -- the number of a name, by the order of first mention
 abbrev pub name_number : List (List ℕ) → List ℕ → ℕ

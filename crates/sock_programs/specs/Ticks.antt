@@ -3,7 +3,7 @@ use Rattle.std.specs.Prelude.{ℕ, ◌≡◌, ◌≢◌, ◌<◌, ◌≤◌, ◌
 use Rattle.std.specs.Prelude as std
 use mathlib.Core.Option.{Option, some, none}
 use lib.ListN.{get_elem?}
-use Rattle.sock_words.specs.declared.plain.Plan.{Plan}
+use Rattle.sock_model.specs.sock_words.specs.declared.plain.Plan.{Plan}
 use Rattle.sock_io.specs.declared.link.Put.{Put}
 use Rattle.sock_io.specs.declared.link.Put.TheVariants.{Took, Again, Failed}
 use Rattle.sock_io.specs.declared.link.Ready.{Ready}
@@ -26,7 +26,7 @@ use Rattle.sock_programs.specs.Rounds.{round}
 use Rattle.sock_programs.specs.Beside.{found_in, calls_after}
 use Rattle.sock_model.specs.Layout.{open_word}
 use Rattle.id_rule.specs.Lawful as ids
-use Rattle.corr_core.specs.Word.{parts}
+use Rattle.id_rule.specs.corr_core.specs.Word.{parts}
 use Rattle.sock_programs.specs.Sends.{block}
 use Rattle.sock_programs.specs.Cores.{Calls, Core, SeatState, lies_at, first_of, others_of, link_place, with_seat, stepped}
 

@@ -1,16 +1,16 @@
 -- Why each task has its outcome, in scripts with calls: what is told of what links accepted, took and gave, and the causes of all outcomes.
 use Rattle.std.specs.Prelude.{ℕ, ◌≡◌, ◌≢◌, ◌+◌, ◌*◌, ◌%◌, ◌<◌, ◌≤◌, ◌⊎◌, nat_le, List, [], ◌∷◌, ◌++◌, slice_get, slice_index, slice_index_or, length, map, flat_map, take, drop, sum_by, Option, Some, None, Contains, IsSome, ℤ, pos}
 use Rattle.std.specs.List.{AllByRecursion}
-use Rattle.sock_words.specs.Codes.{EEOF, EFAILEDSOCKET, EREQUESTS, ERESPONSE, ERPCTIMEDOUT}
-use Rattle.sock_words.specs.declared.plain.Plan.{Plan}
-use Rattle.sock_words.specs.Words.{vref_version}
-use Rattle.sock_words.specs.declared.outcome.Outcome.{Outcome}
-use Rattle.sock_words.specs.declared.outcome.Outcome.TheVariants.{Opened, SlotsFull, Unopened, Gone, Full, Answered, Peer, CallFailed, Held, Freed, Kept, NotHeld, Failed, Already, Expired, Queued, Late, Crowded, Joined, NotBegun}
-use Rattle.brpc_model.specs.Order.{EachBefore, IsCut}
-use Rattle.brpc_model.specs.Meta.{ResponseMeta}
-use Rattle.brpc_model.specs.Frame.{Frame, FrameFault}
-use Rattle.brpc_model.specs.Messages.{shown_id}
-use Rattle.brpc_model.specs.Stream.{stream, Fault}
+use Rattle.sock_model.specs.sock_words.specs.Codes.{EEOF, EFAILEDSOCKET, EREQUESTS, ERESPONSE, ERPCTIMEDOUT}
+use Rattle.sock_model.specs.sock_words.specs.declared.plain.Plan.{Plan}
+use Rattle.sock_model.specs.sock_words.specs.Words.{vref_version}
+use Rattle.sock_model.specs.sock_words.specs.declared.outcome.Outcome.{Outcome}
+use Rattle.sock_model.specs.sock_words.specs.declared.outcome.Outcome.TheVariants.{Opened, SlotsFull, Unopened, Gone, Full, Answered, Peer, CallFailed, Held, Freed, Kept, NotHeld, Failed, Already, Expired, Queued, Late, Crowded, Joined, NotBegun}
+use Rattle.sock_message.specs.brpc_model.specs.Order.{EachBefore, IsCut}
+use Rattle.sock_message.specs.brpc_model.specs.Meta.{ResponseMeta}
+use Rattle.sock_message.specs.brpc_model.specs.Frame.{Frame, FrameFault}
+use Rattle.sock_message.specs.brpc_model.specs.Messages.{shown_id}
+use Rattle.sock_message.specs.brpc_model.specs.Stream.{stream, Fault}
 use Rattle.sock_model.specs.Layout.{place_word}
 use Rattle.sock_model.specs.Deliveries.{place_value}
 use Rattle.sock_message.specs.Asked.{Asked, name_of, frame_of}

@@ -22,9 +22,9 @@ use Rattle.sock_model.specs.SlotRows.{marks_of, knows, claimed, gave_birth, adde
 use Rattle.slot_laws.proofs.Numbers.{pair_le}
 use Rattle.slot_laws.proofs.Sums.{total_mono}
 use Rattle.slot_laws.proofs.Kept.{few_refs, life_found, known_found, some_ref, one_claim}
-use Rattle.sock_steps.proofs.SlotSteps.{KeepsRights}
-use Rattle.sock_steps.proofs.Places.{own_count}
-use Rattle.sock_steps.proofs.RuleSteps.{claim_rule, birth_rule, add_rule, sub_rule, set_odd_rule, recycle_rule, recycle_lost_rule, look_rule, free_rule}
+use Rattle.chain_core.specs.sock_steps.proofs.SlotSteps.{KeepsRights}
+use Rattle.chain_core.specs.sock_steps.proofs.Places.{own_count}
+use Rattle.chain_core.specs.sock_steps.proofs.RuleSteps.{claim_rule, birth_rule, add_rule, sub_rule, set_odd_rule, recycle_rule, recycle_lost_rule, look_rule, free_rule}
 use Rattle.sock_rule.specs.OnTable.{OnTable}
 use Rattle.sock_rule.specs.Plays.{WordFits, claim_told, birth_told, add_told, sub_told, fail_told, recycle_told, free_told, look_told}
 use Rattle.sock_rule.proofs.Beside.{beside}

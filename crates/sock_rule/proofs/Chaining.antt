@@ -25,12 +25,12 @@ use Rattle.sock_model.specs.Rule.{MOST_ACCEPTED, noting, Rule}
 use Rattle.slot_laws.proofs.Sums.{total-append}
 use Rattle.chain_laws.proofs.Bits.{or_one_even, or_one_odd}
 use Rattle.chain_laws.proofs.Lists.{at_length, at_snoc, old, new}
-use Rattle.sock_steps.proofs.Maps.{set_at, set_twice}
-use Rattle.sock_steps.proofs.ClaimSteps.{claiming_law, readying_law, filling_law, claim_alone}
-use Rattle.sock_steps.proofs.Noting.{tried_rule}
-use Rattle.sock_steps.proofs.RuleFrame.{word_rule}
-use Rattle.sock_steps.proofs.RuleSteps.{meet_rule}
-use Rattle.sock_steps.proofs.RuleChains.{queued_rule, righted_rule, connecting_rule, ready_rule, fill_rule}
+use Rattle.chain_core.specs.sock_steps.proofs.Maps.{set_at, set_twice}
+use Rattle.chain_core.specs.sock_steps.proofs.ClaimSteps.{claiming_law, readying_law, filling_law, claim_alone}
+use Rattle.chain_core.specs.sock_steps.proofs.Noting.{tried_rule}
+use Rattle.chain_core.specs.sock_steps.proofs.RuleFrame.{word_rule}
+use Rattle.chain_core.specs.sock_steps.proofs.RuleSteps.{meet_rule}
+use Rattle.chain_core.specs.sock_steps.proofs.RuleChains.{queued_rule, righted_rule, connecting_rule, ready_rule, fill_rule}
 use Rattle.sock_rule.specs.OnTable.{is_labelled, labelled_in, LabelledIn, Labelled, OnTable}
 use Rattle.sock_rule.specs.ChainPlays.{blank, filled_with, request_told, fill_told, ready_told, swap_told, connect_told}
 use Rattle.sock_rule.proofs.Beside.{beside, homes_else}

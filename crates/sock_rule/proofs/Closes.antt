@@ -27,7 +27,7 @@ use Rattle.chain_laws.proofs.Lists.{at_some}
 use Rattle.std.specs.List.{filter, flat_map}
 use Rattle.sock_model.specs.declared.chain.Claim.{Claim}
 use Rattle.sock_model.specs.Reads.{claims_of}
-use Rattle.sock_steps.proofs.Positions.{full_log}
+use Rattle.chain_core.specs.sock_steps.proofs.Positions.{full_log}
 
 pub two_terms : {A : Type 0} (g : A → ℕ) (vs : List A) (i j : ℕ) (v u : A) → get_elem? vs i ≡ some v → get_elem? vs j ≡ some u → ¬ (j ≡ i) → g v + g u ≤ total g vs
 two_terms g [] i j v u e f ne = absurd (some-ne-none v (sym e))

@@ -24,11 +24,11 @@ use Rattle.chain_laws.proofs.Letters.{messages_frame}
 use Rattle.chain_laws.proofs.Lists.{at_length}
 use Rattle.slot_laws.proofs.Numbers.{only-else, only_le, pair-at, pair_only}
 use Rattle.slot_laws.proofs.Sums.{total-set, total_mono}
-use Rattle.sock_steps.proofs.Words.{beside_all}
-use Rattle.sock_steps.proofs.ChainFrame.{SameSlots}
-use Rattle.sock_steps.proofs.ClaimSteps.{rights_stay, other_base}
-use Rattle.sock_steps.proofs.Maps.{set_at, set_twice}
-use Rattle.sock_steps.proofs.RuleFrame.{lasts_all, same_rule}
+use Rattle.chain_core.specs.sock_steps.proofs.Words.{beside_all}
+use Rattle.chain_core.specs.sock_steps.proofs.ChainFrame.{SameSlots}
+use Rattle.chain_core.specs.sock_steps.proofs.ClaimSteps.{rights_stay, other_base}
+use Rattle.chain_core.specs.sock_steps.proofs.Maps.{set_at, set_twice}
+use Rattle.chain_core.specs.sock_steps.proofs.RuleFrame.{lasts_all, same_rule}
 use Rattle.sock_model.specs.Rule.{noting}
 use Rattle.sock_rule.specs.OnTable.{share_of, is_put, put_in, labelled_in, Follows, Settled, Labelled, OnTable}
 use Rattle.sock_rule.specs.Rows.{IsHistory, put_at}

@@ -30,16 +30,16 @@ use Rattle.sock_model.specs.Lawful.{Lawful}
 use Rattle.slot_laws.proofs.Numbers.{life-in, only-at}
 use Rattle.chain_laws.proofs.Frees.{Leads, to_end, to_next, now_slot}
 use Rattle.chain_laws.proofs.Lists.{at_length}
-use Rattle.sock_steps.proofs.Maps.{set_at, set_twice}
-use Rattle.sock_steps.proofs.Places.{own_count, holder_lives}
-use Rattle.sock_steps.proofs.RightSteps.{right_in, right_alone}
-use Rattle.sock_steps.proofs.LinkSteps.{link_goes_law, link_comes_law, link_home_law, clean_look_law}
-use Rattle.sock_steps.proofs.WalkSteps.{passing_law, reading_law, walking_law}
-use Rattle.sock_steps.proofs.WriteSteps.{taking_law, placing_law, dropping_law, freeing_law, retiring_law}
-use Rattle.sock_steps.proofs.SlotSteps.{idle_law}
-use Rattle.sock_steps.proofs.RuleFrame.{word_rule}
-use Rattle.sock_steps.proofs.RuleSteps.{look_rule, load_rule}
-use Rattle.sock_steps.proofs.RuleChains.{right_rule, place_rule, emptied_rule, turning_rule}
+use Rattle.chain_core.specs.sock_steps.proofs.Maps.{set_at, set_twice}
+use Rattle.chain_core.specs.sock_steps.proofs.Places.{own_count, holder_lives}
+use Rattle.chain_core.specs.sock_steps.proofs.RightSteps.{right_in, right_alone}
+use Rattle.chain_core.specs.sock_steps.proofs.LinkSteps.{link_goes_law, link_comes_law, link_home_law, clean_look_law}
+use Rattle.chain_core.specs.sock_steps.proofs.WalkSteps.{passing_law, reading_law, walking_law}
+use Rattle.chain_core.specs.sock_steps.proofs.WriteSteps.{taking_law, placing_law, dropping_law, freeing_law, retiring_law}
+use Rattle.chain_core.specs.sock_steps.proofs.SlotSteps.{idle_law}
+use Rattle.chain_core.specs.sock_steps.proofs.RuleFrame.{word_rule}
+use Rattle.chain_core.specs.sock_steps.proofs.RuleSteps.{look_rule, load_rule}
+use Rattle.chain_core.specs.sock_steps.proofs.RuleChains.{right_rule, place_rule, emptied_rule, turning_rule}
 use Rattle.sock_rule.specs.OnTable.{OnTable}
 use Rattle.sock_rule.specs.Holding.{Part}
 use Rattle.sock_rule.specs.ChainPlays.{IsTicket, TookLetter, TookOwn, took_in, clean_told, take_own_told, note_fault_told, put_own_told, take_letter_told, place_told, drop_told, read_next_told, free_request_told, empty_told, turn_told}

@@ -21,9 +21,9 @@ use Rattle.sock_model.specs.Lawful.{Lawful}
 use Rattle.sock_model.specs.Rule.{Rule}
 use Rattle.slot_laws.proofs.Slots.{moved, few_with}
 use Rattle.slot_laws.proofs.Sums.{total-set, each_set}
-use Rattle.sock_steps.proofs.Places.{counts}
-use Rattle.sock_steps.proofs.RuleFrame.{lasts_all, same_rule}
-use Rattle.sock_steps.proofs.SlotFrame.{still_holds, slot_frame}
+use Rattle.chain_core.specs.sock_steps.proofs.Places.{counts}
+use Rattle.chain_core.specs.sock_steps.proofs.RuleFrame.{lasts_all, same_rule}
+use Rattle.chain_core.specs.sock_steps.proofs.SlotFrame.{still_holds, slot_frame}
 
 -- a weight that such a note has not
 abbrev pub Light : (Mark → ℕ) → Type 0

@@ -21,9 +21,9 @@ use Rattle.sock_model.specs.ChainRows.{with_hand, without_hand, spent_hand}
 use Rattle.slot_laws.proofs.Numbers.{only-same}
 use Rattle.slot_laws.proofs.Slots.{recycled_le}
 use Rattle.slot_laws.proofs.Sums.{total_mono, term_le}
-use Rattle.sock_steps.proofs.Places.{own_count}
-use Rattle.sock_steps.proofs.HandSteps.{take_last_law, put_hand_law, spend_law}
-use Rattle.sock_steps.proofs.RuleSteps.{take_rule, spend_rule, put_rule}
+use Rattle.chain_core.specs.sock_steps.proofs.Places.{own_count}
+use Rattle.chain_core.specs.sock_steps.proofs.HandSteps.{take_last_law, put_hand_law, spend_law}
+use Rattle.chain_core.specs.sock_steps.proofs.RuleSteps.{take_rule, spend_rule, put_rule}
 use Rattle.sock_rule.specs.OnTable.{OnTable}
 use Rattle.sock_rule.specs.Plays.{TookLink, take_last_told, spend_told, put_told}
 use Rattle.sock_rule.specs.Faults.{faults_of, fault_found, fault_left, out_of}

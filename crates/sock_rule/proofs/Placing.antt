@@ -30,11 +30,11 @@ use Rattle.chain_laws.proofs.Lists.{at_length, at_some}
 use Rattle.slot_laws.proofs.Numbers.{only-at, only-else, pair_only, pair_is, pair-at}
 use Rattle.slot_laws.proofs.Stored.{noted-else}
 use Rattle.slot_laws.proofs.Sums.{total-set, term_le}
-use Rattle.sock_steps.proofs.Maps.{put, put-at, put-else, set_at, set_twice}
-use Rattle.sock_steps.proofs.RightSteps.{right_in, right_alone}
-use Rattle.sock_steps.proofs.RuleFrame.{lasts_all, same_rule}
-use Rattle.sock_steps.proofs.SlotFrame.{still_holds, slot_frame}
-use Rattle.sock_steps.proofs.Steady.{wrote_steady}
+use Rattle.chain_core.specs.sock_steps.proofs.Maps.{put, put-at, put-else, set_at, set_twice}
+use Rattle.chain_core.specs.sock_steps.proofs.RightSteps.{right_in, right_alone}
+use Rattle.chain_core.specs.sock_steps.proofs.RuleFrame.{lasts_all, same_rule}
+use Rattle.chain_core.specs.sock_steps.proofs.SlotFrame.{still_holds, slot_frame}
+use Rattle.chain_core.specs.sock_steps.proofs.Steady.{wrote_steady}
 use Rattle.sock_rule.specs.OnTable.{share_of, is_put, put_in, DROPPED, is_labelled, labelled_in, IsDropKept, Follows, Settled, Labelled, OnTable}
 use Rattle.sock_rule.proofs.Beside.{SameShare, Calm, drop_stays, beside_placed}
 use Rattle.sock_rule.proofs.Faults.{calm}

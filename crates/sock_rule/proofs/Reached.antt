@@ -28,12 +28,12 @@ use Rattle.chain_laws.proofs.Gather.{gather_same}
 use Rattle.chain_laws.proofs.Claims.{free_of}
 use Rattle.chain_laws.proofs.Heads.{held_of, slot_is}
 use Rattle.chain_laws.proofs.Letters.{writes_room}
-use Rattle.sock_steps.proofs.Words.{beside_all}
-use Rattle.sock_steps.proofs.ChainFrame.{SameSlots}
-use Rattle.sock_steps.proofs.ClaimSteps.{rights_stay, other_base}
-use Rattle.sock_steps.proofs.RightSteps.{right_in, right_alone}
+use Rattle.chain_core.specs.sock_steps.proofs.Words.{beside_all}
+use Rattle.chain_core.specs.sock_steps.proofs.ChainFrame.{SameSlots}
+use Rattle.chain_core.specs.sock_steps.proofs.ClaimSteps.{rights_stay, other_base}
+use Rattle.chain_core.specs.sock_steps.proofs.RightSteps.{right_in, right_alone}
 use Rattle.sock_model.specs.Rule.{Rule}
-use Rattle.sock_steps.proofs.Positions.{place_fits}
+use Rattle.chain_core.specs.sock_steps.proofs.Positions.{place_fits}
 use Rattle.sock_rule.specs.OnTable.{Labelled}
 use Rattle.sock_rule.specs.ChainPlays.{IsTicket}
 

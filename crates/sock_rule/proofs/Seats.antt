@@ -20,10 +20,10 @@ use Rattle.sock_model.specs.Rule.{lists_of, Rule}
 use Rattle.chain_laws.proofs.Lists.{at_length}
 use Rattle.slot_laws.proofs.Sums.{total-set, total-append}
 use Rattle.slot_laws.proofs.Seats.{passes-left}
-use Rattle.sock_steps.proofs.Maps.{set_at, set_twice}
-use Rattle.sock_steps.proofs.Reseat.{opening_law}
-use Rattle.sock_steps.proofs.RuleSeats.{opening_rule, splitting_rule, joining_rule}
-use Rattle.sock_steps.proofs.Carriers.{carrying_rule}
+use Rattle.chain_core.specs.sock_steps.proofs.Maps.{set_at, set_twice}
+use Rattle.chain_core.specs.sock_steps.proofs.Reseat.{opening_law}
+use Rattle.chain_core.specs.sock_steps.proofs.RuleSeats.{opening_rule, splitting_rule, joining_rule}
+use Rattle.chain_core.specs.sock_steps.proofs.Carriers.{carrying_rule}
 use Rattle.sock_rule.specs.OnTable.{share_of, is_put, put_in, is_labelled, labelled_in, IsIdle, Labelled, OnTable, opener}
 use Rattle.sock_rule.specs.Seated.{giving, given, MayGive, passing, passed, IsDone, IsNew}
 use Rattle.sock_rule.specs.Faults.{faults_link, faults_of, away, out_of}

@@ -10,7 +10,7 @@ use Rattle.sock_words.specs.declared.plain.Plan.{Plan}
 use Rattle.sock_model.specs.declared.view.StoredWord.{StoredWord}
 use Rattle.sock_model.specs.Marks.{latest}
 use Rattle.sock_model.specs.Layout.{code_word, request_word, next_word, place_word}
-use Rattle.sock_steps.proofs.Maps.{put, put-at, put-else, set_at}
+use Rattle.chain_core.specs.sock_steps.proofs.Maps.{put, put-at, put-else, set_at}
 use Rattle.sock_rule.specs.OnTable.{Settled}
 
 module _ {S : Type 0} {p : Plan} {stored : List StoredWord} {placed : ℕ → ℕ} {ws : List ℕ} {hs : List (Option S)} (t : Settled p stored placed ws hs) where

@@ -22,10 +22,10 @@ use Rattle.slot_laws.proofs.Numbers.{live_le}
 use Rattle.slot_laws.proofs.Slots.{recycled_le}
 use Rattle.slot_laws.proofs.Sums.{total_mono}
 use Rattle.atomic_table.proofs.Lists.{at_map}
-use Rattle.sock_steps.proofs.Places.{own_count}
-use Rattle.sock_steps.proofs.SlotSteps.{idle_law}
-use Rattle.sock_steps.proofs.RuleSteps.{load_rule, link_rule, meet_rule, meet_last_rule, reset_rule, wipe_rule, code_rule, found_code_rule, find_note_rule, store_name_note_rule, store_open_note_rule}
-use Rattle.sock_steps.proofs.Noting.{step_notes}
+use Rattle.chain_core.specs.sock_steps.proofs.Places.{own_count}
+use Rattle.chain_core.specs.sock_steps.proofs.SlotSteps.{idle_law}
+use Rattle.chain_core.specs.sock_steps.proofs.RuleSteps.{load_rule, link_rule, meet_rule, meet_last_rule, reset_rule, wipe_rule, code_rule, found_code_rule, find_note_rule, store_name_note_rule, store_open_note_rule}
+use Rattle.chain_core.specs.sock_steps.proofs.Noting.{step_notes}
 use Rattle.sock_rule.specs.OnTable.{put_in, OnTable}
 use Rattle.sock_rule.specs.Rows.{NOTHING, finding, put_at}
 use Rattle.sock_rule.specs.Plays.{link_told, meet_told, meet_last_told, reset_told, wipe_told, code_told, read_told, store_told, find_told, find_name_told}

@@ -9,8 +9,8 @@ use Rattle.atomic_table.proofs.Lists.{set_again}
 use Rattle.sock_words.specs.declared.plain.Plan.{Plan}
 use Rattle.sock_model.specs.declared.view.View.{View}
 use Rattle.sock_model.specs.Weights.{total}
-use Rattle.corr_core.specs.Word.{parts, made_word, posted_word, unlocked_word, free_word}
-use Rattle.id_rule.specs.Lawful.{id_word, at_word}
+use Rattle.sock_programs.specs.corr_core.specs.Word.{parts, made_word, posted_word, unlocked_word, free_word}
+use Rattle.sock_programs.specs.id_rule.specs.Lawful.{id_word, at_word}
 use Rattle.sock_programs.specs.Asides.{Step, Found, ClaimId, PutCall, MakeId, StoreCall, LoadCall, StoreAt, LoadAt, LoadIdWord, LockId, PostId, UnlockId, EndId, FreeId, TakeCall, TakeBytes, Taking, Bytes}
 use Rattle.sock_programs.specs.Beside.{found_in, calls_after, with_word, more_given}
 use Rattle.sock_programs.specs.Posts.{packed, advance_of}

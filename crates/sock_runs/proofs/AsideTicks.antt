@@ -1,9 +1,9 @@
 -- What each kind of change of an id word is counted for.
 use Rattle.std.proofs.Common.{◌≡◌, ◌≢◌, ℕ, zero, suc, ◌+◌, ◌-◌, ◌*◌, ◌<◌, ◌≤◌, Bool, true, false, List, length, set, refl, sym, ap, ap₂, ◌∙◌, subst, arith, cond, eqb, eq-eqb, get_or-set_other}
 use Rattle.std.specs.Prelude.{slice_index}
-use Rattle.corr_core.specs.Word.{Parts, parts, made_word, locked_word, posted_word, unlocked_word, free_word}
-use Rattle.corr_core.specs.declared.marks.Plan.{Plan as IdPlan}
-use Rattle.id_rule.specs.Lawful.{tag_word, id_word, call_word, at_word}
+use Rattle.sock_programs.specs.corr_core.specs.Word.{Parts, parts, made_word, locked_word, posted_word, unlocked_word, free_word}
+use Rattle.sock_programs.specs.corr_core.specs.declared.marks.Plan.{Plan as IdPlan}
+use Rattle.sock_programs.specs.id_rule.specs.Lawful.{tag_word, id_word, call_word, at_word}
 use Rattle.sock_programs.specs.Posts.{packed, advance_of}
 use Rattle.sock_runs.specs.Lasts.{ERROR, attempt_cost, popped_gain, id_left, ids_left}
 use Rattle.sock_runs.proofs.Passes.{packed_attempt, packed_range}

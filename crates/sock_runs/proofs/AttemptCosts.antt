@@ -6,7 +6,7 @@ use Rattle.sock_model.specs.declared.chain.Heading.{Heading}
 use Rattle.sock_model.specs.declared.view.View.{View}
 use Rattle.sock_model.specs.Entries.{ticket_of}
 use Rattle.sock_model.specs.Memory.{IDLE}
-use Rattle.sock_message.specs.Asked.{Asked, name_of, frame_of}
+use Rattle.sock_programs.specs.sock_message.specs.Asked.{Asked, name_of, frame_of}
 use Rattle.sock_programs.specs.Calls.{AddRef, SubRef, Recycle, FreeSlot, LoadLink, LoadName, TakeLink, FinishLink, PutLink, LookWord, FindLink, ClaimRequest, PutMessage, Unconnect, SwapHead, Connect}
 use Rattle.sock_programs.specs.Asides.{StoreAt, id_slot, id_first}
 use Rattle.sock_programs.specs.Heads.{Unlocks, Unlocking, IsOpen, HasNext, Deciding, HasEnded, Locking, NotThere, Has}

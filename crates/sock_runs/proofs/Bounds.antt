@@ -11,8 +11,8 @@ use Rattle.sock_model.specs.Marks.{about}
 use Rattle.sock_model.specs.Layout.{ref_word}
 use Rattle.sock_model.specs.Slots.{SlotLaw, live, count}
 use Rattle.sock_model.specs.References.{slot_facts, References}
-use Rattle.slot_laws.proofs.Sums.{total_bound}
-use Rattle.slot_laws.proofs.Numbers.{live_le}
+use Rattle.sock_steps.specs.slot_laws.proofs.Sums.{total_bound}
+use Rattle.sock_steps.specs.slot_laws.proofs.Numbers.{live_le}
 
 module _ (p : Plan) (s : State Home View) (o : References p s) (i : ℕ) (inside : i < p.slots) where
   abbrev pub word : ℕ

@@ -4,9 +4,9 @@ use mathlib.Core.Option.{Option, some, none, some-injective, some-ne-none}
 use lib.ListN.{get_elem?}
 use Rattle.atomic_table.proofs.Lists.{set_again}
 use Rattle.sock_words.specs.declared.plain.Plan.{Plan}
-use Rattle.sock_io.specs.declared.link.Put.{Put}
-use Rattle.sock_io.specs.declared.link.Put.TheVariants.{Took, Again, Failed}
-use Rattle.sock_io.specs.declared.link.Ready.{Ready}
+use Rattle.sock_programs.specs.sock_io.specs.declared.link.Put.{Put}
+use Rattle.sock_programs.specs.sock_io.specs.declared.link.Put.TheVariants.{Took, Again, Failed}
+use Rattle.sock_programs.specs.sock_io.specs.declared.link.Ready.{Ready}
 use Rattle.sock_model.specs.declared.chain.Heading.{Heading}
 use Rattle.sock_model.specs.declared.chain.Right.{Right}
 use Rattle.sock_model.specs.declared.home.Home.{Home}
@@ -24,7 +24,7 @@ use Rattle.sock_programs.specs.Rounds.{round}
 use Rattle.sock_programs.specs.Beside.{found_in, calls_after}
 use Rattle.sock_runs.specs.Fits.{FitsFound}
 use Rattle.sock_programs.specs.Sends.{block}
-use Rattle.corr_core.specs.Word.{parts, code_of}
+use Rattle.sock_programs.specs.corr_core.specs.Word.{parts, code_of}
 use Rattle.sock_programs.specs.Asides.{PutCall, id_slot}
 use Rattle.sock_programs.specs.Heads.{HasEnded}
 use Rattle.sock_programs.specs.Posts.{ends_call, end_id, unlocked}

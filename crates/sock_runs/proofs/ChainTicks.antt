@@ -32,12 +32,12 @@ use Rattle.sock_model.specs.Deliveries.{place_value}
 use Rattle.sock_model.specs.Reads.{memory, tokens, link_home}
 use Rattle.sock_model.specs.ChainRows.{with_claim, with_right, without_right, queued, righted, new_right, turned_right, placed_right, dropped_right}
 use Rattle.sock_model.specs.Lawful.{Lawful}
-use Rattle.slot_laws.proofs.Numbers.{life-in}
-use Rattle.chain_laws.proofs.Lists.{at_length, at_some, ticket_at_is}
-use Rattle.chain_laws.proofs.Frames.{in_size}
-use Rattle.chain_laws.proofs.Heads.{held_of, slot_is}
-use Rattle.chain_laws.proofs.Nexts.{turn_slot}
-use Rattle.chain_laws.proofs.Frees.{Leads, to_end, to_next, now_small}
+use Rattle.sock_steps.specs.slot_laws.proofs.Numbers.{life-in}
+use Rattle.sock_steps.specs.chain_laws.proofs.Lists.{at_length, at_some, ticket_at_is}
+use Rattle.sock_steps.specs.chain_laws.proofs.Frames.{in_size}
+use Rattle.sock_steps.specs.chain_laws.proofs.Heads.{held_of, slot_is}
+use Rattle.sock_steps.specs.chain_laws.proofs.Nexts.{turn_slot}
+use Rattle.sock_steps.specs.chain_laws.proofs.Frees.{Leads, to_end, to_next, now_small}
 use Rattle.sock_steps.proofs.Maps.{set_at, set_twice}
 use Rattle.sock_steps.proofs.Places.{own_count, holder_lives}
 use Rattle.sock_steps.proofs.SlotSteps.{look_law, meet_law, found_code_law, idle_law}

@@ -17,11 +17,11 @@ use Rattle.sock_model.specs.Layout.{ref_word, open_word}
 use Rattle.sock_model.specs.SlotRows.{marks_of}
 use Rattle.sock_model.specs.Slots.{version_of, count, live}
 use Rattle.sock_model.specs.References.{slot_facts}
-use Rattle.slot_laws.proofs.Numbers.{life_is, life-in, live-odd, or-even, or-odd}
+use Rattle.sock_steps.specs.slot_laws.proofs.Numbers.{life_is, life-in, live-odd, or-even, or-odd}
 use Rattle.sock_steps.proofs.Places.{counts}
 use Rattle.sock_programs.specs.Calls.{Call, GiveBirth, AddRef, SetOdd, StoreOpen, LoadOpen}
-use Rattle.sock_io.specs.declared.link.Put.{Put}
-use Rattle.sock_io.specs.declared.link.Ready.{Ready}
+use Rattle.sock_programs.specs.sock_io.specs.declared.link.Put.{Put}
+use Rattle.sock_programs.specs.sock_io.specs.declared.link.Ready.{Ready}
 use Rattle.sock_model.specs.declared.chain.Heading.{Heading}
 use Rattle.sock_programs.specs.Asides.{Found}
 use Rattle.sock_programs.specs.Heads.{Exit, Retry}

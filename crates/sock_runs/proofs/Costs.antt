@@ -4,9 +4,9 @@ use Rattle.std.proofs.lemmas.Bool.{true≢false}
 use Rattle.std.proofs.lemmas.List.{length-drop}
 use Rattle.sock_words.specs.declared.plain.Plan.{Plan}
 use Rattle.sock_words.specs.Words.{socket_id_version, socket_id_slot, vref_version, vref_nref}
-use Rattle.sock_io.specs.declared.link.Put.{Put}
-use Rattle.sock_io.specs.declared.link.Put.TheVariants as puts
-use Rattle.sock_io.specs.declared.link.Ready.TheVariants as asks
+use Rattle.sock_programs.specs.sock_io.specs.declared.link.Put.{Put}
+use Rattle.sock_programs.specs.sock_io.specs.declared.link.Put.TheVariants as puts
+use Rattle.sock_programs.specs.sock_io.specs.declared.link.Ready.TheVariants as asks
 use Rattle.sock_model.specs.declared.chain.Heading.{Heading}
 use Rattle.sock_model.specs.declared.marks.Mark.{Mark}
 use Rattle.sock_model.specs.declared.marks.Mark.TheVariants.{Hold, Coding, Saw, Failer, Stored, Told, Zero}
@@ -26,8 +26,8 @@ use Rattle.sock_programs.specs.Posts.{post}
 use Rattle.sock_programs.specs.Ticks.{FitsPut}
 use Rattle.sock_programs.specs.Cores.{next_step}
 use Rattle.sock_steps.proofs.Quiet.{either_way}
-use Rattle.slot_laws.proofs.Sums.{about-here}
-use Rattle.slot_laws.proofs.Numbers.{only-same}
+use Rattle.sock_steps.specs.slot_laws.proofs.Sums.{about-here}
+use Rattle.sock_steps.specs.slot_laws.proofs.Numbers.{only-same}
 use Rattle.sock_runs.specs.Rows.{row, by_right, looked_clean, took_message, link_home_again, link_away, took_bytes}
 use Rattle.sock_runs.specs.May.{IsOfHeld, FindsFailed}
 use Rattle.sock_runs.specs.Writes.{At}

@@ -22,10 +22,10 @@ use Rattle.sock_model.specs.ChainRows.{with_hand, spent_hand, entry_of, more, qu
 use Rattle.sock_model.specs.Lawful.{Lawful}
 use Rattle.sock_model.specs.Rule.{MOST_ACCEPTED, AreShort, lists_of}
 use Rattle.sock_words.specs.Words.{socket_id_version, socket_id_slot}
-use Rattle.slot_laws.proofs.Sums.{term_le, total_bound}
-use Rattle.chain_laws.proofs.Frames.{in_size}
-use Rattle.chain_laws.proofs.Heads.{held_of}
-use Rattle.chain_laws.proofs.Lists.{nth_some}
+use Rattle.sock_steps.specs.slot_laws.proofs.Sums.{term_le, total_bound}
+use Rattle.sock_steps.specs.chain_laws.proofs.Frames.{in_size}
+use Rattle.sock_steps.specs.chain_laws.proofs.Heads.{held_of}
+use Rattle.sock_steps.specs.chain_laws.proofs.Lists.{nth_some}
 use Rattle.sock_steps.proofs.Quiet.{either_way}
 use Rattle.sock_steps.proofs.RightSteps.{right_in, right_alone}
 use Rattle.sock_steps.proofs.RuleFrame.{SameNotes, accept_short}

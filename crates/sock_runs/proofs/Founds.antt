@@ -19,10 +19,10 @@ use Rattle.sock_model.specs.Slots.{count}
 use Rattle.sock_model.specs.References.{slot_facts}
 use Rattle.sock_model.specs.Reads.{waits_of, memory, tokens}
 use Rattle.sock_model.specs.Lawful.{Lawful}
-use Rattle.slot_laws.proofs.Sums.{term_le, total_mono, tally_mono}
-use Rattle.slot_laws.proofs.Numbers.{pair_le}
-use Rattle.slot_laws.proofs.Slots.{recycled_le}
-use Rattle.slot_laws.proofs.Kept.{life_found}
+use Rattle.sock_steps.specs.slot_laws.proofs.Sums.{term_le, total_mono, tally_mono}
+use Rattle.sock_steps.specs.slot_laws.proofs.Numbers.{pair_le}
+use Rattle.sock_steps.specs.slot_laws.proofs.Slots.{recycled_le}
+use Rattle.sock_steps.specs.slot_laws.proofs.Kept.{life_found}
 use Rattle.sock_steps.proofs.Places.{own_count, given_unwaited}
 use Rattle.sock_programs.specs.Calls.{Call, ClaimSlot, GiveBirth, AddRef, SubRef, SetOdd, Recycle, FreeSlot, StoreLink, LoadLink, ResetHead, WipeCode, StoreCode, StoreName, LoadName, StoreOpen, LoadOpen, TakeLink, FinishLink, PutLink, LookWord, FindLink, LoadCode, ClaimRequest, PutMessage, Unconnect, SwapHead, Connect, EmptyHead, ReadNext, TurnNext, FreeRequest, StorePlace, DropPlace}
 use Rattle.sock_programs.specs.Programs.{NO_SOCKET}

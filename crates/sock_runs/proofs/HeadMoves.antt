@@ -7,15 +7,15 @@ use mathlib.Core.Option.{Option, some, none}
 use lib.ListN.{get_elem?}
 use Rattle.sock_words.specs.declared.plain.Plan.{Plan}
 use Rattle.sock_words.specs.declared.kind.Kind.{Kind}
-use Rattle.sock_io.specs.declared.link.Ready.TheVariants.{NotYet}
+use Rattle.sock_programs.specs.sock_io.specs.declared.link.Ready.TheVariants.{NotYet}
 use Rattle.sock_model.specs.declared.view.View.{View}
 use Rattle.sock_model.specs.declared.view.Hand.{Hand}
 use Rattle.sock_model.specs.Layout.{open_word}
 use Rattle.sock_model.specs.Weights.{total}
-use Rattle.corr_core.specs.Word.{parts, posted_word, unlocked_word, code_of}
-use Rattle.corr_core.specs.Law.{LAST}
-use Rattle.id_rule.specs.Lawful.{id_word}
-use Rattle.sock_message.specs.Asked.{Asked}
+use Rattle.sock_programs.specs.corr_core.specs.Word.{parts, posted_word, unlocked_word, code_of}
+use Rattle.sock_programs.specs.corr_core.specs.Law.{LAST}
+use Rattle.sock_programs.specs.id_rule.specs.Lawful.{id_word}
+use Rattle.sock_programs.specs.sock_message.specs.Asked.{Asked}
 use Rattle.sock_programs.specs.Calls.{LoadOpen}
 use Rattle.sock_programs.specs.Asides.{Step, Found, ClaimId, PutCall, MakeId, StoreCall, LoadCall, StoreAt, LoadAt, LoadIdWord, LockId, PostId, UnlockId, EndId, FreeId, TakeCall, TakeBytes, Taking, Bytes, Nothing, NoMore, AtEnd, Closed, Broken, id_slot, id_first}
 use Rattle.sock_programs.specs.Heads.{Head, Exit, Sought, Reading, Posts, Unlocks, Decides, Locks, Joins, Opens, Reads, Discards, Posting, WasQueued, HasLocked, Unlocking, Deciding, HasEnded, Locking, Has, Ended}

@@ -4,8 +4,8 @@ use mathlib.Core.Logic.{dite}
 use native.Mathlib.Decide.{ℕ_discrete}
 use Rattle.std.specs.Prelude.{slice_index, Some}
 use Rattle.sock_model.specs.Weights.{total}
-use Rattle.corr_core.specs.Word.{Parts, parts, made_word, locked_word, posted_word, unlocked_word, free_word}
-use Rattle.id_rule.specs.Lawful.{id_word}
+use Rattle.sock_programs.specs.corr_core.specs.Word.{Parts, parts, made_word, locked_word, posted_word, unlocked_word, free_word}
+use Rattle.sock_programs.specs.id_rule.specs.Lawful.{id_word}
 use Rattle.sock_programs.specs.Asides.{id_slot}
 use Rattle.sock_programs.specs.Heads.{Head, Posts, Unlocks, Locks}
 use Rattle.sock_programs.specs.Programs.{Program, Round}

@@ -10,9 +10,9 @@ use lib.ListN.{get_elem?}
 use Rattle.std.specs.Prelude.{slice_index, None}
 use Rattle.atomic_table.proofs.Lists.{at_set, set_again}
 use Rattle.sock_words.specs.declared.plain.Plan.{Plan}
-use Rattle.sock_io.specs.declared.link.Put.{Put}
-use Rattle.sock_io.specs.declared.link.Ready.{Ready}
-use Rattle.sock_io.specs.declared.link.Ready.TheVariants.{NotYet}
+use Rattle.sock_programs.specs.sock_io.specs.declared.link.Put.{Put}
+use Rattle.sock_programs.specs.sock_io.specs.declared.link.Ready.{Ready}
+use Rattle.sock_programs.specs.sock_io.specs.declared.link.Ready.TheVariants.{NotYet}
 use Rattle.sock_model.specs.declared.chain.Entry.{Entry}
 use Rattle.sock_model.specs.declared.chain.Heading.{Heading}
 use Rattle.sock_model.specs.declared.chain.Right.{Right}
@@ -27,9 +27,9 @@ use Rattle.sock_model.specs.Weights.{total, only}
 use Rattle.sock_model.specs.Messages.{Letter}
 use Rattle.sock_model.specs.ChainRows.{entry_of, more, new_right, queued, righted}
 use Rattle.sock_model.specs.Reads.{letter_of, took_of, as_link, shown, message, link_home}
-use Rattle.slot_laws.proofs.Sums.{total-set}
-use Rattle.slot_laws.proofs.Numbers.{only-same}
-use Rattle.chain_laws.proofs.Few.{few_rights}
+use Rattle.sock_steps.specs.slot_laws.proofs.Sums.{total-set}
+use Rattle.sock_steps.specs.slot_laws.proofs.Numbers.{only-same}
+use Rattle.sock_steps.specs.chain_laws.proofs.Few.{few_rights}
 use Rattle.sock_steps.proofs.Maps.{set_at}
 use Rattle.sock_runs.proofs.Along.{place_inside}
 use Rattle.sock_steps.proofs.AcceptSteps.{link_in, idle_home}
@@ -39,9 +39,9 @@ use Rattle.sock_programs.specs.Calls.{Call, SwapHead, PutMessage, ReadNext, Turn
 use Rattle.sock_programs.specs.Programs.{Program, Do, Say, Sent, Rest, TakeMessage, TakeHome, PutHome, PutBytes, AskReady, Write, Aside, Round, Keep, Retries}
 use Rattle.sock_programs.specs.Heads.{Retry}
 use Rattle.sock_programs.specs.Sends.{block}
-use Rattle.corr_core.specs.Word.{parts}
-use Rattle.corr_core.specs.declared.marks.Plan.{Plan as IdPlan}
-use Rattle.id_rule.specs.Lawful.{id_word}
+use Rattle.sock_programs.specs.corr_core.specs.Word.{parts}
+use Rattle.sock_programs.specs.corr_core.specs.declared.marks.Plan.{Plan as IdPlan}
+use Rattle.sock_programs.specs.id_rule.specs.Lawful.{id_word}
 use Rattle.sock_programs.specs.Cores.{Calls, Core, SeatState, resolved, still_waiting, waiting_at, word_of, word_after, found_at, words_after, homes_after, hand_after, lies_at, first_of, others_of, link_place, with_seat, next_step, stepped}
 use Rattle.sock_programs.specs.Ticks.{Answer, OfReady, FitsPut, IsAnswer, fed, with_places, onto_first, with_message, with_link, step_with, tick_with, waits_at, waits}
 use Rattle.sock_programs.specs.Runs.{kind_in}

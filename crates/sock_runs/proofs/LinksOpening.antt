@@ -7,10 +7,10 @@ use mathlib.Core.Option.{some, some-injective, some-ne-none}
 use lib.ListN.{get_elem?}
 use Rattle.sock_words.specs.Words.{socket_id_slot}
 use Rattle.sock_words.specs.declared.plain.Plan.{Plan}
-use Rattle.brpc_model.specs.Items.{Item, Open, Send, Call, Expire, Join, Hold, Drop, Fail, is_open}
-use Rattle.brpc_model.specs.Operations.{Operation, operations}
-use Rattle.brpc_model.specs.Places.{names}
-use Rattle.corr_core.specs.declared.marks.Plan.{Plan as IdPlan}
+use Rattle.sock_programs.specs.brpc_model.specs.Items.{Item, Open, Send, Call, Expire, Join, Hold, Drop, Fail, is_open}
+use Rattle.sock_programs.specs.brpc_model.specs.Operations.{Operation, operations}
+use Rattle.sock_programs.specs.brpc_model.specs.Places.{names}
+use Rattle.sock_programs.specs.corr_core.specs.declared.marks.Plan.{Plan as IdPlan}
 use Rattle.sock_model.specs.declared.view.View.{View}
 use Rattle.sock_model.specs.Weights.{total, is_linked}
 use Rattle.sock_model.specs.Marks.{about}

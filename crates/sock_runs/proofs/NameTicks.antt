@@ -16,9 +16,9 @@ use Rattle.sock_model.specs.References.{slot_facts, References, Names, Stores, s
 use Rattle.sock_model.specs.SlotRows.{met, wrote}
 use Rattle.sock_model.specs.Slots.{SlotFacts, SlotLaw, live, count}
 use Rattle.sock_model.specs.Lawful.{Lawful}
-use Rattle.slot_laws.proofs.Sums.{total-set, term_le}
-use Rattle.slot_laws.proofs.Frame.{apart}
-use Rattle.slot_laws.proofs.Stored.{noted-else, noted-here}
+use Rattle.sock_steps.specs.slot_laws.proofs.Sums.{total-set, term_le}
+use Rattle.sock_steps.specs.slot_laws.proofs.Frame.{apart}
+use Rattle.sock_steps.specs.slot_laws.proofs.Stored.{noted-else, noted-here}
 use Rattle.sock_steps.proofs.Steady.{wrote_steady}
 use Rattle.sock_steps.proofs.SlotSteps.{slot_law, idle_law, find_law, store_name_law, store_open_law}
 use Rattle.sock_programs.specs.Calls.{StoreName, LoadName, StoreOpen, LoadOpen}

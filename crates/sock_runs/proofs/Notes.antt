@@ -15,9 +15,9 @@ use Rattle.sock_model.specs.Marks.{at, without_at}
 use Rattle.sock_model.specs.Slots.{version_of, nref_of}
 use Rattle.sock_model.specs.SlotRows.{marks_of, back, met}
 use Rattle.sock_model.specs.ChainRows.{with_hand, spent_hand}
-use Rattle.slot_laws.proofs.Sums.{about-other}
-use Rattle.slot_laws.proofs.Numbers.{only-else}
-use Rattle.slot_laws.proofs.Slots.{stage_is, any_recycled, hold_is, probe_is, zero_is}
+use Rattle.sock_steps.specs.slot_laws.proofs.Sums.{about-other}
+use Rattle.sock_steps.specs.slot_laws.proofs.Numbers.{only-else}
+use Rattle.sock_steps.specs.slot_laws.proofs.Slots.{stage_is, any_recycled, hold_is, probe_is, zero_is}
 use Rattle.sock_steps.proofs.Quiet.{either_way, Less, More, less_add, less_all, less_without, more_add, more_all, more_without}
 use Rattle.sock_programs.specs.Calls.{Call, ClaimSlot, GiveBirth, AddRef, SubRef, SetOdd, Recycle, FreeSlot, StoreLink, LoadLink, ResetHead, WipeCode, StoreCode, StoreName, LoadName, StoreOpen, LoadOpen, TakeLink, FinishLink, PutLink}
 use Rattle.sock_runs.specs.Rows.{row, is_id, found_id}

@@ -10,7 +10,7 @@ use native.Mathlib.Decide.{ℕ_discrete, dec_le}
 use lib.ListN.{get_elem?}
 use Rattle.sock_words.specs.Words.{socket_id_slot}
 use Rattle.sock_words.specs.declared.plain.Plan.{Plan}
-use Rattle.brpc_model.specs.Order.{EachBefore}
+use Rattle.sock_programs.specs.brpc_model.specs.Order.{EachBefore}
 use Rattle.sock_model.specs.declared.view.View.{View}
 use Rattle.sock_model.specs.Weights.{total, is_born}
 use Rattle.sock_model.specs.Marks.{about}
@@ -24,7 +24,7 @@ use Rattle.sock_programs.specs.Clients.{HeldLife, held_under, without_name, give
 use Rattle.sock_programs.specs.Cores.{SeatState, resolved, next_step}
 use Rattle.sock_programs.specs.Scripts.{free_slots, opening_words, sizes_of, beginning, programs, readers_from}
 use Rattle.sock_model.specs.Layout.{all_words, open_word}
-use Rattle.corr_core.specs.declared.marks.Plan.{Plan as IdPlan}
+use Rattle.sock_programs.specs.corr_core.specs.declared.marks.Plan.{Plan as IdPlan}
 use Rattle.sock_programs.specs.Told.{HaveOwnLinks, Differ, AreTasks}
 use Rattle.sock_runs.proofs.Along.{place_inside}
 use Rattle.sock_runs.proofs.Ends.{none_has}

@@ -2,9 +2,9 @@
 use Rattle.std.proofs.Common.{◌≡◌, ◌≢◌, ℕ, zero, suc, ◌+◌, ◌-◌, ◌*◌, ◌<◌, ◌≤◌, Bool, true, false, ◌&&◌, List, [], ◌∷◌, ◌++◌, length, length-append, length-drop, drop, refl, arith, cond, nat_lt, None}
 use Rattle.sock_words.specs.declared.plain.Plan.{Plan}
 use Rattle.sock_model.specs.declared.view.View.{View}
-use Rattle.brpc_model.specs.Frame.{Frame, Judged, NoneYet, Faulty, Begins, judged}
-use Rattle.brpc_model.specs.Stream as streams
-use Rattle.corr_core.specs.Word.{parts}
+use Rattle.sock_programs.specs.brpc_model.specs.Frame.{Frame, Judged, NoneYet, Faulty, Begins, judged}
+use Rattle.sock_programs.specs.brpc_model.specs.Stream as streams
+use Rattle.sock_programs.specs.corr_core.specs.Word.{parts}
 use Rattle.sock_programs.specs.Asides.{TakeBytes, Taking, Bytes, Nothing, NoMore, AtEnd, Closed, Broken, call_id}
 use Rattle.sock_programs.specs.Heads.{Version, Reading, Locks, Reads, Discards, Locking, NotThere, Has, Ended}
 use Rattle.sock_programs.specs.Programs.{Program, Say, Round}

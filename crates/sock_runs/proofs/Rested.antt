@@ -13,7 +13,7 @@ use Rattle.sock_model.specs.Layout.{ref_word, open_word}
 use Rattle.sock_model.specs.Weights.{is_failer}
 use Rattle.sock_model.specs.Slots.{count, live}
 use Rattle.sock_model.specs.References.{slot_facts}
-use Rattle.slot_laws.proofs.Numbers.{life_is, life-in}
+use Rattle.sock_steps.specs.slot_laws.proofs.Numbers.{life_is, life-in}
 use Rattle.sock_programs.specs.Programs.{Rest, NO_SOCKET}
 use Rattle.sock_programs.specs.Clients.{ending_of}
 use Rattle.sock_programs.specs.Cores.{Core, SeatState, resolved, next_step, waiting_at, with_seat}

@@ -9,10 +9,10 @@ use native.Mathlib.Decide.{ℕ_discrete}
 use lib.ListN.{get_elem?}
 use Rattle.sock_words.specs.declared.plain.Plan.{Plan}
 use Rattle.sock_words.specs.Words.{socket_id_version, socket_id_slot, vref_version, vref_nref}
-use Rattle.sock_io.specs.declared.link.Put.{Put}
-use Rattle.sock_io.specs.declared.link.Put.TheVariants as puts
-use Rattle.sock_io.specs.declared.link.Ready.{Ready}
-use Rattle.sock_io.specs.declared.link.Ready.TheVariants as asks
+use Rattle.sock_programs.specs.sock_io.specs.declared.link.Put.{Put}
+use Rattle.sock_programs.specs.sock_io.specs.declared.link.Put.TheVariants as puts
+use Rattle.sock_programs.specs.sock_io.specs.declared.link.Ready.{Ready}
+use Rattle.sock_programs.specs.sock_io.specs.declared.link.Ready.TheVariants as asks
 use Rattle.sock_model.specs.declared.chain.Heading.{Heading}
 use Rattle.sock_model.specs.declared.chain.Right.{Right}
 use Rattle.sock_model.specs.declared.chain.Stage.{Stage}
@@ -28,9 +28,9 @@ use Rattle.sock_model.specs.ChainRows.{with_right, without_right, taken_right, p
 use Rattle.sock_model.specs.Conditions.{HasRight}
 use Rattle.sock_model.specs.Links.{HoldsLink}
 use Rattle.sock_programs.specs.Ticks.{FitsPut}
-use Rattle.slot_laws.proofs.Sums.{total_mono, about-here}
-use Rattle.slot_laws.proofs.Numbers.{only-same, only-else}
-use Rattle.slot_laws.proofs.Slots.{hold_ref}
+use Rattle.sock_steps.specs.slot_laws.proofs.Sums.{total_mono, about-here}
+use Rattle.sock_steps.specs.slot_laws.proofs.Numbers.{only-same, only-else}
+use Rattle.sock_steps.specs.slot_laws.proofs.Slots.{hold_ref}
 use Rattle.sock_model.specs.Entries.{slot_of, generation_of}
 use Rattle.sock_model.specs.Memory.{UNCONNECTED}
 use Rattle.sock_programs.specs.Calls.{StoreCode, SubRef, ReadNext, FreeRequest, DropPlace, EmptyHead, TurnNext}

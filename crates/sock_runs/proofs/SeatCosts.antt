@@ -5,7 +5,7 @@ use Rattle.std.specs.Prelude as std
 use Rattle.sock_words.specs.declared.plain.Plan.{Plan}
 use Rattle.sock_model.specs.declared.view.View.{View}
 use Rattle.sock_model.specs.Weights.{total}
-use Rattle.id_rule.specs.Lawful.{id_word}
+use Rattle.sock_programs.specs.id_rule.specs.Lawful.{id_word}
 use Rattle.sock_programs.specs.Heads.{Head, Exit, Retry, Posts, Unlocks, Locks}
 use Rattle.sock_programs.specs.Programs.{Program, Do, Say, Sent, Rest, TakeMessage, TakeHome, PutHome, PutBytes, AskReady, Write, Aside, Round, Keep, Retries}
 use Rattle.sock_programs.specs.Attempts.{retry}

@@ -5,9 +5,9 @@ use Rattle.sock_words.specs.Words.{socket_id_version, socket_id_slot, vref_versi
 use Rattle.sock_words.specs.declared.outcome.Outcome.TheVariants.{Unopened, Joined, NotBegun}
 use Rattle.sock_steps.proofs.Quiet.{either_way}
 use Rattle.sock_model.specs.declared.chain.Heading.{Heading}
-use Rattle.corr_core.specs.Word.{parts, error_of}
-use Rattle.brpc_model.specs.Frame.{Frame}
-use Rattle.sock_message.specs.Asked.{Asked, name_of, frame_of}
+use Rattle.sock_programs.specs.corr_core.specs.Word.{parts, error_of}
+use Rattle.sock_programs.specs.brpc_model.specs.Frame.{Frame}
+use Rattle.sock_programs.specs.sock_message.specs.Asked.{Asked, name_of, frame_of}
 use Rattle.sock_programs.specs.Calls.{LookWord, FindLink, ClaimRequest, LoadName}
 use Rattle.sock_programs.specs.Asides.{ClaimId, PutCall, MakeId, StoreCall, LoadCall, StoreAt, LoadAt, TakeCall, call_id, id_slot, id_first}
 use Rattle.sock_programs.specs.Heads.{Head, Exit, First, Posts, Unlocks, Decides, Locks, Joins, Opens, Reads, Discards, Retry, Posting, WasGone, WasStale, WasCrowded, WasQueued, HasLocked, Unlocking, IsOpen, HasNext, Locking, NotThere, Has, Ended}

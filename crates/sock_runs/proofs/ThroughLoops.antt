@@ -4,11 +4,11 @@ use Rattle.std.specs.Prelude.{Option, Some, None}
 use Rattle.sock_words.specs.declared.outcome.Outcome.TheVariants.{CallFailed}
 use mathlib.Core.Option.{none, some-ne-none}
 use Rattle.sock_steps.proofs.Quiet.{either_way}
-use Rattle.corr_core.specs.Word.{parts, posted_word, unlocked_word, code_of, error_of}
-use Rattle.corr_core.specs.Law.{LAST}
-use Rattle.brpc_model.specs.Frame.{Frame}
-use Rattle.brpc_model.specs.Stream as streams
-use Rattle.sock_message.specs.Asked.{Asked}
+use Rattle.sock_programs.specs.corr_core.specs.Word.{parts, posted_word, unlocked_word, code_of, error_of}
+use Rattle.sock_programs.specs.corr_core.specs.Law.{LAST}
+use Rattle.sock_programs.specs.brpc_model.specs.Frame.{Frame}
+use Rattle.sock_programs.specs.brpc_model.specs.Stream as streams
+use Rattle.sock_programs.specs.sock_message.specs.Asked.{Asked}
 use Rattle.sock_programs.specs.Asides.{PutCall, LoadIdWord, LockId, PostId, UnlockId, EndId, FreeId, TakeCall, TakeBytes, Taking, Bytes, Nothing, NoMore, AtEnd, Closed, Broken, call_id, id_slot, id_first}
 use Rattle.sock_programs.specs.Heads.{Head, Exit, Retry, Sought, Version, Reading, Posts, Unlocks, Decides, Locks, Joins, Opens, Reads, Discards, Posting, WasGone, WasStale, WasCrowded, WasQueued, HasLocked, Unlocking, IsOpen, HasNext, Deciding, HasEnded, GoesOn, Locking, NotThere, Has, Ended}
 use Rattle.sock_programs.specs.Programs.{Program, Say}

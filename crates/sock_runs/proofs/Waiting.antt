@@ -9,7 +9,7 @@ use lib.ListN.{get_elem?}
 use lib.Seq.{set-get_or}
 use Rattle.atomic_table.proofs.Lists.{set_again}
 use Rattle.sock_words.specs.declared.plain.Plan.{Plan}
-use Rattle.sock_io.specs.declared.link.Ready.TheVariants.{NotYet}
+use Rattle.sock_programs.specs.sock_io.specs.declared.link.Ready.TheVariants.{NotYet}
 use Rattle.sock_model.specs.declared.chain.Entry.{Entry}
 use Rattle.sock_model.specs.declared.chain.Loose.{Loose}
 use Rattle.sock_model.specs.declared.chain.Right.{Right}
@@ -22,16 +22,16 @@ use Rattle.sock_model.specs.Tokens.{Tokens}
 use Rattle.sock_model.specs.Writing.{Held, InStage, OnWalk, Waits}
 use Rattle.sock_model.specs.Chains.{Chains}
 use Rattle.sock_model.specs.Reads.{tokens, loose_at}
-use Rattle.chain_laws.proofs.Lists.{nth_some, at_some}
-use Rattle.chain_laws.proofs.Frames.{in_size}
-use Rattle.chain_laws.proofs.Heads.{held_of, slot_is}
+use Rattle.sock_steps.specs.chain_laws.proofs.Lists.{nth_some, at_some}
+use Rattle.sock_steps.specs.chain_laws.proofs.Frames.{in_size}
+use Rattle.sock_steps.specs.chain_laws.proofs.Heads.{held_of, slot_is}
 use Rattle.sock_steps.proofs.Maps.{gather_nil}
 use Rattle.sock_steps.proofs.RightSteps.{right_in, right_alone}
 use Rattle.sock_programs.specs.Writings.{Writing}
 use Rattle.sock_programs.specs.Writings as heads
 use Rattle.std.specs.Prelude as std
-use Rattle.corr_core.specs.Word.{parts}
-use Rattle.id_rule.specs.Lawful.{id_word}
+use Rattle.sock_programs.specs.corr_core.specs.Word.{parts}
+use Rattle.sock_programs.specs.id_rule.specs.Lawful.{id_word}
 use Rattle.sock_model.specs.Layout.{open_word}
 use Rattle.sock_programs.specs.Asides.{Taking, Nothing, id_slot}
 use Rattle.sock_programs.specs.Beside.{at_last, more_given}

@@ -7,9 +7,9 @@ use Rattle.std.proofs.lemmas.Bool.{true≢false}
 use mathlib.Core.Option.{some, some-injective, some-ne-none}
 use lib.ListN.{get_elem?}
 use Rattle.sock_words.specs.declared.plain.Plan.{Plan}
-use Rattle.brpc_model.specs.Items.{Item, Open, is_open}
-use Rattle.brpc_model.specs.Places.{names}
-use Rattle.brpc_model.specs.Operations.{Turn, clients}
+use Rattle.sock_programs.specs.brpc_model.specs.Items.{Item, Open, is_open}
+use Rattle.sock_programs.specs.brpc_model.specs.Places.{names}
+use Rattle.sock_programs.specs.brpc_model.specs.Operations.{Turn, clients}
 use Rattle.sock_model.specs.declared.view.View.{View}
 use Rattle.sock_programs.specs.declared.task.Op.{Op}
 use Rattle.sock_programs.specs.declared.task.Task.{Task}

@@ -1,8 +1,8 @@
 -- A program that the rule allows from a view on: each step in turn, whatever it finds.
 use Rattle.std.specs.Prelude.{ℕ, ◌≡◌, ◌≢◌, ◌*◌, ◌<◌, ◌≤◌, true, false, List, [], ◌∷◌, length}
 use Rattle.sock_words.specs.declared.plain.Plan.{Plan}
-use Rattle.sock_io.specs.declared.link.Put.{Put}
-use Rattle.sock_io.specs.declared.link.Ready.{Ready}
+use Rattle.sock_programs.specs.sock_io.specs.declared.link.Put.{Put}
+use Rattle.sock_programs.specs.sock_io.specs.declared.link.Ready.{Ready}
 use Rattle.sock_model.specs.declared.chain.Heading.{Heading}
 use Rattle.sock_model.specs.declared.chain.Right.{Right}
 use Rattle.sock_model.specs.declared.marks.SlotMark.{SlotMark}

@@ -5,9 +5,9 @@ use mathlib.Core.Option.{Option, some}
 use lib.ListN.{get_elem?}
 use Rattle.sock_words.specs.Words.{socket_id_version, socket_id_slot}
 use Rattle.sock_words.specs.declared.plain.Plan.{Plan}
-use Rattle.sock_io.specs.declared.link.Put.{Put}
-use Rattle.sock_io.specs.declared.link.Ready.{Ready}
-use Rattle.sock_io.specs.declared.link.Ready.TheVariants.{NotYet}
+use Rattle.sock_programs.specs.sock_io.specs.declared.link.Put.{Put}
+use Rattle.sock_programs.specs.sock_io.specs.declared.link.Ready.{Ready}
+use Rattle.sock_programs.specs.sock_io.specs.declared.link.Ready.TheVariants.{NotYet}
 use Rattle.sock_model.specs.declared.chain.Entry.{Entry}
 use Rattle.sock_model.specs.declared.chain.Heading.{Heading}
 use Rattle.sock_model.specs.declared.chain.Right.{Right}
@@ -24,8 +24,8 @@ use Rattle.sock_programs.specs.Calls.{Call, PutMessage, SwapHead, TurnNext}
 use Rattle.sock_programs.specs.Cores.{Core, SeatState}
 use Rattle.sock_programs.specs.Writings.{Holder, Writing, Puts, Waits, Empties, Walks}
 use Rattle.sock_programs.specs.Programs.{Program, Do, Say, Sent, Rest, TakeMessage, TakeHome, PutHome, PutBytes, AskReady, Write, Aside, Round, Keep, Retries}
-use Rattle.corr_core.specs.Word.{Parts, parts}
-use Rattle.id_rule.specs.Lawful.{id_word}
+use Rattle.sock_programs.specs.corr_core.specs.Word.{Parts, parts}
+use Rattle.sock_programs.specs.id_rule.specs.Lawful.{id_word}
 use Rattle.sock_programs.specs.Asides.{Step, Found, MakeId, StoreAt, LoadIdWord, LockId, PostId, UnlockId, EndId, id_slot}
 use Rattle.sock_programs.specs.Beside.{found_in}
 use Rattle.sock_programs.specs.Posts.{advance_of}

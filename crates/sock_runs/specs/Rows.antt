@@ -18,8 +18,8 @@ use Rattle.sock_model.specs.Weights.{total, only}
 use Rattle.sock_model.specs.SlotRows.{claimed, gave_birth, added, back, subbed, failed, recycled, freed, linked, staged, coded, met, wrote, met_link, looked, told_code}
 use Rattle.sock_model.specs.ChainRows.{with_hand, without_hand, spent_hand, with_claim, queued, righted, without_loose, with_right, without_right, turned_right, placed_right, dropped_right, taken_right, put_right}
 use Rattle.sock_model.specs.Reads.{link_home}
-use Rattle.sock_io.specs.declared.link.Put.{Put}
-use Rattle.sock_io.specs.declared.link.Put.TheVariants.{Took}
+use Rattle.sock_programs.specs.sock_io.specs.declared.link.Put.{Put}
+use Rattle.sock_programs.specs.sock_io.specs.declared.link.Put.TheVariants.{Took}
 use Rattle.sock_programs.specs.Calls.{Call, ClaimSlot, GiveBirth, AddRef, SubRef, SetOdd, Recycle, FreeSlot, StoreLink, LoadLink, ResetHead, WipeCode, StoreCode, StoreName, LoadName, StoreOpen, LoadOpen, TakeLink, FinishLink, PutLink, LookWord, FindLink, LoadCode, ClaimRequest, PutMessage, Unconnect, SwapHead, Connect, EmptyHead, ReadNext, TurnNext, FreeRequest, StorePlace, DropPlace}
 use Rattle.sock_programs.specs.Programs.{NO_SOCKET, LAST_GENERATION}
 

@@ -11,7 +11,7 @@ use Rattle.sock_model.specs.declared.marks.Mark.TheVariants.{Recycling, Zero, Fr
 use Rattle.sock_model.specs.declared.marks.SlotMark.{SlotMark}
 use Rattle.sock_model.specs.declared.chain.Right.{Right}
 use Rattle.sock_model.specs.declared.home.Home.{Home}
-use Rattle.sock_words.specs.declared.plain.Plan.{Plan}
+use Rattle.sock_model.specs.sock_words.specs.declared.plain.Plan.{Plan}
 use Rattle.sock_model.specs.declared.view.View.{View}
 use Rattle.sock_model.specs.Weights.{total, only, is_busy, is_zero, is_reset, is_recycled, is_hold, is_freer, is_failer, is_linked, is_met}
 use Rattle.sock_model.specs.Marks.{about, at, without_at}

@@ -4,7 +4,7 @@ use mathlib.Core.Option.{Option, some, some-injective}
 use lib.ListN.{get_elem?}
 use lib.Seq.{set-get_or}
 use Rattle.atomic_table.specs.Table.{State, stepped, keeps}
-use Rattle.sock_words.specs.declared.plain.Plan.{Plan}
+use Rattle.sock_model.specs.sock_words.specs.declared.plain.Plan.{Plan}
 use Rattle.sock_model.specs.declared.home.Home.{Home}
 use Rattle.sock_model.specs.declared.view.View.{View}
 use Rattle.sock_model.specs.Layout.{request_word}

@@ -10,7 +10,7 @@ use Rattle.atomic_table.proofs.Lists.{at_map}
 use Rattle.sock_model.specs.declared.marks.Mark.{Mark}
 use Rattle.sock_model.specs.declared.marks.Mark.TheVariants.{Claimed, Linked}
 use Rattle.sock_model.specs.declared.marks.SlotMark.{SlotMark}
-use Rattle.sock_words.specs.declared.plain.Plan.{Plan}
+use Rattle.sock_model.specs.sock_words.specs.declared.plain.Plan.{Plan}
 use Rattle.sock_model.specs.declared.view.View.{View}
 use Rattle.sock_model.specs.Weights.{total, tally, is_waiting, only, pair, uses, is_stage, is_busy, is_ref, is_hold, is_failer, is_freer, is_linked, is_met}
 use Rattle.sock_model.specs.Marks.{about}

@@ -12,7 +12,7 @@ use Rattle.sock_model.specs.declared.marks.Mark.TheVariants.{Hold, Zero}
 use Rattle.sock_model.specs.declared.marks.SlotMark.{SlotMark}
 use Rattle.sock_model.specs.declared.chain.Right.{Right}
 use Rattle.sock_model.specs.declared.home.Home.{Home}
-use Rattle.sock_words.specs.declared.plain.Plan.{Plan}
+use Rattle.sock_model.specs.sock_words.specs.declared.plain.Plan.{Plan}
 use Rattle.sock_model.specs.declared.view.View.{View}
 use Rattle.sock_model.specs.Weights.{total, only, is_ref, is_probe, is_any_coding, is_stage, is_reset, is_recycled, is_hold, is_known, is_zero, is_coding, is_met, is_born}
 use Rattle.sock_model.specs.Marks.{about, at, without, without_at}

@@ -21,10 +21,10 @@ use Rattle.sock_model.specs.Weights.{total}
 use Rattle.slot_laws.proofs.Seats.{about-append}
 use Rattle.slot_laws.proofs.Sums.{total-append, total_some, term_le}
 use Rattle.sock_programs.specs.declared.task.Task.{Task}
-use Rattle.sock_rule.specs.OnTable.{is_put, put_in}
-use Rattle.sock_rule.specs.declared.homes.SockHome.{SockHome}
-use Rattle.sock_rule.proofs.Closes.{two_terms}
-use Rattle.sock_table.specs.Named.{HasSeen}
+use Rattle.rpc_client.specs.sock_rule.specs.OnTable.{is_put, put_in}
+use Rattle.rpc_client.specs.sock_rule.specs.declared.homes.SockHome.{SockHome}
+use Rattle.rpc_client.specs.sock_rule.proofs.Closes.{two_terms}
+use Rattle.rpc_client.specs.sock_table.specs.Named.{HasSeen}
 use Rattle.table_told.specs.Moments.{Moment, view_of, gain, stored, moments_of}
 use Rattle.table_told.specs.Threads.{Threaded, ThreadRun, IsAsked, tasks_of, seat_of}
 use Rattle.table_told.proofs.Flats.{append_first, append_later}

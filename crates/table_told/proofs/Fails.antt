@@ -30,7 +30,7 @@ use Rattle.sock_programs.specs.declared.task.Task.{Task}
 use Rattle.sock_programs.specs.Told.{Became, Made, IsFail, TaskFits, OpFits}
 use Rattle.sock_causes.proofs.Members.{all_in}
 use Rattle.sock_causes.proofs.Tasks.{fits_of, one_link}
-use Rattle.sock_table.specs.declared.refs.SockRef.{SockRef}
+use Rattle.rpc_client.specs.sock_table.specs.declared.refs.SockRef.{SockRef}
 use Rattle.rpc_client.specs.declared.acting.Action.{Action}
 use Rattle.rpc_client.specs.declared.acting.Action.TheVariants as action
 use Rattle.rpc_client.specs.declared.acting.Operation.{Operation}

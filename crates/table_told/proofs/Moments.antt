@@ -10,7 +10,7 @@ use Rattle.sock_model.specs.SlotRows.{marks_of}
 use Rattle.sock_model.specs.Weights.{total}
 use Rattle.chain_laws.proofs.Lists.{old, new, at_snoc}
 use Rattle.slot_laws.proofs.Sums.{total-append}
-use Rattle.sock_rule.specs.OnTable.{put_in}
+use Rattle.rpc_client.specs.sock_rule.specs.OnTable.{put_in}
 use Rattle.rpc_client.specs.declared.acting.Operation.{Operation}
 use Rattle.rpc_client.specs.Acting.{label_of}
 use Rattle.rpc_client.specs.Running.{Course, Ran}

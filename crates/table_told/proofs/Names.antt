@@ -35,7 +35,7 @@ use Rattle.chain_laws.proofs.Lists.{old, new, at_snoc}
 use Rattle.sock_programs.specs.declared.task.Op.{Op}
 use Rattle.sock_programs.specs.ToldCalls.{Fixed, Order}
 use Rattle.sock_words.specs.declared.plain.Label.{Label}
-use Rattle.sock_table.specs.Named.{HasSeen}
+use Rattle.rpc_client.specs.sock_table.specs.Named.{HasSeen}
 use Rattle.rpc_client.specs.declared.acting.Operation.{Operation}
 use Rattle.rpc_client.specs.Acting.{Stand}
 use Rattle.rpc_client.specs.Opening.{FoundFull}

@@ -14,8 +14,8 @@ use Rattle.sock_model.specs.Seats.{newcomer}
 use Rattle.sock_model.specs.SlotRows.{marks_of}
 use Rattle.sock_model.specs.Weights.{total}
 use Rattle.sock_programs.specs.declared.task.Task.{Task}
-use Rattle.sock_rule.specs.OnTable.{put_in}
-use Rattle.sock_table.specs.Named.{HasSeen}
+use Rattle.rpc_client.specs.sock_rule.specs.OnTable.{put_in}
+use Rattle.rpc_client.specs.sock_table.specs.Named.{HasSeen}
 use Rattle.rpc_client.specs.declared.acting.Operation.{Operation}
 use Rattle.rpc_client.specs.declared.holding.Held.{Held}
 use Rattle.rpc_client.specs.Acting.{Stand, stand}

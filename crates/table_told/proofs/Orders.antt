@@ -34,8 +34,8 @@ use Rattle.sock_programs.specs.Scripts.{taken_by, took_at_home}
 use Rattle.sock_programs.specs.Told.{IsTask, Became, TaskFits, OpFits}
 use Rattle.sock_programs.specs.ToldCalls.{Accepted, Order, Fixed, AreOrders, IsTaken, StandsAt, StandsOn, InOwnOrder, bytes_of, label}
 use Rattle.report_fits.proofs.Lists.{before_from}
-use Rattle.sock_rule.specs.Closing.{LifeFailed}
-use Rattle.sock_rule.specs.Faults.{faults_of}
+use Rattle.rpc_client.specs.sock_rule.specs.Closing.{LifeFailed}
+use Rattle.rpc_client.specs.sock_rule.specs.Faults.{faults_of}
 use Rattle.table_told.specs.Left.{accepted_of, orders_of, homes_of, core_of, gave_of}
 use Rattle.table_told.specs.Threads.{ThreadRun}
 use Rattle.table_told.proofs.Accepting.{log, places_differ, act_of_entry, entry_of_act, sent_place, in_order, asks_send}

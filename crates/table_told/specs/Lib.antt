@@ -3,3 +3,9 @@ pub mod Left
 pub mod Moments
 pub mod Broken
 pub mod Back
+pub use Rattle.report_fits
+pub use Rattle.rpc_client
+pub use Rattle.sock_causes
+pub use Rattle.rpc_client.specs.sock_open
+pub use Rattle.rpc_client.specs.sock_rule
+pub use Rattle.rpc_client.specs.sock_table

@@ -6,7 +6,7 @@ use Rattle.sock_words.specs.declared.plain.Plan.{Plan}
 use Rattle.sock_model.specs.declared.marks.Mark.{Mark}
 use Rattle.sock_model.specs.declared.view.View.{View}
 use Rattle.sock_model.specs.SlotRows.{marks_of}
-use Rattle.sock_rule.specs.OnTable.{put_in}
+use Rattle.rpc_client.specs.sock_rule.specs.OnTable.{put_in}
 use Rattle.rpc_client.specs.declared.acting.Operation.{Operation}
 use Rattle.rpc_client.specs.declared.acting.Told.{Told}
 use Rattle.rpc_client.specs.Acting.{stand}

@@ -4,7 +4,7 @@ use Rattle.atomic_table.specs.Seated.{TableId}
 use Rattle.sock_words.specs.declared.plain.Plan.{Plan}
 use Rattle.sock_words.specs.declared.socket_id.SocketId.{SocketId}
 use Rattle.sock_model.specs.declared.view.View.{View}
-use Rattle.sock_table.specs.Named.{Found}
+use Rattle.rpc_client.specs.sock_table.specs.Named.{Found}
 use Rattle.sock_io.specs.declared.link.Out.{Ghosts}
 use Rattle.rpc_client.specs.declared.acting.Client.{Client}
 use Rattle.rpc_client.specs.Seats.{SameRefs, AtRest}
@@ -19,7 +19,7 @@ use Rattle.sock_io.specs.Link.{OutState}
 use Rattle.rpc_client.specs.declared.acting.Operation.{Operation}
 use Rattle.rpc_client.specs.Running.{RunBy}
 use Rattle.std.proofs.lemmas.List.{take_more}
-use Rattle.sock_table.specs.Passes.{IsPass}
+use Rattle.rpc_client.specs.sock_table.specs.Passes.{IsPass}
 use Rattle.rpc_client.specs.Holding.{IsHolder}
 use Rattle.thread_run.specs.Threads.{FoundEach}
 

@@ -8,10 +8,10 @@ use Rattle.atomic_table.specs.declared.shared.Seat.{Seat}
 use Rattle.sock_io.specs.declared.link.Out.{Ghosts}
 use Rattle.sock_words.specs.declared.plain.Plan.{Plan}
 use Rattle.sock_model.specs.declared.view.View.{View}
-use Rattle.sock_rule.specs.declared.homes.SockHome.{SockHome}
-use Rattle.sock_table.specs.declared.passes.LinkPass.{LinkPass}
-use Rattle.sock_table.specs.Passes.{IsPass}
-use Rattle.sock_open.specs.Made.{IsNewSeat, AreNewSeats, AreMade}
+use Rattle.rpc_client.specs.sock_rule.specs.declared.homes.SockHome.{SockHome}
+use Rattle.rpc_client.specs.sock_table.specs.declared.passes.LinkPass.{LinkPass}
+use Rattle.rpc_client.specs.sock_table.specs.Passes.{IsPass}
+use Rattle.rpc_client.specs.sock_open.specs.Made.{IsNewSeat, AreNewSeats, AreMade}
 use Rattle.rpc_client.specs.declared.acting.Operation.{Operation}
 use Rattle.rpc_client.specs.declared.acting.Told.{Told}
 use Rattle.rpc_client.specs.Running.{MayMakeAll}

@@ -10,9 +10,9 @@ use Rattle.sock_io.specs.Link.{OutState}
 use Rattle.sock_words.specs.declared.plain.Plan.{Plan}
 use Rattle.sock_model.specs.declared.view.View.{View}
 use Rattle.sock_model.specs.Weights.{total}
-use Rattle.sock_rule.specs.declared.homes.SockHome.{SockHome}
-use Rattle.sock_table.specs.Closed.{AllDone}
-use Rattle.sock_open.proofs.Making.{new_view}
+use Rattle.rpc_client.specs.sock_rule.specs.declared.homes.SockHome.{SockHome}
+use Rattle.rpc_client.specs.sock_table.specs.Closed.{AllDone}
+use Rattle.rpc_client.specs.sock_open.proofs.Making.{new_view}
 use Rattle.rpc_client.specs.Running.{MayMakeAll}
 use Rattle.rpc_client.proofs.Going.{new_go}
 use Rattle.thread_run.specs.declared.worker.Worker.{Worker}

@@ -9,8 +9,8 @@ use Rattle.sock_io.specs.Link.{OutState}
 use Rattle.sock_words.specs.declared.plain.Plan.{Plan}
 use Rattle.sock_model.specs.declared.view.View.{View}
 use Rattle.sock_model.specs.Weights.{total}
-use Rattle.sock_table.specs.Closed.{AllDone}
-use Rattle.sock_open.specs.Opening.{IsRoom}
+use Rattle.rpc_client.specs.sock_table.specs.Closed.{AllDone}
+use Rattle.rpc_client.specs.sock_open.specs.Opening.{IsRoom}
 use Rattle.rpc_client.specs.declared.acting.Operation.{Operation}
 use Rattle.thread_run.specs.declared.hiring.Room.{Room}
 use Rattle.thread_run.specs.declared.worker.Worker.{Worker}

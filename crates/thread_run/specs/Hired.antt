@@ -3,13 +3,13 @@ use Rattle.std.specs.Prelude.{◌≡◌, ℕ, ◌+◌, ◌-◌, ◌≤◌, List,
 use Rattle.atomic_table.specs.Seated.{TableId}
 use Rattle.sock_io.specs.declared.link.Out.{Ghosts}
 use Rattle.sock_words.specs.declared.plain.Plan.{Plan}
-use Rattle.sock_table.specs.declared.passes.LinkPass.{LinkPass}
-use Rattle.sock_table.specs.Passes.{IsPass}
+use Rattle.rpc_client.specs.sock_table.specs.declared.passes.LinkPass.{LinkPass}
+use Rattle.rpc_client.specs.sock_table.specs.Passes.{IsPass}
 use Rattle.sock_model.specs.declared.view.View.{View}
-use Rattle.sock_rule.specs.declared.homes.SockHome.{SockHome}
+use Rattle.rpc_client.specs.sock_rule.specs.declared.homes.SockHome.{SockHome}
 use Rattle.atomic_table.specs.declared.shared.Seat.{Seat}
-use Rattle.sock_open.specs.Made.{IsNewSeat, AreNewSeats}
-use Rattle.sock_open.specs.Opening.{IsRoom}
+use Rattle.rpc_client.specs.sock_open.specs.Made.{IsNewSeat, AreNewSeats}
+use Rattle.rpc_client.specs.sock_open.specs.Opening.{IsRoom}
 use Rattle.thread_run.specs.Threads.{opens_of, LinksDown}
 use Rattle.thread_run.specs.declared.hiring.Room.{Room}
 use Rattle.thread_run.specs.declared.worker.Worker.{Worker}

@@ -11,10 +11,10 @@ use Rattle.sock_words.specs.declared.socket_id.SocketId.{SocketId}
 use Rattle.sock_words.specs.declared.vref.Vref.{Vref}
 use Rattle.sock_model.specs.declared.view.View.{View}
 use Rattle.sock_model.specs.Seats.{newcomer}
-use Rattle.sock_rule.specs.declared.homes.SockHome.{SockHome}
-use Rattle.sock_table.specs.declared.passes.LinkPass.{LinkPass}
-use Rattle.sock_table.specs.Closed.{ClosedBy}
-use Rattle.sock_table.specs.Named.{Found}
+use Rattle.rpc_client.specs.sock_rule.specs.declared.homes.SockHome.{SockHome}
+use Rattle.rpc_client.specs.sock_table.specs.declared.passes.LinkPass.{LinkPass}
+use Rattle.rpc_client.specs.sock_table.specs.Closed.{ClosedBy}
+use Rattle.rpc_client.specs.sock_table.specs.Named.{Found}
 use Rattle.rpc_client.specs.declared.acting.Action.{Action}
 use Rattle.rpc_client.specs.declared.acting.Action.TheVariants as action
 use Rattle.rpc_client.specs.declared.acting.Client.{Client}

@@ -4,7 +4,7 @@ use Rattle.atomic_table.specs.Seated.{TableId}
 use Rattle.sock_io.specs.declared.link.Out.{Ghosts}
 use Rattle.sock_io.specs.Link.{OutState}
 use Rattle.sock_words.specs.declared.plain.Plan.{Plan}
-use Rattle.sock_table.specs.Closed.{IsDoneSeat}
+use Rattle.rpc_client.specs.sock_table.specs.Closed.{IsDoneSeat}
 use Rattle.rpc_client.specs.declared.acting.Client.{Client}
 use Rattle.rpc_client.specs.Acting.{MayGo}
 use Rattle.rpc_client.specs.Running.{MayMakeAll, RunBy}

@@ -1,15 +1,15 @@
 // The clients of a script get their seats and their passes.
 ghost use Rattle.std.specs.Prelude.{◌≡◌, ◌-◌, ◌≤◌, ◌++◌, [], All, IfOk, length, map};
-ghost use Rattle.sock_open.specs.Opening.{IsRoom};
+ghost use Rattle.rpc_client.specs.sock_open.specs.Opening.{IsRoom};
 ghost use Rattle.thread_run.specs.Threads.{opens_in, opens_of};
 ghost use Rattle.thread_run.specs.Hired.{HasRoom, MayHire, AreHired};
 
 use crate::worker::Worker;
+use rpc_client::sock_message::BlockPool;
+use rpc_client::sock_rule::SockSeat;
+use rpc_client::sock_table::{LinkPass, SockTable};
 use rpc_client::{Action, Client, Operation};
 use sock_io::Out;
-use sock_message::BlockPool;
-use sock_rule::SockSeat;
-use sock_table::{LinkPass, SockTable};
 use std::alloc::{AllocError, Global};
 
 /// The operations of a client, with room for its passes.

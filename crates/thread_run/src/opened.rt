@@ -1,6 +1,6 @@
 // The names that the setup opened.
 ghost use Rattle.std.specs.Prelude.{◌≡◌, ◌<◌, ◌==◌, ◌&&◌, ◌++◌, length, vec_capacity};
-ghost use Rattle.sock_open.specs.Opening.{IsRoom};
+ghost use Rattle.rpc_client.specs.sock_open.specs.Opening.{IsRoom};
 ghost use Rattle.thread_run.specs.Threads.{is_opened, opened_in, name_if, opened_names};
 
 use rpc_client::{Operation, Told};

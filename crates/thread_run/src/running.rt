@@ -1,8 +1,8 @@
 // The clients of a script on threads, over a table of their own.
 ghost use Rattle.std.specs.Prelude.{◌≡◌, ◌≤◌, false, IfOk, IfErr, length, map};
-ghost use Rattle.sock_open.specs.Made.{AreMade};
-ghost use Rattle.sock_open.specs.Opening.{MayBegin, AreFresh};
-ghost use Rattle.sock_table.specs.Closed.{ClosedBy, IsRoomOf};
+ghost use Rattle.rpc_client.specs.sock_open.specs.Made.{AreMade};
+ghost use Rattle.rpc_client.specs.sock_open.specs.Opening.{MayBegin, AreFresh};
+ghost use Rattle.rpc_client.specs.sock_table.specs.Closed.{ClosedBy, IsRoomOf};
 ghost use Rattle.thread_run.specs.Threads.{MayRunAll, RanOn};
 ghost use Rattle.thread_run.specs.Crew.{IsCast, IsCrew, IsLeft, CrewRan, AreBack};
 
@@ -10,11 +10,11 @@ use crate::hiring::{Room, hire, hire_all, room_for, rooms_for};
 use crate::opened::opened_names;
 use crate::spending::{either, spend, spend_all};
 use crate::worker::{Worker, run_workers};
+use rpc_client::sock_open::{Made, NoTable, new_table};
+use rpc_client::sock_rule::SockSeat;
+use rpc_client::sock_table::{Closed, LinkPass, SockTable, rooms};
 use rpc_client::{Operation, Told};
 use sock_io::{Gate, OpenGate, Out};
-use sock_open::{Made, NoTable, new_table};
-use sock_rule::SockSeat;
-use sock_table::{Closed, LinkPass, SockTable, rooms};
 use sock_words::{PlaceWord, Plan, Vref};
 use std::alloc::{AllocError, Global};
 use std::sync::Wait;

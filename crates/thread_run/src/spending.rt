@@ -3,9 +3,9 @@ ghost use Rattle.std.specs.Prelude.{◌≡◌, ◌+◌, ◌<◌, ◌≤◌, ◌+
 ghost use Rattle.std.specs.List.{list_any};
 
 use crate::worker::Worker;
+use rpc_client::sock_rule::SockSeat;
 use rpc_client::{Spent, Told};
 use sock_io::Out;
-use sock_rule::SockSeat;
 
 /// The seat and the outcomes of a client. Whether memory was wanting.
 pub fn spend<O: Out>(

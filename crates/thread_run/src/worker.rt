@@ -3,9 +3,9 @@ ghost use Rattle.std.specs.Prelude.{◌≡◌, ◌<◌, ℕ, All, length, slice_
 ghost use Rattle.thread_run.specs.Working.{IsReady, HasWorked};
 
 use crate::waiting::wait_all;
+use rpc_client::sock_table::SockTable;
 use rpc_client::{Client, Operation};
 use sock_io::{Gate, Out};
-use sock_table::SockTable;
 use std::sync::Wait;
 use std::thread;
 use std::thread::Threads;

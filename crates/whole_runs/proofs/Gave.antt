@@ -26,7 +26,7 @@ use Rattle.sock_programs.specs.Cores.{Core, SeatState}
 use Rattle.sock_programs.specs.Ticks.{Answer, Unasked, OfPut, OfReady, OfTake, Moment, quiet, taken, with_message, with_link, with_put, with_ready, with_found, step_with, tick_with, ticked, run}
 use Rattle.sock_programs.specs.Tasks.{plan_of}
 use Rattle.sock_programs.specs.Scripts.{opened, ending, set_up, played, IsRunWithCalls}
-use Rattle.sock_runs.specs.Sound.{first_step}
+use Rattle.sock_causes.specs.sock_runs.specs.Sound.{first_step}
 use Rattle.whole_runs.specs.Heard.{take_of, as_taken, taken_link, taken_at, taken_in, heard_takes, take_answers, bytes_found, given_by}
 use Rattle.whole_runs.proofs.HeardRuns.{same_heard_takes}
 use Rattle.whole_runs.proofs.Lengths.{tick_long, run_sizes}

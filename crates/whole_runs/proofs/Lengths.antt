@@ -14,7 +14,7 @@ use Rattle.brpc_model.specs.Items.{Item}
 use Rattle.brpc_model.specs.Operations.{Turn, operations}
 use Rattle.brpc_model.specs.Script.{script_of}
 use Rattle.corr_core.specs.declared.marks.Plan.{Plan as IdPlan}
-use Rattle.sock_message.specs.Asked.{Asked}
+use Rattle.sock_programs.specs.sock_message.specs.Asked.{Asked}
 use Rattle.sock_model.specs.declared.home.Home.{Home}
 use Rattle.sock_model.specs.declared.home.Home.TheVariants.{Message}
 use Rattle.sock_model.specs.Messages.{Letter}
@@ -31,9 +31,9 @@ use Rattle.sock_programs.specs.Cores.{Calls, Core, SeatState, word_of, word_afte
 use Rattle.sock_programs.specs.Ticks.{Answer, OfPut, OfReady, Moment, quiet, fed, with_places, onto_first, taken, with_message, with_link, with_put, with_ready, with_found, step_with, tick_with, ticked, run}
 use Rattle.sock_programs.specs.Scripts.{sizes_of, programs, readers_from, all_programs, all_tasks, opened, ending, is_ending, set_up, played, IsRunWithCalls}
 use Rattle.sock_causes.proofs.Seats.{length_said}
-use Rattle.client_laws.proofs.Beginning.{unused, length_homes}
-use Rattle.client_laws.proofs.Lasting.{length_all}
-use Rattle.id_runs.proofs.Opening as ids
+use Rattle.owed_calls.specs.client_laws.proofs.Beginning.{unused, length_homes}
+use Rattle.owed_calls.specs.client_laws.proofs.Lasting.{length_all}
+use Rattle.owed_calls.specs.id_runs.proofs.Opening as ids
 use Rattle.whole_runs.specs.Sizes.{IsSized}
 use Rattle.whole_runs.proofs.Starts.{made}
 

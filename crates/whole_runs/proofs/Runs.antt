@@ -13,24 +13,24 @@ use Rattle.sock_programs.specs.Tasks.{opens, calls, plan_of, id_plan_of}
 use Rattle.sock_programs.specs.Cores.{Core}
 use Rattle.sock_programs.specs.Scripts.{IsRunWithCalls, Reports, all_tasks, place_words}
 use Rattle.sock_programs.specs.ToldCalls.{Fixed, Order, ToldCalls}
-use Rattle.sock_runs.proofs.LinkTicks.{RetriesGo}
-use Rattle.sock_runs.proofs.Whole.{IsOwed, end_over, all_homes, end_rests}
+use Rattle.sock_causes.specs.sock_runs.proofs.LinkTicks.{RetriesGo}
+use Rattle.sock_causes.specs.sock_runs.proofs.Whole.{IsOwed, end_over, all_homes, end_rests}
 use Rattle.sock_causes.specs.PlainTasks.{told_tasks_of}
 use Rattle.sock_causes.specs.TaskCauses.{DropsMade}
 use Rattle.sock_causes.proofs.Scripts.{MadeInRun, run_drops}
-use Rattle.client_laws.specs.Openings.{all_seats}
-use Rattle.client_laws.proofs.Fresh.{opening_fresh}
-use Rattle.client_laws.proofs.Retrying.{retries_go}
-use Rattle.joint_runs.proofs.Runs.{first_views, joint_runs}
+use Rattle.owed_calls.specs.client_laws.specs.Openings.{all_seats}
+use Rattle.owed_calls.specs.client_laws.proofs.Fresh.{opening_fresh}
+use Rattle.owed_calls.specs.client_laws.proofs.Retrying.{retries_go}
+use Rattle.owed_calls.specs.joint_runs.proofs.Runs.{first_views, joint_runs}
 use Rattle.owed_calls.specs.Owing.{Owing}
 use Rattle.owed_calls.specs.Sound.{SoundOwing}
 use Rattle.owed_calls.proofs.End.{all_ended}
-use Rattle.report_fits.specs.Calm.{IsCalm}
-use Rattle.report_fits.specs.Ends.{AreEndsOf, AreTold, EndsEarly}
-use Rattle.report_fits.proofs.Lists.{Has, has_first, has_later, within, all_at, contains_from}
-use Rattle.report_fits.proofs.Places.{lateness, script_fits, script_places}
-use Rattle.report_fits.proofs.Sizes.{keeps_limits}
-use Rattle.report_fits.proofs.Tasks.{tasks_of_script}
+use Rattle.owed_calls.specs.report_fits.specs.Calm.{IsCalm}
+use Rattle.owed_calls.specs.report_fits.specs.Ends.{AreEndsOf, AreTold, EndsEarly}
+use Rattle.owed_calls.specs.report_fits.proofs.Lists.{Has, has_first, has_later, within, all_at, contains_from}
+use Rattle.owed_calls.specs.report_fits.proofs.Places.{lateness, script_fits, script_places}
+use Rattle.owed_calls.specs.report_fits.proofs.Sizes.{keeps_limits}
+use Rattle.owed_calls.specs.report_fits.proofs.Tasks.{tasks_of_script}
 use Rattle.whole_runs.specs.Over.{IsAllOver}
 use Rattle.whole_runs.specs.Unserved.{IsUnserved, IsInTime}
 use Rattle.whole_runs.proofs.Lengths.{ended_length}

@@ -7,13 +7,13 @@ use Rattle.brpc_model.specs.Script.{script_of}
 use Rattle.sock_programs.specs.Tasks.{plan_of}
 use Rattle.sock_programs.specs.Cores.{Core}
 use Rattle.sock_programs.specs.Scripts.{IsRunWithCalls}
-use Rattle.sock_runs.specs.Sound.{IsWithinLimits}
-use Rattle.sock_runs.proofs.Whole.{AreFittingIn, Begins}
-use Rattle.joint_runs.proofs.Runs.{AreMade, first_views, begins, are_fitting_in, joint_runs}
-use Rattle.joint_runs.proofs.Made.{are_made}
-use Rattle.report_fits.specs.Limits.{KeepsLimits}
-use Rattle.report_fits.proofs.Sizes.{keeps_limits, plan_fits, few_seats}
-use Rattle.report_fits.proofs.Tasks.{tasks_of_script}
+use Rattle.sock_causes.specs.sock_runs.specs.Sound.{IsWithinLimits}
+use Rattle.sock_causes.specs.sock_runs.proofs.Whole.{AreFittingIn, Begins}
+use Rattle.owed_calls.specs.joint_runs.proofs.Runs.{AreMade, first_views, begins, are_fitting_in, joint_runs}
+use Rattle.owed_calls.specs.joint_runs.proofs.Made.{are_made}
+use Rattle.owed_calls.specs.report_fits.specs.Limits.{KeepsLimits}
+use Rattle.owed_calls.specs.report_fits.proofs.Sizes.{keeps_limits, plan_fits, few_seats}
+use Rattle.owed_calls.specs.report_fits.proofs.Tasks.{tasks_of_script}
 
 -- the sizes of a script's table
 pub within_limits : (script : List Item) → KeepsLimits script → IsWithinLimits (plan_of script)

@@ -5,3 +5,6 @@ pub mod OfferedRuns
 pub mod Sizes
 pub mod Unserved
 pub mod Over
+pub use Rattle.owed_calls.specs.client_laws
+pub use Rattle.owed_calls.specs.joint_runs
+pub use Rattle.owed_calls

@@ -11,7 +11,7 @@ use Rattle.sock_programs.specs.Asides.{TakeBytes, Taking, Bytes, Nothing, AtEnd,
 use Rattle.sock_programs.specs.Programs.{Program, Aside}
 use Rattle.sock_programs.specs.Cores.{Core, SeatState, link_place}
 use Rattle.sock_programs.specs.Ticks.{Answer, Moment, taken, ticked}
-use Rattle.id_runs.specs.Goes as goes
+use Rattle.owed_calls.specs.id_runs.specs.Goes as goes
 use Rattle.owed_calls.specs.Lives.{InHand}
 
 -- what the other end of a link offers for these bytes: the server the replies, up to the number that is given, and another end nothing

@@ -6,8 +6,8 @@ use Rattle.brpc_model.specs.Items.{Item}
 use Rattle.sock_programs.specs.Cores.{Core}
 use Rattle.sock_programs.specs.Runs.{IsSettled}
 use Rattle.sock_programs.specs.Tasks.{plan_of, id_plan_of}
-use Rattle.sock_runs.specs.Sound.{IsOver}
-use Rattle.sock_runs.proofs.HandTicks.{AtHome}
+use Rattle.sock_causes.specs.sock_runs.specs.Sound.{IsOver}
+use Rattle.sock_causes.specs.sock_runs.proofs.HandTicks.{AtHome}
 
 pub record IsAllOver (script : List Item) (core : Core) : Type 0 where
   -- no seat has a step left

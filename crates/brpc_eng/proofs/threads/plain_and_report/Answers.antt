@@ -1,5 +1,5 @@
 use Rattle.std.proofs.Common.{rules, refl}
-use Rattle.script_threads.proofs.Plainly.{built_callless}
+use Rattle.script_calls.specs.script_threads.proofs.Plainly.{built_callless}
 use Rattle.script_calls.proofs.Joinless.{built_runnable}
 use Rattle.brpc_eng.proofs.OnThreads.{threads_reported, threads_ran_out, threads_not_opened}
 use Rattle.brpc_eng.proofs.threads.plain_and_report.Goals as goal

@@ -1,6 +1,6 @@
 use Rattle.std.proofs.Common.{◌∙◌, inl, refl}
-use Rattle.rpc_client.proofs.Finding.{has_one, here_inside, seen_then}
-use Rattle.rpc_client.proofs.Delivering.{delivered_refs, delivered_share, delivered_seen, room_still}
+use Rattle.call_errors.specs.rpc_client.proofs.Finding.{has_one, here_inside, seen_then}
+use Rattle.call_errors.specs.rpc_client.proofs.Delivering.{delivered_refs, delivered_share, delivered_seen, room_still}
 use Rattle.call_errors.specs.Books.{stand_of}
 use Rattle.call_writes.proofs.Delivering.{plainly, sent_calling}
 use Rattle.call_writes.proofs.sending.send_calling.Goals as goal

@@ -1,4 +1,4 @@
-use Rattle.rpc_client.specs.Sending.{sock_of}
+use Rattle.call_errors.specs.rpc_client.specs.Sending.{sock_of}
 use Rattle.call_errors.specs.Books.{stand_of}
 use Rattle.call_writes.proofs.Drains.{drained_none}
 use Rattle.call_writes.proofs.sending.write_if.Goals as goal

@@ -1,6 +1,6 @@
 use Rattle.std.proofs.Common.{refl, arith}
 use Rattle.rpc_client.proofs.Going.{may_act}
-use Rattle.call_writes.proofs.Testing.{still_may, own_room}
+use Rattle.call_client.specs.call_writes.proofs.Testing.{still_may, own_room}
 use Rattle.client_rows.proofs.writes.open.Goals as goal
 
 pub returns-clause-may : goal.returns-clause-may

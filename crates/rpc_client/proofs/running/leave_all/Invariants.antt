@@ -1,6 +1,6 @@
 use Rattle.std.proofs.Common.{◌≡◌, length, drop}
 use Rattle.std.specs.Prelude.{All}
-use Rattle.sock_table.specs.Passes.{IsPass}
+use Rattle.write_chain.specs.sock_table.specs.Passes.{IsPass}
 use Rattle.rpc_client.specs.Seats.{Idle, SameRefs}
 use Rattle.rpc_client.specs.Acting.{stand}
 use Rattle.rpc_client.specs.Running.{MayMakeAll, LeftFirst}

@@ -1,7 +1,7 @@
 use Rattle.std.proofs.Common.{sym, subst}
-use Rattle.message_parts.specs.Parcels.{parcel_of}
-use Rattle.sock_rule.specs.Shows.{heading_of}
-use Rattle.sock_table.specs.declared.refs.SockRef.{SockRef}
+use Rattle.write_chain.specs.message_parts.specs.Parcels.{parcel_of}
+use Rattle.write_chain.specs.sock_rule.specs.Shows.{heading_of}
+use Rattle.write_chain.specs.sock_table.specs.declared.refs.SockRef.{SockRef}
 use Rattle.write_chain.specs.Writing.{Begins}
 use Rattle.rpc_client.specs.Sending.{SeenThrough}
 use Rattle.rpc_client.proofs.Delivering.{sock_is, accepted_of, refused_holds, refused_idle, came_back}

@@ -1,9 +1,9 @@
 use Rattle.std.proofs.Common.{◌∙◌, ap, sym, subst}
 use Rattle.sock_words.specs.Words.{socket_id_version, socket_id_slot}
 use Rattle.sock_model.specs.declared.marks.Mark.TheVariants.{Hold}
-use Rattle.sock_table.specs.Refs.{GaveBack}
-use Rattle.sock_table.specs.Answers.{Holds, is_freed}
-use Rattle.sock_table.specs.declared.refs.SockRef.{SockRef}
+use Rattle.write_chain.specs.sock_table.specs.Refs.{GaveBack}
+use Rattle.write_chain.specs.sock_table.specs.Answers.{Holds, is_freed}
+use Rattle.write_chain.specs.sock_table.specs.declared.refs.SockRef.{SockRef}
 use Rattle.rpc_client.proofs.sending.see_through.Goals as goal
 
 pub release-requires-clause-held : goal.release-requires-clause-held

@@ -1,5 +1,5 @@
 use Rattle.std.proofs.Common.{◌∙◌, subst}
-use Rattle.sock_table.specs.declared.refs.SockRef.{SockRef}
+use Rattle.write_chain.specs.sock_table.specs.declared.refs.SockRef.{SockRef}
 use Rattle.write_chain.specs.Writing.{GaveUp}
 use Rattle.rpc_client.specs.Sending.{WroteAll}
 use Rattle.rpc_client.proofs.Writing.{all_wrote, all_then}

@@ -1,5 +1,5 @@
 use Rattle.std.proofs.Common.{refl, subst}
-use Rattle.sock_table.specs.declared.refs.SockRef.{SockRef}
+use Rattle.write_chain.specs.sock_table.specs.declared.refs.SockRef.{SockRef}
 use Rattle.write_chain.specs.declared.keep.Kept.TheVariants as kept
 use Rattle.write_chain.specs.Keeping.{KeptBy, KeptWriting}
 use Rattle.rpc_client.proofs.Writing.{all_none, all_wrote, all_dropped, all_then}

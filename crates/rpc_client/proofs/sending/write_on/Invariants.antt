@@ -1,5 +1,5 @@
 use Rattle.std.proofs.Common.{◌≡◌}
-use Rattle.sock_rule.specs.Seated.{IsSeat}
+use Rattle.write_chain.specs.sock_rule.specs.Seated.{IsSeat}
 use Rattle.write_chain.specs.Writing.{MayGoOn}
 use Rattle.rpc_client.specs.Sending.{WroteAll}
 use Rattle.rpc_client.proofs.sending.write_on.Given as goal

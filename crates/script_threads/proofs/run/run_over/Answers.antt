@@ -1,7 +1,7 @@
 use Rattle.std.proofs.Common.{map, length, ap, sym, subst, ◌∙◌, arith}
 use Rattle.std.proofs.lemmas.List.{length-map}
 use Rattle.sock_io.specs.Link.{end_of}
-use Rattle.sock_open.specs.Opening.{MayBegin, AreFresh}
+use Rattle.table_told.specs.sock_open.specs.Opening.{MayBegin, AreFresh}
 use Rattle.sock_programs.specs.Tasks.{plan_of}
 use Rattle.sock_words.specs.declared.plain.Plan.{Plan}
 use Rattle.thread_run.specs.Threads.{MayRunAll}

@@ -1,9 +1,9 @@
 use Rattle.std.proofs.Common.{ap, sym, subst, ◌∙◌}
 use Rattle.std.proofs.lemmas.List.{length-map}
 use Rattle.std.proofs.lemmas.List.Sorted.{All-permutation}
-use Rattle.sock_table.specs.Passes.{IsPass}
-use Rattle.sock_open.specs.Made.{IsNewSeat}
-use Rattle.sock_open.specs.Opening.{IsRoom}
+use Rattle.rpc_client.specs.sock_table.specs.Passes.{IsPass}
+use Rattle.rpc_client.specs.sock_open.specs.Made.{IsNewSeat}
+use Rattle.rpc_client.specs.sock_open.specs.Opening.{IsRoom}
 use Rattle.rpc_client.proofs.Going.{passes_all}
 use Rattle.thread_run.specs.Threads.{opens_of}
 use Rattle.thread_run.specs.Hired.{AreHired}

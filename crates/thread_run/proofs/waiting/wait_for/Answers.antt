@@ -1,5 +1,5 @@
 use Rattle.std.proofs.Common.{Some, refl, ◌∙◌, subst, ap}
-use Rattle.sock_table.specs.Named.{Found}
+use Rattle.rpc_client.specs.sock_table.specs.Named.{Found}
 use Rattle.rpc_client.proofs.Finding.{rest_same}
 use Rattle.thread_run.proofs.waiting.wait_for.Goals as goal
 

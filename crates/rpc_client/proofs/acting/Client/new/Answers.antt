@@ -1,5 +1,5 @@
 use Rattle.std.proofs.lemmas.List.Sorted.{All-permutation}
-use Rattle.sock_table.specs.Passes.{IsPass}
+use Rattle.write_chain.specs.sock_table.specs.Passes.{IsPass}
 use Rattle.rpc_client.proofs.Going.{new_go}
 use Rattle.rpc_client.proofs.acting.Client.new.Goals as goal
 

@@ -1,0 +1,9 @@
+pub use Rattle.call_places.specs.call_attempts
+pub use Rattle.call_told.specs.call_client
+pub use Rattle.call_places.specs.call_errors
+pub use Rattle.call_places
+pub use Rattle.call_told
+pub use Rattle.call_told.specs.rpc_reader
+pub use Rattle.call_places.specs.sock_causes
+pub use Rattle.call_places.specs.sock_open
+pub use Rattle.call_places.specs.sock_rule
