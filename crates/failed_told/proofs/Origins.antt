@@ -1,10 +1,12 @@
--- Each end of a call that a client told goes back to an error that it posted, or that was handed out of a locked word that it found.
-use Rattle.std.proofs.Common.{◌*◌, length, Bool, ◌≡◌, ℕ, zero, suc, ◌+◌, ◌≤◌, inl, inr, true, false, List, [], ◌∷◌, ◌++◌, Some, None, drop, refl, sym, ap, ◌∙◌, subst, arith}
+-- Each end of a call that a client told goes back to an error that it posted, or that was handed out of a locked word that it found; and each error that it queued is one that it posted.
+use Rattle.std.proofs.Common.{◌*◌, ◌<◌, length, Bool, ◌≡◌, ◌≢◌, ℕ, zero, suc, ◌+◌, ◌≤◌, ◌⊎◌, inl, inr, true, false, cond, eqb, ne_eqb, List, [], ◌∷◌, ◌++◌, Some, None, drop, refl, sym, ap, ◌∙◌, subst, arith}
 use Rattle.std.specs.Prelude.{Option as Maybe}
 use Rattle.std.specs.List.{AllByRecursion}
 use Rattle.std.proofs.lemmas.List.{drop_all, append_assoc, append-nil}
 use Rattle.std.proofs.lemmas.Nat.{div-add-mod'}
+use mathlib.Core.Logic.{dite}
 use mathlib.Core.Option.{some}
+use native.Mathlib.Decide.{ℕ_discrete}
 use lib.ListN.{get_elem?}
 use Rattle.sock_io.specs.declared.link.Out.{Ghosts}
 use Rattle.sock_io.specs.Link.{OutState}
@@ -20,29 +22,31 @@ use Rattle.sock_programs.specs.declared.task.Op.{Op}
 use Rattle.sock_programs.specs.declared.task.Op.TheVariants as ops
 use Rattle.sock_programs.specs.declared.task.Task.{Task}
 use Rattle.corr_core.specs.Word.{Parts, parts}
-use Rattle.corr_core.specs.Law.{total}
+use Rattle.corr_core.specs.Law.{total, is_queued}
 use Rattle.corr_core.specs.declared.marks.Note.{Note}
-use Rattle.corr_core.specs.declared.marks.Note.TheVariants.{Ended}
+use Rattle.corr_core.specs.declared.marks.Note.TheVariants.{Tried, Made, Ended, Locker, Queued, Attempt, Saw}
 use Rattle.corr_core.specs.declared.marks.Noted.{Noted}
 use Rattle.corr_core.specs.declared.marks.Token.{Token}
 use Rattle.corr_core.specs.declared.marks.Plan as id_plan
 use Rattle.corr_core.specs.declared.marks.View.{View}
+use Rattle.corr_core.proofs.Notes.{pair-else, pair-else_first}
 use Rattle.id_rule.specs.Lawful.{call_word, notes_of, with_kept}
 use Rattle.sock_message.specs.Asked.{Asked}
 use Rattle.corr_id.specs.declared.calls.IdLock.{IdLock}
 use Rattle.corr_id.specs.declared.posts.Posted.{Posted}
 use Rattle.corr_id.specs.declared.posts.Posted.TheVariants.{Locked as HasLock, Queued as IsQueued, Gone, Stale, Crowded}
-use Rattle.corr_id.specs.Calls.{is_saw, slot_of, version_of, one, Did, Quiet, Found}
-use Rattle.corr_id.specs.Posts.{PostOk}
+use Rattle.corr_id.specs.Calls.{is_saw, is_event, slot_of, version_of, error_in, one, advance_note, Became, Did, Quiet, Found, GotLock}
+use Rattle.corr_id.specs.Posts.{IsTimely, PostOk}
 use Rattle.corr_id.specs.Unlocks.{UnlockOk}
 use Rattle.corr_id.specs.declared.unlocks.Unlocked.TheVariants as unlocked
+use Rattle.corr_id.proofs.Seats.{notes_append, total_append}
 use Rattle.call_errors.specs.declared.retries.Retry.{Retry}
 use Rattle.call_errors.specs.Books.{Books, CallStand, stand_of, starving, keeping, Tells, told, lost}
 use Rattle.call_errors.specs.Ending.{EndedWith, failed}
 use Rattle.call_errors.specs.Handling.{Decided, decision}
 use Rattle.call_errors.specs.Handling as handling
 use Rattle.call_errors.specs.Posting.{Handled, PostedBy}
-use Rattle.call_errors.specs.Asking.{found_id, TimedOut, ExpiredBy, JoinedBy}
+use Rattle.call_errors.specs.Asking.{found_id, outcome_by, TimedOut, ExpiredBy, JoinedBy}
 use Rattle.call_writes.specs.Draining.{ToldDrop, of_send, of_call, DroppedOne, DroppedAll, Drained}
 use Rattle.call_writes.specs.Draining as draining
 use Rattle.call_writes.specs.Sending.{DeliveredCalling, SentCalling}
@@ -56,58 +60,153 @@ use Rattle.call_client.specs.declared.caller.Caller.{Caller}
 use Rattle.call_client.specs.Acting.{Stand, stand, both_of, letter_of, Acted}
 use Rattle.call_client.specs.Running.{Course, Ran, begins, RunBy}
 use Rattle.rpc_client.specs.declared.acting.Told.{Told}
-use Rattle.call_told.proofs.Growing.{Grows, grows_same, ended_grows, post_grows}
+use Rattle.call_client.proofs.Telling.{quiet_total, did_total, none_of_one}
+use Rattle.call_told.proofs.Ends.{counted_here}
+use Rattle.call_told.proofs.Growing.{grows_same, ended_grows}
 use Rattle.call_told.proofs.Lists.{all_both, all_then}
 use Rattle.call_told.proofs.Runs.{none_left}
-use Rattle.table_told.proofs.Flats.{append_first, append_later}
+use Rattle.sock_deeds.proofs.Flats.{append_first, append_later}
 use Rattle.rpc_client.specs.Running.{telling}
 use Rattle.call_table.specs.declared.errors.Decision.TheVariants as decisions
 use Rattle.call_errors.specs.Locking.{id_in}
-use Rattle.failed_told.specs.Reasons.{Reason, timed_out, gone, refused, dropped, Origin, posted_so, handed_out, IsCaused}
+use Rattle.failed_told.specs.Reasons.{Counts, IsLow, Reason, timed_out, gone, refused, dropped, QueuedFor, Origin, posted_so, handed_out, IsSeen, Cause, IsCaused}
 use Rattle.failed_told.specs.Reasons as reasons
 
--- all notes are there still
-abbrev Stays : View Asked → View Asked → Type 0
-Stays v w = (j : ℕ) (f : Note Asked → ℕ) → total f (notes_of j v.notes) ≤ total f (notes_of j w.notes)
+-- ## Errors that are noted as queued
+
+-- only events count
+queued_silent : (first e : ℕ) (n : Note Asked) → is_event n ≡ false → is_queued first e n ≡ 0
+queued_silent first e Tried z = refl
+queued_silent first e (Saw w) z = refl
+queued_silent first e (Made a b c) z = refl
+queued_silent first e (Ended g) z = refl
+queued_silent first e (Locker g c) z = refl
+queued_silent first e (Queued g d) z = let k : true ≡ false = z in cc
+queued_silent first e (Attempt g n) z = refl
+
+abbrev pub queued_in : ℕ → ℕ → ℕ → List (Noted Asked) → ℕ
+queued_in i first e notes = total (is_queued first e) (notes_of i notes)
+
+-- nothing that was noted is gone, and no error more is noted as queued
+pub record Stays (v w : View Asked) : Type 0 where
+  pub notes : (j : ℕ) (f : Note Asked → ℕ) → total f (notes_of j v.notes) ≤ total f (notes_of j w.notes)
+  pub queued : (j first e : ℕ) → queued_in j first e w.notes ≤ queued_in j first e v.notes
+
+abbrev NoneQueued : List (Noted Asked) → Type 0
+NoneQueued es = (j first e : ℕ) → queued_in j first e es ≡ 0
+
+one_none : (at : ℕ) (n : Note Asked) → ((first e : ℕ) → is_queued first e n ≡ 0) → NoneQueued (one at n)
+one_none at n z j first e = none_of_one (is_queued first e) (queued_silent first e) at n (z first e) j
+
+advance_none : (at : ℕ) (p q : Parts) → NoneQueued (advance_note {C = Asked} at p q)
+advance_none at p q j first e = elim (eqb p.attempt q.attempt) as (λ b. queued_in j first e (cond b [] (one {C = Asked} at (Attempt p.first q.attempt))) ≡ 0) [ true ↦ refl | false ↦ one_none at (Attempt p.first q.attempt) (λ f d. refl) j first e ]
+
+-- one that is noted so is the one that was put there
+queued_one : (i j first e f d : ℕ) → 0 < queued_in j first e (one {C = Asked} i (Queued f d)) → (i ≡ j) × (f ≡ first) × (d ≡ e)
+queued_one i j first e f d h = dite (ℕ_discrete i j)
+    (λ same. (
+    let here : 0 < queued_in i first e (one {C = Asked} i (Queued f d)) = subst (λ (k : ℕ). 0 < queued_in k first e (one {C = Asked} i (Queued f d))) (sym same) h in
+    let a = counted_here (is_queued first e) i (Queued f d) in
+    dite (ℕ_discrete f first)
+    (λ x. dite (ℕ_discrete d e) (λ y. (same, x, y)) (λ ne. absurd (let b = pair-else first e f d ne in omega (arith, here, a, b))))
+    (λ ne. absurd (let b = pair-else_first first e f d ne in omega (arith, here, a, b)))))
+    (λ ne. absurd (let a = ap (λ (b : Bool). total (is_queued first e) (cond b (Queued {C = Asked} f d ∷ []) [])) (ne_eqb i j ne) in omega (arith, a, h)))
 
 same_notes : (v w : View Asked) → w ≡ v → Stays v w
-same_notes v w e = (grows_same 0 0 v w e).notes
+same_notes v w e = record { notes = (grows_same 0 0 v w e).notes; queued = λ j first d. (let a = ap (λ (y : View Asked). queued_in j first d y.notes) e in omega (arith, a)) }
 
 then_notes : (u v w : View Asked) → Stays u v → Stays v w → Stays u w
-then_notes u v w a b j f = let x = a j f in let y = b j f in omega (arith, x, y)
+then_notes u v w a b = record {
+  notes = λ j f. (let x = a.notes j f in let y = b.notes j f in omega (arith, x, y));
+  queued = λ j first e. (let x = a.queued j first e in let y = b.queued j first e in omega (arith, x, y));
+}
 
-did_notes : (i : ℕ) (v w : View Asked) (ts : List (Token Asked)) (es : List (Noted Asked)) → Did i v w ts es → Stays v w
-did_notes i v w ts es d = d.grows
+did_notes : (i : ℕ) (v w : View Asked) (ts : List (Token Asked)) (es : List (Noted Asked)) → NoneQueued es → Did i v w ts es → Stays v w
+did_notes i v w ts es none_ d = record { notes = d.grows; queued = λ j first e. (let a = did_total (is_queued first e) (queued_silent first e) i v w ts es d j in let b = none_ j first e in omega (arith, a, b)) }
 
 quiet_notes : (v w : View Asked) → Quiet v w → Stays v w
-quiet_notes v w q = q.grows
-
-post_notes : (slots : ℕ) (v w : View Asked) (id code : ℕ) (attempt : Maybe ℕ) (answer : Posted Asked) → PostOk slots v w id code attempt answer → Stays v w
-post_notes slots v w id code attempt answer p = (post_grows 0 slots v w id code attempt answer p).notes
+quiet_notes v w q = record { notes = q.grows; queued = λ j first e. (let a = quiet_total (is_queued first e) (queued_silent first e) v w q j in omega (arith, a)) }
 
 -- a word more is kept in mind
 with_grows : (v w : View Asked) (place : ℕ) (own : Bool) (word : ℕ) → w ≡ with_kept place own word v → Stays v w
-with_grows v w place own word e j f = let a = ap (λ (y : View Asked). total f (notes_of j y.notes)) e in omega (arith, a)
+with_grows v w place own word e = record {
+  notes = λ j f. (let a = ap (λ (y : View Asked). total f (notes_of j y.notes)) e in omega (arith, a));
+  queued = λ j first d. (let a = ap (λ (y : View Asked). queued_in j first d y.notes) e in omega (arith, a));
+}
+
+-- a range ended
+ended_notes : (i first : ℕ) (v w : View Asked) → Became i v w [] (one i (Ended first)) → Stays v w
+ended_notes i first v w b = record {
+  notes = (ended_grows 0 i v w [] (one i (Ended first)) b).notes;
+  queued = λ j f e. (
+      let es : List (Noted Asked) = one i (Ended first) in
+      let a : queued_in j f e w.notes ≡ total (is_queued f e) (notes_of j es ++ notes_of j v.notes) = ap (queued_in j f e) b.notes ∙ ap (total (is_queued f e)) (notes_append j es v.notes) in
+      let c = total_append (is_queued f e) (notes_of j es) (notes_of j v.notes) in let d = one_none i (Ended first) (λ x y. refl) j f e in omega (arith, a, c, d));
+}
+
+got_notes : (i : ℕ) (v w : View Asked) (word : ℕ) (k : Parts) (call : Asked) → GotLock i v w word k call → Stays v w
+got_notes i v w word k call g = did_notes i v w _ (one i (Locker k.first call)) (one_none i (Locker k.first call) (λ x y. refl)) g.did
+
+-- the lock that was got has the word that was found
+got_seen : (v w : View Asked) (word : ℕ) (k : IdLock Asked) → GotLock k.slot v w word (parts k.word.0) k.content → IsSeen w k
+got_seen v w word k g = record {
+  word = word;
+  found = g.found;
+  taken = (let a = g.was_open in omega (arith, a));
+  first_is = sym (ap (λ (y : Parts). y.first) g.word_is);
+  range_is = sym (ap (λ (y : Parts). y.range) g.word_is);
+}
+
+seen_later : (v w : View Asked) → Stays v w → (k : IdLock Asked) → IsSeen v k → IsSeen w k
+seen_later v w g k s = record { word = s.word; found = (let a = g.notes k.slot (is_saw s.word) in let b = s.found in omega (arith, a, b)); taken = s.taken; first_is = s.first_is; range_is = s.range_is }
+
+-- the post of an `expire` that counts
+timed_by : (answer : Posted Asked) (by : Outcome) → by ≡ outcome_by answer → Counts answer → (by ≡ outcome.Expired) ⊎ (by ≡ outcome.Queued)
+timed_by (HasLock k) by e c = inl e
+timed_by IsQueued by e c = inr e
+timed_by (Gone found) by e c = elim c [ ]
+timed_by (Stale current) by e c = elim c [ ]
+timed_by (Crowded first second) by e c = elim c [ ]
+
+low_attempt : (attempt : Maybe ℕ) (word : ℕ) → IsTimely attempt (parts word).attempt → IsLow attempt
+low_attempt None word t = tt
+low_attempt (Some n) word t = omega (arith, t)
 
 module _ {O : Type 0} (state : O → OutState) (p : Plan) (q : id_plan.Plan) (xs : List Task) (Says : ℕ → Outcome → Type 0) where
   abbrev IsCausedHere : View Asked → Told → Type 0
   IsCausedHere v x = IsCaused state p q xs Says v x
 
-  -- the notes stay, and what is told more is caused, where memory is there behind it
+  abbrev CauseHere : View Asked → IdLock Asked → ℕ → Maybe ℕ → Type 0
+  CauseHere v k code attempt = Cause state p q xs Says v k code attempt
+
+  abbrev pub QueuedHere : ℕ → ℕ → ℕ → Type 0
+  QueuedHere i first e = QueuedFor state p q xs Says i first e
+
+  -- the notes stay; each error that is noted as queued more had a reason; and what is told more is caused, where memory is there behind it
   pub record Caused (s t : CallStand) : Type 0 where
     pub grows : (j : ℕ) (f : Note Asked → ℕ) → total f (notes_of j s.view.notes) ≤ total f (notes_of j t.view.notes)
+    pub queued : (j first e : ℕ) → 0 < queued_in j first e t.view.notes → (0 < queued_in j first e s.view.notes) ⊎ QueuedHere j first e
     pub told : t.books.starved ≡ false → (s.books.starved ≡ false) × ((more : List Told) × (t.books.told ≡ s.books.told ++ more) × AllByRecursion (IsCausedHere t.view) more)
 
   origin_later : (v w : View Asked) → ((j : ℕ) (f : Note Asked → ℕ) → total f (notes_of j v.notes) ≤ total f (notes_of j w.notes)) → (k : IdLock Asked) (code : ℕ) (attempt : Maybe ℕ) → Origin state p q xs Says v k code attempt → Origin state p q xs Says w k code attempt
   origin_later v w grows k code attempt (posted_so r) = posted_so r
-  origin_later v w grows k code attempt (handed_out word found locked first oldest) = handed_out word (let a = grows k.slot (is_saw word) in omega (arith, a, found)) locked first oldest
+  origin_later v w grows k code attempt (handed_out word found locked first oldest some_) = handed_out word (let a = grows k.slot (is_saw word) in omega (arith, a, found)) locked first oldest some_
+
+  cause_later : (v w : View Asked) → ((j : ℕ) (f : Note Asked → ℕ) → total f (notes_of j v.notes) ≤ total f (notes_of j w.notes)) → (k : IdLock Asked) (code : ℕ) (attempt : Maybe ℕ) → CauseHere v k code attempt → CauseHere w k code attempt
+  cause_later v w grows k code attempt c = record {
+    inside = c.inside;
+    seen = (let s = c.seen in record { word = s.word; found = (let a = grows k.slot (is_saw s.word) in let b = s.found in omega (arith, a, b)); taken = s.taken; first_is = s.first_is; range_is = s.range_is });
+    timely = c.timely;
+    origin = origin_later v w grows k code attempt c.origin;
+  }
 
   caused_later : (v w : View Asked) → ((j : ℕ) (f : Note Asked → ℕ) → total f (notes_of j v.notes) ≤ total f (notes_of j w.notes)) → (x : Told) → IsCausedHere v x → IsCausedHere w x
-  caused_later v w grows x c = record { lock = c.lock; code = c.code; attempt = c.attempt; is = c.is; ends = c.ends; origin = origin_later v w grows c.lock c.code c.attempt c.origin }
+  caused_later v w grows x c = record { lock = c.lock; code = c.code; attempt = c.attempt; is = c.is; ends = c.ends; cause = cause_later v w grows c.lock c.code c.attempt c.cause }
 
   pub in_turn : (s u t : CallStand) → Caused s u → Caused u t → Caused s t
   in_turn s u t a b = record {
     grows = λ j f. (let x = a.grows j f in let y = b.grows j f in omega (arith, x, y));
+    queued = λ j first e h. elim (b.queued j first e h) [ inl x ↦ a.queued j first e x | inr y ↦ inr y ];
     told = λ fed. (let y = b.told fed in let x = a.told y.0 in (
       x.0,
       (
@@ -120,7 +219,7 @@ module _ {O : Type 0} (state : O → OutState) (p : Plan) (q : id_plan.Plan) (xs
 
   -- nothing more is told
   caused_books : (s t : CallStand) → Stays s.view t.view → t.books.told ≡ s.books.told → t.books.starved ≡ s.books.starved → Caused s t
-  caused_books s t g e f = record { grows = g; told = λ fed. (sym f ∙ fed, ([], e ∙ sym (append-nil s.books.told), tt)) }
+  caused_books s t g e f = record { grows = g.notes; queued = λ j first d h. inl (let a = g.queued j first d in omega (arith, a, h)); told = λ fed. (sym f ∙ fed, ([], e ∙ sym (append-nil s.books.told), tt)) }
 
   caused_seen : (s t : CallStand) → Stays s.view t.view → t.books ≡ s.books → Caused s t
   caused_seen s t g e = caused_books s t g (ap (λ (y : Books). y.told) e) (ap (λ (y : Books). y.starved) e)
@@ -128,25 +227,41 @@ module _ {O : Type 0} (state : O → OutState) (p : Plan) (q : id_plan.Plan) (xs
   pub caused_same : (s t : CallStand) → t ≡ s → Caused s t
   caused_same s t e = caused_seen s t (same_notes s.view t.view (ap (λ (y : CallStand). y.view) e)) (ap (λ (y : CallStand). y.books) e)
 
+  -- an error was queued
+  caused_queued : (s t : CallStand) (id code : ℕ) (attempt : Maybe ℕ) (ts : List (Token Asked)) → IsLow attempt → Did (slot_of id) s.view t.view ts (one (slot_of id) (Queued (version_of id) (error_in code attempt))) → t.books ≡ s.books → Reason state p q xs Says id code attempt → Caused s t
+  caused_queued s t id code attempt ts low d same r = record {
+    grows = d.grows;
+    queued = λ j first e h. (
+        let more : List (Noted Asked) = one (slot_of id) (Queued (version_of id) (error_in code attempt)) in
+        let a = did_total (is_queued first e) (queued_silent first e) (slot_of id) s.view t.view ts more d j in
+        dite (ℕ_discrete (queued_in j first e more) 0)
+        (λ z. inl (omega (arith, a, z, h)))
+        (λ ne. inr (let w = queued_one (slot_of id) j first e (version_of id) (error_in code attempt) (omega (arith, ne)) in record { id = id; code = code; attempt = attempt; slot_is = w.0; first_is = w.1; error_is = w.2; low = low; reason = r })));
+    told = λ fed. (sym (ap (λ (y : Books). y.starved) same) ∙ fed, ([], ap (λ (y : Books). y.told) same ∙ sym (append-nil s.books.told), tt));
+  }
+
   -- ## Errors of calls
 
-  lock_ends : (k : IdLock Asked) (code : ℕ) (attempt : Maybe ℕ) (s t : CallStand) → decision k code attempt ≡ decisions.End → Origin state p q xs Says s.view k code attempt → EndedWith k code s t → Caused s t
-  lock_ends k code attempt s t end o e = record { grows = grown.notes; told = λ fed. by fed e.tells }
+  lock_ends : (k : IdLock Asked) (code : ℕ) (attempt : Maybe ℕ) (s t : CallStand) → decision k code attempt ≡ decisions.End → CauseHere s.view k code attempt → EndedWith k code s t → Caused s t
+  lock_ends k code attempt s t end c e = record { grows = grown.notes; queued = λ j first d h. inl (let a = grown.queued j first d in omega (arith, a, h)); told = λ fed. by fed e.tells }
     where
-      grown : Grows 0 0 s.view t.view
-      grown = ended_grows 0 k.slot s.view t.view [] (one k.slot (Ended (parts k.word.0).first)) e.ended
+      grown : Stays s.view t.view
+      grown = ended_notes k.slot (parts k.word.0).first s.view t.view e.ended
 
       by : t.books.starved ≡ false → Tells (failed k code) s.books t.books → (s.books.starved ≡ false) × ((more : List Told) × (t.books.told ≡ s.books.told ++ more) × AllByRecursion (IsCausedHere t.view) more)
       by fed (told is) = (
         sym (ap (λ (b : Books). b.starved) is) ∙ fed,
-        (failed k code ∷ [], ap (λ (b : Books). b.told) is, (record { lock = k; code = code; attempt = attempt; is = refl; ends = end; origin = origin_later s.view t.view grown.notes k code attempt o }, tt)),
+        (failed k code ∷ [], ap (λ (b : Books). b.told) is, (record { lock = k; code = code; attempt = attempt; is = refl; ends = end; cause = cause_later s.view t.view grown.notes k code attempt c }, tt)),
       )
       by fed (lost is) = let z : true ≡ false = sym (ap (λ (b : Books). b.starved) is) ∙ fed in absurd (cc)
 
   -- for want of memory
   starved_ends : (k : IdLock Asked) (s t : CallStand) → EndedWith k EINTERNAL (record { view = s.view; books = starving s.books }) t → Caused s t
-  starved_ends k s t e = record { grows = (ended_grows 0 k.slot s.view t.view [] (one k.slot (Ended (parts k.word.0).first)) e.ended).notes; told = λ fed. by fed e.tells }
+  starved_ends k s t e = record { grows = grown.notes; queued = λ j first d h. inl (let a = grown.queued j first d in omega (arith, a, h)); told = λ fed. by fed e.tells }
     where
+      grown : Stays s.view t.view
+      grown = ended_notes k.slot (parts k.word.0).first s.view t.view e.ended
+
       by : t.books.starved ≡ false → Tells (failed k EINTERNAL) (starving s.books) t.books → (s.books.starved ≡ false) × ((more : List Told) × (t.books.told ≡ s.books.told ++ more) × AllByRecursion (IsCausedHere t.view) more)
       by fed (told is) = let z : true ≡ false = sym (ap (λ (b : Books). b.starved) is) ∙ fed in absurd (cc)
       by fed (lost is) = let z : true ≡ false = sym (ap (λ (b : Books). b.starved) is) ∙ fed in absurd (cc)
@@ -154,39 +269,60 @@ module _ {O : Type 0} (state : O → OutState) (p : Plan) (q : id_plan.Plan) (xs
   keeps : (s t : CallStand) (r : Retry) → Stays s.view t.view → t.books ≡ keeping r s.books → Caused s t
   keeps s t r g e = caused_books s t g (ap (λ (y : Books). y.told) e) (ap (λ (y : Books). y.starved) e)
 
+  -- a lock that was given back opened its id
+  opened_notes : (u w : View Asked) (k : IdLock Asked) (advance : Bool) → UnlockOk u w k.slot (parts k.word.0) k.content advance unlocked.Open → Stays u w
+  opened_notes u w k advance h = did_notes k.slot u w _ _ (advance_none k.slot (parts k.word.0) h.1) h.4
+
+  handed_notes : (u w : View Asked) (k l : IdLock Asked) (advance : Bool) (code : ℕ) (attempt : Maybe ℕ) → UnlockOk u w k.slot (parts k.word.0) k.content advance (unlocked.Next l code attempt) → Stays u w
+  handed_notes u w k l advance code attempt h = did_notes k.slot u w _ _ (advance_none k.slot (parts k.word.0) (parts l.word.0)) h.3
+
   -- what is handed out instead of a lock
-  next_origin : (u w : View Asked) (k l : IdLock Asked) (advance : Bool) (code : ℕ) (attempt : Maybe ℕ) → UnlockOk u w k.slot (parts k.word.0) k.content advance (unlocked.Next l code attempt) → Origin state p q xs Says w l code attempt
-  next_origin u w k l advance code attempt h =
+  next_cause : (u w : View Asked) (k l : IdLock Asked) (advance : Bool) (code : ℕ) (attempt : Maybe ℕ) → k.slot < q.slots → UnlockOk u w k.slot (parts k.word.0) k.content advance (unlocked.Next l code attempt) → CauseHere w l code attempt
+  next_cause u w k l advance code attempt inside h =
       let r = h.4.1 in
-      handed_out h.4.0 (subst (λ (i : ℕ). Found i h.4.0 w) (sym h.0) r.was_found) r.was_locked (sym (ap (λ (y : Parts). y.first) r.left.1)) h.4.2
+      let found : Found l.slot h.4.0 w = subst (λ (i : ℕ). Found i h.4.0 w) (sym h.0) r.was_found in
+      let first : (parts h.4.0).first ≡ (parts l.word.0).first = sym (ap (λ (y : Parts). y.first) r.left.1) in
+      record {
+        inside = (let a = h.0 in omega (arith, a, inside));
+        seen = record { word = h.4.0; found = found; taken = (let a = r.was_locked in omega (arith, a)); first_is = first; range_is = sym (ap (λ (y : Parts). y.range) r.left.1) };
+        timely = h.4.3;
+        origin = handed_out h.4.0 found r.was_locked first h.4.2 (λ z. (
+            let open_ : (parts l.word.0).state ≡ 1 = ap (λ (y : Parts). y.state) r.left.1 ∙ ap (λ (n : ℕ). cond (eqb n 0) 1 2) z in
+            let a = l.is_locked in omega (arith, a, open_)));
+      }
 
-  pub decided : {s : CallStand} {k : IdLock Asked} {code : ℕ} {attempt : Maybe ℕ} {t : CallStand} → Decided s k code attempt t → Origin state p q xs Says s.view k code attempt → Caused s t
-  decided (handling.ends s k code attempt t a b e) o = lock_ends k code attempt s t b o e
-  decided (handling.starves s k code attempt t a e) o = starved_ends k s t e
-  decided (handling.waits s k code attempt t a b e) o = keeps s t e.retry (did_notes k.slot s.view t.view _ _ e.unlocked.4) e.kept
-  decided (handling.goes_on s k code attempt t u l next of a b e rest) o =
-      in_turn s u t (keeps s u e.retry (did_notes k.slot s.view u.view _ _ e.unlocked.3) e.kept) (decided rest (next_origin s.view u.view k l true next of e.unlocked))
+  pub decided : {s : CallStand} {k : IdLock Asked} {code : ℕ} {attempt : Maybe ℕ} {t : CallStand} → Decided s k code attempt t → CauseHere s.view k code attempt → Caused s t
+  decided (handling.ends s k code attempt t a b e) c = lock_ends k code attempt s t b c e
+  decided (handling.starves s k code attempt t a e) c = starved_ends k s t e
+  decided (handling.waits s k code attempt t a b e) c = keeps s t e.retry (opened_notes s.view t.view k true e.unlocked) e.kept
+  decided (handling.goes_on s k code attempt t u l next of a b e rest) c =
+      in_turn s u t (keeps s u e.retry (handed_notes s.view u.view k l true next of e.unlocked) e.kept) (decided rest (next_cause s.view u.view k l true next of c.inside e.unlocked))
 
-  pub posted : (s : CallStand) (id code : ℕ) (attempt : Maybe ℕ) (t : CallStand) → PostedBy q.slots s id code attempt t → Reason state p q xs Says id code attempt → Caused s t
-  posted s id code attempt t b r =
-      let v = b.1.view in let u : CallStand = record { view = v; books = s.books } in
-      in_turn s u t (caused_seen s u (post_notes q.slots s.view v id code attempt b.0 b.1.post) refl) (by b.0 b.1.post b.1.handled)
+  pub posted : (s : CallStand) (id code : ℕ) (attempt : Maybe ℕ) (t : CallStand) (b : PostedBy q.slots s id code attempt t) → (Counts b.0 → Reason state p q xs Says id code attempt) → Caused s t
+  posted s id code attempt t b why = by b.0 b.1.post b.1.handled why
     where
-      by : (answer : Posted Asked) → PostOk q.slots s.view b.1.view id code attempt answer → Handled code attempt answer (record { view = b.1.view; books = s.books }) t → Caused (record { view = b.1.view; books = s.books }) t
-      by (HasLock k) post d =
+      u : CallStand
+      u = record { view = b.1.view; books = s.books }
+
+      seen : Quiet s.view u.view → t ≡ u → Caused s t
+      seen quiet e = in_turn s u t (caused_seen s u (quiet_notes s.view u.view quiet) refl) (caused_same u t e)
+
+      by : (answer : Posted Asked) → PostOk q.slots s.view u.view id code attempt answer → Handled code attempt answer u t → (Counts answer → Reason state p q xs Says id code attempt) → Caused s t
+      by (HasLock k) post d r =
           let whole : slot_of id * 4294967296 + version_of id ≡ id = div-add-mod' id 4294967296 in let slot = post.0 in let first = post.2 in
           let same : id_in k ≡ id = omega (arith, whole, slot, first) in
-          decided d (posted_so (subst (λ (i : ℕ). Reason state p q xs Says i code attempt) (sym same) r))
-      by IsQueued post e = caused_same _ t e
-      by (Gone found) post e = caused_same _ t e
-      by (Stale current) post e = caused_same _ t e
-      by (Crowded first second) post e = caused_same _ t e
+          in_turn s u t (caused_seen s u (got_notes k.slot s.view u.view post.4.0 (parts k.word.0) k.content post.4.1) refl)
+          (decided d (record { inside = post.1; seen = got_seen s.view u.view post.4.0 k post.4.1; timely = post.3; origin = posted_so (subst (λ (i : ℕ). Reason state p q xs Says i code attempt) (sym same) (r tt)) }))
+      by IsQueued post e r = in_turn s u t (caused_queued s u id code attempt _ (low_attempt attempt post.1.0 post.1.1.4) post.0 refl (r tt)) (caused_same u t e)
+      by (Gone found) post e r = seen post.0 e
+      by (Stale current) post e r = seen post.0 e
+      by (Crowded first second) post e r = seen post.0 e
 
   seen_id : (number id : ℕ) (s : CallStand) → Caused s (found_id q number id s)
   seen_id number id s = let u = found_id q number id s in caused_seen s u (with_grows s.view u.view (call_word q number) false id refl) refl
 
   timed_out_by : (i : ℕ) (x : Task) → get_elem? xs i ≡ some x → (number : ℕ) → x.op ≡ ops.Expire number → (by : Outcome) → Says x.number by → (s t : CallStand) → TimedOut q number by s t → Caused s t
-  timed_out_by i x there number is by says s t h = let u = found_id q number h.id s in in_turn s u t (seen_id number h.id s) (posted u h.id ERPCTIMEDOUT None t (h.answer, h.posted) (timed_out i x number by s t h there is says refl refl refl))
+  timed_out_by i x there number is by says s t h = let u = found_id q number h.id s in in_turn s u t (seen_id number h.id s) (posted u h.id ERPCTIMEDOUT None t (h.answer, h.posted) (λ counts. timed_out i x number by s t h there is says (timed_by h.answer by h.by_answer counts) refl refl refl))
 
   expired_by : (i : ℕ) (x : Task) → get_elem? xs i ≡ some x → (number : ℕ) → x.op ≡ ops.Expire number → (by : Outcome) → Says x.number by → (s t : CallStand) → ExpiredBy q number by s t → Caused s t
   expired_by i x there number is outcome.NotBegun says s t h = caused_same s t h.same
@@ -209,7 +345,7 @@ module _ {O : Type 0} (state : O → OutState) (p : Plan) (q : id_plan.Plan) (xs
     where
       by : ToldDrop q.slots d.msg d.code s t → Caused s t
       by (of_send e is) = caused_same s t is
-      by (of_call ne b) = posted s d.msg.owner d.code (Some d.msg.label.attempt) t b (dropped id v s w t d refl refl refl)
+      by (of_call ne b) = posted s d.msg.owner d.code (Some d.msg.label.attempt) t b (λ counts. dropped id v s w t d refl refl refl)
 
   dropped_all : (id : ℕ) (v : sock_view.View) (s : CallStand) (w : sock_view.View) (t : CallStand) → DroppedAll state p q.slots id v s w t → Caused s t
   dropped_all id v s _ _ draining.none = caused_same s s refl
@@ -236,33 +372,33 @@ module _ {O : Type 0} (state : O → OutState) (p : Plan) (q : id_plan.Plan) (xs
 
   delivered_by : (socket : SocketId) (msg : Letter) (s t : Both) → DeliveredBy state p q socket msg s t → Caused s.calls t.calls
   delivered_by socket msg s t (went_out w) = drained socket.0 w.taken s.calls w.through.wrote t.calls w.through.drained
-  delivered_by socket msg s t (came_back by c) = posted s.calls msg.owner (code_for by) (Some msg.label.attempt) t.calls c.posted (refused socket msg by s t c refl refl refl)
+  delivered_by socket msg s t (came_back by c) = posted s.calls msg.owner (code_for by) (Some msg.label.attempt) t.calls c.posted (λ counts. refused socket msg by s t c refl refl refl)
 
   attempted_by : (socket : SocketId) (msg : Letter) (s t : Both) → AttemptedBy state p q socket msg s t → Caused s.calls t.calls
-  attempted_by socket msg s t (nowhere g) = posted s.calls msg.owner EFAILEDSOCKET (Some msg.label.attempt) t.calls g.posted (gone socket msg s t g refl refl refl)
+  attempted_by socket msg s t (nowhere g) = posted s.calls msg.owner EFAILEDSOCKET (Some msg.label.attempt) t.calls g.posted (λ counts. gone socket msg s t g refl refl refl)
   attempted_by socket msg s t (over_link u l d) = in_turn s.calls u.calls t.calls (caused_seen s.calls u.calls (with_grows s.calls.view u.calls.view _ _ _ l.stored) l.books) (delivered_by socket msg u t d)
 
   begun_by : (asked : Asked) (id : ℕ) (s t : Both) → CalledBy state p q asked (called.Begun id) s t → Caused s.calls t.calls
   begun_by asked id s t h =
       let m = h.made_for in let u : CallStand = record { view = m.view; books = s.calls.books } in
-      in_turn s.calls h.at.calls t.calls (in_turn s.calls u h.at.calls (caused_seen s.calls u (did_notes (slot_of id) s.calls.view m.view _ _ m.made.did) refl) (caused_seen u h.at.calls (with_grows m.view h.at.calls.view _ _ _ m.noted) m.books)) (attempted_by h.socket _ h.at t h.attempted)
+      in_turn s.calls h.at.calls t.calls (in_turn s.calls u h.at.calls (caused_seen s.calls u (did_notes (slot_of id) s.calls.view m.view _ (one (slot_of id) (Made (version_of id) asked.range asked)) (one_none (slot_of id) (Made (version_of id) asked.range asked) (λ x y. refl)) m.made.did) refl) (caused_seen u h.at.calls (with_grows m.view h.at.calls.view _ _ _ m.noted) m.books)) (attempted_by h.socket _ h.at t h.attempted)
 
   went_to : (name : ℕ) (msg : Letter) (s t : Both) → WentTo state p q name msg s t → Caused s.calls t.calls
-  went_to name msg s t (retrying.stray a e h) = posted s.calls msg.owner EFAILEDSOCKET (Some msg.label.attempt) t.calls h (reasons.stray name msg a refl refl refl)
-  went_to name msg s t (retrying.unopened f h) = posted s.calls msg.owner EFAILEDSOCKET (Some msg.label.attempt) t.calls h (reasons.unopened name msg s t f refl refl refl)
+  went_to name msg s t (retrying.stray a e h) = posted s.calls msg.owner EFAILEDSOCKET (Some msg.label.attempt) t.calls h (λ counts. reasons.stray name msg a refl refl refl)
+  went_to name msg s t (retrying.unopened f h) = posted s.calls msg.owner EFAILEDSOCKET (Some msg.label.attempt) t.calls h (λ counts. reasons.unopened name msg s t f refl refl refl)
   went_to name msg s t (to_socket socket u f e a) = in_turn s.calls u.calls t.calls (caused_same s.calls u.calls e) (attempted_by socket msg u t a)
 
   locked : (r : Retry) (k : IdLock Asked) (s t : Both) → Locked state p q r k s t → Caused s.calls t.calls
-  locked r k s t l = caused_seen s.calls t.calls (did_notes k.slot s.calls.view t.calls.view _ _ l.got.got.did) l.books
+  locked r k s t l = caused_seen s.calls t.calls (got_notes k.slot s.calls.view t.calls.view l.got.word (parts k.word.0) k.content l.got.got) l.books
 
   retried_by : (r : Retry) (s t : Both) → RetriedBy state p q r s t → Caused s.calls t.calls
   retried_by r s t (had_ended h) = caused_seen s.calls t.calls (quiet_notes s.calls.view t.calls.view h.gone.quiet) h.books
   retried_by r s t (overtaken k u l o) =
       let x : CallStand = record { view = o.view; books = u.calls.books } in
-      in_turn s.calls u.calls t.calls (locked r k s u l) (in_turn u.calls x t.calls (caused_seen u.calls x (did_notes k.slot u.calls.view o.view _ _ o.unlocked.3) refl) (decided o.decided (next_origin u.calls.view o.view k o.next false o.code o.attempt o.unlocked)))
+      in_turn s.calls u.calls t.calls (locked r k s u l) (in_turn u.calls x t.calls (caused_seen u.calls x (handed_notes u.calls.view o.view k o.next false o.code o.attempt o.unlocked) refl) (decided o.decided (next_cause u.calls.view o.view k o.next false o.code o.attempt l.got.inside o.unlocked)))
   retried_by r s t (went_again k u l w) =
       let x : CallStand = record { view = w.view; books = u.calls.books } in
-      in_turn s.calls u.calls t.calls (locked r k s u l) (in_turn u.calls x t.calls (caused_seen u.calls x (did_notes k.slot u.calls.view w.view _ _ w.unlocked.4) refl) (went_to _ _ (record { socks = u.socks; calls = x }) t w.went))
+      in_turn s.calls u.calls t.calls (locked r k s u l) (in_turn u.calls x t.calls (caused_seen u.calls x (opened_notes u.calls.view w.view k false w.unlocked) refl) (went_to _ _ (record { socks = u.socks; calls = x }) t w.went))
 
   retried : (s t : Both) → Retried state p q s t → Caused s.calls t.calls
   retried s _ none_yet = caused_same s.calls s.calls refl
@@ -303,13 +439,25 @@ module _ {O : Type 0} (state : O → OutState) (p : Plan) (q : id_plan.Plan) (xs
         (in_turn h.0.has.calls m.ready.calls t.has.calls (retried (both_of h.0.has) (both_of m.ready) m.retried.all.retried)
         (acted_caused n h.1 h.3 h.1.op refl m.by (said_now h.1.number m.by h.0.told t.told m.told says) m.ready t.has m.acted))
 
-    -- each end of a call that a client told, which made all its operations and had told none before, goes back to an error that was posted
-    pub run_caused : (c d : Caller O g) → RunBy state p q false xs c d → c.calls.told.items ≡ [] → AreSays d.outcomes.items → d.calls.starved ≡ false → AllByRecursion (IsCausedHere d.calls.seat.me.0) d.calls.told.items
-    run_caused c d r none_told says fed =
+    -- a client that made all its operations, from its first one on
+    run_all : (c d : Caller O g) → RunBy state p q false xs c d → AreSays d.outcomes.items → Caused (stand_of c.calls) (stand_of d.calls)
+    run_all c d r says =
         let all : drop r.made xs ≡ [] = let n = r.ends.0 in drop_all r.made xs (omega arith) in
         let came : AreSays r.came.outcomes.items = λ j y at. says j y (ap (λ o. get_elem? o.items j) r.told ∙ at) in
         let a = ran_caused r.made (begins c) (record { has = stand r.came; told = r.came.outcomes.items; names = r.ran.names }) r.ran.ran came in
         let b = retried (both_of (stand r.came)) (both_of r.last) r.ends.1.all.retried in
         let e = caused_same r.last.calls (stand_of d.calls) (r.calls ∙ ap (λ (s : Stand g). s.calls) (none_left state p q r.last r.end (drop r.made xs) all r.left)) in
-        let w = (in_turn (stand_of c.calls) (stand_of r.came.calls) (stand_of d.calls) a (in_turn (stand_of r.came.calls) r.last.calls (stand_of d.calls) b e)).told fed in
+        in_turn (stand_of c.calls) (stand_of r.came.calls) (stand_of d.calls) a (in_turn (stand_of r.came.calls) r.last.calls (stand_of d.calls) b e)
+
+    -- each end of a call that it told, and it had told none before, goes back to an error that was posted
+    pub run_caused : (c d : Caller O g) → RunBy state p q false xs c d → c.calls.told.items ≡ [] → AreSays d.outcomes.items → d.calls.starved ≡ false → AllByRecursion (IsCausedHere d.calls.seat.me.0) d.calls.told.items
+    run_caused c d r none_told says fed =
+        let w = (run_all c d r says).told fed in
         subst (AllByRecursion (IsCausedHere d.calls.seat.me.0)) (sym (w.1.1 ∙ ap (λ (l : List Told). l ++ w.1.0) none_told)) w.1.2
+
+    -- and each error that it noted as queued is one that it had a reason to post, where it had noted nothing before
+    pub run_queued : (c d : Caller O g) → RunBy state p q false xs c d → c.calls.seat.me.0.notes ≡ [] → AreSays d.outcomes.items → (i first e : ℕ) → 0 < queued_in i first e d.calls.seat.me.0.notes → QueuedHere i first e
+    run_queued c d r nothing says i first e h = elim ((run_all c d r says).queued i first e h) [
+      | inl before ↦ absurd (let a = ap (queued_in i first e) nothing in omega (arith, a, before))
+      | inr why ↦ why
+    ]

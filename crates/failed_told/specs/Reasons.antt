@@ -1,11 +1,12 @@
--- Why a client posts an error to a call.
-use Rattle.std.specs.Prelude.{◌≡◌, ℕ, List, Some, None}
+-- Why a client posts an error to a call, and where the error comes from by which a call ended.
+use Rattle.std.specs.Prelude.{◌≡◌, ◌≢◌, ℕ, ◌<◌, ◌⊎◌, List, Some, None}
 use Rattle.std.specs.Prelude.{Option as Maybe}
 use mathlib.Core.Option.{some}
 use lib.ListN.{get_elem?}
 use Rattle.sock_io.specs.Link.{OutState}
 use Rattle.sock_words.specs.Codes.{EFAILEDSOCKET, ERPCTIMEDOUT}
 use Rattle.sock_words.specs.declared.outcome.Outcome.{Outcome}
+use Rattle.sock_words.specs.declared.outcome.Outcome.TheVariants as outcome
 use Rattle.sock_words.specs.declared.plain.Plan.{Plan}
 use Rattle.sock_words.specs.declared.socket_id.SocketId.{SocketId}
 use Rattle.sock_model.specs.declared.view.View as sock_view
@@ -17,7 +18,10 @@ use Rattle.corr_core.specs.declared.marks.Plan as id_plan
 use Rattle.corr_core.specs.declared.marks.View.{View}
 use Rattle.sock_message.specs.Asked.{Asked}
 use Rattle.corr_id.specs.declared.calls.IdLock.{IdLock}
-use Rattle.corr_id.specs.Calls.{Found, error_in}
+use Rattle.corr_id.specs.declared.posts.Posted.{Posted}
+use Rattle.corr_id.specs.declared.posts.Posted.TheVariants.{Locked as HasLock, Queued as IsQueued}
+use Rattle.corr_id.specs.Calls.{Found, slot_of, version_of, error_in}
+use Rattle.corr_id.specs.Posts.{IsTimely}
 use Rattle.call_table.specs.declared.errors.Decision.TheVariants as decisions
 use Rattle.rpc_client.specs.declared.acting.Told.{Told}
 use Rattle.write_chain.specs.declared.entry.Refused.{Refused}
@@ -32,12 +36,23 @@ use Rattle.call_attempts.specs.Both.{Both}
 use Rattle.call_attempts.specs.Attempting.{code_for, FoundGone, CameBack}
 use Rattle.call_attempts.specs.Retrying.{IsStray}
 
+-- the post locked the id, or its error was queued there
+abbrev pub Counts : Posted Asked → Type 0
+Counts (HasLock k) = Unit {0}
+Counts IsQueued = Unit {0}
+Counts other = ⊥
+
+-- the attempt for which an error is, if it is for one, is none that stands for the whole call
+abbrev pub IsLow : Maybe ℕ → Type 0
+IsLow None = Unit {0}
+IsLow (Some n) = n < 8
+
 -- a client was asked for these operations, and says these outcomes of them
 module _ {O : Type 0} (state : O → OutState) (p : Plan) (q : id_plan.Plan) (xs : List Task) (Says : ℕ → Outcome → Type 0) where
   -- the error with this code was posted to the call with this id, for the attempt or for the whole call: by an `expire`; since the attempt found its socket gone, or the name without one, or was of a call that the tables don't have; since
   -- its frame came back; or since its message was dropped, with the code of the socket's life
   pub data Reason (id code : ℕ) (attempt : Maybe ℕ) : Type 0 where
-    timed_out : (i : ℕ) (x : Task) (operation : ℕ) (by : Outcome) (s t : CallStand) (h : TimedOut q operation by s t) → get_elem? xs i ≡ some x → x.op ≡ ops.Expire operation → Says x.number by
+    timed_out : (i : ℕ) (x : Task) (operation : ℕ) (by : Outcome) (s t : CallStand) (h : TimedOut q operation by s t) → get_elem? xs i ≡ some x → x.op ≡ ops.Expire operation → Says x.number by → (by ≡ outcome.Expired) ⊎ (by ≡ outcome.Queued)
         → id ≡ h.id → code ≡ ERPCTIMEDOUT → attempt ≡ None → Reason id code attempt
     gone : (socket : SocketId) (msg : Letter) (s t : Both) → FoundGone state p q socket msg s t → id ≡ msg.owner → code ≡ EFAILEDSOCKET → attempt ≡ Some msg.label.attempt → Reason id code attempt
     refused : (socket : SocketId) (msg : Letter) (by : Refused) (s t : Both) → CameBack state p q socket msg by s t → id ≡ msg.owner → code ≡ code_for by → attempt ≡ Some msg.label.attempt → Reason id code attempt
@@ -45,10 +60,36 @@ module _ {O : Type 0} (state : O → OutState) (p : Plan) (q : id_plan.Plan) (xs
     stray : (name : ℕ) (msg : Letter) → IsStray p q name msg.label.operation → id ≡ msg.owner → code ≡ EFAILEDSOCKET → attempt ≡ Some msg.label.attempt → Reason id code attempt
     dropped : (life : ℕ) (v : sock_view.View) (s : CallStand) (w : sock_view.View) (t : CallStand) (d : DroppedOne state p q.slots life v s w t) → id ≡ d.msg.owner → code ≡ d.code → attempt ≡ Some d.msg.label.attempt → Reason id code attempt
 
+  -- an error that is queued for the id with this first version in slot i is one that the client had a reason to post
+  pub record QueuedFor (i first e : ℕ) : Type 0 where
+    pub id : ℕ
+    pub code : ℕ
+    pub attempt : Maybe ℕ
+    pub slot_is : slot_of id ≡ i
+    pub first_is : version_of id ≡ first
+    pub error_is : error_in code attempt ≡ e
+    pub low : IsLow attempt
+    pub reason : Reason id code attempt
+
   -- the error of a lock: the client posted it, or it was handed out of a locked word that the client found
   pub data Origin (v : View Asked) (k : IdLock Asked) (code : ℕ) (attempt : Maybe ℕ) : Type 0 where
     posted_so : Reason (id_in k) code attempt → Origin v k code attempt
-    handed_out : (word : ℕ) → Found k.slot word v → (parts word).state ≡ 2 → (parts word).first ≡ (parts k.word.0).first → (parts word).oldest ≡ error_in code attempt → Origin v k code attempt
+    handed_out : (word : ℕ) → Found k.slot word v → (parts word).state ≡ 2 → (parts word).first ≡ (parts k.word.0).first → (parts word).oldest ≡ error_in code attempt → (parts word).oldest ≢ 0 → Origin v k code attempt
+
+  -- a word was found of the id that is locked, with as many versions
+  pub record IsSeen (v : View Asked) (k : IdLock Asked) : Type 0 where
+    pub word : ℕ
+    pub found : Found k.slot word v
+    pub taken : 0 < (parts word).state
+    pub first_is : (parts word).first ≡ (parts k.word.0).first
+    pub range_is : (parts word).range ≡ (parts k.word.0).range
+
+  -- the error of a lock is for its current attempt or for the whole call
+  pub record Cause (v : View Asked) (k : IdLock Asked) (code : ℕ) (attempt : Maybe ℕ) : Type 0 where
+    pub inside : k.slot < q.slots
+    pub seen : IsSeen v k
+    pub timely : IsTimely attempt (parts k.word.0).attempt
+    pub origin : Origin v k code attempt
 
   -- what is told is the end of the call of a lock, with an error that ended it
   pub record IsCaused (v : View Asked) (x : Told) : Type 0 where
@@ -57,4 +98,4 @@ module _ {O : Type 0} (state : O → OutState) (p : Plan) (q : id_plan.Plan) (xs
     pub attempt : Maybe ℕ
     pub is : x ≡ failed lock code
     pub ends : decision lock code attempt ≡ decisions.End
-    pub origin : Origin v lock code attempt
+    pub cause : Cause v lock code attempt
