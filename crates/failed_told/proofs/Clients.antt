@@ -1,9 +1,10 @@
--- Of all clients of a run: each end of a call that one of them told goes back to an error that was posted.
-use Rattle.std.proofs.Common.{◌≡◌, ℕ, List, ◌∷◌, sym, ap, ◌∙◌}
+-- Of all clients of a run: each end of a call that one of them told goes back to an error that was posted, and so does each error that one of them queued.
+use Rattle.std.proofs.Common.{◌≡◌, ◌<◌, ℕ, List, ◌∷◌, sym, ap, ◌∙◌}
 use Rattle.std.specs.Prelude.{Option}
 use Rattle.std.specs.List.{AllByRecursion}
 use mathlib.Core.Option.{some}
 use lib.ListN.{get_elem?}
+use Rattle.atomic_table.specs.Table.{Me}
 use Rattle.sock_io.specs.declared.link.Out.{Ghosts}
 use Rattle.sock_io.specs.Link.{OutState}
 use Rattle.sock_words.specs.declared.outcome.Outcome.{Outcome}
@@ -22,8 +23,9 @@ use Rattle.call_places.proofs.Clients.{Client, view_of, tasks_of}
 use Rattle.call_places.proofs.Places.{all as all_clients, all_are}
 use Rattle.expire_told.specs.Said.{AreSaid}
 use Rattle.expire_told.proofs.Doing.{run_fed}
-use Rattle.failed_told.specs.Reasons.{IsCaused}
-use Rattle.failed_told.proofs.Origins.{run_caused}
+use Rattle.failed_told.specs.Reasons.{IsCaused, QueuedFor}
+use Rattle.failed_told.proofs.Views.{queued_in}
+use Rattle.failed_told.proofs.Origins.{run_caused, run_queued}
 
 module _ {O : Type 0} {g : Ghosts O} {state : O → OutState} {p : Plan} {slots : ℕ} {setup : List Task} {clients : List (List Task)} {opens : List ℕ} {told ended : List (List Told)} {places : List PlaceWord} {vrefs : List Vref} {outs : List O} {ids : List (View Asked)}
     (run : RanOn g state p slots setup clients opens told ended places vrefs outs ids) (outcomes : List (Option Outcome)) (said : AreSaid outcomes told) where
@@ -32,13 +34,23 @@ module _ {O : Type 0} {g : Ghosts O} {state : O → OutState} {p : Plan} {slots 
   ended_is c x at = let f : Thread g → List Told = λ y. y.ended.calls.told.items in
       ap (λ (l : List (List Told)). get_elem? l c) (sym (all_are run f ∙ run.ran.ended_is)) ∙ mapped (λ (y : Client g state p (ids_of p slots)). f y.thread) (all_clients run) c x at
 
-  -- and each is caused, where an `expire` of its own is what is reported of it
-  pub ended_caused : (c : ℕ) (x : Client g state p (ids_of p slots)) → get_elem? (all_clients run) c ≡ some x
-      → (get_elem? ended c ≡ some x.thread.ended.calls.told.items) × AllByRecursion (IsCaused state p (ids_of p slots) (tasks_of x) (λ (n : ℕ) (o : Outcome). Became (setup ∷ clients) outcomes n o) (view_of x)) x.thread.ended.calls.told.items
-  ended_caused c x at =
+  -- what is reported of a client's tasks
+  abbrev pub Says : ℕ → Outcome → Type 0
+  Says n o = Became (setup ∷ clients) outcomes n o
+
+  says_own : (c : ℕ) (x : Client g state p (ids_of p slots)) → get_elem? (all_clients run) c ≡ some x → (j : ℕ) (y : Told) → get_elem? x.thread.ended.outcomes.items j ≡ some y → Says y.number y.outcome
+  says_own c x at j y there =
       let f : Thread g → List Told = λ y. y.ended.outcomes.items in
-      let list : get_elem? told c ≡ some x.thread.ended.outcomes.items = ap (λ (l : List (List Told)). get_elem? l c) (sym (all_are run f ∙ run.ran.told_is)) ∙ mapped (λ (y : Client g state p (ids_of p slots)). f y.thread) (all_clients run) c x at in (
-        ended_is c x at,
-        run_caused state p (ids_of p slots) (tasks_of x) (λ (n : ℕ) (o : Outcome). Became (setup ∷ clients) outcomes n o) x.thread.began x.thread.ended x.is.ran (ap (λ (b : Books). b.told) x.is.nothing.books)
-            (λ j y there. said c j x.thread.ended.outcomes.items y list there) (run_fed state p (ids_of p slots) x.thread.began x.thread.ended x.is.ran),
-      )
+      let list : get_elem? told c ≡ some x.thread.ended.outcomes.items = ap (λ (l : List (List Told)). get_elem? l c) (sym (all_are run f ∙ run.ran.told_is)) ∙ mapped (λ (y : Client g state p (ids_of p slots)). f y.thread) (all_clients run) c x at in
+      said c j x.thread.ended.outcomes.items y list there
+
+  -- and each is caused, where an `expire` of its own is what is reported of it
+  pub ended_caused : (c : ℕ) (x : Client g state p (ids_of p slots)) → get_elem? (all_clients run) c ≡ some x → (get_elem? ended c ≡ some x.thread.ended.calls.told.items) × AllByRecursion (IsCaused state p (ids_of p slots) (tasks_of x) Says (view_of x)) x.thread.ended.calls.told.items
+  ended_caused c x at = (
+    ended_is c x at,
+    run_caused state p (ids_of p slots) (tasks_of x) Says x.thread.began x.thread.ended x.is.ran (ap (λ (b : Books). b.told) x.is.nothing.books) (says_own c x at) (run_fed state p (ids_of p slots) x.thread.began x.thread.ended x.is.ran),
+  )
+
+  -- it had a reason for each error that it queued
+  pub queued_caused : (c : ℕ) (x : Client g state p (ids_of p slots)) → get_elem? (all_clients run) c ≡ some x → (i first e : ℕ) → 0 < queued_in i first e (view_of x).notes → QueuedFor state p (ids_of p slots) (tasks_of x) Says (view_of x) i first e
+  queued_caused c x at = run_queued state p (ids_of p slots) (tasks_of x) Says x.thread.began x.thread.ended x.is.ran (ap (λ (m : Me (Option Asked) (View Asked)). m.0.notes) x.is.ids) (says_own c x at)

@@ -1,2 +1,5 @@
+pub mod Views
 pub mod Origins
 pub mod Clients
+pub mod Reading
+pub mod Posters

@@ -1,5 +1,5 @@
 -- Each end of a call that a client told goes back to an error that it posted, or that was handed out of a locked word that it found; and each error that it queued is one that it posted.
-use Rattle.std.proofs.Common.{◌*◌, ◌<◌, length, Bool, ◌≡◌, ◌≢◌, ℕ, zero, suc, ◌+◌, ◌≤◌, ◌⊎◌, inl, inr, true, false, cond, eqb, ne_eqb, List, [], ◌∷◌, ◌++◌, Some, None, drop, refl, sym, ap, ◌∙◌, subst, arith}
+use Rattle.std.proofs.Common.{◌*◌, ◌<◌, length, Bool, ◌≡◌, ℕ, zero, suc, ◌+◌, ◌⊎◌, inl, inr, true, false, cond, eqb, List, [], ◌∷◌, ◌++◌, Some, None, drop, refl, sym, ap, ◌∙◌, subst, arith}
 use Rattle.std.specs.Prelude.{Option as Maybe}
 use Rattle.std.specs.List.{AllByRecursion}
 use Rattle.std.proofs.lemmas.List.{drop_all, append_assoc, append-nil}
@@ -23,23 +23,21 @@ use Rattle.sock_programs.specs.declared.task.Op.TheVariants as ops
 use Rattle.sock_programs.specs.declared.task.Task.{Task}
 use Rattle.corr_core.specs.Word.{Parts, parts}
 use Rattle.corr_core.specs.Law.{total, is_queued}
-use Rattle.corr_core.specs.declared.marks.Note.{Note}
-use Rattle.corr_core.specs.declared.marks.Note.TheVariants.{Tried, Made, Ended, Locker, Queued, Attempt, Saw}
+use Rattle.corr_core.specs.declared.marks.Note.TheVariants.{Made, Queued}
 use Rattle.corr_core.specs.declared.marks.Noted.{Noted}
 use Rattle.corr_core.specs.declared.marks.Token.{Token}
 use Rattle.corr_core.specs.declared.marks.Plan as id_plan
 use Rattle.corr_core.specs.declared.marks.View.{View}
-use Rattle.corr_core.proofs.Notes.{pair-else, pair-else_first}
-use Rattle.id_rule.specs.Lawful.{call_word, notes_of, with_kept}
+use Rattle.corr_core.proofs.Notes.{pair-same}
+use Rattle.id_rule.specs.Lawful.{call_word, notes_of}
 use Rattle.sock_message.specs.Asked.{Asked}
 use Rattle.corr_id.specs.declared.calls.IdLock.{IdLock}
 use Rattle.corr_id.specs.declared.posts.Posted.{Posted}
 use Rattle.corr_id.specs.declared.posts.Posted.TheVariants.{Locked as HasLock, Queued as IsQueued, Gone, Stale, Crowded}
-use Rattle.corr_id.specs.Calls.{is_saw, is_event, slot_of, version_of, error_in, one, advance_note, Became, Did, Quiet, Found, GotLock}
-use Rattle.corr_id.specs.Posts.{IsTimely, PostOk}
+use Rattle.corr_id.specs.Calls.{is_saw, slot_of, version_of, error_in, one, Did, Quiet, Found, GotLock}
+use Rattle.corr_id.specs.Posts.{PostOk}
 use Rattle.corr_id.specs.Unlocks.{UnlockOk}
 use Rattle.corr_id.specs.declared.unlocks.Unlocked.TheVariants as unlocked
-use Rattle.corr_id.proofs.Seats.{notes_append, total_append}
 use Rattle.call_errors.specs.declared.retries.Retry.{Retry}
 use Rattle.call_errors.specs.Books.{Books, CallStand, stand_of, starving, keeping, Tells, told, lost}
 use Rattle.call_errors.specs.Ending.{EndedWith, failed}
@@ -60,92 +58,19 @@ use Rattle.call_client.specs.declared.caller.Caller.{Caller}
 use Rattle.call_client.specs.Acting.{Stand, stand, both_of, letter_of, Acted}
 use Rattle.call_client.specs.Running.{Course, Ran, begins, RunBy}
 use Rattle.rpc_client.specs.declared.acting.Told.{Told}
-use Rattle.call_client.proofs.Telling.{quiet_total, did_total, none_of_one}
-use Rattle.call_told.proofs.Ends.{counted_here}
-use Rattle.call_told.proofs.Growing.{grows_same, ended_grows}
+use Rattle.call_client.proofs.Telling.{did_total}
+use Rattle.call_told.specs.Least.{is_locked_for}
+use Rattle.call_told.proofs.Ends.{HasLocked, got_locked}
 use Rattle.call_told.proofs.Lists.{all_both, all_then}
+use Rattle.call_told.proofs.Resting.{is_word}
 use Rattle.call_told.proofs.Runs.{none_left}
 use Rattle.sock_deeds.proofs.Flats.{append_first, append_later}
 use Rattle.rpc_client.specs.Running.{telling}
 use Rattle.call_table.specs.declared.errors.Decision.TheVariants as decisions
 use Rattle.call_errors.specs.Locking.{id_in}
-use Rattle.failed_told.specs.Reasons.{Counts, IsLow, Reason, timed_out, gone, refused, dropped, QueuedFor, Origin, posted_so, handed_out, IsSeen, Cause, IsCaused}
+use Rattle.failed_told.specs.Reasons.{Counts, Reason, timed_out, gone, refused, dropped, QueuedFor, Origin, posted_so, handed_out, IsSeen, Cause, IsCaused}
 use Rattle.failed_told.specs.Reasons as reasons
-
--- ## Errors that are noted as queued
-
--- only events count
-queued_silent : (first e : ℕ) (n : Note Asked) → is_event n ≡ false → is_queued first e n ≡ 0
-queued_silent first e Tried z = refl
-queued_silent first e (Saw w) z = refl
-queued_silent first e (Made a b c) z = refl
-queued_silent first e (Ended g) z = refl
-queued_silent first e (Locker g c) z = refl
-queued_silent first e (Queued g d) z = let k : true ≡ false = z in cc
-queued_silent first e (Attempt g n) z = refl
-
-abbrev pub queued_in : ℕ → ℕ → ℕ → List (Noted Asked) → ℕ
-queued_in i first e notes = total (is_queued first e) (notes_of i notes)
-
--- nothing that was noted is gone, and no error more is noted as queued
-pub record Stays (v w : View Asked) : Type 0 where
-  pub notes : (j : ℕ) (f : Note Asked → ℕ) → total f (notes_of j v.notes) ≤ total f (notes_of j w.notes)
-  pub queued : (j first e : ℕ) → queued_in j first e w.notes ≤ queued_in j first e v.notes
-
-abbrev NoneQueued : List (Noted Asked) → Type 0
-NoneQueued es = (j first e : ℕ) → queued_in j first e es ≡ 0
-
-one_none : (at : ℕ) (n : Note Asked) → ((first e : ℕ) → is_queued first e n ≡ 0) → NoneQueued (one at n)
-one_none at n z j first e = none_of_one (is_queued first e) (queued_silent first e) at n (z first e) j
-
-advance_none : (at : ℕ) (p q : Parts) → NoneQueued (advance_note {C = Asked} at p q)
-advance_none at p q j first e = elim (eqb p.attempt q.attempt) as (λ b. queued_in j first e (cond b [] (one {C = Asked} at (Attempt p.first q.attempt))) ≡ 0) [ true ↦ refl | false ↦ one_none at (Attempt p.first q.attempt) (λ f d. refl) j first e ]
-
--- one that is noted so is the one that was put there
-queued_one : (i j first e f d : ℕ) → 0 < queued_in j first e (one {C = Asked} i (Queued f d)) → (i ≡ j) × (f ≡ first) × (d ≡ e)
-queued_one i j first e f d h = dite (ℕ_discrete i j)
-    (λ same. (
-    let here : 0 < queued_in i first e (one {C = Asked} i (Queued f d)) = subst (λ (k : ℕ). 0 < queued_in k first e (one {C = Asked} i (Queued f d))) (sym same) h in
-    let a = counted_here (is_queued first e) i (Queued f d) in
-    dite (ℕ_discrete f first)
-    (λ x. dite (ℕ_discrete d e) (λ y. (same, x, y)) (λ ne. absurd (let b = pair-else first e f d ne in omega (arith, here, a, b))))
-    (λ ne. absurd (let b = pair-else_first first e f d ne in omega (arith, here, a, b)))))
-    (λ ne. absurd (let a = ap (λ (b : Bool). total (is_queued first e) (cond b (Queued {C = Asked} f d ∷ []) [])) (ne_eqb i j ne) in omega (arith, a, h)))
-
-same_notes : (v w : View Asked) → w ≡ v → Stays v w
-same_notes v w e = record { notes = (grows_same 0 0 v w e).notes; queued = λ j first d. (let a = ap (λ (y : View Asked). queued_in j first d y.notes) e in omega (arith, a)) }
-
-then_notes : (u v w : View Asked) → Stays u v → Stays v w → Stays u w
-then_notes u v w a b = record {
-  notes = λ j f. (let x = a.notes j f in let y = b.notes j f in omega (arith, x, y));
-  queued = λ j first e. (let x = a.queued j first e in let y = b.queued j first e in omega (arith, x, y));
-}
-
-did_notes : (i : ℕ) (v w : View Asked) (ts : List (Token Asked)) (es : List (Noted Asked)) → NoneQueued es → Did i v w ts es → Stays v w
-did_notes i v w ts es none_ d = record { notes = d.grows; queued = λ j first e. (let a = did_total (is_queued first e) (queued_silent first e) i v w ts es d j in let b = none_ j first e in omega (arith, a, b)) }
-
-quiet_notes : (v w : View Asked) → Quiet v w → Stays v w
-quiet_notes v w q = record { notes = q.grows; queued = λ j first e. (let a = quiet_total (is_queued first e) (queued_silent first e) v w q j in omega (arith, a)) }
-
--- a word more is kept in mind
-with_grows : (v w : View Asked) (place : ℕ) (own : Bool) (word : ℕ) → w ≡ with_kept place own word v → Stays v w
-with_grows v w place own word e = record {
-  notes = λ j f. (let a = ap (λ (y : View Asked). total f (notes_of j y.notes)) e in omega (arith, a));
-  queued = λ j first d. (let a = ap (λ (y : View Asked). queued_in j first d y.notes) e in omega (arith, a));
-}
-
--- a range ended
-ended_notes : (i first : ℕ) (v w : View Asked) → Became i v w [] (one i (Ended first)) → Stays v w
-ended_notes i first v w b = record {
-  notes = (ended_grows 0 i v w [] (one i (Ended first)) b).notes;
-  queued = λ j f e. (
-      let es : List (Noted Asked) = one i (Ended first) in
-      let a : queued_in j f e w.notes ≡ total (is_queued f e) (notes_of j es ++ notes_of j v.notes) = ap (queued_in j f e) b.notes ∙ ap (total (is_queued f e)) (notes_append j es v.notes) in
-      let c = total_append (is_queued f e) (notes_of j es) (notes_of j v.notes) in let d = one_none i (Ended first) (λ x y. refl) j f e in omega (arith, a, c, d));
-}
-
-got_notes : (i : ℕ) (v w : View Asked) (word : ℕ) (k : Parts) (call : Asked) → GotLock i v w word k call → Stays v w
-got_notes i v w word k call g = did_notes i v w _ (one i (Locker k.first call)) (one_none i (Locker k.first call) (λ x y. refl)) g.did
+use Rattle.failed_told.proofs.Views.{queued_silent, queued_in, Later, later_then, Stays, one_none, queued_one, same_stays, then_stays, did_later, did_stays, quiet_stays, kept_stays, ended_stays, got_stays, opened_stays, handed_stays}
 
 -- the lock that was got has the word that was found
 got_seen : (v w : View Asked) (word : ℕ) (k : IdLock Asked) → GotLock k.slot v w word (parts k.word.0) k.content → IsSeen w k
@@ -157,9 +82,6 @@ got_seen v w word k g = record {
   range_is = sym (ap (λ (y : Parts). y.range) g.word_is);
 }
 
-seen_later : (v w : View Asked) → Stays v w → (k : IdLock Asked) → IsSeen v k → IsSeen w k
-seen_later v w g k s = record { word = s.word; found = (let a = g.notes k.slot (is_saw s.word) in let b = s.found in omega (arith, a, b)); taken = s.taken; first_is = s.first_is; range_is = s.range_is }
-
 -- the post of an `expire` that counts
 timed_by : (answer : Posted Asked) (by : Outcome) → by ≡ outcome_by answer → Counts answer → (by ≡ outcome.Expired) ⊎ (by ≡ outcome.Queued)
 timed_by (HasLock k) by e c = inl e
@@ -168,9 +90,9 @@ timed_by (Gone found) by e c = elim c [ ]
 timed_by (Stale current) by e c = elim c [ ]
 timed_by (Crowded first second) by e c = elim c [ ]
 
-low_attempt : (attempt : Maybe ℕ) (word : ℕ) → IsTimely attempt (parts word).attempt → IsLow attempt
-low_attempt None word t = tt
-low_attempt (Some n) word t = omega (arith, t)
+-- its seat has the lock of a call that it had locked
+abbrev HasLockOf : IdLock Asked → View Asked → Type 0
+HasLockOf k v = HasLocked k.slot (parts k.word.0).first k.content.operation v
 
 module _ {O : Type 0} (state : O → OutState) (p : Plan) (q : id_plan.Plan) (xs : List Task) (Says : ℕ → Outcome → Type 0) where
   abbrev IsCausedHere : View Asked → Told → Type 0
@@ -179,88 +101,113 @@ module _ {O : Type 0} (state : O → OutState) (p : Plan) (q : id_plan.Plan) (xs
   abbrev CauseHere : View Asked → IdLock Asked → ℕ → Maybe ℕ → Type 0
   CauseHere v k code attempt = Cause state p q xs Says v k code attempt
 
-  abbrev pub QueuedHere : ℕ → ℕ → ℕ → Type 0
-  QueuedHere i first e = QueuedFor state p q xs Says i first e
+  abbrev ReasonHere : View Asked → ℕ → ℕ → Maybe ℕ → Type 0
+  ReasonHere v id code attempt = Reason state p q xs Says v id code attempt
+
+  abbrev pub QueuedHere : View Asked → ℕ → ℕ → ℕ → Type 0
+  QueuedHere v i first e = QueuedFor state p q xs Says v i first e
 
   -- the notes stay; each error that is noted as queued more had a reason; and what is told more is caused, where memory is there behind it
   pub record Caused (s t : CallStand) : Type 0 where
-    pub grows : (j : ℕ) (f : Note Asked → ℕ) → total f (notes_of j s.view.notes) ≤ total f (notes_of j t.view.notes)
-    pub queued : (j first e : ℕ) → 0 < queued_in j first e t.view.notes → (0 < queued_in j first e s.view.notes) ⊎ QueuedHere j first e
+    pub later : Later s.view t.view
+    pub queued : (j first e : ℕ) → 0 < queued_in j first e t.view.notes → (0 < queued_in j first e s.view.notes) ⊎ QueuedHere t.view j first e
     pub told : t.books.starved ≡ false → (s.books.starved ≡ false) × ((more : List Told) × (t.books.told ≡ s.books.told ++ more) × AllByRecursion (IsCausedHere t.view) more)
 
-  origin_later : (v w : View Asked) → ((j : ℕ) (f : Note Asked → ℕ) → total f (notes_of j v.notes) ≤ total f (notes_of j w.notes)) → (k : IdLock Asked) (code : ℕ) (attempt : Maybe ℕ) → Origin state p q xs Says v k code attempt → Origin state p q xs Says w k code attempt
-  origin_later v w grows k code attempt (posted_so r) = posted_so r
-  origin_later v w grows k code attempt (handed_out word found locked first oldest some_) = handed_out word (let a = grows k.slot (is_saw word) in omega (arith, a, found)) locked first oldest some_
+  -- ## In later views
 
-  cause_later : (v w : View Asked) → ((j : ℕ) (f : Note Asked → ℕ) → total f (notes_of j v.notes) ≤ total f (notes_of j w.notes)) → (k : IdLock Asked) (code : ℕ) (attempt : Maybe ℕ) → CauseHere v k code attempt → CauseHere w k code attempt
-  cause_later v w grows k code attempt c = record {
+  reason_later : (v w : View Asked) → Later v w → (id code : ℕ) (attempt : Maybe ℕ) → ReasonHere v id code attempt → ReasonHere w id code attempt
+  reason_later v w l id code attempt (timed_out i x operation by s t h there is says counts keeps a b c) = timed_out i x operation by s t h there is says counts (let z = l.kept (is_word (call_word q operation) id) in omega (arith, z, keeps)) a b c
+  reason_later v w l id code attempt (gone socket msg s t h a b c) = gone socket msg s t h a b c
+  reason_later v w l id code attempt (refused socket msg by s t h a b c) = refused socket msg by s t h a b c
+  reason_later v w l id code attempt (reasons.unopened name msg s t h a b c) = reasons.unopened name msg s t h a b c
+  reason_later v w l id code attempt (reasons.stray name msg h a b c) = reasons.stray name msg h a b c
+  reason_later v w l id code attempt (dropped life x s y t h a b c) = dropped life x s y t h a b c
+
+  queued_later : (v w : View Asked) → Later v w → (i first e : ℕ) → QueuedHere v i first e → QueuedHere w i first e
+  queued_later v w l i first e h = record { id = h.id; code = h.code; attempt = h.attempt; slot_is = h.slot_is; first_is = h.first_is; error_is = h.error_is; reason = reason_later v w l h.id h.code h.attempt h.reason }
+
+  origin_later : (v w : View Asked) → Later v w → (k : IdLock Asked) (code : ℕ) (attempt : Maybe ℕ) → Origin state p q xs Says v k code attempt → Origin state p q xs Says w k code attempt
+  origin_later v w l k code attempt (posted_so r) = posted_so (reason_later v w l (id_in k) code attempt r)
+  origin_later v w l k code attempt (handed_out word found locked first oldest some_) = handed_out word (let a = l.notes k.slot (is_saw word) in omega (arith, a, found)) locked first oldest some_
+
+  cause_later : (v w : View Asked) → Later v w → (k : IdLock Asked) (code : ℕ) (attempt : Maybe ℕ) → CauseHere v k code attempt → CauseHere w k code attempt
+  cause_later v w l k code attempt c = record {
     inside = c.inside;
-    seen = (let s = c.seen in record { word = s.word; found = (let a = grows k.slot (is_saw s.word) in let b = s.found in omega (arith, a, b)); taken = s.taken; first_is = s.first_is; range_is = s.range_is });
+    seen = (let s = c.seen in record { word = s.word; found = (let a = l.notes k.slot (is_saw s.word) in let b = s.found in omega (arith, a, b)); taken = s.taken; first_is = s.first_is; range_is = s.range_is });
+    locked = (let a = l.notes k.slot (is_locked_for (parts k.word.0).first k.content.operation) in let b = c.locked in omega (arith, a, b));
     timely = c.timely;
-    origin = origin_later v w grows k code attempt c.origin;
+    origin = origin_later v w l k code attempt c.origin;
   }
 
-  caused_later : (v w : View Asked) → ((j : ℕ) (f : Note Asked → ℕ) → total f (notes_of j v.notes) ≤ total f (notes_of j w.notes)) → (x : Told) → IsCausedHere v x → IsCausedHere w x
-  caused_later v w grows x c = record { lock = c.lock; code = c.code; attempt = c.attempt; is = c.is; ends = c.ends; cause = cause_later v w grows c.lock c.code c.attempt c.cause }
+  caused_later : (v w : View Asked) → Later v w → (x : Told) → IsCausedHere v x → IsCausedHere w x
+  caused_later v w l x c = record { lock = c.lock; code = c.code; attempt = c.attempt; is = c.is; ends = c.ends; cause = cause_later v w l c.lock c.code c.attempt c.cause }
 
   pub in_turn : (s u t : CallStand) → Caused s u → Caused u t → Caused s t
   in_turn s u t a b = record {
-    grows = λ j f. (let x = a.grows j f in let y = b.grows j f in omega (arith, x, y));
-    queued = λ j first e h. elim (b.queued j first e h) [ inl x ↦ a.queued j first e x | inr y ↦ inr y ];
+    later = later_then s.view u.view t.view a.later b.later;
+    queued = λ j first e h. elim (b.queued j first e h) [
+      | inl x ↦ elim (a.queued j first e x) [ inl y ↦ inl y | inr y ↦ inr (queued_later u.view t.view b.later j first e y) ]
+      | inr y ↦ inr y
+    ];
     told = λ fed. (let y = b.told fed in let x = a.told y.0 in (
       x.0,
       (
         x.1.0 ++ y.1.0,
         y.1.1 ∙ (ap (λ (l : List Told). l ++ y.1.0) x.1.1 ∙ append_assoc s.books.told x.1.0 y.1.0),
-        all_both (IsCausedHere t.view) x.1.0 y.1.0 (all_then (IsCausedHere u.view) (IsCausedHere t.view) x.1.0 (caused_later u.view t.view b.grows) x.1.2) y.1.2,
+        all_both (IsCausedHere t.view) x.1.0 y.1.0 (all_then (IsCausedHere u.view) (IsCausedHere t.view) x.1.0 (caused_later u.view t.view b.later) x.1.2) y.1.2,
       ),
     ));
   }
 
   -- nothing more is told
   caused_books : (s t : CallStand) → Stays s.view t.view → t.books.told ≡ s.books.told → t.books.starved ≡ s.books.starved → Caused s t
-  caused_books s t g e f = record { grows = g.notes; queued = λ j first d h. inl (let a = g.queued j first d in omega (arith, a, h)); told = λ fed. (sym f ∙ fed, ([], e ∙ sym (append-nil s.books.told), tt)) }
+  caused_books s t g e f = record { later = g.later; queued = λ j first d h. inl (let a = g.queued j first d in omega (arith, a, h)); told = λ fed. (sym f ∙ fed, ([], e ∙ sym (append-nil s.books.told), tt)) }
 
   caused_seen : (s t : CallStand) → Stays s.view t.view → t.books ≡ s.books → Caused s t
   caused_seen s t g e = caused_books s t g (ap (λ (y : Books). y.told) e) (ap (λ (y : Books). y.starved) e)
 
   pub caused_same : (s t : CallStand) → t ≡ s → Caused s t
-  caused_same s t e = caused_seen s t (same_notes s.view t.view (ap (λ (y : CallStand). y.view) e)) (ap (λ (y : CallStand). y.books) e)
+  caused_same s t e = caused_seen s t (same_stays s.view t.view (ap (λ (y : CallStand). y.view) e)) (ap (λ (y : CallStand). y.books) e)
 
   -- an error was queued
-  caused_queued : (s t : CallStand) (id code : ℕ) (attempt : Maybe ℕ) (ts : List (Token Asked)) → IsLow attempt → Did (slot_of id) s.view t.view ts (one (slot_of id) (Queued (version_of id) (error_in code attempt))) → t.books ≡ s.books → Reason state p q xs Says id code attempt → Caused s t
-  caused_queued s t id code attempt ts low d same r = record {
-    grows = d.grows;
+  caused_queued : (s t : CallStand) (id code : ℕ) (attempt : Maybe ℕ) (ts : List (Token Asked)) → Did (slot_of id) s.view t.view ts (one (slot_of id) (Queued (version_of id) (error_in code attempt))) → t.books ≡ s.books → ReasonHere s.view id code attempt → Caused s t
+  caused_queued s t id code attempt ts d same r = record {
+    later = now;
     queued = λ j first e h. (
         let more : List (Noted Asked) = one (slot_of id) (Queued (version_of id) (error_in code attempt)) in
         let a = did_total (is_queued first e) (queued_silent first e) (slot_of id) s.view t.view ts more d j in
         dite (ℕ_discrete (queued_in j first e more) 0)
         (λ z. inl (omega (arith, a, z, h)))
-        (λ ne. inr (let w = queued_one (slot_of id) j first e (version_of id) (error_in code attempt) (omega (arith, ne)) in record { id = id; code = code; attempt = attempt; slot_is = w.0; first_is = w.1; error_is = w.2; low = low; reason = r })));
+        (λ ne. inr (let w = queued_one (slot_of id) j first e (version_of id) (error_in code attempt) (omega (arith, ne)) in
+        record { id = id; code = code; attempt = attempt; slot_is = w.0; first_is = w.1; error_is = w.2; reason = reason_later s.view t.view now id code attempt r }))
+        );
     told = λ fed. (sym (ap (λ (y : Books). y.starved) same) ∙ fed, ([], ap (λ (y : Books). y.told) same ∙ sym (append-nil s.books.told), tt));
   }
+    where
+      now : Later s.view t.view
+      now = did_later (slot_of id) s.view t.view ts _ d
 
   -- ## Errors of calls
 
   lock_ends : (k : IdLock Asked) (code : ℕ) (attempt : Maybe ℕ) (s t : CallStand) → decision k code attempt ≡ decisions.End → CauseHere s.view k code attempt → EndedWith k code s t → Caused s t
-  lock_ends k code attempt s t end c e = record { grows = grown.notes; queued = λ j first d h. inl (let a = grown.queued j first d in omega (arith, a, h)); told = λ fed. by fed e.tells }
+  lock_ends k code attempt s t end c e = record { later = grown.later; queued = λ j first d h. inl (let a = grown.queued j first d in omega (arith, a, h)); told = λ fed. by fed e.tells }
     where
       grown : Stays s.view t.view
-      grown = ended_notes k.slot (parts k.word.0).first s.view t.view e.ended
+      grown = ended_stays k.slot (parts k.word.0).first s.view t.view e.ended
 
       by : t.books.starved ≡ false → Tells (failed k code) s.books t.books → (s.books.starved ≡ false) × ((more : List Told) × (t.books.told ≡ s.books.told ++ more) × AllByRecursion (IsCausedHere t.view) more)
       by fed (told is) = (
         sym (ap (λ (b : Books). b.starved) is) ∙ fed,
-        (failed k code ∷ [], ap (λ (b : Books). b.told) is, (record { lock = k; code = code; attempt = attempt; is = refl; ends = end; cause = cause_later s.view t.view grown.notes k code attempt c }, tt)),
+        (failed k code ∷ [], ap (λ (b : Books). b.told) is, (record { lock = k; code = code; attempt = attempt; is = refl; ends = end; cause = cause_later s.view t.view grown.later k code attempt c }, tt)),
       )
       by fed (lost is) = let z : true ≡ false = sym (ap (λ (b : Books). b.starved) is) ∙ fed in absurd (cc)
 
   -- for want of memory
   starved_ends : (k : IdLock Asked) (s t : CallStand) → EndedWith k EINTERNAL (record { view = s.view; books = starving s.books }) t → Caused s t
-  starved_ends k s t e = record { grows = grown.notes; queued = λ j first d h. inl (let a = grown.queued j first d in omega (arith, a, h)); told = λ fed. by fed e.tells }
+  starved_ends k s t e = record { later = grown.later; queued = λ j first d h. inl (let a = grown.queued j first d in omega (arith, a, h)); told = λ fed. by fed e.tells }
     where
       grown : Stays s.view t.view
-      grown = ended_notes k.slot (parts k.word.0).first s.view t.view e.ended
+      grown = ended_stays k.slot (parts k.word.0).first s.view t.view e.ended
 
       by : t.books.starved ≡ false → Tells (failed k EINTERNAL) (starving s.books) t.books → (s.books.starved ≡ false) × ((more : List Told) × (t.books.told ≡ s.books.told ++ more) × AllByRecursion (IsCausedHere t.view) more)
       by fed (told is) = let z : true ≡ false = sym (ap (λ (b : Books). b.starved) is) ∙ fed in absurd (cc)
@@ -269,60 +216,67 @@ module _ {O : Type 0} (state : O → OutState) (p : Plan) (q : id_plan.Plan) (xs
   keeps : (s t : CallStand) (r : Retry) → Stays s.view t.view → t.books ≡ keeping r s.books → Caused s t
   keeps s t r g e = caused_books s t g (ap (λ (y : Books). y.told) e) (ap (λ (y : Books). y.starved) e)
 
-  -- a lock that was given back opened its id
-  opened_notes : (u w : View Asked) (k : IdLock Asked) (advance : Bool) → UnlockOk u w k.slot (parts k.word.0) k.content advance unlocked.Open → Stays u w
-  opened_notes u w k advance h = did_notes k.slot u w _ _ (advance_none k.slot (parts k.word.0) h.1) h.4
-
-  handed_notes : (u w : View Asked) (k l : IdLock Asked) (advance : Bool) (code : ℕ) (attempt : Maybe ℕ) → UnlockOk u w k.slot (parts k.word.0) k.content advance (unlocked.Next l code attempt) → Stays u w
-  handed_notes u w k l advance code attempt h = did_notes k.slot u w _ _ (advance_none k.slot (parts k.word.0) (parts l.word.0)) h.3
-
   -- what is handed out instead of a lock
-  next_cause : (u w : View Asked) (k l : IdLock Asked) (advance : Bool) (code : ℕ) (attempt : Maybe ℕ) → k.slot < q.slots → UnlockOk u w k.slot (parts k.word.0) k.content advance (unlocked.Next l code attempt) → CauseHere w l code attempt
-  next_cause u w k l advance code attempt inside h =
+  next_cause : (u w : View Asked) (k l : IdLock Asked) (advance : Bool) (code : ℕ) (attempt : Maybe ℕ) → k.slot < q.slots → HasLockOf k u → UnlockOk u w k.slot (parts k.word.0) k.content advance (unlocked.Next l code attempt) → CauseHere w l code attempt
+  next_cause u w k l advance code attempt inside has h =
       let r = h.4.1 in
       let found : Found l.slot h.4.0 w = subst (λ (i : ℕ). Found i h.4.0 w) (sym h.0) r.was_found in
       let first : (parts h.4.0).first ≡ (parts l.word.0).first = sym (ap (λ (y : Parts). y.first) r.left.1) in
+      let same : (parts l.word.0).first ≡ (parts k.word.0).first = sym first ∙ r.same_id in
       record {
         inside = (let a = h.0 in omega (arith, a, inside));
         seen = record { word = h.4.0; found = found; taken = (let a = r.was_locked in omega (arith, a)); first_is = first; range_is = sym (ap (λ (y : Parts). y.range) r.left.1) };
+        locked = (
+            let now = (handed_stays u w k l advance code attempt h).later.notes k.slot (is_locked_for (parts k.word.0).first k.content.operation) in
+            let a : total (is_locked_for (parts l.word.0).first l.content.operation) (notes_of l.slot w.notes) ≡ total (is_locked_for (parts k.word.0).first k.content.operation) (notes_of k.slot w.notes)
+            = λ i. total (is_locked_for (same i) (h.1 i).operation) (notes_of (h.0 i) w.notes) in omega (arith, now, a, has)
+            );
         timely = h.4.3;
         origin = handed_out h.4.0 found r.was_locked first h.4.2 (λ z. (
             let open_ : (parts l.word.0).state ≡ 1 = ap (λ (y : Parts). y.state) r.left.1 ∙ ap (λ (n : ℕ). cond (eqb n 0) 1 2) z in
-            let a = l.is_locked in omega (arith, a, open_)));
+            let a = l.is_locked in omega (arith, a, open_)
+            ));
       }
 
   pub decided : {s : CallStand} {k : IdLock Asked} {code : ℕ} {attempt : Maybe ℕ} {t : CallStand} → Decided s k code attempt t → CauseHere s.view k code attempt → Caused s t
   decided (handling.ends s k code attempt t a b e) c = lock_ends k code attempt s t b c e
   decided (handling.starves s k code attempt t a e) c = starved_ends k s t e
-  decided (handling.waits s k code attempt t a b e) c = keeps s t e.retry (opened_notes s.view t.view k true e.unlocked) e.kept
+  decided (handling.waits s k code attempt t a b e) c = keeps s t e.retry (opened_stays s.view t.view k true e.unlocked) e.kept
   decided (handling.goes_on s k code attempt t u l next of a b e rest) c =
-      in_turn s u t (keeps s u e.retry (handed_notes s.view u.view k l true next of e.unlocked) e.kept) (decided rest (next_cause s.view u.view k l true next of c.inside e.unlocked))
+      in_turn s u t (keeps s u e.retry (handed_stays s.view u.view k l true next of e.unlocked) e.kept) (decided rest (next_cause s.view u.view k l true next of c.inside c.locked e.unlocked))
 
-  pub posted : (s : CallStand) (id code : ℕ) (attempt : Maybe ℕ) (t : CallStand) (b : PostedBy q.slots s id code attempt t) → (Counts b.0 → Reason state p q xs Says id code attempt) → Caused s t
+  pub posted : (s : CallStand) (id code : ℕ) (attempt : Maybe ℕ) (t : CallStand) (b : PostedBy q.slots s id code attempt t) → (Counts b.0 → ReasonHere s.view id code attempt) → Caused s t
   posted s id code attempt t b why = by b.0 b.1.post b.1.handled why
     where
       u : CallStand
       u = record { view = b.1.view; books = s.books }
 
       seen : Quiet s.view u.view → t ≡ u → Caused s t
-      seen quiet e = in_turn s u t (caused_seen s u (quiet_notes s.view u.view quiet) refl) (caused_same u t e)
+      seen quiet e = in_turn s u t (caused_seen s u (quiet_stays s.view u.view quiet) refl) (caused_same u t e)
 
-      by : (answer : Posted Asked) → PostOk q.slots s.view u.view id code attempt answer → Handled code attempt answer u t → (Counts answer → Reason state p q xs Says id code attempt) → Caused s t
+      by : (answer : Posted Asked) → PostOk q.slots s.view u.view id code attempt answer → Handled code attempt answer u t → (Counts answer → ReasonHere s.view id code attempt) → Caused s t
       by (HasLock k) post d r =
           let whole : slot_of id * 4294967296 + version_of id ≡ id = div-add-mod' id 4294967296 in let slot = post.0 in let first = post.2 in
           let same : id_in k ≡ id = omega (arith, whole, slot, first) in
-          in_turn s u t (caused_seen s u (got_notes k.slot s.view u.view post.4.0 (parts k.word.0) k.content post.4.1) refl)
-          (decided d (record { inside = post.1; seen = got_seen s.view u.view post.4.0 k post.4.1; timely = post.3; origin = posted_so (subst (λ (i : ℕ). Reason state p q xs Says i code attempt) (sym same) (r tt)) }))
-      by IsQueued post e r = in_turn s u t (caused_queued s u id code attempt _ (low_attempt attempt post.1.0 post.1.1.4) post.0 refl (r tt)) (caused_same u t e)
+          let got = got_stays k.slot s.view u.view post.4.0 (parts k.word.0) k.content post.4.1 in
+          in_turn s u t (caused_seen s u got refl)
+          (decided d (record {
+            inside = post.1;
+            seen = got_seen s.view u.view post.4.0 k post.4.1;
+            locked = got_locked k.slot s.view u.view post.4.0 (parts k.word.0) k.content post.4.1;
+            timely = post.3;
+            origin = posted_so (reason_later s.view u.view got.later (id_in k) code attempt (subst (λ (i : ℕ). ReasonHere s.view i code attempt) (sym same) (r tt)));
+          }))
+      by IsQueued post e r = in_turn s u t (caused_queued s u id code attempt _ post.0 refl (r tt)) (caused_same u t e)
       by (Gone found) post e r = seen post.0 e
       by (Stale current) post e r = seen post.0 e
       by (Crowded first second) post e r = seen post.0 e
 
   seen_id : (number id : ℕ) (s : CallStand) → Caused s (found_id q number id s)
-  seen_id number id s = let u = found_id q number id s in caused_seen s u (with_grows s.view u.view (call_word q number) false id refl) refl
+  seen_id number id s = let u = found_id q number id s in caused_seen s u (kept_stays s.view u.view (call_word q number) false id refl) refl
 
   timed_out_by : (i : ℕ) (x : Task) → get_elem? xs i ≡ some x → (number : ℕ) → x.op ≡ ops.Expire number → (by : Outcome) → Says x.number by → (s t : CallStand) → TimedOut q number by s t → Caused s t
-  timed_out_by i x there number is by says s t h = let u = found_id q number h.id s in in_turn s u t (seen_id number h.id s) (posted u h.id ERPCTIMEDOUT None t (h.answer, h.posted) (λ counts. timed_out i x number by s t h there is says (timed_by h.answer by h.by_answer counts) refl refl refl))
+  timed_out_by i x there number is by says s t h = let u = found_id q number h.id s in in_turn s u t (seen_id number h.id s) (posted u h.id ERPCTIMEDOUT None t (h.answer, h.posted) (λ counts. timed_out i x number by s t h there is says (timed_by h.answer by h.by_answer counts) (let a = pair-same (call_word q number) h.id in omega (arith, a)) refl refl refl))
 
   expired_by : (i : ℕ) (x : Task) → get_elem? xs i ≡ some x → (number : ℕ) → x.op ≡ ops.Expire number → (by : Outcome) → Says x.number by → (s t : CallStand) → ExpiredBy q number by s t → Caused s t
   expired_by i x there number is outcome.NotBegun says s t h = caused_same s t h.same
@@ -335,7 +289,7 @@ module _ {O : Type 0} (state : O → OutState) (p : Plan) (q : id_plan.Plan) (xs
   joined_by : (number : ℕ) (by : Outcome) (s t : CallStand) → JoinedBy q number by s t → Caused s t
   joined_by number outcome.NotBegun s t h = caused_same s t h.same
   joined_by number outcome.Joined s t h = let u = found_id q number h.id s in
-      in_turn s u t (seen_id number h.id s) (caused_seen u t (then_notes u.view h.view t.view (quiet_notes u.view h.view h.quiet) (same_notes h.view t.view (ap (λ (y : CallStand). y.view) h.after))) (ap (λ (y : CallStand). y.books) h.after))
+      in_turn s u t (seen_id number h.id s) (caused_seen u t (then_stays u.view h.view t.view (quiet_stays u.view h.view h.quiet) (same_stays h.view t.view (ap (λ (y : CallStand). y.view) h.after))) (ap (λ (y : CallStand). y.books) h.after))
   joined_by number _ s t h = elim h [ ]
 
   -- ## Messages
@@ -376,12 +330,12 @@ module _ {O : Type 0} (state : O → OutState) (p : Plan) (q : id_plan.Plan) (xs
 
   attempted_by : (socket : SocketId) (msg : Letter) (s t : Both) → AttemptedBy state p q socket msg s t → Caused s.calls t.calls
   attempted_by socket msg s t (nowhere g) = posted s.calls msg.owner EFAILEDSOCKET (Some msg.label.attempt) t.calls g.posted (λ counts. gone socket msg s t g refl refl refl)
-  attempted_by socket msg s t (over_link u l d) = in_turn s.calls u.calls t.calls (caused_seen s.calls u.calls (with_grows s.calls.view u.calls.view _ _ _ l.stored) l.books) (delivered_by socket msg u t d)
+  attempted_by socket msg s t (over_link u l d) = in_turn s.calls u.calls t.calls (caused_seen s.calls u.calls (kept_stays s.calls.view u.calls.view _ _ _ l.stored) l.books) (delivered_by socket msg u t d)
 
   begun_by : (asked : Asked) (id : ℕ) (s t : Both) → CalledBy state p q asked (called.Begun id) s t → Caused s.calls t.calls
   begun_by asked id s t h =
       let m = h.made_for in let u : CallStand = record { view = m.view; books = s.calls.books } in
-      in_turn s.calls h.at.calls t.calls (in_turn s.calls u h.at.calls (caused_seen s.calls u (did_notes (slot_of id) s.calls.view m.view _ (one (slot_of id) (Made (version_of id) asked.range asked)) (one_none (slot_of id) (Made (version_of id) asked.range asked) (λ x y. refl)) m.made.did) refl) (caused_seen u h.at.calls (with_grows m.view h.at.calls.view _ _ _ m.noted) m.books)) (attempted_by h.socket _ h.at t h.attempted)
+      in_turn s.calls h.at.calls t.calls (in_turn s.calls u h.at.calls (caused_seen s.calls u (did_stays (slot_of id) s.calls.view m.view _ (one (slot_of id) (Made (version_of id) asked.range asked)) (one_none (slot_of id) (Made (version_of id) asked.range asked) (λ x y. refl)) m.made.did) refl) (caused_seen u h.at.calls (kept_stays m.view h.at.calls.view _ _ _ m.noted) m.books)) (attempted_by h.socket _ h.at t h.attempted)
 
   went_to : (name : ℕ) (msg : Letter) (s t : Both) → WentTo state p q name msg s t → Caused s.calls t.calls
   went_to name msg s t (retrying.stray a e h) = posted s.calls msg.owner EFAILEDSOCKET (Some msg.label.attempt) t.calls h (λ counts. reasons.stray name msg a refl refl refl)
@@ -389,22 +343,22 @@ module _ {O : Type 0} (state : O → OutState) (p : Plan) (q : id_plan.Plan) (xs
   went_to name msg s t (to_socket socket u f e a) = in_turn s.calls u.calls t.calls (caused_same s.calls u.calls e) (attempted_by socket msg u t a)
 
   locked : (r : Retry) (k : IdLock Asked) (s t : Both) → Locked state p q r k s t → Caused s.calls t.calls
-  locked r k s t l = caused_seen s.calls t.calls (got_notes k.slot s.calls.view t.calls.view l.got.word (parts k.word.0) k.content l.got.got) l.books
+  locked r k s t l = caused_seen s.calls t.calls (got_stays k.slot s.calls.view t.calls.view l.got.word (parts k.word.0) k.content l.got.got) l.books
 
   retried_by : (r : Retry) (s t : Both) → RetriedBy state p q r s t → Caused s.calls t.calls
-  retried_by r s t (had_ended h) = caused_seen s.calls t.calls (quiet_notes s.calls.view t.calls.view h.gone.quiet) h.books
+  retried_by r s t (had_ended h) = caused_seen s.calls t.calls (quiet_stays s.calls.view t.calls.view h.gone.quiet) h.books
   retried_by r s t (overtaken k u l o) =
       let x : CallStand = record { view = o.view; books = u.calls.books } in
-      in_turn s.calls u.calls t.calls (locked r k s u l) (in_turn u.calls x t.calls (caused_seen u.calls x (handed_notes u.calls.view o.view k o.next false o.code o.attempt o.unlocked) refl) (decided o.decided (next_cause u.calls.view o.view k o.next false o.code o.attempt l.got.inside o.unlocked)))
+      in_turn s.calls u.calls t.calls (locked r k s u l) (in_turn u.calls x t.calls (caused_seen u.calls x (handed_stays u.calls.view o.view k o.next false o.code o.attempt o.unlocked) refl) (decided o.decided (next_cause u.calls.view o.view k o.next false o.code o.attempt l.got.inside (got_locked k.slot s.calls.view u.calls.view l.got.word (parts k.word.0) k.content l.got.got) o.unlocked)))
   retried_by r s t (went_again k u l w) =
       let x : CallStand = record { view = w.view; books = u.calls.books } in
-      in_turn s.calls u.calls t.calls (locked r k s u l) (in_turn u.calls x t.calls (caused_seen u.calls x (opened_notes u.calls.view w.view k false w.unlocked) refl) (went_to _ _ (record { socks = u.socks; calls = x }) t w.went))
+      in_turn s.calls u.calls t.calls (locked r k s u l) (in_turn u.calls x t.calls (caused_seen u.calls x (opened_stays u.calls.view w.view k false w.unlocked) refl) (went_to _ _ (record { socks = u.socks; calls = x }) t w.went))
 
   retried : (s t : Both) → Retried state p q s t → Caused s.calls t.calls
   retried s _ none_yet = caused_same s.calls s.calls refl
   retried s _ (one_more u t r rest more e f by) =
       let x = without_oldest rest u in
-      in_turn s.calls u.calls t.calls (retried s u more) (in_turn u.calls x.calls t.calls (caused_books u.calls x.calls (same_notes u.calls.view x.calls.view refl) refl refl) (retried_by r x t by))
+      in_turn s.calls u.calls t.calls (retried s u more) (in_turn u.calls x.calls t.calls (caused_books u.calls x.calls (same_stays u.calls.view x.calls.view refl) refl refl) (retried_by r x t by))
 
   -- what stands in a list is said
   abbrev AreSays : List Told → Type 0
@@ -456,7 +410,7 @@ module _ {O : Type 0} (state : O → OutState) (p : Plan) (q : id_plan.Plan) (xs
         subst (AllByRecursion (IsCausedHere d.calls.seat.me.0)) (sym (w.1.1 ∙ ap (λ (l : List Told). l ++ w.1.0) none_told)) w.1.2
 
     -- and each error that it noted as queued is one that it had a reason to post, where it had noted nothing before
-    pub run_queued : (c d : Caller O g) → RunBy state p q false xs c d → c.calls.seat.me.0.notes ≡ [] → AreSays d.outcomes.items → (i first e : ℕ) → 0 < queued_in i first e d.calls.seat.me.0.notes → QueuedHere i first e
+    pub run_queued : (c d : Caller O g) → RunBy state p q false xs c d → c.calls.seat.me.0.notes ≡ [] → AreSays d.outcomes.items → (i first e : ℕ) → 0 < queued_in i first e d.calls.seat.me.0.notes → QueuedHere d.calls.seat.me.0 i first e
     run_queued c d r nothing says i first e h = elim ((run_all c d r says).queued i first e h) [
       | inl before ↦ absurd (let a = ap (queued_in i first e) nothing in omega (arith, a, before))
       | inr why ↦ why

@@ -14,8 +14,11 @@ use Rattle.sock_rule.specs.declared.homes.Letter.{Letter}
 use Rattle.sock_programs.specs.declared.task.Op.TheVariants as ops
 use Rattle.sock_programs.specs.declared.task.Task.{Task}
 use Rattle.corr_core.specs.Word.{parts}
+use Rattle.corr_core.specs.Law.{total, pair}
+use Rattle.corr_core.specs.declared.marks.Kept.{Kept}
 use Rattle.corr_core.specs.declared.marks.Plan as id_plan
 use Rattle.corr_core.specs.declared.marks.View.{View}
+use Rattle.id_rule.specs.Lawful.{call_word, notes_of}
 use Rattle.sock_message.specs.Asked.{Asked}
 use Rattle.corr_id.specs.declared.calls.IdLock.{IdLock}
 use Rattle.corr_id.specs.declared.posts.Posted.{Posted}
@@ -32,6 +35,7 @@ use Rattle.call_errors.specs.Ending.{failed}
 use Rattle.call_errors.specs.Handling.{decision}
 use Rattle.call_errors.specs.Asking.{TimedOut}
 use Rattle.call_writes.specs.Draining.{DroppedOne}
+use Rattle.call_told.specs.Least.{is_locked_for}
 use Rattle.call_attempts.specs.Both.{Both}
 use Rattle.call_attempts.specs.Attempting.{code_for, FoundGone, CameBack}
 use Rattle.call_attempts.specs.Retrying.{IsStray}
@@ -42,38 +46,36 @@ Counts (HasLock k) = Unit {0}
 Counts IsQueued = Unit {0}
 Counts other = ⊥
 
--- the attempt for which an error is, if it is for one, is none that stands for the whole call
-abbrev pub IsLow : Maybe ℕ → Type 0
-IsLow None = Unit {0}
-IsLow (Some n) = n < 8
+-- the seat keeps this word of the place in mind
+abbrev pub KeepsWord : ℕ → ℕ → View Asked → Type 0
+KeepsWord place word v = 0 < total (λ (k : Kept). pair place word k.place k.word) v.kept
 
 -- a client was asked for these operations, and says these outcomes of them
 module _ {O : Type 0} (state : O → OutState) (p : Plan) (q : id_plan.Plan) (xs : List Task) (Says : ℕ → Outcome → Type 0) where
   -- the error with this code was posted to the call with this id, for the attempt or for the whole call: by an `expire`; since the attempt found its socket gone, or the name without one, or was of a call that the tables don't have; since
   -- its frame came back; or since its message was dropped, with the code of the socket's life
-  pub data Reason (id code : ℕ) (attempt : Maybe ℕ) : Type 0 where
-    timed_out : (i : ℕ) (x : Task) (operation : ℕ) (by : Outcome) (s t : CallStand) (h : TimedOut q operation by s t) → get_elem? xs i ≡ some x → x.op ≡ ops.Expire operation → Says x.number by → (by ≡ outcome.Expired) ⊎ (by ≡ outcome.Queued)
-        → id ≡ h.id → code ≡ ERPCTIMEDOUT → attempt ≡ None → Reason id code attempt
-    gone : (socket : SocketId) (msg : Letter) (s t : Both) → FoundGone state p q socket msg s t → id ≡ msg.owner → code ≡ EFAILEDSOCKET → attempt ≡ Some msg.label.attempt → Reason id code attempt
-    refused : (socket : SocketId) (msg : Letter) (by : Refused) (s t : Both) → CameBack state p q socket msg by s t → id ≡ msg.owner → code ≡ code_for by → attempt ≡ Some msg.label.attempt → Reason id code attempt
-    unopened : (name : ℕ) (msg : Letter) (s t : Both) → SocketFound p name None s.socks t.socks → id ≡ msg.owner → code ≡ EFAILEDSOCKET → attempt ≡ Some msg.label.attempt → Reason id code attempt
-    stray : (name : ℕ) (msg : Letter) → IsStray p q name msg.label.operation → id ≡ msg.owner → code ≡ EFAILEDSOCKET → attempt ≡ Some msg.label.attempt → Reason id code attempt
-    dropped : (life : ℕ) (v : sock_view.View) (s : CallStand) (w : sock_view.View) (t : CallStand) (d : DroppedOne state p q.slots life v s w t) → id ≡ d.msg.owner → code ≡ d.code → attempt ≡ Some d.msg.label.attempt → Reason id code attempt
+  pub data Reason (v : View Asked) (id code : ℕ) (attempt : Maybe ℕ) : Type 0 where
+    timed_out : (i : ℕ) (x : Task) (operation : ℕ) (by : Outcome) (s t : CallStand) (h : TimedOut q operation by s t) → get_elem? xs i ≡ some x → x.op ≡ ops.Expire operation → Says x.number by → (by ≡ outcome.Expired) ⊎ (by ≡ outcome.Queued) → KeepsWord (call_word q operation) id v
+        → id ≡ h.id → code ≡ ERPCTIMEDOUT → attempt ≡ None → Reason v id code attempt
+    gone : (socket : SocketId) (msg : Letter) (s t : Both) → FoundGone state p q socket msg s t → id ≡ msg.owner → code ≡ EFAILEDSOCKET → attempt ≡ Some msg.label.attempt → Reason v id code attempt
+    refused : (socket : SocketId) (msg : Letter) (by : Refused) (s t : Both) → CameBack state p q socket msg by s t → id ≡ msg.owner → code ≡ code_for by → attempt ≡ Some msg.label.attempt → Reason v id code attempt
+    unopened : (name : ℕ) (msg : Letter) (s t : Both) → SocketFound p name None s.socks t.socks → id ≡ msg.owner → code ≡ EFAILEDSOCKET → attempt ≡ Some msg.label.attempt → Reason v id code attempt
+    stray : (name : ℕ) (msg : Letter) → IsStray p q name msg.label.operation → id ≡ msg.owner → code ≡ EFAILEDSOCKET → attempt ≡ Some msg.label.attempt → Reason v id code attempt
+    dropped : (life : ℕ) (a : sock_view.View) (s : CallStand) (b : sock_view.View) (t : CallStand) (d : DroppedOne state p q.slots life a s b t) → id ≡ d.msg.owner → code ≡ d.code → attempt ≡ Some d.msg.label.attempt → Reason v id code attempt
 
   -- an error that is queued for the id with this first version in slot i is one that the client had a reason to post
-  pub record QueuedFor (i first e : ℕ) : Type 0 where
+  pub record QueuedFor (v : View Asked) (i first e : ℕ) : Type 0 where
     pub id : ℕ
     pub code : ℕ
     pub attempt : Maybe ℕ
     pub slot_is : slot_of id ≡ i
     pub first_is : version_of id ≡ first
     pub error_is : error_in code attempt ≡ e
-    pub low : IsLow attempt
-    pub reason : Reason id code attempt
+    pub reason : Reason v id code attempt
 
   -- the error of a lock: the client posted it, or it was handed out of a locked word that the client found
   pub data Origin (v : View Asked) (k : IdLock Asked) (code : ℕ) (attempt : Maybe ℕ) : Type 0 where
-    posted_so : Reason (id_in k) code attempt → Origin v k code attempt
+    posted_so : Reason v (id_in k) code attempt → Origin v k code attempt
     handed_out : (word : ℕ) → Found k.slot word v → (parts word).state ≡ 2 → (parts word).first ≡ (parts k.word.0).first → (parts word).oldest ≡ error_in code attempt → (parts word).oldest ≢ 0 → Origin v k code attempt
 
   -- a word was found of the id that is locked, with as many versions
@@ -84,10 +86,11 @@ module _ {O : Type 0} (state : O → OutState) (p : Plan) (q : id_plan.Plan) (xs
     pub first_is : (parts word).first ≡ (parts k.word.0).first
     pub range_is : (parts word).range ≡ (parts k.word.0).range
 
-  -- the error of a lock is for its current attempt or for the whole call
+  -- the error of a lock is for its current attempt or for the whole call; and the seat had locked the id with a call of the operation whose end it tells
   pub record Cause (v : View Asked) (k : IdLock Asked) (code : ℕ) (attempt : Maybe ℕ) : Type 0 where
     pub inside : k.slot < q.slots
     pub seen : IsSeen v k
+    pub locked : 0 < total (is_locked_for (parts k.word.0).first k.content.operation) (notes_of k.slot v.notes)
     pub timely : IsTimely attempt (parts k.word.0).attempt
     pub origin : Origin v k code attempt
 
