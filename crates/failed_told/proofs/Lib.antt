@@ -3,3 +3,4 @@ pub mod Origins
 pub mod Clients
 pub mod Reading
 pub mod Posters
+pub mod Verdicts
