@@ -4,3 +4,4 @@ pub mod Clients
 pub mod Reading
 pub mod Posters
 pub mod Verdicts
+pub mod Behind
