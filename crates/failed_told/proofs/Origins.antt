@@ -245,32 +245,31 @@ module _ {O : Type 0} (state : O → OutState) (p : Plan) (q : id_plan.Plan) (xs
   decided (handling.goes_on s k code attempt t u l next of a b e rest) c =
       in_turn s u t (keeps s u e.retry (handed_stays s.view u.view k l true next of e.unlocked) e.kept) (decided rest (next_cause s.view u.view k l true next of c.inside c.locked e.unlocked))
 
+  seen_only : (s : CallStand) (v : View Asked) (t : CallStand) → Quiet s.view v → t ≡ record { view = v; books = s.books } → Caused s t
+  seen_only s v t quiet e = let u : CallStand = record { view = v; books = s.books } in in_turn s u t (caused_seen s u (quiet_stays s.view v quiet) refl) (caused_same u t e)
+
+  posted_as : (s : CallStand) (v : View Asked) (id code : ℕ) (attempt : Maybe ℕ) (t : CallStand) (answer : Posted Asked) → PostOk q.slots s.view v id code attempt answer → Handled code attempt answer (record { view = v; books = s.books }) t → (Counts answer → ReasonHere s.view id code attempt) → Caused s t
+  posted_as s v id code attempt t (HasLock k) post d r =
+      let u : CallStand = record { view = v; books = s.books } in
+      let whole : slot_of id * 4294967296 + version_of id ≡ id = div-add-mod' id 4294967296 in let slot = post.0 in let first = post.2 in
+      let same : id_in k ≡ id = omega (arith, whole, slot, first) in
+      let got = got_stays k.slot s.view v post.4.0 (parts k.word.0) k.content post.4.1 in
+      let reason = reason_later s.view v got.later (id_in k) code attempt (subst (λ (i : ℕ). ReasonHere s.view i code attempt) (sym same) (r tt)) in
+      in_turn s u t (caused_seen s u got refl)
+      (decided d (record {
+        inside = post.1;
+        seen = got_seen s.view v post.4.0 k post.4.1;
+        locked = got_locked k.slot s.view v post.4.0 (parts k.word.0) k.content post.4.1;
+        timely = post.3;
+        origin = posted_so reason;
+      }))
+  posted_as s v id code attempt t IsQueued post e r = let u : CallStand = record { view = v; books = s.books } in in_turn s u t (caused_queued s u id code attempt _ post.0 refl (r tt)) (caused_same u t e)
+  posted_as s v id code attempt t (Gone found) post e r = seen_only s v t post.0 e
+  posted_as s v id code attempt t (Stale current) post e r = seen_only s v t post.0 e
+  posted_as s v id code attempt t (Crowded first second) post e r = seen_only s v t post.0 e
+
   pub posted : (s : CallStand) (id code : ℕ) (attempt : Maybe ℕ) (t : CallStand) (b : PostedBy q.slots s id code attempt t) → (Counts b.0 → ReasonHere s.view id code attempt) → Caused s t
-  posted s id code attempt t b why = by b.0 b.1.post b.1.handled why
-    where
-      u : CallStand
-      u = record { view = b.1.view; books = s.books }
-
-      seen : Quiet s.view u.view → t ≡ u → Caused s t
-      seen quiet e = in_turn s u t (caused_seen s u (quiet_stays s.view u.view quiet) refl) (caused_same u t e)
-
-      by : (answer : Posted Asked) → PostOk q.slots s.view u.view id code attempt answer → Handled code attempt answer u t → (Counts answer → ReasonHere s.view id code attempt) → Caused s t
-      by (HasLock k) post d r =
-          let whole : slot_of id * 4294967296 + version_of id ≡ id = div-add-mod' id 4294967296 in let slot = post.0 in let first = post.2 in
-          let same : id_in k ≡ id = omega (arith, whole, slot, first) in
-          let got = got_stays k.slot s.view u.view post.4.0 (parts k.word.0) k.content post.4.1 in
-          in_turn s u t (caused_seen s u got refl)
-          (decided d (record {
-            inside = post.1;
-            seen = got_seen s.view u.view post.4.0 k post.4.1;
-            locked = got_locked k.slot s.view u.view post.4.0 (parts k.word.0) k.content post.4.1;
-            timely = post.3;
-            origin = posted_so (reason_later s.view u.view got.later (id_in k) code attempt (subst (λ (i : ℕ). ReasonHere s.view i code attempt) (sym same) (r tt)));
-          }))
-      by IsQueued post e r = in_turn s u t (caused_queued s u id code attempt _ post.0 refl (r tt)) (caused_same u t e)
-      by (Gone found) post e r = seen post.0 e
-      by (Stale current) post e r = seen post.0 e
-      by (Crowded first second) post e r = seen post.0 e
+  posted s id code attempt t b why = posted_as s b.1.view id code attempt t b.0 b.1.post b.1.handled why
 
   seen_id : (number id : ℕ) (s : CallStand) → Caused s (found_id q number id s)
   seen_id number id s = let u = found_id q number id s in caused_seen s u (kept_stays s.view u.view (call_word q number) false id refl) refl

@@ -97,32 +97,29 @@ module _ {O : Type 0} {g : Ghosts O} {state : O → OutState} {p : Plan} {slots 
     pub at : get_elem? crew place ≡ some client
     pub reason : Reason state p q (tasks_of client) (Says run outcomes said) (view_of client) id code attempt
 
-  -- an error that was queued
+  -- an error that clients queued
+  by_clients : (k : IdLock Asked) (code : ℕ) (attempt : Option ℕ) → IsLow attempt → 0 < total (λ (v : View Asked). queued_in k.slot (parts k.word.0).first (error_in code attempt) v.notes) ids → Poster (id_in k) code attempt
+  by_clients k code attempt low own =
+      let queues : View Asked → ℕ = λ v. queued_in k.slot (parts k.word.0).first (error_in code attempt) v.notes in
+      let s = total_some (λ (y : Client g state p q). queues (view_of y)) crew (let b = total_map queues view_of crew in let d = ap (total queues) (views_are run) in omega (arith, own, b, d)) in
+      let h = queued_caused run outcomes said s.0 s.1 s.2 k.slot (parts k.word.0).first (error_in code attempt) s.3 in
+      let whole : slot_of h.id * 4294967296 + version_of h.id ≡ h.id = div-add-mod' h.id 4294967296 in
+      let a = h.slot_is in let b = h.first_is in
+      let same : h.id ≡ id_in k = omega (arith, whole, a, b) in
+      let e = one_error h.code code h.attempt attempt (reason_low h.reason) low h.error_is in
+      let R : ℕ → ℕ → Option ℕ → Type 0 = λ i z w. Reason state p q (tasks_of s.1) (Says run outcomes said) (view_of s.1) i z w in
+      record {
+        place = s.0;
+        client = s.1;
+        at = s.2;
+        reason = subst (λ (i : ℕ). R i code attempt) same (subst (λ (z : ℕ). R h.id z attempt) e.0 (subst (λ (w : Option ℕ). R h.id h.code w) e.1 h.reason));
+      }
+
   queued_by : (k : IdLock Asked) (code : ℕ) (attempt : Option ℕ) → IsLow attempt → 0 < queued_in k.slot (parts k.word.0).first (error_in code attempt) notes → Poster (id_in k) code attempt ⊎ IsLossCode code
   queued_by k code attempt low there = elim (others k.slot (parts k.word.0).first (error_in code attempt) there) [
-    | inl own ↦ inl (by own)
+    | inl own ↦ inl (by_clients k code attempt low own)
     | inr loss ↦ inr (subst IsLossCode (code_is code attempt low) loss)
   ]
-    where
-      queues : View Asked → ℕ
-      queues v = queued_in k.slot (parts k.word.0).first (error_in code attempt) v.notes
-
-      by : 0 < total queues ids → Poster (id_in k) code attempt
-      by own =
-          let s = total_some (λ (y : Client g state p q). queues (view_of y)) crew (let b = total_map queues view_of crew in let d = ap (total queues) (views_are run) in omega (arith, own, b, d)) in
-          let h = queued_caused run outcomes said s.0 s.1 s.2 k.slot (parts k.word.0).first (error_in code attempt) s.3 in
-          let whole : slot_of h.id * 4294967296 + version_of h.id ≡ h.id = div-add-mod' h.id 4294967296 in
-          let a = h.slot_is in let b = h.first_is in
-          let same : h.id ≡ id_in k = omega (arith, whole, a, b) in
-          let e = one_error h.code code h.attempt attempt (reason_low h.reason) low h.error_is in
-          record {
-            place = s.0;
-            client = s.1;
-            at = s.2;
-            reason = subst (λ (i : ℕ). Reason state p q (tasks_of s.1) (Says run outcomes said) (view_of s.1) i code attempt) same
-                (subst (λ (z : ℕ). Reason state p q (tasks_of s.1) (Says run outcomes said) (view_of s.1) h.id z attempt) e.0
-                (subst (λ (z : Option ℕ). Reason state p q (tasks_of s.1) (Says run outcomes said) (view_of s.1) h.id h.code z) e.1 h.reason));
-          }
 
   -- the error of a lock of a client
   pub posted_by : (c : ℕ) (x : Client g state p q) → get_elem? crew c ≡ some x → (k : IdLock Asked) (code : ℕ) (attempt : Option ℕ) → Cause state p q (tasks_of x) (Says run outcomes said) (view_of x) k code attempt → Poster (id_in k) code attempt ⊎ IsLossCode code

@@ -79,11 +79,11 @@ last_one k code n open_ e = let w : Parts = parts k.word.0 in eqb-true (w.attemp
 -- a message of this attempt was dropped, with this code of its socket's life
 pub record WasDropped {O : Type 0} (state : O → OutState) (p : Plan) (q : id_plan.Plan) (id code n : ℕ) : Type 0 where
   pub life : ℕ
-  pub wrote : sock_view.View
-  pub behind : sock_view.View
+  pub before : sock_view.View
   pub calls : CallStand
-  pub told : CallStand
-  pub drop : DroppedOne state p q.slots life wrote calls behind told
+  pub after : sock_view.View
+  pub calls_after : CallStand
+  pub drop : DroppedOne state p q.slots life before calls after calls_after
   pub owner : id ≡ drop.msg.owner
   pub code_is : code ≡ drop.code
   pub attempt_is : n ≡ drop.msg.label.attempt
@@ -92,10 +92,9 @@ pub record WasDropped {O : Type 0} (state : O → OutState) (p : Plan) (q : id_p
 abbrev pub IsLostBy : {O : Type 0} (state : O → OutState) (p : Plan) (q : id_plan.Plan) (id code n : ℕ) → Type 0
 IsLostBy state p q id code n = (code ≡ EFAILEDSOCKET) ⊎ ((code ≡ EREQUESTS) ⊎ WasDropped state p q id code n)
 
-module _ {O : Type 0} {state : O → OutState} {p : Plan} {q : id_plan.Plan} {xs : List Task} {S : ℕ → Outcome → Type 0} {v : View Asked} {id code : ℕ} {attempt : Option ℕ} where
-  refused_code : (by : Refused) → code ≡ code_for by → (n : ℕ) → IsLostBy state p q id code n
-  refused_code (refusal.Failed sock msg found) e n = inl e
-  refused_code (refusal.Full sock msg) e n = inr (inl e)
+refused_code : {O : Type 0} (state : O → OutState) (p : Plan) (q : id_plan.Plan) (id code : ℕ) (by : Refused) → code ≡ code_for by → (n : ℕ) → IsLostBy state p q id code n
+refused_code state p q id code (refusal.Failed sock msg found) e n = inl e
+refused_code state p q id code (refusal.Full sock msg) e n = inr (inl e)
 
 -- ## The run
 
@@ -198,10 +197,10 @@ module _ {O : Type 0} {g : Ghosts O} {state : O → OutState} {p : Plan} {slots 
       by_reason : (w : PosterHere id e.code e.attempt) → Reason state p q (tasks_of w.client) (Says run outcomes said_own) (view_of w.client) id e.code e.attempt → Verdict
       by_reason w (timed_out i t o by s u h there is says counts kept_ a b z) = timed b (expired_with o w.place i w.client t by w.at there is says counts kept_)
       by_reason w (gone socket msg s t h a b z) = by_lost w msg.label.attempt z (inl b)
-      by_reason w (refused socket msg by s t h a b z) = by_lost w msg.label.attempt z (refused_code by b msg.label.attempt)
+      by_reason w (refused socket msg by s t h a b z) = by_lost w msg.label.attempt z (refused_code state p q id e.code by b msg.label.attempt)
       by_reason w (unopened name msg s t h a b z) = by_lost w msg.label.attempt z (inl b)
       by_reason w (stray name msg h a b z) = by_lost w msg.label.attempt z (inl b)
-      by_reason w (dropped life wrote s behind_ t h a b z) = by_lost w h.msg.label.attempt z (inr (inr (record { life = life; wrote = wrote; behind = behind_; calls = s; told = t; drop = h; owner = a; code_is = b; attempt_is = refl })))
+      by_reason w (dropped life wrote s behind_ t h a b z) = by_lost w h.msg.label.attempt z (inr (inr (record { life = life; before = wrote; calls = s; after = behind_; calls_after = t; drop = h; owner = a; code_is = b; attempt_is = refl })))
 
       pub verdict : Verdict
       verdict = elim (posted_by run outcomes said_own notes kept words closing noted others c x at lock e.code e.attempt e.cause) [ inl w ↦ by_reason w w.reason | inr loss ↦ behind loss ]
