@@ -1,5 +1,5 @@
 -- Whoever reads the links queues no errors but those with which calls end then.
-use Rattle.std.proofs.Common.{◌≡◌, ℕ, ◌+◌, ◌*◌, ◌/◌, ◌<◌, ◌⊎◌, inl, inr, Bool, true, false, List, [], ◌∷◌, Some, None, refl, ap, ◌∙◌, subst, sym, arith}
+use Rattle.std.proofs.Common.{◌≡◌, ℕ, ◌+◌, ◌*◌, ◌/◌, ◌<◌, ◌⊎◌, inl, inr, Bool, true, false, List, [], ◌∷◌, flat_map, Some, None, refl, ap, ◌∙◌, subst, sym, arith}
 use Rattle.std.specs.Prelude.{Option, position, ◌==◌, nat_lt, if◌then◌else◌}
 use mathlib.Core.Logic.{dite}
 use native.Mathlib.Decide.{ℕ_discrete}
@@ -10,17 +10,19 @@ use Rattle.sock_words.specs.declared.outcome.Outcome.TheVariants.{CallFailed}
 use Rattle.sock_io.specs.declared.link.Ends.{Ends}
 use Rattle.sock_io.specs.Link.{OutState, InState}
 use Rattle.corr_core.specs.Word.{Parts, parts, code_of}
-use Rattle.corr_core.specs.Law.{is_queued}
+use Rattle.corr_core.specs.Law.{total, is_queued}
+use Rattle.corr_core.specs.declared.marks.Note.{Note}
 use Rattle.corr_core.specs.declared.marks.Note.TheVariants.{Queued}
 use Rattle.corr_core.specs.declared.marks.Noted.{Noted}
 use Rattle.corr_core.specs.declared.marks.Plan.{Plan}
 use Rattle.corr_core.specs.declared.marks.View.{View}
-use Rattle.id_rule.specs.Lawful.{at_word, call_word, with_kept}
+use Rattle.id_rule.specs.Lawful.{at_word, call_word, notes_of, with_kept}
 use Rattle.sock_message.specs.Asked.{Asked}
 use Rattle.corr_id.specs.declared.posts.Posted.{Posted}
 use Rattle.corr_id.specs.declared.posts.Posted.TheVariants.{Locked as HasLock, Queued as IsQueued, Gone, Stale, Crowded}
 use Rattle.corr_id.specs.Calls.{slot_of, version_of, error_in, one}
 use Rattle.corr_id.specs.Posts.{PostOk}
+use Rattle.corr_id.proofs.Seats.{notes_append, total_append}
 use Rattle.prpc_frame.specs.Meaning.{frame_of}
 use Rattle.prpc_frame.specs.declared.frame.Frame.{Frame}
 use Rattle.call_client.proofs.Telling.{did_total}
@@ -153,3 +155,18 @@ module _ {O I P : Type 0} (out : O → OutState) (inn : I → InState) (q : Plan
   read_queues link (e ∷ es) (e' ∷ es') b b' r = queues_then b.view r.0.view b'.view (link_queues link e e' b r.0 r.1) (read_queues (link + 1) es es' r.0 b' r.2)
   read_queues link [] (e' ∷ es') b b' r = absurd r
   read_queues link (e ∷ es) [] b b' r = absurd r
+
+-- ## Over all seats
+
+notes_flat : (i : ℕ) (f : Note Asked → ℕ) (vs : List (View Asked)) → total f (notes_of i (flat_map (λ (v : View Asked). v.notes) vs)) ≡ total (λ (v : View Asked). total f (notes_of i v.notes)) vs
+notes_flat i f [] = refl
+notes_flat i f (v ∷ vs) =
+    let rest : List (Noted Asked) = flat_map (λ (w : View Asked). w.notes) vs in
+    let a = ap (total f) (notes_append i v.notes rest) in let b = total_append f (notes_of i v.notes) (notes_of i rest) in let c = notes_flat i f vs in omega (arith, a, b, c)
+
+-- one seat had what all these noted, and then read the links: whatever is noted as queued one of them noted so, or it has one of those codes
+pub others_queued : (vs : List (View Asked)) (v w : View Asked) → v.notes ≡ flat_map (λ (x : View Asked). x.notes) vs → Queues v w → (i first e : ℕ) → 0 < queued_in i first e w.notes → (0 < total (λ (x : View Asked). queued_in i first e x.notes) vs) ⊎ IsLossCode (code_of e)
+others_queued vs v w took q i first e h = elim (q.queued i first e h) [
+  | inl own ↦ inl (let a = ap (queued_in i first e) took in let b = notes_flat i (is_queued first e) vs in omega (arith, a, b, own))
+  | inr loss ↦ inr loss
+]
