@@ -19,13 +19,13 @@ use Rattle.rpc_client.specs.declared.acting.Told.{Told}
 use Rattle.call_errors.specs.Books.{Books}
 use Rattle.call_run.specs.Threads.{Thread, RanOn, ids_of}
 use Rattle.call_places.proofs.Weights.{mapped}
-use Rattle.call_places.proofs.Clients.{Client, view_of, tasks_of}
+use Rattle.call_places.proofs.Clients.{Client, view_of, tasks_of, deeds_of}
 use Rattle.call_places.proofs.Places.{all as all_clients, all_are}
 use Rattle.expire_told.specs.Said.{AreSaid}
 use Rattle.expire_told.proofs.Doing.{run_fed}
 use Rattle.failed_told.specs.Reasons.{IsCaused, QueuedFor}
 use Rattle.failed_told.proofs.Views.{queued_in}
-use Rattle.failed_told.proofs.Origins.{run_caused, run_queued}
+use Rattle.failed_told.proofs.Origins.{AreDeeds, run_caused, run_queued}
 
 module _ {O : Type 0} {g : Ghosts O} {state : O → OutState} {p : Plan} {slots : ℕ} {setup : List Task} {clients : List (List Task)} {opens : List ℕ} {told ended : List (List Told)} {places : List PlaceWord} {vrefs : List Vref} {outs : List O} {ids : List (View Asked)}
     (run : RanOn g state p slots setup clients opens told ended places vrefs outs ids) (outcomes : List (Option Outcome)) (said : AreSaid outcomes told) where
@@ -44,13 +44,17 @@ module _ {O : Type 0} {g : Ghosts O} {state : O → OutState} {p : Plan} {slots 
       let list : get_elem? told c ≡ some x.thread.ended.outcomes.items = ap (λ (l : List (List Told)). get_elem? l c) (sym (all_are run f ∙ run.ran.told_is)) ∙ mapped (λ (y : Client g state p (ids_of p slots)). f y.thread) (all_clients run) c x at in
       said c j x.thread.ended.outcomes.items y list there
 
+  -- its deeds are those of its run
+  are_deeds : (x : Client g state p (ids_of p slots)) → AreDeeds state p (ids_of p slots) (tasks_of x) Says (deeds_of x) x.thread.began x.thread.ended x.is.ran
+  are_deeds x d j at = (j, at)
+
   -- and each is caused, where an `expire` of its own is what is reported of it
-  pub ended_caused : (c : ℕ) (x : Client g state p (ids_of p slots)) → get_elem? (all_clients run) c ≡ some x → (get_elem? ended c ≡ some x.thread.ended.calls.told.items) × AllByRecursion (IsCaused state p (ids_of p slots) (tasks_of x) Says (view_of x)) x.thread.ended.calls.told.items
+  pub ended_caused : (c : ℕ) (x : Client g state p (ids_of p slots)) → get_elem? (all_clients run) c ≡ some x → (get_elem? ended c ≡ some x.thread.ended.calls.told.items) × AllByRecursion (IsCaused state p (ids_of p slots) (tasks_of x) Says (deeds_of x) (view_of x)) x.thread.ended.calls.told.items
   ended_caused c x at = (
     ended_is c x at,
-    run_caused state p (ids_of p slots) (tasks_of x) Says x.thread.began x.thread.ended x.is.ran (ap (λ (b : Books). b.told) x.is.nothing.books) (says_own c x at) (run_fed state p (ids_of p slots) x.thread.began x.thread.ended x.is.ran),
+    run_caused state p (ids_of p slots) (tasks_of x) Says (deeds_of x) x.thread.began x.thread.ended x.is.ran (are_deeds x) (ap (λ (b : Books). b.told) x.is.nothing.books) (says_own c x at) (run_fed state p (ids_of p slots) x.thread.began x.thread.ended x.is.ran),
   )
 
   -- it had a reason for each error that it queued
-  pub queued_caused : (c : ℕ) (x : Client g state p (ids_of p slots)) → get_elem? (all_clients run) c ≡ some x → (i first e : ℕ) → 0 < queued_in i first e (view_of x).notes → QueuedFor state p (ids_of p slots) (tasks_of x) Says (view_of x) i first e
-  queued_caused c x at = run_queued state p (ids_of p slots) (tasks_of x) Says x.thread.began x.thread.ended x.is.ran (ap (λ (m : Me (Option Asked) (View Asked)). m.0.notes) x.is.ids) (says_own c x at)
+  pub queued_caused : (c : ℕ) (x : Client g state p (ids_of p slots)) → get_elem? (all_clients run) c ≡ some x → (i first e : ℕ) → 0 < queued_in i first e (view_of x).notes → QueuedFor state p (ids_of p slots) (tasks_of x) Says (deeds_of x) (view_of x) i first e
+  queued_caused c x at = run_queued state p (ids_of p slots) (tasks_of x) Says (deeds_of x) x.thread.began x.thread.ended x.is.ran (are_deeds x) (ap (λ (m : Me (Option Asked) (View Asked)). m.0.notes) x.is.ids) (says_own c x at)

@@ -3,5 +3,6 @@ pub mod Origins
 pub mod Clients
 pub mod Reading
 pub mod Posters
+pub mod Codes
 pub mod Verdicts
 pub mod Behind

@@ -23,6 +23,7 @@ use Rattle.sock_programs.specs.declared.task.Op.TheVariants as ops
 use Rattle.sock_programs.specs.declared.task.Task.{Task}
 use Rattle.corr_core.specs.Word.{Parts, parts}
 use Rattle.corr_core.specs.Law.{total, is_queued}
+use Rattle.corr_core.specs.declared.marks.Note.{Note}
 use Rattle.corr_core.specs.declared.marks.Note.TheVariants.{Made, Queued}
 use Rattle.corr_core.specs.declared.marks.Noted.{Noted}
 use Rattle.corr_core.specs.declared.marks.Token.{Token}
@@ -52,12 +53,12 @@ use Rattle.call_attempts.specs.declared.calling.Called.TheVariants as called
 use Rattle.call_attempts.specs.Both.{Both}
 use Rattle.call_attempts.specs.Attempting.{code_for, DeliveredBy, went_out, came_back, AttemptedBy, nowhere, over_link}
 use Rattle.call_attempts.specs.Calling.{CalledBy}
-use Rattle.call_attempts.specs.Retrying.{without_oldest, WentTo, to_socket, Locked, RetriedBy, had_ended, overtaken, went_again, Retried, none_yet, one_more}
-use Rattle.call_attempts.specs.Retrying as retrying
+use Rattle.call_attempts.specs.Retrying.{without_oldest, WentTo, stray, unopened, to_socket, Locked, RetriedBy, had_ended, overtaken, went_again, Retried, none_yet, one_more}
 use Rattle.call_client.specs.declared.caller.Caller.{Caller}
 use Rattle.call_client.specs.Acting.{Stand, stand, both_of, letter_of, Acted}
 use Rattle.call_client.specs.Running.{Course, Ran, begins, RunBy}
 use Rattle.rpc_client.specs.declared.acting.Told.{Told}
+use Rattle.call_places.specs.Deeds.{Deed, operates, retries, retries_of, ran_deeds}
 use Rattle.call_client.proofs.Telling.{did_total}
 use Rattle.call_told.specs.Least.{is_locked_for}
 use Rattle.call_told.proofs.Ends.{HasLocked, got_locked}
@@ -68,8 +69,8 @@ use Rattle.sock_deeds.proofs.Flats.{append_first, append_later}
 use Rattle.rpc_client.specs.Running.{telling}
 use Rattle.call_table.specs.declared.errors.Decision.TheVariants as decisions
 use Rattle.call_errors.specs.Locking.{id_in}
-use Rattle.failed_told.specs.Reasons.{Counts, Reason, timed_out, gone, refused, dropped, QueuedFor, Origin, posted_so, handed_out, IsSeen, Cause, IsCaused}
-use Rattle.failed_told.specs.Reasons as reasons
+use Rattle.failed_told.specs.Reasons.{Counts, Reason, timed_out, missed, dropped, QueuedFor, Origin, posted_so, handed_out, IsSeen, Cause, IsCaused}
+use Rattle.failed_told.specs.Missed.{delivery_missed, attempt_missed, went_missed, retry_missed, acted_missed, acted_id}
 use Rattle.failed_told.proofs.Views.{queued_silent, queued_in, Later, later_then, Stays, one_none, queued_one, same_stays, then_stays, did_later, did_stays, quiet_stays, kept_stays, ended_stays, got_stays, opened_stays, handed_stays}
 
 -- the lock that was got has the word that was found
@@ -94,18 +95,18 @@ timed_by (Crowded first second) by e c = elim c [ ]
 abbrev HasLockOf : IdLock Asked → View Asked → Type 0
 HasLockOf k v = HasLocked k.slot (parts k.word.0).first k.content.operation v
 
-module _ {O : Type 0} (state : O → OutState) (p : Plan) (q : id_plan.Plan) (xs : List Task) (Says : ℕ → Outcome → Type 0) where
+module _ {O : Type 0} {g : Ghosts O} (state : O → OutState) (p : Plan) (q : id_plan.Plan) (xs : List Task) (Says : ℕ → Outcome → Type 0) (ds : List (Deed g state p q)) where
   abbrev IsCausedHere : View Asked → Told → Type 0
-  IsCausedHere v x = IsCaused state p q xs Says v x
+  IsCausedHere v x = IsCaused state p q xs Says ds v x
 
   abbrev CauseHere : View Asked → IdLock Asked → ℕ → Maybe ℕ → Type 0
-  CauseHere v k code attempt = Cause state p q xs Says v k code attempt
+  CauseHere v k code attempt = Cause state p q xs Says ds v k code attempt
 
   abbrev ReasonHere : View Asked → ℕ → ℕ → Maybe ℕ → Type 0
-  ReasonHere v id code attempt = Reason state p q xs Says v id code attempt
+  ReasonHere v id code attempt = Reason state p q xs Says ds v id code attempt
 
   abbrev pub QueuedHere : View Asked → ℕ → ℕ → ℕ → Type 0
-  QueuedHere v i first e = QueuedFor state p q xs Says v i first e
+  QueuedHere v i first e = QueuedFor state p q xs Says ds v i first e
 
   -- the notes stay; each error that is noted as queued more had a reason; and what is told more is caused, where memory is there behind it
   pub record Caused (s t : CallStand) : Type 0 where
@@ -117,16 +118,13 @@ module _ {O : Type 0} (state : O → OutState) (p : Plan) (q : id_plan.Plan) (xs
 
   reason_later : (v w : View Asked) → Later v w → (id code : ℕ) (attempt : Maybe ℕ) → ReasonHere v id code attempt → ReasonHere w id code attempt
   reason_later v w l id code attempt (timed_out i x operation by s t h there is says counts keeps a b c) = timed_out i x operation by s t h there is says counts (let z = l.kept (is_word (call_word q operation) id) in omega (arith, z, keeps)) a b c
-  reason_later v w l id code attempt (gone socket msg s t h a b c) = gone socket msg s t h a b c
-  reason_later v w l id code attempt (refused socket msg by s t h a b c) = refused socket msg by s t h a b c
-  reason_later v w l id code attempt (reasons.unopened name msg s t h a b c) = reasons.unopened name msg s t h a b c
-  reason_later v w l id code attempt (reasons.stray name msg h a b c) = reasons.stray name msg h a b c
+  reason_later v w l id code attempt (missed i d there is a b) = missed i d there is a b
   reason_later v w l id code attempt (dropped life x s y t h a b c) = dropped life x s y t h a b c
 
   queued_later : (v w : View Asked) → Later v w → (i first e : ℕ) → QueuedHere v i first e → QueuedHere w i first e
   queued_later v w l i first e h = record { id = h.id; code = h.code; attempt = h.attempt; slot_is = h.slot_is; first_is = h.first_is; error_is = h.error_is; reason = reason_later v w l h.id h.code h.attempt h.reason }
 
-  origin_later : (v w : View Asked) → Later v w → (k : IdLock Asked) (code : ℕ) (attempt : Maybe ℕ) → Origin state p q xs Says v k code attempt → Origin state p q xs Says w k code attempt
+  origin_later : (v w : View Asked) → Later v w → (k : IdLock Asked) (code : ℕ) (attempt : Maybe ℕ) → Origin state p q xs Says ds v k code attempt → Origin state p q xs Says ds w k code attempt
   origin_later v w l k code attempt (posted_so r) = posted_so (reason_later v w l (id_in k) code attempt r)
   origin_later v w l k code attempt (handed_out word found locked first oldest some_) = handed_out word (let a = l.notes k.slot (is_saw word) in omega (arith, a, found)) locked first oldest some_
 
@@ -323,41 +321,64 @@ module _ {O : Type 0} (state : O → OutState) (p : Plan) (q : id_plan.Plan) (xs
 
   -- ## Attempts
 
-  delivered_by : (socket : SocketId) (msg : Letter) (s t : Both) → DeliveredBy state p q socket msg s t → Caused s.calls t.calls
-  delivered_by socket msg s t (went_out w) = drained socket.0 w.taken s.calls w.through.wrote t.calls w.through.drained
-  delivered_by socket msg s t (came_back by c) = posted s.calls msg.owner (code_for by) (Some msg.label.attempt) t.calls c.posted (λ counts. refused socket msg by s t c refl refl refl)
+  -- where it came to nothing, with a code, there is this reason
+  abbrev WhyMissed : Maybe ℕ → ℕ → ℕ → Type 0
+  WhyMissed code id n = (v : View Asked) (c : ℕ) → code ≡ Some c → ReasonHere v id c (Some n)
 
-  attempted_by : (socket : SocketId) (msg : Letter) (s t : Both) → AttemptedBy state p q socket msg s t → Caused s.calls t.calls
-  attempted_by socket msg s t (nowhere g) = posted s.calls msg.owner EFAILEDSOCKET (Some msg.label.attempt) t.calls g.posted (λ counts. gone socket msg s t g refl refl refl)
-  attempted_by socket msg s t (over_link u l d) = in_turn s.calls u.calls t.calls (caused_seen s.calls u.calls (kept_stays s.calls.view u.calls.view _ _ _ l.stored) l.books) (delivered_by socket msg u t d)
+  delivered_by : (socket : SocketId) (msg : Letter) (s t : Both) (d : DeliveredBy state p q socket msg s t) → WhyMissed (delivery_missed state p q socket msg s t d) msg.owner msg.label.attempt → Caused s.calls t.calls
+  delivered_by socket msg s t (went_out w) why = drained socket.0 w.taken s.calls w.through.wrote t.calls w.through.drained
+  delivered_by socket msg s t (came_back by c) why = posted s.calls msg.owner (code_for by) (Some msg.label.attempt) t.calls c.posted (λ counts. why s.calls.view (code_for by) refl)
 
-  begun_by : (asked : Asked) (id : ℕ) (s t : Both) → CalledBy state p q asked (called.Begun id) s t → Caused s.calls t.calls
-  begun_by asked id s t h =
-      let m = h.made_for in let u : CallStand = record { view = m.view; books = s.calls.books } in
-      in_turn s.calls h.at.calls t.calls (in_turn s.calls u h.at.calls (caused_seen s.calls u (did_stays (slot_of id) s.calls.view m.view _ (one (slot_of id) (Made (version_of id) asked.range asked)) (one_none (slot_of id) (Made (version_of id) asked.range asked) (λ x y. refl)) m.made.did) refl) (caused_seen u h.at.calls (kept_stays m.view h.at.calls.view _ _ _ m.noted) m.books)) (attempted_by h.socket _ h.at t h.attempted)
+  attempted_by : (socket : SocketId) (msg : Letter) (s t : Both) (a : AttemptedBy state p q socket msg s t) → WhyMissed (attempt_missed state p q socket msg s t a) msg.owner msg.label.attempt → Caused s.calls t.calls
+  attempted_by socket msg s t (nowhere g) why = posted s.calls msg.owner EFAILEDSOCKET (Some msg.label.attempt) t.calls g.posted (λ counts. why s.calls.view EFAILEDSOCKET refl)
+  attempted_by socket msg s t (over_link u l d) why = in_turn s.calls u.calls t.calls (caused_seen s.calls u.calls (kept_stays s.calls.view u.calls.view _ _ _ l.stored) l.books) (delivered_by socket msg u t d why)
 
-  went_to : (name : ℕ) (msg : Letter) (s t : Both) → WentTo state p q name msg s t → Caused s.calls t.calls
-  went_to name msg s t (retrying.stray a e h) = posted s.calls msg.owner EFAILEDSOCKET (Some msg.label.attempt) t.calls h (λ counts. reasons.stray name msg a refl refl refl)
-  went_to name msg s t (retrying.unopened f h) = posted s.calls msg.owner EFAILEDSOCKET (Some msg.label.attempt) t.calls h (λ counts. reasons.unopened name msg s t f refl refl refl)
-  went_to name msg s t (to_socket socket u f e a) = in_turn s.calls u.calls t.calls (caused_same s.calls u.calls e) (attempted_by socket msg u t a)
+  begun_by : (asked : Asked) (id : ℕ) (s t : Both) (h : CalledBy state p q asked (called.Begun id) s t) → WhyMissed (attempt_missed state p q h.socket _ h.at t h.attempted) id 0 → Caused s.calls t.calls
+  begun_by asked id s t h why =
+      let m = h.made_for in let u : CallStand = record { view = m.view; books = s.calls.books } in let n : Note Asked = Made (version_of id) asked.range asked in
+      let made = did_stays (slot_of id) s.calls.view m.view _ (one (slot_of id) n) (one_none (slot_of id) n (λ x y. refl)) m.made.did in
+      in_turn s.calls h.at.calls t.calls (in_turn s.calls u h.at.calls (caused_seen s.calls u made refl) (caused_seen u h.at.calls (kept_stays m.view h.at.calls.view _ _ _ m.noted) m.books)) (attempted_by h.socket _ h.at t h.attempted why)
+
+  went_to : (name : ℕ) (msg : Letter) (s t : Both) (w : WentTo state p q name msg s t) → WhyMissed (went_missed state p q name msg s t w) msg.owner msg.label.attempt → Caused s.calls t.calls
+  went_to name msg s t (stray a e h) why = posted s.calls msg.owner EFAILEDSOCKET (Some msg.label.attempt) t.calls h (λ counts. why s.calls.view EFAILEDSOCKET refl)
+  went_to name msg s t (unopened f h) why = posted s.calls msg.owner EFAILEDSOCKET (Some msg.label.attempt) t.calls h (λ counts. why s.calls.view EFAILEDSOCKET refl)
+  went_to name msg s t (to_socket socket u f e a) why = in_turn s.calls u.calls t.calls (caused_same s.calls u.calls e) (attempted_by socket msg u t a why)
 
   locked : (r : Retry) (k : IdLock Asked) (s t : Both) → Locked state p q r k s t → Caused s.calls t.calls
   locked r k s t l = caused_seen s.calls t.calls (got_stays k.slot s.calls.view t.calls.view l.got.word (parts k.word.0) k.content l.got.got) l.books
 
-  retried_by : (r : Retry) (s t : Both) → RetriedBy state p q r s t → Caused s.calls t.calls
-  retried_by r s t (had_ended h) = caused_seen s.calls t.calls (quiet_stays s.calls.view t.calls.view h.gone.quiet) h.books
-  retried_by r s t (overtaken k u l o) =
+  retried_by : (r : Retry) (s t : Both) (by : RetriedBy state p q r s t) → WhyMissed (retry_missed state p q r s t by) r.id r.attempt → Caused s.calls t.calls
+  retried_by r s t (had_ended h) why = caused_seen s.calls t.calls (quiet_stays s.calls.view t.calls.view h.gone.quiet) h.books
+  retried_by r s t (overtaken k u l o) why =
       let x : CallStand = record { view = o.view; books = u.calls.books } in
-      in_turn s.calls u.calls t.calls (locked r k s u l) (in_turn u.calls x t.calls (caused_seen u.calls x (handed_stays u.calls.view o.view k o.next false o.code o.attempt o.unlocked) refl) (decided o.decided (next_cause u.calls.view o.view k o.next false o.code o.attempt l.got.inside (got_locked k.slot s.calls.view u.calls.view l.got.word (parts k.word.0) k.content l.got.got) o.unlocked)))
-  retried_by r s t (went_again k u l w) =
+      let has = got_locked k.slot s.calls.view u.calls.view l.got.word (parts k.word.0) k.content l.got.got in
+      in_turn s.calls u.calls t.calls (locked r k s u l) (in_turn u.calls x t.calls (caused_seen u.calls x (handed_stays u.calls.view o.view k o.next false o.code o.attempt o.unlocked) refl) (decided o.decided (next_cause u.calls.view o.view k o.next false o.code o.attempt l.got.inside has o.unlocked)))
+  retried_by r s t (went_again k u l w) why =
       let x : CallStand = record { view = w.view; books = u.calls.books } in
-      in_turn s.calls u.calls t.calls (locked r k s u l) (in_turn u.calls x t.calls (caused_seen u.calls x (opened_stays u.calls.view w.view k false w.unlocked) refl) (went_to _ _ (record { socks = u.socks; calls = x }) t w.went))
+      in_turn s.calls u.calls t.calls (locked r k s u l) (in_turn u.calls x t.calls (caused_seen u.calls x (opened_stays u.calls.view w.view k false w.unlocked) refl) (went_to _ _ (record { socks = u.socks; calls = x }) t w.went why))
 
-  retried : (s t : Both) → Retried state p q s t → Caused s.calls t.calls
-  retried s _ none_yet = caused_same s.calls s.calls refl
-  retried s _ (one_more u t r rest more e f by) =
-      let x = without_oldest rest u in
-      in_turn s.calls u.calls t.calls (retried s u more) (in_turn u.calls x.calls t.calls (caused_books u.calls x.calls (same_stays u.calls.view x.calls.view refl) refl refl) (retried_by r x t by))
+  -- ## Deeds
+
+  -- it is one of the client's
+  abbrev IsAmong : Deed g state p q → Type 0
+  IsAmong d = (i : ℕ) × (get_elem? ds i ≡ some d)
+
+  abbrev AreAmong : List (Deed g state p q) → Type 0
+  AreAmong list = (d : Deed g state p q) (j : ℕ) → get_elem? list j ≡ some d → IsAmong d
+
+  first_among : (a b : List (Deed g state p q)) → AreAmong (a ++ b) → AreAmong a
+  first_among a b all d j at = all d j (append_first a b j d at)
+
+  later_among : (a b : List (Deed g state p q)) → AreAmong (a ++ b) → AreAmong b
+  later_among a b all d j at = all d (length a + j) (append_later a b j d at)
+
+  retried : (s t : Both) (h : Retried state p q s t) → AreAmong (retries_of {g = g} state p q s t h) → Caused s.calls t.calls
+  retried s _ none_yet among = caused_same s.calls s.calls refl
+  retried s _ (one_more u t r rest more e f by) among =
+      let x = without_oldest rest u in let d : Deed g state p q = retries r x t by in
+      let last = later_among (retries_of state p q s u more) (d ∷ []) among d 0 refl in
+      in_turn s.calls u.calls t.calls (retried s u more (first_among (retries_of state p q s u more) (d ∷ []) among))
+      (in_turn u.calls x.calls t.calls (caused_books u.calls x.calls (same_stays u.calls.view x.calls.view refl) refl refl) (retried_by r x t by (λ v c is. missed last.0 d last.1 is refl refl)))
 
   -- what stands in a list is said
   abbrev AreSays : List Told → Type 0
@@ -370,47 +391,58 @@ module _ {O : Type 0} (state : O → OutState) (p : Plan) (q : id_plan.Plan) (xs
 
   -- ## A client's run
 
-  module _ {g : Ghosts O} where
-    acted_caused : (i : ℕ) (x : Task) → get_elem? xs i ≡ some x → (op : Op) → x.op ≡ op → (by : Maybe Outcome) → ((b : Outcome) → by ≡ Some b → Says x.number b) → (s t : Stand g) → Acted state p q x.number op by s t → Caused s.calls t.calls
-    acted_caused i x there (ops.Open n k) is (Some by) says s t h = caused_same s.calls t.calls h.2
-    acted_caused i x there (ops.Send n bytes) is by says s t h = sent_calling n (letter_of x.number bytes) by s.me.0 s.calls t.me.0 t.calls h.0
-    acted_caused i x there (ops.Call asked) is (Some outcome.Unopened) says s t h = caused_same s.calls t.calls h.0.1
-    acted_caused i x there (ops.Call asked) is None says s t h = begun_by asked h.0 (both_of s) (both_of t) h.1
-    acted_caused i x there (ops.Expire of) is (Some by) says s t h = expired_by i x there of is by (says by refl) s.calls t.calls h.0
-    acted_caused i x there (ops.Join of) is (Some by) says s t h = joined_by of by s.calls t.calls h.0
-    acted_caused i x there (ops.Hold n) is (Some by) says s t h = caused_same s.calls t.calls h.2
-    acted_caused i x there (ops.Drop n) is (Some by) says s t h = caused_same s.calls t.calls h.2
-    acted_caused i x there (ops.Fail n code) is (Some by) says s t h = caused_same s.calls t.calls h.2
-    acted_caused i x there _ is _ says s t h = elim h [ ]
+  acted_caused : (i : ℕ) (x : Task) → get_elem? xs i ≡ some x → (op : Op) → x.op ≡ op → (by : Maybe Outcome) → ((b : Outcome) → by ≡ Some b → Says x.number b) → (s t : Stand g) (h : Acted state p q x.number op by s t)
+      → WhyMissed (acted_missed state p q x.number op by s t h) (acted_id state p q x.number op by s t h) 0 → Caused s.calls t.calls
+  acted_caused i x there (ops.Open n k) is (Some by) says s t h why = caused_same s.calls t.calls h.2
+  acted_caused i x there (ops.Send n bytes) is by says s t h why = sent_calling n (letter_of x.number bytes) by s.me.0 s.calls t.me.0 t.calls h.0
+  acted_caused i x there (ops.Call asked) is (Some outcome.Unopened) says s t h why = caused_same s.calls t.calls h.0.1
+  acted_caused i x there (ops.Call asked) is None says s t h why = begun_by asked h.0 (both_of s) (both_of t) h.1 why
+  acted_caused i x there (ops.Expire of) is (Some by) says s t h why = expired_by i x there of is by (says by refl) s.calls t.calls h.0
+  acted_caused i x there (ops.Join of) is (Some by) says s t h why = joined_by of by s.calls t.calls h.0
+  acted_caused i x there (ops.Hold n) is (Some by) says s t h why = caused_same s.calls t.calls h.2
+  acted_caused i x there (ops.Drop n) is (Some by) says s t h why = caused_same s.calls t.calls h.2
+  acted_caused i x there (ops.Fail n code) is (Some by) says s t h why = caused_same s.calls t.calls h.2
+  acted_caused i x there _ is _ says s t h why = elim h [ ]
 
-    pub ran_caused : (n : ℕ) (s t : Course g) → Ran state p q xs n s t → AreSays t.told → Caused s.has.calls t.has.calls
-    ran_caused zero s t e says = caused_same s.has.calls t.has.calls (ap (λ (c : Course g). c.has.calls) e)
-    ran_caused (suc n) s t h says =
-        let m = h.4 in
-        let before : AreSays h.0.told = λ j y at. says j y (ap (λ (l : List Told). get_elem? l j) m.told ∙ append_first h.0.told (telling h.1.number m.by) j y at) in
-        in_turn s.has.calls h.0.has.calls t.has.calls (ran_caused n s h.0 h.2 before)
-        (in_turn h.0.has.calls m.ready.calls t.has.calls (retried (both_of h.0.has) (both_of m.ready) m.retried.all.retried)
-        (acted_caused n h.1 h.3 h.1.op refl m.by (said_now h.1.number m.by h.0.told t.told m.told says) m.ready t.has m.acted))
+  pub ran_caused : (n : ℕ) (s t : Course g) (h : Ran state p q xs n s t) → AreSays t.told → AreAmong (ran_deeds state p q xs n s t h) → Caused s.has.calls t.has.calls
+  ran_caused zero s t e says among = caused_same s.has.calls t.has.calls (ap (λ (c : Course g). c.has.calls) e)
+  ran_caused (suc n) s t h says among =
+      let m = h.4 in
+      let before : AreSays h.0.told = λ j y at. says j y (ap (λ (l : List Told). get_elem? l j) m.told ∙ append_first h.0.told (telling h.1.number m.by) j y at) in
+      let earlier : List (Deed g state p q) = ran_deeds state p q xs n s h.0 h.2 in
+      let again : List (Deed g state p q) = retries_of state p q (both_of h.0.has) (both_of m.ready) m.retried.all.retried in
+      let d : Deed g state p q = operates h.1 m.by m.ready t.has m.acted in
+      let now = later_among earlier (again ++ d ∷ []) among in let last = later_among again (d ∷ []) now d 0 refl in
+      in_turn s.has.calls h.0.has.calls t.has.calls (ran_caused n s h.0 h.2 before (first_among earlier (again ++ d ∷ []) among))
+      (in_turn h.0.has.calls m.ready.calls t.has.calls (retried (both_of h.0.has) (both_of m.ready) m.retried.all.retried (first_among again (d ∷ []) now))
+      (acted_caused n h.1 h.3 h.1.op refl m.by (said_now h.1.number m.by h.0.told t.told m.told says) m.ready t.has m.acted (λ v c is. missed last.0 d last.1 is refl refl)))
 
-    -- a client that made all its operations, from its first one on
-    run_all : (c d : Caller O g) → RunBy state p q false xs c d → AreSays d.outcomes.items → Caused (stand_of c.calls) (stand_of d.calls)
-    run_all c d r says =
-        let all : drop r.made xs ≡ [] = let n = r.ends.0 in drop_all r.made xs (omega arith) in
-        let came : AreSays r.came.outcomes.items = λ j y at. says j y (ap (λ o. get_elem? o.items j) r.told ∙ at) in
-        let a = ran_caused r.made (begins c) (record { has = stand r.came; told = r.came.outcomes.items; names = r.ran.names }) r.ran.ran came in
-        let b = retried (both_of (stand r.came)) (both_of r.last) r.ends.1.all.retried in
-        let e = caused_same r.last.calls (stand_of d.calls) (r.calls ∙ ap (λ (s : Stand g). s.calls) (none_left state p q r.last r.end (drop r.made xs) all r.left)) in
-        in_turn (stand_of c.calls) (stand_of r.came.calls) (stand_of d.calls) a (in_turn (stand_of r.came.calls) r.last.calls (stand_of d.calls) b e)
+  -- all deeds of a client that made all its operations
+  abbrev pub AreDeeds : (c d : Caller O g) → RunBy state p q false xs c d → Type 0
+  AreDeeds c d r = AreAmong (ran_deeds state p q xs r.made (begins c) (record { has = stand r.came; told = r.came.outcomes.items; names = r.ran.names }) r.ran.ran ++ retries_of {g = g} state p q (both_of (stand r.came)) (both_of r.last) r.ends.1.all.retried)
 
-    -- each end of a call that it told, and it had told none before, goes back to an error that was posted
-    pub run_caused : (c d : Caller O g) → RunBy state p q false xs c d → c.calls.told.items ≡ [] → AreSays d.outcomes.items → d.calls.starved ≡ false → AllByRecursion (IsCausedHere d.calls.seat.me.0) d.calls.told.items
-    run_caused c d r none_told says fed =
-        let w = (run_all c d r says).told fed in
-        subst (AllByRecursion (IsCausedHere d.calls.seat.me.0)) (sym (w.1.1 ∙ ap (λ (l : List Told). l ++ w.1.0) none_told)) w.1.2
+  -- from its first operation on
+  run_all : (c d : Caller O g) (r : RunBy state p q false xs c d) → AreDeeds c d r → AreSays d.outcomes.items → Caused (stand_of c.calls) (stand_of d.calls)
+  run_all c d r among says =
+      let all : drop r.made xs ≡ [] = let n = r.ends.0 in drop_all r.made xs (omega arith) in
+      let came : AreSays r.came.outcomes.items = λ j y at. says j y (ap (λ o. get_elem? o.items j) r.told ∙ at) in
+      let last : Course g = record { has = stand r.came; told = r.came.outcomes.items; names = r.ran.names } in
+      let ran : List (Deed g state p q) = ran_deeds state p q xs r.made (begins c) last r.ran.ran in
+      let rest : List (Deed g state p q) = retries_of state p q (both_of (stand r.came)) (both_of r.last) r.ends.1.all.retried in
+      let a = ran_caused r.made (begins c) last r.ran.ran came (first_among ran rest among) in
+      let b = retried (both_of (stand r.came)) (both_of r.last) r.ends.1.all.retried (later_among ran rest among) in
+      let e = caused_same r.last.calls (stand_of d.calls) (r.calls ∙ ap (λ (s : Stand g). s.calls) (none_left state p q r.last r.end (drop r.made xs) all r.left)) in
+      in_turn (stand_of c.calls) (stand_of r.came.calls) (stand_of d.calls) a (in_turn (stand_of r.came.calls) r.last.calls (stand_of d.calls) b e)
 
-    -- and each error that it noted as queued is one that it had a reason to post, where it had noted nothing before
-    pub run_queued : (c d : Caller O g) → RunBy state p q false xs c d → c.calls.seat.me.0.notes ≡ [] → AreSays d.outcomes.items → (i first e : ℕ) → 0 < queued_in i first e d.calls.seat.me.0.notes → QueuedHere d.calls.seat.me.0 i first e
-    run_queued c d r nothing says i first e h = elim ((run_all c d r says).queued i first e h) [
-      | inl before ↦ absurd (let a = ap (queued_in i first e) nothing in omega (arith, a, before))
-      | inr why ↦ why
-    ]
+  -- each end of a call that it told, and it had told none before, goes back to an error that was posted
+  pub run_caused : (c d : Caller O g) (r : RunBy state p q false xs c d) → AreDeeds c d r → c.calls.told.items ≡ [] → AreSays d.outcomes.items → d.calls.starved ≡ false → AllByRecursion (IsCausedHere d.calls.seat.me.0) d.calls.told.items
+  run_caused c d r among none_told says fed =
+      let w = (run_all c d r among says).told fed in
+      subst (AllByRecursion (IsCausedHere d.calls.seat.me.0)) (sym (w.1.1 ∙ ap (λ (l : List Told). l ++ w.1.0) none_told)) w.1.2
+
+  -- and each error that it noted as queued is one that it had a reason to post, where it had noted nothing before
+  pub run_queued : (c d : Caller O g) (r : RunBy state p q false xs c d) → AreDeeds c d r → c.calls.seat.me.0.notes ≡ [] → AreSays d.outcomes.items → (i first e : ℕ) → 0 < queued_in i first e d.calls.seat.me.0.notes → QueuedHere d.calls.seat.me.0 i first e
+  run_queued c d r among nothing says i first e h = elim ((run_all c d r among says).queued i first e h) [
+    | inl before ↦ absurd (let a = ap (queued_in i first e) nothing in omega (arith, a, before))
+    | inr why ↦ why
+  ]

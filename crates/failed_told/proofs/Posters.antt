@@ -29,12 +29,14 @@ use Rattle.rpc_client.specs.declared.acting.Told.{Told}
 use Rattle.call_errors.specs.Locking.{id_in}
 use Rattle.call_run.specs.Threads.{RanOn, ids_of}
 use Rattle.call_places.specs.Counted.{HaveNotesOf}
+use Rattle.call_places.specs.Deeds.{Deed, operates, retries}
 use Rattle.call_places.proofs.Weights.{term}
-use Rattle.call_places.proofs.Clients.{Client, total_map, view_of, tasks_of}
+use Rattle.call_places.proofs.Clients.{Client, total_map, view_of, tasks_of, deeds_of}
 use Rattle.call_places.proofs.Places.{all as all_clients, views_are}
 use Rattle.call_told.specs.Answers.{IsLossCode}
 use Rattle.expire_told.specs.Said.{AreSaid}
-use Rattle.failed_told.specs.Reasons.{Reason, timed_out, gone, refused, unopened, stray, dropped, posted_so, handed_out, Cause}
+use Rattle.failed_told.specs.Missed.{attempt_of}
+use Rattle.failed_told.specs.Reasons.{Reason, timed_out, missed, dropped, posted_so, handed_out, Cause}
 use Rattle.failed_told.proofs.Clients.{Says, queued_caused}
 use Rattle.failed_told.proofs.Views.{queued_in}
 
@@ -63,14 +65,15 @@ timely_low : (attempt : Option ℕ) (n : ℕ) → n ≤ 6 → IsTimely attempt n
 timely_low None n low t = tt
 timely_low (Some m) n low t = omega (arith, low, t)
 
-module _ {O : Type 0} {state : O → OutState} {p : Plan} {q : id_plan.Plan} {xs : List Task} {S : ℕ → Outcome → Type 0} {v : View Asked} {id code : ℕ} {attempt : Option ℕ} where
-  reason_low : Reason state p q xs S v id code attempt → IsLow attempt
-  reason_low (timed_out i x operation by s t h there is says counts keeps a b c) = subst IsLow (sym c) tt
-  reason_low (gone socket msg s t h a b c) = low_of attempt msg.label.attempt msg.numbered c
-  reason_low (refused socket msg by s t h a b c) = low_of attempt msg.label.attempt msg.numbered c
-  reason_low (unopened name msg s t h a b c) = low_of attempt msg.label.attempt msg.numbered c
-  reason_low (stray name msg h a b c) = low_of attempt msg.label.attempt msg.numbered c
-  reason_low (dropped life x s y t h a b c) = low_of attempt h.msg.label.attempt h.msg.numbered c
+module _ {O : Type 0} {g : Ghosts O} {state : O → OutState} {p : Plan} {q : id_plan.Plan} where
+  pub attempt_low : (d : Deed g state p q) → attempt_of d ≤ 6
+  attempt_low (operates x by s t a) = omega arith
+  attempt_low (retries r s t by) = r.low
+
+  reason_low : {xs : List Task} {S : ℕ → Outcome → Type 0} {ds : List (Deed g state p q)} {v : View Asked} {id code : ℕ} {attempt : Option ℕ} → Reason state p q xs S ds v id code attempt → IsLow attempt
+  reason_low {attempt = attempt} (timed_out i x operation by s t h there is says counts keeps a b c) = subst IsLow (sym c) tt
+  reason_low {attempt = attempt} (missed i d there is a b) = low_of attempt (attempt_of d) (attempt_low d) b
+  reason_low {attempt = attempt} (dropped life x s y t h a b c) = low_of attempt h.msg.label.attempt h.msg.numbered c
 
 -- ## The run
 
@@ -95,7 +98,7 @@ module _ {O : Type 0} {g : Ghosts O} {state : O → OutState} {p : Plan} {slots 
     pub place : ℕ
     pub client : Client g state p q
     pub at : get_elem? crew place ≡ some client
-    pub reason : Reason state p q (tasks_of client) (Says run outcomes said) (view_of client) id code attempt
+    pub reason : Reason state p q (tasks_of client) (Says run outcomes said) (deeds_of client) (view_of client) id code attempt
 
   -- an error that clients queued
   by_clients : (k : IdLock Asked) (code : ℕ) (attempt : Option ℕ) → IsLow attempt → 0 < total (λ (v : View Asked). queued_in k.slot (parts k.word.0).first (error_in code attempt) v.notes) ids → Poster (id_in k) code attempt
@@ -107,7 +110,7 @@ module _ {O : Type 0} {g : Ghosts O} {state : O → OutState} {p : Plan} {slots 
       let a = h.slot_is in let b = h.first_is in
       let same : h.id ≡ id_in k = omega (arith, whole, a, b) in
       let e = one_error h.code code h.attempt attempt (reason_low h.reason) low h.error_is in
-      let R : ℕ → ℕ → Option ℕ → Type 0 = λ i z w. Reason state p q (tasks_of s.1) (Says run outcomes said) (view_of s.1) i z w in
+      let R : ℕ → ℕ → Option ℕ → Type 0 = λ i z w. Reason state p q (tasks_of s.1) (Says run outcomes said) (deeds_of s.1) (view_of s.1) i z w in
       record {
         place = s.0;
         client = s.1;
@@ -122,7 +125,7 @@ module _ {O : Type 0} {g : Ghosts O} {state : O → OutState} {p : Plan} {slots 
   ]
 
   -- the error of a lock of a client
-  pub posted_by : (c : ℕ) (x : Client g state p q) → get_elem? crew c ≡ some x → (k : IdLock Asked) (code : ℕ) (attempt : Option ℕ) → Cause state p q (tasks_of x) (Says run outcomes said) (view_of x) k code attempt → Poster (id_in k) code attempt ⊎ IsLossCode code
+  pub posted_by : (c : ℕ) (x : Client g state p q) → get_elem? crew c ≡ some x → (k : IdLock Asked) (code : ℕ) (attempt : Option ℕ) → Cause state p q (tasks_of x) (Says run outcomes said) (deeds_of x) (view_of x) k code attempt → Poster (id_in k) code attempt ⊎ IsLossCode code
   posted_by c x at k code attempt cause = elim cause.origin [
     | posted_so reason ↦ inl (record { place = c; client = x; at = at; reason = reason })
     | handed_out word found locked first oldest some_ ↦ queued_by k code attempt (timely_low attempt (parts k.word.0).attempt (let a = k.fits.room in let b = k.fits.range_high in omega (arith, a, b)) cause.timely) (

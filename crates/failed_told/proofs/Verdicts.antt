@@ -7,7 +7,7 @@ use lib.ListN.{get_elem?}
 use Rattle.call_places.specs.report_fits.proofs.Lists.{contains_from}
 use Rattle.sock_io.specs.declared.link.Out.{Ghosts}
 use Rattle.sock_io.specs.Link.{OutState}
-use Rattle.sock_words.specs.Codes.{EFAILEDSOCKET, EREQUESTS, ERPCTIMEDOUT}
+use Rattle.sock_words.specs.Codes.{ERPCTIMEDOUT}
 use Rattle.sock_words.specs.declared.outcome.Outcome.{Outcome}
 use Rattle.sock_words.specs.declared.outcome.Outcome.TheVariants as outcome
 use Rattle.sock_words.specs.declared.plain.Plan.{Plan}
@@ -35,8 +35,6 @@ use Rattle.corr_id.specs.Posts.{IsTimely}
 use Rattle.corr_id.specs.declared.calls.IdLock.{IdLock}
 use Rattle.corr_id.proofs.Ranges.{lock_range}
 use Rattle.rpc_client.specs.declared.acting.Told.{Told}
-use Rattle.write_chain.specs.declared.entry.Refused.TheVariants as refusal
-use Rattle.write_chain.specs.declared.entry.Refused.{Refused}
 use Rattle.call_table.specs.Errors.{is_final}
 use Rattle.call_table.specs.declared.errors.Decision.TheVariants as decisions
 use Rattle.call_errors.specs.Books.{CallStand}
@@ -44,11 +42,11 @@ use Rattle.call_errors.specs.Locking.{id_in}
 use Rattle.call_errors.specs.Ending.{failed}
 use Rattle.call_errors.specs.Handling.{decision}
 use Rattle.call_writes.specs.Draining.{DroppedOne}
-use Rattle.call_attempts.specs.Attempting.{code_for}
 use Rattle.call_run.specs.Threads.{RanOn, MayRunAll, ids_of}
 use Rattle.call_places.specs.Counted.{HaveNotesOf}
+use Rattle.call_places.specs.Deeds.{Deed}
 use Rattle.call_places.proofs.Weights.{mapped}
-use Rattle.call_places.proofs.Clients.{Client, view_of, tasks_of}
+use Rattle.call_places.proofs.Clients.{Client, view_of, tasks_of, deeds_of}
 use Rattle.call_places.proofs.Places.{all as all_clients, tasks_are}
 use Rattle.call_told.specs.Answers.{IsLossCode}
 use Rattle.call_told.specs.Least.{is_made_for, is_locked_for}
@@ -57,8 +55,10 @@ use Rattle.call_told.proofs.Least.{lock_of, end_number}
 use Rattle.expire_told.specs.Said.{AreSaid, HaveKeptOf}
 use Rattle.expire_told.proofs.Expires.{found_maker}
 use Rattle.expire_told.proofs.Making.{slice_at}
-use Rattle.failed_told.specs.Reasons.{KeepsWord, Reason, timed_out, gone, refused, unopened, stray, dropped, IsCaused}
+use Rattle.failed_told.specs.Missed.{missed_in, id_of, attempt_of}
+use Rattle.failed_told.specs.Reasons.{KeepsWord, Reason, timed_out, missed, dropped, IsCaused}
 use Rattle.failed_told.proofs.Clients.{Says}
+use Rattle.failed_told.proofs.Codes.{IsMissCode, deed_code}
 use Rattle.failed_told.proofs.Posters.{Poster, within, posted_by}
 use Rattle.failed_told.proofs.Views.{queued_in}
 
@@ -87,14 +87,6 @@ pub record WasDropped {O : Type 0} (state : O → OutState) (p : Plan) (q : id_p
   pub owner : id ≡ drop.msg.owner
   pub code_is : code ≡ drop.code
   pub attempt_is : n ≡ drop.msg.label.attempt
-
--- the codes with which an attempt is lost: its socket was gone, each request was taken, or its message was dropped
-abbrev pub IsLostBy : {O : Type 0} (state : O → OutState) (p : Plan) (q : id_plan.Plan) (id code n : ℕ) → Type 0
-IsLostBy state p q id code n = (code ≡ EFAILEDSOCKET) ⊎ ((code ≡ EREQUESTS) ⊎ WasDropped state p q id code n)
-
-refused_code : {O : Type 0} (state : O → OutState) (p : Plan) (q : id_plan.Plan) (id code : ℕ) (by : Refused) → code ≡ code_for by → (n : ℕ) → IsLostBy state p q id code n
-refused_code state p q id code (refusal.Failed sock msg found) e n = inl e
-refused_code state p q id code (refusal.Full sock msg) e n = inr (inl e)
 
 -- ## The run
 
@@ -125,7 +117,7 @@ module _ {O : Type 0} {g : Ghosts O} {state : O → OutState} {p : Plan} {slots 
       (tasks_of y, slice_at every d (tasks_of y) its, contains_from (tasks_of y) t (i, slice_at (tasks_of y) i t there))
 
   -- of an end that client c told, and had a cause for
-  module _ (c : ℕ) (x : Client g state p q) (at : get_elem? crew c ≡ some x) (one : Told) (e : IsCaused state p q (tasks_of x) (Says run outcomes said_own) (view_of x) one) where
+  module _ (c : ℕ) (x : Client g state p q) (at : get_elem? crew c ≡ some x) (one : Told) (e : IsCaused state p q (tasks_of x) (Says run outcomes said_own) (deeds_of x) (view_of x) one) where
     abbrev pub lock : IdLock Asked
     lock = e.lock
 
@@ -177,30 +169,45 @@ module _ {O : Type 0} {g : Ghosts O} {state : O → OutState} {p : Plan} {slots 
 
       -- ## Why it ended
 
-      -- its current attempt was lost, for a reason that some client had
-      pub record LostLast : Type 0 where
-        pub attempt : ℕ
-        pub for_it : e.attempt ≡ Some attempt
-        pub current : attempt ≡ (parts lock.word.0).attempt
-        pub poster : PosterHere id e.code (Some attempt)
-        pub by : IsLostBy state p q id e.code attempt
+      -- an error for an attempt is for the current one
+      abbrev IsCurrent : ℕ → Type 0
+      IsCurrent n = (e.attempt ≡ Some n) × (n ≡ (parts lock.word.0).attempt)
 
-      -- its time was out, its attempt was lost, or whoever read the links ended it
+      -- its current attempt came to nothing, as one of the clients' deeds
+      pub record MissedLast : Type 0 where
+        pub attempt : ℕ
+        pub current : IsCurrent attempt
+        pub place : ℕ
+        pub client : Client g state p q
+        pub at : get_elem? crew place ≡ some client
+        pub index : ℕ
+        pub deed : Deed g state p q
+        pub there : get_elem? (deeds_of client) index ≡ some deed
+        pub missed : missed_in deed ≡ Some e.code
+        pub id_is : id ≡ id_of deed
+        pub attempt_is : attempt ≡ attempt_of deed
+
+      -- or its message was dropped
+      pub record DroppedLast : Type 0 where
+        pub attempt : ℕ
+        pub current : IsCurrent attempt
+        pub drop : WasDropped state p q id e.code attempt
+
+      -- its time was out, its attempt came to nothing or was dropped, or whoever read the links ended it
       pub data Verdict : Type 0 where
         timed : e.code ≡ ERPCTIMEDOUT → WasExpired → Verdict
-        lost : LostLast → Verdict
+        lost : MissedLast → Verdict
+        fell : DroppedLast → Verdict
         behind : IsLossCode e.code → Verdict
 
-      by_lost : (w : PosterHere id e.code e.attempt) (n : ℕ) → e.attempt ≡ Some n → IsLostBy state p q id e.code n → Verdict
-      by_lost w n is by = lost (record { attempt = n; for_it = is; current = subst (λ (a : Option ℕ). IsTimely a (parts lock.word.0).attempt) is e.cause.timely; poster = subst (λ (a : Option ℕ). PosterHere id e.code a) is w; by = by })
+      is_current : (n : ℕ) → e.attempt ≡ Some n → IsCurrent n
+      is_current n is = (is, subst (λ (a : Option ℕ). IsTimely a (parts lock.word.0).attempt) is e.cause.timely)
 
-      by_reason : (w : PosterHere id e.code e.attempt) → Reason state p q (tasks_of w.client) (Says run outcomes said_own) (view_of w.client) id e.code e.attempt → Verdict
+      by_reason : (w : PosterHere id e.code e.attempt) → Reason state p q (tasks_of w.client) (Says run outcomes said_own) (deeds_of w.client) (view_of w.client) id e.code e.attempt → Verdict
       by_reason w (timed_out i t o by s u h there is says counts kept_ a b z) = timed b (expired_with o w.place i w.client t by w.at there is says counts kept_)
-      by_reason w (gone socket msg s t h a b z) = by_lost w msg.label.attempt z (inl b)
-      by_reason w (refused socket msg by s t h a b z) = by_lost w msg.label.attempt z (refused_code state p q id e.code by b msg.label.attempt)
-      by_reason w (unopened name msg s t h a b z) = by_lost w msg.label.attempt z (inl b)
-      by_reason w (stray name msg h a b z) = by_lost w msg.label.attempt z (inl b)
-      by_reason w (dropped life wrote s behind_ t h a b z) = by_lost w h.msg.label.attempt z (inr (inr (record { life = life; before = wrote; calls = s; after = behind_; calls_after = t; drop = h; owner = a; code_is = b; attempt_is = refl })))
+      by_reason w (missed i d there is a z) = lost (record { attempt = attempt_of d; current = is_current (attempt_of d) z; place = w.place; client = w.client; at = w.at; index = i; deed = d; there = there; missed = is; id_is = a; attempt_is = refl })
+      by_reason w (dropped life before s after t h a b z) =
+          fell (record { attempt = h.msg.label.attempt; current = is_current h.msg.label.attempt z; drop = record { life = life; before = before; calls = s; after = after; calls_after = t; drop = h; owner = a; code_is = b; attempt_is = refl } })
 
       pub verdict : Verdict
       verdict = elim (posted_by run outcomes said_own notes kept words closing noted others c x at lock e.code e.attempt e.cause) [ inl w ↦ by_reason w w.reason | inr loss ↦ behind loss ]
@@ -222,13 +229,13 @@ module _ {O : Type 0} {g : Ghosts O} {state : O → OutState} {p : Plan} {slots 
         pub task : IsTask every outcomes client record { number = operation; op = ops.Call asked }
         pub last : n + 2 ≡ asked.range
 
-      open_code : (e.code ≡ EFAILEDSOCKET) ⊎ (e.code ≡ EREQUESTS) → is_final e.code ≡ false
+      open_code : IsMissCode e.code → is_final e.code ≡ false
       open_code (inl a) = ap is_final a
       open_code (inr a) = ap is_final a
 
-      -- an attempt that was lost as its socket was gone, or as each request was taken, was the last one that the call may have
-      pub last_attempt : IsAskedSo → (l : LostLast) → (e.code ≡ EFAILEDSOCKET) ⊎ (e.code ≡ EREQUESTS) → AskedLast l.attempt
-      last_attempt asks l by =
+      -- an attempt that came to nothing was the last one that the call may have
+      pub last_attempt : IsAskedSo → (l : MissedLast) → AskedLast l.attempt
+      last_attempt asks l =
           let m = made_so in let w = asks lock.slot m.1 (parts lock.word.0).first (parts lock.word.0).range m.0 e.cause.inside m.3 in
-          let a = last_one lock e.code l.attempt (open_code by) (subst (λ (z : Option ℕ). decision lock e.code z ≡ decisions.End) l.for_it e.ends) in let b = l.current in let r = w.2 in
+          let a = last_one lock e.code l.attempt (open_code (deed_code l.deed e.code l.missed)) (subst (λ (z : Option ℕ). decision lock e.code z ≡ decisions.End) l.current.0 e.ends) in let b = l.current.1 in let r = w.2 in
           record { client = w.0; asked = m.0; task = subst (λ (o : ℕ). IsTask every outcomes w.0 record { number = o; op = ops.Call m.0 }) m.2 w.1; last = omega (arith, a, b, r) }

@@ -3,14 +3,13 @@ use Rattle.std.specs.Prelude.{◌≡◌, ◌≢◌, ℕ, ◌<◌, ◌⊎◌, Lis
 use Rattle.std.specs.Prelude.{Option as Maybe}
 use mathlib.Core.Option.{some}
 use lib.ListN.{get_elem?}
+use Rattle.sock_io.specs.declared.link.Out.{Ghosts}
 use Rattle.sock_io.specs.Link.{OutState}
-use Rattle.sock_words.specs.Codes.{EFAILEDSOCKET, ERPCTIMEDOUT}
+use Rattle.sock_words.specs.Codes.{ERPCTIMEDOUT}
 use Rattle.sock_words.specs.declared.outcome.Outcome.{Outcome}
 use Rattle.sock_words.specs.declared.outcome.Outcome.TheVariants as outcome
 use Rattle.sock_words.specs.declared.plain.Plan.{Plan}
-use Rattle.sock_words.specs.declared.socket_id.SocketId.{SocketId}
 use Rattle.sock_model.specs.declared.view.View as sock_view
-use Rattle.sock_rule.specs.declared.homes.Letter.{Letter}
 use Rattle.sock_programs.specs.declared.task.Op.TheVariants as ops
 use Rattle.sock_programs.specs.declared.task.Task.{Task}
 use Rattle.corr_core.specs.Word.{parts}
@@ -27,8 +26,6 @@ use Rattle.corr_id.specs.Calls.{Found, slot_of, version_of, error_in}
 use Rattle.corr_id.specs.Posts.{IsTimely}
 use Rattle.call_table.specs.declared.errors.Decision.TheVariants as decisions
 use Rattle.rpc_client.specs.declared.acting.Told.{Told}
-use Rattle.write_chain.specs.declared.entry.Refused.{Refused}
-use Rattle.sock_table.specs.Named.{Found as SocketFound}
 use Rattle.call_errors.specs.Books.{CallStand}
 use Rattle.call_errors.specs.Locking.{id_in}
 use Rattle.call_errors.specs.Ending.{failed}
@@ -36,9 +33,8 @@ use Rattle.call_errors.specs.Handling.{decision}
 use Rattle.call_errors.specs.Asking.{TimedOut}
 use Rattle.call_writes.specs.Draining.{DroppedOne}
 use Rattle.call_told.specs.Least.{is_locked_for}
-use Rattle.call_attempts.specs.Both.{Both}
-use Rattle.call_attempts.specs.Attempting.{code_for, FoundGone, CameBack}
-use Rattle.call_attempts.specs.Retrying.{IsStray}
+use Rattle.call_places.specs.Deeds.{Deed}
+use Rattle.failed_told.specs.Missed.{missed_in, id_of, attempt_of}
 
 -- the post locked the id, or its error was queued there
 abbrev pub Counts : Posted Asked → Type 0
@@ -50,17 +46,13 @@ Counts other = ⊥
 abbrev pub KeepsWord : ℕ → ℕ → View Asked → Type 0
 KeepsWord place word v = 0 < total (λ (k : Kept). pair place word k.place k.word) v.kept
 
--- a client was asked for these operations, and says these outcomes of them
-module _ {O : Type 0} (state : O → OutState) (p : Plan) (q : id_plan.Plan) (xs : List Task) (Says : ℕ → Outcome → Type 0) where
-  -- the error with this code was posted to the call with this id, for the attempt or for the whole call: by an `expire`; since the attempt found its socket gone, or the name without one, or was of a call that the tables don't have; since
-  -- its frame came back; or since its message was dropped, with the code of the socket's life
+-- a client was asked for these operations, says these outcomes of them, and did these deeds
+module _ {O : Type 0} {g : Ghosts O} (state : O → OutState) (p : Plan) (q : id_plan.Plan) (xs : List Task) (Says : ℕ → Outcome → Type 0) (ds : List (Deed g state p q)) where
+  -- the error with this code was posted to the call with this id, for the attempt or for the whole call: by an `expire`; since the attempt, one of the client's deeds, came to nothing; or since its message was dropped, with the code of the socket's life
   pub data Reason (v : View Asked) (id code : ℕ) (attempt : Maybe ℕ) : Type 0 where
     timed_out : (i : ℕ) (x : Task) (operation : ℕ) (by : Outcome) (s t : CallStand) (h : TimedOut q operation by s t) → get_elem? xs i ≡ some x → x.op ≡ ops.Expire operation → Says x.number by → (by ≡ outcome.Expired) ⊎ (by ≡ outcome.Queued) → KeepsWord (call_word q operation) id v
         → id ≡ h.id → code ≡ ERPCTIMEDOUT → attempt ≡ None → Reason v id code attempt
-    gone : (socket : SocketId) (msg : Letter) (s t : Both) → FoundGone state p q socket msg s t → id ≡ msg.owner → code ≡ EFAILEDSOCKET → attempt ≡ Some msg.label.attempt → Reason v id code attempt
-    refused : (socket : SocketId) (msg : Letter) (by : Refused) (s t : Both) → CameBack state p q socket msg by s t → id ≡ msg.owner → code ≡ code_for by → attempt ≡ Some msg.label.attempt → Reason v id code attempt
-    unopened : (name : ℕ) (msg : Letter) (s t : Both) → SocketFound p name None s.socks t.socks → id ≡ msg.owner → code ≡ EFAILEDSOCKET → attempt ≡ Some msg.label.attempt → Reason v id code attempt
-    stray : (name : ℕ) (msg : Letter) → IsStray p q name msg.label.operation → id ≡ msg.owner → code ≡ EFAILEDSOCKET → attempt ≡ Some msg.label.attempt → Reason v id code attempt
+    missed : (i : ℕ) (d : Deed g state p q) → get_elem? ds i ≡ some d → missed_in d ≡ Some code → id ≡ id_of d → attempt ≡ Some (attempt_of d) → Reason v id code attempt
     dropped : (life : ℕ) (a : sock_view.View) (s : CallStand) (b : sock_view.View) (t : CallStand) (d : DroppedOne state p q.slots life a s b t) → id ≡ d.msg.owner → code ≡ d.code → attempt ≡ Some d.msg.label.attempt → Reason v id code attempt
 
   -- an error that is queued for the id with this first version in slot i is one that the client had a reason to post
