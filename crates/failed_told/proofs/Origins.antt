@@ -60,8 +60,8 @@ use Rattle.call_client.specs.Running.{Course, Ran, begins, RunBy}
 use Rattle.rpc_client.specs.declared.acting.Told.{Told}
 use Rattle.call_places.specs.Deeds.{Deed, operates, retries, retries_of, ran_deeds}
 use Rattle.call_client.proofs.Telling.{did_total}
-use Rattle.call_told.specs.Least.{is_locked_for}
-use Rattle.call_told.proofs.Ends.{HasLocked, got_locked}
+use Rattle.call_told.specs.Least.{is_made_for, is_locked_for}
+use Rattle.call_told.proofs.Ends.{made_silent, counted_here, HasLocked, got_locked}
 use Rattle.call_told.proofs.Lists.{all_both, all_then}
 use Rattle.call_told.proofs.Resting.{is_word}
 use Rattle.call_told.proofs.Runs.{none_left}
@@ -70,7 +70,7 @@ use Rattle.rpc_client.specs.Running.{telling}
 use Rattle.call_table.specs.declared.errors.Decision.TheVariants as decisions
 use Rattle.call_errors.specs.Locking.{id_in}
 use Rattle.failed_told.specs.Reasons.{Counts, Reason, timed_out, missed, dropped, QueuedFor, Origin, posted_so, handed_out, IsSeen, Cause, IsCaused}
-use Rattle.failed_told.specs.Missed.{delivery_missed, attempt_missed, went_missed, retry_missed, acted_missed, acted_id}
+use Rattle.failed_told.specs.Missed.{delivery_missed, attempt_missed, went_missed, retry_missed, acted_missed, acted_id, IsMadeBy, IsBacked}
 use Rattle.failed_told.proofs.Views.{queued_silent, queued_in, Later, later_then, Stays, one_none, queued_one, same_stays, then_stays, did_later, did_stays, quiet_stays, kept_stays, ended_stays, got_stays, opened_stays, handed_stays}
 
 -- the lock that was got has the word that was found
@@ -116,9 +116,24 @@ module _ {O : Type 0} {g : Ghosts O} (state : O → OutState) (p : Plan) (q : id
 
   -- ## In later views
 
+  made_later : (v w : View Asked) → Later v w → (number : ℕ) (op : Op) (by : Maybe Outcome) (s t : Stand g) (a : Acted state p q number op by s t) → IsMadeBy state p q v number op by s t a → IsMadeBy state p q w number op by s t a
+  made_later v w l number (ops.Call asked) None s t a h = let z = l.notes (slot_of a.0) (is_made_for (version_of a.0) asked.operation) in omega (arith, z, h)
+  made_later v w l number (ops.Call asked) (Some by) s t a h = tt
+  made_later v w l number (ops.Open n k) by s t a h = tt
+  made_later v w l number (ops.Send n bytes) by s t a h = tt
+  made_later v w l number (ops.Expire of) by s t a h = tt
+  made_later v w l number (ops.Join of) by s t a h = tt
+  made_later v w l number (ops.Hold n) by s t a h = tt
+  made_later v w l number (ops.Drop n) by s t a h = tt
+  made_later v w l number (ops.Fail n code) by s t a h = tt
+
+  backed_later : (v w : View Asked) → Later v w → (d : Deed g state p q) → IsBacked v d → IsBacked w d
+  backed_later v w l (operates x by s t a) h = made_later v w l x.number x.op by s t a h
+  backed_later v w l (retries r s t by) h = tt
+
   reason_later : (v w : View Asked) → Later v w → (id code : ℕ) (attempt : Maybe ℕ) → ReasonHere v id code attempt → ReasonHere w id code attempt
   reason_later v w l id code attempt (timed_out i x operation by s t h there is says counts keeps a b c) = timed_out i x operation by s t h there is says counts (let z = l.kept (is_word (call_word q operation) id) in omega (arith, z, keeps)) a b c
-  reason_later v w l id code attempt (missed i d there is a b) = missed i d there is a b
+  reason_later v w l id code attempt (missed i d there is backed a b) = missed i d there is (backed_later v w l d backed) a b
   reason_later v w l id code attempt (dropped life x s y t h a b c) = dropped life x s y t h a b c
 
   queued_later : (v w : View Asked) → Later v w → (i first e : ℕ) → QueuedHere v i first e → QueuedHere w i first e
@@ -321,33 +336,53 @@ module _ {O : Type 0} {g : Ghosts O} (state : O → OutState) (p : Plan) (q : id
 
   -- ## Attempts
 
-  -- where it came to nothing, with a code, there is this reason
-  abbrev WhyMissed : Maybe ℕ → ℕ → ℕ → Type 0
-  WhyMissed code id n = (v : View Asked) (c : ℕ) → code ≡ Some c → ReasonHere v id c (Some n)
+  -- where it came to nothing, with a code, and this is known, there is this reason
+  abbrev WhyMissed : Maybe ℕ → ℕ → ℕ → (View Asked → Type 0) → Type 0
+  WhyMissed code id n Known = (v : View Asked) (c : ℕ) → code ≡ Some c → Known v → ReasonHere v id c (Some n)
 
-  delivered_by : (socket : SocketId) (msg : Letter) (s t : Both) (d : DeliveredBy state p q socket msg s t) → WhyMissed (delivery_missed state p q socket msg s t d) msg.owner msg.label.attempt → Caused s.calls t.calls
-  delivered_by socket msg s t (went_out w) why = drained socket.0 w.taken s.calls w.through.wrote t.calls w.through.drained
-  delivered_by socket msg s t (came_back by c) why = posted s.calls msg.owner (code_for by) (Some msg.label.attempt) t.calls c.posted (λ counts. why s.calls.view (code_for by) refl)
+  module _ (Known : View Asked → Type 0) (still : (v w : View Asked) → Later v w → Known v → Known w) where
+    delivered_by : (socket : SocketId) (msg : Letter) (s t : Both) (d : DeliveredBy state p q socket msg s t) → Known s.calls.view → WhyMissed (delivery_missed state p q socket msg s t d) msg.owner msg.label.attempt Known → Caused s.calls t.calls
+    delivered_by socket msg s t (went_out w) known why = drained socket.0 w.taken s.calls w.through.wrote t.calls w.through.drained
+    delivered_by socket msg s t (came_back by c) known why = posted s.calls msg.owner (code_for by) (Some msg.label.attempt) t.calls c.posted (λ counts. why s.calls.view (code_for by) refl known)
 
-  attempted_by : (socket : SocketId) (msg : Letter) (s t : Both) (a : AttemptedBy state p q socket msg s t) → WhyMissed (attempt_missed state p q socket msg s t a) msg.owner msg.label.attempt → Caused s.calls t.calls
-  attempted_by socket msg s t (nowhere g) why = posted s.calls msg.owner EFAILEDSOCKET (Some msg.label.attempt) t.calls g.posted (λ counts. why s.calls.view EFAILEDSOCKET refl)
-  attempted_by socket msg s t (over_link u l d) why = in_turn s.calls u.calls t.calls (caused_seen s.calls u.calls (kept_stays s.calls.view u.calls.view _ _ _ l.stored) l.books) (delivered_by socket msg u t d why)
+    attempted_by : (socket : SocketId) (msg : Letter) (s t : Both) (a : AttemptedBy state p q socket msg s t) → Known s.calls.view → WhyMissed (attempt_missed state p q socket msg s t a) msg.owner msg.label.attempt Known → Caused s.calls t.calls
+    attempted_by socket msg s t (nowhere g) known why = posted s.calls msg.owner EFAILEDSOCKET (Some msg.label.attempt) t.calls g.posted (λ counts. why s.calls.view EFAILEDSOCKET refl known)
+    attempted_by socket msg s t (over_link u l d) known why =
+        let stays = kept_stays s.calls.view u.calls.view _ _ _ l.stored in
+        in_turn s.calls u.calls t.calls (caused_seen s.calls u.calls stays l.books) (delivered_by socket msg u t d (still s.calls.view u.calls.view stays.later known) why)
 
-  begun_by : (asked : Asked) (id : ℕ) (s t : Both) (h : CalledBy state p q asked (called.Begun id) s t) → WhyMissed (attempt_missed state p q h.socket _ h.at t h.attempted) id 0 → Caused s.calls t.calls
+    went_to : (name : ℕ) (msg : Letter) (s t : Both) (w : WentTo state p q name msg s t) → Known s.calls.view → WhyMissed (went_missed state p q name msg s t w) msg.owner msg.label.attempt Known → Caused s.calls t.calls
+    went_to name msg s t (stray a e h) known why = posted s.calls msg.owner EFAILEDSOCKET (Some msg.label.attempt) t.calls h (λ counts. why s.calls.view EFAILEDSOCKET refl known)
+    went_to name msg s t (unopened f h) known why = posted s.calls msg.owner EFAILEDSOCKET (Some msg.label.attempt) t.calls h (λ counts. why s.calls.view EFAILEDSOCKET refl known)
+    went_to name msg s t (to_socket socket u f e a) known why = let same = caused_same s.calls u.calls e in in_turn s.calls u.calls t.calls same (attempted_by socket msg u t a (still s.calls.view u.calls.view same.later known) why)
+
+  -- the id was made for the operation
+  abbrev IsMade : ℕ → ℕ → View Asked → Type 0
+  IsMade operation id v = 0 < total (is_made_for (version_of id) operation) (notes_of (slot_of id) v.notes)
+
+  made_still : (operation id : ℕ) (v w : View Asked) → Later v w → IsMade operation id v → IsMade operation id w
+  made_still operation id v w l h = let a = l.notes (slot_of id) (is_made_for (version_of id) operation) in omega (arith, a, h)
+
+  begun_by : (asked : Asked) (id : ℕ) (s t : Both) (h : CalledBy state p q asked (called.Begun id) s t) → WhyMissed (attempt_missed state p q h.socket _ h.at t h.attempted) id 0 (IsMade asked.operation id) → Caused s.calls t.calls
   begun_by asked id s t h why =
       let m = h.made_for in let u : CallStand = record { view = m.view; books = s.calls.books } in let n : Note Asked = Made (version_of id) asked.range asked in
+      let f : Note Asked → ℕ = is_made_for (version_of id) asked.operation in
       let made = did_stays (slot_of id) s.calls.view m.view _ (one (slot_of id) n) (one_none (slot_of id) n (λ x y. refl)) m.made.did in
-      in_turn s.calls h.at.calls t.calls (in_turn s.calls u h.at.calls (caused_seen s.calls u made refl) (caused_seen u h.at.calls (kept_stays m.view h.at.calls.view _ _ _ m.noted) m.books)) (attempted_by h.socket _ h.at t h.attempted why)
+      let noted = kept_stays m.view h.at.calls.view _ _ _ m.noted in
+      let known : IsMade asked.operation id h.at.calls.view = (
+      let a = did_total f (made_silent (version_of id) asked.operation) (slot_of id) s.calls.view m.view _ (one (slot_of id) n) m.made.did (slot_of id) in
+      let b = counted_here f (slot_of id) n in let c = pair-same (version_of id) asked.operation in let d = noted.later.notes (slot_of id) f in omega (arith, a, b, c, d)
+      ) in
+      in_turn s.calls h.at.calls t.calls (in_turn s.calls u h.at.calls (caused_seen s.calls u made refl) (caused_seen u h.at.calls noted m.books)) (attempted_by (IsMade asked.operation id) (made_still asked.operation id) h.socket _ h.at t h.attempted known why)
 
-  went_to : (name : ℕ) (msg : Letter) (s t : Both) (w : WentTo state p q name msg s t) → WhyMissed (went_missed state p q name msg s t w) msg.owner msg.label.attempt → Caused s.calls t.calls
-  went_to name msg s t (stray a e h) why = posted s.calls msg.owner EFAILEDSOCKET (Some msg.label.attempt) t.calls h (λ counts. why s.calls.view EFAILEDSOCKET refl)
-  went_to name msg s t (unopened f h) why = posted s.calls msg.owner EFAILEDSOCKET (Some msg.label.attempt) t.calls h (λ counts. why s.calls.view EFAILEDSOCKET refl)
-  went_to name msg s t (to_socket socket u f e a) why = in_turn s.calls u.calls t.calls (caused_same s.calls u.calls e) (attempted_by socket msg u t a why)
+  -- of a retry nothing is known besides
+  abbrev Nothing : View Asked → Type 0
+  Nothing v = Unit {0}
 
   locked : (r : Retry) (k : IdLock Asked) (s t : Both) → Locked state p q r k s t → Caused s.calls t.calls
   locked r k s t l = caused_seen s.calls t.calls (got_stays k.slot s.calls.view t.calls.view l.got.word (parts k.word.0) k.content l.got.got) l.books
 
-  retried_by : (r : Retry) (s t : Both) (by : RetriedBy state p q r s t) → WhyMissed (retry_missed state p q r s t by) r.id r.attempt → Caused s.calls t.calls
+  retried_by : (r : Retry) (s t : Both) (by : RetriedBy state p q r s t) → WhyMissed (retry_missed state p q r s t by) r.id r.attempt Nothing → Caused s.calls t.calls
   retried_by r s t (had_ended h) why = caused_seen s.calls t.calls (quiet_stays s.calls.view t.calls.view h.gone.quiet) h.books
   retried_by r s t (overtaken k u l o) why =
       let x : CallStand = record { view = o.view; books = u.calls.books } in
@@ -355,7 +390,7 @@ module _ {O : Type 0} {g : Ghosts O} (state : O → OutState) (p : Plan) (q : id
       in_turn s.calls u.calls t.calls (locked r k s u l) (in_turn u.calls x t.calls (caused_seen u.calls x (handed_stays u.calls.view o.view k o.next false o.code o.attempt o.unlocked) refl) (decided o.decided (next_cause u.calls.view o.view k o.next false o.code o.attempt l.got.inside has o.unlocked)))
   retried_by r s t (went_again k u l w) why =
       let x : CallStand = record { view = w.view; books = u.calls.books } in
-      in_turn s.calls u.calls t.calls (locked r k s u l) (in_turn u.calls x t.calls (caused_seen u.calls x (opened_stays u.calls.view w.view k false w.unlocked) refl) (went_to _ _ (record { socks = u.socks; calls = x }) t w.went why))
+      in_turn s.calls u.calls t.calls (locked r k s u l) (in_turn u.calls x t.calls (caused_seen u.calls x (opened_stays u.calls.view w.view k false w.unlocked) refl) (went_to Nothing (λ v y l h. tt) _ _ (record { socks = u.socks; calls = x }) t w.went tt why))
 
   -- ## Deeds
 
@@ -378,7 +413,7 @@ module _ {O : Type 0} {g : Ghosts O} (state : O → OutState) (p : Plan) (q : id
       let x = without_oldest rest u in let d : Deed g state p q = retries r x t by in
       let last = later_among (retries_of state p q s u more) (d ∷ []) among d 0 refl in
       in_turn s.calls u.calls t.calls (retried s u more (first_among (retries_of state p q s u more) (d ∷ []) among))
-      (in_turn u.calls x.calls t.calls (caused_books u.calls x.calls (same_stays u.calls.view x.calls.view refl) refl refl) (retried_by r x t by (λ v c is. missed last.0 d last.1 is refl refl)))
+      (in_turn u.calls x.calls t.calls (caused_books u.calls x.calls (same_stays u.calls.view x.calls.view refl) refl refl) (retried_by r x t by (λ v c is known. missed last.0 d last.1 is tt refl refl)))
 
   -- what stands in a list is said
   abbrev AreSays : List Told → Type 0
@@ -392,7 +427,7 @@ module _ {O : Type 0} {g : Ghosts O} (state : O → OutState) (p : Plan) (q : id
   -- ## A client's run
 
   acted_caused : (i : ℕ) (x : Task) → get_elem? xs i ≡ some x → (op : Op) → x.op ≡ op → (by : Maybe Outcome) → ((b : Outcome) → by ≡ Some b → Says x.number b) → (s t : Stand g) (h : Acted state p q x.number op by s t)
-      → WhyMissed (acted_missed state p q x.number op by s t h) (acted_id state p q x.number op by s t h) 0 → Caused s.calls t.calls
+      → WhyMissed (acted_missed state p q x.number op by s t h) (acted_id state p q x.number op by s t h) 0 (λ v. IsMadeBy state p q v x.number op by s t h) → Caused s.calls t.calls
   acted_caused i x there (ops.Open n k) is (Some by) says s t h why = caused_same s.calls t.calls h.2
   acted_caused i x there (ops.Send n bytes) is by says s t h why = sent_calling n (letter_of x.number bytes) by s.me.0 s.calls t.me.0 t.calls h.0
   acted_caused i x there (ops.Call asked) is (Some outcome.Unopened) says s t h why = caused_same s.calls t.calls h.0.1
@@ -415,7 +450,7 @@ module _ {O : Type 0} {g : Ghosts O} (state : O → OutState) (p : Plan) (q : id
       let now = later_among earlier (again ++ d ∷ []) among in let last = later_among again (d ∷ []) now d 0 refl in
       in_turn s.has.calls h.0.has.calls t.has.calls (ran_caused n s h.0 h.2 before (first_among earlier (again ++ d ∷ []) among))
       (in_turn h.0.has.calls m.ready.calls t.has.calls (retried (both_of h.0.has) (both_of m.ready) m.retried.all.retried (first_among again (d ∷ []) now))
-      (acted_caused n h.1 h.3 h.1.op refl m.by (said_now h.1.number m.by h.0.told t.told m.told says) m.ready t.has m.acted (λ v c is. missed last.0 d last.1 is refl refl)))
+      (acted_caused n h.1 h.3 h.1.op refl m.by (said_now h.1.number m.by h.0.told t.told m.told says) m.ready t.has m.acted (λ v c is known. missed last.0 d last.1 is known refl refl)))
 
   -- all deeds of a client that made all its operations
   abbrev pub AreDeeds : (c d : Caller O g) → RunBy state p q false xs c d → Type 0

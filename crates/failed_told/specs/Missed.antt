@@ -1,21 +1,27 @@
 -- The attempts of calls that came to nothing: no link accepted their frame.
-use Rattle.std.specs.Prelude.{ℕ, Option, Some, None}
+use Rattle.std.specs.Prelude.{ℕ, ◌<◌, Option, Some, None}
 use Rattle.sock_io.specs.declared.link.Out.{Ghosts}
 use Rattle.sock_io.specs.Link.{OutState}
 use Rattle.sock_words.specs.Codes.{EFAILEDSOCKET}
 use Rattle.sock_words.specs.declared.outcome.Outcome.{Outcome}
 use Rattle.sock_words.specs.declared.plain.Plan.{Plan}
 use Rattle.sock_words.specs.declared.socket_id.SocketId.{SocketId}
-use Rattle.sock_model.specs.declared.view.View.{View}
+use Rattle.sock_model.specs.declared.view.View as sock_view
 use Rattle.sock_rule.specs.declared.homes.Letter.{Letter}
 use Rattle.sock_programs.specs.declared.task.Op.{Op}
 use Rattle.sock_programs.specs.declared.task.Op.TheVariants as ops
+use Rattle.corr_core.specs.Law.{total}
 use Rattle.corr_core.specs.declared.marks.Plan as id_plan
+use Rattle.corr_core.specs.declared.marks.View.{View}
+use Rattle.id_rule.specs.Lawful.{notes_of}
+use Rattle.sock_message.specs.Asked.{Asked}
+use Rattle.corr_id.specs.Calls.{slot_of, version_of}
 use Rattle.call_errors.specs.declared.retries.Retry.{Retry}
 use Rattle.call_attempts.specs.Both.{Both}
 use Rattle.call_attempts.specs.Attempting.{code_for, DeliveredBy, went_out, came_back, AttemptedBy, nowhere, over_link}
 use Rattle.call_attempts.specs.Retrying.{WentTo, stray, unopened, to_socket, RetriedBy, had_ended, overtaken, went_again}
 use Rattle.call_client.specs.Acting.{Stand, both_of, Acted}
+use Rattle.call_told.specs.Least.{is_made_for}
 use Rattle.call_places.specs.Deeds.{Deed, operates, retries}
 
 -- ## With which code
@@ -52,6 +58,11 @@ module _ {O : Type 0} (state : O → OutState) (p : Plan) (q : id_plan.Plan) whe
   acted_id number (ops.Call asked) None s t a = a.0
   acted_id number _ _ s t a = 0
 
+  -- this seat made it for the call's operation
+  abbrev pub IsMadeBy : {g : Ghosts O} (v : View Asked) (number : ℕ) (op : Op) (by : Option Outcome) (s t : Stand g) → Acted state p q number op by s t → Type 0
+  IsMadeBy v number (ops.Call asked) None s t a = 0 < total (is_made_for (version_of a.0) asked.operation) (notes_of (slot_of a.0) v.notes)
+  IsMadeBy v number _ _ s t a = Unit {0}
+
 -- ## Of a deed
 
 module _ {O : Type 0} {g : Ghosts O} {state : O → OutState} {p : Plan} {q : id_plan.Plan} where
@@ -65,15 +76,20 @@ module _ {O : Type 0} {g : Ghosts O} {state : O → OutState} {p : Plan} {q : id
   id_of (operates x by s t a) = acted_id state p q x.number x.op by s t a
   id_of (retries r s t by) = r.id
 
+  -- a first attempt's id was made by the seat itself
+  abbrev pub IsBacked : View Asked → Deed g state p q → Type 0
+  IsBacked v (operates x by s t a) = IsMadeBy state p q v x.number x.op by s t a
+  IsBacked v (retries r s t by) = Unit {0}
+
   abbrev pub attempt_of : Deed g state p q → ℕ
   attempt_of (operates x by s t a) = 0
   attempt_of (retries r s t by) = r.attempt
 
   -- what its seat had of the sockets before and behind it
-  abbrev pub socks_before : Deed g state p q → View
+  abbrev pub socks_before : Deed g state p q → sock_view.View
   socks_before (operates x by s t a) = s.me.0
   socks_before (retries r s t by) = s.socks
 
-  abbrev pub socks_behind : Deed g state p q → View
+  abbrev pub socks_behind : Deed g state p q → sock_view.View
   socks_behind (operates x by s t a) = t.me.0
   socks_behind (retries r s t by) = t.socks

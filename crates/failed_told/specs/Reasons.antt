@@ -34,7 +34,7 @@ use Rattle.call_errors.specs.Asking.{TimedOut}
 use Rattle.call_writes.specs.Draining.{DroppedOne}
 use Rattle.call_told.specs.Least.{is_locked_for}
 use Rattle.call_places.specs.Deeds.{Deed}
-use Rattle.failed_told.specs.Missed.{missed_in, id_of, attempt_of}
+use Rattle.failed_told.specs.Missed.{missed_in, id_of, IsBacked, attempt_of}
 
 -- the post locked the id, or its error was queued there
 abbrev pub Counts : Posted Asked → Type 0
@@ -52,7 +52,7 @@ module _ {O : Type 0} {g : Ghosts O} (state : O → OutState) (p : Plan) (q : id
   pub data Reason (v : View Asked) (id code : ℕ) (attempt : Maybe ℕ) : Type 0 where
     timed_out : (i : ℕ) (x : Task) (operation : ℕ) (by : Outcome) (s t : CallStand) (h : TimedOut q operation by s t) → get_elem? xs i ≡ some x → x.op ≡ ops.Expire operation → Says x.number by → (by ≡ outcome.Expired) ⊎ (by ≡ outcome.Queued) → KeepsWord (call_word q operation) id v
         → id ≡ h.id → code ≡ ERPCTIMEDOUT → attempt ≡ None → Reason v id code attempt
-    missed : (i : ℕ) (d : Deed g state p q) → get_elem? ds i ≡ some d → missed_in d ≡ Some code → id ≡ id_of d → attempt ≡ Some (attempt_of d) → Reason v id code attempt
+    missed : (i : ℕ) (d : Deed g state p q) → get_elem? ds i ≡ some d → missed_in d ≡ Some code → IsBacked v d → id ≡ id_of d → attempt ≡ Some (attempt_of d) → Reason v id code attempt
     dropped : (life : ℕ) (a : sock_view.View) (s : CallStand) (b : sock_view.View) (t : CallStand) (d : DroppedOne state p q.slots life a s b t) → id ≡ d.msg.owner → code ≡ d.code → attempt ≡ Some d.msg.label.attempt → Reason v id code attempt
 
   -- an error that is queued for the id with this first version in slot i is one that the client had a reason to post
