@@ -1,7 +1,7 @@
 use Rattle.std.proofs.Common.{take}
-use Rattle.rpc_client.specs.Seats.{AtRest}
-use Rattle.thread_run.specs.Threads.{FoundEach}
-use Rattle.thread_run.proofs.waiting.wait_all.Given as goal
+use Rattle.rpc_reader.specs.rpc_client.specs.Seats.{AtRest}
+use Rattle.call_run.specs.Threads.{FoundEach}
+use Rattle.call_run.proofs.waiting.wait_all.Given as goal
 
 abbrev pub invariant-names : goal.invariant-names
 invariant-names g l = record {

@@ -1,6 +1,6 @@
-use Rattle.rpc_client.proofs.Finding.{rest_then}
-use Rattle.thread_run.proofs.Finding.{found_next}
-use Rattle.thread_run.proofs.waiting.wait_all.Goals as goal
+use Rattle.rpc_reader.specs.rpc_client.proofs.Finding.{rest_then}
+use Rattle.call_run.proofs.Waiting.{found_next}
+use Rattle.call_run.proofs.waiting.wait_all.Goals as goal
 
 pub names-preserved : goal.names-preserved
 names-preserved g c = let p = c.args.table.now.rule.plan in let i = c.names.invariant in let e = c.wait_for.ensures in record {

@@ -1,13 +1,13 @@
 // A client waits for the sockets that were opened before it began.
 ghost use Rattle.std.specs.Prelude.{◌≡◌, ◌<◌, All, Some};
 ghost use Rattle.sock_words.specs.declared.socket_id.SocketId.{SocketId};
-ghost use Rattle.rpc_client.specs.sock_table.specs.Named.{Found};
-ghost use Rattle.rpc_client.specs.Seats.{Idle, AtRest};
-ghost use Rattle.thread_run.specs.Threads.{FoundEach};
+ghost use Rattle.call_client.specs.sock_table.specs.Named.{Found};
+ghost use Rattle.rpc_reader.specs.rpc_client.specs.Seats.{Idle, AtRest};
+ghost use Rattle.call_run.specs.Threads.{FoundEach};
 
 use crossbeam_utils::Backoff;
-use rpc_client::sock_rule::SockSeat;
-use rpc_client::sock_table::SockTable;
+use call_client::sock_rule::SockSeat;
+use call_client::sock_table::SockTable;
 use sock_io::Out;
 use std::sync::Wait;
 

@@ -1,7 +1,7 @@
 use Rattle.std.proofs.Common.{Some, refl, ◌∙◌, subst, ap}
-use Rattle.rpc_client.specs.sock_table.specs.Named.{Found}
-use Rattle.rpc_client.proofs.Finding.{rest_same}
-use Rattle.thread_run.proofs.waiting.wait_for.Goals as goal
+use Rattle.call_client.specs.sock_table.specs.Named.{Found}
+use Rattle.rpc_reader.specs.rpc_client.proofs.Finding.{rest_same}
+use Rattle.call_run.proofs.waiting.wait_for.Goals as goal
 
 pub waits-init : goal.waits-init
 waits-init g c = record { can_go = tt; is_finite = tt; idle = c.requires.idle; same = refl }

@@ -1,6 +1,6 @@
 use Rattle.std.proofs.Common.{◌≡◌}
-use Rattle.rpc_client.specs.Seats.{Idle}
-use Rattle.thread_run.proofs.waiting.wait_for.Given as goal
+use Rattle.rpc_reader.specs.rpc_client.specs.Seats.{Idle}
+use Rattle.call_run.proofs.waiting.wait_for.Given as goal
 
 abbrev pub invariant-waits : goal.invariant-waits
 invariant-waits g l = record {
