@@ -1,4 +1,7 @@
 pub mod Numbers
+pub mod Sayings
+pub mod Parting
+pub mod Links
 pub mod MayCall
 pub mod Resting
 pub mod Clients

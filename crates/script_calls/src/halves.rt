@@ -1,7 +1,7 @@
 // The halves of links: the writing halves go to the threads, and the others wait.
-ghost use Rattle.std.specs.Prelude.{◌≡◌, ◌≤◌, ◌+◌, [], ℕ, List, length, map, IfOk, IfSome};
-ghost use Rattle.table_told.specs.sock_open.specs.Opening.{IsRoom};
-ghost use Rattle.script_threads.specs.Halves.{rest_of, joined, AreTaken, HasRoomFor};
+ghost use Rattle.std.specs.Prelude.{◌≡◌, ◌≤◌, ◌+◌, [], ℕ, List, length, map, IfOk};
+ghost use Rattle.call_whys.specs.sock_open.specs.Opening.{IsRoom};
+ghost use Rattle.script_calls.specs.Halves.{rest_of, joined, HasRoomFor};
 
 use sock_io::{Ends, In, Out, Peer};
 use std::alloc::{AllocError, Global};
@@ -66,22 +66,4 @@ pub fn join<O: Out, I: In, P: Peer>(
         let Rest { inn, peer } = rest;
         back.push_reserved(Ends { out, inn, peer });
     }
-}
-
-/// What a link took, as it tells.
-fn taken<O: Out>(out: &O) -> &[u8]
-    ensures { IfSome (O.state out.now).took (λ bytes. result.now ≡ bytes) }
-{
-    out.taken()
-}
-
-/// What each link took, as it tells.
-pub fn taken_by<O: Out>(alloc: Global, outs: &[O]) -> Result<Vec<&[u8]>, AllocError>
-    ensures { IfOk result (λ took. AreTaken O.state outs.now (map (λ bytes. bytes.now) took.items)) }
-{
-    let mut took = Vec::new(alloc);
-    'takes: for out in outs {
-        took.push(taken(out))?;
-    }
-    Ok(took)
 }

@@ -1,6 +1,6 @@
 use Rattle.std.proofs.Common.{ap, map}
-use Rattle.script_threads.proofs.Moving.{each_said_more}
-use Rattle.script_threads.proofs.saying.said_of.Goals as goal
+use Rattle.script_calls.proofs.Sayings.{each_said_more}
+use Rattle.script_calls.proofs.saying.said_of.Goals as goal
 
 pub clients-preserved : goal.clients-preserved
 clients-preserved c = (

@@ -1,5 +1,5 @@
-use Rattle.script_threads.proofs.Moving.{said_more}
-use Rattle.script_threads.proofs.saying.say_own.Goals as goal
+use Rattle.script_calls.proofs.Sayings.{said_more}
+use Rattle.script_calls.proofs.saying.say_own.Goals as goal
 
 pub tolds-preserved : goal.tolds-preserved
 tolds-preserved c = (

@@ -9,8 +9,8 @@ use lib.ListN.{get_elem?}
 use Rattle.sock_words.specs.declared.outcome.Outcome.{Outcome}
 use Rattle.brpc_model.specs.Order.{EachBefore}
 use Rattle.report_fits.proofs.Lists.{all_map, all_at}
-use Rattle.table_told.specs.rpc_client.specs.declared.acting.Told.{Told}
-use Rattle.script_threads.specs.Saying.{said_by, said_by_each}
+use Rattle.rpc_client.specs.declared.acting.Told.{Told}
+use Rattle.script_calls.specs.Saying.{said_by, said_by_each}
 
 -- ## One place of a list
 
@@ -111,6 +111,14 @@ told_each said (ts ∷ tss) n o e = elim (told_each (said_by said ts) tss n o e)
   | inl h ↦ elim (told_own said ts n o h) [ inl a ↦ inl a | inr w ↦ inr (0, ts, refl, w) ]
   | inr w ↦ inr (suc w.0, w.1, w.2, w.3)
 ]
+
+-- ## Lists of which one is told
+
+pub said_more : (said more : List (Option Outcome)) (left rest : List Told) (t : Told) (all : List (Option Outcome)) → said_by said left ≡ all → left ≡ t ∷ rest → more ≡ slice_set said t.number (Some t.outcome) → said_by more rest ≡ all
+said_more said more left rest t all h l m = ap (λ s. said_by s rest) m ∙ (sym (ap (said_by said) l) ∙ h)
+
+pub each_said_more : (said more : List (Option Outcome)) (left rest : List (List Told)) (ts : List Told) (all : List (Option Outcome)) → said_by_each said left ≡ all → left ≡ ts ∷ rest → more ≡ said_by said ts → said_by_each more rest ≡ all
+each_said_more said more left rest ts all h l m = ap (λ s. said_by_each s rest) m ∙ (sym (ap (said_by_each said) l) ∙ h)
 
 -- ## Before anything is told
 

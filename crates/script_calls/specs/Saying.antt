@@ -1,7 +1,7 @@
 -- What clients told, put together by the numbers of the operations.
 use Rattle.std.specs.Prelude.{List, [], ◌∷◌, slice_set, Option, Some}
 use Rattle.sock_words.specs.declared.outcome.Outcome.{Outcome}
-use Rattle.table_told.specs.rpc_client.specs.declared.acting.Told.{Told}
+use Rattle.rpc_client.specs.declared.acting.Told.{Told}
 
 -- behind what one client told
 abbrev pub said_by : List (Option Outcome) → List Told → List (Option Outcome)

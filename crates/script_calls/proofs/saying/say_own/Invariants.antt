@@ -1,7 +1,7 @@
 use Rattle.std.proofs.Common.{◌≡◌}
 use Rattle.std.specs.Vec.Iter.{into_iter_items}
-use Rattle.script_threads.specs.Saying.{said_by}
-use Rattle.script_threads.proofs.saying.say_own.Given as goal
+use Rattle.script_calls.specs.Saying.{said_by}
+use Rattle.script_calls.proofs.saying.say_own.Given as goal
 
 abbrev pub invariant-tolds : goal.invariant-tolds
 invariant-tolds l =

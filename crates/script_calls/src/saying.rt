@@ -1,11 +1,11 @@
 // What clients told, by the numbers of their operations.
 ghost use Rattle.std.specs.Prelude.{◌≡◌, ℕ, List, Option, Some, None, map, replicate, slice_set, IfOk};
 ghost use Rattle.sock_words.specs.declared.outcome.Outcome.{Outcome};
-ghost use Rattle.script_threads.specs.Saying.{said_by, said_by_each};
+ghost use Rattle.script_calls.specs.Saying.{said_by, said_by_each};
 
+use rpc_client::Told;
 use sock_words::Outcome;
 use std::alloc::{AllocError, Global};
-use table_told::rpc_client::Told;
 
 /// So many operations of which nothing is told.
 fn untold(alloc: Global, operations: u16) -> Result<Vec<Option<Outcome>>, AllocError>

@@ -1,8 +1,8 @@
 use Rattle.std.proofs.Common.{◌≡◌, ◌+◌, ◌≤◌, ◌++◌, length, map, deque_len, deque_capacity}
 use Rattle.std.specs.Vec.{vec_capacity}
 use Rattle.std.specs.Vec.Iter.{into_iter_items}
-use Rattle.script_threads.specs.Halves.{rest_of}
-use Rattle.script_threads.proofs.halves.part.Given as goal
+use Rattle.script_calls.specs.Halves.{rest_of}
+use Rattle.script_calls.proofs.halves.part.Given as goal
 
 abbrev pub invariant-parts : goal.invariant-parts
 invariant-parts g l =

@@ -1,7 +1,7 @@
 use Rattle.std.proofs.Common.{◌≡◌, map, None, replicate}
 use Rattle.std.specs.Vec.Iter.{into_iter_items}
-use Rattle.script_threads.specs.Saying.{said_by_each}
-use Rattle.script_threads.proofs.saying.said_of.Given as goal
+use Rattle.script_calls.specs.Saying.{said_by_each}
+use Rattle.script_calls.proofs.saying.said_of.Given as goal
 
 abbrev pub invariant-clients : goal.invariant-clients
 invariant-clients l =

@@ -1,9 +1,10 @@
 -- The links of the sockets that a script opens are numbered along its clients, one after the other.
-use Rattle.std.proofs.Common.{◌≡◌, ℕ, zero, suc, ◌+◌, List, [], ◌∷◌, ◌++◌, length, count_by, cond, append-nil, length-append, refl, sym, ap, ◌∙◌, subst, arith}
+use Rattle.std.proofs.Common.{◌≡◌, ℕ, zero, suc, ◌+◌, List, [], ◌∷◌, ◌++◌, length, flat_map, count_by, cond, append-nil, length-append, refl, sym, ap, ◌∙◌, subst, arith}
 use Rattle.std.proofs.lemmas.List.Sums.{sum_by-cons}
 use Rattle.brpc_model.specs.Items.{Item, Slots, Requests, First, Open, Client, Sched, Tick, To, is_open}
 use Rattle.brpc_model.specs.Operations.{link_names}
 use Rattle.brpc_model.specs.Places.{names}
+use Rattle.sock_programs.specs.declared.task.Op.{Op}
 use Rattle.sock_programs.specs.declared.task.Op.TheVariants as ops
 use Rattle.sock_programs.specs.declared.task.Task.{Task}
 use Rattle.sock_programs.specs.Runs.{from_to}
@@ -12,8 +13,15 @@ use Rattle.sock_programs.specs.Tasks.{Numbered, numbered, name_number}
 use Rattle.report_fits.proofs.Sizes.{link_count}
 use Rattle.script_tasks.specs.Along.{tasks_along, task_at}
 use Rattle.script_tasks.proofs.Alongs.{tasks_are}
-use Rattle.table_told.specs.Threads.{link_of, links_of}
-use Rattle.table_told.proofs.Moments.{flat-append}
+use Rattle.call_deeds.specs.sock_deeds.proofs.Flats.{flat-append}
+
+abbrev pub link_of : Op → List ℕ
+link_of (ops.Open n k) = k ∷ []
+link_of other = []
+
+-- the links of the sockets that these tasks open, in their order
+abbrev pub links_of : List Task → List ℕ
+links_of ts = flat_map (λ (t : Task). link_of t.op) ts
 
 pub range-snoc : (first n : ℕ) → from_to first (suc n) ≡ from_to first n ++ (first + n) ∷ []
 range-snoc first zero = ap (λ (k : ℕ). k ∷ []) (omega arith)

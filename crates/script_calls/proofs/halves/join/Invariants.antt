@@ -1,8 +1,8 @@
 use Rattle.std.proofs.Common.{◌≡◌, ◌+◌, ◌≤◌, ◌++◌, length}
 use Rattle.std.specs.Vec.{vec_capacity}
 use Rattle.std.specs.Vec.Iter.{into_iter_items}
-use Rattle.script_threads.specs.Halves.{joined}
-use Rattle.script_threads.proofs.halves.join.Given as goal
+use Rattle.script_calls.specs.Halves.{joined}
+use Rattle.script_calls.proofs.halves.join.Given as goal
 
 abbrev pub invariant-joins : goal.invariant-joins
 invariant-joins g l =
