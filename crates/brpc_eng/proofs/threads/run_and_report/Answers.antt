@@ -1,9 +1,9 @@
 use Rattle.std.proofs.Common.{rules, refl}
-use Rattle.brpc_eng.proofs.OnThreads.{calls_reported, threads_ran_out, threads_not_opened}
-use Rattle.brpc_eng.proofs.threads.calls_and_report.Goals as goal
+use Rattle.brpc_eng.proofs.OnThreads.{threads_reported, threads_ran_out, threads_not_opened}
+use Rattle.brpc_eng.proofs.threads.run_and_report.Goals as goal
 
 pub returns-in-Ok-clause-ran : goal.returns-in-Ok-clause-ran
-returns-in-Ok-clause-ran g c = calls_reported c.args.mode c.args.script.now c.in-Ok.text.items c.deref.result.now _ _ _ c.requires.unbuilt c.requires.runnable c.in-Ok.ensures.text c.deref.ensures.value c.write_report.ensures
+returns-in-Ok-clause-ran g c = threads_reported c.args.mode c.args.script.now c.in-Ok.text.items c.deref.result.now _ _ _ c.requires.runnable c.in-Ok.ensures.text c.deref.ensures.value c.write_report.ensures
 
 pub returns-in-Err-Failed-clause-ran : goal.returns-in-Err-Failed-clause-ran
 returns-in-Err-Failed-clause-ran g c = threads_not_opened c.args.mode c.args.script.now _ _ c.requires.runnable (search rules) (search rules) (refl, refl)
