@@ -65,37 +65,6 @@ pub fn run_threads<R: Threads + Wait + Sync, S: Source, K: Sink, L: Linker, G: G
     }
 }
 
-/// Runs a script on threads and writes its report.
-fn run_and_report<R: Threads + Wait + Sync, K: Sink, L: Linker, G: Gate + Sync>(
-    rt: &R,
-    alloc: Global,
-    mode: Mode,
-    script: &Script,
-    out: &mut K,
-    links: &mut L,
-    gate: &G,
-) -> Status
-    requires asked { L.asked links.old ≡ [] }
-    requires back { L.back links.old ≡ [] }
-    requires script { (bytes : List ℕ) × (script_of bytes ≡ Ok script.now) }
-    requires pieces { list_all has_piece script.now ≡ true }
-    requires runnable { is_runnable mode script.now ≡ true }
-    ensures ran { RanOnThreads mode script.now
-        (record { before = K.contents out.old; now = K.contents out.new; faults = record { before = K.faults out.old; now = K.faults out.new } })
-        (record { prompt = L.prompt links.old; tells = TellClosed L.I.state; offering = TellOffers L.O.state L.I.state; asked = L.asked links.new; ends = L.back links.new; accepted = L.accepted links.new; done = L.done links.new; faults = record { before = L.faults links.old; now = L.faults links.new } })
-        (number_of result) }
-    ensures opened { OpenedBy mode script.now
-        (record { prompt = L.prompt links.old; tells = TellClosed L.I.state; offering = TellOffers L.O.state L.I.state; asked = L.asked links.new; ends = L.back links.new; accepted = L.accepted links.new; done = L.done links.new; faults = record { before = L.faults links.old; now = L.faults links.new } })
-        (number_of result) }
-    ensures linker { number_of result ≢ 8 → L.faults links.new ≡ L.faults links.old }
-{
-    match run_calls_on_threads(rt, alloc, mode, script, links, gate) {
-        Ok(text) => write_report(out, &text),
-        Err(OpenFault::Failed) => Status::OpenFailed,
-        Err(OpenFault::NoMemory) => Status::NoMemory,
-    }
-}
-
 /// Runs a script on threads and writes its report. One with a line that isn't built for it is refused, and no link is opened.
 fn threads_and_report<R: Threads + Wait + Sync, K: Sink, L: Linker, G: Gate + Sync>(
     rt: &R,
@@ -123,5 +92,9 @@ fn threads_and_report<R: Threads + Wait + Sync, K: Sink, L: Linker, G: Gate + Sy
         write_answer(out, NOT_BUILT);
         return Status::NotBuilt;
     }
-    run_and_report(rt, alloc, mode, script, out, links, gate)
+    match run_calls_on_threads(rt, alloc, mode, script, links, gate) {
+        Ok(text) => write_report(out, &text),
+        Err(OpenFault::Failed) => Status::OpenFailed,
+        Err(OpenFault::NoMemory) => Status::NoMemory,
+    }
 }

@@ -14,7 +14,7 @@ use std::thread::Threads;
 
 /// The script of a text that threads run.
 #[tactic(auto, using(crate::proofs::Pieces::has_pieces))]
-fn plain_script(alloc: Global, text: &[u8]) -> Option<Script>
+fn runnable_script(alloc: Global, text: &[u8]) -> Option<Script>
     ensures script { IfSome result (λ script. (bytes : List ℕ) × (script_of bytes ≡ Ok script)) }
     ensures pieces { IfSome result (λ script. list_all has_piece script ≡ true) }
 {
@@ -42,7 +42,7 @@ fn report_over<L: Linker, G: Gate + Sync, R: Threads + Wait + Sync>(
     requires asked { L.asked links.old ≡ [] }
     requires back { L.back links.old ≡ [] }
 {
-    let script = plain_script(alloc, text)?;
+    let script = runnable_script(alloc, text)?;
     match run_calls_on_threads(rt, alloc, Mode::Loop, &script, links, gate) {
         Ok(report) => Some(report),
         Err(_fault) => None,
