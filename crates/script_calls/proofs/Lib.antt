@@ -9,7 +9,6 @@ pub mod Asked
 pub mod Answered
 pub mod Shown
 pub mod Reports
-pub mod Joinless
 pub mod Said
 pub mod Began
 pub mod Each
