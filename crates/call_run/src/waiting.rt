@@ -5,9 +5,9 @@ ghost use Rattle.call_client.specs.sock_table.specs.Named.{Found};
 ghost use Rattle.rpc_reader.specs.rpc_client.specs.Seats.{Idle, AtRest};
 ghost use Rattle.call_run.specs.Threads.{FoundEach};
 
-use crossbeam_utils::Backoff;
 use call_client::sock_rule::SockSeat;
 use call_client::sock_table::SockTable;
+use crossbeam_utils::Backoff;
 use sock_io::Out;
 use std::sync::Wait;
 
