@@ -1,0 +1,34 @@
+use Rattle.std.proofs.Common.{sym, subst}
+use Rattle.write_chain.specs.message_parts.specs.Parcels.{parcel_of}
+use Rattle.write_chain.specs.sock_rule.specs.Shows.{heading_of}
+use Rattle.write_chain.specs.sock_table.specs.declared.refs.SockRef.{SockRef}
+use Rattle.write_chain.specs.Writing.{Begins}
+use Rattle.rpc_client.specs.Sending.{SeenThrough}
+use Rattle.rpc_client.proofs.Delivering.{sock_is, accepted_of, refused_holds, refused_idle, came_back}
+use Rattle.rpc_client.proofs.sending.deliver.Goals as goal
+
+pub start-requires-clause-may : goal.start-requires-clause-may
+start-requires-clause-may g c = record { between = c.requires.idle.between; claims = c.requires.idle.claims; loose = c.requires.idle.loose; room = c.requires.room }
+
+pub see_through-requires-clause-begins : goal.see_through-requires-clause-begins
+see_through-requires-clause-begins g c = let p = c.args.table.now.rule.plan in let is = sock_is p c.args.sock (heading_of c.args.msg) (parcel_of c.args.msg.bytes).bytes c.in-Ok.started c.args.seat.now.me.0 c.start.new.seat.me.0 c.in-Ok.ensures.started in
+    subst (λ (y : SockRef). Begins p y c.in-Ok.started c.start.new.seat.me) (sym is) (c.in-Ok.ensures.begins c.requires.idle.slots c.requires.few)
+
+pub see_through-requires-clause-claims : goal.see_through-requires-clause-claims
+see_through-requires-clause-claims g c = let p = c.args.table.now.rule.plan in let a = accepted_of p c.args.sock (heading_of c.args.msg) (parcel_of c.args.msg.bytes).bytes c.in-Ok.started c.args.seat.now.me.0 c.start.new.seat.me.0 c.in-Ok.ensures.started in (a.claims, a.loose)
+
+pub refuse-requires-clause-idle : goal.refuse-requires-clause-idle
+refuse-requires-clause-idle g c = refused_idle c.args.table.now.rule.table.shared.table_id c.args.table.now.rule.plan c.args.sock c.args.msg c.in-Err.refused c.args.seat.now c.start.new.seat c.requires.idle c.in-Err.ensures.seat c.in-Err.ensures.slots c.in-Err.ensures.refused
+
+pub refuse-requires-clause-held : goal.refuse-requires-clause-held
+refuse-requires-clause-held g c = refused_holds c.args.table.now.rule.plan c.args.sock c.args.msg c.in-Err.refused c.args.seat.now.me.0 c.start.new.seat.me.0 c.requires.held c.in-Err.ensures.refused
+
+pub returns-in-Ok-clause-by : goal.returns-in-Ok-clause-by
+returns-in-Ok-clause-by g c = let p = c.args.table.now.rule.plan in let is = sock_is p c.args.sock (heading_of c.args.msg) (parcel_of c.args.msg.bytes).bytes c.in-Ok.started c.args.seat.now.me.0 c.start.new.seat.me.0 c.in-Ok.ensures.started in record {
+  taken = c.start.new.seat.me.0;
+  accepted = accepted_of p c.args.sock (heading_of c.args.msg) (parcel_of c.args.msg.bytes).bytes c.in-Ok.started c.args.seat.now.me.0 c.start.new.seat.me.0 c.in-Ok.ensures.started;
+  through = subst (λ (y : SockRef). SeenThrough g.O.Out.state p y.id.0 c.start.new.seat.me.0 c.see_through.new.seat.me.0) is c.see_through.ensures.by;
+}
+
+pub returns-in-Err-clause-by : goal.returns-in-Err-clause-by
+returns-in-Err-clause-by g c = came_back g.O.Out.state c.args.table.now.rule.plan c.args.sock c.args.msg c.in-Err.refused c.refuse.result c.args.seat.now.me.0 c.start.new.seat.me.0 c.refuse.new.seat.me.0 c.in-Err.ensures.refused c.refuse.ensures.by
