@@ -37,7 +37,7 @@ use Rattle.corr_id.specs.Closing.{Closing}
 use Rattle.corr_id.specs.Ruled.{is_place}
 use Rattle.call_places.specs.rpc_client.specs.declared.acting.Told.{Told}
 use Rattle.call_places.specs.rpc_client.specs.Running.{telling}
-use Rattle.call_places.specs.table_told.proofs.Flats.{append_first, append_later}
+use Rattle.call_places.specs.sock_deeds.proofs.Flats.{append_first, append_later}
 use Rattle.call_places.specs.call_errors.specs.Books.{CallStand, stand_of}
 use Rattle.call_places.specs.call_errors.specs.Ending.{failed}
 use Rattle.call_places.specs.call_errors.specs.Locking.{id_in}

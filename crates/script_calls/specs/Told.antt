@@ -26,7 +26,7 @@ use Rattle.expire_told.specs.Said.{WhyExpired}
 use Rattle.call_deeds.specs.sock_deeds.specs.Told.{fixed_by, ToldSockets}
 use Rattle.rpc_client.specs.declared.acting.Told.{Told}
 use Rattle.callless_fits.specs.Whole.{IsWholeText, gave_none, unread}
-use Rattle.script_threads.specs.Saying.{said_by_each}
+use Rattle.script_calls.specs.Saying.{said_by_each}
 use Rattle.call_deeds.specs.call_run.specs.Threads.{ids_of, RanOn}
 use Rattle.call_whys.specs.call_told.specs.Answers.{AreAnsweredBy}
 use Rattle.call_whys.specs.call_told.specs.Once.{ShownOnce}
