@@ -11,6 +11,8 @@ use Rattle.sock_words.specs.Words.{socket_id_slot}
 use Rattle.sock_model.specs.declared.chain.Entry.{Entry}
 use Rattle.sock_model.specs.declared.view.View.{View}
 use Rattle.sock_model.specs.ChainRows.{more}
+use Rattle.sock_model.specs.SlotRows.{marks_of}
+use Rattle.sock_model.specs.Weights.{is_ref}
 use Rattle.write_chain.specs.sock_rule.specs.declared.homes.Letter.{Letter}
 use Rattle.write_chain.specs.sock_table.specs.declared.refs.SockRef.{SockRef}
 use Rattle.rpc_client.specs.declared.holding.Held.{Held}
@@ -65,7 +67,7 @@ module _ {S : Type 0} (z : TableId) (p : Plan) (s : Seat S View) (new : IsNewSea
 
   -- so it may act
   pub new_may : MayAct z p s
-  new_may = record { idle = new_idle; room = λ i il. (let a = new_holder.refs i in omega arith) }
+  new_may = record { idle = new_idle; room = λ i il. (let none_ : marks_of is_ref i s.me.0 ≡ 0 = new_holder.refs i in omega arith) }
 
 -- the passes of a new table
 pub passes_all : {O : Type 0} {g : Ghosts O} (z : TableId) (p : Plan) (n : ℕ) (xs : List (LinkPass O g)) → PassesFrom z p n xs → All (IsPass z p) xs
