@@ -9,7 +9,7 @@ use Rattle.call_whys.specs.rpc_reader.specs.Books.{books}
 use Rattle.call_whys.specs.rpc_reader.specs.declared.books.AnswerSeat.{AnswerSeat}
 use Rattle.call_whys.specs.rpc_reader.proofs.Locks.{open_still, rests_then}
 use Rattle.call_deeds.specs.call_run.specs.Crew.{AreLeft}
-use Rattle.script_calls.specs.Reading.{IdSeat, begins, TookAll}
+use Rattle.script_calls.specs.Reading.{IdSeat, begins}
 
 abbrev pub share_of : IdSeat → ℕ
 share_of s = s.me.0.share
@@ -18,10 +18,6 @@ share_of s = s.me.0.share
 pub all_of : (z : TableId) (seats : List IdSeat) → AreLeft z seats → AllOf z seats
 all_of z [] h = tt
 all_of z (s ∷ ss) h = ((h.0.0.sits.0, h.0.1, h.0.0.free), all_of z ss h.1)
-
--- a table with a seat has one
-pub some_seat : (seats : List IdSeat) → 1 ≤ total share_of seats → (seats ≡ []) → ⊥
-some_seat seats some_ none_ = let e = ap (total share_of) none_ in omega arith
 
 -- ## The one that took in all
 
