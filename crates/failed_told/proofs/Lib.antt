@@ -2,7 +2,12 @@ pub mod Views
 pub mod Origins
 pub mod Clients
 pub mod Reading
-pub mod Posters
 pub mod Codes
+pub mod Posters
 pub mod Verdicts
 pub mod Behind
+pub mod Losses
+pub mod Single
+pub mod Reaching
+pub mod Fallen
+pub mod Whole

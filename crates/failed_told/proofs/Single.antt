@@ -58,9 +58,18 @@ use Rattle.call_told.proofs.Lists.{all_at}
 use Rattle.expire_told.proofs.Making.{mapped_from}
 use Rattle.sock_deeds.proofs.Flats.{flat_from}
 use Rattle.failed_told.specs.Missed.{delivery_missed, attempt_missed, went_missed, acted_missed, acted_id, IsMadeBy, missed_in, id_of, IsBacked, attempt_of}
+use Rattle.failed_told.proofs.Losses.{IsAskedIn}
 use Rattle.failed_told.proofs.Posters.{attempt_low}
 
 -- ## Frames of a deed
+
+operation_in : Op → ℕ
+operation_in (ops.Call asked) = asked.operation
+operation_in other = 0
+
+call_operation : (a b : Asked) → ops.Call a ≡ ops.Call b → a.operation ≡ b.operation
+unfolding operation_in
+call_operation a b e = ap operation_in e
 
 none_there : (m : ℕ) (e : Entry) → get_elem? [] m ≡ some e → ⊥
 none_there m e h = some-ne-none e (sym h)
@@ -119,6 +128,7 @@ module _ {O : Type 0} (state : O → OutState) (p : Plan) (q : id_plan.Plan) whe
       pub label : 0 < label_in (8 * operation + 0) number op
       pub made : 0 < total (is_made_for (version_of (acted_id state p q number op by s t a)) operation) (notes_of (slot_of (acted_id state p q number op by s t a)) v.notes)
       pub no_frame : acted_entries state p q number op by s t a ≡ []
+      pub asks : (asked : Asked) → op ≡ ops.Call asked → asked.operation ≡ operation
 
     acted_first : {g : Ghosts O} (v : View Asked) (number : ℕ) (op : Op) (by : Option Outcome) (s t : Stand g) (a : Acted state p q number op by s t) → acted_missed state p q number op by s t a ≡ Some code → IsMadeBy state p q v number op by s t a → IsFirst v number op by s t a
     acted_first v number (ops.Call asked) None s t a is made = record {
@@ -126,6 +136,7 @@ module _ {O : Type 0} (state : O → OutState) (p : Plan) (q : id_plan.Plan) whe
       label = (let z = only-at (8 * asked.operation + 0) (8 * asked.operation + 0) refl in omega (arith, z));
       made = made;
       no_frame = attempt_none a.1.socket _ a.1.at (both_of t) a.1.attempted is;
+      asks = λ other e. sym (call_operation asked other e);
     }
     acted_first v number (ops.Call asked) (Some by) s t a is made = absurd (none-some code is)
     acted_first v number (ops.Open n k) by s t a is made = absurd (none-some code is)
@@ -285,6 +296,7 @@ module _ {O : Type 0} {g : Ghosts O} {state : O → OutState} {p : Plan} {slots 
     pub id : IsIdOf slots notes operation (id_of d)
     pub attempt : IsAttemptOf operation (id_of d) (attempt_of d) d
     pub no_frame : entries_of d ≡ []
+    pub asks : (asked : Asked) → IsAskedIn d asked → asked.operation ≡ operation
 
   first_id : (o id : ℕ) → slot_of id < slots → 0 < total (is_made_for (version_of id) o) (notes_of (slot_of id) notes) → IsIdOf slots notes o id
   first_id o id inside made =
@@ -299,6 +311,7 @@ module _ {O : Type 0} {g : Ghosts O} {state : O → OutState} {p : Plan} {slots 
         id = first_id f.operation id inside (let b = within c x at (slot_of id) (is_made_for (version_of id) f.operation) in let m = f.made in omega (arith, b, m));
         attempt = at_first refl f.label;
         no_frame = f.no_frame;
+        asks = f.asks;
       }
   missed_nothing code c x at i (retries r s t (had_ended h)) there is backed inside = absurd (none-some code is)
   missed_nothing code c x at i (retries r s t (overtaken k u l o)) there is backed inside = absurd (none-some code is)
@@ -307,6 +320,7 @@ module _ {O : Type 0} {g : Ghosts O} {state : O → OutState} {p : Plan} {slots 
     id = again_id c x at i r s t k u l w there;
     attempt = again_attempt c x at i r s t k u l w k.content.operation r.id r.attempt refl refl there;
     no_frame = went_none state p q code _ _ _ t w.went is;
+    asks = λ asked e. ap (λ (y : Asked). y.operation) (sym e);
   }
 
   -- so the log has no entry with its place index
