@@ -5,6 +5,7 @@ use mathlib.Core.Logic.{dite}
 use mathlib.Core.Option.{some, some-injective, some-ne-none}
 use native.Mathlib.Decide.{ℕ_discrete}
 use lib.ListN.{get_elem?}
+use Rattle.atomic_table.specs.declared.shared.Seat.{Seat}
 use Rattle.sock_io.specs.declared.link.Out.{Ghosts}
 use Rattle.sock_io.specs.Link.{OutState}
 use Rattle.sock_words.specs.Codes.{EFAILEDSOCKET}
@@ -17,6 +18,7 @@ use Rattle.sock_model.specs.declared.view.View as sock_view
 use Rattle.sock_model.specs.Layout.{request_word}
 use Rattle.sock_model.specs.Weights.{is_known, is_saw}
 use Rattle.sock_rule.specs.Closing.{PlacesDiffer}
+use Rattle.sock_rule.specs.declared.homes.SockHome.{SockHome}
 use Rattle.sock_table.specs.Named.{HasSeen, Found}
 use Rattle.sock_programs.specs.declared.task.Op.{Op}
 use Rattle.sock_programs.specs.declared.task.Op.TheVariants as ops
@@ -88,7 +90,7 @@ module _ {O : Type 0} (g : Ghosts O) (state : O → OutState) (p : Plan) where
 
 module _ {O : Type 0} {g : Ghosts O} {state : O → OutState} {p : Plan} {every : List (List Task)} {outcomes : List (Option Outcome)} {places : List PlaceWord} {vrefs : List Vref} {outs : List O} (drun : DeedRun g state p every outcomes places vrefs outs) where
   -- the last deed of a seat, if it did any
-  last_act : (c : ℕ) (y : Seated g state p) → get_elem? drun.seats c ≡ some y → (y.ended.view.finds ≡ []) × (y.ended.view.found ≡ []) ⊎ ((b : Act drun) × (after drun b ≡ y.ended.view))
+  last_act : (c : ℕ) (y : Seated g state p) → get_elem? drun.seats c ≡ some y → ((y.ended.view.finds ≡ []) × (y.ended.view.found ≡ [])) ⊎ ((b : Act drun) × (after drun b ≡ y.ended.view))
   last_act c y at = elim (chain_last g state p y.deeds _ y.ended y.chain) [
     | inl e ↦ inl (ap (λ (h : socks.Hand). h.view.finds) e, ap (λ (h : socks.Hand). h.view.found) e)
     | inr w ↦ inr (record { c = c; y = y; at = at; k = w.0; d = w.1; is = w.2 }, ap (λ (h : socks.Hand). h.view) (sym w.3))
@@ -158,7 +160,7 @@ module _ {O : Type 0} {g : Ghosts O} {state : O → OutState} {p : Plan} {slots 
   -- the seat of a client
   its_seat : (c : ℕ) (x : Client g state p q) → get_elem? crew c ≡ some x → (y : Seated g state p) × (get_elem? drun.seats c ≡ some y) × (y.ended.view ≡ x.thread.ended.seat.me.0)
   its_seat c x at =
-      let f : Thread g → _ = λ z. z.ended.seat in
+      let f : Thread g → Seat (SockHome O g) sock_view.View = λ z. z.ended.seat in
       let list : get_elem? (map seat_of drun.seats) c ≡ some x.thread.ended.seat = ap (λ l. get_elem? l c) (seats ∙ sym (all_are run f)) ∙ mapped (λ (z : Client g state p q). f z.thread) crew c x at in
       let w = mapped_from seat_of drun.seats c x.thread.ended.seat list in
       (w.0, w.1, sym w.0.left ∙ ap (λ s. s.me.0) w.2)

@@ -11,3 +11,4 @@ pub mod Single
 pub mod Reaching
 pub mod Fallen
 pub mod Whole
+pub mod Asked
