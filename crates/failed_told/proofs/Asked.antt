@@ -78,7 +78,7 @@ deeds_have {O} {g} {state} {p} {q} T A x th each all =
     let now : List Again = asked_in state p q (both_of (stand r.came)) (both_of r.last) r.ends.1.all.retried in
     both_have state p q T A (ran_deeds state p q x.tasks r.made (begins x.began) came r.ran.ran) (retries_of {g = g} state p q (both_of (stand r.came)) (both_of r.last) r.ends.1.all.retried)
     (ran_have state p q T A x.tasks each r.made (begins x.began) came r.ran.ran (first_asked {g = g} state p q T A before now all))
-    (retried_have state p q T A (both_of (stand r.came)) (both_of r.last) r.ends.1.all.retried (later_asked {g = g} state p q T A before now all))
+    (retried_have {g = g} state p q T A (both_of (stand r.came)) (both_of r.last) r.ends.1.all.retried (later_asked {g = g} state p q T A before now all))
 
 -- where the client's operations are tasks, a call's with its own number, and what its retries asked for is one of a call
 module _ (every : List (List Task)) (outcomes : List (Option Outcome)) where

@@ -1,10 +1,10 @@
--- With which codes attempts come to nothing.
+-- With which codes attempts come to nothing, and with which whoever reads the links ends calls.
 use Rattle.std.proofs.Common.{◌≡◌, ℕ, ◌⊎◌, inl, inr, Some, None, sym}
 use Rattle.std.specs.Prelude.{Option}
 use Rattle.std.proofs.lemmas.Option.{none-some, same_Some}
 use Rattle.sock_io.specs.declared.link.Out.{Ghosts}
 use Rattle.sock_io.specs.Link.{OutState}
-use Rattle.sock_words.specs.Codes.{EFAILEDSOCKET, EREQUESTS}
+use Rattle.sock_words.specs.Codes.{EEOF, EFAILEDSOCKET, ERESPONSE, EREQUESTS}
 use Rattle.sock_words.specs.declared.outcome.Outcome.{Outcome}
 use Rattle.sock_words.specs.declared.plain.Plan.{Plan}
 use Rattle.sock_words.specs.declared.socket_id.SocketId.{SocketId}
@@ -21,6 +21,10 @@ use Rattle.call_attempts.specs.Retrying.{WentTo, stray, unopened, to_socket, Ret
 use Rattle.call_client.specs.Acting.{Stand, both_of, Acted}
 use Rattle.call_places.specs.Deeds.{Deed, operates, retries}
 use Rattle.failed_told.specs.Missed.{delivery_missed, attempt_missed, went_missed, retry_missed, acted_missed, missed_in}
+
+-- nothing more came, or what came can't be read
+abbrev pub IsReadCode : ℕ → Type 0
+IsReadCode code = (code ≡ EEOF) ⊎ (code ≡ ERESPONSE)
 
 -- there was no live socket, or each request was found taken
 abbrev pub IsMissCode : ℕ → Type 0

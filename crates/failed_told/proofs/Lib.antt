@@ -1,8 +1,8 @@
 pub mod Views
 pub mod Origins
 pub mod Clients
-pub mod Reading
 pub mod Codes
+pub mod Reading
 pub mod Posters
 pub mod Verdicts
 pub mod Behind
@@ -10,5 +10,5 @@ pub mod Losses
 pub mod Single
 pub mod Reaching
 pub mod Fallen
-pub mod Whole
 pub mod Asked
+pub mod Whole

@@ -33,11 +33,11 @@ use Rattle.call_places.specs.Deeds.{Deed, operates, retries}
 use Rattle.call_places.proofs.Weights.{term}
 use Rattle.call_places.proofs.Clients.{Client, total_map, view_of, tasks_of, deeds_of}
 use Rattle.call_places.proofs.Places.{all as all_clients, views_are}
-use Rattle.call_told.specs.Answers.{IsLossCode}
 use Rattle.expire_told.specs.Said.{AreSaid}
 use Rattle.failed_told.specs.Missed.{attempt_of}
 use Rattle.failed_told.specs.Reasons.{Reason, timed_out, missed, dropped, posted_so, handed_out, Cause}
 use Rattle.failed_told.proofs.Clients.{Says, queued_caused}
+use Rattle.failed_told.proofs.Codes.{IsReadCode}
 use Rattle.failed_told.proofs.Views.{queued_in}
 
 -- ## Errors in words
@@ -81,7 +81,7 @@ module _ {O : Type 0} {g : Ghosts O} {state : O → OutState} {p : Plan} {slots 
     (run : RanOn g state p slots setup clients opens told ended places vrefs outs ids) (outcomes : List (Option Outcome)) (said : AreSaid outcomes told)
     (notes : List (Noted Asked)) (kept : List Kept) (words : List ℕ) (closing : Closing (ids_of p slots) notes kept words) (noted : HaveNotesOf ids notes)
     -- whatever the clients didn't queue has a code with which whoever reads the links ends calls
-    (others : (i first e : ℕ) → 0 < queued_in i first e notes → (0 < total (λ (v : View Asked). queued_in i first e v.notes) ids) ⊎ IsLossCode (code_of e)) where
+    (others : (i first e : ℕ) → 0 < queued_in i first e notes → (0 < total (λ (v : View Asked). queued_in i first e v.notes) ids) ⊎ IsReadCode (code_of e)) where
   abbrev q : id_plan.Plan
   q = ids_of p slots
 
@@ -118,14 +118,14 @@ module _ {O : Type 0} {g : Ghosts O} {state : O → OutState} {p : Plan} {slots 
         reason = subst (λ (i : ℕ). R i code attempt) same (subst (λ (z : ℕ). R h.id z attempt) e.0 (subst (λ (w : Option ℕ). R h.id h.code w) e.1 h.reason));
       }
 
-  queued_by : (k : IdLock Asked) (code : ℕ) (attempt : Option ℕ) → IsLow attempt → 0 < queued_in k.slot (parts k.word.0).first (error_in code attempt) notes → Poster (id_in k) code attempt ⊎ IsLossCode code
+  queued_by : (k : IdLock Asked) (code : ℕ) (attempt : Option ℕ) → IsLow attempt → 0 < queued_in k.slot (parts k.word.0).first (error_in code attempt) notes → Poster (id_in k) code attempt ⊎ IsReadCode code
   queued_by k code attempt low there = elim (others k.slot (parts k.word.0).first (error_in code attempt) there) [
     | inl own ↦ inl (by_clients k code attempt low own)
-    | inr loss ↦ inr (subst IsLossCode (code_is code attempt low) loss)
+    | inr loss ↦ inr (subst IsReadCode (code_is code attempt low) loss)
   ]
 
   -- the error of a lock of a client
-  pub posted_by : (c : ℕ) (x : Client g state p q) → get_elem? crew c ≡ some x → (k : IdLock Asked) (code : ℕ) (attempt : Option ℕ) → Cause state p q (tasks_of x) (Says run outcomes said) (deeds_of x) (view_of x) k code attempt → Poster (id_in k) code attempt ⊎ IsLossCode code
+  pub posted_by : (c : ℕ) (x : Client g state p q) → get_elem? crew c ≡ some x → (k : IdLock Asked) (code : ℕ) (attempt : Option ℕ) → Cause state p q (tasks_of x) (Says run outcomes said) (deeds_of x) (view_of x) k code attempt → Poster (id_in k) code attempt ⊎ IsReadCode code
   posted_by c x at k code attempt cause = elim cause.origin [
     | posted_so reason ↦ inl (record { place = c; client = x; at = at; reason = reason })
     | handed_out word found locked first oldest some_ ↦ queued_by k code attempt (timely_low attempt (parts k.word.0).attempt (let a = k.fits.room in let b = k.fits.range_high in omega (arith, a, b)) cause.timely) (

@@ -26,7 +26,6 @@ use Rattle.corr_id.proofs.Seats.{notes_append, total_append}
 use Rattle.prpc_frame.specs.Meaning.{frame_of}
 use Rattle.prpc_frame.specs.declared.frame.Frame.{Frame}
 use Rattle.call_client.proofs.Telling.{did_total}
-use Rattle.call_told.specs.Answers.{IsLossCode, at_end, at_fault, at_want}
 use Rattle.call_table.specs.Responses.{ending_of}
 use Rattle.call_told.specs.rpc_reader.specs.Books.{Books, EndedAs, id_of}
 use Rattle.call_told.specs.rpc_reader.specs.Met.{slot_in, is_asked, is_for, AnsweredBy, MetIf, FramesMet}
@@ -35,12 +34,14 @@ use Rattle.call_told.specs.rpc_reader.specs.declared.reading.How.{How}
 use Rattle.call_told.specs.rpc_reader.specs.declared.reading.How.TheVariants as how
 use Rattle.call_told.specs.rpc_reader.specs.Reading as reading
 use Rattle.call_told.specs.rpc_reader.specs.Linked.{ReadServed, ReadLinks}
+use Rattle.call_told.specs.rpc_reader.specs.Running.{is_starved}
 use Rattle.call_told.specs.rpc_reader.specs.Resting.{HadEnded, EndedLast, OneEnded, RestEnded}
+use Rattle.failed_told.proofs.Codes.{IsReadCode}
 use Rattle.failed_told.proofs.Views.{queued_silent, queued_in, Stays, queued_one, same_stays, quiet_stays, kept_stays, ended_stays, got_stays}
 
 -- each error that is noted as queued more has one of those codes
 pub record Queues (v w : View Asked) : Type 0 where
-  pub queued : (i first e : ℕ) → 0 < queued_in i first e w.notes → (0 < queued_in i first e v.notes) ⊎ IsLossCode (code_of e)
+  pub queued : (i first e : ℕ) → 0 < queued_in i first e w.notes → (0 < queued_in i first e v.notes) ⊎ IsReadCode (code_of e)
 
 pub queues_then : (u v w : View Asked) → Queues u v → Queues v w → Queues u w
 queues_then u v w a b = record { queued = λ i first e h. elim (b.queued i first e h) [ inl x ↦ a.queued i first e x | inr y ↦ inr y ] }
@@ -60,17 +61,18 @@ coded code n low = omega (arith, low)
 code_at : (code w : ℕ) → code_of (error_in code (attempt_at w)) ≡ code
 code_at code w = elim (nat_lt (at_word_attempt w) 7) as (λ (b : Bool). code_of (error_in code (if b then Some (at_word_attempt w) else None)) ≡ code) [ true ↦ coded code (at_word_attempt w) (omega arith) | false ↦ coded code 7 (omega arith) ]
 
-loss_code : (how : How) → IsLossCode (reading.code_of how)
-loss_code how.Fault = at_fault refl
-loss_code how.NoMemory = at_want refl
-loss_code other = at_end refl
+-- memory was never wanting
+loss_code : (how : How) → is_starved how ≡ false → IsReadCode (reading.code_of how)
+loss_code how.Fault calm = inr refl
+loss_code how.NoMemory calm = let k : true ≡ false = calm in absurd (cc)
+loss_code other calm = inl refl
 
 -- ## Steps
 
 ended_queues : (slot : ℕ) (w : Parts) (call : Asked) (by : Outcome) (b b' : Books) → EndedAs slot w call by b b' → Queues b.view b'.view
 ended_queues slot w call by b b' e = none_queued b.view b'.view (ended_stays slot w.first b.view b'.view e.ended)
 
-post_queues : (slots : ℕ) (v w : View Asked) (id code : ℕ) (attempt : Option ℕ) (answer : Posted Asked) → code_of (error_in code attempt) ≡ code → IsLossCode code → PostOk slots v w id code attempt answer → Queues v w
+post_queues : (slots : ℕ) (v w : View Asked) (id code : ℕ) (attempt : Option ℕ) (answer : Posted Asked) → code_of (error_in code attempt) ≡ code → IsReadCode code → PostOk slots v w id code attempt answer → Queues v w
 post_queues slots v w id code attempt (HasLock k) whole loss p = none_queued v w (got_stays k.slot v w p.4.0 (parts k.word.0) k.content p.4.1)
 post_queues slots v w id code attempt IsQueued whole loss p = record {
   queued = λ i first e h. (
@@ -78,7 +80,7 @@ post_queues slots v w id code attempt IsQueued whole loss p = record {
       let a = did_total (is_queued first e) (queued_silent first e) (slot_of id) v w _ es p.0 i in
       dite (ℕ_discrete (queued_in i first e es) 0)
       (λ z. inl (omega (arith, a, z, h)))
-      (λ ne. inr (let x = queued_one (slot_of id) i first e (version_of id) (error_in code attempt) (omega (arith, ne)) in subst IsLossCode (sym whole ∙ ap code_of x.2) loss)));
+      (λ ne. inr (let x = queued_one (slot_of id) i first e (version_of id) (error_in code attempt) (omega (arith, ne)) in subst IsReadCode (sym whole ∙ ap code_of x.2) loss)));
 }
 post_queues slots v w id code attempt (Gone found) whole loss p = none_queued v w (quiet_stays v w p.0)
 post_queues slots v w id code attempt (Stale current) whole loss p = none_queued v w (quiet_stays v w p.0)
@@ -116,7 +118,7 @@ module _ (code : ℕ) where
   posted_to (Stale current) b b' h = queues_same b b' h
   posted_to (Crowded first second) b b' h = queues_same b b' h
 
-  module _ (loss : IsLossCode code) where
+  module _ (loss : IsReadCode code) where
     posted_if : (a : Bool) (slots w : ℕ) (b b' : Books) → PostedIf a slots code w b b' → Queues b.view b'.view
     posted_if false slots w b b' h = queues_same b b' h
     posted_if true slots w b b' h = queues_then b.view h.seen b'.view (post_queues slots b.view h.seen (call_at w) code (attempt_at w) h.answer (code_at code w) loss h.posted) (posted_to h.answer (record b { view = h.seen }) b' h.then_)
@@ -148,7 +150,7 @@ module _ (code : ℕ) where
 module _ {O I P : Type 0} (out : O → OutState) (inn : I → InState) (q : Plan) (calls : List ℕ) where
   link_queues : (link : ℕ) (e e' : Ends O I P) (b b' : Books) → ReadServed out inn q calls link e e' b b' → Queues b.view b'.view
   link_queues link e e' b b' r = let m = r.read.met in let met = r.read.read.met in
-      queues_then b.view m.view b'.view (frames_queues q.slots met.frames b m met.met) (posted_all (reading.code_of r.read.how) (loss_code r.read.how) q link calls m b' r.read.posted)
+      queues_then b.view m.view b'.view (frames_queues q.slots met.frames b m met.met) (posted_all (reading.code_of r.read.how) (loss_code r.read.how (r.read.calm refl).1) q link calls m b' r.read.posted)
 
   pub read_queues : (link : ℕ) (es es' : List (Ends O I P)) (b b' : Books) → ReadLinks out inn q calls link es es' b b' → Queues b.view b'.view
   read_queues link [] [] b b' r = queues_same b b' r
@@ -165,7 +167,7 @@ notes_flat i f (v ∷ vs) =
     let a = ap (total f) (notes_append i v.notes rest) in let b = total_append f (notes_of i v.notes) (notes_of i rest) in let c = notes_flat i f vs in omega (arith, a, b, c)
 
 -- one seat had what all these noted, and then read the links: whatever is noted as queued one of them noted so, or it has one of those codes
-pub others_queued : (vs : List (View Asked)) (v w : View Asked) → v.notes ≡ flat_map (λ (x : View Asked). x.notes) vs → Queues v w → (i first e : ℕ) → 0 < queued_in i first e w.notes → (0 < total (λ (x : View Asked). queued_in i first e x.notes) vs) ⊎ IsLossCode (code_of e)
+pub others_queued : (vs : List (View Asked)) (v w : View Asked) → v.notes ≡ flat_map (λ (x : View Asked). x.notes) vs → Queues v w → (i first e : ℕ) → 0 < queued_in i first e w.notes → (0 < total (λ (x : View Asked). queued_in i first e x.notes) vs) ⊎ IsReadCode (code_of e)
 others_queued vs v w took q i first e h = elim (q.queued i first e h) [
   | inl own ↦ inl (let a = ap (queued_in i first e) took in let b = notes_flat i (is_queued first e) vs in omega (arith, a, b, own))
   | inr loss ↦ inr loss

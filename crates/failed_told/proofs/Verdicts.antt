@@ -48,7 +48,6 @@ use Rattle.call_places.specs.Deeds.{Deed}
 use Rattle.call_places.proofs.Weights.{mapped}
 use Rattle.call_places.proofs.Clients.{Client, view_of, tasks_of, deeds_of}
 use Rattle.call_places.proofs.Places.{all as all_clients, tasks_are}
-use Rattle.call_told.specs.Answers.{IsLossCode}
 use Rattle.call_told.specs.Least.{is_made_for, is_locked_for}
 use Rattle.call_told.proofs.Ends.{IsEndOf}
 use Rattle.call_told.proofs.Least.{lock_of, end_number}
@@ -58,7 +57,7 @@ use Rattle.expire_told.proofs.Making.{slice_at}
 use Rattle.failed_told.specs.Missed.{missed_in, id_of, IsBacked, attempt_of}
 use Rattle.failed_told.specs.Reasons.{KeepsWord, Reason, timed_out, missed, dropped, IsCaused}
 use Rattle.failed_told.proofs.Clients.{Says}
-use Rattle.failed_told.proofs.Codes.{IsMissCode, deed_code}
+use Rattle.failed_told.proofs.Codes.{IsMissCode, IsReadCode, deed_code}
 use Rattle.failed_told.proofs.Posters.{Poster, within, posted_by}
 use Rattle.failed_told.proofs.Views.{queued_in}
 
@@ -95,7 +94,7 @@ module _ {O : Type 0} {g : Ghosts O} {state : O → OutState} {p : Plan} {slots 
     (notes : List (Noted Asked)) (kept : List Kept) (words : List ℕ) (closing : Closing (ids_of p slots) notes kept words) (noted : HaveNotesOf ids notes) (keeps : HaveKeptOf ids kept)
     (outcomes : List (Option Outcome)) (said_own : AreSaid outcomes told) (said_ended : AreSaid outcomes ended)
     -- whatever the clients didn't queue has a code with which whoever reads the links ends calls
-    (others : (i first e : ℕ) → 0 < queued_in i first e notes → (0 < total (λ (v : View Asked). queued_in i first e v.notes) ids) ⊎ IsLossCode (code_of e)) where
+    (others : (i first e : ℕ) → 0 < queued_in i first e notes → (0 < total (λ (v : View Asked). queued_in i first e v.notes) ids) ⊎ IsReadCode (code_of e)) where
   abbrev q : id_plan.Plan
   q = ids_of p slots
 
@@ -199,7 +198,7 @@ module _ {O : Type 0} {g : Ghosts O} {state : O → OutState} {p : Plan} {slots 
         timed : e.code ≡ ERPCTIMEDOUT → WasExpired → Verdict
         lost : MissedLast → Verdict
         fell : DroppedLast → Verdict
-        behind : IsLossCode e.code → Verdict
+        behind : IsReadCode e.code → Verdict
 
       is_current : (n : ℕ) → e.attempt ≡ Some n → IsCurrent n
       is_current n is = (is, subst (λ (a : Option ℕ). IsTimely a (parts lock.word.0).attempt) is e.cause.timely)

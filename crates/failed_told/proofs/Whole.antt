@@ -29,7 +29,6 @@ use Rattle.call_places.specs.Counted.{HaveNotesOf}
 use Rattle.call_places.specs.Deeds.{Deed}
 use Rattle.call_places.proofs.Clients.{Client, view_of, tasks_of, deeds_of}
 use Rattle.call_places.proofs.Places.{all as all_clients}
-use Rattle.call_told.specs.Answers.{IsLossCode}
 use Rattle.expire_told.specs.Said.{AreSaid, HaveKeptOf}
 use Rattle.sock_deeds.specs.Runs.{IsOperation, seat_of, DeedRun}
 use Rattle.sock_deeds.proofs.Accepting.{log}
@@ -42,13 +41,14 @@ use Rattle.failed_told.proofs.Clients.{Says}
 use Rattle.failed_told.proofs.Fallen.{same_range, one_operation, unordered, Fallen, fallen}
 use Rattle.failed_told.proofs.Losses.{IsAskedIn, deed_why}
 use Rattle.failed_told.proofs.Verdicts.{lock, id, operation, made_so, MissedLast, IsAskedSo, last_attempt}
+use Rattle.failed_told.proofs.Codes.{IsReadCode}
 use Rattle.failed_told.proofs.Views.{queued_in}
 
 module _ {O : Type 0} {g : Ghosts O} {state : O → OutState} {p : Plan} {slots : ℕ} {setup : List Task} {clients : List (List Task)} {opens : List ℕ} {told ended : List (List Told)} {places : List PlaceWord} {vrefs : List Vref} {outs : List O} {ids : List (View Asked)}
     (run : RanOn g state p slots setup clients opens told ended places vrefs outs ids) (tasks : AreTasks p (setup ∷ clients)) (may : MayRunAll p (ids_of p slots) setup clients)
     (notes : List (Noted Asked)) (kept : List Kept) (words : List ℕ) (closing : Closing (ids_of p slots) notes kept words) (noted : HaveNotesOf ids notes) (keeps : HaveKeptOf ids kept)
     (outcomes : List (Option Outcome)) (said_own : AreSaid outcomes told) (said_ended : AreSaid outcomes ended)
-    (others : (i first e : ℕ) → 0 < queued_in i first e notes → (0 < total (λ (v : View Asked). queued_in i first e v.notes) ids) ⊎ IsLossCode (code_of e))
+    (others : (i first e : ℕ) → 0 < queued_in i first e notes → (0 < total (λ (v : View Asked). queued_in i first e v.notes) ids) ⊎ IsReadCode (code_of e))
     (drun : DeedRun g state p (setup ∷ clients) outcomes places vrefs outs) (seats : map seat_of drun.seats ≡ map (λ (x : Thread g). x.ended.seat) (run.ran.main ∷ run.ran.others)) (logged : log drun ≡ run.closed.ordered.log) (differ : PlacesDiffer (log drun)) (gave : ℕ → List ℕ)
     (all_there : length (log drun) ≤ all_accepted p.links (orders drun differ))
     -- whatever was asked by a call of which an attempt was made is a task
