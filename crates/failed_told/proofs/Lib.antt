@@ -4,6 +4,7 @@ pub mod Clients
 pub mod Codes
 pub mod Reading
 pub mod Posters
+pub mod Queued
 pub mod Verdicts
 pub mod Behind
 pub mod Losses

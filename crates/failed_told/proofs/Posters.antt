@@ -43,14 +43,14 @@ use Rattle.failed_told.proofs.Views.{queued_in}
 -- ## Errors in words
 
 -- an attempt that an error can be for
-abbrev IsLow : Option ℕ → Type 0
+abbrev pub IsLow : Option ℕ → Type 0
 IsLow None = Unit {0}
 IsLow (Some n) = n ≤ 6
 
 low_of : (attempt : Option ℕ) (n : ℕ) → n ≤ 6 → attempt ≡ Some n → IsLow attempt
 low_of attempt n low e = subst IsLow (sym e) low
 
-code_is : (code : ℕ) (attempt : Option ℕ) → IsLow attempt → code_of (error_in code attempt) ≡ code
+pub code_is : (code : ℕ) (attempt : Option ℕ) → IsLow attempt → code_of (error_in code attempt) ≡ code
 code_is code None low = omega arith
 code_is code (Some n) low = omega (arith, low)
 
@@ -70,7 +70,7 @@ module _ {O : Type 0} {g : Ghosts O} {state : O → OutState} {p : Plan} {q : id
   attempt_low (operates x by s t a) = omega arith
   attempt_low (retries r s t by) = r.low
 
-  reason_low : {xs : List Task} {S : ℕ → Outcome → Type 0} {ds : List (Deed g state p q)} {v : View Asked} {id code : ℕ} {attempt : Option ℕ} → Reason state p q xs S ds v id code attempt → IsLow attempt
+  pub reason_low : {xs : List Task} {S : ℕ → Outcome → Type 0} {ds : List (Deed g state p q)} {v : View Asked} {id code : ℕ} {attempt : Option ℕ} → Reason state p q xs S ds v id code attempt → IsLow attempt
   reason_low {attempt = attempt} (timed_out i x operation by s t h there is says counts keeps a b c) = subst IsLow (sym c) tt
   reason_low {attempt = attempt} (missed i d there is backed a b) = low_of attempt (attempt_of d) (attempt_low d) b
   reason_low {attempt = attempt} (dropped life x s y t h a b c) = low_of attempt h.msg.label.attempt h.msg.numbered c
