@@ -19,6 +19,7 @@ use Rattle.sock_programs.specs.Scripts.{all_tasks}
 use Rattle.sock_programs.specs.Tasks.{plan_of, opens, calls}
 use Rattle.corr_core.specs.declared.marks.Plan as id_plan
 use Rattle.rpc_client.specs.declared.acting.Told.{Told}
+use Rattle.call_deeds.specs.sock_deeds.specs.Told.{fixed_by}
 use Rattle.script_links.specs.Given.{AreUntouched, AreNumbered}
 use Rattle.script_calls.specs.declared.halves.Rest.{Rest}
 use Rattle.script_calls.specs.Halves.{AreTaken, rest_of, joined}
@@ -139,7 +140,7 @@ module _ (P : Type 0) {O I : Type 0} (out : O → OutState) (inn : I → InState
           reported = r.reported;
           answered = answered;
           sockets = sockets;
-          on_calls = calls_told g out inn bytes script reads r.told r.ended r.places r.ids (left_of r) r.ends r.ends' r.last r.read;
+          on_calls = calls_told g out inn bytes script reads r.told r.ended r.places r.ids (left_of r) r.ends r.ends' r.last r.read (fixed_by sockets.broken sockets.fails) answered.gave sockets.orders;
           once = run_shown out inn (ids_of (plan_of script) (length (calls script))) (calls script) (plan_of script).operations r.told r.ended r.last r.ids r.ends r.ends' (own_told r) (balanced_told r) r.read;
           whole = whole_if bytes script reads text (outcomes_of (plan_of script).operations r.told r.ended r.last) r.places answered.gave links long r.reported sockets;
         }
