@@ -1,4 +1,4 @@
-use crate::brpc;
+use brpc_eng::brpc;
 use loop_link::LoopLinker;
 use script_items::number;
 use sock_io::{MemSink, MemSource, OpenGate, SinkLinker};
