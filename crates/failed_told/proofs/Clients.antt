@@ -15,12 +15,12 @@ use Rattle.sock_programs.specs.declared.task.Task.{Task}
 use Rattle.sock_programs.specs.Told.{Became}
 use Rattle.corr_core.specs.declared.marks.View.{View}
 use Rattle.sock_message.specs.Asked.{Asked}
-use Rattle.rpc_client.specs.declared.acting.Told.{Told}
-use Rattle.call_errors.specs.Books.{Books}
-use Rattle.call_run.specs.Threads.{Thread, RanOn, ids_of}
-use Rattle.call_places.proofs.Weights.{mapped}
-use Rattle.call_places.proofs.Clients.{Client, view_of, tasks_of, deeds_of}
-use Rattle.call_places.proofs.Places.{all as all_clients, all_are}
+use Rattle.expire_told.specs.rpc_client.specs.declared.acting.Told.{Told}
+use Rattle.expire_told.specs.call_errors.specs.Books.{Books}
+use Rattle.expire_told.specs.call_run.specs.Threads.{Thread, RanOn, ids_of}
+use Rattle.expire_told.specs.call_places.proofs.Weights.{mapped}
+use Rattle.expire_told.specs.call_places.proofs.Clients.{Client, view_of, tasks_of, deeds_of}
+use Rattle.expire_told.specs.call_places.proofs.Places.{all as all_clients, all_are}
 use Rattle.expire_told.specs.Said.{AreSaid}
 use Rattle.expire_told.proofs.Doing.{run_fed}
 use Rattle.failed_told.specs.Reasons.{IsCaused, QueuedFor}

@@ -16,23 +16,23 @@ use Rattle.sock_model.specs.declared.view.View.{View}
 use Rattle.sock_model.specs.Layout.{name_word, request_word}
 use Rattle.sock_model.specs.SlotRows.{marks_of}
 use Rattle.sock_model.specs.Weights.{is_known, is_saw, only, total}
-use Rattle.slot_laws.proofs.Numbers.{only-same}
-use Rattle.sock_rule.specs.Becoming.{Became}
-use Rattle.sock_rule.specs.declared.homes.Letter.{Letter}
-use Rattle.sock_table.specs.Named.{HasSeen, Found}
+use Rattle.expire_told.specs.sock_rule.specs.slot_laws.proofs.Numbers.{only-same}
+use Rattle.expire_told.specs.sock_rule.specs.Becoming.{Became}
+use Rattle.expire_told.specs.sock_rule.specs.declared.homes.Letter.{Letter}
+use Rattle.expire_told.specs.sock_table.specs.Named.{HasSeen, Found}
 use Rattle.sock_programs.specs.declared.task.Op.{Op}
 use Rattle.sock_programs.specs.declared.task.Op.TheVariants as ops
 use Rattle.corr_core.specs.declared.marks.Plan as id_plan
 use Rattle.sock_message.specs.Asked.{Asked, name_of}
-use Rattle.write_chain.specs.declared.entry.Refused.{Refused}
-use Rattle.write_chain.specs.declared.entry.Refused.TheVariants as refusal
-use Rattle.call_attempts.specs.Both.{Both}
-use Rattle.call_attempts.specs.Attempting.{code_for, CameBack, DeliveredBy, went_out, came_back, AttemptedBy, nowhere, over_link}
-use Rattle.call_attempts.specs.Letters.{letter_for}
-use Rattle.call_attempts.specs.Retrying.{IsStray, WentTo, stray, unopened, to_socket, had_ended, overtaken, went_again}
-use Rattle.call_client.specs.Acting.{Stand, both_of, Acted}
-use Rattle.call_places.specs.Deeds.{Deed, operates, retries}
-use Rattle.sock_deeds.proofs.Growing.{Grew, HasFound, grew_then, added_grew, returned_grew}
+use Rattle.expire_told.specs.write_chain.specs.declared.entry.Refused.{Refused}
+use Rattle.expire_told.specs.write_chain.specs.declared.entry.Refused.TheVariants as refusal
+use Rattle.expire_told.specs.call_attempts.specs.Both.{Both}
+use Rattle.expire_told.specs.call_attempts.specs.Attempting.{code_for, CameBack, DeliveredBy, went_out, came_back, AttemptedBy, nowhere, over_link}
+use Rattle.expire_told.specs.call_attempts.specs.Letters.{letter_for}
+use Rattle.expire_told.specs.call_attempts.specs.Retrying.{IsStray, WentTo, stray, unopened, to_socket, had_ended, overtaken, went_again}
+use Rattle.expire_told.specs.call_client.specs.Acting.{Stand, both_of, Acted}
+use Rattle.expire_told.specs.call_places.specs.Deeds.{Deed, operates, retries}
+use Rattle.expire_told.specs.sock_deeds.proofs.Growing.{Grew, HasFound, grew_then, added_grew, returned_grew}
 use Rattle.failed_told.specs.Missed.{delivery_missed, attempt_missed, went_missed, acted_missed, missed_in, attempt_of, socks_behind}
 
 -- ## What was seen

@@ -25,14 +25,14 @@ use Rattle.corr_id.specs.Calls.{is_saw, slot_of, version_of, error_in}
 use Rattle.corr_id.specs.Closing.{Closing}
 use Rattle.corr_id.specs.Posts.{IsTimely}
 use Rattle.corr_id.specs.declared.calls.IdLock.{IdLock}
-use Rattle.rpc_client.specs.declared.acting.Told.{Told}
-use Rattle.call_errors.specs.Locking.{id_in}
-use Rattle.call_run.specs.Threads.{RanOn, ids_of}
-use Rattle.call_places.specs.Counted.{HaveNotesOf}
-use Rattle.call_places.specs.Deeds.{Deed, operates, retries}
-use Rattle.call_places.proofs.Weights.{term}
-use Rattle.call_places.proofs.Clients.{Client, total_map, view_of, tasks_of, deeds_of}
-use Rattle.call_places.proofs.Places.{all as all_clients, views_are}
+use Rattle.expire_told.specs.rpc_client.specs.declared.acting.Told.{Told}
+use Rattle.expire_told.specs.call_errors.specs.Locking.{id_in}
+use Rattle.expire_told.specs.call_run.specs.Threads.{RanOn, ids_of}
+use Rattle.expire_told.specs.call_places.specs.Counted.{HaveNotesOf}
+use Rattle.expire_told.specs.call_places.specs.Deeds.{Deed, operates, retries}
+use Rattle.expire_told.specs.call_places.proofs.Weights.{term}
+use Rattle.expire_told.specs.call_places.proofs.Clients.{Client, total_map, view_of, tasks_of, deeds_of}
+use Rattle.expire_told.specs.call_places.proofs.Places.{all as all_clients, views_are}
 use Rattle.expire_told.specs.Said.{AreSaid}
 use Rattle.failed_told.specs.Missed.{attempt_of}
 use Rattle.failed_told.specs.Reasons.{Reason, timed_out, missed, dropped, posted_so, handed_out, Cause}

@@ -1,7 +1,7 @@
 -- Which codes are queued in the words of ids.
 use Rattle.std.proofs.Common.{◌≡◌, ℕ, ◌<◌, ◌⊎◌, inl, inr, List, [], ◌∷◌, Some, refl, sym, ◌∙◌, subst, ap, arith}
 use Rattle.std.specs.Prelude.{Option, Contains, slice_get}
-use Rattle.call_places.specs.report_fits.proofs.Lists.{contains_from}
+use Rattle.expire_told.specs.report_fits.proofs.Lists.{contains_from}
 use Rattle.sock_io.specs.declared.link.Out.{Ghosts}
 use Rattle.sock_io.specs.Link.{OutState}
 use Rattle.sock_words.specs.Codes.{EEOF, EFAILEDSOCKET, EREQUESTS, ERESPONSE, ERPCTIMEDOUT}
@@ -19,13 +19,13 @@ use Rattle.corr_core.specs.declared.marks.Plan as id_plan
 use Rattle.corr_core.specs.declared.marks.View.{View}
 use Rattle.corr_core.proofs.Notes.{total_some}
 use Rattle.sock_message.specs.Asked.{Asked}
-use Rattle.rpc_client.specs.declared.acting.Told.{Told}
-use Rattle.call_errors.specs.Books.{CallStand}
-use Rattle.call_writes.specs.Draining.{DroppedOne}
-use Rattle.call_run.specs.Threads.{RanOn, ids_of}
-use Rattle.call_places.specs.Deeds.{Deed}
-use Rattle.call_places.proofs.Clients.{Client, total_map, view_of}
-use Rattle.call_places.proofs.Places.{all as all_clients, views_are}
+use Rattle.expire_told.specs.rpc_client.specs.declared.acting.Told.{Told}
+use Rattle.expire_told.specs.call_errors.specs.Books.{CallStand}
+use Rattle.expire_told.specs.call_writes.specs.Draining.{DroppedOne}
+use Rattle.expire_told.specs.call_run.specs.Threads.{RanOn, ids_of}
+use Rattle.expire_told.specs.call_places.specs.Deeds.{Deed}
+use Rattle.expire_told.specs.call_places.proofs.Clients.{Client, total_map, view_of}
+use Rattle.expire_told.specs.call_places.proofs.Places.{all as all_clients, views_are}
 use Rattle.expire_told.specs.Said.{AreSaid}
 use Rattle.failed_told.specs.Reasons.{Reason, timed_out, missed, dropped}
 use Rattle.failed_told.proofs.Clients.{queued_caused}

@@ -23,19 +23,19 @@ use Rattle.corr_id.specs.declared.posts.Posted.TheVariants.{Locked as HasLock, Q
 use Rattle.corr_id.specs.Calls.{slot_of, version_of, error_in, one}
 use Rattle.corr_id.specs.Posts.{PostOk}
 use Rattle.corr_id.proofs.Seats.{notes_append, total_append}
-use Rattle.prpc_frame.specs.Meaning.{frame_of}
-use Rattle.prpc_frame.specs.declared.frame.Frame.{Frame}
-use Rattle.call_client.proofs.Telling.{did_total}
+use Rattle.expire_told.specs.call_run.specs.prpc_frame.specs.Meaning.{frame_of}
+use Rattle.expire_told.specs.call_run.specs.prpc_frame.specs.declared.frame.Frame.{Frame}
+use Rattle.expire_told.specs.call_client.proofs.Telling.{did_total}
 use Rattle.call_table.specs.Responses.{ending_of}
-use Rattle.call_told.specs.rpc_reader.specs.Books.{Books, EndedAs, id_of}
-use Rattle.call_told.specs.rpc_reader.specs.Met.{slot_in, is_asked, is_for, AnsweredBy, MetIf, FramesMet}
-use Rattle.call_told.specs.rpc_reader.specs.Posting.{LostBy, LockLost, PostedTo, PostedIf, PostedAt, PostedAll, call_at, attempt_at}
-use Rattle.call_told.specs.rpc_reader.specs.declared.reading.How.{How}
-use Rattle.call_told.specs.rpc_reader.specs.declared.reading.How.TheVariants as how
-use Rattle.call_told.specs.rpc_reader.specs.Reading as reading
-use Rattle.call_told.specs.rpc_reader.specs.Linked.{ReadServed, ReadLinks}
-use Rattle.call_told.specs.rpc_reader.specs.Running.{is_starved}
-use Rattle.call_told.specs.rpc_reader.specs.Resting.{HadEnded, EndedLast, OneEnded, RestEnded}
+use Rattle.expire_told.specs.call_deeds.specs.rpc_reader.specs.Books.{Books, EndedAs, id_of}
+use Rattle.expire_told.specs.call_deeds.specs.rpc_reader.specs.Met.{slot_in, is_asked, is_for, AnsweredBy, MetIf, FramesMet}
+use Rattle.expire_told.specs.call_deeds.specs.rpc_reader.specs.Posting.{LostBy, LockLost, PostedTo, PostedIf, PostedAt, PostedAll, call_at, attempt_at}
+use Rattle.expire_told.specs.call_deeds.specs.rpc_reader.specs.declared.reading.How.{How}
+use Rattle.expire_told.specs.call_deeds.specs.rpc_reader.specs.declared.reading.How.TheVariants as how
+use Rattle.expire_told.specs.call_deeds.specs.rpc_reader.specs.Reading as reading
+use Rattle.expire_told.specs.call_deeds.specs.rpc_reader.specs.Linked.{ReadServed, ReadLinks}
+use Rattle.expire_told.specs.call_deeds.specs.rpc_reader.specs.Running.{is_starved}
+use Rattle.expire_told.specs.call_deeds.specs.rpc_reader.specs.Resting.{HadEnded, EndedLast, OneEnded, RestEnded}
 use Rattle.failed_told.proofs.Codes.{IsReadCode}
 use Rattle.failed_told.proofs.Views.{queued_silent, queued_in, Stays, queued_one, same_stays, quiet_stays, kept_stays, ended_stays, got_stays}
 

@@ -9,7 +9,7 @@ use Rattle.sock_words.specs.declared.outcome.Outcome.{Outcome}
 use Rattle.sock_words.specs.declared.plain.Plan.{Plan}
 use Rattle.sock_words.specs.declared.place_word.PlaceWord.{PlaceWord}
 use Rattle.sock_words.specs.declared.vref.Vref.{Vref}
-use Rattle.sock_rule.specs.Closing.{PlacesDiffer}
+use Rattle.expire_told.specs.sock_rule.specs.Closing.{PlacesDiffer}
 use Rattle.sock_programs.specs.declared.task.Op.TheVariants as ops
 use Rattle.sock_programs.specs.declared.task.Task.{Task}
 use Rattle.sock_programs.specs.Told.{AreTasks}
@@ -23,18 +23,18 @@ use Rattle.corr_core.specs.declared.marks.View.{View}
 use Rattle.sock_message.specs.Asked.{Asked}
 use Rattle.corr_id.specs.Calls.{slot_of}
 use Rattle.corr_id.specs.Closing.{Closing}
-use Rattle.rpc_client.specs.declared.acting.Told.{Told}
-use Rattle.call_run.specs.Threads.{Thread, RanOn, MayRunAll, ids_of}
-use Rattle.call_places.specs.Counted.{HaveNotesOf}
-use Rattle.call_places.specs.Deeds.{Deed}
-use Rattle.call_places.proofs.Clients.{Client, view_of, tasks_of, deeds_of}
-use Rattle.call_places.proofs.Places.{all as all_clients}
+use Rattle.expire_told.specs.rpc_client.specs.declared.acting.Told.{Told}
+use Rattle.expire_told.specs.call_run.specs.Threads.{Thread, RanOn, MayRunAll, ids_of}
+use Rattle.expire_told.specs.call_places.specs.Counted.{HaveNotesOf}
+use Rattle.expire_told.specs.call_places.specs.Deeds.{Deed}
+use Rattle.expire_told.specs.call_places.proofs.Clients.{Client, view_of, tasks_of, deeds_of}
+use Rattle.expire_told.specs.call_places.proofs.Places.{all as all_clients}
 use Rattle.expire_told.specs.Said.{AreSaid, HaveKeptOf}
-use Rattle.sock_deeds.specs.Runs.{IsOperation, seat_of, DeedRun}
-use Rattle.sock_deeds.proofs.Accepting.{log}
-use Rattle.sock_deeds.proofs.Orders.{orders}
-use Rattle.sock_deeds.proofs.Tasks.{same_task}
-use Rattle.sock_deeds.proofs.Whole.{fixed}
+use Rattle.expire_told.specs.sock_deeds.specs.Runs.{IsOperation, seat_of, DeedRun}
+use Rattle.expire_told.specs.sock_deeds.proofs.Accepting.{log}
+use Rattle.expire_told.specs.sock_deeds.proofs.Orders.{orders}
+use Rattle.expire_told.specs.sock_deeds.proofs.Tasks.{same_task}
+use Rattle.expire_told.specs.sock_deeds.proofs.Whole.{fixed}
 use Rattle.failed_told.specs.Missed.{id_of, attempt_of}
 use Rattle.failed_told.specs.Reasons.{IsCaused}
 use Rattle.failed_told.proofs.Clients.{Says}

@@ -25,15 +25,15 @@ use Rattle.corr_id.specs.declared.posts.Posted.TheVariants.{Locked as HasLock, Q
 use Rattle.corr_id.specs.Calls.{Found, slot_of, version_of, error_in}
 use Rattle.corr_id.specs.Posts.{IsTimely}
 use Rattle.call_table.specs.declared.errors.Decision.TheVariants as decisions
-use Rattle.rpc_client.specs.declared.acting.Told.{Told}
-use Rattle.call_errors.specs.Books.{CallStand}
-use Rattle.call_errors.specs.Locking.{id_in}
-use Rattle.call_errors.specs.Ending.{failed}
-use Rattle.call_errors.specs.Handling.{decision}
-use Rattle.call_errors.specs.Asking.{TimedOut}
-use Rattle.call_writes.specs.Draining.{DroppedOne}
-use Rattle.call_told.specs.Least.{is_locked_for}
-use Rattle.call_places.specs.Deeds.{Deed}
+use Rattle.expire_told.specs.rpc_client.specs.declared.acting.Told.{Told}
+use Rattle.expire_told.specs.call_errors.specs.Books.{CallStand}
+use Rattle.expire_told.specs.call_errors.specs.Locking.{id_in}
+use Rattle.expire_told.specs.call_errors.specs.Ending.{failed}
+use Rattle.expire_told.specs.call_errors.specs.Handling.{decision}
+use Rattle.expire_told.specs.call_errors.specs.Asking.{TimedOut}
+use Rattle.expire_told.specs.call_writes.specs.Draining.{DroppedOne}
+use Rattle.expire_told.specs.call_told.specs.Least.{is_locked_for}
+use Rattle.expire_told.specs.call_places.specs.Deeds.{Deed}
 use Rattle.failed_told.specs.Missed.{missed_in, id_of, IsBacked, attempt_of}
 
 -- the post locked the id, or its error was queued there
