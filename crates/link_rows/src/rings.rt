@@ -30,19 +30,19 @@ fn asked() -> LinkSpec
 fn a_request_is_answered(rt: HostRuntime) -> Result<(), Fail> {
     let mut ends = open_ring(rt.alloc(), &asked(), 3).ok().ok_or("memory")?;
     let mut room = [0; 64];
-    assert_eq!(rt; ends.inn.take(&mut room), Take::Empty);
-    assert_eq!(rt; ends.peer.serve().ok(), Some(Served::Waiting));
-    assert_eq!(rt; ends.out.put(REQUEST), Put::Took(30));
-    assert_eq!(rt; ends.peer.serve().ok(), Some(Served::Moved));
-    assert_eq!(rt; ends.peer.serve().ok(), Some(Served::Moved));
-    assert_eq!(rt; ends.inn.take(&mut room), Take::Took(20));
+    assert!(rt; ends.inn.take(&mut room) == Take::Empty);
+    assert!(rt; ends.peer.serve().ok() == Some(Served::Waiting));
+    assert!(rt; ends.out.put(REQUEST) == Put::Took(30));
+    assert!(rt; ends.peer.serve().ok() == Some(Served::Moved));
+    assert!(rt; ends.peer.serve().ok() == Some(Served::Moved));
+    assert!(rt; ends.inn.take(&mut room) == Take::Took(20));
     assert!(rt; room.starts_with(REPLY));
     ends.out.finish();
-    assert_eq!(rt; ends.out.put(REQUEST), Put::Failed);
-    assert_eq!(rt; ends.peer.serve().ok(), Some(Served::Moved));
-    assert_eq!(rt; ends.inn.take(&mut room), Take::Empty);
-    assert_eq!(rt; ends.peer.serve().ok(), Some(Served::Done));
-    assert_eq!(rt; ends.inn.take(&mut room), Take::Closed);
+    assert!(rt; ends.out.put(REQUEST) == Put::Failed);
+    assert!(rt; ends.peer.serve().ok() == Some(Served::Moved));
+    assert!(rt; ends.inn.take(&mut room) == Take::Empty);
+    assert!(rt; ends.peer.serve().ok() == Some(Served::Done));
+    assert!(rt; ends.inn.take(&mut room) == Take::Closed);
     Ok(())
 }
 
@@ -121,6 +121,6 @@ fn call_across<R: Threads + Wait + Sync>(
 #[test]
 fn one_thread_calls_and_another_serves(rt: HostRuntime) -> Result<(), Fail> {
     let ends = open_ring(rt.alloc(), &asked(), 0).ok().ok_or("memory")?;
-    assert_eq!(rt; call_across(&rt, ends, 3_000), 60_000);
+    assert!(rt; call_across(&rt, ends, 3_000) == 60_000);
     Ok(())
 }

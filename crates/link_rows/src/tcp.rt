@@ -107,8 +107,8 @@ fn converse<R: Threads + Net<Stream = TcpStream, Listener = TcpListener> + Sync>
 fn message_and_its_end_come_over(rt: HostRuntime) -> Result<(), Fail> {
     let port = free_port(&rt)?;
     let (heard, said) = converse(&rt, rt.alloc(), port);
-    assert_eq!(rt; heard, Some((true, Take::Took(7), Take::End, Put::Took(5))));
-    assert_eq!(rt; said, Some((true, Put::Took(7), Take::Took(5), Take::End)));
+    assert!(rt; heard == Some((true, Take::Took(7), Take::End, Put::Took(5))));
+    assert!(rt; said == Some((true, Put::Took(7), Take::Took(5), Take::End)));
     Ok(())
 }
 
@@ -136,14 +136,14 @@ fn lost_connection_fails(rt: HostRuntime) -> Result<(), Fail> {
     let (listener, port) = listen(&rt)?;
     let mut links = TcpLinker::new(&rt, rt.alloc());
     let mut ends = links.open(&asked(Mode::Tcp(port))).ok().ok_or("memory")?;
-    assert_eq!(rt; ends.out.put(b"message"), Put::Took(7));
+    assert!(rt; ends.out.put(b"message") == Put::Took(7));
     let (far, _) = listener.accept()?;
     let mut room = [0; 8];
     far.peek(&mut room)?;
     drop(far);
-    assert_eq!(rt; ends.inn.take(&mut room), Take::Failed);
-    assert_eq!(rt; ends.inn.take(&mut room), Take::Failed);
-    assert_eq!(rt; ends.out.put(b"message"), Put::Failed);
+    assert!(rt; ends.inn.take(&mut room) == Take::Failed);
+    assert!(rt; ends.inn.take(&mut room) == Take::Failed);
+    assert!(rt; ends.out.put(b"message") == Put::Failed);
     ends.out.finish();
     Ok(())
 }
@@ -156,7 +156,7 @@ fn link_is_closed_as_it_is_given_back(rt: HostRuntime) -> Result<(), Fail> {
     let ends = links.open(&asked(Mode::Tcp(port))).ok().ok_or("memory")?;
     let (mut far, _) = listener.accept()?;
     links.back(0, ends);
-    assert_eq!(rt; far.read(&mut [0; 8])?, 0);
+    assert!(rt; far.read(&mut [0; 8])? == 0);
     assert!(rt; links.open(&asked(Mode::Loop)).is_err());
     Ok(())
 }
@@ -201,11 +201,11 @@ impl Write for Shaky {
 fn interrupted_calls_are_made_again(rt: HostRuntime) {
     let mut reader = Shaky { calls: 0 };
     for want in [Ok(3), Ok(0), Err(Failed)] {
-        assert_eq!(rt; read_some(&mut reader, &mut [0; 4]), want);
+        assert!(rt; read_some(&mut reader, &mut [0; 4]) == want);
     }
     let mut writer = Shaky { calls: 0 };
     for want in [Ok(3), Err(Failed), Err(Failed)] {
-        assert_eq!(rt; write_some(&mut writer, b"abcd"), want);
+        assert!(rt; write_some(&mut writer, b"abcd") == want);
     }
 }
 
@@ -292,7 +292,7 @@ fn connection_takes_more_than_a_link_has_room_for(rt: HostRuntime) -> Result<(),
         move || flood_next(net, alloc, port),
         move || drain_once_heard(net, alloc, port),
     );
-    assert_eq!(rt; put, 2 * LINK_ROOM);
-    assert_eq!(rt; taken, put);
+    assert!(rt; put == 2 * LINK_ROOM);
+    assert!(rt; taken == put);
     Ok(())
 }
