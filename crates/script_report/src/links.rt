@@ -1,5 +1,5 @@
-ghost use Rattle.std.specs.Prelude.{◌≡◌, ◌++◌, take, OnOk};
-ghost use Rattle.script_report.specs.Lines.{label_words, labels_text, link_text, order_text, link_lines_text};
+ghost use Rattle.std.specs.Prelude.{◌≡◌, ◌++◌, take, codes, decimal, Some, OnOk};
+ghost use Rattle.script_report.specs.Lines.{label_at, label_words, labels_text, link_text, order_text, link_lines_text};
 
 use crate::operations::OperationPlace;
 use crate::writing::{push_hex_word, push_number};
@@ -25,6 +25,24 @@ fn front_of(bytes: &[u8], count: usize) -> &[u8]
     }
 }
 
+// Appends `link K NAME`.
+fn push_front(text: &mut Vec<u8>, link: usize, name: &[u8]) -> Result<(), AllocError>
+    ensures { OnOk result (text.new.items ≡ text.old.items ++ (codes "link " ++ decimal link ++ codes " " ++ name.now)) }
+{
+    text.extend_from_slice(b"link ")?;
+    push_number(text, link as u64)?;
+    text.extend_from_slice(b" ")?;
+    text.extend_from_slice(name)
+}
+
+// Appends a word and a number.
+fn push_count(text: &mut Vec<u8>, name: &[u8], count: usize) -> Result<(), AllocError>
+    ensures { OnOk result (text.new.items ≡ text.old.items ++ (name.now ++ decimal count)) }
+{
+    text.extend_from_slice(name)?;
+    push_number(text, count as u64)
+}
+
 // Appends the first line of a link.
 fn push_counts(
     alloc: Global,
@@ -37,21 +55,26 @@ fn push_counts(
 ) -> Result<(), AllocError>
     ensures { OnOk result (text.new.items ≡ text.old.items ++ link_text link name.now accepted placed took.now) }
 {
-    text.extend_from_slice(b"link ")?;
-    push_number(text, link as u64)?;
-    text.extend_from_slice(b" ")?;
-    text.extend_from_slice(name)?;
-    text.extend_from_slice(b" accepted ")?;
-    push_number(text, accepted as u64)?;
-    text.extend_from_slice(b" placed ")?;
-    push_number(text, placed as u64)?;
-    text.extend_from_slice(b" took ")?;
-    push_number(text, took.len() as u64)?;
+    push_front(text, link, name)?;
+    push_count(text, b" accepted ", accepted)?;
+    push_count(text, b" placed ", placed)?;
+    push_count(text, b" took ", took.len())?;
     push_hex_word(alloc, text, front_of(took, HEAD))?;
     text.extend_from_slice(b"\n")
 }
 
 // Appends `C.I.A`.
+fn push_attempt(text: &mut Vec<u8>, place: OperationPlace, attempt: u8) -> Result<(), AllocError>
+    ensures { OnOk result (text.new.items ≡ text.old.items ++ label_at (Some place) attempt) }
+{
+    push_number(text, place.client as u64)?;
+    text.extend_from_slice(b".")?;
+    push_number(text, place.number as u64)?;
+    text.extend_from_slice(b".")?;
+    push_number(text, u64::from(attempt))
+}
+
+// Appends the label of an accepted message, where there is such an operation.
 fn push_label(
     text: &mut Vec<u8>,
     places: &[OperationPlace],
@@ -59,14 +82,10 @@ fn push_label(
 ) -> Result<(), AllocError>
     ensures { OnOk result (text.new.items ≡ text.old.items ++ label_words places.now accepted) }
 {
-    let Some(place) = places.get(accepted.operation) else {
-        return Ok(());
-    };
-    push_number(text, place.client as u64)?;
-    text.extend_from_slice(b".")?;
-    push_number(text, place.number as u64)?;
-    text.extend_from_slice(b".")?;
-    push_number(text, u64::from(accepted.attempt))
+    match places.get(accepted.operation) {
+        Some(place) => push_attempt(text, *place, accepted.attempt),
+        None => Ok(()),
+    }
 }
 
 // Appends the labels in order.
