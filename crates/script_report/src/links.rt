@@ -2,7 +2,7 @@ ghost use Rattle.std.specs.Prelude.{◌≡◌, ◌++◌, take, codes, decimal, S
 ghost use Rattle.script_report.specs.Lines.{label_at, label_words, labels_text, link_text, order_text, link_lines_text};
 
 use crate::operations::OperationPlace;
-use crate::writing::{push_hex_word, push_number};
+use crate::writing::{push_hex_word, push_number, push_pair};
 use std::alloc::{AllocError, Global};
 
 /// How many of the bytes that a link took are shown.
@@ -67,9 +67,7 @@ fn push_counts(
 fn push_attempt(text: &mut Vec<u8>, place: OperationPlace, attempt: u8) -> Result<(), AllocError>
     ensures { OnOk result (text.new.items ≡ text.old.items ++ label_at (Some place) attempt) }
 {
-    push_number(text, place.client as u64)?;
-    text.extend_from_slice(b".")?;
-    push_number(text, place.number as u64)?;
+    push_pair(text, place.client as u64, b'.', place.number as u64)?;
     text.extend_from_slice(b".")?;
     push_number(text, u64::from(attempt))
 }

@@ -6,7 +6,7 @@ ghost use Rattle.brpc_model.specs.Operations.{operations};
 ghost use Rattle.script_items.specs.Meaning.{item};
 ghost use Rattle.script_report.specs.Lines.{place_of, outcome_text_line};
 
-use crate::writing::{push_hex_word, push_number, push_number_word};
+use crate::writing::{push_hex_word, push_number, push_number_word, push_pair};
 use script_items::Line;
 use sock_words::Outcome;
 use std::alloc::{AllocError, Global};
@@ -56,24 +56,23 @@ fn push_position(
     link: u16,
     position: u32,
 ) -> Result<(), AllocError>
-    ensures { OnOk result (text.new.items ≡ text.old.items ++ (name.now ++ word (decimal link) ++ word (decimal position))) }
+    ensures { OnOk result (text.new.items ≡ text.old.items ++ (name.now ++ decimal link ++ word (decimal position))) }
 {
     text.extend_from_slice(name)?;
-    push_number_word(text, u64::from(link))?;
-    push_number_word(text, u64::from(position))
+    push_pair(text, u64::from(link), b' ', u64::from(position))
 }
 
-// An outcome as it displays itself.
+// A space, and an outcome as it displays itself.
 fn push_displayed(alloc: Global, text: &mut Vec<u8>, outcome: &Outcome) -> Result<(), AllocError>
-    ensures { OnOk result (text.new.items ≡ text.old.items ++ outcome_text outcome.now) }
+    ensures { OnOk result (text.new.items ≡ text.old.items ++ word (outcome_text outcome.now)) }
 {
-    let words = format!(in alloc; "{outcome}")?;
+    let words = format!(in alloc; " {outcome}")?;
     text.extend_from_slice(words.as_bytes())
 }
 
-// An outcome. Those that a run has by the thousand are written with no memory of their own.
+// A space and an outcome. Those that a run has by the thousand are written with no memory of their own.
 fn push_outcome(alloc: Global, text: &mut Vec<u8>, outcome: &Outcome) -> Result<(), AllocError>
-    ensures { OnOk result (text.new.items ≡ text.old.items ++ outcome_text outcome.now) }
+    ensures { OnOk result (text.new.items ≡ text.old.items ++ word (outcome_text outcome.now)) }
 {
     match outcome {
         Outcome::Opened {
@@ -81,21 +80,20 @@ fn push_outcome(alloc: Global, text: &mut Vec<u8>, outcome: &Outcome) -> Result<
             version,
             link,
         } => {
-            text.extend_from_slice(b"open")?;
-            push_number_word(text, u64::from(*slot))?;
-            push_number_word(text, u64::from(*version))?;
+            text.extend_from_slice(b" open ")?;
+            push_pair(text, u64::from(*slot), b' ', u64::from(*version))?;
             push_number_word(text, u64::from(*link))
         }
-        Outcome::SlotsFull => text.extend_from_slice(b"slots full"),
-        Outcome::Placed { link, position } => push_position(text, b"placed", *link, *position),
-        Outcome::Dropped { link, position } => push_position(text, b"dropped", *link, *position),
+        Outcome::SlotsFull => text.extend_from_slice(b" slots full"),
+        Outcome::Placed { link, position } => push_position(text, b" placed ", *link, *position),
+        Outcome::Dropped { link, position } => push_position(text, b" dropped ", *link, *position),
         Outcome::Answered {
             id,
             payload,
             attachment,
         } => {
-            text.extend_from_slice(b"call")?;
-            push_number_word(text, *id)?;
+            text.extend_from_slice(b" call ")?;
+            push_number(text, *id)?;
             text.extend_from_slice(b" answered")?;
             push_hex_word(alloc, text, payload.as_slice())?;
             push_hex_word(alloc, text, attachment.as_slice())
@@ -113,10 +111,7 @@ pub fn push_outcome_line(
 ) -> Result<(), AllocError>
     ensures { OnOk result (text.new.items ≡ text.old.items ++ outcome_text_line place outcome.now) }
 {
-    push_number(text, place.client as u64)?;
-    text.extend_from_slice(b".")?;
-    push_number(text, place.number as u64)?;
-    text.extend_from_slice(b" ")?;
+    push_pair(text, place.client as u64, b'.', place.number as u64)?;
     push_outcome(alloc, text, outcome)?;
     text.extend_from_slice(b"\n")
 }

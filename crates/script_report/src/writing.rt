@@ -1,8 +1,11 @@
-ghost use Rattle.std.specs.Prelude.{◌≡◌, ◌++◌, decimal, OnOk};
+ghost use Rattle.std.specs.Prelude.{◌≡◌, ◌∷◌, ◌++◌, decimal, OnOk};
 ghost use Rattle.sock_words.specs.Printed.{word, hex_text};
 
-use itoa::Buffer;
+use itoa::{Buffer, write_digits};
 use std::alloc::{AllocError, Global};
+
+/// Room for two numbers of 20 digits and a byte between them.
+const ROOM: usize = 41;
 
 /// Appends a number in decimal.
 pub fn push_number(text: &mut Vec<u8>, number: u64) -> Result<(), AllocError>
@@ -10,6 +13,18 @@ pub fn push_number(text: &mut Vec<u8>, number: u64) -> Result<(), AllocError>
 {
     let mut buffer = Buffer::new();
     text.extend_from_slice(buffer.format(number).as_bytes())
+}
+
+/// Appends two numbers in decimal and a byte between them, all at once.
+pub fn push_pair(text: &mut Vec<u8>, first: u64, mark: u8, second: u64) -> Result<(), AllocError>
+    ensures { OnOk result (text.new.items ≡ text.old.items ++ (decimal first ++ mark ∷ decimal second)) }
+{
+    let mut room = [0; ROOM];
+    let behind = write_digits(second, &mut room, ROOM);
+    room[behind - 1] = mark;
+    let start = write_digits(first, &mut room, behind - 1);
+    text.extend_from_slice(&room[start..])?;
+    Ok(())
 }
 
 /// Appends a space and then the number.
