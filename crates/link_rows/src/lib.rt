@@ -1,9 +1,7 @@
-//! Rows of the halves of links, in memory, over the standard streams, and with the built-in server. There is nothing here but tests.
+//! Rows of links over rings and over TCP. There is nothing here but tests.
 #![tactic(auto)]
 
 #[cfg(test)]
-mod halves;
+mod rings;
 #[cfg(test)]
-mod loops;
-#[cfg(test)]
-mod printing;
+mod tcp;
