@@ -5,10 +5,6 @@
 mod errors;
 mod issuing;
 mod responses;
-
-pub use prpc_frame::io_buf;
-pub use sock_message;
-
 #[cfg(test)]
 mod tests;
 mod versions;

@@ -1,6 +1,6 @@
 use crate::{Call, Decision, Ending, has_version, is_early, issue, on_error, on_response};
-use prpc_frame::rpc_meta::{MetaBytes, ResponseMeta};
 use prpc_frame::{BlockPool, Frame, IoBuf, RpcMeta};
+use rpc_meta::{MetaBytes, ResponseMeta};
 use sock_words::IdWord;
 use std::test::Fail;
 

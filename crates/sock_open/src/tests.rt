@@ -6,8 +6,8 @@ ghost use Rattle.sock_table.specs.Refs.{Knows};
 ghost use Rattle.sock_open.specs.Made.{AreMade, AreNewSeats, PassesFrom};
 
 use crate::opening::{Made, new_table};
-use sock_table::sock_io::MemOut;
-use sock_table::sock_rule::SockSeat;
+use sock_io::MemOut;
+use sock_rule::SockSeat;
 use sock_table::{CreateFull, LinkPass, SockTable};
 use sock_words::{Plan, SocketId};
 use std::alloc::Global;
