@@ -9,8 +9,6 @@ mod versions;
 
 pub use errors::{Decision, on_error};
 pub use issuing::issue;
-pub use prpc_frame::io_buf;
 pub use responses::{Ending, on_response};
-pub use sock_message;
 pub use sock_message::Call;
 pub use versions::{has_version, is_early};

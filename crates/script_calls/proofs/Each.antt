@@ -35,7 +35,7 @@ use Rattle.report_fits.proofs.TaskLemmas.{asks_at, numbers_at, asked_at, operati
 use Rattle.report_fits.proofs.Tasks.{tasks_of_script}
 use Rattle.rpc_client.specs.declared.acting.Told.{Told}
 use Rattle.script_calls.proofs.Sayings.{to_slice, from_slice, long_each, none_long}
-use Rattle.call_deeds.specs.call_run.specs.Threads.{ids_of, RanOn}
+use Rattle.call_run.specs.Threads.{ids_of, RanOn}
 use Rattle.call_whys.specs.call_told.specs.Least.{HasBegun, IsEndTold}
 use Rattle.call_whys.specs.call_told.proofs.Coming.{HasCome, tells, began, sends}
 use Rattle.call_whys.specs.call_told.proofs.Growing.{own_at}

@@ -14,9 +14,9 @@ use Rattle.sock_words.specs.declared.plain.Plan.{Plan}
 use Rattle.sock_words.specs.declared.place_word.PlaceWord.{PlaceWord}
 use Rattle.sock_words.specs.declared.vref.Vref.{Vref}
 use Rattle.sock_model.specs.declared.view.View.{View}
-use Rattle.rpc_client.specs.sock_table.specs.Closed.{ClosedBy}
-use Rattle.call_whys.specs.sock_open.specs.Opening.{AreFresh}
-use Rattle.call_deeds.specs.call_run.specs.Crew.{AreBack}
+use Rattle.call_run.specs.sock_table.specs.Closed.{ClosedBy}
+use Rattle.call_run.specs.sock_open.specs.Opening.{AreFresh}
+use Rattle.call_run.specs.Crew.{AreBack}
 use Rattle.script_links.specs.Given.{AreUntouched, AreNumbered}
 use Rattle.script_calls.specs.declared.halves.Rest.{Rest}
 use Rattle.script_calls.specs.Halves.{rest_of, joined, AreTaken}

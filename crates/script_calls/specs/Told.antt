@@ -23,12 +23,12 @@ use Rattle.sock_programs.specs.Scripts.{all_tasks, place_words, is_callless}
 use Rattle.sock_programs.specs.Tasks.{plan_of, opens, calls}
 use Rattle.sock_programs.specs.Told.{IsTask, Became}
 use Rattle.sock_programs.specs.ToldCalls.{Fixed, Order}
-use Rattle.expire_told.specs.Said.{WhyExpired}
-use Rattle.call_deeds.specs.sock_deeds.specs.Told.{fixed_by, ToldSockets}
+use Rattle.call_whys.specs.expire_told.specs.Said.{WhyExpired}
+use Rattle.callless_fits.specs.sock_deeds.specs.Told.{fixed_by, ToldSockets}
 use Rattle.rpc_client.specs.declared.acting.Told.{Told}
 use Rattle.callless_fits.specs.Whole.{IsWholeText, gave_none, unread}
 use Rattle.script_calls.specs.Saying.{said_by_each}
-use Rattle.call_deeds.specs.call_run.specs.Threads.{ids_of, RanOn}
+use Rattle.call_run.specs.Threads.{ids_of, RanOn}
 use Rattle.call_whys.specs.call_told.specs.Answers.{AreAnsweredBy}
 use Rattle.call_whys.specs.call_told.specs.Once.{ShownOnce}
 use Rattle.script_calls.specs.Reading.{IdSeat, HasRead}

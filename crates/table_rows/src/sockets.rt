@@ -6,9 +6,9 @@ ghost use Rattle.sock_table.specs.Refs.{Knows};
 ghost use Rattle.sock_open.specs.Made.{AreMade, AreNewSeats, PassesFrom};
 
 use sock_io::MemOut;
-use sock_open::sock_table::sock_rule::SockSeat;
-use sock_open::sock_table::{CreateFull, LinkPass, SockTable};
 use sock_open::{Made, new_table};
+use sock_rule::SockSeat;
+use sock_table::{CreateFull, LinkPass, SockTable};
 use sock_words::{Plan, SocketId};
 use std::alloc::Global;
 use std::thread;

@@ -5,3 +5,6 @@
 mod held;
 #[cfg(test)]
 mod tests;
+
+// A program, since rt takes no sum of one; what it would do is in the tests.
+fn main() {}

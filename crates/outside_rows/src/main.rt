@@ -16,3 +16,6 @@ mod noting;
 mod serving;
 #[cfg(test)]
 mod streams;
+
+// A program, since rt takes no sum of one; what it would do is in the tests.
+fn main() {}
