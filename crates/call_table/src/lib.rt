@@ -5,8 +5,6 @@
 mod errors;
 mod issuing;
 mod responses;
-#[cfg(test)]
-mod tests;
 mod versions;
 
 pub use errors::{Decision, on_error};

@@ -4,6 +4,3 @@
 mod opening;
 
 pub use opening::{Made, NoTable, new_table};
-
-#[cfg(test)]
-mod tests;
