@@ -46,6 +46,14 @@ Counts other = ⊥
 abbrev pub KeepsWord : ℕ → ℕ → View Asked → Type 0
 KeepsWord place word v = 0 < total (λ (k : Kept). pair place word k.place k.word) v.kept
 
+-- a word was found of the id that is locked, with as many versions
+pub record IsSeen (v : View Asked) (k : IdLock Asked) : Type 0 where
+  pub word : ℕ
+  pub found : Found k.slot word v
+  pub taken : 0 < (parts word).state
+  pub first_is : (parts word).first ≡ (parts k.word.0).first
+  pub range_is : (parts word).range ≡ (parts k.word.0).range
+
 -- a client was asked for these operations, says these outcomes of them, and did these deeds
 module _ {O : Type 0} {g : Ghosts O} (state : O → OutState) (p : Plan) (q : id_plan.Plan) (xs : List Task) (Says : ℕ → Outcome → Type 0) (ds : List (Deed g state p q)) where
   -- the error with this code was posted to the call with this id, for the attempt or for the whole call: by an `expire`; since the attempt, one of the client's deeds, came to nothing; or since its message was dropped, with the code of the socket's life
@@ -69,14 +77,6 @@ module _ {O : Type 0} {g : Ghosts O} (state : O → OutState) (p : Plan) (q : id
   pub data Origin (v : View Asked) (k : IdLock Asked) (code : ℕ) (attempt : Maybe ℕ) : Type 0 where
     posted_so : Reason v (id_in k) code attempt → Origin v k code attempt
     handed_out : (word : ℕ) → Found k.slot word v → (parts word).state ≡ 2 → (parts word).first ≡ (parts k.word.0).first → (parts word).oldest ≡ error_in code attempt → (parts word).oldest ≢ 0 → Origin v k code attempt
-
-  -- a word was found of the id that is locked, with as many versions
-  pub record IsSeen (v : View Asked) (k : IdLock Asked) : Type 0 where
-    pub word : ℕ
-    pub found : Found k.slot word v
-    pub taken : 0 < (parts word).state
-    pub first_is : (parts word).first ≡ (parts k.word.0).first
-    pub range_is : (parts word).range ≡ (parts k.word.0).range
 
   -- the error of a lock is for its current attempt or for the whole call; and the seat had locked the id with a call of the operation whose end it tells
   pub record Cause (v : View Asked) (k : IdLock Asked) (code : ℕ) (attempt : Maybe ℕ) : Type 0 where
