@@ -56,6 +56,7 @@ use Rattle.expire_told.specs.call_places.proofs.Log as log
 use Rattle.expire_told.specs.call_told.specs.Least.{is_made_for}
 use Rattle.expire_told.specs.call_told.proofs.Lists.{all_at}
 use Rattle.expire_told.proofs.Making.{mapped_from}
+use Rattle.expire_told.specs.sock_deeds.proofs.Entries.{before}
 use Rattle.expire_told.specs.sock_deeds.proofs.Flats.{flat_from}
 use Rattle.failed_told.specs.Missed.{delivery_missed, attempt_missed, went_missed, acted_missed, acted_id, IsMadeBy, missed_in, id_of, IsBacked, attempt_of}
 use Rattle.failed_told.proofs.Losses.{IsAskedIn}
@@ -332,7 +333,8 @@ module _ {O : Type 0} {g : Ghosts O} {state : O → OutState} {p : Plan} {slots 
         λ k e logged place. (
             let a = log.authored p run.closed.view.found run.closed.view.lists run.closed.ordered k e logged in
             let y = mapped_from own_of crew a.seat _ (ap (λ l. get_elem? l a.seat) (sym (lists_are run)) ∙ a.list) in
-            let own = flat_from entries_of (deeds_of y.0) _ e (subst (λ (l : List Entry). get_elem? l _ ≡ some e) (sym y.2) a.place) in
+            let m : ℕ = before a.author run.closed.ordered.by k in
+            let own = flat_from entries_of (deeds_of y.0) m e (subst (λ (l : List Entry). get_elem? l m ≡ some e) (sym y.2) a.place) in
             let low = attempt_low d in
             let other = frame_attempt f.operation (id_of d) (attempt_of d) (omega (arith, low)) f.id a.seat y.0 y.1 own.0 own.1 own.2 own.3 e own.4 place in
             let same = alone f.operation (id_of d) (attempt_of d) inside c x at i d there f.attempt a.seat y.0 y.1 own.0 own.1 own.2 other in

@@ -178,7 +178,7 @@ module _ {O : Type 0} {g : Ghosts O} {state : O → OutState} {p : Plan} {slots 
         pub current : IsCurrent attempt
         pub place : ℕ
         pub client : Client g state p q
-        pub at : get_elem? crew place ≡ some client
+        pub in_crew : get_elem? crew place ≡ some client
         pub index : ℕ
         pub deed : Deed g state p q
         pub there : get_elem? (deeds_of client) index ≡ some deed
@@ -205,7 +205,7 @@ module _ {O : Type 0} {g : Ghosts O} {state : O → OutState} {p : Plan} {slots 
 
       by_reason : (w : PosterHere id e.code e.attempt) → Reason state p q (tasks_of w.client) (Says run outcomes said_own) (deeds_of w.client) (view_of w.client) id e.code e.attempt → Verdict
       by_reason w (timed_out i t o by s u h there is says counts kept_ a b z) = timed b (expired_with o w.place i w.client t by w.at there is says counts kept_)
-      by_reason w (missed i d there is backed a z) = lost (record { attempt = attempt_of d; current = is_current (attempt_of d) z; place = w.place; client = w.client; at = w.at; index = i; deed = d; there = there; missed = is; backed = backed; id_is = a; attempt_is = refl })
+      by_reason w (missed i d there is backed a z) = lost (record { attempt = attempt_of d; current = is_current (attempt_of d) z; place = w.place; client = w.client; in_crew = w.at; index = i; deed = d; there = there; missed = is; backed = backed; id_is = a; attempt_is = refl })
       by_reason w (dropped life before s after t h a b z) =
           fell (record { attempt = h.msg.label.attempt; current = is_current h.msg.label.attempt z; drop = record { life = life; before = before; calls = s; after = after; calls_after = t; drop = h; owner = a; code_is = b; attempt_is = refl } })
 

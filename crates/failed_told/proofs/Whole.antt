@@ -70,15 +70,15 @@ module _ {O : Type 0} {g : Ghosts O} {state : O → OutState} {p : Plan} {slots 
       pub asked : Asked
       pub task : IsOperation every outcomes client asked.operation (ops.Call asked)
       pub number : asked.operation ≡ e.lock.content.operation
-      pub why : Fallen run tasks may notes kept words closing noted outcomes drun seats logged differ gave all_there l.place l.client l.at l.index l.deed l.there e.code l.missed l.backed client e.lock.content.operation asked (id_of l.deed) (attempt_of l.deed)
+      pub why : Fallen run tasks may notes kept words closing noted outcomes drun seats logged differ gave all_there l.place l.client l.in_crew l.index l.deed l.there e.code l.missed l.backed client e.lock.content.operation asked (id_of l.deed) (attempt_of l.deed)
 
     pub missed_why : IsAskedSo run tasks may notes kept words closing noted keeps outcomes said_own said_ended others c x at one e (fixed drun differ gave) gave (orders drun differ) → (l : MissedHere) → IsFallen l
     missed_why asks l =
         let first = (parts e.lock.word.0).first in let low = e.lock.fits.low in let same_id = l.id_is in
         let inside : slot_of (id_of l.deed) < slots = (let a = e.cause.inside in omega (arith, a, same_id, low)) in
         let w = deed_why l.deed e.code l.missed in
-        let is = asked_so l.place l.client l.at l.index l.deed l.there w.asked w.is in
-        let none_ = unordered run tasks may notes kept words closing noted outcomes drun seats logged differ gave all_there l.place l.client l.at l.index l.deed l.there e.code l.missed l.backed inside in
+        let is = asked_so l.place l.client l.in_crew l.index l.deed l.there w.asked w.is in
+        let none_ = unordered run tasks may notes kept words closing noted outcomes drun seats logged differ gave all_there l.place l.client l.in_crew l.index l.deed l.there e.code l.missed l.backed inside in
         let m = made_so run tasks may notes kept words closing noted keeps outcomes said_own said_ended others c x at one e in
         let its : none_.0.operation ≡ e.lock.content.operation =
         one_operation run tasks may notes kept words closing noted outcomes drun seats logged differ gave all_there none_.0.operation (id_of l.deed) e.lock.slot first (parts e.lock.word.0).range m.1 m.0 e.cause.inside (omega (arith, low)) none_.0.id (sym same_id) m.3 ∙ m.2 in
@@ -93,5 +93,5 @@ module _ {O : Type 0} {g : Ghosts O} {state : O → OutState} {p : Plan} {slots 
           asked = w.asked;
           task = is.1;
           number = number;
-          why = fallen run tasks may notes kept words closing noted outcomes drun seats logged differ gave all_there l.place l.client l.at l.index l.deed l.there e.code l.missed l.backed is.0 e.lock.content.operation w.asked (id_of l.deed) is.1 free (omega (arith, two, range, n)) w.why;
+          why = fallen run tasks may notes kept words closing noted outcomes drun seats logged differ gave all_there l.place l.client l.in_crew l.index l.deed l.there e.code l.missed l.backed is.0 e.lock.content.operation w.asked (id_of l.deed) is.1 free (omega (arith, two, range, n)) w.why;
         }
