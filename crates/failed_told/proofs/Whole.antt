@@ -40,7 +40,7 @@ use Rattle.failed_told.specs.Reasons.{IsCaused}
 use Rattle.failed_told.proofs.Clients.{Says}
 use Rattle.failed_told.proofs.Fallen.{same_range, one_operation, unordered, Fallen, fallen}
 use Rattle.failed_told.proofs.Losses.{IsAskedIn, deed_why}
-use Rattle.failed_told.proofs.Verdicts.{lock, id, operation, made_so, MissedLast, IsAskedSo, last_attempt}
+use Rattle.failed_told.proofs.Verdicts.{made_so, MissedLast, IsAskedSo, last_attempt}
 use Rattle.failed_told.proofs.Codes.{IsReadCode}
 use Rattle.failed_told.proofs.Views.{queued_in}
 
