@@ -106,6 +106,40 @@ room_left k code attempt again = let r = k.fits.room in dite (ℕ_discrete ((par
     (λ e. absurd (ends_last _ _ (eqb ((parts k.word.0).attempt + 2) (parts k.word.0).range) (eq-eqb ((parts k.word.0).attempt + 2) (parts k.word.0).range e) again))
     (λ ne. omega arith)
 
+-- ## Where no attempt was noted
+
+abbrev pub Unmoved : View Asked → View Asked → Type 0
+Unmoved v w = (i f n : ℕ) → advances i f n w ≡ advances i f n v
+
+pub unmoved_then : (u v w : View Asked) → Unmoved u v → Unmoved v w → Unmoved u w
+unmoved_then u v w a b i f n = b i f n ∙ a i f n
+
+pub unmoved_noted : (v w : View Asked) → w.notes ≡ v.notes → Unmoved v w
+unmoved_noted v w e i f n = ap (λ (l : List (Noted Asked)). total (is_attempt f n) (notes_of i l)) e
+
+pub unmoved_quiet : (v w : View Asked) → Quiet v w → Unmoved v w
+unmoved_quiet v w q i f n = quiet_total (is_attempt f n) (attempt_silent f n) v w q i
+
+-- by events that are none
+unmoved_did : (at : ℕ) (v w : View Asked) (ts : List (Token Asked)) (es : List (Noted Asked)) → Did at v w ts es → ((i f n : ℕ) → total (is_attempt f n) (notes_of i es) ≡ 0) → Unmoved v w
+unmoved_did at v w ts es d none_ i f n = let a = did_total (is_attempt f n) (attempt_silent f n) at v w ts es d i in let z = none_ i f n in omega arith
+
+unmoved_one : (at : ℕ) (v w : View Asked) (ts : List (Token Asked)) (x : Note Asked) → ((f n : ℕ) → is_attempt f n x ≡ 0) → Did at v w ts (one at x) → Unmoved v w
+unmoved_one at v w ts x none_ d = unmoved_did at v w ts (one at x) d (λ i f n. none_of_one (is_attempt f n) (attempt_silent f n) at x (none_ f n) i)
+
+pub unmoved_got : (at word : ℕ) (v w : View Asked) (p : Parts) (c : Asked) → GotLock at v w word p c → Unmoved v w
+unmoved_got at word v w p c g = unmoved_one at v w _ (Locker p.first c) (λ f n. refl) g.did
+
+pub unmoved_ended : (at f : ℕ) (v w : View Asked) → Became at v w [] (one at (Ended f)) → Unmoved v w
+unmoved_ended at f v w b = unmoved_one at v w [] (Ended f) (λ g n. refl) (became_did at v w [] (one at (Ended f)) b)
+
+pub unmoved_post : (slots : ℕ) (v w : View Asked) (id code : ℕ) (attempt : Maybe ℕ) (answer : Posted Asked) → PostOk slots v w id code attempt answer → Unmoved v w
+unmoved_post slots v w id code attempt (HasLock k) p = unmoved_got k.slot p.4.0 v w (parts k.word.0) k.content p.4.1
+unmoved_post slots v w id code attempt IsQueued p = unmoved_one (slot_of id) v w _ (Queued (version_of id) (error_in code attempt)) (λ f n. refl) p.0
+unmoved_post slots v w id code attempt (Gone found) p = unmoved_quiet v w p.0
+unmoved_post slots v w id code attempt (Stale current) p = unmoved_quiet v w p.0
+unmoved_post slots v w id code attempt (Crowded first second) p = unmoved_quiet v w p.0
+
 -- ## Advances
 
 -- 1 where the one note of a slot is this advance
@@ -154,30 +188,26 @@ module _ (slots : ℕ) where
   bounds_none v w grows same = record { grows = grows; fits = λ i f n less. absurd (let e = same i f n in omega arith) }
 
   pub bounds_noted : (v w : View Asked) → w.notes ≡ v.notes → Bounds v w
-  bounds_noted v w e = bounds_none v w (λ i f. (let x = ap (λ (l : List (Noted Asked)). total f (notes_of i l)) e in omega arith)) (λ i f n. ap (λ (l : List (Noted Asked)). total (is_attempt f n) (notes_of i l)) e)
+  bounds_noted v w e = bounds_none v w (λ i f. (let x = ap (λ (l : List (Noted Asked)). total f (notes_of i l)) e in omega arith)) (unmoved_noted v w e)
 
   bounds_quiet : (v w : View Asked) → Quiet v w → Bounds v w
-  bounds_quiet v w q = bounds_none v w q.grows (λ i f n. quiet_total (is_attempt f n) (attempt_silent f n) v w q i)
-
-  -- by events that are none
-  bounds_did : (at : ℕ) (v w : View Asked) (ts : List (Token Asked)) (es : List (Noted Asked)) → Did at v w ts es → ((i f n : ℕ) → total (is_attempt f n) (notes_of i es) ≡ 0) → Bounds v w
-  bounds_did at v w ts es d none_ = bounds_none v w d.grows (λ i f n. (let a = did_total (is_attempt f n) (attempt_silent f n) at v w ts es d i in let z = none_ i f n in omega arith))
+  bounds_quiet v w q = bounds_none v w q.grows (unmoved_quiet v w q)
 
   bounds_one : (at : ℕ) (v w : View Asked) (ts : List (Token Asked)) (x : Note Asked) → ((f n : ℕ) → is_attempt f n x ≡ 0) → Did at v w ts (one at x) → Bounds v w
-  bounds_one at v w ts x none_ d = bounds_did at v w ts (one at x) d (λ i f n. none_of_one (is_attempt f n) (attempt_silent f n) at x (none_ f n) i)
+  bounds_one at v w ts x none_ d = bounds_none v w d.grows (unmoved_one at v w ts x none_ d)
 
   bounds_got : (at word : ℕ) (v w : View Asked) (p : Parts) (c : Asked) → GotLock at v w word p c → Bounds v w
-  bounds_got at word v w p c g = bounds_one at v w _ (Locker p.first c) (λ f n. refl) g.did
+  bounds_got at word v w p c g = bounds_none v w g.did.grows (unmoved_got at word v w p c g)
 
   bounds_ended : (at f : ℕ) (v w : View Asked) → Became at v w [] (one at (Ended f)) → Bounds v w
-  bounds_ended at f v w b = bounds_one at v w [] (Ended f) (λ g n. refl) (became_did at v w [] (one at (Ended f)) b)
+  bounds_ended at f v w b = bounds_none v w (became_did at v w [] (one at (Ended f)) b).grows (unmoved_ended at f v w b)
 
   -- ## Unlocking
 
   -- the attempt didn't advance
   bounds_unlocked : (k : IdLock Asked) (v w : View Asked) (answer : Unlocked Asked) → UnlockOk v w k.slot (parts k.word.0) k.content false answer → Bounds v w
-  bounds_unlocked k v w Open u = bounds_did k.slot v w [] _ u.4 (λ i f n. ap (λ (l : List (Noted Asked)). total (is_attempt f n) (notes_of i l)) (advance_none k.slot (parts k.word.0) u.1 u.2.attempt_is))
-  bounds_unlocked k v w (Next l code attempt) u = bounds_did k.slot v w _ _ u.3 (λ i f n. ap (λ (x : List (Noted Asked)). total (is_attempt f n) (notes_of i x)) (advance_none k.slot (parts k.word.0) (parts l.word.0) u.4.1.attempt_is))
+  bounds_unlocked k v w Open u = bounds_none v w u.4.grows (unmoved_did k.slot v w [] _ u.4 (λ i f n. ap (λ (l : List (Noted Asked)). total (is_attempt f n) (notes_of i l)) (advance_none k.slot (parts k.word.0) u.1 u.2.attempt_is)))
+  bounds_unlocked k v w (Next l code attempt) u = bounds_none v w u.3.grows (unmoved_did k.slot v w _ _ u.3 (λ i f n. ap (λ (x : List (Noted Asked)). total (is_attempt f n) (notes_of i x)) (advance_none k.slot (parts k.word.0) (parts l.word.0) u.4.1.attempt_is)))
 
   -- or it did, where the range has one more
   module _ (k : IdLock Asked) (v w : View Asked) (has : HasWord slots k v) (room : (parts k.word.0).attempt + 2 < (parts k.word.0).range) (q : Parts) (up : q.attempt ≡ (parts k.word.0).attempt + 1) (ts : List (Token Asked)) (d : Did k.slot v w ts (advance_note k.slot (parts k.word.0) q)) where

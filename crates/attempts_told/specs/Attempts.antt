@@ -1,5 +1,5 @@
 -- How many attempts each call made, and which of them the links accepted.
-use Rattle.std.specs.Prelude.{ℕ, ◌≡◌, ◌+◌, ◌<◌, ◌≤◌, cond, nat_lt, List, [], ◌∷◌, Option}
+use Rattle.std.specs.Prelude.{ℕ, ◌≡◌, ◌+◌, ◌<◌, ◌≤◌, ◌==◌, cond, max, List, [], ◌∷◌, Option}
 use Rattle.std.specs.List.{AllByRecursion}
 use Rattle.sock_words.specs.declared.outcome.Outcome.{Outcome}
 use Rattle.sock_words.specs.declared.plain.Plan.{Plan}
@@ -19,16 +19,13 @@ use Rattle.call_told.specs.Least.{is_made_for}
 
 -- the attempt to which the id of this operation's call advanced by a note of a slot with these notes, 0 by any other note
 abbrev pub advanced_to : ℕ → List (Note Asked) → Note Asked → ℕ
-advanced_to operation in_slot (Attempt first n) = cond (nat_lt 0 (total (is_made_for first operation) in_slot)) n 0
+advanced_to operation in_slot (Attempt first n) = cond (total (is_made_for first operation) in_slot == 0) 0 n
 advanced_to operation in_slot _ = 0
-
-abbrev pub greater : ℕ → ℕ → ℕ
-greater a b = cond (nat_lt a b) b a
 
 -- by these among all notes
 abbrev pub last_among : ℕ → List (Noted Asked) → List (Noted Asked) → ℕ
 last_among operation all [] = 0
-last_among operation all (n ∷ ns) = greater (advanced_to operation (notes_of n.slot all) n.note) (last_among operation all ns)
+last_among operation all (n ∷ ns) = max (advanced_to operation (notes_of n.slot all) n.note) (last_among operation all ns)
 
 -- the last attempt of an operation's call, by what all seats noted of its id: 0 where it never advanced
 abbrev pub last_attempt : List (Noted Asked) → ℕ → ℕ
