@@ -170,7 +170,7 @@ module _ {O : Type 0} {g : Ghosts O} {state : O → OutState} {p : Plan} {slots 
 
   module _ (fixed : Fixed) (gave : ℕ → List ℕ) (orders : ℕ → Order) (core : Core) (tells : ToldSockets p tasks_all outcomes fixed gave orders core)
       -- what the links accepted is in the log
-      (logged : (k i : ℕ) (a : Accepted) → StandsAt p tasks_all outcomes fixed gave orders orders k i a → (e : Entry) × (accepted_of e ≡ a) × (m : ℕ) × (get_elem? run.closed.ordered.log m ≡ some e))
+      (logged : (k i : ℕ) (a : Accepted) → StandsAt orders k i a → (e : Entry) × (accepted_of e ≡ a) × (m : ℕ) × (get_elem? run.closed.ordered.log m ≡ some e))
       -- the outcome of a call that has begun shows its id
       (shown : (o id : ℕ) → IsIdOf slots notes o id → (by : Outcome) × Became tasks_all outcomes o by × (shown_id by ≡ Some id)) where
     abbrev IsSentHere : ℕ → Accepted → Type 0
@@ -186,7 +186,7 @@ module _ {O : Type 0} {g : Ghosts O} {state : O → OutState} {p : Plan} {slots 
         OfCall t.client record { number = a.operation; op = ops.Call t.asked } t.asked s.0 m.id t.slot t.version t.is refl refl s.1 s.2 (low_attempt a m) (m.bytes ∙ ap (λ (x : Asked). frame_of x m.id a.attempt) call) t.made
 
     -- each message that a link accepted
-    whose : (k i : ℕ) (a : Accepted) → StandsAt p tasks_all outcomes fixed gave orders orders k i a → IsSentHere k a ⊎ IsAttempt tasks_all outcomes k a → IsSentHere k a
+    whose : (k i : ℕ) (a : Accepted) → StandsAt orders k i a → IsSentHere k a ⊎ IsAttempt tasks_all outcomes k a → IsSentHere k a
     whose k i a at (inl s) = s
     whose k i a at (inr t) = let l = logged k i a at in its_call k a t (subst (SentBy run outcomes may notes laws have later) l.1 (sent_by run outcomes may notes laws have later l.2 l.0 l.3))
 

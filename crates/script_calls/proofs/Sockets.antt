@@ -15,6 +15,7 @@ use Rattle.sock_words.specs.declared.place_word.PlaceWord.{PlaceWord}
 use Rattle.brpc_model.specs.Items.{Item}
 use Rattle.brpc_model.specs.Link.{LinkEnd}
 use Rattle.brpc_model.specs.Script.{script_of}
+use Rattle.sock_model.specs.declared.chain.Entry.{Entry}
 use Rattle.sock_model.specs.Layout.{place_word}
 use Rattle.call_whys.specs.sock_rule.specs.Closing.{PlacesDiffer}
 use Rattle.sock_programs.specs.declared.task.Task.{Task}
@@ -22,7 +23,7 @@ use Rattle.sock_programs.specs.Cores.{Core}
 use Rattle.sock_programs.specs.Runs.{from_to}
 use Rattle.sock_programs.specs.Scripts.{place_words}
 use Rattle.sock_programs.specs.Tasks.{plan_of, calls}
-use Rattle.sock_programs.specs.ToldCalls.{Fixed}
+use Rattle.sock_programs.specs.ToldCalls.{Accepted, Fixed, StandsAt}
 use Rattle.report_fits.specs.Ends.{IsEndOf}
 use Rattle.report_fits.proofs.Flat.{at_map}
 use Rattle.report_fits.proofs.Lists.{has_from, has_none}
@@ -35,11 +36,12 @@ use Rattle.call_whys.specs.call_places.proofs.Places.{log_differs}
 use Rattle.call_deeds.specs.Scripts.{AllHaveLinks}
 use Rattle.call_deeds.proofs.Runs.{deed_run}
 use Rattle.call_deeds.proofs.Whole.{told_of_run}
+use Rattle.call_deeds.specs.sock_deeds.specs.Left.{accepted_of}
 use Rattle.call_deeds.specs.sock_deeds.specs.Runs.{DeedRun}
 use Rattle.call_deeds.specs.sock_deeds.specs.Told.{fixed_by, ToldSockets}
 use Rattle.call_deeds.specs.sock_deeds.proofs.Breaking.{broken_noted}
 use Rattle.call_deeds.specs.sock_deeds.proofs.Failing.{broken, all_fails}
-use Rattle.call_deeds.specs.sock_deeds.proofs.Orders.{took, ends as link_ends, took_home, orders}
+use Rattle.call_deeds.specs.sock_deeds.proofs.Orders.{took, ends as link_ends, took_home, orders, entry_on}
 use Rattle.script_calls.specs.Reading.{IdSeat, HasRead}
 use Rattle.script_calls.specs.Told.{IsLeft, AreSocketsTold, outcomes_of}
 use Rattle.script_calls.proofs.Later.{setup_later, others_later}
@@ -117,10 +119,10 @@ module _ {O I P : Type 0} (g : Ghosts O) (out : O → OutState) (inn : I → InS
 
   -- ## The links as they were given back
 
-  abbrev end_at : Ends O I P → LinkEnd
+  abbrev pub end_at : Ends O I P → LinkEnd
   end_at e = end_of (out e.out) (inn e.inn)
 
-  abbrev out_at : Ends O I P → OutState
+  abbrev pub out_at : Ends O I P → OutState
   out_at e = out e.out
 
   module _ (halves : map (λ (e : Ends O I P). e.out) ends ≡ left.outs) (kept : map out_at ends' ≡ map out_at ends) (gave : ℕ → List ℕ) where
@@ -159,3 +161,9 @@ module _ {O I P : Type 0} (g : Ghosts O) (out : O → OutState) (inn : I → InS
         each = λ k e at. (let w = at_map end_at ends' k e (ap (λ (l : List LinkEnd). slice_get l k) (sym given) ∙ at) in subst (IsEndOf p core fixed gave k) w.2 (one_end k w.0 w.1 (subst (IsGiver gave k) (sym w.2) (givers k e at))));
       };
     }
+
+    -- each message that a link accepted is in the log of the run
+    pub sockets_logged : (links : List LinkEnd) (given : links ≡ map end_at ends') (givers : (k : ℕ) (e : LinkEnd) → slice_get links k ≡ Some e → IsGiver gave k e) (k i : ℕ) (a : Accepted) → StandsAt (sockets_told links given givers).orders k i a
+        → (e : Entry) × (accepted_of e ≡ a) × (m : ℕ) × (get_elem? left.ran.closed.ordered.log m ≡ some e)
+    unfolding sockets_told
+    sockets_logged links given givers k i a at = let w = entry_on run differ k i a at in (w.0, w.2, w.3, w.4)
