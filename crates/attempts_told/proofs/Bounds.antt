@@ -2,9 +2,7 @@
 use Rattle.std.proofs.Common.{◌≡◌, ◌≢◌, ℕ, zero, suc, ◌+◌, ◌<◌, ◌≤◌, inl, inr, Bool, true, false, cond, eqb, eq-eqb, ne_eqb, List, [], ◌∷◌, Some, None, refl, sym, ap, ◌∙◌, subst, arith}
 use Rattle.std.specs.Prelude.{Option as Maybe, ◌||◌, if◌then◌else◌}
 use mathlib.Core.Logic.{dite}
-use mathlib.Core.Option.{some}
 use native.Mathlib.Decide.{ℕ_discrete, dec_lt}
-use lib.ListN.{get_elem?}
 use Rattle.atomic_table.specs.Table.{Me}
 use Rattle.sock_io.specs.declared.link.Out.{Ghosts}
 use Rattle.sock_io.specs.Link.{OutState}
@@ -16,12 +14,13 @@ use Rattle.sock_words.specs.declared.outcome.Outcome.TheVariants as outcome
 use Rattle.sock_model.specs.declared.view.View as sock_view
 use Rattle.call_run.specs.sock_rule.specs.declared.homes.Letter.{Letter}
 use Rattle.call_run.specs.sock_table.specs.declared.refs.SockRef.{SockRef}
+use Rattle.call_run.specs.call_table.specs.Errors.{is_final}
 use Rattle.call_run.specs.call_table.specs.declared.errors.Decision.TheVariants as decisions
 use Rattle.sock_programs.specs.declared.task.Op.{Op}
 use Rattle.sock_programs.specs.declared.task.Op.TheVariants as ops
 use Rattle.sock_programs.specs.declared.task.Task.{Task}
 use Rattle.call_run.specs.write_chain.specs.declared.right.Undelivered.{Undelivered}
-use Rattle.corr_core.specs.Word.{Parts, parts, code_of}
+use Rattle.corr_core.specs.Word.{Parts, parts}
 use Rattle.corr_core.specs.Law.{total, pair, is_attempt}
 use Rattle.corr_core.specs.declared.marks.Note.{Note}
 use Rattle.corr_core.specs.declared.marks.Note.TheVariants.{Made, Ended, Locker, Queued, Attempt}
@@ -44,7 +43,7 @@ use Rattle.call_run.specs.call_errors.specs.declared.retries.Retry.{Retry}
 use Rattle.call_run.specs.call_errors.specs.Books.{CallStand, stand_of, starving}
 use Rattle.call_run.specs.call_errors.specs.Locking.{GotBy}
 use Rattle.call_run.specs.call_errors.specs.Ending.{EndedWith}
-use Rattle.call_run.specs.call_errors.specs.Handling.{decision, Advanced, Decided}
+use Rattle.call_run.specs.call_errors.specs.Handling.{is_whole, decision, Advanced, Decided}
 use Rattle.call_run.specs.call_errors.specs.Handling as handling
 use Rattle.call_run.specs.call_errors.specs.Posting.{Handled, PostedBy}
 use Rattle.call_run.specs.call_errors.specs.Asking.{found_id, TimedOut, ExpiredBy, JoinedBy}
@@ -103,7 +102,7 @@ ends_last false false last t h = let a : decisions.End ≡ decisions.Retry = sym
 
 room_left : (k : IdLock Asked) (code : ℕ) (attempt : Maybe ℕ) → decision k code attempt ≡ decisions.Retry → (parts k.word.0).attempt + 2 < (parts k.word.0).range
 room_left k code attempt again = let r = k.fits.room in dite (ℕ_discrete ((parts k.word.0).attempt + 2) (parts k.word.0).range)
-    (λ e. absurd (ends_last _ _ (eqb ((parts k.word.0).attempt + 2) (parts k.word.0).range) (eq-eqb ((parts k.word.0).attempt + 2) (parts k.word.0).range e) again))
+    (λ e. absurd (ends_last (is_whole attempt) (is_final code) (eqb ((parts k.word.0).attempt + 2) (parts k.word.0).range) (eq-eqb ((parts k.word.0).attempt + 2) (parts k.word.0).range e) again))
     (λ ne. omega arith)
 
 -- ## Where no attempt was noted

@@ -1,5 +1,5 @@
 -- Whose the messages are that the links of a run with calls accepted: each is that of a send, or of an attempt of a call, with the id that was made for the call.
-use Rattle.std.proofs.Common.{◌≡◌, ℕ, zero, suc, ◌+◌, ◌*◌, ◌/◌, ◌%◌, ◌<◌, ◌≤◌, ◌⊎◌, inl, inr, List, [], ◌∷◌, ◌++◌, flat_map, append-nil, slice_get, Some, None, refl, sym, ap, ◌∙◌, subst, arith}
+use Rattle.std.proofs.Common.{◌≡◌, ℕ, zero, suc, ◌+◌, ◌*◌, ◌/◌, ◌%◌, ◌<◌, ◌≤◌, ◌⊎◌, inl, inr, List, [], ◌∷◌, ◌++◌, flat_map, append-nil, zero-le, slice_get, Some, None, refl, sym, ap, ◌∙◌, subst, arith}
 use Rattle.std.specs.Prelude.{Option}
 use Rattle.std.specs.List.{AllByRecursion}
 use Rattle.std.proofs.lemmas.Nat.{div-add-mod'}
@@ -32,7 +32,7 @@ use Rattle.corr_core.proofs.Notes.{pair-same, pair-at, pair-else, pair-else_firs
 use Rattle.id_rule.specs.Lawful.{notes_of}
 use Rattle.sock_message.specs.Asked.{Asked, frame_of}
 use Rattle.corr_id.specs.Calls.{one, slot_of, version_of}
-use Rattle.call_run.specs.call_errors.specs.declared.retries.Retry.{Retry}
+use Rattle.call_run.specs.call_errors.specs.Books.{CallStand}
 use Rattle.call_run.specs.call_attempts.specs.Both.{Both}
 use Rattle.call_run.specs.call_attempts.specs.Letters.{letter_for}
 use Rattle.call_run.specs.call_attempts.specs.Attempting.{AttemptedBy, went_out, came_back, nowhere, over_link}
@@ -63,7 +63,7 @@ use Rattle.call_deeds.specs.sock_deeds.specs.Left.{accepted_of}
 use Rattle.call_deeds.specs.sock_deeds.specs.Runs.{IsOperation}
 use Rattle.call_deeds.specs.sock_deeds.proofs.Flats.{flat_from, flat_there, flat-append}
 use Rattle.call_deeds.specs.sock_deeds.proofs.Places.{to_slice, map_back}
-use Rattle.call_deeds.specs.sock_deeds.specs.report_fits.proofs.Lists.{contains_from}
+use Rattle.report_fits.proofs.Lists.{contains_from}
 use Rattle.attempts_told.proofs.Bounds.{attempted_by, retried, acted, ran}
 
 -- ## Frames
@@ -181,7 +181,7 @@ module _ {O : Type 0} {g : Ghosts O} {state : O → OutState} {p : Plan} {q : id
       let early = ran_deeds state p q x.tasks th.ran.made (begins x.began) (came x th) th.ran.ran.ran in
       let v : View Asked = th.ran.last.calls.view in
       let a = (retried q state p (both_of (stand th.ran.came)) (both_of th.ran.last) th.ran.ends.1.all.retried).grows in
-      let end : x.ended.calls.seat.me.0 ≡ v = ap (λ (c : Rattle.call_run.specs.call_errors.specs.Books.CallStand). c.view) (th.ran.calls ∙ ap (λ (s : Stand g). s.calls) (end_is x th)) in
+      let end : x.ended.calls.seat.me.0 ≡ v = ap (λ (c : CallStand). c.view) (th.ran.calls ∙ ap (λ (s : Stand g). s.calls) (end_is x th)) in
       subst (λ (w : View Asked). AllByRecursion (IsNoted x.tasks w) (deeds x th)) (sym end)
       (all_both (IsNoted x.tasks v) early last_retries
       (all_then (IsNoted x.tasks th.ran.came.calls.seat.me.0) (IsNoted x.tasks v) early (noted_stays x.tasks th.ran.came.calls.seat.me.0 v a) (ran_noted x.tasks th.ran.made (begins x.began) (came x th) th.ran.ran.ran))
@@ -308,7 +308,7 @@ module _ {O : Type 0} {g : Ghosts O} {state : O → OutState} {p : Plan} {slots 
   acted_sent j number (ops.Send n bytes) (Some by) s t a is own v made within i e at = none_there i e at
   acted_sent j number (ops.Call asked) None s t a is own v made within i e at =
       let b = a.1 in
-      let f = attempt_frame state p q asked a.0 0 _ b.socket b.at (both_of t) b.attempted i e at in
+      let f = attempt_frame state p q asked a.0 0 zero-le b.socket b.at (both_of t) b.attempted i e at in
       let id = id_made slots notes asked.operation a.0 made.0 (let x = within (slot_of a.0) (is_made_for (version_of a.0) asked.operation) in let y = made.1 in omega arith) in
       let is_ = subst (λ (o : ℕ). IsOperation tasks_all outcomes j o (ops.Call asked)) (sym own) is in
       of_call (own_attempt j asked a.0 0 e (omega arith) is_ id f (inl refl))

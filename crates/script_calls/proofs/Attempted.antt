@@ -9,7 +9,7 @@ use lib.ListN.{get_elem?}
 use Rattle.std.specs.Prelude.{slice_index}
 use Rattle.sock_io.specs.declared.link.Out.{Ghosts}
 use Rattle.sock_io.specs.declared.link.Ends.{Ends}
-use Rattle.sock_io.specs.Link.{OutState, InState}
+use Rattle.sock_io.specs.Link.{OutState, InState, end_of}
 use Rattle.sock_words.specs.Codes.{EEOF}
 use Rattle.sock_words.specs.declared.outcome.Outcome.{Outcome}
 use Rattle.sock_words.specs.declared.outcome.Outcome.TheVariants.{Answered, Peer, CallFailed}
@@ -59,7 +59,7 @@ use Rattle.script_calls.proofs.Each.{call_said}
 use Rattle.script_calls.proofs.Later.{IsAmong, among, client_later}
 use Rattle.script_calls.proofs.Placed.{each_notes, mapped_from, mapped_at, are, may, have, sent}
 use Rattle.script_calls.proofs.Shown.{view_of, flat_mapped}
-use Rattle.script_calls.proofs.Sockets.{end_at, out_at, sockets_told, sockets_logged}
+use Rattle.script_calls.proofs.Sockets.{sockets_told, sockets_logged}
 use Rattle.script_calls.proofs.Telling.{IsEndTold, of_script, of_client, begun_of, made_once, became_end}
 use Rattle.script_calls.proofs.Versions.{are_ids}
 
@@ -168,8 +168,8 @@ module _ {O I P : Type 0} (g : Ghosts O) (out : O → OutState) (inn : I → InS
 
   -- ## What is told
 
-  module _ (halves : map (λ (e : Ends O I P). e.out) ends ≡ left.outs) (kept : map (out_at g out inn bytes script reads told ended places seats left ends ends' last read) ends' ≡ map (out_at g out inn bytes script reads told ended places seats left ends ends' last read) ends) (gave : ℕ → List ℕ) (links : List LinkEnd)
-      (given : links ≡ map (end_at g out inn bytes script reads told ended places seats left ends ends' last read) ends') (givers : (k : ℕ) (e : LinkEnd) → slice_get links k ≡ Some e → IsGiver gave k e) where
+  module _ (halves : map (λ (e : Ends O I P). e.out) ends ≡ left.outs) (kept : map (λ (e : Ends O I P). out e.out) ends' ≡ map (λ (e : Ends O I P). out e.out) ends) (gave : ℕ → List ℕ) (links : List LinkEnd)
+      (given : links ≡ map (λ (e : Ends O I P). end_of (out e.out) (inn e.inn)) ends') (givers : (k : ℕ) (e : LinkEnd) → slice_get links k ≡ Some e → IsGiver gave k e) where
     abbrev t : AreSocketsTold script outcomes places gave links
     t = sockets_told g out inn bytes script reads told ended places seats left ends ends' last read halves kept gave links given givers
 

@@ -119,10 +119,10 @@ module _ {O I P : Type 0} (g : Ghosts O) (out : O → OutState) (inn : I → InS
 
   -- ## The links as they were given back
 
-  abbrev pub end_at : Ends O I P → LinkEnd
+  abbrev end_at : Ends O I P → LinkEnd
   end_at e = end_of (out e.out) (inn e.inn)
 
-  abbrev pub out_at : Ends O I P → OutState
+  abbrev out_at : Ends O I P → OutState
   out_at e = out e.out
 
   module _ (halves : map (λ (e : Ends O I P). e.out) ends ≡ left.outs) (kept : map out_at ends' ≡ map out_at ends) (gave : ℕ → List ℕ) where
