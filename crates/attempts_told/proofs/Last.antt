@@ -1,16 +1,17 @@
 -- The last attempt of a call: the greatest to which its id advanced.
-use Rattle.std.proofs.Common.{◌≡◌, ℕ, ◌+◌, ◌<◌, ◌≤◌, ◌⊎◌, inl, inr, Bool, true, false, cond, eqb, eq-eqb, ne_eqb, max, List, [], ◌∷◌, refl, sym, ap, ◌∙◌, arith}
+use Rattle.std.proofs.Common.{◌≡◌, ℕ, zero, suc, ◌+◌, ◌<◌, ◌≤◌, ◌⊎◌, inl, inr, Bool, true, false, cond, eqb, eq-eqb, ne_eqb, max, List, [], ◌∷◌, refl, sym, ap, ◌∙◌, arith}
 use Rattle.std.proofs.Math.Nat.{le-max_left, le-max_right}
 use mathlib.Core.Logic.{dite}
 use native.Mathlib.Decide.{ℕ_discrete, dec_lt}
-use Rattle.corr_core.specs.Law.{total, is_attempt}
+use Rattle.corr_core.specs.Law.{total, pair, is_advance, is_attempt}
 use Rattle.corr_core.specs.declared.marks.Note.{Note}
 use Rattle.corr_core.specs.declared.marks.Note.TheVariants.{Tried, Made, Ended, Locker, Queued, Attempt, Saw}
 use Rattle.corr_core.specs.declared.marks.Noted.{Noted}
-use Rattle.corr_core.proofs.Notes.{pair-same, pair-else, pair-else_first}
+use Rattle.corr_core.proofs.Notes.{only_le, only-else, pair-same, pair-at, pair-else, pair-else_first}
 use Rattle.id_rule.specs.Lawful.{notes_of}
 use Rattle.sock_message.specs.Asked.{Asked}
 use Rattle.call_told.specs.Least.{is_made_for}
+use Rattle.call_places.proofs.Weights.{term, each_less, all_zero, total_sum}
 use Rattle.attempts_told.specs.Attempts.{advanced_to, last_among, last_attempt}
 
 attempt_is : (f n : ℕ) (y : Note Asked) → 0 < is_attempt f n y → y ≡ Attempt f n
@@ -99,3 +100,50 @@ module _ (o : ℕ) (all : List (Noted Asked)) where
   one_reached (x ∷ xs) = dite (dec_lt (last_among o all xs) (by x))
       (λ lt. inr (reached_here x xs (max (by x) (last_among o all xs)) (omega arith) (omega arith)))
       (λ ge. elim (one_reached xs) [ inl z ↦ inl (omega arith) | inr r ↦ inr (reached_behind x xs (last_among o all xs) (max (by x) (last_among o all xs)) (omega arith) r) ])
+
+-- ## How many advances there are
+
+-- over the numbers from 1 to m
+sum_to : (ℕ → ℕ) → ℕ → ℕ
+sum_to h zero = 0
+sum_to h (suc m) = sum_to h m + h (suc m)
+
+sum_few : (h : ℕ → ℕ) (m : ℕ) → ((n : ℕ) → h n ≤ 1) → sum_to h m ≤ m
+unfolding sum_to
+sum_few h zero once = omega arith
+sum_few h (suc m) once = let a = sum_few h m once in let b = once (suc m) in omega arith
+
+in_sum : (f n m : ℕ) → 0 < n → n ≤ m → 1 ≤ sum_to (λ k. pair f k f n) m
+unfolding sum_to
+in_sum f n zero some_ low = absurd (omega arith)
+in_sum f n (suc m) some_ low = dite (ℕ_discrete n (suc m))
+    (λ e. let a = pair-at f (suc m) f n refl e in omega arith)
+    (λ ne. let a = in_sum f n m some_ (omega arith) in omega arith)
+
+each_sum : (f m : ℕ) (ns : List (Note Asked)) → total (λ (x : Note Asked). sum_to (λ k. is_attempt f k x) m) ns ≡ sum_to (λ k. total (is_attempt f k) ns) m
+unfolding sum_to
+each_sum f zero ns = all_zero (λ (x : Note Asked). sum_to (λ k. is_attempt f k x) zero) ns (λ i x e. refl)
+each_sum f (suc m) ns = let a = each_sum f m ns in let b = total_sum (λ (x : Note Asked). sum_to (λ k. is_attempt f k x) m) (is_attempt f (suc m)) ns in omega arith
+
+one_sum : (f m : ℕ) (x : Note Asked) → ((n : ℕ) → 0 < is_attempt f n x → (0 < n) × (n ≤ m)) → is_advance f x ≤ sum_to (λ k. is_attempt f k x) m
+one_sum f m Tried h = omega arith
+one_sum f m (Made g r c) h = omega arith
+one_sum f m (Ended g) h = omega arith
+one_sum f m (Locker g c) h = omega arith
+one_sum f m (Queued g e) h = omega arith
+one_sum f m (Saw w) h = omega arith
+one_sum f m (Attempt g n) h = dite (ℕ_discrete g f)
+    (λ e.
+    let one = pair-at f n g n e refl in
+    let low = h n (omega arith) in
+    let a = in_sum f n m low.0 low.1 in
+    let same : sum_to (λ k. pair f k g n) m ≡ sum_to (λ k. pair f k f n) m = ap (λ (y : ℕ). sum_to (λ k. pair f k y n) m) e in
+    let b = only_le f g in omega arith)
+    (λ ne. let a = only-else f g ne in omega arith)
+
+-- no more than their numbers, of which none comes twice
+pub few_advances : (f m : ℕ) (ns : List (Note Asked)) → ((n : ℕ) → 0 < total (is_attempt f n) ns → (0 < n) × (n ≤ m)) → ((n : ℕ) → total (is_attempt f n) ns ≤ 1) → total (is_advance f) ns ≤ m
+few_advances f m ns low once =
+    let a = each_less (is_advance f) (λ (x : Note Asked). sum_to (λ k. is_attempt f k x) m) ns (λ i x at. one_sum f m x (λ n some_. low n (let t = term (is_attempt f n) ns i x at in omega arith))) in
+    let b = each_sum f m ns in
+    let c = sum_few (λ k. total (is_attempt f k) ns) m once in omega arith

@@ -50,7 +50,7 @@ use Rattle.call_deeds.specs.sock_deeds.specs.Told.{IsAttempt, ToldSockets}
 use Rattle.call_deeds.specs.sock_deeds.proofs.Places.{map_back}
 use Rattle.attempts_told.specs.Attempts.{last_attempt, AreAttemptsTold}
 use Rattle.attempts_told.proofs.Bounds.{IsBounded, all_bounded}
-use Rattle.attempts_told.proofs.Last.{IsReached, none_further, one_reached}
+use Rattle.attempts_told.proofs.Last.{none_further, one_reached, few_advances}
 use Rattle.attempts_told.proofs.Senders.{made_for_there, among, IsOwnAttempt, SentBy, of_send, of_call, sent_by}
 
 -- ## Parts
@@ -152,6 +152,20 @@ module _ {O : Type 0} {g : Ghosts O} {state : O → OutState} {p : Plan} {slots 
         | inl none_ ↦ (let a = two client t asked is op in omega arith)
         | inr r ↦ range_left t.number r.slot r.first (last t.number) r.made r.noted client asked call
       ]
+
+  -- ## Words that were found
+
+  -- a word that was found with a call's id tells no attempt behind its last one
+  pub attempt_low : (o i w : ℕ) → i < slots → 0 < total (is_saw w) (notes_of i notes) → 0 < (parts w).state → 0 < total (is_made_for (parts w).first o) (notes_of i notes) → (parts w).attempt ≤ last o
+  attempt_low o i w inside seen taken made_ =
+      let f : ℕ = (parts w).first in
+      let a = closing.attempts_are i w inside seen taken in
+      let b = few_advances f (last o) (notes_of i notes) (λ n some_. ((bounded i f n some_).3.later, none_further o notes i f n notes made_ some_)) (λ n. closing.advanced_once i f n inside) in omega arith
+
+  -- and one that leaves room for no other attempt tells the last one
+  pub last_is : (o i w : ℕ) → i < slots → 0 < total (is_saw w) (notes_of i notes) → 0 < (parts w).state → 0 < total (is_made_for (parts w).first o) (notes_of i notes) → (c : ℕ) (asked : Asked) → IsTask tasks_all outcomes c record { number = o; op = ops.Call asked }
+      → (parts w).attempt + 2 ≡ asked.range → (parts w).attempt ≡ last o
+  last_is o i w inside seen taken made_ c asked is full = let a = attempt_low o i w inside seen taken made_ in let b = few c record { number = o; op = ops.Call asked } asked is refl in omega arith
 
   -- ## Messages
 
