@@ -1,12 +1,12 @@
 -- What a client noted of attempts: each attempt to which an id advanced is a later one, and its range has it.
-use Rattle.std.proofs.Common.{◌≡◌, ◌≢◌, ℕ, zero, suc, ◌+◌, ◌<◌, ◌≤◌, inl, inr, Bool, true, false, cond, eqb, eq-eqb, ne_eqb, List, [], ◌∷◌, Some, None, refl, sym, ap, ◌∙◌, subst, arith}
+use Rattle.std.proofs.Common.{◌≡◌, ℕ, zero, suc, ◌+◌, ◌<◌, ◌≤◌, inl, inr, Bool, true, false, cond, eqb, eq-eqb, ne_eqb, List, [], ◌∷◌, Some, None, refl, sym, ap, ◌∙◌, subst, arith}
 use Rattle.std.specs.Prelude.{Option as Maybe, ◌||◌, if◌then◌else◌}
 use mathlib.Core.Logic.{dite}
 use native.Mathlib.Decide.{ℕ_discrete, dec_lt}
 use Rattle.atomic_table.specs.Table.{Me}
 use Rattle.sock_io.specs.declared.link.Out.{Ghosts}
 use Rattle.sock_io.specs.Link.{OutState}
-use Rattle.sock_words.specs.Codes.{EFAILEDSOCKET, EINTERNAL, ERPCTIMEDOUT}
+use Rattle.sock_words.specs.Codes.{EFAILEDSOCKET, ERPCTIMEDOUT}
 use Rattle.sock_words.specs.declared.plain.Plan.{Plan}
 use Rattle.sock_words.specs.declared.socket_id.SocketId.{SocketId}
 use Rattle.sock_words.specs.declared.outcome.Outcome.{Outcome}
@@ -40,9 +40,8 @@ use Rattle.corr_id.specs.Calls.{Did, Quiet, GotLock, Became, Found, one, is_saw,
 use Rattle.corr_id.specs.Posts.{PostOk}
 use Rattle.corr_id.specs.Unlocks.{UnlockOk}
 use Rattle.call_run.specs.call_errors.specs.declared.retries.Retry.{Retry}
-use Rattle.call_run.specs.call_errors.specs.Books.{CallStand, stand_of, starving}
+use Rattle.call_run.specs.call_errors.specs.Books.{CallStand, stand_of}
 use Rattle.call_run.specs.call_errors.specs.Locking.{GotBy}
-use Rattle.call_run.specs.call_errors.specs.Ending.{EndedWith}
 use Rattle.call_run.specs.call_errors.specs.Handling.{is_whole, decision, Advanced, Decided}
 use Rattle.call_run.specs.call_errors.specs.Handling as handling
 use Rattle.call_run.specs.call_errors.specs.Posting.{Handled, PostedBy}

@@ -1,5 +1,5 @@
 -- Whose the messages are that the links of a run with calls accepted: each is that of a send, or of an attempt of a call, with the id that was made for the call.
-use Rattle.std.proofs.Common.{◌≡◌, ℕ, zero, suc, ◌+◌, ◌*◌, ◌/◌, ◌%◌, ◌<◌, ◌≤◌, ◌⊎◌, inl, inr, List, [], ◌∷◌, ◌++◌, flat_map, append-nil, zero-le, slice_get, Some, None, refl, sym, ap, ◌∙◌, subst, arith}
+use Rattle.std.proofs.Common.{◌≡◌, ℕ, zero, suc, ◌+◌, ◌*◌, ◌<◌, ◌≤◌, ◌⊎◌, inl, inr, List, [], ◌∷◌, ◌++◌, flat_map, append-nil, zero-le, Some, None, refl, sym, ap, ◌∙◌, subst, arith}
 use Rattle.std.specs.Prelude.{Option}
 use Rattle.std.specs.List.{AllByRecursion}
 use Rattle.std.proofs.lemmas.Nat.{div-add-mod'}
@@ -22,7 +22,7 @@ use Rattle.sock_programs.specs.declared.task.Op.{Op}
 use Rattle.sock_programs.specs.declared.task.Op.TheVariants as ops
 use Rattle.sock_programs.specs.declared.task.Task.{Task}
 use Rattle.sock_programs.specs.ToldCalls.{Accepted}
-use Rattle.corr_core.specs.Law.{total, pair, is_attempt}
+use Rattle.corr_core.specs.Law.{total, is_attempt}
 use Rattle.corr_core.specs.declared.marks.Note.{Note}
 use Rattle.corr_core.specs.declared.marks.Note.TheVariants.{Tried, Made, Ended, Locker, Queued, Attempt, Saw}
 use Rattle.corr_core.specs.declared.marks.Noted.{Noted}
@@ -36,12 +36,12 @@ use Rattle.call_run.specs.call_errors.specs.Books.{CallStand}
 use Rattle.call_run.specs.call_attempts.specs.Both.{Both}
 use Rattle.call_run.specs.call_attempts.specs.Letters.{letter_for}
 use Rattle.call_run.specs.call_attempts.specs.Attempting.{AttemptedBy, went_out, came_back, nowhere, over_link}
-use Rattle.call_run.specs.call_attempts.specs.Retrying.{without_oldest, WentTo, stray, unopened, to_socket, RetriedBy, had_ended, overtaken, went_again, Retried, none_yet, one_more}
+use Rattle.call_run.specs.call_attempts.specs.Retrying.{without_oldest, WentTo, stray, unopened, to_socket, had_ended, overtaken, went_again, Retried, none_yet, one_more}
 use Rattle.call_run.specs.call_client.specs.Acting.{Stand, stand, both_of, Acted}
 use Rattle.call_run.specs.call_client.specs.Running.{Course, Ran, begins, MayMakeAll}
 use Rattle.call_run.specs.call_client.proofs.Telling.{did_total}
 use Rattle.call_run.specs.rpc_reader.specs.rpc_client.specs.declared.acting.Told.{Told}
-use Rattle.call_run.specs.Threads.{Thread, IsThread, RanOn, MayRun, AllMayRun, MayRunAll, ids_of, opens_of}
+use Rattle.call_run.specs.Threads.{Thread, IsThread, RanOn, AllMayRun, MayRunAll, ids_of, opens_of}
 use Rattle.call_told.specs.Least.{is_made_for}
 use Rattle.call_told.proofs.Ends.{made_silent, counted_here}
 use Rattle.call_told.proofs.Lists.{all_both, all_then, all_at}
@@ -56,7 +56,6 @@ use Rattle.call_places.proofs.Clients.{Client, view_of, tasks_of, deeds_of, own_
 use Rattle.call_places.proofs.Places.{all, views_are, tasks_are, lists_are}
 use Rattle.call_places.proofs.Log.{authored}
 use Rattle.call_deeds.specs.Retried.{Again, asked_by, asked_in, asked_before, all_asked}
-use Rattle.call_deeds.specs.Scripts.{IsLater}
 use Rattle.call_deeds.proofs.Links.{IsOwnCall, call_at}
 use Rattle.call_deeds.proofs.Ran.{AreLater}
 use Rattle.call_deeds.specs.sock_deeds.specs.Left.{accepted_of}

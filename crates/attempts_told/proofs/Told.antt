@@ -1,5 +1,5 @@
 -- How many attempts each call of a run made, and whose the messages are that links accepted.
-use Rattle.std.proofs.Common.{◌≡◌, ℕ, zero, suc, ◌+◌, ◌*◌, ◌/◌, ◌%◌, ◌<◌, ◌≤◌, ◌⊎◌, inl, inr, List, [], ◌∷◌, slice_get, Some, None, refl, sym, ap, ◌∙◌, subst, arith}
+use Rattle.std.proofs.Common.{◌≡◌, ℕ, zero, suc, ◌+◌, ◌*◌, ◌<◌, ◌≤◌, ◌⊎◌, inl, inr, List, [], ◌∷◌, slice_get, Some, refl, sym, ap, ◌∙◌, subst, arith}
 use Rattle.std.specs.Prelude.{Option}
 use Rattle.std.specs.List.{AllByRecursion}
 use mathlib.Core.Logic.{dite}
@@ -45,7 +45,6 @@ use Rattle.call_places.proofs.Places.{all, views_are}
 use Rattle.call_deeds.specs.Retried.{all_asked}
 use Rattle.call_deeds.proofs.Ran.{AreLater}
 use Rattle.call_deeds.specs.sock_deeds.specs.Left.{accepted_of}
-use Rattle.call_deeds.specs.sock_deeds.specs.Runs.{IsOperation}
 use Rattle.call_deeds.specs.sock_deeds.specs.Told.{IsAttempt, ToldSockets}
 use Rattle.call_deeds.specs.sock_deeds.proofs.Places.{map_back}
 use Rattle.attempts_told.specs.Attempts.{last_attempt, AreAttemptsTold}
