@@ -42,7 +42,7 @@ only_one f [] i v e h = absurd (some-ne-none v (sym e))
 only_one f (x ∷ xs) zero v e h = (λ z. f (some-injective x v e z) ++ all_nil f xs (λ j u g. h (suc j) u g (λ q. omega arith)) z) ∙ append-nil (f v)
 only_one f (x ∷ xs) (suc i) v e h = (λ z. h zero x refl (λ q. omega arith) z ++ only_one f xs i v e (λ j u g n. h (suc j) u g (λ q. n (omega arith))) z)
 
-saw_of : {C : Type 0} (w : ℕ) (n : Note C) → 0 < is_saw w n → n ≡ Saw w
+pub saw_of : {C : Type 0} (w : ℕ) (n : Note C) → 0 < is_saw w n → n ≡ Saw w
 saw_of w Tried h = absurd (omega arith)
 saw_of w (Made f r c) h = absurd (omega arith)
 saw_of w (Ended f) h = absurd (omega arith)

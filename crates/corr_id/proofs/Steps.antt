@@ -9,7 +9,7 @@ use lib.ListN.{get_elem?}
 use prog.Atomic.{either}
 use Rattle.atomic_table.specs.Table.{State, Me, step, Act, keeps, takes, gives, stepped, homes_after, carried_after, Allows}
 use Rattle.corr_core.specs.Word.{Parts, parts, made_word, locked_word, posted_word, unlocked_word, free_word}
-use Rattle.corr_core.specs.Law.{total, born, is_made}
+use Rattle.corr_core.specs.Law.{total, born, is_made, NoteFits, SlotLaw, vacant, retired, claimed, opened, locked, leaving}
 use Rattle.corr_core.specs.declared.marks.Plan.{Plan}
 use Rattle.corr_core.specs.declared.marks.Hand.{Hand}
 use Rattle.corr_core.specs.declared.marks.Hand.TheVariants.{Empty, Out, Full}
@@ -21,10 +21,13 @@ use Rattle.corr_core.specs.declared.marks.View.{View}
 use Rattle.corr_core.proofs.Stories.{born_is, born_le}
 use Rattle.corr_core.proofs.Slots.{queued_word, open_word, popped_word, same_token, claim_home, no_tokens, is_lock}
 use Rattle.corr_core.proofs.Gather.{gather_none}
+use Rattle.corr_core.proofs.Notes.{each_at, total_some}
+use Rattle.corr_id.specs.Calls.{is_saw}
+use Rattle.corr_id.proofs.Closes.{saw_of}
 use Rattle.id_rule.specs.Lawful.{tag_word, id_word, all_words, tokens_in, notes_in, local, with_token, no_token, with_note, with_kept}
-use Rattle.id_rule.specs.Plays.{IsHome, NotLeaving, Fitting, hand_of, with_hand, value_of, hand_by, claimed_view, locked_view, claim_told, read_told, take_told, give_told, make_told, lock_told, queue_told, end_told, free_told, store_told, found_view, put_error, popped_view, advanced_view, ended_view}
+use Rattle.id_rule.specs.Plays.{IsHome, NotLeaving, Fitting, hand_of, with_hand, value_of, hand_by, claimed_view, locked_view, claim_told, take_told, give_told, make_told, lock_told, queue_told, end_told, free_told, store_told, found_view, put_error, popped_view, advanced_view, ended_view}
 use Rattle.id_rule.proofs.Allowed.{own, known, o}
-use Rattle.corr_id.specs.Ruled.{IsFresh, FreshBehind, IsBehind, Ruled, see_told, unlock_told, load_told}
+use Rattle.corr_id.specs.Ruled.{IsFresh, FreshBehind, IsBehind, Ruled, read_told, see_told, unlock_told, load_told}
 use Rattle.corr_id.proofs.Seats.{total_append}
 use Rattle.corr_id.proofs.Ruling.{claims_ruled, reads_ruled, sees_ruled, makes_ruled, locks_ruled, queues_ruled, relocks_ruled, unlocks_ruled, advances_ruled, behind, ends_ruled, frees_ruled, takes_ruled, gives_ruled, stores_ruled, finds_ruled, kept_stays}
 
@@ -60,21 +63,49 @@ module _ {C : Type 0} (p : Plan) (slots id : ℕ) (me : Me (Maybe C) (View C)) (
   pub claiming : Allows (Ruled p) slots id me (tag_word i) (λ _. 1) (claim_told (step slots (tag_word i) 1 0 none) me)
   claiming s r long here fits = let found : ℕ = get_or s.words (tag_word i) 0 in (claimed_view i found me.0, keeps, tt, claims_ruled p id me i inside real s r here, λ x at. (of_tag (λ y. claimed_view y found me.0) x at, λ z. let e : i ≡ x = omega arith in ap (λ (y : ℕ). tokens_in y me.0) (sym e) ∙ gather_none (tokens_in i) s.views id me.0 here (no_tokens (local s i) (o p id me i inside real s r.lawful here) z)))
 
+  -- what is counted of the notes of one seat is no more than what is of all
+  counted : (g : Note C → ℕ) (vs : List (View C)) (j : ℕ) (v : View C) → get_elem? vs j ≡ some v → total g (notes_in i v) ≤ total g (flat_map (notes_in i) vs)
+  counted g [] j v e = absurd (some-ne-none v (sym e))
+  counted g (x ∷ xs) zero v e = let a = ap (λ y. total g (notes_in i y)) (some-injective x v e) in omega (arith, total_append g (notes_in i x) (flat_map (notes_in i) xs))
+  counted g (x ∷ xs) (suc j) v e = let a : total g (notes_in i v) ≤ total g (flat_map (notes_in i) xs) = counted g xs j v e in omega (arith, total_append g (notes_in i x) (flat_map (notes_in i) xs))
+
+  -- a slot that is claimed has a free word
+  claimed_free : (s : State (Maybe C) (View C)) (l : SlotLaw (local s i)) (seen : ℕ) (h : Hand C) → (local s i).tokens ≡ Claimed seen h ∷ [] → (local s i).word.state ≡ 0
+  claimed_free s l seen h has = elim l.stands [
+    | vacant t g z u k ↦ z
+    | retired t g z u k ↦ z
+    | claimed seen' h' t g z u k q ↦ z
+    | opened c t z v p' q k ↦ (let e : Claimed seen h ∷ [] ≡ [] = sym has ∙ t in absurd (cc))
+    | locked c o' s' k t z v b u y ↦ (let e = same_token (local s i).tokens _ (Claimed seen h) t has in absurd (cc))
+    | leaving t g z u k ↦ z
+  ]
+
+  -- each range of a word that the seat had seen taken there was an earlier one
+  seen_before : (s : State (Maybe C) (View C)) → Ruled p s → get_elem? s.views id ≡ some me.0 → (seen : ℕ) (h : Hand C) → tokens_in i me.0 ≡ Claimed seen h ∷ [] → (w : ℕ) → 0 < total (is_saw w) (notes_in i me.0) → 0 < (parts w).state → (parts w).first < (local s i).word.first
+  seen_before s r here seen h has w saw taken =
+      let l = o p id me i inside real s r.lawful here in
+      let free = claimed_free s l seen h (own p id me i inside real s r.lawful here (Claimed seen h) has) in
+      let k = total_some (is_saw w) (local s i).notes (let a = counted (is_saw w) s.views id me.0 here in omega (arith, a, saw)) in
+      let fit = each_at (NoteFits l.b (local s i).word.first (local s i).notes) (local s i).notes k.0 (Saw w) l.story.fits (k.2 ∙ ap some (saw_of w k.1 k.3)) in
+      let born_ = fit.is_born taken in let y = l.story.births (parts w).first ((parts w).range, born_.0) born_.1 in
+      ⊎_elim
+      (λ past. let a = y.0 in omega (arith, a, past))
+      (λ now. absurd (let z = now.1 in omega (arith, z, free)))
+      y.1
+
   pub reading : (seen : ℕ) (h : Hand C) → tokens_in i me.0 ≡ Claimed seen h ∷ [] → Allows (Ruled p) slots id me (id_word i) (λ n. n) (read_told (step slots (id_word i) 0 0 none) me)
   reading seen h has s r long here fits = let f : ℕ = (local s i).word.first in let l = o p id me i inside real s r.lawful here in (
     with_token i (Claimed f h) me.0,
     keeps,
     tt,
     reads_ruled p id me i inside real s r here seen h has,
-    λ x seen' h' at has'. let e : i ≡ x = omega arith in let q : Claimed seen h ≡ Claimed seen' h' = which x (Claimed seen h) (Claimed seen' h') e has has' in let hh : h ≡ h' = cc in
-        ((λ z. (with_token (e z) (Claimed f (hh z)) me.0, me.1)), l.first_some, (claim_home (local s i) l seen h (own p id me i inside real s r.lawful here (Claimed seen h) has)).2),
+    λ x seen' h' at has'. let e : i ≡ x = omega arith in let q : Claimed seen h ≡ Claimed seen' h' = which x (Claimed seen h) (Claimed seen' h') e has has' in let hh : h ≡ h' = cc in (
+      (λ z. (with_token (e z) (Claimed f (hh z)) me.0, me.1)),
+      l.first_some,
+      (claim_home (local s i) l seen h (own p id me i inside real s r.lawful here (Claimed seen h) has)).2,
+      (λ w saw taken. seen_before s r here seen h has w (let y = ap (λ (z : ℕ). total (is_saw w) (notes_in z me.0)) e in omega (arith, y, saw)) taken),
+    ),
   )
-
-  -- what is counted of the notes of one seat is no more than what is of all
-  counted : (g : Note C → ℕ) (vs : List (View C)) (j : ℕ) (v : View C) → get_elem? vs j ≡ some v → total g (notes_in i v) ≤ total g (flat_map (notes_in i) vs)
-  counted g [] j v e = absurd (some-ne-none v (sym e))
-  counted g (x ∷ xs) zero v e = let a = ap (λ y. total g (notes_in i y)) (some-injective x v e) in omega (arith, total_append g (notes_in i x) (flat_map (notes_in i) xs))
-  counted g (x ∷ xs) (suc j) v e = let a : total g (notes_in i v) ≤ total g (flat_map (notes_in i) xs) = counted g xs j v e in omega (arith, total_append g (notes_in i x) (flat_map (notes_in i) xs))
 
   -- the word of the slot, where the seat knows of an id that was made there
   seen_behind : (s : State (Maybe C) (View C)) → Ruled p s → get_elem? s.views id ≡ some me.0 → (f : ℕ) → 0 < total (is_made f) (notes_in i me.0) → IsBehind f (local s i).word

@@ -2,7 +2,7 @@
 use Rattle.std.specs.Prelude.{◌≡◌, ◌≢◌, ℕ, ◌+◌, ◌/◌, ◌%◌, ◌<◌, ◌≤◌, ◌⊎◌, Bool, true, false, cond, ◌==◌, List, [], ◌∷◌, ◌++◌, Some, None}
 use Rattle.std.specs.Prelude.{Option as Maybe}
 use Rattle.corr_core.specs.Word.{Parts, parts, error_of, locked_word}
-use Rattle.corr_core.specs.Law.{total, only}
+use Rattle.corr_core.specs.Law.{LAST, total, only}
 use Rattle.corr_core.specs.declared.marks.Hand.{Hand}
 use Rattle.corr_core.specs.declared.marks.Hand.TheVariants.{Empty, Full}
 use Rattle.corr_core.specs.declared.marks.Token.{Token}
@@ -114,6 +114,9 @@ module _ {C : Type 0} where
   pub record MadeAs (v w : View C) (slots id r : ℕ) (c : C) : Type 0 where
     pub inside : slot_of id < slots
     pub first_some : 1 ≤ version_of id
+    pub low : version_of id ≤ LAST
+    -- each range of a word that the seat had seen taken there was an earlier one
+    pub none_found : (w : ℕ) → 0 < total (is_saw w) (notes_of (slot_of id) v.notes) → 0 < (parts w).state → (parts w).first < version_of id
     pub nothing_before : tokens_in (slot_of id) v ≡ []
     pub did : Did (slot_of id) v w [] (one (slot_of id) (Made (version_of id) r c))
 

@@ -3,8 +3,9 @@ use Rattle.std.specs.Prelude.{◌≡◌, ◌≢◌, ℕ, ◌<◌, ◌≤◌, ◌
 use Rattle.std.specs.Prelude.{Option as Maybe}
 use Rattle.atomic_table.specs.Table.{State, Me, Step}
 use Rattle.corr_core.specs.Word.{Parts, parts, attempt_of}
-use Rattle.corr_core.specs.Law.{Each, total, only, is_made}
+use Rattle.corr_core.specs.Law.{LAST, Each, total, only, is_made}
 use Rattle.corr_core.specs.declared.marks.Plan.{Plan}
+use Rattle.corr_core.specs.declared.marks.Hand.{Hand}
 use Rattle.corr_core.specs.declared.marks.Hand.TheVariants.{Full}
 use Rattle.corr_core.specs.declared.marks.Token.{Token}
 use Rattle.corr_core.specs.declared.marks.Token.TheVariants.{Claimed, Locked, Leaving}
@@ -12,6 +13,7 @@ use Rattle.corr_core.specs.declared.marks.Note.TheVariants.{Saw}
 use Rattle.corr_core.specs.declared.marks.Kept.{Kept}
 use Rattle.corr_core.specs.declared.marks.View.{View}
 use Rattle.id_rule.specs.Lawful.{id_word, notes_in, local, Lawful, with_token, with_note}
+use Rattle.corr_id.specs.Calls.{is_saw}
 use Rattle.id_rule.specs.Plays.{Becomes, has_token, Longer, popped_view, advanced_view, found_view}
 
 -- a word of this place
@@ -37,6 +39,11 @@ module _ {C : Type 0} where
   pub record Ruled (p : Plan) (s : State (Maybe C) (View C)) : Type 0 where
     pub lawful : Lawful p s
     pub fresh : (i : ℕ) → i < p.slots → Each (FreshBehind (local s i).word) (local s i).tokens
+
+  -- I7 by the seat that claimed the slot: each range of a word that it had seen taken there was an earlier one
+  abbrev pub read_told : Step (Maybe C) → Me (Maybe C) (View C) → ℕ → Me (Maybe C) (View C) → Type 0
+  read_told st m found n = (i seen : ℕ) (h : Hand C) → st.word ≡ id_word i → has_token i (Claimed seen h) m → Becomes m n (with_token i (Claimed (parts found).first h) m.0) × (1 ≤ (parts found).first) × ((parts found).first ≤ LAST)
+      × ((w : ℕ) → 0 < total (is_saw w) (notes_in i m.0) → 0 < (parts w).state → (parts w).first < (parts found).first)
 
   -- I7: a word is never 0, and none that is found behind an id that the seat knows to be made has an earlier range
   abbrev pub see_told : Step (Maybe C) → Me (Maybe C) (View C) → ℕ → Me (Maybe C) (View C) → Type 0

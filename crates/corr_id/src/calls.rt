@@ -8,7 +8,7 @@ ghost use Rattle.corr_core.specs.declared.marks.Note.TheVariants.{Made, Ended};
 ghost use Rattle.id_rule.specs.Lawful.{notes_of};
 ghost use Rattle.id_rule.specs.Plays.{LockFits};
 ghost use Rattle.corr_id.specs.Seats.{Sits, Stays};
-ghost use Rattle.corr_id.specs.Calls.{Became, one, slot_of, version_of, Claims, Locks, GotLock, Quiet, Did, MadeAs, OutOf, LacksId, Found};
+ghost use Rattle.corr_id.specs.Calls.{is_saw, Became, one, slot_of, version_of, Claims, Locks, GotLock, Quiet, Did, MadeAs, OutOf, LacksId, Found};
 
 use crate::table::{IdSeat, IdTable};
 use sock_words::IdWord;
@@ -77,6 +77,7 @@ impl<C> IdTable<C> {
         ensures seat { Stays seat.old seat.new }
         ensures id { (1 ≤ version_of result) × (version_of result ≤ LAST) × (slot_of result ≡ at) }
         ensures made { Became at seat.old.me.0 seat.new.me.0 [] (one at (Made (version_of result) range content)) }
+        ensures before { (w : ℕ) → 0 < total (is_saw w) (notes_of at seat.old.me.0.notes) → 0 < (parts w).state → (parts w).first < version_of result }
     {
         let first = IdWord::from_word(self.read_first(seat, at)).first();
         let found = self.move_call(seat, at, Some(content));

@@ -9,7 +9,7 @@ ghost use Rattle.id_rule.specs.Lawful.{tokens_in, notes_in, with_note};
 ghost use Rattle.id_rule.specs.Plays.{LockFits, Longer};
 ghost use Rattle.corr_id.specs.Ruled.{FreshBehind, IsBehind, IsFresh};
 ghost use Rattle.corr_id.specs.Seats.{Sits, Stays};
-ghost use Rattle.corr_id.specs.Calls.{Became, one, MayMove, Moved, Claims, Locks, tokens_left, advance_note};
+ghost use Rattle.corr_id.specs.Calls.{is_saw, Became, one, MayMove, Moved, Claims, Locks, tokens_left, advance_note};
 
 use crate::plays::{Claim, End, Free, Give, Lock, Make, Queue, Read, See, Take, Unlock};
 use crate::table::{IdSeat, IdTable};
@@ -37,6 +37,7 @@ impl<C> IdTable<C> {
         ensures seat { Stays seat.old seat.new }
         ensures read { Became at seat.old.me.0 seat.new.me.0 (Claimed (parts result).first Empty ∷ []) [] }
         ensures first { (1 ≤ (parts result).first) × ((parts result).first ≤ LAST) }
+        ensures before { (w : ℕ) → 0 < total (is_saw w) (notes_in at seat.old.me.0) → 0 < (parts w).state → (parts w).first < (parts result).first }
     {
         let word = 2 * at as usize + 1;
         self.table.shared.load::<Read>(seat, word)

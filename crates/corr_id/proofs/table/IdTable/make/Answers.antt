@@ -28,3 +28,9 @@ returns-clause-made g c = let m = c.move_call-found.ensures.moved (Claimed (part
     let small = c.first-first.type_inv in
     let low : (parts c.word.result).first ≡ (c.args.at * 4294967296 + c.first-first.result) % 4294967296 = to ∙ (let k : c.first-first.result ≡ (c.args.at * 4294967296 + c.first-first.result) % 4294967296 = omega arith in k) in
     subst (λ l. Became c.args.at c.args.seat.now.me.0 c.make_id.new.seat.me.0 [] l) (λ z. one c.args.at (Made (low z) (r z) c.args.content)) (became_both c.args.at (became_both c.args.at c.read_first.ensures.read m.1) (c.make_id.ensures.made c.args.content has))
+
+pub returns-clause-before : goal.returns-clause-before
+returns-clause-before g c w saw taken =
+    let f : c.first-first.result ≡ (parts c.read_first.result).first = c.first-first.ensures ∙ ap (λ (y : ℕ). (parts y).first) c.from_word.ensures in
+    let small = c.first-first.type_inv in let k = c.read_first.ensures.before w saw taken in
+    let low : c.first-first.result ≡ (c.args.at * 4294967296 + c.first-first.result) % 4294967296 = omega arith in omega (arith, f, k, low)
