@@ -23,7 +23,7 @@ use Rattle.script_calls.specs.Built.{is_runnable}
 use Rattle.serve_port.specs.Serving.{ServedConnection}
 use Rattle.brpc_eng.proofs.Statuses.{each_script_is_run, IsUnbuilt, unbuilt_script_exactly}
 use Rattle.brpc_eng.specs.Streams.{script_limit, IsAtEnd}
-use Rattle.brpc_eng.specs.Answers.{HaveRisen, StandStill, AllTell, edges_of, Input, Output, Links, TextWritten, Ran, Reported, MemoryRanOut, OpenFailed, RanOnThreads, ThreadsReported, CallsReported, ThreadsRanOut, ThreadsNotOpened, ScriptNotBuilt, ScriptEnd, FaultWritten, Replayed, RanScript, FaultyScript, SourceFailed, TooLong, NoMemory, Answers, NoCommand, Generated, Generates, LoadRan, LoadSummed, LoadRanOut, LoadNotOpened, Loads, PrintsInput, Replays, Simulates, RunsOnThreads, ServeEnds, ServedWhole, NotAccepted, ConnectionFailed, MetFault, ServeRanOut, ServesPort, run_mode, frames_status, FramesPrinted}
+use Rattle.brpc_eng.specs.Answers.{HaveRisen, StandStill, AllTell, edges_of, Input, Output, Links, TextWritten, Ran, Reported, MemoryRanOut, OpenFailed, RanOnThreads, ThreadsReported, ThreadsRanOut, ThreadsNotOpened, ScriptNotBuilt, ScriptEnd, FaultWritten, Replayed, RanScript, FaultyScript, SourceFailed, TooLong, NoMemory, Answers, NoCommand, Generated, Generates, LoadRan, LoadSummed, LoadRanOut, LoadNotOpened, Loads, PrintsInput, Replays, Simulates, RunsOnThreads, ServeEnds, ServedWhole, NotAccepted, ConnectionFailed, MetFault, ServeRanOut, ServesPort, run_mode, frames_status, FramesPrinted}
 
 -- ## Status 2
 
@@ -38,7 +38,6 @@ not_two_ran turns script out links status (OpenFailed s rose back wrote) = λ e.
 
 not_two_threads : (mode : Mode) (script : List Item) (out : Output) (links : Links) (status : ℕ) → RanOnThreads mode script out links status → status ≢ 2
 not_two_threads mode script out links status (ThreadsReported built text is wrote) = not_two_written out text status wrote
-not_two_threads mode script out links status (CallsReported unbuilt_ taken text is wrote) = not_two_written out text status wrote
 not_two_threads mode script out links status (ThreadsRanOut built s wrote) = λ e. absurd (omega (arith, e, s))
 not_two_threads mode script out links status (ThreadsNotOpened built s rose back wrote) = λ e. absurd (omega (arith, e, s))
 not_two_threads mode script out links status (ScriptNotBuilt unbuilt s none_ wrote) = λ e. absurd (omega (arith, e, s))
@@ -119,7 +118,6 @@ calm_ran turns script input out links status calm (OpenFailed s rose back wrote)
 
 calm_threads : (mode : Mode) (script : List Item) (input : Input) (out : Output) (links : Links) (status : ℕ) → IsCalm input out links → is_runnable mode script ≡ true → RanOnThreads mode script out links status → (status ≡ 0) ⊎ (status ≡ 7)
 calm_threads mode script input out links status calm built (ThreadsReported same text is wrote) = inl (calm_written out text status calm.sink wrote)
-calm_threads mode script input out links status calm built (CallsReported unbuilt_ taken text is wrote) = inl (calm_written out text status calm.sink wrote)
 calm_threads mode script input out links status calm built (ThreadsRanOut same s wrote) = inr s
 calm_threads mode script input out links status calm built (ThreadsNotOpened same s rose back wrote) = absurd (calm.linker rose)
 calm_threads mode script input out links status calm built (ScriptNotBuilt unbuilt s none_ wrote) = let f : true ≡ false = sym built ∙ unbuilt in absurd (cc)
@@ -238,7 +236,6 @@ still_faulty out line kind status (inr w) e = w.1.1
 
 still_threads : (mode : Mode) (script : List Item) (out : Output) (links : Links) (status : ℕ) → RanOnThreads mode script out links status → status ≡ 0 → StandStill out.faults
 still_threads mode script out links status (ThreadsReported built text is wrote) e = still_written out text status wrote e
-still_threads mode script out links status (CallsReported unbuilt_ taken text is wrote) e = still_written out text status wrote e
 still_threads mode script out links status (ThreadsRanOut built s wrote) e = wrote.1
 still_threads mode script out links status (ThreadsNotOpened built s rose back wrote) e = wrote.1
 still_threads mode script out links status (ScriptNotBuilt unbuilt s none_ wrote) e = absurd (omega (arith, e, s))

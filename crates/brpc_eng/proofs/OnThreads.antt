@@ -1,23 +1,17 @@
 -- How the run of a script on threads ends, by what its calls say.
-use Rattle.std.proofs.Common.{◌≡◌, ℕ, true, false, List, refl, subst}
+use Rattle.std.proofs.Common.{◌≡◌, ℕ, true, List, refl, subst}
 use Rattle.brpc_model.specs.Items.{Item}
 use Rattle.sock_io.specs.Causes.{Rose}
 use Rattle.sock_io.specs.declared.link.Mode.{Mode}
 use Rattle.script_links.specs.Given.{AreUntouched}
-use Rattle.script_calls.specs.script_threads.specs.Built.{is_built}
-use Rattle.script_calls.specs.script_threads.specs.Told.{IsThreadText}
 use Rattle.script_calls.specs.Built.{is_runnable}
 use Rattle.script_calls.specs.Told.{IsCallText}
 use Rattle.brpc_eng.specs.Answers as answer
 
 -- the text that was written is that of the run
-pub threads_reported : (mode : Mode) (script : List Item) (text text' : List ℕ) (out : answer.Output) (ends : answer.Links) (status : ℕ) → is_built mode script ≡ true → IsThreadText script text ends.ends → text' ≡ text → answer.TextWritten out text' status →
+pub threads_reported : (mode : Mode) (script : List Item) (text text' : List ℕ) (out : answer.Output) (ends : answer.Links) (status : ℕ) → is_runnable mode script ≡ true → IsCallText script text ends.ends → text' ≡ text → answer.TextWritten out text' status →
     answer.RanOnThreads mode script out ends status
-threads_reported mode script text text' out ends status built is same wrote = answer.ThreadsReported built text is (subst (λ (x : List ℕ). answer.TextWritten out x status) same wrote)
-
-pub calls_reported : (mode : Mode) (script : List Item) (text text' : List ℕ) (out : answer.Output) (ends : answer.Links) (status : ℕ) → is_built mode script ≡ false → is_runnable mode script ≡ true → IsCallText script text ends.ends → text' ≡ text → answer.TextWritten out text' status →
-    answer.RanOnThreads mode script out ends status
-calls_reported mode script text text' out ends status unbuilt taken is same wrote = answer.CallsReported unbuilt taken text is (subst (λ (x : List ℕ). answer.TextWritten out x status) same wrote)
+threads_reported mode script text text' out ends status taken is same wrote = answer.ThreadsReported taken text is (subst (λ (x : List ℕ). answer.TextWritten out x status) same wrote)
 
 -- memory was wanting
 pub threads_ran_out : (mode : Mode) (script : List Item) (out : answer.Output) (ends : answer.Links) → is_runnable mode script ≡ true → answer.WroteNothing out → answer.RanOnThreads mode script out ends 7

@@ -6,9 +6,8 @@ use Rattle.brpc_model.specs.Operations.{Turn}
 use Rattle.brpc_model.specs.Script.{script_of}
 use Rattle.sock_io.specs.declared.link.Mode.{Mode}
 use Rattle.script_calls.specs.Built.{is_runnable}
-use Rattle.script_calls.proofs.Joinless.{built_runnable}
 use Rattle.brpc_eng.specs.Streams.{script_limit, IsAtEnd}
-use Rattle.brpc_eng.specs.Answers.{HaveRisen, Input, Output, Links, TextWritten, Ran, Reported, MemoryRanOut, OpenFailed, RanOnThreads, ThreadsReported, CallsReported, ThreadsRanOut, ThreadsNotOpened, ScriptNotBuilt, ScriptEnd, by_turns, FaultWritten, Replayed, RanScript, FaultyScript, SourceFailed, TooLong, NoMemory, ReplayedInput}
+use Rattle.brpc_eng.specs.Answers.{HaveRisen, Input, Output, Links, TextWritten, Ran, Reported, MemoryRanOut, OpenFailed, RanOnThreads, ThreadsReported, ThreadsRanOut, ThreadsNotOpened, ScriptNotBuilt, ScriptEnd, by_turns, FaultWritten, Replayed, RanScript, FaultyScript, SourceFailed, TooLong, NoMemory, ReplayedInput}
 
 -- ## What each way of ending says of the bytes that came
 
@@ -40,7 +39,6 @@ turns_run turns script out links status ran = is_run (turns script) script out l
 
 pub threads_run : (mode : Mode) → AreRuns (RanOnThreads mode)
 threads_run mode script out links status (ThreadsReported built text is wrote) = is_written out text status wrote
-threads_run mode script out links status (CallsReported unbuilt_ taken text is wrote) = is_written out text status wrote
 threads_run mode script out links status (ThreadsRanOut built s wrote) = inr (inr (inl s))
 threads_run mode script out links status (ThreadsNotOpened built s rose back wrote) = inr (inr (inr (inl s)))
 threads_run mode script out links status (ScriptNotBuilt unbuilt s none_ wrote) = inr (inr (inr (inr s)))
@@ -135,14 +133,12 @@ each_script_is_run turns input out links status read = not_ten turns input out l
 
 unbuilt_ran : (mode : Mode) (script : List Item) (out : Output) (links : Links) (status : ℕ) → RanOnThreads mode script out links status → status ≡ 10 → is_runnable mode script ≡ false
 unbuilt_ran mode script out links status (ThreadsReported built text is wrote) e = absurd (not_ten_written out text status wrote e)
-unbuilt_ran mode script out links status (CallsReported unbuilt_ taken text is wrote) e = absurd (not_ten_written out text status wrote e)
 unbuilt_ran mode script out links status (ThreadsRanOut built s wrote) e = absurd (omega (arith, e, s))
 unbuilt_ran mode script out links status (ThreadsNotOpened built s rose back wrote) e = absurd (omega (arith, e, s))
 unbuilt_ran mode script out links status (ScriptNotBuilt unbuilt s none_ wrote) e = unbuilt
 
 ten_ran : (mode : Mode) (script : List Item) (out : Output) (links : Links) (status : ℕ) → RanOnThreads mode script out links status → is_runnable mode script ≡ false → status ≡ 10
-ten_ran mode script out links status (ThreadsReported built text is wrote) unbuilt = let f : true ≡ false = sym (built_runnable mode script built) ∙ unbuilt in absurd (cc)
-ten_ran mode script out links status (CallsReported unbuilt_ taken text is wrote) unbuilt = let f : true ≡ false = sym taken ∙ unbuilt in absurd (cc)
+ten_ran mode script out links status (ThreadsReported taken text is wrote) unbuilt = let f : true ≡ false = sym taken ∙ unbuilt in absurd (cc)
 ten_ran mode script out links status (ThreadsRanOut built s wrote) unbuilt = let f : true ≡ false = sym built ∙ unbuilt in absurd (cc)
 ten_ran mode script out links status (ThreadsNotOpened built s rose back wrote) unbuilt = let f : true ≡ false = sym built ∙ unbuilt in absurd (cc)
 ten_ran mode script out links status (ScriptNotBuilt same s none_ wrote) unbuilt = s

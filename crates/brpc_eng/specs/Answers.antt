@@ -33,8 +33,6 @@ use Rattle.serve_port.specs.Serving.{ServedConnection, IsServed, any_failing, an
 use Rattle.script_links.specs.Given.{AreNumbered, AreUntouched, IsBeginning, specs_of}
 use Rattle.script_run.specs.Causes.{CameLate, late_in}
 use Rattle.script_run.specs.Played.{IsRunText}
-use Rattle.script_calls.specs.script_threads.specs.Built.{is_built}
-use Rattle.script_calls.specs.script_threads.specs.Told.{IsThreadText}
 use Rattle.script_calls.specs.Built.{is_runnable}
 use Rattle.script_calls.specs.Told.{IsCallText}
 use Rattle.brpc_eng.specs.Streams.{script_limit, IsAtEnd}
@@ -174,12 +172,9 @@ run_mode (Some port) = modes.Tcp port
 
 -- how the run of a script on threads ends, over links of this mode
 pub data RanOnThreads (mode : Mode) (script : List Item) (out : Output) (links : Links) (status : ℕ) : Type 0 where
-  -- each operation has its outcome by what became of all others, and each link took the messages of its lines in one order, whole and once, those of each
-  -- client in its own order; the text reports that, and fits
-  ThreadsReported : is_built mode script ≡ true → (text : List ℕ) → IsThreadText script text links.ends → TextWritten out text status → RanOnThreads mode script out links status
-  -- with calls, or with servers behind its links: the place words of the run tell an order of each link, each operation has an outcome or a message with a
-  -- place, and the text reports that
-  CallsReported : is_built mode script ≡ false → is_runnable mode script ≡ true → (text : List ℕ) → IsCallText script text links.ends → TextWritten out text status → RanOnThreads mode script out links status
+  -- the place words of the run tell an order of each link, each operation has an outcome or a message with a place, and the text reports that; each operation
+  -- on sockets and each `expire` has its cause, by what became of all others; and without calls the report fits
+  ThreadsReported : is_runnable mode script ≡ true → (text : List ℕ) → IsCallText script text links.ends → TextWritten out text status → RanOnThreads mode script out links status
   ThreadsRanOut : is_runnable mode script ≡ true → status ≡ 7 → WroteNothing out → RanOnThreads mode script out links status
   -- the links that were opened before are given back, and nothing was done with them
   ThreadsNotOpened : is_runnable mode script ≡ true → status ≡ 8 → HaveRisen links.faults → AreUntouched 0 links.ends → WroteNothing out → RanOnThreads mode script out links status

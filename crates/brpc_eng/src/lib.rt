@@ -13,8 +13,6 @@ mod run;
 mod serve;
 mod status;
 mod streams;
-#[cfg(test)]
-mod tests;
 mod threads;
 
 pub use engine::brpc;

@@ -1,11 +1,10 @@
-ghost use Rattle.std.specs.Prelude.{◌≡◌, ◌≢◌, ℕ, true, false, [], Ok, List};
+ghost use Rattle.std.specs.Prelude.{◌≡◌, ◌≢◌, ℕ, true, [], Ok, List};
 ghost use Rattle.std.specs.List.{list_all};
 ghost use Rattle.brpc_model.specs.Script.{script_of};
 ghost use Rattle.script_calls.specs.Built.{is_runnable};
 ghost use Rattle.script_links.specs.Given.{has_piece};
 ghost use Rattle.script_links.specs.Offered.{TellOffers};
 ghost use Rattle.script_run.specs.Played.{TellClosed};
-ghost use Rattle.script_calls.specs.script_threads.specs.Built.{is_built};
 ghost use Rattle.brpc_eng.specs.Status.{number_of};
 ghost use Rattle.brpc_eng.specs.Answers.{OpenedBy, RanOnThreads, ReplayedInput, CountsStand, run_mode};
 
@@ -13,7 +12,6 @@ use crate::replay::{NOT_BUILT, write_answer, write_fault};
 use crate::run::write_report;
 use crate::status::Status;
 use crate::streams::{InputFault, read_all};
-use script_calls::script_threads::{is_built, run_script_on_threads};
 use script_calls::{is_runnable, run_calls_on_threads};
 use script_items::Script;
 use script_lang::{ScriptError, read_script};
@@ -67,69 +65,6 @@ pub fn run_threads<R: Threads + Wait + Sync, S: Source, K: Sink, L: Linker, G: G
     }
 }
 
-/// Runs a script without calls on threads and writes its report.
-fn plain_and_report<R: Threads + Wait + Sync, K: Sink, L: Linker, G: Gate + Sync>(
-    rt: &R,
-    alloc: Global,
-    mode: Mode,
-    script: &Script,
-    out: &mut K,
-    links: &mut L,
-    gate: &G,
-) -> Status
-    requires asked { L.asked links.old ≡ [] }
-    requires back { L.back links.old ≡ [] }
-    requires script { (bytes : List ℕ) × (script_of bytes ≡ Ok script.now) }
-    requires pieces { list_all has_piece script.now ≡ true }
-    requires built { is_built mode script.now ≡ true }
-    ensures ran { RanOnThreads mode script.now
-        (record { before = K.contents out.old; now = K.contents out.new; faults = record { before = K.faults out.old; now = K.faults out.new } })
-        (record { prompt = L.prompt links.old; tells = TellClosed L.I.state; offering = TellOffers L.O.state L.I.state; asked = L.asked links.new; ends = L.back links.new; accepted = L.accepted links.new; done = L.done links.new; faults = record { before = L.faults links.old; now = L.faults links.new } })
-        (number_of result) }
-    ensures opened { OpenedBy mode script.now
-        (record { prompt = L.prompt links.old; tells = TellClosed L.I.state; offering = TellOffers L.O.state L.I.state; asked = L.asked links.new; ends = L.back links.new; accepted = L.accepted links.new; done = L.done links.new; faults = record { before = L.faults links.old; now = L.faults links.new } })
-        (number_of result) }
-    ensures linker { number_of result ≢ 8 → L.faults links.new ≡ L.faults links.old }
-{
-    match run_script_on_threads(rt, alloc, mode, script, links, gate) {
-        Ok(text) => write_report(out, &text),
-        Err(OpenFault::Failed) => Status::OpenFailed,
-        Err(OpenFault::NoMemory) => Status::NoMemory,
-    }
-}
-
-/// Runs a script with calls, or with servers behind its links, on threads and writes its report.
-fn calls_and_report<R: Threads + Wait + Sync, K: Sink, L: Linker, G: Gate + Sync>(
-    rt: &R,
-    alloc: Global,
-    mode: Mode,
-    script: &Script,
-    out: &mut K,
-    links: &mut L,
-    gate: &G,
-) -> Status
-    requires asked { L.asked links.old ≡ [] }
-    requires back { L.back links.old ≡ [] }
-    requires script { (bytes : List ℕ) × (script_of bytes ≡ Ok script.now) }
-    requires pieces { list_all has_piece script.now ≡ true }
-    requires unbuilt { is_built mode script.now ≡ false }
-    requires runnable { is_runnable mode script.now ≡ true }
-    ensures ran { RanOnThreads mode script.now
-        (record { before = K.contents out.old; now = K.contents out.new; faults = record { before = K.faults out.old; now = K.faults out.new } })
-        (record { prompt = L.prompt links.old; tells = TellClosed L.I.state; offering = TellOffers L.O.state L.I.state; asked = L.asked links.new; ends = L.back links.new; accepted = L.accepted links.new; done = L.done links.new; faults = record { before = L.faults links.old; now = L.faults links.new } })
-        (number_of result) }
-    ensures opened { OpenedBy mode script.now
-        (record { prompt = L.prompt links.old; tells = TellClosed L.I.state; offering = TellOffers L.O.state L.I.state; asked = L.asked links.new; ends = L.back links.new; accepted = L.accepted links.new; done = L.done links.new; faults = record { before = L.faults links.old; now = L.faults links.new } })
-        (number_of result) }
-    ensures linker { number_of result ≢ 8 → L.faults links.new ≡ L.faults links.old }
-{
-    match run_calls_on_threads(rt, alloc, mode, script, links, gate) {
-        Ok(text) => write_report(out, &text),
-        Err(OpenFault::Failed) => Status::OpenFailed,
-        Err(OpenFault::NoMemory) => Status::NoMemory,
-    }
-}
-
 /// Runs a script on threads and writes its report. One with a line that isn't built for it is refused, and no link is opened.
 fn threads_and_report<R: Threads + Wait + Sync, K: Sink, L: Linker, G: Gate + Sync>(
     rt: &R,
@@ -157,9 +92,9 @@ fn threads_and_report<R: Threads + Wait + Sync, K: Sink, L: Linker, G: Gate + Sy
         write_answer(out, NOT_BUILT);
         return Status::NotBuilt;
     }
-    if is_built(mode, script) {
-        plain_and_report(rt, alloc, mode, script, out, links, gate)
-    } else {
-        calls_and_report(rt, alloc, mode, script, out, links, gate)
+    match run_calls_on_threads(rt, alloc, mode, script, links, gate) {
+        Ok(text) => write_report(out, &text),
+        Err(OpenFault::Failed) => Status::OpenFailed,
+        Err(OpenFault::NoMemory) => Status::NoMemory,
     }
 }

@@ -18,12 +18,11 @@ use Rattle.call_attempts.specs.write_chain.specs.Sending.{HasRoom}
 use Rattle.call_attempts.specs.sock_open.specs.Made.{IsNewSeat}
 use Rattle.corr_id.specs.Seats.{Sits, IsFree}
 use Rattle.call_attempts.specs.rpc_client.specs.declared.holding.Held.{Held}
-use Rattle.call_attempts.specs.rpc_client.specs.declared.acting.Client.{Client}
 use Rattle.call_attempts.specs.rpc_client.specs.Seats.{Idle, MayAct, AtRest, SameRefs}
 use Rattle.call_attempts.specs.rpc_client.specs.Holding.{is_there, IsHolder, HeldBy, DroppedBy}
 use Rattle.call_attempts.specs.rpc_client.specs.Acting.{OwnList}
 use Rattle.call_attempts.specs.rpc_client.proofs.Counting.{holder_same}
-use Rattle.call_attempts.specs.rpc_client.proofs.Going.{sent_own, new_go}
+use Rattle.call_attempts.specs.rpc_client.proofs.Going.{sent_own, new_idle, new_holder, new_own}
 use Rattle.call_attempts.specs.call_errors.specs.Books.{CallStand}
 use Rattle.call_attempts.specs.call_writes.specs.Sending.{SentCalling}
 use Rattle.call_attempts.specs.Both.{HasNoLock}
@@ -115,11 +114,11 @@ module _ {O : Type 0} {g : Ghosts O} (z : TableId) (p : Plan) (y : TableId) wher
 
 -- a client that was made just now
 pub new_caller : {O : Type 0} {g : Ghosts O} (z : TableId) (p : Plan) (y : TableId) (c : Caller O g) → IsNewSeat z p c.seat → Sits y c.calls.seat → IsFree c.calls.seat.me.0 → All (IsPass z p) c.passes.items → c.held.items ≡ [] → c.sent ≡ 0 → MayGo z p y 0 c
-new_caller {O} {g} z p y c new sits free passes none_ sent = let plain : Client O g = record { seat = c.seat; passes = c.passes; held = c.held; outcomes = c.outcomes; pool = c.calls.pool; alloc = c.calls.alloc } in let go = new_go z p plain new passes none_ in record {
-  idle = go.idle;
-  holder = go.holder;
-  passes = go.passes;
-  few = go.few;
-  own = subst (λ k. OwnList k c.seat.me.0) (sym sent) go.own;
+new_caller z p y c new sits free passes none_ sent = record {
+  idle = new_idle z p c.seat new;
+  holder = subst (λ (h : List Held). IsHolder p h c.seat.me.0) (sym none_) (new_holder z p c.seat new);
+  passes = passes;
+  few = (let e = ap length none_ in omega arith);
+  own = subst (λ k. OwnList k c.seat.me.0) (sym sent) (new_own z p c.seat new);
   ids = (sits, free);
 }

@@ -14,8 +14,8 @@ use Rattle.sock_programs.specs.declared.task.Task.{Task}
 use Rattle.sock_deeds.specs.rpc_client.specs.declared.holding.Held.{Held}
 use Rattle.sock_deeds.specs.rpc_client.specs.Running.{GaveFirst}
 use Rattle.call_run.specs.rpc_reader.specs.Failing as reader
-use Rattle.call_run.specs.thread_run.specs.Threads.{FoundEach}
 use Rattle.call_run.specs.Ending.{FailedIf, EndedEach, EndedBehind}
+use Rattle.call_run.specs.Threads.{FoundEach}
 use Rattle.sock_deeds.specs.Deeds.{Hand, Did, looks, takes, misses, sets, returns, own_number, DoneBy}
 use Rattle.sock_deeds.specs.Runs.{IsFor, listed, IsById, Ended}
 use Rattle.sock_deeds.proofs.Ending.{still_none_later}

@@ -9,7 +9,6 @@ use Rattle.sock_words.specs.declared.plain.Plan.{Plan}
 use Rattle.chain_laws.proofs.Lists.{old, new, at_snoc}
 use Rattle.sock_programs.specs.declared.task.Task.{Task}
 use Rattle.corr_core.specs.declared.marks.Plan as id_plan
-use Rattle.call_run.specs.thread_run.specs.Threads.{LinksDown}
 use Rattle.sock_deeds.specs.rpc_client.specs.declared.acting.Told.{Told}
 use Rattle.sock_deeds.specs.rpc_client.specs.declared.holding.Held.{Held}
 use Rattle.sock_deeds.specs.rpc_client.specs.Running.{telling}
@@ -17,7 +16,7 @@ use Rattle.call_run.specs.call_attempts.specs.Both.{Both}
 use Rattle.call_run.specs.call_attempts.specs.Retrying.{without_oldest, Retried, none_yet, one_more}
 use Rattle.call_run.specs.call_client.specs.Acting.{Stand, both_of}
 use Rattle.call_run.specs.call_client.specs.Running.{Course, Ran, RetriedHere}
-use Rattle.call_run.specs.Threads.{opens_of}
+use Rattle.call_run.specs.Threads.{opens_of, LinksDown}
 use Rattle.sock_deeds.specs.Deeds.{Hand}
 use Rattle.sock_deeds.specs.Runs.{IsOperation, numbers_at}
 use Rattle.sock_deeds.proofs.Flats.{append_first, append_later, flat-append}

@@ -29,11 +29,10 @@ use Rattle.corr_core.specs.declared.marks.Plan as id_plan
 use Rattle.corr_core.specs.declared.marks.View as id_view
 use Rattle.sock_message.specs.Asked.{Asked}
 use Rattle.sock_deeds.specs.rpc_client.specs.declared.acting.Told.{Told}
-use Rattle.call_run.specs.thread_run.specs.Threads.{is_opened, opened_in}
 use Rattle.call_run.specs.call_client.specs.Running.{MayMakeAll}
 use Rattle.call_run.specs.declared.opened.Opening.{Opening}
 use Rattle.call_run.specs.Ending.{EndedBehind}
-use Rattle.call_run.specs.Threads.{ids_of, opens_of, opening_in, openings, name_if, opened_names, Thread, IsThread, AreThreads, MayRun, AllMayRun, MayRunAll, RanOn}
+use Rattle.call_run.specs.Threads.{ids_of, opens_of, is_opened, opened_in, opening_in, openings, name_if, opened_names, Thread, IsThread, AreThreads, MayRun, AllMayRun, MayRunAll, RanOn}
 use Rattle.sock_deeds.specs.Deeds.{waits, own_number, Deed}
 use Rattle.sock_deeds.specs.Runs.{IsOperation, IsFor, numbers_at, Seated, Ended, seat_of, DeedRun}
 use Rattle.sock_deeds.proofs.Flats.{append_later}

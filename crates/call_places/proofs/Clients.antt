@@ -149,7 +149,7 @@ module _ {O : Type 0} {g : Ghosts O} {state : O → OutState} {p : Plan} {q : id
         let few = again_le l d in omega arith)
 
     -- so there is one at most
-    again_once : (l : ℕ) → total (λ (c : Client g state p q). total (again_at l) (deeds_of c)) all ≤ 1
+    pub again_once : (l : ℕ) → total (λ (c : Client g state p q). total (again_at l) (deeds_of c)) all ≤ 1
     again_once l = dite (ℕ_discrete (total (λ (c : Client g state p q). total (again_at l) (deeds_of c)) all) 0)
         (λ z. omega arith)
         (λ n.

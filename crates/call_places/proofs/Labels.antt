@@ -86,7 +86,7 @@ module _ {O : Type 0} {g : Ghosts O} {state : O → OutState} {p : Plan} {q : id
   again_at (operates x by s t a) = 0
   again_at (retries r s t by) = again_in state p q l r s t by
 
-  deed_place : (d : Deed g state p q) → total (at_place l) (entries_of d) ≤ by_task (labels l) d + again_at d
+  pub deed_place : (d : Deed g state p q) → total (at_place l) (entries_of d) ≤ by_task (labels l) d + again_at d
   deed_place (operates x by s t a) = let b = acted_place state p q l x.number x.op by s t a in omega arith
   deed_place (retries r s t by) = let b = retry_place state p q l r s t by in omega arith
 

@@ -16,17 +16,12 @@ use Rattle.call_run.specs.sock_table.specs.Named.{Found}
 use Rattle.sock_programs.specs.declared.task.Op.{Op}
 use Rattle.sock_programs.specs.declared.task.Op.TheVariants as ops
 use Rattle.corr_core.specs.declared.marks.Plan as id_plan
-use Rattle.table_told.specs.rpc_client.specs.declared.acting.Action.TheVariants as action
-use Rattle.table_told.specs.rpc_client.specs.declared.reaching.Reached.{Reached}
-use Rattle.table_told.specs.rpc_client.specs.declared.reaching.Reached.TheVariants as reached
-use Rattle.table_told.specs.rpc_client.specs.declared.holding.Held.{Held}
-use Rattle.table_told.specs.rpc_client.specs.Acting as plain
-use Rattle.table_told.specs.rpc_client.specs.Reaching.{ReachedBy}
-use Rattle.table_told.specs.rpc_client.specs.Running.{GaveFirst}
-use Rattle.table_told.specs.rpc_client.proofs.Delivering.{came_lists}
-use Rattle.table_told.specs.rpc_client.proofs.Finding.{set_others}
+use Rattle.sock_deeds.specs.rpc_client.specs.declared.reaching.Reached.TheVariants as reached
+use Rattle.sock_deeds.specs.rpc_client.specs.declared.holding.Held.{Held}
+use Rattle.sock_deeds.specs.rpc_client.specs.Running.{GaveFirst}
+use Rattle.sock_deeds.specs.rpc_client.proofs.Delivering.{came_lists}
+use Rattle.sock_deeds.specs.rpc_client.proofs.Finding.{set_others}
 use Rattle.call_run.specs.rpc_reader.specs.Failing as reader
-use Rattle.call_run.specs.thread_run.specs.Threads.{FoundEach}
 use Rattle.call_run.specs.call_errors.specs.declared.retries.Retry.{Retry}
 use Rattle.call_run.specs.call_errors.specs.Books.{CallStand}
 use Rattle.call_run.specs.call_writes.specs.Sending.{SeenCalling, SentWithCalling, SentCalling}
@@ -36,7 +31,8 @@ use Rattle.call_run.specs.call_attempts.specs.Attempting.{DeliveredBy, went_out,
 use Rattle.call_run.specs.call_attempts.specs.Retrying.{WentTo, stray, unopened, to_socket, RetriedBy, had_ended, overtaken, went_again}
 use Rattle.call_run.specs.call_client.specs.Acting.{Stand, both_of, letter_of, Acted}
 use Rattle.call_run.specs.Ending.{FailedIf, EndedEach}
-use Rattle.table_told.proofs.Owning as table
+use Rattle.call_run.specs.Threads.{FoundEach}
+use Rattle.sock_deeds.proofs.Owning.{reached_lists, held_lists, dropped_lists, failed_lists}
 use Rattle.call_places.specs.Deeds.{delivered_entries, attempt_entries, went_entries, retry_entries, acted_entries}
 
 -- the own list, which stands first, got these behind the others
@@ -51,11 +47,6 @@ grown_none v w e l ls is = e ∙ (is ∙ ap (λ x. x ∷ ls) (sym (append-nil l)
 found_lists : (p : Plan) (n : ℕ) (id : Option SocketId) (v w : View) → Found p n id v w → w.lists ≡ v.lists
 found_lists p n None v w f = ap (λ (y : View). y.lists) f.0
 found_lists p n (Some id) v w f = ap (λ (y : View). y.lists) f.1.view
-
-reached_lists : (p : Plan) (n : ℕ) (r : Reached) (v w : View) → ReachedBy p n r v w → w.lists ≡ v.lists
-reached_lists p n reached.Unopened v w r = ap (λ (y : View). y.lists) r.0
-reached_lists p n (reached.Gone found) v w r = ap (λ (y : View). y.lists) r.3.became.others ∙ ap (λ (y : View). y.lists) r.2.1.view
-reached_lists p n (reached.Here sock) v w r = ap (λ (y : View). y.lists) r.2.others ∙ ap (λ (y : View). y.lists) r.1.1.view
 
 pub waited_lists : (p : Plan) (ns : List ℕ) (v w : View) → FoundEach p ns v w → w.lists ≡ v.lists
 waited_lists p [] v w e = ap (λ (y : View). y.lists) e
@@ -118,10 +109,6 @@ module _ {O : Type 0} (state : O → OutState) (p : Plan) where
     retry_grows r s t (went_again k u o w) = λ l ls is. went_grows _ _ (record { socks = u.socks; calls = record { view = w.view; books = u.calls.books } }) t w.went l ls (ap (λ (y : View). y.lists) o.socks ∙ is)
 
     module _ {g : Ghosts O} where
-      -- as a client without calls has it
-      abbrev on_socks : Stand g → plain.Stand g
-      on_socks s = record { me = s.me; held = s.held; passes = s.passes }
-
       pub acted_grows : (number : ℕ) (op : Op) (by : Option Outcome) (s t : Stand g) (a : Acted state p q number op by s t) → Grown (acted_entries state p q number op by s t a) s.me.0 t.me.0
       acted_grows number (ops.Open n k) (Some by) s t a = grown_none s.me.0 t.me.0 a.0.lists
       acted_grows number (ops.Send n bytes) None s t a = λ l ls is. sent_lists q.slots n (letter_of number bytes) s.me.0 s.calls t.me.0 t.calls a.0 ∙ ap (λ x. more x a.0.delivered.accepted.entry) is
@@ -130,7 +117,7 @@ module _ {O : Type 0} (state : O → OutState) (p : Plan) where
       acted_grows number (ops.Call asked) None s t a = λ l ls is. attempt_grows a.1.socket _ a.1.at (both_of t) a.1.attempted l ls (found_lists p _ (Some a.1.socket) s.me.0 a.1.at.socks a.1.made_for.found ∙ is)
       acted_grows number (ops.Expire of) (Some by) s t a = grown_none s.me.0 t.me.0 (ap (λ (m : Me (SockHome O g) View). m.0.lists) a.1)
       acted_grows number (ops.Join of) (Some by) s t a = grown_none s.me.0 t.me.0 (ap (λ (m : Me (SockHome O g) View). m.0.lists) a.1)
-      acted_grows number (ops.Hold n) (Some by) s t a = table.acted_lists state p (record { client = 0; operation = 0; attempt = 0; place = 0 }) (record { number = number; name = n; action = action.Hold }) action.Hold (Some by) (on_socks s) (on_socks t) (a.0, a.1)
-      acted_grows number (ops.Drop n) (Some by) s t a = table.acted_lists state p (record { client = 0; operation = 0; attempt = 0; place = 0 }) (record { number = number; name = n; action = action.Drop }) action.Drop (Some by) (on_socks s) (on_socks t) (a.0, a.1)
-      acted_grows number (ops.Fail n code) (Some by) s t a = table.acted_lists state p (record { client = 0; operation = 0; attempt = 0; place = 0 }) (record { number = number; name = n; action = action.Fail code }) (action.Fail code) (Some by) (on_socks s) (on_socks t) (a.0, a.1.held, a.1.passes)
+      acted_grows number (ops.Hold n) (Some by) s t a = grown_none s.me.0 t.me.0 (held_lists p n by s.held s.me.0 t.held t.me.0 a.0)
+      acted_grows number (ops.Drop n) (Some by) s t a = grown_none s.me.0 t.me.0 (dropped_lists n by s.held s.me.0 t.held t.me.0 a.0)
+      acted_grows number (ops.Fail n code) (Some by) s t a = grown_none s.me.0 t.me.0 (failed_lists p n code by s.me.0 t.me.0 a.0)
       acted_grows number _ _ s t a = elim a [ ]

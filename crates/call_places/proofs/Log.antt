@@ -11,7 +11,7 @@ use Rattle.chain_laws.proofs.Lists.{at_some, at_length}
 use Rattle.call_run.specs.sock_rule.specs.Closing.{Ordered, PlacesDiffer}
 use Rattle.corr_core.specs.Law.{total, only}
 use Rattle.corr_core.proofs.Notes.{only-at, only-else, only_le}
-use Rattle.table_told.proofs.Entries.{before, pick_at, before_rises}
+use Rattle.sock_deeds.proofs.Entries.{before, pick_at, before_rises}
 use Rattle.call_places.proofs.Weights.{term, two_terms, all_zero, mapped, few_places}
 use Rattle.call_places.proofs.Labels.{at_place}
 

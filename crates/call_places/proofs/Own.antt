@@ -16,15 +16,14 @@ use Rattle.sock_model.specs.declared.view.View.{View}
 use Rattle.sock_model.specs.Seats.{newcomer}
 use Rattle.sock_programs.specs.declared.task.Task.{Task}
 use Rattle.corr_core.specs.declared.marks.Plan as id_plan
-use Rattle.table_told.specs.rpc_client.specs.declared.acting.Told.{Told}
-use Rattle.table_told.specs.rpc_client.specs.Running.{telling}
+use Rattle.sock_deeds.specs.rpc_client.specs.declared.acting.Told.{Told}
+use Rattle.sock_deeds.specs.rpc_client.specs.Running.{telling}
 use Rattle.call_run.specs.call_attempts.specs.Both.{Both}
 use Rattle.call_run.specs.call_attempts.specs.Retrying.{without_oldest, Retried, none_yet, one_more}
 use Rattle.call_run.specs.call_client.specs.Acting.{Stand, stand, both_of, Acted}
 use Rattle.call_run.specs.call_client.specs.Running.{Course, Ran, begins, LeftAll}
 use Rattle.call_run.specs.Threads.{Thread, IsThread}
-use Rattle.table_told.proofs.Flats.{append_first, append_later}
-use Rattle.table_told.proofs.Moments.{flat-append}
+use Rattle.sock_deeds.proofs.Flats.{append_first, append_later, flat-append}
 use Rattle.call_places.specs.Deeds.{Deed, operates, retries, retries_of, ran_deeds, deeds, entries_of, own_entries}
 use Rattle.call_places.proofs.Weights.{at_low}
 use Rattle.call_places.proofs.Lists.{Grown, grown_none, waited_lists, gave_lists, retry_grows, acted_grows}

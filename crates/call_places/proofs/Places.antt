@@ -26,7 +26,7 @@ use Rattle.sock_model.specs.Layout.{place_word}
 use Rattle.chain_laws.proofs.Lists.{distinct_filter}
 use Rattle.call_run.specs.sock_rule.specs.Closing.{PlacesDiffer}
 use Rattle.call_run.specs.sock_rule.specs.declared.homes.SockHome.{SockHome}
-use Rattle.table_told.specs.report_fits.proofs.PlaceValues.{is_place}
+use Rattle.sock_deeds.specs.report_fits.proofs.PlaceValues.{is_place}
 use Rattle.sock_programs.specs.declared.task.Op.{Op}
 use Rattle.sock_programs.specs.declared.task.Op.TheVariants as ops
 use Rattle.sock_programs.specs.declared.task.Task.{Task}
@@ -39,12 +39,12 @@ use Rattle.corr_core.specs.declared.marks.View.{View}
 use Rattle.corr_core.proofs.Notes.{only-at}
 use Rattle.sock_message.specs.Asked.{Asked}
 use Rattle.corr_id.specs.Closing.{Closing}
-use Rattle.table_told.specs.rpc_client.specs.declared.acting.Told.{Told}
+use Rattle.sock_deeds.specs.rpc_client.specs.declared.acting.Told.{Told}
 use Rattle.call_run.specs.call_client.specs.Acting.{Stand, Acted}
 use Rattle.call_run.specs.call_client.specs.Running.{MayMakeAll}
 use Rattle.call_run.specs.Threads.{Thread, AreThreads, RanOn, AllMayRun, MayRunAll, ids_of, opens_of, opened_names, openings}
-use Rattle.table_told.proofs.Entries.{before, from_pick, from_on, on_there}
-use Rattle.table_told.proofs.Flats.{flat_there}
+use Rattle.sock_deeds.proofs.Entries.{before, from_pick, from_on, on_there}
+use Rattle.sock_deeds.proofs.Flats.{flat_there}
 use Rattle.call_places.specs.Counted.{HaveNotesOf}
 use Rattle.call_places.specs.Deeds.{acted_entries, entries_of, own_entries}
 use Rattle.call_places.proofs.Weights.{term, at_low, there, mapped}

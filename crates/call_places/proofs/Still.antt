@@ -143,7 +143,7 @@ none_advances i p q o = by (eqb p.attempt q.attempt)
 
 -- ## What becomes of errors
 
-tells_retries : (x : Rattle.table_told.specs.rpc_client.specs.declared.acting.Told.Told) (b c : Books) → Tells x b c → c.retries ≡ b.retries
+tells_retries : (x : Rattle.sock_deeds.specs.rpc_client.specs.declared.acting.Told.Told) (b c : Books) → Tells x b c → c.retries ≡ b.retries
 tells_retries x b c (told e) = ap (λ (y : Books). y.retries) e
 tells_retries x b c (lost e) = ap (λ (y : Books). y.retries) e
 

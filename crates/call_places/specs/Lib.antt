@@ -5,11 +5,11 @@ pub use Rattle.call_run.specs.call_errors
 pub use Rattle.call_run
 pub use Rattle.call_run.specs.call_table
 pub use Rattle.call_run.specs.call_writes
-pub use Rattle.table_told.specs.report_fits
-pub use Rattle.table_told.specs.rpc_client
-pub use Rattle.table_told.specs.sock_causes
+pub use Rattle.sock_deeds.specs.report_fits
+pub use Rattle.sock_deeds.specs.rpc_client
+pub use Rattle.sock_deeds.specs.sock_causes
+pub use Rattle.sock_deeds
 pub use Rattle.call_run.specs.sock_open
 pub use Rattle.call_run.specs.sock_rule
 pub use Rattle.call_run.specs.sock_table
-pub use Rattle.table_told
 pub use Rattle.call_run.specs.write_chain

@@ -1,7 +1,8 @@
 -- How clients get their seats and their passes.
-use Rattle.std.proofs.Common.{◌≡◌, ℕ, suc, ◌+◌, ◌-◌, List, [], ◌∷◌, ◌++◌, length, map, length-append, sym, ap, ◌∙◌, subst, arith}
+use Rattle.std.proofs.Common.{◌≡◌, ℕ, suc, ◌+◌, ◌-◌, List, [], ◌∷◌, ◌++◌, length, reverse, map, length-append, sym, ap, ◌∙◌, subst, arith}
 use Rattle.std.specs.Prelude.{All, Option}
-use Rattle.std.proofs.lemmas.List.{append_assoc, map-append}
+use Rattle.std.proofs.lemmas.List.{reverse-append, get_or_append_left, get_or-append-add, append_assoc, map-append}
+use Rattle.std.proofs.lemmas.List.Elements.{All-nil, All-cons, All-append}
 use Rattle.atomic_table.specs.Seated.{TableId}
 use Rattle.atomic_table.specs.declared.shared.Seat.{Seat}
 use Rattle.sock_io.specs.declared.link.Out.{Ghosts}
@@ -10,19 +11,48 @@ use Rattle.sock_model.specs.declared.view.View.{View}
 use Rattle.call_client.specs.sock_rule.specs.declared.homes.SockHome.{SockHome}
 use Rattle.call_client.specs.sock_table.specs.declared.passes.LinkPass.{LinkPass}
 use Rattle.call_client.specs.sock_table.specs.Passes.{IsPass}
-use Rattle.call_client.specs.sock_open.specs.Made.{IsNewSeat, AreNewSeats}
+use Rattle.call_client.specs.sock_open.specs.Made.{IsNewSeat, AreNewSeats, PassesFrom}
 use Rattle.corr_core.specs.declared.marks.View as id_view
 use Rattle.corr_id.specs.Opening.{AreNew}
 use Rattle.corr_id.specs.Seats.{Sits, IsFree}
 use Rattle.corr_id.proofs.Testing.{new_sits}
 use Rattle.sock_message.specs.Asked.{Asked}
-use Rattle.thread_run.specs.Threads.{LinksDown}
-use Rattle.thread_run.proofs.Dealing.{all_split, down_split, seats_last}
 use Rattle.call_client.specs.Acting.{MayGo}
 use Rattle.call_run.specs.declared.hiring.Room.{Room}
 use Rattle.call_run.specs.declared.worker.Worker.{Worker}
-use Rattle.call_run.specs.Threads.{opens_of, DidNothing}
+use Rattle.call_run.specs.Threads.{opens_of, LinksDown, DidNothing}
 use Rattle.call_run.specs.Hired.{opens_of_all, HasRoom, IsNewId, IsHired, AreHired}
+
+-- ## Passes
+
+pub all_snoc : {A : Type 0} (P : A → Type 0) (xs : List A) (x : A) → All P xs → P x → All P (xs ++ x ∷ [])
+all_snoc P xs x all one = All-append P xs (x ∷ []) all (All-cons P x [] one (All-nil P))
+
+pub all_split : {A : Type 0} (P : A → Type 0) (xs ys : List A) → All P (xs ++ ys) → All P xs × All P ys
+all_split P xs ys h = (
+  (λ k d lt. subst P (get_or_append_left xs ys d k lt) (h k d (omega (arith, length-append xs ys)))),
+  (λ k d lt. subst P (get_or-append-add xs ys k d) (h (length xs + k) d (omega (arith, length-append xs ys)))),
+)
+
+module _ {O : Type 0} {g : Ghosts O} where
+  pub down_split : (first : ℕ) (xs ys : List (LinkPass O g)) → LinksDown first (xs ++ ys) → LinksDown (first + length ys) xs × LinksDown first ys
+  down_split first [] ys a = (tt, a)
+  down_split first (x ∷ xs) ys a = let b = down_split first xs ys a.1 in let n = length-append xs ys in ((a.0 ∙ omega arith, b.0), b.1)
+
+  down_snoc : (first : ℕ) (xs : List (LinkPass O g)) (x : LinkPass O g) → LinksDown (first + 1) xs → x.link ≡ first → LinksDown first (xs ++ x ∷ [])
+  down_snoc first [] x a e = (e ∙ omega arith, tt)
+  down_snoc first (y ∷ ys) x a e = let n = length-append ys (x ∷ []) in (a.0 ∙ omega arith, down_snoc first ys x a.1 e)
+
+  -- the passes of a new table, the first one last
+  pub down_of : (z : TableId) (p : Plan) (n : ℕ) (xs : List (LinkPass O g)) → PassesFrom z p n xs → LinksDown n (reverse xs)
+  down_of z p n [] a = tt
+  down_of z p n (x ∷ xs) a = subst (LinksDown n) (sym (reverse-append (x ∷ []) xs)) (down_snoc n (reverse xs) x (down_of z p (n + 1) xs a.2) a.1)
+
+-- ## Seats
+
+pub seats_last : {S : Type 0} (z : TableId) (p : Plan) (xs : List (Seat S View)) (x : Seat S View) → AreNewSeats z p (xs ++ x ∷ []) → AreNewSeats z p xs × IsNewSeat z p x
+seats_last z p [] x a = (tt, a.0)
+seats_last z p (y ∷ ys) x a = let b = seats_last z p ys x a.1 in ((a.0, b.0), b.1)
 
 -- ## Seats of the ids
 

@@ -1,12 +1,26 @@
 -- What clients leave is handed in, one after the other.
-use Rattle.std.proofs.Common.{◌≡◌, Bool, true, false, ◌||◌, List, [], ◌∷◌, ◌++◌, map, length, length-append, refl, ap, ◌∙◌, arith}
+use Rattle.std.proofs.Common.{◌≡◌, Bool, true, false, ◌||◌, List, [], ◌∷◌, ◌++◌, map, length, length-append, refl, sym, ap, ◌∙◌, arith}
 use Rattle.std.specs.List.{list_any}
 use Rattle.std.specs.Vec.{vec_capacity}
+use Rattle.std.proofs.lemmas.List.{append_assoc}
 use Rattle.sock_io.specs.declared.link.Out.{Ghosts}
-use Rattle.thread_run.proofs.Outcomes.{more_left, any_left}
 use Rattle.call_run.specs.declared.worker.Worker.{Worker}
 use Rattle.call_run.specs.declared.leaving.Left.{Left}
 use Rattle.call_run.specs.Crew.{HasMore, HandedIn}
+
+-- ## Lists that grow by one of those that are left
+
+pub more_left : {A B : Type 0} (f : A → B) (done more : List B) (left rest : List A) (x : A) (all : List B) → done ++ map f left ≡ all → left ≡ x ∷ rest → more ≡ done ++ f x ∷ [] → more ++ map f rest ≡ all
+more_left f done more left rest x all h l e = ap (λ b. b ++ map f rest) e ∙ (append_assoc done (f x ∷ []) (map f rest) ∙ (sym (ap (λ xs. done ++ map f xs) l) ∙ h))
+
+pub any_left : {A : Type 0} (f : A → Bool) (short next : Bool) (left rest : List A) (x : A) (all : Bool) → (short || list_any f left) ≡ all → left ≡ x ∷ rest → next ≡ (short || f x) → (next || list_any f rest) ≡ all
+any_left f short n left rest x all h l e = ap (λ (b : Bool). b || list_any f rest) e ∙ (swap short (f x) (list_any f rest) ∙ (sym (ap (λ xs. short || list_any f xs) l) ∙ h))
+  where
+    swap : (a b c : Bool) → ((a || b) || c) ≡ (a || (b || c))
+    swap true b c = refl
+    swap false b c = refl
+
+-- ## Clients
 
 or_false : (b : Bool) → (b || false) ≡ b
 or_false true = refl

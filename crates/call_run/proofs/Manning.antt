@@ -1,7 +1,8 @@
 -- Main's client and the others get what the new tables have.
-use Rattle.std.proofs.Common.{◌≡◌, ℕ, ◌-◌, ◌<◌, ◌≤◌, List, [], ◌∷◌, ◌++◌, length, reverse, map, length-append, refl, sym, ap, ◌∙◌, subst, arith}
+use Rattle.std.proofs.Common.{◌≡◌, ℕ, ◌-◌, ◌<◌, ◌≤◌, List, [], ◌∷◌, ◌++◌, length, reverse, map, take, drop, length-append, refl, sym, ap, ◌∙◌, subst, arith}
 use Rattle.std.specs.Prelude.{All, Option}
 use Rattle.std.proofs.lemmas.List.{length-reverse, length-map}
+use Rattle.std.proofs.Math.Seq.{take-append_seam}
 use Rattle.atomic_table.specs.Seated.{TableId}
 use Rattle.atomic_table.specs.declared.shared.Seat.{Seat}
 use Rattle.sock_io.specs.declared.link.Out.{Ghosts}
@@ -17,14 +18,12 @@ use Rattle.corr_id.specs.Opening.{AreNew}
 use Rattle.sock_message.specs.Asked.{Asked}
 use Rattle.sock_programs.specs.declared.task.Task.{Task}
 use Rattle.rpc_reader.specs.rpc_client.specs.declared.acting.Told.{Told}
-use Rattle.thread_run.specs.Threads.{LinksDown}
-use Rattle.thread_run.proofs.Dealing.{all_split, down_split, down_of, seats_last}
 use Rattle.call_client.specs.Running.{MayMakeAll}
 use Rattle.call_run.specs.declared.opened.Opening.{Opening}
 use Rattle.call_run.specs.declared.hiring.Room.{Room}
-use Rattle.call_run.specs.Threads.{opens_of, opens_of_each, openings, opened_names, MayRunAll}
+use Rattle.call_run.specs.Threads.{opens_of, opens_of_each, LinksDown, openings, opened_names, MayRunAll}
 use Rattle.call_run.specs.Hired.{opens_of_all, HasRoom, IsNewId, MayHire}
-use Rattle.call_run.proofs.Dealing.{ids_last}
+use Rattle.call_run.proofs.Dealing.{all_split, down_split, down_of, seats_last, ids_last}
 use Rattle.call_run.proofs.Naming.{names_fit}
 
 module _ {O : Type 0} {g : Ghosts O} where
@@ -70,6 +69,10 @@ module _ {O : Type 0} {g : Ghosts O} where
         passes = oks.1;
         next = omega arith;
       }
+
+-- a slice of all of a list that was lent
+pub whole_lent : {A : Type 0} (xs ys : List A) (n : ℕ) → n ≡ length ys → length xs ≡ length ys → take n (xs ++ drop (length xs) ys) ≡ xs
+whole_lent xs ys n e h = ap (λ (k : ℕ). take k (xs ++ drop (length xs) ys)) (e ∙ sym h) ∙ take-append_seam xs (drop (length xs) ys)
 
 -- the names that were found opened are those of the table
 pub fit_names : (p : Plan) (q : id_plan.Plan) (told : List Told) (os : List Opening) (setup : List Task) (names : List ℕ) (passes : ℕ) → names ≡ opened_names told os → os ≡ openings setup → MayMakeAll p q setup passes → All (λ (n : ℕ). n < p.names) names

@@ -1,5 +1,5 @@
 -- What clients open, and the names that the setup opened.
-use Rattle.std.proofs.Common.{◌≡◌, ℕ, ◌+◌, ◌<◌, ◌≤◌, Bool, true, false, if◌then◌else◌, List, [], ◌∷◌, ◌++◌, length, get_or, drop, sym, ap, ◌∙◌, arith}
+use Rattle.std.proofs.Common.{◌≡◌, ℕ, ◌+◌, ◌<◌, ◌≤◌, Bool, true, false, ◌==◌, ◌&&◌, ◌||◌, if◌then◌else◌, List, [], ◌∷◌, ◌++◌, length, get_or, drop, sym, ap, ◌∙◌, arith}
 use Rattle.std.specs.Prelude.{All}
 use Rattle.std.proofs.lemmas.List.{drop_more, drop_all, append_assoc, append-nil}
 use Rattle.std.proofs.lemmas.List.Elements.{All-nil, All-cons, All-append}
@@ -9,11 +9,10 @@ use Rattle.sock_programs.specs.declared.task.Op.{Op}
 use Rattle.sock_programs.specs.declared.task.Op.TheVariants as ops
 use Rattle.sock_programs.specs.declared.task.Task.{Task}
 use Rattle.rpc_reader.specs.rpc_client.specs.declared.acting.Told.{Told}
-use Rattle.thread_run.specs.Threads.{opened_in}
 use Rattle.call_client.specs.Acting.{MayMake}
 use Rattle.call_client.specs.Running.{left_by, MayMakeAll}
 use Rattle.call_run.specs.declared.opened.Opening.{Opening}
-use Rattle.call_run.specs.Threads.{opens_in, opens_of, opening_in, openings, name_if, opened_names}
+use Rattle.call_run.specs.Threads.{opens_in, opens_of, is_opened, opened_in, opening_in, openings, name_if, opened_names}
 
 -- ## Opens
 
@@ -32,6 +31,24 @@ openings_on found more left rest t all h l e = ap (λ x. x ++ openings rest) e �
 pub openings_all : (found : List Opening) (left : List Task) (all : List Opening) → found ++ openings left ≡ all → length left ≡ 0 → found ≡ all
 openings_all found [] all h e = sym (append-nil found) ∙ h
 openings_all found (t ∷ ts) all h e = absurd (omega arith)
+
+-- ## What the setup told
+
+abbrev tells : ℕ → Told → Bool
+tells n t = (t.number == n) && is_opened t.outcome
+
+module _ (n : ℕ) (told : List Told) (i : ℕ) (t : Told) (lt : i < length told) (at : t ≡ get_or told i t) where
+  one_on : opened_in n (drop i told) ≡ (tells n t || opened_in n (drop (i + 1) told))
+  one_on = ap (opened_in n) (drop_more told i t lt ∙ ap (λ (x : Told). x ∷ drop (i + 1) told) (sym at))
+
+  pub opened_on : false ≡ tells n t → opened_in n (drop i told) ≡ opened_in n told → opened_in n (drop (i + 1) told) ≡ opened_in n told
+  opened_on not e = ap (λ (b : Bool). b || opened_in n (drop (i + 1) told)) not ∙ (sym one_on ∙ e)
+
+  pub opened_here : true ≡ tells n t → opened_in n (drop i told) ≡ opened_in n told → true ≡ opened_in n told
+  opened_here is e = ap (λ (b : Bool). b || opened_in n (drop (i + 1) told)) is ∙ (sym one_on ∙ e)
+
+pub opened_none : (n : ℕ) (told : List Told) (i : ℕ) → length told ≤ i → opened_in n (drop i told) ≡ opened_in n told → false ≡ opened_in n told
+opened_none n told i le e = sym (ap (opened_in n) (drop_all i told le)) ∙ e
 
 -- ## Names
 

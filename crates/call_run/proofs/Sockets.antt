@@ -9,7 +9,7 @@ use Rattle.sock_model.specs.Weights.{total}
 use Rattle.call_client.specs.sock_table.specs.Closed.{IsDoneSeat, AllDone}
 use Rattle.call_client.specs.sock_open.proofs.Testing.{done_between}
 use Rattle.rpc_reader.specs.rpc_client.specs.Seats.{Idle, MayAct, SameRefs}
-use Rattle.thread_run.specs.Crew.{IsLeft}
+use Rattle.call_run.specs.Crew.{IsLeft}
 use Rattle.call_run.specs.Ending.{EndedOne, EndedEach}
 
 module _ {S : Type 0} (z : TableId) (p : Plan) where

@@ -1,5 +1,5 @@
 -- What each client's thread did, one after the other.
-use Rattle.std.proofs.Common.{◌≡◌, ℕ, suc, ◌+◌, ◌<◌, Bool, false, List, [], ◌∷◌, length, get_or, map, refl, sym, ap, ◌∙◌, subst, arith}
+use Rattle.std.proofs.Common.{◌≡◌, ℕ, suc, ◌+◌, ◌<◌, Bool, true, false, true≢false, ◌||◌, List, [], ◌∷◌, length, get_or, map, refl, sym, ap, ◌∙◌, subst, arith}
 use Rattle.std.specs.Prelude.{All, Option}
 use Rattle.std.specs.List.{list_any}
 use Rattle.std.proofs.lemmas.List.Elements.{All-nil, All-cons}
@@ -18,13 +18,15 @@ use Rattle.corr_core.specs.declared.marks.Plan as id_plan
 use Rattle.corr_core.specs.declared.marks.View as id_view
 use Rattle.sock_message.specs.Asked.{Asked}
 use Rattle.call_client.specs.Running.{MayMakeAll, RunBy}
-use Rattle.thread_run.specs.Threads.{FoundEach, LinksDown}
-use Rattle.thread_run.proofs.Weaving.{none_short}
 use Rattle.call_run.specs.declared.worker.Worker.{Worker}
-use Rattle.call_run.specs.Threads.{opens_of, DidNothing, Thread, IsThread, AreThreads, MayRun, AllMayRun}
+use Rattle.call_run.specs.Threads.{opens_of, LinksDown, FoundEach, DidNothing, Thread, IsThread, AreThreads, MayRun, AllMayRun}
 use Rattle.call_run.specs.Hired.{IsHired, AreHired}
 use Rattle.call_run.specs.Working.{IsReady, HasWorked}
 use Rattle.call_run.specs.Crew.{AreLeft}
+
+pub none_short : (a b : Bool) → (a || b) ≡ false → (a ≡ false) × (b ≡ false)
+none_short true b e = absurd (true≢false e)
+none_short false b e = (refl, e)
 
 module _ {O : Type 0} {g : Ghosts O} (z : TableId) (p : Plan) (y : TableId) (q : id_plan.Plan) where
   -- ## Before

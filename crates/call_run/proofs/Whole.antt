@@ -1,11 +1,13 @@
 -- A run over two tables, from those that are to run to what is left.
-use Rattle.std.proofs.Common.{◌≡◌, ℕ, ◌<◌, Bool, false, ◌||◌, List, [], ◌∷◌, map, length, get_or, refl, sym, ap, ◌∙◌, subst, arith}
+use Rattle.std.proofs.Common.{◌≡◌, ℕ, zero, suc, ◌<◌, Bool, false, ◌||◌, List, [], ◌∷◌, ◌++◌, map, length, get_or, refl, sym, ap, ◌∙◌, subst, arith}
 use Rattle.std.specs.Prelude.{Option, IfOk, Vec}
 use Rattle.std.specs.declared.alloc.Global.{Global}
 use Rattle.std.specs.declared.result.Result.{Result}
 use Rattle.std.specs.declared.result.Result.TheVariants.{Ok, Err}
 use Rattle.std.proofs.lemmas.List.{length-map}
 use Rattle.std.specs.List.{list_any}
+use mathlib.Core.Option.{some}
+use lib.ListN.{get_elem?}
 use Rattle.atomic_table.specs.Seated.{TableId}
 use Rattle.atomic_table.specs.declared.shared.Seat.{Seat}
 use Rattle.sock_io.specs.declared.link.Out.{Ghosts}
@@ -15,15 +17,13 @@ use Rattle.sock_model.specs.declared.view.View.{View}
 use Rattle.sock_model.specs.Weights.{total}
 use Rattle.call_client.specs.sock_rule.specs.declared.homes.SockHome.{SockHome}
 use Rattle.call_client.specs.sock_table.specs.Closed.{AllDone, ClosedBy}
+use Rattle.call_client.specs.sock_open.specs.Opening.{AreFresh}
 use Rattle.corr_core.specs.Law.{total as id_total}
 use Rattle.corr_core.specs.declared.marks.Plan as id_plan
 use Rattle.corr_core.specs.declared.marks.View as id_view
 use Rattle.corr_id.specs.declared.table.IdTable.{IdTable}
 use Rattle.sock_message.specs.Asked.{Asked}
 use Rattle.sock_programs.specs.declared.task.Task.{Task}
-use Rattle.thread_run.specs.Crew.{IsLeft}
-use Rattle.thread_run.proofs.Weaving.{none_short}
-use Rattle.thread_run.proofs.Ending.{one_and}
 use Rattle.call_run.specs.declared.worker.Worker.{Worker}
 use Rattle.call_run.specs.declared.leaving.Left.{Left}
 use Rattle.call_run.specs.declared.running.Crew.{Crew}
@@ -31,11 +31,15 @@ use Rattle.call_run.specs.declared.running.Ran.{Ran}
 use Rattle.call_run.specs.Ending.{EndedBehind}
 use Rattle.call_run.specs.Threads.{opens_of, openings, opened_names, ids_of, AreThreads, AllRan, RanOn}
 use Rattle.call_run.specs.Working.{HasWorked}
-use Rattle.call_run.specs.Crew.{HandedIn, AreLeft, IsCrew, CrewRan}
-use Rattle.call_run.proofs.Weaving.{thread_of, one_thread, one_share, one_id, Woven, weave}
+use Rattle.call_run.specs.Crew.{HandedIn, IsLeft, AreLeft, IsCrew, CrewRan, AreBack}
+use Rattle.call_run.proofs.Weaving.{none_short, thread_of, one_thread, one_share, one_id, Woven, weave}
 
 abbrev pub made_by : {O : Type 0} {g : Ghosts O} → List (Worker O g) → List (List Task)
 made_by {O} {g} workers = map (λ (w : Worker O g). w.tasks.items) workers
+
+-- one, and then those of a list
+one_and : {A B : Type 0} (f : A → B) (s0 s1 s2 : List B) (x : B) (whole xs : List A) → s0 ≡ [] → s1 ≡ s0 ++ x ∷ [] → s2 ≡ s1 ++ map f whole → whole ≡ xs → s2 ≡ x ∷ map f xs
+one_and f s0 s1 s2 x whole xs e0 e1 e2 w = e2 ∙ (ap (λ l. l ++ map f whole) (e1 ∙ ap (λ l. l ++ x ∷ []) e0) ∙ ap (λ l. x ∷ map f l) w)
 
 twice : {A B C : Type 0} (f : A → B) (h : B → C) (xs : List A) → map h (map f xs) ≡ map (λ x. h (f x)) xs
 twice f h [] = refl
@@ -112,4 +116,17 @@ run_ended {O} {E} {g} state z p plan y q slots s t setup cs ds clients opens l t
       (subst (λ v. AllRan g state plan v s cs opens told ended l.seats.items ids) qe
       (subst (λ v. AllRan g state v q s cs opens told ended l.seats.items ids) pe (ran.ran e.0)))))));
   closed = subst (λ v. ClosedBy state v l.seats.items r.places.items r.vrefs.items r.outs.items) pe e.5;
+}
+
+-- ## What comes back
+
+is_at : {A : Type 0} (xs : List A) (k : ℕ) → k < length xs → (x : A) × (get_elem? xs k ≡ some x)
+is_at [] k lt = absurd (omega arith)
+is_at (x ∷ xs) zero lt = (x, refl)
+is_at (x ∷ xs) (suc k) lt = is_at xs k (omega arith)
+
+pub fresh_back : {O : Type 0} (state : O → OutState) (p : Plan) (outs : List O) → AreFresh state p outs → AreBack state p outs
+fresh_back state p outs fresh = record {
+  count = fresh.count;
+  each = (λ k lt. let x = is_at outs k (let n = fresh.count in omega arith) in (x.0, x.1, (fresh.each k x.0 x.1).0));
 }

@@ -1,18 +1,22 @@
 -- Those that run, before and behind, and what they leave.
-use Rattle.std.specs.Prelude.{◌≡◌, ℕ, ◌+◌, ◌≤◌, ◌||◌, false, List, [], ◌++◌, map, All, length, Option, vec_capacity}
+use Rattle.std.specs.Prelude.{◌≡◌, ℕ, ◌+◌, ◌<◌, ◌≤◌, ◌||◌, false, List, [], ◌++◌, map, All, length, Option, vec_capacity}
 use Rattle.std.specs.List.{list_any}
+use mathlib.Core.Option.{some}
+use lib.ListN.{get_elem?}
 use Rattle.atomic_table.specs.Seated.{TableId}
 use Rattle.atomic_table.specs.declared.shared.Seat.{Seat}
 use Rattle.sock_io.specs.declared.link.Out.{Ghosts}
 use Rattle.sock_io.specs.Link.{OutState}
 use Rattle.sock_words.specs.declared.plain.Plan.{Plan}
+use Rattle.sock_model.specs.declared.view.View as sock_view
+use Rattle.sock_model.specs.Weights.{total as sock_total}
+use Rattle.call_client.specs.sock_table.specs.Closed.{AllDone}
 use Rattle.call_client.specs.sock_open.specs.Opening.{IsRoom}
 use Rattle.corr_core.specs.Law.{Each, total}
 use Rattle.corr_core.specs.declared.marks.Plan as id_plan
 use Rattle.corr_core.specs.declared.marks.View as id_view
 use Rattle.sock_message.specs.Asked.{Asked}
 use Rattle.sock_programs.specs.declared.task.Task.{Task}
-use Rattle.thread_run.specs.Crew.{IsLeft}
 use Rattle.rpc_reader.specs.Seats.{IsOpen}
 use Rattle.call_run.specs.declared.hiring.Room.{Room}
 use Rattle.call_run.specs.declared.worker.Worker.{Worker}
@@ -47,6 +51,11 @@ pub record HandedIn {O : Type 0} {g : Ghosts O} (ws : List (Worker O g)) (l m : 
   pub ended : m.ended.items ≡ l.ended.items ++ map (λ (w : Worker O g). w.caller.calls.told) ws
   pub short : m.short ≡ (l.short || list_any (λ (w : Worker O g). w.short) ws)
   pub room : (vec_capacity m.seats ≡ vec_capacity l.seats) × (vec_capacity m.ids ≡ vec_capacity l.ids) × (vec_capacity m.told ≡ vec_capacity l.told) × (vec_capacity m.ended ≡ vec_capacity l.ended)
+
+-- these are all seats of the table of sockets, and none has anything
+pub record IsLeft {S : Type 0} (z : TableId) (p : Plan) (seats : List (Seat S sock_view.View)) : Type 0 where
+  pub done : AllDone z p seats
+  pub all : sock_total (λ (s : Seat S sock_view.View). s.me.0.share) seats ≡ p.seats
 
 -- each seat is one of this table, stands for some, and has no lock and no slot: the table may be closed with them
 abbrev pub AreLeft : {C : Type 0} → TableId → List (Seat (Option C) (id_view.View C)) → Type 0
@@ -85,3 +94,8 @@ pub record CrewRan {O : Type 0} {g : Ghosts O} (state : O → OutState) (z : Tab
   pub ids : AreLeft y l.ids.items
   pub all_ids : total (λ (s : Seat (Option Asked) (id_view.View Asked)). s.me.0.share) l.ids.items ≡ q.seats
   pub ran : l.short ≡ false → AllRan g state p q setup clients opens (map (λ v. v.items) l.told.items) (map (λ v. v.items) l.ended.items) l.seats.items (map (λ (s : Seat (Option Asked) (id_view.View Asked)). s.me.0) l.ids.items)
+
+-- the writing half of each link comes back, in their order
+pub record AreBack {O : Type 0} (state : O → OutState) (p : Plan) (outs : List O) : Type 0 where
+  pub count : length outs ≡ p.links
+  pub each : (k : ℕ) → k < p.links → (o : O) × (get_elem? outs k ≡ some o) × ((state o).link ≡ k)

@@ -14,9 +14,8 @@ use Rattle.corr_core.specs.declared.marks.View as id_view
 use Rattle.id_rule.specs.Lawful.{newcomer as id_newcomer}
 use Rattle.corr_id.specs.Opening.{AreNew}
 use Rattle.sock_message.specs.Asked.{Asked}
-use Rattle.thread_run.specs.Threads.{LinksDown}
 use Rattle.call_client.specs.Acting.{MayGo}
-use Rattle.call_run.specs.Threads.{opens_of, DidNothing}
+use Rattle.call_run.specs.Threads.{opens_of, LinksDown, DidNothing}
 use Rattle.call_run.specs.declared.hiring.Room.{Room}
 use Rattle.call_run.specs.declared.worker.Worker.{Worker}
 

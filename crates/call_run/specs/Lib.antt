@@ -13,5 +13,4 @@ pub use Rattle.rpc_reader
 pub use Rattle.call_client.specs.sock_open
 pub use Rattle.call_client.specs.sock_rule
 pub use Rattle.call_client.specs.sock_table
-pub use Rattle.thread_run
 pub use Rattle.call_client.specs.write_chain

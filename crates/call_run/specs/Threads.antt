@@ -1,10 +1,13 @@
 -- A run of clients with calls on threads: what each waited for and did, how main ended the sockets, and the table of sockets that was closed behind them.
-use Rattle.std.specs.Prelude.{◌≡◌, ℕ, ◌+◌, ◌≤◌, if◌then◌else◌, false, List, [], ◌∷◌, ◌++◌, map, length}
+use Rattle.std.specs.Prelude.{◌≡◌, ℕ, ◌+◌, ◌≤◌, ◌==◌, ◌&&◌, ◌||◌, if◌then◌else◌, Bool, true, false, List, [], ◌∷◌, ◌++◌, map, length, Some}
 use Rattle.atomic_table.specs.declared.shared.Seat.{Seat}
 use Rattle.sock_io.specs.declared.link.Out.{Ghosts}
 use Rattle.sock_io.specs.Link.{OutState}
+use Rattle.sock_words.specs.declared.outcome.Outcome.{Outcome}
+use Rattle.sock_words.specs.declared.outcome.Outcome.TheVariants as outcome
 use Rattle.sock_words.specs.declared.plain.Plan.{Plan}
 use Rattle.sock_words.specs.declared.place_word.PlaceWord.{PlaceWord}
+use Rattle.sock_words.specs.declared.socket_id.SocketId.{SocketId}
 use Rattle.sock_words.specs.declared.vref.Vref.{Vref}
 use Rattle.sock_model.specs.declared.view.View.{View}
 use Rattle.sock_model.specs.Seats.{newcomer}
@@ -16,9 +19,10 @@ use Rattle.sock_programs.specs.declared.task.Op.{Op}
 use Rattle.sock_programs.specs.declared.task.Op.TheVariants as ops
 use Rattle.sock_programs.specs.declared.task.Task.{Task}
 use Rattle.call_client.specs.sock_rule.specs.declared.homes.SockHome.{SockHome}
+use Rattle.call_client.specs.sock_table.specs.declared.passes.LinkPass.{LinkPass}
 use Rattle.call_client.specs.sock_table.specs.Closed.{ClosedBy}
+use Rattle.call_client.specs.sock_table.specs.Named.{Found}
 use Rattle.rpc_reader.specs.rpc_client.specs.declared.acting.Told.{Told}
-use Rattle.thread_run.specs.Threads.{LinksDown, FoundEach, opened_in}
 use Rattle.call_client.specs.call_errors.specs.Books.{books_of}
 use Rattle.call_client.specs.declared.caller.Caller.{Caller}
 use Rattle.call_client.specs.Running.{MayMakeAll, RunBy}
@@ -35,6 +39,20 @@ opens_in _ = 0
 abbrev pub opens_of : List Task → ℕ
 opens_of [] = 0
 opens_of (t ∷ ts) = opens_in t.op + opens_of ts
+
+-- the pass that stands last is of this link, that before it of the next one, and so on
+abbrev pub LinksDown : {O : Type 0} {g : Ghosts O} → ℕ → List (LinkPass O g) → Type 0
+LinksDown first [] = Unit {0}
+LinksDown first (x ∷ xs) = (x.link ≡ first + length xs) × LinksDown first xs
+
+abbrev pub is_opened : Outcome → Bool
+is_opened (outcome.Opened slot version link) = true
+is_opened _ = false
+
+-- it is told of the operation of this number that it opened a socket
+abbrev pub opened_in : ℕ → List Told → Bool
+opened_in number [] = false
+opened_in number (t ∷ ts) = ((t.number == number) && is_opened t.outcome) || opened_in number ts
 
 -- an `open`, with its number and its name
 abbrev pub opening_in : ℕ → Op → List Opening
@@ -54,6 +72,11 @@ opened_names told [] = []
 opened_names told (o ∷ os) = name_if told o ++ opened_names told os
 
 -- ## A client
+
+-- a seat found a socket under each of these names, one after the other
+abbrev pub FoundEach : Plan → List ℕ → View → View → Type 0
+FoundEach p [] v w = w ≡ v
+FoundEach p (n ∷ ns) v w = (id : SocketId) × (u : View) × Found p n (Some id) v u × FoundEach p ns u w
 
 -- the sizes of the table of ids beside a table of sockets: each client has a seat at both
 abbrev pub ids_of : Plan → ℕ → id_plan.Plan

@@ -7,12 +7,12 @@ use Rattle.sock_words.specs.declared.plain.Plan.{Plan}
 use Rattle.call_client.specs.sock_table.specs.Closed.{IsDoneSeat}
 use Rattle.corr_core.specs.declared.marks.Plan as id_plan
 use Rattle.corr_id.specs.Seats.{Stays}
-use Rattle.thread_run.specs.Threads.{FoundEach}
 use Rattle.call_client.specs.call_attempts.specs.Both.{HasNoLock}
 use Rattle.call_client.specs.declared.caller.Caller.{Caller}
 use Rattle.call_client.specs.Acting.{MayGo}
 use Rattle.call_client.specs.Running.{MayMakeAll, RunBy}
 use Rattle.call_run.specs.declared.worker.Worker.{Worker}
+use Rattle.call_run.specs.Threads.{FoundEach}
 
 -- it made no operation yet, and may make all that it has once it found these names
 pub record IsReady {O : Type 0} {g : Ghosts O} (z : TableId) (p : Plan) (y : TableId) (q : id_plan.Plan) (names : List ℕ) (w : Worker O g) : Type 0 where

@@ -2,7 +2,7 @@
 ghost use Rattle.std.specs.Prelude.{◌≡◌, ◌<◌, ◌≤◌, All};
 ghost use Rattle.call_client.specs.sock_open.specs.Opening.{IsRoom};
 ghost use Rattle.call_client.specs.sock_table.specs.Closed.{IsDoneSeat};
-ghost use Rattle.thread_run.specs.Crew.{IsLeft};
+ghost use Rattle.call_run.specs.Crew.{IsLeft};
 ghost use Rattle.call_run.specs.Ending.{EndedOne, EndedEach, EndedBehind};
 
 use call_client::sock_rule::SockSeat;

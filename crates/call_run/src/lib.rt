@@ -6,6 +6,7 @@ mod hiring;
 mod leaving;
 mod opened;
 mod running;
+mod waiting;
 mod worker;
 
 pub use running::{NoRun, Ran, run_on};

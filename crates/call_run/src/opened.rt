@@ -1,8 +1,7 @@
 // What clients open, and the names that the setup opened.
 ghost use Rattle.std.specs.Prelude.{◌≡◌, ◌<◌, ◌≤◌, ◌==◌, ◌&&◌, ◌++◌, OnOk, IfOk, length, vec_capacity};
 ghost use Rattle.call_client.specs.sock_open.specs.Opening.{IsRoom};
-ghost use Rattle.thread_run.specs.Threads.{is_opened, opened_in};
-ghost use Rattle.call_run.specs.Threads.{opens_in, opens_of, opening_in, openings, name_if, opened_names};
+ghost use Rattle.call_run.specs.Threads.{opens_in, opens_of, is_opened, opened_in, opening_in, openings, name_if, opened_names};
 
 use rpc_reader::rpc_client::Told;
 use sock_programs::{Op, Task};

@@ -5,9 +5,8 @@ ghost use Rattle.corr_id.specs.Opening.{AreNew};
 ghost use Rattle.call_client.specs.sock_open.specs.Made.{AreMade};
 ghost use Rattle.call_client.specs.sock_open.specs.Opening.{MayBegin, AreFresh};
 ghost use Rattle.call_client.specs.sock_table.specs.Closed.{ClosedBy, IsRoomOf};
-ghost use Rattle.thread_run.specs.Crew.{IsLeft, AreBack};
 ghost use Rattle.call_run.specs.Threads.{ids_of, MayRunAll, RanOn};
-ghost use Rattle.call_run.specs.Crew.{AreLeft, IsCast, IsCrew, CrewRan};
+ghost use Rattle.call_run.specs.Crew.{IsLeft, AreLeft, IsCast, IsCrew, CrewRan, AreBack};
 
 use crate::failing::end_sockets;
 use crate::hiring::{Room, hire, hire_all, room_for, rooms_for};

@@ -2,6 +2,7 @@
 ghost use Rattle.std.specs.Prelude.{◌≡◌, ◌<◌, ℕ, All, length, slice_index_or};
 ghost use Rattle.call_run.specs.Working.{IsReady, HasWorked};
 
+use crate::waiting::wait_all;
 use call_client::Caller;
 use call_client::call_attempts::Tables;
 use sock_io::{Gate, Out};
@@ -10,7 +11,6 @@ use std::collections::VecDeque;
 use std::sync::Wait;
 use std::thread::Threads;
 use std::{mem, thread};
-use thread_run::wait_all;
 
 /// A client with its number and its operations, and whether memory was wanting.
 #[derive(Drop)]

@@ -2,8 +2,6 @@
 #![tactic(auto)]
 
 #[cfg(test)]
-mod acting;
-#[cfg(test)]
 mod callers;
 #[cfg(test)]
 mod writes;

@@ -1,8 +1,8 @@
 ghost use Rattle.std.specs.Prelude.{◌≡◌, ◌<◌, IfSome};
-ghost use Rattle.sock_open.specs.Made.{AreMade, AreNewSeats, PassesFrom};
+ghost use Rattle.sock_table.specs.Passes.{IsPass};
+ghost use Rattle.sock_open.specs.Made.{AreMade, IsNewSeat, AreNewSeats, PassesFrom};
 ghost use Rattle.rpc_client.specs.write_chain.specs.Sending.{HasRoom};
 ghost use Rattle.rpc_client.specs.Seats.{MayAct};
-ghost use Rattle.rpc_client.specs.Acting.{MayGo};
 ghost use Rattle.corr_id.specs.Seats.{Sits, IsFree};
 ghost use Rattle.corr_id.specs.Opening.{AreNew};
 
@@ -10,7 +10,7 @@ use call_client::call_errors::CallSeat;
 use call_client::call_writes::send_calling;
 use corr_id::{IdSeat, IdTable};
 use message_parts::{CallFrame, Parcel};
-use rpc_client::{Client, open_one};
+use rpc_client::open_one;
 use sock_io::{MemOut, Shape, Shaped};
 use sock_message::{BlockPool, Call};
 use sock_open::{Made, new_table};
@@ -57,36 +57,34 @@ fn begin(alloc: Global) -> Option<Made<Half>>
     Some(made)
 }
 
-/// A client with the seat, and the pass of the link.
-fn client_of(
-    alloc: Global,
-    table: &Table,
-    mut seats: Vec<SockSeat<Half>>,
-    passes: Vec<LinkPass<Half>>,
-) -> Option<Client<Half>>
-    requires seats { AreNewSeats table.now.rule.table.shared.table_id table.now.rule.plan seats.items }
-    requires passes { PassesFrom table.now.rule.table.shared.table_id table.now.rule.plan 0 passes.items }
-    ensures { IfSome result (λ c. MayGo table.now.rule.table.shared.table_id table.now.rule.plan 0 c) }
+/// The seat of the table of sockets.
+fn seat_of(table: &Table, mut seats: Vec<SockSeat<Half>>) -> Option<SockSeat<Half>>
+    requires { AreNewSeats table.now.rule.table.shared.table_id table.now.rule.plan seats.items }
+    ensures { IfSome result (λ s. IsNewSeat table.now.rule.table.shared.table_id table.now.rule.plan s) }
 {
     let seat = seats.pop()?;
-    let Ok(client) = Client::new(alloc, seat, passes) else {
-        return None;
-    };
-    Some(client)
+    Some(seat)
+}
+
+/// The pass of the link.
+fn pass_of(table: &Table, mut passes: Vec<LinkPass<Half>>) -> Option<LinkPass<Half>>
+    requires { PassesFrom table.now.rule.table.shared.table_id table.now.rule.plan 0 passes.items }
+    ensures { IfSome result (λ x. IsPass table.now.rule.table.shared.table_id table.now.rule.plan x) }
+{
+    let pass = passes.pop()?;
+    Some(pass)
 }
 
 /// The socket is made, and published under the name 0.
-fn open(table: &Table, client: &mut Client<Half>) -> bool
-    requires go { MayGo table.now.rule.table.shared.table_id table.now.rule.plan 0 client.old }
+fn open(table: &Table, seat: &mut SockSeat<Half>, pass: LinkPass<Half>) -> bool
+    requires seat { IsNewSeat table.now.rule.table.shared.table_id table.now.rule.plan seat.old }
+    requires pass { IsPass table.now.rule.table.shared.table_id table.now.rule.plan pass }
     requires name { 0 < table.now.rule.plan.names }
     requires operation { 0 < table.now.rule.plan.operations }
-    ensures may { MayAct table.now.rule.table.shared.table_id table.now.rule.plan client.new.seat }
-    ensures room { HasRoom client.new.seat.me.0 }
+    ensures may { MayAct table.now.rule.table.shared.table_id table.now.rule.plan seat.new }
+    ensures room { HasRoom seat.new.me.0 }
 {
-    let Some(pass) = client.passes.pop() else {
-        return false;
-    };
-    let outcome = open_one(table, &mut client.seat, 0, 0, pass);
+    let outcome = open_one(table, seat, 0, 0, pass);
     matches!(outcome, Outcome::Opened { .. })
 }
 
@@ -151,17 +149,17 @@ fn send<R: Wait>(
     rt: &R,
     table: &Table,
     ids: &Ids,
-    client: &mut Client<Half>,
+    seat: &mut SockSeat<Half>,
     calls: &mut CallSeat,
     msg: Letter,
 ) -> bool
-    requires may { MayAct table.now.rule.table.shared.table_id table.now.rule.plan client.old.seat }
-    requires room { HasRoom client.old.seat.me.0 }
+    requires may { MayAct table.now.rule.table.shared.table_id table.now.rule.plan seat.old }
+    requires room { HasRoom seat.old.me.0 }
     requires plan { table.now.rule.plan ≡ record { slots = 1; links = 1; requests = 1; names = 1; operations = 2; seats = 1; first = 0 } }
     requires label { msg.label.place ≡ 8 }
-    requires seat { Sits ids.now.table.shared.table_id calls.old.seat × IsFree calls.old.seat.me.0 }
+    requires ids { Sits ids.now.table.shared.table_id calls.old.seat × IsFree calls.old.seat.me.0 }
 {
-    let outcome = send_calling(rt, table, ids, &mut client.seat, calls, 0, msg);
+    let outcome = send_calling(rt, table, ids, seat, calls, 0, msg);
     outcome.is_none()
 }
 
@@ -193,20 +191,23 @@ fn a_call_is_told_of_its_drop(rt: HostRuntime) {
         seats,
         passes,
     } = made;
-    let Some(mut client) = client_of(alloc, &table, seats, passes) else {
-        panic!(&rt; "no client");
+    let Some(mut seat) = seat_of(&table, seats) else {
+        panic!(&rt; "no seat");
     };
-    assert!(&rt; open(&table, &mut client));
+    let Some(pass) = pass_of(&table, passes) else {
+        panic!(&rt; "no pass");
+    };
+    assert!(&rt; open(&table, &mut seat, pass));
     let Some((ids, id_seats)) = ids_of(alloc) else {
         panic!(&rt; "no ids");
     };
     let Some(mut calls) = calls_of(alloc, &ids, id_seats) else {
-        panic!(&rt; "no seat");
+        panic!(&rt; "no seat of ids");
     };
     let Some(frame) = begun(alloc, &ids, &mut calls) else {
         panic!(&rt; "no call");
     };
-    let accepted = send(&rt, &table, &ids, &mut client, &mut calls, frame);
+    let accepted = send(&rt, &table, &ids, &mut seat, &mut calls, frame);
     assert!(&rt; accepted && calls.retries.is_empty());
     assert!(&rt; is_told(&calls));
 }

@@ -18,9 +18,10 @@ use Rattle.corr_core.proofs.Notes.{each_at, total_some, only-else, pair-else, pa
 use Rattle.corr_core.proofs.Stories.{born_le}
 use Rattle.id_rule.specs.Lawful.{id_word, KeptFits, kept_in, is_stored, tokens_of, notes_of, tokens_in, notes_in, share_of, local, IsBare, Lawful}
 use Rattle.corr_id.specs.Calls.{is_saw}
+use Rattle.corr_id.specs.Ruled.{Known}
 use Rattle.corr_id.specs.Closing.{Closing}
 
-term : {V : Type 0} (g : V → ℕ) (vs : List V) (i : ℕ) (v : V) → get_elem? vs i ≡ some v → g v ≤ total g vs
+pub term : {V : Type 0} (g : V → ℕ) (vs : List V) (i : ℕ) (v : V) → get_elem? vs i ≡ some v → g v ≤ total g vs
 term g [] i v e = absurd (some-ne-none v (sym e))
 term g (x ∷ xs) zero v e = let a = ap g (some-injective x v e) in omega arith
 term g (x ∷ xs) (suc i) v e = let a : g v ≤ total g xs = term g xs i v e in omega arith
@@ -144,8 +145,8 @@ module _ {C : Type 0} (p : Plan) (s : State (Maybe C) (View C)) (law : Lawful p 
     not_yet f le = let x = count (is_ended f) in let a = o.story.ended_not f le in omega arith
 
   -- no token is left, so a slot that was tried has a range
-  pub closing : (ws : List ℕ) → ((i : ℕ) → i < p.slots → get_or ws i 0 ≡ get_or s.words (id_word i) 0) → v.tokens ≡ [] → Closing p v.notes v.kept ws
-  closing ws words idle = record {
+  pub closing : Known s.views → (ws : List ℕ) → ((i : ℕ) → i < p.slots → get_or ws i 0 ≡ get_or s.words (id_word i) 0) → v.tokens ≡ [] → Closing p v.notes v.kept ws
+  closing known ws words idle = record {
     made_once = λ i f il. made i il f;
     ended_once = λ i f il. once i il f;
     advanced_once = λ i f n il. let a = (o i il).story.attempt_once f n in let x = count i il (is_attempt f n) in omega arith;
@@ -159,6 +160,7 @@ module _ {C : Type 0} (p : Plan) (s : State (Maybe C) (View C)) (law : Lawful p 
     locked_is = λ i w il e z. (saw i il w e).was_locked z;
     oldest_is = λ i w il e z n. (saw i il w e).oldest_by z n;
     second_is = λ i w il e z n. (saw i il w e).second_by z n;
+    in_turn = λ i w il e. known.in_turn i w (let a = count i il (is_saw w) in omega (arith, a, e));
     attempts_are = λ i w il e z. (saw i il w e).advanced z;
     full = λ i il z.
         let none_left : flat_map (tokens_in i) s.views ≡ [] = only_one (tokens_in i) s.views id v here (λ j u e ne. ap (tokens_of i) (others j u e ne).no_tokens) ∙ ap (tokens_of i) idle in

@@ -7,7 +7,7 @@ use Rattle.corr_core.specs.Word.{Parts, parts, locked_word, error_of}
 use Rattle.corr_core.proofs.Notes.{only-same}
 use Rattle.corr_core.specs.declared.marks.Hand.TheVariants.{Empty, Full}
 use Rattle.corr_core.specs.declared.marks.Token.TheVariants.{Locked}
-use Rattle.corr_core.specs.declared.marks.Note.TheVariants.{Locker, Queued, Saw}
+use Rattle.corr_core.specs.declared.marks.Note.TheVariants.{Made, Locker, Queued, Saw}
 use Rattle.corr_core.specs.Law.{total, is_made}
 use Rattle.corr_core.specs.declared.marks.Token.{Token}
 use Rattle.corr_core.specs.declared.marks.Note.{Note}
@@ -28,7 +28,7 @@ module _ {C : Type 0} where
   pub quiet_none : (v : View C) → Quiet v v
   quiet_none v = record { tokens = λ j. refl; events_same = refl; grows = λ j g. omega arith; kept = refl; share = refl }
 
-  notes_grow : (v w : View C) (ns : List (Noted C)) → w.notes ≡ ns ++ v.notes → (j : ℕ) (g : Note C → ℕ) → total g (notes_of j v.notes) ≤ total g (notes_of j w.notes)
+  pub notes_grow : (v w : View C) (ns : List (Noted C)) → w.notes ≡ ns ++ v.notes → (j : ℕ) (g : Note C → ℕ) → total g (notes_of j v.notes) ≤ total g (notes_of j w.notes)
   notes_grow v w ns e j g = let a = ap (λ l. total g (notes_of j l)) e in let b = ap (total g) (notes_append j ns v.notes) in omega (arith, total_append g (notes_of j ns) (notes_of j v.notes))
 
   pub quiet_more : (i : ℕ) (u v w : View C) (ns : List (Noted C)) → Quiet u v → Became i v w (tokens_in i v) ns → events ns ≡ [] → Quiet u w
@@ -55,6 +55,11 @@ module _ {C : Type 0} where
 
   pub locked_next : (v : View C) (i : ℕ) (w q : Parts) (c : C) → q ≡ locked_word w → tokens_in i v ≡ Locked w.first w.range w.attempt c w.oldest w.second (Full c) ∷ [] → tokens_in i v ≡ Locked q.first q.range q.attempt c q.oldest q.second (Full c) ∷ []
   locked_next v i w q c e h = h ∙ ap (λ (y : Parts). Locked y.first y.range y.attempt c y.oldest y.second (Full c) ∷ []) (sym e)
+
+  -- an id that was made is noted
+  pub made_noted : (i f r : ℕ) (c : C) (v w : View C) → Became i v w [] (one i (Made f r c)) → 0 < total (is_made f) (notes_of i w.notes)
+  made_noted i f r c v w b = let e = ap (λ l. total (is_made f) (notes_of i l)) b.notes in
+      let g = ap (λ y. total (is_made f) (cond y (Made f r c ∷ notes_of i v.notes) (notes_of i v.notes))) (eq-eqb i i refl) in let k = only-same f in omega arith
 
   -- the word that was noted is found
   pub found_noted : (i word : ℕ) (v w : View C) → Became i v w (tokens_in i v) (one i (Saw word)) → Found i word w

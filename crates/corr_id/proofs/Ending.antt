@@ -3,7 +3,7 @@ use Rattle.std.proofs.Common.{◌≡◌, ◌≢◌, ℕ, zero, suc, ◌+◌, ◌
 use Rattle.std.specs.Prelude.{Option as Maybe}
 use mathlib.Core.Logic.{dite}
 use mathlib.Core.Option.{some, some-injective, some-ne-none}
-use native.Mathlib.Decide.{ℕ_discrete}
+use native.Mathlib.Decide.{ℕ_discrete, dec_lt}
 use lib.ListN.{get_elem?}
 use Rattle.atomic_table.specs.Table.{Final, Seen}
 use Rattle.corr_core.specs.declared.marks.Plan.{Plan}
@@ -56,8 +56,24 @@ one_more xs ys i x n w long lt e same h j jl = let long' = map_length xs in ap (
     (λ q. ap (λ y. get_or (set (map (λ (x : IdWord). x.0) xs) i w.0) y 0) q ∙ (get_or-set_same (map (λ (x : IdWord). x.0) xs) i w.0 0 (omega arith) ∙ (same ∙ (sym (index_of ys (id_word i) x e) ∙ ap (λ y. get_or ys (id_word y) 0) (sym q)))))
     (λ n'. get_or-set_other (map (λ (x : IdWord). x.0) xs) i j w.0 0 n' ∙ h j (omega arith))
 
+-- words of 64 bits, one more of which is stored
+pub low_more : (xs : List IdWord) (i n : ℕ) (w : IdWord) → length xs ≡ n → i < n → w.0 < 18446744073709551616 → ((j : ℕ) → j < i → get_or (map (λ (x : IdWord). x.0) xs) j 0 < 18446744073709551616)
+    → (j : ℕ) → j < i + 1 → get_or (map (λ (x : IdWord). x.0) (set xs i w)) j 0 < 18446744073709551616
+low_more xs i n w long lt low h j jl = let long' = map_length xs in let is = ap (λ l. get_or l j 0) (map_set xs i w) in dite (ℕ_discrete j i)
+    (λ q. let a = ap (λ y. get_or (set (map (λ (x : IdWord). x.0) xs) i w.0) y 0) q in let b = get_or-set_same (map (λ (x : IdWord). x.0) xs) i w.0 0 (omega arith) in omega (arith, is, a, b, low))
+    (λ n'. let b = get_or-set_other (map (λ (x : IdWord). x.0) xs) i j w.0 0 n' in let c = h j (omega arith) in omega (arith, is, b, c))
+
+past_all : (l : List ℕ) (j : ℕ) → length l ≤ j → get_or l j 0 ≡ 0
+past_all [] j le = refl
+past_all (x ∷ xs) zero le = absurd (omega arith)
+past_all (x ∷ xs) (suc j) le = past_all xs j (omega arith)
+
+-- and that are all that there are
+pub low_all : (xs : List IdWord) (n : ℕ) → length xs ≤ n → ((j : ℕ) → j < n → get_or (map (λ (x : IdWord). x.0) xs) j 0 < 18446744073709551616) → (j : ℕ) → get_or (map (λ (x : IdWord). x.0) xs) j 0 < 18446744073709551616
+low_all xs n long h j = dite (dec_lt j n) (h j) (λ nl. let a = past_all (map (λ (x : IdWord). x.0) xs) j (let b = map_length xs in omega (arith, nl, b, long)) in omega (arith, a))
+
 pub closes : {C : Type 0} (p : Plan) (id : ℕ) (v : View C) (ws : List ℕ) (xs : List (Maybe C)) (words : List IdWord) (notes : List (Noted C)) (kept : List Kept) → Final (Seen (Ruled p) id v) ws xs → v.share ≡ p.seats → v.tokens ≡ [] → v.notes ≡ notes → v.kept ≡ kept → AreIdWords p.slots words ws
     → Closing p notes kept (map (λ (w : IdWord). w.0) words)
 closes {C} p id v ws xs words notes kept f all idle n k w =
     subst (λ (y : List Kept). Closing p notes y (map (λ (w : IdWord). w.0) words)) k (subst (λ (y : List (Noted C)). Closing p y v.kept (map (λ (w : IdWord). w.0) words)) n
-    (closing p f.0 f.1.0.lawful id v f.1.1 all (map (λ (w : IdWord). w.0) words) (λ i il. w i il ∙ ap (λ l. get_or l (id_word i) 0) (sym f.2)) idle))
+    (closing p f.0 f.1.0.lawful id v f.1.1 all f.1.0.known (map (λ (w : IdWord). w.0) words) (λ i il. w i il ∙ ap (λ l. get_or l (id_word i) 0) (sym f.2)) idle))

@@ -1,4 +1,5 @@
 pub mod Fresh
+pub mod Knowing
 pub mod Ruling
 pub mod Steps
 pub mod Seats

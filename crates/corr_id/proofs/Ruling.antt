@@ -1,6 +1,6 @@
 -- Each kind of step keeps the rule of the table.
 use Rattle.std.proofs.Common.{◌≡◌, ◌≢◌, ℕ, zero, suc, ◌+◌, ◌*◌, ◌<◌, ◌≤◌, Bool, true, false, cond, eqb, le-leb, eq-eqb, ne_eqb, List, [], ◌∷◌, get_or, set, sym, refl, ap, ◌∙◌, subst, lt_of_not-le, arith}
-use Rattle.std.specs.Prelude.{Option as Maybe}
+use Rattle.std.specs.Prelude.{Option as Maybe, ◌==◌, nat_le, ◌%◌}
 use Rattle.std.specs.List.{flat_map}
 use Rattle.std.proofs.lemmas.Bool.{lt-leb}
 use mathlib.Core.Logic.{dite}
@@ -10,7 +10,7 @@ use lib.ListN.{get_elem?}
 use Rattle.atomic_table.specs.Table.{State, Me, keeps, takes, gives, stepped, homes_after}
 use Rattle.atomic_table.proofs.Lists.{set_here}
 use Rattle.corr_core.specs.Word.{Parts, parts, made_word, locked_word, free_word}
-use Rattle.corr_core.specs.Law.{LAST, Each, total}
+use Rattle.corr_core.specs.Law.{LAST, Each, total, is_made}
 use Rattle.corr_core.specs.declared.marks.Plan.{Plan}
 use Rattle.corr_core.specs.declared.marks.Hand.{Hand}
 use Rattle.corr_core.specs.declared.marks.Hand.TheVariants.{Empty, Out, Full}
@@ -21,12 +21,14 @@ use Rattle.corr_core.specs.declared.marks.View.{View}
 use Rattle.corr_core.proofs.Notes.{each_map, each_at, total_some, at_length}
 use Rattle.corr_core.proofs.Shuffles.{each_of}
 use Rattle.corr_core.proofs.Slots.{queued_word, open_word, popped_word, no_tokens}
-use Rattle.id_rule.specs.Lawful.{tag_word, id_word, all_words, tokens_of, tokens_in, local, kept_in, KeptFits, Lawful, with_token, no_token, with_note, with_kept}
+use Rattle.id_rule.specs.Lawful.{tag_word, id_word, all_words, tokens_of, notes_of, tokens_in, local, kept_in, KeptFits, Lawful, with_token, no_token, with_note, with_kept}
 use Rattle.id_rule.specs.Plays.{IsHome, NotLeaving, Fitting, hand_of, with_hand, value_of, hand_by, claimed_view, locked_view, popped_view, ended_view, found_view, LockFits}
 use Rattle.id_rule.proofs.Frames.{token_here, drop_here, aside_token, aside_drop, own_tokens, first_tokens, same_tokens}
 use Rattle.id_rule.proofs.Allowed.{own, claims_law, reads_law, sees_law, makes_law, locks_law, queues_law, relocks_law, unlocks_law, advances_law, ends_law, frees_law, takes_law, gives_law, o}
 use Rattle.id_rule.proofs.Kept.{stores_law, finds_law}
-use Rattle.corr_id.specs.Ruled.{IsFresh, FreshBehind, Ruled, is_place}
+use Rattle.corr_id.specs.Calls.{slot_of, version_of}
+use Rattle.corr_id.specs.Ruled.{IsFresh, FreshBehind, Known, Ruled, is_place}
+use Rattle.corr_id.proofs.Knowing.{turn_of, Adds, adds_then, adds_none, adds_note, adds_saw, adds_either, adds_stored, adds_found, adds_later}
 use Rattle.corr_id.proofs.Fresh.{AllFresh, noted_all, none_queued, other_hand, one_queued, fresh_tag, fresh_id, own_fresh, fresh_high}
 
 set_self : (l : List ℕ) (k : ℕ) → set l k (get_or l k 0) ≡ l
@@ -51,24 +53,31 @@ module _ {C : Type 0} (p : Plan) (id : ℕ) (me : Me (Maybe C) (View C)) (i : �
         (fresh_tag p s r.lawful r.fresh id me.0 here i inside w (aside_token i t me.0).tokens 1 s.homes (t ∷ []) (first_tokens p s r.lawful id me.0 here real i inside w (no_tokens (local s i) (o p id me i inside real s r.lawful here) z) ∙ token_here i t me.0) (tt, tt)))
         (λ n. let w : View C = with_note i Tried me.0 in subst (λ b. F (tag_word i) 1 (cond b (with_token i (Claimed 0 Empty) me.0) w)) (sym (ne_eqb found 0 n))
         (fresh_tag p s r.lawful r.fresh id me.0 here i inside w (λ j ne. refl) 1 s.homes (local s i).tokens (same_tokens p s r.lawful id me.0 here real i inside w refl) (r.fresh i inside)));
+    known = adds_later s.views id me.0 (claimed_view i found me.0) here (adds_either (found == 0) me.0 (with_token i (Claimed 0 Empty) me.0) (with_note i Tried me.0) (adds_none me.0 (with_token i (Claimed 0 Empty) me.0) refl refl) (adds_note i Tried me.0 (λ x. refl))) r.known;
   }
 
   pub reads_ruled : (seen : ℕ) (h : Hand C) → tokens_in i me.0 ≡ Claimed seen h ∷ [] → Ruled p (stepped s (id_word i) (get_or s.words (id_word i) 0) id me.1 (with_token i (Claimed (local s i).word.first h) me.0) keeps)
   reads_ruled seen h has = let t : Token C = Claimed (local s i).word.first h in let w : View C = with_token i t me.0 in record {
     lawful = reads_law p id me i inside real s r.lawful here seen h has;
     fresh = fresh_id p s r.lawful r.fresh id me.0 here i inside w (aside_token i t me.0).tokens (get_or s.words (id_word i) 0) s.homes (t ∷ []) (own_tokens p s r.lawful id me.0 here real i inside w (Claimed seen h) has ∙ token_here i t me.0) (tt, tt);
+    known = adds_later s.views id me.0 w here (adds_none me.0 w refl refl) r.known;
   }
+
+  sees_adds : Adds me.0 (with_note i (Saw (get_or s.words (id_word i) 0)) me.0)
+  sees_adds = adds_saw i (get_or s.words (id_word i) 0) me.0 (turn_of (local s i) (r.lawful.slots i inside))
 
   pub sees_ruled : Ruled p (stepped s (id_word i) (get_or s.words (id_word i) 0) id me.1 (with_note i (Saw (get_or s.words (id_word i) 0)) me.0) keeps)
   sees_ruled = let n : ℕ = get_or s.words (id_word i) 0 in let w : View C = with_note i (Saw n) me.0 in record {
     lawful = sees_law p id me i inside real s r.lawful here;
     fresh = fresh_id p s r.lawful r.fresh id me.0 here i inside w (λ j ne. refl) n s.homes (local s i).tokens (same_tokens p s r.lawful id me.0 here real i inside w refl) (r.fresh i inside);
+    known = adds_later s.views id me.0 w here sees_adds r.known;
   }
 
   pub makes_ruled : (f n : ℕ) (c : C) → tokens_in i me.0 ≡ Claimed f (Full c) ∷ [] → f ≢ 0 → parts n ≡ made_word f (parts n).range → 2 ≤ (parts n).range → (parts n).range ≤ 8 → Ruled p (stepped s (id_word i) n id me.1 (with_note i (Made f (parts n).range c) (no_token i me.0)) keeps)
   makes_ruled f n c has some_first is low high = let w : View C = with_note i (Made f (parts n).range c) (no_token i me.0) in record {
     lawful = makes_law p id me i inside real s r.lawful here f n c has some_first is low high;
     fresh = fresh_id p s r.lawful r.fresh id me.0 here i inside w (aside_drop i me.0).tokens n s.homes [] (own_tokens p s r.lawful id me.0 here real i inside w (Claimed f (Full c)) has ∙ drop_here i me.0) tt;
+    known = adds_later s.views id me.0 w here (adds_then me.0 (no_token i me.0) w (adds_none me.0 (no_token i me.0) refl refl) (adds_note i (Made f (parts n).range c) (no_token i me.0) (λ x. refl))) r.known;
   }
 
   pub locks_ruled : (n : ℕ) → (local s i).word.state ≡ 1 → parts n ≡ locked_word (local s i).word → (c : C) × LockFits (local s i).word × (((local s i).word.oldest ≡ 0) × ((local s i).word.second ≡ 0)) × Ruled p (stepped s (id_word i) n id me.1 (locked_view i (local s i).word.first (local s i).word.range (local s i).word.attempt c me.0) keeps)
@@ -80,6 +89,7 @@ module _ {C : Type 0} (p : Plan) (id : ℕ) (me : Me (Maybe C) (View C)) (i : �
       lawful = k.3;
       fresh = fresh_id p s r.lawful r.fresh id me.0 here i inside w (aside_token i t me.0).tokens n s.homes (t ∷ []) (first_tokens p s r.lawful id me.0 here real i inside w (Rattle.corr_core.proofs.Slots.locks (local s i) (o p id me i inside real s r.lawful here) one).1 ∙ token_here i t me.0)
           (none_queued (parts n) t (ap (λ (y : Parts). y.oldest) is ∙ k.2.0) (ap (λ (y : Parts). y.second) is ∙ k.2.1), tt);
+      known = adds_later s.views id me.0 w here (adds_then me.0 (with_token i t me.0) w (adds_none me.0 (with_token i t me.0) refl refl) (adds_note i (Locker w₀.first k.0) (with_token i t me.0) (λ x. refl))) r.known;
     },
   )
 
@@ -88,6 +98,7 @@ module _ {C : Type 0} (p : Plan) (id : ℕ) (me : Me (Maybe C) (View C)) (i : �
     lawful = queues_law p id me i inside real s r.lawful here n e two room some_error is;
     fresh = fresh_id p s r.lawful r.fresh id me.0 here i inside w (λ j ne. refl) n s.homes (local s i).tokens (same_tokens p s r.lawful id me.0 here real i inside w refl)
         (subst (λ (y : Parts). Each (FreshBehind y) (local s i).tokens) (sym is) (each_map (FreshBehind (local s i).word) (FreshBehind (queued_word (local s i).word e)) (local s i).tokens (one_queued (local s i).word e room new) (r.fresh i inside)));
+    known = adds_later s.views id me.0 w here (adds_note i (Queued (local s i).word.first e) me.0 (λ x. refl)) r.known;
   }
 
   -- the view that has noted the word
@@ -114,6 +125,7 @@ module _ {C : Type 0} (p : Plan) (id : ℕ) (me : Me (Maybe C) (View C)) (i : �
     relocks_ruled = let t : Token C = Locked f rg att c w₀.oldest w₀.second (Full c) in let w : View C = with_token i t me.0 in record {
       lawful = relocks_law p id me i inside real s r.lawful here f rg att q r' c has;
       fresh = fresh_id p s r.lawful r.fresh id me.0 here i inside w (aside_token i t me.0).tokens (get_or s.words (id_word i) 0) s.homes (t ∷ []) (own_tokens p s r.lawful id me.0 here real i inside w (Locked f rg att c q r' (Full c)) has ∙ token_here i t me.0) (noted_all w₀ f rg att c (Full c), tt);
+      known = adds_later s.views id me.0 w here (adds_none me.0 w refl refl) r.known;
     }
 
     unlocked_fresh : (n a more : ℕ) (w : View C) → w.tokens ≡ (popped_view i f rg a c w₀.oldest w₀.second seen).tokens → Opens n more → F (id_word i) n w
@@ -129,16 +141,22 @@ module _ {C : Type 0} (p : Plan) (id : ℕ) (me : Me (Maybe C) (View C)) (i : �
     twice : (n : ℕ) (w : View C) → Lawful p (stepped seen_state (id_word i) n id me.1 w keeps) → Lawful p (stepped s (id_word i) n id me.1 w keeps)
     twice n w = subst (λ (vs : List (View C)). Lawful p record { words = set s.words (id_word i) n; homes = s.homes; views = vs }) (set_twice s.views id seen w)
 
+    popped_adds : (a : ℕ) → Adds me.0 (popped_view i f rg a c w₀.oldest w₀.second seen)
+    popped_adds a = let t : Token C = Locked f rg a c w₀.second 0 (Full c) in
+        adds_then me.0 seen (popped_view i f rg a c w₀.oldest w₀.second seen) sees_adds (adds_either (w₀.oldest == 0) seen (no_token i seen) (with_token i t seen) (adds_none seen (no_token i seen) refl refl) (adds_none seen (with_token i t seen) refl refl))
+
     pub unlocks_ruled : (n : ℕ) → Opens n 0 → Ruled p (stepped s (id_word i) n id me.1 (popped_view i f rg (w₀.attempt + 0) c w₀.oldest w₀.second seen) keeps)
     unlocks_ruled n is = let w : View C = popped_view i f rg (w₀.attempt + 0) c w₀.oldest w₀.second seen in record {
       lawful = twice n w (unlocks_law p id (seen, me.1) i inside real seen_state seen_law seen_here f rg att q r' c has n is);
       fresh = unlocked_fresh n (w₀.attempt + 0) 0 w refl is;
+      known = adds_later s.views id me.0 w here (popped_adds (w₀.attempt + 0)) r.known;
     }
 
     pub advances_ruled : (n : ℕ) → w₀.attempt + 3 ≤ w₀.range → Opens n 1 → Ruled p (stepped s (id_word i) n id me.1 (with_note i (Attempt f (w₀.attempt + 1)) (popped_view i f rg (w₀.attempt + 1) c w₀.oldest w₀.second seen)) keeps)
     advances_ruled n room is = let w : View C = with_note i (Attempt f (w₀.attempt + 1)) (popped_view i f rg (w₀.attempt + 1) c w₀.oldest w₀.second seen) in record {
       lawful = twice n w (advances_law p id (seen, me.1) i inside real seen_state seen_law seen_here f rg att q r' c has n room is);
       fresh = unlocked_fresh n (w₀.attempt + 1) 1 w refl is;
+      known = adds_later s.views id me.0 w here (adds_then me.0 (popped_view i f rg (w₀.attempt + 1) c w₀.oldest w₀.second seen) w (popped_adds (w₀.attempt + 1)) (adds_note i (Attempt f (w₀.attempt + 1)) (popped_view i f rg (w₀.attempt + 1) c w₀.oldest w₀.second seen) (λ x. refl))) r.known;
     }
 
     -- what was found behind the noted errors
@@ -153,12 +171,14 @@ module _ {C : Type 0} (p : Plan) (id : ℕ) (me : Me (Maybe C) (View C)) (i : �
         (fresh_id p s r.lawful r.fresh id me.0 here i inside w (aside_token i Leaving me.0).tokens n s.homes (Leaving ∷ []) (own_tokens p s r.lawful id me.0 here real i inside w t has ∙ token_here i Leaving me.0) (tt, tt)))
         (λ nle. let w : View C = with_note i (Ended f) (no_token i me.0) in subst (λ b. F (id_word i) n (with_note i (Ended f) (cond b (with_token i Leaving me.0) (no_token i me.0)))) (sym (lt-leb next LAST (lt_of_not-le nle)))
         (fresh_id p s r.lawful r.fresh id me.0 here i inside w (aside_drop i me.0).tokens n s.homes [] (own_tokens p s r.lawful id me.0 here real i inside w t has ∙ drop_here i me.0) tt));
+    known = let u : View C = cond (nat_le next LAST) (with_token i Leaving me.0) (no_token i me.0) in adds_later s.views id me.0 (ended_view i f next me.0) here (adds_then me.0 u (ended_view i f next me.0) (adds_either (nat_le next LAST) me.0 (with_token i Leaving me.0) (no_token i me.0) (adds_none me.0 (with_token i Leaving me.0) refl refl) (adds_none me.0 (no_token i me.0) refl refl)) (adds_note i (Ended f) u (λ x. refl))) r.known;
   }
 
   pub frees_ruled : tokens_in i me.0 ≡ Leaving ∷ [] → Ruled p (stepped s (tag_word i) 0 id me.1 (no_token i me.0) keeps)
   frees_ruled has = let w : View C = no_token i me.0 in record {
     lawful = frees_law p id me i inside real s r.lawful here has;
     fresh = fresh_tag p s r.lawful r.fresh id me.0 here i inside w (aside_drop i me.0).tokens 0 s.homes [] (own_tokens p s r.lawful id me.0 here real i inside w Leaving has ∙ drop_here i me.0) tt;
+    known = adds_later s.views id me.0 w here (adds_none me.0 w refl refl) r.known;
   }
 
   hand_fresh : (t : Token C) (h : Hand C) → tokens_in i me.0 ≡ t ∷ [] → (hs' : List (Option (Maybe C))) → AllFresh p record { words = set s.words (tag_word i) (get_or s.words (tag_word i) 0); homes = hs'; views = set s.views id (with_token i (with_hand t h) me.0) }
@@ -166,23 +186,27 @@ module _ {C : Type 0} (p : Plan) (id : ℕ) (me : Me (Maybe C) (View C)) (i : �
       fresh_tag p s r.lawful r.fresh id me.0 here i inside w (aside_token i u me.0).tokens (get_or s.words (tag_word i) 0) hs' (u ∷ []) (own_tokens p s r.lawful id me.0 here real i inside w t has ∙ token_here i u me.0)
       (other_hand (local s i).word t h (own_fresh p s r.lawful r.fresh id me.0 here i inside t (own p id me i inside real s r.lawful here t has)), tt)
 
+  hand_known : (u : Token C) → Known (set s.views id (with_token i u me.0))
+  hand_known u = adds_later s.views id me.0 (with_token i u me.0) here (adds_none me.0 (with_token i u me.0) refl refl) r.known
+
   pub takes_ruled : (t : Token C) → tokens_in i me.0 ≡ t ∷ [] → IsHome (hand_of t)
       → (get_elem? s.homes i ≡ some (some (value_of (hand_of t)))) × Ruled p (stepped s (tag_word i) (get_or s.words (tag_word i) 0) id me.1 (with_token i (with_hand t Out) me.0) (takes i (value_of (hand_of t))))
-  takes_ruled t has ready = let k = takes_law p id me i inside real s r.lawful here t has ready in (k.0, record { lawful = k.1; fresh = hand_fresh t Out has (homes_after s.homes me.1 (takes i (value_of (hand_of t)))) })
+  takes_ruled t has ready = let k = takes_law p id me i inside real s r.lawful here t has ready in (k.0, record { lawful = k.1; fresh = hand_fresh t Out has (homes_after s.homes me.1 (takes i (value_of (hand_of t)))); known = hand_known (with_hand t Out) })
 
   pub gives_ruled : (t : Token C) (y : Maybe C) (rest : List (ℕ × Maybe C)) → tokens_in i me.0 ≡ t ∷ [] → hand_of t ≡ Out → NotLeaving t → Fitting t (hand_by y) → me.1 ≡ (i, y) ∷ rest
       → Ruled p (stepped s (tag_word i) (get_or s.words (tag_word i) 0) id me.1 (with_token i (with_hand t (hand_by y)) me.0) gives)
-  gives_ruled t y rest has out n fit carried = record { lawful = gives_law p id me i inside real s r.lawful here t y rest has out n fit carried; fresh = hand_fresh t (hand_by y) has (homes_after s.homes me.1 gives) }
+  gives_ruled t y rest has out n fit carried = record { lawful = gives_law p id me i inside real s r.lawful here t y rest has out n fit carried; fresh = hand_fresh t (hand_by y) has (homes_after s.homes me.1 gives); known = hand_known (with_hand t (hand_by y)) }
 
 -- the word of an operation
 module _ {C : Type 0} (p : Plan) (id : ℕ) (me : Me (Maybe C) (View C)) (x : ℕ) (high : 2 * p.slots ≤ x) (inside : x < all_words p) (real : 0 < me.0.share) (s : State (Maybe C) (View C)) (r : Ruled p s) (here : get_elem? s.views id ≡ some me.0) where
-  pub stores_ruled : (n : ℕ) → n ≢ 0 → Ruled p (stepped s x n id me.1 (with_kept x true n me.0) keeps)
-  stores_ruled n some_word = record { lawful = stores_law p id me x high inside real s r.lawful here n some_word; fresh = fresh_high p s r.fresh id me.0 (with_kept x true n me.0) here refl x n high }
+  pub stores_ruled : (n : ℕ) → n ≢ 0 → (x % 2 ≡ 0 → 0 < total (is_made (version_of n)) (notes_of (slot_of n) me.0.notes)) → Ruled p (stepped s x n id me.1 (with_kept x true n me.0) keeps)
+  stores_ruled n some_word made = record { lawful = stores_law p id me x high inside real s r.lawful here n some_word; fresh = fresh_high p s r.fresh id me.0 (with_kept x true n me.0) here refl x n high; known = adds_later s.views id me.0 (with_kept x true n me.0) here (adds_stored x n me.0 made) r.known }
 
   pub finds_ruled : Ruled p (stepped s x (get_or s.words x 0) id me.1 (found_view x (get_or s.words x 0) me.0) keeps)
   finds_ruled = let n : ℕ = get_or s.words x 0 in record {
     lawful = finds_law p id me x high inside real s r.lawful here;
     fresh = fresh_high p s r.fresh id me.0 (found_view x n me.0) here (same (eqb n 0)) x n high;
+    known = adds_later s.views id me.0 (found_view x n me.0) here (adds_found x n me.0) r.known;
   }
     where
       same : (b : Bool) → (cond b me.0 (with_kept x false (get_or s.words x 0) me.0)).tokens ≡ me.0.tokens

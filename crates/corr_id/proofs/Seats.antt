@@ -7,15 +7,17 @@ use lib.ListN.{get_elem?}
 use Rattle.atomic_table.specs.Table.{Joins, Splits, opening}
 use Rattle.atomic_table.proofs.Lists.{at_set, at_snoc}
 use Rattle.corr_core.specs.Word.{parts, free_word}
-use Rattle.corr_core.specs.Law.{total, Each, Local, SlotLaw, vacant}
+use Rattle.corr_core.specs.Law.{total, is_made, Each, Local, SlotLaw, vacant}
 use Rattle.corr_core.specs.declared.marks.Plan.{Plan}
+use Rattle.corr_core.specs.declared.marks.Note.{Note}
 use Rattle.corr_core.specs.declared.marks.Noted.{Noted}
 use Rattle.corr_core.specs.declared.marks.Kept.{Kept}
 use Rattle.corr_core.specs.declared.marks.View.{View}
 use Rattle.corr_core.proofs.Notes.{each_map, total_set}
 use Rattle.corr_core.proofs.Gather.{gather_same}
 use Rattle.corr_core.proofs.Shuffles.{shuffled, total_flat, each_of, each_in, each_both, flat_snoc}
-use Rattle.corr_id.specs.Ruled.{FreshBehind, Ruled}
+use Rattle.corr_id.specs.Calls.{slot_of, version_of, is_saw}
+use Rattle.corr_id.specs.Ruled.{FreshBehind, Known, Ruled}
 use Rattle.id_rule.specs.Lawful.{tag_word, id_word, KeptFits, kept_in, is_stored, tokens_of, notes_of, tokens_in, notes_in, share_of, local, IsBare, Lawful, Unused, first_view, spent, newcomer, lighter, joined}
 
 pub total_append : {A : Type 0} (g : A → ℕ) (l m : List A) → total g (l ++ m) ≡ total g l + total g m
@@ -70,10 +72,22 @@ module _ {C : Type 0} where
             (at_set (set s.views id u) other j spent y g);
       }
 
+  -- the same is known together
+  joining_known : (vs : List (View C)) (id other : ℕ) (v w : View C) → get_elem? vs id ≡ some v → get_elem? (set vs id (joined v w)) other ≡ some w → Known vs → Known (set (set vs id (joined v w)) other spent)
+  joining_known vs id other v w at at' k =
+      let noted : (i : ℕ) (g : Note C → ℕ) → total g (flat_map (notes_in i) (set (set vs id (joined v w)) other spent)) ≡ total g (flat_map (notes_in i) vs) = λ i g. total_at (notes_in i) g vs id other v w (joined v w) spent at at' (notes_append i v.notes w.notes) refl in record {
+        named = λ x n even h. (
+            let a = total_at kept_in (is_stored x n) vs id other v w (joined v w) spent at at' refl refl in let b = noted (slot_of n) (is_made (version_of n)) in
+            let c = k.named x n even (omega (arith, a, h)) in omega (arith, b, c)
+            );
+        in_turn = λ i word h. k.in_turn i word (let a = noted i (is_saw word) in omega (arith, a, h));
+      }
+
   pub joining : (p : Plan) (id other : ℕ) (v w : View C) → w.tokens ≡ [] → Joins (Ruled p) id v other w (joined v w) spent
   joining p id other v w idle s r at ne at' = record {
     lawful = joining_law p id other v w idle s r.lawful at ne at';
     fresh = λ j jl. subst (Each (FreshBehind (local s j).word)) (sym (gather_same (tokens_in j) (set s.views id (joined v w)) other w spent at' (sym (ap (tokens_of j) idle)) ∙ gather_same (tokens_in j) s.views id v (joined v w) at refl)) (r.fresh j jl);
+    known = joining_known s.views id other v w at at' r.known;
   }
 
   splitting_law : (p : Plan) (id : ℕ) (v : View C) → 2 ≤ v.share → Splits (Lawful p) id v (lighter v) newcomer
@@ -96,10 +110,19 @@ module _ {C : Type 0} where
             (λ t. let e = ap share_of t in absurd (omega arith)) (at_snoc (set s.views id u) newcomer y j g);
       }
 
+  splitting_known : (vs : List (View C)) (id : ℕ) (v : View C) → get_elem? vs id ≡ some v → Known vs → Known (set vs id (lighter v) ++ newcomer ∷ [])
+  splitting_known vs id v at k =
+      let noted : (i : ℕ) → flat_map (notes_in i) (set vs id (lighter v) ++ newcomer ∷ []) ≡ flat_map (notes_in i) vs = λ i. flat_snoc (notes_in i) (set vs id (lighter v)) newcomer refl ∙ gather_same (notes_in i) vs id v (lighter v) at refl in
+      let kept : flat_map kept_in (set vs id (lighter v) ++ newcomer ∷ []) ≡ flat_map kept_in vs = flat_snoc kept_in (set vs id (lighter v)) newcomer refl ∙ gather_same kept_in vs id v (lighter v) at refl in record {
+        named = λ x n even h. subst (λ (l : List (Note C)). 0 < total (is_made (version_of n)) l) (sym (noted (slot_of n))) (k.named x n even (subst (λ (l : List Kept). 0 < total (is_stored x n) l) kept h));
+        in_turn = λ i word h. k.in_turn i word (subst (λ (l : List (Note C)). 0 < total (is_saw word) l) (noted i) h);
+      }
+
   pub splitting : (p : Plan) (id : ℕ) (v : View C) → 2 ≤ v.share → Splits (Ruled p) id v (lighter v) newcomer
   splitting p id v two s r at = record {
     lawful = splitting_law p id v two s r.lawful at;
     fresh = λ j jl. subst (Each (FreshBehind (local s j).word)) (sym (flat_snoc (tokens_in j) (set s.views id (lighter v)) newcomer refl ∙ gather_same (tokens_in j) s.views id v (lighter v) at refl)) (r.fresh j jl);
+    known = splitting_known s.views id v at r.known;
   }
 
   all_none : (n i : ℕ) → i < n → get_elem? (map some (replicate {A = Maybe C} n None)) i ≡ some (some None)
@@ -132,4 +155,4 @@ module _ {C : Type 0} where
     first_bare (suc id) v e z = absurd (some-ne-none v (sym e))
 
   pub opening_law : (p : Plan) (ws : List ℕ) → Unused p ws → 1 ≤ p.seats → Ruled p (opening ws (replicate {A = Maybe C} p.slots None) (first_view p))
-  opening_law p ws u some_seat = record { lawful = opening_lawful p ws u some_seat; fresh = λ i il. tt }
+  opening_law p ws u some_seat = record { lawful = opening_lawful p ws u some_seat; fresh = λ i il. tt; known = record { named = λ x n even h. absurd (omega (arith, h)); in_turn = λ i w h. absurd (omega (arith, h)) } }

@@ -1,6 +1,6 @@
 -- Each step with what it tells.
 use Rattle.std.proofs.Common.{◌≡◌, ◌≢◌, ℕ, zero, suc, ◌+◌, ◌*◌, ◌<◌, ◌≤◌, ◌⊎◌, inl, inr, ⊎_elim, true, cond, eqb, eq-eqb, ne_eqb, List, [], ◌∷◌, get_or, sym, refl, ap, ◌∙◌, subst, arith}
-use Rattle.std.specs.Prelude.{Option as Maybe}
+use Rattle.std.specs.Prelude.{Option as Maybe, ◌%◌, ◌/◌}
 use Rattle.std.specs.List.{flat_map}
 use mathlib.Core.Logic.{dite}
 use mathlib.Core.Option.{none, some, some-injective, some-ne-none}
@@ -9,7 +9,7 @@ use lib.ListN.{get_elem?}
 use prog.Atomic.{either}
 use Rattle.atomic_table.specs.Table.{State, Me, step, Act, keeps, takes, gives, stepped, homes_after, carried_after, Allows}
 use Rattle.corr_core.specs.Word.{Parts, parts, made_word, locked_word, posted_word, unlocked_word, free_word}
-use Rattle.corr_core.specs.Law.{total, born, is_made, NoteFits, SlotLaw, vacant, retired, claimed, opened, locked, leaving}
+use Rattle.corr_core.specs.Law.{Each, total, born, is_made, NoteFits, SlotLaw, vacant, retired, claimed, opened, locked, leaving}
 use Rattle.corr_core.specs.declared.marks.Plan.{Plan}
 use Rattle.corr_core.specs.declared.marks.Hand.{Hand}
 use Rattle.corr_core.specs.declared.marks.Hand.TheVariants.{Empty, Out, Full}
@@ -21,10 +21,12 @@ use Rattle.corr_core.specs.declared.marks.View.{View}
 use Rattle.corr_core.proofs.Stories.{born_is, born_le}
 use Rattle.corr_core.proofs.Slots.{queued_word, open_word, popped_word, same_token, claim_home, no_tokens, is_lock}
 use Rattle.corr_core.proofs.Gather.{gather_none}
-use Rattle.corr_core.proofs.Notes.{each_at, total_some}
-use Rattle.corr_id.specs.Calls.{is_saw}
+use Rattle.corr_core.proofs.Notes.{each_at, total_some, pair-else, pair-else_first}
+use Rattle.corr_core.proofs.Shuffles.{each_of}
+use Rattle.corr_core.specs.declared.marks.Kept.{Kept}
+use Rattle.corr_id.specs.Calls.{slot_of, version_of, is_saw, is_at}
 use Rattle.corr_id.proofs.Closes.{saw_of}
-use Rattle.id_rule.specs.Lawful.{tag_word, id_word, all_words, tokens_in, notes_in, local, with_token, no_token, with_note, with_kept}
+use Rattle.id_rule.specs.Lawful.{tag_word, id_word, all_words, is_stored, kept_in, KeptFits, notes_of, tokens_in, notes_in, local, with_token, no_token, with_note, with_kept}
 use Rattle.id_rule.specs.Plays.{IsHome, NotLeaving, Fitting, hand_of, with_hand, value_of, hand_by, claimed_view, locked_view, claim_told, take_told, give_told, make_told, lock_told, queue_told, end_told, free_told, store_told, found_view, put_error, popped_view, advanced_view, ended_view}
 use Rattle.id_rule.proofs.Allowed.{own, known, o}
 use Rattle.corr_id.specs.Ruled.{IsFresh, FreshBehind, IsBehind, Ruled, read_told, see_told, unlock_told, load_told}
@@ -45,6 +47,13 @@ put_is w e = dite (ℕ_discrete w.oldest 0)
 abbrev top : {S : Type 0} → S → List (ℕ × S) → S
 top y [] = y
 top y (x ∷ xs) = x.1
+
+-- what is kept at this place with this word
+at_place : (x n : ℕ) (k : Kept) → 0 < is_at x n k → k.place ≡ x
+at_place x n k h = dite (ℕ_discrete k.place x) (λ e. e) (λ ne. absurd (let a = pair-else_first x n k.place k.word ne in omega (arith, a, h)))
+
+at_word_is : (x n : ℕ) (k : Kept) → 0 < is_at x n k → k.word ≡ n
+at_word_is x n k h = dite (ℕ_discrete k.word n) (λ e. e) (λ ne. absurd (let a = pair-else x n k.place k.word ne in omega (arith, a, h)))
 
 module _ {C : Type 0} (p : Plan) (slots id : ℕ) (me : Me (Maybe C) (View C)) (i : ℕ) (inside : i < p.slots) (real : 0 < me.0.share) where
   abbrev M : Type 0
@@ -93,6 +102,40 @@ module _ {C : Type 0} (p : Plan) (slots id : ℕ) (me : Me (Maybe C) (View C)) (
       (λ now. absurd (let z = now.1 in omega (arith, z, free)))
       y.1
 
+  -- it had found the id of the slot's next range at no operation: it would have been made
+  none_noted : (s : State (Maybe C) (View C)) → Ruled p s → get_elem? s.views id ≡ some me.0 → (seen : ℕ) (h : Hand C) → tokens_in i me.0 ≡ Claimed seen h ∷ [] → (x : ℕ) → x % 2 ≡ 0 → total (is_at x (i * 4294967296 + (local s i).word.first)) me.0.kept ≡ 0
+  none_noted s r here seen h has x even = dite (ℕ_discrete (total (is_at x (i * 4294967296 + (local s i).word.first)) me.0.kept) 0) (λ z. z) (λ nz. absurd (found (omega (arith, nz))))
+    where
+      l : SlotLaw (local s i)
+      l = o p id me i inside real s r.lawful here
+
+      claim : (local s i).tokens ≡ Claimed seen h ∷ []
+      claim = own p id me i inside real s r.lawful here (Claimed seen h) has
+
+      unborn : 0 < total (is_made (local s i).word.first) (local s i).notes → ⊥
+      unborn made =
+          let free = claimed_free s l seen h claim in let m = l.story.made (local s i).word.first in let c = born_le (l.b (local s i).word.first) in
+          let y = born_is (l.b (local s i).word.first) (omega (arith, made, m, c)) in let z = l.story.births (local s i).word.first y.0 y.1 in
+          ⊎_elim (λ past. let a = z.0 in omega (arith, past, a)) (λ now. let a = now.1 in omega (arith, a, free)) z.1
+
+      found : 0 < total (is_at x (i * 4294967296 + (local s i).word.first)) me.0.kept → ⊥
+      found some_ =
+          let k = total_some (is_at x (i * 4294967296 + (local s i).word.first)) me.0.kept some_ in let low = (claim_home (local s i) l seen h claim).2 in
+          let fits : KeptFits (2 * p.slots) s.words (flat_map kept_in s.views) k.1 = each_at (KeptFits (2 * p.slots) s.words (flat_map kept_in s.views)) me.0.kept k.0 k.1 (each_of kept_in (KeptFits (2 * p.slots) s.words (flat_map kept_in s.views)) s.views id me.0 r.lawful.kept_fits here) k.2 in
+          let place : k.1.place ≡ x = at_place x (i * 4294967296 + (local s i).word.first) k.1 k.3 in let word : k.1.word ≡ (i * 4294967296 + (local s i).word.first) = at_word_is x (i * 4294967296 + (local s i).word.first) k.1 k.3 in
+          let stored : 0 < total (is_stored x (i * 4294967296 + (local s i).word.first)) (flat_map kept_in s.views) = subst (λ (y : ℕ). 0 < total (is_stored x y) (flat_map kept_in s.views)) word (subst (λ (y : ℕ). 0 < total (is_stored y k.1.word) (flat_map kept_in s.views)) place fits.3) in
+          let slot : slot_of (i * 4294967296 + (local s i).word.first) ≡ i = slot_is in let version : version_of (i * 4294967296 + (local s i).word.first) ≡ (local s i).word.first = version_is in
+          unborn (subst (λ (f : ℕ). 0 < total (is_made f) (flat_map (notes_in i) s.views)) version (subst (λ (y : ℕ). 0 < total (is_made (version_of (i * 4294967296 + (local s i).word.first))) (flat_map (notes_in y) s.views)) slot (r.known.named x (i * 4294967296 + (local s i).word.first) even stored)))
+        where
+          short : (local s i).word.first < 4294967296
+          short = let a = (claim_home (local s i) l seen h claim).2 in omega (arith, a)
+
+          slot_is : (i * 4294967296 + (local s i).word.first) / 4294967296 ≡ i
+          slot_is = omega (arith, short)
+
+          version_is : (i * 4294967296 + (local s i).word.first) % 4294967296 ≡ (local s i).word.first
+          version_is = omega (arith, short)
+
   pub reading : (seen : ℕ) (h : Hand C) → tokens_in i me.0 ≡ Claimed seen h ∷ [] → Allows (Ruled p) slots id me (id_word i) (λ n. n) (read_told (step slots (id_word i) 0 0 none) me)
   reading seen h has s r long here fits = let f : ℕ = (local s i).word.first in let l = o p id me i inside real s r.lawful here in (
     with_token i (Claimed f h) me.0,
@@ -104,6 +147,7 @@ module _ {C : Type 0} (p : Plan) (slots id : ℕ) (me : Me (Maybe C) (View C)) (
       l.first_some,
       (claim_home (local s i) l seen h (own p id me i inside real s r.lawful here (Claimed seen h) has)).2,
       (λ w saw taken. seen_before s r here seen h has w (let y = ap (λ (z : ℕ). total (is_saw w) (notes_in z me.0)) e in omega (arith, y, saw)) taken),
+      (λ y even. let a = none_noted s r here seen h has y even in let b = ap (λ (z : ℕ). total (is_at y (z * 4294967296 + f)) me.0.kept) e in omega (arith, a, b)),
     ),
   )
 
@@ -265,8 +309,8 @@ pub posted_is : (w : Parts) (e : ℕ) → w.state ≡ 1 → posted_word w e ≡ 
 posted_is w e one = ap (λ b. cond b (locked_word w) record { first = w.first; state = 2; range = w.range; attempt = w.attempt; oldest = cond (eqb w.oldest 0) e w.oldest; second = cond (eqb w.oldest 0) 0 e }) (eq-eqb w.state 1 one)
 
 module _ {C : Type 0} (p : Plan) (slots id : ℕ) (me : Me (Maybe C) (View C)) (x : ℕ) (high : 2 * p.slots ≤ x) (inside : x < all_words p) (real : 0 < me.0.share) where
-  pub storing : (n : ℕ) → n ≢ 0 → Allows (Ruled p) slots id me x (λ _. n) (λ _. store_told (step slots x n 0 none) me n)
-  storing n some_word s r long here fits = (with_kept x true n me.0, keeps, tt, stores_ruled p id me x high inside real s r here n some_word, refl)
+  pub storing : (n : ℕ) → n ≢ 0 → (x % 2 ≡ 0 → 0 < total (is_made (version_of n)) (notes_of (slot_of n) me.0.notes)) → Allows (Ruled p) slots id me x (λ _. n) (λ _. store_told (step slots x n 0 none) me n)
+  storing n some_word made s r long here fits = (with_kept x true n me.0, keeps, tt, stores_ruled p id me x high inside real s r here n some_word made, refl)
 
   pub loading : Allows (Ruled p) slots id me x (λ n. n) (load_told (step slots x 0 0 none) me)
   loading s r long here fits = (found_view x (get_or s.words x 0) me.0, keeps, tt, finds_ruled p id me x high inside real s r here, (refl, kept_stays p id me x high inside real s r here))

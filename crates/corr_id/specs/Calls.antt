@@ -2,7 +2,7 @@
 use Rattle.std.specs.Prelude.{◌≡◌, ◌≢◌, ℕ, ◌+◌, ◌/◌, ◌%◌, ◌<◌, ◌≤◌, ◌⊎◌, Bool, true, false, cond, ◌==◌, List, [], ◌∷◌, ◌++◌, Some, None}
 use Rattle.std.specs.Prelude.{Option as Maybe}
 use Rattle.corr_core.specs.Word.{Parts, parts, error_of, locked_word}
-use Rattle.corr_core.specs.Law.{LAST, total, only}
+use Rattle.corr_core.specs.Law.{LAST, total, only, pair}
 use Rattle.corr_core.specs.declared.marks.Hand.{Hand}
 use Rattle.corr_core.specs.declared.marks.Hand.TheVariants.{Empty, Full}
 use Rattle.corr_core.specs.declared.marks.Token.{Token}
@@ -10,6 +10,7 @@ use Rattle.corr_core.specs.declared.marks.Token.TheVariants.{Claimed, Locked}
 use Rattle.corr_core.specs.declared.marks.Note.{Note}
 use Rattle.corr_core.specs.declared.marks.Note.TheVariants.{Tried, Made, Locker, Attempt, Saw}
 use Rattle.corr_core.specs.declared.marks.Noted.{Noted}
+use Rattle.corr_core.specs.declared.marks.Kept.{Kept}
 use Rattle.corr_core.specs.declared.marks.View.{View}
 use Rattle.id_rule.specs.Lawful.{tokens_in, notes_of}
 use Rattle.id_rule.specs.Plays.{IsHome, Fitting, hand_of, with_hand, value_of, hand_by}
@@ -32,6 +33,10 @@ HasId w f = (w.first ≡ f) × (0 < w.state)
 -- the word doesn't have it
 abbrev pub LacksId : Parts → ℕ → Type 0
 LacksId w f = (w.first ≢ f) ⊎ ((w.state ≢ 1) × (w.state ≢ 2))
+
+-- 1 where the seat keeps in mind that it stored or found this word at this place
+abbrev pub is_at : ℕ → ℕ → Kept → ℕ
+is_at x word k = pair x word k.place k.word
 
 -- an error for an attempt, or for the whole call
 abbrev pub error_in : ℕ → Maybe ℕ → ℕ
@@ -117,6 +122,8 @@ module _ {C : Type 0} where
     pub low : version_of id ≤ LAST
     -- each range of a word that the seat had seen taken there was an earlier one
     pub none_found : (w : ℕ) → 0 < total (is_saw w) (notes_of (slot_of id) v.notes) → 0 < (parts w).state → (parts w).first < version_of id
+    -- and it had found the id at no operation: its words are those of even places
+    pub unnoted : (x : ℕ) → x % 2 ≡ 0 → total (is_at x id) v.kept ≡ 0
     pub nothing_before : tokens_in (slot_of id) v ≡ []
     pub did : Did (slot_of id) v w [] (one (slot_of id) (Made (version_of id) r c))
 

@@ -36,6 +36,7 @@ module _ {C : Type 0} where
     pub locked_is : (i w : ℕ) → i < p.slots → 0 < total (is_saw w) (notes_of i notes) → (parts w).state ≡ 2 → 0 < total (is_locker (parts w).first) (notes_of i notes)
     pub oldest_is : (i w : ℕ) → i < p.slots → 0 < total (is_saw w) (notes_of i notes) → 0 < (parts w).state → (parts w).oldest ≢ 0 → 0 < total (is_queued (parts w).first (parts w).oldest) (notes_of i notes)
     pub second_is : (i w : ℕ) → i < p.slots → 0 < total (is_saw w) (notes_of i notes) → 0 < (parts w).state → (parts w).second ≢ 0 → 0 < total (is_queued (parts w).first (parts w).second) (notes_of i notes)
+    pub in_turn : (i w : ℕ) → i < p.slots → 0 < total (is_saw w) (notes_of i notes) → (parts w).state ≡ 2 → (parts w).oldest ≡ 0 → (parts w).second ≡ 0
     pub attempts_are : (i w : ℕ) → i < p.slots → 0 < total (is_saw w) (notes_of i notes) → 0 < (parts w).state → (parts w).attempt ≤ total (is_advance (parts w).first) (notes_of i notes)
     -- a slot that was found taken has an id
     pub full : (i : ℕ) → i < p.slots → 0 < total is_tried (notes_of i notes) → 0 < total is_any_made (notes_of i notes)

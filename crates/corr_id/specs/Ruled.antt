@@ -1,5 +1,5 @@
 -- The rule of the table, and what an unlocking exchange tells.
-use Rattle.std.specs.Prelude.{◌≡◌, ◌≢◌, ℕ, ◌<◌, ◌≤◌, ◌⊎◌}
+use Rattle.std.specs.Prelude.{◌≡◌, ◌≢◌, ℕ, ◌+◌, ◌*◌, ◌%◌, List, ◌<◌, ◌≤◌, ◌⊎◌}
 use Rattle.std.specs.Prelude.{Option as Maybe}
 use Rattle.atomic_table.specs.Table.{State, Me, Step}
 use Rattle.corr_core.specs.Word.{Parts, parts, attempt_of}
@@ -12,8 +12,9 @@ use Rattle.corr_core.specs.declared.marks.Token.TheVariants.{Claimed, Locked, Le
 use Rattle.corr_core.specs.declared.marks.Note.TheVariants.{Saw}
 use Rattle.corr_core.specs.declared.marks.Kept.{Kept}
 use Rattle.corr_core.specs.declared.marks.View.{View}
-use Rattle.id_rule.specs.Lawful.{id_word, notes_in, local, Lawful, with_token, with_note}
-use Rattle.corr_id.specs.Calls.{is_saw}
+use Rattle.std.specs.List.{flat_map}
+use Rattle.id_rule.specs.Lawful.{id_word, is_stored, kept_in, notes_in, local, Lawful, with_token, with_note}
+use Rattle.corr_id.specs.Calls.{slot_of, version_of, is_saw, is_at}
 use Rattle.id_rule.specs.Plays.{Becomes, has_token, Longer, popped_view, advanced_view, found_view}
 
 -- a word of this place
@@ -23,6 +24,10 @@ is_place x k = only x k.place
 -- the error is for this attempt, or for the whole call
 abbrev pub IsFresh : ℕ → ℕ → Type 0
 IsFresh attempt e = (attempt_of e ≡ 7) ⊎ (attempt_of e ≡ attempt)
+
+-- a locked word that has a second error has a first one
+abbrev pub InTurn : Parts → Type 0
+InTurn w = w.state ≡ 2 → w.oldest ≡ 0 → w.second ≡ 0
 
 -- a word that was found once the id with this first version was made: it has the id's range, or a later one
 abbrev pub IsBehind : ℕ → Parts → Type 0
@@ -35,15 +40,22 @@ module _ {C : Type 0} where
   FreshBehind w (Locked f rg at c o s h) = (o ≡ 0 → w.oldest ≢ 0 → IsFresh w.attempt w.oldest) × (s ≡ 0 → w.second ≢ 0 → IsFresh w.attempt w.second)
   FreshBehind w Leaving = Unit {0}
 
+  -- what the seats know together: an id that one of them stored at an operation was made, and the words that they found have their errors in turn
+  pub record Known (views : List (View C)) : Type 0 where
+    pub named : (x id : ℕ) → x % 2 ≡ 0 → 0 < total (is_stored x id) (flat_map kept_in views) → 0 < total (is_made (version_of id)) (flat_map (notes_in (slot_of id)) views)
+    pub in_turn : (i w : ℕ) → 0 < total (is_saw w) (flat_map (notes_in i) views) → InTurn (parts w)
+
   -- the rule of the ids, with that
   pub record Ruled (p : Plan) (s : State (Maybe C) (View C)) : Type 0 where
     pub lawful : Lawful p s
     pub fresh : (i : ℕ) → i < p.slots → Each (FreshBehind (local s i).word) (local s i).tokens
+    pub known : Known s.views
 
-  -- I7 by the seat that claimed the slot: each range of a word that it had seen taken there was an earlier one
+  -- I7 by the seat that claimed the slot: each range of a word that it had seen taken there was an earlier one, and it had found the next id at no operation
   abbrev pub read_told : Step (Maybe C) → Me (Maybe C) (View C) → ℕ → Me (Maybe C) (View C) → Type 0
   read_told st m found n = (i seen : ℕ) (h : Hand C) → st.word ≡ id_word i → has_token i (Claimed seen h) m → Becomes m n (with_token i (Claimed (parts found).first h) m.0) × (1 ≤ (parts found).first) × ((parts found).first ≤ LAST)
       × ((w : ℕ) → 0 < total (is_saw w) (notes_in i m.0) → 0 < (parts w).state → (parts w).first < (parts found).first)
+      × ((x : ℕ) → x % 2 ≡ 0 → total (is_at x (i * 4294967296 + (parts found).first)) m.0.kept ≡ 0)
 
   -- I7: a word is never 0, and none that is found behind an id that the seat knows to be made has an earlier range
   abbrev pub see_told : Step (Maybe C) → Me (Maybe C) (View C) → ℕ → Me (Maybe C) (View C) → Type 0

@@ -1,5 +1,5 @@
 // Ids that are made, locked and ended.
-ghost use Rattle.std.specs.Prelude.{◌≡◌, ◌+◌, ◌*◌, ◌<◌, ◌≤◌, ◌⊎◌, ℕ, [], ◌∷◌, true, false, IfOk, IfErr};
+ghost use Rattle.std.specs.Prelude.{◌≡◌, ◌+◌, ◌*◌, ◌%◌, ◌<◌, ◌≤◌, ◌⊎◌, ℕ, [], ◌∷◌, true, false, IfOk, IfErr};
 ghost use Rattle.corr_core.specs.Word.{parts};
 ghost use Rattle.corr_core.specs.Law.{LAST, total, is_made, is_tried};
 ghost use Rattle.corr_core.specs.declared.marks.Hand.TheVariants.{Empty, Full};
@@ -8,7 +8,7 @@ ghost use Rattle.corr_core.specs.declared.marks.Note.TheVariants.{Made, Ended};
 ghost use Rattle.id_rule.specs.Lawful.{notes_of};
 ghost use Rattle.id_rule.specs.Plays.{LockFits};
 ghost use Rattle.corr_id.specs.Seats.{Sits, Stays};
-ghost use Rattle.corr_id.specs.Calls.{is_saw, Became, one, slot_of, version_of, Claims, Locks, GotLock, Quiet, Did, MadeAs, OutOf, LacksId, Found};
+ghost use Rattle.corr_id.specs.Calls.{is_saw, is_at, Became, one, slot_of, version_of, Claims, Locks, GotLock, Quiet, Did, MadeAs, OutOf, LacksId, Found};
 
 use crate::table::{IdSeat, IdTable};
 use sock_words::IdWord;
@@ -78,6 +78,8 @@ impl<C> IdTable<C> {
         ensures id { (1 ≤ version_of result) × (version_of result ≤ LAST) × (slot_of result ≡ at) }
         ensures made { Became at seat.old.me.0 seat.new.me.0 [] (one at (Made (version_of result) range content)) }
         ensures before { (w : ℕ) → 0 < total (is_saw w) (notes_of at seat.old.me.0.notes) → 0 < (parts w).state → (parts w).first < version_of result }
+        ensures unnoted { (x : ℕ) → x % 2 ≡ 0 → total (is_at x result) seat.old.me.0.kept ≡ 0 }
+        ensures noted { 0 < total (is_made (version_of result)) (notes_of (slot_of result) seat.new.me.0.notes) }
     {
         let first = IdWord::from_word(self.read_first(seat, at)).first();
         let found = self.move_call(seat, at, Some(content));
@@ -97,6 +99,7 @@ impl<C> IdTable<C> {
         ensures seat { Stays seat.old seat.new }
         ensures made { IfOk result (λ id. MadeAs seat.old.me.0 seat.new.me.0 self.now.plan.slots id range content) }
         ensures low { IfOk result (λ id. version_of id ≤ LAST) }
+        ensures noted { IfOk result (λ id. 0 < total (is_made (version_of id)) (notes_of (slot_of id) seat.new.me.0.notes)) }
         ensures full { IfErr result (λ e. (e.content ≡ content) × Quiet seat.old.me.0 seat.new.me.0 × ((i : ℕ) → i < self.now.plan.slots → 0 < total is_tried (notes_of i seat.new.me.0.notes))) }
     {
         let slots = self.plan.slots;

@@ -1,5 +1,5 @@
 // The end of a table.
-ghost use Rattle.std.specs.Prelude.{◌≡◌, ◌≤◌, ◌<◌, ◌*◌, ℕ, [], map, length, IfOk, IfErr, slice_index_or, false};
+ghost use Rattle.std.specs.Prelude.{◌≡◌, ◌≤◌, ◌<◌, ◌*◌, ℕ, [], map, length, IfOk, IfErr, slice_index, slice_index_or, false};
 ghost use Rattle.std.specs.List.{flat_map};
 ghost use Rattle.std.specs.Mem.Slots.{slots_items, slots_len, slots_filled, IsFull};
 ghost use Rattle.corr_core.specs.Law.{total};
@@ -24,7 +24,7 @@ pub struct IdNotClosed<C> {
 fn join_all<C>(table: &IdTable<C>, mut seats: Vec<IdSeat<C>>) -> IdSeat<C>
     requires seats { AllOf table.now.table.shared.table_id seats.items }
     requires words { (0 < table.now.table.shared.table_id.words) × (1 ≤ total (λ s. s.me.0.share) seats.items) }
-    ensures seat { (result.table_id ≡ table.now.table.shared.table_id) × IsFree result.me.0 }
+    ensures seat { (result.table_id ≡ table.now.table.shared.table_id) × (result.me.1 ≡ []) × IsFree result.me.0 }
     ensures lists { (result.me.0.notes ≡ flat_map (λ s. s.me.0.notes) seats.items) × (result.me.0.kept ≡ flat_map (λ s. s.me.0.kept) seats.items) × (result.me.0.share ≡ total (λ s. s.me.0.share) seats.items) }
 {
     let Some(mut seat) = seats.pop() else {
@@ -42,7 +42,8 @@ fn read_words<S>(table: &Closed<S, Global>, slots: u16, words: &mut Vec<IdWord>)
     requires full { IsFull table.now.words }
     requires words { 2 * slots ≤ slots_len table.now.words }
     requires sized { length words.old.items ≡ slots }
-    ensures { AreIdWords slots words.new.items (slots_items table.now.words) }
+    ensures words { AreIdWords slots words.new.items (slots_items table.now.words) }
+    ensures low { (i : ℕ) → slice_index (map (λ w. w.0) words.new.items) i < 18446744073709551616 }
 {
     let slots = slots as usize;
     let mut i = 0;
@@ -64,14 +65,29 @@ fn empty_homes<S: Drop>(table: &mut Closed<S, Global>)
     }
 }
 
+impl<C> IdTable<C> {
+    /// One seat that has what all of these noted, in their order. As `take_in`, for many.
+    pub fn join_seats(&self, seats: Vec<IdSeat<C>>) -> IdSeat<C>
+        requires seats { AllOf self.now.table.shared.table_id seats.items }
+        requires words { 0 < self.now.table.shared.table_id.words }
+        requires some { 1 ≤ total (λ s. s.me.0.share) seats.items }
+        ensures seat { (result.table_id ≡ self.now.table.shared.table_id) × (result.me.1 ≡ []) × IsFree result.me.0 }
+        ensures share { result.me.0.share ≡ total (λ s. s.me.0.share) seats.items }
+        ensures lists { (result.me.0.notes ≡ flat_map (λ s. s.me.0.notes) seats.items) × (result.me.0.kept ≡ flat_map (λ s. s.me.0.kept) seats.items) }
+    {
+        join_all(self, seats)
+    }
+}
+
 impl<C: Drop> IdTable<C> {
     /// The last words of the slots. The seats are all that the table has but those that were taken in, and none holds a lock.
-    /// Where memory is wanting all is untouched.
+    /// Each is of 64 bits. Where memory is wanting all is untouched.
     pub fn close(self, alloc: Global, seats: Vec<IdSeat<C>>) -> Result<Vec<IdWord>, IdNotClosed<C>>
         requires seats { AllOf self.table.shared.table_id seats.items }
         requires all { total (λ s. s.me.0.share) seats.items ≡ self.plan.seats }
         requires some { (1 ≤ self.plan.seats) × (1 ≤ self.plan.operations) }
         ensures lists { IfOk result (λ words. Closing self.plan (flat_map (λ s. s.me.0.notes) seats.items) (flat_map (λ s. s.me.0.kept) seats.items) (map (λ w. w.0) words.items)) }
+        ensures low { IfOk result (λ words. (i : ℕ) → slice_index (map (λ w. w.0) words.items) i < 18446744073709551616) }
         ensures untouched { IfErr result (λ e. (e.table ≡ self) × (e.seats ≡ seats)) }
     {
         let slots = self.plan.slots;

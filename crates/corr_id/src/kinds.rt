@@ -1,5 +1,5 @@
 // A call for each kind of step.
-ghost use Rattle.std.specs.Prelude.{◌≡◌, ◌≢◌, ◌+◌, ◌*◌, ◌<◌, ◌≤◌, ℕ, [], ◌∷◌, IsTrue, MatchOption};
+ghost use Rattle.std.specs.Prelude.{◌≡◌, ◌≢◌, ◌+◌, ◌*◌, ◌%◌, ◌<◌, ◌≤◌, ℕ, [], ◌∷◌, IsTrue, MatchOption};
 ghost use Rattle.corr_core.specs.Word.{parts, made_word, locked_word, posted_word, unlocked_word, free_word, tick};
 ghost use Rattle.corr_core.specs.Law.{LAST, total, is_made};
 ghost use Rattle.corr_core.specs.declared.marks.Hand.TheVariants.{Empty, Full};
@@ -9,7 +9,7 @@ ghost use Rattle.id_rule.specs.Lawful.{tokens_in, notes_in, with_note};
 ghost use Rattle.id_rule.specs.Plays.{LockFits, Longer};
 ghost use Rattle.corr_id.specs.Ruled.{FreshBehind, IsBehind, IsFresh};
 ghost use Rattle.corr_id.specs.Seats.{Sits, Stays};
-ghost use Rattle.corr_id.specs.Calls.{is_saw, Became, one, MayMove, Moved, Claims, Locks, tokens_left, advance_note};
+ghost use Rattle.corr_id.specs.Calls.{is_saw, is_at, Became, one, MayMove, Moved, Claims, Locks, tokens_left, advance_note};
 
 use crate::plays::{Claim, End, Free, Give, Lock, Make, Queue, Read, See, Take, Unlock};
 use crate::table::{IdSeat, IdTable};
@@ -38,6 +38,7 @@ impl<C> IdTable<C> {
         ensures read { Became at seat.old.me.0 seat.new.me.0 (Claimed (parts result).first Empty ∷ []) [] }
         ensures first { (1 ≤ (parts result).first) × ((parts result).first ≤ LAST) }
         ensures before { (w : ℕ) → 0 < total (is_saw w) (notes_in at seat.old.me.0) → 0 < (parts w).state → (parts w).first < (parts result).first }
+        ensures unnoted { (x : ℕ) → x % 2 ≡ 0 → total (is_at x (at * 4294967296 + (parts result).first)) seat.old.me.0.kept ≡ 0 }
     {
         let word = 2 * at as usize + 1;
         self.table.shared.load::<Read>(seat, word)

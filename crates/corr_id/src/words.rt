@@ -1,8 +1,8 @@
 // The words of the calls among the operations.
-ghost use Rattle.std.specs.Prelude.{◌≡◌, ◌≢◌, ◌+◌, ◌*◌, ◌<◌, ◌≤◌, false, true, IfNone, IfSome, IsSome};
+ghost use Rattle.std.specs.Prelude.{◌≡◌, ◌≢◌, ◌+◌, ◌*◌, ◌%◌, ◌<◌, ◌≤◌, false, true, IfNone, IfSome, IsSome};
 ghost use Rattle.sock_words.specs.Words.{at_word as packed_at};
-ghost use Rattle.corr_core.specs.Law.{total};
-ghost use Rattle.id_rule.specs.Lawful.{call_word, at_word, with_kept};
+ghost use Rattle.corr_core.specs.Law.{total, is_made};
+ghost use Rattle.id_rule.specs.Lawful.{call_word, at_word, notes_of, with_kept};
 ghost use Rattle.corr_id.specs.Ruled.{is_place};
 ghost use Rattle.corr_id.specs.Seats.{Sits, Stays};
 ghost use Rattle.corr_id.specs.Calls.{slot_of, version_of, Quiet, Found};
@@ -12,11 +12,12 @@ use crate::table::{IdSeat, IdTable};
 use sock_words::AtWord;
 
 impl<C> IdTable<C> {
-    /// Stores the id of a call, by its operation, where others find it. The id isn't 0.
+    /// Stores the id of a call, by its operation, where others find it. The id isn't 0, and this seat made it.
     pub fn note(&self, seat: &mut IdSeat<C>, operation: u16, id: u64)
         requires seat { Sits self.now.table.shared.table_id seat.old }
         requires operation { operation < self.now.plan.operations }
         requires some { id ≢ 0 }
+        requires made { 0 < total (is_made (version_of id)) (notes_of (slot_of id) seat.old.me.0.notes) }
         ensures seat { Stays seat.old seat.new }
         ensures stored { seat.new.me.0 ≡ with_kept (call_word self.now.plan operation) true id seat.old.me.0 }
     {
@@ -93,6 +94,7 @@ impl<C> IdTable<C> {
         requires seat { Sits self.now.table.shared.table_id seat.old }
         requires place { (2 * self.now.plan.slots ≤ word) × (word < 2 * self.now.plan.slots + 2 * self.now.plan.operations) }
         requires some { value ≢ 0 }
+        requires made { word % 2 ≡ 0 → 0 < total (is_made (version_of value)) (notes_of (slot_of value) seat.old.me.0.notes) }
         ensures seat { Stays seat.old seat.new }
         ensures stored { seat.new.me.0 ≡ with_kept word true value seat.old.me.0 }
     {

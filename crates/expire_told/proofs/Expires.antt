@@ -1,5 +1,5 @@
 -- Why each `expire` of a run with calls has its outcome.
-use Rattle.std.proofs.Common.{◌≡◌, ◌≢◌, ℕ, ◌+◌, ◌*◌, ◌≤◌, ◌<◌, ◌⊎◌, inl, inr, false, List, [], ◌∷◌, ◌++◌, length, Some, None, refl, sym, ap, ◌∙◌, subst, arith}
+use Rattle.std.proofs.Common.{◌≡◌, ◌≢◌, ℕ, ◌+◌, ◌*◌, ◌%◌, ◌≤◌, ◌<◌, ◌⊎◌, inl, inr, false, List, [], ◌∷◌, ◌++◌, length, Some, None, refl, sym, ap, ◌∙◌, subst, arith}
 use Rattle.std.specs.Prelude.{slice_get, Option}
 use Rattle.std.specs.List.{AllByRecursion}
 use Rattle.std.proofs.lemmas.Nat.{div-add-mod'}
@@ -37,11 +37,11 @@ use Rattle.corr_id.specs.Closing.{Closing}
 use Rattle.corr_id.specs.Ruled.{is_place}
 use Rattle.call_places.specs.rpc_client.specs.declared.acting.Told.{Told}
 use Rattle.call_places.specs.rpc_client.specs.Running.{telling}
-use Rattle.call_places.specs.table_told.proofs.Flats.{append_first, append_later}
+use Rattle.call_places.specs.sock_deeds.proofs.Flats.{append_first, append_later}
 use Rattle.call_places.specs.call_errors.specs.Books.{CallStand, stand_of}
 use Rattle.call_places.specs.call_errors.specs.Ending.{failed}
 use Rattle.call_places.specs.call_errors.specs.Locking.{id_in}
-use Rattle.call_places.specs.call_errors.specs.Asking.{ExpiredBy}
+use Rattle.call_places.specs.call_errors.specs.Asking.{ExpiredBy, TimedOut}
 use Rattle.call_told.specs.call_client.specs.Acting.{Stand, stand, both_of, Acted}
 use Rattle.call_told.specs.call_client.specs.Running.{begins, MayMakeAll}
 use Rattle.call_places.specs.call_run.specs.Threads.{Thread, RanOn, AllMayRun, MayRunAll, ids_of}
@@ -58,11 +58,11 @@ use Rattle.call_told.proofs.Lists.{all_at}
 use Rattle.call_told.proofs.Moves.{Fits, is_task}
 use Rattle.call_told.proofs.Resting.{is_word}
 use Rattle.expire_told.specs.Said.{AreSaid, AreOfCalls, HaveKeptOf}
-use Rattle.expire_told.proofs.Going.{expired_by, retried_here, end_goes, run_goes}
+use Rattle.expire_told.proofs.Going.{expired_by, retried_here, made_goes, end_goes, run_goes}
 use Rattle.expire_told.proofs.Doing.{GoesOn, on_then, Split, ran_split, Done, done_of, run_fed}
 use Rattle.expire_told.proofs.Begun.{begun_later, BegunIn, made_begun, ran_stored}
 use Rattle.expire_told.proofs.Making.{mapped_from, elem_at, before_in, word_is, owned, placed, same_stored}
-use Rattle.expire_told.proofs.Expiring.{EndsAs, timed_out_ends}
+use Rattle.expire_told.proofs.Expiring.{EndsAs, timed_out_word, timed_out_ends}
 
 -- ## Calls have their own numbers
 
@@ -85,13 +85,13 @@ expire_acted {O} {g} state p q number of op by s t is acted = with by (subst (λ
     with None a = elim a [ ]
     with (Some o) a = (o, refl, a.0)
 
--- a call was answered unopened, or has begun
+-- a call was answered unopened, or has begun: by an id that the client had found at no operation
 call_acted : {O : Type 0} {g : Ghosts O} (state : O → OutState) (p : Plan) (q : id_plan.Plan) (number : ℕ) (asked : Asked) (op : Op) (by : Option Outcome) (s t : Stand g) → op ≡ ops.Call asked → Acted state p q number op by s t
-    → (by ≡ Some outcome.Unopened) ⊎ ((id : ℕ) × HasBegun q asked.operation id t.calls.view)
+    → (by ≡ Some outcome.Unopened) ⊎ ((id : ℕ) × HasBegun q asked.operation id t.calls.view × ((x : ℕ) → x % 2 ≡ 0 → total (is_word x id) s.calls.view.kept ≡ 0))
 call_acted {O} {g} state p q number asked op by s t is acted = with by (subst (λ (x : Op). Acted state p q number x by s t) is acted)
   where
-    with : (b : Option Outcome) → Acted state p q number (ops.Call asked) b s t → (b ≡ Some outcome.Unopened) ⊎ ((id : ℕ) × HasBegun q asked.operation id t.calls.view)
-    with None a = inr (a.0, made_begun q state p asked a.0 (both_of s) (both_of t) a.1)
+    with : (b : Option Outcome) → Acted state p q number (ops.Call asked) b s t → (b ≡ Some outcome.Unopened) ⊎ ((id : ℕ) × HasBegun q asked.operation id t.calls.view × ((x : ℕ) → x % 2 ≡ 0 → total (is_word x id) s.calls.view.kept ≡ 0))
+    with None a = inr (a.0, made_begun q state p asked a.0 (both_of s) (both_of t) a.1, a.1.made_for.made.unnoted)
     with (Some outcome.Unopened) a = inl refl
     with (Some _) a = elim a [ ]
 
@@ -174,12 +174,28 @@ module _ {O : Type 0} {g : Ghosts O} {state : O → OutState} {p : Plan} {slots 
       let h : View Asked → ℕ = λ v. total f v.kept in
       let a = term (λ (y : Client g state p q). h (view_of y)) crew c x at in let b = total_map h view_of crew in let d = ap (total h) (views_are run) in let e = keeps.all f in omega arith
 
-  -- a client stores one id for an operation at most
+  -- a client stores as many ids for an operation as it has tasks of that number
+  own_stored : (c : ℕ) (x : Client g state p q) → get_elem? crew c ≡ some x → (o : ℕ) → total (own_at (call_word q o)) (view_of x).kept ≤ total (is_task o) (tasks_of x)
+  own_stored c x at o =
+      let a = (run_goes q o state p x.thread.tasks x.thread.began x.thread.ended (fits c x at) x.is.ran).grows.own in
+      let b = ap (λ (m : Me (Option Asked) (View Asked)). total (own_at (call_word q o)) m.0.kept) x.is.ids in omega arith
+
+  -- which is one at most
   few_stored : (c : ℕ) (x : Client g state p q) → get_elem? crew c ≡ some x → (o : ℕ) → total (own_at (call_word q o)) (view_of x).kept ≤ 1
   few_stored c x at o =
-      let a = (run_goes q o state p x.thread.tasks x.thread.began x.thread.ended (fits c x at) x.is.ran).grows.own in
-      let b = ap (λ (m : Me (Option Asked) (View Asked)). total (own_at (call_word q o)) m.0.kept) x.is.ids in
+      let a = own_stored c x at o in
       let d = term (λ (ts : List Task). total (is_task o) ts) every c (tasks_of x) (tasks_at c x at) in let e = numbered_once p every tasks o in omega arith
+
+  -- and so do all together
+  one_stored : (o a b c d : ℕ) (x y : Client g state p q) → get_elem? crew c ≡ some x → get_elem? crew d ≡ some y → 0 < total (is_stored (call_word q o) a) (view_of x).kept → 0 < total (is_stored (call_word q o) b) (view_of y).kept → a ≡ b
+  one_stored o a b c d x y here there h k = dite (ℕ_discrete c d)
+      (λ e. let same : y ≡ x = some-injective y x (sym there ∙ (ap (get_elem? crew) (sym e) ∙ here)) in
+      same_stored (call_word q o) a b (view_of x).kept (few_stored c x here o) h (subst (λ (z : Client g state p q). 0 < total (is_stored (call_word q o) b) (view_of z).kept) same k))
+      (λ n. absurd (
+      let i = own_stored c x here o in let j = own_stored d y there o in let l = owned (call_word q o) a (view_of x).kept in let m = owned (call_word q o) b (view_of y).kept in
+      let both = two_terms (λ (ts : List Task). total (is_task o) ts) every c d (tasks_of x) (tasks_of y) (tasks_at c x here) (tasks_at d y there) n in let e = numbered_once p every tasks o in
+      omega (arith, i, j, l, m, both, e, h, k)
+      ))
 
   -- whoever made the id of a call
   pub record IsMaker (o id : ℕ) : Type 0 where
@@ -317,9 +333,72 @@ module _ {O : Type 0} {g : Ghosts O} {state : O → OutState} {p : Plan} {slots 
       of_call : (asked : Asked) × (task.op ≡ ops.Call asked)
       of_call = calls c c t task is (op ∙ ap ops.Expire (sym number)) own
 
-      by : (split.made.by ≡ Some outcome.Unopened) ⊎ ((id : ℕ) × HasBegun q of_call.0.operation id split.after.has.calls.view) → Became every outcomes task.number outcome.Unopened
+      by : (split.made.by ≡ Some outcome.Unopened) ⊎ ((id : ℕ) × HasBegun q of_call.0.operation id split.after.has.calls.view × ((x : ℕ) → x % 2 ≡ 0 → total (is_word x id) split.made.ready.calls.view.kept ≡ 0)) → Became every outcomes task.number outcome.Unopened
       by (inl e) = says e
       by (inr b) = absurd (begun_there of_call.0 b.0 of_call.1 b.1)
+
+  -- ## Begun before
+
+  -- a call whose id an `expire` of the same client found is no later operation: behind that its id would have been made
+  pub begun_before : (c of : ℕ) (t u : Task) (asked : Asked) (by : Outcome) → IsTask every outcomes c t → IsTask every outcomes c u → t.op ≡ ops.Expire of → u.op ≡ ops.Call asked → u.number ≡ of → Became every outcomes t.number by
+      → ((s v : CallStand) → ExpiredBy q of by s v → TimedOut q of by s v) → (Became every outcomes of outcome.Unopened → ⊥) → of < t.number
+  begun_before c of t u asked by tis uis top uop number became timed begun = dite (dec_lt of t.number) (λ h. h) (λ nl. absurd (dite (dec_lt m.place n.place) later (λ nless. dite (ℕ_discrete m.place n.place) same (λ ne. earlier (omega (arith, nless, ne)) nl))))
+    where
+      m : IsMade c t
+      m = made_of c t tis
+
+      n : IsMade c u
+      n = made_of c u uis
+
+      same_client : m.client ≡ n.client
+      same_client = some-injective m.client n.client (sym m.at ∙ n.at)
+
+      there : get_elem? (tasks_of n.client) m.place ≡ some t
+      there = subst (λ (x : Client g state p q). get_elem? (tasks_of x) m.place ≡ some t) same_client m.there
+
+      same : m.place ≡ n.place → ⊥
+      same e = let is : t ≡ u = some-injective t u (sym there ∙ (ap (get_elem? (tasks_of n.client)) e ∙ n.there)) in let ops_ : ops.Expire of ≡ ops.Call asked = sym top ∙ (ap (λ (y : Task). y.op) is ∙ uop) in absurd (cc)
+
+      earlier : n.place < m.place → (of < t.number → ⊥) → ⊥
+      earlier less nl = nl (let order = all_at (EachBefore InOrder) every c (tasks_of n.client) tasks.in_order (tasks_at c n.client n.at) in let h = (before_in InOrder (tasks_of n.client) order n.place m.place u t less n.there there).0 in omega (arith, h, number))
+
+      later : m.place < n.place → ⊥
+      later less = or_begun (call_acted state p q u.number asked u.op n.done.made.by n.done.made.ready n.done.after.has uop n.done.made.acted)
+        where
+          s : Split state p q n.client.thread.tasks m.place t (begins n.client.thread.began) n.done.before
+          s = ran_split state p q n.client.thread.tasks (fits c n.client n.at) n.place (begins n.client.thread.began) n.done.before n.done.ran m.place t less there
+
+          expired : ExpiredBy q of by s.made.ready.calls s.after.has.calls
+          expired =
+              let a = expire_acted state p q t.number of t.op s.made.by s.made.ready s.after.has top s.made.acted in
+              let is : a.0 ≡ by = some_is a.0 by (some_is (Some a.0) (Some by) (sym (earlier_told c u n m.place t s a.0 a.1) ∙ became)) in
+              subst (λ (x : Outcome). ExpiredBy q of x s.made.ready.calls s.after.has.calls) is a.2
+
+          h : TimedOut q of by s.made.ready.calls s.after.has.calls
+          h = timed s.made.ready.calls s.after.has.calls expired
+
+          -- the id was kept in mind before the call
+          kept_then : 0 < total (is_word (call_word q of) h.id) n.done.before.has.calls.view.kept
+          kept_then = let a = timed_out_word q of by s.made.ready.calls s.after.has.calls h in let b = (s.later of).1.grows.kept (is_word (call_word q of) h.id) in omega (arith, a, b)
+
+          kept_ready : 0 < total (is_word (call_word q of) h.id) n.done.made.ready.calls.view.kept
+          kept_ready = let a = kept_then in let b = (retried_here q of state p n.done.before.has n.done.made.ready n.done.made.retried).grows.kept (is_word (call_word q of) h.id) in omega (arith, a, b)
+
+          kept_last : 0 < total (is_word (call_word q of) h.id) (view_of n.client).kept
+          kept_last =
+              let a = kept_then in let b = (made_goes q of state p u n.done.before n.done.after (all_at Fits (tasks_of n.client) n.place u (fits c n.client n.at) n.there) n.done.made).grows.kept (is_word (call_word q of) h.id) in
+              let d = (n.done.later of).1.grows.kept (is_word (call_word q of) h.id) in omega (arith, a, b, d)
+
+          or_begun : (n.done.made.by ≡ Some outcome.Unopened) ⊎ ((id : ℕ) × HasBegun q asked.operation id n.done.after.has.calls.view × ((x : ℕ) → x % 2 ≡ 0 → total (is_word x id) n.done.made.ready.calls.view.kept ≡ 0)) → ⊥
+          or_begun (inl e) = begun (subst (λ (o : ℕ). Became every outcomes o outcome.Unopened) number (own_told c u n outcome.Unopened e))
+          or_begun (inr b) =
+              let fit : asked.operation ≡ u.number = all_at Fits (tasks_of n.client) n.place u (fits c n.client n.at) n.there asked uop in
+              let here : HasBegun q of b.0 n.done.after.has.calls.view = subst (λ (o : ℕ). HasBegun q o b.0 n.done.after.has.calls.view) (fit ∙ number) b.1 in
+              let last : HasBegun q of b.0 (view_of n.client) = begun_later q (call_word q of) (n.done.later of).0 of b.0 n.done.after.has.calls.view (view_of n.client) (n.done.later of).1.grows here in
+              let k = found_maker of h.id c n.client n.at kept_last in
+              let id : b.0 ≡ h.id = one_stored of b.0 h.id c k.place n.client k.client n.at k.at last.stored k.begun.stored in
+              let none_ : total (is_word (call_word q of) h.id) n.done.made.ready.calls.view.kept ≡ 0 = subst (λ (i : ℕ). total (is_word (call_word q of) i) n.done.made.ready.calls.view.kept ≡ 0) id (b.2 (call_word q of) (omega arith)) in
+              omega (arith, none_, kept_ready)
 
   -- ## Once
 

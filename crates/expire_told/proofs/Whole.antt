@@ -1,5 +1,5 @@
--- Why the `expire`s of a run with calls have their outcomes: as a whole, but for what was queued and for the order of a client's own operations.
-use Rattle.std.proofs.Common.{◌≡◌, ℕ, List, ◌∷◌, sym, ap, ◌∙◌, arith}
+-- Why the `expire`s of a run with calls have their outcomes: as a whole, but for which codes were queued.
+use Rattle.std.proofs.Common.{◌≡◌, ℕ, List, ◌∷◌, sym, ap, ◌∙◌, subst, arith}
 use Rattle.std.specs.Prelude.{Option}
 use mathlib.Core.Option.{some}
 use lib.ListN.{get_elem?}
@@ -14,6 +14,8 @@ use Rattle.sock_words.specs.declared.vref.Vref.{Vref}
 use Rattle.sock_programs.specs.declared.task.Op.TheVariants as ops
 use Rattle.sock_programs.specs.declared.task.Task.{Task}
 use Rattle.sock_programs.specs.Told.{AreTasks, IsTask, Became}
+use Rattle.sock_programs.specs.ToldCalls.{Fixed, Order}
+use Rattle.sock_programs.specs.ToldCalls as told_calls
 use Rattle.corr_core.specs.declared.marks.Kept.{Kept}
 use Rattle.corr_core.specs.declared.marks.Noted.{Noted}
 use Rattle.corr_core.specs.declared.marks.View.{View}
@@ -21,6 +23,7 @@ use Rattle.id_rule.specs.Lawful.{call_word}
 use Rattle.sock_message.specs.Asked.{Asked}
 use Rattle.corr_id.specs.Closing.{Closing}
 use Rattle.call_places.specs.rpc_client.specs.declared.acting.Told.{Told}
+use Rattle.call_places.specs.call_errors.specs.Books.{CallStand}
 use Rattle.call_places.specs.call_errors.specs.Asking.{ExpiredBy, TimedOut}
 use Rattle.call_places.specs.call_run.specs.Threads.{RanOn, MayRunAll, ids_of}
 use Rattle.call_places.specs.Counted.{HaveNotesOf}
@@ -31,10 +34,10 @@ use Rattle.call_told.specs.Least.{HasBegun}
 use Rattle.call_told.proofs.Lists.{all_at}
 use Rattle.call_told.proofs.Moves.{Fits}
 use Rattle.call_told.proofs.Resting.{is_word}
-use Rattle.expire_told.specs.Said.{AreSaid, AreOfCalls, HaveKeptOf, IsBegunCall, WhyExpired}
+use Rattle.expire_told.specs.Said.{AreSaid, AreOfCalls, HaveKeptOf, WhyExpired}
 use Rattle.expire_told.proofs.Expiring.{timed_out_word}
 use Rattle.expire_told.proofs.Making.{slice_at}
-use Rattle.expire_told.proofs.Expires.{fits, tasks_at, IsMade, made_of, expire_made, IsMaker, found_maker, expired_why, not_begun_why, expired_once}
+use Rattle.expire_told.proofs.Expires.{fits, tasks_at, IsMade, made_of, expire_made, IsMaker, found_maker, expired_why, not_begun_why, begun_before, expired_once}
 
 module _ {O : Type 0} {g : Ghosts O} {state : O → OutState} {p : Plan} {slots : ℕ} {setup : List Task} {clients : List (List Task)} {opens : List ℕ} {told ended : List (List Told)} {places : List PlaceWord} {vrefs : List Vref} {outs : List O} {ids : List (View Asked)}
     (run : RanOn g state p slots setup clients opens told ended places vrefs outs ids) (tasks : AreTasks p (setup ∷ clients)) (may : MayRunAll p (ids_of p slots) setup clients)
@@ -45,38 +48,62 @@ module _ {O : Type 0} {g : Ghosts O} {state : O → OutState} {p : Plan} {slots 
   abbrev every : List (List Task)
   every = setup ∷ clients
 
+  -- operation t is a call that began
+  record IsBegun (t : ℕ) : Type 0 where
+    pub client : ℕ
+    pub task : Task
+    pub asked : Asked
+    pub is : IsTask every outcomes client task
+    pub is_call : task.op ≡ ops.Call asked
+    pub number : task.number ≡ t
+    pub began : Became every outcomes t outcome.Unopened → ⊥
+
   -- a call whose id was found has begun
-  maker_begun : (of id : ℕ) → IsMaker run tasks may notes kept words closing noted keeps outcomes said_own said_ended of id → IsBegunCall every outcomes of
+  maker_begun : (of id : ℕ) → IsMaker run tasks may notes kept words closing noted keeps outcomes said_own said_ended of id → IsBegun of
   maker_begun of id m =
       let x = m.client in let b = m.own in
       let own : b.asked.operation ≡ b.task.number = all_at Fits (tasks_of x) b.place b.task (fits run tasks may notes kept words closing noted keeps outcomes said_own said_ended m.place x m.at) b.there b.asked b.is_call in
       record {
         client = m.place;
         task = b.task;
+        asked = b.asked;
         is = (tasks_of x, slice_at every m.place (tasks_of x) (tasks_at run tasks may notes kept words closing noted keeps outcomes said_own said_ended m.place x m.at), contains_from (tasks_of x) b.task (b.place, slice_at (tasks_of x) b.place b.task b.there));
+        is_call = b.is_call;
         number = sym own ∙ b.operation;
         began = begun_not of id m.place (view_of x) (ap (λ (l : List (View Asked)). get_elem? l m.place) (sym (views_are run)) ∙ mapped view_of (all_clients run) m.place x m.at) m.begun;
       }
 
-  timed_out_begun : (c of : ℕ) (t : Task) (m : IsMade run tasks may notes kept words closing noted keeps outcomes said_own said_ended c t) (by : Outcome) → TimedOut (ids_of p slots) of by m.done.made.ready.calls m.done.after.has.calls → IsBegunCall every outcomes of
-  timed_out_begun c of t m by h =
-      let w = is_word (call_word (ids_of p slots) of) h.id in let a = timed_out_word (ids_of p slots) of by m.done.made.ready.calls m.done.after.has.calls h in let b = (m.done.later of).1.grows.kept w in
-      maker_begun of h.id (found_maker run tasks may notes kept words closing noted keeps outcomes said_own said_ended of h.id c m.client m.at (omega (arith, a, b)))
+  module _ (fixed : Fixed) (gave : ℕ → List ℕ) (orders : ℕ → Order) where
+    -- and is no later operation of the client that found it
+    timed_out_begun : (c of : ℕ) (t : Task) (by : Outcome) → IsTask every outcomes c t → t.op ≡ ops.Expire of → Became every outcomes t.number by → ((s v : CallStand) → ExpiredBy (ids_of p slots) of by s v → TimedOut (ids_of p slots) of by s v)
+        → told_calls.HasBegun p every outcomes fixed gave orders c t.number of
+    timed_out_begun c of t by is op became timed =
+        let m = made_of run tasks may notes kept words closing noted keeps outcomes said_own said_ended c t is in let s = m.done.made.ready.calls in let v = m.done.after.has.calls in
+        let h = timed s v (expire_made run tasks may notes kept words closing noted keeps outcomes said_own said_ended c of t by m op became) in
+        let w = is_word (call_word (ids_of p slots) of) h.id in let a = timed_out_word (ids_of p slots) of by s v h in let b = (m.done.later of).1.grows.kept w in
+        let k = maker_begun of h.id (found_maker run tasks may notes kept words closing noted keeps outcomes said_own said_ended of h.id c m.client m.at (omega (arith, a, b))) in (
+          k.client,
+          k.task,
+          k.is,
+          k.number,
+          k.began,
+          λ e. begun_before run tasks may notes kept words closing noted keeps outcomes said_own said_ended c of t k.task k.asked by is (subst (λ (i : ℕ). IsTask every outcomes i k.task) e k.is) op k.is_call k.number became timed k.began,
+        )
 
-  -- each outcome of an `expire` has its cause
-  pub expire_why : AreOfCalls every outcomes → (c of : ℕ) (t : Task) (by : Outcome) → IsTask every outcomes c t → t.op ≡ ops.Expire of → Became every outcomes t.number by → WhyExpired every outcomes c t.number of by
-  expire_why calls c of t by is op became = with by became (expire_made run tasks may notes kept words closing noted keeps outcomes said_own said_ended c of t by m op became)
-    where
-      m : IsMade run tasks may notes kept words closing noted keeps outcomes said_own said_ended c t
-      m = made_of run tasks may notes kept words closing noted keeps outcomes said_own said_ended c t is
+    -- each outcome of an `expire` has its cause
+    pub expire_why : AreOfCalls every outcomes → (c of : ℕ) (t : Task) (by : Outcome) → IsTask every outcomes c t → t.op ≡ ops.Expire of → Became every outcomes t.number by → WhyExpired p every outcomes fixed gave orders c t.number of by
+    expire_why calls c of t by is op became = with by became (expire_made run tasks may notes kept words closing noted keeps outcomes said_own said_ended c of t by m op became)
+      where
+        m : IsMade run tasks may notes kept words closing noted keeps outcomes said_own said_ended c t
+        m = made_of run tasks may notes kept words closing noted keeps outcomes said_own said_ended c t is
 
-      with : (b : Outcome) → Became every outcomes t.number b → ExpiredBy (ids_of p slots) of b m.done.made.ready.calls m.done.after.has.calls → WhyExpired every outcomes c t.number of b
-      with outcome.Expired e h = expired_why run tasks may notes kept words closing noted keeps outcomes said_own said_ended c of t is op e
-      with outcome.NotBegun e h = not_begun_why run tasks may notes kept words closing noted keeps outcomes said_own said_ended calls c of t is op e
-      with outcome.Queued e h = timed_out_begun c of t m outcome.Queued h
-      with outcome.Late e h = timed_out_begun c of t m outcome.Late h
-      with (outcome.Crowded a b) e h = timed_out_begun c of t m (outcome.Crowded a b) h
-      with _ e h = elim h [ ]
+        with : (b : Outcome) → Became every outcomes t.number b → ExpiredBy (ids_of p slots) of b m.done.made.ready.calls m.done.after.has.calls → WhyExpired p every outcomes fixed gave orders c t.number of b
+        with outcome.Expired e h = expired_why run tasks may notes kept words closing noted keeps outcomes said_own said_ended c of t is op e
+        with outcome.NotBegun e h = not_begun_why run tasks may notes kept words closing noted keeps outcomes said_own said_ended calls c of t is op e
+        with outcome.Queued e h = timed_out_begun c of t outcome.Queued is op e (λ s v x. x)
+        with outcome.Late e h = timed_out_begun c of t outcome.Late is op e (λ s v x. x)
+        with (outcome.Crowded a b) e h = timed_out_begun c of t (outcome.Crowded a b) is op e (λ s v x. x)
+        with _ e h = elim h [ ]
 
   -- and none ends a call twice
   pub once : (c d of : ℕ) (t u : Task) → IsTask every outcomes c t → IsTask every outcomes d u → t.op ≡ ops.Expire of → u.op ≡ ops.Expire of → Became every outcomes t.number outcome.Expired → Became every outcomes u.number outcome.Expired → t.number ≡ u.number

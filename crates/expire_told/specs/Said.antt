@@ -3,11 +3,13 @@ use Rattle.std.specs.Prelude.{◌≡◌, ℕ, ◌<◌, ◌≤◌, List, slice_ge
 use mathlib.Core.Option.{some}
 use lib.ListN.{get_elem?}
 use Rattle.sock_words.specs.Codes.{ERPCTIMEDOUT}
+use Rattle.sock_words.specs.declared.plain.Plan.{Plan}
 use Rattle.sock_words.specs.declared.outcome.Outcome.{Outcome}
-use Rattle.sock_words.specs.declared.outcome.Outcome.TheVariants.{Unopened, Expired, Queued, Late, Crowded, NotBegun, CallFailed}
+use Rattle.sock_words.specs.declared.outcome.Outcome.TheVariants.{Expired, Queued, Late, Crowded, NotBegun, CallFailed}
 use Rattle.sock_programs.specs.declared.task.Op.TheVariants as ops
 use Rattle.sock_programs.specs.declared.task.Task.{Task}
 use Rattle.sock_programs.specs.Told.{IsTask, Became}
+use Rattle.sock_programs.specs.ToldCalls.{Fixed, Order, HasBegun, MayNotHaveBegun}
 use Rattle.corr_core.specs.Law.{total}
 use Rattle.corr_core.specs.declared.marks.Kept.{Kept}
 use Rattle.corr_core.specs.declared.marks.View.{View}
@@ -30,20 +32,12 @@ pub record HaveKeptOf (views : List (View Asked)) (kept : List Kept) : Type 0 wh
 
 -- ## Why
 
-module _ (clients : List (List Task)) (outcomes : List (Option Outcome)) where
-  -- operation t is a call that began
-  pub record IsBegunCall (t : ℕ) : Type 0 where
-    pub client : ℕ
-    pub task : Task
-    pub is : IsTask clients outcomes client task
-    pub number : task.number ≡ t
-    pub began : Became clients outcomes t Unopened → ⊥
-
-  -- why operation o of client c, the `expire` of operation t, has this outcome. That what began is no later operation of the client itself isn't said, nor which codes were queued
+module _ (p : Plan) (clients : List (List Task)) (outcomes : List (Option Outcome)) (fixed : Fixed) (gave : ℕ → List ℕ) (orders : ℕ → Order) where
+  -- why operation o of client c, the `expire` of operation t, has this outcome. Which codes were queued isn't said
   abbrev pub WhyExpired : ℕ → ℕ → ℕ → Outcome → Type 0
   WhyExpired c o t Expired = (id : ℕ) × Became clients outcomes t (CallFailed id ERPCTIMEDOUT)
-  WhyExpired c o t Queued = IsBegunCall t
-  WhyExpired c o t Late = IsBegunCall t
-  WhyExpired c o t (Crowded a b) = IsBegunCall t
-  WhyExpired c o t NotBegun = (task : Task) → IsTask clients outcomes c task → task.number ≡ t → t < o → Became clients outcomes t Unopened
+  WhyExpired c o t Queued = HasBegun p clients outcomes fixed gave orders c o t
+  WhyExpired c o t Late = HasBegun p clients outcomes fixed gave orders c o t
+  WhyExpired c o t (Crowded a b) = HasBegun p clients outcomes fixed gave orders c o t
+  WhyExpired c o t NotBegun = MayNotHaveBegun p clients outcomes fixed gave orders c o t
   WhyExpired c o t other = ⊥

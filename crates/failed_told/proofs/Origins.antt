@@ -59,7 +59,7 @@ use Rattle.rpc_client.specs.declared.acting.Told.{Told}
 use Rattle.call_told.proofs.Growing.{Grows, grows_same, ended_grows, post_grows}
 use Rattle.call_told.proofs.Lists.{all_both, all_then}
 use Rattle.call_told.proofs.Runs.{none_left}
-use Rattle.table_told.proofs.Flats.{append_first, append_later}
+use Rattle.call_places.specs.sock_deeds.proofs.Flats.{append_first, append_later}
 use Rattle.rpc_client.specs.Running.{telling}
 use Rattle.call_table.specs.declared.errors.Decision.TheVariants as decisions
 use Rattle.call_errors.specs.Locking.{id_in}

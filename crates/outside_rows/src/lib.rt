@@ -1,9 +1,11 @@
-//! Rows of the top call over an outside that isn't kind: links whose other ends give bytes that nobody would send, and
-//! outside calls that fail in turn, step by step and on threads. There is nothing here but tests.
+//! Rows of the top call: each command with what it writes, and an outside that isn't kind, links whose other ends give bytes that
+//! nobody would send, and outside calls that fail in turn, step by step and on threads. There is nothing here but tests.
 #![tactic(auto)]
 
 #[cfg(test)]
 mod answer;
+#[cfg(test)]
+mod commands;
 #[cfg(test)]
 mod failing;
 #[cfg(test)]

@@ -1,5 +1,5 @@
 -- A message that is accepted or refused, and what the seat has then.
-use Rattle.std.proofs.Common.{◌≡◌, ℕ, Option, Some, None, List, [], ◌∷◌, refl, sym, ap, ◌∙◌, subst, inr, arith}
+use Rattle.std.proofs.Common.{◌≡◌, ℕ, Option, Some, None, List, [], ◌∷◌, refl, sym, ap, ◌∙◌, subst, arith}
 use Rattle.atomic_table.specs.Seated.{TableId}
 use Rattle.atomic_table.specs.declared.shared.Seat.{Seat}
 use Rattle.write_chain.specs.sock_io.specs.declared.link.Out.{Ghosts}
@@ -25,10 +25,8 @@ use Rattle.write_chain.specs.declared.entry.Started.TheVariants as started
 use Rattle.write_chain.specs.declared.entry.Refused.{Refused}
 use Rattle.write_chain.specs.declared.entry.Refused.TheVariants as refused
 use Rattle.write_chain.specs.Sending.{HasRoom, Accepted, StartedBy, RefusedBy}
-use Rattle.rpc_client.specs.declared.reaching.Reached.TheVariants.{Here}
 use Rattle.rpc_client.specs.Seats.{Idle, StaysSeen, SameRefs, OneMore}
-use Rattle.rpc_client.specs.Reaching.{ReachedBy}
-use Rattle.rpc_client.specs.Sending.{RefusedHolds, RefusedAs, sock_of, Returned, CameBack, DeliveredBy, SentBy}
+use Rattle.rpc_client.specs.Sending.{RefusedHolds, RefusedAs, sock_of, Returned, CameBack, DeliveredBy}
 use Rattle.rpc_client.proofs.Counting.{same_refs, then_more, given}
 use Rattle.rpc_client.proofs.Finding.{holds_still, seen_same, seen_then, seen_became}
 use Rattle.rpc_client.proofs.Writing.{all_refs}
@@ -101,12 +99,6 @@ module _ {O : Type 0} (state : O → OutState) (p : Plan) (sock : SockRef) (msg 
   delivered_share (Some (outcome.Gone found)) v w c = came_share (refused.Failed sock msg found) v w c
   delivered_share (Some outcome.Full) v w c = came_share (refused.Full sock msg) v w c
   delivered_share (Some _) v w c = elim c [ ]
-
-  pub sent : (n : ℕ) (o : Option Outcome) (u v w : View) → ReachedBy p n (Here sock) u v → DeliveredBy state p sock msg o v w → SentBy state p n msg o u w
-  sent n None u v w r c = record { sock = sock; has = v; reached_it = r; delivered = c }
-  sent n (Some (outcome.Gone found)) u v w r c = inr record { sock = sock; has = v; reached_it = r; delivered = c }
-  sent n (Some outcome.Full) u v w r c = record { sock = sock; has = v; reached_it = r; delivered = c }
-  sent n (Some _) u v w r c = elim c [ ]
 
 -- its own list has room where it is as it was
 pub room_still : (v w : View) → w.lists ≡ v.lists → HasRoom v → HasRoom w

@@ -1,8 +1,7 @@
-//! A client on a table of sockets that threads share: its operations, each with its outcome.
+//! The operations of a client on a table of sockets that threads share, each with its outcome.
 #![tactic(auto)]
 
 mod acting;
-mod client;
 mod failing;
 mod holding;
 mod opening;
@@ -10,13 +9,12 @@ mod reaching;
 mod running;
 mod sending;
 
-pub use acting::{Action, Client, Operation, Told};
-pub use client::{NoClient, Spent};
+pub use acting::Told;
 pub use failing::fail_one;
 pub use holding::{Held, drop_one, give_back, hold_one};
 pub use opening::{open_none, open_one};
 pub use reaching::{Reached, reach};
 pub use running::give_all;
-pub use sending::{refuse, send_one};
+pub use sending::refuse;
 pub use write_chain;
 pub use write_chain::{call_table, message_parts, sock_message, sock_open, sock_rule, sock_table};

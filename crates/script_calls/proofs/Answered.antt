@@ -9,7 +9,7 @@ use Rattle.sock_words.specs.Codes.{EEOF}
 use Rattle.corr_core.specs.declared.marks.Plan.{Plan}
 use Rattle.sock_message.specs.Asked.{Asked}
 use Rattle.rpc_client.specs.declared.acting.Told.{Told}
-use Rattle.script_threads.proofs.Telling.{told_each, none_told}
+use Rattle.script_calls.proofs.Sayings.{told_each, none_told}
 use Rattle.call_whys.specs.call_told.specs.Answers.{IsFailure, IsOwn, HasAnswer, HaveAnswers, AreAnsweredBy, at_end}
 use Rattle.call_whys.specs.call_told.proofs.Lists.{all_both, all_then, all_at}
 use Rattle.call_whys.specs.call_told.proofs.Noting.{later_then}

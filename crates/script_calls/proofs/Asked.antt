@@ -23,7 +23,7 @@ use Rattle.sock_message.specs.Asked.{Asked}
 use Rattle.rpc_client.specs.declared.acting.Told.{Told}
 use Rattle.report_fits.proofs.Lists.{some_is}
 use Rattle.report_fits.proofs.TaskLemmas.{of_tasks, numbers_at, has_task, call_asks}
-use Rattle.script_threads.proofs.Telling.{to_slice}
+use Rattle.script_calls.proofs.Sayings.{to_slice}
 use Rattle.call_whys.specs.call_client.proofs.Changes.{AsksFor}
 use Rattle.call_deeds.specs.call_run.specs.Threads.{opens_of, openings, opened_names, Thread, IsThread, AreThreads, AllRan}
 use Rattle.call_whys.specs.call_told.proofs.Lists.{all_both}

@@ -24,7 +24,7 @@ use Rattle.id_rule.specs.Lawful.{call_word}
 use Rattle.sock_message.specs.Asked.{Asked}
 use Rattle.report_fits.proofs.Lists.{all_map, all_at as all_there}
 use Rattle.rpc_client.specs.declared.acting.Told.{Told}
-use Rattle.script_threads.proofs.Telling.{to_slice}
+use Rattle.script_calls.proofs.Sayings.{to_slice}
 use Rattle.call_whys.specs.call_errors.specs.Books.{Books}
 use Rattle.call_deeds.specs.call_run.specs.Threads.{opens_of, openings, opened_names, Thread, IsThread, AreThreads, AllRan}
 use Rattle.call_whys.specs.call_told.proofs.Coming.{HasCome, run_come}

@@ -34,7 +34,7 @@ use Rattle.report_fits.proofs.Numbering.{link_at, numbered_at}
 use Rattle.report_fits.proofs.TaskLemmas.{asks_at, numbers_at, asked_at, operation_task, call_asks}
 use Rattle.report_fits.proofs.Tasks.{tasks_of_script}
 use Rattle.rpc_client.specs.declared.acting.Told.{Told}
-use Rattle.script_threads.proofs.Telling.{to_slice, from_slice, long_each, none_long}
+use Rattle.script_calls.proofs.Sayings.{to_slice, from_slice, long_each, none_long}
 use Rattle.call_deeds.specs.call_run.specs.Threads.{ids_of, RanOn}
 use Rattle.call_whys.specs.call_told.specs.Least.{HasBegun, IsEndTold}
 use Rattle.call_whys.specs.call_told.proofs.Coming.{HasCome, tells, began, sends}

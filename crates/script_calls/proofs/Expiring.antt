@@ -19,6 +19,7 @@ use Rattle.sock_programs.specs.declared.task.Op.{Op}
 use Rattle.sock_programs.specs.declared.task.Op.TheVariants as ops
 use Rattle.sock_programs.specs.declared.task.Task.{Task}
 use Rattle.sock_programs.specs.Scripts.{all_tasks}
+use Rattle.sock_programs.specs.ToldCalls.{Fixed, Order}
 use Rattle.sock_programs.specs.Tasks.{Numbered, numbered, op_of, asked_of, plan_of, calls}
 use Rattle.report_fits.proofs.Lists.{Has, some_is}
 use Rattle.report_fits.proofs.Numbering.{are_from}
@@ -79,9 +80,9 @@ module _ {O I P : Type 0} (g : Ghosts O) (out : O → OutState) (inn : I → InS
   of_calls = subst (λ (l : List (List Task)). AreOfCalls l outcomes) (sym left.tasks) (script_calls bytes script reads outcomes)
 
   -- why each `expire` has its outcome, and each call versions of its own
-  pub calls_told : AreCallsTold (all_tasks script) outcomes
-  calls_told = subst (λ (l : List (List Task)). AreCallsTold l outcomes) left.tasks record {
-    expires = expire_why left.ran (are g out inn bytes script reads told ended places seats left ends ends' last read) (may g out inn bytes script reads told ended places seats left ends ends' last read) read.last.view.notes read.last.view.kept read.words read.closing (have g out inn bytes script reads told ended places seats left ends ends' last read) keeps outcomes (said g out inn bytes script reads told ended places seats left ends ends' last read) (said_ended g out inn bytes script reads told ended places seats left ends ends' last read) (begun_not g out inn bytes script reads told ended places seats left ends ends' last read) of_calls;
+  pub calls_told : (fixed : Fixed) (gave : ℕ → List ℕ) (orders : ℕ → Order) → AreCallsTold p (all_tasks script) outcomes fixed gave orders
+  calls_told fixed gave orders = subst (λ (l : List (List Task)). AreCallsTold p l outcomes fixed gave orders) left.tasks record {
+    expires = expire_why left.ran (are g out inn bytes script reads told ended places seats left ends ends' last read) (may g out inn bytes script reads told ended places seats left ends ends' last read) read.last.view.notes read.last.view.kept read.words read.closing (have g out inn bytes script reads told ended places seats left ends ends' last read) keeps outcomes (said g out inn bytes script reads told ended places seats left ends ends' last read) (said_ended g out inn bytes script reads told ended places seats left ends ends' last read) (begun_not g out inn bytes script reads told ended places seats left ends ends' last read) fixed gave orders of_calls;
     expired_once = once left.ran (are g out inn bytes script reads told ended places seats left ends ends' last read) (may g out inn bytes script reads told ended places seats left ends ends' last read) read.last.view.notes read.last.view.kept read.words read.closing (have g out inn bytes script reads told ended places seats left ends ends' last read) keeps outcomes (said g out inn bytes script reads told ended places seats left ends ends' last read) (said_ended g out inn bytes script reads told ended places seats left ends ends' last read) (begun_not g out inn bytes script reads told ended places seats left ends ends' last read);
     versions = calls_apart g out inn bytes script reads told ended places seats left ends ends' last read;
   }

@@ -23,7 +23,7 @@ use Rattle.sock_programs.specs.declared.task.Task.{Task}
 use Rattle.sock_programs.specs.Tasks.{plan_of, calls}
 use Rattle.report_fits.proofs.Lists.{contains_from, all_at as all_there}
 use Rattle.rpc_client.specs.declared.acting.Told.{Told}
-use Rattle.script_threads.proofs.Telling.{to_slice}
+use Rattle.script_calls.proofs.Sayings.{to_slice}
 use Rattle.call_deeds.specs.call_run.specs.Threads.{opens_of, opened_names, openings, ids_of, Thread, IsThread, AreThreads}
 use Rattle.call_whys.specs.call_told.proofs.Lists.{all_at}
 use Rattle.call_whys.specs.call_told.proofs.Making.{AllMade, made_fits}

@@ -1,4 +1,7 @@
 pub mod Numbers
+pub mod Sayings
+pub mod Parting
+pub mod Links
 pub mod MayCall
 pub mod Resting
 pub mod Clients
@@ -6,7 +9,6 @@ pub mod Asked
 pub mod Answered
 pub mod Shown
 pub mod Reports
-pub mod Joinless
 pub mod Said
 pub mod Began
 pub mod Each

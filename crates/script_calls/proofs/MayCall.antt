@@ -13,13 +13,14 @@ use Rattle.sock_programs.specs.Scripts.{all_tasks}
 use Rattle.sock_programs.specs.Tasks.{numbered, plan_of}
 use Rattle.sock_programs.specs.Told.{AreTasks, OpFits, TaskFits}
 use Rattle.report_fits.proofs.Lists.{all_from}
+use Rattle.report_fits.proofs.Sizes.{keeps_limits}
 use Rattle.report_fits.proofs.TaskLemmas.{IsTaskOf, numbers_at, of_tasks, has_task, call_asks, tasks_length}
 use Rattle.report_fits.proofs.Tasks.{tasks_of_script}
-use Rattle.script_threads.specs.table_told.specs.Threads.{link_of, links_of}
-use Rattle.script_threads.proofs.Linked.{links_in, all_links}
+use Rattle.call_whys.specs.sock_open.specs.Opening.{MayBegin}
 use Rattle.call_whys.specs.call_client.specs.Acting.{Needs}
 use Rattle.call_whys.specs.call_client.specs.Running.{left_by, MayMakeAll}
 use Rattle.call_deeds.specs.call_run.specs.Threads.{opens_in, opens_of, opens_of_each, ids_of, MayRun, AllMayRun, MayRunAll}
+use Rattle.script_calls.proofs.Links.{link_of, links_of, links_in, all_links}
 
 -- ## The numbers of calls
 
@@ -101,3 +102,13 @@ module _ (bytes : List ℕ) (script : List Item) (reads : script_of bytes ≡ Ok
   script_may slots setup clients are =
       first_may (plan_of script) slots setup clients (subst (AreTasks (plan_of script)) (sym are) (tasks_of_script bytes script reads))
       (subst (AllByRecursion (AllByRecursion IsOwnTask)) (sym are) (all_own script)) (ap length are ∙ tasks_length script 0 _) (ap links_in are ∙ all_links script)
+
+  pub script_begins : MayBegin (plan_of script)
+  script_begins = let k = keeps_limits bytes script reads in record {
+    some_slots = (let a = k.some_slots in omega arith);
+    some_seats = omega arith;
+    few_seats = (let a = k.clients in omega arith);
+    few_links = (let a = k.links in omega arith);
+    even = k.even;
+    low = k.first;
+  }

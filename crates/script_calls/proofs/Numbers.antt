@@ -1,5 +1,5 @@
 -- The numbers of the operations of one sort are below that of operations, and no more than they are.
-use Rattle.std.proofs.Common.{◌≡◌, ℕ, suc, ◌+◌, ◌<◌, ◌≤◌, Bool, true, false, List, [], ◌∷◌, length, filter_map, Option, Some, None, Ok, refl, sym, subst, ap, arith, cond}
+use Rattle.std.proofs.Common.{◌≡◌, ℕ, suc, ◌+◌, ◌<◌, ◌≤◌, Bool, true, false, List, [], ◌∷◌, ◌++◌, length, take, drop, get_or, filter_map, Option, Some, None, Ok, refl, sym, subst, ap, arith, cond}
 use Rattle.std.specs.Prelude.{unwrap_or}
 use Rattle.std.specs.List.{All, AllByRecursion, cons_option}
 use Rattle.std.proofs.lemmas.List.Elements.{All-from_recursion}
@@ -64,3 +64,8 @@ module _ (bytes : List ℕ) (script : List Item) (reads : script_of bytes ≡ Ok
 
   pub few_calls : (slots : ℕ) → slots ≡ length (calls script) → slots ≤ 4096
   few_calls slots many = let k = keeps_limits bytes script reads in let n = k.operations in omega (arith, n, many, few_of is_call 0 0 (operations script))
+
+-- the first of a list and the others
+pub front_of : {A : Type 0} (xs rest : List A) (x : A) → 0 < length xs → x ≡ get_or xs 0 x → rest ≡ take 0 xs ++ drop (0 + 1) xs → xs ≡ x ∷ rest
+front_of [] rest x some_ at is = absurd (omega arith)
+front_of (y ∷ ys) rest x some_ at is = (λ i. sym at i ∷ sym is i)

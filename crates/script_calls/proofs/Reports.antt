@@ -3,7 +3,7 @@ use Rattle.std.proofs.Common.{◌≡◌, ℕ, zero, suc, ◌+◌, List, [], ◌�
 use Rattle.std.specs.List.{AllByRecursion, flat_map}
 use Rattle.sock_io.specs.declared.link.Out.{Ghosts}
 use Rattle.sock_io.specs.declared.link.Ends.{Ends}
-use Rattle.sock_io.specs.Link.{OutState, InState, end_of}
+use Rattle.sock_io.specs.Link.{OutState, InState}
 use Rattle.sock_words.specs.declared.plain.Plan.{Plan}
 use Rattle.sock_words.specs.declared.place_word.PlaceWord.{PlaceWord}
 use Rattle.sock_words.specs.declared.vref.Vref.{Vref}
@@ -19,11 +19,12 @@ use Rattle.sock_programs.specs.Scripts.{all_tasks}
 use Rattle.sock_programs.specs.Tasks.{plan_of, opens, calls}
 use Rattle.corr_core.specs.declared.marks.Plan as id_plan
 use Rattle.rpc_client.specs.declared.acting.Told.{Told}
+use Rattle.call_deeds.specs.sock_deeds.specs.Told.{fixed_by}
 use Rattle.script_links.specs.Given.{AreUntouched, AreNumbered}
-use Rattle.script_threads.specs.declared.halves.Rest.{Rest}
-use Rattle.script_threads.specs.Halves.{AreTaken, rest_of, joined}
-use Rattle.script_threads.proofs.Backs.{IsSilent, are_silent}
-use Rattle.script_threads.proofs.Telling.{long_each}
+use Rattle.script_calls.specs.declared.halves.Rest.{Rest}
+use Rattle.script_calls.specs.Halves.{AreTaken, rest_of, joined}
+use Rattle.script_calls.proofs.Parting.{end_at, IsSilent, are_silent}
+use Rattle.script_calls.proofs.Sayings.{long_each}
 use Rattle.call_deeds.specs.call_run.specs.Threads.{ids_of, RanOn}
 use Rattle.call_whys.specs.call_told.specs.Answers.{IsFailure, IsOwn, AreAnsweredBy}
 use Rattle.call_whys.specs.call_told.proofs.Balance.{AreBalanced}
@@ -50,29 +51,26 @@ AreNumberedOuts n [] = Unit {0}
 AreNumberedOuts n (s ∷ ss) = (s.link ≡ n) × AreNumberedOuts (n + 1) ss
 
 module _ {O I P : Type 0} (out : O → OutState) (inn : I → InState) where
-  abbrev pub end_at : Ends O I P → LinkEnd
-  end_at e = end_of (out e.out) (inn e.inn)
-
   abbrev pub out_at : Ends O I P → OutState
   out_at e = out e.out
 
   -- what is said of the writing halves is said of the links
-  pub told_of : (ends : List (Ends O I P)) (took : List (List ℕ)) → AreTaken out_at ends took → AreTold (map end_at ends) took
-  told_of ends took h k e at = let w = at_map end_at ends k e at in subst (λ (l : LinkEnd). IfSome l.took (λ bytes. took_at took k ≡ bytes)) w.2 (h k w.0 w.1)
+  pub told_of : (ends : List (Ends O I P)) (took : List (List ℕ)) → AreTaken out_at ends took → AreTold (map (end_at out inn) ends) took
+  told_of ends took h k e at = let w = at_map (end_at out inn) ends k e at in subst (λ (l : LinkEnd). IfSome l.took (λ bytes. took_at took k ≡ bytes)) w.2 (h k w.0 w.1)
 
   -- ## Links with the same writing halves have the same numbers
 
-  numbered_outs : (n : ℕ) (ends : List (Ends O I P)) → AreNumbered n (map end_at ends) → AreNumberedOuts n (map out_at ends)
+  numbered_outs : (n : ℕ) (ends : List (Ends O I P)) → AreNumbered n (map (end_at out inn) ends) → AreNumberedOuts n (map out_at ends)
   unfolding AreNumberedOuts
   numbered_outs n [] h = tt
   numbered_outs n (e ∷ es) h = (h.0, numbered_outs (n + 1) es h.1)
 
-  outs_numbered : (n : ℕ) (ends : List (Ends O I P)) → AreNumberedOuts n (map out_at ends) → AreNumbered n (map end_at ends)
+  outs_numbered : (n : ℕ) (ends : List (Ends O I P)) → AreNumberedOuts n (map out_at ends) → AreNumbered n (map (end_at out inn) ends)
   unfolding AreNumberedOuts
   outs_numbered n [] h = tt
   outs_numbered n (e ∷ es) h = (h.0, outs_numbered (n + 1) es h.1)
 
-  pub numbered_still : (ends ends' : List (Ends O I P)) → map out_at ends' ≡ map out_at ends → AreNumbered 0 (map end_at ends) → AreNumbered 0 (map end_at ends')
+  pub numbered_still : (ends ends' : List (Ends O I P)) → map out_at ends' ≡ map out_at ends → AreNumbered 0 (map (end_at out inn) ends) → AreNumbered 0 (map (end_at out inn) ends')
   numbered_still ends ends' same h = outs_numbered 0 ends' (subst (AreNumberedOuts 0) (sym same) (numbered_outs 0 ends h))
 
   -- ## The halves that are put together
@@ -88,7 +86,7 @@ module _ {O I P : Type 0} (out : O → OutState) (inn : I → InState) where
   joined_silent (o ∷ os) [] silent = tt
   joined_silent (o ∷ os) (r ∷ rs) silent = (silent.0, joined_silent os rs silent.1)
 
-  pub back_silent : (ends back : List (Ends O I P)) (outs : List O) (rests : List (Rest I P)) → AreUntouched 0 (map end_at ends) → rests ≡ map rest_of ends → back ≡ joined outs rests → AllByRecursion (HasGivenNone inn) back
+  pub back_silent : (ends back : List (Ends O I P)) (outs : List O) (rests : List (Rest I P)) → AreUntouched 0 (map (end_at out inn) ends) → rests ≡ map rest_of ends → back ≡ joined outs rests → AllByRecursion (HasGivenNone inn) back
   back_silent ends back outs rests untouched are is = subst (AllByRecursion (HasGivenNone inn)) (sym is) (joined_silent outs rests (subst (AllByRecursion (IsSilent out inn)) (sym are) (are_silent out inn 0 ends untouched)))
 
 module _ {O : Type 0} (g : Ghosts O) (out : O → OutState) (script : List Item) where
@@ -143,7 +141,7 @@ module _ (P : Type 0) {O I : Type 0} (out : O → OutState) (inn : I → InState
           reported = r.reported;
           answered = answered;
           sockets = sockets;
-          on_calls = calls_told g out inn bytes script reads r.told r.ended r.places r.ids (left_of r) r.ends r.ends' r.last r.read;
+          on_calls = calls_told g out inn bytes script reads r.told r.ended r.places r.ids (left_of r) r.ends r.ends' r.last r.read (fixed_by sockets.broken sockets.fails) answered.gave sockets.orders;
           once = run_shown out inn (ids_of (plan_of script) (length (calls script))) (calls script) (plan_of script).operations r.told r.ended r.last r.ids r.ends r.ends' (own_told r) (balanced_told r) r.read;
           whole = whole_if bytes script reads text (outcomes_of (plan_of script).operations r.told r.ended r.last) r.places answered.gave links long r.reported sockets;
           attempts = attempts_of g out inn bytes script reads r.told r.ended r.places r.ids (left_of r) r.ends r.ends' r.last r.read r.halves r.kept answered.gave links r.given_back answered.givers;

@@ -3,13 +3,13 @@ use Rattle.std.proofs.Common.{◌≡◌, ℕ, ◌≤◌, false, List, [], ◌∷
 use Rattle.atomic_table.specs.Seated.{TableId}
 use Rattle.corr_core.specs.Law.{total}
 use Rattle.corr_id.specs.Closed.{AllOf}
-use Rattle.corr_id.proofs.Joins.{Joined}
+use Rattle.corr_id.specs.Seats.{IsFree}
 use Rattle.call_whys.specs.rpc_reader.specs.Seats.{IsOpen, Rests}
 use Rattle.call_whys.specs.rpc_reader.specs.Books.{books}
 use Rattle.call_whys.specs.rpc_reader.specs.declared.books.AnswerSeat.{AnswerSeat}
 use Rattle.call_whys.specs.rpc_reader.proofs.Locks.{open_still, rests_then}
 use Rattle.call_deeds.specs.call_run.specs.Crew.{AreLeft}
-use Rattle.script_calls.specs.Reading.{IdSeat, begins, TookAll}
+use Rattle.script_calls.specs.Reading.{IdSeat, begins}
 
 abbrev pub share_of : IdSeat → ℕ
 share_of s = s.me.0.share
@@ -19,25 +19,10 @@ pub all_of : (z : TableId) (seats : List IdSeat) → AreLeft z seats → AllOf z
 all_of z [] h = tt
 all_of z (s ∷ ss) h = ((h.0.0.sits.0, h.0.1, h.0.0.free), all_of z ss h.1)
 
--- a table with a seat has one
-pub some_seat : (seats : List IdSeat) → 1 ≤ total share_of seats → (seats ≡ []) → ⊥
-some_seat seats some_ none_ = let e = ap (total share_of) none_ in omega arith
-
 -- ## The one that took in all
 
-module _ (z : TableId) (all : List IdSeat) (s : IdSeat) (j : Joined z all [] s) where
-  pub joined_share : s.me.0.share ≡ total share_of all
-  joined_share = let a = j.share in omega arith
-
-  pub joined_open : 1 ≤ total share_of all → IsOpen z s
-  joined_open some_ = record { sits = (j.seat_ok.0, (let a = joined_share in omega arith)); free = j.seat_ok.2 }
-
-  pub took_all : TookAll all s
-  took_all = record { notes = j.notes; kept = j.kept }
-
--- where none is left to be taken in
-pub joined_last : (z : TableId) (all rest : List IdSeat) (s : IdSeat) → rest ≡ [] → Joined z all rest s → Joined z all [] s
-joined_last z all rest s none_ j = subst (λ (l : List IdSeat). Joined z all l s) none_ j
+pub joined_open : (z : TableId) (all : List IdSeat) (s : IdSeat) → (s.table_id ≡ z) × (s.me.1 ≡ []) × IsFree s.me.0 → s.me.0.share ≡ total share_of all → 1 ≤ total share_of all → IsOpen z s
+joined_open z all s is share some_ = record { sits = (is.0, omega (arith, share, some_)); free = is.2 }
 
 -- ## What main read
 

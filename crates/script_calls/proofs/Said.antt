@@ -4,8 +4,8 @@ use mathlib.Core.Option.{some, some-injective, some-ne-none}
 use lib.ListN.{get_elem?}
 use Rattle.sock_words.specs.declared.outcome.Outcome.{Outcome}
 use Rattle.rpc_client.specs.declared.acting.Told.{Told}
-use Rattle.script_threads.specs.Saying.{said_by, said_by_each}
-use Rattle.script_threads.proofs.Telling.{none_long}
+use Rattle.script_calls.specs.Saying.{said_by, said_by_each}
+use Rattle.script_calls.proofs.Sayings.{none_long}
 use Rattle.script_calls.specs.Told.{outcomes_of}
 
 -- something is said of this operation

@@ -11,7 +11,7 @@ use Rattle.corr_core.specs.declared.marks.Plan.{Plan}
 use Rattle.corr_core.specs.declared.marks.View.{View}
 use Rattle.sock_message.specs.Asked.{Asked}
 use Rattle.rpc_client.specs.declared.acting.Told.{Told}
-use Rattle.script_threads.specs.Saying.{said_by, said_by_each}
+use Rattle.script_calls.specs.Saying.{said_by, said_by_each}
 use Rattle.call_whys.specs.call_told.specs.Answers.{IsOwn}
 use Rattle.call_whys.specs.call_told.specs.Once.{told_ends, ToldOnce, shows, ShownOnce}
 use Rattle.call_whys.specs.call_told.proofs.Balance.{AreBalanced}

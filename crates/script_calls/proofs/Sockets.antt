@@ -12,6 +12,7 @@ use Rattle.sock_io.specs.Link.{OutState, InState, end_of}
 use Rattle.sock_words.specs.declared.outcome.Outcome.{Outcome}
 use Rattle.sock_words.specs.declared.plain.Plan.{Plan}
 use Rattle.sock_words.specs.declared.place_word.PlaceWord.{PlaceWord}
+use Rattle.corr_core.specs.declared.marks.Plan.{Plan as IdPlan}
 use Rattle.brpc_model.specs.Items.{Item}
 use Rattle.brpc_model.specs.Link.{LinkEnd}
 use Rattle.brpc_model.specs.Script.{script_of}
@@ -21,22 +22,21 @@ use Rattle.call_whys.specs.sock_rule.specs.Closing.{PlacesDiffer}
 use Rattle.sock_programs.specs.declared.task.Task.{Task}
 use Rattle.sock_programs.specs.Cores.{Core}
 use Rattle.sock_programs.specs.Runs.{from_to}
-use Rattle.sock_programs.specs.Scripts.{place_words}
+use Rattle.sock_programs.specs.Scripts.{opening_calls, place_words}
 use Rattle.sock_programs.specs.Tasks.{plan_of, calls}
 use Rattle.sock_programs.specs.ToldCalls.{Accepted, Fixed, StandsAt}
 use Rattle.report_fits.specs.Ends.{IsEndOf}
 use Rattle.report_fits.proofs.Flat.{at_map}
 use Rattle.report_fits.proofs.Lists.{has_from, has_none}
 use Rattle.rpc_client.specs.declared.acting.Told.{Told}
-use Rattle.script_threads.specs.table_told.specs.Left.{core_of}
-use Rattle.script_threads.proofs.Telling.{long_each, none_long, from_slice}
+use Rattle.script_calls.proofs.Sayings.{long_each, none_long, from_slice}
 use Rattle.call_deeds.specs.call_run.specs.Threads.{ids_of}
 use Rattle.call_whys.specs.call_told.specs.Answers.{IsGiver}
 use Rattle.call_whys.specs.call_places.proofs.Places.{log_differs}
 use Rattle.call_deeds.specs.Scripts.{AllHaveLinks}
 use Rattle.call_deeds.proofs.Runs.{deed_run}
 use Rattle.call_deeds.proofs.Whole.{told_of_run}
-use Rattle.call_deeds.specs.sock_deeds.specs.Left.{accepted_of}
+use Rattle.call_deeds.specs.sock_deeds.specs.Left.{accepted_of, homes_of}
 use Rattle.call_deeds.specs.sock_deeds.specs.Runs.{DeedRun}
 use Rattle.call_deeds.specs.sock_deeds.specs.Told.{fixed_by, ToldSockets}
 use Rattle.call_deeds.specs.sock_deeds.proofs.Breaking.{broken_noted}
@@ -48,6 +48,15 @@ use Rattle.script_calls.proofs.Later.{setup_later, others_later}
 use Rattle.script_calls.proofs.Linked.{script_linked}
 use Rattle.script_calls.proofs.Placed.{mapped_at, are, may, have, laws, low}
 use Rattle.script_calls.proofs.Telling.{reports}
+
+-- ## What is left, as a core
+
+abbrev no_ids : IdPlan
+no_ids = record { slots = 0; operations = 0; seats = 0 }
+
+-- no seat has anything to do, and there are no calls
+abbrev core_of : Plan → List ℕ → (ℕ → List ℕ) → List (Option Outcome) → Core
+core_of p words took outcomes = record { words = words; homes = homes_of p took; seats = []; outcomes = outcomes; calls = opening_calls no_ids p.links }
 
 -- ## Place words
 

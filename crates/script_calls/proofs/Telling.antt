@@ -36,7 +36,7 @@ use Rattle.call_whys.specs.sock_causes.proofs.Tasks.{sorted_of}
 use Rattle.report_fits.proofs.Lists.{some_is, contains_from, within, all_map, all_at as all_there}
 use Rattle.report_fits.proofs.TaskLemmas.{IsTaskOf, task_is, asks_at, asked_at, operation_task}
 use Rattle.rpc_client.specs.declared.acting.Told.{Told}
-use Rattle.script_threads.proofs.Telling.{to_slice, long_each, told_each, none_long, none_told}
+use Rattle.script_calls.proofs.Sayings.{to_slice, long_each, told_each, none_long, none_told}
 use Rattle.call_whys.specs.rpc_reader.specs.Books.{id_of}
 use Rattle.call_whys.specs.call_client.specs.Running.{MayMakeAll}
 use Rattle.call_deeds.specs.call_run.specs.Threads.{ids_of, opens_of, Thread, AllMayRun}

@@ -28,7 +28,7 @@ use Rattle.sock_programs.specs.Tasks.{plan_of, calls}
 use Rattle.sock_programs.specs.Told.{TaskFits, OpFits, IsTask, Became}
 use Rattle.report_fits.proofs.Lists.{has_from, contains_from, all_at as all_there}
 use Rattle.rpc_client.specs.declared.acting.Told.{Told}
-use Rattle.script_threads.proofs.Telling.{to_slice, told_each, none_told}
+use Rattle.script_calls.proofs.Sayings.{to_slice, told_each, none_told}
 use Rattle.call_whys.specs.call_client.proofs.Changes.{AsksFor}
 use Rattle.call_deeds.specs.call_run.specs.Threads.{ids_of}
 use Rattle.call_whys.specs.call_told.specs.Answers.{ends_call, IsOwn}

@@ -4,7 +4,7 @@ use Rattle.std.specs.List.{list_all}
 use Rattle.brpc_model.specs.Items.{Item, Join}
 use Rattle.sock_io.specs.declared.link.Mode.{Mode}
 use Rattle.sock_io.specs.declared.link.Mode.TheVariants.{Loop, Ring, Tcp}
-use Rattle.script_threads.specs.Built.{is_built}
+use Rattle.sock_programs.specs.Scripts.{is_callless}
 
 -- the line doesn't wait for a call
 abbrev pub is_awake : Item → Bool
@@ -18,4 +18,4 @@ is_joinless script = list_all is_awake script
 abbrev pub is_runnable : Mode → List Item → Bool
 is_runnable Loop script = is_joinless script
 is_runnable Ring script = is_joinless script
-is_runnable (Tcp port) script = is_built (Tcp port) script
+is_runnable (Tcp port) script = is_callless script

@@ -1,5 +1,6 @@
 pub mod Built
+pub mod Halves
+pub mod Saying
 pub mod Ready
 pub mod Reading
 pub mod Told
-pub use Rattle.script_threads

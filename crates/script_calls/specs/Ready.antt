@@ -3,7 +3,7 @@ use Rattle.std.specs.Prelude.{◌≡◌, ℕ, List, ◌∷◌, map, length}
 use Rattle.brpc_model.specs.Items.{Item}
 use Rattle.sock_programs.specs.Scripts.{all_tasks}
 use Rattle.sock_programs.specs.Tasks.{plan_of, opens, calls}
-use Rattle.script_threads.specs.Halves.{HasRoomFor}
+use Rattle.script_calls.specs.Halves.{HasRoomFor}
 use Rattle.script_calls.specs.declared.asking.Ready.{Ready}
 
 -- the operations of all clients of the script, the setup's first, the numbers of its `open`s and calls, and room for the halves of so many links

@@ -1,6 +1,7 @@
 -- What is reported of a script with calls that was run on threads.
 use Rattle.std.specs.Prelude.{ℕ, ◌≡◌, true, ◌≢◌, ◌⊎◌, ◌+◌, ◌≤◌, List, [], ◌∷◌, ◌++◌, map, length, replicate, Option, Some, None, IfSome}
 use Rattle.std.specs.List.{AllByRecursion}
+use Rattle.sock_words.specs.declared.plain.Plan.{Plan}
 use Rattle.sock_words.specs.declared.outcome.Outcome.{Outcome}
 use Rattle.sock_words.specs.declared.outcome.Outcome.TheVariants.{Expired}
 use Rattle.sock_words.specs.declared.place_word.PlaceWord.{PlaceWord}
@@ -21,13 +22,13 @@ use Rattle.sock_programs.specs.Cores.{Core}
 use Rattle.sock_programs.specs.Scripts.{all_tasks, place_words, is_callless}
 use Rattle.sock_programs.specs.Tasks.{plan_of, opens, calls}
 use Rattle.sock_programs.specs.Told.{IsTask, Became}
-use Rattle.sock_programs.specs.ToldCalls.{Order}
+use Rattle.sock_programs.specs.ToldCalls.{Fixed, Order}
 use Rattle.attempts_told.specs.Attempts.{AreAttemptsTold}
 use Rattle.expire_told.specs.Said.{WhyExpired}
 use Rattle.call_deeds.specs.sock_deeds.specs.Told.{fixed_by, ToldSockets}
 use Rattle.rpc_client.specs.declared.acting.Told.{Told}
 use Rattle.callless_fits.specs.Whole.{IsWholeText, gave_none, unread}
-use Rattle.script_threads.specs.Saying.{said_by_each}
+use Rattle.script_calls.specs.Saying.{said_by_each}
 use Rattle.call_deeds.specs.call_run.specs.Threads.{ids_of, RanOn}
 use Rattle.call_whys.specs.call_told.specs.Answers.{AreAnsweredBy}
 use Rattle.call_whys.specs.call_told.specs.Once.{ShownOnce}
@@ -63,8 +64,8 @@ pub record AreSocketsTold (script : List Item) (outcomes : List (Option Outcome)
   pub ends_told : AreEndsOf script core (fixed_by broken fails) gave ends
 
 -- Why each `expire` of these clients has its outcome, by what became of all others, and none ended a call twice; and each call has versions of its own
-pub record AreCallsTold (clients : List (List Task)) (outcomes : List (Option Outcome)) : Type 0 where
-  pub expires : (client of : ℕ) (t : Task) (by : Outcome) → IsTask clients outcomes client t → t.op ≡ ops.Expire of → Became clients outcomes t.number by → WhyExpired clients outcomes client t.number of by
+pub record AreCallsTold (p : Plan) (clients : List (List Task)) (outcomes : List (Option Outcome)) (fixed : Fixed) (gave : ℕ → List ℕ) (orders : ℕ → Order) : Type 0 where
+  pub expires : (client of : ℕ) (t : Task) (by : Outcome) → IsTask clients outcomes client t → t.op ≡ ops.Expire of → Became clients outcomes t.number by → WhyExpired p clients outcomes fixed gave orders client t.number of by
   pub expired_once : (c d of : ℕ) (t u : Task) → IsTask clients outcomes c t → IsTask clients outcomes d u → t.op ≡ ops.Expire of → u.op ≡ ops.Expire of → Became clients outcomes t.number Expired → Became clients outcomes u.number Expired → t.number ≡ u.number
   -- no two calls have a version in common
   pub versions : (c d : ℕ) (t u : Task) (a b : Asked) (x y : Outcome) (i j : ℕ) → IsTask clients outcomes c t → IsTask clients outcomes d u → t.op ≡ ops.Call a → u.op ≡ ops.Call b → Became clients outcomes t.number x → Became clients outcomes u.number y
@@ -80,7 +81,7 @@ pub record IsCallText (script : List Item) (text : List ℕ) (ends : List LinkEn
   pub answered : AreAnsweredBy (operations script) outcomes ends
   -- each operation on sockets has its cause, and so has each `expire`; and the links took what the clients sent
   pub sockets : AreSocketsTold script outcomes places answered.gave ends
-  pub on_calls : AreCallsTold (all_tasks script) outcomes
+  pub on_calls : AreCallsTold (plan_of script) (all_tasks script) outcomes (fixed_by sockets.broken sockets.fails) answered.gave sockets.orders
   -- no two operations have the end of one call as their outcome, of those whose ids are in the slots that the calls of the script have
   pub once : ShownOnce (length (calls script)) outcomes
   -- without calls the report fits, with nothing late, whatever the links gave: over the links as they are, and as if nobody had read them; so where no put

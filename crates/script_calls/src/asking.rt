@@ -5,9 +5,9 @@ ghost use Rattle.sock_programs.specs.Scripts.{all_tasks};
 ghost use Rattle.sock_programs.specs.Tasks.{opens, calls};
 ghost use Rattle.script_calls.specs.Ready.{IsReady};
 
+use crate::halves::{Halves, room_for};
 use script_items::Script;
 use script_tasks::{BlockPool, NoMemory, calls_of, id_plan_of, opens_of, plan_of, tasks_of};
-use script_threads::{Halves, room_for};
 use sock_io::{In, Out, Peer};
 use sock_programs::Task;
 use sock_words::Plan;

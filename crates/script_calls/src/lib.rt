@@ -4,10 +4,11 @@
 
 mod asking;
 mod built;
+mod halves;
 mod reading;
 mod reporting;
 mod run;
+mod saying;
 
 pub use built::is_runnable;
 pub use run::run_calls_on_threads;
-pub use script_threads;

@@ -1,5 +1,5 @@
 // What is read once all clients of a run have ended, and how the table of ids ends.
-ghost use Rattle.std.specs.Prelude.{◌≡◌, ◌<◌, ◌≤◌, ℕ, [], All, IfOk, length, map, slice_index};
+ghost use Rattle.std.specs.Prelude.{◌≡◌, ◌<◌, ◌≤◌, ℕ, [], All, IfOk, length, map};
 ghost use Rattle.corr_core.specs.Law.{total};
 ghost use Rattle.call_whys.specs.rpc_reader.specs.Seats.{IsOpen};
 ghost use Rattle.call_deeds.specs.call_run.specs.Crew.{AreLeft};
@@ -11,12 +11,12 @@ use rpc_client::Told;
 use script_tasks::NoMemory;
 use sock_io::{Ends, In, Linker, Out, Peer};
 use sock_message::Call;
-use sock_words::{EEOF, IdWord};
+use sock_words::EEOF;
 use std::alloc::Global;
 use std::sync::Wait;
 
 /// One seat that has what all of these noted, in their order.
-fn join_all(ids: &IdTable<Call>, mut seats: Vec<IdSeat<Call>>) -> IdSeat<Call>
+fn join_all(ids: &IdTable<Call>, seats: Vec<IdSeat<Call>>) -> IdSeat<Call>
     requires seats { AreLeft ids.now.table.shared.table_id seats.items }
     requires words { 0 < ids.now.table.shared.table_id.words }
     requires some { 1 ≤ total (λ s. s.me.0.share) seats.items }
@@ -25,25 +25,7 @@ fn join_all(ids: &IdTable<Call>, mut seats: Vec<IdSeat<Call>>) -> IdSeat<Call>
     ensures share { result.me.0.share ≡ total (λ s. s.me.0.share) seats.items }
     ensures took { TookAll seats.items result }
 {
-    let Some(mut seat) = seats.pop() else {
-        unreachable!();
-    };
-    'joins: while let Some(mut earlier) = seats.pop() {
-        ids.take_in(&mut earlier, seat);
-        seat = earlier;
-    }
-    seat
-}
-
-/// Each of these words is one of 64 bits: reading it shows that.
-fn see_words(words: &Vec<IdWord>)
-    ensures { (i : ℕ) → slice_index (map (λ w. w.0) words.now.items) i < 18446744073709551616 }
-{
-    let mut i = 0;
-    while i < words.len() {
-        let _word = words[i].word();
-        i += 1;
-    }
+    ids.join_seats(seats)
 }
 
 /// One of these seats takes in the others. All links are read to their ends with it, in order; then each of these calls that hasn't
@@ -82,10 +64,9 @@ pub fn read_rest<L: Linker, R: Wait>(
         alloc: _,
     } = calls;
     done.push_reserved(seat);
-    let Ok(words) = ids.close(alloc, done) else {
+    let Ok(_words) = ids.close(alloc, done) else {
         return Err(NoMemory);
     };
-    see_words(&words);
     if read.is_err() || starved {
         return Err(NoMemory);
     }

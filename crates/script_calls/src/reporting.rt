@@ -3,14 +3,14 @@ ghost use Rattle.std.specs.Prelude.{◌≡◌, IfOk, IfSome, map};
 ghost use Rattle.brpc_model.specs.PlaceWords.{ArePlaces, HasEachOutcome};
 ghost use Rattle.sock_io.specs.declared.link.Ends.{Ends};
 ghost use Rattle.sock_io.specs.Link.{end_of};
-ghost use Rattle.script_threads.specs.Halves.{AreTaken};
+ghost use Rattle.script_calls.specs.Halves.{AreTaken};
 ghost use Rattle.script_calls.specs.Told.{IsReported, outcomes_of};
 
+use crate::saying::said_of;
 use rpc_client::Told;
 use script_items::Script;
 use script_report::print_report;
 use script_tasks::NoMemory;
-use script_threads::said_of;
 use sock_io::{Ends, In, Out, Peer};
 use sock_words::{Outcome, PlaceWord};
 use std::alloc::{AllocError, Global};

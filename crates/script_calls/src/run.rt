@@ -15,6 +15,7 @@ ghost use Rattle.script_calls.specs.Reading.{HasRead};
 ghost use Rattle.script_calls.specs.Told.{IsCallText, IsCallRun, IsLeft, IsReported, outcomes_of};
 
 use crate::asking::{Ready, prepare};
+use crate::halves::{Halves, join, part};
 use crate::reading::read_rest;
 use crate::reporting::{outcomes_of, report};
 use call_deeds::call_run::{NoRun, Ran, run_on};
@@ -23,7 +24,6 @@ use rpc_client::Told;
 use script_items::Script;
 use script_links::{give_back, open_links};
 use script_tasks::NoMemory;
-use script_threads::{Halves, join, part};
 use sock_io::{Ends, Gate, Linker, Mode, OpenFault};
 use sock_message::Call;
 use sock_words::PlaceWord;

@@ -28,18 +28,18 @@ use Rattle.sock_deeds.specs.Deeds.{Hand, SentOver, MessageBy, Did, opens, sends,
 use Rattle.sock_deeds.specs.Runs.{Seated}
 use Rattle.sock_deeds.proofs.Acts.{final_of}
 
-reached_lists : (p : Plan) (n : ℕ) (r : Reached) (v w : View) → ReachedBy p n r v w → w.lists ≡ v.lists
+pub reached_lists : (p : Plan) (n : ℕ) (r : Reached) (v w : View) → ReachedBy p n r v w → w.lists ≡ v.lists
 reached_lists p n reached.Unopened v w r = ap (λ (y : View). y.lists) r.0
 reached_lists p n (reached.Gone found) v w r = ap (λ (y : View). y.lists) r.3.became.others ∙ ap (λ (y : View). y.lists) r.2.1.view
 reached_lists p n (reached.Here sock) v w r = ap (λ (y : View). y.lists) r.2.others ∙ ap (λ (y : View). y.lists) r.1.1.view
 
-held_lists : (p : Plan) (n : ℕ) (by : Outcome) (h : List Held) (v : View) (k : List Held) (w : View) → HeldBy p n by h v k w → w.lists ≡ v.lists
+pub held_lists : (p : Plan) (n : ℕ) (by : Outcome) (h : List Held) (v : View) (k : List Held) (w : View) → HeldBy p n by h v k w → w.lists ≡ v.lists
 held_lists p n outcome.Unopened h v k w b = reached_lists p n reached.Unopened v w b.1
 held_lists p n (outcome.Gone found) h v k w b = reached_lists p n (reached.Gone found) v w b.1
 held_lists p n outcome.Held h v k w b = reached_lists p n (reached.Here record { id = b.0 }) v w b.2
 held_lists p n _ h v k w b = elim b [ ]
 
-dropped_lists : (n : ℕ) (by : Outcome) (h : List Held) (v : View) (k : List Held) (w : View) → DroppedBy n by h v k w → w.lists ≡ v.lists
+pub dropped_lists : (n : ℕ) (by : Outcome) (h : List Held) (v : View) (k : List Held) (w : View) → DroppedBy n by h v k w → w.lists ≡ v.lists
 dropped_lists n outcome.NotHeld h v k w b = ap (λ (y : View). y.lists) b.2
 dropped_lists n outcome.Freed h v k w b = ap (λ (y : View). y.lists) b.2.back.became.others
 dropped_lists n outcome.Kept h v k w b = ap (λ (y : View). y.lists) b.2.back.became.others
@@ -48,7 +48,7 @@ dropped_lists n _ h v k w b = elim b [ ]
 tried_lists : (p : Plan) (n code : ℕ) (by : Outcome) (v w : View) → TriedTo p n code by v w → w.lists ≡ v.lists
 tried_lists p n code by v w t = ap (λ (y : View). y.lists) t.back.became.others ∙ (ap (λ (y : View). y.lists) (set_others t.sock.id.0 code by t.has t.set t.set_by) ∙ reached_lists p n (reached.Here t.sock) v t.has t.reached_it)
 
-failed_lists : (p : Plan) (n code : ℕ) (by : Outcome) (v w : View) → FailedBy p n code by v w → w.lists ≡ v.lists
+pub failed_lists : (p : Plan) (n code : ℕ) (by : Outcome) (v w : View) → FailedBy p n code by v w → w.lists ≡ v.lists
 failed_lists p n code outcome.Unopened v w b = reached_lists p n reached.Unopened v w b
 failed_lists p n code (outcome.Gone found) v w b = reached_lists p n (reached.Gone found) v w b
 failed_lists p n code outcome.Failed v w b = tried_lists p n code outcome.Failed v w b

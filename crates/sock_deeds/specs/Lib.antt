@@ -3,6 +3,7 @@ pub mod Broken
 pub mod Runs
 pub mod Left
 pub mod Told
+pub use Rattle.report_fits
 pub use Rattle.rpc_client
 pub use Rattle.sock_causes
 pub use Rattle.sock_rule

@@ -164,7 +164,7 @@ impl Linker for HeldLinker {
     }
 
     fn settle(&mut self, _ends: &mut Link) -> Result<(), NoMemory> {
-        Err(NoMemory)
+        Ok(())
     }
 
     fn accept(&mut self, _port: u16) -> Result<(HeldOut, MemIn), OpenFault> {

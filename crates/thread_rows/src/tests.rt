@@ -2,22 +2,20 @@ ghost use Rattle.std.specs.Prelude.{◌≡◌, ℕ, List, Ok, [], true, IfSome};
 ghost use Rattle.std.specs.List.{list_all};
 ghost use Rattle.brpc_model.specs.Script.{script_of};
 ghost use Rattle.script_links.specs.Given.{has_piece};
-ghost use Rattle.sock_programs.specs.Scripts.{is_callless};
 
 use crate::held::{HeldGate, HeldLinker, is_done, new_flags};
+use script_calls::{is_runnable, run_calls_on_threads};
 use script_items::Script;
 use script_lang::read_script;
-use script_threads::{is_built, run_script_on_threads};
 use sock_io::{Gate, Linker, Mode, OpenGate};
 use std::alloc::{AllocError, Global};
 use std::sync::{Arc, Wait};
 use std::thread::Threads;
 
 /// The script of a text that threads run.
-#[tactic(auto, using(crate::proofs::Plain::loop_callless, crate::proofs::Pieces::has_pieces))]
-fn plain_script(alloc: Global, text: &[u8]) -> Option<Script>
+#[tactic(auto, using(crate::proofs::Pieces::has_pieces))]
+fn runnable_script(alloc: Global, text: &[u8]) -> Option<Script>
     ensures script { IfSome result (λ script. (bytes : List ℕ) × (script_of bytes ≡ Ok script)) }
-    ensures callless { IfSome result (λ script. is_callless script ≡ true) }
     ensures pieces { IfSome result (λ script. list_all has_piece script ≡ true) }
 {
     if 65_536 < text.len() {
@@ -26,7 +24,7 @@ fn plain_script(alloc: Global, text: &[u8]) -> Option<Script>
     let Ok(script) = read_script(alloc, text) else {
         return None;
     };
-    if is_built(Mode::Loop, &script) {
+    if is_runnable(Mode::Loop, &script) {
         Some(script)
     } else {
         None
@@ -44,8 +42,8 @@ fn report_over<L: Linker, G: Gate + Sync, R: Threads + Wait + Sync>(
     requires asked { L.asked links.old ≡ [] }
     requires back { L.back links.old ≡ [] }
 {
-    let script = plain_script(alloc, text)?;
-    match run_script_on_threads(rt, alloc, Mode::Loop, &script, links, gate) {
+    let script = runnable_script(alloc, text)?;
+    match run_calls_on_threads(rt, alloc, Mode::Loop, &script, links, gate) {
         Ok(report) => Some(report),
         Err(_fault) => None,
     }

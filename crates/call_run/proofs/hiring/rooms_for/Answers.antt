@@ -3,8 +3,8 @@ use Rattle.std.specs.Prelude.{All}
 use Rattle.std.proofs.lemmas.List.{map-append}
 use Rattle.call_run.specs.declared.hiring.Room.{Room}
 use Rattle.call_run.specs.Hired.{HasRoom}
-use Rattle.thread_run.proofs.Dealing.{all_snoc}
-use Rattle.thread_run.proofs.Outcomes.{more_left}
+use Rattle.call_run.proofs.Dealing.{all_snoc}
+use Rattle.call_run.proofs.Handing.{more_left}
 use Rattle.call_run.proofs.hiring.rooms_for.Goals as goal
 
 pub clients-preserved : goal.clients-preserved

@@ -1,5 +1,5 @@
 use Rattle.std.proofs.Common.{◌≡◌, drop}
-use Rattle.thread_run.specs.Threads.{opened_in}
+use Rattle.call_run.specs.Threads.{opened_in}
 use Rattle.call_run.proofs.opened.was_opened.Given as goal
 
 abbrev pub invariant-tolds : goal.invariant-tolds

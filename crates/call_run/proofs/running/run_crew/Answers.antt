@@ -1,12 +1,11 @@
 use Rattle.std.proofs.Common.{ℕ, ◌<◌, [], length, get_or, sym, ap, ◌∙◌, subst, arith}
 use Rattle.std.specs.Prelude.{All}
 use Rattle.std.proofs.lemmas.List.Elements.{All-nil}
-use Rattle.thread_run.proofs.Manning.{whole_lent}
 use Rattle.call_run.specs.declared.worker.Worker.{Worker}
 use Rattle.call_run.specs.Threads.{opens_of, opened_names}
 use Rattle.call_run.specs.Working.{IsReady, HasWorked}
 use Rattle.call_run.proofs.Weaving.{one_ready, all_ready}
-use Rattle.call_run.proofs.Manning.{fit_names}
+use Rattle.call_run.proofs.Manning.{whole_lent, fit_names}
 use Rattle.call_run.proofs.Whole.{all_left, crew_ran}
 use Rattle.call_run.proofs.running.run_crew.Goals as goal
 

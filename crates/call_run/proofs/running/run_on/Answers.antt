@@ -1,7 +1,6 @@
 use Rattle.std.proofs.Common.{ap, sym, subst}
-use Rattle.thread_run.specs.Crew.{AreBack}
-use Rattle.thread_run.proofs.Ending.{fresh_back}
-use Rattle.call_run.proofs.Whole.{run_ended}
+use Rattle.call_run.specs.Crew.{AreBack}
+use Rattle.call_run.proofs.Whole.{fresh_back, run_ended}
 use Rattle.call_run.proofs.running.run_on.Goals as goal
 
 pub returns-in_default-clause-back : goal.returns-in_default-clause-back

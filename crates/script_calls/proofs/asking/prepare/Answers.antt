@@ -5,7 +5,7 @@ use Rattle.sock_programs.specs.Tasks.{plan_of}
 use Rattle.report_fits.specs.Limits.{KeepsLimits}
 use Rattle.report_fits.proofs.Sizes.{keeps_limits}
 use Rattle.report_fits.proofs.TaskLemmas.{tasks_length}
-use Rattle.script_threads.proofs.Moving.{front_of}
+use Rattle.script_calls.proofs.Numbers.{front_of}
 use Rattle.script_calls.proofs.asking.prepare.Goals as goal
 
 pub plan_of-requires : goal.plan_of-requires

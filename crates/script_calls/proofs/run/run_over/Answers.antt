@@ -5,15 +5,13 @@ use Rattle.sock_programs.specs.Tasks.{plan_of}
 use Rattle.sock_words.specs.declared.plain.Plan.{Plan}
 use Rattle.call_deeds.specs.call_run.specs.Threads.{ids_of, MayRunAll}
 use Rattle.script_links.proofs.Numbering.{numbered_of}
-use Rattle.script_threads.proofs.Backs.{are_fresh}
-use Rattle.script_threads.proofs.Giving.{closed_back, give_numbered, give_long}
-use Rattle.script_threads.proofs.MayAsk.{script_begins}
-use Rattle.script_calls.proofs.MayCall.{script_may}
+use Rattle.script_calls.proofs.Parting.{end_at, are_fresh, closed_back, give_numbered, give_long}
+use Rattle.script_calls.proofs.MayCall.{script_may, script_begins}
 use Rattle.script_calls.proofs.Numbers.{few_calls, few_operations, opens_below, calls_below}
-use Rattle.script_threads.specs.thread_run.proofs.Manning.{whole_lent}
-use Rattle.script_threads.specs.Halves.{rest_of}
+use Rattle.call_deeds.specs.call_run.proofs.Manning.{whole_lent}
+use Rattle.script_calls.specs.Halves.{rest_of}
 use Rattle.script_links.specs.Given.{AreNumbered}
-use Rattle.script_calls.proofs.Reports.{end_at, out_at, numbered_still, left_is, run_is, joined_outs, back_silent, if_moved}
+use Rattle.script_calls.proofs.Reports.{out_at, numbered_still, left_is, run_is, joined_outs, back_silent, if_moved}
 use Rattle.script_calls.proofs.run.run_over.Goals as goal
 
 pub give_back-requires-clause-numbered : goal.give_back-requires-clause-numbered

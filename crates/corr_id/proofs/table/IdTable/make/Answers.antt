@@ -1,9 +1,12 @@
-use Rattle.std.proofs.Common.{arith, ap, sym, ◌∙◌, subst, ℕ, ◌≡◌, ◌<◌, ◌+◌, ◌*◌, ◌%◌, [], ◌∷◌}
+use Rattle.std.proofs.Common.{arith, ap, sym, ◌∙◌, subst, ℕ, ◌≡◌, ◌<◌, ◌+◌, ◌*◌, ◌%◌, ◌/◌, [], ◌∷◌}
 use Rattle.corr_core.specs.Word.{parts}
 use Rattle.corr_core.specs.declared.marks.Hand.TheVariants.{Empty, Full}
 use Rattle.corr_core.specs.declared.marks.Token.TheVariants.{Claimed}
 use Rattle.corr_core.specs.declared.marks.Note.TheVariants.{Made}
-use Rattle.corr_id.specs.Calls.{Became, one}
+use Rattle.corr_core.specs.Law.{total, is_made}
+use Rattle.id_rule.specs.Lawful.{notes_of}
+use Rattle.corr_id.specs.Calls.{is_at, version_of, Became, one}
+use Rattle.corr_id.proofs.Doing.{made_noted}
 use Rattle.corr_id.proofs.Becoming.{became_both}
 use Rattle.corr_id.proofs.table.IdTable.make.Goals as goal
 
@@ -34,3 +37,15 @@ returns-clause-before g c w saw taken =
     let f : c.first-first.result ≡ (parts c.read_first.result).first = c.first-first.ensures ∙ ap (λ (y : ℕ). (parts y).first) c.from_word.ensures in
     let small = c.first-first.type_inv in let k = c.read_first.ensures.before w saw taken in
     let low : c.first-first.result ≡ (c.args.at * 4294967296 + c.first-first.result) % 4294967296 = omega arith in omega (arith, f, k, low)
+
+pub returns-clause-unnoted : goal.returns-clause-unnoted
+returns-clause-unnoted g c x even =
+    let f : c.first-first.result ≡ (parts c.read_first.result).first = c.first-first.ensures ∙ ap (λ (y : ℕ). (parts y).first) c.from_word.ensures in
+    subst (λ (n : ℕ). total (is_at x (c.args.at * 4294967296 + n)) c.args.seat.now.me.0.kept ≡ 0) (sym f) (c.read_first.ensures.unnoted x even)
+
+pub returns-clause-noted : goal.returns-clause-noted
+returns-clause-noted g c =
+    let f = c.first-first.result in let small = c.first-first.type_inv in let id = c.args.at * 4294967296 + f in
+    let slot : c.args.at ≡ id / 4294967296 = omega arith in
+    subst (λ (i : ℕ). 0 < total (is_made (version_of id)) (notes_of i c.make_id.new.seat.me.0.notes)) slot
+    (made_noted c.args.at (version_of id) c.args.range c.args.content c.args.seat.now.me.0 c.make_id.new.seat.me.0 (returns-clause-made g c))

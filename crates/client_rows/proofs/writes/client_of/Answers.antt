@@ -1,8 +1,0 @@
-use Rattle.std.proofs.Common.{subst, Some}
-use Rattle.sock_open.specs.Made.{AreNewSeats}
-use Rattle.sock_open.proofs.Racing.{popped}
-use Rattle.rpc_client.proofs.Going.{passes_all}
-use Rattle.client_rows.proofs.writes.client_of.Goals as goal
-
-pub returns : goal.returns
-returns c = let z = c.args.table.now.rule.table.shared.table_id in let p = c.args.table.now.rule.plan in c.in-Ok.ensures.go z p (popped z p c.pop.new.self.items (Some c.in_ok-seat.seat) (subst (AreNewSeats z p) c.in_ok-seat.ensures.items c.requires.seats)).1 (passes_all z p 0 c.args.passes.items c.requires.passes)

@@ -1,6 +1,0 @@
-pub mod Finding
-pub mod Dealing
-pub mod Outcomes
-pub mod Weaving
-pub mod Manning
-pub mod Ending

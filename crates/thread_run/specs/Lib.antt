@@ -1,4 +1,0 @@
-pub mod Threads
-pub mod Working
-pub mod Hired
-pub mod Crew
