@@ -1,6 +1,6 @@
 pub mod Naming
 pub mod Sockets
-pub mod Waiting
+pub mod Finding
 pub mod Handing
 pub mod Dealing
 pub mod Manning
