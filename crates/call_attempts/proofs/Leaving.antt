@@ -18,35 +18,35 @@ use Rattle.sock_model.specs.declared.marks.Mark.TheVariants.{Saw, Met}
 use Rattle.sock_model.specs.declared.view.View.{View}
 use Rattle.sock_model.specs.ChainRows.{more}
 use Rattle.sock_model.specs.Layout.{name_word}
-use Rattle.call_writes.specs.sock_rule.specs.Shows.{heading_of}
-use Rattle.call_writes.specs.sock_rule.specs.declared.homes.Letter.{Letter}
+use Rattle.sock_rule.specs.Shows.{heading_of}
+use Rattle.sock_rule.specs.declared.homes.Letter.{Letter}
 use Rattle.sock_model.specs.SlotRows.{marks_of}
 use Rattle.sock_model.specs.Weights.{is_ref}
-use Rattle.call_writes.specs.sock_table.specs.Answers.{LinkOf}
-use Rattle.call_writes.specs.sock_table.specs.Named.{Found}
-use Rattle.call_writes.specs.sock_table.specs.declared.refs.SockRef.{SockRef}
-use Rattle.call_writes.specs.write_chain.specs.declared.entry.Refused.{Refused}
-use Rattle.call_writes.specs.write_chain.specs.declared.entry.Refused.TheVariants as refused
-use Rattle.call_writes.specs.write_chain.specs.Sending.{HasRoom, RefusedBy}
+use Rattle.sock_table.specs.Answers.{LinkOf}
+use Rattle.sock_table.specs.Named.{Found}
+use Rattle.sock_table.specs.declared.refs.SockRef.{SockRef}
+use Rattle.write_chain.specs.declared.entry.Refused.{Refused}
+use Rattle.write_chain.specs.declared.entry.Refused.TheVariants as refused
+use Rattle.write_chain.specs.Sending.{HasRoom, RefusedBy}
 use Rattle.corr_core.specs.declared.marks.Plan as id_plan
 use Rattle.corr_core.specs.declared.marks.View as id_view
 use Rattle.id_rule.specs.Lawful.{tokens_in, with_kept}
 use Rattle.corr_id.specs.Seats.{Sits, Stays, IsFree}
 use Rattle.corr_id.proofs.Testing.{sits_on}
 use Rattle.sock_message.specs.Asked.{Asked}
-use Rattle.call_writes.specs.rpc_client.specs.Seats.{StaysSeen, SameRefs, OneMore}
-use Rattle.call_writes.specs.rpc_client.specs.Acting.{OwnList}
-use Rattle.call_writes.specs.rpc_client.specs.Sending as sending
-use Rattle.call_writes.specs.rpc_client.proofs.Counting as counting
-use Rattle.call_writes.specs.rpc_client.proofs.Counting.{same_refs, refs_then, refs_none, then_more, given, gone_refs, finds_refs}
-use Rattle.call_writes.specs.rpc_client.proofs.Finding.{seen_same, seen_then, seen_became, seen_found}
-use Rattle.call_writes.specs.rpc_client.proofs.Delivering.{accepted_refs, delivered_refs, delivered_share, delivered_seen, came_lists}
-use Rattle.call_writes.specs.call_errors.specs.declared.seats.CallSeat.{CallSeat}
-use Rattle.call_writes.specs.call_errors.specs.declared.retries.Retry.{Retry}
-use Rattle.call_writes.specs.call_errors.specs.Books.{Books, books_of, stand_of, starving}
+use Rattle.call_errors.specs.rpc_client.specs.Seats.{StaysSeen, SameRefs, OneMore}
+use Rattle.call_errors.specs.rpc_client.specs.Acting.{OwnList}
+use Rattle.call_errors.specs.rpc_client.specs.Sending as sending
+use Rattle.call_errors.specs.rpc_client.proofs.Counting as counting
+use Rattle.call_errors.specs.rpc_client.proofs.Counting.{same_refs, refs_then, refs_none, then_more, given, gone_refs, finds_refs}
+use Rattle.call_errors.specs.rpc_client.proofs.Finding.{seen_same, seen_then, seen_became, seen_found}
+use Rattle.call_errors.specs.rpc_client.proofs.Delivering.{accepted_refs, delivered_refs, delivered_share, delivered_seen, came_lists}
+use Rattle.call_errors.specs.declared.seats.CallSeat.{CallSeat}
+use Rattle.call_errors.specs.declared.retries.Retry.{Retry}
+use Rattle.call_errors.specs.Books.{Books, books_of, stand_of, starving}
 use Rattle.call_attempts.specs.Both.{Both, both, wanting, HasNoLock}
 use Rattle.call_attempts.specs.Retrying.{TookNext, without_oldest, RetriedBy, GaveUp, Retried, one_more, RetriedAll, RanOut, for_frame, before_next}
-use Rattle.call_writes.specs.message_parts.specs.Parcels.{parcel_of}
+use Rattle.message_parts.specs.Parcels.{parcel_of}
 use Rattle.call_writes.proofs.Drains.{drained_refs, drained_same}
 use Rattle.call_attempts.specs.Attempting.{message_of, reference_of, PostedOf, RefusedFor, WentOut, CameBack, DeliveredBy, went_out, came_back, Linked, AttemptedBy, nowhere, over_link}
 

@@ -16,7 +16,7 @@ use Rattle.corr_id.specs.Calls.{slot_of, version_of, GotLock, MadeAs, Locks, Did
 use Rattle.corr_id.proofs.Testing.{FreeBut, did_free, did_but, sits_on}
 use Rattle.corr_id.specs.declared.calls.IdLock.{IdLock}
 use Rattle.sock_message.specs.Asked.{Asked}
-use Rattle.call_writes.specs.call_errors.specs.Books.{LetGo}
+use Rattle.call_errors.specs.Books.{LetGo}
 use Rattle.call_attempts.proofs.Leaving.{kept_free}
 
 -- no id is 0, and there is room for the versions of its attempts

@@ -8,18 +8,18 @@ use Rattle.sock_words.specs.declared.socket_id.SocketId.{SocketId}
 use Rattle.sock_words.specs.declared.vref.Vref.{Vref}
 use Rattle.sock_model.specs.declared.marks.Mark.TheVariants.{Saw}
 use Rattle.sock_model.specs.declared.view.View.{View}
-use Rattle.call_writes.specs.sock_rule.specs.Shows.{heading_of}
-use Rattle.call_writes.specs.sock_rule.specs.declared.homes.Letter.{Letter}
-use Rattle.call_writes.specs.sock_table.specs.Answers.{Held, GoneFrom, NoneLater, LinkOf}
-use Rattle.call_writes.specs.sock_table.specs.declared.refs.SockRef.{SockRef}
-use Rattle.call_writes.specs.write_chain.specs.declared.entry.Refused.{Refused}
-use Rattle.call_writes.specs.write_chain.specs.declared.entry.Refused.TheVariants as refused
-use Rattle.call_writes.specs.write_chain.specs.Sending.{Accepted, RefusedBy}
+use Rattle.sock_rule.specs.Shows.{heading_of}
+use Rattle.sock_rule.specs.declared.homes.Letter.{Letter}
+use Rattle.sock_table.specs.Answers.{Held, GoneFrom, NoneLater, LinkOf}
+use Rattle.sock_table.specs.declared.refs.SockRef.{SockRef}
+use Rattle.write_chain.specs.declared.entry.Refused.{Refused}
+use Rattle.write_chain.specs.declared.entry.Refused.TheVariants as refused
+use Rattle.write_chain.specs.Sending.{Accepted, RefusedBy}
 use Rattle.corr_core.specs.declared.marks.Plan as id_plan
 use Rattle.id_rule.specs.Lawful.{at_word, with_kept}
 use Rattle.corr_id.specs.Calls.{slot_of, version_of}
-use Rattle.call_writes.specs.message_parts.specs.Parcels.{parcel_of}
-use Rattle.call_writes.specs.rpc_client.specs.Sending.{Returned}
+use Rattle.message_parts.specs.Parcels.{parcel_of}
+use Rattle.call_errors.specs.rpc_client.specs.Sending.{Returned}
 use Rattle.call_writes.specs.Sending.{SeenCalling}
 use Rattle.call_attempts.specs.Both.{Both, PostedFor}
 

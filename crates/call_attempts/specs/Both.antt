@@ -6,9 +6,9 @@ use Rattle.corr_core.specs.declared.marks.Plan.{Plan}
 use Rattle.corr_id.specs.Seats.{Sits, IsFree}
 use Rattle.corr_id.specs.Calls.{slot_of, version_of}
 use Rattle.sock_model.specs.declared.view.View.{View}
-use Rattle.call_writes.specs.call_errors.specs.declared.seats.CallSeat.{CallSeat}
-use Rattle.call_writes.specs.call_errors.specs.Books.{CallStand, stand_of, starving}
-use Rattle.call_writes.specs.call_errors.specs.Posting.{PostedBy}
+use Rattle.call_errors.specs.declared.seats.CallSeat.{CallSeat}
+use Rattle.call_errors.specs.Books.{CallStand, stand_of, starving}
+use Rattle.call_errors.specs.Posting.{PostedBy}
 
 -- what its seat of the sockets knows, and what it knows of calls
 pub record Both : Type 0 where

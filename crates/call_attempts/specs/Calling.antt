@@ -4,14 +4,14 @@ use Rattle.std.proofs.Common.{zero-le}
 use Rattle.sock_io.specs.Link.{OutState}
 use Rattle.sock_words.specs.declared.plain.Plan.{Plan}
 use Rattle.sock_words.specs.declared.socket_id.SocketId.{SocketId}
-use Rattle.call_writes.specs.sock_table.specs.Named.{Found}
+use Rattle.sock_table.specs.Named.{Found}
 use Rattle.corr_core.specs.Law.{total, is_tried}
 use Rattle.corr_core.specs.declared.marks.Plan as id_plan
 use Rattle.corr_core.specs.declared.marks.View as id_view
 use Rattle.id_rule.specs.Lawful.{call_word, notes_of, with_kept}
 use Rattle.corr_id.specs.Calls.{Quiet, MadeAs}
 use Rattle.sock_message.specs.Asked.{Asked, name_of}
-use Rattle.call_writes.specs.call_errors.specs.Starving.{GivenUp}
+use Rattle.call_errors.specs.Starving.{GivenUp}
 use Rattle.call_attempts.specs.declared.calling.Called.{Called}
 use Rattle.call_attempts.specs.declared.calling.Called.TheVariants.{Unopened, NoSlot, Begun}
 use Rattle.call_attempts.specs.Both.{Both, wanting}

@@ -1,9 +1,9 @@
 -- The frame of an attempt, as it goes to a link.
 use Rattle.std.specs.Prelude.{ℕ, ◌+◌, ◌*◌, ◌≤◌}
-use Rattle.call_writes.specs.message_parts.specs.declared.parcel.Parcel.TheVariants.{Frame}
+use Rattle.message_parts.specs.declared.parcel.Parcel.TheVariants.{Frame}
 use Rattle.sock_message.specs.Asked.{Asked, frame_of, parts_of}
 use Rattle.sock_words.specs.declared.plain.Label.{Label}
-use Rattle.call_writes.specs.sock_rule.specs.declared.homes.Letter.{Letter}
+use Rattle.sock_rule.specs.declared.homes.Letter.{Letter}
 
 -- the label of an attempt of the call that is this operation of the script
 abbrev pub attempt_label : ℕ → ℕ → Label

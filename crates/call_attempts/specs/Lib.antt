@@ -3,13 +3,6 @@ pub mod Letters
 pub mod Attempting
 pub mod Calling
 pub mod Retrying
-pub use Rattle.call_writes.specs.call_errors
-pub use Rattle.call_writes.specs.call_table
 pub use Rattle.call_writes
-pub use Rattle.call_writes.specs.message_parts
-pub use Rattle.call_writes.specs.rpc_client
-pub use Rattle.call_writes.specs.slot_laws
-pub use Rattle.call_writes.specs.sock_open
-pub use Rattle.call_writes.specs.sock_rule
-pub use Rattle.call_writes.specs.sock_table
-pub use Rattle.call_writes.specs.write_chain
+pub use Rattle.write_chain.specs.sock_open
+pub use Rattle.write_chain

@@ -4,8 +4,8 @@ use Rattle.sock_io.specs.Link.{OutState}
 use Rattle.sock_words.specs.Codes.{EFAILEDSOCKET, EINTERNAL}
 use Rattle.sock_words.specs.declared.plain.Plan.{Plan}
 use Rattle.sock_words.specs.declared.socket_id.SocketId.{SocketId}
-use Rattle.call_writes.specs.sock_rule.specs.declared.homes.Letter.{Letter}
-use Rattle.call_writes.specs.sock_table.specs.Named.{Found}
+use Rattle.sock_rule.specs.declared.homes.Letter.{Letter}
+use Rattle.sock_table.specs.Named.{Found}
 use Rattle.corr_core.specs.Word.{parts}
 use Rattle.corr_core.specs.declared.marks.Plan as id_plan
 use Rattle.corr_core.specs.declared.marks.View as id_view
@@ -13,11 +13,11 @@ use Rattle.corr_id.specs.declared.calls.IdLock.{IdLock}
 use Rattle.corr_id.specs.declared.unlocks.Unlocked.TheVariants.{Open, Next}
 use Rattle.corr_id.specs.Unlocks.{UnlockOk}
 use Rattle.sock_message.specs.Asked.{Asked, name_of}
-use Rattle.call_writes.specs.call_errors.specs.declared.retries.Retry.{Retry}
-use Rattle.call_writes.specs.call_errors.specs.Books.{Books, CallStand}
-use Rattle.call_writes.specs.call_errors.specs.Locking.{GotBy, GoneBy}
-use Rattle.call_writes.specs.call_errors.specs.Ending.{EndedWith}
-use Rattle.call_writes.specs.call_errors.specs.Handling.{Decided}
+use Rattle.call_errors.specs.declared.retries.Retry.{Retry}
+use Rattle.call_errors.specs.Books.{Books, CallStand}
+use Rattle.call_errors.specs.Locking.{GotBy, GoneBy}
+use Rattle.call_errors.specs.Ending.{EndedWith}
+use Rattle.call_errors.specs.Handling.{Decided}
 use Rattle.call_attempts.specs.Both.{Both, PostedFor, wanting}
 use Rattle.call_attempts.specs.Letters.{letter_for}
 use Rattle.call_attempts.specs.Attempting.{PostedOf, AttemptedBy}

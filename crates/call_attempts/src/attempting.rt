@@ -3,25 +3,25 @@ ghost use Rattle.std.specs.Prelude.{◌≡◌, ◌+◌, ◌*◌, ◌<◌, ◌≤
 ghost use Rattle.sock_words.specs.Words.{socket_id_slot};
 ghost use Rattle.sock_model.specs.Weights.{is_ref};
 ghost use Rattle.sock_model.specs.SlotRows.{marks_of};
-ghost use Rattle.call_writes.specs.sock_table.specs.Answers.{Holds};
-ghost use Rattle.call_writes.specs.sock_table.specs.Refs.{Knows};
-ghost use Rattle.call_writes.specs.write_chain.specs.Sending.{HasRoom};
+ghost use Rattle.sock_table.specs.Answers.{Holds};
+ghost use Rattle.sock_table.specs.Refs.{Knows};
+ghost use Rattle.write_chain.specs.Sending.{HasRoom};
 ghost use Rattle.corr_id.specs.Seats.{Stays};
-ghost use Rattle.call_writes.specs.rpc_client.specs.Seats.{Idle, MayAct, AtRest, StaysSeen, SameRefs};
-ghost use Rattle.call_writes.specs.rpc_client.specs.Acting.{OwnList};
-ghost use Rattle.call_writes.specs.rpc_client.specs.Sending.{RefusedHolds};
+ghost use Rattle.call_errors.specs.rpc_client.specs.Seats.{Idle, MayAct, AtRest, StaysSeen, SameRefs};
+ghost use Rattle.call_errors.specs.rpc_client.specs.Acting.{OwnList};
+ghost use Rattle.call_errors.specs.rpc_client.specs.Sending.{RefusedHolds};
 ghost use Rattle.call_attempts.specs.Both.{both, HasNoLock, IsCallId};
 ghost use Rattle.call_attempts.specs.Attempting.{RefusedFor, DeliveredBy, AttemptedBy};
 
 use crate::tables::Tables;
-use call_writes::call_errors::{CallSeat, post_error};
+use call_errors::{CallSeat, post_error};
 use call_writes::see_through_calling;
-use call_writes::sock_rule::{Letter, SockSeat};
-use call_writes::sock_table::SockRef;
-use call_writes::write_chain::{Refused, start};
 use sock_io::Out;
+use sock_rule::{Letter, SockSeat};
+use sock_table::SockRef;
 use sock_words::{EFAILEDSOCKET, EREQUESTS, SocketId};
 use std::sync::Wait;
+use write_chain::{Refused, start};
 
 // A frame that was refused: that is posted to its call, and then the reference is given back.
 fn refuse_frame<O: Out, R: Wait>(

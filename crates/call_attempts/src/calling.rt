@@ -1,21 +1,21 @@
 // A call begins.
 ghost use Rattle.std.specs.Prelude.{◌≡◌, ◌+◌, ◌<◌, ℕ, IfOk, IfErr};
 ghost use Rattle.sock_message.specs.Asked.{name_of};
-ghost use Rattle.call_writes.specs.write_chain.specs.Sending.{HasRoom};
+ghost use Rattle.write_chain.specs.Sending.{HasRoom};
 ghost use Rattle.corr_id.specs.Seats.{Stays};
-ghost use Rattle.call_writes.specs.rpc_client.specs.Seats.{MayAct, AtRest, StaysSeen, SameRefs};
-ghost use Rattle.call_writes.specs.rpc_client.specs.Acting.{OwnList};
+ghost use Rattle.call_errors.specs.rpc_client.specs.Seats.{MayAct, AtRest, StaysSeen, SameRefs};
+ghost use Rattle.call_errors.specs.rpc_client.specs.Acting.{OwnList};
 ghost use Rattle.call_attempts.specs.Both.{both, HasNoLock};
 ghost use Rattle.call_attempts.specs.Calling.{CalledBy, WantedBy};
 
 use crate::attempting::attempt_one;
 use crate::letters::letter_of;
 use crate::tables::Tables;
-use call_writes::call_errors::{CallSeat, give_up};
-use call_writes::message_parts::CallFrame;
-use call_writes::sock_rule::SockSeat;
+use call_errors::{CallSeat, give_up};
+use message_parts::CallFrame;
 use sock_io::Out;
 use sock_message::{Call, NoMemory};
+use sock_rule::SockSeat;
 use std::sync::Wait;
 
 /// How a call begins.

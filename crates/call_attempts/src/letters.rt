@@ -1,10 +1,10 @@
 // The frame of an attempt as it goes to a link.
 ghost use Rattle.std.specs.Prelude.{◌≡◌, ◌≤◌};
-ghost use Rattle.call_writes.specs.message_parts.specs.declared.parcel.Parcel.TheVariants.{Frame};
+ghost use Rattle.message_parts.specs.declared.parcel.Parcel.TheVariants.{Frame};
 ghost use Rattle.call_attempts.specs.Letters.{attempt_label};
 
-use call_writes::message_parts::{CallFrame, Parcel};
-use call_writes::sock_rule::Letter;
+use message_parts::{CallFrame, Parcel};
+use sock_rule::Letter;
 use sock_words::Label;
 
 /// The letter of an attempt, counted from 0, of the call that is this operation of the script and has this id.

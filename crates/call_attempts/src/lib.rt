@@ -9,8 +9,7 @@ mod retrying;
 mod tables;
 
 pub use attempting::attempt_one;
-pub use call_writes;
-pub use call_writes::{call_errors, message_parts, rpc_client, sock_open, sock_rule, sock_table};
+pub use call_writes::send_calling;
 pub use calling::{Called, call_one};
 pub use letters::letter_of;
 pub use retrying::{retry_all, retry_one};

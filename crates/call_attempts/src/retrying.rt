@@ -1,22 +1,22 @@
 // Retries that a client keeps.
 ghost use Rattle.std.specs.Prelude.{◌≡◌, ◌+◌, ◌*◌, ◌<◌, ◌≤◌, ◌⊎◌, ℕ, true, false, IfOk, IfErr};
-ghost use Rattle.call_writes.specs.write_chain.specs.Sending.{HasRoom};
+ghost use Rattle.write_chain.specs.Sending.{HasRoom};
 ghost use Rattle.corr_id.specs.Seats.{Stays};
-ghost use Rattle.call_writes.specs.rpc_client.specs.Seats.{MayAct, AtRest, StaysSeen, SameRefs};
-ghost use Rattle.call_writes.specs.rpc_client.specs.Acting.{OwnList};
+ghost use Rattle.call_errors.specs.rpc_client.specs.Seats.{MayAct, AtRest, StaysSeen, SameRefs};
+ghost use Rattle.call_errors.specs.rpc_client.specs.Acting.{OwnList};
 ghost use Rattle.call_attempts.specs.Both.{both, HasNoLock, IsCallId};
-ghost use Rattle.call_writes.specs.call_errors.specs.Books.{books_of, starving};
+ghost use Rattle.call_errors.specs.Books.{books_of, starving};
 ghost use Rattle.call_attempts.specs.Retrying.{IsStray, IsAtHome, TookNext, WentTo, RetriedBy, GaveUp, RetriedAll, RanOut};
 
 use crate::attempting::attempt_one;
 use crate::letters::letter_of;
 use crate::tables::Tables;
-use call_writes::call_errors::{CallSeat, Retry, end_call, handle, post_error};
-use call_writes::message_parts::CallFrame;
-use call_writes::sock_rule::{Letter, SockSeat};
+use call_errors::{CallSeat, Retry, end_call, handle, post_error};
 use corr_id::Unlocked;
+use message_parts::CallFrame;
 use sock_io::Out;
 use sock_message::NoMemory;
+use sock_rule::{Letter, SockSeat};
 use sock_words::{EFAILEDSOCKET, EINTERNAL};
 use std::sync::Wait;
 

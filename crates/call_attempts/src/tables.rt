@@ -1,7 +1,7 @@
-use call_writes::sock_table::SockTable;
 use corr_id::IdTable;
 use sock_io::Out;
 use sock_message::Call;
+use sock_table::SockTable;
 
 /// The tables that threads share: of the sockets, and of the ids of calls.
 #[derive(Drop)]

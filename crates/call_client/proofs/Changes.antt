@@ -11,8 +11,8 @@ use Rattle.sock_words.specs.declared.socket_id.SocketId.{SocketId}
 use Rattle.sock_words.specs.declared.outcome.Outcome.{Outcome}
 use Rattle.sock_words.specs.declared.outcome.Outcome.TheVariants as outcome
 use Rattle.sock_model.specs.declared.view.View as sock_view
-use Rattle.call_attempts.specs.sock_rule.specs.declared.homes.Letter.{Letter}
-use Rattle.call_attempts.specs.sock_table.specs.declared.refs.SockRef.{SockRef}
+use Rattle.sock_rule.specs.declared.homes.Letter.{Letter}
+use Rattle.sock_table.specs.declared.refs.SockRef.{SockRef}
 use Rattle.sock_programs.specs.declared.task.Op.{Op}
 use Rattle.sock_programs.specs.declared.task.Op.TheVariants as ops
 use Rattle.sock_programs.specs.declared.task.Task.{Task}
@@ -27,14 +27,14 @@ use Rattle.corr_id.specs.declared.unlocks.Unlocked.{Unlocked}
 use Rattle.corr_id.specs.declared.unlocks.Unlocked.TheVariants as unlocked
 use Rattle.corr_id.specs.Calls.{Quiet, MadeAs}
 use Rattle.corr_id.specs.Unlocks.{UnlockOk}
-use Rattle.call_attempts.specs.call_errors.specs.declared.retries.Retry.{Retry}
-use Rattle.call_attempts.specs.call_errors.specs.Books.{CallStand, stand_of}
-use Rattle.call_attempts.specs.call_errors.specs.Locking.{GotBy}
-use Rattle.call_attempts.specs.call_errors.specs.Ending.{EndedWith}
-use Rattle.call_attempts.specs.call_errors.specs.Handling.{Decided}
-use Rattle.call_attempts.specs.call_errors.specs.Posting.{PostedBy}
-use Rattle.call_attempts.specs.call_errors.specs.Asking.{found_id, TimedOut, ExpiredBy, JoinedBy}
-use Rattle.call_attempts.specs.call_errors.specs.Starving.{GivenUp, was_gone, ended, AllGivenUp, StarvedBy}
+use Rattle.call_errors.specs.declared.retries.Retry.{Retry}
+use Rattle.call_errors.specs.Books.{CallStand, stand_of}
+use Rattle.call_errors.specs.Locking.{GotBy}
+use Rattle.call_errors.specs.Ending.{EndedWith}
+use Rattle.call_errors.specs.Handling.{Decided}
+use Rattle.call_errors.specs.Posting.{PostedBy}
+use Rattle.call_errors.specs.Asking.{found_id, TimedOut, ExpiredBy, JoinedBy}
+use Rattle.call_errors.specs.Starving.{GivenUp, was_gone, ended, AllGivenUp, StarvedBy}
 use Rattle.call_attempts.specs.call_writes.specs.Draining.{ToldDrop, of_send, of_call, DroppedAll, Drained}
 use Rattle.call_attempts.specs.call_writes.specs.Draining as draining
 use Rattle.call_attempts.specs.call_writes.specs.Sending.{DeliveredCalling, SentCalling}

@@ -12,15 +12,15 @@ use Rattle.sock_words.specs.declared.plain.Plan.{Plan}
 use Rattle.sock_words.specs.declared.outcome.Outcome.{Outcome}
 use Rattle.sock_words.specs.declared.outcome.Outcome.TheVariants as outcome
 use Rattle.sock_model.specs.Layout.{name_word}
-use Rattle.call_attempts.specs.sock_table.specs.Named.{HasSeen}
+use Rattle.sock_table.specs.Named.{HasSeen}
 use Rattle.corr_core.specs.declared.marks.Plan as id_plan
 use Rattle.sock_programs.specs.declared.task.Op.{Op}
 use Rattle.sock_programs.specs.declared.task.Op.TheVariants as ops
 use Rattle.sock_programs.specs.declared.task.Task.{Task}
-use Rattle.call_attempts.specs.rpc_client.specs.Seats.{StaysSeen}
-use Rattle.call_attempts.specs.rpc_client.specs.Running.{telling, finds_name}
-use Rattle.call_attempts.specs.call_errors.specs.Books.{stand_of}
-use Rattle.call_attempts.specs.call_errors.specs.Starving.{StarvedBy}
+use Rattle.rpc_client.specs.Seats.{StaysSeen}
+use Rattle.rpc_client.specs.Running.{telling, finds_name}
+use Rattle.call_errors.specs.Books.{stand_of}
+use Rattle.call_errors.specs.Starving.{StarvedBy}
 use Rattle.call_attempts.specs.Both.{wanting}
 use Rattle.call_client.specs.declared.caller.Caller.{Caller}
 use Rattle.call_client.specs.Acting.{Stand, stand, MayMake, Acted}

@@ -11,19 +11,19 @@ use Rattle.sock_words.specs.declared.outcome.Outcome.TheVariants as outcome
 use Rattle.sock_words.specs.Words.{socket_id_slot}
 use Rattle.sock_model.specs.declared.view.View.{View}
 use Rattle.sock_model.specs.Weights.{total}
-use Rattle.call_attempts.specs.slot_laws.proofs.Numbers.{only_le}
-use Rattle.call_attempts.specs.sock_rule.specs.declared.homes.Letter.{Letter}
-use Rattle.call_attempts.specs.sock_table.specs.Passes.{IsPass}
+use Rattle.slot_laws.proofs.Numbers.{only_le}
+use Rattle.sock_rule.specs.declared.homes.Letter.{Letter}
+use Rattle.sock_table.specs.Passes.{IsPass}
 use Rattle.call_attempts.specs.write_chain.specs.Sending.{HasRoom}
 use Rattle.call_attempts.specs.sock_open.specs.Made.{IsNewSeat}
 use Rattle.corr_id.specs.Seats.{Sits, IsFree}
-use Rattle.call_attempts.specs.rpc_client.specs.declared.holding.Held.{Held}
-use Rattle.call_attempts.specs.rpc_client.specs.Seats.{Idle, MayAct, AtRest, SameRefs}
-use Rattle.call_attempts.specs.rpc_client.specs.Holding.{is_there, IsHolder, HeldBy, DroppedBy}
-use Rattle.call_attempts.specs.rpc_client.specs.Acting.{OwnList}
-use Rattle.call_attempts.specs.rpc_client.proofs.Counting.{holder_same}
-use Rattle.call_attempts.specs.rpc_client.proofs.Going.{sent_own, new_idle, new_holder, new_own}
-use Rattle.call_attempts.specs.call_errors.specs.Books.{CallStand}
+use Rattle.rpc_client.specs.declared.holding.Held.{Held}
+use Rattle.rpc_client.specs.Seats.{Idle, MayAct, AtRest, SameRefs}
+use Rattle.rpc_client.specs.Holding.{is_there, IsHolder, HeldBy, DroppedBy}
+use Rattle.rpc_client.specs.Acting.{OwnList}
+use Rattle.rpc_client.proofs.Counting.{holder_same}
+use Rattle.rpc_client.proofs.Going.{sent_own, new_idle, new_holder, new_own}
+use Rattle.call_errors.specs.Books.{CallStand}
 use Rattle.call_attempts.specs.call_writes.specs.Sending.{SentCalling}
 use Rattle.call_attempts.specs.Both.{HasNoLock}
 use Rattle.call_client.specs.declared.caller.Caller.{Caller}

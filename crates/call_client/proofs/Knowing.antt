@@ -14,24 +14,24 @@ use Rattle.sock_words.specs.declared.outcome.Outcome.TheVariants as outcome
 use Rattle.sock_words.specs.Words.{socket_id_slot}
 use Rattle.sock_model.specs.declared.view.View.{View}
 use Rattle.sock_model.specs.Layout.{name_word}
-use Rattle.call_attempts.specs.sock_rule.specs.declared.homes.Letter.{Letter}
-use Rattle.call_attempts.specs.sock_table.specs.Named.{HasSeen, Found}
-use Rattle.call_attempts.specs.sock_table.specs.declared.refs.SockRef.{SockRef}
+use Rattle.sock_rule.specs.declared.homes.Letter.{Letter}
+use Rattle.sock_table.specs.Named.{HasSeen, Found}
+use Rattle.sock_table.specs.declared.refs.SockRef.{SockRef}
 use Rattle.corr_core.specs.declared.marks.Plan as id_plan
 use Rattle.sock_message.specs.Asked.{Asked, name_of}
 use Rattle.sock_programs.specs.declared.task.Op.{Op}
 use Rattle.sock_programs.specs.declared.task.Op.TheVariants as ops
-use Rattle.call_attempts.specs.rpc_client.specs.declared.holding.Held.{Held}
-use Rattle.call_attempts.specs.rpc_client.specs.declared.reaching.Reached.TheVariants as reached
-use Rattle.call_attempts.specs.rpc_client.specs.Reaching.{ReachedBy}
-use Rattle.call_attempts.specs.rpc_client.specs.Opening.{OpenedBy}
-use Rattle.call_attempts.specs.rpc_client.specs.Holding.{HeldBy, DroppedBy}
-use Rattle.call_attempts.specs.rpc_client.specs.Failing.{TriedTo, FailedBy}
-use Rattle.call_attempts.specs.rpc_client.specs.Sending.{SentWith, SentBy}
-use Rattle.call_attempts.specs.rpc_client.specs.Running.{finds_name}
-use Rattle.call_attempts.specs.rpc_client.proofs.Finding.{seen_became, seen_others, set_others}
-use Rattle.call_attempts.specs.rpc_client.proofs.Delivering.{delivered_seen}
-use Rattle.call_attempts.specs.call_errors.specs.Books.{CallStand}
+use Rattle.rpc_client.specs.declared.holding.Held.{Held}
+use Rattle.rpc_client.specs.declared.reaching.Reached.TheVariants as reached
+use Rattle.rpc_client.specs.Reaching.{ReachedBy}
+use Rattle.rpc_client.specs.Opening.{OpenedBy}
+use Rattle.rpc_client.specs.Holding.{HeldBy, DroppedBy}
+use Rattle.rpc_client.specs.Failing.{TriedTo, FailedBy}
+use Rattle.rpc_client.specs.Sending.{SentWith, SentBy}
+use Rattle.rpc_client.specs.Running.{finds_name}
+use Rattle.rpc_client.proofs.Finding.{seen_became, seen_others, set_others}
+use Rattle.rpc_client.proofs.Delivering.{delivered_seen}
+use Rattle.call_errors.specs.Books.{CallStand}
 use Rattle.call_attempts.specs.call_writes.specs.Sending.{SentWithCalling, SentCalling}
 use Rattle.call_attempts.specs.call_writes.proofs.Delivering.{plainly}
 use Rattle.call_attempts.specs.Both.{Both}

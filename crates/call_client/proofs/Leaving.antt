@@ -1,9 +1,9 @@
 -- Calls that are ended for want of memory leave no retry.
 use Rattle.std.proofs.Common.{◌≡◌, ℕ, List, [], ◌∷◌, ap, ◌∙◌}
-use Rattle.call_attempts.specs.rpc_client.specs.declared.acting.Told.{Told}
-use Rattle.call_attempts.specs.call_errors.specs.declared.retries.Retry.{Retry}
-use Rattle.call_attempts.specs.call_errors.specs.Books.{Books, CallStand, Tells, told, lost}
-use Rattle.call_attempts.specs.call_errors.specs.Starving.{GivenUp, was_gone, ended, AllGivenUp, StarvedBy}
+use Rattle.rpc_client.specs.declared.acting.Told.{Told}
+use Rattle.call_errors.specs.declared.retries.Retry.{Retry}
+use Rattle.call_errors.specs.Books.{Books, CallStand, Tells, told, lost}
+use Rattle.call_errors.specs.Starving.{GivenUp, was_gone, ended, AllGivenUp, StarvedBy}
 
 tells_retries : (x : Told) (b c : Books) → Tells x b c → c.retries ≡ b.retries
 tells_retries x b c (told e) = ap (λ (k : Books). k.retries) e

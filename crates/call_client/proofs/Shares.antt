@@ -8,8 +8,8 @@ use Rattle.corr_core.specs.declared.marks.Plan as id_plan
 use Rattle.corr_core.specs.declared.marks.View.{View}
 use Rattle.sock_message.specs.Asked.{Asked}
 use Rattle.corr_id.specs.declared.unlocks.Unlocked.TheVariants.{Open, Next}
-use Rattle.call_attempts.specs.call_errors.specs.Books.{CallStand}
-use Rattle.call_attempts.specs.call_errors.proofs.Keeping.{decided_behind, posted_behind}
+use Rattle.call_errors.specs.Books.{CallStand}
+use Rattle.call_errors.proofs.Keeping.{decided_behind, posted_behind}
 use Rattle.call_client.specs.declared.caller.Caller.{Caller}
 use Rattle.call_client.specs.Running.{RunBy}
 use Rattle.call_client.proofs.Changes.{Sees, keeps, finds, makes, locks, unlocks, Changes, same, in_turn, sees, ends, decides, posts, wants, shelves, run_changes}

@@ -22,12 +22,12 @@ use Rattle.corr_id.specs.declared.posts.Posted.TheVariants.{Locked as HasLock, Q
 use Rattle.corr_id.specs.declared.unlocks.Unlocked.TheVariants.{Open, Next}
 use Rattle.corr_id.specs.Calls.{slot_of, version_of, Did, Quiet, is_event, events, one, advance_note}
 use Rattle.corr_id.proofs.Seats.{total_append, notes_append}
-use Rattle.call_attempts.specs.call_errors.specs.Books.{Books, CallStand, stand_of, starving, Tells, told, lost}
-use Rattle.call_attempts.specs.call_errors.specs.Ending.{EndedWith, failed}
-use Rattle.call_attempts.specs.call_errors.specs.Handling.{Decided}
-use Rattle.call_attempts.specs.call_errors.specs.Handling as handling
-use Rattle.call_attempts.specs.call_errors.specs.Posting.{Handled}
-use Rattle.call_attempts.specs.call_errors.proofs.Accounts.{told_ends, noted_ends, Accounts, accounts_ended, accounts_then, decided_accounts, posted_accounts}
+use Rattle.call_errors.specs.Books.{Books, CallStand, stand_of, starving, Tells, told, lost}
+use Rattle.call_errors.specs.Ending.{EndedWith, failed}
+use Rattle.call_errors.specs.Handling.{Decided}
+use Rattle.call_errors.specs.Handling as handling
+use Rattle.call_errors.specs.Posting.{Handled}
+use Rattle.call_errors.proofs.Accounts.{told_ends, noted_ends, Accounts, accounts_ended, accounts_then, decided_accounts, posted_accounts}
 use Rattle.call_client.specs.declared.caller.Caller.{Caller}
 use Rattle.call_client.specs.Running.{RunBy}
 use Rattle.call_client.proofs.Changes.{Sees, keeps, finds, makes, locks, unlocks, Changes, same, in_turn, sees, ends, decides, posts, wants, shelves, run_changes}

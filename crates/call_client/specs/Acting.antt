@@ -10,23 +10,23 @@ use Rattle.sock_words.specs.declared.outcome.Outcome.{Outcome}
 use Rattle.sock_words.specs.declared.outcome.Outcome.TheVariants.{Unopened}
 use Rattle.sock_model.specs.declared.view.View.{View}
 use Rattle.corr_core.specs.declared.marks.Plan as id_plan
-use Rattle.call_attempts.specs.message_parts.specs.declared.parcel.Parcel.TheVariants.{Message}
-use Rattle.call_attempts.specs.sock_rule.specs.declared.homes.Letter.{Letter}
-use Rattle.call_attempts.specs.sock_rule.specs.declared.homes.SockHome.{SockHome}
-use Rattle.call_attempts.specs.sock_table.specs.declared.passes.LinkPass.{LinkPass}
-use Rattle.call_attempts.specs.sock_table.specs.Passes.{IsPass}
+use Rattle.message_parts.specs.declared.parcel.Parcel.TheVariants.{Message}
+use Rattle.sock_rule.specs.declared.homes.Letter.{Letter}
+use Rattle.sock_rule.specs.declared.homes.SockHome.{SockHome}
+use Rattle.sock_table.specs.declared.passes.LinkPass.{LinkPass}
+use Rattle.sock_table.specs.Passes.{IsPass}
 use Rattle.sock_message.specs.Asked.{name_of}
 use Rattle.sock_programs.specs.declared.task.Op.{Op}
 use Rattle.sock_programs.specs.declared.task.Op.TheVariants as ops
 use Rattle.sock_programs.specs.declared.task.Task.{Task}
-use Rattle.call_attempts.specs.rpc_client.specs.declared.holding.Held.{Held}
-use Rattle.call_attempts.specs.rpc_client.specs.Seats.{Idle}
-use Rattle.call_attempts.specs.rpc_client.specs.Opening.{OpenedBy}
-use Rattle.call_attempts.specs.rpc_client.specs.Holding.{IsHolder, HeldBy, DroppedBy}
-use Rattle.call_attempts.specs.rpc_client.specs.Failing.{FailedBy}
-use Rattle.call_attempts.specs.rpc_client.specs.Acting.{OwnList}
-use Rattle.call_attempts.specs.call_errors.specs.Books.{CallStand, stand_of}
-use Rattle.call_attempts.specs.call_errors.specs.Asking.{ExpiredBy, JoinedBy}
+use Rattle.rpc_client.specs.declared.holding.Held.{Held}
+use Rattle.rpc_client.specs.Seats.{Idle}
+use Rattle.rpc_client.specs.Opening.{OpenedBy}
+use Rattle.rpc_client.specs.Holding.{IsHolder, HeldBy, DroppedBy}
+use Rattle.rpc_client.specs.Failing.{FailedBy}
+use Rattle.rpc_client.specs.Acting.{OwnList}
+use Rattle.call_errors.specs.Books.{CallStand, stand_of}
+use Rattle.call_errors.specs.Asking.{ExpiredBy, JoinedBy}
 use Rattle.call_attempts.specs.call_writes.specs.Sending.{SentCalling}
 use Rattle.call_attempts.specs.declared.calling.Called.TheVariants as called
 use Rattle.call_attempts.specs.Both.{Both, HasNoLock}

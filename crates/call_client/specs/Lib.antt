@@ -2,10 +2,7 @@ pub mod Acting
 pub mod Running
 pub mod Making
 pub use Rattle.call_attempts
-pub use Rattle.call_attempts.specs.call_errors
-pub use Rattle.call_attempts.specs.call_table
+pub use Rattle.call_errors
 pub use Rattle.call_attempts.specs.call_writes
-pub use Rattle.call_attempts.specs.sock_open
-pub use Rattle.call_attempts.specs.sock_rule
-pub use Rattle.call_attempts.specs.sock_table
+pub use Rattle.rpc_client
 pub use Rattle.call_attempts.specs.write_chain

@@ -9,17 +9,17 @@ use Rattle.sock_words.specs.declared.outcome.Outcome.{Outcome}
 use Rattle.sock_words.specs.declared.outcome.Outcome.TheVariants.{Unopened}
 use Rattle.sock_model.specs.Layout.{name_word}
 use Rattle.corr_core.specs.declared.marks.Plan as id_plan
-use Rattle.call_attempts.specs.sock_table.specs.Named.{HasSeen}
-use Rattle.call_attempts.specs.sock_table.specs.declared.passes.LinkPass.{LinkPass}
+use Rattle.sock_table.specs.Named.{HasSeen}
+use Rattle.sock_table.specs.declared.passes.LinkPass.{LinkPass}
 use Rattle.sock_message.specs.Asked.{Asked, name_of}
 use Rattle.sock_programs.specs.declared.task.Op.{Op}
 use Rattle.sock_programs.specs.declared.task.Op.TheVariants as ops
 use Rattle.sock_programs.specs.declared.task.Task.{Task}
-use Rattle.call_attempts.specs.rpc_client.specs.declared.acting.Told.{Told}
-use Rattle.call_attempts.specs.rpc_client.specs.Opening.{GotNone}
-use Rattle.call_attempts.specs.rpc_client.specs.Running.{finds_name, telling, GaveFirst}
-use Rattle.call_attempts.specs.call_errors.specs.Books.{stand_of}
-use Rattle.call_attempts.specs.call_errors.specs.Starving.{StarvedBy}
+use Rattle.rpc_client.specs.declared.acting.Told.{Told}
+use Rattle.rpc_client.specs.Opening.{GotNone}
+use Rattle.rpc_client.specs.Running.{finds_name, telling, GaveFirst}
+use Rattle.call_errors.specs.Books.{stand_of}
+use Rattle.call_errors.specs.Starving.{StarvedBy}
 use Rattle.call_attempts.specs.declared.calling.Called.TheVariants as called
 use Rattle.call_attempts.specs.Both.{wanting}
 use Rattle.call_attempts.specs.Calling.{CalledBy, WantedBy}

@@ -1,11 +1,11 @@
 // One operation of a client with calls.
 ghost use Rattle.std.specs.Prelude.{◌≡◌, ◌+◌, ◌<◌, ℕ, IfOk, IfErr, All, length, vec_capacity};
-ghost use Rattle.call_attempts.specs.sock_table.specs.Passes.{IsPass};
+ghost use Rattle.sock_table.specs.Passes.{IsPass};
 ghost use Rattle.sock_message.specs.Asked.{name_of};
 ghost use Rattle.corr_id.specs.Seats.{Stays};
-ghost use Rattle.call_attempts.specs.rpc_client.specs.Seats.{MayAct, AtRest, StaysSeen, SameRefs};
-ghost use Rattle.call_attempts.specs.rpc_client.specs.Acting.{OwnList};
-ghost use Rattle.call_attempts.specs.call_errors.specs.Books.{stand_of};
+ghost use Rattle.rpc_client.specs.Seats.{MayAct, AtRest, StaysSeen, SameRefs};
+ghost use Rattle.rpc_client.specs.Acting.{OwnList};
+ghost use Rattle.call_errors.specs.Books.{stand_of};
 ghost use Rattle.call_attempts.specs.call_writes.specs.Sending.{SentCalling};
 ghost use Rattle.call_attempts.specs.Both.{HasNoLock};
 ghost use Rattle.call_client.specs.Acting.{letter_of, stand, OpenedNext, MayGo, Needs, Acted};
@@ -13,15 +13,14 @@ ghost use Rattle.call_client.specs.Running.{NotCalled};
 ghost use Rattle.call_client.specs.Making.{NotMade};
 
 use crate::caller::Caller;
-use call_attempts::call_errors::{expire_one, join_one};
-use call_attempts::call_writes::send_calling;
-use call_attempts::message_parts::Parcel;
-use call_attempts::rpc_client::{drop_one, fail_one, hold_one, open_one};
-use call_attempts::sock_rule::Letter;
-use call_attempts::{Called, Tables, call_one};
+use call_attempts::{Called, Tables, call_one, send_calling};
+use call_errors::{expire_one, join_one};
+use message_parts::Parcel;
+use rpc_client::{drop_one, fail_one, hold_one, open_one};
 use sock_io::Out;
 use sock_message::{Call, Message, NoMemory};
 use sock_programs::Op;
+use sock_rule::Letter;
 use sock_words::{Label, Outcome};
 use std::sync::Wait;
 

@@ -6,6 +6,6 @@ mod acting;
 mod caller;
 mod running;
 
-pub use call_attempts;
-pub use call_attempts::{call_errors, call_writes, sock_open, sock_rule, sock_table};
+pub use call_attempts::Tables;
 pub use caller::{Caller, Spent};
+pub use rpc_client::Told;

@@ -2,10 +2,10 @@
 ghost use Rattle.std.specs.Prelude.{◌≡◌, ◌+◌, ◌<◌, ◌≤◌, ◌++◌, ◌∷◌, ℕ, [], true, false, Option, IfOk, IfErr, All, length, vec_capacity};
 ghost use Rattle.std.specs.Result.{is_err};
 ghost use Rattle.sock_words.specs.declared.outcome.Outcome.{Outcome as AnOutcome};
-ghost use Rattle.call_attempts.specs.sock_table.specs.Passes.{IsPass};
+ghost use Rattle.sock_table.specs.Passes.{IsPass};
 ghost use Rattle.corr_id.specs.Seats.{Stays};
-ghost use Rattle.call_attempts.specs.rpc_client.specs.Seats.{Idle, AtRest, StaysSeen, SameRefs};
-ghost use Rattle.call_attempts.specs.rpc_client.specs.Running.{telling};
+ghost use Rattle.rpc_client.specs.Seats.{Idle, AtRest, StaysSeen, SameRefs};
+ghost use Rattle.rpc_client.specs.Running.{telling};
 ghost use Rattle.call_attempts.specs.Retrying.{RanOut};
 ghost use Rattle.call_client.specs.Acting.{both_of, stand, MayGo, MayMake, Acted};
 ghost use Rattle.call_client.specs.Running.{RetriedHere, MayMakeAll, LeftBy, LeftAll, EndsBy};
@@ -13,9 +13,9 @@ ghost use Rattle.call_client.specs.Making.{NotMade, ComesTo, CameBy};
 
 use crate::acting::act;
 use crate::caller::Caller;
-use call_attempts::call_errors::starve;
-use call_attempts::rpc_client::{Told, open_none};
 use call_attempts::{Tables, retry_all};
+use call_errors::starve;
+use rpc_client::{Told, open_none};
 use sock_io::{Gate, Out};
 use sock_message::NoMemory;
 use sock_programs::{Op, Task};

@@ -6,18 +6,18 @@ use Rattle.sock_words.specs.declared.outcome.Outcome.{Outcome}
 use Rattle.sock_words.specs.declared.plain.Plan.{Plan}
 use Rattle.sock_words.specs.declared.place_word.PlaceWord.{PlaceWord}
 use Rattle.sock_words.specs.declared.vref.Vref.{Vref}
-use Rattle.sock_deeds.specs.sock_rule.specs.Closing.{PlacesDiffer}
+use Rattle.call_places.specs.sock_rule.specs.Closing.{PlacesDiffer}
 use Rattle.sock_programs.specs.declared.task.Task.{Task}
 use Rattle.sock_programs.specs.Cores.{Core}
 use Rattle.sock_programs.specs.Told.{AreTasks}
 use Rattle.corr_core.specs.declared.marks.View as id_view
 use Rattle.sock_message.specs.Asked.{Asked}
-use Rattle.sock_deeds.specs.rpc_client.specs.declared.acting.Told.{Told}
-use Rattle.call_run.specs.Threads.{ids_of, opens_of, openings, opened_names, MayRunAll, RanOn}
-use Rattle.sock_deeds.specs.Told.{ToldSockets}
-use Rattle.sock_deeds.specs.Runs.{DeedRun}
-use Rattle.sock_deeds.proofs.Orders.{orders, IsLeft}
-use Rattle.sock_deeds.proofs.Whole.{fixed, told_of_deeds}
+use Rattle.call_places.specs.rpc_client.specs.declared.acting.Told.{Told}
+use Rattle.call_places.specs.call_run.specs.Threads.{ids_of, opens_of, openings, opened_names, MayRunAll, RanOn}
+use Rattle.call_places.specs.sock_deeds.specs.Told.{ToldSockets}
+use Rattle.call_places.specs.sock_deeds.specs.Runs.{DeedRun}
+use Rattle.call_places.specs.sock_deeds.proofs.Orders.{orders, IsLeft}
+use Rattle.call_places.specs.sock_deeds.proofs.Whole.{fixed, told_of_deeds}
 use Rattle.call_deeds.specs.Retried.{all_asked}
 use Rattle.call_deeds.specs.Scripts.{AllHaveLinks, Reports, AllLater}
 use Rattle.call_deeds.proofs.Ran.{AreLater}

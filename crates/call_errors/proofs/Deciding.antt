@@ -11,7 +11,7 @@ use Rattle.corr_id.specs.declared.calls.IdLock.{IdLock}
 use Rattle.corr_id.specs.declared.unlocks.Unlocked.{Unlocked}
 use Rattle.corr_id.specs.Calls.{Did}
 use Rattle.corr_id.specs.Unlocks.{UnlockOk}
-use Rattle.rpc_client.specs.call_table.specs.declared.errors.Decision.TheVariants as decisions
+use Rattle.call_table.specs.declared.errors.Decision.TheVariants as decisions
 use Rattle.call_errors.specs.declared.retries.Retry.{Retry}
 use Rattle.call_errors.specs.Books.{Books, CallStand, starving, LetGo}
 use Rattle.call_errors.specs.Locking.{id_in}

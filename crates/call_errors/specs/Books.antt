@@ -1,7 +1,7 @@
 -- What a client knows of calls: by its seat, and by its own books.
 use Rattle.std.specs.Prelude.{◌≡◌, ◌≢◌, ℕ, Bool, true, List, [], ◌∷◌, ◌++◌}
 use Rattle.corr_core.specs.declared.marks.View.{View}
-use Rattle.id_rule.specs.Lawful.{tokens_in}
+use Rattle.corr_id.specs.id_rule.specs.Lawful.{tokens_in}
 use Rattle.sock_message.specs.Asked.{Asked}
 use Rattle.rpc_client.specs.declared.acting.Told.{Told}
 use Rattle.call_errors.specs.declared.seats.CallSeat.{CallSeat}

@@ -8,9 +8,9 @@ use Rattle.corr_id.specs.declared.calls.IdLock.{IdLock}
 use Rattle.corr_id.specs.declared.unlocks.Unlocked.{Unlocked}
 use Rattle.corr_id.specs.declared.unlocks.Unlocked.TheVariants.{Open, Next}
 use Rattle.corr_id.specs.Unlocks.{UnlockOk}
-use Rattle.rpc_client.specs.call_table.specs.declared.errors.Decision.{Decision}
-use Rattle.rpc_client.specs.call_table.specs.declared.errors.Decision.TheVariants as decisions
-use Rattle.rpc_client.specs.call_table.specs.Errors.{decision_of}
+use Rattle.call_table.specs.declared.errors.Decision.{Decision}
+use Rattle.call_table.specs.declared.errors.Decision.TheVariants as decisions
+use Rattle.call_table.specs.Errors.{decision_of}
 use Rattle.call_errors.specs.declared.retries.Retry.{Retry}
 use Rattle.call_errors.specs.Books.{CallStand, starving, keeping}
 use Rattle.call_errors.specs.Locking.{id_in}

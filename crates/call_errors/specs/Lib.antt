@@ -5,12 +5,4 @@ pub mod Handling
 pub mod Posting
 pub mod Asking
 pub mod Starving
-pub use Rattle.rpc_client.specs.call_table
-pub use Rattle.corr_id
-pub use Rattle.rpc_client.specs.message_parts
 pub use Rattle.rpc_client
-pub use Rattle.rpc_client.specs.slot_laws
-pub use Rattle.rpc_client.specs.sock_open
-pub use Rattle.rpc_client.specs.sock_rule
-pub use Rattle.rpc_client.specs.sock_table
-pub use Rattle.rpc_client.specs.write_chain

@@ -11,8 +11,8 @@ ghost use Rattle.call_errors.specs.Handling.{is_whole as concerns_all, decision,
 use crate::ending::end_call;
 use crate::retries::Retry;
 use crate::seats::CallSeat;
+use call_table::{Decision, on_error};
 use corr_id::{IdLock, IdTable, Unlocked};
-use rpc_client::call_table::{Decision, on_error};
 use sock_message::Call;
 use sock_words::EINTERNAL;
 

@@ -11,13 +11,10 @@ mod seats;
 mod starving;
 
 pub use asking::{expire_one, join_one};
-pub use corr_id;
 pub use ending::end_call;
 pub use handling::handle;
 pub use posting::post_error;
 pub use retries::Retry;
-pub use rpc_client;
-pub use rpc_client::{message_parts, sock_open, sock_rule, sock_table, write_chain};
+pub use rpc_client::{Reached, reach, refuse};
 pub use seats::CallSeat;
-pub use sock_message;
 pub use starving::{give_up, starve};

@@ -7,10 +7,10 @@ use Rattle.sock_io.specs.declared.link.Out.{Ghosts}
 use Rattle.sock_words.specs.declared.plain.Plan.{Plan}
 use Rattle.sock_words.specs.declared.socket_id.SocketId.{SocketId}
 use Rattle.sock_model.specs.declared.view.View.{View}
-use Rattle.call_client.specs.sock_rule.specs.declared.homes.SockHome.{SockHome}
-use Rattle.call_client.specs.sock_table.specs.Named.{Found}
-use Rattle.rpc_reader.specs.rpc_client.specs.Seats.{SameRefs, AtRest}
-use Rattle.rpc_reader.specs.rpc_client.proofs.Counting.{refs_then, refs_none, finds_refs, holder_same}
+use Rattle.sock_rule.specs.declared.homes.SockHome.{SockHome}
+use Rattle.sock_table.specs.Named.{Found}
+use Rattle.call_client.specs.rpc_client.specs.Seats.{SameRefs, AtRest}
+use Rattle.call_client.specs.rpc_client.proofs.Counting.{refs_then, refs_none, finds_refs, holder_same}
 use Rattle.call_client.specs.declared.caller.Caller.{Caller}
 use Rattle.call_client.specs.Acting.{MayGo}
 use Rattle.call_run.specs.Threads.{FoundEach}

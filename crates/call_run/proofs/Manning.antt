@@ -8,16 +8,16 @@ use Rattle.atomic_table.specs.declared.shared.Seat.{Seat}
 use Rattle.sock_io.specs.declared.link.Out.{Ghosts}
 use Rattle.sock_words.specs.declared.plain.Plan.{Plan}
 use Rattle.sock_model.specs.declared.view.View.{View}
-use Rattle.call_client.specs.sock_rule.specs.declared.homes.SockHome.{SockHome}
-use Rattle.call_client.specs.sock_table.specs.declared.passes.LinkPass.{LinkPass}
-use Rattle.call_client.specs.sock_table.specs.Passes.{IsPass}
-use Rattle.call_client.specs.sock_open.specs.Made.{IsNewSeat, AreNewSeats, AreMade}
+use Rattle.sock_rule.specs.declared.homes.SockHome.{SockHome}
+use Rattle.sock_table.specs.declared.passes.LinkPass.{LinkPass}
+use Rattle.sock_table.specs.Passes.{IsPass}
+use Rattle.sock_open.specs.Made.{IsNewSeat, AreNewSeats, AreMade}
 use Rattle.corr_core.specs.declared.marks.Plan as id_plan
 use Rattle.corr_core.specs.declared.marks.View as id_view
 use Rattle.corr_id.specs.Opening.{AreNew}
 use Rattle.sock_message.specs.Asked.{Asked}
 use Rattle.sock_programs.specs.declared.task.Task.{Task}
-use Rattle.rpc_reader.specs.rpc_client.specs.declared.acting.Told.{Told}
+use Rattle.call_client.specs.rpc_client.specs.declared.acting.Told.{Told}
 use Rattle.call_client.specs.Running.{MayMakeAll}
 use Rattle.call_run.specs.declared.opened.Opening.{Opening}
 use Rattle.call_run.specs.declared.hiring.Room.{Room}

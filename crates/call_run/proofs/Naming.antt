@@ -8,7 +8,7 @@ use Rattle.corr_core.specs.declared.marks.Plan as id_plan
 use Rattle.sock_programs.specs.declared.task.Op.{Op}
 use Rattle.sock_programs.specs.declared.task.Op.TheVariants as ops
 use Rattle.sock_programs.specs.declared.task.Task.{Task}
-use Rattle.rpc_reader.specs.rpc_client.specs.declared.acting.Told.{Told}
+use Rattle.call_client.specs.rpc_client.specs.declared.acting.Told.{Told}
 use Rattle.call_client.specs.Acting.{MayMake}
 use Rattle.call_client.specs.Running.{left_by, MayMakeAll}
 use Rattle.call_run.specs.declared.opened.Opening.{Opening}

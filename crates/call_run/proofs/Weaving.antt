@@ -10,9 +10,9 @@ use Rattle.sock_io.specs.Link.{OutState}
 use Rattle.sock_words.specs.declared.plain.Plan.{Plan}
 use Rattle.sock_model.specs.declared.view.View.{View}
 use Rattle.sock_model.specs.Weights.{total}
-use Rattle.call_client.specs.sock_rule.specs.declared.homes.SockHome.{SockHome}
-use Rattle.call_client.specs.sock_table.specs.Closed.{AllDone}
-use Rattle.call_client.specs.sock_open.proofs.Making.{new_view}
+use Rattle.sock_rule.specs.declared.homes.SockHome.{SockHome}
+use Rattle.sock_table.specs.Closed.{AllDone}
+use Rattle.sock_open.proofs.Making.{new_view}
 use Rattle.corr_core.specs.Law.{total as id_total}
 use Rattle.corr_core.specs.declared.marks.Plan as id_plan
 use Rattle.corr_core.specs.declared.marks.View as id_view

@@ -10,8 +10,8 @@ use Rattle.sock_io.specs.Link.{OutState}
 use Rattle.sock_words.specs.declared.plain.Plan.{Plan}
 use Rattle.sock_model.specs.declared.view.View as sock_view
 use Rattle.sock_model.specs.Weights.{total as sock_total}
-use Rattle.call_client.specs.sock_table.specs.Closed.{AllDone}
-use Rattle.call_client.specs.sock_open.specs.Opening.{IsRoom}
+use Rattle.sock_table.specs.Closed.{AllDone}
+use Rattle.sock_open.specs.Opening.{IsRoom}
 use Rattle.corr_core.specs.Law.{Each, total}
 use Rattle.corr_core.specs.declared.marks.Plan as id_plan
 use Rattle.corr_core.specs.declared.marks.View as id_view

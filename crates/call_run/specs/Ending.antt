@@ -5,7 +5,7 @@ use Rattle.sock_words.specs.Codes.{EEOF}
 use Rattle.sock_words.specs.declared.plain.Plan.{Plan}
 use Rattle.sock_words.specs.declared.socket_id.SocketId.{SocketId}
 use Rattle.sock_model.specs.declared.view.View.{View}
-use Rattle.call_client.specs.sock_table.specs.Closed.{HasAll}
+use Rattle.sock_table.specs.Closed.{HasAll}
 use Rattle.rpc_reader.specs.Failing.{OpenedBy, FailedBy}
 
 -- the socket was set failed as at the end of its link; an `open` may have got none

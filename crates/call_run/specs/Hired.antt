@@ -5,11 +5,11 @@ use Rattle.atomic_table.specs.declared.shared.Seat.{Seat}
 use Rattle.sock_io.specs.declared.link.Out.{Ghosts}
 use Rattle.sock_words.specs.declared.plain.Plan.{Plan}
 use Rattle.sock_model.specs.declared.view.View.{View}
-use Rattle.call_client.specs.sock_rule.specs.declared.homes.SockHome.{SockHome}
-use Rattle.call_client.specs.sock_table.specs.declared.passes.LinkPass.{LinkPass}
-use Rattle.call_client.specs.sock_table.specs.Passes.{IsPass}
-use Rattle.call_client.specs.sock_open.specs.Made.{IsNewSeat, AreNewSeats}
-use Rattle.call_client.specs.sock_open.specs.Opening.{IsRoom}
+use Rattle.sock_rule.specs.declared.homes.SockHome.{SockHome}
+use Rattle.sock_table.specs.declared.passes.LinkPass.{LinkPass}
+use Rattle.sock_table.specs.Passes.{IsPass}
+use Rattle.sock_open.specs.Made.{IsNewSeat, AreNewSeats}
+use Rattle.sock_open.specs.Opening.{IsRoom}
 use Rattle.corr_core.specs.declared.marks.View as id_view
 use Rattle.id_rule.specs.Lawful.{newcomer as id_newcomer}
 use Rattle.corr_id.specs.Opening.{AreNew}

@@ -6,11 +6,11 @@ pub mod Crew
 pub use Rattle.call_client.specs.call_attempts
 pub use Rattle.call_client
 pub use Rattle.call_client.specs.call_errors
-pub use Rattle.call_client.specs.call_table
+pub use Rattle.rpc_reader.specs.call_table
 pub use Rattle.call_client.specs.call_writes
 pub use Rattle.rpc_reader.specs.prpc_frame
 pub use Rattle.rpc_reader
-pub use Rattle.call_client.specs.sock_open
-pub use Rattle.call_client.specs.sock_rule
-pub use Rattle.call_client.specs.sock_table
+pub use Rattle.sock_open
+pub use Rattle.sock_rule
+pub use Rattle.sock_table
 pub use Rattle.call_client.specs.write_chain

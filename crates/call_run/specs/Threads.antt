@@ -18,11 +18,11 @@ use Rattle.sock_message.specs.Asked.{Asked}
 use Rattle.sock_programs.specs.declared.task.Op.{Op}
 use Rattle.sock_programs.specs.declared.task.Op.TheVariants as ops
 use Rattle.sock_programs.specs.declared.task.Task.{Task}
-use Rattle.call_client.specs.sock_rule.specs.declared.homes.SockHome.{SockHome}
-use Rattle.call_client.specs.sock_table.specs.declared.passes.LinkPass.{LinkPass}
-use Rattle.call_client.specs.sock_table.specs.Closed.{ClosedBy}
-use Rattle.call_client.specs.sock_table.specs.Named.{Found}
-use Rattle.rpc_reader.specs.rpc_client.specs.declared.acting.Told.{Told}
+use Rattle.sock_rule.specs.declared.homes.SockHome.{SockHome}
+use Rattle.sock_table.specs.declared.passes.LinkPass.{LinkPass}
+use Rattle.sock_table.specs.Closed.{ClosedBy}
+use Rattle.sock_table.specs.Named.{Found}
+use Rattle.call_client.specs.rpc_client.specs.declared.acting.Told.{Told}
 use Rattle.call_client.specs.call_errors.specs.Books.{books_of}
 use Rattle.call_client.specs.declared.caller.Caller.{Caller}
 use Rattle.call_client.specs.Running.{MayMakeAll, RunBy}

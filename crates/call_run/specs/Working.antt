@@ -4,7 +4,7 @@ use Rattle.atomic_table.specs.Seated.{TableId}
 use Rattle.sock_io.specs.declared.link.Out.{Ghosts}
 use Rattle.sock_io.specs.Link.{OutState}
 use Rattle.sock_words.specs.declared.plain.Plan.{Plan}
-use Rattle.call_client.specs.sock_table.specs.Closed.{IsDoneSeat}
+use Rattle.sock_table.specs.Closed.{IsDoneSeat}
 use Rattle.corr_core.specs.declared.marks.Plan as id_plan
 use Rattle.corr_id.specs.Seats.{Stays}
 use Rattle.call_client.specs.call_attempts.specs.Both.{HasNoLock}

@@ -1,14 +1,14 @@
 // The sockets of a run end once all clients have ended.
 ghost use Rattle.std.specs.Prelude.{◌≡◌, ◌<◌, ◌≤◌, All};
-ghost use Rattle.call_client.specs.sock_open.specs.Opening.{IsRoom};
-ghost use Rattle.call_client.specs.sock_table.specs.Closed.{IsDoneSeat};
+ghost use Rattle.sock_open.specs.Opening.{IsRoom};
+ghost use Rattle.sock_table.specs.Closed.{IsDoneSeat};
 ghost use Rattle.call_run.specs.Crew.{IsLeft};
 ghost use Rattle.call_run.specs.Ending.{EndedOne, EndedEach, EndedBehind};
 
-use call_client::sock_rule::SockSeat;
-use call_client::sock_table::SockTable;
 use rpc_reader::{fail_id, wait_open};
 use sock_io::Out;
+use sock_rule::SockSeat;
+use sock_table::SockTable;
 use sock_words::EEOF;
 use std::sync::Wait;
 

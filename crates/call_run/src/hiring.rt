@@ -2,9 +2,9 @@
 ghost use Rattle.std.specs.Prelude.{◌≡◌, ◌-◌, ◌≤◌, ◌++◌, All, IfOk, length, map};
 ghost use Rattle.atomic_table.specs.Seated.{TableId};
 ghost use Rattle.sock_words.specs.declared.plain.Plan.{Plan};
-ghost use Rattle.call_client.specs.sock_table.specs.Passes.{IsPass};
-ghost use Rattle.call_client.specs.sock_open.specs.Made.{IsNewSeat};
-ghost use Rattle.call_client.specs.sock_open.specs.Opening.{IsRoom};
+ghost use Rattle.sock_table.specs.Passes.{IsPass};
+ghost use Rattle.sock_open.specs.Made.{IsNewSeat};
+ghost use Rattle.sock_open.specs.Opening.{IsRoom};
 ghost use Rattle.corr_id.specs.Seats.{Sits, IsFree};
 ghost use Rattle.call_client.specs.Acting.{MayGo};
 ghost use Rattle.call_run.specs.Threads.{opens_of, DidNothing};
@@ -12,14 +12,13 @@ ghost use Rattle.call_run.specs.Hired.{HasRoom, MayHire, AreHired};
 
 use crate::opened::opens_of;
 use crate::worker::Worker;
-use call_client::Caller;
-use call_client::call_attempts::Tables;
-use call_client::sock_rule::SockSeat;
-use call_client::sock_table::LinkPass;
+use call_client::{Caller, Tables};
 use corr_id::IdSeat;
 use sock_io::Out;
 use sock_message::Call;
 use sock_programs::Task;
+use sock_rule::SockSeat;
+use sock_table::LinkPass;
 use std::alloc::{AllocError, Global};
 use std::collections::VecDeque;
 

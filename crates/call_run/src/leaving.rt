@@ -3,12 +3,11 @@ ghost use Rattle.std.specs.Prelude.{◌≡◌, ◌∷◌, ◌||◌, [], IfOk, le
 ghost use Rattle.call_run.specs.Crew.{IsRoomFor, HasMore, HandedIn};
 
 use crate::worker::Worker;
-use call_client::Spent;
-use call_client::sock_rule::SockSeat;
+use call_client::{Spent, Told};
 use corr_id::IdSeat;
-use rpc_reader::rpc_client::Told;
 use sock_io::Out;
 use sock_message::Call;
+use sock_rule::SockSeat;
 use std::alloc::{AllocError, Global};
 
 /// What clients leave: their seats of both tables, the outcomes of their operations, and those of the calls that they ended, one

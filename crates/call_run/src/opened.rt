@@ -1,9 +1,9 @@
 // What clients open, and the names that the setup opened.
 ghost use Rattle.std.specs.Prelude.{◌≡◌, ◌<◌, ◌≤◌, ◌==◌, ◌&&◌, ◌++◌, OnOk, IfOk, length, vec_capacity};
-ghost use Rattle.call_client.specs.sock_open.specs.Opening.{IsRoom};
+ghost use Rattle.sock_open.specs.Opening.{IsRoom};
 ghost use Rattle.call_run.specs.Threads.{opens_in, opens_of, is_opened, opened_in, opening_in, openings, name_if, opened_names};
 
-use rpc_reader::rpc_client::Told;
+use call_client::Told;
 use sock_programs::{Op, Task};
 use sock_words::Outcome;
 use std::alloc::{AllocError, Global};

@@ -1,14 +1,14 @@
 // A client waits for the sockets that were opened before it began.
 ghost use Rattle.std.specs.Prelude.{◌≡◌, ◌<◌, All, Some};
 ghost use Rattle.sock_words.specs.declared.socket_id.SocketId.{SocketId};
-ghost use Rattle.call_client.specs.sock_table.specs.Named.{Found};
-ghost use Rattle.rpc_reader.specs.rpc_client.specs.Seats.{Idle, AtRest};
+ghost use Rattle.sock_table.specs.Named.{Found};
+ghost use Rattle.call_client.specs.rpc_client.specs.Seats.{Idle, AtRest};
 ghost use Rattle.call_run.specs.Threads.{FoundEach};
 
-use call_client::sock_rule::SockSeat;
-use call_client::sock_table::SockTable;
 use crossbeam_utils::Backoff;
 use sock_io::Out;
+use sock_rule::SockSeat;
+use sock_table::SockTable;
 use std::sync::Wait;
 
 /// Waits until the name is that of a socket.

@@ -3,8 +3,7 @@ ghost use Rattle.std.specs.Prelude.{◌≡◌, ◌<◌, ℕ, All, length, slice_
 ghost use Rattle.call_run.specs.Working.{IsReady, HasWorked};
 
 use crate::waiting::wait_all;
-use call_client::Caller;
-use call_client::call_attempts::Tables;
+use call_client::{Caller, Tables};
 use sock_io::{Gate, Out};
 use sock_programs::Task;
 use std::collections::VecDeque;

@@ -3,8 +3,6 @@
 
 mod call_slots;
 mod opening;
-#[cfg(test)]
-mod tests;
 mod words;
 
 pub use call_slots::CallSlots;

@@ -2,10 +2,10 @@
 use Rattle.std.proofs.Common.{◌≡◌, ◌≢◌, ℕ, zero, suc, pos, negsuc, Some, None, true, false, ◌∙◌, ap, refl, sym}
 use Rattle.std.specs.Prelude.{ℤ, Option, option_map, IsSome, IfSome}
 use Rattle.sock_words.specs.declared.outcome.Outcome.TheVariants as outcomes
-use Rattle.prpc_frame.specs.brpc_model.specs.Meta as model
-use Rattle.prpc_frame.specs.brpc_model.specs.Frame as model_frame
-use Rattle.prpc_frame.specs.rpc_meta.specs.Meaning.{response_of}
-use Rattle.prpc_frame.specs.rpc_meta.specs.declared.meta.ResponseMeta.{ResponseMeta}
+use Rattle.sock_message.specs.brpc_model.specs.Meta as model
+use Rattle.sock_message.specs.brpc_model.specs.Frame as model_frame
+use Rattle.rpc_meta.specs.Meaning.{response_of}
+use Rattle.rpc_meta.specs.declared.meta.ResponseMeta.{ResponseMeta}
 use Rattle.prpc_frame.specs.Meaning.{frame_of}
 use Rattle.prpc_frame.specs.declared.frame.Frame.{Frame}
 use Rattle.call_table.specs.declared.responses.Ending.TheVariants.{Unread, Peer}

@@ -2,11 +2,11 @@
 use Rattle.std.proofs.Common.{◌≡◌, ℕ, ◌+◌, ◌-◌, ◌≤◌, ◌<◌, List, ◌∷◌, ◌++◌, length, ◌∙◌, ap, refl, arith, length-append, IfOk}
 use Rattle.std.specs.Prelude.{Result, Ok, Err}
 use Rattle.std.specs.Int.{w32, to_be_bytes}
-use Rattle.prpc_frame.specs.brpc_model.specs.Meta.{Meta}
-use Rattle.prpc_frame.specs.brpc_model.specs.Spelling.{meta_bytes}
-use Rattle.prpc_frame.specs.brpc_model.specs.Frame.{Frame, Begins, judged, magic, framed}
-use Rattle.io_block.specs.declared.pool.TheConstants.{BLOCK_BYTES}
-use Rattle.prpc_frame.specs.io_buf.specs.Buffer.{Buffer, block_sizes}
+use Rattle.sock_message.specs.brpc_model.specs.Meta.{Meta}
+use Rattle.sock_message.specs.brpc_model.specs.Spelling.{meta_bytes}
+use Rattle.sock_message.specs.brpc_model.specs.Frame.{Frame, Begins, judged, magic, framed}
+use Rattle.sock_message.specs.io_block.specs.declared.pool.TheConstants.{BLOCK_BYTES}
+use Rattle.sock_message.specs.io_buf.specs.Buffer.{Buffer, block_sizes}
 use Rattle.sock_message.specs.Asked.{Asked, meta_of, request_of, frame_of, head_of}
 
 framed_size : (meta payload attachment : List ℕ) → length (framed meta payload attachment) ≡ 12 + (length meta + length payload + length attachment)

@@ -1,8 +1,8 @@
 -- How long the meta of a call's request is at most.
 use Rattle.std.proofs.Common.{ℕ, ◌+◌, ◌*◌, ◌/◌, ◌%◌, ◌<◌, ◌≤◌, suc, zero, Bool, true, false, pos, negsuc, ◌-◌, ◌^◌, List, [], ◌∷◌, ◌++◌, length, Some, None, arith, length-append}
 use Rattle.std.specs.Prelude.{nat_lt, if◌then◌else◌, ℤ}
-use Rattle.prpc_frame.specs.brpc_model.specs.Wire.{varint_up_to, varint_bytes}
-use Rattle.prpc_frame.specs.brpc_model.specs.Spelling.{number_field, bytes_field, where_not_0, meta_bytes}
+use Rattle.sock_message.specs.brpc_model.specs.Wire.{varint_up_to, varint_bytes}
+use Rattle.sock_message.specs.brpc_model.specs.Spelling.{number_field, bytes_field, where_not_0, meta_bytes}
 
 varint_size : (most n : ℕ) → length (varint_up_to most n) ≤ most
 varint_size zero n = omega arith

@@ -4,9 +4,9 @@ use Rattle.sock_words.specs.Codes.{ERESPONSE}
 use Rattle.sock_words.specs.declared.outcome.Outcome.{Outcome}
 use Rattle.sock_words.specs.declared.outcome.Outcome.TheVariants as outcomes
 use Rattle.corr_core.specs.Word.{Parts}
-use Rattle.prpc_frame.specs.brpc_model.specs.Meta.{ResponseMeta}
-use Rattle.prpc_frame.specs.brpc_model.specs.Frame.{Frame}
-use Rattle.prpc_frame.specs.rpc_meta.specs.declared.meta.ResponseMeta as metas
+use Rattle.sock_message.specs.brpc_model.specs.Meta.{ResponseMeta}
+use Rattle.sock_message.specs.brpc_model.specs.Frame.{Frame}
+use Rattle.rpc_meta.specs.declared.meta.ResponseMeta as metas
 use Rattle.prpc_frame.specs.declared.frame.Frame as frames
 use Rattle.call_table.specs.declared.responses.Ending.{Ending}
 use Rattle.call_table.specs.declared.responses.Ending.TheVariants.{Unread, Answered, Peer}

@@ -5,12 +5,6 @@
 mod errors;
 mod issuing;
 mod responses;
-
-pub use prpc_frame::io_buf;
-pub use sock_message;
-
-#[cfg(test)]
-mod tests;
 mod versions;
 
 pub use errors::{Decision, on_error};

@@ -9,7 +9,7 @@ use Rattle.brpc_model.specs.Operations.{Operation}
 use Rattle.sock_io.specs.declared.link.Ends.{Ends}
 use Rattle.sock_io.specs.Link.{OutState, InState, end_of}
 use Rattle.sock_words.specs.declared.outcome.Outcome.{Outcome}
-use Rattle.rpc_reader.specs.Books.{Books}
+use Rattle.call_deeds.specs.rpc_reader.specs.Books.{Books}
 use Rattle.call_told.specs.Answers.{GaveBetween, AnsweredFrom, HaveAnswers, IsGiver, AreAnsweredBy}
 use Rattle.call_told.proofs.Lists.{some_same, all_there}
 

@@ -6,12 +6,12 @@ use Rattle.prpc_frame.specs.declared.frame.Frame.{Frame}
 use Rattle.corr_core.specs.declared.marks.Plan as ids
 use Rattle.sock_io.specs.declared.link.Ends.{Ends}
 use Rattle.sock_io.specs.Link.{OutState, InState}
-use Rattle.rpc_reader.specs.declared.reading.How.{How}
-use Rattle.rpc_reader.specs.declared.reading.How.TheVariants as how
-use Rattle.rpc_reader.specs.Books.{Books}
-use Rattle.rpc_reader.specs.Reading.{code_of}
-use Rattle.rpc_reader.specs.Linked.{ReadServed, ReadLinks}
-use Rattle.rpc_reader.specs.Resting.{RestEnded}
+use Rattle.call_deeds.specs.rpc_reader.specs.declared.reading.How.{How}
+use Rattle.call_deeds.specs.rpc_reader.specs.declared.reading.How.TheVariants as how
+use Rattle.call_deeds.specs.rpc_reader.specs.Books.{Books}
+use Rattle.call_deeds.specs.rpc_reader.specs.Reading.{code_of}
+use Rattle.call_deeds.specs.rpc_reader.specs.Linked.{ReadServed, ReadLinks}
+use Rattle.call_deeds.specs.rpc_reader.specs.Resting.{RestEnded}
 use Rattle.call_told.specs.Answers.{IsGiven, AreGiven, IsLossCode, at_end, at_fault, at_want, TellsFrom, GaveBetween, AnsweredFrom}
 use Rattle.call_told.proofs.Lists.{some_same}
 use Rattle.call_told.proofs.Noting.{Later}

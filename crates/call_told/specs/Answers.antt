@@ -21,10 +21,10 @@ use Rattle.corr_id.specs.Calls.{Found, events}
 use Rattle.sock_message.specs.Asked.{Asked}
 use Rattle.prpc_frame.specs.Meaning.{frame_of}
 use Rattle.prpc_frame.specs.declared.frame.Frame as frames
-use Rattle.call_client.specs.call_table.specs.Responses.{ending_of}
-use Rattle.rpc_reader.specs.rpc_client.specs.declared.acting.Told.{Told}
-use Rattle.rpc_reader.specs.Books.{Books, id_of}
-use Rattle.call_client.specs.declared.caller.Caller.{Caller}
+use Rattle.call_deeds.specs.call_table.specs.Responses.{ending_of}
+use Rattle.call_deeds.specs.rpc_client.specs.declared.acting.Told.{Told}
+use Rattle.call_deeds.specs.rpc_reader.specs.Books.{Books, id_of}
+use Rattle.call_deeds.specs.call_client.specs.declared.caller.Caller.{Caller}
 
 -- ## Responses that links gave
 

@@ -9,7 +9,7 @@ use Rattle.brpc_model.specs.Items.{Item, Call, CallLine}
 use Rattle.sock_message.specs.Asked.{Asked}
 use Rattle.sock_programs.specs.declared.task.Task.{Task}
 use Rattle.sock_programs.specs.ToldCalls.{Fixed, Order, IsAnsweredBy, HasCode, WhyCall}
-use Rattle.call_told.specs.Answers.{IsAnswer, HasAnswer}
+use Rattle.expire_told.specs.call_told.specs.Answers.{IsAnswer, HasAnswer}
 
 -- the line of a call
 line_of : Item → CallLine → CallLine

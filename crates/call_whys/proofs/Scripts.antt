@@ -15,8 +15,8 @@ use Rattle.sock_programs.specs.Scripts.{all_tasks}
 use Rattle.sock_programs.specs.Tasks.{Numbered, numbered, op_of}
 use Rattle.sock_programs.specs.Told.{IsTask, Became}
 use Rattle.sock_programs.specs.ToldCalls.{Fixed, Order, WhyCall}
-use Rattle.call_places.specs.report_fits.proofs.TaskLemmas.{numbers_at, IsTaskOf, task_is}
-use Rattle.call_told.specs.Answers.{HasAnswer, AreAnsweredBy}
+use Rattle.expire_told.specs.report_fits.proofs.TaskLemmas.{numbers_at, IsTaskOf, task_is}
+use Rattle.expire_told.specs.call_told.specs.Answers.{HasAnswer, AreAnsweredBy}
 use Rattle.call_whys.proofs.Answers.{why_answered, why_peer}
 
 -- ## The line of a call

@@ -24,8 +24,8 @@ use Rattle.corr_core.proofs.Notes.{only-at}
 use Rattle.id_rule.specs.Lawful.{notes_of}
 use Rattle.corr_id.specs.Closing.{Closing}
 use Rattle.sock_message.specs.Asked.{Asked}
-use Rattle.call_told.specs.Once.{ends_of}
-use Rattle.call_places.proofs.Weights.{two_terms}
+use Rattle.expire_told.specs.call_told.specs.Once.{ends_of}
+use Rattle.expire_told.specs.call_places.proofs.Weights.{two_terms}
 
 content_of : Note Asked → Asked → Asked
 content_of (Made f r asked) other = asked

@@ -5,8 +5,8 @@ use Rattle.sock_words.specs.declared.plain.Plan.{Plan}
 use Rattle.sock_words.specs.declared.outcome.Outcome.{Outcome}
 use Rattle.sock_words.specs.declared.outcome.Outcome.TheVariants as outcome
 use Rattle.sock_model.specs.declared.view.View.{View}
-use Rattle.call_errors.specs.sock_rule.specs.declared.homes.Letter.{Letter}
-use Rattle.call_errors.specs.sock_table.specs.declared.refs.SockRef.{SockRef}
+use Rattle.sock_rule.specs.declared.homes.Letter.{Letter}
+use Rattle.sock_table.specs.declared.refs.SockRef.{SockRef}
 use Rattle.call_errors.specs.rpc_client.specs.declared.reaching.Reached.TheVariants.{Here}
 use Rattle.call_errors.specs.rpc_client.specs.Reaching.{ReachedBy}
 use Rattle.call_errors.specs.rpc_client.specs.Sending.{DeliveredBy}

@@ -3,9 +3,9 @@ use Rattle.std.proofs.Common.{◌≡◌, ◌⊎◌, ℕ, inl, inr, refl, sym, ap
 use Rattle.sock_io.specs.Link.{OutState}
 use Rattle.sock_words.specs.declared.plain.Plan.{Plan}
 use Rattle.sock_model.specs.declared.view.View.{View}
-use Rattle.call_errors.specs.write_chain.specs.Noting.{Wrote}
-use Rattle.call_errors.specs.write_chain.proofs.Noting.{wrote_rights, wrote_then, drop_then}
-use Rattle.call_errors.specs.write_chain.proofs.Dropping.{code_before}
+use Rattle.write_chain.specs.Noting.{Wrote}
+use Rattle.write_chain.proofs.Noting.{wrote_rights, wrote_then, drop_then}
+use Rattle.write_chain.proofs.Dropping.{code_before}
 use Rattle.call_errors.specs.rpc_client.specs.Seats.{SameRefs}
 use Rattle.call_errors.specs.rpc_client.specs.Sending.{WroteAll}
 use Rattle.call_errors.specs.rpc_client.proofs.Writing.{all_none, all_wrote, all_dropped, all_then, all_refs}

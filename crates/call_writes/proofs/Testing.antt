@@ -4,7 +4,7 @@ use Rattle.atomic_table.specs.Seated.{TableId}
 use Rattle.atomic_table.specs.declared.shared.Seat.{Seat}
 use Rattle.sock_words.specs.declared.plain.Plan.{Plan}
 use Rattle.sock_model.specs.declared.view.View.{View}
-use Rattle.call_errors.specs.write_chain.specs.Sending.{HasRoom}
+use Rattle.write_chain.specs.Sending.{HasRoom}
 use Rattle.call_errors.specs.rpc_client.specs.Seats.{MayAct, AtRest, SameRefs}
 use Rattle.call_errors.specs.rpc_client.specs.Acting.{OwnList}
 

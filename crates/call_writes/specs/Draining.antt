@@ -3,10 +3,10 @@ use Rattle.std.specs.Prelude.{◌≡◌, ◌≢◌, ℕ, Some}
 use Rattle.sock_io.specs.Link.{OutState}
 use Rattle.sock_words.specs.declared.plain.Plan.{Plan}
 use Rattle.sock_model.specs.declared.view.View.{View}
-use Rattle.call_errors.specs.write_chain.specs.declared.right.Undelivered.{Undelivered}
-use Rattle.call_errors.specs.write_chain.specs.Noting.{Wrote, WroteDrop}
-use Rattle.call_errors.specs.write_chain.specs.Writing.{FoundDead}
-use Rattle.call_errors.specs.write_chain.specs.Keeping.{IsCode}
+use Rattle.write_chain.specs.declared.right.Undelivered.{Undelivered}
+use Rattle.write_chain.specs.Noting.{Wrote, WroteDrop}
+use Rattle.write_chain.specs.Writing.{FoundDead}
+use Rattle.write_chain.specs.Keeping.{IsCode}
 use Rattle.call_errors.specs.Books.{CallStand}
 use Rattle.call_errors.specs.Posting.{PostedBy}
 

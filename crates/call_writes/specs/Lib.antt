@@ -1,11 +1,2 @@
 pub mod Draining
 pub mod Sending
-pub use Rattle.call_errors
-pub use Rattle.call_errors.specs.call_table
-pub use Rattle.call_errors.specs.message_parts
-pub use Rattle.call_errors.specs.rpc_client
-pub use Rattle.call_errors.specs.slot_laws
-pub use Rattle.call_errors.specs.sock_open
-pub use Rattle.call_errors.specs.sock_rule
-pub use Rattle.call_errors.specs.sock_table
-pub use Rattle.call_errors.specs.write_chain

@@ -8,12 +8,12 @@ use Rattle.sock_words.specs.Words.{socket_id_version}
 use Rattle.sock_model.specs.declared.chain.Heading.{Heading}
 use Rattle.sock_model.specs.declared.marks.Mark.TheVariants.{Saw}
 use Rattle.sock_model.specs.declared.view.View.{View}
-use Rattle.call_errors.specs.message_parts.specs.Parcels.{parcel_of}
-use Rattle.call_errors.specs.sock_rule.specs.Shows.{heading_of}
-use Rattle.call_errors.specs.sock_rule.specs.declared.homes.Letter.{Letter}
-use Rattle.call_errors.specs.sock_table.specs.declared.refs.SockRef.{SockRef}
-use Rattle.call_errors.specs.write_chain.specs.declared.entry.Refused.TheVariants as refused
-use Rattle.call_errors.specs.write_chain.specs.Sending.{Accepted}
+use Rattle.sock_rule.specs.message_parts.specs.Parcels.{parcel_of}
+use Rattle.sock_rule.specs.Shows.{heading_of}
+use Rattle.sock_rule.specs.declared.homes.Letter.{Letter}
+use Rattle.sock_table.specs.declared.refs.SockRef.{SockRef}
+use Rattle.write_chain.specs.declared.entry.Refused.TheVariants as refused
+use Rattle.write_chain.specs.Sending.{Accepted}
 use Rattle.call_errors.specs.rpc_client.specs.declared.reaching.Reached.TheVariants as reached
 use Rattle.call_errors.specs.rpc_client.specs.Reaching.{ReachedBy}
 use Rattle.call_errors.specs.rpc_client.specs.Sending.{Returned, CameBack}

@@ -1,19 +1,19 @@
 // A link is written until its head is empty, and calls are told what was dropped.
 ghost use Rattle.std.specs.Prelude.{◌≡◌, ◌≤◌};
-ghost use Rattle.call_errors.specs.sock_rule.specs.Seated.{IsSeat};
-ghost use Rattle.call_errors.specs.write_chain.specs.Writing.{MayBegin, MayGoOn, GaveUp};
-ghost use Rattle.call_errors.specs.corr_id.specs.Seats.{Sits, Stays, IsFree};
+ghost use Rattle.sock_rule.specs.Seated.{IsSeat};
+ghost use Rattle.write_chain.specs.Writing.{MayBegin, MayGoOn, GaveUp};
+ghost use Rattle.corr_id.specs.Seats.{Sits, Stays, IsFree};
 ghost use Rattle.call_errors.specs.Books.{stand_of};
 ghost use Rattle.call_writes.specs.Draining.{ToldDrop, Drained};
 
-use call_errors::corr_id::IdTable;
-use call_errors::sock_message::Call;
-use call_errors::sock_rule::SockSeat;
-use call_errors::sock_table::{SockRef, SockTable};
-use call_errors::write_chain::{Kept, Once, Undelivered, WriteRight, keep_write, write_once};
 use call_errors::{CallSeat, post_error};
+use corr_id::IdTable;
 use sock_io::Out;
+use sock_message::Call;
+use sock_rule::SockSeat;
+use sock_table::{SockRef, SockTable};
 use std::sync::Wait;
+use write_chain::{Kept, Once, Undelivered, WriteRight, keep_write, write_once};
 
 /// A message was dropped with this code: the code is posted to its call, for the attempt whose frame it was. Nobody is told of a
 /// send.

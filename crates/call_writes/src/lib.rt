@@ -4,7 +4,5 @@
 mod draining;
 mod sending;
 
-pub use call_errors;
-pub use call_errors::{message_parts, rpc_client, sock_open, sock_rule, sock_table, write_chain};
 pub use draining::write_through;
 pub use sending::{see_through_calling, send_calling};

@@ -3,28 +3,27 @@ ghost use Rattle.std.specs.Prelude.{◌≡◌, ◌+◌, ◌*◌, ◌<◌, []};
 ghost use Rattle.sock_words.specs.Words.{socket_id_slot};
 ghost use Rattle.sock_model.specs.Weights.{is_ref};
 ghost use Rattle.sock_model.specs.SlotRows.{marks_of};
-ghost use Rattle.call_errors.specs.sock_rule.specs.Seated.{IsSeat};
-ghost use Rattle.call_errors.specs.sock_table.specs.Answers.{Holds};
-ghost use Rattle.call_errors.specs.write_chain.specs.Sending.{HasRoom};
-ghost use Rattle.call_errors.specs.write_chain.specs.Writing.{GaveUp, Begins};
+ghost use Rattle.sock_rule.specs.Seated.{IsSeat};
+ghost use Rattle.sock_table.specs.Answers.{Holds};
+ghost use Rattle.write_chain.specs.Sending.{HasRoom};
+ghost use Rattle.write_chain.specs.Writing.{GaveUp, Begins};
 ghost use Rattle.call_errors.specs.rpc_client.specs.Seats.{Idle, MayAct, AtRest, StaysSeen, SameRefs};
 ghost use Rattle.call_errors.specs.rpc_client.specs.Sending.{sock_of};
-ghost use Rattle.call_errors.specs.corr_id.specs.Seats.{Sits, Stays, IsFree};
+ghost use Rattle.corr_id.specs.Seats.{Sits, Stays, IsFree};
 ghost use Rattle.call_errors.specs.Books.{stand_of};
 ghost use Rattle.call_writes.specs.Draining.{Drained};
 ghost use Rattle.call_writes.specs.Sending.{SeenCalling, DeliveredCalling, SentCalling};
 
 use crate::draining::write_through;
-use call_errors::CallSeat;
-use call_errors::corr_id::IdTable;
-use call_errors::rpc_client::{Reached, reach, refuse};
-use call_errors::sock_message::Call;
-use call_errors::sock_rule::{Letter, SockSeat};
-use call_errors::sock_table::{SockRef, SockTable};
-use call_errors::write_chain::{Started, start};
+use call_errors::{CallSeat, Reached, reach, refuse};
+use corr_id::IdTable;
 use sock_io::Out;
+use sock_message::Call;
+use sock_rule::{Letter, SockSeat};
+use sock_table::{SockRef, SockTable};
 use sock_words::Outcome;
 use std::sync::Wait;
+use write_chain::{Started, start};
 
 /// A message that was accepted is written, with all that comes meanwhile, where this seat has the right.
 fn write_if<O: Out, R: Wait>(

@@ -1,1 +1,2 @@
 pub mod Whole
+pub use Rattle.sock_deeds

@@ -16,8 +16,8 @@ use Rattle.sock_programs.specs.Ticks.{Moment, quiet}
 use Rattle.sock_programs.specs.Tasks.{opens, calls, plan_of, id_plan_of}
 use Rattle.sock_programs.specs.Scripts.{sizes_of, programs, all_tasks, opened, set_up, played, IsRunWithCalls}
 use Rattle.sock_runs.proofs.OpensStay.{readers_begin}
-use Rattle.client_laws.proofs.Beginning as clients_begin
-use Rattle.joint_runs.proofs.Runs.{AreMade, first_views}
+use Rattle.served_fits.specs.client_laws.proofs.Beginning as clients_begin
+use Rattle.owed_calls.specs.joint_runs.proofs.Runs.{AreMade, first_views}
 use Rattle.report_fits.proofs.Reading.{InRange}
 use Rattle.report_fits.proofs.Targets.{AreThere}
 use Rattle.served_fits.specs.call_causes.specs.Lists.{given, soon_at, shows_in}

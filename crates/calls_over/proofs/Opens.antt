@@ -34,9 +34,9 @@ use Rattle.sock_runs.proofs.Along.{place_inside}
 use Rattle.sock_runs.proofs.Whole.{closing_of, views_played}
 use Rattle.sock_causes.specs.Facts.{broken_of_run}
 use Rattle.sock_causes.proofs.Members.{in_contains}
-use Rattle.client_laws.specs.Openings.{all_seats}
-use Rattle.client_laws.proofs.Fresh.{opening_fresh}
-use Rattle.joint_runs.proofs.Runs.{AreMade, first_views}
+use Rattle.served_fits.specs.client_laws.specs.Openings.{all_seats}
+use Rattle.served_fits.specs.client_laws.proofs.Fresh.{opening_fresh}
+use Rattle.owed_calls.specs.joint_runs.proofs.Runs.{AreMade, first_views}
 use Rattle.owed_calls.specs.Lives.{ClosesInRun}
 use Rattle.owed_calls.specs.Sound.{id_word_of, at_of, IsOpen}
 use Rattle.owed_calls.proofs.Known.{run_all_rest}

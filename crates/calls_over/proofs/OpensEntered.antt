@@ -24,7 +24,7 @@ use Rattle.sock_causes.proofs.Delivered.{accepted_of, accepted_there}
 use Rattle.sock_causes.proofs.Final.{at_there, at_within}
 use Rattle.sock_causes.proofs.Members.{in_contains}
 use Rattle.sock_causes.proofs.Plain.{in_both, in_left, in_right}
-use Rattle.joint_runs.proofs.Runs.{AreMade, first_views}
+use Rattle.owed_calls.specs.joint_runs.proofs.Runs.{AreMade, first_views}
 use Rattle.owed_calls.specs.Lives.{ClosesInRun}
 use Rattle.served_fits.specs.call_causes.specs.Lists.{shows_in}
 use Rattle.served_fits.specs.send_causes.specs.EndedCalls.{Store, stored_at, stores_of_run}

@@ -35,7 +35,7 @@ use Rattle.sock_programs.specs.Tasks.{plan_of}
 use Rattle.sock_programs.specs.ToldCalls.{Accepted, Fixed, ToldCalls, label}
 use Rattle.sock_runs.proofs.Whole.{views_played}
 use Rattle.sock_causes.proofs.Delivered.{accepted_of, accepted_at}
-use Rattle.joint_runs.proofs.Runs.{AreMade, first_views}
+use Rattle.owed_calls.specs.joint_runs.proofs.Runs.{AreMade, first_views}
 use Rattle.owed_calls.specs.Lives.{ClosesInRun}
 use Rattle.served_fits.specs.send_causes.proofs.ClosedLostTicks.{AreTaken}
 use Rattle.served_fits.specs.send_causes.proofs.Sends.{orders_of_run}

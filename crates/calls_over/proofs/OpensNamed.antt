@@ -34,9 +34,9 @@ use Rattle.served_fits.specs.send_causes.proofs.EndedNamed.{all_follow, begins_n
 use Rattle.served_fits.specs.send_causes.proofs.EndedNames.{NameLaw, StoredFor}
 use Rattle.sock_words.specs.Words as sockets
 use Rattle.sock_programs.specs.Asides.{id_slot, id_first}
-use Rattle.client_laws.specs.Openings.{all_seats}
-use Rattle.client_laws.proofs.Fresh.{opening_fresh}
-use Rattle.joint_runs.proofs.Runs.{AreMade, first_views}
+use Rattle.served_fits.specs.client_laws.specs.Openings.{all_seats}
+use Rattle.served_fits.specs.client_laws.proofs.Fresh.{opening_fresh}
+use Rattle.owed_calls.specs.joint_runs.proofs.Runs.{AreMade, first_views}
 use Rattle.owed_calls.specs.Lives.{ClosesInRun}
 use Rattle.owed_calls.specs.Sound.{at_of}
 use Rattle.served_fits.specs.send_causes.proofs.Early.{start, go, fitting}

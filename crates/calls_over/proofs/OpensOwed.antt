@@ -38,9 +38,9 @@ use Rattle.sock_runs.proofs.Quiets.{run_seats}
 use Rattle.sock_runs.proofs.ReaderSeats.{AtReader, run_reader, waits_own}
 use Rattle.sock_runs.proofs.Records.{next_stores}
 use Rattle.sock_runs.proofs.Whole.{IsListed, views_played, set_up_answered, set_up_sound, played_sound, recorded_opened, recorded_set_up}
-use Rattle.client_laws.proofs.Beginning as clients_begin
+use Rattle.served_fits.specs.client_laws.proofs.Beginning as clients_begin
 use Rattle.id_runs.specs.Goes as goes
-use Rattle.joint_runs.proofs.Runs.{AreMade, first_views, joint_runs}
+use Rattle.owed_calls.specs.joint_runs.proofs.Runs.{AreMade, first_views, joint_runs}
 use Rattle.owed_calls.specs.Lives.{id_of, life_of, AreSaying, ClosesAt, ClosesInTime, ClosesInRun}
 use Rattle.owed_calls.specs.Owes.{OwesOn}
 use Rattle.owed_calls.specs.Owing.{Free, Owing, InList, Among, DutyTo, with_dead}

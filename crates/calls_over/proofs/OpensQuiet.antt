@@ -47,9 +47,9 @@ use Rattle.sock_causes.specs.Stories.{In}
 use Rattle.sock_causes.proofs.Lifted.{task_up}
 use Rattle.sock_causes.proofs.Members.{in_contains, contains_in}
 use Rattle.sock_causes.proofs.Plain.{in_left, in_right, in_both}
-use Rattle.client_laws.specs.Openings.{all_seats}
-use Rattle.client_laws.proofs.Fresh.{opening_fresh}
-use Rattle.joint_runs.proofs.Runs.{AreMade, first_views}
+use Rattle.served_fits.specs.client_laws.specs.Openings.{all_seats}
+use Rattle.served_fits.specs.client_laws.proofs.Fresh.{opening_fresh}
+use Rattle.owed_calls.specs.joint_runs.proofs.Runs.{AreMade, first_views}
 use Rattle.owed_calls.specs.Lives.{ClosesInRun}
 use Rattle.served_fits.specs.whole_runs.specs.Heard.{heard_takes, given_by}
 use Rattle.served_fits.specs.whole_runs.proofs.Gave.{gave_heard}

@@ -31,7 +31,7 @@ use Rattle.sock_runs.specs.Sound.{state}
 use Rattle.sock_runs.proofs.Whole.{views_played}
 use Rattle.sock_causes.specs.Facts.{broken_of_run}
 use Rattle.sock_causes.proofs.Delivered.{accepted_of}
-use Rattle.joint_runs.proofs.Runs.{AreMade, first_views}
+use Rattle.owed_calls.specs.joint_runs.proofs.Runs.{AreMade, first_views}
 use Rattle.owed_calls.specs.Lives.{ClosesInRun}
 use Rattle.owed_calls.proofs.OpensStored.{at_place}
 use Rattle.served_fits.specs.whole_runs.proofs.Starts.{made}

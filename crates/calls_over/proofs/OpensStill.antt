@@ -23,8 +23,8 @@ use Rattle.sock_runs.proofs.Waiting.{StandsAside}
 use Rattle.sock_runs.proofs.Whole.{views_played, rested_ahead}
 use Rattle.id_runs.specs.Held.{IdView}
 use Rattle.id_runs.specs.Goes.{IdGoesOn}
-use Rattle.joint_runs.proofs.Both.{BothSound, behind_both}
-use Rattle.joint_runs.proofs.Runs.{AreMade, first_views, joint_runs}
+use Rattle.owed_calls.specs.joint_runs.proofs.Both.{BothSound, behind_both}
+use Rattle.owed_calls.specs.joint_runs.proofs.Runs.{AreMade, first_views, joint_runs}
 use Rattle.owed_calls.specs.Settled as settled
 use Rattle.owed_calls.specs.Sound.{id_word_of}
 use Rattle.owed_calls.proofs.AllSettled.{not_locked}

@@ -28,9 +28,9 @@ use Rattle.sock_runs.proofs.Opening.{mapped}
 use Rattle.sock_runs.proofs.Whole.{views_played, set_up_answered}
 use Rattle.sock_causes.proofs.Members.{all_in}
 use Rattle.sock_causes.proofs.Tasks.{fits_of}
-use Rattle.client_laws.specs.Openings.{all_seats}
-use Rattle.client_laws.proofs.Fresh.{opening_fresh}
-use Rattle.joint_runs.proofs.Runs.{AreMade, first_views, joint_runs}
+use Rattle.served_fits.specs.client_laws.specs.Openings.{all_seats}
+use Rattle.served_fits.specs.client_laws.proofs.Fresh.{opening_fresh}
+use Rattle.owed_calls.specs.joint_runs.proofs.Runs.{AreMade, first_views, joint_runs}
 use Rattle.owed_calls.specs.Lives.{ClosesInRun, InHand}
 use Rattle.served_fits.specs.whole_runs.proofs.Lengths.{tick_long}
 use Rattle.served_fits.specs.call_causes.specs.Scenes.{In}

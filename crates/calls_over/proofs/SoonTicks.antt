@@ -18,7 +18,7 @@ use Rattle.sock_programs.specs.Tasks.{plan_of, id_plan_of}
 use Rattle.sock_programs.specs.Ticks.{Moment, IsAnswered, AreAnswered, quiet, ticked, run}
 use Rattle.sock_runs.specs.Sound.{views_after, views_along}
 use Rattle.sock_runs.proofs.LinkTicks.{RetriesGo}
-use Rattle.joint_runs.proofs.Both.{BothSound, FitsBoth, AreBoth, are_fitting}
+use Rattle.owed_calls.specs.joint_runs.proofs.Both.{BothSound, FitsBoth, AreBoth, are_fitting}
 use Rattle.served_fits.specs.label_runs.specs.Labels.{Trial}
 use Rattle.owed_calls.specs.Sound.{id_word_of}
 use Rattle.served_fits.specs.whole_runs.proofs.Lengths.{tick_long}

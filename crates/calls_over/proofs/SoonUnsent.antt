@@ -27,9 +27,9 @@ use Rattle.sock_causes.proofs.Lifted.{task_up, made_up}
 use Rattle.sock_causes.proofs.Messages.{each_made, message_of, number_of}
 use Rattle.sock_causes.proofs.Scripts.{seats, final_told, story_end, orders, run_told}
 use Rattle.sock_causes.proofs.Senders.{HasSent, sent_stands}
-use Rattle.client_laws.specs.Openings.{all_seats}
-use Rattle.client_laws.proofs.Fresh.{opening_fresh}
-use Rattle.joint_runs.proofs.Runs.{AreMade, first_views}
+use Rattle.served_fits.specs.client_laws.specs.Openings.{all_seats}
+use Rattle.served_fits.specs.client_laws.proofs.Fresh.{opening_fresh}
+use Rattle.owed_calls.specs.joint_runs.proofs.Runs.{AreMade, first_views}
 use Rattle.owed_calls.specs.Lives.{ClosesInRun}
 use Rattle.owed_calls.proofs.EndsStill as still
 use Rattle.served_fits.specs.send_causes.specs.Counts.{EntryFits}

@@ -10,9 +10,9 @@ use Rattle.brpc_model.specs.Items.{Item, Join}
 use Rattle.brpc_model.specs.Operations.{Turn}
 use Rattle.brpc_model.specs.Places.{names}
 use Rattle.corr_core.specs.Word.{Parts}
-use Rattle.report_fits.proofs.Lists.{Has, contains_from, all_from}
-use Rattle.report_fits.proofs.Numbering.{are_from}
-use Rattle.report_fits.proofs.TaskLemmas.{numbers_at, task_is, join_asks}
+use Rattle.send_causes.specs.report_fits.proofs.Lists.{Has, contains_from, all_from}
+use Rattle.send_causes.specs.report_fits.proofs.Numbering.{are_from}
+use Rattle.send_causes.specs.report_fits.proofs.TaskLemmas.{numbers_at, task_is, join_asks}
 use Rattle.sock_programs.specs.declared.task.Op.{Op}
 use Rattle.sock_programs.specs.declared.task.Op.TheVariants as ops
 use Rattle.sock_programs.specs.declared.task.Task.{Task}

@@ -6,8 +6,8 @@ ghost use Rattle.rpc_client.specs.Seats.{MayAct};
 ghost use Rattle.corr_id.specs.Seats.{Sits, IsFree};
 ghost use Rattle.corr_id.specs.Opening.{AreNew};
 
-use call_client::call_errors::CallSeat;
-use call_client::call_writes::send_calling;
+use call_errors::CallSeat;
+use call_writes::send_calling;
 use corr_id::{IdSeat, IdTable};
 use message_parts::{CallFrame, Parcel};
 use rpc_client::open_one;

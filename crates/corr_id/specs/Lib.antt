@@ -7,3 +7,4 @@ pub mod Opening
 pub mod Posts
 pub mod Unlocks
 pub mod Attempts
+pub use Rattle.id_rule

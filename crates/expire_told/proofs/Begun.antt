@@ -18,9 +18,9 @@ use Rattle.corr_core.proofs.Notes.{only-else, pair-same}
 use Rattle.id_rule.specs.Lawful.{call_word, notes_of, is_stored}
 use Rattle.sock_message.specs.Asked.{Asked}
 use Rattle.corr_id.specs.Calls.{slot_of, version_of, one}
-use Rattle.call_places.specs.call_attempts.specs.Both.{Both}
-use Rattle.call_places.specs.call_attempts.specs.declared.calling.Called.TheVariants as called
-use Rattle.call_places.specs.call_attempts.specs.Calling.{CalledBy}
+use Rattle.call_told.specs.call_attempts.specs.Both.{Both}
+use Rattle.call_told.specs.call_attempts.specs.declared.calling.Called.TheVariants as called
+use Rattle.call_told.specs.call_attempts.specs.Calling.{CalledBy}
 use Rattle.call_told.specs.call_client.specs.Acting.{both_of}
 use Rattle.call_told.specs.call_client.specs.Running.{Course, Made, Ran}
 use Rattle.call_told.specs.call_client.proofs.Telling.{did_total}

@@ -12,9 +12,9 @@ use Rattle.sock_words.specs.declared.plain.Plan.{Plan}
 use Rattle.sock_programs.specs.declared.task.Task.{Task}
 use Rattle.corr_core.specs.declared.marks.Plan as id_plan
 use Rattle.corr_core.proofs.Notes.{at_length}
-use Rattle.call_places.specs.rpc_client.specs.declared.acting.Told.{Told}
-use Rattle.call_places.specs.rpc_client.specs.Running.{telling}
-use Rattle.call_places.specs.call_errors.specs.Books.{CallStand, stand_of}
+use Rattle.call_told.specs.rpc_client.specs.declared.acting.Told.{Told}
+use Rattle.call_told.specs.rpc_client.specs.Running.{telling}
+use Rattle.call_told.specs.call_errors.specs.Books.{CallStand, stand_of}
 use Rattle.call_told.specs.call_client.specs.declared.caller.Caller.{Caller}
 use Rattle.call_told.specs.call_client.specs.Acting.{Stand, stand}
 use Rattle.call_told.specs.call_client.specs.Running.{Course, Made, Ran, begins, RunBy}

@@ -9,7 +9,7 @@ use native.Mathlib.Decide.{ℕ_discrete, dec_lt}
 use lib.ListN.{get_elem?}
 use Rattle.atomic_table.specs.Table.{Me}
 use Rattle.brpc_model.specs.Order.{EachBefore}
-use Rattle.report_fits.proofs.Lists.{has_from, some_is}
+use Rattle.call_told.specs.report_fits.proofs.Lists.{has_from, some_is}
 use Rattle.sock_io.specs.declared.link.Out.{Ghosts}
 use Rattle.sock_io.specs.Link.{OutState}
 use Rattle.sock_words.specs.Codes.{ERPCTIMEDOUT}
@@ -35,21 +35,21 @@ use Rattle.sock_message.specs.Asked.{Asked}
 use Rattle.corr_id.specs.Calls.{slot_of, version_of}
 use Rattle.corr_id.specs.Closing.{Closing}
 use Rattle.corr_id.specs.Ruled.{is_place}
-use Rattle.call_places.specs.rpc_client.specs.declared.acting.Told.{Told}
-use Rattle.call_places.specs.rpc_client.specs.Running.{telling}
-use Rattle.call_places.specs.sock_deeds.proofs.Flats.{append_first, append_later}
-use Rattle.call_places.specs.call_errors.specs.Books.{CallStand, stand_of}
-use Rattle.call_places.specs.call_errors.specs.Ending.{failed}
-use Rattle.call_places.specs.call_errors.specs.Locking.{id_in}
-use Rattle.call_places.specs.call_errors.specs.Asking.{ExpiredBy, TimedOut}
+use Rattle.call_told.specs.rpc_client.specs.declared.acting.Told.{Told}
+use Rattle.call_told.specs.rpc_client.specs.Running.{telling}
+use Rattle.call_told.specs.sock_deeds.proofs.Flats.{append_first, append_later}
+use Rattle.call_told.specs.call_errors.specs.Books.{CallStand, stand_of}
+use Rattle.call_told.specs.call_errors.specs.Ending.{failed}
+use Rattle.call_told.specs.call_errors.specs.Locking.{id_in}
+use Rattle.call_told.specs.call_errors.specs.Asking.{ExpiredBy, TimedOut}
 use Rattle.call_told.specs.call_client.specs.Acting.{Stand, stand, both_of, Acted}
 use Rattle.call_told.specs.call_client.specs.Running.{begins, MayMakeAll}
-use Rattle.call_places.specs.call_run.specs.Threads.{Thread, RanOn, AllMayRun, MayRunAll, ids_of}
-use Rattle.call_places.specs.Counted.{HaveNotesOf}
-use Rattle.call_places.proofs.Weights.{term, two_terms, mapped}
-use Rattle.call_places.proofs.Numbers.{numbered_once}
-use Rattle.call_places.proofs.Clients.{Client, total_map, view_of, tasks_of}
-use Rattle.call_places.proofs.Places.{all as all_clients, all_are, views_are, tasks_are}
+use Rattle.call_told.specs.call_run.specs.Threads.{Thread, RanOn, AllMayRun, MayRunAll, ids_of}
+use Rattle.call_told.specs.call_places.specs.Counted.{HaveNotesOf}
+use Rattle.call_told.specs.call_places.proofs.Weights.{term, two_terms, mapped}
+use Rattle.call_told.specs.call_places.proofs.Numbers.{numbered_once}
+use Rattle.call_told.specs.call_places.proofs.Clients.{Client, total_map, view_of, tasks_of}
+use Rattle.call_told.specs.call_places.proofs.Places.{all as all_clients, all_are, views_are, tasks_are}
 use Rattle.call_told.specs.Least.{is_made_for, HasBegun}
 use Rattle.call_told.proofs.Balance.{noted_ends}
 use Rattle.call_told.proofs.Growing.{own_at}

@@ -3,7 +3,7 @@ use Rattle.std.proofs.Common.{◌≡◌, ℕ, List, ◌∷◌, sym, ap, ◌∙�
 use Rattle.std.specs.Prelude.{Option}
 use mathlib.Core.Option.{some}
 use lib.ListN.{get_elem?}
-use Rattle.report_fits.proofs.Lists.{contains_from}
+use Rattle.call_told.specs.report_fits.proofs.Lists.{contains_from}
 use Rattle.sock_io.specs.declared.link.Out.{Ghosts}
 use Rattle.sock_io.specs.Link.{OutState}
 use Rattle.sock_words.specs.declared.outcome.Outcome.{Outcome}
@@ -22,14 +22,14 @@ use Rattle.corr_core.specs.declared.marks.View.{View}
 use Rattle.id_rule.specs.Lawful.{call_word}
 use Rattle.sock_message.specs.Asked.{Asked}
 use Rattle.corr_id.specs.Closing.{Closing}
-use Rattle.call_places.specs.rpc_client.specs.declared.acting.Told.{Told}
-use Rattle.call_places.specs.call_errors.specs.Books.{CallStand}
-use Rattle.call_places.specs.call_errors.specs.Asking.{ExpiredBy, TimedOut}
-use Rattle.call_places.specs.call_run.specs.Threads.{RanOn, MayRunAll, ids_of}
-use Rattle.call_places.specs.Counted.{HaveNotesOf}
-use Rattle.call_places.proofs.Weights.{mapped}
-use Rattle.call_places.proofs.Clients.{tasks_of, view_of}
-use Rattle.call_places.proofs.Places.{all as all_clients, views_are}
+use Rattle.call_told.specs.rpc_client.specs.declared.acting.Told.{Told}
+use Rattle.call_told.specs.call_errors.specs.Books.{CallStand}
+use Rattle.call_told.specs.call_errors.specs.Asking.{ExpiredBy, TimedOut}
+use Rattle.call_told.specs.call_run.specs.Threads.{RanOn, MayRunAll, ids_of}
+use Rattle.call_told.specs.call_places.specs.Counted.{HaveNotesOf}
+use Rattle.call_told.specs.call_places.proofs.Weights.{mapped}
+use Rattle.call_told.specs.call_places.proofs.Clients.{tasks_of, view_of}
+use Rattle.call_told.specs.call_places.proofs.Places.{all as all_clients, views_are}
 use Rattle.call_told.specs.Least.{HasBegun}
 use Rattle.call_told.proofs.Lists.{all_at}
 use Rattle.call_told.proofs.Moves.{Fits}

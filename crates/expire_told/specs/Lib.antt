@@ -1,1 +1,16 @@
 pub mod Said
+pub use Rattle.call_told.specs.call_attempts
+pub use Rattle.call_told.specs.call_client
+pub use Rattle.call_told.specs.call_deeds
+pub use Rattle.call_told.specs.call_errors
+pub use Rattle.call_told.specs.call_places
+pub use Rattle.call_told.specs.call_run
+pub use Rattle.call_told
+pub use Rattle.call_told.specs.call_writes
+pub use Rattle.call_told.specs.report_fits
+pub use Rattle.call_told.specs.rpc_client
+pub use Rattle.call_told.specs.sock_causes
+pub use Rattle.call_told.specs.sock_deeds
+pub use Rattle.call_told.specs.sock_rule
+pub use Rattle.call_told.specs.sock_table
+pub use Rattle.call_told.specs.write_chain

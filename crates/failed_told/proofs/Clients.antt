@@ -14,14 +14,14 @@ use Rattle.sock_programs.specs.declared.task.Task.{Task}
 use Rattle.sock_programs.specs.Told.{Became}
 use Rattle.corr_core.specs.declared.marks.View.{View}
 use Rattle.sock_message.specs.Asked.{Asked}
-use Rattle.rpc_client.specs.declared.acting.Told.{Told}
-use Rattle.call_errors.specs.Books.{Books}
-use Rattle.call_run.specs.Threads.{Thread, RanOn, ids_of}
-use Rattle.call_places.proofs.Weights.{mapped}
-use Rattle.call_places.proofs.Clients.{Client, view_of, tasks_of}
-use Rattle.call_places.proofs.Places.{all as all_clients, all_are}
-use Rattle.expire_told.specs.Said.{AreSaid}
-use Rattle.expire_told.proofs.Doing.{run_fed}
+use Rattle.call_whys.specs.rpc_client.specs.declared.acting.Told.{Told}
+use Rattle.call_whys.specs.call_errors.specs.Books.{Books}
+use Rattle.call_whys.specs.call_run.specs.Threads.{Thread, RanOn, ids_of}
+use Rattle.call_whys.specs.call_places.proofs.Weights.{mapped}
+use Rattle.call_whys.specs.call_places.proofs.Clients.{Client, view_of, tasks_of}
+use Rattle.call_whys.specs.call_places.proofs.Places.{all as all_clients, all_are}
+use Rattle.call_whys.specs.expire_told.specs.Said.{AreSaid}
+use Rattle.call_whys.specs.expire_told.proofs.Doing.{run_fed}
 use Rattle.failed_told.specs.Reasons.{IsCaused}
 use Rattle.failed_told.proofs.Origins.{run_caused}
 

@@ -14,8 +14,8 @@ use Rattle.sock_words.specs.declared.socket_id.SocketId.{SocketId}
 use Rattle.sock_words.specs.declared.outcome.Outcome.{Outcome}
 use Rattle.sock_words.specs.declared.outcome.Outcome.TheVariants as outcome
 use Rattle.sock_model.specs.declared.view.View as sock_view
-use Rattle.sock_rule.specs.declared.homes.Letter.{Letter}
-use Rattle.sock_table.specs.declared.refs.SockRef.{SockRef}
+use Rattle.call_whys.specs.sock_rule.specs.declared.homes.Letter.{Letter}
+use Rattle.call_whys.specs.sock_table.specs.declared.refs.SockRef.{SockRef}
 use Rattle.sock_programs.specs.declared.task.Op.{Op}
 use Rattle.sock_programs.specs.declared.task.Op.TheVariants as ops
 use Rattle.sock_programs.specs.declared.task.Task.{Task}
@@ -36,33 +36,33 @@ use Rattle.corr_id.specs.Calls.{is_saw, slot_of, version_of, one, Did, Quiet, Fo
 use Rattle.corr_id.specs.Posts.{PostOk}
 use Rattle.corr_id.specs.Unlocks.{UnlockOk}
 use Rattle.corr_id.specs.declared.unlocks.Unlocked.TheVariants as unlocked
-use Rattle.call_errors.specs.declared.retries.Retry.{Retry}
-use Rattle.call_errors.specs.Books.{Books, CallStand, stand_of, starving, keeping, Tells, told, lost}
-use Rattle.call_errors.specs.Ending.{EndedWith, failed}
-use Rattle.call_errors.specs.Handling.{Decided, decision}
-use Rattle.call_errors.specs.Handling as handling
-use Rattle.call_errors.specs.Posting.{Handled, PostedBy}
-use Rattle.call_errors.specs.Asking.{found_id, TimedOut, ExpiredBy, JoinedBy}
-use Rattle.call_writes.specs.Draining.{ToldDrop, of_send, of_call, DroppedOne, DroppedAll, Drained}
-use Rattle.call_writes.specs.Draining as draining
-use Rattle.call_writes.specs.Sending.{DeliveredCalling, SentCalling}
-use Rattle.call_attempts.specs.declared.calling.Called.TheVariants as called
-use Rattle.call_attempts.specs.Both.{Both}
-use Rattle.call_attempts.specs.Attempting.{code_for, DeliveredBy, went_out, came_back, AttemptedBy, nowhere, over_link}
-use Rattle.call_attempts.specs.Calling.{CalledBy}
-use Rattle.call_attempts.specs.Retrying.{without_oldest, WentTo, to_socket, Locked, RetriedBy, had_ended, overtaken, went_again, Retried, none_yet, one_more}
-use Rattle.call_attempts.specs.Retrying as retrying
-use Rattle.call_client.specs.declared.caller.Caller.{Caller}
-use Rattle.call_client.specs.Acting.{Stand, stand, both_of, letter_of, Acted}
-use Rattle.call_client.specs.Running.{Course, Ran, begins, RunBy}
-use Rattle.rpc_client.specs.declared.acting.Told.{Told}
-use Rattle.call_told.proofs.Growing.{Grows, grows_same, ended_grows, post_grows}
-use Rattle.call_told.proofs.Lists.{all_both, all_then}
-use Rattle.call_told.proofs.Runs.{none_left}
-use Rattle.call_places.specs.sock_deeds.proofs.Flats.{append_first, append_later}
-use Rattle.rpc_client.specs.Running.{telling}
+use Rattle.call_whys.specs.call_errors.specs.declared.retries.Retry.{Retry}
+use Rattle.call_whys.specs.call_errors.specs.Books.{Books, CallStand, stand_of, starving, keeping, Tells, told, lost}
+use Rattle.call_whys.specs.call_errors.specs.Ending.{EndedWith, failed}
+use Rattle.call_whys.specs.call_errors.specs.Handling.{Decided, decision}
+use Rattle.call_whys.specs.call_errors.specs.Handling as handling
+use Rattle.call_whys.specs.call_errors.specs.Posting.{Handled, PostedBy}
+use Rattle.call_whys.specs.call_errors.specs.Asking.{found_id, TimedOut, ExpiredBy, JoinedBy}
+use Rattle.call_whys.specs.call_writes.specs.Draining.{ToldDrop, of_send, of_call, DroppedOne, DroppedAll, Drained}
+use Rattle.call_whys.specs.call_writes.specs.Draining as draining
+use Rattle.call_whys.specs.call_writes.specs.Sending.{DeliveredCalling, SentCalling}
+use Rattle.call_whys.specs.call_attempts.specs.declared.calling.Called.TheVariants as called
+use Rattle.call_whys.specs.call_attempts.specs.Both.{Both}
+use Rattle.call_whys.specs.call_attempts.specs.Attempting.{code_for, DeliveredBy, went_out, came_back, AttemptedBy, nowhere, over_link}
+use Rattle.call_whys.specs.call_attempts.specs.Calling.{CalledBy}
+use Rattle.call_whys.specs.call_attempts.specs.Retrying.{without_oldest, WentTo, to_socket, Locked, RetriedBy, had_ended, overtaken, went_again, Retried, none_yet, one_more}
+use Rattle.call_whys.specs.call_attempts.specs.Retrying as retrying
+use Rattle.call_whys.specs.call_client.specs.declared.caller.Caller.{Caller}
+use Rattle.call_whys.specs.call_client.specs.Acting.{Stand, stand, both_of, letter_of, Acted}
+use Rattle.call_whys.specs.call_client.specs.Running.{Course, Ran, begins, RunBy}
+use Rattle.call_whys.specs.rpc_client.specs.declared.acting.Told.{Told}
+use Rattle.call_whys.specs.call_told.proofs.Growing.{Grows, grows_same, ended_grows, post_grows}
+use Rattle.call_whys.specs.call_told.proofs.Lists.{all_both, all_then}
+use Rattle.call_whys.specs.call_told.proofs.Runs.{none_left}
+use Rattle.call_whys.specs.sock_deeds.proofs.Flats.{append_first, append_later}
+use Rattle.call_whys.specs.rpc_client.specs.Running.{telling}
 use Rattle.call_table.specs.declared.errors.Decision.TheVariants as decisions
-use Rattle.call_errors.specs.Locking.{id_in}
+use Rattle.call_whys.specs.call_errors.specs.Locking.{id_in}
 use Rattle.failed_told.specs.Reasons.{Reason, timed_out, gone, refused, dropped, Origin, posted_so, handed_out, IsCaused}
 use Rattle.failed_told.specs.Reasons as reasons
 

@@ -9,7 +9,7 @@ use Rattle.sock_words.specs.declared.outcome.Outcome.{Outcome}
 use Rattle.sock_words.specs.declared.plain.Plan.{Plan}
 use Rattle.sock_words.specs.declared.socket_id.SocketId.{SocketId}
 use Rattle.sock_model.specs.declared.view.View as sock_view
-use Rattle.sock_rule.specs.declared.homes.Letter.{Letter}
+use Rattle.call_whys.specs.sock_rule.specs.declared.homes.Letter.{Letter}
 use Rattle.sock_programs.specs.declared.task.Op.TheVariants as ops
 use Rattle.sock_programs.specs.declared.task.Task.{Task}
 use Rattle.corr_core.specs.Word.{parts}
@@ -19,18 +19,18 @@ use Rattle.sock_message.specs.Asked.{Asked}
 use Rattle.corr_id.specs.declared.calls.IdLock.{IdLock}
 use Rattle.corr_id.specs.Calls.{Found, error_in}
 use Rattle.call_table.specs.declared.errors.Decision.TheVariants as decisions
-use Rattle.rpc_client.specs.declared.acting.Told.{Told}
-use Rattle.write_chain.specs.declared.entry.Refused.{Refused}
-use Rattle.sock_table.specs.Named.{Found as SocketFound}
-use Rattle.call_errors.specs.Books.{CallStand}
-use Rattle.call_errors.specs.Locking.{id_in}
-use Rattle.call_errors.specs.Ending.{failed}
-use Rattle.call_errors.specs.Handling.{decision}
-use Rattle.call_errors.specs.Asking.{TimedOut}
-use Rattle.call_writes.specs.Draining.{DroppedOne}
-use Rattle.call_attempts.specs.Both.{Both}
-use Rattle.call_attempts.specs.Attempting.{code_for, FoundGone, CameBack}
-use Rattle.call_attempts.specs.Retrying.{IsStray}
+use Rattle.call_whys.specs.rpc_client.specs.declared.acting.Told.{Told}
+use Rattle.call_whys.specs.write_chain.specs.declared.entry.Refused.{Refused}
+use Rattle.call_whys.specs.sock_table.specs.Named.{Found as SocketFound}
+use Rattle.call_whys.specs.call_errors.specs.Books.{CallStand}
+use Rattle.call_whys.specs.call_errors.specs.Locking.{id_in}
+use Rattle.call_whys.specs.call_errors.specs.Ending.{failed}
+use Rattle.call_whys.specs.call_errors.specs.Handling.{decision}
+use Rattle.call_whys.specs.call_errors.specs.Asking.{TimedOut}
+use Rattle.call_whys.specs.call_writes.specs.Draining.{DroppedOne}
+use Rattle.call_whys.specs.call_attempts.specs.Both.{Both}
+use Rattle.call_whys.specs.call_attempts.specs.Attempting.{code_for, FoundGone, CameBack}
+use Rattle.call_whys.specs.call_attempts.specs.Retrying.{IsStray}
 
 -- a client was asked for these operations, and says these outcomes of them
 module _ {O : Type 0} (state : O → OutState) (p : Plan) (q : id_plan.Plan) (xs : List Task) (Says : ℕ → Outcome → Type 0) where

@@ -110,7 +110,7 @@ fn two_errors_are_kept(rt: HostRuntime) {
     let Err(IdGone { found }) = past else {
         panic!(&rt; "locked again");
     };
-    assert_eq!(&rt; IdWord::from_word(found).first(), 3);
+    assert!(&rt; IdWord::from_word(found).first() == 3);
     assert!(&rt; matches!(table.create(&mut seat, 2, 7), Ok(3)));
 }
 
@@ -198,6 +198,6 @@ fn threads_end_each_id_once(rt: HostRuntime) {
         &mut main,
         4_294_967_296,
     ));
-    assert_eq!(&rt; total, ended);
+    assert!(&rt; total == ended);
     assert!(&rt; 0 < total);
 }

@@ -5,8 +5,6 @@ mod kept;
 mod memory;
 mod pool;
 mod room;
-#[cfg(test)]
-mod tests;
 
 pub use memory::NoMemory;
 pub use pool::{BLOCK_BYTES, BlockPool, KEPT_BLOCKS};

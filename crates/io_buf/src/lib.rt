@@ -5,8 +5,6 @@
 mod buf;
 mod fault;
 mod refs;
-#[cfg(test)]
-mod tests;
 
 pub use buf::IoBuf;
 pub use fault::CutFault;

@@ -2,7 +2,7 @@
 use Rattle.std.proofs.Common.{ℕ, ◌≡◌, ◌<◌, ◌≤◌, List, [], ◌∷◌}
 use Rattle.sock_words.specs.declared.plain.Plan.{Plan}
 use Rattle.sock_model.specs.declared.view.View.{View}
-use Rattle.corr_core.specs.declared.marks.Plan.{Plan as IdPlan}
+use Rattle.client_laws.specs.corr_core.specs.declared.marks.Plan.{Plan as IdPlan}
 use Rattle.client_laws.specs.sock_programs.specs.Cores.{Core}
 use Rattle.client_laws.specs.sock_programs.specs.Ticks.{Moment, IsAnswered, AreAnswered, IsPrompt, ticked, run}
 use Rattle.client_laws.specs.sock_runs.specs.Sound.{Sound, IsFitting, AreFitting, views_after, views_along}

@@ -5,7 +5,7 @@ use Rattle.sock_words.specs.declared.plain.Plan.{Plan}
 use Rattle.sock_model.specs.declared.home.Home.TheVariants.{Empty, Link, Message}
 use Rattle.sock_model.specs.declared.view.View.{View}
 use Rattle.sock_model.specs.Lawful.{PlanFits}
-use Rattle.corr_core.specs.declared.marks.Plan.{Plan as IdPlan}
+use Rattle.client_laws.specs.corr_core.specs.declared.marks.Plan.{Plan as IdPlan}
 use Rattle.client_laws.specs.sock_programs.specs.declared.task.Task.{Task}
 use Rattle.client_laws.specs.sock_programs.specs.Programs.{Program}
 use Rattle.client_laws.specs.sock_programs.specs.Clients.{ending_of}

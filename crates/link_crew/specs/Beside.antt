@@ -7,8 +7,8 @@ use Rattle.corr_core.specs.declared.marks.Plan as id_plan
 use Rattle.sock_io.specs.declared.link.Out.{Ghosts}
 use Rattle.sock_io.specs.Link.{InState}
 use Rattle.sock_io.specs.Peer.{PeerState}
-use Rattle.rpc_client.specs.Seats.{Idle}
-use Rattle.rpc_client.specs.Holding.{IsHolder}
+use Rattle.rpc_reader.specs.rpc_client.specs.Seats.{Idle}
+use Rattle.rpc_reader.specs.rpc_client.specs.Holding.{IsHolder}
 use Rattle.rpc_reader.specs.declared.reader.Reader.{Reader}
 use Rattle.rpc_reader.specs.Books.{books}
 use Rattle.rpc_reader.specs.Running.{RanBy}

@@ -8,7 +8,7 @@ use Rattle.brpc_model.specs.Frame.{Frame, Judged, NoneYet, Faulty, Begins, judge
 use Rattle.brpc_model.specs.Stream.{Stream, with_frame, goes_on, stream_up_to, stream_from, stream}
 use Rattle.brpc_model.specs.Reply.{reply, reply_frames, replies}
 use Rattle.brpc_model.proofs.Streams.{stream_goes_on}
-use Rattle.rpc_server.specs.prpc_frame.proofs.Lasting.{stays, faulty}
+use Rattle.prpc_frame.proofs.Lasting.{stays, faulty}
 use Rattle.rpc_server.specs.Held.{Held}
 use Rattle.rpc_server.specs.Feeding.{is_fault, has_fault, Replied, Feeds}
 use Rattle.rpc_server.specs.declared.conn.ConnFault.TheVariants as fault_

@@ -9,7 +9,7 @@ use Rattle.std.proofs.lemmas.Grind.{flat_map-append}
 use Rattle.brpc_model.specs.Spelling.{meta_bytes}
 use Rattle.brpc_model.specs.Frame.{Frame, frame_bytes, framed, high_first}
 use Rattle.brpc_model.specs.Served.{first_of}
-use Rattle.rpc_server.specs.prpc_frame.proofs.Encoded.{number}
+use Rattle.prpc_frame.proofs.Encoded.{number}
 use Rattle.loop_link.specs.Serving.{is_reached, first_left}
 
 -- ## A header

@@ -2,9 +2,9 @@
 use Rattle.std.proofs.Common.{◌≡◌, ℕ, zero, suc, ◌+◌, ◌-◌, ◌%◌, ◌<◌, ◌≤◌, inl, inr, min, nat_lt, true, false, Bool, if◌then◌else◌, List, [], ◌∷◌, ◌++◌, length, take, drop, get_or, arith, ap, ◌∙◌, sym, append-nil, length-drop}
 use Rattle.std.proofs.lemmas.Bool.{cases_lt, lt-ltb, le-ltb}
 use Rattle.std.proofs.lemmas.List.{take_min}
-use Rattle.io_block.specs.declared.pool.TheConstants.{BLOCK_BYTES}
-use Rattle.call_table.specs.io_buf.specs.Buffer.{Buffer, block_sizes, rest_sizes}
-use Rattle.call_table.specs.io_buf.proofs.Sizes.{rest_sizes-less, rest_sizes-more, rest_sizes-zero, rest_sizes-rest_sizes, block_sizes-step, block_sizes-one}
+use Rattle.io_buf.specs.io_block.specs.declared.pool.TheConstants.{BLOCK_BYTES}
+use Rattle.io_buf.specs.Buffer.{Buffer, block_sizes, rest_sizes}
+use Rattle.io_buf.proofs.Sizes.{rest_sizes-less, rest_sizes-more, rest_sizes-zero, rest_sizes-rest_sizes, block_sizes-step, block_sizes-one}
 use Rattle.sock_programs.specs.Parts.{room_of_part, part}
 use Rattle.message_parts.specs.Frames.{LiesInParts, LiesBehindIn, part_sizes, length_of}
 

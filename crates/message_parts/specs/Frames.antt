@@ -1,6 +1,6 @@
 -- Frames as they are put on a link, by the parts of which their buffers were made.
 use Rattle.std.specs.Prelude.{◌≡◌, ℕ, ◌+◌, ◌-◌, ◌^◌, ◌<◌, ◌≤◌, List, [], ◌∷◌, ◌++◌, length}
-use Rattle.call_table.specs.io_buf.specs.Buffer.{Buffer, block_sizes, rest_sizes}
+use Rattle.io_buf.specs.Buffer.{Buffer, block_sizes, rest_sizes}
 
 -- a message or a frame, and the lengths of the parts of a frame
 pub record ParcelData : Type 0 where

@@ -1,11 +1,11 @@
 ghost use Rattle.std.specs.Prelude.{◌≡◌, ◌+◌, ◌<◌, ◌≤◌, ◌==◌, ◌^◌, ◌∷◌, [], IfOk, length, drop};
-ghost use Rattle.call_table.specs.sock_message.specs.Asked.{frame_of, parts_of};
+ghost use Rattle.sock_message.specs.Asked.{frame_of, parts_of};
 ghost use Rattle.sock_programs.specs.Parts.{part};
 ghost use Rattle.message_parts.specs.Frames.{LiesInParts};
 
-use call_table::io_buf::{BlockPool, IoBuf, NoMemory};
 use call_table::issue;
-use call_table::sock_message::Call;
+use io_buf::{BlockPool, IoBuf, NoMemory};
+use sock_message::Call;
 use std::alloc::Global;
 use std::marker::Model;
 

@@ -5,8 +5,5 @@
 pub mod frame;
 pub mod parcel;
 
-pub use call_table;
-pub use call_table::sock_message;
 pub use frame::{CallFrame, OutgoingFrame};
 pub use parcel::{OutgoingParcel, Parcel};
-pub use sock_programs::sock_io;

@@ -3,7 +3,7 @@ ghost use Rattle.sock_programs.specs.Parts.{part};
 ghost use Rattle.message_parts.specs.Parcels.{parcel_of, outgoing_of};
 
 use crate::frame::{CallFrame, OutgoingFrame};
-use call_table::sock_message::{Message, Outgoing};
+use sock_message::{Message, Outgoing};
 
 /// What is put on a link: a message, or the frame of an attempt of a call.
 #[derive(Drop)]

@@ -8,9 +8,8 @@ mod tcp_half;
 mod tcp_in;
 mod tcp_linker;
 mod tcp_out;
-#[cfg(test)]
-mod tests;
 
+pub use moving::{read_some, write_some};
 pub use tcp_half::TcpHalf;
 pub use tcp_in::TcpIn;
 pub use tcp_linker::TcpLinker;

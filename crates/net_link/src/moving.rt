@@ -7,7 +7,7 @@ use std::io::{ErrorKind, Read, Write};
 const TRIES: u32 = 1_000;
 
 /// Waits for bytes and reads them: 0 where the other end gave its end.
-pub(crate) fn read_some<R: Read>(reader: &mut R, room: &mut [u8]) -> Result<usize, Failed>
+pub fn read_some<R: Read>(reader: &mut R, room: &mut [u8]) -> Result<usize, Failed>
     ensures { IfOk result (λ n. n ≤ length room.new) }
 {
     for _ in 0..TRIES {
@@ -21,7 +21,7 @@ pub(crate) fn read_some<R: Read>(reader: &mut R, room: &mut [u8]) -> Result<usiz
 }
 
 /// Waits for a place and writes a part of the piece, 1 byte at least. A writer that takes nothing failed.
-pub(crate) fn write_some<W: Write>(writer: &mut W, piece: &[u8]) -> Result<usize, Failed>
+pub fn write_some<W: Write>(writer: &mut W, piece: &[u8]) -> Result<usize, Failed>
     ensures { IfOk result (λ n. (0 < n) × (n ≤ length piece.now)) }
 {
     for _ in 0..TRIES {

@@ -17,7 +17,7 @@ use Rattle.sock_runs.specs.Sound.{Sound, AreFitting, views_after, views_along}
 use Rattle.sock_runs.proofs.LinkTicks.{RetriesGo}
 use Rattle.sock_runs.proofs.Ticks.{sound_ticks}
 use Rattle.sock_runs.proofs.Whole.{closing_of, views_played, views_closed, set_up_answered, end_answered, set_up_sound, closing_sound, closed_sound}
-use Rattle.id_runs.specs.Goes as goes
+use Rattle.served_runs.specs.id_runs.specs.Goes as goes
 use Rattle.served_runs.specs.joint_runs.proofs.Runs.{AreMade, first_views}
 use Rattle.served_runs.specs.owed_calls.specs.Lives.{IsFinished, ClosesAt, ClosesInTime, ClosesInRun}
 use Rattle.served_runs.specs.owed_calls.proofs.OwingRuns.{same_first}

@@ -3,9 +3,9 @@ use Rattle.std.proofs.Common.{◌≡◌, ℕ, ◌+◌, ◌-◌, ◌<◌, ◌≤�
 use Rattle.std.proofs.lemmas.Bool.{lt-ltb, le-ltb}
 use Rattle.std.proofs.lemmas.List.{drop-drop, drop-take, take-take, take-append-le, take-append-drop}
 use Rattle.std.proofs.Math.Seq.{take-length, drop-length}
-use Rattle.brpc_model.specs.Meta as metas
-use Rattle.brpc_model.specs.Meta.{Meta, read_meta}
-use Rattle.brpc_model.specs.Frame.{Judged, Faulty, Begins, AttachOver, body_judged, with_attachment}
+use Rattle.rpc_meta.specs.brpc_model.specs.Meta as metas
+use Rattle.rpc_meta.specs.brpc_model.specs.Meta.{Meta, read_meta}
+use Rattle.rpc_meta.specs.brpc_model.specs.Frame.{Judged, Faulty, Begins, AttachOver, body_judged, with_attachment}
 use Rattle.rpc_meta.specs.Answer.{answer}
 use Rattle.rpc_meta.specs.declared.fault.MetaFault.{MetaFault}
 use Rattle.rpc_meta.specs.declared.fault.MetaFault.TheVariants as fault_

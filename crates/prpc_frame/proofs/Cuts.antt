@@ -1,9 +1,9 @@
 -- Frames that are cut off the front of a stream, one behind another.
 use Rattle.std.proofs.Common.{◌≡◌, ℕ, zero, suc, ◌+◌, ◌-◌, ◌<◌, List, [], ◌∷◌, ◌++◌, length, drop, Some, Ok, refl, ap, sym, ◌∙◌, subst, arith, append_assoc, append-nil}
 use Rattle.std.specs.Prelude.{Option}
-use Rattle.brpc_model.specs.Frame.{Frame, FrameFault, Judged, NoneYet, Faulty, Begins, judged}
-use Rattle.brpc_model.specs.Stream.{Stream, Ending, Rest, Fault, with_frame, goes_on, stream_up_to, stream_from, stream}
-use Rattle.brpc_model.proofs.Streams.{stream_goes_on}
+use Rattle.rpc_meta.specs.brpc_model.specs.Frame.{Frame, FrameFault, Judged, NoneYet, Faulty, Begins, judged}
+use Rattle.rpc_meta.specs.brpc_model.specs.Stream.{Stream, Ending, Rest, Fault, with_frame, goes_on, stream_up_to, stream_from, stream}
+use Rattle.rpc_meta.specs.brpc_model.proofs.Streams.{stream_goes_on}
 use Rattle.prpc_frame.specs.Cuts.{behind, Cut}
 use Rattle.prpc_frame.specs.Leads.{Leads}
 use Rattle.prpc_frame.specs.Meaning.{frame_of}

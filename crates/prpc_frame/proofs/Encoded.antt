@@ -4,9 +4,9 @@ use Rattle.std.specs.Int.{w32, to_be_bytes, from_be_bytes}
 use Rattle.std.proofs.lemmas.Nat.{from_be_bytes-to_be_bytes_4}
 use Rattle.std.proofs.lemmas.Bool.{le-ltb}
 use Rattle.std.proofs.Math.Seq.{take-append_seam, drop-append_seam}
-use Rattle.brpc_model.specs.Meta as metas
-use Rattle.brpc_model.specs.Meta.{Meta, read_meta}
-use Rattle.brpc_model.specs.Frame.{Frame, IsFrame, Begins, judged, body_judged, with_attachment, high_first, framed, body_limit}
+use Rattle.rpc_meta.specs.brpc_model.specs.Meta as metas
+use Rattle.rpc_meta.specs.brpc_model.specs.Meta.{Meta, read_meta}
+use Rattle.rpc_meta.specs.brpc_model.specs.Frame.{Frame, IsFrame, Begins, judged, body_judged, with_attachment, high_first, framed, body_limit}
 use Rattle.prpc_frame.specs.Header.{body_size, meta_size}
 use Rattle.prpc_frame.proofs.Judging.{told_whole, right_at_4}
 

@@ -6,8 +6,8 @@ use Rattle.std.proofs.lemmas.Bool.{eq-eqb}
 use Rattle.std.proofs.lemmas.List.{append-nil}
 use Rattle.std.proofs.lemmas.List.Sums.{common_prefix_len-drop_yes, common_prefix_len-drop_no}
 use Rattle.std.specs.List.{common_prefix_len}
-use Rattle.brpc_model.specs.Frame.{Judged, NoneYet, Faulty, BadMagic, TooBig, MetaOver, judged, body_judged, matching, magic, high_first, body_limit}
-use Rattle.brpc_model.specs.Meta.{read_meta}
+use Rattle.rpc_meta.specs.brpc_model.specs.Frame.{Judged, NoneYet, Faulty, BadMagic, TooBig, MetaOver, judged, body_judged, matching, magic, high_first, body_limit}
+use Rattle.rpc_meta.specs.brpc_model.specs.Meta.{read_meta}
 use Rattle.prpc_frame.specs.Meaning.{IsFault}
 use Rattle.prpc_frame.specs.Header.{magic_wrong, body_size, meta_size, inside_of, IsWhole}
 use Rattle.prpc_frame.specs.declared.fault.FrameFault.TheVariants as frame_

@@ -1,8 +1,8 @@
 -- What a cutter holds, by the fault that it has noted.
 use Rattle.std.proofs.Common.{◌≡◌, ℕ, true, false, List, ◌++◌, length, Option, Some, None, Result, Ok, Err, refl, ap, sym, ◌∙◌, subst, inl}
 use Rattle.std.specs.Prelude.{if◌then◌else◌, is_some, OnOk, OnErr}
-use Rattle.brpc_model.specs.Frame.{judged}
-use Rattle.brpc_model.specs.Stream.{stream_from}
+use Rattle.rpc_meta.specs.brpc_model.specs.Frame.{judged}
+use Rattle.rpc_meta.specs.brpc_model.specs.Stream.{stream_from}
 use Rattle.io_buf.specs.Buffer.{Buffer}
 use Rattle.prpc_frame.specs.Held.{Held, held_count, with_piece}
 use Rattle.prpc_frame.specs.Inside.{bytes_of, seen, Noted}

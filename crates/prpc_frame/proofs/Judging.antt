@@ -5,8 +5,8 @@ use Rattle.std.proofs.lemmas.Bool.Decides.{nat_tests}
 use Rattle.std.proofs.lemmas.List.{take-append-le, drop-append-le}
 use Rattle.std.proofs.lemmas.List.Sums.{common_prefix_len-le}
 use Rattle.std.specs.List.{common_prefix_len}
-use Rattle.brpc_model.specs.Meta.{read_meta}
-use Rattle.brpc_model.specs.Frame.{NoneYet, Faulty, BadMagic, TooBig, MetaOver, judged, body_judged, matching, magic, body_limit}
+use Rattle.rpc_meta.specs.brpc_model.specs.Meta.{read_meta}
+use Rattle.rpc_meta.specs.brpc_model.specs.Frame.{NoneYet, Faulty, BadMagic, TooBig, MetaOver, judged, body_judged, matching, magic, body_limit}
 use Rattle.prpc_frame.specs.Header.{magic_wrong, body_size, meta_size, inside_of}
 
 -- ## The cases

@@ -3,11 +3,11 @@ use Rattle.std.proofs.Common.{◌≡◌, ℕ, ◌+◌, ◌-◌, ◌<◌, ◌≤�
 use Rattle.std.specs.Prelude.{nat_lt, option_map}
 use Rattle.std.proofs.lemmas.Bool.{ltb-true, ltb-false}
 use Rattle.std.proofs.lemmas.List.{drop-append-le}
-use Rattle.brpc_model.specs.Meta.{read_meta}
-use Rattle.brpc_model.specs.Frame as model
-use Rattle.brpc_model.specs.Frame.{Judged, NoneYet, Faulty, Begins, BadMagic, TooBig, MetaOver, judged, body_judged, high_first, matching, body_limit}
-use Rattle.brpc_model.specs.Stream.{Stream, Rest, Fault, goes_on, with_frame, stream_from}
-use Rattle.brpc_model.proofs.Streams.{stream_goes_on}
+use Rattle.rpc_meta.specs.brpc_model.specs.Meta.{read_meta}
+use Rattle.rpc_meta.specs.brpc_model.specs.Frame as model
+use Rattle.rpc_meta.specs.brpc_model.specs.Frame.{Judged, NoneYet, Faulty, Begins, BadMagic, TooBig, MetaOver, judged, body_judged, high_first, matching, body_limit}
+use Rattle.rpc_meta.specs.brpc_model.specs.Stream.{Stream, Rest, Fault, goes_on, with_frame, stream_from}
+use Rattle.rpc_meta.specs.brpc_model.proofs.Streams.{stream_goes_on}
 use Rattle.prpc_frame.specs.Header.{magic_wrong, body_size, meta_size, inside_of}
 use Rattle.prpc_frame.specs.Meaning.{frame_of, fault_of}
 use Rattle.prpc_frame.specs.Answers.{Cuts, Answers, IsFaulty, Fed}

@@ -1,9 +1,9 @@
 -- How long the meta of a request is at most.
 use Rattle.std.proofs.Common.{ℕ, ◌+◌, ◌*◌, ◌/◌, ◌%◌, ◌≤◌, suc, zero, Bool, true, false, pos, List, [], ◌∷◌, ◌++◌, length, Some, None, arith, length-append}
 use Rattle.std.specs.Prelude.{nat_lt, if◌then◌else◌}
-use Rattle.brpc_model.specs.Wire.{varint_up_to, varint_bytes}
-use Rattle.brpc_model.specs.Meta.{Meta}
-use Rattle.brpc_model.specs.Spelling.{number_field, bytes_field, meta_bytes}
+use Rattle.rpc_meta.specs.brpc_model.specs.Wire.{varint_up_to, varint_bytes}
+use Rattle.rpc_meta.specs.brpc_model.specs.Meta.{Meta}
+use Rattle.rpc_meta.specs.brpc_model.specs.Spelling.{number_field, bytes_field, meta_bytes}
 
 varint_size : (most n : ℕ) → length (varint_up_to most n) ≤ most
 varint_size zero n = omega arith

@@ -1,7 +1,7 @@
 -- What the calls of a cutter answer, by how the bytes that it holds are judged.
 use Rattle.std.specs.Prelude.{◌≡◌, ℕ, Bool, true, false, ◌+◌, ◌≤◌, ◌⊎◌, List, ◌++◌, length, drop, Option, Some, None, Result, Ok, Err}
-use Rattle.brpc_model.specs.Frame.{Judged, NoneYet, Faulty, Begins, judged}
-use Rattle.brpc_model.specs.Frame as model
+use Rattle.rpc_meta.specs.brpc_model.specs.Frame.{Judged, NoneYet, Faulty, Begins, judged}
+use Rattle.rpc_meta.specs.brpc_model.specs.Frame as model
 use Rattle.prpc_frame.specs.Meaning.{frame_of, IsFault}
 use Rattle.prpc_frame.specs.declared.frame.Frame.{Frame}
 use Rattle.prpc_frame.specs.declared.fault.NextFault.{NextFault}

@@ -1,8 +1,8 @@
 -- What the body of a frame tells.
 use Rattle.std.specs.Prelude.{◌≡◌, ℕ, ◌≤◌, ◌<◌, ℤ, pos, List, take, drop, Result, Ok, Err}
-use Rattle.brpc_model.specs.Frame as model
-use Rattle.brpc_model.specs.Frame.{Judged, body_judged}
-use Rattle.brpc_model.specs.Meta.{read_meta}
+use Rattle.rpc_meta.specs.brpc_model.specs.Frame as model
+use Rattle.rpc_meta.specs.brpc_model.specs.Frame.{Judged, body_judged}
+use Rattle.rpc_meta.specs.brpc_model.specs.Meta.{read_meta}
 use Rattle.rpc_meta.specs.Meaning.{meaning}
 use Rattle.rpc_meta.specs.declared.meta.RpcMeta.{RpcMeta}
 use Rattle.prpc_frame.specs.Meaning.{frame_of, IsFault}

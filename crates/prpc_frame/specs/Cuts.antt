@@ -1,7 +1,7 @@
 -- Frames that are cut off the front of a stream, however it goes on behind them.
 use Rattle.std.specs.Prelude.{◌≡◌, ℕ, ◌+◌, List, ◌++◌, length}
-use Rattle.brpc_model.specs.Frame.{Frame}
-use Rattle.brpc_model.specs.Stream.{Stream, stream_from}
+use Rattle.rpc_meta.specs.brpc_model.specs.Frame.{Frame}
+use Rattle.rpc_meta.specs.brpc_model.specs.Stream.{Stream, stream_from}
 
 -- a stream with more frames before it
 abbrev pub behind : List Frame → Stream → Stream

@@ -1,6 +1,6 @@
 -- The fields of a `Cutter`.
 use Rattle.std.specs.Prelude.{◌≡◌, ℕ, List, [], Option, Some, None, IfSome, is_some}
-use Rattle.brpc_model.specs.Frame.{judged}
+use Rattle.rpc_meta.specs.brpc_model.specs.Frame.{judged}
 use Rattle.prpc_frame.specs.Held.{Held}
 use Rattle.prpc_frame.specs.Meaning.{IsFault}
 use Rattle.prpc_frame.specs.declared.fault.FrameFault.{FrameFault}

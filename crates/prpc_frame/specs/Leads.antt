@@ -1,6 +1,6 @@
 -- What a cutter's answer says of the stream that it cuts, however the stream goes on behind what was fed.
 use Rattle.std.specs.Prelude.{◌≡◌, ℕ, ◌+◌, ◌-◌, ◌<◌, List, [], ◌++◌, length, Option, Some, None, option_map, Result, Ok, Err}
-use Rattle.brpc_model.specs.Stream.{Stream, Ending, Rest, Fault, with_frame, stream_from}
+use Rattle.rpc_meta.specs.brpc_model.specs.Stream.{Stream, Ending, Rest, Fault, with_frame, stream_from}
 use Rattle.prpc_frame.specs.Meaning.{frame_of, fault_of}
 use Rattle.prpc_frame.specs.declared.frame.Frame.{Frame}
 use Rattle.prpc_frame.specs.declared.fault.NextFault.{NextFault}

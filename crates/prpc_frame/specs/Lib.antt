@@ -6,6 +6,4 @@ pub mod Held
 pub mod Inside
 pub mod Leads
 pub mod Cuts
-pub use Rattle.brpc_model
-pub use Rattle.io_buf
 pub use Rattle.rpc_meta

@@ -1,7 +1,7 @@
 -- What a frame and its faults say, as the definition of a frame has them.
 use Rattle.std.specs.Prelude.{◌≡◌, ℕ, List, Option, Some, option_map}
-use Rattle.brpc_model.specs.Frame as model
-use Rattle.brpc_model.specs.Meta as metas
+use Rattle.rpc_meta.specs.brpc_model.specs.Frame as model
+use Rattle.rpc_meta.specs.brpc_model.specs.Meta as metas
 use Rattle.rpc_meta.specs.Meaning.{meaning}
 use Rattle.rpc_meta.specs.Answer.{meta_fault}
 use Rattle.prpc_frame.specs.declared.frame.Frame.{Frame}

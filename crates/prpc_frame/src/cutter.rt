@@ -1,6 +1,6 @@
 ghost use Rattle.std.specs.Prelude.{◌≡◌, ℕ, List, ◌++◌, true, false, IsOk, OnOk, OnErr, MatchOption, Err};
-ghost use Rattle.brpc_model.specs.Frame.{NoneYet, judged};
-ghost use Rattle.brpc_model.specs.Stream.{stream_from};
+ghost use Rattle.rpc_meta.specs.brpc_model.specs.Frame.{NoneYet, judged};
+ghost use Rattle.rpc_meta.specs.brpc_model.specs.Stream.{stream_from};
 ghost use Rattle.prpc_frame.specs.declared.fault.NextFault.TheVariants.{Frame as frame_fault};
 ghost use Rattle.prpc_frame.specs.Answers.{Answers, Fed, tells_fault};
 ghost use Rattle.prpc_frame.specs.Held.{unfed, held_count, with_piece};

@@ -1,9 +1,9 @@
 ghost use Rattle.std.specs.Prelude.{◌≡◌, ℕ, List, [], ◌+◌, ◌-◌, ◌≤◌, ◌∷◌, ◌++◌, pos, length, All, Ok, IfOk, OnOk};
 ghost use Rattle.io_buf.specs.Buffer.{block_sizes, IsSize};
 ghost use Rattle.std.specs.Int.{w32, to_be_bytes};
-ghost use Rattle.brpc_model.specs.Frame.{Frame as ModelFrame, IsFrame, Begins, magic, body_limit, frame_bytes, judged};
-ghost use Rattle.brpc_model.specs.Meta.{read_meta};
-ghost use Rattle.brpc_model.specs.Spelling.{meta_bytes};
+ghost use Rattle.rpc_meta.specs.brpc_model.specs.Frame.{Frame as ModelFrame, IsFrame, Begins, magic, body_limit, frame_bytes, judged};
+ghost use Rattle.rpc_meta.specs.brpc_model.specs.Meta.{read_meta};
+ghost use Rattle.rpc_meta.specs.brpc_model.specs.Spelling.{meta_bytes};
 ghost use Rattle.rpc_meta.specs.Meaning.{meaning};
 ghost use Rattle.rpc_meta.specs.Sizes.{AreSizes};
 ghost use Rattle.rpc_meta.specs.Writing.{HasPart};

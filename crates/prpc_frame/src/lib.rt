@@ -16,7 +16,5 @@ pub use cutter::Cutter;
 pub use encoding::{begins_with_one_frame, encode};
 pub use fault::{FrameFault, NextFault};
 pub use frame::Frame;
-pub use io_buf;
 pub use io_buf::{BlockPool, IoBuf, NoMemory};
-pub use rpc_meta;
 pub use rpc_meta::{MetaFault, RpcMeta};

@@ -10,8 +10,6 @@ mod ring_in;
 mod ring_linker;
 mod ring_out;
 mod ring_peer;
-#[cfg(test)]
-mod tests;
 mod writer;
 
 pub use open::open_ring;

@@ -17,15 +17,15 @@ use Rattle.sock_model.specs.SlotRows.{marks_of, met}
 use Rattle.write_chain.specs.slot_laws.proofs.Sums.{total_mono, total-append}
 use Rattle.write_chain.specs.slot_laws.proofs.Numbers.{only-at, only-else, only_le, pair_only, pair-same}
 use Rattle.std.proofs.lemmas.Bool.Decides.{nat_tests}
-use Rattle.write_chain.specs.sock_rule.specs.Becoming.{Became}
-use Rattle.write_chain.specs.sock_rule.proofs.Becoming.{adds_mark}
-use Rattle.write_chain.specs.sock_table.specs.Refs.{GaveBack}
-use Rattle.write_chain.specs.sock_table.specs.Passes.{Created, TriedTo}
-use Rattle.write_chain.specs.sock_table.specs.Answers.{Holds, GoneFrom}
-use Rattle.write_chain.specs.sock_table.specs.Answers as answers
+use Rattle.sock_rule.specs.Becoming.{Became}
+use Rattle.sock_rule.proofs.Becoming.{adds_mark}
+use Rattle.sock_table.specs.Refs.{GaveBack}
+use Rattle.sock_table.specs.Passes.{Created, TriedTo}
+use Rattle.sock_table.specs.Answers.{Holds, GoneFrom}
+use Rattle.sock_table.specs.Answers as answers
 use Rattle.rpc_client.specs.declared.holding.Held.{Held}
 use Rattle.rpc_client.specs.Holding.{IsHolder, is_there, is_life}
-use Rattle.write_chain.specs.sock_table.specs.Named.{FindsId}
+use Rattle.sock_table.specs.Named.{FindsId}
 use Rattle.write_chain.specs.sock_open.proofs.Testing.{ended_refs}
 use Rattle.rpc_client.specs.Seats.{SameRefs, OneMore}
 

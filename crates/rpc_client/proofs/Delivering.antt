@@ -2,8 +2,8 @@
 use Rattle.std.proofs.Common.{◌≡◌, ℕ, Option, Some, None, List, [], ◌∷◌, refl, sym, ap, ◌∙◌, subst, arith}
 use Rattle.atomic_table.specs.Seated.{TableId}
 use Rattle.atomic_table.specs.declared.shared.Seat.{Seat}
-use Rattle.write_chain.specs.sock_io.specs.declared.link.Out.{Ghosts}
-use Rattle.write_chain.specs.sock_io.specs.Link.{OutState}
+use Rattle.sock_io.specs.declared.link.Out.{Ghosts}
+use Rattle.sock_io.specs.Link.{OutState}
 use Rattle.sock_words.specs.declared.plain.Plan.{Plan}
 use Rattle.sock_words.specs.declared.outcome.Outcome.{Outcome}
 use Rattle.sock_words.specs.declared.outcome.Outcome.TheVariants as outcome
@@ -14,12 +14,12 @@ use Rattle.sock_model.specs.declared.marks.Mark.TheVariants.{Saw}
 use Rattle.sock_model.specs.declared.view.View.{View}
 use Rattle.sock_model.specs.Weights.{total, is_ref}
 use Rattle.write_chain.specs.message_parts.specs.Parcels.{parcel_of}
-use Rattle.write_chain.specs.sock_rule.specs.Seated.{IsSeat}
-use Rattle.write_chain.specs.sock_rule.specs.declared.homes.Letter.{Letter}
-use Rattle.write_chain.specs.sock_table.specs.Refs.{IsBetween}
-use Rattle.write_chain.specs.sock_table.specs.Answers.{Holds}
-use Rattle.write_chain.specs.sock_table.specs.declared.refs.SockRef.{SockRef}
-use Rattle.write_chain.specs.sock_table.proofs.Quiet.{saw_between}
+use Rattle.sock_rule.specs.Seated.{IsSeat}
+use Rattle.sock_rule.specs.declared.homes.Letter.{Letter}
+use Rattle.sock_table.specs.Refs.{IsBetween}
+use Rattle.sock_table.specs.Answers.{Holds}
+use Rattle.sock_table.specs.declared.refs.SockRef.{SockRef}
+use Rattle.sock_table.proofs.Quiet.{saw_between}
 use Rattle.write_chain.specs.declared.entry.Started.{Started}
 use Rattle.write_chain.specs.declared.entry.Started.TheVariants as started
 use Rattle.write_chain.specs.declared.entry.Refused.{Refused}

@@ -1,10 +1,10 @@
 -- From a name to a reference, and what a seat has seen.
 use Rattle.atomic_table.specs.Seated.{TableId}
 use Rattle.atomic_table.specs.Table.{Me}
-use Rattle.write_chain.specs.sock_rule.specs.Rows.{PutAt}
+use Rattle.sock_rule.specs.Rows.{PutAt}
 use Rattle.atomic_table.specs.declared.shared.Seat.{Seat}
-use Rattle.write_chain.specs.sock_rule.specs.Seated.{IsSeat}
-use Rattle.write_chain.specs.sock_table.specs.Refs.{IsBetween, SameTokens, GaveBack}
+use Rattle.sock_rule.specs.Seated.{IsSeat}
+use Rattle.sock_table.specs.Refs.{IsBetween, SameTokens, GaveBack}
 use Rattle.sock_model.specs.Weights.{is_ref}
 use Rattle.sock_model.specs.SlotRows.{marks_of}
 use Rattle.write_chain.specs.slot_laws.proofs.Numbers.{only-same, pair-same}
@@ -16,10 +16,10 @@ use Rattle.sock_words.specs.Words.{socket_id_slot, socket_id_version}
 use Rattle.sock_model.specs.declared.marks.Mark.{Mark}
 use Rattle.sock_model.specs.declared.view.View.{View}
 use Rattle.sock_model.specs.Layout.{name_word}
-use Rattle.write_chain.specs.sock_rule.specs.Becoming.{Became}
-use Rattle.write_chain.specs.sock_table.specs.declared.refs.SockRef.{SockRef}
-use Rattle.write_chain.specs.sock_table.specs.Answers.{Held, Holds, GoneFrom, NoneLater}
-use Rattle.write_chain.specs.sock_table.specs.Named.{Found, FindsId}
+use Rattle.sock_rule.specs.Becoming.{Became}
+use Rattle.sock_table.specs.declared.refs.SockRef.{SockRef}
+use Rattle.sock_table.specs.Answers.{Held, Holds, GoneFrom, NoneLater}
+use Rattle.sock_table.specs.Named.{Found, FindsId}
 use Rattle.rpc_client.specs.declared.reaching.Reached.TheVariants.{Here}
 use Rattle.rpc_client.specs.Seats.{Idle, MayAct, AtRest, StaysSeen, SameRefs, OneMore}
 use Rattle.rpc_client.specs.Reaching.{ReachedBy}

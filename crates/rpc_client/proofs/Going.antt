@@ -2,8 +2,8 @@
 use Rattle.std.proofs.Common.{◌≡◌, ℕ, ◌+◌, ◌<◌, Option, Some, None, inl, inr, List, [], ◌∷◌, ◌++◌, length-append, refl, sym, ap, ◌∙◌, subst, arith}
 use Rattle.atomic_table.specs.Seated.{TableId}
 use Rattle.atomic_table.specs.declared.shared.Seat.{Seat}
-use Rattle.write_chain.specs.sock_io.specs.declared.link.Out.{Ghosts}
-use Rattle.write_chain.specs.sock_io.specs.Link.{OutState}
+use Rattle.sock_io.specs.declared.link.Out.{Ghosts}
+use Rattle.sock_io.specs.Link.{OutState}
 use Rattle.sock_words.specs.declared.plain.Plan.{Plan}
 use Rattle.sock_words.specs.declared.outcome.Outcome.{Outcome}
 use Rattle.sock_words.specs.declared.outcome.Outcome.TheVariants as outcome
@@ -13,8 +13,8 @@ use Rattle.sock_model.specs.declared.view.View.{View}
 use Rattle.sock_model.specs.ChainRows.{more}
 use Rattle.sock_model.specs.SlotRows.{marks_of}
 use Rattle.sock_model.specs.Weights.{is_ref}
-use Rattle.write_chain.specs.sock_rule.specs.declared.homes.Letter.{Letter}
-use Rattle.write_chain.specs.sock_table.specs.declared.refs.SockRef.{SockRef}
+use Rattle.sock_rule.specs.declared.homes.Letter.{Letter}
+use Rattle.sock_table.specs.declared.refs.SockRef.{SockRef}
 use Rattle.rpc_client.specs.declared.holding.Held.{Held}
 use Rattle.rpc_client.specs.declared.reaching.Reached.TheVariants.{Here}
 use Rattle.rpc_client.specs.Seats.{Idle, MayAct}
@@ -22,9 +22,9 @@ use Rattle.rpc_client.specs.Reaching.{ReachedBy}
 use Rattle.rpc_client.specs.Holding.{IsHolder}
 use Rattle.std.specs.Prelude.{All}
 use Rattle.std.proofs.lemmas.List.Elements.{All-nil, All-cons}
-use Rattle.write_chain.specs.sock_table.specs.Passes.{IsPass}
+use Rattle.sock_table.specs.Passes.{IsPass}
 use Rattle.write_chain.specs.sock_open.specs.Made.{IsNewSeat, PassesFrom}
-use Rattle.write_chain.specs.sock_table.specs.declared.passes.LinkPass.{LinkPass}
+use Rattle.sock_table.specs.declared.passes.LinkPass.{LinkPass}
 use Rattle.write_chain.specs.sock_open.proofs.Making.{new_view, new_is_seat, new_between}
 use Rattle.rpc_client.specs.Sending.{SentBy}
 use Rattle.rpc_client.specs.Acting.{OwnList}

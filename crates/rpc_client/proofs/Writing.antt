@@ -2,7 +2,7 @@
 use Rattle.std.proofs.Common.{◌≡◌, ℕ, ◌+◌, List, [], ◌∷◌, ◌++◌, refl, sym, ap, ◌∙◌, subst, arith}
 use Rattle.std.specs.Prelude.{All}
 use Rattle.std.proofs.lemmas.List.Elements.{All-nil, All-cons, All-append, All-weaker}
-use Rattle.write_chain.specs.sock_io.specs.Link.{OutState}
+use Rattle.sock_io.specs.Link.{OutState}
 use Rattle.sock_words.specs.declared.plain.Plan.{Plan}
 use Rattle.sock_words.specs.Words.{socket_id_version, socket_id_slot}
 use Rattle.sock_model.specs.declared.view.View.{View}
@@ -10,8 +10,8 @@ use Rattle.sock_model.specs.declared.view.StoredWord.{StoredWord}
 use Rattle.sock_model.specs.Weights.{is_met}
 use Rattle.sock_model.specs.Marks as marks
 use Rattle.sock_model.specs.SlotRows.{marks_of}
-use Rattle.write_chain.specs.sock_rule.specs.Becoming.{Became}
-use Rattle.write_chain.specs.sock_rule.proofs.Becoming.{then_}
+use Rattle.sock_rule.specs.Becoming.{Became}
+use Rattle.sock_rule.proofs.Becoming.{then_}
 use Rattle.write_chain.specs.Noting.{Met_by, Wrote, WroteDrop}
 use Rattle.write_chain.proofs.Noting.{noted_as, noted_then, noted_quiet, wrote_rights, wrote_stores}
 use Rattle.rpc_client.specs.Seats.{SameRefs}

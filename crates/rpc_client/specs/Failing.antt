@@ -6,9 +6,9 @@ use Rattle.sock_words.specs.declared.outcome.Outcome.TheVariants as outcome
 use Rattle.sock_words.specs.Words.{socket_id_version, socket_id_slot}
 use Rattle.sock_model.specs.declared.marks.Mark.TheVariants.{Hold}
 use Rattle.sock_model.specs.declared.view.View.{View}
-use Rattle.write_chain.specs.sock_table.specs.Refs.{GaveBack}
-use Rattle.write_chain.specs.sock_table.specs.Answers as answers
-use Rattle.write_chain.specs.sock_table.specs.declared.refs.SockRef.{SockRef}
+use Rattle.sock_table.specs.Refs.{GaveBack}
+use Rattle.sock_table.specs.Answers as answers
+use Rattle.sock_table.specs.declared.refs.SockRef.{SockRef}
 use Rattle.rpc_client.specs.declared.reaching.Reached.TheVariants as reached
 use Rattle.rpc_client.specs.Reaching.{ReachedBy}
 

@@ -12,7 +12,7 @@ use Rattle.sock_model.specs.declared.marks.Mark.TheVariants.{Hold}
 use Rattle.sock_model.specs.declared.view.View.{View}
 use Rattle.sock_model.specs.Weights.{total, only, pair, is_ref, is_hold}
 use Rattle.sock_model.specs.SlotRows.{marks_of}
-use Rattle.write_chain.specs.sock_table.specs.Refs.{GaveBack}
+use Rattle.sock_table.specs.Refs.{GaveBack}
 use Rattle.rpc_client.specs.declared.holding.Held.{Held}
 use Rattle.rpc_client.specs.declared.reaching.Reached.TheVariants as reached
 use Rattle.rpc_client.specs.Reaching.{ReachedBy}

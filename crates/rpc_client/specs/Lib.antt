@@ -6,10 +6,7 @@ pub mod Failing
 pub mod Sending
 pub mod Acting
 pub mod Running
-pub use Rattle.write_chain.specs.call_table
 pub use Rattle.write_chain.specs.message_parts
-pub use Rattle.write_chain.specs.slot_laws
-pub use Rattle.write_chain.specs.sock_open
-pub use Rattle.write_chain.specs.sock_rule
-pub use Rattle.write_chain.specs.sock_table
+pub use Rattle.sock_rule
+pub use Rattle.sock_table
 pub use Rattle.write_chain

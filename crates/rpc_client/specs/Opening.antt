@@ -8,10 +8,10 @@ use Rattle.sock_words.specs.declared.socket_id.SocketId.{SocketId}
 use Rattle.sock_words.specs.Words.{socket_id_version, socket_id_slot}
 use Rattle.sock_model.specs.declared.view.View.{View}
 use Rattle.sock_model.specs.Layout.{name_word}
-use Rattle.write_chain.specs.sock_rule.specs.Rows.{PutAt}
-use Rattle.write_chain.specs.sock_table.specs.Refs.{SameNotes}
-use Rattle.write_chain.specs.sock_table.specs.Passes.{Created, TriedTo}
-use Rattle.write_chain.specs.sock_table.specs.Named.{NotedBy}
+use Rattle.sock_rule.specs.Rows.{PutAt}
+use Rattle.sock_table.specs.Refs.{SameNotes}
+use Rattle.sock_table.specs.Passes.{Created, TriedTo}
+use Rattle.sock_table.specs.Named.{NotedBy}
 
 -- the operation got no socket: that is noted, and nothing else
 pub record GotNone {S : Type 0} (p : Plan) (operation : ℕ) (m n : Me S View) : Type 0 where

@@ -3,8 +3,8 @@ use Rattle.std.specs.Prelude.{ℕ, Some, None}
 use Rattle.sock_words.specs.declared.plain.Plan.{Plan}
 use Rattle.sock_words.specs.declared.socket_id.SocketId.{SocketId}
 use Rattle.sock_model.specs.declared.view.View.{View}
-use Rattle.write_chain.specs.sock_table.specs.Named.{Found}
-use Rattle.write_chain.specs.sock_table.specs.Answers.{Held, GoneFrom, NoneLater}
+use Rattle.sock_table.specs.Named.{Found}
+use Rattle.sock_table.specs.Answers.{Held, GoneFrom, NoneLater}
 use Rattle.rpc_client.specs.declared.reaching.Reached.{Reached}
 use Rattle.rpc_client.specs.declared.reaching.Reached.TheVariants.{Unopened, Gone, Here}
 use Rattle.rpc_client.specs.Seats.{SameRefs, OneMore}

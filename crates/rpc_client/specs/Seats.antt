@@ -7,9 +7,9 @@ use Rattle.sock_words.specs.Words.{socket_id_version, socket_id_slot}
 use Rattle.sock_model.specs.declared.view.View.{View}
 use Rattle.sock_model.specs.Weights.{only, pair, is_ref, is_hold}
 use Rattle.sock_model.specs.SlotRows.{marks_of}
-use Rattle.write_chain.specs.sock_rule.specs.Seated.{IsSeat}
-use Rattle.write_chain.specs.sock_table.specs.Refs.{IsBetween}
-use Rattle.write_chain.specs.sock_table.specs.Named.{HasSeen}
+use Rattle.sock_rule.specs.Seated.{IsSeat}
+use Rattle.sock_table.specs.Refs.{IsBetween}
+use Rattle.sock_table.specs.Named.{HasSeen}
 
 -- a seat of the table that has references and notes alone: no right, no message, and nothing of a home
 pub record Idle {S : Type 0} (z : TableId) (p : Plan) (s : Seat S View) : Type 0 where

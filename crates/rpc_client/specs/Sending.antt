@@ -1,7 +1,7 @@
 -- What becomes of a `send`.
 use Rattle.std.specs.Prelude.{◌≡◌, ◌⊎◌, ℕ, true, Bool, List, [], ◌∷◌, Option, Some, None, All}
-use Rattle.write_chain.specs.sock_io.specs.declared.link.Out.{Ghosts}
-use Rattle.write_chain.specs.sock_io.specs.Link.{OutState}
+use Rattle.sock_io.specs.declared.link.Out.{Ghosts}
+use Rattle.sock_io.specs.Link.{OutState}
 use Rattle.sock_words.specs.declared.plain.Plan.{Plan}
 use Rattle.sock_words.specs.declared.outcome.Outcome.{Outcome}
 use Rattle.sock_words.specs.declared.outcome.Outcome.TheVariants as outcome
@@ -15,12 +15,12 @@ use Rattle.sock_model.specs.Layout.{place_word}
 use Rattle.sock_model.specs.Deliveries.{place_value}
 use Rattle.sock_model.specs.Marks as marks
 use Rattle.write_chain.specs.message_parts.specs.Parcels.{parcel_of}
-use Rattle.write_chain.specs.sock_rule.specs.Becoming.{Became}
-use Rattle.write_chain.specs.sock_rule.specs.Shows.{heading_of}
-use Rattle.write_chain.specs.sock_rule.specs.declared.homes.Letter.{Letter}
-use Rattle.write_chain.specs.sock_table.specs.Refs.{GaveBack}
-use Rattle.write_chain.specs.sock_table.specs.Answers.{Holds}
-use Rattle.write_chain.specs.sock_table.specs.declared.refs.SockRef.{SockRef}
+use Rattle.sock_rule.specs.Becoming.{Became}
+use Rattle.sock_rule.specs.Shows.{heading_of}
+use Rattle.sock_rule.specs.declared.homes.Letter.{Letter}
+use Rattle.sock_table.specs.Refs.{GaveBack}
+use Rattle.sock_table.specs.Answers.{Holds}
+use Rattle.sock_table.specs.declared.refs.SockRef.{SockRef}
 use Rattle.write_chain.specs.declared.entry.Started.{Started}
 use Rattle.write_chain.specs.declared.entry.Started.TheVariants as started
 use Rattle.write_chain.specs.declared.entry.Refused.{Refused}

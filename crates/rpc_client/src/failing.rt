@@ -3,15 +3,15 @@ ghost use Rattle.std.specs.Prelude.{◌≡◌, ◌≢◌, ◌<◌};
 ghost use Rattle.sock_words.specs.Words.{socket_id_slot};
 ghost use Rattle.sock_model.specs.Weights.{is_ref};
 ghost use Rattle.sock_model.specs.SlotRows.{marks_of};
-ghost use Rattle.write_chain.specs.sock_table.specs.Answers.{Holds};
+ghost use Rattle.sock_table.specs.Answers.{Holds};
 ghost use Rattle.rpc_client.specs.Seats.{Idle, MayAct, AtRest, StaysSeen, SameRefs};
 ghost use Rattle.rpc_client.specs.Failing.{SetBy, FailedBy};
 
 use crate::reaching::{Reached, reach};
+use sock_io::Out;
+use sock_rule::SockSeat;
+use sock_table::{SockRef, SockTable};
 use sock_words::Outcome;
-use write_chain::sock_io::Out;
-use write_chain::sock_rule::SockSeat;
-use write_chain::sock_table::{SockRef, SockTable};
 
 /// A socket to which the seat has a reference is set failed, and the reference is given back.
 fn fail_socket<O: Out>(

@@ -4,10 +4,10 @@ ghost use Rattle.rpc_client.specs.Seats.{Idle, MayAct, AtRest, StaysSeen};
 ghost use Rattle.rpc_client.specs.Holding.{IsHolder, HeldBy, GivenBy, DroppedBy};
 
 use crate::reaching::{Reached, reach};
+use sock_io::Out;
+use sock_rule::SockSeat;
+use sock_table::{Released, SockRef, SockTable};
 use sock_words::{Outcome, SocketId};
-use write_chain::sock_io::Out;
-use write_chain::sock_rule::SockSeat;
-use write_chain::sock_table::{Released, SockRef, SockTable};
 
 /// A reference that a client keeps, and the name by which it got it.
 #[derive(Clone, Copy, Debug, Drop)]

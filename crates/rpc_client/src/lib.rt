@@ -16,5 +16,3 @@ pub use opening::{open_none, open_one};
 pub use reaching::{Reached, reach};
 pub use running::give_all;
 pub use sending::refuse;
-pub use write_chain;
-pub use write_chain::{call_table, message_parts, sock_message, sock_open, sock_rule, sock_table};

@@ -1,13 +1,13 @@
 // A socket is made and published.
 ghost use Rattle.std.specs.Prelude.{◌≡◌, ◌<◌};
-ghost use Rattle.write_chain.specs.sock_table.specs.Passes.{IsPass};
+ghost use Rattle.sock_table.specs.Passes.{IsPass};
 ghost use Rattle.rpc_client.specs.Seats.{Idle, MayAct, AtRest, StaysSeen, SameRefs};
 ghost use Rattle.rpc_client.specs.Opening.{OpenedBy, GotNone};
 
+use sock_io::Out;
+use sock_rule::SockSeat;
+use sock_table::{LinkPass, SockTable};
 use sock_words::Outcome;
-use write_chain::sock_io::Out;
-use write_chain::sock_rule::SockSeat;
-use write_chain::sock_table::{LinkPass, SockTable};
 
 /// The operation gets no socket: the writing half of the link ends.
 pub fn open_none<O: Out>(

@@ -3,10 +3,10 @@ ghost use Rattle.std.specs.Prelude.{◌≡◌, ◌<◌};
 ghost use Rattle.rpc_client.specs.Seats.{MayAct, AtRest, StaysSeen, SameRefs};
 ghost use Rattle.rpc_client.specs.Reaching.{ReachedBy, RefsBy};
 
+use sock_io::Out;
+use sock_rule::SockSeat;
+use sock_table::{SockRef, SockTable};
 use sock_words::Vref;
-use write_chain::sock_io::Out;
-use write_chain::sock_rule::SockSeat;
-use write_chain::sock_table::{SockRef, SockTable};
 
 /// What a name leads to: nothing was opened under it yet, its socket is gone, or a reference.
 pub enum Reached {

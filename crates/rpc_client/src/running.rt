@@ -5,9 +5,9 @@ ghost use Rattle.rpc_client.specs.Holding.{IsHolder};
 ghost use Rattle.rpc_client.specs.Running.{GaveFirst};
 
 use crate::holding::{Held, give_back};
-use write_chain::sock_io::Out;
-use write_chain::sock_rule::SockSeat;
-use write_chain::sock_table::SockTable;
+use sock_io::Out;
+use sock_rule::SockSeat;
+use sock_table::SockTable;
 
 /// All references are given back, the oldest first.
 pub fn give_all<O: Out>(table: &SockTable<O>, seat: &mut SockSeat<O>, held: &mut Vec<Held>)

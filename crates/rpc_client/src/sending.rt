@@ -2,11 +2,11 @@
 ghost use Rattle.rpc_client.specs.Seats.{Idle};
 ghost use Rattle.rpc_client.specs.Sending.{RefusedHolds, RefusedAs};
 
+use sock_io::Out;
+use sock_rule::SockSeat;
+use sock_table::SockTable;
 use sock_words::Outcome;
 use write_chain::Refused;
-use write_chain::sock_io::Out;
-use write_chain::sock_rule::SockSeat;
-use write_chain::sock_table::SockTable;
 
 /// A message that was refused: the reference is given back.
 pub fn refuse<O: Out>(table: &SockTable<O>, seat: &mut SockSeat<O>, refused: Refused) -> Outcome

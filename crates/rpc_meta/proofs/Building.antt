@@ -1,7 +1,7 @@
 -- A meta that was built of what was gathered is the one that its definition has.
 use Rattle.std.proofs.Common.{◌≡◌, ◌⊎◌, ℕ, ℤ, List, true, false, Option, Some, None, option_map, Result, Ok, Err, IfSome, refl, ap, sym, ◌∙◌, inl, inr}
 use Rattle.std.specs.Option.{is_some}
-use Rattle.brpc_model.specs.Meta as meta
+use Rattle.pb_wire.specs.brpc_model.specs.Meta as meta
 use Rattle.rpc_meta.specs.declared.fault.MetaFault.{MetaFault}
 use Rattle.rpc_meta.specs.declared.fault.MetaFault.TheVariants.{Wire, NoService, NoMethod, Neither, NoMemory}
 use Rattle.rpc_meta.specs.Gathered.{Names, Outcome, Gathered}

@@ -1,7 +1,7 @@
 -- What is gathered of a field in front and of the fields behind it is what is gathered of them all.
 use Rattle.std.proofs.Common.{◌≡◌, ℕ, List, ◌∷◌, fold, Option, Some, Ok, Err, refl, ap, sym, ◌∙◌}
-use Rattle.brpc_model.specs.Wire.{Wire, ◌>>=◌, Field}
-use Rattle.brpc_model.specs.Meta.{Part, part_of}
+use Rattle.pb_wire.specs.brpc_model.specs.Wire.{Wire, ◌>>=◌, Field}
+use Rattle.pb_wire.specs.brpc_model.specs.Meta.{Part, part_of}
 use Rattle.pb_wire.specs.declared.values as declared
 use Rattle.pb_wire.specs.Told.{field_in, answer_in}
 use Rattle.pb_wire.specs.Reading.{Reading, ahead, behind, sizeless, left_with, left, in_front}

@@ -4,8 +4,8 @@ use Rattle.std.proofs.lemmas.List.{length-take, length-drop, drop_more}
 use Rattle.std.proofs.lemmas.List.Elements.{All-nil}
 use Rattle.std.proofs.lemmas.List.Folds.{drop_split}
 use Rattle.std.proofs.Math.Seq.{take-append-add, drop-length}
-use Rattle.brpc_model.specs.Wire.{Wire, ◌>>=◌, Varint, Span, Field, fields, fields_with}
-use Rattle.brpc_model.specs.Meta.{Part, Request, Plain}
+use Rattle.pb_wire.specs.brpc_model.specs.Wire.{Wire, ◌>>=◌, Varint, Span, Field, fields, fields_with}
+use Rattle.pb_wire.specs.brpc_model.specs.Meta.{Part, Request, Plain}
 use Rattle.pb_wire.specs.Form.{IsVarint, IsField}
 use Rattle.pb_wire.proofs.Messages.{form_read_message}
 use Rattle.rpc_meta.specs.Gathered.{Gathered, Names, nothing, part_added}

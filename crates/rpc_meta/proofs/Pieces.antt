@@ -1,8 +1,8 @@
 -- A message is read piece by piece.
 use Rattle.std.proofs.Common.{◌≡◌, ℕ, ◌<◌, ◌≤◌, ◌+◌, ◌*◌, ◌^◌, List, [], ◌∷◌, ◌++◌, length, drop, Ok, Err, refl, ap, sym, ◌∙◌, subst, append_assoc, arith}
 use Rattle.std.proofs.lemmas.List.{append-nil, length-append, drop_at}
-use Rattle.brpc_model.specs.Wire.{Wire, ◌>>=◌, Varint, Span, Field, varint_bytes, fields_with}
-use Rattle.brpc_model.specs.Spelling.{number_field, bytes_field}
+use Rattle.pb_wire.specs.brpc_model.specs.Wire.{Wire, ◌>>=◌, Varint, Span, Field, varint_bytes, fields_with}
+use Rattle.pb_wire.specs.brpc_model.specs.Spelling.{number_field, bytes_field}
 use Rattle.pb_wire.specs.Form.{IsVarint, IsField}
 use Rattle.pb_wire.proofs.FieldForms.{form_read_field}
 use Rattle.pb_wire.proofs.Readings.{fields_go_on}

@@ -6,9 +6,9 @@ use Rattle.std.proofs.lemmas.List.{length-append}
 use Rattle.std.proofs.lemmas.List.Sums.{fold-append}
 use Rattle.std.proofs.lemmas.Bool.{lt-ltb, le-ltb}
 use lib.Signed.{mag}
-use Rattle.brpc_model.specs.Wire.{Wire, ◌>>=◌, Varint, Span, Field, varint_bytes}
-use Rattle.brpc_model.specs.Meta.{RequestMeta, ResponseMeta, Meta, Request, Response, Plain, int32, read_meta}
-use Rattle.brpc_model.specs.Spelling.{number_field, bytes_field, spelled_int, where_some, where_not_0, where_not_empty, request_bytes, response_bytes, meta_bytes}
+use Rattle.pb_wire.specs.brpc_model.specs.Wire.{Wire, ◌>>=◌, Varint, Span, Field, varint_bytes}
+use Rattle.pb_wire.specs.brpc_model.specs.Meta.{RequestMeta, ResponseMeta, Meta, Request, Response, Plain, int32, read_meta}
+use Rattle.pb_wire.specs.brpc_model.specs.Spelling.{number_field, bytes_field, spelled_int, where_some, where_not_0, where_not_empty, request_bytes, response_bytes, meta_bytes}
 use Rattle.pb_wire.specs.Form.{IsField}
 use Rattle.rpc_meta.specs.Gathered.{Names, Outcome, Gathered, no_names, no_outcome, nothing, name_added, outcome_added, part_added}
 use Rattle.rpc_meta.specs.Steps.{gathered_after}

@@ -1,6 +1,6 @@
 -- A varint that is put byte by byte.
 use Rattle.std.proofs.Common.{◌≡◌, ℕ, zero, suc, ◌<◌, ◌≤◌, ◌+◌, ◌-◌, ◌/◌, ◌%◌, ◌^◌, List, [], ◌∷◌, ◌++◌, length, ap, sym, ◌∙◌, subst, arith, append_assoc, length-append}
-use Rattle.brpc_model.specs.Wire.{varint_up_to}
+use Rattle.pb_wire.specs.brpc_model.specs.Wire.{varint_up_to}
 use Rattle.pb_wire.proofs.Groups.{spell_more, spell_last}
 
 -- a byte that is followed by another is put behind these

@@ -1,6 +1,6 @@
 -- What reading a meta answers, as the definition of a meta says it; want of memory says nothing.
 use Rattle.std.specs.Prelude.{ℕ, ℤ, Option, Some, None, option_map, Result, Ok, Err}
-use Rattle.brpc_model.specs.Meta as meta
+use Rattle.pb_wire.specs.brpc_model.specs.Meta as meta
 use Rattle.pb_wire.specs.Told.{fault_of}
 use Rattle.rpc_meta.specs.declared.fault.MetaFault.{MetaFault}
 use Rattle.rpc_meta.specs.declared.fault.MetaFault.TheVariants.{Wire, NoService, NoMethod, Neither, NoMemory}

@@ -1,8 +1,8 @@
 -- What the fields of a meta come to, gathered one after another.
 use Rattle.std.specs.Prelude.{ℕ, ◌==◌, if◌then◌else◌, fold, List, [], ◌∷◌, Option, Some, None, unwrap_or}
 use Rattle.std.specs.List.{last_or}
-use Rattle.brpc_model.specs.Wire.{Value, Field}
-use Rattle.brpc_model.specs.Meta.{Part, Request, Response, Plain, varint_of, span_of}
+use Rattle.pb_wire.specs.brpc_model.specs.Wire.{Value, Field}
+use Rattle.pb_wire.specs.brpc_model.specs.Meta.{Part, Request, Response, Plain, varint_of, span_of}
 
 -- the request's fields so far
 pub record Names : Type 0 where

@@ -7,3 +7,4 @@ pub mod Writing
 pub mod Held
 pub mod Sizes
 pub mod Straight
+pub use Rattle.pb_wire.specs.brpc_model

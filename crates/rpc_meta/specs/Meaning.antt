@@ -1,6 +1,6 @@
 -- What a meta says, as the definition of a meta has it.
 use Rattle.std.specs.Prelude.{option_map}
-use Rattle.brpc_model.specs.Meta as meta
+use Rattle.pb_wire.specs.brpc_model.specs.Meta as meta
 use Rattle.rpc_meta.specs.declared.meta.RpcMeta.{RpcMeta}
 use Rattle.rpc_meta.specs.declared.meta.RequestMeta.{RequestMeta}
 use Rattle.rpc_meta.specs.declared.meta.ResponseMeta.{ResponseMeta}

@@ -1,7 +1,7 @@
 -- How many bytes a meta has.
 use Rattle.std.specs.Prelude.{◌≡◌, ℕ, length, Option, IfSome}
-use Rattle.brpc_model.specs.Meta.{RequestMeta, ResponseMeta, Meta}
-use Rattle.brpc_model.specs.Spelling.{request_bytes, response_bytes, meta_bytes}
+use Rattle.pb_wire.specs.brpc_model.specs.Meta.{RequestMeta, ResponseMeta, Meta}
+use Rattle.pb_wire.specs.brpc_model.specs.Spelling.{request_bytes, response_bytes, meta_bytes}
 use Rattle.rpc_meta.specs.declared.sizes.MetaSizes.{MetaSizes}
 
 -- so many bytes the fields of a request have, where there is one

@@ -1,7 +1,7 @@
 -- What the steps of gathering a meta answer, as the definitions of a meta say it.
 use Rattle.std.specs.Prelude.{ℕ, fold, List, Option, unwrap_or, Result, Ok, Err}
-use Rattle.brpc_model.specs.Wire.{Wire, ◌>>=◌, Field, fields}
-use Rattle.brpc_model.specs.Meta.{part_of, parts}
+use Rattle.pb_wire.specs.brpc_model.specs.Wire.{Wire, ◌>>=◌, Field, fields}
+use Rattle.pb_wire.specs.brpc_model.specs.Meta.{part_of, parts}
 use Rattle.pb_wire.specs.declared.fault.WireFault.{WireFault}
 use Rattle.pb_wire.specs.Told.{fault_of}
 use Rattle.rpc_meta.specs.declared.parts.RequestParts.{RequestParts}

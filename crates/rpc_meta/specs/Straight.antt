@@ -1,6 +1,6 @@
 -- Fields that stand next in some bytes.
 use Rattle.std.specs.Prelude.{ℕ, ◌≡◌, ◌≤◌, ◌⊎◌, List, length, slice_range}
-use Rattle.brpc_model.specs.Wire.{Varint, Span}
+use Rattle.pb_wire.specs.brpc_model.specs.Wire.{Varint, Span}
 use Rattle.pb_wire.specs.Form.{IsField}
 
 -- bytes of this number stand from this place up to another, as a field

@@ -1,7 +1,7 @@
 -- What a call that appends leaves, and which metas are read back.
 use Rattle.std.specs.Prelude.{ℕ, ◌≡◌, ◌<◌, ◌^◌, ◌⊎◌, List, ◌++◌, length, take, Option, IfSome, IsSome, Result, MatchResult, FitsSigned}
 use Rattle.std.specs.Int.{w32}
-use Rattle.brpc_model.specs.Meta.{RequestMeta, ResponseMeta, Meta}
+use Rattle.pb_wire.specs.brpc_model.specs.Meta.{RequestMeta, ResponseMeta, Meta}
 
 -- this piece is appended, or the call fails and what stood there stays in front
 abbrev pub Appends : {E : Type 0} → List ℕ → List ℕ → Result (Unit {0}) E → List ℕ → Type 0

@@ -1,5 +1,5 @@
 ghost use Rattle.std.specs.Prelude.{◌≡◌, ◌+◌, ◌<◌, ◌≤◌, [], ◌∷◌, ◌++◌, length};
-ghost use Rattle.brpc_model.specs.Wire.{varint_bytes};
+ghost use Rattle.pb_wire.specs.brpc_model.specs.Wire.{varint_bytes};
 
 use std::marker::Model;
 

@@ -1,5 +1,5 @@
 ghost use Rattle.std.specs.Prelude.{◌≡◌, ℕ, IfOk, IfSome, option_map};
-ghost use Rattle.brpc_model.specs.Meta.{int32, read_meta};
+ghost use Rattle.pb_wire.specs.brpc_model.specs.Meta.{int32, read_meta};
 ghost use Rattle.rpc_meta.specs.Answer.{answer, request_answer, request_from, response_from};
 ghost use Rattle.rpc_meta.specs.Meaning.{response_of};
 ghost use Rattle.rpc_meta.specs.Parts.{names_of, outcome_of};

@@ -1,7 +1,7 @@
 ghost use Rattle.std.specs.Prelude.{◌≡◌, ◌+◌, ◌*◌, ◌≤◌, ◌++◌, length, option_map, Some, Ok, IfSome, OnOk, if◌then◌else◌, is_ok};
-ghost use Rattle.brpc_model.specs.Wire.{varint_bytes};
-ghost use Rattle.brpc_model.specs.Meta.{read_meta};
-ghost use Rattle.brpc_model.specs.Spelling.{spelled_int, number_field, bytes_field, where_not_0, where_not_empty, where_some, request_bytes, response_bytes, meta_bytes};
+ghost use Rattle.pb_wire.specs.brpc_model.specs.Wire.{varint_bytes};
+ghost use Rattle.pb_wire.specs.brpc_model.specs.Meta.{read_meta};
+ghost use Rattle.pb_wire.specs.brpc_model.specs.Spelling.{spelled_int, number_field, bytes_field, where_not_0, where_not_empty, where_some, request_bytes, response_bytes, meta_bytes};
 ghost use Rattle.rpc_meta.specs.Meaning.{request_of, response_of, meaning};
 ghost use Rattle.rpc_meta.specs.Sizes.{IsRequestSize, IsResponseSize, AreSizes};
 ghost use Rattle.rpc_meta.specs.Writing.{Appends, HasPart, RequestFits, ResponseFits, MetaFits};

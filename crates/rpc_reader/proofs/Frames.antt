@@ -4,7 +4,7 @@ use Rattle.std.specs.Prelude.{Option, option_map, ◌&&◌}
 use Rattle.corr_core.specs.Word.{Parts, parts}
 use Rattle.corr_id.specs.Calls.{Quiet, Found}
 use Rattle.corr_id.specs.Attempts.{LacksAttempt}
-use Rattle.rpc_client.specs.call_table.specs.Responses.{is_early}
+use Rattle.call_table.specs.Responses.{is_early}
 use Rattle.brpc_model.specs.Frame.{Judged, NoneYet, Faulty, judged}
 use Rattle.prpc_frame.specs.Answers.{Fed, IsFaulty}
 use Rattle.std.proofs.lemmas.List.{map-append}

@@ -12,10 +12,10 @@ use Rattle.sock_model.specs.declared.view.View.{View}
 use Rattle.sock_model.specs.Weights.{is_ref}
 use Rattle.sock_model.specs.SlotRows.{marks_of}
 use Rattle.sock_model.specs.Layout.{open_word}
-use Rattle.rpc_client.specs.sock_table.specs.Refs.{GaveBack, Knows, MayAddress}
-use Rattle.rpc_client.specs.sock_table.specs.Answers.{Held, Holds, NoneLater}
-use Rattle.rpc_client.specs.sock_table.specs.Closed.{IsDoneSeat}
-use Rattle.rpc_client.specs.sock_table.specs.declared.refs.SockRef.{SockRef}
+use Rattle.sock_table.specs.Refs.{GaveBack, Knows, MayAddress}
+use Rattle.sock_table.specs.Answers.{Held, Holds, NoneLater}
+use Rattle.sock_table.specs.Closed.{IsDoneSeat}
+use Rattle.sock_table.specs.declared.refs.SockRef.{SockRef}
 use Rattle.rpc_client.specs.Seats.{Idle, MayAct, StaysSeen, SameRefs, OneMore}
 use Rattle.rpc_client.specs.Holding.{IsHolder}
 use Rattle.rpc_client.specs.Failing.{SetBy}

@@ -4,9 +4,9 @@ use Rattle.sock_words.specs.declared.plain.Plan.{Plan}
 use Rattle.sock_words.specs.declared.socket_id.SocketId.{SocketId}
 use Rattle.sock_words.specs.declared.outcome.Outcome.{Outcome}
 use Rattle.sock_model.specs.declared.view.View.{View}
-use Rattle.rpc_client.specs.sock_table.specs.Answers.{Held, GoneFrom, NoneLater}
-use Rattle.rpc_client.specs.sock_table.specs.Named.{NotedAs}
-use Rattle.rpc_client.specs.sock_table.specs.declared.finding.Noted.TheVariants as noted
+use Rattle.sock_table.specs.Answers.{Held, GoneFrom, NoneLater}
+use Rattle.sock_table.specs.Named.{NotedAs}
+use Rattle.sock_table.specs.declared.finding.Noted.TheVariants as noted
 use Rattle.rpc_client.specs.Failing.{SetBy}
 use Rattle.rpc_client.specs.Sending.{Returned}
 

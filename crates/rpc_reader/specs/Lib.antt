@@ -9,5 +9,6 @@ pub mod Throwing
 pub mod Running
 pub mod Linked
 pub mod Resting
+pub use Rattle.call_table
 pub use Rattle.prpc_frame
 pub use Rattle.rpc_client

@@ -9,7 +9,7 @@ use Rattle.prpc_frame.specs.rpc_meta.specs.declared.meta.ResponseMeta.{ResponseM
 use Rattle.prpc_frame.specs.Cuts.{Cut}
 use Rattle.prpc_frame.specs.Meaning.{frame_of}
 use Rattle.prpc_frame.specs.declared.frame.Frame.{Frame}
-use Rattle.rpc_client.specs.call_table.specs.Responses.{ending_of, has_version, is_early}
+use Rattle.call_table.specs.Responses.{ending_of, has_version, is_early}
 use Rattle.rpc_reader.specs.Books.{Books, EndedAs, KeptBy, id_of}
 
 abbrev pub has_response : Option ResponseMeta → Bool

@@ -1,14 +1,14 @@
 // What a reader has for calls, and what it tells of those that it ends.
 ghost use Rattle.std.specs.Prelude.{◌≡◌, IfOk, [], true, false};
 ghost use Rattle.prpc_frame.specs.Meaning.{frame_of};
-ghost use Rattle.rpc_client.specs.call_table.specs.Responses.{outcome_of, ending_of};
+ghost use Rattle.call_table.specs.Responses.{outcome_of, ending_of};
 ghost use Rattle.rpc_reader.specs.Books.{ToldBy, KeptBy};
 ghost use Rattle.rpc_reader.specs.Met.{has_response as responds};
 
+use call_table::{Call, Ending, on_response};
 use corr_id::IdSeat;
 use prpc_frame::{Frame, IoBuf, NoMemory};
 use rpc_client::Told;
-use rpc_client::call_table::{Call, Ending, on_response};
 use sock_words::{ERESPONSE, OutBytes, Outcome};
 use std::alloc::Global;
 

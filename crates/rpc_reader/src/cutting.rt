@@ -7,9 +7,9 @@ ghost use Rattle.rpc_reader.specs.Reading.{StopsAt};
 
 use crate::books::AnswerSeat;
 use crate::meeting::meet;
+use call_table::Call;
 use corr_id::IdTable;
 use prpc_frame::{Cutter, NextFault};
-use rpc_client::call_table::Call;
 use std::sync::Wait;
 
 /// Why no further frame is cut.

@@ -2,7 +2,7 @@
 ghost use Rattle.std.specs.Prelude.{◌≡◌, ◌≢◌, ◌<◌, ℕ, [], true};
 ghost use Rattle.sock_words.specs.declared.outcome.Outcome.TheVariants.{CallFailed};
 ghost use Rattle.prpc_frame.specs.Meaning.{frame_of};
-ghost use Rattle.rpc_client.specs.call_table.specs.Responses.{ending_of};
+ghost use Rattle.call_table.specs.Responses.{ending_of};
 ghost use Rattle.corr_core.specs.Word.{parts};
 ghost use Rattle.corr_core.specs.declared.marks.Hand.TheVariants.{Empty};
 ghost use Rattle.id_rule.specs.Lawful.{tokens_in};
@@ -13,9 +13,9 @@ ghost use Rattle.rpc_reader.specs.Books.{books, id_of, EndedAs};
 ghost use Rattle.rpc_reader.specs.Met.{has_response};
 
 use crate::books::AnswerSeat;
+use call_table::Call;
 use corr_id::{IdLock, IdTable};
 use prpc_frame::Frame;
-use rpc_client::call_table::Call;
 use sock_words::Outcome;
 
 /// The call of the lock ends with this response. A reader never unlocks an id: it ends it.

@@ -10,9 +10,9 @@ use crate::books::AnswerSeat;
 use crate::posting::post_all;
 use crate::reader::{calm, throw_if};
 use crate::reading::{Intake, read_all};
+use call_table::Call;
 use corr_id::IdTable;
 use prpc_frame::{BlockPool, Cutter, NoMemory};
-use rpc_client::call_table::Call;
 use sock_io::{Ends, In, Linker, Out, Peer};
 use std::sync::Wait;
 

@@ -6,9 +6,9 @@ ghost use Rattle.rpc_reader.specs.Met.{is_asked as asks, FrameMet};
 
 use crate::books::{AnswerSeat, has_response};
 use crate::ending::end_answered;
+use call_table::{Call, is_early};
 use corr_id::IdTable;
 use prpc_frame::Frame;
-use rpc_client::call_table::{Call, is_early};
 use sock_words::IdWord;
 use std::sync::Wait;
 

@@ -4,9 +4,9 @@ ghost use Rattle.rpc_client.specs.Seats.{Idle, AtRest, StaysSeen, SameRefs};
 ghost use Rattle.rpc_reader.specs.Failing.{OpenedBy};
 
 use crossbeam_utils::Backoff;
-use rpc_client::sock_rule::SockSeat;
-use rpc_client::sock_table::{Noted, SockTable};
 use sock_io::Out;
+use sock_rule::SockSeat;
+use sock_table::{Noted, SockTable};
 use sock_words::SocketId;
 use std::sync::Wait;
 

@@ -13,9 +13,9 @@ ghost use Rattle.rpc_reader.specs.Posting.{LockLost, attempt_at, call_at, Posted
 
 use crate::books::{AnswerSeat, has_response};
 use crate::ending::{end_answered, end_failed};
+use call_table::{Call, has_version};
 use corr_id::{IdLock, IdTable, Posted};
 use prpc_frame::Frame;
-use rpc_client::call_table::{Call, has_version};
 use sock_words::{AtWord, IdWord};
 use std::sync::Wait;
 

@@ -1,8 +1,8 @@
 // A reader from its seats to what it tells.
 ghost use Rattle.std.specs.Prelude.{◌≡◌, ◌<◌, ◌≤◌, [], false, All};
 ghost use Rattle.std.specs.Result.{is_err};
-ghost use Rattle.rpc_client.specs.sock_table.specs.Closed.{IsDoneSeat};
-ghost use Rattle.rpc_client.specs.sock_table.specs.Refs.{Knows};
+ghost use Rattle.sock_table.specs.Closed.{IsDoneSeat};
+ghost use Rattle.sock_table.specs.Refs.{Knows};
 ghost use Rattle.rpc_client.specs.Seats.{Idle, MayAct, AtRest, SameRefs};
 ghost use Rattle.rpc_client.specs.Holding.{IsHolder};
 ghost use Rattle.rpc_reader.specs.Seats.{IsOpen, Rests};
@@ -16,13 +16,13 @@ use crate::opening::wait_open;
 use crate::posting::post_all;
 use crate::reading::{How, Intake, read_all};
 use crate::throwing::throw_all;
+use call_table::Call;
 use corr_id::{IdSeat, IdTable};
 use prpc_frame::{BlockPool, Cutter, Frame, NoMemory};
 use rpc_client::Told;
-use rpc_client::call_table::Call;
-use rpc_client::sock_rule::SockSeat;
-use rpc_client::sock_table::SockTable;
 use sock_io::{In, Out};
+use sock_rule::SockSeat;
+use sock_table::SockTable;
 use sock_words::SocketId;
 use std::alloc::Global;
 use std::sync::Wait;

@@ -9,10 +9,10 @@ ghost use Rattle.rpc_reader.specs.Reading.{held_by, code_of, HeldMet, FedIn, Rea
 
 use crate::books::AnswerSeat;
 use crate::cutting::{Stop, meet_all};
+use call_table::Call;
 use corr_id::IdTable;
 use crossbeam_utils::Backoff;
 use prpc_frame::{BlockPool, Cutter};
-use rpc_client::call_table::Call;
 use sock_io::{In, Take};
 use sock_words::{EEOF, EINTERNAL, ERESPONSE};
 use std::sync::Wait;

@@ -6,8 +6,8 @@ ghost use Rattle.rpc_reader.specs.Resting.{HadEnded, EndedLast, OneEnded, RestEn
 
 use crate::books::AnswerSeat;
 use crate::posting::end_lost;
+use call_table::Call;
 use corr_id::IdTable;
-use rpc_client::call_table::Call;
 use std::sync::Wait;
 
 /// The call of this operation ends, unless it has ended or never began.

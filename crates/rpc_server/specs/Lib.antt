@@ -2,4 +2,3 @@ pub mod Answers
 pub mod Held
 pub mod Inside
 pub mod Feeding
-pub use Rattle.prpc_frame

@@ -8,7 +8,7 @@ use Rattle.sock_io.specs.declared.link.Out.{Ghosts}
 use Rattle.sock_io.specs.Link.{OutState}
 use Rattle.sock_words.specs.declared.plain.Plan.{Plan}
 use Rattle.sock_model.specs.declared.view.View.{View}
-use Rattle.call_whys.specs.sock_rule.specs.declared.homes.SockHome.{SockHome}
+use Rattle.call_run.specs.sock_rule.specs.declared.homes.SockHome.{SockHome}
 use Rattle.sock_programs.specs.declared.task.Op.TheVariants as ops
 use Rattle.sock_programs.specs.declared.task.Task.{Task}
 use Rattle.sock_programs.specs.Scripts.{all_tasks}
@@ -24,11 +24,11 @@ use Rattle.rpc_client.specs.declared.acting.Told.{Told}
 use Rattle.report_fits.proofs.Lists.{some_is}
 use Rattle.report_fits.proofs.TaskLemmas.{of_tasks, numbers_at, has_task, call_asks}
 use Rattle.script_calls.proofs.Sayings.{to_slice}
-use Rattle.call_whys.specs.call_client.proofs.Changes.{AsksFor}
-use Rattle.call_deeds.specs.call_run.specs.Threads.{opens_of, openings, opened_names, Thread, IsThread, AreThreads, AllRan}
-use Rattle.call_whys.specs.call_told.proofs.Lists.{all_both}
-use Rattle.call_whys.specs.call_told.proofs.Making.{FitsMade, AllMade, SeatMade, run_made, all_made}
-use Rattle.call_whys.specs.call_told.proofs.Answering.{IsAskedIn}
+use Rattle.call_run.specs.call_client.proofs.Changes.{AsksFor}
+use Rattle.call_run.specs.Threads.{opens_of, openings, opened_names, Thread, IsThread, AreThreads, AllRan}
+use Rattle.attempts_told.specs.call_whys.specs.call_told.proofs.Lists.{all_both}
+use Rattle.attempts_told.specs.call_whys.specs.call_told.proofs.Making.{FitsMade, AllMade, SeatMade, run_made, all_made}
+use Rattle.attempts_told.specs.call_whys.specs.call_told.proofs.Answering.{IsAskedIn}
 
 -- ## The calls of a script
 

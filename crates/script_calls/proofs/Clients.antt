@@ -6,18 +6,18 @@ use Rattle.sock_io.specs.declared.link.Out.{Ghosts}
 use Rattle.sock_io.specs.Link.{OutState}
 use Rattle.sock_words.specs.declared.plain.Plan.{Plan}
 use Rattle.sock_model.specs.declared.view.View.{View}
-use Rattle.call_whys.specs.sock_rule.specs.declared.homes.SockHome.{SockHome}
+use Rattle.call_run.specs.sock_rule.specs.declared.homes.SockHome.{SockHome}
 use Rattle.sock_programs.specs.declared.task.Task.{Task}
 use Rattle.corr_core.specs.declared.marks.Plan as id_plan
 use Rattle.corr_core.specs.declared.marks.View as id_view
 use Rattle.sock_message.specs.Asked.{Asked}
 use Rattle.rpc_client.specs.declared.acting.Told.{Told}
-use Rattle.call_whys.specs.call_errors.specs.Books.{Books}
-use Rattle.call_deeds.specs.call_run.specs.Threads.{opens_of, openings, opened_names, Thread, IsThread, AreThreads, AllRan}
-use Rattle.call_whys.specs.call_told.specs.Answers.{IsFailure, IsOwn, TellsOnly}
-use Rattle.call_whys.specs.call_told.proofs.Balance.{Balanced, AreBalanced, balanced_each}
-use Rattle.call_whys.specs.call_told.proofs.Clients.{ended_fails}
-use Rattle.call_whys.specs.call_told.proofs.Runs.{client_balanced}
+use Rattle.attempts_told.specs.call_whys.specs.call_errors.specs.Books.{Books}
+use Rattle.call_run.specs.Threads.{opens_of, openings, opened_names, Thread, IsThread, AreThreads, AllRan}
+use Rattle.attempts_told.specs.call_whys.specs.call_told.specs.Answers.{IsFailure, IsOwn, TellsOnly}
+use Rattle.attempts_told.specs.call_whys.specs.call_told.proofs.Balance.{Balanced, AreBalanced, balanced_each}
+use Rattle.attempts_told.specs.call_whys.specs.call_told.proofs.Clients.{ended_fails}
+use Rattle.attempts_told.specs.call_whys.specs.call_told.proofs.Runs.{client_balanced}
 
 -- what was told from nothing on
 all_from : (P : Told → Type 0) (old new : List Told) → old ≡ [] → TellsOnly P old new → AllByRecursion P new

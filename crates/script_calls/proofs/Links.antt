@@ -13,7 +13,7 @@ use Rattle.sock_programs.specs.Tasks.{Numbered, numbered, name_number}
 use Rattle.report_fits.proofs.Sizes.{link_count}
 use Rattle.script_tasks.specs.Along.{tasks_along, task_at}
 use Rattle.script_tasks.proofs.Alongs.{tasks_are}
-use Rattle.call_deeds.specs.sock_deeds.proofs.Flats.{flat-append}
+use Rattle.callless_fits.specs.sock_deeds.proofs.Flats.{flat-append}
 
 abbrev pub link_of : Op → List ℕ
 link_of (ops.Open n k) = k ∷ []

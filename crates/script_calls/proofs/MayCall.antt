@@ -16,10 +16,10 @@ use Rattle.report_fits.proofs.Lists.{all_from}
 use Rattle.report_fits.proofs.Sizes.{keeps_limits}
 use Rattle.report_fits.proofs.TaskLemmas.{IsTaskOf, numbers_at, of_tasks, has_task, call_asks, tasks_length}
 use Rattle.report_fits.proofs.Tasks.{tasks_of_script}
-use Rattle.call_whys.specs.sock_open.specs.Opening.{MayBegin}
-use Rattle.call_whys.specs.call_client.specs.Acting.{Needs}
-use Rattle.call_whys.specs.call_client.specs.Running.{left_by, MayMakeAll}
-use Rattle.call_deeds.specs.call_run.specs.Threads.{opens_in, opens_of, opens_of_each, ids_of, MayRun, AllMayRun, MayRunAll}
+use Rattle.call_run.specs.sock_open.specs.Opening.{MayBegin}
+use Rattle.call_run.specs.call_client.specs.Acting.{Needs}
+use Rattle.call_run.specs.call_client.specs.Running.{left_by, MayMakeAll}
+use Rattle.call_run.specs.Threads.{opens_in, opens_of, opens_of_each, ids_of, MayRun, AllMayRun, MayRunAll}
 use Rattle.script_calls.proofs.Links.{link_of, links_of, links_in, all_links}
 
 -- ## The numbers of calls

@@ -10,7 +10,7 @@ use Rattle.sock_words.specs.declared.plain.Plan.{Plan}
 use Rattle.corr_core.specs.declared.marks.Plan.{Plan as IdPlan}
 use Rattle.report_fits.proofs.Sizes.{keeps_limits}
 use Rattle.sock_programs.specs.Tasks.{Numbered, numbered_from, opens, calls, plan_of}
-use Rattle.call_deeds.specs.call_run.specs.Threads.{ids_of}
+use Rattle.call_run.specs.Threads.{ids_of}
 
 module _ (sort : Item → Bool) where
   more_low : (found : Option ℕ) (os : List ℕ) (n : ℕ) → AllByRecursion (λ (o : ℕ). o < n) os → ((o : ℕ) → found ≡ Some o → o < n) → AllByRecursion (λ (o : ℕ). o < n) (cons_option found os)

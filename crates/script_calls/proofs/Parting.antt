@@ -1,6 +1,6 @@
 -- The links of a run as they are opened, and as they are given back; and what they took.
 use Rattle.std.proofs.Common.{◌≡◌, ℕ, zero, suc, ◌+◌, ◌<◌, ◌≤◌, false, List, [], ◌∷◌, ◌++◌, length, map, take, get_or, Option, Some, None, IfSome, refl, sym, ap, ◌∙◌, subst, arith}
-use Rattle.std.proofs.lemmas.List.{map-append, length-map, take_more, take_all, length-take-le}
+use Rattle.std.proofs.lemmas.List.{append_assoc, map-append, length-map, take_more, take_all, length-take-le}
 use Rattle.std.proofs.lemmas.Option.{none-some, same_Some, slice_get_within}
 use Rattle.std.specs.List.{AllByRecursion}
 use Rattle.std.specs.Option.{ForSome}
@@ -14,9 +14,9 @@ use Rattle.sock_words.specs.declared.plain.Plan.{Plan}
 use Rattle.sock_words.specs.declared.place_word.PlaceWord.{PlaceWord}
 use Rattle.sock_words.specs.declared.vref.Vref.{Vref}
 use Rattle.sock_model.specs.declared.view.View.{View}
-use Rattle.rpc_client.specs.sock_table.specs.Closed.{ClosedBy}
-use Rattle.call_whys.specs.sock_open.specs.Opening.{AreFresh}
-use Rattle.call_deeds.specs.call_run.specs.Crew.{AreBack}
+use Rattle.call_run.specs.sock_table.specs.Closed.{ClosedBy}
+use Rattle.call_run.specs.sock_open.specs.Opening.{AreFresh}
+use Rattle.call_run.specs.Crew.{AreBack}
 use Rattle.script_links.specs.Given.{AreUntouched, AreNumbered}
 use Rattle.script_calls.specs.declared.halves.Rest.{Rest}
 use Rattle.script_calls.specs.Halves.{rest_of, joined, AreTaken}
@@ -82,6 +82,11 @@ module _ {O I P : Type 0} (out_state : O → OutState) (in_state : I → InState
   give_long ends all are =
       let n = has.count in let m = ap length are ∙ length-map ends rest_of in
       ap length is ∙ (joined_long out_state in_state outs rests (omega arith) ∙ omega arith)
+
+-- one link more was put together
+pub joined_more : {O I P : Type 0} (back more : List (Ends O I P)) (outs left : List O) (o : O) (rs rest : List (Rest I P)) (r : Rest I P) (all : List (Ends O I P)) → back ++ joined outs rs ≡ all → outs ≡ o ∷ left → rs ≡ r ∷ rest → more ≡ back ++ (record { out = o; inn = r.inn; peer = r.peer }) ∷ [] → more ++ joined left rest ≡ all
+joined_more back more outs left o rs rest r all h l e m =
+    ap (λ b. b ++ joined left rest) m ∙ (append_assoc back ((record { out = o; inn = r.inn; peer = r.peer }) ∷ []) (joined left rest) ∙ (sym (ap (λ xs. back ++ xs) (λ i. joined (l i) (e i))) ∙ h))
 
 -- ## What the links took
 

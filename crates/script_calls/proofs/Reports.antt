@@ -19,20 +19,20 @@ use Rattle.sock_programs.specs.Scripts.{all_tasks}
 use Rattle.sock_programs.specs.Tasks.{plan_of, opens, calls}
 use Rattle.corr_core.specs.declared.marks.Plan as id_plan
 use Rattle.rpc_client.specs.declared.acting.Told.{Told}
-use Rattle.call_deeds.specs.sock_deeds.specs.Told.{fixed_by}
+use Rattle.callless_fits.specs.sock_deeds.specs.Told.{fixed_by}
 use Rattle.script_links.specs.Given.{AreUntouched, AreNumbered}
 use Rattle.script_calls.specs.declared.halves.Rest.{Rest}
 use Rattle.script_calls.specs.Halves.{AreTaken, rest_of, joined}
 use Rattle.script_calls.proofs.Parting.{end_at, IsSilent, are_silent}
 use Rattle.script_calls.proofs.Sayings.{long_each}
-use Rattle.call_deeds.specs.call_run.specs.Threads.{ids_of, RanOn}
-use Rattle.call_whys.specs.call_told.specs.Answers.{IsFailure, IsOwn, AreAnsweredBy}
-use Rattle.call_whys.specs.call_told.proofs.Balance.{AreBalanced}
+use Rattle.call_run.specs.Threads.{ids_of, RanOn}
+use Rattle.attempts_told.specs.call_whys.specs.call_told.specs.Answers.{IsFailure, IsOwn, AreAnsweredBy}
+use Rattle.attempts_told.specs.call_whys.specs.call_told.proofs.Balance.{AreBalanced}
 use Rattle.script_calls.specs.Reading.{IdSeat, HasRead}
 use Rattle.script_calls.specs.Told.{outcomes_of, HasGivenNone, IsLeft, IsReported, IsCallText, IsCallRun}
 use Rattle.script_calls.proofs.Clients.{owns, failures, balanced}
-use Rattle.call_whys.specs.call_told.proofs.Making.{AllMade}
-use Rattle.call_whys.specs.call_told.proofs.Answering.{IsAskedIn}
+use Rattle.attempts_told.specs.call_whys.specs.call_told.proofs.Making.{AllMade}
+use Rattle.attempts_told.specs.call_whys.specs.call_told.proofs.Answering.{IsAskedIn}
 use Rattle.script_calls.proofs.Answered.{run_answered}
 use Rattle.script_calls.proofs.Asked.{AskFor, all_ask, ids_made, notes_of_seats}
 use Rattle.script_calls.proofs.Shown.{run_shown}

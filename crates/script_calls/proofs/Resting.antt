@@ -4,11 +4,11 @@ use Rattle.atomic_table.specs.Seated.{TableId}
 use Rattle.corr_core.specs.Law.{total}
 use Rattle.corr_id.specs.Closed.{AllOf}
 use Rattle.corr_id.specs.Seats.{IsFree}
-use Rattle.call_whys.specs.rpc_reader.specs.Seats.{IsOpen, Rests}
-use Rattle.call_whys.specs.rpc_reader.specs.Books.{books}
-use Rattle.call_whys.specs.rpc_reader.specs.declared.books.AnswerSeat.{AnswerSeat}
-use Rattle.call_whys.specs.rpc_reader.proofs.Locks.{open_still, rests_then}
-use Rattle.call_deeds.specs.call_run.specs.Crew.{AreLeft}
+use Rattle.rpc_reader.specs.Seats.{IsOpen, Rests}
+use Rattle.rpc_reader.specs.Books.{books}
+use Rattle.rpc_reader.specs.declared.books.AnswerSeat.{AnswerSeat}
+use Rattle.rpc_reader.proofs.Locks.{open_still, rests_then}
+use Rattle.call_run.specs.Crew.{AreLeft}
 use Rattle.script_calls.specs.Reading.{IdSeat, begins}
 
 abbrev pub share_of : IdSeat → ℕ

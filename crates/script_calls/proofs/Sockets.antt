@@ -18,7 +18,7 @@ use Rattle.brpc_model.specs.Link.{LinkEnd}
 use Rattle.brpc_model.specs.Script.{script_of}
 use Rattle.sock_model.specs.declared.chain.Entry.{Entry}
 use Rattle.sock_model.specs.Layout.{place_word}
-use Rattle.call_whys.specs.sock_rule.specs.Closing.{PlacesDiffer}
+use Rattle.call_run.specs.sock_rule.specs.Closing.{PlacesDiffer}
 use Rattle.sock_programs.specs.declared.task.Task.{Task}
 use Rattle.sock_programs.specs.Cores.{Core}
 use Rattle.sock_programs.specs.Runs.{from_to}
@@ -30,18 +30,18 @@ use Rattle.report_fits.proofs.Flat.{at_map}
 use Rattle.report_fits.proofs.Lists.{has_from, has_none}
 use Rattle.rpc_client.specs.declared.acting.Told.{Told}
 use Rattle.script_calls.proofs.Sayings.{long_each, none_long, from_slice}
-use Rattle.call_deeds.specs.call_run.specs.Threads.{ids_of}
-use Rattle.call_whys.specs.call_told.specs.Answers.{IsGiver}
-use Rattle.call_whys.specs.call_places.proofs.Places.{log_differs}
-use Rattle.call_deeds.specs.Scripts.{AllHaveLinks}
-use Rattle.call_deeds.proofs.Runs.{deed_run}
-use Rattle.call_deeds.proofs.Whole.{told_of_run}
-use Rattle.call_deeds.specs.sock_deeds.specs.Left.{accepted_of, homes_of}
-use Rattle.call_deeds.specs.sock_deeds.specs.Runs.{DeedRun}
-use Rattle.call_deeds.specs.sock_deeds.specs.Told.{fixed_by, ToldSockets}
-use Rattle.call_deeds.specs.sock_deeds.proofs.Breaking.{broken_noted}
-use Rattle.call_deeds.specs.sock_deeds.proofs.Failing.{broken, all_fails}
-use Rattle.call_deeds.specs.sock_deeds.proofs.Orders.{took, ends as link_ends, took_home, orders, entry_on}
+use Rattle.call_run.specs.Threads.{ids_of}
+use Rattle.attempts_told.specs.call_whys.specs.call_told.specs.Answers.{IsGiver}
+use Rattle.attempts_told.specs.call_whys.specs.call_places.proofs.Places.{log_differs}
+use Rattle.attempts_told.specs.call_whys.specs.call_deeds.specs.Scripts.{AllHaveLinks}
+use Rattle.attempts_told.specs.call_whys.specs.call_deeds.proofs.Runs.{deed_run}
+use Rattle.attempts_told.specs.call_whys.specs.call_deeds.proofs.Whole.{told_of_run}
+use Rattle.callless_fits.specs.sock_deeds.specs.Left.{accepted_of, homes_of}
+use Rattle.callless_fits.specs.sock_deeds.specs.Runs.{DeedRun}
+use Rattle.callless_fits.specs.sock_deeds.specs.Told.{fixed_by, ToldSockets}
+use Rattle.callless_fits.specs.sock_deeds.proofs.Breaking.{broken_noted}
+use Rattle.callless_fits.specs.sock_deeds.proofs.Failing.{broken, all_fails}
+use Rattle.callless_fits.specs.sock_deeds.proofs.Orders.{took, ends as link_ends, took_home, orders, entry_on}
 use Rattle.script_calls.specs.Reading.{IdSeat, HasRead}
 use Rattle.script_calls.specs.Told.{IsLeft, AreSocketsTold, outcomes_of}
 use Rattle.script_calls.proofs.Later.{setup_later, others_later}

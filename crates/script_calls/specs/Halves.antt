@@ -3,7 +3,7 @@ use Rattle.std.specs.Prelude.{◌≡◌, ℕ, List, [], ◌∷◌, slice_get, So
 use Rattle.sock_io.specs.declared.link.Ends.{Ends}
 use Rattle.sock_io.specs.Link.{OutState}
 use Rattle.brpc_model.specs.PlaceWords.{took_at}
-use Rattle.call_whys.specs.sock_open.specs.Opening.{IsRoom}
+use Rattle.call_run.specs.sock_open.specs.Opening.{IsRoom}
 use Rattle.std.specs.VecDeque.{deque_len, deque_capacity}
 use Rattle.script_calls.specs.declared.halves.Rest.{Rest}
 use Rattle.script_calls.specs.declared.halves.Halves.{Halves}

@@ -10,9 +10,9 @@ use Rattle.sock_io.specs.declared.link.Ends.{Ends}
 use Rattle.sock_io.specs.Link.{OutState, InState}
 use Rattle.sock_message.specs.Asked.{Asked}
 use Rattle.rpc_client.specs.declared.acting.Told.{Told}
-use Rattle.call_whys.specs.rpc_reader.specs.Books.{Books}
-use Rattle.call_whys.specs.rpc_reader.specs.Linked.{ReadLinks}
-use Rattle.call_whys.specs.rpc_reader.specs.Resting.{RestEnded}
+use Rattle.rpc_reader.specs.Books.{Books}
+use Rattle.rpc_reader.specs.Linked.{ReadLinks}
+use Rattle.rpc_reader.specs.Resting.{RestEnded}
 
 abbrev pub IdSeat : Type 0
 IdSeat = Seat (Option Asked) (View Asked)

@@ -1,6 +1,6 @@
 // The halves of links: the writing halves go to the threads, and the others wait.
 ghost use Rattle.std.specs.Prelude.{◌≡◌, ◌≤◌, ◌+◌, [], ℕ, List, length, map, IfOk};
-ghost use Rattle.call_whys.specs.sock_open.specs.Opening.{IsRoom};
+ghost use Rattle.call_run.specs.sock_open.specs.Opening.{IsRoom};
 ghost use Rattle.script_calls.specs.Halves.{rest_of, joined, HasRoomFor};
 
 use sock_io::{Ends, In, Out, Peer};

@@ -1,13 +1,13 @@
 // What is read once all clients of a run have ended, and how the table of ids ends.
 ghost use Rattle.std.specs.Prelude.{◌≡◌, ◌<◌, ◌≤◌, ℕ, [], All, IfOk, length, map};
 ghost use Rattle.corr_core.specs.Law.{total};
-ghost use Rattle.call_whys.specs.rpc_reader.specs.Seats.{IsOpen};
-ghost use Rattle.call_deeds.specs.call_run.specs.Crew.{AreLeft};
+ghost use Rattle.rpc_reader.specs.Seats.{IsOpen};
+ghost use Rattle.call_run.specs.Crew.{AreLeft};
 ghost use Rattle.script_calls.specs.Reading.{TookAll, HasRead};
 
-use call_whys::rpc_reader::{AnswerSeat, end_rest, read_links};
 use corr_id::{IdSeat, IdTable};
 use rpc_client::Told;
+use rpc_reader::{AnswerSeat, end_rest, read_links};
 use script_tasks::NoMemory;
 use sock_io::{Ends, In, Linker, Out, Peer};
 use sock_message::Call;

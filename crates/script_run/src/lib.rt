@@ -6,8 +6,6 @@ mod report;
 mod run;
 mod said;
 mod schedule;
-#[cfg(test)]
-mod tests;
 
 pub use report::Print;
 pub use run::{RunFault, run_script};

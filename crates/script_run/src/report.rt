@@ -12,7 +12,7 @@ ghost use Rattle.script_run.specs.Played.{IsPrintOf};
 use crate::said::said_of;
 use script_items::{Line, Script};
 use script_report::{Load, print_report, print_summary};
-use sock_core::script_tasks::plan_of;
+use script_tasks::plan_of;
 use sock_io::{Ends, In, Out, Peer};
 use sock_words::{Outcome, PlaceWord};
 use std::alloc::{AllocError, Global};

@@ -12,7 +12,7 @@ ghost use Rattle.script_run.specs.Played.{IsPlayable, HasPlayed, HasTurns, turns
 
 use script_items::{Line, Script, Seat};
 use script_print::DrawnSeats;
-use sock_core::script_tasks::plan_of;
+use script_tasks::plan_of;
 use sock_core::{Machine, Tick};
 use sock_io::{Linker, NoMemory};
 use sock_words::Kind;

@@ -11,7 +11,7 @@ use Rattle.sock_words.specs.declared.outcome.Outcome.TheVariants.{Full}
 use Rattle.sock_programs.specs.Calls.{ClaimRequest}
 use Rattle.sock_programs.specs.Heads.{Posting, WasGone, WasStale, WasCrowded, WasQueued, HasLocked}
 use Rattle.sock_programs.specs.Posts.{post, posted}
-use Rattle.sock_message.specs.Asked.{Asked}
+use Rattle.sock_programs.specs.sock_message.specs.Asked.{Asked}
 use Rattle.sock_programs.specs.Attempts.{claims_from, expire_outcome}
 use Rattle.sock_programs.specs.Sends.{claim_from, heading_of, accept, one_more, freed, passed_telling}
 use Rattle.sock_programs.specs.Writings as heads

@@ -13,7 +13,7 @@ use Rattle.sock_model.specs.Entries.{slot_of, generation_of}
 use Rattle.sock_model.specs.Memory.{IDLE}
 use Rattle.sock_model.specs.declared.chain.Heading.{Heading}
 use Rattle.sock_programs.specs.Parts.{part}
-use Rattle.sock_message.specs.Asked.{Asked, name_of, frame_of, parts_of}
+use Rattle.sock_programs.specs.sock_message.specs.Asked.{Asked, name_of, frame_of, parts_of}
 use Rattle.sock_programs.specs.Asides as asides
 use Rattle.sock_programs.specs.Asides.{id_slot, id_first, call_id}
 use Rattle.sock_programs.specs.Heads.{Posting, HasLocked, Deciding, Unlocking, IsOpen, HasNext, Has, Joins, Unlocks}

@@ -1,6 +1,6 @@
 ghost use Rattle.std.specs.Prelude.{◌≡◌, ℕ, List, None, Bool};
 ghost use Rattle.call_points.specs.Steps.{after_word, after_call};
-ghost use Rattle.sock_message.specs.Asked.{Asked};
+ghost use Rattle.sock_programs.specs.sock_message.specs.Asked.{Asked};
 ghost use Rattle.seat_points.specs.Points.{Around, point_program, next_program, after_message, after_link, after_home, after_put, after_ready, with_message, with_put, is_whole, IsWithin, IsWithinIds, MayFindAside, HasLinkAt, TellsCodeAt, IsCalling, HasInHand, IsNextName, framed, taken_with, TakesCall, MayFind, GoesByWord, TakesMessage, TakesLink, PutsHome, PutsPiece, Asks, link_behind, link_left};
 
 use crate::asking::deciding;

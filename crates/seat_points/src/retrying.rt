@@ -3,7 +3,7 @@ ghost use Rattle.sock_programs.specs.Asides.{id_slot};
 ghost use Rattle.sock_programs.specs.Attempts.{retry_locked, tried_again, expire};
 ghost use Rattle.id_points.specs.Turns.{lock_on, unlock_on, sought_as};
 ghost use Rattle.call_points.specs.Steps.{after_word, after_call};
-ghost use Rattle.sock_message.specs.Asked.{Asked};
+ghost use Rattle.sock_programs.specs.sock_message.specs.Asked.{Asked};
 ghost use Rattle.id_points.specs.Ids.{id_of, number_of};
 ghost use Rattle.seat_points.specs.Points.{Around, client_on, locker_of, retry_program, join_program, next_program, with_asked, with_frame, HasRetry, MayLock, RetriesByWord, MayFindId, MayFindJoined, link_behind};
 ghost use Rattle.seat_points.specs.Steps.{first_in, step_as};

@@ -1,5 +1,7 @@
 pub mod Quiet
 pub use Rattle.served_runs.specs.call_causes
+pub use Rattle.served_runs.specs.client_laws
+pub use Rattle.served_runs.specs.id_runs
 pub use Rattle.served_runs.specs.joint_runs
 pub use Rattle.served_runs.specs.label_runs
 pub use Rattle.served_runs.specs.owed_calls

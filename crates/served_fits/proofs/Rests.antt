@@ -16,13 +16,13 @@ use Rattle.sock_programs.specs.Runs.{IsAtRest}
 use Rattle.sock_programs.specs.Scripts.{opened, set_up, played, IsRunWithCalls}
 use Rattle.sock_programs.specs.Tasks.{plan_of, id_plan_of}
 use Rattle.sock_programs.specs.Ticks.{Answer, Moment, IsPrompt, quiet, waits, waits_at, waits_in}
-use Rattle.sock_runs.specs.Sound.{views_along}
-use Rattle.sock_runs.proofs.Along.{seat_rests, place_inside}
-use Rattle.sock_runs.proofs.Passes.{and_left, and_right}
-use Rattle.sock_runs.proofs.Waiting.{StandsAside}
-use Rattle.sock_runs.proofs.Whole.{views_played, rested_ahead}
-use Rattle.id_runs.specs.Held.{IdView}
-use Rattle.id_runs.specs.Goes.{IdGoesOn}
+use Rattle.calm_runs.specs.sock_runs.specs.Sound.{views_along}
+use Rattle.calm_runs.specs.sock_runs.proofs.Along.{seat_rests, place_inside}
+use Rattle.calm_runs.specs.sock_runs.proofs.Passes.{and_left, and_right}
+use Rattle.calm_runs.specs.sock_runs.proofs.Waiting.{StandsAside}
+use Rattle.calm_runs.specs.sock_runs.proofs.Whole.{views_played, rested_ahead}
+use Rattle.served_calls.specs.id_runs.specs.Held.{IdView}
+use Rattle.served_calls.specs.id_runs.specs.Goes.{IdGoesOn}
 use Rattle.served_calls.specs.joint_runs.proofs.Both.{BothSound, behind_both}
 use Rattle.served_calls.specs.joint_runs.proofs.Runs.{AreMade, first_views, joint_runs}
 use Rattle.served_calls.specs.owed_calls.specs.Settled as settled

@@ -1,5 +1,6 @@
 pub mod Shown
 pub use Rattle.served_calls.specs.call_causes
+pub use Rattle.served_calls.specs.client_laws
 pub use Rattle.served_calls.specs.label_runs
 pub use Rattle.calm_runs.specs.send_causes
 pub use Rattle.served_calls

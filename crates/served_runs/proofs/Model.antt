@@ -13,12 +13,12 @@ use Rattle.brpc_model.specs.Operations.{Turn, Operation, operations, link_names,
 use Rattle.brpc_model.specs.Places.{names}
 use Rattle.brpc_model.specs.Reply.{Answer, Gives, Refuses, served, answered_by, reply}
 use Rattle.brpc_model.specs.Stream.{stream}
-use Rattle.report_fits.proofs.Lists.{Has, contains_from}
-use Rattle.report_fits.proofs.Names.{same_name}
-use Rattle.report_fits.proofs.Numbering.{are_from}
-use Rattle.report_fits.proofs.Reading.{InRange}
-use Rattle.report_fits.proofs.Targets.{AreThere}
-use Rattle.report_fits.proofs.TaskLemmas.{numbers_at, IsTaskOf, task_is, operation_task, open_asks, send_asks, mentions_open, mentions_send, named_at}
+use Rattle.send_causes.specs.report_fits.proofs.Lists.{Has, contains_from}
+use Rattle.send_causes.specs.report_fits.proofs.Names.{same_name}
+use Rattle.send_causes.specs.report_fits.proofs.Numbering.{are_from}
+use Rattle.send_causes.specs.report_fits.proofs.Reading.{InRange}
+use Rattle.send_causes.specs.report_fits.proofs.Targets.{AreThere}
+use Rattle.send_causes.specs.report_fits.proofs.TaskLemmas.{numbers_at, IsTaskOf, task_is, operation_task, open_asks, send_asks, mentions_open, mentions_send, named_at}
 use Rattle.sock_programs.specs.declared.task.Op.TheVariants as ops
 use Rattle.sock_programs.specs.declared.task.Task.{Task}
 use Rattle.sock_programs.specs.Cores.{Core}

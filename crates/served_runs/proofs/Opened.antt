@@ -9,8 +9,8 @@ use Rattle.sock_words.specs.declared.outcome.Outcome.TheVariants.{Opened}
 use Rattle.sock_model.specs.Layout.{open_word}
 use Rattle.brpc_model.specs.Items.{Item}
 use Rattle.brpc_model.specs.Operations.{Turn}
-use Rattle.report_fits.proofs.Reading.{InRange}
-use Rattle.report_fits.proofs.Targets.{AreThere}
+use Rattle.send_causes.specs.report_fits.proofs.Reading.{InRange}
+use Rattle.send_causes.specs.report_fits.proofs.Targets.{AreThere}
 use Rattle.sock_programs.specs.declared.task.Op.TheVariants as ops
 use Rattle.sock_programs.specs.Calls.{GiveBirth}
 use Rattle.sock_programs.specs.Programs.{NO_SOCKET}

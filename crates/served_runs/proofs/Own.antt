@@ -17,8 +17,8 @@ use Rattle.brpc_model.specs.Reply.{reply, reply_frames}
 use Rattle.brpc_model.specs.Served.{first_of, given_for}
 use Rattle.brpc_model.specs.Causes.{HasFault}
 use Rattle.brpc_model.specs.Stream.{Rest, Fault, stream, stream_from}
-use Rattle.report_fits.proofs.Reading.{InRange}
-use Rattle.report_fits.proofs.Targets.{AreThere}
+use Rattle.send_causes.specs.report_fits.proofs.Reading.{InRange}
+use Rattle.send_causes.specs.report_fits.proofs.Targets.{AreThere}
 use Rattle.sock_message.specs.Asked.{Asked, request_of}
 use Rattle.sock_programs.specs.declared.task.Op.TheVariants as ops
 use Rattle.sock_programs.specs.declared.task.Task.{Task}

@@ -13,8 +13,8 @@ use Rattle.brpc_model.specs.Reply.{reply}
 use Rattle.brpc_model.specs.Stream.{stream}
 use Rattle.brpc_model.specs.Operations.{Turn, link_shapes}
 use Rattle.brpc_model.specs.Served.{given_for}
-use Rattle.report_fits.proofs.Reading.{InRange}
-use Rattle.report_fits.proofs.Targets.{AreThere}
+use Rattle.send_causes.specs.report_fits.proofs.Reading.{InRange}
+use Rattle.send_causes.specs.report_fits.proofs.Targets.{AreThere}
 use Rattle.sock_programs.specs.Asides.{AtEnd, Broken}
 use Rattle.sock_programs.specs.Cores.{Core}
 use Rattle.sock_programs.specs.Tasks.{opens, plan_of}

@@ -1,6 +1,8 @@
 pub mod Offered
 pub mod Served
 pub use Rattle.send_causes.specs.call_causes
+pub use Rattle.send_causes.specs.client_laws
+pub use Rattle.send_causes.specs.id_runs
 pub use Rattle.send_causes.specs.joint_runs
 pub use Rattle.send_causes.specs.label_runs
 pub use Rattle.send_causes.specs.owed_calls

@@ -13,7 +13,7 @@ use Rattle.sock_programs.specs.declared.task.Task.{Task}
 use Rattle.sock_programs.specs.Calls.{Call, LookWord, ReadNext}
 use Rattle.sock_programs.specs.Writings.{Puts, Waits, Empties, Walks}
 use Rattle.sock_programs.specs.Programs.{Program, Do, Say, Sent, Rest, TakeMessage, TakeHome, PutHome, PutBytes, AskReady, Write, Aside, Round, Keep, Retries}
-use Rattle.corr_core.specs.Word.{parts, code_of}
+use Rattle.sock_runs.specs.corr_core.specs.Word.{parts, code_of}
 use Rattle.sock_programs.specs.Asides.{PutCall, id_slot}
 use Rattle.sock_programs.specs.Heads.{Head, Exit, HasEnded, Posts, Unlocks, Decides, Locks, Joins, Opens, Reads, Discards}
 use Rattle.sock_programs.specs.Posts.{ends_call, end_id, unlocked}

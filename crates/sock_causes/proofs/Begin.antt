@@ -20,7 +20,7 @@ use Rattle.sock_runs.specs.slot_laws.proofs.Sums.{tally_mono}
 use Rattle.sock_runs.specs.slot_laws.proofs.Numbers.{live-free, life-none}
 use Rattle.sock_programs.specs.declared.task.Task.{Task}
 use Rattle.sock_programs.specs.sock_message.specs.Asked.{Asked}
-use Rattle.corr_core.specs.declared.marks.Plan.{Plan as IdPlan}
+use Rattle.sock_runs.specs.corr_core.specs.declared.marks.Plan.{Plan as IdPlan}
 use Rattle.sock_programs.specs.Beside.{call_at}
 use Rattle.sock_programs.specs.Programs.{Program}
 use Rattle.sock_programs.specs.Cores.{Core, SeatState, resolved, said, next_step}

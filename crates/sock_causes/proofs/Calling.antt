@@ -2,13 +2,13 @@
 use Rattle.std.proofs.Common.{◌≡◌, ◌≢◌, ℕ, zero, suc, ◌+◌, ◌-◌, ◌/◌, ◌%◌, ◌<◌, ◌&&◌, Bool, true, false, eqb, List, [], ◌∷◌, length, drop, inl, inr, sym, refl, subst, nat_lt, arith}
 use Rattle.std.specs.Prelude.{nat_le, if◌then◌else◌}
 use mathlib.Core.List.{cons-ne-nil}
-use Rattle.corr_core.specs.Word.{parts, error_of}
+use Rattle.sock_runs.specs.corr_core.specs.Word.{parts, error_of}
 use Rattle.sock_words.specs.Words.{socket_id_version, socket_id_slot, vref_version, vref_nref, at_word}
 use Rattle.sock_words.specs.declared.outcome.Outcome.TheVariants.{Unopened, NotBegun, Joined}
-use Rattle.sock_io.specs.declared.link.Put.{Put}
-use Rattle.sock_io.specs.declared.link.Put.TheVariants as puts
-use Rattle.sock_io.specs.declared.link.Ready.{Ready}
-use Rattle.sock_io.specs.declared.link.Ready.TheVariants as asks
+use Rattle.sock_programs.specs.sock_io.specs.declared.link.Put.{Put}
+use Rattle.sock_programs.specs.sock_io.specs.declared.link.Put.TheVariants as puts
+use Rattle.sock_programs.specs.sock_io.specs.declared.link.Ready.{Ready}
+use Rattle.sock_programs.specs.sock_io.specs.declared.link.Ready.TheVariants as asks
 use Rattle.sock_model.specs.declared.chain.Heading.{Heading}
 use Rattle.sock_model.specs.Entries.{ticket_of, slot_of, generation_of}
 use Rattle.sock_model.specs.Memory.{IDLE, UNCONNECTED}

@@ -3,8 +3,8 @@ use Rattle.std.proofs.Common.{◌≡◌, ℕ, Bool, List, ◌++◌, set, refl, s
 use mathlib.Core.Option.{Option, some, none}
 use lib.ListN.{get_elem?}
 use Rattle.sock_words.specs.declared.plain.Plan.{Plan}
-use Rattle.sock_io.specs.declared.link.Put.{Put}
-use Rattle.sock_io.specs.declared.link.Ready.{Ready}
+use Rattle.sock_programs.specs.sock_io.specs.declared.link.Put.{Put}
+use Rattle.sock_programs.specs.sock_io.specs.declared.link.Ready.{Ready}
 use Rattle.sock_model.specs.declared.chain.Heading.{Heading}
 use Rattle.sock_model.specs.declared.home.Home.{Home}
 use Rattle.sock_model.specs.declared.view.View.{View}
@@ -14,7 +14,7 @@ use Rattle.sock_programs.specs.Calls.{Call, LoadOpen}
 use Rattle.sock_programs.specs.Rounds.{round}
 use Rattle.std.specs.Prelude.{true, false, if◌then◌else◌, ◌+◌, None, Some}
 use Rattle.sock_programs.specs.Programs.{Program, Do, Say, Sent, Rest, TakeMessage, TakeHome, PutHome, PutBytes, AskReady, Write, Aside, Round, Keep, Retries}
-use Rattle.corr_core.specs.Word.{parts, code_of}
+use Rattle.sock_runs.specs.corr_core.specs.Word.{parts, code_of}
 use Rattle.sock_programs.specs.Asides.{Step, Found, PutCall, id_slot}
 use Rattle.sock_programs.specs.Heads.{Head, Exit, HasEnded, Posts, Unlocks, Decides, Locks, Joins, Opens, Reads, Discards}
 use Rattle.sock_programs.specs.Posts.{ends_call, end_id, unlocked}

@@ -1,8 +1,8 @@
 -- Errors of calls, and the loops on ids and at reading halves: such steps tell no outcome of a task.
 use Rattle.std.proofs.Common.{ℕ, ◌+◌, ◌&&◌, true, false, not, eqb, List, [], ◌∷◌, ◌++◌, length, inr, nat_lt}
 use Rattle.std.specs.Prelude.{nat_le, if◌then◌else◌, Some, None}
-use Rattle.corr_core.specs.Word.{parts, error_of, code_of, posted_word, unlocked_word}
-use Rattle.corr_core.specs.Law.{LAST}
+use Rattle.sock_runs.specs.corr_core.specs.Word.{parts, error_of, code_of, posted_word, unlocked_word}
+use Rattle.sock_runs.specs.corr_core.specs.Law.{LAST}
 use Rattle.brpc_model.specs.Frame.{Frame}
 use Rattle.brpc_model.specs.Stream as streams
 use Rattle.sock_words.specs.declared.outcome.Outcome.{Outcome}

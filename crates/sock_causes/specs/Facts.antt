@@ -9,7 +9,7 @@ use Rattle.sock_words.specs.declared.outcome.Outcome.TheVariants.{Unopened}
 use Rattle.brpc_model.specs.Items.{Item}
 use Rattle.brpc_model.specs.Operations.{Turn}
 use Rattle.brpc_model.specs.Order.{EachBefore}
-use Rattle.corr_core.specs.Word.{parts}
+use Rattle.sock_runs.specs.corr_core.specs.Word.{parts}
 use Rattle.sock_programs.specs.id_rule.specs.Lawful.{id_word}
 use Rattle.sock_programs.specs.sock_message.specs.Asked.{Asked, name_of}
 use Rattle.sock_programs.specs.declared.task.Op.{Op}

@@ -17,4 +17,3 @@ mod words;
 
 pub use finished::Finished;
 pub use machine::{Machine, NotMade, On, Tick};
-pub use script_tasks;

@@ -9,8 +9,8 @@ ghost use Rattle.sock_core.specs.Telling.{waits_by};
 
 use crate::machine::On;
 use call_points::LockStep;
+use call_table::has_version;
 use id_points::{Sought, is_awaited};
-use message_parts::call_table::has_version;
 use reader_points::ReadPoint;
 use seat_points::{AttemptStep, JoinStep, Point, RetryStep, WriteStep};
 use sock_words::IdWord;

@@ -15,8 +15,8 @@ use Rattle.sock_model.specs.declared.view.View.{View}
 use Rattle.sock_model.specs.Authors.{pick}
 use Rattle.chain_laws.proofs.Lists.{at_some, at_length}
 use Rattle.sock_programs.specs.declared.task.Task.{Task}
-use Rattle.sock_rule.specs.declared.homes.Letter.{Letter}
-use Rattle.sock_rule.specs.declared.homes.SockHome.{SockHome}
+use Rattle.rpc_client.specs.sock_rule.specs.declared.homes.Letter.{Letter}
+use Rattle.rpc_client.specs.sock_rule.specs.declared.homes.SockHome.{SockHome}
 use Rattle.sock_deeds.specs.Deeds.{sends, own_number}
 use Rattle.sock_deeds.specs.Runs.{IsMessage, of_send, of_call, IsFor, Seated, seat_of, DeedRun}
 use Rattle.sock_deeds.proofs.Acts.{Act, final_of, all_lists, did_of, done_of}

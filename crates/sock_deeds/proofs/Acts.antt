@@ -24,10 +24,10 @@ use Rattle.sock_model.specs.Weights.{total}
 use Rattle.slot_laws.proofs.Seats.{about-append}
 use Rattle.slot_laws.proofs.Sums.{total-append, total_some, term_le}
 use Rattle.sock_programs.specs.declared.task.Task.{Task}
-use Rattle.sock_rule.specs.OnTable.{is_put, put_in}
-use Rattle.sock_rule.specs.declared.homes.SockHome.{SockHome}
-use Rattle.sock_rule.proofs.Closes.{two_terms}
-use Rattle.sock_table.specs.Named.{HasSeen}
+use Rattle.rpc_client.specs.sock_rule.specs.OnTable.{is_put, put_in}
+use Rattle.rpc_client.specs.sock_rule.specs.declared.homes.SockHome.{SockHome}
+use Rattle.rpc_client.specs.sock_rule.proofs.Closes.{two_terms}
+use Rattle.rpc_client.specs.sock_table.specs.Named.{HasSeen}
 use Rattle.sock_deeds.specs.Deeds.{Hand, Did, Deed, DoneBy}
 use Rattle.sock_deeds.specs.Runs.{Seated, seat_of, DeedRun}
 use Rattle.sock_deeds.proofs.Chains.{gain, stored, chain_grew, ends_grew, begins_grew, between_grew, gains, stores}

@@ -14,8 +14,8 @@ use Rattle.sock_model.specs.SlotRows.{marks_of}
 use Rattle.sock_model.specs.Weights.{total}
 use Rattle.slot_laws.proofs.Numbers.{only-at}
 use Rattle.sock_programs.specs.declared.task.Task.{Task}
-use Rattle.sock_rule.specs.Faults.{is_fault}
-use Rattle.sock_rule.specs.Faults as faults
+use Rattle.rpc_client.specs.sock_rule.specs.Faults.{is_fault}
+use Rattle.rpc_client.specs.sock_rule.specs.Faults as faults
 use Rattle.report_fits.proofs.Lists.{has_from}
 use Rattle.rpc_client.specs.write_chain.specs.Noting.{Noted, nothing, finding, failing}
 use Rattle.rpc_client.specs.write_chain.proofs.Faulting.{slot_fault}

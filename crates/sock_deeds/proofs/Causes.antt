@@ -19,11 +19,11 @@ use Rattle.sock_model.specs.Layout.{name_word}
 use Rattle.sock_model.specs.SlotRows.{marks_of}
 use Rattle.sock_model.specs.Weights.{is_known, is_saw, only, total}
 use Rattle.slot_laws.proofs.Numbers.{only-same}
-use Rattle.sock_rule.specs.Becoming.{Became as Becomes}
-use Rattle.sock_rule.specs.declared.homes.Letter.{Letter}
+use Rattle.rpc_client.specs.sock_rule.specs.Becoming.{Became as Becomes}
+use Rattle.rpc_client.specs.sock_rule.specs.declared.homes.Letter.{Letter}
 use Rattle.sock_programs.specs.declared.task.Task.{Task}
 use Rattle.sock_programs.specs.Told.{HasLife}
-use Rattle.sock_table.specs.declared.refs.SockRef.{SockRef}
+use Rattle.rpc_client.specs.sock_table.specs.declared.refs.SockRef.{SockRef}
 use Rattle.rpc_client.specs.declared.reaching.Reached.TheVariants as reached
 use Rattle.rpc_client.specs.Failing.{TriedTo}
 use Rattle.rpc_client.specs.Reaching.{ReachedBy}

@@ -8,7 +8,7 @@ use Rattle.sock_words.specs.declared.plain.Plan.{Plan}
 use Rattle.sock_model.specs.declared.marks.Mark.{Mark}
 use Rattle.sock_model.specs.SlotRows.{marks_of}
 use Rattle.sock_model.specs.Weights.{total}
-use Rattle.sock_rule.specs.OnTable.{put_in}
+use Rattle.rpc_client.specs.sock_rule.specs.OnTable.{put_in}
 use Rattle.sock_deeds.specs.Deeds.{Hand, Deed, Chain}
 use Rattle.sock_deeds.proofs.Growing.{IsNote, Grew, stays_as, grew_then, deed_grew}
 

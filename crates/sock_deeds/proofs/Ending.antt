@@ -14,10 +14,10 @@ use Rattle.sock_model.specs.declared.view.View.{View}
 use Rattle.sock_model.specs.SlotRows.{marks_of}
 use Rattle.sock_model.specs.Weights.{is_saw}
 use Rattle.slot_laws.proofs.Numbers.{only_is}
-use Rattle.sock_table.specs.Answers.{Held as HeldOne, NoneLater}
-use Rattle.sock_table.specs.Named.{NotedAs}
-use Rattle.sock_table.specs.declared.finding.Noted.{Noted}
-use Rattle.sock_table.specs.declared.finding.Noted.TheVariants as noteds
+use Rattle.rpc_client.specs.sock_table.specs.Answers.{Held as HeldOne, NoneLater}
+use Rattle.rpc_client.specs.sock_table.specs.Named.{NotedAs}
+use Rattle.rpc_client.specs.sock_table.specs.declared.finding.Noted.{Noted}
+use Rattle.rpc_client.specs.sock_table.specs.declared.finding.Noted.TheVariants as noteds
 use Rattle.rpc_client.proofs.Finding.{set_others}
 use Rattle.sock_deeds.specs.Deeds.{Hand, Did, opens, sends, holds, drops, fails, waits, looks, takes, misses, sets, returns, DoneBy, Deed, Chain}
 use Rattle.sock_deeds.specs.Broken.{faults_by}

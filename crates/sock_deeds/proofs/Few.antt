@@ -6,7 +6,7 @@ use mathlib.Core.Option as core
 use mathlib.Core.Option.{some, none}
 use lib.ListN.{get_elem?}
 use Rattle.sock_model.specs.declared.chain.Entry.{Entry}
-use Rattle.sock_rule.specs.Closing.{PlacesDiffer}
+use Rattle.rpc_client.specs.sock_rule.specs.Closing.{PlacesDiffer}
 use Rattle.sock_deeds.proofs.Places.{place_there}
 
 -- the number of m in place of n

@@ -21,17 +21,17 @@ use Rattle.sock_model.specs.Marks.{about, at, noted}
 use Rattle.sock_model.specs.SlotRows.{marks_of}
 use Rattle.sock_model.specs.Weights.{total}
 use Rattle.slot_laws.proofs.Sums.{about-here, about-other}
-use Rattle.sock_rule.specs.Becoming.{Became}
-use Rattle.sock_rule.specs.OnTable.{is_put, put_in}
-use Rattle.sock_rule.specs.Rows.{PutAt}
-use Rattle.sock_rule.specs.declared.homes.Letter.{Letter}
-use Rattle.sock_table.specs.Answers.{GoneFrom, LinkOf}
-use Rattle.sock_table.specs.Named.{HasSeen, FindsId, NotedAs}
-use Rattle.sock_table.specs.Passes.{Created, TriedTo as TriedSlots}
-use Rattle.sock_table.specs.Refs.{SameNotes, GaveBack}
-use Rattle.sock_table.specs.declared.finding.Noted.{Noted}
-use Rattle.sock_table.specs.declared.finding.Noted.TheVariants as noteds
-use Rattle.sock_table.specs.declared.refs.SockRef.{SockRef}
+use Rattle.rpc_client.specs.sock_rule.specs.Becoming.{Became}
+use Rattle.rpc_client.specs.sock_rule.specs.OnTable.{is_put, put_in}
+use Rattle.rpc_client.specs.sock_rule.specs.Rows.{PutAt}
+use Rattle.rpc_client.specs.sock_rule.specs.declared.homes.Letter.{Letter}
+use Rattle.rpc_client.specs.sock_table.specs.Answers.{GoneFrom, LinkOf}
+use Rattle.rpc_client.specs.sock_table.specs.Named.{HasSeen, FindsId, NotedAs}
+use Rattle.rpc_client.specs.sock_table.specs.Passes.{Created, TriedTo as TriedSlots}
+use Rattle.rpc_client.specs.sock_table.specs.Refs.{SameNotes, GaveBack}
+use Rattle.rpc_client.specs.sock_table.specs.declared.finding.Noted.{Noted}
+use Rattle.rpc_client.specs.sock_table.specs.declared.finding.Noted.TheVariants as noteds
+use Rattle.rpc_client.specs.sock_table.specs.declared.refs.SockRef.{SockRef}
 use Rattle.rpc_client.specs.write_chain.specs.declared.entry.Refused.{Refused}
 use Rattle.rpc_client.specs.write_chain.specs.declared.entry.Refused.TheVariants as refused
 use Rattle.rpc_client.specs.write_chain.specs.Sending.{RefusedBy}

@@ -19,8 +19,8 @@ use Rattle.sock_model.specs.Weights.{is_met, is_saw}
 use Rattle.chain_laws.proofs.Lists.{distinct_filter}
 use Rattle.sock_programs.specs.declared.task.Op.TheVariants as ops
 use Rattle.sock_programs.specs.declared.task.Task.{Task}
-use Rattle.sock_rule.specs.Closing.{PlacesDiffer}
-use Rattle.sock_rule.specs.declared.homes.Letter.{Letter}
+use Rattle.rpc_client.specs.sock_rule.specs.Closing.{PlacesDiffer}
+use Rattle.rpc_client.specs.sock_rule.specs.declared.homes.Letter.{Letter}
 use Rattle.sock_deeds.specs.Deeds.{opens}
 use Rattle.sock_deeds.specs.Runs.{IsMessage, of_send, of_call, IsFor, DeedRun}
 use Rattle.sock_deeds.proofs.Accepting.{log, act_of_entry, sent_for, sent_place}

@@ -15,14 +15,14 @@ use Rattle.sock_model.specs.declared.view.View.{View}
 use Rattle.sock_model.specs.Layout.{name_word, request_word}
 use Rattle.sock_model.specs.SlotRows.{marks_of}
 use Rattle.sock_model.specs.Weights.{is_born, is_tried}
-use Rattle.sock_rule.specs.declared.homes.Letter.{Letter}
+use Rattle.rpc_client.specs.sock_rule.specs.declared.homes.Letter.{Letter}
 use Rattle.sock_programs.specs.declared.task.Op.{Op}
 use Rattle.sock_programs.specs.declared.task.Op.TheVariants as ops
 use Rattle.sock_programs.specs.declared.task.Task.{Task}
 use Rattle.sock_programs.specs.Told.{IsTask, Became, OpensNone, EachOpened}
 use Rattle.sock_programs.specs.ToldCalls.{Fixed, Order, FoundNone, Seeks}
-use Rattle.sock_table.specs.Named.{HasSeen}
-use Rattle.sock_table.specs.declared.refs.SockRef.{SockRef}
+use Rattle.rpc_client.specs.sock_table.specs.Named.{HasSeen}
+use Rattle.rpc_client.specs.sock_table.specs.declared.refs.SockRef.{SockRef}
 use Rattle.rpc_client.specs.declared.holding.Held.{Held}
 use Rattle.rpc_client.specs.declared.reaching.Reached.TheVariants as reached
 use Rattle.rpc_client.specs.Failing.{SetBy, FailedBy, TriedTo}

@@ -10,7 +10,7 @@ use mathlib.Core.Option as core
 use mathlib.Core.Option.{some, none, some-injective, some-ne-none}
 use lib.ListN.{get_elem?}
 use Rattle.brpc_model.specs.Order.{IsCut, EachBefore}
-use Rattle.sock_rule.specs.message_parts.specs.Parcels.{parcel_of}
+use Rattle.rpc_client.specs.message_parts.specs.Parcels.{parcel_of}
 use Rattle.sock_io.specs.declared.link.Out.{Ghosts}
 use Rattle.sock_io.specs.Link.{OutState}
 use Rattle.sock_words.specs.declared.outcome.Outcome.{Outcome}
@@ -33,9 +33,9 @@ use Rattle.sock_programs.specs.Scripts.{taken_by, took_at_home}
 use Rattle.sock_programs.specs.Told.{IsTask}
 use Rattle.sock_programs.specs.ToldCalls.{Accepted, Order, Fixed, AreOrders, IsTaken, StandsAt, StandsOn, InOwnOrder, bytes_of, label}
 use Rattle.report_fits.proofs.Lists.{before_from}
-use Rattle.sock_rule.specs.Closing.{LifeFailed, PlacesDiffer}
-use Rattle.sock_rule.specs.declared.homes.Letter.{Letter}
-use Rattle.sock_rule.specs.Faults.{faults_of}
+use Rattle.rpc_client.specs.sock_rule.specs.Closing.{LifeFailed, PlacesDiffer}
+use Rattle.rpc_client.specs.sock_rule.specs.declared.homes.Letter.{Letter}
+use Rattle.rpc_client.specs.sock_rule.specs.Faults.{faults_of}
 use Rattle.sock_message.specs.Asked.{Asked, frame_of}
 use Rattle.sock_deeds.specs.Deeds.{Did, sends}
 use Rattle.sock_deeds.specs.Left.{accepted_of, orders_of, homes_of}

@@ -11,11 +11,11 @@ use Rattle.sock_model.specs.declared.chain.Entry.{Entry}
 use Rattle.sock_model.specs.declared.view.View.{View}
 use Rattle.sock_model.specs.ChainRows.{more}
 use Rattle.sock_model.specs.Seats.{newcomer}
-use Rattle.sock_rule.specs.declared.homes.Letter.{Letter}
-use Rattle.sock_table.specs.Answers.{LinkOf}
-use Rattle.sock_table.specs.Named.{NotedAs}
-use Rattle.sock_table.specs.declared.finding.Noted.{Noted}
-use Rattle.sock_table.specs.declared.finding.Noted.TheVariants as noteds
+use Rattle.rpc_client.specs.sock_rule.specs.declared.homes.Letter.{Letter}
+use Rattle.rpc_client.specs.sock_table.specs.Answers.{LinkOf}
+use Rattle.rpc_client.specs.sock_table.specs.Named.{NotedAs}
+use Rattle.rpc_client.specs.sock_table.specs.declared.finding.Noted.{Noted}
+use Rattle.rpc_client.specs.sock_table.specs.declared.finding.Noted.TheVariants as noteds
 use Rattle.rpc_client.specs.declared.holding.Held.{Held}
 use Rattle.rpc_client.specs.declared.reaching.Reached.{Reached}
 use Rattle.rpc_client.specs.declared.reaching.Reached.TheVariants as reached

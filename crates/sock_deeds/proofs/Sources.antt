@@ -21,17 +21,17 @@ use Rattle.sock_model.specs.Marks.{about, at}
 use Rattle.sock_model.specs.SlotRows.{marks_of}
 use Rattle.sock_model.specs.Weights.{total}
 use Rattle.slot_laws.proofs.Sums.{about-here, about-other}
-use Rattle.sock_rule.specs.Becoming.{Became}
-use Rattle.sock_rule.specs.Faults.{fault as fault_mark}
-use Rattle.sock_rule.specs.Rows.{PutAt}
-use Rattle.sock_rule.specs.declared.homes.Letter.{Letter}
-use Rattle.sock_table.specs.Answers.{Held as HeldOne, GoneFrom, LinkOf}
-use Rattle.sock_table.specs.Named.{FindsId, NotedAs}
-use Rattle.sock_table.specs.Passes.{Created, TriedTo as TriedSlots}
-use Rattle.sock_table.specs.Refs.{SameNotes, GaveBack, EndedBy, retired}
-use Rattle.sock_table.specs.declared.finding.Noted.{Noted as NotedKind}
-use Rattle.sock_table.specs.declared.finding.Noted.TheVariants as noteds
-use Rattle.sock_table.specs.declared.refs.SockRef.{SockRef}
+use Rattle.rpc_client.specs.sock_rule.specs.Becoming.{Became}
+use Rattle.rpc_client.specs.sock_rule.specs.Faults.{fault as fault_mark}
+use Rattle.rpc_client.specs.sock_rule.specs.Rows.{PutAt}
+use Rattle.rpc_client.specs.sock_rule.specs.declared.homes.Letter.{Letter}
+use Rattle.rpc_client.specs.sock_table.specs.Answers.{Held as HeldOne, GoneFrom, LinkOf}
+use Rattle.rpc_client.specs.sock_table.specs.Named.{FindsId, NotedAs}
+use Rattle.rpc_client.specs.sock_table.specs.Passes.{Created, TriedTo as TriedSlots}
+use Rattle.rpc_client.specs.sock_table.specs.Refs.{SameNotes, GaveBack, EndedBy, retired}
+use Rattle.rpc_client.specs.sock_table.specs.declared.finding.Noted.{Noted as NotedKind}
+use Rattle.rpc_client.specs.sock_table.specs.declared.finding.Noted.TheVariants as noteds
+use Rattle.rpc_client.specs.sock_table.specs.declared.refs.SockRef.{SockRef}
 use Rattle.rpc_client.specs.write_chain.specs.declared.entry.Refused.{Refused}
 use Rattle.rpc_client.specs.write_chain.specs.declared.entry.Refused.TheVariants as refused
 use Rattle.rpc_client.specs.write_chain.specs.Noting.{Noted, nothing, finding, failing, IsFinding, saw, met, told, faulted, Met_by}
@@ -235,7 +235,7 @@ module _ (f : Mark → ℕ) (z : IsOfLife f) where
   abbrev pub FailsLife : Plan → ℕ → ℕ → Outcome → ℕ → View → View → Type 0
   FailsLife p n code by i v w = (t : TriedTo p n code outcome.Failed v w) × (by ≡ outcome.Failed) × (socket_id_slot t.sock.id.0 ≡ i) × (0 < f (Failer (socket_id_version t.sock.id.0)))
 
-  set_failed : (id code i : ℕ) (v w : View) → Rattle.sock_table.specs.Answers.FailedBy id code v w → marks_of f i v < marks_of f i w → (socket_id_slot id ≡ i) × (0 < f (Failer (socket_id_version id)))
+  set_failed : (id code i : ℕ) (v w : View) → Rattle.rpc_client.specs.sock_table.specs.Answers.FailedBy id code v w → marks_of f i v < marks_of f i w → (socket_id_slot id ≡ i) × (0 < f (Failer (socket_id_version id)))
   set_failed id code i v w b less = let s = became_slot f (socket_id_slot id) v w _ [] refl b i less in
       let h = socket_id_version id in let y = z.saw (h + 1) in let x = z.stored h code in let t = z.told h code in let more = s.1 in (s.0, omega arith)
 

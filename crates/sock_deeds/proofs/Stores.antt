@@ -16,14 +16,14 @@ use Rattle.sock_model.specs.Layout.{name_word, open_word, place_word}
 use Rattle.sock_model.specs.Marks.{noted}
 use Rattle.sock_model.specs.Weights.{total, pair}
 use Rattle.slot_laws.proofs.Numbers.{pair_is}
-use Rattle.sock_rule.specs.OnTable.{is_put, put_in}
-use Rattle.sock_rule.specs.Rows.{NOTHING, PutAt}
-use Rattle.sock_rule.specs.declared.homes.Letter.{Letter}
-use Rattle.sock_table.specs.Answers.{LinkOf}
-use Rattle.sock_table.specs.Named.{FindsId, NotedAs}
-use Rattle.sock_table.specs.declared.finding.Noted.{Noted}
-use Rattle.sock_table.specs.declared.finding.Noted.TheVariants as noteds
-use Rattle.sock_table.specs.declared.refs.SockRef.{SockRef}
+use Rattle.rpc_client.specs.sock_rule.specs.OnTable.{is_put, put_in}
+use Rattle.rpc_client.specs.sock_rule.specs.Rows.{NOTHING, PutAt}
+use Rattle.rpc_client.specs.sock_rule.specs.declared.homes.Letter.{Letter}
+use Rattle.rpc_client.specs.sock_table.specs.Answers.{LinkOf}
+use Rattle.rpc_client.specs.sock_table.specs.Named.{FindsId, NotedAs}
+use Rattle.rpc_client.specs.sock_table.specs.declared.finding.Noted.{Noted}
+use Rattle.rpc_client.specs.sock_table.specs.declared.finding.Noted.TheVariants as noteds
+use Rattle.rpc_client.specs.sock_table.specs.declared.refs.SockRef.{SockRef}
 use Rattle.rpc_client.specs.write_chain.specs.declared.entry.Refused.{Refused}
 use Rattle.rpc_client.specs.write_chain.specs.declared.entry.Refused.TheVariants as refused
 use Rattle.rpc_client.specs.write_chain.specs.Sending.{RefusedBy}

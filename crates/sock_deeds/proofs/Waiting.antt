@@ -10,8 +10,8 @@ use Rattle.sock_words.specs.declared.plain.Plan.{Plan}
 use Rattle.sock_words.specs.declared.socket_id.SocketId.{SocketId}
 use Rattle.sock_model.specs.declared.view.View.{View}
 use Rattle.sock_model.specs.Seats.{newcomer}
-use Rattle.sock_rule.specs.declared.homes.SockHome.{SockHome}
-use Rattle.sock_table.specs.Named.{Found}
+use Rattle.rpc_client.specs.sock_rule.specs.declared.homes.SockHome.{SockHome}
+use Rattle.rpc_client.specs.sock_table.specs.Named.{Found}
 use Rattle.sock_deeds.specs.Deeds.{Hand, Did, waits, own_number, Deed, Chain}
 use Rattle.sock_deeds.specs.Runs.{listed, numbers_of, Seated}
 use Rattle.sock_deeds.proofs.Chains.{chain_then}

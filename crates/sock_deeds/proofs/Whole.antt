@@ -18,8 +18,8 @@ use Rattle.sock_words.specs.Words.{vref_version}
 use Rattle.sock_message.specs.Asked.{Asked, name_of}
 use Rattle.sock_model.specs.declared.chain.Entry.{Entry}
 use Rattle.sock_model.specs.Entries.{on}
-use Rattle.sock_rule.specs.Closing.{PlacesDiffer}
-use Rattle.sock_rule.specs.declared.homes.Letter.{Letter}
+use Rattle.rpc_client.specs.sock_rule.specs.Closing.{PlacesDiffer}
+use Rattle.rpc_client.specs.sock_rule.specs.declared.homes.Letter.{Letter}
 use Rattle.sock_programs.specs.declared.task.Op.{Op}
 use Rattle.sock_programs.specs.declared.task.Op.TheVariants as ops
 use Rattle.sock_programs.specs.declared.task.Task.{Task}

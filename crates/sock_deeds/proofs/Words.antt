@@ -8,7 +8,7 @@ use Rattle.sock_model.specs.Deliveries.{place_value}
 use Rattle.sock_model.specs.Layout.{place_word}
 use Rattle.sock_model.specs.Weights.{total, is_met, is_saw}
 use Rattle.slot_laws.proofs.Numbers.{pair_is}
-use Rattle.sock_rule.specs.OnTable.{is_put, put_in}
+use Rattle.rpc_client.specs.sock_rule.specs.OnTable.{is_put, put_in}
 use Rattle.rpc_client.specs.write_chain.specs.Noting.{Wrote, WroteDrop}
 use Rattle.rpc_client.specs.write_chain.specs.Writing.{FoundDead}
 use Rattle.rpc_client.specs.write_chain.proofs.Noting.{wrote_more, wrote_stores}

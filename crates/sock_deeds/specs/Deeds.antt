@@ -9,13 +9,13 @@ use Rattle.sock_words.specs.declared.socket_id.SocketId.{SocketId}
 use Rattle.sock_model.specs.declared.view.View.{View}
 use Rattle.sock_model.specs.Deliveries.{place_value}
 use Rattle.sock_model.specs.Layout.{place_word}
-use Rattle.sock_rule.specs.OnTable.{put_in}
-use Rattle.sock_rule.specs.declared.homes.Letter.{Letter}
-use Rattle.sock_rule.specs.declared.homes.SockHome.{SockHome}
-use Rattle.sock_table.specs.declared.finding.Noted.{Noted}
-use Rattle.sock_table.specs.declared.refs.SockRef.{SockRef}
-use Rattle.sock_table.specs.Named.{Found, NotedAs}
-use Rattle.sock_table.specs.Answers.{Held as HeldOne, GoneFrom, NoneLater, LinkOf}
+use Rattle.rpc_client.specs.sock_rule.specs.OnTable.{put_in}
+use Rattle.rpc_client.specs.sock_rule.specs.declared.homes.Letter.{Letter}
+use Rattle.rpc_client.specs.sock_rule.specs.declared.homes.SockHome.{SockHome}
+use Rattle.rpc_client.specs.sock_table.specs.declared.finding.Noted.{Noted}
+use Rattle.rpc_client.specs.sock_table.specs.declared.refs.SockRef.{SockRef}
+use Rattle.rpc_client.specs.sock_table.specs.Named.{Found, NotedAs}
+use Rattle.rpc_client.specs.sock_table.specs.Answers.{Held as HeldOne, GoneFrom, NoneLater, LinkOf}
 use Rattle.rpc_client.specs.write_chain.specs.Noting.{Met_by}
 use Rattle.rpc_client.specs.write_chain.specs.Writing.{FoundDead}
 use Rattle.rpc_client.specs.declared.holding.Held.{Held}

@@ -6,5 +6,3 @@ pub mod Told
 pub use Rattle.report_fits
 pub use Rattle.rpc_client
 pub use Rattle.sock_causes
-pub use Rattle.sock_rule
-pub use Rattle.sock_table

@@ -5,8 +5,6 @@
 mod call;
 mod message;
 mod outgoing;
-#[cfg(test)]
-mod tests;
 
 pub use call::Call;
 pub use io_buf::{BLOCK_BYTES, BlockPool, NoMemory};

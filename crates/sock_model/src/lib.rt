@@ -9,6 +9,5 @@ mod view;
 pub use chain::{Claim, Entry, Heading, Loose, Right, Stage};
 pub use home::Home;
 pub use marks::{Mark, SlotMark};
-pub use sock_words;
 pub use sock_words::Plan;
 pub use view::{Hand, StoredWord, View};

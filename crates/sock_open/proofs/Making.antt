@@ -4,20 +4,20 @@ use Rattle.std.proofs.lemmas.List.{reverse-append}
 use Rattle.atomic_table.specs.Seated.{TableId}
 use Rattle.atomic_table.specs.Table.{Me}
 use Rattle.atomic_table.specs.declared.shared.Seat.{Seat}
-use Rattle.sock_table.specs.sock_io.specs.declared.link.Out.{Ghosts}
+use Rattle.sock_io.specs.declared.link.Out.{Ghosts}
 use Rattle.sock_words.specs.declared.plain.Plan.{Plan}
 use Rattle.sock_model.specs.declared.view.View.{View}
 use Rattle.sock_model.specs.Weights.{total}
 use Rattle.sock_model.specs.Seats.{newcomer, below, carrier, earliest, later}
-use Rattle.sock_table.specs.sock_rule.specs.OnTable.{opener}
-use Rattle.sock_table.specs.sock_rule.specs.Seated.{IsSeat, giving, given, passing, passed}
-use Rattle.sock_table.specs.sock_rule.specs.declared.homes.SockHome.{SockHome}
+use Rattle.sock_rule.specs.OnTable.{opener}
+use Rattle.sock_rule.specs.Seated.{IsSeat, giving, given, passing, passed}
+use Rattle.sock_rule.specs.declared.homes.SockHome.{SockHome}
 use Rattle.sock_table.specs.declared.passes.LinkPass.{LinkPass}
 use Rattle.sock_table.specs.Passes.{IsPass}
 use Rattle.sock_table.specs.Refs.{IsBetween}
 use Rattle.sock_table.specs.Closed.{IsDoneSeat}
-use Rattle.sock_table.specs.sock_rule.specs.Seated.{IsDone}
-use Rattle.sock_table.specs.sock_rule.specs.Closing.{IsAtRest}
+use Rattle.sock_rule.specs.Seated.{IsDone}
+use Rattle.sock_rule.specs.Closing.{IsAtRest}
 use Rattle.sock_open.specs.Made.{IsNewSeat, AreNewSeats, PassesFrom}
 
 -- a seat with the passes of the first n links, which stands for some of the seats

@@ -3,7 +3,7 @@ use Rattle.std.proofs.Common.{◌≡◌, ℕ, ◌+◌, ◌<◌, List, [], ◌∷
 use Rattle.atomic_table.specs.Seated.{TableId}
 use Rattle.atomic_table.specs.Table.{Me}
 use Rattle.atomic_table.specs.declared.shared.Seat.{Seat}
-use Rattle.sock_table.specs.sock_io.specs.declared.link.Out.{Ghosts}
+use Rattle.sock_io.specs.declared.link.Out.{Ghosts}
 use Rattle.sock_words.specs.declared.socket_id.SocketId.{SocketId}
 use Rattle.sock_words.specs.declared.plain.Plan.{Plan}
 use Rattle.sock_words.specs.Words.{socket_id_version, socket_id_slot}
@@ -12,10 +12,10 @@ use Rattle.sock_model.specs.declared.marks.SlotMark.{SlotMark}
 use Rattle.sock_model.specs.declared.view.View.{View}
 use Rattle.sock_model.specs.Weights.{total, is_ref, is_known}
 use Rattle.sock_table.specs.slot_laws.proofs.Sums.{total-append}
-use Rattle.sock_table.specs.sock_rule.specs.Becoming.{Became}
-use Rattle.sock_table.specs.sock_rule.proofs.Becoming.{then_}
-use Rattle.sock_table.specs.sock_rule.specs.Rows.{PutAt}
-use Rattle.sock_table.specs.sock_rule.specs.Seated.{IsSeat}
+use Rattle.sock_rule.specs.Becoming.{Became}
+use Rattle.sock_rule.proofs.Becoming.{then_}
+use Rattle.sock_rule.specs.Rows.{PutAt}
+use Rattle.sock_rule.specs.Seated.{IsSeat}
 use Rattle.sock_table.specs.Named.{Found}
 use Rattle.sock_table.specs.declared.passes.LinkPass.{LinkPass}
 use Rattle.sock_table.specs.Passes.{IsPass}

@@ -14,9 +14,9 @@ use Rattle.sock_model.specs.Marks.{about}
 use Rattle.sock_model.specs.SlotRows.{marks_of}
 use Rattle.sock_table.specs.slot_laws.proofs.Sums.{total_mono, total-append}
 use Rattle.sock_table.specs.slot_laws.proofs.Numbers.{only-same}
-use Rattle.sock_table.specs.sock_rule.specs.Becoming.{Became}
-use Rattle.sock_table.specs.sock_rule.specs.Seated.{IsSeat}
-use Rattle.sock_table.specs.sock_rule.proofs.Becoming.{then_}
+use Rattle.sock_rule.specs.Becoming.{Became}
+use Rattle.sock_rule.specs.Seated.{IsSeat}
+use Rattle.sock_rule.proofs.Becoming.{then_}
 use Rattle.sock_table.specs.Refs.{IsBetween, EndedBy, GaveBack, MayAddress, SameTokens}
 use Rattle.sock_table.specs.Answers.{Holds, Held, GoneFrom, FailedBy, FoundFailed}
 use Rattle.sock_table.specs.Closed.{IsDoneSeat}

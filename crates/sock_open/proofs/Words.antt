@@ -5,15 +5,15 @@ use mathlib.Core.Option.{some, some-injective}
 use native.Mathlib.Decide.{ℕ_discrete}
 use lib.ListN.{get_elem?}
 use Rattle.atomic_table.proofs.Lists.{at_longer, at_last}
-use Rattle.sock_table.specs.sock_io.specs.declared.link.Out.{Ghosts}
+use Rattle.sock_io.specs.declared.link.Out.{Ghosts}
 use Rattle.sock_words.specs.declared.plain.Plan.{Plan}
 use Rattle.sock_model.specs.declared.home.Home.TheVariants as home
 use Rattle.sock_model.specs.Layout.{tag_word, ref_word, link_word, code_word, name_word, open_word, request_word, place_word, all_words}
-use Rattle.sock_table.specs.sock_rule.specs.Seated.{IsNew}
-use Rattle.sock_table.specs.sock_rule.specs.declared.homes.SockHome.{SockHome}
-use Rattle.sock_table.specs.sock_rule.specs.declared.homes.LinkHome.{LinkHome}
-use Rattle.sock_table.specs.sock_rule.specs.declared.homes.SockHome.TheVariants.{Link}
-use Rattle.sock_table.specs.sock_rule.specs.Shows.{shows}
+use Rattle.sock_rule.specs.Seated.{IsNew}
+use Rattle.sock_rule.specs.declared.homes.SockHome.{SockHome}
+use Rattle.sock_rule.specs.declared.homes.LinkHome.{LinkHome}
+use Rattle.sock_rule.specs.declared.homes.SockHome.TheVariants.{Link}
+use Rattle.sock_rule.specs.Shows.{shows}
 use Rattle.sock_table.specs.Closed.{AreLinks, OutsOf}
 use Rattle.sock_open.specs.Opening.{AreNewWords, AreFresh, AreNewHomes, MayBegin}
 

@@ -4,13 +4,13 @@ use Rattle.std.specs.Vec.{vec_capacity}
 use Rattle.std.specs.Option.{ForSome}
 use mathlib.Core.Option.{some}
 use lib.ListN.{get_elem?}
-use Rattle.sock_table.specs.sock_io.specs.declared.link.Out.{Ghosts}
-use Rattle.sock_table.specs.sock_io.specs.Link.{OutState}
+use Rattle.sock_io.specs.declared.link.Out.{Ghosts}
+use Rattle.sock_io.specs.Link.{OutState}
 use Rattle.sock_words.specs.declared.plain.Plan.{Plan}
 use Rattle.sock_model.specs.declared.home.Home.TheVariants as home
 use Rattle.sock_model.specs.Layout.{ref_word, all_words}
-use Rattle.sock_table.specs.sock_rule.specs.declared.homes.SockHome.{SockHome}
-use Rattle.sock_table.specs.sock_rule.specs.Shows.{shows}
+use Rattle.sock_rule.specs.declared.homes.SockHome.{SockHome}
+use Rattle.sock_rule.specs.Shows.{shows}
 
 -- the word of each slot stands at its first version, and all others are 0
 pub record AreNewWords (p : Plan) (ws : List ℕ) : Type 0 where

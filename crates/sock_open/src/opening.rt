@@ -1,13 +1,13 @@
 // A new table.
 ghost use Rattle.std.specs.Prelude.{◌≡◌, ◌+◌, ◌*◌, ◌%◌, ◌<◌, ◌≤◌, ℕ, [], IfOk, IfErr, length, vec_len};
 ghost use Rattle.sock_open.specs.Opening.{AreNewWords, AreFresh, AreNewHomes, IsRoom, MayBegin};
-ghost use Rattle.sock_table.specs.sock_rule.specs.OnTable.{opener};
+ghost use Rattle.sock_rule.specs.OnTable.{opener};
 ghost use Rattle.sock_table.specs.Closed.{AreLinks, OutsOf};
 ghost use Rattle.sock_open.specs.Made.{AreMade};
 
 use atomic_table::Refused;
-use sock_table::sock_io::Out;
-use sock_table::sock_rule::{LinkHome, RuleTable, SockHome, SockSeat};
+use sock_io::Out;
+use sock_rule::{LinkHome, RuleTable, SockHome, SockSeat};
 use sock_table::{LinkPass, SockTable};
 use sock_words::Plan;
 use std::alloc::{AllocError, Global};

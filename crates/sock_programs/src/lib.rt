@@ -3,6 +3,5 @@
 
 pub mod task;
 
-pub use sock_io;
 pub use sock_message::Call;
 pub use task::{Op, Sizes, Task};

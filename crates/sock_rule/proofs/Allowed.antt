@@ -19,9 +19,9 @@ use Rattle.sock_model.specs.Layout.{tag_word, ref_word}
 use Rattle.sock_model.specs.Slots.{version_of, nref_of}
 use Rattle.sock_model.specs.References.{slot_facts}
 use Rattle.sock_model.specs.SlotRows.{marks_of, knows, claimed, gave_birth, added, back, subbed, failed, recycled, freed, looked}
-use Rattle.slot_laws.proofs.Numbers.{pair_le}
-use Rattle.slot_laws.proofs.Sums.{total_mono}
-use Rattle.slot_laws.proofs.Kept.{few_refs, life_found, known_found, some_ref, one_claim}
+use Rattle.chain_core.specs.slot_laws.proofs.Numbers.{pair_le}
+use Rattle.chain_core.specs.slot_laws.proofs.Sums.{total_mono}
+use Rattle.chain_core.specs.slot_laws.proofs.Kept.{few_refs, life_found, known_found, some_ref, one_claim}
 use Rattle.chain_core.specs.sock_steps.proofs.SlotSteps.{KeepsRights}
 use Rattle.chain_core.specs.sock_steps.proofs.Places.{own_count}
 use Rattle.chain_core.specs.sock_steps.proofs.RuleSteps.{claim_rule, birth_rule, add_rule, sub_rule, set_odd_rule, recycle_rule, recycle_lost_rule, look_rule, free_rule}

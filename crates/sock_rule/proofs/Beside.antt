@@ -11,8 +11,8 @@ use Rattle.sock_model.specs.declared.view.StoredWord.{StoredWord}
 use Rattle.sock_model.specs.Weights.{total}
 use Rattle.sock_model.specs.Layout.{place_word}
 use Rattle.sock_model.specs.Rule.{lists_of, Rule}
-use Rattle.slot_laws.proofs.Sums.{total-set}
-use Rattle.chain_laws.proofs.Lists.{at_length}
+use Rattle.chain_core.specs.slot_laws.proofs.Sums.{total-set}
+use Rattle.chain_core.specs.chain_laws.proofs.Lists.{at_length}
 use Rattle.chain_core.specs.sock_steps.proofs.Maps.{set_at, set_twice}
 use Rattle.sock_rule.specs.Faults.{faults_of, out_of, LinkFaults}
 use Rattle.sock_rule.specs.OnTable.{share_of, put_in, labelled_in, IsDropKept, Settled, Labelled, OnTable}

@@ -22,9 +22,9 @@ use Rattle.sock_model.specs.ChainRows.{with_claim, fresh_claim, filled_claim, re
 use Rattle.sock_model.specs.Conditions.{MayExchange}
 use Rattle.sock_model.specs.Lawful.{Lawful}
 use Rattle.sock_model.specs.Rule.{MOST_ACCEPTED, noting, Rule}
-use Rattle.slot_laws.proofs.Sums.{total-append}
-use Rattle.chain_laws.proofs.Bits.{or_one_even, or_one_odd}
-use Rattle.chain_laws.proofs.Lists.{at_length, at_snoc, old, new}
+use Rattle.chain_core.specs.slot_laws.proofs.Sums.{total-append}
+use Rattle.chain_core.specs.chain_laws.proofs.Bits.{or_one_even, or_one_odd}
+use Rattle.chain_core.specs.chain_laws.proofs.Lists.{at_length, at_snoc, old, new}
 use Rattle.chain_core.specs.sock_steps.proofs.Maps.{set_at, set_twice}
 use Rattle.chain_core.specs.sock_steps.proofs.ClaimSteps.{claiming_law, readying_law, filling_law, claim_alone}
 use Rattle.chain_core.specs.sock_steps.proofs.Noting.{tried_rule}

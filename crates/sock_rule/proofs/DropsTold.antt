@@ -9,7 +9,7 @@ use Rattle.sock_model.specs.declared.view.View.{View}
 use Rattle.sock_model.specs.Weights.{total}
 use Rattle.sock_model.specs.Authors.{pick}
 use Rattle.sock_model.specs.Layout.{place_word}
-use Rattle.slot_laws.proofs.Numbers.{only_is, only_le}
+use Rattle.chain_core.specs.slot_laws.proofs.Numbers.{only_is, only_le}
 use Rattle.sock_rule.specs.OnTable.{put_in, DROPPED, is_labelled, labelled_in, OnTable}
 use Rattle.sock_rule.specs.Closing.{PlacesDiffer, IsDropTold}
 use Rattle.sock_rule.proofs.Closes.{others, put_is, only_one}

@@ -18,12 +18,12 @@ use Rattle.sock_model.specs.Reads.{claims_of, loose_at, tokens, message}
 use Rattle.sock_model.specs.References.{sayers}
 use Rattle.sock_model.specs.Lawful.{Lawful}
 use Rattle.sock_model.specs.Rule.{lists_of, Rule}
-use Rattle.chain_laws.proofs.Frames.{chains_frame}
-use Rattle.chain_laws.proofs.Gather.{gather_same}
-use Rattle.chain_laws.proofs.Letters.{messages_frame}
-use Rattle.chain_laws.proofs.Lists.{at_length}
-use Rattle.slot_laws.proofs.Numbers.{only-else, only_le, pair-at, pair_only}
-use Rattle.slot_laws.proofs.Sums.{total-set, total_mono}
+use Rattle.chain_core.specs.chain_laws.proofs.Frames.{chains_frame}
+use Rattle.chain_core.specs.chain_laws.proofs.Gather.{gather_same}
+use Rattle.chain_core.specs.chain_laws.proofs.Letters.{messages_frame}
+use Rattle.chain_core.specs.chain_laws.proofs.Lists.{at_length}
+use Rattle.chain_core.specs.slot_laws.proofs.Numbers.{only-else, only_le, pair-at, pair_only}
+use Rattle.chain_core.specs.slot_laws.proofs.Sums.{total-set, total_mono}
 use Rattle.chain_core.specs.sock_steps.proofs.Words.{beside_all}
 use Rattle.chain_core.specs.sock_steps.proofs.ChainFrame.{SameSlots}
 use Rattle.chain_core.specs.sock_steps.proofs.ClaimSteps.{rights_stay, other_base}

@@ -27,9 +27,9 @@ use Rattle.sock_model.specs.Conditions.{HasRight, MayPlace, MayDrop, MayTake, Ma
 use Rattle.sock_model.specs.Deliveries.{place_value}
 use Rattle.sock_model.specs.Links.{HoldsLink, Failed}
 use Rattle.sock_model.specs.Lawful.{Lawful}
-use Rattle.slot_laws.proofs.Numbers.{life-in, only-at}
-use Rattle.chain_laws.proofs.Frees.{Leads, to_end, to_next, now_slot}
-use Rattle.chain_laws.proofs.Lists.{at_length}
+use Rattle.chain_core.specs.slot_laws.proofs.Numbers.{life-in, only-at}
+use Rattle.chain_core.specs.chain_laws.proofs.Frees.{Leads, to_end, to_next, now_slot}
+use Rattle.chain_core.specs.chain_laws.proofs.Lists.{at_length}
 use Rattle.chain_core.specs.sock_steps.proofs.Maps.{set_at, set_twice}
 use Rattle.chain_core.specs.sock_steps.proofs.Places.{own_count, holder_lives}
 use Rattle.chain_core.specs.sock_steps.proofs.RightSteps.{right_in, right_alone}

@@ -19,8 +19,8 @@ use Rattle.sock_model.specs.References.{uses_of, uses_link, sayers, spare, slot_
 use Rattle.sock_model.specs.Reads.{waits_link}
 use Rattle.sock_model.specs.Lawful.{Lawful}
 use Rattle.sock_model.specs.Rule.{Rule}
-use Rattle.slot_laws.proofs.Slots.{moved, few_with}
-use Rattle.slot_laws.proofs.Sums.{total-set, each_set}
+use Rattle.chain_core.specs.slot_laws.proofs.Slots.{moved, few_with}
+use Rattle.chain_core.specs.slot_laws.proofs.Sums.{total-set, each_set}
 use Rattle.chain_core.specs.sock_steps.proofs.Places.{counts}
 use Rattle.chain_core.specs.sock_steps.proofs.RuleFrame.{lasts_all, same_rule}
 use Rattle.chain_core.specs.sock_steps.proofs.SlotFrame.{still_holds, slot_frame}

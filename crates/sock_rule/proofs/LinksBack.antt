@@ -20,7 +20,7 @@ use Rattle.sock_model.specs.Seats.{IsBare}
 use Rattle.sock_model.specs.Layout.{place_word}
 use Rattle.sock_model.specs.Links.{Failed}
 use Rattle.sock_model.specs.Deliveries.{no_place, one_place}
-use Rattle.chain_laws.proofs.Settles.{all_placed}
+use Rattle.chain_core.specs.chain_laws.proofs.Settles.{all_placed}
 use Rattle.chain_core.specs.sock_steps.proofs.HandSteps.{link_value}
 use Rattle.chain_core.specs.sock_steps.proofs.Reseat.{closing_law}
 use Rattle.sock_rule.specs.OnTable.{OnTable}

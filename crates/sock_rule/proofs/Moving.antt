@@ -18,9 +18,9 @@ use Rattle.sock_model.specs.References.{slot_facts}
 use Rattle.sock_model.specs.Reads.{waits_of, carries, hands_of}
 use Rattle.sock_model.specs.SlotRows.{marks_of}
 use Rattle.sock_model.specs.ChainRows.{with_hand, without_hand, spent_hand}
-use Rattle.slot_laws.proofs.Numbers.{only-same}
-use Rattle.slot_laws.proofs.Slots.{recycled_le}
-use Rattle.slot_laws.proofs.Sums.{total_mono, term_le}
+use Rattle.chain_core.specs.slot_laws.proofs.Numbers.{only-same}
+use Rattle.chain_core.specs.slot_laws.proofs.Slots.{recycled_le}
+use Rattle.chain_core.specs.slot_laws.proofs.Sums.{total_mono, term_le}
 use Rattle.chain_core.specs.sock_steps.proofs.Places.{own_count}
 use Rattle.chain_core.specs.sock_steps.proofs.HandSteps.{take_last_law, put_hand_law, spend_law}
 use Rattle.chain_core.specs.sock_steps.proofs.RuleSteps.{take_rule, spend_rule, put_rule}

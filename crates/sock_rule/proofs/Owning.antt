@@ -18,7 +18,7 @@ use Rattle.sock_model.specs.Entries.{slot_of, generation_of}
 use Rattle.sock_model.specs.Layout.{ref_word, head_word, request_word, next_word, place_word}
 use Rattle.sock_model.specs.Memory.{IDLE, UNCONNECTED}
 use Rattle.sock_model.specs.Slots.{version_of}
-use Rattle.chain_laws.proofs.Frees.{Leads, to_end, to_next}
+use Rattle.chain_core.specs.chain_laws.proofs.Frees.{Leads, to_end, to_next}
 use Rattle.sock_rule.specs.Faults.{faults_of}
 use Rattle.sock_rule.specs.OnTable.{OnTable}
 use Rattle.sock_rule.specs.Seated.{IsSeat}

@@ -25,11 +25,11 @@ use Rattle.sock_model.specs.References.{uses_of, sayers, spare, slot_facts, Name
 use Rattle.sock_model.specs.Deliveries.{no_place, one_place}
 use Rattle.sock_model.specs.Lawful.{Lawful}
 use Rattle.sock_model.specs.Rule.{lists_of, Rule}
-use Rattle.chain_laws.proofs.Letters.{writes_room}
-use Rattle.chain_laws.proofs.Lists.{at_length, at_some}
-use Rattle.slot_laws.proofs.Numbers.{only-at, only-else, pair_only, pair_is, pair-at}
-use Rattle.slot_laws.proofs.Stored.{noted-else}
-use Rattle.slot_laws.proofs.Sums.{total-set, term_le}
+use Rattle.chain_core.specs.chain_laws.proofs.Letters.{writes_room}
+use Rattle.chain_core.specs.chain_laws.proofs.Lists.{at_length, at_some}
+use Rattle.chain_core.specs.slot_laws.proofs.Numbers.{only-at, only-else, pair_only, pair_is, pair-at}
+use Rattle.chain_core.specs.slot_laws.proofs.Stored.{noted-else}
+use Rattle.chain_core.specs.slot_laws.proofs.Sums.{total-set, term_le}
 use Rattle.chain_core.specs.sock_steps.proofs.Maps.{put, put-at, put-else, set_at, set_twice}
 use Rattle.chain_core.specs.sock_steps.proofs.RightSteps.{right_in, right_alone}
 use Rattle.chain_core.specs.sock_steps.proofs.RuleFrame.{lasts_all, same_rule}

@@ -21,13 +21,13 @@ use Rattle.sock_model.specs.Memory.{Memory}
 use Rattle.sock_model.specs.Tokens.{Tokens}
 use Rattle.sock_model.specs.Writing.{Counts, Held, InStage, OnWalk, Standing, absent, idle, busy}
 use Rattle.sock_model.specs.Lawful.{Lawful}
-use Rattle.chain_laws.proofs.Lists.{at_some, at_length, ticket_at_is}
-use Rattle.chain_laws.proofs.Frames.{in_size, live_same, chains_frame}
-use Rattle.chain_laws.proofs.Frees.{Leads, to_end, to_next}
-use Rattle.chain_laws.proofs.Gather.{gather_same}
-use Rattle.chain_laws.proofs.Claims.{free_of}
-use Rattle.chain_laws.proofs.Heads.{held_of, slot_is}
-use Rattle.chain_laws.proofs.Letters.{writes_room}
+use Rattle.chain_core.specs.chain_laws.proofs.Lists.{at_some, at_length, ticket_at_is}
+use Rattle.chain_core.specs.chain_laws.proofs.Frames.{in_size, live_same, chains_frame}
+use Rattle.chain_core.specs.chain_laws.proofs.Frees.{Leads, to_end, to_next}
+use Rattle.chain_core.specs.chain_laws.proofs.Gather.{gather_same}
+use Rattle.chain_core.specs.chain_laws.proofs.Claims.{free_of}
+use Rattle.chain_core.specs.chain_laws.proofs.Heads.{held_of, slot_is}
+use Rattle.chain_core.specs.chain_laws.proofs.Letters.{writes_room}
 use Rattle.chain_core.specs.sock_steps.proofs.Words.{beside_all}
 use Rattle.chain_core.specs.sock_steps.proofs.ChainFrame.{SameSlots}
 use Rattle.chain_core.specs.sock_steps.proofs.ClaimSteps.{rights_stay, other_base}

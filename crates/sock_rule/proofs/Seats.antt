@@ -17,9 +17,9 @@ use Rattle.sock_model.specs.Layout.{place_word}
 use Rattle.sock_model.specs.Reads.{carries, as_link, shown, link_at}
 use Rattle.sock_model.specs.Seats.{newcomer, carrier, earliest, later, joined, spent, first_view}
 use Rattle.sock_model.specs.Rule.{lists_of, Rule}
-use Rattle.chain_laws.proofs.Lists.{at_length}
-use Rattle.slot_laws.proofs.Sums.{total-set, total-append}
-use Rattle.slot_laws.proofs.Seats.{passes-left}
+use Rattle.chain_core.specs.chain_laws.proofs.Lists.{at_length}
+use Rattle.chain_core.specs.slot_laws.proofs.Sums.{total-set, total-append}
+use Rattle.chain_core.specs.slot_laws.proofs.Seats.{passes-left}
 use Rattle.chain_core.specs.sock_steps.proofs.Maps.{set_at, set_twice}
 use Rattle.chain_core.specs.sock_steps.proofs.Reseat.{opening_law}
 use Rattle.chain_core.specs.sock_steps.proofs.RuleSeats.{opening_rule, splitting_rule, joining_rule}

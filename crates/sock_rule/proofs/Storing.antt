@@ -17,10 +17,10 @@ use Rattle.sock_model.specs.Memory.{IDLE}
 use Rattle.sock_model.specs.References.{slot_facts, Names, Stores}
 use Rattle.sock_model.specs.SlotRows.{marks_of, linked, staged, coded, told_code, met, met_link}
 use Rattle.sock_model.specs.Rule.{Lasting, of_name, of_open, noting, Rule}
-use Rattle.slot_laws.proofs.Clauses.{link_held, code_stays}
-use Rattle.slot_laws.proofs.Numbers.{live_le}
-use Rattle.slot_laws.proofs.Slots.{recycled_le}
-use Rattle.slot_laws.proofs.Sums.{total_mono}
+use Rattle.chain_core.specs.slot_laws.proofs.Clauses.{link_held, code_stays}
+use Rattle.chain_core.specs.slot_laws.proofs.Numbers.{live_le}
+use Rattle.chain_core.specs.slot_laws.proofs.Slots.{recycled_le}
+use Rattle.chain_core.specs.slot_laws.proofs.Sums.{total_mono}
 use Rattle.atomic_table.proofs.Lists.{at_map}
 use Rattle.chain_core.specs.sock_steps.proofs.Places.{own_count}
 use Rattle.chain_core.specs.sock_steps.proofs.SlotSteps.{idle_law}

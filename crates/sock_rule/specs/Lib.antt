@@ -10,9 +10,6 @@ pub mod Becoming
 pub mod ChainPlays
 pub mod Sending
 pub mod Holding
-pub use Rattle.message_parts.specs.call_table
 pub use Rattle.message_parts
 pub use Rattle.ref_core
-pub use Rattle.slot_laws
-pub use Rattle.message_parts.specs.sock_io
-pub use Rattle.message_parts.specs.sock_programs
+pub use Rattle.chain_core.specs.slot_laws

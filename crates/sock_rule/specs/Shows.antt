@@ -1,6 +1,6 @@
 -- What a home shows of the value that it holds.
 use Rattle.std.specs.Prelude.{ℕ}
-use Rattle.message_parts.specs.sock_io.specs.declared.link.Out.{Ghosts}
+use Rattle.sock_io.specs.declared.link.Out.{Ghosts}
 use Rattle.message_parts.specs.Parcels.{parcel_of}
 use Rattle.sock_model.specs.declared.home.Home.{Home}
 use Rattle.sock_model.specs.declared.home.Home.TheVariants as home

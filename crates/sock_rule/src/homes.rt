@@ -1,13 +1,13 @@
 ghost use Rattle.std.specs.Prelude.{◌≡◌, ◌≢◌, ◌+◌, ◌<◌, ◌≤◌, ◌++◌, true, false, [], length};
 ghost use Rattle.std.specs.Option.{ForSome};
-ghost use Rattle.message_parts.specs.sock_io.specs.declared.link.Put.TheVariants.{Failed};
-ghost use Rattle.message_parts.specs.sock_io.specs.declared.link.Ready.TheVariants as ready;
-ghost use Rattle.message_parts.specs.sock_io.specs.Causes.{Rose};
-ghost use Rattle.message_parts.specs.sock_io.specs.Link.{taken_of, IsPutCount};
+ghost use Rattle.sock_io.specs.declared.link.Put.TheVariants.{Failed};
+ghost use Rattle.sock_io.specs.declared.link.Ready.TheVariants as ready;
+ghost use Rattle.sock_io.specs.Causes.{Rose};
+ghost use Rattle.sock_io.specs.Link.{taken_of, IsPutCount};
 
 use ghosts::Ghosts;
 use message_parts::Parcel;
-use message_parts::sock_io::{Out, Put, Ready};
+use sock_io::{Out, Put, Ready};
 use sock_words::Label;
 
 /// The writing half of a link, and how many of its messages have places. What it took stands beside it for the proofs,

@@ -11,7 +11,7 @@ ghost use Rattle.sock_rule.specs.Seated.{IsSeat};
 
 use crate::plays::{FindId, FindName, StoreId};
 use crate::table::{RuleTable, SockSeat};
-use message_parts::sock_io::Out;
+use sock_io::Out;
 use sock_words::SocketId;
 
 impl<O: Out> RuleTable<O> {

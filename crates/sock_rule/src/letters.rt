@@ -16,7 +16,7 @@ ghost use Rattle.sock_rule.specs.Sending.{Asked, Claims, OnTop, filled_for, MayS
 use crate::homes::{Letter, SockHome};
 use crate::plays::{ClaimRequest, Connect, FillHome, SwapHead, Unconnect};
 use crate::table::{RuleTable, SockSeat};
-use message_parts::sock_io::Out;
+use sock_io::Out;
 use sock_words::{Step, Ticket};
 
 impl<O: Out> RuleTable<O> {

@@ -12,7 +12,5 @@ mod stores;
 mod table;
 
 pub use homes::{Letter, LinkHome, SockHome};
-pub use message_parts;
-pub use message_parts::{call_table, sock_io, sock_message};
 pub use plays::SockRule;
 pub use table::{RuleTable, SockSeat};

@@ -13,7 +13,7 @@ ghost use Rattle.sock_rule.specs.Hands.{hand_of, Recycles};
 use crate::homes::{LinkHome, SockHome};
 use crate::plays::{PutLink, SpendPass, TakeLast};
 use crate::table::{RuleTable, SockSeat};
-use message_parts::sock_io::Out;
+use sock_io::Out;
 
 impl<O: Out> RuleTable<O> {
     /// L1 of whoever recycled slot `at`, of the link of the life that ended.

@@ -9,7 +9,7 @@ ghost use Rattle.sock_rule.specs.ChainPlays.{request_told, fill_told, ready_told
 
 use crate::homes::SockHome;
 use atomic_table::{Join, Play, Split, TableRule};
-use message_parts::sock_io::Out;
+use sock_io::Out;
 use sock_model::{Plan, View};
 
 pub struct SockRule;

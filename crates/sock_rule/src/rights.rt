@@ -20,7 +20,7 @@ use crate::plays::{
     TakeLetter, TakeOwn, TurnNext,
 };
 use crate::table::{RuleTable, SockSeat};
-use message_parts::sock_io::Out;
+use sock_io::Out;
 use sock_words::{PlaceWord, Step, Ticket};
 
 impl<O: Out> RuleTable<O> {

@@ -10,7 +10,7 @@ ghost use Rattle.sock_rule.specs.Plays.{WordFits};
 
 use crate::plays::{AddRef, ClaimSlot, FreeSlot, GiveBirth, LookWord, Recycle, SetOdd, SubRef};
 use crate::table::{RuleTable, SockSeat};
-use message_parts::sock_io::Out;
+use sock_io::Out;
 use sock_words::{Step, Vref};
 
 impl<O: Out> RuleTable<O> {

@@ -6,7 +6,7 @@ ghost use Rattle.sock_rule.specs.Seated.{IsSeat};
 
 use crate::plays::{MeetLast, MeetLink, ReadCode, ResetHead, StoreCode, StoreLink, WipeCode};
 use crate::table::{RuleTable, SockSeat};
-use message_parts::sock_io::Out;
+use sock_io::Out;
 
 impl<O: Out> RuleTable<O> {
     /// S1: the claimed slot gets the link of a pass, which is spent.

@@ -9,7 +9,7 @@ ghost use Rattle.sock_rule.specs.Seated.{IsNew, IsSeat, MayGive, giving, given, 
 use crate::homes::SockHome;
 use crate::plays::{Give, PassOut, SockRule, TakeIn};
 use atomic_table::{Refused, Seat, Table};
-use message_parts::sock_io::Out;
+use sock_io::Out;
 use sock_model::{Plan, View};
 use std::alloc::Global;
 

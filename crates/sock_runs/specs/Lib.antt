@@ -8,5 +8,6 @@ pub mod Sound
 pub mod Lasts
 pub use Rattle.sock_programs.specs.brpc_model
 pub use Rattle.sock_steps.specs.chain_laws
+pub use Rattle.sock_programs.specs.corr_core
 pub use Rattle.sock_steps.specs.slot_laws
 pub use Rattle.sock_steps

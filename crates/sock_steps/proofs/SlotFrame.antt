@@ -5,22 +5,22 @@ use mathlib.Core.Option.{Option, some, none}
 use lib.ListN.{get_elem?}
 use Rattle.atomic_table.specs.Table.{State}
 use Rattle.atomic_table.proofs.Lists.{at_set}
-use Rattle.sock_model.specs.declared.chain.Right.{Right}
-use Rattle.sock_model.specs.declared.chain.Claim.{Claim}
-use Rattle.sock_model.specs.declared.chain.Loose.{Loose}
-use Rattle.sock_model.specs.declared.home.Home.{Home}
-use Rattle.sock_model.specs.sock_words.specs.declared.plain.Plan.{Plan}
-use Rattle.sock_model.specs.declared.view.View.{View}
-use Rattle.sock_model.specs.Weights.{total, is_reset, is_recycled, is_hold, is_met}
-use Rattle.sock_model.specs.Layout.{head_word, request_word, next_word, place_word}
-use Rattle.sock_model.specs.Slots.{count}
-use Rattle.sock_model.specs.References.{slot_facts, References}
-use Rattle.sock_model.specs.SlotRows.{marks_of}
-use Rattle.sock_model.specs.Memory.{IDLE}
-use Rattle.sock_model.specs.Reads.{head_at, rights_on, claims_of, loose_at, tokens, message, waits_of, carries, hands_of}
-use Rattle.sock_model.specs.Links.{HoldsRights, Failed, InSlots}
-use Rattle.sock_model.specs.Homes.{Unborn, Recycles, LinkHomes}
-use Rattle.sock_model.specs.Lawful.{Lawful}
+use Rattle.slot_laws.specs.sock_model.specs.declared.chain.Right.{Right}
+use Rattle.slot_laws.specs.sock_model.specs.declared.chain.Claim.{Claim}
+use Rattle.slot_laws.specs.sock_model.specs.declared.chain.Loose.{Loose}
+use Rattle.slot_laws.specs.sock_model.specs.declared.home.Home.{Home}
+use Rattle.slot_laws.specs.sock_words.specs.declared.plain.Plan.{Plan}
+use Rattle.slot_laws.specs.sock_model.specs.declared.view.View.{View}
+use Rattle.slot_laws.specs.sock_model.specs.Weights.{total, is_reset, is_recycled, is_hold, is_met}
+use Rattle.slot_laws.specs.sock_model.specs.Layout.{head_word, request_word, next_word, place_word}
+use Rattle.slot_laws.specs.sock_model.specs.Slots.{count}
+use Rattle.slot_laws.specs.sock_model.specs.References.{slot_facts, References}
+use Rattle.slot_laws.specs.sock_model.specs.SlotRows.{marks_of}
+use Rattle.slot_laws.specs.sock_model.specs.Memory.{IDLE}
+use Rattle.slot_laws.specs.sock_model.specs.Reads.{head_at, rights_on, claims_of, loose_at, tokens, message, waits_of, carries, hands_of}
+use Rattle.slot_laws.specs.sock_model.specs.Links.{HoldsRights, Failed, InSlots}
+use Rattle.slot_laws.specs.sock_model.specs.Homes.{Unborn, Recycles, LinkHomes}
+use Rattle.slot_laws.specs.sock_model.specs.Lawful.{Lawful}
 use Rattle.slot_laws.proofs.Sums.{total-set}
 use Rattle.chain_laws.proofs.Frames.{chains_frame}
 use Rattle.chain_laws.proofs.Gather.{gather_same}

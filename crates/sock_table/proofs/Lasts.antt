@@ -11,7 +11,7 @@ use Rattle.sock_words.specs.declared.plain.Plan.{Plan}
 use Rattle.std.specs.Prelude.{slice_index}
 use Rattle.std.specs.List.{flat_map}
 use Rattle.std.specs.Option.{ForSome}
-use Rattle.sock_rule.specs.sock_io.specs.declared.link.Out.{Ghosts}
+use Rattle.sock_io.specs.declared.link.Out.{Ghosts}
 use Rattle.sock_words.specs.declared.vref.Vref.{Vref}
 use Rattle.sock_words.specs.declared.place_word.PlaceWord.{PlaceWord}
 use Rattle.sock_model.specs.declared.home.Home.TheVariants as home

@@ -15,8 +15,8 @@ use Rattle.sock_rule.specs.Seated.{IsSeat, IsDone}
 use Rattle.sock_rule.specs.Closing.{IsAtRest, Closing, Ordered, PlaceOf, IsDropTold, LinkTook}
 use Rattle.std.specs.Prelude.{slice_index}
 use Rattle.std.specs.Option.{ForSome}
-use Rattle.sock_rule.specs.sock_io.specs.declared.link.Out.{Ghosts}
-use Rattle.sock_rule.specs.sock_io.specs.Link.{OutState}
+use Rattle.sock_io.specs.declared.link.Out.{Ghosts}
+use Rattle.sock_io.specs.Link.{OutState}
 use Rattle.sock_model.specs.declared.chain.Entry.{Entry}
 use Rattle.sock_table.specs.declared.closing.Closed.{Closed}
 use Rattle.sock_rule.specs.declared.homes.LinkHome.{LinkHome}

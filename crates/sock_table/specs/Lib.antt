@@ -3,9 +3,4 @@ pub mod Answers
 pub mod Passes
 pub mod Named
 pub mod Closed
-pub use Rattle.sock_rule.specs.call_table
-pub use Rattle.sock_rule.specs.message_parts
 pub use Rattle.sock_rule.specs.slot_laws
-pub use Rattle.sock_rule.specs.sock_io
-pub use Rattle.sock_rule.specs.sock_programs
-pub use Rattle.sock_rule

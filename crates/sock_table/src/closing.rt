@@ -11,7 +11,7 @@ ghost use Rattle.sock_table.specs.Closed.{AllDone, IsDoneSeat, WordsAre, AreLink
 
 use crate::table::SockTable;
 use atomic_table::Closed as ClosedTable;
-use sock_rule::sock_io::Out;
+use sock_io::Out;
 use sock_rule::{LinkHome, RuleTable, SockHome, SockSeat};
 use sock_words::{PlaceWord, Plan, Vref};
 use std::alloc::{AllocError, Global};

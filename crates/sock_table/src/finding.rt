@@ -8,8 +8,8 @@ ghost use Rattle.sock_table.specs.Refs.{IsBetween, SameTokens, Knows};
 ghost use Rattle.sock_table.specs.Named.{Found, NotedBy, NotedAs};
 
 use crate::table::SockTable;
+use sock_io::Out;
 use sock_rule::SockSeat;
-use sock_rule::sock_io::Out;
 use sock_words::SocketId;
 
 /// What is noted for an operation.

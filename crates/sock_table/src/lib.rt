@@ -11,6 +11,4 @@ pub use closing::{Closed, NotClosed, rooms};
 pub use finding::Noted;
 pub use passes::{CreateFull, LinkPass};
 pub use refs::{Already, Gone, Look, Released, SockRef};
-pub use sock_rule;
-pub use sock_rule::{call_table, message_parts, sock_io, sock_message};
 pub use table::SockTable;

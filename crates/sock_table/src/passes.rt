@@ -10,8 +10,8 @@ ghost use Rattle.sock_table.specs.Closed.{IsDoneSeat};
 ghost use Rattle.sock_model.specs.Seats.{joined};
 
 use crate::table::SockTable;
+use sock_io::Out;
 use sock_rule::SockSeat;
-use sock_rule::sock_io::Out;
 use sock_words::{SocketId, Vref};
 
 /// The right to make one socket of a link. It is a seat that has nothing but this pass.

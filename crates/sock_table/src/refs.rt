@@ -12,8 +12,8 @@ ghost use Rattle.sock_table.specs.Refs.{IsBetween, Rests, EndedBy, GaveBack, May
 ghost use Rattle.sock_table.specs.Answers.{is_freed, IfLive, NoneLater, Holds, Held, GoneFrom, LookedAt, LinkOf, CodeOf, FailedBy, FoundFailed};
 
 use crate::table::SockTable;
+use sock_io::Out;
 use sock_rule::SockSeat;
-use sock_rule::sock_io::Out;
 use sock_words::{SocketId, Vref};
 
 /// The last version with which a slot is given again.

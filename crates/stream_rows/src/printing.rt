@@ -70,11 +70,8 @@ fn holds_no_line_back(rt: HostRuntime) -> Result<(), Fail> {
         reads: 0,
     };
     let mut out = Counter { taken };
-    assert_eq!(rt;
-        print_frames(alloc, &mut source, &mut out),
-        Ok(StreamEnd::Rest)
-    );
-    assert_eq!(rt; source.seen, [0, LINE, 3 * LINE, 0]);
-    assert_eq!(rt; source.reads, 3);
+    assert!(rt; print_frames(alloc, &mut source, &mut out) == Ok(StreamEnd::Rest));
+    assert!(rt; source.seen == [0, LINE, 3 * LINE, 0]);
+    assert!(rt; source.reads == 3);
     Ok(())
 }

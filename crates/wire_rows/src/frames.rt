@@ -1,14 +1,8 @@
 //! Frames, and what a server answers to them.
-ghost use Rattle.std.specs.Prelude.{◌≡◌, ◌≤◌, pos, length, IfOk};
-ghost use Rattle.brpc_model.specs.Spelling.{meta_bytes};
-ghost use Rattle.rpc_meta.specs.Meaning.{meaning};
-ghost use Rattle.rpc_meta.specs.Writing.{HasPart};
-
 use crate::metas::{digits, meta_text};
 use frame_print::print_frames;
 use io_buf::{BlockPool, IoBuf};
-use prpc_frame::{Cutter, Frame, RpcMeta, encode};
-use rpc_meta::{MetaBytes, RequestMeta};
+use prpc_frame::{Cutter, Frame};
 use rpc_server::Conn;
 use sock_io::{MemSink, MemSource};
 use std::alloc::{AllocError, Global};
@@ -66,49 +60,6 @@ pub fn fed_again(alloc: Global, bytes: &[u8]) -> Result<String, AllocError> {
     let is_fed_again = cutter.feed(&mut pool, bytes).is_ok();
     let held = cutter.held();
     format!(in alloc; "fed {is_fed} {is_fed_again} held {held}")
-}
-
-/// The meta of request 2 of the service and the method Echo.
-fn echo_meta(alloc: Global) -> Result<RpcMeta, AllocError>
-    ensures sized { IfOk result (λ meta. meta.attachment_size ≡ pos 0) }
-    ensures part { IfOk result (λ meta. HasPart (meaning meta)) }
-    ensures small { IfOk result (λ meta. length (meta_bytes (meaning meta)) ≤ 88) }
-{
-    let request = RequestMeta {
-        service: MetaBytes::copy(alloc, b"Echo")?,
-        method: MetaBytes::copy(alloc, b"Echo")?,
-        log_id: None,
-    };
-    Ok(RpcMeta {
-        request: Some(request),
-        response: None,
-        compress_type: 0,
-        correlation_id: 2,
-        attachment_size: 0,
-    })
-}
-
-/// That request's frame with the payload "hi".
-fn echo_frame(alloc: Global, meta: &RpcMeta) -> Result<String, AllocError>
-    requires sized { meta.now.attachment_size ≡ pos 0 }
-    requires part { HasPart (meaning meta.now) }
-    requires small { length (meta_bytes (meaning meta.now)) ≤ 88 }
-{
-    let mut pool = BlockPool::new(alloc);
-    let mut payload = IoBuf::new(alloc);
-    if payload.append_bytes(&mut pool, b"hi").is_err() {
-        return Err(AllocError);
-    }
-    let attachment = IoBuf::new(alloc);
-    match encode(alloc, &mut pool, meta, &payload, &attachment) {
-        Ok(frame) => text_of(alloc, &frame),
-        Err(_) => Err(AllocError),
-    }
-}
-
-pub fn encoded(alloc: Global) -> Result<String, AllocError> {
-    let meta = echo_meta(alloc)?;
-    echo_frame(alloc, &meta)
 }
 
 /// What a server's connection answers to the bytes, and how many replies that are, with each piece's fault before.

@@ -1,5 +1,5 @@
 //! What a row asks.
-use crate::frames::{cut, encoded, fed_again, printed, served};
+use crate::frames::{cut, fed_again, printed, served};
 use crate::metas::meta_said;
 use crate::wires::{fields_said, varint_said, within_said, written};
 use std::alloc::{AllocError, Global};
@@ -24,7 +24,6 @@ pub fn answer(alloc: Global, row: &str) -> Result<String, AllocError> {
         "within" => within_said(alloc, bytes_of(alloc, rest).as_slice()),
         "meta" => meta_said(alloc, bytes_of(alloc, rest).as_slice()),
         "again" => fed_again(alloc, bytes_of(alloc, rest).as_slice()),
-        "encode" => encoded(alloc),
         "print" => printed(alloc, bytes_of(alloc, rest), 200),
         "full" => printed(alloc, bytes_of(alloc, rest), 0),
         _ => pieces_said(alloc, row, word, rest),

@@ -20,11 +20,11 @@ use Rattle.sock_model.specs.SlotRows.{marks_of, met_link}
 use Rattle.sock_model.specs.ChainRows.{with_claim, ready_claim, queued, righted, new_right, without_loose, more, entry_of}
 use Rattle.sock_open.specs.slot_laws.proofs.Numbers.{pair-same}
 use Rattle.sock_open.specs.slot_laws.proofs.Sums.{about-here}
-use Rattle.sock_open.specs.sock_rule.specs.Becoming.{Became}
-use Rattle.sock_open.specs.sock_rule.specs.Sending.{MaySwap, filled_for}
-use Rattle.sock_open.specs.sock_rule.proofs.Becoming.{adds_mark, becomes}
-use Rattle.sock_open.specs.sock_table.specs.Named.{HasSeen}
-use Rattle.sock_open.specs.sock_table.specs.Answers.{Holds}
+use Rattle.sock_rule.specs.Becoming.{Became}
+use Rattle.sock_rule.specs.Sending.{MaySwap, filled_for}
+use Rattle.sock_rule.proofs.Becoming.{adds_mark, becomes}
+use Rattle.sock_table.specs.Named.{HasSeen}
+use Rattle.sock_table.specs.Answers.{Holds}
 use Rattle.write_chain.specs.Sending.{HasRoom, MaySend, Accepted, IsFirst, FoundTaken}
 
 -- a seat that held the life of the id claims request `at`, and comes by the views a and b to the exchange
@@ -188,7 +188,7 @@ accepted_after p id at heading bytes c v w x a k = record {
   stores = k.stores ∙ ap (λ (y : View). y.stores) a.others;
 }
 
-pub started_after : {O : Type 0} {g : Ghosts O} (p : Plan) (sock : Rattle.sock_open.specs.sock_table.specs.declared.refs.SockRef.SockRef) (at : ℕ) (heading : Heading) (bytes : List ℕ) (c : Claim) (s : Rattle.write_chain.specs.declared.entry.Started.Started O g) (v w u x : View)
+pub started_after : {O : Type 0} {g : Ghosts O} (p : Plan) (sock : Rattle.sock_table.specs.declared.refs.SockRef.SockRef) (at : ℕ) (heading : Heading) (bytes : List ℕ) (c : Claim) (s : Rattle.write_chain.specs.declared.entry.Started.Started O g) (v w u x : View)
     → Asking p sock.id.0 at v w → u ≡ with_claim w c → Rattle.write_chain.specs.Sending.StartedWith [] p sock heading bytes s u x → Rattle.write_chain.specs.Sending.StartedBy p sock heading bytes s v x
 unfolding accepted_after
 started_after p sock at heading bytes c (Rattle.write_chain.specs.declared.entry.Started.TheVariants.Queued r) v w u x a e (is, k, rights) = (is, accepted_after p sock.id.0 at heading bytes c v w x a (subst (λ (y : View). Accepted [] p sock.id.0 heading bytes y x) e k), rights)

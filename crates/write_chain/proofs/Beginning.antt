@@ -11,11 +11,11 @@ use Rattle.sock_model.specs.declared.view.View.{View}
 use Rattle.sock_model.specs.Weights.{is_ref, is_hold, is_met}
 use Rattle.sock_model.specs.SlotRows.{marks_of}
 use Rattle.sock_open.specs.slot_laws.proofs.Numbers.{pair-same}
-use Rattle.sock_open.specs.sock_rule.specs.declared.homes.SockHome.{SockHome}
-use Rattle.sock_open.specs.sock_table.specs.Refs.{IsBetween, Rests}
-use Rattle.sock_open.specs.sock_table.specs.Answers.{Holds}
-use Rattle.sock_open.specs.sock_table.specs.declared.refs.SockRef.{SockRef}
-use Rattle.sock_open.specs.sock_table.proofs.Quiet.{between, rests_between}
+use Rattle.sock_rule.specs.declared.homes.SockHome.{SockHome}
+use Rattle.sock_table.specs.Refs.{IsBetween, Rests}
+use Rattle.sock_table.specs.Answers.{Holds}
+use Rattle.sock_table.specs.declared.refs.SockRef.{SockRef}
+use Rattle.sock_table.proofs.Quiet.{between, rests_between}
 use Rattle.write_chain.specs.declared.entry.Started.{Started}
 use Rattle.write_chain.specs.declared.entry.Started.TheVariants as started
 use Rattle.write_chain.specs.Sending.{Accepted, StartedBy}

@@ -12,9 +12,9 @@ use Rattle.sock_model.specs.Marks.{about}
 use Rattle.sock_model.specs.Weights.{total, is_saw, is_told}
 use Rattle.sock_model.specs.SlotRows.{marks_of}
 use Rattle.sock_open.specs.slot_laws.proofs.Numbers.{pair-same}
-use Rattle.sock_open.specs.sock_rule.specs.Becoming.{Became}
-use Rattle.sock_open.specs.sock_rule.proofs.Becoming.{stays}
-use Rattle.sock_open.specs.sock_table.specs.Answers.{CodeOf}
+use Rattle.sock_rule.specs.Becoming.{Became}
+use Rattle.sock_rule.proofs.Becoming.{stays}
+use Rattle.sock_table.specs.Answers.{CodeOf}
 use Rattle.write_chain.specs.Noting.{saw, told, nothing, finding, Wrote, WroteDrop}
 use Rattle.write_chain.specs.Writing.{FoundDead}
 use Rattle.write_chain.specs.Keeping.{IsCode, IsDropped, LeavesMore}

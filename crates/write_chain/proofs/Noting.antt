@@ -13,9 +13,9 @@ use Rattle.sock_model.specs.Layout.{place_word}
 use Rattle.sock_model.specs.Deliveries.{place_value}
 use Rattle.sock_model.specs.Marks.{noted}
 use Rattle.sock_model.specs.SlotRows.{marks_of, wrote}
-use Rattle.sock_open.specs.sock_rule.specs.Becoming.{Became}
-use Rattle.sock_open.specs.sock_rule.proofs.Becoming.{then_, stays}
-use Rattle.sock_open.specs.sock_table.proofs.Quiet.{IsQuiet}
+use Rattle.sock_rule.specs.Becoming.{Became}
+use Rattle.sock_rule.proofs.Becoming.{then_, stays}
+use Rattle.sock_table.proofs.Quiet.{IsQuiet}
 use Rattle.write_chain.specs.Noting.{IsFinding, saw, met, told, faulted, Noted, nothing, finding, failing, Met_by, Wrote, WroteDrop}
 
 finding_quiet : {h : ℕ} (m : Mark) → IsFinding h m → IsQuiet (m ∷ []) × (is_ref m ≡ 0)

@@ -19,20 +19,20 @@ use Rattle.sock_model.specs.Links.{HoldsLink}
 use Rattle.sock_model.specs.Weights.{is_ref, is_hold, is_met}
 use Rattle.sock_model.specs.SlotRows.{met_link, wrote}
 use Rattle.sock_model.specs.ChainRows.{with_right, without_right, taken_right, placed_right, dropped_right, passing_right, freed_stage, freed_right, walking_right, reading_right, turned_right}
-use Rattle.sock_open.specs.message_parts.specs.Parcels.{parcel_of, outgoing_of}
-use Rattle.sock_open.specs.sock_rule.specs.Becoming.{Became}
-use Rattle.sock_open.specs.sock_rule.specs.Faults.{faults_of, fault_found}
-use Rattle.sock_open.specs.sock_rule.specs.Holding.{Part, Follows, ends, goes_on, MayFreeRequest, MayLookToWrite, MayEmptyHead}
-use Rattle.sock_open.specs.sock_rule.specs.ChainPlays.{IsTicket}
-use Rattle.sock_open.specs.sock_rule.specs.declared.homes.LinkHome.{LinkHome}
-use Rattle.sock_open.specs.sock_rule.specs.declared.homes.Letter.{Letter}
-use Rattle.sock_open.specs.sock_rule.specs.declared.homes.SockHome.{SockHome}
-use Rattle.sock_open.specs.sock_rule.specs.declared.homes.SockHome.TheVariants.{Empty}
-use Rattle.sock_open.specs.sock_rule.specs.Shows.{heading_of}
-use Rattle.sock_open.specs.sock_rule.proofs.Holding.{one_right}
-use Rattle.sock_open.specs.sock_rule.proofs.Becoming.{met_marks}
-use Rattle.sock_open.specs.sock_table.proofs.Ending.{noted_taken}
-use Rattle.sock_open.specs.sock_table.proofs.Quiet.{rests_on, rests_between}
+use Rattle.message_parts.specs.Parcels.{parcel_of, outgoing_of}
+use Rattle.sock_rule.specs.Becoming.{Became}
+use Rattle.sock_rule.specs.Faults.{faults_of, fault_found}
+use Rattle.sock_rule.specs.Holding.{Part, Follows, ends, goes_on, MayFreeRequest, MayLookToWrite, MayEmptyHead}
+use Rattle.sock_rule.specs.ChainPlays.{IsTicket}
+use Rattle.sock_rule.specs.declared.homes.LinkHome.{LinkHome}
+use Rattle.sock_rule.specs.declared.homes.Letter.{Letter}
+use Rattle.sock_rule.specs.declared.homes.SockHome.{SockHome}
+use Rattle.sock_rule.specs.declared.homes.SockHome.TheVariants.{Empty}
+use Rattle.sock_rule.specs.Shows.{heading_of}
+use Rattle.sock_rule.proofs.Holding.{one_right}
+use Rattle.sock_rule.proofs.Becoming.{met_marks}
+use Rattle.sock_table.proofs.Ending.{noted_taken}
+use Rattle.sock_table.proofs.Quiet.{rests_on, rests_between}
 use Rattle.write_chain.specs.declared.right.InHand.{InHand}
 use Rattle.write_chain.specs.declared.right.LinkInHand.{LinkInHand}
 use Rattle.write_chain.specs.Noting.{met, Noted, Wrote}

@@ -18,18 +18,18 @@ use Rattle.sock_model.specs.declared.view.View.{View}
 use Rattle.sock_model.specs.SlotRows.{marks_of}
 use Rattle.sock_model.specs.Weights.{total, only, is_ref, is_hold, is_known}
 use Rattle.sock_open.specs.slot_laws.proofs.Numbers.{only-at, only-else, only-same}
-use Rattle.sock_open.specs.sock_rule.specs.Becoming.{Became}
-use Rattle.sock_open.specs.sock_rule.specs.Seated.{IsSeat}
-use Rattle.sock_open.specs.sock_table.specs.Answers.{Holds, Held, GoneFrom}
-use Rattle.sock_open.specs.sock_table.specs.Closed.{AllDone, IsDoneSeat}
-use Rattle.sock_open.specs.sock_table.specs.Refs.{IsBetween, GaveBack, SameTokens, Knows}
-use Rattle.sock_open.specs.sock_table.proofs.Quiet.{saw_between}
+use Rattle.sock_rule.specs.Becoming.{Became}
+use Rattle.sock_rule.specs.Seated.{IsSeat}
+use Rattle.sock_table.specs.Answers.{Holds, Held, GoneFrom}
+use Rattle.sock_table.specs.Closed.{AllDone, IsDoneSeat}
+use Rattle.sock_table.specs.Refs.{IsBetween, GaveBack, SameTokens, Knows}
+use Rattle.sock_table.proofs.Quiet.{saw_between}
 use Rattle.sock_open.proofs.Testing.{kept_done, ended_refs, gone_same, known_by}
 use Rattle.sock_open.specs.Made.{IsNewSeat}
 use Rattle.sock_open.specs.Opening.{AreFresh}
 use Rattle.sock_open.proofs.Making.{new_view, new_done}
 use Rattle.sock_open.proofs.Racing.{stored_done, stored_known}
-use Rattle.sock_open.specs.sock_rule.specs.Rows.{PutAt}
+use Rattle.sock_rule.specs.Rows.{PutAt}
 use Rattle.write_chain.specs.Noting.{Wrote, WroteDrop}
 use Rattle.write_chain.specs.Sending.{HasRoom, Accepted, StartedBy, RefusedBy}
 use Rattle.write_chain.specs.Writing.{GaveUp}
@@ -39,8 +39,8 @@ use Rattle.write_chain.specs.declared.entry.Started.TheVariants as started
 use Rattle.write_chain.specs.declared.entry.Refused.{Refused}
 use Rattle.write_chain.specs.declared.entry.Refused.TheVariants as refused
 use Rattle.sock_io.specs.declared.link.Out.{Ghosts}
-use Rattle.sock_open.specs.sock_rule.specs.declared.homes.Letter.{Letter}
-use Rattle.sock_open.specs.sock_table.specs.declared.refs.SockRef.{SockRef}
+use Rattle.sock_rule.specs.declared.homes.Letter.{Letter}
+use Rattle.sock_table.specs.declared.refs.SockRef.{SockRef}
 use Rattle.write_chain.proofs.Noting.{noted_quiet}
 
 -- marks of one slot come and go; no known life is forgotten

@@ -8,8 +8,8 @@ use Rattle.sock_words.specs.Words.{socket_id_version, socket_id_slot}
 use Rattle.sock_model.specs.declared.view.View.{View}
 use Rattle.sock_model.specs.Weights.{is_told}
 use Rattle.sock_model.specs.SlotRows.{marks_of}
-use Rattle.sock_open.specs.sock_rule.specs.declared.homes.SockHome.{SockHome}
-use Rattle.sock_open.specs.sock_table.specs.declared.refs.SockRef.{SockRef}
+use Rattle.sock_rule.specs.declared.homes.SockHome.{SockHome}
+use Rattle.sock_table.specs.declared.refs.SockRef.{SockRef}
 use Rattle.write_chain.specs.declared.keep.Went.{Went}
 use Rattle.write_chain.specs.declared.keep.Went.TheVariants as went
 use Rattle.write_chain.specs.declared.keep.Kept.{Kept}

@@ -4,10 +4,6 @@ pub mod Writing
 pub mod Keeping
 pub mod Puts
 pub mod Ready
-pub use Rattle.sock_open.specs.call_table
-pub use Rattle.sock_open.specs.message_parts
+pub use Rattle.message_parts
 pub use Rattle.sock_open.specs.slot_laws
-pub use Rattle.sock_io
 pub use Rattle.sock_open
-pub use Rattle.sock_open.specs.sock_rule
-pub use Rattle.sock_open.specs.sock_table

@@ -13,8 +13,8 @@ use Rattle.sock_model.specs.Layout.{place_word}
 use Rattle.sock_model.specs.Deliveries.{place_value}
 use Rattle.sock_model.specs.Marks.{noted}
 use Rattle.sock_model.specs.SlotRows.{marks_of}
-use Rattle.sock_open.specs.sock_rule.specs.Becoming.{Became}
-use Rattle.sock_open.specs.sock_rule.specs.Faults.{fault}
+use Rattle.sock_rule.specs.Becoming.{Became}
+use Rattle.sock_rule.specs.Faults.{fault}
 
 -- a version of the slot, the link of the life h, its code, or that the half of a link has a fault
 pub data IsFinding (h : ℕ) : Mark → Type 0 where

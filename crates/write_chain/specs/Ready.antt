@@ -8,9 +8,9 @@ use Rattle.sock_words.specs.Words.{socket_id_slot}
 use Rattle.sock_model.specs.declared.view.View.{View}
 use Rattle.sock_model.specs.SlotRows.{marks_of}
 use Rattle.sock_model.specs.Weights.{only, is_ref}
-use Rattle.sock_open.specs.sock_table.specs.Closed.{IsDoneSeat}
-use Rattle.sock_open.specs.sock_table.specs.Refs.{Knows}
-use Rattle.sock_open.specs.sock_table.specs.declared.refs.SockRef.{SockRef}
+use Rattle.sock_table.specs.Closed.{IsDoneSeat}
+use Rattle.sock_table.specs.Refs.{Knows}
+use Rattle.sock_table.specs.declared.refs.SockRef.{SockRef}
 use Rattle.write_chain.specs.Sending.{HasRoom}
 use Rattle.write_chain.specs.declared.entry.Started.{Started}
 use Rattle.write_chain.specs.declared.entry.Started.TheVariants as started

@@ -15,17 +15,17 @@ use Rattle.sock_model.specs.declared.view.View.{View}
 use Rattle.sock_model.specs.Layout.{request_word}
 use Rattle.sock_model.specs.ChainRows.{more}
 use Rattle.sock_model.specs.Rule.{MOST_ACCEPTED}
-use Rattle.sock_open.specs.sock_rule.specs.Becoming.{Became}
-use Rattle.sock_open.specs.sock_rule.specs.ChainPlays.{IsTicket}
-use Rattle.sock_open.specs.sock_table.specs.Named.{HasSeen}
-use Rattle.sock_open.specs.sock_table.specs.Refs.{IsBetween}
+use Rattle.sock_rule.specs.Becoming.{Became}
+use Rattle.sock_rule.specs.ChainPlays.{IsTicket}
+use Rattle.sock_table.specs.Named.{HasSeen}
+use Rattle.sock_table.specs.Refs.{IsBetween}
 use Rattle.write_chain.specs.declared.entry.Started.{Started}
 use Rattle.write_chain.specs.declared.entry.Started.TheVariants as started
 use Rattle.write_chain.specs.declared.entry.Refused.{Refused}
 use Rattle.write_chain.specs.declared.entry.Refused.TheVariants as refused
 use Rattle.write_chain.specs.declared.right.Doing.TheVariants.{First}
-use Rattle.sock_open.specs.sock_table.specs.declared.refs.SockRef.{SockRef}
-use Rattle.sock_open.specs.sock_rule.specs.declared.homes.Letter.{Letter}
+use Rattle.sock_table.specs.declared.refs.SockRef.{SockRef}
+use Rattle.sock_rule.specs.declared.homes.Letter.{Letter}
 
 -- its own list of accepted messages stands first, and has room
 pub record HasRoom (v : View) : Type 0 where

@@ -12,15 +12,15 @@ use Rattle.sock_model.specs.Entries.{slot_of}
 use Rattle.sock_model.specs.Links.{HoldsLink}
 use Rattle.sock_model.specs.Weights.{is_ref, is_saw}
 use Rattle.sock_model.specs.SlotRows.{marks_of}
-use Rattle.sock_open.specs.message_parts.specs.Parcels.{outgoing_of}
-use Rattle.sock_open.specs.sock_rule.specs.Faults.{faults_of}
-use Rattle.sock_open.specs.sock_rule.specs.Holding.{Rights}
-use Rattle.sock_open.specs.sock_rule.specs.ChainPlays.{IsTicket}
-use Rattle.sock_open.specs.sock_rule.specs.declared.homes.LinkHome.{LinkHome}
-use Rattle.sock_open.specs.sock_rule.specs.declared.homes.SockHome.{SockHome}
-use Rattle.sock_open.specs.sock_rule.specs.declared.homes.SockHome.TheVariants.{Empty}
-use Rattle.sock_open.specs.sock_table.specs.Refs.{IsBetween, Rests}
-use Rattle.sock_open.specs.sock_table.specs.Answers.{Holds}
+use Rattle.message_parts.specs.Parcels.{outgoing_of}
+use Rattle.sock_rule.specs.Faults.{faults_of}
+use Rattle.sock_rule.specs.Holding.{Rights}
+use Rattle.sock_rule.specs.ChainPlays.{IsTicket}
+use Rattle.sock_rule.specs.declared.homes.LinkHome.{LinkHome}
+use Rattle.sock_rule.specs.declared.homes.SockHome.{SockHome}
+use Rattle.sock_rule.specs.declared.homes.SockHome.TheVariants.{Empty}
+use Rattle.sock_table.specs.Refs.{IsBetween, Rests}
+use Rattle.sock_table.specs.Answers.{Holds}
 use Rattle.write_chain.specs.declared.right.WriteRight.{WriteRight}
 use Rattle.write_chain.specs.declared.right.InHand.{InHand}
 use Rattle.write_chain.specs.declared.right.LinkInHand.{LinkInHand}
@@ -31,7 +31,7 @@ use Rattle.write_chain.specs.declared.hold.Once.{Once}
 use Rattle.write_chain.specs.declared.hold.Once.TheVariants as once
 use Rattle.write_chain.specs.declared.hold.Tried.{Tried}
 use Rattle.write_chain.specs.declared.hold.Tried.TheVariants as tried
-use Rattle.sock_open.specs.sock_table.specs.declared.refs.SockRef.{SockRef}
+use Rattle.sock_table.specs.declared.refs.SockRef.{SockRef}
 use Rattle.write_chain.specs.declared.entry.Started.{Started}
 use Rattle.write_chain.specs.declared.entry.Started.TheVariants as started
 

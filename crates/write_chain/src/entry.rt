@@ -5,18 +5,18 @@ ghost use Rattle.sock_model.specs.declared.chain.Claim.{Claim};
 ghost use Rattle.sock_model.specs.Weights.{is_ref};
 ghost use Rattle.sock_model.specs.SlotRows.{marks_of};
 ghost use Rattle.atomic_table.specs.Table.{rest};
-ghost use Rattle.sock_open.specs.message_parts.specs.Parcels.{parcel_of};
-ghost use Rattle.sock_open.specs.sock_rule.specs.Seated.{IsSeat};
-ghost use Rattle.sock_open.specs.sock_rule.specs.Shows.{heading_of};
-ghost use Rattle.sock_open.specs.sock_rule.specs.Sending.{Claims, OnTop};
-ghost use Rattle.sock_open.specs.sock_table.specs.Answers.{Holds};
+ghost use Rattle.message_parts.specs.Parcels.{parcel_of};
+ghost use Rattle.sock_rule.specs.Seated.{IsSeat};
+ghost use Rattle.sock_rule.specs.Shows.{heading_of};
+ghost use Rattle.sock_rule.specs.Sending.{Claims, OnTop};
+ghost use Rattle.sock_table.specs.Answers.{Holds};
 ghost use Rattle.write_chain.specs.Sending.{HasRoom, MaySend, StartedWith, StartedBy, RefusedBy};
 ghost use Rattle.write_chain.specs.Writing.{Begins};
 
 use crate::right::{Doing, WriteRight};
 use sock_io::Out;
-use sock_open::sock_rule::{Letter, SockSeat};
-use sock_open::sock_table::{Look, SockRef, SockTable};
+use sock_rule::{Letter, SockSeat};
+use sock_table::{Look, SockRef, SockTable};
 use sock_words::{Ticket, Vref};
 
 /// A head from here on is idle.

@@ -7,18 +7,18 @@ ghost use Rattle.sock_model.specs.declared.chain.Stage.{Stage};
 ghost use Rattle.sock_model.specs.declared.chain.Stage.TheVariants.{Writes, Placed, Empties};
 ghost use Rattle.sock_model.specs.ChainRows.{with_right, freed_right};
 ghost use Rattle.sock_model.specs.Entries.{slot_of};
-ghost use Rattle.sock_open.specs.message_parts.specs.Parcels.{outgoing_of};
-ghost use Rattle.sock_open.specs.sock_rule.specs.declared.homes.SockHome.TheVariants.{Empty};
-ghost use Rattle.sock_open.specs.sock_rule.specs.Seated.{IsSeat};
-ghost use Rattle.sock_open.specs.sock_rule.specs.ChainPlays.{IsTicket};
-ghost use Rattle.sock_open.specs.sock_rule.specs.Holding.{Rights, MayFreeRequest};
+ghost use Rattle.message_parts.specs.Parcels.{outgoing_of};
+ghost use Rattle.sock_rule.specs.declared.homes.SockHome.TheVariants.{Empty};
+ghost use Rattle.sock_rule.specs.Seated.{IsSeat};
+ghost use Rattle.sock_rule.specs.ChainPlays.{IsTicket};
+ghost use Rattle.sock_rule.specs.Holding.{Rights, MayFreeRequest};
 ghost use Rattle.write_chain.specs.Noting.{Faulted, Wrote};
 ghost use Rattle.write_chain.specs.Writing.{MayBegin, MayGoOn, Stands, HasLink, HasInHand, HasPart, IsClean, HasWhole, FoundDead, GoesBy, IsLast, OnceBy, TriedBy, TriedFaults, IsDead, IsKeep};
 
 use crate::right::{Doing, InHand, LinkInHand, WriteRight};
 use sock_io::{Out, Put};
-use sock_open::sock_rule::{Letter, SockSeat};
-use sock_open::sock_table::{SockRef, SockTable};
+use sock_rule::{Letter, SockSeat};
+use sock_table::{SockRef, SockTable};
 use sock_words::{EFAILEDSOCKET, PlaceWord, Ticket, Vref};
 
 /// A request of this generation isn't freed: its tickets are used up.

@@ -1,6 +1,6 @@
 // Whoever has the right writes until the head is empty.
 ghost use Rattle.std.specs.Prelude.{◌≡◌, ◌≢◌, ◌+◌, ◌*◌, ◌<◌, ◌==◌, cond, ℕ, [], ◌∷◌, true, false};
-ghost use Rattle.sock_open.specs.sock_rule.specs.Seated.{IsSeat};
+ghost use Rattle.sock_rule.specs.Seated.{IsSeat};
 ghost use Rattle.write_chain.specs.declared.right.Doing.TheVariants.{Back};
 ghost use Rattle.write_chain.specs.Noting.{Wrote, WroteDrop};
 ghost use Rattle.sock_model.specs.declared.chain.Stage.TheVariants.{Empties};
@@ -11,8 +11,8 @@ use crate::hold::{Once, Tried, fail_link, fetch_link, go_past, leave, place, tak
 use crate::right::{Doing, InHand, LinkInHand, Undelivered, Walk, WriteRight};
 use crossbeam_utils::Backoff;
 use sock_io::{Out, Ready};
-use sock_open::sock_rule::SockSeat;
-use sock_open::sock_table::{SockRef, SockTable};
+use sock_rule::SockSeat;
+use sock_table::{SockRef, SockTable};
 use sock_words::{EFAILEDSOCKET, PlaceWord, Ticket};
 use std::sync::Wait;
 

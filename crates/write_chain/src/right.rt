@@ -1,9 +1,9 @@
 ghost use Rattle.std.specs.Prelude.{◌≤◌};
 
+use message_parts::OutgoingParcel;
 use sock_io::Out;
-use sock_open::message_parts::OutgoingParcel;
-use sock_open::sock_rule::LinkHome;
-use sock_open::sock_table::SockRef;
+use sock_rule::LinkHome;
+use sock_table::SockRef;
 use sock_words::{Label, Ticket};
 
 /// The link that is written, in hand of whoever has the right.

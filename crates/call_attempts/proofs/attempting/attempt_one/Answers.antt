@@ -3,11 +3,11 @@ use Rattle.sock_words.specs.Words.{socket_id_slot}
 use Rattle.sock_words.specs.declared.socket_id.SocketId.{SocketId}
 use Rattle.sock_model.specs.Weights.{is_ref}
 use Rattle.sock_model.specs.SlotRows.{marks_of}
-use Rattle.call_writes.specs.sock_table.specs.Answers.{Holds, LinkOf}
-use Rattle.call_writes.specs.rpc_client.specs.Seats.{AtRest}
-use Rattle.call_writes.specs.rpc_client.proofs.Counting.{one_more}
-use Rattle.call_writes.specs.rpc_client.proofs.Finding.{has_one, holds_still, rest_became, rest_then}
-use Rattle.call_writes.specs.rpc_client.proofs.Delivering.{room_still}
+use Rattle.sock_table.specs.Answers.{Holds, LinkOf}
+use Rattle.call_errors.specs.rpc_client.specs.Seats.{AtRest}
+use Rattle.call_errors.specs.rpc_client.proofs.Counting.{one_more}
+use Rattle.call_errors.specs.rpc_client.proofs.Finding.{has_one, holds_still, rest_became, rest_then}
+use Rattle.call_errors.specs.rpc_client.proofs.Delivering.{room_still}
 use Rattle.call_attempts.specs.Both.{both}
 use Rattle.call_attempts.specs.Attempting.{DeliveredBy, nowhere, over_link}
 use Rattle.call_attempts.proofs.Leaving.{kept_free, own_after, link_keeps, few_still, attempted_leaves}

@@ -1,6 +1,6 @@
 use Rattle.sock_words.specs.Words.{socket_id_slot}
-use Rattle.call_writes.specs.sock_table.specs.Answers.{is_freed}
-use Rattle.call_writes.specs.rpc_client.proofs.Finding.{rest_became}
+use Rattle.sock_table.specs.Answers.{is_freed}
+use Rattle.call_errors.specs.rpc_client.proofs.Finding.{rest_became}
 use Rattle.call_attempts.specs.Both.{both}
 use Rattle.call_attempts.proofs.Leaving.{refused_failed, refused_full}
 use Rattle.call_attempts.proofs.attempting.refuse_frame.Goals as goal

@@ -1,14 +1,14 @@
 use Rattle.std.proofs.Common.{◌≡◌, ℕ, ◌<◌, ◌≤◌, ◌+◌, ◌*◌, ◌∙◌, true, Some, None, zero-le, ap, sym, refl, subst, arith}
 use Rattle.sock_words.specs.declared.plain.Label.{Label}
-use Rattle.call_writes.specs.sock_rule.specs.declared.homes.Letter.{Letter}
+use Rattle.sock_rule.specs.declared.homes.Letter.{Letter}
 use Rattle.id_rule.specs.Lawful.{call_word, with_kept}
 use Rattle.corr_id.specs.Calls.{MadeAs}
 use Rattle.corr_id.proofs.Testing.{sits_on, quiet_free}
 use Rattle.sock_message.specs.Asked.{Asked}
-use Rattle.call_writes.specs.rpc_client.proofs.Counting.{refs_then}
-use Rattle.call_writes.specs.sock_table.specs.Named.{Found}
-use Rattle.call_writes.specs.rpc_client.proofs.Finding.{rest_same, rest_then, may_still, seen_then}
-use Rattle.call_writes.specs.rpc_client.proofs.Delivering.{room_still}
+use Rattle.call_errors.specs.rpc_client.proofs.Counting.{refs_then}
+use Rattle.sock_table.specs.Named.{Found}
+use Rattle.call_errors.specs.rpc_client.proofs.Finding.{rest_same, rest_then, may_still, seen_then}
+use Rattle.call_errors.specs.rpc_client.proofs.Delivering.{room_still}
 use Rattle.call_attempts.specs.Both.{both, IsCallId}
 use Rattle.call_attempts.specs.Letters.{attempt_label}
 use Rattle.call_attempts.specs.Attempting.{AttemptedBy}

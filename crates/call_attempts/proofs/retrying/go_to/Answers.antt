@@ -1,7 +1,7 @@
 use Rattle.std.proofs.Common.{◌≡◌, ◌∙◌, ap, sym, refl, subst, arith}
-use Rattle.call_writes.specs.rpc_client.proofs.Counting.{refs_then}
-use Rattle.call_writes.specs.rpc_client.proofs.Finding.{rest_same, rest_then, may_still, seen_then}
-use Rattle.call_writes.specs.rpc_client.proofs.Delivering.{room_still}
+use Rattle.call_errors.specs.rpc_client.proofs.Counting.{refs_then}
+use Rattle.call_errors.specs.rpc_client.proofs.Finding.{rest_same, rest_then, may_still, seen_then}
+use Rattle.call_errors.specs.rpc_client.proofs.Delivering.{room_still}
 use Rattle.call_attempts.specs.Both.{both}
 use Rattle.call_attempts.specs.Retrying.{stray, unopened, to_socket}
 use Rattle.call_attempts.proofs.Leaving.{found_keeps, keeps_leaves, own_after, own_keeps, none_keeps}

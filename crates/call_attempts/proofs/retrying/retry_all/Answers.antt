@@ -1,7 +1,7 @@
 use Rattle.std.proofs.Common.{◌+◌, refl}
-use Rattle.call_writes.specs.rpc_client.proofs.Counting.{refs_then}
-use Rattle.call_writes.specs.rpc_client.proofs.Finding.{rest_then, seen_then, may_still}
-use Rattle.call_writes.specs.call_errors.specs.Books.{books_of}
+use Rattle.call_errors.specs.rpc_client.proofs.Counting.{refs_then}
+use Rattle.call_errors.specs.rpc_client.proofs.Finding.{rest_then, seen_then, may_still}
+use Rattle.call_errors.specs.Books.{books_of}
 use Rattle.call_attempts.specs.Both.{both}
 use Rattle.call_attempts.specs.Retrying.{none_yet, RanOut}
 use Rattle.call_attempts.proofs.Leaving.{err_by, no_lock_same, stays_by, stays_then, own_room, none_taken, one_taken, ends_fed, made_one, gave_out, wanting_before}

@@ -1,5 +1,5 @@
-use Rattle.call_writes.specs.rpc_client.specs.Acting.{OwnList}
-use Rattle.call_writes.specs.rpc_client.specs.Seats.{AtRest, StaysSeen, SameRefs}
+use Rattle.call_errors.specs.rpc_client.specs.Acting.{OwnList}
+use Rattle.call_errors.specs.rpc_client.specs.Seats.{AtRest, StaysSeen, SameRefs}
 use Rattle.corr_id.specs.Seats.{Stays}
 use Rattle.call_attempts.specs.Both.{both, HasNoLock}
 use Rattle.call_attempts.specs.Retrying.{Retried}

@@ -1,6 +1,6 @@
 use Rattle.std.proofs.Common.{◌≡◌, ℕ, ◌+◌, ◌*◌, ◌≤◌, ◌∙◌, ap, sym, refl, subst, arith}
 use Rattle.sock_words.specs.declared.plain.Label.{Label}
-use Rattle.call_writes.specs.sock_rule.specs.declared.homes.Letter.{Letter}
+use Rattle.sock_rule.specs.declared.homes.Letter.{Letter}
 use Rattle.corr_core.specs.Word.{parts}
 use Rattle.corr_id.specs.Calls.{version_of}
 use Rattle.corr_id.proofs.Testing.{sits_on, did_free, quiet_free}

@@ -1,6 +1,6 @@
 use Rattle.std.proofs.Common.{◌*◌, ◌<◌, sym, subst, arith}
-use Rattle.call_attempts.specs.sock_rule.specs.declared.homes.Letter.{Letter}
-use Rattle.call_attempts.specs.call_errors.specs.Books.{stand_of}
+use Rattle.sock_rule.specs.declared.homes.Letter.{Letter}
+use Rattle.call_errors.specs.Books.{stand_of}
 use Rattle.call_attempts.specs.call_writes.specs.Sending.{SentCalling}
 use Rattle.call_client.proofs.Going.{room_for_one, sent_calling_own}
 use Rattle.call_client.proofs.acting.send_message.Goals as goal

@@ -1,7 +1,7 @@
 use Rattle.std.proofs.Common.{◌≡◌, ◌∷◌, ◌∙◌, length, sym, subst}
 use Rattle.std.specs.Prelude.{List}
 use Rattle.sock_programs.specs.declared.task.Task.{Task}
-use Rattle.call_attempts.specs.rpc_client.proofs.Counting.{refs_then}
+use Rattle.rpc_client.proofs.Counting.{refs_then}
 use Rattle.call_client.specs.Acting.{stand}
 use Rattle.call_client.specs.Running.{LeftAll}
 use Rattle.call_client.proofs.Coursing.{may_next, may_rest, left_passes}

@@ -1,7 +1,7 @@
 use Rattle.std.proofs.Common.{◌≡◌, length}
 use Rattle.std.specs.Prelude.{All}
-use Rattle.call_attempts.specs.sock_table.specs.Passes.{IsPass}
-use Rattle.call_attempts.specs.rpc_client.specs.Seats.{Idle, SameRefs}
+use Rattle.sock_table.specs.Passes.{IsPass}
+use Rattle.rpc_client.specs.Seats.{Idle, SameRefs}
 use Rattle.call_client.specs.Acting.{Stand, stand}
 use Rattle.call_client.specs.Running.{MayMakeAll, LeftAll}
 use Rattle.call_client.proofs.running.leave_all.Given as goal

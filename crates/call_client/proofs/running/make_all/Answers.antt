@@ -1,5 +1,5 @@
 use Rattle.std.proofs.Common.{◌≡◌, ℕ, ◌+◌, add-one, drop, length, vec_capacity, true, inl, ap, ◌∙◌, sym, subst, refl, arith}
-use Rattle.call_attempts.specs.rpc_client.proofs.Coursing.{told_room}
+use Rattle.rpc_client.proofs.Coursing.{told_room}
 use Rattle.call_attempts.proofs.Leaving.{err_by}
 use Rattle.call_client.specs.Acting.{stand}
 use Rattle.call_client.specs.Running.{MayMakeAll, while_retrying}

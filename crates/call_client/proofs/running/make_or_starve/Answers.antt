@@ -1,5 +1,5 @@
 use Rattle.std.proofs.Common.{◌∙◌, length, refl, arith}
-use Rattle.call_attempts.specs.call_errors.specs.Books.{stand_of}
+use Rattle.call_errors.specs.Books.{stand_of}
 use Rattle.call_client.proofs.Coursing.{starved_then, all_then}
 use Rattle.call_client.proofs.Going.{same_go}
 use Rattle.call_client.proofs.Leaving.{starved_retries}

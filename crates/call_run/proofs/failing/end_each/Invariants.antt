@@ -1,5 +1,5 @@
 use Rattle.std.proofs.Common.{◌≡◌, take}
-use Rattle.call_client.specs.sock_table.specs.Closed.{IsDoneSeat}
+use Rattle.sock_table.specs.Closed.{IsDoneSeat}
 use Rattle.call_run.specs.Ending.{EndedEach}
 use Rattle.call_run.proofs.failing.end_each.Given as goal
 

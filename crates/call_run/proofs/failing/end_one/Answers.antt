@@ -1,5 +1,5 @@
 use Rattle.std.proofs.Common.{Some, None, refl, ◌∙◌}
-use Rattle.rpc_reader.specs.rpc_client.proofs.Counting.{refs_then}
+use Rattle.call_client.specs.rpc_client.proofs.Counting.{refs_then}
 use Rattle.call_run.proofs.Sockets.{done_idle, still_may, still_done}
 use Rattle.call_run.proofs.failing.end_one.Goals as goal
 

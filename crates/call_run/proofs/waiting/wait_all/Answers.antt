@@ -1,4 +1,4 @@
-use Rattle.rpc_reader.specs.rpc_client.proofs.Finding.{rest_then}
+use Rattle.call_client.specs.rpc_client.proofs.Finding.{rest_then}
 use Rattle.call_run.proofs.Finding.{found_next}
 use Rattle.call_run.proofs.waiting.wait_all.Goals as goal
 

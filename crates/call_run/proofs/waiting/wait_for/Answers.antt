@@ -1,6 +1,6 @@
 use Rattle.std.proofs.Common.{Some, refl, ◌∙◌, subst, ap}
-use Rattle.call_client.specs.sock_table.specs.Named.{Found}
-use Rattle.rpc_reader.specs.rpc_client.proofs.Finding.{rest_same}
+use Rattle.sock_table.specs.Named.{Found}
+use Rattle.call_client.specs.rpc_client.proofs.Finding.{rest_same}
 use Rattle.call_run.proofs.waiting.wait_for.Goals as goal
 
 pub waits-init : goal.waits-init

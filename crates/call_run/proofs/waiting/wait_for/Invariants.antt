@@ -1,5 +1,5 @@
 use Rattle.std.proofs.Common.{◌≡◌}
-use Rattle.rpc_reader.specs.rpc_client.specs.Seats.{Idle}
+use Rattle.call_client.specs.rpc_client.specs.Seats.{Idle}
 use Rattle.call_run.proofs.waiting.wait_for.Given as goal
 
 abbrev pub invariant-waits : goal.invariant-waits

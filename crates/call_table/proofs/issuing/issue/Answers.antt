@@ -1,7 +1,7 @@
 use Rattle.std.proofs.Common.{◌≡◌, ℕ, ◌+◌, ◌∙◌, ap, length}
 use Rattle.sock_message.specs.Asked.{Asked, meta_with, meta_of}
-use Rattle.prpc_frame.specs.io_buf.specs.Buffer.{block_sizes}
-use Rattle.prpc_frame.specs.rpc_meta.specs.Meaning.{meaning}
+use Rattle.sock_message.specs.io_buf.specs.Buffer.{block_sizes}
+use Rattle.rpc_meta.specs.Meaning.{meaning}
 use Rattle.call_table.proofs.Pieces.{taken_so, lies_so}
 use Rattle.call_table.proofs.issuing.issue.Goals as goal
 

@@ -1,7 +1,7 @@
 use Rattle.std.proofs.Common.{refl, ◌∙◌, subst}
-use Rattle.call_errors.specs.sock_table.specs.declared.refs.SockRef.{SockRef}
-use Rattle.call_errors.specs.write_chain.specs.declared.keep.Kept.TheVariants as kept
-use Rattle.call_errors.specs.write_chain.specs.Keeping.{KeptBy, KeptWriting}
+use Rattle.sock_table.specs.declared.refs.SockRef.{SockRef}
+use Rattle.write_chain.specs.declared.keep.Kept.TheVariants as kept
+use Rattle.write_chain.specs.Keeping.{KeptBy, KeptWriting}
 use Rattle.call_errors.specs.Books.{stand_of}
 use Rattle.call_writes.specs.Draining.{none, one_more}
 use Rattle.call_writes.proofs.draining.drain.Goals as goal

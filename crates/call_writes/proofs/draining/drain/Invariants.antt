@@ -1,7 +1,7 @@
 use Rattle.std.proofs.Common.{◌≡◌}
-use Rattle.call_errors.specs.sock_rule.specs.Seated.{IsSeat}
-use Rattle.call_errors.specs.write_chain.specs.Writing.{MayGoOn}
-use Rattle.call_errors.specs.corr_id.specs.Seats.{Sits, Stays, IsFree}
+use Rattle.sock_rule.specs.Seated.{IsSeat}
+use Rattle.write_chain.specs.Writing.{MayGoOn}
+use Rattle.corr_id.specs.Seats.{Sits, Stays, IsFree}
 use Rattle.call_errors.specs.Books.{stand_of}
 use Rattle.call_writes.specs.Draining.{DroppedAll}
 use Rattle.call_writes.proofs.draining.drain.Given as goal

@@ -1,6 +1,6 @@
 use Rattle.std.proofs.Common.{◌∙◌, subst}
-use Rattle.call_errors.specs.sock_table.specs.declared.refs.SockRef.{SockRef}
-use Rattle.call_errors.specs.write_chain.specs.Writing.{GaveUp}
+use Rattle.sock_table.specs.declared.refs.SockRef.{SockRef}
+use Rattle.write_chain.specs.Writing.{GaveUp}
 use Rattle.call_errors.specs.Books.{stand_of}
 use Rattle.call_writes.specs.Draining.{Drained}
 use Rattle.call_writes.proofs.Drains.{drained_wrote, drained_after}

@@ -1,8 +1,8 @@
 use Rattle.std.proofs.Common.{sym, subst}
-use Rattle.call_errors.specs.message_parts.specs.Parcels.{parcel_of}
-use Rattle.call_errors.specs.sock_rule.specs.Shows.{heading_of}
-use Rattle.call_errors.specs.sock_table.specs.declared.refs.SockRef.{SockRef}
-use Rattle.call_errors.specs.write_chain.specs.Writing.{Begins}
+use Rattle.sock_rule.specs.message_parts.specs.Parcels.{parcel_of}
+use Rattle.sock_rule.specs.Shows.{heading_of}
+use Rattle.sock_table.specs.declared.refs.SockRef.{SockRef}
+use Rattle.write_chain.specs.Writing.{Begins}
 use Rattle.call_errors.specs.rpc_client.proofs.Delivering.{sock_is, accepted_of, refused_holds, refused_idle, came_back}
 use Rattle.call_errors.specs.Books.{stand_of}
 use Rattle.call_writes.specs.Sending.{SeenCalling}

@@ -1,9 +1,9 @@
 use Rattle.std.proofs.Common.{◌∙◌, ap, sym, subst}
 use Rattle.sock_words.specs.Words.{socket_id_version, socket_id_slot}
 use Rattle.sock_model.specs.declared.marks.Mark.TheVariants.{Hold}
-use Rattle.call_errors.specs.sock_table.specs.Refs.{GaveBack}
-use Rattle.call_errors.specs.sock_table.specs.Answers.{Holds, is_freed}
-use Rattle.call_errors.specs.sock_table.specs.declared.refs.SockRef.{SockRef}
+use Rattle.sock_table.specs.Refs.{GaveBack}
+use Rattle.sock_table.specs.Answers.{Holds, is_freed}
+use Rattle.sock_table.specs.declared.refs.SockRef.{SockRef}
 use Rattle.call_errors.specs.rpc_client.specs.Sending.{sock_of}
 use Rattle.call_errors.specs.Books.{stand_of}
 use Rattle.call_writes.proofs.Drains.{drained_all}

@@ -1,7 +1,7 @@
 use Rattle.std.proofs.Common.{sym, subst}
-use Rattle.sock_model.specs.Layout.{next_word}
-use Rattle.sock_model.specs.ChainRows.{without_loose}
-use Rattle.sock_model.specs.Keeping.{KeepsRule}
+use Rattle.sock_steps.specs.sock_model.specs.Layout.{next_word}
+use Rattle.sock_steps.specs.sock_model.specs.ChainRows.{without_loose}
+use Rattle.sock_steps.specs.sock_model.specs.Keeping.{KeepsRule}
 use Rattle.chain_core.specs.Conditions.{MayConnect}
 use Rattle.chain_core.proofs.KeptRules.{connects}
 use Rattle.chain_core.proofs.steps.connect.Goals as goal

@@ -1,7 +1,7 @@
 use Rattle.std.proofs.Common.{sym, subst}
-use Rattle.sock_model.specs.Layout.{head_word}
-use Rattle.sock_model.specs.ChainRows.{queued}
-use Rattle.sock_model.specs.Keeping.{KeepsRule}
+use Rattle.sock_steps.specs.sock_model.specs.Layout.{head_word}
+use Rattle.sock_steps.specs.sock_model.specs.ChainRows.{queued}
+use Rattle.sock_steps.specs.sock_model.specs.Keeping.{KeepsRule}
 use Rattle.chain_core.specs.Conditions.{MaySwap}
 use Rattle.chain_core.specs.Rights.{TakesRight}
 use Rattle.chain_core.proofs.KeptRules.{queues, rights}

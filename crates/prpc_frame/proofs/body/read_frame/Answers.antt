@@ -1,6 +1,6 @@
 use Rattle.std.proofs.Common.{◌-◌, ℕ, List, drop, ap, sym, ◌∙◌}
 use Rattle.std.proofs.lemmas.Result.{err_from_is_err_and}
-use Rattle.brpc_model.specs.Frame.{Begins}
+use Rattle.rpc_meta.specs.brpc_model.specs.Frame.{Begins}
 use Rattle.rpc_meta.specs.Meaning.{meaning}
 use Rattle.prpc_frame.proofs.Bodies.{meta_err, attachment_err, begins_with, begins_alone}
 use Rattle.prpc_frame.proofs.body.read_frame.Goals as goal

@@ -1,7 +1,7 @@
 use Rattle.std.proofs.Common.{◌≡◌, rules, arith, ℕ, List, ◌+◌, ◌++◌, length, ap, ◌∙◌}
 use Rattle.std.proofs.lemmas.Grind.{common_steps}
-use Rattle.brpc_model.specs.Frame.{IsFrame, frame_bytes}
-use Rattle.brpc_model.specs.Spelling.{meta_bytes}
+use Rattle.rpc_meta.specs.brpc_model.specs.Frame.{IsFrame, frame_bytes}
+use Rattle.rpc_meta.specs.brpc_model.specs.Spelling.{meta_bytes}
 use Rattle.rpc_meta.specs.Meaning.{meaning}
 use Rattle.prpc_frame.specs.Meaning.{frame_with}
 use Rattle.io_buf.specs.Buffer.{block_sizes}

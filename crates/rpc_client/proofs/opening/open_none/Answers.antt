@@ -1,5 +1,5 @@
 use Rattle.sock_model.specs.Layout.{open_word}
-use Rattle.write_chain.specs.sock_rule.specs.Rows.{NOTHING}
+use Rattle.sock_rule.specs.Rows.{NOTHING}
 use Rattle.rpc_client.proofs.Finding.{seen_same, seen_then, seen_put}
 use Rattle.rpc_client.proofs.opening.open_none.Goals as goal
 

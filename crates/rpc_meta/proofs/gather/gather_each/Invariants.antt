@@ -1,6 +1,6 @@
 use Rattle.std.proofs.Common.{◌≡◌, ◌-◌, fold, Ok}
-use Rattle.brpc_model.specs.Wire.{◌>>=◌}
-use Rattle.brpc_model.specs.Meta.{part_of}
+use Rattle.pb_wire.specs.brpc_model.specs.Wire.{◌>>=◌}
+use Rattle.pb_wire.specs.brpc_model.specs.Meta.{part_of}
 use Rattle.pb_wire.specs.Reading.{left_with}
 use Rattle.rpc_meta.specs.Gathered.{nothing, part_added}
 use Rattle.rpc_meta.specs.Parts.{gathered_of}

@@ -1,5 +1,5 @@
 use Rattle.std.proofs.Common.{◌≡◌, ◌-◌, fold, slice_range, option_map, Ok}
-use Rattle.brpc_model.specs.Wire.{◌>>=◌}
+use Rattle.pb_wire.specs.brpc_model.specs.Wire.{◌>>=◌}
 use Rattle.pb_wire.specs.Reading.{left}
 use Rattle.rpc_meta.specs.Gathered.{outcome_added}
 use Rattle.rpc_meta.specs.Parts.{outcome_of}

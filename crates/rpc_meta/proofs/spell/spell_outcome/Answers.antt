@@ -1,5 +1,5 @@
 use Rattle.std.proofs.Common.{◌≡◌, ℕ, ◌+◌, ◌≤◌, List, ◌++◌, length, ◌∙◌, ap, sym, subst, rules}
-use Rattle.brpc_model.specs.Spelling.{spelled_int, number_field, where_not_empty}
+use Rattle.pb_wire.specs.brpc_model.specs.Spelling.{spelled_int, number_field, where_not_empty}
 use Rattle.rpc_meta.proofs.Appending.{joined, room_for, room_behind}
 use Rattle.rpc_meta.proofs.spell.spell_outcome.Goals as goal
 

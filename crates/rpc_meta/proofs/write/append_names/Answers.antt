@@ -1,6 +1,6 @@
 use Rattle.std.proofs.lemmas.Result.{err_from_is_err_and}
 use Rattle.std.proofs.Common.{◌++◌}
-use Rattle.brpc_model.specs.Spelling.{bytes_field}
+use Rattle.pb_wire.specs.brpc_model.specs.Spelling.{bytes_field}
 use Rattle.rpc_meta.proofs.Appending.{kept, joined}
 use Rattle.rpc_meta.proofs.write.append_names.Goals as goal
 

@@ -1,5 +1,5 @@
 use Rattle.std.proofs.Common.{◌≡◌, ℕ, List, ◌++◌, ◌∙◌, ap, subst, rules}
-use Rattle.brpc_model.specs.Spelling.{spelled_int, number_field, where_not_empty}
+use Rattle.pb_wire.specs.brpc_model.specs.Spelling.{spelled_int, number_field, where_not_empty}
 use Rattle.rpc_meta.specs.Writing.{Appends}
 use Rattle.rpc_meta.proofs.Appending.{behind}
 use Rattle.rpc_meta.proofs.write.append_outcome.Goals as goal

@@ -1,6 +1,6 @@
 use Rattle.std.proofs.Common.{ℕ, ◌+◌, ◌*◌, ◌++◌, length, ◌∙◌, ap}
-use Rattle.brpc_model.specs.Wire.{varint_bytes}
-use Rattle.brpc_model.specs.Spelling.{response_bytes}
+use Rattle.pb_wire.specs.brpc_model.specs.Wire.{varint_bytes}
+use Rattle.pb_wire.specs.brpc_model.specs.Spelling.{response_bytes}
 use Rattle.rpc_meta.specs.Meaning.{response_of}
 use Rattle.rpc_meta.proofs.Appending.{behind}
 use Rattle.rpc_meta.proofs.write.append_response.Goals as goal

@@ -1,5 +1,5 @@
 use Rattle.std.proofs.Common.{◌≡◌, ℕ, List, length, ◌∙◌, ap, rules}
-use Rattle.brpc_model.specs.Spelling.{spelled_int, number_field, where_not_empty}
+use Rattle.pb_wire.specs.brpc_model.specs.Spelling.{spelled_int, number_field, where_not_empty}
 use Rattle.rpc_meta.proofs.Counting.{summed, two}
 use Rattle.rpc_meta.proofs.write.response_size.Goals as goal
 

@@ -1,6 +1,6 @@
 use Rattle.std.proofs.Common.{ℕ, Bool, refl, sym, ap, ◌∙◌, subst}
 use Rattle.corr_core.specs.Word.{parts}
-use Rattle.rpc_client.specs.call_table.specs.Responses.{is_early}
+use Rattle.call_table.specs.Responses.{is_early}
 use Rattle.rpc_reader.specs.Books.{books}
 use Rattle.rpc_reader.specs.Met.{KeptIf, version_in}
 use Rattle.rpc_reader.proofs.Frames.{lacked}

@@ -1,5 +1,5 @@
 use Rattle.std.proofs.Common.{sym, ap, ◌∙◌, subst, rules}
-use Rattle.call_whys.specs.rpc_reader.specs.Seats.{IsOpen}
+use Rattle.rpc_reader.specs.Seats.{IsOpen}
 use Rattle.script_calls.specs.Reading.{IdSeat}
 use Rattle.script_calls.proofs.Resting.{share_of, closing_left, closing_all}
 use Rattle.script_calls.proofs.reading.read_rest.Goals as goal

@@ -1,14 +1,14 @@
 use Rattle.std.proofs.Common.{refl, map, length, ap, sym, subst, ◌∙◌, arith}
 use Rattle.std.proofs.lemmas.List.{length-map}
-use Rattle.call_whys.specs.sock_open.specs.Opening.{MayBegin, AreFresh}
+use Rattle.call_run.specs.sock_open.specs.Opening.{MayBegin, AreFresh}
 use Rattle.sock_programs.specs.Tasks.{plan_of}
 use Rattle.sock_words.specs.declared.plain.Plan.{Plan}
-use Rattle.call_deeds.specs.call_run.specs.Threads.{ids_of, MayRunAll}
+use Rattle.call_run.specs.Threads.{ids_of, MayRunAll}
 use Rattle.script_links.proofs.Numbering.{numbered_of}
 use Rattle.script_calls.proofs.Parting.{end_at, are_fresh, closed_back, give_numbered, give_long}
 use Rattle.script_calls.proofs.MayCall.{script_may, script_begins}
 use Rattle.script_calls.proofs.Numbers.{few_calls, few_operations, opens_below, calls_below}
-use Rattle.call_deeds.specs.call_run.proofs.Manning.{whole_lent}
+use Rattle.call_run.proofs.Manning.{whole_lent}
 use Rattle.script_calls.specs.Halves.{rest_of}
 use Rattle.script_links.specs.Given.{AreNumbered}
 use Rattle.script_calls.proofs.Reports.{out_at, numbered_still, left_is, run_is, joined_outs, back_silent, if_moved}

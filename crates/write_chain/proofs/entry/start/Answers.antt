@@ -1,9 +1,9 @@
 use Rattle.std.proofs.Common.{[], refl, sym, ap, ◌∙◌}
 use Rattle.atomic_table.specs.Table.{rest}
 use Rattle.sock_model.specs.ChainRows.{fresh_claim}
-use Rattle.sock_open.specs.message_parts.specs.Parcels.{parcel_of}
-use Rattle.sock_open.specs.sock_rule.specs.ChainPlays.{blank}
-use Rattle.sock_open.specs.sock_rule.specs.Shows.{heading_of}
+use Rattle.message_parts.specs.Parcels.{parcel_of}
+use Rattle.sock_rule.specs.ChainPlays.{blank}
+use Rattle.sock_rule.specs.Shows.{heading_of}
 use Rattle.write_chain.proofs.Accepting.{asks_first, asks_next, started_after, false_true}
 use Rattle.write_chain.proofs.Beginning.{begins}
 use Rattle.write_chain.proofs.entry.start.Goals as goal

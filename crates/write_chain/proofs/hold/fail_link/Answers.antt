@@ -1,6 +1,6 @@
 use Rattle.std.proofs.Common.{ap, ◌∙◌}
 use Rattle.sock_words.specs.Words.{socket_id_slot}
-use Rattle.sock_open.specs.sock_rule.specs.Faults.{fault}
+use Rattle.sock_rule.specs.Faults.{fault}
 use Rattle.write_chain.specs.Noting.{faulted}
 use Rattle.write_chain.proofs.Faulting.{fault_noted}
 use Rattle.write_chain.proofs.Noting.{found_it, wrote_notes}

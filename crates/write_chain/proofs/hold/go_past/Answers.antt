@@ -1,7 +1,7 @@
 use Rattle.std.proofs.Common.{ℕ, [], sym, ap, ◌∙◌, subst}
 use Rattle.sock_words.specs.declared.plain.Plan.{Plan}
 use Rattle.sock_model.specs.declared.chain.Stage.TheVariants.{Writes, Empties}
-use Rattle.sock_open.specs.sock_rule.specs.ChainPlays.{IsTicket}
+use Rattle.sock_rule.specs.ChainPlays.{IsTicket}
 use Rattle.write_chain.specs.Writing.{HasLink}
 use Rattle.write_chain.proofs.Noting.{rights_only, rights_then}
 use Rattle.write_chain.proofs.Stepping.{may_free, ends_at, past_end, passes_by, goes_to, past_next}

@@ -2,8 +2,8 @@ use Rattle.std.proofs.Common.{ℕ, ◌+◌, ◌∷◌, refl, sym, ap, ◌∙◌,
 use Rattle.atomic_table.specs.Table.{rest}
 use Rattle.sock_words.specs.declared.plain.Plan.{Plan}
 use Rattle.sock_model.specs.declared.chain.Stage.TheVariants.{Walks}
-use Rattle.sock_open.specs.sock_rule.specs.declared.homes.SockHome.TheVariants.{Empty}
-use Rattle.sock_open.specs.sock_rule.specs.ChainPlays.{IsTicket}
+use Rattle.sock_rule.specs.declared.homes.SockHome.TheVariants.{Empty}
+use Rattle.sock_rule.specs.ChainPlays.{IsTicket}
 use Rattle.write_chain.specs.Writing.{Stands}
 use Rattle.write_chain.proofs.Noting.{rights_only, rights_then}
 use Rattle.write_chain.proofs.Stepping.{link_home, may_empty, gave_up, walks_from}

@@ -1,5 +1,5 @@
 use Rattle.std.proofs.Common.{inl, refl}
-use Rattle.sock_open.specs.message_parts.specs.Parcels.{outgoing_of}
+use Rattle.message_parts.specs.Parcels.{outgoing_of}
 use Rattle.write_chain.proofs.Noting.{wrote_rights}
 use Rattle.write_chain.proofs.Looking.{is_none, is_some}
 use Rattle.write_chain.proofs.hold.put_or_place.Goals as goal

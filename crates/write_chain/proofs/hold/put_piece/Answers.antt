@@ -1,5 +1,5 @@
 use Rattle.std.proofs.Common.{inl, inr, refl, sym, ap, ◌∙◌}
-use Rattle.sock_open.specs.message_parts.specs.Parcels.{outgoing_of}
+use Rattle.message_parts.specs.Parcels.{outgoing_of}
 use Rattle.write_chain.specs.Puts.{next_of}
 use Rattle.write_chain.proofs.Faulting.{rose_some}
 use Rattle.write_chain.proofs.Noting.{wrote_rights}

@@ -10,7 +10,7 @@ use Rattle.sock_model.specs.Layout.{place_word}
 use Rattle.sock_model.specs.Marks.{about, noted}
 use Rattle.sock_model.specs.Weights.{total, is_met}
 use Rattle.sock_model.specs.Links.{HoldsLink}
-use Rattle.sock_open.specs.sock_rule.specs.declared.homes.SockHome.TheVariants.{Empty}
+use Rattle.sock_rule.specs.declared.homes.SockHome.TheVariants.{Empty}
 use Rattle.write_chain.proofs.Noting.{wrote_notes, wrote_rights, drop_then, rights_but_store}
 use Rattle.write_chain.proofs.Stepping.{part_noted, part_of, part_dropped}
 use Rattle.write_chain.proofs.Faulting.{code_faults}

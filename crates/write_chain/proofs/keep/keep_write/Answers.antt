@@ -1,5 +1,5 @@
 use Rattle.std.proofs.Common.{refl, sym, subst}
-use Rattle.sock_open.specs.sock_table.specs.declared.refs.SockRef.{SockRef}
+use Rattle.sock_table.specs.declared.refs.SockRef.{SockRef}
 use Rattle.write_chain.specs.declared.keep.Went.TheVariants as went
 use Rattle.write_chain.specs.Keeping.{WentBy, WentWriting}
 use Rattle.write_chain.specs.Writing.{FoundDead}

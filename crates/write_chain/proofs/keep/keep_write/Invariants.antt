@@ -1,5 +1,5 @@
 use Rattle.std.proofs.Common.{◌≡◌}
-use Rattle.sock_open.specs.sock_rule.specs.Seated.{IsSeat}
+use Rattle.sock_rule.specs.Seated.{IsSeat}
 use Rattle.write_chain.specs.Noting.{Wrote}
 use Rattle.write_chain.specs.Writing.{MayGoOn, FoundDead, HasMore}
 use Rattle.write_chain.proofs.keep.keep_write.Given as goal

@@ -1,7 +1,7 @@
 use Rattle.std.proofs.Common.{ℕ, [], refl, sym, ap, ◌∙◌, subst}
 use Rattle.sock_words.specs.declared.plain.Plan.{Plan}
 use Rattle.sock_model.specs.declared.chain.Stage.TheVariants.{Walks}
-use Rattle.sock_open.specs.sock_rule.specs.ChainPlays.{IsTicket}
+use Rattle.sock_rule.specs.ChainPlays.{IsTicket}
 use Rattle.write_chain.specs.declared.right.Doing.TheVariants.{Back}
 use Rattle.write_chain.specs.Writing.{HasLink, GoesBy}
 use Rattle.write_chain.proofs.Noting.{rights_only, rights_then}

@@ -1,7 +1,7 @@
 use Rattle.std.proofs.Common.{◌≡◌, ◌+◌, ◌-◌, ◌∷◌, ◌++◌, ℕ, List, length, All, ap, subst, ◌∙◌, arith}
 use Rattle.std.proofs.lemmas.List.Elements.{All-head}
-use Rattle.call_table.specs.io_buf.specs.Buffer.{IsSize, block_sizes}
-use Rattle.call_table.specs.sock_message.specs.Asked.{Asked, head_of, frame_of}
+use Rattle.io_buf.specs.Buffer.{IsSize, block_sizes}
+use Rattle.sock_message.specs.Asked.{Asked, head_of, frame_of}
 use Rattle.message_parts.proofs.Parts.{lies_framed}
 use Rattle.message_parts.proofs.frame.CallFrame.new.Goals as goal
 

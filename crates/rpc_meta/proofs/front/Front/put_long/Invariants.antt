@@ -1,5 +1,5 @@
 use Rattle.std.proofs.Common.{◌≡◌, ◌^◌, ◌<◌, ◌++◌}
-use Rattle.brpc_model.specs.Wire.{varint_bytes, varint_up_to}
+use Rattle.pb_wire.specs.brpc_model.specs.Wire.{varint_bytes, varint_up_to}
 use Rattle.rpc_meta.proofs.front.Front.put_long.Given as goal
 
 -- the bytes so far and the shortest varint of what is left are the whole

@@ -1,7 +1,7 @@
 use Rattle.std.proofs.Common.{◌≡◌, ◌<◌, ◌^◌, ℕ, List, length, Result, Ok, Err, OnOk, ap, ◌∙◌, arith}
 use Rattle.std.proofs.lemmas.List.{length-append}
-use Rattle.brpc_model.specs.Meta.{Meta, read_meta}
-use Rattle.brpc_model.specs.Spelling.{meta_bytes}
+use Rattle.pb_wire.specs.brpc_model.specs.Meta.{Meta, read_meta}
+use Rattle.pb_wire.specs.brpc_model.specs.Spelling.{meta_bytes}
 use Rattle.rpc_meta.specs.Meaning.{meaning}
 use Rattle.rpc_meta.specs.Writing.{Appends, HasPart, MetaFits}
 use Rattle.rpc_meta.proofs.RoundTrip.{round_trip}

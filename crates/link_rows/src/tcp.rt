@@ -1,0 +1,298 @@
+ghost use Rattle.std.specs.Prelude.{◌≡◌, ◌≤◌, IfOk};
+
+use net_link::{TcpHalf, TcpIn, TcpLinker, read_some, write_some};
+use sock_io::{Failed, In, LinkSpec, Linker, Mode, OpenFault, Out, Put, Take};
+use std::alloc::Global;
+use std::io::{ErrorKind, Read, Write};
+use std::net::{Ipv4Addr, Net, SocketAddr, TcpListener, TcpStream};
+use std::test::Fail;
+use std::thread::Threads;
+use std::{io, thread};
+
+// A link of this mode.
+fn asked(mode: Mode) -> LinkSpec
+    ensures { result.piece ≡ 64 }
+{
+    LinkSpec {
+        mode,
+        piece: 64,
+        again: 0,
+        fail: 0,
+        serve: false,
+        end: None,
+    }
+}
+
+// A listener at a port that the system chooses, and that port.
+fn listen<N: Net<Stream = TcpStream, Listener = TcpListener>>(
+    net: &N,
+) -> io::Result<(TcpListener, u16)> {
+    let listener = TcpListener::bind(net, SocketAddr::from((Ipv4Addr::LOCALHOST, 0)))?;
+    let port = listener.local_addr()?.port();
+    Ok((listener, port))
+}
+
+// A port at which nobody listens.
+fn free_port<N: Net<Stream = TcpStream, Listener = TcpListener>>(net: &N) -> io::Result<u16> {
+    let (_, port) = listen(net)?;
+    Ok(port)
+}
+
+// Accepts a connection, takes a message and its end, and then replies.
+fn hear<N: Net<Stream = TcpStream, Listener = TcpListener>>(
+    net: &N,
+    alloc: Global,
+    port: u16,
+) -> Option<(bool, Take, Take, Put)> {
+    let mut links = TcpLinker::new(net, alloc);
+    let (mut out, mut inn) = links.accept(port).ok()?;
+    let mut room = [0; 64];
+    let message = inn.take(&mut room);
+    let end = inn.take(&mut [0; 8]);
+    let reply = out.put(b"reply");
+    out.finish();
+    links.done(out, inn);
+    Some((room.starts_with(b"message"), message, end, reply))
+}
+
+// Opens a link, puts a message and ends it, and then takes the reply; nothing where nobody listens yet.
+fn say<N: Net<Stream = TcpStream, Listener = TcpListener>>(
+    net: &N,
+    alloc: Global,
+    port: u16,
+) -> Option<(bool, Put, Take, Take)> {
+    let mut links = TcpLinker::new(net, alloc);
+    let mut ends = links.open(&asked(Mode::Tcp(port))).ok()?;
+    let mut room = [0; 64];
+    let message = ends.out.put(b"message");
+    ends.out.finish();
+    let reply = ends.inn.take(&mut room);
+    let end = ends.inn.take(&mut [0; 8]);
+    links.back(0, ends);
+    Some((room.starts_with(b"reply"), message, reply, end))
+}
+
+// The same, as soon as somebody listens.
+fn say_once_heard<N: Net<Stream = TcpStream, Listener = TcpListener>>(
+    net: &N,
+    alloc: Global,
+    port: u16,
+) -> Option<(bool, Put, Take, Take)> {
+    for _ in 0..1_000_000 {
+        if let Some(said) = say(net, alloc, port) {
+            return Some(said);
+        }
+        thread::yield_now();
+    }
+    None
+}
+
+// What one thread heard, and what another one said.
+fn converse<R: Threads + Net<Stream = TcpStream, Listener = TcpListener> + Sync>(
+    rt: &R,
+    alloc: Global,
+    port: u16,
+) -> (
+    Option<(bool, Take, Take, Put)>,
+    Option<(bool, Put, Take, Take)>,
+) {
+    thread::join(
+        rt,
+        move || hear(rt, alloc, port),
+        move || say_once_heard(rt, alloc, port),
+    )
+}
+
+#[test]
+fn message_and_its_end_come_over(rt: HostRuntime) -> Result<(), Fail> {
+    let port = free_port(&rt)?;
+    let (heard, said) = converse(&rt, rt.alloc(), port);
+    assert!(rt; heard == Some((true, Take::Took(7), Take::End, Put::Took(5))));
+    assert!(rt; said == Some((true, Put::Took(7), Take::Took(5), Take::End)));
+    Ok(())
+}
+
+#[test]
+fn open_fails_where_nobody_listens(rt: HostRuntime) -> Result<(), Fail> {
+    let port = free_port(&rt)?;
+    for mode in [Mode::Tcp(port), Mode::Loop, Mode::Ring] {
+        let mut links = TcpLinker::new(&rt, rt.alloc());
+        assert!(rt; matches!(links.open(&asked(mode)), Err(OpenFault::Failed)));
+    }
+    Ok(())
+}
+
+#[test]
+fn accept_fails_where_another_one_listens(rt: HostRuntime) -> Result<(), Fail> {
+    let (_listener, port) = listen(&rt)?;
+    let mut links = TcpLinker::new(&rt, rt.alloc());
+    assert!(rt; matches!(links.accept(port), Err(OpenFault::Failed)));
+    Ok(())
+}
+
+// The other end goes away with bytes that it didn't read. The link fails then and from then on, and is not ended.
+#[test]
+fn lost_connection_fails(rt: HostRuntime) -> Result<(), Fail> {
+    let (listener, port) = listen(&rt)?;
+    let mut links = TcpLinker::new(&rt, rt.alloc());
+    let mut ends = links.open(&asked(Mode::Tcp(port))).ok().ok_or("memory")?;
+    assert!(rt; ends.out.put(b"message") == Put::Took(7));
+    let (far, _) = listener.accept()?;
+    let mut room = [0; 8];
+    far.peek(&mut room)?;
+    drop(far);
+    assert!(rt; ends.inn.take(&mut room) == Take::Failed);
+    assert!(rt; ends.inn.take(&mut room) == Take::Failed);
+    assert!(rt; ends.out.put(b"message") == Put::Failed);
+    ends.out.finish();
+    Ok(())
+}
+
+// The linker is still there then.
+#[test]
+fn link_is_closed_as_it_is_given_back(rt: HostRuntime) -> Result<(), Fail> {
+    let (listener, port) = listen(&rt)?;
+    let mut links = TcpLinker::new(&rt, rt.alloc());
+    let ends = links.open(&asked(Mode::Tcp(port))).ok().ok_or("memory")?;
+    let (mut far, _) = listener.accept()?;
+    links.back(0, ends);
+    assert!(rt; far.read(&mut [0; 8])? == 0);
+    assert!(rt; links.open(&asked(Mode::Loop)).is_err());
+    Ok(())
+}
+
+/// A signal interrupts the first call; the second one moves what it can, the third nothing, and the fourth fails.
+#[derive(Drop)]
+struct Shaky {
+    calls: u8,
+}
+
+impl Shaky {
+    fn answer(&mut self, most: usize) -> io::Result<usize>
+        ensures { IfOk result (λ n. n ≤ most) }
+    {
+        self.calls = self.calls.saturating_add(1);
+        match self.calls {
+            1 => Err(ErrorKind::Interrupted.into()),
+            2 => Ok(most.min(3)),
+            3 => Ok(0),
+            _ => Err(ErrorKind::ConnectionReset.into()),
+        }
+    }
+}
+
+impl Read for Shaky {
+    fn read(&mut self, buf: &mut [u8]) -> io::Result<usize> {
+        self.answer(buf.len())
+    }
+}
+
+impl Write for Shaky {
+    fn write(&mut self, buf: &[u8]) -> io::Result<usize> {
+        self.answer(buf.len())
+    }
+
+    fn flush(&mut self) -> io::Result<()> {
+        Ok(())
+    }
+}
+
+#[test]
+fn interrupted_calls_are_made_again(rt: HostRuntime) {
+    let mut reader = Shaky { calls: 0 };
+    for want in [Ok(3), Ok(0), Err(Failed)] {
+        assert!(rt; read_some(&mut reader, &mut [0; 4]) == want);
+    }
+    let mut writer = Shaky { calls: 0 };
+    for want in [Ok(3), Err(Failed), Err(Failed)] {
+        assert!(rt; write_some(&mut writer, b"abcd") == want);
+    }
+}
+
+// How many bytes a link has room for.
+const LINK_ROOM: usize = 2_097_152;
+
+// Puts twice as many bytes as a link has room for, and tells how many were taken.
+fn flood(out: &mut TcpHalf) -> usize {
+    let piece = [97; 4_096];
+    let mut put = 0usize;
+    for _ in 0..1_024 {
+        match out.put(&piece) {
+            Put::Took(count) => put = put.saturating_add(count),
+            Put::Again | Put::Failed => return put,
+        }
+    }
+    put
+}
+
+// Takes all that comes, and tells how many bytes came.
+fn drain(inn: &mut TcpIn) -> usize {
+    let mut room = [0; 4_096];
+    let mut taken = 0usize;
+    for _ in 0..10_000_000 {
+        match inn.take(&mut room) {
+            Take::Took(count) => taken = taken.saturating_add(count),
+            _ => return taken,
+        }
+    }
+    taken
+}
+
+// Accepts a connection and floods it.
+fn flood_next<N: Net<Stream = TcpStream, Listener = TcpListener>>(
+    net: &N,
+    alloc: Global,
+    port: u16,
+) -> usize {
+    let mut links = TcpLinker::new(net, alloc);
+    let Ok((mut out, inn)) = links.accept(port) else {
+        return 0;
+    };
+    let put = flood(&mut out);
+    out.finish();
+    links.done(out, inn);
+    put
+}
+
+// Opens a link and takes all that comes; nothing where nobody listens yet.
+fn drain_one<N: Net<Stream = TcpStream, Listener = TcpListener>>(
+    net: &N,
+    alloc: Global,
+    port: u16,
+) -> Option<usize> {
+    let mut links = TcpLinker::new(net, alloc);
+    let mut ends = links.open(&asked(Mode::Tcp(port))).ok()?;
+    let taken = drain(&mut ends.inn);
+    links.back(0, ends);
+    Some(taken)
+}
+
+// The same, as soon as somebody listens.
+fn drain_once_heard<N: Net<Stream = TcpStream, Listener = TcpListener>>(
+    net: &N,
+    alloc: Global,
+    port: u16,
+) -> usize {
+    for _ in 0..1_000_000 {
+        if let Some(taken) = drain_one(net, alloc, port) {
+            return taken;
+        }
+        thread::yield_now();
+    }
+    0
+}
+
+#[test]
+fn connection_takes_more_than_a_link_has_room_for(rt: HostRuntime) -> Result<(), Fail> {
+    let port = free_port(&rt)?;
+    let net = &rt;
+    let alloc = rt.alloc();
+    let (put, taken) = thread::join(
+        &rt,
+        move || flood_next(net, alloc, port),
+        move || drain_once_heard(net, alloc, port),
+    );
+    assert!(rt; put == 2 * LINK_ROOM);
+    assert!(rt; taken == put);
+    Ok(())
+}
