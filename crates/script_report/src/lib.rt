@@ -8,6 +8,7 @@ mod summary;
 mod sums;
 mod told;
 mod words;
+mod writing;
 
 pub use links::Accepted;
 pub use summary::{Load, print_summary};

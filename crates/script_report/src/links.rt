@@ -1,8 +1,8 @@
-ghost use Rattle.std.specs.Prelude.{◌≡◌, ◌++◌, length, take, codes, decimal, IfOk, OnOk, string_bytes};
-ghost use Rattle.sock_words.specs.Printed.{hex_text};
-ghost use Rattle.script_report.specs.Lines.{label_words, labels_text, link_text, order_text, link_lines_text};
+ghost use Rattle.std.specs.Prelude.{◌≡◌, ◌++◌, take, codes, decimal, Some, OnOk};
+ghost use Rattle.script_report.specs.Lines.{label_at, label_words, labels_text, link_text, order_text, link_lines_text};
 
 use crate::operations::OperationPlace;
+use crate::writing::{push_hex_word, push_number, push_pair};
 use std::alloc::{AllocError, Global};
 
 /// How many of the bytes that a link took are shown.
@@ -25,35 +25,22 @@ fn front_of(bytes: &[u8], count: usize) -> &[u8]
     }
 }
 
-// Bytes in hexadecimal, `-` for none.
-fn hex_words(alloc: Global, bytes: &[u8]) -> Result<String, AllocError>
-    ensures { IfOk result (λ text. string_bytes text ≡ hex_text bytes.now) }
+// Appends `link K NAME`.
+fn push_front(text: &mut Vec<u8>, link: usize, name: &[u8]) -> Result<(), AllocError>
+    ensures { OnOk result (text.new.items ≡ text.old.items ++ (codes "link " ++ decimal link ++ codes " " ++ name.now)) }
 {
-    if bytes.is_empty() {
-        String::from_str(alloc, "-")
-    } else {
-        hex::encode(alloc, bytes)
-    }
+    text.extend_from_slice(b"link ")?;
+    push_number(text, link as u64)?;
+    text.extend_from_slice(b" ")?;
+    text.extend_from_slice(name)
 }
 
-// `link K `.
-fn link_words(alloc: Global, link: usize) -> Result<String, AllocError>
-    ensures { IfOk result (λ text. string_bytes text ≡ codes "link " ++ decimal link ++ codes " ") }
+// Appends a word and a number.
+fn push_count(text: &mut Vec<u8>, name: &[u8], count: usize) -> Result<(), AllocError>
+    ensures { OnOk result (text.new.items ≡ text.old.items ++ (name.now ++ decimal count)) }
 {
-    format!(in alloc; "link {link} ")
-}
-
-// ` accepted N placed P took T HEAD`, as it ends the line of a link.
-fn counts_words(
-    alloc: Global,
-    accepted: usize,
-    placed: usize,
-    took: usize,
-    head: &str,
-) -> Result<String, AllocError>
-    ensures { IfOk result (λ text. string_bytes text ≡ codes " accepted " ++ decimal accepted ++ codes " placed " ++ decimal placed ++ codes " took " ++ decimal took ++ codes " " ++ head.now ++ codes "\n") }
-{
-    format!(in alloc; " accepted {accepted} placed {placed} took {took} {head}\n")
+    text.extend_from_slice(name)?;
+    push_number(text, count as u64)
 }
 
 // Appends the first line of a link.
@@ -68,34 +55,39 @@ fn push_counts(
 ) -> Result<(), AllocError>
     ensures { OnOk result (text.new.items ≡ text.old.items ++ link_text link name.now accepted placed took.now) }
 {
-    let front = link_words(alloc, link)?;
-    let head = hex_words(alloc, front_of(took, HEAD))?;
-    let counts = counts_words(alloc, accepted, placed, took.len(), head.as_str())?;
-    text.extend_from_slice(front.as_bytes())?;
-    text.extend_from_slice(name)?;
-    text.extend_from_slice(counts.as_bytes())
+    push_front(text, link, name)?;
+    push_count(text, b" accepted ", accepted)?;
+    push_count(text, b" placed ", placed)?;
+    push_count(text, b" took ", took.len())?;
+    push_hex_word(alloc, text, front_of(took, HEAD))?;
+    text.extend_from_slice(b"\n")
 }
 
-// `C.I.A`.
-fn label_words(
-    alloc: Global,
+// Appends `C.I.A`.
+fn push_attempt(text: &mut Vec<u8>, place: OperationPlace, attempt: u8) -> Result<(), AllocError>
+    ensures { OnOk result (text.new.items ≡ text.old.items ++ label_at (Some place) attempt) }
+{
+    push_pair(text, place.client as u64, b'.', place.number as u64)?;
+    text.extend_from_slice(b".")?;
+    push_number(text, u64::from(attempt))
+}
+
+// Appends the label of an accepted message, where there is such an operation.
+fn push_label(
+    text: &mut Vec<u8>,
     places: &[OperationPlace],
     accepted: Accepted,
-) -> Result<String, AllocError>
-    ensures { IfOk result (λ text. string_bytes text ≡ label_words places.now accepted) }
+) -> Result<(), AllocError>
+    ensures { OnOk result (text.new.items ≡ text.old.items ++ label_words places.now accepted) }
 {
-    let Some(place) = places.get(accepted.operation) else {
-        return Ok(String::new(alloc));
-    };
-    let client = place.client;
-    let number = place.number;
-    let attempt = accepted.attempt;
-    format!(in alloc; "{client}.{number}.{attempt}")
+    match places.get(accepted.operation) {
+        Some(place) => push_attempt(text, *place, accepted.attempt),
+        None => Ok(()),
+    }
 }
 
 // Appends the labels in order.
 fn push_labels(
-    alloc: Global,
     text: &mut Vec<u8>,
     places: &[OperationPlace],
     order: &[Accepted],
@@ -103,23 +95,14 @@ fn push_labels(
     ensures { OnOk result (text.new.items ≡ text.old.items ++ labels_text places.now order.now) }
 {
     for accepted in order {
-        let label = label_words(alloc, places, *accepted)?;
         text.extend_from_slice(b" ")?;
-        text.extend_from_slice(label.as_bytes())?;
+        push_label(text, places, *accepted)?;
     }
     Ok(())
 }
 
-// `order K`.
-fn order_words(alloc: Global, link: usize) -> Result<String, AllocError>
-    ensures { IfOk result (λ text. string_bytes text ≡ codes "order " ++ decimal link) }
-{
-    format!(in alloc; "order {link}")
-}
-
 // Appends the second line of a link.
 fn push_order(
-    alloc: Global,
     text: &mut Vec<u8>,
     places: &[OperationPlace],
     link: usize,
@@ -127,9 +110,9 @@ fn push_order(
 ) -> Result<(), AllocError>
     ensures { OnOk result (text.new.items ≡ text.old.items ++ order_text places.now link order.now) }
 {
-    let front = order_words(alloc, link)?;
-    text.extend_from_slice(front.as_bytes())?;
-    push_labels(alloc, text, places, order)?;
+    text.extend_from_slice(b"order ")?;
+    push_number(text, link as u64)?;
+    push_labels(text, places, order)?;
     text.extend_from_slice(b"\n")
 }
 
@@ -147,5 +130,5 @@ pub fn push_link(
     ensures { OnOk result (text.new.items ≡ text.old.items ++ link_lines_text places.now link name.now order.now placed took.now) }
 {
     push_counts(alloc, text, link, name, order.len(), placed, took)?;
-    push_order(alloc, text, places, link, order)
+    push_order(text, places, link, order)
 }

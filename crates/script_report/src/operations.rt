@@ -1,9 +1,12 @@
-ghost use Rattle.std.specs.Prelude.{◌≡◌, map, IfOk, string_bytes};
+ghost use Rattle.std.specs.Prelude.{◌≡◌, ◌++◌, map, decimal, IfOk, OnOk};
+ghost use Rattle.sock_words.specs.OutcomeText.{outcome_text};
+ghost use Rattle.sock_words.specs.Printed.{word};
 ghost use Rattle.brpc_model.specs.Items.{is_operation};
 ghost use Rattle.brpc_model.specs.Operations.{operations};
 ghost use Rattle.script_items.specs.Meaning.{item};
 ghost use Rattle.script_report.specs.Lines.{place_of, outcome_text_line};
 
+use crate::writing::{push_hex_word, push_number, push_number_word, push_pair};
 use script_items::Line;
 use sock_words::Outcome;
 use std::alloc::{AllocError, Global};
@@ -31,7 +34,7 @@ pub fn is_operation(line: &Line) -> bool
 pub fn places_of(alloc: Global, lines: &[Line]) -> Result<Vec<OperationPlace>, AllocError>
     ensures { IfOk result (λ places. places.items ≡ map place_of (operations (map item lines.now))) }
 {
-    let mut places = Vec::new(alloc);
+    let mut places = Vec::with_capacity(alloc, lines.len())?;
     let mut client = 0usize;
     let mut number = 1usize;
     for line in lines {
@@ -46,15 +49,69 @@ pub fn places_of(alloc: Global, lines: &[Line]) -> Result<Vec<OperationPlace>, A
     Ok(places)
 }
 
-/// `C.I OUTCOME`.
-pub fn outcome_line(
+// A word, a link and a position there.
+fn push_position(
+    text: &mut Vec<u8>,
+    name: &[u8],
+    link: u16,
+    position: u32,
+) -> Result<(), AllocError>
+    ensures { OnOk result (text.new.items ≡ text.old.items ++ (name.now ++ decimal link ++ word (decimal position))) }
+{
+    text.extend_from_slice(name)?;
+    push_pair(text, u64::from(link), b' ', u64::from(position))
+}
+
+// A space, and an outcome as it displays itself.
+fn push_displayed(alloc: Global, text: &mut Vec<u8>, outcome: &Outcome) -> Result<(), AllocError>
+    ensures { OnOk result (text.new.items ≡ text.old.items ++ word (outcome_text outcome.now)) }
+{
+    let words = format!(in alloc; " {outcome}")?;
+    text.extend_from_slice(words.as_bytes())
+}
+
+// A space and an outcome. Those that a run has by the thousand are written with no memory of their own.
+fn push_outcome(alloc: Global, text: &mut Vec<u8>, outcome: &Outcome) -> Result<(), AllocError>
+    ensures { OnOk result (text.new.items ≡ text.old.items ++ word (outcome_text outcome.now)) }
+{
+    match outcome {
+        Outcome::Opened {
+            slot,
+            version,
+            link,
+        } => {
+            text.extend_from_slice(b" open ")?;
+            push_pair(text, u64::from(*slot), b' ', u64::from(*version))?;
+            push_number_word(text, u64::from(*link))
+        }
+        Outcome::SlotsFull => text.extend_from_slice(b" slots full"),
+        Outcome::Placed { link, position } => push_position(text, b" placed ", *link, *position),
+        Outcome::Dropped { link, position } => push_position(text, b" dropped ", *link, *position),
+        Outcome::Answered {
+            id,
+            payload,
+            attachment,
+        } => {
+            text.extend_from_slice(b" call ")?;
+            push_number(text, *id)?;
+            text.extend_from_slice(b" answered")?;
+            push_hex_word(alloc, text, payload.as_slice())?;
+            push_hex_word(alloc, text, attachment.as_slice())
+        }
+        _ => push_displayed(alloc, text, outcome),
+    }
+}
+
+/// Appends `C.I OUTCOME`.
+pub fn push_outcome_line(
     alloc: Global,
+    text: &mut Vec<u8>,
     place: OperationPlace,
     outcome: &Outcome,
-) -> Result<String, AllocError>
-    ensures { IfOk result (λ text. string_bytes text ≡ outcome_text_line place outcome.now) }
+) -> Result<(), AllocError>
+    ensures { OnOk result (text.new.items ≡ text.old.items ++ outcome_text_line place outcome.now) }
 {
-    let client = place.client;
-    let number = place.number;
-    format!(in alloc; "{client}.{number} {outcome}\n")
+    push_pair(text, place.client as u64, b'.', place.number as u64)?;
+    push_outcome(alloc, text, outcome)?;
+    text.extend_from_slice(b"\n")
 }

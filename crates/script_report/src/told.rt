@@ -1,4 +1,4 @@
-ghost use Rattle.std.specs.Prelude.{◌≡◌, ◌*◌, ◌++◌, map, None, IfOk, OnOk, string_bytes};
+ghost use Rattle.std.specs.Prelude.{◌≡◌, ◌*◌, ◌++◌, map, None, IfOk, OnOk};
 ghost use Rattle.brpc_model.specs.Operations.{link_names};
 ghost use Rattle.sock_words.specs.Words.{HasPosition};
 ghost use Rattle.script_items.specs.Meaning.{item};
@@ -7,28 +7,32 @@ ghost use Rattle.brpc_model.specs.PlaceWords.{word_at, ArePlaces, HasEachOutcome
 ghost use Rattle.script_report.specs.Rows.{row_at, rows_text};
 
 use crate::links::{Accepted, push_link};
-use crate::operations::{OperationPlace, outcome_line, places_of};
+use crate::operations::{OperationPlace, places_of, push_outcome_line};
 use crate::orders::orders_of;
 use crate::words::{count_placed, first_word, outcome_by_word};
 use script_items::Line;
 use sock_words::{Outcome, PlaceWord};
 use std::alloc::{AllocError, Global};
 
-// The line of an operation, by what was said of it or else by its place word; none where neither tells.
-fn told_line(
+/// How many bytes the line of an operation has, as a guess.
+const LINE_ROOM: usize = 24;
+
+// Appends the line of an operation, by what was said of it or else by its place word; none where neither tells.
+fn push_told_line(
     alloc: Global,
+    text: &mut Vec<u8>,
     place: OperationPlace,
     operation: usize,
     said: &Option<Outcome>,
     words: &[PlaceWord],
-) -> Result<String, AllocError>
-    ensures { IfOk result (λ text. (said.now ≡ None → HasPosition (word_at words.now (8 * operation))) → string_bytes text ≡ outcome_text_line place (outcome_of words.now operation said.now)) }
+) -> Result<(), AllocError>
+    ensures { OnOk result ((said.now ≡ None → HasPosition (word_at words.now (8 * operation))) → text.new.items ≡ text.old.items ++ outcome_text_line place (outcome_of words.now operation said.now)) }
 {
     match said {
-        Some(outcome) => outcome_line(alloc, place, outcome),
+        Some(outcome) => push_outcome_line(alloc, text, place, outcome),
         None => match outcome_by_word(first_word(words, operation)) {
-            Some(outcome) => outcome_line(alloc, place, &outcome),
-            None => Ok(String::new(alloc)),
+            Some(outcome) => push_outcome_line(alloc, text, place, &outcome),
+            None => Ok(()),
         },
     }
 }
@@ -48,8 +52,7 @@ fn push_told(
         let Some(place) = operations.get(operation) else {
             return Ok(());
         };
-        let line = told_line(alloc, *place, operation, outcome, words)?;
-        text.extend_from_slice(line.as_bytes())?;
+        push_told_line(alloc, text, *place, operation, outcome, words)?;
         operation = operation.saturating_add(1);
     }
     Ok(())
@@ -125,7 +128,7 @@ pub fn print_report(
 {
     let operations = places_of(alloc, lines)?;
     let orders = orders_of(alloc, lines, words)?;
-    let mut text = Vec::new(alloc);
+    let mut text = Vec::with_capacity(alloc, said.len().saturating_mul(LINE_ROOM))?;
     push_told(alloc, &mut text, &operations, said, words)?;
     push_rows(alloc, &mut text, &operations, lines, words, &orders, took)?;
     text.extend_from_slice(b"end\n")?;

@@ -1,5 +1,4 @@
-use sock_words::{AtWord, IdWord, OutBytes, Outcome, PlaceWord, SocketId, Ticket, Vref};
-use std::alloc::{AllocError, Global};
+use sock_words::{AtWord, IdWord, Outcome, PlaceWord, SocketId, Ticket, Vref};
 use std::test::Fail;
 
 #[test]
@@ -36,79 +35,15 @@ fn words_have_their_bits(rt: HostRuntime) {
     }
 }
 
-fn answered(alloc: Global, id: u64, payload: &[u8]) -> Result<Outcome, AllocError> {
-    Ok(Outcome::Answered {
-        id,
-        payload: OutBytes::new(payload.to_vec(alloc)?),
-        attachment: OutBytes::new(Vec::new(alloc)),
-    })
-}
-
+// Those that no row of a script shows.
 #[test]
 fn outcomes_are_shown(rt: HostRuntime) -> Result<(), Fail> {
-    let alloc = rt.alloc();
     let found = Vref::pack(2, 1);
-    assert!(rt; answered(alloc, 1, b"hi")? == answered(alloc, 1, b"hi")?);
-    assert!(rt; answered(alloc, 1, b"hi")? != answered(alloc, 1, b"ho")?);
-    let table: [(Outcome, &str); 23] = [
-        (
-            Outcome::Opened {
-                slot: 0,
-                version: 4_294_967_292,
-                link: 1,
-            },
-            "open 0 4294967292 1",
-        ),
-        (Outcome::SlotsFull, "slots full"),
-        (Outcome::Unopened, "unopened"),
-        (Outcome::Gone { found }, "gone 0000000200000001"),
-        (
-            Outcome::Placed {
-                link: 0,
-                position: 1,
-            },
-            "placed 0 1",
-        ),
-        (
-            Outcome::Dropped {
-                link: 0,
-                position: 1,
-            },
-            "dropped 0 1",
-        ),
-        (Outcome::Full, "full"),
-        (answered(alloc, 1, b"hi")?, "call 1 answered 6869 -"),
-        (
-            answered(alloc, 2, &[0, 0, 0, 0xd1])?,
-            "call 2 answered 000000d1 -",
-        ),
-        (Outcome::Peer { id: 5, code: 1001 }, "call 5 peer 1001"),
-        (
-            Outcome::CallFailed { id: 1, code: 1008 },
-            "call 1 failed 1008",
-        ),
-        (Outcome::Held, "held"),
-        (Outcome::Freed, "freed"),
-        (Outcome::Kept, "kept"),
-        (Outcome::NotHeld, "not held"),
-        (Outcome::Failed, "failed"),
-        (Outcome::Already { found }, "already 0000000200000001"),
-        (Outcome::Expired, "expired"),
-        (Outcome::Queued, "queued"),
-        (Outcome::Late, "late"),
-        (
-            Outcome::Crowded {
-                first: 1500,
-                second: 1501,
-            },
-            "crowded 1500 1501",
-        ),
-        (Outcome::Joined, "joined"),
-        (Outcome::NotBegun, "not begun"),
-    ];
-    for (outcome, expected) in table {
-        let text = format!(in alloc; "{outcome}")?;
-        assert!(rt; text.as_str() == expected);
-    }
+    let already = Outcome::Already { found };
+    let text = format!(in rt.alloc(); "{already}")?;
+    assert!(rt; text.as_str() == "already 0000000200000001");
+    let not_held = Outcome::NotHeld;
+    let text = format!(in rt.alloc(); "{not_held}")?;
+    assert!(rt; text.as_str() == "not held");
     Ok(())
 }

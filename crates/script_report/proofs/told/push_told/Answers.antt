@@ -1,4 +1,4 @@
-use Rattle.std.proofs.Common.{◌≡◌, ◌+◌, ◌++◌, drop, slice_get, Some, ap, sym, ◌∙◌, arith}
+use Rattle.std.proofs.Common.{◌≡◌, ◌+◌, ◌++◌, drop, slice_get, Some, refl, ap, sym, ◌∙◌, arith}
 use Rattle.std.proofs.lemmas.Option.{slice_get-get_or}
 use Rattle.script_report.specs.Lines.{outcome_text_lines}
 use Rattle.brpc_model.specs.PlaceWords.{outcomes_from}
@@ -18,8 +18,7 @@ loop-outcome-preserved c =
       text = λ has. told_more l.text.items _ _ (c.args.text.now.items ++ outcome_text_lines c.args.operations.now (outcomes_from c.args.words.now 0 said)) c.args.operations.now c.args.words.now said l.operation l.outcome-index _
           c.in-Some.place.now here l.invariant.at next
           (looked_up c.get.result c.args.operations.now l.operation c.in-Some.place c.in-Some.is c.get.ensures.lookup.3) unsaid
-          (c.as_bytes.ensures.value ∙ c.in_ok-line.ensures (λ none. has l.operation (ap (slice_get said) l.invariant.at ∙ unsaid ∙ ap Some none)))
-          c.in_ok-extend_from_slice.ensures.items (l.invariant.text has);
+          refl (c.in_ok-push_told_line.ensures (λ none. has l.operation (ap (slice_get said) l.invariant.at ∙ unsaid ∙ ap Some none))) (l.invariant.text has);
     }
 
 pub returns : goal.returns
