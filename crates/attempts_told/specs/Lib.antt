@@ -1,2 +1,1 @@
 pub mod Attempts
-pub use Rattle.call_whys

@@ -10,13 +10,13 @@ use Rattle.corr_core.specs.declared.marks.Plan.{Plan}
 use Rattle.sock_message.specs.Asked.{Asked}
 use Rattle.rpc_client.specs.declared.acting.Told.{Told}
 use Rattle.script_calls.proofs.Sayings.{told_each, none_told}
-use Rattle.attempts_told.specs.call_whys.specs.call_told.specs.Answers.{IsFailure, IsOwn, HasAnswer, HaveAnswers, AreAnsweredBy, at_end}
-use Rattle.attempts_told.specs.call_whys.specs.call_told.proofs.Lists.{all_both, all_then, all_at}
-use Rattle.attempts_told.specs.call_whys.specs.call_told.proofs.Noting.{later_then}
-use Rattle.attempts_told.specs.call_whys.specs.call_told.proofs.Making.{AllMade, later_made, all_made, events_made}
-use Rattle.attempts_told.specs.call_whys.specs.call_told.proofs.Linked.{all_told, read_later, rest_later}
-use Rattle.attempts_told.specs.call_whys.specs.call_told.proofs.Answering.{IsAskedIn, Answers, AllHave, failure_answer, own_answer, tells_answers}
-use Rattle.attempts_told.specs.call_whys.specs.call_told.proofs.Backs.{answered_by}
+use Rattle.call_whys.specs.call_told.specs.Answers.{IsFailure, IsOwn, HasAnswer, HaveAnswers, AreAnsweredBy, at_end}
+use Rattle.call_whys.specs.call_told.proofs.Lists.{all_both, all_then, all_at}
+use Rattle.call_whys.specs.call_told.proofs.Noting.{later_then}
+use Rattle.call_whys.specs.call_told.proofs.Making.{AllMade, later_made, all_made, events_made}
+use Rattle.call_whys.specs.call_told.proofs.Linked.{all_told, read_later, rest_later}
+use Rattle.call_whys.specs.call_told.proofs.Answering.{IsAskedIn, Answers, AllHave, failure_answer, own_answer, tells_answers}
+use Rattle.call_whys.specs.call_told.proofs.Backs.{answered_by}
 use Rattle.script_calls.specs.Reading.{IdSeat, begins, HasRead}
 use Rattle.script_calls.specs.Told.{HasGivenNone, outcomes_of}
 

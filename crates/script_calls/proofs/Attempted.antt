@@ -36,18 +36,18 @@ use Rattle.sock_programs.specs.Tasks.{plan_of, calls}
 use Rattle.sock_programs.specs.Told.{TaskFits, OpFits, IsTask, Became}
 use Rattle.report_fits.proofs.Lists.{has_from, all_at as all_there}
 use Rattle.rpc_client.specs.declared.acting.Told.{Told}
-use Rattle.attempts_told.specs.call_whys.specs.call_told.specs.Answers.{IsGiver}
-use Rattle.attempts_told.specs.call_whys.specs.call_told.specs.Once.{ends_of}
-use Rattle.attempts_told.specs.call_whys.specs.call_places.specs.Counted.{makes}
-use Rattle.attempts_told.specs.call_whys.specs.call_places.proofs.Clients.{Client, tasks_of}
-use Rattle.attempts_told.specs.call_whys.specs.call_places.proofs.Ids.{IsIdOf, one_id}
-use Rattle.attempts_told.specs.call_whys.specs.call_places.proofs.Places.{all as all_clients, all_are, tasks_are}
-use Rattle.attempts_told.specs.call_whys.specs.call_places.proofs.Still.{advances}
-use Rattle.attempts_told.specs.call_whys.specs.call_places.proofs.Weights.{term, noted_at}
+use Rattle.call_whys.specs.call_told.specs.Answers.{IsGiver}
+use Rattle.call_whys.specs.call_told.specs.Once.{ends_of}
+use Rattle.call_whys.specs.call_places.specs.Counted.{makes}
+use Rattle.call_whys.specs.call_places.proofs.Clients.{Client, tasks_of}
+use Rattle.call_whys.specs.call_places.proofs.Ids.{IsIdOf, one_id}
+use Rattle.call_whys.specs.call_places.proofs.Places.{all as all_clients, all_are, tasks_are}
+use Rattle.call_whys.specs.call_places.proofs.Still.{advances}
+use Rattle.call_whys.specs.call_places.proofs.Weights.{term, noted_at}
 use Rattle.call_run.specs.Threads.{ids_of, Thread}
-use Rattle.attempts_told.specs.call_whys.specs.call_deeds.specs.Retried.{all_asked}
-use Rattle.attempts_told.specs.call_whys.specs.call_deeds.proofs.Ran.{AreLater}
-use Rattle.attempts_told.specs.call_whys.specs.call_deeds.proofs.Told.{task_at}
+use Rattle.call_whys.specs.call_deeds.specs.Retried.{all_asked}
+use Rattle.call_whys.specs.call_deeds.proofs.Ran.{AreLater}
+use Rattle.call_whys.specs.call_deeds.proofs.Told.{task_at}
 use Rattle.callless_fits.specs.sock_deeds.specs.Told.{fixed_by, ToldSockets}
 use Rattle.attempts_told.specs.Attempts.{AreAttemptsTold}
 use Rattle.attempts_told.proofs.Reading.{rest_unmoved, read_unmoved}

@@ -36,11 +36,11 @@ use Rattle.report_fits.proofs.Tasks.{tasks_of_script}
 use Rattle.rpc_client.specs.declared.acting.Told.{Told}
 use Rattle.script_calls.proofs.Sayings.{to_slice, from_slice, long_each, none_long}
 use Rattle.call_run.specs.Threads.{ids_of, RanOn}
-use Rattle.attempts_told.specs.call_whys.specs.call_told.specs.Least.{HasBegun, IsEndTold}
-use Rattle.attempts_told.specs.call_whys.specs.call_told.proofs.Coming.{HasCome, tells, began, sends}
-use Rattle.attempts_told.specs.call_whys.specs.call_told.proofs.Growing.{own_at}
-use Rattle.attempts_told.specs.call_whys.specs.call_told.proofs.Least.{AllEnded, told_least}
-use Rattle.attempts_told.specs.call_whys.specs.call_told.proofs.Moves.{Fits}
+use Rattle.call_whys.specs.call_told.specs.Least.{HasBegun, IsEndTold}
+use Rattle.call_whys.specs.call_told.proofs.Coming.{HasCome, tells, began, sends}
+use Rattle.call_whys.specs.call_told.proofs.Growing.{own_at}
+use Rattle.call_whys.specs.call_told.proofs.Least.{AllEnded, told_least}
+use Rattle.call_whys.specs.call_told.proofs.Moves.{Fits}
 use Rattle.script_calls.specs.Reading.{IdSeat, begins, HasRead}
 use Rattle.script_calls.specs.Told.{outcomes_of}
 use Rattle.script_calls.proofs.Began.{each_one, tell, few, IsOneOf, one_of, one_come}

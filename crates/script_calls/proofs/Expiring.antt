@@ -27,10 +27,10 @@ use Rattle.report_fits.proofs.Targets.{expired, are_there}
 use Rattle.report_fits.proofs.TaskLemmas.{numbers_at, task_is, expire_asks}
 use Rattle.rpc_client.specs.declared.acting.Told.{Told}
 use Rattle.call_run.specs.Threads.{ids_of}
-use Rattle.attempts_told.specs.call_whys.specs.call_told.proofs.Tallies.{Tally, tally_then, read_accounts, rest_accounts}
-use Rattle.attempts_told.specs.call_whys.specs.expire_told.specs.Said.{AreOfCalls, HaveKeptOf}
-use Rattle.attempts_told.specs.call_whys.specs.expire_told.proofs.Making.{have_kept}
-use Rattle.attempts_told.specs.call_whys.specs.expire_told.proofs.Whole.{expire_why, once}
+use Rattle.call_whys.specs.call_told.proofs.Tallies.{Tally, tally_then, read_accounts, rest_accounts}
+use Rattle.call_whys.specs.expire_told.specs.Said.{AreOfCalls, HaveKeptOf}
+use Rattle.call_whys.specs.expire_told.proofs.Making.{have_kept}
+use Rattle.call_whys.specs.expire_told.proofs.Whole.{expire_why, once}
 use Rattle.script_calls.specs.Reading.{IdSeat, begins, HasRead}
 use Rattle.script_calls.specs.Told.{IsLeft, AreCallsTold, outcomes_of}
 use Rattle.script_calls.proofs.Placed.{are, may, have}

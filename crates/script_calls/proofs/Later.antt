@@ -25,13 +25,13 @@ use Rattle.report_fits.proofs.Lists.{contains_from, all_at as all_there}
 use Rattle.rpc_client.specs.declared.acting.Told.{Told}
 use Rattle.script_calls.proofs.Sayings.{to_slice}
 use Rattle.call_run.specs.Threads.{opens_of, opened_names, openings, ids_of, Thread, IsThread, AreThreads}
-use Rattle.attempts_told.specs.call_whys.specs.call_told.proofs.Lists.{all_at}
-use Rattle.attempts_told.specs.call_whys.specs.call_told.proofs.Making.{AllMade, made_fits}
-use Rattle.attempts_told.specs.call_whys.specs.call_places.specs.Counted.{HaveNotesOf}
-use Rattle.attempts_told.specs.call_whys.specs.call_places.proofs.Weights.{term, mapped}
-use Rattle.attempts_told.specs.call_whys.specs.call_deeds.specs.Retried.{Again, all_asked}
-use Rattle.attempts_told.specs.call_whys.specs.call_deeds.specs.Scripts.{AllLater}
-use Rattle.attempts_told.specs.call_whys.specs.call_deeds.proofs.Ran.{AreLater}
+use Rattle.call_whys.specs.call_told.proofs.Lists.{all_at}
+use Rattle.call_whys.specs.call_told.proofs.Making.{AllMade, made_fits}
+use Rattle.call_whys.specs.call_places.specs.Counted.{HaveNotesOf}
+use Rattle.call_whys.specs.call_places.proofs.Weights.{term, mapped}
+use Rattle.call_whys.specs.call_deeds.specs.Retried.{Again, all_asked}
+use Rattle.call_whys.specs.call_deeds.specs.Scripts.{AllLater}
+use Rattle.call_whys.specs.call_deeds.proofs.Ran.{AreLater}
 use Rattle.callless_fits.specs.sock_deeds.specs.Runs.{IsOperation}
 use Rattle.script_calls.specs.Reading.{IdSeat, HasRead}
 use Rattle.script_calls.specs.Told.{IsLeft}

@@ -35,12 +35,12 @@ use Rattle.rpc_client.specs.declared.acting.Told.{Told}
 use Rattle.rpc_reader.specs.Books.{Books}
 use Rattle.rpc_reader.specs.Resting.{OneEnded, RestEnded}
 use Rattle.call_run.specs.Threads.{Thread, MayRunAll, ids_of}
-use Rattle.attempts_told.specs.call_whys.specs.call_places.specs.Counted.{makes, HaveNotesOf}
-use Rattle.attempts_told.specs.call_whys.specs.call_places.proofs.Clients.{Client, tasks_of, deeds_of}
-use Rattle.attempts_told.specs.call_whys.specs.call_places.proofs.Ids.{IdLaws}
-use Rattle.attempts_told.specs.call_whys.specs.call_places.proofs.Own.{IsMade, deed_of}
-use Rattle.attempts_told.specs.call_whys.specs.call_places.proofs.Places.{all, all_are, tasks_are, are_places, send_placed}
-use Rattle.attempts_told.specs.call_whys.specs.call_places.proofs.Reader.{MadeNone, none_then, none_noted, none_rested, read_none}
+use Rattle.call_whys.specs.call_places.specs.Counted.{makes, HaveNotesOf}
+use Rattle.call_whys.specs.call_places.proofs.Clients.{Client, tasks_of, deeds_of}
+use Rattle.call_whys.specs.call_places.proofs.Ids.{IdLaws}
+use Rattle.call_whys.specs.call_places.proofs.Own.{IsMade, deed_of}
+use Rattle.call_whys.specs.call_places.proofs.Places.{all, all_are, tasks_are, are_places, send_placed}
+use Rattle.call_whys.specs.call_places.proofs.Reader.{MadeNone, none_then, none_noted, none_rested, read_none}
 use Rattle.script_calls.specs.Reading.{IdSeat, begins, HasRead}
 use Rattle.script_calls.specs.Told.{outcomes_of, IsLeft}
 use Rattle.script_calls.proofs.Each.{each_outcome}

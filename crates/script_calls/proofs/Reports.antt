@@ -26,13 +26,13 @@ use Rattle.script_calls.specs.Halves.{AreTaken, rest_of, joined}
 use Rattle.script_calls.proofs.Parting.{end_at, IsSilent, are_silent}
 use Rattle.script_calls.proofs.Sayings.{long_each}
 use Rattle.call_run.specs.Threads.{ids_of, RanOn}
-use Rattle.attempts_told.specs.call_whys.specs.call_told.specs.Answers.{IsFailure, IsOwn, AreAnsweredBy}
-use Rattle.attempts_told.specs.call_whys.specs.call_told.proofs.Balance.{AreBalanced}
+use Rattle.call_whys.specs.call_told.specs.Answers.{IsFailure, IsOwn, AreAnsweredBy}
+use Rattle.call_whys.specs.call_told.proofs.Balance.{AreBalanced}
 use Rattle.script_calls.specs.Reading.{IdSeat, HasRead}
 use Rattle.script_calls.specs.Told.{outcomes_of, HasGivenNone, IsLeft, IsReported, IsCallText, IsCallRun}
 use Rattle.script_calls.proofs.Clients.{owns, failures, balanced}
-use Rattle.attempts_told.specs.call_whys.specs.call_told.proofs.Making.{AllMade}
-use Rattle.attempts_told.specs.call_whys.specs.call_told.proofs.Answering.{IsAskedIn}
+use Rattle.call_whys.specs.call_told.proofs.Making.{AllMade}
+use Rattle.call_whys.specs.call_told.proofs.Answering.{IsAskedIn}
 use Rattle.script_calls.proofs.Answered.{run_answered}
 use Rattle.script_calls.proofs.Asked.{AskFor, all_ask, ids_made, notes_of_seats}
 use Rattle.script_calls.proofs.Shown.{run_shown}

@@ -12,11 +12,11 @@ use Rattle.corr_core.specs.declared.marks.View.{View}
 use Rattle.sock_message.specs.Asked.{Asked}
 use Rattle.rpc_client.specs.declared.acting.Told.{Told}
 use Rattle.script_calls.specs.Saying.{said_by, said_by_each}
-use Rattle.attempts_told.specs.call_whys.specs.call_told.specs.Answers.{IsOwn}
-use Rattle.attempts_told.specs.call_whys.specs.call_told.specs.Once.{told_ends, ToldOnce, shows, ShownOnce}
-use Rattle.attempts_told.specs.call_whys.specs.call_told.proofs.Balance.{AreBalanced}
-use Rattle.attempts_told.specs.call_whys.specs.call_told.proofs.Once.{told_once}
-use Rattle.attempts_told.specs.call_whys.specs.call_told.proofs.Shown.{shown_none, shown_set, shown_once}
+use Rattle.call_whys.specs.call_told.specs.Answers.{IsOwn}
+use Rattle.call_whys.specs.call_told.specs.Once.{told_ends, ToldOnce, shows, ShownOnce}
+use Rattle.call_whys.specs.call_told.proofs.Balance.{AreBalanced}
+use Rattle.call_whys.specs.call_told.proofs.Once.{told_once}
+use Rattle.call_whys.specs.call_told.proofs.Shown.{shown_none, shown_set, shown_once}
 use Rattle.script_calls.specs.Reading.{IdSeat, begins, HasRead}
 use Rattle.script_calls.specs.Told.{outcomes_of}
 

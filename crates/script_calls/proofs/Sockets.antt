@@ -31,11 +31,11 @@ use Rattle.report_fits.proofs.Lists.{has_from, has_none}
 use Rattle.rpc_client.specs.declared.acting.Told.{Told}
 use Rattle.script_calls.proofs.Sayings.{long_each, none_long, from_slice}
 use Rattle.call_run.specs.Threads.{ids_of}
-use Rattle.attempts_told.specs.call_whys.specs.call_told.specs.Answers.{IsGiver}
-use Rattle.attempts_told.specs.call_whys.specs.call_places.proofs.Places.{log_differs}
-use Rattle.attempts_told.specs.call_whys.specs.call_deeds.specs.Scripts.{AllHaveLinks}
-use Rattle.attempts_told.specs.call_whys.specs.call_deeds.proofs.Runs.{deed_run}
-use Rattle.attempts_told.specs.call_whys.specs.call_deeds.proofs.Whole.{told_of_run}
+use Rattle.call_whys.specs.call_told.specs.Answers.{IsGiver}
+use Rattle.call_whys.specs.call_places.proofs.Places.{log_differs}
+use Rattle.call_whys.specs.call_deeds.specs.Scripts.{AllHaveLinks}
+use Rattle.call_whys.specs.call_deeds.proofs.Runs.{deed_run}
+use Rattle.call_whys.specs.call_deeds.proofs.Whole.{told_of_run}
 use Rattle.callless_fits.specs.sock_deeds.specs.Left.{accepted_of, homes_of}
 use Rattle.callless_fits.specs.sock_deeds.specs.Runs.{DeedRun}
 use Rattle.callless_fits.specs.sock_deeds.specs.Told.{fixed_by, ToldSockets}

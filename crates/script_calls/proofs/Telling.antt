@@ -32,7 +32,7 @@ use Rattle.sock_programs.specs.declared.task.Op.TheVariants as ops
 use Rattle.sock_programs.specs.declared.task.Task.{Task}
 use Rattle.sock_programs.specs.Tasks.{plan_of, calls}
 use Rattle.sock_programs.specs.Told.{IsTask, Became}
-use Rattle.attempts_told.specs.call_whys.specs.sock_causes.proofs.Tasks.{sorted_of}
+use Rattle.call_whys.specs.sock_causes.proofs.Tasks.{sorted_of}
 use Rattle.report_fits.proofs.Lists.{some_is, contains_from, within, all_map, all_at as all_there}
 use Rattle.report_fits.proofs.TaskLemmas.{IsTaskOf, task_is, asks_at, asked_at, operation_task}
 use Rattle.rpc_client.specs.declared.acting.Told.{Told}
@@ -40,26 +40,26 @@ use Rattle.script_calls.proofs.Sayings.{to_slice, long_each, told_each, none_lon
 use Rattle.rpc_reader.specs.Books.{id_of}
 use Rattle.call_run.specs.call_client.specs.Running.{MayMakeAll}
 use Rattle.call_run.specs.Threads.{ids_of, opens_of, Thread, AllMayRun}
-use Rattle.attempts_told.specs.call_whys.specs.call_told.specs.Answers.{EndedBy, by_code, by_response, ToldFrom, at_end}
-use Rattle.attempts_told.specs.call_whys.specs.call_told.specs.Least.{is_made_for, is_locked_for, HasBegun as HasBegunHere}
-use Rattle.attempts_told.specs.call_whys.specs.call_told.specs.Once.{ends_of, told_ends, ToldOnce}
-use Rattle.attempts_told.specs.call_whys.specs.call_told.proofs.Answering.{noted_place}
-use Rattle.attempts_told.specs.call_whys.specs.call_told.proofs.Balance.{balanced_all}
-use Rattle.attempts_told.specs.call_whys.specs.call_told.proofs.Ends.{IsEndIn}
-use Rattle.attempts_told.specs.call_whys.specs.call_told.proofs.Least.{lock_of}
-use Rattle.attempts_told.specs.call_whys.specs.call_told.proofs.Linked.{all_told}
-use Rattle.attempts_told.specs.call_whys.specs.call_told.proofs.Lists.{all_at}
-use Rattle.attempts_told.specs.call_whys.specs.call_told.proofs.Moves.{Fits}
-use Rattle.attempts_told.specs.call_whys.specs.call_told.proofs.Tallies.{ending_is}
-use Rattle.attempts_told.specs.call_whys.specs.call_places.specs.Counted.{makes_for, makes, HaveNotesOf}
-use Rattle.attempts_told.specs.call_whys.specs.call_places.proofs.Clients.{Client, total_map, tasks_of, view_of as ids_seen}
-use Rattle.attempts_told.specs.call_whys.specs.call_places.proofs.Counts.{call_in, made_few, task_total}
-use Rattle.attempts_told.specs.call_whys.specs.call_places.proofs.Numbers.{numbered, numbered_once, own_calls}
-use Rattle.attempts_told.specs.call_whys.specs.call_places.proofs.Places.{all as all_clients, all_are, tasks_are, views_are}
-use Rattle.attempts_told.specs.call_whys.specs.call_places.proofs.Weights.{term, two_terms, each_less, mapped, noted_at}
-use Rattle.attempts_told.specs.call_whys.specs.call_deeds.specs.Scripts.{Reports}
-use Rattle.attempts_told.specs.call_whys.specs.call_deeds.proofs.Ran.{Result}
-use Rattle.attempts_told.specs.call_whys.specs.call_deeds.proofs.Told.{all_results, task_at, said_of, one_place}
+use Rattle.call_whys.specs.call_told.specs.Answers.{EndedBy, by_code, by_response, ToldFrom, at_end}
+use Rattle.call_whys.specs.call_told.specs.Least.{is_made_for, is_locked_for, HasBegun as HasBegunHere}
+use Rattle.call_whys.specs.call_told.specs.Once.{ends_of, told_ends, ToldOnce}
+use Rattle.call_whys.specs.call_told.proofs.Answering.{noted_place}
+use Rattle.call_whys.specs.call_told.proofs.Balance.{balanced_all}
+use Rattle.call_whys.specs.call_told.proofs.Ends.{IsEndIn}
+use Rattle.call_whys.specs.call_told.proofs.Least.{lock_of}
+use Rattle.call_whys.specs.call_told.proofs.Linked.{all_told}
+use Rattle.call_whys.specs.call_told.proofs.Lists.{all_at}
+use Rattle.call_whys.specs.call_told.proofs.Moves.{Fits}
+use Rattle.call_whys.specs.call_told.proofs.Tallies.{ending_is}
+use Rattle.call_whys.specs.call_places.specs.Counted.{makes_for, makes, HaveNotesOf}
+use Rattle.call_whys.specs.call_places.proofs.Clients.{Client, total_map, tasks_of, view_of as ids_seen}
+use Rattle.call_whys.specs.call_places.proofs.Counts.{call_in, made_few, task_total}
+use Rattle.call_whys.specs.call_places.proofs.Numbers.{numbered, numbered_once, own_calls}
+use Rattle.call_whys.specs.call_places.proofs.Places.{all as all_clients, all_are, tasks_are, views_are}
+use Rattle.call_whys.specs.call_places.proofs.Weights.{term, two_terms, each_less, mapped, noted_at}
+use Rattle.call_whys.specs.call_deeds.specs.Scripts.{Reports}
+use Rattle.call_whys.specs.call_deeds.proofs.Ran.{Result}
+use Rattle.call_whys.specs.call_deeds.proofs.Told.{all_results, task_at, said_of, one_place}
 use Rattle.callless_fits.specs.sock_deeds.specs.Runs.{IsOperation}
 use Rattle.script_calls.specs.Reading.{IdSeat, begins, HasRead}
 use Rattle.script_calls.specs.Told.{IsLeft, outcomes_of}

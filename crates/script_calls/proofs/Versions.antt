@@ -31,11 +31,11 @@ use Rattle.rpc_client.specs.declared.acting.Told.{Told}
 use Rattle.script_calls.proofs.Sayings.{to_slice, told_each, none_told}
 use Rattle.call_run.specs.call_client.proofs.Changes.{AsksFor}
 use Rattle.call_run.specs.Threads.{ids_of}
-use Rattle.attempts_told.specs.call_whys.specs.call_told.specs.Answers.{ends_call, IsOwn}
-use Rattle.attempts_told.specs.call_whys.specs.call_told.specs.Once.{ends_of}
-use Rattle.attempts_told.specs.call_whys.specs.call_told.proofs.Lists.{all_at}
-use Rattle.attempts_told.specs.call_whys.specs.call_told.proofs.Making.{AllMade, made_fits}
-use Rattle.attempts_told.specs.call_whys.proofs.Versions.{IsIdFor, AreIds, versions}
+use Rattle.call_whys.specs.call_told.specs.Answers.{ends_call, IsOwn}
+use Rattle.call_whys.specs.call_told.specs.Once.{ends_of}
+use Rattle.call_whys.specs.call_told.proofs.Lists.{all_at}
+use Rattle.call_whys.specs.call_told.proofs.Making.{AllMade, made_fits}
+use Rattle.call_whys.proofs.Versions.{IsIdFor, AreIds, versions}
 use Rattle.script_calls.specs.Reading.{IdSeat, HasRead}
 use Rattle.script_calls.specs.Told.{IsLeft, outcomes_of}
 use Rattle.script_calls.proofs.Answered.{read_made}

@@ -24,14 +24,14 @@ use Rattle.sock_programs.specs.Tasks.{plan_of, opens, calls}
 use Rattle.sock_programs.specs.Told.{IsTask, Became}
 use Rattle.sock_programs.specs.ToldCalls.{Fixed, Order}
 use Rattle.attempts_told.specs.Attempts.{AreAttemptsTold}
-use Rattle.attempts_told.specs.call_whys.specs.expire_told.specs.Said.{WhyExpired}
+use Rattle.call_whys.specs.expire_told.specs.Said.{WhyExpired}
 use Rattle.callless_fits.specs.sock_deeds.specs.Told.{fixed_by, ToldSockets}
 use Rattle.rpc_client.specs.declared.acting.Told.{Told}
 use Rattle.callless_fits.specs.Whole.{IsWholeText, gave_none, unread}
 use Rattle.script_calls.specs.Saying.{said_by_each}
 use Rattle.call_run.specs.Threads.{ids_of, RanOn}
-use Rattle.attempts_told.specs.call_whys.specs.call_told.specs.Answers.{AreAnsweredBy}
-use Rattle.attempts_told.specs.call_whys.specs.call_told.specs.Once.{ShownOnce}
+use Rattle.call_whys.specs.call_told.specs.Answers.{AreAnsweredBy}
+use Rattle.call_whys.specs.call_told.specs.Once.{ShownOnce}
 use Rattle.script_calls.specs.Reading.{IdSeat, HasRead}
 
 -- what became of so many operations: by what each client told of its own, of the calls that it ended, and by what was told of those that ended behind them
