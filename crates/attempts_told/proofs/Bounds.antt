@@ -136,7 +136,7 @@ unmoved_post slots v w id code attempt (HasLock k) p = unmoved_got k.slot p.4.0 
 unmoved_post slots v w id code attempt IsQueued p = unmoved_one (slot_of id) v w _ (Queued (version_of id) (error_in code attempt)) (λ f n. refl) p.0
 unmoved_post slots v w id code attempt (Gone found) p = unmoved_quiet v w p.0
 unmoved_post slots v w id code attempt (Stale current) p = unmoved_quiet v w p.0
-unmoved_post slots v w id code attempt (Crowded first second) p = unmoved_quiet v w p.0
+unmoved_post slots v w id code attempt (Crowded oldest second) p = unmoved_quiet v w p.0
 
 -- ## Advances
 
@@ -258,14 +258,14 @@ module _ (slots : ℕ) where
   post v w id code attempt IsQueued p = bounds_one (slot_of id) v w _ (Queued (version_of id) (error_in code attempt)) (λ f n. refl) p.0
   post v w id code attempt (Gone found) p = bounds_quiet v w p.0
   post v w id code attempt (Stale current) p = bounds_quiet v w p.0
-  post v w id code attempt (Crowded first second) p = bounds_quiet v w p.0
+  post v w id code attempt (Crowded oldest second) p = bounds_quiet v w p.0
 
   handled : (id code : ℕ) (attempt : Maybe ℕ) (answer : Posted Asked) (u : View Asked) (s t : CallStand) → PostOk slots u s.view id code attempt answer → Handled code attempt answer s t → Here s t
   handled id code attempt (HasLock k) u s t p d = decided d (got_word slots k u s.view p.4.0 p.1 p.4.1)
   handled id code attempt IsQueued u s t p e = same s t e
   handled id code attempt (Gone found) u s t p e = same s t e
   handled id code attempt (Stale current) u s t p e = same s t e
-  handled id code attempt (Crowded first second) u s t p e = same s t e
+  handled id code attempt (Crowded oldest second) u s t p e = same s t e
 
   posted : (s : CallStand) (id code : ℕ) (attempt : Maybe ℕ) (t : CallStand) → PostedBy slots s id code attempt t → Here s t
   posted s id code attempt t p =

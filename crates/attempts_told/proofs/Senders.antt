@@ -98,7 +98,7 @@ module _ {O : Type 0} (state : O → OutState) (p : Plan) (q : id_plan.Plan) (as
 abbrev Grows : View Asked → View Asked → Type 0
 Grows v w = (i : ℕ) (f : Note Asked → ℕ) → total f (notes_of i v.notes) ≤ total f (notes_of i w.notes)
 
-module _ {O : Type 0} {g : Ghosts O} {state : O → OutState} {p : Plan} {q : id_plan.Plan} where
+module _ {O : Type 0} (g : Ghosts O) (state : O → OutState) (p : Plan) (q : id_plan.Plan) where
   -- the id of a call that has begun was made for its operation
   abbrev pub HasMade : View Asked → (number : ℕ) (op : Op) (by : Option Outcome) (s t : Stand g) → Acted state p q number op by s t → Type 0
   HasMade v number (ops.Call asked) None s t a = (slot_of a.0 < q.slots) × (0 < total (is_made_for (version_of a.0) asked.operation) (notes_of (slot_of a.0) v.notes))
@@ -175,25 +175,25 @@ module _ {O : Type 0} {g : Ghosts O} {state : O → OutState} {p : Plan} {q : id
   abbrev last_retries : List (Deed g state p q)
   last_retries = retries_of state p q (both_of (stand th.ran.came)) (both_of th.ran.last) th.ran.ends.1.all.retried
 
-  pub all_noted : AllByRecursion (IsNoted x.tasks x.ended.calls.seat.me.0) (deeds x th)
+  pub all_noted : AllByRecursion (IsNoted g state p q x.tasks x.ended.calls.seat.me.0) (deeds x th)
   all_noted =
       let early = ran_deeds state p q x.tasks th.ran.made (begins x.began) (came x th) th.ran.ran.ran in
       let v : View Asked = th.ran.last.calls.view in
       let a = (retried q state p (both_of (stand th.ran.came)) (both_of th.ran.last) th.ran.ends.1.all.retried).grows in
       let end : x.ended.calls.seat.me.0 ≡ v = ap (λ (c : CallStand). c.view) (th.ran.calls ∙ ap (λ (s : Stand g). s.calls) (end_is x th)) in
-      subst (λ (w : View Asked). AllByRecursion (IsNoted x.tasks w) (deeds x th)) (sym end)
-      (all_both (IsNoted x.tasks v) early last_retries
-      (all_then (IsNoted x.tasks th.ran.came.calls.seat.me.0) (IsNoted x.tasks v) early (noted_stays x.tasks th.ran.came.calls.seat.me.0 v a) (ran_noted x.tasks th.ran.made (begins x.began) (came x th) th.ran.ran.ran))
-      (retries_noted x.tasks v (both_of (stand th.ran.came)) (both_of th.ran.last) th.ran.ends.1.all.retried))
+      subst (λ (w : View Asked). AllByRecursion (IsNoted g state p q x.tasks w) (deeds x th)) (sym end)
+      (all_both (IsNoted g state p q x.tasks v) early last_retries
+      (all_then (IsNoted g state p q x.tasks th.ran.came.calls.seat.me.0) (IsNoted g state p q x.tasks v) early (noted_stays g state p q x.tasks th.ran.came.calls.seat.me.0 v a) (ran_noted g state p q x.tasks th.ran.made (begins x.began) (came x th) th.ran.ran.ran))
+      (retries_noted g state p q x.tasks v (both_of (stand th.ran.came)) (both_of th.ran.last) th.ran.ends.1.all.retried))
 
-  deeds_asked : flat_map asked_of (deeds x th) ≡ all_asked x th
+  deeds_asked : flat_map (asked_of g state p q) (deeds x th) ≡ all_asked x th
   deeds_asked =
       let early = ran_deeds state p q x.tasks th.ran.made (begins x.began) (came x th) th.ran.ran.ran in
-      flat-append asked_of early last_retries ∙ (λ i. ran_asked x.tasks th.ran.made (begins x.began) (came x th) th.ran.ran.ran i ++ retries_asked {g = g} (both_of (stand th.ran.came)) (both_of th.ran.last) th.ran.ends.1.all.retried i)
+      flat-append (asked_of g state p q) early last_retries ∙ (λ i. ran_asked g state p q x.tasks th.ran.made (begins x.began) (came x th) th.ran.ran.ran i ++ retries_asked g state p q (both_of (stand th.ran.came)) (both_of th.ran.last) th.ran.ends.1.all.retried i)
 
   -- what a retry among its deeds asks for is among all that it asked for again
-  pub asked_there : (i : ℕ) (d : Deed g state p q) (k : ℕ) (a : Again) → get_elem? (deeds x th) i ≡ some d → get_elem? (asked_of d) k ≡ some a → (m : ℕ) × (get_elem? (all_asked x th) m ≡ some a)
-  asked_there i d k a at in_it = let w = flat_there asked_of (deeds x th) i d k a at in_it in (w.0, ap (λ (l : List Again). get_elem? l w.0) (sym deeds_asked) ∙ w.1)
+  pub asked_there : (i : ℕ) (d : Deed g state p q) (k : ℕ) (a : Again) → get_elem? (deeds x th) i ≡ some d → get_elem? (asked_of g state p q d) k ≡ some a → (m : ℕ) × (get_elem? (all_asked x th) m ≡ some a)
+  asked_there i d k a at in_it = let w = flat_there (asked_of g state p q) (deeds x th) i d k a at in_it in (w.0, ap (λ (l : List Again). get_elem? l w.0) (sym deeds_asked) ∙ w.1)
 
 -- ## Ids that were made
 
@@ -297,7 +297,7 @@ module _ {O : Type 0} {g : Ghosts O} {state : O → OutState} {p : Plan} {slots 
       }
 
   -- by an operation of client j
-  acted_sent : (j number : ℕ) (op : Op) (by : Option Outcome) (s t : Stand g) (a : Acted state p q number op by s t) → IsOperation tasks_all outcomes j number op → IsOwnCall number op → (v : View Asked) → HasMade v number op by s t a
+  acted_sent : (j number : ℕ) (op : Op) (by : Option Outcome) (s t : Stand g) (a : Acted state p q number op by s t) → IsOperation tasks_all outcomes j number op → IsOwnCall number op → (v : View Asked) → HasMade g state p q v number op by s t a
       → ((i : ℕ) (f : Note Asked → ℕ) → total f (notes_of i v.notes) ≤ total f (notes_of i notes)) → (i : ℕ) (e : Entry) → get_elem? (acted_entries state p q number op by s t a) i ≡ some e → SentBy (accepted_of e)
   acted_sent j number (ops.Send n bytes) None s t a is own v made within i e at =
       let x = a.0.delivered.accepted in
@@ -322,7 +322,7 @@ module _ {O : Type 0} {g : Ghosts O} {state : O → OutState} {p : Plan} {slots 
   -- by a deed of client j
   deed_sent : (j : ℕ) (c : Client g state p q) → get_elem? (all run) j ≡ some c → (k : ℕ) (d : Deed g state p q) → get_elem? (deeds_of c) k ≡ some d → (i : ℕ) (e : Entry) → get_elem? (entries_of d) i ≡ some e → SentBy (accepted_of e)
   deed_sent j c at k (operates x by s t a) there i e in_it =
-      let n = all_at (IsNoted (tasks_of c) (view_of c)) (deeds_of c) k (operates x by s t a) (all_noted c.thread c.is) there in
+      let n = all_at (IsNoted g state p q (tasks_of c) (view_of c)) (deeds_of c) k (operates x by s t a) (all_noted c.thread c.is) there in
       acted_sent j x.number x.op by s t a (is_operation j c at n.0.0 x n.0.1) (own_call j c at n.0.0 x n.0.1) (view_of c) n.1 (among j c at) i e in_it
   deed_sent j c at k (retries r s t (had_ended h)) there i e in_it = none_there i e in_it
   deed_sent j c at k (retries r s t (overtaken l u a b)) there i e in_it = none_there i e in_it
