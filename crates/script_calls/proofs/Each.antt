@@ -123,22 +123,31 @@ module _ {O I P : Type 0} (g : Ghosts O) (out : O → OutState) (inn : I → InS
         who = one_of g out (plan_of script) (sizes script) setup clients opens told ended ran.seats ids ran.ran fits c ts of_client
 
         -- a call that began
-        ended_call : (asked : Asked) (id : ℕ) → op ≡ ops.Call asked → HasBegun (sizes script) asked.operation id who.thread.ended.calls.seat.me.0 → HasIt
+        ended_call : (asked : Asked) (id : ℕ) → op ≡ ops.Call asked → HasBegun (sizes script) asked.operation id who.thread.ended.calls.seat.me.0 → IsSaid outcomes o
         ended_call asked id is begun =
             let x = call_asks (numbered script) (names script) (numbers_at script o operation) operation.item asked (asks ∙ ap Some is) in
             let own : asked.operation ≡ o = task_fits t (all_there IsOwnTask ts t (all_there (AllByRecursion IsOwnTask) (setup ∷ clients) ts owns (c, to_slice (setup ∷ clients) c ts of_client)) (j, to_slice ts j t in_it)) asked is in
             let l = listed script o operation at (ap is_call x.1) in
             let e = least_told c who.thread.ended.calls.seat.me.0 asked.operation id l.0 who.id_at begun (l.1 ∙ ap Some (sym own)) in
-            inl (end_said (plan_of script).operations told ended last o less record { teller = e.teller; place = e.place; told = e.told; one = e.one; by = e.by; at = e.at; number = e.number ∙ own })
+            end_said (plan_of script).operations told ended last o less record { teller = e.teller; place = e.place; told = e.told; one = e.one; by = e.by; at = e.at; number = e.number ∙ own }
 
         came : HasCome (sizes script) t who.thread.ended.outcomes.items who.thread.ended.calls.seat.me.0 → HasIt
         came (tells i x there is) = inl (own_said (plan_of script).operations told ended last o less record { teller = c; place = i; told = who.thread.ended.outcomes.items; one = x; by = who.told_at; at = there; number = is })
-        came (began asked id is begun) = ended_call asked id is begun
+        came (began asked id is begun) = inl (ended_call asked id is begun)
         came (sends n message is) = by (sent c j ts t n message of_client in_it is)
           where
             by : ((own : List Told) × (i : ℕ) × (x : Told) × (get_elem? told c ≡ some own) × (get_elem? own i ≡ some x) × (x.number ≡ o)) ⊎ HasPosition (word_at places (8 * o)) → HasIt
             by (inl w) = inl (own_said (plan_of script).operations told ended last o less record { teller = c; place = w.1; told = w.0; one = w.2; by = w.3; at = w.4; number = w.5 })
             by (inr h) = inr h
+
+        -- a call is told
+        call_came : (asked : Asked) → op ≡ ops.Call asked → HasCome (sizes script) t who.thread.ended.outcomes.items who.thread.ended.calls.seat.me.0 → IsSaid outcomes o
+        call_came asked is (tells i x there same) = own_said (plan_of script).operations told ended last o less record { teller = c; place = i; told = who.thread.ended.outcomes.items; one = x; by = who.told_at; at = there; number = same }
+        call_came asked is (began other id same begun) = ended_call other id same begun
+        call_came asked is (sends n message same) = let e : ops.Call asked ≡ ops.Send n message = sym is ∙ same in absurd (cc)
+
+        pub call_said : (asked : Asked) → op ≡ ops.Call asked → IsSaid outcomes o
+        call_said asked is = call_came asked is (one_come g out (plan_of script) (sizes script) ids told c ts who j t in_it)
 
         has_it : HasIt
         has_it = came (one_come g out (plan_of script) (sizes script) ids told c ts who j t in_it)

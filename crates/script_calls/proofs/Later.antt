@@ -78,10 +78,10 @@ module _ {O I P : Type 0} (g : Ghosts O) (out : O → OutState) (inn : I → InS
       (ids_made (IsCallOf all outcomes) out (plan_of script) q left.setup left.clients left.opened told ended left.ran.seats (map view_of seats) left.ran.ran (all_ask_for all outcomes owns))) read
 
   -- what a client noted is among all notes of ids
-  abbrev IsAmong : Thread g → Type 0
+  abbrev pub IsAmong : Thread g → Type 0
   IsAmong x = (i : ℕ) (f : Note Asked → ℕ) → total f (notes_of i (ids_seen x).notes) ≤ total f (notes_of i read.last.view.notes)
 
-  among : (c : ℕ) (x : Thread g) → get_elem? threads c ≡ some x → IsAmong x
+  pub among : (c : ℕ) (x : Thread g) → get_elem? threads c ≡ some x → IsAmong x
   among c x at i f =
       let h = (subst (λ (vs : List (View Asked)). HaveNotesOf vs read.last.view.notes) (sym left.ran.ran.ids_are) (have g out inn bytes script reads told ended places seats left ends ends' last read)).all i f in
       let t = term (λ (v : View Asked). total f (notes_of i v.notes)) (map ids_seen threads) c (ids_seen x) (mapped ids_seen threads c x at) in omega arith
@@ -92,7 +92,7 @@ module _ {O I P : Type 0} (g : Ghosts O) (out : O → OutState) (inn : I → InS
       let m = read.closing.locked_made k.slot k.first w.0 a.asked k.inside (w.2 ∙ ap some (lock_is a.asked k.first w.1 w.3)) in
       made_fits (IsCallOf all outcomes) k.slot read.last.view.notes made m.1 k.first m.0 a.asked m.2
 
-  client_later : (first : ℕ) (x : Thread g) (th : IsThread out (plan_of script) q first x) → IsAmong x → AreLater all outcomes (all_asked x th)
+  pub client_later : (first : ℕ) (x : Thread g) (th : IsThread out (plan_of script) q first x) → IsAmong x → AreLater all outcomes (all_asked x th)
   client_later first x th within i a at = let c = is_call x within a (all_at (IsKnown slots (ids_seen x)) (all_asked x th) i a (asked_known x th) at) in record { client = c.0; is = c.1; later = asked_later x th i a at }
 
   pub setup_later : AreLater all outcomes (all_asked left.ran.ran.main left.ran.ran.main_is)

@@ -19,6 +19,7 @@ pub mod Retrying
 pub mod Later
 pub mod Telling
 pub mod Sockets
+pub mod Attempted
 pub mod Versions
 pub mod Expiring
 pub mod Whole

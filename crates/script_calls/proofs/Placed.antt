@@ -122,7 +122,7 @@ module _ {O I P : Type 0} (g : Ghosts O) (out : O → OutState) (inn : I → InS
   left_places = are_places left.ran are may read.last.view.notes laws have few low
 
   -- a `send` is told or has a place
-  sent : (c k : ℕ) (ts : List Task) (t : Task) (n : ℕ) (message : List ℕ) → get_elem? (left.setup ∷ left.clients) c ≡ some ts → get_elem? ts k ≡ some t → t.op ≡ ops.Send n message
+  pub sent : (c k : ℕ) (ts : List Task) (t : Task) (n : ℕ) (message : List ℕ) → get_elem? (left.setup ∷ left.clients) c ≡ some ts → get_elem? ts k ≡ some t → t.op ≡ ops.Send n message
       → ((own : List Told) × (i : ℕ) × (x : Told) × (get_elem? told c ≡ some own) × (get_elem? own i ≡ some x) × (x.number ≡ t.number)) ⊎ HasPosition (word_at places (8 * t.number))
   sent c k ts t n message of_client in_it is = by made.by refl
     where

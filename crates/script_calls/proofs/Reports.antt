@@ -36,6 +36,7 @@ use Rattle.call_whys.specs.call_told.proofs.Answering.{IsAskedIn}
 use Rattle.script_calls.proofs.Answered.{run_answered}
 use Rattle.script_calls.proofs.Asked.{AskFor, all_ask, ids_made, notes_of_seats}
 use Rattle.script_calls.proofs.Shown.{run_shown}
+use Rattle.script_calls.proofs.Attempted.{attempts_of}
 use Rattle.script_calls.proofs.Expiring.{calls_told}
 use Rattle.script_calls.proofs.Sockets.{sockets_told}
 use Rattle.script_calls.proofs.Whole.{whole_if}
@@ -143,6 +144,7 @@ module _ (P : Type 0) {O I : Type 0} (out : O → OutState) (inn : I → InState
           on_calls = calls_told g out inn bytes script reads r.told r.ended r.places r.ids (left_of r) r.ends r.ends' r.last r.read (fixed_by sockets.broken sockets.fails) answered.gave sockets.orders;
           once = run_shown out inn (ids_of (plan_of script) (length (calls script))) (calls script) (plan_of script).operations r.told r.ended r.last r.ids r.ends r.ends' (own_told r) (balanced_told r) r.read;
           whole = whole_if bytes script reads text (outcomes_of (plan_of script).operations r.told r.ended r.last) r.places answered.gave links long r.reported sockets;
+          attempts = attempts_of g out inn bytes script reads r.told r.ended r.places r.ids (left_of r) r.ends r.ends' r.last r.read r.halves r.kept answered.gave links r.given_back answered.givers;
         }
 
     pub run_is : (p : Plan) (slots : ℕ) (setup : List Task) (clients : List (List Task)) (os cs : List ℕ) (told ended : List (List Told)) (places words : List PlaceWord) (vrefs : List Vref) (outs : List O) (ids : List IdSeat) (q : id_plan.Plan) (ends ends' : List (Ends O I P)) (last : List Told)

@@ -16,6 +16,7 @@ use Rattle.corr_core.specs.declared.marks.Plan.{Plan as IdPlan}
 use Rattle.brpc_model.specs.Items.{Item}
 use Rattle.brpc_model.specs.Link.{LinkEnd}
 use Rattle.brpc_model.specs.Script.{script_of}
+use Rattle.sock_model.specs.declared.chain.Entry.{Entry}
 use Rattle.sock_model.specs.Layout.{place_word}
 use Rattle.call_run.specs.sock_rule.specs.Closing.{PlacesDiffer}
 use Rattle.sock_programs.specs.declared.task.Task.{Task}
@@ -23,7 +24,7 @@ use Rattle.sock_programs.specs.Cores.{Core}
 use Rattle.sock_programs.specs.Runs.{from_to}
 use Rattle.sock_programs.specs.Scripts.{opening_calls, place_words}
 use Rattle.sock_programs.specs.Tasks.{plan_of, calls}
-use Rattle.sock_programs.specs.ToldCalls.{Fixed}
+use Rattle.sock_programs.specs.ToldCalls.{Accepted, Fixed, StandsAt}
 use Rattle.report_fits.specs.Ends.{IsEndOf}
 use Rattle.report_fits.proofs.Flat.{at_map}
 use Rattle.report_fits.proofs.Lists.{has_from, has_none}
@@ -35,12 +36,12 @@ use Rattle.call_whys.specs.call_places.proofs.Places.{log_differs}
 use Rattle.call_whys.specs.call_deeds.specs.Scripts.{AllHaveLinks}
 use Rattle.call_whys.specs.call_deeds.proofs.Runs.{deed_run}
 use Rattle.call_whys.specs.call_deeds.proofs.Whole.{told_of_run}
-use Rattle.callless_fits.specs.sock_deeds.specs.Left.{homes_of}
+use Rattle.callless_fits.specs.sock_deeds.specs.Left.{accepted_of, homes_of}
 use Rattle.callless_fits.specs.sock_deeds.specs.Runs.{DeedRun}
 use Rattle.callless_fits.specs.sock_deeds.specs.Told.{fixed_by, ToldSockets}
 use Rattle.callless_fits.specs.sock_deeds.proofs.Breaking.{broken_noted}
 use Rattle.callless_fits.specs.sock_deeds.proofs.Failing.{broken, all_fails}
-use Rattle.callless_fits.specs.sock_deeds.proofs.Orders.{took, ends as link_ends, took_home, orders}
+use Rattle.callless_fits.specs.sock_deeds.proofs.Orders.{took, ends as link_ends, took_home, orders, entry_on}
 use Rattle.script_calls.specs.Reading.{IdSeat, HasRead}
 use Rattle.script_calls.specs.Told.{IsLeft, AreSocketsTold, outcomes_of}
 use Rattle.script_calls.proofs.Later.{setup_later, others_later}
@@ -169,3 +170,9 @@ module _ {O I P : Type 0} (g : Ghosts O) (out : O → OutState) (inn : I → InS
         each = λ k e at. (let w = at_map end_at ends' k e (ap (λ (l : List LinkEnd). slice_get l k) (sym given) ∙ at) in subst (IsEndOf p core fixed gave k) w.2 (one_end k w.0 w.1 (subst (IsGiver gave k) (sym w.2) (givers k e at))));
       };
     }
+
+    -- each message that a link accepted is in the log of the run
+    pub sockets_logged : (links : List LinkEnd) (given : links ≡ map end_at ends') (givers : (k : ℕ) (e : LinkEnd) → slice_get links k ≡ Some e → IsGiver gave k e) (k i : ℕ) (a : Accepted) → StandsAt (sockets_told links given givers).orders k i a
+        → (e : Entry) × (accepted_of e ≡ a) × (m : ℕ) × (get_elem? left.ran.closed.ordered.log m ≡ some e)
+    unfolding sockets_told
+    sockets_logged links given givers k i a at = let w = entry_on run differ k i a at in (w.0, w.2, w.3, w.4)

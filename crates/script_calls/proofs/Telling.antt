@@ -125,10 +125,10 @@ module _ {O I P : Type 0} (g : Ghosts O) (out : O → OutState) (inn : I → InS
   is_task : (c : ℕ) (x : Client g out p q) → get_elem? clients c ≡ some x → (k : ℕ) (t : Task) → get_elem? (tasks_of x) k ≡ some t → IsTask all outcomes c t
   is_task c x at k t there = (tasks_of x, tasks_there c x at, contains_from (tasks_of x) t (k, to_slice (tasks_of x) k t there))
 
-  of_script : (c : ℕ) (t : Task) → IsTask all outcomes c t → IsTaskOf script c t
+  pub of_script : (c : ℕ) (t : Task) → IsTask all outcomes c t → IsTaskOf script c t
   of_script c t is = task_is script outcomes c t (subst (λ (l : List (List Task)). IsTask l outcomes c t) left.tasks is)
 
-  low_number : (c : ℕ) (t : Task) → IsTask all outcomes c t → t.number < p.operations
+  pub low_number : (c : ℕ) (t : Task) → IsTask all outcomes c t → t.number < p.operations
   low_number c t is = let w = of_script c t is in slice_get_within (operations script) t.number w.operation w.there
 
   -- two tasks with one number are of one client and ask for the same
@@ -148,7 +148,7 @@ module _ {O I P : Type 0} (g : Ghosts O) (out : O → OutState) (inn : I → InS
     pub number_is : result.task.number ≡ number
     pub by_is : result.by ≡ by
 
-  of_client : (c : ℕ) (x : Client g out p q) → get_elem? clients c ≡ some x → (number : ℕ) (by : Option Outcome) (r : HasResult x number by) → IsTask all outcomes c r.result.task
+  pub of_client : (c : ℕ) (x : Client g out p q) → get_elem? clients c ≡ some x → (number : ℕ) (by : Option Outcome) (r : HasResult x number by) → IsTask all outcomes c r.result.task
   of_client c x at number by r = is_task c x at r.place r.result.task (task_at x.thread x.is r.place r.result r.at)
 
   -- there is one
@@ -196,7 +196,7 @@ module _ {O I P : Type 0} (g : Ghosts O) (out : O → OutState) (inn : I → InS
   have_all = subst (λ (vs : List (View Asked)). HaveNotesOf vs notes) (sym (views_are left.ran)) (have g out inn bytes script reads told ended places seats left ends ends' last read)
 
   -- an operation for which an id was made is a call of which its client told nothing at once
-  begun_of : (o : ℕ) → 0 < total (makes o) notes → HasBegun o
+  pub begun_of : (o : ℕ) → 0 < total (makes o) notes → HasBegun o
   begun_of o some_ =
       let w = total_some (λ (v : View Asked). total (makes o) v.notes) (map ids_seen clients) (let a = have_all.made o in omega arith) in
       let m = mapped_from ids_seen clients w.0 w.1 w.2 in
@@ -358,6 +358,16 @@ module _ {O I P : Type 0} (g : Ghosts O) (out : O → OutState) (inn : I → InS
       let t : Task = record { number = n; op = a.0 } in
       (w.0.client, t, subst (λ (l : List (List Task)). IsTask l outcomes w.0.client t) (sym left.tasks) (operation_task script outcomes n w.0 a.0 w.1 a.1), refl)
 
+  -- what became of an operation for which an id was made is the end of a call
+  pub became_end : (o : ℕ) (by : Outcome) → 0 < total (makes o) notes → Became all outcomes o by → (x : Told) × IsEndTold x × (x.number ≡ o) × (x.outcome ≡ by)
+  became_end o by made became = elim (told_each (replicate p.operations None) tellers o by became) [
+    | inl none_ ↦ absurd (none_told p.operations o by none_)
+    | inr w ↦ elim (whose w.0 w.3.0 w.1 w.3.1 w.2 w.3.2) [
+      | inl own ↦ absurd (apart w.0 w.3.0 w.1 w.3.1 own w.3.2 (subst (λ n. 0 < total (makes n) notes) (sym w.3.3) made))
+      | inr over ↦ (w.3.1, over.2, w.3.3, w.3.4)
+    ]
+  ]
+
   -- what each client told is what is reported
   pub reports : Reports all outcomes told
   reports = record { said = said; unsaid = unsaid; unopened = unopened; alone = alone }
@@ -376,7 +386,7 @@ module _ {O I P : Type 0} (g : Ghosts O) (out : O → OutState) (inn : I → InS
       let a = made_few x.thread x.is o in let b = task_total x.thread x.is (λ (t : Task). call_in o t.op) in let d = own_calls p q o (tasks_of x) m.0 m.1 in omega arith
 
   -- one id at most was made for an operation
-  made_once : (o : ℕ) → total (makes o) notes ≤ 1
+  pub made_once : (o : ℕ) → total (makes o) notes ≤ 1
   made_once o =
       let a = have_all.made o in let b = total_map (λ (v : View Asked). total (makes o) v.notes) ids_seen clients in
       let d = each_less (λ (x : Client g out p q). total (makes o) (ids_seen x).notes) (λ (x : Client g out p q). total (numbered o) (tasks_of x)) clients (one_made o) in

@@ -140,7 +140,7 @@ module _ {O I P : Type 0} (g : Ghosts O) (out : O → OutState) (inn : I → InS
       let its = all_there (TaskFits p) is.0 t (all_there (AllByRecursion (TaskFits p)) all is.0 fit (c, is.1)) (has_from is.0 t is.2) in
       (subst (OpFits p) op its.1).range_high
 
-  are_ids : AreIds q notes read.last.view.kept read.words read.closing all outcomes
+  pub are_ids : AreIds q notes read.last.view.kept read.words read.closing all outcomes
   are_ids = record { ends = ends_are; made = λ i j f r asked inside at. made_fits IsOfCall i notes made_all j f r asked at; one = one_task; short = short }
 
   -- no two calls have a version in common

@@ -23,6 +23,7 @@ use Rattle.sock_programs.specs.Scripts.{all_tasks, place_words, is_callless}
 use Rattle.sock_programs.specs.Tasks.{plan_of, opens, calls}
 use Rattle.sock_programs.specs.Told.{IsTask, Became}
 use Rattle.sock_programs.specs.ToldCalls.{Fixed, Order}
+use Rattle.attempts_told.specs.Attempts.{AreAttemptsTold}
 use Rattle.call_whys.specs.expire_told.specs.Said.{WhyExpired}
 use Rattle.callless_fits.specs.sock_deeds.specs.Told.{fixed_by, ToldSockets}
 use Rattle.rpc_client.specs.declared.acting.Told.{Told}
@@ -86,6 +87,8 @@ pub record IsCallText (script : List Item) (text : List ℕ) (ends : List LinkEn
   -- without calls the report fits, with nothing late, whatever the links gave: over the links as they are, and as if nobody had read them; so where no put
   -- failed, and nothing of the script can make a message fail, every send is placed
   pub whole : is_callless script ≡ true → IsWholeText script text answered.gave ends × IsWholeText script text gave_none (map unread ends)
+  -- no call made more attempts than it may; and each message that a link accepted is that of a `send` of which nothing is said, or of an attempt of a call, with the id that the call's outcome shows
+  pub attempts : AreAttemptsTold (plan_of script) (all_tasks script) outcomes (fixed_by sockets.broken sockets.fails) answered.gave sockets.orders
 
 -- the clients of the script left this: what they told of their own operations and of the calls that they ended, the place words, and their seats of the ids
 pub record IsLeft {O : Type 0} (g : Ghosts O) (out : O → OutState) (script : List Item) (told ended : List (List Told)) (places : List PlaceWord) (seats : List IdSeat) : Type 0 where

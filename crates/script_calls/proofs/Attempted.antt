@@ -1,0 +1,183 @@
+-- How many attempts the calls of a run of a script made, and whose the messages are that its links accepted.
+use Rattle.std.proofs.Common.{◌≡◌, ℕ, ◌+◌, ◌*◌, ◌<◌, ◌≤◌, List, ◌∷◌, length, map, slice_get, Option, Some, None, Ok, refl, sym, ap, ◌∙◌, subst, arith}
+use Rattle.std.specs.List.{AllByRecursion}
+use Rattle.std.proofs.lemmas.Option.{slice_get_within}
+use mathlib.Core.Logic.{dite}
+use mathlib.Core.Option.{some}
+use native.Mathlib.Decide.{dec_lt}
+use lib.ListN.{get_elem?}
+use Rattle.std.specs.Prelude.{slice_index}
+use Rattle.sock_io.specs.declared.link.Out.{Ghosts}
+use Rattle.sock_io.specs.declared.link.Ends.{Ends}
+use Rattle.sock_io.specs.Link.{OutState, InState, end_of}
+use Rattle.sock_words.specs.Codes.{EEOF}
+use Rattle.sock_words.specs.declared.outcome.Outcome.{Outcome}
+use Rattle.sock_words.specs.declared.outcome.Outcome.TheVariants.{Answered, Peer, CallFailed}
+use Rattle.sock_words.specs.declared.plain.Plan.{Plan}
+use Rattle.sock_words.specs.declared.place_word.PlaceWord.{PlaceWord}
+use Rattle.brpc_model.specs.Items.{Item}
+use Rattle.brpc_model.specs.Link.{LinkEnd}
+use Rattle.brpc_model.specs.Messages.{shown_id}
+use Rattle.brpc_model.specs.Operations.{operations}
+use Rattle.brpc_model.specs.Script.{script_of}
+use Rattle.corr_core.specs.Law.{total, is_attempt}
+use Rattle.corr_core.specs.Word.{parts}
+use Rattle.corr_core.specs.declared.marks.Note.TheVariants.{Made}
+use Rattle.corr_core.specs.declared.marks.Noted.{Noted}
+use Rattle.corr_core.specs.declared.marks.Plan as id_plan
+use Rattle.corr_core.specs.declared.marks.View.{View}
+use Rattle.corr_core.proofs.Notes.{only-at}
+use Rattle.id_rule.specs.Lawful.{notes_of}
+use Rattle.sock_message.specs.Asked.{Asked}
+use Rattle.sock_programs.specs.declared.task.Op.TheVariants as ops
+use Rattle.sock_programs.specs.declared.task.Task.{Task}
+use Rattle.sock_programs.specs.Scripts.{all_tasks}
+use Rattle.sock_programs.specs.Tasks.{plan_of, calls}
+use Rattle.sock_programs.specs.Told.{TaskFits, OpFits, IsTask, Became}
+use Rattle.report_fits.proofs.Lists.{has_from, all_at as all_there}
+use Rattle.rpc_client.specs.declared.acting.Told.{Told}
+use Rattle.call_whys.specs.call_told.specs.Answers.{IsGiver}
+use Rattle.call_whys.specs.call_told.specs.Once.{ends_of}
+use Rattle.call_whys.specs.call_places.specs.Counted.{makes}
+use Rattle.call_whys.specs.call_places.proofs.Clients.{Client, tasks_of}
+use Rattle.call_whys.specs.call_places.proofs.Ids.{IsIdOf, one_id}
+use Rattle.call_whys.specs.call_places.proofs.Places.{all as all_clients, all_are, tasks_are}
+use Rattle.call_whys.specs.call_places.proofs.Still.{advances}
+use Rattle.call_whys.specs.call_places.proofs.Weights.{term, noted_at}
+use Rattle.call_run.specs.Threads.{ids_of, Thread}
+use Rattle.call_whys.specs.call_deeds.specs.Retried.{all_asked}
+use Rattle.call_whys.specs.call_deeds.proofs.Ran.{AreLater}
+use Rattle.call_whys.specs.call_deeds.proofs.Told.{task_at}
+use Rattle.callless_fits.specs.sock_deeds.specs.Told.{fixed_by, ToldSockets}
+use Rattle.attempts_told.specs.Attempts.{AreAttemptsTold}
+use Rattle.attempts_told.proofs.Reading.{rest_unmoved, read_unmoved}
+use Rattle.attempts_told.proofs.Told.{attempts_told}
+use Rattle.script_calls.specs.Reading.{IdSeat, begins, HasRead}
+use Rattle.script_calls.specs.Told.{IsLeft, AreSocketsTold, outcomes_of}
+use Rattle.script_calls.proofs.Began.{only_is}
+use Rattle.script_calls.proofs.Each.{call_said}
+use Rattle.script_calls.proofs.Later.{IsAmong, among, client_later}
+use Rattle.script_calls.proofs.Placed.{each_notes, mapped_from, mapped_at, are, may, have, sent}
+use Rattle.script_calls.proofs.Shown.{view_of, flat_mapped}
+use Rattle.script_calls.proofs.Sockets.{sockets_told, sockets_logged}
+use Rattle.script_calls.proofs.Telling.{IsEndTold, of_script, of_client, begun_of, made_once, became_end}
+use Rattle.script_calls.proofs.Versions.{are_ids}
+
+-- the end of a call shows its id
+shown_of : (by : Outcome) (id : ℕ) → 0 < ends_of id by → shown_id by ≡ Some id
+shown_of (Answered i payload attachment) id h = ap Some (only_is id i h)
+shown_of (Peer i code) id h = ap Some (only_is id i h)
+shown_of (CallFailed i code) id h = ap Some (only_is id i h)
+shown_of other id h = absurd (omega arith)
+
+module _ {O I P : Type 0} (g : Ghosts O) (out : O → OutState) (inn : I → InState) (bytes : List ℕ) (script : List Item) (reads : script_of bytes ≡ Ok script) (told ended : List (List Told)) (places : List PlaceWord) (seats : List IdSeat)
+    (left : IsLeft g out script told ended places seats) (ends ends' : List (Ends O I P)) (last : List Told) (read : HasRead out inn (ids_of (plan_of script) (length (calls script))) (calls script) seats ends ends' last) where
+  abbrev p : Plan
+  p = plan_of script
+
+  abbrev slots : ℕ
+  slots = length (calls script)
+
+  abbrev q : id_plan.Plan
+  q = ids_of p slots
+
+  abbrev all : List (List Task)
+  all = left.setup ∷ left.clients
+
+  abbrev outcomes : List (Option Outcome)
+  outcomes = outcomes_of p.operations told ended last
+
+  abbrev notes : List (Noted Asked)
+  notes = read.last.view.notes
+
+  abbrev clients : List (Client g out p q)
+  clients = all_clients left.ran
+
+  abbrev threads : List (Thread g)
+  threads = left.ran.ran.main ∷ left.ran.ran.others
+
+  -- ## What is known of the clients
+
+  -- whoever read the links advanced no attempt
+  own : (i f n : ℕ) → total (is_attempt f n) (notes_of i notes) ≤ total (λ (v : View Asked). advances i f n v) (map view_of seats)
+  own i f n =
+      let a = read_unmoved out inn q (calls script) 0 ends ends' (begins read.main) read.between read.read i f n in
+      let b = rest_unmoved EEOF q (calls script) read.between read.last read.rest i f n in
+      let c = ap (λ (l : List (Noted Asked)). total (is_attempt f n) (notes_of i l)) (read.took.notes ∙ flat_mapped view_of (λ (v : View Asked). v.notes) seats) in
+      let d = each_notes i (is_attempt f n) (map view_of seats) in omega arith
+
+  later : (j : ℕ) (c : Client g out p q) → get_elem? clients j ≡ some c → AreLater all outcomes (all_asked c.thread c.is)
+  later j c at =
+      let w = mapped_from (λ (x : Thread g). x) threads j c.thread (ap (λ (l : List (Thread g)). get_elem? l j) (sym (all_are left.ran (λ (x : Thread g). x))) ∙ mapped_at (λ (x : Client g out p q). x.thread) clients j c at) in
+      client_later g out inn bytes script reads told ended places seats left ends ends' last read outcomes c.first c.thread c.is
+      (subst (IsAmong g out inn bytes script reads told ended places seats left ends ends' last read outcomes) w.2 (among g out inn bytes script reads told ended places seats left ends ends' last read outcomes j w.0 w.1))
+
+  two : (c : ℕ) (t : Task) (asked : Asked) → IsTask all outcomes c t → t.op ≡ ops.Call asked → 2 ≤ asked.range
+  two c t asked is op =
+      let fit = (are g out inn bytes script reads told ended places seats left ends ends' last read).fit in
+      let its = all_there (TaskFits p) is.0 t (all_there (AllByRecursion (TaskFits p)) all is.0 fit (c, is.1)) (has_from is.0 t is.2) in
+      (subst (OpFits p) op its.1).range_low
+
+  -- ## The id that an outcome shows
+
+  some_made : (o id : ℕ) → IsIdOf slots notes o id → 0 < total (makes o) notes
+  some_made o id h =
+      let n = noted_at h.slot notes h.place (Made h.first h.range h.asked) h.made in
+      let a = term (makes o) notes n.0 _ n.1 in let b = only-at o h.asked.operation h.operation in omega arith
+
+  -- a call for which an id was made is told
+  is_told : (o id : ℕ) → IsIdOf slots notes o id → (by : Outcome) × Became all outcomes o by
+  is_told o id h =
+      let b = begun_of g out inn bytes script reads told ended places seats left ends ends' last read o (some_made o id h) in
+      let t : Task = b.has.result.task in
+      let is = of_client g out inn bytes script reads told ended places seats left ends ends' last read b.place b.client b.at o None b.has in
+      let w = of_script g out inn bytes script reads told ended places seats left ends ends' last read b.place t is in
+      let less : t.number < p.operations = slice_get_within (operations script) t.number w.operation w.there in
+      let own_ : get_elem? all b.place ≡ some (tasks_of b.client) = ap (λ (l : List (List Task)). get_elem? l b.place) (sym (tasks_are left.ran)) ∙ mapped_at tasks_of clients b.place b.client b.at in
+      let s = call_said g out inn bytes script reads left.setup left.clients left.tasks left.opened told ended places left.vrefs left.outs seats left.ran ends ends' last read
+      (sent g out inn bytes script reads told ended places seats left ends ends' last read)
+      t.number less w.operation w.there t.op w.asks b.place b.has.place (tasks_of b.client) own_ (task_at b.client.thread b.client.is b.has.place b.has.result b.has.at) b.asked b.op in
+      subst (λ (n : ℕ). (by : Outcome) × Became all outcomes n by) b.has.number_is s
+
+  -- and what became of it shows that id
+  shown : (o id : ℕ) → IsIdOf slots notes o id → (by : Outcome) × Became all outcomes o by × (shown_id by ≡ Some id)
+  shown o id h =
+      let s = is_told o id h in
+      let e = became_end g out inn bytes script reads told ended places seats left ends ends' last read o s.0 (some_made o id h) s.1 in
+      (s.0, s.1, shown_of s.0 id (by_end s.0 e.0 e.1 e.2 e.3))
+    where
+      by_end : (by : Outcome) (x : Told) (e : IsEndTold g out inn bytes script reads told ended places seats left ends ends' last read x) → x.number ≡ o → x.outcome ≡ by → 0 < ends_of id by
+      by_end by x e number outcome =
+          let low : e.first < 4294967296 = dite (dec_lt e.first (parts (slice_index read.words e.slot)).first)
+          (λ lt. (let w = read.low e.slot in omega arith))
+          (λ ge. absurd (let none_ = read.closing.ended_not e.slot e.first e.inside (omega arith) in let some_ = e.noted in omega arith)) in
+          let its : IsIdOf slots notes o (e.slot * 4294967296 + e.first) = record {
+            slot = e.slot;
+            first = e.first;
+            inside = e.inside;
+            low = low;
+            id_is = refl;
+            range = e.range;
+            asked = e.asked;
+            place = e.place;
+            made = e.made;
+            operation = e.operation ∙ number;
+          } in
+          let same : id ≡ e.slot * 4294967296 + e.first = one_id slots notes o id (e.slot * 4294967296 + e.first) (made_once g out inn bytes script reads told ended places seats left ends ends' last read o) h its in
+          let a = ap (λ (y : ℕ). ends_of y by) same in let b = ap (ends_of (e.slot * 4294967296 + e.first)) outcome in let c = e.is_end in omega arith
+
+  -- ## What is told
+
+  module _ (halves : map (λ (e : Ends O I P). e.out) ends ≡ left.outs) (kept : map (λ (e : Ends O I P). out e.out) ends' ≡ map (λ (e : Ends O I P). out e.out) ends) (gave : ℕ → List ℕ) (links : List LinkEnd)
+      (given : links ≡ map (λ (e : Ends O I P). end_of (out e.out) (inn e.inn)) ends') (givers : (k : ℕ) (e : LinkEnd) → slice_get links k ≡ Some e → IsGiver gave k e) where
+    abbrev t : AreSocketsTold script outcomes places gave links
+    t = sockets_told g out inn bytes script reads told ended places seats left ends ends' last read halves kept gave links given givers
+
+    pub attempts_of : AreAttemptsTold p (all_tasks script) outcomes (fixed_by t.broken t.fails) gave t.orders
+    attempts_of =
+        let ids = are_ids g out inn bytes script reads told ended places seats left ends ends' last read in
+        let tells = subst (λ (l : List (List Task)). ToldSockets p l outcomes (fixed_by t.broken t.fails) gave t.orders t.core) (sym left.tasks) t.tells in
+        subst (λ (l : List (List Task)). AreAttemptsTold p l outcomes (fixed_by t.broken t.fails) gave t.orders) left.tasks
+        (attempts_told left.ran outcomes (may g out inn bytes script reads told ended places seats left ends ends' last read) notes read.last.view.kept read.words read.closing
+        (have g out inn bytes script reads told ended places seats left ends ends' last read) own later ids.made two ids.one (fixed_by t.broken t.fails) gave t.orders t.core tells
+        (sockets_logged g out inn bytes script reads told ended places seats left ends ends' last read halves kept gave links given givers) shown)
