@@ -204,7 +204,7 @@ module _ {O : Type 0} {g : Ghosts O} {state : O → OutState} {p : Plan} {slots 
         by (by_name f) = inl (f.life.number, f.listed, tt)
         by (by_link b) = inr (inl b)
 
-    -- why the call failed: as the paper's cases have it; or its name had no socket, or the tables lacked it
+    -- why the call failed: one of the causes that are told of failed calls; or its name had no socket
     pub data Fallen (client o : ℕ) (asked : Asked) (id n : ℕ) : Type 0 where
       fell : FailedBy p every outcomes fixed_here gave (orders drun differ) client o asked id code n → Fallen client o asked id n
       none_opened : code ≡ EFAILEDSOCKET → (u : sock_view.View) → Found p (name_of asked n) None u (socks_behind d) → Fallen client o asked id n
