@@ -149,6 +149,7 @@ module _ {C : Type 0} (p : Plan) (s : State (Maybe C) (View C)) (law : Lawful p 
   closing known ws words idle = record {
     made_once = λ i f il. made i il f;
     ended_once = λ i f il. once i il f;
+    one_by_one = λ i f n il some_. let x = count i il (is_attempt f n) in let a = (o i il).story.one_by_one f n (omega arith) in (a.0, λ m p lt. let y = a.1 m p lt in let z = count i il (is_attempt f m) in omega arith);
     advanced_once = λ i f n il. let a = (o i il).story.attempt_once f n in let x = count i il (is_attempt f n) in omega arith;
     locked_made = λ i f k c il at. lock_made i il f k c at;
     ended_is = λ i f il lt. past i il f (subst (λ (w : ℕ). f < (parts w).first) (words i il) lt);

@@ -21,6 +21,8 @@ module _ {C : Type 0} where
     pub made_once : (i f : ℕ) → i < p.slots → total (is_made f) (notes_of i notes) ≤ 1
     pub ended_once : (i f : ℕ) → i < p.slots → total (is_ended f) (notes_of i notes) ≤ 1
     pub advanced_once : (i f n : ℕ) → i < p.slots → total (is_attempt f n) (notes_of i notes) ≤ 1
+    -- an id advances to each attempt behind the first, one after the other
+    pub one_by_one : (i f n : ℕ) → i < p.slots → 0 < total (is_attempt f n) (notes_of i notes) → (0 < n) × ((m : ℕ) → 0 < m → m < n → 0 < total (is_attempt f m) (notes_of i notes))
     -- a content that a lock gave is the one with which its id was made
     pub locked_made : (i f k : ℕ) (c : C) → i < p.slots → get_elem? (notes_of i notes) k ≡ some (Locker f c) → (r j : ℕ) × (get_elem? (notes_of i notes) j ≡ some (Made f r c))
     -- a range that was made has ended exactly where the slot's word has a later first version, and so where a later one was found

@@ -78,6 +78,7 @@ module _ {C : Type 0} where
       ended_past = λ g past. refl;
       ended_not = λ g past. refl;
       attempt_once = λ g n. omega arith;
+      one_by_one = λ g n some_. absurd (omega arith);
       unborn = λ g none_. refl;
     };
     now = record {
