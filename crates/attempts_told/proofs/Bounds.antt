@@ -16,9 +16,9 @@ use Rattle.call_told.specs.call_run.specs.sock_rule.specs.declared.homes.Letter.
 use Rattle.call_told.specs.call_run.specs.sock_table.specs.declared.refs.SockRef.{SockRef}
 use Rattle.call_told.specs.call_run.specs.call_table.specs.Errors.{is_final}
 use Rattle.call_told.specs.call_run.specs.call_table.specs.declared.errors.Decision.TheVariants as decisions
-use Rattle.sock_programs.specs.declared.task.Op.{Op}
-use Rattle.sock_programs.specs.declared.task.Op.TheVariants as ops
-use Rattle.sock_programs.specs.declared.task.Task.{Task}
+use Rattle.seat_programs.specs.declared.task.Op.{Op}
+use Rattle.seat_programs.specs.declared.task.Op.TheVariants as ops
+use Rattle.seat_programs.specs.declared.task.Task.{Task}
 use Rattle.call_told.specs.call_run.specs.write_chain.specs.declared.right.Undelivered.{Undelivered}
 use Rattle.corr_core.specs.Word.{Parts, parts}
 use Rattle.corr_core.specs.Law.{total, pair, is_attempt}
@@ -29,7 +29,7 @@ use Rattle.corr_core.specs.declared.marks.Plan as id_plan
 use Rattle.corr_core.specs.declared.marks.Token.{Token}
 use Rattle.corr_core.specs.declared.marks.View.{View}
 use Rattle.corr_core.proofs.Notes.{pair-else, pair-else_first}
-use Rattle.id_rule.specs.Lawful.{notes_of, call_word, with_kept}
+use Rattle.id_rule.specs.Lawful.{notes_of, call_index, with_kept}
 use Rattle.sock_message.specs.Asked.{Asked}
 use Rattle.corr_id.specs.declared.calls.IdLock.{IdLock}
 use Rattle.corr_id.specs.declared.posts.Posted.{Posted}
@@ -285,7 +285,7 @@ module _ (q : id_plan.Plan) where
   Grown s t = Bounds q.slots s.view t.view
 
   timed_out : (number : ℕ) (by : Outcome) (s t : CallStand) → TimedOut q number by s t → Grown s t
-  timed_out number by s t h = let u = found_id q number h.id s in in_turn q.slots s u t (kept q.slots s u (call_word q number) false h.id refl) (posted q.slots u h.id ERPCTIMEDOUT None t (h.answer, h.posted))
+  timed_out number by s t h = let u = found_id q number h.id s in in_turn q.slots s u t (kept q.slots s u (call_index q number) false h.id refl) (posted q.slots u h.id ERPCTIMEDOUT None t (h.answer, h.posted))
 
   expired_by : (number : ℕ) (by : Outcome) (s t : CallStand) → ExpiredBy q number by s t → Grown s t
   expired_by number outcome.NotBegun s t h = same q.slots s t h.same
@@ -298,7 +298,7 @@ module _ (q : id_plan.Plan) where
   joined_by : (number : ℕ) (by : Outcome) (s t : CallStand) → JoinedBy q number by s t → Grown s t
   joined_by number outcome.NotBegun s t h = same q.slots s t h.same
   joined_by number outcome.Joined s t h = let u = found_id q number h.id s in let x : CallStand = record { view = h.view; books = s.books } in
-      in_turn q.slots s u t (kept q.slots s u (call_word q number) false h.id refl) (in_turn q.slots u x t (bounds_quiet q.slots u.view h.view h.quiet) (same q.slots x t h.after))
+      in_turn q.slots s u t (kept q.slots s u (call_index q number) false h.id refl) (in_turn q.slots u x t (bounds_quiet q.slots u.view h.view h.quiet) (same q.slots x t h.after))
   joined_by number _ s t h = elim h [ ]
 
   -- ## Messages

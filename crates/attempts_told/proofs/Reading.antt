@@ -10,7 +10,7 @@ use Rattle.sock_io.specs.Link.{OutState, InState}
 use Rattle.corr_core.specs.Word.{Parts, parts}
 use Rattle.corr_core.specs.declared.marks.Plan.{Plan}
 use Rattle.corr_core.specs.declared.marks.View.{View}
-use Rattle.id_rule.specs.Lawful.{at_word, with_kept}
+use Rattle.id_rule.specs.Lawful.{at_index, with_kept}
 use Rattle.sock_message.specs.Asked.{Asked}
 use Rattle.corr_id.specs.declared.posts.Posted.{Posted}
 use Rattle.corr_id.specs.declared.posts.Posted.TheVariants.{Locked as HasLock, Queued as IsQueued, Gone, Stale, Crowded}
@@ -71,7 +71,7 @@ module _ (code : ℕ) where
 
   posted_at : (p : Plan) (link operation : ℕ) (found : Option AtWord) (b b' : Books) → PostedAt p link code operation found b b' → Same b b'
   posted_at p link operation None b b' h = same b b' h
-  posted_at p link operation (Some w) b b' h = let v = with_kept (at_word p operation) false w.0 b.view in
+  posted_at p link operation (Some w) b b' h = let v = with_kept (at_index p operation) false w.0 b.view in
       unmoved_then b.view v b'.view (unmoved_noted b.view v refl) (posted_if (at_word_link w.0 == link) p.slots w.0 (record b { view = v }) b' h)
 
   posted : (p : Plan) (link : ℕ) (os : List ℕ) (b b' : Books) → PostedAll p link code os b b' → Same b b'

@@ -9,10 +9,10 @@ use Rattle.corr_core.specs.declared.marks.Note.TheVariants.{Attempt}
 use Rattle.corr_core.specs.declared.marks.Noted.{Noted}
 use Rattle.id_rule.specs.Lawful.{notes_of}
 use Rattle.sock_message.specs.Asked.{Asked}
-use Rattle.sock_programs.specs.declared.task.Op.TheVariants as ops
-use Rattle.sock_programs.specs.declared.task.Task.{Task}
-use Rattle.sock_programs.specs.Told.{IsTask}
-use Rattle.sock_programs.specs.ToldCalls.{Order, Fixed, IsSent}
+use Rattle.seat_programs.specs.declared.task.Op.TheVariants as ops
+use Rattle.seat_programs.specs.declared.task.Task.{Task}
+use Rattle.seat_programs.specs.Told.{IsTask}
+use Rattle.seat_programs.specs.ToldCalls.{Order, Fixed, IsSent}
 use Rattle.call_told.specs.Least.{is_made_for}
 
 -- ## The last attempt

@@ -9,7 +9,7 @@ use Rattle.brpc_eng.specs.declared.draw.Draw.{Draw}
 use Rattle.brpc_eng.specs.declared.commands.Command.TheVariants.{Sim, Run, Gen, Load, Frames}
 use Rattle.sock_io.specs.declared.link.Mode.{Mode}
 use Rattle.sock_io.specs.declared.link.Mode.TheVariants as modes
-use Rattle.sock_programs.specs.Scripts.{drawn_turns}
+use Rattle.seat_programs.specs.Scripts.{drawn_turns}
 use Rattle.brpc_eng.specs.Command.{meaning}
 use Rattle.brpc_eng.specs.Streams.{script_limit, ReadWhole}
 use Rattle.brpc_eng.specs.Answers as answer

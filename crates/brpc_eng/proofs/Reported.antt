@@ -16,19 +16,19 @@ use Rattle.brpc_model.specs.Run.{Lateness, nothing_late}
 use Rattle.brpc_model.specs.Fits.{Fits}
 use Rattle.brpc_model.specs.Complete.{FitsWhole}
 use Rattle.brpc_model.specs.Served.{FitsServed}
-use Rattle.sock_programs.specs.Asides.{Broken}
-use Rattle.sock_programs.specs.Scripts.{drawn_turns, place_words}
-use Rattle.sock_programs.specs.Scripts as scripts
-use Rattle.sock_programs.specs.Tasks.{plan_of}
-use Rattle.sock_programs.specs.ToldCalls.{Fixed}
+use Rattle.seat_programs.specs.Asides.{Broken}
+use Rattle.seat_programs.specs.Scripts.{drawn_turns, place_words}
+use Rattle.seat_programs.specs.Scripts as scripts
+use Rattle.seat_programs.specs.Tasks.{plan_of}
+use Rattle.seat_programs.specs.ToldCalls.{Fixed}
 use Rattle.report_fits.proofs.Lists.{within, has_from, has_none}
 use Rattle.report_fits.proofs.Places.{lateness}
-use Rattle.calls_over.specs.whole_runs.specs.Heard.{as_told, as_taken, take_answers, heard_of, heard_takes}
-use Rattle.calls_over.specs.whole_runs.specs.Unserved.{IsInTime}
-use Rattle.calls_over.specs.whole_runs.proofs.HeardRuns.{one_text_told}
-use Rattle.calls_over.specs.whole_runs.proofs.Gave.{same_takes}
-use Rattle.calls_over.specs.whole_runs.proofs.Lengths.{ended_length}
-use Rattle.calls_over.specs.whole_runs.proofs.Starts.{made}
+use Rattle.calls_over.specs.run_theorems.specs.Heard.{as_told, as_taken, take_answers, heard_of, heard_takes}
+use Rattle.calls_over.specs.run_theorems.specs.Unserved.{IsInTime}
+use Rattle.calls_over.specs.run_theorems.proofs.HeardRuns.{one_text_told}
+use Rattle.calls_over.specs.run_theorems.proofs.Gave.{same_takes}
+use Rattle.calls_over.specs.run_theorems.proofs.Lengths.{ended_length}
+use Rattle.calls_over.specs.run_theorems.proofs.Starts.{made}
 use Rattle.offered_runs.specs.served_runs.specs.Offered.{OffersInRun}
 use Rattle.calls_over.specs.served_calls.specs.Quiet.{AreShown}
 use Rattle.calls_over.specs.served_fits.specs.Shown.{AreSo, TellTook}
@@ -169,10 +169,10 @@ module _ (offering : Type 0) (turns : List Turn) (bytes : List ℕ) (script : Li
 
 -- with what the calls say of the values that they were handed
 pub ran_reported : (turns : List Turn) (bytes : List ℕ) (script : List Item) (text text' : List ℕ) (out : answer.Output) (links : answer.Links) (status : ℕ) →
-    script_of bytes ≡ Ok script → length bytes ≤ script_limit → (links.prompt ≡ true → links.tells → IsRunText links.offering script turns text links.ends) → text' ≡ text → answer.TextWritten out text' status →
+    script_of bytes ≡ Ok script → length bytes ≤ script_limit → (links.always_ready ≡ true → links.tells → IsRunText links.offering script turns text links.ends) → text' ≡ text → answer.TextWritten out text' status →
     answer.Ran turns script out links status
 ran_reported turns bytes script text text' out links status reads short ran t wrote =
-    let report : links.prompt ≡ true → links.tells → IsRunText links.offering script turns text' links.ends = λ q tells. subst (λ (x : List ℕ). IsRunText links.offering script turns x links.ends) (sym t) (ran q tells) in
+    let report : links.always_ready ≡ true → links.tells → IsRunText links.offering script turns text' links.ends = λ q tells. subst (λ (x : List ℕ). IsRunText links.offering script turns x links.ends) (sym t) (ran q tells) in
     answer.Reported text'
     (λ q tells. let r = report q tells in (r, fits links.offering turns bytes script reads short links.ends text' r))
     (λ q tells. only links.offering turns bytes script reads short links.ends text' (report q tells)) wrote
@@ -190,12 +190,12 @@ opened_none mode script links status asked ends unwritten = record {
 
 -- with what the calls say of the values that they were handed
 pub load_ran : (seed clients count drawn : ℕ) (script : List Item) (text text' : List ℕ) (out : answer.Output) (links : answer.Links) (status : ℕ) → script ≡ generated seed clients count → drawn ≡ seed → clients ≤ 31 → clients * count ≤ 4092 → script_of (script_text script) ≡ Ok script →
-    (links.prompt ≡ true → links.tells → IsRunSummary links.offering (record { seed = seed; clients = clients; operations = count }) script (drawn_turns script drawn) text links.ends) → text' ≡ text → answer.TextWritten out text' status →
+    (links.always_ready ≡ true → links.tells → IsRunSummary links.offering (record { seed = seed; clients = clients; operations = count }) script (drawn_turns script drawn) text links.ends) → text' ≡ text → answer.TextWritten out text' status →
     answer.LoadRan seed clients count out links status
 load_ran seed clients count drawn script text text' out links status made same few room reads ran t wrote = answer.LoadSummed text' (subst Sums made sums) wrote
   where
     Sums : List Item → Type 0
-    Sums s = links.prompt ≡ true → links.tells → (whole : List ℕ) × answer.IsReport links s (drawn_turns s seed) whole × answer.IsOnlyText links.offering links.ends s (drawn_turns s seed) whole × answer.SumsUp seed clients count s whole text'
+    Sums s = links.always_ready ≡ true → links.tells → (whole : List ℕ) × answer.IsReport links s (drawn_turns s seed) whole × answer.IsOnlyText links.offering links.ends s (drawn_turns s seed) whole × answer.SumsUp seed clients count s whole text'
 
     short : length (script_text script) ≤ script_limit
     short = subst (λ (s : List Item). length (script_text s) ≤ script_limit) (sym made) (drawn_short seed clients count few room)

@@ -17,11 +17,11 @@ use Rattle.brpc_model.specs.Run.{Run, IsOperation, HasOutcome, IsLinkOf}
 use Rattle.brpc_model.specs.Outcomes.{SendCause, Cause}
 use Rattle.brpc_model.specs.Fits.{Fits}
 use Rattle.brpc_model.specs.Complete.{Completeness, FitsWhole, IsUntroubled, IsSilentUnserved, SendDone}
-use Rattle.sock_programs.specs.declared.task.Op.TheVariants as ops
-use Rattle.sock_programs.specs.Cores.{Core}
-use Rattle.sock_programs.specs.Tasks.{name_number, numbered, op_of, plan_of}
-use Rattle.sock_programs.specs.Scripts.{Reports, all_tasks, is_callless}
-use Rattle.sock_programs.specs.ToldCalls.{Fixed, Order, ToldCalls}
+use Rattle.seat_programs.specs.declared.task.Op.TheVariants as ops
+use Rattle.seat_programs.specs.Cores.{Core}
+use Rattle.seat_programs.specs.Tasks.{name_number, numbered, op_of, plan_of}
+use Rattle.seat_programs.specs.Scripts.{Reports, all_tasks, is_callless}
+use Rattle.seat_programs.specs.ToldCalls.{Fixed, Order, ToldCalls}
 use Rattle.report_fits.specs.Ends.{AreEndsOf, AreTold, EndsEarly}
 use Rattle.report_fits.proofs.Lists.{Has, has_later, has_from, contains_from, all_at, some_is}
 use Rattle.report_fits.proofs.Callless.{not_later}
@@ -33,7 +33,7 @@ use Rattle.report_fits.proofs.Lives as lives
 use Rattle.report_fits.proofs.Causes as causes
 use Rattle.report_fits.proofs.Fitting.{fits_run}
 use Rattle.report_fits.proofs.Places.{lateness, known_of}
-use Rattle.calls_over.specs.whole_runs.specs.Unserved.{IsInTime}
+use Rattle.calls_over.specs.run_theorems.specs.Unserved.{IsInTime}
 
 -- ## Links without a server
 

@@ -22,9 +22,9 @@ use Rattle.frame_print.specs.declared.print.StreamEnd.{StreamEnd}
 use Rattle.frame_print.specs.declared.print.StreamEnd.TheVariants as end_
 use Rattle.frame_print.specs.declared.print.PrintFault.{PrintFault}
 use Rattle.frame_print.specs.declared.print.PrintFault.TheVariants as fault_
-use Rattle.sock_programs.specs.Cores.{Core}
-use Rattle.sock_programs.specs.Scripts.{IsRunWithCalls, is_callless, drawn_turns}
-use Rattle.calls_over.specs.whole_runs.specs.Heard.{as_told, heard_of, heard_takes}
+use Rattle.seat_programs.specs.Cores.{Core}
+use Rattle.seat_programs.specs.Scripts.{IsRunWithCalls, is_callless, drawn_turns}
+use Rattle.calls_over.specs.run_theorems.specs.Heard.{as_told, heard_of, heard_takes}
 use Rattle.sock_io.specs.declared.link.LinkSpec.{LinkSpec}
 use Rattle.sock_io.specs.declared.link.Mode.{Mode}
 use Rattle.sock_io.specs.declared.link.Mode.TheVariants as modes
@@ -67,7 +67,7 @@ pub record Output : Type 0 where
 -- a linker: whether its links are always ready in time, that each reading half tells whether it is found closed, that each link tells what it took, gave and is offered, what was asked of each
 -- link that was opened, and those that were given back; and how many connections were accepted, and those that were given back
 pub record Links : Type 1 where
-  pub prompt : Bool
+  pub always_ready : Bool
   pub tells : Type 0
   pub offering : Type 0
   pub asked : List LinkSpec
@@ -123,7 +123,7 @@ IsFitting offering {script} {turns} {text} {ends} is = (late : Lateness) × Came
 
 -- where the links are prompt and tell whether they are found closed, the text reports a run of the script by these lines, and fits
 abbrev pub IsReport : Links → List Item → List Turn → List ℕ → Type 0
-IsReport links script turns text = links.prompt ≡ true → links.tells → (is : IsRunText links.offering script turns text links.ends) × IsFitting links.offering is
+IsReport links script turns text = links.always_ready ≡ true → links.tells → (is : IsRunText links.offering script turns text links.ends) × IsFitting links.offering is
 
 -- links that tell all that they took, gave and answered
 pub record TellsAll (e : LinkEnd) : Type 0 where
@@ -150,7 +150,7 @@ IsOnlyText offering ends script turns text = (is : IsRunText offering script tur
 -- these lines, then rounds until nothing moves, then the ending, and such rounds again; each `drop` was answered `freed` or `kept` by what its own
 -- steps did, and in the end all is over
 abbrev pub IsTextOfRun : Links → List Item → List Turn → List ℕ → Type 0
-IsTextOfRun links script turns text = links.prompt ≡ true → links.tells → IsOnlyText links.offering links.ends script turns text
+IsTextOfRun links script turns text = links.always_ready ≡ true → links.tells → IsOnlyText links.offering links.ends script turns text
 
 -- the text was written, or the sink failed behind a beginning of it
 abbrev pub TextWritten : Output → List ℕ → ℕ → Type 0
@@ -227,7 +227,7 @@ SumsUp seed clients count script whole text = (report : Report) × (whole ≡ re
 -- where the links are prompt and tell whether they are found closed, it is the summary of a report that `sim` with the same seed may write of the drawn script
 abbrev pub IsSummary : Links → ℕ → ℕ → ℕ → List ℕ → Type 0
 IsSummary links seed clients count text = let script = generated seed clients count in
-    links.prompt ≡ true → links.tells → (whole : List ℕ) × IsReport links script (drawn_turns script seed) whole × IsOnlyText links.offering links.ends script (drawn_turns script seed) whole × SumsUp seed clients count script whole text
+    links.always_ready ≡ true → links.tells → (whole : List ℕ) × IsReport links script (drawn_turns script seed) whole × IsOnlyText links.offering links.ends script (drawn_turns script seed) whole × SumsUp seed clients count script whole text
 
 -- how the run of the drawn script ends
 pub data LoadRan (seed clients count : ℕ) (out : Output) (links : Links) (status : ℕ) : Type 0 where

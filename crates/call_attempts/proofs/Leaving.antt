@@ -17,7 +17,7 @@ use Rattle.sock_model.specs.declared.chain.Entry.{Entry}
 use Rattle.sock_model.specs.declared.marks.Mark.TheVariants.{Saw, Met}
 use Rattle.sock_model.specs.declared.view.View.{View}
 use Rattle.sock_model.specs.ChainRows.{more}
-use Rattle.sock_model.specs.Layout.{name_word}
+use Rattle.sock_model.specs.Layout.{name_index}
 use Rattle.sock_rule.specs.Shows.{heading_of}
 use Rattle.sock_rule.specs.declared.homes.Letter.{Letter}
 use Rattle.sock_model.specs.SlotRows.{marks_of}
@@ -182,7 +182,7 @@ pub keeps_then : (u v w : View) → Keeps u v → Leaves v w → Leaves u w
 keeps_then u v w k l = record { refs = refs_then u v w k.refs l.refs; seen = seen_then u v w k.seen l.seen; share = l.share ∙ k.share; lists = lists_then u v w k.lists l.lists }
 
 pub found_keeps : (p : Plan) (n : ℕ) (by : Maybe SocketId) (v w : View) → Found p n by v w → Keeps v w
-found_keeps p n (Some id) v w f = let e = f.1.view in record { refs = finds_refs (name_word p n) id.0 v w f.1; seen = seen_found (name_word p n) id.0 v w f.1; share = ap (λ (y : View). y.share) e; lists = ap (λ (y : View). y.lists) e }
+found_keeps p n (Some id) v w f = let e = f.1.view in record { refs = finds_refs (name_index p n) id.0 v w f.1; seen = seen_found (name_index p n) id.0 v w f.1; share = ap (λ (y : View). y.share) e; lists = ap (λ (y : View). y.lists) e }
 found_keeps p n None v w f = let e = f.0 in record { refs = refs_none v w (ap (λ (y : View). y.marks) e); seen = seen_same v w (ap (λ (y : View). y.found) e); share = ap (λ (y : View). y.share) e; lists = ap (λ (y : View). y.lists) e }
 
 -- ## The link of a socket that is held

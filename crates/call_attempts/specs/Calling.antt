@@ -8,7 +8,7 @@ use Rattle.sock_table.specs.Named.{Found}
 use Rattle.corr_core.specs.Law.{total, is_tried}
 use Rattle.corr_core.specs.declared.marks.Plan as id_plan
 use Rattle.corr_core.specs.declared.marks.View as id_view
-use Rattle.id_rule.specs.Lawful.{call_word, notes_of, with_kept}
+use Rattle.id_rule.specs.Lawful.{call_index, notes_of, with_kept}
 use Rattle.corr_id.specs.Calls.{Quiet, MadeAs}
 use Rattle.sock_message.specs.Asked.{Asked, name_of}
 use Rattle.call_errors.specs.Starving.{GivenUp}
@@ -37,7 +37,7 @@ module _ {O : Type 0} (state : O → OutState) (p : Plan) (q : id_plan.Plan) (as
     pub found : Found p (name_of asked 0) (Some socket) s.socks t.socks
     pub view : id_view.View Asked
     pub made : MadeAs s.calls.view view q.slots id asked.range asked
-    pub noted : t.calls.view ≡ with_kept (call_word q asked.operation) true id view
+    pub noted : t.calls.view ≡ with_kept (call_index q asked.operation) true id view
     pub books : t.calls.books ≡ s.calls.books
 
   -- and the first attempt goes to that socket

@@ -4,18 +4,18 @@ use mathlib.Core.Option.{some}
 use lib.ListN.{get_elem?}
 use Rattle.sock_words.specs.declared.plain.Plan.{Plan}
 use Rattle.sock_model.specs.declared.view.View.{View}
-use Rattle.sock_programs.specs.Calls.{Call, ClaimSlot, GiveBirth, AddRef, SubRef, SetOdd, Recycle, FreeSlot, StoreLink, LoadLink, ResetHead, WipeCode, StoreCode, StoreName, LoadName, LookWord, FindLink, LoadCode, SwapHead, EmptyHead}
-use Rattle.sock_programs.specs.Programs.{Program, Do, Write, Round}
-use Rattle.sock_programs.specs.Sends.{block}
-use Rattle.sock_programs.specs.Rounds.{round}
-use Rattle.sock_programs.specs.Cores.{Core}
-use Rattle.sock_programs.specs.Ticks.{Moment}
-use Rattle.sock_causes.specs.sock_runs.specs.May.{May}
-use Rattle.sock_causes.specs.sock_runs.specs.GoesOn.{GoesOn}
-use Rattle.sock_causes.specs.sock_runs.specs.Sound.{Sound, first_step}
-use Rattle.sock_causes.specs.sock_runs.proofs.Cases as cases
-use Rattle.sock_causes.specs.sock_runs.proofs.Rounds.{begins_round}
-use Rattle.sock_causes.specs.sock_runs.proofs.Passes.{goes_round}
+use Rattle.seat_programs.specs.Calls.{Call, ClaimSlot, CreateLife, AddRef, SubRef, SetOdd, Recycle, FreeSlot, StoreLink, LoadLink, ResetHead, ClearCode, StoreCode, StoreName, LoadName, LookWord, FindLink, LoadCode, SwapHead, EmptyHead}
+use Rattle.seat_programs.specs.Programs.{Program, Do, Write, Round}
+use Rattle.seat_programs.specs.Sends.{block}
+use Rattle.seat_programs.specs.Rounds.{round}
+use Rattle.seat_programs.specs.Cores.{Core}
+use Rattle.seat_programs.specs.Ticks.{Moment}
+use Rattle.outcome_causes.specs.sock_runs.specs.May.{May}
+use Rattle.outcome_causes.specs.sock_runs.specs.GoesOn.{GoesOn}
+use Rattle.outcome_causes.specs.sock_runs.specs.Sound.{Sound, first_step}
+use Rattle.outcome_causes.specs.sock_runs.proofs.Cases as cases
+use Rattle.outcome_causes.specs.sock_runs.proofs.Rounds.{begins_round}
+use Rattle.outcome_causes.specs.sock_runs.proofs.Passes.{goes_round}
 use Rattle.id_runs.specs.Goes as goes
 use Rattle.call_causes.proofs.SockWords.{IsInside}
 use Rattle.call_causes.proofs.Ticks.{other_there, AllowsDo}
@@ -23,7 +23,7 @@ use Rattle.call_causes.proofs.Ticks.{other_there, AllowsDo}
 module _ (p : Plan) where
   inside_call : (v : View) (call : Call) → May p v call → IsInside p call
   inside_call v (ClaimSlot i) may = may
-  inside_call v (GiveBirth i k) may = may.0
+  inside_call v (CreateLife i k) may = may.0
   inside_call v (AddRef id) may = may.0.0
   inside_call v (SubRef i) may = may.0
   inside_call v (SetOdd i) may = may.0
@@ -32,7 +32,7 @@ module _ (p : Plan) where
   inside_call v (StoreLink i k) may = may.0
   inside_call v (LoadLink i w) may = may.0
   inside_call v (ResetHead i k) may = may.0
-  inside_call v (WipeCode i k) may = may.0
+  inside_call v (ClearCode i k) may = may.0
   inside_call v (StoreCode i h c) may = may.0
   inside_call v (StoreName n w) may = may.0
   inside_call v (LoadName n) may = may
@@ -53,6 +53,6 @@ module _ (p : Plan) where
   first_inside v (Do call next) g = step_inside v (Do call next) g
   first_inside v _ g = tt
 
-  pub allows : (c : Core) (vs : List View) (m : Moment) → Sound p c vs → (seat : Rattle.sock_programs.specs.Cores.SeatState) → get_elem? c.seats m.seat ≡ some seat → AllowsDo p (goes.first_of seat.program)
+  pub allows : (c : Core) (vs : List View) (m : Moment) → Sound p c vs → (seat : Rattle.seat_programs.specs.Cores.SeatState) → get_elem? c.seats m.seat ≡ some seat → AllowsDo p (goes.first_of seat.program)
   allows c vs m sound seat at = let v = other_there c.seats vs m.seat seat sound.each at in
       first_inside v.0 seat.program (cases.goes_first p v.0 (begins_round p v.0) (goes_round p v.0) seat.program (sound.seats m.seat seat v.0 at v.1).goes_on)

@@ -1,15 +1,15 @@
 -- A tick that makes a step aside keeps the laws of the id slots, of the ids and of the tasks, with all that is said in it.
 use Rattle.std.proofs.Common.{◌≡◌, ◌≢◌, ℕ, ◌<◌, ◌≤◌, inl, inr, List, [], ◌∷◌, ◌++◌, length, get_or, set, Some, refl, sym, ap, ◌∙◌, subst}
 use Rattle.sock_words.specs.declared.plain.Plan.{Plan}
-use Rattle.sock_model.specs.Layout.{code_word}
+use Rattle.sock_model.specs.Layout.{code_index}
 use Rattle.corr_core.specs.declared.marks.Plan.{Plan as IdPlan}
 use Rattle.id_rule.specs.Lawful.{all_words}
 use Rattle.sock_message.specs.Asked.{Asked}
-use Rattle.sock_programs.specs.declared.task.Task.{Task}
-use Rattle.sock_programs.specs.Heads.{Retry}
-use Rattle.sock_programs.specs.Asides.{Step, MakeId, ClaimId, PutCall, StoreCall, LoadCall, StoreAt, LoadAt, LoadIdWord, LockId, PostId, UnlockId, EndId, FreeId, TakeCall, TakeBytes, Found}
-use Rattle.sock_programs.specs.Programs.{Program, Say, Sent, Do, Rest, TakeMessage, TakeHome, PutHome, PutBytes, AskReady, Write, Aside, Round, Keep, Retries}
-use Rattle.sock_programs.specs.Cores.{resolved, said, next_step}
+use Rattle.seat_programs.specs.declared.task.Task.{Task}
+use Rattle.seat_programs.specs.Heads.{Retry}
+use Rattle.seat_programs.specs.Asides.{Step, MakeId, ClaimId, PutCall, StoreCall, LoadCall, StoreAt, LoadAt, LoadIdWord, LockId, PostId, UnlockId, EndId, FreeId, TakeCall, TakeBytes, Found}
+use Rattle.seat_programs.specs.Programs.{Program, Say, Sent, Do, Rest, TakeMessage, TakeHome, PutHome, PutBytes, AskReady, Write, Aside, Round, Keep, Retries}
+use Rattle.seat_programs.specs.Cores.{resolved, said, next_step}
 use Rattle.sock_words.specs.declared.outcome.Outcome.{Outcome}
 use Rattle.call_causes.specs.Scenes.{Birth, Saying, Scene, In, IsOver, IsOther, StaysWithin, Later}
 use Rattle.call_causes.specs.Says.{Claims, Mark, IsNextSaid, SaidBy, MayAside, Moves, Shows, SaysOn}
@@ -130,7 +130,7 @@ module _ (p : Plan) (q : IdPlan) (clients : List (List Task)) (gives : ℕ → L
       advanced = advanced_still p q clients gives w w' m plan sized fits births low step found b knows may made (fresh step found may);
       ats = ats_still p q clients gives w w' m plan sized fits births low step found b knows may;
       unmade = unmade_still p q clients gives w w' m plan sized fits births low step found b knows may made (fresh step found may);
-      codes = λ i inside some_. subst (λ ws. IsOther p q clients gives (get_or ws (code_word i) 0)) (sym same) (births.codes i inside (subst (λ ws. get_or ws (code_word i) 0 ≢ 0) same some_));
+      codes = λ i inside some_. subst (λ ws. IsOther p q clients gives (get_or ws (code_index i) 0)) (sym same) (births.codes i inside (subst (λ ws. get_or ws (code_index i) 0 ≢ 0) same some_));
     }
 
     pub is_moved : Moves p q clients gives w' m step found (mark_after p q clients gives step found m)

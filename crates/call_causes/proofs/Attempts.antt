@@ -6,12 +6,12 @@ use native.Mathlib.Decide.{ℕ_discrete}
 use Rattle.sock_words.specs.declared.plain.Plan.{Plan}
 use Rattle.corr_core.specs.Word.{Parts, parts, error_of, posted_word, unlocked_word, free_word}
 use Rattle.corr_core.specs.declared.marks.Plan.{Plan as IdPlan}
-use Rattle.id_rule.specs.Lawful.{id_word, all_words}
+use Rattle.id_rule.specs.Lawful.{id_index, all_words}
 use Rattle.sock_message.specs.Asked.{Asked}
-use Rattle.sock_programs.specs.declared.task.Task.{Task}
-use Rattle.sock_programs.specs.Asides.{Step, ClaimId, PutCall, MakeId, StoreCall, LoadCall, StoreAt, LoadAt, LoadIdWord, LockId, PostId, UnlockId, EndId, FreeId, TakeCall, TakeBytes, Found, call_id, id_slot, id_first}
-use Rattle.sock_programs.specs.Beside.{call_at}
-use Rattle.sock_programs.specs.Posts.{packed, advance_of}
+use Rattle.seat_programs.specs.declared.task.Task.{Task}
+use Rattle.seat_programs.specs.Asides.{Step, ClaimId, PutCall, MakeId, StoreCall, LoadCall, StoreAt, LoadAt, LoadIdWord, LockId, PostId, UnlockId, EndId, FreeId, TakeCall, TakeBytes, Found, call_id, id_slot, id_first}
+use Rattle.seat_programs.specs.Beside.{call_at}
+use Rattle.seat_programs.specs.Posts.{packed, advance_of}
 use Rattle.id_runs.proofs.Keeps.{parts_packed}
 use Rattle.call_causes.specs.Lists.{times}
 use Rattle.call_causes.specs.Posts.{posts_by}
@@ -57,14 +57,14 @@ module _ (p : Plan) (q : IdPlan) (clients : List (List Task)) (gives : ℕ → L
   abbrev Same : ℕ → Type 0
   Same k = (word_at w' k).attempt ≡ (word_at w k).attempt
 
-  by_word : (i k v : ℕ) → i ≡ k → i < q.slots → w'.core.calls.words ≡ set w.core.calls.words (id_word i) v → (parts v).attempt ≡ (word_at w i).attempt → Same k
+  by_word : (i k v : ℕ) → i ≡ k → i < q.slots → w'.core.calls.words ≡ set w.core.calls.words (id_index i) v → (parts v).attempt ≡ (word_at w i).attempt → Same k
   by_word i k v here inside words same = subst Same here (ap (λ (x : Parts). x.attempt) (word_is p q clients gives w w' m plan i inside sized v words) ∙ same)
 
-  missed : (i k found : ℕ) → i ≡ k → i < q.slots → w'.core.calls.words ≡ set w.core.calls.words (id_word i) found → parts found ≡ word_at w i → Same k
+  missed : (i k found : ℕ) → i ≡ k → i < q.slots → w'.core.calls.words ≡ set w.core.calls.words (id_index i) found → parts found ≡ word_at w i → Same k
   missed i k found here inside words is = by_word i k found here inside words (ap (λ (x : Parts). x.attempt) is)
 
   no_words : (k : ℕ) → w'.core.calls.words ≡ w.core.calls.words → Same k
-  no_words k words = ap (λ ws. (parts (Rattle.std.proofs.Common.get_or ws (id_word k) 0)).attempt) words
+  no_words k words = ap (λ ws. (parts (Rattle.std.proofs.Common.get_or ws (id_index k) 0)).attempt) words
 
   unlocked_attempt : (from n : ℕ) → (parts from).attempt + n ≤ 6 → (parts (packed (unlocked_word (parts from) n))).attempt ≡ (parts from).attempt + n
   unlocked_attempt from n few = ap (λ (x : Parts). x.attempt) (parts_packed (unlocked_word (parts from) n) (state_fits (eqb (parts from).oldest 0)) (omega arith) (omega arith) (omega (arith, few)) (omega arith) (omega arith))
@@ -79,24 +79,24 @@ module _ (p : Plan) (q : IdPlan) (clients : List (List Task)) (gives : ℕ → L
   touched (MakeId i range) found b knows k here live none_ still = absurd (none_ here)
   touched (LockId i from) found b knows k here live none_ still = by_found (eqb found from) refl b.words
     where
-      by_found : (c : Bool) → eqb found from ≡ c → w'.core.calls.words ≡ set w.core.calls.words (id_word i) (cond c (packed (posted_word (parts from) 0)) found) → Same k
+      by_found : (c : Bool) → eqb found from ≡ c → w'.core.calls.words ≡ set w.core.calls.words (id_index i) (cond c (packed (posted_word (parts from) 0)) found) → Same k
       by_found true hit words = by_word i k (packed (posted_word (parts from) 0)) here knows.0.0 words (ap (λ (x : Parts). x.attempt) (locked_parts p q clients gives from 0 knows.1) ∙ ap (λ (x : Parts). x.attempt) (ap parts (sym (eqb-true found from hit)) ∙ knows.0.1))
       by_found false hit words = missed i k found here knows.0.0 words knows.0.1
   touched (PostId i from e) found b knows k here live none_ still = by_found (eqb found from) refl b.words
     where
-      by_found : (c : Bool) → eqb found from ≡ c → w'.core.calls.words ≡ set w.core.calls.words (id_word i) (cond c (packed (posted_word (parts from) e)) found) → Same k
+      by_found : (c : Bool) → eqb found from ≡ c → w'.core.calls.words ≡ set w.core.calls.words (id_index i) (cond c (packed (posted_word (parts from) e)) found) → Same k
       by_found true hit words = let is : parts from ≡ word_at w i = ap parts (sym (eqb-true found from hit)) ∙ knows.0.1 in ⊎_elim
           (λ one. by_word i k (packed (posted_word (parts from) e)) here knows.0.0 words (ap (λ (x : Parts). x.attempt) (locked_parts p q clients gives from e one) ∙ ap (λ (x : Parts). x.attempt) is))
           (λ two. by_word i k (packed (posted_word (parts from) e)) here knows.0.0 words ((queued_parts p q clients gives w w' m plan sized from e two.0 knows.2).3 ∙ ap (λ (x : Parts). x.attempt) is)) knows.1
       by_found false hit words = missed i k found here knows.0.0 words knows.0.1
   touched (UnlockId i from true) found b knows k here live none_ still = by_found (eqb found from) refl b.words
     where
-      by_found : (c : Bool) → eqb found from ≡ c → w'.core.calls.words ≡ set w.core.calls.words (id_word i) (cond c (packed (unlocked_word (parts from) (advance_of true))) found) → Same k
+      by_found : (c : Bool) → eqb found from ≡ c → w'.core.calls.words ≡ set w.core.calls.words (id_index i) (cond c (packed (unlocked_word (parts from) (advance_of true))) found) → Same k
       by_found true hit words = absurd (still (here, eqb-true found from hit))
       by_found false hit words = missed i k found here knows.0.0 words knows.0.1
   touched (UnlockId i from false) found b knows k here live none_ still = by_found (eqb found from) refl b.words
     where
-      by_found : (c : Bool) → eqb found from ≡ c → w'.core.calls.words ≡ set w.core.calls.words (id_word i) (cond c (packed (unlocked_word (parts from) (advance_of false))) found) → Same k
+      by_found : (c : Bool) → eqb found from ≡ c → w'.core.calls.words ≡ set w.core.calls.words (id_index i) (cond c (packed (unlocked_word (parts from) (advance_of false))) found) → Same k
       by_found true hit words = by_word i k (packed (unlocked_word (parts from) (advance_of false))) here knows.0.0 words (unlocked_attempt from (advance_of false) knows.2 ∙ ((let z : (parts from).attempt + 0 ≡ (parts from).attempt = omega arith in z) ∙ ap (λ (x : Parts). x.attempt) (ap parts (sym (eqb-true found from hit)) ∙ knows.0.1)))
       by_found false hit words = missed i k found here knows.0.0 words knows.0.1
   touched (EndId i) found b knows k here live none_ still = absurd (let v : ℕ = packed (free_word ((parts found).first + (parts found).range)) in
@@ -123,7 +123,7 @@ module _ (p : Plan) (q : IdPlan) (clients : List (List Task)) (gives : ℕ → L
   advance_of_step : (step : Step) (found : Found step) → Behind step found → KnowsStep p q clients gives w step found → Advance step found
   advance_of_step (UnlockId i from true) found b knows = by_found (eqb found from) refl b.words b.advances
     where
-      by_found : (c : Bool) → eqb found from ≡ c → w'.core.calls.words ≡ set w.core.calls.words (id_word i) (cond c (packed (unlocked_word (parts from) (advance_of true))) found)
+      by_found : (c : Bool) → eqb found from ≡ c → w'.core.calls.words ≡ set w.core.calls.words (id_index i) (cond c (packed (unlocked_word (parts from) (advance_of true))) found)
           → w'.advances ≡ cond c (Rattle.call_causes.specs.Lists.called_at w.core.calls i) [] ++ w.advances → Advance (UnlockId i from true) found
       by_found true hit words more = let same = eqb-true found from hit in let is : parts from ≡ word_at w i = ap parts (sym same) ∙ knows.0.1 in
           one_more_at i knows.3.0 knows.0.0 knows.3.1 (let z : (word_at w i).state ≡ 2 = ap (λ (x : Parts). x.state) (sym is) ∙ knows.1 in omega (arith, z))

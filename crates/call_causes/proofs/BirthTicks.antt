@@ -8,8 +8,8 @@ use Rattle.corr_core.specs.Word.{Parts, made_word}
 use Rattle.corr_core.specs.declared.marks.Plan.{Plan as IdPlan}
 use Rattle.id_rule.specs.Lawful.{all_words}
 use Rattle.sock_message.specs.Asked.{Asked}
-use Rattle.sock_programs.specs.declared.task.Task.{Task}
-use Rattle.sock_programs.specs.Asides.{Step, Found, call_id, id_slot, id_first}
+use Rattle.seat_programs.specs.declared.task.Task.{Task}
+use Rattle.seat_programs.specs.Asides.{Step, Found, call_id, id_slot, id_first}
 use Rattle.call_causes.specs.Scenes.{Birth, Scene, In, IsBorn}
 use Rattle.call_causes.specs.Says.{Claims, Mark, MayAside}
 use Rattle.call_causes.specs.Stories.{word_at, LiesAt, SlotFits, HasPassed, IsCurrent, AreApart, AllApart, BirthsLaw, IsBehind, KnowsStep}

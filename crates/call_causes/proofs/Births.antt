@@ -5,10 +5,10 @@ use native.Mathlib.Decide.{ℕ_discrete}
 use Rattle.sock_words.specs.declared.plain.Plan.{Plan}
 use Rattle.corr_core.specs.Word.{Parts, parts, made_word, posted_word, unlocked_word, free_word}
 use Rattle.corr_core.specs.declared.marks.Plan.{Plan as IdPlan}
-use Rattle.id_rule.specs.Lawful.{id_word, all_words}
-use Rattle.sock_programs.specs.declared.task.Task.{Task}
-use Rattle.sock_programs.specs.Asides.{Step, ClaimId, PutCall, MakeId, StoreCall, LoadCall, StoreAt, LoadAt, LoadIdWord, LockId, PostId, UnlockId, EndId, FreeId, TakeCall, TakeBytes, Found, id_slot, id_first}
-use Rattle.sock_programs.specs.Posts.{packed, advance_of}
+use Rattle.id_rule.specs.Lawful.{id_index, all_words}
+use Rattle.seat_programs.specs.declared.task.Task.{Task}
+use Rattle.seat_programs.specs.Asides.{Step, ClaimId, PutCall, MakeId, StoreCall, LoadCall, StoreAt, LoadAt, LoadIdWord, LockId, PostId, UnlockId, EndId, FreeId, TakeCall, TakeBytes, Found, id_slot, id_first}
+use Rattle.seat_programs.specs.Posts.{packed, advance_of}
 use Rattle.id_runs.proofs.Keeps.{parts_packed}
 use Rattle.call_causes.specs.Scenes.{Birth, Scene}
 use Rattle.call_causes.specs.Says.{Mark, MayAside}
@@ -42,17 +42,17 @@ module _ (p : Plan) (q : IdPlan) (clients : List (List Task)) (gives : ℕ → L
   TurnAt step k = Turn (IsMake step k) (IsEnd step k) (word_at w k) (word_at w' k)
 
   words_turn : (step : Step) (k : ℕ) → w'.core.calls.words ≡ w.core.calls.words → TurnAt step k
-  words_turn step k words = same_turn (IsMake step k) (IsEnd step k) (word_at w k) (word_at w' k) (ap (λ ws. parts (get_or ws (id_word k) 0)) words)
+  words_turn step k words = same_turn (IsMake step k) (IsEnd step k) (word_at w k) (word_at w' k) (ap (λ ws. parts (get_or ws (id_index k) 0)) words)
 
   -- an exchange that leaves the first version and the range
-  keeps_turn : (step : Step) (i v : ℕ) → i < q.slots → w'.core.calls.words ≡ set w.core.calls.words (id_word i) v → (parts v).first ≡ (word_at w i).first → (parts v).range ≡ (word_at w i).range → 0 < (parts v).state → 0 < (word_at w i).state → TurnAt step i
+  keeps_turn : (step : Step) (i v : ℕ) → i < q.slots → w'.core.calls.words ≡ set w.core.calls.words (id_index i) v → (parts v).first ≡ (word_at w i).first → (parts v).range ≡ (word_at w i).range → 0 < (parts v).state → 0 < (word_at w i).state → TurnAt step i
   keeps_turn step i v inside words first range now before = let x = word_is p q clients gives w w' m plan i inside sized v words in
       keeps (ap (λ (y : Parts). y.first) x ∙ first) (ap (λ (y : Parts). y.range) x ∙ range) (λ _. subst (λ (y : Parts). 0 < y.state) (sym x) now) (λ _. before)
 
-  missed : (step : Step) (i found : ℕ) → i < q.slots → parts found ≡ word_at w i → w'.core.calls.words ≡ set w.core.calls.words (id_word i) found → TurnAt step i
+  missed : (step : Step) (i found : ℕ) → i < q.slots → parts found ≡ word_at w i → w'.core.calls.words ≡ set w.core.calls.words (id_index i) found → TurnAt step i
   missed step i found inside is words = same_turn (IsMake step i) (IsEnd step i) (word_at w i) (word_at w' i) (word_is p q clients gives w w' m plan i inside sized found words ∙ is)
 
-  locked_turn : (step : Step) (i from e found : ℕ) → found ≡ from → (parts from).state ≡ 1 → i < q.slots → parts found ≡ word_at w i → w'.core.calls.words ≡ set w.core.calls.words (id_word i) (packed (posted_word (parts from) e)) → TurnAt step i
+  locked_turn : (step : Step) (i from e found : ℕ) → found ≡ from → (parts from).state ≡ 1 → i < q.slots → parts found ≡ word_at w i → w'.core.calls.words ≡ set w.core.calls.words (id_index i) (packed (posted_word (parts from) e)) → TurnAt step i
   locked_turn step i from e found same one inside is words = let x = locked_parts p q clients gives from e one in let y : parts from ≡ word_at w i = ap parts (sym same) ∙ is in
       keeps_turn step i (packed (posted_word (parts from) e)) inside words (ap (λ (z : Parts). z.first) x ∙ ap (λ (z : Parts). z.first) y) (ap (λ (z : Parts). z.range) x ∙ ap (λ (z : Parts). z.range) y)
       (subst (λ (z : Parts). 0 < z.state) (sym x) (omega arith)) (subst (λ (z : Parts). 0 < z.state) y (omega (arith, one)))
@@ -67,12 +67,12 @@ module _ (p : Plan) (q : IdPlan) (clients : List (List Task)) (gives : ℕ → L
       )
   touched (LockId i from) found b knows may k low t = subst (TurnAt (LockId i from)) t (by_found (eqb found from) refl b.words)
     where
-      by_found : (c : Bool) → eqb found from ≡ c → w'.core.calls.words ≡ set w.core.calls.words (id_word i) (cond c (packed (posted_word (parts from) 0)) found) → TurnAt (LockId i from) i
+      by_found : (c : Bool) → eqb found from ≡ c → w'.core.calls.words ≡ set w.core.calls.words (id_index i) (cond c (packed (posted_word (parts from) 0)) found) → TurnAt (LockId i from) i
       by_found true hit words = locked_turn (LockId i from) i from 0 found (eqb-true found from hit) knows.1 knows.0.0 knows.0.1 words
       by_found false hit words = missed (LockId i from) i found knows.0.0 knows.0.1 words
   touched (PostId i from e) found b knows may k low t = subst (TurnAt (PostId i from e)) t (by_found (eqb found from) refl b.words)
     where
-      by_found : (c : Bool) → eqb found from ≡ c → w'.core.calls.words ≡ set w.core.calls.words (id_word i) (cond c (packed (posted_word (parts from) e)) found) → TurnAt (PostId i from e) i
+      by_found : (c : Bool) → eqb found from ≡ c → w'.core.calls.words ≡ set w.core.calls.words (id_index i) (cond c (packed (posted_word (parts from) e)) found) → TurnAt (PostId i from e) i
       by_found true hit words = ⊎_elim (λ one. locked_turn (PostId i from e) i from e found (eqb-true found from hit) one knows.0.0 knows.0.1 words)
           (λ two. let x = queued_parts p q clients gives w w' m plan sized from e two.0 knows.2 in let y : parts from ≡ word_at w i = ap parts (sym (eqb-true found from hit)) ∙ knows.0.1 in
           keeps_turn (PostId i from e) i (packed (posted_word (parts from) e)) knows.0.0 words (x.0 ∙ ap (λ (z : Parts). z.first) y) (x.1 ∙ ap (λ (z : Parts). z.range) y) (let s = x.2 in omega (arith, s)) (subst (λ (z : Parts). 0 < z.state) y (let s = two.0 in omega (arith, s)))) knows.1
@@ -83,7 +83,7 @@ module _ (p : Plan) (q : IdPlan) (clients : List (List Task)) (gives : ℕ → L
       state_fits true = (omega arith, omega arith)
       state_fits false = (omega arith, omega arith)
 
-      by_found : (c : Bool) → eqb found from ≡ c → w'.core.calls.words ≡ set w.core.calls.words (id_word i) (cond c (packed (unlocked_word (parts from) (advance_of advance))) found) → TurnAt (UnlockId i from advance) i
+      by_found : (c : Bool) → eqb found from ≡ c → w'.core.calls.words ≡ set w.core.calls.words (id_index i) (cond c (packed (unlocked_word (parts from) (advance_of advance))) found) → TurnAt (UnlockId i from advance) i
       by_found true hit words = let y : parts from ≡ word_at w i = ap parts (sym (eqb-true found from hit)) ∙ knows.0.1 in
           let x = parts_packed (unlocked_word (parts from) (advance_of advance)) (state_fits (eqb (parts from).oldest 0)).0 (omega arith) (omega arith) (let z = knows.2 in omega (arith, z)) (omega arith) (omega arith) in
           keeps_turn (UnlockId i from advance) i (packed (unlocked_word (parts from) (advance_of advance))) knows.0.0 words (ap (λ (z : Parts). z.first) x ∙ ap (λ (z : Parts). z.first) y) (ap (λ (z : Parts). z.range) x ∙ ap (λ (z : Parts). z.range) y)

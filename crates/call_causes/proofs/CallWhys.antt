@@ -8,12 +8,12 @@ use Rattle.brpc_model.specs.Frame.{Frame}
 use Rattle.brpc_model.specs.Causes.{HasFault}
 use Rattle.corr_core.specs.declared.marks.Plan.{Plan as IdPlan}
 use Rattle.sock_message.specs.Asked.{Asked, name_of}
-use Rattle.sock_programs.specs.declared.task.Op.{Op}
-use Rattle.sock_programs.specs.declared.task.Op.TheVariants as ops
-use Rattle.sock_programs.specs.declared.task.Task.{Task}
-use Rattle.sock_programs.specs.Posts.{is_final}
-use Rattle.sock_programs.specs.Told.{IsTask, Became, OpensNone}
-use Rattle.sock_programs.specs.ToldCalls.{Fixed, Order, FoundNone, Seeks, HasCode, IsExpiredWith}
+use Rattle.seat_programs.specs.declared.task.Op.{Op}
+use Rattle.seat_programs.specs.declared.task.Op.TheVariants as ops
+use Rattle.seat_programs.specs.declared.task.Task.{Task}
+use Rattle.seat_programs.specs.Posts.{is_final}
+use Rattle.seat_programs.specs.Told.{IsTask, Became, OpensNone}
+use Rattle.seat_programs.specs.ToldCalls.{Fixed, Order, FoundNone, Seeks, HasCode, IsExpiredWith}
 use Rattle.call_causes.specs.Lists.{given, times}
 use Rattle.call_causes.specs.Target.{IsOnCalls, FailedInPart, ByExpiry, ByCompression, ByFrameFault, ByFail, ByReading, BySocketOrRequests, WhyCallInPart, WhyInPart}
 use Rattle.call_causes.specs.Scenes.{Scene, In, IsOther, IsOpened, SeeksName, IsTaskOf, HasNoneOf, NoneFound, FailedIn, by_expiry, by_compression, by_other, WhyEnded, WhyOwn, ToldOf, was_said, was_sent, was_begun}

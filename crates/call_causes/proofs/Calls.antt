@@ -8,14 +8,14 @@ use Rattle.sock_words.specs.declared.outcome.Outcome.TheVariants as outcomes
 use Rattle.corr_core.specs.Word.{parts, error_of}
 use Rattle.corr_core.specs.declared.marks.Plan.{Plan as IdPlan}
 use Rattle.sock_message.specs.Asked.{Asked, name_of}
-use Rattle.sock_programs.specs.declared.task.Op.{Op}
-use Rattle.sock_programs.specs.declared.task.Op.TheVariants as ops
-use Rattle.sock_programs.specs.declared.task.Task.{Task}
-use Rattle.sock_programs.specs.Asides.{PutCall, MakeId, StoreCall, call_id, id_slot, id_first}
-use Rattle.sock_programs.specs.Heads.{Retry, Unlocks, Joins, Posting, WasGone, WasStale, WasCrowded, WasQueued, HasLocked, Unlocking, IsOpen, HasNext, Deciding, HasEnded, GoesOn, Locking, NotThere, Has}
-use Rattle.sock_programs.specs.Programs.{Program, Say, Aside, Round}
-use Rattle.sock_programs.specs.Posts.{post, post_with, posted, decide, decided}
-use Rattle.sock_programs.specs.Attempts.{attempt, begin_call, claim_id, call, tried_again, retry_locked, retry, expire_outcome, expire, join}
+use Rattle.seat_programs.specs.declared.task.Op.{Op}
+use Rattle.seat_programs.specs.declared.task.Op.TheVariants as ops
+use Rattle.seat_programs.specs.declared.task.Task.{Task}
+use Rattle.seat_programs.specs.Asides.{PutCall, MakeId, StoreCall, call_id, id_slot, id_first}
+use Rattle.seat_programs.specs.Heads.{Retry, Unlocks, Joins, Posting, WasGone, WasStale, WasCrowded, WasQueued, HasLocked, Unlocking, IsOpen, HasNext, Deciding, HasEnded, GoesOn, Locking, NotThere, Has}
+use Rattle.seat_programs.specs.Programs.{Program, Say, Aside, Round}
+use Rattle.seat_programs.specs.Posts.{post, post_with, posted, decide, decided}
+use Rattle.seat_programs.specs.Attempts.{attempt, begin_call, claim_id, call, tried_again, retry_locked, retry, expire_outcome, expire, join}
 use Rattle.id_runs.proofs.Loops.{not_equal}
 use Rattle.call_causes.specs.Scenes.{Birth, Scene, In, Said, IsOver, IsBorn, IsOpened, SeeksName, IsClaimed, CauseOf, of_expiry, by_expiry, Named, Begun, IsTaskOf, HasNoneOf, NoneFound, HasBegunIn, HasNotBegunIn, WhyOwn, IsJust, ToldOf, was_said, was_sent, was_begun, AreTold}
 use Rattle.call_causes.specs.Says.{Shape, with_attempt, NoSlot, Claims, Locked, Mark, with_slot, with_owed, with_made, with_done, IsFree, put_in, SaidBy, NoneOfSetup, Again, LeavesUnlock, LeavesLock, SaysOn}
@@ -185,7 +185,7 @@ module _ (p : Plan) (q : IdPlan) (clients : List (List Task)) (gives : ℕ → L
       (λ u b l' _ born is last. failed_of p q clients gives u b id e (l'.apart id) is born (Rattle.call_causes.proofs.Lasting.cause_on p q clients gives v u l' id e cause) last) (follows_on p q clients gives w v m (Locked (id_slot id) f (record { range = range.range; attempt = (parts x).attempt })) next l goes)))
 
   retry_locked_says : (w : Scene) (m : Mark) (requests id n : ℕ) (next : Program) → IsFree m → n ≤ 6 → Ends w m next → (exit : Locking) (v : Scene) (m' : Mark) → Later' w v → SaidBy v (retry_locked requests id n next exit)
-      → LeavesLock p q clients gives m (id_slot id) (Rattle.sock_programs.specs.Heads.First (id_first id)) exit m' → Tells v m' (retry_locked requests id n next exit)
+      → LeavesLock p q clients gives m (id_slot id) (Rattle.seat_programs.specs.Heads.First (id_first id)) exit m' → Tells v m' (retry_locked requests id n next exit)
   retry_locked_says w m requests id n next free few goes (NotThere x) v m' l s lv = goes v m' l s (again_same p q clients gives m m' free lv)
   retry_locked_says w m requests id n next free few goes (Has x) v m' l s lv =
       let f : ℕ = lv.0 in let range : Shape = lv.1 in let m1 : Mark = with_slot (Locked (id_slot id) lv.0 lv.1) m in

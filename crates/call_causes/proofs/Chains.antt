@@ -5,11 +5,11 @@ use Rattle.atomic_table.proofs.Lists.{set_again}
 use Rattle.sock_words.specs.declared.plain.Plan.{Plan}
 use Rattle.sock_words.specs.declared.outcome.Outcome.{Outcome}
 use Rattle.corr_core.specs.declared.marks.Plan.{Plan as IdPlan}
-use Rattle.sock_programs.specs.declared.task.Task.{Task}
-use Rattle.sock_programs.specs.Heads.{Retry}
-use Rattle.sock_programs.specs.Attempts.{retry}
-use Rattle.sock_programs.specs.Programs.{Program, Do, Say, Sent, Rest, TakeMessage, TakeHome, PutHome, PutBytes, AskReady, Write, Aside, Round, Keep, Retries}
-use Rattle.sock_programs.specs.Cores.{resolved, said, next_step}
+use Rattle.seat_programs.specs.declared.task.Task.{Task}
+use Rattle.seat_programs.specs.Heads.{Retry}
+use Rattle.seat_programs.specs.Attempts.{retry}
+use Rattle.seat_programs.specs.Programs.{Program, Do, Say, Sent, Rest, TakeMessage, TakeHome, PutHome, PutBytes, AskReady, Write, Aside, Round, Keep, Retries}
+use Rattle.seat_programs.specs.Cores.{resolved, said, next_step}
 use Rattle.call_causes.specs.Scenes.{Saying, Scene, In, Said, Later, was_said, was_sent}
 use Rattle.call_causes.specs.Says.{Mark, with_done, with_owed, IsFree, IsNextSaid, SaidBy, SaysOn}
 use Rattle.call_causes.specs.Stories.{At, BirthsLaw, TasksLaw, unclaimed}

@@ -8,11 +8,11 @@ use Rattle.corr_core.specs.Word.{parts, made_word, posted_word, unlocked_word, f
 use Rattle.corr_core.specs.declared.marks.Plan.{Plan as IdPlan}
 use Rattle.id_rule.specs.Lawful.{all_words}
 use Rattle.sock_message.specs.Asked.{Asked}
-use Rattle.sock_programs.specs.declared.task.Op.TheVariants as ops
-use Rattle.sock_programs.specs.declared.task.Task.{Task}
-use Rattle.sock_programs.specs.Asides.{Step, ClaimId, PutCall, MakeId, StoreCall, LoadCall, StoreAt, LoadAt, LoadIdWord, LockId, PostId, UnlockId, EndId, FreeId, TakeCall, TakeBytes, Bytes, Found, call_id}
-use Rattle.sock_programs.specs.Asides as asides
-use Rattle.sock_programs.specs.Posts.{packed, advance_of}
+use Rattle.seat_programs.specs.declared.task.Op.TheVariants as ops
+use Rattle.seat_programs.specs.declared.task.Task.{Task}
+use Rattle.seat_programs.specs.Asides.{Step, ClaimId, PutCall, MakeId, StoreCall, LoadCall, StoreAt, LoadAt, LoadIdWord, LockId, PostId, UnlockId, EndId, FreeId, TakeCall, TakeBytes, Bytes, Found, call_id}
+use Rattle.seat_programs.specs.Asides as asides
+use Rattle.seat_programs.specs.Posts.{packed, advance_of}
 use Rattle.call_causes.specs.Scenes.{Birth, Saying, Claim, Scene, In, IsClaimed, IsTaskOf, HasRoom}
 use Rattle.call_causes.specs.Says.{with_attempt, unlocked_by, shape_of, Slot, NoSlot, Claims, Locked, Holds, Leaves, Mark, with_slot, put_in, taken_out, IsVacant, MayAside}
 use Rattle.call_causes.specs.Stories.{At, tag_at, SlotFits, BirthsLaw, TasksLaw, ClaimsLaw, tasks_behind, ahead, unclaimed, IsBehind, KnowsStep, put_of, born_by, claimed_by, stored_by, mark_after}
@@ -87,9 +87,9 @@ module _ (p : Plan) (q : IdPlan) (clients : List (List Task)) (gives : ℕ → L
   IsNewAt other found k = ⊥
 
   words_tag : (k : ℕ) → w'.core.calls.words ≡ w.core.calls.words → tag_at w' k ≢ 0 → tag_at w k ≢ 0
-  words_tag k same some_ e = some_ (ap (λ ws. get_or ws (Rattle.id_rule.specs.Lawful.tag_word k) 0) same ∙ e)
+  words_tag k same some_ e = some_ (ap (λ ws. get_or ws (Rattle.id_rule.specs.Lawful.tag_index k) 0) same ∙ e)
 
-  word_tag : (i k v : ℕ) → i ≡ k → i < q.slots → w'.core.calls.words ≡ set w.core.calls.words (Rattle.id_rule.specs.Lawful.id_word i) v → tag_at w' k ≢ 0 → tag_at w k ≢ 0
+  word_tag : (i k v : ℕ) → i ≡ k → i < q.slots → w'.core.calls.words ≡ set w.core.calls.words (Rattle.id_rule.specs.Lawful.id_index i) v → tag_at w' k ≢ 0 → tag_at w k ≢ 0
   word_tag i k v here inside words some_ e = some_ (subst (λ n. tag_at w' n ≡ tag_at w n) here (tag_stays p q clients gives w w' m plan i inside sized v words) ∙ e)
 
   touched_tag : (step : Step) (found : Found step) → Behind step found → Knows step found → (k : ℕ) → Touches step k → tag_at w' k ≢ 0 → (tag_at w k ≢ 0) ⊎ IsNewAt step found k

@@ -6,13 +6,13 @@ use Rattle.sock_words.specs.declared.plain.Plan.{Plan}
 use Rattle.sock_words.specs.declared.outcome.Outcome.{Outcome}
 use Rattle.sock_words.specs.declared.outcome.Outcome.TheVariants as outcomes
 use Rattle.corr_core.specs.declared.marks.Plan.{Plan as IdPlan}
-use Rattle.sock_programs.specs.declared.task.Op.{Op}
-use Rattle.sock_programs.specs.declared.task.Op.TheVariants as ops
-use Rattle.sock_programs.specs.declared.task.Task.{Task}
-use Rattle.sock_programs.specs.Programs.{Program, Say, Sent, NO_SOCKET, release, address, reach, set_failed, make_socket, open_from, fail_outcome, fail, drop_held}
-use Rattle.sock_programs.specs.Sends.{accept, heading_of, claim_from, start, send}
-use Rattle.sock_programs.specs.Clients.{HeldLife, held_under, without_name, give_back, drop_of, operation, client_from, ending_of}
-use Rattle.sock_programs.specs.Scripts.{sizes_of}
+use Rattle.seat_programs.specs.declared.task.Op.{Op}
+use Rattle.seat_programs.specs.declared.task.Op.TheVariants as ops
+use Rattle.seat_programs.specs.declared.task.Task.{Task}
+use Rattle.seat_programs.specs.Programs.{Program, Say, Sent, NO_SOCKET, release, address, reach, set_failed, make_socket, open_from, fail_outcome, fail, drop_held}
+use Rattle.seat_programs.specs.Sends.{accept, heading_of, claim_from, start, send}
+use Rattle.seat_programs.specs.Clients.{HeldLife, held_under, without_name, give_back, drop_of, operation, client_from, ending_of}
+use Rattle.seat_programs.specs.Scripts.{sizes_of}
 use Rattle.id_runs.proofs.Loops.{not_equal}
 use Rattle.call_causes.specs.Scenes.{Scene, In, Named, IsTaskOf, NoneFound, WhyOwn, IsJust}
 use Rattle.call_causes.specs.Says.{Mark, with_slot, with_done, IsFree, SaidBy, Again, SaysOn}
@@ -160,7 +160,7 @@ module _ (p : Plan) (q : IdPlan) (clients : List (List Task)) (gives : ℕ → L
         says (ops.Fail name code) op (fail_outcome found) next goes v3 m f3 s3.1 self (fail_named v3 name code found (l3.named name (l2.named name named)) (vref_version found % 2 == 0)) (just_failed v3 (vref_version found % 2 == 0) found))))
         (λ found v l s named. says (ops.Fail name code) op (outcomes.Gone (record { 0 = found })) next goes v m l s.1 self named tt)
 
-    hold_says : m.client ≢ 0 → (name : ℕ) → t.op ≡ ops.Hold name → (held : ℕ → Program) (next : Program) → ((id : ℕ) → Ends w (with_done t ts m) (held id)) → Ends w (with_done t ts m) next → Tells w m (Rattle.sock_programs.specs.Programs.hold t.number name held next)
+    hold_says : m.client ≢ 0 → (name : ℕ) → t.op ≡ ops.Hold name → (held : ℕ → Program) (next : Program) → ((id : ℕ) → Ends w (with_done t ts m) (held id)) → Ends w (with_done t ts m) next → Tells w m (Rattle.seat_programs.specs.Programs.hold t.number name held next)
     hold_says client name op held next holds goes = reach_says client name (Say t.number outcomes.Unopened next) (λ id. Say t.number outcomes.Held (held id)) (λ found. Say t.number (outcomes.Gone (record { 0 = found })) next)
         (λ v l s none_. says (ops.Hold name) op outcomes.Unopened next goes v m l s.1 self none_ tt)
         (λ id v l s named. says (ops.Hold name) op outcomes.Held (held id) (holds id) v m l s.1 self named tt)

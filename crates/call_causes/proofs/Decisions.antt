@@ -9,14 +9,14 @@ use Rattle.brpc_model.specs.Operations.{Turn}
 use Rattle.corr_core.specs.Word.{error_of}
 use Rattle.corr_core.specs.declared.marks.Plan.{Plan as IdPlan}
 use Rattle.sock_message.specs.Asked.{Asked}
-use Rattle.sock_programs.specs.declared.task.Op.TheVariants as ops
-use Rattle.sock_programs.specs.declared.task.Task.{Task}
-use Rattle.sock_programs.specs.Cores.{Core}
-use Rattle.sock_programs.specs.Ticks.{Moment, quiet, ticked}
-use Rattle.sock_programs.specs.Tasks.{plan_of, id_plan_of}
-use Rattle.sock_programs.specs.Told.{IsTask, Became}
-use Rattle.sock_programs.specs.ToldCalls.{Fixed, Order}
-use Rattle.sock_programs.specs.Scripts.{all_tasks, opened, ending, set_up, played, IsRunWithCalls}
+use Rattle.seat_programs.specs.declared.task.Op.TheVariants as ops
+use Rattle.seat_programs.specs.declared.task.Task.{Task}
+use Rattle.seat_programs.specs.Cores.{Core}
+use Rattle.seat_programs.specs.Ticks.{Moment, quiet, ticked}
+use Rattle.seat_programs.specs.Tasks.{plan_of, id_plan_of}
+use Rattle.seat_programs.specs.Told.{IsTask, Became}
+use Rattle.seat_programs.specs.ToldCalls.{Fixed, Order}
+use Rattle.seat_programs.specs.Scripts.{all_tasks, opened, ending, set_up, played, IsRunWithCalls}
 use Rattle.owed_calls.specs.joint_runs.proofs.Runs.{AreMade}
 use Rattle.owed_calls.specs.report_fits.proofs.Reading.{InRange}
 use Rattle.owed_calls.specs.report_fits.proofs.Targets.{AreThere}

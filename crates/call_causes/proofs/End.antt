@@ -7,11 +7,11 @@ use Rattle.brpc_model.specs.Frame.{Frame}
 use Rattle.brpc_model.specs.Messages.{shown_id}
 use Rattle.corr_core.specs.declared.marks.Plan.{Plan as IdPlan}
 use Rattle.sock_message.specs.Asked.{Asked}
-use Rattle.sock_programs.specs.declared.task.Op.TheVariants as ops
-use Rattle.sock_programs.specs.declared.task.Task.{Task}
-use Rattle.sock_programs.specs.Asides.{id_slot}
-use Rattle.sock_programs.specs.Told.{IsTask, Became}
-use Rattle.sock_programs.specs.ToldCalls.{Fixed, Order, IsAnsweredBy}
+use Rattle.seat_programs.specs.declared.task.Op.TheVariants as ops
+use Rattle.seat_programs.specs.declared.task.Task.{Task}
+use Rattle.seat_programs.specs.Asides.{id_slot}
+use Rattle.seat_programs.specs.Told.{IsTask, Became}
+use Rattle.seat_programs.specs.ToldCalls.{Fixed, Order, IsAnsweredBy}
 use Rattle.call_causes.specs.Lists.{given}
 use Rattle.call_causes.specs.Target.{IsOnCalls}
 use Rattle.call_causes.specs.Scenes.{Birth, Scene, In, IsAnsweredIn, WhyEnded, WhyOwn, ToldOf, was_said, was_sent, was_begun, AreTold}

@@ -3,10 +3,10 @@ use Rattle.std.proofs.Common.{◌≡◌, ◌≢◌, ℕ, ◌+◌, ◌<◌, ◌�
 use Rattle.sock_words.specs.declared.plain.Plan.{Plan}
 use Rattle.corr_core.specs.Word.{Parts, parts, made_word, locked_word, posted_word, unlocked_word, free_word}
 use Rattle.corr_core.specs.declared.marks.Plan.{Plan as IdPlan}
-use Rattle.id_rule.specs.Lawful.{id_word, all_words}
-use Rattle.sock_programs.specs.declared.task.Task.{Task}
-use Rattle.sock_programs.specs.Asides.{Step, ClaimId, PutCall, MakeId, StoreCall, LoadCall, StoreAt, LoadAt, LoadIdWord, LockId, PostId, UnlockId, EndId, FreeId, TakeCall, TakeBytes, Found, call_id}
-use Rattle.sock_programs.specs.Posts.{packed, advance_of}
+use Rattle.id_rule.specs.Lawful.{id_index, all_words}
+use Rattle.seat_programs.specs.declared.task.Task.{Task}
+use Rattle.seat_programs.specs.Asides.{Step, ClaimId, PutCall, MakeId, StoreCall, LoadCall, StoreAt, LoadAt, LoadIdWord, LockId, PostId, UnlockId, EndId, FreeId, TakeCall, TakeBytes, Found, call_id}
+use Rattle.seat_programs.specs.Posts.{packed, advance_of}
 use Rattle.id_runs.proofs.Keeps.{parts_packed}
 use Rattle.call_causes.specs.Scenes.{Scene, CauseOf, Later}
 use Rattle.call_causes.specs.Says.{Mark, Shows}
@@ -59,26 +59,26 @@ module _ (p : Plan) (q : IdPlan) (clients : List (List Task)) (gives : ℕ → L
 
     touched : (step : Step) (found : Found step) → IsBehind p q clients gives w w' m step found → KnowsStep p q clients gives w step found → Shows p q clients gives w' step found → (k : ℕ) → k < q.slots → Touches step k → HasCauses w' k (word_at w' k)
     touched (ClaimId i) found b knows shows k low t = subst (λ n. HasCauses w' n (word_at w' n)) t (subst (HasCauses w' i) (sym (word_stays p q clients gives w w' m plan i knows.0 sized 1 b.words)) (before i knows.0))
-    touched (PutCall i asked) found b knows shows k low t = subst (HasCauses w' k) (sym (ap (λ ws. parts (get_or ws (id_word k) 0)) b.words)) (before k low)
+    touched (PutCall i asked) found b knows shows k low t = subst (HasCauses w' k) (sym (ap (λ ws. parts (get_or ws (id_index k) 0)) b.words)) (before k low)
     touched (MakeId i range) found b knows shows k low t = subst (λ n. HasCauses w' n (word_at w' n)) t (
         let x = word_is p q clients gives w w' m plan i knows.0.0 sized (packed (made_word (parts found).first range)) b.words ∙ parts_packed (made_word (parts found).first range) (omega arith) (let z = knows.2 in omega (arith, z)) knows.3 (omega arith) (omega arith) (omega arith) in
         subst (HasCauses w' i) (sym x) (no_errors w' i (made_word (parts found).first range) refl refl)
         )
     touched (LockId i from) found b knows shows k low t = subst (λ n. HasCauses w' n (word_at w' n)) t (by_found (eqb found from) refl b.words)
       where
-        by_found : (c : Bool) → eqb found from ≡ c → w'.core.calls.words ≡ set w.core.calls.words (id_word i) (cond c (packed (posted_word (parts from) 0)) found) → HasCauses w' i (word_at w' i)
+        by_found : (c : Bool) → eqb found from ≡ c → w'.core.calls.words ≡ set w.core.calls.words (id_index i) (cond c (packed (posted_word (parts from) 0)) found) → HasCauses w' i (word_at w' i)
         by_found true hit words = subst (HasCauses w' i) (sym (word_is p q clients gives w w' m plan i knows.0.0 sized (packed (posted_word (parts from) 0)) words)) (locks i from 0 knows.1 (subst (λ n. HasCauses w' i (parts n)) (eqb-true found from hit) (found_causes i found knows.0.0 knows.0.1)))
         by_found false hit words = subst (HasCauses w' i) (sym (word_is p q clients gives w w' m plan i knows.0.0 sized found words)) (found_causes i found knows.0.0 knows.0.1)
     touched (PostId i from e) found b knows shows k low t = subst (λ n. HasCauses w' n (word_at w' n)) t (by_found (eqb found from) refl b.words)
       where
-        by_found : (c : Bool) → eqb found from ≡ c → w'.core.calls.words ≡ set w.core.calls.words (id_word i) (cond c (packed (posted_word (parts from) e)) found) → HasCauses w' i (word_at w' i)
+        by_found : (c : Bool) → eqb found from ≡ c → w'.core.calls.words ≡ set w.core.calls.words (id_index i) (cond c (packed (posted_word (parts from) e)) found) → HasCauses w' i (word_at w' i)
         by_found true hit words = let same = eqb-true found from hit in let old = subst (λ n. HasCauses w' i (parts n)) same (found_causes i found knows.0.0 knows.0.1) in
             subst (HasCauses w' i) (sym (word_is p q clients gives w w' m plan i knows.0.0 sized (packed (posted_word (parts from) e)) words))
             (⊎_elim (λ one. locks i from e one old) (λ two. queues i from e two.0 two.1 knows.2 old (shows same (let z = two.0 in λ one. omega (arith, one, z)))) knows.1)
         by_found false hit words = subst (HasCauses w' i) (sym (word_is p q clients gives w w' m plan i knows.0.0 sized found words)) (found_causes i found knows.0.0 knows.0.1)
     touched (UnlockId i from advance) found b knows shows k low t = subst (λ n. HasCauses w' n (word_at w' n)) t (by_found (eqb found from) refl b.words)
       where
-        by_found : (c : Bool) → eqb found from ≡ c → w'.core.calls.words ≡ set w.core.calls.words (id_word i) (cond c (packed (unlocked_word (parts from) (advance_of advance))) found) → HasCauses w' i (word_at w' i)
+        by_found : (c : Bool) → eqb found from ≡ c → w'.core.calls.words ≡ set w.core.calls.words (id_index i) (cond c (packed (unlocked_word (parts from) (advance_of advance))) found) → HasCauses w' i (word_at w' i)
         by_found true hit words = subst (HasCauses w' i) (sym (word_is p q clients gives w w' m plan i knows.0.0 sized (packed (unlocked_word (parts from) (advance_of advance))) words))
             (pops i from advance knows.1 knows.2 (subst (λ n. HasCauses w' i (parts n)) (eqb-true found from hit) (found_causes i found knows.0.0 knows.0.1)))
         by_found false hit words = subst (HasCauses w' i) (sym (word_is p q clients gives w w' m plan i knows.0.0 sized found words)) (found_causes i found knows.0.0 knows.0.1)
@@ -87,7 +87,7 @@ module _ (p : Plan) (q : IdPlan) (clients : List (List Task)) (gives : ℕ → L
         subst (HasCauses w' i) (sym x) (no_errors w' i (free_word ((parts found).first + (parts found).range)) refl refl)
         )
     touched (FreeId i) found b knows shows k low t = subst (λ n. HasCauses w' n (word_at w' n)) t (subst (HasCauses w' i) (sym (word_stays p q clients gives w w' m plan i knows sized 0 b.words)) (before i knows))
-    touched (TakeCall i) found b knows shows k low t = subst (HasCauses w' k) (sym (ap (λ ws. parts (get_or ws (id_word k) 0)) b.words)) (before k low)
+    touched (TakeCall i) found b knows shows k low t = subst (HasCauses w' k) (sym (ap (λ ws. parts (get_or ws (id_index k) 0)) b.words)) (before k low)
     touched (StoreCall o id) found b knows shows k low t = absurd t
     touched (LoadCall o) found b knows shows k low t = absurd t
     touched (StoreAt o x) found b knows shows k low t = absurd t

@@ -4,14 +4,14 @@ use Rattle.sock_words.specs.declared.plain.Plan.{Plan}
 use Rattle.corr_core.specs.Word.{parts, code_of}
 use Rattle.corr_core.specs.declared.marks.Plan.{Plan as IdPlan}
 use Rattle.sock_message.specs.Asked.{Asked}
-use Rattle.sock_programs.specs.declared.task.Task.{Task}
-use Rattle.sock_programs.specs.Asides.{PutCall, id_slot, id_first}
-use Rattle.sock_programs.specs.Heads.{Posts, Unlocks, Decides, Locks, Joins, Opens, Reads, Discards, Deciding, HasEnded}
-use Rattle.sock_programs.specs.Posts.{end_id, ends_call, unlocked, decides_round}
-use Rattle.sock_programs.specs.Programs.{Program, Do, Say, Sent, Rest, TakeMessage, TakeHome, PutHome, PutBytes, AskReady, Write, Aside, Round, Keep, Retries}
-use Rattle.sock_programs.specs.Rounds.{round}
-use Rattle.sock_programs.specs.Sends.{block}
-use Rattle.sock_causes.specs.sock_runs.specs.Sound.{first_step}
+use Rattle.seat_programs.specs.declared.task.Task.{Task}
+use Rattle.seat_programs.specs.Asides.{PutCall, id_slot, id_first}
+use Rattle.seat_programs.specs.Heads.{Posts, Unlocks, Decides, Locks, Joins, Opens, Reads, Discards, Deciding, HasEnded}
+use Rattle.seat_programs.specs.Posts.{end_id, ends_call, unlocked, decides_round}
+use Rattle.seat_programs.specs.Programs.{Program, Do, Say, Sent, Rest, TakeMessage, TakeHome, PutHome, PutBytes, AskReady, Write, Aside, Round, Keep, Retries}
+use Rattle.seat_programs.specs.Rounds.{round}
+use Rattle.seat_programs.specs.Sends.{block}
+use Rattle.outcome_causes.specs.sock_runs.specs.Sound.{first_step}
 use Rattle.call_causes.specs.Scenes.{Scene, IsBorn}
 use Rattle.call_causes.specs.Says.{Mark, MayAside, AtHead, SaysOn}
 use Rattle.call_causes.proofs.Posts.{id_back}

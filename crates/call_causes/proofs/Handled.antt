@@ -5,10 +5,10 @@ use Rattle.brpc_model.specs.Frame.{Frame}
 use Rattle.brpc_model.specs.Stream as streams
 use Rattle.brpc_model.specs.Causes.{HasFault}
 use Rattle.corr_core.specs.Word.{Parts, parts}
-use Rattle.id_rule.specs.Lawful.{id_word}
-use Rattle.sock_programs.specs.Heads.{Reading}
-use Rattle.sock_programs.specs.Posts.{has_version}
-use Rattle.sock_programs.specs.Readers.{has_response, slot_in, version_in, is_early}
+use Rattle.id_rule.specs.Lawful.{id_index}
+use Rattle.seat_programs.specs.Heads.{Reading}
+use Rattle.seat_programs.specs.Posts.{has_version}
+use Rattle.seat_programs.specs.Readers.{has_response, slot_in, version_in, is_early}
 use Rattle.call_causes.specs.Scenes.{In}
 
 -- ## Words of id slots
@@ -73,7 +73,7 @@ pub record Sit : Type 0 where
   pub bytes : List ℕ
 
 abbrev pub word_of : Sit → ℕ → Parts
-word_of s i = parts (slice_index s.words (id_word i))
+word_of s i = parts (slice_index s.words (id_index i))
 
 abbrev pub frames_in : List ℕ → List Frame
 frames_in bytes = (streams.stream bytes).frames

@@ -5,12 +5,12 @@ use mathlib.Core.Option.{Option, none, some, some-injective}
 use lib.ListN.{get_elem?}
 use Rattle.sock_words.specs.declared.plain.Plan.{Plan}
 use Rattle.corr_core.specs.declared.marks.Plan.{Plan as IdPlan}
-use Rattle.sock_programs.specs.Asides.{PostId}
-use Rattle.sock_programs.specs.Calls.{LoadOpen}
-use Rattle.sock_programs.specs.Programs.{Program, Do, Aside}
-use Rattle.sock_programs.specs.Cores.{Core, SeatState}
-use Rattle.sock_programs.specs.Ticks.{Moment, ticked, run}
-use Rattle.sock_causes.specs.sock_runs.specs.Sound.{first_step}
+use Rattle.seat_programs.specs.Asides.{PostId}
+use Rattle.seat_programs.specs.Calls.{LoadOpen}
+use Rattle.seat_programs.specs.Programs.{Program, Do, Aside}
+use Rattle.seat_programs.specs.Cores.{Core, SeatState}
+use Rattle.seat_programs.specs.Ticks.{Moment, ticked, run}
+use Rattle.outcome_causes.specs.sock_runs.specs.Sound.{first_step}
 use Rattle.call_causes.specs.Lists.{soon_at, shows_in}
 use Rattle.call_causes.specs.Posts.{Post, posted_at}
 use Rattle.call_causes.specs.Decided.{is_late_step, late_at, late_in, posted_behind}

@@ -6,13 +6,13 @@ use lib.ListN.{get_elem?}
 use Rattle.sock_words.specs.declared.plain.Plan.{Plan}
 use Rattle.corr_core.specs.Word.{Parts, parts, free_word}
 use Rattle.corr_core.specs.declared.marks.Plan.{Plan as IdPlan}
-use Rattle.id_rule.specs.Lawful.{id_word, all_words}
-use Rattle.sock_programs.specs.declared.task.Task.{Task}
-use Rattle.sock_programs.specs.Asides.{Step, Found, ClaimId, PutCall, MakeId, StoreCall, LoadCall, StoreAt, LoadAt, LoadIdWord, LockId, PostId, UnlockId, EndId, FreeId, TakeCall, TakeBytes, Taking}
-use Rattle.sock_programs.specs.Beside.{found_in, calls_after}
-use Rattle.sock_programs.specs.Posts.{packed}
-use Rattle.sock_programs.specs.Programs.{Program, Aside}
-use Rattle.sock_programs.specs.Cores.{Core}
+use Rattle.id_rule.specs.Lawful.{id_index, all_words}
+use Rattle.seat_programs.specs.declared.task.Task.{Task}
+use Rattle.seat_programs.specs.Asides.{Step, Found, ClaimId, PutCall, MakeId, StoreCall, LoadCall, StoreAt, LoadAt, LoadIdWord, LockId, PostId, UnlockId, EndId, FreeId, TakeCall, TakeBytes, Taking}
+use Rattle.seat_programs.specs.Beside.{found_in, calls_after}
+use Rattle.seat_programs.specs.Posts.{packed}
+use Rattle.seat_programs.specs.Programs.{Program, Aside}
+use Rattle.seat_programs.specs.Cores.{Core}
 use Rattle.id_runs.specs.Held.{IdView}
 use Rattle.id_runs.specs.Goes.{IdGoesOn, SoundIds}
 use Rattle.id_runs.proofs.Keeps.{parts_packed}
@@ -76,14 +76,14 @@ Tied i c other = Unit {0}
 
 -- and finds the id word that is there
 abbrev pub FindsWord : List ℕ → List ℕ → (step : Step) → Found step → Type 0
-FindsWord ws ws' (LoadIdWord i) found = parts found ≡ parts (slice_index ws (id_word i))
-FindsWord ws ws' (LockId i from) found = parts found ≡ parts (slice_index ws (id_word i))
-FindsWord ws ws' (PostId i from e) found = (parts found ≡ parts (slice_index ws (id_word i))) × ((parts (slice_index ws (id_word i))).first ≤ 67108856)
-FindsWord ws ws' (EndId i) found = (parts (slice_index ws' (id_word i))).first ≡ (parts (slice_index ws (id_word i))).first + (parts (slice_index ws (id_word i))).range
+FindsWord ws ws' (LoadIdWord i) found = parts found ≡ parts (slice_index ws (id_index i))
+FindsWord ws ws' (LockId i from) found = parts found ≡ parts (slice_index ws (id_index i))
+FindsWord ws ws' (PostId i from e) found = (parts found ≡ parts (slice_index ws (id_index i))) × ((parts (slice_index ws (id_index i))).first ≤ 67108856)
+FindsWord ws ws' (EndId i) found = (parts (slice_index ws' (id_index i))).first ≡ (parts (slice_index ws (id_index i))).first + (parts (slice_index ws (id_index i))).range
 FindsWord ws ws' step found = Unit {0}
 
 pub record Facts (q : IdPlan) (i : ℕ) (c : Core) (step : Step) (found : Found step) : Type 0 where
-  pub goes : (j : ℕ) → j < q.slots → Goes (parts (slice_index c.calls.words (id_word j))) (parts (slice_index (calls_after step found c.calls).words (id_word j)))
+  pub goes : (j : ℕ) → j < q.slots → Goes (parts (slice_index c.calls.words (id_index j))) (parts (slice_index (calls_after step found c.calls).words (id_index j)))
   pub finds : FindsWord c.calls.words (calls_after step found c.calls).words step found
   pub tied : Tied i c step
 
@@ -130,7 +130,7 @@ module _ (p : Plan) (q : IdPlan) (clients : List (List Task)) (gives : ℕ → L
         let kn = knows p q clients gives w us ids ms i m at story.reads u at_view step t found is go.0 may in
         let sized = is_sized p q clients gives w us ids in
         record {
-          goes = λ j low. turn_goes (IsMake step j) (IsEnd step j) (parts (slice_index w.core.calls.words (id_word j))) (parts (slice_index (calls_after step found w.core.calls).words (id_word j))) (turn p q clients gives w scene m ids.plan sized (story.slots.fits i m at) step found b kn may j low);
+          goes = λ j low. turn_goes (IsMake step j) (IsEnd step j) (parts (slice_index w.core.calls.words (id_index j))) (parts (slice_index (calls_after step found w.core.calls).words (id_index j))) (turn p q clients gives w scene m ids.plan sized (story.slots.fits i m at) step found b kn may j low);
           finds = finds_word scene m (are_low p q clients gives w us ids) ids.plan sized step found b kn;
           tied = tied_to ms story.reads i m at step may;
         }

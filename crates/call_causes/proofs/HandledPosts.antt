@@ -7,17 +7,17 @@ use lib.ListN.{get_elem?}
 use Rattle.sock_words.specs.declared.plain.Plan.{Plan}
 use Rattle.brpc_model.specs.Frame.{Frame}
 use Rattle.corr_core.specs.Word.{Parts, parts}
-use Rattle.id_rule.specs.Lawful.{id_word}
+use Rattle.id_rule.specs.Lawful.{id_index}
 use Rattle.corr_core.specs.declared.marks.Plan.{Plan as IdPlan}
-use Rattle.sock_programs.specs.Calls.{LoadOpen}
-use Rattle.sock_programs.specs.Asides.{Step, Found, PostId, TakeBytes, Taking, call_id, id_slot, id_first}
-use Rattle.sock_programs.specs.Heads.{Head, Exit, Retry, Decides, Locks, Reads}
-use Rattle.sock_programs.specs.Programs.{Program, Do, TakeMessage, TakeHome, PutHome, PutBytes, AskReady, Aside, Round}
-use Rattle.sock_programs.specs.Beside.{found_in}
-use Rattle.sock_programs.specs.Readers.{slot_in, version_in, kept_for, reader}
-use Rattle.sock_programs.specs.Cores.{Core, SeatState, resolved, next_step}
-use Rattle.sock_programs.specs.Ticks.{Moment, taken}
-use Rattle.sock_causes.specs.sock_runs.specs.Sound.{first_step}
+use Rattle.seat_programs.specs.Calls.{LoadOpen}
+use Rattle.seat_programs.specs.Asides.{Step, Found, PostId, TakeBytes, Taking, call_id, id_slot, id_first}
+use Rattle.seat_programs.specs.Heads.{Head, Exit, Retry, Decides, Locks, Reads}
+use Rattle.seat_programs.specs.Programs.{Program, Do, TakeMessage, TakeHome, PutHome, PutBytes, AskReady, Aside, Round}
+use Rattle.seat_programs.specs.Beside.{found_in}
+use Rattle.seat_programs.specs.Readers.{slot_in, version_in, kept_for, reader}
+use Rattle.seat_programs.specs.Cores.{Core, SeatState, resolved, next_step}
+use Rattle.seat_programs.specs.Ticks.{Moment, taken}
+use Rattle.outcome_causes.specs.sock_runs.specs.Sound.{first_step}
 use Rattle.owed_calls.proofs.OwingRuns.{same_first}
 use Rattle.call_causes.specs.Posts.{Post, posts_by, posted_with, posted_at}
 use Rattle.call_causes.specs.Scenes.{In}
@@ -180,7 +180,7 @@ module _ (k ids : ℕ) where
     late_over s x (reading r is at) late = absurd (subst (λ y. IsLate (first_step y)) is late)
     late_over s x (seeking r bytes before f fs kept w is resp sought m) late = absurd (by_word w (subst (λ y. IsLate (first_step y)) is late))
       where
-        by_word : (w : Rattle.std.specs.Prelude.Option ℕ) → IsLate (first_step (Round (Locks (slot_in f) (Rattle.sock_programs.specs.Heads.Version (version_in f)) w) (Rattle.sock_programs.specs.Readers.answered f kept (λ kept'. Rattle.sock_programs.specs.Readers.responses r.ids fs kept' (Rattle.call_causes.proofs.HandledSteps.behind k ids calls o many r bytes))))) → ⊥
+        by_word : (w : Rattle.std.specs.Prelude.Option ℕ) → IsLate (first_step (Round (Locks (slot_in f) (Rattle.seat_programs.specs.Heads.Version (version_in f)) w) (Rattle.seat_programs.specs.Readers.answered f kept (λ kept'. Rattle.seat_programs.specs.Readers.responses r.ids fs kept' (Rattle.call_causes.proofs.HandledSteps.behind k ids calls o many r bytes))))) → ⊥
         by_word Rattle.std.specs.Prelude.None x = x
         by_word (Some from) x = x
     late_over s x (taking r bytes before f fs kept first is resp b m) late = absurd (subst (λ y. IsLate (first_step y)) is late)
@@ -235,13 +235,13 @@ module _ (p : Plan) (q : IdPlan) (k : ℕ) where
         by_seat (some seat) e z = (seat, e, posted_is q (taken m.answer) c (first_step seat.program) x (subst (λ y. In x (posted_with c.calls (taken m.answer) y)) (same_first seat.program) z))
 
     -- the id's range is the one in its slot
-    range_there : (id_first x.id ≡ (parts (slice_index c.calls.words (id_word (id_slot x.id)))).first)
+    range_there : (id_first x.id ≡ (parts (slice_index c.calls.words (id_index (id_slot x.id)))).first)
     range_there =
         let b = by_whom.2 in let f = (known.facts by_whom.0 by_whom.1 (PostId b.slot b.from b.error) b.next (taken m.answer) b.from b.first b.found).finds in
         let low : (parts b.from).first ≤ 67108856 = (let e = ap (λ (y : Parts). y.first) f.0 in let z = f.1 in omega (arith, e, z)) in
         let slot : id_slot x.id ≡ b.slot = ap id_slot b.id_is ∙ (let z : id_slot (call_id b.slot (parts b.from).first) ≡ b.slot = omega (arith, low) in z) in
         let first : id_first x.id ≡ (parts b.from).first = ap id_first b.id_is ∙ (let z : id_first (call_id b.slot (parts b.from).first) ≡ (parts b.from).first = omega (arith, low) in z) in
-        first ∙ (ap (λ (y : Parts). y.first) f.0 ∙ ap (λ i. (parts (slice_index c.calls.words (id_word i))).first) (sym slot))
+        first ∙ (ap (λ (y : Parts). y.first) f.0 ∙ ap (λ i. (parts (slice_index c.calls.words (id_index i))).first) (sym slot))
 
     -- where the reader of the link is behind the end of its reading, all that is to be said of its responses is so
     pub claims_at : (soon : List (ℕ × ℕ)) → HasOver soon c → HasClaims x soon c

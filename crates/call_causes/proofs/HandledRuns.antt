@@ -6,16 +6,16 @@ use lib.ListN.{get_elem?}
 use Rattle.sock_words.specs.declared.plain.Plan.{Plan}
 use Rattle.sock_model.specs.declared.view.View.{View}
 use Rattle.corr_core.specs.declared.marks.Plan.{Plan as IdPlan}
-use Rattle.sock_programs.specs.declared.task.Task.{Task}
-use Rattle.sock_programs.specs.Asides.{id_slot, id_first}
-use Rattle.sock_programs.specs.Heads.{Exit, Retry, Decides}
-use Rattle.sock_programs.specs.Programs.{Program, Do, Say, Sent, Rest, TakeMessage, TakeHome, PutHome, PutBytes, AskReady, Write, Aside, Round, Keep, Retries}
-use Rattle.sock_programs.specs.Cores.{Core, SeatState}
-use Rattle.sock_programs.specs.Ticks.{Moment, quiet, ticked, run}
-use Rattle.sock_programs.specs.Runs.{IsAtRest}
-use Rattle.sock_causes.specs.sock_runs.specs.Sound.{IsAhead, first_step, views_after}
-use Rattle.sock_causes.specs.sock_runs.proofs.Along.{seat_rests, ticked_ahead}
-use Rattle.sock_causes.specs.sock_runs.proofs.Quiets.{ticked_rests}
+use Rattle.seat_programs.specs.declared.task.Task.{Task}
+use Rattle.seat_programs.specs.Asides.{id_slot, id_first}
+use Rattle.seat_programs.specs.Heads.{Exit, Retry, Decides}
+use Rattle.seat_programs.specs.Programs.{Program, Do, Say, Sent, Rest, TakeMessage, TakeHome, PutHome, PutBytes, AskReady, Write, Aside, Round, Keep, Retries}
+use Rattle.seat_programs.specs.Cores.{Core, SeatState}
+use Rattle.seat_programs.specs.Ticks.{Moment, quiet, ticked, run}
+use Rattle.seat_programs.specs.Runs.{IsAtRest}
+use Rattle.outcome_causes.specs.sock_runs.specs.Sound.{IsAhead, first_step, views_after}
+use Rattle.outcome_causes.specs.sock_runs.proofs.Along.{seat_rests, ticked_ahead}
+use Rattle.outcome_causes.specs.sock_runs.proofs.Quiets.{ticked_rests}
 use Rattle.owed_calls.specs.joint_runs.proofs.Both.{BothSound, AreBoth}
 use Rattle.id_runs.specs.Held.{IdView}
 use Rattle.id_runs.specs.Goes.{IdGoesOn, SoundIds}
@@ -169,7 +169,7 @@ module _ (p : Plan) (q : IdPlan) (k : ℕ) (calls : List ℕ) (o : ℕ) (many : 
           let ov = deciding_over k q.slots calls o many (sit k c soon) seat.program (h seat at) (subst (λ x. IsDecision k q.slots calls o many x) (sym is.2) tt) in
           let a = subst (λ x. After (Rattle.call_causes.proofs.Handled.Frozen k q.slots (sit k c soon)) ov.0 x) is.2 ov.2 in
           let locked = known.decides seat here d.id d.asked is.0 d.error is.1 is.2 in
-          (ov, silent_here k q.slots (sit k c soon) ov.0 d.id d.asked.range ov.1 locked.0 (ap (λ n. Rattle.sock_programs.specs.Readers.kept_for d.id n ov.0) (sym locked.1) ∙ a.0.0))
+          (ov, silent_here k q.slots (sit k c soon) ov.0 d.id d.asked.range ov.1 locked.0 (ap (λ n. Rattle.seat_programs.specs.Readers.kept_for d.id n ov.0) (sym locked.1) ∙ a.0.0))
 
   pub silence_along : (d : Decision) (ms : List Moment) (soon : List (ℕ × ℕ)) (c : Core) → AreKnown p q c ms → IsSilent d soon c → IsSilent d (soon ++ shows_in (soon_at p) p c ms) (run p c ms)
   silence_along d ms soon c known h = along p q k (Silence k q.slots (id_slot d.id) (id_first d.id) d.asked.range) (silence_on k q.slots (id_slot d.id) (id_first d.id) d.asked.range) (silence_onward k q.slots (id_slot d.id) (id_first d.id) d.asked.range) ms soon c known h

@@ -6,14 +6,14 @@ use Rattle.corr_core.specs.Word.{Parts, parts, posted_word, unlocked_word, code_
 use Rattle.corr_core.specs.Law.{LAST}
 use Rattle.brpc_model.specs.Frame.{Frame}
 use Rattle.sock_message.specs.Asked.{Asked}
-use Rattle.sock_programs.specs.Asides.{Step, Found, LoadAt, PostId, EndId, FreeId, TakeCall, TakeBytes, Taking, Bytes, Nothing, NoMore, AtEnd, Closed, Broken, call_id, id_slot, id_first}
-use Rattle.sock_programs.specs.Heads.{Head, Exit, Retry, Sought, Posts, Unlocks, Decides, Locks, Joins, Opens, Reads, Discards, Posting, WasGone, WasStale, WasCrowded, WasQueued, HasLocked, Unlocking, IsOpen, HasNext, Deciding, HasEnded, GoesOn, Locking, NotThere, Has, Ended}
-use Rattle.sock_programs.specs.Programs.{Program, Do, Say, Sent, Rest, TakeMessage, TakeHome, PutHome, PutBytes, AskReady, Write, Aside, Round, Keep, Retries, LAST_VERSION, recycle, release, address, set_failed}
-use Rattle.sock_programs.specs.Posts.{WHOLE, packed, advance_of, is_final, is_first, is_sought, is_stale, is_full, judged, posts_round, post_with, popped, unlocks_round, ends_call, end_id, decided, unlocked, locking}
-use Rattle.sock_programs.specs.Readers.{LIMIT, ending_of, slot_in, answer, discarded, kept_for, ends_with, posted_last, post_each, thrown_away, read}
-use Rattle.sock_programs.specs.Rounds.{round}
-use Rattle.sock_programs.specs.Cores.{resolved, next_step}
-use Rattle.sock_causes.specs.sock_runs.specs.Sound.{first_step}
+use Rattle.seat_programs.specs.Asides.{Step, Found, LoadAt, PostId, EndId, FreeId, TakeCall, TakeBytes, Taking, Bytes, Nothing, NoMore, AtEnd, Closed, Broken, call_id, id_slot, id_first}
+use Rattle.seat_programs.specs.Heads.{Head, Exit, Retry, Sought, Posts, Unlocks, Decides, Locks, Joins, Opens, Reads, Discards, Posting, WasGone, WasStale, WasCrowded, WasQueued, HasLocked, Unlocking, IsOpen, HasNext, Deciding, HasEnded, GoesOn, Locking, NotThere, Has, Ended}
+use Rattle.seat_programs.specs.Programs.{Program, Do, Say, Sent, Rest, TakeMessage, TakeHome, PutHome, PutBytes, AskReady, Write, Aside, Round, Keep, Retries, LAST_VERSION, recycle, release, address, set_failed}
+use Rattle.seat_programs.specs.Posts.{WHOLE, packed, advance_of, is_final, is_first, is_sought, is_stale, is_full, judged, posts_round, post_with, popped, unlocks_round, ends_call, end_id, decided, unlocked, locking}
+use Rattle.seat_programs.specs.Readers.{LIMIT, ending_of, slot_in, answer, discarded, kept_for, ends_with, posted_last, post_each, thrown_away, read}
+use Rattle.seat_programs.specs.Rounds.{round}
+use Rattle.seat_programs.specs.Cores.{resolved, next_step}
+use Rattle.outcome_causes.specs.sock_runs.specs.Sound.{first_step}
 
 -- ## Behind the end of a reading
 
@@ -60,9 +60,9 @@ module _ (F : Type 0) (kept : List Frame) where
   both false x y f g = g
 
   after_recycle : (i from : ℕ) (next : Bool → Program) → ((b : Bool) → After (next b)) → After (recycle i from next)
-  after_recycle i from next a = λ found. both (found == from) (Do (Rattle.sock_programs.specs.Calls.LoadLink i (vref_version from + 1)) (λ k. Do (Rattle.sock_programs.specs.Calls.TakeLink k) (λ _. Do (Rattle.sock_programs.specs.Calls.FinishLink k) (λ _. Do (Rattle.sock_programs.specs.Calls.PutLink k) (λ _.
-      cond (nat_le (vref_version from + 1) LAST_VERSION) (Do (Rattle.sock_programs.specs.Calls.FreeSlot i) (λ _. next true)) (next true)))))) (next false)
-      (λ k _ _ _. both (nat_le (vref_version from + 1) LAST_VERSION) (Do (Rattle.sock_programs.specs.Calls.FreeSlot i) (λ _. next true)) (next true) (λ _. a true) (a true)) (a false)
+  after_recycle i from next a = λ found. both (found == from) (Do (Rattle.seat_programs.specs.Calls.LoadLink i (vref_version from + 1)) (λ k. Do (Rattle.seat_programs.specs.Calls.TakeLink k) (λ _. Do (Rattle.seat_programs.specs.Calls.FinishLink k) (λ _. Do (Rattle.seat_programs.specs.Calls.PutLink k) (λ _.
+      cond (nat_le (vref_version from + 1) LAST_VERSION) (Do (Rattle.seat_programs.specs.Calls.FreeSlot i) (λ _. next true)) (next true)))))) (next false)
+      (λ k _ _ _. both (nat_le (vref_version from + 1) LAST_VERSION) (Do (Rattle.seat_programs.specs.Calls.FreeSlot i) (λ _. next true)) (next true) (λ _. a true) (a true)) (a false)
 
   after_release : (i : ℕ) (next : Bool → Program) → ((b : Bool) → After (next b)) → After (release i next)
   after_release i next a = λ found. both ((vref_version found % 2 == 1) && (vref_nref found == 1)) (recycle i (found - 1) next) (next false) (after_recycle i (found - 1) next a) (a false)
@@ -71,7 +71,7 @@ module _ (F : Type 0) (kept : List Frame) where
   after_address id held gone a b = λ found. both (vref_version found == socket_id_version id) held (release (socket_id_slot id) (λ _. gone found)) a (after_release (socket_id_slot id) (λ _. gone found) (λ _. b found))
 
   after_failed : (id code : ℕ) (next : ℕ → Program) → ((found : ℕ) → After (next found)) → After (set_failed id code next)
-  after_failed id code next a = λ found. both (vref_version found % 2 == 0) (Do (Rattle.sock_programs.specs.Calls.StoreCode (socket_id_slot id) (socket_id_version id) code) (λ _. Do (Rattle.sock_programs.specs.Calls.SubRef (socket_id_slot id)) (λ _. next found))) (next found) (λ _ _. a found) (a found)
+  after_failed id code next a = λ found. both (vref_version found % 2 == 0) (Do (Rattle.seat_programs.specs.Calls.StoreCode (socket_id_slot id) (socket_id_version id) code) (λ _. Do (Rattle.seat_programs.specs.Calls.SubRef (socket_id_slot id)) (λ _. next found))) (next found) (λ _ _. a found) (a found)
 
   after_judged : (id e found : ℕ) (rest : Program) → is_final (code_of e) ≡ true → ((x : Posting) → After (posted_last id e kept rest x)) → After (judged id e found (posted_last id e kept rest))
   after_judged id e found rest final a = let k : Posting → Program = posted_last id e kept rest in
@@ -114,7 +114,7 @@ module _ (F : Type 0) (kept : List Frame) where
       by false false is = absurd (true≢false (sym is))
 
   after_decides : (id : ℕ) (asked : Asked) (word e : ℕ) (next : Deciding → Program) → is_final (code_of e) ≡ true → ((x : Deciding) → After (next x)) → After (round (Decides id asked word e) next)
-  after_decides id asked word e next final a = subst (λ b. After (cond b (end_id (id_slot id) (next (HasEnded asked.operation (code_of e)))) (Aside (Rattle.sock_programs.specs.Asides.PutCall (id_slot id) asked) (λ _. Round (Unlocks (id_slot id) word true) (unlocked (record { id = id; attempt = (parts word).attempt + 1 }) next)))))
+  after_decides id asked word e next final a = subst (λ b. After (cond b (end_id (id_slot id) (next (HasEnded asked.operation (code_of e)))) (Aside (Rattle.seat_programs.specs.Asides.PutCall (id_slot id) asked) (λ _. Round (Unlocks (id_slot id) word true) (unlocked (record { id = id; attempt = (parts word).attempt + 1 }) next)))))
       (sym (ends_final (parts word) e final)) (after_end (id_slot id) (next (HasEnded asked.operation (code_of e))) (a (HasEnded asked.operation (code_of e))))
 
   after_answer : (f : Frame) (first : ℕ) (next : Program) → After next → After (answer f first next)

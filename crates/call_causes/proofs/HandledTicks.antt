@@ -15,20 +15,20 @@ use Rattle.sock_model.specs.Reads.{message, link_home}
 use Rattle.brpc_model.specs.Frame.{Frame}
 use Rattle.corr_core.specs.Word.{parts}
 use Rattle.corr_core.specs.declared.marks.Plan.{Plan as IdPlan}
-use Rattle.id_rule.specs.Lawful.{id_word}
+use Rattle.id_rule.specs.Lawful.{id_index}
 use Rattle.owed_calls.specs.sock_steps.proofs.Quiet.{either_way}
-use Rattle.sock_programs.specs.Asides.{Step, ClaimId, PutCall, MakeId, StoreCall, LoadCall, StoreAt, LoadAt, LoadIdWord, LockId, PostId, UnlockId, EndId, FreeId, TakeCall, TakeBytes, Taking, Bytes, Nothing, NoMore, AtEnd, Closed, Broken, Found, id_slot, id_first}
-use Rattle.sock_programs.specs.Heads.{Exit, Retry, Decides, Locks}
-use Rattle.sock_programs.specs.Programs.{Program, Do, Say, Sent, Rest, TakeMessage, TakeHome, PutHome, PutBytes, AskReady, Write, Aside, Round, Keep, Retries}
+use Rattle.seat_programs.specs.Asides.{Step, ClaimId, PutCall, MakeId, StoreCall, LoadCall, StoreAt, LoadAt, LoadIdWord, LockId, PostId, UnlockId, EndId, FreeId, TakeCall, TakeBytes, Taking, Bytes, Nothing, NoMore, AtEnd, Closed, Broken, Found, id_slot, id_first}
+use Rattle.seat_programs.specs.Heads.{Exit, Retry, Decides, Locks}
+use Rattle.seat_programs.specs.Programs.{Program, Do, Say, Sent, Rest, TakeMessage, TakeHome, PutHome, PutBytes, AskReady, Write, Aside, Round, Keep, Retries}
 use Rattle.sock_message.specs.Asked.{Asked}
-use Rattle.sock_programs.specs.Writings.{Puts, Waits, Empties, Walks}
-use Rattle.sock_programs.specs.Sends.{block}
-use Rattle.sock_programs.specs.Rounds.{round}
-use Rattle.sock_programs.specs.Beside.{found_in, calls_after}
-use Rattle.sock_programs.specs.Readers.{has_response, slot_in, version_in, is_early}
-use Rattle.sock_programs.specs.Cores.{Core, SeatState, word_of, found_at, words_after, word_after, homes_after, hand_after, lies_at, first_of, others_of, link_place, resolved, waiting_at, next_step, with_seat}
-use Rattle.sock_programs.specs.Ticks.{Answer, Unasked, OfPut, OfReady, OfTake, Moment, fed, with_places, onto_first, taken, with_message, with_link, with_put, with_ready, with_found, step_with, tick_with, ticked}
-use Rattle.sock_causes.specs.sock_runs.specs.Sound.{first_step}
+use Rattle.seat_programs.specs.Writings.{Puts, Waits, Empties, Walks}
+use Rattle.seat_programs.specs.Sends.{block}
+use Rattle.seat_programs.specs.Rounds.{round}
+use Rattle.seat_programs.specs.Beside.{found_in, calls_after}
+use Rattle.seat_programs.specs.Readers.{has_response, slot_in, version_in, is_early}
+use Rattle.seat_programs.specs.Cores.{Core, SeatState, word_of, found_at, words_after, word_after, homes_after, hand_after, lies_at, first_of, others_of, link_place, resolved, waiting_at, next_step, with_seat}
+use Rattle.seat_programs.specs.Ticks.{Answer, Unasked, OfPut, OfReady, OfTake, Moment, fed, with_places, onto_first, taken, with_message, with_link, with_put, with_ready, with_found, step_with, tick_with, ticked}
+use Rattle.outcome_causes.specs.sock_runs.specs.Sound.{first_step}
 use Rattle.call_causes.specs.Lists.{Take, taken_link, takes_by, takes_at, given, is_soon, soon_from, soon_by, soon_at}
 use Rattle.call_causes.specs.Scenes.{In}
 use Rattle.call_causes.proofs.Attempts.{in_behind}
@@ -44,7 +44,7 @@ take_of (Aside (TakeBytes l room) next) = l ∷ []
 take_of other = []
 
 taken_first : (program : Program) → taken_link program ≡ take_of (first_step program)
-taken_first (Round (Decides id asked w e) next) = either_way (Rattle.sock_programs.specs.Posts.ends_call (parts w) e) _ _ (λ x. [] ≡ take_of x) refl refl
+taken_first (Round (Decides id asked w e) next) = either_way (Rattle.seat_programs.specs.Posts.ends_call (parts w) e) _ _ (λ x. [] ≡ take_of x) refl refl
 taken_first (Round (Locks i sought (Rattle.std.specs.Prelude.Some w)) next) = refl
 taken_first (Round (Locks i sought Rattle.std.specs.Prelude.None) next) = refl
 taken_first (Write (Puts h now heading left took put) after) = refl
@@ -69,11 +69,11 @@ soon_by_test true true e x y = y
 soon_by_test true false e x y = absurd (true≢false (sym x))
 soon_by_test false b e x y = absurd (true≢false (sym x))
 
-late_here : (k ids : ℕ) (d : Core) → d.calls.plan.slots ≡ ids → (f : Frame) → is_soon d f ≡ false → IsResp k ids f → version_in f < bound (parts (slice_index d.calls.words (id_word (slot_in f))))
+late_here : (k ids : ℕ) (d : Core) → d.calls.plan.slots ≡ ids → (f : Frame) → is_soon d f ≡ false → IsResp k ids f → version_in f < bound (parts (slice_index d.calls.words (id_index (slot_in f))))
 late_here k ids d slots f is resp =
-    let early = soon_by_test (has_response f.meta.response) (nat_lt (slot_in f) ids) (is_early (version_in f) (slice_index d.calls.words (id_word (slot_in f)))) resp
-    (ap (λ s. has_response f.meta.response && (nat_lt (slot_in f) s && is_early (version_in f) (slice_index d.calls.words (id_word (slot_in f))))) (sym slots) ∙ is) in
-    leb-false (bound (parts (slice_index d.calls.words (id_word (slot_in f))))) (version_in f) (sym (early_is (version_in f) (slice_index d.calls.words (id_word (slot_in f)))) ∙ early)
+    let early = soon_by_test (has_response f.meta.response) (nat_lt (slot_in f) ids) (is_early (version_in f) (slice_index d.calls.words (id_index (slot_in f)))) resp
+    (ap (λ s. has_response f.meta.response && (nat_lt (slot_in f) s && is_early (version_in f) (slice_index d.calls.words (id_index (slot_in f))))) (sym slots) ∙ is) in
+    leb-false (bound (parts (slice_index d.calls.words (id_index (slot_in f))))) (version_in f) (sym (early_is (version_in f) (slice_index d.calls.words (id_index (slot_in f)))) ∙ early)
 
 soon_waits : (k ids : ℕ) (d : Core) → d.calls.plan.slots ≡ ids → (soon : List (ℕ × ℕ)) (fs : List Frame) (n : ℕ) → ((x : ℕ × ℕ) → In x (soon_from d k n fs) → In x soon) → AllFrom (handled.Waits k ids (sit k d soon)) n fs
 soon_waits k ids d slots soon [] n all = tt
@@ -92,7 +92,7 @@ pub record Known (q : IdPlan) (c : Core) (m : Moment) : Type 0 where
   pub facts : (seat : SeatState) → get_elem? c.seats m.seat ≡ some seat → (step : Step) (next : Found step → Program) (t : Option Taking) (found : Found step) → first_step seat.program ≡ Aside step next → found_in step c.calls t ≡ some found → Facts q m.seat c step found
   -- a call that is decided on is locked, and has the range of its id
   pub decides : (seat : SeatState) → get_elem? c.seats m.seat ≡ some seat → (id : ℕ) (asked : Asked) (word e : ℕ) (next : Exit (Decides id asked word e) → Program) → seat.program ≡ Round (Decides id asked word e) next
-      → ((parts (slice_index c.calls.words (id_word (id_slot id)))).first ≡ id_first id) × ((parts word).range ≡ asked.range)
+      → ((parts (slice_index c.calls.words (id_index (id_slot id)))).first ≡ id_first id) × ((parts word).range ≡ asked.range)
 
 module _ (p : Plan) (q : IdPlan) (k : ℕ) (St : Sit → Program → Type 0) (st_on : (s t : Sit) → Later k q.slots s t → (x : Program) → St s x → St t x) (onw : (s t : Sit) (ws : List Retry) (x : Program) → St s x → Onward k q.slots St s t ws (first_step x)) where
   abbrev pub HasReader : List (ℕ × ℕ) → Core → Type 0
@@ -108,7 +108,7 @@ module _ (p : Plan) (q : IdPlan) (k : ℕ) (St : Sit → Program → Type 0) (st
     -- words and bytes as they were
     still : (d : Core) → d.calls.words ≡ c.calls.words → given d k ≡ given c k → Later k q.slots (sit k c soon) (sit k d (soon_then d))
     still d words bytes = record {
-      words = λ i low. subst (λ ws. handled.Goes (parts (slice_index c.calls.words (id_word i))) (parts (slice_index ws (id_word i)))) (sym words) (goes_same (parts (slice_index c.calls.words (id_word i))));
+      words = λ i low. subst (λ ws. handled.Goes (parts (slice_index c.calls.words (id_index i))) (parts (slice_index ws (id_index i)))) (sym words) (goes_same (parts (slice_index c.calls.words (id_index i))));
       soon = λ x there. in_more x soon (flat_map (soon_by c d) (takes_at c m)) there;
       bytes = bytes;
     }

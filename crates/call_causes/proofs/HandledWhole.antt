@@ -8,24 +8,24 @@ use Rattle.atomic_table.proofs.Lists.{at_set}
 use Rattle.brpc_model.specs.Items.{Item}
 use Rattle.brpc_model.specs.Operations.{Turn}
 use Rattle.brpc_model.specs.Frame.{Frame}
-use Rattle.owed_calls.specs.chain_laws.proofs.Lists.{at_some}
+use Rattle.owed_calls.specs.chain_steps.proofs.Lists.{at_some}
 use Rattle.sock_words.specs.declared.outcome.Outcome.TheVariants as outcomes
 use Rattle.sock_message.specs.Asked.{Asked}
-use Rattle.sock_programs.specs.declared.task.Op.TheVariants as ops
-use Rattle.sock_programs.specs.declared.task.Task.{Task}
-use Rattle.sock_programs.specs.Told.{IsTask, Became}
+use Rattle.seat_programs.specs.declared.task.Op.TheVariants as ops
+use Rattle.seat_programs.specs.declared.task.Task.{Task}
+use Rattle.seat_programs.specs.Told.{IsTask, Became}
 use Rattle.owed_calls.specs.Lives.{ClosesInRun}
-use Rattle.sock_programs.specs.Asides.{id_slot, id_first}
-use Rattle.sock_programs.specs.Clients.{ending_of, client_from}
-use Rattle.sock_programs.specs.Programs.{Program}
-use Rattle.sock_programs.specs.Readers.{slot_in, version_in}
-use Rattle.sock_programs.specs.Cores.{Core, SeatState, resolved, waiting_at, next_step}
-use Rattle.sock_programs.specs.Ticks.{Moment, quiet, run}
-use Rattle.sock_programs.specs.Tasks.{opens, calls, plan_of, id_plan_of}
-use Rattle.sock_programs.specs.Scripts.{sizes_of, programs, all_tasks, opened, ending, set_up, played, is_ending, IsRunWithCalls}
-use Rattle.sock_causes.specs.sock_runs.proofs.OpensStay.{readers_begin}
-use Rattle.sock_causes.specs.sock_runs.proofs.Whole.{views_played, views_closed, views_ended}
-use Rattle.owed_calls.specs.client_laws.proofs.Beginning as clients_begin
+use Rattle.seat_programs.specs.Asides.{id_slot, id_first}
+use Rattle.seat_programs.specs.Clients.{ending_of, client_from}
+use Rattle.seat_programs.specs.Programs.{Program}
+use Rattle.seat_programs.specs.Readers.{slot_in, version_in}
+use Rattle.seat_programs.specs.Cores.{Core, SeatState, resolved, waiting_at, next_step}
+use Rattle.seat_programs.specs.Ticks.{Moment, quiet, run}
+use Rattle.seat_programs.specs.Tasks.{opens, calls, plan_of, id_plan_of}
+use Rattle.seat_programs.specs.Scripts.{sizes_of, programs, all_tasks, opened, ending, set_up, played, is_ending, IsRunWithCalls}
+use Rattle.outcome_causes.specs.sock_runs.proofs.OpensStay.{readers_begin}
+use Rattle.outcome_causes.specs.sock_runs.proofs.Whole.{views_played, views_closed, views_ended}
+use Rattle.owed_calls.specs.programs_allowed.proofs.Beginning as clients_begin
 use Rattle.id_runs.specs.Held.{IdView}
 use Rattle.id_runs.specs.Goes.{SoundIds}
 use Rattle.owed_calls.specs.joint_runs.proofs.Both.{BothSound}

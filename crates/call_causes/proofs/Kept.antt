@@ -3,7 +3,7 @@ use Rattle.std.proofs.Common.{ℕ, ⊎_elim, List, set, refl, sym, ◌∙◌, su
 use Rattle.atomic_table.proofs.Lists.{at_set}
 use Rattle.sock_words.specs.declared.plain.Plan.{Plan}
 use Rattle.corr_core.specs.declared.marks.Plan.{Plan as IdPlan}
-use Rattle.sock_programs.specs.declared.task.Task.{Task}
+use Rattle.seat_programs.specs.declared.task.Task.{Task}
 use Rattle.call_causes.specs.Scenes.{Scene}
 use Rattle.call_causes.specs.Says.{Mark}
 use Rattle.call_causes.specs.Stories.{At, InSlot, SlotFits, SlotsLaw, ClaimsLaw, ReadsLaw}

@@ -7,12 +7,12 @@ use Rattle.sock_words.specs.declared.plain.Plan.{Plan}
 use Rattle.corr_core.specs.Word.{parts}
 use Rattle.corr_core.specs.Law.{Local, SlotLaw, Stands, vacant, retired, claimed, opened, locked, leaving}
 use Rattle.corr_core.specs.declared.marks.Plan.{Plan as IdPlan}
-use Rattle.id_rule.specs.Lawful.{tag_word, id_word, call_word, at_word, all_words, local}
+use Rattle.id_rule.specs.Lawful.{tag_index, id_index, call_index, at_index, all_words, local}
 use Rattle.sock_message.specs.Asked.{Asked}
-use Rattle.sock_programs.specs.declared.task.Task.{Task}
-use Rattle.sock_programs.specs.Asides.{Step, ClaimId, PutCall, MakeId, StoreCall, LoadCall, StoreAt, LoadAt, LoadIdWord, LockId, PostId, UnlockId, EndId, FreeId, TakeCall, TakeBytes, Taking, Found}
-use Rattle.sock_programs.specs.Posts.{advance_of}
-use Rattle.sock_programs.specs.Beside.{found_in, call_at}
+use Rattle.seat_programs.specs.declared.task.Task.{Task}
+use Rattle.seat_programs.specs.Asides.{Step, ClaimId, PutCall, MakeId, StoreCall, LoadCall, StoreAt, LoadAt, LoadIdWord, LockId, PostId, UnlockId, EndId, FreeId, TakeCall, TakeBytes, Taking, Found}
+use Rattle.seat_programs.specs.Posts.{advance_of}
+use Rattle.seat_programs.specs.Beside.{found_in, call_at}
 use Rattle.id_runs.specs.Held.{IdView, id_state, MayId}
 use Rattle.id_runs.specs.Goes.{FindsId, SoundIds}
 use Rattle.id_runs.proofs.Steps.{finds_ids, call_there}
@@ -42,8 +42,8 @@ module _ (p : Plan) (q : IdPlan) (clients : List (List Task)) (gives : ℕ → L
   pub taken_with : (i : ℕ) → i < q.slots → IsTakenWith p q clients gives w i
   taken_with i inside = taken_of (local (id_state w.core.calls us) i) (ids.rule.slots i inside)
 
-  is_word : (i found : ℕ) → i < q.slots → core.some (get_or w.core.calls.words (id_word i) 0) ≡ core.some found → IsWordAt p q clients gives w i found
-  is_word i found inside e = (inside, ap parts (sym (some-injective (get_or w.core.calls.words (id_word i) 0) found e)))
+  is_word : (i found : ℕ) → i < q.slots → core.some (get_or w.core.calls.words (id_index i) 0) ≡ core.some found → IsWordAt p q clients gives w i found
+  is_word i found inside e = (inside, ap parts (sym (some-injective (get_or w.core.calls.words (id_index i) 0) found e)))
 
   lies : (i : ℕ) (x : core.Option (core.Option (Option Asked))) (found : Asked) → get_elem? w.core.calls.homes i ≡ x → call_at x ≡ core.some found → LiesAt w i found
   lies i (core.some (core.some (Some asked))) found at e = at ∙ ap (λ a. core.some (core.some (Some a))) (some-injective asked found e)
@@ -59,13 +59,13 @@ module _ (p : Plan) (q : IdPlan) (clients : List (List Task)) (gives : ℕ → L
     finds step t found is may = finds_ids p q w.core.calls ids.plan us ids.rule j u at_view (ids.real j u at_view) (ids.called, ids.placed) ids.homes step t found is may
 
     pub knows : (step : Step) (t : core.Option Taking) (found : Found step) → found_in step w.core.calls t ≡ core.some found → MayId p q u step → MayAside p q clients gives w m step → KnowsStep p q clients gives w step found
-    knows (ClaimId i) t found is may a = (may, sym (some-injective (get_or w.core.calls.words (tag_word i) 0) found is), taken_with i may)
+    knows (ClaimId i) t found is may a = (may, sym (some-injective (get_or w.core.calls.words (tag_index i) 0) found is), taken_with i may)
     knows (PutCall i asked) t found is may a = may.0
     knows (MakeId i range) t found is may a = let f = finds (MakeId i range) t found is may in (is_word i found may.0 is, f.1, may.2, may.3)
     knows (StoreCall o id) t found is may a = (may.0, may.1)
-    knows (LoadCall o) t found is may a = (may, sym (some-injective (get_or w.core.calls.words (call_word w.core.calls.plan o) 0) found is) ∙ ap (λ (r : IdPlan). get_or w.core.calls.words (call_word r o) 0) ids.plan)
+    knows (LoadCall o) t found is may a = (may, sym (some-injective (get_or w.core.calls.words (call_index w.core.calls.plan o) 0) found is) ∙ ap (λ (r : IdPlan). get_or w.core.calls.words (call_index r o) 0) ids.plan)
     knows (StoreAt o x) t found is may a = may.0
-    knows (LoadAt o) t found is may a = (may, sym (some-injective (get_or w.core.calls.words (at_word w.core.calls.plan o) 0) found is) ∙ ap (λ (r : IdPlan). get_or w.core.calls.words (at_word r o) 0) ids.plan)
+    knows (LoadAt o) t found is may a = (may, sym (some-injective (get_or w.core.calls.words (at_index w.core.calls.plan o) 0) found is) ∙ ap (λ (r : IdPlan). get_or w.core.calls.words (at_index r o) 0) ids.plan)
     knows (LoadIdWord i) t found is may a = let f = finds (LoadIdWord i) t found is may in (is_word i found may is, f.2)
     knows (LockId i from) t found is may a = (is_word i found may.0 is, may.1, taken_with i may.0)
     knows (PostId i from e) t found is may a = let f = finds (PostId i from e) t found is may in (is_word i found may.0 is, may.1, may.3, taken_with i may.0, f.2)

@@ -11,12 +11,12 @@ use Rattle.brpc_model.specs.Frame.{Frame}
 use Rattle.brpc_model.specs.Stream as streams
 use Rattle.corr_core.specs.Word.{Parts, parts, made_word, posted_word, unlocked_word, free_word}
 use Rattle.corr_core.specs.declared.marks.Plan.{Plan as IdPlan}
-use Rattle.id_rule.specs.Lawful.{tag_word, id_word, call_word, at_word, all_words}
+use Rattle.id_rule.specs.Lawful.{tag_index, id_index, call_index, at_index, all_words}
 use Rattle.sock_message.specs.Asked.{Asked}
-use Rattle.sock_programs.specs.declared.task.Task.{Task}
-use Rattle.sock_programs.specs.Asides.{Step, ClaimId, PutCall, MakeId, StoreCall, LoadCall, StoreAt, LoadAt, LoadIdWord, LockId, PostId, UnlockId, EndId, FreeId, TakeCall, TakeBytes, Bytes, Found, call_id}
-use Rattle.sock_programs.specs.Asides as asides
-use Rattle.sock_programs.specs.Posts.{packed, advance_of}
+use Rattle.seat_programs.specs.declared.task.Task.{Task}
+use Rattle.seat_programs.specs.Asides.{Step, ClaimId, PutCall, MakeId, StoreCall, LoadCall, StoreAt, LoadAt, LoadIdWord, LockId, PostId, UnlockId, EndId, FreeId, TakeCall, TakeBytes, Bytes, Found, call_id}
+use Rattle.seat_programs.specs.Asides as asides
+use Rattle.seat_programs.specs.Posts.{packed, advance_of}
 use Rattle.id_runs.proofs.Keeps.{parts_packed}
 use Rattle.call_causes.specs.Posts.{posts_by}
 use Rattle.call_causes.specs.Scenes.{Birth, Scene, In, IsBorn, IsClaimed, Came, Begun, StaysWithin, Later}
@@ -90,31 +90,31 @@ module _ (p : Plan) (q : IdPlan) (clients : List (List Task)) (gives : ℕ → L
 
   -- ## Words of calls
 
-  word_beside : (x v o : ℕ) → w'.core.calls.words ≡ set w.core.calls.words x v → call_word q o ≢ x → Begun p q clients gives w o → Begun p q clients gives w' o
-  word_beside x v o words ne begun = λ e. begun (sym (ap (λ ws. get_or ws (call_word q o) 0) words ∙ get_or-set_other w.core.calls.words x (call_word q o) v 0 ne) ∙ e)
+  word_beside : (x v o : ℕ) → w'.core.calls.words ≡ set w.core.calls.words x v → call_index q o ≢ x → Begun p q clients gives w o → Begun p q clients gives w' o
+  word_beside x v o words ne begun = λ e. begun (sym (ap (λ ws. get_or ws (call_index q o) 0) words ∙ get_or-set_other w.core.calls.words x (call_index q o) v 0 ne) ∙ e)
 
   words_still : (o : ℕ) → w'.core.calls.words ≡ w.core.calls.words → Begun p q clients gives w o → Begun p q clients gives w' o
-  words_still o words begun = λ e. begun (ap (λ ws. get_or ws (call_word q o) 0) (sym words) ∙ e)
+  words_still o words begun = λ e. begun (ap (λ ws. get_or ws (call_index q o) 0) (sym words) ∙ e)
 
-  pub stored_is : (o id : ℕ) → o < q.operations → w'.core.calls.words ≡ set w.core.calls.words (call_word w.core.calls.plan o) id → get_or w'.core.calls.words (call_word q o) 0 ≡ id
-  stored_is o id inside words = ap (λ ws. get_or ws (call_word q o) 0) (words ∙ ap (λ (r : IdPlan). set w.core.calls.words (call_word r o) id) plan) ∙ get_or-set_same w.core.calls.words (call_word q o) id 0 (omega (arith, sized, inside))
+  pub stored_is : (o id : ℕ) → o < q.operations → w'.core.calls.words ≡ set w.core.calls.words (call_index w.core.calls.plan o) id → get_or w'.core.calls.words (call_index q o) 0 ≡ id
+  stored_is o id inside words = ap (λ ws. get_or ws (call_index q o) 0) (words ∙ ap (λ (r : IdPlan). set w.core.calls.words (call_index r o) id) plan) ∙ get_or-set_same w.core.calls.words (call_index q o) id 0 (omega (arith, sized, inside))
 
   pub begun_still : (step : Step) (found : Found step) → Behind step found → KnowsStep p q clients gives w step found → (o : ℕ) → Begun p q clients gives w o → Begun p q clients gives w' o
-  begun_still (ClaimId i) found b knows o = word_beside (tag_word i) 1 o b.words (let z = knows.0 in λ e. omega (arith, z, e))
+  begun_still (ClaimId i) found b knows o = word_beside (tag_index i) 1 o b.words (let z = knows.0 in λ e. omega (arith, z, e))
   begun_still (PutCall i asked) found b knows o = words_still o b.words
-  begun_still (MakeId i range) found b knows o = word_beside (id_word i) (packed (made_word (parts found).first range)) o b.words (λ e. omega (arith, e))
+  begun_still (MakeId i range) found b knows o = word_beside (id_index i) (packed (made_word (parts found).first range)) o b.words (λ e. omega (arith, e))
   begun_still (StoreCall u id) found b knows o = dite (ℕ_discrete u o)
-      (λ here. λ _ e. knows.1 (sym (stored_is u id knows.0 b.words) ∙ (ap (λ n. get_or w'.core.calls.words (call_word q n) 0) here ∙ e)))
-      (λ ne. word_beside (call_word q u) id o (b.words ∙ ap (λ (r : IdPlan). set w.core.calls.words (call_word r u) id) plan) (λ e. ne (omega (arith, e))))
+      (λ here. λ _ e. knows.1 (sym (stored_is u id knows.0 b.words) ∙ (ap (λ n. get_or w'.core.calls.words (call_index q n) 0) here ∙ e)))
+      (λ ne. word_beside (call_index q u) id o (b.words ∙ ap (λ (r : IdPlan). set w.core.calls.words (call_index r u) id) plan) (λ e. ne (omega (arith, e))))
   begun_still (LoadCall u) found b knows o = words_still o b.words
-  begun_still (StoreAt u x) found b knows o = word_beside (at_word q u) x o (b.words ∙ ap (λ (r : IdPlan). set w.core.calls.words (at_word r u) x) plan) (λ e. omega (arith, e))
+  begun_still (StoreAt u x) found b knows o = word_beside (at_index q u) x o (b.words ∙ ap (λ (r : IdPlan). set w.core.calls.words (at_index r u) x) plan) (λ e. omega (arith, e))
   begun_still (LoadAt u) found b knows o = words_still o b.words
   begun_still (LoadIdWord i) found b knows o = words_still o b.words
-  begun_still (LockId i from) found b knows o = word_beside (id_word i) (cond (eqb found from) (packed (posted_word (parts from) 0)) found) o b.words (λ e. omega (arith, e))
-  begun_still (PostId i from e) found b knows o = word_beside (id_word i) (cond (eqb found from) (packed (posted_word (parts from) e)) found) o b.words (λ z. omega (arith, z))
-  begun_still (UnlockId i from advance) found b knows o = word_beside (id_word i) (cond (eqb found from) (packed (unlocked_word (parts from) (advance_of advance))) found) o b.words (λ e. omega (arith, e))
-  begun_still (EndId i) found b knows o = word_beside (id_word i) (packed (free_word ((parts found).first + (parts found).range))) o b.words (λ e. omega (arith, e))
-  begun_still (FreeId i) found b knows o = word_beside (tag_word i) 0 o b.words (λ e. omega (arith, knows, e))
+  begun_still (LockId i from) found b knows o = word_beside (id_index i) (cond (eqb found from) (packed (posted_word (parts from) 0)) found) o b.words (λ e. omega (arith, e))
+  begun_still (PostId i from e) found b knows o = word_beside (id_index i) (cond (eqb found from) (packed (posted_word (parts from) e)) found) o b.words (λ z. omega (arith, z))
+  begun_still (UnlockId i from advance) found b knows o = word_beside (id_index i) (cond (eqb found from) (packed (unlocked_word (parts from) (advance_of advance))) found) o b.words (λ e. omega (arith, e))
+  begun_still (EndId i) found b knows o = word_beside (id_index i) (packed (free_word ((parts found).first + (parts found).range))) o b.words (λ e. omega (arith, e))
+  begun_still (FreeId i) found b knows o = word_beside (tag_index i) 0 o b.words (λ e. omega (arith, knows, e))
   begun_still (TakeCall i) found b knows o = words_still o b.words
   begun_still (TakeBytes l room) (Bytes bytes) b knows o = words_still o b.words
   begun_still (TakeBytes l room) asides.Nothing b knows o = words_still o b.words
@@ -125,31 +125,31 @@ module _ (p : Plan) (q : IdPlan) (clients : List (List Task)) (gives : ℕ → L
 
   -- ## Words of where attempts went
 
-  at_beside : (x v o : ℕ) → o < q.operations → w'.core.calls.words ≡ set w.core.calls.words x v → at_word q o ≢ x → at_word_attempt (get_or w'.core.calls.words (at_word q o) 0) ≤ 6
-  at_beside x v o inside words ne = subst (λ n. at_word_attempt n ≤ 6) (sym (ap (λ ws. get_or ws (at_word q o) 0) words ∙ get_or-set_other w.core.calls.words x (at_word q o) v 0 ne)) (law.ats o inside)
+  at_beside : (x v o : ℕ) → o < q.operations → w'.core.calls.words ≡ set w.core.calls.words x v → at_index q o ≢ x → at_word_attempt (get_or w'.core.calls.words (at_index q o) 0) ≤ 6
+  at_beside x v o inside words ne = subst (λ n. at_word_attempt n ≤ 6) (sym (ap (λ ws. get_or ws (at_index q o) 0) words ∙ get_or-set_other w.core.calls.words x (at_index q o) v 0 ne)) (law.ats o inside)
 
-  ats_same : (o : ℕ) → o < q.operations → w'.core.calls.words ≡ w.core.calls.words → at_word_attempt (get_or w'.core.calls.words (at_word q o) 0) ≤ 6
-  ats_same o inside words = subst (λ ws. at_word_attempt (get_or ws (at_word q o) 0) ≤ 6) (sym words) (law.ats o inside)
+  ats_same : (o : ℕ) → o < q.operations → w'.core.calls.words ≡ w.core.calls.words → at_word_attempt (get_or w'.core.calls.words (at_index q o) 0) ≤ 6
+  ats_same o inside words = subst (λ ws. at_word_attempt (get_or ws (at_index q o) 0) ≤ 6) (sym words) (law.ats o inside)
 
-  pub ats_still : (step : Step) (found : Found step) → Behind step found → KnowsStep p q clients gives w step found → MayAside p q clients gives w m step → (o : ℕ) → o < q.operations → at_word_attempt (get_or w'.core.calls.words (at_word q o) 0) ≤ 6
-  ats_still (ClaimId i) found b knows may o inside = at_beside (tag_word i) 1 o inside b.words (λ e. omega (arith, e))
+  pub ats_still : (step : Step) (found : Found step) → Behind step found → KnowsStep p q clients gives w step found → MayAside p q clients gives w m step → (o : ℕ) → o < q.operations → at_word_attempt (get_or w'.core.calls.words (at_index q o) 0) ≤ 6
+  ats_still (ClaimId i) found b knows may o inside = at_beside (tag_index i) 1 o inside b.words (λ e. omega (arith, e))
   ats_still (PutCall i asked) found b knows may o inside = ats_same o inside b.words
-  ats_still (MakeId i range) found b knows may o inside = at_beside (id_word i) (packed (made_word (parts found).first range)) o inside b.words (let z = knows.0.0 in λ e. omega (arith, z, e))
-  ats_still (StoreCall u id) found b knows may o inside = at_beside (call_word q u) id o inside (b.words ∙ ap (λ (r : IdPlan). set w.core.calls.words (call_word r u) id) plan) (λ e. omega (arith, e))
+  ats_still (MakeId i range) found b knows may o inside = at_beside (id_index i) (packed (made_word (parts found).first range)) o inside b.words (let z = knows.0.0 in λ e. omega (arith, z, e))
+  ats_still (StoreCall u id) found b knows may o inside = at_beside (call_index q u) id o inside (b.words ∙ ap (λ (r : IdPlan). set w.core.calls.words (call_index r u) id) plan) (λ e. omega (arith, e))
   ats_still (LoadCall u) found b knows may o inside = ats_same o inside b.words
   ats_still (StoreAt u x) found b knows may o inside =
-      let words : w'.core.calls.words ≡ set w.core.calls.words (at_word q u) x = b.words ∙ ap (λ (r : IdPlan). set w.core.calls.words (at_word r u) x) plan in
+      let words : w'.core.calls.words ≡ set w.core.calls.words (at_index q u) x = b.words ∙ ap (λ (r : IdPlan). set w.core.calls.words (at_index r u) x) plan in
       dite (ℕ_discrete u o)
-      (λ here. subst (λ n. at_word_attempt (get_or w'.core.calls.words (at_word q n) 0) ≤ 6) here
-      (subst (λ n. at_word_attempt n ≤ 6) (sym (ap (λ ws. get_or ws (at_word q u) 0) words ∙ get_or-set_same w.core.calls.words (at_word q u) x 0 (omega (arith, sized, knows)))) may))
-      (λ ne. at_beside (at_word q u) x o inside words (λ e. ne (omega (arith, e))))
+      (λ here. subst (λ n. at_word_attempt (get_or w'.core.calls.words (at_index q n) 0) ≤ 6) here
+      (subst (λ n. at_word_attempt n ≤ 6) (sym (ap (λ ws. get_or ws (at_index q u) 0) words ∙ get_or-set_same w.core.calls.words (at_index q u) x 0 (omega (arith, sized, knows)))) may))
+      (λ ne. at_beside (at_index q u) x o inside words (λ e. ne (omega (arith, e))))
   ats_still (LoadAt u) found b knows may o inside = ats_same o inside b.words
   ats_still (LoadIdWord i) found b knows may o inside = ats_same o inside b.words
-  ats_still (LockId i from) found b knows may o inside = at_beside (id_word i) (cond (eqb found from) (packed (posted_word (parts from) 0)) found) o inside b.words (let z = knows.0.0 in λ e. omega (arith, z, e))
-  ats_still (PostId i from e) found b knows may o inside = at_beside (id_word i) (cond (eqb found from) (packed (posted_word (parts from) e)) found) o inside b.words (let z = knows.0.0 in λ x. omega (arith, z, x))
-  ats_still (UnlockId i from advance) found b knows may o inside = at_beside (id_word i) (cond (eqb found from) (packed (unlocked_word (parts from) (advance_of advance))) found) o inside b.words (let z = knows.0.0 in λ e. omega (arith, z, e))
-  ats_still (EndId i) found b knows may o inside = at_beside (id_word i) (packed (free_word ((parts found).first + (parts found).range))) o inside b.words (let z = knows.0 in λ e. omega (arith, z, e))
-  ats_still (FreeId i) found b knows may o inside = at_beside (tag_word i) 0 o inside b.words (λ e. omega (arith, e))
+  ats_still (LockId i from) found b knows may o inside = at_beside (id_index i) (cond (eqb found from) (packed (posted_word (parts from) 0)) found) o inside b.words (let z = knows.0.0 in λ e. omega (arith, z, e))
+  ats_still (PostId i from e) found b knows may o inside = at_beside (id_index i) (cond (eqb found from) (packed (posted_word (parts from) e)) found) o inside b.words (let z = knows.0.0 in λ x. omega (arith, z, x))
+  ats_still (UnlockId i from advance) found b knows may o inside = at_beside (id_index i) (cond (eqb found from) (packed (unlocked_word (parts from) (advance_of advance))) found) o inside b.words (let z = knows.0.0 in λ e. omega (arith, z, e))
+  ats_still (EndId i) found b knows may o inside = at_beside (id_index i) (packed (free_word ((parts found).first + (parts found).range))) o inside b.words (let z = knows.0 in λ e. omega (arith, z, e))
+  ats_still (FreeId i) found b knows may o inside = at_beside (tag_index i) 0 o inside b.words (λ e. omega (arith, e))
   ats_still (TakeCall i) found b knows may o inside = ats_same o inside b.words
   ats_still (TakeBytes l room) (Bytes bytes) b knows may o inside = ats_same o inside b.words
   ats_still (TakeBytes l room) asides.Nothing b knows may o inside = ats_same o inside b.words
@@ -223,7 +223,7 @@ module _ (p : Plan) (q : IdPlan) (clients : List (List Task)) (gives : ℕ → L
   later step found b knows may words room fresh = let made = made_of step found b knows may in record {
     said = λ o x s. b.sayings (record { number = o; outcome = x }) s;
     over = b.overs;
-    named = λ n named. (named.0, (λ e. named.1 (ap (λ ws. get_or ws (Rattle.sock_model.specs.Layout.name_word p n) 0) (sym words) ∙ e)));
+    named = λ n named. (named.0, (λ e. named.1 (ap (λ ws. get_or ws (Rattle.sock_model.specs.Layout.name_index p n) 0) (sym words) ∙ e)));
     begun = begun_still step found b knows;
     born = born_still p q clients gives w w' m plan sized fits law low step found b knows may made fresh;
     came = came_still step found b knows;

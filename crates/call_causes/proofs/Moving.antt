@@ -6,14 +6,14 @@ use Rattle.sock_words.specs.Words.{at_word_attempt}
 use Rattle.sock_words.specs.declared.plain.Plan.{Plan}
 use Rattle.sock_words.specs.declared.outcome.Outcome.{Outcome}
 use Rattle.corr_core.specs.Word.{Parts, parts, code_of, unlocked_word, free_word}
-use Rattle.sock_programs.specs.Posts.{packed, advance_of}
+use Rattle.seat_programs.specs.Posts.{packed, advance_of}
 use Rattle.id_runs.proofs.Keeps.{parts_packed}
 use Rattle.corr_core.specs.declared.marks.Plan.{Plan as IdPlan}
-use Rattle.id_rule.specs.Lawful.{call_word, all_words}
+use Rattle.id_rule.specs.Lawful.{call_index, all_words}
 use Rattle.sock_message.specs.Asked.{Asked}
-use Rattle.sock_programs.specs.declared.task.Task.{Task}
-use Rattle.sock_programs.specs.Asides.{Step, ClaimId, PutCall, MakeId, StoreCall, LoadCall, StoreAt, LoadAt, LoadIdWord, LockId, PostId, UnlockId, EndId, FreeId, TakeCall, TakeBytes, Bytes, Found, call_id, id_slot, id_first}
-use Rattle.sock_programs.specs.Asides as asides
+use Rattle.seat_programs.specs.declared.task.Task.{Task}
+use Rattle.seat_programs.specs.Asides.{Step, ClaimId, PutCall, MakeId, StoreCall, LoadCall, StoreAt, LoadAt, LoadIdWord, LockId, PostId, UnlockId, EndId, FreeId, TakeCall, TakeBytes, Bytes, Found, call_id, id_slot, id_first}
+use Rattle.seat_programs.specs.Asides as asides
 use Rattle.call_causes.specs.Scenes.{Birth, Saying, Scene, In, IsBorn, IsErrorCode, IsTaskOf, EndedAt, CauseOf, of_expiry, of_other, Later}
 use Rattle.call_causes.specs.Says.{Shape, shape_of, with_attempt, unlocked_by, Slot, NoSlot, Claims, Locked, Holds, Leaves, Mark, with_slot, with_owed, with_made, IsVacant, HasCodes, MayAside, Moves}
 use Rattle.call_causes.specs.Stories.{At, word_at, SlotFits, IsCurrent, BirthsLaw, TasksLaw, ClaimsLaw, ReadsLaw, undo, ahead, unclaimed, IsBehind, KnowsStep, put_of, born_by, ended_of, stored_by, mark_after}
@@ -133,7 +133,7 @@ module _ (p : Plan) (q : IdPlan) (clients : List (List Task)) (gives : ℕ → L
       ),
       (c.0.asked, subst (λ n. IsBorn w' n c.0.asked) (c.2 ∙ sym knows.1) (l.born c.0.id c.0.asked c.1), c.3),
     )),
-    (λ none_. ((λ begun. begun (ap (λ ws. get_or ws (call_word q o) 0) b.words ∙ (sym knows.1 ∙ none_))), are_told_on p q clients gives w w' l m.client m.done (tasks.told j m at))),
+    (λ none_. ((λ begun. begun (ap (λ ws. get_or ws (call_index q o) 0) b.words ∙ (sym knows.1 ∙ none_))), are_told_on p q clients gives w w' l m.client m.done (tasks.told j m at))),
   )
   moves (StoreAt o x) found b knows may = refl
   moves (LoadAt o) found b knows may = (refl, subst (λ n. at_word_attempt n ≤ 6) (sym knows.1) (law.ats o knows.0))

@@ -3,7 +3,7 @@ use Rattle.std.proofs.Common.{◌≡◌, ◌≢◌, ℕ, zero, suc, inl, inr, Li
 use Rattle.std.specs.List.{AllByRecursion}
 use Rattle.sock_words.specs.declared.plain.Plan.{Plan}
 use Rattle.corr_core.specs.declared.marks.Plan.{Plan as IdPlan}
-use Rattle.sock_programs.specs.declared.task.Task.{Task}
+use Rattle.seat_programs.specs.declared.task.Task.{Task}
 use Rattle.call_causes.specs.Scenes.{In, IsTaskOf}
 use Rattle.call_causes.specs.Stories.{undo}
 use Rattle.call_causes.proofs.BirthTicks.{in_all}

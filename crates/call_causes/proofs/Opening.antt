@@ -12,13 +12,13 @@ use Rattle.sock_words.specs.declared.plain.Plan.{Plan}
 use Rattle.sock_words.specs.declared.outcome.Outcome.{Outcome}
 use Rattle.corr_core.specs.Word.{Parts}
 use Rattle.corr_core.specs.declared.marks.Plan.{Plan as IdPlan}
-use Rattle.id_rule.specs.Lawful.{Unused, call_word, at_word}
-use Rattle.sock_programs.specs.declared.task.Task.{Task}
-use Rattle.sock_programs.specs.Programs.{Program, Rest}
-use Rattle.sock_programs.specs.Clients.{client_from}
-use Rattle.sock_programs.specs.Readers.{reader}
-use Rattle.sock_programs.specs.Cores.{Core, SeatState, resolved, said, next_step}
-use Rattle.sock_programs.specs.Scripts.{opening_words, sizes_of, programs, readers_from, all_programs, beginning}
+use Rattle.id_rule.specs.Lawful.{Unused, call_index, at_index}
+use Rattle.seat_programs.specs.declared.task.Task.{Task}
+use Rattle.seat_programs.specs.Programs.{Program, Rest}
+use Rattle.seat_programs.specs.Clients.{client_from}
+use Rattle.seat_programs.specs.Readers.{reader}
+use Rattle.seat_programs.specs.Cores.{Core, SeatState, resolved, said, next_step}
+use Rattle.seat_programs.specs.Scripts.{opening_words, sizes_of, programs, readers_from, all_programs, beginning}
 use Rattle.id_runs.proofs.Opening.{unused}
 use Rattle.call_causes.specs.Scenes.{Birth, Saying, Scene, In, IsOver, Begun, IsTaskOf, LeadsTo, Later}
 use Rattle.call_causes.specs.Says.{NoSlot, Mark, SaysOn}
@@ -198,7 +198,7 @@ module _ (p : Plan) (q : IdPlan) (clients : List (List Task)) (gives : ℕ → L
         attempts = λ b there. absurd there;
         few = λ b there. absurd there;
         advanced = λ b there. absurd there;
-        ats = λ o inside. subst (λ n. at_word_attempt n ≤ 6) (sym (fresh_words.rest (at_word q o) (omega arith))) (omega arith);
+        ats = λ o inside. subst (λ n. at_word_attempt n ≤ 6) (sym (fresh_words.rest (at_index q o) (omega arith))) (omega arith);
         unmade = λ o all. refl;
         codes = fit.codes;
       }
@@ -235,7 +235,7 @@ module _ (p : Plan) (q : IdPlan) (clients : List (List Task)) (gives : ℕ → L
         quiet = λ j m at. subst (λ (n : Mark). Rattle.call_causes.specs.Stories.AreQuiet p q clients gives first_scene (replicate p.operations None) n.client n.done) (at_first q.seats j m at).0 tt;
         begun = λ b there. absurd there;
         made = λ j m b at is. absurd (let z : [] ≡ b ∷ [] = ap (λ (n : Mark). n.makes) (at_first q.seats j m at).0 ∙ is in cc);
-        called = λ o inside begun. absurd (begun (fresh_words.rest (call_word q o) (omega arith)));
+        called = λ o inside begun. absurd (begun (fresh_words.rest (call_index q o) (omega arith)));
         said = λ o x there. absurd there;
         once = tt;
         outcomes = λ o x is. absurd (none_said p.operations o x is);
@@ -277,7 +277,7 @@ module _ (p : Plan) (q : IdPlan) (clients : List (List Task)) (gives : ℕ → L
           let there = (begun k x here_at).1 (omega arith) in
           let c = chain p q clients gives numbered first_scene first_births here k x [] os ss ms (first_mark k) there law (says_first first_scene k x here_at) tt (few_tries k x here_at)
           (said_all first_scene x [] ss (λ s t. said s (first_kept xs (sayings_of (resolved [] x) ss) s t)) (λ a b t. overs a b (first_overs xs (sayings_of (resolved [] x) ss) a b t))) in
-          let r = begin_all xs (k + 1) (Rattle.sock_programs.specs.Cores.said (resolved [] x) os) (sayings_of (resolved [] x) ss) (set ms k c.0)
+          let r = begin_all xs (k + 1) (Rattle.seat_programs.specs.Cores.said (resolved [] x) os) (sayings_of (resolved [] x) ss) (set ms k c.0)
           (λ i y e. subst (λ n. get_elem? (all_programs (programs (sizes_of p q) clients) (readers_from calls 0 opens)) n ≡ core.some y) (let z : k + suc i ≡ k + 1 + i = omega arith in z) (at (suc i) y e))
           c.2 (one_more ms k x c.0 here_at there c.1 c.3 begun) said overs (kept_slots p q clients gives first_scene ms k (first_mark k) c.0 there c.1 slots) (kept_claims p q clients gives first_scene ms k (first_mark k) c.0 there c.1 claims) (kept_reads p q clients gives first_scene ms k (first_mark k) c.0 there c.1 reads) in (
             r.0,

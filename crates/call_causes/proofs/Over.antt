@@ -4,8 +4,8 @@ use mathlib.Core.Option.{some}
 use lib.ListN.{get_elem?}
 use Rattle.sock_words.specs.declared.plain.Plan.{Plan}
 use Rattle.corr_core.specs.declared.marks.Plan.{Plan as IdPlan}
-use Rattle.sock_programs.specs.declared.task.Task.{Task}
-use Rattle.sock_causes.specs.sock_runs.specs.Sound.{AllRest}
+use Rattle.seat_programs.specs.declared.task.Task.{Task}
+use Rattle.outcome_causes.specs.sock_runs.specs.Sound.{AllRest}
 use Rattle.call_causes.specs.Scenes.{Scene}
 use Rattle.call_causes.specs.Says.{Mark, SaysOn}
 use Rattle.call_causes.specs.Stories.{word_at, CallStory}

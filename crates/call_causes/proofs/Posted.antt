@@ -11,13 +11,13 @@ use Rattle.brpc_model.specs.Operations.{Turn}
 use Rattle.corr_core.specs.Word.{error_of}
 use Rattle.corr_core.specs.declared.marks.Plan.{Plan as IdPlan}
 use Rattle.sock_message.specs.Asked.{Asked}
-use Rattle.sock_programs.specs.declared.task.Op.TheVariants as ops
-use Rattle.sock_programs.specs.declared.task.Task.{Task}
-use Rattle.sock_programs.specs.Cores.{Core}
-use Rattle.sock_programs.specs.Tasks.{plan_of, id_plan_of}
-use Rattle.sock_programs.specs.Told.{TaskFits, OpFits, IsTask, Became}
-use Rattle.sock_programs.specs.ToldCalls.{Fixed, Order, ShowsId}
-use Rattle.sock_programs.specs.Scripts.{all_tasks, IsRunWithCalls}
+use Rattle.seat_programs.specs.declared.task.Op.TheVariants as ops
+use Rattle.seat_programs.specs.declared.task.Task.{Task}
+use Rattle.seat_programs.specs.Cores.{Core}
+use Rattle.seat_programs.specs.Tasks.{plan_of, id_plan_of}
+use Rattle.seat_programs.specs.Told.{TaskFits, OpFits, IsTask, Became}
+use Rattle.seat_programs.specs.ToldCalls.{Fixed, Order, ShowsId}
+use Rattle.seat_programs.specs.Scripts.{all_tasks, IsRunWithCalls}
 use Rattle.owed_calls.specs.joint_runs.proofs.Runs.{AreMade}
 use Rattle.owed_calls.specs.report_fits.proofs.Reading.{InRange}
 use Rattle.owed_calls.specs.report_fits.proofs.Targets.{AreThere}

@@ -11,15 +11,15 @@ use Rattle.sock_model.specs.Entries.{generation_of, slot_of, ticket_of}
 use Rattle.sock_model.specs.Memory.{IDLE, UNCONNECTED}
 use Rattle.corr_core.specs.declared.marks.Plan.{Plan as IdPlan}
 use Rattle.sock_message.specs.Asked.{Asked, frame_of}
-use Rattle.sock_programs.specs.declared.task.Task.{Task}
-use Rattle.sock_programs.specs.Parts.{part}
-use Rattle.sock_programs.specs.Calls.{SubRef, StoreCode, LoadLink, TakeLink, FinishLink, PutLink, FreeSlot, FreeRequest, ReadNext, TurnNext, Connect, FindLink, LookWord}
-use Rattle.sock_programs.specs.Asides.{StoreAt, id_slot, id_first}
-use Rattle.sock_programs.specs.Programs.{Program, Do, TakeMessage, TakeHome, PutBytes, Write, Aside, LAST_VERSION, LAST_GENERATION, recycle, release, address, set_failed}
-use Rattle.sock_programs.specs.Posts.{post}
-use Rattle.sock_programs.specs.Writings.{Holder, Writing, Puts, Waits, Empties, Walks}
-use Rattle.sock_programs.specs.Sends.{freed, one_more, passed_telling, tell_drop, placed, dropped, put_answered, ready_answered, block, accept, write_link}
-use Rattle.sock_programs.specs.Attempts.{claims_from, heading_for, attempt}
+use Rattle.seat_programs.specs.declared.task.Task.{Task}
+use Rattle.seat_programs.specs.Parts.{part}
+use Rattle.seat_programs.specs.Calls.{SubRef, StoreCode, LoadLink, TakeLink, FinishLink, PutLink, FreeSlot, FreeRequest, ReadNext, ReverseNext, Connect, FindLink, LookWord}
+use Rattle.seat_programs.specs.Asides.{StoreAt, id_slot, id_first}
+use Rattle.seat_programs.specs.Programs.{Program, Do, TakeMessage, TakeHome, PutBytes, Write, Aside, LAST_VERSION, LAST_GENERATION, recycle, release, address, set_failed}
+use Rattle.seat_programs.specs.Posts.{post}
+use Rattle.seat_programs.specs.Writings.{Holder, Writing, Puts, Waits, Empties, Walks}
+use Rattle.seat_programs.specs.Sends.{freed, one_more, passed_telling, tell_drop, placed, dropped, put_answered, ready_answered, block, accept, write_link}
+use Rattle.seat_programs.specs.Attempts.{claims_from, heading_for, attempt}
 use Rattle.id_runs.specs.Goes.{FitsOwner, FitsWriting}
 use Rattle.id_runs.proofs.Loops.{not_equal}
 use Rattle.call_causes.specs.Scenes.{Scene, IsOther}
@@ -157,7 +157,7 @@ module _ (p : Plan) (q : IdPlan) (clients : List (List Task)) (gives : ℕ → L
   block_says w m (Walks h top at after) then_ g = (
     tt,
     λ found v l s _. way p q clients gives v m (found == UNCONNECTED) (Write (Walks h top at after) then_)
-        (Do (TurnNext (slot_of at) after) (λ _. cond (found == h.last) (TakeMessage (slot_of at) (λ heading bytes. Write (Puts (record h { last = top }) at heading bytes 0 false) then_)) (Write (Walks h top found at) then_))) s
+        (Do (ReverseNext (slot_of at) after) (λ _. cond (found == h.last) (TakeMessage (slot_of at) (λ heading bytes. Write (Puts (record h { last = top }) at heading bytes 0 false) then_)) (Write (Walks h top found at) then_))) s
         (λ _ s'. writes_on w m then_ g.0 g.2 (Walks h top at after) tt v l s')
         (λ _ _. (
           tt,

@@ -10,12 +10,12 @@ use Rattle.brpc_model.specs.Causes.{HasFault}
 use Rattle.corr_core.specs.Word.{parts, error_of, code_of, attempt_of}
 use Rattle.corr_core.specs.declared.marks.Plan.{Plan as IdPlan}
 use Rattle.sock_message.specs.Asked.{Asked}
-use Rattle.sock_programs.specs.declared.task.Task.{Task}
-use Rattle.sock_programs.specs.Asides.{Taking, Bytes, Nothing, NoMore, AtEnd, Closed, Broken, call_id, id_slot, id_first}
-use Rattle.sock_programs.specs.Heads.{Version, Reading, Locks, Opens, Reads, Discards, WasGone, WasStale, WasCrowded, WasQueued, HasLocked, Locking, NotThere, Has, Ended}
-use Rattle.sock_programs.specs.Programs.{Program, Rest, Say, Round, NO_SOCKET, address, release, set_failed}
-use Rattle.sock_programs.specs.Posts.{is_stale, post_with, decide, decided}
-use Rattle.sock_programs.specs.Readers.{LIMIT, by_code, outcome_by, ending_of, has_response, slot_in, version_in, is_early, answer, answered, responses, last_of, ended_by, read_on, took_bytes, took, reads_round, discarded, discards_round, opens_round, kept_for, ends_with, posted_last, post_each, thrown_away, read, reader}
+use Rattle.seat_programs.specs.declared.task.Task.{Task}
+use Rattle.seat_programs.specs.Asides.{Taking, Bytes, Nothing, NoMore, AtEnd, Closed, Broken, call_id, id_slot, id_first}
+use Rattle.seat_programs.specs.Heads.{Version, Reading, Locks, Opens, Reads, Discards, WasGone, WasStale, WasCrowded, WasQueued, HasLocked, Locking, NotThere, Has, Ended}
+use Rattle.seat_programs.specs.Programs.{Program, Rest, Say, Round, NO_SOCKET, address, release, set_failed}
+use Rattle.seat_programs.specs.Posts.{is_stale, post_with, decide, decided}
+use Rattle.seat_programs.specs.Readers.{LIMIT, by_code, outcome_by, ending_of, has_response, slot_in, version_in, is_early, answer, answered, responses, last_of, ended_by, read_on, took_bytes, took, reads_round, discarded, discards_round, opens_round, kept_for, ends_with, posted_last, post_each, thrown_away, read, reader}
 use Rattle.call_causes.specs.Lists.{given}
 use Rattle.call_causes.specs.Scenes.{Birth, Scene, Came, IsResponseTo, WasPosted, HasFaulted, IsOther, of_other, by_compression, WhyEnded}
 use Rattle.call_causes.specs.Says.{Shape, shape_of, HasShape, with_attempt, unlocked_by, Slot, NoSlot, Locked, Mark, with_slot, with_owed, with_bytes, IsVacant, IsFree, taken_out, SaidBy, GoesFrom, CameFrom, IsReading, Again, LeavesLock, LeavesPost, YieldsPost, Leaves', SaysOn}
@@ -72,7 +72,7 @@ module _ (p : Plan) (q : IdPlan) (clients : List (List Task)) (gives : ℕ → L
         (first, shape, slot),
         λ asked v m1 l s mv. let born = mv.1 first shape slot in let b : Birth = record { id = call_id (slot_in frame) first; asked = asked } in (
           tt,
-          subst (λ x. Tells v x (Rattle.sock_programs.specs.Posts.end_id (slot_in frame) (says asked))) (sym mv.0)
+          subst (λ x. Tells v x (Rattle.seat_programs.specs.Posts.end_id (slot_in frame) (says asked))) (sym mv.0)
               (end_says p q clients gives v (with_slot (taken_out asked m.slot) m) (slot_in frame) first shape asked (says asked) (ap (taken_out asked) slot) born.0 owes
               (λ v2 m2 t vacant l2 said is _. inr (
                 b,

@@ -9,13 +9,13 @@ use Rattle.brpc_model.specs.Operations.{Operation, operations}
 use Rattle.brpc_model.specs.Places.{names}
 use Rattle.corr_core.specs.declared.marks.Plan.{Plan as IdPlan}
 use Rattle.sock_message.specs.Asked.{Asked}
-use Rattle.sock_programs.specs.declared.task.Op.{Op}
-use Rattle.sock_programs.specs.declared.task.Op.TheVariants as ops
-use Rattle.sock_programs.specs.declared.task.Task.{Task}
-use Rattle.sock_programs.specs.Tasks.{Numbered, numbered, number_of, tasks, opens, calls, op_of, plan_of, id_plan_of}
-use Rattle.sock_programs.specs.Scripts.{all_tasks}
-use Rattle.sock_programs.specs.Told.{HaveOwnLinks, IsOpen}
-use Rattle.owed_calls.specs.client_laws.proofs.Beginning as beginning
+use Rattle.seat_programs.specs.declared.task.Op.{Op}
+use Rattle.seat_programs.specs.declared.task.Op.TheVariants as ops
+use Rattle.seat_programs.specs.declared.task.Task.{Task}
+use Rattle.seat_programs.specs.Tasks.{Numbered, numbered, number_of, tasks, opens, calls, op_of, plan_of, id_plan_of}
+use Rattle.seat_programs.specs.Scripts.{all_tasks}
+use Rattle.seat_programs.specs.Told.{HaveOwnLinks, IsOpen}
+use Rattle.owed_calls.specs.programs_allowed.proofs.Beginning as beginning
 use Rattle.owed_calls.specs.joint_runs.proofs.Runs.{AreMade}
 use Rattle.owed_calls.specs.report_fits.proofs.Lists.{Has, has_later, some_is, has_filter_map, all_at}
 use Rattle.owed_calls.specs.report_fits.proofs.Reading.{InRange}
@@ -114,7 +114,7 @@ module _ (script : List Item) (made : AreMade script) (there : AreThere script) 
       let same : a.operation ≡ target.call = some_is a.operation target.call (sym a.there ∙ (ap (slice_get (operations script)) number ∙ target.there)) in
       let call = call_item a.operation.item (ap (λ (x : Operation). is_call x.item) same ∙ target.is) in
       let asks : op_of (numbered script) (names script) (numbers_at script u.number a.operation) (Call call.0) ≡ Some u.op = ap (op_of (numbered script) (names script) (numbers_at script u.number a.operation)) (sym call.1) ∙ a.asks in
-      (Rattle.sock_programs.specs.Tasks.asked_of (names script) u.number call.0, sym (some_is (ops.Call (Rattle.sock_programs.specs.Tasks.asked_of (names script) u.number call.0)) u.op asks))
+      (Rattle.seat_programs.specs.Tasks.asked_of (names script) u.number call.0, sym (some_is (ops.Call (Rattle.seat_programs.specs.Tasks.asked_of (names script) u.number call.0)) u.op asks))
 
   -- ## Each task fits
 

@@ -6,12 +6,12 @@ use Rattle.brpc_model.specs.Items.{Item}
 use Rattle.brpc_model.specs.Operations.{Turn}
 use Rattle.brpc_model.specs.Causes.{HasFault}
 use Rattle.brpc_model.specs.Stream.{Ending, Rest, Fault, stream}
-use Rattle.sock_programs.specs.Asides.{Taking}
-use Rattle.sock_programs.specs.Readers.{LIMIT}
-use Rattle.sock_programs.specs.Cores.{Core}
-use Rattle.sock_programs.specs.Runs.{from_to}
-use Rattle.sock_programs.specs.Tasks.{plan_of}
-use Rattle.sock_programs.specs.Scripts.{IsRunWithCalls}
+use Rattle.seat_programs.specs.Asides.{Taking}
+use Rattle.seat_programs.specs.Readers.{LIMIT}
+use Rattle.seat_programs.specs.Cores.{Core}
+use Rattle.seat_programs.specs.Runs.{from_to}
+use Rattle.seat_programs.specs.Tasks.{plan_of}
+use Rattle.seat_programs.specs.Scripts.{IsRunWithCalls}
 use Rattle.call_causes.specs.Lists.{Take, given, takes_of_run, is_last, is_closed, found_so, is_fault, early_of_run, closed_of_run}
 use Rattle.call_causes.specs.Scenes.{In}
 use Rattle.call_causes.proofs.Posts.{and_left, and_right}

@@ -8,11 +8,11 @@ use lib.ListN.{get_elem?}
 use Rattle.sock_words.specs.declared.plain.Plan.{Plan}
 use Rattle.corr_core.specs.Word.{Parts, parts, locked_word, posted_word, unlocked_word, free_word}
 use Rattle.corr_core.specs.declared.marks.Plan.{Plan as IdPlan}
-use Rattle.id_rule.specs.Lawful.{tag_word, id_word, all_words}
+use Rattle.id_rule.specs.Lawful.{tag_index, id_index, all_words}
 use Rattle.sock_message.specs.Asked.{Asked}
-use Rattle.sock_programs.specs.declared.task.Task.{Task}
-use Rattle.sock_programs.specs.Asides.{Step, ClaimId, PutCall, MakeId, StoreCall, LoadCall, StoreAt, LoadAt, LoadIdWord, LockId, PostId, UnlockId, EndId, FreeId, TakeCall, TakeBytes, Taking, Bytes, Found}
-use Rattle.sock_programs.specs.Posts.{packed, advance_of}
+use Rattle.seat_programs.specs.declared.task.Task.{Task}
+use Rattle.seat_programs.specs.Asides.{Step, ClaimId, PutCall, MakeId, StoreCall, LoadCall, StoreAt, LoadAt, LoadIdWord, LockId, PostId, UnlockId, EndId, FreeId, TakeCall, TakeBytes, Taking, Bytes, Found}
+use Rattle.seat_programs.specs.Posts.{packed, advance_of}
 use Rattle.id_runs.proofs.Keeps.{parts_packed}
 use Rattle.call_causes.specs.Scenes.{Scene}
 use Rattle.call_causes.specs.Says.{Shape, shape_of, with_attempt, unlocked_by, Slot, NoSlot, Claims, Locked, Holds, Leaves, Mark, with_slot, put_in, taken_out, MayAside}
@@ -64,7 +64,7 @@ module _ (p : Plan) (q : IdPlan) (clients : List (List Task)) (gives : ℕ → L
   Behind step found = IsBehind p q clients gives w w' m step found
 
   -- where the id word of the slot becomes this one
-  by_word : (i v : ℕ) → i < q.slots → w'.core.calls.words ≡ set w.core.calls.words (id_word i) v → w'.core.calls.homes ≡ w.core.calls.homes → (parts v).first ≡ (word_at w i).first → (parts v).range ≡ (word_at w i).range → (parts v).state ≡ (word_at w i).state → (parts v).attempt ≡ (word_at w i).attempt → LikeAt q i w w'
+  by_word : (i v : ℕ) → i < q.slots → w'.core.calls.words ≡ set w.core.calls.words (id_index i) v → w'.core.calls.homes ≡ w.core.calls.homes → (parts v).first ≡ (word_at w i).first → (parts v).range ≡ (word_at w i).range → (parts v).state ≡ (word_at w i).state → (parts v).attempt ≡ (word_at w i).attempt → LikeAt q i w w'
   by_word i v inside words homes first range state attempt = let x = word_is p q clients gives w w' m plan i inside sized v words in record {
     tag = λ n e. n (sym (tag_stays p q clients gives w w' m plan i inside sized v words) ∙ e);
     first = ap (λ (y : Parts). y.first) x ∙ first;
@@ -75,7 +75,7 @@ module _ (p : Plan) (q : IdPlan) (clients : List (List Task)) (gives : ℕ → L
   }
 
   -- a word that was found is written again
-  again : (i found : ℕ) → i < q.slots → parts found ≡ word_at w i → w'.core.calls.words ≡ set w.core.calls.words (id_word i) found → w'.core.calls.homes ≡ w.core.calls.homes → LikeAt q i w w'
+  again : (i found : ℕ) → i < q.slots → parts found ≡ word_at w i → w'.core.calls.words ≡ set w.core.calls.words (id_index i) found → w'.core.calls.homes ≡ w.core.calls.homes → LikeAt q i w w'
   again i found inside is words homes = by_word i found inside words homes (ap (λ (y : Parts). y.first) is) (ap (λ (y : Parts). y.range) is) (ap (λ (y : Parts). y.state) is) (ap (λ (y : Parts). y.attempt) is)
 
   -- an error more waits at a locked id
@@ -113,11 +113,11 @@ module _ (p : Plan) (q : IdPlan) (clients : List (List Task)) (gives : ℕ → L
     home = λ asked lies. ap (λ hs. get_elem? hs i) (sym b.homes) ∙ lies;
   }
 
-  lock_like : (i from found : ℕ) → KnowsStep p q clients gives w (LockId i from) found → (word_at w i).state ≢ 1 → w'.core.calls.homes ≡ w.core.calls.homes → (b : Bool) → eqb found from ≡ b → w'.core.calls.words ≡ set w.core.calls.words (id_word i) (cond b (packed (posted_word (parts from) 0)) found) → LikeAt q i w w'
+  lock_like : (i from found : ℕ) → KnowsStep p q clients gives w (LockId i from) found → (word_at w i).state ≢ 1 → w'.core.calls.homes ≡ w.core.calls.homes → (b : Bool) → eqb found from ≡ b → w'.core.calls.words ≡ set w.core.calls.words (id_index i) (cond b (packed (posted_word (parts from) 0)) found) → LikeAt q i w w'
   lock_like i from found knows closed homes true hit words = absurd (closed (ap (λ (y : Parts). y.state) (sym knows.0.1) ∙ (ap (λ n. (parts n).state) (eqb-true found from hit) ∙ knows.1)))
   lock_like i from found knows closed homes false hit words = again i found knows.0.0 knows.0.1 words homes
 
-  post_like : (i from e found : ℕ) → KnowsStep p q clients gives w (PostId i from e) found → (word_at w i).state ≢ 1 → w'.core.calls.homes ≡ w.core.calls.homes → (b : Bool) → eqb found from ≡ b → w'.core.calls.words ≡ set w.core.calls.words (id_word i) (cond b (packed (posted_word (parts from) e)) found) → LikeAt q i w w'
+  post_like : (i from e found : ℕ) → KnowsStep p q clients gives w (PostId i from e) found → (word_at w i).state ≢ 1 → w'.core.calls.homes ≡ w.core.calls.homes → (b : Bool) → eqb found from ≡ b → w'.core.calls.words ≡ set w.core.calls.words (id_index i) (cond b (packed (posted_word (parts from) e)) found) → LikeAt q i w w'
   post_like i from e found knows closed homes true hit words = ⊎_elim
       (λ one. absurd (closed (ap (λ (y : Parts). y.state) (sym knows.0.1) ∙ (ap (λ n. (parts n).state) (eqb-true found from hit) ∙ one))))
       (λ two. let x = queued_parts from e two.0 knows.2 in let is : parts from ≡ word_at w i = ap parts (sym (eqb-true found from hit)) ∙ knows.0.1 in
@@ -171,7 +171,7 @@ module _ (p : Plan) (q : IdPlan) (clients : List (List Task)) (gives : ℕ → L
   stays step found sh b knows f = like_fits q w w' m.slot (shared_like step found sh b knows m.slot f) f
 
   -- an id that was open is locked
-  got_lock : (i from e found : ℕ) → found ≡ from → (parts from).state ≡ 1 → i < q.slots → parts found ≡ word_at w i → tag_at w i ≢ 0 → w'.core.calls.words ≡ set w.core.calls.words (id_word i) (packed (posted_word (parts from) e)) → SlotFits q w' (Locked i (parts from).first (shape_of (parts from)))
+  got_lock : (i from e found : ℕ) → found ≡ from → (parts from).state ≡ 1 → i < q.slots → parts found ≡ word_at w i → tag_at w i ≢ 0 → w'.core.calls.words ≡ set w.core.calls.words (id_index i) (packed (posted_word (parts from) e)) → SlotFits q w' (Locked i (parts from).first (shape_of (parts from)))
   got_lock i from e found same one inside is taken words = let x = word_is p q clients gives w w' m plan i inside sized (packed (posted_word (parts from) e)) words ∙ locked_parts p q clients gives from e one in
       (inside, (λ z. taken (sym (tag_stays p q clients gives w w' m plan i inside sized (packed (posted_word (parts from) e)) words) ∙ z)), ap (λ (y : Parts). y.state) x, ap (λ (y : Parts). y.first) x, ap (λ (y : Parts). y.range) x, ap (λ (y : Parts). y.attempt) x)
 
@@ -180,12 +180,12 @@ module _ (p : Plan) (q : IdPlan) (clients : List (List Task)) (gives : ℕ → L
 
   lock_own : (i from found : ℕ) → Behind (LockId i from) found → KnowsStep p q clients gives w (LockId i from) found → SlotFits q w m.slot → (b : Bool) → eqb found from ≡ b → SlotFits q w' (cond b (with_slot (Locked i (parts from).first (shape_of (parts from))) m) m).slot
   lock_own i from found b knows f true hit = let same = eqb-true found from hit in
-      got_lock i from 0 found same knows.1 knows.0.0 knows.0.1 (taken_there i from found same knows.1 knows.0.1 knows.2.0) (b.words ∙ ap (λ z. set w.core.calls.words (id_word i) (cond z (packed (posted_word (parts from) 0)) found)) hit)
+      got_lock i from 0 found same knows.1 knows.0.0 knows.0.1 (taken_there i from found same knows.1 knows.0.1 knows.2.0) (b.words ∙ ap (λ z. set w.core.calls.words (id_index i) (cond z (packed (posted_word (parts from) 0)) found)) hit)
   lock_own i from found b knows f false hit = stays (LockId i from) found tt b knows f
 
   post_own : (i from e found : ℕ) → Behind (PostId i from e) found → KnowsStep p q clients gives w (PostId i from e) found → SlotFits q w m.slot → (b c : Bool) → eqb found from ≡ b → eqb (parts from).state 1 ≡ c → SlotFits q w' (cond b (cond c (with_slot (Locked i (parts from).first (shape_of (parts from))) m) m) m).slot
   post_own i from e found b knows f true true hit one = let same = eqb-true found from hit in let state = eqb-true (parts from).state 1 one in
-      got_lock i from e found same state knows.0.0 knows.0.1 (taken_there i from found same state knows.0.1 knows.3.0) (b.words ∙ ap (λ z. set w.core.calls.words (id_word i) (cond z (packed (posted_word (parts from) e)) found)) hit)
+      got_lock i from e found same state knows.0.0 knows.0.1 (taken_there i from found same state knows.0.1 knows.3.0) (b.words ∙ ap (λ z. set w.core.calls.words (id_index i) (cond z (packed (posted_word (parts from) e)) found)) hit)
   post_own i from e found b knows f true false hit one = stays (PostId i from e) found tt b knows f
   post_own i from e found b knows f false c hit one = stays (PostId i from e) found tt b knows f
 
@@ -193,8 +193,8 @@ module _ (p : Plan) (q : IdPlan) (clients : List (List Task)) (gives : ℕ → L
   put_own : (i : ℕ) (asked : Asked) (s : Slot) → Behind (PutCall i asked) 0 → (s ≡ Claims i None) ⊎ ((f : ℕ) × (shape : Shape) × (s ≡ Holds i f shape asked)) → SlotFits q w s → SlotFits q w' (put_in asked s)
   put_own i asked s b (inl is) f = let x = subst (SlotFits q w) is f in subst (λ y. SlotFits q w' (put_in asked y)) (sym is) (
     x.0,
-    (λ e. x.1 (ap (λ ws. Rattle.std.proofs.Common.get_or ws (tag_word i) 0) (sym b.words) ∙ e)),
-    ap (λ ws. (parts (Rattle.std.proofs.Common.get_or ws (id_word i) 0)).state) b.words ∙ x.2,
+    (λ e. x.1 (ap (λ ws. Rattle.std.proofs.Common.get_or ws (tag_index i) 0) (sym b.words) ∙ e)),
+    ap (λ ws. (parts (Rattle.std.proofs.Common.get_or ws (id_index i) 0)).state) b.words ∙ x.2,
     λ a lies. let z = some-injective (Some asked) (Some a) (lies_is p q clients gives w w' m plan i (core.some (Some asked)) a b.homes lies) in let y : a ≡ asked = cc in y,
   )
   put_own i asked s b (inr is) f = let x = subst (SlotFits q w) is.2 f in subst (λ y. SlotFits q w' (put_in asked y)) (sym is.2) (locked_still i is.0 is.1 b.words x)
@@ -202,11 +202,11 @@ module _ (p : Plan) (q : IdPlan) (clients : List (List Task)) (gives : ℕ → L
       locked_still : (i f : ℕ) (range : Shape) → w'.core.calls.words ≡ w.core.calls.words → SlotFits q w (Locked i f range) → SlotFits q w' (Locked i f range)
       locked_still i f range words x = (
         x.0,
-        (λ e. x.1 (ap (λ ws. Rattle.std.proofs.Common.get_or ws (tag_word i) 0) (sym words) ∙ e)),
-        ap (λ ws. (parts (Rattle.std.proofs.Common.get_or ws (id_word i) 0)).state) words ∙ x.2,
-        ap (λ ws. (parts (Rattle.std.proofs.Common.get_or ws (id_word i) 0)).first) words ∙ x.3,
-        ap (λ ws. (parts (Rattle.std.proofs.Common.get_or ws (id_word i) 0)).range) words ∙ x.4,
-        ap (λ ws. (parts (Rattle.std.proofs.Common.get_or ws (id_word i) 0)).attempt) words ∙ x.5,
+        (λ e. x.1 (ap (λ ws. Rattle.std.proofs.Common.get_or ws (tag_index i) 0) (sym words) ∙ e)),
+        ap (λ ws. (parts (Rattle.std.proofs.Common.get_or ws (id_index i) 0)).state) words ∙ x.2,
+        ap (λ ws. (parts (Rattle.std.proofs.Common.get_or ws (id_index i) 0)).first) words ∙ x.3,
+        ap (λ ws. (parts (Rattle.std.proofs.Common.get_or ws (id_index i) 0)).range) words ∙ x.4,
+        ap (λ ws. (parts (Rattle.std.proofs.Common.get_or ws (id_index i) 0)).attempt) words ∙ x.5,
       )
 
   -- ## All seats
@@ -237,10 +237,10 @@ module _ (p : Plan) (q : IdPlan) (clients : List (List Task)) (gives : ℕ → L
   own_fits (PostId i from e) found b knows may f = post_own i from e found b knows f (eqb found from) (eqb (parts from).state 1) refl refl
   own_fits (UnlockId i from advance) found b knows may f = by_found (eqb found from) refl b.words (subst (SlotFits q w) may.2 f)
     where
-      moved : (v : ℕ) → w'.core.calls.words ≡ set w.core.calls.words (id_word i) v → (parts v).first ≡ (word_at w i).first → (parts v).range ≡ (word_at w i).range → (parts v).state ≡ (word_at w i).state → (parts v).attempt ≡ (word_at w i).attempt → SlotFits q w (Locked i may.0 may.1) → SlotFits q w' m.slot
+      moved : (v : ℕ) → w'.core.calls.words ≡ set w.core.calls.words (id_index i) v → (parts v).first ≡ (word_at w i).first → (parts v).range ≡ (word_at w i).range → (parts v).state ≡ (word_at w i).state → (parts v).attempt ≡ (word_at w i).attempt → SlotFits q w (Locked i may.0 may.1) → SlotFits q w' m.slot
       moved v words first range state attempt x = subst (SlotFits q w') (sym may.2) (like_fits q w w' (Locked i may.0 may.1) (λ k low there. subst (λ n. LikeAt q n w w') there (by_word i v knows.0.0 words b.homes first range state attempt)) x)
 
-      popped : (c : Bool) → eqb (parts from).oldest 0 ≡ c → found ≡ from → w'.core.calls.words ≡ set w.core.calls.words (id_word i) (packed (unlocked_word (parts from) (advance_of advance))) → SlotFits q w (Locked i may.0 may.1) → SlotFits q w' (cond c (with_slot NoSlot m) (with_slot (with_attempt (parts (unlocked_by from advance)).attempt m.slot) m)).slot
+      popped : (c : Bool) → eqb (parts from).oldest 0 ≡ c → found ≡ from → w'.core.calls.words ≡ set w.core.calls.words (id_index i) (packed (unlocked_word (parts from) (advance_of advance))) → SlotFits q w (Locked i may.0 may.1) → SlotFits q w' (cond c (with_slot NoSlot m) (with_slot (with_attempt (parts (unlocked_by from advance)).attempt m.slot) m)).slot
       popped true none_ same words x = tt
       popped false some_ same words x = let is : parts from ≡ word_at w i = ap parts (sym same) ∙ knows.0.1 in
           let y = parts_packed (unlocked_word (parts from) (advance_of advance)) (state_fits (eqb (parts from).oldest 0)) (omega arith) (omega arith) (let z = knows.2 in omega (arith, z)) (omega arith) (omega arith) in
@@ -258,10 +258,10 @@ module _ (p : Plan) (q : IdPlan) (clients : List (List Task)) (gives : ℕ → L
           state_fits true = omega arith
           state_fits false = omega arith
 
-      by_found : (c : Bool) → eqb found from ≡ c → w'.core.calls.words ≡ set w.core.calls.words (id_word i) (cond (eqb found from) (packed (unlocked_word (parts from) (advance_of advance))) found) → SlotFits q w (Locked i may.0 may.1)
+      by_found : (c : Bool) → eqb found from ≡ c → w'.core.calls.words ≡ set w.core.calls.words (id_index i) (cond (eqb found from) (packed (unlocked_word (parts from) (advance_of advance))) found) → SlotFits q w (Locked i may.0 may.1)
           → SlotFits q w' (cond c (cond (eqb (parts from).oldest 0) (with_slot NoSlot m) (with_slot (with_attempt (parts (unlocked_by from advance)).attempt m.slot) m)) m).slot
-      by_found true hit words x = popped (eqb (parts from).oldest 0) refl (eqb-true found from hit) (words ∙ ap (λ z. set w.core.calls.words (id_word i) (cond z (packed (unlocked_word (parts from) (advance_of advance))) found)) hit) x
-      by_found false hit words x = moved found (words ∙ ap (λ z. set w.core.calls.words (id_word i) (cond z (packed (unlocked_word (parts from) (advance_of advance))) found)) hit) (ap (λ (y : Parts). y.first) knows.0.1) (ap (λ (y : Parts). y.range) knows.0.1) (ap (λ (y : Parts). y.state) knows.0.1) (ap (λ (y : Parts). y.attempt) knows.0.1) x
+      by_found true hit words x = popped (eqb (parts from).oldest 0) refl (eqb-true found from hit) (words ∙ ap (λ z. set w.core.calls.words (id_index i) (cond z (packed (unlocked_word (parts from) (advance_of advance))) found)) hit) x
+      by_found false hit words x = moved found (words ∙ ap (λ z. set w.core.calls.words (id_index i) (cond z (packed (unlocked_word (parts from) (advance_of advance))) found)) hit) (ap (λ (y : Parts). y.first) knows.0.1) (ap (λ (y : Parts). y.range) knows.0.1) (ap (λ (y : Parts). y.state) knows.0.1) (ap (λ (y : Parts). y.attempt) knows.0.1) x
   own_fits (EndId i) found b knows may f = let x = subst (SlotFits q w) may.3 f in let v : ℕ = packed (free_word ((parts found).first + (parts found).range)) in (
     x.0,
     (λ e. x.1 (sym (tag_stays p q clients gives w w' m plan i x.0 sized v b.words) ∙ e)),
@@ -270,15 +270,15 @@ module _ (p : Plan) (q : IdPlan) (clients : List (List Task)) (gives : ℕ → L
   own_fits (FreeId i) found b knows may f = tt
   own_fits (TakeCall i) found b knows may f = subst (λ s. SlotFits q w' (taken_out found s)) (sym may.2) (let x = subst (SlotFits q w) may.2 f in (
     x.0,
-    (λ e. x.1 (ap (λ ws. Rattle.std.proofs.Common.get_or ws (tag_word i) 0) (sym b.words) ∙ e)),
-    ap (λ ws. (parts (Rattle.std.proofs.Common.get_or ws (id_word i) 0)).state) b.words ∙ x.2,
-    ap (λ ws. (parts (Rattle.std.proofs.Common.get_or ws (id_word i) 0)).first) b.words ∙ x.3,
-    ap (λ ws. (parts (Rattle.std.proofs.Common.get_or ws (id_word i) 0)).range) b.words ∙ x.4,
-    ap (λ ws. (parts (Rattle.std.proofs.Common.get_or ws (id_word i) 0)).attempt) b.words ∙ x.5,
+    (λ e. x.1 (ap (λ ws. Rattle.std.proofs.Common.get_or ws (tag_index i) 0) (sym b.words) ∙ e)),
+    ap (λ ws. (parts (Rattle.std.proofs.Common.get_or ws (id_index i) 0)).state) b.words ∙ x.2,
+    ap (λ ws. (parts (Rattle.std.proofs.Common.get_or ws (id_index i) 0)).first) b.words ∙ x.3,
+    ap (λ ws. (parts (Rattle.std.proofs.Common.get_or ws (id_index i) 0)).range) b.words ∙ x.4,
+    ap (λ ws. (parts (Rattle.std.proofs.Common.get_or ws (id_index i) 0)).attempt) b.words ∙ x.5,
   ))
   own_fits (TakeBytes l room) (Bytes bytes) b knows may f = stays (TakeBytes l room) (Bytes bytes) tt b knows f
-  own_fits (TakeBytes l room) Rattle.sock_programs.specs.Asides.Nothing b knows may f = stays (TakeBytes l room) Rattle.sock_programs.specs.Asides.Nothing tt b knows f
-  own_fits (TakeBytes l room) Rattle.sock_programs.specs.Asides.NoMore b knows may f = stays (TakeBytes l room) Rattle.sock_programs.specs.Asides.NoMore tt b knows f
-  own_fits (TakeBytes l room) Rattle.sock_programs.specs.Asides.AtEnd b knows may f = stays (TakeBytes l room) Rattle.sock_programs.specs.Asides.AtEnd tt b knows f
-  own_fits (TakeBytes l room) Rattle.sock_programs.specs.Asides.Closed b knows may f = stays (TakeBytes l room) Rattle.sock_programs.specs.Asides.Closed tt b knows f
-  own_fits (TakeBytes l room) Rattle.sock_programs.specs.Asides.Broken b knows may f = stays (TakeBytes l room) Rattle.sock_programs.specs.Asides.Broken tt b knows f
+  own_fits (TakeBytes l room) Rattle.seat_programs.specs.Asides.Nothing b knows may f = stays (TakeBytes l room) Rattle.seat_programs.specs.Asides.Nothing tt b knows f
+  own_fits (TakeBytes l room) Rattle.seat_programs.specs.Asides.NoMore b knows may f = stays (TakeBytes l room) Rattle.seat_programs.specs.Asides.NoMore tt b knows f
+  own_fits (TakeBytes l room) Rattle.seat_programs.specs.Asides.AtEnd b knows may f = stays (TakeBytes l room) Rattle.seat_programs.specs.Asides.AtEnd tt b knows f
+  own_fits (TakeBytes l room) Rattle.seat_programs.specs.Asides.Closed b knows may f = stays (TakeBytes l room) Rattle.seat_programs.specs.Asides.Closed tt b knows f
+  own_fits (TakeBytes l room) Rattle.seat_programs.specs.Asides.Broken b knows may f = stays (TakeBytes l room) Rattle.seat_programs.specs.Asides.Broken tt b knows f

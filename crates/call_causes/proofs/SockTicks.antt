@@ -4,17 +4,17 @@ use lib.ListN.{get_elem?}
 use Rattle.atomic_table.proofs.Lists.{set_again}
 use Rattle.sock_words.specs.Words.{at_word_attempt}
 use Rattle.sock_words.specs.declared.plain.Plan.{Plan}
-use Rattle.sock_model.specs.Layout.{code_word}
+use Rattle.sock_model.specs.Layout.{code_index}
 use Rattle.brpc_model.specs.Stream as streams
 use Rattle.corr_core.specs.Word.{Parts, parts}
 use Rattle.corr_core.specs.declared.marks.Plan.{Plan as IdPlan}
-use Rattle.id_rule.specs.Lawful.{tag_word, id_word, call_word, at_word}
+use Rattle.id_rule.specs.Lawful.{tag_index, id_index, call_index, at_index}
 use Rattle.sock_message.specs.Asked.{Asked}
-use Rattle.sock_programs.specs.declared.task.Task.{Task}
-use Rattle.sock_programs.specs.Heads.{Retry}
-use Rattle.sock_programs.specs.Asides.{call_id, id_slot, id_first}
-use Rattle.sock_programs.specs.Programs.{Program}
-use Rattle.sock_programs.specs.Cores.{resolved, said, next_step}
+use Rattle.seat_programs.specs.declared.task.Task.{Task}
+use Rattle.seat_programs.specs.Heads.{Retry}
+use Rattle.seat_programs.specs.Asides.{call_id, id_slot, id_first}
+use Rattle.seat_programs.specs.Programs.{Program}
+use Rattle.seat_programs.specs.Cores.{resolved, said, next_step}
 use Rattle.call_causes.specs.Lists.{times}
 use Rattle.call_causes.specs.Decided.{Decision}
 use Rattle.call_causes.specs.Scenes.{Birth, Claim, Saying, Scene, In, IsOver, IsBorn, IsOther, Named, StaysWithin, Later}
@@ -40,7 +40,7 @@ module _ (p : Plan) (q : IdPlan) (clients : List (List Task)) (gives : ℕ → L
     pub posts_are : w'.posts ≡ w.posts
     pub decided : (d : Decision) → In d w.decisions → In d w'.decisions
     pub named : (n : ℕ) → Named p q clients gives w n → Named p q clients gives w' n
-    pub codes : (i : ℕ) → i < p.slots → get_or w'.core.words (code_word i) 0 ≢ 0 → IsOther p q clients gives (get_or w'.core.words (code_word i) 0)
+    pub codes : (i : ℕ) → i < p.slots → get_or w'.core.words (code_index i) 0 ≢ 0 → IsOther p q clients gives (get_or w'.core.words (code_index i) 0)
 
   module _ (b : IsBeside) (x : Program) (ws : List Retry) (few : AreFewTries ws) (keeps : KeepsFew x) (told : w'.core.outcomes ≡ said (resolved ws x) w.core.outcomes) (sayings : w'.sayings ≡ sayings_of (resolved ws x) w.sayings) where
     pub beside_later : Later p q clients gives w w'
@@ -48,23 +48,23 @@ module _ (p : Plan) (q : IdPlan) (clients : List (List Task)) (gives : ℕ → L
       said = λ o v s. subst (In (record { number = o; outcome = v })) (sym sayings) (sayings_keep (resolved ws x) w.sayings (record { number = o; outcome = v }) s);
       over = λ a c s. subst (IsOver a c) (sym sayings) (overs_keep (resolved ws x) w.sayings a c s);
       named = b.named;
-      begun = λ o begun e. begun (ap (λ cs. get_or cs (call_word q o) 0) (sym b.words) ∙ e);
+      begun = λ o begun e. begun (ap (λ cs. get_or cs (call_index q o) 0) (sym b.words) ∙ e);
       born = λ id asked there. subst (In (record { id = id; asked = asked })) (sym b.births_are) there;
       came = λ k n f there. subst (λ g. slice_get (streams.stream (get_or g k [])).frames n ≡ Some f) (sym b.gave) there;
       claimed = λ i o there. subst (In (record { slot = i; operation = o })) (sym b.claims_are) there;
       posted = λ x there. subst (In x) (sym b.posts_are) there;
       decided = b.decided;
-      ended = λ c n u. (subst (In c) (sym b.births_are) u.0, subst (λ ws. id_first c.id + c.asked.range ≤ (parts (get_or ws (id_word (id_slot c.id)) 0)).first) (sym b.words) u.1, ap (times c.asked.operation) b.advances_are ∙ u.2);
+      ended = λ c n u. (subst (In c) (sym b.births_are) u.0, subst (λ ws. id_first c.id + c.asked.range ≤ (parts (get_or ws (id_index (id_slot c.id)) 0)).first) (sym b.words) u.1, ap (times c.asked.operation) b.advances_are ∙ u.2);
       within = room;
       apart = λ id a c s t. one_call w.births births.apart (λ y there. (births.born y there).1) id a c (subst (In (record { id = id; asked = a })) b.births_are s) (subst (In (record { id = id; asked = c })) b.births_are t);
     }
 
     word_same : (k : ℕ) → word_at w' k ≡ word_at w k
-    word_same k = ap (λ cs. parts (get_or cs (id_word k) 0)) b.words
+    word_same k = ap (λ cs. parts (get_or cs (id_index k) 0)) b.words
 
     like : (k : ℕ) → LikeAt q k w w'
     like k = record {
-      tag = λ n e. n (ap (λ cs. get_or cs (tag_word k) 0) (sym b.words) ∙ e);
+      tag = λ n e. n (ap (λ cs. get_or cs (tag_index k) 0) (sym b.words) ∙ e);
       first = ap (λ (y : Parts). y.first) (word_same k);
       range = ap (λ (y : Parts). y.range) (word_same k);
       state = ap (λ (y : Parts). y.state) (word_same k);
@@ -104,7 +104,7 @@ module _ (p : Plan) (q : IdPlan) (clients : List (List Task)) (gives : ℕ → L
       attempts = λ c there now. ap (λ (y : Parts). y.attempt) (word_same (id_slot c.id)) ∙ (births.attempts c (subst (In c) b.births_are there) (back_current c now) ∙ ap (times c.asked.operation) (sym b.advances_are));
       few = λ c there. subst (λ ns. times c.asked.operation ns + 2 ≤ c.asked.range) (sym b.advances_are) (births.few c (subst (In c) b.births_are there));
       advanced = λ c there n less. advance_on p q clients gives w w' beside_later c.id n (births.advanced c (subst (In c) b.births_are there) n (subst (λ ns. n < times c.asked.operation ns) b.advances_are less));
-      ats = λ o inside. subst (λ ws. at_word_attempt (get_or ws (at_word q o) 0) ≤ 6) (sym b.words) (births.ats o inside);
+      ats = λ o inside. subst (λ ws. at_word_attempt (get_or ws (at_index q o) 0) ≤ 6) (sym b.words) (births.ats o inside);
       unmade = λ o all. ap (times o) b.advances_are ∙ births.unmade o (λ c there. all c (subst (In c) (sym b.births_are) there));
       codes = b.codes;
     }
@@ -119,7 +119,7 @@ module _ (p : Plan) (q : IdPlan) (clients : List (List Task)) (gives : ℕ → L
       begun = λ c u there y. y;
       born = λ c there. inl (subst (In c) b.births_are there);
       made = λ c is. subst (In c) (sym b.births_are) (tasks.made j m c at is);
-      called = λ o inside begun. let z = ap (λ cs. get_or cs (call_word q o) 0) b.words in inl ((λ e. begun (z ∙ e)), z);
+      called = λ o inside begun. let z = ap (λ cs. get_or cs (call_index q o) 0) b.words in inl ((λ e. begun (z ∙ e)), z);
       fresh = λ u there. there;
       owes = λ c is. inl is;
       owed_still = λ c is. is;

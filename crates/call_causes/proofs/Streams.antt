@@ -8,7 +8,7 @@ use Rattle.brpc_model.specs.Causes.{HasFault}
 use Rattle.prpc_frame.proofs.Lasting.{faulty}
 use Rattle.brpc_model.specs.Stream.{Ending, Stream, Rest, Fault, stream, goes_on, stream_up_to, stream_from}
 use Rattle.brpc_model.proofs.Streams.{stream_goes_on}
-use Rattle.sock_programs.specs.Readers.{last_of}
+use Rattle.seat_programs.specs.Readers.{last_of}
 
 -- ## One judgement
 

@@ -6,13 +6,13 @@ use Rattle.sock_words.specs.declared.plain.Plan.{Plan}
 use Rattle.sock_words.specs.declared.outcome.Outcome.{Outcome}
 use Rattle.corr_core.specs.Word.{Parts, parts, made_word, posted_word, unlocked_word, free_word}
 use Rattle.corr_core.specs.declared.marks.Plan.{Plan as IdPlan}
-use Rattle.id_rule.specs.Lawful.{tag_word, id_word, call_word, at_word, all_words}
+use Rattle.id_rule.specs.Lawful.{tag_index, id_index, call_index, at_index, all_words}
 use Rattle.sock_message.specs.Asked.{Asked}
-use Rattle.sock_programs.specs.declared.task.Op.TheVariants as ops
-use Rattle.sock_programs.specs.declared.task.Task.{Task}
-use Rattle.sock_programs.specs.Asides.{Step, ClaimId, PutCall, MakeId, StoreCall, LoadCall, StoreAt, LoadAt, LoadIdWord, LockId, PostId, UnlockId, EndId, FreeId, TakeCall, TakeBytes, Bytes, Found, call_id, id_slot, id_first}
-use Rattle.sock_programs.specs.Asides as asides
-use Rattle.sock_programs.specs.Posts.{packed, advance_of}
+use Rattle.seat_programs.specs.declared.task.Op.TheVariants as ops
+use Rattle.seat_programs.specs.declared.task.Task.{Task}
+use Rattle.seat_programs.specs.Asides.{Step, ClaimId, PutCall, MakeId, StoreCall, LoadCall, StoreAt, LoadAt, LoadIdWord, LockId, PostId, UnlockId, EndId, FreeId, TakeCall, TakeBytes, Bytes, Found, call_id, id_slot, id_first}
+use Rattle.seat_programs.specs.Asides as asides
+use Rattle.seat_programs.specs.Posts.{packed, advance_of}
 use Rattle.call_causes.specs.Scenes.{Birth, Saying, Scene, In, AreTold, was_begun, Later}
 use Rattle.call_causes.specs.Says.{Shape, shape_of, HasShape, with_attempt, unlocked_by, Slot, NoSlot, Claims, Locked, Holds, Leaves, Mark, with_slot, with_owed, with_made, with_done, MayAside}
 use Rattle.call_causes.specs.Stories.{At, word_at, SlotFits, HasPassed, IsCurrent, BirthsLaw, undo, ahead, tasks_behind, IsUntold, AreQuiet, TasksLaw, IsBehind, KnowsStep, put_of, born_by, ended_of, stored_by, mark_after}
@@ -58,28 +58,28 @@ module _ (p : Plan) (q : IdPlan) (clients : List (List Task)) (gives : ℕ → L
   -- ## Words of calls
 
   abbrev CallsSame : Step → Type 0
-  CallsSame step = (o : ℕ) → o < q.operations → (IsStore step o → ⊥) → get_or w'.core.calls.words (call_word q o) 0 ≡ get_or w.core.calls.words (call_word q o) 0
+  CallsSame step = (o : ℕ) → o < q.operations → (IsStore step o → ⊥) → get_or w'.core.calls.words (call_index q o) 0 ≡ get_or w.core.calls.words (call_index q o) 0
 
-  one_word : (x v o : ℕ) → w'.core.calls.words ≡ set w.core.calls.words x v → call_word q o ≢ x → get_or w'.core.calls.words (call_word q o) 0 ≡ get_or w.core.calls.words (call_word q o) 0
-  one_word x v o words ne = ap (λ ws. get_or ws (call_word q o) 0) words ∙ get_or-set_other w.core.calls.words x (call_word q o) v 0 ne
+  one_word : (x v o : ℕ) → w'.core.calls.words ≡ set w.core.calls.words x v → call_index q o ≢ x → get_or w'.core.calls.words (call_index q o) 0 ≡ get_or w.core.calls.words (call_index q o) 0
+  one_word x v o words ne = ap (λ ws. get_or ws (call_index q o) 0) words ∙ get_or-set_other w.core.calls.words x (call_index q o) v 0 ne
 
-  no_word : (o : ℕ) → w'.core.calls.words ≡ w.core.calls.words → get_or w'.core.calls.words (call_word q o) 0 ≡ get_or w.core.calls.words (call_word q o) 0
-  no_word o words = ap (λ ws. get_or ws (call_word q o) 0) words
+  no_word : (o : ℕ) → w'.core.calls.words ≡ w.core.calls.words → get_or w'.core.calls.words (call_index q o) 0 ≡ get_or w.core.calls.words (call_index q o) 0
+  no_word o words = ap (λ ws. get_or ws (call_index q o) 0) words
 
   calls_same : (step : Step) (found : Found step) → Behind step found → KnowsStep p q clients gives w step found → CallsSame step
-  calls_same (ClaimId i) found b knows o inside none_ = one_word (tag_word i) 1 o b.words (let z = knows.0 in λ e. omega (arith, z, e))
+  calls_same (ClaimId i) found b knows o inside none_ = one_word (tag_index i) 1 o b.words (let z = knows.0 in λ e. omega (arith, z, e))
   calls_same (PutCall i asked) found b knows o inside none_ = no_word o b.words
-  calls_same (MakeId i range) found b knows o inside none_ = one_word (id_word i) (packed (made_word (parts found).first range)) o b.words (λ e. omega (arith, e))
-  calls_same (StoreCall u id) found b knows o inside none_ = one_word (call_word q u) id o (b.words ∙ ap (λ (r : IdPlan). set w.core.calls.words (call_word r u) id) plan) (λ e. none_ (omega (arith, e)))
+  calls_same (MakeId i range) found b knows o inside none_ = one_word (id_index i) (packed (made_word (parts found).first range)) o b.words (λ e. omega (arith, e))
+  calls_same (StoreCall u id) found b knows o inside none_ = one_word (call_index q u) id o (b.words ∙ ap (λ (r : IdPlan). set w.core.calls.words (call_index r u) id) plan) (λ e. none_ (omega (arith, e)))
   calls_same (LoadCall u) found b knows o inside none_ = no_word o b.words
-  calls_same (StoreAt u x) found b knows o inside none_ = one_word (at_word q u) x o (b.words ∙ ap (λ (r : IdPlan). set w.core.calls.words (at_word r u) x) plan) (λ e. omega (arith, e))
+  calls_same (StoreAt u x) found b knows o inside none_ = one_word (at_index q u) x o (b.words ∙ ap (λ (r : IdPlan). set w.core.calls.words (at_index r u) x) plan) (λ e. omega (arith, e))
   calls_same (LoadAt u) found b knows o inside none_ = no_word o b.words
   calls_same (LoadIdWord i) found b knows o inside none_ = no_word o b.words
-  calls_same (LockId i from) found b knows o inside none_ = one_word (id_word i) (cond (eqb found from) (packed (posted_word (parts from) 0)) found) o b.words (λ e. omega (arith, e))
-  calls_same (PostId i from e) found b knows o inside none_ = one_word (id_word i) (cond (eqb found from) (packed (posted_word (parts from) e)) found) o b.words (λ z. omega (arith, z))
-  calls_same (UnlockId i from advance) found b knows o inside none_ = one_word (id_word i) (cond (eqb found from) (packed (unlocked_word (parts from) (advance_of advance))) found) o b.words (λ e. omega (arith, e))
-  calls_same (EndId i) found b knows o inside none_ = one_word (id_word i) (packed (free_word ((parts found).first + (parts found).range))) o b.words (λ e. omega (arith, e))
-  calls_same (FreeId i) found b knows o inside none_ = one_word (tag_word i) 0 o b.words (λ e. omega (arith, knows, e))
+  calls_same (LockId i from) found b knows o inside none_ = one_word (id_index i) (cond (eqb found from) (packed (posted_word (parts from) 0)) found) o b.words (λ e. omega (arith, e))
+  calls_same (PostId i from e) found b knows o inside none_ = one_word (id_index i) (cond (eqb found from) (packed (posted_word (parts from) e)) found) o b.words (λ z. omega (arith, z))
+  calls_same (UnlockId i from advance) found b knows o inside none_ = one_word (id_index i) (cond (eqb found from) (packed (unlocked_word (parts from) (advance_of advance))) found) o b.words (λ e. omega (arith, e))
+  calls_same (EndId i) found b knows o inside none_ = one_word (id_index i) (packed (free_word ((parts found).first + (parts found).range))) o b.words (λ e. omega (arith, e))
+  calls_same (FreeId i) found b knows o inside none_ = one_word (tag_index i) 0 o b.words (λ e. omega (arith, knows, e))
   calls_same (TakeCall i) found b knows o inside none_ = no_word o b.words
   calls_same (TakeBytes k room) (Bytes bytes) b knows o inside none_ = no_word o b.words
   calls_same (TakeBytes k room) asides.Nothing b knows o inside none_ = no_word o b.words
@@ -142,14 +142,14 @@ module _ (p : Plan) (q : IdPlan) (clients : List (List Task)) (gives : ℕ → L
   stores o id found b knows may = record {
     client = refl;
     placed = ap (undo p q clients gives m.done) (sym may.4);
-    told = (was_begun may.0.id may.0.asked may.5 may.6 (l.born may.0.id may.0.asked may.9) (λ e. knows.1 (sym word ∙ (ap (λ n. get_or w'.core.calls.words (call_word q n) 0) (may.7 ∙ sym may.6) ∙ e))) (l.named (Rattle.sock_message.specs.Asked.name_of may.0.asked 0) may.10), told_still (StoreCall o id) found b knows may);
+    told = (was_begun may.0.id may.0.asked may.5 may.6 (l.born may.0.id may.0.asked may.9) (λ e. knows.1 (sym word ∙ (ap (λ n. get_or w'.core.calls.words (call_index q n) 0) (may.7 ∙ sym may.6) ∙ e))) (l.named (Rattle.sock_message.specs.Asked.name_of may.0.asked 0) may.10), told_still (StoreCall o id) found b knows may);
     quiet = (λ n bytes sent. absurd (let z : ops.Send n bytes ≡ ops.Call may.0.asked = sym sent ∙ may.5 in cc), quiet_still (StoreCall o id) found b knows may);
     done = λ t x. inr x;
     begun = λ c u _ x. (x.0, x.1, ⊎_elim (λ d. inl (inr d)) (λ y. inl (inl (let z : may.1 ∷ may.2 ≡ u ∷ y.0 = sym may.4 ∙ y.1 in let e : u ≡ may.1 = cc in e))) x.2);
     born = λ c x. inl (subst (In c) b.births x);
     made = λ c is. absurd (let z : [] ≡ c ∷ [] = is in cc);
     called = λ k inside begun. dite (ℕ_discrete o k)
-        (λ same. inr (record { birth = may.0; there = l.born may.0.id may.0.asked may.9; id = sym may.8 ∙ (sym word ∙ ap (λ n. get_or w'.core.calls.words (call_word q n) 0) same); operation = sym may.7 ∙ same; task = may.1; done = inl refl; op = may.5; number = may.6 ∙ (sym may.7 ∙ same) }))
+        (λ same. inr (record { birth = may.0; there = l.born may.0.id may.0.asked may.9; id = sym may.8 ∙ (sym word ∙ ap (λ n. get_or w'.core.calls.words (call_index q n) 0) same); operation = sym may.7 ∙ same; task = may.1; done = inl refl; op = may.5; number = may.6 ∙ (sym may.7 ∙ same) }))
         (λ ne. let z = calls_same (StoreCall o id) found b knows k inside ne in inl ((λ e. begun (z ∙ e)), z));
     fresh = λ u x. subst (λ bs. In u (ahead p q clients gives bs m.todo)) (sym may.3) (subst (λ ts. In u (tasks_behind p q clients gives ts)) (sym may.4) x);
     owes = λ c is. inl is;
@@ -159,7 +159,7 @@ module _ (p : Plan) (q : IdPlan) (clients : List (List Task)) (gives : ℕ → L
     passed_on = over_still (StoreCall o id) found b knows may;
   }
     where
-      word : get_or w'.core.calls.words (call_word q o) 0 ≡ id
+      word : get_or w'.core.calls.words (call_index q o) 0 ≡ id
       word = stored_is p q clients gives w w' m plan sized fits births low o id knows.0 b.words
 
   -- ## A range ends

@@ -4,9 +4,9 @@ use Rattle.atomic_table.proofs.Lists.{at_set}
 use Rattle.sock_words.specs.declared.plain.Plan.{Plan}
 use Rattle.sock_words.specs.declared.outcome.Outcome.{Outcome}
 use Rattle.corr_core.specs.declared.marks.Plan.{Plan as IdPlan}
-use Rattle.id_rule.specs.Lawful.{call_word}
-use Rattle.sock_programs.specs.declared.task.Op.TheVariants as ops
-use Rattle.sock_programs.specs.declared.task.Task.{Task}
+use Rattle.id_rule.specs.Lawful.{call_index}
+use Rattle.seat_programs.specs.declared.task.Op.TheVariants as ops
+use Rattle.seat_programs.specs.declared.task.Task.{Task}
 use Rattle.call_causes.specs.Scenes.{Birth, Saying, Scene, In, Begun, AreTold, Later}
 use Rattle.call_causes.specs.Says.{Mark}
 use Rattle.call_causes.specs.Stories.{At, HasPassed, IsCurrent, BirthsLaw, undo, ahead, IsUntold, IsBegunBy, IsOwed, AreQuiet, TasksLaw}
@@ -31,7 +31,7 @@ module _ (p : Plan) (q : IdPlan) (clients : List (List Task)) (gives : ℕ → L
   pub record IsStored (m' : Mark) (o : ℕ) : Type 0 where
     pub birth : Birth
     pub there : In birth w'.births
-    pub id : birth.id ≡ get_or w'.core.calls.words (call_word q o) 0
+    pub id : birth.id ≡ get_or w'.core.calls.words (call_index q o) 0
     pub operation : birth.asked.operation ≡ o
     pub task : Task
     pub done : In task m'.done
@@ -48,7 +48,7 @@ module _ (p : Plan) (q : IdPlan) (clients : List (List Task)) (gives : ℕ → L
     pub begun : (c : Birth) (u : Task) → In c w.births → IsBegunBy p q clients gives m c u → IsBegunBy p q clients gives m' c u
     pub born : (c : Birth) → In c w'.births → In c w.births ⊎ IsNew m' c
     pub made : (c : Birth) → m'.makes ≡ c ∷ [] → In c w'.births
-    pub called : (o : ℕ) → o < q.operations → Begun p q clients gives w' o → (Begun p q clients gives w o × (get_or w'.core.calls.words (call_word q o) 0 ≡ get_or w.core.calls.words (call_word q o) 0)) ⊎ IsStored m' o
+    pub called : (o : ℕ) → o < q.operations → Begun p q clients gives w' o → (Begun p q clients gives w o × (get_or w'.core.calls.words (call_index q o) 0 ≡ get_or w.core.calls.words (call_index q o) 0)) ⊎ IsStored m' o
     pub fresh : (u : Task) → In u (ahead p q clients gives m'.makes m'.todo) → In u (ahead p q clients gives m.makes m.todo)
     pub owes : (c : Birth) → m'.owes ≡ c ∷ [] → (m.owes ≡ c ∷ []) ⊎ (In c w.births × IsCurrent w c × HasPassed w' c)
     pub owed_still : (c : Birth) → m.owes ≡ c ∷ [] → m'.owes ≡ c ∷ []

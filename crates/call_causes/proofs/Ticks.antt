@@ -10,23 +10,23 @@ use Rattle.sock_io.specs.declared.link.Ready.{Ready}
 use Rattle.sock_model.specs.declared.chain.Heading.{Heading}
 use Rattle.sock_model.specs.declared.home.Home.{Home}
 use Rattle.sock_model.specs.declared.home.Home.TheVariants.{Empty, Link, Message}
-use Rattle.sock_model.specs.Layout.{name_word, all_words}
+use Rattle.sock_model.specs.Layout.{name_index, all_words}
 use Rattle.sock_model.specs.Messages.{Letter}
 use Rattle.sock_model.specs.Reads.{letter_of, shown, message, link_home}
 use Rattle.corr_core.specs.declared.marks.Plan.{Plan as IdPlan}
-use Rattle.sock_programs.specs.declared.task.Op.TheVariants as ops
-use Rattle.sock_programs.specs.declared.task.Task.{Task}
-use Rattle.sock_programs.specs.Calls.{Call, StoreName, LoadName, LoadCode}
-use Rattle.sock_programs.specs.Asides.{Step, ClaimId, PutCall, MakeId, StoreCall, LoadCall, StoreAt, LoadAt, LoadIdWord, LockId, PostId, UnlockId, EndId, FreeId, TakeCall, TakeBytes, Taking, Bytes, Found}
-use Rattle.sock_programs.specs.Asides as asides
-use Rattle.sock_programs.specs.Heads.{Retry}
-use Rattle.sock_programs.specs.Programs.{Program, Do, Say, Sent, Rest, TakeMessage, TakeHome, PutHome, PutBytes, AskReady, Write, Aside, Round, Keep, Retries}
-use Rattle.sock_programs.specs.Sends.{block}
-use Rattle.sock_programs.specs.Rounds.{round}
-use Rattle.sock_programs.specs.Cores.{Calls, Core, SeatState, word_of, found_at, words_after, word_after, homes_after, hand_after, lies_at, first_of, others_of, link_place, resolved, waiting_at, next_step, with_seat}
-use Rattle.sock_programs.specs.Beside.{found_in, calls_after}
-use Rattle.sock_programs.specs.Scripts.{is_ending}
-use Rattle.sock_programs.specs.Ticks.{Answer, Unasked, OfPut, OfReady, OfTake, Moment, fed, with_places, onto_first, taken, with_message, with_link, with_put, with_ready, with_found, step_with, tick_with, ticked}
+use Rattle.seat_programs.specs.declared.task.Op.TheVariants as ops
+use Rattle.seat_programs.specs.declared.task.Task.{Task}
+use Rattle.seat_programs.specs.Calls.{Call, StoreName, LoadName, LoadCode}
+use Rattle.seat_programs.specs.Asides.{Step, ClaimId, PutCall, MakeId, StoreCall, LoadCall, StoreAt, LoadAt, LoadIdWord, LockId, PostId, UnlockId, EndId, FreeId, TakeCall, TakeBytes, Taking, Bytes, Found}
+use Rattle.seat_programs.specs.Asides as asides
+use Rattle.seat_programs.specs.Heads.{Retry}
+use Rattle.seat_programs.specs.Programs.{Program, Do, Say, Sent, Rest, TakeMessage, TakeHome, PutHome, PutBytes, AskReady, Write, Aside, Round, Keep, Retries}
+use Rattle.seat_programs.specs.Sends.{block}
+use Rattle.seat_programs.specs.Rounds.{round}
+use Rattle.seat_programs.specs.Cores.{Calls, Core, SeatState, word_of, found_at, words_after, word_after, homes_after, hand_after, lies_at, first_of, others_of, link_place, resolved, waiting_at, next_step, with_seat}
+use Rattle.seat_programs.specs.Beside.{found_in, calls_after}
+use Rattle.seat_programs.specs.Scripts.{is_ending}
+use Rattle.seat_programs.specs.Ticks.{Answer, Unasked, OfPut, OfReady, OfTake, Moment, fed, with_places, onto_first, taken, with_message, with_link, with_put, with_ready, with_found, step_with, tick_with, ticked}
 use Rattle.id_runs.specs.Held.{IdView, id_row}
 use Rattle.id_runs.specs.Goes.{FitsRetryId, FitsOwner, IdGoesOn, SoundIds, FitsFirst, IsFittingIds}
 use Rattle.id_runs.specs.Goes as goes
@@ -171,7 +171,7 @@ module _ (p : Plan) (q : IdPlan) (clients : List (List Task)) (gives : ℕ → L
       abbrev scene : Scene
       scene = record { core = with_seat i x hand ws hs w.core; claims = w.claims; births = w.births; advances = w.advances; posts = w.posts; decisions = w.decisions; sayings = sayings_of (resolved (waiting_at w.core.calls.waiting i) x) w.sayings }
 
-      on_sockets : ((n : ℕ) → n < p.names → get_or w.core.words (name_word p n) 0 ≢ 0 → get_or ws (name_word p n) 0 ≢ 0) → AreOther p q clients gives ws → KeepsFew x → Leads (with_seat i x hand ws hs w.core)
+      on_sockets : ((n : ℕ) → n < p.names → get_or w.core.words (name_index p n) 0 ≢ 0 → get_or ws (name_index p n) 0 ≢ 0) → AreOther p q clients gives ws → KeepsFew x → Leads (with_seat i x hand ws hs w.core)
           → ((v : Scene) → v.core.words ≡ ws → Later p q clients gives w v → SaidBy v x → SaysOn p q clients gives v m x) → Goes w.posts w.advances (with_seat i x hand ws hs w.core)
       on_sockets names codes keeps lead says =
           let b : IsBeside p q clients gives numbered w scene ms i m at story.slots story.births story.tasks (room, lead) = record { words = refl; homes = refl; gave = refl; births_are = refl; claims_are = refl; advances_are = refl; posts_are = refl; decided = λ d there. there; named = λ n y. (y.0, names n y.0 y.1); codes = codes } in
@@ -292,7 +292,7 @@ module _ (p : Plan) (q : IdPlan) (clients : List (List Task)) (gives : ℕ → L
     client_is = story.tasks.client i m at
 
     finds_do : (call : Call) → IsInside p call → MayDo p q clients gives call → (v : Scene) → v.core.words ≡ words_after w.core.words (word_of p call) (word_after call (found_at w.core.words (word_of p call))) → Later p q clients gives w v → FindsDo p q clients gives v m call (found_at w.core.words (word_of p call))
-    finds_do (StoreName n word) in_ may v words l = (in_, (λ e. may (sym (ap (λ ws. get_or ws (name_word p n) 0) words ∙ get_or-set_same w.core.words (name_word p n) word 0 (omega (arith, sized, in_))) ∙ e)))
+    finds_do (StoreName n word) in_ may v words l = (in_, (λ e. may (sym (ap (λ ws. get_or ws (name_index p n) 0) words ∙ get_or-set_same w.core.words (name_index p n) word 0 (omega (arith, sized, in_))) ∙ e)))
     finds_do (LoadName n) in_ may v words l = (
       (λ none_. (
         (λ named. named.1 (here ∙ none_)),
@@ -302,8 +302,8 @@ module _ (p : Plan) (q : IdPlan) (clients : List (List Task)) (gives : ℕ → L
       (λ some_. (in_, (λ e. some_ (sym here ∙ e)))),
     )
       where
-        here : get_or v.core.words (name_word p n) 0 ≡ get_or w.core.words (name_word p n) 0
-        here = ap (λ ws. get_or ws (name_word p n) 0) words ∙ get_or-set_same w.core.words (name_word p n) (get_or w.core.words (name_word p n) 0) 0 (omega (arith, sized, in_))
+        here : get_or v.core.words (name_index p n) 0 ≡ get_or w.core.words (name_index p n) 0
+        here = ap (λ ws. get_or ws (name_index p n) 0) words ∙ get_or-set_same w.core.words (name_index p n) (get_or w.core.words (name_index p n) 0) 0 (omega (arith, sized, in_))
     finds_do (LoadCode k h) in_ may v words l = λ some_. story.births.codes k in_ some_
     finds_do _ in_ may v words l = tt
 

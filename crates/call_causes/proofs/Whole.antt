@@ -5,15 +5,15 @@ use Rattle.std.specs.List.{AllByRecursion}
 use Rattle.brpc_model.specs.Items.{Item}
 use Rattle.brpc_model.specs.Operations.{Turn}
 use Rattle.corr_core.specs.Word.{parts}
-use Rattle.id_rule.specs.Lawful.{id_word}
-use Rattle.sock_programs.specs.Cores.{Core}
-use Rattle.sock_programs.specs.declared.task.Op.{Op}
-use Rattle.sock_programs.specs.declared.task.Op.TheVariants as ops
-use Rattle.sock_programs.specs.Tasks.{plan_of, id_plan_of}
-use Rattle.sock_programs.specs.Scripts.{all_tasks, IsRunWithCalls}
-use Rattle.sock_programs.specs.ToldCalls.{Fixed, Order}
-use Rattle.sock_causes.specs.sock_runs.specs.Sound.{AllRest}
-use Rattle.sock_causes.specs.Facts.{Seeks, CallsFoundNone}
+use Rattle.id_rule.specs.Lawful.{id_index}
+use Rattle.seat_programs.specs.Cores.{Core}
+use Rattle.seat_programs.specs.declared.task.Op.{Op}
+use Rattle.seat_programs.specs.declared.task.Op.TheVariants as ops
+use Rattle.seat_programs.specs.Tasks.{plan_of, id_plan_of}
+use Rattle.seat_programs.specs.Scripts.{all_tasks, IsRunWithCalls}
+use Rattle.seat_programs.specs.ToldCalls.{Fixed, Order}
+use Rattle.outcome_causes.specs.sock_runs.specs.Sound.{AllRest}
+use Rattle.outcome_causes.specs.Facts.{Seeks, CallsFoundNone}
 use Rattle.owed_calls.specs.joint_runs.proofs.Runs.{AreMade}
 use Rattle.owed_calls.specs.report_fits.proofs.Reading.{InRange}
 use Rattle.owed_calls.specs.report_fits.proofs.Targets.{AreThere}
@@ -75,7 +75,7 @@ module _ (script : List Item) (made : AreMade script) (there : AreThere script) 
     pub run_has_ended : HasEnded (plan_of script) (id_plan_of script) (all_tasks script) (given core) run_has_story.scene run_has_story.marks
     run_has_ended = let h = run_has_story in has_ended (plan_of script) (id_plan_of script) (all_tasks script) (given core) h.scene h.marks h.story
         (subst AllRest (sym h.is) (run_all_rest script made turns core is closes))
-        (λ i inside. subst (λ (d : Core). (parts (get_or d.calls.words (id_word i) 0)).state ≡ 0) (sym h.is) (run_all_ended script made turns core is closes i inside))
+        (λ i inside. subst (λ (d : Core). (parts (get_or d.calls.words (id_index i) 0)).state ≡ 0) (sym h.is) (run_all_ended script made turns core is closes i inside))
         (let many = ap (λ (d : Core). length d.seats) h.is ∙ many_seats script made (given core) (are_numbered script made there range (given core)) (have_slots script made there range (given core)) (begins script made there range (given core)) turns core is leads in let seats = made.seats in let few = made.few_clients in omega (arith, many, seats, few))
 
     -- where an operation found a name without a socket, the calls of its client before it found so too

@@ -4,13 +4,13 @@ use mathlib.Core.Option.{none, some}
 use lib.ListN.{get_elem?}
 use Rattle.sock_message.specs.Asked.{Asked}
 use Rattle.sock_words.specs.declared.plain.Plan.{Plan}
-use Rattle.sock_programs.specs.Calls.{LoadOpen}
-use Rattle.sock_programs.specs.Asides.{PostId}
-use Rattle.sock_programs.specs.Heads.{Decides}
-use Rattle.sock_programs.specs.Programs.{Program, Do, Aside, Round}
-use Rattle.sock_programs.specs.Cores.{Core}
-use Rattle.sock_programs.specs.Ticks.{Moment, ticked}
-use Rattle.sock_causes.specs.sock_runs.specs.Sound.{first_step}
+use Rattle.seat_programs.specs.Calls.{LoadOpen}
+use Rattle.seat_programs.specs.Asides.{PostId}
+use Rattle.seat_programs.specs.Heads.{Decides}
+use Rattle.seat_programs.specs.Programs.{Program, Do, Aside, Round}
+use Rattle.seat_programs.specs.Cores.{Core}
+use Rattle.seat_programs.specs.Ticks.{Moment, ticked}
+use Rattle.outcome_causes.specs.sock_runs.specs.Sound.{first_step}
 use Rattle.call_causes.specs.Lists.{shows_in}
 use Rattle.call_causes.specs.Posts.{Post, posted_at}
 

@@ -5,7 +5,7 @@ pub mod Says
 pub mod Stories
 pub mod Posts
 pub mod Decided
-pub use Rattle.owed_calls.specs.client_laws
+pub use Rattle.owed_calls.specs.programs_allowed
 pub use Rattle.owed_calls.specs.joint_runs
 pub use Rattle.owed_calls
 pub use Rattle.prpc_frame

@@ -8,18 +8,18 @@ use Rattle.brpc_model.specs.Items.{Item}
 use Rattle.brpc_model.specs.Operations.{Turn}
 use Rattle.brpc_model.specs.Frame.{Frame}
 use Rattle.brpc_model.specs.Stream.{Ending, Rest, Fault, stream}
-use Rattle.id_rule.specs.Lawful.{id_word}
-use Rattle.sock_programs.specs.Asides.{Step, Found, UnlockId, TakeBytes, Taking, NoMore, AtEnd, Closed, Broken}
-use Rattle.sock_programs.specs.Heads.{Reads, Discards}
-use Rattle.sock_programs.specs.Programs.{Program, Aside, Round}
-use Rattle.sock_programs.specs.Readers.{LIMIT, has_response, slot_in, version_in, is_early}
-use Rattle.sock_programs.specs.Beside.{call_at, found_in, taking_in}
+use Rattle.id_rule.specs.Lawful.{id_index}
+use Rattle.seat_programs.specs.Asides.{Step, Found, UnlockId, TakeBytes, Taking, NoMore, AtEnd, Closed, Broken}
+use Rattle.seat_programs.specs.Heads.{Reads, Discards}
+use Rattle.seat_programs.specs.Programs.{Program, Aside, Round}
+use Rattle.seat_programs.specs.Readers.{LIMIT, has_response, slot_in, version_in, is_early}
+use Rattle.seat_programs.specs.Beside.{call_at, found_in, taking_in}
 use Rattle.id_runs.specs.Goes.{first_of}
-use Rattle.sock_programs.specs.Cores.{Calls, Core}
-use Rattle.sock_programs.specs.Runs.{from_to}
-use Rattle.sock_programs.specs.Ticks.{Moment, quiet, taken, ticked}
-use Rattle.sock_programs.specs.Tasks.{plan_of}
-use Rattle.sock_programs.specs.Scripts.{opened, ending, set_up, played, IsRunWithCalls}
+use Rattle.seat_programs.specs.Cores.{Calls, Core}
+use Rattle.seat_programs.specs.Runs.{from_to}
+use Rattle.seat_programs.specs.Ticks.{Moment, quiet, taken, ticked}
+use Rattle.seat_programs.specs.Tasks.{plan_of}
+use Rattle.seat_programs.specs.Scripts.{opened, ending, set_up, played, IsRunWithCalls}
 
 -- ## Takes
 
@@ -73,7 +73,7 @@ given c k = slice_index_or c.calls.gave k []
 
 -- by the id words a response is of no range that was made so far
 abbrev pub is_soon : Core → Frame → Bool
-is_soon c f = has_response f.meta.response && (nat_lt (slot_in f) c.calls.plan.slots && is_early (version_in f) (slice_index c.calls.words (id_word (slot_in f))))
+is_soon c f = has_response f.meta.response && (nat_lt (slot_in f) c.calls.plan.slots && is_early (version_in f) (slice_index c.calls.words (id_index (slot_in f))))
 
 -- those among these frames of link k, of which the first has this place
 abbrev pub soon_from : Core → ℕ → ℕ → List Frame → List (ℕ × ℕ)

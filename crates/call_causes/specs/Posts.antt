@@ -5,13 +5,13 @@ use lib.ListN.{get_elem?}
 use Rattle.brpc_model.specs.Items.{Item}
 use Rattle.brpc_model.specs.Operations.{Turn}
 use Rattle.corr_core.specs.Word.{parts}
-use Rattle.sock_programs.specs.Asides.{Step, Found, PostId, Taking, call_id}
-use Rattle.sock_programs.specs.Programs.{Program, Aside}
-use Rattle.sock_programs.specs.Beside.{found_in}
+use Rattle.seat_programs.specs.Asides.{Step, Found, PostId, Taking, call_id}
+use Rattle.seat_programs.specs.Programs.{Program, Aside}
+use Rattle.seat_programs.specs.Beside.{found_in}
 use Rattle.id_runs.specs.Goes.{first_of}
-use Rattle.sock_programs.specs.Cores.{Calls, Core}
-use Rattle.sock_programs.specs.Ticks.{Moment, taken}
-use Rattle.sock_programs.specs.Scripts.{IsRunWithCalls}
+use Rattle.seat_programs.specs.Cores.{Calls, Core}
+use Rattle.seat_programs.specs.Ticks.{Moment, taken}
+use Rattle.seat_programs.specs.Scripts.{IsRunWithCalls}
 use Rattle.call_causes.specs.Lists.{shows_in_run}
 
 -- an error that an id took

@@ -10,15 +10,15 @@ use Rattle.brpc_model.specs.Stream.{stream}
 use Rattle.brpc_model.specs.Causes.{HasFault}
 use Rattle.corr_core.specs.Word.{parts, error_of, code_of, attempt_of}
 use Rattle.corr_core.specs.declared.marks.Plan.{Plan as IdPlan}
-use Rattle.id_rule.specs.Lawful.{id_word, call_word}
-use Rattle.sock_programs.specs.Asides.{id_slot, id_first}
-use Rattle.sock_model.specs.Layout.{name_word}
+use Rattle.id_rule.specs.Lawful.{id_index, call_index}
+use Rattle.seat_programs.specs.Asides.{id_slot, id_first}
+use Rattle.sock_model.specs.Layout.{name_index}
 use Rattle.sock_message.specs.Asked.{Asked, name_of}
-use Rattle.sock_programs.specs.declared.task.Op.{Op}
-use Rattle.sock_programs.specs.declared.task.Op.TheVariants as ops
-use Rattle.sock_programs.specs.declared.task.Task.{Task}
-use Rattle.sock_programs.specs.Posts.{WHOLE, is_final}
-use Rattle.sock_programs.specs.Cores.{Core}
+use Rattle.seat_programs.specs.declared.task.Op.{Op}
+use Rattle.seat_programs.specs.declared.task.Op.TheVariants as ops
+use Rattle.seat_programs.specs.declared.task.Task.{Task}
+use Rattle.seat_programs.specs.Posts.{WHOLE, is_final}
+use Rattle.seat_programs.specs.Cores.{Core}
 use Rattle.call_causes.specs.Lists.{given, times}
 use Rattle.call_causes.specs.Posts.{Post}
 use Rattle.call_causes.specs.Decided.{Decision}
@@ -107,11 +107,11 @@ SeeksName n other = ⊥
 module _ (p : Plan) (q : IdPlan) (clients : List (List Task)) (gives : ℕ → List ℕ) where
   -- the name had a socket
   abbrev pub Named : Scene → ℕ → Type 0
-  Named w n = (n < p.names) × (slice_index w.core.words (name_word p n) ≢ 0)
+  Named w n = (n < p.names) × (slice_index w.core.words (name_index p n) ≢ 0)
 
   -- the word of the call was stored
   abbrev pub Begun : Scene → ℕ → Type 0
-  Begun w o = slice_index w.core.calls.words (call_word q o) ≢ 0
+  Begun w o = slice_index w.core.calls.words (call_index q o) ≢ 0
 
   abbrev pub IsTaskOf : ℕ → Task → Type 0
   IsTaskOf c t = (ts : List Task) × (slice_get clients c ≡ Some ts) × In t ts
@@ -137,7 +137,7 @@ module _ (p : Plan) (q : IdPlan) (clients : List (List Task)) (gives : ℕ → L
 
   -- the range of an id has ended, and its call had come to attempt n
   abbrev pub EndedAt : Scene → Birth → ℕ → Type 0
-  EndedAt w b n = In b w.births × (id_first b.id + b.asked.range ≤ (parts (slice_index w.core.calls.words (id_word (id_slot b.id)))).first) × (times b.asked.operation w.advances ≡ n)
+  EndedAt w b n = In b w.births × (id_first b.id + b.asked.range ≤ (parts (slice_index w.core.calls.words (id_index (id_slot b.id)))).first) × (times b.asked.operation w.advances ≡ n)
 
   -- an error of attempt n that ends no call by its code alone was posted to the id
   abbrev pub MayAdvance : Scene → ℕ → ℕ → Type 0

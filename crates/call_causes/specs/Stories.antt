@@ -6,17 +6,17 @@ use lib.ListN.{get_elem?}
 use Rattle.sock_words.specs.Words.{at_word_attempt}
 use Rattle.sock_words.specs.declared.plain.Plan.{Plan}
 use Rattle.sock_words.specs.declared.outcome.Outcome.{Outcome}
-use Rattle.sock_model.specs.Layout.{code_word}
+use Rattle.sock_model.specs.Layout.{code_index}
 use Rattle.corr_core.specs.Word.{Parts, parts}
 use Rattle.corr_core.specs.declared.marks.Plan.{Plan as IdPlan}
-use Rattle.id_rule.specs.Lawful.{tag_word, id_word, call_word, at_word}
+use Rattle.id_rule.specs.Lawful.{tag_index, id_index, call_index, at_index}
 use Rattle.sock_message.specs.Asked.{Asked}
-use Rattle.sock_programs.specs.declared.task.Op.TheVariants as ops
-use Rattle.sock_programs.specs.declared.task.Task.{Task}
-use Rattle.sock_programs.specs.Asides.{Step, ClaimId, PutCall, MakeId, StoreCall, LoadCall, StoreAt, LoadAt, LoadIdWord, LockId, PostId, UnlockId, EndId, FreeId, TakeCall, TakeBytes, Found, call_id, id_slot, id_first}
-use Rattle.sock_programs.specs.Beside.{calls_after}
-use Rattle.sock_programs.specs.Posts.{advance_of}
-use Rattle.sock_programs.specs.Cores.{Core, SeatState}
+use Rattle.seat_programs.specs.declared.task.Op.TheVariants as ops
+use Rattle.seat_programs.specs.declared.task.Task.{Task}
+use Rattle.seat_programs.specs.Asides.{Step, ClaimId, PutCall, MakeId, StoreCall, LoadCall, StoreAt, LoadAt, LoadIdWord, LockId, PostId, UnlockId, EndId, FreeId, TakeCall, TakeBytes, Found, call_id, id_slot, id_first}
+use Rattle.seat_programs.specs.Beside.{calls_after}
+use Rattle.seat_programs.specs.Posts.{advance_of}
+use Rattle.seat_programs.specs.Cores.{Core, SeatState}
 use Rattle.call_causes.specs.Lists.{given, times, advances_by}
 use Rattle.call_causes.specs.Posts.{Post, posts_by}
 use Rattle.call_causes.specs.Decided.{Decision}
@@ -29,10 +29,10 @@ At ms j m = get_elem? ms j ≡ core.some m
 -- ## Id slots
 
 abbrev pub word_at : Scene → ℕ → Parts
-word_at w i = parts (slice_index w.core.calls.words (id_word i))
+word_at w i = parts (slice_index w.core.calls.words (id_index i))
 
 abbrev pub tag_at : Scene → ℕ → ℕ
-tag_at w i = slice_index w.core.calls.words (tag_word i)
+tag_at w i = slice_index w.core.calls.words (tag_index i)
 
 abbrev pub LiesAt : Scene → ℕ → Asked → Type 0
 LiesAt w i asked = get_elem? w.core.calls.homes i ≡ core.some (core.some (Some asked))
@@ -98,9 +98,9 @@ module _ (p : Plan) (q : IdPlan) (clients : List (List Task)) (gives : ℕ → L
     pub few : (b : Birth) → In b w.births → times b.asked.operation w.advances + 2 ≤ b.asked.range
     pub advanced : (b : Birth) → In b w.births → (n : ℕ) → n < times b.asked.operation w.advances → MayAdvance p q clients gives w b.id n
     pub unmade : (o : ℕ) → ((b : Birth) → In b w.births → b.asked.operation ≢ o) → times o w.advances ≡ 0
-    pub codes : (i : ℕ) → i < p.slots → slice_index w.core.words (code_word i) ≢ 0 → IsOther p q clients gives (slice_index w.core.words (code_word i))
+    pub codes : (i : ℕ) → i < p.slots → slice_index w.core.words (code_index i) ≢ 0 → IsOther p q clients gives (slice_index w.core.words (code_index i))
     -- where an attempt went is written of an attempt that a range may have
-    pub ats : (o : ℕ) → o < q.operations → at_word_attempt (slice_index w.core.calls.words (at_word q o)) ≤ 6
+    pub ats : (o : ℕ) → o < q.operations → at_word_attempt (slice_index w.core.calls.words (at_index q o)) ≤ 6
 
   -- ## Tasks, and what is said
 
@@ -149,7 +149,7 @@ module _ (p : Plan) (q : IdPlan) (clients : List (List Task)) (gives : ℕ → L
     -- each id is one of a call that a client began, and each word of a call is such an id
     pub begun : (b : Birth) → In b w.births → (j : ℕ) × (m : Mark) × (t : Task) × At ms j m × IsBegunBy m b t
     pub made : (j : ℕ) (m : Mark) (b : Birth) → At ms j m → m.makes ≡ b ∷ [] → In b w.births
-    pub called : (o : ℕ) → o < q.operations → Begun p q clients gives w o → (b : Birth) × In b w.births × (b.id ≡ slice_index w.core.calls.words (call_word q o)) × (b.asked.operation ≡ o) × (j : ℕ) × (m : Mark) × (t : Task) × At ms j m × In t m.done × (t.op ≡ ops.Call b.asked) × (t.number ≡ o)
+    pub called : (o : ℕ) → o < q.operations → Begun p q clients gives w o → (b : Birth) × In b w.births × (b.id ≡ slice_index w.core.calls.words (call_index q o)) × (b.asked.operation ≡ o) × (j : ℕ) × (m : Mark) × (t : Task) × At ms j m × In t m.done × (t.op ≡ ops.Call b.asked) × (t.number ≡ o)
     -- what was said is there, and nothing else
     pub said : (o : ℕ) (x : Outcome) → In (record { number = o; outcome = x }) ss → slice_get os o ≡ Some (Some x)
     pub outcomes : (o : ℕ) (x : Outcome) → slice_get os o ≡ Some (Some x) → In (record { number = o; outcome = x }) ss
@@ -256,9 +256,9 @@ module _ (p : Plan) (q : IdPlan) (clients : List (List Task)) (gives : ℕ → L
   KnowsStep w (PutCall i asked) found = i < q.slots
   KnowsStep w (MakeId i range) found = IsWordAt w i found × ((parts found).first ≤ 67108856) × (2 ≤ range) × (range ≤ 8)
   KnowsStep w (StoreCall o id) found = (o < q.operations) × (id ≢ 0)
-  KnowsStep w (LoadCall o) found = (o < q.operations) × (found ≡ slice_index w.core.calls.words (call_word q o))
+  KnowsStep w (LoadCall o) found = (o < q.operations) × (found ≡ slice_index w.core.calls.words (call_index q o))
   KnowsStep w (StoreAt o x) found = o < q.operations
-  KnowsStep w (LoadAt o) found = (o < q.operations) × (found ≡ slice_index w.core.calls.words (at_word q o))
+  KnowsStep w (LoadAt o) found = (o < q.operations) × (found ≡ slice_index w.core.calls.words (at_index q o))
   KnowsStep w (LoadIdWord i) found = IsWordAt w i found × HasOldest found
   KnowsStep w (LockId i from) found = IsWordAt w i found × ((parts from).state ≡ 1) × IsTakenWith w i
   KnowsStep w (PostId i from e) found = IsWordAt w i found × (((parts from).state ≡ 1) ⊎ (((parts from).state ≡ 2) × ((parts from).second ≡ 0))) × (e < 32768) × IsTakenWith w i × HasOldest found

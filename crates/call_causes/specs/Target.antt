@@ -6,13 +6,13 @@ use Rattle.sock_words.specs.declared.outcome.Outcome.{Outcome}
 use Rattle.sock_words.specs.declared.outcome.Outcome.TheVariants.{Unopened, Answered, Peer, CallFailed, Expired, Queued}
 use Rattle.brpc_model.specs.Frame.{Frame}
 use Rattle.sock_message.specs.Asked.{Asked, name_of}
-use Rattle.sock_programs.specs.declared.task.Op.{Op}
-use Rattle.sock_programs.specs.declared.task.Op.TheVariants as ops
-use Rattle.sock_programs.specs.declared.task.Task.{Task}
+use Rattle.seat_programs.specs.declared.task.Op.{Op}
+use Rattle.seat_programs.specs.declared.task.Op.TheVariants as ops
+use Rattle.seat_programs.specs.declared.task.Task.{Task}
 use Rattle.corr_core.specs.Word.{error_of}
-use Rattle.sock_programs.specs.Posts.{is_final}
-use Rattle.sock_programs.specs.Told.{IsTask, Became}
-use Rattle.sock_programs.specs.ToldCalls.{Fixed, Order, FoundNone, HasCode, IsAnsweredBy, IsExpiredWith, GaveFault, ShowsId, Why, WhyExpire, WhyJoin}
+use Rattle.seat_programs.specs.Posts.{is_final}
+use Rattle.seat_programs.specs.Told.{IsTask, Became}
+use Rattle.seat_programs.specs.ToldCalls.{Fixed, Order, FoundNone, HasCode, IsAnsweredBy, IsExpiredWith, GaveFault, ShowsId, Why, WhyExpire, WhyJoin}
 use Rattle.call_causes.specs.Posts.{Post}
 use Rattle.call_causes.specs.Decided.{Decision}
 use Rattle.call_causes.specs.Scenes.{In}

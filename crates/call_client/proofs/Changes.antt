@@ -13,14 +13,14 @@ use Rattle.sock_words.specs.declared.outcome.Outcome.TheVariants as outcome
 use Rattle.sock_model.specs.declared.view.View as sock_view
 use Rattle.sock_rule.specs.declared.homes.Letter.{Letter}
 use Rattle.sock_table.specs.declared.refs.SockRef.{SockRef}
-use Rattle.sock_programs.specs.declared.task.Op.{Op}
-use Rattle.sock_programs.specs.declared.task.Op.TheVariants as ops
-use Rattle.sock_programs.specs.declared.task.Task.{Task}
+use Rattle.seat_programs.specs.declared.task.Op.{Op}
+use Rattle.seat_programs.specs.declared.task.Op.TheVariants as ops
+use Rattle.seat_programs.specs.declared.task.Task.{Task}
 use Rattle.call_attempts.specs.write_chain.specs.declared.right.Undelivered.{Undelivered}
 use Rattle.corr_core.specs.Word.{parts}
 use Rattle.corr_core.specs.declared.marks.Plan as id_plan
 use Rattle.corr_core.specs.declared.marks.View.{View}
-use Rattle.id_rule.specs.Lawful.{call_word, with_kept}
+use Rattle.id_rule.specs.Lawful.{call_index, with_kept}
 use Rattle.sock_message.specs.Asked.{Asked}
 use Rattle.corr_id.specs.declared.calls.IdLock.{IdLock}
 use Rattle.corr_id.specs.declared.unlocks.Unlocked.{Unlocked}
@@ -95,7 +95,7 @@ module _ (xs : List Task) where
 
   timed_out : (q : id_plan.Plan) (operation : ℕ) (by : Outcome) (s t : CallStand) → TimedOut q operation by s t → Changes s t
   timed_out q operation by s t h = let u = found_id q operation h.id s in
-      in_turn s u t (sees s u (keeps s.view u.view (call_word q operation) false h.id refl) refl) (posts u t q.slots h.id ERPCTIMEDOUT None (h.answer, h.posted))
+      in_turn s u t (sees s u (keeps s.view u.view (call_index q operation) false h.id refl) refl) (posts u t q.slots h.id ERPCTIMEDOUT None (h.answer, h.posted))
 
   expired_by : (q : id_plan.Plan) (operation : ℕ) (by : Outcome) (s t : CallStand) → ExpiredBy q operation by s t → Changes s t
   expired_by q operation outcome.NotBegun s t h = same s t h.same
@@ -108,7 +108,7 @@ module _ (xs : List Task) where
   joined_by : (q : id_plan.Plan) (operation : ℕ) (by : Outcome) (s t : CallStand) → JoinedBy q operation by s t → Changes s t
   joined_by q operation outcome.NotBegun s t h = same s t h.same
   joined_by q operation outcome.Joined s t h = let u = found_id q operation h.id s in let x : CallStand = record { view = h.view; books = s.books } in
-      in_turn s u t (sees s u (keeps s.view u.view (call_word q operation) false h.id refl) refl) (in_turn u x t (sees u x (finds u.view h.view h.quiet) refl) (same x t h.after))
+      in_turn s u t (sees s u (keeps s.view u.view (call_index q operation) false h.id refl) refl) (in_turn u x t (sees u x (finds u.view h.view h.quiet) refl) (same x t h.after))
   joined_by q operation _ s t h = elim h [ ]
 
   -- ## Messages

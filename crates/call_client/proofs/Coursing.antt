@@ -11,12 +11,12 @@ use Rattle.sock_io.specs.Link.{OutState}
 use Rattle.sock_words.specs.declared.plain.Plan.{Plan}
 use Rattle.sock_words.specs.declared.outcome.Outcome.{Outcome}
 use Rattle.sock_words.specs.declared.outcome.Outcome.TheVariants as outcome
-use Rattle.sock_model.specs.Layout.{name_word}
+use Rattle.sock_model.specs.Layout.{name_index}
 use Rattle.sock_table.specs.Named.{HasSeen}
 use Rattle.corr_core.specs.declared.marks.Plan as id_plan
-use Rattle.sock_programs.specs.declared.task.Op.{Op}
-use Rattle.sock_programs.specs.declared.task.Op.TheVariants as ops
-use Rattle.sock_programs.specs.declared.task.Task.{Task}
+use Rattle.seat_programs.specs.declared.task.Op.{Op}
+use Rattle.seat_programs.specs.declared.task.Op.TheVariants as ops
+use Rattle.seat_programs.specs.declared.task.Task.{Task}
 use Rattle.rpc_client.specs.Seats.{StaysSeen}
 use Rattle.rpc_client.specs.Running.{telling, finds_name}
 use Rattle.call_errors.specs.Books.{stand_of}
@@ -100,16 +100,16 @@ module _ {O : Type 0} {g : Ghosts O} (state : O → OutState) (p : Plan) (q : id
 
     module _ (n : ℕ) (x : Task) (c d e f : Caller O g) (by : Maybe Outcome) (r : RanTo state p q xs n c d) (ready : RetriedHere state p q (stand d) (stand e)) (acted : Acted state p q x.number x.op by (stand e) (stand f)) (kept : StaysSeen d.seat.me.0 e.seat.me.0) (seen : StaysSeen e.seat.me.0 f.seat.me.0) where
       abbrev knows : Caller O g → ℕ → Type 0
-      knows h m = HasSeen (name_word p m) h.seat.me.0
+      knows h m = HasSeen (name_index p m) h.seat.me.0
 
       was_known : All (knows e) r.names
-      was_known = All-weaker (knows d) (knows e) (λ m has. kept (name_word p m) has) r.names r.known
+      was_known = All-weaker (knows d) (knows e) (λ m has. kept (name_index p m) has) r.names r.known
 
       abbrev names_then : List ℕ
       names_then = cond (finds_name by) (names_in x.op ++ r.names) r.names
 
       before : All (knows f) r.names
-      before = All-weaker (knows e) (knows f) (λ m has. seen (name_word p m) has) r.names was_known
+      before = All-weaker (knows e) (knows f) (λ m has. seen (name_index p m) has) r.names was_known
 
       known_by : (b : Bool) → finds_name by ≡ b → All (knows f) (cond b (names_in x.op ++ r.names) r.names)
       known_by true is = All-append (knows f) (names_in x.op) r.names (acted_known state p q x.number x.op by (stand e) (stand f) is acted) before
@@ -117,7 +117,7 @@ module _ {O : Type 0} {g : Ghosts O} (state : O → OutState) (p : Plan) (q : id
 
       -- none that is known is the name of an operation that found it unopened
       others_new : by ≡ Some outcome.Unopened → All (λ m. All (λ k. k ≢ m) r.names) (names_in x.op)
-      others_new un = All-weaker (λ m. HasSeen (name_word p m) e.seat.me.0 → ⊥) (λ m. All (λ k. k ≢ m) r.names)
+      others_new un = All-weaker (λ m. HasSeen (name_index p m) e.seat.me.0 → ⊥) (λ m. All (λ k. k ≢ m) r.names)
           (λ m never. All-weaker (knows e) (λ k. k ≢ m) (λ k has same. never (subst (knows e) same has)) r.names was_known)
           (names_in x.op) (unopened_new state p q x.number x.op (stand e) (stand f) (subst (λ (o : Maybe Outcome). Acted state p q x.number x.op o (stand e) (stand f)) un acted))
 
@@ -129,7 +129,7 @@ module _ {O : Type 0} {g : Ghosts O} (state : O → OutState) (p : Plan) (q : id
       }
 
     pub ran_none : (c : Caller O g) → RanTo state p q xs 0 c c
-    ran_none c = record { names = []; ran = refl; known = All-nil (λ m. HasSeen (name_word p m) c.seat.me.0) }
+    ran_none c = record { names = []; ran = refl; known = All-nil (λ m. HasSeen (name_index p m) c.seat.me.0) }
 
     -- a client that did nothing but to make room
     pub ran_before : (n : ℕ) (b c d : Caller O g) → begins c ≡ begins b → RanTo state p q xs n c d → RanTo state p q xs n b d

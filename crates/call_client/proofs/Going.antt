@@ -11,7 +11,7 @@ use Rattle.sock_words.specs.declared.outcome.Outcome.TheVariants as outcome
 use Rattle.sock_words.specs.Words.{socket_id_slot}
 use Rattle.sock_model.specs.declared.view.View.{View}
 use Rattle.sock_model.specs.Weights.{total}
-use Rattle.slot_laws.proofs.Numbers.{only_le}
+use Rattle.slot_steps.proofs.Numbers.{only_le}
 use Rattle.sock_rule.specs.declared.homes.Letter.{Letter}
 use Rattle.sock_table.specs.Passes.{IsPass}
 use Rattle.call_attempts.specs.write_chain.specs.Sending.{HasRoom}

@@ -7,14 +7,14 @@ use Rattle.sock_io.specs.Link.{OutState}
 use Rattle.sock_words.specs.declared.plain.Plan.{Plan}
 use Rattle.sock_words.specs.declared.outcome.Outcome.{Outcome}
 use Rattle.sock_words.specs.declared.outcome.Outcome.TheVariants.{Unopened}
-use Rattle.sock_model.specs.Layout.{name_word}
+use Rattle.sock_model.specs.Layout.{name_index}
 use Rattle.corr_core.specs.declared.marks.Plan as id_plan
 use Rattle.sock_table.specs.Named.{HasSeen}
 use Rattle.sock_table.specs.declared.passes.LinkPass.{LinkPass}
 use Rattle.sock_message.specs.Asked.{Asked, name_of}
-use Rattle.sock_programs.specs.declared.task.Op.{Op}
-use Rattle.sock_programs.specs.declared.task.Op.TheVariants as ops
-use Rattle.sock_programs.specs.declared.task.Task.{Task}
+use Rattle.seat_programs.specs.declared.task.Op.{Op}
+use Rattle.seat_programs.specs.declared.task.Op.TheVariants as ops
+use Rattle.seat_programs.specs.declared.task.Task.{Task}
 use Rattle.rpc_client.specs.declared.acting.Told.{Told}
 use Rattle.rpc_client.specs.Opening.{GotNone}
 use Rattle.rpc_client.specs.Running.{finds_name, telling, GaveFirst}
@@ -84,7 +84,7 @@ begins c = record { has = stand c; told = c.outcomes.items; names = [] }
 pub record RanTo {O : Type 0} {g : Ghosts O} (state : O → OutState) (p : Plan) (q : id_plan.Plan) (xs : List Task) (n : ℕ) (c d : Caller O g) : Type 0 where
   pub names : List ℕ
   pub ran : Ran state p q xs n (begins c) record { has = stand d; told = d.outcomes.items; names = names }
-  pub known : All (λ x. HasSeen (name_word p x) d.seat.me.0) names
+  pub known : All (λ x. HasSeen (name_index p x) d.seat.me.0) names
 
 -- how many passes are left behind an operation
 abbrev pub left_by : Op → ℕ → ℕ

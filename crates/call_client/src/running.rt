@@ -16,9 +16,9 @@ use crate::caller::Caller;
 use call_attempts::{Tables, retry_all};
 use call_errors::starve;
 use rpc_client::{Told, open_none};
+use seat_programs::{Op, Task};
 use sock_io::{Gate, Out};
 use sock_message::NoMemory;
-use sock_programs::{Op, Task};
 use std::collections::VecDeque;
 use std::sync::Wait;
 

@@ -11,10 +11,10 @@ use Rattle.sock_model.specs.declared.view.View.{View}
 use Rattle.call_places.specs.sock_rule.specs.declared.homes.Letter.{Letter}
 use Rattle.call_places.specs.sock_table.specs.declared.passes.LinkPass.{LinkPass}
 use Rattle.sock_message.specs.Asked.{Asked, name_of}
-use Rattle.sock_programs.specs.declared.task.Op.{Op}
-use Rattle.sock_programs.specs.declared.task.Op.TheVariants as ops
-use Rattle.sock_programs.specs.declared.task.Task.{Task}
-use Rattle.sock_programs.specs.Told.{Became}
+use Rattle.seat_programs.specs.declared.task.Op.{Op}
+use Rattle.seat_programs.specs.declared.task.Op.TheVariants as ops
+use Rattle.seat_programs.specs.declared.task.Task.{Task}
+use Rattle.seat_programs.specs.Told.{Became}
 use Rattle.corr_core.specs.declared.marks.Plan as id_plan
 use Rattle.call_places.specs.rpc_client.specs.declared.holding.Held.{Held}
 use Rattle.call_places.specs.rpc_client.specs.Opening.{OpenedBy}

@@ -10,7 +10,7 @@ use Rattle.sock_words.specs.declared.socket_id.SocketId.{SocketId}
 use Rattle.sock_model.specs.declared.view.View.{View}
 use Rattle.call_places.specs.sock_rule.specs.declared.homes.SockHome.{SockHome}
 use Rattle.call_places.specs.sock_table.specs.declared.finding.Noted.TheVariants as noted
-use Rattle.sock_programs.specs.declared.task.Task.{Task}
+use Rattle.seat_programs.specs.declared.task.Task.{Task}
 use Rattle.call_places.specs.rpc_client.specs.declared.holding.Held.{Held}
 use Rattle.call_places.specs.rpc_client.specs.Running.{GaveFirst}
 use Rattle.call_places.specs.rpc_reader.specs.Failing as reader

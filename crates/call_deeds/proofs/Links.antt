@@ -8,9 +8,9 @@ use Rattle.sock_words.specs.declared.outcome.Outcome.{Outcome}
 use Rattle.sock_words.specs.declared.outcome.Outcome.TheVariants as outcome
 use Rattle.sock_words.specs.declared.plain.Plan.{Plan}
 use Rattle.call_places.specs.sock_table.specs.declared.passes.LinkPass.{LinkPass}
-use Rattle.sock_programs.specs.declared.task.Op.{Op}
-use Rattle.sock_programs.specs.declared.task.Op.TheVariants as ops
-use Rattle.sock_programs.specs.declared.task.Task.{Task}
+use Rattle.seat_programs.specs.declared.task.Op.{Op}
+use Rattle.seat_programs.specs.declared.task.Op.TheVariants as ops
+use Rattle.seat_programs.specs.declared.task.Task.{Task}
 use Rattle.corr_core.specs.declared.marks.Plan as id_plan
 use Rattle.call_places.specs.call_client.specs.Acting.{Stand, Needs, Acted}
 use Rattle.call_places.specs.call_client.specs.Running.{Course, Ran, MayMakeAll, left_by}

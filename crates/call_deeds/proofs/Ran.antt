@@ -6,8 +6,8 @@ use Rattle.sock_io.specs.declared.link.Out.{Ghosts}
 use Rattle.sock_io.specs.Link.{OutState}
 use Rattle.sock_words.specs.declared.outcome.Outcome.{Outcome}
 use Rattle.sock_words.specs.declared.plain.Plan.{Plan}
-use Rattle.chain_laws.proofs.Lists.{old, new, at_snoc}
-use Rattle.sock_programs.specs.declared.task.Task.{Task}
+use Rattle.chain_steps.proofs.Lists.{old, new, at_snoc}
+use Rattle.seat_programs.specs.declared.task.Task.{Task}
 use Rattle.corr_core.specs.declared.marks.Plan as id_plan
 use Rattle.call_places.specs.rpc_client.specs.declared.acting.Told.{Told}
 use Rattle.call_places.specs.rpc_client.specs.declared.holding.Held.{Held}

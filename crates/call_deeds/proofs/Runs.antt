@@ -17,13 +17,13 @@ use Rattle.sock_words.specs.declared.place_word.PlaceWord.{PlaceWord}
 use Rattle.sock_words.specs.declared.vref.Vref.{Vref}
 use Rattle.sock_model.specs.declared.view.View.{View}
 use Rattle.call_places.specs.sock_rule.specs.declared.homes.SockHome.{SockHome}
-use Rattle.sock_programs.specs.declared.task.Op.{Op}
-use Rattle.sock_programs.specs.declared.task.Op.TheVariants as ops
-use Rattle.sock_programs.specs.declared.task.Task.{Task}
-use Rattle.sock_programs.specs.Told.{AreTasks, IsTask, Became}
-use Rattle.call_places.specs.sock_causes.specs.Stories.{In}
-use Rattle.call_places.specs.sock_causes.proofs.Seats.{Less}
-use Rattle.call_places.specs.sock_causes.proofs.Tasks.{one_task, sorted_of}
+use Rattle.seat_programs.specs.declared.task.Op.{Op}
+use Rattle.seat_programs.specs.declared.task.Op.TheVariants as ops
+use Rattle.seat_programs.specs.declared.task.Task.{Task}
+use Rattle.seat_programs.specs.Told.{AreTasks, IsTask, Became}
+use Rattle.call_places.specs.outcome_causes.specs.Stories.{In}
+use Rattle.call_places.specs.outcome_causes.proofs.Seats.{Less}
+use Rattle.call_places.specs.outcome_causes.proofs.Tasks.{one_task, sorted_of}
 use Rattle.call_places.specs.report_fits.proofs.Lists.{has_from, contains_from}
 use Rattle.corr_core.specs.declared.marks.Plan as id_plan
 use Rattle.corr_core.specs.declared.marks.View as id_view

@@ -10,11 +10,11 @@ use Rattle.sock_io.specs.declared.link.Out.{Ghosts}
 use Rattle.sock_io.specs.Link.{OutState}
 use Rattle.sock_words.specs.declared.outcome.Outcome.{Outcome}
 use Rattle.sock_words.specs.declared.plain.Plan.{Plan}
-use Rattle.chain_laws.proofs.Lists.{old, new, at_snoc}
-use Rattle.sock_programs.specs.declared.task.Op.{Op}
-use Rattle.sock_programs.specs.declared.task.Op.TheVariants as ops
-use Rattle.sock_programs.specs.declared.task.Task.{Task}
-use Rattle.call_places.specs.sock_causes.proofs.Seats.{Less}
+use Rattle.chain_steps.proofs.Lists.{old, new, at_snoc}
+use Rattle.seat_programs.specs.declared.task.Op.{Op}
+use Rattle.seat_programs.specs.declared.task.Op.TheVariants as ops
+use Rattle.seat_programs.specs.declared.task.Task.{Task}
+use Rattle.call_places.specs.outcome_causes.proofs.Seats.{Less}
 use Rattle.call_places.specs.report_fits.proofs.Lists.{before_at}
 use Rattle.corr_core.specs.declared.marks.Plan as id_plan
 use Rattle.call_places.specs.rpc_client.specs.declared.acting.Told.{Told}

@@ -7,9 +7,9 @@ use Rattle.sock_words.specs.declared.plain.Plan.{Plan}
 use Rattle.sock_words.specs.declared.place_word.PlaceWord.{PlaceWord}
 use Rattle.sock_words.specs.declared.vref.Vref.{Vref}
 use Rattle.call_places.specs.sock_rule.specs.Closing.{PlacesDiffer}
-use Rattle.sock_programs.specs.declared.task.Task.{Task}
-use Rattle.sock_programs.specs.Cores.{Core}
-use Rattle.sock_programs.specs.Told.{AreTasks}
+use Rattle.seat_programs.specs.declared.task.Task.{Task}
+use Rattle.seat_programs.specs.Cores.{Core}
+use Rattle.seat_programs.specs.Told.{AreTasks}
 use Rattle.corr_core.specs.declared.marks.View as id_view
 use Rattle.sock_message.specs.Asked.{Asked}
 use Rattle.call_places.specs.rpc_client.specs.declared.acting.Told.{Told}

@@ -10,7 +10,7 @@ pub use Rattle.call_places.specs.call_writes
 pub use Rattle.call_places.specs.report_fits
 pub use Rattle.call_places.specs.rpc_client
 pub use Rattle.call_places.specs.rpc_reader
-pub use Rattle.call_places.specs.sock_causes
+pub use Rattle.call_places.specs.outcome_causes
 pub use Rattle.call_places.specs.sock_deeds
 pub use Rattle.call_places.specs.sock_rule
 pub use Rattle.call_places.specs.sock_table

@@ -7,7 +7,7 @@ use Rattle.corr_core.specs.Word.{parts}
 use Rattle.corr_core.specs.Law.{total}
 use Rattle.corr_core.specs.declared.marks.Plan.{Plan}
 use Rattle.corr_core.specs.declared.marks.View.{View}
-use Rattle.corr_id.specs.id_rule.specs.Lawful.{call_word, with_kept}
+use Rattle.corr_id.specs.id_rule.specs.Lawful.{call_index, with_kept}
 use Rattle.sock_message.specs.Asked.{Asked}
 use Rattle.corr_id.specs.declared.posts.Posted.{Posted}
 use Rattle.corr_id.specs.declared.posts.Posted.TheVariants.{Locked as HasLock, Queued as IsQueued, Gone, Stale, Crowded}
@@ -18,12 +18,12 @@ use Rattle.call_errors.specs.Posting.{PostedAs}
 
 -- the operation's word was 0, and the seat knew of no id there
 pub record FoundNone (p : Plan) (operation : ℕ) (s t : CallStand) : Type 0 where
-  pub unknown : total (is_place (call_word p operation)) s.view.kept ≡ 0
+  pub unknown : total (is_place (call_index p operation)) s.view.kept ≡ 0
   pub same : t ≡ s
 
 -- it had this id, which the seat keeps in mind
 abbrev pub found_id : Plan → ℕ → ℕ → CallStand → CallStand
-found_id p operation id s = record { view = with_kept (call_word p operation) false id s.view; books = s.books }
+found_id p operation id s = record { view = with_kept (call_index p operation) false id s.view; books = s.books }
 
 -- the outcome by the answer of the post
 abbrev pub outcome_by : Posted Asked → Outcome

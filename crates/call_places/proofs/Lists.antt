@@ -13,8 +13,8 @@ use Rattle.sock_model.specs.ChainRows.{more}
 use Rattle.call_run.specs.sock_rule.specs.declared.homes.Letter.{Letter}
 use Rattle.call_run.specs.sock_rule.specs.declared.homes.SockHome.{SockHome}
 use Rattle.call_run.specs.sock_table.specs.Named.{Found}
-use Rattle.sock_programs.specs.declared.task.Op.{Op}
-use Rattle.sock_programs.specs.declared.task.Op.TheVariants as ops
+use Rattle.seat_programs.specs.declared.task.Op.{Op}
+use Rattle.seat_programs.specs.declared.task.Op.TheVariants as ops
 use Rattle.corr_core.specs.declared.marks.Plan as id_plan
 use Rattle.sock_deeds.specs.rpc_client.specs.declared.reaching.Reached.TheVariants as reached
 use Rattle.sock_deeds.specs.rpc_client.specs.declared.holding.Held.{Held}

@@ -7,7 +7,7 @@ use lib.ListN.{get_elem?}
 use Rattle.sock_words.specs.declared.plain.Plan.{Plan}
 use Rattle.sock_model.specs.declared.chain.Entry.{Entry}
 use Rattle.sock_model.specs.Authors.{pick}
-use Rattle.chain_laws.proofs.Lists.{at_some, at_length}
+use Rattle.chain_steps.proofs.Lists.{at_some, at_length}
 use Rattle.call_run.specs.sock_rule.specs.Closing.{Ordered, PlacesDiffer}
 use Rattle.corr_core.specs.Law.{total, only}
 use Rattle.corr_core.proofs.Notes.{only-at, only-else, only_le}

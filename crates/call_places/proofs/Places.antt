@@ -22,15 +22,15 @@ use Rattle.sock_model.specs.declared.chain.Heading.{Heading}
 use Rattle.sock_model.specs.declared.view.View as sock_view
 use Rattle.sock_model.specs.Deliveries.{place_value}
 use Rattle.sock_model.specs.Entries.{on}
-use Rattle.sock_model.specs.Layout.{place_word}
-use Rattle.chain_laws.proofs.Lists.{distinct_filter}
+use Rattle.sock_model.specs.Layout.{place_index}
+use Rattle.chain_steps.proofs.Lists.{distinct_filter}
 use Rattle.call_run.specs.sock_rule.specs.Closing.{PlacesDiffer}
 use Rattle.call_run.specs.sock_rule.specs.declared.homes.SockHome.{SockHome}
 use Rattle.sock_deeds.specs.report_fits.proofs.PlaceValues.{is_place}
-use Rattle.sock_programs.specs.declared.task.Op.{Op}
-use Rattle.sock_programs.specs.declared.task.Op.TheVariants as ops
-use Rattle.sock_programs.specs.declared.task.Task.{Task}
-use Rattle.sock_programs.specs.Told.{AreTasks}
+use Rattle.seat_programs.specs.declared.task.Op.{Op}
+use Rattle.seat_programs.specs.declared.task.Op.TheVariants as ops
+use Rattle.seat_programs.specs.declared.task.Task.{Task}
+use Rattle.seat_programs.specs.Told.{AreTasks}
 use Rattle.corr_core.specs.Law.{total}
 use Rattle.corr_core.specs.declared.marks.Kept.{Kept}
 use Rattle.corr_core.specs.declared.marks.Noted.{Noted}
@@ -174,7 +174,7 @@ module _ {O : Type 0} {g : Ghosts O} {state : O → OutState} {p : Plan} {slots 
 
     -- ## The words
 
-    word_here : (n : ℕ) → n < 8 * p.operations → word_at places n ≡ slice_index run.closed.words (place_word p n)
+    word_here : (n : ℕ) → n < 8 * p.operations → word_at places n ≡ slice_index run.closed.words (place_index p n)
     word_here n low = let r = run.closed.placed n low in ap (λ (o : Option PlaceWord). unwrap_or (option_map (λ (word : PlaceWord). word.0) o) no_place) (got places n r.0 r.1) ∙ r.2
 
     word_beyond : (n : ℕ) → 8 * p.operations ≤ n → word_at places n ≡ no_place

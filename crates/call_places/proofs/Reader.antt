@@ -15,7 +15,7 @@ use Rattle.corr_core.specs.declared.marks.Plan.{Plan}
 use Rattle.corr_core.specs.declared.marks.Token.{Token}
 use Rattle.corr_core.specs.declared.marks.Noted.{Noted}
 use Rattle.corr_core.specs.declared.marks.View.{View}
-use Rattle.id_rule.specs.Lawful.{notes_of, at_word, with_kept}
+use Rattle.id_rule.specs.Lawful.{notes_of, at_index, with_kept}
 use Rattle.sock_message.specs.Asked.{Asked}
 use Rattle.corr_id.specs.declared.posts.Posted.{Posted}
 use Rattle.corr_id.specs.declared.posts.Posted.TheVariants.{Locked as HasLock, Queued as IsQueued, Gone, Stale, Crowded}
@@ -107,7 +107,7 @@ module _ (code : ℕ) where
 
   none_posted_at : (p : Plan) (link operation : ℕ) (found : Option AtWord) (b b' : Books) → PostedAt p link code operation found b b' → MadeNone b.view b'.view
   none_posted_at p link operation None b b' h = none_same b b' h
-  none_posted_at p link operation (Some w) b b' h = let v = with_kept (at_word p operation) false w.0 b.view in
+  none_posted_at p link operation (Some w) b b' h = let v = with_kept (at_index p operation) false w.0 b.view in
       none_then b.view v b'.view (none_noted b.view v refl) (none_posted_if (at_word_link w.0 == link) p.slots w.0 (record b { view = v }) b' h)
 
   none_posted : (p : Plan) (link : ℕ) (os : List ℕ) (b b' : Books) → PostedAll p link code os b b' → MadeNone b.view b'.view

@@ -22,7 +22,7 @@ use Rattle.corr_core.specs.declared.marks.Plan as id_plan
 use Rattle.corr_core.specs.declared.marks.Token.{Token}
 use Rattle.corr_core.specs.declared.marks.View.{View}
 use Rattle.corr_core.proofs.Notes.{only-else, pair-at, pair-else, pair-else_first}
-use Rattle.id_rule.specs.Lawful.{notes_of, call_word, with_kept}
+use Rattle.id_rule.specs.Lawful.{notes_of, call_index, with_kept}
 use Rattle.sock_message.specs.Asked.{Asked}
 use Rattle.corr_id.specs.declared.calls.IdLock.{IdLock}
 use Rattle.corr_id.specs.declared.posts.Posted.{Posted}
@@ -242,7 +242,7 @@ kept_still s place own word t e b = noted_same s t (ap (λ (y : Books). y.retrie
 
 timed_out_still : (q : id_plan.Plan) (operation : ℕ) (by : Outcome) (s t : CallStand) → TimedOut q operation by s t → Still s t
 timed_out_still q operation by s t h = let u = found_id q operation h.id s in
-    still_then s u t (kept_still s (call_word q operation) false h.id u refl refl) (posted_still q.slots u h.id ERPCTIMEDOUT None t (h.answer, h.posted))
+    still_then s u t (kept_still s (call_index q operation) false h.id u refl refl) (posted_still q.slots u h.id ERPCTIMEDOUT None t (h.answer, h.posted))
 
 pub expired_still : (q : id_plan.Plan) (operation : ℕ) (by : Outcome) (s t : CallStand) → ExpiredBy q operation by s t → Still s t
 expired_still q operation outcome.NotBegun s t h = still_same s t h.same
@@ -255,7 +255,7 @@ expired_still q operation _ s t h = elim h [ ]
 pub joined_still : (q : id_plan.Plan) (operation : ℕ) (by : Outcome) (s t : CallStand) → JoinedBy q operation by s t → Still s t
 joined_still q operation outcome.NotBegun s t h = still_same s t h.same
 joined_still q operation outcome.Joined s t h = let u = found_id q operation h.id s in let x : CallStand = record { view = h.view; books = s.books } in
-    still_then s u t (kept_still s (call_word q operation) false h.id u refl refl) (still_then u x t (quiet_still u x refl h.quiet) (still_same x t h.after))
+    still_then s u t (kept_still s (call_index q operation) false h.id u refl refl) (still_then u x t (quiet_still u x refl h.quiet) (still_same x t h.after))
 joined_still q operation _ s t h = elim h [ ]
 
 -- ## Messages

@@ -9,7 +9,7 @@ pub use Rattle.call_run.specs.call_writes
 pub use Rattle.sock_deeds.specs.report_fits
 pub use Rattle.sock_deeds.specs.rpc_client
 pub use Rattle.call_run.specs.rpc_reader
-pub use Rattle.sock_deeds.specs.sock_causes
+pub use Rattle.sock_deeds.specs.outcome_causes
 pub use Rattle.sock_deeds
 pub use Rattle.call_run.specs.sock_rule
 pub use Rattle.call_run.specs.sock_table

@@ -1,5 +1,5 @@
 ghost use Rattle.std.specs.Prelude.{◌≡◌};
-ghost use Rattle.id_points.specs.sock_programs.specs.Asides.{kind_aside};
+ghost use Rattle.id_points.specs.seat_programs.specs.Asides.{kind_aside};
 ghost use Rattle.id_points.specs.sock_message.specs.Asked.{Asked};
 ghost use Rattle.call_points.specs.Steps.{step_of};
 

@@ -6,7 +6,7 @@ use Rattle.sock_words.specs.declared.outcome.Outcome.{Outcome}
 use Rattle.sock_words.specs.declared.outcome.Outcome.TheVariants.{Opened, SlotsFull, Unopened, Gone, Full, Placed, Answered, Peer, CallFailed, Held, Freed, Kept, NotHeld, Failed, Already, Expired, Queued, Late, Crowded, Joined, NotBegun}
 use Rattle.brpc_model.specs.Items.{Item}
 use Rattle.brpc_model.specs.Script.{script_of}
-use Rattle.sock_programs.specs.Cores.{Core}
+use Rattle.seat_programs.specs.Cores.{Core}
 use Rattle.call_rows.specs.Driven.{trace_of, final_from, told_of}
 
 abbrev got : {A B : Type 0} → A → Result A B → A

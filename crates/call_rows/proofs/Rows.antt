@@ -6,10 +6,10 @@ use Rattle.sock_words.specs.declared.outcome.Outcome.{Outcome}
 use Rattle.sock_words.specs.declared.outcome.Outcome.TheVariants.{Opened, Placed, Answered, CallFailed, Expired, Queued, Crowded, Joined, Peer, Failed, Full}
 use Rattle.brpc_model.specs.Items.{Item}
 use Rattle.brpc_model.specs.Script.{script_of}
-use Rattle.sock_model.specs.Layout.{place_word}
-use Rattle.sock_programs.specs.Tasks.{plan_of}
-use Rattle.sock_programs.specs.Runs.{from_to}
-use Rattle.sock_programs.specs.Cores.{Core}
+use Rattle.sock_model.specs.Layout.{place_index}
+use Rattle.seat_programs.specs.Tasks.{plan_of}
+use Rattle.seat_programs.specs.Runs.{from_to}
+use Rattle.seat_programs.specs.Cores.{Core}
 use Rattle.call_rows.specs.Driven.{final}
 
 abbrev got : {A B : Type 0} → A → Result A B → A

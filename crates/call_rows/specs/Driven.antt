@@ -16,16 +16,16 @@ use Rattle.brpc_model.specs.Stream as streams
 use Rattle.brpc_model.specs.Reply.{reply_frames}
 use Rattle.brpc_model.specs.Served.{given_for}
 use Rattle.brpc_model.specs.Operations.{Turn, Ticks, Until, clients, schedule, link_names, link_shapes}
-use Rattle.sock_programs.specs.Writings as heads
-use Rattle.sock_programs.specs.Asides.{Taking, Bytes, Nothing, AtEnd, Closed, TakeBytes}
-use Rattle.sock_programs.specs.Heads.{Reads, Discards}
-use Rattle.sock_programs.specs.Readers.{room_of}
-use Rattle.sock_programs.specs.Programs.{Program, PutBytes, AskReady, Write, Aside, Round}
-use Rattle.sock_programs.specs.Cores.{Core, SeatState, link_place}
-use Rattle.sock_programs.specs.Ticks.{Answer, Unasked, OfPut, OfReady, OfTake, Moment, ticked, waits}
-use Rattle.sock_programs.specs.Runs.{from_to, next_kind}
-use Rattle.sock_programs.specs.Tasks.{plan_of}
-use Rattle.sock_programs.specs.Scripts.{opened, ending, is_ending}
+use Rattle.seat_programs.specs.Writings as heads
+use Rattle.seat_programs.specs.Asides.{Taking, Bytes, Nothing, AtEnd, Closed, TakeBytes}
+use Rattle.seat_programs.specs.Heads.{Reads, Discards}
+use Rattle.seat_programs.specs.Readers.{room_of}
+use Rattle.seat_programs.specs.Programs.{Program, PutBytes, AskReady, Write, Aside, Round}
+use Rattle.seat_programs.specs.Cores.{Core, SeatState, link_place}
+use Rattle.seat_programs.specs.Ticks.{Answer, Unasked, OfPut, OfReady, OfTake, Moment, ticked, waits}
+use Rattle.seat_programs.specs.Runs.{from_to, next_kind}
+use Rattle.seat_programs.specs.Tasks.{plan_of}
+use Rattle.seat_programs.specs.Scripts.{opened, ending, is_ending}
 
 -- how often each link was put to, and whether it answered the last time that it takes no more yet
 pub record Puts : Type 0 where

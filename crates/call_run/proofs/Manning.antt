@@ -16,7 +16,7 @@ use Rattle.corr_core.specs.declared.marks.Plan as id_plan
 use Rattle.corr_core.specs.declared.marks.View as id_view
 use Rattle.corr_id.specs.Opening.{AreNew}
 use Rattle.sock_message.specs.Asked.{Asked}
-use Rattle.sock_programs.specs.declared.task.Task.{Task}
+use Rattle.seat_programs.specs.declared.task.Task.{Task}
 use Rattle.call_client.specs.rpc_client.specs.declared.acting.Told.{Told}
 use Rattle.call_client.specs.Running.{MayMakeAll}
 use Rattle.call_run.specs.declared.opened.Opening.{Opening}

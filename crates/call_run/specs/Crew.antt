@@ -16,7 +16,7 @@ use Rattle.corr_core.specs.Law.{Each, total}
 use Rattle.corr_core.specs.declared.marks.Plan as id_plan
 use Rattle.corr_core.specs.declared.marks.View as id_view
 use Rattle.sock_message.specs.Asked.{Asked}
-use Rattle.sock_programs.specs.declared.task.Task.{Task}
+use Rattle.seat_programs.specs.declared.task.Task.{Task}
 use Rattle.rpc_reader.specs.Seats.{IsOpen}
 use Rattle.call_run.specs.declared.hiring.Room.{Room}
 use Rattle.call_run.specs.declared.worker.Worker.{Worker}

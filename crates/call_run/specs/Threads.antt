@@ -15,9 +15,9 @@ use Rattle.corr_core.specs.declared.marks.Plan as id_plan
 use Rattle.corr_core.specs.declared.marks.View as id_view
 use Rattle.id_rule.specs.Lawful.{newcomer as id_newcomer}
 use Rattle.sock_message.specs.Asked.{Asked}
-use Rattle.sock_programs.specs.declared.task.Op.{Op}
-use Rattle.sock_programs.specs.declared.task.Op.TheVariants as ops
-use Rattle.sock_programs.specs.declared.task.Task.{Task}
+use Rattle.seat_programs.specs.declared.task.Op.{Op}
+use Rattle.seat_programs.specs.declared.task.Op.TheVariants as ops
+use Rattle.seat_programs.specs.declared.task.Task.{Task}
 use Rattle.sock_rule.specs.declared.homes.SockHome.{SockHome}
 use Rattle.sock_table.specs.declared.passes.LinkPass.{LinkPass}
 use Rattle.sock_table.specs.Closed.{ClosedBy}

@@ -4,7 +4,7 @@ ghost use Rattle.sock_open.specs.Opening.{IsRoom};
 ghost use Rattle.call_run.specs.Threads.{opens_in, opens_of, is_opened, opened_in, opening_in, openings, name_if, opened_names};
 
 use call_client::Told;
-use sock_programs::{Op, Task};
+use seat_programs::{Op, Task};
 use sock_words::Outcome;
 use std::alloc::{AllocError, Global};
 use std::collections::VecDeque;

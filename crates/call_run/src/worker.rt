@@ -4,8 +4,8 @@ ghost use Rattle.call_run.specs.Working.{IsReady, HasWorked};
 
 use crate::waiting::wait_all;
 use call_client::{Caller, Tables};
+use seat_programs::Task;
 use sock_io::{Gate, Out};
-use sock_programs::Task;
 use std::collections::VecDeque;
 use std::sync::Wait;
 use std::thread::Threads;

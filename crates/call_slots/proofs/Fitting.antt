@@ -10,15 +10,15 @@ use Rattle.corr_core.specs.declared.marks.Plan.{Plan as IdPlan}
 use Rattle.corr_core.specs.declared.marks.Hand.TheVariants.{Empty}
 use Rattle.corr_core.specs.declared.marks.Token.TheVariants.{Locked}
 use Rattle.corr_core.proofs.Slots.{is_lock}
-use Rattle.id_rule.specs.Lawful.{id_word, local}
+use Rattle.id_rule.specs.Lawful.{id_index, local}
 use Rattle.id_rule.proofs.Allowed as allowed
 use Rattle.sock_message.specs.Asked.{Asked}
-use Rattle.sock_programs.specs.Asides.{Step, PutCall, TakeCall}
-use Rattle.sock_programs.specs.Programs.{Program, Do, Say, Sent, Rest, TakeMessage, TakeHome, PutHome, PutBytes, AskReady, Write, Aside, Round, Keep, Retries}
-use Rattle.sock_programs.specs.Posts.{advance_of}
-use Rattle.sock_programs.specs.Rounds.{round}
-use Rattle.sock_programs.specs.Heads.{Retry}
-use Rattle.sock_programs.specs.Cores.{Calls, Core, SeatState}
+use Rattle.seat_programs.specs.Asides.{Step, PutCall, TakeCall}
+use Rattle.seat_programs.specs.Programs.{Program, Do, Say, Sent, Rest, TakeMessage, TakeHome, PutHome, PutBytes, AskReady, Write, Aside, Round, Keep, Retries}
+use Rattle.seat_programs.specs.Posts.{advance_of}
+use Rattle.seat_programs.specs.Rounds.{round}
+use Rattle.seat_programs.specs.Heads.{Retry}
+use Rattle.seat_programs.specs.Cores.{Calls, Core, SeatState}
 use Rattle.id_runs.specs.Held.{IdView, id_state, HasOne, MayId}
 use Rattle.id_runs.specs.Goes.{IdGoesOn, SoundIds}
 use Rattle.id_runs.proofs.Loops.{ids_round}
@@ -119,7 +119,7 @@ room_of false att rg h e = let z : false ≡ true = e in absurd (cc)
 
 module _ (p : Plan) (q : IdPlan) (c : Core) (us : List IdView) (sound : SoundIds p q c us) (k : ℕ) (u : IdView) (at : get_elem? us k ≡ core.some u) where
   -- a range that its seat ends began low enough
-  ends_low : (i : ℕ) → i < q.slots → (f rg att o s : ℕ) (asked : Asked) → HasOne i (Locked f rg att asked o s Empty) u → (parts (get_or c.calls.words (id_word i) 0)).first ≤ LAST
+  ends_low : (i : ℕ) → i < q.slots → (f rg att o s : ℕ) (asked : Asked) → HasOne i (Locked f rg att asked o s Empty) u → (parts (get_or c.calls.words (id_index i) 0)).first ≤ LAST
   ends_low i inside f rg att o s asked has =
       let state = id_state c.calls us in
       (is_lock (local state i) (sound.rule.slots i inside) f rg att asked o s Empty (allowed.own q k (u, []) i inside (sound.real k u at) state sound.rule at (Locked f rg att asked o s Empty) has)).live.low

@@ -4,11 +4,11 @@ use mathlib.Core.Option as core
 use lib.ListN.{get_elem?}
 use Rattle.std.proofs.lemmas.List.{set-get_or}
 use Rattle.corr_core.specs.declared.marks.Plan.{Plan}
-use Rattle.id_rule.specs.Lawful.{tag_word, all_words}
+use Rattle.id_rule.specs.Lawful.{tag_index, all_words}
 use Rattle.sock_message.specs.Asked.{Asked}
-use Rattle.sock_programs.specs.Asides as asides
-use Rattle.sock_programs.specs.Beside.{call_at}
-use Rattle.sock_programs.specs.Heads.{Retry}
+use Rattle.seat_programs.specs.Asides as asides
+use Rattle.seat_programs.specs.Beside.{call_at}
+use Rattle.seat_programs.specs.Heads.{Retry}
 use Rattle.call_points.specs.declared.aside.Aside as code
 use Rattle.call_points.specs.declared.aside.Aside.TheVariants.{ClaimId, PutCall, MakeId, StoreCall, LoadCall, StoreAt, LoadAt, LoadIdWord, LockId, PostId, UnlockId, EndId, FreeId, TakeCall, TakeBytes}
 use Rattle.call_points.specs.Steps.{step_of}
@@ -87,7 +87,7 @@ module _ (p : Plan) (ws : List ℕ) (hs : List (Option Asked)) (i : ℕ) where
   abbrev AtHome : List (core.Option (Option Asked)) → SlotState
   AtHome homes = record { plan = p; words = ws; homes = homes }
 
-  pub puts : (asked : Asked) → Makes (slots_of p ws hs) (asides.PutCall i asked) (core.some (get_or ws (tag_word i) 0)) (slots_of p ws (set hs i (Some asked)))
+  pub puts : (asked : Asked) → Makes (slots_of p ws hs) (asides.PutCall i asked) (core.some (get_or ws (tag_index i) 0)) (slots_of p ws (set hs i (Some asked)))
   puts asked = record {
     finds = λ w g e t. refl;
     changes = λ w g e. ap (λ homes. calls_with (AtHome homes) w g e) (map_set core.some hs i (Some asked));

@@ -1,6 +1,6 @@
 -- The words and homes of slots that were never used.
 use Rattle.std.proofs.Common.{◌≡◌, ℕ, zero, suc, ◌+◌, ◌*◌, length, map, replicate, List, ◌∷◌, ◌++◌, refl, ap, ◌∙◌, append_assoc, arith}
-use Rattle.sock_programs.specs.Scripts.{opening_ids}
+use Rattle.seat_programs.specs.Scripts.{opening_ids}
 
 last_slot : (n : ℕ) → opening_ids n ++ opening_ids 1 ≡ opening_ids (n + 1)
 last_slot zero = refl

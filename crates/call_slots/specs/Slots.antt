@@ -4,8 +4,8 @@ use Rattle.std.specs.Prelude as std
 use mathlib.Core.Option.{Option, some, none}
 use Rattle.corr_core.specs.declared.marks.Plan.{Plan}
 use Rattle.sock_message.specs.Asked.{Asked}
-use Rattle.sock_programs.specs.Heads.{Retry}
-use Rattle.sock_programs.specs.Cores.{Calls}
+use Rattle.seat_programs.specs.Heads.{Retry}
+use Rattle.seat_programs.specs.Cores.{Calls}
 
 pub record SlotState : Type 0 where
   pub plan : Plan

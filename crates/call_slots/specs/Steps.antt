@@ -1,11 +1,11 @@
 -- What a step makes of the ids and calls of a machine, and which steps fit them.
 use Rattle.std.specs.Prelude.{ℕ, ◌≡◌, Bool, List, slice_index}
 use mathlib.Core.Option.{Option, some, none}
-use Rattle.sock_programs.specs.Heads.{Retry}
-use Rattle.sock_programs.specs.Cores.{Calls}
-use Rattle.sock_programs.specs.Asides as asides
-use Rattle.sock_programs.specs.Asides.{Step, Found, Taking}
-use Rattle.sock_programs.specs.Beside.{found_in, calls_after}
+use Rattle.seat_programs.specs.Heads.{Retry}
+use Rattle.seat_programs.specs.Cores.{Calls}
+use Rattle.seat_programs.specs.Asides as asides
+use Rattle.seat_programs.specs.Asides.{Step, Found, Taking}
+use Rattle.seat_programs.specs.Beside.{found_in, calls_after}
 use Rattle.call_points.specs.declared.aside.Aside.{Aside}
 use Rattle.call_slots.specs.Slots.{SlotState, calls_with}
 use Rattle.call_slots.specs.Words.{place_of, IsWithin, WordFits}

@@ -35,9 +35,9 @@ impl CallSlots {
     ghost use Rattle.std.specs.Option.{option_copied};
     ghost use lib.ListN.{get_elem?};
     ghost use Rattle.sock_message.specs.Asked.{Asked};
-    ghost use Rattle.sock_programs.specs.Asides.{PutCall, TakeCall};
-    ghost use Rattle.sock_programs.specs.Beside.{call_at};
-    ghost use Rattle.sock_programs.specs.Scripts.{opening_calls};
+    ghost use Rattle.seat_programs.specs.Asides.{PutCall, TakeCall};
+    ghost use Rattle.seat_programs.specs.Beside.{call_at};
+    ghost use Rattle.seat_programs.specs.Scripts.{opening_calls};
     ghost use Rattle.call_points.specs.Steps.{step_of};
     ghost use Rattle.call_slots.specs.Slots.{calls_with, as_found};
     ghost use Rattle.call_slots.specs.Steps.{Makes, StepFits, word_found};

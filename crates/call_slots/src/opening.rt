@@ -1,5 +1,5 @@
 ghost use Rattle.std.specs.Prelude.{◌≡◌, ◌*◌, ◌++◌, replicate, None, IfOk, OnOk};
-ghost use Rattle.sock_programs.specs.Scripts.{opening_ids};
+ghost use Rattle.seat_programs.specs.Scripts.{opening_ids};
 
 use corr_core::Plan;
 use sock_message::Call;

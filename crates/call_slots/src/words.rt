@@ -1,7 +1,7 @@
 ghost use Rattle.std.specs.Prelude.{◌≡◌, ◌≢◌, ◌+◌, ◌<◌, ◌≤◌, IsTrue, length, slice_index, slice_set};
 ghost use Rattle.corr_core.specs.Word.{parts, made_word, posted_word, unlocked_word, free_word};
-ghost use Rattle.sock_programs.specs.Posts.{packed, advance_of};
-ghost use Rattle.id_rule.specs.Lawful.{tag_word, call_word};
+ghost use Rattle.seat_programs.specs.Posts.{packed, advance_of};
+ghost use Rattle.id_rule.specs.Lawful.{tag_index, call_index};
 ghost use Rattle.call_slots.specs.Words.{place_of, next_of, left_by, IsWithin, WordFits};
 
 use call_points::Aside;
@@ -10,14 +10,14 @@ use sock_words::IdWord;
 
 /// The place of the tag of a slot.
 pub fn tag_place(slot: u16) -> usize
-    ensures { result ≡ tag_word slot }
+    ensures { result ≡ tag_index slot }
 {
     2 * usize::from(slot)
 }
 
 /// The place of the word of an operation's call.
 fn call_place(plan: Plan, operation: u16) -> usize
-    ensures { result ≡ call_word plan operation }
+    ensures { result ≡ call_index plan operation }
 {
     2 * usize::from(plan.slots) + 2 * usize::from(operation)
 }

@@ -10,15 +10,15 @@ use Rattle.sock_io.specs.declared.link.Out.{Ghosts}
 use Rattle.sock_io.specs.Link.{OutState}
 use Rattle.sock_words.specs.declared.plain.Plan.{Plan}
 use Rattle.sock_words.specs.declared.outcome.Outcome.{Outcome}
-use Rattle.sock_programs.specs.declared.task.Op.{Op}
-use Rattle.sock_programs.specs.declared.task.Op.TheVariants as ops
-use Rattle.sock_programs.specs.declared.task.Task.{Task}
+use Rattle.seat_programs.specs.declared.task.Op.{Op}
+use Rattle.seat_programs.specs.declared.task.Op.TheVariants as ops
+use Rattle.seat_programs.specs.declared.task.Task.{Task}
 use Rattle.corr_core.specs.Law.{total}
 use Rattle.corr_core.specs.declared.marks.Note.TheVariants.{Made as made_note}
 use Rattle.corr_core.specs.declared.marks.Plan as id_plan
 use Rattle.corr_core.specs.declared.marks.View.{View}
 use Rattle.corr_core.proofs.Notes.{pair-same, at_length}
-use Rattle.id_rule.specs.Lawful.{call_word, notes_of, is_stored}
+use Rattle.id_rule.specs.Lawful.{call_index, notes_of, is_stored}
 use Rattle.sock_message.specs.Asked.{Asked}
 use Rattle.corr_id.specs.Calls.{slot_of, version_of, one}
 use Rattle.call_deeds.specs.rpc_client.specs.declared.acting.Told.{Told}
@@ -58,7 +58,7 @@ module _ (q : id_plan.Plan) where
   begun_later x n operation id v w g h = record {
     inside = h.inside;
     made = (let a = g.notes (slot_of id) (is_made_for (version_of id) operation) in let b = h.made in omega arith);
-    stored = (let a = g.kept (is_stored (call_word q operation) id) in let b = h.stored in omega arith);
+    stored = (let a = g.kept (is_stored (call_index q operation) id) in let b = h.stored in omega arith);
   }
 
   come_later : (y n : ℕ) (x : Task) (told more : List Told) (v w : View Asked) → Grows y n v w → HasCome q x told v → HasCome q x (told ++ more) w
@@ -79,9 +79,9 @@ module _ (q : id_plan.Plan) where
         let notes = did_total (is_made_for f o) (made_silent f o) slot s.calls.view m.view _ (one slot (made_note f asked.range asked)) m.made.did slot in
         let here = counted_here (is_made_for f o) slot (made_note f asked.range asked) in let one_ = pair-same f o in
         let noted = ap (λ (y : View Asked). total (is_made_for f o) (notes_of slot y.notes)) m.noted in
-        let kept = ap (λ (y : View Asked). total (is_stored (call_word q o) id) y.kept) m.noted in let here' = pair-same (call_word q o) id in
+        let kept = ap (λ (y : View Asked). total (is_stored (call_index q o) id) y.kept) m.noted in let here' = pair-same (call_index q o) id in
         let begun : HasBegun q o id u = record { inside = m.made.inside; made = omega arith; stored = omega arith } in
-        begun_later (call_word q 0) 0 o id u t.calls.view (attempted_by q 0 state p h.socket _ h.at t h.attempted).grows begun
+        begun_later (call_index q 0) 0 o id u t.calls.view (attempted_by q 0 state p h.socket _ h.at t h.attempted).grows begun
 
     module _ {g : Ghosts O} where
       acted_come : (x : Task) (op : Op) → x.op ≡ op → (by : Maybe Outcome) (s t : Stand g) (old new : List Told) → Acted state p q x.number op by s t → new ≡ old ++ telling x.number by → HasCome q x new t.calls.view
@@ -103,7 +103,7 @@ module _ (q : id_plan.Plan) where
       ran_come xs fits (suc n) s t h j x less at = dite (ℕ_discrete j n)
           (λ e. let same : h.1 ≡ x = some-injective h.1 x (sym h.3 ∙ (ap (get_elem? xs) (sym e) ∙ at)) in subst (λ (y : Task). HasCome q y t.told t.has.calls.view) same (one_come h.1 h.0 t h.4))
           (λ ne. let c = ran_come xs fits n s h.0 h.2 j x (omega arith) at in let m = made_moves q 0 state p h.1 h.0 t (all_at Fits xs n h.1 fits h.3) h.4 in
-          subst (λ (l : List Told). HasCome q x l t.has.calls.view) (sym h.4.told) (come_later (call_word q 0) _ x h.0.told (telling h.1.number h.4.by) h.0.has.calls.view t.has.calls.view m.grows c))
+          subst (λ (l : List Told). HasCome q x l t.has.calls.view) (sym h.4.told) (come_later (call_index q 0) _ x h.0.told (telling h.1.number h.4.by) h.0.has.calls.view t.has.calls.view m.grows c))
 
       -- of a client that made all its operations
       pub run_come : (xs : List Task) (c d : Caller O g) → AllByRecursion Fits xs → RunBy state p q false xs c d → (j : ℕ) (x : Task) → get_elem? xs j ≡ some x → HasCome q x d.outcomes.items d.calls.seat.me.0
@@ -111,4 +111,4 @@ module _ (q : id_plan.Plan) where
           let made = let n = at_length xs j x at in let e = r.ends.0 in ran_come xs fits r.made (begins c) (record { has = stand r.came; told = r.came.outcomes.items; names = r.ran.names }) r.ran.ran j x (omega arith) at in
           let g' = (end_moves q 0 state p xs c d r).grows in
           subst (λ (l : List Told). HasCome q x l d.calls.seat.me.0) (append-nil r.came.outcomes.items ∙ sym (ap (λ o. o.items) r.told))
-          (come_later (call_word q 0) 0 x r.came.outcomes.items [] r.came.calls.seat.me.0 d.calls.seat.me.0 g' made)
+          (come_later (call_index q 0) 0 x r.came.outcomes.items [] r.came.calls.seat.me.0 d.calls.seat.me.0 g' made)

@@ -9,7 +9,7 @@ use Rattle.sock_words.specs.declared.outcome.Outcome.TheVariants.{CallFailed}
 use Rattle.corr_core.specs.Word.{Parts, parts}
 use Rattle.corr_core.specs.declared.marks.Plan.{Plan}
 use Rattle.corr_core.specs.declared.marks.View.{View}
-use Rattle.id_rule.specs.Lawful.{at_word, with_kept}
+use Rattle.id_rule.specs.Lawful.{at_index, with_kept}
 use Rattle.corr_id.specs.declared.posts.Posted.{Posted}
 use Rattle.corr_id.specs.declared.posts.Posted.TheVariants.{Locked as HasLock, Queued as IsQueued, Gone, Stale, Crowded}
 use Rattle.corr_id.specs.Calls.{GotLock, slot_of}
@@ -146,7 +146,7 @@ module _ (p : Plan) (links : ℕ) (gave : ℕ → List ℕ) where
     posted_at : (link operation : ℕ) (found : Option AtWord) (b b' : Books) → PostedAt p link code operation found b b' → Step b b'
     posted_at link operation None b b' h = step_same b b' h
     posted_at link operation (Some w) b b' h =
-        let v = with_kept (at_word p operation) false w.0 b.view in
+        let v = with_kept (at_index p operation) false w.0 b.view in
         let u : Books = record b { view = v } in
         step_then b u b' (step_seen b v (later_same b.view v refl)) (posted_if (at_word_link w.0 == link) w.0 u b' h)
 

@@ -16,7 +16,7 @@ use Rattle.corr_core.specs.declared.marks.Noted.{Noted}
 use Rattle.corr_core.specs.declared.marks.Plan.{Plan}
 use Rattle.corr_core.specs.declared.marks.View.{View}
 use Rattle.corr_core.proofs.Notes.{only-else, only_le, pair-at, pair-else, pair-else_first, pair_le, total_some, total_mono}
-use Rattle.id_rule.specs.Lawful.{call_word, notes_of, is_stored}
+use Rattle.id_rule.specs.Lawful.{call_index, notes_of, is_stored}
 use Rattle.sock_message.specs.Asked.{Asked}
 use Rattle.corr_id.specs.Calls.{slot_of, version_of}
 use Rattle.corr_id.specs.Closing.{Closing}
@@ -219,7 +219,7 @@ module _ {O I P : Type 0} (out : O → OutState) (inn : I → InState) (q : Plan
     -- a call that a client began
     module _ (k : ℕ) (v : View Asked) (operation id : ℕ) (at : get_elem? seats k ≡ some v) (begun : HasBegun q operation id v) where
       abbrev place : ℕ
-      place = call_word q operation
+      place = call_index q operation
 
       made : 0 < total (is_made_for (version_of id) operation) (notes_of (slot_of id) b.view.notes)
       made = let a = all_notes (slot_of id) (is_made_for (version_of id) operation) seats k v at in let c = begun.made in
@@ -274,5 +274,5 @@ module _ {O I P : Type 0} (out : O → OutState) (inn : I → InState) (q : Plan
             )
 
     -- so of all that began, if they are among the calls that were asked for, and no two ids were stored for one of them
-    pub told_all : ((operation : ℕ) → total (λ (w : View Asked). total (own_at (call_word q operation)) w.kept) seats ≤ 1) → ((k : ℕ) (v : View Asked) (operation id : ℕ) → get_elem? seats k ≡ some v → HasBegun q operation id v → (j : ℕ) × (slice_get calls j ≡ Some operation)) → ToldLeast q seats tellers
+    pub told_all : ((operation : ℕ) → total (λ (w : View Asked). total (own_at (call_index q operation)) w.kept) seats ≤ 1) → ((k : ℕ) (v : View Asked) (operation id : ℕ) → get_elem? seats k ≡ some v → HasBegun q operation id v → (j : ℕ) × (slice_get calls j ≡ Some operation)) → ToldLeast q seats tellers
     told_all few listed k v operation id at begun = let l = listed k v operation id at begun in told_least k v operation id at begun (few operation) l.0 l.1

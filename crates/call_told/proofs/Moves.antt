@@ -17,9 +17,9 @@ use Rattle.sock_words.specs.declared.outcome.Outcome.TheVariants as outcome
 use Rattle.sock_model.specs.declared.view.View as sock_view
 use Rattle.call_deeds.specs.sock_rule.specs.declared.homes.Letter.{Letter}
 use Rattle.call_deeds.specs.sock_table.specs.declared.refs.SockRef.{SockRef}
-use Rattle.sock_programs.specs.declared.task.Op.{Op}
-use Rattle.sock_programs.specs.declared.task.Op.TheVariants as ops
-use Rattle.sock_programs.specs.declared.task.Task.{Task}
+use Rattle.seat_programs.specs.declared.task.Op.{Op}
+use Rattle.seat_programs.specs.declared.task.Op.TheVariants as ops
+use Rattle.seat_programs.specs.declared.task.Task.{Task}
 use Rattle.call_deeds.specs.write_chain.specs.declared.right.Undelivered.{Undelivered}
 use Rattle.corr_core.specs.Word.{Parts, parts}
 use Rattle.corr_core.specs.Law.{total, only}
@@ -28,7 +28,7 @@ use Rattle.corr_core.specs.declared.marks.Note.TheVariants.{Ended}
 use Rattle.corr_core.specs.declared.marks.Plan as id_plan
 use Rattle.corr_core.specs.declared.marks.View.{View}
 use Rattle.corr_core.proofs.Notes.{only-at, only-else}
-use Rattle.id_rule.specs.Lawful.{at_word, call_word, notes_of}
+use Rattle.id_rule.specs.Lawful.{at_index, call_index, notes_of}
 use Rattle.sock_message.specs.Asked.{Asked}
 use Rattle.corr_id.specs.declared.calls.IdLock.{IdLock}
 use Rattle.corr_id.specs.declared.posts.Posted.{Posted}
@@ -68,14 +68,14 @@ next_locked k l v w grows slot first content h =
     let b = grows k.slot (is_locked_for (parts k.word.0).first k.content.operation) in omega arith
 
 -- the word of an operation's call is none that tells of its attempts
-at_no_call : (q : id_plan.Plan) (o n : ℕ) → only (call_word q o) (at_word q n) ≤ 0
-at_no_call q o n = let e = only-else (call_word q o) (at_word q n) (λ (h : at_word q n ≡ call_word q o). omega arith) in omega arith
+at_no_call : (q : id_plan.Plan) (o n : ℕ) → only (call_index q o) (at_index q n) ≤ 0
+at_no_call q o n = let e = only-else (call_index q o) (at_index q n) (λ (h : at_index q n ≡ call_index q o). omega arith) in omega arith
 
 -- and another one for each operation
-call_of_one : (q : id_plan.Plan) (o n : ℕ) → only (call_word q o) (call_word q n) ≤ only o n
+call_of_one : (q : id_plan.Plan) (o n : ℕ) → only (call_index q o) (call_index q n) ≤ only o n
 call_of_one q o n = dite (ℕ_discrete n o)
-    (λ e. let a = only-at o n e in let b = only-at (call_word q o) (call_word q n) (ap (call_word q) e) in omega arith)
-    (λ ne. let b = only-else (call_word q o) (call_word q n) (λ (h : call_word q n ≡ call_word q o). ne (omega arith)) in omega arith)
+    (λ e. let a = only-at o n e in let b = only-at (call_index q o) (call_index q n) (ap (call_index q) e) in omega arith)
+    (λ ne. let b = only-else (call_index q o) (call_index q n) (λ (h : call_index q n ≡ call_index q o). ne (omega arith)) in omega arith)
 
 -- the call that a task asks for is its own operation
 abbrev pub Fits : Task → Type 0
@@ -88,11 +88,11 @@ is_task operation x = only operation x.number
 module _ (q : id_plan.Plan) (operation : ℕ) where
   -- so many ids more are stored for this operation at most
   pub record Moves (n : ℕ) (s t : CallStand) : Type 0 where
-    pub grows : Grows (call_word q operation) n s.view t.view
+    pub grows : Grows (call_index q operation) n s.view t.view
     pub ends : AreEndsIn q.slots s.view s.books.told → AreEndsIn q.slots t.view t.books.told
 
   abbrev place : ℕ
-  place = call_word q operation
+  place = call_index q operation
 
   moves_then : (m n k : ℕ) (s u t : CallStand) → m + n ≤ k → Moves m s u → Moves n u t → Moves k s t
   moves_then m n k s u t le a b = record { grows = grows_then place m n k s.view u.view t.view le a.grows b.grows; ends = λ h. b.ends (a.ends h) }
@@ -164,7 +164,7 @@ module _ (q : id_plan.Plan) (operation : ℕ) where
 
   -- an id was found noted
   seen_id : (number id : ℕ) (s : CallStand) → Moves 0 s (found_id q number id s)
-  seen_id number id s = let u = found_id q number id s in moves_seen 0 s u (kept_grows place 0 s.view u.view (call_word q number) false id refl (omega arith)) refl
+  seen_id number id s = let u = found_id q number id s in moves_seen 0 s u (kept_grows place 0 s.view u.view (call_index q number) false id refl (omega arith)) refl
 
   timed_out : (number : ℕ) (by : Outcome) (s t : CallStand) → TimedOut q number by s t → Moves 0 s t
   timed_out number by s t h = let u = found_id q number h.id s in in_turn s u t (seen_id number h.id s) (posted u h.id ERPCTIMEDOUT None t (h.answer, h.posted))
@@ -220,13 +220,13 @@ module _ (q : id_plan.Plan) (operation : ℕ) where
     pub attempted_by : (socket : SocketId) (msg : Letter) (s t : Both) → AttemptedBy state p q socket msg s t → Moves 0 s.calls t.calls
     attempted_by socket msg s t (nowhere g) = posted s.calls msg.owner EFAILEDSOCKET (Some msg.label.attempt) t.calls g.posted
     attempted_by socket msg s t (over_link u l d) = in_turn s.calls u.calls t.calls
-        (moves_seen 0 s.calls u.calls (kept_grows place 0 s.calls.view u.calls.view (at_word q msg.label.operation) true _ l.stored (at_no_call q operation msg.label.operation)) (ap (λ (y : Books). y.told) l.books)) (delivered_by socket msg u t d)
+        (moves_seen 0 s.calls u.calls (kept_grows place 0 s.calls.view u.calls.view (at_index q msg.label.operation) true _ l.stored (at_no_call q operation msg.label.operation)) (ap (λ (y : Books). y.told) l.books)) (delivered_by socket msg u t d)
 
     made_for : (asked : Asked) (id : ℕ) (socket : SocketId) (s t : Both) → MadeFor state p q asked id socket s t → Moves (only operation asked.operation) s.calls t.calls
     made_for asked id socket s t m =
         let n = only operation asked.operation in let u : CallStand = record { view = m.view; books = s.calls.books } in
         moves_then 0 n n s.calls u t.calls (omega arith) (moves_seen 0 s.calls u (did_grows place (slot_of id) s.calls.view m.view _ _ m.made.did) refl)
-        (moves_seen n u t.calls (kept_grows place n m.view t.calls.view (call_word q asked.operation) true id m.noted (call_of_one q operation asked.operation)) (ap (λ (y : Books). y.told) m.books))
+        (moves_seen n u t.calls (kept_grows place n m.view t.calls.view (call_index q asked.operation) true id m.noted (call_of_one q operation asked.operation)) (ap (λ (y : Books). y.told) m.books))
 
     begun_by : (asked : Asked) (id : ℕ) (s t : Both) → CalledBy state p q asked (called.Begun id) s t → Moves (only operation asked.operation) s.calls t.calls
     begun_by asked id s t h = let n = only operation asked.operation in moves_then n 0 n s.calls h.at.calls t.calls (omega arith) (made_for asked id h.socket s h.at h.made_for) (attempted_by h.socket _ h.at t h.attempted)

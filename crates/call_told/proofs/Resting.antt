@@ -8,7 +8,7 @@ use Rattle.corr_core.specs.declared.marks.Note.TheVariants.{Ended}
 use Rattle.corr_core.specs.declared.marks.Plan.{Plan}
 use Rattle.corr_core.specs.declared.marks.View.{View}
 use Rattle.corr_core.proofs.Notes.{only-same, pair-same}
-use Rattle.id_rule.specs.Lawful.{call_word, notes_of}
+use Rattle.id_rule.specs.Lawful.{call_index, notes_of}
 use Rattle.sock_message.specs.Asked.{Asked}
 use Rattle.corr_id.specs.Calls.{Found, OutOf, slot_of, version_of, one, is_saw}
 use Rattle.corr_id.specs.Closing.{Closing}
@@ -51,7 +51,7 @@ module _ (p : Plan) (code operation id : ℕ) (inside : slot_of id < p.slots) wh
   first = version_of id
 
   abbrev place : ℕ
-  place = call_word p operation
+  place = call_index p operation
 
   -- the seat knows of the id that it was made
   abbrev IsKnown : Books → Type 0

@@ -18,7 +18,7 @@ use Rattle.corr_core.specs.declared.marks.Noted.{Noted}
 use Rattle.corr_core.specs.declared.marks.Plan.{Plan}
 use Rattle.corr_core.specs.declared.marks.Token.{Token}
 use Rattle.corr_core.specs.declared.marks.View.{View}
-use Rattle.id_rule.specs.Lawful.{at_word, call_word, with_kept}
+use Rattle.id_rule.specs.Lawful.{at_index, call_index, with_kept}
 use Rattle.corr_id.specs.declared.posts.Posted.{Posted}
 use Rattle.corr_id.specs.declared.posts.Posted.TheVariants.{Locked as HasLock, Queued as IsQueued, Gone, Stale, Crowded}
 use Rattle.corr_id.specs.Calls.{slot_of, version_of, error_in, is_event, one, Quiet, Did, GotLock}
@@ -201,9 +201,9 @@ module _ (code : ℕ) where
   posted_at : (p : Plan) (link operation : ℕ) (found : Option AtWord) (b b' : Books) → PostedAt p link code operation found b b' → Tally b b'
   posted_at p link operation None b b' h = tally_same b b' h
   posted_at p link operation (Some w) b b' h =
-      let v = with_kept (at_word p operation) false w.0 b.view in
+      let v = with_kept (at_index p operation) false w.0 b.view in
       let u : Books = record b { view = v } in
-      tally_then b u b' (tally_seen b v (λ slot first. refl) (λ x. kept_grows x 0 b.view v (at_word p operation) false w.0 refl (omega arith))) (posted_if (at_word_link w.0 == link) p.slots w.0 u b' h)
+      tally_then b u b' (tally_seen b v (λ slot first. refl) (λ x. kept_grows x 0 b.view v (at_index p operation) false w.0 refl (omega arith))) (posted_if (at_word_link w.0 == link) p.slots w.0 u b' h)
 
   posted_all : (p : Plan) (link : ℕ) (os : List ℕ) (b b' : Books) → PostedAll p link code os b b' → Tally b b'
   posted_all p link [] b b' h = tally_same b b' h
@@ -220,8 +220,8 @@ module _ (code : ℕ) where
         tally_then b u b' (tally_seen b l.locked (got_ends (slot_of id) b.view l.locked l.found l.word l.call l.got) (λ x. did_grows x (slot_of id) b.view l.locked _ _ l.got.did))
         (lost_tally (slot_of id) l.word l.call u b' (let x = l.range.0 in let y = version_low id in omega arith) (got_locked (slot_of id) b.view l.locked l.found l.word l.call l.got) l.lost)
 
-    pub noted_tally : (operation id : ℕ) (b : Books) (seen : View Asked) → seen ≡ with_kept (call_word p operation) false id b.view → Tally b (record b { view = seen })
-    noted_tally operation id b seen e = tally_seen b seen (λ slot first. ap (λ (y : View Asked). noted_ends slot first y.notes) e) (λ x. kept_grows x 0 b.view seen (call_word p operation) false id e (omega arith))
+    pub noted_tally : (operation id : ℕ) (b : Books) (seen : View Asked) → seen ≡ with_kept (call_index p operation) false id b.view → Tally b (record b { view = seen })
+    noted_tally operation id b seen e = tally_seen b seen (λ slot first. ap (λ (y : View Asked). noted_ends slot first y.notes) e) (λ x. kept_grows x 0 b.view seen (call_index p operation) false id e (omega arith))
 
     pub one_tally : (operation : ℕ) (b b' : Books) → OneEnded p code operation b b' → Tally b b'
     one_tally operation b b' (inl n) = tally_same b b' (n.same ∙ ap (λ (v : View Asked). record b { view = v }) n.view)

@@ -7,7 +7,7 @@ use Rattle.corr_core.specs.declared.marks.Note.{Note}
 use Rattle.corr_core.specs.declared.marks.Note.TheVariants.{Made, Locker}
 use Rattle.corr_core.specs.declared.marks.Plan.{Plan}
 use Rattle.corr_core.specs.declared.marks.View.{View}
-use Rattle.id_rule.specs.Lawful.{call_word, notes_of, is_stored}
+use Rattle.id_rule.specs.Lawful.{call_index, notes_of, is_stored}
 use Rattle.sock_message.specs.Asked.{Asked}
 use Rattle.corr_id.specs.Calls.{slot_of, version_of}
 use Rattle.call_deeds.specs.rpc_client.specs.declared.acting.Told.{Told}
@@ -27,7 +27,7 @@ is_locked_for first operation _ = 0
 pub record HasBegun (q : Plan) (operation id : ℕ) (v : View Asked) : Type 0 where
   pub inside : slot_of id < q.slots
   pub made : 0 < total (is_made_for (version_of id) operation) (notes_of (slot_of id) v.notes)
-  pub stored : 0 < total (is_stored (call_word q operation) id) v.kept
+  pub stored : 0 < total (is_stored (call_index q operation) id) v.kept
 
 -- by one of these the end of the call with this id is told, as what became of this operation
 pub record IsEndTold (operation id : ℕ) (tellers : List (List Told)) : Type 0 where

@@ -11,7 +11,7 @@ pub use Rattle.call_deeds.specs.call_table
 pub use Rattle.call_deeds.specs.call_writes
 pub use Rattle.call_deeds.specs.report_fits
 pub use Rattle.call_deeds.specs.rpc_client
-pub use Rattle.call_deeds.specs.sock_causes
+pub use Rattle.call_deeds.specs.outcome_causes
 pub use Rattle.call_deeds.specs.sock_deeds
 pub use Rattle.call_deeds.specs.sock_rule
 pub use Rattle.call_deeds.specs.sock_table

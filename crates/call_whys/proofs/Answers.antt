@@ -7,8 +7,8 @@ use Rattle.sock_words.specs.declared.plain.Plan.{Plan}
 use Rattle.brpc_model.specs.Frame.{Frame}
 use Rattle.brpc_model.specs.Items.{Item, Call, CallLine}
 use Rattle.sock_message.specs.Asked.{Asked}
-use Rattle.sock_programs.specs.declared.task.Task.{Task}
-use Rattle.sock_programs.specs.ToldCalls.{Fixed, Order, IsAnsweredBy, HasCode, WhyCall}
+use Rattle.seat_programs.specs.declared.task.Task.{Task}
+use Rattle.seat_programs.specs.ToldCalls.{Fixed, Order, IsAnsweredBy, HasCode, WhyCall}
 use Rattle.expire_told.specs.call_told.specs.Answers.{IsAnswer, HasAnswer}
 
 -- the line of a call

@@ -9,12 +9,12 @@ use Rattle.brpc_model.specs.Link.{LinkEnd}
 use Rattle.brpc_model.specs.Operations.{operations}
 use Rattle.brpc_model.specs.Places.{names}
 use Rattle.sock_message.specs.Asked.{Asked}
-use Rattle.sock_programs.specs.declared.task.Op.{Op}
-use Rattle.sock_programs.specs.declared.task.Op.TheVariants as ops
-use Rattle.sock_programs.specs.Scripts.{all_tasks}
-use Rattle.sock_programs.specs.Tasks.{Numbered, numbered, op_of}
-use Rattle.sock_programs.specs.Told.{IsTask, Became}
-use Rattle.sock_programs.specs.ToldCalls.{Fixed, Order, WhyCall}
+use Rattle.seat_programs.specs.declared.task.Op.{Op}
+use Rattle.seat_programs.specs.declared.task.Op.TheVariants as ops
+use Rattle.seat_programs.specs.Scripts.{all_tasks}
+use Rattle.seat_programs.specs.Tasks.{Numbered, numbered, op_of}
+use Rattle.seat_programs.specs.Told.{IsTask, Became}
+use Rattle.seat_programs.specs.ToldCalls.{Fixed, Order, WhyCall}
 use Rattle.expire_told.specs.report_fits.proofs.TaskLemmas.{numbers_at, IsTaskOf, task_is}
 use Rattle.expire_told.specs.call_told.specs.Answers.{HasAnswer, AreAnsweredBy}
 use Rattle.call_whys.proofs.Answers.{why_answered, why_peer}

@@ -8,7 +8,7 @@ pub use Rattle.expire_told.specs.call_told
 pub use Rattle.expire_told.specs.call_writes
 pub use Rattle.expire_told
 pub use Rattle.expire_told.specs.rpc_client
-pub use Rattle.expire_told.specs.sock_causes
+pub use Rattle.expire_told.specs.outcome_causes
 pub use Rattle.expire_told.specs.sock_deeds
 pub use Rattle.expire_told.specs.sock_rule
 pub use Rattle.expire_told.specs.sock_table

@@ -5,12 +5,12 @@ use Rattle.sock_words.specs.declared.outcome.Outcome.{Outcome}
 use Rattle.brpc_model.specs.Items.{Item}
 use Rattle.brpc_model.specs.Operations.{operations}
 use Rattle.brpc_model.specs.PlaceWords.{HasEachOutcome}
-use Rattle.sock_programs.specs.declared.task.Task.{Task}
-use Rattle.sock_programs.specs.Cores.{Core}
-use Rattle.sock_programs.specs.Scripts.{all_tasks, place_words}
-use Rattle.sock_programs.specs.Tasks.{plan_of}
-use Rattle.sock_programs.specs.Told.{IsTask, Became}
-use Rattle.sock_programs.specs.ToldCalls.{Accepted, Order, Fixed, StandsOn, IsSent, OfSend, OfCall}
+use Rattle.seat_programs.specs.declared.task.Task.{Task}
+use Rattle.seat_programs.specs.Cores.{Core}
+use Rattle.seat_programs.specs.Scripts.{all_tasks, place_words}
+use Rattle.seat_programs.specs.Tasks.{plan_of}
+use Rattle.seat_programs.specs.Told.{IsTask, Became}
+use Rattle.seat_programs.specs.ToldCalls.{Accepted, Order, Fixed, StandsOn, IsSent, OfSend, OfCall}
 use Rattle.report_fits.proofs.Lists.{all_at, within}
 use Rattle.report_fits.proofs.TaskLemmas.{task_is}
 use Rattle.sock_deeds.specs.Told.{IsAttempt, ToldSockets}

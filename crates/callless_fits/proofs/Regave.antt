@@ -3,11 +3,11 @@ use Rattle.std.proofs.Common.{ℕ, ◌⊎◌, inl, inr, List, Option}
 use Rattle.sock_words.specs.declared.plain.Plan.{Plan}
 use Rattle.sock_words.specs.declared.outcome.Outcome.{Outcome}
 use Rattle.sock_words.specs.declared.outcome.Outcome.TheVariants.{Unopened, Gone, Already}
-use Rattle.sock_programs.specs.declared.task.Op.{Op}
-use Rattle.sock_programs.specs.declared.task.Op.TheVariants as ops
-use Rattle.sock_programs.specs.declared.task.Task.{Task}
-use Rattle.sock_programs.specs.Cores.{Core}
-use Rattle.sock_programs.specs.ToldCalls.{Accepted, Order, Fixed, Seeks, FoundNone, FoundFailed, IsSent, OfSend, OfCall, Why}
+use Rattle.seat_programs.specs.declared.task.Op.{Op}
+use Rattle.seat_programs.specs.declared.task.Op.TheVariants as ops
+use Rattle.seat_programs.specs.declared.task.Task.{Task}
+use Rattle.seat_programs.specs.Cores.{Core}
+use Rattle.seat_programs.specs.ToldCalls.{Accepted, Order, Fixed, Seeks, FoundNone, FoundFailed, IsSent, OfSend, OfCall, Why}
 use Rattle.report_fits.proofs.Lists.{all_map}
 use Rattle.sock_deeds.specs.Told.{IsOfSockets, IsAttempt, ToldSockets}
 

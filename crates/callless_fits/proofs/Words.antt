@@ -5,16 +5,16 @@ use Rattle.sock_words.specs.declared.plain.Plan.{Plan}
 use Rattle.sock_words.specs.declared.place_word.PlaceWord.{PlaceWord}
 use Rattle.sock_words.specs.Words.{no_place, HasPosition}
 use Rattle.brpc_model.specs.PlaceWords.{word_at}
-use Rattle.sock_model.specs.Layout.{place_word}
-use Rattle.sock_programs.specs.Cores.{Core}
-use Rattle.sock_programs.specs.Runs.{from_to}
-use Rattle.sock_programs.specs.Scripts.{place_words}
-use Rattle.sock_programs.specs.ToldCalls.{Accepted, Order, AreOrders, StandsAt, label}
+use Rattle.sock_model.specs.Layout.{place_index}
+use Rattle.seat_programs.specs.Cores.{Core}
+use Rattle.seat_programs.specs.Runs.{from_to}
+use Rattle.seat_programs.specs.Scripts.{place_words}
+use Rattle.seat_programs.specs.ToldCalls.{Accepted, Order, AreOrders, StandsAt, label}
 use Rattle.report_fits.proofs.Flat.{map_at, from_to_at}
 
-word_there : (p : Plan) (ws : List ℕ) (n : ℕ) → n < 8 * p.operations → word_at (place_words p ws) n ≡ slice_index ws (place_word p n)
+word_there : (p : Plan) (ws : List ℕ) (n : ℕ) → n < 8 * p.operations → word_at (place_words p ws) n ≡ slice_index ws (place_index p n)
 word_there p ws n low =
-    let f : ℕ → PlaceWord = λ l. record { 0 = slice_index ws (place_word p l) } in
+    let f : ℕ → PlaceWord = λ l. record { 0 = slice_index ws (place_index p l) } in
     let same : 0 + n ≡ n = omega arith in
     let at : slice_get (map f (from_to 0 (8 * p.operations))) n ≡ Some (f n) = map_at f (from_to 0 (8 * p.operations)) n n (from_to_at 0 (8 * p.operations) n low ∙ ap Some same) in
     ap (λ (o : Option PlaceWord). unwrap_or (option_map (λ (word : PlaceWord). word.0) o) no_place) at

@@ -5,10 +5,10 @@ use Rattle.brpc_model.specs.Link.{LinkEnd}
 use Rattle.brpc_model.specs.Report.{Report, report_text}
 use Rattle.brpc_model.specs.Run.{nothing_late}
 use Rattle.brpc_model.specs.Complete.{FitsWhole}
-use Rattle.sock_programs.specs.Cores.{Core}
-use Rattle.sock_programs.specs.Scripts.{Reports, all_tasks}
-use Rattle.sock_programs.specs.Tasks.{plan_of}
-use Rattle.sock_programs.specs.ToldCalls.{Fixed, Order, ToldCalls}
+use Rattle.seat_programs.specs.Cores.{Core}
+use Rattle.seat_programs.specs.Scripts.{Reports, all_tasks}
+use Rattle.seat_programs.specs.Tasks.{plan_of}
+use Rattle.seat_programs.specs.ToldCalls.{Fixed, Order, ToldCalls}
 use Rattle.report_fits.specs.Ends.{AreTold, AreEndsOf}
 
 -- The text reports a run of the script, over the links that were given back. Each outcome has its cause, by what became of all others; and each link took

@@ -11,15 +11,15 @@ use Rattle.sock_words.specs.declared.plain.Plan.{Plan}
 use Rattle.sock_io.specs.declared.link.Ready.TheVariants as ready
 use Rattle.brpc_model.specs.Items.{Item, Shape}
 use Rattle.brpc_model.specs.Operations.{Turn, clients, link_names, link_shapes}
-use Rattle.sock_programs.specs.Asides.{Bytes, Nothing, NoMore, AtEnd, Closed, Broken}
-use Rattle.sock_programs.specs.Heads.{Exit, Reading, Reads}
-use Rattle.sock_programs.specs.Programs.{Program, Round}
-use Rattle.sock_programs.specs.Rounds.{kind_of_round}
-use Rattle.sock_programs.specs.Cores.{Core, SeatState}
-use Rattle.sock_programs.specs.Runs.{IsAtRest, kind_in}
-use Rattle.sock_programs.specs.Tasks.{plan_of}
-use Rattle.sock_programs.specs.Ticks.{Answer, Unasked, OfPut, OfReady, OfTake, Moment, seats_of, ticked, run, waits, waits_at}
-use Rattle.sock_programs.specs.Scripts.{set_up, played, AreStill, ticks_of, IsRunWithCalls}
+use Rattle.seat_programs.specs.Asides.{Bytes, Nothing, NoMore, AtEnd, Closed, Broken}
+use Rattle.seat_programs.specs.Heads.{Exit, Reading, Reads}
+use Rattle.seat_programs.specs.Programs.{Program, Round}
+use Rattle.seat_programs.specs.Rounds.{kind_of_round}
+use Rattle.seat_programs.specs.Cores.{Core, SeatState}
+use Rattle.seat_programs.specs.Runs.{IsAtRest, kind_in}
+use Rattle.seat_programs.specs.Tasks.{plan_of}
+use Rattle.seat_programs.specs.Ticks.{Answer, Unasked, OfPut, OfReady, OfTake, Moment, seats_of, ticked, run, waits, waits_at}
+use Rattle.seat_programs.specs.Scripts.{set_up, played, AreStill, ticks_of, IsRunWithCalls}
 use Rattle.sock_runs.specs.Sound.{first_step}
 use Rattle.owed_calls.proofs.EndsStill.{all_still, in_round, run_parts}
 use Rattle.served_fits.specs.served_runs.specs.Offered.{GaveAll, OffersAt, IsOffered, AreOffered, OffersInRun}

@@ -7,16 +7,16 @@ use lib.ListN.{get_elem?}
 use Rattle.brpc_model.specs.Frame.{Frame}
 use Rattle.brpc_model.specs.Items.{Item}
 use Rattle.brpc_model.specs.Operations.{Turn}
-use Rattle.sock_programs.specs.Clients.{client_from}
-use Rattle.sock_programs.specs.Heads.{Exit, Reading, Reads}
-use Rattle.sock_programs.specs.Programs.{Program, Round}
-use Rattle.sock_programs.specs.Readers.{slot_in, version_in}
-use Rattle.sock_programs.specs.Cores.{Core, SeatState}
-use Rattle.sock_programs.specs.Ticks.{Moment, quiet}
-use Rattle.sock_programs.specs.Tasks.{opens, calls, plan_of, id_plan_of}
-use Rattle.sock_programs.specs.Scripts.{sizes_of, programs, all_tasks, opened, set_up, played, IsRunWithCalls}
+use Rattle.seat_programs.specs.Clients.{client_from}
+use Rattle.seat_programs.specs.Heads.{Exit, Reading, Reads}
+use Rattle.seat_programs.specs.Programs.{Program, Round}
+use Rattle.seat_programs.specs.Readers.{slot_in, version_in}
+use Rattle.seat_programs.specs.Cores.{Core, SeatState}
+use Rattle.seat_programs.specs.Ticks.{Moment, quiet}
+use Rattle.seat_programs.specs.Tasks.{opens, calls, plan_of, id_plan_of}
+use Rattle.seat_programs.specs.Scripts.{sizes_of, programs, all_tasks, opened, set_up, played, IsRunWithCalls}
 use Rattle.sock_runs.proofs.OpensStay.{readers_begin}
-use Rattle.served_fits.specs.client_laws.proofs.Beginning as clients_begin
+use Rattle.served_fits.specs.programs_allowed.proofs.Beginning as clients_begin
 use Rattle.owed_calls.specs.joint_runs.proofs.Runs.{AreMade, first_views}
 use Rattle.report_fits.proofs.Reading.{InRange}
 use Rattle.report_fits.proofs.Targets.{AreThere}

@@ -23,25 +23,25 @@ use Rattle.report_fits.proofs.Sizes.{is_counted}
 use Rattle.report_fits.proofs.Targets.{AreThere, are_there}
 use Rattle.report_fits.proofs.TaskLemmas.{numbers_at, task_is, call_asks}
 use Rattle.sock_message.specs.Asked.{Asked, request_of}
-use Rattle.sock_programs.specs.Asides.{id_slot, id_first, call_id}
-use Rattle.sock_programs.specs.Cores.{Core}
-use Rattle.sock_programs.specs.Scripts.{Reports, all_tasks, opened, set_up, played, IsRunWithCalls}
-use Rattle.sock_programs.specs.Tasks.{opens, numbered, plan_of, id_plan_of}
-use Rattle.sock_programs.specs.Ticks.{quiet}
-use Rattle.sock_programs.specs.Told.{IsTask}
-use Rattle.sock_programs.specs.ToldCalls.{Order, Fixed, ToldCalls}
+use Rattle.seat_programs.specs.Asides.{id_slot, id_first, call_id}
+use Rattle.seat_programs.specs.Cores.{Core}
+use Rattle.seat_programs.specs.Scripts.{Reports, all_tasks, opened, set_up, played, IsRunWithCalls}
+use Rattle.seat_programs.specs.Tasks.{opens, numbered, plan_of, id_plan_of}
+use Rattle.seat_programs.specs.Ticks.{quiet}
+use Rattle.seat_programs.specs.Told.{IsTask}
+use Rattle.seat_programs.specs.ToldCalls.{Order, Fixed, ToldCalls}
 use Rattle.sock_runs.proofs.Along.{place_inside}
 use Rattle.sock_runs.proofs.Whole.{closing_of, views_played}
-use Rattle.sock_causes.specs.Facts.{broken_of_run}
-use Rattle.sock_causes.proofs.Members.{in_contains}
-use Rattle.served_fits.specs.client_laws.specs.Openings.{all_seats}
-use Rattle.served_fits.specs.client_laws.proofs.Fresh.{opening_fresh}
+use Rattle.outcome_causes.specs.Facts.{broken_of_run}
+use Rattle.outcome_causes.proofs.Members.{in_contains}
+use Rattle.served_fits.specs.programs_allowed.specs.Openings.{all_seats}
+use Rattle.served_fits.specs.programs_allowed.proofs.Fresh.{opening_fresh}
 use Rattle.owed_calls.specs.joint_runs.proofs.Runs.{AreMade, first_views}
 use Rattle.owed_calls.specs.Lives.{ClosesInRun}
 use Rattle.owed_calls.specs.Sound.{id_word_of, at_of, IsOpen}
 use Rattle.owed_calls.proofs.Known.{run_all_rest}
-use Rattle.served_fits.specs.whole_runs.proofs.Lengths.{ended_length}
-use Rattle.served_fits.specs.whole_runs.proofs.Starts.{made}
+use Rattle.served_fits.specs.run_theorems.proofs.Lengths.{ended_length}
+use Rattle.served_fits.specs.run_theorems.proofs.Starts.{made}
 use Rattle.served_fits.specs.call_causes.specs.Lists.{given, shows_in, times, advanced_at, attempts_of_run}
 use Rattle.served_fits.specs.call_causes.proofs.Posted.{run_few_attempts}
 use Rattle.served_fits.specs.send_causes.proofs.Assembled.{fixed_in_run}

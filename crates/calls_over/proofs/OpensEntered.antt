@@ -9,21 +9,21 @@ use Rattle.sock_model.specs.Entries.{on}
 use Rattle.sock_model.specs.Links.{Failed}
 use Rattle.brpc_model.specs.Items.{Item}
 use Rattle.brpc_model.specs.Operations.{Turn}
-use Rattle.sock_programs.specs.Asides.{id_slot, id_first}
-use Rattle.sock_programs.specs.Cores.{Core}
-use Rattle.sock_programs.specs.Scripts.{all_tasks, opened, set_up, played, IsRunWithCalls}
-use Rattle.sock_programs.specs.Tasks.{plan_of}
-use Rattle.sock_programs.specs.Ticks.{quiet}
-use Rattle.sock_programs.specs.ToldCalls.{Accepted, Fixed, StandsAt, StandsOn}
+use Rattle.seat_programs.specs.Asides.{id_slot, id_first}
+use Rattle.seat_programs.specs.Cores.{Core}
+use Rattle.seat_programs.specs.Scripts.{all_tasks, opened, set_up, played, IsRunWithCalls}
+use Rattle.seat_programs.specs.Tasks.{plan_of}
+use Rattle.seat_programs.specs.Ticks.{quiet}
+use Rattle.seat_programs.specs.ToldCalls.{Accepted, Fixed, StandsAt, StandsOn}
 use Rattle.sock_runs.specs.Sound.{state, Sound}
 use Rattle.sock_runs.proofs.Whole.{closing_of, views_played, views_closed, views_ended, end_answered, played_sound, closing_sound, closed_sound, ended_sound}
-use Rattle.sock_causes.specs.Kept.{IsSpoken}
-use Rattle.sock_causes.specs.PlainTasks.{told_tasks_of}
-use Rattle.sock_causes.specs.Stories.{In}
-use Rattle.sock_causes.proofs.Delivered.{accepted_of, accepted_there}
-use Rattle.sock_causes.proofs.Final.{at_there, at_within}
-use Rattle.sock_causes.proofs.Members.{in_contains}
-use Rattle.sock_causes.proofs.Plain.{in_both, in_left, in_right}
+use Rattle.outcome_causes.specs.Kept.{IsSpoken}
+use Rattle.outcome_causes.specs.PlainTasks.{told_tasks_of}
+use Rattle.outcome_causes.specs.Stories.{In}
+use Rattle.outcome_causes.proofs.Delivered.{accepted_of, accepted_there}
+use Rattle.outcome_causes.proofs.Final.{at_there, at_within}
+use Rattle.outcome_causes.proofs.Members.{in_contains}
+use Rattle.outcome_causes.proofs.Plain.{in_both, in_left, in_right}
 use Rattle.owed_calls.specs.joint_runs.proofs.Runs.{AreMade, first_views}
 use Rattle.owed_calls.specs.Lives.{ClosesInRun}
 use Rattle.served_fits.specs.call_causes.specs.Lists.{shows_in}

@@ -15,8 +15,8 @@ use Rattle.sock_model.specs.Memory.{Memory}
 use Rattle.sock_model.specs.Reads.{tokens, claims_of}
 use Rattle.sock_model.specs.Requests.{free_phase, claimed_phase, used_phase, retired_phase}
 use Rattle.sock_model.specs.Tokens.{Tokens}
-use Rattle.chain_laws.proofs.Frames.{no_token}
-use Rattle.chain_laws.proofs.Totals.{log_full}
+use Rattle.chain_steps.proofs.Frames.{no_token}
+use Rattle.chain_steps.proofs.Totals.{log_full}
 use Rattle.sock_steps.proofs.Maps.{gather_nil}
 use Rattle.brpc_model.specs.Items.{Item, Send, Call, attempts_of}
 use Rattle.brpc_model.specs.Operations.{Operation, Turn, operations, attempts, requests}
@@ -29,12 +29,12 @@ use Rattle.report_fits.proofs.Lists.{all_from, all_at, before_from}
 use Rattle.report_fits.proofs.Numbering.{are_from}
 use Rattle.report_fits.proofs.Places.{known_of}
 use Rattle.report_fits.proofs.Reading.{InRange}
-use Rattle.sock_programs.specs.Cores.{Core}
-use Rattle.sock_programs.specs.Scripts.{all_tasks, played, IsRunWithCalls}
-use Rattle.sock_programs.specs.Tasks.{plan_of}
-use Rattle.sock_programs.specs.ToldCalls.{Accepted, Fixed, ToldCalls, label}
+use Rattle.seat_programs.specs.Cores.{Core}
+use Rattle.seat_programs.specs.Scripts.{all_tasks, played, IsRunWithCalls}
+use Rattle.seat_programs.specs.Tasks.{plan_of}
+use Rattle.seat_programs.specs.ToldCalls.{Accepted, Fixed, ToldCalls, label}
 use Rattle.sock_runs.proofs.Whole.{views_played}
-use Rattle.sock_causes.proofs.Delivered.{accepted_of, accepted_at}
+use Rattle.outcome_causes.proofs.Delivered.{accepted_of, accepted_at}
 use Rattle.owed_calls.specs.joint_runs.proofs.Runs.{AreMade, first_views}
 use Rattle.owed_calls.specs.Lives.{ClosesInRun}
 use Rattle.served_fits.specs.send_causes.proofs.ClosedLostTicks.{AreTaken}

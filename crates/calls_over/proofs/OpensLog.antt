@@ -2,17 +2,17 @@
 use Rattle.std.proofs.Common.{◌≡◌, ℕ, zero, suc, ◌<◌, inl, inr, Bool, true, false, cond, eqb, eq-eqb, List, [], ◌∷◌, map, refl, sym, ap, subst, arith}
 use mathlib.Core.Option.{some, some-injective, some-ne-none}
 use lib.ListN.{get_elem?}
-use Rattle.chain_laws.proofs.Lists.{at_length, at_some, filter_in}
+use Rattle.chain_steps.proofs.Lists.{at_length, at_some, filter_in}
 use Rattle.sock_words.specs.declared.plain.Plan.{Plan}
 use Rattle.sock_model.specs.declared.chain.Entry.{Entry}
 use Rattle.sock_model.specs.declared.view.View.{View}
 use Rattle.sock_model.specs.Authors.{pick}
 use Rattle.sock_model.specs.Entries.{on}
-use Rattle.sock_programs.specs.Cores.{Core}
-use Rattle.sock_programs.specs.ToldCalls.{StandsAt}
+use Rattle.seat_programs.specs.Cores.{Core}
+use Rattle.seat_programs.specs.ToldCalls.{StandsAt}
 use Rattle.sock_runs.specs.Sound.{Sound}
-use Rattle.sock_causes.specs.Stories.{In}
-use Rattle.sock_causes.proofs.Delivered.{accepted_of, accepted_there, orders_of}
+use Rattle.outcome_causes.specs.Stories.{In}
+use Rattle.outcome_causes.proofs.Delivered.{accepted_of, accepted_there, orders_of}
 use Rattle.calls_over.proofs.OpensHeld.{IsHeld}
 
 -- ## Lists

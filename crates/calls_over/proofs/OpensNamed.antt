@@ -9,22 +9,22 @@ use Rattle.brpc_model.specs.Items.{Item}
 use Rattle.brpc_model.specs.Operations.{Turn, clients}
 use Rattle.corr_core.specs.declared.marks.Plan.{Plan as IdPlan}
 use Rattle.sock_message.specs.Asked.{Asked}
-use Rattle.sock_programs.specs.Cores.{Core}
-use Rattle.sock_programs.specs.Programs.{Program}
-use Rattle.sock_programs.specs.Ticks.{Moment, quiet}
-use Rattle.sock_programs.specs.Tasks.{opens, calls, plan_of, id_plan_of}
-use Rattle.sock_programs.specs.Scripts.{sizes_of, programs, readers_from, all_programs, all_tasks, opened, set_up, played, IsRunWithCalls}
-use Rattle.sock_programs.specs.Told.{AreTasks}
+use Rattle.seat_programs.specs.Cores.{Core}
+use Rattle.seat_programs.specs.Programs.{Program}
+use Rattle.seat_programs.specs.Ticks.{Moment, quiet}
+use Rattle.seat_programs.specs.Tasks.{opens, calls, plan_of, id_plan_of}
+use Rattle.seat_programs.specs.Scripts.{sizes_of, programs, readers_from, all_programs, all_tasks, opened, set_up, played, IsRunWithCalls}
+use Rattle.seat_programs.specs.Told.{AreTasks}
 use Rattle.sock_runs.specs.Sound.{views_along}
 use Rattle.sock_runs.proofs.Whole.{set_up_answered, set_up_sound}
-use Rattle.sock_causes.specs.PlainTasks.{told_tasks_of}
-use Rattle.sock_causes.specs.Stories.{Event, In}
-use Rattle.sock_causes.proofs.Begin.{start_story}
-use Rattle.sock_causes.proofs.Plain.{in_left, in_right}
-use Rattle.sock_causes.proofs.Openings.{are_seats, all_explained}
-use Rattle.sock_causes.proofs.Runs.{IsStoried, set_up_over}
-use Rattle.sock_causes.proofs.Scripts.{own_from}
-use Rattle.id_rule.specs.Lawful.{at_word}
+use Rattle.outcome_causes.specs.PlainTasks.{told_tasks_of}
+use Rattle.outcome_causes.specs.Stories.{Event, In}
+use Rattle.outcome_causes.proofs.Begin.{start_story}
+use Rattle.outcome_causes.proofs.Plain.{in_left, in_right}
+use Rattle.outcome_causes.proofs.Openings.{are_seats, all_explained}
+use Rattle.outcome_causes.proofs.Runs.{IsStoried, set_up_over}
+use Rattle.outcome_causes.proofs.Scripts.{own_from}
+use Rattle.id_rule.specs.Lawful.{at_index}
 use Rattle.served_fits.specs.call_causes.specs.Lists.{shows_in}
 use Rattle.served_fits.specs.send_causes.specs.EndedCalls.{Store, stored_at}
 use Rattle.served_fits.specs.send_causes.proofs.Runs.{AreLabelledIn, IsCallOf}
@@ -33,9 +33,9 @@ use Rattle.served_fits.specs.send_causes.proofs.AttemptedBegin.{asked_by}
 use Rattle.served_fits.specs.send_causes.proofs.EndedNamed.{all_follow, begins_named, Named, Behind, seats_named, setup_named}
 use Rattle.served_fits.specs.send_causes.proofs.EndedNames.{NameLaw, StoredFor}
 use Rattle.sock_words.specs.Words as sockets
-use Rattle.sock_programs.specs.Asides.{id_slot, id_first}
-use Rattle.served_fits.specs.client_laws.specs.Openings.{all_seats}
-use Rattle.served_fits.specs.client_laws.proofs.Fresh.{opening_fresh}
+use Rattle.seat_programs.specs.Asides.{id_slot, id_first}
+use Rattle.served_fits.specs.programs_allowed.specs.Openings.{all_seats}
+use Rattle.served_fits.specs.programs_allowed.proofs.Fresh.{opening_fresh}
 use Rattle.owed_calls.specs.joint_runs.proofs.Runs.{AreMade, first_views}
 use Rattle.owed_calls.specs.Lives.{ClosesInRun}
 use Rattle.owed_calls.specs.Sound.{at_of}
@@ -126,7 +126,7 @@ module _ (script : List Item) (made : AreMade script) (turns : List Turn) (core 
   -- an at word that stands there
   pub stored_early : (o : ℕ) → o < (id_plan_of script).operations → at_of (id_plan_of script) (played script is.setup (is.scheduled ++ is.later)) o ≢ 0 → IsEarly script turns core is o (at_of (id_plan_of script) (played script is.setup (is.scheduled ++ is.later)) o)
   stored_early o low some_ = let b = both script made turns core is in let ids = b.ids in let c = played script is.setup in_clients in let n = clients_part.named in
-      let x = subst (λ (plan : IdPlan). o < plan.operations → get_or c.calls.words (at_word plan o) 0 ≢ 0 → StoredFor (IsCallOf script) (s₁ ++ s₂) n.events o (get_or c.calls.words (at_word plan o) 0)) ids.plan (n.law.ats o) low some_ in record {
+      let x = subst (λ (plan : IdPlan). o < plan.operations → get_or c.calls.words (at_index plan o) 0 ≢ 0 → StoredFor (IsCallOf script) (s₁ ++ s₂) n.events o (get_or c.calls.words (at_index plan o) 0)) ids.plan (n.law.ats o) low some_ in record {
         asked = x.asked;
         called = x.called;
         operation = x.operation;

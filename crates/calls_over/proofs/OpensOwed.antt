@@ -8,26 +8,26 @@ use native.Mathlib.Decide.{dec_le}
 use mathlib.Core.Option.{Option as Maybe}
 use mathlib.Core.Option.{none, some, some-ne-none}
 use lib.ListN.{get_elem?}
-use Rattle.chain_laws.proofs.Lists.{at_some}
+use Rattle.chain_steps.proofs.Lists.{at_some}
 use Rattle.sock_words.specs.Words.{at_word, socket_id, socket_id_slot}
 use Rattle.sock_words.specs.declared.plain.Plan.{Plan}
 use Rattle.sock_model.specs.declared.view.View.{View}
-use Rattle.sock_model.specs.Layout.{open_word}
+use Rattle.sock_model.specs.Layout.{open_index}
 use Rattle.brpc_model.specs.Items.{Item}
 use Rattle.brpc_model.specs.Frame.{Frame}
 use Rattle.brpc_model.specs.Operations.{Turn, clients}
 use Rattle.corr_core.specs.declared.marks.Plan.{Plan as IdPlan}
 use Rattle.report_fits.proofs.Reading.{InRange}
 use Rattle.report_fits.proofs.Targets.{AreThere}
-use Rattle.sock_programs.specs.Asides.{TakeBytes, Closed, id_slot, id_first}
-use Rattle.sock_programs.specs.Clients.{client_from}
-use Rattle.sock_programs.specs.Heads.{Exit, Reading, Joins, Opens, Reads, Discards}
-use Rattle.sock_programs.specs.Programs.{Program, Rest, Aside, Round}
-use Rattle.sock_programs.specs.Readers.{post_each, read, reader}
-use Rattle.sock_programs.specs.Cores.{Core, SeatState}
-use Rattle.sock_programs.specs.Ticks.{Unasked, Moment, quiet, ticked}
-use Rattle.sock_programs.specs.Tasks.{opens, calls, plan_of, id_plan_of}
-use Rattle.sock_programs.specs.Scripts.{sizes_of, programs, readers_from, all_tasks, opened, set_up, played, IsRunWithCalls}
+use Rattle.seat_programs.specs.Asides.{TakeBytes, Closed, id_slot, id_first}
+use Rattle.seat_programs.specs.Clients.{client_from}
+use Rattle.seat_programs.specs.Heads.{Exit, Reading, Joins, Opens, Reads, Discards}
+use Rattle.seat_programs.specs.Programs.{Program, Rest, Aside, Round}
+use Rattle.seat_programs.specs.Readers.{post_each, read, reader}
+use Rattle.seat_programs.specs.Cores.{Core, SeatState}
+use Rattle.seat_programs.specs.Ticks.{Unasked, Moment, quiet, ticked}
+use Rattle.seat_programs.specs.Tasks.{opens, calls, plan_of, id_plan_of}
+use Rattle.seat_programs.specs.Scripts.{sizes_of, programs, readers_from, all_tasks, opened, set_up, played, IsRunWithCalls}
 use Rattle.sock_runs.specs.Sound.{Sound, views_along}
 use Rattle.sock_runs.proofs.Along.{place_inside}
 use Rattle.sock_runs.proofs.LinksRecorded.{Linked, run_linked}
@@ -38,7 +38,7 @@ use Rattle.sock_runs.proofs.Quiets.{run_seats}
 use Rattle.sock_runs.proofs.ReaderSeats.{AtReader, run_reader, waits_own}
 use Rattle.sock_runs.proofs.Records.{next_stores}
 use Rattle.sock_runs.proofs.Whole.{IsListed, views_played, set_up_answered, set_up_sound, played_sound, recorded_opened, recorded_set_up}
-use Rattle.served_fits.specs.client_laws.proofs.Beginning as clients_begin
+use Rattle.served_fits.specs.programs_allowed.proofs.Beginning as clients_begin
 use Rattle.id_runs.specs.Goes as goes
 use Rattle.owed_calls.specs.joint_runs.proofs.Runs.{AreMade, first_views, joint_runs}
 use Rattle.owed_calls.specs.Lives.{id_of, life_of, AreSaying, ClosesAt, ClosesInTime, ClosesInRun}
@@ -169,15 +169,15 @@ module _ (script : List Item) (made : AreMade script) (turns : List Turn) (core 
   given_life i h k inside given = links_stand p os rested v₂ sound₂ linked (λ j seat at. stores_nothing script rested seat.program (stands script made turns core is j seat at)) i h k inside given
 
   -- the life of a link stands in the word of its `open`
-  pub opened_at : (k s : ℕ) → lives_there k ≡ Some s → (o : ℕ) × (get_elem? (opens script) k ≡ some o) × (id_of (get_or (played script is.setup (is.scheduled ++ is.later)).words (open_word (plan_of script) o) 0) ≡ Some s)
+  pub opened_at : (k s : ℕ) → lives_there k ≡ Some s → (o : ℕ) × (get_elem? (opens script) k ≡ some o) × (id_of (get_or (played script is.setup (is.scheduled ++ is.later)).words (open_index (plan_of script) o) 0) ≡ Some s)
   opened_at k s lives = by_open (get_elem? os k) refl lives
     where
-      by_open : (x : Maybe ℕ) → get_elem? os k ≡ x → elim x as (λ x. Option ℕ) [ none ↦ None | some o ↦ id_of (get_or rested.words (open_word p o) 0) ] ≡ Some s → (o : ℕ) × (get_elem? os k ≡ some o) × (id_of (get_or rested.words (open_word p o) 0) ≡ Some s)
+      by_open : (x : Maybe ℕ) → get_elem? os k ≡ x → elim x as (λ x. Option ℕ) [ none ↦ None | some o ↦ id_of (get_or rested.words (open_index p o) 0) ] ≡ Some s → (o : ℕ) × (get_elem? os k ≡ some o) × (id_of (get_or rested.words (open_index p o) 0) ≡ Some s)
       by_open none at e = absurd (let z : None ≡ Some s = e in cc)
       by_open (some o) at e = (o, at, e)
 
   slots : (k s : ℕ) → life_of p os rested.words k ≡ Some s → socket_id_slot s < p.slots
-  slots k s lives = let x = opened_at k s lives in let named = id_is (get_or rested.words (open_word p x.0) 0) s x.2 in let is_word = named.0 in
+  slots k s lives = let x = opened_at k s lives in let named = id_is (get_or rested.words (open_index p x.0) 0) s x.2 in let is_word = named.0 in
       let n = (sound₂.lawful.references.named.opens x.0 (in_script k x.0 x.1) named.1 (λ z. omega (arith, is_word, z))).0 in
       subst (λ y. socket_id_slot y < (plan_of script).slots) (let z : s + 1 - 1 ≡ s = omega arith in z) (subst (λ y. socket_id_slot (y - 1) < (plan_of script).slots) is_word n)
 
@@ -321,14 +321,14 @@ module _ (script : List Item) (made : AreMade script) (turns : List Turn) (core 
           g : OwesOn lives_there u seat.0.program
           g = sound.seats (32 + k) seat.0 u seat.1 mine
 
-          own : (x : ℕ) × (get_elem? os k ≡ some x) × (id_of (get_or rested.words (open_word p x) 0) ≡ Some s)
+          own : (x : ℕ) × (get_elem? os k ≡ some x) × (id_of (get_or rested.words (open_index p x) 0) ≡ Some s)
           own = opened_at k s lives
 
           by : Stands script rested seat.0.program → IsRead id n
           by (resting e) = let r : OwesOn lives_there u Rest = subst (OwesOn lives_there u) e g in absurd (subst (InList o) r.1 left)
           by (joining i next e) = let r : OwesOn lives_there u (Round (Joins i) next) = subst (OwesOn lives_there u) e g in absurd (subst (InList o) r.0.1 left)
           by (opening x next e z) = let same : x ≡ own.0 = waits_own p (calls script) (32 + k) k own.0 (in_script k own.0 own.1) rested seat.0 seat.1 (readers₂ k own.0 own.1) x next e in
-              let word_is = (id_is (get_or rested.words (open_word p own.0) 0) s own.2).0 in let zero_ : get_or rested.words (open_word p own.0) 0 ≡ 0 = ap (λ m. get_or rested.words (open_word p m) 0) (sym same) ∙ z in absurd (let z : ⊥ = omega (arith, word_is, zero_) in z)
+              let word_is = (id_is (get_or rested.words (open_index p own.0) 0) s own.2).0 in let zero_ : get_or rested.words (open_index p own.0) 0 ≡ 0 = ap (λ m. get_or rested.words (open_index p m) 0) (sym same) ∙ z in absurd (let z : ⊥ = omega (arith, word_is, zero_) in z)
           by (still.reading r next e) = let x = reads_so k own.0 own.1 seat.0 seat.1 r next e in record {
             operation = o;
             low = inside;

@@ -25,36 +25,36 @@ use Rattle.report_fits.proofs.Reading.{InRange}
 use Rattle.report_fits.proofs.Sizes.{is_counted}
 use Rattle.report_fits.proofs.Targets.{AreThere, are_there}
 use Rattle.report_fits.proofs.TaskLemmas.{numbers_at, task_is, fail_asks}
-use Rattle.sock_programs.specs.declared.task.Op.TheVariants as ops
-use Rattle.sock_programs.specs.declared.task.Task.{Task}
-use Rattle.sock_programs.specs.Asides.{AtEnd, Broken}
-use Rattle.sock_programs.specs.Cores.{Core}
-use Rattle.sock_programs.specs.Heads.{Discards}
-use Rattle.sock_programs.specs.Programs.{Rest, Round}
-use Rattle.sock_programs.specs.Readers.{LIMIT, reader}
-use Rattle.sock_programs.specs.Scripts.{Reports, all_tasks, opened, set_up, played, IsRunWithCalls}
-use Rattle.sock_programs.specs.Tasks.{opens, calls, numbered, plan_of, id_plan_of}
-use Rattle.sock_programs.specs.Ticks.{Moment, quiet, broken_in, ticked}
-use Rattle.sock_programs.specs.Told.{IsTask, IsFail, Made}
-use Rattle.sock_programs.specs.ToldCalls.{Order, Fixed, ToldCalls}
+use Rattle.seat_programs.specs.declared.task.Op.TheVariants as ops
+use Rattle.seat_programs.specs.declared.task.Task.{Task}
+use Rattle.seat_programs.specs.Asides.{AtEnd, Broken}
+use Rattle.seat_programs.specs.Cores.{Core}
+use Rattle.seat_programs.specs.Heads.{Discards}
+use Rattle.seat_programs.specs.Programs.{Rest, Round}
+use Rattle.seat_programs.specs.Readers.{LIMIT, reader}
+use Rattle.seat_programs.specs.Scripts.{Reports, all_tasks, opened, set_up, played, IsRunWithCalls}
+use Rattle.seat_programs.specs.Tasks.{opens, calls, numbered, plan_of, id_plan_of}
+use Rattle.seat_programs.specs.Ticks.{Moment, quiet, broken_in, ticked}
+use Rattle.seat_programs.specs.Told.{IsTask, IsFail, Made}
+use Rattle.seat_programs.specs.ToldCalls.{Order, Fixed, ToldCalls}
 use Rattle.sock_runs.specs.Sound.{state}
 use Rattle.sock_runs.proofs.Along.{place_inside}
 use Rattle.sock_runs.proofs.Whole.{views_played}
-use Rattle.sock_causes.specs.Facts.{shown_in, broken_of_run, closed_before_ending}
-use Rattle.sock_causes.specs.Losses.{closed_at, lost_in}
-use Rattle.sock_causes.specs.PlainTasks.{told_tasks_of}
-use Rattle.sock_causes.specs.Stories.{In}
-use Rattle.sock_causes.proofs.Lifted.{task_up}
-use Rattle.sock_causes.proofs.Members.{in_contains, contains_in}
-use Rattle.sock_causes.proofs.Plain.{in_left, in_right, in_both}
-use Rattle.served_fits.specs.client_laws.specs.Openings.{all_seats}
-use Rattle.served_fits.specs.client_laws.proofs.Fresh.{opening_fresh}
+use Rattle.outcome_causes.specs.Facts.{shown_in, broken_of_run, closed_before_ending}
+use Rattle.outcome_causes.specs.Losses.{closed_at, lost_in}
+use Rattle.outcome_causes.specs.PlainTasks.{told_tasks_of}
+use Rattle.outcome_causes.specs.Stories.{In}
+use Rattle.outcome_causes.proofs.Lifted.{task_up}
+use Rattle.outcome_causes.proofs.Members.{in_contains, contains_in}
+use Rattle.outcome_causes.proofs.Plain.{in_left, in_right, in_both}
+use Rattle.served_fits.specs.programs_allowed.specs.Openings.{all_seats}
+use Rattle.served_fits.specs.programs_allowed.proofs.Fresh.{opening_fresh}
 use Rattle.owed_calls.specs.joint_runs.proofs.Runs.{AreMade, first_views}
 use Rattle.owed_calls.specs.Lives.{ClosesInRun}
-use Rattle.served_fits.specs.whole_runs.specs.Heard.{heard_takes, given_by}
-use Rattle.served_fits.specs.whole_runs.proofs.Gave.{gave_heard}
-use Rattle.served_fits.specs.whole_runs.proofs.Lengths.{ended_length}
-use Rattle.served_fits.specs.whole_runs.proofs.Starts.{made}
+use Rattle.served_fits.specs.run_theorems.specs.Heard.{heard_takes, given_by}
+use Rattle.served_fits.specs.run_theorems.proofs.Gave.{gave_heard}
+use Rattle.served_fits.specs.run_theorems.proofs.Lengths.{ended_length}
+use Rattle.served_fits.specs.run_theorems.proofs.Starts.{made}
 use Rattle.served_fits.specs.call_causes.specs.Lists.{given}
 use Rattle.served_fits.specs.call_causes.specs.Scenes.{LeadsTo}
 use Rattle.served_fits.specs.send_causes.proofs.AttemptedStored.{played_leads}

@@ -4,7 +4,7 @@ use Rattle.std.specs.List.{AllByRecursion}
 use Rattle.std.specs.Prelude.{IsTrue, Contains}
 use mathlib.Core.Option.{some}
 use lib.ListN.{get_elem?}
-use Rattle.chain_laws.proofs.Lists.{filter_in}
+use Rattle.chain_steps.proofs.Lists.{filter_in}
 use Rattle.sock_model.specs.declared.chain.Entry.{Entry}
 use Rattle.sock_model.specs.Entries.{on}
 use Rattle.sock_model.specs.Links.{Given}
@@ -22,19 +22,19 @@ use Rattle.report_fits.proofs.Reading.{InRange}
 use Rattle.report_fits.proofs.Sizes.{is_counted}
 use Rattle.report_fits.proofs.Targets.{AreThere, are_there}
 use Rattle.sock_message.specs.Asked.{Asked, request_of, frame_of}
-use Rattle.sock_programs.specs.Cores.{Core}
-use Rattle.sock_programs.specs.Scripts.{Reports, all_tasks, played, IsRunWithCalls}
-use Rattle.sock_programs.specs.Tasks.{plan_of}
-use Rattle.sock_programs.specs.Told.{Became}
-use Rattle.sock_programs.specs.ToldCalls.{Order, Fixed, ToldCalls, IsSent, OfSend, OfCall}
+use Rattle.seat_programs.specs.Cores.{Core}
+use Rattle.seat_programs.specs.Scripts.{Reports, all_tasks, played, IsRunWithCalls}
+use Rattle.seat_programs.specs.Tasks.{plan_of}
+use Rattle.seat_programs.specs.Told.{Became}
+use Rattle.seat_programs.specs.ToldCalls.{Order, Fixed, ToldCalls, IsSent, OfSend, OfCall}
 use Rattle.sock_runs.specs.Sound.{state}
 use Rattle.sock_runs.proofs.Whole.{views_played}
-use Rattle.sock_causes.specs.Facts.{broken_of_run}
-use Rattle.sock_causes.proofs.Delivered.{accepted_of}
+use Rattle.outcome_causes.specs.Facts.{broken_of_run}
+use Rattle.outcome_causes.proofs.Delivered.{accepted_of}
 use Rattle.owed_calls.specs.joint_runs.proofs.Runs.{AreMade, first_views}
 use Rattle.owed_calls.specs.Lives.{ClosesInRun}
 use Rattle.owed_calls.proofs.OpensStored.{at_place}
-use Rattle.served_fits.specs.whole_runs.proofs.Starts.{made}
+use Rattle.served_fits.specs.run_theorems.proofs.Starts.{made}
 use Rattle.served_fits.specs.call_causes.specs.Lists.{given}
 use Rattle.served_fits.specs.send_causes.proofs.AllTold.{told_of_run}
 use Rattle.served_fits.specs.send_causes.proofs.Assembled.{fixed_in_run}

@@ -6,16 +6,16 @@ use mathlib.Core.Option.{some, none, some-injective}
 use lib.ListN.{get_elem?}
 use Rattle.brpc_model.specs.Items.{Item}
 use Rattle.brpc_model.specs.Operations.{Turn}
-use Rattle.sock_model.specs.Layout.{open_word}
+use Rattle.sock_model.specs.Layout.{open_index}
 use Rattle.corr_core.specs.Word.{Parts}
-use Rattle.sock_programs.specs.Cores.{Core, SeatState}
-use Rattle.sock_programs.specs.Heads.{Head, Exit, Reading, Sought, First, Version, Posts, Unlocks, Decides, Locks, Joins, Opens, Reads, Discards}
-use Rattle.sock_programs.specs.Posts.{is_sought}
-use Rattle.sock_programs.specs.Programs.{Program, Rest, Round}
-use Rattle.sock_programs.specs.Runs.{IsAtRest}
-use Rattle.sock_programs.specs.Scripts.{opened, set_up, played, IsRunWithCalls}
-use Rattle.sock_programs.specs.Tasks.{plan_of, id_plan_of}
-use Rattle.sock_programs.specs.Ticks.{Answer, Moment, IsPrompt, quiet, waits, waits_at, waits_in}
+use Rattle.seat_programs.specs.Cores.{Core, SeatState}
+use Rattle.seat_programs.specs.Heads.{Head, Exit, Reading, Sought, First, Version, Posts, Unlocks, Decides, Locks, Joins, Opens, Reads, Discards}
+use Rattle.seat_programs.specs.Posts.{is_sought}
+use Rattle.seat_programs.specs.Programs.{Program, Rest, Round}
+use Rattle.seat_programs.specs.Runs.{IsAtRest}
+use Rattle.seat_programs.specs.Scripts.{opened, set_up, played, IsRunWithCalls}
+use Rattle.seat_programs.specs.Tasks.{plan_of, id_plan_of}
+use Rattle.seat_programs.specs.Ticks.{Answer, Moment, IsAlwaysReady, quiet, waits, waits_at, waits_in}
 use Rattle.sock_runs.specs.Sound.{views_along}
 use Rattle.sock_runs.proofs.Along.{seat_rests, place_inside}
 use Rattle.sock_runs.proofs.Passes.{and_left, and_right}
@@ -41,7 +41,7 @@ not_sought (Version v) w ended is = true≢false (sym (and_left (not (w.state ==
 pub data Stands (script : List Item) (c : Core) (program : Program) : Type 0 where
   resting : program ≡ Rest → Stands script c program
   joining : (id : ℕ) (next : ℕ → Program) → program ≡ Round (Joins id) next → Stands script c program
-  opening : (o : ℕ) (next : ℕ → Program) → program ≡ Round (Opens o) next → get_or c.words (open_word (plan_of script) o) 0 ≡ 0 → Stands script c program
+  opening : (o : ℕ) (next : ℕ → Program) → program ≡ Round (Opens o) next → get_or c.words (open_index (plan_of script) o) 0 ≡ 0 → Stands script c program
   reading : (r : Reading) (next : Exit (Reads r) → Program) → program ≡ Round (Reads r) next → Stands script c program
   discarding : (k total : ℕ) (next : ℕ → Program) → program ≡ Round (Discards k total) next → Stands script c program
 
@@ -57,7 +57,7 @@ module _ (script : List Item) (made : AreMade script) (turns : List Turn) (core 
   waits_aside : (i : ℕ) → i < length rested.seats → settled.IsAtRest rested i ⊎ settled.WaitsAside (plan_of script) rested i
   waits_aside i inside = ⊎_elim (λ rest. inl (rests i rest)) (λ w. by w (aside script made turns core is i inside)) (still script made turns core is i inside)
     where
-      by : (m : Moment) × (m.seat ≡ i) × IsPrompt m × (waits (plan_of script) rested m ≡ true) → IsAtRest rested i ⊎ StandsAside rested i
+      by : (m : Moment) × (m.seat ≡ i) × IsAlwaysReady m × (waits (plan_of script) rested m ≡ true) → IsAtRest rested i ⊎ StandsAside rested i
           → settled.IsAtRest rested i ⊎ settled.WaitsAside (plan_of script) rested i
       by w (inl rest) = inl (rests i rest)
       by w (inr s) = let waiting : waits_at (plan_of script) rested w.0.answer s.0.program ≡ true =
@@ -74,7 +74,7 @@ module _ (script : List Item) (made : AreMade script) (turns : List Turn) (core 
   by_head : (u : IdView) (seat : SeatState) (head : Head) (next : Exit head → Program) (answer : Answer) → seat.program ≡ Round head next → IdGoesOn (plan_of script) (id_plan_of script) u (Round head next)
       → waits_in (plan_of script) rested.words rested.calls answer head ≡ true → Stands script rested seat.program
   by_head u seat (Joins id) next answer e g waits_ = joining id next e
-  by_head u seat (Opens o) next answer e g waits_ = opening o next e (eqb-true (get_or rested.words (open_word (plan_of script) o) 0) 0 waits_)
+  by_head u seat (Opens o) next answer e g waits_ = opening o next e (eqb-true (get_or rested.words (open_index (plan_of script) o) 0) 0 waits_)
   by_head u seat (Reads r) next answer e g waits_ = reading r next e
   by_head u seat (Discards k total) next answer e g waits_ = discarding k total next e
   by_head u seat (Locks s sought None) next answer e g waits_ = let w : Parts = id_word_of rested s in absurd (⊎_elim

@@ -17,11 +17,11 @@ use Rattle.sock_model.specs.Reads.{took_of, link_at, rights_on, tokens}
 use Rattle.sock_model.specs.References.{slot_facts}
 use Rattle.sock_model.specs.Slots.{SlotLaw, count, live}
 use Rattle.sock_model.specs.Weights.{is_failer, is_freer}
-use Rattle.slot_laws.proofs.Numbers.{life_is, life-in}
-use Rattle.chain_laws.proofs.Settles.{all_placed}
+use Rattle.slot_steps.proofs.Numbers.{life_is, life-in}
+use Rattle.chain_steps.proofs.Settles.{all_placed}
 use Rattle.sock_steps.proofs.HandSteps.{link_value}
 use Rattle.sock_steps.proofs.Maps.{took_some, gather_nil}
-use Rattle.sock_programs.specs.Cores.{Core}
+use Rattle.seat_programs.specs.Cores.{Core}
 use Rattle.sock_runs.specs.Sound.{state, Sound}
 use Rattle.sock_runs.proofs.Bounds.{law}
 use Rattle.calls_over.proofs.OpensLog.{log}

@@ -26,19 +26,19 @@ use Rattle.report_fits.proofs.Targets.{AreThere, are_there}
 use Rattle.report_fits.proofs.TaskLemmas.{numbers_at, task_is, send_asks, mentions_send}
 use Rattle.corr_core.specs.declared.marks.Plan.{Plan as IdPlan}
 use Rattle.sock_message.specs.Asked.{request_of}
-use Rattle.sock_programs.specs.declared.task.Op.TheVariants as ops
-use Rattle.sock_programs.specs.declared.task.Task.{Task}
-use Rattle.sock_programs.specs.Asides.{id_slot, id_first}
-use Rattle.sock_programs.specs.Readers.{has_response, slot_in, version_in}
-use Rattle.sock_programs.specs.Cores.{Core}
-use Rattle.sock_programs.specs.Tasks.{numbered, plan_of, id_plan_of}
-use Rattle.sock_programs.specs.Told.{IsTask, Made}
-use Rattle.sock_programs.specs.ToldCalls.{Order, Fixed, ToldCalls}
-use Rattle.sock_programs.specs.Scripts.{Reports, all_tasks, IsRunWithCalls}
+use Rattle.seat_programs.specs.declared.task.Op.TheVariants as ops
+use Rattle.seat_programs.specs.declared.task.Task.{Task}
+use Rattle.seat_programs.specs.Asides.{id_slot, id_first}
+use Rattle.seat_programs.specs.Readers.{has_response, slot_in, version_in}
+use Rattle.seat_programs.specs.Cores.{Core}
+use Rattle.seat_programs.specs.Tasks.{numbered, plan_of, id_plan_of}
+use Rattle.seat_programs.specs.Told.{IsTask, Made}
+use Rattle.seat_programs.specs.ToldCalls.{Order, Fixed, ToldCalls}
+use Rattle.seat_programs.specs.Scripts.{Reports, all_tasks, IsRunWithCalls}
 use Rattle.owed_calls.specs.Lives.{ClosesInRun}
 use Rattle.owed_calls.specs.Sound.{id_word_of}
-use Rattle.served_fits.specs.whole_runs.proofs.Lengths.{ended_length}
-use Rattle.served_fits.specs.whole_runs.proofs.Starts.{made}
+use Rattle.served_fits.specs.run_theorems.proofs.Lengths.{ended_length}
+use Rattle.served_fits.specs.run_theorems.proofs.Starts.{made}
 use Rattle.served_fits.specs.call_causes.specs.Lists.{given}
 use Rattle.served_fits.specs.call_causes.proofs.Handled.{IsResp}
 use Rattle.served_fits.specs.served_runs.specs.Offered.{OffersInRun}

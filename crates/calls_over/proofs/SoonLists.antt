@@ -5,7 +5,7 @@ use mathlib.Core.Option.{some, some-injective, some-ne-none}
 use native.Mathlib.Decide.{ℕ_discrete}
 use lib.ListN.{get_elem?}
 use Rattle.atomic_table.proofs.Lists.{set_here, set_else}
-use Rattle.chain_laws.proofs.Lists.{at_length, at_some}
+use Rattle.chain_steps.proofs.Lists.{at_length, at_some}
 use Rattle.sock_words.specs.declared.plain.Plan.{Plan}
 use Rattle.sock_model.specs.declared.chain.Claim.{Claim}
 use Rattle.sock_model.specs.declared.chain.Entry.{Entry}
@@ -15,16 +15,16 @@ use Rattle.sock_model.specs.Authors.{pick}
 use Rattle.sock_model.specs.ChainRows.{more, entry_of, queued, righted}
 use Rattle.sock_model.specs.Lawful.{Lawful}
 use Rattle.sock_model.specs.Memory.{IDLE}
-use Rattle.sock_programs.specs.Calls.{Call, SwapHead}
-use Rattle.sock_programs.specs.Cores.{Core, word_of, found_at}
-use Rattle.sock_programs.specs.Ticks.{Moment, IsAnswered, AreAnswered, ticked}
+use Rattle.seat_programs.specs.Calls.{Call, SwapHead}
+use Rattle.seat_programs.specs.Cores.{Core, word_of, found_at}
+use Rattle.seat_programs.specs.Ticks.{Moment, IsAnswered, AreAnswered, ticked}
 use Rattle.sock_runs.specs.Rows.{row, hand_at, by_claim, exchanged, took_message, link_away, link_home_again, took_bytes}
 use Rattle.sock_runs.specs.Sound.{state, Sound, AreFitting, views_after, views_along}
 use Rattle.sock_runs.proofs.LinkTicks.{RetriesGo}
 use Rattle.sock_runs.proofs.Ticks.{sound_ticks}
 use Rattle.sock_runs.proofs.WalksLeft.{message_lists, away_lists, home_lists, put_lists}
-use Rattle.sock_causes.proofs.Accepting.{row_lists}
-use Rattle.sock_causes.proofs.Cases.{tick_cases}
+use Rattle.outcome_causes.proofs.Accepting.{row_lists}
+use Rattle.outcome_causes.proofs.Cases.{tick_cases}
 
 -- ## Lists of one seat
 

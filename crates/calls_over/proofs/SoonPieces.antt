@@ -3,8 +3,8 @@ use Rattle.std.proofs.Common.{◌≡◌, ◌≢◌, ℕ, zero, suc, ◌+◌, ◌
 use Rattle.std.specs.List.{AllByRecursion}
 use mathlib.Core.Option.{some}
 use lib.ListN.{get_elem?}
-use Rattle.chain_laws.proofs.Frames.{in_log}
-use Rattle.slot_laws.proofs.Sums.{term_le}
+use Rattle.chain_steps.proofs.Frames.{in_log}
+use Rattle.slot_steps.proofs.Sums.{term_le}
 use Rattle.sock_words.specs.declared.plain.Plan.{Plan}
 use Rattle.sock_model.specs.declared.chain.Entry.{Entry}
 use Rattle.sock_model.specs.declared.chain.Heading.{Heading}
@@ -17,8 +17,8 @@ use Rattle.brpc_model.specs.Stream.{stream, stream_from}
 use Rattle.report_fits.proofs.Lists.{all_at, all_from}
 use Rattle.corr_core.specs.declared.marks.Plan.{Plan as IdPlan}
 use Rattle.sock_message.specs.Asked.{Asked, request_of, frame_of}
-use Rattle.sock_programs.specs.Asides.{id_slot, id_first}
-use Rattle.sock_programs.specs.Cores.{Core}
+use Rattle.seat_programs.specs.Asides.{id_slot, id_first}
+use Rattle.seat_programs.specs.Cores.{Core}
 use Rattle.sock_runs.specs.Sound.{Sound}
 use Rattle.id_runs.specs.Held.{IdView}
 use Rattle.id_runs.specs.Goes.{SoundIds}

@@ -4,9 +4,9 @@ use Rattle.std.proofs.lemmas.List.{take-append-drop}
 use mathlib.Core.Option.{some, some-injective}
 use lib.ListN.{get_elem?}
 use Rattle.atomic_table.proofs.Lists.{at_set}
-use Rattle.chain_laws.proofs.Delivers.{whole_suc}
-use Rattle.chain_laws.proofs.Letters.{writes_room}
-use Rattle.chain_laws.proofs.Lists.{at_some}
+use Rattle.chain_steps.proofs.Delivers.{whole_suc}
+use Rattle.chain_steps.proofs.Letters.{writes_room}
+use Rattle.chain_steps.proofs.Lists.{at_some}
 use Rattle.sock_words.specs.declared.plain.Plan.{Plan}
 use Rattle.sock_io.specs.declared.link.Put.{Put}
 use Rattle.sock_io.specs.declared.link.Put.TheVariants.{Took, Again, Failed}
@@ -19,13 +19,13 @@ use Rattle.sock_model.specs.Deliveries.{whole}
 use Rattle.sock_model.specs.Entries.{on}
 use Rattle.sock_model.specs.Reads.{tokens}
 use Rattle.sock_steps.proofs.RightSteps.{right_in, right_alone}
-use Rattle.sock_programs.specs.Programs.{Program, Do, TakeMessage, TakeHome, PutHome, PutBytes, AskReady, Aside}
-use Rattle.sock_programs.specs.Cores.{Core, SeatState, with_seat}
-use Rattle.sock_programs.specs.Ticks.{Moment, IsAnswered, fed, onto_first, ticked}
+use Rattle.seat_programs.specs.Programs.{Program, Do, TakeMessage, TakeHome, PutHome, PutBytes, AskReady, Aside}
+use Rattle.seat_programs.specs.Cores.{Core, SeatState, with_seat}
+use Rattle.seat_programs.specs.Ticks.{Moment, IsAnswered, fed, onto_first, ticked}
 use Rattle.sock_runs.specs.Writes.{MayPut}
 use Rattle.sock_runs.specs.Sound.{Sound, IsFitting, IsOfRight, AreHeld, first_step}
 use Rattle.sock_runs.proofs.LinkTicks.{RetriesGo}
-use Rattle.sock_causes.proofs.Cases.{tick_cases}
+use Rattle.outcome_causes.proofs.Cases.{tick_cases}
 use Rattle.owed_calls.specs.Lives.{InHand}
 use Rattle.served_fits.specs.served_runs.specs.Offered.{Lies, TookSoFar}
 use Rattle.served_fits.specs.served_runs.proofs.Places.{IsPut, all_lay}

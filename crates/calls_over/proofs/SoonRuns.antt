@@ -14,25 +14,25 @@ use Rattle.brpc_model.specs.Stream.{stream}
 use Rattle.report_fits.proofs.Reading.{InRange}
 use Rattle.report_fits.proofs.Targets.{AreThere}
 use Rattle.sock_message.specs.Asked.{Asked, frame_of}
-use Rattle.sock_programs.specs.declared.task.Op.TheVariants as ops
-use Rattle.sock_programs.specs.declared.task.Task.{Task}
-use Rattle.sock_programs.specs.Programs.{Program}
-use Rattle.sock_programs.specs.Cores.{Core, SeatState, resolved, next_step}
-use Rattle.sock_programs.specs.Tasks.{opens, calls, plan_of, id_plan_of}
-use Rattle.sock_programs.specs.Ticks.{Moment, AreAnswered, quiet, ticked, run}
-use Rattle.sock_programs.specs.Told.{OpFits, TaskFits, IsTask, Made}
-use Rattle.sock_programs.specs.Scripts.{sizes_of, programs, readers_from, all_programs, all_tasks, new_links, opened, set_up, played, IsRunWithCalls}
+use Rattle.seat_programs.specs.declared.task.Op.TheVariants as ops
+use Rattle.seat_programs.specs.declared.task.Task.{Task}
+use Rattle.seat_programs.specs.Programs.{Program}
+use Rattle.seat_programs.specs.Cores.{Core, SeatState, resolved, next_step}
+use Rattle.seat_programs.specs.Tasks.{opens, calls, plan_of, id_plan_of}
+use Rattle.seat_programs.specs.Ticks.{Moment, AreAnswered, quiet, ticked, run}
+use Rattle.seat_programs.specs.Told.{OpFits, TaskFits, IsTask, Made}
+use Rattle.seat_programs.specs.Scripts.{sizes_of, programs, readers_from, all_programs, all_tasks, new_links, opened, set_up, played, IsRunWithCalls}
 use Rattle.sock_runs.specs.Sound.{views_along}
 use Rattle.sock_runs.proofs.LinkTicks.{RetriesGo}
 use Rattle.sock_runs.proofs.Opening.{mapped}
 use Rattle.sock_runs.proofs.Whole.{views_played, set_up_answered}
-use Rattle.sock_causes.proofs.Members.{all_in}
-use Rattle.sock_causes.proofs.Tasks.{fits_of}
-use Rattle.served_fits.specs.client_laws.specs.Openings.{all_seats}
-use Rattle.served_fits.specs.client_laws.proofs.Fresh.{opening_fresh}
+use Rattle.outcome_causes.proofs.Members.{all_in}
+use Rattle.outcome_causes.proofs.Tasks.{fits_of}
+use Rattle.served_fits.specs.programs_allowed.specs.Openings.{all_seats}
+use Rattle.served_fits.specs.programs_allowed.proofs.Fresh.{opening_fresh}
 use Rattle.owed_calls.specs.joint_runs.proofs.Runs.{AreMade, first_views, joint_runs}
 use Rattle.owed_calls.specs.Lives.{ClosesInRun, InHand}
-use Rattle.served_fits.specs.whole_runs.proofs.Lengths.{tick_long}
+use Rattle.served_fits.specs.run_theorems.proofs.Lengths.{tick_long}
 use Rattle.served_fits.specs.call_causes.specs.Scenes.{In}
 use Rattle.served_fits.specs.send_causes.proofs.AttemptedBegin.{begins_labels, asked_by}
 use Rattle.served_fits.specs.send_causes.proofs.Early.{start, go, fitting}

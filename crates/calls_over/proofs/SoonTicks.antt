@@ -12,16 +12,16 @@ use Rattle.brpc_model.specs.Served.{given_for}
 use Rattle.brpc_model.specs.Stream.{stream}
 use Rattle.corr_core.specs.declared.marks.Plan.{Plan as IdPlan}
 use Rattle.sock_message.specs.Asked.{Asked, frame_of}
-use Rattle.sock_programs.specs.Asides.{id_slot, id_first}
-use Rattle.sock_programs.specs.Cores.{Core, SeatState}
-use Rattle.sock_programs.specs.Tasks.{plan_of, id_plan_of}
-use Rattle.sock_programs.specs.Ticks.{Moment, IsAnswered, AreAnswered, quiet, ticked, run}
+use Rattle.seat_programs.specs.Asides.{id_slot, id_first}
+use Rattle.seat_programs.specs.Cores.{Core, SeatState}
+use Rattle.seat_programs.specs.Tasks.{plan_of, id_plan_of}
+use Rattle.seat_programs.specs.Ticks.{Moment, IsAnswered, AreAnswered, quiet, ticked, run}
 use Rattle.sock_runs.specs.Sound.{views_after, views_along}
 use Rattle.sock_runs.proofs.LinkTicks.{RetriesGo}
 use Rattle.owed_calls.specs.joint_runs.proofs.Both.{BothSound, FitsBoth, AreBoth, are_fitting}
 use Rattle.served_fits.specs.label_runs.specs.Labels.{Trial}
 use Rattle.owed_calls.specs.Sound.{id_word_of}
-use Rattle.served_fits.specs.whole_runs.proofs.Lengths.{tick_long}
+use Rattle.served_fits.specs.run_theorems.proofs.Lengths.{tick_long}
 use Rattle.served_fits.specs.call_causes.specs.Lists.{Take, taken_link, takes_by, takes_at, given, soon_by, soon_at, shows_in}
 use Rattle.served_fits.specs.call_causes.specs.Scenes.{In}
 use Rattle.served_fits.specs.call_causes.proofs.Handled.{bound}

@@ -8,27 +8,27 @@ use Rattle.sock_model.specs.declared.view.View.{View}
 use Rattle.brpc_model.specs.Items.{Item}
 use Rattle.brpc_model.specs.Operations.{Turn}
 use Rattle.report_fits.proofs.Lists.{all_at}
-use Rattle.sock_programs.specs.declared.task.Op.TheVariants as ops
-use Rattle.sock_programs.specs.declared.task.Task.{Task}
-use Rattle.sock_programs.specs.Cores.{Core}
-use Rattle.sock_programs.specs.Tasks.{opens, plan_of}
-use Rattle.sock_programs.specs.Ticks.{quiet}
-use Rattle.sock_programs.specs.Told.{IsTask, Made}
-use Rattle.sock_programs.specs.ToldCalls.{Accepted}
-use Rattle.sock_programs.specs.Scripts.{all_tasks, IsRunWithCalls}
+use Rattle.seat_programs.specs.declared.task.Op.TheVariants as ops
+use Rattle.seat_programs.specs.declared.task.Task.{Task}
+use Rattle.seat_programs.specs.Cores.{Core}
+use Rattle.seat_programs.specs.Tasks.{opens, plan_of}
+use Rattle.seat_programs.specs.Ticks.{quiet}
+use Rattle.seat_programs.specs.Told.{IsTask, Made}
+use Rattle.seat_programs.specs.ToldCalls.{Accepted}
+use Rattle.seat_programs.specs.Scripts.{all_tasks, IsRunWithCalls}
 use Rattle.sock_runs.specs.Sound.{Sound, AllRest}
 use Rattle.sock_runs.proofs.LinkTicks.{RetriesGo}
 use Rattle.sock_runs.proofs.Whole.{Begins, AreFittingIn, IsOwed, closing_of, views_played, views_closed, views_ended, end_answered, closing_sound, closed_sound, ended_sound, end_rests}
-use Rattle.sock_causes.specs.Kept.{is_of_send, IsSpoken}
-use Rattle.sock_causes.specs.PlainTasks.{told_tasks_of}
-use Rattle.sock_causes.specs.TaskCauses as causes
-use Rattle.sock_causes.proofs.Delivered.{accepted_of}
-use Rattle.sock_causes.proofs.Lifted.{task_up, made_up}
-use Rattle.sock_causes.proofs.Messages.{each_made, message_of, number_of}
-use Rattle.sock_causes.proofs.Scripts.{seats, final_told, story_end, orders, run_told}
-use Rattle.sock_causes.proofs.Senders.{HasSent, sent_stands}
-use Rattle.served_fits.specs.client_laws.specs.Openings.{all_seats}
-use Rattle.served_fits.specs.client_laws.proofs.Fresh.{opening_fresh}
+use Rattle.outcome_causes.specs.Kept.{is_of_send, IsSpoken}
+use Rattle.outcome_causes.specs.PlainTasks.{told_tasks_of}
+use Rattle.outcome_causes.specs.TaskCauses as causes
+use Rattle.outcome_causes.proofs.Delivered.{accepted_of}
+use Rattle.outcome_causes.proofs.Lifted.{task_up, made_up}
+use Rattle.outcome_causes.proofs.Messages.{each_made, message_of, number_of}
+use Rattle.outcome_causes.proofs.Scripts.{seats, final_told, story_end, orders, run_told}
+use Rattle.outcome_causes.proofs.Senders.{HasSent, sent_stands}
+use Rattle.served_fits.specs.programs_allowed.specs.Openings.{all_seats}
+use Rattle.served_fits.specs.programs_allowed.proofs.Fresh.{opening_fresh}
 use Rattle.owed_calls.specs.joint_runs.proofs.Runs.{AreMade, first_views}
 use Rattle.owed_calls.specs.Lives.{ClosesInRun}
 use Rattle.owed_calls.proofs.EndsStill as still

@@ -6,12 +6,12 @@ use Rattle.brpc_model.specs.Items.{Item, Shape}
 use Rattle.brpc_model.specs.Operations.{Turn, link_shapes}
 use Rattle.brpc_model.specs.Stream.{stream}
 use Rattle.sock_message.specs.Asked.{Asked, request_of}
-use Rattle.sock_programs.specs.Asides.{id_slot, id_first}
-use Rattle.sock_programs.specs.Cores.{Core, SeatState}
-use Rattle.sock_programs.specs.Heads.{Exit, Reading, Reads}
-use Rattle.sock_programs.specs.Programs.{Program, Round}
-use Rattle.sock_programs.specs.Scripts.{played, IsRunWithCalls}
-use Rattle.sock_programs.specs.Tasks.{opens, plan_of, id_plan_of}
+use Rattle.seat_programs.specs.Asides.{id_slot, id_first}
+use Rattle.seat_programs.specs.Cores.{Core, SeatState}
+use Rattle.seat_programs.specs.Heads.{Exit, Reading, Reads}
+use Rattle.seat_programs.specs.Programs.{Program, Round}
+use Rattle.seat_programs.specs.Scripts.{played, IsRunWithCalls}
+use Rattle.seat_programs.specs.Tasks.{opens, plan_of, id_plan_of}
 use Rattle.report_fits.proofs.Lists.{Has}
 use Rattle.owed_calls.specs.Sound.{id_word_of}
 use Rattle.served_fits.specs.served_runs.specs.Offered.{TookSoFar}

@@ -3,15 +3,15 @@ use Rattle.std.proofs.Common.{◌≡◌, ◌≢◌, ℕ, zero, suc, true, List, 
 use Rattle.std.specs.Prelude.{slice_get}
 use Rattle.sock_words.specs.declared.plain.Plan.{Plan}
 use Rattle.sock_model.specs.declared.view.View.{View}
-use Rattle.sock_programs.specs.declared.task.Task.{Task}
-use Rattle.sock_programs.specs.Cores.{Core}
-use Rattle.sock_programs.specs.Ticks.{Moment, quiet, ticked, run, IsAnswered, AreAnswered}
-use Rattle.sock_programs.specs.Told.{AreTasks}
+use Rattle.seat_programs.specs.declared.task.Task.{Task}
+use Rattle.seat_programs.specs.Cores.{Core}
+use Rattle.seat_programs.specs.Ticks.{Moment, quiet, ticked, run, IsAnswered, AreAnswered}
+use Rattle.seat_programs.specs.Told.{AreTasks}
 use Rattle.sock_runs.specs.Sound.{IsFitting, AreFitting, views_after}
 use Rattle.sock_runs.proofs.LinkTicks.{RetriesGo}
-use Rattle.send_causes.specs.sock_causes.specs.Facts.{born_at, put_at, shown_in}
-use Rattle.send_causes.specs.sock_causes.specs.Kept.{IsSpoken}
-use Rattle.send_causes.specs.sock_causes.proofs.Runs.{IsStoried, Goes, seats_run}
+use Rattle.send_causes.specs.outcome_causes.specs.Facts.{born_at, put_at, shown_in}
+use Rattle.send_causes.specs.outcome_causes.specs.Kept.{IsSpoken}
+use Rattle.send_causes.specs.outcome_causes.proofs.Runs.{IsStoried, Goes, seats_run}
 use Rattle.calm_runs.proofs.Ticks.{AreCalls, CalmAt, AllCalm, calm_tick, calm_beside, quiet_outcomes, none_born, no_put}
 
 -- ticks of seat 0 leave another as it is

@@ -11,25 +11,25 @@ use Rattle.sock_words.specs.declared.outcome.Outcome.{Outcome}
 use Rattle.sock_model.specs.declared.view.View.{View}
 use Rattle.brpc_model.specs.Items.{Item, Join}
 use Rattle.brpc_model.specs.Operations.{Turn}
-use Rattle.sock_programs.specs.declared.task.Task.{Task}
-use Rattle.sock_programs.specs.Clients.{client_from, ending_of}
-use Rattle.sock_programs.specs.Cores.{Core, SeatState, resolved, next_step, waiting_at}
-use Rattle.sock_programs.specs.Programs.{Program, Rest}
-use Rattle.sock_programs.specs.Readers.{reader}
-use Rattle.sock_programs.specs.Scripts.{sizes_of, programs, readers_from, all_programs, all_tasks, opened, set_up, played, IsRunWithCalls}
-use Rattle.sock_programs.specs.Tasks.{opens, calls, plan_of, id_plan_of}
-use Rattle.sock_programs.specs.Ticks.{quiet}
+use Rattle.seat_programs.specs.declared.task.Task.{Task}
+use Rattle.seat_programs.specs.Clients.{client_from, ending_of}
+use Rattle.seat_programs.specs.Cores.{Core, SeatState, resolved, next_step, waiting_at}
+use Rattle.seat_programs.specs.Programs.{Program, Rest}
+use Rattle.seat_programs.specs.Readers.{reader}
+use Rattle.seat_programs.specs.Scripts.{sizes_of, programs, readers_from, all_programs, all_tasks, opened, set_up, played, IsRunWithCalls}
+use Rattle.seat_programs.specs.Tasks.{opens, calls, plan_of, id_plan_of}
+use Rattle.seat_programs.specs.Ticks.{quiet}
 use Rattle.sock_runs.proofs.Opening.{mapped}
 use Rattle.sock_runs.proofs.Whole.{closing_of, views_played, views_closed, end_answered}
-use Rattle.send_causes.specs.sock_causes.specs.Causes.{Asks}
-use Rattle.send_causes.specs.sock_causes.specs.Explains.{plain_tasks}
-use Rattle.send_causes.specs.sock_causes.specs.Facts.{put_at, shown_in, numbers_of, is_said_late, late_of_run, late_links_of_run}
-use Rattle.send_causes.specs.sock_causes.specs.Kept.{IsSpoken}
-use Rattle.send_causes.specs.sock_causes.specs.PlainTasks.{told_tasks_of}
-use Rattle.send_causes.specs.sock_causes.specs.Stories.{In}
-use Rattle.send_causes.specs.sock_causes.proofs.Plain.{in_both}
-use Rattle.send_causes.specs.client_laws.specs.Openings.{all_seats}
-use Rattle.send_causes.specs.client_laws.proofs.Fresh.{opening_fresh}
+use Rattle.send_causes.specs.outcome_causes.specs.Causes.{Asks}
+use Rattle.send_causes.specs.outcome_causes.specs.Explains.{plain_tasks}
+use Rattle.send_causes.specs.outcome_causes.specs.Facts.{put_at, shown_in, numbers_of, is_said_late, late_of_run, late_links_of_run}
+use Rattle.send_causes.specs.outcome_causes.specs.Kept.{IsSpoken}
+use Rattle.send_causes.specs.outcome_causes.specs.PlainTasks.{told_tasks_of}
+use Rattle.send_causes.specs.outcome_causes.specs.Stories.{In}
+use Rattle.send_causes.specs.outcome_causes.proofs.Plain.{in_both}
+use Rattle.send_causes.specs.programs_allowed.specs.Openings.{all_seats}
+use Rattle.send_causes.specs.programs_allowed.proofs.Fresh.{opening_fresh}
 use Rattle.send_causes.specs.joint_runs.proofs.Runs.{AreMade, first_views}
 use Rattle.send_causes.proofs.Early.{start, go, fitting, known}
 use Rattle.send_causes.proofs.Storied as stories

@@ -8,12 +8,12 @@ use Rattle.brpc_model.specs.Stream as streams
 use Rattle.sock_steps.proofs.Quiet.{either_way}
 use Rattle.corr_core.specs.Word.{Parts, parts, posted_word, code_of, attempt_of, error_of}
 use Rattle.corr_core.specs.Law.{LAST}
-use Rattle.sock_programs.specs.Asides.{Taking, Bytes, Nothing, Closed, call_id, id_first}
-use Rattle.sock_programs.specs.Clients.{ending_of}
-use Rattle.sock_programs.specs.Heads.{Reading, Sought, Posting, WasGone, WasStale, WasCrowded, WasQueued, HasLocked, Locking, NotThere, Has, Ended}
-use Rattle.sock_programs.specs.Posts.{WHOLE, packed, is_final, ends_call, is_first, is_stale, is_full, is_sought, judged, posts_round, post_with, end_id, locking}
-use Rattle.sock_programs.specs.Programs.{Program, Say, LAST_VERSION, NO_SOCKET, recycle, release, address, set_failed}
-use Rattle.sock_programs.specs.Readers.{LIMIT, has_response, slot_in, version_in, is_early, ending_of as outcome_of, answer, answered, responses, read_on, took, discarded, kept_for, ends_with, posted_last, post_each, thrown_away, read, reader}
+use Rattle.seat_programs.specs.Asides.{Taking, Bytes, Nothing, Closed, call_id, id_first}
+use Rattle.seat_programs.specs.Clients.{ending_of}
+use Rattle.seat_programs.specs.Heads.{Reading, Sought, Posting, WasGone, WasStale, WasCrowded, WasQueued, HasLocked, Locking, NotThere, Has, Ended}
+use Rattle.seat_programs.specs.Posts.{WHOLE, packed, is_final, ends_call, is_first, is_stale, is_full, is_sought, judged, posts_round, post_with, end_id, locking}
+use Rattle.seat_programs.specs.Programs.{Program, Say, LAST_VERSION, NO_SOCKET, recycle, release, address, set_failed}
+use Rattle.seat_programs.specs.Readers.{LIMIT, has_response, slot_in, version_in, is_early, ending_of as outcome_of, answer, answered, responses, read_on, took, discarded, kept_for, ends_with, posted_last, post_each, thrown_away, read, reader}
 use Rattle.calm_runs.specs.Calm.{IsCalm}
 
 -- a final error ends a call whatever attempts are left

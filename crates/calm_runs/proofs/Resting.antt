@@ -13,18 +13,18 @@ use Rattle.corr_core.specs.Word.{Parts}
 use Rattle.send_causes.specs.report_fits.proofs.Lists.{Has, contains_from, all_from}
 use Rattle.send_causes.specs.report_fits.proofs.Numbering.{are_from}
 use Rattle.send_causes.specs.report_fits.proofs.TaskLemmas.{numbers_at, task_is, join_asks}
-use Rattle.sock_programs.specs.declared.task.Op.{Op}
-use Rattle.sock_programs.specs.declared.task.Op.TheVariants as ops
-use Rattle.sock_programs.specs.declared.task.Task.{Task}
-use Rattle.sock_programs.specs.Clients.{client_from}
-use Rattle.sock_programs.specs.Cores.{Core, SeatState, resolved, next_step}
-use Rattle.sock_programs.specs.Heads.{Head, Exit, Sought, First, Version, Posts, Unlocks, Decides, Locks, Joins, Opens, Reads, Discards}
-use Rattle.sock_programs.specs.Posts.{is_sought}
-use Rattle.sock_programs.specs.Programs.{Program, Round}
-use Rattle.sock_programs.specs.Runs.{IsAtRest}
-use Rattle.sock_programs.specs.Scripts.{sizes_of, programs, readers_from, all_programs, all_tasks, opened, set_up, played, IsRunWithCalls}
-use Rattle.sock_programs.specs.Tasks.{numbered, opens, calls, plan_of, id_plan_of}
-use Rattle.sock_programs.specs.Ticks.{Answer, Moment, IsPrompt, quiet, waits, waits_at, waits_in}
+use Rattle.seat_programs.specs.declared.task.Op.{Op}
+use Rattle.seat_programs.specs.declared.task.Op.TheVariants as ops
+use Rattle.seat_programs.specs.declared.task.Task.{Task}
+use Rattle.seat_programs.specs.Clients.{client_from}
+use Rattle.seat_programs.specs.Cores.{Core, SeatState, resolved, next_step}
+use Rattle.seat_programs.specs.Heads.{Head, Exit, Sought, First, Version, Posts, Unlocks, Decides, Locks, Joins, Opens, Reads, Discards}
+use Rattle.seat_programs.specs.Posts.{is_sought}
+use Rattle.seat_programs.specs.Programs.{Program, Round}
+use Rattle.seat_programs.specs.Runs.{IsAtRest}
+use Rattle.seat_programs.specs.Scripts.{sizes_of, programs, readers_from, all_programs, all_tasks, opened, set_up, played, IsRunWithCalls}
+use Rattle.seat_programs.specs.Tasks.{numbered, opens, calls, plan_of, id_plan_of}
+use Rattle.seat_programs.specs.Ticks.{Answer, Moment, IsAlwaysReady, quiet, waits, waits_at, waits_in}
 use Rattle.sock_runs.specs.Sound.{views_along}
 use Rattle.sock_runs.proofs.Along.{seat_rests, place_inside}
 use Rattle.sock_runs.proofs.Opening.{mapped}
@@ -103,7 +103,7 @@ module _ (script : List Item) (made : AreMade script) (turns : List Turn) (core 
   waits_aside : (i : ℕ) → i < length rested.seats → settled.IsAtRest rested i ⊎ settled.WaitsAside (plan_of script) rested i
   waits_aside i inside = ⊎_elim (λ rest. inl (rests i rest)) (λ w. by w (aside script made turns core is i inside)) (still script made turns core is i inside)
     where
-      by : (m : Moment) × (m.seat ≡ i) × IsPrompt m × (waits (plan_of script) rested m ≡ true) → IsAtRest rested i ⊎ StandsAside rested i
+      by : (m : Moment) × (m.seat ≡ i) × IsAlwaysReady m × (waits (plan_of script) rested m ≡ true) → IsAtRest rested i ⊎ StandsAside rested i
           → settled.IsAtRest rested i ⊎ settled.WaitsAside (plan_of script) rested i
       by w (inl rest) = inl (rests i rest)
       by w (inr s) = let waiting : waits_at (plan_of script) rested w.0.answer s.0.program ≡ true =

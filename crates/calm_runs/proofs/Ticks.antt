@@ -17,17 +17,17 @@ use Rattle.sock_model.specs.Reads.{message, link_home}
 use Rattle.sock_steps.proofs.Quiet.{either_way}
 use Rattle.corr_core.specs.Word.{parts, posted_word, code_of}
 use Rattle.sock_message.specs.Asked.{Asked}
-use Rattle.sock_programs.specs.Asides.{Step, Found, PutCall, TakeCall, Taking, id_slot}
-use Rattle.sock_programs.specs.Beside.{call_at, found_in}
-use Rattle.sock_programs.specs.Calls.{Call, GiveBirth}
-use Rattle.sock_programs.specs.Cores.{Calls, Core, SeatState, resolved, said, next_step}
-use Rattle.sock_programs.specs.Drops.{call_in}
-use Rattle.sock_programs.specs.Heads.{Retry, Posts, Unlocks, Decides, Locks, Opens, Reads, Discards, HasEnded, Has}
-use Rattle.sock_programs.specs.Posts.{packed, end_id, unlocked}
-use Rattle.sock_programs.specs.Programs.{Program, Do, Say, Rest, TakeMessage, TakeHome, PutHome, PutBytes, AskReady, Aside, Round}
-use Rattle.sock_programs.specs.Ticks.{Answer, OfPut, OfReady, Moment, taken, ticked, step_with, tick_with, with_message, with_link, with_put, with_ready, with_found}
+use Rattle.seat_programs.specs.Asides.{Step, Found, PutCall, TakeCall, Taking, id_slot}
+use Rattle.seat_programs.specs.Beside.{call_at, found_in}
+use Rattle.seat_programs.specs.Calls.{Call, CreateLife}
+use Rattle.seat_programs.specs.Cores.{Calls, Core, SeatState, resolved, said, next_step}
+use Rattle.seat_programs.specs.Drops.{call_in}
+use Rattle.seat_programs.specs.Heads.{Retry, Posts, Unlocks, Decides, Locks, Opens, Reads, Discards, HasEnded, Has}
+use Rattle.seat_programs.specs.Posts.{packed, end_id, unlocked}
+use Rattle.seat_programs.specs.Programs.{Program, Do, Say, Rest, TakeMessage, TakeHome, PutHome, PutBytes, AskReady, Aside, Round}
+use Rattle.seat_programs.specs.Ticks.{Answer, OfPut, OfReady, Moment, taken, ticked, step_with, tick_with, with_message, with_link, with_put, with_ready, with_found}
 use Rattle.sock_runs.specs.Sound.{first_step}
-use Rattle.send_causes.specs.sock_causes.specs.Facts.{born_at, born_of, put_at, put_by}
+use Rattle.send_causes.specs.outcome_causes.specs.Facts.{born_at, born_of, put_at, put_by}
 use Rattle.send_causes.specs.call_causes.proofs.Sayings.{got_other}
 use Rattle.send_causes.proofs.Readings.{ticks_first}
 use Rattle.calm_runs.specs.Calm.{IsCalm}
@@ -128,7 +128,7 @@ module _ (S : ℕ → Type 0) where
   unsaid n none_ ws _ x os = absurd x
 
   calm_found : (call : Call) (next : ℕ → Program) → C (Do call next) → (found : ℕ) → C (next found)
-  calm_found (GiveBirth i k) next x = absurd x
+  calm_found (CreateLife i k) next x = absurd x
   calm_found call next x = x
 
   -- the calls at home are these
@@ -144,7 +144,7 @@ module _ (S : ℕ → Type 0) where
   no_birth (Do call next) x = none_born call next x
     where
       none_born : (call : Call) (next : ℕ → Program) → C (Do call next) → born_of (std.Some call) ≡ []
-      none_born (GiveBirth i k) next x = absurd x
+      none_born (CreateLife i k) next x = absurd x
       none_born _ next x = refl
   no_birth (Say o outcome next) x = refl
   no_birth (Aside step next) x = refl

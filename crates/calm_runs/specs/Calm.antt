@@ -5,13 +5,13 @@ use Rattle.sock_io.specs.declared.link.Put.{Put}
 use Rattle.sock_io.specs.declared.link.Ready.{Ready}
 use Rattle.sock_message.specs.Asked.{Asked}
 use Rattle.sock_model.specs.declared.chain.Heading.{Heading}
-use Rattle.sock_programs.specs.declared.task.Op.{Op}
-use Rattle.sock_programs.specs.declared.task.Op.TheVariants as ops
-use Rattle.sock_programs.specs.Asides.{Found, PutCall, TakeCall}
-use Rattle.sock_programs.specs.Calls.{GiveBirth}
-use Rattle.sock_programs.specs.Heads.{Exit, Posts, Decides, Locks, Joins, Opens, Reads, Discards, Posting, HasEnded, Locking, Ended}
-use Rattle.sock_programs.specs.Posts.{ends_call, is_final}
-use Rattle.sock_programs.specs.Programs.{Program, Do, Say, Sent, Rest, TakeMessage, TakeHome, PutHome, PutBytes, AskReady, Write, Aside, Round, Keep, Retries}
+use Rattle.seat_programs.specs.declared.task.Op.{Op}
+use Rattle.seat_programs.specs.declared.task.Op.TheVariants as ops
+use Rattle.seat_programs.specs.Asides.{Found, PutCall, TakeCall}
+use Rattle.seat_programs.specs.Calls.{CreateLife}
+use Rattle.seat_programs.specs.Heads.{Exit, Posts, Decides, Locks, Joins, Opens, Reads, Discards, Posting, HasEnded, Locking, Ended}
+use Rattle.seat_programs.specs.Posts.{ends_call, is_final}
+use Rattle.seat_programs.specs.Programs.{Program, Do, Say, Sent, Rest, TakeMessage, TakeHome, PutHome, PutBytes, AskReady, Write, Aside, Round, Keep, Retries}
 
 abbrev pub IsNoJoin : Op → Type 0
 IsNoJoin (ops.Join t) = ⊥
@@ -41,7 +41,7 @@ OnlyLocks (Retries requests after) = OnlyLocks after
 -- where the calls at home are of these operations: the program makes no life, puts no call home, ends each call on which it decides, and says outcomes of these operations alone
 module _ (S : ℕ → Type 0) where
   abbrev pub IsCalm : Program → Type 0
-  IsCalm (Do (GiveBirth i k) next) = ⊥
+  IsCalm (Do (CreateLife i k) next) = ⊥
   IsCalm (Do call next) = (found : ℕ) → IsCalm (next found)
   IsCalm (Say o outcome next) = S o × IsCalm next
   IsCalm (Aside (PutCall i asked) next) = ⊥

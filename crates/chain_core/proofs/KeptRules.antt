@@ -13,7 +13,7 @@ use Rattle.sock_steps.specs.sock_model.specs.declared.chain.Stage.{Stage}
 use Rattle.sock_steps.specs.sock_model.specs.declared.chain.Stage.TheVariants.{Placed, Passes}
 use Rattle.sock_steps.specs.sock_model.specs.declared.home.Home.{Home}
 use Rattle.sock_steps.specs.sock_model.specs.declared.view.View.{View}
-use Rattle.sock_steps.specs.sock_model.specs.Layout.{head_word, next_word, request_word}
+use Rattle.sock_steps.specs.sock_model.specs.Layout.{head_index, next_index, request_index}
 use Rattle.sock_steps.specs.sock_model.specs.Entries.{slot_of}
 use Rattle.sock_steps.specs.sock_model.specs.Memory.{IDLE, UNCONNECTED}
 use Rattle.sock_steps.specs.sock_model.specs.ChainRows.{with_claim, fresh_claim, ready_claim, queued, new_right, righted, without_loose, with_right, without_right, walking_right, passing_right, reading_right, turned_right, freed_right, freed_stage}
@@ -21,10 +21,10 @@ use Rattle.sock_steps.specs.sock_model.specs.Reads.{link_home}
 use Rattle.sock_steps.specs.sock_model.specs.Lawful.{Lawful}
 use Rattle.sock_steps.specs.sock_model.specs.Keeping.{KeepsRule, LawfulAfter}
 use Rattle.sock_steps.specs.sock_model.specs.Rule.{Rule, noting}
-use Rattle.sock_steps.specs.chain_laws.proofs.Lists.{at_length}
-use Rattle.sock_steps.specs.chain_laws.proofs.Grow.{last_small}
-use Rattle.sock_steps.specs.chain_laws.proofs.Heads.{held_of}
-use Rattle.sock_steps.specs.chain_laws.proofs.Frees.{Leads, to_end, to_next}
+use Rattle.sock_steps.specs.chain_steps.proofs.Lists.{at_length}
+use Rattle.sock_steps.specs.chain_steps.proofs.Grow.{last_small}
+use Rattle.sock_steps.specs.chain_steps.proofs.Heads.{held_of}
+use Rattle.sock_steps.specs.chain_steps.proofs.Frees.{Leads, to_end, to_next}
 use Rattle.sock_steps.proofs.RightSteps.{right_in, right_alone}
 use Rattle.sock_steps.proofs.Maps.{set_at}
 use Rattle.sock_steps.proofs.SlotSteps.{idle_law}
@@ -68,47 +68,47 @@ looks place found p s id v o here may is = subst (λ x. LawfulAfter p s (place p
 
 -- C1 of a taken word, which the seat notes
 pub notes : (r found : ℕ) → found % 2 ≡ 1 → NotesTaken r found (bit_or found 1)
-notes r found taken p s id v o here mine inside is = subst (λ x. Rule (λ home. home) p (stepped s (request_word p r) (bit_or x 1) id [] (noting (request_word p r) v) keeps)) is
+notes r found taken p s id v o here mine inside is = subst (λ x. Rule (λ home. home) p (stepped s (request_index p r) (bit_or x 1) id [] (noting (request_index p r) v) keeps)) is
     (tried_rule o id v here mine r inside (omega (arith, is, taken)))
 
 -- C5 of an entry that has its place
-pub passes : (r found : ℕ) → KeepsRule (MayPass r) (λ p. next_word p r) found found (λ p v m. with_right v (passing_right m.mine.right m.now found))
+pub passes : (r found : ℕ) → KeepsRule (MayPass r) (λ p. next_index p r) found found (λ p v m. with_right v (passing_right m.mine.right m.now found))
 passes r found p s id v o here m is =
-    let word_is : get_or s.words (next_word p (slot_of m.now)) 0 ≡ found = ap (λ q. get_or s.words (next_word p q) 0) m.request_is ∙ is in
-    still p s (next_word p r) found id (with_right v (passing_right m.mine.right m.now found)) is
+    let word_is : get_or s.words (next_index p (slot_of m.now)) 0 ≡ found = ap (λ q. get_or s.words (next_index p q) 0) m.request_is ∙ is in
+    still p s (next_index p r) found id (with_right v (passing_right m.mine.right m.now found)) is
     (subst (λ x. Lawful (λ home. home) p record { words = s.words; homes = s.homes; views = set s.views id (with_right v (passing_right m.mine.right m.now x)) }) word_is
     (passing_law (λ home. home) p s o id v here m.mine m.now m.stage m.not_last))
 
 -- C5 of an entry that has its place, whose request isn't given back: the next entry comes at once
-pub retires : (r found : ℕ) → KeepsRule (MayRetire r) (λ p. next_word p r) found found (λ p v m. with_right v (freed_right (passing_right m.0.mine.right m.0.now found)))
+pub retires : (r found : ℕ) → KeepsRule (MayRetire r) (λ p. next_index p r) found found (λ p v m. with_right v (freed_right (passing_right m.0.mine.right m.0.now found)))
 retires r found p s id v o here m is =
-    let word_is : get_or s.words (next_word p (slot_of m.0.now)) 0 ≡ found = ap (λ q. get_or s.words (next_word p q) 0) m.0.request_is ∙ is in
-    still p s (next_word p r) found id (with_right v (freed_right (passing_right m.0.mine.right m.0.now found))) is
+    let word_is : get_or s.words (next_index p (slot_of m.0.now)) 0 ≡ found = ap (λ q. get_or s.words (next_index p q) 0) m.0.request_is ∙ is in
+    still p s (next_index p r) found id (with_right v (freed_right (passing_right m.0.mine.right m.0.now found))) is
     (subst (λ x. Lawful (λ home. home) p record { words = s.words; homes = s.homes; views = set s.views id (with_right v (freed_right (passing_right m.0.mine.right m.0.now x))) }) word_is
     (passing_last_law (λ home. home) p id v m.0.mine s o here m.0.now m.0.stage m.0.not_last m.1))
 
 -- C5 on the walk
-pub reads : (r found : ℕ) → found ≢ UNCONNECTED → KeepsRule (MayRead r) (λ p. next_word p r) found found (λ p v m. with_right v (reading_right m.mine.right m.top m.at m.after found))
+pub reads : (r found : ℕ) → found ≢ UNCONNECTED → KeepsRule (MayRead r) (λ p. next_index p r) found found (λ p v m. with_right v (reading_right m.mine.right m.top m.at m.after found))
 reads r found some_ p s id v o here m is =
-    let word_is : get_or s.words (next_word p (slot_of m.at)) 0 ≡ found = ap (λ q. get_or s.words (next_word p q) 0) m.request_is ∙ is in
-    still p s (next_word p r) found id (with_right v (reading_right m.mine.right m.top m.at m.after found)) is
+    let word_is : get_or s.words (next_index p (slot_of m.at)) 0 ≡ found = ap (λ q. get_or s.words (next_index p q) 0) m.request_is ∙ is in
+    still p s (next_index p r) found id (with_right v (reading_right m.mine.right m.top m.at m.after found)) is
     (subst (λ x. Lawful (λ home. home) p record { words = s.words; homes = s.homes; views = set s.views id (with_right v (reading_right m.mine.right m.top m.at m.after x)) }) word_is
     (reading_law (λ home. home) p s o id v here m.mine m.top m.at m.after m.stage (λ e. some_ (sym word_is ∙ e))))
 
 -- ## Claims and the exchange
 
-pub claims : (r k found : ℕ) (heading : Heading) (bytes : List ℕ) → found % 2 ≡ 0 → KeepsRule (MayClaim r) (λ p. request_word p r) found (found + 1) (λ p v m. with_claim v (fresh_claim k r found heading bytes))
+pub claims : (r k found : ℕ) (heading : Heading) (bytes : List ℕ) → found % 2 ≡ 0 → KeepsRule (MayClaim r) (λ p. request_index p r) found (found + 1) (λ p v m. with_claim v (fresh_claim k r found heading bytes))
 claims r k found heading bytes free p s id v o here may is =
-    subst (λ x. LawfulAfter p s (request_word p r) x id (with_claim v (fresh_claim k r found heading bytes))) (omega (arith, free))
+    subst (λ x. LawfulAfter p s (request_index p r) x id (with_claim v (fresh_claim k r found heading bytes))) (omega (arith, free))
     (claiming_law (λ home. home) p id r (found / 2) v (fresh_claim k r found heading bytes) s o here may.0 may.1 refl refl refl refl (omega (arith, is, free)))
 
-pub unconnects : (r found : ℕ) → KeepsRule (HasClaim r) (λ p. next_word p r) found UNCONNECTED (λ p v m. with_claim v (ready_claim m.claim))
+pub unconnects : (r found : ℕ) → KeepsRule (HasClaim r) (λ p. next_index p r) found UNCONNECTED (λ p v m. with_claim v (ready_claim m.claim))
 unconnects r found p s id v o here m is =
     readying_law o id r v m.claim (ready_claim m.claim) here m.request_in m.claims m.request_is m.request_is refl
     (λ filled. o.messages.claimed r m.claim m.request_in (claim_alone o id r v m.claim (ready_claim m.claim) here m.request_in m.claims m.request_is m.request_is) filled)
 
-pub queues : (i own found : ℕ) → found < IDLE → KeepsRule (MaySwap i own) (λ p. head_word i) found own (λ p v m. queued v m.claim found)
-queues i own found low p s id v o here m is = subst (λ x. LawfulAfter p s (head_word i) own id (queued v m.claim x)) is
+pub queues : (i own found : ℕ) → found < IDLE → KeepsRule (MaySwap i own) (λ p. head_index i) found own (λ p v m. queued v m.claim found)
+queues i own found low p s id v o here m is = subst (λ x. LawfulAfter p s (head_index i) own id (queued v m.claim x)) is
     (queued_law (λ home. home) p s o id i own v here m (omega (arith, is, low)))
 
 -- the link of a right that says so is at home
@@ -120,30 +120,30 @@ at_home p s id v w r rest words here has home o =
 
 pub rights : (i own found : ℕ) → IDLE ≤ found → TakesRight i own found own
 rights i own found high p s id v o here m is =
-    let a : (sent : List ℕ) × (places : ℕ) × LawfulAfter p s (head_word i) own id (righted v m.claim found sent places) = subst (λ x. (sent : List ℕ) × (places : ℕ) × LawfulAfter p s (head_word i) own id (righted v m.claim x sent places)) is
+    let a : (sent : List ℕ) × (places : ℕ) × LawfulAfter p s (head_index i) own id (righted v m.claim found sent places) = subst (λ x. (sent : List ℕ) × (places : ℕ) × LawfulAfter p s (head_index i) own id (righted v m.claim x sent places)) is
     (righted_law (λ home. home) p s o id i own v here m (omega (arith, is, high))) in
-    (a.0, a.1, at_home p s id v (righted v m.claim found a.0 a.1) (new_right m.claim found a.0 a.1) v.rights (set s.words (head_word i) own) here refl refl a.2, a.2)
+    (a.0, a.1, at_home p s id v (righted v m.claim found a.0 a.1) (new_right m.claim found a.0 a.1) v.rights (set s.words (head_index i) own) here refl refl a.2, a.2)
 
-pub connects : (r before found : ℕ) → KeepsRule (MayConnect r before) (λ p. next_word p r) found before (λ p v m. without_loose v r)
+pub connects : (r before found : ℕ) → KeepsRule (MayConnect r before) (λ p. next_index p r) found before (λ p v m. without_loose v r)
 connects r before found p s id v o here m is = connecting_law (λ home. home) p id m.place v (record { request = r; before = before }) s o here m.request_in m.has
 
 -- ## The right
 
-pub empties : (i last found : ℕ) → found ≡ last → KeepsRule (MayTry i last) (λ p. head_word i) found (bit_or found 9223372036854775808) (λ p v m. without_right v m.mine.right.link)
+pub empties : (i last found : ℕ) → found ≡ last → KeepsRule (MayTry i last) (λ p. head_index i) found (bit_or found 9223372036854775808) (λ p v m. without_right v m.mine.right.link)
 empties i last found hit p s id v o here m is =
     let kl = right_in o id m.mine.place v m.mine.right here m.mine.has in
     let held = (held_of o.chains m.mine.right.link m.mine.right kl (right_alone o id m.mine.place v m.mine.right here m.mine.has)).1 in
     let small = last_small o.chains m.mine.right.link held.counts.noted o.fits.narrow (let f = held.fits in omega arith) in
     let low : found < IDLE = omega (arith, held.last_is, m.last_is, small, hit) in
-    subst (λ x. LawfulAfter p s (head_word i) x id (without_right v m.mine.right.link)) (ap (λ x. IDLE + x) (sym hit) ∙ sym (or_idle found low))
+    subst (λ x. LawfulAfter p s (head_index i) x id (without_right v m.mine.right.link)) (ap (λ x. IDLE + x) (sym hit) ∙ sym (or_idle found low))
     (emptied_law (λ home. home) p s o id i last (IDLE + last) v here m (is ∙ hit))
 
-pub walks : (i last found : ℕ) → found ≢ last → KeepsRule (MayTry i last) (λ p. head_word i) found found (λ p v m. with_right v (walking_right m.mine.right found))
-walks i last found miss p s id v o here m is = still p s (head_word i) found id (with_right v (walking_right m.mine.right found)) is
+pub walks : (i last found : ℕ) → found ≢ last → KeepsRule (MayTry i last) (λ p. head_index i) found found (λ p v m. with_right v (walking_right m.mine.right found))
+walks i last found miss p s id v o here m is = still p s (head_index i) found id (with_right v (walking_right m.mine.right found)) is
     (walking_law (λ home. home) p s o id i last (IDLE + last) v here m found is miss)
 
-pub turns : (r value found : ℕ) → KeepsRule (MayTurnTo r value) (λ p. next_word p r) found value (λ p v m. with_right v (turned_right m.0.mine.right m.0.top m.0.at m.0.before))
-turns r value found p s id v o here m is = subst (λ q. LawfulAfter p s (next_word p q) value id (with_right v (turned_right m.0.mine.right m.0.top m.0.at m.0.before))) m.1
+pub turns : (r value found : ℕ) → KeepsRule (MayTurnTo r value) (λ p. next_index p r) found value (λ p v m. with_right v (turned_right m.0.mine.right m.0.top m.0.at m.0.before))
+turns r value found p s id v o here m is = subst (λ q. LawfulAfter p s (next_index p q) value id (with_right v (turned_right m.0.mine.right m.0.top m.0.at m.0.before))) m.1
     (turning_law (λ home. home) p s o id value v here m.0)
 
 passed_leads : (last now : ℕ) (stage : Stage) → ((stage ≡ Placed now) × (now ≡ last)) ⊎ ((next : ℕ) × (stage ≡ Passes now next)) → Leads last stage now (freed_stage stage)
@@ -151,8 +151,8 @@ passed_leads last now stage h = ⊎_elim
     (λ a. subst (λ b. Leads last b now (freed_stage b)) (sym a.0) (to_end now a.1))
     (λ b. subst (λ c. Leads last c now (freed_stage c)) (sym b.1) (to_next now b.0)) h
 
-pub frees : (r generation found : ℕ) → generation < 140737488355327 → KeepsRule (MayFree r generation) (λ p. request_word p r) found (2 * (generation + 1)) (λ p v m. with_right v (freed_right m.mine.right))
+pub frees : (r generation found : ℕ) → generation < 140737488355327 → KeepsRule (MayFree r generation) (λ p. request_index p r) found (2 * (generation + 1)) (λ p v m. with_right v (freed_right m.mine.right))
 frees r generation found small p s id v o here m is =
-    subst (λ q. LawfulAfter p s (request_word p q) (2 * (generation + 1)) id (with_right v (freed_right m.mine.right))) m.request_is
-    (subst (λ g. LawfulAfter p s (request_word p (slot_of m.now)) (2 * (g + 1)) id (with_right v (freed_right m.mine.right))) m.generation_is
+    subst (λ q. LawfulAfter p s (request_index p q) (2 * (generation + 1)) id (with_right v (freed_right m.mine.right))) m.request_is
+    (subst (λ g. LawfulAfter p s (request_index p (slot_of m.now)) (2 * (g + 1)) id (with_right v (freed_right m.mine.right))) m.generation_is
     (freeing_law (λ home. home) p id m.mine.place m.now (freed_stage m.mine.right.stage) v m.mine.right s o here m.mine.has (passed_leads m.mine.right.last m.now m.mine.right.stage m.passed) (omega (arith, m.generation_is, small))))

@@ -1,7 +1,7 @@
 -- What a seat has after its exchange found an idle head.
 use Rattle.std.specs.Prelude.{◌≡◌, ℕ, List}
 use mathlib.Core.Option.{some}
-use Rattle.sock_steps.specs.sock_model.specs.Layout.{head_word}
+use Rattle.sock_steps.specs.sock_model.specs.Layout.{head_index}
 use Rattle.sock_steps.specs.sock_model.specs.Reads.{link_home}
 use Rattle.sock_steps.specs.sock_model.specs.ChainRows.{righted}
 use Rattle.sock_steps.specs.sock_model.specs.Keeping.{LawfulAfter, WhereLawful}
@@ -9,5 +9,5 @@ use Rattle.chain_core.specs.Conditions.{MaySwap}
 
 -- the link of its claim is at home, and the rule holds with the right of the seat, which knows what the link took and how many of its messages have places
 abbrev pub TakesRight : (i own found next : ℕ) → Type 0
-TakesRight i own found next = WhereLawful (MaySwap i own) (λ p. head_word i) found
-    (λ p s id v m. (sent : List ℕ) × (places : ℕ) × (link_home (λ home. home) p s.homes m.claim.link ≡ some (sent, places)) × LawfulAfter p s (head_word i) next id (righted v m.claim found sent places))
+TakesRight i own found next = WhereLawful (MaySwap i own) (λ p. head_index i) found
+    (λ p s id v m. (sent : List ℕ) × (places : ℕ) × (link_home (λ home. home) p s.homes m.claim.link ≡ some (sent, places)) × LawfulAfter p s (head_index i) next id (righted v m.claim found sent places))

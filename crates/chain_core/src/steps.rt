@@ -1,6 +1,6 @@
 ghost use Rattle.std.specs.Prelude.{◌≡◌, ◌≢◌, ℕ, ◌+◌, ◌*◌, ◌%◌, ◌<◌, ◌≤◌, List, true, false, bit_or};
 ghost use Rattle.sock_steps.specs.sock_model.specs.declared.chain.Heading.{Heading};
-ghost use Rattle.sock_steps.specs.sock_model.specs.Layout.{head_word, next_word, request_word};
+ghost use Rattle.sock_steps.specs.sock_model.specs.Layout.{head_index, next_index, request_index};
 ghost use Rattle.sock_steps.specs.sock_model.specs.ChainRows.{with_claim, fresh_claim, ready_claim, queued, without_loose, with_right, without_right, walking_right, passing_right, reading_right, turned_right, freed_right};
 ghost use Rattle.sock_steps.specs.sock_model.specs.Conditions.{HasClaim};
 ghost use Rattle.sock_steps.specs.sock_model.specs.Keeping.{KeepsRule};
@@ -25,8 +25,8 @@ pub fn claim_request(found: u64) -> Step
     ensures found { result.found ≡ found }
     ensures won { found % 2 ≡ 0 → (result.next ≡ found + 1) × (result.won ≡ true) }
     ensures lost { found % 2 ≡ 1 → (result.next ≡ found) × (result.won ≡ false) }
-    ensures keeps_won { found % 2 ≡ 0 → (r k : ℕ) (heading : Heading) (bytes : List ℕ) → KeepsRule (MayClaim r) (λ p. request_word p r) found result.next (λ p v m. with_claim v (fresh_claim k r found heading bytes)) }
-    ensures keeps_lost { found % 2 ≡ 1 → (r : ℕ) → KeepsRule MayLook (λ p. request_word p r) found result.next (λ p v m. v) }
+    ensures keeps_won { found % 2 ≡ 0 → (r k : ℕ) (heading : Heading) (bytes : List ℕ) → KeepsRule (MayClaim r) (λ p. request_index p r) found result.next (λ p v m. with_claim v (fresh_claim k r found heading bytes)) }
+    ensures keeps_lost { found % 2 ≡ 1 → (r : ℕ) → KeepsRule MayLook (λ p. request_index p r) found result.next (λ p v m. v) }
     ensures notes_lost { found % 2 ≡ 1 → (r : ℕ) → NotesTaken r found result.next }
 {
     Step {
@@ -41,7 +41,7 @@ pub fn claim_request(found: u64) -> Step
 /// own, and connects itself behind it. Who found it idle has the right to write.
 pub fn swap_head(found: u64, own: Ticket) -> Step
     ensures step { (result.found ≡ found) × (result.next ≡ own.0) × (result.won ≡ true) }
-    ensures keeps_busy { found < 9223372036854775808 → (i : ℕ) → KeepsRule (MaySwap i own.0) (λ p. head_word i) found result.next (λ p v m. queued v m.claim found) }
+    ensures keeps_busy { found < 9223372036854775808 → (i : ℕ) → KeepsRule (MaySwap i own.0) (λ p. head_index i) found result.next (λ p v m. queued v m.claim found) }
     ensures keeps_idle { 9223372036854775808 ≤ found → (i : ℕ) → TakesRight i own.0 found result.next }
 {
     Step {
@@ -55,7 +55,7 @@ pub fn swap_head(found: u64, own: Ticket) -> Step
 /// `req->next = prev_head`). Who writes may then go past this request on its walk.
 pub fn connect(found: u64, before: Ticket) -> Step
     ensures step { (result.found ≡ found) × (result.next ≡ before.0) × (result.won ≡ true) }
-    ensures keeps { (r : ℕ) → KeepsRule (MayConnect r before.0) (λ p. next_word p r) found result.next (λ p v m. without_loose v r) }
+    ensures keeps { (r : ℕ) → KeepsRule (MayConnect r before.0) (λ p. next_index p r) found result.next (λ p v m. without_loose v r) }
 {
     Step {
         found,
@@ -71,8 +71,8 @@ pub fn empty_head(found: u64, last: Ticket) -> Step
     ensures found { result.found ≡ found }
     ensures won { found ≡ last.0 → (result.next ≡ bit_or last.0 9223372036854775808) × (result.won ≡ true) }
     ensures lost { found ≢ last.0 → (result.next ≡ found) × (result.won ≡ false) }
-    ensures keeps_won { found ≡ last.0 → (i : ℕ) → KeepsRule (MayTry i last.0) (λ p. head_word i) found result.next (λ p v m. without_right v m.mine.right.link) }
-    ensures keeps_lost { found ≢ last.0 → (i : ℕ) → KeepsRule (MayTry i last.0) (λ p. head_word i) found result.next (λ p v m. with_right v (walking_right m.mine.right found)) }
+    ensures keeps_won { found ≡ last.0 → (i : ℕ) → KeepsRule (MayTry i last.0) (λ p. head_index i) found result.next (λ p v m. without_right v m.mine.right.link) }
+    ensures keeps_lost { found ≢ last.0 → (i : ℕ) → KeepsRule (MayTry i last.0) (λ p. head_index i) found result.next (λ p v m. with_right v (walking_right m.mine.right found)) }
 {
     if found == last.word() {
         Step {
@@ -93,10 +93,10 @@ pub fn empty_head(found: u64, last: Ticket) -> Step
 /// walks goes on once it found a ticket, and waits while it finds `UNCONNECTED` (socket.cpp, `IsWriteComplete`).
 pub fn read_next(found: u64) -> Step
     ensures step { (result.found ≡ found) × (result.next ≡ found) × (result.won ≡ true) }
-    ensures keeps_written { (r : ℕ) → KeepsRule (MayPass r) (λ p. next_word p r) found result.next (λ p v m. with_right v (passing_right m.mine.right m.now found)) }
-    ensures keeps_retired { (r : ℕ) → KeepsRule (MayRetire r) (λ p. next_word p r) found result.next (λ p v m. with_right v (freed_right (passing_right m.0.mine.right m.0.now found))) }
-    ensures keeps_walk { found ≢ 18446744073709551615 → (r : ℕ) → KeepsRule (MayRead r) (λ p. next_word p r) found result.next (λ p v m. with_right v (reading_right m.mine.right m.top m.at m.after found)) }
-    ensures keeps_waiting { (r : ℕ) → KeepsRule MayLook (λ p. next_word p r) found result.next (λ p v m. v) }
+    ensures keeps_written { (r : ℕ) → KeepsRule (MayPass r) (λ p. next_index p r) found result.next (λ p v m. with_right v (passing_right m.mine.right m.now found)) }
+    ensures keeps_retired { (r : ℕ) → KeepsRule (MayRetire r) (λ p. next_index p r) found result.next (λ p v m. with_right v (freed_right (passing_right m.0.mine.right m.0.now found))) }
+    ensures keeps_walk { found ≢ 18446744073709551615 → (r : ℕ) → KeepsRule (MayRead r) (λ p. next_index p r) found result.next (λ p v m. with_right v (reading_right m.mine.right m.top m.at m.after found)) }
+    ensures keeps_waiting { (r : ℕ) → KeepsRule MayLook (λ p. next_index p r) found result.next (λ p v m. v) }
 {
     Step {
         found,
@@ -109,7 +109,7 @@ pub fn read_next(found: u64) -> Step
 /// (socket.cpp, `IsWriteComplete`: `p->next = tail`). The walk ends where the last ticket that was noted came before.
 pub fn turn_next(found: u64, value: u64) -> Step
     ensures step { (result.found ≡ found) × (result.next ≡ value) × (result.won ≡ true) }
-    ensures keeps { (r : ℕ) → KeepsRule (MayTurnTo r value) (λ p. next_word p r) found result.next (λ p v m. with_right v (turned_right m.0.mine.right m.0.top m.0.at m.0.before)) }
+    ensures keeps { (r : ℕ) → KeepsRule (MayTurnTo r value) (λ p. next_index p r) found result.next (λ p v m. with_right v (turned_right m.0.mine.right m.0.top m.0.at m.0.before)) }
 {
     Step {
         found,
@@ -122,7 +122,7 @@ pub fn turn_next(found: u64, value: u64) -> Step
 /// `Socket::Write`: `req->next = WriteRequest::UNCONNECTED`).
 pub fn unconnect(found: u64) -> Step
     ensures step { (result.found ≡ found) × (result.next ≡ 18446744073709551615) × (result.won ≡ true) }
-    ensures keeps { (r : ℕ) → KeepsRule (HasClaim r) (λ p. next_word p r) found result.next (λ p v m. with_claim v (ready_claim m.claim)) }
+    ensures keeps { (r : ℕ) → KeepsRule (HasClaim r) (λ p. next_index p r) found result.next (λ p v m. with_claim v (ready_claim m.claim)) }
 {
     Step {
         found,
@@ -137,7 +137,7 @@ pub fn unconnect(found: u64) -> Step
 pub fn free_request(found: u64, generation: u64) -> Step
     requires { generation < 140737488355327 }
     ensures step { (result.found ≡ found) × (result.next ≡ 2 * (generation + 1)) × (result.won ≡ true) }
-    ensures keeps { (r : ℕ) → KeepsRule (MayFree r generation) (λ p. request_word p r) found result.next (λ p v m. with_right v (freed_right m.mine.right)) }
+    ensures keeps { (r : ℕ) → KeepsRule (MayFree r generation) (λ p. request_index p r) found result.next (λ p v m. with_right v (freed_right m.mine.right)) }
 {
     Step {
         found,

@@ -2,30 +2,30 @@
 use Rattle.std.proofs.Common.{◌≡◌, refl, sym, ap, ◌∙◌, ℕ, true, List, Option}
 use Rattle.std.proofs.lemmas.Bool.{true≢false}
 use Rattle.sock_words.specs.declared.outcome.Outcome.{Outcome}
-use Rattle.seat_points.specs.declared.point.OpenStep.TheVariants as opens
-use Rattle.seat_points.specs.declared.point.SeekStep.TheVariants as seeks
-use Rattle.seat_points.specs.declared.point.Aim.TheVariants as aims
-use Rattle.seat_points.specs.declared.point.FailStep.TheVariants as fails
-use Rattle.seat_points.specs.declared.point.ReleaseStep.TheVariants as releases
-use Rattle.seat_points.specs.declared.point.SendStep.TheVariants as sends
-use Rattle.seat_points.specs.declared.point.WriteStep.TheVariants as writes
+use Rattle.seat_states.specs.declared.point.OpenStep.TheVariants as opens
+use Rattle.seat_states.specs.declared.point.SeekStep.TheVariants as seeks
+use Rattle.seat_states.specs.declared.point.Aim.TheVariants as aims
+use Rattle.seat_states.specs.declared.point.FailStep.TheVariants as fails
+use Rattle.seat_states.specs.declared.point.ReleaseStep.TheVariants as releases
+use Rattle.seat_states.specs.declared.point.SendStep.TheVariants as sends
+use Rattle.seat_states.specs.declared.point.WriteStep.TheVariants as writes
 use Rattle.call_points.specs.declared.deciding.DecideStep.TheVariants as decides
 use Rattle.call_points.specs.declared.posting.PostStep.TheVariants as posts
 use Rattle.call_points.specs.declared.locking.LockStep.TheVariants as locks
-use Rattle.seat_points.specs.declared.point.Author.{Author}
-use Rattle.seat_points.specs.declared.point.Author.TheVariants as authors
-use Rattle.seat_points.specs.declared.point.CallStep.TheVariants as begins
-use Rattle.seat_points.specs.declared.point.AttemptStep.TheVariants as attempts
-use Rattle.seat_points.specs.declared.point.RetryStep.TheVariants as retries
-use Rattle.seat_points.specs.declared.point.JoinStep.TheVariants as joins
-use Rattle.seat_points.specs.declared.point.Point.{Point}
-use Rattle.seat_points.specs.declared.point.Point.TheVariants as points
-use Rattle.sock_programs.specs.declared.task.Sizes.{Sizes}
-use Rattle.sock_programs.specs.Heads.{Retry}
-use Rattle.sock_programs.specs.Programs.{Program, Do, Say, Sent, Rest, TakeMessage, TakeHome, PutHome, PutBytes, AskReady, Write, Aside, Round, Keep, Retries}
-use Rattle.sock_programs.specs.Cores.{resolved, still_waiting, said, next_step}
-use Rattle.seat_points.specs.sock_runs.specs.Sound.{is_begun}
-use Rattle.seat_points.specs.Points.{Around, point_program, look_program}
+use Rattle.seat_states.specs.declared.point.Author.{Author}
+use Rattle.seat_states.specs.declared.point.Author.TheVariants as authors
+use Rattle.seat_states.specs.declared.point.CallStep.TheVariants as begins
+use Rattle.seat_states.specs.declared.point.AttemptStep.TheVariants as attempts
+use Rattle.seat_states.specs.declared.point.RetryStep.TheVariants as retries
+use Rattle.seat_states.specs.declared.point.JoinStep.TheVariants as joins
+use Rattle.seat_states.specs.declared.point.Point.{Point}
+use Rattle.seat_states.specs.declared.point.Point.TheVariants as points
+use Rattle.seat_programs.specs.declared.task.Sizes.{Sizes}
+use Rattle.seat_programs.specs.Heads.{Retry}
+use Rattle.seat_programs.specs.Programs.{Program, Do, Say, Sent, Rest, TakeMessage, TakeHome, PutHome, PutBytes, AskReady, Write, Aside, Round, Keep, Retries}
+use Rattle.seat_programs.specs.Cores.{resolved, still_waiting, said, next_step}
+use Rattle.seat_states.specs.sock_runs.specs.Sound.{is_begun}
+use Rattle.seat_states.specs.Points.{Around, point_program, look_program}
 use Rattle.client_seats.specs.Seats.{SeatData, seat_program}
 use Rattle.client_seats.specs.Following.{FollowsOn}
 
@@ -38,8 +38,8 @@ begun a points.Rest = refl
 begun a (points.Open g (opens.Claim i)) = refl
 begun a (points.Open g (opens.StoreLink i)) = refl
 begun a (points.Open g (opens.ResetHead i)) = refl
-begun a (points.Open g (opens.WipeCode i)) = refl
-begun a (points.Open g (opens.GiveBirth i)) = refl
+begun a (points.Open g (opens.ClearCode i)) = refl
+begun a (points.Open g (opens.CreateLife i)) = refl
 begun a (points.Open g (opens.StoreOpen i v)) = refl
 begun a (points.Open g (opens.StoreName i v)) = refl
 begun a (points.Open g opens.TakeLink) = refl
@@ -53,7 +53,7 @@ begun a (points.Seek (aims.End o) seeks.Load) = refl
 begun a (points.Seek aim (seeks.AddRef id)) = refl
 begun a (points.Fail f fails.SetOdd) = refl
 begun a (points.Fail f (fails.StoreCode w)) = refl
-begun a (points.Fail f (fails.GiveBack w)) = refl
+begun a (points.Fail f (fails.ReleaseFirst w)) = refl
 begun a (points.Release i t releases.SubRef) = refl
 begun a (points.Release i t (releases.Recycle w)) = refl
 begun a (points.Release i t (releases.LoadLink w)) = refl
@@ -76,7 +76,7 @@ begun a (points.Write w (writes.Put m asked)) = refl
 begun a (points.Write w (writes.Ask m)) = refl
 begun a (points.Write w (writes.SetOdd m)) = refl
 begun a (points.Write w (writes.StoreCode m)) = refl
-begun a (points.Write w (writes.GiveBack m)) = refl
+begun a (points.Write w (writes.ReleaseFirst m)) = refl
 begun a (points.Write w (writes.StorePlace m)) = refl
 begun a (points.Write w (writes.LoadCode m)) = refl
 begun a (points.Write w (writes.DropPlace m n)) = refl

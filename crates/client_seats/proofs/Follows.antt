@@ -4,16 +4,16 @@ use Rattle.std.proofs.lemmas.Bool.{true≢false}
 use Rattle.sock_words.specs.declared.outcome.Outcome.{Outcome}
 use Rattle.sock_words.specs.declared.outcome.Outcome.TheVariants.{Expired}
 use Rattle.sock_words.specs.declared.socket_id.SocketId.{SocketId}
-use Rattle.sock_programs.specs.declared.task.Sizes.{Sizes}
-use Rattle.sock_programs.specs.Heads.{Retry}
-use Rattle.sock_programs.specs.Programs.{Program, Say, Sent, Keep, Rest}
-use Rattle.sock_programs.specs.Clients.{HeldLife, ending_of}
-use Rattle.sock_programs.specs.Cores.{resolved, said, next_step}
-use Rattle.seat_points.specs.declared.point.After.{After}
-use Rattle.seat_points.specs.declared.point.After.TheVariants as afters
-use Rattle.seat_points.specs.declared.point.Next.{Next}
-use Rattle.seat_points.specs.declared.point.Next.TheVariants as nexts
-use Rattle.seat_points.specs.Points.{Around, next_program, after_program}
+use Rattle.seat_programs.specs.declared.task.Sizes.{Sizes}
+use Rattle.seat_programs.specs.Heads.{Retry}
+use Rattle.seat_programs.specs.Programs.{Program, Say, Sent, Keep, Rest}
+use Rattle.seat_programs.specs.Clients.{HeldLife, ending_of}
+use Rattle.seat_programs.specs.Cores.{resolved, said, next_step}
+use Rattle.seat_states.specs.declared.point.After.{After}
+use Rattle.seat_states.specs.declared.point.After.TheVariants as afters
+use Rattle.seat_states.specs.declared.point.Next.{Next}
+use Rattle.seat_states.specs.declared.point.Next.TheVariants as nexts
+use Rattle.seat_states.specs.Points.{Around, next_program, after_program}
 use Rattle.client_seats.specs.Seats.{SeatData, around, nothing_asked, seat_program}
 use Rattle.client_seats.specs.Following.{FollowsOn, IsFlat}
 

@@ -2,15 +2,15 @@
 use Rattle.std.proofs.Common.{◌≡◌, refl, sym, ap, ap₂, ◌∙◌, subst, length, arith, true, false, ◌<◌, List, [], ◌∷◌, Option, Some, slice_set, slice_index_or, remove}
 use Rattle.sock_words.specs.declared.outcome.Outcome.{Outcome}
 use Rattle.sock_words.specs.declared.outcome.Outcome.TheVariants.{NotHeld}
-use Rattle.sock_programs.specs.declared.task.Task.{Task}
-use Rattle.sock_programs.specs.declared.task.Sizes.{Sizes}
-use Rattle.sock_programs.specs.Heads.{Retry}
-use Rattle.sock_programs.specs.Programs.{Program, Say}
-use Rattle.sock_programs.specs.Attempts.{retry}
-use Rattle.sock_programs.specs.Clients.{HeldLife, operation, client_from, give_back}
-use Rattle.sock_programs.specs.Cores.{resolved, still_waiting, said, next_step}
-use Rattle.seat_points.specs.declared.point.Point.{Point}
-use Rattle.seat_points.specs.Points.{Around, point_program}
+use Rattle.seat_programs.specs.declared.task.Task.{Task}
+use Rattle.seat_programs.specs.declared.task.Sizes.{Sizes}
+use Rattle.seat_programs.specs.Heads.{Retry}
+use Rattle.seat_programs.specs.Programs.{Program, Say}
+use Rattle.seat_programs.specs.Attempts.{retry}
+use Rattle.seat_programs.specs.Clients.{HeldLife, operation, client_from, give_back}
+use Rattle.seat_programs.specs.Cores.{resolved, still_waiting, said, next_step}
+use Rattle.seat_states.specs.declared.point.Point.{Point}
+use Rattle.seat_states.specs.Points.{Around, point_program}
 use Rattle.client_seats.specs.declared.seat.Kept.{Kept}
 use Rattle.client_seats.specs.Seats.{SeatData, retries, client_of, seat_program}
 use Rattle.client_seats.specs.Following.{FollowsOn}

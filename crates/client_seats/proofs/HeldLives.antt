@@ -1,18 +1,18 @@
 -- What is held, and what follows when some of it is given back.
 use Rattle.std.proofs.Common.{◌≡◌, refl, ℕ, ◌<◌, ◌==◌, Bool, true, false, not, if◌then◌else◌, ap, ◌∙◌, arith, List, [], ◌∷◌, length, filter, Some, remove, slice_index_or}
 use Rattle.sock_words.specs.Words.{socket_id_slot}
-use Rattle.sock_programs.specs.Programs.{release}
-use Rattle.sock_programs.specs.Clients.{HeldLife, without_name, held_under, give_back, operation}
-use Rattle.sock_programs.specs.declared.task.Op.{Op}
-use Rattle.sock_programs.specs.declared.task.Op.TheVariants as ops
+use Rattle.seat_programs.specs.Programs.{release}
+use Rattle.seat_programs.specs.Clients.{HeldLife, without_name, held_under, give_back, operation}
+use Rattle.seat_programs.specs.declared.task.Op.{Op}
+use Rattle.seat_programs.specs.declared.task.Op.TheVariants as ops
 use Rattle.sock_message.specs.Asked.{Asked}
-use Rattle.sock_programs.specs.Attempts.{call}
-use Rattle.sock_programs.specs.Sends.{send}
-use Rattle.sock_programs.specs.declared.task.Sizes.{Sizes}
+use Rattle.seat_programs.specs.Attempts.{call}
+use Rattle.seat_programs.specs.Sends.{send}
+use Rattle.seat_programs.specs.declared.task.Sizes.{Sizes}
 use Rattle.sock_words.specs.declared.socket_id.SocketId.{SocketId}
 use Rattle.client_seats.specs.declared.seat.Held.{Held}
-use Rattle.seat_points.specs.declared.point.Then.TheVariants as thens
-use Rattle.seat_points.specs.Points.{Around, client_on, then_program}
+use Rattle.seat_states.specs.declared.point.Then.TheVariants as thens
+use Rattle.seat_states.specs.Points.{Around, client_on, then_program}
 use Rattle.client_seats.specs.Seats.{lives}
 
 -- nothing is held under the name any more

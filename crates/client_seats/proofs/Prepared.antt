@@ -2,25 +2,25 @@
 use Rattle.std.proofs.Common.{◌≡◌, refl, sym, ap, ap₂, ◌∙◌, subst, ℕ, List, [], Some, None, Result, Ok, Err, IfOk, OnOk}
 use Rattle.sock_message.specs.Asked.{Asked, frame_of, parts_of, name_of}
 use Rattle.sock_words.specs.declared.socket_id.SocketId.{SocketId}
-use Rattle.sock_programs.specs.declared.task.Sizes.{Sizes}
-use Rattle.sock_programs.specs.Programs.{Program}
-use Rattle.sock_programs.specs.Posts.{decide, decided}
+use Rattle.seat_programs.specs.declared.task.Sizes.{Sizes}
+use Rattle.seat_programs.specs.Programs.{Program}
+use Rattle.seat_programs.specs.Posts.{decide, decided}
 use Rattle.id_points.specs.declared.call_id.CallId.{CallId}
 use Rattle.id_points.specs.declared.call_id.AttemptNumber.{AttemptNumber}
 use Rattle.id_points.specs.Ids.{id_of, number_of}
 use Rattle.call_points.specs.Steps.{after_call}
 use Rattle.call_points.specs.declared.deciding.DecideStep.TheVariants as decides
 use Rattle.call_points.specs.declared.locking.LockStep.TheVariants as locks
-use Rattle.seat_points.specs.declared.point.After.{After}
-use Rattle.seat_points.specs.declared.point.After.TheVariants as afters
-use Rattle.seat_points.specs.declared.point.CallStep.TheVariants as begins
-use Rattle.seat_points.specs.declared.point.Retrying.{Retrying}
-use Rattle.seat_points.specs.declared.point.RetryStep.{RetryStep}
-use Rattle.seat_points.specs.declared.point.RetryStep.TheVariants as retries
-use Rattle.seat_points.specs.declared.point.Next.{Next}
-use Rattle.seat_points.specs.declared.point.Point.{Point}
-use Rattle.seat_points.specs.declared.point.Point.TheVariants as points
-use Rattle.seat_points.specs.Points.{Around, point_program, next_program, after_program, taken_with, IsNextName, TakesCall, HasInHand, HasRetry, IsFramed}
+use Rattle.seat_states.specs.declared.point.After.{After}
+use Rattle.seat_states.specs.declared.point.After.TheVariants as afters
+use Rattle.seat_states.specs.declared.point.CallStep.TheVariants as begins
+use Rattle.seat_states.specs.declared.point.Retrying.{Retrying}
+use Rattle.seat_states.specs.declared.point.RetryStep.{RetryStep}
+use Rattle.seat_states.specs.declared.point.RetryStep.TheVariants as retries
+use Rattle.seat_states.specs.declared.point.Next.{Next}
+use Rattle.seat_states.specs.declared.point.Point.{Point}
+use Rattle.seat_states.specs.declared.point.Point.TheVariants as points
+use Rattle.seat_states.specs.Points.{Around, point_program, next_program, after_program, taken_with, IsNextName, TakesCall, HasInHand, HasRetry, IsFramed}
 use Rattle.client_seats.specs.Seats.{SeatData, around, asked_of, seat_program}
 use Rattle.client_seats.specs.Following.{IsFramedAs, IsPrepared, IsWithFrame}
 

@@ -3,13 +3,13 @@ use Rattle.std.specs.Prelude.{ℕ, ◌≡◌, ◌<◌, List, Option, Some, vec_l
 use Rattle.sock_message.specs.Asked.{Asked, frame_of, parts_of}
 use Rattle.message_parts.specs.Frames.{ParcelData}
 use Rattle.sock_words.specs.declared.outcome.Outcome.{Outcome}
-use Rattle.sock_programs.specs.declared.task.Sizes.{Sizes}
-use Rattle.sock_programs.specs.Programs.{Program}
-use Rattle.sock_programs.specs.Cores.{resolved, still_waiting, next_step, said}
-use Rattle.seat_points.specs.declared.point.Next.{Next}
-use Rattle.seat_points.specs.declared.point.Next.TheVariants as nexts
-use Rattle.seat_points.specs.Points.{Around, HasInHand, framed}
-use Rattle.seat_points.specs.declared.point.Point.{Point}
+use Rattle.seat_programs.specs.declared.task.Sizes.{Sizes}
+use Rattle.seat_programs.specs.Programs.{Program}
+use Rattle.seat_programs.specs.Cores.{resolved, still_waiting, next_step, said}
+use Rattle.seat_states.specs.declared.point.Next.{Next}
+use Rattle.seat_states.specs.declared.point.Next.TheVariants as nexts
+use Rattle.seat_states.specs.Points.{Around, HasInHand, framed}
+use Rattle.seat_states.specs.declared.point.Point.{Point}
 use Rattle.client_seats.specs.declared.seat.Seat.{Seat}
 use Rattle.client_seats.specs.Seats.{SeatData, around, seat_program}
 

@@ -3,14 +3,14 @@ use Rattle.std.specs.Prelude.{ℕ, Bool, if◌then◌else◌, List, [], map, Opt
 use Rattle.sock_message.specs.Asked.{Asked}
 use Rattle.message_parts.specs.Frames.{ParcelData, OutgoingData}
 use Rattle.message_parts.specs.Parcels.{outgoing_of}
-use Rattle.sock_programs.specs.declared.task.Task.{Task}
-use Rattle.sock_programs.specs.declared.task.Sizes.{Sizes}
-use Rattle.sock_programs.specs.Heads.{Retry}
-use Rattle.sock_programs.specs.Programs.{Program}
-use Rattle.sock_programs.specs.Clients.{HeldLife, client_from, give_back, ending_of}
+use Rattle.seat_programs.specs.declared.task.Task.{Task}
+use Rattle.seat_programs.specs.declared.task.Sizes.{Sizes}
+use Rattle.seat_programs.specs.Heads.{Retry}
+use Rattle.seat_programs.specs.Programs.{Program}
+use Rattle.seat_programs.specs.Clients.{HeldLife, client_from, give_back, ending_of}
 use Rattle.id_points.specs.Ids.{id_of, number_of}
-use Rattle.seat_points.specs.declared.point.Point.{Point}
-use Rattle.seat_points.specs.Points.{Around, point_program}
+use Rattle.seat_states.specs.declared.point.Point.{Point}
+use Rattle.seat_states.specs.Points.{Around, point_program}
 use Rattle.client_seats.specs.declared.hand.InHand.{InHand}
 use Rattle.client_seats.specs.declared.hand.InHand.TheVariants.{Nothing, Message, Call, Framed}
 use Rattle.client_seats.specs.declared.seat.Held.{Held}

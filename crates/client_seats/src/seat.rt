@@ -1,12 +1,12 @@
 ghost use Rattle.std.specs.Prelude.{◌≡◌, ◌+◌, ◌*◌, ◌<◌, ◌≤◌, ◌∷◌, ◌++◌, [], ℕ, List, Some, None, ◌⊎◌, IfSome, IfNone, IfOk, OnOk, Option, option_map, filter, not, ◌==◌, true, false, length, slice_set, vec_len, vec_capacity};
 ghost use Rattle.sock_words.specs.declared.outcome.Outcome.TheVariants.{NotHeld};
-ghost use Rattle.sock_programs.specs.Heads.{Retry};
-ghost use Rattle.sock_programs.specs.Programs.{Program, Say};
-ghost use Rattle.sock_programs.specs.Attempts.{retry};
-ghost use Rattle.sock_programs.specs.Clients.{HeldLife, held_under, without_name, give_back, operation, client_from, ending_of};
-ghost use Rattle.sock_programs.specs.Cores.{resolved, still_waiting, said, next_step};
+ghost use Rattle.seat_programs.specs.Heads.{Retry};
+ghost use Rattle.seat_programs.specs.Programs.{Program, Say};
+ghost use Rattle.seat_programs.specs.Attempts.{retry};
+ghost use Rattle.seat_programs.specs.Clients.{HeldLife, held_under, without_name, give_back, operation, client_from, ending_of};
+ghost use Rattle.seat_programs.specs.Cores.{resolved, still_waiting, said, next_step};
 ghost use Rattle.id_points.specs.Ids.{id_of, number_of};
-ghost use Rattle.seat_points.specs.Points.{Around, client_on, point_program, next_program, after_program, IsCalling, TakesCall};
+ghost use Rattle.seat_states.specs.Points.{Around, client_on, point_program, next_program, after_program, IsCalling, TakesCall};
 ghost use Rattle.client_seats.specs.Seats.{lives, retries, bytes_of, asked_of, message_in, call_in, seat_data, around, client_of, seat_program};
 ghost use Rattle.sock_message.specs.Asked.{name_of};
 ghost use Rattle.call_points.specs.Steps.{after_call};
@@ -16,12 +16,12 @@ use crate::hand::InHand;
 use call_points::{DecideStep, LockStep};
 use id_points::{AttemptNumber, CallId};
 use message_parts::OutgoingParcel;
-use seat_points::{
+use seat_programs::{Op, Sizes, Task};
+use seat_states::{
     After, Aim, Attempt, CallStep, Calling, JoinStep, Next, Opening, Point, ReleaseStep, RetryStep,
     Retrying, SeekStep, Then,
 };
 use sock_message::{BlockPool, Call, NoMemory};
-use sock_programs::{Op, Sizes, Task};
 use sock_words::{Outcome, SocketId};
 use std::alloc::Global;
 use std::collections::VecDeque;

@@ -16,7 +16,7 @@ use Rattle.corr_core.specs.declared.marks.Kept.{Kept}
 use Rattle.corr_core.specs.declared.marks.View.{View}
 use Rattle.corr_core.proofs.Notes.{each_at, total_some, only-else, pair-else, pair-else_first}
 use Rattle.corr_core.proofs.Stories.{born_le}
-use Rattle.id_rule.specs.Lawful.{id_word, KeptFits, kept_in, is_stored, tokens_of, notes_of, tokens_in, notes_in, share_of, local, IsBare, Lawful}
+use Rattle.id_rule.specs.Lawful.{id_index, KeptFits, kept_in, is_stored, tokens_of, notes_of, tokens_in, notes_in, share_of, local, IsBare, Lawful}
 use Rattle.corr_id.specs.Calls.{is_saw}
 use Rattle.corr_id.specs.Ruled.{Known}
 use Rattle.corr_id.specs.Closing.{Closing}
@@ -145,7 +145,7 @@ module _ {C : Type 0} (p : Plan) (s : State (Maybe C) (View C)) (law : Lawful p 
     not_yet f le = let x = count (is_ended f) in let a = o.story.ended_not f le in omega arith
 
   -- no token is left, so a slot that was tried has a range
-  pub closing : Known s.views → (ws : List ℕ) → ((i : ℕ) → i < p.slots → get_or ws i 0 ≡ get_or s.words (id_word i) 0) → v.tokens ≡ [] → Closing p v.notes v.kept ws
+  pub closing : Known s.views → (ws : List ℕ) → ((i : ℕ) → i < p.slots → get_or ws i 0 ≡ get_or s.words (id_index i) 0) → v.tokens ≡ [] → Closing p v.notes v.kept ws
   closing known ws words idle = record {
     made_once = λ i f il. made i il f;
     ended_once = λ i f il. once i il f;

@@ -11,7 +11,7 @@ use Rattle.corr_core.specs.declared.marks.View.{View}
 use Rattle.corr_core.specs.declared.marks.Noted.{Noted}
 use Rattle.corr_core.specs.declared.marks.Kept.{Kept}
 use Rattle.sock_words.specs.declared.id_word.IdWord.{IdWord}
-use Rattle.id_rule.specs.Lawful.{id_word}
+use Rattle.id_rule.specs.Lawful.{id_index}
 use Rattle.corr_id.specs.Ruled.{Ruled}
 use Rattle.corr_id.specs.Closing.{Closing}
 use Rattle.corr_id.specs.Closed.{AreIdWords}
@@ -51,9 +51,9 @@ map_length : (xs : List IdWord) → length (map (λ (x : IdWord). x.0) xs) ≡ l
 map_length [] = refl
 map_length (x ∷ xs) = ap suc (map_length xs)
 
-pub one_more : (xs : List IdWord) (ys : List ℕ) (i x n : ℕ) (w : IdWord) → length xs ≡ n → i < n → get_elem? ys (id_word i) ≡ some x → w.0 ≡ x → AreIdWords i xs ys → AreIdWords (i + 1) (set xs i w) ys
+pub one_more : (xs : List IdWord) (ys : List ℕ) (i x n : ℕ) (w : IdWord) → length xs ≡ n → i < n → get_elem? ys (id_index i) ≡ some x → w.0 ≡ x → AreIdWords i xs ys → AreIdWords (i + 1) (set xs i w) ys
 one_more xs ys i x n w long lt e same h j jl = let long' = map_length xs in ap (λ l. get_or l j 0) (map_set xs i w) ∙ dite (ℕ_discrete j i)
-    (λ q. ap (λ y. get_or (set (map (λ (x : IdWord). x.0) xs) i w.0) y 0) q ∙ (get_or-set_same (map (λ (x : IdWord). x.0) xs) i w.0 0 (omega arith) ∙ (same ∙ (sym (index_of ys (id_word i) x e) ∙ ap (λ y. get_or ys (id_word y) 0) (sym q)))))
+    (λ q. ap (λ y. get_or (set (map (λ (x : IdWord). x.0) xs) i w.0) y 0) q ∙ (get_or-set_same (map (λ (x : IdWord). x.0) xs) i w.0 0 (omega arith) ∙ (same ∙ (sym (index_of ys (id_index i) x e) ∙ ap (λ y. get_or ys (id_index y) 0) (sym q)))))
     (λ n'. get_or-set_other (map (λ (x : IdWord). x.0) xs) i j w.0 0 n' ∙ h j (omega arith))
 
 -- words of 64 bits, one more of which is stored
@@ -76,4 +76,4 @@ pub closes : {C : Type 0} (p : Plan) (id : ℕ) (v : View C) (ws : List ℕ) (xs
     → Closing p notes kept (map (λ (w : IdWord). w.0) words)
 closes {C} p id v ws xs words notes kept f all idle n k w =
     subst (λ (y : List Kept). Closing p notes y (map (λ (w : IdWord). w.0) words)) k (subst (λ (y : List (Noted C)). Closing p y v.kept (map (λ (w : IdWord). w.0) words)) n
-    (closing p f.0 f.1.0.lawful id v f.1.1 all f.1.0.known (map (λ (w : IdWord). w.0) words) (λ i il. w i il ∙ ap (λ l. get_or l (id_word i) 0) (sym f.2)) idle))
+    (closing p f.0 f.1.0.lawful id v f.1.1 all f.1.0.known (map (λ (w : IdWord). w.0) words) (λ i il. w i il ∙ ap (λ l. get_or l (id_index i) 0) (sym f.2)) idle))

@@ -16,7 +16,7 @@ use Rattle.corr_core.specs.declared.marks.Token.TheVariants.{Claimed, Locked, Le
 use Rattle.corr_core.specs.declared.marks.View.{View}
 use Rattle.corr_core.proofs.Gather.{gather_same}
 use Rattle.corr_core.proofs.Slots.{queued_word}
-use Rattle.id_rule.specs.Lawful.{tag_word, id_word, tokens_of, tokens_in, local, Lawful}
+use Rattle.id_rule.specs.Lawful.{tag_index, id_index, tokens_of, tokens_in, local, Lawful}
 use Rattle.id_rule.specs.Plays.{with_hand}
 use Rattle.corr_id.specs.Ruled.{IsFresh, FreshBehind}
 
@@ -56,21 +56,21 @@ module _ {C : Type 0} where
       abbrev after : State (Maybe C) (View C)
       after = record { words = ws'; homes = hs'; views = set s.views id w }
 
-      pub fresh_frame : ((x : ℕ) → x ≢ tag_word i → x ≢ id_word i → get_or ws' x 0 ≡ get_or s.words x 0) → Each (FreshBehind (local after i).word) (local after i).tokens → AllFresh p after
+      pub fresh_frame : ((x : ℕ) → x ≢ tag_index i → x ≢ id_index i → get_or ws' x 0 ≡ get_or s.words x 0) → Each (FreshBehind (local after i).word) (local after i).tokens → AllFresh p after
       fresh_frame words own j jl = dite (ℕ_discrete j i)
           (λ e. subst (λ (y : ℕ). Each (FreshBehind (local after y).word) (local after y).tokens) (sym e) own)
-          (λ ne. let word : get_or s.words (id_word j) 0 ≡ get_or ws' (id_word j) 0 = sym (words (id_word j) (λ q. omega arith) (λ q. ne (omega arith))) in
+          (λ ne. let word : get_or s.words (id_index j) 0 ≡ get_or ws' (id_index j) 0 = sym (words (id_index j) (λ q. omega arith) (λ q. ne (omega arith))) in
           let there : flat_map (tokens_in j) s.views ≡ flat_map (tokens_in j) (set s.views id w) = sym (gather_same (tokens_in j) s.views id v w here (tokens j ne)) in
           subst (λ (n : ℕ). Each (FreshBehind (parts n)) (flat_map (tokens_in j) (set s.views id w))) word (subst (Each (FreshBehind (local s j).word)) there (fresh j jl)))
 
     module _ (w : View C) (others : (j : ℕ) → j ≢ i → tokens_in j w ≡ tokens_in j v) (n : ℕ) (hs' : List (Option (Maybe C))) (ts : List (Token C)) (are : flat_map (tokens_in i) (set s.views id w) ≡ ts) where
-      pub fresh_tag : Each (FreshBehind (local s i).word) ts → AllFresh p record { words = set s.words (tag_word i) n; homes = hs'; views = set s.views id w }
-      fresh_tag own = fresh_frame w others (set s.words (tag_word i) n) hs' (λ x ne nq. get_or-set_other s.words (tag_word i) x n 0 ne)
-          (subst (λ (m : ℕ). Each (FreshBehind (parts m)) (flat_map (tokens_in i) (set s.views id w))) (sym (get_or-set_other s.words (tag_word i) (id_word i) n 0 (λ q. omega arith))) (subst (Each (FreshBehind (local s i).word)) (sym are) own))
+      pub fresh_tag : Each (FreshBehind (local s i).word) ts → AllFresh p record { words = set s.words (tag_index i) n; homes = hs'; views = set s.views id w }
+      fresh_tag own = fresh_frame w others (set s.words (tag_index i) n) hs' (λ x ne nq. get_or-set_other s.words (tag_index i) x n 0 ne)
+          (subst (λ (m : ℕ). Each (FreshBehind (parts m)) (flat_map (tokens_in i) (set s.views id w))) (sym (get_or-set_other s.words (tag_index i) (id_index i) n 0 (λ q. omega arith))) (subst (Each (FreshBehind (local s i).word)) (sym are) own))
 
-      pub fresh_id : Each (FreshBehind (parts n)) ts → AllFresh p record { words = set s.words (id_word i) n; homes = hs'; views = set s.views id w }
-      fresh_id own = fresh_frame w others (set s.words (id_word i) n) hs' (λ x ne nq. get_or-set_other s.words (id_word i) x n 0 nq)
-          (subst (λ (m : ℕ). Each (FreshBehind (parts m)) (flat_map (tokens_in i) (set s.views id w))) (sym (get_or-set_same s.words (id_word i) n 0 (let e = law.sized in omega arith))) (subst (Each (FreshBehind (parts n))) (sym are) own))
+      pub fresh_id : Each (FreshBehind (parts n)) ts → AllFresh p record { words = set s.words (id_index i) n; homes = hs'; views = set s.views id w }
+      fresh_id own = fresh_frame w others (set s.words (id_index i) n) hs' (λ x ne nq. get_or-set_other s.words (id_index i) x n 0 nq)
+          (subst (λ (m : ℕ). Each (FreshBehind (parts m)) (flat_map (tokens_in i) (set s.views id w))) (sym (get_or-set_same s.words (id_index i) n 0 (let e = law.sized in omega arith))) (subst (Each (FreshBehind (parts n))) (sym are) own))
 
     -- the seat's own token
     pub own_fresh : (t : Token C) → flat_map (tokens_in i) s.views ≡ t ∷ [] → FreshBehind (local s i).word t
@@ -79,6 +79,6 @@ module _ {C : Type 0} where
   -- a step on the word of an operation
   pub fresh_high : (p : Plan) (s : State (Maybe C) (View C)) → AllFresh p s → (id : ℕ) (v w : View C) → get_elem? s.views id ≡ some v → w.tokens ≡ v.tokens → (x n : ℕ) → 2 * p.slots ≤ x → AllFresh p record { words = set s.words x n; homes = s.homes; views = set s.views id w }
   fresh_high p s fresh id v w here same x n high j jl =
-      let word : get_or s.words (id_word j) 0 ≡ get_or (set s.words x n) (id_word j) 0 = sym (get_or-set_other s.words x (id_word j) n 0 (λ q. omega arith)) in
+      let word : get_or s.words (id_index j) 0 ≡ get_or (set s.words x n) (id_index j) 0 = sym (get_or-set_other s.words x (id_index j) n 0 (λ q. omega arith)) in
       let there : flat_map (tokens_in j) s.views ≡ flat_map (tokens_in j) (set s.views id w) = sym (gather_same (tokens_in j) s.views id v w here (ap (tokens_of j) same)) in
       subst (λ (n : ℕ). Each (FreshBehind (parts n)) (flat_map (tokens_in j) (set s.views id w))) word (subst (Each (FreshBehind (local s j).word)) there (fresh j jl))

@@ -18,7 +18,7 @@ use Rattle.corr_core.proofs.Gather.{gather_same}
 use Rattle.corr_core.proofs.Shuffles.{shuffled, total_flat, each_of, each_in, each_both, flat_snoc}
 use Rattle.corr_id.specs.Calls.{slot_of, version_of, is_saw}
 use Rattle.corr_id.specs.Ruled.{FreshBehind, Known, Ruled}
-use Rattle.id_rule.specs.Lawful.{tag_word, id_word, KeptFits, kept_in, is_stored, tokens_of, notes_of, tokens_in, notes_in, share_of, local, IsBare, Lawful, Unused, first_view, spent, newcomer, lighter, joined}
+use Rattle.id_rule.specs.Lawful.{tag_index, id_index, KeptFits, kept_in, is_stored, tokens_of, notes_of, tokens_in, notes_in, share_of, local, IsBare, Lawful, Unused, first_view, spent, newcomer, lighter, joined}
 
 pub total_append : {A : Type 0} (g : A → ℕ) (l m : List A) → total g (l ++ m) ≡ total g l + total g m
 total_append g [] m = omega arith
@@ -133,7 +133,7 @@ module _ {C : Type 0} where
   opening_lawful : (p : Plan) (ws : List ℕ) → Unused p ws → 1 ≤ p.seats → Lawful p (opening ws (replicate {A = Maybe C} p.slots None) (first_view p))
   opening_lawful p ws u some_seat = record {
     sized = u.sized;
-    slots = λ i il. let l : Local C = record { tag = get_or ws (tag_word i) 0; word = parts (get_or ws (id_word i) 0); home = get_elem? (map some (replicate {A = Maybe C} p.slots None)) i; tokens = []; notes = [] } in
+    slots = λ i il. let l : Local C = record { tag = get_or ws (tag_index i) 0; word = parts (get_or ws (id_index i) 0); home = get_elem? (map some (replicate {A = Maybe C} p.slots None)) i; tokens = []; notes = [] } in
         let is : l.word ≡ free_word 1 = u.ids i il in let first : l.word.first ≡ 1 = ap (λ (y : Rattle.corr_core.specs.Word.Parts). y.first) is in let state : l.word.state ≡ 0 = ap (λ (y : Rattle.corr_core.specs.Word.Parts). y.state) is in
         let tag : l.tag ≡ 0 = u.tags i il in
         let k : SlotLaw l = record {

@@ -26,7 +26,7 @@ use Rattle.corr_core.proofs.Shuffles.{each_of}
 use Rattle.corr_core.specs.declared.marks.Kept.{Kept}
 use Rattle.corr_id.specs.Calls.{slot_of, version_of, is_saw, is_at}
 use Rattle.corr_id.proofs.Closes.{saw_of}
-use Rattle.id_rule.specs.Lawful.{tag_word, id_word, all_words, is_stored, kept_in, KeptFits, notes_of, tokens_in, notes_in, local, with_token, no_token, with_note, with_kept}
+use Rattle.id_rule.specs.Lawful.{tag_index, id_index, all_words, is_stored, kept_in, KeptFits, notes_of, tokens_in, notes_in, local, with_token, no_token, with_note, with_kept}
 use Rattle.id_rule.specs.Plays.{IsHome, NotLeaving, Fitting, hand_of, with_hand, value_of, hand_by, claimed_view, locked_view, claim_told, take_told, give_told, make_told, lock_told, queue_told, end_told, free_told, store_told, found_view, put_error, popped_view, advanced_view, ended_view}
 use Rattle.id_rule.proofs.Allowed.{own, known, o}
 use Rattle.corr_id.specs.Ruled.{IsFresh, FreshBehind, IsBehind, Ruled, read_told, see_told, unlock_told, load_told}
@@ -59,18 +59,18 @@ module _ {C : Type 0} (p : Plan) (slots id : ℕ) (me : Me (Maybe C) (View C)) (
   abbrev M : Type 0
   M = Me (Maybe C) (View C)
 
-  of_tag : (f : ℕ → View C) (x : ℕ) → tag_word i ≡ tag_word x → ◌≡◌ {A = M} (f i, me.1) (f x, me.1)
+  of_tag : (f : ℕ → View C) (x : ℕ) → tag_index i ≡ tag_index x → ◌≡◌ {A = M} (f i, me.1) (f x, me.1)
   of_tag f x at = let e : i ≡ x = omega arith in ap (λ (y : ℕ). (f y, me.1)) e
 
-  of_id : (f : ℕ → View C) (x : ℕ) → id_word i ≡ id_word x → ◌≡◌ {A = M} (f i, me.1) (f x, me.1)
+  of_id : (f : ℕ → View C) (x : ℕ) → id_index i ≡ id_index x → ◌≡◌ {A = M} (f i, me.1) (f x, me.1)
   of_id f x at = let e : i ≡ x = omega arith in ap (λ (y : ℕ). (f y, me.1)) e
 
   -- the slot of a word is one, and so is the seat's token there
   which : (x : ℕ) (t u : Token C) → i ≡ x → tokens_in i me.0 ≡ t ∷ [] → tokens_in x me.0 ≡ u ∷ [] → t ≡ u
   which x t u e has has' = same_token (tokens_in i me.0) t u has (ap (λ (y : ℕ). tokens_in y me.0) e ∙ has')
 
-  pub claiming : Allows (Ruled p) slots id me (tag_word i) (λ _. 1) (claim_told (step slots (tag_word i) 1 0 none) me)
-  claiming s r long here fits = let found : ℕ = get_or s.words (tag_word i) 0 in (claimed_view i found me.0, keeps, tt, claims_ruled p id me i inside real s r here, λ x at. (of_tag (λ y. claimed_view y found me.0) x at, λ z. let e : i ≡ x = omega arith in ap (λ (y : ℕ). tokens_in y me.0) (sym e) ∙ gather_none (tokens_in i) s.views id me.0 here (no_tokens (local s i) (o p id me i inside real s r.lawful here) z)))
+  pub claiming : Allows (Ruled p) slots id me (tag_index i) (λ _. 1) (claim_told (step slots (tag_index i) 1 0 none) me)
+  claiming s r long here fits = let found : ℕ = get_or s.words (tag_index i) 0 in (claimed_view i found me.0, keeps, tt, claims_ruled p id me i inside real s r here, λ x at. (of_tag (λ y. claimed_view y found me.0) x at, λ z. let e : i ≡ x = omega arith in ap (λ (y : ℕ). tokens_in y me.0) (sym e) ∙ gather_none (tokens_in i) s.views id me.0 here (no_tokens (local s i) (o p id me i inside real s r.lawful here) z)))
 
   -- what is counted of the notes of one seat is no more than what is of all
   counted : (g : Note C → ℕ) (vs : List (View C)) (j : ℕ) (v : View C) → get_elem? vs j ≡ some v → total g (notes_in i v) ≤ total g (flat_map (notes_in i) vs)
@@ -136,7 +136,7 @@ module _ {C : Type 0} (p : Plan) (slots id : ℕ) (me : Me (Maybe C) (View C)) (
           version_is : (i * 4294967296 + (local s i).word.first) % 4294967296 ≡ (local s i).word.first
           version_is = omega (arith, short)
 
-  pub reading : (seen : ℕ) (h : Hand C) → tokens_in i me.0 ≡ Claimed seen h ∷ [] → Allows (Ruled p) slots id me (id_word i) (λ n. n) (read_told (step slots (id_word i) 0 0 none) me)
+  pub reading : (seen : ℕ) (h : Hand C) → tokens_in i me.0 ≡ Claimed seen h ∷ [] → Allows (Ruled p) slots id me (id_index i) (λ n. n) (read_told (step slots (id_index i) 0 0 none) me)
   reading seen h has s r long here fits = let f : ℕ = (local s i).word.first in let l = o p id me i inside real s r.lawful here in (
     with_token i (Claimed f h) me.0,
     keeps,
@@ -162,8 +162,8 @@ module _ {C : Type 0} (p : Plan) (slots id : ℕ) (me : Me (Maybe C) (View C)) (
       (λ now. let w = l.now.is_born now.1 in inr (now.0, now.1, (l.story.births (local s i).word.first ((local s i).word.range, w.0) w.1).0))
       y.1
 
-  pub seeing : Allows (Ruled p) slots id me (id_word i) (λ n. n) (see_told (step slots (id_word i) 0 0 none) me)
-  seeing s r long here fits = let n : ℕ = get_or s.words (id_word i) 0 in let l = o p id me i inside real s r.lawful here in (
+  pub seeing : Allows (Ruled p) slots id me (id_index i) (λ n. n) (see_told (step slots (id_index i) 0 0 none) me)
+  seeing s r long here fits = let n : ℕ = get_or s.words (id_index i) 0 in let l = o p id me i inside real s r.lawful here in (
     with_note i (Saw n) me.0,
     keeps,
     tt,
@@ -171,7 +171,7 @@ module _ {C : Type 0} (p : Plan) (slots id : ℕ) (me : Me (Maybe C) (View C)) (
     λ x at. (of_id (λ y. with_note y (Saw n) me.0) x at, l.first_some, λ f h. let e : i ≡ x = omega arith in seen_behind s r here f (let y = ap (λ (z : ℕ). total (is_made f) (notes_in z me.0)) e in omega arith)),
   )
 
-  pub taking : (t : Token C) → tokens_in i me.0 ≡ t ∷ [] → IsHome (hand_of t) → Allows (Ruled p) slots id me (tag_word i) (λ n. n) (take_told (step slots (tag_word i) 0 0 none) me)
+  pub taking : (t : Token C) → tokens_in i me.0 ≡ t ∷ [] → IsHome (hand_of t) → Allows (Ruled p) slots id me (tag_index i) (λ n. n) (take_told (step slots (tag_index i) 0 0 none) me)
   taking t has ready s r long here fits = let k = takes_ruled p id me i inside real s r here t has ready in (
     with_token i (with_hand t Out) me.0,
     takes i (value_of (hand_of t)),
@@ -181,7 +181,7 @@ module _ {C : Type 0} (p : Plan) (slots id : ℕ) (me : Me (Maybe C) (View C)) (
   )
 
   pub giving : (t : Token C) (y : Maybe C) (rest : List (ℕ × Maybe C)) → tokens_in i me.0 ≡ t ∷ [] → hand_of t ≡ Out → NotLeaving t → Fitting t (hand_by y) → me.1 ≡ (i, y) ∷ rest
-      → Allows (Ruled p) slots id me (tag_word i) (λ n. n) (give_told (step slots (tag_word i) 0 0 none) me)
+      → Allows (Ruled p) slots id me (tag_index i) (λ n. n) (give_told (step slots (tag_index i) 0 0 none) me)
   giving t y rest has out n fit carried s r long here fits = (
     with_token i (with_hand t (hand_by y)) me.0,
     gives,
@@ -191,7 +191,7 @@ module _ {C : Type 0} (p : Plan) (slots id : ℕ) (me : Me (Maybe C) (View C)) (
         λ z. (with_token (e z) (with_hand (q z) (hand_by (yy z))) me.0, rr z),
   )
 
-  pub making : (f n : ℕ) (c : C) → tokens_in i me.0 ≡ Claimed f (Full c) ∷ [] → f ≢ 0 → parts n ≡ made_word f (parts n).range → 2 ≤ (parts n).range → (parts n).range ≤ 8 → Allows (Ruled p) slots id me (id_word i) (λ _. n) (λ _. make_told (step slots (id_word i) n 0 none) me n)
+  pub making : (f n : ℕ) (c : C) → tokens_in i me.0 ≡ Claimed f (Full c) ∷ [] → f ≢ 0 → parts n ≡ made_word f (parts n).range → 2 ≤ (parts n).range → (parts n).range ≤ 8 → Allows (Ruled p) slots id me (id_index i) (λ _. n) (λ _. make_told (step slots (id_index i) n 0 none) me n)
   making f n c has some_first is low high s r long here fits = (
     with_note i (Made f (parts n).range c) (no_token i me.0),
     keeps,
@@ -202,10 +202,10 @@ module _ {C : Type 0} (p : Plan) (slots id : ℕ) (me : Me (Maybe C) (View C)) (
   )
 
   abbrev After : State (Maybe C) (View C) → ℕ → View C → Type 0
-  After s n w = Ruled p (stepped s (id_word i) n id me.1 w keeps)
+  After s n w = Ruled p (stepped s (id_index i) n id me.1 w keeps)
 
-  pub locking : (old new : ℕ) → (parts old).state ≡ 1 → parts new ≡ locked_word (parts old) → Allows (Ruled p) slots id me (id_word i) (λ n. either (eqb n old) new n) (lock_told (step slots (id_word i) old new none) me)
-  locking old new one is s r long here fits = let found : ℕ = get_or s.words (id_word i) 0 in dite (ℕ_discrete found old)
+  pub locking : (old new : ℕ) → (parts old).state ≡ 1 → parts new ≡ locked_word (parts old) → Allows (Ruled p) slots id me (id_index i) (λ n. either (eqb n old) new n) (lock_told (step slots (id_index i) old new none) me)
+  locking old new one is s r long here fits = let found : ℕ = get_or s.words (id_index i) 0 in dite (ℕ_discrete found old)
       (λ hit. let same : (local s i).word ≡ parts old = ap parts hit in let k = locks_ruled p id me i inside real s r here new (ap (λ (y : Parts). y.state) same ∙ one) (is ∙ ap locked_word (sym same)) in let w : View C = locked_view i (parts found).first (parts found).range (parts found).attempt k.0 me.0 in (
         w,
         keeps,
@@ -221,8 +221,8 @@ module _ {C : Type 0} (p : Plan) (slots id : ℕ) (me : Me (Maybe C) (View C)) (
         λ x at. ((λ z. absurd (miss z)), (λ n. of_id (λ y. with_note y (Saw found) me.0) x at)),
       ))
 
-  pub queueing : (old new e : ℕ) → (parts old).state ≡ 2 → (parts old).second ≡ 0 → e ≢ 0 → IsFresh (parts old).attempt e → parts new ≡ queued_word (parts old) e → Allows (Ruled p) slots id me (id_word i) (λ n. either (eqb n old) new n) (queue_told (step slots (id_word i) old new none) me)
-  queueing old new e two room some_error timely is s r long here fits = let found : ℕ = get_or s.words (id_word i) 0 in dite (ℕ_discrete found old)
+  pub queueing : (old new e : ℕ) → (parts old).state ≡ 2 → (parts old).second ≡ 0 → e ≢ 0 → IsFresh (parts old).attempt e → parts new ≡ queued_word (parts old) e → Allows (Ruled p) slots id me (id_index i) (λ n. either (eqb n old) new n) (queue_told (step slots (id_index i) old new none) me)
+  queueing old new e two room some_error timely is s r long here fits = let found : ℕ = get_or s.words (id_index i) 0 in dite (ℕ_discrete found old)
       (λ hit. let same : (local s i).word ≡ parts old = ap parts hit in let w : View C = with_note i (Queued (parts found).first e) me.0 in
       let ee : e ≡ put_error (parts old) (parts new) = sym (put_is (parts old) e) ∙ ap (put_error (parts old)) (sym is) in (
         w,
@@ -242,9 +242,9 @@ module _ {C : Type 0} (p : Plan) (slots id : ℕ) (me : Me (Maybe C) (View C)) (
 
   -- more is 1 with an advance, and 0 without
   pub unlocking : (f rg att q r : ℕ) (c : C) → tokens_in i me.0 ≡ Locked f rg att c q r (Full c) ∷ [] → (old new more : ℕ) → parts new ≡ unlocked_word (parts old) more → (more ≡ 0) ⊎ ((more ≡ 1) × ((parts old).attempt + 3 ≤ (parts old).range))
-      → Allows (Ruled p) slots id me (id_word i) (λ n. either (eqb n old) new n) (unlock_told (step slots (id_word i) old new none) me)
+      → Allows (Ruled p) slots id me (id_index i) (λ n. either (eqb n old) new n) (unlock_told (step slots (id_index i) old new none) me)
   unlocking f rg att q r c has old new more is which_more s ru long here fits =
-      let found : ℕ = get_or s.words (id_word i) 0 in let w₀ : Parts = (local s i).word in let k = known p id me i inside real s ru.lawful here f rg att q r c has in dite (ℕ_discrete found old)
+      let found : ℕ = get_or s.words (id_index i) 0 in let w₀ : Parts = (local s i).word in let k = known p id me i inside real s ru.lawful here f rg att q r c has in dite (ℕ_discrete found old)
       (λ hit. let same : w₀ ≡ parts old = ap parts hit in let v₁ : View C = with_note i (Saw found) me.0 in let base : View C = popped_view i f rg (parts new).attempt c w₀.oldest w₀.second v₁ in
       let is' : parts new ≡ unlocked_word w₀ more = is ∙ ap (λ (y : Parts). unlocked_word y more) (sym same) in
       let to : (parts new).attempt ≡ (parts old).attempt + more = ap (λ (y : Parts). y.attempt) is in
@@ -285,7 +285,7 @@ module _ {C : Type 0} (p : Plan) (slots id : ℕ) (me : Me (Maybe C) (View C)) (
             ),
       ))
 
-  pub ending : (f rg att q r : ℕ) (c : C) → tokens_in i me.0 ≡ Locked f rg att c q r Empty ∷ [] → (n : ℕ) → parts n ≡ free_word (f + rg) → Allows (Ruled p) slots id me (id_word i) (λ _. n) (end_told (step slots (id_word i) n 0 none) me)
+  pub ending : (f rg att q r : ℕ) (c : C) → tokens_in i me.0 ≡ Locked f rg att c q r Empty ∷ [] → (n : ℕ) → parts n ≡ free_word (f + rg) → Allows (Ruled p) slots id me (id_index i) (λ _. n) (end_told (step slots (id_index i) n 0 none) me)
   ending f rg att q r c has n is s ru long here fits =
       let k = is_lock (local s i) (o p id me i inside real s ru.lawful here) f rg att c q r Empty (own p id me i inside real s ru.lawful here (Locked f rg att c q r Empty) has) in
       let next : f + rg ≡ (local s i).word.first + (local s i).word.range = (let a = k.first_is in let b = k.range_is in omega arith) in
@@ -298,7 +298,7 @@ module _ {C : Type 0} (p : Plan) (slots id : ℕ) (me : Me (Maybe C) (View C)) (
             λ y. (ended_view (e y) (ff y) (parts n).first me.0, me.1),
       )
 
-  pub freeing : tokens_in i me.0 ≡ Leaving ∷ [] → Allows (Ruled p) slots id me (tag_word i) (λ _. 0) (λ _. free_told (step slots (tag_word i) 0 0 none) me 0)
+  pub freeing : tokens_in i me.0 ≡ Leaving ∷ [] → Allows (Ruled p) slots id me (tag_index i) (λ _. 0) (λ _. free_told (step slots (tag_index i) 0 0 none) me 0)
   freeing has s r long here fits = (no_token i me.0, keeps, tt, frees_ruled p id me i inside real s r here has, λ x at. of_tag (λ y. no_token y me.0) x at)
 
 pub queued_is : (w : Parts) (e : ℕ) → w.state ≡ 2 → posted_word w e ≡ queued_word w e

@@ -13,7 +13,7 @@ use Rattle.corr_core.specs.declared.marks.Note.TheVariants.{Saw}
 use Rattle.corr_core.specs.declared.marks.Kept.{Kept}
 use Rattle.corr_core.specs.declared.marks.View.{View}
 use Rattle.std.specs.List.{flat_map}
-use Rattle.id_rule.specs.Lawful.{id_word, is_stored, kept_in, notes_in, local, Lawful, with_token, with_note}
+use Rattle.id_rule.specs.Lawful.{id_index, is_stored, kept_in, notes_in, local, Lawful, with_token, with_note}
 use Rattle.corr_id.specs.Calls.{slot_of, version_of, is_saw, is_at}
 use Rattle.id_rule.specs.Plays.{Becomes, has_token, Longer, popped_view, advanced_view, found_view}
 
@@ -53,17 +53,17 @@ module _ {C : Type 0} where
 
   -- I7 by the seat that claimed the slot: each range of a word that it had seen taken there was an earlier one, and it had found the next id at no operation
   abbrev pub read_told : Step (Maybe C) → Me (Maybe C) (View C) → ℕ → Me (Maybe C) (View C) → Type 0
-  read_told st m found n = (i seen : ℕ) (h : Hand C) → st.word ≡ id_word i → has_token i (Claimed seen h) m → Becomes m n (with_token i (Claimed (parts found).first h) m.0) × (1 ≤ (parts found).first) × ((parts found).first ≤ LAST)
+  read_told st m found n = (i seen : ℕ) (h : Hand C) → st.word ≡ id_index i → has_token i (Claimed seen h) m → Becomes m n (with_token i (Claimed (parts found).first h) m.0) × (1 ≤ (parts found).first) × ((parts found).first ≤ LAST)
       × ((w : ℕ) → 0 < total (is_saw w) (notes_in i m.0) → 0 < (parts w).state → (parts w).first < (parts found).first)
       × ((x : ℕ) → x % 2 ≡ 0 → total (is_at x (i * 4294967296 + (parts found).first)) m.0.kept ≡ 0)
 
   -- I7: a word is never 0, and none that is found behind an id that the seat knows to be made has an earlier range
   abbrev pub see_told : Step (Maybe C) → Me (Maybe C) (View C) → ℕ → Me (Maybe C) (View C) → Type 0
-  see_told st m found n = (i : ℕ) → st.word ≡ id_word i → Becomes m n (with_note i (Saw found) m.0) × (1 ≤ (parts found).first) × ((f : ℕ) → 0 < total (is_made f) (notes_in i m.0) → IsBehind f (parts found))
+  see_told st m found n = (i : ℕ) → st.word ≡ id_index i → Becomes m n (with_note i (Saw found) m.0) × (1 ≤ (parts found).first) × ((f : ℕ) → 0 < total (is_made f) (notes_in i m.0) → IsBehind f (parts found))
 
   -- I5: the word found is noted; where another one was expected, the errors in it are now noted
   abbrev pub unlock_told : Step (Maybe C) → Me (Maybe C) (View C) → ℕ → Me (Maybe C) (View C) → Type 0
-  unlock_told st m found n = (i f rg at o s : ℕ) (c : C) → st.word ≡ id_word i → has_token i (Locked f rg at c o s (Full c)) m
+  unlock_told st m found n = (i f rg at o s : ℕ) (c : C) → st.word ≡ id_index i → has_token i (Locked f rg at c o s (Full c)) m
       → (found ≡ st.first → Becomes m n (advanced_view i f (parts st.first).attempt (parts st.second).attempt (popped_view i f rg (parts st.second).attempt c (parts found).oldest (parts found).second (with_note i (Saw found) m.0))))
       × (found ≢ st.first → Becomes m n (with_token i (Locked f rg at c (parts found).oldest (parts found).second (Full c)) m.0) × Longer f rg at o s (parts found) × FreshBehind (parts found) (Locked f rg at c o s (Full c)))
 

@@ -1,8 +1,8 @@
 // The words of the calls among the operations.
 ghost use Rattle.std.specs.Prelude.{◌≡◌, ◌≢◌, ◌+◌, ◌*◌, ◌%◌, ◌<◌, ◌≤◌, false, true, IfNone, IfSome, IsSome};
-ghost use Rattle.sock_words.specs.Words.{at_word as packed_at};
+ghost use Rattle.sock_words.specs.Words.{at_index as packed_at};
 ghost use Rattle.corr_core.specs.Law.{total, is_made};
-ghost use Rattle.id_rule.specs.Lawful.{call_word, at_word, notes_of, with_kept};
+ghost use Rattle.id_rule.specs.Lawful.{call_index, at_index, notes_of, with_kept};
 ghost use Rattle.corr_id.specs.Ruled.{is_place};
 ghost use Rattle.corr_id.specs.Seats.{Sits, Stays};
 ghost use Rattle.corr_id.specs.Calls.{slot_of, version_of, Quiet, Found};
@@ -19,7 +19,7 @@ impl<C> IdTable<C> {
         requires some { id ≢ 0 }
         requires made { 0 < total (is_made (version_of id)) (notes_of (slot_of id) seat.old.me.0.notes) }
         ensures seat { Stays seat.old seat.new }
-        ensures stored { seat.new.me.0 ≡ with_kept (call_word self.now.plan operation) true id seat.old.me.0 }
+        ensures stored { seat.new.me.0 ≡ with_kept (call_index self.now.plan operation) true id seat.old.me.0 }
     {
         let word = 2 * self.plan.slots as usize + 2 * operation as usize;
         self.store_word(seat, word, id);
@@ -31,9 +31,9 @@ impl<C> IdTable<C> {
         requires seat { Sits self.now.table.shared.table_id seat.old }
         requires operation { operation < self.now.plan.operations }
         ensures seat { Stays seat.old seat.new }
-        ensures found { IfSome result (λ id. (id ≢ 0) × (seat.new.me.0 ≡ with_kept (call_word self.now.plan operation) false id seat.old.me.0)) }
+        ensures found { IfSome result (λ id. (id ≢ 0) × (seat.new.me.0 ≡ with_kept (call_index self.now.plan operation) false id seat.old.me.0)) }
         ensures none { IfNone result (seat.new.me.0 ≡ seat.old.me.0) }
-        ensures never_none { 0 < total (is_place (call_word self.now.plan operation)) seat.old.me.0.kept → IsSome result }
+        ensures never_none { 0 < total (is_place (call_index self.now.plan operation)) seat.old.me.0.kept → IsSome result }
     {
         let word = 2 * self.plan.slots as usize + 2 * operation as usize;
         self.load_word(seat, word)
@@ -48,7 +48,7 @@ impl<C> IdTable<C> {
         requires link { link < 65535 }
         requires attempt { attempt ≤ 6 }
         ensures seat { Stays seat.old seat.new }
-        ensures stored { seat.new.me.0 ≡ with_kept (at_word self.now.plan operation) true (packed_at (version_of id) (slot_of id) link attempt) seat.old.me.0 }
+        ensures stored { seat.new.me.0 ≡ with_kept (at_index self.now.plan operation) true (packed_at (version_of id) (slot_of id) link attempt) seat.old.me.0 }
     {
         let word = 2 * self.plan.slots as usize + 2 * operation as usize + 1;
         let slot = (id / 4_294_967_296) as u16;
@@ -63,9 +63,9 @@ impl<C> IdTable<C> {
         requires seat { Sits self.now.table.shared.table_id seat.old }
         requires operation { operation < self.now.plan.operations }
         ensures seat { Stays seat.old seat.new }
-        ensures found { IfSome result (λ a. (a.0 ≢ 0) × (seat.new.me.0 ≡ with_kept (at_word self.now.plan operation) false a.0 seat.old.me.0)) }
+        ensures found { IfSome result (λ a. (a.0 ≢ 0) × (seat.new.me.0 ≡ with_kept (at_index self.now.plan operation) false a.0 seat.old.me.0)) }
         ensures none { IfNone result (seat.new.me.0 ≡ seat.old.me.0) }
-        ensures never_none { 0 < total (is_place (at_word self.now.plan operation)) seat.old.me.0.kept → IsSome result }
+        ensures never_none { 0 < total (is_place (at_index self.now.plan operation)) seat.old.me.0.kept → IsSome result }
     {
         let word = 2 * self.plan.slots as usize + 2 * operation as usize + 1;
         match self.load_word(seat, word) {

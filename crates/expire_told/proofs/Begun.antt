@@ -8,14 +8,14 @@ use lib.ListN.{get_elem?}
 use Rattle.sock_io.specs.declared.link.Out.{Ghosts}
 use Rattle.sock_io.specs.Link.{OutState}
 use Rattle.sock_words.specs.declared.plain.Plan.{Plan}
-use Rattle.sock_programs.specs.declared.task.Op.TheVariants as ops
-use Rattle.sock_programs.specs.declared.task.Task.{Task}
+use Rattle.seat_programs.specs.declared.task.Op.TheVariants as ops
+use Rattle.seat_programs.specs.declared.task.Task.{Task}
 use Rattle.corr_core.specs.Law.{total}
 use Rattle.corr_core.specs.declared.marks.Note.TheVariants.{Made as made_note}
 use Rattle.corr_core.specs.declared.marks.Plan as id_plan
 use Rattle.corr_core.specs.declared.marks.View.{View}
 use Rattle.corr_core.proofs.Notes.{only-else, pair-same}
-use Rattle.id_rule.specs.Lawful.{call_word, notes_of, is_stored}
+use Rattle.id_rule.specs.Lawful.{call_index, notes_of, is_stored}
 use Rattle.sock_message.specs.Asked.{Asked}
 use Rattle.corr_id.specs.Calls.{slot_of, version_of, one}
 use Rattle.call_told.specs.call_attempts.specs.Both.{Both}
@@ -36,7 +36,7 @@ module _ (q : id_plan.Plan) where
   begun_later x n operation id v w g h = record {
     inside = h.inside;
     made = (let a = g.notes (slot_of id) (is_made_for (version_of id) operation) in let b = h.made in omega arith);
-    stored = (let a = g.kept (is_stored (call_word q operation) id) in let b = h.stored in omega arith);
+    stored = (let a = g.kept (is_stored (call_index q operation) id) in let b = h.stored in omega arith);
   }
 
   -- one of the first operations is this call, and it has begun
@@ -50,8 +50,8 @@ module _ (q : id_plan.Plan) where
     pub id : ℕ
     pub begun : HasBegun q o id v
 
-  stays : (o : ℕ) (xs : List Task) (n : ℕ) (v w : View Asked) → Grows (call_word q o) n v w → BegunIn o xs v → BegunIn o xs w
-  stays o xs n v w grows b = record { place = b.place; task = b.task; there = b.there; asked = b.asked; is_call = b.is_call; operation = b.operation; id = b.id; begun = begun_later (call_word q o) n o b.id v w grows b.begun }
+  stays : (o : ℕ) (xs : List Task) (n : ℕ) (v w : View Asked) → Grows (call_index q o) n v w → BegunIn o xs v → BegunIn o xs w
+  stays o xs n v w grows b = record { place = b.place; task = b.task; there = b.there; asked = b.asked; is_call = b.is_call; operation = b.operation; id = b.id; begun = begun_later (call_index q o) n o b.id v w grows b.begun }
 
   module _ {O : Type 0} (state : O → OutState) (p : Plan) where
     -- the id of a call is made and noted
@@ -61,28 +61,28 @@ module _ (q : id_plan.Plan) where
         let notes = did_total (is_made_for f o) (made_silent f o) slot s.calls.view m.view _ (one slot (made_note f asked.range asked)) m.made.did slot in
         let here = counted_here (is_made_for f o) slot (made_note f asked.range asked) in let one_ = pair-same f o in
         let noted = ap (λ (y : View Asked). total (is_made_for f o) (notes_of slot y.notes)) m.noted in
-        let kept = ap (λ (y : View Asked). total (is_stored (call_word q o) id) y.kept) m.noted in let here' = pair-same (call_word q o) id in
+        let kept = ap (λ (y : View Asked). total (is_stored (call_index q o) id) y.kept) m.noted in let here' = pair-same (call_index q o) id in
         let begun : HasBegun q o id u = record { inside = m.made.inside; made = omega arith; stored = omega arith } in
-        begun_later (call_word q 0) 0 o id u t.calls.view (attempted_by q 0 state p h.socket _ h.at t h.attempted).grows begun
+        begun_later (call_index q 0) 0 o id u t.calls.view (attempted_by q 0 state p h.socket _ h.at t h.attempted).grows begun
 
     module _ {g : Ghosts O} (o : ℕ) where
       -- no id was stored for it yet, and then one is
-      made_stored : (xs : List Task) (n : ℕ) (x : Task) (s t : Course g) → get_elem? xs n ≡ some x → Made state p q x s t → total (own_at (call_word q o)) s.has.calls.view.kept ≡ 0 → 0 < total (own_at (call_word q o)) t.has.calls.view.kept → BegunIn o xs t.has.calls.view
+      made_stored : (xs : List Task) (n : ℕ) (x : Task) (s t : Course g) → get_elem? xs n ≡ some x → Made state p q x s t → total (own_at (call_index q o)) s.has.calls.view.kept ≡ 0 → 0 < total (own_at (call_index q o)) t.has.calls.view.kept → BegunIn o xs t.has.calls.view
       made_stored xs n x s t at m none_ some_ =
           let waited = (retried_here q o state p s.has m.ready m.retried).grows.own in
           by (acted_or q o state p x.number x.op m.by m.ready t.has m.acted) (omega arith)
         where
-          begins : BeginsCall q o state p x.op m.ready t.has → total (own_at (call_word q o)) m.ready.calls.view.kept ≡ 0 → BegunIn o xs t.has.calls.view
+          begins : BeginsCall q o state p x.op m.ready t.has → total (own_at (call_index q o)) m.ready.calls.view.kept ≡ 0 → BegunIn o xs t.has.calls.view
           begins b zero_ = dite (ℕ_discrete b.asked.operation o)
               (λ e. record { place = n; task = x; there = at; asked = b.asked; is_call = b.is_call; operation = e; id = b.id; begun = subst (λ (y : ℕ). HasBegun q y b.id t.has.calls.view) e (made_begun b.asked b.id (both_of m.ready) (both_of t.has) b.called) })
               (λ ne. absurd (let a = (begun_by q o state p b.asked b.id (both_of m.ready) (both_of t.has) b.called).grows.own in let c = only-else o b.asked.operation ne in omega (arith, some_, zero_, a, c)))
 
-          by : Goes q o 0 m.ready.calls t.has.calls ⊎ BeginsCall q o state p x.op m.ready t.has → total (own_at (call_word q o)) m.ready.calls.view.kept ≡ 0 → BegunIn o xs t.has.calls.view
+          by : Goes q o 0 m.ready.calls t.has.calls ⊎ BeginsCall q o state p x.op m.ready t.has → total (own_at (call_index q o)) m.ready.calls.view.kept ≡ 0 → BegunIn o xs t.has.calls.view
           by (inl goes) zero_ = absurd (let a = goes.grows.own in omega (arith, some_, zero_, a))
           by (inr b) zero_ = begins b zero_
 
-      pub ran_stored : (xs : List Task) → AllByRecursion Fits xs → (n : ℕ) (s t : Course g) → Ran state p q xs n s t → total (own_at (call_word q o)) s.has.calls.view.kept ≡ 0 → 0 < total (own_at (call_word q o)) t.has.calls.view.kept → BegunIn o xs t.has.calls.view
-      ran_stored xs fits zero s t h none_ some_ = absurd (let e = ap (λ (c : Course g). total (own_at (call_word q o)) c.has.calls.view.kept) h in omega (arith, none_, some_, e))
-      ran_stored xs fits (suc n) s t h none_ some_ = dite (ℕ_discrete (total (own_at (call_word q o)) h.0.has.calls.view.kept) 0)
+      pub ran_stored : (xs : List Task) → AllByRecursion Fits xs → (n : ℕ) (s t : Course g) → Ran state p q xs n s t → total (own_at (call_index q o)) s.has.calls.view.kept ≡ 0 → 0 < total (own_at (call_index q o)) t.has.calls.view.kept → BegunIn o xs t.has.calls.view
+      ran_stored xs fits zero s t h none_ some_ = absurd (let e = ap (λ (c : Course g). total (own_at (call_index q o)) c.has.calls.view.kept) h in omega (arith, none_, some_, e))
+      ran_stored xs fits (suc n) s t h none_ some_ = dite (ℕ_discrete (total (own_at (call_index q o)) h.0.has.calls.view.kept) 0)
           (λ z. made_stored xs n h.1 h.0 t h.3 h.4 z some_)
           (λ ne. stays o xs _ h.0.has.calls.view t.has.calls.view (made_goes q o state p h.1 h.0 t (all_at Fits xs n h.1 fits h.3) h.4).grows (ran_stored xs fits n s h.0 h.2 none_ (omega (arith, ne))))

@@ -18,10 +18,10 @@ use Rattle.sock_words.specs.declared.outcome.Outcome.TheVariants as outcome
 use Rattle.sock_words.specs.declared.plain.Plan.{Plan}
 use Rattle.sock_words.specs.declared.place_word.PlaceWord.{PlaceWord}
 use Rattle.sock_words.specs.declared.vref.Vref.{Vref}
-use Rattle.sock_programs.specs.declared.task.Op.{Op}
-use Rattle.sock_programs.specs.declared.task.Op.TheVariants as ops
-use Rattle.sock_programs.specs.declared.task.Task.{Task}
-use Rattle.sock_programs.specs.Told.{HaveOwnLinks, AreTasks, IsTask, Became}
+use Rattle.seat_programs.specs.declared.task.Op.{Op}
+use Rattle.seat_programs.specs.declared.task.Op.TheVariants as ops
+use Rattle.seat_programs.specs.declared.task.Task.{Task}
+use Rattle.seat_programs.specs.Told.{HaveOwnLinks, AreTasks, IsTask, Became}
 use Rattle.corr_core.specs.Word.{parts}
 use Rattle.corr_core.specs.Law.{total, is_ended}
 use Rattle.corr_core.specs.declared.marks.Kept.{Kept}
@@ -30,7 +30,7 @@ use Rattle.corr_core.specs.declared.marks.Noted.{Noted}
 use Rattle.corr_core.specs.declared.marks.Plan as id_plan
 use Rattle.corr_core.specs.declared.marks.View.{View}
 use Rattle.corr_core.proofs.Notes.{only-at, total_some}
-use Rattle.id_rule.specs.Lawful.{call_word, notes_of, is_stored}
+use Rattle.id_rule.specs.Lawful.{call_index, notes_of, is_stored}
 use Rattle.sock_message.specs.Asked.{Asked}
 use Rattle.corr_id.specs.Calls.{slot_of, version_of}
 use Rattle.corr_id.specs.Closing.{Closing}
@@ -175,24 +175,24 @@ module _ {O : Type 0} {g : Ghosts O} {state : O → OutState} {p : Plan} {slots 
       let a = term (λ (y : Client g state p q). h (view_of y)) crew c x at in let b = total_map h view_of crew in let d = ap (total h) (views_are run) in let e = keeps.all f in omega arith
 
   -- a client stores as many ids for an operation as it has tasks of that number
-  own_stored : (c : ℕ) (x : Client g state p q) → get_elem? crew c ≡ some x → (o : ℕ) → total (own_at (call_word q o)) (view_of x).kept ≤ total (is_task o) (tasks_of x)
+  own_stored : (c : ℕ) (x : Client g state p q) → get_elem? crew c ≡ some x → (o : ℕ) → total (own_at (call_index q o)) (view_of x).kept ≤ total (is_task o) (tasks_of x)
   own_stored c x at o =
       let a = (run_goes q o state p x.thread.tasks x.thread.began x.thread.ended (fits c x at) x.is.ran).grows.own in
-      let b = ap (λ (m : Me (Option Asked) (View Asked)). total (own_at (call_word q o)) m.0.kept) x.is.ids in omega arith
+      let b = ap (λ (m : Me (Option Asked) (View Asked)). total (own_at (call_index q o)) m.0.kept) x.is.ids in omega arith
 
   -- which is one at most
-  few_stored : (c : ℕ) (x : Client g state p q) → get_elem? crew c ≡ some x → (o : ℕ) → total (own_at (call_word q o)) (view_of x).kept ≤ 1
+  few_stored : (c : ℕ) (x : Client g state p q) → get_elem? crew c ≡ some x → (o : ℕ) → total (own_at (call_index q o)) (view_of x).kept ≤ 1
   few_stored c x at o =
       let a = own_stored c x at o in
       let d = term (λ (ts : List Task). total (is_task o) ts) every c (tasks_of x) (tasks_at c x at) in let e = numbered_once p every tasks o in omega arith
 
   -- and so do all together
-  one_stored : (o a b c d : ℕ) (x y : Client g state p q) → get_elem? crew c ≡ some x → get_elem? crew d ≡ some y → 0 < total (is_stored (call_word q o) a) (view_of x).kept → 0 < total (is_stored (call_word q o) b) (view_of y).kept → a ≡ b
+  one_stored : (o a b c d : ℕ) (x y : Client g state p q) → get_elem? crew c ≡ some x → get_elem? crew d ≡ some y → 0 < total (is_stored (call_index q o) a) (view_of x).kept → 0 < total (is_stored (call_index q o) b) (view_of y).kept → a ≡ b
   one_stored o a b c d x y here there h k = dite (ℕ_discrete c d)
       (λ e. let same : y ≡ x = some-injective y x (sym there ∙ (ap (get_elem? crew) (sym e) ∙ here)) in
-      same_stored (call_word q o) a b (view_of x).kept (few_stored c x here o) h (subst (λ (z : Client g state p q). 0 < total (is_stored (call_word q o) b) (view_of z).kept) same k))
+      same_stored (call_index q o) a b (view_of x).kept (few_stored c x here o) h (subst (λ (z : Client g state p q). 0 < total (is_stored (call_index q o) b) (view_of z).kept) same k))
       (λ n. absurd (
-      let i = own_stored c x here o in let j = own_stored d y there o in let l = owned (call_word q o) a (view_of x).kept in let m = owned (call_word q o) b (view_of y).kept in
+      let i = own_stored c x here o in let j = own_stored d y there o in let l = owned (call_index q o) a (view_of x).kept in let m = owned (call_index q o) b (view_of y).kept in
       let both = two_terms (λ (ts : List Task). total (is_task o) ts) every c d (tasks_of x) (tasks_of y) (tasks_at c x here) (tasks_at d y there) n in let e = numbered_once p every tasks o in
       omega (arith, i, j, l, m, both, e, h, k)
       ))
@@ -205,9 +205,9 @@ module _ {O : Type 0} {g : Ghosts O} {state : O → OutState} {p : Plan} {slots 
     pub own : BegunIn q o client.thread.tasks (view_of client)
     pub begun : HasBegun q o id (view_of client)
 
-  maker : (o id c : ℕ) (x : Client g state p q) → get_elem? crew c ≡ some x → 0 < total (is_stored (call_word q o) id) (view_of x).kept → IsMaker o id
+  maker : (o id c : ℕ) (x : Client g state p q) → get_elem? crew c ≡ some x → 0 < total (is_stored (call_index q o) id) (view_of x).kept → IsMaker o id
   maker o id c x at stored =
-      let r = x.is.ran in let w = call_word q o in
+      let r = x.is.ran in let w = call_index q o in
       let e = end_goes q o state p x.thread.tasks x.thread.began x.thread.ended r in
       let a = owned w id (view_of x).kept in let b = e.grows.own in
       let none_ = ap (λ (m : Me (Option Asked) (View Asked)). total (own_at w) m.0.kept) x.is.ids in
@@ -222,9 +222,9 @@ module _ {O : Type 0} {g : Ghosts O} {state : O → OutState} {p : Plan} {slots 
       }
 
   -- an id that a client found where the operation's word is
-  pub found_maker : (o id c : ℕ) (x : Client g state p q) → get_elem? crew c ≡ some x → 0 < total (is_word (call_word q o) id) (view_of x).kept → IsMaker o id
+  pub found_maker : (o id c : ℕ) (x : Client g state p q) → get_elem? crew c ≡ some x → 0 < total (is_word (call_index q o) id) (view_of x).kept → IsMaker o id
   found_maker o id c x at found =
-      let w = call_word q o in let f : View Asked → ℕ = λ v. total (is_stored w id) v.kept in
+      let w = call_index q o in let f : View Asked → ℕ = λ v. total (is_stored w id) v.kept in
       let k = total_some (is_word w id) kept (let a = kept_within c x at (is_word w id) in omega arith) in let is = word_is w id k.1 k.3 in
       let stored : 0 < total (is_stored w id) kept = subst (λ (y : ℕ). 0 < total (is_stored w y) kept) is.1 (subst (λ (y : ℕ). 0 < total (is_stored y k.1.word) kept) is.0 (closing.found_stored k.1 k.0 k.2)) in
       let s = total_some (λ (y : Client g state p q). f (view_of y)) crew (let a = keeps.stored w id in let b = total_map f view_of crew in let d = ap (total f) (views_are run) in omega arith) in
@@ -251,7 +251,7 @@ module _ {O : Type 0} {g : Ghosts O} {state : O → OutState} {p : Plan} {slots 
   pub id_became : (c of : ℕ) (x : Client g state p q) → get_elem? crew c ≡ some x → (s t : CallStand) (e : EndsAs q of s t) → GoesOn q t (stand_of x.thread.ended.calls) → Became every outcomes of (outcome.CallFailed e.id ERPCTIMEDOUT)
   id_became c of x at s t e later =
       let k = e.lock in let one : Told = failed k ERPCTIMEDOUT in let l = (later of).1 in
-      let found : 0 < total (is_word (call_word q of) e.id) (view_of x).kept = (let a = e.found in let b = l.grows.kept (is_word (call_word q of) e.id) in omega (arith, a, b)) in
+      let found : 0 < total (is_word (call_index q of) e.id) (view_of x).kept = (let a = e.found in let b = l.grows.kept (is_word (call_index q of) e.id) in omega (arith, a, b)) in
       let call = its_call c of x at s t e l.grows.notes (found_maker of e.id c x at found) in
       let f : Thread g → List Told = λ y. y.ended.calls.told.items in
       let list : get_elem? ended c ≡ some x.thread.ended.calls.told.items = ap (λ (y : List (List Told)). get_elem? y c) (sym (all_are run f ∙ run.ran.ended_is)) ∙ mapped (λ (y : Client g state p q). f y.thread) crew c x at in
@@ -315,7 +315,7 @@ module _ {O : Type 0} {g : Ghosts O} {state : O → OutState} {p : Plan} {slots 
       split : Split state p q m.client.thread.tasks u.place task (begins m.client.thread.began) m.done.before
       split = ran_split state p q m.client.thread.tasks (fits c m.client m.at) m.place (begins m.client.thread.began) m.done.before m.done.ran u.place task earlier there
 
-      none_ : total (is_place (call_word q of)) m.done.made.ready.calls.view.kept ≡ 0
+      none_ : total (is_place (call_index q of)) m.done.made.ready.calls.view.kept ≡ 0
       none_ = (expire_made c of t outcome.NotBegun m op became).unknown
 
       says : split.made.by ≡ Some outcome.Unopened → Became every outcomes task.number outcome.Unopened
@@ -326,7 +326,7 @@ module _ {O : Type 0} {g : Ghosts O} {state : O → OutState} {p : Plan} {slots 
       begun_there asked id is_call b =
           let fit : asked.operation ≡ task.number = all_at Fits (tasks_of m.client) u.place task (fits c m.client m.at) there asked is_call in
           let h : HasBegun q of id split.after.has.calls.view = subst (λ (o : ℕ). HasBegun q o id split.after.has.calls.view) (fit ∙ number) b in
-          let w = call_word q of in let f = is_stored w id in
+          let w = call_index q of in let f = is_stored w id in
           let a = (split.later of).1.grows.kept f in let r = (retried_here q of state p m.done.before.has m.done.made.ready m.done.made.retried).grows.kept f in
           let z = placed w id m.done.made.ready.calls.view.kept in let s = h.stored in let n = none_ in omega (arith, a, r, z, s, n)
 
@@ -378,26 +378,26 @@ module _ {O : Type 0} {g : Ghosts O} {state : O → OutState} {p : Plan} {slots 
           h = timed s.made.ready.calls s.after.has.calls expired
 
           -- the id was kept in mind before the call
-          kept_then : 0 < total (is_word (call_word q of) h.id) n.done.before.has.calls.view.kept
-          kept_then = let a = timed_out_word q of by s.made.ready.calls s.after.has.calls h in let b = (s.later of).1.grows.kept (is_word (call_word q of) h.id) in omega (arith, a, b)
+          kept_then : 0 < total (is_word (call_index q of) h.id) n.done.before.has.calls.view.kept
+          kept_then = let a = timed_out_word q of by s.made.ready.calls s.after.has.calls h in let b = (s.later of).1.grows.kept (is_word (call_index q of) h.id) in omega (arith, a, b)
 
-          kept_ready : 0 < total (is_word (call_word q of) h.id) n.done.made.ready.calls.view.kept
-          kept_ready = let a = kept_then in let b = (retried_here q of state p n.done.before.has n.done.made.ready n.done.made.retried).grows.kept (is_word (call_word q of) h.id) in omega (arith, a, b)
+          kept_ready : 0 < total (is_word (call_index q of) h.id) n.done.made.ready.calls.view.kept
+          kept_ready = let a = kept_then in let b = (retried_here q of state p n.done.before.has n.done.made.ready n.done.made.retried).grows.kept (is_word (call_index q of) h.id) in omega (arith, a, b)
 
-          kept_last : 0 < total (is_word (call_word q of) h.id) (view_of n.client).kept
+          kept_last : 0 < total (is_word (call_index q of) h.id) (view_of n.client).kept
           kept_last =
-              let a = kept_then in let b = (made_goes q of state p u n.done.before n.done.after (all_at Fits (tasks_of n.client) n.place u (fits c n.client n.at) n.there) n.done.made).grows.kept (is_word (call_word q of) h.id) in
-              let d = (n.done.later of).1.grows.kept (is_word (call_word q of) h.id) in omega (arith, a, b, d)
+              let a = kept_then in let b = (made_goes q of state p u n.done.before n.done.after (all_at Fits (tasks_of n.client) n.place u (fits c n.client n.at) n.there) n.done.made).grows.kept (is_word (call_index q of) h.id) in
+              let d = (n.done.later of).1.grows.kept (is_word (call_index q of) h.id) in omega (arith, a, b, d)
 
           or_begun : (n.done.made.by ≡ Some outcome.Unopened) ⊎ ((id : ℕ) × HasBegun q asked.operation id n.done.after.has.calls.view × ((x : ℕ) → x % 2 ≡ 0 → total (is_word x id) n.done.made.ready.calls.view.kept ≡ 0)) → ⊥
           or_begun (inl e) = begun (subst (λ (o : ℕ). Became every outcomes o outcome.Unopened) number (own_told c u n outcome.Unopened e))
           or_begun (inr b) =
               let fit : asked.operation ≡ u.number = all_at Fits (tasks_of n.client) n.place u (fits c n.client n.at) n.there asked uop in
               let here : HasBegun q of b.0 n.done.after.has.calls.view = subst (λ (o : ℕ). HasBegun q o b.0 n.done.after.has.calls.view) (fit ∙ number) b.1 in
-              let last : HasBegun q of b.0 (view_of n.client) = begun_later q (call_word q of) (n.done.later of).0 of b.0 n.done.after.has.calls.view (view_of n.client) (n.done.later of).1.grows here in
+              let last : HasBegun q of b.0 (view_of n.client) = begun_later q (call_index q of) (n.done.later of).0 of b.0 n.done.after.has.calls.view (view_of n.client) (n.done.later of).1.grows here in
               let k = found_maker of h.id c n.client n.at kept_last in
               let id : b.0 ≡ h.id = one_stored of b.0 h.id c k.place n.client k.client n.at k.at last.stored k.begun.stored in
-              let none_ : total (is_word (call_word q of) h.id) n.done.made.ready.calls.view.kept ≡ 0 = subst (λ (i : ℕ). total (is_word (call_word q of) i) n.done.made.ready.calls.view.kept ≡ 0) id (b.2 (call_word q of) (omega arith)) in
+              let none_ : total (is_word (call_index q of) h.id) n.done.made.ready.calls.view.kept ≡ 0 = subst (λ (i : ℕ). total (is_word (call_index q of) i) n.done.made.ready.calls.view.kept ≡ 0) id (b.2 (call_index q of) (omega arith)) in
               omega (arith, none_, kept_ready)
 
   -- ## Once

@@ -11,7 +11,7 @@ use Rattle.corr_core.specs.declared.marks.Note.TheVariants.{Ended}
 use Rattle.corr_core.specs.declared.marks.Noted.{Noted}
 use Rattle.corr_core.specs.declared.marks.Plan as id_plan
 use Rattle.corr_core.proofs.Notes.{only-same, pair-same}
-use Rattle.id_rule.specs.Lawful.{call_word}
+use Rattle.id_rule.specs.Lawful.{call_index}
 use Rattle.sock_message.specs.Asked.{Asked}
 use Rattle.corr_id.specs.declared.calls.IdLock.{IdLock}
 use Rattle.corr_id.specs.declared.posts.Posted.{Posted}
@@ -75,19 +75,19 @@ module _ (q : id_plan.Plan) where
     pub first_is : (parts lock.word.0).first ≡ version_of id
     pub locked : HasLocked lock.slot (parts lock.word.0).first lock.content.operation t.view
     pub told : t.books.told ≡ s.books.told ++ failed lock ERPCTIMEDOUT ∷ []
-    pub found : 0 < total (is_word (call_word q operation) id) t.view.kept
+    pub found : 0 < total (is_word (call_index q operation) id) t.view.kept
     pub ended : 1 + noted_ends (slot_of id) (version_of id) s.view.notes ≤ noted_ends (slot_of id) (version_of id) t.view.notes
 
   -- the id that was found is kept in mind
-  pub timed_out_word : (operation : ℕ) (by : Outcome) (s t : CallStand) (h : TimedOut q operation by s t) → 0 < total (is_word (call_word q operation) h.id) t.view.kept
+  pub timed_out_word : (operation : ℕ) (by : Outcome) (s t : CallStand) (h : TimedOut q operation by s t) → 0 < total (is_word (call_index q operation) h.id) t.view.kept
   timed_out_word operation by s t h =
-      let w : Kept → ℕ = is_word (call_word q operation) h.id in let u = found_id q operation h.id s in
-      let a = (posted q operation q.slots u h.id ERPCTIMEDOUT None t (h.answer, h.posted)).grows.kept w in let b = pair-same (call_word q operation) h.id in omega arith
+      let w : Kept → ℕ = is_word (call_index q operation) h.id in let u = found_id q operation h.id s in
+      let a = (posted q operation q.slots u h.id ERPCTIMEDOUT None t (h.answer, h.posted)).grows.kept w in let b = pair-same (call_index q operation) h.id in omega arith
 
   pub timed_out_ends : (operation : ℕ) (s t : CallStand) → TimedOut q operation outcome.Expired s t → t.books.starved ≡ false → EndsAs operation s t
   timed_out_ends operation s t h fed = by h.answer h.by_answer h.posted
     where
-      found : 0 < total (is_word (call_word q operation) h.id) t.view.kept
+      found : 0 < total (is_word (call_index q operation) h.id) t.view.kept
       found = timed_out_word operation outcome.Expired s t h
 
       by : (answer : Posted Asked) → outcome.Expired ≡ outcome_by answer → PostedAs q.slots answer (found_id q operation h.id s) h.id ERPCTIMEDOUT None t → EndsAs operation s t

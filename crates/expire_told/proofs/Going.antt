@@ -17,16 +17,16 @@ use Rattle.sock_words.specs.declared.outcome.Outcome.TheVariants as outcome
 use Rattle.sock_model.specs.declared.view.View as sock_view
 use Rattle.call_told.specs.sock_rule.specs.declared.homes.Letter.{Letter}
 use Rattle.call_told.specs.sock_table.specs.declared.refs.SockRef.{SockRef}
-use Rattle.sock_programs.specs.declared.task.Op.{Op}
-use Rattle.sock_programs.specs.declared.task.Op.TheVariants as ops
-use Rattle.sock_programs.specs.declared.task.Task.{Task}
+use Rattle.seat_programs.specs.declared.task.Op.{Op}
+use Rattle.seat_programs.specs.declared.task.Op.TheVariants as ops
+use Rattle.seat_programs.specs.declared.task.Task.{Task}
 use Rattle.call_told.specs.write_chain.specs.declared.right.Undelivered.{Undelivered}
 use Rattle.corr_core.specs.Word.{parts}
 use Rattle.corr_core.specs.Law.{total, only}
 use Rattle.corr_core.specs.declared.marks.Note.TheVariants.{Ended}
 use Rattle.corr_core.specs.declared.marks.Plan as id_plan
 use Rattle.corr_core.proofs.Notes.{only-at, only-else}
-use Rattle.id_rule.specs.Lawful.{at_word, call_word}
+use Rattle.id_rule.specs.Lawful.{at_index, call_index}
 use Rattle.sock_message.specs.Asked.{Asked}
 use Rattle.corr_id.specs.declared.calls.IdLock.{IdLock}
 use Rattle.corr_id.specs.declared.posts.Posted.{Posted}
@@ -57,14 +57,14 @@ use Rattle.call_told.proofs.Moves.{Fits, is_task}
 use Rattle.call_told.proofs.Runs.{none_left}
 
 -- the word of an operation's call is none that tells of its attempts
-at_no_call : (q : id_plan.Plan) (o n : ℕ) → only (call_word q o) (at_word q n) ≤ 0
-at_no_call q o n = let e = only-else (call_word q o) (at_word q n) (λ (h : at_word q n ≡ call_word q o). omega arith) in omega arith
+at_no_call : (q : id_plan.Plan) (o n : ℕ) → only (call_index q o) (at_index q n) ≤ 0
+at_no_call q o n = let e = only-else (call_index q o) (at_index q n) (λ (h : at_index q n ≡ call_index q o). omega arith) in omega arith
 
 -- and another one for each operation
-call_of_one : (q : id_plan.Plan) (o n : ℕ) → only (call_word q o) (call_word q n) ≤ only o n
+call_of_one : (q : id_plan.Plan) (o n : ℕ) → only (call_index q o) (call_index q n) ≤ only o n
 call_of_one q o n = dite (ℕ_discrete n o)
-    (λ e. let a = only-at o n e in let b = only-at (call_word q o) (call_word q n) (ap (call_word q) e) in omega arith)
-    (λ ne. let b = only-else (call_word q o) (call_word q n) (λ (h : call_word q n ≡ call_word q o). ne (omega arith)) in omega arith)
+    (λ e. let a = only-at o n e in let b = only-at (call_index q o) (call_index q n) (ap (call_index q) e) in omega arith)
+    (λ ne. let b = only-else (call_index q o) (call_index q n) (λ (h : call_index q n ≡ call_index q o). ne (omega arith)) in omega arith)
 
 -- there was told no less, and memory that is there was there before
 pub record Onward (b c : Books) : Type 0 where
@@ -90,11 +90,11 @@ onward_tells x b c (lost e) = onward_then b (starving b) c (onward_starving b) (
 module _ (q : id_plan.Plan) (operation : ℕ) where
   -- so many ids more are stored for this operation at most, and what was known and told stays
   pub record Goes (n : ℕ) (s t : CallStand) : Type 0 where
-    pub grows : Grows (call_word q operation) n s.view t.view
+    pub grows : Grows (call_index q operation) n s.view t.view
     pub books : Onward s.books t.books
 
   abbrev place : ℕ
-  place = call_word q operation
+  place = call_index q operation
 
   pub goes_then : (m n k : ℕ) (s u t : CallStand) → m + n ≤ k → Goes m s u → Goes n u t → Goes k s t
   goes_then m n k s u t le a b = record { grows = grows_then place m n k s.view u.view t.view le a.grows b.grows; books = onward_then s.books u.books t.books a.books b.books }
@@ -141,7 +141,7 @@ module _ (q : id_plan.Plan) (operation : ℕ) where
 
   -- an id was found noted
   pub seen_id : (number id : ℕ) (s : CallStand) → Goes 0 s (found_id q number id s)
-  seen_id number id s = let u = found_id q number id s in goes_seen 0 s u (kept_grows place 0 s.view u.view (call_word q number) false id refl (omega arith)) refl
+  seen_id number id s = let u = found_id q number id s in goes_seen 0 s u (kept_grows place 0 s.view u.view (call_index q number) false id refl (omega arith)) refl
 
   timed_out : (number : ℕ) (by : Outcome) (s t : CallStand) → TimedOut q number by s t → Goes 0 s t
   timed_out number by s t h = let u = found_id q number h.id s in in_turn s u t (seen_id number h.id s) (posted q.slots u h.id ERPCTIMEDOUT None t (h.answer, h.posted))
@@ -197,13 +197,13 @@ module _ (q : id_plan.Plan) (operation : ℕ) where
     pub attempted_by : (socket : SocketId) (msg : Letter) (s t : Both) → AttemptedBy state p q socket msg s t → Goes 0 s.calls t.calls
     attempted_by socket msg s t (nowhere g) = posted q.slots s.calls msg.owner EFAILEDSOCKET (Some msg.label.attempt) t.calls g.posted
     attempted_by socket msg s t (over_link u l d) = in_turn s.calls u.calls t.calls
-        (goes_seen 0 s.calls u.calls (kept_grows place 0 s.calls.view u.calls.view (at_word q msg.label.operation) true _ l.stored (at_no_call q operation msg.label.operation)) l.books) (delivered_by socket msg u t d)
+        (goes_seen 0 s.calls u.calls (kept_grows place 0 s.calls.view u.calls.view (at_index q msg.label.operation) true _ l.stored (at_no_call q operation msg.label.operation)) l.books) (delivered_by socket msg u t d)
 
     pub made_for : (asked : Asked) (id : ℕ) (socket : SocketId) (s t : Both) → MadeFor state p q asked id socket s t → Goes (only operation asked.operation) s.calls t.calls
     made_for asked id socket s t m =
         let n = only operation asked.operation in let u : CallStand = record { view = m.view; books = s.calls.books } in
         goes_then 0 n n s.calls u t.calls (omega arith) (goes_seen 0 s.calls u (did_grows place (slot_of id) s.calls.view m.view _ _ m.made.did) refl)
-        (goes_seen n u t.calls (kept_grows place n m.view t.calls.view (call_word q asked.operation) true id m.noted (call_of_one q operation asked.operation)) m.books)
+        (goes_seen n u t.calls (kept_grows place n m.view t.calls.view (call_index q asked.operation) true id m.noted (call_of_one q operation asked.operation)) m.books)
 
     pub begun_by : (asked : Asked) (id : ℕ) (s t : Both) → CalledBy state p q asked (called.Begun id) s t → Goes (only operation asked.operation) s.calls t.calls
     begun_by asked id s t h = let n = only operation asked.operation in goes_then n 0 n s.calls h.at.calls t.calls (omega arith) (made_for asked id h.socket s h.at h.made_for) (attempted_by h.socket _ h.at t h.attempted)

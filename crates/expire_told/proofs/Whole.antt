@@ -11,15 +11,15 @@ use Rattle.sock_words.specs.declared.outcome.Outcome.TheVariants as outcome
 use Rattle.sock_words.specs.declared.plain.Plan.{Plan}
 use Rattle.sock_words.specs.declared.place_word.PlaceWord.{PlaceWord}
 use Rattle.sock_words.specs.declared.vref.Vref.{Vref}
-use Rattle.sock_programs.specs.declared.task.Op.TheVariants as ops
-use Rattle.sock_programs.specs.declared.task.Task.{Task}
-use Rattle.sock_programs.specs.Told.{AreTasks, IsTask, Became}
-use Rattle.sock_programs.specs.ToldCalls.{Fixed, Order}
-use Rattle.sock_programs.specs.ToldCalls as told_calls
+use Rattle.seat_programs.specs.declared.task.Op.TheVariants as ops
+use Rattle.seat_programs.specs.declared.task.Task.{Task}
+use Rattle.seat_programs.specs.Told.{AreTasks, IsTask, Became}
+use Rattle.seat_programs.specs.ToldCalls.{Fixed, Order}
+use Rattle.seat_programs.specs.ToldCalls as told_calls
 use Rattle.corr_core.specs.declared.marks.Kept.{Kept}
 use Rattle.corr_core.specs.declared.marks.Noted.{Noted}
 use Rattle.corr_core.specs.declared.marks.View.{View}
-use Rattle.id_rule.specs.Lawful.{call_word}
+use Rattle.id_rule.specs.Lawful.{call_index}
 use Rattle.sock_message.specs.Asked.{Asked}
 use Rattle.corr_id.specs.Closing.{Closing}
 use Rattle.call_told.specs.rpc_client.specs.declared.acting.Told.{Told}
@@ -80,7 +80,7 @@ module _ {O : Type 0} {g : Ghosts O} {state : O → OutState} {p : Plan} {slots 
     timed_out_begun c of t by is op became timed =
         let m = made_of run tasks may notes kept words closing noted keeps outcomes said_own said_ended c t is in let s = m.done.made.ready.calls in let v = m.done.after.has.calls in
         let h = timed s v (expire_made run tasks may notes kept words closing noted keeps outcomes said_own said_ended c of t by m op became) in
-        let w = is_word (call_word (ids_of p slots) of) h.id in let a = timed_out_word (ids_of p slots) of by s v h in let b = (m.done.later of).1.grows.kept w in
+        let w = is_word (call_index (ids_of p slots) of) h.id in let a = timed_out_word (ids_of p slots) of by s v h in let b = (m.done.later of).1.grows.kept w in
         let k = maker_begun of h.id (found_maker run tasks may notes kept words closing noted keeps outcomes said_own said_ended of h.id c m.client m.at (omega (arith, a, b))) in (
           k.client,
           k.task,

@@ -9,7 +9,7 @@ pub use Rattle.call_told
 pub use Rattle.call_told.specs.call_writes
 pub use Rattle.call_told.specs.report_fits
 pub use Rattle.call_told.specs.rpc_client
-pub use Rattle.call_told.specs.sock_causes
+pub use Rattle.call_told.specs.outcome_causes
 pub use Rattle.call_told.specs.sock_deeds
 pub use Rattle.call_told.specs.sock_rule
 pub use Rattle.call_told.specs.sock_table

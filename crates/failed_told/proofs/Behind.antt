@@ -9,10 +9,10 @@ use Rattle.sock_words.specs.declared.outcome.Outcome.TheVariants.{CallFailed}
 use Rattle.sock_words.specs.declared.plain.Plan.{Plan}
 use Rattle.sock_message.specs.brpc_model.specs.Frame.{Frame}
 use Rattle.sock_message.specs.brpc_model.specs.Meta.{ResponseMeta}
-use Rattle.sock_programs.specs.declared.task.Op.TheVariants as ops
-use Rattle.sock_programs.specs.declared.task.Task.{Task}
-use Rattle.sock_programs.specs.Told.{IsTask}
-use Rattle.sock_programs.specs.ToldCalls.{Fixed, Order, IsAnsweredBy, FailedBy, ByCompression}
+use Rattle.seat_programs.specs.declared.task.Op.TheVariants as ops
+use Rattle.seat_programs.specs.declared.task.Task.{Task}
+use Rattle.seat_programs.specs.Told.{IsTask}
+use Rattle.seat_programs.specs.ToldCalls.{Fixed, Order, IsAnsweredBy, FailedBy, ByCompression}
 use Rattle.corr_core.specs.Word.{Parts, parts}
 use Rattle.corr_core.specs.declared.marks.Kept.{Kept}
 use Rattle.corr_core.specs.declared.marks.Note.TheVariants.{Made, Locker}

@@ -15,16 +15,16 @@ use Rattle.sock_words.specs.declared.plain.Plan.{Plan}
 use Rattle.sock_words.specs.declared.place_word.PlaceWord.{PlaceWord}
 use Rattle.sock_words.specs.declared.vref.Vref.{Vref}
 use Rattle.sock_model.specs.declared.view.View as sock_view
-use Rattle.sock_model.specs.Layout.{request_word}
+use Rattle.sock_model.specs.Layout.{request_index}
 use Rattle.sock_model.specs.Weights.{is_known, is_saw}
 use Rattle.expire_told.specs.sock_rule.specs.Closing.{PlacesDiffer}
 use Rattle.expire_told.specs.sock_rule.specs.declared.homes.SockHome.{SockHome}
 use Rattle.expire_told.specs.sock_table.specs.Named.{HasSeen, Found}
-use Rattle.sock_programs.specs.declared.task.Op.{Op}
-use Rattle.sock_programs.specs.declared.task.Op.TheVariants as ops
-use Rattle.sock_programs.specs.declared.task.Task.{Task}
-use Rattle.sock_programs.specs.Told.{AreTasks}
-use Rattle.sock_programs.specs.ToldCalls.{Accepted, Fixed, IsFailing, IsUnordered, WasFailing, FailedBy, BySocket, ByRequests, all_accepted}
+use Rattle.seat_programs.specs.declared.task.Op.{Op}
+use Rattle.seat_programs.specs.declared.task.Op.TheVariants as ops
+use Rattle.seat_programs.specs.declared.task.Task.{Task}
+use Rattle.seat_programs.specs.Told.{AreTasks}
+use Rattle.seat_programs.specs.ToldCalls.{Accepted, Fixed, IsFailing, IsUnordered, WasFailing, FailedBy, BySocket, ByRequests, all_accepted}
 use Rattle.corr_core.specs.Law.{is_made}
 use Rattle.corr_core.specs.declared.marks.Kept.{Kept}
 use Rattle.corr_core.specs.declared.marks.Note.{Note}
@@ -133,7 +133,7 @@ module _ {O : Type 0} {g : Ghosts O} {state : O → OutState} {p : Plan} {every 
     | inl none_ ↦ dite (ℕ_discrete p.requests 0)
         (λ z. omega (arith, z))
         (λ ne. absurd (let s = f 0 (omega (arith, ne)) in some-ne-none _ (sym (ap (λ l. get_elem? l s.0) (sym none_.1) ∙ s.1))))
-    | inr w ↦ drun.closed.ordered.full (λ r low. has_seen drun w.0 (request_word p r) (subst (HasSeen (request_word p r)) (sym w.1) (f r low)))
+    | inr w ↦ drun.closed.ordered.full (λ r low. has_seen drun w.0 (request_index p r) (subst (HasSeen (request_index p r)) (sym w.1) (f r low)))
   ]
 
 -- ## The run

@@ -13,15 +13,15 @@ use Rattle.sock_words.specs.declared.socket_id.SocketId.{SocketId}
 use Rattle.sock_model.specs.declared.marks.Mark.{Mark}
 use Rattle.sock_model.specs.declared.marks.Mark.TheVariants.{Saw}
 use Rattle.sock_model.specs.declared.view.View.{View}
-use Rattle.sock_model.specs.Layout.{name_word, request_word}
+use Rattle.sock_model.specs.Layout.{name_index, request_index}
 use Rattle.sock_model.specs.SlotRows.{marks_of}
 use Rattle.sock_model.specs.Weights.{is_known, is_saw, only, total}
-use Rattle.expire_told.specs.sock_rule.specs.slot_laws.proofs.Numbers.{only-same}
+use Rattle.expire_told.specs.sock_rule.specs.slot_steps.proofs.Numbers.{only-same}
 use Rattle.expire_told.specs.sock_rule.specs.Becoming.{Became}
 use Rattle.expire_told.specs.sock_rule.specs.declared.homes.Letter.{Letter}
 use Rattle.expire_told.specs.sock_table.specs.Named.{HasSeen, Found}
-use Rattle.sock_programs.specs.declared.task.Op.{Op}
-use Rattle.sock_programs.specs.declared.task.Op.TheVariants as ops
+use Rattle.seat_programs.specs.declared.task.Op.{Op}
+use Rattle.seat_programs.specs.declared.task.Op.TheVariants as ops
 use Rattle.corr_core.specs.declared.marks.Plan as id_plan
 use Rattle.sock_message.specs.Asked.{Asked, name_of}
 use Rattle.expire_told.specs.write_chain.specs.declared.entry.Refused.{Refused}
@@ -41,7 +41,7 @@ use Rattle.failed_told.specs.Missed.{delivery_missed, attempt_missed, went_misse
 pub record SawDead (p : Plan) (n : ℕ) (v : View) : Type 0 where
   pub id : SocketId
   pub inside : socket_id_slot id.0 < p.slots
-  pub found : HasFound record { place = name_word p n; word = id.0 + 1 } v
+  pub found : HasFound record { place = name_index p n; word = id.0 + 1 } v
   pub known : 0 < marks_of (is_known (socket_id_version id.0)) (socket_id_slot id.0) v
   pub later : ℕ
   pub saw : 0 < marks_of (is_saw later) (socket_id_slot id.0) v
@@ -49,15 +49,15 @@ pub record SawDead (p : Plan) (n : ℕ) (v : View) : Type 0 where
 
 -- each request was found taken
 abbrev pub SawFull : Plan → View → Type 0
-SawFull p v = (r : ℕ) → r < p.requests → HasSeen (request_word p r) v
+SawFull p v = (r : ℕ) → r < p.requests → HasSeen (request_index p r) v
 
 pub dead_later : (p : Plan) (n : ℕ) (v w : View) → Grew v w → SawDead p n v → SawDead p n w
 dead_later p n v w g d =
     let i = socket_id_slot d.id.0 in let a = g.marks (is_known (socket_id_version d.id.0)) (λ x. refl) i in let b = g.marks (is_saw d.later) (λ x. refl) i in let k = d.known in let s = d.saw in
-    record { id = d.id; inside = d.inside; found = g.finds record { place = name_word p n; word = d.id.0 + 1 } d.found; known = omega (arith, a, k); later = d.later; saw = omega (arith, b, s); less = d.less }
+    record { id = d.id; inside = d.inside; found = g.finds record { place = name_index p n; word = d.id.0 + 1 } d.found; known = omega (arith, a, k); later = d.later; saw = omega (arith, b, s); less = d.less }
 
 pub full_later : (p : Plan) (v w : View) → Grew v w → SawFull p v → SawFull p w
-full_later p v w g f r low = g.seen (request_word p r) (f r low)
+full_later p v w g f r low = g.seen (request_index p r) (f r low)
 
 -- what was added is there
 saw_there : (i w : ℕ) (v u : View) (others : List Mark) → Became i v u (Saw w ∷ others) [] → 0 < marks_of (is_saw w) i u
@@ -72,7 +72,7 @@ found_dead p n socket v u w f g later saw less =
     record {
       id = socket;
       inside = know.inside;
-      found = g.finds record { place = name_word p n; word = socket.0 + 1 } (0, ap (λ (z : View). get_elem? z.finds 0) f.1.view);
+      found = g.finds record { place = name_index p n; word = socket.0 + 1 } (0, ap (λ (z : View). get_elem? z.finds 0) f.1.view);
       known = omega (arith, k, y);
       later = later;
       saw = saw;
@@ -101,7 +101,7 @@ module _ {O : Type 0} (state : O → OutState) (p : Plan) (q : id_plan.Plan) (co
       let saw = saw_there i (vref_version found.0) s.socks c.refused_at [] b.3 in let still = back.marks (is_saw (vref_version found.0)) (λ x. refl) i in let version = b.2 in
       was_dead (same_code EFAILEDSOCKET is) (found_dead p name socket v u t.socks f all (vref_version found.0) (omega (arith, saw, still)) (omega (arith, version)))
   came_why name operation socket msg v u (refusal.Full sock m) s t f grew c is =
-      let back = returned_grew socket.0 c.refused_at t.socks c.returned in was_full (same_code EREQUESTS is) (λ r low. back.seen (request_word p r) (c.refused_by.2 r low))
+      let back = returned_grew socket.0 c.refused_at t.socks c.returned in was_full (same_code EREQUESTS is) (λ r low. back.seen (request_index p r) (c.refused_by.2 r low))
 
   delivery_why : (name operation : ℕ) (socket : SocketId) (msg : Letter) (v u : View) (s t : Both) → Found p name (Some socket) v u → Grew u s.socks → (d : DeliveredBy state p q socket msg s t) → delivery_missed state p q socket msg s t d ≡ Some code → WhyMissed p q name operation code t.socks
   delivery_why name operation socket msg v u s t f grew (went_out w) is = absurd (none-some code is)

@@ -18,9 +18,9 @@ use Rattle.sock_words.specs.declared.outcome.Outcome.TheVariants as outcome
 use Rattle.sock_model.specs.declared.view.View as sock_view
 use Rattle.expire_told.specs.sock_rule.specs.declared.homes.Letter.{Letter}
 use Rattle.expire_told.specs.sock_table.specs.declared.refs.SockRef.{SockRef}
-use Rattle.sock_programs.specs.declared.task.Op.{Op}
-use Rattle.sock_programs.specs.declared.task.Op.TheVariants as ops
-use Rattle.sock_programs.specs.declared.task.Task.{Task}
+use Rattle.seat_programs.specs.declared.task.Op.{Op}
+use Rattle.seat_programs.specs.declared.task.Op.TheVariants as ops
+use Rattle.seat_programs.specs.declared.task.Task.{Task}
 use Rattle.corr_core.specs.Word.{Parts, parts}
 use Rattle.corr_core.specs.Law.{total, is_queued}
 use Rattle.corr_core.specs.declared.marks.Note.{Note}
@@ -30,7 +30,7 @@ use Rattle.corr_core.specs.declared.marks.Token.{Token}
 use Rattle.corr_core.specs.declared.marks.Plan as id_plan
 use Rattle.corr_core.specs.declared.marks.View.{View}
 use Rattle.corr_core.proofs.Notes.{pair-same}
-use Rattle.id_rule.specs.Lawful.{call_word, notes_of}
+use Rattle.id_rule.specs.Lawful.{call_index, notes_of}
 use Rattle.sock_message.specs.Asked.{Asked}
 use Rattle.corr_id.specs.declared.calls.IdLock.{IdLock}
 use Rattle.corr_id.specs.declared.posts.Posted.{Posted}
@@ -132,7 +132,7 @@ module _ {O : Type 0} {g : Ghosts O} (state : O → OutState) (p : Plan) (q : id
   backed_later v w l (retries r s t by) h = tt
 
   reason_later : (v w : View Asked) → Later v w → (id code : ℕ) (attempt : Maybe ℕ) → ReasonHere v id code attempt → ReasonHere w id code attempt
-  reason_later v w l id code attempt (timed_out i x operation by s t h there is says counts keeps a b c) = timed_out i x operation by s t h there is says counts (let z = l.kept (is_word (call_word q operation) id) in omega (arith, z, keeps)) a b c
+  reason_later v w l id code attempt (timed_out i x operation by s t h there is says counts keeps a b c) = timed_out i x operation by s t h there is says counts (let z = l.kept (is_word (call_index q operation) id) in omega (arith, z, keeps)) a b c
   reason_later v w l id code attempt (missed i d there is backed a b) = missed i d there is (backed_later v w l d backed) a b
   reason_later v w l id code attempt (dropped life x s y t h a b c) = dropped life x s y t h a b c
 
@@ -285,10 +285,10 @@ module _ {O : Type 0} {g : Ghosts O} (state : O → OutState) (p : Plan) (q : id
   posted s id code attempt t b why = posted_as s b.1.view id code attempt t b.0 b.1.post b.1.handled why
 
   seen_id : (number id : ℕ) (s : CallStand) → Caused s (found_id q number id s)
-  seen_id number id s = let u = found_id q number id s in caused_seen s u (kept_stays s.view u.view (call_word q number) false id refl) refl
+  seen_id number id s = let u = found_id q number id s in caused_seen s u (kept_stays s.view u.view (call_index q number) false id refl) refl
 
   timed_out_by : (i : ℕ) (x : Task) → get_elem? xs i ≡ some x → (number : ℕ) → x.op ≡ ops.Expire number → (by : Outcome) → Says x.number by → (s t : CallStand) → TimedOut q number by s t → Caused s t
-  timed_out_by i x there number is by says s t h = let u = found_id q number h.id s in in_turn s u t (seen_id number h.id s) (posted u h.id ERPCTIMEDOUT None t (h.answer, h.posted) (λ counts. timed_out i x number by s t h there is says (timed_by h.answer by h.by_answer counts) (let a = pair-same (call_word q number) h.id in omega (arith, a)) refl refl refl))
+  timed_out_by i x there number is by says s t h = let u = found_id q number h.id s in in_turn s u t (seen_id number h.id s) (posted u h.id ERPCTIMEDOUT None t (h.answer, h.posted) (λ counts. timed_out i x number by s t h there is says (timed_by h.answer by h.by_answer counts) (let a = pair-same (call_index q number) h.id in omega (arith, a)) refl refl refl))
 
   expired_by : (i : ℕ) (x : Task) → get_elem? xs i ≡ some x → (number : ℕ) → x.op ≡ ops.Expire number → (by : Outcome) → Says x.number by → (s t : CallStand) → ExpiredBy q number by s t → Caused s t
   expired_by i x there number is outcome.NotBegun says s t h = caused_same s t h.same

@@ -10,8 +10,8 @@ use Rattle.sock_words.specs.declared.plain.Plan.{Plan}
 use Rattle.sock_words.specs.declared.place_word.PlaceWord.{PlaceWord}
 use Rattle.sock_words.specs.declared.vref.Vref.{Vref}
 use Rattle.sock_model.specs.declared.view.View as sock_view
-use Rattle.sock_programs.specs.declared.task.Task.{Task}
-use Rattle.sock_programs.specs.ToldCalls.{Fixed, Order, IsPosted}
+use Rattle.seat_programs.specs.declared.task.Task.{Task}
+use Rattle.seat_programs.specs.ToldCalls.{Fixed, Order, IsPosted}
 use Rattle.corr_core.specs.Law.{total}
 use Rattle.corr_core.specs.Word.{code_of}
 use Rattle.corr_core.specs.declared.marks.Noted.{Noted}

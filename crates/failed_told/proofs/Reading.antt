@@ -16,7 +16,7 @@ use Rattle.corr_core.specs.declared.marks.Note.TheVariants.{Queued}
 use Rattle.corr_core.specs.declared.marks.Noted.{Noted}
 use Rattle.corr_core.specs.declared.marks.Plan.{Plan}
 use Rattle.corr_core.specs.declared.marks.View.{View}
-use Rattle.id_rule.specs.Lawful.{at_word, call_word, notes_of, with_kept}
+use Rattle.id_rule.specs.Lawful.{at_index, call_index, notes_of, with_kept}
 use Rattle.sock_message.specs.Asked.{Asked}
 use Rattle.corr_id.specs.declared.posts.Posted.{Posted}
 use Rattle.corr_id.specs.declared.posts.Posted.TheVariants.{Locked as HasLock, Queued as IsQueued, Gone, Stale, Crowded}
@@ -126,8 +126,8 @@ module _ (code : ℕ) where
     posted_at : (p : Plan) (link operation : ℕ) (found : Option AtWord) (b b' : Books) → PostedAt p link code operation found b b' → Queues b.view b'.view
     posted_at p link operation None b b' h = queues_same b b' h
     posted_at p link operation (Some w) b b' h =
-        let v = with_kept (at_word p operation) false w.0 b.view in
-        queues_then b.view v b'.view (none_queued b.view v (kept_stays b.view v (at_word p operation) false w.0 refl)) (posted_if (at_word_link w.0 == link) p.slots w.0 (record b { view = v }) b' h)
+        let v = with_kept (at_index p operation) false w.0 b.view in
+        queues_then b.view v b'.view (none_queued b.view v (kept_stays b.view v (at_index p operation) false w.0 refl)) (posted_if (at_word_link w.0 == link) p.slots w.0 (record b { view = v }) b' h)
 
     posted_all : (p : Plan) (link : ℕ) (os : List ℕ) (b b' : Books) → PostedAll p link code os b b' → Queues b.view b'.view
     posted_all p link [] b b' h = queues_same b b' h
@@ -139,7 +139,7 @@ module _ (code : ℕ) where
 
   one_queues : (p : Plan) (operation : ℕ) (b b' : Books) → OneEnded p code operation b b' → Queues b.view b'.view
   one_queues p operation b b' (inl n) = none_queued b.view b'.view (same_stays b.view b'.view n.view)
-  one_queues p operation b b' (inr n) = queues_then b.view n.seen b'.view (none_queued b.view n.seen (kept_stays b.view n.seen (call_word p operation) false n.id n.kept)) (id_queues p.slots n.id (record b { view = n.seen }) b' n.ends)
+  one_queues p operation b b' (inr n) = queues_then b.view n.seen b'.view (none_queued b.view n.seen (kept_stays b.view n.seen (call_index p operation) false n.id n.kept)) (id_queues p.slots n.id (record b { view = n.seen }) b' n.ends)
 
   pub rest_queues : (p : Plan) (os : List ℕ) (b b' : Books) → RestEnded p code os b b' → Queues b.view b'.view
   rest_queues p [] b b' h = queues_same b b' h

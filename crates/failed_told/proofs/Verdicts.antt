@@ -14,10 +14,10 @@ use Rattle.sock_words.specs.declared.plain.Plan.{Plan}
 use Rattle.sock_words.specs.declared.place_word.PlaceWord.{PlaceWord}
 use Rattle.sock_words.specs.declared.vref.Vref.{Vref}
 use Rattle.sock_model.specs.declared.view.View as sock_view
-use Rattle.sock_programs.specs.declared.task.Op.TheVariants as ops
-use Rattle.sock_programs.specs.declared.task.Task.{Task}
-use Rattle.sock_programs.specs.Told.{AreTasks, IsTask, Became}
-use Rattle.sock_programs.specs.ToldCalls.{Fixed, Order, IsExpiredWith, FailedBy, ByExpiry}
+use Rattle.seat_programs.specs.declared.task.Op.TheVariants as ops
+use Rattle.seat_programs.specs.declared.task.Task.{Task}
+use Rattle.seat_programs.specs.Told.{AreTasks, IsTask, Became}
+use Rattle.seat_programs.specs.ToldCalls.{Fixed, Order, IsExpiredWith, FailedBy, ByExpiry}
 use Rattle.corr_core.specs.Word.{Parts, parts, code_of}
 use Rattle.corr_core.specs.Law.{total}
 use Rattle.corr_core.specs.declared.marks.Kept.{Kept}
@@ -27,7 +27,7 @@ use Rattle.corr_core.specs.declared.marks.Noted.{Noted}
 use Rattle.corr_core.specs.declared.marks.Plan as id_plan
 use Rattle.corr_core.specs.declared.marks.View.{View}
 use Rattle.corr_core.proofs.Notes.{only-at, total_some}
-use Rattle.id_rule.specs.Lawful.{call_word, notes_of}
+use Rattle.id_rule.specs.Lawful.{call_index, notes_of}
 use Rattle.sock_message.specs.Asked.{Asked}
 use Rattle.corr_id.specs.Calls.{is_saw, slot_of, version_of}
 use Rattle.corr_id.specs.Closing.{Closing}
@@ -132,7 +132,7 @@ module _ {O : Type 0} {g : Ghosts O} {state : O → OutState} {p : Plan} {slots 
     told_end = record { slot = lock.slot; first = (parts lock.word.0).first; low = (let l = lock.fits.low in omega (arith, l)); is_end = λ i. refl; locked = e.cause.locked }
 
     -- whoever keeps the id in mind where an operation's word is does so for its operation
-    its_operation : (o d : ℕ) (y : Client g state p q) → get_elem? crew d ≡ some y → KeepsWord (call_word q o) id (view_of y) → operation ≡ o
+    its_operation : (o d : ℕ) (y : Client g state p q) → get_elem? crew d ≡ some y → KeepsWord (call_index q o) id (view_of y) → operation ≡ o
     its_operation o d y there kept_ =
         let m = found_maker run tasks may notes kept words closing noted keeps outcomes said_own said_ended o id d y there kept_ in
         end_number q notes kept words closing o id (view_of x) (failed lock e.code) (inside_notes c x at) m.begun.inside
@@ -157,7 +157,7 @@ module _ {O : Type 0} {g : Ghosts O} {state : O → OutState} {p : Plan} {slots 
       abbrev pub WasExpired : Type 0
       WasExpired = IsExpiredWith p every outcomes fixed gave orders operation outcome.Expired ⊎ IsExpiredWith p every outcomes fixed gave orders operation outcome.Queued
 
-      expired_with : (o d i : ℕ) (y : Client g state p q) (t : Task) (by : Outcome) → get_elem? crew d ≡ some y → get_elem? (tasks_of y) i ≡ some t → t.op ≡ ops.Expire o → Became every outcomes t.number by → (by ≡ outcome.Expired) ⊎ (by ≡ outcome.Queued) → KeepsWord (call_word q o) id (view_of y) → WasExpired
+      expired_with : (o d i : ℕ) (y : Client g state p q) (t : Task) (by : Outcome) → get_elem? crew d ≡ some y → get_elem? (tasks_of y) i ≡ some t → t.op ≡ ops.Expire o → Became every outcomes t.number by → (by ≡ outcome.Expired) ⊎ (by ≡ outcome.Queued) → KeepsWord (call_index q o) id (view_of y) → WasExpired
       expired_with o d i y t by there task op became counts kept_ =
           let is = task_is d y there i t task in
           let its : t.op ≡ ops.Expire operation = op ∙ ap ops.Expire (sym (its_operation o d y there kept_)) in

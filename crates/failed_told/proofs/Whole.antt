@@ -10,10 +10,10 @@ use Rattle.sock_words.specs.declared.plain.Plan.{Plan}
 use Rattle.sock_words.specs.declared.place_word.PlaceWord.{PlaceWord}
 use Rattle.sock_words.specs.declared.vref.Vref.{Vref}
 use Rattle.expire_told.specs.sock_rule.specs.Closing.{PlacesDiffer}
-use Rattle.sock_programs.specs.declared.task.Op.TheVariants as ops
-use Rattle.sock_programs.specs.declared.task.Task.{Task}
-use Rattle.sock_programs.specs.Told.{AreTasks}
-use Rattle.sock_programs.specs.ToldCalls.{IsUnordered, all_accepted}
+use Rattle.seat_programs.specs.declared.task.Op.TheVariants as ops
+use Rattle.seat_programs.specs.declared.task.Task.{Task}
+use Rattle.seat_programs.specs.Told.{AreTasks}
+use Rattle.seat_programs.specs.ToldCalls.{IsUnordered, all_accepted}
 use Rattle.corr_core.specs.Law.{total}
 use Rattle.corr_core.specs.Word.{parts, code_of}
 use Rattle.corr_core.specs.declared.marks.Kept.{Kept}

@@ -10,14 +10,14 @@ use Rattle.sock_words.specs.declared.outcome.Outcome.{Outcome}
 use Rattle.sock_words.specs.declared.outcome.Outcome.TheVariants as outcome
 use Rattle.sock_words.specs.declared.plain.Plan.{Plan}
 use Rattle.sock_model.specs.declared.view.View as sock_view
-use Rattle.sock_programs.specs.declared.task.Op.TheVariants as ops
-use Rattle.sock_programs.specs.declared.task.Task.{Task}
+use Rattle.seat_programs.specs.declared.task.Op.TheVariants as ops
+use Rattle.seat_programs.specs.declared.task.Task.{Task}
 use Rattle.corr_core.specs.Word.{parts}
 use Rattle.corr_core.specs.Law.{total, pair}
 use Rattle.corr_core.specs.declared.marks.Kept.{Kept}
 use Rattle.corr_core.specs.declared.marks.Plan as id_plan
 use Rattle.corr_core.specs.declared.marks.View.{View}
-use Rattle.id_rule.specs.Lawful.{call_word, notes_of}
+use Rattle.id_rule.specs.Lawful.{call_index, notes_of}
 use Rattle.sock_message.specs.Asked.{Asked}
 use Rattle.corr_id.specs.declared.calls.IdLock.{IdLock}
 use Rattle.corr_id.specs.declared.posts.Posted.{Posted}
@@ -58,7 +58,7 @@ pub record IsSeen (v : View Asked) (k : IdLock Asked) : Type 0 where
 module _ {O : Type 0} {g : Ghosts O} (state : O → OutState) (p : Plan) (q : id_plan.Plan) (xs : List Task) (Says : ℕ → Outcome → Type 0) (ds : List (Deed g state p q)) where
   -- the error with this code was posted to the call with this id, for the attempt or for the whole call: by an `expire`; since the attempt, one of the client's deeds, came to nothing; or since its message was dropped, with the code of the socket's life
   pub data Reason (v : View Asked) (id code : ℕ) (attempt : Maybe ℕ) : Type 0 where
-    timed_out : (i : ℕ) (x : Task) (operation : ℕ) (by : Outcome) (s t : CallStand) (h : TimedOut q operation by s t) → get_elem? xs i ≡ some x → x.op ≡ ops.Expire operation → Says x.number by → (by ≡ outcome.Expired) ⊎ (by ≡ outcome.Queued) → KeepsWord (call_word q operation) id v
+    timed_out : (i : ℕ) (x : Task) (operation : ℕ) (by : Outcome) (s t : CallStand) (h : TimedOut q operation by s t) → get_elem? xs i ≡ some x → x.op ≡ ops.Expire operation → Says x.number by → (by ≡ outcome.Expired) ⊎ (by ≡ outcome.Queued) → KeepsWord (call_index q operation) id v
         → id ≡ h.id → code ≡ ERPCTIMEDOUT → attempt ≡ None → Reason v id code attempt
     missed : (i : ℕ) (d : Deed g state p q) → get_elem? ds i ≡ some d → missed_in d ≡ Some code → IsBacked v d → id ≡ id_of d → attempt ≡ Some (attempt_of d) → Reason v id code attempt
     dropped : (life : ℕ) (a : sock_view.View) (s : CallStand) (b : sock_view.View) (t : CallStand) (d : DroppedOne state p q.slots life a s b t) → id ≡ d.msg.owner → code ≡ d.code → attempt ≡ Some d.msg.label.attempt → Reason v id code attempt

@@ -1,6 +1,6 @@
 -- What the ids of calls and the numbers of attempts stand for.
 use Rattle.std.specs.Prelude.{ℕ, ◌%◌}
-use Rattle.sock_programs.specs.Asides.{call_id}
+use Rattle.seat_programs.specs.Asides.{call_id}
 use Rattle.id_points.specs.declared.call_id.CallId.{CallId}
 use Rattle.id_points.specs.declared.call_id.AttemptNumber.{AttemptNumber}
 

@@ -1,5 +1,5 @@
 ghost use Rattle.std.specs.Prelude.{◌≡◌, ◌<◌, ◌≤◌, ◌+◌, ◌*◌, ◌/◌, ◌%◌, ℕ};
-ghost use Rattle.sock_programs.specs.Asides.{call_id, id_slot, id_first};
+ghost use Rattle.seat_programs.specs.Asides.{call_id, id_slot, id_first};
 ghost use Rattle.id_points.specs.Ids.{id_of, number_of};
 
 /// The versions of call ids end below this, 2^26.

@@ -1,8 +1,8 @@
 ghost use Rattle.std.specs.Prelude.{◌≡◌, ◌+◌, nat_le, not};
-ghost use Rattle.sock_programs.specs.corr_core.specs.Law.{LAST};
-ghost use Rattle.sock_programs.specs.corr_core.specs.Word.{parts};
-ghost use Rattle.sock_programs.specs.Posts.{ends_call, is_final};
-ghost use Rattle.sock_programs.specs.Readers.{is_early};
+ghost use Rattle.seat_programs.specs.corr_core.specs.Law.{LAST};
+ghost use Rattle.seat_programs.specs.corr_core.specs.Word.{parts};
+ghost use Rattle.seat_programs.specs.Posts.{ends_call, is_final};
+ghost use Rattle.seat_programs.specs.Readers.{is_early};
 
 use crate::error::IdError;
 use sock_words::{EEOF, EINTERNAL, ERESPONSE, ERPCTIMEDOUT, IdWord};

@@ -1,8 +1,8 @@
 ghost use Rattle.std.specs.Prelude.{◌≡◌, ◌==◌, ◌+◌, ℕ, None, Some, MatchOption, if◌then◌else◌, not, ◌&&◌};
-ghost use Rattle.sock_programs.specs.corr_core.specs.Word.{parts, posted_word};
-ghost use Rattle.sock_programs.specs.Heads.{Locking, Has};
-ghost use Rattle.sock_programs.specs.Programs.{Program};
-ghost use Rattle.sock_programs.specs.Posts.{packed, locking, is_sought, is_first, has_version};
+ghost use Rattle.seat_programs.specs.corr_core.specs.Word.{parts, posted_word};
+ghost use Rattle.seat_programs.specs.Heads.{Locking, Has};
+ghost use Rattle.seat_programs.specs.Programs.{Program};
+ghost use Rattle.seat_programs.specs.Posts.{packed, locking, is_sought, is_first, has_version};
 ghost use Rattle.id_points.specs.Turns.{lock_on, sought_as};
 
 use crate::posting::{is_there, locked};

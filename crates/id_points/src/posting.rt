@@ -1,8 +1,8 @@
 ghost use Rattle.std.specs.Prelude.{◌≡◌, ◌≤◌, ◌==◌, ℕ, if◌then◌else◌};
-ghost use Rattle.sock_programs.specs.corr_core.specs.Word.{parts, posted_word};
-ghost use Rattle.sock_programs.specs.Heads.{Posting, HasLocked, WasQueued};
-ghost use Rattle.sock_programs.specs.Programs.{Program};
-ghost use Rattle.sock_programs.specs.Posts.{judged, packed, is_first, is_stale};
+ghost use Rattle.seat_programs.specs.corr_core.specs.Word.{parts, posted_word};
+ghost use Rattle.seat_programs.specs.Heads.{Posting, HasLocked, WasQueued};
+ghost use Rattle.seat_programs.specs.Programs.{Program};
+ghost use Rattle.seat_programs.specs.Posts.{judged, packed, is_first, is_stale};
 ghost use Rattle.id_points.specs.Ids.{id_of};
 ghost use Rattle.id_points.specs.Turns.{post_on};
 

@@ -1,8 +1,8 @@
 ghost use Rattle.std.specs.Prelude.{◌≡◌, ◌≤◌, ◌<◌, ◌+◌, ◌==◌, ℕ, IsTrue, false, if◌then◌else◌};
-ghost use Rattle.sock_programs.specs.corr_core.specs.Word.{parts, unlocked_word};
-ghost use Rattle.sock_programs.specs.Heads.{Unlocking, Unlocks};
-ghost use Rattle.sock_programs.specs.Programs.{Program, Round};
-ghost use Rattle.sock_programs.specs.Posts.{packed, popped, advance_of};
+ghost use Rattle.seat_programs.specs.corr_core.specs.Word.{parts, unlocked_word};
+ghost use Rattle.seat_programs.specs.Heads.{Unlocking, Unlocks};
+ghost use Rattle.seat_programs.specs.Programs.{Program, Round};
+ghost use Rattle.seat_programs.specs.Posts.{packed, popped, advance_of};
 ghost use Rattle.id_points.specs.Turns.{unlock_on};
 
 use crate::error::IdError;

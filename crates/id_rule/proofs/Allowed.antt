@@ -21,7 +21,7 @@ use Rattle.corr_core.specs.declared.marks.Note.TheVariants.{Tried, Made, Ended, 
 use Rattle.corr_core.specs.declared.marks.View.{View}
 use Rattle.corr_core.proofs.Notes.{Inserted, at_length}
 use Rattle.corr_core.proofs.Slots.{queued_word, open_word, popped_word, IsLock, is_lock, claim_home, no_tokens, tries, claims, sees, reclaims, makes, locks, queues, relocks, stays, advances, opens, pops, ends, frees}
-use Rattle.id_rule.specs.Lawful.{tag_word, id_word, tokens_in, notes_in, local, Lawful, with_token, no_token, with_note}
+use Rattle.id_rule.specs.Lawful.{tag_index, id_index, tokens_in, notes_in, local, Lawful, with_token, no_token, with_note}
 use Rattle.id_rule.specs.Plays.{hand_of, with_hand, value_of, hand_by, claimed_view, locked_view, popped_view, ended_view, IsHome, NotLeaving, Fitting, LockFits}
 use Rattle.id_rule.proofs.Frames.{Aside, token_here, drop_here, note_here, aside_token, aside_drop, aside_note, aside_both, mine, own_tokens, first_tokens, same_tokens, same_notes, more_notes, on_tag, on_id}
 
@@ -40,41 +40,41 @@ module _ {C : Type 0} (p : Plan) (id : ℕ) (me : Me (Maybe C) (View C)) (i : �
   own t has = mine p s law id me.0 here real i inside t has
 
   module _ (w : View C) (a : Aside i me.0 w) (n : ℕ) (ts : List (Token C)) (are : flat_map (tokens_in i) (set s.views id w) ≡ ts) where
-    pub tag_same : notes_in i w ≡ notes_in i me.0 → SlotLaw record { tag = n; word = (local s i).word; home = (local s i).home; tokens = ts; notes = (local s i).notes } → Lawful p (stepped s (tag_word i) n id me.1 w keeps)
+    pub tag_same : notes_in i w ≡ notes_in i me.0 → SlotLaw record { tag = n; word = (local s i).word; home = (local s i).home; tokens = ts; notes = (local s i).notes } → Lawful p (stepped s (tag_index i) n id me.1 w keeps)
     tag_same same k = on_tag p s law id me.0 here real i inside w a n s.homes (λ j ne. refl) (local s i).home ts refl are
         (subst (λ (ns : List (Note C)). SlotLaw record { tag = n; word = (local s i).word; home = (local s i).home; tokens = ts; notes = ns }) (sym (same_notes p s law id me.0 here real i inside w same)) k)
 
-    pub tag_more : (x : Note C) → notes_in i w ≡ x ∷ notes_in i me.0 → ((ns : List (Note C)) → Inserted (local s i).notes ns x → SlotLaw record { tag = n; word = (local s i).word; home = (local s i).home; tokens = ts; notes = ns }) → Lawful p (stepped s (tag_word i) n id me.1 w keeps)
+    pub tag_more : (x : Note C) → notes_in i w ≡ x ∷ notes_in i me.0 → ((ns : List (Note C)) → Inserted (local s i).notes ns x → SlotLaw record { tag = n; word = (local s i).word; home = (local s i).home; tokens = ts; notes = ns }) → Lawful p (stepped s (tag_index i) n id me.1 w keeps)
     tag_more x one k = on_tag p s law id me.0 here real i inside w a n s.homes (λ j ne. refl) (local s i).home ts refl are (k (flat_map (notes_in i) (set s.views id w)) (more_notes p s law id me.0 here real i inside w x one))
 
-    pub id_same : notes_in i w ≡ notes_in i me.0 → SlotLaw record { tag = (local s i).tag; word = parts n; home = (local s i).home; tokens = ts; notes = (local s i).notes } → Lawful p (stepped s (id_word i) n id me.1 w keeps)
+    pub id_same : notes_in i w ≡ notes_in i me.0 → SlotLaw record { tag = (local s i).tag; word = parts n; home = (local s i).home; tokens = ts; notes = (local s i).notes } → Lawful p (stepped s (id_index i) n id me.1 w keeps)
     id_same same k = on_id p s law id me.0 here real i inside w a n s.homes (λ j ne. refl) (local s i).home ts refl are
         (subst (λ (ns : List (Note C)). SlotLaw record { tag = (local s i).tag; word = parts n; home = (local s i).home; tokens = ts; notes = ns }) (sym (same_notes p s law id me.0 here real i inside w same)) k)
 
-    pub id_more : (x : Note C) → notes_in i w ≡ x ∷ notes_in i me.0 → ((ns : List (Note C)) → Inserted (local s i).notes ns x → SlotLaw record { tag = (local s i).tag; word = parts n; home = (local s i).home; tokens = ts; notes = ns }) → Lawful p (stepped s (id_word i) n id me.1 w keeps)
+    pub id_more : (x : Note C) → notes_in i w ≡ x ∷ notes_in i me.0 → ((ns : List (Note C)) → Inserted (local s i).notes ns x → SlotLaw record { tag = (local s i).tag; word = parts n; home = (local s i).home; tokens = ts; notes = ns }) → Lawful p (stepped s (id_index i) n id me.1 w keeps)
     id_more x one k = on_id p s law id me.0 here real i inside w a n s.homes (λ j ne. refl) (local s i).home ts refl are (k (flat_map (notes_in i) (set s.views id w)) (more_notes p s law id me.0 here real i inside w x one))
 
   -- I1
-  pub claims_law : Lawful p (stepped s (tag_word i) 1 id me.1 (claimed_view i (get_or s.words (tag_word i) 0) me.0) keeps)
-  claims_law = let found : ℕ = get_or s.words (tag_word i) 0 in let F : Bool → Type 0 = λ b. Lawful p (stepped s (tag_word i) 1 id me.1 (cond b (with_token i (Claimed 0 Empty) me.0) (with_note i Tried me.0)) keeps) in dite (ℕ_discrete found 0)
+  pub claims_law : Lawful p (stepped s (tag_index i) 1 id me.1 (claimed_view i (get_or s.words (tag_index i) 0) me.0) keeps)
+  claims_law = let found : ℕ = get_or s.words (tag_index i) 0 in let F : Bool → Type 0 = λ b. Lawful p (stepped s (tag_index i) 1 id me.1 (cond b (with_token i (Claimed 0 Empty) me.0) (with_note i Tried me.0)) keeps) in dite (ℕ_discrete found 0)
       (λ z. let w : View C = with_token i (Claimed 0 Empty) me.0 in subst F (sym (eq-eqb found 0 z))
       (tag_same w (aside_token i (Claimed 0 Empty) me.0) 1 (Claimed 0 Empty ∷ []) (first_tokens p s law id me.0 here real i inside w (no_tokens (local s i) o z) ∙ token_here i (Claimed 0 Empty) me.0) refl (claims (local s i) o z)))
       (λ n. let w : View C = with_note i Tried me.0 in subst F (sym (ne_eqb found 0 n))
       (tag_more w (aside_note i Tried me.0) 1 (local s i).tokens (same_tokens p s law id me.0 here real i inside w refl) Tried (note_here i Tried me.0) (λ ns k. tries (local s i) o ns (omega arith) k)))
 
   -- I7 by the seat that claimed the slot
-  pub reads_law : (seen : ℕ) (h : Hand C) → tokens_in i me.0 ≡ Claimed seen h ∷ [] → Lawful p (stepped s (id_word i) (get_or s.words (id_word i) 0) id me.1 (with_token i (Claimed (local s i).word.first h) me.0) keeps)
+  pub reads_law : (seen : ℕ) (h : Hand C) → tokens_in i me.0 ≡ Claimed seen h ∷ [] → Lawful p (stepped s (id_index i) (get_or s.words (id_index i) 0) id me.1 (with_token i (Claimed (local s i).word.first h) me.0) keeps)
   reads_law seen h has = let t : Token C = Claimed (local s i).word.first h in let w : View C = with_token i t me.0 in
-      id_same w (aside_token i t me.0) (get_or s.words (id_word i) 0) (t ∷ []) (own_tokens p s law id me.0 here real i inside w (Claimed seen h) has ∙ token_here i t me.0) refl
+      id_same w (aside_token i t me.0) (get_or s.words (id_index i) 0) (t ∷ []) (own_tokens p s law id me.0 here real i inside w (Claimed seen h) has ∙ token_here i t me.0) refl
       (reclaims (local s i) o seen h (own (Claimed seen h) has) (local s i).word.first h (local s i).home (λ n. refl) (claim_home (local s i) o seen h (own (Claimed seen h) has)).0)
 
   -- I7
-  pub sees_law : Lawful p (stepped s (id_word i) (get_or s.words (id_word i) 0) id me.1 (with_note i (Saw (get_or s.words (id_word i) 0)) me.0) keeps)
-  sees_law = let n : ℕ = get_or s.words (id_word i) 0 in let w : View C = with_note i (Saw n) me.0 in
+  pub sees_law : Lawful p (stepped s (id_index i) (get_or s.words (id_index i) 0) id me.1 (with_note i (Saw (get_or s.words (id_index i) 0)) me.0) keeps)
+  sees_law = let n : ℕ = get_or s.words (id_index i) 0 in let w : View C = with_note i (Saw n) me.0 in
       id_more w (aside_note i (Saw n) me.0) n (local s i).tokens (same_tokens p s law id me.0 here real i inside w refl) (Saw n) (note_here i (Saw n) me.0) (λ ns k. sees (local s i) o n ns refl k)
 
   -- I2
-  pub makes_law : (f n : ℕ) (c : C) → tokens_in i me.0 ≡ Claimed f (Full c) ∷ [] → f ≢ 0 → parts n ≡ made_word f (parts n).range → 2 ≤ (parts n).range → (parts n).range ≤ 8 → Lawful p (stepped s (id_word i) n id me.1 (with_note i (Made f (parts n).range c) (no_token i me.0)) keeps)
+  pub makes_law : (f n : ℕ) (c : C) → tokens_in i me.0 ≡ Claimed f (Full c) ∷ [] → f ≢ 0 → parts n ≡ made_word f (parts n).range → 2 ≤ (parts n).range → (parts n).range ≤ 8 → Lawful p (stepped s (id_index i) n id me.1 (with_note i (Made f (parts n).range c) (no_token i me.0)) keeps)
   makes_law f n c has some_first is low high =
       let r : ℕ = (parts n).range in let w : View C = with_note i (Made f r c) (no_token i me.0) in let t : Token C = Claimed f (Full c) in
       let e : f ≡ (local s i).word.first = (claim_home (local s i) o f (Full c) (own t has)).1 some_first in
@@ -83,7 +83,7 @@ module _ {C : Type 0} (p : Plan) (id : ℕ) (me : Me (Maybe C) (View C)) (i : �
       (makes (local s i) o r c ns (subst (λ (y : ℕ). flat_map (tokens_in i) s.views ≡ Claimed y (Full c) ∷ []) e (own t has)) low high (subst (λ (y : ℕ). Inserted (local s i).notes ns (Made y r c)) e k)))
 
   -- I3, and I4 on an open id
-  pub locks_law : (n : ℕ) → (local s i).word.state ≡ 1 → parts n ≡ locked_word (local s i).word → (c : C) × LockFits (local s i).word × (((local s i).word.oldest ≡ 0) × ((local s i).word.second ≡ 0)) × Lawful p (stepped s (id_word i) n id me.1 (locked_view i (local s i).word.first (local s i).word.range (local s i).word.attempt c me.0) keeps)
+  pub locks_law : (n : ℕ) → (local s i).word.state ≡ 1 → parts n ≡ locked_word (local s i).word → (c : C) × LockFits (local s i).word × (((local s i).word.oldest ≡ 0) × ((local s i).word.second ≡ 0)) × Lawful p (stepped s (id_index i) n id me.1 (locked_view i (local s i).word.first (local s i).word.range (local s i).word.attempt c me.0) keeps)
   locks_law n one is =
       let k = locks (local s i) o one in let c = k.0 in let f : ℕ = (local s i).word.first in let t : Token C = Locked f (local s i).word.range (local s i).word.attempt c 0 0 (Full c) in let u : View C = with_token i t me.0 in let w : View C = with_note i (Locker f c) u in (
         c,
@@ -94,7 +94,7 @@ module _ {C : Type 0} (p : Plan) (id : ℕ) (me : Me (Maybe C) (View C)) (i : �
       )
 
   -- I4 on a locked id
-  pub queues_law : (n e : ℕ) → (local s i).word.state ≡ 2 → (local s i).word.second ≡ 0 → e ≢ 0 → parts n ≡ queued_word (local s i).word e → Lawful p (stepped s (id_word i) n id me.1 (with_note i (Queued (local s i).word.first e) me.0) keeps)
+  pub queues_law : (n e : ℕ) → (local s i).word.state ≡ 2 → (local s i).word.second ≡ 0 → e ≢ 0 → parts n ≡ queued_word (local s i).word e → Lawful p (stepped s (id_index i) n id me.1 (with_note i (Queued (local s i).word.first e) me.0) keeps)
   queues_law n e two room some_error is = let x : Note C = Queued (local s i).word.first e in let w : View C = with_note i x me.0 in
       id_more w (aside_note i x me.0) n (local s i).tokens (same_tokens p s law id me.0 here real i inside w refl) x (note_here i x me.0)
       (λ ns g. subst (λ (y : Parts). SlotLaw record { tag = (local s i).tag; word = y; home = (local s i).home; tokens = (local s i).tokens; notes = ns }) (sym is) (queues (local s i) o e ns two room some_error g))
@@ -107,8 +107,8 @@ module _ {C : Type 0} (p : Plan) (id : ℕ) (me : Me (Maybe C) (View C)) (i : �
     known = is_lock (local s i) o f rg att c q r (Full c) (own (Locked f rg att c q r (Full c)) has)
 
     -- I5 that failed
-    pub relocks_law : Lawful p (stepped s (id_word i) (get_or s.words (id_word i) 0) id me.1 (with_token i (Locked f rg att c (local s i).word.oldest (local s i).word.second (Full c)) me.0) keeps)
-    relocks_law = let n : ℕ = get_or s.words (id_word i) 0 in let t : Token C = Locked f rg att c (local s i).word.oldest (local s i).word.second (Full c) in let w : View C = with_token i t me.0 in
+    pub relocks_law : Lawful p (stepped s (id_index i) (get_or s.words (id_index i) 0) id me.1 (with_token i (Locked f rg att c (local s i).word.oldest (local s i).word.second (Full c)) me.0) keeps)
+    relocks_law = let n : ℕ = get_or s.words (id_index i) 0 in let t : Token C = Locked f rg att c (local s i).word.oldest (local s i).word.second (Full c) in let w : View C = with_token i t me.0 in
         id_same w (aside_token i t me.0) n (t ∷ []) (own_tokens p s law id me.0 here real i inside w (Locked f rg att c q r (Full c)) has ∙ token_here i t me.0) refl
         (relocks (local s i) o f rg att c q r (Full c) (own (Locked f rg att c q r (Full c)) has) (local s i).word.oldest (local s i).word.second (Full c) (local s i).home (λ z. refl) (λ z. refl) known.home refl)
 
@@ -117,12 +117,12 @@ module _ {C : Type 0} (p : Plan) (id : ℕ) (me : Me (Maybe C) (View C)) (i : �
     Opens n more = ((local s i).word.oldest ≡ 0 → parts n ≡ open_word (local s i).word more) × ((local s i).word.oldest ≢ 0 → parts n ≡ popped_word (local s i).word more)
 
     abbrev pub F : ℕ → Bool → Type 0
-    F n b = Lawful p (stepped s (id_word i) n id me.1 (cond b (no_token i me.0) (with_token i (Locked f rg ((local s i).word.attempt + 0) c (local s i).word.second 0 (Full c)) me.0)) keeps)
+    F n b = Lawful p (stepped s (id_index i) n id me.1 (cond b (no_token i me.0) (with_token i (Locked f rg ((local s i).word.attempt + 0) c (local s i).word.second 0 (Full c)) me.0)) keeps)
 
     abbrev word_law : (ts : List (Token C)) (ns : List (Note C)) → Parts → Type 0
     word_law ts ns y = SlotLaw record { tag = (local s i).tag; word = y; home = (local s i).home; tokens = ts; notes = ns }
 
-    pub unlocks_law : (n : ℕ) → Opens n 0 → Lawful p (stepped s (id_word i) n id me.1 (popped_view i f rg ((local s i).word.attempt + 0) c (local s i).word.oldest (local s i).word.second me.0) keeps)
+    pub unlocks_law : (n : ℕ) → Opens n 0 → Lawful p (stepped s (id_index i) n id me.1 (popped_view i f rg ((local s i).word.attempt + 0) c (local s i).word.oldest (local s i).word.second me.0) keeps)
     unlocks_law n is = let two = known.locked_is in let a = stays (local s i) o c (omega arith) known.live in let now = own (Locked f rg att c q r (Full c)) has in dite (ℕ_discrete (local s i).word.oldest 0)
         (λ z. let w : View C = no_token i me.0 in subst (F n) (sym (eq-eqb (local s i).word.oldest 0 z))
         (id_same w (aside_drop i me.0) n [] (own_tokens p s law id me.0 here real i inside w (Locked f rg att c q r (Full c)) has ∙ drop_here i me.0) refl (subst (word_law [] (local s i).notes) (sym (is.0 z)) (opens (local s i) o f rg att c q r now 0 (local s i).notes a z))))
@@ -131,7 +131,7 @@ module _ {C : Type 0} (p : Plan) (id : ℕ) (me : Me (Maybe C) (View C)) (i : �
         (subst (word_law (t ∷ []) (local s i).notes) (sym (is.1 m)) (pops (local s i) o f rg att c q r now 0 (local s i).notes a m))))
 
     abbrev pub G : ℕ → Bool → Type 0
-    G n b = Lawful p (stepped s (id_word i) n id me.1 (with_note i (Attempt f ((local s i).word.attempt + 1)) (cond b (no_token i me.0) (with_token i (Locked f rg ((local s i).word.attempt + 1) c (local s i).word.second 0 (Full c)) me.0))) keeps)
+    G n b = Lawful p (stepped s (id_index i) n id me.1 (with_note i (Attempt f ((local s i).word.attempt + 1)) (cond b (no_token i me.0) (with_token i (Locked f rg ((local s i).word.attempt + 1) c (local s i).word.second 0 (Full c)) me.0))) keeps)
 
     pub advances_law : (n : ℕ) → (local s i).word.attempt + 3 ≤ (local s i).word.range → Opens n 1 → G n (eqb (local s i).word.oldest 0)
     advances_law n room is =
@@ -146,10 +146,10 @@ module _ {C : Type 0} (p : Plan) (id : ℕ) (me : Me (Maybe C) (View C)) (i : �
         (λ ns g. subst (word_law (t ∷ []) ns) (sym (is.1 m)) (pops (local s i) o f rg att c q r now 1 ns (advances (local s i) o c ns (omega arith) known.live room (own_note ns g)) m))))
 
   -- I6
-  pub ends_law : (f rg att q r : ℕ) (c : C) → tokens_in i me.0 ≡ Locked f rg att c q r Empty ∷ [] → (n : ℕ) → parts n ≡ free_word ((local s i).word.first + (local s i).word.range) → Lawful p (stepped s (id_word i) n id me.1 (ended_view i f ((local s i).word.first + (local s i).word.range) me.0) keeps)
+  pub ends_law : (f rg att q r : ℕ) (c : C) → tokens_in i me.0 ≡ Locked f rg att c q r Empty ∷ [] → (n : ℕ) → parts n ≡ free_word ((local s i).word.first + (local s i).word.range) → Lawful p (stepped s (id_index i) n id me.1 (ended_view i f ((local s i).word.first + (local s i).word.range) me.0) keeps)
   ends_law f rg att q r c has n is =
       let t : Token C = Locked f rg att c q r Empty in let x : Note C = Ended f in let next : ℕ = (local s i).word.first + (local s i).word.range in let now = own t has in let k = is_lock (local s i) o f rg att c q r Empty now in
-      let H : Bool → Type 0 = λ b. Lawful p (stepped s (id_word i) n id me.1 (with_note i x (cond b (with_token i Leaving me.0) (no_token i me.0))) keeps) in
+      let H : Bool → Type 0 = λ b. Lawful p (stepped s (id_index i) n id me.1 (with_note i x (cond b (with_token i Leaving me.0) (no_token i me.0))) keeps) in
       let W : (ts : List (Token C)) (ns : List (Note C)) → Parts → Type 0 = λ ts ns y. SlotLaw record { tag = (local s i).tag; word = y; home = (local s i).home; tokens = ts; notes = ns } in
       dite (dec_le next LAST)
       (λ le. let u : View C = with_token i Leaving me.0 in let w : View C = with_note i x u in subst H (sym (le-leb next LAST le))
@@ -160,7 +160,7 @@ module _ {C : Type 0} (p : Plan) (id : ℕ) (me : Me (Maybe C) (View C)) (i : �
       (λ ns g. subst (W [] ns) (sym is) (ends (local s i) o f rg att c q r Empty now ns k.home g [] (inr (lt_of_not-le nle, refl))))))
 
   -- I8
-  pub frees_law : tokens_in i me.0 ≡ Leaving ∷ [] → Lawful p (stepped s (tag_word i) 0 id me.1 (no_token i me.0) keeps)
+  pub frees_law : tokens_in i me.0 ≡ Leaving ∷ [] → Lawful p (stepped s (tag_index i) 0 id me.1 (no_token i me.0) keeps)
   frees_law has = let w : View C = no_token i me.0 in
       tag_same w (aside_drop i me.0) 0 [] (own_tokens p s law id me.0 here real i inside w Leaving has ∙ drop_here i me.0) refl (frees (local s i) o (own Leaving has))
 
@@ -192,8 +192,8 @@ module _ {C : Type 0} (p : Plan) (id : ℕ) (me : Me (Maybe C) (View C)) (i : �
 
   -- the tag is loaded while the home changes
   pub moved : (w : View C) → Aside i me.0 w → (hs' : List (Option (Maybe C))) → ((j : ℕ) → j ≢ i → get_elem? hs' j ≡ get_elem? s.homes j) → (h' : Option (Option (Maybe C))) → get_elem? hs' i ≡ h' → (ts : List (Token C)) → flat_map (tokens_in i) (set s.views id w) ≡ ts → notes_in i w ≡ notes_in i me.0
-      → SlotLaw record { tag = (local s i).tag; word = (local s i).word; home = h'; tokens = ts; notes = (local s i).notes } → Lawful p record { words = set s.words (tag_word i) (get_or s.words (tag_word i) 0); homes = hs'; views = set s.views id w }
-  moved w a hs' homes h' home_is ts are same k = on_tag p s law id me.0 here real i inside w a (get_or s.words (tag_word i) 0) hs' homes h' ts home_is are
+      → SlotLaw record { tag = (local s i).tag; word = (local s i).word; home = h'; tokens = ts; notes = (local s i).notes } → Lawful p record { words = set s.words (tag_index i) (get_or s.words (tag_index i) 0); homes = hs'; views = set s.views id w }
+  moved w a hs' homes h' home_is ts are same k = on_tag p s law id me.0 here real i inside w a (get_or s.words (tag_index i) 0) hs' homes h' ts home_is are
       (subst (λ (ns : List (Note C)). SlotLaw record { tag = (local s i).tag; word = (local s i).word; home = h'; tokens = ts; notes = ns }) (sym (same_notes p s law id me.0 here real i inside w same)) k)
 
   fitting_out : (t : Token C) → NotLeaving t → Fitting t Out
@@ -207,7 +207,7 @@ module _ {C : Type 0} (p : Plan) (id : ℕ) (me : Me (Maybe C) (View C)) (i : �
   home_not_leaving Leaving z = absurd z
 
   pub takes_law : (t : Token C) → tokens_in i me.0 ≡ t ∷ [] → IsHome (hand_of t)
-      → (get_elem? s.homes i ≡ some (some (value_of (hand_of t)))) × Lawful p (stepped s (tag_word i) (get_or s.words (tag_word i) 0) id me.1 (with_token i (with_hand t Out) me.0) (takes i (value_of (hand_of t))))
+      → (get_elem? s.homes i ≡ some (some (value_of (hand_of t)))) × Lawful p (stepped s (tag_index i) (get_or s.words (tag_index i) 0) id me.1 (with_token i (with_hand t Out) me.0) (takes i (value_of (hand_of t))))
   takes_law t has ready =
       let now = own t has in let n = home_not_leaving t ready in let home : get_elem? s.homes i ≡ some (some (value_of (hand_of t))) = home_value (hand_of t) ready (local s i).home (token_home t now ready) in
       let u : Token C = with_hand t Out in let w : View C = with_token i u me.0 in (
@@ -217,9 +217,9 @@ module _ {C : Type 0} (p : Plan) (id : ℕ) (me : Me (Maybe C) (View C)) (i : �
       )
 
   pub gives_law : (t : Token C) (y : Maybe C) (rest : List (ℕ × Maybe C)) → tokens_in i me.0 ≡ t ∷ [] → hand_of t ≡ Out → NotLeaving t → Fitting t (hand_by y) → me.1 ≡ (i, y) ∷ rest
-      → Lawful p (stepped s (tag_word i) (get_or s.words (tag_word i) 0) id me.1 (with_token i (with_hand t (hand_by y)) me.0) gives)
+      → Lawful p (stepped s (tag_index i) (get_or s.words (tag_index i) 0) id me.1 (with_token i (with_hand t (hand_by y)) me.0) gives)
   gives_law t y rest has out n fit carried =
       let now = own t has in let home = token_out t now out n in let u : Token C = with_hand t (hand_by y) in let w : View C = with_token i u me.0 in
-      subst (λ (c : List (ℕ × Maybe C)). Lawful p (stepped s (tag_word i) (get_or s.words (tag_word i) 0) id c w gives)) (sym carried)
+      subst (λ (c : List (ℕ × Maybe C)). Lawful p (stepped s (tag_index i) (get_or s.words (tag_index i) 0) id c w gives)) (sym carried)
       (moved w (aside_token i u me.0) (set s.homes i (some y)) (λ j ne. set_else s.homes i j (some y) ne) (some (some y)) (set_here s.homes i (some y) (at_length s.homes i none home)) (u ∷ [])
       (own_tokens p s law id me.0 here real i inside w t has ∙ token_here i u me.0) refl (rehands t now n (hand_by y) (some (some y)) (given y) fit))

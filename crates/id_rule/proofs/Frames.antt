@@ -18,7 +18,7 @@ use Rattle.corr_core.specs.declared.marks.Kept.{Kept}
 use Rattle.corr_core.specs.declared.marks.View.{View}
 use Rattle.corr_core.proofs.Notes.{Inserted, each_map, gather_more, total_set}
 use Rattle.corr_core.proofs.Gather.{gather_all, gather_none, gather_own, gather_same}
-use Rattle.id_rule.specs.Lawful.{tag_word, id_word, KeptFits, kept_in, is_stored, tokens_of, notes_of, tokens_in, notes_in, share_of, local, Lawful, without, with_token, no_token, with_note}
+use Rattle.id_rule.specs.Lawful.{tag_index, id_index, KeptFits, kept_in, is_stored, tokens_of, notes_of, tokens_in, notes_in, share_of, local, Lawful, without, with_token, no_token, with_note}
 
 module _ {C : Type 0} where
   without_here : (i : ℕ) (hs : List (Held C)) → tokens_of i (without i hs) ≡ []
@@ -110,17 +110,17 @@ module _ {C : Type 0} where
       same_kept : flat_map kept_in (set s.views id w) ≡ flat_map kept_in s.views
       same_kept = gather_same kept_in s.views id v w here a.kept
 
-      high : ((x : ℕ) → x ≢ tag_word i → x ≢ id_word i → get_or ws' x 0 ≡ get_or s.words x 0) → (x : ℕ) → 2 * p.slots ≤ x → get_or ws' x 0 ≡ get_or s.words x 0
+      high : ((x : ℕ) → x ≢ tag_index i → x ≢ id_index i → get_or ws' x 0 ≡ get_or s.words x 0) → (x : ℕ) → 2 * p.slots ≤ x → get_or ws' x 0 ≡ get_or s.words x 0
       high words x le = words x (λ q. omega arith) (λ q. omega arith)
 
-      pub frame : length ws' ≡ length s.words → ((x : ℕ) → x ≢ tag_word i → x ≢ id_word i → get_or ws' x 0 ≡ get_or s.words x 0) → ((j : ℕ) → j ≢ i → get_elem? hs' j ≡ get_elem? s.homes j) → SlotLaw (local after i) → Lawful p after
+      pub frame : length ws' ≡ length s.words → ((x : ℕ) → x ≢ tag_index i → x ≢ id_index i → get_or ws' x 0 ≡ get_or s.words x 0) → ((j : ℕ) → j ≢ i → get_elem? hs' j ≡ get_elem? s.homes j) → SlotLaw (local after i) → Lawful p after
       frame long words homes own = record {
         sized = long ∙ law.sized;
         slots = λ j jl. dite (ℕ_discrete j i)
             (λ e. subst (λ (y : ℕ). SlotLaw (local after y)) (sym e) own)
             (λ ne. let path : local s j ≡ local after j = λ z. record {
-              tag = sym (words (tag_word j) (λ q. ne (omega arith)) (λ q. omega arith)) z;
-              word = parts (sym (words (id_word j) (λ q. omega arith) (λ q. ne (omega arith))) z);
+              tag = sym (words (tag_index j) (λ q. ne (omega arith)) (λ q. omega arith)) z;
+              word = parts (sym (words (id_index j) (λ q. omega arith) (λ q. ne (omega arith))) z);
               home = sym (homes j ne) z;
               tokens = sym (gather_same (tokens_in j) s.views id v w here (a.tokens j ne)) z;
               notes = sym (gather_same (notes_in j) s.views id v w here (a.notes j ne)) z;
@@ -134,22 +134,22 @@ module _ {C : Type 0} where
     -- a step on the tag, or on the id word
     module _ (w : View C) (a : Aside i v w) (n : ℕ) (hs' : List (Option (Maybe C))) (homes : (j : ℕ) → j ≢ i → get_elem? hs' j ≡ get_elem? s.homes j) (h' : Option (Option (Maybe C))) (ts : List (Token C)) where
       pub on_tag : get_elem? hs' i ≡ h' → flat_map (tokens_in i) (set s.views id w) ≡ ts
-          → SlotLaw record { tag = n; word = (local s i).word; home = h'; tokens = ts; notes = flat_map (notes_in i) (set s.views id w) } → Lawful p record { words = set s.words (tag_word i) n; homes = hs'; views = set s.views id w }
-      on_tag home_is tokens_are own = frame w a (set s.words (tag_word i) n) hs' (length-set s.words (tag_word i) n) (λ x ne nq. get_or-set_other s.words (tag_word i) x n 0 ne) homes
-          (let path : record { tag = n; word = (local s i).word; home = h'; tokens = ts; notes = flat_map (notes_in i) (set s.views id w) } ≡ local (after w a (set s.words (tag_word i) n) hs') i = λ z. record {
-            tag = sym (get_or-set_same s.words (tag_word i) n 0 (let e = law.sized in omega arith)) z;
-            word = parts (sym (get_or-set_other s.words (tag_word i) (id_word i) n 0 (λ q. omega arith)) z);
+          → SlotLaw record { tag = n; word = (local s i).word; home = h'; tokens = ts; notes = flat_map (notes_in i) (set s.views id w) } → Lawful p record { words = set s.words (tag_index i) n; homes = hs'; views = set s.views id w }
+      on_tag home_is tokens_are own = frame w a (set s.words (tag_index i) n) hs' (length-set s.words (tag_index i) n) (λ x ne nq. get_or-set_other s.words (tag_index i) x n 0 ne) homes
+          (let path : record { tag = n; word = (local s i).word; home = h'; tokens = ts; notes = flat_map (notes_in i) (set s.views id w) } ≡ local (after w a (set s.words (tag_index i) n) hs') i = λ z. record {
+            tag = sym (get_or-set_same s.words (tag_index i) n 0 (let e = law.sized in omega arith)) z;
+            word = parts (sym (get_or-set_other s.words (tag_index i) (id_index i) n 0 (λ q. omega arith)) z);
             home = sym home_is z;
             tokens = sym tokens_are z;
             notes = flat_map (notes_in i) (set s.views id w);
           } in subst SlotLaw path own)
 
       pub on_id : get_elem? hs' i ≡ h' → flat_map (tokens_in i) (set s.views id w) ≡ ts
-          → SlotLaw record { tag = (local s i).tag; word = parts n; home = h'; tokens = ts; notes = flat_map (notes_in i) (set s.views id w) } → Lawful p record { words = set s.words (id_word i) n; homes = hs'; views = set s.views id w }
-      on_id home_is tokens_are own = frame w a (set s.words (id_word i) n) hs' (length-set s.words (id_word i) n) (λ x ne nq. get_or-set_other s.words (id_word i) x n 0 nq) homes
-          (let path : record { tag = (local s i).tag; word = parts n; home = h'; tokens = ts; notes = flat_map (notes_in i) (set s.views id w) } ≡ local (after w a (set s.words (id_word i) n) hs') i = λ z. record {
-            tag = sym (get_or-set_other s.words (id_word i) (tag_word i) n 0 (λ q. omega arith)) z;
-            word = parts (sym (get_or-set_same s.words (id_word i) n 0 (let e = law.sized in omega arith)) z);
+          → SlotLaw record { tag = (local s i).tag; word = parts n; home = h'; tokens = ts; notes = flat_map (notes_in i) (set s.views id w) } → Lawful p record { words = set s.words (id_index i) n; homes = hs'; views = set s.views id w }
+      on_id home_is tokens_are own = frame w a (set s.words (id_index i) n) hs' (length-set s.words (id_index i) n) (λ x ne nq. get_or-set_other s.words (id_index i) x n 0 nq) homes
+          (let path : record { tag = (local s i).tag; word = parts n; home = h'; tokens = ts; notes = flat_map (notes_in i) (set s.views id w) } ≡ local (after w a (set s.words (id_index i) n) hs') i = λ z. record {
+            tag = sym (get_or-set_other s.words (id_index i) (tag_index i) n 0 (λ q. omega arith)) z;
+            word = parts (sym (get_or-set_same s.words (id_index i) n 0 (let e = law.sized in omega arith)) z);
             home = sym home_is z;
             tokens = sym tokens_are z;
             notes = flat_map (notes_in i) (set s.views id w);

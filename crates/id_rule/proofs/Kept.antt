@@ -15,7 +15,7 @@ use Rattle.corr_core.specs.declared.marks.Kept.{Kept}
 use Rattle.corr_core.specs.declared.marks.View.{View}
 use Rattle.corr_core.proofs.Notes.{Inserted, total_insert, each_insert, each_map, gather_more, total_set, pair-same}
 use Rattle.corr_core.proofs.Gather.{gather_same}
-use Rattle.id_rule.specs.Lawful.{tag_word, id_word, all_words, KeptFits, kept_in, is_stored, tokens_of, notes_of, tokens_in, notes_in, share_of, local, Lawful, with_kept}
+use Rattle.id_rule.specs.Lawful.{tag_index, id_index, all_words, KeptFits, kept_in, is_stored, tokens_of, notes_of, tokens_in, notes_in, share_of, local, Lawful, with_kept}
 use Rattle.id_rule.specs.Plays.{store_told, load_told, found_view}
 
 -- a step on the word of an operation leaves what is read of each slot
@@ -35,8 +35,8 @@ module _ {C : Type 0} (p : Plan) (id : ℕ) (me : Me (Maybe C) (View C)) (x : �
     kept_law fits by = record {
       sized = length-set s.words x n ∙ law.sized;
       slots = λ j jl. let path : local s j ≡ local (stepped s x n id me.1 w keeps) j = λ z. record {
-        tag = sym (get_or-set_other s.words x (tag_word j) n 0 (λ q. omega arith)) z;
-        word = parts (sym (get_or-set_other s.words x (id_word j) n 0 (λ q. omega arith)) z);
+        tag = sym (get_or-set_other s.words x (tag_index j) n 0 (λ q. omega arith)) z;
+        word = parts (sym (get_or-set_other s.words x (id_index j) n 0 (λ q. omega arith)) z);
         home = get_elem? s.homes j;
         tokens = sym (gather_same (tokens_in j) s.views id me.0 w here (ap (tokens_of j) tokens)) z;
         notes = sym (gather_same (notes_in j) s.views id me.0 w here (ap (notes_of j) notes)) z;

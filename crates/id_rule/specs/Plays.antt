@@ -10,7 +10,7 @@ use Rattle.corr_core.specs.declared.marks.Token.{Token}
 use Rattle.corr_core.specs.declared.marks.Token.TheVariants.{Claimed, Locked, Leaving}
 use Rattle.corr_core.specs.declared.marks.Note.TheVariants.{Tried, Made, Ended, Locker, Queued, Attempt, Saw}
 use Rattle.corr_core.specs.declared.marks.View.{View}
-use Rattle.id_rule.specs.Lawful.{tag_word, id_word, tokens_in, with_token, no_token, with_note, with_kept}
+use Rattle.id_rule.specs.Lawful.{tag_index, id_index, tokens_in, with_token, no_token, with_note, with_kept}
 
 -- the error by which the queue of the second word is longer
 abbrev pub put_error : Parts → Parts → ℕ
@@ -79,37 +79,37 @@ module _ {C : Type 0} where
   claimed_view i found v = cond (found == 0) (with_token i (Claimed 0 Empty) v) (with_note i Tried v)
 
   abbrev pub claim_told : Step (Maybe C) → Me (Maybe C) (View C) → ℕ → Me (Maybe C) (View C) → Type 0
-  claim_told st m found n = (i : ℕ) → st.word ≡ tag_word i → Becomes m n (claimed_view i found m.0) × (found ≡ 0 → tokens_in i m.0 ≡ [])
+  claim_told st m found n = (i : ℕ) → st.word ≡ tag_index i → Becomes m n (claimed_view i found m.0) × (found ≡ 0 → tokens_in i m.0 ≡ [])
 
   -- I7 by the seat that claimed the slot
   abbrev pub read_told : Step (Maybe C) → Me (Maybe C) (View C) → ℕ → Me (Maybe C) (View C) → Type 0
-  read_told st m found n = (i seen : ℕ) (h : Hand C) → st.word ≡ id_word i → has_token i (Claimed seen h) m → Becomes m n (with_token i (Claimed (parts found).first h) m.0) × (1 ≤ (parts found).first) × ((parts found).first ≤ LAST)
+  read_told st m found n = (i seen : ℕ) (h : Hand C) → st.word ≡ id_index i → has_token i (Claimed seen h) m → Becomes m n (with_token i (Claimed (parts found).first h) m.0) × (1 ≤ (parts found).first) × ((parts found).first ≤ LAST)
 
   -- I7
   abbrev pub see_told : Step (Maybe C) → Me (Maybe C) (View C) → ℕ → Me (Maybe C) (View C) → Type 0
-  see_told st m found n = (i : ℕ) → st.word ≡ id_word i → Becomes m n (with_note i (Saw found) m.0)
+  see_told st m found n = (i : ℕ) → st.word ≡ id_index i → Becomes m n (with_note i (Saw found) m.0)
 
   -- the first part of K1 and K2: the turn of the slot is taken
   abbrev pub take_told : Step (Maybe C) → Me (Maybe C) (View C) → ℕ → Me (Maybe C) (View C) → Type 0
-  take_told st m found n = (i : ℕ) (t : Token C) → st.word ≡ tag_word i → has_token i t m → n ≡ (with_token i (with_hand t Out) m.0, (i, value_of (hand_of t)) ∷ m.1)
+  take_told st m found n = (i : ℕ) (t : Token C) → st.word ≡ tag_index i → has_token i t m → n ≡ (with_token i (with_hand t Out) m.0, (i, value_of (hand_of t)) ∷ m.1)
 
   -- the second part: it is given back with the value y
   abbrev pub give_told : Step (Maybe C) → Me (Maybe C) (View C) → ℕ → Me (Maybe C) (View C) → Type 0
-  give_told st m found n = (i : ℕ) (t : Token C) (y : Maybe C) (rest : List (ℕ × Maybe C)) → st.word ≡ tag_word i → has_token i t m → m.1 ≡ (i, y) ∷ rest → n ≡ (with_token i (with_hand t (hand_by y)) m.0, rest)
+  give_told st m found n = (i : ℕ) (t : Token C) (y : Maybe C) (rest : List (ℕ × Maybe C)) → st.word ≡ tag_index i → has_token i t m → m.1 ≡ (i, y) ∷ rest → n ≡ (with_token i (with_hand t (hand_by y)) m.0, rest)
 
   abbrev pub make_told : Step (Maybe C) → Me (Maybe C) (View C) → ℕ → Me (Maybe C) (View C) → Type 0
-  make_told st m found n = (i f : ℕ) (c : C) → st.word ≡ id_word i → has_token i (Claimed f (Full c)) m → Becomes m n (with_note i (Made f (parts st.first).range c) (no_token i m.0))
+  make_told st m found n = (i f : ℕ) (c : C) → st.word ≡ id_index i → has_token i (Claimed f (Full c)) m → Becomes m n (with_note i (Made f (parts st.first).range c) (no_token i m.0))
 
   abbrev pub locked_view : ℕ → ℕ → ℕ → ℕ → C → View C → View C
   locked_view i f rg at c v = with_note i (Locker f c) (with_token i (Locked f rg at c 0 0 (Full c)) v)
 
   -- I3, and I4 on an open id
   abbrev pub lock_told : Step (Maybe C) → Me (Maybe C) (View C) → ℕ → Me (Maybe C) (View C) → Type 0
-  lock_told st m found n = (i : ℕ) → st.word ≡ id_word i → (found ≡ st.first → (c : C) × Becomes m n (locked_view i (parts found).first (parts found).range (parts found).attempt c m.0) × LockFits (parts found) × (((parts found).oldest ≡ 0) × ((parts found).second ≡ 0))) × (found ≢ st.first → Becomes m n (with_note i (Saw found) m.0))
+  lock_told st m found n = (i : ℕ) → st.word ≡ id_index i → (found ≡ st.first → (c : C) × Becomes m n (locked_view i (parts found).first (parts found).range (parts found).attempt c m.0) × LockFits (parts found) × (((parts found).oldest ≡ 0) × ((parts found).second ≡ 0))) × (found ≢ st.first → Becomes m n (with_note i (Saw found) m.0))
 
   -- I4 on a locked id
   abbrev pub queue_told : Step (Maybe C) → Me (Maybe C) (View C) → ℕ → Me (Maybe C) (View C) → Type 0
-  queue_told st m found n = (i : ℕ) → st.word ≡ id_word i → (found ≡ st.first → Becomes m n (with_note i (Queued (parts found).first (put_error (parts st.first) (parts st.second))) m.0)) × (found ≢ st.first → Becomes m n (with_note i (Saw found) m.0))
+  queue_told st m found n = (i : ℕ) → st.word ≡ id_index i → (found ≡ st.first → Becomes m n (with_note i (Queued (parts found).first (put_error (parts st.first) (parts st.second))) m.0)) × (found ≢ st.first → Becomes m n (with_note i (Saw found) m.0))
 
   -- with nothing queued the id opens; the note comes with an advance
   abbrev pub popped_view : ℕ → ℕ → ℕ → ℕ → C → ℕ → ℕ → View C → View C
@@ -119,7 +119,7 @@ module _ {C : Type 0} where
   advanced_view i f from to v = cond (from == to) v (with_note i (Attempt f to) v)
 
   abbrev pub unlock_told : Step (Maybe C) → Me (Maybe C) (View C) → ℕ → Me (Maybe C) (View C) → Type 0
-  unlock_told st m found n = (i f rg at o s : ℕ) (c : C) → st.word ≡ id_word i → has_token i (Locked f rg at c o s (Full c)) m
+  unlock_told st m found n = (i f rg at o s : ℕ) (c : C) → st.word ≡ id_index i → has_token i (Locked f rg at c o s (Full c)) m
       → (found ≡ st.first → Becomes m n (advanced_view i f (parts st.first).attempt (parts st.second).attempt (popped_view i f rg (parts st.second).attempt c (parts found).oldest (parts found).second m.0)))
       × (found ≢ st.first → Becomes m n (with_token i (Locked f rg at c (parts found).oldest (parts found).second (Full c)) m.0) × Longer f rg at o s (parts found))
 
@@ -128,10 +128,10 @@ module _ {C : Type 0} where
   ended_view i f next v = with_note i (Ended f) (cond (nat_le next LAST) (with_token i Leaving v) (no_token i v))
 
   abbrev pub end_told : Step (Maybe C) → Me (Maybe C) (View C) → ℕ → Me (Maybe C) (View C) → Type 0
-  end_told st m found n = (i f rg at o s : ℕ) (c : C) → st.word ≡ id_word i → has_token i (Locked f rg at c o s Empty) m → Becomes m n (ended_view i f (parts st.first).first m.0)
+  end_told st m found n = (i f rg at o s : ℕ) (c : C) → st.word ≡ id_index i → has_token i (Locked f rg at c o s Empty) m → Becomes m n (ended_view i f (parts st.first).first m.0)
 
   abbrev pub free_told : Step (Maybe C) → Me (Maybe C) (View C) → ℕ → Me (Maybe C) (View C) → Type 0
-  free_told st m found n = (i : ℕ) → st.word ≡ tag_word i → Becomes m n (no_token i m.0)
+  free_told st m found n = (i : ℕ) → st.word ≡ tag_index i → Becomes m n (no_token i m.0)
 
   -- T1, T2
   abbrev pub store_told : Step (Maybe C) → Me (Maybe C) (View C) → ℕ → Me (Maybe C) (View C) → Type 0

@@ -21,16 +21,16 @@ use Rattle.corr_core.specs.declared.marks.Note.{Note}
 use Rattle.corr_core.specs.declared.marks.Note.TheVariants.{Made, Queued, Attempt, Saw}
 use Rattle.corr_core.proofs.Notes.{at_length}
 use Rattle.corr_core.proofs.Slots.{queued_word, open_word, popped_word, reclaims, makes, claim_home}
-use Rattle.id_rule.specs.Lawful.{tag_word, id_word, call_word, at_word, all_words, tokens_in, notes_in, local, Lawful, with_token, no_token, with_note}
+use Rattle.id_rule.specs.Lawful.{tag_index, id_index, call_index, at_index, all_words, tokens_in, notes_in, local, Lawful, with_token, no_token, with_note}
 use Rattle.id_rule.specs.Plays.{hand_of, with_hand, value_of, claimed_view, locked_view, popped_view, advanced_view, ended_view, found_view, IsHome, LockFits, Longer}
 use Rattle.id_rule.proofs.Frames.{token_here, drop_here, note_here, aside_token, aside_drop, aside_note, aside_both, own_tokens}
 use Rattle.id_rule.proofs.Allowed as allowed
 use Rattle.id_rule.proofs.Kept as kept
-use Rattle.sock_programs.specs.sock_message.specs.Asked.{Asked}
-use Rattle.sock_programs.specs.Asides.{ClaimId, PutCall, MakeId, LockId, PostId, UnlockId, EndId, FreeId, TakeCall}
-use Rattle.sock_programs.specs.Posts.{packed, advance_of}
-use Rattle.sock_programs.specs.Cores.{Calls}
-use Rattle.sock_programs.specs.Beside.{calls_after}
+use Rattle.seat_programs.specs.sock_message.specs.Asked.{Asked}
+use Rattle.seat_programs.specs.Asides.{ClaimId, PutCall, MakeId, LockId, PostId, UnlockId, EndId, FreeId, TakeCall}
+use Rattle.seat_programs.specs.Posts.{packed, advance_of}
+use Rattle.seat_programs.specs.Cores.{Calls}
+use Rattle.seat_programs.specs.Beside.{calls_after}
 use Rattle.id_runs.specs.Held.{IdView, id_state, by_token, made_by, unlocked_by, ended_by, locked_by, id_row, HasOne, HasCallAt, MayPut}
 
 -- ## Words
@@ -59,12 +59,12 @@ module _ (p : Plan) (q : IdPlan) (a : Calls) (us : List IdView) (law : Lawful q 
   still x w l = subst (λ ws. Lawful q record { words = ws; homes = a.homes; views = set us k w }) (set-get_or a.words x 0) l
 
   -- I1
-  pub claims : (i : ℕ) → i < q.slots → RuleOf (calls_after (ClaimId i) (get_or a.words (tag_word i) 0) a) (claimed_view i (get_or a.words (tag_word i) 0) u)
+  pub claims : (i : ℕ) → i < q.slots → RuleOf (calls_after (ClaimId i) (get_or a.words (tag_index i) 0) a) (claimed_view i (get_or a.words (tag_index i) 0) u)
   claims i inside = allowed.claims_law q k me i inside real (id_state a us) law at
 
   -- I7
-  pub sees : (i : ℕ) → i < q.slots → RuleOf a (with_note i (Saw (get_or a.words (id_word i) 0)) u)
-  sees i inside = still (id_word i) (with_note i (Saw (get_or a.words (id_word i) 0)) u) (allowed.sees_law q k me i inside real (id_state a us) law at)
+  pub sees : (i : ℕ) → i < q.slots → RuleOf a (with_note i (Saw (get_or a.words (id_index i) 0)) u)
+  sees i inside = still (id_index i) (with_note i (Saw (get_or a.words (id_index i) 0)) u) (allowed.sees_law q k me i inside real (id_state a us) law at)
 
   -- T1, T2
   pub stores : (x n : ℕ) → 2 * q.slots ≤ x → x < all_words q → n ≢ 0 → Lawful q (stepped (id_state a us) x n k [] (Rattle.id_rule.specs.Lawful.with_kept x true n u) keeps)
@@ -81,7 +81,7 @@ module _ (p : Plan) (q : IdPlan) (a : Calls) (us : List IdView) (law : Lawful q 
     o = law.slots i inside
 
     abbrev found : ℕ
-    found = get_or a.words (id_word i) 0
+    found = get_or a.words (id_index i) 0
 
     own : (t : Token Asked) → HasOne i t u → flat_map (tokens_in i) us ≡ t ∷ []
     own t has = allowed.own q k me i inside real (id_state a us) law at t has
@@ -95,12 +95,12 @@ module _ (p : Plan) (q : IdPlan) (a : Calls) (us : List IdView) (law : Lawful q 
     home_goes t h v has ready is fit = let now = own t has in let n = allowed.home_not_leaving q k me i inside real (id_state a us) law at t ready in
         let there : get_elem? a.homes i ≡ some (some (value_of (hand_of t))) = allowed.home_value q k me i inside real (id_state a us) law at (hand_of t) ready (local (id_state a us) i).home (allowed.token_home q k me i inside real (id_state a us) law at t now ready) in
         let w : IdView = with_token i (with_hand t h) u in
-        subst (λ ws. Lawful q record { words = ws; homes = set a.homes i (some v); views = set us k (with_token i (with_hand t h) u) }) (set-get_or a.words (tag_word i) 0)
+        subst (λ ws. Lawful q record { words = ws; homes = set a.homes i (some v); views = set us k (with_token i (with_hand t h) u) }) (set-get_or a.words (tag_index i) 0)
         (allowed.moved q k me i inside real (id_state a us) law at w (aside_token i (with_hand t h) u) (set a.homes i (some v)) (λ j ne. set_else a.homes i j (some v) ne) (some (some v)) (set_here a.homes i (some v) (at_length a.homes i (some (value_of (hand_of t))) there))
         (with_hand t h ∷ []) (own_tokens q (id_state a us) law k u at real i inside w t has ∙ token_here i (with_hand t h) u) refl
         (allowed.rehands q k me i inside real (id_state a us) law at t now n h (some (some v)) is fit))
 
-    pub puts : (asked : Asked) → MayPut i asked u → RuleOf (calls_after (PutCall i asked) (get_or a.words (tag_word i) 0) a) (by_token (tokens_in i u) (λ t. with_token i (with_hand t (Full asked)) u) u)
+    pub puts : (asked : Asked) → MayPut i asked u → RuleOf (calls_after (PutCall i asked) (get_or a.words (tag_index i) 0) a) (by_token (tokens_in i u) (λ t. with_token i (with_hand t (Full asked)) u) u)
     puts asked may = ⊎_elim
         (λ m. by_own (Claimed m.0 Empty) (λ t. with_token i (with_hand t (Full asked)) u) (record a { homes = set a.homes i (some (Some asked)) }) m.1 (home_goes (Claimed m.0 Empty) (Full asked) (Some asked) m.1 tt refl tt))
         (λ m. let t : Token Asked = Locked m.0 m.1 m.2 asked m.3 m.4 Empty in by_own t (λ t. with_token i (with_hand t (Full asked)) u) (record a { homes = set a.homes i (some (Some asked)) }) m.5 (home_goes t (Full asked) (Some asked) m.5 tt refl refl))
@@ -116,37 +116,37 @@ module _ (p : Plan) (q : IdPlan) (a : Calls) (us : List IdView) (law : Lawful q 
     takes asked may = by_own may.0 (λ t. with_token i (with_hand t Empty) u) (record a { homes = set a.homes i (some None) }) may.2 (takes_from may.0 may.1 may.2 may.3)
 
     -- I2
-    pub makes_id : (range seen : ℕ) (c : Asked) → HasOne i (Claimed seen (Full c)) u → 2 ≤ range → range ≤ 8 → RuleOf (calls_after (MakeId i range) (get_or a.words (id_word i) 0) a) (by_token (tokens_in i u) (made_by i range (get_or a.words (id_word i) 0) u) u)
+    pub makes_id : (range seen : ℕ) (c : Asked) → HasOne i (Claimed seen (Full c)) u → 2 ≤ range → range ≤ 8 → RuleOf (calls_after (MakeId i range) (get_or a.words (id_index i) 0) a) (by_token (tokens_in i u) (made_by i range (get_or a.words (id_index i) 0) u) u)
     makes_id range seen c has low high =
-        let t : Token Asked = Claimed seen (Full c) in let f : ℕ = (local (id_state a us) i).word.first in let n : ℕ = packed (made_word (parts (get_or a.words (id_word i) 0)).first range) in
-        let w : IdView = with_note i (Made (parts (get_or a.words (id_word i) 0)).first range c) (no_token i u) in let v : IdView = no_token i u in let x : Note Asked = Made (parts (get_or a.words (id_word i) 0)).first range c in
+        let t : Token Asked = Claimed seen (Full c) in let f : ℕ = (local (id_state a us) i).word.first in let n : ℕ = packed (made_word (parts (get_or a.words (id_index i) 0)).first range) in
+        let w : IdView = with_note i (Made (parts (get_or a.words (id_index i) 0)).first range c) (no_token i u) in let v : IdView = no_token i u in let x : Note Asked = Made (parts (get_or a.words (id_index i) 0)).first range c in
         let claim = claim_home (local (id_state a us) i) (law.slots i inside) seen (Full c) (own t has) in
         let l' : Local Asked = record { tag = (local (id_state a us) i).tag; word = (local (id_state a us) i).word; home = (local (id_state a us) i).home; tokens = Claimed f (Full c) ∷ []; notes = (local (id_state a us) i).notes } in
         let o' : SlotLaw l' = reclaims (local (id_state a us) i) (law.slots i inside) seen (Full c) (own t has) f (Full c) (local (id_state a us) i).home (λ z. refl) claim.0 in
-        let is : parts n ≡ made_word f range = parts_packed (made_word (parts (get_or a.words (id_word i) 0)).first range) (omega arith) (omega (arith, low)) high (omega arith) (omega arith) (omega arith) in
-        by_own t (made_by i range (get_or a.words (id_word i) 0) u) (calls_after (MakeId i range) (get_or a.words (id_word i) 0) a) has
+        let is : parts n ≡ made_word f range = parts_packed (made_word (parts (get_or a.words (id_index i) 0)).first range) (omega arith) (omega (arith, low)) high (omega arith) (omega arith) (omega arith) in
+        by_own t (made_by i range (get_or a.words (id_index i) 0) u) (calls_after (MakeId i range) (get_or a.words (id_index i) 0) a) has
         (allowed.id_more q k me i inside real (id_state a us) law at w (aside_both i u v w (aside_drop i u) (aside_note i x v)) n [] (own_tokens q (id_state a us) law k u at real i inside w t has ∙ drop_here i u) x (note_here i x v)
         (λ ns j. subst (λ (y : Parts). SlotLaw record { tag = (local (id_state a us) i).tag; word = y; home = (local (id_state a us) i).home; tokens = []; notes = ns }) (sym is) (makes l' o' range c ns refl low high j)))
 
     -- I3 and I4 on an open id
-    locks_from : (from e : ℕ) → found ≡ from → (parts from).state ≡ 1 → (c : Asked) × LockFits (parts from) × RuleOf (record a { words = set a.words (id_word i) (packed (posted_word (parts from) e)) }) (locked_by i found c u)
+    locks_from : (from e : ℕ) → found ≡ from → (parts from).state ≡ 1 → (c : Asked) × LockFits (parts from) × RuleOf (record a { words = set a.words (id_index i) (packed (posted_word (parts from) e)) }) (locked_by i found c u)
     locks_from from e hit one = let same : (local (id_state a us) i).word ≡ parts from = ap parts hit in
         let state : (local (id_state a us) i).word.state ≡ 1 = ap (λ (y : Parts). y.state) same ∙ one in
         let posted : posted_word (parts from) e ≡ locked_word (parts from) = ap (λ b. cond b (locked_word (parts from)) record { first = (parts from).first; state = 2; range = (parts from).range; attempt = (parts from).attempt; oldest = cond (eqb (parts from).oldest 0) e (parts from).oldest; second = cond (eqb (parts from).oldest 0) 0 e }) (eq-eqb (parts from).state 1 one) in
         let is : parts (packed (posted_word (parts from) e)) ≡ locked_word (local (id_state a us) i).word = ap (λ w. parts (packed w)) posted ∙ (parts_packed (locked_word (parts from)) (omega arith) (omega arith) (omega arith) (omega arith) (omega arith) (omega arith) ∙ ap locked_word (sym same)) in
         let r = allowed.locks_law q k me i inside real (id_state a us) law at (packed (posted_word (parts from) e)) state is in (r.0, subst LockFits same r.1, r.3)
 
-    pub locks : (from : ℕ) → (parts from).state ≡ 1 → (c : Asked) × RuleOf (calls_after (LockId i from) (get_or a.words (id_word i) 0) a) (id_row q (LockId i from) (get_or a.words (id_word i) 0) c u)
-    locks from one = let n : ℕ = get_or a.words (id_word i) 0 in
-        let Rule : Asked → Bool → Type 0 = λ c b. RuleOf (record a { words = set a.words (id_word i) (cond b (packed (posted_word (parts from) 0)) n) }) (cond b (locked_by i n c u) (with_note i (Saw n) u)) in
+    pub locks : (from : ℕ) → (parts from).state ≡ 1 → (c : Asked) × RuleOf (calls_after (LockId i from) (get_or a.words (id_index i) 0) a) (id_row q (LockId i from) (get_or a.words (id_index i) 0) c u)
+    locks from one = let n : ℕ = get_or a.words (id_index i) 0 in
+        let Rule : Asked → Bool → Type 0 = λ c b. RuleOf (record a { words = set a.words (id_index i) (cond b (packed (posted_word (parts from) 0)) n) }) (cond b (locked_by i n c u) (with_note i (Saw n) u)) in
         dite (ℕ_discrete n from)
         (λ hit. let r = locks_from from 0 hit one in (r.0, subst (Rule r.0) (sym (eq-eqb n from hit)) r.2))
         (λ miss. let c : Asked = record { operation = 0; names = []; service = []; method = []; payload = []; attachment = []; range = 0 } in (c, subst (Rule c) (sym (ne_eqb n from miss)) (allowed.sees_law q k me i inside real (id_state a us) law at)))
 
-    pub posts : (from e : ℕ) → ((parts from).state ≡ 1) ⊎ (((parts from).state ≡ 2) × ((parts from).second ≡ 0)) → e ≢ 0 → e < 32768 → (c : Asked) × RuleOf (calls_after (PostId i from e) (get_or a.words (id_word i) 0) a) (id_row q (PostId i from e) (get_or a.words (id_word i) 0) c u)
-    posts from e how some_ small = let n : ℕ = get_or a.words (id_word i) 0 in
+    pub posts : (from e : ℕ) → ((parts from).state ≡ 1) ⊎ (((parts from).state ≡ 2) × ((parts from).second ≡ 0)) → e ≢ 0 → e < 32768 → (c : Asked) × RuleOf (calls_after (PostId i from e) (get_or a.words (id_index i) 0) a) (id_row q (PostId i from e) (get_or a.words (id_index i) 0) c u)
+    posts from e how some_ small = let n : ℕ = get_or a.words (id_index i) 0 in
         let none_yet : Asked = record { operation = 0; names = []; service = []; method = []; payload = []; attachment = []; range = 0 } in
-        let Rule : Asked → Bool → Bool → Type 0 = λ c b d. RuleOf (record a { words = set a.words (id_word i) (cond b (packed (posted_word (parts from) e)) n) }) (cond b (cond d (locked_by i n c u) (with_note i (Queued (parts n).first e) u)) (with_note i (Saw n) u)) in
+        let Rule : Asked → Bool → Bool → Type 0 = λ c b d. RuleOf (record a { words = set a.words (id_index i) (cond b (packed (posted_word (parts from) e)) n) }) (cond b (cond d (locked_by i n c u) (with_note i (Queued (parts n).first e) u)) (with_note i (Saw n) u)) in
         dite (ℕ_discrete n from)
         (λ hit. ⊎_elim
         (λ one. let r = locks_from from e hit one in (r.0, subst (λ b. Rule r.0 b (eqb (parts from).state 1)) (sym (eq-eqb n from hit)) (subst (Rule r.0 true) (sym (eq-eqb (parts from).state 1 one)) r.2)))
@@ -158,7 +158,7 @@ module _ (p : Plan) (q : IdPlan) (a : Calls) (us : List IdView) (law : Lawful q 
         small_first true n m x y = x
         small_first false n m x y = y
 
-        queues_from : (from e : ℕ) → found ≡ from → (parts from).state ≡ 2 → (parts from).second ≡ 0 → e ≢ 0 → e < 32768 → RuleOf (record a { words = set a.words (id_word i) (packed (posted_word (parts from) e)) }) (with_note i (Queued (parts found).first e) u)
+        queues_from : (from e : ℕ) → found ≡ from → (parts from).state ≡ 2 → (parts from).second ≡ 0 → e ≢ 0 → e < 32768 → RuleOf (record a { words = set a.words (id_index i) (packed (posted_word (parts from) e)) }) (with_note i (Queued (parts found).first e) u)
         queues_from from e hit two room some_ small = let same : (local (id_state a us) i).word ≡ parts from = ap parts hit in
             let w : Parts = record { first = (parts from).first; state = 2; range = (parts from).range; attempt = (parts from).attempt; oldest = cond (eqb (parts from).oldest 0) e (parts from).oldest; second = cond (eqb (parts from).oldest 0) 0 e } in
             let posted : posted_word (parts from) e ≡ w = ap (λ b. cond b (locked_word (parts from)) w) (ne_eqb (parts from).state 1 (λ z. omega (arith, z, two))) in
@@ -168,14 +168,14 @@ module _ (p : Plan) (q : IdPlan) (a : Calls) (us : List IdView) (law : Lawful q 
             allowed.queues_law q k me i inside real (id_state a us) law at (packed (posted_word (parts from) e)) e (ap (λ (y : Parts). y.state) same ∙ two) (ap (λ (y : Parts). y.second) same ∙ room) some_ is
 
     -- I8
-    pub frees : HasOne i Leaving u → RuleOf (calls_after (FreeId i) (get_or a.words (tag_word i) 0) a) (no_token i u)
+    pub frees : HasOne i Leaving u → RuleOf (calls_after (FreeId i) (get_or a.words (tag_index i) 0) a) (no_token i u)
     frees has = allowed.frees_law q k me i inside real (id_state a us) law at has
 
     -- I6
-    pub ends : (f rg att x y : ℕ) (c : Asked) → HasOne i (Locked f rg att c x y Empty) u → RuleOf (calls_after (EndId i) (get_or a.words (id_word i) 0) a) (by_token (tokens_in i u) (ended_by i (get_or a.words (id_word i) 0) u) u)
-    ends f rg att x y c has = let t : Token Asked = Locked f rg att c x y Empty in let n : ℕ = packed (free_word ((parts (get_or a.words (id_word i) 0)).first + (parts (get_or a.words (id_word i) 0)).range)) in
-        let is : parts n ≡ free_word ((local (id_state a us) i).word.first + (local (id_state a us) i).word.range) = parts_packed (free_word ((parts (get_or a.words (id_word i) 0)).first + (parts (get_or a.words (id_word i) 0)).range)) (omega arith) (omega arith) (omega arith) (omega arith) (omega arith) (omega arith) in
-        by_own t (ended_by i (get_or a.words (id_word i) 0) u) (calls_after (EndId i) (get_or a.words (id_word i) 0) a) has
+    pub ends : (f rg att x y : ℕ) (c : Asked) → HasOne i (Locked f rg att c x y Empty) u → RuleOf (calls_after (EndId i) (get_or a.words (id_index i) 0) a) (by_token (tokens_in i u) (ended_by i (get_or a.words (id_index i) 0) u) u)
+    ends f rg att x y c has = let t : Token Asked = Locked f rg att c x y Empty in let n : ℕ = packed (free_word ((parts (get_or a.words (id_index i) 0)).first + (parts (get_or a.words (id_index i) 0)).range)) in
+        let is : parts n ≡ free_word ((local (id_state a us) i).word.first + (local (id_state a us) i).word.range) = parts_packed (free_word ((parts (get_or a.words (id_index i) 0)).first + (parts (get_or a.words (id_index i) 0)).range)) (omega arith) (omega arith) (omega arith) (omega arith) (omega arith) (omega arith) in
+        by_own t (ended_by i (get_or a.words (id_index i) 0) u) (calls_after (EndId i) (get_or a.words (id_index i) 0) a) has
         (allowed.ends_law q k me i inside real (id_state a us) law at f rg att x y c has n is)
 
     -- I5
@@ -200,7 +200,7 @@ module _ (p : Plan) (q : IdPlan) (a : Calls) (us : List IdView) (law : Lawful q 
           ((λ z. is ∙ opened_is (local (id_state a us) i).word more z (known.begins.2 z)), (λ n. is ∙ popped_is (local (id_state a us) i).word more n))
 
       abbrev Row : ℕ → ℕ → Bool → Type 0
-      Row from more b = RuleOf (record a { words = set a.words (id_word i) (cond b (packed (unlocked_word (parts from) more)) found) })
+      Row from more b = RuleOf (record a { words = set a.words (id_index i) (cond b (packed (unlocked_word (parts from) more)) found) })
           (cond b (advanced_view i f (parts from).attempt ((parts from).attempt + more) (popped_view i f rg ((parts from).attempt + more) c (parts found).oldest (parts found).second u)) (with_token i (Locked f rg att c (parts found).oldest (parts found).second (Full c)) u))
 
       missed : (from more : ℕ) → found ≢ from → Row from more (eqb found from)
@@ -212,9 +212,9 @@ module _ (p : Plan) (q : IdPlan) (a : Calls) (us : List IdView) (law : Lawful q 
           let r = allowed.unlocks_law q k me i inside real (id_state a us) law at f rg att x y c has (packed (unlocked_word (parts from) 0)) (opens from 0 hit (omega (arith, room))) in
           let V : ℕ → IdView = λ m. popped_view i f rg m c (parts found).oldest (parts found).second u in
           subst (Row from 0) (sym (eq-eqb found from hit))
-          (subst (λ b. RuleOf (record a { words = set a.words (id_word i) (packed (unlocked_word (parts from) 0)) }) (cond b (popped_view i f rg ((parts from).attempt + 0) c (parts found).oldest (parts found).second u) (with_note i (Attempt f ((parts from).attempt + 0)) (popped_view i f rg ((parts from).attempt + 0) c (parts found).oldest (parts found).second u))))
+          (subst (λ b. RuleOf (record a { words = set a.words (id_index i) (packed (unlocked_word (parts from) 0)) }) (cond b (popped_view i f rg ((parts from).attempt + 0) c (parts found).oldest (parts found).second u) (with_note i (Attempt f ((parts from).attempt + 0)) (popped_view i f rg ((parts from).attempt + 0) c (parts found).oldest (parts found).second u))))
           (sym (eq-eqb (parts from).attempt ((parts from).attempt + 0) (omega arith)))
-          (subst (λ m. RuleOf (record a { words = set a.words (id_word i) (packed (unlocked_word (parts from) 0)) }) (popped_view i f rg (m + 0) c (parts found).oldest (parts found).second u)) same r)))
+          (subst (λ m. RuleOf (record a { words = set a.words (id_index i) (packed (unlocked_word (parts from) 0)) }) (popped_view i f rg (m + 0) c (parts found).oldest (parts found).second u)) same r)))
           (λ miss. missed from 0 miss)
 
       advancing : (from : ℕ) → (parts from).attempt + 3 ≤ (parts from).range → Row from 1 (eqb found from)
@@ -222,9 +222,9 @@ module _ (p : Plan) (q : IdPlan) (a : Calls) (us : List IdView) (law : Lawful q 
           (λ hit. let same : (local (id_state a us) i).word.attempt ≡ (parts from).attempt = ap (λ n. (parts n).attempt) hit in let range : (local (id_state a us) i).word.range ≡ (parts from).range = ap (λ n. (parts n).range) hit in
           let r = allowed.advances_law q k me i inside real (id_state a us) law at f rg att x y c has (packed (unlocked_word (parts from) 1)) (omega (arith, same, range, room)) (opens from 1 hit (omega (arith, room))) in
           subst (Row from 1) (sym (eq-eqb found from hit))
-          (subst (λ b. RuleOf (record a { words = set a.words (id_word i) (packed (unlocked_word (parts from) 1)) }) (cond b (popped_view i f rg ((parts from).attempt + 1) c (parts found).oldest (parts found).second u) (with_note i (Attempt f ((parts from).attempt + 1)) (popped_view i f rg ((parts from).attempt + 1) c (parts found).oldest (parts found).second u))))
+          (subst (λ b. RuleOf (record a { words = set a.words (id_index i) (packed (unlocked_word (parts from) 1)) }) (cond b (popped_view i f rg ((parts from).attempt + 1) c (parts found).oldest (parts found).second u) (with_note i (Attempt f ((parts from).attempt + 1)) (popped_view i f rg ((parts from).attempt + 1) c (parts found).oldest (parts found).second u))))
           (sym (ne_eqb (parts from).attempt ((parts from).attempt + 1) (λ z. omega (arith, z))))
-          (subst (λ m. RuleOf (record a { words = set a.words (id_word i) (packed (unlocked_word (parts from) 1)) }) (with_note i (Attempt f (m + 1)) (popped_view i f rg (m + 1) c (parts found).oldest (parts found).second u))) same r)))
+          (subst (λ m. RuleOf (record a { words = set a.words (id_index i) (packed (unlocked_word (parts from) 1)) }) (with_note i (Attempt f (m + 1)) (popped_view i f rg (m + 1) c (parts found).oldest (parts found).second u))) same r)))
           (λ miss. missed from 1 miss)
 
       of_advance : (from : ℕ) (advance : Bool) → (parts from).attempt + advance_of advance + 2 ≤ (parts from).range → Row from (advance_of advance) (eqb found from)
@@ -232,5 +232,5 @@ module _ (p : Plan) (q : IdPlan) (a : Calls) (us : List IdView) (law : Lawful q 
       of_advance from false room = plain from (omega (arith, room))
 
       pub unlocks : (from : ℕ) (advance : Bool) → Longer f rg att x y (parts from) → att + advance_of advance + 2 ≤ rg
-          → RuleOf (calls_after (UnlockId i from advance) (get_or a.words (id_word i) 0) a) (by_token (tokens_in i u) (unlocked_by i from (advance_of advance) (get_or a.words (id_word i) 0) u) u)
+          → RuleOf (calls_after (UnlockId i from advance) (get_or a.words (id_index i) 0) a) (by_token (tokens_in i u) (unlocked_by i from (advance_of advance) (get_or a.words (id_index i) 0) u) u)
       unlocks from advance is room = by_own (Locked f rg att c x y (Full c)) (unlocked_by i from (advance_of advance) found u) (calls_after (UnlockId i from advance) found a) has (of_advance from advance (let g = is.range_is in let h = is.attempt_is in omega (arith, g, h, room)))

@@ -15,15 +15,15 @@ use Rattle.corr_core.specs.declared.marks.Plan.{Plan as IdPlan}
 use Rattle.corr_core.specs.declared.marks.Token.{Token}
 use Rattle.corr_core.specs.declared.marks.Note.{Note}
 use Rattle.corr_core.specs.declared.marks.Kept.{Kept}
-use Rattle.id_rule.specs.Lawful.{Lawful, Unused, KeptFits, kept_in, share_of, tokens_in, notes_in, newcomer, tag_word, id_word, call_word, at_word}
-use Rattle.sock_programs.specs.sock_message.specs.Asked.{Asked}
-use Rattle.sock_programs.specs.declared.task.Task.{Task}
-use Rattle.sock_programs.specs.Heads.{Retry}
-use Rattle.sock_programs.specs.Programs.{Program, Rest}
-use Rattle.sock_programs.specs.Clients.{ending_of}
-use Rattle.sock_programs.specs.Cores.{Core, SeatState, resolved, still_waiting, waiting_at, next_step, with_seat}
-use Rattle.sock_programs.specs.Scripts.{opening_words, opening_homes, opening_ids, opening_calls, sizes_of, programs, readers_from, all_programs, beginning, is_ending}
-use Rattle.sock_programs.specs.Told.{OpFits, TaskFits}
+use Rattle.id_rule.specs.Lawful.{Lawful, Unused, KeptFits, kept_in, share_of, tokens_in, notes_in, newcomer, tag_index, id_index, call_index, at_index}
+use Rattle.seat_programs.specs.sock_message.specs.Asked.{Asked}
+use Rattle.seat_programs.specs.declared.task.Task.{Task}
+use Rattle.seat_programs.specs.Heads.{Retry}
+use Rattle.seat_programs.specs.Programs.{Program, Rest}
+use Rattle.seat_programs.specs.Clients.{ending_of}
+use Rattle.seat_programs.specs.Cores.{Core, SeatState, resolved, still_waiting, waiting_at, next_step, with_seat}
+use Rattle.seat_programs.specs.Scripts.{opening_words, opening_homes, opening_ids, opening_calls, sizes_of, programs, readers_from, all_programs, beginning, is_ending}
+use Rattle.seat_programs.specs.Told.{OpFits, TaskFits}
 use Rattle.id_runs.specs.Held.{IdView, id_state}
 use Rattle.id_runs.specs.Goes.{IsFree, FitsRetryId, HandFits, HomesFit, CodesFit, IdGoesOn, SoundIds}
 use Rattle.id_runs.proofs.Clients.{client_goes, ending_goes}
@@ -131,7 +131,7 @@ first_views n = replicate n newcomer
 begins_law : (q : IdPlan) (links : ℕ) → Lawful q (id_state (opening_calls q links) (first_views q.seats))
 begins_law q links = let u = unused q in record {
   sized = u.sized;
-  slots = λ i inside. slot_law (get_or (words q) (tag_word i) 0) (parts (get_or (words q) (id_word i) 0)) (get_elem? (replicate q.slots (some None)) i) (flat_map (tokens_in i) (first_views q.seats)) (flat_map (notes_in i) (first_views q.seats))
+  slots = λ i inside. slot_law (get_or (words q) (tag_index i) 0) (parts (get_or (words q) (id_index i) 0)) (get_elem? (replicate q.slots (some None)) i) (flat_map (tokens_in i) (first_views q.seats)) (flat_map (notes_in i) (first_views q.seats))
       (u.tags i inside) (u.ids i inside) (there q.slots i (some None) inside) (no_tokens q.seats i) (no_notes q.seats i);
   kept_fits = subst (λ (ks : List Kept). Each (KeptFits (2 * q.slots) (words q) ks) ks) (sym (no_kept q.seats)) tt;
   kept_by = λ x past some_. absurd (some_ (u.rest x past));
@@ -198,8 +198,8 @@ module _ (p : Plan) (q : IdPlan) (narrow : q.slots ≤ 65536) (same : q.operatio
     each = length-replicate q.seats newcomer ∙ sym (length-map xs at_first ∙ many);
     real = λ i v e. let is : newcomer ≡ v = repeated q.seats i newcomer v e in let share : 1 ≡ v.share = ap share_of is in omega (arith, share);
     homes = λ i asked e. let is : some None ≡ some (Some asked) = repeated q.slots i (some None) (some (Some asked)) e in let z : None ≡ Some asked = some-injective None (Some asked) is in absurd (cc);
-    called = λ o inside some_. absurd (some_ (u.rest (call_word q o) (omega arith)));
-    placed = λ o inside some_. absurd (some_ (u.rest (at_word q o) (omega arith)));
+    called = λ o inside some_. absurd (some_ (u.rest (call_index q o) (omega arith)));
+    placed = λ o inside some_. absurd (some_ (u.rest (at_index q o) (omega arith)));
     owners = owners;
     in_hand = empty_handed xs;
     codes = codes;

@@ -7,16 +7,16 @@ use native.Mathlib.Decide.{ℕ_discrete, dec_le}
 use lib.ListN.{get_elem?}
 use Rattle.atomic_table.proofs.Lists.{at_set}
 use Rattle.sock_words.specs.declared.plain.Plan.{Plan}
-use Rattle.sock_programs.specs.sock_io.specs.declared.link.Put.{Put}
-use Rattle.sock_programs.specs.sock_io.specs.declared.link.Put.TheVariants as puts
-use Rattle.sock_programs.specs.sock_model.specs.declared.home.Home.{Home}
-use Rattle.sock_programs.specs.sock_model.specs.declared.home.Home.TheVariants.{Empty, Link, Message}
-use Rattle.sock_programs.specs.sock_model.specs.Layout.{tag_word, code_word, name_word, open_word, request_word, next_word, place_word}
+use Rattle.seat_programs.specs.sock_io.specs.declared.link.Put.{Put}
+use Rattle.seat_programs.specs.sock_io.specs.declared.link.Put.TheVariants as puts
+use Rattle.seat_programs.specs.sock_model.specs.declared.home.Home.{Home}
+use Rattle.seat_programs.specs.sock_model.specs.declared.home.Home.TheVariants.{Empty, Link, Message}
+use Rattle.seat_programs.specs.sock_model.specs.Layout.{tag_index, code_index, name_index, open_index, request_index, next_index, place_index}
 use Rattle.corr_core.specs.declared.marks.Plan.{Plan as IdPlan}
-use Rattle.sock_programs.specs.Calls.{Call, ClaimSlot, GiveBirth, AddRef, SubRef, SetOdd, Recycle, FreeSlot, StoreLink, LoadLink, ResetHead, WipeCode, StoreCode, StoreName, LoadName, StoreOpen, LoadOpen, TakeLink, FinishLink, PutLink, LookWord, FindLink, LoadCode, ClaimRequest, PutMessage, Unconnect, SwapHead, Connect, EmptyHead, ReadNext, TurnNext, FreeRequest, StorePlace, DropPlace}
-use Rattle.sock_programs.specs.Programs.{Program, Do}
-use Rattle.sock_programs.specs.Cores.{word_of, found_at, words_after, word_after, homes_after, hand_after, lies_at, first_of, others_of, finished, link_place}
-use Rattle.sock_programs.specs.Ticks.{fed, with_places, onto_first}
+use Rattle.seat_programs.specs.Calls.{Call, ClaimSlot, CreateLife, AddRef, SubRef, SetOdd, Recycle, FreeSlot, StoreLink, LoadLink, ResetHead, ClearCode, StoreCode, StoreName, LoadName, StoreOpen, LoadOpen, TakeLink, FinishLink, PutLink, LookWord, FindLink, LoadCode, ClaimRequest, PutMessage, Unconnect, SwapHead, Connect, EmptyHead, ReadNext, ReverseNext, FreeRequest, StorePlace, DropPlace}
+use Rattle.seat_programs.specs.Programs.{Program, Do}
+use Rattle.seat_programs.specs.Cores.{word_of, found_at, words_after, word_after, homes_after, hand_after, lies_at, first_of, others_of, finished, link_place}
+use Rattle.seat_programs.specs.Ticks.{fed, with_places, onto_first}
 use Rattle.id_runs.specs.Held.{IdView}
 use Rattle.id_runs.specs.Goes.{FitsSock, FitsOwner, FitsHome, HandFits, HomesFit, CodesFit, IdGoesOn}
 
@@ -97,11 +97,11 @@ module _ (p : Plan) (q : IdPlan) where
 -- ## Codes
 
 module _ (p : Plan) where
-  code_set : (ws : List ℕ) (x w : ℕ) → CodesFit p ws → ((i : ℕ) → i < p.slots → x ≡ code_word i → w < 4096) → CodesFit p (set ws x w)
-  code_set ws x w fit new i inside = dite (ℕ_discrete x (code_word i))
-      (λ e. dite (dec_le (length ws) x) (λ past. let none_ : get_or (set ws x w) (code_word i) 0 ≡ 0 = get_or_past (set ws x w) (code_word i) 0 (omega (arith, past, e, length-set ws x w)) in omega (arith, none_))
+  code_set : (ws : List ℕ) (x w : ℕ) → CodesFit p ws → ((i : ℕ) → i < p.slots → x ≡ code_index i → w < 4096) → CodesFit p (set ws x w)
+  code_set ws x w fit new i inside = dite (ℕ_discrete x (code_index i))
+      (λ e. dite (dec_le (length ws) x) (λ past. let none_ : get_or (set ws x w) (code_index i) 0 ≡ 0 = get_or_past (set ws x w) (code_index i) 0 (omega (arith, past, e, length-set ws x w)) in omega (arith, none_))
       (λ n. let here : get_or (set ws x w) x 0 ≡ w = get_or-set_same ws x w 0 (omega arith) in subst (λ y. get_or (set ws x w) y 0 < 4096) e (subst (λ y. y < 4096) (sym here) (new i inside e))))
-      (λ n. subst (λ y. y < 4096) (sym (get_or-set_other ws x (code_word i) w 0 (λ e. n (sym e)))) (fit i inside))
+      (λ n. subst (λ y. y < 4096) (sym (get_or-set_other ws x (code_index i) w 0 (λ e. n (sym e)))) (fit i inside))
 
   -- a word of a slot that is no code
   of_slot : (ws : List ℕ) (j c w : ℕ) → c < 6 → c ≢ 4 → CodesFit p ws → CodesFit p (set ws (6 * j + c) w)
@@ -111,13 +111,13 @@ module _ (p : Plan) where
   behind : (ws : List ℕ) (x w : ℕ) → 6 * p.slots ≤ x → CodesFit p ws → CodesFit p (set ws x w)
   behind ws x w past fit = code_set ws x w fit (λ i inside e. absurd (omega (arith, inside, e, past)))
 
-  tagged : (ws : List ℕ) (j w : ℕ) → CodesFit p ws → CodesFit p (set ws (tag_word j) w)
+  tagged : (ws : List ℕ) (j w : ℕ) → CodesFit p ws → CodesFit p (set ws (tag_index j) w)
   tagged ws j w fit = subst (λ x. CodesFit p (set ws x w)) (omega arith) (of_slot ws j 0 w (omega arith) (λ e. omega (arith, e)) fit)
 
   pub codes_fit : (q : IdPlan) (call : Call) → MaySock q call → (ws : List ℕ) → CodesFit p ws → CodesFit p (words_after ws (word_of p call) (word_after call (found_at ws (word_of p call))))
   codes_fit q (ClaimSlot i) may ws fit = tagged ws i (word_after (ClaimSlot i) (found_at ws (word_of p (ClaimSlot i)))) fit
   codes_fit q (FreeSlot i) may ws fit = tagged ws i (word_after (FreeSlot i) (found_at ws (word_of p (FreeSlot i)))) fit
-  codes_fit q (GiveBirth i k) may ws fit = of_slot ws i 1 (word_after (GiveBirth i k) (found_at ws (word_of p (GiveBirth i k)))) (omega arith) (λ e. omega (arith, e)) fit
+  codes_fit q (CreateLife i k) may ws fit = of_slot ws i 1 (word_after (CreateLife i k) (found_at ws (word_of p (CreateLife i k)))) (omega arith) (λ e. omega (arith, e)) fit
   codes_fit q (AddRef id) may ws fit = of_slot ws _ 1 (word_after (AddRef id) (found_at ws (word_of p (AddRef id)))) (omega arith) (λ e. omega (arith, e)) fit
   codes_fit q (SubRef i) may ws fit = of_slot ws i 1 (word_after (SubRef i) (found_at ws (word_of p (SubRef i)))) (omega arith) (λ e. omega (arith, e)) fit
   codes_fit q (SetOdd i) may ws fit = of_slot ws i 1 (word_after (SetOdd i) (found_at ws (word_of p (SetOdd i)))) (omega arith) (λ e. omega (arith, e)) fit
@@ -129,21 +129,21 @@ module _ (p : Plan) where
   codes_fit q (ResetHead i k) may ws fit = of_slot ws i 3 (word_after (ResetHead i k) (found_at ws (word_of p (ResetHead i k)))) (omega arith) (λ e. omega (arith, e)) fit
   codes_fit q (SwapHead i own) may ws fit = of_slot ws i 3 own (omega arith) (λ e. omega (arith, e)) fit
   codes_fit q (EmptyHead i last) may ws fit = of_slot ws i 3 (word_after (EmptyHead i last) (found_at ws (word_of p (EmptyHead i last)))) (omega arith) (λ e. omega (arith, e)) fit
-  codes_fit q (WipeCode i k) may ws fit = code_set ws (code_word i) 0 fit (λ j inside e. omega arith)
-  codes_fit q (StoreCode i h c) may ws fit = code_set ws (code_word i) c fit (λ j inside e. may)
-  codes_fit q (LoadCode i h) may ws fit = code_set ws (code_word i) (get_or ws (code_word i) 0) fit (λ j inside e. subst (λ x. get_or ws x 0 < 4096) (sym e) (fit j inside))
-  codes_fit q (StoreName n w) may ws fit = behind ws (name_word p n) w (omega arith) fit
-  codes_fit q (LoadName n) may ws fit = behind ws (name_word p n) (get_or ws (name_word p n) 0) (omega arith) fit
-  codes_fit q (StoreOpen o w) may ws fit = behind ws (open_word p o) w (omega arith) fit
-  codes_fit q (LoadOpen o) may ws fit = behind ws (open_word p o) (get_or ws (open_word p o) 0) (omega arith) fit
-  codes_fit q (ClaimRequest id r) may ws fit = behind ws (request_word p r) (word_after (ClaimRequest id r) (found_at ws (word_of p (ClaimRequest id r)))) (omega arith) fit
-  codes_fit q (FreeRequest r g) may ws fit = behind ws (request_word p r) (word_after (FreeRequest r g) (found_at ws (word_of p (FreeRequest r g)))) (omega arith) fit
-  codes_fit q (Unconnect r) may ws fit = behind ws (next_word p r) (word_after (Unconnect r) (found_at ws (word_of p (Unconnect r)))) (omega arith) fit
-  codes_fit q (Connect r before) may ws fit = behind ws (next_word p r) before (omega arith) fit
-  codes_fit q (ReadNext r) may ws fit = behind ws (next_word p r) (get_or ws (next_word p r) 0) (omega arith) fit
-  codes_fit q (TurnNext r value) may ws fit = behind ws (next_word p r) value (omega arith) fit
-  codes_fit q (StorePlace l k n) may ws fit = behind ws (place_word p l) (word_after (StorePlace l k n) (found_at ws (word_of p (StorePlace l k n)))) (omega arith) fit
-  codes_fit q (DropPlace l k n) may ws fit = behind ws (place_word p l) (word_after (DropPlace l k n) (found_at ws (word_of p (DropPlace l k n)))) (omega arith) fit
+  codes_fit q (ClearCode i k) may ws fit = code_set ws (code_index i) 0 fit (λ j inside e. omega arith)
+  codes_fit q (StoreCode i h c) may ws fit = code_set ws (code_index i) c fit (λ j inside e. may)
+  codes_fit q (LoadCode i h) may ws fit = code_set ws (code_index i) (get_or ws (code_index i) 0) fit (λ j inside e. subst (λ x. get_or ws x 0 < 4096) (sym e) (fit j inside))
+  codes_fit q (StoreName n w) may ws fit = behind ws (name_index p n) w (omega arith) fit
+  codes_fit q (LoadName n) may ws fit = behind ws (name_index p n) (get_or ws (name_index p n) 0) (omega arith) fit
+  codes_fit q (StoreOpen o w) may ws fit = behind ws (open_index p o) w (omega arith) fit
+  codes_fit q (LoadOpen o) may ws fit = behind ws (open_index p o) (get_or ws (open_index p o) 0) (omega arith) fit
+  codes_fit q (ClaimRequest id r) may ws fit = behind ws (request_index p r) (word_after (ClaimRequest id r) (found_at ws (word_of p (ClaimRequest id r)))) (omega arith) fit
+  codes_fit q (FreeRequest r g) may ws fit = behind ws (request_index p r) (word_after (FreeRequest r g) (found_at ws (word_of p (FreeRequest r g)))) (omega arith) fit
+  codes_fit q (Unconnect r) may ws fit = behind ws (next_index p r) (word_after (Unconnect r) (found_at ws (word_of p (Unconnect r)))) (omega arith) fit
+  codes_fit q (Connect r before) may ws fit = behind ws (next_index p r) before (omega arith) fit
+  codes_fit q (ReadNext r) may ws fit = behind ws (next_index p r) (get_or ws (next_index p r) 0) (omega arith) fit
+  codes_fit q (ReverseNext r value) may ws fit = behind ws (next_index p r) value (omega arith) fit
+  codes_fit q (StorePlace l k n) may ws fit = behind ws (place_index p l) (word_after (StorePlace l k n) (found_at ws (word_of p (StorePlace l k n)))) (omega arith) fit
+  codes_fit q (DropPlace l k n) may ws fit = behind ws (place_index p l) (word_after (DropPlace l k n) (found_at ws (word_of p (DropPlace l k n)))) (omega arith) fit
   codes_fit q (TakeLink k) may ws fit = fit
   codes_fit q (FinishLink k) may ws fit = fit
   codes_fit q (PutLink k) may ws fit = fit

@@ -5,32 +5,32 @@ use Rattle.std.specs.List.{AllByRecursion}
 use Rattle.sock_words.specs.Words.{socket_id_version, socket_id_slot, vref_version, vref_nref, at_word, at_word_slot, at_word_first}
 use Rattle.sock_words.specs.declared.plain.Plan.{Plan}
 use Rattle.sock_words.specs.declared.outcome.Outcome.TheVariants as outcomes
-use Rattle.sock_programs.specs.sock_io.specs.declared.link.Put.{Put}
-use Rattle.sock_programs.specs.sock_io.specs.declared.link.Put.TheVariants as puts
-use Rattle.sock_programs.specs.sock_io.specs.declared.link.Ready.{Ready}
-use Rattle.sock_programs.specs.sock_io.specs.declared.link.Ready.TheVariants as asks
-use Rattle.sock_programs.specs.sock_model.specs.declared.chain.Heading.{Heading}
-use Rattle.sock_programs.specs.sock_model.specs.Entries.{generation_of, slot_of, ticket_of}
-use Rattle.sock_programs.specs.sock_model.specs.Memory.{IDLE, UNCONNECTED}
+use Rattle.seat_programs.specs.sock_io.specs.declared.link.Put.{Put}
+use Rattle.seat_programs.specs.sock_io.specs.declared.link.Put.TheVariants as puts
+use Rattle.seat_programs.specs.sock_io.specs.declared.link.Ready.{Ready}
+use Rattle.seat_programs.specs.sock_io.specs.declared.link.Ready.TheVariants as asks
+use Rattle.seat_programs.specs.sock_model.specs.declared.chain.Heading.{Heading}
+use Rattle.seat_programs.specs.sock_model.specs.Entries.{generation_of, slot_of, ticket_of}
+use Rattle.seat_programs.specs.sock_model.specs.Memory.{IDLE, UNCONNECTED}
 use Rattle.corr_core.specs.Word.{parts, error_of}
 use Rattle.corr_core.specs.declared.marks.Plan.{Plan as IdPlan}
 use Rattle.corr_core.specs.declared.marks.Hand.TheVariants.{Empty, Full}
 use Rattle.corr_core.specs.declared.marks.Token.{Token}
 use Rattle.corr_core.specs.declared.marks.Token.TheVariants.{Claimed, Locked}
 use Rattle.corr_core.specs.declared.marks.Note.TheVariants.{Tried, Made}
-use Rattle.id_rule.specs.Lawful.{call_word, at_word as at_place, with_token, no_token, with_note, with_kept}
+use Rattle.id_rule.specs.Lawful.{call_index, at_index as at_place, with_token, no_token, with_note, with_kept}
 use Rattle.id_rule.specs.Plays.{with_hand, found_view}
-use Rattle.sock_programs.specs.Parts.{part}
-use Rattle.sock_programs.specs.sock_message.specs.Asked.{Asked, frame_of}
-use Rattle.sock_programs.specs.Calls.{SubRef, AddRef, SetOdd, StoreCode, Recycle, LoadLink, TakeLink, FinishLink, PutLink, FreeSlot, LoadName, FreeRequest, ReadNext, DropPlace, LoadCode, ClaimRequest}
-use Rattle.sock_programs.specs.Asides.{PutCall, MakeId, StoreCall, StoreAt, call_id, id_slot, id_first}
-use Rattle.sock_programs.specs.Heads.{Retry, Unlocks, Joins, Unlocking, IsOpen, HasNext, Deciding, HasEnded, GoesOn, Locking, NotThere, Has}
-use Rattle.sock_programs.specs.Programs.{Program, Do, Say, TakeMessage, TakeHome, PutBytes, Write, Aside, Round, LAST_VERSION, LAST_GENERATION, recycle, release, address, set_failed}
-use Rattle.sock_programs.specs.Posts.{post, post_with, posted, decided}
-use Rattle.sock_programs.specs.Writings.{Holder, Writing, Puts, Waits, Empties, Walks}
-use Rattle.sock_programs.specs.Sends.{freed, one_more, passed_telling, tell_drop, placed, dropped, put_answered, ready_answered, block, accept, write_link}
-use Rattle.sock_programs.specs.Attempts.{claims_from, heading_for, attempt, begin_call, claim_id, call, tried_again, retry_locked, retry, expire_outcome, expire, join}
-use Rattle.sock_programs.specs.Told.{AskedFits}
+use Rattle.seat_programs.specs.Parts.{part}
+use Rattle.seat_programs.specs.sock_message.specs.Asked.{Asked, frame_of}
+use Rattle.seat_programs.specs.Calls.{SubRef, AddRef, SetOdd, StoreCode, Recycle, LoadLink, TakeLink, FinishLink, PutLink, FreeSlot, LoadName, FreeRequest, ReadNext, DropPlace, LoadCode, ClaimRequest}
+use Rattle.seat_programs.specs.Asides.{PutCall, MakeId, StoreCall, StoreAt, call_id, id_slot, id_first}
+use Rattle.seat_programs.specs.Heads.{Retry, Unlocks, Joins, Unlocking, IsOpen, HasNext, Deciding, HasEnded, GoesOn, Locking, NotThere, Has}
+use Rattle.seat_programs.specs.Programs.{Program, Do, Say, TakeMessage, TakeHome, PutBytes, Write, Aside, Round, LAST_VERSION, LAST_GENERATION, recycle, release, address, set_failed}
+use Rattle.seat_programs.specs.Posts.{post, post_with, posted, decided}
+use Rattle.seat_programs.specs.Writings.{Holder, Writing, Puts, Waits, Empties, Walks}
+use Rattle.seat_programs.specs.Sends.{freed, one_more, passed_telling, tell_drop, placed, dropped, put_answered, ready_answered, block, accept, write_link}
+use Rattle.seat_programs.specs.Attempts.{claims_from, heading_for, attempt, begin_call, claim_id, call, tried_again, retry_locked, retry, expire_outcome, expire, join}
+use Rattle.seat_programs.specs.Told.{AskedFits}
 use Rattle.id_runs.specs.Held.{AtFits, IdView, one, by_token, made_by}
 use Rattle.id_runs.specs.Goes.{FitsOwner, IsFree, IsError, LeavesUnlock, LeavesLock, FitsRetryId, IdGoesOn}
 use Rattle.id_runs.proofs.Loops.{tokens_one, without_one, has_one, other_one, none_left, first_one, not_equal, way, both_ways, decide_goes, posted_goes, post_with_goes, post_goes}
@@ -84,7 +84,7 @@ module _ (p : Plan) (q : IdPlan) (narrow : q.slots ≤ 65536) where
       (λ some_. let o = owner (Rattle.id_runs.proofs.Loops.not_equal heading.owner 0 some_) in let c = code_of_drop (eqb code 0) code refl small in let few = o.1 in
       post_goes p q u heading.owner (cond (eqb code 0) 1009 code) heading.attempt x free o.0 c.0 c.1 (omega (arith, few)) goes)
 
-  put_goes : (u : IdView) (h : Rattle.sock_programs.specs.Writings.Holder) (now : ℕ) (heading : Heading) (left : List ℕ) (taken : ℕ) (after : Program) → IsFree u → FitsOwner q heading → Follows after → (answer : Put) → Goes u (put_answered h now heading left taken after answer)
+  put_goes : (u : IdView) (h : Rattle.seat_programs.specs.Writings.Holder) (now : ℕ) (heading : Heading) (left : List ℕ) (taken : ℕ) (after : Program) → IsFree u → FitsOwner q heading → Follows after → (answer : Put) → Goes u (put_answered h now heading left taken after answer)
   put_goes u h now heading left taken after free owner goes (puts.Took n) = way p q u (nat_le (length left) n) (placed h now heading after) (Write (Puts h now heading (Rattle.std.specs.Prelude.drop n left) (taken + n) false) after)
       (λ _. λ _ _. passed_goes u (one_more h) now (λ x. x) after free (λ x goes. goes u free) goes) (λ _. (free, owner, goes))
   put_goes u h now heading left taken after free owner goes puts.Again = (free, owner, goes)
@@ -102,19 +102,19 @@ module _ (p : Plan) (q : IdPlan) (narrow : q.slots ≤ 65536) where
       ready_goes asks.Failed = set_failed_goes u h.id 1009 (omega arith) (λ _. Write (Puts h now heading left taken false) after) (λ _. g)
   block_goes u (Empties h) after g = λ found _. way p q u (found == h.last) after (TakeHome h.link (λ places. Write (Walks (record h { places = places }) found found 0) after)) (λ _. g.2 u g.0) (λ _. λ places. g)
   block_goes u (Walks h top at after) then_ g = λ found _. way p q u (found == UNCONNECTED) (Write (Walks h top at after) then_)
-      (Do (Rattle.sock_programs.specs.Calls.TurnNext (slot_of at) after) (λ _. cond (found == h.last) (TakeMessage (slot_of at) (λ heading bytes. Write (Puts (record h { last = top }) at heading bytes 0 false) then_)) (Write (Walks h top found at) then_)))
+      (Do (Rattle.seat_programs.specs.Calls.ReverseNext (slot_of at) after) (λ _. cond (found == h.last) (TakeMessage (slot_of at) (λ heading bytes. Write (Puts (record h { last = top }) at heading bytes 0 false) then_)) (Write (Walks h top found at) then_)))
       (λ _. g)
       (λ _. λ _ _. way p q u (found == h.last) (TakeMessage (slot_of at) (λ heading bytes. Write (Puts (record h { last = top }) at heading bytes 0 false) then_)) (Write (Walks h top found at) then_) (λ _. λ heading bytes owner. (g.0, owner, g.2)) (λ _. g))
 
   -- ## Attempts
 
   write_goes : (u : IdView) (id r own : ℕ) (after : Program) → IsFree u → Follows after → Goes u (write_link id r own after)
-  write_goes u id r own after free goes = λ k _. λ places. λ heading bytes owner. let h : Rattle.sock_programs.specs.Writings.Holder = record { id = id; link = k; last = own; places = places } in
+  write_goes u id r own after free goes = λ k _. λ places. λ heading bytes owner. let h : Rattle.seat_programs.specs.Writings.Holder = record { id = id; link = k; last = own; places = places } in
       λ found _. way p q u (vref_version found % 2 == 0) (PutBytes k false (part heading.parts bytes 0) (put_answered h own heading bytes 0 after)) (Write (Puts h own heading bytes 0 false) after)
       (λ _. put_goes u h own heading bytes 0 after free owner goes) (λ _. (free, owner, goes))
 
   pub accept_goes : (u : IdView) (id r g : ℕ) (heading : Heading) (bytes : List ℕ) (after : Program) → IsFree u → FitsOwner q heading → Follows after → Goes u (accept id r g heading bytes after)
-  accept_goes u id r g heading bytes after free owner goes = (owner, λ _. λ _ _. λ found _. way p q u (nat_lt found IDLE) (Do (Rattle.sock_programs.specs.Calls.Connect r found) (λ _. after)) (write_link id r (ticket_of r g) after) (λ _. λ _ _. goes u free) (λ _. write_goes u id r (ticket_of r g) after free goes))
+  accept_goes u id r g heading bytes after free owner goes = (owner, λ _. λ _ _. λ found _. way p q u (nat_lt found IDLE) (Do (Rattle.seat_programs.specs.Calls.Connect r found) (λ _. after)) (write_link id r (ticket_of r g) after) (λ _. λ _ _. goes u free) (λ _. write_goes u id r (ticket_of r g) after free goes))
 
   pub claims_goes : (u : IdView) (more r id : ℕ) (heading : Heading) (bytes : List ℕ) (full accepted : Program) → IsFree u → FitsOwner q heading → Goes u full → Follows accepted → Goes u (claims_from more r id heading bytes full accepted)
   claims_goes u zero r id heading bytes full accepted free owner none_ goes = none_
@@ -130,7 +130,7 @@ module _ (p : Plan) (q : IdPlan) (narrow : q.slots ≤ 65536) where
 
   pub attempt_goes : (u : IdView) (requests : ℕ) (asked : Asked) (id n socket : ℕ) (next : Program) → IsFree u → asked.operation < q.operations → id_slot id < q.slots → n ≤ 6 → Follows next → Goes u (attempt requests asked id n socket next)
   attempt_goes u requests asked id n socket next free operation inside few goes = let i : ℕ = socket_id_slot socket in
-      address_goes u socket (Do (Rattle.sock_programs.specs.Calls.FindLink (socket_id_slot socket) (socket_id_version socket)) (λ k. Aside (StoreAt asked.operation (at_word (id_first id) (id_slot id) k n)) (λ _. Do (Rattle.sock_programs.specs.Calls.LookWord socket) (λ found.
+      address_goes u socket (Do (Rattle.seat_programs.specs.Calls.FindLink (socket_id_slot socket) (socket_id_version socket)) (λ k. Aside (StoreAt asked.operation (at_word (id_first id) (id_slot id) k n)) (λ _. Do (Rattle.seat_programs.specs.Calls.LookWord socket) (λ found.
       cond (eqb (vref_version found % 2) 0) (claims_from requests 0 socket (heading_for asked id n) (frame_of asked id n) (post id 3001 n (release (socket_id_slot socket) (λ _. next))) (release (socket_id_slot socket) (λ _. next))) (post id 1009 n (release (socket_id_slot socket) (λ _. next)))))))
       (λ _. post id 1009 n next)
       (λ k link. (
@@ -165,7 +165,7 @@ module _ (p : Plan) (q : IdPlan) (narrow : q.slots ≤ 65536) where
           λ found c f. subst (λ ts. Goes (by_token ts (made_by i asked.range found v) v) (Aside (StoreCall asked.operation (call_id i (parts found).first)) (λ _. attempt requests asked (call_id i (parts found).first) 0 socket next))) (sym has)
               (let w : IdView = with_note i (Made (parts found).first asked.range asked) (no_token i v) in let free : w.tokens ≡ [] = none_left i (Claimed 0 (Full asked)) v now in (
                 (omega (arith, operation, same), (let some_ = f.0 in λ z. omega (arith, z, some_)), subst (λ n. n < q.slots) (sym (in_slot i (parts found).first f.1)) inside),
-                λ _ d _. attempt_goes (with_kept (call_word q asked.operation) true (call_id i (parts found).first) w) requests asked (call_id i (parts found).first) 0 socket next free (omega (arith, operation, same)) (subst (λ n. n < q.slots) (sym (in_slot i (parts found).first f.1)) inside) (omega arith) goes,
+                λ _ d _. attempt_goes (with_kept (call_index q asked.operation) true (call_id i (parts found).first) w) requests asked (call_id i (parts found).first) 0 socket next free (omega (arith, operation, same)) (subst (λ n. n < q.slots) (sym (in_slot i (parts found).first f.1)) inside) (omega arith) goes,
               )),
         )
 
@@ -225,16 +225,16 @@ module _ (p : Plan) (q : IdPlan) (narrow : q.slots ≤ 65536) where
     pub expire_goes : (u : IdView) (o t : ℕ) (next : Program) → IsFree u → t < q.operations → Follows next → Goes u (expire o t next)
     expire_goes u o t next free inside goes = (
       inside,
-      λ id c f. both_ways p q (eqb id 0) u (with_kept (call_word q t) false id u) (Say o outcomes.NotBegun next) (post_with id (error_of 1008 7) (λ how. posted id (error_of 1008 7) (Say o (expire_outcome how) next) how))
+      λ id c f. both_ways p q (eqb id 0) u (with_kept (call_index q t) false id u) (Say o outcomes.NotBegun next) (post_with id (error_of 1008 7) (λ how. posted id (error_of 1008 7) (Say o (expire_outcome how) next) how))
           (λ _. goes u free)
-          (λ some_. let in_slots = f (not_equal id 0 some_) in post_with_goes p q (with_kept (call_word q t) false id u) id (error_of 1008 7) (λ how. posted id (error_of 1008 7) (Say o (expire_outcome how) next) how) free in_slots
+          (λ some_. let in_slots = f (not_equal id 0 some_) in post_with_goes p q (with_kept (call_index q t) false id u) id (error_of 1008 7) (λ how. posted id (error_of 1008 7) (Say o (expire_outcome how) next) how) free in_slots
           (error_is 1008 7 (omega arith) (omega arith) (omega arith)) (λ how v l. posted_goes p q id (error_of 1008 7) (Say o (expire_outcome how) next) in_slots goes how v l)),
     )
 
     pub join_goes : (u : IdView) (o t : ℕ) (next : Program) → IsFree u → t < q.operations → Follows next → Goes u (join o t next)
     join_goes u o t next free inside goes = (
       inside,
-      λ id c f. both_ways p q (eqb id 0) u (with_kept (call_word q t) false id u) (Say o outcomes.NotBegun next) (Round (Joins id) (λ _. Say o outcomes.Joined next))
+      λ id c f. both_ways p q (eqb id 0) u (with_kept (call_index q t) false id u) (Say o outcomes.NotBegun next) (Round (Joins id) (λ _. Say o outcomes.Joined next))
           (λ _. goes u free)
           (λ some_. ((free, f (not_equal id 0 some_)), λ _ v l. goes v l)),
     )

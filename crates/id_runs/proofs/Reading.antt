@@ -5,13 +5,13 @@ use Rattle.sock_words.specs.declared.plain.Plan.{Plan}
 use Rattle.sock_words.specs.Words.{socket_id_slot, at_word_first, at_word_slot, at_word_link, at_word_attempt}
 use Rattle.corr_core.specs.Word.{parts, error_of}
 use Rattle.corr_core.specs.declared.marks.Plan.{Plan as IdPlan}
-use Rattle.sock_programs.specs.brpc_model.specs.Frame.{Frame}
-use Rattle.id_rule.specs.Lawful.{at_word as at_place, with_kept}
-use Rattle.sock_programs.specs.Asides.{call_id, id_slot, id_first}
-use Rattle.sock_programs.specs.Heads.{Reads, Discards, Posting, WasGone, WasStale, WasCrowded, WasQueued, HasLocked, Deciding, HasEnded, GoesOn, Ended}
-use Rattle.sock_programs.specs.Programs.{Program, Rest, Round, NO_SOCKET, address, release, set_failed}
-use Rattle.sock_programs.specs.Posts.{post_with, decided}
-use Rattle.sock_programs.specs.Readers.{LIMIT, slot_in, kept_for, ends_with, posted_last, post_each, thrown_away, read, reader}
+use Rattle.seat_programs.specs.brpc_model.specs.Frame.{Frame}
+use Rattle.id_rule.specs.Lawful.{at_index as at_place, with_kept}
+use Rattle.seat_programs.specs.Asides.{call_id, id_slot, id_first}
+use Rattle.seat_programs.specs.Heads.{Reads, Discards, Posting, WasGone, WasStale, WasCrowded, WasQueued, HasLocked, Deciding, HasEnded, GoesOn, Ended}
+use Rattle.seat_programs.specs.Programs.{Program, Rest, Round, NO_SOCKET, address, release, set_failed}
+use Rattle.seat_programs.specs.Posts.{post_with, decided}
+use Rattle.seat_programs.specs.Readers.{LIMIT, slot_in, kept_for, ends_with, posted_last, post_each, thrown_away, read, reader}
 use Rattle.id_runs.specs.Held.{IdView}
 use Rattle.id_runs.specs.Goes.{IsLocked, IsFree, IsCode, EndsReading, LeavesPost, IdGoesOn}
 use Rattle.id_runs.proofs.Loops.{not_equal, way, both_ways, decide_goes, answer_goes, post_with_goes}

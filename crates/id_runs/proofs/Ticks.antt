@@ -7,13 +7,13 @@ use mathlib.Core.Option.{Option, none, some, some-injective, some-ne-none}
 use lib.ListN.{get_elem?}
 use Rattle.atomic_table.proofs.Lists.{at_set, set_again}
 use Rattle.sock_words.specs.declared.plain.Plan.{Plan}
-use Rattle.sock_programs.specs.sock_io.specs.declared.link.Put.{Put}
-use Rattle.sock_programs.specs.sock_io.specs.declared.link.Ready.{Ready}
-use Rattle.sock_programs.specs.sock_model.specs.declared.chain.Heading.{Heading}
-use Rattle.sock_programs.specs.sock_model.specs.declared.home.Home.{Home}
-use Rattle.sock_programs.specs.sock_model.specs.declared.home.Home.TheVariants.{Empty, Link, Message}
-use Rattle.sock_programs.specs.sock_model.specs.Messages.{Letter}
-use Rattle.sock_programs.specs.sock_model.specs.Reads.{letter_of, shown, message, link_home}
+use Rattle.seat_programs.specs.sock_io.specs.declared.link.Put.{Put}
+use Rattle.seat_programs.specs.sock_io.specs.declared.link.Ready.{Ready}
+use Rattle.seat_programs.specs.sock_model.specs.declared.chain.Heading.{Heading}
+use Rattle.seat_programs.specs.sock_model.specs.declared.home.Home.{Home}
+use Rattle.seat_programs.specs.sock_model.specs.declared.home.Home.TheVariants.{Empty, Link, Message}
+use Rattle.seat_programs.specs.sock_model.specs.Messages.{Letter}
+use Rattle.seat_programs.specs.sock_model.specs.Reads.{letter_of, shown, message, link_home}
 use Rattle.corr_core.specs.Word.{parts, made_word, posted_word, unlocked_word, free_word}
 use Rattle.corr_core.specs.Law.{LAST}
 use Rattle.corr_core.specs.declared.marks.Plan.{Plan as IdPlan}
@@ -21,19 +21,19 @@ use Rattle.corr_core.specs.declared.marks.Hand.TheVariants as hands
 use Rattle.corr_core.specs.declared.marks.Token.{Token}
 use Rattle.corr_core.specs.declared.marks.Token.TheVariants.{Claimed, Locked, Leaving}
 use Rattle.corr_core.specs.declared.marks.Note.TheVariants.{Tried, Queued, Saw, Attempt}
-use Rattle.id_rule.specs.Lawful.{Lawful, all_words, tag_word, id_word, call_word, at_word, tokens_in, with_token, no_token, with_note}
+use Rattle.id_rule.specs.Lawful.{Lawful, all_words, tag_index, id_index, call_index, at_index, tokens_in, with_token, no_token, with_note}
 use Rattle.id_rule.specs.Plays.{popped_view, advanced_view, with_hand}
-use Rattle.sock_programs.specs.sock_message.specs.Asked.{Asked}
-use Rattle.sock_programs.specs.Asides.{Step, Found, ClaimId, PutCall, MakeId, StoreCall, LoadCall, StoreAt, LoadAt, LoadIdWord, LockId, PostId, UnlockId, EndId, FreeId, TakeCall, TakeBytes, Taking, Bytes}
-use Rattle.sock_programs.specs.Heads.{Retry}
-use Rattle.sock_programs.specs.Programs.{Program, Do, Say, Sent, Rest, TakeMessage, TakeHome, PutHome, PutBytes, AskReady, Write, Aside, Round, Keep, Retries}
-use Rattle.sock_programs.specs.Posts.{packed, advance_of}
-use Rattle.sock_programs.specs.Sends.{block}
-use Rattle.sock_programs.specs.Rounds.{round}
-use Rattle.sock_programs.specs.Cores.{Calls, Core, SeatState, word_of, found_at, words_after, word_after, homes_after, hand_after, lies_at, first_of, others_of, link_place, resolved, still_waiting, waiting_at, next_step, with_seat}
-use Rattle.sock_programs.specs.Beside.{found_in, calls_after}
-use Rattle.sock_programs.specs.Ticks.{Answer, Unasked, OfPut, OfReady, OfTake, Moment, fed, with_places, onto_first, taken, with_message, with_link, with_put, with_ready, with_found, step_with, tick_with, ticked}
-use Rattle.sock_programs.specs.Told.{AskedFits}
+use Rattle.seat_programs.specs.sock_message.specs.Asked.{Asked}
+use Rattle.seat_programs.specs.Asides.{Step, Found, ClaimId, PutCall, MakeId, StoreCall, LoadCall, StoreAt, LoadAt, LoadIdWord, LockId, PostId, UnlockId, EndId, FreeId, TakeCall, TakeBytes, Taking, Bytes}
+use Rattle.seat_programs.specs.Heads.{Retry}
+use Rattle.seat_programs.specs.Programs.{Program, Do, Say, Sent, Rest, TakeMessage, TakeHome, PutHome, PutBytes, AskReady, Write, Aside, Round, Keep, Retries}
+use Rattle.seat_programs.specs.Posts.{packed, advance_of}
+use Rattle.seat_programs.specs.Sends.{block}
+use Rattle.seat_programs.specs.Rounds.{round}
+use Rattle.seat_programs.specs.Cores.{Calls, Core, SeatState, word_of, found_at, words_after, word_after, homes_after, hand_after, lies_at, first_of, others_of, link_place, resolved, still_waiting, waiting_at, next_step, with_seat}
+use Rattle.seat_programs.specs.Beside.{found_in, calls_after}
+use Rattle.seat_programs.specs.Ticks.{Answer, Unasked, OfPut, OfReady, OfTake, Moment, fed, with_places, onto_first, taken, with_message, with_link, with_put, with_ready, with_found, step_with, tick_with, ticked}
+use Rattle.seat_programs.specs.Told.{AskedFits}
 use Rattle.id_runs.specs.Held.{CallFits, AtFits, StoredFit, IdView, id_state, by_token, made_by, unlocked_by, ended_by, locked_by, id_row, MayId}
 use Rattle.id_runs.specs.Goes.{IsFree, FitsRetryId, FindsId, IdGoesOn, HandFits, HomesFit, CodesFit, SoundIds, FitsFirst, IsFittingIds}
 use Rattle.id_runs.specs.Goes as goes
@@ -64,9 +64,9 @@ row_share q (MakeId i range) found c u = by_token_share (tokens_in i u) (made_by
     made_share (Locked f rg att d o s h) = refl
     made_share Leaving = refl
 row_share q (StoreCall o id) found c u = refl
-row_share q (LoadCall o) found c u = cond_share (eqb found 0) u u (Rattle.id_rule.specs.Lawful.with_kept (Rattle.id_rule.specs.Lawful.call_word q o) false found u) refl refl
+row_share q (LoadCall o) found c u = cond_share (eqb found 0) u u (Rattle.id_rule.specs.Lawful.with_kept (Rattle.id_rule.specs.Lawful.call_index q o) false found u) refl refl
 row_share q (StoreAt o w) found c u = refl
-row_share q (LoadAt o) found c u = cond_share (eqb found 0) u u (Rattle.id_rule.specs.Lawful.with_kept (Rattle.id_rule.specs.Lawful.at_word q o) false found u) refl refl
+row_share q (LoadAt o) found c u = cond_share (eqb found 0) u u (Rattle.id_rule.specs.Lawful.with_kept (Rattle.id_rule.specs.Lawful.at_index q o) false found u) refl refl
 row_share q (LoadIdWord i) found c u = refl
 row_share q (LockId i from) found c u = cond_share (eqb found from) u (locked_by i found c u) (with_note i (Saw found) u) refl refl
 row_share q (PostId i from e) found c u = cond_share (eqb found from) u (cond (eqb (parts from).state 1) (locked_by i found c u) (with_note i (Queued (parts found).first e) u)) (with_note i (Saw found) u)
@@ -200,43 +200,43 @@ module _ (p : Plan) (q : IdPlan) (narrow : q.slots ≤ 65536) (same : q.operatio
     -- a word below those of the calls changes none of them
     low_stored : (x w : ℕ) → x < 2 * q.slots → StoredFit q (record c.calls { words = set c.calls.words x w })
     low_stored x w low = (
-      (λ o inside. subst (λ n. n ≢ 0 → CallFits q n) (sym (get_or-set_other c.calls.words x (call_word q o) w 0 (λ e. omega (arith, low, e)))) (sound.called o inside)),
-      (λ o inside. subst (λ n. n ≢ 0 → AtFits q n) (sym (get_or-set_other c.calls.words x (at_word q o) w 0 (λ e. omega (arith, low, e)))) (sound.placed o inside)),
+      (λ o inside. subst (λ n. n ≢ 0 → CallFits q n) (sym (get_or-set_other c.calls.words x (call_index q o) w 0 (λ e. omega (arith, low, e)))) (sound.called o inside)),
+      (λ o inside. subst (λ n. n ≢ 0 → AtFits q n) (sym (get_or-set_other c.calls.words x (at_index q o) w 0 (λ e. omega (arith, low, e)))) (sound.placed o inside)),
     )
 
     sized : length c.calls.words ≡ all_words q
     sized = sound.rule.sized
 
-    call_stored : (o id : ℕ) → o < q.operations → CallFits q id → StoredFit q (record c.calls { words = set c.calls.words (call_word q o) id })
+    call_stored : (o id : ℕ) → o < q.operations → CallFits q id → StoredFit q (record c.calls { words = set c.calls.words (call_index q o) id })
     call_stored o id inside fits = (
       (λ o' inside'. dite (ℕ_discrete o' o)
-          (λ e. λ _. subst (CallFits q) (sym (ap (λ x. get_or (set c.calls.words (call_word q o) id) (call_word q x) 0) e ∙ get_or-set_same c.calls.words (call_word q o) id 0 (omega (arith, sized, inside)))) fits)
-          (λ ne. subst (λ n. n ≢ 0 → CallFits q n) (sym (get_or-set_other c.calls.words (call_word q o) (call_word q o') id 0 (λ e. ne (omega (arith, e))))) (sound.called o' inside'))),
-      (λ o' inside'. subst (λ n. n ≢ 0 → AtFits q n) (sym (get_or-set_other c.calls.words (call_word q o) (at_word q o') id 0 (λ e. omega (arith, e)))) (sound.placed o' inside')),
+          (λ e. λ _. subst (CallFits q) (sym (ap (λ x. get_or (set c.calls.words (call_index q o) id) (call_index q x) 0) e ∙ get_or-set_same c.calls.words (call_index q o) id 0 (omega (arith, sized, inside)))) fits)
+          (λ ne. subst (λ n. n ≢ 0 → CallFits q n) (sym (get_or-set_other c.calls.words (call_index q o) (call_index q o') id 0 (λ e. ne (omega (arith, e))))) (sound.called o' inside'))),
+      (λ o' inside'. subst (λ n. n ≢ 0 → AtFits q n) (sym (get_or-set_other c.calls.words (call_index q o) (at_index q o') id 0 (λ e. omega (arith, e)))) (sound.placed o' inside')),
     )
 
-    at_stored : (o w : ℕ) → o < q.operations → AtFits q w → StoredFit q (record c.calls { words = set c.calls.words (at_word q o) w })
+    at_stored : (o w : ℕ) → o < q.operations → AtFits q w → StoredFit q (record c.calls { words = set c.calls.words (at_index q o) w })
     at_stored o w inside fits = (
-      (λ o' inside'. subst (λ n. n ≢ 0 → CallFits q n) (sym (get_or-set_other c.calls.words (at_word q o) (call_word q o') w 0 (λ e. omega (arith, e)))) (sound.called o' inside')),
+      (λ o' inside'. subst (λ n. n ≢ 0 → CallFits q n) (sym (get_or-set_other c.calls.words (at_index q o) (call_index q o') w 0 (λ e. omega (arith, e)))) (sound.called o' inside')),
       (λ o' inside'. dite (ℕ_discrete o' o)
-          (λ e. λ _. subst (AtFits q) (sym (ap (λ x. get_or (set c.calls.words (at_word q o) w) (at_word q x) 0) e ∙ get_or-set_same c.calls.words (at_word q o) w 0 (omega (arith, sized, inside)))) fits)
-          (λ ne. subst (λ n. n ≢ 0 → AtFits q n) (sym (get_or-set_other c.calls.words (at_word q o) (at_word q o') w 0 (λ e. ne (omega (arith, e))))) (sound.placed o' inside'))),
+          (λ e. λ _. subst (AtFits q) (sym (ap (λ x. get_or (set c.calls.words (at_index q o) w) (at_index q x) 0) e ∙ get_or-set_same c.calls.words (at_index q o) w 0 (omega (arith, sized, inside)))) fits)
+          (λ ne. subst (λ n. n ≢ 0 → AtFits q n) (sym (get_or-set_other c.calls.words (at_index q o) (at_index q o') w 0 (λ e. ne (omega (arith, e))))) (sound.placed o' inside'))),
     )
 
     calls_stored : (step : Step) (found : Found step) → MayId p q u step → StoredFit q (calls_after step found c.calls)
-    calls_stored (ClaimId k) found may = low_stored (tag_word k) 1 (omega (arith, may))
+    calls_stored (ClaimId k) found may = low_stored (tag_index k) 1 (omega (arith, may))
     calls_stored (PutCall k b) found may = (sound.called, sound.placed)
-    calls_stored (MakeId k range) found may = let inside = may.0 in low_stored (id_word k) (packed (made_word (parts found).first range)) (omega (arith, inside))
-    calls_stored (StoreCall o id) found may = subst (λ (r : IdPlan). StoredFit q (record c.calls { words = set c.calls.words (call_word r o) id })) (sym sound.plan) (call_stored o id may.0 may.2)
+    calls_stored (MakeId k range) found may = let inside = may.0 in low_stored (id_index k) (packed (made_word (parts found).first range)) (omega (arith, inside))
+    calls_stored (StoreCall o id) found may = subst (λ (r : IdPlan). StoredFit q (record c.calls { words = set c.calls.words (call_index r o) id })) (sym sound.plan) (call_stored o id may.0 may.2)
     calls_stored (LoadCall o) found may = (sound.called, sound.placed)
-    calls_stored (StoreAt o w) found may = subst (λ (r : IdPlan). StoredFit q (record c.calls { words = set c.calls.words (at_word r o) w })) (sym sound.plan) (at_stored o w may.0 may.2)
+    calls_stored (StoreAt o w) found may = subst (λ (r : IdPlan). StoredFit q (record c.calls { words = set c.calls.words (at_index r o) w })) (sym sound.plan) (at_stored o w may.0 may.2)
     calls_stored (LoadAt o) found may = (sound.called, sound.placed)
     calls_stored (LoadIdWord k) found may = (sound.called, sound.placed)
-    calls_stored (LockId k from) found may = let inside = may.0 in low_stored (id_word k) (cond (eqb found from) (packed (posted_word (parts from) 0)) found) (omega (arith, inside))
-    calls_stored (PostId k from e) found may = let inside = may.0 in low_stored (id_word k) (cond (eqb found from) (packed (posted_word (parts from) e)) found) (omega (arith, inside))
-    calls_stored (UnlockId k from advance) found may = let inside = may.0 in low_stored (id_word k) (cond (eqb found from) (packed (unlocked_word (parts from) (advance_of advance))) found) (omega (arith, inside))
-    calls_stored (EndId k) found may = let inside = may.0 in low_stored (id_word k) (packed (free_word ((parts found).first + (parts found).range))) (omega (arith, inside))
-    calls_stored (FreeId k) found may = let inside = may.0 in low_stored (tag_word k) 0 (omega (arith, inside))
+    calls_stored (LockId k from) found may = let inside = may.0 in low_stored (id_index k) (cond (eqb found from) (packed (posted_word (parts from) 0)) found) (omega (arith, inside))
+    calls_stored (PostId k from e) found may = let inside = may.0 in low_stored (id_index k) (cond (eqb found from) (packed (posted_word (parts from) e)) found) (omega (arith, inside))
+    calls_stored (UnlockId k from advance) found may = let inside = may.0 in low_stored (id_index k) (cond (eqb found from) (packed (unlocked_word (parts from) (advance_of advance))) found) (omega (arith, inside))
+    calls_stored (EndId k) found may = let inside = may.0 in low_stored (id_index k) (packed (free_word ((parts found).first + (parts found).range))) (omega (arith, inside))
+    calls_stored (FreeId k) found may = let inside = may.0 in low_stored (tag_index k) 0 (omega (arith, inside))
     calls_stored (TakeCall k) found may = (sound.called, sound.placed)
     calls_stored (TakeBytes l room) (Bytes bytes) may = (sound.called, sound.placed)
     calls_stored (TakeBytes l room) _ may = (sound.called, sound.placed)

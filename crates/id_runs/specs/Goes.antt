@@ -3,31 +3,31 @@ use Rattle.std.specs.Prelude.{ℕ, ◌≡◌, ◌≢◌, ◌+◌, ◌<◌, ◌�
 use mathlib.Core.Option as core
 use lib.ListN.{get_elem?}
 use Rattle.sock_words.specs.declared.plain.Plan.{Plan}
-use Rattle.sock_programs.specs.sock_io.specs.declared.link.Put.{Put}
-use Rattle.sock_programs.specs.sock_io.specs.declared.link.Ready.{Ready}
-use Rattle.sock_programs.specs.sock_model.specs.declared.chain.Heading.{Heading}
+use Rattle.seat_programs.specs.sock_io.specs.declared.link.Put.{Put}
+use Rattle.seat_programs.specs.sock_io.specs.declared.link.Ready.{Ready}
+use Rattle.seat_programs.specs.sock_model.specs.declared.chain.Heading.{Heading}
 use Rattle.corr_core.specs.Word.{Parts, parts}
 use Rattle.corr_core.specs.declared.marks.Plan.{Plan as IdPlan}
 use Rattle.corr_core.specs.declared.marks.Hand.TheVariants.{Empty, Full}
 use Rattle.corr_core.specs.declared.marks.Token.TheVariants.{Locked}
-use Rattle.id_rule.specs.Lawful.{Lawful, call_word, at_word}
+use Rattle.id_rule.specs.Lawful.{Lawful, call_index, at_index}
 use Rattle.id_rule.specs.Plays.{Longer}
-use Rattle.sock_programs.specs.sock_message.specs.Asked.{Asked}
-use Rattle.sock_programs.specs.Calls.{Call, FindLink, LoadCode, StoreCode, PutMessage}
-use Rattle.sock_programs.specs.Writings.{Writing, Puts, Waits}
-use Rattle.sock_programs.specs.Asides.{Step, LoadCall, LoadAt, MakeId, LoadIdWord, LockId, PostId, UnlockId, TakeCall, Found, id_slot}
-use Rattle.sock_programs.specs.Heads.{Head, Exit, Retry, Posts, Unlocks, Decides, Locks, Joins, Opens, Reads, Discards, Posting, HasLocked, Unlocking, IsOpen, HasNext, Locking, NotThere, Has, Ended}
-use Rattle.sock_programs.specs.Programs.{Program, Do, Say, Sent, Rest, TakeMessage, TakeHome, PutHome, PutBytes, AskReady, Write, Aside, Round, Keep, Retries}
-use Rattle.sock_programs.specs.Posts.{advance_of}
+use Rattle.seat_programs.specs.sock_message.specs.Asked.{Asked}
+use Rattle.seat_programs.specs.Calls.{Call, FindLink, LoadCode, StoreCode, PutMessage}
+use Rattle.seat_programs.specs.Writings.{Writing, Puts, Waits}
+use Rattle.seat_programs.specs.Asides.{Step, LoadCall, LoadAt, MakeId, LoadIdWord, LockId, PostId, UnlockId, TakeCall, Found, id_slot}
+use Rattle.seat_programs.specs.Heads.{Head, Exit, Retry, Posts, Unlocks, Decides, Locks, Joins, Opens, Reads, Discards, Posting, HasLocked, Unlocking, IsOpen, HasNext, Locking, NotThere, Has, Ended}
+use Rattle.seat_programs.specs.Programs.{Program, Do, Say, Sent, Rest, TakeMessage, TakeHome, PutHome, PutBytes, AskReady, Write, Aside, Round, Keep, Retries}
+use Rattle.seat_programs.specs.Posts.{advance_of}
 use Rattle.std.specs.List.{AllByRecursion}
-use Rattle.sock_programs.specs.Cores.{Core, SeatState, word_of, found_at, waiting_at}
-use Rattle.sock_programs.specs.Sends.{block}
-use Rattle.sock_programs.specs.Rounds.{round}
-use Rattle.sock_programs.specs.Ticks.{Moment}
-use Rattle.sock_programs.specs.sock_model.specs.declared.home.Home.{Home}
-use Rattle.sock_programs.specs.sock_model.specs.declared.home.Home.TheVariants.{Message}
-use Rattle.sock_programs.specs.sock_model.specs.Layout.{code_word}
-use Rattle.sock_programs.specs.Told.{AskedFits}
+use Rattle.seat_programs.specs.Cores.{Core, SeatState, word_of, found_at, waiting_at}
+use Rattle.seat_programs.specs.Sends.{block}
+use Rattle.seat_programs.specs.Rounds.{round}
+use Rattle.seat_programs.specs.Ticks.{Moment}
+use Rattle.seat_programs.specs.sock_model.specs.declared.home.Home.{Home}
+use Rattle.seat_programs.specs.sock_model.specs.declared.home.Home.TheVariants.{Message}
+use Rattle.seat_programs.specs.sock_model.specs.Layout.{code_index}
+use Rattle.seat_programs.specs.Told.{AskedFits}
 use Rattle.id_runs.specs.Held.{IdView, id_state, one, HasOne, CallFits, AtFits, MayId, id_row}
 
 -- ## What the table of the sockets says
@@ -54,7 +54,7 @@ HomesFit q homes = (i : ℕ) (x : Home) → get_elem? homes i ≡ core.some (cor
 
 -- each life's code is an error's
 abbrev pub CodesFit : Plan → List ℕ → Type 0
-CodesFit p words = (i : ℕ) → i < p.slots → slice_index words (code_word i) < 4096
+CodesFit p words = (i : ℕ) → i < p.slots → slice_index words (code_index i) < 4096
 
 abbrev pub FitsWriting : IdPlan → Writing → Type 0
 FitsWriting q (Puts h now heading left taken asked) = FitsOwner q heading
@@ -196,8 +196,8 @@ pub record SoundIds (p : Plan) (q : IdPlan) (c : Core) (us : List IdView) : Type
   -- a call at home is one of the script
   pub homes : (i : ℕ) (asked : Asked) → get_elem? c.calls.homes i ≡ core.some (core.some (Some asked)) → AskedFits p asked
   -- a word of a call that was stored names an id of the table, and so does an at word
-  pub called : (o : ℕ) → o < q.operations → slice_index c.calls.words (call_word q o) ≢ 0 → CallFits q (slice_index c.calls.words (call_word q o))
-  pub placed : (o : ℕ) → o < q.operations → slice_index c.calls.words (at_word q o) ≢ 0 → AtFits q (slice_index c.calls.words (at_word q o))
+  pub called : (o : ℕ) → o < q.operations → slice_index c.calls.words (call_index q o) ≢ 0 → CallFits q (slice_index c.calls.words (call_index q o))
+  pub placed : (o : ℕ) → o < q.operations → slice_index c.calls.words (at_index q o) ≢ 0 → AtFits q (slice_index c.calls.words (at_index q o))
   -- the messages at home and in hand are those of ids of the table, and the codes are those of errors
   pub owners : HomesFit q c.homes
   pub in_hand : (i : ℕ) (seat : SeatState) → get_elem? c.seats i ≡ core.some seat → HandFits q seat.hand

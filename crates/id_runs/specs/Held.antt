@@ -11,14 +11,14 @@ use Rattle.corr_core.specs.declared.marks.Token.TheVariants.{Claimed, Locked, Le
 use Rattle.corr_core.specs.declared.marks.Note.TheVariants.{Made, Queued, Saw}
 use Rattle.corr_core.specs.declared.marks.Held.{Held}
 use Rattle.corr_core.specs.declared.marks.View.{View}
-use Rattle.id_rule.specs.Lawful.{call_word, at_word, tokens_in, with_token, no_token, with_note, with_kept}
+use Rattle.id_rule.specs.Lawful.{call_index, at_index, tokens_in, with_token, no_token, with_note, with_kept}
 use Rattle.id_rule.specs.Plays.{hand_of, with_hand, claimed_view, locked_view, popped_view, advanced_view, ended_view, found_view, Longer}
-use Rattle.sock_programs.specs.sock_message.specs.Asked.{Asked}
+use Rattle.seat_programs.specs.sock_message.specs.Asked.{Asked}
 use Rattle.sock_words.specs.Words.{at_word_slot, at_word_first}
-use Rattle.sock_programs.specs.Asides.{call_id, id_slot, Step, ClaimId, PutCall, MakeId, StoreCall, LoadCall, StoreAt, LoadAt, LoadIdWord, LockId, PostId, UnlockId, EndId, FreeId, TakeCall, TakeBytes, Found}
-use Rattle.sock_programs.specs.Posts.{advance_of}
-use Rattle.sock_programs.specs.Cores.{Calls}
-use Rattle.sock_programs.specs.Told.{AskedFits}
+use Rattle.seat_programs.specs.Asides.{call_id, id_slot, Step, ClaimId, PutCall, MakeId, StoreCall, LoadCall, StoreAt, LoadAt, LoadIdWord, LockId, PostId, UnlockId, EndId, FreeId, TakeCall, TakeBytes, Found}
+use Rattle.seat_programs.specs.Posts.{advance_of}
+use Rattle.seat_programs.specs.Cores.{Calls}
+use Rattle.seat_programs.specs.Told.{AskedFits}
 
 -- a seat's view of the ids
 abbrev pub IdView : Type 0
@@ -60,10 +60,10 @@ abbrev pub id_row : IdPlan → (step : Step) → Found step → Asked → IdView
 id_row q (ClaimId i) found c u = claimed_view i found u
 id_row q (PutCall i asked) found c u = by_token (tokens_in i u) (λ t. with_token i (with_hand t (Full asked)) u) u
 id_row q (MakeId i range) found c u = by_token (tokens_in i u) (made_by i range found u) u
-id_row q (StoreCall o id) found c u = with_kept (call_word q o) true id u
-id_row q (LoadCall o) found c u = found_view (call_word q o) found u
-id_row q (StoreAt o w) found c u = with_kept (at_word q o) true w u
-id_row q (LoadAt o) found c u = found_view (at_word q o) found u
+id_row q (StoreCall o id) found c u = with_kept (call_index q o) true id u
+id_row q (LoadCall o) found c u = found_view (call_index q o) found u
+id_row q (StoreAt o w) found c u = with_kept (at_index q o) true w u
+id_row q (LoadAt o) found c u = found_view (at_index q o) found u
 id_row q (LoadIdWord i) found c u = with_note i (Saw found) u
 id_row q (LockId i from) found c u = if found == from then locked_by i found c u else with_note i (Saw found) u
 id_row q (PostId i from e) found c u = if found == from then (if (parts from).state == 1 then locked_by i found c u else with_note i (Queued (parts found).first e) u) else with_note i (Saw found) u
@@ -112,5 +112,5 @@ MayId p q u (TakeBytes k room) = Unit {0}
 
 -- the words of calls and the at words that were stored
 abbrev pub StoredFit : IdPlan → Calls → Type 0
-StoredFit q a = ((o : ℕ) → o < q.operations → slice_index a.words (call_word q o) ≢ 0 → CallFits q (slice_index a.words (call_word q o)))
-    × ((o : ℕ) → o < q.operations → slice_index a.words (at_word q o) ≢ 0 → AtFits q (slice_index a.words (at_word q o)))
+StoredFit q a = ((o : ℕ) → o < q.operations → slice_index a.words (call_index q o) ≢ 0 → CallFits q (slice_index a.words (call_index q o)))
+    × ((o : ℕ) → o < q.operations → slice_index a.words (at_index q o) ≢ 0 → AtFits q (slice_index a.words (at_index q o)))

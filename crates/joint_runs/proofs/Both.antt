@@ -2,18 +2,18 @@
 use Rattle.std.proofs.Common.{ℕ, ◌≡◌, ◌<◌, ◌≤◌, List, [], ◌∷◌}
 use Rattle.sock_words.specs.declared.plain.Plan.{Plan}
 use Rattle.sock_model.specs.declared.view.View.{View}
-use Rattle.client_laws.specs.corr_core.specs.declared.marks.Plan.{Plan as IdPlan}
-use Rattle.client_laws.specs.sock_programs.specs.Cores.{Core}
-use Rattle.client_laws.specs.sock_programs.specs.Ticks.{Moment, IsAnswered, AreAnswered, IsPrompt, ticked, run}
-use Rattle.client_laws.specs.sock_runs.specs.Sound.{Sound, IsFitting, AreFitting, views_after, views_along}
-use Rattle.client_laws.specs.sock_runs.specs.Lasts.{IsCounted, AreCounted, MOST_PAID}
-use Rattle.client_laws.specs.sock_runs.proofs.Bounded.{IsBounded, bounded_ticks}
+use Rattle.programs_allowed.specs.corr_core.specs.declared.marks.Plan.{Plan as IdPlan}
+use Rattle.programs_allowed.specs.seat_programs.specs.Cores.{Core}
+use Rattle.programs_allowed.specs.seat_programs.specs.Ticks.{Moment, IsAnswered, AreAnswered, IsAlwaysReady, ticked, run}
+use Rattle.programs_allowed.specs.sock_runs.specs.Sound.{Sound, IsFitting, AreFitting, views_after, views_along}
+use Rattle.programs_allowed.specs.sock_runs.specs.Lasts.{IsCounted, AreCounted, MOST_PAID}
+use Rattle.programs_allowed.specs.sock_runs.proofs.Bounded.{IsBounded, bounded_ticks}
 use Rattle.std.specs.List.{AllByRecursion}
-use Rattle.client_laws.specs.sock_runs.proofs.Ticks.{sound_ticks}
-use Rattle.client_laws.proofs.Retrying.{retries_go}
-use Rattle.client_laws.specs.id_runs.specs.Held.{IdView}
-use Rattle.client_laws.specs.id_runs.specs.Goes.{SoundIds, IsFittingIds}
-use Rattle.client_laws.specs.id_runs.proofs.Ticks.{ids_ticks}
+use Rattle.programs_allowed.specs.sock_runs.proofs.Ticks.{sound_ticks}
+use Rattle.programs_allowed.proofs.Retrying.{retries_go}
+use Rattle.programs_allowed.specs.id_runs.specs.Held.{IdView}
+use Rattle.programs_allowed.specs.id_runs.specs.Goes.{SoundIds, IsFittingIds}
+use Rattle.programs_allowed.specs.id_runs.proofs.Ticks.{ids_ticks}
 use Rattle.joint_runs.proofs.Joint.{is_fitting, is_counted, is_fitting_ids}
 
 -- the table of the sockets is sound with these views, and that of the ids with some
@@ -72,11 +72,11 @@ module _ (p : Plan) (q : IdPlan) where
   are_counted c vs (m ∷ moments) are = (are.1.counted, are_counted (ticked p c m) (views_after p c vs m) moments are.2)
 
   -- where each link is prompt, no tick leaves more
-  pub bounded_along : (most : ℕ) → most < MOST_PAID → (c : Core) (vs : List View) (moments : List Moment) → AreBoth p q c vs moments → AreAnswered p c moments → AllByRecursion IsPrompt moments → IsBounded p most c vs → AreBounded p most c vs moments
-  bounded_along most small c vs [] are answered prompt b = b
-  bounded_along most small c vs (m ∷ moments) are answered prompt b = let sockets = are.0.sockets in let limits = sockets.limits in (
+  pub bounded_along : (most : ℕ) → most < MOST_PAID → (c : Core) (vs : List View) (moments : List Moment) → AreBoth p q c vs moments → AreAnswered p c moments → AllByRecursion IsAlwaysReady moments → IsBounded p most c vs → AreBounded p most c vs moments
+  bounded_along most small c vs [] are answered always_ready b = b
+  bounded_along most small c vs (m ∷ moments) are answered always_ready b = let sockets = are.0.sockets in let limits = sockets.limits in (
     b,
-    bounded_along most small (ticked p c m) (views_after p c vs m) moments are.2 answered.1 prompt.1 (bounded_ticks p (retries_go p limits.requests) c vs m are.0.sockets answered.0 prompt.0 are.1.fitting are.1.counted most small b),
+    bounded_along most small (ticked p c m) (views_after p c vs m) moments are.2 answered.1 always_ready.1 (bounded_ticks p (retries_go p limits.requests) c vs m are.0.sockets answered.0 always_ready.0 are.1.fitting are.1.counted most small b),
   )
 
   pub behind_bounded : (most : ℕ) (c : Core) (vs : List View) (moments : List Moment) → AreBounded p most c vs moments → IsBounded p most (run p c moments) (views_along p c vs moments)

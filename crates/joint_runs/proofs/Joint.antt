@@ -4,30 +4,30 @@ use mathlib.Core.Option.{Option, none, some}
 use lib.ListN.{get_elem?}
 use Rattle.sock_words.specs.declared.plain.Plan.{Plan}
 use Rattle.sock_model.specs.declared.view.View.{View}
-use Rattle.client_laws.specs.corr_core.specs.declared.marks.Plan.{Plan as IdPlan}
-use Rattle.client_laws.specs.sock_programs.specs.Asides.{Step, Found, ClaimId, PutCall, MakeId, StoreCall, LoadCall, StoreAt, LoadAt, LoadIdWord, LockId, PostId, UnlockId, EndId, FreeId, TakeCall, TakeBytes}
-use Rattle.client_laws.specs.sock_programs.specs.Calls.{Call, FindLink, LoadCode}
-use Rattle.client_laws.specs.sock_programs.specs.Programs.{Program, Do, Say, Sent, Rest, TakeMessage, TakeHome, PutHome, PutBytes, AskReady, Write, Aside, Round, Keep, Retries}
-use Rattle.client_laws.specs.sock_programs.specs.Cores.{Core, word_of, found_at}
-use Rattle.client_laws.specs.sock_programs.specs.Beside.{found_in, call_at, at_last}
-use Rattle.client_laws.specs.sock_programs.specs.Sends.{block}
-use Rattle.client_laws.specs.sock_programs.specs.Rounds.{round}
-use Rattle.client_laws.specs.sock_programs.specs.Ticks.{Answer, Moment, IsAnswer, IsAnswered, taken}
-use Rattle.client_laws.specs.sock_runs.specs.Fits.{FitsFound}
-use Rattle.client_laws.specs.sock_runs.specs.May.{May}
-use Rattle.client_laws.specs.sock_runs.specs.GoesOn.{GoesOn}
-use Rattle.client_laws.specs.sock_runs.specs.Sound.{state, Sound, FitsBeside, IsFitting, first_step}
-use Rattle.client_laws.specs.sock_runs.specs.Lasts.{IsSlot, IsCountedStep, IsCountedAt, IsCounted}
-use Rattle.client_laws.specs.sock_runs.proofs.Cases as cases
-use Rattle.client_laws.specs.sock_runs.proofs.Founds.{finds}
-use Rattle.client_laws.specs.sock_runs.proofs.Rounds.{begins_round}
-use Rattle.client_laws.specs.sock_runs.proofs.Passes.{goes_round}
-use Rattle.client_laws.specs.id_runs.specs.Held.{IdView, MayId}
-use Rattle.client_laws.specs.id_runs.specs.Goes.{FindsId, IdGoesOn, SoundIds, FitsSock, FitsFirst, IsFittingIds}
-use Rattle.client_laws.specs.id_runs.specs.Goes as goes
-use Rattle.client_laws.specs.id_runs.proofs.Steps.{finds_ids, call_there}
-use Rattle.client_laws.specs.id_runs.proofs.Loops.{ids_round}
-use Rattle.client_laws.specs.id_runs.proofs.Programs.{block_goes}
+use Rattle.programs_allowed.specs.corr_core.specs.declared.marks.Plan.{Plan as IdPlan}
+use Rattle.programs_allowed.specs.seat_programs.specs.Asides.{Step, Found, ClaimId, PutCall, MakeId, StoreCall, LoadCall, StoreAt, LoadAt, LoadIdWord, LockId, PostId, UnlockId, EndId, FreeId, TakeCall, TakeBytes}
+use Rattle.programs_allowed.specs.seat_programs.specs.Calls.{Call, FindLink, LoadCode}
+use Rattle.programs_allowed.specs.seat_programs.specs.Programs.{Program, Do, Say, Sent, Rest, TakeMessage, TakeHome, PutHome, PutBytes, AskReady, Write, Aside, Round, Keep, Retries}
+use Rattle.programs_allowed.specs.seat_programs.specs.Cores.{Core, word_of, found_at}
+use Rattle.programs_allowed.specs.seat_programs.specs.Beside.{found_in, call_at, at_last}
+use Rattle.programs_allowed.specs.seat_programs.specs.Sends.{block}
+use Rattle.programs_allowed.specs.seat_programs.specs.Rounds.{round}
+use Rattle.programs_allowed.specs.seat_programs.specs.Ticks.{Answer, Moment, IsAnswer, IsAnswered, taken}
+use Rattle.programs_allowed.specs.sock_runs.specs.Fits.{FitsFound}
+use Rattle.programs_allowed.specs.sock_runs.specs.May.{May}
+use Rattle.programs_allowed.specs.sock_runs.specs.GoesOn.{GoesOn}
+use Rattle.programs_allowed.specs.sock_runs.specs.Sound.{state, Sound, FitsBeside, IsFitting, first_step}
+use Rattle.programs_allowed.specs.sock_runs.specs.Lasts.{IsSlot, IsCountedStep, IsCountedAt, IsCounted}
+use Rattle.programs_allowed.specs.sock_runs.proofs.Cases as cases
+use Rattle.programs_allowed.specs.sock_runs.proofs.Founds.{finds}
+use Rattle.programs_allowed.specs.sock_runs.proofs.Rounds.{begins_round}
+use Rattle.programs_allowed.specs.sock_runs.proofs.Passes.{goes_round}
+use Rattle.programs_allowed.specs.id_runs.specs.Held.{IdView, MayId}
+use Rattle.programs_allowed.specs.id_runs.specs.Goes.{FindsId, IdGoesOn, SoundIds, FitsSock, FitsFirst, IsFittingIds}
+use Rattle.programs_allowed.specs.id_runs.specs.Goes as goes
+use Rattle.programs_allowed.specs.id_runs.proofs.Steps.{finds_ids, call_there}
+use Rattle.programs_allowed.specs.id_runs.proofs.Loops.{ids_round}
+use Rattle.programs_allowed.specs.id_runs.proofs.Programs.{block_goes}
 
 -- what a step may find by the rule of the ids fits
 fits_found : (p : Plan) (q : IdPlan) (u : IdView) (step : Step) (found : Found step) → MayId p q u step → FindsId p q u step found → FitsFound p step found

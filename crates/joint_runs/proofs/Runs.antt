@@ -2,24 +2,24 @@
 use Rattle.std.proofs.Common.{ℕ, zero, suc, ◌+◌, ◌*◌, ◌<◌, List, [], ◌∷◌, ◌++◌, length, replicate, sym, subst, arith}
 use Rattle.std.specs.List.{AllByRecursion}
 use Rattle.sock_model.specs.declared.view.View.{View}
-use Rattle.client_laws.specs.brpc_model.specs.Items.{Item}
-use Rattle.client_laws.specs.brpc_model.specs.Operations.{Turn}
-use Rattle.client_laws.specs.sock_programs.specs.Tasks.{opens, calls, plan_of, id_plan_of}
-use Rattle.client_laws.specs.sock_programs.specs.Cores.{Core}
-use Rattle.client_laws.specs.sock_programs.specs.Ticks.{Moment, AreAnswered, IsPrompt, quiet, run}
-use Rattle.client_laws.specs.sock_programs.specs.Runs.{IsAtRest}
-use Rattle.client_laws.specs.sock_programs.specs.Scripts.{sizes_of, programs, readers_from, all_programs, all_tasks, opened, set_up, played, IsRunWithCalls}
-use Rattle.client_laws.specs.sock_runs.specs.Sound.{IsAhead, views_along}
-use Rattle.client_laws.specs.sock_runs.proofs.Along.{run_ahead, beginning_ahead}
-use Rattle.client_laws.specs.sock_runs.proofs.Unasked.{quiet_answered}
-use Rattle.client_laws.specs.sock_runs.proofs.Quiets.{run_rests}
-use Rattle.client_laws.specs.sock_runs.proofs.Whole.{closing_of, views_played, views_closed, views_ended, AreFittingIn, Begins}
-use Rattle.client_laws.specs.Openings.{opening_views, all_seats}
-use Rattle.client_laws.proofs.Fresh.{opening_blank}
-use Rattle.client_laws.proofs.Opens.{ending_sound}
-use Rattle.client_laws.specs.sock_runs.specs.Lasts.{MOST_TICKS, MOST_PAID}
-use Rattle.client_laws.specs.sock_runs.proofs.Bounded.{IsBounded}
-use Rattle.client_laws.proofs.Lasting.{ending_bounded, told_bounded}
+use Rattle.programs_allowed.specs.brpc_model.specs.Items.{Item}
+use Rattle.programs_allowed.specs.brpc_model.specs.Operations.{Turn}
+use Rattle.programs_allowed.specs.seat_programs.specs.Tasks.{opens, calls, plan_of, id_plan_of}
+use Rattle.programs_allowed.specs.seat_programs.specs.Cores.{Core}
+use Rattle.programs_allowed.specs.seat_programs.specs.Ticks.{Moment, AreAnswered, IsAlwaysReady, quiet, run}
+use Rattle.programs_allowed.specs.seat_programs.specs.Runs.{IsAtRest}
+use Rattle.programs_allowed.specs.seat_programs.specs.Scripts.{sizes_of, programs, readers_from, all_programs, all_tasks, opened, set_up, played, IsRunWithCalls}
+use Rattle.programs_allowed.specs.sock_runs.specs.Sound.{IsAhead, views_along}
+use Rattle.programs_allowed.specs.sock_runs.proofs.Along.{run_ahead, beginning_ahead}
+use Rattle.programs_allowed.specs.sock_runs.proofs.Unasked.{quiet_answered}
+use Rattle.programs_allowed.specs.sock_runs.proofs.Quiets.{run_rests}
+use Rattle.programs_allowed.specs.sock_runs.proofs.Whole.{closing_of, views_played, views_closed, views_ended, AreFittingIn, Begins}
+use Rattle.programs_allowed.specs.Openings.{opening_views, all_seats}
+use Rattle.programs_allowed.proofs.Fresh.{opening_blank}
+use Rattle.programs_allowed.proofs.Opens.{ending_sound}
+use Rattle.programs_allowed.specs.sock_runs.specs.Lasts.{MOST_TICKS, MOST_PAID}
+use Rattle.programs_allowed.specs.sock_runs.proofs.Bounded.{IsBounded}
+use Rattle.programs_allowed.proofs.Lasting.{ending_bounded, told_bounded}
 use Rattle.joint_runs.proofs.Both.{BothSound, AreBoth, AreBounded, joint_along, behind_both, bounded_along, behind_bounded, are_fitting}
 use Rattle.joint_runs.proofs.Starts.{AreFor, narrow, opens_both, opens_bounded, ending_both, told_both}
 
@@ -119,12 +119,12 @@ module _ (script : List Item) (turns : List Turn) (end_ : Core) (r : IsRunWithCa
 
   module _ (made : AreMade script) (s : IsSoundRun) where
     -- the ticks of the setup and of the ending ask no link
-    quiet_prompt : (n : ℕ) → AllByRecursion IsPrompt (replicate n (quiet 0))
+    quiet_prompt : (n : ℕ) → AllByRecursion IsAlwaysReady (replicate n (quiet 0))
     quiet_prompt zero = tt
     quiet_prompt (suc n) = ((λ e. absurd (cc)), quiet_prompt n)
 
-    prompt_parts : AllByRecursion IsPrompt (r.scheduled ++ r.later) × AllByRecursion IsPrompt r.final
-    prompt_parts = halves IsPrompt (r.scheduled ++ r.later) r.final r.prompt
+    prompt_parts : AllByRecursion IsAlwaysReady (r.scheduled ++ r.later) × AllByRecursion IsAlwaysReady r.final
+    prompt_parts = halves IsAlwaysReady (r.scheduled ++ r.later) r.final r.always_ready
 
     small : MOST_TICKS + 20 * length (opens script) < MOST_PAID
     small = let few = made.few_opens in omega (arith, few)

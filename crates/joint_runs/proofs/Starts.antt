@@ -5,24 +5,24 @@ use Rattle.sock_words.specs.declared.plain.Plan.{Plan}
 use Rattle.sock_model.specs.declared.home.Home.TheVariants.{Empty, Link, Message}
 use Rattle.sock_model.specs.declared.view.View.{View}
 use Rattle.sock_model.specs.Lawful.{PlanFits}
-use Rattle.client_laws.specs.corr_core.specs.declared.marks.Plan.{Plan as IdPlan}
-use Rattle.client_laws.specs.sock_programs.specs.declared.task.Task.{Task}
-use Rattle.client_laws.specs.sock_programs.specs.Programs.{Program}
-use Rattle.client_laws.specs.sock_programs.specs.Clients.{ending_of}
-use Rattle.client_laws.specs.sock_programs.specs.Cores.{Core, with_seat}
-use Rattle.client_laws.specs.sock_programs.specs.Runs.{IsAtRest}
-use Rattle.client_laws.specs.sock_programs.specs.Scripts.{opening_words, opening_homes, sizes_of, programs, readers_from, all_programs, is_ending}
-use Rattle.client_laws.specs.sock_programs.specs.Told.{AreTasks}
-use Rattle.client_laws.specs.sock_runs.specs.Sound.{IsWithinLimits, IsAhead}
-use Rattle.client_laws.specs.sock_runs.proofs.Along.{seat_rests}
-use Rattle.client_laws.specs.Openings.{opening_views, all_seats}
-use Rattle.client_laws.proofs.Beginning.{unused, no_message}
-use Rattle.client_laws.specs.sock_runs.specs.Lasts.{MOST_TICKS}
-use Rattle.client_laws.specs.sock_runs.proofs.Bounded.{IsBounded}
-use Rattle.client_laws.proofs.Lasting.{length_all, length_seats, opening_bounded}
-use Rattle.client_laws.proofs.Opens.{begun_core, opens_sound, ending_sound, told_sound}
-use Rattle.client_laws.specs.id_runs.specs.Goes.{HomesFit, CodesFit}
-use Rattle.client_laws.specs.id_runs.proofs.Opening.{all_go, begins_ids, first_views, ending_ids, told_ids}
+use Rattle.programs_allowed.specs.corr_core.specs.declared.marks.Plan.{Plan as IdPlan}
+use Rattle.programs_allowed.specs.seat_programs.specs.declared.task.Task.{Task}
+use Rattle.programs_allowed.specs.seat_programs.specs.Programs.{Program}
+use Rattle.programs_allowed.specs.seat_programs.specs.Clients.{ending_of}
+use Rattle.programs_allowed.specs.seat_programs.specs.Cores.{Core, with_seat}
+use Rattle.programs_allowed.specs.seat_programs.specs.Runs.{IsAtRest}
+use Rattle.programs_allowed.specs.seat_programs.specs.Scripts.{opening_words, opening_homes, sizes_of, programs, readers_from, all_programs, is_ending}
+use Rattle.programs_allowed.specs.seat_programs.specs.Told.{AreTasks}
+use Rattle.programs_allowed.specs.sock_runs.specs.Sound.{IsWithinLimits, IsAhead}
+use Rattle.programs_allowed.specs.sock_runs.proofs.Along.{seat_rests}
+use Rattle.programs_allowed.specs.Openings.{opening_views, all_seats}
+use Rattle.programs_allowed.proofs.Beginning.{unused, no_message}
+use Rattle.programs_allowed.specs.sock_runs.specs.Lasts.{MOST_TICKS}
+use Rattle.programs_allowed.specs.sock_runs.proofs.Bounded.{IsBounded}
+use Rattle.programs_allowed.proofs.Lasting.{length_all, length_seats, opening_bounded}
+use Rattle.programs_allowed.proofs.Opens.{begun_core, opens_sound, ending_sound, told_sound}
+use Rattle.programs_allowed.specs.id_runs.specs.Goes.{HomesFit, CodesFit}
+use Rattle.programs_allowed.specs.id_runs.proofs.Opening.{all_go, begins_ids, first_views, ending_ids, told_ids}
 use Rattle.joint_runs.proofs.Both.{BothSound}
 
 -- the two tables are made for these clients, calls and `open` operations

@@ -1,6 +1,6 @@
-pub use Rattle.client_laws.specs.chain_laws
-pub use Rattle.client_laws
-pub use Rattle.client_laws.specs.id_runs
-pub use Rattle.client_laws.specs.slot_laws
-pub use Rattle.client_laws.specs.sock_runs
-pub use Rattle.client_laws.specs.sock_steps
+pub use Rattle.programs_allowed.specs.chain_steps
+pub use Rattle.programs_allowed
+pub use Rattle.programs_allowed.specs.id_runs
+pub use Rattle.programs_allowed.specs.slot_steps
+pub use Rattle.programs_allowed.specs.sock_runs
+pub use Rattle.programs_allowed.specs.sock_steps

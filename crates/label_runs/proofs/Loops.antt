@@ -5,13 +5,13 @@ use Rattle.brpc_model.specs.Stream as streams
 use Rattle.corr_core.specs.Word.{Parts, parts, locked_word, posted_word, unlocked_word, code_of}
 use Rattle.corr_core.specs.Law.{LAST}
 use Rattle.id_runs.proofs.Keeps.{parts_packed}
-use Rattle.sock_programs.specs.sock_message.specs.Asked.{Asked}
-use Rattle.sock_programs.specs.Asides.{FreeId, Taking, Bytes, Nothing, NoMore, AtEnd, Closed, Broken, PutCall, id_slot, id_first, call_id}
-use Rattle.sock_programs.specs.Heads.{Head, Exit, Sought, First, Version, Reading, Posts, Unlocks, Decides, Locks, Joins, Opens, Reads, Discards, Retry, Posting, WasGone, WasStale, WasCrowded, WasQueued, HasLocked, Unlocking, IsOpen, HasNext, Deciding, HasEnded, GoesOn, Locking, NotThere, Has, Ended}
-use Rattle.sock_programs.specs.Posts.{packed, advance_of, is_first, is_sought, is_stale, is_full, judged, posted, post_with, post, popped, end_id, ends_call, decide, decided, unlocked, locking}
-use Rattle.sock_programs.specs.Programs.{Program, Say, Aside, Round}
-use Rattle.sock_programs.specs.Readers.{answer, answered, responses, read_on, took, discarded, last_of, slot_in, version_in, has_response, ending_of, is_early, ended_by as how_ended, LIMIT}
-use Rattle.sock_programs.specs.Rounds.{round}
+use Rattle.seat_programs.specs.sock_message.specs.Asked.{Asked}
+use Rattle.seat_programs.specs.Asides.{FreeId, Taking, Bytes, Nothing, NoMore, AtEnd, Closed, Broken, PutCall, id_slot, id_first, call_id}
+use Rattle.seat_programs.specs.Heads.{Head, Exit, Sought, First, Version, Reading, Posts, Unlocks, Decides, Locks, Joins, Opens, Reads, Discards, Retry, Posting, WasGone, WasStale, WasCrowded, WasQueued, HasLocked, Unlocking, IsOpen, HasNext, Deciding, HasEnded, GoesOn, Locking, NotThere, Has, Ended}
+use Rattle.seat_programs.specs.Posts.{packed, advance_of, is_first, is_sought, is_stale, is_full, judged, posted, post_with, post, popped, end_id, ends_call, decide, decided, unlocked, locking}
+use Rattle.seat_programs.specs.Programs.{Program, Say, Aside, Round}
+use Rattle.seat_programs.specs.Readers.{answer, answered, responses, read_on, took, discarded, last_of, slot_in, version_in, has_response, ending_of, is_early, ended_by as how_ended, LIMIT}
+use Rattle.seat_programs.specs.Rounds.{round}
 use Rattle.label_runs.specs.Labels.{Trial, Idle, Tries, Labels, FindsLabel, LeavesLabel, unlocks_trial, unlocked_trial}
 
 -- ## Numbers
@@ -145,7 +145,7 @@ module _ (is_call : Asked → Type 0) where
     unlocks_goes : Labels is_call t (round (Unlocks i from advance) k)
     unlocks_goes = λ found f. by found f (eqb found from) refl
       where
-        by : (found : ℕ) → FindsLabel is_call (Rattle.sock_programs.specs.Asides.UnlockId i from advance) found → (b : Bool) → eqb found from ≡ b
+        by : (found : ℕ) → FindsLabel is_call (Rattle.seat_programs.specs.Asides.UnlockId i from advance) found → (b : Bool) → eqb found from ≡ b
             → (u : Trial) × (u ≡ unlocked_trial i from advance found t) × Labels is_call u (cond b (popped i (parts from).oldest after k) (Round (Unlocks i found advance) k))
         by found f true hit = (unlocks_trial i from advance t, hit_is advance found hit, pops f.1)
         by found f false miss = let same = f.2 (not_equal found from miss) in (

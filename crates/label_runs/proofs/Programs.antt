@@ -8,26 +8,26 @@ use Rattle.sock_io.specs.declared.link.Put.{Put}
 use Rattle.sock_io.specs.declared.link.Put.TheVariants as puts
 use Rattle.sock_io.specs.declared.link.Ready.{Ready}
 use Rattle.sock_io.specs.declared.link.Ready.TheVariants as asks
-use Rattle.sock_programs.specs.sock_message.specs.Asked.{Asked, frame_of}
+use Rattle.seat_programs.specs.sock_message.specs.Asked.{Asked, frame_of}
 use Rattle.sock_model.specs.declared.chain.Heading.{Heading}
 use Rattle.sock_model.specs.Entries.{generation_of, slot_of, ticket_of}
 use Rattle.sock_model.specs.Memory.{IDLE, UNCONNECTED}
 use Rattle.corr_core.specs.Word.{parts, error_of}
-use Rattle.sock_programs.specs.declared.task.Op.{Op}
-use Rattle.sock_programs.specs.declared.task.Op.TheVariants as ops
-use Rattle.sock_programs.specs.declared.task.Sizes.{Sizes}
-use Rattle.sock_programs.specs.declared.task.Task.{Task}
-use Rattle.sock_programs.specs.Asides.{StoreAt, call_id, id_slot, id_first}
-use Rattle.sock_programs.specs.Attempts.{claims_from, heading_for, attempt, begin_call, claim_id, call, tried_again, retry_locked, retry, expire_outcome, expire, join}
-use Rattle.sock_programs.specs.Calls.{Call, SubRef, AddRef, StoreCode, LoadLink, TakeLink, FinishLink, PutLink, FreeSlot, LoadName, FreeRequest, ReadNext, FindLink, LookWord, TurnNext, Connect}
-use Rattle.sock_programs.specs.Clients.{HeldLife, held_under, without_name, give_back, drop_of, operation, client_from, ending_of}
-use Rattle.sock_programs.specs.Heads.{First, Unlocks, Locks, Joins, Reads, Discards, Posting, WasGone, WasStale, WasCrowded, WasQueued, HasLocked, Unlocking, IsOpen, HasNext, Locking, NotThere, Has, Ended}
-use Rattle.sock_programs.specs.Parts.{part}
-use Rattle.sock_programs.specs.Posts.{post_with, posted, post, decided}
-use Rattle.sock_programs.specs.Programs.{Program, Do, Say, Sent, Rest, TakeMessage, TakeHome, PutBytes, Write, Aside, Round, NO_SOCKET, LAST_VERSION, LAST_GENERATION, recycle, release, address, reach, set_failed, make_socket, open_from, fail_outcome, fail}
-use Rattle.sock_programs.specs.Readers.{kept_for, ends_with, posted_last, post_each, thrown_away, read, reader, LIMIT}
-use Rattle.sock_programs.specs.Sends.{freed as given_back, one_more, passed_telling, tell_drop, placed, dropped, put_answered, ready_answered, block, first_put, accept, write_link, heading_of, claim_from, start, send}
-use Rattle.sock_programs.specs.Writings.{Holder, Writing, Puts, Waits, Empties, Walks}
+use Rattle.seat_programs.specs.declared.task.Op.{Op}
+use Rattle.seat_programs.specs.declared.task.Op.TheVariants as ops
+use Rattle.seat_programs.specs.declared.task.Sizes.{Sizes}
+use Rattle.seat_programs.specs.declared.task.Task.{Task}
+use Rattle.seat_programs.specs.Asides.{StoreAt, call_id, id_slot, id_first}
+use Rattle.seat_programs.specs.Attempts.{claims_from, heading_for, attempt, begin_call, claim_id, call, tried_again, retry_locked, retry, expire_outcome, expire, join}
+use Rattle.seat_programs.specs.Calls.{Call, SubRef, AddRef, StoreCode, LoadLink, TakeLink, FinishLink, PutLink, FreeSlot, LoadName, FreeRequest, ReadNext, FindLink, LookWord, ReverseNext, Connect}
+use Rattle.seat_programs.specs.Clients.{HeldLife, held_under, without_name, give_back, drop_of, operation, client_from, ending_of}
+use Rattle.seat_programs.specs.Heads.{First, Unlocks, Locks, Joins, Reads, Discards, Posting, WasGone, WasStale, WasCrowded, WasQueued, HasLocked, Unlocking, IsOpen, HasNext, Locking, NotThere, Has, Ended}
+use Rattle.seat_programs.specs.Parts.{part}
+use Rattle.seat_programs.specs.Posts.{post_with, posted, post, decided}
+use Rattle.seat_programs.specs.Programs.{Program, Do, Say, Sent, Rest, TakeMessage, TakeHome, PutBytes, Write, Aside, Round, NO_SOCKET, LAST_VERSION, LAST_GENERATION, recycle, release, address, reach, set_failed, make_socket, open_from, fail_outcome, fail}
+use Rattle.seat_programs.specs.Readers.{kept_for, ends_with, posted_last, post_each, thrown_away, read, reader, LIMIT}
+use Rattle.seat_programs.specs.Sends.{freed as given_back, one_more, passed_telling, tell_drop, placed, dropped, put_answered, ready_answered, block, first_put, accept, write_link, heading_of, claim_from, start, send}
+use Rattle.seat_programs.specs.Writings.{Holder, Writing, Puts, Waits, Empties, Walks}
 use Rattle.label_runs.specs.Labels.{Trial, Idle, Tries, Sends, IsOfTrial, MayPut, Labels, LeavesLabel, LeavesLock, LeavesUnlock}
 use Rattle.label_runs.proofs.Loops.{way, post_with_goes, posted_goes, post_goes, decide_goes, decided_goes, answer_goes}
 
@@ -110,7 +110,7 @@ module _ (is_call : Asked → Type 0) where
       Idle,
       inr refl,
       way is_call Idle (found == UNCONNECTED) (Write (Walks h top at after) then_)
-          (Do (TurnNext (slot_of at) after) (λ _. cond (found == h.last) (TakeMessage (slot_of at) (λ heading bytes. Write (Puts (record h { last = top }) at heading bytes 0 false) then_)) (Write (Walks h top found at) then_)))
+          (Do (ReverseNext (slot_of at) after) (λ _. cond (found == h.last) (TakeMessage (slot_of at) (λ heading bytes. Write (Puts (record h { last = top }) at heading bytes 0 false) then_)) (Write (Walks h top found at) then_)))
           (λ _. g)
           (λ _. (tt, λ _ _. (Idle, inl refl, way is_call Idle (found == h.last) (TakeMessage (slot_of at) (λ heading bytes. Write (Puts (record h { last = top }) at heading bytes 0 false) then_)) (Write (Walks h top found at) then_) (λ _. λ heading bytes. g) (λ _. g)))),
     ),
@@ -132,7 +132,7 @@ module _ (is_call : Asked → Type 0) where
 
   -- ## Messages
 
-  accept_goes : (t : Trial) (id q g : ℕ) (heading : Heading) (bytes : List ℕ) (after : Program) → MayPut is_call t (Rattle.sock_programs.specs.Calls.PutMessage q heading bytes) → Labels is_call Idle after → Labels is_call t (accept id q g heading bytes after)
+  accept_goes : (t : Trial) (id q g : ℕ) (heading : Heading) (bytes : List ℕ) (after : Program) → MayPut is_call t (Rattle.seat_programs.specs.Calls.PutMessage q heading bytes) → Labels is_call Idle after → Labels is_call t (accept id q g heading bytes after)
   accept_goes t id q g heading bytes after may goes = (
     may,
     λ _ _. (
@@ -370,7 +370,7 @@ module _ (is_call : Asked → Type 0) where
   ends_goes id e w [] next first goes = decide_goes is_call Idle id w e (decided id next) first (decided_goes is_call id next goes)
   ends_goes id e w (f ∷ fs) next first goes = answer_goes is_call Idle f (id_first id) next goes
 
-  last_goes : (id e : ℕ) (kept : List Frame) (next : Program) → Labels is_call Idle next → (exit : Posting) → LeavesLabel (Rattle.sock_programs.specs.Heads.Posts id e 0) exit → Labels is_call Idle (posted_last id e kept next exit)
+  last_goes : (id e : ℕ) (kept : List Frame) (next : Program) → Labels is_call Idle next → (exit : Posting) → LeavesLabel (Rattle.seat_programs.specs.Heads.Posts id e 0) exit → Labels is_call Idle (posted_last id e kept next exit)
   last_goes id e kept next goes (HasLocked w) l = ends_goes id e w (kept_for id (parts w).range kept) next l goes
   last_goes id e kept next goes WasGone l = goes
   last_goes id e kept next goes WasStale l = goes

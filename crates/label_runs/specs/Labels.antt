@@ -6,13 +6,13 @@ use Rattle.sock_model.specs.declared.chain.Heading.{Heading}
 use Rattle.sock_words.specs.Words.{at_word}
 use Rattle.corr_core.specs.Word.{parts}
 use Rattle.id_runs.specs.Goes.{FitsSock}
-use Rattle.sock_programs.specs.sock_message.specs.Asked.{Asked, frame_of}
-use Rattle.sock_programs.specs.Asides.{Step, Found, PutCall, MakeId, StoreAt, UnlockId, TakeCall, call_id, id_slot, id_first}
-use Rattle.sock_programs.specs.Attempts.{heading_for}
-use Rattle.sock_programs.specs.Calls.{Call, PutMessage}
-use Rattle.sock_programs.specs.Heads.{Head, Exit, Sought, First, Posts, Unlocks, Decides, Locks, Posting, HasLocked, Unlocking, HasNext, Locking, NotThere, Has}
-use Rattle.sock_programs.specs.Posts.{advance_of, is_sought}
-use Rattle.sock_programs.specs.Programs.{Program, Do, Say, Sent, Rest, TakeMessage, TakeHome, PutHome, PutBytes, AskReady, Write, Aside, Round, Keep, Retries}
+use Rattle.seat_programs.specs.sock_message.specs.Asked.{Asked, frame_of}
+use Rattle.seat_programs.specs.Asides.{Step, Found, PutCall, MakeId, StoreAt, UnlockId, TakeCall, call_id, id_slot, id_first}
+use Rattle.seat_programs.specs.Attempts.{heading_for}
+use Rattle.seat_programs.specs.Calls.{Call, PutMessage}
+use Rattle.seat_programs.specs.Heads.{Head, Exit, Sought, First, Posts, Unlocks, Decides, Locks, Posting, HasLocked, Unlocking, HasNext, Locking, NotThere, Has}
+use Rattle.seat_programs.specs.Posts.{advance_of, is_sought}
+use Rattle.seat_programs.specs.Programs.{Program, Do, Say, Sent, Rest, TakeMessage, TakeHome, PutHome, PutBytes, AskReady, Write, Aside, Round, Keep, Retries}
 
 -- a seat tries attempt n of the call with this id; and has stored its at word, the call being this operation
 pub data Trial : Type 0 where

@@ -14,7 +14,7 @@ pub fn meet_all<L: Linker>(links: &mut L, ends: &mut [Ends<L::O, L::I, L::P>])
     ensures accepted { L.accepted links.new ≡ L.accepted links.old }
     ensures back { L.back links.new ≡ L.back links.old }
     ensures done { L.done links.new ≡ L.done links.old }
-    ensures prompt { L.prompt links.new ≡ L.prompt links.old }
+    ensures always_ready { L.always_ready links.new ≡ L.always_ready links.old }
     ensures faults { L.faults links.new ≡ L.faults links.old }
 {
     'meets: for one in ends.iter_mut() {

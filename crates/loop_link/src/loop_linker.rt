@@ -94,7 +94,7 @@ impl Linker for LoopLinker {
 
     ghost faults = { λ l. l.faults };
 
-    ghost prompt = { λ _. true };
+    ghost always_ready = { λ _. true };
 
     fn open(&mut self, spec: &LinkSpec) -> Result<Link, OpenFault>
         requires piece { 0 < spec.now.piece }

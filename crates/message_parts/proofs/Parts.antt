@@ -5,7 +5,7 @@ use Rattle.std.proofs.lemmas.List.{take_min}
 use Rattle.io_buf.specs.io_block.specs.declared.pool.TheConstants.{BLOCK_BYTES}
 use Rattle.io_buf.specs.Buffer.{Buffer, block_sizes, rest_sizes}
 use Rattle.io_buf.proofs.Sizes.{rest_sizes-less, rest_sizes-more, rest_sizes-zero, rest_sizes-rest_sizes, block_sizes-step, block_sizes-one}
-use Rattle.sock_programs.specs.Parts.{room_of_part, part}
+use Rattle.seat_programs.specs.Parts.{room_of_part, part}
 use Rattle.message_parts.specs.Frames.{LiesInParts, LiesBehindIn, part_sizes, length_of}
 
 -- ## A part in blocks, with others behind it

@@ -1,3 +1,3 @@
 pub mod Frames
 pub mod Parcels
-pub use Rattle.sock_programs
+pub use Rattle.seat_programs

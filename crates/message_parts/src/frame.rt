@@ -1,6 +1,6 @@
 ghost use Rattle.std.specs.Prelude.{◌≡◌, ◌+◌, ◌<◌, ◌≤◌, ◌==◌, ◌^◌, ◌∷◌, [], IfOk, length, drop};
 ghost use Rattle.sock_message.specs.Asked.{frame_of, parts_of};
-ghost use Rattle.sock_programs.specs.Parts.{part};
+ghost use Rattle.seat_programs.specs.Parts.{part};
 ghost use Rattle.message_parts.specs.Frames.{LiesInParts};
 
 use call_table::issue;

@@ -120,7 +120,7 @@ impl<N: Net<Stream = TcpStream, Listener = TcpListener> + Drop> Linker for TcpLi
 
     ghost faults = { λ l. l.faults };
 
-    ghost prompt = { λ _. true };
+    ghost always_ready = { λ _. true };
 
     fn open(&mut self, spec: &LinkSpec) -> Result<Link, OpenFault>
         requires piece { 0 < spec.now.piece }

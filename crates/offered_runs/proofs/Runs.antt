@@ -7,12 +7,12 @@ use Rattle.sock_model.specs.declared.home.Home.TheVariants.{Link}
 use Rattle.sock_model.specs.declared.view.View.{View}
 use Rattle.brpc_model.specs.Items.{Item, Shape}
 use Rattle.brpc_model.specs.Operations.{Turn, link_shapes}
-use Rattle.sock_programs.specs.Asides.{TakeBytes, Taking, Bytes, Nothing, NoMore, AtEnd, Closed, Broken}
-use Rattle.sock_programs.specs.Programs.{Program, Aside}
-use Rattle.sock_programs.specs.Cores.{Core}
-use Rattle.sock_programs.specs.Tasks.{plan_of}
-use Rattle.sock_programs.specs.Ticks.{Answer, Moment, AreAnswered, quiet, taken, ticked, run}
-use Rattle.sock_programs.specs.Scripts.{opened, set_up, played, IsRunWithCalls}
+use Rattle.seat_programs.specs.Asides.{TakeBytes, Taking, Bytes, Nothing, NoMore, AtEnd, Closed, Broken}
+use Rattle.seat_programs.specs.Programs.{Program, Aside}
+use Rattle.seat_programs.specs.Cores.{Core}
+use Rattle.seat_programs.specs.Tasks.{plan_of}
+use Rattle.seat_programs.specs.Ticks.{Answer, Moment, AreAnswered, quiet, taken, ticked, run}
+use Rattle.seat_programs.specs.Scripts.{opened, set_up, played, IsRunWithCalls}
 use Rattle.sock_runs.specs.Sound.{Sound, AreFitting, views_after, views_along}
 use Rattle.sock_runs.proofs.LinkTicks.{RetriesGo}
 use Rattle.sock_runs.proofs.Ticks.{sound_ticks}
@@ -21,9 +21,9 @@ use Rattle.served_runs.specs.id_runs.specs.Goes as goes
 use Rattle.served_runs.specs.joint_runs.proofs.Runs.{AreMade, first_views}
 use Rattle.served_runs.specs.owed_calls.specs.Lives.{IsFinished, ClosesAt, ClosesInTime, ClosesInRun}
 use Rattle.served_runs.specs.owed_calls.proofs.OwingRuns.{same_first}
-use Rattle.served_runs.specs.whole_runs.specs.Offered.{GaveSo, HasTaken}
-use Rattle.served_runs.specs.whole_runs.specs.Offered as told
-use Rattle.served_runs.specs.whole_runs.specs.OfferedRuns as runs
+use Rattle.served_runs.specs.run_theorems.specs.Offered.{GaveSo, HasTaken}
+use Rattle.served_runs.specs.run_theorems.specs.Offered as told
+use Rattle.served_runs.specs.run_theorems.specs.OfferedRuns as runs
 use Rattle.served_runs.specs.call_causes.specs.Lists.{given}
 use Rattle.served_runs.specs.send_causes.proofs.Early.{start, go, fitting}
 use Rattle.served_runs.specs.Offered.{TookSoFar, IsDone, IsOfferedSo, OffersAt, AreOffered, OffersInRun}

@@ -52,7 +52,7 @@ impl<L: Linker + Drop> Linker for Noting<L> {
 
     ghost faults = { λ l. L.faults l.inner };
 
-    ghost prompt = { λ l. L.prompt l.inner };
+    ghost always_ready = { λ l. L.always_ready l.inner };
 
     fn open(&mut self, spec: &LinkSpec) -> Result<Ends<L::O, L::I, L::P>, OpenFault> {
         self.inner.open(spec)
@@ -76,7 +76,7 @@ impl<L: Linker + Drop> Linker for Noting<L> {
         ensures asked { L.asked self.new.inner ≡ L.asked self.old.inner }
         ensures accepted { L.accepted self.new.inner ≡ L.accepted self.old.inner }
         ensures back { L.back self.new.inner ≡ L.back self.old.inner }
-        ensures stays_prompt { L.prompt self.new.inner ≡ L.prompt self.old.inner }
+        ensures stays_prompt { L.always_ready self.new.inner ≡ L.always_ready self.old.inner }
         ensures faults { L.faults self.new.inner ≡ L.faults self.old.inner }
     {
         let _ = self.taken.extend_from_slice(out.taken());
@@ -92,7 +92,7 @@ impl<L: Linker + Drop> Linker for Noting<L> {
         ensures done { L.done self.new.inner ≡ L.done self.old.inner }
         ensures asked { L.asked self.new.inner ≡ L.asked self.old.inner }
         ensures accepted { L.accepted self.new.inner ≡ L.accepted self.old.inner }
-        ensures stays_prompt { L.prompt self.new.inner ≡ L.prompt self.old.inner }
+        ensures stays_prompt { L.always_ready self.new.inner ≡ L.always_ready self.old.inner }
         ensures faults { L.faults self.new.inner ≡ L.faults self.old.inner }
     {
         let _ = self.noted.push((link, ends.out.taken().len()));

@@ -5,17 +5,17 @@ use Rattle.std.specs.Prelude.{None}
 use mathlib.Core.Option.{some, some-ne-none, some-injective}
 use lib.ListN.{get_elem?}
 use Rattle.sock_words.specs.declared.plain.Plan.{Plan}
-use Rattle.sock_model.specs.Layout.{open_word}
+use Rattle.sock_model.specs.Layout.{open_index}
 use Rattle.corr_core.specs.Word.{Parts}
 use Rattle.corr_core.specs.Law.{Stands, vacant, retired, claimed, opened, locked, leaving}
 use Rattle.corr_core.specs.declared.marks.Plan.{Plan as IdPlan}
 use Rattle.id_rule.specs.Lawful.{local}
-use Rattle.sock_programs.specs.Asides.{Nothing, Bytes, NoMore, AtEnd, Closed, Broken, call_id, id_slot, id_first}
-use Rattle.sock_programs.specs.Heads.{Head, Exit, Sought, First, Version, Locks, Joins, Opens, Reads, Discards}
-use Rattle.sock_programs.specs.Programs.{Program, Rest, Round}
-use Rattle.sock_programs.specs.Posts.{is_first, is_sought}
-use Rattle.sock_programs.specs.Cores.{Core, SeatState}
-use Rattle.sock_programs.specs.Ticks.{Answer, Unasked, OfPut, OfReady, OfTake, waits_in, is_nothing}
+use Rattle.seat_programs.specs.Asides.{Nothing, Bytes, NoMore, AtEnd, Closed, Broken, call_id, id_slot, id_first}
+use Rattle.seat_programs.specs.Heads.{Head, Exit, Sought, First, Version, Locks, Joins, Opens, Reads, Discards}
+use Rattle.seat_programs.specs.Programs.{Program, Rest, Round}
+use Rattle.seat_programs.specs.Posts.{is_first, is_sought}
+use Rattle.seat_programs.specs.Cores.{Core, SeatState}
+use Rattle.seat_programs.specs.Ticks.{Answer, Unasked, OfPut, OfReady, OfTake, waits_in, is_nothing}
 use Rattle.joint_runs.specs.id_runs.specs.Held.{IdView, id_state}
 use Rattle.joint_runs.specs.id_runs.specs.Goes.{IdGoesOn, SoundIds}
 use Rattle.owed_calls.specs.Owing.{Free, Owing, InList, DutyTo, Among}
@@ -104,11 +104,11 @@ module _ (p : Plan) (q : IdPlan) (life : ℕ → Option ℕ) (calls : List ℕ) 
   -- who waits does so for the end of a range, or for the word of an `open`
   data Waits (i : ℕ) : Type 0 where
     joins : (seat : SeatState) (id : ℕ) (next : ℕ → Program) → get_elem? c.seats i ≡ some seat → seat.program ≡ Round (Joins id) next → is_first (id_first id) (id_word_of c (id_slot id)) ≡ true → Waits i
-    opens : (seat : SeatState) (o : ℕ) (next : ℕ → Program) → get_elem? c.seats i ≡ some seat → seat.program ≡ Round (Opens o) next → get_or c.words (open_word p o) 0 ≡ 0 → Waits i
+    opens : (seat : SeatState) (o : ℕ) (next : ℕ → Program) → get_elem? c.seats i ≡ some seat → seat.program ≡ Round (Opens o) next → get_or c.words (open_index p o) 0 ≡ 0 → Waits i
 
   by_head : (i : ℕ) (seat : SeatState) (head : Head) (next : Exit head → Program) (answer : Answer) (v : IdView) → get_elem? c.seats i ≡ some seat → seat.program ≡ Round head next → IdGoesOn p q v (Round head next) → waits_in p c.words c.calls answer head ≡ true → Waits i
   by_head i seat (Joins id) next answer v at e g is = joins seat id next at e is
-  by_head i seat (Opens o) next answer v at e g is = opens seat o next at e (eqb-true (get_or c.words (open_word p o) 0) 0 is)
+  by_head i seat (Opens o) next answer v at e g is = opens seat o next at e (eqb-true (get_or c.words (open_index p o) 0) 0 is)
   by_head i seat (Locks s sought None) next answer v at e g is = let w : Parts = id_word_of c s in let there = sought_there sought (id_word_of c s) (and_first (is_sought sought (id_word_of c s)) (not ((id_word_of c s).state == 1)) is) in
       let taken = not_one (id_word_of c s).state (and_second (is_sought sought (id_word_of c s)) (not ((id_word_of c s).state == 1)) is) in absurd (⊎_elim there taken (not_locked p q c vs known still s g.0.1))
   by_head i seat (Reads r) next answer v at e g is = absurd (never_nothing answer (sym (ap (λ b. is_nothing b answer) ending) ∙ is))

@@ -7,11 +7,11 @@ use Rattle.corr_core.specs.Word.{parts, made_word, free_word}
 use Rattle.corr_core.specs.declared.marks.Plan.{Plan as IdPlan}
 use Rattle.id_rule.specs.Lawful as ids
 use Rattle.joint_runs.specs.id_runs.proofs.Keeps.{parts_packed}
-use Rattle.sock_programs.specs.Asides.{Step, Found, MakeId, LoadIdWord, LockId, PostId, UnlockId, EndId}
-use Rattle.sock_programs.specs.Programs.{Program, Aside}
-use Rattle.sock_programs.specs.Posts.{packed}
-use Rattle.sock_programs.specs.Cores.{Core, SeatState, waiting_at, with_seat}
-use Rattle.sock_programs.specs.Beside.{calls_after}
+use Rattle.seat_programs.specs.Asides.{Step, Found, MakeId, LoadIdWord, LockId, PostId, UnlockId, EndId}
+use Rattle.seat_programs.specs.Programs.{Program, Aside}
+use Rattle.seat_programs.specs.Posts.{packed}
+use Rattle.seat_programs.specs.Cores.{Core, SeatState, waiting_at, with_seat}
+use Rattle.seat_programs.specs.Beside.{calls_after}
 use Rattle.owed_calls.specs.Owing.{Owing, FindsUnlock, MayOwe, AsideMove}
 use Rattle.owed_calls.specs.Owes.{OwesOn}
 use Rattle.owed_calls.specs.Sound.{OwingLaw, SoundOwing}
@@ -24,7 +24,7 @@ module _ (q : IdPlan) (narrow : q.slots ≤ 65536) (life : ℕ → Option ℕ) (
     (sized : length c.calls.words ≡ ids.all_words q) (few : AllByRecursion Few (waiting_at c.calls.waiting i)) (s : ℕ) (inside : s < q.slots) where
   -- the word of the slot
   abbrev pub Word : ℕ
-  Word = get_or c.calls.words (ids.id_word s) 0
+  Word = get_or c.calls.words (ids.id_index s) 0
 
   abbrev pub Goes : (step : Step) → Found step → (Found step → Program) → Type 0
   Goes step found next = After q life calls c us sound i seat u at_seat at (with_seat i (next found) seat.hand c.words c.homes (record c { calls = calls_after step found c.calls }))

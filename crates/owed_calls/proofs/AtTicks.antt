@@ -6,10 +6,10 @@ use lib.ListN.{get_elem?}
 use Rattle.sock_words.specs.Words.{at_word_first, at_word_slot}
 use Rattle.corr_core.specs.declared.marks.Plan.{Plan as IdPlan}
 use Rattle.id_rule.specs.Lawful as ids
-use Rattle.sock_programs.specs.Asides.{Step, Found, StoreAt, LoadAt, call_id, id_slot}
-use Rattle.sock_programs.specs.Programs.{Program, Aside}
-use Rattle.sock_programs.specs.Cores.{Core, SeatState, waiting_at, with_seat}
-use Rattle.sock_programs.specs.Beside.{calls_after}
+use Rattle.seat_programs.specs.Asides.{Step, Found, StoreAt, LoadAt, call_id, id_slot}
+use Rattle.seat_programs.specs.Programs.{Program, Aside}
+use Rattle.seat_programs.specs.Cores.{Core, SeatState, waiting_at, with_seat}
+use Rattle.seat_programs.specs.Beside.{calls_after}
 use Rattle.owed_calls.specs.Owing.{Owing, InList, MayOwe, AsideMove, Linked, loaded}
 use Rattle.owed_calls.specs.Owes.{OwesOn}
 use Rattle.owed_calls.specs.Sound.{id_word_of, at_of, OwingLaw, SoundOwing}
@@ -29,8 +29,8 @@ module _ (q : IdPlan) (narrow : q.slots ≤ 65536) (life : ℕ → Option ℕ) (
   store_ticks o w found next g low known names = let r = g.1 found tt in let m = r.1 in let f = names m.0 m.1 m.2 m.3 in
       follows q life calls c us sound i seat u at_seat at (next found) seat.hand c.words c.homes (calls_after (StoreAt o w) found c.calls) r.0
       (subst (λ x. OwingLaw q life calls (record { words = c.words; homes = c.homes; seats = c.seats; outcomes = c.outcomes; calls = calls_after (StoreAt o w) found c.calls }) (set us i x)) (sym m.7)
-      (subst (λ (p : IdPlan). OwingLaw q life calls (record { words = c.words; homes = c.homes; seats = c.seats; outcomes = c.outcomes; calls = record c.calls { words = set c.calls.words (ids.at_word p o) w } }) (set us i (Rattle.owed_calls.specs.Owing.with_known m.0 m.1 (Rattle.owed_calls.specs.Owing.with_duty (Rattle.owed_calls.specs.Owing.Looking m.0 m.1 m.2 o) u)))) (sym plan)
-      (subst (λ x. OwingLaw q life calls (record { words = c.words; homes = c.homes; seats = c.seats; outcomes = c.outcomes; calls = record c.calls { words = set c.calls.words (ids.at_word q o) x } }) (set us i (Rattle.owed_calls.specs.Owing.with_known m.0 m.1 (Rattle.owed_calls.specs.Owing.with_duty (Rattle.owed_calls.specs.Owing.Looking m.0 m.1 m.2 o) u)))) (sym m.4)
+      (subst (λ (p : IdPlan). OwingLaw q life calls (record { words = c.words; homes = c.homes; seats = c.seats; outcomes = c.outcomes; calls = record c.calls { words = set c.calls.words (ids.at_index p o) w } }) (set us i (Rattle.owed_calls.specs.Owing.with_known m.0 m.1 (Rattle.owed_calls.specs.Owing.with_duty (Rattle.owed_calls.specs.Owing.Looking m.0 m.1 m.2 o) u)))) (sym plan)
+      (subst (λ x. OwingLaw q life calls (record { words = c.words; homes = c.homes; seats = c.seats; outcomes = c.outcomes; calls = record c.calls { words = set c.calls.words (ids.at_index q o) x } }) (set us i (Rattle.owed_calls.specs.Owing.with_known m.0 m.1 (Rattle.owed_calls.specs.Owing.with_duty (Rattle.owed_calls.specs.Owing.Looking m.0 m.1 m.2 o) u)))) (sym m.4)
       (stores_keep q narrow life low_links calls c us i u sound.law at c.seats c.outcomes sized o m.0 m.1 m.2 low known m.3 m.5 m.6 f.1 f.0)))) r.2 few
 
   -- T2 of a reader
@@ -45,4 +45,4 @@ module _ (q : IdPlan) (narrow : q.slots ≤ 65536) (life : ℕ → Option ℕ) (
       → ((j : ℕ) → j < q.slots → id_word_of (Behind q narrow life calls c us i u sound.law at sized c.seats c.outcomes (calls_after step found c.calls)) j ≡ id_word_of c j)
       → ((o : ℕ) → o < q.operations → at_of q (Behind q narrow life calls c us i u sound.law at sized c.seats c.outcomes (calls_after step found c.calls)) o ≡ at_of q c o) → Goes step found next
   other_ticks step found next g waits words ats = follows q life calls c us sound i seat u at_seat at (next found) seat.hand c.words c.homes (calls_after step found c.calls) u
-      (still_keeps q narrow life calls c us i u sound.law at sized c.seats c.outcomes (calls_after step found c.calls) waits words ats) g (subst (λ (x : List (List Rattle.sock_programs.specs.Heads.Retry)). AllByRecursion Few (waiting_at x i)) (sym waits) few)
+      (still_keeps q narrow life calls c us i u sound.law at sized c.seats c.outcomes (calls_after step found c.calls) waits words ats) g (subst (λ (x : List (List Rattle.seat_programs.specs.Heads.Retry)). AllByRecursion Few (waiting_at x i)) (sym waits) few)

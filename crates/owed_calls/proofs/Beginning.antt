@@ -8,13 +8,13 @@ use Rattle.sock_model.specs.declared.chain.Heading.{Heading}
 use Rattle.sock_model.specs.declared.home.Home.TheVariants.{Link, Message}
 use Rattle.corr_core.specs.declared.marks.Plan.{Plan as IdPlan}
 use Rattle.id_rule.specs.Lawful as ids
-use Rattle.sock_programs.specs.declared.task.Task.{Task}
-use Rattle.sock_programs.specs.Heads.{Retry}
-use Rattle.sock_programs.specs.Programs.{Program, Do, Say, Sent, Rest, TakeMessage, TakeHome, PutHome, PutBytes, AskReady, Write, Aside, Round, Keep, Retries}
-use Rattle.sock_programs.specs.Clients.{client_from}
-use Rattle.sock_programs.specs.Readers.{reader}
-use Rattle.sock_programs.specs.Cores.{Core, SeatState, waiting_at, resolved, next_step}
-use Rattle.sock_programs.specs.Scripts.{sizes_of, programs, new_links, opening_homes, opening_calls, beginning, readers_from, all_programs}
+use Rattle.seat_programs.specs.declared.task.Task.{Task}
+use Rattle.seat_programs.specs.Heads.{Retry}
+use Rattle.seat_programs.specs.Programs.{Program, Do, Say, Sent, Rest, TakeMessage, TakeHome, PutHome, PutBytes, AskReady, Write, Aside, Round, Keep, Retries}
+use Rattle.seat_programs.specs.Clients.{client_from}
+use Rattle.seat_programs.specs.Readers.{reader}
+use Rattle.seat_programs.specs.Cores.{Core, SeatState, waiting_at, resolved, next_step}
+use Rattle.seat_programs.specs.Scripts.{sizes_of, programs, new_links, opening_homes, opening_calls, beginning, readers_from, all_programs}
 use Rattle.joint_runs.specs.sock_runs.proofs.Opening.{mapped}
 use Rattle.owed_calls.specs.Owing.{Free, Trying, Owing, with_keeps}
 use Rattle.owed_calls.specs.Owes.{OwesOn}

@@ -7,10 +7,10 @@ use Rattle.sock_words.specs.declared.outcome.Outcome.{Outcome}
 use Rattle.corr_core.specs.Word.{Parts, parts, attempt_of, posted_word, locked_word, unlocked_word}
 use Rattle.corr_core.specs.declared.marks.Plan.{Plan as IdPlan}
 use Rattle.id_rule.specs.Lawful as ids
-use Rattle.sock_programs.specs.Asides.{LockId, PostId, UnlockId, call_id, id_slot, id_first}
-use Rattle.sock_programs.specs.Posts.{packed, advance_of}
-use Rattle.sock_programs.specs.Cores.{Core, SeatState, Calls}
-use Rattle.sock_programs.specs.Beside.{calls_after}
+use Rattle.seat_programs.specs.Asides.{LockId, PostId, UnlockId, call_id, id_slot, id_first}
+use Rattle.seat_programs.specs.Posts.{packed, advance_of}
+use Rattle.seat_programs.specs.Cores.{Core, SeatState, Calls}
+use Rattle.seat_programs.specs.Beside.{calls_after}
 use Rattle.joint_runs.specs.id_runs.proofs.Keeps.{parts_packed}
 use Rattle.owed_calls.specs.Owing.{Duty, Free, Trying, Linked, Looking, Telling, Owing, Posting, MayOwe, unlocked_by}
 use Rattle.owed_calls.specs.Sound.{id_word_of, at_of, Past, ErrorPast, Stored, OwingLaw}
@@ -62,13 +62,13 @@ module _ (q : IdPlan) (narrow : q.slots ≤ 65536) (life : ℕ → Option ℕ) (
       stored (Looking id n k o) x = (x.0, x.1, past_on q life calls c c us i u u law at (λ j m k. k) id n x.2, (λ is. let e = words (id_slot id) is.0 in ats o x.0 ∙ x.3 (is.0, ap (λ (y : Parts). y.first) (sym e) ∙ is.1, subst (λ (y : Parts). 0 < y.state) e is.2, ap (λ (y : Parts). y.attempt) (sym e) ∙ is.3)), x.4)
       stored (Telling id n) x = tt
 
-  module _ (s : ℕ) (inside : s < q.slots) (found : ℕ) (is : get_or c.calls.words (ids.id_word s) 0 ≡ found) where
+  module _ (s : ℕ) (inside : s < q.slots) (found : ℕ) (is : get_or c.calls.words (ids.id_index s) 0 ≡ found) where
     is_word : parts found ≡ id_word_of c s
     is_word = ap parts (sym is)
 
     -- I7
     pub look_keeps : (v : Owing) → Posting s found false u v → OwingLaw q life calls (Behind c.calls) (set us i v)
-    look_keeps v m = subst (λ (l : List ℕ). OwingLaw q life calls (Behind (record c.calls { words = l })) (set us i v)) (ap (set c.calls.words (ids.id_word s)) (sym is) ∙ set_get c.calls.words (ids.id_word s))
+    look_keeps v m = subst (λ (l : List ℕ). OwingLaw q life calls (Behind (record c.calls { words = l })) (set us i v)) (ap (set c.calls.words (ids.id_index s)) (sym is) ∙ set_get c.calls.words (ids.id_index s))
         (posting_keeps q life calls c us i u law at sized ss os s inside found (stays_so q life calls c us i u law at sized ss os s inside found is_word) found false v is_word (λ e. let z : false ≡ true = e in absurd cc) m)
 
     fits_lock : (from : ℕ) → parts (packed (locked_word (parts from))) ≡ locked_word (parts from)
@@ -86,7 +86,7 @@ module _ (q : IdPlan) (narrow : q.slots ≤ 65536) (life : ℕ → Option ℕ) (
     pub lock_keeps : (from : ℕ) (v : Owing) → (parts from).state ≡ 1 → Posting s found false u v → OwingLaw q life calls (Behind (calls_after (LockId s from) found c.calls)) (set us i v)
     lock_keeps from v one m = by_hit (eqb found from) refl
       where
-        by_hit : (b : Bool) → eqb found from ≡ b → OwingLaw q life calls (Behind (record c.calls { words = set c.calls.words (ids.id_word s) (cond b (packed (posted_word (parts from) 0)) found) })) (set us i v)
+        by_hit : (b : Bool) → eqb found from ≡ b → OwingLaw q life calls (Behind (record c.calls { words = set c.calls.words (ids.id_index s) (cond b (packed (posted_word (parts from) 0)) found) })) (set us i v)
         by_hit true e = posting_keeps q life calls c us i u law at sized ss os s inside (packed (posted_word (parts from) 0)) (locks from 0 one (eqb-true found from e)) found false v is_word (λ e. let z : false ≡ true = e in absurd cc) m
         by_hit false e = posting_keeps q life calls c us i u law at sized ss os s inside found (stays_so q life calls c us i u law at sized ss os s inside found is_word) found false v is_word (λ e. let z : false ≡ true = e in absurd cc) m
 
@@ -94,7 +94,7 @@ module _ (q : IdPlan) (narrow : q.slots ≤ 65536) (life : ℕ → Option ℕ) (
     pub post_keeps : (from e : ℕ) (v : Owing) → e < 32768 → ((parts from).state ≡ 1) ⊎ ((parts from).state ≡ 2) → MayOwe u (PostId s from e) → Posting s found (eqb found from) u v → OwingLaw q life calls (Behind (calls_after (PostId s from e) found c.calls)) (set us i v)
     post_keeps from e v small states knows m = by_hit (eqb found from) refl m
       where
-        by_hit : (b : Bool) → eqb found from ≡ b → Posting s found b u v → OwingLaw q life calls (Behind (record c.calls { words = set c.calls.words (ids.id_word s) (cond b (packed (posted_word (parts from) e)) found) })) (set us i v)
+        by_hit : (b : Bool) → eqb found from ≡ b → Posting s found b u v → OwingLaw q life calls (Behind (record c.calls { words = set c.calls.words (ids.id_index s) (cond b (packed (posted_word (parts from) e)) found) })) (set us i v)
         by_hit false n m = posting_keeps q life calls c us i u law at sized ss os s inside found (stays_so q life calls c us i u law at sized ss os s inside found is_word) found false v is_word (λ e. let z : false ≡ true = e in absurd cc) m
         by_hit true h m = ⊎_elim
             (λ one. posting_keeps q life calls c us i u law at sized ss os s inside (packed (posted_word (parts from) e)) (locks from e one (eqb-true found from h)) found true v is_word (λ _ st. let z : 2 ≡ 1 = ap (λ (y : Parts). y.state) (sym (opened_is from e one)) ∙ st in omega (arith, z)) m)
@@ -126,7 +126,7 @@ module _ (q : IdPlan) (narrow : q.slots ≤ 65536) (life : ℕ → Option ℕ) (
         state_fits true = omega arith
         state_fits false = omega arith
 
-        by_hit : (b : Bool) → eqb found from ≡ b → OwingLaw q life calls (Behind (record c.calls { words = set c.calls.words (ids.id_word s) (cond b (packed (unlocked_word (parts from) (advance_of advance))) found) })) (set us i (cond b (unlocked_by s from advance u) u))
+        by_hit : (b : Bool) → eqb found from ≡ b → OwingLaw q life calls (Behind (record c.calls { words = set c.calls.words (ids.id_index s) (cond b (packed (unlocked_word (parts from) (advance_of advance))) found) })) (set us i (cond b (unlocked_by s from advance u) u))
         by_hit true h = let w : parts from ≡ id_word_of c s = ap parts (sym (eqb-true found from h)) ∙ is_word in unlocks_keep q narrow life calls c us i u law at sized ss os s inside (packed (unlocked_word (parts from) (advance_of advance))) from advance low w two
             (parts_packed (unlocked_word (parts from) (advance_of advance)) (state_fits (eqb (parts from).oldest 0)) (omega arith) (omega arith) (omega (arith, few)) (omega arith) (omega arith)) may
-        by_hit false h = worded q life calls c us i u law at (record c.calls { words = set c.calls.words (ids.id_word s) found }) refl ss os u s (parts found) (same_step q life calls c us i u law at sized ss os s inside found (stays_so q life calls c us i u law at sized ss os s inside found is_word))
+        by_hit false h = worded q life calls c us i u law at (record c.calls { words = set c.calls.words (ids.id_index s) found }) refl ss os u s (parts found) (same_step q life calls c us i u law at sized ss os s inside found (stays_so q life calls c us i u law at sized ss os s inside found is_word))

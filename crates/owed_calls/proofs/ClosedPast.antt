@@ -12,15 +12,15 @@ use Rattle.sock_model.specs.declared.home.Home.{Home}
 use Rattle.sock_model.specs.declared.home.Home.TheVariants.{Link}
 use Rattle.sock_model.specs.declared.view.View.{View}
 use Rattle.sock_model.specs.declared.view.Hand.{Hand}
-use Rattle.sock_model.specs.Layout.{open_word, ref_word}
+use Rattle.sock_model.specs.Layout.{open_index, ref_index}
 use Rattle.sock_model.specs.Reads.{as_link, shown, carries, hands_of}
 use Rattle.sock_model.specs.Weights.{total, is_freer, is_linked}
 use Rattle.sock_model.specs.Slots.{count}
 use Rattle.sock_model.specs.References.{slot_facts}
-use Rattle.joint_runs.specs.slot_laws.proofs.Sums.{term_le}
-use Rattle.joint_runs.specs.slot_laws.proofs.Numbers.{only-same, life_is}
+use Rattle.joint_runs.specs.slot_steps.proofs.Sums.{term_le}
+use Rattle.joint_runs.specs.slot_steps.proofs.Numbers.{only-same, life_is}
 use Rattle.joint_runs.specs.sock_steps.proofs.Maps.{is_none}
-use Rattle.sock_programs.specs.Cores.{Core, SeatState, link_place}
+use Rattle.seat_programs.specs.Cores.{Core, SeatState, link_place}
 use Rattle.joint_runs.specs.sock_runs.specs.Sound.{state, Sound, AreInHand, AreHeld, IsOfRight}
 use Rattle.joint_runs.specs.sock_runs.proofs.Bounds.{law}
 use Rattle.joint_runs.specs.sock_runs.proofs.LinksOpening.{OpensLink}
@@ -69,7 +69,7 @@ module _ (p : Plan) (c : Core) (vs : List View) (sound : Sound p c vs) (k : ℕ)
 
 -- where the word of the link's `open` names this life, it is past
 pub closed_past : (p : Plan) (os : List ℕ) → ((k l o : ℕ) → get_elem? os k ≡ some o → get_elem? os l ≡ some o → k ≡ l) → (c : Core) (vs : List View) → Sound p c vs → Named p (OpensLink os) c vs
-    → (k o s : ℕ) → get_elem? os k ≡ some o → o < p.operations → k < p.links → get_or c.words (open_word p o) 0 ≡ s + 1 → s + 1 ≢ 18446744073709551615 → IsFinished p c k → socket_id_version s < vref_version (get_or c.words (ref_word (socket_id_slot s)) 0)
+    → (k o s : ℕ) → get_elem? os k ≡ some o → o < p.operations → k < p.links → get_or c.words (open_index p o) 0 ≡ s + 1 → s + 1 ≢ 18446744073709551615 → IsFinished p c k → socket_id_version s < vref_version (get_or c.words (ref_index (socket_id_slot s)) 0)
 closed_past p os apart c vs sound named k o s at inside low word socket finished =
     let x = named.words o inside (λ z. omega (arith, word, z)) (λ z. socket (sym word ∙ z)) in
     let same_link : x.link ≡ k = apart x.link k o x.mine at in
@@ -77,14 +77,14 @@ closed_past p os apart c vs sound named k o s at inside low word socket finished
     let is : s ≡ socket_id x.version x.slot = (let a = x.word in omega (arith, a, word)) in
     let slot_is : socket_id_slot s ≡ x.slot = omega (arith, is, few) in
     let version_is : socket_id_version s ≡ x.version = omega (arith, is, few) in
-    subst (λ i. socket_id_version s < vref_version (get_or c.words (ref_word i) 0)) (sym slot_is)
-    (dite (dec_le (suc (socket_id_version s)) (vref_version (get_or c.words (ref_word x.slot) 0))) (λ past. omega (arith, past)) (λ no_. absurd (some-ne-none x.slot
+    subst (λ i. socket_id_version s < vref_version (get_or c.words (ref_index i) 0)) (sym slot_is)
+    (dite (dec_le (suc (socket_id_version s)) (vref_version (get_or c.words (ref_index x.slot) 0))) (λ past. omega (arith, past)) (λ no_. absurd (some-ne-none x.slot
     (sym (sound.lawful.in_slots.alone x.slot x.version k record {
       life = record { inside = x.inside; given = subst (λ l. 0 < count (is_linked x.version l) (slot_facts (state c vs) x.slot)) same_link x.given };
       unended = none_freed x.slot x.version x.inside (omega (arith, no_, version_is));
     }) ∙ finished_outside p c vs sound k low finished))))
   where
     -- a life that isn't past isn't ended
-    none_freed : (i h : ℕ) → i < p.slots → vref_version (get_or c.words (ref_word i) 0) ≤ h → count (is_freer h) (slot_facts (state c vs) i) ≡ 0
+    none_freed : (i h : ℕ) → i < p.slots → vref_version (get_or c.words (ref_index i) 0) ≤ h → count (is_freer h) (slot_facts (state c vs) i) ≡ 0
     none_freed i h inside le = dite (ℕ_discrete (count (is_freer h) (slot_facts (state c vs) i)) 0) (λ z. z)
         (λ some_. let l = law p (state c vs) sound.lawful.references i inside in let e = l.ended h in let t = life_is p.first h ((slot_facts (state c vs) i).version - 1) (omega (arith, some_, e)) in let u = t.1 in absurd (let z : ⊥ = omega (arith, u, le) in z))

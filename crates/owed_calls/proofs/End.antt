@@ -7,9 +7,9 @@ use Rattle.sock_words.specs.declared.plain.Plan.{Plan}
 use Rattle.corr_core.specs.Law.{Stands, vacant, retired, claimed, opened, locked, leaving}
 use Rattle.corr_core.specs.declared.marks.Plan.{Plan as IdPlan}
 use Rattle.id_rule.specs.Lawful.{local, tokens_in, tokens_of}
-use Rattle.sock_programs.specs.Asides.{call_id, id_slot, id_first}
-use Rattle.sock_programs.specs.Programs.{Rest}
-use Rattle.sock_programs.specs.Cores.{Core}
+use Rattle.seat_programs.specs.Asides.{call_id, id_slot, id_first}
+use Rattle.seat_programs.specs.Programs.{Rest}
+use Rattle.seat_programs.specs.Cores.{Core}
 use Rattle.joint_runs.specs.id_runs.specs.Held.{IdView, id_state}
 use Rattle.joint_runs.specs.id_runs.specs.Goes.{IdGoesOn, SoundIds}
 use Rattle.owed_calls.specs.Owing.{Duty, Owing, InList, DutyTo, Among}

@@ -12,17 +12,17 @@ use Rattle.sock_io.specs.declared.link.Ready.{Ready}
 use Rattle.sock_model.specs.declared.home.Home.{Home}
 use Rattle.sock_model.specs.Messages.{Letter}
 use Rattle.sock_model.specs.Reads.{message, link_home}
-use Rattle.sock_programs.specs.Asides.{Step, Found, ClaimId, PutCall, MakeId, StoreCall, LoadCall, StoreAt, LoadAt, LoadIdWord, LockId, PostId, UnlockId, EndId, FreeId, TakeCall, TakeBytes, Taking, Bytes, Nothing, NoMore, AtEnd, Closed, Broken}
-use Rattle.sock_programs.specs.Beside.{found_in, calls_after, more_given}
-use Rattle.sock_programs.specs.Calls.{kind_of}
-use Rattle.sock_programs.specs.Asides.{kind_aside}
-use Rattle.sock_programs.specs.Programs.{Program, Do, Say, Sent, Rest, TakeMessage, TakeHome, PutHome, PutBytes, AskReady, Write, Aside, Round, Keep, Retries}
-use Rattle.sock_programs.specs.Rounds.{round, kind_of_round}
-use Rattle.sock_programs.specs.Sends.{block}
-use Rattle.sock_programs.specs.Cores.{Calls, Core, SeatState}
-use Rattle.sock_programs.specs.Ticks.{Answer, Unasked, OfPut, OfReady, OfTake, Moment, seats_of, taken, with_message, with_link, with_put, with_ready, with_found, step_with, tick_with, ticked, run, waits, IsPrompt}
-use Rattle.sock_programs.specs.Runs.{kind_in, IsAtRest, from_to}
-use Rattle.sock_programs.specs.Scripts.{AreStill}
+use Rattle.seat_programs.specs.Asides.{Step, Found, ClaimId, PutCall, MakeId, StoreCall, LoadCall, StoreAt, LoadAt, LoadIdWord, LockId, PostId, UnlockId, EndId, FreeId, TakeCall, TakeBytes, Taking, Bytes, Nothing, NoMore, AtEnd, Closed, Broken}
+use Rattle.seat_programs.specs.Beside.{found_in, calls_after, more_given}
+use Rattle.seat_programs.specs.Calls.{kind_of}
+use Rattle.seat_programs.specs.Asides.{kind_aside}
+use Rattle.seat_programs.specs.Programs.{Program, Do, Say, Sent, Rest, TakeMessage, TakeHome, PutHome, PutBytes, AskReady, Write, Aside, Round, Keep, Retries}
+use Rattle.seat_programs.specs.Rounds.{round, kind_of_round}
+use Rattle.seat_programs.specs.Sends.{block}
+use Rattle.seat_programs.specs.Cores.{Calls, Core, SeatState}
+use Rattle.seat_programs.specs.Ticks.{Answer, Unasked, OfPut, OfReady, OfTake, Moment, seats_of, taken, with_message, with_link, with_put, with_ready, with_found, step_with, tick_with, ticked, run, waits, IsAlwaysReady}
+use Rattle.seat_programs.specs.Runs.{kind_in, IsAtRest, from_to}
+use Rattle.seat_programs.specs.Scripts.{AreStill}
 use Rattle.joint_runs.specs.sock_runs.proofs.Waiting.{still}
 
 -- ## The run stays one that is ending
@@ -159,10 +159,10 @@ all_still p c [] s = refl
 all_still p c (m ∷ ms) s = let e = one_still p c m s.0 in ap (λ d. run p d ms) e ∙ all_still p c ms (subst (λ d. AreStill p d ms) e s.1)
 
 -- a seat that is ticked among them is at rest or waits
-pub one_of_still : (p : Plan) (c : Core) (ms : List Moment) → AreStill p c ms → AllByRecursion IsPrompt ms → (n i : ℕ) → get_elem? (seats_of ms) n ≡ some i → IsAtRest c i ⊎ ((m : Moment) × (m.seat ≡ i) × IsPrompt m × (waits p c m ≡ true))
-one_of_still p c [] s prompt n i at = absurd (some-ne-none i (sym at))
-one_of_still p c (m ∷ ms) s prompt zero i at = let same : m.seat ≡ i = some-injective m.seat i at in ⊎_elim (λ rest. inl (subst (IsAtRest c) same rest)) (λ w. inr (m, same, prompt.0, w)) s.0
-one_of_still p c (m ∷ ms) s prompt (suc n) i at = one_of_still p c ms (subst (λ d. AreStill p d ms) (one_still p c m s.0) s.1) prompt.1 n i at
+pub one_of_still : (p : Plan) (c : Core) (ms : List Moment) → AreStill p c ms → AllByRecursion IsAlwaysReady ms → (n i : ℕ) → get_elem? (seats_of ms) n ≡ some i → IsAtRest c i ⊎ ((m : Moment) × (m.seat ≡ i) × IsAlwaysReady m × (waits p c m ≡ true))
+one_of_still p c [] s always_ready n i at = absurd (some-ne-none i (sym at))
+one_of_still p c (m ∷ ms) s always_ready zero i at = let same : m.seat ≡ i = some-injective m.seat i at in ⊎_elim (λ rest. inl (subst (IsAtRest c) same rest)) (λ w. inr (m, same, always_ready.0, w)) s.0
+one_of_still p c (m ∷ ms) s always_ready (suc n) i at = one_of_still p c ms (subst (λ d. AreStill p d ms) (one_still p c m s.0) s.1) always_ready.1 n i at
 
 -- ## Lists
 

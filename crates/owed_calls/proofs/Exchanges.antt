@@ -9,9 +9,9 @@ use Rattle.sock_words.specs.declared.outcome.Outcome.{Outcome}
 use Rattle.corr_core.specs.Word.{Parts, parts, attempt_of, locked_word}
 use Rattle.corr_core.specs.declared.marks.Plan.{Plan as IdPlan}
 use Rattle.id_rule.specs.Lawful as ids
-use Rattle.sock_programs.specs.Asides.{id_slot, id_first}
-use Rattle.sock_programs.specs.Posts.{is_first}
-use Rattle.sock_programs.specs.Cores.{Core, SeatState, Calls, waiting_at}
+use Rattle.seat_programs.specs.Asides.{id_slot, id_first}
+use Rattle.seat_programs.specs.Posts.{is_first}
+use Rattle.seat_programs.specs.Cores.{Core, SeatState, Calls, waiting_at}
 use Rattle.owed_calls.specs.Owing.{Duty, Free, Trying, Linked, Looking, Telling, Owing, Among, DutyTo, duty_tokens, freed, Posting, posts_on, leaves, has_ended}
 use Rattle.owed_calls.specs.Sound.{id_word_of, at_of, retry_tokens, Past, Token, Distinct, IsAt, IsOpen, ErrorPast, Stored, OwingLaw}
 use Rattle.owed_calls.proofs.Posts.{id_back, was_free, true_false, not_equal}
@@ -23,18 +23,18 @@ module _ (q : IdPlan) (life : ℕ → Option ℕ) (calls : List ℕ) (c : Core) 
     (ss : List SeatState) (os : List (std.Option Outcome)) (s : ℕ) (inside : s < q.slots) where
   -- the id word of slot s becomes x
   abbrev pub Calls' : ℕ → Calls
-  Calls' x = record c.calls { words = set c.calls.words (ids.id_word s) x }
+  Calls' x = record c.calls { words = set c.calls.words (ids.id_index s) x }
 
   abbrev pub Set : ℕ → Core
   Set x = record { words = c.words; homes = c.homes; seats = ss; outcomes = os; calls = Calls' x }
 
   pub word_set : (x j : ℕ) → j < q.slots → (id_word_of (Set x) j ≡ id_word_of c j) ⊎ ((j ≡ s) × (id_word_of (Set x) j ≡ parts x))
   word_set x j low = dite (ℕ_discrete j s)
-      (λ e. inr (e, ap parts (ap (λ k. get_or (set c.calls.words (ids.id_word s) x) (ids.id_word k) 0) e ∙ get_or-set_same c.calls.words (ids.id_word s) x 0 (omega (arith, sized, inside)))))
-      (λ ne. inl (ap parts (get_or-set_other c.calls.words (ids.id_word s) (ids.id_word j) x 0 (λ e. ne (omega (arith, e))))))
+      (λ e. inr (e, ap parts (ap (λ k. get_or (set c.calls.words (ids.id_index s) x) (ids.id_index k) 0) e ∙ get_or-set_same c.calls.words (ids.id_index s) x 0 (omega (arith, sized, inside)))))
+      (λ ne. inl (ap parts (get_or-set_other c.calls.words (ids.id_index s) (ids.id_index j) x 0 (λ e. ne (omega (arith, e))))))
 
   pub ats_set : (x o : ℕ) → o < q.operations → at_of q (Set x) o ≡ at_of q c o
-  ats_set x o low = get_or-set_other c.calls.words (ids.id_word s) (ids.at_word q o) x 0 (λ e. omega (arith, e, inside))
+  ats_set x o low = get_or-set_other c.calls.words (ids.id_index s) (ids.at_index q o) x 0 (λ e. omega (arith, e, inside))
 
   pub own_past : (id n : ℕ) → Among id n u.knows → Past us id n
   own_past id n a = (i, u, at, a)
@@ -141,7 +141,7 @@ module _ (q : IdPlan) (life : ℕ → Option ℕ) (calls : List ℕ) (c : Core) 
             shut w (ap (λ (y : Parts). y.state) (sym (there j here low)) ∙ now.1)
           where
             there : (j : ℕ) → id_slot j ≡ s → id_slot j < q.slots → id_word_of (Set x) (id_slot j) ≡ parts x
-            there j e low = ap parts (ap (λ k. get_or (set c.calls.words (ids.id_word s) x) (ids.id_word k) 0) e ∙ get_or-set_same c.calls.words (ids.id_word s) x 0 (omega (arith, sized, inside)))
+            there j e low = ap parts (ap (λ k. get_or (set c.calls.words (ids.id_index s) x) (ids.id_index k) 0) e ∙ get_or-set_same c.calls.words (ids.id_index s) x 0 (omega (arith, sized, inside)))
     posting_keeps found won v is shut (has_ended id n duty slot off e) = subst (λ y. OwingLaw q life calls (Set x) (set us i y)) (sym e) (worded q life calls c us i u law at (Calls' x) refl ss os (freed u) s (parts x) (freed_step none_))
       where
         none_ : (j m : ℕ) → id_slot j < q.slots → IsOpen c j m → IsOpen (Set x) j m → DutyTo j m u.duty → ⊥

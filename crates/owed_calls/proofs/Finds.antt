@@ -5,9 +5,9 @@ use lib.ListN.{get_elem?}
 use Rattle.corr_core.specs.Word.{Parts, parts}
 use Rattle.corr_core.specs.declared.marks.Plan.{Plan as IdPlan}
 use Rattle.id_rule.specs.Lawful as ids
-use Rattle.sock_programs.specs.Asides.{LockId, call_id, id_slot, id_first}
-use Rattle.sock_programs.specs.Posts.{advance_of}
-use Rattle.sock_programs.specs.Cores.{Core, waiting_at}
+use Rattle.seat_programs.specs.Asides.{LockId, call_id, id_slot, id_first}
+use Rattle.seat_programs.specs.Posts.{advance_of}
+use Rattle.seat_programs.specs.Cores.{Core, waiting_at}
 use Rattle.owed_calls.specs.Owing.{Duty, Trying, Owing, Among, duty_tokens, MayUnlock, FindsOwe, FindsUnlock}
 use Rattle.owed_calls.specs.Sound.{id_word_of, retry_tokens, Past, Token, ErrorPast, OwingLaw}
 use Rattle.owed_calls.proofs.Changes.{among_left}
@@ -16,7 +16,7 @@ module _ (q : IdPlan) (life : ℕ → Option ℕ) (calls : List ℕ) (c : Core) 
   tries : (id n : ℕ) → u.duty ≡ Trying id n → Token c us id n i
   tries id n is = (u, at, among_left id n (duty_tokens u.duty) (retry_tokens (waiting_at c.calls.waiting i)) (subst (λ (d : Duty). Among id n (duty_tokens d)) (sym is) (inl (refl, refl))))
 
-  pub lock_finds : (s from : ℕ) → FindsOwe u (LockId s from) (get_or c.calls.words (ids.id_word s) 0)
+  pub lock_finds : (s from : ℕ) → FindsOwe u (LockId s from) (get_or c.calls.words (ids.id_index s) 0)
   lock_finds s from = λ _ id n is slot first. ⊎_elim
       (λ e. absurd (let z : id_first id < (id_word_of c s).first = subst (λ k. id_first id < (id_word_of c k).first) slot e.1 in let w : ⊥ = omega (arith, z, first) in w))
       (λ a. ap (λ k. (id_word_of c k).attempt) (sym slot) ∙ a.3) (law.current id n i (tries id n is))

@@ -9,12 +9,12 @@ use Rattle.corr_core.specs.declared.marks.Plan.{Plan as IdPlan}
 use Rattle.corr_core.specs.declared.marks.Hand.{Hand}
 use Rattle.corr_core.specs.declared.marks.Hand.TheVariants.{Full}
 use Rattle.corr_core.specs.declared.marks.Token.TheVariants.{Claimed, Locked}
-use Rattle.id_rule.specs.Lawful.{id_word, local, Lawful}
+use Rattle.id_rule.specs.Lawful.{id_index, local, Lawful}
 use Rattle.id_rule.specs.Plays.{Longer}
 use Rattle.id_rule.proofs.Allowed as allowed
-use Rattle.sock_programs.specs.sock_message.specs.Asked.{Asked}
-use Rattle.sock_programs.specs.Heads.{Retry}
-use Rattle.sock_programs.specs.Cores.{Calls}
+use Rattle.seat_programs.specs.sock_message.specs.Asked.{Asked}
+use Rattle.seat_programs.specs.Heads.{Retry}
+use Rattle.seat_programs.specs.Cores.{Calls}
 use Rattle.joint_runs.specs.id_runs.specs.Held.{IdView, id_state, HasOne}
 use Rattle.joint_runs.specs.id_runs.specs.Goes.{FitsRetryId, FindsLonger}
 use Rattle.owed_calls.proofs.Seats.{Few}
@@ -34,7 +34,7 @@ claimed_free b l seen h (leaving t g s x y) has = s
 
 module _ (q : IdPlan) (a : Calls) (us : List IdView) (law : Lawful q (id_state a us)) (k : ℕ) (u : IdView) (at : get_elem? us k ≡ some u) (real : 0 < u.share) (i : ℕ) (inside : i < q.slots) where
   abbrev pub Word : ℕ
-  Word = get_or a.words (id_word i) 0
+  Word = get_or a.words (id_index i) 0
 
   pub free_there : (seen : ℕ) (c : Asked) → HasOne i (Claimed seen (Full c)) u → (parts Word).state ≡ 0
   free_there seen c has = claimed_free (law.slots i inside).b (local (id_state a us) i) seen (Full c) (law.slots i inside).stands (allowed.own q k (u, []) i inside real (id_state a us) law at (Claimed seen (Full c)) has)

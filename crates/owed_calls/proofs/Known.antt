@@ -15,15 +15,15 @@ use Rattle.brpc_model.specs.Items.{Item, is_open}
 use Rattle.brpc_model.specs.Operations.{Turn, operations, clients, link_names}
 use Rattle.sock_model.specs.declared.view.View.{View}
 use Rattle.corr_core.specs.declared.marks.Plan.{Plan as IdPlan}
-use Rattle.sock_programs.specs.Asides.{TakeBytes, Closed}
-use Rattle.sock_programs.specs.Programs.{Program, Do, Rest, Aside}
-use Rattle.sock_programs.specs.Tasks.{Numbered, numbered, opens, calls, plan_of, id_plan_of}
-use Rattle.sock_programs.specs.Clients.{client_from, ending_of}
-use Rattle.sock_programs.specs.Cores.{Core, SeatState, resolved, next_step, waiting_at}
-use Rattle.sock_programs.specs.Ticks.{Unasked, Moment, quiet, ticked, run, IsPrompt, waits}
-use Rattle.sock_programs.specs.Runs as runs
-use Rattle.sock_programs.specs.Runs.{kind_in}
-use Rattle.sock_programs.specs.Scripts.{ticks_of, sizes_of, programs, readers_from, all_programs, all_tasks, opened, ending, is_ending, set_up, played, IsRunWithCalls}
+use Rattle.seat_programs.specs.Asides.{TakeBytes, Closed}
+use Rattle.seat_programs.specs.Programs.{Program, Do, Rest, Aside}
+use Rattle.seat_programs.specs.Tasks.{Numbered, numbered, opens, calls, plan_of, id_plan_of}
+use Rattle.seat_programs.specs.Clients.{client_from, ending_of}
+use Rattle.seat_programs.specs.Cores.{Core, SeatState, resolved, next_step, waiting_at}
+use Rattle.seat_programs.specs.Ticks.{Unasked, Moment, quiet, ticked, run, IsAlwaysReady, waits}
+use Rattle.seat_programs.specs.Runs as runs
+use Rattle.seat_programs.specs.Runs.{kind_in}
+use Rattle.seat_programs.specs.Scripts.{ticks_of, sizes_of, programs, readers_from, all_programs, all_tasks, opened, ending, is_ending, set_up, played, IsRunWithCalls}
 use Rattle.joint_runs.specs.sock_runs.specs.Sound.{AllRest, views_along}
 use Rattle.joint_runs.specs.sock_runs.proofs.LinkTicks.{RetriesGo}
 use Rattle.joint_runs.specs.sock_runs.proofs.Along.{seat_rests, place_inside}
@@ -31,20 +31,20 @@ use Rattle.joint_runs.specs.sock_runs.proofs.Quiets.{run_seats, run_rests}
 use Rattle.joint_runs.specs.sock_runs.proofs.Records.{stores}
 use Rattle.joint_runs.specs.sock_runs.proofs.Through.{Passes, Follows}
 use Rattle.joint_runs.specs.sock_runs.proofs.ThroughCalls.{through_next}
-use Rattle.sock_programs.specs.Calls.{Call, StoreOpen}
+use Rattle.seat_programs.specs.Calls.{Call, StoreOpen}
 use Rattle.joint_runs.specs.id_runs.specs.Goes as goes
 use Rattle.joint_runs.specs.sock_runs.proofs.WillStore.{WillStore, IsToStore, will_client, run_stores, rested_stored}
 use Rattle.joint_runs.specs.sock_runs.proofs.LinksOpening.{OpensLink}
 use Rattle.joint_runs.specs.sock_runs.proofs.Whole.{AreFittingIn, Begins, IsOwed, IsListed, views_closed, set_up_answered, end_answered, set_up_sound, closing_sound, closed_sound, views_played, rested_ahead, rested_idle, ended_idle, end_rests}
 use Rattle.joint_runs.specs.id_runs.proofs.Opening.{unused}
-use Rattle.joint_runs.specs.client_laws.proofs.Beginning as clients_begin
-use Rattle.joint_runs.specs.client_laws.proofs.Retrying.{retries_go}
+use Rattle.joint_runs.specs.programs_allowed.proofs.Beginning as clients_begin
+use Rattle.joint_runs.specs.programs_allowed.proofs.Retrying.{retries_go}
 use Rattle.joint_runs.proofs.Both.{AreBoth, behind_both}
 use Rattle.joint_runs.proofs.Runs.{AreMade, first_views, begins, IsSoundRun, are_fitting_in, joint_runs}
 use Rattle.report_fits.proofs.Lists.{some_is, before_from, before_at, before_filter_map}
 use Rattle.report_fits.proofs.Numbering.{is_numbered}
 use Rattle.report_fits.proofs.TaskLemmas.{tasks_length}
-use Rattle.joint_runs.specs.chain_laws.proofs.Lists.{at_some}
+use Rattle.joint_runs.specs.chain_steps.proofs.Lists.{at_some}
 use Rattle.owed_calls.specs.Owing.{Owing}
 use Rattle.owed_calls.specs.Sound.{id_word_of, SoundOwing}
 use Rattle.owed_calls.specs.Owns.{Owned}
@@ -186,8 +186,8 @@ module _ (script : List Item) (made : AreMade script) (turns : List Turn) (core 
   core_still : core ≡ before_last
   core_still = let s = is.settles_again in is.is_end ∙ ap (run (plan_of script) is.ended) s.all ∙ run_parts (plan_of script) is.ended (ticks_of s.moving) s.last ∙ all_still (plan_of script) before_last s.last s.still
 
-  prompt_last : AllByRecursion IsPrompt (let s = is.settles_again in s.last)
-  prompt_last = let s = is.settles_again in second_part IsPrompt (ticks_of s.moving) s.last (subst (AllByRecursion IsPrompt) s.all (second_part IsPrompt (is.scheduled ++ is.later) is.final is.prompt))
+  prompt_last : AllByRecursion IsAlwaysReady (let s = is.settles_again in s.last)
+  prompt_last = let s = is.settles_again in second_part IsAlwaysReady (ticks_of s.moving) s.last (subst (AllByRecursion IsAlwaysReady) s.all (second_part IsAlwaysReady (is.scheduled ++ is.later) is.final is.always_ready))
 
   many : length core.seats ≡ 32 + length (link_names script)
   many = ap (λ (d : Core). length d.seats) is.is_end ∙ run_seats (plan_of script) is.ended is.final ∙ ap (λ (d : Core). length d.seats) is.is_ended ∙ run_seats (plan_of script) (ending script (played script is.setup (is.scheduled ++ is.later))) (replicate is.last (quiet 0))
@@ -216,15 +216,15 @@ module _ (script : List Item) (made : AreMade script) (turns : List Turn) (core 
       closed : runs.IsAtRest (is_ending (run (plan_of script) (ending script (played script is.setup (is.scheduled ++ is.later))) (replicate is.last (quiet 0)))) i
       closed = run_rests (plan_of script) (ending script (played script is.setup (is.scheduled ++ is.later))) (replicate is.last (quiet 0)) i closing
 
-  still : (i : ℕ) → i < length core.seats → runs.IsAtRest core i ⊎ ((m : Moment) × (m.seat ≡ i) × IsPrompt m × (waits (plan_of script) core m ≡ true))
+  still : (i : ℕ) → i < length core.seats → runs.IsAtRest core i ⊎ ((m : Moment) × (m.seat ≡ i) × IsAlwaysReady m × (waits (plan_of script) core m ≡ true))
   still i inside = dite (ℕ_discrete i 0)
       (λ e. inl (subst (runs.IsAtRest core) (sym e) (ended_idle script made.are vs (begins script made) go turns core is fitting)))
       (λ some_. dite (dec_le i (clients script)) (λ client. by_round (inl (omega (arith, some_), client)))
       (λ no_. dite (dec_le 32 i) (λ reader. by_round (inr (reader, (let m = many in omega (arith, inside, m))))) (λ between. inl (rests_between i (omega (arith, no_)) (omega (arith, between))))))
     where
-      by_round : ((0 < i) × (i ≤ clients script)) ⊎ ((32 ≤ i) × (i < 32 + length (link_names script))) → runs.IsAtRest core i ⊎ ((m : Moment) × (m.seat ≡ i) × IsPrompt m × (waits (plan_of script) core m ≡ true))
+      by_round : ((0 < i) × (i ≤ clients script)) ⊎ ((32 ≤ i) × (i < 32 + length (link_names script))) → runs.IsAtRest core i ⊎ ((m : Moment) × (m.seat ≡ i) × IsAlwaysReady m × (waits (plan_of script) core m ≡ true))
       by_round h = let s = is.settles_again in let n = in_round (clients script) (length (link_names script)) i h in
-          subst (λ d. runs.IsAtRest d i ⊎ ((m : Moment) × (m.seat ≡ i) × IsPrompt m × (waits (plan_of script) d m ≡ true))) (sym core_still)
+          subst (λ d. runs.IsAtRest d i ⊎ ((m : Moment) × (m.seat ≡ i) × IsAlwaysReady m × (waits (plan_of script) d m ≡ true))) (sym core_still)
           (one_of_still (plan_of script) before_last s.last s.still prompt_last n.0 i (ap (λ (l : List ℕ). get_elem? l n.0) s.one_more ∙ n.1))
 
   -- ## The words of `open`s

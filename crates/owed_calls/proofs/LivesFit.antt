@@ -9,12 +9,12 @@ use Rattle.sock_model.specs.declared.home.Home.{Home}
 use Rattle.sock_model.specs.declared.home.Home.TheVariants.{Link, Message}
 use Rattle.sock_model.specs.declared.view.View.{View}
 use Rattle.sock_model.specs.declared.view.Hand.{Hand}
-use Rattle.sock_model.specs.Layout.{ref_word}
+use Rattle.sock_model.specs.Layout.{ref_index}
 use Rattle.sock_model.specs.Weights.{is_born}
 use Rattle.sock_model.specs.Slots.{count}
 use Rattle.sock_model.specs.References.{slot_facts}
-use Rattle.sock_programs.specs.Calls.{Call, SetOdd}
-use Rattle.sock_programs.specs.Cores.{Core, word_of, word_after, found_at, words_after, first_of}
+use Rattle.seat_programs.specs.Calls.{Call, SetOdd}
+use Rattle.seat_programs.specs.Cores.{Core, word_of, word_after, found_at, words_after, first_of}
 use Rattle.joint_runs.specs.sock_runs.specs.May.{May}
 use Rattle.joint_runs.specs.sock_runs.specs.Sound.{state, Sound, AreInHand, AreHeld, IsOfRight}
 use Rattle.joint_runs.specs.sock_runs.proofs.Versions.{versions_on, odd_past, other_past, look_holds}
@@ -48,11 +48,11 @@ module _ (p : Plan) (life : ℕ → Option ℕ) (inside : (k s : ℕ) → life k
     finds = finds;
     failed = λ k f s lives. let a = f s lives in let b = versions_on p c vs sound i v at call may (socket_id_slot s) (inside k s lives) in omega (arith, a, b);
     odd = λ k s is linked lives t also. let same : s ≡ t = (let z : Some s ≡ Some t = sym lives ∙ also in cc) in let o = odd_past p c vs sound i v at (socket_id_slot s) (socket_id_version s) (inside k s lives) (born k s is linked lives) in
-        subst (λ x. socket_id_version x < vref_version (get_or (words_after c.words (word_of p call) (word_after call (found_at c.words (word_of p call)))) (ref_word (socket_id_slot x)) 0)) same
-        (subst (λ y. socket_id_version s < vref_version (get_or (words_after c.words (word_of p y) (word_after y (found_at c.words (word_of p y)))) (ref_word (socket_id_slot s)) 0)) (sym is) o);
+        subst (λ x. socket_id_version x < vref_version (get_or (words_after c.words (word_of p call) (word_after call (found_at c.words (word_of p call)))) (ref_index (socket_id_slot x)) 0)) same
+        (subst (λ y. socket_id_version s < vref_version (get_or (words_after c.words (word_of p y) (word_after y (found_at c.words (word_of p y)))) (ref_index (socket_id_slot s)) 0)) (sym is) o);
     other = λ k s is linked lives far t also. let same : s ≡ t = (let z : Some s ≡ Some t = sym lives ∙ also in cc) in
         let o = other_past p c vs sound i v at s (subst (May p v) is may) (subst (λ y. vref_version (found_at c.words (word_of p y)) ≢ socket_id_version s) is far) in
-        subst (λ x. socket_id_version x < vref_version (get_or (words_after c.words (word_of p call) (word_after call (found_at c.words (word_of p call)))) (ref_word (socket_id_slot x)) 0)) same
-        (subst (λ y. socket_id_version s < vref_version (get_or (words_after c.words (word_of p y) (word_after y (found_at c.words (word_of p y)))) (ref_word (socket_id_slot s)) 0)) (sym is) o);
+        subst (λ x. socket_id_version x < vref_version (get_or (words_after c.words (word_of p call) (word_after call (found_at c.words (word_of p call)))) (ref_index (socket_id_slot x)) 0)) same
+        (subst (λ y. socket_id_version s < vref_version (get_or (words_after c.words (word_of p y) (word_after y (found_at c.words (word_of p y)))) (ref_index (socket_id_slot s)) 0)) (sym is) o);
     live = λ k s is lives even f. let e = look_holds p c vs sound i v at s (subst (May p v) is may) (subst (λ y. vref_version (found_at c.words (word_of p y)) % 2 ≡ 0) is even) in let far = f s lives in omega (arith, e, far);
   }

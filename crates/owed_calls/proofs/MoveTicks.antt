@@ -11,8 +11,8 @@ use Rattle.sock_model.specs.declared.chain.Heading.{Heading}
 use Rattle.sock_model.specs.declared.home.Home.{Home}
 use Rattle.sock_model.specs.declared.home.Home.TheVariants.{Message}
 use Rattle.corr_core.specs.declared.marks.Plan.{Plan as IdPlan}
-use Rattle.sock_programs.specs.Programs.{Program, TakeMessage}
-use Rattle.sock_programs.specs.Cores.{Core, SeatState, waiting_at, with_seat}
+use Rattle.seat_programs.specs.Programs.{Program, TakeMessage}
+use Rattle.seat_programs.specs.Cores.{Core, SeatState, waiting_at, with_seat}
 use Rattle.owed_calls.specs.Owing.{Owing, with_known}
 use Rattle.owed_calls.specs.Owes.{OwesOn}
 use Rattle.owed_calls.specs.Sound.{Past, SoundOwing, by_seat, by_reader}

@@ -7,8 +7,8 @@ use Rattle.sock_model.specs.declared.home.Home.TheVariants.{Message}
 use Rattle.corr_core.specs.Word.{Parts}
 use Rattle.corr_core.specs.declared.marks.Plan.{Plan as IdPlan}
 use Rattle.id_rule.specs.Lawful as ids
-use Rattle.sock_programs.specs.Asides.{id_slot}
-use Rattle.sock_programs.specs.Cores.{Core, waiting_at}
+use Rattle.seat_programs.specs.Asides.{id_slot}
+use Rattle.seat_programs.specs.Cores.{Core, waiting_at}
 use Rattle.owed_calls.specs.Owing.{Duty, Free, Owing, Among, duty_tokens}
 use Rattle.owed_calls.specs.Sound.{id_word_of, retry_tokens, Past, Token, Distinct, Stored, OwingLaw}
 
@@ -33,7 +33,7 @@ begins_law q life calls c us b = record {
   past = λ id n p. absurd (no_past id n p);
   errors = λ id inside f st. absurd (let z : (id_word_of c (id_slot id)).state ≡ 0 = ap (λ (y : Parts). y.state) (b.words.ids (id_slot id) inside) in let w : ⊥ = omega (arith, z, st) in w);
   letters = λ r heading bytes e some_. absurd (b.letters r heading bytes e);
-  ats = λ o low some_. absurd (some_ (b.words.rest (ids.at_word q o) (omega arith)));
+  ats = λ o low some_. absurd (some_ (b.words.rest (ids.at_index q o) (omega arith)));
   readers = λ k s e. let r = b.readers k s e in (r.0, r.1, r.2, r.3, inr r.4);
   dead = λ j k u at l d. let z : true ≡ false = sym d ∙ (b.bare j u at).2 in absurd cc;
   stored = λ j u at. subst (Stored q calls c us) (sym (b.bare j u at).0) tt;

@@ -6,10 +6,10 @@ use lib.ListN.{get_elem?}
 use Rattle.brpc_model.specs.Items.{Item, Open, is_open}
 use Rattle.brpc_model.specs.Operations.{operations}
 use Rattle.brpc_model.specs.Places.{names}
-use Rattle.sock_programs.specs.declared.task.Op.{Op}
-use Rattle.sock_programs.specs.declared.task.Task.{Task}
-use Rattle.sock_programs.specs.Tasks.{Numbered, numbered, op_of, opens}
-use Rattle.sock_programs.specs.Scripts.{all_tasks}
+use Rattle.seat_programs.specs.declared.task.Op.{Op}
+use Rattle.seat_programs.specs.declared.task.Task.{Task}
+use Rattle.seat_programs.specs.Tasks.{Numbered, numbered, op_of, opens}
+use Rattle.seat_programs.specs.Scripts.{all_tasks}
 use Rattle.joint_runs.specs.sock_runs.proofs.Opening.{is_opening, opens_in}
 use Rattle.report_fits.proofs.Lists.{filter_map_has, has_from, some_is}
 use Rattle.report_fits.proofs.Numbering.{is_numbered}

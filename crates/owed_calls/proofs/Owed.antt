@@ -10,18 +10,18 @@ use Rattle.sock_words.specs.declared.plain.Plan.{Plan}
 use Rattle.brpc_model.specs.Items.{Item}
 use Rattle.brpc_model.specs.Operations.{Turn, clients, link_names}
 use Rattle.sock_model.specs.declared.view.View.{View}
-use Rattle.sock_model.specs.Layout.{open_word}
+use Rattle.sock_model.specs.Layout.{open_index}
 use Rattle.corr_core.specs.declared.marks.Plan.{Plan as IdPlan}
 use Rattle.id_rule.specs.Lawful as ids
-use Rattle.sock_programs.specs.declared.task.Task.{Task}
-use Rattle.sock_programs.specs.Programs.{Program, Rest}
-use Rattle.sock_programs.specs.Tasks.{opens, calls, plan_of, id_plan_of}
-use Rattle.sock_programs.specs.Clients.{client_from}
-use Rattle.sock_programs.specs.Cores.{Core, SeatState, resolved, next_step}
-use Rattle.sock_programs.specs.Ticks.{Moment, quiet, run, AreAnswered, IsPrompt, waits}
-use Rattle.sock_programs.specs.Runs as runs
-use Rattle.sock_programs.specs.Scripts.{sizes_of, programs, readers_from, all_programs, tasks_from, all_tasks, opening_calls, opened, ending, is_ending, set_up, played, IsRunWithCalls}
-use Rattle.sock_programs.specs.Told.{AreTasks}
+use Rattle.seat_programs.specs.declared.task.Task.{Task}
+use Rattle.seat_programs.specs.Programs.{Program, Rest}
+use Rattle.seat_programs.specs.Tasks.{opens, calls, plan_of, id_plan_of}
+use Rattle.seat_programs.specs.Clients.{client_from}
+use Rattle.seat_programs.specs.Cores.{Core, SeatState, resolved, next_step}
+use Rattle.seat_programs.specs.Ticks.{Moment, quiet, run, AreAnswered, IsAlwaysReady, waits}
+use Rattle.seat_programs.specs.Runs as runs
+use Rattle.seat_programs.specs.Scripts.{sizes_of, programs, readers_from, all_programs, tasks_from, all_tasks, opening_calls, opened, ending, is_ending, set_up, played, IsRunWithCalls}
+use Rattle.seat_programs.specs.Told.{AreTasks}
 use Rattle.joint_runs.specs.sock_runs.specs.Sound.{Sound, IsAhead, AreFitting, views_along}
 use Rattle.joint_runs.specs.sock_runs.proofs.LinkTicks.{RetriesGo}
 use Rattle.joint_runs.specs.sock_runs.proofs.Along.{run_sound, seat_rests, place_inside}
@@ -56,9 +56,9 @@ pub record IsKnown (script : List Item) : Type 0 where
 -- of its end: the ids are sound, each seat is at rest or waits while the run is ending, and a client at rest has made its `open`s
 pub record IsAtEnd (script : List Item) (core : Core) : Type 0 where
   pub ids_end : (ws : List IdView) × SoundIds (plan_of script) (id_plan_of script) core ws
-  pub still : (i : ℕ) → i < length core.seats → runs.IsAtRest core i ⊎ ((m : Moment) × (m.seat ≡ i) × IsPrompt m × (waits (plan_of script) core m ≡ true))
+  pub still : (i : ℕ) → i < length core.seats → runs.IsAtRest core i ⊎ ((m : Moment) × (m.seat ≡ i) × IsAlwaysReady m × (waits (plan_of script) core m ≡ true))
   pub flag : core.calls.ending ≡ true
-  pub stored : (n o : ℕ) → get_elem? (opens script) n ≡ some o → ((i : ℕ) → i < 32 → i < length core.seats → settled.IsAtRest core i) → get_or core.words (open_word (plan_of script) o) 0 ≢ 0
+  pub stored : (n o : ℕ) → get_elem? (opens script) n ≡ some o → ((i : ℕ) → i < 32 → i < length core.seats → settled.IsAtRest core i) → get_or core.words (open_index (plan_of script) o) 0 ≢ 0
 
 pub tasks_own : (script : List Item) (client n : ℕ) → AllByRecursion (AllByRecursion (λ (t : Task). OwnsLink (OpensLink (opens script)) t.number t.op)) (tasks_from script client n)
 tasks_own script client zero = tt
@@ -138,8 +138,8 @@ module _ (script : List Item) (are : AreTasks (plan_of script) (all_tasks script
   pub ahead₆ : IsAhead c₆
   ahead₆ = subst IsAhead core_is (ended_ahead script are vs begins go turns core is fitting)
 
-  pub still₆ : (i : ℕ) → i < length c₆.seats → runs.IsAtRest c₆ i ⊎ ((m : Moment) × (m.seat ≡ i) × IsPrompt m × (waits p c₆ m ≡ true))
-  still₆ = subst (λ d. (i : ℕ) → i < length d.seats → runs.IsAtRest d i ⊎ ((m : Moment) × (m.seat ≡ i) × IsPrompt m × (waits (plan_of script) d m ≡ true))) core_is end_.still
+  pub still₆ : (i : ℕ) → i < length c₆.seats → runs.IsAtRest c₆ i ⊎ ((m : Moment) × (m.seat ≡ i) × IsAlwaysReady m × (waits p c₆ m ≡ true))
+  still₆ = subst (λ d. (i : ℕ) → i < length d.seats → runs.IsAtRest d i ⊎ ((m : Moment) × (m.seat ≡ i) × IsAlwaysReady m × (waits (plan_of script) d m ≡ true))) core_is end_.still
 
   -- seat 0 is at rest before the ending
   rest₀ : (seat : SeatState) → get_elem? (played script is.setup (is.scheduled ++ is.later)).seats 0 ≡ some seat → seat.program ≡ Rest
@@ -157,15 +157,15 @@ module _ (script : List Item) (are : AreTasks (plan_of script) (all_tasks script
       (still_settles p c₆ v₆ sound₆ ahead₆ still₆ j (place_inside c₆.seats j seat at))
 
   -- the life of a link stands in the word of its `open`
-  opened_at : (k s : ℕ) → life_of p os c₆.words k ≡ Some s → (o : ℕ) × (get_elem? os k ≡ some o) × (id_of (get_or c₆.words (open_word p o) 0) ≡ Some s)
+  opened_at : (k s : ℕ) → life_of p os c₆.words k ≡ Some s → (o : ℕ) × (get_elem? os k ≡ some o) × (id_of (get_or c₆.words (open_index p o) 0) ≡ Some s)
   opened_at k s lives = by_open (get_elem? os k) refl lives
     where
-      by_open : (x : Maybe ℕ) → get_elem? os k ≡ x → elim x as (λ x. Option ℕ) [ none ↦ None | some o ↦ id_of (get_or c₆.words (open_word p o) 0) ] ≡ Some s → (o : ℕ) × (get_elem? os k ≡ some o) × (id_of (get_or c₆.words (open_word p o) 0) ≡ Some s)
+      by_open : (x : Maybe ℕ) → get_elem? os k ≡ x → elim x as (λ x. Option ℕ) [ none ↦ None | some o ↦ id_of (get_or c₆.words (open_index p o) 0) ] ≡ Some s → (o : ℕ) × (get_elem? os k ≡ some o) × (id_of (get_or c₆.words (open_index p o) 0) ≡ Some s)
       by_open none at e = absurd (let z : None ≡ Some s = e in cc)
       by_open (some o) at e = (o, at, e)
 
   pub slots₆ : (k s : ℕ) → life_of p os c₆.words k ≡ Some s → socket_id_slot s < p.slots
-  slots₆ k s lives = let x = opened_at k s lives in let named = id_is (get_or c₆.words (open_word p x.0) 0) s x.2 in let is_word = named.0 in
+  slots₆ k s lives = let x = opened_at k s lives in let named = id_is (get_or c₆.words (open_index p x.0) 0) s x.2 in let is_word = named.0 in
       let n = (sound₆.lawful.references.named.opens x.0 (known.in_script k x.0 x.1) named.1 (λ z. omega (arith, is_word, z))).0 in
       subst (λ y. socket_id_slot y < (plan_of script).slots) (let z : s + 1 - 1 ≡ s = omega arith in z) (subst (λ y. socket_id_slot (y - 1) < (plan_of script).slots) is_word n)
 
@@ -194,8 +194,8 @@ module _ (script : List Item) (are : AreTasks (plan_of script) (all_tasks script
   pub flag₆ : c₆.calls.ending ≡ true
   flag₆ = ap (λ (d : Core). d.calls.ending) (sym core_is) ∙ end_.flag
 
-  pub stored₆ : (n o : ℕ) → get_elem? os n ≡ some o → ((i : ℕ) → i < 32 → i < length c₆.seats → settled.IsAtRest c₆ i) → get_or c₆.words (open_word p o) 0 ≢ 0
-  stored₆ = subst (λ d. (n o : ℕ) → get_elem? (opens script) n ≡ some o → ((i : ℕ) → i < 32 → i < length d.seats → settled.IsAtRest d i) → get_or d.words (open_word (plan_of script) o) 0 ≢ 0) core_is end_.stored
+  pub stored₆ : (n o : ℕ) → get_elem? os n ≡ some o → ((i : ℕ) → i < 32 → i < length c₆.seats → settled.IsAtRest c₆ i) → get_or c₆.words (open_index p o) 0 ≢ 0
+  stored₆ = subst (λ d. (n o : ℕ) → get_elem? (opens script) n ≡ some o → ((i : ℕ) → i < 32 → i < length d.seats → settled.IsAtRest d i) → get_or d.words (open_index (plan_of script) o) 0 ≢ 0) core_is end_.stored
 
   -- where at each tick it is said what those who owe rely on
   module _ (says₁ : AreSaying p q (life_of p os c₆.words) (calls script) (opened script) m₁) (says₂ : AreSaying p q (life_of p os c₆.words) (calls script) (set_up script is.setup) (is.scheduled ++ is.later))

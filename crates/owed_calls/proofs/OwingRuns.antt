@@ -6,16 +6,16 @@ use lib.ListN.{get_elem?}
 use Rattle.sock_words.specs.Words.{socket_id, socket_id_version, socket_id_slot}
 use Rattle.sock_words.specs.declared.plain.Plan.{Plan}
 use Rattle.sock_model.specs.declared.view.View.{View}
-use Rattle.sock_model.specs.Layout.{open_word, link_word}
+use Rattle.sock_model.specs.Layout.{open_index, link_index}
 use Rattle.sock_model.specs.Weights.{is_born}
 use Rattle.sock_model.specs.Slots.{count}
 use Rattle.sock_model.specs.References.{slot_facts}
 use Rattle.corr_core.specs.declared.marks.Plan.{Plan as IdPlan}
-use Rattle.sock_programs.specs.Calls.{Call, SetOdd, FindLink, LoadOpen}
-use Rattle.sock_programs.specs.Asides.{Step, Found, StoreAt, TakeBytes}
-use Rattle.sock_programs.specs.Programs.{Program, Do, Say, Sent, Rest, TakeMessage, TakeHome, PutHome, PutBytes, AskReady, Write, Aside, Round, Keep, Retries, NO_SOCKET}
-use Rattle.sock_programs.specs.Cores.{Core, SeatState, word_of, found_at}
-use Rattle.sock_programs.specs.Ticks.{Answer, Moment, ticked, run, AreAnswered}
+use Rattle.seat_programs.specs.Calls.{Call, SetOdd, FindLink, LoadOpen}
+use Rattle.seat_programs.specs.Asides.{Step, Found, StoreAt, TakeBytes}
+use Rattle.seat_programs.specs.Programs.{Program, Do, Say, Sent, Rest, TakeMessage, TakeHome, PutHome, PutBytes, AskReady, Write, Aside, Round, Keep, Retries, NO_SOCKET}
+use Rattle.seat_programs.specs.Cores.{Core, SeatState, word_of, found_at}
+use Rattle.seat_programs.specs.Ticks.{Answer, Moment, ticked, run, AreAnswered}
 use Rattle.joint_runs.specs.sock_runs.specs.May.{May}
 use Rattle.joint_runs.specs.sock_runs.specs.GoesOn.{GoesOn}
 use Rattle.joint_runs.specs.sock_runs.specs.Sound.{state, Sound, AreFitting, first_step, views_after, views_along}
@@ -83,12 +83,12 @@ module _ (p : Plan) (q : IdPlan) (narrow : q.slots ≤ 65536) (same : q.operatio
   abbrev life : ℕ → Option ℕ
   life = life_of p os final
 
-  pub life_is : (k o : ℕ) → get_elem? os k ≡ some o → life k ≡ id_of (get_or final (open_word p o) 0)
-  life_is k o at = ap (λ x. elim x as (λ x. Option ℕ) [ none ↦ None | some o ↦ id_of (get_or final (open_word p o) 0) ]) at
+  pub life_is : (k o : ℕ) → get_elem? os k ≡ some o → life k ≡ id_of (get_or final (open_index p o) 0)
+  life_is k o at = ap (λ x. elim x as (λ x. Option ℕ) [ none ↦ None | some o ↦ id_of (get_or final (open_index p o) 0) ]) at
 
   -- what this core says of the end of the run: words of `open`s stay, and each life has the link that it was given
   pub record Reaches (c : Core) (vs : List View) : Type 0 where
-    pub stays : (o : ℕ) → o < p.operations → get_or c.words (open_word p o) 0 ≢ 0 → get_or final (open_word p o) 0 ≡ get_or c.words (open_word p o) 0
+    pub stays : (o : ℕ) → o < p.operations → get_or c.words (open_index p o) 0 ≢ 0 → get_or final (open_index p o) 0 ≡ get_or c.words (open_index p o) 0
     pub given : (i h k : ℕ) → i < p.slots → IsGiven c vs i h k → life k ≡ Some (socket_id h i)
 
   abbrev pub AllReaders : Core → Type 0
@@ -101,25 +101,25 @@ module _ (p : Plan) (q : IdPlan) (narrow : q.slots ≤ 65536) (same : q.operatio
     own_open k ks linked = let j = owing.law.tied i k ks u at linked in let o = at_some os k (omega (arith, many, j, place_inside c.seats i seat at_seat)) in
         (o.0, o.1, subst (λ x. AtReader p calls x k o.0 c) (sym j) (readers k o.0 o.1))
 
-    loads_life : (o : ℕ) (next : ℕ → Program) → first_step seat.program ≡ Do (LoadOpen o) next → get_or c.words (open_word p o) 0 ≢ 0 → (l : List ℕ) → u.link ≡ l → IsLifeOf life l (get_or c.words (open_word p o) 0)
+    loads_life : (o : ℕ) (next : ℕ → Program) → first_step seat.program ≡ Do (LoadOpen o) next → get_or c.words (open_index p o) 0 ≢ 0 → (l : List ℕ) → u.link ≡ l → IsLifeOf life l (get_or c.words (open_index p o) 0)
     loads_life o next is some_ [] linked = tt
     loads_life o next is some_ (k ∷ ks) linked = let own = own_open k ks linked in let e : o ≡ own.0 = loads_own p calls i k own.0 (in_os k own.0 own.1) c seat at_seat own.2 o next is in
         let at_o : get_elem? os k ≡ some o = own.1 ∙ ap some (sym e) in
-        life_is k o at_o ∙ ap id_of (reach.stays o (in_os k o at_o) some_) ∙ id_by (get_or c.words (open_word p o) 0) some_
+        life_is k o at_o ∙ ap id_of (reach.stays o (in_os k o at_o) some_) ∙ id_by (get_or c.words (open_index p o) 0) some_
 
     finds_call : (call : Call) (next : ℕ → Program) → first_step seat.program ≡ Do call next → May p v call → FindsCall life u call (found_at c.words (word_of p call))
     finds_call (FindLink n h) next is may = let f = (finds p (state c vs) sound.lawful i v at_view sound.limits.slots (FindLink n h) may).0 in let few = sound.limits.links in (
       omega (arith, f, few),
-      λ id m s duty slot version. let g = reach.given n h (get_or c.words (link_word n) 0) may.0 (finds_given p c vs sound i v at_view n h may) in g ∙ ap Some (let z : socket_id h n ≡ s = omega (arith, slot, version) in z),
+      λ id m s duty slot version. let g = reach.given n h (get_or c.words (link_index n) 0) may.0 (finds_given p c vs sound i v at_view n h may) in g ∙ ap Some (let z : socket_id h n ≡ s = omega (arith, slot, version) in z),
     )
     finds_call (LoadOpen o) next is may = λ some_. loads_life o next is some_ u.link refl
     finds_call call next is may = tt
 
     made_before : (call : Call) (next : ℕ → Program) → first_step seat.program ≡ Do call next → (k s : ℕ) → call ≡ SetOdd (socket_id_slot s) → u.link ≡ k ∷ [] → life k ≡ Some s → 0 < count (is_born (socket_id_version s)) (slot_facts (state c vs) (socket_id_slot s))
     made_before call next is k s made linked lives = let own = own_open k [] linked in let o : ℕ = own.0 in let inside = in_os k own.0 own.1 in
-        let some_ = steps_behind p calls i k own.0 inside c seat at_seat own.2 call next is (ap loads made) in let word : ℕ = get_or c.words (open_word p own.0) 0 in
-        let named = id_is (get_or final (open_word p own.0) 0) s (sym (life_is k own.0 own.1) ∙ lives) in let stays = reach.stays own.0 inside some_ in
-        let is_word : get_or c.words (open_word p own.0) 0 ≡ s + 1 = sym stays ∙ named.0 in
+        let some_ = steps_behind p calls i k own.0 inside c seat at_seat own.2 call next is (ap loads made) in let word : ℕ = get_or c.words (open_index p own.0) 0 in
+        let named = id_is (get_or final (open_index p own.0) 0) s (sym (life_is k own.0 own.1) ∙ lives) in let stays = reach.stays own.0 inside some_ in
+        let is_word : get_or c.words (open_index p own.0) 0 ≡ s + 1 = sym stays ∙ named.0 in
         let n = sound.lawful.references.named.opens own.0 inside (λ z. named.1 (stays ∙ z)) some_ in
         let back : s + 1 - 1 ≡ s = omega arith in
         subst (λ x. 0 < count (is_born (socket_id_version x)) (slot_facts (state c vs) (socket_id_slot x))) back (subst (λ x. 0 < count (is_born (socket_id_version (x - 1))) (slot_facts (state c vs) (socket_id_slot (x - 1)))) is_word n.1)

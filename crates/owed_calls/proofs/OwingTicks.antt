@@ -18,15 +18,15 @@ use Rattle.sock_model.specs.Reads.{letter_of, shown, message, link_home}
 use Rattle.corr_core.specs.Word.{parts}
 use Rattle.corr_core.specs.declared.marks.Plan.{Plan as IdPlan}
 use Rattle.id_rule.specs.Lawful as ids
-use Rattle.sock_programs.specs.Calls.{Call, TakeLink, PutLink, PutMessage}
-use Rattle.sock_programs.specs.Asides.{Step, Found, ClaimId, PutCall, MakeId, StoreCall, LoadCall, StoreAt, LoadAt, LoadIdWord, LockId, PostId, UnlockId, EndId, FreeId, TakeCall, TakeBytes, Taking, Bytes, Nothing, NoMore, AtEnd, Closed, Broken, id_slot}
-use Rattle.sock_programs.specs.Programs.{Program, Do, Say, Sent, Rest, TakeMessage, TakeHome, PutHome, PutBytes, AskReady, Write, Aside, Round, Keep, Retries}
-use Rattle.sock_programs.specs.Posts.{advance_of}
-use Rattle.sock_programs.specs.Sends.{block}
-use Rattle.sock_programs.specs.Rounds.{round}
-use Rattle.sock_programs.specs.Cores.{Calls, Core, SeatState, homes_after, lies_at, first_of, others_of, link_place, waiting_at, with_seat, stepped}
-use Rattle.sock_programs.specs.Beside.{taking_in, at_last, more_given, found_in, calls_after}
-use Rattle.sock_programs.specs.Ticks.{Answer, Unasked, OfPut, OfReady, OfTake, Moment, fed, with_places, onto_first, taken, with_message, with_link, with_put, with_ready, with_found, step_with, tick_with, ticked}
+use Rattle.seat_programs.specs.Calls.{Call, TakeLink, PutLink, PutMessage}
+use Rattle.seat_programs.specs.Asides.{Step, Found, ClaimId, PutCall, MakeId, StoreCall, LoadCall, StoreAt, LoadAt, LoadIdWord, LockId, PostId, UnlockId, EndId, FreeId, TakeCall, TakeBytes, Taking, Bytes, Nothing, NoMore, AtEnd, Closed, Broken, id_slot}
+use Rattle.seat_programs.specs.Programs.{Program, Do, Say, Sent, Rest, TakeMessage, TakeHome, PutHome, PutBytes, AskReady, Write, Aside, Round, Keep, Retries}
+use Rattle.seat_programs.specs.Posts.{advance_of}
+use Rattle.seat_programs.specs.Sends.{block}
+use Rattle.seat_programs.specs.Rounds.{round}
+use Rattle.seat_programs.specs.Cores.{Calls, Core, SeatState, homes_after, lies_at, first_of, others_of, link_place, waiting_at, with_seat, stepped}
+use Rattle.seat_programs.specs.Beside.{taking_in, at_last, more_given, found_in, calls_after}
+use Rattle.seat_programs.specs.Ticks.{Answer, Unasked, OfPut, OfReady, OfTake, Moment, fed, with_places, onto_first, taken, with_message, with_link, with_put, with_ready, with_found, step_with, tick_with, ticked}
 use Rattle.joint_runs.specs.id_runs.specs.Held.{IdView, MayId}
 use Rattle.joint_runs.specs.id_runs.specs.Goes.{FindsId, IdGoesOn, SoundIds}
 use Rattle.joint_runs.specs.id_runs.specs.Goes as goes
@@ -105,23 +105,23 @@ module _ (p : Plan) (q : IdPlan) (narrow : q.slots ≤ 65536) (same : q.operatio
     Goes step found next = Owed' (with_seat i (next found) seat.hand c.words c.homes (record c { calls = calls_after step found c.calls }))
 
     -- a word that is no id word and no at word
-    other_word : (x y : ℕ) → ((j : ℕ) → x ≢ ids.id_word j) → ((o : ℕ) → x ≢ ids.at_word q o) → (program : Program) → OwesOn life u program
+    other_word : (x y : ℕ) → ((j : ℕ) → x ≢ ids.id_index j) → ((o : ℕ) → x ≢ ids.at_index q o) → (program : Program) → OwesOn life u program
         → Owed' (with_seat i program seat.hand c.words c.homes (record c { calls = record c.calls { words = set c.calls.words x y } }))
     other_word x y no_id no_at program g = follows q life calls c us sound i seat u at_seat at program seat.hand c.words c.homes (record c.calls { words = set c.calls.words x y }) u
         (Rattle.owed_calls.proofs.Beside.still_keeps q narrow life calls c us i u sound.law at sized c.seats c.outcomes (record c.calls { words = set c.calls.words x y }) refl
-        (λ j low. ap parts (get_or-set_other c.calls.words x (ids.id_word j) y 0 (λ e. no_id j (sym e)))) (λ o low. get_or-set_other c.calls.words x (ids.at_word q o) y 0 (λ e. no_at o (sym e)))) g few
+        (λ j low. ap parts (get_or-set_other c.calls.words x (ids.id_index j) y 0 (λ e. no_id j (sym e)))) (λ o low. get_or-set_other c.calls.words x (ids.at_index q o) y 0 (λ e. no_at o (sym e)))) g few
 
     -- no word changes
     no_word : (a : Calls) → a.words ≡ c.calls.words → a.waiting ≡ c.calls.waiting → (program : Program) → OwesOn life u program → Owed' (with_seat i program seat.hand c.words c.homes (record c { calls = a }))
     no_word a words waits program g = follows q life calls c us sound i seat u at_seat at program seat.hand c.words c.homes a u
         (Rattle.owed_calls.proofs.Beside.still_keeps q narrow life calls c us i u sound.law at sized c.seats c.outcomes a waits
-        (λ j low. ap (λ l. parts (get_or l (ids.id_word j) 0)) words) (λ o low. ap (λ l. get_or l (ids.at_word q o) 0) words)) g (subst (λ (x : List (List Rattle.sock_programs.specs.Heads.Retry)). AllByRecursion Few (waiting_at x i)) (sym waits) few)
+        (λ j low. ap (λ l. parts (get_or l (ids.id_index j) 0)) words) (λ o low. ap (λ l. get_or l (ids.at_index q o) 0) words)) g (subst (λ (x : List (List Rattle.seat_programs.specs.Heads.Retry)). AllByRecursion Few (waiting_at x i)) (sym waits) few)
 
     same_mark : (step : Step) (found : Found step) (next : Found step → Program) (v : Owing) → v ≡ u → OwesOn life v (next found) → OwesOn life u (next found)
     same_mark step found next v e g = subst (λ x. OwesOn life x (next found)) e g
 
-    seen : (s : ℕ) → s < q.slots → (found : ℕ) → some (get_or c.calls.words (ids.id_word s) 0) ≡ some found → get_or c.calls.words (ids.id_word s) 0 ≡ found
-    seen s inside found e = some-injective (get_or c.calls.words (ids.id_word s) 0) found e
+    seen : (s : ℕ) → s < q.slots → (found : ℕ) → some (get_or c.calls.words (ids.id_index s) 0) ≡ some found → get_or c.calls.words (ids.id_index s) 0 ≡ found
+    seen s inside found e = some-injective (get_or c.calls.words (ids.id_index s) 0) found e
 
     abbrev real : 0 < w.share
     real = known.real i w at_view
@@ -150,30 +150,30 @@ module _ (p : Plan) (q : IdPlan) (narrow : q.slots ≤ 65536) (same : q.operatio
             (marked q life calls c us i u sound.law at c.words c.homes c.seats c.outcomes (Rattle.owed_calls.specs.Owing.with_dead u)
             (dead_marks q life calls c us i u sound.law at c.words c.homes c.seats c.outcomes (λ l f. f) (λ r heading bytes x some_. sound.law.letters r heading bytes x some_) k linked (closed is linked)))) go few)
 
-    unlocks_some : (s from : ℕ) (advance : Bool) (next : ℕ → Program) → OwesOn life u (Aside (UnlockId s from advance) next) → MayId p q w (UnlockId s from advance) → FindsId p q w (UnlockId s from advance) (get_or c.calls.words (ids.id_word s) 0)
-        → Goes (UnlockId s from advance) (get_or c.calls.words (ids.id_word s) 0) next
-    unlocks_some s from advance next g may finds = let m = may.1 in let found : ℕ = get_or c.calls.words (ids.id_word s) 0 in
+    unlocks_some : (s from : ℕ) (advance : Bool) (next : ℕ → Program) → OwesOn life u (Aside (UnlockId s from advance) next) → MayId p q w (UnlockId s from advance) → FindsId p q w (UnlockId s from advance) (get_or c.calls.words (ids.id_index s) 0)
+        → Goes (UnlockId s from advance) (get_or c.calls.words (ids.id_index s) 0) next
+    unlocks_some s from advance next g may finds = let m = may.1 in let found : ℕ = get_or c.calls.words (ids.id_index s) 0 in
         let low = lock_low q c.calls vs known.rule i w at_view real s may.0 m.0 m.1 m.2 m.3 m.4 m.5 m.6 from m.7 in
         let small = lock_few q c.calls vs known.rule i w at_view real s may.0 m.0 m.1 m.2 m.3 m.4 m.5 m.6 from m.7 (advance_of advance) m.8 in
         let two = lock_two q c.calls vs known.rule i w at_view real s may.0 m.0 m.1 m.2 m.3 m.4 m.5 m.6 from m.7 in
         let longer = lock_longer q c.calls vs known.rule i w at_view real s may.0 m.0 m.1 m.2 m.3 m.4 m.5 m.6 from m.7 finds in
-        let f : FindsUnlock from advance (get_or c.calls.words (ids.id_word s) 0) = dite (ℕ_discrete (get_or c.calls.words (ids.id_word s) 0) from)
-        (λ hit. unlock_finds q life calls c us i u sound.law at s from may.0 (ap parts (sym hit)) low (omega (arith, two)) (get_or c.calls.words (ids.id_word s) 0) advance g.0 small (λ _. longer))
+        let f : FindsUnlock from advance (get_or c.calls.words (ids.id_index s) 0) = dite (ℕ_discrete (get_or c.calls.words (ids.id_index s) 0) from)
+        (λ hit. unlock_finds q life calls c us i u sound.law at s from may.0 (ap parts (sym hit)) low (omega (arith, two)) (get_or c.calls.words (ids.id_index s) 0) advance g.0 small (λ _. longer))
         (λ miss. (low, small, (λ _. longer), λ hit. absurd (miss hit))) in
         unlock_ticks q narrow life calls c us sound i seat u at_seat at sized few s may.0 from advance next g f two
 
     on_ids : (step : Step) (next : Found step → Program) (answer : Answer) → OwesOn life u (Aside step next) → MayId p q w step → StepFits p q life calls c seat u answer (Aside step next)
         → (found : Found step) → found_in step c.calls (taken answer) ≡ some found → FindsId p q w step found → Goes step found next
-    on_ids (ClaimId s) next answer g may fits found e finds = let r = g.1 found tt in other_word (ids.tag_word s) 1 (λ j e. omega (arith, e)) (λ o e. omega (arith, e)) (next found) (same_mark (ClaimId s) found next r.0 r.1 r.2)
+    on_ids (ClaimId s) next answer g may fits found e finds = let r = g.1 found tt in other_word (ids.tag_index s) 1 (λ j e. omega (arith, e)) (λ o e. omega (arith, e)) (next found) (same_mark (ClaimId s) found next r.0 r.1 r.2)
     on_ids (PutCall s asked) next answer g may fits found e finds = let r = g.1 found tt in no_word (calls_after (PutCall s asked) found c.calls) refl refl (next found) (same_mark (PutCall s asked) found next r.0 r.1 r.2)
     on_ids (MakeId s range) next answer g may fits found e finds = let one = may.1 in subst (λ x. Goes (MakeId s range) x next) (seen s may.0 found e)
         (make_ticks q narrow life calls c us sound i seat u at_seat at sized few s may.0 range next g (free_there q c.calls vs known.rule i w at_view real s may.0 one.0 one.1 one.2)
         (let low = (known.rule.slots s may.0).first_low in omega (arith, low)) may.2 may.3)
-    on_ids (StoreCall o id) next answer g may fits found e finds = let r = g.1 found tt in other_word (ids.call_word c.calls.plan o) id (λ j e. omega (arith, e)) (λ x e. omega (arith, e)) (next found) (same_mark (StoreCall o id) found next r.0 r.1 r.2)
+    on_ids (StoreCall o id) next answer g may fits found e finds = let r = g.1 found tt in other_word (ids.call_index c.calls.plan o) id (λ j e. omega (arith, e)) (λ x e. omega (arith, e)) (next found) (same_mark (StoreCall o id) found next r.0 r.1 r.2)
     on_ids (LoadCall o) next answer g may fits found e finds = let r = g.1 found tt in no_word c.calls refl refl (next found) (same_mark (LoadCall o) found next r.0 r.1 r.2)
     on_ids (StoreAt o x) next answer g may fits found e finds = store_ticks q narrow life low_links calls c us sound i seat u at_seat at known.plan sized few o x found next g may.0 fits.0
         (λ id n k is. (linked_slot id n k is, fits.1 id n k is))
-    on_ids (LoadAt o) next answer g may fits found e finds = subst (λ x. Goes (LoadAt o) x next) (ap (λ (r : IdPlan). get_or c.calls.words (ids.at_word r o) 0) (sym known.plan) ∙ some-injective (get_or c.calls.words (ids.at_word c.calls.plan o) 0) found e)
+    on_ids (LoadAt o) next answer g may fits found e finds = subst (λ x. Goes (LoadAt o) x next) (ap (λ (r : IdPlan). get_or c.calls.words (ids.at_index r o) 0) (sym known.plan) ∙ some-injective (get_or c.calls.words (ids.at_index c.calls.plan o) 0) found e)
         (load_ticks q narrow life low_links calls c us sound i seat u at_seat at known.plan sized few o next g may)
     on_ids (LoadIdWord s) next answer g may fits found e finds = subst (λ x. Goes (LoadIdWord s) x next) (seen s may found e) (look_ticks q narrow life calls c us sound i seat u at_seat at sized few s may next g)
     on_ids (LockId s from) next answer g may fits found e finds = subst (λ x. Goes (LockId s from) x next) (seen s may.0 found e)
@@ -183,7 +183,7 @@ module _ (p : Plan) (q : IdPlan) (narrow : q.slots ≤ 65536) (same : q.operatio
     on_ids (UnlockId s from advance) next answer g may fits found e finds = subst (λ x. Goes (UnlockId s from advance) x next) (seen s may.0 found e)
         (unlocks_some s from advance next g may (subst (FindsId p q w (UnlockId s from advance)) (sym (seen s may.0 found e)) finds))
     on_ids (EndId s) next answer g may fits found e finds = subst (λ x. Goes (EndId s) x next) (seen s may.0 found e) (end_ticks q narrow life calls c us sound i seat u at_seat at sized few s may.0 next g)
-    on_ids (FreeId s) next answer g may fits found e finds = let r = g.1 found tt in other_word (ids.tag_word s) 0 (λ j e. omega (arith, e)) (λ o e. omega (arith, e)) (next found) (same_mark (FreeId s) found next r.0 r.1 r.2)
+    on_ids (FreeId s) next answer g may fits found e finds = let r = g.1 found tt in other_word (ids.tag_index s) 0 (λ j e. omega (arith, e)) (λ o e. omega (arith, e)) (next found) (same_mark (FreeId s) found next r.0 r.1 r.2)
     on_ids (TakeCall s) next answer g may fits found e finds = let r = g.1 found tt in no_word (calls_after (TakeCall s) found c.calls) refl refl (next found) (same_mark (TakeCall s) found next r.0 r.1 r.2)
     on_ids (TakeBytes k room) next answer g may fits found e finds = takes_some k room next g found (λ is. fits (closed_back c.calls.ending (taken answer) (e ∙ ap some is)))
       where

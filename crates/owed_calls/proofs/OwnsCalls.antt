@@ -11,20 +11,20 @@ use Rattle.joint_runs.specs.sock_steps.proofs.Quiet.{either_way}
 use Rattle.corr_core.specs.Word.{parts, error_of}
 use Rattle.brpc_model.specs.Frame.{Frame}
 use Rattle.brpc_model.specs.Order.{EachBefore}
-use Rattle.sock_programs.specs.sock_message.specs.Asked.{Asked, name_of, frame_of}
-use Rattle.sock_programs.specs.declared.task.Op.{Op}
-use Rattle.sock_programs.specs.declared.task.Op.TheVariants as ops
-use Rattle.sock_programs.specs.declared.task.Task.{Task}
-use Rattle.sock_programs.specs.declared.task.Sizes.{Sizes}
-use Rattle.sock_programs.specs.Calls.{Call, ClaimSlot, GiveBirth, StoreLink, ResetHead, WipeCode, StoreName, StoreOpen, TakeLink, FinishLink, PutLink, LookWord, FindLink, ClaimRequest, LoadName}
-use Rattle.sock_programs.specs.Asides.{PutCall, LoadCall, StoreAt, LoadAt, call_id, id_slot, id_first}
-use Rattle.sock_programs.specs.Heads.{First, Unlocks, Posting, WasGone, WasStale, WasCrowded, WasQueued, HasLocked, Unlocking, IsOpen, HasNext, Locking, NotThere, Has, Ended}
-use Rattle.sock_programs.specs.Programs.{Program, Do, Say, Rest, Aside, Round, NO_SOCKET, release, address, open_from, make_socket}
-use Rattle.sock_programs.specs.Posts.{WHOLE, post, posted, decided}
-use Rattle.sock_programs.specs.Attempts.{claims_from, heading_for, attempt, begin_call, claim_id, call, tried_again, retry_locked, retry, expire_outcome, expire, join}
-use Rattle.sock_programs.specs.Readers.{LIMIT, kept_for, ends_with, posted_last, post_each, thrown_away, read, reader}
-use Rattle.sock_programs.specs.Clients.{HeldLife, held_under, without_name, give_back, drop_of, operation, client_from, ending_of}
-use Rattle.sock_programs.specs.Told.{HaveOwnLinks}
+use Rattle.seat_programs.specs.sock_message.specs.Asked.{Asked, name_of, frame_of}
+use Rattle.seat_programs.specs.declared.task.Op.{Op}
+use Rattle.seat_programs.specs.declared.task.Op.TheVariants as ops
+use Rattle.seat_programs.specs.declared.task.Task.{Task}
+use Rattle.seat_programs.specs.declared.task.Sizes.{Sizes}
+use Rattle.seat_programs.specs.Calls.{Call, ClaimSlot, CreateLife, StoreLink, ResetHead, ClearCode, StoreName, StoreOpen, TakeLink, FinishLink, PutLink, LookWord, FindLink, ClaimRequest, LoadName}
+use Rattle.seat_programs.specs.Asides.{PutCall, LoadCall, StoreAt, LoadAt, call_id, id_slot, id_first}
+use Rattle.seat_programs.specs.Heads.{First, Unlocks, Posting, WasGone, WasStale, WasCrowded, WasQueued, HasLocked, Unlocking, IsOpen, HasNext, Locking, NotThere, Has, Ended}
+use Rattle.seat_programs.specs.Programs.{Program, Do, Say, Rest, Aside, Round, NO_SOCKET, release, address, open_from, make_socket}
+use Rattle.seat_programs.specs.Posts.{WHOLE, post, posted, decided}
+use Rattle.seat_programs.specs.Attempts.{claims_from, heading_for, attempt, begin_call, claim_id, call, tried_again, retry_locked, retry, expire_outcome, expire, join}
+use Rattle.seat_programs.specs.Readers.{LIMIT, kept_for, ends_with, posted_last, post_each, thrown_away, read, reader}
+use Rattle.seat_programs.specs.Clients.{HeldLife, held_under, without_name, give_back, drop_of, operation, client_from, ending_of}
+use Rattle.seat_programs.specs.Told.{HaveOwnLinks}
 use Rattle.joint_runs.specs.sock_runs.proofs.Opening.{or_cases, second_true}
 use Rattle.joint_runs.specs.id_runs.specs.Goes.{FitsSock}
 use Rattle.owed_calls.specs.Owns.{Other, HasClaimed, HasLock, HasTaken, Grows, IsIdOf, IsOwnAt, but, Owns}
@@ -185,7 +185,7 @@ module _ (has : ℕ → ℕ) (mine : ℕ → Bool) where
   open_goes : (more i o name k : ℕ) (next : Program) → Goes next → Goes (open_from more i o name k next)
   open_goes zero i o name k next after = step has mine (TakeLink k) _ (λ _. step has mine (FinishLink k) _ (λ _. step has mine (PutLink k) _ (λ _. step has mine (StoreOpen o NO_SOCKET) _ (λ _. say has mine o _ next after))))
   open_goes (suc more) i o name k next after = step has mine (ClaimSlot i) _ (λ found. either_way (found == 0) (make_socket o name k i next) (open_from more (i + 1) o name k next) Goes
-      (step has mine (StoreLink i k) _ (λ _. step has mine (ResetHead i k) _ (λ _. step has mine (WipeCode i k) _ (λ _. step has mine (GiveBirth i k) _ (λ word. step has mine (StoreOpen o _) _ (λ _. step has mine (StoreName name _) _ (λ _. say has mine o _ next after)))))))
+      (step has mine (StoreLink i k) _ (λ _. step has mine (ResetHead i k) _ (λ _. step has mine (ClearCode i k) _ (λ _. step has mine (CreateLife i k) _ (λ word. step has mine (StoreOpen o _) _ (λ _. step has mine (StoreName name _) _ (λ _. say has mine o _ next after)))))))
       (open_goes more (i + 1) o name k next after))
 
   back_goes : (held : List HeldLife) → Goes (give_back held)

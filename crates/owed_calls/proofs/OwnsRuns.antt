@@ -13,18 +13,18 @@ use Rattle.brpc_model.specs.Places.{names}
 use Rattle.sock_model.specs.declared.view.View.{View}
 use Rattle.corr_core.specs.Word.{Parts}
 use Rattle.corr_core.specs.declared.marks.Plan.{Plan as IdPlan}
-use Rattle.sock_programs.specs.declared.task.Op.{Op}
-use Rattle.sock_programs.specs.declared.task.Op.TheVariants as ops
-use Rattle.sock_programs.specs.declared.task.Task.{Task}
-use Rattle.sock_programs.specs.Asides.{StoreAt}
-use Rattle.sock_programs.specs.Programs.{Program, Do, Say, Sent, Rest, TakeMessage, TakeHome, PutHome, PutBytes, AskReady, Write, Aside, Round, Keep, Retries}
-use Rattle.sock_programs.specs.Tasks.{Numbered, numbered, calls, opens, tasks, plan_of, id_plan_of}
-use Rattle.sock_programs.specs.Clients.{client_from, ending_of}
-use Rattle.sock_programs.specs.Readers.{reader}
-use Rattle.sock_programs.specs.Told.{HaveOwnLinks}
-use Rattle.sock_programs.specs.Cores.{Core, SeatState, resolved, next_step, with_seat}
-use Rattle.sock_programs.specs.Ticks.{Moment, ticked, run}
-use Rattle.sock_programs.specs.Scripts.{sizes_of, programs, readers_from, all_programs, opened, tasks_from, all_tasks, is_ending}
+use Rattle.seat_programs.specs.declared.task.Op.{Op}
+use Rattle.seat_programs.specs.declared.task.Op.TheVariants as ops
+use Rattle.seat_programs.specs.declared.task.Task.{Task}
+use Rattle.seat_programs.specs.Asides.{StoreAt}
+use Rattle.seat_programs.specs.Programs.{Program, Do, Say, Sent, Rest, TakeMessage, TakeHome, PutHome, PutBytes, AskReady, Write, Aside, Round, Keep, Retries}
+use Rattle.seat_programs.specs.Tasks.{Numbered, numbered, calls, opens, tasks, plan_of, id_plan_of}
+use Rattle.seat_programs.specs.Clients.{client_from, ending_of}
+use Rattle.seat_programs.specs.Readers.{reader}
+use Rattle.seat_programs.specs.Told.{HaveOwnLinks}
+use Rattle.seat_programs.specs.Cores.{Core, SeatState, resolved, next_step, with_seat}
+use Rattle.seat_programs.specs.Ticks.{Moment, ticked, run}
+use Rattle.seat_programs.specs.Scripts.{sizes_of, programs, readers_from, all_programs, opened, tasks_from, all_tasks, is_ending}
 use Rattle.joint_runs.specs.sock_runs.proofs.Opening.{mapped, appended, or_cases, second_true}
 use Rattle.joint_runs.specs.id_runs.specs.Held.{IdView}
 use Rattle.joint_runs.specs.id_runs.specs.Goes.{IdGoesOn, SoundIds}
@@ -139,7 +139,7 @@ module _ (script : List Item) where
   own_call c t w = by_op t.op refl
     where
       by_op : (op : Op) → t.op ≡ op → CallsOwn t.number op
-      by_op (ops.Call asked) e = let a = call_asks (numbered script) (names script) (numbers_at script t.number w.operation) w.operation.item asked (w.asks ∙ ap Some e) in ap (λ (x : Rattle.sock_programs.specs.sock_message.specs.Asked.Asked). x.operation) a.2
+      by_op (ops.Call asked) e = let a = call_asks (numbered script) (names script) (numbers_at script t.number w.operation) w.operation.item asked (w.asks ∙ ap Some e) in ap (λ (x : Rattle.seat_programs.specs.sock_message.specs.Asked.Asked). x.operation) a.2
       by_op other e = tt
 
   own_calls : (client n : ℕ) → AllByRecursion (AllByRecursion (λ (t : Task). CallsOwn t.number t.op)) (tasks_from script client n)
@@ -199,7 +199,7 @@ module _ (script : List Item) where
     inside = λ o some_. absurd (some_ refl);
     once = λ j o there. let x = caller j o there in (refl, subst (λ y. InList y (calls script)) x.number (call_is j x.task x.of x.calling));
     apart = λ j k o a b. one_caller j k o (caller j o a) (caller k o b);
-    ats = λ o inside some_. absurd (some_ ((unused (id_plan_of script)).rest (Rattle.id_rule.specs.Lawful.at_word (id_plan_of script) o) (omega arith)));
+    ats = λ o inside some_. absurd (some_ ((unused (id_plan_of script)).rest (Rattle.id_rule.specs.Lawful.at_index (id_plan_of script) o) (omega arith)));
     homes = λ i inside x e some_. absurd (some_ (ap (λ (y : Parts). y.state) ((unused (id_plan_of script)).ids i inside)));
     seats = λ j seat at. let x = mapped (λ (program : Program). record { program = next_step (resolved [] program); hand = [] }) (all_programs first (readers_from (calls script) 0 (opens script))) j seat at in
         let r = resolved_owns (opened script) none_yet (first_left j) [] tt Other x.0 (begins j x.0 x.1) tt in

@@ -10,10 +10,10 @@ use Rattle.sock_model.specs.declared.chain.Heading.{Heading}
 use Rattle.sock_model.specs.Entries.{ticket_of, slot_of, generation_of}
 use Rattle.sock_model.specs.Memory.{IDLE, UNCONNECTED}
 use Rattle.joint_runs.specs.sock_steps.proofs.Quiet.{either_way}
-use Rattle.sock_programs.specs.Calls.{AddRef, SubRef, SetOdd, Recycle, FreeSlot, LoadLink, StoreCode, LoadName, LoadOpen, TakeLink, FinishLink, PutLink, LookWord, FindLink, LoadCode, ClaimRequest, PutMessage, Unconnect, SwapHead, Connect, EmptyHead, ReadNext, TurnNext, FreeRequest, StorePlace, DropPlace}
-use Rattle.sock_programs.specs.Writings.{Holder, Writing, Puts, Waits, Empties, Walks}
-use Rattle.sock_programs.specs.Programs.{Program, Sent, TakeMessage, Write, NO_SOCKET, LAST_VERSION, LAST_GENERATION, recycle, release, address, reach, set_failed, fail, fail_outcome, hold, drop_held, end_open}
-use Rattle.sock_programs.specs.Sends.{freed, one_more, passed_telling, tell_drop, placed, dropped, link_failed, put_answered, ready_answered, block, first_put, write_link, heading_of, accept, claim_from, start, send}
+use Rattle.seat_programs.specs.Calls.{AddRef, SubRef, SetOdd, Recycle, FreeSlot, LoadLink, StoreCode, LoadName, LoadOpen, TakeLink, FinishLink, PutLink, LookWord, FindLink, LoadCode, ClaimRequest, PutMessage, Unconnect, SwapHead, Connect, EmptyHead, ReadNext, ReverseNext, FreeRequest, StorePlace, DropPlace}
+use Rattle.seat_programs.specs.Writings.{Holder, Writing, Puts, Waits, Empties, Walks}
+use Rattle.seat_programs.specs.Programs.{Program, Sent, TakeMessage, Write, NO_SOCKET, LAST_VERSION, LAST_GENERATION, recycle, release, address, reach, set_failed, fail, fail_outcome, hold, drop_held, end_open}
+use Rattle.seat_programs.specs.Sends.{freed, one_more, passed_telling, tell_drop, placed, dropped, link_failed, put_answered, ready_answered, block, first_put, write_link, heading_of, accept, claim_from, start, send}
 use Rattle.owed_calls.proofs.OwnsLoops.{Later, step, say, sent, message, home, puts_home, put, ask, write, post_goes}
 
 module _ (has : ℕ → ℕ) (mine : ℕ → Bool) where
@@ -87,7 +87,7 @@ module _ (has : ℕ → ℕ) (mine : ℕ → Bool) where
   block_goes (Empties h) next after = puts_home has mine h.link h.places _ (step has mine (EmptyHead (socket_id_slot h.id) h.last) _ (λ found. either_way (found == h.last) _ _ G after
       (home has mine h.link _ (λ places. write has mine (Walks (record h { places = places }) found found 0) next after))))
   block_goes (Walks h top at after_) next after = step has mine (ReadNext (slot_of at)) _ (λ found. either_way (found == UNCONNECTED) _ _ G (write has mine (Walks h top at after_) next after)
-      (step has mine (TurnNext (slot_of at) after_) _ (λ _. either_way (found == h.last) _ _ G
+      (step has mine (ReverseNext (slot_of at) after_) _ (λ _. either_way (found == h.last) _ _ G
       (message has mine (slot_of at) _ (λ heading bytes. write has mine (Puts (record h { last = top }) at heading bytes 0 false) next after)) (write has mine (Walks h top found at) next after))))
 
   -- a message that is sent

@@ -7,7 +7,7 @@ use native.Mathlib.Decide.{ℕ_discrete}
 use mathlib.Core.Option.{Option, none, some, some-injective, some-ne-none}
 use lib.ListN.{get_elem?}
 use Rattle.atomic_table.proofs.Lists.{set_else}
-use Rattle.joint_runs.specs.chain_laws.proofs.Lists.{at_length}
+use Rattle.joint_runs.specs.chain_steps.proofs.Lists.{at_length}
 use Rattle.sock_words.specs.declared.plain.Plan.{Plan}
 use Rattle.corr_core.specs.Word.{Parts, parts, made_word, locked_word, posted_word, unlocked_word, free_word}
 use Rattle.corr_core.specs.Law.{Stands, HomeIs, vacant, retired, claimed, opened, locked, leaving}
@@ -16,13 +16,13 @@ use Rattle.corr_core.specs.declared.marks.Hand.{Hand}
 use Rattle.corr_core.specs.declared.marks.Hand.TheVariants.{Empty, Out, Full}
 use Rattle.corr_core.specs.declared.marks.Token.{Token}
 use Rattle.corr_core.specs.declared.marks.Token.TheVariants.{Claimed, Locked}
-use Rattle.id_rule.specs.Lawful.{tag_word, id_word, call_word, at_word, local, tokens_in}
+use Rattle.id_rule.specs.Lawful.{tag_index, id_index, call_index, at_index, local, tokens_in}
 use Rattle.id_rule.proofs.Allowed as allowed
-use Rattle.sock_programs.specs.sock_message.specs.Asked.{Asked}
-use Rattle.sock_programs.specs.Asides.{Step, Found, ClaimId, PutCall, MakeId, StoreCall, LoadCall, StoreAt, LoadAt, LoadIdWord, LockId, PostId, UnlockId, EndId, FreeId, TakeCall, TakeBytes, Taking, Bytes, Nothing, NoMore, AtEnd, Closed, Broken}
-use Rattle.sock_programs.specs.Posts.{packed, advance_of}
-use Rattle.sock_programs.specs.Beside.{found_in, calls_after, more_given}
-use Rattle.sock_programs.specs.Cores.{Calls, Core}
+use Rattle.seat_programs.specs.sock_message.specs.Asked.{Asked}
+use Rattle.seat_programs.specs.Asides.{Step, Found, ClaimId, PutCall, MakeId, StoreCall, LoadCall, StoreAt, LoadAt, LoadIdWord, LockId, PostId, UnlockId, EndId, FreeId, TakeCall, TakeBytes, Taking, Bytes, Nothing, NoMore, AtEnd, Closed, Broken}
+use Rattle.seat_programs.specs.Posts.{packed, advance_of}
+use Rattle.seat_programs.specs.Beside.{found_in, calls_after, more_given}
+use Rattle.seat_programs.specs.Cores.{Calls, Core}
 use Rattle.joint_runs.specs.id_runs.specs.Held.{IdView, id_state, HasOne, MayId}
 use Rattle.joint_runs.specs.id_runs.specs.Goes.{SoundIds, FindsId}
 use Rattle.joint_runs.specs.id_runs.proofs.Keeps.{parts_packed}
@@ -80,7 +80,7 @@ module _ (p : Plan) (q : IdPlan) (c : Core) (ws : List IdView) (ids : SoundIds p
       let one = ap length (allowed.own q k (w, []) n inside (ids.real k w at_k) (id_state c.calls ws) ids.rule at_k s has_k) in let z : ⊥ = omega (arith, two, one) in z))
 
   -- a slot whose tag is 0 has no range
-  pub free_tag : (n : ℕ) → n < q.slots → get_or c.calls.words (tag_word n) 0 ≡ 0 → (id_word_of c n).state ≡ 0
+  pub free_tag : (n : ℕ) → n < q.slots → get_or c.calls.words (tag_index n) 0 ≡ 0 → (id_word_of c n).state ≡ 0
   free_tag n inside tag = by_stands (ids.rule.slots n inside).stands
     where
       by_stands : Stands (ids.rule.slots n inside).b (local (id_state c.calls ws) n) → (id_word_of c n).state ≡ 0
@@ -107,7 +107,7 @@ module _ (p : Plan) (q : IdPlan) (c : Core) (ws : List IdView) (ids : SoundIds p
       by_stands (locked d x y h t s l z w v) = home_of h (get_elem? c.calls.homes n) w
       by_stands (leaving t g s x h) = home_of Empty (get_elem? c.calls.homes n) h
 
-  pub word_inside : (n : ℕ) → n < q.slots → id_word n < length c.calls.words
+  pub word_inside : (n : ℕ) → n < q.slots → id_index n < length c.calls.words
   word_inside n inside = let sized = ids.rule.sized in omega (arith, inside, sized)
 
   abbrev pub Then : Calls → Core
@@ -124,19 +124,19 @@ module _ (p : Plan) (q : IdPlan) (c : Core) (ws : List IdView) (ids : SoundIds p
   keeps_by a n word home = record { first = ap (λ (x : Parts). x.first) word; none_ = λ z. ap (λ (x : Parts). x.state) word ∙ z; some_ = λ s z. s (sym (ap (λ (x : Parts). x.state) word) ∙ z); home = home }
 
   -- another word
-  other_word : (x w n : ℕ) → id_word n ≢ x → Keeps (record c.calls { words = set c.calls.words x w }) n
-  other_word x w n far = keeps_by (record c.calls { words = set c.calls.words x w }) n (ap parts (get_or-set_other c.calls.words x (id_word n) w 0 (λ e. far (omega (arith, e))))) refl
+  other_word : (x w n : ℕ) → id_index n ≢ x → Keeps (record c.calls { words = set c.calls.words x w }) n
+  other_word x w n far = keeps_by (record c.calls { words = set c.calls.words x w }) n (ap parts (get_or-set_other c.calls.words x (id_index n) w 0 (λ e. far (omega (arith, e))))) refl
 
   -- an exchange from this word, where what it makes of a range keeps it
-  exchange : (m from found w n : ℕ) → n < q.slots → get_or c.calls.words (id_word m) 0 ≡ found → (found ≡ from → ((parts w).first ≡ (parts from).first) × ((parts w).state ≢ 0) × ((parts from).state ≢ 0)) → Keeps (record c.calls { words = set c.calls.words (id_word m) (cond (found == from) w found) }) n
+  exchange : (m from found w n : ℕ) → n < q.slots → get_or c.calls.words (id_index m) 0 ≡ found → (found ≡ from → ((parts w).first ≡ (parts from).first) × ((parts w).state ≢ 0) × ((parts from).state ≢ 0)) → Keeps (record c.calls { words = set c.calls.words (id_index m) (cond (found == from) w found) }) n
   exchange m from found w n inside is hits = dite (ℕ_discrete n m)
       (λ here. dite (ℕ_discrete found from)
-      (λ hit. let word : get_or (set c.calls.words (id_word m) (cond (found == from) w found)) (id_word n) 0 ≡ w = ap (λ x. get_or (set c.calls.words (id_word m) (cond (found == from) w found)) (id_word x) 0) here ∙ get_or-set_same c.calls.words (id_word m) (cond (found == from) w found) 0 (subst (λ x. id_word x < length c.calls.words) here (word_inside n inside))
-      ∙ ap (λ b. cond b w found) (eq-eqb found from hit) in let h = hits hit in let old : get_or c.calls.words (id_word n) 0 ≡ from = ap (λ x. get_or c.calls.words (id_word x) 0) here ∙ is ∙ hit in
+      (λ hit. let word : get_or (set c.calls.words (id_index m) (cond (found == from) w found)) (id_index n) 0 ≡ w = ap (λ x. get_or (set c.calls.words (id_index m) (cond (found == from) w found)) (id_index x) 0) here ∙ get_or-set_same c.calls.words (id_index m) (cond (found == from) w found) 0 (subst (λ x. id_index x < length c.calls.words) here (word_inside n inside))
+      ∙ ap (λ b. cond b w found) (eq-eqb found from hit) in let h = hits hit in let old : get_or c.calls.words (id_index n) 0 ≡ from = ap (λ x. get_or c.calls.words (id_index x) 0) here ∙ is ∙ hit in
       record { first = ap (λ x. (parts x).first) word ∙ h.0 ∙ sym (ap (λ x. (parts x).first) old); none_ = λ z. absurd (h.2 (sym (ap (λ x. (parts x).state) old) ∙ z)); some_ = λ s z. h.1 (sym (ap (λ x. (parts x).state) word) ∙ z); home = refl })
-      (λ miss. keeps_by (record c.calls { words = set c.calls.words (id_word m) (cond (found == from) w found) }) n (ap parts (ap (λ x. get_or (set c.calls.words (id_word m) (cond (found == from) w found)) (id_word x) 0) here
-      ∙ get_or-set_same c.calls.words (id_word m) (cond (found == from) w found) 0 (subst (λ x. id_word x < length c.calls.words) here (word_inside n inside)) ∙ ap (λ b. cond b w found) (ne_eqb found from miss) ∙ sym is ∙ ap (λ x. get_or c.calls.words (id_word x) 0) (sym here))) refl))
-      (λ far. other_word (id_word m) (cond (found == from) w found) n (λ e. far (let z : 2 * n + 1 ≡ 2 * m + 1 = e in omega (arith, z))))
+      (λ miss. keeps_by (record c.calls { words = set c.calls.words (id_index m) (cond (found == from) w found) }) n (ap parts (ap (λ x. get_or (set c.calls.words (id_index m) (cond (found == from) w found)) (id_index x) 0) here
+      ∙ get_or-set_same c.calls.words (id_index m) (cond (found == from) w found) 0 (subst (λ x. id_index x < length c.calls.words) here (word_inside n inside)) ∙ ap (λ b. cond b w found) (ne_eqb found from miss) ∙ sym is ∙ ap (λ x. get_or c.calls.words (id_index x) 0) (sym here))) refl))
+      (λ far. other_word (id_index m) (cond (found == from) w found) n (λ e. far (let z : 2 * n + 1 ≡ 2 * m + 1 = e in omega (arith, z))))
 
   -- a step that ends or makes the range of this slot, or moves its call
   abbrev pub Acts : Step → ℕ → Type 0
@@ -156,23 +156,23 @@ module _ (p : Plan) (q : IdPlan) (c : Core) (ws : List IdView) (ids : SoundIds p
 
   module _ (u : IdView) where
     pub step_keeps : (step : Step) (t : Option Taking) (found : Found step) → MayId p q u step → FindsId p q u step found → found_in step c.calls t ≡ some found → (n : ℕ) → n < q.slots → Acts step n ⊎ Keeps (calls_after step found c.calls) n
-    step_keeps (ClaimId m) t found may finds is n inside = inr (other_word (tag_word m) 1 n (λ e. let z : 2 * n + 1 ≡ 2 * m = e in omega (arith, z)))
+    step_keeps (ClaimId m) t found may finds is n inside = inr (other_word (tag_index m) 1 n (λ e. let z : 2 * n + 1 ≡ 2 * m = e in omega (arith, z)))
     step_keeps (PutCall m asked) t found may finds is n inside = dite (ℕ_discrete n m) (λ e. inl e) (λ far. inr (keeps_by (calls_after (PutCall m asked) found c.calls) n refl (set_else c.calls.homes m n (some (std.Some asked)) far)))
-    step_keeps (MakeId m range) t found may finds is n inside = dite (ℕ_discrete n m) (λ e. inl e) (λ far. inr (other_word (id_word m) (packed (made_word (parts found).first range)) n (λ e. far (let z : 2 * n + 1 ≡ 2 * m + 1 = e in omega (arith, z)))))
-    step_keeps (StoreCall o id) t found may finds is n inside = inr (subst (λ (r : IdPlan). Keeps (record c.calls { words = set c.calls.words (call_word r o) id }) n) (sym ids.plan) (other_word (call_word q o) id n (λ e. let z : 2 * n + 1 ≡ 2 * q.slots + 2 * o = e in omega (arith, z))))
+    step_keeps (MakeId m range) t found may finds is n inside = dite (ℕ_discrete n m) (λ e. inl e) (λ far. inr (other_word (id_index m) (packed (made_word (parts found).first range)) n (λ e. far (let z : 2 * n + 1 ≡ 2 * m + 1 = e in omega (arith, z)))))
+    step_keeps (StoreCall o id) t found may finds is n inside = inr (subst (λ (r : IdPlan). Keeps (record c.calls { words = set c.calls.words (call_index r o) id }) n) (sym ids.plan) (other_word (call_index q o) id n (λ e. let z : 2 * n + 1 ≡ 2 * q.slots + 2 * o = e in omega (arith, z))))
     step_keeps (LoadCall o) t found may finds is n inside = inr (keeps_by c.calls n refl refl)
-    step_keeps (StoreAt o w) t found may finds is n inside = inr (subst (λ (r : IdPlan). Keeps (record c.calls { words = set c.calls.words (at_word r o) w }) n) (sym ids.plan) (other_word (at_word q o) w n (λ e. let z : 2 * n + 1 ≡ 2 * q.slots + 2 * o + 1 = e in omega (arith, z, inside))))
+    step_keeps (StoreAt o w) t found may finds is n inside = inr (subst (λ (r : IdPlan). Keeps (record c.calls { words = set c.calls.words (at_index r o) w }) n) (sym ids.plan) (other_word (at_index q o) w n (λ e. let z : 2 * n + 1 ≡ 2 * q.slots + 2 * o + 1 = e in omega (arith, z, inside))))
     step_keeps (LoadAt o) t found may finds is n inside = inr (keeps_by c.calls n refl refl)
     step_keeps (LoadIdWord m) t found may finds is n inside = inr (keeps_by c.calls n refl refl)
-    step_keeps (LockId m from) t found may finds is n inside = inr (exchange m from found (packed (posted_word (parts from) 0)) n inside (some-injective (get_or c.calls.words (id_word m) 0) found is)
+    step_keeps (LockId m from) t found may finds is n inside = inr (exchange m from found (packed (posted_word (parts from) 0)) n inside (some-injective (get_or c.calls.words (id_index m) 0) found is)
         (λ hit. let w = posted_parts from 0 (omega arith) in let two = w.1 in let one = may.1 in (w.0, (λ z. omega (arith, z, two)), (λ z. omega (arith, z, one)))))
-    step_keeps (PostId m from e) t found may finds is n inside = inr (exchange m from found (packed (posted_word (parts from) e)) n inside (some-injective (get_or c.calls.words (id_word m) 0) found is)
+    step_keeps (PostId m from e) t found may finds is n inside = inr (exchange m from found (packed (posted_word (parts from) e)) n inside (some-injective (get_or c.calls.words (id_index m) 0) found is)
         (λ hit. let w = posted_parts from e may.3 in let two = w.1 in (w.0, (λ z. omega (arith, z, two)), (λ z. ⊎_elim (λ one. omega (arith, z, one)) (λ x. let y = x.0 in omega (arith, z, y)) may.1))))
-    step_keeps (UnlockId m from advance) t found may finds is n inside = inr (exchange m from found (packed (unlocked_word (parts from) (advance_of advance))) n inside (some-injective (get_or c.calls.words (id_word m) 0) found is)
+    step_keeps (UnlockId m from advance) t found may finds is n inside = inr (exchange m from found (packed (unlocked_word (parts from) (advance_of advance))) n inside (some-injective (get_or c.calls.words (id_index m) 0) found is)
         (λ hit. let x = may.1 in let longer = x.7 in let g = longer.range_is in let h = longer.attempt_is in let s = longer.state_is in let room = x.8 in let high : (parts from).range ≤ 8 = omega arith in
         let w = unlocked_parts from (advance_of advance) (omega (arith, g, h, room, high)) in (w.0, w.1, (λ z. omega (arith, z, s)))))
-    step_keeps (EndId m) t found may finds is n inside = dite (ℕ_discrete n m) (λ e. inl e) (λ far. inr (other_word (id_word m) (packed (free_word ((parts found).first + (parts found).range))) n (λ e. far (let z : 2 * n + 1 ≡ 2 * m + 1 = e in omega (arith, z)))))
-    step_keeps (FreeId m) t found may finds is n inside = inr (other_word (tag_word m) 0 n (λ e. let z : 2 * n + 1 ≡ 2 * m = e in omega (arith, z)))
+    step_keeps (EndId m) t found may finds is n inside = dite (ℕ_discrete n m) (λ e. inl e) (λ far. inr (other_word (id_index m) (packed (free_word ((parts found).first + (parts found).range))) n (λ e. far (let z : 2 * n + 1 ≡ 2 * m + 1 = e in omega (arith, z)))))
+    step_keeps (FreeId m) t found may finds is n inside = inr (other_word (tag_index m) 0 n (λ e. let z : 2 * n + 1 ≡ 2 * m = e in omega (arith, z)))
     step_keeps (TakeCall m) t found may finds is n inside = dite (ℕ_discrete n m) (λ e. inl e) (λ far. inr (keeps_by (calls_after (TakeCall m) found c.calls) n refl (set_else c.calls.homes m n (some std.None) far)))
     step_keeps (TakeBytes k room) t found may finds is n inside = inr (given_same k found n)
 

@@ -8,7 +8,7 @@ use native.Mathlib.Decide.{ℕ_discrete}
 use mathlib.Core.Option.{Option, none, some, some-injective, some-ne-none}
 use lib.ListN.{get_elem?}
 use Rattle.atomic_table.proofs.Lists.{at_set, set_here}
-use Rattle.sock_words.specs.Words.{at_word as word_of_at, at_word_first, at_word_slot}
+use Rattle.sock_words.specs.Words.{at_index as word_of_at, at_word_first, at_word_slot}
 use Rattle.sock_words.specs.declared.plain.Plan.{Plan}
 use Rattle.sock_io.specs.declared.link.Put.{Put}
 use Rattle.sock_io.specs.declared.link.Ready.{Ready}
@@ -20,18 +20,18 @@ use Rattle.corr_core.specs.declared.marks.Plan.{Plan as IdPlan}
 use Rattle.corr_core.specs.declared.marks.Token.{Token}
 use Rattle.corr_core.specs.declared.marks.Token.TheVariants.{Locked}
 use Rattle.corr_core.specs.declared.marks.Hand.TheVariants.{Empty}
-use Rattle.id_rule.specs.Lawful.{tag_word, id_word, call_word, at_word, tokens_of}
-use Rattle.sock_programs.specs.sock_message.specs.Asked.{Asked}
-use Rattle.sock_programs.specs.Asides.{Step, Found, ClaimId, PutCall, MakeId, StoreCall, LoadCall, StoreAt, LoadAt, LoadIdWord, LockId, PostId, UnlockId, EndId, FreeId, TakeCall, TakeBytes, Taking, Bytes, Nothing, NoMore, AtEnd, Closed, Broken, call_id, id_slot, id_first}
+use Rattle.id_rule.specs.Lawful.{tag_index, id_index, call_index, at_index, tokens_of}
+use Rattle.seat_programs.specs.sock_message.specs.Asked.{Asked}
+use Rattle.seat_programs.specs.Asides.{Step, Found, ClaimId, PutCall, MakeId, StoreCall, LoadCall, StoreAt, LoadAt, LoadIdWord, LockId, PostId, UnlockId, EndId, FreeId, TakeCall, TakeBytes, Taking, Bytes, Nothing, NoMore, AtEnd, Closed, Broken, call_id, id_slot, id_first}
 use Rattle.joint_runs.specs.sock_steps.proofs.Quiet.{either_way}
-use Rattle.sock_programs.specs.Heads.{Head, Exit, Retry, Posts, Unlocks, Decides, Locks, Joins, Opens, Reads, Discards}
-use Rattle.sock_programs.specs.Programs.{Program, Do, Say, Sent, Rest, TakeMessage, TakeHome, PutHome, PutBytes, AskReady, Write, Aside, Round, Keep, Retries}
-use Rattle.sock_programs.specs.Posts.{packed, advance_of, ends_call}
-use Rattle.sock_programs.specs.Sends.{block}
-use Rattle.sock_programs.specs.Rounds.{round}
-use Rattle.sock_programs.specs.Beside.{found_in, calls_after, call_at, more_given}
-use Rattle.sock_programs.specs.Cores.{Calls, Core, SeatState, word_of, found_at, resolved, next_step, waiting_at, with_seat}
-use Rattle.sock_programs.specs.Ticks.{Answer, Unasked, OfPut, OfReady, OfTake, Moment, taken, with_message, with_link, with_put, with_ready, with_found, step_with, tick_with, ticked}
+use Rattle.seat_programs.specs.Heads.{Head, Exit, Retry, Posts, Unlocks, Decides, Locks, Joins, Opens, Reads, Discards}
+use Rattle.seat_programs.specs.Programs.{Program, Do, Say, Sent, Rest, TakeMessage, TakeHome, PutHome, PutBytes, AskReady, Write, Aside, Round, Keep, Retries}
+use Rattle.seat_programs.specs.Posts.{packed, advance_of, ends_call}
+use Rattle.seat_programs.specs.Sends.{block}
+use Rattle.seat_programs.specs.Rounds.{round}
+use Rattle.seat_programs.specs.Beside.{found_in, calls_after, call_at, more_given}
+use Rattle.seat_programs.specs.Cores.{Calls, Core, SeatState, word_of, found_at, resolved, next_step, waiting_at, with_seat}
+use Rattle.seat_programs.specs.Ticks.{Answer, Unasked, OfPut, OfReady, OfTake, Moment, taken, with_message, with_link, with_put, with_ready, with_found, step_with, tick_with, ticked}
 use Rattle.joint_runs.specs.id_runs.specs.Held.{IdView, one, HasOne, MayId}
 use Rattle.joint_runs.specs.id_runs.specs.Goes.{FitsRetryId, FindsId, IsTaken, IdGoesOn, SoundIds, FitsFirst, IsFittingIds}
 use Rattle.joint_runs.specs.id_runs.specs.Goes as goes
@@ -259,11 +259,11 @@ module _ (p : Plan) (q : IdPlan) (narrow : q.slots ≤ 65536) (calls : List ℕ)
     kept_ats : ((o : ℕ) → o < q.operations → at_of q D o ≡ at_of q c o) → Ats has
     kept_ats same o inside some_ = let e = same o inside in subst (λ w. IsIdOf has o (call_id (at_word_slot w) (at_word_first w))) (sym e) (owned.ats o inside (λ z. some_ (e ∙ z)))
 
-  other_at : (x w o : ℕ) → at_word q o ≢ x → get_or (set c.calls.words x w) (at_word q o) 0 ≡ get_or c.calls.words (at_word q o) 0
-  other_at x w o far = get_or-set_other c.calls.words x (at_word q o) w 0 (λ e. far (omega (arith, e)))
+  other_at : (x w o : ℕ) → at_index q o ≢ x → get_or (set c.calls.words x w) (at_index q o) 0 ≡ get_or c.calls.words (at_index q o) 0
+  other_at x w o far = get_or-set_other c.calls.words x (at_index q o) w 0 (λ e. far (omega (arith, e)))
 
   -- a word of an id slot isn't an at word
-  low_at : (x w o : ℕ) → x < 2 * q.slots → get_or (set c.calls.words x w) (at_word q o) 0 ≡ get_or c.calls.words (at_word q o) 0
+  low_at : (x w o : ℕ) → x < 2 * q.slots → get_or (set c.calls.words x w) (at_index q o) 0 ≡ get_or c.calls.words (at_index q o) 0
   low_at x w o low = other_at x w o (λ e. omega (arith, e, low))
 
   called : (x : Option (Option (std.Option Asked))) (asked : Asked) → call_at x ≡ some asked → x ≡ some (some (std.Some asked))
@@ -345,8 +345,8 @@ module _ (p : Plan) (q : IdPlan) (narrow : q.slots ≤ 65536) (calls : List ℕ)
     homes_made : (n : ℕ) → n < q.slots → (x : Asked) → get_elem? c.calls.homes n ≡ some (some (std.Some x)) → (id_word_of Made n).state ≢ 0 → IsIdOf more x.operation (call_id n (id_word_of Made n).first)
     homes_made n inside x e some_ = dite (ℕ_discrete n m)
         (λ here. let same : x ≡ asked = same_call x asked (sym e ∙ ap (get_elem? c.calls.homes) here ∙ at_home) in
-        let word : get_or (set c.calls.words (id_word m) (packed (made_word (parts found).first range))) (id_word n) 0 ≡ packed (made_word (parts found).first range) =
-        ap (λ y. get_or (set c.calls.words (id_word m) (packed (made_word (parts found).first range))) (id_word y) 0) here ∙ get_or-set_same c.calls.words (id_word m) (packed (made_word (parts found).first range)) 0 (word_inside p q c ws ids m may.0) in
+        let word : get_or (set c.calls.words (id_index m) (packed (made_word (parts found).first range))) (id_index n) 0 ≡ packed (made_word (parts found).first range) =
+        ap (λ y. get_or (set c.calls.words (id_index m) (packed (made_word (parts found).first range))) (id_index y) 0) here ∙ get_or-set_same c.calls.words (id_index m) (packed (made_word (parts found).first range)) 0 (word_inside p q c ws ids m may.0) in
         let high = may.3 in let low = may.2 in let parts_are = parts_packed (made_word (parts found).first range) (omega arith) (omega (arith, low)) high (omega arith) (omega arith) (omega arith) in
         let first : (id_word_of Made n).first ≡ (parts found).first = ap (λ y. (parts y).first) word ∙ ap (λ (y : Parts). y.first) parts_are in
         subst (λ (y : Asked). IsIdOf more y.operation (call_id n (id_word_of Made n).first)) (sym same) (subst (λ f. IsIdOf more asked.operation (call_id n f)) (sym first) (subst (λ y. IsIdOf more asked.operation (call_id y (parts found).first)) (sym here) made)))
@@ -364,7 +364,7 @@ module _ (p : Plan) (q : IdPlan) (narrow : q.slots ≤ 65536) (calls : List ℕ)
             (λ far. let w = more_else x far in let old = owned.inside x (λ z. some_ (w ∙ z)) in (subst (λ y. id_slot y < q.slots) (sym w) old.0, old.1));
         once = λ j x e. let l = left_still j x e in let old = owned.once j x l.0 in (more_else x (not_made j x e) ∙ old.0, old.1);
         apart = λ j k x e f. owned.apart j k x (left_still j x e).0 (left_still k x f).0;
-        ats = λ x inside some_. let e = low_at (id_word m) (packed (made_word (parts found).first range)) x (let n = may.0 in omega (arith, n)) in
+        ats = λ x inside some_. let e = low_at (id_index m) (packed (made_word (parts found).first range)) x (let n = may.0 in omega (arith, n)) in
             subst (λ w. IsIdOf more x (call_id (at_word_slot w) (at_word_first w))) (sym e) (id_grows has more grows x (call_id (at_word_slot (at_of q c x)) (at_word_first (at_of q c x))) (owned.ats x inside (λ z. some_ (e ∙ z))));
         homes = homes_made;
         seats = goes_on (calls_after (MakeId m range) found c.calls) (next found) seat.hand c.words c.homes refl more others grows others_else Other (subst (λ (f : ℕ → Bool). Owns more f Other (next found)) (sym others_here)
@@ -376,11 +376,11 @@ module _ (p : Plan) (q : IdPlan) (narrow : q.slots ≤ 65536) (calls : List ℕ)
   -- ## Each step
 
   on_ids : (step : Step) (next : Found step → Program) (found : Found step) (t : Option Taking) → found_in step c.calls t ≡ some found → MayId p q u step → (b : Behind) → Owns has (left i) b (Aside step next) → IsTrueOf c b (Aside step next) → Goes step found (next found)
-  on_ids (ClaimId m) next found t is may b g true_ = settle (ClaimId m) next found t is may (behind (ClaimId m) found b) (g.1 found has (grows_same has) tt) (by_zero (found == 0) refl) (all_homes (ClaimId m) next found t is may (λ n e. e)) (kept_ats (ClaimId m) next found t is may (λ o inside. low_at (tag_word m) 1 o (omega (arith, may))))
+  on_ids (ClaimId m) next found t is may b g true_ = settle (ClaimId m) next found t is may (behind (ClaimId m) found b) (g.1 found has (grows_same has) tt) (by_zero (found == 0) refl) (all_homes (ClaimId m) next found t is may (λ n e. e)) (kept_ats (ClaimId m) next found t is may (λ o inside. low_at (tag_index m) 1 o (omega (arith, may))))
     where
       by_zero : (z : Bool) → (found == 0) ≡ z → IsTrue (Then p q c ws ids (calls_after (ClaimId m) found c.calls)) (cond z (HasClaimed m) Other)
       by_zero false e = tt
-      by_zero true e = (slot_keeps (ClaimId m) found t is may m may (λ e. e)).none_ (free_tag p q c ws ids m may (some-injective (get_or c.calls.words (tag_word m) 0) found is ∙ eqb-true found 0 e))
+      by_zero true e = (slot_keeps (ClaimId m) found t is may m may (λ e. e)).none_ (free_tag p q c ws ids m may (some-injective (get_or c.calls.words (tag_index m) 0) found is ∙ eqb-true found 0 e))
   on_ids (PutCall m asked) next found t is may b g true_ = settle (PutCall m asked) next found t is may (put_behind m asked b) (g.1 found has (grows_same has) tt) now_home homes (kept_ats (PutCall m asked) next found t is may (λ o inside. refl))
     where
       here : get_elem? (set c.calls.homes m (some (std.Some asked))) m ≡ some (some (std.Some asked))
@@ -400,48 +400,48 @@ module _ (p : Plan) (q : IdPlan) (narrow : q.slots ≤ 65536) (calls : List ℕ)
           (λ far. kept_home (PutCall m asked) next found t is may n inside (slot_keeps (PutCall m asked) found t is may n inside far) x e some_)
   on_ids (MakeId m range) next found t is may b g true_ = makes m range next found t is may b g.0.0 g.0.1 g.0.2 (λ more grows finds. g.1 found more grows finds) (let y : IsTrueOf c (HasPut m g.0.0) (Aside (MakeId m range) next) = subst (λ y. IsTrueOf c y (Aside (MakeId m range) next)) g.0.1 true_ in y refl)
   on_ids (StoreCall x y) next found t is may b g true_ = settle (StoreCall x y) next found t is may Other (g.1 found has (grows_same has) tt) tt (all_homes (StoreCall x y) next found t is may (λ n e. e))
-      (kept_ats (StoreCall x y) next found t is may (λ n inside. subst (λ (r : IdPlan). get_or (set c.calls.words (call_word r x) y) (at_word q n) 0 ≡ get_or c.calls.words (at_word q n) 0) (sym ids.plan) (other_at (call_word q x) y n (λ e. omega (arith, e)))))
+      (kept_ats (StoreCall x y) next found t is may (λ n inside. subst (λ (r : IdPlan). get_or (set c.calls.words (call_index r x) y) (at_index q n) 0 ≡ get_or c.calls.words (at_index q n) 0) (sym ids.plan) (other_at (call_index q x) y n (λ e. omega (arith, e)))))
   on_ids (LoadCall o) next found t is may b g true_ = settle (LoadCall o) next found t is may Other (g.1 found has (grows_same has) tt) tt (all_homes (LoadCall o) next found t is may (λ n e. e)) (kept_ats (LoadCall o) next found t is may (λ x inside. refl))
   on_ids (StoreAt o w) next found t is may b g true_ = settle (StoreAt o w) next found t is may Other (g.1 found has (grows_same has) tt) tt (all_homes (StoreAt o w) next found t is may (λ n e. e))
-      (subst (λ (r : IdPlan). (x : ℕ) → x < q.operations → get_or (set c.calls.words (at_word r o) w) (at_word q x) 0 ≢ 0 → IsIdOf has x (call_id (at_word_slot (get_or (set c.calls.words (at_word r o) w) (at_word q x) 0)) (at_word_first (get_or (set c.calls.words (at_word r o) w) (at_word q x) 0)))) (sym ids.plan) ats)
+      (subst (λ (r : IdPlan). (x : ℕ) → x < q.operations → get_or (set c.calls.words (at_index r o) w) (at_index q x) 0 ≢ 0 → IsIdOf has x (call_id (at_word_slot (get_or (set c.calls.words (at_index r o) w) (at_index q x) 0)) (at_word_first (get_or (set c.calls.words (at_index r o) w) (at_index q x) 0)))) (sym ids.plan) ats)
     where
-      ats : (x : ℕ) → x < q.operations → get_or (set c.calls.words (at_word q o) w) (at_word q x) 0 ≢ 0 → IsIdOf has x (call_id (at_word_slot (get_or (set c.calls.words (at_word q o) w) (at_word q x) 0)) (at_word_first (get_or (set c.calls.words (at_word q o) w) (at_word q x) 0)))
+      ats : (x : ℕ) → x < q.operations → get_or (set c.calls.words (at_index q o) w) (at_index q x) 0 ≢ 0 → IsIdOf has x (call_id (at_word_slot (get_or (set c.calls.words (at_index q o) w) (at_index q x) 0)) (at_word_first (get_or (set c.calls.words (at_index q o) w) (at_index q x) 0)))
       ats x inside some_ = dite (ℕ_discrete x o)
-          (λ same. let e : get_or (set c.calls.words (at_word q o) w) (at_word q x) 0 ≡ w = ap (λ y. get_or (set c.calls.words (at_word q o) w) (at_word q y) 0) same ∙ get_or-set_same c.calls.words (at_word q o) w 0 (let sized = ids.rule.sized in let low = may.0 in omega (arith, sized, low)) in
+          (λ same. let e : get_or (set c.calls.words (at_index q o) w) (at_index q x) 0 ≡ w = ap (λ y. get_or (set c.calls.words (at_index q o) w) (at_index q y) 0) same ∙ get_or-set_same c.calls.words (at_index q o) w 0 (let sized = ids.rule.sized in let low = may.0 in omega (arith, sized, low)) in
           subst (λ y. IsIdOf has x (call_id (at_word_slot y) (at_word_first y))) (sym e) (subst (λ y. IsIdOf has y (call_id (at_word_slot w) (at_word_first w))) (sym same) (own_at q narrow has (λ y z. (owned.inside y z).0) o w g.0)))
-          (λ far. let e = other_at (at_word q o) w x (λ z. far (let y : 2 * q.slots + 2 * x + 1 ≡ 2 * q.slots + 2 * o + 1 = z in omega (arith, y))) in
+          (λ far. let e = other_at (at_index q o) w x (λ z. far (let y : 2 * q.slots + 2 * x + 1 ≡ 2 * q.slots + 2 * o + 1 = z in omega (arith, y))) in
           subst (λ y. IsIdOf has x (call_id (at_word_slot y) (at_word_first y))) (sym e) (owned.ats x inside (λ z. some_ (e ∙ z))))
   on_ids (LoadAt o) next found t is may b g true_ = settle (LoadAt o) next found t is may Other (g.1 found has (grows_same has) tt) tt (all_homes (LoadAt o) next found t is may (λ n e. e)) (kept_ats (LoadAt o) next found t is may (λ x inside. refl))
   on_ids (LoadIdWord m) next found t is may b g true_ = settle (LoadIdWord m) next found t is may Other (g.1 found has (grows_same has) tt) tt (all_homes (LoadIdWord m) next found t is may (λ n e. e)) (kept_ats (LoadIdWord m) next found t is may (λ x inside. refl))
   on_ids (LockId m from) next found t is may b g true_ = settle (LockId m from) next found t is may (behind (LockId m from) found b) (g.1 found has (grows_same has) tt) (by_hit (found == from) refl) (all_homes (LockId m from) next found t is may (λ n e. e))
-      (kept_ats (LockId m from) next found t is may (λ o inside. low_at (id_word m) (cond (found == from) (packed (posted_word (parts from) 0)) found) o (let low = may.0 in omega (arith, low))))
+      (kept_ats (LockId m from) next found t is may (λ o inside. low_at (id_index m) (cond (found == from) (packed (posted_word (parts from) 0)) found) o (let low = may.0 in omega (arith, low))))
     where
       by_hit : (h : Bool) → (found == from) ≡ h → IsTrue (Then p q c ws ids (calls_after (LockId m from) found c.calls)) (cond h (HasLock m (parts found).first) Other)
       by_hit false e = tt
-      by_hit true e = let k = slot_keeps (LockId m from) found t is may m may.0 (λ e. e) in let word = some-injective (get_or c.calls.words (id_word m) 0) found is in let one = may.1 in
+      by_hit true e = let k = slot_keeps (LockId m from) found t is may m may.0 (λ e. e) in let word = some-injective (get_or c.calls.words (id_index m) 0) found is in let one = may.1 in
           (k.first ∙ ap (λ y. (parts y).first) word, k.some_ (λ z. let w : (parts from).state ≡ 0 = sym (ap (λ y. (parts y).state) (word ∙ eqb-true found from e)) ∙ z in omega (arith, one, w)))
   on_ids (PostId m from x) next found t is may b g true_ = settle (PostId m from x) next found t is may (behind (PostId m from x) found b) (g.1 found has (grows_same has) tt) (by_hit (found == from) ((parts from).state == 1) refl refl) (all_homes (PostId m from x) next found t is may (λ n e. e))
-      (kept_ats (PostId m from x) next found t is may (λ o inside. low_at (id_word m) (cond (found == from) (packed (posted_word (parts from) x)) found) o (let low = may.0 in omega (arith, low))))
+      (kept_ats (PostId m from x) next found t is may (λ o inside. low_at (id_index m) (cond (found == from) (packed (posted_word (parts from) x)) found) o (let low = may.0 in omega (arith, low))))
     where
       by_hit : (h s : Bool) → (found == from) ≡ h → ((parts from).state == 1) ≡ s → IsTrue (Then p q c ws ids (calls_after (PostId m from x) found c.calls)) (cond h (cond s (HasLock m (parts found).first) Other) Other)
       by_hit false s e f = tt
       by_hit true false e f = tt
-      by_hit true true e f = let k = slot_keeps (PostId m from x) found t is may m may.0 (λ e. e) in let word = some-injective (get_or c.calls.words (id_word m) 0) found is in let one = eqb-true (parts from).state 1 f in
+      by_hit true true e f = let k = slot_keeps (PostId m from x) found t is may m may.0 (λ e. e) in let word = some-injective (get_or c.calls.words (id_index m) 0) found is in let one = eqb-true (parts from).state 1 f in
           (k.first ∙ ap (λ y. (parts y).first) word, k.some_ (λ z. let w : (parts from).state ≡ 0 = sym (ap (λ y. (parts y).state) (word ∙ eqb-true found from e)) ∙ z in omega (arith, one, w)))
   on_ids (UnlockId m from advance) next found t is may b g true_ = settle (UnlockId m from advance) next found t is may (HasLock m (parts found).first) (g.1 found has (grows_same has) tt)
-      (let k = slot_keeps (UnlockId m from advance) found t is may m may.0 (λ e. e) in let word = some-injective (get_or c.calls.words (id_word m) 0) found is in let y = may.1 in
+      (let k = slot_keeps (UnlockId m from advance) found t is may m may.0 (λ e. e) in let word = some-injective (get_or c.calls.words (id_index m) 0) found is in let y = may.1 in
       let two = (finds_ids p q c.calls ids.plan ws ids.rule i u at (ids.real i u at) (ids.called, ids.placed) ids.homes (UnlockId m from advance) t found is may y.0 y.1 y.2 y.3 y.4 y.5 y.6).state_is in
       (k.first ∙ ap (λ y. (parts y).first) word, k.some_ (λ z. let w : (parts found).state ≡ 0 = sym (ap (λ y. (parts y).state) word) ∙ z in omega (arith, two, w))))
-      (all_homes (UnlockId m from advance) next found t is may (λ n e. e)) (kept_ats (UnlockId m from advance) next found t is may (λ o inside. low_at (id_word m) (cond (found == from) (packed (unlocked_word (parts from) (advance_of advance))) found) o (let low = may.0 in omega (arith, low))))
-  on_ids (EndId m) next found t is may b g true_ = settle (EndId m) next found t is may Other (g.1 found has (grows_same has) tt) tt homes (kept_ats (EndId m) next found t is may (λ o inside. low_at (id_word m) (packed (free_word ((parts found).first + (parts found).range))) o (let low = may.0 in omega (arith, low))))
+      (all_homes (UnlockId m from advance) next found t is may (λ n e. e)) (kept_ats (UnlockId m from advance) next found t is may (λ o inside. low_at (id_index m) (cond (found == from) (packed (unlocked_word (parts from) (advance_of advance))) found) o (let low = may.0 in omega (arith, low))))
+  on_ids (EndId m) next found t is may b g true_ = settle (EndId m) next found t is may Other (g.1 found has (grows_same has) tt) tt homes (kept_ats (EndId m) next found t is may (λ o inside. low_at (id_index m) (packed (free_word ((parts found).first + (parts found).range))) o (let low = may.0 in omega (arith, low))))
     where
       free : (n : ℕ) → n ≡ m → (id_word_of (Then p q c ws ids (calls_after (EndId m) found c.calls)) n).state ≡ 0
-      free n same = ap (λ y. (id_word_of (Then p q c ws ids (calls_after (EndId m) found c.calls)) y).state) same ∙ ap (λ y. (parts y).state) (get_or-set_same c.calls.words (id_word m) (packed (free_word ((parts found).first + (parts found).range))) 0 (word_inside p q c ws ids m may.0))
+      free n same = ap (λ y. (id_word_of (Then p q c ws ids (calls_after (EndId m) found c.calls)) y).state) same ∙ ap (λ y. (parts y).state) (get_or-set_same c.calls.words (id_index m) (packed (free_word ((parts found).first + (parts found).range))) 0 (word_inside p q c ws ids m may.0))
           ∙ ap (λ (y : Parts). y.state) (parts_packed (free_word ((parts found).first + (parts found).range)) (omega arith) (omega arith) (omega arith) (omega arith) (omega arith) (omega arith))
 
       homes : (n : ℕ) → n < q.slots → (x : Asked) → get_elem? c.calls.homes n ≡ some (some (std.Some x)) → (id_word_of (Then p q c ws ids (calls_after (EndId m) found c.calls)) n).state ≢ 0 → IsIdOf has x.operation (call_id n (id_word_of (Then p q c ws ids (calls_after (EndId m) found c.calls)) n).first)
       homes n inside x e some_ = dite (ℕ_discrete n m) (λ same. absurd (some_ (free n same))) (λ far. kept_home (EndId m) next found t is may n inside (slot_keeps (EndId m) found t is may n inside far) x e some_)
-  on_ids (FreeId m) next found t is may b g true_ = settle (FreeId m) next found t is may Other (g.1 found has (grows_same has) tt) tt (all_homes (FreeId m) next found t is may (λ n e. e)) (kept_ats (FreeId m) next found t is may (λ o inside. low_at (tag_word m) 0 o (let low = may.0 in omega (arith, low))))
+  on_ids (FreeId m) next found t is may b g true_ = settle (FreeId m) next found t is may Other (g.1 found has (grows_same has) tt) tt (all_homes (FreeId m) next found t is may (λ n e. e)) (kept_ats (FreeId m) next found t is may (λ o inside. low_at (tag_index m) 0 o (let low = may.0 in omega (arith, low))))
   on_ids (TakeCall m) next found t is may b g true_ = settle (TakeCall m) next found t is may (taken_behind m b) (g.1 found has (grows_same has) own) (taken b true_) homes (kept_ats (TakeCall m) next found t is may (λ o inside. refl))
     where
       own : (f : ℕ) → b ≡ HasLock m f → IsIdOf has found.operation (call_id m f)
@@ -476,7 +476,7 @@ module _ (p : Plan) (q : IdPlan) (narrow : q.slots ≤ 65536) (calls : List ℕ)
           (λ far. kept_home (TakeCall m) next found t is may n inside (slot_keeps (TakeCall m) found t is may n inside far) x e some_)
   on_ids (TakeBytes k room) next found t is may b g true_ = settle (TakeBytes k room) next found t is may Other (g.1 found has (grows_same has) tt) tt (all_homes (TakeBytes k room) next found t is may (λ n e. e)) (kept_ats (TakeBytes k room) next found t is may (λ o inside. given found o))
     where
-      given : (x : Taking) (o : ℕ) → get_or (more_given k x c.calls).words (at_word q o) 0 ≡ get_or c.calls.words (at_word q o) 0
+      given : (x : Taking) (o : ℕ) → get_or (more_given k x c.calls).words (at_index q o) 0 ≡ get_or c.calls.words (at_index q o) 0
       given (Bytes bytes) o = refl
       given Nothing o = refl
       given NoMore o = refl

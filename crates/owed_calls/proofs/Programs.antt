@@ -10,16 +10,16 @@ use Rattle.sock_model.specs.declared.chain.Heading.{Heading}
 use Rattle.sock_model.specs.Entries.{generation_of, slot_of, ticket_of}
 use Rattle.sock_model.specs.Memory.{IDLE, UNCONNECTED}
 use Rattle.corr_core.specs.Word.{parts, attempt_of, error_of}
-use Rattle.sock_programs.specs.Parts.{part}
-use Rattle.sock_programs.specs.sock_message.specs.Asked.{Asked, name_of, frame_of}
-use Rattle.sock_programs.specs.Calls.{SubRef, AddRef, StoreCode, LoadLink, TakeLink, FinishLink, PutLink, FreeSlot, LoadName, FreeRequest, ReadNext, FindLink, LookWord, TurnNext, Connect}
-use Rattle.sock_programs.specs.Asides.{PutCall, StoreAt, TakeCall, call_id, id_slot, id_first}
-use Rattle.sock_programs.specs.Heads.{First, Unlocks, Joins, Unlocking, IsOpen, HasNext, Locking, NotThere, Has}
-use Rattle.sock_programs.specs.Programs.{Program, Do, Say, TakeMessage, TakeHome, PutBytes, Write, Aside, Round, LAST_VERSION, LAST_GENERATION, recycle, release, address, set_failed}
-use Rattle.sock_programs.specs.Posts.{post, post_with, posted}
-use Rattle.sock_programs.specs.Writings.{Holder, Writing, Puts, Waits, Empties, Walks}
-use Rattle.sock_programs.specs.Sends.{freed as given_back, one_more, passed_telling, tell_drop, placed, dropped, put_answered, ready_answered, block, accept, write_link}
-use Rattle.sock_programs.specs.Attempts.{claims_from, heading_for, attempt, begin_call, claim_id, call, tried_again, retry_locked, retry, expire_outcome, expire, join}
+use Rattle.seat_programs.specs.Parts.{part}
+use Rattle.seat_programs.specs.sock_message.specs.Asked.{Asked, name_of, frame_of}
+use Rattle.seat_programs.specs.Calls.{SubRef, AddRef, StoreCode, LoadLink, TakeLink, FinishLink, PutLink, FreeSlot, LoadName, FreeRequest, ReadNext, FindLink, LookWord, ReverseNext, Connect}
+use Rattle.seat_programs.specs.Asides.{PutCall, StoreAt, TakeCall, call_id, id_slot, id_first}
+use Rattle.seat_programs.specs.Heads.{First, Unlocks, Joins, Unlocking, IsOpen, HasNext, Locking, NotThere, Has}
+use Rattle.seat_programs.specs.Programs.{Program, Do, Say, TakeMessage, TakeHome, PutBytes, Write, Aside, Round, LAST_VERSION, LAST_GENERATION, recycle, release, address, set_failed}
+use Rattle.seat_programs.specs.Posts.{post, post_with, posted}
+use Rattle.seat_programs.specs.Writings.{Holder, Writing, Puts, Waits, Empties, Walks}
+use Rattle.seat_programs.specs.Sends.{freed as given_back, one_more, passed_telling, tell_drop, placed, dropped, put_answered, ready_answered, block, accept, write_link}
+use Rattle.seat_programs.specs.Attempts.{claims_from, heading_for, attempt, begin_call, claim_id, call, tried_again, retry_locked, retry, expire_outcome, expire, join}
 use Rattle.owed_calls.specs.Owing.{Free, Trying, Linked, Looking, Telling, Owing, with_duty, freed, with_known, KnowsOwner, CallMove, stays, tells, tells_late, links, looks}
 use Rattle.owed_calls.specs.Owes.{Further, IsFree, LeavesPosts, LeavesUnlocks, LeavesLocks, OwesOn}
 use Rattle.owed_calls.proofs.Posts.{id_back, not_equal, was_free, same_further, then_further, free_further, free_from, way, pick, post_with_goes, posted_goes, post_goes, decided_on}
@@ -137,7 +137,7 @@ module _ (life : ℕ → Option ℕ) where
       u,
       stays refl,
       way life u (found == UNCONNECTED) (Write (Walks h top at after) then_)
-          (Do (TurnNext (slot_of at) after) (λ _. cond (found == h.last) (TakeMessage (slot_of at) (λ heading bytes. Write (Puts (record h { last = top }) at heading bytes 0 false) then_)) (Write (Walks h top found at) then_)))
+          (Do (ReverseNext (slot_of at) after) (λ _. cond (found == h.last) (TakeMessage (slot_of at) (λ heading bytes. Write (Puts (record h { last = top }) at heading bytes 0 false) then_)) (Write (Walks h top found at) then_)))
           (λ _. g)
           (λ _. (
             tt,

@@ -13,9 +13,9 @@ use Rattle.sock_model.specs.declared.home.Home.{Home}
 use Rattle.sock_model.specs.declared.home.Home.TheVariants.{Message}
 use Rattle.corr_core.specs.Word.{attempt_of}
 use Rattle.corr_core.specs.declared.marks.Plan.{Plan as IdPlan}
-use Rattle.sock_programs.specs.Asides.{call_id, id_slot, id_first}
-use Rattle.sock_programs.specs.Calls.{Call, AddRef, SetOdd, LookWord}
-use Rattle.sock_programs.specs.Cores.{Core, SeatState, waiting_at}
+use Rattle.seat_programs.specs.Asides.{call_id, id_slot, id_first}
+use Rattle.seat_programs.specs.Calls.{Call, AddRef, SetOdd, LookWord}
+use Rattle.seat_programs.specs.Cores.{Core, SeatState, waiting_at}
 use Rattle.owed_calls.specs.Owing.{Duty, Free, Trying, Linked, Looking, Telling, Owing, Among, InList, DutyTo, duty_tokens, with_duty, freed, with_known, with_left, with_dead, CallMove, stays, tells, tells_late, links, looks, fails, gone, unused}
 use Rattle.owed_calls.specs.Sound.{id_word_of, at_of, retry_tokens, Owed, by_seat, by_retry, by_reader, Past, Distinct, IsOpen, ErrorPast, Failed, Stored, OwingLaw}
 use Rattle.owed_calls.proofs.Changes.{set_at, set_beside, change, past_on}

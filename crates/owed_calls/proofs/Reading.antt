@@ -3,12 +3,12 @@ use Rattle.std.proofs.Common.{◌≡◌, ℕ, ◌+◌, ◌-◌, ◌%◌, ◌<◌
 use Rattle.sock_words.specs.Words.{socket_id_slot, socket_id_version, vref_version, at_word_first, at_word_slot, at_word_link, at_word_attempt}
 use Rattle.corr_core.specs.Word.{parts, error_of, code_of, attempt_of}
 use Rattle.brpc_model.specs.Frame.{Frame}
-use Rattle.sock_programs.specs.Calls.{AddRef, StoreCode, SubRef}
-use Rattle.sock_programs.specs.Asides.{call_id, id_slot, id_first}
-use Rattle.sock_programs.specs.Heads.{Reads, Discards, Posting, WasGone, WasStale, WasCrowded, WasQueued, HasLocked, Ended}
-use Rattle.sock_programs.specs.Programs.{Program, Do, Rest, Round, NO_SOCKET, address, release, set_failed}
-use Rattle.sock_programs.specs.Posts.{post_with, decide, decided, is_final, is_stale}
-use Rattle.sock_programs.specs.Readers.{LIMIT, slot_in, kept_for, ends_with, posted_last, post_each, thrown_away, read, reader}
+use Rattle.seat_programs.specs.Calls.{AddRef, StoreCode, SubRef}
+use Rattle.seat_programs.specs.Asides.{call_id, id_slot, id_first}
+use Rattle.seat_programs.specs.Heads.{Reads, Discards, Posting, WasGone, WasStale, WasCrowded, WasQueued, HasLocked, Ended}
+use Rattle.seat_programs.specs.Programs.{Program, Do, Rest, Round, NO_SOCKET, address, release, set_failed}
+use Rattle.seat_programs.specs.Posts.{post_with, decide, decided, is_final, is_stale}
+use Rattle.seat_programs.specs.Readers.{LIMIT, slot_in, kept_for, ends_with, posted_last, post_each, thrown_away, read, reader}
 use Rattle.owed_calls.specs.Owing.{Free, Telling, Owing, freed, with_duty, with_known, with_left, with_dead, loaded, KnowsError, CallMove, stays, fails, gone}
 use Rattle.owed_calls.specs.Owes.{Further, MayDecide, LeavesPosts, OwesOn}
 use Rattle.owed_calls.proofs.Posts.{not_equal, way, pick, post_with_goes, decided_on}

@@ -3,13 +3,13 @@ use Rattle.std.proofs.Common.{◌≡◌, ℕ, ◌+◌, ◌-◌, ◌&&◌, not, B
 use Rattle.corr_core.specs.Word.{Parts, parts, locked_word, posted_word}
 use Rattle.brpc_model.specs.Frame.{Frame}
 use Rattle.brpc_model.specs.Stream as streams
-use Rattle.sock_programs.specs.Calls.{LoadOpen}
-use Rattle.sock_programs.specs.Asides.{LockId, Taking, Bytes, Nothing, NoMore, AtEnd, Closed, Broken, id_first, call_id}
-use Rattle.sock_programs.specs.Heads.{Head, Exit, Sought, Version, Reading, Posts, Unlocks, Decides, Locks, Joins, Opens, Reads, Discards, Locking, NotThere, Has, Ended}
-use Rattle.sock_programs.specs.Programs.{Program, Say, Round, NO_SOCKET}
-use Rattle.sock_programs.specs.Posts.{packed, is_first, is_sought, locking}
-use Rattle.sock_programs.specs.Readers.{answer, answered, responses, read_on, took, discarded, last_of, slot_in, version_in, has_response, ending_of, is_early, ended_by as how_ended, LIMIT}
-use Rattle.sock_programs.specs.Rounds.{round}
+use Rattle.seat_programs.specs.Calls.{LoadOpen}
+use Rattle.seat_programs.specs.Asides.{LockId, Taking, Bytes, Nothing, NoMore, AtEnd, Closed, Broken, id_first, call_id}
+use Rattle.seat_programs.specs.Heads.{Head, Exit, Sought, Version, Reading, Posts, Unlocks, Decides, Locks, Joins, Opens, Reads, Discards, Locking, NotThere, Has, Ended}
+use Rattle.seat_programs.specs.Programs.{Program, Say, Round, NO_SOCKET}
+use Rattle.seat_programs.specs.Posts.{packed, is_first, is_sought, locking}
+use Rattle.seat_programs.specs.Readers.{answer, answered, responses, read_on, took, discarded, last_of, slot_in, version_in, has_response, ending_of, is_early, ended_by as how_ended, LIMIT}
+use Rattle.seat_programs.specs.Rounds.{round}
 use Rattle.owed_calls.specs.Owing.{Duty, Free, Trying, Linked, Looking, Telling, Owing, Among, freed, with_left, with_dead, FindsOwe, IsLifeOf}
 use Rattle.owed_calls.specs.Owing as owing
 use Rattle.owed_calls.specs.Owes.{MaySeek, FoundRange, AtOwe, LeavesLocks, LeavesOpens, LeavesOwe, OwesOn}

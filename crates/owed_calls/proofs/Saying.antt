@@ -5,13 +5,13 @@ use lib.ListN.{get_elem?}
 use Rattle.sock_words.specs.Words.{socket_id_slot, at_word_first, at_word_slot}
 use Rattle.sock_words.specs.declared.plain.Plan.{Plan}
 use Rattle.sock_model.specs.declared.view.View.{View}
-use Rattle.sock_model.specs.Layout.{open_word}
+use Rattle.sock_model.specs.Layout.{open_index}
 use Rattle.corr_core.specs.declared.marks.Plan.{Plan as IdPlan}
-use Rattle.sock_programs.specs.Asides.{Step, Found, StoreAt, TakeBytes, call_id, id_slot}
-use Rattle.sock_programs.specs.Programs.{Program, Do, Say, Sent, Rest, TakeMessage, TakeHome, PutHome, PutBytes, AskReady, Write, Aside, Round, Keep, Retries}
-use Rattle.sock_programs.specs.Readers.{reader}
-use Rattle.sock_programs.specs.Cores.{Core, SeatState, waiting_at}
-use Rattle.sock_programs.specs.Ticks.{Answer, Moment, ticked, run, AreAnswered}
+use Rattle.seat_programs.specs.Asides.{Step, Found, StoreAt, TakeBytes, call_id, id_slot}
+use Rattle.seat_programs.specs.Programs.{Program, Do, Say, Sent, Rest, TakeMessage, TakeHome, PutHome, PutBytes, AskReady, Write, Aside, Round, Keep, Retries}
+use Rattle.seat_programs.specs.Readers.{reader}
+use Rattle.seat_programs.specs.Cores.{Core, SeatState, waiting_at}
+use Rattle.seat_programs.specs.Ticks.{Answer, Moment, ticked, run, AreAnswered}
 use Rattle.joint_runs.specs.sock_runs.specs.Sound.{Sound, AreFitting, first_step, views_after, views_along}
 use Rattle.joint_runs.specs.sock_runs.proofs.LinkTicks.{RetriesGo}
 use Rattle.joint_runs.specs.sock_runs.proofs.Along.{place_inside}
@@ -53,7 +53,7 @@ owes_first life u (Keep r next) g = g
 owes_first life u (Retries requests after) g = g
 
 -- whoever reads a link is past the word of its `open`
-reads_behind : (p : Plan) (calls : List ℕ) (j n o : ℕ) (c : Core) (seat : SeatState) → get_elem? c.seats j ≡ some seat → AtReader p calls j n o c → (step : Step) (next : Found step → Program) → goes.first_of seat.program ≡ Aside step next → get_or c.words (open_word p o) 0 ≢ 0
+reads_behind : (p : Plan) (calls : List ℕ) (j n o : ℕ) (c : Core) (seat : SeatState) → get_elem? c.seats j ≡ some seat → AtReader p calls j n o c → (step : Step) (next : Found step → Program) → goes.first_of seat.program ≡ Aside step next → get_or c.words (open_index p o) 0 ≢ 0
 reads_behind p calls j n o c seat at r step next is = ⊎_elim (λ e. absurd (no_load (first_step (reader calls n o)) refl (sym (ap first_step e) ∙ sym (same_first seat.program) ∙ is))) (λ x. x.0) (r seat at)
   where
     no_load : (program : Program) → first_step (reader calls n o) ≡ program → program ≡ Aside step next → ⊥
@@ -87,7 +87,7 @@ module _ (p : Plan) (q : IdPlan) (narrow : q.slots ≤ 65536) (same : q.operatio
     closed k room next is finished linked s lives =
         let own = own_open p q narrow same calls os final in_os slots links c vs sound reach readers many us owing i seat u v at_seat at at_view k [] linked in
         let some_ = reads_behind p calls i k own.0 c seat at_seat own.2 (TakeBytes k room) next is in
-        let named_by = id_is (get_or final (open_word p own.0) 0) s (sym (life_is p q narrow same calls os final in_os slots links k own.0 own.1) ∙ lives) in
+        let named_by = id_is (get_or final (open_index p own.0) 0) s (sym (life_is p q narrow same calls os final in_os slots links k own.0 own.1) ∙ lives) in
         let stays = reach.stays own.0 (in_os k own.0 own.1) some_ in
         closed_past p os apart c vs sound named k own.0 s own.1 (in_os k own.0 own.1) (let low = place_inside os k own.0 own.1 in omega (arith, low, many_links)) (sym stays ∙ named_by.0) (λ z. named_by.1 (named_by.0 ∙ z)) finished
 

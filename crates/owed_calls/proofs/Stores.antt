@@ -10,8 +10,8 @@ use Rattle.sock_words.specs.declared.outcome.Outcome.{Outcome}
 use Rattle.corr_core.specs.Word.{Parts, parts, attempt_of}
 use Rattle.corr_core.specs.declared.marks.Plan.{Plan as IdPlan}
 use Rattle.id_rule.specs.Lawful as ids
-use Rattle.sock_programs.specs.Asides.{call_id, id_slot, id_first}
-use Rattle.sock_programs.specs.Cores.{Core, SeatState, waiting_at}
+use Rattle.seat_programs.specs.Asides.{call_id, id_slot, id_first}
+use Rattle.seat_programs.specs.Cores.{Core, SeatState, waiting_at}
 use Rattle.owed_calls.specs.Owing.{Duty, Free, Trying, Linked, Looking, Telling, Owing, Among, InList, DutyTo, duty_tokens, with_duty, with_known, with_left, loaded}
 use Rattle.owed_calls.specs.Sound.{id_word_of, at_of, retry_tokens, Owed, by_seat, by_retry, by_reader, Past, Token, IsAt, IsOpen, ErrorPast, Stored, OwingLaw}
 use Rattle.owed_calls.proofs.Posts.{id_back, not_equal}
@@ -50,19 +50,19 @@ module _ (q : IdPlan) (narrow : q.slots ≤ 65536) (life : ℕ → Option ℕ) (
     W = at_word (id_first id) (id_slot id) k n
 
     abbrev Stored' : Core
-    Stored' = record { words = c.words; homes = c.homes; seats = ss; outcomes = os; calls = record c.calls { words = set c.calls.words (ids.at_word q o) (at_word (id_first id) (id_slot id) k n) } }
+    Stored' = record { words = c.words; homes = c.homes; seats = ss; outcomes = os; calls = record c.calls { words = set c.calls.words (ids.at_index q o) (at_word (id_first id) (id_slot id) k n) } }
 
     abbrev v : Owing
     v = with_known id n (with_duty (Looking id n k o) (with_duty (Linked id n k) u))
 
     word_same : (j : ℕ) → j < q.slots → id_word_of Stored' j ≡ id_word_of c j
-    word_same j l = ap parts (get_or-set_other c.calls.words (ids.at_word q o) (ids.id_word j) (at_word (id_first id) (id_slot id) k n) 0 (λ e. omega (arith, e, l)))
+    word_same j l = ap parts (get_or-set_other c.calls.words (ids.at_index q o) (ids.id_index j) (at_word (id_first id) (id_slot id) k n) 0 (λ e. omega (arith, e, l)))
 
     at_here : at_of q Stored' o ≡ at_word (id_first id) (id_slot id) k n
-    at_here = get_or-set_same c.calls.words (ids.at_word q o) (at_word (id_first id) (id_slot id) k n) 0 (omega (arith, sized, low))
+    at_here = get_or-set_same c.calls.words (ids.at_index q o) (at_word (id_first id) (id_slot id) k n) 0 (omega (arith, sized, low))
 
     at_else : (r : ℕ) → r ≢ o → at_of q Stored' r ≡ at_of q c r
-    at_else r ne = get_or-set_other c.calls.words (ids.at_word q o) (ids.at_word q r) (at_word (id_first id) (id_slot id) k n) 0 (λ e. ne (omega (arith, e)))
+    at_else r ne = get_or-set_other c.calls.words (ids.at_index q o) (ids.at_index q r) (at_word (id_first id) (id_slot id) k n) 0 (λ e. ne (omega (arith, e)))
 
     token : Token c us id n i
     token = (u, at, among_left id n (duty_tokens u.duty) (retry_tokens (waiting_at c.calls.waiting i)) (subst (λ (d : Duty). Among id n (duty_tokens d)) (sym duty) (inl (refl, refl))))

@@ -10,9 +10,9 @@ use Rattle.sock_words.specs.declared.plain.Plan.{Plan}
 use Rattle.sock_words.specs.declared.outcome.Outcome.{Outcome}
 use Rattle.sock_model.specs.declared.home.Home.{Home}
 use Rattle.corr_core.specs.declared.marks.Plan.{Plan as IdPlan}
-use Rattle.sock_programs.specs.Calls.{Call}
-use Rattle.sock_programs.specs.Programs.{Program, Do}
-use Rattle.sock_programs.specs.Cores.{Core, SeatState, Calls, waiting_at, resolved, next_step, said, with_seat, stepped, word_of, word_after, found_at, words_after, homes_after, hand_after}
+use Rattle.seat_programs.specs.Calls.{Call}
+use Rattle.seat_programs.specs.Programs.{Program, Do}
+use Rattle.seat_programs.specs.Cores.{Core, SeatState, Calls, waiting_at, resolved, next_step, said, with_seat, stepped, word_of, word_after, found_at, words_after, homes_after, hand_after}
 use Rattle.owed_calls.specs.Owing.{Owing, FindsCall}
 use Rattle.owed_calls.specs.Owes.{OwesOn}
 use Rattle.owed_calls.specs.Sound.{OwingLaw, SoundOwing}

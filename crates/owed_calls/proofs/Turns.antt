@@ -7,9 +7,9 @@ use Rattle.sock_words.specs.declared.outcome.Outcome.{Outcome}
 use Rattle.corr_core.specs.Word.{Parts, parts, attempt_of, made_word, unlocked_word, free_word}
 use Rattle.corr_core.specs.declared.marks.Plan.{Plan as IdPlan}
 use Rattle.id_rule.specs.Lawful as ids
-use Rattle.sock_programs.specs.Asides.{call_id, id_slot, id_first}
-use Rattle.sock_programs.specs.Posts.{advance_of}
-use Rattle.sock_programs.specs.Cores.{Core, SeatState, waiting_at}
+use Rattle.seat_programs.specs.Asides.{call_id, id_slot, id_first}
+use Rattle.seat_programs.specs.Posts.{advance_of}
+use Rattle.seat_programs.specs.Cores.{Core, SeatState, waiting_at}
 use Rattle.owed_calls.specs.Owing.{Duty, Free, Trying, Owing, Among, DutyTo, duty_tokens, with_duty, freed, with_known, with_error, unlocked_by, Ending, ends_other, ends_own, MayUnlock}
 use Rattle.owed_calls.specs.Sound.{id_word_of, retry_tokens, Past, Token, Distinct, HasEnded, IsAt, IsOpen, ErrorPast, Stored, OwingLaw}
 use Rattle.owed_calls.proofs.Posts.{id_back, not_equal}
@@ -20,10 +20,10 @@ use Rattle.owed_calls.proofs.Exchanges.{word_set, ats_set, own_past, tail, store
 module _ (q : IdPlan) (narrow : q.slots ≤ 65536) (life : ℕ → Option ℕ) (calls : List ℕ) (c : Core) (us : List Owing) (i : ℕ) (u : Owing) (law : OwingLaw q life calls c us) (at : get_elem? us i ≡ some u) (sized : length c.calls.words ≡ ids.all_words q)
     (ss : List SeatState) (os : List (std.Option Outcome)) (s : ℕ) (inside : s < q.slots) where
   abbrev There : ℕ → Core
-  There x = record { words = c.words; homes = c.homes; seats = ss; outcomes = os; calls = record c.calls { words = set c.calls.words (ids.id_word s) x } }
+  There x = record { words = c.words; homes = c.homes; seats = ss; outcomes = os; calls = record c.calls { words = set c.calls.words (ids.id_index s) x } }
 
   here : (x : ℕ) → id_word_of (There x) s ≡ parts x
-  here x = ap parts (get_or-set_same c.calls.words (ids.id_word s) x 0 (omega (arith, sized, inside)))
+  here x = ap parts (get_or-set_same c.calls.words (ids.id_index s) x 0 (omega (arith, sized, inside)))
 
   slot_of : (f : ℕ) → f < 4294967296 → id_slot (call_id s f) ≡ s
   slot_of f low = omega (arith, low)
@@ -65,7 +65,7 @@ module _ (q : IdPlan) (narrow : q.slots ≤ 65536) (life : ℕ → Option ℕ) (
 
   pub makes_keep : (x range : ℕ) → (id_word_of c s).first < 4294967296 → (id_word_of c s).state ≡ 0 → parts x ≡ made_word (id_word_of c s).first range → u.duty ≡ Free
       → OwingLaw q life calls (There x) (set us i (with_duty (Trying (call_id s (id_word_of c s).first) 0) u))
-  makes_keep x range low none_ is free = worded q life calls c us i u law at (record c.calls { words = set c.calls.words (ids.id_word s) x }) refl ss os v s (parts x) record {
+  makes_keep x range low none_ is free = worded q life calls c us i u law at (record c.calls { words = set c.calls.words (ids.id_index s) x }) refl ss os v s (parts x) record {
     word = word_set q life calls c us i u law at sized ss os s inside x;
     ats = ats_set q life calls c us i u law at sized ss os s inside x;
     forward = inr (first, (λ z. absurd (let w : ⊥ = omega (arith, z, none_) in w)));
@@ -230,7 +230,7 @@ module _ (q : IdPlan) (narrow : q.slots ≤ 65536) (life : ℕ → Option ℕ) (
 
     pub unlocks_keep : OwingLaw q life calls (There x) (set us i (unlocked_by s from advance u))
     unlocks_keep = let v : Owing = unlocked_by s from advance u in let r = error_rest (call_id s (parts from).first) (parts from).oldest base in let b = base_rest advance in let tok = v_tokens advance may (unlocked_by s from advance u) v_duty x_attempt in
-        worded q life calls c us i u law at (record c.calls { words = set c.calls.words (ids.id_word s) x }) refl ss os (unlocked_by s from advance u) s (parts x) record {
+        worded q life calls c us i u law at (record c.calls { words = set c.calls.words (ids.id_index s) x }) refl ss os (unlocked_by s from advance u) s (parts x) record {
           word = word_set q life calls c us i u law at sized ss os s inside x;
           ats = ats_set q life calls c us i u law at sized ss os s inside x;
           forward = inr (x_first, λ some_. (x_state, (let z = x_attempt in let y = ap (λ (y : Parts). y.attempt) is_from in omega (arith, z, y))));
@@ -275,7 +275,7 @@ module _ (q : IdPlan) (narrow : q.slots ≤ 65536) (life : ℕ → Option ℕ) (
 
       step : (y : Owing) → ((id n : ℕ) → id_slot id < q.slots → IsOpen c id n → IsOpen (There x) id n → DutyTo id n u.duty → DutyTo id n y.duty) → y.knows ≡ u.knows → ((id n : ℕ) → Among id n (duty_tokens y.duty) → Among id n (duty_tokens u.duty)) → Distinct (duty_tokens y.duty ++ retry_tokens (waiting_at c.calls.waiting i))
           → (y.link ≡ u.link) × (y.left ≡ u.left) × (y.dead ≡ u.dead) × (y.keeps ≡ u.keeps) → Stored q calls (There x) (set us i y) y.duty → OwingLaw q life calls (There x) (set us i y)
-      step y owes knows tokens distinct r own = worded q life calls c us i u law at (record c.calls { words = set c.calls.words (ids.id_word s) x }) refl ss os y s (parts x) record {
+      step y owes knows tokens distinct r own = worded q life calls c us i u law at (record c.calls { words = set c.calls.words (ids.id_index s) x }) refl ss os y s (parts x) record {
         word = word_set q life calls c us i u law at sized ss os s inside x;
         ats = ats_set q life calls c us i u law at sized ss os s inside x;
         forward = inl ahead;

@@ -8,13 +8,13 @@ use Rattle.atomic_table.proofs.Lists.{at_set, set_else}
 use Rattle.sock_words.specs.Words.{socket_id, socket_id_slot}
 use Rattle.sock_words.specs.declared.plain.Plan.{Plan}
 use Rattle.sock_model.specs.declared.view.View.{View}
-use Rattle.sock_model.specs.Layout.{open_word}
+use Rattle.sock_model.specs.Layout.{open_index}
 use Rattle.corr_core.specs.declared.marks.Plan.{Plan as IdPlan}
-use Rattle.sock_programs.specs.Programs.{Rest, NO_SOCKET}
-use Rattle.sock_programs.specs.Clients.{ending_of}
-use Rattle.sock_programs.specs.Cores.{Core, SeatState, resolved, next_step, waiting_at, with_seat}
-use Rattle.sock_programs.specs.Ticks.{Moment, run, AreAnswered}
-use Rattle.sock_programs.specs.Scripts.{is_ending}
+use Rattle.seat_programs.specs.Programs.{Rest, NO_SOCKET}
+use Rattle.seat_programs.specs.Clients.{ending_of}
+use Rattle.seat_programs.specs.Cores.{Core, SeatState, resolved, next_step, waiting_at, with_seat}
+use Rattle.seat_programs.specs.Ticks.{Moment, run, AreAnswered}
+use Rattle.seat_programs.specs.Scripts.{is_ending}
 use Rattle.joint_runs.specs.sock_runs.specs.Sound.{state, Sound, AreFitting, views_along}
 use Rattle.joint_runs.specs.sock_runs.proofs.Bounds.{law, lives_le}
 use Rattle.joint_runs.specs.sock_runs.proofs.Records.{next_stores}
@@ -74,7 +74,7 @@ links_stand p os c vs sound l still i h k inside given = ⊎_elim stored (λ x. 
         let e' : h * 4294967296 + i + 1 ≡ 18446744073709551615 = e in omega (arith, t, w.top, le, sound.limits.slots, e')
 
     stored : Stored p (OpensLink os) c k (socket_id h i) → life_of p os c.words k ≡ Some (socket_id h i)
-    stored x = ap (λ y. elim y as (λ y. Option ℕ) [ none ↦ None | some o ↦ id_of (get_or c.words (open_word p o) 0) ]) x.mine ∙ ap id_of x.word
+    stored x = ap (λ y. elim y as (λ y. Option ℕ) [ none ↦ None | some o ↦ id_of (get_or c.words (open_index p o) 0) ]) x.mine ∙ ap id_of x.word
         ∙ id_by (socket_id h i + 1) (let z : 0 < socket_id h i + 1 = omega arith in λ e. omega (arith, z, e))
         ∙ ap (λ b. cond b None (Some (socket_id h i + 1 - 1))) (ne_eqb (socket_id h i + 1) NO_SOCKET low) ∙ ap Some (let z : socket_id h i + 1 - 1 ≡ socket_id h i = omega arith in z)
 

@@ -19,27 +19,27 @@ use Rattle.sock_model.specs.declared.marks.Mark.TheVariants.{Known, Born, Linked
 use Rattle.sock_model.specs.declared.view.View.{View}
 use Rattle.sock_model.specs.Marks.{at, without_at}
 use Rattle.sock_model.specs.Weights.{total, is_linked, is_stage}
-use Rattle.sock_model.specs.Layout.{all_words, open_word}
+use Rattle.sock_model.specs.Layout.{all_words, open_index}
 use Rattle.sock_model.specs.SlotRows.{marks_of}
 use Rattle.sock_model.specs.Slots.{version_of}
 use Rattle.corr_core.specs.declared.marks.Plan.{Plan as IdPlan}
-use Rattle.joint_runs.specs.slot_laws.proofs.Sums.{about-here}
-use Rattle.joint_runs.specs.slot_laws.proofs.Numbers.{pair-same}
+use Rattle.joint_runs.specs.slot_steps.proofs.Sums.{about-here}
+use Rattle.joint_runs.specs.slot_steps.proofs.Numbers.{pair-same}
 use Rattle.joint_runs.specs.sock_steps.proofs.Places.{counts, own_count}
 use Rattle.joint_runs.specs.sock_steps.proofs.Quiet.{either_way}
-use Rattle.sock_programs.specs.declared.task.Op.{Op}
-use Rattle.sock_programs.specs.declared.task.Op.TheVariants as ops
-use Rattle.sock_programs.specs.declared.task.Task.{Task}
-use Rattle.sock_programs.specs.declared.task.Sizes.{Sizes}
-use Rattle.sock_programs.specs.Calls.{Call, GiveBirth, StoreOpen}
-use Rattle.sock_programs.specs.Asides.{Found}
-use Rattle.sock_programs.specs.Heads.{Exit}
-use Rattle.sock_programs.specs.Programs.{Program, Do, Say, Sent, Rest, TakeMessage, TakeHome, PutHome, PutBytes, AskReady, Write, Aside, Round, Keep, Retries, NO_SOCKET, open_from, make_socket}
-use Rattle.sock_programs.specs.Clients.{HeldLife, held_under, without_name, give_back, drop_of, operation, client_from, ending_of}
-use Rattle.sock_programs.specs.Readers.{reader}
-use Rattle.sock_programs.specs.Cores.{Calls, Core, SeatState, word_of, word_after, found_at, words_after, homes_after, hand_after, resolved, next_step, waiting_at, with_seat, stepped}
-use Rattle.sock_programs.specs.Ticks.{Moment, ticked, run, IsAnswered, AreAnswered}
-use Rattle.sock_programs.specs.Scripts.{sizes_of, beginning, programs, readers_from, is_ending}
+use Rattle.seat_programs.specs.declared.task.Op.{Op}
+use Rattle.seat_programs.specs.declared.task.Op.TheVariants as ops
+use Rattle.seat_programs.specs.declared.task.Task.{Task}
+use Rattle.seat_programs.specs.declared.task.Sizes.{Sizes}
+use Rattle.seat_programs.specs.Calls.{Call, CreateLife, StoreOpen}
+use Rattle.seat_programs.specs.Asides.{Found}
+use Rattle.seat_programs.specs.Heads.{Exit}
+use Rattle.seat_programs.specs.Programs.{Program, Do, Say, Sent, Rest, TakeMessage, TakeHome, PutHome, PutBytes, AskReady, Write, Aside, Round, Keep, Retries, NO_SOCKET, open_from, make_socket}
+use Rattle.seat_programs.specs.Clients.{HeldLife, held_under, without_name, give_back, drop_of, operation, client_from, ending_of}
+use Rattle.seat_programs.specs.Readers.{reader}
+use Rattle.seat_programs.specs.Cores.{Calls, Core, SeatState, word_of, word_after, found_at, words_after, homes_after, hand_after, resolved, next_step, waiting_at, with_seat, stepped}
+use Rattle.seat_programs.specs.Ticks.{Moment, ticked, run, IsAnswered, AreAnswered}
+use Rattle.seat_programs.specs.Scripts.{sizes_of, beginning, programs, readers_from, is_ending}
 use Rattle.owed_calls.proofs.EndsStill.{all_at}
 use Rattle.joint_runs.specs.sock_runs.specs.Rows.{row, hand_at}
 use Rattle.joint_runs.specs.sock_runs.specs.May.{May}
@@ -63,7 +63,7 @@ use Rattle.joint_runs.specs.sock_runs.proofs.Ticks.{sound_ticks}
 
 -- in the word of an `open` the program stores each life that it makes, at once, and else only that there is none; here it has just made this life of this link
 abbrev pub NamesBehind : (ℕ → ℕ → Type 0) → Option (ℕ × ℕ) → Program → Type 0
-NamesBehind own none (Do (GiveBirth i k) next) = (found : ℕ) → NamesBehind own (some (k, socket_id (vref_version found) i)) (next found)
+NamesBehind own none (Do (CreateLife i k) next) = (found : ℕ) → NamesBehind own (some (k, socket_id (vref_version found) i)) (next found)
 NamesBehind own none (Do (StoreOpen o w) next) = (w ≡ NO_SOCKET) × ((found : ℕ) → NamesBehind own none (next found))
 NamesBehind own none (Do call next) = (found : ℕ) → NamesBehind own none (next found)
 NamesBehind own none (Say o outcome next) = NamesBehind own none next
@@ -119,7 +119,7 @@ module _ (own : ℕ → ℕ → Type 0) where
   }
     where
       plain : (call : Call) (next : ℕ → Program) → stores call ≡ none → bears call ≡ none → ((found : ℕ) → Names own (next found)) → Names own (Do call next)
-      plain (GiveBirth i k) next s b r = absurd (some-ne-none i b)
+      plain (CreateLife i k) next s b r = absurd (some-ne-none i b)
       plain (StoreOpen o w) next s b r = absurd (some-ne-none (o, w) s)
       plain call next s b r = r
 
@@ -204,12 +204,12 @@ pub record IsOfLink (own : ℕ → ℕ → Type 0) (p : Plan) (c : Core) (vs : L
   pub version : ℕ
   pub inside : slot < p.slots
   pub mine : own link o
-  pub word : get_or c.words (open_word p o) 0 ≡ socket_id version slot + 1
+  pub word : get_or c.words (open_index p o) 0 ≡ socket_id version slot + 1
   pub given : IsGiven c vs slot version link
 
 pub record Named (p : Plan) (own : ℕ → ℕ → Type 0) (c : Core) (vs : List View) : Type 0 where
   pub programs : (j : ℕ) (seat : SeatState) → get_elem? c.seats j ≡ some seat → Names own seat.program ⊎ IsNew own p c vs seat.program
-  pub words : (o : ℕ) → o < p.operations → get_or c.words (open_word p o) 0 ≢ 0 → get_or c.words (open_word p o) 0 ≢ NO_SOCKET → IsOfLink own p c vs o
+  pub words : (o : ℕ) → o < p.operations → get_or c.words (open_index p o) 0 ≢ 0 → get_or c.words (open_index p o) 0 ≢ NO_SOCKET → IsOfLink own p c vs o
 
 first_stores : (program : Program) (o w : ℕ) (after : ℕ → Program) → program ≡ Do (StoreOpen o w) after → first_step program ≡ Do (StoreOpen o w) after
 first_stores program o w after e = ap first_step e ∙ refl
@@ -249,7 +249,7 @@ module _ (p : Plan) (own : ℕ → ℕ → Type 0) (c : Core) (vs : List View) (
     is_new : IsNew own p c vs seat.program → (x : IsNew own p c vs seat.program) × (call ≡ StoreOpen x.operation (socket_id x.version x.slot + 1)) × (next ≡ x.after)
     is_new x = let e : Do call next ≡ Do (StoreOpen x.operation (socket_id x.version x.slot + 1)) x.after = sym is ∙ first_stores seat.program x.operation (socket_id x.version x.slot + 1) x.after x.stores in (x, cc, cc)
 
-    with_next : Names own (next found) ⊎ IsNew own p after (set vs i w) seat'.program → ((o : ℕ) → o < p.operations → get_or after.words (open_word p o) 0 ≢ 0 → get_or after.words (open_word p o) 0 ≢ NO_SOCKET → IsOfLink own p after (set vs i w) o)
+    with_next : Names own (next found) ⊎ IsNew own p after (set vs i w) seat'.program → ((o : ℕ) → o < p.operations → get_or after.words (open_index p o) 0 ≢ 0 → get_or after.words (open_index p o) 0 ≢ NO_SOCKET → IsOfLink own p after (set vs i w) o)
         → Named p own after (set vs i w)
     with_next goes words = record {
       programs = λ j s e. ⊎_elim
@@ -260,7 +260,7 @@ module _ (p : Plan) (own : ℕ → ℕ → Type 0) (c : Core) (vs : List View) (
     }
 
     -- a step that stores no word of an `open`
-    old_words : stores call ≡ none → (o : ℕ) → o < p.operations → get_or after.words (open_word p o) 0 ≢ 0 → get_or after.words (open_word p o) 0 ≢ NO_SOCKET → IsOfLink own p after (set vs i w) o
+    old_words : stores call ≡ none → (o : ℕ) → o < p.operations → get_or after.words (open_index p o) 0 ≢ 0 → get_or after.words (open_index p o) 0 ≢ NO_SOCKET → IsOfLink own p after (set vs i w) o
     old_words none_ o inside some_ socket = let same = opens_same p c.words v o inside call may none_ in let x = n.words o inside (λ z. some_ (same ∙ z)) (λ z. socket (same ∙ z)) in
         record { link = x.link; slot = x.slot; version = x.version; inside = x.inside; mine = x.mine; word = same ∙ x.word; given = given_stays x.slot x.version x.link x.given }
 
@@ -272,11 +272,11 @@ module _ (p : Plan) (own : ℕ → ℕ → Type 0) (c : Core) (vs : List View) (
     plain_step none_ no_birth = with_next (inl (behind call next none_ no_birth (mine (not_new none_ (n.programs i seat at_seat))) found)) (old_words none_)
       where
         behind : (call : Call) (next : ℕ → Program) → stores call ≡ none → bears call ≡ none → Names own (Do call next) → (found : ℕ) → Names own (next found)
-        behind (GiveBirth a b) next s e r n = absurd (some-ne-none a e)
+        behind (CreateLife a b) next s e r n = absurd (some-ne-none a e)
         behind (StoreOpen o x) next s e r n = absurd (some-ne-none (o, x) s)
         behind call next s e r n = r n
 
-    pub birth_step : (a k : ℕ) → call ≡ GiveBirth a k → Named p own after (set vs i w)
+    pub birth_step : (a k : ℕ) → call ≡ CreateLife a k → Named p own after (set vs i w)
     birth_step a k made = let g = stores_new own (k, socket_id (vref_version found) a) (next found) (subst (λ x. Names own (Do x next)) made (mine (not_new (ap stores made) (n.programs i seat at_seat))) found) in
         with_next (inr record {
           operation = g.operation;
@@ -310,24 +310,24 @@ module _ (p : Plan) (own : ℕ → ℕ → Type 0) (c : Core) (vs : List View) (
     pub store_step : (o x : ℕ) → call ≡ StoreOpen o x → Named p own after (set vs i w)
     store_step o x made = ⊎_elim
         (λ g. let r = subst (λ y. Names own (Do y next)) made (mine g) in with_next (inl (r.1 found))
-        (λ m inside some_ socket. dite (ℕ_discrete m o) (λ e. absurd (socket (ap (λ y. get_or after.words (open_word p y) 0) e ∙ here ∙ r.0))) (λ far. other m inside far some_ socket)))
+        (λ m inside some_ socket. dite (ℕ_discrete m o) (λ e. absurd (socket (ap (λ y. get_or after.words (open_index p y) 0) e ∙ here ∙ r.0))) (λ far. other m inside far some_ socket)))
         (λ g. let y = is_new g in let e : StoreOpen o x ≡ StoreOpen y.0.operation (socket_id y.0.version y.0.slot + 1) = sym made ∙ y.1 in let same : o ≡ y.0.operation = cc in let word : x ≡ socket_id y.0.version y.0.slot + 1 = cc in
         with_next (inl (subst (λ (f : ℕ → Program). Names own (f found)) (sym y.2) (y.0.goes found)))
         (λ m inside some_ socket. dite (ℕ_discrete m o)
-        (λ is_o. record { link = y.0.link; slot = y.0.slot; version = y.0.version; inside = y.0.inside; mine = subst (own y.0.link) (sym same ∙ sym is_o) y.0.mine; word = ap (λ z. get_or after.words (open_word p z) 0) is_o ∙ here ∙ word; given = given_stays y.0.slot y.0.version y.0.link y.0.given })
+        (λ is_o. record { link = y.0.link; slot = y.0.slot; version = y.0.version; inside = y.0.inside; mine = subst (own y.0.link) (sym same ∙ sym is_o) y.0.mine; word = ap (λ z. get_or after.words (open_index p z) 0) is_o ∙ here ∙ word; given = given_stays y.0.slot y.0.version y.0.link y.0.given })
         (λ far. other m inside far some_ socket)))
         (n.programs i seat at_seat)
       where
         fits : o < p.operations
         fits = (subst (May p v) made may).0
 
-        here : get_or after.words (open_word p o) 0 ≡ x
-        here = subst (λ z. get_or (words_after c.words (word_of p z) (word_after z (found_at c.words (word_of p z)))) (open_word p o) 0 ≡ x) (sym made) (get_or-set_same c.words (open_word p o) x 0 (let f = fits in omega (arith, f, sized)))
+        here : get_or after.words (open_index p o) 0 ≡ x
+        here = subst (λ z. get_or (words_after c.words (word_of p z) (word_after z (found_at c.words (word_of p z)))) (open_index p o) 0 ≡ x) (sym made) (get_or-set_same c.words (open_index p o) x 0 (let f = fits in omega (arith, f, sized)))
 
-        other : (m : ℕ) → m < p.operations → m ≢ o → get_or after.words (open_word p m) 0 ≢ 0 → get_or after.words (open_word p m) 0 ≢ NO_SOCKET → IsOfLink own p after (set vs i w) m
-        other m inside far some_ socket = let same : get_or after.words (open_word p m) 0 ≡ get_or c.words (open_word p m) 0 =
-            subst (λ z. get_or (words_after c.words (word_of p z) (word_after z (found_at c.words (word_of p z)))) (open_word p m) 0 ≡ get_or c.words (open_word p m) 0) (sym made)
-            (get_or-set_other c.words (open_word p o) (open_word p m) x 0 (λ e. far (omega (arith, e)))) in
+        other : (m : ℕ) → m < p.operations → m ≢ o → get_or after.words (open_index p m) 0 ≢ 0 → get_or after.words (open_index p m) 0 ≢ NO_SOCKET → IsOfLink own p after (set vs i w) m
+        other m inside far some_ socket = let same : get_or after.words (open_index p m) 0 ≡ get_or c.words (open_index p m) 0 =
+            subst (λ z. get_or (words_after c.words (word_of p z) (word_after z (found_at c.words (word_of p z)))) (open_index p m) 0 ≡ get_or c.words (open_index p m) 0) (sym made)
+            (get_or-set_other c.words (open_index p o) (open_index p m) x 0 (λ e. far (omega (arith, e)))) in
             let y = n.words m inside (λ z. some_ (same ∙ z)) (λ z. socket (same ∙ z)) in
             record { link = y.link; slot = y.slot; version = y.version; inside = y.inside; mine = y.mine; word = same ∙ y.word; given = given_stays y.slot y.version y.link y.given }
 
@@ -364,7 +364,7 @@ named_ticks p own c vs m sound answered fitting n = tick_keeps_marks p c vs m so
   where
     by_call : (seat : SeatState) (v : View) (call : Call) (next : ℕ → Program) → get_elem? c.seats m.seat ≡ some seat → get_elem? vs m.seat ≡ some v → first_step seat.program ≡ Do call next → May p v call
         → Named p own (stepped p m.seat seat call next c) (set vs m.seat (row p call (found_at c.words (word_of p call)) (hand_at p c.words c.homes call) v))
-    by_call seat v (GiveBirth a k) next at_seat at_view is may = birth_step p own c vs m.seat sound.lawful.references.sized n seat v at_seat at_view (GiveBirth a k) next is may a k refl
+    by_call seat v (CreateLife a k) next at_seat at_view is may = birth_step p own c vs m.seat sound.lawful.references.sized n seat v at_seat at_view (CreateLife a k) next is may a k refl
     by_call seat v (StoreOpen o x) next at_seat at_view is may = store_step p own c vs m.seat sound.lawful.references.sized n seat v at_seat at_view (StoreOpen o x) next is may o x refl
     by_call seat v call next at_seat at_view is may = plain_step p own c vs m.seat sound.lawful.references.sized n seat v at_seat at_view call next is may refl refl
 
@@ -377,7 +377,7 @@ run_named p go own c vs (m ∷ ms) sound answered fitting n = run_named p go own
 
 -- no word of an `open` is stored before the first step
 pub beginning_named : (p : Plan) (own : ℕ → ℕ → Type 0) (q : IdPlan) (clients : List (List Task)) (others : List Program) → AllByRecursion (AllByRecursion (λ (t : Task). OwnsLink own t.number t.op)) clients → ((k : ℕ) (x : Program) → get_elem? others k ≡ some x → Names own x)
-    → (vs : List View) → ((o : ℕ) → o < p.operations → get_or (beginning p q (programs (sizes_of p q) clients ++ others)).words (open_word p o) 0 ≡ 0) → Named p own (beginning p q (programs (sizes_of p q) clients ++ others)) vs
+    → (vs : List View) → ((o : ℕ) → o < p.operations → get_or (beginning p q (programs (sizes_of p q) clients ++ others)).words (open_index p o) 0 ≡ 0) → Named p own (beginning p q (programs (sizes_of p q) clients ++ others)) vs
 beginning_named p own q clients others mine still vs unstored = record {
   programs = λ j seat e. let a = mapped (λ (program : Program). record { program = next_step (resolved [] program); hand = [] }) (programs (sizes_of p q) clients ++ others) j seat e in
       inl (subst (λ (s : SeatState). Names own s.program) a.2 (through_next (Names own) (names_passes own) (names_follow own) [] a.0 (⊎_elim

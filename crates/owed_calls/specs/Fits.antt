@@ -8,11 +8,11 @@ use Rattle.sock_model.specs.declared.chain.Heading.{Heading}
 use Rattle.sock_model.specs.declared.home.Home.{Home}
 use Rattle.sock_model.specs.declared.home.Home.TheVariants.{Message}
 use Rattle.corr_core.specs.declared.marks.Plan.{Plan as IdPlan}
-use Rattle.sock_programs.specs.Calls.{Call, AddRef, SetOdd, LookWord}
-use Rattle.sock_programs.specs.Asides.{StoreAt, TakeBytes, Closed, call_id}
-use Rattle.sock_programs.specs.Programs.{Program, Do, PutHome, Aside}
-use Rattle.sock_programs.specs.Cores.{Core, SeatState, word_of, word_after, found_at, words_after, first_of}
-use Rattle.sock_programs.specs.Ticks.{Answer, Moment, taken}
+use Rattle.seat_programs.specs.Calls.{Call, AddRef, SetOdd, LookWord}
+use Rattle.seat_programs.specs.Asides.{StoreAt, TakeBytes, Closed, call_id}
+use Rattle.seat_programs.specs.Programs.{Program, Do, PutHome, Aside}
+use Rattle.seat_programs.specs.Cores.{Core, SeatState, word_of, word_after, found_at, words_after, first_of}
+use Rattle.seat_programs.specs.Ticks.{Answer, Moment, taken}
 use Rattle.joint_runs.specs.id_runs.specs.Goes as goes
 use Rattle.owed_calls.specs.Owing.{Linked, Owing, InList, FindsCall}
 use Rattle.owed_calls.specs.Sound.{at_of, FailedIn}

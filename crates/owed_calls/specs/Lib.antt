@@ -5,8 +5,8 @@ pub mod Fits
 pub mod Settled
 pub mod Lives
 pub mod Owns
-pub use Rattle.joint_runs.specs.chain_laws
-pub use Rattle.joint_runs.specs.client_laws
+pub use Rattle.joint_runs.specs.chain_steps
+pub use Rattle.joint_runs.specs.programs_allowed
 pub use Rattle.joint_runs.specs.id_runs
 pub use Rattle.joint_runs
 pub use Rattle.report_fits

@@ -6,16 +6,16 @@ use Rattle.sock_words.specs.Words.{at_word_first, at_word_slot}
 use Rattle.sock_model.specs.declared.home.Home.{Home}
 use Rattle.sock_model.specs.declared.home.Home.TheVariants.{Link}
 use Rattle.sock_words.specs.declared.plain.Plan.{Plan}
-use Rattle.sock_model.specs.Layout.{open_word}
+use Rattle.sock_model.specs.Layout.{open_index}
 use Rattle.corr_core.specs.declared.marks.Plan.{Plan as IdPlan}
 use Rattle.brpc_model.specs.Items.{Item}
 use Rattle.brpc_model.specs.Operations.{Turn}
-use Rattle.sock_programs.specs.Tasks.{plan_of}
-use Rattle.sock_programs.specs.Scripts.{set_up, IsRunWithCalls}
-use Rattle.sock_programs.specs.Asides.{StoreAt, TakeBytes, Closed, call_id}
-use Rattle.sock_programs.specs.Programs.{Program, Aside, NO_SOCKET}
-use Rattle.sock_programs.specs.Cores.{Core, SeatState, link_place}
-use Rattle.sock_programs.specs.Ticks.{Answer, Moment, taken, ticked}
+use Rattle.seat_programs.specs.Tasks.{plan_of}
+use Rattle.seat_programs.specs.Scripts.{set_up, IsRunWithCalls}
+use Rattle.seat_programs.specs.Asides.{StoreAt, TakeBytes, Closed, call_id}
+use Rattle.seat_programs.specs.Programs.{Program, Aside, NO_SOCKET}
+use Rattle.seat_programs.specs.Cores.{Core, SeatState, link_place}
+use Rattle.seat_programs.specs.Ticks.{Answer, Moment, taken, ticked}
 use Rattle.joint_runs.specs.id_runs.specs.Held.{IdView}
 use Rattle.joint_runs.specs.id_runs.specs.Goes.{SoundIds}
 use Rattle.joint_runs.specs.id_runs.specs.Goes as goes
@@ -28,7 +28,7 @@ id_of w = if w == 0 then None else if w == NO_SOCKET then None else Some (w - 1)
 
 -- the `open`s stand in order of their links
 abbrev pub life_of : Plan → List ℕ → List ℕ → ℕ → Option ℕ
-life_of p os ws k = elim (get_elem? os k) as (λ o. Option ℕ) [ core.none ↦ None | core.some o ↦ id_of (slice_index ws (open_word p o)) ]
+life_of p os ws k = elim (get_elem? os k) as (λ o. Option ℕ) [ core.none ↦ None | core.some o ↦ id_of (slice_index ws (open_index p o)) ]
 
 module _ (q : IdPlan) (life : ℕ → Option ℕ) (calls : List ℕ) (c : Core) where
   -- the at word of an operation names no other id than its call's, and a link answers its reader that it is closed only where its life is past

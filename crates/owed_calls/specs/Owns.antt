@@ -8,11 +8,11 @@ use Rattle.sock_io.specs.declared.link.Ready.{Ready}
 use Rattle.sock_model.specs.declared.chain.Heading.{Heading}
 use Rattle.corr_core.specs.Word.{parts}
 use Rattle.corr_core.specs.declared.marks.Plan.{Plan as IdPlan}
-use Rattle.sock_programs.specs.sock_message.specs.Asked.{Asked}
-use Rattle.sock_programs.specs.Asides.{Step, ClaimId, PutCall, MakeId, StoreAt, LockId, PostId, UnlockId, TakeCall, Found, call_id, id_slot, id_first}
-use Rattle.sock_programs.specs.Heads.{Head, Exit, Sought, First, Posts, Unlocks, Decides, Locks, HasLocked, Posting, Unlocking, HasNext, Locking, Has}
-use Rattle.sock_programs.specs.Programs.{Program, Do, Say, Sent, Rest, TakeMessage, TakeHome, PutHome, PutBytes, AskReady, Write, Aside, Round, Keep, Retries}
-use Rattle.sock_programs.specs.Cores.{Core, SeatState}
+use Rattle.seat_programs.specs.sock_message.specs.Asked.{Asked}
+use Rattle.seat_programs.specs.Asides.{Step, ClaimId, PutCall, MakeId, StoreAt, LockId, PostId, UnlockId, TakeCall, Found, call_id, id_slot, id_first}
+use Rattle.seat_programs.specs.Heads.{Head, Exit, Sought, First, Posts, Unlocks, Decides, Locks, HasLocked, Posting, Unlocking, HasNext, Locking, Has}
+use Rattle.seat_programs.specs.Programs.{Program, Do, Say, Sent, Rest, TakeMessage, TakeHome, PutHome, PutBytes, AskReady, Write, Aside, Round, Keep, Retries}
+use Rattle.seat_programs.specs.Cores.{Core, SeatState}
 use Rattle.joint_runs.specs.id_runs.specs.Goes.{FitsSock}
 use Rattle.owed_calls.specs.Owing.{InList}
 use Rattle.owed_calls.specs.Sound.{id_word_of, at_of}

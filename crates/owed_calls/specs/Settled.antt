@@ -3,11 +3,11 @@ use Rattle.std.specs.Prelude.{ℕ, ◌≡◌, ◌≢◌, true, List, [], ◌∷�
 use mathlib.Core.Option as core
 use lib.ListN.{get_elem?}
 use Rattle.sock_words.specs.declared.plain.Plan.{Plan}
-use Rattle.sock_model.specs.Layout.{open_word}
-use Rattle.sock_programs.specs.Heads.{Head, Exit, Opens}
-use Rattle.sock_programs.specs.Programs.{Program, Rest, Round}
-use Rattle.sock_programs.specs.Cores.{Core, SeatState}
-use Rattle.sock_programs.specs.Ticks.{Answer, waits_in}
+use Rattle.sock_model.specs.Layout.{open_index}
+use Rattle.seat_programs.specs.Heads.{Head, Exit, Opens}
+use Rattle.seat_programs.specs.Programs.{Program, Rest, Round}
+use Rattle.seat_programs.specs.Cores.{Core, SeatState}
+use Rattle.seat_programs.specs.Ticks.{Answer, waits_in}
 use Rattle.owed_calls.specs.Owing.{Owing}
 
 -- the seat has nothing left to do
@@ -20,9 +20,9 @@ WaitsAside p c i = (seat : SeatState) × (get_elem? c.seats i ≡ core.some seat
 
 -- it waits for the word of an `open`
 abbrev pub WaitsForOpen : Plan → Core → ℕ → Type 0
-WaitsForOpen p c i = (seat : SeatState) × (o : ℕ) × (next : ℕ → Program) × (get_elem? c.seats i ≡ core.some seat) × (seat.program ≡ Round (Opens o) next) × (slice_index c.words (open_word p o) ≡ 0)
+WaitsForOpen p c i = (seat : SeatState) × (o : ℕ) × (next : ℕ → Program) × (get_elem? c.seats i ≡ core.some seat) × (seat.program ≡ Round (Opens o) next) × (slice_index c.words (open_index p o) ≡ 0)
 
 -- the reader of a link that has a life doesn't wait for its `open`
 abbrev pub OpensKnown : Plan → (ℕ → Option ℕ) → Core → List Owing → Type 0
 OpensKnown p life c us = (j : ℕ) (u : Owing) (k s : ℕ) (seat : SeatState) (o : ℕ) (next : ℕ → Program) → get_elem? us j ≡ core.some u → get_elem? c.seats j ≡ core.some seat → u.link ≡ k ∷ [] → life k ≡ Some s → seat.program ≡ Round (Opens o) next
-    → slice_index c.words (open_word p o) ≢ 0
+    → slice_index c.words (open_index p o) ≢ 0

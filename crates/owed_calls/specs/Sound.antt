@@ -5,22 +5,22 @@ use lib.ListN.{get_elem?}
 use Rattle.sock_words.specs.Words.{socket_id_version, socket_id_slot, vref_version, at_word, at_word_first, at_word_slot, at_word_attempt}
 use Rattle.sock_model.specs.declared.chain.Heading.{Heading}
 use Rattle.sock_model.specs.declared.home.Home.TheVariants.{Message}
-use Rattle.sock_model.specs.Layout.{ref_word}
+use Rattle.sock_model.specs.Layout.{ref_index}
 use Rattle.corr_core.specs.Word.{Parts, parts, attempt_of}
 use Rattle.corr_core.specs.declared.marks.Plan.{Plan as IdPlan}
 use Rattle.id_rule.specs.Lawful as ids
-use Rattle.sock_programs.specs.Asides.{call_id, id_slot, id_first}
-use Rattle.sock_programs.specs.Heads.{Retry}
-use Rattle.sock_programs.specs.Programs.{Rest}
-use Rattle.sock_programs.specs.Cores.{Core, SeatState, waiting_at}
+use Rattle.seat_programs.specs.Asides.{call_id, id_slot, id_first}
+use Rattle.seat_programs.specs.Heads.{Retry}
+use Rattle.seat_programs.specs.Programs.{Rest}
+use Rattle.seat_programs.specs.Cores.{Core, SeatState, waiting_at}
 use Rattle.owed_calls.specs.Owing.{Duty, Looking, Owing, Among, InList, DutyTo, duty_tokens}
 use Rattle.owed_calls.specs.Owes.{OwesOn}
 
 abbrev pub id_word_of : Core → ℕ → Parts
-id_word_of c i = parts (slice_index c.calls.words (ids.id_word i))
+id_word_of c i = parts (slice_index c.calls.words (ids.id_index i))
 
 abbrev pub at_of : IdPlan → Core → ℕ → ℕ
-at_of q c o = slice_index c.calls.words (ids.at_word q o)
+at_of q c o = slice_index c.calls.words (ids.at_index q o)
 
 -- ## Who owes
 
@@ -65,7 +65,7 @@ ErrorPast us id e = e ≢ 0 → (attempt_of e ≡ 7) ⊎ Past us id (attempt_of 
 
 -- the version of a link's life is past
 abbrev pub FailedIn : (ℕ → Option ℕ) → List ℕ → ℕ → Type 0
-FailedIn life ws k = (s : ℕ) → life k ≡ Some s → socket_id_version s < vref_version (slice_index ws (ref_word (socket_id_slot s)))
+FailedIn life ws k = (s : ℕ) → life k ≡ Some s → socket_id_version s < vref_version (slice_index ws (ref_index (socket_id_slot s)))
 
 abbrev pub Failed : (ℕ → Option ℕ) → Core → ℕ → Type 0
 Failed life c k = FailedIn life c.words k

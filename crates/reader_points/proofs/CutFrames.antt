@@ -8,7 +8,7 @@ use Rattle.prpc_frame.specs.Cuts.{Cut}
 use Rattle.prpc_frame.specs.Meaning.{frame_of, fault_of, IsFault}
 use Rattle.prpc_frame.specs.declared.frame.Frame.{Frame}
 use Rattle.prpc_frame.specs.declared.fault.FrameFault.{FrameFault}
-use Rattle.sock_programs.specs.Readers.{LIMIT}
+use Rattle.seat_programs.specs.Readers.{LIMIT}
 use Rattle.call_points.specs.declared.locking.Locker.{Locker}
 use Rattle.call_points.specs.declared.locking.LockStep.TheVariants as locks
 use Rattle.reader_points.specs.declared.cutting.Cut as code

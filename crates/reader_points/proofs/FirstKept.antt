@@ -5,8 +5,8 @@ use Rattle.std.proofs.Math.ListN.{drop_of_length-le}
 use Rattle.brpc_model.specs.Frame as model
 use Rattle.prpc_frame.specs.Meaning.{frame_of}
 use Rattle.prpc_frame.specs.declared.frame.Frame.{Frame}
-use Rattle.sock_programs.specs.Asides.{id_slot}
-use Rattle.sock_programs.specs.Readers.{kept_for, slot_in}
+use Rattle.seat_programs.specs.Asides.{id_slot}
+use Rattle.seat_programs.specs.Readers.{kept_for, slot_in}
 use Rattle.reader_points.specs.Kept.{is_kept_of, IsFirstKept}
 
 -- those of a range among these

@@ -7,10 +7,10 @@ use Rattle.brpc_model.specs.Frame.{Frame, FrameFault, Judged, NoneYet, Faulty, B
 use Rattle.brpc_model.specs.Stream.{Stream, Ending, Rest, Fault, goes_on, stream_up_to, stream_from, stream}
 use Rattle.prpc_frame.specs.Cuts.{Cut}
 use Rattle.prpc_frame.proofs.Cuts.{stream_whole, stream_rest, stream_fault, frames_anywhere}
-use Rattle.sock_programs.specs.Asides.{Bytes}
-use Rattle.sock_programs.specs.Heads.{Reading, Locks, Version}
-use Rattle.sock_programs.specs.Programs.{Program, Round}
-use Rattle.sock_programs.specs.Readers.{LIMIT, slot_in, version_in, answered, responses, read_on, read, last_of}
+use Rattle.seat_programs.specs.Asides.{Bytes}
+use Rattle.seat_programs.specs.Heads.{Reading, Locks, Version}
+use Rattle.seat_programs.specs.Programs.{Program, Round}
+use Rattle.seat_programs.specs.Readers.{LIMIT, slot_in, version_in, answered, responses, read_on, read, last_of}
 use Rattle.call_points.specs.declared.locking.Locker.{Locker}
 use Rattle.call_points.specs.declared.locking.LockStep.TheVariants as locks
 use Rattle.reader_points.specs.declared.point.CloseStep.TheVariants as closes

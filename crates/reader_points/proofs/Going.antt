@@ -4,15 +4,15 @@ use Rattle.std.proofs.lemmas.Bool.Decides.{nat_tests}
 use Rattle.sock_words.specs.Words.{socket_id_version, vref_version, at_word_link, at_word_slot, at_word_first, at_word_attempt}
 use Rattle.corr_core.specs.Word.{error_of}
 use Rattle.sock_message.specs.Asked.{Asked}
-use Rattle.sock_programs.specs.Asides.{TakeCall, call_id, id_slot}
-use Rattle.sock_programs.specs.Programs.{Program, Aside, Say}
-use Rattle.sock_programs.specs.Posts.{end_id, post_with}
-use Rattle.sock_programs.specs.Readers.{answer, ending_of, slot_in, posted_last}
+use Rattle.seat_programs.specs.Asides.{TakeCall, call_id, id_slot}
+use Rattle.seat_programs.specs.Programs.{Program, Aside, Say}
+use Rattle.seat_programs.specs.Posts.{end_id, post_with}
+use Rattle.seat_programs.specs.Readers.{answer, ending_of, slot_in, posted_last}
 use Rattle.call_points.specs.Steps.{after_word, after_call}
 use Rattle.call_points.specs.declared.ending.EndStep.TheVariants as ends
 use Rattle.call_points.specs.declared.posting.PostStep.TheVariants as posts
 use Rattle.id_points.specs.Ids.{id_of, number_of}
-use Rattle.seat_points.specs.declared.point.ReleaseStep.TheVariants as releases
+use Rattle.seat_states.specs.declared.point.ReleaseStep.TheVariants as releases
 use Rattle.reader_points.specs.declared.point.Behind.{Behind}
 use Rattle.reader_points.specs.declared.point.Behind.TheVariants as behinds
 use Rattle.reader_points.specs.declared.point.AnswerStep.TheVariants as answers

@@ -1,16 +1,16 @@
 -- Which steps of a reader find a word, and which a call.
 use Rattle.std.proofs.Common.{◌≡◌, ℕ, ◌+◌, Bool, true, false, if◌then◌else◌, [], Option, Some, None, refl, sym, subst, ◌∙◌}
 use Rattle.sock_message.specs.Asked.{Asked}
-use Rattle.sock_programs.specs.Asides as steps_aside
+use Rattle.seat_programs.specs.Asides as steps_aside
 use Rattle.sock_words.specs.declared.id_word.IdWord.{IdWord}
 use Rattle.corr_core.specs.Word.{parts, code_of}
-use Rattle.sock_programs.specs.Asides.{id_slot}
-use Rattle.sock_programs.specs.Heads.{Locking, Posting, HasEnded, Unlocks}
-use Rattle.sock_programs.specs.Posts.{end_id, ends_call, unlocked}
-use Rattle.sock_programs.specs.Programs.{Program, Round}
-use Rattle.sock_programs.specs.Programs as programs
-use Rattle.seat_points.specs.declared.point.ReleaseStep.TheVariants as releases
-use Rattle.seat_points.specs.Steps.{First, OfCall, OfAside, first_of, first_in}
+use Rattle.seat_programs.specs.Asides.{id_slot}
+use Rattle.seat_programs.specs.Heads.{Locking, Posting, HasEnded, Unlocks}
+use Rattle.seat_programs.specs.Posts.{end_id, ends_call, unlocked}
+use Rattle.seat_programs.specs.Programs.{Program, Round}
+use Rattle.seat_programs.specs.Programs as programs
+use Rattle.seat_states.specs.declared.point.ReleaseStep.TheVariants as releases
+use Rattle.seat_states.specs.Steps.{First, OfCall, OfAside, first_of, first_in}
 use Rattle.reader_points.specs.declared.point.Closing.{Closing}
 use Rattle.reader_points.specs.declared.point.CloseStep.{CloseStep}
 use Rattle.reader_points.specs.declared.point.CloseStep.TheVariants as closes
@@ -145,7 +145,7 @@ closes_by : (a : Around) (c : Closing) (at : CloseStep) → FirstFindsIn (first_
 closes_by a c closes.AddRef = tt
 closes_by a c closes.SetOdd = tt
 closes_by a c closes.StoreCode = tt
-closes_by a c closes.GiveBack = tt
+closes_by a c closes.ReleaseFirst = tt
 closes_by a c (closes.Release releases.SubRef) = tt
 closes_by a c (closes.Release (releases.Recycle from)) = tt
 closes_by a c (closes.Release (releases.LoadLink w)) = tt

@@ -1,7 +1,7 @@
 -- A reader goes on by what a take found.
 use Rattle.std.proofs.Common.{◌≡◌, ℕ, ◌+◌, true, false, nat_lt, length, refl, ap, sym, ◌∙◌}
-use Rattle.sock_programs.specs.Asides.{Taking, Bytes, Nothing, NoMore, AtEnd, Closed, Broken}
-use Rattle.sock_programs.specs.Readers.{LIMIT}
+use Rattle.seat_programs.specs.Asides.{Taking, Bytes, Nothing, NoMore, AtEnd, Closed, Broken}
+use Rattle.seat_programs.specs.Readers.{LIMIT}
 use Rattle.reader_points.specs.declared.point.ByteCount.{ByteCount}
 use Rattle.reader_points.specs.declared.point.Reader.{Reader}
 use Rattle.reader_points.specs.declared.point.CloseStep.TheVariants as closes

@@ -3,7 +3,7 @@ use Rattle.std.specs.Prelude.{ℕ, ◌≡◌, List, Bool, ◌&&◌, nat_lt, leng
 use Rattle.brpc_model.specs.Frame as model
 use Rattle.prpc_frame.specs.Meaning.{frame_of}
 use Rattle.prpc_frame.specs.declared.frame.Frame.{Frame}
-use Rattle.sock_programs.specs.Readers.{has_response, slot_in}
+use Rattle.seat_programs.specs.Readers.{has_response, slot_in}
 use Rattle.reader_points.specs.declared.cutting.Cut.{Cut}
 use Rattle.reader_points.specs.declared.point.Reader.{Reader}
 use Rattle.reader_points.specs.Points.{Around, frames_program, point_program, with_frame, without_frame, with_held, HasInHand}

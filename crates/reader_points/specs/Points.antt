@@ -7,19 +7,19 @@ use Rattle.corr_core.specs.Word.{parts, error_of}
 use Rattle.brpc_model.specs.Frame.{Frame, NoneYet, judged}
 use Rattle.brpc_model.specs.Stream.{stream}
 use Rattle.sock_message.specs.Asked.{Asked}
-use Rattle.sock_programs.specs.Asides.{Taking, Bytes, Nothing, NoMore, AtEnd, Closed, Broken, LoadAt, TakeCall, FreeId, call_id, id_slot}
-use Rattle.sock_programs.specs.Calls as calls
-use Rattle.sock_programs.specs.Heads.{Reading, Ended, Opens, Reads, Discards, Deciding, Decides}
-use Rattle.sock_programs.specs.Programs.{Program, Do, Say, Rest, Aside, Round, NO_SOCKET, address, release, set_failed}
-use Rattle.sock_programs.specs.Posts.{post_with, decide, decided, end_id}
-use Rattle.sock_programs.specs.Readers.{LIMIT, ending_of, slot_in, version_in, answered, responses, ended_by, read_on, read, kept_for, ends_with, posted_last, post_each, thrown_away, room_of}
+use Rattle.seat_programs.specs.Asides.{Taking, Bytes, Nothing, NoMore, AtEnd, Closed, Broken, LoadAt, TakeCall, FreeId, call_id, id_slot}
+use Rattle.seat_programs.specs.Calls as calls
+use Rattle.seat_programs.specs.Heads.{Reading, Ended, Opens, Reads, Discards, Deciding, Decides}
+use Rattle.seat_programs.specs.Programs.{Program, Do, Say, Rest, Aside, Round, NO_SOCKET, address, release, set_failed}
+use Rattle.seat_programs.specs.Posts.{post_with, decide, decided, end_id}
+use Rattle.seat_programs.specs.Readers.{LIMIT, ending_of, slot_in, version_in, answered, responses, ended_by, read_on, read, kept_for, ends_with, posted_last, post_each, thrown_away, room_of}
 use Rattle.call_points.specs.Points.{end_program, post_program, lock_program, IsOpen}
 use Rattle.call_points.specs.declared.deciding.OnCall.{OnCall}
 use Rattle.call_points.specs.declared.locking.Locker.{Locker}
 use Rattle.call_points.specs.declared.aside.Aside.TheVariants as asides
 use Rattle.id_points.specs.Ids.{id_of, number_of}
 use Rattle.id_points.specs.declared.locking.Sought.TheVariants as sought
-use Rattle.seat_points.specs.Points.{release_on, MayFindIn}
+use Rattle.seat_states.specs.Points.{release_on, MayFindIn}
 use Rattle.reader_points.specs.declared.point.ByteCount.{ByteCount}
 use Rattle.reader_points.specs.declared.point.Reader.{Reader}
 use Rattle.reader_points.specs.declared.point.Closing.{Closing}
@@ -95,7 +95,7 @@ module _ (a : Around) where
   close_program c closes.AddRef = address c.reader.socket.0 (set_failed c.reader.socket.0 (code_by c.fault) (λ _. release (socket_id_slot c.reader.socket.0) (λ _. posts_program c))) (λ _. posts_program c)
   close_program c closes.SetOdd = set_failed c.reader.socket.0 (code_by c.fault) (λ _. release (socket_id_slot c.reader.socket.0) (λ _. posts_program c))
   close_program c closes.StoreCode = Do (calls.StoreCode (socket_id_slot c.reader.socket.0) (socket_id_version c.reader.socket.0) (code_by c.fault)) (λ _. Do (calls.SubRef (socket_id_slot c.reader.socket.0)) (λ _. release (socket_id_slot c.reader.socket.0) (λ _. posts_program c)))
-  close_program c closes.GiveBack = Do (calls.SubRef (socket_id_slot c.reader.socket.0)) (λ _. release (socket_id_slot c.reader.socket.0) (λ _. posts_program c))
+  close_program c closes.ReleaseFirst = Do (calls.SubRef (socket_id_slot c.reader.socket.0)) (λ _. release (socket_id_slot c.reader.socket.0) (λ _. posts_program c))
   close_program c (closes.Release at) = release_on (socket_id_slot c.reader.socket.0) (λ _. posts_program c) at
 
   -- the at word of the call of this operation is looked at, and then the calls that are left

@@ -1,11 +1,11 @@
 -- The steps of a reader's code as those of its program.
-use Rattle.sock_programs.specs.Asides as asides
-use Rattle.sock_programs.specs.Asides.{Found, Taking}
-use Rattle.sock_programs.specs.Programs.{Program, Aside, Round, Rest}
-use Rattle.sock_programs.specs.Rounds.{round}
+use Rattle.seat_programs.specs.Asides as asides
+use Rattle.seat_programs.specs.Asides.{Found, Taking}
+use Rattle.seat_programs.specs.Programs.{Program, Aside, Round, Rest}
+use Rattle.seat_programs.specs.Rounds.{round}
 use Rattle.sock_message.specs.Asked.{Asked}
 use Rattle.call_points.specs.Steps as aside_steps
-use Rattle.seat_points.specs.Steps.{First, OfCall, OfAside, step_of}
+use Rattle.seat_states.specs.Steps.{First, OfCall, OfAside, step_of}
 use Rattle.reader_points.specs.declared.point.ReadStep.{ReadStep}
 use Rattle.reader_points.specs.declared.point.ReadStep.TheVariants as steps
 

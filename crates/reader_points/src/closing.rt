@@ -3,7 +3,7 @@ ghost use Rattle.call_points.specs.Steps.{after_word};
 ghost use Rattle.reader_points.specs.Points.{Around, next_program, close_program, posts_program, point_program, MayFindClosing, HasInHand, HasNext};
 
 use crate::point::{CloseStep, Closing, ReadNext, ReadPoint};
-use seat_points::{ReleaseStep, Released};
+use seat_states::{ReleaseStep, Released};
 use sock_words::Vref;
 
 impl Closing {
@@ -67,8 +67,8 @@ impl CloseStep {
                     closing.to(CloseStep::StoreCode)
                 }
             }
-            CloseStep::StoreCode => closing.to(CloseStep::GiveBack),
-            CloseStep::GiveBack => closing.to(CloseStep::Release(ReleaseStep::SubRef)),
+            CloseStep::StoreCode => closing.to(CloseStep::ReleaseFirst),
+            CloseStep::ReleaseFirst => closing.to(CloseStep::Release(ReleaseStep::SubRef)),
             CloseStep::Release(step) => match step.behind(found) {
                 Released::Step(step) => closing.to(CloseStep::Release(step)),
                 Released::Done(_) => ReadNext::Posts(closing),

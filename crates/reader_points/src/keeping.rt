@@ -1,6 +1,6 @@
 ghost use Rattle.std.specs.Prelude.{◌≡◌, ◌<◌, ◌+◌, ◌∷◌, ◌==◌, ◌&&◌, ℕ, List, [], nat_lt, map, get_or, IfSome, IfNone};
-ghost use Rattle.sock_programs.specs.Asides.{id_slot};
-ghost use Rattle.sock_programs.specs.Readers.{slot_in, kept_for};
+ghost use Rattle.seat_programs.specs.Asides.{id_slot};
+ghost use Rattle.seat_programs.specs.Readers.{slot_in, kept_for};
 ghost use Rattle.brpc_model.specs.Frame as model;
 ghost use Rattle.prpc_frame.specs.Meaning.{frame_of};
 ghost use Rattle.id_points.specs.Ids.{id_of};

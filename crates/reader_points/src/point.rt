@@ -3,7 +3,7 @@ ghost use Rattle.reader_points.specs.Points.{count_of, room};
 
 use call_points::{Aside, EndStep, LockStep, Locker, PostStep};
 use id_points::{AttemptNumber, CallId};
-use seat_points::{Call, ReleaseStep};
+use seat_states::{Call, ReleaseStep};
 use sock_words::{IdWord, SocketId};
 
 /// How many bytes of a link are read at most, 2^24.
@@ -114,7 +114,7 @@ pub enum CloseStep {
     SetOdd,
     StoreCode,
     /// the reference that creation made is given back,
-    GiveBack,
+    ReleaseFirst,
     /// and then the reader's own.
     Release(ReleaseStep),
 }

@@ -1,7 +1,7 @@
 ghost use Rattle.std.specs.Prelude.{◌==◌, ◌&&◌, not, ◌≡◌, ◌≤◌, ℕ};
 ghost use Rattle.sock_words.specs.Words.{at_word_link, at_word_slot, at_word_first, at_word_attempt};
-ghost use Rattle.sock_programs.specs.Asides.{call_id};
-ghost use Rattle.sock_programs.specs.Readers.{posted_last};
+ghost use Rattle.seat_programs.specs.Asides.{call_id};
+ghost use Rattle.seat_programs.specs.Readers.{posted_last};
 ghost use Rattle.call_points.specs.Steps.{after_word};
 ghost use Rattle.id_points.specs.Ids.{id_of, number_of};
 ghost use Rattle.id_points.specs.Turns.{post_on};

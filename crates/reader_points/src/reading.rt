@@ -1,9 +1,9 @@
 ghost use Rattle.std.specs.Prelude.{◌≡◌, true};
-ghost use Rattle.sock_programs.specs.Asides.{Taking};
+ghost use Rattle.seat_programs.specs.Asides.{Taking};
 ghost use Rattle.brpc_model.specs.Frame.{Frame};
-ghost use Rattle.sock_programs.specs.Readers.{answered, is_early, version_in};
+ghost use Rattle.seat_programs.specs.Readers.{answered, is_early, version_in};
 ghost use Rattle.corr_core.specs.Word.{parts};
-ghost use Rattle.sock_programs.specs.Asides.{call_id, id_slot};
+ghost use Rattle.seat_programs.specs.Asides.{call_id, id_slot};
 ghost use Rattle.id_points.specs.Ids.{id_of};
 ghost use Rattle.id_points.specs.Turns.{lock_on, sought_as};
 ghost use Rattle.reader_points.specs.Points.{Around, point_program, next_program, frames_behind, with_taking, room, IsTaken, IsLocker, FitsRoom, HasInHand, HasNext};

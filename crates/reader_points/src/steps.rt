@@ -3,14 +3,14 @@ ghost use Rattle.sock_message.specs.Asked.{Asked};
 ghost use Rattle.id_points.specs.Ids.{id_of};
 ghost use Rattle.call_points.specs.Steps.{aside_in};
 ghost use Rattle.call_points.specs.Steps as asides;
-ghost use Rattle.seat_points.specs.Steps.{OfCall, step_of, first_in};
+ghost use Rattle.seat_states.specs.Steps.{OfCall, step_of, first_in};
 ghost use Rattle.reader_points.specs.Points.{Around, close_program, answer_program, point_program, code_by, room, GoesBy};
 ghost use Rattle.reader_points.specs.Steps.{step_as};
 
 use crate::point::{AnswerStep, Behind, ByteCount, CloseStep, Closing, ReadPoint, ReadStep};
 use call_points::Aside;
 use id_points::CallId;
-use seat_points::Call;
+use seat_states::Call;
 use sock_words::{EEOF, ERESPONSE};
 
 impl Closing {
@@ -32,7 +32,7 @@ impl CloseStep {
             CloseStep::AddRef => Call::AddRef(id),
             CloseStep::SetOdd => Call::SetOdd(id.slot()),
             CloseStep::StoreCode => Call::StoreCode(id.slot(), id.version(), closing.code()),
-            CloseStep::GiveBack => Call::SubRef(id.slot()),
+            CloseStep::ReleaseFirst => Call::SubRef(id.slot()),
             CloseStep::Release(step) => step.call(id.slot()),
         }
     }

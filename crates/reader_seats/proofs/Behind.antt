@@ -3,8 +3,8 @@ use Rattle.std.proofs.Common.{◌≡◌, ℕ, ◌∷◌, ◌++◌, Bool, List, [
 use Rattle.std.specs.Result.{OnOk}
 use Rattle.brpc_model.specs.Frame.{NoneYet, judged}
 use Rattle.sock_words.specs.declared.outcome.Outcome.{Outcome}
-use Rattle.sock_programs.specs.Asides.{Taking}
-use Rattle.sock_programs.specs.Beside.{at_last}
+use Rattle.seat_programs.specs.Asides.{Taking}
+use Rattle.seat_programs.specs.Beside.{at_last}
 use Rattle.call_points.specs.Steps.{after_word}
 use Rattle.reader_points.specs.declared.point.ByteCount.{ByteCount}
 use Rattle.reader_points.specs.declared.point.Reader.{Reader}

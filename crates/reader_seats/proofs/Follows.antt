@@ -9,9 +9,9 @@ use Rattle.prpc_frame.specs.declared.frame.Frame.{Frame}
 use Rattle.sock_words.specs.declared.id_word.IdWord.{IdWord}
 use Rattle.corr_core.specs.Word.{parts}
 use Rattle.reader_points.specs.id_points.specs.Ids.{id_of}
-use Rattle.sock_programs.specs.Asides.{Taking, Bytes, Nothing, NoMore, AtEnd, Closed, Broken, id_slot}
-use Rattle.sock_programs.specs.Readers.{LIMIT, slot_in, kept_for}
-use Rattle.sock_programs.specs.Beside.{at_last}
+use Rattle.seat_programs.specs.Asides.{Taking, Bytes, Nothing, NoMore, AtEnd, Closed, Broken, id_slot}
+use Rattle.seat_programs.specs.Readers.{LIMIT, slot_in, kept_for}
+use Rattle.seat_programs.specs.Beside.{at_last}
 use Rattle.reader_points.specs.declared.cutting.Cut.{Cut}
 use Rattle.reader_points.specs.declared.point.Reader.{Reader}
 use Rattle.reader_points.specs.declared.point.ReadPoint.{ReadPoint}

@@ -2,12 +2,12 @@
 use Rattle.std.proofs.Common.{◌≡◌, ℕ, List, [], Option, Some, refl, sym, ap, subst, ◌∙◌}
 use Rattle.std.specs.Prelude.{slice_set}
 use Rattle.sock_words.specs.declared.outcome.Outcome.{Outcome}
-use Rattle.sock_programs.specs.Cores.{resolved, still_waiting, said, next_step}
-use Rattle.sock_programs.specs.Programs.{Program, Do, Say, Sent, Rest, TakeMessage, TakeHome, PutHome, PutBytes, AskReady, Write, Aside, Round, Keep, Retries}
+use Rattle.seat_programs.specs.Cores.{resolved, still_waiting, said, next_step}
+use Rattle.seat_programs.specs.Programs.{Program, Do, Say, Sent, Rest, TakeMessage, TakeHome, PutHome, PutBytes, AskReady, Write, Aside, Round, Keep, Retries}
 use Rattle.call_points.specs.declared.ending.EndStep.TheVariants as ends
 use Rattle.call_points.specs.declared.locking.LockStep.TheVariants as locks
 use Rattle.call_points.specs.declared.posting.PostStep.TheVariants as posts
-use Rattle.reader_points.specs.seat_points.specs.declared.point.ReleaseStep.TheVariants as releases
+use Rattle.reader_points.specs.seat_states.specs.declared.point.ReleaseStep.TheVariants as releases
 use Rattle.reader_points.specs.declared.point.AnswerStep.TheVariants as answers
 use Rattle.reader_points.specs.declared.point.CloseStep.TheVariants as closes
 use Rattle.reader_points.specs.declared.point.FailStep.TheVariants as fails
@@ -59,7 +59,7 @@ has_step a (points.Answer b id (answers.End o ends.Free)) = tt
 has_step a (points.Close c closes.AddRef) = tt
 has_step a (points.Close c closes.SetOdd) = tt
 has_step a (points.Close c closes.StoreCode) = tt
-has_step a (points.Close c closes.GiveBack) = tt
+has_step a (points.Close c closes.ReleaseFirst) = tt
 has_step a (points.Close c (closes.Release releases.SubRef)) = tt
 has_step a (points.Close c (closes.Release (releases.Recycle from))) = tt
 has_step a (points.Close c (closes.Release (releases.LoadLink w))) = tt

@@ -3,9 +3,9 @@ use Rattle.std.specs.Prelude.{ℕ, ◌≡◌, List, [], take, Option}
 use Rattle.sock_words.specs.declared.outcome.Outcome.{Outcome}
 use Rattle.sock_io.specs.declared.link.Take.{Take}
 use Rattle.sock_io.specs.declared.link.Take.TheVariants as takes
-use Rattle.sock_programs.specs.Asides.{Taking, Bytes, Nothing, AtEnd, Closed, Broken}
-use Rattle.sock_programs.specs.Cores.{resolved, still_waiting, said, next_step}
-use Rattle.sock_programs.specs.Programs.{Program}
+use Rattle.seat_programs.specs.Asides.{Taking, Bytes, Nothing, AtEnd, Closed, Broken}
+use Rattle.seat_programs.specs.Cores.{resolved, still_waiting, said, next_step}
+use Rattle.seat_programs.specs.Programs.{Program}
 use Rattle.reader_seats.specs.Readers.{ReaderData, reader_program}
 
 -- it goes on with this program, over these calls: what comes before its next step is said, and it keeps no retry

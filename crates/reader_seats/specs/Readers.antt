@@ -2,7 +2,7 @@
 use Rattle.std.specs.Prelude.{ℕ, Bool, List, [], Option, Some, None}
 use Rattle.brpc_model.specs.Frame.{Frame}
 use Rattle.sock_message.specs.Asked.{Asked}
-use Rattle.sock_programs.specs.Programs.{Program}
+use Rattle.seat_programs.specs.Programs.{Program}
 use Rattle.reader_points.specs.declared.point.ReadPoint.{ReadPoint}
 use Rattle.reader_points.specs.Points.{Around, point_program}
 

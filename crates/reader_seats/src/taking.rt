@@ -1,6 +1,6 @@
 ghost use Rattle.std.specs.Prelude.{◌≤◌, ℕ, List};
 ghost use Rattle.sock_io.specs.Link.{IsTakeCount, taken_count};
-ghost use Rattle.sock_programs.specs.Beside.{at_last};
+ghost use Rattle.seat_programs.specs.Beside.{at_last};
 ghost use Rattle.reader_points.specs.Points.{IsTaken, FitsRoom};
 ghost use Rattle.reader_seats.specs.GoesOn.{taking_of};
 

@@ -1,6 +1,6 @@
 ghost use Rattle.std.specs.Prelude.{◌≡◌, ◌≢◌, ℕ, Bool, ◌+◌, ◌-◌, ◌*◌, ◌%◌, ◌<◌, ◌↔◌, IsTrue, true, false, bit_or};
 ghost use Rattle.sock_words.specs.Words.{vref_nref, vref_version};
-ghost use Rattle.sock_steps.specs.sock_model.specs.Layout.{tag_word, ref_word};
+ghost use Rattle.sock_steps.specs.sock_model.specs.Layout.{tag_index, ref_index};
 ghost use Rattle.sock_steps.specs.sock_model.specs.SlotRows.{claimed, gave_birth, added, back, subbed, failed, recycled, freed, looked};
 ghost use Rattle.ref_core.specs.Keeping.{KeepsSlotRule, MayClaim, MayAdd, MaySub, MayFail, MayRecycle, MayFree, MayBear};
 
@@ -13,7 +13,7 @@ const ODD: u64 = 0x1_0000_0000;
 pub fn claim_slot(found: u64) -> Step
     ensures step { (result.found ≡ found) × (result.next ≡ 1) }
     ensures won { IsTrue result.won ↔ (found ≡ 0) }
-    ensures keeps { (i : ℕ) → KeepsSlotRule (MayClaim i) (tag_word i) found result.next (claimed i found) }
+    ensures keeps { (i : ℕ) → KeepsSlotRule (MayClaim i) (tag_index i) found result.next (claimed i found) }
 {
     Step {
         found,
@@ -27,7 +27,7 @@ pub fn claim_slot(found: u64) -> Step
 pub fn birth(found: u64) -> Step
     requires { vref_nref found < 4294967295 }
     ensures step { (result.found ≡ found) × (result.next ≡ found + 1) × (result.won ≡ true) }
-    ensures keeps { (i k : ℕ) → KeepsSlotRule (MayBear i k) (ref_word i) found result.next (gave_birth i found k) }
+    ensures keeps { (i k : ℕ) → KeepsSlotRule (MayBear i k) (ref_index i) found result.next (gave_birth i found k) }
 {
     Step {
         found,
@@ -41,7 +41,7 @@ pub fn birth(found: u64) -> Step
 pub fn add_ref(found: u64) -> Step
     requires { vref_nref found < 4294967295 }
     ensures step { (result.found ≡ found) × (result.next ≡ found + 1) × (result.won ≡ true) }
-    ensures keeps { (i : ℕ) (is_life : Bool) → KeepsSlotRule (MayAdd i found is_life) (ref_word i) found result.next (added i found is_life) }
+    ensures keeps { (i : ℕ) (is_life : Bool) → KeepsSlotRule (MayAdd i found is_life) (ref_index i) found result.next (added i found is_life) }
 {
     Step {
         found,
@@ -55,7 +55,7 @@ pub fn add_ref(found: u64) -> Step
 pub fn sub_ref(found: u64) -> Step
     requires { 0 < vref_nref found }
     ensures step { (result.found ≡ found) × (result.next ≡ found - 1) × (result.won ≡ true) }
-    ensures keeps { (i : ℕ) → KeepsSlotRule (MaySub i) (ref_word i) found result.next (λ v. subbed i found (back i found v) v) }
+    ensures keeps { (i : ℕ) → KeepsSlotRule (MaySub i) (ref_index i) found result.next (λ v. subbed i found (back i found v) v) }
 {
     Step {
         found,
@@ -68,7 +68,7 @@ pub fn sub_ref(found: u64) -> Step
 /// one more reference, the one that creation made (`SetFailed`).
 pub fn set_odd(found: u64) -> Step
     ensures step { (result.found ≡ found) × (result.next ≡ bit_or found 4294967296) × (result.won ≡ true) }
-    ensures keeps { (i : ℕ) → KeepsSlotRule (MayFail i) (ref_word i) found result.next (failed i found) }
+    ensures keeps { (i : ℕ) → KeepsSlotRule (MayFail i) (ref_index i) found result.next (failed i found) }
 {
     Step {
         found,
@@ -85,7 +85,7 @@ pub fn recycle(found: u64, from: Vref) -> Step
     ensures found { result.found ≡ found }
     ensures won { found ≡ from.0 → (result.next ≡ (vref_version from.0 + 1) * 4294967296) × (result.won ≡ true) }
     ensures lost { found ≢ from.0 → (result.next ≡ found) × (result.won ≡ false) }
-    ensures keeps { (i : ℕ) → KeepsSlotRule (MayRecycle i from.0) (ref_word i) found result.next (recycled i from.0 found) }
+    ensures keeps { (i : ℕ) → KeepsSlotRule (MayRecycle i from.0) (ref_index i) found result.next (recycled i from.0 found) }
 {
     if found == from.word() {
         Step {
@@ -105,7 +105,7 @@ pub fn recycle(found: u64, from: Vref) -> Step
 /// A7, store of 0 into a slot's tag: the slot may be claimed again.
 pub fn free_slot(found: u64) -> Step
     ensures step { (result.found ≡ found) × (result.next ≡ 0) × (result.won ≡ true) }
-    ensures keeps { (i : ℕ) → KeepsSlotRule (MayFree i) (tag_word i) found result.next (freed i) }
+    ensures keeps { (i : ℕ) → KeepsSlotRule (MayFree i) (tag_index i) found result.next (freed i) }
 {
     Step {
         found,
@@ -117,7 +117,7 @@ pub fn free_slot(found: u64) -> Step
 /// A8, load of the reference word.
 pub fn look_word(found: u64) -> Step
     ensures step { (result.found ≡ found) × (result.next ≡ found) × (result.won ≡ true) }
-    ensures keeps { (i : ℕ) → KeepsSlotRule (MayClaim i) (ref_word i) found result.next (looked i found) }
+    ensures keeps { (i : ℕ) → KeepsSlotRule (MayClaim i) (ref_index i) found result.next (looked i found) }
 {
     Step {
         found,

@@ -8,11 +8,11 @@ use Rattle.brpc_model.specs.Items.{Item, Open, Client, Send, Call, Expire, Join,
 use Rattle.brpc_model.specs.Operations.{Operation, operations_from}
 use Rattle.brpc_model.specs.Places.{is_same_size, is_held, held_behind}
 use Rattle.brpc_model.proofs.Growing.{is_held_more}
-use Rattle.sock_programs.specs.declared.task.Op.{Op}
-use Rattle.sock_programs.specs.declared.task.Op.TheVariants as ops
-use Rattle.sock_programs.specs.declared.task.Task.{Task}
-use Rattle.sock_programs.specs.Tasks.{Numbered, numbered_from, of_client, op_of, task_of, name_number}
-use Rattle.sock_programs.specs.Told.{goes_well, in_hand_behind, alternate}
+use Rattle.seat_programs.specs.declared.task.Op.{Op}
+use Rattle.seat_programs.specs.declared.task.Op.TheVariants as ops
+use Rattle.seat_programs.specs.declared.task.Task.{Task}
+use Rattle.seat_programs.specs.Tasks.{Numbered, numbered_from, of_client, op_of, task_of, name_number}
+use Rattle.seat_programs.specs.Told.{goes_well, in_hand_behind, alternate}
 use Rattle.report_fits.proofs.Lists.{or_parts, Has, has_first, has_later, some_is}
 use Rattle.report_fits.proofs.Numbering.{behind_item}
 use Rattle.report_fits.proofs.Reading.{IsPlaced, ArePlaced}

@@ -16,20 +16,20 @@ use Rattle.brpc_model.specs.Report.{Report, report_text}
 use Rattle.brpc_model.specs.Run.{nothing_late}
 use Rattle.brpc_model.specs.PlaceWords.{ArePlaces, HasEachOutcome}
 use Rattle.brpc_model.specs.Complete.{FitsWhole}
-use Rattle.sock_programs.specs.sock_model.specs.Layout.{place_word}
-use Rattle.sock_programs.specs.sock_model.specs.Deliveries.{place_value}
-use Rattle.sock_programs.specs.sock_message.specs.Asked.{Asked}
-use Rattle.sock_programs.specs.declared.task.Op.{Op}
-use Rattle.sock_programs.specs.declared.task.Op.TheVariants as ops
-use Rattle.sock_programs.specs.declared.task.Task.{Task}
-use Rattle.sock_programs.specs.Cores.{Core}
-use Rattle.sock_programs.specs.Runs.{from_to}
-use Rattle.sock_programs.specs.Tasks.{numbered, plan_of}
-use Rattle.sock_programs.specs.Scripts.{all_tasks, is_callless, is_later, place_words, Reports}
-use Rattle.sock_programs.specs.Told.{Told, IsTask, IsSent}
-use Rattle.sock_programs.specs.Told as sends
-use Rattle.sock_programs.specs.ToldCalls.{Accepted, Order, Fixed, ToldCalls, AreOrders, IsTaken, StandsAt, OfSend, StandsOn, all_accepted, label, bytes_of}
-use Rattle.sock_programs.specs.ToldCalls as told
+use Rattle.seat_programs.specs.sock_model.specs.Layout.{place_index}
+use Rattle.seat_programs.specs.sock_model.specs.Deliveries.{place_value}
+use Rattle.seat_programs.specs.sock_message.specs.Asked.{Asked}
+use Rattle.seat_programs.specs.declared.task.Op.{Op}
+use Rattle.seat_programs.specs.declared.task.Op.TheVariants as ops
+use Rattle.seat_programs.specs.declared.task.Task.{Task}
+use Rattle.seat_programs.specs.Cores.{Core}
+use Rattle.seat_programs.specs.Runs.{from_to}
+use Rattle.seat_programs.specs.Tasks.{numbered, plan_of}
+use Rattle.seat_programs.specs.Scripts.{all_tasks, is_callless, is_later, place_words, Reports}
+use Rattle.seat_programs.specs.Told.{Told, IsTask, IsSent}
+use Rattle.seat_programs.specs.Told as sends
+use Rattle.seat_programs.specs.ToldCalls.{Accepted, Order, Fixed, ToldCalls, AreOrders, IsTaken, StandsAt, OfSend, StandsOn, all_accepted, label, bytes_of}
+use Rattle.seat_programs.specs.ToldCalls as told
 use Rattle.report_fits.specs.Calm.{IsCalm}
 use Rattle.report_fits.specs.Ends.{AreEnds, AreEndsOf, AreTold}
 use Rattle.report_fits.proofs.Lists.{has_from, has_none, all_from, all_at, before_from, before_at}
@@ -104,14 +104,14 @@ module _ (script : List Item) (core : Core) (broken : List ℕ) (callless : is_c
       let P : List (List ℕ) → Type 0 = λ x. IsCut t.cut x in
       record { cut = t.cut; took_is = t.took_is ∙ ap (λ l. l ++ t.cut) (sym whole); is_cut = subst P (sym later) t.is_cut }
 
-  written : (k i : ℕ) (a : Accepted) → k < length (link_names script) → StandsAt orders_of k i a → slice_index core.words (place_word (plan_of script) (label a)) ≡ place_value (nat_le (tells.orders k).placed i) k i
+  written : (k i : ℕ) (a : Accepted) → k < length (link_names script) → StandsAt orders_of k i a → slice_index core.words (place_index (plan_of script) (label a)) ≡ place_value (nat_le (tells.orders k).placed i) k i
   written k i a low at =
       let b = was k i a at in
       let place : label a ≡ 8 * b.0.operation = ap label (sym b.2) ∙ label_first b.0 in
-      ap (λ l. slice_index core.words (place_word (plan_of script) l)) place ∙ tells.are_orders.written k i b.0 low b.1
+      ap (λ l. slice_index core.words (place_index (plan_of script) l)) place ∙ tells.are_orders.written k i b.0 low b.1
 
-  alone : (l : ℕ) → (slice_index core.words (place_word (plan_of script) l) ≡ 0) ⊎ ((k i : ℕ) × (a : sends.Accepted) × (k < length (link_names script)) × sends.StandsAt tells.orders k i a × (l ≡ 8 * a.operation)) →
-      (slice_index core.words (place_word (plan_of script) l) ≡ 0) ⊎ ((k i : ℕ) × (a : Accepted) × (k < length (link_names script)) × StandsAt orders_of k i a × (l ≡ label a))
+  alone : (l : ℕ) → (slice_index core.words (place_index (plan_of script) l) ≡ 0) ⊎ ((k i : ℕ) × (a : sends.Accepted) × (k < length (link_names script)) × sends.StandsAt tells.orders k i a × (l ≡ 8 * a.operation)) →
+      (slice_index core.words (place_index (plan_of script) l) ≡ 0) ⊎ ((k i : ℕ) × (a : Accepted) × (k < length (link_names script)) × StandsAt orders_of k i a × (l ≡ label a))
   alone l (inl e) = inl e
   alone l (inr w) = inr (w.0, w.1, first_attempt w.2, w.3, stands w.0 w.1 w.2 w.4, w.5 ∙ sym (label_first w.2))
 

@@ -6,8 +6,8 @@ use Rattle.std.specs.List.{AllByRecursion}
 use Rattle.brpc_model.specs.Items.{Item, CallLine, Call}
 use Rattle.brpc_model.specs.Operations.{operations}
 use Rattle.brpc_model.specs.Places.{names}
-use Rattle.sock_programs.specs.Tasks.{name_number, asked_of, plan_of}
-use Rattle.sock_programs.specs.Told.{AskedFits}
+use Rattle.seat_programs.specs.Tasks.{name_number, asked_of, plan_of}
+use Rattle.seat_programs.specs.Told.{AskedFits}
 use Rattle.report_fits.proofs.Lists.{Has, all_at, has_first, has_later}
 use Rattle.report_fits.proofs.Names.{number_within, mentioned_has}
 use Rattle.report_fits.proofs.Frames.{frame_short}

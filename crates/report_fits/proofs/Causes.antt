@@ -16,15 +16,15 @@ use Rattle.brpc_model.specs.Attempts as attempts
 use Rattle.brpc_model.specs.Run.{IsOperation, HasOutcome, BecameSocket, StandsAt, IsUnordered, GaveFrame}
 use Rattle.brpc_model.specs.Causes.{HasFault, ReadingEnded, Early, AtClosed, AtSilence, Failing, OfLink, MayBeFull}
 use Rattle.brpc_model.specs.Outcomes.{SendCause, CallCause, ExpireCause, JoinCause, HasBegun, MayNotHaveBegun, IsTarget, Cause}
-use Rattle.sock_programs.specs.declared.task.Op.{Op}
-use Rattle.sock_programs.specs.declared.task.Op.TheVariants as ops
-use Rattle.sock_programs.specs.declared.task.Task.{Task}
-use Rattle.sock_programs.specs.sock_message.specs.Asked.{Asked, name_of}
-use Rattle.sock_programs.specs.Tasks.{numbered, name_number, number_of, asked_of, op_of, plan_of}
-use Rattle.sock_programs.specs.Scripts.{all_tasks}
-use Rattle.sock_programs.specs.Told.{IsTask, Made}
-use Rattle.sock_programs.specs.ToldCalls as told
-use Rattle.sock_programs.specs.ToldCalls.{Accepted, all_accepted, label}
+use Rattle.seat_programs.specs.declared.task.Op.{Op}
+use Rattle.seat_programs.specs.declared.task.Op.TheVariants as ops
+use Rattle.seat_programs.specs.declared.task.Task.{Task}
+use Rattle.seat_programs.specs.sock_message.specs.Asked.{Asked, name_of}
+use Rattle.seat_programs.specs.Tasks.{numbered, name_number, number_of, asked_of, op_of, plan_of}
+use Rattle.seat_programs.specs.Scripts.{all_tasks}
+use Rattle.seat_programs.specs.Told.{IsTask, Made}
+use Rattle.seat_programs.specs.ToldCalls as told
+use Rattle.seat_programs.specs.ToldCalls.{Accepted, all_accepted, label}
 use Rattle.report_fits.proofs.Lists.{Has, some_is, has_from}
 use Rattle.report_fits.proofs.Names.{same_name}
 use Rattle.report_fits.proofs.Numbering.{are_from}

@@ -21,13 +21,13 @@ use Rattle.brpc_model.specs.Attempts.{attempt}
 use Rattle.brpc_model.specs.Outcomes.{SendCause, Cause}
 use Rattle.brpc_model.specs.Fits.{FitsLink, FitsOnce, FitsRun, IsMade, Shows, AreApart, count_outcomes, is_fail_of, is_open_of}
 use Rattle.brpc_model.specs.Complete.{Completeness, FitsWhole, IsUntroubled, IsServed, SendDone, CallDone}
-use Rattle.sock_programs.specs.declared.task.Op.{Op}
-use Rattle.sock_programs.specs.declared.task.Op.TheVariants as ops
-use Rattle.sock_programs.specs.Tasks.{name_number, numbered, number_of, asked_of, op_of, plan_of}
-use Rattle.sock_programs.specs.Scripts.{all_tasks, place_words}
-use Rattle.sock_programs.specs.Told.{Made}
-use Rattle.sock_programs.specs.ToldCalls as told
-use Rattle.sock_programs.specs.ToldCalls.{Accepted, label as number_of_label}
+use Rattle.seat_programs.specs.declared.task.Op.{Op}
+use Rattle.seat_programs.specs.declared.task.Op.TheVariants as ops
+use Rattle.seat_programs.specs.Tasks.{name_number, numbered, number_of, asked_of, op_of, plan_of}
+use Rattle.seat_programs.specs.Scripts.{all_tasks, place_words}
+use Rattle.seat_programs.specs.Told.{Made}
+use Rattle.seat_programs.specs.ToldCalls as told
+use Rattle.seat_programs.specs.ToldCalls.{Accepted, label as number_of_label}
 use Rattle.report_fits.specs.Calm.{IsCalm}
 use Rattle.report_fits.proofs.Lists.{within, some_is, contains_from, has_from, all_from, all_at, all_map, before_from, before_at}
 use Rattle.report_fits.proofs.Flat.{flat_before}

@@ -5,7 +5,7 @@ use Rattle.std.proofs.lemmas.List.Sums.{sum_by-cons}
 use Rattle.std.proofs.lemmas.List.{length-append}
 use Rattle.std.specs.List.{AllByRecursion}
 use Rattle.brpc_model.specs.Order.{EachBefore}
-use Rattle.sock_programs.specs.Runs.{from_to}
+use Rattle.seat_programs.specs.Runs.{from_to}
 use Rattle.report_fits.proofs.Lists.{Has, has_first, has_later, has_none, some_is, all_from}
 
 -- ## Equal lists

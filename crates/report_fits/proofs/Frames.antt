@@ -5,7 +5,7 @@ use Rattle.std.specs.Int.{w32, to_be_bytes}
 use Rattle.brpc_model.specs.Wire.{varint_up_to, varint_bytes}
 use Rattle.brpc_model.specs.Spelling.{number_field, bytes_field, request_bytes, where_not_0, meta_bytes}
 use Rattle.brpc_model.specs.Frame.{magic, framed}
-use Rattle.sock_programs.specs.sock_message.specs.Asked.{Asked, meta_of, frame_of}
+use Rattle.seat_programs.specs.sock_message.specs.Asked.{Asked, meta_of, frame_of}
 
 varint_short : (most n : ℕ) → length (varint_up_to most n) ≤ most
 varint_short zero n = omega arith

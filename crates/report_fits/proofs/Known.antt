@@ -12,15 +12,15 @@ use Rattle.brpc_model.specs.Frame.{frame_bytes}
 use Rattle.brpc_model.specs.Messages.{request_frame, shown_id}
 use Rattle.brpc_model.specs.Order.{EachBefore}
 use Rattle.brpc_model.specs.Places.{names}
-use Rattle.sock_programs.specs.sock_message.specs.Asked.{Asked, name_of, frame_of}
-use Rattle.sock_programs.specs.declared.task.Op.TheVariants as ops
-use Rattle.sock_programs.specs.declared.task.Task.{Task}
-use Rattle.sock_programs.specs.Cores.{Core}
-use Rattle.sock_programs.specs.Runs.{from_to}
-use Rattle.sock_programs.specs.Tasks.{name_number, numbered, asked_of, op_of, plan_of}
-use Rattle.sock_programs.specs.Scripts.{all_tasks}
-use Rattle.sock_programs.specs.Told.{IsTask, Made}
-use Rattle.sock_programs.specs.ToldCalls.{Accepted, Order, StandsAt, Fixed, ToldCalls, IsSent, OfSend, OfCall, StandsOn, all_accepted, label}
+use Rattle.seat_programs.specs.sock_message.specs.Asked.{Asked, name_of, frame_of}
+use Rattle.seat_programs.specs.declared.task.Op.TheVariants as ops
+use Rattle.seat_programs.specs.declared.task.Task.{Task}
+use Rattle.seat_programs.specs.Cores.{Core}
+use Rattle.seat_programs.specs.Runs.{from_to}
+use Rattle.seat_programs.specs.Tasks.{name_number, numbered, asked_of, op_of, plan_of}
+use Rattle.seat_programs.specs.Scripts.{all_tasks}
+use Rattle.seat_programs.specs.Told.{IsTask, Made}
+use Rattle.seat_programs.specs.ToldCalls.{Accepted, Order, StandsAt, Fixed, ToldCalls, IsSent, OfSend, OfCall, StandsOn, all_accepted, label}
 use Rattle.report_fits.specs.Limits.{KeepsLimits}
 use Rattle.report_fits.proofs.Lists.{Has, within, some_is, all_from, all_at, before_from}
 use Rattle.report_fits.proofs.Flat.{flat_has, flat_before, flat_length, from_to_at, from_to_length}

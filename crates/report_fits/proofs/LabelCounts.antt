@@ -6,7 +6,7 @@ use Rattle.std.specs.List.{AllByRecursion}
 use Rattle.brpc_model.specs.Items.{Item, attempts_of}
 use Rattle.brpc_model.specs.Operations.{Operation, operations_from, operations, attempts}
 use Rattle.brpc_model.specs.Order.{EachBefore}
-use Rattle.sock_programs.specs.ToldCalls.{Accepted, label}
+use Rattle.seat_programs.specs.ToldCalls.{Accepted, label}
 use Rattle.report_fits.proofs.Lists.{Has, some_is, all_from}
 use Rattle.report_fits.proofs.Counting.{tally, HasPlace, places}
 use Rattle.report_fits.proofs.Numbering.{behind_item}

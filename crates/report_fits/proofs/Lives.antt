@@ -14,16 +14,16 @@ use Rattle.brpc_model.specs.Link.{LinkEnd}
 use Rattle.brpc_model.specs.Run.{Run, Story, Lateness, IsOperation, HasOutcome, IsLinkOf, BecameSocket, HasSocket}
 use Rattle.brpc_model.specs.Causes.{HasFault, EndedEarly, GaveItsEnd, GaveAFault, GaveTheMost, TakeFailed, FailingBy, PutFailed, WasFailed as ByFail, ReadEarly, BornLate, FailingFor, Failing, OfLink, MayFindNone, Opens, IsNoLater}
 use Rattle.brpc_model.specs.Outcomes.{FoundFailed as RunFoundFailed, AfterHold as RunAfterHold, OpenCause, HoldCause, FailCause, DropCause, EachSlotOpened}
-use Rattle.sock_programs.specs.declared.task.Op.{Op}
-use Rattle.sock_programs.specs.declared.task.Op.TheVariants as ops
-use Rattle.sock_programs.specs.declared.task.Task.{Task}
-use Rattle.sock_programs.specs.sock_message.specs.Asked.{Asked}
-use Rattle.sock_programs.specs.Cores.{Core}
-use Rattle.sock_programs.specs.Tasks.{Numbered, numbered, name_number, asked_of, op_of, plan_of}
-use Rattle.sock_programs.specs.Scripts.{all_tasks}
-use Rattle.sock_programs.specs.Told.{IsTask, Made, OpensNone, AfterHold, HasLife, EachOpened, IsFail}
-use Rattle.sock_programs.specs.ToldCalls as told
-use Rattle.sock_programs.specs.ToldCalls.{Accepted, Fixed, all_accepted, label}
+use Rattle.seat_programs.specs.declared.task.Op.{Op}
+use Rattle.seat_programs.specs.declared.task.Op.TheVariants as ops
+use Rattle.seat_programs.specs.declared.task.Task.{Task}
+use Rattle.seat_programs.specs.sock_message.specs.Asked.{Asked}
+use Rattle.seat_programs.specs.Cores.{Core}
+use Rattle.seat_programs.specs.Tasks.{Numbered, numbered, name_number, asked_of, op_of, plan_of}
+use Rattle.seat_programs.specs.Scripts.{all_tasks}
+use Rattle.seat_programs.specs.Told.{IsTask, Made, OpensNone, AfterHold, HasLife, EachOpened, IsFail}
+use Rattle.seat_programs.specs.ToldCalls as told
+use Rattle.seat_programs.specs.ToldCalls.{Accepted, Fixed, all_accepted, label}
 use Rattle.report_fits.specs.Ends.{IsEndOf}
 use Rattle.report_fits.proofs.Lists.{Has, within, some_is, contains_from, has_from, all_at, all_map}
 use Rattle.report_fits.proofs.Counting.{but, but_other, one_less, HasPlace, places, passing, passing_length, passing_pass, passing_apart, Passes, passes_at, tally_all, count_tally}

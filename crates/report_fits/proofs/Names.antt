@@ -6,7 +6,7 @@ use Rattle.std.proofs.lemmas.List.Elements.{Contains-append_left, Contains-appen
 use Rattle.std.specs.List.{list_any}
 use Rattle.brpc_model.specs.Items.{Item, mentioned}
 use Rattle.brpc_model.specs.Places.{with_names, names}
-use Rattle.sock_programs.specs.Tasks.{name_number}
+use Rattle.seat_programs.specs.Tasks.{name_number}
 use Rattle.report_fits.proofs.Lists.{Has, has_from, contains_from, has_first, has_later, has_cases, has_none, some_is}
 
 -- ## The number of a name

@@ -4,7 +4,7 @@ use Rattle.std.proofs.lemmas.List.Sums.{sum_by-cons}
 use Rattle.std.specs.List.{cons_option}
 use Rattle.brpc_model.specs.Items.{Item, Slots, Requests, First, Open, Client, Sched, Tick, To, is_open, is_client, is_operation, opened_name}
 use Rattle.brpc_model.specs.Operations.{Operation, operations_from}
-use Rattle.sock_programs.specs.Tasks.{Numbered, numbered_from}
+use Rattle.seat_programs.specs.Tasks.{Numbered, numbered_from}
 use Rattle.report_fits.proofs.Lists.{Has, has_first, has_later, some_is}
 
 -- ## Links

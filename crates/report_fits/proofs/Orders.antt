@@ -8,27 +8,27 @@ use Rattle.sock_words.specs.Words.{no_place, HasPosition, IsPlaceWord}
 use Rattle.brpc_model.specs.Operations.{Label}
 use Rattle.brpc_model.specs.Report.{LinkLine}
 use Rattle.brpc_model.specs.PlaceWords.{word_at, word_of, StandsAt as Stands, IsOrder, is_placed, IsLineOf, ArePlaces}
-use Rattle.sock_programs.specs.sock_model.specs.Layout.{place_word}
-use Rattle.sock_programs.specs.sock_model.specs.Deliveries.{place_value}
-use Rattle.sock_programs.specs.Cores.{Core}
-use Rattle.sock_programs.specs.Runs.{from_to}
-use Rattle.sock_programs.specs.Scripts.{place_words}
-use Rattle.sock_programs.specs.ToldCalls.{Accepted, Order, AreOrders, StandsAt, label as number_of}
+use Rattle.seat_programs.specs.sock_model.specs.Layout.{place_index}
+use Rattle.seat_programs.specs.sock_model.specs.Deliveries.{place_value}
+use Rattle.seat_programs.specs.Cores.{Core}
+use Rattle.seat_programs.specs.Runs.{from_to}
+use Rattle.seat_programs.specs.Scripts.{place_words}
+use Rattle.seat_programs.specs.ToldCalls.{Accepted, Order, AreOrders, StandsAt, label as number_of}
 use Rattle.report_fits.proofs.Lists.{within, some_is}
 use Rattle.report_fits.proofs.Flat.{same_places, map_at, at_map, map_length, from_to_at, from_to_length, count_first}
 use Rattle.report_fits.proofs.PlaceValues.{is_place}
 
 -- ## The word of a number
 
-word_here : (p : Plan) (ws : List ℕ) (n : ℕ) → n < 8 * p.operations → word_at (place_words p ws) n ≡ slice_index ws (place_word p n)
+word_here : (p : Plan) (ws : List ℕ) (n : ℕ) → n < 8 * p.operations → word_at (place_words p ws) n ≡ slice_index ws (place_index p n)
 word_here p ws n low =
-    let f : ℕ → PlaceWord = λ l. record { 0 = slice_index ws (place_word p l) } in
+    let f : ℕ → PlaceWord = λ l. record { 0 = slice_index ws (place_index p l) } in
     let at : slice_get (map f (from_to 0 (8 * p.operations))) n ≡ Some (f n) = map_at f (from_to 0 (8 * p.operations)) n n (from_to_at 0 (8 * p.operations) n low ∙ ap Some (let same : 0 + n ≡ n = omega arith in same)) in
     ap (λ (o : Option PlaceWord). unwrap_or (option_map (λ (word : PlaceWord). word.0) o) no_place) at
 
 word_beyond : (p : Plan) (ws : List ℕ) (n : ℕ) → 8 * p.operations ≤ n → word_at (place_words p ws) n ≡ no_place
 word_beyond p ws n high =
-    let f : ℕ → PlaceWord = λ l. record { 0 = slice_index ws (place_word p l) } in
+    let f : ℕ → PlaceWord = λ l. record { 0 = slice_index ws (place_index p l) } in
     let long : length (map f (from_to 0 (8 * p.operations))) ≤ n = omega (arith, high, map_length f (from_to 0 (8 * p.operations)), from_to_length 0 (8 * p.operations)) in
     ap (λ (o : Option PlaceWord). unwrap_or (option_map (λ (word : PlaceWord). word.0) o) no_place) (slice_get_past (map f (from_to 0 (8 * p.operations))) n long)
 
@@ -80,7 +80,7 @@ module _ (p : Plan) (c : Core) (orders : ℕ → Order) (are : AreOrders p c ord
     | false ↦ λ t. let low : n < 8 * p.operations = grind (arith, nat_tests) in by_word low (are.alone n low)
   ] refl
     where
-      by_word : n < 8 * p.operations → (slice_index c.words (place_word p n) ≡ 0) ⊎ IsAccepted n → (word_at Words n ≡ no_place) ⊎ IsAccepted n
+      by_word : n < 8 * p.operations → (slice_index c.words (place_index p n) ≡ 0) ⊎ IsAccepted n → (word_at Words n ≡ no_place) ⊎ IsAccepted n
       by_word low (inl e) = inl (word_here p c.words n low ∙ e)
       by_word low (inr w) = inr w
 

@@ -2,7 +2,7 @@
 use Rattle.std.proofs.Common.{◌≡◌, ℕ, suc, ◌+◌, ◌*◌, ◌/◌, ◌^◌, ◌<◌, Bool, true, false, arith}
 use Rattle.std.proofs.lemmas.Bool.Decides.{nat_tests}
 use Rattle.sock_words.specs.Words.{IsPlaceWord}
-use Rattle.sock_programs.specs.sock_model.specs.Deliveries.{place_value}
+use Rattle.seat_programs.specs.sock_model.specs.Deliveries.{place_value}
 
 -- it tells this place
 pub is_place : (dropped : Bool) (k i : ℕ) → k < 65536 → i < 4294967295 → IsPlaceWord (place_value dropped k i) dropped k i

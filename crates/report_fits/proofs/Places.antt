@@ -11,10 +11,10 @@ use Rattle.brpc_model.specs.Report.{Report, report_text}
 use Rattle.brpc_model.specs.Run.{Lateness}
 use Rattle.brpc_model.specs.PlaceWords.{word_at, ArePlaces, HasEachOutcome}
 use Rattle.brpc_model.specs.Complete.{FitsWhole, IsUntroubled}
-use Rattle.sock_programs.specs.Cores.{Core}
-use Rattle.sock_programs.specs.Tasks.{plan_of}
-use Rattle.sock_programs.specs.Scripts.{all_tasks, place_words, Reports}
-use Rattle.sock_programs.specs.ToldCalls.{Fixed, Order, ToldCalls, StandsOn, label}
+use Rattle.seat_programs.specs.Cores.{Core}
+use Rattle.seat_programs.specs.Tasks.{plan_of}
+use Rattle.seat_programs.specs.Scripts.{all_tasks, place_words, Reports}
+use Rattle.seat_programs.specs.ToldCalls.{Fixed, Order, ToldCalls, StandsOn, label}
 use Rattle.report_fits.specs.Calm.{IsCalm}
 use Rattle.report_fits.specs.Ends.{AreEndsOf, AreTold}
 use Rattle.report_fits.proofs.Lists.{within, some_is}

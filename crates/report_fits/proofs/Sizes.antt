@@ -7,9 +7,9 @@ use Rattle.brpc_model.specs.Items.{Item, Slots, Requests, First, Client, is_clie
 use Rattle.brpc_model.specs.Operations.{operations_from, clients, link_names, size, slots_in, requests_in, first_in}
 use Rattle.brpc_model.specs.Places.{names}
 use Rattle.brpc_model.specs.Script.{script_of}
-use Rattle.sock_programs.specs.sock_model.specs.Lawful.{PlanFits}
-use Rattle.sock_programs.specs.Tasks.{plan_of}
-use Rattle.sock_programs.specs.Scripts.{all_tasks}
+use Rattle.seat_programs.specs.sock_model.specs.Lawful.{PlanFits}
+use Rattle.seat_programs.specs.Tasks.{plan_of}
+use Rattle.seat_programs.specs.Scripts.{all_tasks}
 use Rattle.report_fits.specs.Limits.{KeepsLimits}
 use Rattle.report_fits.proofs.Lists.{or_parts, all_at, filter_map_has}
 use Rattle.report_fits.proofs.Numbering.{behind_item, OpensOrNot, opens_or_not}

@@ -10,13 +10,13 @@ use Rattle.brpc_model.specs.Operations.{Operation, operations, clients, link_nam
 use Rattle.brpc_model.specs.Order.{EachBefore}
 use Rattle.brpc_model.specs.Places.{names}
 use Rattle.brpc_model.specs.Script.{script_of}
-use Rattle.sock_programs.specs.declared.task.Op.{Op}
-use Rattle.sock_programs.specs.declared.task.Op.TheVariants as ops
-use Rattle.sock_programs.specs.declared.task.Task.{Task}
-use Rattle.sock_programs.specs.sock_message.specs.Asked.{Asked}
-use Rattle.sock_programs.specs.Tasks.{Numbered, numbered, of_client, op_of, task_of, tasks, name_number, plan_of}
-use Rattle.sock_programs.specs.Scripts.{all_tasks}
-use Rattle.sock_programs.specs.Told.{AskedFits, OpFits, TaskFits, HaveOwnLinks, Differ, IsOpen, alternate, AreTasks}
+use Rattle.seat_programs.specs.declared.task.Op.{Op}
+use Rattle.seat_programs.specs.declared.task.Op.TheVariants as ops
+use Rattle.seat_programs.specs.declared.task.Task.{Task}
+use Rattle.seat_programs.specs.sock_message.specs.Asked.{Asked}
+use Rattle.seat_programs.specs.Tasks.{Numbered, numbered, of_client, op_of, task_of, tasks, name_number, plan_of}
+use Rattle.seat_programs.specs.Scripts.{all_tasks}
+use Rattle.seat_programs.specs.Told.{AskedFits, OpFits, TaskFits, HaveOwnLinks, Differ, IsOpen, alternate, AreTasks}
 use Rattle.report_fits.proofs.Lists.{Has, some_is, all_from, all_at, before_from, before_filter, before_filter_map, filter_short, filter_map_short}
 use Rattle.report_fits.proofs.Names.{number_at, number_within, mentioned_has}
 use Rattle.report_fits.proofs.Numbering.{link_at, is_numbered, are_from, link_later, numbered_length}

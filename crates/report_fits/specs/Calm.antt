@@ -9,7 +9,7 @@ use Rattle.brpc_model.specs.Frame.{Frame}
 use Rattle.brpc_model.specs.Reply.{reply}
 use Rattle.brpc_model.specs.Messages.{request_frame}
 use Rattle.brpc_model.specs.Complete.{IsServed, Gives}
-use Rattle.sock_programs.specs.ToldCalls.{Fixed}
+use Rattle.seat_programs.specs.ToldCalls.{Fixed}
 
 -- the call with this outcome was answered by the reply to its own request
 abbrev pub HasReply : CallLine → Outcome → Type 0

@@ -6,10 +6,10 @@ use Rattle.brpc_model.specs.Operations.{link_names}
 use Rattle.brpc_model.specs.Link.{LinkEnd}
 use Rattle.brpc_model.specs.PlaceWords.{took_at}
 use Rattle.brpc_model.specs.Causes.{HasFault, reading_limit}
-use Rattle.sock_programs.specs.Cores.{Core}
-use Rattle.sock_programs.specs.Tasks.{plan_of}
-use Rattle.sock_programs.specs.Scripts.{took_at_home}
-use Rattle.sock_programs.specs.ToldCalls.{Fixed}
+use Rattle.seat_programs.specs.Cores.{Core}
+use Rattle.seat_programs.specs.Tasks.{plan_of}
+use Rattle.seat_programs.specs.Scripts.{took_at_home}
+use Rattle.seat_programs.specs.ToldCalls.{Fixed}
 
 -- link k, as a run that ended in this core gave it back: as far as it tells, it took what lies at its home, and gave nothing;
 -- where it answered that it failed, its count of faults shows it

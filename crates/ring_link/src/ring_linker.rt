@@ -98,7 +98,7 @@ impl<R: AllocGlobal + Drop> Linker for RingLinker<R> {
 
     ghost faults = { λ _. 0 };
 
-    ghost prompt = { λ _. false };
+    ghost always_ready = { λ _. false };
 
     fn open(&mut self, spec: &LinkSpec) -> Result<Link, OpenFault>
         requires piece { 0 < spec.now.piece }

@@ -14,8 +14,8 @@ use Rattle.sock_model.specs.declared.view.View.{View}
 use Rattle.sock_model.specs.Weights.{total, only, pair, is_ref, is_hold}
 use Rattle.sock_model.specs.Marks.{about}
 use Rattle.sock_model.specs.SlotRows.{marks_of, met}
-use Rattle.write_chain.specs.slot_laws.proofs.Sums.{total_mono, total-append}
-use Rattle.write_chain.specs.slot_laws.proofs.Numbers.{only-at, only-else, only_le, pair_only, pair-same}
+use Rattle.write_chain.specs.slot_steps.proofs.Sums.{total_mono, total-append}
+use Rattle.write_chain.specs.slot_steps.proofs.Numbers.{only-at, only-else, only_le, pair_only, pair-same}
 use Rattle.std.proofs.lemmas.Bool.Decides.{nat_tests}
 use Rattle.sock_rule.specs.Becoming.{Became}
 use Rattle.sock_rule.proofs.Becoming.{adds_mark}

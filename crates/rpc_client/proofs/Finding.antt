@@ -7,7 +7,7 @@ use Rattle.sock_rule.specs.Seated.{IsSeat}
 use Rattle.sock_table.specs.Refs.{IsBetween, SameTokens, GaveBack}
 use Rattle.sock_model.specs.Weights.{is_ref}
 use Rattle.sock_model.specs.SlotRows.{marks_of}
-use Rattle.write_chain.specs.slot_laws.proofs.Numbers.{only-same, pair-same}
+use Rattle.write_chain.specs.slot_steps.proofs.Numbers.{only-same, pair-same}
 use Rattle.std.proofs.Common.{◌≡◌, ℕ, suc, ◌<◌, Bool, List, ◌∷◌, Some, refl, sym, ap, ◌∙◌, subst, arith}
 use lib.ListN.{get_elem?}
 use Rattle.sock_words.specs.declared.plain.Plan.{Plan}
@@ -15,7 +15,7 @@ use Rattle.sock_words.specs.declared.socket_id.SocketId.{SocketId}
 use Rattle.sock_words.specs.Words.{socket_id_slot, socket_id_version}
 use Rattle.sock_model.specs.declared.marks.Mark.{Mark}
 use Rattle.sock_model.specs.declared.view.View.{View}
-use Rattle.sock_model.specs.Layout.{name_word}
+use Rattle.sock_model.specs.Layout.{name_index}
 use Rattle.sock_rule.specs.Becoming.{Became}
 use Rattle.sock_table.specs.declared.refs.SockRef.{SockRef}
 use Rattle.sock_table.specs.Answers.{Held, Holds, GoneFrom, NoneLater}
@@ -49,13 +49,13 @@ module _ (p : Plan) (n : ℕ) (id : SocketId) (v u w : View) (f : Found p n (Som
   is_here sock a none_ = subst (λ (y : SocketId). (x : View) × Found p n (Some y) v x × Held y.0 x w × NoneLater y.0 x) (sym a.0) (u, f, a.1, none_)
 
   pub here_refs : (sock : SockRef) → (sock.id ≡ id) × Held id.0 u w → OneMore sock.id.0 v w
-  here_refs sock a = subst (λ (y : SocketId). OneMore y.0 v w) (sym a.0) (more_then id.0 v u w (finds_refs (name_word p n) id.0 v u f.1) (one_more id.0 u w a.1))
+  here_refs sock a = subst (λ (y : SocketId). OneMore y.0 v w) (sym a.0) (more_then id.0 v u w (finds_refs (name_index p n) id.0 v u f.1) (one_more id.0 u w a.1))
 
   pub here_seen : (sock : SockRef) → (sock.id ≡ id) × Held id.0 u w → StaysSeen v w
-  here_seen sock a = seen_then v u w (seen_found (name_word p n) id.0 v u f.1) (seen_became (socket_id_slot id.0) u w _ _ a.1)
+  here_seen sock a = seen_then v u w (seen_found (name_index p n) id.0 v u f.1) (seen_became (socket_id_slot id.0) u w _ _ a.1)
 
   pub gone_seen : (found : ℕ) → GoneFrom id.0 found u w → StaysSeen v w
-  gone_seen found g = seen_then v u w (seen_found (name_word p n) id.0 v u f.1) (seen_became (socket_id_slot id.0) u w _ _ g.became)
+  gone_seen found g = seen_then v u w (seen_found (name_index p n) id.0 v u f.1) (seen_became (socket_id_slot id.0) u w _ _ g.became)
 
 -- ## A seat between two operations
 

@@ -7,7 +7,7 @@ use Rattle.sock_words.specs.declared.outcome.Outcome.TheVariants.{Opened, SlotsF
 use Rattle.sock_words.specs.declared.socket_id.SocketId.{SocketId}
 use Rattle.sock_words.specs.Words.{socket_id_version, socket_id_slot}
 use Rattle.sock_model.specs.declared.view.View.{View}
-use Rattle.sock_model.specs.Layout.{name_word}
+use Rattle.sock_model.specs.Layout.{name_index}
 use Rattle.sock_rule.specs.Rows.{PutAt}
 use Rattle.sock_table.specs.Refs.{SameNotes}
 use Rattle.sock_table.specs.Passes.{Created, TriedTo}
@@ -27,7 +27,7 @@ pub record GotOne {S : Type 0} (p : Plan) (name operation link : ℕ) (id : Sock
   pub created : Created id.0 link m.0 made.0
   pub told : Me S View
   pub noted : NotedBy p operation (Some id) made told
-  pub published : PutAt (name_word p name) (id.0 + 1) told n
+  pub published : PutAt (name_index p name) (id.0 + 1) told n
 
 -- each slot's tag was found taken
 pub record FoundFull {S : Type 0} (p : Plan) (operation : ℕ) (m n : Me S View) : Type 0 where

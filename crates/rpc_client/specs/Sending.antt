@@ -11,7 +11,7 @@ use Rattle.sock_model.specs.declared.marks.Mark.{Mark}
 use Rattle.sock_model.specs.declared.marks.Mark.TheVariants.{Hold, Saw}
 use Rattle.sock_model.specs.declared.view.View.{View}
 use Rattle.sock_model.specs.declared.view.StoredWord.{StoredWord}
-use Rattle.sock_model.specs.Layout.{place_word}
+use Rattle.sock_model.specs.Layout.{place_index}
 use Rattle.sock_model.specs.Deliveries.{place_value}
 use Rattle.sock_model.specs.Marks as marks
 use Rattle.write_chain.specs.message_parts.specs.Parcels.{parcel_of}
@@ -40,7 +40,7 @@ pub record IsDrop (p : Plan) (id : ℕ) (w : View) (n : StoredWord) : Type 0 whe
   pub place : ℕ
   pub link : ℕ
   pub position : ℕ
-  pub word_is : n ≡ record { place = place_word p place; word = place_value true link position }
+  pub word_is : n ≡ record { place = place_index p place; word = place_value true link position }
   pub met : Met_by id w link
 
 -- a seat wrote the link of the life of this id until the head was empty. It noted what it dropped; its right is gone, and all else is as it was, but for notes

@@ -11,7 +11,7 @@ use Rattle.sock_model.specs.declared.marks.Mark.TheVariants.{Hold}
 use Rattle.sock_model.specs.declared.view.View.{View}
 use Rattle.sock_model.specs.Weights.{is_ref}
 use Rattle.sock_model.specs.SlotRows.{marks_of}
-use Rattle.sock_model.specs.Layout.{open_word}
+use Rattle.sock_model.specs.Layout.{open_index}
 use Rattle.sock_table.specs.Refs.{GaveBack, Knows, MayAddress}
 use Rattle.sock_table.specs.Answers.{Held, Holds, NoneLater}
 use Rattle.sock_table.specs.Closed.{IsDoneSeat}
@@ -25,12 +25,12 @@ use Rattle.rpc_reader.specs.Failing.{OpenedBy, FailedBy}
 
 module _ (p : Plan) (o : ℕ) (v w : View) where
   pub opened_refs : (r : Option SocketId) → OpenedBy p o r v w → SameRefs v w
-  opened_refs (Some id) h = finds_refs (open_word p o) id.0 v w h.1
+  opened_refs (Some id) h = finds_refs (open_index p o) id.0 v w h.1
   opened_refs None h = refs_none v w (ap (λ (y : View). y.marks) h.view)
 
   pub opened_seen : (r : Option SocketId) → OpenedBy p o r v w → StaysSeen v w
-  opened_seen (Some id) h = seen_found (open_word p o) id.0 v w h.1
-  opened_seen None h = seen_more (open_word p o) v w (ap (λ (y : View). y.found) h.view)
+  opened_seen (Some id) h = seen_found (open_index p o) id.0 v w h.1
+  opened_seen None h = seen_more (open_index p o) v w (ap (λ (y : View). y.found) h.view)
 
 module _ {S : Type 0} (z : TableId) (p : Plan) where
   -- a seat without references that rests is done

@@ -9,7 +9,7 @@ use Rattle.sock_words.specs.declared.outcome.Outcome.TheVariants.{CallFailed}
 use Rattle.corr_core.specs.Word.{Parts, parts}
 use Rattle.corr_core.specs.declared.marks.Plan.{Plan}
 use Rattle.corr_core.specs.declared.marks.View.{View}
-use Rattle.id_rule.specs.Lawful.{at_word, with_kept}
+use Rattle.id_rule.specs.Lawful.{at_index, with_kept}
 use Rattle.corr_id.specs.declared.posts.Posted.{Posted}
 use Rattle.corr_id.specs.declared.posts.Posted.TheVariants as posted
 use Rattle.corr_id.specs.Posts.{PostOk}
@@ -55,7 +55,7 @@ PostedIf false slots code w b b' = b' ≡ b
 -- what the at word of the call of this operation led to
 abbrev pub PostedAt : Plan → ℕ → ℕ → ℕ → Option AtWord → Books → Books → Type 0
 PostedAt p link code operation None b b' = b' ≡ b
-PostedAt p link code operation (Some w) b b' = PostedIf (at_word_link w.0 == link) p.slots code w.0 (record b { view = with_kept (at_word p operation) false w.0 b.view }) b'
+PostedAt p link code operation (Some w) b b' = PostedIf (at_word_link w.0 == link) p.slots code w.0 (record b { view = with_kept (at_index p operation) false w.0 b.view }) b'
 
 abbrev pub PostedOne : Plan → ℕ → ℕ → ℕ → Books → Books → Type 0
 PostedOne p link code operation b b' = (found : Option AtWord) × PostedAt p link code operation found b b'

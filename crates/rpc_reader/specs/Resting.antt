@@ -4,7 +4,7 @@ use Rattle.corr_core.specs.Law.{total, is_made}
 use Rattle.corr_core.specs.Word.{Parts, parts}
 use Rattle.corr_core.specs.declared.marks.Plan.{Plan}
 use Rattle.corr_core.specs.declared.marks.View.{View}
-use Rattle.id_rule.specs.Lawful.{call_word, notes_of, with_kept}
+use Rattle.id_rule.specs.Lawful.{call_index, notes_of, with_kept}
 use Rattle.corr_id.specs.Calls.{slot_of, version_of, GotLock, Quiet, Found, OutOf}
 use Rattle.corr_id.specs.Ruled.{is_place}
 use Rattle.sock_message.specs.Asked.{Asked}
@@ -13,7 +13,7 @@ use Rattle.rpc_reader.specs.Posting.{LockLost}
 
 -- the operation's word was 0, and the seat knew of no id there
 pub record NoneNoted (p : Plan) (operation : ℕ) (b b' : Books) : Type 0 where
-  pub unknown : total (is_place (call_word p operation)) b.view.kept ≡ 0
+  pub unknown : total (is_place (call_index p operation)) b.view.kept ≡ 0
   pub view : b'.view ≡ b.view
   pub same : b' ≡ record b { view = b'.view }
 
@@ -44,7 +44,7 @@ pub record NotedEnds (p : Plan) (code operation : ℕ) (b b' : Books) : Type 0 w
   pub id : ℕ
   pub some : id ≢ 0
   pub seen : View Asked
-  pub kept : seen ≡ with_kept (call_word p operation) false id b.view
+  pub kept : seen ≡ with_kept (call_index p operation) false id b.view
   pub ends : HadEnded p.slots id (record b { view = seen }) b' ⊎ EndedLast p.slots code id (record b { view = seen }) b'
 
 abbrev pub OneEnded : Plan → ℕ → ℕ → Books → Books → Type 0

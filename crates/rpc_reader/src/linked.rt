@@ -65,7 +65,7 @@ fn read_served<L: Linker, R: Wait>(
     ensures accepted { L.accepted links.new ≡ L.accepted links.old }
     ensures back { L.back links.new ≡ L.back links.old }
     ensures done { L.done links.new ≡ L.done links.old }
-    ensures prompt { L.prompt links.new ≡ L.prompt links.old }
+    ensures always_ready { L.always_ready links.new ≡ L.always_ready links.old }
     ensures faults { L.faults links.new ≡ L.faults links.old }
 {
     match links.settle(ends) {
@@ -95,7 +95,7 @@ pub fn read_links<L: Linker, R: Wait>(
     ensures accepted { L.accepted links.new ≡ L.accepted links.old }
     ensures back { L.back links.new ≡ L.back links.old }
     ensures done { L.done links.new ≡ L.done links.old }
-    ensures prompt { L.prompt links.new ≡ L.prompt links.old }
+    ensures always_ready { L.always_ready links.new ≡ L.always_ready links.old }
     ensures faults { L.faults links.new ≡ L.faults links.old }
 {
     let mut lacks = false;

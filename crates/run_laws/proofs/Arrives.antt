@@ -8,7 +8,7 @@ use native.Mathlib.Decide.{ℕ_discrete}
 use lib.ListN.{get_elem?}
 use Rattle.atomic_table.proofs.Lists.{at_set, set_here}
 use Rattle.atomic_table.specs.Table.{State}
-use Rattle.chain_laws.proofs.Lists.{at_length}
+use Rattle.chain_steps.proofs.Lists.{at_length}
 use Rattle.sock_words.specs.declared.plain.Plan.{Plan}
 use Rattle.sock_words.specs.Words.{socket_id_version, socket_id_slot, vref_version}
 use Rattle.sock_io.specs.declared.link.Put.{Put}
@@ -23,19 +23,19 @@ use Rattle.sock_model.specs.Weights.{is_busy, is_hold, is_failer, is_linked}
 use Rattle.sock_model.specs.Links.{HoldsLink, Failed}
 use Rattle.sock_model.specs.References.{slot_facts}
 use Rattle.sock_model.specs.Slots.{count}
-use Rattle.slot_laws.proofs.Numbers.{live_le}
+use Rattle.slot_steps.proofs.Numbers.{live_le}
 use Rattle.sock_steps.proofs.Places.{own_count}
-use Rattle.sock_programs.specs.Calls.{Call, SetOdd, LookWord, LoadCode}
-use Rattle.sock_programs.specs.Writings.{Puts, Waits, Empties, Walks}
-use Rattle.sock_programs.specs.Programs.{Program, Do, Say, Sent, Rest, TakeMessage, TakeHome, PutHome, PutBytes, AskReady, Write, Aside, Round, Keep, Retries}
+use Rattle.seat_programs.specs.Calls.{Call, SetOdd, LookWord, LoadCode}
+use Rattle.seat_programs.specs.Writings.{Puts, Waits, Empties, Walks}
+use Rattle.seat_programs.specs.Programs.{Program, Do, Say, Sent, Rest, TakeMessage, TakeHome, PutHome, PutBytes, AskReady, Write, Aside, Round, Keep, Retries}
 use Rattle.corr_core.specs.Word.{parts, code_of}
-use Rattle.sock_programs.specs.Asides.{PutCall, id_slot}
-use Rattle.sock_programs.specs.Heads.{HasEnded, Posts, Unlocks, Decides, Locks, Joins, Opens, Reads, Discards}
-use Rattle.sock_programs.specs.Posts.{ends_call, end_id, unlocked}
-use Rattle.sock_programs.specs.Beside.{calls_after}
+use Rattle.seat_programs.specs.Asides.{PutCall, id_slot}
+use Rattle.seat_programs.specs.Heads.{HasEnded, Posts, Unlocks, Decides, Locks, Joins, Opens, Reads, Discards}
+use Rattle.seat_programs.specs.Posts.{ends_call, end_id, unlocked}
+use Rattle.seat_programs.specs.Beside.{calls_after}
 use Rattle.std.specs.Prelude.{if◌then◌else◌, Bool, true, false, ◌+◌, Some, None}
-use Rattle.sock_programs.specs.Cores.{Calls, Core, SeatState, resolved, waiting_at, word_of, word_after, words_after, homes_after, hand_after, found_at, next_step, with_seat, stepped, lies_at, first_of, others_of, link_place}
-use Rattle.sock_programs.specs.Ticks.{Moment, fed, with_places, onto_first, ticked}
+use Rattle.seat_programs.specs.Cores.{Calls, Core, SeatState, resolved, waiting_at, word_of, word_after, words_after, homes_after, hand_after, found_at, next_step, with_seat, stepped, lies_at, first_of, others_of, link_place}
+use Rattle.seat_programs.specs.Ticks.{Moment, fed, with_places, onto_first, ticked}
 use Rattle.sock_runs.specs.Rows.{row, hand_at, took_message, link_away, link_home_again, took_bytes}
 use Rattle.sock_runs.specs.May.{May}
 use Rattle.sock_runs.specs.GoesOn.{GoesOn}
@@ -43,7 +43,7 @@ use Rattle.sock_runs.specs.Sound.{Sound, first_step, state, views_after}
 use Rattle.sock_runs.proofs.Cases.{with_rights, right_rights, put_rights}
 use Rattle.sock_runs.proofs.Ticks.{sound_ticks}
 use Rattle.sock_model.specs.ChainRows.{taken_right}
-use Rattle.sock_causes.proofs.Added.{failer_note, linked_note, row_adds}
+use Rattle.outcome_causes.proofs.Added.{failer_note, linked_note, row_adds}
 use Rattle.run_laws.specs.World.{Event, Stop, stopped_after}
 use Rattle.run_laws.specs.Seen.{event_at}
 use Rattle.run_laws.specs.Late.{next_at, PutsInto, LooksLive, Looks, FailsSocket}

@@ -11,23 +11,23 @@ use Rattle.sock_model.specs.declared.chain.Entry.{Entry}
 use Rattle.sock_model.specs.declared.home.Home.{Home}
 use Rattle.sock_model.specs.declared.marks.Mark.{Mark}
 use Rattle.sock_model.specs.declared.view.View.{View}
-use Rattle.sock_model.specs.Layout.{request_word}
+use Rattle.sock_model.specs.Layout.{request_index}
 use Rattle.sock_model.specs.Marks.{about}
 use Rattle.sock_model.specs.Reads.{rights_on, link_home, took_of}
 use Rattle.sock_model.specs.Seats.{newcomer}
 use Rattle.sock_model.specs.SlotRows.{marks_of}
 use Rattle.sock_model.specs.Weights.{total, is_born, is_failer, is_freer, is_hold, is_linked}
-use Rattle.sock_programs.specs.declared.task.Task.{Task}
-use Rattle.sock_programs.specs.declared.task.Sizes.{Sizes}
+use Rattle.seat_programs.specs.declared.task.Task.{Task}
+use Rattle.seat_programs.specs.declared.task.Sizes.{Sizes}
 use Rattle.corr_core.specs.declared.marks.Plan.{Plan as IdPlan}
-use Rattle.sock_programs.specs.Programs.{Program, Rest}
-use Rattle.sock_programs.specs.Cores.{Core, SeatState, resolved, next_step}
-use Rattle.sock_programs.specs.Scripts.{beginning, programs, readers_from, all_programs, opening_homes}
+use Rattle.seat_programs.specs.Programs.{Program, Rest}
+use Rattle.seat_programs.specs.Cores.{Core, SeatState, resolved, next_step}
+use Rattle.seat_programs.specs.Scripts.{beginning, programs, readers_from, all_programs, opening_homes}
 use Rattle.sock_runs.specs.Sound.{Sound}
 use Rattle.sock_runs.proofs.Opening.{mapped}
-use Rattle.client_laws.specs.Openings.{client_view, opening_views}
-use Rattle.client_laws.proofs.Beginning.{beyond, at_home}
-use Rattle.message_laws.specs.Standing.{Stand, accepted_by, hands_on, by_rights, by_home, stand}
+use Rattle.programs_allowed.specs.Openings.{client_view, opening_views}
+use Rattle.programs_allowed.proofs.Beginning.{beyond, at_home}
+use Rattle.message_events.specs.Standing.{Stand, accepted_by, hands_on, by_rights, by_home, stand}
 use Rattle.run_laws.specs.World.{IsNew}
 use Rattle.run_laws.specs.Seen.{none_stopped, world_of}
 use Rattle.run_laws.proofs.Modes.{Unknown, Guarded, client_guarded, reader_guarded, come_guarded}
@@ -133,7 +133,7 @@ module _ (p : Plan) (q : IdPlan) (qs : List Program) (clients : List (List Task)
     accepted = gathers_none accepted_by views bare accepts_none;
     placed = λ k inside. ap (λ (s : Stand). s.placed) (rests_at k inside);
     took = λ k inside. ap (λ (s : Stand). s.took) (rests_at k inside);
-    request = λ r inside. beyond p (request_word p r) (omega arith);
+    request = λ r inside. beyond p (request_index p r) (omega arith);
     stopped = λ k. refl;
   }
 

@@ -1,9 +1,9 @@
 -- A link that answers that it failed is stopped, and its seat is at no put then.
 use Rattle.std.proofs.Common.{◌≡◌, ℕ, zero, suc, ◌⊎◌, inl, inr, ⊎_elim, Bool, true, false, cond, eq-eqb, List, [], ◌∷◌, refl, sym, ap, ◌∙◌, subst, arith}
 use Rattle.corr_core.specs.Word.{parts, code_of}
-use Rattle.sock_programs.specs.Asides.{PutCall, id_slot}
-use Rattle.sock_programs.specs.Heads.{HasEnded, Posts, Unlocks, Decides, Locks, Joins, Opens, Reads, Discards}
-use Rattle.sock_programs.specs.Posts.{ends_call, end_id, unlocked}
+use Rattle.seat_programs.specs.Asides.{PutCall, id_slot}
+use Rattle.seat_programs.specs.Heads.{HasEnded, Posts, Unlocks, Decides, Locks, Joins, Opens, Reads, Discards}
+use Rattle.seat_programs.specs.Posts.{ends_call, end_id, unlocked}
 use Rattle.std.specs.Prelude.{Contains, if◌then◌else◌, ◌+◌, Some, None}
 use mathlib.Core.Option.{Option, none, some}
 use lib.ListN.{get_elem?}
@@ -14,12 +14,12 @@ use Rattle.sock_io.specs.declared.link.Ready.{Ready}
 use Rattle.sock_io.specs.declared.link.Ready.TheVariants as asks
 use Rattle.sock_model.specs.declared.chain.Right.{Right}
 use Rattle.sock_model.specs.declared.view.View.{View}
-use Rattle.chain_laws.proofs.Lists.{at_length, at_some}
-use Rattle.sock_programs.specs.Calls.{Call, SetOdd}
-use Rattle.sock_programs.specs.Writings.{Puts, Waits, Empties, Walks}
-use Rattle.sock_programs.specs.Programs.{Program, Do, Say, Sent, Rest, TakeMessage, TakeHome, PutHome, PutBytes, AskReady, Write, Aside, Round, Keep, Retries}
-use Rattle.sock_programs.specs.Cores.{Core, SeatState}
-use Rattle.sock_programs.specs.Ticks.{OfPut, OfReady, Moment, ticked, asked_link, is_refusal, broken_at}
+use Rattle.chain_steps.proofs.Lists.{at_length, at_some}
+use Rattle.seat_programs.specs.Calls.{Call, SetOdd}
+use Rattle.seat_programs.specs.Writings.{Puts, Waits, Empties, Walks}
+use Rattle.seat_programs.specs.Programs.{Program, Do, Say, Sent, Rest, TakeMessage, TakeHome, PutHome, PutBytes, AskReady, Write, Aside, Round, Keep, Retries}
+use Rattle.seat_programs.specs.Cores.{Core, SeatState}
+use Rattle.seat_programs.specs.Ticks.{OfPut, OfReady, Moment, ticked, asked_link, is_refusal, broken_at}
 use Rattle.sock_runs.specs.Sound.{first_step, state, views_after}
 use Rattle.sock_runs.specs.GoesOn.{GoesOn}
 use Rattle.run_laws.specs.World.{Stop, stopped_after}

@@ -10,17 +10,17 @@ use Rattle.sock_model.specs.declared.home.Home.{Home}
 use Rattle.sock_model.specs.declared.view.View.{View}
 use Rattle.sock_model.specs.Messages.{Letter}
 use Rattle.sock_model.specs.Reads.{message, link_home}
-use Rattle.sock_programs.specs.Calls.{Call}
-use Rattle.sock_programs.specs.Writings.{Puts, Waits, Empties, Walks}
+use Rattle.seat_programs.specs.Calls.{Call}
+use Rattle.seat_programs.specs.Writings.{Puts, Waits, Empties, Walks}
 use Rattle.std.specs.Prelude.{true, false, if◌then◌else◌, ◌+◌, None, Some}
-use Rattle.sock_programs.specs.Programs.{Program, Do, Say, Sent, Rest, TakeMessage, TakeHome, PutHome, PutBytes, AskReady, Write, Aside, Round, Keep, Retries}
+use Rattle.seat_programs.specs.Programs.{Program, Do, Say, Sent, Rest, TakeMessage, TakeHome, PutHome, PutBytes, AskReady, Write, Aside, Round, Keep, Retries}
 use Rattle.corr_core.specs.Word.{parts, code_of}
-use Rattle.sock_programs.specs.Asides.{Step, Found, PutCall, id_slot}
-use Rattle.sock_programs.specs.Heads.{HasEnded, Posts, Unlocks, Decides, Locks, Joins, Opens, Reads, Discards}
-use Rattle.sock_programs.specs.Posts.{ends_call, end_id, unlocked}
-use Rattle.sock_programs.specs.Beside.{found_in, calls_after}
-use Rattle.sock_programs.specs.Cores.{Core, SeatState, word_of, found_at, lies_at, first_of, others_of, link_place, with_seat, stepped}
-use Rattle.sock_programs.specs.Ticks.{Answer, OfPut, OfReady, Moment, FitsPut, IsAnswer, IsAnswered, fed, with_places, onto_first, with_message, with_link, taken, with_found, step_with, tick_with, ticked}
+use Rattle.seat_programs.specs.Asides.{Step, Found, PutCall, id_slot}
+use Rattle.seat_programs.specs.Heads.{HasEnded, Posts, Unlocks, Decides, Locks, Joins, Opens, Reads, Discards}
+use Rattle.seat_programs.specs.Posts.{ends_call, end_id, unlocked}
+use Rattle.seat_programs.specs.Beside.{found_in, calls_after}
+use Rattle.seat_programs.specs.Cores.{Core, SeatState, word_of, found_at, lies_at, first_of, others_of, link_place, with_seat, stepped}
+use Rattle.seat_programs.specs.Ticks.{Answer, OfPut, OfReady, Moment, FitsPut, IsAnswer, IsAnswered, fed, with_places, onto_first, with_message, with_link, taken, with_found, step_with, tick_with, ticked}
 use Rattle.sock_runs.specs.Rows.{row, hand_at, took_message, link_away, link_home_again, took_bytes}
 use Rattle.sock_runs.specs.GoesOn.{GoesOn}
 use Rattle.sock_runs.specs.Sound.{Sound, first_step, views_with_message, views_with_link, views_with, views_of, views_after}

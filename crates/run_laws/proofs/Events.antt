@@ -25,30 +25,30 @@ use Rattle.sock_model.specs.Plain as lives
 use Rattle.sock_model.specs.References.{slot_facts}
 use Rattle.sock_model.specs.Slots.{count}
 use Rattle.sock_model.specs.SlotRows.{marks_of}
-use Rattle.slot_laws.proofs.Sums.{total-set}
+use Rattle.slot_steps.proofs.Sums.{total-set}
 use Rattle.sock_steps.proofs.Places.{holder_lives, claimed_unborn, own_count}
-use Rattle.sock_programs.specs.Calls.{Call, GiveBirth, ClaimSlot, AddRef, SubRef, SetOdd, Recycle, LookWord, ClaimRequest, SwapHead, StorePlace, DropPlace}
-use Rattle.sock_programs.specs.Programs.{Program, Do, PutBytes, AskReady}
-use Rattle.sock_programs.specs.Cores.{Core, SeatState, word_of, found_at, with_seat, stepped, lies_at, first_of, others_of, link_place}
-use Rattle.sock_programs.specs.Ticks.{OfPut, OfReady, Moment, FitsPut, fed, with_places, onto_first, ticked, asked_link, is_refusal, broken_at}
+use Rattle.seat_programs.specs.Calls.{Call, CreateLife, ClaimSlot, AddRef, SubRef, SetOdd, Recycle, LookWord, ClaimRequest, SwapHead, StorePlace, DropPlace}
+use Rattle.seat_programs.specs.Programs.{Program, Do, PutBytes, AskReady}
+use Rattle.seat_programs.specs.Cores.{Core, SeatState, word_of, found_at, with_seat, stepped, lies_at, first_of, others_of, link_place}
+use Rattle.seat_programs.specs.Ticks.{OfPut, OfReady, Moment, FitsPut, fed, with_places, onto_first, ticked, asked_link, is_refusal, broken_at}
 use Rattle.sock_runs.specs.Rows.{row, hand_at, took_message, link_away, link_home_again, took_bytes}
 use Rattle.sock_runs.specs.May.{May, even_version}
 use Rattle.sock_runs.specs.Writes.{MayPut}
 use Rattle.sock_runs.specs.Sound.{first_step, state, views_after}
 use Rattle.sock_runs.proofs.Cases.{with_rights, right_rights, put_rights}
-use Rattle.sock_causes.specs.Stories.{adds}
-use Rattle.sock_causes.proofs.Added.{linked_note, row_adds}
-use Rattle.plain_laws.specs.Events.{life_of}
-use Rattle.plain_laws.specs.Events as lives_seen
-use Rattle.plain_laws.proofs.Each.{each_step}
-use Rattle.plain_laws.proofs.Histories.{given_unheld}
-use Rattle.plain_laws.proofs.Laws.{counted, plain_law}
-use Rattle.plain_laws.proofs.Readings.{own_holds}
-use Rattle.plain_laws.proofs.Steps.{marks_event}
-use Rattle.message_laws.specs.Events as messages_seen
-use Rattle.message_laws.specs.Messages as messages
-use Rattle.message_laws.specs.Standing as standing
-use Rattle.message_laws.proofs.Each.{no_event, each_call, takes_letter, goes_away, comes_home, takes_bytes}
+use Rattle.outcome_causes.specs.Stories.{adds}
+use Rattle.outcome_causes.proofs.Added.{linked_note, row_adds}
+use Rattle.life_events.specs.Events.{life_of}
+use Rattle.life_events.specs.Events as lives_seen
+use Rattle.life_events.proofs.Each.{each_step}
+use Rattle.life_events.proofs.Histories.{given_unheld}
+use Rattle.life_events.proofs.Laws.{counted, plain_law}
+use Rattle.life_events.proofs.Readings.{own_holds}
+use Rattle.life_events.proofs.Steps.{marks_event}
+use Rattle.message_events.specs.Events as messages_seen
+use Rattle.message_events.specs.Messages as messages
+use Rattle.message_events.specs.Standing as standing
+use Rattle.message_events.proofs.Each.{no_event, each_call, takes_letter, goes_away, comes_home, takes_bytes}
 use Rattle.run_laws.specs.World.{World, Event, Nothing, Birth, Hold, Drop, Fail, End, Accept, Take, Stop, Place, Dropped, Free, of_lives, of_messages, IsCutOff, NeedsBoth, links_after, stopped_after, Becomes}
 use Rattle.run_laws.specs.World as world
 use Rattle.run_laws.specs.Seen.{accept_event, stop_event, step_event, put_event, ready_event, event_at, links_of, world_of}
@@ -153,7 +153,7 @@ unfolding pair
 pair_swap h k w b i j = grind (arith, nat_tests)
 
 step_links : (i : ℕ) (call : Call) (found : ℕ) (v : View) (links : world.Links) (l : Life) (k : ℕ) → links_after (step_event i call found v) links l k ≡ links l k + adds (is_linked l.version k) l.slot call found
-step_links i (GiveBirth j b) found v links l k = ap (λ n. links l k + n) (sym (pair_swap l.version k (vref_version found) b j l.slot))
+step_links i (CreateLife j b) found v links l k = ap (λ n. links l k + n) (sym (pair_swap l.version k (vref_version found) b j l.slot))
 step_links i (ClaimSlot j) found v links l k = let z = ap (λ n. cond (eqb j l.slot) n 0) (zero_if (eqb found 0)) in let y = zero_if (eqb j l.slot) in omega arith
 step_links i (AddRef id) found v links l k = let e = ap (λ (x : world.Links). x l k) (links_if links (eqb (vref_version found) (socket_id_version id)) (Hold (life_of id) i) Nothing refl refl) in omega arith
 step_links i (SubRef j) found v links l k = let e = ap (λ (x : world.Links). x l k) (links_if links (nat_lt 0 (marks_of is_probe j v)) Nothing (Drop (life_at j (even_version found)) i) refl refl) in omega arith
@@ -230,7 +230,7 @@ module _ (p : Plan) (c : Core) (views : List View) (stopped : ℕ → Bool) (m :
       omega (arith, some_, own_holds views m.seat v here (life_at j x.life)),
     )
 
-    link_unborn : (j k : ℕ) → May p v (GiveBirth j k) → (l : Life) → l.slot < p.slots → links_of views l k ≡ 0
+    link_unborn : (j k : ℕ) → May p v (CreateLife j k) → (l : Life) → l.slot < p.slots → links_of views l k ≡ 0
     link_unborn j k may l inside = dite (ℕ_discrete (links_of views l k) 0) (λ z. z)
         (λ n. let mine = may.1 in absurd (claimed_unborn p (state c views) kept.sound.lawful.references j 2 k (omega (arith, mine, own_count (state c views) m.seat v here (is_stage 3 k) j)) l.slot l.version
         (record { inside = inside; given = omega (arith, n, counted (state c views) (is_linked l.version k) l.slot) })))
@@ -248,7 +248,7 @@ module _ (p : Plan) (c : Core) (views : List View) (stopped : ℕ → Bool) (m :
 
     step_both : (call : Call) (next : ℕ → Program) → first_step seat.program ≡ Do call next → May p v call → lives.MayCome (plain views) (lives_seen.event_of m.seat call (found call) v)
         → messages.MayCome (standing.messages p c views) (messages_seen.event_of call (found call) v) → Both call
-    step_both (GiveBirth j k) next is may b q = (link_unborn j k may, given_unheld p.slots (plain views) (plain_law (λ (home : Home). home) p (state c views) kept.sound.lawful) (life_at j (vref_version (found (GiveBirth j k)))) may.0 b)
+    step_both (CreateLife j k) next is may b q = (link_unborn j k may, given_unheld p.slots (plain views) (plain_law (λ (home : Home). home) p (state c views) kept.sound.lawful) (life_at j (vref_version (found (CreateLife j k)))) may.0 b)
     step_both (AddRef id) next is may b q = both_if (eqb (vref_version (found (AddRef id))) (socket_id_version id)) (Hold (life_of id) m.seat) Nothing tt tt
     step_both (SubRef j) next is may b q = both_if (nat_lt 0 (marks_of is_probe j v)) Nothing (Drop (life_at j (even_version (found (SubRef j)))) m.seat) tt tt
     step_both (SetOdd j) next is may b q = both_if (eqb (vref_version (found (SetOdd j)) % 2) 0) (Fail (life_at j (vref_version (found (SetOdd j)))) m.seat) Nothing tt tt

@@ -20,9 +20,9 @@ use Rattle.sock_model.specs.Deliveries.{whole}
 use Rattle.sock_model.specs.Memory.{IDLE, UNCONNECTED}
 use Rattle.sock_model.specs.SlotRows.{looked, told_code, met, met_link}
 use Rattle.sock_model.specs.Weights.{total, only}
-use Rattle.sock_programs.specs.Calls.{Call, LoadName, LoadOpen, TakeLink, LookWord, LoadCode, ClaimRequest, PutMessage, Unconnect, SwapHead, EmptyHead, ReadNext, TurnNext, FreeRequest, StorePlace, DropPlace}
-use Rattle.sock_programs.specs.Cores.{Core, word_of, found_at}
-use Rattle.sock_programs.specs.Ticks.{Moment, IsAnswered}
+use Rattle.seat_programs.specs.Calls.{Call, LoadName, LoadOpen, TakeLink, LookWord, LoadCode, ClaimRequest, PutMessage, Unconnect, SwapHead, EmptyHead, ReadNext, ReverseNext, FreeRequest, StorePlace, DropPlace}
+use Rattle.seat_programs.specs.Cores.{Core, word_of, found_at}
+use Rattle.seat_programs.specs.Ticks.{Moment, IsAnswered}
 use Rattle.sock_runs.specs.Rows.{row, hand_at, is_id, by_right, by_claim, new_claim, exchanged, emptied, read_next, turned_next, freed_next, placed_next, dropped_next}
 use Rattle.sock_runs.specs.May.{May}
 use Rattle.sock_runs.specs.Sound.{Sound, views_after}
@@ -86,7 +86,7 @@ row_full p (ReadNext q) found hand v may f = by_right_full v f v.rights (λ r. r
     by_stage r (Passes now next) = f
     by_stage r Empties = f
     by_stage r (Turns top at after before) = f
-row_full p (TurnNext q value) found hand v may f = by_right_full v f v.rights (λ r. turned_next v r r.stage) (λ r. by_stage r r.stage)
+row_full p (ReverseNext q value) found hand v may f = by_right_full v f v.rights (λ r. turned_next v r r.stage) (λ r. by_stage r r.stage)
   where
     by_stage : (r : Right) (stage : Stage) → IsFull (turned_next v r stage)
     by_stage r (Turns top at after before) = f

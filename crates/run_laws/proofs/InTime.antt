@@ -7,10 +7,10 @@ use native.Mathlib.Decide.{ℕ_discrete, dec_le}
 use lib.ListN.{get_elem?}
 use Rattle.sock_words.specs.declared.plain.Plan.{Plan}
 use Rattle.sock_model.specs.declared.view.View.{View}
-use Rattle.chain_laws.proofs.Lists.{at_length, at_some}
-use Rattle.sock_programs.specs.Programs.{Program, Rest}
-use Rattle.sock_programs.specs.Cores.{Core, SeatState}
-use Rattle.sock_programs.specs.Ticks.{Moment, ticked, broken_at}
+use Rattle.chain_steps.proofs.Lists.{at_length, at_some}
+use Rattle.seat_programs.specs.Programs.{Program, Rest}
+use Rattle.seat_programs.specs.Cores.{Core, SeatState}
+use Rattle.seat_programs.specs.Ticks.{Moment, ticked, broken_at}
 use Rattle.sock_runs.specs.Sound.{first_step, state, views_after}
 use Rattle.run_laws.specs.World.{stopped_after}
 use Rattle.run_laws.specs.Seen.{event_at}

@@ -14,15 +14,15 @@ use Rattle.sock_model.specs.declared.view.View.{View}
 use Rattle.sock_model.specs.SlotRows.{marks_of}
 use Rattle.sock_model.specs.Plain.{life_at, PlainLaw, plain}
 use Rattle.sock_model.specs.Weights.{is_probe}
-use Rattle.sock_programs.specs.Calls.{Call, AddRef, SubRef, SetOdd, Recycle, LookWord, ClaimRequest, SwapHead}
-use Rattle.sock_programs.specs.Cores.{Core, word_of, found_at}
-use Rattle.sock_programs.specs.Ticks.{Moment, ticked, run}
+use Rattle.seat_programs.specs.Calls.{Call, AddRef, SubRef, SetOdd, Recycle, LookWord, ClaimRequest, SwapHead}
+use Rattle.seat_programs.specs.Cores.{Core, word_of, found_at}
+use Rattle.seat_programs.specs.Ticks.{Moment, ticked, run}
 use Rattle.sock_runs.specs.May.{May, even_version}
 use Rattle.sock_runs.specs.Sound.{state, views_after, views_along}
-use Rattle.plain_laws.specs.Events.{life_of}
-use Rattle.plain_laws.proofs.Laws.{plain_law}
-use Rattle.message_laws.specs.Messages.{Has, IsIn}
-use Rattle.message_laws.specs.Standing.{messages}
+use Rattle.life_events.specs.Events.{life_of}
+use Rattle.life_events.proofs.Laws.{plain_law}
+use Rattle.message_events.specs.Messages.{Has, IsIn}
+use Rattle.message_events.specs.Standing.{messages}
 use Rattle.run_laws.specs.World.{Event, Nothing, Hold, Drop, Fail, End, Accept, Take, Stop, Place, Dropped, of_messages, stopped_after}
 use Rattle.run_laws.specs.World as world
 use Rattle.run_laws.specs.Seen.{accept_event, stop_event, step_event, put_event, ready_event, event_at, AreEvents, stopped_along}

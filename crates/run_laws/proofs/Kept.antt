@@ -10,11 +10,11 @@ use Rattle.sock_model.specs.declared.chain.Right.{Right}
 use Rattle.sock_model.specs.declared.home.Home.{Home}
 use Rattle.sock_model.specs.declared.view.View.{View}
 use Rattle.sock_model.specs.Links.{HoldsLink, Failed}
-use Rattle.sock_programs.specs.Writings.{Writing, Puts, Waits, Empties, Walks}
-use Rattle.sock_programs.specs.Programs.{Program, Do, Say, Sent, Rest, TakeMessage, TakeHome, PutHome, PutBytes, AskReady, Write, Aside, Round, Keep, Retries}
-use Rattle.sock_programs.specs.Cores.{Calls, Core, SeatState, resolved, waiting_at, next_step, with_seat}
+use Rattle.seat_programs.specs.Writings.{Writing, Puts, Waits, Empties, Walks}
+use Rattle.seat_programs.specs.Programs.{Program, Do, Say, Sent, Rest, TakeMessage, TakeHome, PutHome, PutBytes, AskReady, Write, Aside, Round, Keep, Retries}
+use Rattle.seat_programs.specs.Cores.{Calls, Core, SeatState, resolved, waiting_at, next_step, with_seat}
 use Rattle.sock_runs.specs.GoesOn.{GoesOn}
-use Rattle.sock_programs.specs.Ticks.{Moment, IsAnswered, ticked}
+use Rattle.seat_programs.specs.Ticks.{Moment, IsAnswered, ticked}
 use Rattle.sock_runs.specs.Sound.{Sound, first_step, state, IsFitting}
 use Rattle.sock_runs.proofs.LinkTicks.{RetriesGo}
 use Rattle.run_laws.proofs.Modes.{Mode, Unknown, Live, Fed, Dead, Asks, Broken, IsWhole, Guarded, first_mode, first_guarded, come_guarded, round_mode}

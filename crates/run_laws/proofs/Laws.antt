@@ -4,23 +4,23 @@ use Rattle.std.specs.List.{AllByRecursion}
 use mathlib.Core.Option.{some, some-ne-none}
 use lib.ListN.{get_elem?}
 use Rattle.atomic_table.proofs.Lists.{at_set}
-use Rattle.chain_laws.proofs.Lists.{at_length, at_some}
+use Rattle.chain_steps.proofs.Lists.{at_length, at_some}
 use Rattle.sock_words.specs.declared.plain.Plan.{Plan}
 use Rattle.brpc_model.specs.Items.{Item}
 use Rattle.brpc_model.specs.Operations.{Turn}
 use Rattle.sock_model.specs.declared.view.View.{View}
-use Rattle.sock_programs.specs.Programs.{Program, Rest}
-use Rattle.sock_programs.specs.Clients.{ending_of}
-use Rattle.sock_programs.specs.Cores.{Core, SeatState, resolved, waiting_at, next_step}
-use Rattle.sock_programs.specs.Ticks.{Moment, quiet, AreAnswered, ticked, run}
-use Rattle.sock_programs.specs.Tasks.{plan_of, id_plan_of, opens, calls}
-use Rattle.sock_programs.specs.Told.{AreTasks}
-use Rattle.sock_programs.specs.Scripts.{IsRunWithCalls, all_tasks, opened, set_up, played, is_ending, sizes_of, programs, readers_from, all_programs}
+use Rattle.seat_programs.specs.Programs.{Program, Rest}
+use Rattle.seat_programs.specs.Clients.{ending_of}
+use Rattle.seat_programs.specs.Cores.{Core, SeatState, resolved, waiting_at, next_step}
+use Rattle.seat_programs.specs.Ticks.{Moment, quiet, AreAnswered, ticked, run}
+use Rattle.seat_programs.specs.Tasks.{plan_of, id_plan_of, opens, calls}
+use Rattle.seat_programs.specs.Told.{AreTasks}
+use Rattle.seat_programs.specs.Scripts.{IsRunWithCalls, all_tasks, opened, set_up, played, is_ending, sizes_of, programs, readers_from, all_programs}
 use Rattle.sock_runs.specs.Sound.{Sound, AreFitting}
 use Rattle.sock_runs.proofs.LinkTicks.{RetriesGo}
 use Rattle.sock_runs.proofs.Along.{seat_rests}
 use Rattle.sock_runs.proofs.Whole.{Begins, AreFittingIn, closing_of, set_up_answered, end_answered, rested_ahead, rested_idle, closing_sound, closed_sound}
-use Rattle.client_laws.specs.Openings.{all_seats}
+use Rattle.programs_allowed.specs.Openings.{all_seats}
 use Rattle.run_laws.specs.Seen.{none_stopped}
 use Rattle.run_laws.specs.Laws.{KeepsLaws, opened_views, views_set, views_played, views_closed, stopped_set, stopped_played, stopped_closed}
 use Rattle.run_laws.proofs.Modes.{Mode, Unknown, Broken, Guarded, come_guarded, ending_guarded}
@@ -40,7 +40,7 @@ given_on p c (m ∷ xs) ys h k = (h.0, given_on p (ticked p c m) xs ys h.1 k)
 -- seat 0, which is at rest, begins the ending
 module _ (p : Plan) (c : Core) (views : List View) (stopped : ℕ → Bool) (os : List ℕ) (kept : Kept p c views stopped) (rests : (seat : SeatState) → get_elem? c.seats 0 ≡ some seat → seat.program ≡ Rest) where
   abbrev closing : Core
-  closing = Rattle.sock_programs.specs.Cores.with_seat 0 (ending_of os) [] c.words c.homes c
+  closing = Rattle.seat_programs.specs.Cores.with_seat 0 (ending_of os) [] c.words c.homes c
 
   closing_fits : (i : ℕ) (v : View) → get_elem? views i ≡ some v → Fits p v stopped (mode_at 0 Unknown kept.modes i)
   closing_fits zero v at r one = tt
@@ -54,7 +54,7 @@ module _ (p : Plan) (c : Core) (views : List View) (stopped : ℕ → Bool) (os 
   still_broken : (k : ℕ) (b : IsBroken views kept.modes k) → IsBroken views (mode_at 0 Unknown kept.modes) k
   still_broken k b = record { seat = b.seat; view = b.view; right = b.right; slot = b.slot; there = b.there; mode = mode_else 0 b.seat Unknown kept.modes (not_first k b) ∙ b.mode; one = b.one; link = b.link }
 
-  pub closing_kept : Sound p (Rattle.sock_programs.specs.Cores.with_seat 0 (ending_of os) [] c.words c.homes c) views → Kept p (Rattle.sock_programs.specs.Cores.with_seat 0 (ending_of os) [] c.words c.homes c) views stopped
+  pub closing_kept : Sound p (Rattle.seat_programs.specs.Cores.with_seat 0 (ending_of os) [] c.words c.homes c) views → Kept p (Rattle.seat_programs.specs.Cores.with_seat 0 (ending_of os) [] c.words c.homes c) views stopped
   closing_kept sound = record {
     sound = sound;
     retries_go = kept.retries_go;

@@ -19,12 +19,12 @@ use Rattle.sock_model.specs.References.{slot_facts}
 use Rattle.sock_model.specs.Slots.{count, live}
 use Rattle.sock_model.specs.SlotRows.{marks_of}
 use Rattle.sock_model.specs.Reads.{rights_on}
-use Rattle.slot_laws.proofs.Numbers.{life-in, life_is, live_le, live_is}
-use Rattle.slot_laws.proofs.Sums.{total-set}
-use Rattle.chain_laws.proofs.Few.{few_rights}
+use Rattle.slot_steps.proofs.Numbers.{life-in, life_is, live_le, live_is}
+use Rattle.slot_steps.proofs.Sums.{total-set}
+use Rattle.chain_steps.proofs.Few.{few_rights}
 use Rattle.sock_steps.proofs.Places.{own_count, holder_lives, given_once}
 use Rattle.sock_steps.proofs.RightSteps.{right_in}
-use Rattle.plain_laws.proofs.Laws.{counted}
+use Rattle.life_events.proofs.Laws.{counted}
 
 -- ## One seat writes a link
 

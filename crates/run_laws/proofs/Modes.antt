@@ -12,18 +12,18 @@ use Rattle.sock_io.specs.declared.link.Ready.TheVariants as asks
 use Rattle.sock_model.specs.declared.chain.Heading.{Heading}
 use Rattle.sock_model.specs.Entries.{ticket_of, slot_of, generation_of}
 use Rattle.sock_model.specs.Memory.{IDLE, UNCONNECTED}
-use Rattle.sock_programs.specs.declared.task.Op.{Op}
-use Rattle.sock_programs.specs.declared.task.Op.TheVariants as ops
-use Rattle.sock_programs.specs.declared.task.Task.{Task}
-use Rattle.sock_programs.specs.declared.task.Sizes.{Sizes}
-use Rattle.sock_programs.specs.Calls.{Call, FindLink, SetOdd, StoreCode, SubRef, LookWord, LoadCode, StorePlace, DropPlace, LoadLink, TakeLink, FinishLink, PutLink, FreeSlot, FreeRequest, ReadNext, TurnNext, Connect}
-use Rattle.sock_programs.specs.Writings.{Holder, Writing, Puts, Waits, Empties, Walks}
-use Rattle.sock_programs.specs.Programs.{Program, Do, Say, Sent, Rest, TakeMessage, TakeHome, PutHome, PutBytes, AskReady, Write, Aside, Round, Keep, Retries, NO_SOCKET, LAST_VERSION, LAST_GENERATION, recycle, release, address, reach, set_failed, no_socket, make_socket, open_from, fail_outcome, fail}
-use Rattle.sock_programs.specs.Sends.{freed, one_more, passed_telling, tell_drop, placed, dropped, put_answered, ready_answered, block, first_put, write_link, heading_of, accept, claim_from, start}
-use Rattle.sock_programs.specs.Clients.{HeldLife, held_under, without_name, give_back, drop_of, operation, client_from, ending_of}
-use Rattle.sock_programs.specs.Cores.{next_step, resolved}
+use Rattle.seat_programs.specs.declared.task.Op.{Op}
+use Rattle.seat_programs.specs.declared.task.Op.TheVariants as ops
+use Rattle.seat_programs.specs.declared.task.Task.{Task}
+use Rattle.seat_programs.specs.declared.task.Sizes.{Sizes}
+use Rattle.seat_programs.specs.Calls.{Call, FindLink, SetOdd, StoreCode, SubRef, LookWord, LoadCode, StorePlace, DropPlace, LoadLink, TakeLink, FinishLink, PutLink, FreeSlot, FreeRequest, ReadNext, ReverseNext, Connect}
+use Rattle.seat_programs.specs.Writings.{Holder, Writing, Puts, Waits, Empties, Walks}
+use Rattle.seat_programs.specs.Programs.{Program, Do, Say, Sent, Rest, TakeMessage, TakeHome, PutHome, PutBytes, AskReady, Write, Aside, Round, Keep, Retries, NO_SOCKET, LAST_VERSION, LAST_GENERATION, recycle, release, address, reach, set_failed, no_socket, make_socket, open_from, fail_outcome, fail}
+use Rattle.seat_programs.specs.Sends.{freed, one_more, passed_telling, tell_drop, placed, dropped, put_answered, ready_answered, block, first_put, write_link, heading_of, accept, claim_from, start}
+use Rattle.seat_programs.specs.Clients.{HeldLife, held_under, without_name, give_back, drop_of, operation, client_from, ending_of}
+use Rattle.seat_programs.specs.Cores.{next_step, resolved}
 use Rattle.sock_runs.specs.Sound.{first_step}
-use Rattle.sock_programs.specs.Parts.{part}
+use Rattle.seat_programs.specs.Parts.{part}
 use Rattle.corr_core.specs.Word.{parts, error_of, code_of, posted_word, unlocked_word}
 use Rattle.corr_core.specs.Law.{LAST}
 use Rattle.brpc_model.specs.Frame.{Frame}
@@ -31,15 +31,15 @@ use Rattle.brpc_model.specs.Stream as streams
 use Rattle.sock_words.specs.Words.{at_word, at_word_slot, at_word_first, at_word_link, at_word_attempt}
 use Rattle.sock_words.specs.declared.outcome.Outcome.TheVariants.{NotBegun, Joined}
 use Rattle.sock_message.specs.Asked.{Asked, frame_of}
-use Rattle.sock_programs.specs.Asides.{Found, FreeId, PutCall, StoreAt, Taking, Bytes, Nothing, NoMore, AtEnd, Closed, id_slot, id_first, call_id}
-use Rattle.sock_programs.specs.Asides as taking
-use Rattle.sock_programs.specs.Heads.{Head, Exit, Retry, Sought, Version, Reading, Ended, Posts, Unlocks, Decides, Locks, Joins, Opens, Reads, Discards, Posting, WasGone, WasStale, WasCrowded, WasQueued, HasLocked, Unlocking, IsOpen, HasNext, Deciding, HasEnded, Locking, NotThere}
-use Rattle.sock_programs.specs.Heads.{GoesOn as OpenAgain, Has as HasLock}
-use Rattle.sock_programs.specs.Posts.{WHOLE, packed, advance_of, is_first, is_stale, is_full, is_sought, judged, post, post_with, posted, popped, ends_call, end_id, decide, decided, unlocked, locking}
-use Rattle.sock_programs.specs.Attempts.{claims_from, heading_for, attempt, begin_call, claim_id, call, tried_again, retry_locked, retry, expire_outcome, expire, join}
-use Rattle.sock_programs.specs.Readers.{LIMIT, slot_in, version_in, is_early, answer, answered, has_response, responses, last_of, ended_by, read_on, took, discarded, kept_for, ends_with, posted_last, post_each, thrown_away, read, reader}
-use Rattle.sock_programs.specs.Readers.{ending_of as ending_by}
-use Rattle.sock_programs.specs.Rounds.{round}
+use Rattle.seat_programs.specs.Asides.{Found, FreeId, PutCall, StoreAt, Taking, Bytes, Nothing, NoMore, AtEnd, Closed, id_slot, id_first, call_id}
+use Rattle.seat_programs.specs.Asides as taking
+use Rattle.seat_programs.specs.Heads.{Head, Exit, Retry, Sought, Version, Reading, Ended, Posts, Unlocks, Decides, Locks, Joins, Opens, Reads, Discards, Posting, WasGone, WasStale, WasCrowded, WasQueued, HasLocked, Unlocking, IsOpen, HasNext, Deciding, HasEnded, Locking, NotThere}
+use Rattle.seat_programs.specs.Heads.{GoesOn as OpenAgain, Has as HasLock}
+use Rattle.seat_programs.specs.Posts.{WHOLE, packed, advance_of, is_first, is_stale, is_full, is_sought, judged, post, post_with, posted, popped, ends_call, end_id, decide, decided, unlocked, locking}
+use Rattle.seat_programs.specs.Attempts.{claims_from, heading_for, attempt, begin_call, claim_id, call, tried_again, retry_locked, retry, expire_outcome, expire, join}
+use Rattle.seat_programs.specs.Readers.{LIMIT, slot_in, version_in, is_early, answer, answered, has_response, responses, last_of, ended_by, read_on, took, discarded, kept_for, ends_with, posted_last, post_each, thrown_away, read, reader}
+use Rattle.seat_programs.specs.Readers.{ending_of as ending_by}
+use Rattle.seat_programs.specs.Rounds.{round}
 
 -- ## What a seat found last
 
@@ -329,7 +329,7 @@ module _ (after : Program) (k : Guarded Unknown after) where
   block_guarded (Walks h top at next) = (
     tt,
     λ found. sides (found == UNCONNECTED) (Write (Walks h top at next) after)
-        (Do (TurnNext (slot_of at) next) (λ _. if found == h.last then TakeMessage (slot_of at) (λ heading bytes. Write (Puts (record h { last = top }) at heading bytes 0 false) after) else Write (Walks h top found at) after)) Unknown (tt, k)
+        (Do (ReverseNext (slot_of at) next) (λ _. if found == h.last then TakeMessage (slot_of at) (λ heading bytes. Write (Puts (record h { last = top }) at heading bytes 0 false) after) else Write (Walks h top found at) after)) Unknown (tt, k)
         (tt, λ a. sides (found == h.last) (TakeMessage (slot_of at) (λ heading bytes. Write (Puts (record h { last = top }) at heading bytes 0 false) after)) (Write (Walks h top found at) after) Unknown (tt, λ heading bytes. (tt, k)) (tt, k)),
   )
 

@@ -24,29 +24,29 @@ use Rattle.sock_model.specs.Weights.{total, only, is_probe, is_hold, is_met, is_
 use Rattle.sock_model.specs.ChainRows.{with_right, taken_right}
 use Rattle.sock_model.specs.Marks.{about, at}
 use Rattle.sock_model.specs.Plain.{life_at}
-use Rattle.plain_laws.specs.Events.{life_of}
+use Rattle.life_events.specs.Events.{life_of}
 use Rattle.sock_runs.specs.May.{even_version}
 use Rattle.sock_model.specs.Links.{HoldsLink, Given, Failed}
 use Rattle.sock_model.specs.Slots.{version_of}
 use Rattle.sock_model.specs.SlotRows.{marks_of, looked, told_code}
-use Rattle.slot_laws.proofs.Numbers.{only-same}
-use Rattle.chain_laws.proofs.Lists.{at_length}
+use Rattle.slot_steps.proofs.Numbers.{only-same}
+use Rattle.chain_steps.proofs.Lists.{at_length}
 use Rattle.sock_steps.proofs.Places.{own_count, holder_lives}
-use Rattle.sock_programs.specs.Calls.{Call, AddRef, SubRef, SetOdd, Recycle, LookWord, LoadCode, ClaimRequest, SwapHead, StorePlace, DropPlace}
-use Rattle.sock_programs.specs.Programs.{Program, Do, TakeMessage, TakeHome, PutHome, PutBytes, AskReady, Aside}
-use Rattle.sock_programs.specs.Beside.{calls_after}
-use Rattle.sock_programs.specs.Cores.{Calls, Core, SeatState, word_of, word_after, words_after, homes_after, hand_after, found_at, lies_at, first_of, others_of, link_place, with_seat, stepped}
-use Rattle.sock_programs.specs.Ticks.{Moment, fed, with_places, onto_first, ticked}
+use Rattle.seat_programs.specs.Calls.{Call, AddRef, SubRef, SetOdd, Recycle, LookWord, LoadCode, ClaimRequest, SwapHead, StorePlace, DropPlace}
+use Rattle.seat_programs.specs.Programs.{Program, Do, TakeMessage, TakeHome, PutHome, PutBytes, AskReady, Aside}
+use Rattle.seat_programs.specs.Beside.{calls_after}
+use Rattle.seat_programs.specs.Cores.{Calls, Core, SeatState, word_of, word_after, words_after, homes_after, hand_after, found_at, lies_at, first_of, others_of, link_place, with_seat, stepped}
+use Rattle.seat_programs.specs.Ticks.{Moment, fed, with_places, onto_first, ticked}
 use Rattle.sock_runs.specs.Rows.{row, hand_at, by_right, looked_clean, took_message, link_away, link_home_again, took_bytes}
 use Rattle.sock_runs.specs.May.{May}
 use Rattle.sock_runs.specs.Writes.{Writes, MayPut}
 use Rattle.sock_runs.specs.Sound.{Sound, first_step, state, views_after}
 use Rattle.sock_runs.proofs.Cases.{with_rights, right_rights, put_rights}
 use Rattle.sock_runs.proofs.Ticks.{sound_ticks}
-use Rattle.sock_causes.specs.Stories.{adds}
-use Rattle.sock_causes.proofs.Added.{failer_note, linked_note, row_adds}
-use Rattle.message_laws.proofs.Rights.{Keeps, looks_keeps, puts_makes}
-use Rattle.message_laws.specs.Standing.{of_right}
+use Rattle.outcome_causes.specs.Stories.{adds}
+use Rattle.outcome_causes.proofs.Added.{failer_note, linked_note, row_adds}
+use Rattle.message_events.proofs.Rights.{Keeps, looks_keeps, puts_makes}
+use Rattle.message_events.specs.Standing.{of_right}
 use Rattle.run_laws.specs.World.{Event, Nothing, Hold, Drop, Fail, End, Stop, stopped_after}
 use Rattle.run_laws.specs.World as world
 use Rattle.run_laws.specs.Seen.{accept_event, stop_event, step_event, put_event, ready_event, event_at}

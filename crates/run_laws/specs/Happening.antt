@@ -3,8 +3,8 @@ use Rattle.std.specs.Prelude.{ℕ, Bool, List, take}
 use Rattle.sock_words.specs.declared.plain.Plan.{Plan}
 use Rattle.sock_model.specs.Plain.{PlainLaw, plain}
 use Rattle.sock_model.specs.declared.view.View.{View}
-use Rattle.sock_programs.specs.Cores.{Core}
-use Rattle.sock_programs.specs.Ticks.{Moment}
+use Rattle.seat_programs.specs.Cores.{Core}
+use Rattle.seat_programs.specs.Ticks.{Moment}
 use Rattle.sock_runs.specs.Sound.{views_along}
 use Rattle.run_laws.specs.Seen.{AreEvents}
 

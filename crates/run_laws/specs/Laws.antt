@@ -3,11 +3,11 @@ use Rattle.std.specs.Prelude.{ℕ, Bool, List, ◌++◌, length, replicate}
 use Rattle.brpc_model.specs.Items.{Item}
 use Rattle.brpc_model.specs.Operations.{Turn}
 use Rattle.sock_model.specs.declared.view.View.{View}
-use Rattle.client_laws.specs.Openings.{opening_views, all_seats}
-use Rattle.sock_programs.specs.Cores.{Core}
-use Rattle.sock_programs.specs.Ticks.{quiet}
-use Rattle.sock_programs.specs.Scripts.{IsRunWithCalls, all_tasks, opened, ending, set_up, played}
-use Rattle.sock_programs.specs.Tasks.{opens, plan_of}
+use Rattle.programs_allowed.specs.Openings.{opening_views, all_seats}
+use Rattle.seat_programs.specs.Cores.{Core}
+use Rattle.seat_programs.specs.Ticks.{quiet}
+use Rattle.seat_programs.specs.Scripts.{IsRunWithCalls, all_tasks, opened, ending, set_up, played}
+use Rattle.seat_programs.specs.Tasks.{opens, plan_of}
 use Rattle.sock_runs.specs.Sound.{views_along}
 use Rattle.run_laws.specs.World.{IsNew}
 use Rattle.run_laws.specs.Seen.{none_stopped, stopped_along, world_of}

@@ -3,4 +3,4 @@ pub mod World
 pub mod Seen
 pub mod Happening
 pub mod Laws
-pub use Rattle.client_laws
+pub use Rattle.programs_allowed

@@ -16,14 +16,14 @@ use Rattle.sock_model.specs.Memory.{IDLE}
 use Rattle.sock_model.specs.Plain.{life_at, plain}
 use Rattle.sock_model.specs.SlotRows.{marks_of}
 use Rattle.sock_model.specs.Weights.{total, is_probe, is_linked}
-use Rattle.sock_programs.specs.Calls.{Call, GiveBirth, AddRef, SubRef, SetOdd, Recycle, LookWord, ClaimRequest, SwapHead, FreeRequest, StorePlace, DropPlace}
-use Rattle.sock_programs.specs.Programs.{Program, Do, PutBytes, AskReady}
-use Rattle.sock_programs.specs.Cores.{Core, word_of, found_at}
-use Rattle.sock_programs.specs.Ticks.{Answer, OfPut, OfReady, Moment, broken_at, ticked}
+use Rattle.seat_programs.specs.Calls.{Call, CreateLife, AddRef, SubRef, SetOdd, Recycle, LookWord, ClaimRequest, SwapHead, FreeRequest, StorePlace, DropPlace}
+use Rattle.seat_programs.specs.Programs.{Program, Do, PutBytes, AskReady}
+use Rattle.seat_programs.specs.Cores.{Core, word_of, found_at}
+use Rattle.seat_programs.specs.Ticks.{Answer, OfPut, OfReady, Moment, broken_at, ticked}
 use Rattle.sock_runs.specs.May.{even_version}
 use Rattle.sock_runs.specs.Sound.{first_step, views_after}
-use Rattle.message_laws.specs.Standing as standing
-use Rattle.plain_laws.specs.Events.{life_of}
+use Rattle.message_events.specs.Standing as standing
+use Rattle.life_events.specs.Events.{life_of}
 use Rattle.run_laws.specs.World.{World, Event, Nothing, Birth, Hold, Drop, Fail, End, Accept, Take, Stop, Place, Dropped, Free, Becomes, stopped_after}
 use Rattle.run_laws.specs.World as world
 
@@ -41,7 +41,7 @@ stop_event (r ∷ rs) = Stop r.link
 
 -- the event of a step of this seat that found this word
 abbrev pub step_event : ℕ → Call → ℕ → View → Event
-step_event seat (GiveBirth i k) found v = Birth (life_at i (vref_version found)) k
+step_event seat (CreateLife i k) found v = Birth (life_at i (vref_version found)) k
 step_event seat (AddRef id) found v = if vref_version found == socket_id_version id then Hold (life_of id) seat else Nothing
 step_event seat (SubRef i) found v = if nat_lt 0 (marks_of is_probe i v) then Nothing else Drop (life_at i (even_version found)) seat
 step_event seat (SetOdd i) found v = if vref_version found % 2 == 0 then Fail (life_at i (vref_version found)) seat else Nothing

@@ -5,8 +5,8 @@ use Rattle.sock_model.specs.declared.chain.Entry.{Entry}
 use Rattle.sock_model.specs.Deliveries.{whole}
 use Rattle.sock_model.specs.Plain.{Life, life_at, Plain, same_life, no_lives}
 use Rattle.sock_model.specs.Plain as lives
-use Rattle.message_laws.specs.Messages.{Messages, IsOrder}
-use Rattle.message_laws.specs.Messages as messages
+use Rattle.message_events.specs.Messages.{Messages, IsOrder}
+use Rattle.message_events.specs.Messages as messages
 
 -- how often each life was made with each link
 abbrev pub Links : Type 0

@@ -29,11 +29,11 @@ use Rattle.corr_core.specs.declared.marks.View.{View}
 use Rattle.corr_core.proofs.Notes.{only-at}
 use Rattle.id_rule.specs.Lawful.{notes_of}
 use Rattle.sock_message.specs.Asked.{Asked}
-use Rattle.sock_programs.specs.declared.task.Op.TheVariants as ops
-use Rattle.sock_programs.specs.declared.task.Task.{Task}
-use Rattle.sock_programs.specs.Scripts.{all_tasks}
-use Rattle.sock_programs.specs.Tasks.{plan_of, calls}
-use Rattle.sock_programs.specs.Told.{TaskFits, OpFits, IsTask, Became}
+use Rattle.seat_programs.specs.declared.task.Op.TheVariants as ops
+use Rattle.seat_programs.specs.declared.task.Task.{Task}
+use Rattle.seat_programs.specs.Scripts.{all_tasks}
+use Rattle.seat_programs.specs.Tasks.{plan_of, calls}
+use Rattle.seat_programs.specs.Told.{TaskFits, OpFits, IsTask, Became}
 use Rattle.report_fits.proofs.Lists.{has_from, all_at as all_there}
 use Rattle.rpc_client.specs.declared.acting.Told.{Told}
 use Rattle.call_whys.specs.call_told.specs.Answers.{IsGiver}

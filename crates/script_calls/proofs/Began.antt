@@ -14,13 +14,13 @@ use Rattle.sock_io.specs.Link.{OutState}
 use Rattle.sock_words.specs.declared.plain.Plan.{Plan}
 use Rattle.sock_model.specs.declared.view.View.{View}
 use Rattle.call_run.specs.sock_rule.specs.declared.homes.SockHome.{SockHome}
-use Rattle.sock_programs.specs.declared.task.Task.{Task}
-use Rattle.sock_programs.specs.Told.{Differ, HaveOwnLinks}
+use Rattle.seat_programs.specs.declared.task.Task.{Task}
+use Rattle.seat_programs.specs.Told.{Differ, HaveOwnLinks}
 use Rattle.corr_core.specs.Law.{total, only}
 use Rattle.corr_core.specs.declared.marks.Plan as id_plan
 use Rattle.corr_core.specs.declared.marks.View as id_view
 use Rattle.corr_core.proofs.Notes.{only-else, only_le, total_some}
-use Rattle.id_rule.specs.Lawful.{call_word}
+use Rattle.id_rule.specs.Lawful.{call_index}
 use Rattle.sock_message.specs.Asked.{Asked}
 use Rattle.report_fits.proofs.Lists.{all_map, all_at as all_there}
 use Rattle.rpc_client.specs.declared.acting.Told.{Told}
@@ -76,10 +76,10 @@ module _ {O : Type 0} (g : Ghosts O) (state : O → OutState) (p : Plan) (q : id
   thread_ends : (first : ℕ) (x : Thread g) → AllByRecursion Fits x.tasks → IsThread state p q first x → AreEnds (ids_of_thread x) x.ended.calls.told.items
   thread_ends first x fits t = all_map (IsEndIn q.slots (ids_of_thread x)) (IsEndOf (ids_of_thread x)) (λ y e. e.is) x.ended.calls.told.items (thread_ends_in first x fits t)
 
-  thread_few : (o first : ℕ) (x : Thread g) → AllByRecursion Fits x.tasks → IsThread state p q first x → total (own_at (call_word q o)) (ids_of_thread x).kept ≤ total (is_task o) x.tasks
+  thread_few : (o first : ℕ) (x : Thread g) → AllByRecursion Fits x.tasks → IsThread state p q first x → total (own_at (call_index q o)) (ids_of_thread x).kept ≤ total (is_task o) x.tasks
   thread_few o first x fits t =
       let a = (run_moves q o state p x.tasks x.began x.ended fits t.ran).grows.own in
-      let b = ap (λ (m : Me (Option Asked) (id_view.View Asked)). total (own_at (call_word q o)) m.0.kept) t.ids in omega arith
+      let b = ap (λ (m : Me (Option Asked) (id_view.View Asked)). total (own_at (call_index q o)) m.0.kept) t.ids in omega arith
 
   -- those of all
   module _ (P : Thread g → Type 0) (f : (first : ℕ) (x : Thread g) → AllByRecursion Fits x.tasks → IsThread state p q first x → P x) where
@@ -91,8 +91,8 @@ module _ {O : Type 0} (g : Ghosts O) (state : O → OutState) (p : Plan) (q : id
   tell_of [] h = tt
   tell_of (x ∷ xs) h = (h.0, tell_of xs h.1)
 
-  few_of : (o : ℕ) (xs : List (Thread g)) → AllByRecursion (λ (x : Thread g). total (own_at (call_word q o)) (ids_of_thread x).kept ≤ total (is_task o) x.tasks) xs
-      → total (λ (v : id_view.View Asked). total (own_at (call_word q o)) v.kept) (map ids_of_thread xs) ≤ total (λ (ts : List Task). total (is_task o) ts) (map (λ (x : Thread g). x.tasks) xs)
+  few_of : (o : ℕ) (xs : List (Thread g)) → AllByRecursion (λ (x : Thread g). total (own_at (call_index q o)) (ids_of_thread x).kept ≤ total (is_task o) x.tasks) xs
+      → total (λ (v : id_view.View Asked). total (own_at (call_index q o)) v.kept) (map ids_of_thread xs) ≤ total (λ (ts : List Task). total (is_task o) ts) (map (λ (x : Thread g). x.tasks) xs)
   few_of o [] h = omega arith
   few_of o (x ∷ xs) h = let a = h.0 in let b = few_of o xs h.1 in omega arith
 
@@ -127,10 +127,10 @@ module _ {O : Type 0} (g : Ghosts O) (state : O → OutState) (p : Plan) (q : id
     pub tell : TellEnds ended ids
     tell = subst (TellEnds ended) r.ids_are (subst (λ (l : List (List Told)). TellEnds l (map ids_of_thread threads)) r.ended_is (tell_of threads (each (λ (x : Thread g). AreEnds (ids_of_thread x) x.ended.calls.told.items) thread_ends)))
 
-    pub few : (o : ℕ) → total (λ (v : id_view.View Asked). total (own_at (call_word q o)) v.kept) ids ≤ total (λ (ts : List Task). total (is_task o) ts) (setup ∷ clients)
+    pub few : (o : ℕ) → total (λ (v : id_view.View Asked). total (own_at (call_index q o)) v.kept) ids ≤ total (λ (ts : List Task). total (is_task o) ts) (setup ∷ clients)
     few o =
-        let a = few_of o threads (each (λ (x : Thread g). total (own_at (call_word q o)) (ids_of_thread x).kept ≤ total (is_task o) x.tasks) (thread_few o)) in
-        let b = ap (total (λ (v : id_view.View Asked). total (own_at (call_word q o)) v.kept)) r.ids_are in
+        let a = few_of o threads (each (λ (x : Thread g). total (own_at (call_index q o)) (ids_of_thread x).kept ≤ total (is_task o) x.tasks) (thread_few o)) in
+        let b = ap (total (λ (v : id_view.View Asked). total (own_at (call_index q o)) v.kept)) r.ids_are in
         let c = ap (total (λ (ts : List Task). total (is_task o) ts)) tasks_are in omega arith
 
     abbrev IsOne : Thread g → Type 0

@@ -21,14 +21,14 @@ use Rattle.brpc_model.specs.Script.{script_of}
 use Rattle.corr_core.specs.Law.{total}
 use Rattle.corr_core.specs.declared.marks.Plan as id_plan
 use Rattle.corr_core.specs.declared.marks.View.{View}
-use Rattle.id_rule.specs.Lawful.{call_word}
+use Rattle.id_rule.specs.Lawful.{call_index}
 use Rattle.sock_message.specs.Asked.{Asked}
-use Rattle.sock_programs.specs.declared.task.Op.{Op}
-use Rattle.sock_programs.specs.declared.task.Op.TheVariants as ops
-use Rattle.sock_programs.specs.declared.task.Task.{Task}
-use Rattle.sock_programs.specs.Scripts.{all_tasks}
-use Rattle.sock_programs.specs.Tasks.{Numbered, numbered, plan_of, calls}
-use Rattle.sock_programs.specs.Told.{AreTasks}
+use Rattle.seat_programs.specs.declared.task.Op.{Op}
+use Rattle.seat_programs.specs.declared.task.Op.TheVariants as ops
+use Rattle.seat_programs.specs.declared.task.Task.{Task}
+use Rattle.seat_programs.specs.Scripts.{all_tasks}
+use Rattle.seat_programs.specs.Tasks.{Numbered, numbered, plan_of, calls}
+use Rattle.seat_programs.specs.Told.{AreTasks}
 use Rattle.report_fits.proofs.Lists.{has_from, has_filter_map, within, all_map, all_at as all_there}
 use Rattle.report_fits.proofs.Numbering.{link_at, numbered_at}
 use Rattle.report_fits.proofs.TaskLemmas.{asks_at, numbers_at, asked_at, operation_task, call_asks}
@@ -84,7 +84,7 @@ module _ {O I P : Type 0} (g : Ghosts O) (out : O → OutState) (inn : I → InS
     fits = all_map (AllByRecursion IsOwnTask) (AllByRecursion Fits) (λ ts h. all_map IsOwnTask Fits (λ t own. task_fits t own) ts h) (setup ∷ clients) owns
 
     -- one id at most is stored for an operation
-    one_stored : (o : ℕ) → total (λ (v : View Asked). total (own_at (call_word (sizes script) o)) v.kept) ids ≤ 1
+    one_stored : (o : ℕ) → total (λ (v : View Asked). total (own_at (call_index (sizes script) o)) v.kept) ids ≤ 1
     one_stored o = let a = few g out (plan_of script) (sizes script) setup clients opens told ended ran.seats ids ran.ran fits o in let b = each_one o (setup ∷ clients) are.in_order are.differ in omega arith
 
     all_ended : AllEnded out inn (sizes script) (calls script) EEOF ended ids ends ends' (begins read.main) read.between read.last read.words

@@ -15,12 +15,12 @@ use Rattle.brpc_model.specs.Script.{script_of}
 use Rattle.corr_core.specs.declared.marks.Plan as id_plan
 use Rattle.corr_core.specs.declared.marks.View.{View}
 use Rattle.sock_message.specs.Asked.{Asked}
-use Rattle.sock_programs.specs.declared.task.Op.{Op}
-use Rattle.sock_programs.specs.declared.task.Op.TheVariants as ops
-use Rattle.sock_programs.specs.declared.task.Task.{Task}
-use Rattle.sock_programs.specs.Scripts.{all_tasks}
-use Rattle.sock_programs.specs.ToldCalls.{Fixed, Order}
-use Rattle.sock_programs.specs.Tasks.{Numbered, numbered, op_of, asked_of, plan_of, calls}
+use Rattle.seat_programs.specs.declared.task.Op.{Op}
+use Rattle.seat_programs.specs.declared.task.Op.TheVariants as ops
+use Rattle.seat_programs.specs.declared.task.Task.{Task}
+use Rattle.seat_programs.specs.Scripts.{all_tasks}
+use Rattle.seat_programs.specs.ToldCalls.{Fixed, Order}
+use Rattle.seat_programs.specs.Tasks.{Numbered, numbered, op_of, asked_of, plan_of, calls}
 use Rattle.report_fits.proofs.Lists.{Has, some_is}
 use Rattle.report_fits.proofs.Numbering.{are_from}
 use Rattle.report_fits.proofs.Targets.{expired, are_there}

@@ -1,11 +1,11 @@
 -- The sockets of a script's clients are opened with the links in their order.
 use Rattle.std.proofs.Common.{◌≡◌, ℕ, ◌+◌, List, [], ◌∷◌, ◌++◌, length, sym, ap, subst, arith}
 use Rattle.brpc_model.specs.Items.{Item}
-use Rattle.sock_programs.specs.declared.task.Op.{Op}
-use Rattle.sock_programs.specs.declared.task.Op.TheVariants as ops
-use Rattle.sock_programs.specs.declared.task.Task.{Task}
-use Rattle.sock_programs.specs.Runs.{from_to}
-use Rattle.sock_programs.specs.Scripts.{all_tasks}
+use Rattle.seat_programs.specs.declared.task.Op.{Op}
+use Rattle.seat_programs.specs.declared.task.Op.TheVariants as ops
+use Rattle.seat_programs.specs.declared.task.Task.{Task}
+use Rattle.seat_programs.specs.Runs.{from_to}
+use Rattle.seat_programs.specs.Scripts.{all_tasks}
 use Rattle.call_run.specs.Threads.{opens_in}
 use Rattle.call_whys.specs.call_deeds.specs.Scripts.{IsNextLink, HaveLinks, AllHaveLinks}
 use Rattle.script_calls.proofs.Links.{link_of, links_of, AreLinked, all_linked}

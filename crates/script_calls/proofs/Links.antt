@@ -4,12 +4,12 @@ use Rattle.std.proofs.lemmas.List.Sums.{sum_by-cons}
 use Rattle.brpc_model.specs.Items.{Item, Slots, Requests, First, Open, Client, Sched, Tick, To, is_open}
 use Rattle.brpc_model.specs.Operations.{link_names}
 use Rattle.brpc_model.specs.Places.{names}
-use Rattle.sock_programs.specs.declared.task.Op.{Op}
-use Rattle.sock_programs.specs.declared.task.Op.TheVariants as ops
-use Rattle.sock_programs.specs.declared.task.Task.{Task}
-use Rattle.sock_programs.specs.Runs.{from_to}
-use Rattle.sock_programs.specs.Scripts.{all_tasks}
-use Rattle.sock_programs.specs.Tasks.{Numbered, numbered, name_number}
+use Rattle.seat_programs.specs.declared.task.Op.{Op}
+use Rattle.seat_programs.specs.declared.task.Op.TheVariants as ops
+use Rattle.seat_programs.specs.declared.task.Task.{Task}
+use Rattle.seat_programs.specs.Runs.{from_to}
+use Rattle.seat_programs.specs.Scripts.{all_tasks}
+use Rattle.seat_programs.specs.Tasks.{Numbered, numbered, name_number}
 use Rattle.report_fits.proofs.Sizes.{link_count}
 use Rattle.script_tasks.specs.Along.{tasks_along, task_at}
 use Rattle.script_tasks.proofs.Alongs.{tasks_are}

@@ -6,12 +6,12 @@ use Rattle.brpc_model.specs.Items.{Item}
 use Rattle.brpc_model.specs.Script.{script_of}
 use Rattle.sock_message.specs.Asked.{Asked}
 use Rattle.sock_words.specs.declared.plain.Plan.{Plan}
-use Rattle.sock_programs.specs.declared.task.Op.{Op}
-use Rattle.sock_programs.specs.declared.task.Op.TheVariants as ops
-use Rattle.sock_programs.specs.declared.task.Task.{Task}
-use Rattle.sock_programs.specs.Scripts.{all_tasks}
-use Rattle.sock_programs.specs.Tasks.{numbered, plan_of}
-use Rattle.sock_programs.specs.Told.{AreTasks, OpFits, TaskFits}
+use Rattle.seat_programs.specs.declared.task.Op.{Op}
+use Rattle.seat_programs.specs.declared.task.Op.TheVariants as ops
+use Rattle.seat_programs.specs.declared.task.Task.{Task}
+use Rattle.seat_programs.specs.Scripts.{all_tasks}
+use Rattle.seat_programs.specs.Tasks.{numbered, plan_of}
+use Rattle.seat_programs.specs.Told.{AreTasks, OpFits, TaskFits}
 use Rattle.report_fits.proofs.Lists.{all_from}
 use Rattle.report_fits.proofs.Sizes.{keeps_limits}
 use Rattle.report_fits.proofs.TaskLemmas.{IsTaskOf, numbers_at, of_tasks, has_task, call_asks, tasks_length}

@@ -9,7 +9,7 @@ use Rattle.brpc_model.specs.Script.{script_of}
 use Rattle.sock_words.specs.declared.plain.Plan.{Plan}
 use Rattle.corr_core.specs.declared.marks.Plan.{Plan as IdPlan}
 use Rattle.report_fits.proofs.Sizes.{keeps_limits}
-use Rattle.sock_programs.specs.Tasks.{Numbered, numbered_from, opens, calls, plan_of}
+use Rattle.seat_programs.specs.Tasks.{Numbered, numbered_from, opens, calls, plan_of}
 use Rattle.call_run.specs.Threads.{ids_of}
 
 module _ (sort : Item → Bool) where

@@ -14,9 +14,9 @@ use Rattle.brpc_model.specs.PlaceWords.{took_at}
 use Rattle.brpc_model.specs.Script.{script_of}
 use Rattle.report_fits.specs.Ends.{AreTold}
 use Rattle.report_fits.proofs.Flat.{at_map}
-use Rattle.sock_programs.specs.declared.task.Task.{Task}
-use Rattle.sock_programs.specs.Scripts.{all_tasks}
-use Rattle.sock_programs.specs.Tasks.{plan_of, opens, calls}
+use Rattle.seat_programs.specs.declared.task.Task.{Task}
+use Rattle.seat_programs.specs.Scripts.{all_tasks}
+use Rattle.seat_programs.specs.Tasks.{plan_of, opens, calls}
 use Rattle.corr_core.specs.declared.marks.Plan as id_plan
 use Rattle.rpc_client.specs.declared.acting.Told.{Told}
 use Rattle.callless_fits.specs.sock_deeds.specs.Told.{fixed_by}

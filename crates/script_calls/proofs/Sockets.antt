@@ -17,14 +17,14 @@ use Rattle.brpc_model.specs.Items.{Item}
 use Rattle.brpc_model.specs.Link.{LinkEnd}
 use Rattle.brpc_model.specs.Script.{script_of}
 use Rattle.sock_model.specs.declared.chain.Entry.{Entry}
-use Rattle.sock_model.specs.Layout.{place_word}
+use Rattle.sock_model.specs.Layout.{place_index}
 use Rattle.call_run.specs.sock_rule.specs.Closing.{PlacesDiffer}
-use Rattle.sock_programs.specs.declared.task.Task.{Task}
-use Rattle.sock_programs.specs.Cores.{Core}
-use Rattle.sock_programs.specs.Runs.{from_to}
-use Rattle.sock_programs.specs.Scripts.{opening_calls, place_words}
-use Rattle.sock_programs.specs.Tasks.{plan_of, calls}
-use Rattle.sock_programs.specs.ToldCalls.{Accepted, Fixed, StandsAt}
+use Rattle.seat_programs.specs.declared.task.Task.{Task}
+use Rattle.seat_programs.specs.Cores.{Core}
+use Rattle.seat_programs.specs.Runs.{from_to}
+use Rattle.seat_programs.specs.Scripts.{opening_calls, place_words}
+use Rattle.seat_programs.specs.Tasks.{plan_of, calls}
+use Rattle.seat_programs.specs.ToldCalls.{Accepted, Fixed, StandsAt}
 use Rattle.report_fits.specs.Ends.{IsEndOf}
 use Rattle.report_fits.proofs.Flat.{at_map}
 use Rattle.report_fits.proofs.Lists.{has_from, has_none}
@@ -123,8 +123,8 @@ module _ {O I P : Type 0} (g : Ghosts O) (out : O → OutState) (inn : I → InS
       differ gave (low g out inn bytes script reads told ended places seats left ends ends' last read) core record { words = refl; homes = refl }
 
   words : place_words p left.ran.closed.words ≡ places
-  words = sym (words_map (λ l. slice_index left.ran.closed.words (place_word p l)) (8 * p.operations) 0 places left.ran.closed.sized.1
-      (λ i low. (let r = left.ran.closed.placed i low in let z : i ≡ 0 + i = omega arith in (r.0, r.1, r.2 ∙ ap (λ l. slice_index left.ran.closed.words (place_word p l)) z))))
+  words = sym (words_map (λ l. slice_index left.ran.closed.words (place_index p l)) (8 * p.operations) 0 places left.ran.closed.sized.1
+      (λ i low. (let r = left.ran.closed.placed i low in let z : i ≡ 0 + i = omega arith in (r.0, r.1, r.2 ∙ ap (λ l. slice_index left.ran.closed.words (place_index p l)) z))))
 
   -- ## The links as they were given back
 

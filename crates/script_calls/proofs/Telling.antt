@@ -28,11 +28,11 @@ use Rattle.corr_core.proofs.Notes.{only-at, pair-at, pair-else, pair-else_first,
 use Rattle.corr_id.specs.Calls.{slot_of, version_of}
 use Rattle.id_rule.specs.Lawful.{notes_of}
 use Rattle.sock_message.specs.Asked.{Asked}
-use Rattle.sock_programs.specs.declared.task.Op.TheVariants as ops
-use Rattle.sock_programs.specs.declared.task.Task.{Task}
-use Rattle.sock_programs.specs.Tasks.{plan_of, calls}
-use Rattle.sock_programs.specs.Told.{IsTask, Became}
-use Rattle.call_whys.specs.sock_causes.proofs.Tasks.{sorted_of}
+use Rattle.seat_programs.specs.declared.task.Op.TheVariants as ops
+use Rattle.seat_programs.specs.declared.task.Task.{Task}
+use Rattle.seat_programs.specs.Tasks.{plan_of, calls}
+use Rattle.seat_programs.specs.Told.{IsTask, Became}
+use Rattle.call_whys.specs.outcome_causes.proofs.Tasks.{sorted_of}
 use Rattle.report_fits.proofs.Lists.{some_is, contains_from, within, all_map, all_at as all_there}
 use Rattle.report_fits.proofs.TaskLemmas.{IsTaskOf, task_is, asks_at, asked_at, operation_task}
 use Rattle.rpc_client.specs.declared.acting.Told.{Told}

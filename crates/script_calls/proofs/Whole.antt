@@ -6,7 +6,7 @@ use Rattle.brpc_model.specs.Items.{Item}
 use Rattle.brpc_model.specs.Link.{LinkEnd}
 use Rattle.brpc_model.specs.Operations.{operations}
 use Rattle.brpc_model.specs.Script.{script_of}
-use Rattle.sock_programs.specs.Scripts.{is_callless}
+use Rattle.seat_programs.specs.Scripts.{is_callless}
 use Rattle.callless_fits.specs.Whole.{IsWholeText, gave_none, unread}
 use Rattle.callless_fits.proofs.Fits.{text_is_whole, text_is_whole_unread}
 use Rattle.script_calls.specs.Told.{IsReported, AreSocketsTold}

@@ -4,7 +4,7 @@ use Rattle.std.specs.List.{list_all}
 use Rattle.brpc_model.specs.Items.{Item, Join}
 use Rattle.sock_io.specs.declared.link.Mode.{Mode}
 use Rattle.sock_io.specs.declared.link.Mode.TheVariants.{Loop, Ring, Tcp}
-use Rattle.sock_programs.specs.Scripts.{is_callless}
+use Rattle.seat_programs.specs.Scripts.{is_callless}
 
 -- the line doesn't wait for a call
 abbrev pub is_awake : Item → Bool

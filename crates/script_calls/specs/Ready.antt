@@ -1,8 +1,8 @@
 -- What a run on threads with calls begins with.
 use Rattle.std.specs.Prelude.{◌≡◌, ℕ, List, ◌∷◌, map, length}
 use Rattle.brpc_model.specs.Items.{Item}
-use Rattle.sock_programs.specs.Scripts.{all_tasks}
-use Rattle.sock_programs.specs.Tasks.{plan_of, opens, calls}
+use Rattle.seat_programs.specs.Scripts.{all_tasks}
+use Rattle.seat_programs.specs.Tasks.{plan_of, opens, calls}
 use Rattle.script_calls.specs.Halves.{HasRoomFor}
 use Rattle.script_calls.specs.declared.asking.Ready.{Ready}
 

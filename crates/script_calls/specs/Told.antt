@@ -16,13 +16,13 @@ use Rattle.sock_message.specs.Asked.{Asked}
 use Rattle.sock_io.specs.declared.link.Out.{Ghosts}
 use Rattle.sock_io.specs.declared.link.Ends.{Ends}
 use Rattle.sock_io.specs.Link.{OutState, InState, end_of}
-use Rattle.sock_programs.specs.declared.task.Op.TheVariants as ops
-use Rattle.sock_programs.specs.declared.task.Task.{Task}
-use Rattle.sock_programs.specs.Cores.{Core}
-use Rattle.sock_programs.specs.Scripts.{all_tasks, place_words, is_callless}
-use Rattle.sock_programs.specs.Tasks.{plan_of, opens, calls}
-use Rattle.sock_programs.specs.Told.{IsTask, Became}
-use Rattle.sock_programs.specs.ToldCalls.{Fixed, Order}
+use Rattle.seat_programs.specs.declared.task.Op.TheVariants as ops
+use Rattle.seat_programs.specs.declared.task.Task.{Task}
+use Rattle.seat_programs.specs.Cores.{Core}
+use Rattle.seat_programs.specs.Scripts.{all_tasks, place_words, is_callless}
+use Rattle.seat_programs.specs.Tasks.{plan_of, opens, calls}
+use Rattle.seat_programs.specs.Told.{IsTask, Became}
+use Rattle.seat_programs.specs.ToldCalls.{Fixed, Order}
 use Rattle.attempts_told.specs.Attempts.{AreAttemptsTold}
 use Rattle.call_whys.specs.expire_told.specs.Said.{WhyExpired}
 use Rattle.callless_fits.specs.sock_deeds.specs.Told.{fixed_by, ToldSockets}

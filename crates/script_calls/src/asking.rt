@@ -1,15 +1,15 @@
 // What a script asks of its clients, and the room that a run needs for its links.
 ghost use Rattle.std.specs.Prelude.{◌≡◌, ℕ, List, Ok, length, map, IfOk};
 ghost use Rattle.brpc_model.specs.Script.{script_of};
-ghost use Rattle.sock_programs.specs.Scripts.{all_tasks};
-ghost use Rattle.sock_programs.specs.Tasks.{opens, calls};
+ghost use Rattle.seat_programs.specs.Scripts.{all_tasks};
+ghost use Rattle.seat_programs.specs.Tasks.{opens, calls};
 ghost use Rattle.script_calls.specs.Ready.{IsReady};
 
 use crate::halves::{Halves, room_for};
 use script_items::Script;
 use script_tasks::{BlockPool, NoMemory, calls_of, id_plan_of, opens_of, plan_of, tasks_of};
+use seat_programs::Task;
 use sock_io::{In, Out, Peer};
-use sock_programs::Task;
 use sock_words::Plan;
 use std::alloc::{AllocError, Global};
 use std::collections::VecDeque;

@@ -1,7 +1,7 @@
 // Which scripts are run on threads, with calls or without.
 ghost use Rattle.std.specs.Prelude.{◌≡◌};
 ghost use Rattle.script_items.specs.Meaning.{item};
-ghost use Rattle.sock_programs.specs.Scripts.{is_callless, is_later};
+ghost use Rattle.seat_programs.specs.Scripts.{is_callless, is_later};
 ghost use Rattle.script_calls.specs.Built.{is_awake, is_joinless, is_runnable};
 
 use script_items::{Line, Script};

@@ -49,7 +49,7 @@ pub fn read_rest<L: Linker, R: Wait>(
     ensures outs { map (λ e. L.O.state e.out) ends.new ≡ map (λ e. L.O.state e.out) ends.old }
     ensures asked { L.asked links.new ≡ L.asked links.old }
     ensures back { L.back links.new ≡ L.back links.old }
-    ensures prompt { L.prompt links.new ≡ L.prompt links.old }
+    ensures always_ready { L.always_ready links.new ≡ L.always_ready links.old }
     ensures faults { L.faults links.new ≡ L.faults links.old }
 {
     let mut done = Vec::with_capacity(alloc, 1)?;

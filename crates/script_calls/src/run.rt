@@ -8,7 +8,7 @@ ghost use Rattle.sock_io.specs.declared.link.Ends.{Ends};
 ghost use Rattle.sock_io.specs.Causes.{Rose};
 ghost use Rattle.sock_io.specs.Link.{end_of};
 ghost use Rattle.script_links.specs.Given.{AreNumbered, AreUntouched, IsBeginning, has_piece, specs_of};
-ghost use Rattle.sock_programs.specs.Tasks.{plan_of, calls};
+ghost use Rattle.seat_programs.specs.Tasks.{plan_of, calls};
 ghost use Rattle.call_run.specs.Crew.{AreLeft};
 ghost use Rattle.call_run.specs.Threads.{ids_of};
 ghost use Rattle.script_calls.specs.Reading.{HasRead};
@@ -66,7 +66,7 @@ fn finish<L: Linker, R: Wait>(
     ensures outs { map (λ e. L.O.state e.out) ends.new ≡ map (λ e. L.O.state e.out) ends.old }
     ensures asked { L.asked links.new ≡ L.asked links.old }
     ensures back { L.back links.new ≡ L.back links.old }
-    ensures prompt { L.prompt links.new ≡ L.prompt links.old }
+    ensures always_ready { L.always_ready links.new ≡ L.always_ready links.old }
     ensures faults { L.faults links.new ≡ L.faults links.old }
 {
     let Left {
@@ -102,7 +102,7 @@ fn run_over<L: Linker, G: Gate + Sync, R: Threads + Wait + Sync>(
     ensures numbered { AreNumbered 0 (L.back links.new) }
     ensures asked { L.asked links.new ≡ L.asked links.old }
     ensures faults { L.faults links.new ≡ L.faults links.old }
-    ensures prompt { L.prompt links.new ≡ L.prompt links.old }
+    ensures always_ready { L.always_ready links.new ≡ L.always_ready links.old }
     ensures known { IsErrOf result OpenFault.Failed → ⊥ }
 {
     let Ok(ready) = prepare(alloc, script, ends.len()) else {
@@ -200,7 +200,7 @@ pub fn run_calls_on_threads<L: Linker, G: Gate + Sync, R: Threads + Wait + Sync>
     ensures front { IsBeginning (L.asked links.new) (specs_of mode script.now) }
     ensures given_back { length (L.back links.new) ≡ length (L.asked links.new) }
     ensures numbered { AreNumbered 0 (L.back links.new) }
-    ensures prompt { L.prompt links.new ≡ L.prompt links.old }
+    ensures always_ready { L.always_ready links.new ≡ L.always_ready links.old }
     ensures later { L.faults links.old ≤ L.faults links.new }
     ensures failed { IsErrOf result OpenFault.Failed → Rose (L.faults links.old) (L.faults links.new) }
     ensures kept { (¬ IsErrOf result OpenFault.Failed) → L.faults links.new ≡ L.faults links.old }

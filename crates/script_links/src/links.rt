@@ -40,7 +40,7 @@ fn open_one<L: Linker>(
     ensures fresh { AreUntouched 0 (map (λ e. end_of (L.O.state e.out) (L.I.state e.inn)) ends.old.items) → AreUntouched 0 (map (λ e. end_of (L.O.state e.out) (L.I.state e.inn)) ends.new.items) }
     ensures unfinished { AllByRecursion (λ (e : Ends L.O L.I L.P). (L.O.state e.out).finished ≡ false) ends.old.items → AllByRecursion (λ (e : Ends L.O L.I L.P). (L.O.state e.out).finished ≡ false) ends.new.items }
     ensures unclosed { AllByRecursion (λ (e : Ends L.O L.I L.P). IfSome (L.I.state e.inn).closing (λ closing. closing ≡ false)) ends.old.items → AllByRecursion (λ (e : Ends L.O L.I L.P). IfSome (L.I.state e.inn).closing (λ closing. closing ≡ false)) ends.new.items }
-    ensures prompt_each { L.prompt links.old ≡ true → mode ≡ Mode.Loop → AllByRecursion (λ (e : Ends L.O L.I L.P). (L.O.state e.out).prompt ≡ true) ends.old.items → AllByRecursion (λ (e : Ends L.O L.I L.P). (L.O.state e.out).prompt ≡ true) ends.new.items }
+    ensures prompt_each { L.always_ready links.old ≡ true → mode ≡ Mode.Loop → AllByRecursion (λ (e : Ends L.O L.I L.P). (L.O.state e.out).always_ready ≡ true) ends.old.items → AllByRecursion (λ (e : Ends L.O L.I L.P). (L.O.state e.out).always_ready ≡ true) ends.new.items }
     ensures count { OnOk result (length ends.new.items ≡ length ends.old.items + 1) }
     ensures err { OnErr result (length ends.new.items ≡ length ends.old.items) }
     ensures asked { OnOk result (L.asked links.new ≡ L.asked links.old ++ spec_of mode (shape_of «open».now.shape) ∷ []) }
@@ -48,7 +48,7 @@ fn open_one<L: Linker>(
     ensures offers { OnOk result (TellOffers L.O.state L.I.state → AreAsked (L.asked links.old) (map (λ e. L.O.state e.out) ends.old.items) (map (λ e. L.I.state e.inn) ends.old.items) → AreAsked (L.asked links.new) (map (λ e. L.O.state e.out) ends.new.items) (map (λ e. L.I.state e.inn) ends.new.items)) }
     ensures opened { length (L.asked links.new) ≡ length ends.new.items }
     ensures back { L.back links.new ≡ L.back links.old }
-    ensures prompt { L.prompt links.new ≡ L.prompt links.old }
+    ensures always_ready { L.always_ready links.new ≡ L.always_ready links.old }
     ensures later { L.faults links.old ≤ L.faults links.new }
     ensures failed { IsErrOf result OpenFault.Failed → Rose (L.faults links.old) (L.faults links.new) }
     ensures kept { (¬ IsErrOf result OpenFault.Failed) → L.faults links.new ≡ L.faults links.old }
@@ -76,7 +76,7 @@ fn open_line<L: Linker>(
     ensures fresh { AreUntouched 0 (map (λ e. end_of (L.O.state e.out) (L.I.state e.inn)) ends.old.items) → AreUntouched 0 (map (λ e. end_of (L.O.state e.out) (L.I.state e.inn)) ends.new.items) }
     ensures unfinished { AllByRecursion (λ (e : Ends L.O L.I L.P). (L.O.state e.out).finished ≡ false) ends.old.items → AllByRecursion (λ (e : Ends L.O L.I L.P). (L.O.state e.out).finished ≡ false) ends.new.items }
     ensures unclosed { AllByRecursion (λ (e : Ends L.O L.I L.P). IfSome (L.I.state e.inn).closing (λ closing. closing ≡ false)) ends.old.items → AllByRecursion (λ (e : Ends L.O L.I L.P). IfSome (L.I.state e.inn).closing (λ closing. closing ≡ false)) ends.new.items }
-    ensures prompt_each { L.prompt links.old ≡ true → mode ≡ Mode.Loop → AllByRecursion (λ (e : Ends L.O L.I L.P). (L.O.state e.out).prompt ≡ true) ends.old.items → AllByRecursion (λ (e : Ends L.O L.I L.P). (L.O.state e.out).prompt ≡ true) ends.new.items }
+    ensures prompt_each { L.always_ready links.old ≡ true → mode ≡ Mode.Loop → AllByRecursion (λ (e : Ends L.O L.I L.P). (L.O.state e.out).always_ready ≡ true) ends.old.items → AllByRecursion (λ (e : Ends L.O L.I L.P). (L.O.state e.out).always_ready ≡ true) ends.new.items }
     ensures count { OnOk result (length ends.new.items ≡ length ends.old.items + (if is_open (item line.now) then 1 else 0)) }
     ensures err { OnErr result (length ends.new.items ≡ length ends.old.items) }
     ensures asked { OnOk result (L.asked links.new ≡ L.asked links.old ++ specs_of mode (item line.now ∷ [])) }
@@ -84,7 +84,7 @@ fn open_line<L: Linker>(
     ensures offers { OnOk result (TellOffers L.O.state L.I.state → AreAsked (L.asked links.old) (map (λ e. L.O.state e.out) ends.old.items) (map (λ e. L.I.state e.inn) ends.old.items) → AreAsked (L.asked links.new) (map (λ e. L.O.state e.out) ends.new.items) (map (λ e. L.I.state e.inn) ends.new.items)) }
     ensures opened { length (L.asked links.new) ≡ length ends.new.items }
     ensures back { L.back links.new ≡ L.back links.old }
-    ensures prompt { L.prompt links.new ≡ L.prompt links.old }
+    ensures always_ready { L.always_ready links.new ≡ L.always_ready links.old }
     ensures later { L.faults links.old ≤ L.faults links.new }
     ensures failed { IsErrOf result OpenFault.Failed → Rose (L.faults links.old) (L.faults links.new) }
     ensures kept { (¬ IsErrOf result OpenFault.Failed) → L.faults links.new ≡ L.faults links.old }
@@ -109,7 +109,7 @@ pub fn open_links<L: Linker>(
     ensures fresh { AreUntouched 0 (map (λ e. end_of (L.O.state e.out) (L.I.state e.inn)) ends.new.items) }
     ensures unfinished { AllByRecursion (λ (e : Ends L.O L.I L.P). (L.O.state e.out).finished ≡ false) ends.new.items }
     ensures unclosed { AllByRecursion (λ (e : Ends L.O L.I L.P). IfSome (L.I.state e.inn).closing (λ closing. closing ≡ false)) ends.new.items }
-    ensures prompt_each { L.prompt links.old ≡ true → mode ≡ Mode.Loop → AllByRecursion (λ (e : Ends L.O L.I L.P). (L.O.state e.out).prompt ≡ true) ends.new.items }
+    ensures prompt_each { L.always_ready links.old ≡ true → mode ≡ Mode.Loop → AllByRecursion (λ (e : Ends L.O L.I L.P). (L.O.state e.out).always_ready ≡ true) ends.new.items }
     ensures whole { OnOk result (length ends.new.items ≡ count_by is_open_line lines.now) }
     ensures most { length ends.new.items ≤ count_by is_open_line lines.now }
     ensures asked { OnOk result (L.asked links.new ≡ specs_of mode (map item lines.now)) }
@@ -117,7 +117,7 @@ pub fn open_links<L: Linker>(
     ensures offers { OnOk result (TellOffers L.O.state L.I.state → AreAsked (L.asked links.new) (map (λ e. L.O.state e.out) ends.new.items) (map (λ e. L.I.state e.inn) ends.new.items)) }
     ensures opened { length (L.asked links.new) ≡ length ends.new.items }
     ensures back { L.back links.new ≡ L.back links.old }
-    ensures prompt { L.prompt links.new ≡ L.prompt links.old }
+    ensures always_ready { L.always_ready links.new ≡ L.always_ready links.old }
     ensures later { L.faults links.old ≤ L.faults links.new }
     ensures failed { IsErrOf result OpenFault.Failed → Rose (L.faults links.old) (L.faults links.new) }
     ensures kept { (¬ IsErrOf result OpenFault.Failed) → L.faults links.new ≡ L.faults links.old }
@@ -139,7 +139,7 @@ fn give_one<L: Linker>(links: &mut L, link: u16, ends: Ends<L::O, L::I, L::P>)
     ensures next { link + 1 ≡ length (L.back links.new) }
     ensures asked { L.asked links.new ≡ L.asked links.old }
     ensures faults { L.faults links.new ≡ L.faults links.old }
-    ensures prompt { L.prompt links.new ≡ L.prompt links.old }
+    ensures always_ready { L.always_ready links.new ≡ L.always_ready links.old }
 {
     links.back(link, ends);
 }
@@ -154,7 +154,7 @@ pub fn give_back<L: Linker>(links: &mut L, ends: Vec<Ends<L::O, L::I, L::P>>)
     ensures numbered { AreNumbered 0 (L.back links.new) }
     ensures asked { L.asked links.new ≡ L.asked links.old }
     ensures faults { L.faults links.new ≡ L.faults links.old }
-    ensures prompt { L.prompt links.new ≡ L.prompt links.old }
+    ensures always_ready { L.always_ready links.new ≡ L.always_ready links.old }
 {
     let mut link = 0u16;
     for ends in ends {

@@ -4,16 +4,16 @@ use Rattle.sock_words.specs.declared.outcome.Outcome.{Outcome}
 use Rattle.brpc_model.specs.Items.{Item}
 use Rattle.brpc_model.specs.Places.{names}
 use Rattle.sock_message.specs.Asked.{Asked}
-use Rattle.sock_programs.specs.declared.task.Op.{Op}
-use Rattle.sock_programs.specs.declared.task.Op.TheVariants as ops
-use Rattle.sock_programs.specs.declared.task.Task.{Task}
-use Rattle.sock_programs.specs.Cores.{Core}
-use Rattle.sock_programs.specs.Tasks.{numbered, plan_of}
-use Rattle.sock_programs.specs.Scripts.{all_tasks, is_callless, is_later}
-use Rattle.sock_programs.specs.Told.{IsTask}
-use Rattle.sock_programs.specs.ToldCalls.{Fixed, Order, ToldCalls}
-use Rattle.sock_causes.specs.Explains.{is_plain}
-use Rattle.sock_causes.specs.Facts.{ToldSends}
+use Rattle.seat_programs.specs.declared.task.Op.{Op}
+use Rattle.seat_programs.specs.declared.task.Op.TheVariants as ops
+use Rattle.seat_programs.specs.declared.task.Task.{Task}
+use Rattle.seat_programs.specs.Cores.{Core}
+use Rattle.seat_programs.specs.Tasks.{numbered, plan_of}
+use Rattle.seat_programs.specs.Scripts.{all_tasks, is_callless, is_later}
+use Rattle.seat_programs.specs.Told.{IsTask}
+use Rattle.seat_programs.specs.ToldCalls.{Fixed, Order, ToldCalls}
+use Rattle.outcome_causes.specs.Explains.{is_plain}
+use Rattle.outcome_causes.specs.Facts.{ToldSends}
 use Rattle.report_fits.proofs.Callless.{not_later}
 use Rattle.report_fits.proofs.Numbering.{are_from}
 use Rattle.report_fits.proofs.TaskLemmas.{IsTaskOf, numbers_at, task_is, call_asks, expire_asks, join_asks}

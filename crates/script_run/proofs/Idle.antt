@@ -6,10 +6,10 @@ use Rattle.std.specs.Prelude.{if◌then◌else◌}
 use Rattle.brpc_model.specs.Items.{Item, Call, is_call}
 use Rattle.brpc_model.specs.Operations.{Turn, clients}
 use Rattle.brpc_model.specs.Script.{script_of}
-use Rattle.sock_programs.specs.Cores.{Core}
-use Rattle.sock_programs.specs.Runs.{IsAtRest}
-use Rattle.sock_programs.specs.Scripts.{IsRunWithCalls, all_tasks, is_callless, is_later, played}
-use Rattle.sock_programs.specs.Tasks.{Numbered, calls, id_plan_of, numbered}
+use Rattle.seat_programs.specs.Cores.{Core}
+use Rattle.seat_programs.specs.Runs.{IsAtRest}
+use Rattle.seat_programs.specs.Scripts.{IsRunWithCalls, all_tasks, is_callless, is_later, played}
+use Rattle.seat_programs.specs.Tasks.{Numbered, calls, id_plan_of, numbered}
 use Rattle.sock_runs.proofs.Along.{seat_rests}
 use Rattle.sock_runs.proofs.Whole.{rested_ahead}
 use Rattle.send_causes.specs.joint_runs.proofs.Runs.{first_views}
@@ -19,7 +19,7 @@ use Rattle.report_fits.proofs.Numbering.{are_from, is_numbered}
 use Rattle.report_fits.proofs.TaskLemmas.{tasks_length}
 use Rattle.send_causes.proofs.Early.{start, go, fitting}
 use Rattle.send_causes.proofs.Rests as rests
-use Rattle.send_causes.specs.whole_runs.proofs.Starts.{made}
+use Rattle.send_causes.specs.run_theorems.proofs.Starts.{made}
 use Rattle.script_run.proofs.Silent.{IsMute, MuteAt}
 
 -- ## No calls, and no id slot

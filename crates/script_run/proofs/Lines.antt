@@ -17,11 +17,11 @@ use Rattle.script_items.specs.declared.line.Line.TheVariants as lines
 use Rattle.script_items.specs.declared.line.Seat.{Seat}
 use Rattle.script_print.proofs.SeatLemmas.{seats_more, count_some}
 use Rattle.script_print.specs.Seats.{SeatDraws, seat_count}
-use Rattle.sock_programs.specs.Cores.{Core}
-use Rattle.sock_programs.specs.Ticks.{Moment, seats_of, run}
-use Rattle.sock_programs.specs.Runs.{IsAtRest, LeadsUpTo, Turns, Scheduled}
-use Rattle.sock_programs.specs.Scripts.{drawn_turns}
-use Rattle.sock_programs.specs.Tasks.{plan_of}
+use Rattle.seat_programs.specs.Cores.{Core}
+use Rattle.seat_programs.specs.Ticks.{Moment, seats_of, run}
+use Rattle.seat_programs.specs.Runs.{IsAtRest, LeadsUpTo, Turns, Scheduled}
+use Rattle.seat_programs.specs.Scripts.{drawn_turns}
+use Rattle.seat_programs.specs.Tasks.{plan_of}
 use Rattle.sock_core.specs.Links.{Taken, Given}
 use Rattle.sock_core.specs.Machines.{MachineState, core_with}
 use Rattle.sock_core.specs.Runs.{Ran}

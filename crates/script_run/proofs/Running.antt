@@ -7,22 +7,22 @@ use Rattle.sock_words.specs.declared.kind.Kind.{Kind}
 use Rattle.sock_words.specs.declared.plain.Plan.{Plan}
 use Rattle.brpc_model.specs.Items.{Item}
 use Rattle.brpc_model.specs.Operations.{Turn, clients}
-use Rattle.sock_programs.specs.Cores.{Core, SeatState}
-use Rattle.sock_programs.specs.Ticks.{Answer, Moment, quiet, run, AreAnswered, IsPrompt, broken_in}
-use Rattle.sock_programs.specs.Runs.{IsAtRest, Scheduled, from_to, kind_in}
-use Rattle.sock_programs.specs.Scripts as scripts
-use Rattle.sock_programs.specs.Scripts.{IsRunWithCalls, Settles, AreStill, round_of, ticks_of, opened, set_up, is_ending, ending}
-use Rattle.sock_programs.specs.Tasks as tasks
-use Rattle.sock_programs.specs.Tasks.{plan_of, id_plan_of}
+use Rattle.seat_programs.specs.Cores.{Core, SeatState}
+use Rattle.seat_programs.specs.Ticks.{Answer, Moment, quiet, run, AreAnswered, IsAlwaysReady, broken_in}
+use Rattle.seat_programs.specs.Runs.{IsAtRest, Scheduled, from_to, kind_in}
+use Rattle.seat_programs.specs.Scripts as scripts
+use Rattle.seat_programs.specs.Scripts.{IsRunWithCalls, Settles, AreStill, round_of, ticks_of, opened, set_up, is_ending, ending}
+use Rattle.seat_programs.specs.Tasks as tasks
+use Rattle.seat_programs.specs.Tasks.{plan_of, id_plan_of}
 use Rattle.brpc_model.specs.Script.{script_of}
 use Rattle.send_causes.specs.owed_calls.specs.Lives.{ClosesInTime, ClosesInRun}
-use Rattle.send_causes.specs.whole_runs.proofs.Lengths.{opened_sized, run_sized}
-use Rattle.send_causes.specs.whole_runs.specs.Heard.{heard_in, taken_in, heard_of, taken_of}
-use Rattle.send_causes.specs.whole_runs.specs.Offered.{AreOffered}
-use Rattle.send_causes.specs.whole_runs.specs.OfferedRuns.{OffersInRun}
-use Rattle.send_causes.specs.whole_runs.proofs.HeardRuns.{heard_on, taken_on}
+use Rattle.send_causes.specs.run_theorems.proofs.Lengths.{opened_sized, run_sized}
+use Rattle.send_causes.specs.run_theorems.specs.Heard.{heard_in, taken_in, heard_of, taken_of}
+use Rattle.send_causes.specs.run_theorems.specs.Offered.{AreOffered}
+use Rattle.send_causes.specs.run_theorems.specs.OfferedRuns.{OffersInRun}
+use Rattle.send_causes.specs.run_theorems.proofs.HeardRuns.{heard_on, taken_on}
 use Rattle.report_fits.proofs.Sizes.{keeps_limits}
-use Rattle.sock_core.specs.Links.{Taken, Given, ArePrompt, TellClosing, IsOffering}
+use Rattle.sock_core.specs.Links.{Taken, Given, AreAlwaysReady, TellClosing, IsOffering}
 use Rattle.sock_core.specs.Machines.{MachineState, core_with, ending_by}
 use Rattle.sock_core.specs.Runs as rounds
 use Rattle.sock_core.specs.Runs.{ShowFaults, LinksTell, TakesTell, ShowTakings, SettlesBy, SettledWith, Settled, round_by}
@@ -68,7 +68,7 @@ settles_from script (suc n) c ms h = let more = settles_from script n (run (plan
 
 -- ## The whole run
 
-module _ (script : List Item) (turns : List Turn) (start mid end_ : MachineState) (made : IsMade script start) (played : HasPlayed (λ c. Scheduled start.plan c turns) start mid) (settled : Settled mid end_) (prompt : ArePrompt start.links) where
+module _ (script : List Item) (turns : List Turn) (start mid end_ : MachineState) (made : IsMade script start) (played : HasPlayed (λ c. Scheduled start.plan c turns) start mid) (settled : Settled mid end_) (always_ready : AreAlwaysReady start.links) where
   abbrev p : Plan
   p = plan_of script
 
@@ -130,8 +130,8 @@ module _ (script : List Item) (turns : List Turn) (start mid end_ : MachineState
   settles_again : SettlesBy p rest.ended final
   settles_again = subst (λ (q : Plan). SettlesBy q rest.ended final) plan rest.settles_again
 
-  parts : AllByRecursion IsPrompt (later ++ final)
-  parts = rest.prompt (played.1.prompt prompt)
+  parts : AllByRecursion IsAlwaysReady (later ++ final)
+  parts = rest.always_ready (played.1.always_ready always_ready)
 
   abbrev run_of : IsRunWithCalls script turns (core_with end_ rest.later rest.later_gave)
   run_of = record {
@@ -152,7 +152,7 @@ module _ (script : List Item) (turns : List Turn) (start mid end_ : MachineState
     final = final;
     settles_again = settles_from script settles_again.rounds rest.ended final settles_again.after;
     answered_again = subst (λ (q : Plan). AreAnswered q rest.ended final) plan rest.answered_again;
-    prompt = subst (AllByRecursion IsPrompt) (sym (append_assoc now later final)) (prompt_append now (later ++ final) (first.follows.prompt prompt) parts);
+    always_ready = subst (AllByRecursion IsAlwaysReady) (sym (append_assoc now later final)) (prompt_append now (later ++ final) (first.follows.always_ready always_ready) parts);
     is_end = rest.core ∙ ap (λ (q : Plan). run q rest.ended final) plan;
   }
 
@@ -222,8 +222,8 @@ module _ (script : List Item) (turns : List Turn) (start mid end_ : MachineState
   }
 
 pub run_answered : {T E : Type 0} (script : List Item) (turns : List Turn) (start mid end_ : MachineState) (r : Result T E) → IsMade script start → HasPlayed (λ c. Scheduled start.plan c turns) start mid → OnOk r (Settled mid end_) →
-    OnOk r (ArePrompt start.links → HasRun script turns start end_)
-run_answered script turns start mid end_ (Ok x) made played settled = λ prompt. has_run script turns start mid end_ made played settled prompt
+    OnOk r (AreAlwaysReady start.links → HasRun script turns start end_)
+run_answered script turns start mid end_ (Ok x) made played settled = λ always_ready. has_run script turns start mid end_ made played settled always_ready
 run_answered script turns start mid end_ (Err e) made played settled = tt
 
 pub plan_answered : {T E : Type 0} (start mid end_ : MachineState) (r : Result T E) → mid.plan ≡ start.plan → mid.ids.plan ≡ start.ids.plan → OnOk r (Settled mid end_) → OnOk r ((end_.plan ≡ start.plan) × (end_.ids.plan ≡ start.ids.plan))

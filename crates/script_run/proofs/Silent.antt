@@ -20,25 +20,25 @@ use Rattle.sock_io.specs.declared.link.Put.{Put}
 use Rattle.sock_model.specs.Messages.{Letter}
 use Rattle.sock_model.specs.Reads.{message, link_home}
 use Rattle.sock_steps.proofs.Quiet.{either_way}
-use Rattle.sock_programs.specs.Asides.{Step, Found, TakeBytes, Taking, Bytes, Nothing, Closed}
-use Rattle.sock_programs.specs.Beside.{found_in}
-use Rattle.sock_programs.specs.Calls.{Call, GiveBirth}
-use Rattle.sock_programs.specs.Clients.{client_from, ending_of}
-use Rattle.sock_programs.specs.Cores.{Core, SeatState, resolved, said, next_step, waiting_at}
-use Rattle.sock_programs.specs.Drops.{call_in}
-use Rattle.sock_programs.specs.Heads.{Retry, Opens, Reads, Discards, Reading, Ended}
-use Rattle.sock_programs.specs.Programs.{Program, Do, Rest, TakeMessage, TakeHome, PutHome, PutBytes, AskReady, Write, Aside, Round, LAST_VERSION, NO_SOCKET, recycle, release, address, set_failed}
-use Rattle.sock_programs.specs.Readers.{LIMIT, has_response, slot_in, responses, read_on, took, discarded, thrown_away, read, reader}
-use Rattle.sock_programs.specs.Scripts.{IsRunWithCalls, all_programs, programs, readers_from, sizes_of, all_tasks, opened, set_up, played, ending}
-use Rattle.sock_programs.specs.Tasks.{calls, opens, plan_of, id_plan_of}
-use Rattle.sock_programs.specs.Ticks.{Answer, OfPut, OfReady, Moment, quiet, taken, ticked, run, step_with, tick_with, with_message, with_link, with_put, with_ready, with_found}
+use Rattle.seat_programs.specs.Asides.{Step, Found, TakeBytes, Taking, Bytes, Nothing, Closed}
+use Rattle.seat_programs.specs.Beside.{found_in}
+use Rattle.seat_programs.specs.Calls.{Call, CreateLife}
+use Rattle.seat_programs.specs.Clients.{client_from, ending_of}
+use Rattle.seat_programs.specs.Cores.{Core, SeatState, resolved, said, next_step, waiting_at}
+use Rattle.seat_programs.specs.Drops.{call_in}
+use Rattle.seat_programs.specs.Heads.{Retry, Opens, Reads, Discards, Reading, Ended}
+use Rattle.seat_programs.specs.Programs.{Program, Do, Rest, TakeMessage, TakeHome, PutHome, PutBytes, AskReady, Write, Aside, Round, LAST_VERSION, NO_SOCKET, recycle, release, address, set_failed}
+use Rattle.seat_programs.specs.Readers.{LIMIT, has_response, slot_in, responses, read_on, took, discarded, thrown_away, read, reader}
+use Rattle.seat_programs.specs.Scripts.{IsRunWithCalls, all_programs, programs, readers_from, sizes_of, all_tasks, opened, set_up, played, ending}
+use Rattle.seat_programs.specs.Tasks.{calls, opens, plan_of, id_plan_of}
+use Rattle.seat_programs.specs.Ticks.{Answer, OfPut, OfReady, Moment, quiet, taken, ticked, run, step_with, tick_with, with_message, with_link, with_put, with_ready, with_found}
 use Rattle.sock_runs.specs.Sound.{first_step}
 use Rattle.sock_runs.proofs.Opening.{mapped}
-use Rattle.sock_causes.specs.Facts.{born_at, born_of, put_at, put_by, shown_in, late_of_run, late_links_of_run, is_said_late}
+use Rattle.outcome_causes.specs.Facts.{born_at, born_of, put_at, put_by, shown_in, late_of_run, late_links_of_run, is_said_late}
 
 -- no step of the program makes a life or puts a call home, and it says nothing
 abbrev pub IsMute : Program → Type 0
-IsMute (Do (GiveBirth i k) next) = ⊥
+IsMute (Do (CreateLife i k) next) = ⊥
 IsMute (Do call next) = (found : ℕ) → IsMute (next found)
 IsMute (Aside (TakeBytes k room) next) = (t : Taking) → IsMute (next t)
 IsMute (Round (Opens o) next) = (word : ℕ) → IsMute (next word)
@@ -131,7 +131,7 @@ stays_mute ws Rest x = (refl, λ os. refl)
 stays_mute ws _ x = absurd x
 
 mute_found : (call : Call) (next : ℕ → Program) → IsMute (Do call next) → (found : ℕ) → IsMute (next found)
-mute_found (GiveBirth i k) next x = absurd x
+mute_found (CreateLife i k) next x = absurd x
 mute_found call next x = x
 
 mute_aside : (step : Step) (next : Found step → Program) → IsMute (Aside step next) → (found : Found step) → IsMute (next found)
@@ -256,7 +256,7 @@ no_birth : (program : Program) → IsMute program → born_of (call_in program) 
 no_birth (Do call next) x = none_born call next x
   where
     none_born : (call : Call) (next : ℕ → Program) → IsMute (Do call next) → born_of (std.Some call) ≡ []
-    none_born (GiveBirth i k) next x = absurd x
+    none_born (CreateLife i k) next x = absurd x
     none_born _ next x = refl
 no_birth (Aside step next) x = refl
 no_birth (Round head next) x = refl

@@ -17,19 +17,19 @@ use Rattle.brpc_model.specs.PlaceWords.{ArePlaces, HasEachOutcome, IsReportText,
 use Rattle.sock_io.specs.declared.link.Mode.TheVariants as mode
 use Rattle.sock_io.specs.Link.{OutState, InState, more_told}
 use Rattle.sock_model.specs.declared.home.Home.TheVariants.{Link}
-use Rattle.sock_programs.specs.Asides.{Taking, AtEnd, Closed, Broken}
-use Rattle.sock_programs.specs.Cores.{Core}
-use Rattle.sock_programs.specs.Scripts.{place_words}
-use Rattle.sock_programs.specs.Tasks.{plan_of}
-use Rattle.run_laws.specs.client_laws.proofs.Retrying.{retries_go}
-use Rattle.send_causes.specs.whole_runs.specs.Heard.{as_told, as_taken, take_answers, heard_of, taken_of, heard_takes}
-use Rattle.send_causes.specs.whole_runs.specs.OfferedRuns.{OffersInRun}
-use Rattle.send_causes.specs.whole_runs.specs.Over.{IsAllOver}
-use Rattle.send_causes.specs.whole_runs.proofs.Ended.{run_all_over}
-use Rattle.send_causes.specs.whole_runs.proofs.Gave.{gave_heard}
-use Rattle.send_causes.specs.whole_runs.proofs.Lengths.{ended_length}
-use Rattle.send_causes.specs.whole_runs.proofs.Runs.{run_drops_told}
-use Rattle.send_causes.specs.whole_runs.proofs.Starts.{made, starts, fitting}
+use Rattle.seat_programs.specs.Asides.{Taking, AtEnd, Closed, Broken}
+use Rattle.seat_programs.specs.Cores.{Core}
+use Rattle.seat_programs.specs.Scripts.{place_words}
+use Rattle.seat_programs.specs.Tasks.{plan_of}
+use Rattle.run_laws.specs.programs_allowed.proofs.Retrying.{retries_go}
+use Rattle.send_causes.specs.run_theorems.specs.Heard.{as_told, as_taken, take_answers, heard_of, taken_of, heard_takes}
+use Rattle.send_causes.specs.run_theorems.specs.OfferedRuns.{OffersInRun}
+use Rattle.send_causes.specs.run_theorems.specs.Over.{IsAllOver}
+use Rattle.send_causes.specs.run_theorems.proofs.Ended.{run_all_over}
+use Rattle.send_causes.specs.run_theorems.proofs.Gave.{gave_heard}
+use Rattle.send_causes.specs.run_theorems.proofs.Lengths.{ended_length}
+use Rattle.send_causes.specs.run_theorems.proofs.Runs.{run_drops_told}
+use Rattle.send_causes.specs.run_theorems.proofs.Starts.{made, starts, fitting}
 use Rattle.send_causes.specs.owed_calls.proofs.Known.{run_owed_of}
 use Rattle.run_laws.proofs.Laws.{keeps_laws}
 use Rattle.report_fits.specs.Ends.{IsEndOf, AreEndsOf, AreTold, EndsEarly}
@@ -38,7 +38,7 @@ use Rattle.report_fits.proofs.Places.{script_places}
 use Rattle.report_fits.proofs.Sizes.{keeps_limits}
 use Rattle.report_fits.proofs.Tasks.{tasks_of_script}
 use Rattle.sock_core.specs.Finish.{told_from}
-use Rattle.sock_core.specs.Links.{ArePrompt, TellClosing, IsOffering}
+use Rattle.sock_core.specs.Links.{AreAlwaysReady, TellClosing, IsOffering}
 use Rattle.sock_core.specs.Machines.{MachineState, core_with}
 use Rattle.sock_core.specs.Runs.{SameLink, SameLinks, ShowsTaking}
 use Rattle.script_run.specs.Causes.{HasCauses, EndedEarly, gave_in}
@@ -253,11 +253,11 @@ pub text_answered : {T E F S P C : Type 0} (shows : Print) (items : T → List �
     map (λ (o : OutState). o.took) m.links.outs ≡ map (λ (e : LinkEnd). e.took) m.ends → map (λ (i : InState). i.gave) m.links.inns ≡ map (λ (e : LinkEnd). e.gave_count) m.ends →
     map (λ (i : InState). i.gave_bytes) m.links.inns ≡ map (λ (e : LinkEnd). e.gave) m.ends → length m.letters ≡ m.plan.requests →
     outcomes ≡ told_from 0 m.outcomes → words ≡ place_words m.plan m.words → ends ≡ m.ends → back ≡ ends →
-    (IsOk r → IsOk q) → (P → ArePrompt start.links) → (C → TellClosing start.links) → (C → AllByRecursion (λ (e : LinkEnd). e.closed ≢ None) start.ends) →
-    (Offering : Type 0) → (Offering → AreAsked (specs_of mode.Loop script) start.links.outs start.links.inns) → OnOk q (ArePrompt start.links → HasRun script turns start m) → OnOk q ((m.plan ≡ start.plan) × (m.ids.plan ≡ start.ids.plan)) →
+    (IsOk r → IsOk q) → (P → AreAlwaysReady start.links) → (C → TellClosing start.links) → (C → AllByRecursion (λ (e : LinkEnd). e.closed ≢ None) start.ends) →
+    (Offering : Type 0) → (Offering → AreAsked (specs_of mode.Loop script) start.links.outs start.links.inns) → OnOk q (AreAlwaysReady start.links → HasRun script turns start m) → OnOk q ((m.plan ≡ start.plan) × (m.ids.plan ≡ start.ids.plan)) →
     IfOk r (λ t. (os : List (Option Outcome)) → length os ≡ length (operations script) → outcomes ≡ told_from 0 os → ArePlaces words → HasEachOutcome words os → (took : List (List ℕ)) × AreTold ends took × IsPrintOf shows script os words took (items t)) →
     IfOk r (λ t. P → C → IsPrinted Offering shows script turns (items t) back)
-text_answered shows items (Err e) q bytes script turns start m outcomes words ends back reads made untouched many same outs counts given letters outcomes_are words_are ends_same back_is played prompt tell closed Offering asked ran sized told = tt
-text_answered shows items (Ok t) (Err e) bytes script turns start m outcomes words ends back reads made untouched many same outs counts given letters outcomes_are words_are ends_same back_is played prompt tell closed Offering asked ran sized told = let same = played refl in absurd (cc)
-text_answered shows items (Ok t) (Ok done) bytes script turns start m outcomes words ends back reads made untouched many same outs counts given letters outcomes_are words_are ends_same back_is played prompt tell closed Offering asked ran sized told =
-    λ p c. subst (IsPrinted Offering shows script turns (items t)) (sym back_is) (printed_is bytes script turns start m reads untouched many same (ran (prompt p)) (sized.0 ∙ made.plan) (tell c) (closed c) outs counts given letters Offering asked outcomes words ends outcomes_are words_are ends_same shows (items t) told)
+text_answered shows items (Err e) q bytes script turns start m outcomes words ends back reads made untouched many same outs counts given letters outcomes_are words_are ends_same back_is played always_ready tell closed Offering asked ran sized told = tt
+text_answered shows items (Ok t) (Err e) bytes script turns start m outcomes words ends back reads made untouched many same outs counts given letters outcomes_are words_are ends_same back_is played always_ready tell closed Offering asked ran sized told = let same = played refl in absurd (cc)
+text_answered shows items (Ok t) (Ok done) bytes script turns start m outcomes words ends back reads made untouched many same outs counts given letters outcomes_are words_are ends_same back_is played always_ready tell closed Offering asked ran sized told =
+    λ p c. subst (IsPrinted Offering shows script turns (items t)) (sym back_is) (printed_is bytes script turns start m reads untouched many same (ran (always_ready p)) (sized.0 ∙ made.plan) (tell c) (closed c) outs counts given letters Offering asked outcomes words ends outcomes_are words_are ends_same shows (items t) told)

@@ -5,23 +5,23 @@ use Rattle.brpc_model.specs.Operations.{Turn, link_names}
 use Rattle.brpc_model.specs.Causes.{HasFault, reading_limit}
 use Rattle.brpc_model.specs.Run.{Lateness, nothing_late}
 use Rattle.sock_message.specs.Asked.{Asked}
-use Rattle.sock_programs.specs.declared.task.Op.TheVariants as ops
-use Rattle.sock_programs.specs.declared.task.Task.{Task}
-use Rattle.sock_programs.specs.Asides.{AtEnd, Closed, Broken}
-use Rattle.sock_programs.specs.Cores.{Core}
-use Rattle.sock_programs.specs.Ticks.{quiet, broken_in}
-use Rattle.sock_programs.specs.Tasks.{plan_of}
-use Rattle.sock_programs.specs.Scripts.{IsRunWithCalls, all_tasks, is_callless, opened, set_up}
-use Rattle.sock_programs.specs.Told.{IsTask}
-use Rattle.sock_programs.specs.ToldCalls.{Fixed, Order, ToldCalls}
+use Rattle.seat_programs.specs.declared.task.Op.TheVariants as ops
+use Rattle.seat_programs.specs.declared.task.Task.{Task}
+use Rattle.seat_programs.specs.Asides.{AtEnd, Closed, Broken}
+use Rattle.seat_programs.specs.Cores.{Core}
+use Rattle.seat_programs.specs.Ticks.{quiet, broken_in}
+use Rattle.seat_programs.specs.Tasks.{plan_of}
+use Rattle.seat_programs.specs.Scripts.{IsRunWithCalls, all_tasks, is_callless, opened, set_up}
+use Rattle.seat_programs.specs.Told.{IsTask}
+use Rattle.seat_programs.specs.ToldCalls.{Fixed, Order, ToldCalls}
 use Rattle.report_fits.proofs.Places.{lateness}
-use Rattle.sock_causes.specs.PlainTasks.{told_tasks_of}
-use Rattle.sock_causes.specs.Facts.{broken_of_run, is_said_late, late_of_run, late_links_of_run}
-use Rattle.sock_causes.specs.Losses.{lost_in}
-use Rattle.sock_causes.specs.TaskCauses.{ToldTasks, DropsMade}
-use Rattle.sock_causes.proofs.Scripts.{MadeInRun, lost_of_run}
+use Rattle.outcome_causes.specs.PlainTasks.{told_tasks_of}
+use Rattle.outcome_causes.specs.Facts.{broken_of_run, is_said_late, late_of_run, late_links_of_run}
+use Rattle.outcome_causes.specs.Losses.{lost_in}
+use Rattle.outcome_causes.specs.TaskCauses.{ToldTasks, DropsMade}
+use Rattle.outcome_causes.proofs.Scripts.{MadeInRun, lost_of_run}
 use Rattle.send_causes.specs.call_causes.specs.Lists.{attempts_of_run, silent_of_run, soon_of_run}
-use Rattle.send_causes.specs.whole_runs.specs.Heard.{heard_takes, given_by}
+use Rattle.send_causes.specs.run_theorems.specs.Heard.{heard_takes, given_by}
 
 -- the links that answered that they failed in a run, before its ending and behind it
 abbrev pub broken_of : {script : List Item} {turns : List Turn} {end_ : Core} → IsRunWithCalls script turns end_ → List ℕ

@@ -10,21 +10,21 @@ use Rattle.sock_words.specs.declared.outcome.Outcome.{Outcome}
 use Rattle.sock_words.specs.declared.place_word.PlaceWord.{PlaceWord}
 use Rattle.script_report.specs.declared.summary.Load.{Load}
 use Rattle.script_report.specs.Sums.{told_of, sums_of, summary_text}
-use Rattle.sock_programs.specs.Asides.{Taking}
-use Rattle.sock_programs.specs.Cores.{Core}
-use Rattle.sock_programs.specs.Ticks.{Answer, Moment}
-use Rattle.sock_programs.specs.Runs.{IsAtRest, Turns}
-use Rattle.sock_programs.specs.Scripts.{IsRunWithCalls, Reports, is_callless, set_up, played, drawn_turns, took_at_home}
-use Rattle.sock_programs.specs.Tasks.{plan_of, id_plan_of, opens, calls}
+use Rattle.seat_programs.specs.Asides.{Taking}
+use Rattle.seat_programs.specs.Cores.{Core}
+use Rattle.seat_programs.specs.Ticks.{Answer, Moment}
+use Rattle.seat_programs.specs.Runs.{IsAtRest, Turns}
+use Rattle.seat_programs.specs.Scripts.{IsRunWithCalls, Reports, is_callless, set_up, played, drawn_turns, took_at_home}
+use Rattle.seat_programs.specs.Tasks.{plan_of, id_plan_of, opens, calls}
 use Rattle.report_fits.specs.Ends.{AreEndsOf, AreTold}
 use Rattle.run_laws.specs.Laws.{KeepsLaws}
 use Rattle.sock_io.specs.Link.{OutState, InState}
 use Rattle.send_causes.specs.owed_calls.specs.Lives.{ClosesInRun}
 use Rattle.sock_core.specs.Links.{Taken, Given, Agrees, AgreesGave, TellClosing, IsOffering}
 use Rattle.sock_core.specs.Machines.{MachineState, core_with}
-use Rattle.send_causes.specs.whole_runs.specs.Heard.{as_told, as_taken, take_answers, heard_of, taken_of, heard_takes}
-use Rattle.send_causes.specs.whole_runs.specs.OfferedRuns.{OffersInRun}
-use Rattle.send_causes.specs.whole_runs.specs.Over.{IsAllOver}
+use Rattle.send_causes.specs.run_theorems.specs.Heard.{as_told, as_taken, take_answers, heard_of, taken_of, heard_takes}
+use Rattle.send_causes.specs.run_theorems.specs.OfferedRuns.{OffersInRun}
+use Rattle.send_causes.specs.run_theorems.specs.Over.{IsAllOver}
 use Rattle.sock_core.specs.Runs.{ShowFaults, LinksTell, TakesTell, ShowsTaking, ShowTakings, Follows, Made}
 use Rattle.sock_core.specs.Driving.{FirstRests}
 use Rattle.script_run.specs.Causes.{HasCauses, DropsTold, broken_of, gave_in}

@@ -2,9 +2,9 @@
 //! back, and prints the report, or a summary of it.
 #![tactic(auto)]
 
+mod outcomes;
 mod report;
 mod run;
-mod said;
 mod schedule;
 
 pub use report::Print;

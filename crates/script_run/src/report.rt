@@ -9,7 +9,7 @@ ghost use Rattle.sock_core.specs.Finish.{told_from};
 ghost use Rattle.report_fits.specs.Ends.{AreTold};
 ghost use Rattle.script_run.specs.Played.{IsPrintOf};
 
-use crate::said::said_of;
+use crate::outcomes::said_of;
 use script_items::{Line, Script};
 use script_report::{Load, print_report, print_summary};
 use script_tasks::plan_of;

@@ -10,7 +10,7 @@ ghost use Rattle.sock_io.specs.Causes.{Rose};
 ghost use Rattle.sock_io.specs.Link.{end_of};
 ghost use Rattle.sock_words.specs.declared.outcome.Outcome.{Outcome};
 ghost use Rattle.sock_core.specs.Finish.{told_from};
-ghost use Rattle.sock_core.specs.Links.{ArePrompt, TellClosing};
+ghost use Rattle.sock_core.specs.Links.{AreAlwaysReady, TellClosing};
 ghost use Rattle.sock_core.specs.Runs.{SameLinks};
 ghost use Rattle.script_links.specs.Given.{AreNumbered, AreUntouched, IsBeginning, has_piece, specs_of};
 ghost use Rattle.script_links.specs.Offered.{AreAsked, TellOffers};
@@ -49,7 +49,7 @@ pub fn run_script<L: Linker>(
     requires pieces { list_all has_piece script.now ≡ true }
     requires asked { L.asked links.old ≡ [] }
     requires back { L.back links.old ≡ [] }
-    ensures text { IfOk result (λ text. L.prompt links.old ≡ true → TellClosed L.I.state → IsPrinted (TellOffers L.O.state L.I.state) print script.now (turns_of script.now schedule) text.items (L.back links.new)) }
+    ensures text { IfOk result (λ text. L.always_ready links.old ≡ true → TellClosed L.I.state → IsPrinted (TellOffers L.O.state L.I.state) print script.now (turns_of script.now schedule) text.items (L.back links.new)) }
     ensures unopened { IsErrOf result RunFault.OpenFailed → AreUntouched 0 (L.back links.new) }
     ensures all { OnOk result (length (L.back links.new) ≡ length (link_names script.now)) }
     // What is asked of the links is what the lines of the script ask, all of it unless one could not be opened.
@@ -57,7 +57,7 @@ pub fn run_script<L: Linker>(
     ensures front { IsBeginning (L.asked links.new) (specs_of Mode.Loop script.now) }
     ensures given_back { length (L.back links.new) ≡ length (L.asked links.new) }
     ensures numbered { AreNumbered 0 (L.back links.new) }
-    ensures prompt { L.prompt links.new ≡ L.prompt links.old }
+    ensures always_ready { L.always_ready links.new ≡ L.always_ready links.old }
     ensures later { L.faults links.old ≤ L.faults links.new }
     ensures failed { IsErrOf result RunFault.OpenFailed → Rose (L.faults links.old) (L.faults links.new) }
     ensures kept { (¬ IsErrOf result RunFault.OpenFailed) → L.faults links.new ≡ L.faults links.old }
@@ -97,18 +97,18 @@ fn run_over<L: Linker>(
     requires untouched { AreUntouched 0 (map (λ e. end_of (L.O.state e.out) (L.I.state e.inn)) ends.items) }
     requires unfinished { AllByRecursion (λ (e : Ends L.O L.I L.P). (L.O.state e.out).finished ≡ false) ends.items }
     requires unclosed { AllByRecursion (λ (e : Ends L.O L.I L.P). IfSome (L.I.state e.inn).closing (λ closing. closing ≡ false)) ends.items }
-    requires prompt { L.prompt links.old ≡ true → AllByRecursion (λ (e : Ends L.O L.I L.P). (L.O.state e.out).prompt ≡ true) ends.items }
+    requires always_ready { L.always_ready links.old ≡ true → AllByRecursion (λ (e : Ends L.O L.I L.P). (L.O.state e.out).always_ready ≡ true) ends.items }
     requires offers { TellOffers L.O.state L.I.state → AreAsked (specs_of Mode.Loop script.now) (map (λ e. L.O.state e.out) ends.items) (map (λ e. L.I.state e.inn) ends.items) }
     requires all { length ends.items ≡ length (link_names script.now) }
     requires few { length ends.items ≤ 256 }
     requires opened { length (L.asked links.old) ≡ length ends.items }
     requires back { L.back links.old ≡ [] }
-    ensures text { IfOk result (λ text. L.prompt links.old ≡ true → TellClosed L.I.state → IsPrinted (TellOffers L.O.state L.I.state) print script.now (turns_of script.now schedule) text.items (L.back links.new)) }
+    ensures text { IfOk result (λ text. L.always_ready links.old ≡ true → TellClosed L.I.state → IsPrinted (TellOffers L.O.state L.I.state) print script.now (turns_of script.now schedule) text.items (L.back links.new)) }
     ensures back { length (L.back links.new) ≡ length ends.items }
     ensures numbered { AreNumbered 0 (L.back links.new) }
     ensures asked { L.asked links.new ≡ L.asked links.old }
     ensures faults { L.faults links.new ≡ L.faults links.old }
-    ensures prompt { L.prompt links.new ≡ L.prompt links.old }
+    ensures always_ready { L.always_ready links.new ≡ L.always_ready links.old }
     ensures known { IsErrOf result RunFault.OpenFailed → ⊥ }
 {
     let machine = match Machine::new(alloc, script, ends) {
@@ -133,7 +133,7 @@ fn run_on<L: Linker>(
     requires script { (bytes : List ℕ) × (script_of bytes ≡ Ok script.now) }
     requires made { IsMade script.now machine }
     requires untouched { AreUntouched 0 machine.ends }
-    requires prompt { L.prompt links.old ≡ true → ArePrompt machine.links }
+    requires always_ready { L.always_ready links.old ≡ true → AreAlwaysReady machine.links }
     requires tell { TellClosed L.I.state → TellClosing machine.links }
     requires closed { TellClosed L.I.state → AllByRecursion (λ (e : LinkEnd). e.closed ≢ None) machine.ends }
     requires offers { TellOffers L.O.state L.I.state → AreAsked (specs_of Mode.Loop script.now) machine.links.outs machine.links.inns }
@@ -141,12 +141,12 @@ fn run_on<L: Linker>(
     requires few { length machine.ends ≤ 256 }
     requires opened { length (L.asked links.old) ≡ length machine.ends }
     requires back { L.back links.old ≡ [] }
-    ensures text { IfOk result (λ text. L.prompt links.old ≡ true → TellClosed L.I.state → IsPrinted (TellOffers L.O.state L.I.state) print script.now (turns_of script.now schedule) text.items (L.back links.new)) }
+    ensures text { IfOk result (λ text. L.always_ready links.old ≡ true → TellClosed L.I.state → IsPrinted (TellOffers L.O.state L.I.state) print script.now (turns_of script.now schedule) text.items (L.back links.new)) }
     ensures back { length (L.back links.new) ≡ length machine.ends }
     ensures numbered { AreNumbered 0 (L.back links.new) }
     ensures asked { L.asked links.new ≡ L.asked links.old }
     ensures faults { L.faults links.new ≡ L.faults links.old }
-    ensures prompt { L.prompt links.new ≡ L.prompt links.old }
+    ensures always_ready { L.always_ready links.new ≡ L.always_ready links.old }
     ensures known { IsErrOf result RunFault.OpenFailed → ⊥ }
 {
     let played = play(alloc, &mut machine, links, script, schedule);
@@ -195,7 +195,7 @@ fn play<L: Linker>(
 ) -> Result<(), NoMemory>
     requires script { (bytes : List ℕ) × (script_of bytes ≡ Ok script.now) }
     requires made { IsMade script.now machine.old }
-    ensures run { OnOk result (ArePrompt machine.old.links → HasRun script.now (turns_of script.now schedule) machine.old machine.new) }
+    ensures run { OnOk result (AreAlwaysReady machine.old.links → HasRun script.now (turns_of script.now schedule) machine.old machine.new) }
     ensures plan { OnOk result ((machine.new.plan ≡ machine.old.plan) × (machine.new.ids.plan ≡ machine.old.ids.plan)) }
     ensures ends { SameLinks machine.old machine.new }
     ensures asked { L.asked links.new ≡ L.asked links.old }
@@ -203,7 +203,7 @@ fn play<L: Linker>(
     ensures back { L.back links.new ≡ L.back links.old }
     ensures done { L.done links.new ≡ L.done links.old }
     ensures faults { L.faults links.new ≡ L.faults links.old }
-    ensures prompt { L.prompt links.new ≡ L.prompt links.old }
+    ensures always_ready { L.always_ready links.new ≡ L.always_ready links.old }
 {
     play_schedule(alloc, machine, links, script, schedule)?;
     machine.settle(links)

@@ -1,9 +1,9 @@
 ghost use Rattle.std.specs.Prelude.{◌≡◌, ◌∷◌, [], ℕ, List, Ok, false, min, OnOk, map, replicate};
 ghost use Rattle.brpc_model.specs.Items.{Item};
 ghost use Rattle.brpc_model.specs.Script.{script_of};
-ghost use Rattle.sock_programs.specs.Ticks.{seats_of};
-ghost use Rattle.sock_programs.specs.Runs.{LeadsUpTo, Scheduled};
-ghost use Rattle.sock_programs.specs.Scripts.{drawn_turns};
+ghost use Rattle.seat_programs.specs.Ticks.{seats_of};
+ghost use Rattle.seat_programs.specs.Runs.{LeadsUpTo, Scheduled};
+ghost use Rattle.seat_programs.specs.Scripts.{drawn_turns};
 ghost use Rattle.brpc_model.specs.Operations.{seat_number, turn_of, schedule};
 ghost use Rattle.script_items.specs.Meaning.{item, seat_of};
 ghost use Rattle.sock_words.specs.KindText.{kind_text};
@@ -53,7 +53,7 @@ fn tick_seat<L: Linker>(
     ensures back { L.back links.new ≡ L.back links.old }
     ensures done { L.done links.new ≡ L.done links.old }
     ensures faults { L.faults links.new ≡ L.faults links.old }
-    ensures prompt { L.prompt links.new ≡ L.prompt links.old }
+    ensures always_ready { L.always_ready links.new ≡ L.always_ready links.old }
 {
     match machine.tick(links, seat)? {
         Tick::Moved(_) | Tick::Waits(_) => Ok(true),
@@ -77,7 +77,7 @@ fn play_ticks<L: Linker>(
     ensures back { L.back links.new ≡ L.back links.old }
     ensures done { L.done links.new ≡ L.done links.old }
     ensures faults { L.faults links.new ≡ L.faults links.old }
-    ensures prompt { L.prompt links.new ≡ L.prompt links.old }
+    ensures always_ready { L.always_ready links.new ≡ L.always_ready links.old }
 {
     for _ in 0..ticks {
         if !tick_seat(machine, links, seat)? {
@@ -103,7 +103,7 @@ fn play_until<L: Linker>(
     ensures back { L.back links.new ≡ L.back links.old }
     ensures done { L.done links.new ≡ L.done links.old }
     ensures faults { L.faults links.new ≡ L.faults links.old }
-    ensures prompt { L.prompt links.new ≡ L.prompt links.old }
+    ensures always_ready { L.always_ready links.new ≡ L.always_ready links.old }
 {
     machine.tick_until(links, seat, kind)
 }
@@ -123,7 +123,7 @@ fn play_line<L: Linker>(
     ensures back { L.back links.new ≡ L.back links.old }
     ensures done { L.done links.new ≡ L.done links.old }
     ensures faults { L.faults links.new ≡ L.faults links.old }
-    ensures prompt { L.prompt links.new ≡ L.prompt links.old }
+    ensures always_ready { L.always_ready links.new ≡ L.always_ready links.old }
 {
     match line {
         Line::Tick { seat, ticks } => play_ticks(machine, links, seat_number(*seat), *ticks),
@@ -147,7 +147,7 @@ fn play_lines<L: Linker>(
     ensures back { L.back links.new ≡ L.back links.old }
     ensures done { L.done links.new ≡ L.done links.old }
     ensures faults { L.faults links.new ≡ L.faults links.old }
-    ensures prompt { L.prompt links.new ≡ L.prompt links.old }
+    ensures always_ready { L.always_ready links.new ≡ L.always_ready links.old }
 {
     for line in lines {
         play_line(machine, links, line)?;
@@ -173,7 +173,7 @@ fn play_drawn<L: Linker>(
     ensures back { L.back links.new ≡ L.back links.old }
     ensures done { L.done links.new ≡ L.done links.old }
     ensures faults { L.faults links.new ≡ L.faults links.old }
-    ensures prompt { L.prompt links.new ≡ L.prompt links.old }
+    ensures always_ready { L.always_ready links.new ≡ L.always_ready links.old }
 {
     let Ok(plan) = plan_of(alloc, script.lines()) else {
         return Err(NoMemory);
@@ -204,7 +204,7 @@ pub fn play_schedule<L: Linker>(
     ensures back { L.back links.new ≡ L.back links.old }
     ensures done { L.done links.new ≡ L.done links.old }
     ensures faults { L.faults links.new ≡ L.faults links.old }
-    ensures prompt { L.prompt links.new ≡ L.prompt links.old }
+    ensures always_ready { L.always_ready links.new ≡ L.always_ready links.old }
 {
     match schedule {
         Schedule::Own => play_lines(machine, links, script.lines()),

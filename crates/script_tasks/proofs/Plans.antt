@@ -7,7 +7,7 @@ use Rattle.corr_core.specs.declared.marks.Plan.{Plan as IdPlan}
 use Rattle.brpc_model.specs.Items.{Item, Slots, Requests, First, Client, Open, Send, Call, Expire, Join, Fail, Hold, Drop, Sched, Tick, To, is_call, is_operation}
 use Rattle.brpc_model.specs.Operations.{operations, clients, link_names, slots, requests, first_version}
 use Rattle.brpc_model.specs.Places.{names}
-use Rattle.sock_programs.specs.Tasks.{calls, id_plan_of, plan_of}
+use Rattle.seat_programs.specs.Tasks.{calls, id_plan_of, plan_of}
 use Rattle.script_tasks.specs.Along.{numbers_along}
 use Rattle.script_tasks.proofs.Alongs.{calls_are}
 

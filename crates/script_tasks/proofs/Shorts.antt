@@ -6,7 +6,7 @@ use Rattle.brpc_model.specs.Items.{Item, Slots, Requests, First, Client, Open, S
 use Rattle.report_fits.proofs.CallLines.{CallInRange}
 use Rattle.report_fits.proofs.Reading.{InRange}
 use Rattle.sock_message.specs.Inside.{KeepsLimits}
-use Rattle.sock_programs.specs.Tasks.{name_number, asked_of}
+use Rattle.seat_programs.specs.Tasks.{name_number, asked_of}
 use Rattle.script_tasks.specs.Along.{IsShort}
 
 call_short : (call : CallLine) → CallInRange call → (names : List (List ℕ)) (o : ℕ) → KeepsLimits (asked_of names o call)

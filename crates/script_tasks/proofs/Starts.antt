@@ -3,7 +3,7 @@ use Rattle.std.proofs.Common.{◌≡◌, ◌≢◌, ℕ, zero, suc, ◌+◌, ◌
 use Rattle.std.proofs.lemmas.Bool.Decides.{nat_tests}
 use Rattle.brpc_model.specs.Items.{Item, Slots, Requests, First, Client, Sched, Tick, To, is_open}
 use Rattle.brpc_model.specs.Operations.{Operation, operations_from}
-use Rattle.sock_programs.specs.Tasks.{Numbered, numbered_from, numbered, number_of}
+use Rattle.seat_programs.specs.Tasks.{Numbered, numbered_from, numbered, number_of}
 use Rattle.script_tasks.specs.Along.{ends_along, within, operation_in, Knows}
 
 ends_by_sort : (c k number : ℕ) (item : Item) (items : List Item) (P : List ℕ → List Operation → Type 0) →

@@ -2,9 +2,9 @@
 use Rattle.std.specs.Prelude.{◌≡◌, ℕ, zero, suc, ◌+◌, ◌-◌, ◌&&◌, nat_le, nat_lt, Bool, if◌then◌else◌, List, [], ◌∷◌, ◌++◌, option_map, option_to_list}
 use Rattle.brpc_model.specs.Items.{Item, Call, is_client, is_operation, is_open}
 use Rattle.sock_message.specs.Inside.{KeepsLimits}
-use Rattle.sock_programs.specs.declared.task.Op.{Op}
-use Rattle.sock_programs.specs.declared.task.Task.{Task}
-use Rattle.sock_programs.specs.Tasks.{Numbered, number_of, asked_of, op_of}
+use Rattle.seat_programs.specs.declared.task.Op.{Op}
+use Rattle.seat_programs.specs.declared.task.Task.{Task}
+use Rattle.seat_programs.specs.Tasks.{Numbered, number_of, asked_of, op_of}
 
 -- an item as an operation of this number; for an `open` with the number of its link
 abbrev pub numbered_as : ℕ → ℕ → Item → Numbered

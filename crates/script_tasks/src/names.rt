@@ -3,7 +3,7 @@ ghost use Rattle.std.specs.List.{list_any};
 ghost use Rattle.brpc_model.specs.Items.{mentioned};
 ghost use Rattle.brpc_model.specs.Places.{with_names, names};
 ghost use Rattle.script_items.specs.Meaning.{item};
-ghost use Rattle.sock_programs.specs.Tasks.{name_number};
+ghost use Rattle.seat_programs.specs.Tasks.{name_number};
 
 use script_items::{Line, Name, Names};
 use std::alloc::{AllocError, Global};

@@ -1,5 +1,5 @@
 ghost use Rattle.std.specs.Prelude.{◌≡◌, ◌∷◌, map, IfOk};
-ghost use Rattle.sock_programs.specs.Tasks.{calls, opens};
+ghost use Rattle.seat_programs.specs.Tasks.{calls, opens};
 ghost use Rattle.script_items.specs.Meaning.{item};
 ghost use Rattle.report_fits.specs.Limits.{KeepsLimits};
 ghost use Rattle.script_tasks.specs.Along.{ends_along, operation_in};

@@ -1,6 +1,6 @@
 ghost use Rattle.std.specs.Prelude.{◌≡◌, map, IfOk};
-ghost use Rattle.sock_programs.specs.Tasks.{id_plan_of, plan_of};
-ghost use Rattle.sock_programs.specs.Scripts.{sizes_of};
+ghost use Rattle.seat_programs.specs.Tasks.{id_plan_of, plan_of};
+ghost use Rattle.seat_programs.specs.Scripts.{sizes_of};
 ghost use Rattle.script_items.specs.Meaning.{item};
 ghost use Rattle.report_fits.specs.Limits.{KeepsLimits};
 
@@ -10,7 +10,7 @@ use crate::sizes::{
 };
 use corr_core::Plan as IdPlan;
 use script_items::Line;
-use sock_programs::Sizes;
+use seat_programs::Sizes;
 use sock_words::Plan;
 use std::alloc::{AllocError, Global};
 

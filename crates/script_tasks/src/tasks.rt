@@ -1,8 +1,8 @@
 ghost use Rattle.std.specs.Prelude.{◌≡◌, ◌≤◌, ◌++◌, List, length, map, IfOk, OnOk};
 ghost use Rattle.std.specs.List.{AllByRecursion};
 ghost use Rattle.script_items.specs.Meaning.{item, call_of};
-ghost use Rattle.sock_programs.specs.Tasks.{Numbered, asked_of, op_of};
-ghost use Rattle.sock_programs.specs.Scripts.{all_tasks};
+ghost use Rattle.seat_programs.specs.Tasks.{Numbered, asked_of, op_of};
+ghost use Rattle.seat_programs.specs.Scripts.{all_tasks};
 ghost use Rattle.sock_message.specs.Inside.{KeepsLimits as IsWithinLimits};
 ghost use Rattle.report_fits.specs.Limits.{KeepsLimits};
 ghost use Rattle.script_tasks.specs.Along.{Knows, IsShort, numbered_as, task_at};
@@ -11,8 +11,8 @@ use crate::names::{names_of, number_of, numbers_of};
 use crate::places::{operation_at, starts_of};
 use crate::sizes::{is_client, is_open, is_operation};
 use script_items::{CallLine, Line, Name};
+use seat_programs::{Op, Task};
 use sock_message::{BlockPool, Call, Message, NoMemory};
-use sock_programs::{Op, Task};
 use std::alloc::Global;
 use std::collections::VecDeque;
 

@@ -4,10 +4,10 @@ use Rattle.std.specs.List.{AllByRecursion}
 use Rattle.brpc_model.specs.Items.{Item}
 use Rattle.brpc_model.specs.Operations.{Turn}
 use Rattle.brpc_model.specs.Script.{script_of}
-use Rattle.sock_programs.specs.Cores.{Core}
-use Rattle.sock_programs.specs.Tasks.{plan_of}
-use Rattle.sock_programs.specs.Scripts.{all_tasks, IsRunWithCalls}
-use Rattle.sock_programs.specs.ToldCalls.{ToldCalls}
+use Rattle.seat_programs.specs.Cores.{Core}
+use Rattle.seat_programs.specs.Tasks.{plan_of}
+use Rattle.seat_programs.specs.Scripts.{all_tasks, IsRunWithCalls}
+use Rattle.seat_programs.specs.ToldCalls.{ToldCalls}
 use Rattle.call_causes.specs.joint_runs.proofs.Runs.{AreMade}
 use Rattle.report_fits.proofs.Reading.{InRange}
 use Rattle.report_fits.proofs.Targets.{AreThere}

@@ -11,26 +11,26 @@ use Rattle.sock_model.specs.declared.chain.Entry.{Entry}
 use Rattle.sock_model.specs.declared.chain.Heading.{Heading}
 use Rattle.sock_model.specs.declared.view.View.{View}
 use Rattle.sock_model.specs.Weights.{total}
-use Rattle.chain_laws.proofs.Lists.{Distinct}
-use Rattle.slot_laws.proofs.Sums.{term_le}
+use Rattle.chain_steps.proofs.Lists.{Distinct}
+use Rattle.slot_steps.proofs.Sums.{term_le}
 use Rattle.corr_core.specs.declared.marks.Plan.{Plan as IdPlan}
 use Rattle.sock_message.specs.Asked.{Asked, frame_of}
-use Rattle.sock_programs.specs.declared.task.Task.{Task}
-use Rattle.sock_programs.specs.Cores.{Core}
-use Rattle.sock_programs.specs.Told.{AreTasks}
-use Rattle.sock_programs.specs.ToldCalls.{Accepted, AreOrders}
+use Rattle.seat_programs.specs.declared.task.Task.{Task}
+use Rattle.seat_programs.specs.Cores.{Core}
+use Rattle.seat_programs.specs.Told.{AreTasks}
+use Rattle.seat_programs.specs.ToldCalls.{Accepted, AreOrders}
 use Rattle.sock_runs.specs.Sound.{Sound, AllRest}
 use Rattle.sock_runs.proofs.HandTicks.{AtHome}
-use Rattle.sock_causes.specs.Causes.{Asks}
-use Rattle.sock_causes.specs.Kept.{is_of_send, IsSpoken, Story}
-use Rattle.sock_causes.specs.Stories.{Event}
-use Rattle.sock_causes.proofs.Delivered.{orders_of, AreQuiet}
-use Rattle.sock_causes.proofs.Final.{IsMessage}
-use Rattle.sock_causes.proofs.Members.{all_in}
-use Rattle.sock_causes.proofs.Messages.{in_of_at, number_of, each_made, message_of, call_of, sooner}
-use Rattle.sock_causes.proofs.Ordered.{IsLabelled, delivered}
-use Rattle.sock_causes.proofs.Senders.{HasSent, sent_in, each_of, apart_by, all_sent}
-use Rattle.sock_causes.proofs.Tasks.{one_task}
+use Rattle.outcome_causes.specs.Causes.{Asks}
+use Rattle.outcome_causes.specs.Kept.{is_of_send, IsSpoken, Story}
+use Rattle.outcome_causes.specs.Stories.{Event}
+use Rattle.outcome_causes.proofs.Delivered.{orders_of, AreQuiet}
+use Rattle.outcome_causes.proofs.Final.{IsMessage}
+use Rattle.outcome_causes.proofs.Members.{all_in}
+use Rattle.outcome_causes.proofs.Messages.{in_of_at, number_of, each_made, message_of, call_of, sooner}
+use Rattle.outcome_causes.proofs.Ordered.{IsLabelled, delivered}
+use Rattle.outcome_causes.proofs.Senders.{HasSent, sent_in, each_of, apart_by, all_sent}
+use Rattle.outcome_causes.proofs.Tasks.{one_task}
 use Rattle.label_runs.specs.Labels.{Trial}
 use Rattle.send_causes.specs.Counts.{pair_of, of_heading, of_entry, of_view, IsOfCall, EntryFits, LabelLaw}
 

@@ -14,20 +14,20 @@ use Rattle.brpc_model.specs.Order.{EachBefore}
 use Rattle.brpc_model.specs.Script.{script_of}
 use Rattle.corr_core.specs.Word.{error_of}
 use Rattle.sock_message.specs.Asked.{Asked, name_of}
-use Rattle.sock_programs.specs.Cores.{Core}
-use Rattle.sock_programs.specs.declared.task.Op.{Op}
-use Rattle.sock_programs.specs.declared.task.Op.TheVariants as ops
-use Rattle.sock_programs.specs.declared.task.Task.{Task}
-use Rattle.sock_programs.specs.Tasks.{opens, plan_of}
-use Rattle.sock_programs.specs.Scripts.{all_tasks, IsRunWithCalls}
-use Rattle.sock_programs.specs.Told.{IsTask, Became, Made}
-use Rattle.sock_programs.specs.ToldCalls.{Fixed, Order, IsSent, OfSend, OfCall, InOwnOrder, IsDropped, IsFailing, WhyLost, WasFailing, WhyAgain, FailedBy, ByExpiry, ByCompression, ByEnd, EndedWith, Why, WhyCall, ToldCalls}
-use Rattle.sock_causes.specs.Explains.{is_plain}
-use Rattle.sock_causes.specs.Facts.{ToldPlain}
-use Rattle.sock_causes.proofs.Members.{contains_in}
-use Rattle.sock_causes.proofs.Tasks.{one_task}
-use Rattle.call_causes.specs.client_laws.specs.Openings.{all_seats}
-use Rattle.call_causes.specs.client_laws.proofs.Fresh.{opening_fresh}
+use Rattle.seat_programs.specs.Cores.{Core}
+use Rattle.seat_programs.specs.declared.task.Op.{Op}
+use Rattle.seat_programs.specs.declared.task.Op.TheVariants as ops
+use Rattle.seat_programs.specs.declared.task.Task.{Task}
+use Rattle.seat_programs.specs.Tasks.{opens, plan_of}
+use Rattle.seat_programs.specs.Scripts.{all_tasks, IsRunWithCalls}
+use Rattle.seat_programs.specs.Told.{IsTask, Became, Made}
+use Rattle.seat_programs.specs.ToldCalls.{Fixed, Order, IsSent, OfSend, OfCall, InOwnOrder, IsDropped, IsFailing, WhyLost, WasFailing, WhyAgain, FailedBy, ByExpiry, ByCompression, ByEnd, EndedWith, Why, WhyCall, ToldCalls}
+use Rattle.outcome_causes.specs.Explains.{is_plain}
+use Rattle.outcome_causes.specs.Facts.{ToldPlain}
+use Rattle.outcome_causes.proofs.Members.{contains_in}
+use Rattle.outcome_causes.proofs.Tasks.{one_task}
+use Rattle.call_causes.specs.programs_allowed.specs.Openings.{all_seats}
+use Rattle.call_causes.specs.programs_allowed.proofs.Fresh.{opening_fresh}
 use Rattle.call_causes.specs.joint_runs.proofs.Runs.{AreMade, first_views}
 use Rattle.report_fits.proofs.Reading.{InRange}
 use Rattle.report_fits.proofs.Targets.{AreThere}

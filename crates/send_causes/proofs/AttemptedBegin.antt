@@ -11,21 +11,21 @@ use Rattle.brpc_model.specs.Items.{Item}
 use Rattle.brpc_model.specs.Operations.{clients}
 use Rattle.corr_core.specs.declared.marks.Plan.{Plan as IdPlan}
 use Rattle.sock_message.specs.Asked.{Asked}
-use Rattle.sock_programs.specs.Beside.{call_at}
-use Rattle.sock_programs.specs.declared.task.Op.{Op}
-use Rattle.sock_programs.specs.declared.task.Op.TheVariants as ops
-use Rattle.sock_programs.specs.declared.task.Task.{Task}
-use Rattle.sock_programs.specs.Programs.{Program, Do, Say, Sent, Rest, TakeMessage, TakeHome, PutHome, PutBytes, AskReady, Write, Aside, Round, Keep, Retries}
-use Rattle.sock_programs.specs.Cores.{SeatState, resolved, next_step}
-use Rattle.sock_programs.specs.Scripts.{all_tasks, beginning}
+use Rattle.seat_programs.specs.Beside.{call_at}
+use Rattle.seat_programs.specs.declared.task.Op.{Op}
+use Rattle.seat_programs.specs.declared.task.Op.TheVariants as ops
+use Rattle.seat_programs.specs.declared.task.Task.{Task}
+use Rattle.seat_programs.specs.Programs.{Program, Do, Say, Sent, Rest, TakeMessage, TakeHome, PutHome, PutBytes, AskReady, Write, Aside, Round, Keep, Retries}
+use Rattle.seat_programs.specs.Cores.{SeatState, resolved, next_step}
+use Rattle.seat_programs.specs.Scripts.{all_tasks, beginning}
 use Rattle.sock_runs.proofs.Opening.{mapped}
 use Rattle.label_runs.specs.Labels.{Trial, Idle, Labels}
 use Rattle.label_runs.proofs.Programs.{OpCalls}
-use Rattle.sock_causes.specs.PlainTasks.{OwnsCall}
-use Rattle.sock_causes.specs.Stories.{In}
-use Rattle.sock_causes.proofs.Members.{all_in, all_of}
-use Rattle.sock_causes.proofs.Messages.{in_of_at}
-use Rattle.sock_causes.proofs.Scripts.{own_from}
+use Rattle.outcome_causes.specs.PlainTasks.{OwnsCall}
+use Rattle.outcome_causes.specs.Stories.{In}
+use Rattle.outcome_causes.proofs.Members.{all_in, all_of}
+use Rattle.outcome_causes.proofs.Messages.{in_of_at}
+use Rattle.outcome_causes.proofs.Scripts.{own_from}
 use Rattle.send_causes.specs.Counts.{of_trial, of_retry, of_claim, of_entry, of_view, times_of, ClaimFits, EntryFits, TrialFits, LabelLaw}
 use Rattle.send_causes.proofs.Ticks.{none_asked}
 use Rattle.send_causes.proofs.Runs.{IsBare, IsCallOf}

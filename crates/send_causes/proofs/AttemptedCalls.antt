@@ -7,12 +7,12 @@ use Rattle.sock_words.specs.declared.outcome.Outcome.TheVariants as outcomes
 use Rattle.brpc_model.specs.Items.{Item}
 use Rattle.brpc_model.specs.Operations.{Turn}
 use Rattle.brpc_model.specs.Messages.{shown_id}
-use Rattle.id_rule.specs.Lawful.{call_word}
+use Rattle.id_rule.specs.Lawful.{call_index}
 use Rattle.sock_message.specs.Asked.{Asked}
-use Rattle.sock_programs.specs.Cores.{Core}
-use Rattle.sock_programs.specs.Tasks.{plan_of, id_plan_of}
-use Rattle.sock_programs.specs.Scripts.{all_tasks, IsRunWithCalls}
-use Rattle.sock_programs.specs.Told.{Became}
+use Rattle.seat_programs.specs.Cores.{Core}
+use Rattle.seat_programs.specs.Tasks.{plan_of, id_plan_of}
+use Rattle.seat_programs.specs.Scripts.{all_tasks, IsRunWithCalls}
+use Rattle.seat_programs.specs.Told.{Became}
 use Rattle.call_causes.specs.joint_runs.proofs.Runs.{AreMade}
 use Rattle.report_fits.proofs.Reading.{InRange}
 use Rattle.report_fits.proofs.Targets.{AreThere}
@@ -25,13 +25,13 @@ use Rattle.call_causes.proofs.Whole.{run_has_story, run_has_ended}
 
 -- as the run ends the word of a call is its id
 abbrev pub AreStored : (ℕ → ℕ) → (script : List Item) → Core → Type 0
-AreStored ids script core = (o : ℕ) → ids o ≢ 0 → (o < (id_plan_of script).operations) × (get_or core.calls.words (call_word (id_plan_of script) o) 0 ≡ ids o)
+AreStored ids script core = (o : ℕ) → ids o ≢ 0 → (o < (id_plan_of script).operations) × (get_or core.calls.words (call_index (id_plan_of script) o) 0 ≡ ids o)
 
 module _ (script : List Item) (made : AreMade script) (there : AreThere script) (range : AllByRecursion InRange script) (turns : List Turn) (core : Core) (is : IsRunWithCalls script turns core) (ids : ℕ → ℕ) (stored : AreStored ids script core) where
   -- the call with the id
   pub has_id : (o : ℕ) → ids o ≢ 0 → (b : Birth) × In b (run_has_story script made there range turns core is).scene.births × (b.id ≡ ids o) × (b.asked.operation ≡ o)
   has_id o some_ = let h = run_has_story script made there range turns core is in let s = stored o some_ in
-      let same : get_or h.scene.core.calls.words (call_word (id_plan_of script) o) 0 ≡ ids o = ap (λ (d : Core). get_or d.calls.words (call_word (id_plan_of script) o) 0) h.is ∙ s.1 in
+      let same : get_or h.scene.core.calls.words (call_index (id_plan_of script) o) 0 ≡ ids o = ap (λ (d : Core). get_or d.calls.words (call_index (id_plan_of script) o) 0) h.is ∙ s.1 in
       let c = h.story.tasks.called o s.0 (λ z. some_ (sym same ∙ z)) in (c.0, c.1, c.2 ∙ same, c.3)
 
   -- no two calls have one id

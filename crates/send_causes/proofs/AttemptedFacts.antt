@@ -5,13 +5,13 @@ use mathlib.Core.Option.{some}
 use lib.ListN.{get_elem?}
 use Rattle.sock_words.specs.declared.plain.Plan.{Plan}
 use Rattle.corr_core.specs.declared.marks.Plan.{Plan as IdPlan}
-use Rattle.id_rule.specs.Lawful.{call_word}
+use Rattle.id_rule.specs.Lawful.{call_index}
 use Rattle.sock_message.specs.Asked.{Asked}
-use Rattle.sock_programs.specs.Asides.{PutCall, StoreCall, Found, call_id, id_slot}
-use Rattle.sock_programs.specs.Cores.{Core, SeatState}
-use Rattle.sock_programs.specs.Programs.{Program, Aside}
+use Rattle.seat_programs.specs.Asides.{PutCall, StoreCall, Found, call_id, id_slot}
+use Rattle.seat_programs.specs.Cores.{Core, SeatState}
+use Rattle.seat_programs.specs.Programs.{Program, Aside}
 use Rattle.sock_runs.specs.Sound.{first_step}
-use Rattle.sock_programs.specs.declared.task.Task.{Task}
+use Rattle.seat_programs.specs.declared.task.Task.{Task}
 use Rattle.call_causes.specs.Posts.{Post}
 use Rattle.call_causes.specs.Scenes.{Birth, Scene, In, IsBorn}
 use Rattle.call_causes.specs.Says.{Mark, Claims, Holds}
@@ -24,7 +24,7 @@ use Rattle.send_causes.specs.Counts.{word_of_id}
 module _ (q : IdPlan) where
   -- the word of the call has the id
   abbrev pub IsStored : Core → ℕ → ℕ → Type 0
-  IsStored c o id = get_or c.calls.words (call_word q o) 0 ≡ id
+  IsStored c o id = get_or c.calls.words (call_index q o) 0 ≡ id
 
   -- a seat stores it next
   pub record IsStoring (c : Core) (o id : ℕ) : Type 0 where

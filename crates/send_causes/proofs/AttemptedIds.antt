@@ -4,11 +4,11 @@ use Rattle.sock_words.specs.declared.plain.Plan.{Plan}
 use Rattle.corr_core.specs.declared.marks.Plan.{Plan as IdPlan}
 use Rattle.brpc_model.specs.Items.{Item}
 use Rattle.brpc_model.specs.Operations.{Turn}
-use Rattle.sock_programs.specs.Asides.{call_id}
-use Rattle.sock_programs.specs.Cores.{Core}
-use Rattle.sock_programs.specs.Ticks.{Moment, quiet, ticked}
-use Rattle.sock_programs.specs.Tasks.{plan_of, id_plan_of}
-use Rattle.sock_programs.specs.Scripts.{opened, set_up, IsRunWithCalls}
+use Rattle.seat_programs.specs.Asides.{call_id}
+use Rattle.seat_programs.specs.Cores.{Core}
+use Rattle.seat_programs.specs.Ticks.{Moment, quiet, ticked}
+use Rattle.seat_programs.specs.Tasks.{plan_of, id_plan_of}
+use Rattle.seat_programs.specs.Scripts.{opened, set_up, IsRunWithCalls}
 use Rattle.sock_runs.proofs.Whole.{closing_of}
 use Rattle.call_causes.specs.Lists.{advanced_at}
 use Rattle.send_causes.specs.Counts.{word_of_id}

@@ -7,7 +7,7 @@ use native.Mathlib.Decide.{ℕ_discrete}
 use mathlib.Core.Option.{Option, some, none, some-injective}
 use lib.ListN.{get_elem?}
 use Rattle.atomic_table.proofs.Lists.{at_set, set_else, set_here}
-use Rattle.chain_laws.proofs.Lists.{at_length}
+use Rattle.chain_steps.proofs.Lists.{at_length}
 use Rattle.sock_words.specs.declared.plain.Plan.{Plan}
 use Rattle.sock_model.specs.declared.home.Home.{Home}
 use Rattle.sock_model.specs.declared.view.View.{View}
@@ -18,25 +18,25 @@ use Rattle.corr_core.specs.declared.marks.Hand.{Hand}
 use Rattle.corr_core.specs.declared.marks.Hand.TheVariants.{Full, Empty}
 use Rattle.corr_core.specs.declared.marks.Token.{Token}
 use Rattle.corr_core.specs.declared.marks.Token.TheVariants.{Claimed, Locked, Leaving}
-use Rattle.id_rule.specs.Lawful.{id_word, tag_word, call_word, at_word, all_words, local, tokens_of, tokens_in, with_token}
+use Rattle.id_rule.specs.Lawful.{id_index, tag_index, call_index, at_index, all_words, local, tokens_of, tokens_in, with_token}
 use Rattle.id_rule.specs.Plays.{with_hand}
 use Rattle.id_rule.proofs.Allowed as allowed
 use Rattle.id_rule.proofs.Frames.{token_here}
 use Rattle.id_runs.specs.Held.{IdView, MayId, HasOne, id_state, id_row, one, by_token}
 use Rattle.id_runs.specs.Goes.{FitsRetryId, IdGoesOn, SoundIds, IsFittingIds}
 use Rattle.id_runs.proofs.Steps.{finds_ids, no_call}
-use Rattle.sock_programs.specs.Asides.{Step, Found, ClaimId, PutCall, MakeId, StoreCall, LoadCall, StoreAt, LoadAt, LoadIdWord, LockId, PostId, UnlockId, EndId, FreeId, TakeCall, TakeBytes, Taking, Bytes, call_id}
-use Rattle.sock_programs.specs.Heads.{Exit, Unlocks}
+use Rattle.seat_programs.specs.Asides.{Step, Found, ClaimId, PutCall, MakeId, StoreCall, LoadCall, StoreAt, LoadAt, LoadIdWord, LockId, PostId, UnlockId, EndId, FreeId, TakeCall, TakeBytes, Taking, Bytes, call_id}
+use Rattle.seat_programs.specs.Heads.{Exit, Unlocks}
 use Rattle.sock_message.specs.Asked.{Asked}
-use Rattle.sock_programs.specs.Beside.{found_in, calls_after}
-use Rattle.sock_programs.specs.Calls.{Call, LoadName, FindLink, ClaimRequest}
-use Rattle.sock_programs.specs.Heads.{Retry}
-use Rattle.sock_programs.specs.Programs.{Program, Do, Say, Sent, Rest, TakeMessage, TakeHome, PutHome, PutBytes, AskReady, Write, Aside, Round, Keep, Retries}
-use Rattle.sock_programs.specs.Cores.{Calls, Core, SeatState, word_of, found_at, words_after, word_after, homes_after, hand_after, lies_at, first_of, others_of, link_place, resolved, waiting_at, next_step, with_seat}
-use Rattle.sock_programs.specs.Ticks.{Moment, IsAnswered, fed, with_places, onto_first, taken, ticked}
+use Rattle.seat_programs.specs.Beside.{found_in, calls_after}
+use Rattle.seat_programs.specs.Calls.{Call, LoadName, FindLink, ClaimRequest}
+use Rattle.seat_programs.specs.Heads.{Retry}
+use Rattle.seat_programs.specs.Programs.{Program, Do, Say, Sent, Rest, TakeMessage, TakeHome, PutHome, PutBytes, AskReady, Write, Aside, Round, Keep, Retries}
+use Rattle.seat_programs.specs.Cores.{Calls, Core, SeatState, word_of, found_at, words_after, word_after, homes_after, hand_after, lies_at, first_of, others_of, link_place, resolved, waiting_at, next_step, with_seat}
+use Rattle.seat_programs.specs.Ticks.{Moment, IsAnswered, fed, with_places, onto_first, taken, ticked}
 use Rattle.sock_runs.specs.Sound.{Sound, first_step}
-use Rattle.sock_causes.proofs.Cases.{tick_cases}
-use Rattle.sock_causes.proofs.Ticks.{elem_there}
+use Rattle.outcome_causes.proofs.Cases.{tick_cases}
+use Rattle.outcome_causes.proofs.Ticks.{elem_there}
 use Rattle.label_runs.specs.Labels.{FindsLabel}
 use Rattle.send_causes.specs.Counts.{word_of_id}
 use Rattle.send_causes.proofs.Words.{finds_label}
@@ -142,37 +142,37 @@ module _ (p : Plan) (q : IdPlan) (narrow : q.slots ≤ 65536) (is_call : Asked �
       abbrev Then : (step : Step) → Found step → Program → Core
       Then step found x = with_seat i x seat.hand c.words c.homes (record c { calls = calls_after step found c.calls })
 
-      other_kept : (x w o id : ℕ) → call_word q o ≢ x → IsStored q c o id → get_or (set c.calls.words x w) (call_word q o) 0 ≡ id
-      other_kept x w o id ne s = get_or-set_other c.calls.words x (call_word q o) w 0 ne ∙ s
+      other_kept : (x w o id : ℕ) → call_index q o ≢ x → IsStored q c o id → get_or (set c.calls.words x w) (call_index q o) 0 ≡ id
+      other_kept x w o id ne s = get_or-set_other c.calls.words x (call_index q o) w 0 ne ∙ s
 
-      stored_here : (o id : ℕ) → o < q.operations → get_or (set c.calls.words (call_word c.calls.plan o) id) (call_word q o) 0 ≡ id
-      stored_here o id low = subst (λ (r : IdPlan). get_or (set c.calls.words (call_word r o) id) (call_word q o) 0 ≡ id) (sym real_ids.plan) (get_or-set_same c.calls.words (call_word q o) id 0 (omega (arith, sized, low)))
+      stored_here : (o id : ℕ) → o < q.operations → get_or (set c.calls.words (call_index c.calls.plan o) id) (call_index q o) 0 ≡ id
+      stored_here o id low = subst (λ (r : IdPlan). get_or (set c.calls.words (call_index r o) id) (call_index q o) 0 ≡ id) (sym real_ids.plan) (get_or-set_same c.calls.words (call_index q o) id 0 (omega (arith, sized, low)))
 
       -- the word of a call stays
-      words_kept : (step : Step) (next : Found step → Program) (found : Found step) → first_step seat.program ≡ Aside step next → MayId p q u step → (o id : ℕ) → o < q.operations → id ≢ 0 → IsStored q c o id → get_or (calls_after step found c.calls).words (call_word q o) 0 ≡ id
-      words_kept (ClaimId k) next found is may o id low some_ s = other_kept (tag_word k) 1 o id (λ e. omega (arith, e, may)) s
+      words_kept : (step : Step) (next : Found step → Program) (found : Found step) → first_step seat.program ≡ Aside step next → MayId p q u step → (o id : ℕ) → o < q.operations → id ≢ 0 → IsStored q c o id → get_or (calls_after step found c.calls).words (call_index q o) 0 ≡ id
+      words_kept (ClaimId k) next found is may o id low some_ s = other_kept (tag_index k) 1 o id (λ e. omega (arith, e, may)) s
       words_kept (PutCall k asked) next found is may o id low some_ s = s
-      words_kept (MakeId k range) next found is may o id low some_ s = let in_ = may.0 in other_kept (id_word k) _ o id (λ e. omega (arith, e, in_)) s
+      words_kept (MakeId k range) next found is may o id low some_ s = let in_ = may.0 in other_kept (id_index k) _ o id (λ e. omega (arith, e, in_)) s
       words_kept (StoreCall x y) next found is may o id low some_ s = dite (ℕ_discrete x o)
           (λ same. let one = facts.one_store o id y i seat (λ z. next z) low some_ s at_seat (is ∙ ap (λ n. Aside (StoreCall n y) next) same) in
-          subst (λ n. get_or (set c.calls.words (call_word c.calls.plan n) y) (call_word q o) 0 ≡ id) (sym same) (stored_here o y low ∙ one))
-          (λ far. subst (λ (r : IdPlan). get_or (set c.calls.words (call_word r x) y) (call_word q o) 0 ≡ id) (sym real_ids.plan) (other_kept (call_word q x) y o id (λ e. far (omega (arith, e))) s))
+          subst (λ n. get_or (set c.calls.words (call_index c.calls.plan n) y) (call_index q o) 0 ≡ id) (sym same) (stored_here o y low ∙ one))
+          (λ far. subst (λ (r : IdPlan). get_or (set c.calls.words (call_index r x) y) (call_index q o) 0 ≡ id) (sym real_ids.plan) (other_kept (call_index q x) y o id (λ e. far (omega (arith, e))) s))
       words_kept (LoadCall x) next found is may o id low some_ s = s
-      words_kept (StoreAt x w) next found is may o id low some_ s = subst (λ (r : IdPlan). get_or (set c.calls.words (at_word r x) w) (call_word q o) 0 ≡ id) (sym real_ids.plan) (other_kept (at_word q x) w o id (λ e. omega (arith, e)) s)
+      words_kept (StoreAt x w) next found is may o id low some_ s = subst (λ (r : IdPlan). get_or (set c.calls.words (at_index r x) w) (call_index q o) 0 ≡ id) (sym real_ids.plan) (other_kept (at_index q x) w o id (λ e. omega (arith, e)) s)
       words_kept (LoadAt x) next found is may o id low some_ s = s
       words_kept (LoadIdWord k) next found is may o id low some_ s = s
-      words_kept (LockId k from) next found is may o id low some_ s = let in_ = may.0 in other_kept (id_word k) _ o id (λ e. omega (arith, e, in_)) s
-      words_kept (PostId k from e) next found is may o id low some_ s = let in_ = may.0 in other_kept (id_word k) _ o id (λ e. omega (arith, e, in_)) s
-      words_kept (UnlockId k from advance) next found is may o id low some_ s = let in_ = may.0 in other_kept (id_word k) _ o id (λ e. omega (arith, e, in_)) s
-      words_kept (EndId k) next found is may o id low some_ s = let in_ = may.0 in other_kept (id_word k) _ o id (λ e. omega (arith, e, in_)) s
-      words_kept (FreeId k) next found is may o id low some_ s = let in_ = may.0 in other_kept (tag_word k) 0 o id (λ e. omega (arith, e, in_)) s
+      words_kept (LockId k from) next found is may o id low some_ s = let in_ = may.0 in other_kept (id_index k) _ o id (λ e. omega (arith, e, in_)) s
+      words_kept (PostId k from e) next found is may o id low some_ s = let in_ = may.0 in other_kept (id_index k) _ o id (λ e. omega (arith, e, in_)) s
+      words_kept (UnlockId k from advance) next found is may o id low some_ s = let in_ = may.0 in other_kept (id_index k) _ o id (λ e. omega (arith, e, in_)) s
+      words_kept (EndId k) next found is may o id low some_ s = let in_ = may.0 in other_kept (id_index k) _ o id (λ e. omega (arith, e, in_)) s
+      words_kept (FreeId k) next found is may o id low some_ s = let in_ = may.0 in other_kept (tag_index k) 0 o id (λ e. omega (arith, e, in_)) s
       words_kept (TakeCall k) next found is may o id low some_ s = s
       words_kept (TakeBytes k room) next (Bytes bytes) is may o id low some_ s = s
       words_kept (TakeBytes k room) next found is may o id low some_ s = s
 
       -- a seat that was to store it has stored it
-      store_mine : (step : Step) (next : Found step → Program) (found : Found step) (o id : ℕ) (after : Found (StoreCall o id) → Program) → o < q.operations → Aside step next ≡ Aside (StoreCall o id) after → get_or (calls_after step found c.calls).words (call_word q o) 0 ≡ id
-      store_mine (StoreCall x y) next found o id after low e = let a : x ≡ o = cc in let b : y ≡ id = cc in subst (λ n. get_or (set c.calls.words (call_word c.calls.plan n) y) (call_word q o) 0 ≡ id) (sym a) (stored_here o y low ∙ b)
+      store_mine : (step : Step) (next : Found step → Program) (found : Found step) (o id : ℕ) (after : Found (StoreCall o id) → Program) → o < q.operations → Aside step next ≡ Aside (StoreCall o id) after → get_or (calls_after step found c.calls).words (call_index q o) 0 ≡ id
+      store_mine (StoreCall x y) next found o id after low e = let a : x ≡ o = cc in let b : y ≡ id = cc in subst (λ n. get_or (set c.calls.words (call_index c.calls.plan n) y) (call_index q o) 0 ≡ id) (sym a) (stored_here o y low ∙ b)
       store_mine (ClaimId k) next found o id after low e = absurd cc
       store_mine (PutCall k asked) next found o id after low e = absurd cc
       store_mine (MakeId k range) next found o id after low e = absurd cc

@@ -7,22 +7,22 @@ use Rattle.sock_model.specs.declared.view.View.{View}
 use Rattle.brpc_model.specs.Items.{Item}
 use Rattle.brpc_model.specs.Operations.{Turn}
 use Rattle.sock_message.specs.Asked.{Asked, name_of}
-use Rattle.sock_programs.specs.declared.task.Op.TheVariants as ops
-use Rattle.sock_programs.specs.declared.task.Task.{Task}
-use Rattle.sock_programs.specs.Cores.{Core}
-use Rattle.sock_programs.specs.Tasks.{opens, plan_of, id_plan_of}
-use Rattle.sock_programs.specs.Scripts.{all_tasks, IsRunWithCalls}
-use Rattle.sock_programs.specs.Told.{IsTask, Made}
-use Rattle.sock_programs.specs.ToldCalls.{Accepted, Fixed, IsSent}
+use Rattle.seat_programs.specs.declared.task.Op.TheVariants as ops
+use Rattle.seat_programs.specs.declared.task.Task.{Task}
+use Rattle.seat_programs.specs.Cores.{Core}
+use Rattle.seat_programs.specs.Tasks.{opens, plan_of, id_plan_of}
+use Rattle.seat_programs.specs.Scripts.{all_tasks, IsRunWithCalls}
+use Rattle.seat_programs.specs.Told.{IsTask, Made}
+use Rattle.seat_programs.specs.ToldCalls.{Accepted, Fixed, IsSent}
 use Rattle.sock_runs.proofs.Whole.{views_ended, ended_sound, end_rests, AreFittingIn, Begins}
-use Rattle.sock_causes.specs.Causes.{Asks}
-use Rattle.sock_causes.specs.Kept.{IsSpoken}
-use Rattle.sock_causes.specs.PlainTasks.{told_tasks_of}
-use Rattle.sock_causes.proofs.Lifted.{made_up}
-use Rattle.sock_causes.proofs.Members.{contains_in}
-use Rattle.sock_causes.proofs.Tasks.{one_task}
-use Rattle.call_causes.specs.client_laws.specs.Openings.{all_seats}
-use Rattle.call_causes.specs.client_laws.proofs.Fresh.{opening_fresh}
+use Rattle.outcome_causes.specs.Causes.{Asks}
+use Rattle.outcome_causes.specs.Kept.{IsSpoken}
+use Rattle.outcome_causes.specs.PlainTasks.{told_tasks_of}
+use Rattle.outcome_causes.proofs.Lifted.{made_up}
+use Rattle.outcome_causes.proofs.Members.{contains_in}
+use Rattle.outcome_causes.proofs.Tasks.{one_task}
+use Rattle.call_causes.specs.programs_allowed.specs.Openings.{all_seats}
+use Rattle.call_causes.specs.programs_allowed.proofs.Fresh.{opening_fresh}
 use Rattle.call_causes.specs.joint_runs.proofs.Runs.{AreMade, first_views}
 use Rattle.report_fits.proofs.Reading.{InRange}
 use Rattle.report_fits.proofs.Targets.{AreThere}

@@ -9,33 +9,33 @@ use Rattle.sock_model.specs.declared.chain.Entry.{Entry}
 use Rattle.sock_model.specs.declared.chain.Heading.{Heading}
 use Rattle.sock_model.specs.declared.view.View.{View}
 use Rattle.sock_model.specs.Weights.{total}
-use Rattle.slot_laws.proofs.Sums.{term_le}
+use Rattle.slot_steps.proofs.Sums.{term_le}
 use Rattle.brpc_model.specs.Items.{Item}
 use Rattle.brpc_model.specs.Operations.{Turn}
 use Rattle.corr_core.specs.declared.marks.Plan.{Plan as IdPlan}
 use Rattle.sock_message.specs.Asked.{Asked, name_of, frame_of}
-use Rattle.sock_programs.specs.declared.task.Op.TheVariants as ops
-use Rattle.sock_programs.specs.declared.task.Task.{Task}
-use Rattle.sock_programs.specs.Cores.{Core}
-use Rattle.sock_programs.specs.Tasks.{opens, plan_of, id_plan_of}
-use Rattle.sock_programs.specs.Scripts.{all_tasks, IsRunWithCalls}
-use Rattle.sock_programs.specs.Told.{AreTasks, IsTask, Made}
-use Rattle.sock_programs.specs.ToldCalls.{Accepted, Fixed, IsSent, OfSend, OfCall}
+use Rattle.seat_programs.specs.declared.task.Op.TheVariants as ops
+use Rattle.seat_programs.specs.declared.task.Task.{Task}
+use Rattle.seat_programs.specs.Cores.{Core}
+use Rattle.seat_programs.specs.Tasks.{opens, plan_of, id_plan_of}
+use Rattle.seat_programs.specs.Scripts.{all_tasks, IsRunWithCalls}
+use Rattle.seat_programs.specs.Told.{AreTasks, IsTask, Made}
+use Rattle.seat_programs.specs.ToldCalls.{Accepted, Fixed, IsSent, OfSend, OfCall}
 use Rattle.sock_runs.specs.Sound.{Sound, AllRest}
 use Rattle.sock_runs.proofs.Whole.{views_ended, ended_sound, end_rests, AreFittingIn, IsOwed, Begins}
-use Rattle.sock_causes.specs.Causes.{Asks}
-use Rattle.sock_causes.specs.Kept.{is_of_send, IsSpoken, Story}
-use Rattle.sock_causes.specs.PlainTasks.{told_tasks_of}
-use Rattle.sock_causes.specs.Stories.{Event}
-use Rattle.sock_causes.specs.TaskCauses as causes
-use Rattle.sock_causes.proofs.Delivered.{orders_of}
-use Rattle.sock_causes.proofs.Lifted.{task_up, made_up}
-use Rattle.sock_causes.proofs.Members.{in_contains}
-use Rattle.sock_causes.proofs.Messages.{each_made, message_of, number_of}
-use Rattle.sock_causes.proofs.Scripts.{seats, final_told, story_end, run_told}
-use Rattle.sock_causes.proofs.Senders.{HasSent, all_sent}
-use Rattle.call_causes.specs.client_laws.specs.Openings.{all_seats}
-use Rattle.call_causes.specs.client_laws.proofs.Fresh.{opening_fresh}
+use Rattle.outcome_causes.specs.Causes.{Asks}
+use Rattle.outcome_causes.specs.Kept.{is_of_send, IsSpoken, Story}
+use Rattle.outcome_causes.specs.PlainTasks.{told_tasks_of}
+use Rattle.outcome_causes.specs.Stories.{Event}
+use Rattle.outcome_causes.specs.TaskCauses as causes
+use Rattle.outcome_causes.proofs.Delivered.{orders_of}
+use Rattle.outcome_causes.proofs.Lifted.{task_up, made_up}
+use Rattle.outcome_causes.proofs.Members.{in_contains}
+use Rattle.outcome_causes.proofs.Messages.{each_made, message_of, number_of}
+use Rattle.outcome_causes.proofs.Scripts.{seats, final_told, story_end, run_told}
+use Rattle.outcome_causes.proofs.Senders.{HasSent, all_sent}
+use Rattle.call_causes.specs.programs_allowed.specs.Openings.{all_seats}
+use Rattle.call_causes.specs.programs_allowed.proofs.Fresh.{opening_fresh}
 use Rattle.call_causes.specs.joint_runs.proofs.Runs.{AreMade, first_views}
 use Rattle.report_fits.proofs.Reading.{InRange}
 use Rattle.report_fits.proofs.Targets.{AreThere}

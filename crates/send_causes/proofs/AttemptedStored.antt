@@ -13,27 +13,27 @@ use Rattle.brpc_model.specs.Items.{Item}
 use Rattle.brpc_model.specs.Operations.{Turn}
 use Rattle.corr_core.specs.Word.{Parts}
 use Rattle.corr_core.specs.declared.marks.Plan.{Plan as IdPlan}
-use Rattle.id_rule.specs.Lawful.{call_word, newcomer}
+use Rattle.id_rule.specs.Lawful.{call_index, newcomer}
 use Rattle.id_runs.specs.Goes.{IdGoesOn}
 use Rattle.id_runs.proofs.Opening.{unused, all_go}
 use Rattle.sock_message.specs.Asked.{Asked}
-use Rattle.sock_programs.specs.Asides.{StoreCall, StoreAt, call_id, id_slot, id_first}
-use Rattle.sock_programs.specs.Calls.{Call, LoadName, FindLink, ClaimRequest}
-use Rattle.sock_programs.specs.Clients.{ending_of}
-use Rattle.sock_programs.specs.Cores.{Core, with_seat, next_step, resolved}
-use Rattle.sock_programs.specs.declared.task.Task.{Task}
-use Rattle.sock_programs.specs.Programs.{Program, Rest, Do, Aside}
-use Rattle.sock_programs.specs.Runs.{IsAtRest}
-use Rattle.sock_programs.specs.Ticks.{Moment, AreAnswered, quiet, ticked, run}
-use Rattle.sock_programs.specs.Tasks.{opens, calls, plan_of, id_plan_of}
-use Rattle.sock_programs.specs.Scripts.{sizes_of, programs, readers_from, all_programs, all_tasks, opened, ending, set_up, played, is_ending, IsRunWithCalls}
+use Rattle.seat_programs.specs.Asides.{StoreCall, StoreAt, call_id, id_slot, id_first}
+use Rattle.seat_programs.specs.Calls.{Call, LoadName, FindLink, ClaimRequest}
+use Rattle.seat_programs.specs.Clients.{ending_of}
+use Rattle.seat_programs.specs.Cores.{Core, with_seat, next_step, resolved}
+use Rattle.seat_programs.specs.declared.task.Task.{Task}
+use Rattle.seat_programs.specs.Programs.{Program, Rest, Do, Aside}
+use Rattle.seat_programs.specs.Runs.{IsAtRest}
+use Rattle.seat_programs.specs.Ticks.{Moment, AreAnswered, quiet, ticked, run}
+use Rattle.seat_programs.specs.Tasks.{opens, calls, plan_of, id_plan_of}
+use Rattle.seat_programs.specs.Scripts.{sizes_of, programs, readers_from, all_programs, all_tasks, opened, ending, set_up, played, is_ending, IsRunWithCalls}
 use Rattle.sock_runs.specs.Sound.{IsAhead, AllRest, first_step, views_after, views_along}
 use Rattle.sock_runs.proofs.Along.{seat_ahead, seat_rests, ticked_ahead, run_ahead, beginning_ahead}
 use Rattle.sock_runs.proofs.Quiets.{ticked_rests, run_rests, run_seats}
 use Rattle.sock_runs.proofs.Whole.{views_played, views_closed, set_up_answered, end_answered}
-use Rattle.sock_causes.proofs.Final.{at_there}
-use Rattle.sock_causes.proofs.Ticks.{elem_there}
-use Rattle.call_causes.specs.client_laws.proofs.Lasting.{length_all}
+use Rattle.outcome_causes.proofs.Final.{at_there}
+use Rattle.outcome_causes.proofs.Ticks.{elem_there}
+use Rattle.call_causes.specs.programs_allowed.proofs.Lasting.{length_all}
 use Rattle.call_causes.specs.joint_runs.proofs.Both.{BothSound, AreBoth, behind_both}
 use Rattle.call_causes.specs.joint_runs.proofs.Runs.{AreMade, first_views, joint_runs}
 use Rattle.report_fits.proofs.Reading.{InRange}
@@ -56,8 +56,8 @@ use Rattle.send_causes.specs.Counts.{word_of_id, StoresOwn, AreLabelled}
 use Rattle.send_causes.proofs.Early.{start, go, fitting}
 use Rattle.send_causes.proofs.Runs.{AreLabelledIn, IsCallOf}
 use Rattle.send_causes.proofs.Sends.{opening_claims}
-use Rattle.call_causes.specs.client_laws.specs.Openings.{all_seats}
-use Rattle.call_causes.specs.client_laws.proofs.Fresh.{opening_fresh}
+use Rattle.call_causes.specs.programs_allowed.specs.Openings.{all_seats}
+use Rattle.call_causes.specs.programs_allowed.proofs.Fresh.{opening_fresh}
 use Rattle.send_causes.proofs.AttemptedBegin.{asked_by}
 use Rattle.send_causes.proofs.AttemptedWords.{Rise, AdvancesAt, is_new, is_same, is_more, tick_rises}
 use Rattle.send_causes.proofs.AttemptedIds.{AdvancesId, AreRising, AreRisingIn}
@@ -224,7 +224,7 @@ module _ (p : Plan) (q : IdPlan) (clients : List (List Task)) (gives : ℕ → L
 
 -- the id of the call that is operation o, as the run ends
 abbrev pub ids_at : List Item → Core → ℕ → ℕ
-ids_at script core o = get_or core.calls.words (call_word (id_plan_of script) o) 0
+ids_at script core o = get_or core.calls.words (call_index (id_plan_of script) o) 0
 
 module _ (script : List Item) (made : AreMade script) (there : AreThere script) (range : AllByRecursion InRange script) (turns : List Turn) (core : Core) (is : IsRunWithCalls script turns core) where
   abbrev p : Plan
@@ -395,4 +395,4 @@ module _ (script : List Item) (made : AreMade script) (there : AreThere script) 
   -- the words of the calls are those of calls of the table
   pub words_stored : AreStored (ids_at script core) script core
   words_stored o some_ = let both = (joint_runs script turns core is made).over in let sized = both.ids.rule.sized in
-      (dite (dec_le (id_plan_of script).operations o) (λ past. absurd (some_ (get_or_past core.calls.words (call_word (id_plan_of script) o) 0 (omega (arith, past, sized))))) (λ less. omega (arith, less)), refl)
+      (dite (dec_le (id_plan_of script).operations o) (λ past. absurd (some_ (get_or_past core.calls.words (call_index (id_plan_of script) o) 0 (omega (arith, past, sized))))) (λ less. omega (arith, less)), refl)

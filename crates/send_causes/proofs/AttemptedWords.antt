@@ -15,7 +15,7 @@ use Rattle.corr_core.specs.Word.{Parts, parts, made_word, locked_word, posted_wo
 use Rattle.corr_core.specs.declared.marks.Plan.{Plan as IdPlan}
 use Rattle.corr_core.specs.declared.marks.Hand.TheVariants.{Full}
 use Rattle.corr_core.specs.declared.marks.Token.TheVariants.{Locked}
-use Rattle.id_rule.specs.Lawful.{id_word, tag_word, call_word, at_word, all_words}
+use Rattle.id_rule.specs.Lawful.{id_index, tag_index, call_index, at_index, all_words}
 use Rattle.id_runs.specs.Held.{IdView, MayId}
 use Rattle.id_runs.specs.Goes.{SoundIds, FindsId, IdGoesOn}
 use Rattle.id_runs.specs.Goes as goes
@@ -24,14 +24,14 @@ use Rattle.id_runs.proofs.Loops.{ids_round}
 use Rattle.id_runs.proofs.Programs.{block_goes}
 use Rattle.id_runs.proofs.Steps.{finds_ids, call_there}
 use Rattle.sock_message.specs.Asked.{Asked}
-use Rattle.sock_programs.specs.Asides.{Step, Found, ClaimId, PutCall, MakeId, StoreCall, LoadCall, StoreAt, LoadAt, LoadIdWord, LockId, PostId, UnlockId, EndId, FreeId, TakeCall, TakeBytes, Taking, Bytes}
-use Rattle.sock_programs.specs.Beside.{found_in, calls_after, call_at}
-use Rattle.sock_programs.specs.Cores.{Core, SeatState}
-use Rattle.sock_programs.specs.Posts.{packed, advance_of}
-use Rattle.sock_programs.specs.Programs.{Program, Do, Say, Sent, Rest, TakeMessage, TakeHome, PutHome, PutBytes, AskReady, Write, Aside, Round, Keep, Retries}
-use Rattle.sock_programs.specs.Rounds.{round}
-use Rattle.sock_programs.specs.Sends.{block}
-use Rattle.sock_programs.specs.Ticks.{Answer, Unasked, OfPut, OfReady, OfTake, Moment, taken, with_message, with_link, with_put, with_ready, with_found, step_with, tick_with, ticked}
+use Rattle.seat_programs.specs.Asides.{Step, Found, ClaimId, PutCall, MakeId, StoreCall, LoadCall, StoreAt, LoadAt, LoadIdWord, LockId, PostId, UnlockId, EndId, FreeId, TakeCall, TakeBytes, Taking, Bytes}
+use Rattle.seat_programs.specs.Beside.{found_in, calls_after, call_at}
+use Rattle.seat_programs.specs.Cores.{Core, SeatState}
+use Rattle.seat_programs.specs.Posts.{packed, advance_of}
+use Rattle.seat_programs.specs.Programs.{Program, Do, Say, Sent, Rest, TakeMessage, TakeHome, PutHome, PutBytes, AskReady, Write, Aside, Round, Keep, Retries}
+use Rattle.seat_programs.specs.Rounds.{round}
+use Rattle.seat_programs.specs.Sends.{block}
+use Rattle.seat_programs.specs.Ticks.{Answer, Unasked, OfPut, OfReady, OfTake, Moment, taken, with_message, with_link, with_put, with_ready, with_found, step_with, tick_with, ticked}
 use Rattle.call_causes.specs.owed_calls.proofs.EndsStill.{view_of}
 use Rattle.call_causes.specs.Lists.{advances_by, called_at, advanced_with, advanced_at}
 use Rattle.send_causes.specs.Counts.{word_of_id}
@@ -85,7 +85,7 @@ advanced_lives from few = subst (λ (w : Parts). 0 < w.state) (sym (unlocked_par
 
 module _ (p : Plan) (q : IdPlan) (c : Core) (us : List IdView) (ids : SoundIds p q c us) where
   abbrev Raw : ℕ → ℕ
-  Raw i = get_or c.calls.words (id_word i) 0
+  Raw i = get_or c.calls.words (id_index i) 0
 
   abbrev Old : ℕ → Parts
   Old i = word_of_id c.calls.words i
@@ -100,21 +100,21 @@ module _ (p : Plan) (q : IdPlan) (c : Core) (us : List IdView) (ids : SoundIds p
   same_rise : (i : ℕ) (M : Type 0) → 0 < (Old i).state → Rise (Old i) (Old i) ⊥ M
   same_rise i M live = is_same refl live refl
 
-  other_rise : (x w i : ℕ) (N M : Type 0) → id_word i ≢ x → 0 < (word_of_id (set c.calls.words x w) i).state → Rise (Old i) (word_of_id (set c.calls.words x w) i) N M
-  other_rise x w i N M ne live = subst (λ z. 0 < z.state → Rise (Old i) z N M) (sym (ap parts (get_or-set_other c.calls.words x (id_word i) w 0 ne))) (λ some_. is_same refl some_ refl) live
+  other_rise : (x w i : ℕ) (N M : Type 0) → id_index i ≢ x → 0 < (word_of_id (set c.calls.words x w) i).state → Rise (Old i) (word_of_id (set c.calls.words x w) i) N M
+  other_rise x w i N M ne live = subst (λ z. 0 < z.state → Rise (Old i) z N M) (sym (ap parts (get_or-set_other c.calls.words x (id_index i) w 0 ne))) (λ some_. is_same refl some_ refl) live
 
-  one_rise : (k w i : ℕ) (N M : Type 0) → k < q.slots → (i ≡ k → word_of_id (set c.calls.words (id_word k) w) i ≡ parts w → 0 < (parts w).state → Rise (Old i) (parts w) N M) → 0 < (word_of_id (set c.calls.words (id_word k) w) i).state → Rise (Old i) (word_of_id (set c.calls.words (id_word k) w) i) N M
+  one_rise : (k w i : ℕ) (N M : Type 0) → k < q.slots → (i ≡ k → word_of_id (set c.calls.words (id_index k) w) i ≡ parts w → 0 < (parts w).state → Rise (Old i) (parts w) N M) → 0 < (word_of_id (set c.calls.words (id_index k) w) i).state → Rise (Old i) (word_of_id (set c.calls.words (id_index k) w) i) N M
   one_rise k w i N M inside f live = dite (ℕ_discrete i k)
-      (λ same. let word : word_of_id (set c.calls.words (id_word k) w) i ≡ parts w = ap (λ x. word_of_id (set c.calls.words (id_word k) w) x) same ∙ ap parts (get_or-set_same c.calls.words (id_word k) w 0 (omega (arith, sized, inside))) in
+      (λ same. let word : word_of_id (set c.calls.words (id_index k) w) i ≡ parts w = ap (λ x. word_of_id (set c.calls.words (id_index k) w) x) same ∙ ap parts (get_or-set_same c.calls.words (id_index k) w 0 (omega (arith, sized, inside))) in
       subst (λ z. 0 < z.state → Rise (Old i) z N M) (sym word) (f same word) live)
-      (λ far. other_rise (id_word k) w i N M (λ e. far (omega (arith, e))) live)
+      (λ far. other_rise (id_index k) w i N M (λ e. far (omega (arith, e))) live)
 
   -- an exchange of an id word
   exchange_rise : (k from w i : ℕ) (M : Type 0) → k < q.slots → (Raw k ≡ from → i ≡ k → 0 < (parts w).state → Rise (parts from) (parts w) ⊥ M)
-      → 0 < (word_of_id (set c.calls.words (id_word k) (cond (eqb (Raw k) from) w (Raw k))) i).state → Rise (Old i) (word_of_id (set c.calls.words (id_word k) (cond (eqb (Raw k) from) w (Raw k))) i) ⊥ M
+      → 0 < (word_of_id (set c.calls.words (id_index k) (cond (eqb (Raw k) from) w (Raw k))) i).state → Rise (Old i) (word_of_id (set c.calls.words (id_index k) (cond (eqb (Raw k) from) w (Raw k))) i) ⊥ M
   exchange_rise k from w i M inside f live = by (eqb (Raw k) from) refl live
     where
-      by : (b : Bool) → eqb (Raw k) from ≡ b → 0 < (word_of_id (set c.calls.words (id_word k) (cond b w (Raw k))) i).state → Rise (Old i) (word_of_id (set c.calls.words (id_word k) (cond b w (Raw k))) i) ⊥ M
+      by : (b : Bool) → eqb (Raw k) from ≡ b → 0 < (word_of_id (set c.calls.words (id_index k) (cond b w (Raw k))) i).state → Rise (Old i) (word_of_id (set c.calls.words (id_index k) (cond b w (Raw k))) i) ⊥ M
       by true hit live = one_rise k w i ⊥ M inside (λ here _ some_. let same : Raw k ≡ from = eqb-true (Raw k) from hit in subst (λ z. Rise z (parts w) ⊥ M) (sym (ap Old here ∙ ap parts same)) (f same here some_)) live
       by false miss live = one_rise k (Raw k) i ⊥ M inside (λ here _ some_. subst (λ z. Rise z (parts (Raw k)) ⊥ M) (sym (ap Old here)) (is_same refl some_ refl)) live
 
@@ -135,32 +135,32 @@ module _ (p : Plan) (q : IdPlan) (c : Core) (us : List IdView) (ids : SoundIds p
     -- the word of each id behind a step aside
     pub risen : (step : Step) (t : Option Taking) (found : Found step) → found_in step c.calls t ≡ some found → MayId p q u step → (i : ℕ) → i < q.slots → 0 < (word_of_id (calls_after step found c.calls).words i).state
         → Rise (word_of_id c.calls.words i) (word_of_id (calls_after step found c.calls).words i) (IsMakeAt step found i (word_of_id (calls_after step found c.calls).words i)) (Advances step found i)
-    risen (ClaimId k) t found is may i low live = other_rise (tag_word k) 1 i ⊥ (Advances (ClaimId k) found i) (λ e. omega (arith, e)) live
+    risen (ClaimId k) t found is may i low live = other_rise (tag_index k) 1 i ⊥ (Advances (ClaimId k) found i) (λ e. omega (arith, e)) live
     risen (PutCall k asked) t found is may i low live = same_rise i (Advances (PutCall k asked) found i) live
     risen (MakeId k range) t found is may i low live = let f = finds (MakeId k range) t found is may in let small = f.1 in
         let made : parts (packed (made_word (parts found).first range)) ≡ made_word (parts found).first range = parts_packed (made_word (parts found).first range) (omega arith) (let two = may.2 in omega (arith, two)) may.3 (omega arith) (omega arith) (omega arith) in
         one_rise k (packed (made_word (parts found).first range)) i (IsMakeAt (MakeId k range) found i (word_of_id (calls_after (MakeId k range) found c.calls).words i)) (Advances (MakeId k range) found i) may.0
         (λ here word some_. is_new (sym here, ap (λ (w : Parts). w.first) word ∙ ap (λ (w : Parts). w.first) made) (ap (λ (w : Parts). w.attempt) made)) live
-    risen (StoreCall o id) t found is may i low live = other_rise (call_word c.calls.plan o) id i ⊥ (Advances (StoreCall o id) found i) (subst (λ (r : IdPlan). id_word i ≢ call_word r o) (sym ids.plan) (λ e. omega (arith, e, low))) live
+    risen (StoreCall o id) t found is may i low live = other_rise (call_index c.calls.plan o) id i ⊥ (Advances (StoreCall o id) found i) (subst (λ (r : IdPlan). id_index i ≢ call_index r o) (sym ids.plan) (λ e. omega (arith, e, low))) live
     risen (LoadCall o) t found is may i low live = same_rise i (Advances (LoadCall o) found i) live
-    risen (StoreAt o w) t found is may i low live = other_rise (at_word c.calls.plan o) w i ⊥ (Advances (StoreAt o w) found i) (subst (λ (r : IdPlan). id_word i ≢ at_word r o) (sym ids.plan) (λ e. omega (arith, e, low))) live
+    risen (StoreAt o w) t found is may i low live = other_rise (at_index c.calls.plan o) w i ⊥ (Advances (StoreAt o w) found i) (subst (λ (r : IdPlan). id_index i ≢ at_index r o) (sym ids.plan) (λ e. omega (arith, e, low))) live
     risen (LoadAt o) t found is may i low live = same_rise i (Advances (LoadAt o) found i) live
     risen (LoadIdWord k) t found is may i low live = same_rise i (Advances (LoadIdWord k) found i) live
-    risen (LockId k from) t found is may i low live = as_found k found (λ n. 0 < (word_of_id (set c.calls.words (id_word k) (cond (eqb n from) (packed (posted_word (parts from) 0)) n)) i).state → Rise (Old i) (word_of_id (set c.calls.words (id_word k) (cond (eqb n from) (packed (posted_word (parts from) 0)) n)) i) ⊥ (Advances (LockId k from) n i)) is
+    risen (LockId k from) t found is may i low live = as_found k found (λ n. 0 < (word_of_id (set c.calls.words (id_index k) (cond (eqb n from) (packed (posted_word (parts from) 0)) n)) i).state → Rise (Old i) (word_of_id (set c.calls.words (id_index k) (cond (eqb n from) (packed (posted_word (parts from) 0)) n)) i) ⊥ (Advances (LockId k from) n i)) is
         (exchange_rise k from (packed (posted_word (parts from) 0)) i (Advances (LockId k from) (Raw k) i) may.0 (λ _ _ _. posted_rise from 0 (Advances (LockId k from) (Raw k) i) (omega arith) (let one = may.1 in omega (arith, one)))) live
-    risen (PostId k from e) t found is may i low live = as_found k found (λ n. 0 < (word_of_id (set c.calls.words (id_word k) (cond (eqb n from) (packed (posted_word (parts from) e)) n)) i).state → Rise (Old i) (word_of_id (set c.calls.words (id_word k) (cond (eqb n from) (packed (posted_word (parts from) e)) n)) i) ⊥ (Advances (PostId k from e) n i)) is
+    risen (PostId k from e) t found is may i low live = as_found k found (λ n. 0 < (word_of_id (set c.calls.words (id_index k) (cond (eqb n from) (packed (posted_word (parts from) e)) n)) i).state → Rise (Old i) (word_of_id (set c.calls.words (id_index k) (cond (eqb n from) (packed (posted_word (parts from) e)) n)) i) ⊥ (Advances (PostId k from e) n i)) is
         (exchange_rise k from (packed (posted_word (parts from) e)) i (Advances (PostId k from e) (Raw k) i) may.0 (λ _ _ _. posted_rise from e (Advances (PostId k from e) (Raw k) i) may.3 (⊎_elim (λ one. omega (arith, one)) (λ two. let z = two.0 in omega (arith, z)) may.1))) live
-    risen (UnlockId k from false) t found is may i low live = as_found k found (λ n. 0 < (word_of_id (set c.calls.words (id_word k) (cond (eqb n from) (packed (unlocked_word (parts from) 0)) n)) i).state → Rise (Old i) (word_of_id (set c.calls.words (id_word k) (cond (eqb n from) (packed (unlocked_word (parts from) 0)) n)) i) ⊥ (Advances (UnlockId k from false) n i)) is
+    risen (UnlockId k from false) t found is may i low live = as_found k found (λ n. 0 < (word_of_id (set c.calls.words (id_index k) (cond (eqb n from) (packed (unlocked_word (parts from) 0)) n)) i).state → Rise (Old i) (word_of_id (set c.calls.words (id_index k) (cond (eqb n from) (packed (unlocked_word (parts from) 0)) n)) i) ⊥ (Advances (UnlockId k from false) n i)) is
         (exchange_rise k from (packed (unlocked_word (parts from) 0)) i (Advances (UnlockId k from false) (Raw k) i) may.0
         (λ _ _ _. let f = few_more k from false may in let two = f.1 in let w = unlocked_parts from 0 f.0 in is_same (ap (λ (x : Parts). x.first) w) (omega (arith, two)) (ap (λ (x : Parts). x.attempt) w ∙ (let z : (parts from).attempt + 0 ≡ (parts from).attempt = omega arith in z)))) live
-    risen (UnlockId k from true) t found is may i low live = as_found k found (λ n. 0 < (word_of_id (set c.calls.words (id_word k) (cond (eqb n from) (packed (unlocked_word (parts from) 1)) n)) i).state → Rise (Old i) (word_of_id (set c.calls.words (id_word k) (cond (eqb n from) (packed (unlocked_word (parts from) 1)) n)) i) ⊥ (Advances (UnlockId k from true) n i)) is
+    risen (UnlockId k from true) t found is may i low live = as_found k found (λ n. 0 < (word_of_id (set c.calls.words (id_index k) (cond (eqb n from) (packed (unlocked_word (parts from) 1)) n)) i).state → Rise (Old i) (word_of_id (set c.calls.words (id_index k) (cond (eqb n from) (packed (unlocked_word (parts from) 1)) n)) i) ⊥ (Advances (UnlockId k from true) n i)) is
         (exchange_rise k from (packed (unlocked_word (parts from) 1)) i (Advances (UnlockId k from true) (Raw k) i) may.0
         (λ hit here _. let f = few_more k from true may in let two = f.1 in let w = unlocked_parts from 1 f.0 in let h = at_home k from true may in
         is_more (ap (λ (x : Parts). x.first) w) (omega (arith, two)) (ap (λ (x : Parts). x.attempt) w)
         (h.0, ap (get_elem? c.calls.homes) here ∙ h.1, ap (λ b. cond b (called_at c.calls k) []) (eq-eqb (Raw k) from hit) ∙ ap (λ x. elim (call_at x) as (λ o. List ℕ) [ none ↦ [] | some asked ↦ asked.operation ∷ [] ]) h.1))) live
     risen (EndId k) t found is may i low live = one_rise k (packed (free_word ((parts found).first + (parts found).range))) i ⊥ (Advances (EndId k) found i) may.0
         (λ here word some_. absurd (let free : (parts (packed (free_word ((parts found).first + (parts found).range)))).state ≡ 0 = ap (λ (w : Parts). w.state) (parts_packed (free_word ((parts found).first + (parts found).range)) (omega arith) (omega arith) (omega arith) (omega arith) (omega arith) (omega arith)) in omega (arith, free, some_))) live
-    risen (FreeId k) t found is may i low live = other_rise (tag_word k) 0 i ⊥ (Advances (FreeId k) found i) (λ e. omega (arith, e)) live
+    risen (FreeId k) t found is may i low live = other_rise (tag_index k) 0 i ⊥ (Advances (FreeId k) found i) (λ e. omega (arith, e)) live
     risen (TakeCall k) t found is may i low live = same_rise i (Advances (TakeCall k) found i) live
     risen (TakeBytes k room) t (Bytes bytes) is may i low live = same_rise i (Advances (TakeBytes k room) (Bytes bytes) i) live
     risen (TakeBytes k room) t found is may i low live = same_rise i (Advances (TakeBytes k room) found i) live

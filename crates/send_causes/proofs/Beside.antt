@@ -7,19 +7,19 @@ use Rattle.brpc_model.specs.Items.{Item}
 use Rattle.brpc_model.specs.Operations.{Turn}
 use Rattle.brpc_model.specs.Order.{EachBefore}
 use Rattle.brpc_model.specs.Script.{script_of}
-use Rattle.sock_programs.specs.Cores.{Core}
-use Rattle.sock_programs.specs.Tasks.{opens, plan_of}
-use Rattle.sock_programs.specs.Scripts.{all_tasks, played, IsRunWithCalls}
-use Rattle.sock_programs.specs.ToldCalls.{Accepted, Order, Fixed, IsSent, InOwnOrder, IsFailing}
+use Rattle.seat_programs.specs.Cores.{Core}
+use Rattle.seat_programs.specs.Tasks.{opens, plan_of}
+use Rattle.seat_programs.specs.Scripts.{all_tasks, played, IsRunWithCalls}
+use Rattle.seat_programs.specs.ToldCalls.{Accepted, Order, Fixed, IsSent, InOwnOrder, IsFailing}
 use Rattle.sock_runs.specs.Sound.{state}
 use Rattle.sock_runs.proofs.Whole.{views_played}
-use Rattle.sock_causes.specs.Facts.{CallsFoundNone, ToldPlain, last_attempt, closed_before_ending}
-use Rattle.sock_causes.specs.Stories.{In}
-use Rattle.call_causes.specs.client_laws.specs.Openings.{all_seats}
-use Rattle.call_causes.specs.client_laws.proofs.Fresh.{opening_fresh}
+use Rattle.outcome_causes.specs.Facts.{CallsFoundNone, ToldPlain, last_attempt, closed_before_ending}
+use Rattle.outcome_causes.specs.Stories.{In}
+use Rattle.call_causes.specs.programs_allowed.specs.Openings.{all_seats}
+use Rattle.call_causes.specs.programs_allowed.proofs.Fresh.{opening_fresh}
 use Rattle.call_causes.specs.joint_runs.proofs.Runs.{AreMade, first_views}
 use Rattle.call_causes.specs.owed_calls.specs.Lives.{ClosesInRun}
-use Rattle.whole_runs.specs.Heard.{heard_takes, given_by}
+use Rattle.run_theorems.specs.Heard.{heard_takes, given_by}
 use Rattle.call_causes.specs.Lists.{early_of_run, closed_of_run, silent_of_run, soon_of_run}
 use Rattle.send_causes.specs.Sent.{IsAttempt}
 use Rattle.send_causes.proofs.Early.{start, go, fitting, closed_so, closed_early}

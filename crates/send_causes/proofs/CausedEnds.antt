@@ -6,7 +6,7 @@ use mathlib.Core.Logic.{dite}
 use mathlib.Core.Option.{some}
 use native.Mathlib.Decide.{dec_le}
 use lib.ListN.{get_elem?}
-use Rattle.chain_laws.proofs.Lists.{at_some}
+use Rattle.chain_steps.proofs.Lists.{at_some}
 use Rattle.sock_words.specs.Words.{at_word_attempt}
 use Rattle.sock_words.specs.declared.plain.Plan.{Plan}
 use Rattle.sock_words.specs.declared.outcome.Outcome.TheVariants.{CallFailed}
@@ -17,19 +17,19 @@ use Rattle.brpc_model.specs.Script.{script_of}
 use Rattle.brpc_model.specs.Stream.{stream}
 use Rattle.corr_core.specs.Word.{error_of, attempt_of}
 use Rattle.sock_message.specs.Asked.{Asked, name_of}
-use Rattle.sock_programs.specs.declared.task.Op.TheVariants as ops
-use Rattle.sock_programs.specs.declared.task.Task.{Task}
-use Rattle.sock_programs.specs.Cores.{Core}
-use Rattle.sock_programs.specs.Tasks.{opens, plan_of}
-use Rattle.sock_programs.specs.Scripts.{all_tasks, IsRunWithCalls}
-use Rattle.sock_programs.specs.Told.{IsTask, Became}
-use Rattle.sock_programs.specs.ToldCalls.{Fixed, Order, Gave, IsResponse, IsUnordered, StandsOn, WasFull, IsFailing, MayBeOn, EndedWith}
-use Rattle.sock_causes.specs.Stories.{In}
+use Rattle.seat_programs.specs.declared.task.Op.TheVariants as ops
+use Rattle.seat_programs.specs.declared.task.Task.{Task}
+use Rattle.seat_programs.specs.Cores.{Core}
+use Rattle.seat_programs.specs.Tasks.{opens, plan_of}
+use Rattle.seat_programs.specs.Scripts.{all_tasks, IsRunWithCalls}
+use Rattle.seat_programs.specs.Told.{IsTask, Became}
+use Rattle.seat_programs.specs.ToldCalls.{Fixed, Order, Gave, IsResponse, IsUnordered, StandsOn, WasFull, IsFailing, MayBeOn, EndedWith}
+use Rattle.outcome_causes.specs.Stories.{In}
 use Rattle.call_causes.specs.joint_runs.proofs.Runs.{AreMade}
 use Rattle.report_fits.proofs.Reading.{InRange}
 use Rattle.report_fits.proofs.Targets.{AreThere}
 use Rattle.call_causes.specs.owed_calls.specs.Lives.{ClosesInRun}
-use Rattle.whole_runs.proofs.Gave.{gave_heard}
+use Rattle.run_theorems.proofs.Gave.{gave_heard}
 use Rattle.call_causes.specs.Decided.{posted_by, decided_by}
 use Rattle.call_causes.specs.Lists.{given, shows_in_run}
 use Rattle.call_causes.specs.Posts.{Post}

@@ -7,11 +7,11 @@ use Rattle.sock_model.specs.declared.view.View.{View}
 use Rattle.brpc_model.specs.Items.{Item}
 use Rattle.brpc_model.specs.Operations.{Turn}
 use Rattle.brpc_model.specs.Script.{script_of}
-use Rattle.sock_programs.specs.Asides.{Taking}
-use Rattle.sock_programs.specs.Cores.{Core, SeatState}
-use Rattle.sock_programs.specs.Tasks.{opens, calls, plan_of}
-use Rattle.sock_programs.specs.Ticks.{Moment, AreAnswered, taken, ticked}
-use Rattle.sock_programs.specs.Scripts.{opened, set_up, IsRunWithCalls}
+use Rattle.seat_programs.specs.Asides.{Taking}
+use Rattle.seat_programs.specs.Cores.{Core, SeatState}
+use Rattle.seat_programs.specs.Tasks.{opens, calls, plan_of}
+use Rattle.seat_programs.specs.Ticks.{Moment, AreAnswered, taken, ticked}
+use Rattle.seat_programs.specs.Scripts.{opened, set_up, IsRunWithCalls}
 use Rattle.sock_runs.specs.Sound.{Sound, AreFitting, views_after, views_along}
 use Rattle.sock_runs.proofs.Along.{place_inside}
 use Rattle.sock_runs.proofs.LinkTicks.{RetriesGo}
@@ -19,9 +19,9 @@ use Rattle.sock_runs.proofs.Recorded.{Recorded, recorded_ticks}
 use Rattle.sock_runs.proofs.Ticks.{sound_ticks}
 use Rattle.sock_runs.proofs.Whole.{IsListed, closing_of, views_played, views_closed, set_up_answered, end_answered, set_up_sound, closing_sound, closed_sound, recorded_opened, recorded_set_up, recorded_closing, recorded_closed}
 use Rattle.id_runs.specs.Goes.{first_of}
-use Rattle.sock_causes.specs.Stories.{In}
-use Rattle.sock_causes.proofs.Members.{in_contains}
-use Rattle.sock_causes.proofs.Plain.{in_left, in_right, in_both}
+use Rattle.outcome_causes.specs.Stories.{In}
+use Rattle.outcome_causes.proofs.Members.{in_contains}
+use Rattle.outcome_causes.proofs.Plain.{in_left, in_right, in_both}
 use Rattle.call_causes.specs.joint_runs.proofs.Runs.{AreMade, first_views}
 use Rattle.call_causes.specs.Lists.{shows_in, shows_in_run}
 use Rattle.call_causes.specs.Posts.{Post, posted_with, posted_at}

@@ -10,40 +10,40 @@ use Rattle.sock_words.specs.Words.{at_word_link, at_word_attempt, vref_version, 
 use Rattle.sock_words.specs.declared.plain.Plan.{Plan}
 use Rattle.sock_model.specs.declared.chain.Entry.{Entry}
 use Rattle.sock_model.specs.declared.view.View.{View}
-use Rattle.sock_model.specs.Layout.{ref_word}
+use Rattle.sock_model.specs.Layout.{ref_index}
 use Rattle.brpc_model.specs.Items.{Item}
 use Rattle.brpc_model.specs.Operations.{Turn}
 use Rattle.brpc_model.specs.Script.{script_of}
-use Rattle.sock_programs.specs.Asides.{id_slot, id_first}
-use Rattle.sock_programs.specs.Calls.{ClaimRequest}
-use Rattle.sock_programs.specs.Clients.{ending_of}
-use Rattle.sock_programs.specs.Cores.{Core, SeatState, waiting_at}
-use Rattle.sock_programs.specs.Runs.{IsAtRest}
-use Rattle.sock_programs.specs.Tasks.{opens, calls, plan_of, id_plan_of}
-use Rattle.sock_programs.specs.Ticks.{Moment, AreAnswered, IsPrompt, quiet, ticked, run, waits, waits_at}
-use Rattle.sock_programs.specs.Scripts.{sizes_of, all_tasks, opened, set_up, played, IsRunWithCalls}
-use Rattle.sock_programs.specs.Told.{AreTasks}
-use Rattle.sock_programs.specs.ToldCalls.{Accepted, StandsOn, IsUnordered, IsFailing, WasFull}
+use Rattle.seat_programs.specs.Asides.{id_slot, id_first}
+use Rattle.seat_programs.specs.Calls.{ClaimRequest}
+use Rattle.seat_programs.specs.Clients.{ending_of}
+use Rattle.seat_programs.specs.Cores.{Core, SeatState, waiting_at}
+use Rattle.seat_programs.specs.Runs.{IsAtRest}
+use Rattle.seat_programs.specs.Tasks.{opens, calls, plan_of, id_plan_of}
+use Rattle.seat_programs.specs.Ticks.{Moment, AreAnswered, IsAlwaysReady, quiet, ticked, run, waits, waits_at}
+use Rattle.seat_programs.specs.Scripts.{sizes_of, all_tasks, opened, set_up, played, IsRunWithCalls}
+use Rattle.seat_programs.specs.Told.{AreTasks}
+use Rattle.seat_programs.specs.ToldCalls.{Accepted, StandsOn, IsUnordered, IsFailing, WasFull}
 use Rattle.sock_runs.specs.Sound.{Sound, AllRest, AreFitting, views_after, views_along}
 use Rattle.sock_runs.proofs.Along.{seat_rests, place_inside}
 use Rattle.sock_runs.proofs.LinkTicks.{RetriesGo}
 use Rattle.sock_runs.proofs.Ticks.{sound_ticks}
 use Rattle.sock_runs.proofs.Whole.{closing_of, views_played, views_closed, views_ended, set_up_answered, end_answered, rested_ahead, set_up_sound, played_sound, closing_sound, closed_sound, closed_ahead, ended_sound, end_rests}
-use Rattle.sock_causes.specs.Facts.{late_links_of_run, born_at, shown_in}
-use Rattle.sock_causes.specs.Kept.{Story}
-use Rattle.sock_causes.specs.PlainTasks.{told_tasks_of}
-use Rattle.sock_causes.specs.Stories.{In}
-use Rattle.sock_causes.proofs.Delivered.{accepted_of, requests_used}
-use Rattle.sock_causes.proofs.Final.{at_there}
-use Rattle.sock_causes.proofs.Members.{in_contains, contains_in}
-use Rattle.sock_causes.proofs.Messages.{each_made}
-use Rattle.sock_causes.proofs.Plain.{in_both, in_left, in_right}
-use Rattle.sock_causes.proofs.Runs.{Goes as ToldGoes}
-use Rattle.sock_causes.proofs.Scripts.{seats, ended_told, final_told, story_end}
-use Rattle.sock_causes.proofs.Senders.{sent_stands}
-use Rattle.sock_causes.proofs.Ticks.{elem_there}
-use Rattle.call_causes.specs.client_laws.specs.Openings.{all_seats}
-use Rattle.call_causes.specs.client_laws.proofs.Fresh.{opening_fresh}
+use Rattle.outcome_causes.specs.Facts.{late_links_of_run, born_at, shown_in}
+use Rattle.outcome_causes.specs.Kept.{Story}
+use Rattle.outcome_causes.specs.PlainTasks.{told_tasks_of}
+use Rattle.outcome_causes.specs.Stories.{In}
+use Rattle.outcome_causes.proofs.Delivered.{accepted_of, requests_used}
+use Rattle.outcome_causes.proofs.Final.{at_there}
+use Rattle.outcome_causes.proofs.Members.{in_contains, contains_in}
+use Rattle.outcome_causes.proofs.Messages.{each_made}
+use Rattle.outcome_causes.proofs.Plain.{in_both, in_left, in_right}
+use Rattle.outcome_causes.proofs.Runs.{Goes as ToldGoes}
+use Rattle.outcome_causes.proofs.Scripts.{seats, ended_told, final_told, story_end}
+use Rattle.outcome_causes.proofs.Senders.{sent_stands}
+use Rattle.outcome_causes.proofs.Ticks.{elem_there}
+use Rattle.call_causes.specs.programs_allowed.specs.Openings.{all_seats}
+use Rattle.call_causes.specs.programs_allowed.proofs.Fresh.{opening_fresh}
 use Rattle.call_causes.specs.joint_runs.proofs.Runs.{AreMade, first_views}
 use Rattle.call_causes.specs.owed_calls.specs.Lives.{ClosesInRun}
 use Rattle.call_causes.specs.Lists.{shows_in}
@@ -162,7 +162,7 @@ module _ (script : List Item) (made : AreMade script) (turns : List Turn) (core 
   rested_mode : (j : ℕ) (seat : SeatState) → get_elem? rested.seats j ≡ some seat → (m : Mode) → Goes (plan_of script).requests m seat.program → m ≡ Free
   rested_mode j seat at m g = by (still script made turns core is j (place_inside rested.seats j seat at))
     where
-      by : IsAtRest (played script is.setup (is.scheduled ++ is.later)) j ⊎ ((w : Moment) × (w.seat ≡ j) × IsPrompt w × (waits (plan_of script) (played script is.setup (is.scheduled ++ is.later)) w ≡ true)) → m ≡ Free
+      by : IsAtRest (played script is.setup (is.scheduled ++ is.later)) j ⊎ ((w : Moment) × (w.seat ≡ j) × IsAlwaysReady w × (waits (plan_of script) (played script is.setup (is.scheduled ++ is.later)) w ≡ true)) → m ≡ Free
       by (inl rest) = rests_free (plan_of script).requests m (subst (Goes (plan_of script).requests m)
           (seat_rests (played script is.setup (is.scheduled ++ is.later)) (rested_ahead script made.are (first_views script) (start script made turns core is) (go script made turns core is) turns core is (fitting script made turns core is)) j rest seat at) g)
       by (inr w) = waits_free (plan_of script).requests (plan_of script) (played script is.setup (is.scheduled ++ is.later)) w.0.answer seat.program
@@ -187,7 +187,7 @@ module _ (script : List Item) (made : AreMade script) (turns : List Turn) (core 
       rested_free j seat (sym (set_else (played script is.setup (is.scheduled ++ is.later)).seats 0 j _ far) ∙ (sym same.0 ∙ (sym (ap (λ (d : Core). get_elem? d.seats j) is.is_ended) ∙ at))))
 
   abbrev Past : ℕ → ℕ → Type 0
-  Past i h = h < vref_version (get_or is.ended.words (ref_word i) 0)
+  Past i h = h < vref_version (get_or is.ended.words (ref_index i) 0)
 
   abbrev Late : Core → List View → List Moment → Type 0
   Late c vs ms = Behind (plan_of script) Past goes (Lives (plan_of script) is.ended Any) (λ c vs m s a f h. lives_ticks (plan_of script) is.ended Any c vs m s a f (λ k there. tt) h)

@@ -7,21 +7,21 @@ use lib.ListN.{get_elem?}
 use Rattle.sock_words.specs.Words.{socket_id_version, socket_id_slot, vref_version, at_word_link, at_word_attempt}
 use Rattle.sock_words.specs.declared.plain.Plan.{Plan}
 use Rattle.sock_model.specs.declared.view.View.{View}
-use Rattle.sock_model.specs.Layout.{ref_word}
+use Rattle.sock_model.specs.Layout.{ref_index}
 use Rattle.corr_core.specs.declared.marks.Plan.{Plan as IdPlan}
-use Rattle.sock_programs.specs.Cores.{Core, SeatState, resolved, next_step}
-use Rattle.sock_programs.specs.Clients.{client_from}
-use Rattle.sock_programs.specs.Programs.{Program, Do, Rest, Aside}
-use Rattle.sock_programs.specs.declared.task.Sizes.{Sizes}
-use Rattle.sock_programs.specs.declared.task.Task.{Task}
-use Rattle.sock_programs.specs.Scripts.{programs, readers_from, all_programs, beginning}
-use Rattle.sock_programs.specs.Ticks.{Answer, Moment, IsAnswered, AreAnswered, quiet, ticked, run, waits_at}
+use Rattle.seat_programs.specs.Cores.{Core, SeatState, resolved, next_step}
+use Rattle.seat_programs.specs.Clients.{client_from}
+use Rattle.seat_programs.specs.Programs.{Program, Do, Rest, Aside}
+use Rattle.seat_programs.specs.declared.task.Sizes.{Sizes}
+use Rattle.seat_programs.specs.declared.task.Task.{Task}
+use Rattle.seat_programs.specs.Scripts.{programs, readers_from, all_programs, beginning}
+use Rattle.seat_programs.specs.Ticks.{Answer, Moment, IsAnswered, AreAnswered, quiet, ticked, run, waits_at}
 use Rattle.sock_runs.specs.Sound.{Sound, first_step, IsFitting, AreFitting, views_after, views_along}
 use Rattle.sock_runs.proofs.LinkTicks.{RetriesGo}
 use Rattle.sock_runs.proofs.Opening.{mapped}
 use Rattle.sock_runs.proofs.Ticks.{sound_ticks}
-use Rattle.sock_causes.specs.Stories.{In}
-use Rattle.sock_causes.proofs.Plain.{in_both}
+use Rattle.outcome_causes.specs.Stories.{In}
+use Rattle.outcome_causes.proofs.Plain.{in_both}
 use Rattle.call_causes.specs.Lists.{shows_in}
 use Rattle.send_causes.specs.EndedCalls.{Store, stores_by, stored_at}
 use Rattle.send_causes.proofs.RefusedClosing.{OnSockets, MakesSteps, tick_steps}
@@ -32,7 +32,7 @@ use Rattle.send_causes.proofs.ClosedLostTicks.{Entered, AllStand, Fate, keeps_he
 
 module _ (p : Plan) (Old : ℕ → ℕ → Type 0) (retries : RetriesGo p) (Holds : Core → List View → Type 0)
     (stays : (c : Core) (vs : List View) (m : Moment) → Sound p c vs → IsAnswered c m → IsFitting p c m → Holds c vs → Holds (ticked p c m) (views_after p c vs m))
-    (fresh : (c : Core) (vs : List View) → Holds c vs → (id : ℕ) → socket_id_slot id < p.slots → vref_version (std.slice_index c.words (ref_word (socket_id_slot id))) ≡ socket_id_version id → Old (socket_id_slot id) (socket_id_version id) → ⊥) where
+    (fresh : (c : Core) (vs : List View) → Holds c vs → (id : ℕ) → socket_id_slot id < p.slots → vref_version (std.slice_index c.words (ref_index (socket_id_slot id))) ≡ socket_id_version id → Old (socket_id_slot id) (socket_id_version id) → ⊥) where
   pub record Behind (c : Core) (vs : List View) (ms : List Moment) : Type 0 where
     pub stands : AllStand p Old (run p c ms) (views_along p c vs ms)
     pub fates : (o n k : ℕ) → Fate p Old c vs o n k → Fate p Old (run p c ms) (views_along p c vs ms) o n k

@@ -16,17 +16,17 @@ use Rattle.sock_model.specs.declared.home.Home.{Home}
 use Rattle.sock_model.specs.declared.view.Hand.{Hand}
 use Rattle.sock_model.specs.declared.view.View.{View}
 use Rattle.sock_model.specs.ChainRows.{with_claim, entry_of, more, queued, righted, taken_right}
-use Rattle.sock_model.specs.Layout.{ref_word}
+use Rattle.sock_model.specs.Layout.{ref_index}
 use Rattle.sock_model.specs.Memory.{IDLE}
 use Rattle.sock_steps.proofs.Quiet.{either_way}
 use Rattle.id_rule.specs.Lawful as ids
-use Rattle.sock_programs.specs.Asides.{Step, Found, StoreAt, id_slot, id_first}
-use Rattle.sock_programs.specs.Beside.{calls_after}
-use Rattle.sock_programs.specs.Calls.{Call, AddRef, LookWord, FindLink, ClaimRequest, PutMessage, Unconnect, SwapHead}
-use Rattle.sock_programs.specs.Heads.{Retry}
-use Rattle.sock_programs.specs.Programs.{Program, Do, TakeMessage, TakeHome, PutHome, PutBytes, AskReady, Write, Aside, Round}
-use Rattle.sock_programs.specs.Cores.{Core, SeatState, word_of, found_at, resolved, next_step, waiting_at, hand_after, link_place, lies_at, others_of}
-use Rattle.sock_programs.specs.Ticks.{Answer, Moment, IsAnswered, fed, onto_first, step_with, tick_with, ticked}
+use Rattle.seat_programs.specs.Asides.{Step, Found, StoreAt, id_slot, id_first}
+use Rattle.seat_programs.specs.Beside.{calls_after}
+use Rattle.seat_programs.specs.Calls.{Call, AddRef, LookWord, FindLink, ClaimRequest, PutMessage, Unconnect, SwapHead}
+use Rattle.seat_programs.specs.Heads.{Retry}
+use Rattle.seat_programs.specs.Programs.{Program, Do, TakeMessage, TakeHome, PutHome, PutBytes, AskReady, Write, Aside, Round}
+use Rattle.seat_programs.specs.Cores.{Core, SeatState, word_of, found_at, resolved, next_step, waiting_at, hand_after, link_place, lies_at, others_of}
+use Rattle.seat_programs.specs.Ticks.{Answer, Moment, IsAnswered, fed, onto_first, step_with, tick_with, ticked}
 use Rattle.sock_runs.specs.Fits.{FitsRetry}
 use Rattle.sock_runs.specs.May.{May}
 use Rattle.sock_runs.specs.Rows.{row, hand_at, by_claim, exchanged, filled_claim, ready_claim, took_message, link_away, link_home_again, took_bytes}
@@ -35,11 +35,11 @@ use Rattle.sock_runs.proofs.Cases.{with_rights, right_rights, put_rights}
 use Rattle.sock_runs.proofs.Leaves.{claim_way}
 use Rattle.sock_runs.proofs.LinksStay.{IsGiven, run_given, finds_given}
 use Rattle.sock_runs.proofs.LinkTicks.{RetriesGo}
-use Rattle.sock_causes.specs.Stories.{In}
-use Rattle.sock_causes.proofs.Cases.{tick_cases}
-use Rattle.sock_causes.proofs.Final.{at_within}
-use Rattle.sock_causes.proofs.Plain.{in_left, in_right}
-use Rattle.sock_causes.proofs.Ticks.{elem_there}
+use Rattle.outcome_causes.specs.Stories.{In}
+use Rattle.outcome_causes.proofs.Cases.{tick_cases}
+use Rattle.outcome_causes.proofs.Final.{at_within}
+use Rattle.outcome_causes.proofs.Plain.{in_left, in_right}
+use Rattle.outcome_causes.proofs.Ticks.{elem_there}
 use Rattle.send_causes.specs.EndedCalls.{Store, stores_by, stored_at}
 use Rattle.send_causes.specs.Refused.{Deed, DidStep, DidAt}
 use Rattle.send_causes.proofs.Readings.{ticks_first}
@@ -199,7 +199,7 @@ module _ (p : Plan) (Old : ℕ → ℕ → Type 0) where
 
       -- a step on a word
       module _ (sound : Sound p c vs) (mo : Moment) (v : View) (here : get_elem? vs mo.seat ≡ some v)
-          (fresh : (id : ℕ) → socket_id_slot id < p.slots → vref_version (std.slice_index c.words (ref_word (socket_id_slot id))) ≡ socket_id_version id → Old (socket_id_slot id) (socket_id_version id) → ⊥) where
+          (fresh : (id : ℕ) → socket_id_slot id < p.slots → vref_version (std.slice_index c.words (ref_index (socket_id_slot id))) ≡ socket_id_version id → Old (socket_id_slot id) (socket_id_version id) → ⊥) where
         abbrev after : Call → View
         after call = row p call (found_at c.words (word_of p call)) (hand_at p c.words c.homes call) v
 
@@ -309,7 +309,7 @@ entered_set o n vs i v w here f (j, u, at, h) = dite (ℕ_discrete j i)
 -- ## Ticks
 
 module _ (p : Plan) (Old : ℕ → ℕ → Type 0) (retries : RetriesGo p) (c : Core) (vs : List View) (sound : Sound p c vs) (mo : Moment) (answered : IsAnswered c mo) (fitting : IsFitting p c mo)
-    (fresh : (id : ℕ) → socket_id_slot id < p.slots → vref_version (std.slice_index c.words (ref_word (socket_id_slot id))) ≡ socket_id_version id → Old (socket_id_slot id) (socket_id_version id) → ⊥) where
+    (fresh : (id : ℕ) → socket_id_slot id < p.slots → vref_version (std.slice_index c.words (ref_index (socket_id_slot id))) ≡ socket_id_version id → Old (socket_id_slot id) (socket_id_version id) → ⊥) where
   rights_entered : (o n : ℕ) (v w : View) → get_elem? vs mo.seat ≡ some v → (rights : List Right) × (w ≡ with_rights v rights) → Entered o n vs → Entered o n (set vs mo.seat w)
   rights_entered o n v w here x = entered_set o n vs mo.seat v w here (λ h. subst (HasEntry o n) (sym x.1) h)
 
@@ -393,7 +393,7 @@ module _ (p : Plan) (Old : ℕ → ℕ → Type 0) (retries : RetriesGo p) (c : 
     -- whoever stores an at word is at the attempt behind that
     module _ (seat : SeatState) (at : get_elem? c.seats mo.seat ≡ some seat) (o w : ℕ) (next : ℕ → Program) (is : first_step seat.program ≡ Aside (StoreAt o w) next) where
       abbrev at_slot : ℕ
-      at_slot = std.slice_index c.calls.words (ids.at_word c.calls.plan o)
+      at_slot = std.slice_index c.calls.words (ids.at_index c.calls.plan o)
 
       abbrev stored : SeatState
       stored = record { program = next_step (resolved (waiting_at c.calls.waiting mo.seat) (next at_slot)); hand = seat.hand }

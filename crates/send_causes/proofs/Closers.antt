@@ -9,18 +9,18 @@ use Rattle.corr_core.specs.Word.{parts, posted_word, unlocked_word, code_of, err
 use Rattle.corr_core.specs.Law.{LAST}
 use Rattle.brpc_model.specs.Frame.{Frame}
 use Rattle.brpc_model.specs.Stream as streams
-use Rattle.sock_programs.specs.Calls.{Call, SetOdd, StoreCode, AddRef, SwapHead, GiveBirth, StoreOpen}
-use Rattle.sock_programs.specs.Asides.{Step, Found, TakeBytes, Taking, Bytes, Nothing, NoMore, AtEnd, Closed, Broken, call_id, id_slot, id_first}
-use Rattle.sock_programs.specs.Heads.{Head, Exit, Retry, Sought, Reading, Posts, Unlocks, Decides, Locks, Joins, Opens, Reads, Discards, Posting, WasGone, WasStale, WasCrowded, WasQueued, HasLocked, Unlocking, IsOpen, HasNext, Deciding, HasEnded, GoesOn, Locking, NotThere, Has, Ended}
-use Rattle.sock_programs.specs.Programs.{Program, Do, Say, Sent, Rest, TakeMessage, TakeHome, PutHome, PutBytes, AskReady, Write, Aside, Round, Keep, Retries, LAST_VERSION, recycle, release, address, set_failed}
-use Rattle.sock_programs.specs.Posts.{packed, advance_of, is_first, is_sought, is_stale, is_full, judged, posts_round, post_with, popped, unlocks_round, ends_call, end_id, decide, decided, unlocked, locking, locks_round, joins_round}
-use Rattle.sock_programs.specs.Readers.{LIMIT, ending_of, slot_in, version_in, has_response, is_early, answer, answered, responses, last_of, ended_by, read_on, took, discarded, kept_for, ends_with, posted_last, post_each, thrown_away, read}
-use Rattle.sock_programs.specs.Rounds.{round}
-use Rattle.sock_programs.specs.Cores.{resolved, next_step}
+use Rattle.seat_programs.specs.Calls.{Call, SetOdd, StoreCode, AddRef, SwapHead, CreateLife, StoreOpen}
+use Rattle.seat_programs.specs.Asides.{Step, Found, TakeBytes, Taking, Bytes, Nothing, NoMore, AtEnd, Closed, Broken, call_id, id_slot, id_first}
+use Rattle.seat_programs.specs.Heads.{Head, Exit, Retry, Sought, Reading, Posts, Unlocks, Decides, Locks, Joins, Opens, Reads, Discards, Posting, WasGone, WasStale, WasCrowded, WasQueued, HasLocked, Unlocking, IsOpen, HasNext, Deciding, HasEnded, GoesOn, Locking, NotThere, Has, Ended}
+use Rattle.seat_programs.specs.Programs.{Program, Do, Say, Sent, Rest, TakeMessage, TakeHome, PutHome, PutBytes, AskReady, Write, Aside, Round, Keep, Retries, LAST_VERSION, recycle, release, address, set_failed}
+use Rattle.seat_programs.specs.Posts.{packed, advance_of, is_first, is_sought, is_stale, is_full, judged, posts_round, post_with, popped, unlocks_round, ends_call, end_id, decide, decided, unlocked, locking, locks_round, joins_round}
+use Rattle.seat_programs.specs.Readers.{LIMIT, ending_of, slot_in, version_in, has_response, is_early, answer, answered, responses, last_of, ended_by, read_on, took, discarded, kept_for, ends_with, posted_last, post_each, thrown_away, read}
+use Rattle.seat_programs.specs.Rounds.{round}
+use Rattle.seat_programs.specs.Cores.{resolved, next_step}
 use Rattle.sock_runs.specs.Sound.{first_step}
-use Rattle.sock_causes.specs.Stories.{In}
-use Rattle.sock_causes.proofs.Plain.{in_left, in_right}
-use Rattle.whole_runs.specs.Heard.{bytes_found, given_by}
+use Rattle.outcome_causes.specs.Stories.{In}
+use Rattle.outcome_causes.proofs.Plain.{in_left, in_right}
+use Rattle.run_theorems.specs.Heard.{bytes_found, given_by}
 use Rattle.send_causes.proofs.Faults.{Faults, fault_stays, fault_follows}
 
 -- ## What takes gave
@@ -76,7 +76,7 @@ module _ (k id : ℕ) (Odd : List Taking → Type 0) (Lasts : Type 0) where
   Calm held h (Do (StoreCode i v code) next) = Codes h code × (i ≡ socket_id_slot id) × (v ≡ socket_id_version id) × ((found : ℕ) → Calm false h (next found))
   Calm held h (Do (AddRef x) next) = (x ≡ id) × ((found : ℕ) → Calm (vref_version found == socket_id_version id) h (next found))
   Calm held h (Do (SwapHead i own) next) = ⊥
-  Calm held h (Do (GiveBirth i l) next) = ⊥
+  Calm held h (Do (CreateLife i l) next) = ⊥
   Calm held h (Do (StoreOpen o w) next) = ⊥
   Calm held h (Do call next) = (found : ℕ) → Calm false h (next found)
   Calm held h (Say o outcome next) = Calm held h next
@@ -333,7 +333,7 @@ module _ (k id : ℕ) (Odd : List Taking → Type 0) (Lasts : Type 0) where
   -- the step exchanges no head, and stores in the word of no `open`
   abbrev pub IsCalmCall : Call → Type 0
   IsCalmCall (SwapHead i own) = ⊥
-  IsCalmCall (GiveBirth i l) = ⊥
+  IsCalmCall (CreateLife i l) = ⊥
   IsCalmCall (StoreOpen o w) = ⊥
   IsCalmCall other = Unit {0}
 
@@ -348,7 +348,7 @@ module _ (k id : ℕ) (Odd : List Taking → Type 0) (Lasts : Type 0) where
   calm_step held h (StoreCode i v code) next x = (tt, λ found. record { held = false; calm = x.3 found; got = λ e. absurd (true≢false (sym e)) })
   calm_step held h (AddRef y) next x = (tt, λ found. record { held = vref_version found == socket_id_version id; calm = x.1 found; got = λ e. (ap AddRef x.0, e) })
   calm_step held h (SwapHead i own) next x = absurd x
-  calm_step held h (GiveBirth i l) next x = absurd x
+  calm_step held h (CreateLife i l) next x = absurd x
   calm_step held h (StoreOpen o w) next x = absurd x
   calm_step held h call next x = (tt, λ found. record { held = false; calm = x found; got = λ e. absurd (true≢false (sym e)) })
 

@@ -8,16 +8,16 @@ use Rattle.report_fits.proofs.Targets.{AreThere}
 use Rattle.sock_words.specs.declared.plain.Plan.{Plan}
 use Rattle.corr_core.specs.Word.{code_of, attempt_of}
 use Rattle.sock_message.specs.Asked.{name_of}
-use Rattle.sock_programs.specs.declared.task.Op.TheVariants as ops
-use Rattle.sock_programs.specs.declared.task.Task.{Task}
-use Rattle.sock_programs.specs.Cores.{Core}
-use Rattle.sock_programs.specs.Tasks.{plan_of, id_plan_of}
-use Rattle.sock_programs.specs.Scripts.{all_tasks, IsRunWithCalls}
-use Rattle.sock_programs.specs.Told.{IsTask, Made}
-use Rattle.sock_programs.specs.ToldCalls.{Accepted, Order, Fixed, StandsAt, IsSent, OfSend, OfCall, StandsOn, IsDropped, IsFailing, MayBeOn, IsFailedWith, WhyLost, WasFailing, WhyAgain, AfterDrop, FailedBy, BySocket, ByFail}
-use Rattle.sock_causes.specs.Causes.{Asks}
-use Rattle.sock_causes.proofs.Members.{all_in, contains_in, get_all, get_within}
-use Rattle.sock_causes.proofs.Tasks.{one_link, one_task}
+use Rattle.seat_programs.specs.declared.task.Op.TheVariants as ops
+use Rattle.seat_programs.specs.declared.task.Task.{Task}
+use Rattle.seat_programs.specs.Cores.{Core}
+use Rattle.seat_programs.specs.Tasks.{plan_of, id_plan_of}
+use Rattle.seat_programs.specs.Scripts.{all_tasks, IsRunWithCalls}
+use Rattle.seat_programs.specs.Told.{IsTask, Made}
+use Rattle.seat_programs.specs.ToldCalls.{Accepted, Order, Fixed, StandsAt, IsSent, OfSend, OfCall, StandsOn, IsDropped, IsFailing, MayBeOn, IsFailedWith, WhyLost, WasFailing, WhyAgain, AfterDrop, FailedBy, BySocket, ByFail}
+use Rattle.outcome_causes.specs.Causes.{Asks}
+use Rattle.outcome_causes.proofs.Members.{all_in, contains_in, get_all, get_within}
+use Rattle.outcome_causes.proofs.Tasks.{one_link, one_task}
 use Rattle.call_causes.specs.joint_runs.proofs.Runs.{AreMade}
 use Rattle.call_causes.specs.owed_calls.specs.Lives.{ClosesInRun}
 use Rattle.call_causes.specs.Posts.{Post}

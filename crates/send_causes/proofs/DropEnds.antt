@@ -9,16 +9,16 @@ use Rattle.sock_words.specs.Words.{socket_id_version, socket_id_slot}
 use Rattle.sock_words.specs.declared.plain.Plan.{Plan}
 use Rattle.sock_model.specs.declared.home.Home.{Home}
 use Rattle.sock_model.specs.declared.view.View.{View}
-use Rattle.sock_model.specs.Layout.{open_word}
+use Rattle.sock_model.specs.Layout.{open_index}
 use Rattle.sock_model.specs.References.{slot_facts}
 use Rattle.sock_model.specs.Slots.{live}
-use Rattle.sock_programs.specs.Asides.{Taking}
-use Rattle.sock_programs.specs.Beside.{calls_after}
-use Rattle.sock_programs.specs.Calls.{Call, StoreCode, LoadCode}
-use Rattle.sock_programs.specs.Cores.{Calls, Core, SeatState, word_of, word_after, found_at, words_after, homes_after, hand_after, lies_at, first_of, others_of, link_place, resolved, waiting_at, next_step, with_seat}
-use Rattle.sock_programs.specs.Programs.{Program, Do, Rest, TakeMessage, TakeHome, PutHome, PutBytes, AskReady, Aside, NO_SOCKET}
-use Rattle.sock_programs.specs.Readers.{reader}
-use Rattle.sock_programs.specs.Ticks.{Moment, IsAnswered, AreAnswered, fed, with_places, onto_first, ticked, run}
+use Rattle.seat_programs.specs.Asides.{Taking}
+use Rattle.seat_programs.specs.Beside.{calls_after}
+use Rattle.seat_programs.specs.Calls.{Call, StoreCode, LoadCode}
+use Rattle.seat_programs.specs.Cores.{Calls, Core, SeatState, word_of, word_after, found_at, words_after, homes_after, hand_after, lies_at, first_of, others_of, link_place, resolved, waiting_at, next_step, with_seat}
+use Rattle.seat_programs.specs.Programs.{Program, Do, Rest, TakeMessage, TakeHome, PutHome, PutBytes, AskReady, Aside, NO_SOCKET}
+use Rattle.seat_programs.specs.Readers.{reader}
+use Rattle.seat_programs.specs.Ticks.{Moment, IsAnswered, AreAnswered, fed, with_places, onto_first, ticked, run}
 use Rattle.sock_runs.specs.GoesOn.{GoesOn}
 use Rattle.sock_runs.specs.May.{May}
 use Rattle.sock_runs.specs.Sound.{state, Sound, IsFitting, AreFitting, first_step, views_after, views_along}
@@ -29,7 +29,7 @@ use Rattle.sock_runs.proofs.Passes.{goes_round}
 use Rattle.sock_runs.proofs.Recorded.{Recorded, recorded_ticks}
 use Rattle.sock_runs.proofs.Rounds.{begins_round}
 use Rattle.sock_runs.proofs.Ticks.{sound_ticks}
-use Rattle.sock_causes.proofs.Cases.{tick_cases}
+use Rattle.outcome_causes.proofs.Cases.{tick_cases}
 use Rattle.send_causes.specs.Refused.{DidStep, DidAt, DidIn}
 use Rattle.send_causes.proofs.Closers.{Ends, Calm, Codes, codes_more, calm_first, stores_code}
 use Rattle.send_causes.proofs.DropCodes.{Failing, NoFail, Fails, Stores, codes_first, codes_next}
@@ -69,7 +69,7 @@ module _ (P : ℕ → Type 0) (gone : P 1009) where
     same_has f g (inl e) has = subst Has (sym e) has
     same_has f g (inr e) has = subst Has (sym e) tt
 
-    next_has : (f : Failing) → Has f → (ws : List Rattle.sock_programs.specs.Heads.Retry) (x : Program) → Stores (λ o code. P code) P f x → Some_ (next_step (resolved ws x))
+    next_has : (f : Failing) → Has f → (ws : List Rattle.seat_programs.specs.Heads.Retry) (x : Program) → Stores (λ o code. P code) P f x → Some_ (next_step (resolved ws x))
     next_has f has ws x stores = let r = codes_next (λ o code. P code) P gone f ws x stores in (r.0, same_has f r.0 (⊎_elim (λ e. inl e.0) (λ e. inr e) r.1) has, r.2)
 
     reseated : (a : Calls) (x : Program) (hand : List Home) (ws : List ℕ) (hs : List (Option Home)) → (j ≡ m.seat → Some_ x) → StoresThose j (with_seat m.seat x hand ws hs (record c { calls = a }))
@@ -119,8 +119,8 @@ module _ (p : Plan) (calls os : List ℕ) (in_os : (k o : ℕ) → get_elem? os 
     pub operation : ℕ
     pub id : ℕ
     pub at : get_elem? os link ≡ some operation
-    pub word : get_or c.words (open_word p operation) 0 ≡ id + 1
-    pub socket : get_or c.words (open_word p operation) 0 ≢ NO_SOCKET
+    pub word : get_or c.words (open_index p operation) 0 ≡ id + 1
+    pub socket : get_or c.words (open_index p operation) 0 ≢ NO_SOCKET
     pub slot : j ≡ socket_id_slot id
     pub version : h ≡ socket_id_version id
     pub codes : Codes (taken link) code
@@ -162,7 +162,7 @@ module _ (p : Plan) (calls os : List ℕ) (in_os : (k o : ℕ) → get_elem? os 
           by_reader : 32 ≤ m.seat → IsReaders c taken j g code
           by_reader high = let r = reader_of p calls os in_os Odd Lasts ends c vs taken law.keeps m.seat seat at high in by r (state_at p calls os in_os Odd Lasts ends c vs taken law.keeps m.seat seat v at here r)
             where
-              by : (r : (n : ℕ) × (o : ℕ) × (m.seat ≡ 32 + n) × (get_elem? os n ≡ some o)) → State p calls r.0 r.1 (in_os r.0 r.1 r.3) Odd Lasts (ends r.0) (get_or c.words (open_word p r.1) 0) (taken r.0) seat.program v → IsReaders c taken j g code
+              by : (r : (n : ℕ) × (o : ℕ) × (m.seat ≡ 32 + n) × (get_elem? os n ≡ some o)) → State p calls r.0 r.1 (in_os r.0 r.1 r.3) Odd Lasts (ends r.0) (get_or c.words (open_index p r.1) 0) (taken r.0) seat.program v → IsReaders c taken j g code
               by r (none_, inl s) = absurd (let z : first_step (reader calls r.0 r.1) ≡ Do (StoreCode j g code) next = sym (ap first_step s.0) ∙ is in cc)
               by r (none_, inr (inl s)) = absurd (let z : Rest ≡ Do (StoreCode j g code) next = sym (ap first_step s.0) ∙ is in cc)
               by r (none_, inr (inr s)) = let x = stores_code r.0 s.id Odd Lasts s.held (taken r.0) j g code next (subst (Calm r.0 s.id Odd Lasts s.held (taken r.0)) is (calm_first r.0 s.id Odd Lasts (ends r.0 s.id) s.held (taken r.0) seat.program s.calm)) in

@@ -11,23 +11,23 @@ use Rattle.report_fits.proofs.Reading.{InRange}
 use Rattle.report_fits.proofs.Targets.{AreThere}
 use Rattle.sock_words.specs.Words.{socket_id_slot, socket_id_version}
 use Rattle.sock_words.specs.declared.plain.Plan.{Plan}
-use Rattle.sock_model.specs.Layout.{open_word}
+use Rattle.sock_model.specs.Layout.{open_index}
 use Rattle.corr_core.specs.Word.{code_of, attempt_of}
-use Rattle.sock_programs.specs.declared.task.Op.TheVariants as ops
-use Rattle.sock_programs.specs.declared.task.Task.{Task}
-use Rattle.sock_programs.specs.Cores.{Core}
-use Rattle.sock_programs.specs.Programs.{NO_SOCKET}
-use Rattle.sock_programs.specs.Tasks.{opens, plan_of}
-use Rattle.sock_programs.specs.Ticks.{run, quiet}
-use Rattle.sock_programs.specs.Scripts.{all_tasks, opened, set_up, played, IsRunWithCalls}
-use Rattle.sock_programs.specs.ToldCalls.{Order, Fixed, IsSent, GaveFault}
+use Rattle.seat_programs.specs.declared.task.Op.TheVariants as ops
+use Rattle.seat_programs.specs.declared.task.Task.{Task}
+use Rattle.seat_programs.specs.Cores.{Core}
+use Rattle.seat_programs.specs.Programs.{NO_SOCKET}
+use Rattle.seat_programs.specs.Tasks.{opens, plan_of}
+use Rattle.seat_programs.specs.Ticks.{run, quiet}
+use Rattle.seat_programs.specs.Scripts.{all_tasks, opened, set_up, played, IsRunWithCalls}
+use Rattle.seat_programs.specs.ToldCalls.{Order, Fixed, IsSent, GaveFault}
 use Rattle.sock_runs.specs.Sound.{views_along}
 use Rattle.sock_runs.proofs.Along.{place_inside}
 use Rattle.sock_runs.proofs.LinksOpening.{OpensLink}
 use Rattle.sock_runs.proofs.Whole.{closing_of, views_played, views_closed, views_ended, set_up_sound, closing_sound, closed_sound, end_answered}
-use Rattle.sock_causes.specs.Causes.{WasGiven}
-use Rattle.sock_causes.specs.Stories.{In}
-use Rattle.sock_causes.proofs.Members.{in_contains}
+use Rattle.outcome_causes.specs.Causes.{WasGiven}
+use Rattle.outcome_causes.specs.Stories.{In}
+use Rattle.outcome_causes.proofs.Members.{in_contains}
 use Rattle.call_causes.specs.joint_runs.proofs.Runs.{AreMade, first_views}
 use Rattle.call_causes.specs.owed_calls.specs.Lives.{ClosesInRun}
 use Rattle.call_causes.specs.owed_calls.proofs.WordsGiven.{Named, IsOfLink, run_named, named_ending, named_on}
@@ -64,7 +64,7 @@ module _ (script : List Item) (made : AreMade script) (turns : List Turn) (core 
 
   module _ (closes : ClosesInRun script turns core is) (ids : ℕ → ℕ) (labelled : AreLabelledIn ids script turns core is) where
     -- the life that an `open` made has its link
-    pub own_link : (n o id j h k : ℕ) → get_elem? (opens script) n ≡ some o → get_or core.words (open_word (plan_of script) o) 0 ≡ id + 1 → get_or core.words (open_word (plan_of script) o) 0 ≢ NO_SOCKET → j ≡ socket_id_slot id → h ≡ socket_id_version id
+    pub own_link : (n o id j h k : ℕ) → get_elem? (opens script) n ≡ some o → get_or core.words (open_index (plan_of script) o) 0 ≡ id + 1 → get_or core.words (open_index (plan_of script) o) 0 ≢ NO_SOCKET → j ≡ socket_id_slot id → h ≡ socket_id_version id
         → WasGiven (ends script made turns core is closes ids labelled).events j h k → n ≡ k
     own_link n o id j h k at word socket slot version given_ = by (let w = named_end in w.words o (let i = known script made turns core is in i.in_script n o at) (λ z. omega (arith, z, word)) socket)
       where

@@ -13,25 +13,25 @@ use Rattle.report_fits.proofs.Targets.{AreThere}
 use Rattle.sock_words.specs.Words.{socket_id, socket_id_slot, socket_id_version}
 use Rattle.sock_words.specs.declared.plain.Plan.{Plan}
 use Rattle.sock_model.specs.declared.view.View.{View}
-use Rattle.sock_model.specs.Layout.{open_word}
+use Rattle.sock_model.specs.Layout.{open_index}
 use Rattle.corr_core.specs.Word.{error_of, code_of, attempt_of}
 use Rattle.sock_message.specs.Asked.{Asked}
-use Rattle.sock_programs.specs.declared.task.Op.TheVariants as ops
-use Rattle.sock_programs.specs.Told.{IsTask}
-use Rattle.sock_programs.specs.declared.task.Task.{Task}
-use Rattle.sock_programs.specs.Cores.{Core, SeatState}
-use Rattle.sock_programs.specs.Programs.{Rest, NO_SOCKET}
-use Rattle.sock_programs.specs.Readers.{reader}
-use Rattle.sock_programs.specs.Tasks.{opens, calls, plan_of}
-use Rattle.sock_programs.specs.Scripts.{all_tasks, IsRunWithCalls}
-use Rattle.sock_programs.specs.ToldCalls.{Order, Fixed, IsSent, Gave, IsResponse, IsPlaced, StandsOn}
+use Rattle.seat_programs.specs.declared.task.Op.TheVariants as ops
+use Rattle.seat_programs.specs.Told.{IsTask}
+use Rattle.seat_programs.specs.declared.task.Task.{Task}
+use Rattle.seat_programs.specs.Cores.{Core, SeatState}
+use Rattle.seat_programs.specs.Programs.{Rest, NO_SOCKET}
+use Rattle.seat_programs.specs.Readers.{reader}
+use Rattle.seat_programs.specs.Tasks.{opens, calls, plan_of}
+use Rattle.seat_programs.specs.Scripts.{all_tasks, IsRunWithCalls}
+use Rattle.seat_programs.specs.ToldCalls.{Order, Fixed, IsSent, Gave, IsResponse, IsPlaced, StandsOn}
 use Rattle.sock_runs.specs.Sound.{first_step}
 use Rattle.sock_runs.proofs.Along.{place_inside}
 use Rattle.sock_runs.proofs.Whole.{IsListed, views_closed, views_ended, closed_sound, recorded_closed}
-use Rattle.sock_causes.specs.Causes.{WasGiven}
-use Rattle.sock_causes.proofs.Final.{at_there}
-use Rattle.sock_causes.proofs.Members.{contains_in}
-use Rattle.sock_causes.proofs.Tasks.{one_task}
+use Rattle.outcome_causes.specs.Causes.{WasGiven}
+use Rattle.outcome_causes.proofs.Final.{at_there}
+use Rattle.outcome_causes.proofs.Members.{contains_in}
+use Rattle.outcome_causes.proofs.Tasks.{one_task}
 use Rattle.call_causes.specs.joint_runs.proofs.Runs.{AreMade, first_views}
 use Rattle.call_causes.specs.owed_calls.specs.Lives.{ClosesInRun}
 use Rattle.call_causes.specs.Lists.{given, early_of_run, closed_of_run, silent_of_run}
@@ -76,7 +76,7 @@ module _ (script : List Item) (made : AreMade script) (turns : List Turn) (core 
           few : j < 4294967296
           few = let s = o.inside in let m = made.limits in let l = m.slots in omega (arith, s, l)
 
-          socket : get_or core.words (open_word (plan_of script) o.operation) 0 ≢ NO_SOCKET
+          socket : get_or core.words (open_index (plan_of script) o.operation) 0 ≢ NO_SOCKET
           socket e = let w : h * 4294967296 + j + 1 ≡ 18446744073709551615 = sym o.word ∙ e in let low = o.low in omega (arith, w, low, few)
 
           same : o.link ≡ k
@@ -89,7 +89,7 @@ module _ (script : List Item) (made : AreMade script) (turns : List Turn) (core 
               rests : seat.program ≡ Rest
               rests = settled script made turns core is closes ids labelled (32 + o.link) seat at
 
-              of_state : {v : View} → State (plan_of script) (calls script) o.link o.operation (let k = known script made turns core is in k.in_script o.link o.operation o.at) Any (Unit {0}) (ends_anyhow o.link) (get_or core.words (open_word (plan_of script) o.operation) 0) (h₄ script made turns core is o.link) seat.program v
+              of_state : {v : View} → State (plan_of script) (calls script) o.link o.operation (let k = known script made turns core is in k.in_script o.link o.operation o.at) Any (Unit {0}) (ends_anyhow o.link) (get_or core.words (open_index (plan_of script) o.operation) 0) (h₄ script made turns core is o.link) seat.program v
                   → IsOver (h₄ script made turns core is o.link)
               of_state (none_, inl s) = absurd (let z : first_step (reader (calls script) o.link o.operation) ≡ Rest = sym (ap first_step s.0) ∙ ap first_step rests in cc)
               of_state (none_, inr (inl s)) = absurd (socket s.1)

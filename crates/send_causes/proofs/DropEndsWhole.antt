@@ -11,25 +11,25 @@ use Rattle.brpc_model.specs.Items.{Item}
 use Rattle.brpc_model.specs.Operations.{Turn}
 use Rattle.sock_words.specs.declared.plain.Plan.{Plan}
 use Rattle.sock_model.specs.declared.view.View.{View}
-use Rattle.sock_model.specs.Layout.{open_word}
-use Rattle.sock_programs.specs.declared.task.Op.{Op}
-use Rattle.sock_programs.specs.declared.task.Op.TheVariants as ops
-use Rattle.sock_programs.specs.declared.task.Task.{Task}
-use Rattle.sock_programs.specs.declared.task.Sizes.{Sizes}
-use Rattle.sock_programs.specs.Asides.{Taking}
-use Rattle.sock_programs.specs.Calls.{LoadCode}
-use Rattle.sock_programs.specs.Clients.{client_from, ending_of}
-use Rattle.sock_programs.specs.Cores.{Core, SeatState, resolved, waiting_at, next_step}
-use Rattle.sock_programs.specs.Heads.{Retry}
-use Rattle.sock_programs.specs.Programs.{Program}
-use Rattle.sock_programs.specs.Tasks.{opens, calls, plan_of, id_plan_of}
-use Rattle.sock_programs.specs.Ticks.{Moment, run}
-use Rattle.sock_programs.specs.Scripts.{sizes_of, programs, readers_from, all_programs, all_tasks, opened, set_up, played, is_ending, IsRunWithCalls}
+use Rattle.sock_model.specs.Layout.{open_index}
+use Rattle.seat_programs.specs.declared.task.Op.{Op}
+use Rattle.seat_programs.specs.declared.task.Op.TheVariants as ops
+use Rattle.seat_programs.specs.declared.task.Task.{Task}
+use Rattle.seat_programs.specs.declared.task.Sizes.{Sizes}
+use Rattle.seat_programs.specs.Asides.{Taking}
+use Rattle.seat_programs.specs.Calls.{LoadCode}
+use Rattle.seat_programs.specs.Clients.{client_from, ending_of}
+use Rattle.seat_programs.specs.Cores.{Core, SeatState, resolved, waiting_at, next_step}
+use Rattle.seat_programs.specs.Heads.{Retry}
+use Rattle.seat_programs.specs.Programs.{Program}
+use Rattle.seat_programs.specs.Tasks.{opens, calls, plan_of, id_plan_of}
+use Rattle.seat_programs.specs.Ticks.{Moment, run}
+use Rattle.seat_programs.specs.Scripts.{sizes_of, programs, readers_from, all_programs, all_tasks, opened, set_up, played, is_ending, IsRunWithCalls}
 use Rattle.sock_runs.specs.Sound.{views_along}
 use Rattle.sock_runs.proofs.Opening.{mapped}
 use Rattle.sock_runs.proofs.Whole.{IsListed, closing_of, rested_of, views_played, views_closed, set_up_answered, end_answered, set_up_sound, closing_sound, closed_sound, recorded_opened, recorded_set_up, recorded_closing, recorded_closed}
-use Rattle.sock_causes.specs.Stories.{In}
-use Rattle.call_causes.specs.client_laws.proofs.Beginning as clients_begin
+use Rattle.outcome_causes.specs.Stories.{In}
+use Rattle.call_causes.specs.programs_allowed.proofs.Beginning as clients_begin
 use Rattle.call_causes.specs.joint_runs.proofs.Runs.{AreMade, first_views}
 use Rattle.send_causes.specs.Refused.{DidStep, DidEarly, DidInRun}
 use Rattle.send_causes.proofs.DropCodes.{NoFail, Stores, OwnsFail, client_codes, ending_codes, codes_next}
@@ -106,8 +106,8 @@ module _ (script : List Item) (made : AreMade script) (turns : List Turn) (core 
     operation = x.operation;
     id = x.id;
     at = x.at;
-    word = ap (λ ws. get_or ws (open_word (plan_of script) x.operation) 0) (sym e) ∙ x.word;
-    socket = λ z. x.socket (ap (λ ws. get_or ws (open_word (plan_of script) x.operation) 0) e ∙ z);
+    word = ap (λ ws. get_or ws (open_index (plan_of script) x.operation) 0) (sym e) ∙ x.word;
+    socket = λ z. x.socket (ap (λ ws. get_or ws (open_index (plan_of script) x.operation) 0) e ∙ z);
     slot = x.slot;
     version = x.version;
     codes = x.codes;

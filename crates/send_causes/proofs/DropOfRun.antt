@@ -18,49 +18,49 @@ use Rattle.sock_words.specs.declared.plain.Plan.{Plan}
 use Rattle.sock_model.specs.declared.view.View.{View}
 use Rattle.sock_model.specs.Deliveries.{place_value}
 use Rattle.sock_model.specs.Entries.{on}
-use Rattle.sock_model.specs.Layout.{open_word, place_word, request_word}
+use Rattle.sock_model.specs.Layout.{open_index, place_index, request_index}
 use Rattle.sock_model.specs.Rule.{lists_of}
 use Rattle.sock_steps.proofs.Positions.{few_log, on_shorter}
-use Rattle.slot_laws.proofs.Numbers.{life_le, life_is}
-use Rattle.slot_laws.proofs.Sums.{total_bound}
-use Rattle.chain_laws.proofs.Frames.{in_log}
+use Rattle.slot_steps.proofs.Numbers.{life_le, life_is}
+use Rattle.slot_steps.proofs.Sums.{total_bound}
+use Rattle.chain_steps.proofs.Frames.{in_log}
 use Rattle.corr_core.specs.Word.{error_of, code_of, attempt_of}
 use Rattle.sock_message.specs.Asked.{Asked}
-use Rattle.sock_programs.specs.declared.task.Op.TheVariants as ops
-use Rattle.sock_programs.specs.declared.task.Task.{Task}
-use Rattle.sock_programs.specs.Calls.{GiveBirth, SetOdd, ClaimRequest, LoadCode, DropPlace}
-use Rattle.sock_programs.specs.Cores.{Core}
-use Rattle.sock_programs.specs.Tasks.{opens, plan_of, id_plan_of}
-use Rattle.sock_programs.specs.Scripts.{all_tasks, IsRunWithCalls}
-use Rattle.sock_programs.specs.Told.{AreTasks, IsTask, Became, Made}
-use Rattle.sock_programs.specs.ToldCalls.{Accepted, Order, IsAt}
-use Rattle.sock_programs.specs.Writings.{Puts}
+use Rattle.seat_programs.specs.declared.task.Op.TheVariants as ops
+use Rattle.seat_programs.specs.declared.task.Task.{Task}
+use Rattle.seat_programs.specs.Calls.{CreateLife, SetOdd, ClaimRequest, LoadCode, DropPlace}
+use Rattle.seat_programs.specs.Cores.{Core}
+use Rattle.seat_programs.specs.Tasks.{opens, plan_of, id_plan_of}
+use Rattle.seat_programs.specs.Scripts.{all_tasks, IsRunWithCalls}
+use Rattle.seat_programs.specs.Told.{AreTasks, IsTask, Became, Made}
+use Rattle.seat_programs.specs.ToldCalls.{Accepted, Order, IsAt}
+use Rattle.seat_programs.specs.Writings.{Puts}
 use Rattle.sock_runs.specs.Sound.{state, Sound, AllRest, MOST_PLACES}
 use Rattle.sock_runs.specs.GoesOn.{GoesOn, HasNothing}
 use Rattle.sock_model.specs.References.{slot_facts}
 use Rattle.sock_model.specs.Slots.{SlotLaw, live, count}
 use Rattle.sock_model.specs.Weights.{is_born}
-use Rattle.slot_laws.proofs.Clauses.{taken_for}
+use Rattle.slot_steps.proofs.Clauses.{taken_for}
 use Rattle.sock_runs.proofs.LinksStay.{IsGiven}
 use Rattle.sock_runs.proofs.Bounds.{lives_le}
 use Rattle.sock_runs.proofs.Recorded.{Recorded, Stands, run_recorded}
 use Rattle.sock_runs.proofs.Records.{next_stores}
 use Rattle.sock_runs.proofs.Whole.{IsListed, views_closed, views_ended, closed_sound, recorded_closed, ended_sound, end_rests}
-use Rattle.sock_causes.specs.Causes.{WasGiven, Cause}
-use Rattle.sock_causes.specs.Explains.{FailsLife, FailsLink, is_plain, step}
-use Rattle.sock_causes.specs.Kept.{IsSpoken, StaysUsed, Story}
-use Rattle.sock_causes.specs.PlainTasks.{told_tasks_of}
-use Rattle.sock_causes.specs.Stories.{Event, In, trace_of}
-use Rattle.sock_causes.proofs.Delivered.{accepted_at, AreQuiet, requests_used}
-use Rattle.sock_causes.proofs.Openings.{are_seats}
-use Rattle.sock_causes.proofs.Events.{event, BeforeIn, cause_of, in_marked, birth_adds, marked_given}
-use Rattle.sock_causes.proofs.Final.{at_within, at_there, idle, final}
-use Rattle.sock_causes.proofs.Lifted.{up, task_up, made_up, made_down}
-use Rattle.sock_causes.proofs.Lives.{World, birth_means, task_of, given_made, one_life, odd_means, odd_life, fail_says}
-use Rattle.sock_causes.proofs.Members.{all_in, contains_in, in_contains}
-use Rattle.sock_causes.proofs.Tasks.{one_task}
-use Rattle.call_causes.specs.client_laws.specs.Openings.{all_seats}
-use Rattle.call_causes.specs.client_laws.proofs.Fresh.{opening_fresh}
+use Rattle.outcome_causes.specs.Causes.{WasGiven, Cause}
+use Rattle.outcome_causes.specs.Explains.{FailsLife, FailsLink, is_plain, step}
+use Rattle.outcome_causes.specs.Kept.{IsSpoken, StaysUsed, Story}
+use Rattle.outcome_causes.specs.PlainTasks.{told_tasks_of}
+use Rattle.outcome_causes.specs.Stories.{Event, In, trace_of}
+use Rattle.outcome_causes.proofs.Delivered.{accepted_at, AreQuiet, requests_used}
+use Rattle.outcome_causes.proofs.Openings.{are_seats}
+use Rattle.outcome_causes.proofs.Events.{event, BeforeIn, cause_of, in_marked, birth_adds, marked_given}
+use Rattle.outcome_causes.proofs.Final.{at_within, at_there, idle, final}
+use Rattle.outcome_causes.proofs.Lifted.{up, task_up, made_up, made_down}
+use Rattle.outcome_causes.proofs.Lives.{World, birth_means, task_of, given_made, one_life, odd_means, odd_life, fail_says}
+use Rattle.outcome_causes.proofs.Members.{all_in, contains_in, in_contains}
+use Rattle.outcome_causes.proofs.Tasks.{one_task}
+use Rattle.call_causes.specs.programs_allowed.specs.Openings.{all_seats}
+use Rattle.call_causes.specs.programs_allowed.proofs.Fresh.{opening_fresh}
 use Rattle.call_causes.specs.joint_runs.proofs.Runs.{AreMade, first_views, joint_runs, joint_bounded}
 use Rattle.call_causes.specs.owed_calls.specs.Lives.{ClosesInRun}
 use Rattle.call_causes.specs.Posts.{Post}
@@ -150,15 +150,15 @@ module _ (script : List Item) (made : AreMade script) (turns : List Turn) (core 
   dropped_by : (o n l k m : ℕ) → IsDropAt p (id_plan_of script) (IsCallOf script) ids told core l k m
       → IsSpoken told o → n ≤ 6 → l ≡ 8 * o + n → IsDroppedOn o n k
   dropped_by o n l k m x spoken few label_is = let word = x.word o n spoken (omega (arith, few)) label_is in let are = orders_are script made turns core is closes in ⊎_elim
-      (λ z. let none_ : get_or core.words (place_word p l) 0 ≡ 0 = z in absurd (omega (arith, word, none_)))
+      (λ z. let none_ : get_or core.words (place_index p l) 0 ≡ 0 = z in absurd (omega (arith, word, none_)))
       (λ y. let j : ℕ = y.0 in let i : ℕ = y.1 in let a : Accepted = y.2 in let e = accepted_at (on j end_sound.lawful.log) i a y.4 in let low = few_accepted j i e.0 e.1 in let small = few_attempts j i e.0 e.1 in
       let attempt : a.attempt ≤ 6 = subst (λ (z : Accepted). z.attempt ≤ 6) e.2 small in let limits = end_sound.limits in let links = limits.links in
-      let shown : get_or core.words (place_word p l) 0 ≡ place_value (nat_le (orders j).placed i) j i = ap (λ z. get_or core.words (place_word p z) 0) y.5 ∙ are.written j i a y.3 y.4 in
+      let shown : get_or core.words (place_index p l) 0 ≡ place_value (nat_le (orders j).placed i) j i = ap (λ z. get_or core.words (place_index p z) 0) y.5 ∙ are.written j i a y.3 y.4 in
       by j i a y.3 y.4 (omega (arith, y.5, label_is, attempt, few)) (omega (arith, y.5, label_is, attempt, few)) low (nat_le (orders j).placed i) refl shown word links x.link x.small)
       (are.alone l x.low)
     where
       by : (j i : ℕ) (a : Accepted) → j < p.links → slice_get (orders j).accepted i ≡ Some a → a.operation ≡ o → a.attempt ≡ n → i < 2147483648 → (b : Bool) → nat_le (orders j).placed i ≡ b
-          → get_or core.words (place_word p l) 0 ≡ place_value b j i → get_or core.words (place_word p l) 0 ≡ place_value true k m → p.links ≤ 256 → k < p.links → m < MOST_PLACES → IsDroppedOn o n k
+          → get_or core.words (place_index p l) 0 ≡ place_value b j i → get_or core.words (place_index p l) 0 ≡ place_value true k m → p.links ≤ 256 → k < p.links → m < MOST_PLACES → IsDroppedOn o n k
       by j i a jl at op att low true late shown word links kl small = let same : j ≡ k = omega (arith, shown, word, low, small) in record {
         place = i;
         at = (kl, a, subst (λ z. slice_get (orders z).accepted i ≡ Some a) same at, op, att);
@@ -182,7 +182,7 @@ module _ (script : List Item) (made : AreMade script) (turns : List Turn) (core 
   slot_law j l = end_sound.lawful.references.slots j l
 
   -- a request that was found claimed was used
-  word_used : (q i u id found : ℕ) → In (event i u (ClaimRequest id q) found) ends.events → found % 2 ≡ 1 → slice_index core.words (request_word p q) ≢ 0
+  word_used : (q i u id found : ℕ) → In (event i u (ClaimRequest id q) found) ends.events → found % 2 ≡ 1 → slice_index core.words (request_index p q) ≢ 0
   word_used q i u id found m odd = let s = ends.story in let x : StaysUsed p core.words (step (ClaimRequest id q) found) = s.used (event i u (ClaimRequest id q) found) m in let y = (x odd).1 in λ e. omega (arith, y, e)
 
   world : World p told core.outcomes ends.lost orders ends.events
@@ -265,7 +265,7 @@ module _ (script : List Item) (made : AreMade script) (turns : List Turn) (core 
     pub link : ℕ
     pub operation : ℕ
     pub at : get_elem? (opens script) link ≡ some operation
-    pub word : get_or core.words (open_word p operation) 0 ≡ socket_id h j + 1
+    pub word : get_or core.words (open_index p operation) 0 ≡ socket_id h j + 1
     pub inside : j < p.slots
     pub low : h < 4294967295
 
@@ -273,14 +273,14 @@ module _ (script : List Item) (made : AreMade script) (turns : List Turn) (core 
   pub given_opened : (j h k : ℕ) → WasGiven ends.events j h k → IsOpened j h
   given_opened j h k given = let r = recorded_end in by (r.lives j h means.0 born)
     where
-      made_by : (c o found : ℕ) × In (event c o (GiveBirth j k) found) ends.events × (vref_version found ≡ h)
+      made_by : (c o found : ℕ) × In (event c o (CreateLife j k) found) ends.events × (vref_version found ≡ h)
       made_by = marked_given ends.events j h k given
 
       means : (j < p.slots) × (vref_version made_by.2 % 2 ≡ 0) × (p.first ≤ vref_version made_by.2)
       means = birth_means p told core.outcomes ends.lost orders ends.events world made_by.0 made_by.1 j k made_by.2 made_by.3
 
       born : 0 < count (is_born h) (slot_facts (state core views) j)
-      born = let s = ends.story in let a = s.births j means.0 h in let b = in_marked (is_born h) j ends.events (event made_by.0 made_by.1 (GiveBirth j k) made_by.2) made_by.3 (birth_adds made_by.0 made_by.1 j k made_by.2 h made_by.4) in omega (arith, a, b)
+      born = let s = ends.story in let a = s.births j means.0 h in let b = in_marked (is_born h) j ends.events (event made_by.0 made_by.1 (CreateLife j k) made_by.2) made_by.3 (birth_adds made_by.0 made_by.1 j k made_by.2 h made_by.4) in omega (arith, a, b)
 
       low : h < 4294967295
       low = let l = slot_law j means.0 in let b = l.born h in let t = l.top in let x = life_is p.first h ((slot_facts (state core views) j).version + live (slot_facts (state core views) j)) (let c = born in omega (arith, b, c)) in

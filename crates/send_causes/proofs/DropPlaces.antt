@@ -17,36 +17,36 @@ use Rattle.sock_model.specs.declared.chain.Stage.TheVariants.{Writes}
 use Rattle.sock_model.specs.declared.view.View.{View}
 use Rattle.sock_model.specs.Deliveries.{ShownAt, no_place, one_place}
 use Rattle.sock_model.specs.Entries.{ticket, on}
-use Rattle.sock_model.specs.Layout.{tag_word, ref_word, link_word, head_word, code_word, name_word, open_word, request_word, next_word, place_word}
+use Rattle.sock_model.specs.Layout.{tag_index, ref_index, link_index, head_index, code_index, name_index, open_index, request_index, next_index, place_index}
 use Rattle.sock_model.specs.Weights.{total}
 use Rattle.sock_steps.proofs.RightSteps.{right_in, right_alone}
-use Rattle.chain_laws.proofs.Frames.{in_log}
-use Rattle.chain_laws.proofs.Letters.{writes_room}
-use Rattle.chain_laws.proofs.Lists.{at_some, distinct_filter}
-use Rattle.slot_laws.proofs.Sums.{term_le}
+use Rattle.chain_steps.proofs.Frames.{in_log}
+use Rattle.chain_steps.proofs.Letters.{writes_room}
+use Rattle.chain_steps.proofs.Lists.{at_some, distinct_filter}
+use Rattle.slot_steps.proofs.Sums.{term_le}
 use Rattle.corr_core.specs.declared.marks.Plan.{Plan as IdPlan}
 use Rattle.sock_message.specs.Asked.{Asked}
-use Rattle.sock_programs.specs.declared.task.Task.{Task}
-use Rattle.sock_programs.specs.Calls.{Call, ClaimSlot, GiveBirth, AddRef, SubRef, SetOdd, Recycle, FreeSlot, StoreLink, LoadLink, ResetHead, WipeCode, StoreCode, StoreName, LoadName, StoreOpen, LoadOpen, TakeLink, FinishLink, PutLink, LookWord, FindLink, LoadCode, ClaimRequest, PutMessage, Unconnect, SwapHead, Connect, EmptyHead, ReadNext, TurnNext, FreeRequest, StorePlace, DropPlace}
-use Rattle.sock_programs.specs.Cores.{Core, SeatState, word_of, word_after, found_at, words_after}
-use Rattle.sock_programs.specs.Sends.{heading_of}
-use Rattle.sock_programs.specs.Ticks.{Moment, IsAnswered, ticked}
+use Rattle.seat_programs.specs.declared.task.Task.{Task}
+use Rattle.seat_programs.specs.Calls.{Call, ClaimSlot, CreateLife, AddRef, SubRef, SetOdd, Recycle, FreeSlot, StoreLink, LoadLink, ResetHead, ClearCode, StoreCode, StoreName, LoadName, StoreOpen, LoadOpen, TakeLink, FinishLink, PutLink, LookWord, FindLink, LoadCode, ClaimRequest, PutMessage, Unconnect, SwapHead, Connect, EmptyHead, ReadNext, ReverseNext, FreeRequest, StorePlace, DropPlace}
+use Rattle.seat_programs.specs.Cores.{Core, SeatState, word_of, word_after, found_at, words_after}
+use Rattle.seat_programs.specs.Sends.{heading_of}
+use Rattle.seat_programs.specs.Ticks.{Moment, IsAnswered, ticked}
 use Rattle.sock_runs.specs.May.{May}
 use Rattle.sock_runs.specs.Sound.{state, Sound, IsFitting}
 use Rattle.sock_runs.proofs.Cases.{tick_keeps_marks}
 use Rattle.sock_runs.proofs.ChainTicks.{turn_inside, free_inside}
 use Rattle.sock_runs.proofs.Passes.{goes_round}
 use Rattle.sock_runs.proofs.Rounds.{begins_round}
-use Rattle.sock_causes.specs.Causes.{Asks}
-use Rattle.sock_causes.specs.Explains.{Done, swapped}
-use Rattle.sock_causes.specs.Kept.{is_of_send, of_sends, undo, IsOfCall as IsOfSpoken, IsOfTask, EndsIn, AreMade, AreMadeNow, IsSpoken, SeatStory, Story}
-use Rattle.sock_causes.specs.Stories.{Event, In, trace_of}
-use Rattle.sock_causes.proofs.Final.{at_there, at_within}
-use Rattle.sock_causes.proofs.Members.{all_in}
-use Rattle.sock_causes.proofs.Messages.{in_of_at, filter_has}
-use Rattle.sock_causes.proofs.Seats.{undo_done, undo_in}
-use Rattle.sock_causes.proofs.Senders.{HasSent, sent_in, each_of, apart_by}
-use Rattle.sock_causes.proofs.Ticks.{get_of}
+use Rattle.outcome_causes.specs.Causes.{Asks}
+use Rattle.outcome_causes.specs.Explains.{Done, swapped}
+use Rattle.outcome_causes.specs.Kept.{is_of_send, of_sends, undo, IsOfCall as IsOfSpoken, IsOfTask, EndsIn, AreMade, AreMadeNow, IsSpoken, SeatStory, Story}
+use Rattle.outcome_causes.specs.Stories.{Event, In, trace_of}
+use Rattle.outcome_causes.proofs.Final.{at_there, at_within}
+use Rattle.outcome_causes.proofs.Members.{all_in}
+use Rattle.outcome_causes.proofs.Messages.{in_of_at, filter_has}
+use Rattle.outcome_causes.proofs.Seats.{undo_done, undo_in}
+use Rattle.outcome_causes.proofs.Senders.{HasSent, sent_in, each_of, apart_by}
+use Rattle.outcome_causes.proofs.Ticks.{get_of}
 use Rattle.label_runs.specs.Labels.{Trial}
 use Rattle.send_causes.specs.Counts.{pair_of, of_heading, of_entry, of_view, IsOfCall, EntryFits, LabelLaw}
 
@@ -184,7 +184,7 @@ module _ (p : Plan) (q : IdPlan) (is_call : Asked → Type 0) (ids : ℕ → ℕ
 
     -- where its word is written, no other seat is to write it
     module _ (i : ℕ) (v : View) (at : get_elem? vs i ≡ some v) (r : Right) (has : get_elem? v.rights 0 ≡ some r) (now : ℕ) (stage : r.stage ≡ Writes now) (taken : r.taken ≡ true) (place : r.heading.place ≡ l) (low : l < 8 * p.operations) where
-      unwritten : get_or c.words (place_word p l) 0 ≡ 0
+      unwritten : get_or c.words (place_index p l) 0 ≡ 0
       unwritten = by (sound.lawful.delivered.shown l low)
         where
           kl : r.link < p.links
@@ -196,7 +196,7 @@ module _ (p : Plan) (q : IdPlan) (is_call : Asked → Type 0) (ids : ℕ → ℕ
           next_place : next.0.heading.place ≡ l
           next_place = ap (λ (x : Heading). x.place) (sym (sound.lawful.messages.in_hand r.link r next.0 kl (right_alone sound.lawful i 0 v r at has) taken next.1).0) ∙ place
 
-          by : ShownAt p.links (λ x. get_or c.words (place_word p x) 0) sound.lawful.log sound.lawful.places sound.lawful.kept l → get_or c.words (place_word p l) 0 ≡ 0
+          by : ShownAt p.links (λ x. get_or c.words (place_index p x) 0) sound.lawful.log sound.lawful.places sound.lawful.kept l → get_or c.words (place_index p l) 0 ≡ 0
           by (no_place none_ others) = none_
           by (one_place k j e kl' placed there is w) = absurd (
               let a = in_log sound.lawful.chains k j e there in let b = in_log sound.lawful.chains r.link (sound.lawful.places r.link) next.0 next.1 in
@@ -209,51 +209,51 @@ module _ (p : Plan) (q : IdPlan) (is_call : Asked → Type 0) (ids : ℕ → ℕ
               )
 
     -- a step leaves the word, where it was written
-    module _ (i : ℕ) (v : View) (at : get_elem? vs i ≡ some v) (low : l < 8 * p.operations) (written : get_or c.words (place_word p l) 0 ≢ 0) where
+    module _ (i : ℕ) (v : View) (at : get_elem? vs i ≡ some v) (low : l < 8 * p.operations) (written : get_or c.words (place_index p l) 0 ≢ 0) where
       no_writer : (r : Right) → r.heading.place ≡ l → (now : ℕ) → get_elem? v.rights 0 ≡ some r → r.stage ≡ Writes now → r.taken ≡ true → ⊥
       no_writer r place now has stage taken = written (unwritten i v at r has now stage taken place low)
 
-      other_place : (m w : ℕ) (r : Right) (now : ℕ) → v.rights ≡ r ∷ [] → r.stage ≡ Writes now → r.taken ≡ true → m ≡ r.heading.place → get_or (words_after c.words (some (place_word p m)) w) (place_word p l) 0 ≡ get_or c.words (place_word p l) 0
-      other_place m w r now one stage taken is = get_or-set_other c.words (place_word p m) (place_word p l) w 0
+      other_place : (m w : ℕ) (r : Right) (now : ℕ) → v.rights ≡ r ∷ [] → r.stage ≡ Writes now → r.taken ≡ true → m ≡ r.heading.place → get_or (words_after c.words (some (place_index p m)) w) (place_index p l) 0 ≡ get_or c.words (place_index p l) 0
+      other_place m w r now one stage taken is = get_or-set_other c.words (place_index p m) (place_index p l) w 0
           (λ e. no_writer r (sym is ∙ (let z : m ≡ l = omega (arith, e) in z)) now (ap (λ rs. get_elem? rs 0) one) stage taken)
 
-      step_keeps : (call : Call) → May p v call → get_or (words_after c.words (word_of p call) (word_after call (found_at c.words (word_of p call)))) (place_word p l) 0 ≡ get_or c.words (place_word p l) 0
-      step_keeps (ClaimSlot j) may = let slot = may in get_or-set_other c.words (tag_word j) (place_word p l) 1 0 (λ e. omega arith)
-      step_keeps (GiveBirth j k) may = let slot = may.0 in get_or-set_other c.words (ref_word j) (place_word p l) (word_after (GiveBirth j k) (get_or c.words (ref_word j) 0)) 0 (λ e. omega arith)
-      step_keeps (AddRef id) may = let slot = may.0.0 in get_or-set_other c.words (ref_word (socket_id_slot id)) (place_word p l) (word_after (AddRef id) (get_or c.words (ref_word (socket_id_slot id)) 0)) 0 (λ e. omega arith)
-      step_keeps (SubRef j) may = let slot = may.0 in get_or-set_other c.words (ref_word j) (place_word p l) (word_after (SubRef j) (get_or c.words (ref_word j) 0)) 0 (λ e. omega arith)
-      step_keeps (SetOdd j) may = let slot = may.0 in get_or-set_other c.words (ref_word j) (place_word p l) (word_after (SetOdd j) (get_or c.words (ref_word j) 0)) 0 (λ e. omega arith)
-      step_keeps (Recycle j from) may = let slot = may.0 in get_or-set_other c.words (ref_word j) (place_word p l) (word_after (Recycle j from) (get_or c.words (ref_word j) 0)) 0 (λ e. omega arith)
-      step_keeps (FreeSlot j) may = let slot = may.0 in get_or-set_other c.words (tag_word j) (place_word p l) 0 0 (λ e. omega arith)
-      step_keeps (StoreLink j k) may = let slot = may.0 in get_or-set_other c.words (link_word j) (place_word p l) k 0 (λ e. omega arith)
-      step_keeps (LoadLink j w) may = ap (λ xs. get_or xs (place_word p l) 0) (set-get_or c.words (link_word j) 0)
-      step_keeps (ResetHead j k) may = let slot = may.0 in get_or-set_other c.words (head_word j) (place_word p l) (word_after (ResetHead j k) (get_or c.words (head_word j) 0)) 0 (λ e. omega arith)
-      step_keeps (WipeCode j k) may = let slot = may.0 in get_or-set_other c.words (code_word j) (place_word p l) 0 0 (λ e. omega arith)
-      step_keeps (StoreCode j h d) may = let slot = may.0 in get_or-set_other c.words (code_word j) (place_word p l) d 0 (λ e. omega arith)
-      step_keeps (StoreName n w) may = let slot = may.0 in get_or-set_other c.words (name_word p n) (place_word p l) w 0 (λ e. omega arith)
-      step_keeps (LoadName n) may = ap (λ xs. get_or xs (place_word p l) 0) (set-get_or c.words (name_word p n) 0)
-      step_keeps (StoreOpen n w) may = let slot = may.0 in get_or-set_other c.words (open_word p n) (place_word p l) w 0 (λ e. omega arith)
-      step_keeps (LoadOpen n) may = ap (λ xs. get_or xs (place_word p l) 0) (set-get_or c.words (open_word p n) 0)
+      step_keeps : (call : Call) → May p v call → get_or (words_after c.words (word_of p call) (word_after call (found_at c.words (word_of p call)))) (place_index p l) 0 ≡ get_or c.words (place_index p l) 0
+      step_keeps (ClaimSlot j) may = let slot = may in get_or-set_other c.words (tag_index j) (place_index p l) 1 0 (λ e. omega arith)
+      step_keeps (CreateLife j k) may = let slot = may.0 in get_or-set_other c.words (ref_index j) (place_index p l) (word_after (CreateLife j k) (get_or c.words (ref_index j) 0)) 0 (λ e. omega arith)
+      step_keeps (AddRef id) may = let slot = may.0.0 in get_or-set_other c.words (ref_index (socket_id_slot id)) (place_index p l) (word_after (AddRef id) (get_or c.words (ref_index (socket_id_slot id)) 0)) 0 (λ e. omega arith)
+      step_keeps (SubRef j) may = let slot = may.0 in get_or-set_other c.words (ref_index j) (place_index p l) (word_after (SubRef j) (get_or c.words (ref_index j) 0)) 0 (λ e. omega arith)
+      step_keeps (SetOdd j) may = let slot = may.0 in get_or-set_other c.words (ref_index j) (place_index p l) (word_after (SetOdd j) (get_or c.words (ref_index j) 0)) 0 (λ e. omega arith)
+      step_keeps (Recycle j from) may = let slot = may.0 in get_or-set_other c.words (ref_index j) (place_index p l) (word_after (Recycle j from) (get_or c.words (ref_index j) 0)) 0 (λ e. omega arith)
+      step_keeps (FreeSlot j) may = let slot = may.0 in get_or-set_other c.words (tag_index j) (place_index p l) 0 0 (λ e. omega arith)
+      step_keeps (StoreLink j k) may = let slot = may.0 in get_or-set_other c.words (link_index j) (place_index p l) k 0 (λ e. omega arith)
+      step_keeps (LoadLink j w) may = ap (λ xs. get_or xs (place_index p l) 0) (set-get_or c.words (link_index j) 0)
+      step_keeps (ResetHead j k) may = let slot = may.0 in get_or-set_other c.words (head_index j) (place_index p l) (word_after (ResetHead j k) (get_or c.words (head_index j) 0)) 0 (λ e. omega arith)
+      step_keeps (ClearCode j k) may = let slot = may.0 in get_or-set_other c.words (code_index j) (place_index p l) 0 0 (λ e. omega arith)
+      step_keeps (StoreCode j h d) may = let slot = may.0 in get_or-set_other c.words (code_index j) (place_index p l) d 0 (λ e. omega arith)
+      step_keeps (StoreName n w) may = let slot = may.0 in get_or-set_other c.words (name_index p n) (place_index p l) w 0 (λ e. omega arith)
+      step_keeps (LoadName n) may = ap (λ xs. get_or xs (place_index p l) 0) (set-get_or c.words (name_index p n) 0)
+      step_keeps (StoreOpen n w) may = let slot = may.0 in get_or-set_other c.words (open_index p n) (place_index p l) w 0 (λ e. omega arith)
+      step_keeps (LoadOpen n) may = ap (λ xs. get_or xs (place_index p l) 0) (set-get_or c.words (open_index p n) 0)
       step_keeps (TakeLink k) may = refl
       step_keeps (FinishLink k) may = refl
       step_keeps (PutLink k) may = refl
-      step_keeps (LookWord id) may = ap (λ xs. get_or xs (place_word p l) 0) (set-get_or c.words (ref_word (socket_id_slot id)) 0)
-      step_keeps (FindLink i h) may = ap (λ xs. get_or xs (place_word p l) 0) (set-get_or c.words (link_word i) 0)
-      step_keeps (LoadCode i h) may = ap (λ xs. get_or xs (place_word p l) 0) (set-get_or c.words (code_word i) 0)
-      step_keeps (ClaimRequest id q) may = let slot = may.0 in get_or-set_other c.words (request_word p q) (place_word p l) (word_after (ClaimRequest id q) (get_or c.words (request_word p q) 0)) 0 (λ e. omega arith)
+      step_keeps (LookWord id) may = ap (λ xs. get_or xs (place_index p l) 0) (set-get_or c.words (ref_index (socket_id_slot id)) 0)
+      step_keeps (FindLink i h) may = ap (λ xs. get_or xs (place_index p l) 0) (set-get_or c.words (link_index i) 0)
+      step_keeps (LoadCode i h) may = ap (λ xs. get_or xs (place_index p l) 0) (set-get_or c.words (code_index i) 0)
+      step_keeps (ClaimRequest id q) may = let slot = may.0 in get_or-set_other c.words (request_index p q) (place_index p l) (word_after (ClaimRequest id q) (get_or c.words (request_index p q) 0)) 0 (λ e. omega arith)
       step_keeps (PutMessage q heading bytes) may = refl
-      step_keeps (Unconnect q) may = let slot = may.0 in get_or-set_other c.words (next_word p q) (place_word p l) (word_after (Unconnect q) 0) 0 (λ e. omega arith)
-      step_keeps (SwapHead i own) may = let slot = may.0 in get_or-set_other c.words (head_word i) (place_word p l) own 0 (λ e. omega arith)
-      step_keeps (Connect q before) may = let slot = may.0 in get_or-set_other c.words (next_word p q) (place_word p l) before 0 (λ e. omega arith)
-      step_keeps (EmptyHead i last) may = let slot = may.0 in get_or-set_other c.words (head_word i) (place_word p l) (word_after (EmptyHead i last) (get_or c.words (head_word i) 0)) 0 (λ e. omega arith)
-      step_keeps (ReadNext q) may = ap (λ xs. get_or xs (place_word p l) 0) (set-get_or c.words (next_word p q) 0)
-      step_keeps (TurnNext q value) may = let slot = turn_inside p (state c vs) sound.lawful i v at q value may in get_or-set_other c.words (next_word p q) (place_word p l) value 0 (λ e. omega (arith, e, slot))
-      step_keeps (FreeRequest q g) may = let slot = free_inside p (state c vs) sound.lawful i v at q g may in get_or-set_other c.words (request_word p q) (place_word p l) (word_after (FreeRequest q g) 0) 0 (λ e. omega (arith, e, slot))
+      step_keeps (Unconnect q) may = let slot = may.0 in get_or-set_other c.words (next_index p q) (place_index p l) (word_after (Unconnect q) 0) 0 (λ e. omega arith)
+      step_keeps (SwapHead i own) may = let slot = may.0 in get_or-set_other c.words (head_index i) (place_index p l) own 0 (λ e. omega arith)
+      step_keeps (Connect q before) may = let slot = may.0 in get_or-set_other c.words (next_index p q) (place_index p l) before 0 (λ e. omega arith)
+      step_keeps (EmptyHead i last) may = let slot = may.0 in get_or-set_other c.words (head_index i) (place_index p l) (word_after (EmptyHead i last) (get_or c.words (head_index i) 0)) 0 (λ e. omega arith)
+      step_keeps (ReadNext q) may = ap (λ xs. get_or xs (place_index p l) 0) (set-get_or c.words (next_index p q) 0)
+      step_keeps (ReverseNext q value) may = let slot = turn_inside p (state c vs) sound.lawful i v at q value may in get_or-set_other c.words (next_index p q) (place_index p l) value 0 (λ e. omega (arith, e, slot))
+      step_keeps (FreeRequest q g) may = let slot = free_inside p (state c vs) sound.lawful i v at q g may in get_or-set_other c.words (request_index p q) (place_index p l) (word_after (FreeRequest q g) 0) 0 (λ e. omega (arith, e, slot))
       step_keeps (StorePlace m k n) may = let x = may.0 in other_place m (word_after (StorePlace m k n) 0) x.mine.right x.now may.1 x.stage x.taken may.2
       step_keeps (DropPlace m k n) may = let x = may.0 in other_place m (word_after (DropPlace m k n) 0) x.mine.right x.now may.1 x.stage x.taken may.2
 
     -- so does a tick
-    pub place_stays : l < 8 * p.operations → get_or c.words (place_word p l) 0 ≢ 0 → (m : Moment) → IsAnswered c m → IsFitting p c m → get_or (ticked p c m).words (place_word p l) 0 ≡ get_or c.words (place_word p l) 0
-    place_stays low written m answered fitting = tick_keeps_marks p c vs m sound answered fitting (begins_round p) (goes_round p) (λ d ws. get_or d.words (place_word p l) 0 ≡ get_or c.words (place_word p l) 0) refl
+    pub place_stays : l < 8 * p.operations → get_or c.words (place_index p l) 0 ≢ 0 → (m : Moment) → IsAnswered c m → IsFitting p c m → get_or (ticked p c m).words (place_index p l) 0 ≡ get_or c.words (place_index p l) 0
+    place_stays low written m answered fitting = tick_keeps_marks p c vs m sound answered fitting (begins_round p) (goes_round p) (λ d ws. get_or d.words (place_index p l) 0 ≡ get_or c.words (place_index p l) 0) refl
         (λ seat v call next at_seat at_view is goes. step_keeps m.seat v at_view low written call goes.0)
         (λ seat v program rights hand hs a at_seat at_view comes. refl)

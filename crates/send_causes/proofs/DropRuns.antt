@@ -9,7 +9,7 @@ use Rattle.sock_words.specs.declared.plain.Plan.{Plan}
 use Rattle.sock_model.specs.declared.chain.Heading.{Heading}
 use Rattle.sock_model.specs.declared.view.View.{View}
 use Rattle.sock_model.specs.Deliveries.{place_value}
-use Rattle.sock_model.specs.Layout.{place_word}
+use Rattle.sock_model.specs.Layout.{place_index}
 use Rattle.sock_model.specs.References.{slot_facts}
 use Rattle.sock_model.specs.Slots.{live}
 use Rattle.sock_model.specs.Weights.{is_met}
@@ -17,13 +17,13 @@ use Rattle.sock_steps.proofs.Places.{own_count}
 use Rattle.sock_steps.proofs.RightSteps.{right_in}
 use Rattle.corr_core.specs.declared.marks.Plan.{Plan as IdPlan}
 use Rattle.sock_message.specs.Asked.{Asked}
-use Rattle.sock_programs.specs.declared.task.Task.{Task}
-use Rattle.sock_programs.specs.Calls.{Call, GiveBirth, LoadCode, DropPlace}
-use Rattle.sock_programs.specs.Cores.{Core, SeatState, stepped}
-use Rattle.sock_programs.specs.Programs.{Program, Do, Write}
-use Rattle.sock_programs.specs.Ticks.{Moment, IsAnswered, AreAnswered, quiet, step_with, tick_with, ticked, run}
-use Rattle.sock_programs.specs.Told.{AreTasks}
-use Rattle.sock_programs.specs.Writings.{Holder, Puts}
+use Rattle.seat_programs.specs.declared.task.Task.{Task}
+use Rattle.seat_programs.specs.Calls.{Call, CreateLife, LoadCode, DropPlace}
+use Rattle.seat_programs.specs.Cores.{Core, SeatState, stepped}
+use Rattle.seat_programs.specs.Programs.{Program, Do, Write}
+use Rattle.seat_programs.specs.Ticks.{Moment, IsAnswered, AreAnswered, quiet, step_with, tick_with, ticked, run}
+use Rattle.seat_programs.specs.Told.{AreTasks}
+use Rattle.seat_programs.specs.Writings.{Holder, Puts}
 use Rattle.sock_runs.specs.GoesOn.{GoesOn}
 use Rattle.sock_runs.specs.Sound.{state, Sound, AreFew, IsFitting, AreFitting, first_step, views_after, views_along, MOST_PLACES}
 use Rattle.sock_runs.proofs.Cases.{goes_first}
@@ -32,12 +32,12 @@ use Rattle.sock_runs.proofs.LinkTicks.{RetriesGo}
 use Rattle.sock_runs.proofs.Passes.{goes_round}
 use Rattle.sock_runs.proofs.Rounds.{begins_round}
 use Rattle.sock_runs.proofs.Ticks.{sound_ticks}
-use Rattle.sock_causes.specs.Causes.{WasGiven}
-use Rattle.sock_causes.specs.Kept.{IsSpoken, Story}
-use Rattle.sock_causes.specs.Stories.{Event, In}
-use Rattle.sock_causes.proofs.Final.{at_there, at_within}
-use Rattle.sock_causes.proofs.Events.{event, marked_given, given_by}
-use Rattle.sock_causes.proofs.Ticks.{MayMove, IsNew, tick_story}
+use Rattle.outcome_causes.specs.Causes.{WasGiven}
+use Rattle.outcome_causes.specs.Kept.{IsSpoken, Story}
+use Rattle.outcome_causes.specs.Stories.{Event, In}
+use Rattle.outcome_causes.proofs.Final.{at_there, at_within}
+use Rattle.outcome_causes.proofs.Events.{event, marked_given, given_by}
+use Rattle.outcome_causes.proofs.Ticks.{MayMove, IsNew, tick_story}
 use Rattle.label_runs.specs.Labels.{Trial}
 use Rattle.send_causes.specs.Counts.{LabelLaw, StoresOwn, AreLabelled}
 use Rattle.id_runs.specs.Goes.{SoundIds, IsFittingIds}
@@ -72,7 +72,7 @@ module _ (p : Plan) (q : IdPlan) (is_call : Asked → Type 0) (ids : ℕ → ℕ
     pub low : l < 8 * p.operations
     pub link : k < p.links
     pub small : m < MOST_PLACES
-    pub word : (o n : ℕ) → IsSpoken clients o → n < 8 → l ≡ 8 * o + n → get_or c.words (place_word p l) 0 ≡ place_value true k m
+    pub word : (o n : ℕ) → IsSpoken clients o → n < 8 → l ≡ 8 * o + n → get_or c.words (place_index p l) 0 ≡ place_value true k m
 
   abbrev pub Tells : Core → List Event → Deed → Type 0
   Tells c es (DidStep (LoadCode i h) code) = code ≢ 0 → IsKnown clients es i h code
@@ -82,11 +82,11 @@ module _ (p : Plan) (q : IdPlan) (is_call : Asked → Type 0) (ids : ℕ → ℕ
 
   -- more steps, and a life is still made with its link
   given_on : (es fresh : List Event) → ((e : Event) → In e es → In e fresh) → (j h k : ℕ) → WasGiven es j h k → WasGiven fresh j h k
-  given_on es fresh kept j h k given = let g = marked_given es j h k given in given_by fresh g.0 g.1 g.2 j h k (kept (event g.0 g.1 (GiveBirth j k) g.2) g.3) g.4
+  given_on es fresh kept j h k given = let g = marked_given es j h k given in given_by fresh g.0 g.1 g.2 j h k (kept (event g.0 g.1 (CreateLife j k) g.2) g.3) g.4
 
   -- the place words of calls that were written are the same
   abbrev pub PlacesStay : Core → Core → Type 0
-  PlacesStay c d = (o n l : ℕ) → IsSpoken clients o → n < 8 → l ≡ 8 * o + n → l < 8 * p.operations → get_or c.words (place_word p l) 0 ≢ 0 → get_or d.words (place_word p l) 0 ≡ get_or c.words (place_word p l) 0
+  PlacesStay c d = (o n l : ℕ) → IsSpoken clients o → n < 8 → l ≡ 8 * o + n → l < 8 * p.operations → get_or c.words (place_index p l) 0 ≢ 0 → get_or d.words (place_index p l) 0 ≡ get_or c.words (place_index p l) 0
 
   drop_on : (c d : Core) → PlacesStay c d → (l k m : ℕ) → IsDropAt c l k m → IsDropAt d l k m
   drop_on c d stay l k m x = record {
@@ -141,8 +141,8 @@ module _ (p : Plan) (q : IdPlan) (is_call : Asked → Type 0) (ids : ℕ → ℕ
             low = low;
             link = subst (λ z. z < p.links) (sym may.3) (right_in s.sound.lawful m.seat x.mine.place v.0 r v.1 x.mine.has);
             small = subst (λ z. z < MOST_PLACES) (sym may.4) (places_small p (state c vs) s.sound.lawful m.seat v.0 v.1 x.mine.place r x.mine.has few x.now x.stage);
-            word = λ o a spoken few label. ap (λ (d : Core). get_or d.words (place_word p l) 0) (tick_steps p c m seat (DropPlace l k n) next at is)
-                ∙ get_or-set_same c.words (place_word p l) (place_value true k n) 0 (let sized = s.sound.lawful.references.sized in omega (arith, low, sized));
+            word = λ o a spoken few label. ap (λ (d : Core). get_or d.words (place_index p l) 0) (tick_steps p c m seat (DropPlace l k n) next at is)
+                ∙ get_or-set_same c.words (place_index p l) (place_value true k n) 0 (let sized = s.sound.lawful.references.sized in omega (arith, low, sized));
           }
 
       -- a round of a loop of writing

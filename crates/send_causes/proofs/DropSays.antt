@@ -4,15 +4,15 @@ use Rattle.std.specs.Prelude.{Some}
 use Rattle.sock_words.specs.Words.{vref_version}
 use Rattle.sock_words.specs.declared.outcome.Outcome.{Outcome}
 use Rattle.sock_words.specs.declared.outcome.Outcome.TheVariants.{Failed}
-use Rattle.sock_programs.specs.declared.task.Op.TheVariants as ops
-use Rattle.sock_programs.specs.declared.task.Task.{Task}
-use Rattle.sock_programs.specs.Calls.{Call, SetOdd, LoadOpen}
-use Rattle.sock_programs.specs.Writings.{Puts, Waits, Empties, Walks}
-use Rattle.sock_programs.specs.Programs.{Program, Do, Say, Sent, Rest, TakeMessage, TakeHome, PutHome, PutBytes, AskReady, Write, Aside, Round, Keep, Retries}
+use Rattle.seat_programs.specs.declared.task.Op.TheVariants as ops
+use Rattle.seat_programs.specs.declared.task.Task.{Task}
+use Rattle.seat_programs.specs.Calls.{Call, SetOdd, LoadOpen}
+use Rattle.seat_programs.specs.Writings.{Puts, Waits, Empties, Walks}
+use Rattle.seat_programs.specs.Programs.{Program, Do, Say, Sent, Rest, TakeMessage, TakeHome, PutHome, PutBytes, AskReady, Write, Aside, Round, Keep, Retries}
 use Rattle.sock_runs.specs.Sound.{first_step}
-use Rattle.sock_causes.specs.Explains.{Way, Own, Beside, Closing, Done, Because, Explained, ExplainsBy, step}
-use Rattle.sock_causes.specs.Stories.{Entry, In}
-use Rattle.sock_causes.proofs.Cases.{IsOfLoop, loop_begins}
+use Rattle.outcome_causes.specs.Explains.{Way, Own, Beside, Closing, Done, Because, Explained, ExplainsBy, step}
+use Rattle.outcome_causes.specs.Stories.{Entry, In}
+use Rattle.outcome_causes.proofs.Cases.{IsOfLoop, loop_begins}
 use Rattle.send_causes.proofs.DropCodes.{SaysFailed}
 
 says_on : (o : ℕ) (call : Call) (next : ℕ → Program) → SaysFailed o (Do call next) → ((i : ℕ) → call ≡ SetOdd i → ⊥) × SaysFailed o (next 0)

@@ -16,32 +16,32 @@ use Rattle.sock_model.specs.declared.view.View.{View}
 use Rattle.sock_model.specs.Marks.{about, at}
 use Rattle.sock_model.specs.SlotRows.{marks_of, failed}
 use Rattle.sock_model.specs.Weights.{total, is_coding}
-use Rattle.slot_laws.proofs.Numbers.{only-at}
-use Rattle.slot_laws.proofs.Sums.{about-here}
-use Rattle.sock_programs.specs.declared.task.Op.TheVariants as ops
-use Rattle.sock_programs.specs.declared.task.Task.{Task}
-use Rattle.sock_programs.specs.Beside.{calls_after}
-use Rattle.sock_programs.specs.Calls.{Call, AddRef, LoadName, SetOdd, StoreCode}
-use Rattle.sock_programs.specs.Cores.{Calls, Core, SeatState, word_of, word_after, found_at, words_after, homes_after, hand_after, lies_at, first_of, others_of, link_place, resolved, waiting_at, next_step, with_seat}
-use Rattle.sock_programs.specs.Drops.{call_in}
-use Rattle.sock_programs.specs.Programs.{Program, Do, Rest, TakeMessage, TakeHome, PutHome, PutBytes, AskReady, Aside}
-use Rattle.sock_programs.specs.Ticks.{Moment, IsAnswered, fed, with_places, onto_first, ticked}
-use Rattle.sock_programs.specs.Told.{AreTasks}
+use Rattle.slot_steps.proofs.Numbers.{only-at}
+use Rattle.slot_steps.proofs.Sums.{about-here}
+use Rattle.seat_programs.specs.declared.task.Op.TheVariants as ops
+use Rattle.seat_programs.specs.declared.task.Task.{Task}
+use Rattle.seat_programs.specs.Beside.{calls_after}
+use Rattle.seat_programs.specs.Calls.{Call, AddRef, LoadName, SetOdd, StoreCode}
+use Rattle.seat_programs.specs.Cores.{Calls, Core, SeatState, word_of, word_after, found_at, words_after, homes_after, hand_after, lies_at, first_of, others_of, link_place, resolved, waiting_at, next_step, with_seat}
+use Rattle.seat_programs.specs.Drops.{call_in}
+use Rattle.seat_programs.specs.Programs.{Program, Do, Rest, TakeMessage, TakeHome, PutHome, PutBytes, AskReady, Aside}
+use Rattle.seat_programs.specs.Ticks.{Moment, IsAnswered, fed, with_places, onto_first, ticked}
+use Rattle.seat_programs.specs.Told.{AreTasks}
 use Rattle.sock_runs.specs.May.{May}
 use Rattle.sock_runs.specs.Rows.{row, hand_at, took_message, link_away, link_home_again, took_bytes}
 use Rattle.sock_runs.specs.Sound.{Sound, first_step, views_after}
 use Rattle.sock_steps.proofs.Maps.{set_at}
-use Rattle.sock_causes.specs.Causes.{Asks}
-use Rattle.sock_causes.specs.Explains.{Way, Own, Beside, Closing, Done, ExplainsBy, step}
-use Rattle.sock_causes.specs.Kept.{IsSpoken, IsTraced, SeatStory, Story}
-use Rattle.sock_causes.specs.Stories.{Entry, Event, In, trace_of, trace_now}
-use Rattle.sock_causes.proofs.Cases.{tick_cases}
-use Rattle.sock_causes.proofs.Events.{event}
-use Rattle.sock_causes.proofs.Final.{at_within}
-use Rattle.sock_causes.proofs.Members.{from_trace, to_trace}
-use Rattle.sock_causes.proofs.Seats.{undo_in}
-use Rattle.sock_causes.proofs.Tasks.{one_task}
-use Rattle.sock_causes.proofs.Ticks.{MayMove, IsNew, get_of}
+use Rattle.outcome_causes.specs.Causes.{Asks}
+use Rattle.outcome_causes.specs.Explains.{Way, Own, Beside, Closing, Done, ExplainsBy, step}
+use Rattle.outcome_causes.specs.Kept.{IsSpoken, IsTraced, SeatStory, Story}
+use Rattle.outcome_causes.specs.Stories.{Entry, Event, In, trace_of, trace_now}
+use Rattle.outcome_causes.proofs.Cases.{tick_cases}
+use Rattle.outcome_causes.proofs.Events.{event}
+use Rattle.outcome_causes.proofs.Final.{at_within}
+use Rattle.outcome_causes.proofs.Members.{from_trace, to_trace}
+use Rattle.outcome_causes.proofs.Seats.{undo_in}
+use Rattle.outcome_causes.proofs.Tasks.{one_task}
+use Rattle.outcome_causes.proofs.Ticks.{MayMove, IsNew, get_of}
 use Rattle.send_causes.proofs.DropCodes.{Failing, NoFail, Fails, IsOtherCode, SaysFailed, Stores, codes_first, codes_next}
 use Rattle.send_causes.proofs.DropSays.{IsInHand, first_numbered, says, sets_here}
 use Rattle.send_causes.proofs.DropWords.{version_in, code_in, coding_version, code_stays}

@@ -11,27 +11,27 @@ use Rattle.sock_words.specs.declared.plain.Plan.{Plan}
 use Rattle.sock_model.specs.declared.view.View.{View}
 use Rattle.sock_model.specs.Deliveries.{ShownAt, no_place, one_place, place_value}
 use Rattle.sock_model.specs.Entries.{on}
-use Rattle.sock_model.specs.Layout.{place_word}
+use Rattle.sock_model.specs.Layout.{place_index}
 use Rattle.sock_model.specs.Links.{Failed}
 use Rattle.sock_steps.proofs.Positions.{few_log, on_shorter}
 use Rattle.sock_steps.proofs.Quiet.{either_way}
-use Rattle.chain_laws.proofs.Lists.{at_some}
-use Rattle.slot_laws.proofs.Sums.{total_bound}
+use Rattle.chain_steps.proofs.Lists.{at_some}
+use Rattle.slot_steps.proofs.Sums.{total_bound}
 use Rattle.sock_model.specs.Rule.{lists_of}
 use Rattle.std.proofs.lemmas.List.{length-map}
-use Rattle.sock_causes.proofs.Members.{get_there}
-use Rattle.sock_programs.specs.Asides.{Taking}
+use Rattle.outcome_causes.proofs.Members.{get_there}
+use Rattle.seat_programs.specs.Asides.{Taking}
 use Rattle.send_causes.proofs.Closers.{Ends as ReadingEnds}
 use Rattle.send_causes.proofs.ReaderRuns.{Keeps, reader_rights, keeps_along}
 use Rattle.std.specs.Prelude.{slice_get, Some}
-use Rattle.sock_programs.specs.Calls.{Call, SwapHead}
-use Rattle.sock_programs.specs.Programs.{Program, Do, Say, Sent, Rest, TakeMessage, TakeHome, PutHome, PutBytes, AskReady, Write, Aside, Round, Keep, Retries, LAST_VERSION, NO_SOCKET, recycle, release}
-use Rattle.sock_programs.specs.Heads.{Retry}
-use Rattle.sock_programs.specs.Clients.{ending_of}
-use Rattle.sock_programs.specs.Cores.{Core, SeatState, resolved, next_step}
-use Rattle.sock_programs.specs.Runs.{IsAtRest}
-use Rattle.sock_programs.specs.Ticks.{Moment, AreAnswered, IsAnswered, quiet, ticked, run}
-use Rattle.sock_programs.specs.ToldCalls.{Accepted, label, AreOrders}
+use Rattle.seat_programs.specs.Calls.{Call, SwapHead}
+use Rattle.seat_programs.specs.Programs.{Program, Do, Say, Sent, Rest, TakeMessage, TakeHome, PutHome, PutBytes, AskReady, Write, Aside, Round, Keep, Retries, LAST_VERSION, NO_SOCKET, recycle, release}
+use Rattle.seat_programs.specs.Heads.{Retry}
+use Rattle.seat_programs.specs.Clients.{ending_of}
+use Rattle.seat_programs.specs.Cores.{Core, SeatState, resolved, next_step}
+use Rattle.seat_programs.specs.Runs.{IsAtRest}
+use Rattle.seat_programs.specs.Ticks.{Moment, AreAnswered, IsAnswered, quiet, ticked, run}
+use Rattle.seat_programs.specs.ToldCalls.{Accepted, label, AreOrders}
 use Rattle.sock_runs.specs.Sound.{state, Sound, IsAhead, IsFitting, AreFitting, AreFew, views_after, first_step}
 use Rattle.sock_runs.specs.GoesOn.{GoesOn, HasNothing}
 use Rattle.sock_runs.proofs.Along.{seat_rests, place_inside, ticked_ahead}
@@ -42,7 +42,7 @@ use Rattle.sock_runs.proofs.Quiets.{ticked_seats, ticked_rests}
 use Rattle.sock_runs.proofs.Recorded.{Recorded, recorded_ticks}
 use Rattle.sock_runs.proofs.Rounds.{begins_round}
 use Rattle.sock_runs.proofs.Ticks.{sound_ticks}
-use Rattle.sock_causes.proofs.Delivered.{accepted_of, orders_of}
+use Rattle.outcome_causes.proofs.Delivered.{accepted_of, orders_of}
 use Rattle.send_causes.proofs.Places.{places_ticks}
 use Rattle.send_causes.proofs.Readings.{rights_none}
 
@@ -134,13 +134,13 @@ module _ (p : Plan) where
 
   -- the place words stay while seat 0 makes the ending
   pub ending_places : RetriesGo p → (l : ℕ) → l < 8 * p.operations → (n : ℕ) (c : Core) (vs : List View) → Sound p c vs → AreAnswered p c (replicate n (quiet 0)) → AreFitting p c (replicate n (quiet 0)) → Ends c vs
-      → get_or (run p c (replicate n (quiet 0))).words (place_word p l) 0 ≡ get_or c.words (place_word p l) 0
+      → get_or (run p c (replicate n (quiet 0))).words (place_index p l) 0 ≡ get_or c.words (place_index p l) 0
   ending_places go l low zero c vs sound answered fitting e = refl
   ending_places go l low (suc n) c vs sound answered fitting e =
       ending_places go l low n (ticked p c (quiet 0)) (views_after p c vs (quiet 0)) (sound_ticks p go c vs (quiet 0) sound answered.0 fitting.0) answered.1 fitting.1 (ends_ticks c vs (quiet 0) refl sound answered.0 fitting.0 e)
       ∙ places_ticks p l low c vs (quiet 0) sound answered.0 fitting.0 (λ v at. let seat = at_some c.seats 0 (let i = place_inside vs 0 v at in let m = sound.each in omega (arith, i, m)) in (e seat.0 v seat.1 at).1)
 
-  pub ending_begins : (c : Core) (vs : List View) (os : List ℕ) → Sound p c vs → ((seat : SeatState) → get_elem? c.seats 0 ≡ some seat → seat.program ≡ Rest) → Ends (Rattle.sock_programs.specs.Cores.with_seat 0 (ending_of os) [] c.words c.homes c) vs
+  pub ending_begins : (c : Core) (vs : List View) (os : List ℕ) → Sound p c vs → ((seat : SeatState) → get_elem? c.seats 0 ≡ some seat → seat.program ≡ Rest) → Ends (Rattle.seat_programs.specs.Cores.with_seat 0 (ending_of os) [] c.words c.homes c) vs
   ending_begins c vs os sound rests seat v at at_view = (
     ⊎_elim (λ a. subst (λ (z : SeatState). NoSwap z.program) a.1 (swap_next _ (ending_of os) (swap_ending os))) (λ a. absurd (a.0 refl)) (at_set c.seats 0 0 _ seat at),
     (let old = at_some c.seats 0 (let i = place_inside vs 0 v at_view in let m = sound.each in omega (arith, i, m)) in
@@ -150,7 +150,7 @@ module _ (p : Plan) where
 -- and while clients are at rest and readers read
 module _ (p : Plan) (calls os : List ℕ) (in_os : (k o : ℕ) → get_elem? os k ≡ some o → o < p.operations) (Odd : List Taking → Type 0) (Lasts : Type 0) (ends : (n id : ℕ) → ReadingEnds n id Odd Lasts) (Q : ℕ → ℕ → Type 0) (go : RetriesGo p) where
   pub resting_places : (l : ℕ) → l < 8 * p.operations → (ms : List Moment) (c : Core) (vs : List View) (taken : ℕ → List Taking) → Sound p c vs → AreAnswered p c ms → AreFitting p c ms → Recorded p Q c vs → (c.calls.ending ≡ true → Lasts) → IsAhead c
-      → ((j : ℕ) → j < 32 → j < length c.seats → IsAtRest c j) → Keeps p calls os in_os Odd Lasts ends c vs taken → get_or (run p c ms).words (place_word p l) 0 ≡ get_or c.words (place_word p l) 0
+      → ((j : ℕ) → j < 32 → j < length c.seats → IsAtRest c j) → Keeps p calls os in_os Odd Lasts ends c vs taken → get_or (run p c ms).words (place_index p l) 0 ≡ get_or c.words (place_index p l) 0
   resting_places l low [] c vs taken sound answered fitting recorded lasting ahead rests k = refl
   resting_places l low (m ∷ ms) c vs taken sound answered fitting recorded lasting ahead rests k =
       resting_places l low ms (ticked p c m) (views_after p c vs m) _ (sound_ticks p go c vs m sound answered.0 fitting.0) answered.1 fitting.1 (recorded_ticks p Q c vs m sound answered.0 fitting.0 recorded)
@@ -175,7 +175,7 @@ log_small : (p : Plan) (c : Core) (vs : List View) (sound : Sound p c vs) → Ar
 log_small p c vs sound few = few_log vs sound.lawful.log sound.lawful.authors (let n = few.few_seats in let b = total_bound lists_of 1 vs (λ i v at. (few.short i v at).0) in omega (arith, n, b)) (λ i v at. (few.short i v at).1)
 
 -- where the place words were so before, it was dropped then, and its link had failed
-pub failed_before : (p : Plan) (c c' : Core) (vs vs' : List View) (sound : Sound p c vs) (sound' : Sound p c' vs') → AreFew vs → AreFew vs' → ((l : ℕ) → l < 8 * p.operations → get_or c'.words (place_word p l) 0 ≡ get_or c.words (place_word p l) 0)
+pub failed_before : (p : Plan) (c c' : Core) (vs vs' : List View) (sound : Sound p c vs) (sound' : Sound p c' vs') → AreFew vs → AreFew vs' → ((l : ℕ) → l < 8 * p.operations → get_or c'.words (place_index p l) 0 ≡ get_or c.words (place_index p l) 0)
     → AreOrders p c' (orders_of p c' vs' sound'.lawful) → (k : ℕ) → k < p.links → (orders_of p c' vs' sound'.lawful k).placed < length (orders_of p c' vs' sound'.lawful k).accepted → Failed p (state c vs) k
 failed_before p c c' vs vs' sound sound' few few' same are k kl less = dite (dec_le (8 * p.operations) (label a.0)) (λ high. absurd (outside high)) (λ low. by_shown (omega (arith, low)) (sound.lawful.delivered.shown (label a.0) (omega (arith, low))))
   where
@@ -185,23 +185,23 @@ failed_before p c c' vs vs' sound sound' few few' same are k kl less = dite (dec
     a : (x : Accepted) × (slice_get (orders_of p c' vs' sound'.lawful k).accepted (orders_of p c' vs' sound'.lawful k).placed ≡ Some x)
     a = get_there (orders_of p c' vs' sound'.lawful k).accepted (orders_of p c' vs' sound'.lawful k).placed less
 
-    word : get_or c'.words (place_word p (label a.0)) 0 ≡ place_value true k (orders_of p c' vs' sound'.lawful k).placed
+    word : get_or c'.words (place_index p (label a.0)) 0 ≡ place_value true k (orders_of p c' vs' sound'.lawful k).placed
     word = are.written k (orders_of p c' vs' sound'.lawful k).placed a.0 kl a.1 ∙ ap (λ b. place_value b k (orders_of p c' vs' sound'.lawful k).placed) (le-leb (orders_of p c' vs' sound'.lawful k).placed (orders_of p c' vs' sound'.lawful k).placed (omega arith))
 
     outside : 8 * p.operations ≤ label a.0 → ⊥
-    outside high = let sized = sound'.lawful.references.sized in let z = beyond c'.words (place_word p (label a.0)) (omega (arith, sized, high)) in omega (arith, z, word)
+    outside high = let sized = sound'.lawful.references.sized in let z = beyond c'.words (place_index p (label a.0)) (omega (arith, sized, high)) in omega (arith, z, word)
 
     place_low : (orders_of p c' vs' sound'.lawful k).placed < 2147483648
     place_low = let s = log_small p c' vs' sound' few' in let o = on_shorter k sound'.lawful.log in let m = length-map (on k sound'.lawful.log) accepted_of in omega (arith, s, o, m, less)
 
-    by_shown : label a.0 < 8 * p.operations → ShownAt p.links (λ l. slice_index c.words (place_word p l)) sound.lawful.log sound.lawful.places sound.lawful.kept (label a.0) → Failed p (state c vs) k
-    by_shown low (no_place z none_) = absurd (let e : get_or c.words (place_word p (label a.0)) 0 ≡ 0 = z in let s = same (label a.0) low in omega (arith, e, s, word))
+    by_shown : label a.0 < 8 * p.operations → ShownAt p.links (λ l. slice_index c.words (place_index p l)) sound.lawful.log sound.lawful.places sound.lawful.kept (label a.0) → Failed p (state c vs) k
+    by_shown low (no_place z none_) = absurd (let e : get_or c.words (place_index p (label a.0)) 0 ≡ 0 = z in let s = same (label a.0) low in omega (arith, e, s, word))
     by_shown low (one_place k' i' e' kl' il' at' is' w) = by (nat_le (sound.lawful.kept k') i') refl w
       where
         others : i' < 2147483648
         others = let s = log_small p c vs sound few in let o = on_shorter k' sound.lawful.log in let in' = place_inside (on k' sound.lawful.log) i' e' at' in omega (arith, s, o, in')
 
-        by : (b : Bool) → nat_le (sound.lawful.kept k') i' ≡ b → get_or c.words (place_word p (label a.0)) 0 ≡ place_value b k' i' → Failed p (state c vs) k
+        by : (b : Bool) → nat_le (sound.lawful.kept k') i' ≡ b → get_or c.words (place_index p (label a.0)) 0 ≡ place_value b k' i' → Failed p (state c vs) k
         by true le w = let one : k' ≡ k = (let s = same (label a.0) low in let x = place_low in let y = others in omega (arith, s, word, w, x, y)) in
             subst (Failed p (state c vs)) one (sound.lawful.delivered.failed k' kl' (let l = leb-true (sound.lawful.kept k') i' le in omega (arith, l, il')))
         by false le w = absurd (let s = same (label a.0) low in let x = place_low in let y = others in let few_links = sound.limits.links in omega (arith, s, word, w, x, y, few_links, kl'))

@@ -12,7 +12,7 @@ use lib.ListN.{get_elem?}
 use Rattle.atomic_table.proofs.Lists.{at_set, set_else}
 use Rattle.sock_words.specs.declared.plain.Plan.{Plan}
 use Rattle.sock_model.specs.declared.view.View.{View}
-use Rattle.sock_model.specs.Layout.{open_word}
+use Rattle.sock_model.specs.Layout.{open_index}
 use Rattle.sock_model.specs.Seats.{newcomer, below}
 use Rattle.brpc_model.specs.Causes.{HasFault, reading_limit}
 use Rattle.brpc_model.specs.Items.{Item, is_open}
@@ -20,23 +20,23 @@ use Rattle.brpc_model.specs.Operations.{Turn, operations, link_names}
 use Rattle.brpc_model.specs.Order.{EachBefore}
 use Rattle.report_fits.proofs.Lists.{some_is, before_from, before_at, before_filter_map}
 use Rattle.report_fits.proofs.Numbering.{is_numbered}
-use Rattle.sock_programs.specs.declared.task.Op.{Op}
-use Rattle.sock_programs.specs.declared.task.Op.TheVariants as ops
-use Rattle.sock_programs.specs.declared.task.Task.{Task}
-use Rattle.sock_programs.specs.declared.task.Sizes.{Sizes}
-use Rattle.sock_programs.specs.Asides.{Taking, Bytes, Nothing, NoMore, AtEnd, Closed, Broken}
-use Rattle.sock_programs.specs.Beside.{at_last}
-use Rattle.sock_programs.specs.Calls.{Call, SetOdd}
-use Rattle.sock_programs.specs.Drops.{call_in}
-use Rattle.sock_programs.specs.Programs.{Program, Do, Say, Sent, Rest, TakeMessage, TakeHome, PutHome, PutBytes, AskReady, Write, Aside, Round, Keep, Retries, open_from, make_socket}
-use Rattle.sock_programs.specs.Readers.{LIMIT}
-use Rattle.sock_programs.specs.Heads.{Retry}
-use Rattle.sock_programs.specs.Clients.{operation, client_from, ending_of}
-use Rattle.sock_programs.specs.Cores.{Core, SeatState, word_of, found_at, resolved, next_step, still_waiting, waiting_at}
-use Rattle.sock_programs.specs.Tasks.{Numbered, numbered, opens, calls, plan_of, id_plan_of}
-use Rattle.sock_programs.specs.Ticks.{Answer, Unasked, Moment, quiet, tick_with, ticked}
-use Rattle.sock_programs.specs.Scripts.{sizes_of, programs, readers_from, all_programs, all_tasks, opened, set_up, played, IsRunWithCalls}
-use Rattle.sock_programs.specs.Told.{IsOpen}
+use Rattle.seat_programs.specs.declared.task.Op.{Op}
+use Rattle.seat_programs.specs.declared.task.Op.TheVariants as ops
+use Rattle.seat_programs.specs.declared.task.Task.{Task}
+use Rattle.seat_programs.specs.declared.task.Sizes.{Sizes}
+use Rattle.seat_programs.specs.Asides.{Taking, Bytes, Nothing, NoMore, AtEnd, Closed, Broken}
+use Rattle.seat_programs.specs.Beside.{at_last}
+use Rattle.seat_programs.specs.Calls.{Call, SetOdd}
+use Rattle.seat_programs.specs.Drops.{call_in}
+use Rattle.seat_programs.specs.Programs.{Program, Do, Say, Sent, Rest, TakeMessage, TakeHome, PutHome, PutBytes, AskReady, Write, Aside, Round, Keep, Retries, open_from, make_socket}
+use Rattle.seat_programs.specs.Readers.{LIMIT}
+use Rattle.seat_programs.specs.Heads.{Retry}
+use Rattle.seat_programs.specs.Clients.{operation, client_from, ending_of}
+use Rattle.seat_programs.specs.Cores.{Core, SeatState, word_of, found_at, resolved, next_step, still_waiting, waiting_at}
+use Rattle.seat_programs.specs.Tasks.{Numbered, numbered, opens, calls, plan_of, id_plan_of}
+use Rattle.seat_programs.specs.Ticks.{Answer, Unasked, Moment, quiet, tick_with, ticked}
+use Rattle.seat_programs.specs.Scripts.{sizes_of, programs, readers_from, all_programs, all_tasks, opened, set_up, played, IsRunWithCalls}
+use Rattle.seat_programs.specs.Told.{IsOpen}
 use Rattle.sock_runs.specs.Sound.{views_along}
 use Rattle.sock_runs.proofs.Along.{run_ahead, beginning_ahead}
 use Rattle.sock_runs.proofs.LinksOpening.{OpensLink}
@@ -45,22 +45,22 @@ use Rattle.sock_runs.proofs.Opening.{mapped}
 use Rattle.sock_runs.proofs.OpensStay.{readers_begin}
 use Rattle.sock_runs.proofs.Whole.{AreFittingIn, Begins, IsListed, closing_of, views_played, views_closed, set_up_answered, end_answered, set_up_sound, closing_sound, recorded_opened, recorded_set_up, recorded_closing}
 use Rattle.sock_steps.proofs.Quiet.{either_way}
-use Rattle.sock_causes.specs.Facts.{shown_in, closed_before_ending}
-use Rattle.sock_causes.specs.Losses.{lost_by, closed_at}
-use Rattle.sock_causes.specs.Stories.{In}
-use Rattle.sock_causes.proofs.Members.{in_contains}
-use Rattle.sock_causes.proofs.Plain.{in_left, in_right, in_both}
-use Rattle.call_causes.specs.client_laws.proofs.Beginning as clients_begin
-use Rattle.call_causes.specs.client_laws.specs.Openings.{links_of_all, without_passes, client_view, opening_views, all_seats}
-use Rattle.call_causes.specs.client_laws.proofs.Retrying.{retries_go}
+use Rattle.outcome_causes.specs.Facts.{shown_in, closed_before_ending}
+use Rattle.outcome_causes.specs.Losses.{lost_by, closed_at}
+use Rattle.outcome_causes.specs.Stories.{In}
+use Rattle.outcome_causes.proofs.Members.{in_contains}
+use Rattle.outcome_causes.proofs.Plain.{in_left, in_right, in_both}
+use Rattle.call_causes.specs.programs_allowed.proofs.Beginning as clients_begin
+use Rattle.call_causes.specs.programs_allowed.specs.Openings.{links_of_all, without_passes, client_view, opening_views, all_seats}
+use Rattle.call_causes.specs.programs_allowed.proofs.Retrying.{retries_go}
 use Rattle.call_causes.specs.joint_runs.proofs.Runs.{AreMade, first_views, begins, are_fitting_in, joint_runs}
 use Rattle.call_causes.specs.owed_calls.proofs.EndsStill.{run_ending}
 use Rattle.call_causes.specs.owed_calls.proofs.Known.{known_of}
 use Rattle.call_causes.specs.owed_calls.proofs.Owed.{IsKnown, tasks_own, opened_seats}
 use Rattle.call_causes.specs.owed_calls.proofs.OpensStored.{place_at}
 use Rattle.call_causes.specs.owed_calls.proofs.WordsGiven.{Named, names_others, beginning_named, run_named}
-use Rattle.whole_runs.specs.Heard.{as_taken, bytes_found, taken_link, taken_at, taken_in, heard_takes, given_by}
-use Rattle.whole_runs.proofs.HeardRuns.{taken_append}
+use Rattle.run_theorems.specs.Heard.{as_taken, bytes_found, taken_link, taken_at, taken_in, heard_takes, given_by}
+use Rattle.run_theorems.proofs.HeardRuns.{taken_append}
 use Rattle.send_causes.proofs.Faults.{Faults, fault_stays}
 use Rattle.send_causes.proofs.Closers.{Ends}
 use Rattle.send_causes.proofs.ReaderRuns.{Keeps, founds, keeps_same, keeps_along, closes_along}
@@ -292,7 +292,7 @@ module _ (script : List Item) (made : AreMade script) (turns : List Turn) (core 
   first_few : length (programs (sizes_of (plan_of script) (id_plan_of script)) (all_tasks script)) ≤ 32
   first_few = let l = length-map (all_tasks script) (client_from (sizes_of (plan_of script) (id_plan_of script)) []) in let f = known.few in omega (arith, l, f)
 
-  no_word : (o : ℕ) → o < (plan_of script).operations → get_or (opened script).words (open_word (plan_of script) o) 0 ≡ 0
+  no_word : (o : ℕ) → o < (plan_of script).operations → get_or (opened script).words (open_index (plan_of script) o) 0 ≡ 0
   no_word o low = (let u = clients_begin.unused (plan_of script) in u.opens) o low
 
   abbrev views_set : List View

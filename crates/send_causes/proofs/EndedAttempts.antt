@@ -15,31 +15,31 @@ use Rattle.brpc_model.specs.Operations.{Turn}
 use Rattle.brpc_model.specs.Script.{script_of}
 use Rattle.brpc_model.specs.Stream.{stream}
 use Rattle.sock_message.specs.Asked.{Asked, name_of}
-use Rattle.sock_programs.specs.declared.task.Task.{Task}
-use Rattle.sock_programs.specs.Asides.{StoreAt, call_id, id_slot, id_first}
-use Rattle.sock_programs.specs.Programs.{Program, Aside}
-use Rattle.sock_programs.specs.Cores.{Core, SeatState}
-use Rattle.sock_programs.specs.Ticks.{Moment, quiet, ticked}
-use Rattle.sock_programs.specs.Tasks.{opens, plan_of, id_plan_of}
-use Rattle.sock_programs.specs.Scripts.{all_tasks, opened, set_up, IsRunWithCalls}
-use Rattle.sock_programs.specs.Told.{AreTasks, Made}
-use Rattle.sock_programs.specs.ToldCalls.{Accepted, Fixed, StandsOn, MayBeOn, GaveFault}
+use Rattle.seat_programs.specs.declared.task.Task.{Task}
+use Rattle.seat_programs.specs.Asides.{StoreAt, call_id, id_slot, id_first}
+use Rattle.seat_programs.specs.Programs.{Program, Aside}
+use Rattle.seat_programs.specs.Cores.{Core, SeatState}
+use Rattle.seat_programs.specs.Ticks.{Moment, quiet, ticked}
+use Rattle.seat_programs.specs.Tasks.{opens, plan_of, id_plan_of}
+use Rattle.seat_programs.specs.Scripts.{all_tasks, opened, set_up, IsRunWithCalls}
+use Rattle.seat_programs.specs.Told.{AreTasks, Made}
+use Rattle.seat_programs.specs.ToldCalls.{Accepted, Fixed, StandsOn, MayBeOn, GaveFault}
 use Rattle.sock_runs.specs.Sound.{first_step}
 use Rattle.sock_runs.proofs.LinkTicks.{RetriesGo}
 use Rattle.sock_runs.proofs.Whole.{Begins, AreFittingIn, closing_of, views_ended, ended_sound, end_rests}
-use Rattle.sock_causes.specs.Explains.{is_plain}
-use Rattle.sock_causes.specs.Kept.{IsSpoken}
-use Rattle.sock_causes.specs.PlainTasks.{told_tasks_of}
-use Rattle.sock_causes.specs.Stories.{In}
-use Rattle.sock_causes.proofs.Lifted.{up, made_up}
-use Rattle.sock_causes.proofs.Members.{in_contains, contains_in}
-use Rattle.sock_causes.proofs.Plain.{in_both}
-use Rattle.sock_causes.proofs.Tasks.{one_task}
-use Rattle.call_causes.specs.client_laws.specs.Openings.{all_seats}
-use Rattle.call_causes.specs.client_laws.proofs.Fresh.{opening_fresh}
+use Rattle.outcome_causes.specs.Explains.{is_plain}
+use Rattle.outcome_causes.specs.Kept.{IsSpoken}
+use Rattle.outcome_causes.specs.PlainTasks.{told_tasks_of}
+use Rattle.outcome_causes.specs.Stories.{In}
+use Rattle.outcome_causes.proofs.Lifted.{up, made_up}
+use Rattle.outcome_causes.proofs.Members.{in_contains, contains_in}
+use Rattle.outcome_causes.proofs.Plain.{in_both}
+use Rattle.outcome_causes.proofs.Tasks.{one_task}
+use Rattle.call_causes.specs.programs_allowed.specs.Openings.{all_seats}
+use Rattle.call_causes.specs.programs_allowed.proofs.Fresh.{opening_fresh}
 use Rattle.call_causes.specs.joint_runs.proofs.Runs.{AreMade, first_views}
 use Rattle.call_causes.specs.owed_calls.specs.Lives.{ClosesInRun}
-use Rattle.whole_runs.proofs.Gave.{gave_heard}
+use Rattle.run_theorems.proofs.Gave.{gave_heard}
 use Rattle.call_causes.specs.Lists.{shows_in}
 use Rattle.call_causes.specs.Posts.{Post}
 use Rattle.send_causes.specs.Counts.{AreLabelled}

@@ -8,31 +8,31 @@ use Rattle.sock_words.specs.Words.{socket_id, socket_id_slot, socket_id_version,
 use Rattle.sock_model.specs.declared.chain.Entry.{Entry}
 use Rattle.sock_model.specs.declared.chain.Heading.{Heading}
 use Rattle.sock_model.specs.declared.view.View.{View}
-use Rattle.sock_model.specs.Layout.{request_word}
+use Rattle.sock_model.specs.Layout.{request_index}
 use Rattle.sock_model.specs.Slots.{SlotLaw, live}
 use Rattle.sock_model.specs.References.{slot_facts}
-use Rattle.slot_laws.proofs.Clauses.{taken_for}
-use Rattle.slot_laws.proofs.Numbers.{life_le}
+use Rattle.slot_steps.proofs.Clauses.{taken_for}
+use Rattle.slot_steps.proofs.Numbers.{life_le}
 use Rattle.sock_message.specs.Asked.{Asked, name_of}
-use Rattle.sock_programs.specs.Asides.{id_slot, id_first}
-use Rattle.sock_programs.specs.Calls.{GiveBirth, StoreName, ClaimRequest}
-use Rattle.sock_programs.specs.Cores.{Core}
-use Rattle.sock_programs.specs.declared.task.Task.{Task}
-use Rattle.sock_programs.specs.Told.{AreTasks, Made}
-use Rattle.sock_programs.specs.ToldCalls.{Accepted}
+use Rattle.seat_programs.specs.Asides.{id_slot, id_first}
+use Rattle.seat_programs.specs.Calls.{CreateLife, StoreName, ClaimRequest}
+use Rattle.seat_programs.specs.Cores.{Core}
+use Rattle.seat_programs.specs.declared.task.Task.{Task}
+use Rattle.seat_programs.specs.Told.{AreTasks, Made}
+use Rattle.seat_programs.specs.ToldCalls.{Accepted}
 use Rattle.sock_runs.specs.GoesOn.{GoesOn, HasNothing}
 use Rattle.sock_runs.specs.Sound.{state, Sound, AllRest}
-use Rattle.sock_causes.specs.Causes.{Asks, WasGiven}
-use Rattle.sock_causes.specs.Explains.{step}
-use Rattle.sock_causes.specs.Kept.{is_of_send, IsSpoken, StaysUsed, Story}
-use Rattle.sock_causes.specs.Stories.{Event, In, trace_of}
-use Rattle.sock_causes.proofs.Delivered.{orders_of, AreQuiet, requests_used}
-use Rattle.sock_causes.proofs.Events.{event, cause_of}
-use Rattle.sock_causes.proofs.Final.{Final, at_there, at_within, idle, final}
-use Rattle.sock_causes.proofs.Lives.{World, task_of, tells_of, one_life, given_made}
-use Rattle.sock_causes.proofs.Members.{all_in, from_trace, to_trace}
-use Rattle.sock_causes.proofs.Messages.{in_of_at, each_made, message_of, number_of}
-use Rattle.sock_causes.proofs.Senders.{HasSent, all_sent}
+use Rattle.outcome_causes.specs.Causes.{Asks, WasGiven}
+use Rattle.outcome_causes.specs.Explains.{step}
+use Rattle.outcome_causes.specs.Kept.{is_of_send, IsSpoken, StaysUsed, Story}
+use Rattle.outcome_causes.specs.Stories.{Event, In, trace_of}
+use Rattle.outcome_causes.proofs.Delivered.{orders_of, AreQuiet, requests_used}
+use Rattle.outcome_causes.proofs.Events.{event, cause_of}
+use Rattle.outcome_causes.proofs.Final.{Final, at_there, at_within, idle, final}
+use Rattle.outcome_causes.proofs.Lives.{World, task_of, tells_of, one_life, given_made}
+use Rattle.outcome_causes.proofs.Members.{all_in, from_trace, to_trace}
+use Rattle.outcome_causes.proofs.Messages.{in_of_at, each_made, message_of, number_of}
+use Rattle.outcome_causes.proofs.Senders.{HasSent, all_sent}
 use Rattle.send_causes.specs.EndedCalls.{Store}
 use Rattle.send_causes.proofs.EndedTrails.{Trail}
 use Rattle.send_causes.proofs.EndedNames.{IsNamed, IsOver, EntryOver, StoredFor, NameLaw}
@@ -49,7 +49,7 @@ module _ (p : Plan) (clients : List (List Task)) (are : AreTasks p clients) (c :
   each_final i t a = final p clients are true c vs es lost sound story settled i t a
 
   -- a request that was found claimed was used
-  word_used : (q i u id found : ℕ) → In (event i u (ClaimRequest id q) found) es → found % 2 ≡ 1 → slice_index c.words (request_word p q) ≢ 0
+  word_used : (q i u id found : ℕ) → In (event i u (ClaimRequest id q) found) es → found % 2 ≡ 1 → slice_index c.words (request_index p q) ≢ 0
   word_used q i u id found m odd = let x : StaysUsed p c.words (step (ClaimRequest id q) found) = story.used (event i u (ClaimRequest id q) found) m in let y = (x odd).1 in λ e. omega (arith, y, e)
 
   world : World p clients c.outcomes lost (orders_of p c vs sound.lawful) es
@@ -74,10 +74,10 @@ module _ (p : Plan) (clients : List (List Task)) (are : AreTasks p clients) (c :
     -- a socket that was stored under a name is that of a life of the name
     named_made : (n s : ℕ) → IsNamed is_call seen es (n, s) → (k : ℕ) × Made clients c.outcomes n k (socket_id_slot s) (socket_id_version s)
     named_made n s (client, o, found, m) = let b = cause_of p clients lost es story.good (event client o (StoreName n (s + 1)) found) m in let f = b.cause.fits in let k : ℕ = f.0 in let i : ℕ = f.1 in let word : ℕ = f.2 in
-        let birth : In (event client o (GiveBirth i k) word) es = b.part (event client o (GiveBirth i k) word) (from_trace client o b.story (step (GiveBirth i k) word) f.4) in
-        let means = (cause_of p clients lost es story.good (event client o (GiveBirth i k) word) birth).cause.means in
+        let birth : In (event client o (CreateLife i k) word) es = b.part (event client o (CreateLife i k) word) (from_trace client o b.story (step (CreateLife i k) word) f.4) in
+        let means = (cause_of p clients lost es story.good (event client o (CreateLife i k) word) birth).cause.means in
         let t : Task = b.cause.task in let asks : Asks clients client t = b.cause.is in
-        let tells = tells_of p clients c.outcomes lost (orders_of p c vs sound.lawful) es world client t asks (step (GiveBirth i k) word) (subst (λ z. In (step (GiveBirth i k) word) (trace_of client z es)) (sym b.cause.numbered) (to_trace es (event client o (GiveBirth i k) word) birth)) in
+        let tells = tells_of p clients c.outcomes lost (orders_of p c vs sound.lawful) es world client t asks (step (CreateLife i k) word) (subst (λ z. In (step (CreateLife i k) word) (trace_of client z es)) (sym b.cause.numbered) (to_trace es (event client o (CreateLife i k) word) birth)) in
         let made : Made clients c.outcomes n k i (vref_version word) = record { client = client; task = t; is = task_of p clients c.outcomes lost (orders_of p c vs sound.lawful) es world client t asks; op = f.3; became = (world.final client t asks).became ∙ ap (λ (x : Option Outcome). Some x) tells } in
         let parts = parts_of s (vref_version word) i means.0 f.5 in
         (k, subst (λ z. Made clients c.outcomes n k (socket_id_slot s) z) parts.1 (subst (λ z. Made clients c.outcomes n k z (vref_version word)) parts.0 made))

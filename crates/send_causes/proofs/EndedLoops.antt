@@ -6,12 +6,12 @@ use Rattle.corr_core.specs.Word.{Parts, parts, posted_word, unlocked_word, code_
 use Rattle.corr_core.specs.Law.{LAST}
 use Rattle.id_runs.proofs.Keeps.{parts_packed}
 use Rattle.sock_message.specs.Asked.{Asked}
-use Rattle.sock_programs.specs.Asides.{FreeId, Taking, Bytes, Nothing, NoMore, AtEnd, Closed, Broken, PutCall, id_slot, id_first, call_id}
-use Rattle.sock_programs.specs.Heads.{Head, Exit, Sought, First, Version, Reading, Posts, Unlocks, Decides, Locks, Joins, Opens, Reads, Discards, Retry, Posting, WasGone, WasStale, WasCrowded, WasQueued, HasLocked, Unlocking, IsOpen, HasNext, Deciding, HasEnded, GoesOn, Locking, NotThere, Has, Ended}
-use Rattle.sock_programs.specs.Posts.{packed, advance_of, is_first, is_sought, is_stale, is_full, judged, posted, post_with, post, popped, end_id, ends_call, decide, decided, unlocked, locking}
-use Rattle.sock_programs.specs.Programs.{Program, Say, Aside, Round}
-use Rattle.sock_programs.specs.Readers.{answer, answered, responses, read_on, took, discarded, last_of, slot_in, version_in, has_response, ending_of, is_early, ended_by as how_ended, LIMIT}
-use Rattle.sock_programs.specs.Rounds.{round}
+use Rattle.seat_programs.specs.Asides.{FreeId, Taking, Bytes, Nothing, NoMore, AtEnd, Closed, Broken, PutCall, id_slot, id_first, call_id}
+use Rattle.seat_programs.specs.Heads.{Head, Exit, Sought, First, Version, Reading, Posts, Unlocks, Decides, Locks, Joins, Opens, Reads, Discards, Retry, Posting, WasGone, WasStale, WasCrowded, WasQueued, HasLocked, Unlocking, IsOpen, HasNext, Deciding, HasEnded, GoesOn, Locking, NotThere, Has, Ended}
+use Rattle.seat_programs.specs.Posts.{packed, advance_of, is_first, is_sought, is_stale, is_full, judged, posted, post_with, post, popped, end_id, ends_call, decide, decided, unlocked, locking}
+use Rattle.seat_programs.specs.Programs.{Program, Say, Aside, Round}
+use Rattle.seat_programs.specs.Readers.{answer, answered, responses, read_on, took, discarded, last_of, slot_in, version_in, has_response, ending_of, is_early, ended_by as how_ended, LIMIT}
+use Rattle.seat_programs.specs.Rounds.{round}
 use Rattle.label_runs.specs.Labels.{FindsLabel, LeavesLabel}
 use Rattle.label_runs.proofs.Loops.{not_true, not_equal, and_left, locked_parts}
 use Rattle.send_causes.proofs.EndedTrails.{Trail, lost, Stays, Follows}
@@ -113,7 +113,7 @@ module _ (is_call : Asked → Type 0) where
     unlocks_goes : Follows is_call t (round (Unlocks i from advance) k)
     unlocks_goes = λ found f. by found f (eqb found from) refl
       where
-        by : (found : ℕ) → FindsLabel is_call (Rattle.sock_programs.specs.Asides.UnlockId i from advance) found → (b : Bool) → eqb found from ≡ b
+        by : (found : ℕ) → FindsLabel is_call (Rattle.seat_programs.specs.Asides.UnlockId i from advance) found → (b : Bool) → eqb found from ≡ b
             → (u : Trail) × Stays t u × Follows is_call u (cond b (popped i (parts from).oldest after k) (Round (Unlocks i found advance) k))
         by found f true hit = (t, inl refl, pops f.1)
         by found f false miss = let same = f.2 (not_equal found from miss) in (

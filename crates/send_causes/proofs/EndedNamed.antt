@@ -12,35 +12,35 @@ use Rattle.brpc_model.specs.Items.{Item}
 use Rattle.brpc_model.specs.Operations.{Turn, clients}
 use Rattle.corr_core.specs.declared.marks.Plan.{Plan as IdPlan}
 use Rattle.sock_message.specs.Asked.{Asked}
-use Rattle.sock_programs.specs.Beside.{call_at}
-use Rattle.sock_programs.specs.Clients.{client_from, ending_of}
-use Rattle.sock_programs.specs.Cores.{Core, SeatState, resolved, next_step}
-use Rattle.sock_programs.specs.declared.task.Sizes.{Sizes}
-use Rattle.sock_programs.specs.declared.task.Task.{Task}
-use Rattle.sock_programs.specs.Programs.{Program, Rest}
-use Rattle.sock_programs.specs.Readers.{reader}
-use Rattle.sock_programs.specs.Ticks.{Moment, AreAnswered, quiet, ticked, run}
-use Rattle.sock_programs.specs.Tasks.{opens, calls, plan_of, id_plan_of}
-use Rattle.sock_programs.specs.Scripts.{sizes_of, programs, readers_from, all_programs, all_tasks, beginning, opened, set_up, IsRunWithCalls}
-use Rattle.sock_programs.specs.Told.{AreTasks}
+use Rattle.seat_programs.specs.Beside.{call_at}
+use Rattle.seat_programs.specs.Clients.{client_from, ending_of}
+use Rattle.seat_programs.specs.Cores.{Core, SeatState, resolved, next_step}
+use Rattle.seat_programs.specs.declared.task.Sizes.{Sizes}
+use Rattle.seat_programs.specs.declared.task.Task.{Task}
+use Rattle.seat_programs.specs.Programs.{Program, Rest}
+use Rattle.seat_programs.specs.Readers.{reader}
+use Rattle.seat_programs.specs.Ticks.{Moment, AreAnswered, quiet, ticked, run}
+use Rattle.seat_programs.specs.Tasks.{opens, calls, plan_of, id_plan_of}
+use Rattle.seat_programs.specs.Scripts.{sizes_of, programs, readers_from, all_programs, all_tasks, beginning, opened, set_up, IsRunWithCalls}
+use Rattle.seat_programs.specs.Told.{AreTasks}
 use Rattle.sock_runs.specs.Sound.{Sound, AreFitting, views_after, views_along}
 use Rattle.sock_runs.proofs.Along.{seat_rests}
 use Rattle.sock_runs.proofs.LinkTicks.{RetriesGo}
 use Rattle.sock_runs.proofs.Opening.{mapped, appended}
 use Rattle.sock_runs.proofs.Ticks.{sound_ticks}
 use Rattle.sock_runs.proofs.Whole.{Begins, AreFittingIn, closing_of, rested_of, views_played, views_closed, views_ended, set_up_answered, end_answered, set_up_sound, played_sound, closing_sound, closed_sound, rested_ahead, rested_idle}
-use Rattle.sock_causes.specs.Kept.{Story}
-use Rattle.sock_causes.specs.PlainTasks.{told_tasks_of}
-use Rattle.sock_causes.specs.Stories.{Event, In}
-use Rattle.sock_causes.proofs.Begin.{start_story}
-use Rattle.sock_causes.proofs.Final.{at_there}
-use Rattle.sock_causes.proofs.Plain.{in_left, in_right, in_both}
-use Rattle.sock_causes.proofs.Openings.{are_seats, all_explained}
-use Rattle.sock_causes.proofs.Runs.{IsStoried, set_up_over, ending_story, is_ending_story}
-use Rattle.sock_causes.proofs.Scripts.{own_from}
-use Rattle.sock_causes.proofs.Ticks.{elem_there, tick_story}
+use Rattle.outcome_causes.specs.Kept.{Story}
+use Rattle.outcome_causes.specs.PlainTasks.{told_tasks_of}
+use Rattle.outcome_causes.specs.Stories.{Event, In}
+use Rattle.outcome_causes.proofs.Begin.{start_story}
+use Rattle.outcome_causes.proofs.Final.{at_there}
+use Rattle.outcome_causes.proofs.Plain.{in_left, in_right, in_both}
+use Rattle.outcome_causes.proofs.Openings.{are_seats, all_explained}
+use Rattle.outcome_causes.proofs.Runs.{IsStoried, set_up_over, ending_story, is_ending_story}
+use Rattle.outcome_causes.proofs.Scripts.{own_from}
+use Rattle.outcome_causes.proofs.Ticks.{elem_there, tick_story}
 use Rattle.label_runs.proofs.Programs.{OpCalls}
-use Rattle.id_rule.specs.Lawful.{at_word}
+use Rattle.id_rule.specs.Lawful.{at_index}
 use Rattle.call_causes.specs.Lists.{shows_in}
 use Rattle.id_runs.proofs.Opening.{unused}
 use Rattle.send_causes.specs.Counts.{AreLabelled}
@@ -82,7 +82,7 @@ module _ (p : Plan) (q : IdPlan) (is_call : Asked → Type 0) (seen : List Store
     views = λ j v e. let b = bare j v e in (subst (AllByRecursion (Rattle.send_causes.proofs.EndedNames.ClaimOver is_call seen es)) (sym b.0) tt, subst (AllByRecursion (AllByRecursion (Rattle.send_causes.proofs.EndedNames.EntryOver is_call seen es))) (sym b.1) (tt, tt));
     trails = λ j v t ev et. subst (Rattle.send_causes.proofs.EndedNames.IsTrue is_call seen es v) (mapped (λ (x : Program). lost) xs j t et).2 (lost_true is_call seen es v);
     calls = λ k asked e. absurd (none_home q.slots k asked e);
-    ats = λ o low some_. absurd (some_ ((let u = unused q in u.rest) (at_word q o) (omega arith)));
+    ats = λ o low some_. absurd (some_ ((let u = unused q in u.rest) (at_index q o) (omega arith)));
     each = length-map xs (λ (x : Program). lost) ∙ sym (length-map xs (λ (x : Program). record { program = next_step (resolved [] x); hand = [] }));
     programs = λ j seat t e et. let x = mapped (λ (x : Program). record { program = next_step (resolved [] x); hand = [] }) xs j seat e in let r = resolves is_call lost [] x.0 tt (goes j x.0 x.1) in
         subst (λ (s : SeatState). Follows is_call t s.program) x.2 (subst (λ y. Follows is_call y (next_step (resolved [] x.0))) (⊎_elim (λ a. a) (λ a. a) r.1 ∙ (mapped (λ (x : Program). lost) xs j t et).2) r.2);

@@ -26,27 +26,27 @@ use Rattle.id_runs.specs.Held.{IdView, MayId}
 use Rattle.id_runs.specs.Goes.{FitsRetryId, FitsSock, IdGoesOn, SoundIds, IsFittingIds}
 use Rattle.id_runs.specs.Goes as goes
 use Rattle.id_runs.proofs.Steps.{finds_ids}
-use Rattle.sock_programs.specs.Asides.{Step, Found, ClaimId, PutCall, MakeId, StoreCall, LoadCall, StoreAt, LoadAt, LoadIdWord, LockId, PostId, UnlockId, EndId, FreeId, TakeCall, TakeBytes, Taking, Bytes, Nothing, NoMore, AtEnd, Closed, Broken, id_slot, id_first}
+use Rattle.seat_programs.specs.Asides.{Step, Found, ClaimId, PutCall, MakeId, StoreCall, LoadCall, StoreAt, LoadAt, LoadIdWord, LockId, PostId, UnlockId, EndId, FreeId, TakeCall, TakeBytes, Taking, Bytes, Nothing, NoMore, AtEnd, Closed, Broken, id_slot, id_first}
 use Rattle.sock_message.specs.Asked.{Asked, name_of}
-use Rattle.sock_programs.specs.Beside.{found_in, calls_after, more_given}
-use Rattle.sock_programs.specs.Calls.{Call, StoreName, LoadName, FindLink, ClaimRequest, PutMessage, Unconnect, SwapHead}
-use Rattle.sock_programs.specs.Heads.{Retry}
-use Rattle.sock_programs.specs.Programs.{Program, Do, Say, Sent, Rest, TakeMessage, TakeHome, PutHome, PutBytes, AskReady, Write, Aside, Round, Keep, Retries}
-use Rattle.sock_programs.specs.Cores.{Calls, Core, SeatState, word_of, found_at, words_after, word_after, homes_after, hand_after, lies_at, first_of, others_of, link_place, resolved, waiting_at, next_step, with_seat, stepped}
-use Rattle.sock_programs.specs.declared.task.Task.{Task}
-use Rattle.sock_programs.specs.Ticks.{Moment, IsAnswered, fed, with_places, onto_first, taken, ticked}
+use Rattle.seat_programs.specs.Beside.{found_in, calls_after, more_given}
+use Rattle.seat_programs.specs.Calls.{Call, StoreName, LoadName, FindLink, ClaimRequest, PutMessage, Unconnect, SwapHead}
+use Rattle.seat_programs.specs.Heads.{Retry}
+use Rattle.seat_programs.specs.Programs.{Program, Do, Say, Sent, Rest, TakeMessage, TakeHome, PutHome, PutBytes, AskReady, Write, Aside, Round, Keep, Retries}
+use Rattle.seat_programs.specs.Cores.{Calls, Core, SeatState, word_of, found_at, words_after, word_after, homes_after, hand_after, lies_at, first_of, others_of, link_place, resolved, waiting_at, next_step, with_seat, stepped}
+use Rattle.seat_programs.specs.declared.task.Task.{Task}
+use Rattle.seat_programs.specs.Ticks.{Moment, IsAnswered, fed, with_places, onto_first, taken, ticked}
 use Rattle.sock_runs.specs.May.{May}
 use Rattle.sock_runs.specs.Rows.{row, hand_at, new_claim, filled_claim, ready_claim, by_claim, exchanged, took_message, link_away, link_home_again, took_bytes}
 use Rattle.sock_runs.specs.Sound.{Sound, first_step, views_after}
 use Rattle.sock_runs.proofs.Cases.{with_rights, right_rights, put_rights}
-use Rattle.sock_causes.specs.Causes.{WasGiven}
-use Rattle.sock_causes.specs.Kept.{Story}
-use Rattle.sock_causes.specs.Stories.{Event, In, last_name}
-use Rattle.sock_causes.proofs.Cases.{tick_cases}
-use Rattle.sock_causes.proofs.Events.{event, marked_given, given_by, last_some}
-use Rattle.sock_causes.proofs.Means.{held_given}
-use Rattle.sock_causes.proofs.Tests.{split}
-use Rattle.sock_causes.proofs.Ticks.{elem_there}
+use Rattle.outcome_causes.specs.Causes.{WasGiven}
+use Rattle.outcome_causes.specs.Kept.{Story}
+use Rattle.outcome_causes.specs.Stories.{Event, In, last_name}
+use Rattle.outcome_causes.proofs.Cases.{tick_cases}
+use Rattle.outcome_causes.proofs.Events.{event, marked_given, given_by, last_some}
+use Rattle.outcome_causes.proofs.Means.{held_given}
+use Rattle.outcome_causes.proofs.Tests.{split}
+use Rattle.outcome_causes.proofs.Ticks.{elem_there}
 use Rattle.label_runs.specs.Labels.{FindsLabel}
 use Rattle.send_causes.specs.EndedCalls.{Load, loads_by, loaded_with, loaded_at, Store, stores_by, stored_at}
 use Rattle.send_causes.proofs.Words.{finds_label, makes_new}
@@ -129,7 +129,7 @@ module _ (is_call : Asked → Type 0) (seen : List Store) (es : List Event) wher
 
   -- so of each that is there
   abbrev pub AtsFor : Calls → Type 0
-  AtsFor a = (o : ℕ) → o < a.plan.operations → std.slice_index a.words (ids.at_word a.plan o) ≢ 0 → StoredFor o (std.slice_index a.words (ids.at_word a.plan o))
+  AtsFor a = (o : ℕ) → o < a.plan.operations → std.slice_index a.words (ids.at_index a.plan o) ≢ 0 → StoredFor o (std.slice_index a.words (ids.at_index a.plan o))
 
   abbrev pub ClaimOver : Claim → Type 0
   ClaimOver x = IsOver x.heading x.link
@@ -311,7 +311,7 @@ module _ (p : Plan) (q : IdPlan) (narrow : q.slots ≤ 65536) (is_call : Asked �
         )
 
     ats_here : AtsFor is_call seen fs c.calls
-    ats_here o low some_ = for_up is_call seen es fs up o (std.slice_index c.calls.words (ids.at_word c.calls.plan o)) (law.ats o low some_)
+    ats_here o low some_ = for_up is_call seen es fs up o (std.slice_index c.calls.words (ids.at_index c.calls.plan o)) (law.ats o low some_)
 
     true_here : IsTrue is_call seen es v t
     true_here = law.trails i v t at_view at_trail
@@ -382,27 +382,27 @@ module _ (p : Plan) (q : IdPlan) (narrow : q.slots ≤ 65536) (is_call : Asked �
       true_aside step answer after found is may x shown g = stays_true is_call seen es v t x g true_here
 
       at_same : (a : Calls) → a.plan ≡ c.calls.plan → a.words ≡ c.calls.words → AtsFor is_call seen fs a
-      at_same a plan words o low some_ = let same : std.slice_index a.words (ids.at_word a.plan o) ≡ std.slice_index c.calls.words (ids.at_word c.calls.plan o) = ap (λ w. std.slice_index w (ids.at_word a.plan o)) words ∙ ap (λ (r : IdPlan). std.slice_index c.calls.words (ids.at_word r o)) plan in
+      at_same a plan words o low some_ = let same : std.slice_index a.words (ids.at_index a.plan o) ≡ std.slice_index c.calls.words (ids.at_index c.calls.plan o) = ap (λ w. std.slice_index w (ids.at_index a.plan o)) words ∙ ap (λ (r : IdPlan). std.slice_index c.calls.words (ids.at_index r o)) plan in
           subst (StoredFor is_call seen fs o) (sym same) (ats_here o (subst (λ (r : IdPlan). o < r.operations) plan low) (λ z. some_ (same ∙ z)))
 
-      at_one : (x w o : ℕ) → ids.at_word c.calls.plan o ≢ x → o < c.calls.plan.operations → get_or (set c.calls.words x w) (ids.at_word c.calls.plan o) 0 ≢ 0 → StoredFor is_call seen fs o (get_or (set c.calls.words x w) (ids.at_word c.calls.plan o) 0)
-      at_one x w o far low some_ = let same : get_or (set c.calls.words x w) (ids.at_word c.calls.plan o) 0 ≡ get_or c.calls.words (ids.at_word c.calls.plan o) 0 = get_or-set_other c.calls.words x (ids.at_word c.calls.plan o) w 0 far in
+      at_one : (x w o : ℕ) → ids.at_index c.calls.plan o ≢ x → o < c.calls.plan.operations → get_or (set c.calls.words x w) (ids.at_index c.calls.plan o) 0 ≢ 0 → StoredFor is_call seen fs o (get_or (set c.calls.words x w) (ids.at_index c.calls.plan o) 0)
+      at_one x w o far low some_ = let same : get_or (set c.calls.words x w) (ids.at_index c.calls.plan o) 0 ≡ get_or c.calls.words (ids.at_index c.calls.plan o) 0 = get_or-set_other c.calls.words x (ids.at_index c.calls.plan o) w 0 far in
           subst (StoredFor is_call seen fs o) (sym same) (ats_here o low (λ z. some_ (same ∙ z)))
 
-      at_else : (x w : ℕ) → ((o : ℕ) → o < c.calls.plan.operations → ids.at_word c.calls.plan o ≢ x) → AtsFor is_call seen fs (record c.calls { words = set c.calls.words x w })
+      at_else : (x w : ℕ) → ((o : ℕ) → o < c.calls.plan.operations → ids.at_index c.calls.plan o ≢ x) → AtsFor is_call seen fs (record c.calls { words = set c.calls.words x w })
       at_else x w far o low some_ = at_one x w o (far o low) low some_
 
       low_slot : (k : ℕ) → k < q.slots → k < c.calls.plan.slots
       low_slot k low = subst (λ (r : IdPlan). k < r.slots) (sym real_ids.plan) low
 
-      beside_id : (k w : ℕ) → k < q.slots → AtsFor is_call seen fs (record c.calls { words = set c.calls.words (ids.id_word k) w })
-      beside_id k w low = at_else (ids.id_word k) w (λ o _. (let l = low_slot k low in λ e. omega (arith, l, e)))
+      beside_id : (k w : ℕ) → k < q.slots → AtsFor is_call seen fs (record c.calls { words = set c.calls.words (ids.id_index k) w })
+      beside_id k w low = at_else (ids.id_index k) w (λ o _. (let l = low_slot k low in λ e. omega (arith, l, e)))
 
-      at_stored : (o w : ℕ) → IsStored is_call seen es (o, w) → IsOwnStore is_call t o w → AtsFor is_call seen fs (record c.calls { words = set c.calls.words (ids.at_word c.calls.plan o) w })
+      at_stored : (o w : ℕ) → IsStored is_call seen es (o, w) → IsOwnStore is_call t o w → AtsFor is_call seen fs (record c.calls { words = set c.calls.words (ids.at_index c.calls.plan o) w })
       at_stored o w shown own n low some_ = dite (ℕ_discrete o n)
-          (λ here. subst (λ z. get_or (set c.calls.words (ids.at_word c.calls.plan o) w) (ids.at_word c.calls.plan z) 0 ≢ 0 → StoredFor is_call seen fs z (get_or (set c.calls.words (ids.at_word c.calls.plan o) w) (ids.at_word c.calls.plan z) 0)) here
-          (λ more. ⊎_elim (λ e. subst (StoredFor is_call seen fs o) (sym e) now) (λ e. subst (StoredFor is_call seen fs o) (sym e) (ats_here o (subst (λ z. z < c.calls.plan.operations) (sym here) low) (λ z. more (e ∙ z)))) (set_or c.calls.words (ids.at_word c.calls.plan o) w)) some_)
-          (λ far. at_one (ids.at_word c.calls.plan o) w n (λ e. far (omega (arith, e))) low some_)
+          (λ here. subst (λ z. get_or (set c.calls.words (ids.at_index c.calls.plan o) w) (ids.at_index c.calls.plan z) 0 ≢ 0 → StoredFor is_call seen fs z (get_or (set c.calls.words (ids.at_index c.calls.plan o) w) (ids.at_index c.calls.plan z) 0)) here
+          (λ more. ⊎_elim (λ e. subst (StoredFor is_call seen fs o) (sym e) now) (λ e. subst (StoredFor is_call seen fs o) (sym e) (ats_here o (subst (λ z. z < c.calls.plan.operations) (sym here) low) (λ z. more (e ∙ z)))) (set_or c.calls.words (ids.at_index c.calls.plan o) w)) some_)
+          (λ far. at_one (ids.at_index c.calls.plan o) w n (λ e. far (omega (arith, e))) low some_)
         where
           now : StoredFor is_call seen fs o w
           now = for_up is_call seen es fs up o w record {
@@ -423,10 +423,10 @@ module _ (p : Plan) (q : IdPlan) (narrow : q.slots ≤ 65536) (is_call : Asked �
           }
 
       pub ats_behind : (step : Step) (after : Program) (found : Found step) (x : Trail) → MayId p q u step → IsShown step → GoesAside is_call t step after found x → AtsFor is_call seen fs (calls_after step found c.calls)
-      ats_behind (ClaimId k) after found x may shown g = at_else (ids.tag_word k) 1 (λ o _. λ e. omega (arith, e))
+      ats_behind (ClaimId k) after found x may shown g = at_else (ids.tag_index k) 1 (λ o _. λ e. omega (arith, e))
       ats_behind (PutCall k asked) after found x may shown g = at_same (calls_after (PutCall k asked) found c.calls) refl refl
       ats_behind (MakeId k range) after found x may shown g = beside_id k _ may.0
-      ats_behind (StoreCall o id) after found x may shown g = at_else (ids.call_word c.calls.plan o) id (λ n _. λ e. omega (arith, e))
+      ats_behind (StoreCall o id) after found x may shown g = at_else (ids.call_index c.calls.plan o) id (λ n _. λ e. omega (arith, e))
       ats_behind (LoadCall o) after found x may shown g = ats_here
       ats_behind (StoreAt o w) after found x may shown g = at_stored o w shown g.1
       ats_behind (LoadAt o) after found x may shown g = ats_here
@@ -435,7 +435,7 @@ module _ (p : Plan) (q : IdPlan) (narrow : q.slots ≤ 65536) (is_call : Asked �
       ats_behind (PostId k from e) after found x may shown g = beside_id k _ may.0
       ats_behind (UnlockId k from advance) after found x may shown g = beside_id k _ may.0
       ats_behind (EndId k) after found x may shown g = beside_id k _ may.0
-      ats_behind (FreeId k) after found x may shown g = at_else (ids.tag_word k) 0 (λ o _. λ e. omega (arith, e))
+      ats_behind (FreeId k) after found x may shown g = at_else (ids.tag_index k) 0 (λ o _. λ e. omega (arith, e))
       ats_behind (TakeCall k) after found x may shown g = at_same (calls_after (TakeCall k) found c.calls) refl refl
       ats_behind (TakeBytes l room) (after) found x may shown g = given_more found
         where
@@ -470,7 +470,7 @@ module _ (p : Plan) (q : IdPlan) (narrow : q.slots ≤ 65536) (is_call : Asked �
     may_as seat at x is = let u = view_of seat at in subst (IdGoesOn p q u.0) is (ids_first p q narrow u.0 seat.program (real_ids.seats m.seat seat u.0 at u.1))
 
     unchanged : After c vs
-    unchanged = (ts, record { views = λ j v e. view_up is_call seen es fs up v (law.views j v e); trails = λ j v t a b. true_up is_call seen es fs up v t (law.trails j v t a b); calls = law.calls; ats = λ o low some_. for_up is_call seen es fs up o (std.slice_index c.calls.words (ids.at_word c.calls.plan o)) (law.ats o low some_); each = law.each; programs = law.programs })
+    unchanged = (ts, record { views = λ j v e. view_up is_call seen es fs up v (law.views j v e); trails = λ j v t a b. true_up is_call seen es fs up v t (law.trails j v t a b); calls = law.calls; ats = λ o low some_. for_up is_call seen es fs up o (std.slice_index c.calls.words (ids.at_index c.calls.plan o)) (law.ats o low some_); each = law.each; programs = law.programs })
 
     shown_of : (seat : SeatState) (v : View) (t : Trail) (at : get_elem? c.seats m.seat ≡ some seat) (here : get_elem? vs m.seat ≡ some v) (trail : get_elem? ts m.seat ≡ some t) (u : IdView) (at_u : get_elem? us m.seat ≡ some u) (s : Step) (next : Found s → Program) → first_step seat.program ≡ Aside s next
         → IsShown m.seat seat v t at here trail u at_u s
@@ -504,8 +504,8 @@ module _ (p : Plan) (q : IdPlan) (narrow : q.slots ≤ 65536) (is_call : Asked �
             → In l (elim o as (λ o. List Load) [ none ↦ [] | some found ↦ loads_by m.seat step found ]) → l.word ≢ 0 → StoredFor is_call seen es l.operation l.word
         of_step (LoadAt n) next seat at is none e z some_ = absurd z
         of_step (LoadAt n) next seat at is (some found) e (inl same) some_ = subst (λ (x : Load). x.word ≢ 0 → StoredFor is_call seen es x.operation x.word) (sym same)
-            (λ more. subst (StoredFor is_call seen es n) (some-injective (std.slice_index c.calls.words (ids.at_word c.calls.plan n)) found e) (law.ats n (subst (λ (r : IdPlan). n < r.operations) (sym real_ids.plan) (may_as seat at (Aside (LoadAt n) next) is).0)
-            (λ z. more (sym (some-injective (std.slice_index c.calls.words (ids.at_word c.calls.plan n)) found e) ∙ z)))) some_
+            (λ more. subst (StoredFor is_call seen es n) (some-injective (std.slice_index c.calls.words (ids.at_index c.calls.plan n)) found e) (law.ats n (subst (λ (r : IdPlan). n < r.operations) (sym real_ids.plan) (may_as seat at (Aside (LoadAt n) next) is).0)
+            (λ z. more (sym (some-injective (std.slice_index c.calls.words (ids.at_index c.calls.plan n)) found e) ∙ z)))) some_
         of_step (LoadAt n) next seat at is (some found) e (inr z) some_ = absurd z
         of_step _ next seat at is none e z some_ = absurd z
         of_step _ next seat at is (some found) e z some_ = absurd z

@@ -11,26 +11,26 @@ use Rattle.brpc_model.specs.Items.{Item}
 use Rattle.brpc_model.specs.Operations.{Turn}
 use Rattle.corr_core.specs.declared.marks.Plan.{Plan as IdPlan}
 use Rattle.sock_message.specs.Asked.{Asked}
-use Rattle.sock_programs.specs.Beside.{call_at}
-use Rattle.sock_programs.specs.Clients.{client_from, ending_of}
-use Rattle.sock_programs.specs.Cores.{Core, SeatState, resolved, next_step}
-use Rattle.sock_programs.specs.declared.task.Sizes.{Sizes}
-use Rattle.sock_programs.specs.declared.task.Task.{Task}
-use Rattle.sock_programs.specs.Programs.{Program, Do, Say, Sent, Rest, TakeMessage, TakeHome, PutHome, PutBytes, AskReady, Write, Aside, Round, Keep, Retries}
-use Rattle.sock_programs.specs.Readers.{reader}
-use Rattle.sock_programs.specs.Ticks.{Moment, AreAnswered, quiet, ticked, run}
-use Rattle.sock_programs.specs.Tasks.{opens, calls, plan_of, id_plan_of}
-use Rattle.sock_programs.specs.Scripts.{sizes_of, programs, readers_from, all_programs, all_tasks, beginning, opened, set_up, played, IsRunWithCalls}
+use Rattle.seat_programs.specs.Beside.{call_at}
+use Rattle.seat_programs.specs.Clients.{client_from, ending_of}
+use Rattle.seat_programs.specs.Cores.{Core, SeatState, resolved, next_step}
+use Rattle.seat_programs.specs.declared.task.Sizes.{Sizes}
+use Rattle.seat_programs.specs.declared.task.Task.{Task}
+use Rattle.seat_programs.specs.Programs.{Program, Do, Say, Sent, Rest, TakeMessage, TakeHome, PutHome, PutBytes, AskReady, Write, Aside, Round, Keep, Retries}
+use Rattle.seat_programs.specs.Readers.{reader}
+use Rattle.seat_programs.specs.Ticks.{Moment, AreAnswered, quiet, ticked, run}
+use Rattle.seat_programs.specs.Tasks.{opens, calls, plan_of, id_plan_of}
+use Rattle.seat_programs.specs.Scripts.{sizes_of, programs, readers_from, all_programs, all_tasks, beginning, opened, set_up, played, IsRunWithCalls}
 use Rattle.sock_runs.specs.Sound.{Sound, AreFitting, views_after, views_along}
 use Rattle.sock_runs.proofs.LinkTicks.{RetriesGo}
 use Rattle.sock_runs.proofs.Opening.{mapped, appended}
 use Rattle.sock_runs.proofs.Ticks.{sound_ticks}
 use Rattle.sock_runs.proofs.Whole.{closing_of, views_played, views_closed, set_up_answered, end_answered, set_up_sound, closing_sound, closed_sound}
-use Rattle.sock_causes.specs.Stories.{In}
-use Rattle.sock_causes.proofs.Final.{at_there}
-use Rattle.sock_causes.proofs.Members.{contains_in}
-use Rattle.sock_causes.proofs.Plain.{in_left, in_right, in_both}
-use Rattle.sock_causes.proofs.Ticks.{elem_there}
+use Rattle.outcome_causes.specs.Stories.{In}
+use Rattle.outcome_causes.proofs.Final.{at_there}
+use Rattle.outcome_causes.proofs.Members.{contains_in}
+use Rattle.outcome_causes.proofs.Plain.{in_left, in_right, in_both}
+use Rattle.outcome_causes.proofs.Ticks.{elem_there}
 use Rattle.call_causes.specs.joint_runs.proofs.Runs.{AreMade, first_views}
 use Rattle.label_runs.specs.Labels.{Trial, Idle, Labels}
 use Rattle.label_runs.proofs.Programs.{OpCalls, client_goes, ending_goes, reader_goes}

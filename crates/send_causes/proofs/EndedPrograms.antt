@@ -13,21 +13,21 @@ use Rattle.sock_model.specs.declared.chain.Heading.{Heading}
 use Rattle.sock_model.specs.Entries.{generation_of, slot_of, ticket_of}
 use Rattle.sock_model.specs.Memory.{IDLE, UNCONNECTED}
 use Rattle.corr_core.specs.Word.{parts, error_of}
-use Rattle.sock_programs.specs.declared.task.Op.{Op}
-use Rattle.sock_programs.specs.declared.task.Op.TheVariants as ops
-use Rattle.sock_programs.specs.declared.task.Sizes.{Sizes}
-use Rattle.sock_programs.specs.declared.task.Task.{Task}
-use Rattle.sock_programs.specs.Asides.{StoreAt, call_id, id_slot, id_first}
-use Rattle.sock_programs.specs.Attempts.{claims_from, heading_for, attempt, begin_call, claim_id, call, tried_again, retry_locked, retry, expire_outcome, expire, join}
-use Rattle.sock_programs.specs.Calls.{Call, SubRef, AddRef, StoreCode, LoadLink, TakeLink, FinishLink, PutLink, FreeSlot, LoadName, FreeRequest, ReadNext, FindLink, LookWord, TurnNext, Connect}
-use Rattle.sock_programs.specs.Clients.{HeldLife, held_under, without_name, give_back, drop_of, operation, client_from, ending_of}
-use Rattle.sock_programs.specs.Heads.{First, Unlocks, Locks, Joins, Reads, Discards, Posting, WasGone, WasStale, WasCrowded, WasQueued, HasLocked, Unlocking, IsOpen, HasNext, Locking, NotThere, Has, Ended}
-use Rattle.sock_programs.specs.Parts.{part}
-use Rattle.sock_programs.specs.Posts.{post_with, posted, post, decided}
-use Rattle.sock_programs.specs.Programs.{Program, Do, Say, Sent, Rest, TakeMessage, TakeHome, PutBytes, Write, Aside, Round, NO_SOCKET, LAST_VERSION, LAST_GENERATION, recycle, release, address, reach, set_failed, make_socket, open_from, fail_outcome, fail}
-use Rattle.sock_programs.specs.Readers.{kept_for, ends_with, posted_last, post_each, thrown_away, read, reader, LIMIT}
-use Rattle.sock_programs.specs.Sends.{freed as given_back, one_more, passed_telling, tell_drop, placed, dropped, put_answered, ready_answered, block, first_put, accept, write_link, heading_of, claim_from, start, send}
-use Rattle.sock_programs.specs.Writings.{Holder, Writing, Puts, Waits, Empties, Walks}
+use Rattle.seat_programs.specs.declared.task.Op.{Op}
+use Rattle.seat_programs.specs.declared.task.Op.TheVariants as ops
+use Rattle.seat_programs.specs.declared.task.Sizes.{Sizes}
+use Rattle.seat_programs.specs.declared.task.Task.{Task}
+use Rattle.seat_programs.specs.Asides.{StoreAt, call_id, id_slot, id_first}
+use Rattle.seat_programs.specs.Attempts.{claims_from, heading_for, attempt, begin_call, claim_id, call, tried_again, retry_locked, retry, expire_outcome, expire, join}
+use Rattle.seat_programs.specs.Calls.{Call, SubRef, AddRef, StoreCode, LoadLink, TakeLink, FinishLink, PutLink, FreeSlot, LoadName, FreeRequest, ReadNext, FindLink, LookWord, ReverseNext, Connect}
+use Rattle.seat_programs.specs.Clients.{HeldLife, held_under, without_name, give_back, drop_of, operation, client_from, ending_of}
+use Rattle.seat_programs.specs.Heads.{First, Unlocks, Locks, Joins, Reads, Discards, Posting, WasGone, WasStale, WasCrowded, WasQueued, HasLocked, Unlocking, IsOpen, HasNext, Locking, NotThere, Has, Ended}
+use Rattle.seat_programs.specs.Parts.{part}
+use Rattle.seat_programs.specs.Posts.{post_with, posted, post, decided}
+use Rattle.seat_programs.specs.Programs.{Program, Do, Say, Sent, Rest, TakeMessage, TakeHome, PutBytes, Write, Aside, Round, NO_SOCKET, LAST_VERSION, LAST_GENERATION, recycle, release, address, reach, set_failed, make_socket, open_from, fail_outcome, fail}
+use Rattle.seat_programs.specs.Readers.{kept_for, ends_with, posted_last, post_each, thrown_away, read, reader, LIMIT}
+use Rattle.seat_programs.specs.Sends.{freed as given_back, one_more, passed_telling, tell_drop, placed, dropped, put_answered, ready_answered, block, first_put, accept, write_link, heading_of, claim_from, start, send}
+use Rattle.seat_programs.specs.Writings.{Holder, Writing, Puts, Waits, Empties, Walks}
 use Rattle.label_runs.specs.Labels.{LeavesLabel, LeavesLock, LeavesUnlock}
 use Rattle.label_runs.proofs.Loops.{id_back, not_equal}
 use Rattle.label_runs.proofs.Programs.{OpCalls}
@@ -113,7 +113,7 @@ module _ (is_call : Asked → Type 0) where
       lost,
       inr refl,
       way is_call lost (found == UNCONNECTED) (Write (Walks h top at after) then_)
-          (Do (TurnNext (slot_of at) after) (λ _. cond (found == h.last) (TakeMessage (slot_of at) (λ heading bytes. Write (Puts (record h { last = top }) at heading bytes 0 false) then_)) (Write (Walks h top found at) then_)))
+          (Do (ReverseNext (slot_of at) after) (λ _. cond (found == h.last) (TakeMessage (slot_of at) (λ heading bytes. Write (Puts (record h { last = top }) at heading bytes 0 false) then_)) (Write (Walks h top found at) then_)))
           (λ _. g)
           (λ _. (tt, λ _ _. (lost, inl refl, way is_call lost (found == h.last) (TakeMessage (slot_of at) (λ heading bytes. Write (Puts (record h { last = top }) at heading bytes 0 false) then_)) (Write (Walks h top found at) then_) (λ _. λ heading bytes. g) (λ _. g)))),
     ),
@@ -135,7 +135,7 @@ module _ (is_call : Asked → Type 0) where
 
   -- ## Messages
 
-  accept_goes : (t : Trail) (id q g : ℕ) (heading : Heading) (bytes : List ℕ) (after : Program) → MayAttempt is_call t (Rattle.sock_programs.specs.Calls.PutMessage q heading bytes) → Follows is_call lost after → Follows is_call t (accept id q g heading bytes after)
+  accept_goes : (t : Trail) (id q g : ℕ) (heading : Heading) (bytes : List ℕ) (after : Program) → MayAttempt is_call t (Rattle.seat_programs.specs.Calls.PutMessage q heading bytes) → Follows is_call lost after → Follows is_call t (accept id q g heading bytes after)
   accept_goes t id q g heading bytes after may goes = (
     may,
     λ _ _. (
@@ -182,18 +182,18 @@ module _ (is_call : Asked → Type 0) where
     full_goes : (t : Trail) → Follows is_call t (post id 3001 n (release (socket_id_slot socket) (λ _. next)))
     full_goes t = post_goes is_call t id 3001 n (release (socket_id_slot socket) (λ _. next)) (release_goes lost (socket_id_slot socket) (λ _. next) (λ _. goes))
 
-    claims_goes : (k more q : ℕ) (heading : Heading) (bytes : List ℕ) → MayAttempt is_call (has_claim k) (Rattle.sock_programs.specs.Calls.PutMessage q heading bytes)
+    claims_goes : (k more q : ℕ) (heading : Heading) (bytes : List ℕ) → MayAttempt is_call (has_claim k) (Rattle.seat_programs.specs.Calls.PutMessage q heading bytes)
         → Follows is_call (sending asked id n socket k) (claims_from more q socket heading bytes (post id 3001 n (release (socket_id_slot socket) (λ _. next))) (release (socket_id_slot socket) (λ _. next)))
     claims_goes k zero q heading bytes may = full_goes (sending asked id n socket k)
     claims_goes k (suc more) q heading bytes may = (tt, λ found _. by (claims_goes k more (q + 1) heading bytes may) found (found % 2 == 0) refl)
       where
         by : Follows is_call (sending asked id n socket k) (claims_from more (q + 1) socket heading bytes (post id 3001 n (release (socket_id_slot socket) (λ _. next))) (release (socket_id_slot socket) (λ _. next)))
-            → (found : ℕ) (b : Bool) → (found % 2 == 0) ≡ b → (u : Trail) × Rattle.send_causes.proofs.EndedTrails.GoesDo (sending asked id n socket k) (Rattle.sock_programs.specs.Calls.ClaimRequest socket q) found u
+            → (found : ℕ) (b : Bool) → (found % 2 == 0) ≡ b → (u : Trail) × Rattle.send_causes.proofs.EndedTrails.GoesDo (sending asked id n socket k) (Rattle.seat_programs.specs.Calls.ClaimRequest socket q) found u
             × Follows is_call u (cond b (accept socket q (found / 2) heading bytes (release (socket_id_slot socket) (λ _. next))) (claims_from more (q + 1) socket heading bytes (post id 3001 n (release (socket_id_slot socket) (λ _. next))) (release (socket_id_slot socket) (λ _. next))))
         by later found true free = (has_claim k, inr (inr (eqb-true (found % 2) 0 free, name_of asked n, refl, refl)), accept_goes (has_claim k) socket q (found / 2) heading bytes (release (socket_id_slot socket) (λ _. next)) may (release_goes lost (socket_id_slot socket) (λ _. next) (λ _. goes)))
         by later found false used = (sending asked id n socket k, inl refl, later)
 
-    looks_goes : (k : ℕ) (heading : Heading) (bytes : List ℕ) → MayAttempt is_call (has_claim k) (Rattle.sock_programs.specs.Calls.PutMessage 0 heading bytes) → Follows is_call (sending asked id n socket k) (Do (LookWord socket) (λ found. cond (eqb (vref_version found % 2) 0)
+    looks_goes : (k : ℕ) (heading : Heading) (bytes : List ℕ) → MayAttempt is_call (has_claim k) (Rattle.seat_programs.specs.Calls.PutMessage 0 heading bytes) → Follows is_call (sending asked id n socket k) (Do (LookWord socket) (λ found. cond (eqb (vref_version found % 2) 0)
         (claims_from requests 0 socket heading bytes (post id 3001 n (release (socket_id_slot socket) (λ _. next))) (release (socket_id_slot socket) (λ _. next))) (post id 1009 n (release (socket_id_slot socket) (λ _. next)))))
     looks_goes k heading bytes may = (
       tt,
@@ -396,7 +396,7 @@ module _ (is_call : Asked → Type 0) where
   ends_goes id e w [] next first goes = decide_goes is_call lost id w e (decided id next) first (decided_goes is_call id next goes)
   ends_goes id e w (f ∷ fs) next first goes = answer_goes is_call lost f (id_first id) next goes
 
-  last_goes : (id e : ℕ) (kept : List Frame) (next : Program) → Follows is_call lost next → (exit : Posting) → LeavesLabel (Rattle.sock_programs.specs.Heads.Posts id e 0) exit → Follows is_call lost (posted_last id e kept next exit)
+  last_goes : (id e : ℕ) (kept : List Frame) (next : Program) → Follows is_call lost next → (exit : Posting) → LeavesLabel (Rattle.seat_programs.specs.Heads.Posts id e 0) exit → Follows is_call lost (posted_last id e kept next exit)
   last_goes id e kept next goes (HasLocked w) l = ends_goes id e w (kept_for id (parts w).range kept) next l goes
   last_goes id e kept next goes WasGone l = goes
   last_goes id e kept next goes WasStale l = goes

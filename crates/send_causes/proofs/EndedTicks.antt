@@ -13,20 +13,20 @@ use Rattle.sock_io.specs.declared.link.Put.{Put}
 use Rattle.sock_io.specs.declared.link.Ready.{Ready}
 use Rattle.sock_steps.proofs.Quiet.{either_way}
 use Rattle.corr_core.specs.Word.{parts}
-use Rattle.id_rule.specs.Lawful.{at_word}
+use Rattle.id_rule.specs.Lawful.{at_index}
 use Rattle.id_runs.specs.Goes as goes
-use Rattle.sock_programs.specs.Asides.{Step, Found, LoadAt, PostId, TakeBytes, Taking, call_id}
-use Rattle.sock_programs.specs.Beside.{at_last, taking_in, found_in}
-use Rattle.sock_programs.specs.Heads.{Decides, Locks}
-use Rattle.sock_programs.specs.Posts.{ends_call}
-use Rattle.sock_programs.specs.Writings.{Puts, Waits, Empties, Walks}
-use Rattle.sock_programs.specs.Programs.{Program, Do, TakeMessage, TakeHome, PutHome, PutBytes, AskReady, Write, Aside, Round, Retries}
-use Rattle.sock_programs.specs.Cores.{Core, SeatState, word_of, found_at, waiting_at}
-use Rattle.sock_programs.specs.Ticks.{Answer, Unasked, OfPut, OfReady, OfTake, Moment, taken, with_message, with_link, with_put, with_ready, with_found, step_with, tick_with, ticked}
+use Rattle.seat_programs.specs.Asides.{Step, Found, LoadAt, PostId, TakeBytes, Taking, call_id}
+use Rattle.seat_programs.specs.Beside.{at_last, taking_in, found_in}
+use Rattle.seat_programs.specs.Heads.{Decides, Locks}
+use Rattle.seat_programs.specs.Posts.{ends_call}
+use Rattle.seat_programs.specs.Writings.{Puts, Waits, Empties, Walks}
+use Rattle.seat_programs.specs.Programs.{Program, Do, TakeMessage, TakeHome, PutHome, PutBytes, AskReady, Write, Aside, Round, Retries}
+use Rattle.seat_programs.specs.Cores.{Core, SeatState, word_of, found_at, waiting_at}
+use Rattle.seat_programs.specs.Ticks.{Answer, Unasked, OfPut, OfReady, OfTake, Moment, taken, with_message, with_link, with_put, with_ready, with_found, step_with, tick_with, ticked}
 use Rattle.sock_runs.specs.Sound.{first_step}
-use Rattle.sock_causes.specs.Stories.{In}
+use Rattle.outcome_causes.specs.Stories.{In}
 use Rattle.call_causes.specs.owed_calls.proofs.OwingRuns.{same_first}
-use Rattle.whole_runs.specs.Heard.{as_taken, taken_link}
+use Rattle.run_theorems.specs.Heard.{as_taken, taken_link}
 use Rattle.call_causes.specs.Posts.{Post, posts_by, posted_with, posted_at}
 use Rattle.send_causes.specs.EndedCalls.{Load, loaded_with, loaded_at}
 use Rattle.send_causes.proofs.EndedReads.{Tells, MayPost, tell_first, tell_next}
@@ -120,16 +120,16 @@ module _ (p : Plan) (n : ℕ) (At : ℕ → ℕ → Type 0) where
       takes l room next x (OfPut a) = still c before
       takes l room next x (OfReady a) = still c before
 
-      loaded : (o : ℕ) (next : ℕ → Program) → first_step seat.program ≡ Aside (LoadAt o) next → At o (slice_index c.calls.words (at_word c.calls.plan o))
-      loaded o next is = loads (record { seat = m.seat; operation = o; word = slice_index c.calls.words (at_word c.calls.plan o) }) (subst (In (record { seat = m.seat; operation = o; word = slice_index c.calls.words (at_word c.calls.plan o) })) (sym same) (inl refl)) own
+      loaded : (o : ℕ) (next : ℕ → Program) → first_step seat.program ≡ Aside (LoadAt o) next → At o (slice_index c.calls.words (at_index c.calls.plan o))
+      loaded o next is = loads (record { seat = m.seat; operation = o; word = slice_index c.calls.words (at_index c.calls.plan o) }) (subst (In (record { seat = m.seat; operation = o; word = slice_index c.calls.words (at_index c.calls.plan o) })) (sym same) (inl refl)) own
         where
-          same : loaded_at c m ≡ (record { seat = m.seat; operation = o; word = slice_index c.calls.words (at_word c.calls.plan o) }) ∷ []
+          same : loaded_at c m ≡ (record { seat = m.seat; operation = o; word = slice_index c.calls.words (at_index c.calls.plan o) }) ∷ []
           same = ap (λ x. elim x as (λ o. List Load) [ none ↦ [] | some seat ↦ loaded_with m.seat c.calls (taken m.answer) (first_step seat.program) ]) at ∙ ap (loaded_with m.seat c.calls (taken m.answer)) is
 
       own_step : (x : Program) → first_step seat.program ≡ x → Tells n At h x → HasTold (h ++ map (at_last c.calls.ending) (as_taken (map (λ (j : ℕ). m.answer) (filter (λ j. j == n) (takes_by x))))) (step_with p m.seat seat c m.answer x)
       own_step (Aside (TakeBytes l room) next) is x = subst (λ b. HasTold (h ++ map (at_last c.calls.ending) (as_taken (map (λ (j : ℕ). m.answer) (cond b (l ∷ []) [])))) (step_with p m.seat seat c m.answer (Aside (TakeBytes l room) next))) (sym (eq-eqb l n x.0))
           (takes l room next x.1 m.answer)
-      own_step (Aside (LoadAt o) next) is x = still (step_with p m.seat seat c m.answer (Aside (LoadAt o) next)) (λ s at_s. set_own h _ (tell_next n At h _ (next (slice_index c.calls.words (at_word c.calls.plan o))) (x (slice_index c.calls.words (at_word c.calls.plan o)) (loaded o next is))) s at_s)
+      own_step (Aside (LoadAt o) next) is x = still (step_with p m.seat seat c m.answer (Aside (LoadAt o) next)) (λ s at_s. set_own h _ (tell_next n At h _ (next (slice_index c.calls.words (at_index c.calls.plan o))) (x (slice_index c.calls.words (at_index c.calls.plan o)) (loaded o next is))) s at_s)
       own_step (Aside (PostId i from e) next) is x = beside (PostId i from e) next x.1 (found_in (PostId i from e) c.calls (taken m.answer))
       own_step (Aside step next) is x = beside step next x (found_in step c.calls (taken m.answer))
       own_step (Do call next) is x = still (step_with p m.seat seat c m.answer (Do call next)) (λ s at_s. set_own h _ (tell_next n At h (waiting_at c.calls.waiting m.seat) (next (found_at c.words (word_of p call))) (x (found_at c.words (word_of p call)))) s at_s)

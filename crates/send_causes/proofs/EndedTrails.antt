@@ -7,10 +7,10 @@ use Rattle.sock_words.specs.Words.{at_word, socket_id_slot, socket_id_version}
 use Rattle.corr_core.specs.Word.{parts}
 use Rattle.id_runs.specs.Goes.{FitsSock}
 use Rattle.sock_message.specs.Asked.{Asked, name_of}
-use Rattle.sock_programs.specs.Asides.{Step, Found, PutCall, MakeId, StoreCall, StoreAt, call_id, id_slot, id_first}
-use Rattle.sock_programs.specs.Calls.{Call, LoadName, FindLink, ClaimRequest, PutMessage}
-use Rattle.sock_programs.specs.Heads.{Head, Exit, Unlocks}
-use Rattle.sock_programs.specs.Programs.{Program, Do, Say, Sent, Rest, TakeMessage, TakeHome, PutHome, PutBytes, AskReady, Write, Aside, Round, Keep, Retries}
+use Rattle.seat_programs.specs.Asides.{Step, Found, PutCall, MakeId, StoreCall, StoreAt, call_id, id_slot, id_first}
+use Rattle.seat_programs.specs.Calls.{Call, LoadName, FindLink, ClaimRequest, PutMessage}
+use Rattle.seat_programs.specs.Heads.{Head, Exit, Unlocks}
+use Rattle.seat_programs.specs.Programs.{Program, Do, Say, Sent, Rest, TakeMessage, TakeHome, PutHome, PutBytes, AskReady, Write, Aside, Round, Keep, Retries}
 use Rattle.label_runs.specs.Labels.{FindsLabel, AtLabel, LeavesLabel}
 
 -- of which call the seat knows the id: none; it made this id, and stores the word of its call next; or that of this operation

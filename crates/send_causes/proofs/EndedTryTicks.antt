@@ -12,24 +12,24 @@ use Rattle.sock_words.specs.Words.{at_word, at_word_attempt}
 use Rattle.sock_model.specs.declared.home.Home.{Home}
 use Rattle.sock_model.specs.declared.view.View.{View}
 use Rattle.sock_model.specs.Weights.{total}
-use Rattle.slot_laws.proofs.Sums.{term_le, total-append, total-set}
+use Rattle.slot_steps.proofs.Sums.{term_le, total-append, total-set}
 use Rattle.corr_core.specs.Word.{parts}
 use Rattle.corr_core.specs.declared.marks.Plan.{Plan as IdPlan}
 use Rattle.id_runs.specs.Held.{IdView, MayId}
 use Rattle.id_runs.specs.Goes.{FindsId, IdGoesOn, SoundIds, IsFittingIds}
 use Rattle.id_runs.proofs.Steps.{finds_ids}
-use Rattle.sock_programs.specs.Asides.{Step, Found, ClaimId, PutCall, MakeId, StoreCall, LoadCall, StoreAt, LoadAt, LoadIdWord, LockId, PostId, UnlockId, EndId, FreeId, TakeCall, TakeBytes, Taking, call_id, id_slot, id_first}
+use Rattle.seat_programs.specs.Asides.{Step, Found, ClaimId, PutCall, MakeId, StoreCall, LoadCall, StoreAt, LoadAt, LoadIdWord, LockId, PostId, UnlockId, EndId, FreeId, TakeCall, TakeBytes, Taking, call_id, id_slot, id_first}
 use Rattle.sock_message.specs.Asked.{Asked}
-use Rattle.sock_programs.specs.Beside.{found_in, calls_after}
-use Rattle.sock_programs.specs.Calls.{Call, PutMessage}
-use Rattle.sock_programs.specs.Heads.{Retry}
-use Rattle.sock_programs.specs.Programs.{Program, Do, Say, Sent, Rest, TakeMessage, TakeHome, PutHome, PutBytes, AskReady, Write, Aside, Round, Keep, Retries}
-use Rattle.sock_programs.specs.Cores.{Calls, Core, SeatState, word_of, found_at, words_after, word_after, homes_after, hand_after, lies_at, first_of, others_of, link_place, resolved, still_waiting, waiting_at, next_step, with_seat}
-use Rattle.sock_programs.specs.Ticks.{Moment, IsAnswered, fed, with_places, onto_first, taken, step_with, tick_with, ticked}
+use Rattle.seat_programs.specs.Beside.{found_in, calls_after}
+use Rattle.seat_programs.specs.Calls.{Call, PutMessage}
+use Rattle.seat_programs.specs.Heads.{Retry}
+use Rattle.seat_programs.specs.Programs.{Program, Do, Say, Sent, Rest, TakeMessage, TakeHome, PutHome, PutBytes, AskReady, Write, Aside, Round, Keep, Retries}
+use Rattle.seat_programs.specs.Cores.{Calls, Core, SeatState, word_of, found_at, words_after, word_after, homes_after, hand_after, lies_at, first_of, others_of, link_place, resolved, still_waiting, waiting_at, next_step, with_seat}
+use Rattle.seat_programs.specs.Ticks.{Moment, IsAnswered, fed, with_places, onto_first, taken, step_with, tick_with, ticked}
 use Rattle.sock_runs.specs.Sound.{Sound, first_step}
-use Rattle.sock_causes.specs.Stories.{In}
-use Rattle.sock_causes.proofs.Cases.{tick_cases}
-use Rattle.sock_causes.proofs.Ticks.{elem_there}
+use Rattle.outcome_causes.specs.Stories.{In}
+use Rattle.outcome_causes.proofs.Cases.{tick_cases}
+use Rattle.outcome_causes.proofs.Ticks.{elem_there}
 use Rattle.label_runs.specs.Labels.{Trial, Idle, Tries, put_behind, Kept, Storing, unlocked_trial, Labels}
 use Rattle.send_causes.specs.Counts.{pair_of, of_retry, WasMade, WasNow, StoresOwn}
 use Rattle.send_causes.specs.EndedCalls.{Store, stores_by, stored_at}
@@ -378,7 +378,7 @@ module _ (p : Plan) (q : IdPlan) (narrow : q.slots ≤ 65536) (is_call : Asked �
     quiet : stored_at c m ≡ [] → Result (ticked p c m)
     quiet none_ = tick_cases p c vs m sound answered (λ d ws. Result d) (subst (λ l. (xs : List Trial) × OnceLaw is_call ids q (l ++ done) c xs) (sym none_) (ts, law))
         (λ seat v call next at here is goes. let t = trial_of seat at in let g = first_as seat at (Do call next) is in let u = g.1 (found_at c.words (word_of p call)) (fits_as p c seat.program call next is (fitting seat at)) in
-        let b = leaves m.seat seat t.0 at t.1 (next (found_at c.words (word_of p call))) (hand_after p call c.homes seat.hand) (words_after c.words (word_of p call) (word_after call (found_at c.words (word_of p call)))) (Rattle.sock_programs.specs.Cores.homes_after p call seat.hand c.homes) u.0
+        let b = leaves m.seat seat t.0 at t.1 (next (found_at c.words (word_of p call))) (hand_after p call c.homes seat.hand) (words_after c.words (word_of p call) (word_after call (found_at c.words (word_of p call)))) (Rattle.seat_programs.specs.Cores.homes_after p call seat.hand c.homes) u.0
         (λ id n. (let x = kept_count id n (put_behind t.0 call) u.0 u.1 in let y = put_count id n t.0 call in omega (arith, x, y))) u.2 in as_stored seat at (Do call next) is _ (b.trials, b.behind))
         (λ seat v r next heading bytes at here is goes. let t = trial_of seat at in let b = moves m.seat seat t.0 at t.1 (next heading bytes) seat.hand (set c.homes r none) (first_as seat at (TakeMessage r next) is heading bytes) in as_stored seat at (TakeMessage r next) is _ (b.trials, b.behind))
         (λ seat v k next n at here is goes. let t = trial_of seat at in let b = moves m.seat seat t.0 at t.1 (next n) (lies_at c.homes (link_place p k) ++ seat.hand) (set c.homes (link_place p k) none) (first_as seat at (TakeHome k next) is n) in as_stored seat at (TakeHome k next) is _ (b.trials, b.behind))
@@ -394,8 +394,8 @@ module _ (p : Plan) (q : IdPlan) (narrow : q.slots ≤ 65536) (is_call : Asked �
 
     -- where it stores one
     stores : (seat : SeatState) → get_elem? c.seats m.seat ≡ some seat → (o w : ℕ) (next : ℕ → Program) → first_step seat.program ≡ Aside (StoreAt o w) next → Result (ticked p c m)
-    stores seat at o w next is = let t = trial_of seat at in let u = view_of seat at in let found : ℕ = std.slice_index c.calls.words (Rattle.id_rule.specs.Lawful.at_word c.calls.plan o) in
-        subst Result (sym after) (as_stored seat at (Aside (StoreAt o w) next) is _ (asides m.seat seat t.0 at t.1 u.0 u.1 (StoreAt o w) next (std.slice_index c.calls.words (Rattle.id_rule.specs.Lawful.at_word c.calls.plan o)) (taken m.answer) refl (may_as seat at (Aside (StoreAt o w) next) is).0
+    stores seat at o w next is = let t = trial_of seat at in let u = view_of seat at in let found : ℕ = std.slice_index c.calls.words (Rattle.id_rule.specs.Lawful.at_index c.calls.plan o) in
+        subst Result (sym after) (as_stored seat at (Aside (StoreAt o w) next) is _ (asides m.seat seat t.0 at t.1 u.0 u.1 (StoreAt o w) next (std.slice_index c.calls.words (Rattle.id_rule.specs.Lawful.at_index c.calls.plan o)) (taken m.answer) refl (may_as seat at (Aside (StoreAt o w) next) is).0
         (first_as seat at (Aside (StoreAt o w) next) is) (λ o' w' e id n k x low few small. own seat o' w' next at (is ∙ ap (λ s. as_store s) e) id n k x low few small)))
       where
         after : ticked p c m ≡ step_with p m.seat seat c m.answer (Aside (StoreAt o w) next)

@@ -9,39 +9,39 @@ use mathlib.Core.Option.{some, some-injective, some-ne-none}
 use native.Mathlib.Decide.{ℕ_discrete}
 use lib.ListN.{get_elem?}
 use Rattle.atomic_table.proofs.Lists.{at_set, set_else}
-use Rattle.chain_laws.proofs.Lists.{at_some}
+use Rattle.chain_steps.proofs.Lists.{at_some}
 use Rattle.sock_words.specs.declared.plain.Plan.{Plan}
 use Rattle.sock_model.specs.declared.view.View.{View}
-use Rattle.sock_model.specs.Layout.{open_word}
+use Rattle.sock_model.specs.Layout.{open_index}
 use Rattle.brpc_model.specs.Items.{Item}
 use Rattle.brpc_model.specs.Operations.{Turn}
 use Rattle.brpc_model.specs.Script.{script_of}
 use Rattle.brpc_model.specs.Stream.{stream}
-use Rattle.sock_programs.specs.Asides.{Taking, NoMore, AtEnd, Closed, Broken}
-use Rattle.sock_programs.specs.Clients.{client_from, ending_of}
-use Rattle.sock_programs.specs.Cores.{Core, SeatState, resolved, next_step}
-use Rattle.sock_programs.specs.Programs.{Program, Rest}
-use Rattle.sock_programs.specs.Readers.{LIMIT, reader}
-use Rattle.sock_programs.specs.Runs.{from_to}
-use Rattle.sock_programs.specs.Tasks.{opens, calls, plan_of, id_plan_of}
-use Rattle.sock_programs.specs.Ticks.{Moment, quiet, ticked, run}
-use Rattle.sock_programs.specs.Scripts.{sizes_of, programs, readers_from, all_programs, all_tasks, opened, set_up, played, IsRunWithCalls}
+use Rattle.seat_programs.specs.Asides.{Taking, NoMore, AtEnd, Closed, Broken}
+use Rattle.seat_programs.specs.Clients.{client_from, ending_of}
+use Rattle.seat_programs.specs.Cores.{Core, SeatState, resolved, next_step}
+use Rattle.seat_programs.specs.Programs.{Program, Rest}
+use Rattle.seat_programs.specs.Readers.{LIMIT, reader}
+use Rattle.seat_programs.specs.Runs.{from_to}
+use Rattle.seat_programs.specs.Tasks.{opens, calls, plan_of, id_plan_of}
+use Rattle.seat_programs.specs.Ticks.{Moment, quiet, ticked, run}
+use Rattle.seat_programs.specs.Scripts.{sizes_of, programs, readers_from, all_programs, all_tasks, opened, set_up, played, IsRunWithCalls}
 use Rattle.sock_runs.specs.Sound.{views_along}
 use Rattle.sock_runs.proofs.Along.{place_inside}
 use Rattle.sock_runs.proofs.Opening.{mapped}
 use Rattle.sock_runs.proofs.OpensStay.{readers_begin}
 use Rattle.sock_runs.proofs.Whole.{IsListed, closing_of, views_played, views_closed, set_up_answered, end_answered, set_up_sound, closing_sound, closed_sound, recorded_opened, recorded_set_up, recorded_closing, recorded_closed}
-use Rattle.sock_causes.specs.Stories.{In}
-use Rattle.sock_causes.proofs.Lifted.{filtered_in}
-use Rattle.sock_causes.proofs.Members.{in_contains}
-use Rattle.sock_causes.proofs.Plain.{in_left, in_right, in_both}
-use Rattle.call_causes.specs.client_laws.proofs.Beginning as clients_begin
-use Rattle.call_causes.specs.client_laws.specs.Openings.{all_seats}
+use Rattle.outcome_causes.specs.Stories.{In}
+use Rattle.outcome_causes.proofs.Lifted.{filtered_in}
+use Rattle.outcome_causes.proofs.Members.{in_contains}
+use Rattle.outcome_causes.proofs.Plain.{in_left, in_right, in_both}
+use Rattle.call_causes.specs.programs_allowed.proofs.Beginning as clients_begin
+use Rattle.call_causes.specs.programs_allowed.specs.Openings.{all_seats}
 use Rattle.call_causes.specs.joint_runs.proofs.Runs.{AreMade, first_views}
 use Rattle.call_causes.specs.owed_calls.proofs.Owed.{opened_seats}
-use Rattle.whole_runs.specs.Heard.{as_taken, bytes_found, taken_in, heard_takes, given_by}
-use Rattle.whole_runs.proofs.Gave.{gave_heard}
-use Rattle.whole_runs.proofs.HeardRuns.{taken_append}
+use Rattle.run_theorems.specs.Heard.{as_taken, bytes_found, taken_in, heard_takes, given_by}
+use Rattle.run_theorems.proofs.Gave.{gave_heard}
+use Rattle.run_theorems.proofs.HeardRuns.{taken_append}
 use Rattle.call_causes.specs.Lists.{Take, takes_at, given, shows_in, takes_of_run, is_last, is_closed, is_no_more, found_so, is_fault, early_of_run}
 use Rattle.call_causes.specs.Posts.{Post, posted_at, posts_of_run}
 use Rattle.send_causes.specs.EndedCalls.{Load, loaded_at, reader_posts_at, client_posts_at, loads_of_run, reader_posts_of_run, client_posts_of_run, EndedSo, IsEndPost}
@@ -81,7 +81,7 @@ module _ (script : List Item) (made : AreMade script) (turns : List Turn) (core 
   first_few : length (programs (sizes_of (plan_of script) (id_plan_of script)) (all_tasks script)) ≤ 32
   first_few = let l = length-map (all_tasks script) (client_from (sizes_of (plan_of script) (id_plan_of script)) []) in let f = (let k = known script made turns core is in k.few) in omega (arith, l, f)
 
-  no_word : (o : ℕ) → o < (plan_of script).operations → get_or (opened script).words (open_word (plan_of script) o) 0 ≡ 0
+  no_word : (o : ℕ) → o < (plan_of script).operations → get_or (opened script).words (open_index (plan_of script) o) 0 ≡ 0
   no_word o low = (let u = clients_begin.unused (plan_of script) in u.opens) o low
 
   -- a reader begins at its program

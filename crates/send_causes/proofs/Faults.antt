@@ -6,7 +6,7 @@ use Rattle.brpc_model.specs.Frame.{Frame, FrameFault, BadMagic, TooBig, MetaOver
 use Rattle.brpc_model.specs.Stream.{Stream, Rest, Fault, goes_on, stream_up_to, stream_from}
 use Rattle.brpc_model.proofs.Streams.{stream_goes_on}
 use Rattle.call_causes.specs.prpc_frame.proofs.Lasting.{stays}
-use Rattle.sock_programs.specs.Readers.{last_of}
+use Rattle.seat_programs.specs.Readers.{last_of}
 
 -- ## The room of a frame
 

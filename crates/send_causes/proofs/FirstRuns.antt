@@ -21,20 +21,20 @@ use Rattle.sock_model.specs.declared.view.Hand.{Hand}
 use Rattle.sock_model.specs.declared.view.View.{View}
 use Rattle.sock_model.specs.ChainRows.{with_claim, entry_of, more, queued, righted, taken_right}
 use Rattle.sock_model.specs.Memory.{IDLE}
-use Rattle.sock_programs.specs.declared.task.Sizes.{Sizes}
-use Rattle.sock_programs.specs.declared.task.Task.{Task}
-use Rattle.sock_programs.specs.Beside.{calls_after}
-use Rattle.sock_programs.specs.Calls.{Call, ClaimRequest, PutMessage, Unconnect, SwapHead}
-use Rattle.sock_programs.specs.Clients.{client_from, ending_of}
-use Rattle.sock_programs.specs.Cores.{Calls, Core, SeatState, word_of, found_at, words_after, word_after, homes_after, hand_after, lies_at, first_of, others_of, link_place, resolved, still_waiting, waiting_at, next_step, with_seat}
-use Rattle.sock_programs.specs.Heads.{Retry}
-use Rattle.sock_programs.specs.Programs.{Program, Do, TakeMessage, TakeHome, PutHome, PutBytes, AskReady, Aside, Rest}
-use Rattle.sock_programs.specs.Readers.{reader}
-use Rattle.sock_programs.specs.Scripts.{sizes_of, programs, readers_from, all_programs, all_tasks, opened, set_up, is_ending, IsRunWithCalls}
-use Rattle.sock_programs.specs.Tasks.{opens, calls, plan_of, id_plan_of}
-use Rattle.sock_programs.specs.Ticks.{Moment, IsAnswered, AreAnswered, fed, with_places, onto_first, quiet, ticked, run}
-use Rattle.sock_programs.specs.Told.{AreTasks, IsTask}
-use Rattle.sock_programs.specs.ToldCalls.{Accepted, Order, Fixed, InOwnOrder}
+use Rattle.seat_programs.specs.declared.task.Sizes.{Sizes}
+use Rattle.seat_programs.specs.declared.task.Task.{Task}
+use Rattle.seat_programs.specs.Beside.{calls_after}
+use Rattle.seat_programs.specs.Calls.{Call, ClaimRequest, PutMessage, Unconnect, SwapHead}
+use Rattle.seat_programs.specs.Clients.{client_from, ending_of}
+use Rattle.seat_programs.specs.Cores.{Calls, Core, SeatState, word_of, found_at, words_after, word_after, homes_after, hand_after, lies_at, first_of, others_of, link_place, resolved, still_waiting, waiting_at, next_step, with_seat}
+use Rattle.seat_programs.specs.Heads.{Retry}
+use Rattle.seat_programs.specs.Programs.{Program, Do, TakeMessage, TakeHome, PutHome, PutBytes, AskReady, Aside, Rest}
+use Rattle.seat_programs.specs.Readers.{reader}
+use Rattle.seat_programs.specs.Scripts.{sizes_of, programs, readers_from, all_programs, all_tasks, opened, set_up, is_ending, IsRunWithCalls}
+use Rattle.seat_programs.specs.Tasks.{opens, calls, plan_of, id_plan_of}
+use Rattle.seat_programs.specs.Ticks.{Moment, IsAnswered, AreAnswered, fed, with_places, onto_first, quiet, ticked, run}
+use Rattle.seat_programs.specs.Told.{AreTasks, IsTask}
+use Rattle.seat_programs.specs.ToldCalls.{Accepted, Order, Fixed, InOwnOrder}
 use Rattle.sock_runs.specs.May.{May}
 use Rattle.sock_runs.specs.Rows.{row, hand_at, by_claim, exchanged, filled_claim, ready_claim, took_message, link_away, link_home_again, took_bytes}
 use Rattle.sock_runs.specs.Sound.{Sound, first_step, AreFitting, views_after, views_along}
@@ -44,16 +44,16 @@ use Rattle.sock_runs.proofs.LinkTicks.{RetriesGo}
 use Rattle.sock_runs.proofs.Opening.{mapped, appended}
 use Rattle.sock_runs.proofs.Ticks.{sound_ticks}
 use Rattle.sock_runs.proofs.Whole.{Begins, AreFittingIn, closing_of, rested_of, views_played, views_closed, views_ended, set_up_answered, end_answered, set_up_sound, closing_sound, closed_sound, ended_sound}
-use Rattle.sock_causes.specs.Causes.{Asks}
-use Rattle.sock_causes.specs.PlainTasks.{OwnsCall}
-use Rattle.sock_causes.proofs.Cases.{tick_cases}
-use Rattle.sock_causes.proofs.Delivered.{accepted_of, orders_of}
-use Rattle.sock_causes.proofs.Members.{all_in, all_of, contains_in}
-use Rattle.sock_causes.proofs.Messages.{in_of_at}
-use Rattle.sock_causes.proofs.Scripts.{own_from}
-use Rattle.sock_causes.proofs.Senders.{HasSent, sent_in, each_before}
-use Rattle.sock_causes.proofs.Tasks.{one_task, sorted_of}
-use Rattle.sock_causes.proofs.Tests.{split}
+use Rattle.outcome_causes.specs.Causes.{Asks}
+use Rattle.outcome_causes.specs.PlainTasks.{OwnsCall}
+use Rattle.outcome_causes.proofs.Cases.{tick_cases}
+use Rattle.outcome_causes.proofs.Delivered.{accepted_of, orders_of}
+use Rattle.outcome_causes.proofs.Members.{all_in, all_of, contains_in}
+use Rattle.outcome_causes.proofs.Messages.{in_of_at}
+use Rattle.outcome_causes.proofs.Scripts.{own_from}
+use Rattle.outcome_causes.proofs.Senders.{HasSent, sent_in, each_before}
+use Rattle.outcome_causes.proofs.Tasks.{one_task, sorted_of}
+use Rattle.outcome_causes.proofs.Tests.{split}
 use Rattle.send_causes.proofs.Firsts.{behind, Firsts, AreLater, client_firsts, ending_firsts, reader_firsts, firsts_first, firsts_next}
 use Rattle.send_causes.proofs.Ticks.{calls_waiting}
 use Rattle.send_causes.proofs.Views.{Same, row_same}

@@ -7,12 +7,12 @@ use lib.ListN.{get_elem?}
 use Rattle.sock_words.specs.declared.plain.Plan.{Plan}
 use Rattle.corr_core.specs.declared.marks.Plan.{Plan as IdPlan}
 use Rattle.sock_words.specs.declared.outcome.Outcome.TheVariants as outcomes
-use Rattle.sock_programs.specs.declared.task.Op.TheVariants as ops
-use Rattle.sock_programs.specs.declared.task.Task.{Task}
-use Rattle.sock_programs.specs.Asides.{StoreCall}
-use Rattle.sock_programs.specs.Calls.{Call}
-use Rattle.sock_programs.specs.Cores.{SeatState}
-use Rattle.sock_programs.specs.Programs.{Program, Do, Aside}
+use Rattle.seat_programs.specs.declared.task.Op.TheVariants as ops
+use Rattle.seat_programs.specs.declared.task.Task.{Task}
+use Rattle.seat_programs.specs.Asides.{StoreCall}
+use Rattle.seat_programs.specs.Calls.{Call}
+use Rattle.seat_programs.specs.Cores.{SeatState}
+use Rattle.seat_programs.specs.Programs.{Program, Do, Aside}
 use Rattle.sock_runs.specs.Sound.{first_step}
 use Rattle.call_causes.specs.Scenes.{Scene, In, Named, IsTaskOf, HasNoneOf, NoneFound, ToldOf, was_said, was_sent, was_begun, AreTold, Later}
 use Rattle.call_causes.specs.Says.{Mark, NoneOfSetup, SaysOn}
@@ -91,7 +91,7 @@ module _ (p : Plan) (q : IdPlan) (clients : List (List Task)) (gives : ℕ → L
       begun : (t : Task) → IsOf j t → t.number ≡ o → In t m.done
       begun t mine numbered_ = ⊎_elim stored storing own.either
         where
-          stored : get_or w.core.calls.words (Rattle.id_rule.specs.Lawful.call_word q o) 0 ≡ id → In t m.done
+          stored : get_or w.core.calls.words (Rattle.id_rule.specs.Lawful.call_index q o) 0 ≡ id → In t m.done
           stored e = let c = story.tasks.called o own.inside (λ z. own.some_ (sym e ∙ z)) in
               -- (birth, born, its id, its operation, seat, mark, task, the mark's place, done, its op, its number)
               let theirs = own_task c.4 c.5 c.7 c.6 (inl c.8) in let both = same_task j c.4 t c.6 mine theirs (numbered_ ∙ sym c.10) in

@@ -8,18 +8,18 @@ use lib.ListN.{get_elem?}
 use Rattle.sock_words.specs.declared.plain.Plan.{Plan}
 use Rattle.corr_core.specs.declared.marks.Plan.{Plan as IdPlan}
 use Rattle.sock_words.specs.declared.kind.Kind.{Kind}
-use Rattle.sock_programs.specs.Calls.{Call, LoadName}
-use Rattle.sock_programs.specs.Clients.{operation, client_from}
-use Rattle.sock_programs.specs.declared.task.Op.{Op}
-use Rattle.sock_programs.specs.declared.task.Op.TheVariants as ops
-use Rattle.sock_programs.specs.declared.task.Sizes.{Sizes}
-use Rattle.sock_programs.specs.declared.task.Task.{Task}
-use Rattle.sock_programs.specs.Programs.{Program, Do, Say, Rest, Retries, make_socket, open_from}
-use Rattle.sock_programs.specs.Cores.{Core, SeatState, resolved, still_waiting, next_step, waiting_at, word_of, found_at}
-use Rattle.sock_programs.specs.Runs.{kind_in, next_kind, IsAtRest}
-use Rattle.sock_programs.specs.Scripts.{programs, all_programs, beginning}
-use Rattle.sock_programs.specs.Ticks.{Moment, quiet, ticked, tick_with}
-use Rattle.sock_programs.specs.Told.{IsOpen}
+use Rattle.seat_programs.specs.Calls.{Call, LoadName}
+use Rattle.seat_programs.specs.Clients.{operation, client_from}
+use Rattle.seat_programs.specs.declared.task.Op.{Op}
+use Rattle.seat_programs.specs.declared.task.Op.TheVariants as ops
+use Rattle.seat_programs.specs.declared.task.Sizes.{Sizes}
+use Rattle.seat_programs.specs.declared.task.Task.{Task}
+use Rattle.seat_programs.specs.Programs.{Program, Do, Say, Rest, Retries, make_socket, open_from}
+use Rattle.seat_programs.specs.Cores.{Core, SeatState, resolved, still_waiting, next_step, waiting_at, word_of, found_at}
+use Rattle.seat_programs.specs.Runs.{kind_in, next_kind, IsAtRest}
+use Rattle.seat_programs.specs.Scripts.{programs, all_programs, beginning}
+use Rattle.seat_programs.specs.Ticks.{Moment, quiet, ticked, tick_with}
+use Rattle.seat_programs.specs.Told.{IsOpen}
 use Rattle.sock_runs.specs.Sound.{IsAhead, first_step}
 use Rattle.sock_runs.proofs.Along.{seat_rests, ticked_ahead}
 use Rattle.sock_runs.proofs.Opening.{mapped}
@@ -78,7 +78,7 @@ abbrev pub SetsUp : Core → Type 0
 SetsUp c = ((seat : SeatState) → get_elem? c.seats 0 ≡ some seat → LooksForNone seat.program) × (waiting_at c.calls.waiting 0 ≡ [])
 
 module _ (p : Plan) where
-  first_waits : (ws : List (List Rattle.sock_programs.specs.Heads.Retry)) → waiting_at (set ws 0 []) 0 ≡ []
+  first_waits : (ws : List (List Rattle.seat_programs.specs.Heads.Retry)) → waiting_at (set ws 0 []) 0 ≡ []
   first_waits [] = refl
   first_waits (w ∷ ws) = refl
 

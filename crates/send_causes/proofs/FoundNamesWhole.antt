@@ -9,16 +9,16 @@ use Rattle.sock_words.specs.declared.outcome.Outcome.TheVariants as outcomes
 use Rattle.brpc_model.specs.Items.{Item}
 use Rattle.brpc_model.specs.Operations.{Turn}
 use Rattle.corr_core.specs.Word.{parts}
-use Rattle.id_rule.specs.Lawful.{id_word}
-use Rattle.sock_programs.specs.declared.task.Op.{Op}
-use Rattle.sock_programs.specs.declared.task.Op.TheVariants as ops
-use Rattle.sock_programs.specs.declared.task.Task.{Task}
-use Rattle.sock_programs.specs.Cores.{Core}
-use Rattle.sock_programs.specs.Ticks.{quiet, run}
-use Rattle.sock_programs.specs.Tasks.{opens, calls, plan_of, id_plan_of}
-use Rattle.sock_programs.specs.Told.{IsTask, OpensNone}
-use Rattle.sock_programs.specs.ToldCalls.{Fixed, Order, Seeks, FoundNone, WhyLost, WasUnopened}
-use Rattle.sock_programs.specs.Scripts.{sizes_of, readers_from, all_tasks, opened, ending, set_up, played, is_ending, IsRunWithCalls}
+use Rattle.id_rule.specs.Lawful.{id_index}
+use Rattle.seat_programs.specs.declared.task.Op.{Op}
+use Rattle.seat_programs.specs.declared.task.Op.TheVariants as ops
+use Rattle.seat_programs.specs.declared.task.Task.{Task}
+use Rattle.seat_programs.specs.Cores.{Core}
+use Rattle.seat_programs.specs.Ticks.{quiet, run}
+use Rattle.seat_programs.specs.Tasks.{opens, calls, plan_of, id_plan_of}
+use Rattle.seat_programs.specs.Told.{IsTask, OpensNone}
+use Rattle.seat_programs.specs.ToldCalls.{Fixed, Order, Seeks, FoundNone, WhyLost, WasUnopened}
+use Rattle.seat_programs.specs.Scripts.{sizes_of, readers_from, all_tasks, opened, ending, set_up, played, is_ending, IsRunWithCalls}
 use Rattle.sock_runs.specs.Sound.{AllRest, views_along}
 use Rattle.sock_runs.proofs.Quiets.{run_rests}
 use Rattle.sock_runs.proofs.Whole.{views_played, views_closed}
@@ -150,7 +150,7 @@ module _ (script : List Item) (made : AreMade script) (there : AreThere script) 
     at_end_over : HasEnded (plan_of script) (id_plan_of script) (all_tasks script) (given core) at_end.story.scene at_end.story.marks
     at_end_over = let h = at_end.story in has_ended (plan_of script) (id_plan_of script) (all_tasks script) (given core) h.scene h.marks h.story
         (subst AllRest (sym h.is) (run_all_rest script made turns core is closes))
-        (λ i inside. subst (λ (d : Core). (parts (get_or d.calls.words (id_word i) 0)).state ≡ 0) (sym h.is) (run_all_ended script made turns core is closes i inside))
+        (λ i inside. subst (λ (d : Core). (parts (get_or d.calls.words (id_index i) 0)).state ≡ 0) (sym h.is) (run_all_ended script made turns core is closes i inside))
         (let many = ap (λ (d : Core). length d.seats) h.is ∙ many_seats script made (given core) (numbered script made there range turns core is) (slots script made there range turns core is) (begins script made there range (given core)) turns core is (end_leads script made there range turns core is) in
         let seats = made.seats in let few = made.few_clients in omega (arith, many, seats, few))
 

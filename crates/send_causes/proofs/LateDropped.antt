@@ -8,24 +8,24 @@ use Rattle.sock_words.specs.declared.plain.Plan.{Plan}
 use Rattle.sock_model.specs.declared.view.View.{View}
 use Rattle.sock_model.specs.Deliveries.{ShownAt, no_place, one_place, place_value}
 use Rattle.sock_model.specs.Entries.{on}
-use Rattle.sock_model.specs.Layout.{place_word}
+use Rattle.sock_model.specs.Layout.{place_index}
 use Rattle.sock_model.specs.Links.{Failed}
 use Rattle.brpc_model.specs.Items.{Item}
 use Rattle.brpc_model.specs.Operations.{Turn}
 use Rattle.brpc_model.specs.Script.{script_of}
 use Rattle.std.proofs.Common.{Ok}
-use Rattle.sock_programs.specs.Cores.{Core}
-use Rattle.sock_programs.specs.Tasks.{opens, plan_of}
-use Rattle.sock_programs.specs.Ticks.{Moment, quiet}
-use Rattle.sock_programs.specs.Scripts.{all_tasks, played, IsRunWithCalls}
-use Rattle.sock_programs.specs.ToldCalls.{Accepted, label, IsFailing}
+use Rattle.seat_programs.specs.Cores.{Core}
+use Rattle.seat_programs.specs.Tasks.{opens, plan_of}
+use Rattle.seat_programs.specs.Ticks.{Moment, quiet}
+use Rattle.seat_programs.specs.Scripts.{all_tasks, played, IsRunWithCalls}
+use Rattle.seat_programs.specs.ToldCalls.{Accepted, label, IsFailing}
 use Rattle.sock_runs.specs.Sound.{state, Sound, AreFew}
 use Rattle.sock_runs.proofs.Along.{seat_rests, place_inside}
 use Rattle.sock_runs.proofs.Whole.{closing_of, views_played, views_closed, views_ended, end_answered, played_sound, closing_sound, closed_sound, ended_sound, rested_ahead, rested_idle}
-use Rattle.sock_causes.specs.Facts.{late_links_of_run}
-use Rattle.sock_causes.specs.Stories.{In}
-use Rattle.sock_causes.proofs.Delivered.{orders_of}
-use Rattle.sock_causes.proofs.Members.{get_there, in_contains}
+use Rattle.outcome_causes.specs.Facts.{late_links_of_run}
+use Rattle.outcome_causes.specs.Stories.{In}
+use Rattle.outcome_causes.proofs.Delivered.{orders_of}
+use Rattle.outcome_causes.proofs.Members.{get_there, in_contains}
 use Rattle.call_causes.specs.joint_runs.proofs.Both.{AreBounded}
 use Rattle.call_causes.specs.joint_runs.proofs.Runs.{AreMade, first_views, joint_runs, joint_bounded}
 use Rattle.call_causes.specs.owed_calls.specs.Lives.{ClosesInRun}
@@ -39,7 +39,7 @@ use Rattle.send_causes.proofs.LateRests.{none_stands, ended_idle}
 use Rattle.send_causes.proofs.LateLives.{WasPast}
 use Rattle.send_causes.proofs.Sends.{orders_are}
 use Rattle.sock_steps.proofs.Positions.{few_log, on_shorter}
-use Rattle.slot_laws.proofs.Sums.{total_bound}
+use Rattle.slot_steps.proofs.Sums.{total_bound}
 use Rattle.sock_model.specs.Rule.{lists_of}
 use Rattle.sock_runs.specs.Lasts.{MOST_TICKS}
 
@@ -48,17 +48,17 @@ log_small : (p : Plan) (c : Core) (vs : List View) (sound : Sound p c vs) → Ar
 log_small p c vs sound few = few_log vs sound.lawful.log sound.lawful.authors (let n = few.few_seats in let b = total_bound lists_of 1 vs (λ i v at. (few.short i v at).0) in omega (arith, n, b)) (λ i v at. (few.short i v at).1)
 
 -- a place word tells that the message at this position of the link was dropped: then the link had failed
-failed_here : (p : Plan) (c : Core) (vs : List View) (sound : Sound p c vs) → AreFew vs → (l k position : ℕ) → l < 8 * p.operations → k < p.links → position < 2147483648 → get_or c.words (place_word p l) 0 ≡ place_value true k position → Failed p (state c vs) k
+failed_here : (p : Plan) (c : Core) (vs : List View) (sound : Sound p c vs) → AreFew vs → (l k position : ℕ) → l < 8 * p.operations → k < p.links → position < 2147483648 → get_or c.words (place_index p l) 0 ≡ place_value true k position → Failed p (state c vs) k
 failed_here p c vs sound few l k position low kl small word = by_shown (sound.lawful.delivered.shown l low)
   where
-    by_shown : ShownAt p.links (λ l. slice_index c.words (place_word p l)) sound.lawful.log sound.lawful.places sound.lawful.kept l → Failed p (state c vs) k
-    by_shown (no_place z none_) = absurd (let e : get_or c.words (place_word p l) 0 ≡ 0 = z in omega (arith, e, word))
+    by_shown : ShownAt p.links (λ l. slice_index c.words (place_index p l)) sound.lawful.log sound.lawful.places sound.lawful.kept l → Failed p (state c vs) k
+    by_shown (no_place z none_) = absurd (let e : get_or c.words (place_index p l) 0 ≡ 0 = z in omega (arith, e, word))
     by_shown (one_place j i e jl il at is w) = by (nat_le (sound.lawful.kept j) i) refl w
       where
         others : i < 2147483648
         others = let s = log_small p c vs sound few in let o = on_shorter j sound.lawful.log in let n = place_inside (on j sound.lawful.log) i e at in omega (arith, s, o, n)
 
-        by : (b : Bool) → nat_le (sound.lawful.kept j) i ≡ b → get_or c.words (place_word p l) 0 ≡ place_value b j i → Failed p (state c vs) k
+        by : (b : Bool) → nat_le (sound.lawful.kept j) i ≡ b → get_or c.words (place_index p l) 0 ≡ place_value b j i → Failed p (state c vs) k
         by true le w = let one : j ≡ k = (let y = others in omega (arith, word, w, small, y)) in subst (Failed p (state c vs)) one (sound.lawful.delivered.failed j jl (let less = leb-true (sound.lawful.kept j) i le in omega (arith, less, il)))
         by false le w = absurd (let y = others in let few_links = sound.limits.links in omega (arith, word, w, small, y, few_links, jl))
 
@@ -88,15 +88,15 @@ module _ (script : List Item) (made : AreMade script) (turns : List Turn) (core 
       (closed_sound script made.are (first_views script) (start script made turns core is) (go script made turns core is) turns core is (fitting script made turns core is)) is.answered_again f.of_final bounded (λ k there. there) begun)
 
   -- seat 0 changes no place word while it makes the ending
-  ended_places : (l : ℕ) → l < 8 * (plan_of script).operations → get_or is.ended.words (place_word (plan_of script) l) 0 ≡ get_or (played script is.setup (is.scheduled ++ is.later)).words (place_word (plan_of script) l) 0
+  ended_places : (l : ℕ) → l < 8 * (plan_of script).operations → get_or is.ended.words (place_index (plan_of script) l) 0 ≡ get_or (played script is.setup (is.scheduled ++ is.later)).words (place_index (plan_of script) l) 0
   ended_places l low = let f = fitting script made turns core is in let g = go script made turns core is in let s = start script made turns core is in
-      ap (λ (d : Core). get_or d.words (place_word (plan_of script) l) 0) is.is_ended
+      ap (λ (d : Core). get_or d.words (place_index (plan_of script) l) 0) is.is_ended
       ∙ ending_places (plan_of script) g l low is.last (closing_of script turns core is) (views_played script turns core is (first_views script)) (closing_sound script made.are (first_views script) s g turns core is f) (end_answered script made.are (first_views script) s g turns core is f) f.of_closing
       (ending_begins (plan_of script) (played script is.setup (is.scheduled ++ is.later)) (views_played script turns core is (first_views script)) (opens script) (played_sound script made.are (first_views script) s g turns core is f)
       (λ seat at. seat_rests (played script is.setup (is.scheduled ++ is.later)) (rested_ahead script made.are (first_views script) s g turns core is f) 0 (rested_idle script made.are (first_views script) s g turns core is f) seat at))
 
   -- a place word that tells of a dropped message is as old as the ending, or tells of a late link
-  dropped_word : (l k n : ℕ) → l < 8 * (plan_of script).operations → k < (plan_of script).links → n < 2147483648 → get_or core.words (place_word (plan_of script) l) 0 ≡ place_value true k n
+  dropped_word : (l k n : ℕ) → l < 8 * (plan_of script).operations → k < (plan_of script).links → n < 2147483648 → get_or core.words (place_index (plan_of script) l) 0 ≡ place_value true k n
       → Failed (plan_of script) (state (played script is.setup (is.scheduled ++ is.later)) (views_played script turns core is (first_views script))) k ⊎ In k (late_links_of_run script turns core is)
   dropped_word l k n low kl small word = ⊎_elim
       (λ same. inl (failed_here (plan_of script) (played script is.setup (is.scheduled ++ is.later)) (views_played script turns core is (first_views script)) sound (first_few (replicate is.last (quiet 0)) (MOST_TICKS + 20 * length (opens script)) (let b = joint_bounded script turns core is made (joint_runs script turns core is made) in b.closing)) l k n low kl small
@@ -125,7 +125,7 @@ module _ (script : List Item) (made : AreMade script) (turns : List Turn) (core 
         a : (x : Accepted) × (slice_get (orders_here script made turns core is closes k).accepted (orders_here script made turns core is closes k).placed ≡ Some x)
         a = get_there (orders_here script made turns core is closes k).accepted (orders_here script made turns core is closes k).placed less
 
-        word : get_or core.words (place_word (plan_of script) (label a.0)) 0 ≡ place_value true k (orders_here script made turns core is closes k).placed
+        word : get_or core.words (place_index (plan_of script) (label a.0)) 0 ≡ place_value true k (orders_here script made turns core is closes k).placed
         word = let are = orders_are script made turns core is closes in are.written k (orders_here script made turns core is closes k).placed a.0 kl a.1
             ∙ ap (λ b. place_value b k (orders_here script made turns core is closes k).placed) (le-leb (orders_here script made turns core is closes k).placed (orders_here script made turns core is closes k).placed (omega arith))
 
@@ -138,8 +138,8 @@ module _ (script : List Item) (made : AreMade script) (turns : List Turn) (core 
         beyond (x ∷ xs) (suc n) low = beyond xs n (omega (arith, low))
 
         outside : 8 * (plan_of script).operations ≤ label a.0 → ⊥
-        outside high = let sized = sound.lawful.references.sized in let z = beyond core.words (place_word (plan_of script) (label a.0)) (omega (arith, sized, high)) in omega (arith, z, word)
+        outside high = let sized = sound.lawful.references.sized in let z = beyond core.words (place_index (plan_of script) (label a.0)) (omega (arith, sized, high)) in omega (arith, z, word)
 
         place_low : (orders_here script made turns core is closes k).placed < 2147483648
         place_low = let b = joint_bounded script turns core is made (joint_runs script turns core is made) in let over_ = b.over in
-            let s = log_small (plan_of script) core (views_ended script turns core is (first_views script)) sound over_.few in let o = on_shorter k sound.lawful.log in let m = length-map (on k sound.lawful.log) Rattle.sock_causes.proofs.Delivered.accepted_of in omega (arith, s, o, m, less)
+            let s = log_small (plan_of script) core (views_ended script turns core is (first_views script)) sound over_.few in let o = on_shorter k sound.lawful.log in let m = length-map (on k sound.lawful.log) Rattle.outcome_causes.proofs.Delivered.accepted_of in omega (arith, s, o, m, less)

@@ -13,20 +13,20 @@ use Rattle.report_fits.proofs.Reading.{InRange}
 use Rattle.report_fits.proofs.Targets.{AreThere}
 use Rattle.sock_words.specs.Words.{socket_id, socket_id_slot, socket_id_version}
 use Rattle.sock_model.specs.declared.chain.Heading.{Heading}
-use Rattle.sock_model.specs.Layout.{open_word}
+use Rattle.sock_model.specs.Layout.{open_index}
 use Rattle.corr_core.specs.Word.{error_of, code_of, attempt_of}
-use Rattle.sock_programs.specs.declared.task.Op.TheVariants as ops
-use Rattle.sock_programs.specs.declared.task.Task.{Task}
-use Rattle.sock_programs.specs.Calls.{DropPlace}
-use Rattle.sock_programs.specs.Cores.{Core}
-use Rattle.sock_programs.specs.Programs.{NO_SOCKET}
-use Rattle.sock_programs.specs.Tasks.{opens, plan_of, id_plan_of}
-use Rattle.sock_programs.specs.Scripts.{all_tasks, IsRunWithCalls}
-use Rattle.sock_programs.specs.Writings.{Holder, Puts}
-use Rattle.sock_causes.specs.Causes.{WasGiven}
-use Rattle.sock_causes.specs.PlainTasks.{told_tasks_of}
-use Rattle.sock_causes.specs.Stories.{In}
-use Rattle.sock_causes.proofs.Members.{all_in, in_contains}
+use Rattle.seat_programs.specs.declared.task.Op.TheVariants as ops
+use Rattle.seat_programs.specs.declared.task.Task.{Task}
+use Rattle.seat_programs.specs.Calls.{DropPlace}
+use Rattle.seat_programs.specs.Cores.{Core}
+use Rattle.seat_programs.specs.Programs.{NO_SOCKET}
+use Rattle.seat_programs.specs.Tasks.{opens, plan_of, id_plan_of}
+use Rattle.seat_programs.specs.Scripts.{all_tasks, IsRunWithCalls}
+use Rattle.seat_programs.specs.Writings.{Holder, Puts}
+use Rattle.outcome_causes.specs.Causes.{WasGiven}
+use Rattle.outcome_causes.specs.PlainTasks.{told_tasks_of}
+use Rattle.outcome_causes.specs.Stories.{In}
+use Rattle.outcome_causes.proofs.Members.{all_in, in_contains}
 use Rattle.call_causes.specs.joint_runs.proofs.Runs.{AreMade}
 use Rattle.call_causes.specs.owed_calls.specs.Lives.{ClosesInRun}
 use Rattle.call_causes.specs.Decided.{posted_by}
@@ -65,7 +65,7 @@ module _ (script : List Item) (made : AreMade script) (there : AreThere script) 
   record OpenedBy (j h k : ℕ) : Type 0 where
     operation : ℕ
     at : get_elem? (opens script) k ≡ some operation
-    word : get_or core.words (open_word (plan_of script) operation) 0 ≡ socket_id h j + 1
+    word : get_or core.words (open_index (plan_of script) operation) 0 ≡ socket_id h j + 1
     few : j < 4294967296
 
   opened_by : (j h k : ℕ) → Given j h k → OpenedBy j h k
@@ -77,7 +77,7 @@ module _ (script : List Item) (made : AreMade script) (there : AreThere script) 
           few : j < 4294967296
           few = let s = o.inside in let m = made.limits in let l = m.slots in omega (arith, s, l)
 
-          socket : get_or core.words (open_word (plan_of script) o.operation) 0 ≢ NO_SOCKET
+          socket : get_or core.words (open_index (plan_of script) o.operation) 0 ≢ NO_SOCKET
           socket e = let w : h * 4294967296 + j + 1 ≡ 18446744073709551615 = sym o.word ∙ e in let low = o.low in omega (arith, w, low, few)
 
           same : o.link ≡ k
@@ -89,7 +89,7 @@ module _ (script : List Item) (made : AreMade script) (there : AreThere script) 
     where
       by : OpenedBy j h k → OpenedBy i g k → (j ≡ i) × (h ≡ g)
       by x y = let o : x.operation ≡ y.operation = some-injective x.operation y.operation (sym x.at ∙ y.at) in
-          let w : h * 4294967296 + j + 1 ≡ g * 4294967296 + i + 1 = sym x.word ∙ (ap (λ n. get_or core.words (open_word (plan_of script) n) 0) o ∙ y.word) in let f = x.few in let f' = y.few in (omega (arith, w, f, f'), omega (arith, w, f, f'))
+          let w : h * 4294967296 + j + 1 ≡ g * 4294967296 + i + 1 = sym x.word ∙ (ap (λ n. get_or core.words (open_index (plan_of script) n) 0) o ∙ y.word) in let f = x.few in let f' = y.few in (omega (arith, w, f, f'), omega (arith, w, f, f'))
 
   -- ## A post
 

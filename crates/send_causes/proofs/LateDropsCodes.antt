@@ -8,15 +8,15 @@ use lib.ListN.{get_elem?}
 use Rattle.sock_words.specs.Words.{socket_id_version, socket_id_slot}
 use Rattle.sock_words.specs.declared.plain.Plan.{Plan}
 use Rattle.sock_model.specs.declared.view.View.{View}
-use Rattle.sock_model.specs.Layout.{open_word}
+use Rattle.sock_model.specs.Layout.{open_index}
 use Rattle.sock_model.specs.References.{slot_facts}
 use Rattle.sock_model.specs.Slots.{live}
-use Rattle.sock_programs.specs.Asides.{Taking}
-use Rattle.sock_programs.specs.Calls.{StoreCode, LoadCode}
-use Rattle.sock_programs.specs.Cores.{Core, SeatState, word_of, found_at}
-use Rattle.sock_programs.specs.Programs.{Program, Do, Rest, NO_SOCKET}
-use Rattle.sock_programs.specs.Readers.{reader}
-use Rattle.sock_programs.specs.Ticks.{Moment, IsAnswered, ticked}
+use Rattle.seat_programs.specs.Asides.{Taking}
+use Rattle.seat_programs.specs.Calls.{StoreCode, LoadCode}
+use Rattle.seat_programs.specs.Cores.{Core, SeatState, word_of, found_at}
+use Rattle.seat_programs.specs.Programs.{Program, Do, Rest, NO_SOCKET}
+use Rattle.seat_programs.specs.Readers.{reader}
+use Rattle.seat_programs.specs.Ticks.{Moment, IsAnswered, ticked}
 use Rattle.sock_runs.specs.GoesOn.{GoesOn}
 use Rattle.sock_runs.specs.May.{May}
 use Rattle.sock_runs.specs.Sound.{state, Sound, IsFitting, first_step, views_after}
@@ -25,7 +25,7 @@ use Rattle.sock_runs.proofs.LinkTicks.{RetriesGo}
 use Rattle.sock_runs.proofs.Passes.{goes_round}
 use Rattle.sock_runs.proofs.Recorded.{Recorded}
 use Rattle.sock_runs.proofs.Rounds.{begins_round}
-use Rattle.sock_causes.proofs.Cases.{tick_cases}
+use Rattle.outcome_causes.proofs.Cases.{tick_cases}
 use Rattle.call_causes.specs.Decided.{is_late_step, late_at}
 use Rattle.send_causes.specs.Refused.{DidStep, DidAt}
 use Rattle.send_causes.proofs.Closers.{Ends, Calm, calm_first, stores_code}
@@ -42,8 +42,8 @@ module _ (p : Plan) (calls os : List ℕ) (in_os : (k o : ℕ) → get_elem? os 
     pub operation : ℕ
     pub id : ℕ
     pub at : get_elem? os link ≡ some operation
-    pub word : get_or W (open_word p operation) 0 ≡ id + 1
-    pub socket : get_or W (open_word p operation) 0 ≢ NO_SOCKET
+    pub word : get_or W (open_index p operation) 0 ≡ id + 1
+    pub socket : get_or W (open_index p operation) 0 ≢ NO_SOCKET
     pub slot : j ≡ socket_id_slot id
     pub version : h ≡ socket_id_version id
 
@@ -64,7 +64,7 @@ module _ (p : Plan) (calls os : List ℕ) (in_os : (k o : ℕ) → get_elem? os 
   late_more Late Later f c vs taken law = record { keeps = law.keeps; clients = law.clients; known = λ j h new inside even version some_. stored_more Late Later f j h (code_in c.words j) (law.known j h new inside even version some_) }
 
   module _ (Q : ℕ → ℕ → Type 0) (go : RetriesGo p) (c : Core) (vs : List View) (m : Moment) (taken : ℕ → List Taking) (sound : Sound p c vs) (answered : IsAnswered c m) (fitting : IsFitting p c m) (recorded : Recorded p Q c vs)
-      (ahead : (o : ℕ) → o < p.operations → get_or c.words (open_word p o) 0 ≢ 0 → get_or W (open_word p o) 0 ≡ get_or c.words (open_word p o) 0) (Late : ℕ → Type 0) (law : LateLaw Late c vs taken) where
+      (ahead : (o : ℕ) → o < p.operations → get_or c.words (open_index p o) 0 ≢ 0 → get_or W (open_index p o) 0 ≡ get_or c.words (open_index p o) 0) (Late : ℕ → Type 0) (law : LateLaw Late c vs taken) where
     -- with this tick
     abbrev pub Later : ℕ → Type 0
     Later n = Late n ⊎ (late_at (32 + n) c m ≡ true)
@@ -81,7 +81,7 @@ module _ (p : Plan) (calls os : List ℕ) (in_os : (k o : ℕ) → get_elem? os 
       by_reader : 32 ≤ m.seat → (l : IsLife j g) × Later l.link
       by_reader high = let r = reader_of p calls os in_os Odd Lasts ends c vs taken law.keeps m.seat seat at high in by r (state_at p calls os in_os Odd Lasts ends c vs taken law.keeps m.seat seat v at here r)
         where
-          by : (r : (n : ℕ) × (o : ℕ) × (m.seat ≡ 32 + n) × (get_elem? os n ≡ some o)) → State p calls r.0 r.1 (in_os r.0 r.1 r.3) Odd Lasts (ends r.0) (get_or c.words (open_word p r.1) 0) (taken r.0) seat.program v → (l : IsLife j g) × Later l.link
+          by : (r : (n : ℕ) × (o : ℕ) × (m.seat ≡ 32 + n) × (get_elem? os n ≡ some o)) → State p calls r.0 r.1 (in_os r.0 r.1 r.3) Odd Lasts (ends r.0) (get_or c.words (open_index p r.1) 0) (taken r.0) seat.program v → (l : IsLife j g) × Later l.link
           by r (none_, inl s) = absurd (let z : first_step (reader calls r.0 r.1) ≡ Do (StoreCode j g code) next = sym (ap first_step s.0) ∙ is in cc)
           by r (none_, inr (inl s)) = absurd (let z : Rest ≡ Do (StoreCode j g code) next = sym (ap first_step s.0) ∙ is in cc)
           by r (none_, inr (inr s)) = let x = stores_code r.0 s.id Odd Lasts s.held (taken r.0) j g code next (subst (Calm r.0 s.id Odd Lasts s.held (taken r.0)) is (calm_first r.0 s.id Odd Lasts (ends r.0 s.id) s.held (taken r.0) seat.program s.calm)) in

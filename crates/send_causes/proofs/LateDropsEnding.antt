@@ -9,14 +9,14 @@ use Rattle.brpc_model.specs.Operations.{Turn}
 use Rattle.sock_words.specs.Words.{vref_version}
 use Rattle.sock_words.specs.declared.plain.Plan.{Plan}
 use Rattle.sock_model.specs.declared.view.View.{View}
-use Rattle.sock_model.specs.Layout.{ref_word}
-use Rattle.chain_laws.proofs.Lists.{at_some}
-use Rattle.sock_programs.specs.Calls.{DropPlace}
-use Rattle.sock_programs.specs.Cores.{Core, SeatState}
-use Rattle.sock_programs.specs.Programs.{Program, Do}
-use Rattle.sock_programs.specs.Tasks.{plan_of}
-use Rattle.sock_programs.specs.Ticks.{Moment, AreAnswered, ticked, run}
-use Rattle.sock_programs.specs.Scripts.{IsRunWithCalls}
+use Rattle.sock_model.specs.Layout.{ref_index}
+use Rattle.chain_steps.proofs.Lists.{at_some}
+use Rattle.seat_programs.specs.Calls.{DropPlace}
+use Rattle.seat_programs.specs.Cores.{Core, SeatState}
+use Rattle.seat_programs.specs.Programs.{Program, Do}
+use Rattle.seat_programs.specs.Tasks.{plan_of}
+use Rattle.seat_programs.specs.Ticks.{Moment, AreAnswered, ticked, run}
+use Rattle.seat_programs.specs.Scripts.{IsRunWithCalls}
 use Rattle.sock_runs.specs.GoesOn.{GoesOn}
 use Rattle.sock_runs.specs.May.{May}
 use Rattle.sock_runs.specs.Sound.{Sound, AreFitting, first_step, views_after, views_along}
@@ -85,7 +85,7 @@ module _ (script : List Item) (made : AreMade script) (turns : List Turn) (core 
   pub drops_of_new : (j l k n found : ℕ) → DidIn (plan_of script) is.ended is.final j (DidStep (DropPlace l k n) found) → IsOfNew k
   drops_of_new = drops_late (plan_of script) is.ended IsOfNew (go script made turns core is) is.final is.ended (views_closed script turns core is (first_views script))
       (closed_sound script made.are (first_views script) (start script made turns core is) (go script made turns core is) turns core is (fitting script made turns core is)) is.answered_again (let f = fitting script made turns core is in f.of_final)
-      (λ i h k inside given. dite (dec_le (vref_version (get_or is.ended.words (ref_word i) 0)) h)
+      (λ i h k inside given. dite (dec_le (vref_version (get_or is.ended.words (ref_index i) 0)) h)
       (λ high. inr (i, h, inside, subst (λ d. IsGiven d (views_ended script turns core is (first_views script)) i h k) (sym is.is_end) given, λ old. omega (arith, high, old)))
       (λ low. inl (omega (arith, low))))
       (record { later = λ i inside. omega arith; links = λ i h k inside given. inr tt })

@@ -7,22 +7,22 @@ use lib.ListN.{get_elem?}
 use Rattle.sock_words.specs.Words.{socket_id_version, socket_id_slot}
 use Rattle.sock_words.specs.declared.plain.Plan.{Plan}
 use Rattle.sock_model.specs.declared.view.View.{View}
-use Rattle.sock_model.specs.Layout.{open_word}
+use Rattle.sock_model.specs.Layout.{open_index}
 use Rattle.corr_core.specs.Word.{code_of}
 use Rattle.corr_core.specs.declared.marks.Plan.{Plan as IdPlan}
 use Rattle.sock_message.specs.Asked.{Asked}
-use Rattle.sock_programs.specs.Asides.{Taking}
-use Rattle.sock_programs.specs.Calls.{LoadCode}
-use Rattle.sock_programs.specs.Cores.{Core, SeatState}
-use Rattle.sock_programs.specs.Ticks.{Moment, AreAnswered, IsAnswered, quiet, ticked, run}
+use Rattle.seat_programs.specs.Asides.{Taking}
+use Rattle.seat_programs.specs.Calls.{LoadCode}
+use Rattle.seat_programs.specs.Cores.{Core, SeatState}
+use Rattle.seat_programs.specs.Ticks.{Moment, AreAnswered, IsAnswered, quiet, ticked, run}
 use Rattle.sock_runs.specs.Sound.{Sound, AreFitting, IsFitting, first_step, views_after, views_along}
 use Rattle.sock_runs.proofs.LinkTicks.{RetriesGo}
 use Rattle.sock_runs.proofs.OpensStay.{run_word}
 use Rattle.sock_runs.proofs.Recorded.{Recorded, recorded_ticks}
 use Rattle.sock_runs.proofs.Ticks.{sound_ticks}
-use Rattle.sock_causes.specs.Stories.{In}
-use Rattle.sock_causes.proofs.Members.{all_in}
-use Rattle.sock_causes.proofs.Plain.{in_left, in_right, in_both}
+use Rattle.outcome_causes.specs.Stories.{In}
+use Rattle.outcome_causes.proofs.Members.{all_in}
+use Rattle.outcome_causes.proofs.Plain.{in_left, in_right, in_both}
 use Rattle.call_causes.specs.Decided.{posted_by, is_late_step, late_at, late_in, posted_behind}
 use Rattle.call_causes.specs.Lists.{shows_in}
 use Rattle.call_causes.specs.Posts.{Post, posted_at}
@@ -147,7 +147,7 @@ module _ (p : Plan) (q : IdPlan) (narrow : q.slots ≤ 65536) (is_call : Asked �
   module _ (Q : ℕ → ℕ → Type 0) (go : RetriesGo p) (lasts : Lasts) where
     -- a post of one tick
     module _ (Done : ℕ → Deed → Type 0) (Late : ℕ → Type 0) (c : Core) (vs : List View) (m : Moment) (taken : ℕ → List Taking) (ss : List Doing) (sound : Sound p c vs) (answered : IsAnswered c m) (fitting : IsFitting p c m) (recorded : Recorded p Q c vs)
-        (ahead : (o : ℕ) → o < p.operations → get_or c.words (open_word p o) 0 ≢ 0 → get_or W (open_word p o) 0 ≡ get_or c.words (open_word p o) 0) (law : Law Late c vs taken) where
+        (ahead : (o : ℕ) → o < p.operations → get_or c.words (open_index p o) 0 ≢ 0 → get_or W (open_index p o) 0 ≡ get_or c.words (open_index p o) 0) (law : Law Late c vs taken) where
       now_told : (j : ℕ) (d : Deed) → DidAt p c m j d → Says Late d
       now_told j (DidStep (LoadCode i h) code) d = λ some_ new. found_stored p calls os in_os Odd Lasts ends P gone W New Q go c vs m taken sound answered fitting recorded ahead Late law j i h code d some_ new
       now_told j other d = tt
@@ -184,7 +184,7 @@ module _ (p : Plan) (q : IdPlan) (narrow : q.slots ≤ 65536) (is_call : Asked �
     time_next Late c m ms x n (inr e) = inr (behind_later (32 + n) p c m ms x e)
 
     pub posts_along : (ms : List Moment) (Done : ℕ → Deed → Type 0) (Late : ℕ → Type 0) (c : Core) (vs : List View) → Sound p c vs → AreAnswered p c ms → AreFitting p c ms → Recorded p Q c vs → AreLabelled ids p q c ms → AllWouldOwn ids p c ms
-        → Lawful_ p q narrow is_call ids c vs → ((o : ℕ) → o < p.operations → get_or (run p c ms).words (open_word p o) 0 ≢ 0 → get_or W (open_word p o) 0 ≡ get_or (run p c ms).words (open_word p o) 0)
+        → Lawful_ p q narrow is_call ids c vs → ((o : ℕ) → o < p.operations → get_or (run p c ms).words (open_index p o) 0 ≢ 0 → get_or W (open_index p o) 0 ≡ get_or (run p c ms).words (open_index p o) 0)
         → (taken : ℕ → List Taking) → Law Late c vs taken → (ss : List Doing) → Charged Done Late c vs ss → Behind Done Late c vs ms
     posts_along [] Done Late c vs sound answered fitting recorded are own labels ahead taken law ss charges = record {
       taken = taken;
@@ -214,7 +214,7 @@ module _ (p : Plan) (q : IdPlan) (narrow : q.slots ≤ 65536) (is_call : Asked �
         }
       where
         -- words of opens stay
-        open_ahead : (o : ℕ) → o < p.operations → get_or c.words (open_word p o) 0 ≢ 0 → get_or W (open_word p o) 0 ≡ get_or c.words (open_word p o) 0
+        open_ahead : (o : ℕ) → o < p.operations → get_or c.words (open_index p o) 0 ≢ 0 → get_or W (open_index p o) 0 ≡ get_or c.words (open_index p o) 0
         open_ahead o inside some_ = let stays = run_word p Q o inside go c vs (m ∷ ms) sound answered fitting recorded some_ in ahead o inside (λ z. some_ (sym stays ∙ z)) ∙ stays
 
         told_next : (j : ℕ) (d : Deed) → Told Done Late j d ⊎ DidAt p c m j d → Told (λ j d. Done j d ⊎ DidAt p c m j d) (Next Late c m) j d

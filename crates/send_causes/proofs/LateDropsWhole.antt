@@ -10,23 +10,23 @@ use Rattle.brpc_model.specs.Items.{Item}
 use Rattle.brpc_model.specs.Operations.{Turn}
 use Rattle.sock_words.specs.declared.plain.Plan.{Plan}
 use Rattle.sock_model.specs.declared.view.View.{View}
-use Rattle.sock_model.specs.Layout.{open_word}
+use Rattle.sock_model.specs.Layout.{open_index}
 use Rattle.corr_core.specs.Word.{code_of}
-use Rattle.sock_programs.specs.declared.task.Op.TheVariants as ops
-use Rattle.sock_programs.specs.declared.task.Task.{Task}
-use Rattle.sock_programs.specs.Asides.{Taking}
-use Rattle.sock_programs.specs.Cores.{Core}
-use Rattle.sock_programs.specs.Tasks.{opens, calls, plan_of, id_plan_of}
-use Rattle.sock_programs.specs.Ticks.{Moment, AreAnswered, quiet, ticked, run}
-use Rattle.sock_programs.specs.Scripts.{all_tasks, opened, set_up, played, IsRunWithCalls}
+use Rattle.seat_programs.specs.declared.task.Op.TheVariants as ops
+use Rattle.seat_programs.specs.declared.task.Task.{Task}
+use Rattle.seat_programs.specs.Asides.{Taking}
+use Rattle.seat_programs.specs.Cores.{Core}
+use Rattle.seat_programs.specs.Tasks.{opens, calls, plan_of, id_plan_of}
+use Rattle.seat_programs.specs.Ticks.{Moment, AreAnswered, quiet, ticked, run}
+use Rattle.seat_programs.specs.Scripts.{all_tasks, opened, set_up, played, IsRunWithCalls}
 use Rattle.sock_runs.specs.Sound.{Sound, AreFitting, views_along}
 use Rattle.sock_runs.proofs.Along.{seat_rests}
 use Rattle.sock_runs.proofs.OpensStay.{run_word}
 use Rattle.sock_runs.proofs.Recorded.{Recorded}
 use Rattle.sock_runs.proofs.Whole.{IsListed, closing_of, views_played, views_closed, set_up_answered, end_answered, set_up_sound, closing_sound, closed_sound, closed_ahead, recorded_opened, recorded_set_up, recorded_closing, recorded_closed}
-use Rattle.sock_causes.specs.Stories.{In}
-use Rattle.sock_causes.proofs.Plain.{in_left, in_right, in_both}
-use Rattle.call_causes.specs.client_laws.proofs.Beginning as clients_begin
+use Rattle.outcome_causes.specs.Stories.{In}
+use Rattle.outcome_causes.proofs.Plain.{in_left, in_right, in_both}
+use Rattle.call_causes.specs.programs_allowed.proofs.Beginning as clients_begin
 use Rattle.call_causes.specs.joint_runs.proofs.Runs.{AreMade, first_views}
 use Rattle.call_causes.specs.owed_calls.specs.Lives.{ClosesInRun}
 use Rattle.call_causes.specs.Decided.{posted_by, posted_behind}
@@ -93,7 +93,7 @@ module _ (script : List Item) (made : AreMade script) (turns : List Turn) (core 
   -- ## Words of opens, to the end
 
   abbrev Word : Core → ℕ → ℕ
-  Word c o = get_or c.words (open_word (plan_of script) o) 0
+  Word c o = get_or c.words (open_index (plan_of script) o) 0
 
   from_ended : (o : ℕ) → o < (plan_of script).operations → Word is.ended o ≢ 0 → Word core o ≡ Word is.ended o
   from_ended o inside some_ = ap (λ c. Word c o) is.is_end ∙ run_word (plan_of script) (IsListed script) o inside (go script made turns core is) is.ended (views_closed script turns core is (first_views script)) is.final

@@ -8,24 +8,24 @@ use Rattle.atomic_table.proofs.Lists.{at_set, set_else}
 use Rattle.sock_words.specs.Words.{socket_id, socket_id_version, socket_id_slot, vref_version, vref_nref}
 use Rattle.sock_words.specs.declared.plain.Plan.{Plan}
 use Rattle.sock_model.specs.declared.view.View.{View}
-use Rattle.sock_model.specs.Layout.{ref_word, open_word}
+use Rattle.sock_model.specs.Layout.{ref_index, open_index}
 use Rattle.sock_model.specs.Slots.{count, live}
 use Rattle.sock_model.specs.References.{slot_facts}
 use Rattle.sock_model.specs.Weights.{is_born, is_linked}
-use Rattle.slot_laws.proofs.Numbers.{life-in, life_is}
-use Rattle.chain_laws.proofs.Lists.{at_some}
+use Rattle.slot_steps.proofs.Numbers.{life-in, life_is}
+use Rattle.chain_steps.proofs.Lists.{at_some}
 use Rattle.sock_steps.proofs.Places.{counts}
 use Rattle.sock_steps.proofs.Quiet.{either_way}
 use Rattle.brpc_model.specs.Items.{Item}
 use Rattle.brpc_model.specs.Operations.{Turn}
-use Rattle.sock_programs.specs.Calls.{Call, AddRef, SetOdd, LoadOpen}
-use Rattle.sock_programs.specs.Heads.{Retry}
-use Rattle.sock_programs.specs.Programs.{Program, Do, Rest, LAST_VERSION, NO_SOCKET, recycle, release, address, set_failed}
-use Rattle.sock_programs.specs.Clients.{ending_of}
-use Rattle.sock_programs.specs.Cores.{Core, SeatState, word_of, word_after, found_at, words_after, homes_after, resolved, next_step, waiting_at}
-use Rattle.sock_programs.specs.Tasks.{opens, plan_of}
-use Rattle.sock_programs.specs.Ticks.{Moment, IsAnswered, AreAnswered, quiet, ticked, run}
-use Rattle.sock_programs.specs.Scripts.{played, IsRunWithCalls}
+use Rattle.seat_programs.specs.Calls.{Call, AddRef, SetOdd, LoadOpen}
+use Rattle.seat_programs.specs.Heads.{Retry}
+use Rattle.seat_programs.specs.Programs.{Program, Do, Rest, LAST_VERSION, NO_SOCKET, recycle, release, address, set_failed}
+use Rattle.seat_programs.specs.Clients.{ending_of}
+use Rattle.seat_programs.specs.Cores.{Core, SeatState, word_of, word_after, found_at, words_after, homes_after, resolved, next_step, waiting_at}
+use Rattle.seat_programs.specs.Tasks.{opens, plan_of}
+use Rattle.seat_programs.specs.Ticks.{Moment, IsAnswered, AreAnswered, quiet, ticked, run}
+use Rattle.seat_programs.specs.Scripts.{played, IsRunWithCalls}
 use Rattle.sock_runs.specs.Rows.{row, hand_at}
 use Rattle.sock_runs.specs.Sound.{state, Sound, first_step, IsFitting, AreFitting, views_after, views_along}
 use Rattle.sock_runs.proofs.Along.{place_inside, seat_rests}
@@ -56,7 +56,7 @@ given_born p c vs sound i h k inside given = let l = law p (state c vs) sound.la
     let one = life-in p.first h ((slot_facts (state c vs) i).version + live (slot_facts (state c vs) i)) begun low even in let born = l.born h in omega (arith, one, born)
 
 -- and is no later one than the slot's
-given_low : (p : Plan) (c : Core) (vs : List View) → Sound p c vs → (i h k : ℕ) → i < p.slots → IsGiven c vs i h k → h ≤ vref_version (get_or c.words (ref_word i) 0)
+given_low : (p : Plan) (c : Core) (vs : List View) → Sound p c vs → (i h k : ℕ) → i < p.slots → IsGiven c vs i h k → h ≤ vref_version (get_or c.words (ref_index i) 0)
 given_low p c vs sound i h k inside given = let l = law p (state c vs) sound.lawful.references i inside in let low = l.link_low h k given in let le = lives_le p (state c vs) sound.lawful.references i inside in omega (arith, low, le)
 
 -- ## The program of the ending
@@ -159,17 +159,17 @@ fails_ending o w some_ socket (m ∷ os) zero at = λ word is. fails_ended o w s
 fails_ending o w some_ socket (m ∷ os) (suc n) at = through_end (Fails o w) (fails_passes o w) (fails_opens o w) m (ending_of os) (fails_ending o w some_ socket os n at)
 
 -- a step of it finds that the life has gone on, sets its slot's version odd, or leaves it to what follows
-what_fails : (p : Plan) (ws : List ℕ) (o w : ℕ) (call : Call) (next : ℕ → Program) → get_or ws (open_word p o) 0 ≡ w → Fails o w (Do call next)
-    → ((id : ℕ) × (id + 1 ≡ w) × (vref_version (get_or ws (ref_word (socket_id_slot id)) 0) ≢ socket_id_version id)) ⊎ ((call ≡ SetOdd (socket_id_slot (w - 1))) ⊎ Fails o w (next (found_at ws (word_of p call))))
-what_fails p ws o w (LoadOpen n) next word f = inr (inr (f (get_or ws (open_word p n) 0) (λ e. ap (λ z. get_or ws (open_word p z) 0) e ∙ word)))
-what_fails p ws o w (AddRef id) next word f = ⊎_elim (λ a. inl (id, a.0, a.1)) (λ g. inr (inr g)) (f (get_or ws (ref_word (socket_id_slot id)) 0))
-what_fails p ws o w (SetOdd i) next word f = ⊎_elim (λ e. inr (inl (ap SetOdd (sym e)))) (λ g. inr (inr (g (get_or ws (ref_word i) 0)))) f
+what_fails : (p : Plan) (ws : List ℕ) (o w : ℕ) (call : Call) (next : ℕ → Program) → get_or ws (open_index p o) 0 ≡ w → Fails o w (Do call next)
+    → ((id : ℕ) × (id + 1 ≡ w) × (vref_version (get_or ws (ref_index (socket_id_slot id)) 0) ≢ socket_id_version id)) ⊎ ((call ≡ SetOdd (socket_id_slot (w - 1))) ⊎ Fails o w (next (found_at ws (word_of p call))))
+what_fails p ws o w (LoadOpen n) next word f = inr (inr (f (get_or ws (open_index p n) 0) (λ e. ap (λ z. get_or ws (open_index p z) 0) e ∙ word)))
+what_fails p ws o w (AddRef id) next word f = ⊎_elim (λ a. inl (id, a.0, a.1)) (λ g. inr (inr g)) (f (get_or ws (ref_index (socket_id_slot id)) 0))
+what_fails p ws o w (SetOdd i) next word f = ⊎_elim (λ e. inr (inl (ap SetOdd (sym e)))) (λ g. inr (inr (g (get_or ws (ref_index i) 0)))) f
 what_fails p ws o w call next word f = inr (inr (f (found_at ws (word_of p call))))
 
 -- ## Its ticks
 
 abbrev IsPast : Core → ℕ → ℕ → Type 0
-IsPast c i h = h < vref_version (get_or c.words (ref_word i) 0)
+IsPast c i h = h < vref_version (get_or c.words (ref_index i) 0)
 
 module _ (p : Plan) (retries : RetriesGo p) where
   -- seat 0 makes the ending
@@ -202,22 +202,22 @@ module _ (p : Plan) (retries : RetriesGo p) where
     -- the life stands in the word of the `open`, and it is past, or seat 0 has still to set it failed
     record Passing (c : Core) (vs : List View) : Type 0 where
       given : IsGiven c vs i h k
-      word : get_or c.words (open_word p o) 0 ≡ socket_id h i + 1
+      word : get_or c.words (open_index p o) 0 ≡ socket_id h i + 1
       makes : MakesEnding c
       fails : (seat : SeatState) → get_elem? c.seats 0 ≡ some seat → IsPast c i h ⊎ Fails o (socket_id h i + 1) seat.program
 
-    passing_step : (c : Core) (vs : List View) (j : ℕ) (v : View) (call : Call) (next : ℕ → Program) → Sound p c vs → get_elem? vs j ≡ some v → Rattle.sock_runs.specs.May.May p v call → IsGiven c vs i h k → get_or c.words (open_word p o) 0 ≡ socket_id h i + 1
+    passing_step : (c : Core) (vs : List View) (j : ℕ) (v : View) (call : Call) (next : ℕ → Program) → Sound p c vs → get_elem? vs j ≡ some v → Rattle.sock_runs.specs.May.May p v call → IsGiven c vs i h k → get_or c.words (open_index p o) 0 ≡ socket_id h i + 1
         → IsPast c i h ⊎ Fails o (socket_id h i + 1) (Do call next)
-        → (h < vref_version (get_or (words_after c.words (word_of p call) (word_after call (found_at c.words (word_of p call)))) (ref_word i) 0)) ⊎ Fails o (socket_id h i + 1) (next (found_at c.words (word_of p call)))
+        → (h < vref_version (get_or (words_after c.words (word_of p call) (word_after call (found_at c.words (word_of p call)))) (ref_index i) 0)) ⊎ Fails o (socket_id h i + 1) (next (found_at c.words (word_of p call)))
     passing_step c vs j v call next sound at may given word x = ⊎_elim (λ past. gone past)
         (λ f. ⊎_elim (λ a. let id_is = a.1 in let few = sound.limits.slots in let slot_is : socket_id_slot a.0 ≡ i = omega (arith, id_is, few, inside) in let version_is : socket_id_version a.0 ≡ h = omega (arith, id_is, few, inside) in
         let far = a.2 in let low = given_low p c vs sound i h k inside given in
-        let other : vref_version (get_or c.words (ref_word i) 0) ≢ h = (λ e. far (ap (λ z. vref_version (get_or c.words (ref_word z) 0)) slot_is ∙ (e ∙ sym version_is))) in gone (omega (arith, low, other)))
+        let other : vref_version (get_or c.words (ref_index i) 0) ≢ h = (λ e. far (ap (λ z. vref_version (get_or c.words (ref_index z) 0)) slot_is ∙ (e ∙ sym version_is))) in gone (omega (arith, low, other)))
         (λ b. ⊎_elim (λ made. let few = sound.limits.slots in let slot_is : socket_id_slot (socket_id h i + 1 - 1) ≡ i = omega (arith, few, inside) in let is : call ≡ SetOdd i = made ∙ ap SetOdd slot_is in
-        inl (subst (λ y. h < vref_version (get_or (words_after c.words (word_of p y) (word_after y (found_at c.words (word_of p y)))) (ref_word i) 0)) (sym is) (odd_past p c vs sound j v at i h inside (given_born p c vs sound i h k inside given)))) (λ g. inr g) b)
+        inl (subst (λ y. h < vref_version (get_or (words_after c.words (word_of p y) (word_after y (found_at c.words (word_of p y)))) (ref_index i) 0)) (sym is) (odd_past p c vs sound j v at i h inside (given_born p c vs sound i h k inside given)))) (λ g. inr g) b)
         (what_fails p c.words o (socket_id h i + 1) call next word f)) x
       where
-        gone : IsPast c i h → (h < vref_version (get_or (words_after c.words (word_of p call) (word_after call (found_at c.words (word_of p call)))) (ref_word i) 0)) ⊎ Fails o (socket_id h i + 1) (next (found_at c.words (word_of p call)))
+        gone : IsPast c i h → (h < vref_version (get_or (words_after c.words (word_of p call) (word_after call (found_at c.words (word_of p call)))) (ref_index i) 0)) ⊎ Fails o (socket_id h i + 1) (next (found_at c.words (word_of p call)))
         gone past = let on = versions_on p c vs sound j v at call may i inside in inl (omega (arith, past, on))
 
     passing_ticks : (c : Core) (vs : List View) (m : Moment) → m.seat ≡ 0 → Sound p c vs → IsAnswered c m → IsFitting p c m → Passing c vs → Passing (ticked p c m) (views_after p c vs m)
@@ -228,13 +228,13 @@ module _ (p : Plan) (retries : RetriesGo p) where
       fails = x.1;
     }
       where
-        both : (get_or (ticked p c m).words (open_word p o) 0 ≡ socket_id h i + 1) × ((seat : SeatState) → get_elem? (ticked p c m).seats 0 ≡ some seat → IsPast (ticked p c m) i h ⊎ Fails o (socket_id h i + 1) seat.program)
+        both : (get_or (ticked p c m).words (open_index p o) 0 ≡ socket_id h i + 1) × ((seat : SeatState) → get_elem? (ticked p c m).seats 0 ≡ some seat → IsPast (ticked p c m) i h ⊎ Fails o (socket_id h i + 1) seat.program)
         both = tick_keeps_marks p c vs m sound answered fits (begins_round p) (goes_round p)
-            (λ d ws. (get_or d.words (open_word p o) 0 ≡ socket_id h i + 1) × ((seat : SeatState) → get_elem? d.seats 0 ≡ some seat → IsPast d i h ⊎ Fails o (socket_id h i + 1) seat.program)) (r.word, r.fails)
+            (λ d ws. (get_or d.words (open_index p o) 0 ≡ socket_id h i + 1) × ((seat : SeatState) → get_elem? d.seats 0 ≡ some seat → IsPast d i h ⊎ Fails o (socket_id h i + 1) seat.program)) (r.word, r.fails)
             (λ seat v call next at_seat at_view is goes. let at_zero = sym (ap (get_elem? c.seats) own) ∙ at_seat in let x = r.makes seat at_zero in let program_is = sym (first_is seat.program x) ∙ is in let y = subst Still program_is x in (
               opens_same p c.words v o within call goes.0 y.0 ∙ r.word,
-              λ s at. ⊎_elim (λ a. subst (λ (z : SeatState). (h < vref_version (get_or (words_after c.words (word_of p call) (word_after call (found_at c.words (word_of p call)))) (ref_word i) 0)) ⊎ Fails o (socket_id h i + 1) z.program) a.1
-                  (subst (λ z. (h < vref_version (get_or (words_after c.words (word_of p call) (word_after call (found_at c.words (word_of p call)))) (ref_word i) 0)) ⊎ Fails o (socket_id h i + 1) z) (sym (next_is (waiting_at c.calls.waiting m.seat) (next (found_at c.words (word_of p call))) (y.2 (found_at c.words (word_of p call)))))
+              λ s at. ⊎_elim (λ a. subst (λ (z : SeatState). (h < vref_version (get_or (words_after c.words (word_of p call) (word_after call (found_at c.words (word_of p call)))) (ref_index i) 0)) ⊎ Fails o (socket_id h i + 1) z.program) a.1
+                  (subst (λ z. (h < vref_version (get_or (words_after c.words (word_of p call) (word_after call (found_at c.words (word_of p call)))) (ref_index i) 0)) ⊎ Fails o (socket_id h i + 1) z) (sym (next_is (waiting_at c.calls.waiting m.seat) (next (found_at c.words (word_of p call))) (y.2 (found_at c.words (word_of p call)))))
                   (passing_step c vs m.seat v call next sound at_view goes.0 r.given r.word (subst (λ z. IsPast c i h ⊎ Fails o (socket_id h i + 1) z) program_is (r.fails seat at_zero)))))
                   (λ a. absurd (a.0 (sym own))) (at_set c.seats m.seat 0 _ s at),
             ))
@@ -314,6 +314,6 @@ module _ (script : List Item) (made : AreMade script) (turns : List Turn) (core 
       at_rest s at = seat_rests is.ended (closed_ahead script made.are (first_views script) (start script made turns core is) (go script made turns core is) turns core is (fitting script made turns core is)) 0 is.is_over s (ap (λ (d : Core). get_elem? d.seats 0) is.is_ended ∙ at)
 
   -- where seat 0 has made the ending, each life that was made is past
-  pub ended_past : (i h k : ℕ) → i < (plan_of script).slots → IsGiven is.ended (views_closed script turns core is (first_views script)) i h k → h < vref_version (get_or is.ended.words (ref_word i) 0)
-  ended_past i h k inside given = subst (λ (d : Core). h < vref_version (get_or d.words (ref_word i) 0)) (sym is.is_ended)
+  pub ended_past : (i h k : ℕ) → i < (plan_of script).slots → IsGiven is.ended (views_closed script turns core is (first_views script)) i h k → h < vref_version (get_or is.ended.words (ref_index i) 0)
+  ended_past i h k inside given = subst (λ (d : Core). h < vref_version (get_or d.words (ref_index i) 0)) (sym is.is_ended)
       (closed_past i h k inside (subst (λ d. IsGiven d (views_closed script turns core is (first_views script)) i h k) is.is_ended given))

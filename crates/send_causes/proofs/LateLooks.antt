@@ -16,22 +16,22 @@ use Rattle.corr_core.specs.Law.{LAST}
 use Rattle.sock_message.specs.Asked.{Asked, frame_of}
 use Rattle.brpc_model.specs.Frame.{Frame}
 use Rattle.brpc_model.specs.Stream as streams
-use Rattle.sock_programs.specs.declared.task.Op.{Op}
-use Rattle.sock_programs.specs.declared.task.Op.TheVariants as ops
-use Rattle.sock_programs.specs.declared.task.Task.{Task}
-use Rattle.sock_programs.specs.declared.task.Sizes.{Sizes}
-use Rattle.sock_programs.specs.Calls.{LookWord, FindLink, ClaimRequest, SwapHead, EmptyHead}
-use Rattle.sock_programs.specs.Writings.{Holder, Writing, Puts, Waits, Empties, Walks}
-use Rattle.sock_programs.specs.Asides.{Found, StoreAt, Taking, Bytes, Nothing, Closed, call_id, id_slot, id_first}
-use Rattle.sock_programs.specs.Heads.{Head, Exit, Retry, Sought, Reading, Posts, Unlocks, Decides, Locks, Joins, Opens, Reads, Discards, Posting, WasGone, WasStale, WasCrowded, WasQueued, HasLocked, Unlocking, IsOpen, HasNext, Deciding, HasEnded, GoesOn, Locking, NotThere, Has, Ended}
-use Rattle.sock_programs.specs.Programs.{Program, Do, Say, Sent, Rest, TakeMessage, TakeHome, PutHome, PutBytes, AskReady, Write, Aside, Round, Keep, Retries, LAST_VERSION, LAST_GENERATION, NO_SOCKET, recycle, release, address, reach, set_failed, fail, fail_outcome, hold, drop_held, open_from, make_socket}
-use Rattle.sock_programs.specs.Posts.{WHOLE, packed, advance_of, is_first, is_sought, is_stale, is_full, judged, posts_round, post_with, posted, post, popped, unlocks_round, ends_call, end_id, decide, decided, unlocked, decides_round, locking, locks_round, joins_round}
-use Rattle.sock_programs.specs.Readers.{LIMIT, has_response, slot_in, answer, answered, responses, read_on, took_bytes, took, reads_round, discarded, discards_round, opens_round, kept_for, ends_with, posted_last, post_each, thrown_away, read, reader}
-use Rattle.sock_programs.specs.Sends.{freed, one_more, passed_telling, tell_drop, placed, dropped, link_failed, put_answered, ready_answered, block, first_put, write_link, heading_of, accept, claim_from, start, send}
-use Rattle.sock_programs.specs.Attempts.{claims_from, heading_for, attempt, begin_call, claim_id, call, tried_again, retry_locked, retry, expire_outcome, expire, join}
-use Rattle.sock_programs.specs.Rounds.{round}
-use Rattle.sock_programs.specs.Clients.{HeldLife, held_under, without_name, give_back, drop_of, operation, client_from, ending_of}
-use Rattle.sock_programs.specs.Cores.{resolved, next_step}
+use Rattle.seat_programs.specs.declared.task.Op.{Op}
+use Rattle.seat_programs.specs.declared.task.Op.TheVariants as ops
+use Rattle.seat_programs.specs.declared.task.Task.{Task}
+use Rattle.seat_programs.specs.declared.task.Sizes.{Sizes}
+use Rattle.seat_programs.specs.Calls.{LookWord, FindLink, ClaimRequest, SwapHead, EmptyHead}
+use Rattle.seat_programs.specs.Writings.{Holder, Writing, Puts, Waits, Empties, Walks}
+use Rattle.seat_programs.specs.Asides.{Found, StoreAt, Taking, Bytes, Nothing, Closed, call_id, id_slot, id_first}
+use Rattle.seat_programs.specs.Heads.{Head, Exit, Retry, Sought, Reading, Posts, Unlocks, Decides, Locks, Joins, Opens, Reads, Discards, Posting, WasGone, WasStale, WasCrowded, WasQueued, HasLocked, Unlocking, IsOpen, HasNext, Deciding, HasEnded, GoesOn, Locking, NotThere, Has, Ended}
+use Rattle.seat_programs.specs.Programs.{Program, Do, Say, Sent, Rest, TakeMessage, TakeHome, PutHome, PutBytes, AskReady, Write, Aside, Round, Keep, Retries, LAST_VERSION, LAST_GENERATION, NO_SOCKET, recycle, release, address, reach, set_failed, fail, fail_outcome, hold, drop_held, open_from, make_socket}
+use Rattle.seat_programs.specs.Posts.{WHOLE, packed, advance_of, is_first, is_sought, is_stale, is_full, judged, posts_round, post_with, posted, post, popped, unlocks_round, ends_call, end_id, decide, decided, unlocked, decides_round, locking, locks_round, joins_round}
+use Rattle.seat_programs.specs.Readers.{LIMIT, has_response, slot_in, answer, answered, responses, read_on, took_bytes, took, reads_round, discarded, discards_round, opens_round, kept_for, ends_with, posted_last, post_each, thrown_away, read, reader}
+use Rattle.seat_programs.specs.Sends.{freed, one_more, passed_telling, tell_drop, placed, dropped, link_failed, put_answered, ready_answered, block, first_put, write_link, heading_of, accept, claim_from, start, send}
+use Rattle.seat_programs.specs.Attempts.{claims_from, heading_for, attempt, begin_call, claim_id, call, tried_again, retry_locked, retry, expire_outcome, expire, join}
+use Rattle.seat_programs.specs.Rounds.{round}
+use Rattle.seat_programs.specs.Clients.{HeldLife, held_under, without_name, give_back, drop_of, operation, client_from, ending_of}
+use Rattle.seat_programs.specs.Cores.{resolved, next_step}
 use Rattle.sock_runs.specs.Sound.{first_step}
 
 -- ## What a seat has in hand of a message

@@ -10,10 +10,10 @@ use Rattle.sock_words.specs.declared.plain.Plan.{Plan}
 use Rattle.sock_model.specs.declared.chain.Right.{Right}
 use Rattle.sock_model.specs.declared.view.View.{View}
 use Rattle.sock_model.specs.Deliveries.{place_value}
-use Rattle.sock_model.specs.Layout.{tag_word, ref_word, link_word, head_word, code_word, name_word, open_word, request_word, next_word, place_word}
-use Rattle.sock_programs.specs.Calls.{Call, ClaimSlot, GiveBirth, AddRef, SubRef, SetOdd, Recycle, FreeSlot, StoreLink, LoadLink, ResetHead, WipeCode, StoreCode, StoreName, LoadName, StoreOpen, LoadOpen, TakeLink, FinishLink, PutLink, LookWord, FindLink, LoadCode, ClaimRequest, PutMessage, Unconnect, SwapHead, Connect, EmptyHead, ReadNext, TurnNext, FreeRequest, StorePlace, DropPlace}
-use Rattle.sock_programs.specs.Cores.{Core, word_of, word_after, found_at, words_after}
-use Rattle.sock_programs.specs.Ticks.{Moment, IsAnswered, AreAnswered, ticked, run}
+use Rattle.sock_model.specs.Layout.{tag_index, ref_index, link_index, head_index, code_index, name_index, open_index, request_index, next_index, place_index}
+use Rattle.seat_programs.specs.Calls.{Call, ClaimSlot, CreateLife, AddRef, SubRef, SetOdd, Recycle, FreeSlot, StoreLink, LoadLink, ResetHead, ClearCode, StoreCode, StoreName, LoadName, StoreOpen, LoadOpen, TakeLink, FinishLink, PutLink, LookWord, FindLink, LoadCode, ClaimRequest, PutMessage, Unconnect, SwapHead, Connect, EmptyHead, ReadNext, ReverseNext, FreeRequest, StorePlace, DropPlace}
+use Rattle.seat_programs.specs.Cores.{Core, word_of, word_after, found_at, words_after}
+use Rattle.seat_programs.specs.Ticks.{Moment, IsAnswered, AreAnswered, ticked, run}
 use Rattle.sock_runs.specs.May.{May}
 use Rattle.sock_runs.specs.Sound.{state, Sound, AreFew, MOST_PLACES, IsFitting, AreFitting, views_after, views_along}
 use Rattle.sock_runs.proofs.Cases.{tick_keeps_marks}
@@ -24,9 +24,9 @@ use Rattle.sock_runs.proofs.Passes.{goes_round}
 use Rattle.sock_runs.proofs.Rounds.{begins_round}
 use Rattle.sock_runs.proofs.Ticks.{sound_ticks}
 use Rattle.call_causes.specs.joint_runs.proofs.Both.{AreBounded}
-use Rattle.sock_causes.specs.Facts.{born_at, shown_in}
-use Rattle.sock_causes.specs.Stories.{In}
-use Rattle.sock_causes.proofs.Plain.{in_left, in_right}
+use Rattle.outcome_causes.specs.Facts.{born_at, shown_in}
+use Rattle.outcome_causes.specs.Stories.{In}
+use Rattle.outcome_causes.proofs.Plain.{in_left, in_right}
 use Rattle.send_causes.proofs.LateLooks.{Mode, Idle, Saw, Claims, Writes}
 use Rattle.send_causes.proofs.LateSeats.{Righted, rights_of, Stands, AllStand, stand_ticks}
 use Rattle.send_causes.proofs.LateLives.{WasPast, Lives, lives_tell, lives_ticks}
@@ -52,8 +52,8 @@ module _ (p : Plan) (base : Core) (L : ℕ → Type 0) where
 
   module _ (c : Core) (vs : List View) (sound : Sound p c vs) (few : AreFew vs) (i : ℕ) (v : View) (at : get_elem? vs i ≡ some v) (m : Mode) (stands : Stands p L (WasPast p base L) m v) (l : ℕ) (low : l < 8 * p.operations) where
     abbrev After : Call → Type 0
-    After call = (get_or (words_after c.words (word_of p call) (word_after call (found_at c.words (word_of p call)))) (place_word p l) 0 ≡ get_or c.words (place_word p l) 0)
-        ⊎ IsOfLate (get_or (words_after c.words (word_of p call) (word_after call (found_at c.words (word_of p call)))) (place_word p l) 0)
+    After call = (get_or (words_after c.words (word_of p call) (word_after call (found_at c.words (word_of p call)))) (place_index p l) 0 ≡ get_or c.words (place_index p l) 0)
+        ⊎ IsOfLate (get_or (words_after c.words (word_of p call) (word_after call (found_at c.words (word_of p call)))) (place_index p l) 0)
 
     -- the seat's one right is for such a link of the table
     late_one : (r : Right) → v.rights ≡ r ∷ [] → L r.link × (r.link < p.links)
@@ -61,7 +61,7 @@ module _ (p : Plan) (base : Core) (L : ℕ → Type 0) where
         (late_right m r.link x.0, (sound.lawful.held i v at 0 r (ap (λ rs. get_elem? rs 0) one)).0)
 
     place_stored : (dropped : Bool) (n k position : ℕ) → L k → k < p.links → position < MOST_PLACES
-        → (get_or (Rattle.std.proofs.Common.set c.words (place_word p n) (place_value dropped k position)) (place_word p l) 0 ≡ get_or c.words (place_word p l) 0) ⊎ IsOfLate (get_or (Rattle.std.proofs.Common.set c.words (place_word p n) (place_value dropped k position)) (place_word p l) 0)
+        → (get_or (Rattle.std.proofs.Common.set c.words (place_index p n) (place_value dropped k position)) (place_index p l) 0 ≡ get_or c.words (place_index p l) 0) ⊎ IsOfLate (get_or (Rattle.std.proofs.Common.set c.words (place_index p n) (place_value dropped k position)) (place_index p l) 0)
     place_stored dropped n k position late inside small = dite (ℕ_discrete l n)
         (λ e. inr record {
           dropped = dropped;
@@ -70,42 +70,42 @@ module _ (p : Plan) (base : Core) (L : ℕ → Type 0) where
           late = late;
           inside = inside;
           small = small;
-          is = ap (λ x. get_or (Rattle.std.proofs.Common.set c.words (place_word p n) (place_value dropped k position)) (place_word p x) 0) e ∙ get_or-set_same c.words (place_word p n) (place_value dropped k position) 0 (let sized = sound.lawful.references.sized in omega (arith, sized, low, e));
+          is = ap (λ x. get_or (Rattle.std.proofs.Common.set c.words (place_index p n) (place_value dropped k position)) (place_index p x) 0) e ∙ get_or-set_same c.words (place_index p n) (place_value dropped k position) 0 (let sized = sound.lawful.references.sized in omega (arith, sized, low, e));
         })
-        (λ far. inl (get_or-set_other c.words (place_word p n) (place_word p l) (place_value dropped k position) 0 (λ e. far (omega (arith, e)))))
+        (λ far. inl (get_or-set_other c.words (place_index p n) (place_index p l) (place_value dropped k position) 0 (λ e. far (omega (arith, e)))))
 
     place_after : (call : Call) → May p v call → After call
-    place_after (ClaimSlot j) may = inl (let slot = may in get_or-set_other c.words (tag_word j) (place_word p l) 1 0 (λ e. omega arith))
-    place_after (GiveBirth j k) may = inl (let slot = may.0 in get_or-set_other c.words (ref_word j) (place_word p l) (word_after (GiveBirth j k) (get_or c.words (ref_word j) 0)) 0 (λ e. omega arith))
-    place_after (AddRef id) may = inl (let slot = may.0.0 in get_or-set_other c.words (ref_word (socket_id_slot id)) (place_word p l) (word_after (AddRef id) (get_or c.words (ref_word (socket_id_slot id)) 0)) 0 (λ e. omega arith))
-    place_after (SubRef j) may = inl (let slot = may.0 in get_or-set_other c.words (ref_word j) (place_word p l) (word_after (SubRef j) (get_or c.words (ref_word j) 0)) 0 (λ e. omega arith))
-    place_after (SetOdd j) may = inl (let slot = may.0 in get_or-set_other c.words (ref_word j) (place_word p l) (word_after (SetOdd j) (get_or c.words (ref_word j) 0)) 0 (λ e. omega arith))
-    place_after (Recycle j from) may = inl (let slot = may.0 in get_or-set_other c.words (ref_word j) (place_word p l) (word_after (Recycle j from) (get_or c.words (ref_word j) 0)) 0 (λ e. omega arith))
-    place_after (FreeSlot j) may = inl (let slot = may.0 in get_or-set_other c.words (tag_word j) (place_word p l) 0 0 (λ e. omega arith))
-    place_after (StoreLink j k) may = inl (let slot = may.0 in get_or-set_other c.words (link_word j) (place_word p l) k 0 (λ e. omega arith))
-    place_after (LoadLink j w) may = inl (ap (λ xs. get_or xs (place_word p l) 0) (set-get_or c.words (link_word j) 0))
-    place_after (ResetHead j k) may = inl (let slot = may.0 in get_or-set_other c.words (head_word j) (place_word p l) (word_after (ResetHead j k) (get_or c.words (head_word j) 0)) 0 (λ e. omega arith))
-    place_after (WipeCode j k) may = inl (let slot = may.0 in get_or-set_other c.words (code_word j) (place_word p l) 0 0 (λ e. omega arith))
-    place_after (StoreCode j h d) may = inl (let slot = may.0 in get_or-set_other c.words (code_word j) (place_word p l) d 0 (λ e. omega arith))
-    place_after (StoreName n w) may = inl (let slot = may.0 in get_or-set_other c.words (name_word p n) (place_word p l) w 0 (λ e. omega arith))
-    place_after (LoadName n) may = inl (ap (λ xs. get_or xs (place_word p l) 0) (set-get_or c.words (name_word p n) 0))
-    place_after (StoreOpen n w) may = inl (let slot = may.0 in get_or-set_other c.words (open_word p n) (place_word p l) w 0 (λ e. omega arith))
-    place_after (LoadOpen n) may = inl (ap (λ xs. get_or xs (place_word p l) 0) (set-get_or c.words (open_word p n) 0))
+    place_after (ClaimSlot j) may = inl (let slot = may in get_or-set_other c.words (tag_index j) (place_index p l) 1 0 (λ e. omega arith))
+    place_after (CreateLife j k) may = inl (let slot = may.0 in get_or-set_other c.words (ref_index j) (place_index p l) (word_after (CreateLife j k) (get_or c.words (ref_index j) 0)) 0 (λ e. omega arith))
+    place_after (AddRef id) may = inl (let slot = may.0.0 in get_or-set_other c.words (ref_index (socket_id_slot id)) (place_index p l) (word_after (AddRef id) (get_or c.words (ref_index (socket_id_slot id)) 0)) 0 (λ e. omega arith))
+    place_after (SubRef j) may = inl (let slot = may.0 in get_or-set_other c.words (ref_index j) (place_index p l) (word_after (SubRef j) (get_or c.words (ref_index j) 0)) 0 (λ e. omega arith))
+    place_after (SetOdd j) may = inl (let slot = may.0 in get_or-set_other c.words (ref_index j) (place_index p l) (word_after (SetOdd j) (get_or c.words (ref_index j) 0)) 0 (λ e. omega arith))
+    place_after (Recycle j from) may = inl (let slot = may.0 in get_or-set_other c.words (ref_index j) (place_index p l) (word_after (Recycle j from) (get_or c.words (ref_index j) 0)) 0 (λ e. omega arith))
+    place_after (FreeSlot j) may = inl (let slot = may.0 in get_or-set_other c.words (tag_index j) (place_index p l) 0 0 (λ e. omega arith))
+    place_after (StoreLink j k) may = inl (let slot = may.0 in get_or-set_other c.words (link_index j) (place_index p l) k 0 (λ e. omega arith))
+    place_after (LoadLink j w) may = inl (ap (λ xs. get_or xs (place_index p l) 0) (set-get_or c.words (link_index j) 0))
+    place_after (ResetHead j k) may = inl (let slot = may.0 in get_or-set_other c.words (head_index j) (place_index p l) (word_after (ResetHead j k) (get_or c.words (head_index j) 0)) 0 (λ e. omega arith))
+    place_after (ClearCode j k) may = inl (let slot = may.0 in get_or-set_other c.words (code_index j) (place_index p l) 0 0 (λ e. omega arith))
+    place_after (StoreCode j h d) may = inl (let slot = may.0 in get_or-set_other c.words (code_index j) (place_index p l) d 0 (λ e. omega arith))
+    place_after (StoreName n w) may = inl (let slot = may.0 in get_or-set_other c.words (name_index p n) (place_index p l) w 0 (λ e. omega arith))
+    place_after (LoadName n) may = inl (ap (λ xs. get_or xs (place_index p l) 0) (set-get_or c.words (name_index p n) 0))
+    place_after (StoreOpen n w) may = inl (let slot = may.0 in get_or-set_other c.words (open_index p n) (place_index p l) w 0 (λ e. omega arith))
+    place_after (LoadOpen n) may = inl (ap (λ xs. get_or xs (place_index p l) 0) (set-get_or c.words (open_index p n) 0))
     place_after (TakeLink k) may = inl (refl)
     place_after (FinishLink k) may = inl (refl)
     place_after (PutLink k) may = inl (refl)
-    place_after (LookWord id) may = inl (ap (λ xs. get_or xs (place_word p l) 0) (set-get_or c.words (ref_word (socket_id_slot id)) 0))
-    place_after (FindLink i h) may = inl (ap (λ xs. get_or xs (place_word p l) 0) (set-get_or c.words (link_word i) 0))
-    place_after (LoadCode i h) may = inl (ap (λ xs. get_or xs (place_word p l) 0) (set-get_or c.words (code_word i) 0))
-    place_after (ClaimRequest id q) may = inl (let slot = may.0 in get_or-set_other c.words (request_word p q) (place_word p l) (word_after (ClaimRequest id q) (get_or c.words (request_word p q) 0)) 0 (λ e. omega arith))
+    place_after (LookWord id) may = inl (ap (λ xs. get_or xs (place_index p l) 0) (set-get_or c.words (ref_index (socket_id_slot id)) 0))
+    place_after (FindLink i h) may = inl (ap (λ xs. get_or xs (place_index p l) 0) (set-get_or c.words (link_index i) 0))
+    place_after (LoadCode i h) may = inl (ap (λ xs. get_or xs (place_index p l) 0) (set-get_or c.words (code_index i) 0))
+    place_after (ClaimRequest id q) may = inl (let slot = may.0 in get_or-set_other c.words (request_index p q) (place_index p l) (word_after (ClaimRequest id q) (get_or c.words (request_index p q) 0)) 0 (λ e. omega arith))
     place_after (PutMessage q heading bytes) may = inl (refl)
-    place_after (Unconnect q) may = inl (let slot = may.0 in get_or-set_other c.words (next_word p q) (place_word p l) (word_after (Unconnect q) 0) 0 (λ e. omega arith))
-    place_after (SwapHead i own) may = inl (let slot = may.0 in get_or-set_other c.words (head_word i) (place_word p l) own 0 (λ e. omega arith))
-    place_after (Connect q before) may = inl (let slot = may.0 in get_or-set_other c.words (next_word p q) (place_word p l) before 0 (λ e. omega arith))
-    place_after (EmptyHead i last) may = inl (let slot = may.0 in get_or-set_other c.words (head_word i) (place_word p l) (word_after (EmptyHead i last) (get_or c.words (head_word i) 0)) 0 (λ e. omega arith))
-    place_after (ReadNext q) may = inl (ap (λ xs. get_or xs (place_word p l) 0) (set-get_or c.words (next_word p q) 0))
-    place_after (TurnNext q value) may = let slot = turn_inside p (state c vs) sound.lawful i v at q value may in inl (get_or-set_other c.words (next_word p q) (place_word p l) value 0 (λ e. omega (arith, e, slot)))
-    place_after (FreeRequest q g) may = let slot = free_inside p (state c vs) sound.lawful i v at q g may in inl (get_or-set_other c.words (request_word p q) (place_word p l) (word_after (FreeRequest q g) 0) 0 (λ e. omega (arith, e, slot)))
+    place_after (Unconnect q) may = inl (let slot = may.0 in get_or-set_other c.words (next_index p q) (place_index p l) (word_after (Unconnect q) 0) 0 (λ e. omega arith))
+    place_after (SwapHead i own) may = inl (let slot = may.0 in get_or-set_other c.words (head_index i) (place_index p l) own 0 (λ e. omega arith))
+    place_after (Connect q before) may = inl (let slot = may.0 in get_or-set_other c.words (next_index p q) (place_index p l) before 0 (λ e. omega arith))
+    place_after (EmptyHead i last) may = inl (let slot = may.0 in get_or-set_other c.words (head_index i) (place_index p l) (word_after (EmptyHead i last) (get_or c.words (head_index i) 0)) 0 (λ e. omega arith))
+    place_after (ReadNext q) may = inl (ap (λ xs. get_or xs (place_index p l) 0) (set-get_or c.words (next_index p q) 0))
+    place_after (ReverseNext q value) may = let slot = turn_inside p (state c vs) sound.lawful i v at q value may in inl (get_or-set_other c.words (next_index p q) (place_index p l) value 0 (λ e. omega (arith, e, slot)))
+    place_after (FreeRequest q g) may = let slot = free_inside p (state c vs) sound.lawful i v at q g may in inl (get_or-set_other c.words (request_index p q) (place_index p l) (word_after (FreeRequest q g) 0) 0 (λ e. omega (arith, e, slot)))
     place_after (StorePlace n k position) may = let x = may.0 in let y = late_one x.mine.right may.1 in place_stored false n k position (subst L (sym may.3) y.0) (subst (λ z. z < p.links) (sym may.3) y.1)
         (subst (λ z. z < MOST_PLACES) (sym may.4) (places_small p (state c vs) sound.lawful i v at x.mine.place x.mine.right x.mine.has few x.now x.stage))
     place_after (DropPlace n k position) may = let x = may.0 in let y = late_one x.mine.right may.1 in place_stored true n k position (subst L (sym may.3) y.0) (subst (λ z. z < p.links) (sym may.3) y.1)
@@ -115,7 +115,7 @@ module _ (p : Plan) (base : Core) (L : ℕ → Type 0) where
 
   -- each place word is as it was at the base, or tells of such a link
   abbrev pub ArePlaces : Core → Type 0
-  ArePlaces c = (l : ℕ) → l < 8 * p.operations → (get_or c.words (place_word p l) 0 ≡ get_or base.words (place_word p l) 0) ⊎ IsOfLate (get_or c.words (place_word p l) 0)
+  ArePlaces c = (l : ℕ) → l < 8 * p.operations → (get_or c.words (place_index p l) 0 ≡ get_or base.words (place_index p l) 0) ⊎ IsOfLate (get_or c.words (place_index p l) 0)
 
   places_late : (c : Core) (vs : List View) (m : Moment) → Sound p c vs → IsAnswered c m → IsFitting p c m → AreFew vs → AllStand p L (WasPast p base L) c vs → ArePlaces c → ArePlaces (ticked p c m)
   places_late c vs m sound answered fits few stands places = tick_keeps_marks p c vs m sound answered fits (begins_round p) (goes_round p) (λ d ws. ArePlaces d) places

@@ -13,16 +13,16 @@ use Rattle.sock_model.specs.declared.chain.Right.{Right}
 use Rattle.sock_model.specs.declared.view.View.{View}
 use Rattle.brpc_model.specs.Items.{Item}
 use Rattle.brpc_model.specs.Operations.{Turn}
-use Rattle.sock_programs.specs.declared.task.Sizes.{Sizes}
-use Rattle.sock_programs.specs.declared.task.Task.{Task}
-use Rattle.sock_programs.specs.Clients.{client_from}
-use Rattle.sock_programs.specs.Heads.{Head, Exit, Posts, Unlocks, Decides, Locks, Joins, Opens, Reads, Discards}
-use Rattle.sock_programs.specs.Programs.{Program, Rest, Round}
-use Rattle.sock_programs.specs.Cores.{Core, SeatState, resolved, next_step}
-use Rattle.sock_programs.specs.Runs.{IsAtRest}
-use Rattle.sock_programs.specs.Tasks.{opens, calls, plan_of, id_plan_of}
-use Rattle.sock_programs.specs.Ticks.{Answer, Moment, AreAnswered, IsAnswered, quiet, ticked, run, waits, waits_at}
-use Rattle.sock_programs.specs.Scripts.{sizes_of, programs, readers_from, all_programs, all_tasks, opened, set_up, played, IsRunWithCalls}
+use Rattle.seat_programs.specs.declared.task.Sizes.{Sizes}
+use Rattle.seat_programs.specs.declared.task.Task.{Task}
+use Rattle.seat_programs.specs.Clients.{client_from}
+use Rattle.seat_programs.specs.Heads.{Head, Exit, Posts, Unlocks, Decides, Locks, Joins, Opens, Reads, Discards}
+use Rattle.seat_programs.specs.Programs.{Program, Rest, Round}
+use Rattle.seat_programs.specs.Cores.{Core, SeatState, resolved, next_step}
+use Rattle.seat_programs.specs.Runs.{IsAtRest}
+use Rattle.seat_programs.specs.Tasks.{opens, calls, plan_of, id_plan_of}
+use Rattle.seat_programs.specs.Ticks.{Answer, Moment, AreAnswered, IsAnswered, quiet, ticked, run, waits, waits_at}
+use Rattle.seat_programs.specs.Scripts.{sizes_of, programs, readers_from, all_programs, all_tasks, opened, set_up, played, IsRunWithCalls}
 use Rattle.sock_runs.specs.GoesOn.{GoesOn, HasNothing}
 use Rattle.sock_runs.specs.Sound.{Sound, IsFitting, AreFitting, views_after, views_along}
 use Rattle.sock_runs.proofs.Along.{seat_rests}
@@ -34,7 +34,7 @@ use Rattle.sock_runs.proofs.Rounds.{begins_round}
 use Rattle.sock_runs.proofs.Ticks.{sound_ticks}
 use Rattle.sock_runs.proofs.Waiting.{StandsAside}
 use Rattle.sock_runs.proofs.Whole.{closing_of, views_played, views_closed, set_up_answered, end_answered, set_up_sound, played_sound, closing_sound, closed_sound, rested_ahead, closed_ahead}
-use Rattle.call_causes.specs.client_laws.specs.Openings.{all_seats}
+use Rattle.call_causes.specs.programs_allowed.specs.Openings.{all_seats}
 use Rattle.call_causes.specs.joint_runs.proofs.Runs.{AreMade, first_views}
 use Rattle.send_causes.proofs.Early.{start, go, fitting, opening_rights}
 use Rattle.send_causes.proofs.LateLooks.{Mode, Idle, Looks, client_looks, reader_looks, looks_next}
@@ -167,7 +167,7 @@ module _ (script : List Item) (made : AreMade script) (turns : List Turn) (core 
       resting rest = rests_idle (played script is.setup (is.scheduled ++ is.later)) (views_played script turns core is (first_views script)) (played_sound script made.are (first_views script) (start script made turns core is) (go script made turns core is) turns core is (fitting script made turns core is))
           j seat v at at_view (seat_rests (played script is.setup (is.scheduled ++ is.later)) (rested_ahead script made.are (first_views script) (start script made turns core is) (go script made turns core is) turns core is (fitting script made turns core is)) j rest seat at)
 
-      waiting : (m : Moment) × (m.seat ≡ j) × Rattle.sock_programs.specs.Ticks.IsPrompt m × (waits (plan_of script) (played script is.setup (is.scheduled ++ is.later)) m ≡ true) → StandsAside (played script is.setup (is.scheduled ++ is.later)) j → IsIdle seat.program v
+      waiting : (m : Moment) × (m.seat ≡ j) × Rattle.seat_programs.specs.Ticks.IsAlwaysReady m × (waits (plan_of script) (played script is.setup (is.scheduled ++ is.later)) m ≡ true) → StandsAside (played script is.setup (is.scheduled ++ is.later)) j → IsIdle seat.program v
       waiting w a = let same : a.0 ≡ seat = some-injective a.0 seat (sym a.1 ∙ at) in let at_head = ap (λ (s : SeatState). s.program) (sym same) ∙ a.2.2 in
           let x = played_stand j seat v at at_view in
           let idle = waits_idle (plan_of script) (played script is.setup (is.scheduled ++ is.later)) w.0.answer x.0 a.2.0 a.2.1

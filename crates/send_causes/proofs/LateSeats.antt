@@ -16,16 +16,16 @@ use Rattle.sock_model.specs.declared.home.Home.{Home}
 use Rattle.sock_model.specs.declared.view.Hand.{Hand}
 use Rattle.sock_model.specs.declared.view.View.{View}
 use Rattle.sock_model.specs.ChainRows.{spent_hand, with_hand, with_claim, with_right, without_right, queued, righted, turned_right, placed_right, dropped_right, taken_right, put_right}
-use Rattle.sock_model.specs.Layout.{ref_word}
+use Rattle.sock_model.specs.Layout.{ref_index}
 use Rattle.sock_model.specs.Memory.{IDLE, UNCONNECTED}
 use Rattle.sock_model.specs.SlotRows.{met, looked, told_code, met_link}
 use Rattle.sock_model.specs.Weights.{total, only}
 use Rattle.sock_steps.proofs.Quiet.{either_way}
-use Rattle.sock_programs.specs.Calls.{Call, LookWord, ClaimRequest, PutMessage, Unconnect, SwapHead, EmptyHead, ReadNext, TurnNext, FreeRequest, StorePlace, DropPlace, LoadName, LoadOpen, TakeLink, LoadCode}
-use Rattle.sock_programs.specs.Heads.{Retry}
-use Rattle.sock_programs.specs.Programs.{Program, Do}
-use Rattle.sock_programs.specs.Cores.{Core, SeatState, resolved, next_step, word_of, found_at, waiting_at, hand_after, lies_at, others_of, link_place}
-use Rattle.sock_programs.specs.Ticks.{Moment, IsAnswered, fed, onto_first, ticked}
+use Rattle.seat_programs.specs.Calls.{Call, LookWord, ClaimRequest, PutMessage, Unconnect, SwapHead, EmptyHead, ReadNext, ReverseNext, FreeRequest, StorePlace, DropPlace, LoadName, LoadOpen, TakeLink, LoadCode}
+use Rattle.seat_programs.specs.Heads.{Retry}
+use Rattle.seat_programs.specs.Programs.{Program, Do}
+use Rattle.seat_programs.specs.Cores.{Core, SeatState, resolved, next_step, word_of, found_at, waiting_at, hand_after, lies_at, others_of, link_place}
+use Rattle.seat_programs.specs.Ticks.{Moment, IsAnswered, fed, onto_first, ticked}
 use Rattle.sock_runs.specs.Rows.{row, hand_at, link_in, is_id, by_claim, by_right, new_claim, filled_claim, ready_claim, exchanged, looked_clean, emptied, settled, read_next, turned_next, freed_next, freed_stage, placed_next, dropped_next, took_message, link_away, link_home_again, took_bytes}
 use Rattle.sock_runs.specs.May.{May}
 use Rattle.sock_runs.specs.Sound.{Sound, IsFitting, views_after}
@@ -109,7 +109,7 @@ module _ (p : Plan) (v : View) (found : ℕ) (hand : Hand) where
     claims_keep (SwapHead i own) no_ = claim_way P v.claims (exchanged found hand v) v e (λ c. either_way (nat_lt found IDLE) (queued v c found) (righted v c found hand.took hand.next) P tt tt)
     claims_keep (EmptyHead i last) no_ = right_way P v.rights (emptied last found v) v e (λ r. either_way (found == last) (without_right v r.link) (with_right v (record r { stage = stages.Walks found found 0 })) P e e)
     claims_keep (ReadNext q) no_ = right_way P v.rights (λ r. read_next found v r r.stage) v e (λ r. reads P v e r (λ s _. e) found r.stage)
-    claims_keep (TurnNext q value) no_ = right_way P v.rights (λ r. turned_next v r r.stage) v e (λ r. turns P v e r (λ s _. e) r.stage)
+    claims_keep (ReverseNext q value) no_ = right_way P v.rights (λ r. turned_next v r r.stage) v e (λ r. turns P v e r (λ s _. e) r.stage)
     claims_keep (FreeRequest q g) no_ = right_way P v.rights (freed_next v) v e (λ r. e)
     claims_keep (StorePlace l k n) no_ = right_way P v.rights (λ r. placed_next v r r.stage) v e (λ r. places P v e r (λ s _. e) r.stage)
     claims_keep (DropPlace l k n) no_ = right_way P v.rights (λ r. dropped_next v r r.stage) v e (λ r. drops P v e r (λ s _. e) r.stage)
@@ -138,7 +138,7 @@ module _ (p : Plan) (v : View) (found : ℕ) (hand : Hand) where
     rights_keep (EmptyHead i last) no_ = by_rights Q R v v.rights (emptied last found v) e e (λ r own. either_way (found == last) (without_right v r.link) (with_right v (record r { stage = stages.Walks found found 0 })) Q
         (filtered R (λ (x : Right). not (x.link == r.link)) v.rights e) (kept r own (record r { stage = stages.Walks found found 0 }) refl))
     rights_keep (ReadNext q) no_ = by_rights Q R v v.rights (λ r. read_next found v r r.stage) e e (λ r own. reads Q v e r (kept r own) found r.stage)
-    rights_keep (TurnNext q value) no_ = by_rights Q R v v.rights (λ r. turned_next v r r.stage) e e (λ r own. turns Q v e r (kept r own) r.stage)
+    rights_keep (ReverseNext q value) no_ = by_rights Q R v v.rights (λ r. turned_next v r r.stage) e e (λ r own. turns Q v e r (kept r own) r.stage)
     rights_keep (FreeRequest q g) no_ = by_rights Q R v v.rights (freed_next v) e e (λ r own. kept r own (record r { stage = freed_stage r.stage }) refl)
     rights_keep (StorePlace l k n) no_ = by_rights Q R v v.rights (λ r. placed_next v r r.stage) e e (λ r own. places Q v e r (kept r own) r.stage)
     rights_keep (DropPlace l k n) no_ = by_rights Q R v v.rights (λ r. dropped_next v r r.stage) e e (λ r own. drops Q v e r (kept r own) r.stage)
@@ -266,7 +266,7 @@ module _ (p : Plan) (L : ℕ → Type 0) (Old : ℕ → ℕ → Type 0) where
 
   -- who looks at an old life finds it failed, and the link of each other one is L
   pub record Tells (c : Core) (vs : List View) : Type 0 where
-    pub live : (j : ℕ) (v : View) (id : ℕ) → get_elem? vs j ≡ some v → May p v (LookWord id) → vref_version (get_or c.words (ref_word (socket_id_slot id)) 0) % 2 ≡ 0 → Old (socket_id_slot id) (socket_id_version id) → ⊥
+    pub live : (j : ℕ) (v : View) (id : ℕ) → get_elem? vs j ≡ some v → May p v (LookWord id) → vref_version (get_or c.words (ref_index (socket_id_slot id)) 0) % 2 ≡ 0 → Old (socket_id_slot id) (socket_id_version id) → ⊥
     pub given : (j : ℕ) (v : View) (id q : ℕ) → get_elem? vs j ≡ some v → May p v (ClaimRequest id q) → (Old (socket_id_slot id) (socket_id_version id) → ⊥) → L (link_in c.words (socket_id_slot id))
 
   pub stand_ticks : (c : Core) (vs : List View) (m : Moment) → Sound p c vs → IsAnswered c m → IsFitting p c m → Tells c vs → AllStand c vs → AllStand (ticked p c m) (views_after p c vs m)

@@ -14,20 +14,20 @@ use Rattle.brpc_model.specs.Operations.{Turn}
 use Rattle.brpc_model.specs.Script.{script_of}
 use Rattle.brpc_model.specs.Frame.{FrameFault}
 use Rattle.brpc_model.specs.Stream.{Ending, Rest, Fault, stream}
-use Rattle.sock_programs.specs.Asides.{Taking, Bytes, Nothing, NoMore, AtEnd, Closed, Broken}
-use Rattle.sock_programs.specs.Beside.{at_last, taking_in}
-use Rattle.sock_programs.specs.Readers.{LIMIT}
-use Rattle.sock_programs.specs.Cores.{Core, SeatState}
-use Rattle.sock_programs.specs.Runs.{from_to}
-use Rattle.sock_programs.specs.Tasks.{plan_of}
-use Rattle.sock_programs.specs.Ticks.{Answer, Unasked, OfPut, OfReady, OfTake, Moment, quiet, taken, ticked}
-use Rattle.sock_programs.specs.Scripts.{opened, set_up, played, ending, IsRunWithCalls}
-use Rattle.sock_causes.specs.Stories.{In}
-use Rattle.sock_causes.proofs.Lifted.{in_filtered, filtered_in}
-use Rattle.sock_causes.proofs.Members.{in_contains, contains_in}
-use Rattle.whole_runs.specs.Heard.{as_taken, taken_link, taken_at, taken_in, heard_takes, given_by}
-use Rattle.whole_runs.proofs.Gave.{gave_heard}
-use Rattle.whole_runs.proofs.HeardRuns.{taken_append}
+use Rattle.seat_programs.specs.Asides.{Taking, Bytes, Nothing, NoMore, AtEnd, Closed, Broken}
+use Rattle.seat_programs.specs.Beside.{at_last, taking_in}
+use Rattle.seat_programs.specs.Readers.{LIMIT}
+use Rattle.seat_programs.specs.Cores.{Core, SeatState}
+use Rattle.seat_programs.specs.Runs.{from_to}
+use Rattle.seat_programs.specs.Tasks.{plan_of}
+use Rattle.seat_programs.specs.Ticks.{Answer, Unasked, OfPut, OfReady, OfTake, Moment, quiet, taken, ticked}
+use Rattle.seat_programs.specs.Scripts.{opened, set_up, played, ending, IsRunWithCalls}
+use Rattle.outcome_causes.specs.Stories.{In}
+use Rattle.outcome_causes.proofs.Lifted.{in_filtered, filtered_in}
+use Rattle.outcome_causes.proofs.Members.{in_contains, contains_in}
+use Rattle.run_theorems.specs.Heard.{as_taken, taken_link, taken_at, taken_in, heard_takes, given_by}
+use Rattle.run_theorems.proofs.Gave.{gave_heard}
+use Rattle.run_theorems.proofs.HeardRuns.{taken_append}
 use Rattle.call_causes.specs.Lists.{Take, takes_by, takes_at, given, shows_in, is_last, is_closed, found_so, is_fault, early_of_run, closed_of_run}
 use Rattle.send_causes.proofs.Early.{EndedBy}
 use Rattle.send_causes.proofs.Readings.{takes_or_not}

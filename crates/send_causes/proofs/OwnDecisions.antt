@@ -5,17 +5,17 @@ use Rattle.std.specs.List.{AllByRecursion}
 use Rattle.brpc_model.specs.Items.{Item}
 use Rattle.brpc_model.specs.Operations.{Turn}
 use Rattle.corr_core.specs.Word.{attempt_of}
-use Rattle.sock_programs.specs.Clients.{ending_of}
-use Rattle.sock_programs.specs.Cores.{Core}
-use Rattle.sock_programs.specs.Posts.{WHOLE}
-use Rattle.sock_programs.specs.Programs.{Program}
-use Rattle.sock_programs.specs.Ticks.{Moment, quiet}
-use Rattle.sock_programs.specs.Tasks.{opens, calls, plan_of, id_plan_of}
-use Rattle.sock_programs.specs.Scripts.{sizes_of, programs, readers_from, all_programs, all_tasks, opened, set_up, played, IsRunWithCalls}
+use Rattle.seat_programs.specs.Clients.{ending_of}
+use Rattle.seat_programs.specs.Cores.{Core}
+use Rattle.seat_programs.specs.Posts.{WHOLE}
+use Rattle.seat_programs.specs.Programs.{Program}
+use Rattle.seat_programs.specs.Ticks.{Moment, quiet}
+use Rattle.seat_programs.specs.Tasks.{opens, calls, plan_of, id_plan_of}
+use Rattle.seat_programs.specs.Scripts.{sizes_of, programs, readers_from, all_programs, all_tasks, opened, set_up, played, IsRunWithCalls}
 use Rattle.sock_runs.specs.Sound.{views_along}
 use Rattle.sock_runs.proofs.Whole.{closing_of, views_played, views_closed}
-use Rattle.sock_causes.proofs.Final.{at_there}
-use Rattle.sock_causes.proofs.Ticks.{elem_there}
+use Rattle.outcome_causes.proofs.Final.{at_there}
+use Rattle.outcome_causes.proofs.Ticks.{elem_there}
 use Rattle.call_causes.specs.joint_runs.proofs.Both.{behind_both}
 use Rattle.call_causes.specs.joint_runs.proofs.Runs.{AreMade, first_views, IsSoundRun, joint_runs}
 use Rattle.report_fits.proofs.Reading.{InRange}

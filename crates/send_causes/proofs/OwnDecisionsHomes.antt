@@ -12,9 +12,9 @@ use Rattle.sock_model.specs.declared.home.Home.{Home}
 use Rattle.sock_model.specs.declared.home.Home.TheVariants.{Empty, Link, Message}
 use Rattle.sock_model.specs.Messages.{Letter}
 use Rattle.sock_model.specs.Reads.{letter_of, shown}
-use Rattle.sock_programs.specs.Calls.{Call, TakeLink, FinishLink, PutLink, PutMessage}
-use Rattle.sock_programs.specs.Cores.{homes_after, hand_after, lies_at, first_of, others_of, finished, link_place}
-use Rattle.sock_programs.specs.Ticks.{fed, with_places, onto_first}
+use Rattle.seat_programs.specs.Calls.{Call, TakeLink, FinishLink, PutLink, PutMessage}
+use Rattle.seat_programs.specs.Cores.{homes_after, hand_after, lies_at, first_of, others_of, finished, link_place}
+use Rattle.seat_programs.specs.Ticks.{fed, with_places, onto_first}
 
 abbrev pub FitsHome : (Heading → Type 0) → Home → Type 0
 FitsHome F (Message heading bytes) = F heading

@@ -9,24 +9,24 @@ use Rattle.sock_model.specs.declared.view.View.{View}
 use Rattle.sock_model.specs.Weights.{total}
 use Rattle.corr_core.specs.Word.{error_of, attempt_of}
 use Rattle.corr_core.specs.declared.marks.Plan.{Plan as IdPlan}
-use Rattle.id_rule.specs.Lawful.{at_word}
+use Rattle.id_rule.specs.Lawful.{at_index}
 use Rattle.id_runs.specs.Held.{IdView}
 use Rattle.id_runs.specs.Goes.{SoundIds}
 use Rattle.id_runs.proofs.Opening.{unused}
-use Rattle.call_causes.specs.client_laws.proofs.Beginning.{no_message}
+use Rattle.call_causes.specs.programs_allowed.proofs.Beginning.{no_message}
 use Rattle.sock_message.specs.Asked.{Asked}
 use Rattle.sock_model.specs.declared.chain.Heading.{Heading}
-use Rattle.sock_programs.specs.declared.task.Sizes.{Sizes}
-use Rattle.sock_programs.specs.declared.task.Task.{Task}
-use Rattle.sock_programs.specs.Asides.{call_id, id_slot, id_first}
-use Rattle.sock_programs.specs.Clients.{client_from}
-use Rattle.sock_programs.specs.Cores.{Core, SeatState, resolved, next_step}
-use Rattle.sock_programs.specs.Posts.{WHOLE}
-use Rattle.sock_programs.specs.Programs.{Program, Do, Say, Sent, Rest, TakeMessage, TakeHome, PutHome, PutBytes, AskReady, Write, Aside, Round, Keep, Retries}
-use Rattle.sock_programs.specs.Readers.{reader}
-use Rattle.sock_programs.specs.Runs.{IsAtRest}
-use Rattle.sock_programs.specs.Scripts.{opening_homes, programs, readers_from, all_programs, beginning}
-use Rattle.sock_programs.specs.Ticks.{Moment, quiet, ticked, run}
+use Rattle.seat_programs.specs.declared.task.Sizes.{Sizes}
+use Rattle.seat_programs.specs.declared.task.Task.{Task}
+use Rattle.seat_programs.specs.Asides.{call_id, id_slot, id_first}
+use Rattle.seat_programs.specs.Clients.{client_from}
+use Rattle.seat_programs.specs.Cores.{Core, SeatState, resolved, next_step}
+use Rattle.seat_programs.specs.Posts.{WHOLE}
+use Rattle.seat_programs.specs.Programs.{Program, Do, Say, Sent, Rest, TakeMessage, TakeHome, PutHome, PutBytes, AskReady, Write, Aside, Round, Keep, Retries}
+use Rattle.seat_programs.specs.Readers.{reader}
+use Rattle.seat_programs.specs.Runs.{IsAtRest}
+use Rattle.seat_programs.specs.Scripts.{opening_homes, programs, readers_from, all_programs, beginning}
+use Rattle.seat_programs.specs.Ticks.{Moment, quiet, ticked, run}
 use Rattle.sock_runs.specs.Sound.{IsAhead, views_after}
 use Rattle.sock_runs.proofs.Along.{seat_rests, ticked_ahead}
 use Rattle.sock_runs.proofs.Opening.{mapped, appended}
@@ -230,7 +230,7 @@ module _ (p : Plan) (q : IdPlan) where
     programs = λ j seat s es et. let x = mapped (λ (x : Program). record { program = next_step (resolved [] x); hand = [] }) xs j seat es in
         subst (λ (z : SeatState). Aims s z.program) x.2 (subst (λ y. Aims y (next_step (resolved [] x.0))) (mapped (λ (x : Program). Calm) xs j s et).2 (calm_stays x.0 (goes j x.0 x.1)));
     stands = λ j s et. subst (StandFits (IsPast q (beginning p q xs) (map (λ (x : Program). Calm) xs)) (λ x. ⊥)) (mapped (λ (x : Program). Calm) xs j s et).2 tt;
-    ats = λ o inside some_. absurd (some_ ((unused q).rest (at_word q o) (omega arith)));
+    ats = λ o inside some_. absurd (some_ ((unused q).rest (at_index q o) (omega arith)));
     homes = no_messages (HeadFits (IsPast q (beginning p q xs) (map (λ (x : Program). Calm) xs)));
     hands = λ j seat es. let x = mapped (λ (x : Program). record { program = next_step (resolved [] x); hand = [] }) xs j seat es in subst (λ (z : SeatState). HandFits (HeadFits (IsPast q (beginning p q xs) (map (λ (x : Program). Calm) xs))) z.hand) x.2 tt;
     posts = λ x there. absurd there;

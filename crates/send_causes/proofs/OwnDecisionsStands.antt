@@ -6,12 +6,12 @@ use Rattle.sock_model.specs.declared.chain.Heading.{Heading}
 use Rattle.sock_words.specs.Words.{at_word, at_word_first, at_word_slot, at_word_attempt}
 use Rattle.corr_core.specs.Word.{parts, error_of, attempt_of, unlocked_word}
 use Rattle.id_runs.specs.Goes.{FitsSock}
-use Rattle.sock_programs.specs.Asides.{Step, Found, MakeId, StoreAt, LoadAt, PostId, UnlockId, call_id, id_slot, id_first}
-use Rattle.sock_programs.specs.Calls.{Call, PutMessage}
-use Rattle.sock_programs.specs.Heads.{Head, Exit, Posts, Unlocks, Decides, Locks, Posting, HasLocked, Unlocking, HasNext, Locking, NotThere, Has}
-use Rattle.sock_programs.specs.Posts.{WHOLE, advance_of, is_stale}
-use Rattle.sock_programs.specs.Writings.{Writing, Puts, Waits}
-use Rattle.sock_programs.specs.Programs.{Program, Do, Say, Sent, Rest, TakeMessage, TakeHome, PutHome, PutBytes, AskReady, Write, Aside, Round, Keep, Retries}
+use Rattle.seat_programs.specs.Asides.{Step, Found, MakeId, StoreAt, LoadAt, PostId, UnlockId, call_id, id_slot, id_first}
+use Rattle.seat_programs.specs.Calls.{Call, PutMessage}
+use Rattle.seat_programs.specs.Heads.{Head, Exit, Posts, Unlocks, Decides, Locks, Posting, HasLocked, Unlocking, HasNext, Locking, NotThere, Has}
+use Rattle.seat_programs.specs.Posts.{WHOLE, advance_of, is_stale}
+use Rattle.seat_programs.specs.Writings.{Writing, Puts, Waits}
+use Rattle.seat_programs.specs.Programs.{Program, Do, Say, Sent, Rest, TakeMessage, TakeHome, PutHome, PutBytes, AskReady, Write, Aside, Round, Keep, Retries}
 use Rattle.label_runs.specs.Labels.{IsSoughtWord, LeavesPost, LeavesLock}
 
 -- a seat tries attempt n of the call with this id; nobody tries it any more; or it posted this error to the id, which it locked by that

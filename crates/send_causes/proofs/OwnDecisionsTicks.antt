@@ -18,27 +18,27 @@ use Rattle.sock_model.specs.declared.home.Home.TheVariants.{Message}
 use Rattle.sock_model.specs.Messages.{Letter}
 use Rattle.sock_model.specs.Reads.{message, link_home}
 use Rattle.sock_model.specs.Weights.{total}
-use Rattle.slot_laws.proofs.Sums.{term_le, total-append, total-set}
+use Rattle.slot_steps.proofs.Sums.{term_le, total-append, total-set}
 use Rattle.corr_core.specs.Word.{Parts, parts, error_of, attempt_of, made_word, posted_word, unlocked_word, free_word}
 use Rattle.corr_core.specs.declared.marks.Plan.{Plan as IdPlan}
-use Rattle.id_rule.specs.Lawful.{all_words, tag_word, id_word, call_word, at_word}
+use Rattle.id_rule.specs.Lawful.{all_words, tag_index, id_index, call_index, at_index}
 use Rattle.id_runs.specs.Held.{IdView, MayId}
 use Rattle.id_runs.specs.Goes.{FitsFirst, FindsId, FitsRetryId, IdGoesOn, SoundIds, IsFittingIds}
 use Rattle.id_runs.specs.Goes as goes
 use Rattle.id_runs.proofs.Steps.{finds_ids}
-use Rattle.sock_programs.specs.Asides.{Step, Found, ClaimId, PutCall, MakeId, StoreCall, LoadCall, StoreAt, LoadAt, LoadIdWord, LockId, PostId, UnlockId, EndId, FreeId, TakeCall, TakeBytes, Taking, Bytes, call_id, id_slot, id_first}
-use Rattle.sock_programs.specs.Beside.{found_in, calls_after}
-use Rattle.sock_programs.specs.Calls.{Call, PutMessage}
-use Rattle.sock_programs.specs.Heads.{Retry, Decides}
-use Rattle.sock_programs.specs.Posts.{WHOLE, packed, advance_of, is_stale}
-use Rattle.sock_programs.specs.Programs.{Program, Do, Say, Sent, Rest, TakeMessage, TakeHome, PutHome, PutBytes, AskReady, Write, Aside, Round, Keep, Retries}
-use Rattle.sock_programs.specs.Cores.{Calls, Core, SeatState, word_of, found_at, words_after, word_after, homes_after, hand_after, lies_at, first_of, others_of, link_place, resolved, still_waiting, waiting_at, next_step, with_seat}
-use Rattle.sock_programs.specs.Ticks.{Answer, Unasked, OfPut, OfReady, OfTake, Moment, fed, with_places, onto_first, taken, with_message, with_link, with_put, with_ready, with_found, step_with, tick_with, ticked}
+use Rattle.seat_programs.specs.Asides.{Step, Found, ClaimId, PutCall, MakeId, StoreCall, LoadCall, StoreAt, LoadAt, LoadIdWord, LockId, PostId, UnlockId, EndId, FreeId, TakeCall, TakeBytes, Taking, Bytes, call_id, id_slot, id_first}
+use Rattle.seat_programs.specs.Beside.{found_in, calls_after}
+use Rattle.seat_programs.specs.Calls.{Call, PutMessage}
+use Rattle.seat_programs.specs.Heads.{Retry, Decides}
+use Rattle.seat_programs.specs.Posts.{WHOLE, packed, advance_of, is_stale}
+use Rattle.seat_programs.specs.Programs.{Program, Do, Say, Sent, Rest, TakeMessage, TakeHome, PutHome, PutBytes, AskReady, Write, Aside, Round, Keep, Retries}
+use Rattle.seat_programs.specs.Cores.{Calls, Core, SeatState, word_of, found_at, words_after, word_after, homes_after, hand_after, lies_at, first_of, others_of, link_place, resolved, still_waiting, waiting_at, next_step, with_seat}
+use Rattle.seat_programs.specs.Ticks.{Answer, Unasked, OfPut, OfReady, OfTake, Moment, fed, with_places, onto_first, taken, with_message, with_link, with_put, with_ready, with_found, step_with, tick_with, ticked}
 use Rattle.sock_runs.specs.Sound.{first_step}
 use Rattle.call_causes.specs.Decided.{posted_by, Decision, decision_in, decided_at}
 use Rattle.call_causes.specs.Posts.{Post, posts_by, posted_with, posted_at}
 use Rattle.call_causes.specs.Scenes.{In}
-use Rattle.sock_causes.proofs.Ticks.{elem_there}
+use Rattle.outcome_causes.proofs.Ticks.{elem_there}
 use Rattle.send_causes.specs.Counts.{pair_of, of_retry, word_of_id, WasMade, WasNow}
 use Rattle.send_causes.proofs.Words.{made_on, finds_label, words_forward, makes_new, advances_new}
 use Rattle.send_causes.proofs.Readings.{ticks_first}
@@ -72,7 +72,7 @@ StandFits P M (Past id n) = P id n
 StandFits P M (Posted id e) = (attempt_of e ≡ WHOLE) ⊎ M (record { id = id; error = e })
 
 abbrev pub AtsFit : IdPlan → (ℕ → ℕ → Type 0) → List ℕ → Type 0
-AtsFit q P ws = (o : ℕ) → o < q.operations → get_or ws (at_word q o) 0 ≢ 0 → P (call_id (at_word_slot (get_or ws (at_word q o) 0)) (at_word_first (get_or ws (at_word q o) 0))) (at_word_attempt (get_or ws (at_word q o) 0))
+AtsFit q P ws = (o : ℕ) → o < q.operations → get_or ws (at_index q o) 0 ≢ 0 → P (call_id (at_word_slot (get_or ws (at_index q o) 0)) (at_word_first (get_or ws (at_index q o) 0))) (at_word_attempt (get_or ws (at_index q o) 0))
 
 abbrev pub HeadFits : (ℕ → ℕ → Type 0) → Heading → Type 0
 HeadFits P heading = heading.owner ≢ 0 → P heading.owner heading.attempt
@@ -429,24 +429,24 @@ module _ (p : Plan) (q : IdPlan) (narrow : q.slots ≤ 65536) (Taken : Post → 
 
     module _ (u : IdView) (at_view : get_elem? us i ≡ some u) where
       -- a word below those of the calls
-      low_kept : (x w o : ℕ) → x < 2 * q.slots → get_or (set c.calls.words x w) (at_word q o) 0 ≡ get_or c.calls.words (at_word q o) 0
-      low_kept x w o low = get_or-set_other c.calls.words x (at_word q o) w 0 (λ e. omega (arith, low, e))
+      low_kept : (x w o : ℕ) → x < 2 * q.slots → get_or (set c.calls.words x w) (at_index q o) 0 ≡ get_or c.calls.words (at_index q o) 0
+      low_kept x w o low = get_or-set_other c.calls.words x (at_index q o) w 0 (λ e. omega (arith, low, e))
 
       -- the at words stay in any other step
-      word_kept : (step : Step) (found : Found step) → MayId p q u step → StoresNone step → (o : ℕ) → get_or (calls_after step found c.calls).words (at_word q o) 0 ≡ get_or c.calls.words (at_word q o) 0
-      word_kept (ClaimId k) found may none_ o = low_kept (tag_word k) 1 o (omega (arith, may))
+      word_kept : (step : Step) (found : Found step) → MayId p q u step → StoresNone step → (o : ℕ) → get_or (calls_after step found c.calls).words (at_index q o) 0 ≡ get_or c.calls.words (at_index q o) 0
+      word_kept (ClaimId k) found may none_ o = low_kept (tag_index k) 1 o (omega (arith, may))
       word_kept (PutCall k b) found may none_ o = refl
-      word_kept (MakeId k range) found may none_ o = let inside = may.0 in low_kept (id_word k) (packed (made_word (parts found).first range)) o (omega (arith, inside))
-      word_kept (StoreCall x id) found may none_ o = subst (λ (r : IdPlan). get_or (set c.calls.words (call_word r x) id) (at_word q o) 0 ≡ get_or c.calls.words (at_word q o) 0) (sym ids.plan) (get_or-set_other c.calls.words (call_word q x) (at_word q o) id 0 (λ e. omega (arith, e)))
+      word_kept (MakeId k range) found may none_ o = let inside = may.0 in low_kept (id_index k) (packed (made_word (parts found).first range)) o (omega (arith, inside))
+      word_kept (StoreCall x id) found may none_ o = subst (λ (r : IdPlan). get_or (set c.calls.words (call_index r x) id) (at_index q o) 0 ≡ get_or c.calls.words (at_index q o) 0) (sym ids.plan) (get_or-set_other c.calls.words (call_index q x) (at_index q o) id 0 (λ e. omega (arith, e)))
       word_kept (LoadCall x) found may none_ o = refl
       word_kept (StoreAt x w) found may none_ o = absurd none_
       word_kept (LoadAt x) found may none_ o = refl
       word_kept (LoadIdWord k) found may none_ o = refl
-      word_kept (LockId k from) found may none_ o = let inside = may.0 in low_kept (id_word k) (cond (eqb found from) (packed (posted_word (parts from) 0)) found) o (omega (arith, inside))
-      word_kept (PostId k from e) found may none_ o = let inside = may.0 in low_kept (id_word k) (cond (eqb found from) (packed (posted_word (parts from) e)) found) o (omega (arith, inside))
-      word_kept (UnlockId k from advance) found may none_ o = let inside = may.0 in low_kept (id_word k) (cond (eqb found from) (packed (unlocked_word (parts from) (advance_of advance))) found) o (omega (arith, inside))
-      word_kept (EndId k) found may none_ o = let inside = may.0 in low_kept (id_word k) (packed (free_word ((parts found).first + (parts found).range))) o (omega (arith, inside))
-      word_kept (FreeId k) found may none_ o = let inside = may.0 in low_kept (tag_word k) 0 o (omega (arith, inside))
+      word_kept (LockId k from) found may none_ o = let inside = may.0 in low_kept (id_index k) (cond (eqb found from) (packed (posted_word (parts from) 0)) found) o (omega (arith, inside))
+      word_kept (PostId k from e) found may none_ o = let inside = may.0 in low_kept (id_index k) (cond (eqb found from) (packed (posted_word (parts from) e)) found) o (omega (arith, inside))
+      word_kept (UnlockId k from advance) found may none_ o = let inside = may.0 in low_kept (id_index k) (cond (eqb found from) (packed (unlocked_word (parts from) (advance_of advance))) found) o (omega (arith, inside))
+      word_kept (EndId k) found may none_ o = let inside = may.0 in low_kept (id_index k) (packed (free_word ((parts found).first + (parts found).range))) o (omega (arith, inside))
+      word_kept (FreeId k) found may none_ o = let inside = may.0 in low_kept (tag_index k) 0 o (omega (arith, inside))
       word_kept (TakeCall k) found may none_ o = refl
       word_kept (TakeBytes l room) (Bytes bytes) may none_ o = refl
       word_kept (TakeBytes l room) _ may none_ o = refl
@@ -526,14 +526,14 @@ module _ (p : Plan) (q : IdPlan) (narrow : q.slots ≤ 65536) (Taken : Post → 
           sized : std.length c.calls.words ≡ all_words q
           sized = ids.rule.sized
 
-          word_now : (o' : ℕ) → o' < q.operations → get_or (set c.calls.words (at_word q o) w) (at_word q o') 0 ≢ 0
-              → Behind x (call_id (at_word_slot (get_or (set c.calls.words (at_word q o) w) (at_word q o') 0)) (at_word_first (get_or (set c.calls.words (at_word q o) w) (at_word q o') 0))) (at_word_attempt (get_or (set c.calls.words (at_word q o) w) (at_word q o') 0))
+          word_now : (o' : ℕ) → o' < q.operations → get_or (set c.calls.words (at_index q o) w) (at_index q o') 0 ≢ 0
+              → Behind x (call_id (at_word_slot (get_or (set c.calls.words (at_index q o) w) (at_index q o') 0)) (at_word_first (get_or (set c.calls.words (at_index q o) w) (at_index q o') 0))) (at_word_attempt (get_or (set c.calls.words (at_index q o) w) (at_index q o') 0))
           word_now o' inside = dite (ℕ_discrete o' o)
-              (λ e _. subst (λ n. Behind x (call_id (at_word_slot n) (at_word_first n)) (at_word_attempt n)) (sym (ap (λ y. get_or (set c.calls.words (at_word q o) w) (at_word q y) 0) e ∙ get_or-set_same c.calls.words (at_word q o) w 0 (let low = may.0 in omega (arith, sized, low)))) past_word)
-              (λ ne. subst (λ n. n ≢ 0 → Behind x (call_id (at_word_slot n) (at_word_first n)) (at_word_attempt n)) (sym (get_or-set_other c.calls.words (at_word q o) (at_word q o') w 0 (λ e. ne (omega (arith, e))))) (old_ats x o' inside))
+              (λ e _. subst (λ n. Behind x (call_id (at_word_slot n) (at_word_first n)) (at_word_attempt n)) (sym (ap (λ y. get_or (set c.calls.words (at_index q o) w) (at_index q y) 0) e ∙ get_or-set_same c.calls.words (at_index q o) w 0 (let low = may.0 in omega (arith, sized, low)))) past_word)
+              (λ ne. subst (λ n. n ≢ 0 → Behind x (call_id (at_word_slot n) (at_word_first n)) (at_word_attempt n)) (sym (get_or-set_other c.calls.words (at_index q o) (at_index q o') w 0 (λ e. ne (omega (arith, e))))) (old_ats x o' inside))
 
-          ats : AtsFit q (Behind x) (set c.calls.words (at_word c.calls.plan o) w)
-          ats = subst (λ (r : IdPlan). AtsFit q (Behind x) (set c.calls.words (at_word r o) w)) (sym ids.plan) word_now
+          ats : AtsFit q (Behind x) (set c.calls.words (at_index c.calls.plan o) w)
+          ats = subst (λ (r : IdPlan). AtsFit q (Behind x) (set c.calls.words (at_index r o) w)) (sym ids.plan) word_now
 
       -- an error is posted only of an attempt that is past
       posts : (k from e : ℕ) (next : ℕ → Program) (found : ℕ) (t : Option Taking) → found_in (PostId k from e) c.calls t ≡ some found → MayId p q u (PostId k from e) → MayPost s (call_id k (parts from).first) e
@@ -573,7 +573,7 @@ module _ (p : Plan) (q : IdPlan) (narrow : q.slots ≤ 65536) (Taken : Post → 
           (law.posts (record { id = call_id k (parts from).first; error = (parts from).oldest }) there)) (queued.0 some_)
         where
           here : word_of_id c.calls.words k ≡ parts from
-          here = ap parts (some-injective (get_or c.calls.words (id_word k) 0) found is ∙ hit)
+          here = ap parts (some-injective (get_or c.calls.words (id_index k) 0) found is ∙ hit)
 
           alive : (parts from).state ≡ 2
           alive = may.1.7.state_is
@@ -632,8 +632,8 @@ module _ (p : Plan) (q : IdPlan) (narrow : q.slots ≤ 65536) (Taken : Post → 
       asides known (LoadAt o) next found t is may g = let x = g.1 found tt in ⊎_elim (λ e. eased (LoadAt o) next found t is may tt x.0 e x.2)
           (λ y. aside (LoadAt o) next found t is may [] x.0 x.2 (λ id n. (let z : of_stand id n x.0 ≡ 0 = ap (of_stand id n) y.1 in omega (arith, z))) (subst (StandFits (Behind x.0) (Own [] i)) (sym y.1) (loaded x.0 y.0)) (old_ats x.0) (λ z there. absurd there)) x.1
         where
-          word : get_or c.calls.words (at_word q o) 0 ≡ found
-          word = ap (λ (r : IdPlan). get_or c.calls.words (at_word r o) 0) (sym ids.plan) ∙ some-injective (get_or c.calls.words (at_word c.calls.plan o) 0) found is
+          word : get_or c.calls.words (at_index q o) 0 ≡ found
+          word = ap (λ (r : IdPlan). get_or c.calls.words (at_index r o) 0) (sym ids.plan) ∙ some-injective (get_or c.calls.words (at_index c.calls.plan o) 0) found is
 
           loaded : (w : Stand) → found ≢ 0 → Behind w (call_id (at_word_slot found) (at_word_first found)) (at_word_attempt found)
           loaded w some_ = subst (λ n. n ≢ 0 → Behind w (call_id (at_word_slot n) (at_word_first n)) (at_word_attempt n)) word (old_ats w o may) some_

@@ -13,16 +13,16 @@ use Rattle.brpc_model.specs.Messages.{shown_id}
 use Rattle.brpc_model.specs.Script.{script_of}
 use Rattle.corr_core.specs.Word.{error_of}
 use Rattle.corr_core.specs.declared.marks.Plan.{Plan as IdPlan}
-use Rattle.id_rule.specs.Lawful.{call_word}
+use Rattle.id_rule.specs.Lawful.{call_index}
 use Rattle.sock_message.specs.Asked.{Asked, name_of}
-use Rattle.sock_programs.specs.declared.task.Op.TheVariants as ops
-use Rattle.sock_programs.specs.declared.task.Task.{Task}
-use Rattle.sock_programs.specs.Cores.{Core}
-use Rattle.sock_programs.specs.Tasks.{plan_of, id_plan_of}
-use Rattle.sock_programs.specs.Scripts.{all_tasks, IsRunWithCalls}
-use Rattle.sock_programs.specs.Told.{IsTask, Became}
-use Rattle.sock_programs.specs.ToldCalls.{Accepted, Fixed, Order, IsSent, Gave, IsResponse, StandsOn, MayBeOn, IsFailing, GaveFault}
-use Rattle.sock_causes.specs.Stories.{In}
+use Rattle.seat_programs.specs.declared.task.Op.TheVariants as ops
+use Rattle.seat_programs.specs.declared.task.Task.{Task}
+use Rattle.seat_programs.specs.Cores.{Core}
+use Rattle.seat_programs.specs.Tasks.{plan_of, id_plan_of}
+use Rattle.seat_programs.specs.Scripts.{all_tasks, IsRunWithCalls}
+use Rattle.seat_programs.specs.Told.{IsTask, Became}
+use Rattle.seat_programs.specs.ToldCalls.{Accepted, Fixed, Order, IsSent, Gave, IsResponse, StandsOn, MayBeOn, IsFailing, GaveFault}
+use Rattle.outcome_causes.specs.Stories.{In}
 use Rattle.call_causes.specs.joint_runs.proofs.Runs.{AreMade}
 use Rattle.report_fits.proofs.Reading.{InRange}
 use Rattle.report_fits.proofs.Targets.{AreThere}
@@ -67,7 +67,7 @@ module _ (p : Plan) (q : IdPlan) (clients : List (List Task)) (gives : ℕ → L
   word_stored w ms e c t asked x i it op has shown = ⊎_elim (λ own. absurd (shows_none w c own.0 asked x i own.1 shown)) (λ z. by z.0 z.1 z.3) (call_of p q clients gives w ms e c t asked x it op has)
     where
       of_told : (d : ℕ) (before : List Task) (u : Task) → u.op ≡ ops.Call asked → u.number ≡ t.number → ToldOf p q clients gives w d before u → Begun p q clients gives w t.number
-      of_told d before u call number (was_said y said why just) = absurd (shows_none w d before asked y i (subst (λ (o : Rattle.sock_programs.specs.declared.task.Op.Op). WhyOwn p q clients gives w d before o y) call why)
+      of_told d before u call number (was_said y said why just) = absurd (shows_none w d before asked y i (subst (λ (o : Rattle.seat_programs.specs.declared.task.Op.Op). WhyOwn p q clients gives w d before o y) call why)
           (ap shown_id (one_outcome p q clients gives w ms e t.number y x (subst (λ o. Became clients w.core.outcomes o y) number (e.tasks.said u.number y said)) has) ∙ shown))
       of_told d before u call number (was_sent n bytes sent named) = absurd (let z : ops.Send n bytes ≡ ops.Call asked = sym sent ∙ call in cc)
       of_told d before u call number (was_begun id a is own born begun named) = subst (Begun p q clients gives w) number begun
@@ -94,7 +94,7 @@ module _ (script : List Item) (made : AreMade script) (there : AreThere script) 
   -- a call whose outcome shows an id has one
   pub some_id : (client : ℕ) (t : Task) (asked : Asked) → IsTask (all_tasks script) core.outcomes client t → t.op ≡ ops.Call asked → (outcome : Outcome) → Became (all_tasks script) core.outcomes t.number outcome → (id : ℕ) → shown_id outcome ≡ Some id → ids_at script core t.number ≢ 0
   some_id client t asked it op outcome became id shown = let h = run_has_story script made there range turns core is in
-      subst (λ (d : Core). IsTask (all_tasks script) d.outcomes client t → Became (all_tasks script) d.outcomes t.number outcome → get_or d.calls.words (call_word (id_plan_of script) t.number) 0 ≢ 0) h.is
+      subst (λ (d : Core). IsTask (all_tasks script) d.outcomes client t → Became (all_tasks script) d.outcomes t.number outcome → get_or d.calls.words (call_index (id_plan_of script) t.number) 0 ≢ 0) h.is
       (λ it' has. word_stored (plan_of script) (id_plan_of script) (all_tasks script) (given core) h.scene h.marks (run_has_ended script made there range turns core is closes) client t asked outcome id it' op has shown) it became
 
   -- and it is the one that is shown

@@ -6,24 +6,24 @@ use Rattle.sock_words.specs.declared.plain.Plan.{Plan}
 use Rattle.brpc_model.specs.Causes.{HasFault, reading_limit}
 use Rattle.brpc_model.specs.Items.{Item}
 use Rattle.brpc_model.specs.Operations.{Turn, link_names}
-use Rattle.sock_programs.specs.declared.task.Op.TheVariants as ops
-use Rattle.sock_programs.specs.declared.task.Op.{Op}
-use Rattle.sock_programs.specs.declared.task.Task.{Task}
-use Rattle.sock_programs.specs.Asides.{AtEnd, Closed, Broken}
-use Rattle.sock_programs.specs.Cores.{Core}
-use Rattle.sock_programs.specs.Tasks.{plan_of, id_plan_of}
-use Rattle.sock_programs.specs.Ticks.{quiet, ticked, broken_in}
-use Rattle.sock_programs.specs.Scripts.{all_tasks, opened, set_up, played, ending, IsRunWithCalls}
-use Rattle.sock_programs.specs.Told.{IsTask}
-use Rattle.sock_programs.specs.ToldCalls.{Fixed, Order, ToldCalls}
-use Rattle.sock_causes.specs.Explains.{is_plain}
-use Rattle.sock_causes.specs.Facts.{broken_of_run, closed_before_ending, last_attempt}
-use Rattle.sock_causes.specs.Stories.{In}
-use Rattle.sock_causes.proofs.Members.{in_contains, contains_in}
-use Rattle.sock_causes.proofs.Plain.{in_left, in_right, in_both}
+use Rattle.seat_programs.specs.declared.task.Op.TheVariants as ops
+use Rattle.seat_programs.specs.declared.task.Op.{Op}
+use Rattle.seat_programs.specs.declared.task.Task.{Task}
+use Rattle.seat_programs.specs.Asides.{AtEnd, Closed, Broken}
+use Rattle.seat_programs.specs.Cores.{Core}
+use Rattle.seat_programs.specs.Tasks.{plan_of, id_plan_of}
+use Rattle.seat_programs.specs.Ticks.{quiet, ticked, broken_in}
+use Rattle.seat_programs.specs.Scripts.{all_tasks, opened, set_up, played, ending, IsRunWithCalls}
+use Rattle.seat_programs.specs.Told.{IsTask}
+use Rattle.seat_programs.specs.ToldCalls.{Fixed, Order, ToldCalls}
+use Rattle.outcome_causes.specs.Explains.{is_plain}
+use Rattle.outcome_causes.specs.Facts.{broken_of_run, closed_before_ending, last_attempt}
+use Rattle.outcome_causes.specs.Stories.{In}
+use Rattle.outcome_causes.proofs.Members.{in_contains, contains_in}
+use Rattle.outcome_causes.proofs.Plain.{in_left, in_right, in_both}
 use Rattle.call_causes.specs.joint_runs.proofs.Runs.{AreMade}
 use Rattle.call_causes.specs.owed_calls.specs.Lives.{ClosesInRun}
-use Rattle.whole_runs.specs.Heard.{heard_takes, given_by}
+use Rattle.run_theorems.specs.Heard.{heard_takes, given_by}
 use Rattle.send_causes.proofs.Early.{closed_early}
 use Rattle.send_causes.proofs.Sends.{fixed, orders_of_run, run_sends}
 
@@ -97,5 +97,5 @@ told_without_calls script made turns core is closes callless plain = record {
     gave : ℕ → List ℕ
     gave k = given_by (heard_takes is k)
 
-    s : Rattle.sock_causes.specs.Facts.ToldSends (plan_of script) (all_tasks script) core.outcomes (fixed script made turns core is closes early [] [] [] gave (last_attempt script turns core is)) gave (orders_of_run script made turns core is closes) (last_attempt script turns core is) core
+    s : Rattle.outcome_causes.specs.Facts.ToldSends (plan_of script) (all_tasks script) core.outcomes (fixed script made turns core is closes early [] [] [] gave (last_attempt script turns core is)) gave (orders_of_run script made turns core is closes) (last_attempt script turns core is) core
     s = run_sends script made turns core is closes early [] [] [] gave (last_attempt script turns core is) (λ k m. in_contains early k m) callless plain

@@ -3,12 +3,12 @@ use Rattle.std.proofs.Common.{◌≡◌, ℕ, ◌≤◌, ◌==◌, if◌then◌e
 use Rattle.sock_words.specs.declared.plain.Plan.{Plan}
 use Rattle.brpc_model.specs.Items.{Item}
 use Rattle.brpc_model.specs.Operations.{Turn}
-use Rattle.sock_programs.specs.Cores.{Core}
-use Rattle.sock_programs.specs.Tasks.{plan_of}
-use Rattle.sock_programs.specs.Ticks.{Moment, quiet, ticked}
-use Rattle.sock_programs.specs.Scripts.{opened, ending, set_up, played, IsRunWithCalls}
-use Rattle.sock_causes.specs.Stories.{In}
-use Rattle.sock_causes.proofs.Plain.{in_both, in_left, in_right}
+use Rattle.seat_programs.specs.Cores.{Core}
+use Rattle.seat_programs.specs.Tasks.{plan_of}
+use Rattle.seat_programs.specs.Ticks.{Moment, quiet, ticked}
+use Rattle.seat_programs.specs.Scripts.{opened, ending, set_up, played, IsRunWithCalls}
+use Rattle.outcome_causes.specs.Stories.{In}
+use Rattle.outcome_causes.proofs.Plain.{in_both, in_left, in_right}
 use Rattle.call_causes.specs.Decided.{posted_by}
 use Rattle.call_causes.specs.Lists.{shows_in, shows_in_run}
 use Rattle.call_causes.specs.Posts.{Post, posted_at, posts_of_run}

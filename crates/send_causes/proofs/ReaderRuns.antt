@@ -8,18 +8,18 @@ use lib.ListN.{get_elem?}
 use Rattle.sock_words.specs.Words.{socket_id_version, socket_id_slot, vref_version}
 use Rattle.sock_words.specs.declared.plain.Plan.{Plan}
 use Rattle.sock_model.specs.declared.view.View.{View}
-use Rattle.sock_model.specs.Layout.{open_word, link_word, ref_word}
+use Rattle.sock_model.specs.Layout.{open_index, link_index, ref_index}
 use Rattle.sock_model.specs.SlotRows.{marks_of}
 use Rattle.sock_model.specs.Weights.{is_hold}
-use Rattle.chain_laws.proofs.Lists.{at_some}
+use Rattle.chain_steps.proofs.Lists.{at_some}
 use Rattle.sock_steps.proofs.Places.{own_count}
-use Rattle.sock_programs.specs.Asides.{Taking}
-use Rattle.sock_programs.specs.Calls.{SetOdd}
-use Rattle.sock_programs.specs.Drops.{call_in}
-use Rattle.sock_programs.specs.Programs.{Program, Do, Rest, Write, NO_SOCKET}
-use Rattle.sock_programs.specs.Cores.{Core, SeatState}
-use Rattle.sock_programs.specs.Runs.{IsAtRest}
-use Rattle.sock_programs.specs.Ticks.{Moment, IsAnswered, AreAnswered, ticked, run}
+use Rattle.seat_programs.specs.Asides.{Taking}
+use Rattle.seat_programs.specs.Calls.{SetOdd}
+use Rattle.seat_programs.specs.Drops.{call_in}
+use Rattle.seat_programs.specs.Programs.{Program, Do, Rest, Write, NO_SOCKET}
+use Rattle.seat_programs.specs.Cores.{Core, SeatState}
+use Rattle.seat_programs.specs.Runs.{IsAtRest}
+use Rattle.seat_programs.specs.Ticks.{Moment, IsAnswered, AreAnswered, ticked, run}
 use Rattle.sock_runs.specs.Sound.{state, Sound, IsAhead, IsFitting, AreFitting, views_after, views_along}
 use Rattle.sock_runs.proofs.Along.{seat_rests, place_inside, ticked_ahead}
 use Rattle.sock_runs.proofs.Bounds.{law, lives_le}
@@ -28,19 +28,19 @@ use Rattle.sock_runs.proofs.LinkTicks.{RetriesGo}
 use Rattle.sock_runs.proofs.Quiets.{ticked_seats, ticked_rests}
 use Rattle.sock_runs.proofs.Recorded.{Recorded, recorded_ticks}
 use Rattle.sock_runs.proofs.Ticks.{sound_ticks}
-use Rattle.sock_causes.specs.Facts.{shown_in}
-use Rattle.sock_causes.specs.Losses.{lost_by, may_close, closed_at}
-use Rattle.sock_causes.specs.Stories.{In}
-use Rattle.sock_causes.proofs.Plain.{in_both}
+use Rattle.outcome_causes.specs.Facts.{shown_in}
+use Rattle.outcome_causes.specs.Losses.{lost_by, may_close, closed_at}
+use Rattle.outcome_causes.specs.Stories.{In}
+use Rattle.outcome_causes.proofs.Plain.{in_both}
 use Rattle.call_causes.specs.owed_calls.proofs.WordsGiven.{Named, run_named}
-use Rattle.whole_runs.specs.Heard.{taken_link}
+use Rattle.run_theorems.specs.Heard.{taken_link}
 use Rattle.send_causes.proofs.Closers.{Ends, Calm, sets_odd}
 use Rattle.send_causes.proofs.Readings.{found_by, State, HasReader, takes_own, reader_ticks}
 use Rattle.send_causes.proofs.Takeless.{TakesNone, none_taken, run_takes}
 
 -- the link of the life that a seat holds is the one to which the word of its `open` belongs
-pub link_of : (p : Plan) (os : List ℕ) (c : Core) (vs : List View) → Sound p c vs → Named p (OpensLink os) c vs → (o id : ℕ) → o < p.operations → get_or c.words (open_word p o) 0 ≡ id + 1 → get_or c.words (open_word p o) 0 ≢ NO_SOCKET
-    → (j : ℕ) (v : View) → get_elem? vs j ≡ some v → 0 < marks_of (is_hold (socket_id_version id)) (socket_id_slot id) v → OpensLink os (slice_index c.words (link_word (socket_id_slot id))) o
+pub link_of : (p : Plan) (os : List ℕ) (c : Core) (vs : List View) → Sound p c vs → Named p (OpensLink os) c vs → (o id : ℕ) → o < p.operations → get_or c.words (open_index p o) 0 ≡ id + 1 → get_or c.words (open_index p o) 0 ≢ NO_SOCKET
+    → (j : ℕ) (v : View) → get_elem? vs j ≡ some v → 0 < marks_of (is_hold (socket_id_version id)) (socket_id_slot id) v → OpensLink os (slice_index c.words (link_index (socket_id_slot id))) o
 link_of p os c vs sound named o id inside word socket j v at has =
     let x = named.words o inside (λ z. omega (arith, word, z)) socket in
     let id_is : id ≡ x.version * 4294967296 + x.slot = (let e = x.word in omega (arith, word, e)) in
@@ -50,8 +50,8 @@ link_of p os c vs sound named o id inside word socket j v at has =
     let l = law p (state c vs) sound.lawful.references x.slot x.inside in let le = lives_le p (state c vs) sound.lawful.references x.slot x.inside in
     let held : 0 < marks_of (is_hold x.version) x.slot v = subst (λ s. 0 < marks_of (is_hold x.version) s v) slot_is (subst (λ h. 0 < marks_of (is_hold h) (socket_id_slot id) v) version_is has) in
     let here = (l.held x.version (omega (arith, held, own_count (state c vs) j v at (is_hold x.version) x.slot))).0 in
-    let one : slice_index c.words (link_word x.slot) ≡ x.link = l.link_is x.version x.link x.given (omega (arith, here, le)) in
-    subst (λ k. OpensLink os k o) (sym (ap (λ s. slice_index c.words (link_word s)) slot_is ∙ one)) x.mine
+    let one : slice_index c.words (link_index x.slot) ≡ x.link = l.link_is x.version x.link x.given (omega (arith, here, le)) in
+    subst (λ k. OpensLink os k o) (sym (ap (λ s. slice_index c.words (link_index s)) slot_is ∙ one)) x.mine
 
 module _ (p : Plan) (calls os : List ℕ) (in_os : (k o : ℕ) → get_elem? os k ≡ some o → o < p.operations) (Odd : List Taking → Type 0) (Lasts : Type 0) (ends : (n id : ℕ) → Ends n id Odd Lasts) where
   -- each reader keeps to its link, behind these takes of it, and no client takes bytes
@@ -79,7 +79,7 @@ module _ (p : Plan) (calls os : List ℕ) (in_os : (k o : ℕ) → get_elem? os 
   view_at c vs sound j seat at = at_some vs j (let l = place_inside c.seats j seat at in let e = sound.each in omega (arith, l, e))
 
   pub state_at : (c : Core) (vs : List View) (taken : ℕ → List Taking) → Keeps c vs taken → (j : ℕ) (seat : SeatState) (v : View) → get_elem? c.seats j ≡ some seat → get_elem? vs j ≡ some v → (r : ReaderOf j)
-      → State p calls r.0 r.1 (in_os r.0 r.1 r.3) Odd Lasts (ends r.0) (get_or c.words (open_word p r.1) 0) (taken r.0) seat.program v
+      → State p calls r.0 r.1 (in_os r.0 r.1 r.3) Odd Lasts (ends r.0) (get_or c.words (open_index p r.1) 0) (taken r.0) seat.program v
   state_at c vs taken k j seat v at at_view r = k.readers r.0 r.1 r.3 seat v (sym (ap (get_elem? c.seats) r.2) ∙ at) (sym (ap (get_elem? vs) r.2) ∙ at_view)
 
   -- no reader has the right to write a link
@@ -91,7 +91,7 @@ module _ (p : Plan) (calls os : List ℕ) (in_os : (k o : ℕ) → get_elem? os 
   others_none c vs taken sound k j seat at n far = dite (dec_le 32 j)
       (λ high. let r = reader_of c vs taken k j seat at high in let v = view_at c vs sound j seat at in ⊎_elim (λ e. ap (filter (λ l. l == n)) e)
       (λ t. ap (filter (λ l. l == n)) t.1 ∙ ap (λ b. cond b (t.0 ∷ []) []) (ne_eqb t.0 n (λ e. far (r.2 ∙ ap (λ x. 32 + x) (sym t.2 ∙ e)))))
-      (takes_own p calls r.0 r.1 (in_os r.0 r.1 r.3) Odd Lasts (ends r.0) (get_or c.words (open_word p r.1) 0) (taken r.0) seat.program v.0 (state_at c vs taken k j seat v.0 at v.1 r)))
+      (takes_own p calls r.0 r.1 (in_os r.0 r.1 r.3) Odd Lasts (ends r.0) (get_or c.words (open_index p r.1) 0) (taken r.0) seat.program v.0 (state_at c vs taken k j seat v.0 at v.1 r)))
       (λ low. ap (filter (λ l. l == n)) (none_taken seat.program (k.clients j (omega (arith, low)) seat at)))
 
   module _ (Q : ℕ → ℕ → Type 0) (go : RetriesGo p) where
@@ -114,10 +114,10 @@ module _ (p : Plan) (calls os : List ℕ) (in_os : (k o : ℕ) → get_elem? os 
   -- ## Sockets that readers set failed
 
   -- the program sets a socket failed next
-  lost_is : (id n : ℕ) (held : Bool) (h : List Taking) (ws : List ℕ) (program : Program) (x : ℕ) → Calm n id Odd Lasts held h program → In x (lost_by ws (call_in program)) → (i : ℕ) × (next : ℕ → Program) × (program ≡ Do (SetOdd i) next) × (x ≡ slice_index ws (link_word i))
-  lost_is id n held h ws (Do (SetOdd i) next) x calm there = (i, next, refl, by (vref_version (slice_index ws (ref_word i)) % 2 == 0) there)
+  lost_is : (id n : ℕ) (held : Bool) (h : List Taking) (ws : List ℕ) (program : Program) (x : ℕ) → Calm n id Odd Lasts held h program → In x (lost_by ws (call_in program)) → (i : ℕ) × (next : ℕ → Program) × (program ≡ Do (SetOdd i) next) × (x ≡ slice_index ws (link_index i))
+  lost_is id n held h ws (Do (SetOdd i) next) x calm there = (i, next, refl, by (vref_version (slice_index ws (ref_index i)) % 2 == 0) there)
     where
-      by : (b : Bool) → In x (cond b (slice_index ws (link_word i) ∷ []) []) → x ≡ slice_index ws (link_word i)
+      by : (b : Bool) → In x (cond b (slice_index ws (link_index i) ∷ []) []) → x ≡ slice_index ws (link_index i)
       by true (inl e) = e
       by true (inr m) = absurd m
       by false m = absurd m
@@ -136,13 +136,13 @@ module _ (p : Plan) (calls os : List ℕ) (in_os : (k o : ℕ) → get_elem? os 
         by_state : (seat : SeatState) (v : View) → get_elem? c.seats m.seat ≡ some seat → get_elem? vs m.seat ≡ some v → (r : ReaderOf m.seat) → In x (lost_by c.words (call_in seat.program)) → Closes taken x
         by_state seat v at at_view r m' = of_state (state_at c vs taken k m.seat seat v at at_view r)
           where
-            of_state : State p calls r.0 r.1 (in_os r.0 r.1 r.3) Odd Lasts (ends r.0) (get_or c.words (open_word p r.1) 0) (taken r.0) seat.program v → Closes taken x
+            of_state : State p calls r.0 r.1 (in_os r.0 r.1 r.3) Odd Lasts (ends r.0) (get_or c.words (open_index p r.1) 0) (taken r.0) seat.program v → Closes taken x
             of_state (none_, inl s) = absurd (subst (λ y. In x (lost_by c.words (call_in y))) s.0 m')
             of_state (none_, inr (inl s)) = absurd (subst (λ y. In x (lost_by c.words (call_in y))) s.0 m')
             of_state (none_, inr (inr s)) = let l = lost_is s.id r.0 s.held (taken r.0) c.words seat.program x s.calm m' in
                 let y = sets_odd r.0 s.id Odd Lasts s.held (taken r.0) l.0 l.1 (subst (Calm r.0 s.id Odd Lasts s.held (taken r.0)) l.2 s.calm) in
                 let own = link_of p os c vs sound named r.1 s.id (in_os r.0 r.1 r.3) s.word s.socket m.seat v at_view (s.has y.0) in
-                let same : x ≡ r.0 = l.3 ∙ (ap (λ i. slice_index c.words (link_word i)) y.2 ∙ apart (slice_index c.words (link_word (socket_id_slot s.id))) r.0 r.1 own r.3) in
+                let same : x ≡ r.0 = l.3 ∙ (ap (λ i. slice_index c.words (link_index i)) y.2 ∙ apart (slice_index c.words (link_index (socket_id_slot s.id))) r.0 r.1 own r.3) in
                 ((r.1, ap (get_elem? os) same ∙ r.3), subst (λ z. Odd (taken z)) (sym same) y.1)
 
         high : may_close m.seat ≡ true → m.seat ≢ 0 → 32 ≤ m.seat

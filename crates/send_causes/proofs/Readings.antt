@@ -11,22 +11,22 @@ use Rattle.sock_words.specs.declared.plain.Plan.{Plan}
 use Rattle.sock_model.specs.declared.marks.Mark.TheVariants.{Hold, Saw}
 use Rattle.sock_model.specs.declared.view.View.{View}
 use Rattle.sock_model.specs.declared.view.Hand.{Hand}
-use Rattle.sock_model.specs.Layout.{open_word}
+use Rattle.sock_model.specs.Layout.{open_index}
 use Rattle.sock_model.specs.Marks.{about, at}
 use Rattle.sock_model.specs.SlotRows.{marks_of, added, met, looked, told_code, met_link}
 use Rattle.sock_model.specs.Weights.{total, only, is_hold}
 use Rattle.sock_model.specs.ChainRows.{spent_hand, with_hand, with_claim}
-use Rattle.slot_laws.proofs.Numbers.{only-same}
-use Rattle.slot_laws.proofs.Sums.{about-here}
+use Rattle.slot_steps.proofs.Numbers.{only-same}
+use Rattle.slot_steps.proofs.Sums.{about-here}
 use Rattle.sock_steps.proofs.Quiet.{either_way}
-use Rattle.sock_programs.specs.Asides.{Step, Found, TakeBytes, Taking, Bytes, Nothing, NoMore, AtEnd, Closed, Broken}
-use Rattle.sock_programs.specs.Beside.{at_last, found_in, calls_after}
-use Rattle.sock_programs.specs.Calls.{Call, AddRef, LoadName, LoadOpen, TakeLink, LookWord, LoadCode, ClaimRequest, PutMessage, Unconnect, SwapHead, EmptyHead, ReadNext, TurnNext, FreeRequest, StorePlace, DropPlace}
-use Rattle.sock_programs.specs.Heads.{Retry, Decides, Locks, Reads, Discards}
-use Rattle.sock_programs.specs.Programs.{Program, Do, Say, Sent, Rest, TakeMessage, TakeHome, PutHome, PutBytes, AskReady, Write, Aside, Round, Keep, Retries, NO_SOCKET}
-use Rattle.sock_programs.specs.Readers.{room_of, took, discarded, read, reader}
-use Rattle.sock_programs.specs.Cores.{Core, SeatState, word_of, found_at, resolved, next_step, waiting_at, with_seat}
-use Rattle.sock_programs.specs.Ticks.{Answer, Moment, IsAnswer, IsAnswered, IsTaken, FitsTake, taken, with_found, step_with, tick_with, ticked}
+use Rattle.seat_programs.specs.Asides.{Step, Found, TakeBytes, Taking, Bytes, Nothing, NoMore, AtEnd, Closed, Broken}
+use Rattle.seat_programs.specs.Beside.{at_last, found_in, calls_after}
+use Rattle.seat_programs.specs.Calls.{Call, AddRef, LoadName, LoadOpen, TakeLink, LookWord, LoadCode, ClaimRequest, PutMessage, Unconnect, SwapHead, EmptyHead, ReadNext, ReverseNext, FreeRequest, StorePlace, DropPlace}
+use Rattle.seat_programs.specs.Heads.{Retry, Decides, Locks, Reads, Discards}
+use Rattle.seat_programs.specs.Programs.{Program, Do, Say, Sent, Rest, TakeMessage, TakeHome, PutHome, PutBytes, AskReady, Write, Aside, Round, Keep, Retries, NO_SOCKET}
+use Rattle.seat_programs.specs.Readers.{room_of, took, discarded, read, reader}
+use Rattle.seat_programs.specs.Cores.{Core, SeatState, word_of, found_at, resolved, next_step, waiting_at, with_seat}
+use Rattle.seat_programs.specs.Ticks.{Answer, Moment, IsAnswer, IsAnswered, IsTaken, FitsTake, taken, with_found, step_with, tick_with, ticked}
 use Rattle.sock_runs.specs.Rows.{row, is_id, found_id, by_claim, by_right, new_claim, filled_claim, ready_claim, looked_clean}
 use Rattle.sock_runs.specs.Sound.{Sound, first_step, IsFitting, views_with, views_of, views_after}
 use Rattle.sock_runs.proofs.Leaves.{claim_way}
@@ -36,8 +36,8 @@ use Rattle.sock_runs.proofs.OpensStay.{run_word}
 use Rattle.sock_runs.proofs.Cases.{beside, tick_keeps_marks}
 use Rattle.sock_runs.proofs.Rounds.{begins_round}
 use Rattle.sock_runs.proofs.Passes.{goes_round}
-use Rattle.sock_causes.proofs.Cases.{tick_cases}
-use Rattle.whole_runs.specs.Heard.{taken_link, taken_at, as_taken}
+use Rattle.outcome_causes.proofs.Cases.{tick_cases}
+use Rattle.run_theorems.specs.Heard.{taken_link, taken_at, as_taken}
 use Rattle.send_causes.proofs.Closers.{Ends, Calm, IsCalmCall, IsNoTake, calm_first, calm_next, begins_calm, calm_step, calm_aside}
 
 -- ## Rights
@@ -55,7 +55,7 @@ rights_none p v found hand (Unconnect q) no_ e = claim_way (λ (u : View). u.rig
 rights_none p v found hand (SwapHead i own) no_ e = absurd (no_ i own refl)
 rights_none p v found hand (EmptyHead i last) no_ e = subst (λ l. (by_right l (Rattle.sock_runs.specs.Rows.emptied last found v) v).rights ≡ []) (sym e) e
 rights_none p v found hand (ReadNext q) no_ e = subst (λ l. (by_right l (λ r. Rattle.sock_runs.specs.Rows.read_next found v r r.stage) v).rights ≡ []) (sym e) e
-rights_none p v found hand (TurnNext q value) no_ e = subst (λ l. (by_right l (λ r. Rattle.sock_runs.specs.Rows.turned_next v r r.stage) v).rights ≡ []) (sym e) e
+rights_none p v found hand (ReverseNext q value) no_ e = subst (λ l. (by_right l (λ r. Rattle.sock_runs.specs.Rows.turned_next v r r.stage) v).rights ≡ []) (sym e) e
 rights_none p v found hand (FreeRequest q g) no_ e = subst (λ l. (by_right l (Rattle.sock_runs.specs.Rows.freed_next v) v).rights ≡ []) (sym e) e
 rights_none p v found hand (StorePlace l k n) no_ e = subst (λ xs. (by_right xs (λ r. Rattle.sock_runs.specs.Rows.placed_next v r r.stage) v).rights ≡ []) (sym e) e
 rights_none p v found hand (DropPlace l k n) no_ e = subst (λ xs. (by_right xs (λ r. Rattle.sock_runs.specs.Rows.dropped_next v r r.stage) v).rights ≡ []) (sym e) e
@@ -97,13 +97,13 @@ other_first : (program : Program) → taken_link program ≡ [] → IsOther (fir
 other_first (Aside (TakeBytes k room) next) none_ = absurd (no_link k none_)
 other_first (Round (Reads r) next) none_ = absurd (no_link r.link none_)
 other_first (Round (Discards k total) next) none_ = absurd (no_link k none_)
-other_first (Round (Decides id asked w e) next) none_ = either_way (Rattle.sock_programs.specs.Posts.ends_call (Rattle.corr_core.specs.Word.parts w) e) _ _ IsOther tt tt
+other_first (Round (Decides id asked w e) next) none_ = either_way (Rattle.seat_programs.specs.Posts.ends_call (Rattle.corr_core.specs.Word.parts w) e) _ _ IsOther tt tt
 other_first (Round (Locks i sought (Rattle.std.specs.Prelude.Some w)) next) none_ = tt
 other_first (Round (Locks i sought Rattle.std.specs.Prelude.None) next) none_ = tt
-other_first (Write (Rattle.sock_programs.specs.Writings.Puts h now heading left took put) after) none_ = tt
-other_first (Write (Rattle.sock_programs.specs.Writings.Waits h now heading left took) after) none_ = tt
-other_first (Write (Rattle.sock_programs.specs.Writings.Empties h) after) none_ = tt
-other_first (Write (Rattle.sock_programs.specs.Writings.Walks h top at after) then_) none_ = tt
+other_first (Write (Rattle.seat_programs.specs.Writings.Puts h now heading left took put) after) none_ = tt
+other_first (Write (Rattle.seat_programs.specs.Writings.Waits h now heading left took) after) none_ = tt
+other_first (Write (Rattle.seat_programs.specs.Writings.Empties h) after) none_ = tt
+other_first (Write (Rattle.seat_programs.specs.Writings.Walks h top at after) then_) none_ = tt
 other_first _ none_ = tt
 
 other_step : (s : Step) (next : Found s → Program) → IsOther (Aside s next) → (k id : ℕ) (Odd : List Taking → Type 0) (Lasts : Type 0) → IsNoTake k id Odd Lasts s
@@ -142,7 +142,7 @@ module _ (p : Plan) (calls : List ℕ) (n o : ℕ) (inside : o < p.operations) (
   State w h program v = (v.rights ≡ []) × (((program ≡ reader calls n o) × (h ≡ [])) ⊎ (((program ≡ Rest) × (w ≡ NO_SOCKET)) ⊎ IsAt w h program v))
 
   abbrev pub Word : Core → ℕ
-  Word c = get_or c.words (open_word p o) 0
+  Word c = get_or c.words (open_index p o) 0
 
   abbrev pub HasReader : List Taking → Core → List View → Type 0
   HasReader h c vs = (seat : SeatState) (v : View) → get_elem? c.seats (32 + n) ≡ some seat → get_elem? vs (32 + n) ≡ some v → State (Word c) h seat.program v

@@ -4,14 +4,14 @@ use mathlib.Core.Option.{none, some, some-ne-none}
 use lib.ListN.{get_elem?}
 use Rattle.sock_words.specs.Words.{socket_id_slot, socket_id_version, vref_version, vref_nref}
 use Rattle.sock_words.specs.declared.plain.Plan.{Plan}
-use Rattle.sock_programs.specs.Calls.{SubRef, StoreCode, LoadLink, TakeLink, FinishLink, PutLink, FreeSlot}
-use Rattle.sock_programs.specs.Clients.{ending_of}
-use Rattle.sock_programs.specs.Heads.{Retry}
-use Rattle.sock_programs.specs.Programs.{Program, Do, Say, Sent, Rest, TakeMessage, TakeHome, PutHome, PutBytes, AskReady, Write, Aside, Round, Keep, Retries, NO_SOCKET, LAST_VERSION, recycle, release, address, set_failed}
-use Rattle.sock_programs.specs.Cores.{Core, SeatState, resolved, next_step, waiting_at, word_of, found_at}
-use Rattle.sock_programs.specs.Ticks.{quiet, ticked, tick_with}
-use Rattle.sock_causes.specs.Stories.{In}
-use Rattle.sock_causes.proofs.Plain.{in_both}
+use Rattle.seat_programs.specs.Calls.{SubRef, StoreCode, LoadLink, TakeLink, FinishLink, PutLink, FreeSlot}
+use Rattle.seat_programs.specs.Clients.{ending_of}
+use Rattle.seat_programs.specs.Heads.{Retry}
+use Rattle.seat_programs.specs.Programs.{Program, Do, Say, Sent, Rest, TakeMessage, TakeHome, PutHome, PutBytes, AskReady, Write, Aside, Round, Keep, Retries, NO_SOCKET, LAST_VERSION, recycle, release, address, set_failed}
+use Rattle.seat_programs.specs.Cores.{Core, SeatState, resolved, next_step, waiting_at, word_of, found_at}
+use Rattle.seat_programs.specs.Ticks.{quiet, ticked, tick_with}
+use Rattle.outcome_causes.specs.Stories.{In}
+use Rattle.outcome_causes.proofs.Plain.{in_both}
 use Rattle.call_causes.specs.Lists.{shows_in}
 use Rattle.call_causes.specs.Posts.{Post, posted_with, posted_at}
 use Rattle.id_runs.specs.Goes as goes

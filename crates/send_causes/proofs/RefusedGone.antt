@@ -10,30 +10,30 @@ use Rattle.sock_model.specs.declared.chain.Entry.{Entry}
 use Rattle.sock_model.specs.declared.chain.Heading.{Heading}
 use Rattle.sock_model.specs.declared.view.View.{View}
 use Rattle.sock_model.specs.Weights.{total}
-use Rattle.slot_laws.proofs.Sums.{term_le}
+use Rattle.slot_steps.proofs.Sums.{term_le}
 use Rattle.brpc_model.specs.Items.{Item}
 use Rattle.brpc_model.specs.Operations.{Turn}
 use Rattle.sock_message.specs.Asked.{Asked}
-use Rattle.sock_programs.specs.declared.task.Task.{Task}
-use Rattle.sock_programs.specs.Cores.{Core}
-use Rattle.sock_programs.specs.Tasks.{opens, plan_of, id_plan_of}
-use Rattle.sock_programs.specs.Scripts.{all_tasks, IsRunWithCalls}
-use Rattle.sock_programs.specs.ToldCalls.{Accepted, IsUnordered}
-use Rattle.sock_programs.specs.Told.{AreTasks}
+use Rattle.seat_programs.specs.declared.task.Task.{Task}
+use Rattle.seat_programs.specs.Cores.{Core}
+use Rattle.seat_programs.specs.Tasks.{opens, plan_of, id_plan_of}
+use Rattle.seat_programs.specs.Scripts.{all_tasks, IsRunWithCalls}
+use Rattle.seat_programs.specs.ToldCalls.{Accepted, IsUnordered}
+use Rattle.seat_programs.specs.Told.{AreTasks}
 use Rattle.sock_runs.specs.Sound.{Sound, AllRest}
 use Rattle.sock_runs.proofs.Whole.{views_closed, views_ended, ended_sound, end_rests}
-use Rattle.sock_causes.specs.Causes.{Asks}
-use Rattle.sock_causes.specs.Explains.{is_plain}
-use Rattle.sock_causes.specs.Kept.{is_of_send, Story}
-use Rattle.sock_causes.specs.PlainTasks.{told_tasks_of}
-use Rattle.sock_causes.proofs.Lifted.{up}
-use Rattle.sock_causes.proofs.Messages.{each_made, message_of, number_of}
-use Rattle.sock_causes.proofs.Runs.{Goes}
-use Rattle.sock_causes.proofs.Scripts.{seats, ended_told, final_told, story_end}
-use Rattle.sock_causes.proofs.Senders.{HasSent, all_sent}
-use Rattle.sock_causes.proofs.Tasks.{one_task}
-use Rattle.call_causes.specs.client_laws.specs.Openings.{all_seats}
-use Rattle.call_causes.specs.client_laws.proofs.Fresh.{opening_fresh}
+use Rattle.outcome_causes.specs.Causes.{Asks}
+use Rattle.outcome_causes.specs.Explains.{is_plain}
+use Rattle.outcome_causes.specs.Kept.{is_of_send, Story}
+use Rattle.outcome_causes.specs.PlainTasks.{told_tasks_of}
+use Rattle.outcome_causes.proofs.Lifted.{up}
+use Rattle.outcome_causes.proofs.Messages.{each_made, message_of, number_of}
+use Rattle.outcome_causes.proofs.Runs.{Goes}
+use Rattle.outcome_causes.proofs.Scripts.{seats, ended_told, final_told, story_end}
+use Rattle.outcome_causes.proofs.Senders.{HasSent, all_sent}
+use Rattle.outcome_causes.proofs.Tasks.{one_task}
+use Rattle.call_causes.specs.programs_allowed.specs.Openings.{all_seats}
+use Rattle.call_causes.specs.programs_allowed.proofs.Fresh.{opening_fresh}
 use Rattle.call_causes.specs.joint_runs.proofs.Runs.{AreMade, first_views}
 use Rattle.call_causes.specs.owed_calls.specs.Lives.{ClosesInRun}
 use Rattle.send_causes.specs.Counts.{pair_of, of_heading, of_entry, of_view}

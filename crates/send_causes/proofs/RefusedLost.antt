@@ -11,35 +11,35 @@ use Rattle.brpc_model.specs.Operations.{Turn, clients}
 use Rattle.brpc_model.specs.Script.{script_of}
 use Rattle.corr_core.specs.Word.{parts}
 use Rattle.sock_message.specs.Asked.{Asked}
-use Rattle.sock_programs.specs.Asides.{Step, PutCall}
-use Rattle.sock_programs.specs.Calls.{AddRef, LookWord, LoadName}
-use Rattle.sock_programs.specs.Heads.{Head, Exit, Posts, Unlocks, Decides, Locks, Joins, Opens, Reads, Discards}
-use Rattle.sock_programs.specs.Posts.{ends_call}
-use Rattle.sock_programs.specs.Programs.{Program, Do, Say, Sent, Rest, TakeMessage, TakeHome, PutHome, PutBytes, AskReady, Write, Aside, Round, Keep, Retries}
-use Rattle.sock_programs.specs.Writings.{Puts, Waits, Empties, Walks}
-use Rattle.sock_programs.specs.Cores.{Core}
-use Rattle.sock_programs.specs.Tasks.{opens, calls, plan_of, id_plan_of}
-use Rattle.sock_programs.specs.Ticks.{Moment, quiet, ticked, run}
-use Rattle.sock_programs.specs.Scripts.{all_tasks, opened, set_up, played, IsRunWithCalls}
-use Rattle.sock_programs.specs.Told.{AreTasks}
-use Rattle.sock_programs.specs.ToldCalls.{WhyLost, WasFailing, RunEnding}
+use Rattle.seat_programs.specs.Asides.{Step, PutCall}
+use Rattle.seat_programs.specs.Calls.{AddRef, LookWord, LoadName}
+use Rattle.seat_programs.specs.Heads.{Head, Exit, Posts, Unlocks, Decides, Locks, Joins, Opens, Reads, Discards}
+use Rattle.seat_programs.specs.Posts.{ends_call}
+use Rattle.seat_programs.specs.Programs.{Program, Do, Say, Sent, Rest, TakeMessage, TakeHome, PutHome, PutBytes, AskReady, Write, Aside, Round, Keep, Retries}
+use Rattle.seat_programs.specs.Writings.{Puts, Waits, Empties, Walks}
+use Rattle.seat_programs.specs.Cores.{Core}
+use Rattle.seat_programs.specs.Tasks.{opens, calls, plan_of, id_plan_of}
+use Rattle.seat_programs.specs.Ticks.{Moment, quiet, ticked, run}
+use Rattle.seat_programs.specs.Scripts.{all_tasks, opened, set_up, played, IsRunWithCalls}
+use Rattle.seat_programs.specs.Told.{AreTasks}
+use Rattle.seat_programs.specs.ToldCalls.{WhyLost, WasFailing, RunEnding}
 use Rattle.sock_runs.specs.Sound.{Sound, first_step, state, views_along}
 use Rattle.sock_runs.proofs.Along.{seat_rests}
 use Rattle.sock_runs.proofs.Whole.{closing_of, views_played, views_closed, views_ended, set_up_answered, end_answered, rested_ahead, rested_idle, set_up_sound, played_sound, closing_sound, closed_sound, ended_sound, end_rests}
-use Rattle.sock_causes.specs.Facts.{put_by, put_at, shown_in, late_of_run}
-use Rattle.sock_causes.specs.Kept.{Story}
-use Rattle.sock_causes.specs.PlainTasks.{told_tasks_of}
-use Rattle.sock_causes.specs.Stories.{In}
-use Rattle.sock_causes.proofs.Begin.{start_story}
-use Rattle.sock_causes.proofs.Final.{at_there}
-use Rattle.sock_causes.proofs.Lifted.{made_up}
-use Rattle.sock_causes.proofs.Members.{in_contains}
-use Rattle.sock_causes.proofs.Openings.{are_seats, all_explained}
-use Rattle.sock_causes.proofs.Plain.{in_left, in_right}
-use Rattle.sock_causes.proofs.Runs.{IsStoried, set_up_over, ending_story, is_ending_story}
-use Rattle.sock_causes.proofs.Scripts.{own_from}
-use Rattle.call_causes.specs.client_laws.specs.Openings.{all_seats}
-use Rattle.call_causes.specs.client_laws.proofs.Fresh.{opening_fresh}
+use Rattle.outcome_causes.specs.Facts.{put_by, put_at, shown_in, late_of_run}
+use Rattle.outcome_causes.specs.Kept.{Story}
+use Rattle.outcome_causes.specs.PlainTasks.{told_tasks_of}
+use Rattle.outcome_causes.specs.Stories.{In}
+use Rattle.outcome_causes.proofs.Begin.{start_story}
+use Rattle.outcome_causes.proofs.Final.{at_there}
+use Rattle.outcome_causes.proofs.Lifted.{made_up}
+use Rattle.outcome_causes.proofs.Members.{in_contains}
+use Rattle.outcome_causes.proofs.Openings.{are_seats, all_explained}
+use Rattle.outcome_causes.proofs.Plain.{in_left, in_right}
+use Rattle.outcome_causes.proofs.Runs.{IsStoried, set_up_over, ending_story, is_ending_story}
+use Rattle.outcome_causes.proofs.Scripts.{own_from}
+use Rattle.call_causes.specs.programs_allowed.specs.Openings.{all_seats}
+use Rattle.call_causes.specs.programs_allowed.proofs.Fresh.{opening_fresh}
 use Rattle.call_causes.specs.joint_runs.proofs.Runs.{AreMade, first_views}
 use Rattle.call_causes.specs.owed_calls.specs.Lives.{ClosesInRun}
 use Rattle.send_causes.specs.Refused.{Deed, DidStep, DidPut, DidMiss, DidIn, DidEarly, DidLate, FoundLost, WasOther, WasOdd, WasNone}
@@ -61,8 +61,8 @@ same_put (Aside (PutCall i asked) next) = refl
 same_put (Aside _ next) = refl
 same_put (Round (Decides id asked w e) next) = by (ends_call (parts w) e)
   where
-    by : (b : Bool) → put_first (cond b (Rattle.sock_programs.specs.Posts.end_id (Rattle.sock_programs.specs.Asides.id_slot id) (next (Rattle.sock_programs.specs.Heads.HasEnded asked.operation (Rattle.corr_core.specs.Word.code_of e))))
-        (Aside (PutCall (Rattle.sock_programs.specs.Asides.id_slot id) asked) (λ _. Round (Unlocks (Rattle.sock_programs.specs.Asides.id_slot id) w true) (Rattle.sock_programs.specs.Posts.unlocked (record { id = id; attempt = (parts w).attempt + 1 }) next)))) ≡ cond b [] (asked.operation ∷ [])
+    by : (b : Bool) → put_first (cond b (Rattle.seat_programs.specs.Posts.end_id (Rattle.seat_programs.specs.Asides.id_slot id) (next (Rattle.seat_programs.specs.Heads.HasEnded asked.operation (Rattle.corr_core.specs.Word.code_of e))))
+        (Aside (PutCall (Rattle.seat_programs.specs.Asides.id_slot id) asked) (λ _. Round (Unlocks (Rattle.seat_programs.specs.Asides.id_slot id) w true) (Rattle.seat_programs.specs.Posts.unlocked (record { id = id; attempt = (parts w).attempt + 1 }) next)))) ≡ cond b [] (asked.operation ∷ [])
     by true = refl
     by false = refl
 same_put (Round (Posts id e w) next) = refl

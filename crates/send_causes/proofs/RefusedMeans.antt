@@ -10,18 +10,18 @@ use Rattle.sock_model.specs.declared.home.Home.{Home}
 use Rattle.sock_model.specs.declared.chain.Right.{Right}
 use Rattle.sock_model.specs.declared.view.View.{View}
 use Rattle.sock_model.specs.Weights.{is_busy, is_hold, is_known, is_failer}
-use Rattle.sock_model.specs.Layout.{request_word}
+use Rattle.sock_model.specs.Layout.{request_index}
 use Rattle.sock_model.specs.Slots.{SlotLaw, live, count}
 use Rattle.sock_model.specs.References.{slot_facts}
 use Rattle.sock_model.specs.SlotRows.{marks_of}
 use Rattle.sock_model.specs.ChainRows.{taken_right}
-use Rattle.slot_laws.proofs.Numbers.{live_le, life_is, life-in}
+use Rattle.slot_steps.proofs.Numbers.{live_le, life_is, life-in}
 use Rattle.sock_steps.proofs.Places.{own_count, counts}
-use Rattle.sock_programs.specs.Beside.{calls_after}
-use Rattle.sock_programs.specs.Calls.{Call, AddRef, LookWord, ClaimRequest}
-use Rattle.sock_programs.specs.Programs.{Program, Do}
-use Rattle.sock_programs.specs.Cores.{Calls, Core, SeatState, word_of, word_after, words_after, found_at, homes_after, with_seat, stepped, link_place, first_of, others_of, lies_at}
-use Rattle.sock_programs.specs.Ticks.{Moment, AreAnswered, IsAnswered, ticked, run, onto_first, with_places, fed}
+use Rattle.seat_programs.specs.Beside.{calls_after}
+use Rattle.seat_programs.specs.Calls.{Call, AddRef, LookWord, ClaimRequest}
+use Rattle.seat_programs.specs.Programs.{Program, Do}
+use Rattle.seat_programs.specs.Cores.{Calls, Core, SeatState, word_of, word_after, words_after, found_at, homes_after, with_seat, stepped, link_place, first_of, others_of, lies_at}
+use Rattle.seat_programs.specs.Ticks.{Moment, AreAnswered, IsAnswered, ticked, run, onto_first, with_places, fed}
 use Rattle.sock_runs.specs.GoesOn.{GoesOn}
 use Rattle.sock_runs.specs.May.{May}
 use Rattle.sock_runs.specs.Rows.{row, hand_at, took_message, link_away, link_home_again, took_bytes}
@@ -31,10 +31,10 @@ use Rattle.sock_runs.proofs.LinkTicks.{RetriesGo}
 use Rattle.sock_runs.proofs.Passes.{goes_round}
 use Rattle.sock_runs.proofs.Rounds.{begins_round}
 use Rattle.sock_runs.proofs.Ticks.{sound_ticks}
-use Rattle.sock_causes.proofs.Added.{failer_note, row_adds}
-use Rattle.sock_causes.proofs.Cases.{tick_cases}
-use Rattle.sock_causes.proofs.Ticks.{elem_there}
-use Rattle.sock_causes.proofs.Used.{word_stays}
+use Rattle.outcome_causes.proofs.Added.{failer_note, row_adds}
+use Rattle.outcome_causes.proofs.Cases.{tick_cases}
+use Rattle.outcome_causes.proofs.Ticks.{elem_there}
+use Rattle.outcome_causes.proofs.Used.{word_stays}
 use Rattle.send_causes.specs.Refused.{Deed, DidStep, DidPut, DidRound, DidMiss, DidAt, DidIn}
 
 module _ (p : Plan) where
@@ -43,7 +43,7 @@ module _ (p : Plan) where
   IsFailed c vs j h = (j < p.slots) × (0 < count (is_failer h) (slot_facts (state c vs) j))
 
   abbrev pub Says : Core → List View → Call → ℕ → Type 0
-  Says c vs (ClaimRequest id r) found = found % 2 ≡ 1 → (r < p.requests) × (0 < slice_index c.words (request_word p r))
+  Says c vs (ClaimRequest id r) found = found % 2 ≡ 1 → (r < p.requests) × (0 < slice_index c.words (request_index p r))
   Says c vs (AddRef id) found = vref_version found ≢ socket_id_version id → IsFailed c vs (socket_id_slot id) (socket_id_version id)
   Says c vs (LookWord id) found = vref_version found % 2 ≡ 1 → IsFailed c vs (socket_id_slot id) (socket_id_version id)
   Says c vs other found = Unit {0}
@@ -95,7 +95,7 @@ module _ (p : Plan) where
     Keeps c' vs' = (d : Deed) → IsSo c vs d → IsSo c' vs' d
 
     -- where words of requests and marks of failed lives stay
-    by_parts : (c' : Core) (vs' : List View) → ((r : ℕ) → r < p.requests → 0 < slice_index c.words (request_word p r) → 0 < slice_index c'.words (request_word p r))
+    by_parts : (c' : Core) (vs' : List View) → ((r : ℕ) → r < p.requests → 0 < slice_index c.words (request_index p r) → 0 < slice_index c'.words (request_index p r))
         → ((j h : ℕ) → 0 < count (is_failer h) (slot_facts (state c vs) j) → 0 < count (is_failer h) (slot_facts (state c' vs') j)) → Keeps c' vs'
     by_parts c' vs' used failed (DidStep call found) so = by call so
       where

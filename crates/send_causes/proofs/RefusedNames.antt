@@ -5,17 +5,17 @@ use Rattle.sock_words.specs.declared.plain.Plan.{Plan}
 use Rattle.sock_words.specs.declared.outcome.Outcome.{Outcome}
 use Rattle.sock_words.specs.Words.{socket_id, socket_id_slot, socket_id_version, vref_version}
 use Rattle.sock_model.specs.declared.view.View.{View}
-use Rattle.sock_model.specs.Layout.{request_word}
+use Rattle.sock_model.specs.Layout.{request_index}
 use Rattle.sock_model.specs.Slots.{SlotLaw, live}
 use Rattle.sock_model.specs.References.{slot_facts}
-use Rattle.slot_laws.proofs.Clauses.{taken_for}
-use Rattle.slot_laws.proofs.Numbers.{life_le}
-use Rattle.sock_programs.specs.Calls.{GiveBirth, StoreName, ClaimRequest, LoadName}
-use Rattle.sock_programs.specs.Cores.{Core}
-use Rattle.sock_programs.specs.declared.task.Task.{Task}
-use Rattle.sock_programs.specs.Programs.{Do}
-use Rattle.sock_programs.specs.Ticks.{Moment, AreAnswered, quiet, ticked, run}
-use Rattle.sock_programs.specs.Told.{AreTasks, Made}
+use Rattle.slot_steps.proofs.Clauses.{taken_for}
+use Rattle.slot_steps.proofs.Numbers.{life_le}
+use Rattle.seat_programs.specs.Calls.{CreateLife, StoreName, ClaimRequest, LoadName}
+use Rattle.seat_programs.specs.Cores.{Core}
+use Rattle.seat_programs.specs.declared.task.Task.{Task}
+use Rattle.seat_programs.specs.Programs.{Do}
+use Rattle.seat_programs.specs.Ticks.{Moment, AreAnswered, quiet, ticked, run}
+use Rattle.seat_programs.specs.Told.{AreTasks, Made}
 use Rattle.sock_runs.specs.GoesOn.{GoesOn, HasNothing}
 use Rattle.sock_runs.specs.Sound.{Sound, AllRest, AreFitting, state, views_after, views_along}
 use Rattle.sock_runs.proofs.Cases.{goes_first}
@@ -23,16 +23,16 @@ use Rattle.sock_runs.proofs.LinkTicks.{RetriesGo}
 use Rattle.sock_runs.proofs.Passes.{goes_round}
 use Rattle.sock_runs.proofs.Rounds.{begins_round}
 use Rattle.sock_runs.proofs.Ticks.{sound_ticks}
-use Rattle.sock_causes.specs.Causes.{Asks}
-use Rattle.sock_causes.specs.Explains.{step}
-use Rattle.sock_causes.specs.Kept.{StaysUsed, Story}
-use Rattle.sock_causes.specs.Stories.{Event, In, trace_of}
-use Rattle.sock_causes.proofs.Delivered.{orders_of, AreQuiet, requests_used}
-use Rattle.sock_causes.proofs.Events.{event, cause_of, given_by, last_some}
-use Rattle.sock_causes.proofs.Final.{at_there, at_within, idle, final}
-use Rattle.sock_causes.proofs.Lives.{World, task_of, tells_of}
-use Rattle.sock_causes.proofs.Members.{from_trace, to_trace}
-use Rattle.sock_causes.proofs.Ticks.{elem_there, tick_story}
+use Rattle.outcome_causes.specs.Causes.{Asks}
+use Rattle.outcome_causes.specs.Explains.{step}
+use Rattle.outcome_causes.specs.Kept.{StaysUsed, Story}
+use Rattle.outcome_causes.specs.Stories.{Event, In, trace_of}
+use Rattle.outcome_causes.proofs.Delivered.{orders_of, AreQuiet, requests_used}
+use Rattle.outcome_causes.proofs.Events.{event, cause_of, given_by, last_some}
+use Rattle.outcome_causes.proofs.Final.{at_there, at_within, idle, final}
+use Rattle.outcome_causes.proofs.Lives.{World, task_of, tells_of}
+use Rattle.outcome_causes.proofs.Members.{from_trace, to_trace}
+use Rattle.outcome_causes.proofs.Ticks.{elem_there, tick_story}
 use Rattle.send_causes.specs.Refused.{Deed, DidStep, DidPut, DidRound, DidMiss, DidAt, DidIn}
 
 -- ## What was found under names
@@ -102,7 +102,7 @@ module _ (p : Plan) (clients : List (List Task)) (are : AreTasks p clients) (c :
       let n : HasNothing v = subst (GoesOn p v) (settled i seat.0 seat.1) (sound.seats i seat.0 v seat.1 at).goes_on in n.quiet
 
   -- a request that was found claimed was used
-  word_used : (q i u id found : ℕ) → In (event i u (ClaimRequest id q) found) es → found % 2 ≡ 1 → slice_index c.words (request_word p q) ≢ 0
+  word_used : (q i u id found : ℕ) → In (event i u (ClaimRequest id q) found) es → found % 2 ≡ 1 → slice_index c.words (request_index p q) ≢ 0
   word_used q i u id found m odd = let x : StaysUsed p c.words (step (ClaimRequest id q) found) = story.used (event i u (ClaimRequest id q) found) m in let y = (x odd).1 in λ e. omega (arith, y, e)
 
   world : World p clients c.outcomes lost (orders_of p c vs sound.lawful) es
@@ -128,10 +128,10 @@ module _ (p : Plan) (clients : List (List Task)) (are : AreTasks p clients) (c :
     -- a socket that was stored under a name by then is that of a life that was made under it, and had its link by then
     pub named_life : (n s : ℕ) → (client o found : ℕ) × In (event client o (StoreName n (s + 1)) found) fs → (k : ℕ) × Made clients c.outcomes n k (socket_id_slot s) (socket_id_version s) × (socket_id_slot s < p.slots) × (0 < Rattle.sock_model.specs.Slots.count (Rattle.sock_model.specs.Weights.is_linked (socket_id_version s) k) (slot_facts (state before views) (socket_id_slot s)))
     named_life n s (client, o, found, m) = let b = cause_of p clients losses fs told.good (event client o (StoreName n (s + 1)) found) m in let f = b.cause.fits in let k : ℕ = f.0 in let i : ℕ = f.1 in let word : ℕ = f.2 in
-        let birth : In (event client o (GiveBirth i k) word) fs = b.part (event client o (GiveBirth i k) word) (from_trace client o b.story (step (GiveBirth i k) word) f.4) in
-        let means = (cause_of p clients losses fs told.good (event client o (GiveBirth i k) word) birth).cause.means in
+        let birth : In (event client o (CreateLife i k) word) fs = b.part (event client o (CreateLife i k) word) (from_trace client o b.story (step (CreateLife i k) word) f.4) in
+        let means = (cause_of p clients losses fs told.good (event client o (CreateLife i k) word) birth).cause.means in
         let t : Task = b.cause.task in let asks : Asks clients client t = b.cause.is in
-        let tells = tells_of p clients c.outcomes lost (orders_of p c vs sound.lawful) es world client t asks (step (GiveBirth i k) word) (subst (λ z. In (step (GiveBirth i k) word) (trace_of client z es)) (sym b.cause.numbered) (to_trace es (event client o (GiveBirth i k) word) (part (event client o (GiveBirth i k) word) birth))) in
+        let tells = tells_of p clients c.outcomes lost (orders_of p c vs sound.lawful) es world client t asks (step (CreateLife i k) word) (subst (λ z. In (step (CreateLife i k) word) (trace_of client z es)) (sym b.cause.numbered) (to_trace es (event client o (CreateLife i k) word) (part (event client o (CreateLife i k) word) birth))) in
         let made : Made clients c.outcomes n k i (vref_version word) = record { client = client; task = t; is = task_of p clients c.outcomes lost (orders_of p c vs sound.lawful) es world client t asks; op = f.3; became = (world.final client t asks).became ∙ ap (λ (x : Option Outcome). Some x) tells } in
         let parts = parts_of s (vref_version word) i means.0 f.5 in let given = given_by fs client o word i (socket_id_version s) k birth parts.1 in let tie = told.links i means.0 (socket_id_version s) k in (
           k,

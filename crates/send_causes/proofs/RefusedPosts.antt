@@ -11,14 +11,14 @@ use Rattle.id_runs.specs.Held.{IdView}
 use Rattle.id_runs.specs.Goes.{SoundIds}
 use Rattle.id_runs.specs.Goes as goes
 use Rattle.sock_message.specs.Asked.{Asked}
-use Rattle.sock_programs.specs.Asides.{Step, Found, PostId, call_id}
-use Rattle.sock_programs.specs.Beside.{found_in}
-use Rattle.sock_programs.specs.Programs.{Program, Do, Say, Sent, Rest, TakeMessage, TakeHome, PutHome, PutBytes, AskReady, Write, Aside, Round, Keep, Retries}
-use Rattle.sock_programs.specs.Cores.{Core, SeatState}
-use Rattle.sock_programs.specs.Ticks.{Moment, taken}
+use Rattle.seat_programs.specs.Asides.{Step, Found, PostId, call_id}
+use Rattle.seat_programs.specs.Beside.{found_in}
+use Rattle.seat_programs.specs.Programs.{Program, Do, Say, Sent, Rest, TakeMessage, TakeHome, PutHome, PutBytes, AskReady, Write, Aside, Round, Keep, Retries}
+use Rattle.seat_programs.specs.Cores.{Core, SeatState}
+use Rattle.seat_programs.specs.Ticks.{Moment, taken}
 use Rattle.sock_runs.specs.Sound.{Sound, first_step}
-use Rattle.sock_causes.specs.Stories.{In}
-use Rattle.sock_causes.proofs.Ticks.{elem_there}
+use Rattle.outcome_causes.specs.Stories.{In}
+use Rattle.outcome_causes.proofs.Ticks.{elem_there}
 use Rattle.call_causes.specs.Posts.{Post, posts_by, posted_with, posted_at}
 use Rattle.send_causes.specs.Refused.{Deed, Charge, NoCharge, IsRefused, HasDropped, Doing, IsChargeOf, IsPostOf, ChargeFits, ChargeLaw, IsSpent, PostKind, ByReader, ByExpiry, ByRefusal, ByDrop}
 use Rattle.send_causes.proofs.Ticks.{AreCalls}

@@ -15,22 +15,22 @@ use Rattle.sock_model.specs.declared.chain.Heading.{Heading}
 use Rattle.sock_model.specs.Entries.{generation_of, slot_of, ticket_of}
 use Rattle.sock_model.specs.Memory.{IDLE, UNCONNECTED}
 use Rattle.corr_core.specs.Word.{parts, error_of}
-use Rattle.sock_programs.specs.declared.task.Op.{Op}
-use Rattle.sock_programs.specs.declared.task.Op.TheVariants as ops
-use Rattle.sock_programs.specs.declared.task.Sizes.{Sizes}
-use Rattle.sock_programs.specs.declared.task.Task.{Task}
-use Rattle.sock_programs.specs.Asides.{StoreAt, call_id, id_slot, id_first}
-use Rattle.sock_programs.specs.Attempts.{claims_from, heading_for, attempt, begin_call, claim_id, call, tried_again, retry_locked, retry, expire_outcome, expire, join}
-use Rattle.sock_programs.specs.Calls.{Call, SubRef, AddRef, StoreCode, SetOdd, LoadLink, TakeLink, FinishLink, PutLink, FreeSlot, LoadName, FreeRequest, ReadNext, FindLink, LookWord, TurnNext, Connect, ClaimRequest, PutMessage, Recycle, LoadCode, DropPlace}
-use Rattle.sock_programs.specs.Clients.{HeldLife, held_under, without_name, give_back, drop_of, operation, client_from, ending_of}
-use Rattle.sock_programs.specs.Heads.{First, Joins, Reads, Discards, Posting, WasGone, WasStale, WasCrowded, WasQueued, HasLocked, Unlocking, IsOpen, HasNext, Locking, NotThere, Has, Ended}
-use Rattle.sock_programs.specs.Parts.{part}
-use Rattle.sock_programs.specs.Posts.{post_with, posted, post, decided}
-use Rattle.sock_programs.specs.Programs.{Program, Do, Say, Sent, Rest, TakeMessage, TakeHome, PutBytes, Write, Aside, Round, NO_SOCKET, LAST_VERSION, LAST_GENERATION, recycle, release, address, reach, set_failed, make_socket, open_from, fail_outcome, fail}
-use Rattle.sock_programs.specs.Readers.{kept_for, ends_with, posted_last, post_each, thrown_away, read, reader, LIMIT}
-use Rattle.sock_programs.specs.Sends.{freed as given_back, one_more, passed_telling, tell_drop, placed, dropped, put_answered, ready_answered, block, first_put, accept, write_link, heading_of, claim_from, start, send}
-use Rattle.sock_programs.specs.Writings.{Holder, Writing, Puts, Waits, Empties, Walks}
-use Rattle.sock_causes.specs.Stories.{In}
+use Rattle.seat_programs.specs.declared.task.Op.{Op}
+use Rattle.seat_programs.specs.declared.task.Op.TheVariants as ops
+use Rattle.seat_programs.specs.declared.task.Sizes.{Sizes}
+use Rattle.seat_programs.specs.declared.task.Task.{Task}
+use Rattle.seat_programs.specs.Asides.{StoreAt, call_id, id_slot, id_first}
+use Rattle.seat_programs.specs.Attempts.{claims_from, heading_for, attempt, begin_call, claim_id, call, tried_again, retry_locked, retry, expire_outcome, expire, join}
+use Rattle.seat_programs.specs.Calls.{Call, SubRef, AddRef, StoreCode, SetOdd, LoadLink, TakeLink, FinishLink, PutLink, FreeSlot, LoadName, FreeRequest, ReadNext, FindLink, LookWord, ReverseNext, Connect, ClaimRequest, PutMessage, Recycle, LoadCode, DropPlace}
+use Rattle.seat_programs.specs.Clients.{HeldLife, held_under, without_name, give_back, drop_of, operation, client_from, ending_of}
+use Rattle.seat_programs.specs.Heads.{First, Joins, Reads, Discards, Posting, WasGone, WasStale, WasCrowded, WasQueued, HasLocked, Unlocking, IsOpen, HasNext, Locking, NotThere, Has, Ended}
+use Rattle.seat_programs.specs.Parts.{part}
+use Rattle.seat_programs.specs.Posts.{post_with, posted, post, decided}
+use Rattle.seat_programs.specs.Programs.{Program, Do, Say, Sent, Rest, TakeMessage, TakeHome, PutBytes, Write, Aside, Round, NO_SOCKET, LAST_VERSION, LAST_GENERATION, recycle, release, address, reach, set_failed, make_socket, open_from, fail_outcome, fail}
+use Rattle.seat_programs.specs.Readers.{kept_for, ends_with, posted_last, post_each, thrown_away, read, reader, LIMIT}
+use Rattle.seat_programs.specs.Sends.{freed as given_back, one_more, passed_telling, tell_drop, placed, dropped, put_answered, ready_answered, block, first_put, accept, write_link, heading_of, claim_from, start, send}
+use Rattle.seat_programs.specs.Writings.{Holder, Writing, Puts, Waits, Empties, Walks}
+use Rattle.outcome_causes.specs.Stories.{In}
 use Rattle.label_runs.proofs.Loops.{not_equal}
 use Rattle.label_runs.proofs.Programs.{OpCalls}
 use Rattle.label_runs.specs.Labels.{Idle, Tries, Sends, MayPut, Kept, LeavesLabel, LeavesLock, LeavesUnlock, locked_trial}
@@ -181,7 +181,7 @@ module _ (requests : ℕ) (is_call : Asked → Type 0) (reads : Bool) where
 
   put_goes : (mine : reads ≡ false) (h : Holder) (now : ℕ) (heading : Heading) (left : List ℕ) (taken : ℕ) (after : Program) → G idle after → (answer : Put) → G idle (put_answered h now heading left taken after answer)
   put_goes mine h now heading left taken after goes (puts.Took n) = split (nat_le (length left) n) (placed h now heading after) (Write (Puts h now heading (drop n left) (taken + n) false) after)
-      (λ _. (tt, λ found _. then_ (Rattle.sock_programs.specs.Calls.StorePlace heading.place h.link h.places) _ found idle (passed_goes mine (one_more h) now (λ x. x) after (λ x g. g) goes))) (λ _. (mine, goes))
+      (λ _. (tt, λ found _. then_ (Rattle.seat_programs.specs.Calls.StorePlace heading.place h.link h.places) _ found idle (passed_goes mine (one_more h) now (λ x. x) after (λ x g. g) goes))) (λ _. (mine, goes))
   put_goes mine h now heading left taken after goes puts.Again = (mine, goes)
   put_goes mine h now heading left taken after goes puts.Failed = set_failed_goes idle h.id 1009 (λ _. Write (Puts h now heading left taken false) after) (λ _. (mine, goes))
 
@@ -247,13 +247,13 @@ module _ (requests : ℕ) (is_call : Asked → Type 0) (reads : Bool) where
         ready_goes asks.Now = (mine, g)
         ready_goes asks.NotYet = (mine, g)
         ready_goes asks.Failed = set_failed_goes idle h.id 1009 (λ _. Write (Puts h now heading left taken false) after) (λ _. (mine, g))
-    block_goes (Empties h) after g = (tt, λ found _. then_ (Rattle.sock_programs.specs.Calls.EmptyHead (socket_id_slot h.id) h.last) _ found idle (split (found == h.last) after (TakeHome h.link (λ places. Write (Walks (record h { places = places }) found found 0) after)) (λ _. g) (λ _. λ places. (mine, g))))
+    block_goes (Empties h) after g = (tt, λ found _. then_ (Rattle.seat_programs.specs.Calls.EmptyHead (socket_id_slot h.id) h.last) _ found idle (split (found == h.last) after (TakeHome h.link (λ places. Write (Walks (record h { places = places }) found found 0) after)) (λ _. g) (λ _. λ places. (mine, g))))
     block_goes (Walks h top at after) last g = (
       tt,
       λ found _. then_ (ReadNext (slot_of at)) _ found (begins (Walks h top at after)) (split (found == UNCONNECTED) (Write (Walks h top at after) last)
-          (Do (TurnNext (slot_of at) after) (λ _. cond (found == h.last) (TakeMessage (slot_of at) (λ heading bytes. Write (Puts (record h { last = top }) at heading bytes 0 false) last)) (Write (Walks h top found at) last)))
+          (Do (ReverseNext (slot_of at) after) (λ _. cond (found == h.last) (TakeMessage (slot_of at) (λ heading bytes. Write (Puts (record h { last = top }) at heading bytes 0 false) last)) (Write (Walks h top found at) last)))
           (λ _. (mine, g))
-          (λ _. (tt, λ other _. then_ (TurnNext (slot_of at) after) _ other idle (split (found == h.last) (TakeMessage (slot_of at) (λ heading bytes. Write (Puts (record h { last = top }) at heading bytes 0 false) last)) (Write (Walks h top found at) last) (λ _. λ heading bytes. (mine, g)) (λ _. (mine, g)))))),
+          (λ _. (tt, λ other _. then_ (ReverseNext (slot_of at) after) _ other idle (split (found == h.last) (TakeMessage (slot_of at) (λ heading bytes. Write (Puts (record h { last = top }) at heading bytes 0 false) last)) (Write (Walks h top found at) last) (λ _. λ heading bytes. (mine, g)) (λ _. (mine, g)))))),
     )
 
   first_goes : (mine : reads ≡ false) (h : Holder) (now : ℕ) (heading : Heading) (bytes : List ℕ) (after : Program) → G idle after → G idle (first_put h now heading bytes after)
@@ -276,9 +276,9 @@ module _ (requests : ℕ) (is_call : Asked → Type 0) (reads : Bool) where
       inl (inl refl, inr (refl, refl)),
       (
         tt,
-        λ b _. then_ (Rattle.sock_programs.specs.Calls.Unconnect q) _ b idle (
+        λ b _. then_ (Rattle.seat_programs.specs.Calls.Unconnect q) _ b idle (
           tt,
-          λ found _. then_ (Rattle.sock_programs.specs.Calls.SwapHead (socket_id_slot id) (ticket_of q g)) _ found idle
+          λ found _. then_ (Rattle.seat_programs.specs.Calls.SwapHead (socket_id_slot id) (ticket_of q g)) _ found idle
               (split (nat_lt found IDLE) (Do (Connect q found) (λ _. after)) (write_link id q (ticket_of q g) after) (λ _. (tt, λ d _. then_ (Connect q found) _ d idle goes)) (λ _. write_goes mine id q (ticket_of q g) after goes)),
         ),
       ),
@@ -601,10 +601,10 @@ module _ (requests : ℕ) (is_call : Asked → Type 0) (reads : Bool) where
   -- ## Clients
 
   open_goes : (more i o name k : ℕ) (next : Program) → G idle next → G idle (open_from more i o name k next)
-  open_goes zero i o name k next goes = (tt, λ a _. then_ (TakeLink k) _ a idle (tt, λ b _. then_ (FinishLink k) _ b idle (tt, λ d _. then_ (PutLink k) _ d idle (tt, λ e _. then_ (Rattle.sock_programs.specs.Calls.StoreOpen o NO_SOCKET) _ e idle goes))))
+  open_goes zero i o name k next goes = (tt, λ a _. then_ (TakeLink k) _ a idle (tt, λ b _. then_ (FinishLink k) _ b idle (tt, λ d _. then_ (PutLink k) _ d idle (tt, λ e _. then_ (Rattle.seat_programs.specs.Calls.StoreOpen o NO_SOCKET) _ e idle goes))))
   open_goes (suc more) i o name k next goes = (
     tt,
-    λ found _. then_ (Rattle.sock_programs.specs.Calls.ClaimSlot i) _ found idle (split (found == 0) (make_socket o name k i next) (open_from more (i + 1) o name k next)
+    λ found _. then_ (Rattle.seat_programs.specs.Calls.ClaimSlot i) _ found idle (split (found == 0) (make_socket o name k i next) (open_from more (i + 1) o name k next)
         (λ _. (tt, λ a _. (idle, inl (inl refl, inr (refl, refl)), (tt, λ b _. (idle, inl (inl refl, inr (refl, refl)), (tt, λ d _. (idle, inl (inl refl, inr (refl, refl)), (tt, λ e _. (idle, inl (inl refl, inr (refl, refl)), (tt, λ f _. (idle, inl (inl refl, inr (refl, refl)), (tt, λ g _. (idle, inl (inl refl, inr (refl, refl)), goes)))))))))))))
         (λ _. open_goes more (i + 1) o name k next goes)),
   )
@@ -664,7 +664,7 @@ module _ (requests : ℕ) (is_call : Asked → Type 0) (reads : Bool) where
   ending_goes [] = tt
   ending_goes (o ∷ os) = (
     tt,
-    λ word _. then_ (Rattle.sock_programs.specs.Calls.LoadOpen o) _ word idle (split (word == 0) (ending_of os) (cond (word == NO_SOCKET) (ending_of os) (address (word - 1) (set_failed (word - 1) 1014 (λ _. release (socket_id_slot (word - 1)) (λ _. ending_of os))) (λ _. ending_of os)))
+    λ word _. then_ (Rattle.seat_programs.specs.Calls.LoadOpen o) _ word idle (split (word == 0) (ending_of os) (cond (word == NO_SOCKET) (ending_of os) (address (word - 1) (set_failed (word - 1) 1014 (λ _. release (socket_id_slot (word - 1)) (λ _. ending_of os))) (λ _. ending_of os)))
         (λ _. ending_goes os)
         (λ _. split (word == NO_SOCKET) (ending_of os) (address (word - 1) (set_failed (word - 1) 1014 (λ _. release (socket_id_slot (word - 1)) (λ _. ending_of os))) (λ _. ending_of os)) (λ _. ending_goes os)
         (λ _. address_goes idle (word - 1) (set_failed (word - 1) 1014 (λ _. release (socket_id_slot (word - 1)) (λ _. ending_of os))) (λ _. ending_of os)
@@ -677,7 +677,7 @@ module _ (requests : ℕ) (is_call : Asked → Type 0) (reads : Bool) where
   ends_goes id e w [] next first goes = decide_goes requests is_call reads idle id w e (decided id next) first (decided_goes requests is_call reads id next goes)
   ends_goes id e w (f ∷ fs) next first goes = answer_goes requests is_call reads idle f (id_first id) next goes
 
-  last_goes : (id e : ℕ) (kept : List Frame) (next : Program) → G idle next → (exit : Posting) → LeavesLabel (Rattle.sock_programs.specs.Heads.Posts id e 0) exit → G idle (posted_last id e kept next exit)
+  last_goes : (id e : ℕ) (kept : List Frame) (next : Program) → G idle next → (exit : Posting) → LeavesLabel (Rattle.seat_programs.specs.Heads.Posts id e 0) exit → G idle (posted_last id e kept next exit)
   last_goes id e kept next goes (HasLocked w) l = ends_goes id e w (kept_for id (parts w).range kept) next l goes
   last_goes id e kept next goes WasGone l = goes
   last_goes id e kept next goes WasStale l = goes

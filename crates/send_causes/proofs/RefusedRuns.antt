@@ -8,22 +8,22 @@ use Rattle.sock_words.specs.declared.plain.Plan.{Plan}
 use Rattle.sock_model.specs.declared.view.View.{View}
 use Rattle.corr_core.specs.declared.marks.Plan.{Plan as IdPlan}
 use Rattle.sock_message.specs.Asked.{Asked}
-use Rattle.sock_programs.specs.Heads.{Retry}
-use Rattle.sock_programs.specs.declared.task.Sizes.{Sizes}
-use Rattle.sock_programs.specs.declared.task.Task.{Task}
-use Rattle.sock_programs.specs.Programs.{Program, Do, Say, Sent, Rest, TakeMessage, TakeHome, PutHome, PutBytes, AskReady, Write, Aside, Round, Keep, Retries}
-use Rattle.sock_programs.specs.Clients.{client_from}
-use Rattle.sock_programs.specs.Readers.{reader}
-use Rattle.sock_programs.specs.Cores.{Core, SeatState, resolved, next_step, waiting_at}
-use Rattle.sock_programs.specs.Ticks.{Moment, AreAnswered, ticked, run}
-use Rattle.sock_programs.specs.Tasks.{calls}
-use Rattle.sock_programs.specs.Scripts.{programs, readers_from, all_programs, beginning}
+use Rattle.seat_programs.specs.Heads.{Retry}
+use Rattle.seat_programs.specs.declared.task.Sizes.{Sizes}
+use Rattle.seat_programs.specs.declared.task.Task.{Task}
+use Rattle.seat_programs.specs.Programs.{Program, Do, Say, Sent, Rest, TakeMessage, TakeHome, PutHome, PutBytes, AskReady, Write, Aside, Round, Keep, Retries}
+use Rattle.seat_programs.specs.Clients.{client_from}
+use Rattle.seat_programs.specs.Readers.{reader}
+use Rattle.seat_programs.specs.Cores.{Core, SeatState, resolved, next_step, waiting_at}
+use Rattle.seat_programs.specs.Ticks.{Moment, AreAnswered, ticked, run}
+use Rattle.seat_programs.specs.Tasks.{calls}
+use Rattle.seat_programs.specs.Scripts.{programs, readers_from, all_programs, beginning}
 use Rattle.sock_runs.specs.Sound.{Sound, AreFitting, first_step, views_after, views_along}
 use Rattle.sock_runs.proofs.LinkTicks.{RetriesGo}
 use Rattle.sock_runs.proofs.Ticks.{sound_ticks}
 use Rattle.sock_runs.proofs.Opening.{mapped}
-use Rattle.sock_causes.specs.Stories.{In}
-use Rattle.sock_causes.proofs.Plain.{in_both}
+use Rattle.outcome_causes.specs.Stories.{In}
+use Rattle.outcome_causes.proofs.Plain.{in_both}
 use Rattle.label_runs.specs.Labels.{Trial, Idle}
 use Rattle.label_runs.proofs.Programs.{OpCalls}
 use Rattle.call_causes.specs.Lists.{shows_in}

@@ -19,27 +19,27 @@ use Rattle.brpc_model.specs.Items.{Item}
 use Rattle.brpc_model.specs.Operations.{Turn}
 use Rattle.corr_core.specs.declared.marks.Plan.{Plan as IdPlan}
 use Rattle.sock_message.specs.Asked.{Asked}
-use Rattle.sock_programs.specs.Asides.{Step, Found}
-use Rattle.sock_programs.specs.Beside.{found_in}
-use Rattle.sock_programs.specs.Clients.{ending_of}
-use Rattle.sock_programs.specs.Heads.{Posts, Unlocks, Decides, Locks, Joins, Opens, Reads, Discards}
-use Rattle.sock_programs.specs.Programs.{Program, Do, Say, Sent, Rest, TakeMessage, TakeHome, PutHome, PutBytes, AskReady, Write, Aside, Round, Keep, Retries}
-use Rattle.sock_programs.specs.Rounds.{round}
-use Rattle.sock_programs.specs.Runs.{IsAtRest}
-use Rattle.sock_programs.specs.Sends.{block}
-use Rattle.sock_programs.specs.Cores.{Core, SeatState, waiting_at}
-use Rattle.sock_programs.specs.Ticks.{Answer, Unasked, OfPut, OfReady, OfTake, Moment, IsPrompt, waits, waits_at, quiet, ticked, run, taken, with_message, with_link, with_put, with_ready, with_found, step_with, tick_with}
-use Rattle.sock_programs.specs.Tasks.{opens, calls, plan_of, id_plan_of}
-use Rattle.sock_programs.specs.Scripts.{sizes_of, programs, readers_from, all_programs, all_tasks, opened, set_up, played, is_ending, IsRunWithCalls}
+use Rattle.seat_programs.specs.Asides.{Step, Found}
+use Rattle.seat_programs.specs.Beside.{found_in}
+use Rattle.seat_programs.specs.Clients.{ending_of}
+use Rattle.seat_programs.specs.Heads.{Posts, Unlocks, Decides, Locks, Joins, Opens, Reads, Discards}
+use Rattle.seat_programs.specs.Programs.{Program, Do, Say, Sent, Rest, TakeMessage, TakeHome, PutHome, PutBytes, AskReady, Write, Aside, Round, Keep, Retries}
+use Rattle.seat_programs.specs.Rounds.{round}
+use Rattle.seat_programs.specs.Runs.{IsAtRest}
+use Rattle.seat_programs.specs.Sends.{block}
+use Rattle.seat_programs.specs.Cores.{Core, SeatState, waiting_at}
+use Rattle.seat_programs.specs.Ticks.{Answer, Unasked, OfPut, OfReady, OfTake, Moment, IsAlwaysReady, waits, waits_at, quiet, ticked, run, taken, with_message, with_link, with_put, with_ready, with_found, step_with, tick_with}
+use Rattle.seat_programs.specs.Tasks.{opens, calls, plan_of, id_plan_of}
+use Rattle.seat_programs.specs.Scripts.{sizes_of, programs, readers_from, all_programs, all_tasks, opened, set_up, played, is_ending, IsRunWithCalls}
 use Rattle.sock_runs.specs.Sound.{views_along}
 use Rattle.sock_runs.proofs.Along.{seat_rests}
 use Rattle.sock_runs.proofs.Whole.{closing_of, views_played, views_closed, views_ended, set_up_answered, end_answered, rested_ahead, rested_idle, set_up_sound, played_sound, closing_sound, closed_sound, closed_ahead}
-use Rattle.sock_causes.specs.Stories.{In}
-use Rattle.sock_causes.proofs.Final.{at_there}
-use Rattle.sock_causes.proofs.Plain.{in_both}
-use Rattle.sock_causes.proofs.Ticks.{elem_there}
-use Rattle.call_causes.specs.client_laws.specs.Openings.{all_seats}
-use Rattle.call_causes.specs.client_laws.proofs.Fresh.{opening_fresh}
+use Rattle.outcome_causes.specs.Stories.{In}
+use Rattle.outcome_causes.proofs.Final.{at_there}
+use Rattle.outcome_causes.proofs.Plain.{in_both}
+use Rattle.outcome_causes.proofs.Ticks.{elem_there}
+use Rattle.call_causes.specs.programs_allowed.specs.Openings.{all_seats}
+use Rattle.call_causes.specs.programs_allowed.proofs.Fresh.{opening_fresh}
 use Rattle.call_causes.specs.joint_runs.proofs.Runs.{AreMade, first_views}
 use Rattle.call_causes.specs.owed_calls.specs.Lives.{ClosesInRun}
 use Rattle.call_causes.specs.Decided.{posted_by}
@@ -341,7 +341,7 @@ module _ (script : List Item) (made : AreMade script) (turns : List Turn) (core 
       rested_at : j ≢ 0 → get_elem? (played script is.setup (is.scheduled ++ is.later)).seats j ≡ some seat
       rested_at other = sym (set_else (played script is.setup (is.scheduled ++ is.later)).seats 0 j _ other) ∙ (sym (run_other (plan_of script) is.last (closing_of script turns core is) j other) ∙ (sym (ap (λ (c : Core). get_elem? c.seats j) is.is_ended) ∙ at))
 
-      by : IsAtRest (played script is.setup (is.scheduled ++ is.later)) j ⊎ ((m : Moment) × (m.seat ≡ j) × IsPrompt m × (waits (plan_of script) (played script is.setup (is.scheduled ++ is.later)) m ≡ true))
+      by : IsAtRest (played script is.setup (is.scheduled ++ is.later)) j ⊎ ((m : Moment) × (m.seat ≡ j) × IsAlwaysReady m × (waits (plan_of script) (played script is.setup (is.scheduled ++ is.later)) m ≡ true))
           → get_elem? (played script is.setup (is.scheduled ++ is.later)).seats j ≡ some seat → IsAtEase seat.program
       by (inl rest) here = subst IsAtEase (sym (seat_rests rested (rested_ahead script made.are (first_views script) (start script made turns core is) (go script made turns core is) turns core is (fitting script made turns core is)) j rest seat here)) tt
       by (inr w) here = waits_ease (plan_of script) rested w.0.answer seat.program

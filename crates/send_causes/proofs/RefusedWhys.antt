@@ -5,16 +5,16 @@ use Rattle.sock_words.specs.declared.plain.Plan.{Plan}
 use Rattle.sock_model.specs.declared.view.View.{View}
 use Rattle.brpc_model.specs.Items.{Item}
 use Rattle.brpc_model.specs.Operations.{Turn}
-use Rattle.sock_programs.specs.Calls.{AddRef, LookWord, ClaimRequest}
-use Rattle.sock_programs.specs.Cores.{Core}
-use Rattle.sock_programs.specs.Tasks.{plan_of}
-use Rattle.sock_programs.specs.Ticks.{quiet, run}
-use Rattle.sock_programs.specs.Scripts.{all_tasks, opened, set_up, played, is_ending, IsRunWithCalls}
-use Rattle.sock_programs.specs.ToldCalls.{WasFull}
+use Rattle.seat_programs.specs.Calls.{AddRef, LookWord, ClaimRequest}
+use Rattle.seat_programs.specs.Cores.{Core}
+use Rattle.seat_programs.specs.Tasks.{plan_of}
+use Rattle.seat_programs.specs.Ticks.{quiet, run}
+use Rattle.seat_programs.specs.Scripts.{all_tasks, opened, set_up, played, is_ending, IsRunWithCalls}
+use Rattle.seat_programs.specs.ToldCalls.{WasFull}
 use Rattle.sock_runs.specs.Sound.{Sound, views_along}
 use Rattle.sock_runs.proofs.Whole.{closing_of, views_played, views_closed, set_up_answered, end_answered, set_up_sound, closing_sound, closed_sound, ended_sound, end_rests}
-use Rattle.sock_causes.specs.Stories.{In}
-use Rattle.sock_causes.proofs.Delivered.{requests_used}
+use Rattle.outcome_causes.specs.Stories.{In}
+use Rattle.outcome_causes.proofs.Delivered.{requests_used}
 use Rattle.call_causes.specs.joint_runs.proofs.Runs.{AreMade, first_views}
 use Rattle.call_causes.specs.owed_calls.specs.Lives.{ClosesInRun}
 use Rattle.send_causes.specs.Refused.{Deed, DidStep, DidPut, DidRound, DidMiss, DidEarly, DidLate, FoundTaken}

@@ -13,14 +13,14 @@ use Rattle.sock_model.specs.declared.view.View.{View}
 use Rattle.brpc_model.specs.Items.{Item}
 use Rattle.brpc_model.specs.Operations.{Turn, clients, link_names}
 use Rattle.report_fits.proofs.TaskLemmas.{tasks_length}
-use Rattle.sock_programs.specs.Heads.{Head, Exit, Posts, Unlocks, Decides, Locks, Joins, Opens, Reads, Discards}
-use Rattle.sock_programs.specs.Programs.{Program, Rest, Round}
-use Rattle.sock_programs.specs.Clients.{client_from}
-use Rattle.sock_programs.specs.Cores.{Core, SeatState, resolved, next_step}
-use Rattle.sock_programs.specs.Runs.{IsAtRest, kind_in}
-use Rattle.sock_programs.specs.Tasks.{opens, calls, plan_of, id_plan_of}
-use Rattle.sock_programs.specs.Ticks.{Moment, IsPrompt, quiet, run, waits}
-use Rattle.sock_programs.specs.Scripts.{sizes_of, programs, readers_from, all_programs, all_tasks, opened, set_up, played, ticks_of, IsRunWithCalls}
+use Rattle.seat_programs.specs.Heads.{Head, Exit, Posts, Unlocks, Decides, Locks, Joins, Opens, Reads, Discards}
+use Rattle.seat_programs.specs.Programs.{Program, Rest, Round}
+use Rattle.seat_programs.specs.Clients.{client_from}
+use Rattle.seat_programs.specs.Cores.{Core, SeatState, resolved, next_step}
+use Rattle.seat_programs.specs.Runs.{IsAtRest, kind_in}
+use Rattle.seat_programs.specs.Tasks.{opens, calls, plan_of, id_plan_of}
+use Rattle.seat_programs.specs.Ticks.{Moment, IsAlwaysReady, quiet, run, waits}
+use Rattle.seat_programs.specs.Scripts.{sizes_of, programs, readers_from, all_programs, all_tasks, opened, set_up, played, ticks_of, IsRunWithCalls}
 use Rattle.id_runs.specs.Held.{IdView}
 use Rattle.id_runs.specs.Goes.{IdGoesOn}
 use Rattle.sock_runs.proofs.Quiets.{run_seats, run_rests}
@@ -55,8 +55,8 @@ module _ (script : List Item) (made : AreMade script) (turns : List Turn) (core 
   rested_still = let s = is.settles in run_parts (plan_of script) (set_up script is.setup) is.scheduled is.later ∙ (ap (run (plan_of script) (played script is.setup is.scheduled)) s.all
       ∙ (run_parts (plan_of script) (played script is.setup is.scheduled) (ticks_of s.moving) s.last ∙ all_still (plan_of script) before_last s.last s.still))
 
-  prompt_last : AllByRecursion IsPrompt (let s = is.settles in s.last)
-  prompt_last = let s = is.settles in second_part IsPrompt (ticks_of s.moving) s.last (subst (AllByRecursion IsPrompt) s.all (second_part IsPrompt is.scheduled is.later (first_half IsPrompt (is.scheduled ++ is.later) is.final is.prompt)))
+  prompt_last : AllByRecursion IsAlwaysReady (let s = is.settles in s.last)
+  prompt_last = let s = is.settles in second_part IsAlwaysReady (ticks_of s.moving) s.last (subst (AllByRecursion IsAlwaysReady) s.all (second_part IsAlwaysReady is.scheduled is.later (first_half IsAlwaysReady (is.scheduled ++ is.later) is.final is.always_ready)))
 
   pub many : length (played script is.setup (is.scheduled ++ is.later)).seats ≡ 32 + length (link_names script)
   many = run_seats (plan_of script) (set_up script is.setup) (is.scheduled ++ is.later) ∙ run_seats (plan_of script) (opened script) (replicate is.setup (quiet 0))
@@ -76,16 +76,16 @@ module _ (script : List Item) (made : AreMade script) (turns : List Turn) (core 
 
   -- before the ending each seat is at rest, or waits
   pub still : (i : ℕ) → i < length (played script is.setup (is.scheduled ++ is.later)).seats → IsAtRest (played script is.setup (is.scheduled ++ is.later)) i
-      ⊎ ((m : Moment) × (m.seat ≡ i) × IsPrompt m × (waits (plan_of script) (played script is.setup (is.scheduled ++ is.later)) m ≡ true))
+      ⊎ ((m : Moment) × (m.seat ≡ i) × IsAlwaysReady m × (waits (plan_of script) (played script is.setup (is.scheduled ++ is.later)) m ≡ true))
   still i inside = dite (ℕ_discrete i 0)
       (λ e. inl (subst (IsAtRest (played script is.setup (is.scheduled ++ is.later))) (sym e) (rested_idle script made.are (first_views script) (start script made turns core is) (go script made turns core is) turns core is (fitting script made turns core is))))
       (λ some_. dite (dec_le i (clients script)) (λ client. by_round (inl (omega (arith, some_), client)))
       (λ no_. dite (dec_le 32 i) (λ reader. by_round (inr (reader, (let m = many in omega (arith, inside, m))))) (λ lower. inl (between i (omega (arith, no_)) (omega (arith, lower))))))
     where
       by_round : ((0 < i) × (i ≤ clients script)) ⊎ ((32 ≤ i) × (i < 32 + length (link_names script))) → IsAtRest (played script is.setup (is.scheduled ++ is.later)) i
-          ⊎ ((m : Moment) × (m.seat ≡ i) × IsPrompt m × (waits (plan_of script) (played script is.setup (is.scheduled ++ is.later)) m ≡ true))
+          ⊎ ((m : Moment) × (m.seat ≡ i) × IsAlwaysReady m × (waits (plan_of script) (played script is.setup (is.scheduled ++ is.later)) m ≡ true))
       by_round h = let s = is.settles in let n = in_round (clients script) (length (link_names script)) i h in
-          subst (λ d. IsAtRest d i ⊎ ((m : Moment) × (m.seat ≡ i) × IsPrompt m × (waits (plan_of script) d m ≡ true))) (sym rested_still)
+          subst (λ d. IsAtRest d i ⊎ ((m : Moment) × (m.seat ≡ i) × IsAlwaysReady m × (waits (plan_of script) d m ≡ true))) (sym rested_still)
           (one_of_still (plan_of script) before_last s.last s.still prompt_last n.0 i (ap (λ (l : List ℕ). get_elem? l n.0) s.one_more ∙ n.1))
 
   -- and then it waits at the head of a loop aside of the sockets

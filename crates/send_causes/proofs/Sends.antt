@@ -10,43 +10,43 @@ use lib.ListN.{get_elem?}
 use Rattle.atomic_table.proofs.Lists.{set_else}
 use Rattle.sock_words.specs.declared.plain.Plan.{Plan}
 use Rattle.sock_model.specs.declared.view.View.{View}
-use Rattle.sock_model.specs.Layout.{place_word}
+use Rattle.sock_model.specs.Layout.{place_index}
 use Rattle.sock_model.specs.Seats.{newcomer, below}
 use Rattle.sock_model.specs.Links.{Failed}
 use Rattle.brpc_model.specs.Items.{Item}
 use Rattle.brpc_model.specs.Operations.{Turn}
 use Rattle.brpc_model.specs.Order.{EachBefore}
 use Rattle.sock_message.specs.Asked.{Asked}
-use Rattle.sock_programs.specs.declared.task.Op.TheVariants as ops
-use Rattle.sock_programs.specs.declared.task.Task.{Task}
-use Rattle.sock_programs.specs.Clients.{ending_of}
-use Rattle.sock_programs.specs.Cores.{Core, SeatState, resolved, next_step, waiting_at}
+use Rattle.seat_programs.specs.declared.task.Op.TheVariants as ops
+use Rattle.seat_programs.specs.declared.task.Task.{Task}
+use Rattle.seat_programs.specs.Clients.{ending_of}
+use Rattle.seat_programs.specs.Cores.{Core, SeatState, resolved, next_step, waiting_at}
 use Rattle.sock_words.specs.declared.kind.Kind.{Kind}
-use Rattle.sock_programs.specs.Runs.{IsAtRest, kind_in}
-use Rattle.sock_programs.specs.Tasks.{opens, calls, plan_of, id_plan_of}
-use Rattle.sock_programs.specs.Ticks.{Moment, quiet, ticked, broken_in}
-use Rattle.sock_programs.specs.Scripts.{all_tasks, opened, set_up, played, IsRunWithCalls}
-use Rattle.sock_programs.specs.Told.{AreTasks, IsTask}
-use Rattle.sock_programs.specs.ToldCalls.{Accepted, Order, Fixed, AreOrders, IsSent, InOwnOrder, IsFailing}
+use Rattle.seat_programs.specs.Runs.{IsAtRest, kind_in}
+use Rattle.seat_programs.specs.Tasks.{opens, calls, plan_of, id_plan_of}
+use Rattle.seat_programs.specs.Ticks.{Moment, quiet, ticked, broken_in}
+use Rattle.seat_programs.specs.Scripts.{all_tasks, opened, set_up, played, IsRunWithCalls}
+use Rattle.seat_programs.specs.Told.{AreTasks, IsTask}
+use Rattle.seat_programs.specs.ToldCalls.{Accepted, Order, Fixed, AreOrders, IsSent, InOwnOrder, IsFailing}
 use Rattle.sock_runs.specs.Sound.{state}
 use Rattle.sock_runs.proofs.Along.{seat_rests}
 use Rattle.sock_runs.proofs.Bounded.{IsBounded}
 use Rattle.sock_runs.proofs.LinkTicks.{RetriesGo}
 use Rattle.sock_runs.proofs.Quiets.{run_seats, run_rests}
 use Rattle.sock_runs.proofs.Whole.{Begins, AreFittingIn, IsOwed, IsListed, closing_of, views_played, views_closed, views_ended, end_answered, played_sound, closing_sound, closed_sound, ended_sound, rested_ahead, rested_idle, closed_ahead, recorded_closed}
-use Rattle.sock_causes.specs.Explains.{is_plain, plain_tasks}
-use Rattle.sock_causes.specs.Facts.{shown_in, broken_of_run, closed_before_ending, late_links_of_run, late_of_run, is_said_late, numbers_of, CallsFoundNone, ToldPlain, ToldSends}
-use Rattle.sock_causes.specs.Losses.{closed_at, lost_in}
-use Rattle.sock_causes.specs.PlainTasks.{told_tasks_of}
-use Rattle.sock_causes.specs.Stories.{In}
-use Rattle.sock_causes.specs.TaskCauses as causes
-use Rattle.sock_causes.specs.TaskCauses.{ToldTasks}
-use Rattle.sock_causes.proofs.Members.{in_contains, contains_in}
-use Rattle.sock_causes.proofs.Lifted.{filtered_in, task_down, why_lifted, told_lifted, are_lifted, lives_lifted}
-use Rattle.sock_causes.proofs.Plain.{in_left, in_right, in_both}
-use Rattle.sock_causes.proofs.Scripts.{lost_of_run}
-use Rattle.call_causes.specs.client_laws.specs.Openings.{links_of_all, without_passes, client_view, opening_views, all_seats}
-use Rattle.call_causes.specs.client_laws.proofs.Fresh.{opening_fresh}
+use Rattle.outcome_causes.specs.Explains.{is_plain, plain_tasks}
+use Rattle.outcome_causes.specs.Facts.{shown_in, broken_of_run, closed_before_ending, late_links_of_run, late_of_run, is_said_late, numbers_of, CallsFoundNone, ToldPlain, ToldSends}
+use Rattle.outcome_causes.specs.Losses.{closed_at, lost_in}
+use Rattle.outcome_causes.specs.PlainTasks.{told_tasks_of}
+use Rattle.outcome_causes.specs.Stories.{In}
+use Rattle.outcome_causes.specs.TaskCauses as causes
+use Rattle.outcome_causes.specs.TaskCauses.{ToldTasks}
+use Rattle.outcome_causes.proofs.Members.{in_contains, contains_in}
+use Rattle.outcome_causes.proofs.Lifted.{filtered_in, task_down, why_lifted, told_lifted, are_lifted, lives_lifted}
+use Rattle.outcome_causes.proofs.Plain.{in_left, in_right, in_both}
+use Rattle.outcome_causes.proofs.Scripts.{lost_of_run}
+use Rattle.call_causes.specs.programs_allowed.specs.Openings.{links_of_all, without_passes, client_view, opening_views, all_seats}
+use Rattle.call_causes.specs.programs_allowed.proofs.Fresh.{opening_fresh}
 use Rattle.call_causes.specs.joint_runs.proofs.Both.{AreBounded}
 use Rattle.call_causes.specs.joint_runs.proofs.Runs.{AreMade, first_views, joint_runs, joint_bounded}
 use Rattle.call_causes.specs.owed_calls.specs.Lives.{ClosesInRun}
@@ -241,11 +241,11 @@ module _ (script : List Item) (made : AreMade script) (turns : List Turn) (core 
             (closing_rests j low (let l = ap (λ (d : Core). length d.seats) is.is_ended in let r = run_seats (plan_of script) (closing_of script turns core is) (replicate is.last (quiet 0)) in omega (arith, inside, l, r)) some_)))
 
         -- no place word is written once the run is ending
-        places_stay : (l : ℕ) → l < 8 * (plan_of script).operations → get_or core.words (place_word (plan_of script) l) 0 ≡ get_or (played script is.setup (is.scheduled ++ is.later)).words (place_word (plan_of script) l) 0
-        places_stay l low = ap (λ (d : Core). get_or d.words (place_word (plan_of script) l) 0) is.is_end
+        places_stay : (l : ℕ) → l < 8 * (plan_of script).operations → get_or core.words (place_index (plan_of script) l) 0 ≡ get_or (played script is.setup (is.scheduled ++ is.later)).words (place_index (plan_of script) l) 0
+        places_stay l low = ap (λ (d : Core). get_or d.words (place_index (plan_of script) l) 0) is.is_end
             ∙ (resting_places (plan_of script) (calls script) (opens script) (let k = known script made turns core is in k.in_script) Any (Unit {0}) ends_anyhow (IsListed script) goes l low is.final is.ended (views_closed script turns core is vs) _
             (closed_sound script are vs begins goes turns core is fits) is.answered_again fits.of_final (recorded_closed script are vs begins goes turns core is fits) (λ e. tt) (closed_ahead script are vs begins goes turns core is fits) ended_rests (closed_keeps script made turns core is)
-            ∙ (ap (λ (d : Core). get_or d.words (place_word (plan_of script) l) 0) is.is_ended
+            ∙ (ap (λ (d : Core). get_or d.words (place_index (plan_of script) l) 0) is.is_ended
             ∙ ending_places (plan_of script) goes l low is.last (closing_of script turns core is) (views_played script turns core is vs) (closing_sound script are vs begins goes turns core is fits) (end_answered script are vs begins goes turns core is fits) fits.of_closing
             (ending_begins (plan_of script) (played script is.setup (is.scheduled ++ is.later)) (views_played script turns core is vs) (opens script) (played_sound script are vs begins goes turns core is fits)
             (λ seat at. seat_rests (played script is.setup (is.scheduled ++ is.later)) (rested_ahead script are vs begins goes turns core is fits) 0 (rested_idle script are vs begins goes turns core is fits) seat at))))

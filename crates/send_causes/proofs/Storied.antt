@@ -1,4 +1,4 @@
--- The story of a run up to its ending, and to its end; and what it tells. (As sock_causes has it, with the links that failed before the ending.)
+-- The story of a run up to its ending, and to its end; and what it tells. (As outcome_causes has it, with the links that failed before the ending.)
 use Rattle.std.proofs.Common.{true, false, ◌≡◌, ℕ, ◌+◌, ◌<◌, arith, ◌⊎◌, inl, inr, ◌++◌, List, [], ◌∷◌, length, replicate, ⊎_elim, refl, sym, ap, ◌∙◌, subst}
 use Rattle.std.specs.Prelude.{◌&&◌, Bool, Option, Some, None, slice_get}
 use mathlib.Core.Option.{some}
@@ -7,42 +7,42 @@ use Rattle.sock_words.specs.declared.plain.Plan.{Plan}
 use Rattle.sock_model.specs.declared.view.View.{View}
 use Rattle.brpc_model.specs.Items.{Item}
 use Rattle.brpc_model.specs.Operations.{Turn}
-use Rattle.sock_programs.specs.declared.task.Task.{Task}
-use Rattle.sock_programs.specs.Cores.{Core}
-use Rattle.sock_programs.specs.Ticks.{quiet, run}
-use Rattle.sock_programs.specs.Tasks.{opens, calls, plan_of, id_plan_of}
-use Rattle.sock_programs.specs.Scripts.{all_tasks, opened, set_up, played, IsRunWithCalls}
-use Rattle.sock_programs.specs.Told.{AreTasks, TaskFits}
+use Rattle.seat_programs.specs.declared.task.Task.{Task}
+use Rattle.seat_programs.specs.Cores.{Core}
+use Rattle.seat_programs.specs.Ticks.{quiet, run}
+use Rattle.seat_programs.specs.Tasks.{opens, calls, plan_of, id_plan_of}
+use Rattle.seat_programs.specs.Scripts.{all_tasks, opened, set_up, played, IsRunWithCalls}
+use Rattle.seat_programs.specs.Told.{AreTasks, TaskFits}
 use Rattle.brpc_model.specs.Operations.{clients}
 use Rattle.sock_runs.specs.Sound.{views_along}
 use Rattle.sock_runs.proofs.LinkTicks.{RetriesGo}
 use Rattle.sock_runs.proofs.Along.{seat_rests}
 use Rattle.sock_runs.proofs.Whole.{Begins, AreFittingIn, IsOwed, closing_of, views_played, views_closed, views_ended, set_up_answered, end_answered, rested_ahead, rested_idle, closing_sound, closed_sound, ended_sound, end_rests}
-use Rattle.sock_causes.specs.Stories.{Event, In}
+use Rattle.outcome_causes.specs.Stories.{Event, In}
 use Rattle.sock_model.specs.Links.{Failed}
 use Rattle.sock_runs.specs.Sound.{state}
 use Rattle.std.specs.Prelude.{Contains}
-use Rattle.sock_causes.specs.Losses.{lost_in}
-use Rattle.sock_causes.specs.PlainTasks.{told_tasks_of}
-use Rattle.sock_causes.specs.Kept.{Story}
-use Rattle.sock_causes.proofs.Begin.{start_story}
-use Rattle.sock_causes.proofs.Final.{at_there}
-use Rattle.sock_causes.proofs.Openings.{are_seats, all_explained}
-use Rattle.sock_causes.proofs.Runs.{IsStoried, Goes, setup_runs, seats_run, set_up_over, ending_story, is_ending_story}
+use Rattle.outcome_causes.specs.Losses.{lost_in}
+use Rattle.outcome_causes.specs.PlainTasks.{told_tasks_of}
+use Rattle.outcome_causes.specs.Kept.{Story}
+use Rattle.outcome_causes.proofs.Begin.{start_story}
+use Rattle.outcome_causes.proofs.Final.{at_there}
+use Rattle.outcome_causes.proofs.Openings.{are_seats, all_explained}
+use Rattle.outcome_causes.proofs.Runs.{IsStoried, Goes, setup_runs, seats_run, set_up_over, ending_story, is_ending_story}
 use Rattle.sock_words.specs.declared.outcome.Outcome.{Outcome}
-use Rattle.sock_programs.specs.Cores.{resolved, waiting_at}
-use Rattle.sock_programs.specs.Clients.{ending_of}
-use Rattle.sock_causes.specs.Facts.{before_ending, is_told, is_said_late}
-use Rattle.sock_causes.proofs.Broken.{good_more}
-use Rattle.sock_causes.proofs.Events.{event}
-use Rattle.sock_causes.proofs.Members.{all_in, get_there}
-use Rattle.sock_causes.proofs.Tasks.{fits_of}
-use Rattle.sock_causes.proofs.Outcomes.{IsSaidOf, said_keeps, run_said, made_unsaid}
-use Rattle.sock_programs.specs.ToldCalls.{Order}
-use Rattle.sock_causes.proofs.Delivered.{orders_of}
-use Rattle.sock_causes.proofs.Whys.{Timely}
-use Rattle.sock_causes.proofs.Told.{Tells, told_so}
-use Rattle.sock_causes.proofs.Scripts.{own_from, lost_of_run, MadeInRun}
+use Rattle.seat_programs.specs.Cores.{resolved, waiting_at}
+use Rattle.seat_programs.specs.Clients.{ending_of}
+use Rattle.outcome_causes.specs.Facts.{before_ending, is_told, is_said_late}
+use Rattle.outcome_causes.proofs.Broken.{good_more}
+use Rattle.outcome_causes.proofs.Events.{event}
+use Rattle.outcome_causes.proofs.Members.{all_in, get_there}
+use Rattle.outcome_causes.proofs.Tasks.{fits_of}
+use Rattle.outcome_causes.proofs.Outcomes.{IsSaidOf, said_keeps, run_said, made_unsaid}
+use Rattle.seat_programs.specs.ToldCalls.{Order}
+use Rattle.outcome_causes.proofs.Delivered.{orders_of}
+use Rattle.outcome_causes.proofs.Whys.{Timely}
+use Rattle.outcome_causes.proofs.Told.{Tells, told_so}
+use Rattle.outcome_causes.proofs.Scripts.{own_from, lost_of_run, MadeInRun}
 
 -- the views of a beginning, of which each keeps one list of accepted messages, so far empty
 module _ (script : List Item) (are : AreTasks (plan_of script) (all_tasks script)) (vs : List View) (begins : Begins script vs) (fresh : (i : ℕ) (v : View) → get_elem? vs i ≡ some v → v.lists ≡ [] ∷ []) (go : RetriesGo (plan_of script))

@@ -13,20 +13,20 @@ use Rattle.brpc_model.specs.Items.{Item}
 use Rattle.brpc_model.specs.Operations.{Turn}
 use Rattle.brpc_model.specs.Script.{script_of}
 use Rattle.sock_message.specs.Asked.{Asked}
-use Rattle.sock_programs.specs.declared.task.Op.TheVariants as ops
-use Rattle.sock_programs.specs.declared.task.Task.{Task}
-use Rattle.sock_programs.specs.Asides.{id_slot, id_first}
-use Rattle.sock_programs.specs.Readers.{has_response, slot_in, version_in}
-use Rattle.sock_programs.specs.Cores.{Core}
-use Rattle.sock_programs.specs.Tasks.{opens, plan_of, id_plan_of}
-use Rattle.sock_programs.specs.Scripts.{all_tasks, IsRunWithCalls}
-use Rattle.sock_programs.specs.Told.{IsTask, Became}
-use Rattle.sock_programs.specs.ToldCalls.{Gave, IsResponse, IsPlaced}
+use Rattle.seat_programs.specs.declared.task.Op.TheVariants as ops
+use Rattle.seat_programs.specs.declared.task.Task.{Task}
+use Rattle.seat_programs.specs.Asides.{id_slot, id_first}
+use Rattle.seat_programs.specs.Readers.{has_response, slot_in, version_in}
+use Rattle.seat_programs.specs.Cores.{Core}
+use Rattle.seat_programs.specs.Tasks.{opens, plan_of, id_plan_of}
+use Rattle.seat_programs.specs.Scripts.{all_tasks, IsRunWithCalls}
+use Rattle.seat_programs.specs.Told.{IsTask, Became}
+use Rattle.seat_programs.specs.ToldCalls.{Gave, IsResponse, IsPlaced}
 use Rattle.call_causes.specs.joint_runs.proofs.Runs.{AreMade}
 use Rattle.report_fits.proofs.Reading.{InRange}
 use Rattle.report_fits.proofs.Targets.{AreThere}
 use Rattle.call_causes.specs.owed_calls.specs.Lives.{ClosesInRun}
-use Rattle.whole_runs.proofs.Gave.{gave_heard}
+use Rattle.run_theorems.proofs.Gave.{gave_heard}
 use Rattle.call_causes.specs.Lists.{given, shows_in_run, soon_of_run}
 use Rattle.call_causes.specs.Decided.{posted_by, decided_by}
 use Rattle.call_causes.specs.Scenes.{In}

@@ -14,14 +14,14 @@ use Rattle.sock_model.specs.declared.view.Hand.{Hand}
 use Rattle.sock_model.specs.ChainRows.{with_claim, entry_of, more, queued, righted}
 use Rattle.sock_model.specs.Memory.{IDLE, UNCONNECTED}
 use Rattle.sock_model.specs.Weights.{total, only}
-use Rattle.slot_laws.proofs.Sums.{total-append}
+use Rattle.slot_steps.proofs.Sums.{total-append}
 use Rattle.sock_message.specs.Asked.{Asked}
-use Rattle.sock_programs.specs.Calls.{Call, ClaimSlot, GiveBirth, AddRef, SubRef, SetOdd, Recycle, FreeSlot, StoreLink, LoadLink, ResetHead, WipeCode, StoreCode, StoreName, LoadName, StoreOpen, LoadOpen, TakeLink, FinishLink, PutLink, LookWord, FindLink, LoadCode, ClaimRequest, PutMessage, Unconnect, SwapHead, Connect, EmptyHead, ReadNext, TurnNext, FreeRequest, StorePlace, DropPlace}
+use Rattle.seat_programs.specs.Calls.{Call, ClaimSlot, CreateLife, AddRef, SubRef, SetOdd, Recycle, FreeSlot, StoreLink, LoadLink, ResetHead, ClearCode, StoreCode, StoreName, LoadName, StoreOpen, LoadOpen, TakeLink, FinishLink, PutLink, LookWord, FindLink, LoadCode, ClaimRequest, PutMessage, Unconnect, SwapHead, Connect, EmptyHead, ReadNext, ReverseNext, FreeRequest, StorePlace, DropPlace}
 use Rattle.sock_runs.specs.Rows.{row, is_id, by_claim, exchanged, filled_claim, ready_claim, looked_clean, emptied, read_next, turned_next, freed_next, placed_next, dropped_next}
 use Rattle.sock_runs.specs.May.{May}
 use Rattle.sock_runs.proofs.Cases.{with_rights}
 use Rattle.sock_runs.proofs.Leaves.{claim_way, right_way}
-use Rattle.sock_causes.proofs.Tests.{split}
+use Rattle.outcome_causes.proofs.Tests.{split}
 use Rattle.send_causes.specs.Counts.{of_heading, of_claim, of_entry, of_view, HeadFits, ClaimFits, EntryFits, ViewFits}
 
 -- a step on claims or accepted messages
@@ -56,7 +56,7 @@ module _ (v : View) where
   module _ (p : Plan) (found : ℕ) (hand : Hand) where
     pub row_same : (call : Call) → is_claiming call ≡ false → Same (row p call found hand v)
     row_same (ClaimSlot i) n = (refl, refl)
-    row_same (GiveBirth i k) n = (refl, refl)
+    row_same (CreateLife i k) n = (refl, refl)
     row_same (AddRef id) n = (refl, refl)
     row_same (SubRef i) n = (refl, refl)
     row_same (SetOdd i) n = (refl, refl)
@@ -65,7 +65,7 @@ module _ (v : View) where
     row_same (StoreLink i k) n = (refl, refl)
     row_same (LoadLink i w) n = (refl, refl)
     row_same (ResetHead i k) n = (refl, refl)
-    row_same (WipeCode i k) n = (refl, refl)
+    row_same (ClearCode i k) n = (refl, refl)
     row_same (StoreCode i h c) n = (refl, refl)
     row_same (StoreName m w) n = (refl, refl)
     row_same (LoadName m) n = split (is_id found) _ _ Same (refl, refl) (refl, refl)
@@ -80,7 +80,7 @@ module _ (v : View) where
     row_same (Connect q before) n = (refl, refl)
     row_same (EmptyHead i last) n = right_way Same v.rights (emptied last found v) v (refl, refl) (λ r. split (found == last) _ _ Same (refl, refl) (refl, refl))
     row_same (ReadNext q) n = right_way Same v.rights (λ r. read_next found v r r.stage) v (refl, refl) (λ r. reads found r r.stage)
-    row_same (TurnNext q value) n = right_way Same v.rights (λ r. turned_next v r r.stage) v (refl, refl) (λ r. turns r r.stage)
+    row_same (ReverseNext q value) n = right_way Same v.rights (λ r. turned_next v r r.stage) v (refl, refl) (λ r. turns r r.stage)
     row_same (FreeRequest q g) n = right_way Same v.rights (freed_next v) v (refl, refl) (λ r. (refl, refl))
     row_same (StorePlace l k m) n = right_way Same v.rights (λ r. placed_next v r r.stage) v (refl, refl) (λ r. places r r.stage)
     row_same (DropPlace l k m) n = right_way Same v.rights (λ r. dropped_next v r r.stage) v (refl, refl) (λ r. drops r r.stage)

@@ -8,26 +8,26 @@ use Rattle.sock_words.specs.declared.plain.Plan.{Plan}
 use Rattle.sock_model.specs.declared.view.View.{View}
 use Rattle.brpc_model.specs.Items.{Item}
 use Rattle.brpc_model.specs.Operations.{Turn}
-use Rattle.sock_programs.specs.Cores.{Core}
-use Rattle.sock_programs.specs.Tasks.{opens, plan_of, id_plan_of}
-use Rattle.sock_programs.specs.Scripts.{all_tasks, IsRunWithCalls}
-use Rattle.sock_programs.specs.Told.{AreTasks}
-use Rattle.sock_programs.specs.ToldCalls.{Accepted, Fixed, AreOrders, IsSent, OfSend}
+use Rattle.seat_programs.specs.Cores.{Core}
+use Rattle.seat_programs.specs.Tasks.{opens, plan_of, id_plan_of}
+use Rattle.seat_programs.specs.Scripts.{all_tasks, IsRunWithCalls}
+use Rattle.seat_programs.specs.Told.{AreTasks}
+use Rattle.seat_programs.specs.ToldCalls.{Accepted, Fixed, AreOrders, IsSent, OfSend}
 use Rattle.sock_runs.specs.GoesOn.{GoesOn, HasNothing}
 use Rattle.sock_runs.specs.Sound.{Sound, AllRest}
 use Rattle.sock_runs.proofs.LinkTicks.{RetriesGo}
 use Rattle.sock_runs.proofs.Whole.{Begins, AreFittingIn, IsOwed, views_ended, ended_sound, end_rests, all_homes}
-use Rattle.sock_causes.specs.PlainTasks.{told_tasks_of}
-use Rattle.sock_causes.proofs.Delivered.{AreQuiet}
-use Rattle.sock_causes.proofs.Final.{at_there, at_within}
-use Rattle.sock_causes.proofs.Scripts.{seats, final_told, story_end, orders, run_told}
-use Rattle.sock_causes.specs.Causes.{Asks}
-use Rattle.sock_causes.specs.Kept.{IsSpoken}
-use Rattle.sock_causes.specs.TaskCauses as causes
-use Rattle.sock_causes.proofs.Lifted.{task_up, made_up}
-use Rattle.sock_causes.proofs.Members.{in_contains}
+use Rattle.outcome_causes.specs.PlainTasks.{told_tasks_of}
+use Rattle.outcome_causes.proofs.Delivered.{AreQuiet}
+use Rattle.outcome_causes.proofs.Final.{at_there, at_within}
+use Rattle.outcome_causes.proofs.Scripts.{seats, final_told, story_end, orders, run_told}
+use Rattle.outcome_causes.specs.Causes.{Asks}
+use Rattle.outcome_causes.specs.Kept.{IsSpoken}
+use Rattle.outcome_causes.specs.TaskCauses as causes
+use Rattle.outcome_causes.proofs.Lifted.{task_up, made_up}
+use Rattle.outcome_causes.proofs.Members.{in_contains}
 use Rattle.sock_message.specs.Asked.{Asked, frame_of}
-use Rattle.sock_programs.specs.declared.task.Task.{Task}
+use Rattle.seat_programs.specs.declared.task.Task.{Task}
 use Rattle.send_causes.specs.Sent.{IsAttempt}
 use Rattle.send_causes.proofs.Runs.{AreLabelledIn, IsCallOf, end_law}
 use Rattle.send_causes.proofs.Apart as apart

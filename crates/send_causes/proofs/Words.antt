@@ -11,17 +11,17 @@ use Rattle.corr_core.specs.declared.marks.Plan.{Plan as IdPlan}
 use Rattle.corr_core.specs.declared.marks.Hand.{Hand}
 use Rattle.corr_core.specs.declared.marks.Hand.TheVariants.{Full}
 use Rattle.corr_core.specs.declared.marks.Token.TheVariants.{Claimed, Locked}
-use Rattle.id_rule.specs.Lawful.{local, id_word, tag_word, call_word, at_word, all_words}
+use Rattle.id_rule.specs.Lawful.{local, id_index, tag_index, call_index, at_index, all_words}
 use Rattle.id_rule.specs.Plays.{Longer}
 use Rattle.id_rule.proofs.Allowed as allowed
 use Rattle.id_runs.specs.Held.{IdView, id_state, HasOne, MayId}
 use Rattle.id_runs.specs.Goes.{SoundIds, FindsId}
 use Rattle.id_runs.proofs.Keeps.{parts_packed}
 use Rattle.sock_message.specs.Asked.{Asked}
-use Rattle.sock_programs.specs.Asides.{Step, Found, ClaimId, PutCall, MakeId, StoreCall, LoadCall, StoreAt, LoadAt, LoadIdWord, LockId, PostId, UnlockId, EndId, FreeId, TakeCall, TakeBytes, Taking, Bytes, call_id, id_slot, id_first}
-use Rattle.sock_programs.specs.Beside.{found_in, calls_after}
-use Rattle.sock_programs.specs.Cores.{Core}
-use Rattle.sock_programs.specs.Posts.{packed, advance_of}
+use Rattle.seat_programs.specs.Asides.{Step, Found, ClaimId, PutCall, MakeId, StoreCall, LoadCall, StoreAt, LoadAt, LoadIdWord, LockId, PostId, UnlockId, EndId, FreeId, TakeCall, TakeBytes, Taking, Bytes, call_id, id_slot, id_first}
+use Rattle.seat_programs.specs.Beside.{found_in, calls_after}
+use Rattle.seat_programs.specs.Cores.{Core}
+use Rattle.seat_programs.specs.Posts.{packed, advance_of}
 use Rattle.label_runs.specs.Labels.{FindsLabel}
 use Rattle.send_causes.specs.Counts.{word_of_id, WasMade, WasNow}
 
@@ -90,7 +90,7 @@ claimed_free b l seen h (leaving t g s x y) has = s
 
 module _ (p : Plan) (q : IdPlan) (c : Core) (us : List IdView) (ids : SoundIds p q c us) (i : ℕ) (u : IdView) (at : get_elem? us i ≡ some u) where
   abbrev Word : ℕ → ℕ
-  Word s = get_or c.calls.words (id_word s) 0
+  Word s = get_or c.calls.words (id_index s) 0
 
   real : 0 < u.share
   real = ids.real i u at
@@ -128,21 +128,21 @@ module _ (p : Plan) (q : IdPlan) (c : Core) (us : List IdView) (ids : SoundIds p
   sized = ids.rule.sized
 
   -- another word than an id's changes
-  other_word : (x w j : ℕ) → id_word j ≢ x → Forward (word_of_id c.calls.words j) (word_of_id (set c.calls.words x w) j)
-  other_word x w j ne = same_forward (word_of_id c.calls.words j) (word_of_id (set c.calls.words x w) j) (ap parts (get_or-set_other c.calls.words x (id_word j) w 0 ne))
+  other_word : (x w j : ℕ) → id_index j ≢ x → Forward (word_of_id c.calls.words j) (word_of_id (set c.calls.words x w) j)
+  other_word x w j ne = same_forward (word_of_id c.calls.words j) (word_of_id (set c.calls.words x w) j) (ap parts (get_or-set_other c.calls.words x (id_index j) w 0 ne))
 
   -- one id word becomes this
-  one_word : (s w : ℕ) → s < q.slots → Forward (word_of_id c.calls.words s) (parts w) → (j : ℕ) → Forward (word_of_id c.calls.words j) (word_of_id (set c.calls.words (id_word s) w) j)
+  one_word : (s w : ℕ) → s < q.slots → Forward (word_of_id c.calls.words s) (parts w) → (j : ℕ) → Forward (word_of_id c.calls.words j) (word_of_id (set c.calls.words (id_index s) w) j)
   one_word s w inside forward j = dite (ℕ_discrete j s)
-      (λ e. subst (λ k. Forward (word_of_id c.calls.words k) (word_of_id (set c.calls.words (id_word s) w) k)) (sym e)
-      (subst (λ x. Forward (word_of_id c.calls.words s) (parts x)) (sym (get_or-set_same c.calls.words (id_word s) w 0 (omega (arith, sized, inside)))) forward))
-      (λ ne. other_word (id_word s) w j (λ e. ne (omega (arith, e))))
+      (λ e. subst (λ k. Forward (word_of_id c.calls.words k) (word_of_id (set c.calls.words (id_index s) w) k)) (sym e)
+      (subst (λ x. Forward (word_of_id c.calls.words s) (parts x)) (sym (get_or-set_same c.calls.words (id_index s) w 0 (omega (arith, sized, inside)))) forward))
+      (λ ne. other_word (id_index s) w j (λ e. ne (omega (arith, e))))
 
   -- an exchange of an id word
-  exchanged_word : (s from w : ℕ) → s < q.slots → (Word s ≡ from → Forward (parts from) (parts w)) → (j : ℕ) → Forward (word_of_id c.calls.words j) (word_of_id (set c.calls.words (id_word s) (cond (eqb (Word s) from) w (Word s))) j)
+  exchanged_word : (s from w : ℕ) → s < q.slots → (Word s ≡ from → Forward (parts from) (parts w)) → (j : ℕ) → Forward (word_of_id c.calls.words j) (word_of_id (set c.calls.words (id_index s) (cond (eqb (Word s) from) w (Word s))) j)
   exchanged_word s from w inside forward j = by (eqb (Word s) from) refl
     where
-      by : (b : Bool) → eqb (Word s) from ≡ b → Forward (word_of_id c.calls.words j) (word_of_id (set c.calls.words (id_word s) (cond b w (Word s))) j)
+      by : (b : Bool) → eqb (Word s) from ≡ b → Forward (word_of_id c.calls.words j) (word_of_id (set c.calls.words (id_index s) (cond b w (Word s))) j)
       by true hit = let same : Word s ≡ from = eqb-true (Word s) from hit in one_word s w inside (subst (λ x. Forward (parts x) (parts w)) (sym same) (forward same)) j
       by false miss = one_word s (Word s) inside (same_forward (parts (Word s)) (parts (Word s)) refl) j
 
@@ -151,26 +151,26 @@ module _ (p : Plan) (q : IdPlan) (c : Core) (us : List IdView) (ids : SoundIds p
 
   -- each id word goes forward in a step that the seat may make
   pub words_forward : (step : Step) (t : Option Taking) (found : Found step) → found_in step c.calls t ≡ some found → MayId p q u step → FindsId p q u step found → (j : ℕ) → j < q.slots → Forward (word_of_id c.calls.words j) (word_of_id (calls_after step found c.calls).words j)
-  words_forward (ClaimId k) t found is may f j low = other_word (tag_word k) 1 j (λ e. omega (arith, e))
+  words_forward (ClaimId k) t found is may f j low = other_word (tag_index k) 1 j (λ e. omega (arith, e))
   words_forward (PutCall k asked) t found is may f j low = same_forward (word_of_id c.calls.words j) (word_of_id c.calls.words j) refl
   words_forward (MakeId k range) t found is may f j low = let m = may.1 in
-      as_found k found (λ n. Forward (word_of_id c.calls.words j) (word_of_id (set c.calls.words (id_word k) (packed (made_word (parts n).first range))) j)) is
+      as_found k found (λ n. Forward (word_of_id c.calls.words j) (word_of_id (set c.calls.words (id_index k) (packed (made_word (parts n).first range))) j)) is
       (one_word k (packed (made_word (parts (Word k)).first range)) may.0 (made_forward (Word k) range may.2 may.3 (free_there k may.0 m.0 m.1 m.2)) j)
-  words_forward (StoreCall o id) t found is may f j low = other_word (call_word c.calls.plan o) id j (subst (λ (r : IdPlan). id_word j ≢ call_word r o) (sym ids.plan) (λ e. omega (arith, e, low)))
+  words_forward (StoreCall o id) t found is may f j low = other_word (call_index c.calls.plan o) id j (subst (λ (r : IdPlan). id_index j ≢ call_index r o) (sym ids.plan) (λ e. omega (arith, e, low)))
   words_forward (LoadCall o) t found is may f j low = same_forward (word_of_id c.calls.words j) (word_of_id c.calls.words j) refl
-  words_forward (StoreAt o w) t found is may f j low = other_word (at_word c.calls.plan o) w j (subst (λ (r : IdPlan). id_word j ≢ at_word r o) (sym ids.plan) (λ e. omega (arith, e, low)))
+  words_forward (StoreAt o w) t found is may f j low = other_word (at_index c.calls.plan o) w j (subst (λ (r : IdPlan). id_index j ≢ at_index r o) (sym ids.plan) (λ e. omega (arith, e, low)))
   words_forward (LoadAt o) t found is may f j low = same_forward (word_of_id c.calls.words j) (word_of_id c.calls.words j) refl
   words_forward (LoadIdWord k) t found is may f j low = same_forward (word_of_id c.calls.words j) (word_of_id c.calls.words j) refl
-  words_forward (LockId k from) t found is may f j low = as_found k found (λ n. Forward (word_of_id c.calls.words j) (word_of_id (set c.calls.words (id_word k) (cond (eqb n from) (packed (posted_word (parts from) 0)) n)) j)) is
+  words_forward (LockId k from) t found is may f j low = as_found k found (λ n. Forward (word_of_id c.calls.words j) (word_of_id (set c.calls.words (id_index k) (cond (eqb n from) (packed (posted_word (parts from) 0)) n)) j)) is
       (exchanged_word k from (packed (posted_word (parts from) 0)) may.0 (λ _. posted_forward from 0 (omega arith)) j)
-  words_forward (PostId k from e) t found is may f j low = as_found k found (λ n. Forward (word_of_id c.calls.words j) (word_of_id (set c.calls.words (id_word k) (cond (eqb n from) (packed (posted_word (parts from) e)) n)) j)) is
+  words_forward (PostId k from e) t found is may f j low = as_found k found (λ n. Forward (word_of_id c.calls.words j) (word_of_id (set c.calls.words (id_index k) (cond (eqb n from) (packed (posted_word (parts from) e)) n)) j)) is
       (exchanged_word k from (packed (posted_word (parts from) e)) may.0 (λ _. posted_forward from e may.3) j)
   words_forward (UnlockId k from advance) t found is may f j low = let l = finds_label (UnlockId k from advance) found may f in as_found k found
-      (λ n. Forward (word_of_id c.calls.words j) (word_of_id (set c.calls.words (id_word k) (cond (eqb n from) (packed (unlocked_word (parts from) (advance_of advance))) n)) j)) is
+      (λ n. Forward (word_of_id c.calls.words j) (word_of_id (set c.calls.words (id_index k) (cond (eqb n from) (packed (unlocked_word (parts from) (advance_of advance))) n)) j)) is
       (exchanged_word k from (packed (unlocked_word (parts from) (advance_of advance))) may.0 (λ _. unlocked_forward from advance l.1) j)
-  words_forward (EndId k) t found is may f j low = as_found k found (λ n. Forward (word_of_id c.calls.words j) (word_of_id (set c.calls.words (id_word k) (packed (free_word ((parts n).first + (parts n).range)))) j)) is
+  words_forward (EndId k) t found is may f j low = as_found k found (λ n. Forward (word_of_id c.calls.words j) (word_of_id (set c.calls.words (id_index k) (packed (free_word ((parts n).first + (parts n).range)))) j)) is
       (one_word k (packed (free_word ((parts (Word k)).first + (parts (Word k)).range))) may.0 (ended_forward (Word k)) j)
-  words_forward (FreeId k) t found is may f j low = other_word (tag_word k) 0 j (λ e. omega (arith, e))
+  words_forward (FreeId k) t found is may f j low = other_word (tag_index k) 0 j (λ e. omega (arith, e))
   words_forward (TakeCall k) t found is may f j low = same_forward (word_of_id c.calls.words j) (word_of_id c.calls.words j) refl
   words_forward (TakeBytes k room) t (Bytes bytes) is may f j low = same_forward (word_of_id c.calls.words j) (word_of_id c.calls.words j) refl
   words_forward (TakeBytes k room) t _ is may f j low = same_forward (word_of_id c.calls.words j) (word_of_id c.calls.words j) refl
@@ -183,14 +183,14 @@ module _ (p : Plan) (q : IdPlan) (c : Core) (us : List IdView) (ids : SoundIds p
   makes_new k range found is may f = by found (some-injective (Word k) found is) f.1
     where
       by : (found : ℕ) → Word k ≡ found → (parts found).first ≤ 67108856
-          → WasNow q (set c.calls.words (id_word k) (packed (made_word (parts found).first range))) (call_id k (parts found).first) 0 × ((m : ℕ) → WasMade q c.calls.words (call_id k (parts found).first) m → ⊥)
+          → WasNow q (set c.calls.words (id_index k) (packed (made_word (parts found).first range))) (call_id k (parts found).first) 0 × ((m : ℕ) → WasMade q c.calls.words (call_id k (parts found).first) m → ⊥)
       by found e small = let id : ℕ = call_id k (parts found).first in let slot : id_slot (call_id k (parts found).first) ≡ k = omega (arith, small) in let first : id_first (call_id k (parts found).first) ≡ (parts found).first = omega (arith, small) in
-          let inside : k < q.slots = may.0 in let new_word : parts (get_or (set c.calls.words (id_word k) (packed (made_word (parts found).first range))) (id_word k) 0) ≡ made_word (parts found).first range
-          = ap parts (get_or-set_same c.calls.words (id_word k) (packed (made_word (parts found).first range)) 0 (omega (arith, sized, inside))) ∙ made_is (parts found).first range may.2 may.3 in (
+          let inside : k < q.slots = may.0 in let new_word : parts (get_or (set c.calls.words (id_index k) (packed (made_word (parts found).first range))) (id_index k) 0) ≡ made_word (parts found).first range
+          = ap parts (get_or-set_same c.calls.words (id_index k) (packed (made_word (parts found).first range)) 0 (omega (arith, sized, inside))) ∙ made_is (parts found).first range may.2 may.3 in (
             (
               subst (λ x. x < q.slots) (sym slot) inside,
-              (subst (λ x. ((word_of_id (set c.calls.words (id_word k) (packed (made_word (parts found).first range))) x).first ≡ id_first (call_id k (parts found).first))
-                  × (0 < (word_of_id (set c.calls.words (id_word k) (packed (made_word (parts found).first range))) x).state) × (0 ≤ (word_of_id (set c.calls.words (id_word k) (packed (made_word (parts found).first range))) x).attempt)) (sym slot)
+              (subst (λ x. ((word_of_id (set c.calls.words (id_index k) (packed (made_word (parts found).first range))) x).first ≡ id_first (call_id k (parts found).first))
+                  × (0 < (word_of_id (set c.calls.words (id_index k) (packed (made_word (parts found).first range))) x).state) × (0 ≤ (word_of_id (set c.calls.words (id_index k) (packed (made_word (parts found).first range))) x).attempt)) (sym slot)
                   (ap (λ (w : Parts). w.first) new_word ∙ sym first, subst (λ (w : Parts). 0 < w.state) (sym new_word) (omega arith), omega arith)),
             ),
             λ m was. let free = free_there k inside may.1.0 may.1.1 may.1.2 in let here : word_of_id c.calls.words (id_slot (call_id k (parts found).first)) ≡ parts (Word k) = ap (word_of_id c.calls.words) slot in
@@ -204,18 +204,18 @@ module _ (p : Plan) (q : IdPlan) (c : Core) (us : List IdView) (ids : SoundIds p
       → WasNow q (calls_after (UnlockId k from true) found c.calls).words (call_id k (parts from).first) ((parts from).attempt + 1) × (WasMade q c.calls.words (call_id k (parts from).first) ((parts from).attempt + 1) → ⊥)
   advances_new k from found is same may l = by (sym (some-injective (Word k) found is ∙ same)) found same
     where
-      by : from ≡ Word k → (found : ℕ) → found ≡ from → WasNow q (set c.calls.words (id_word k) (cond (eqb found from) (packed (unlocked_word (parts from) 1)) found)) (call_id k (parts from).first) ((parts from).attempt + 1)
+      by : from ≡ Word k → (found : ℕ) → found ≡ from → WasNow q (set c.calls.words (id_index k) (cond (eqb found from) (packed (unlocked_word (parts from) 1)) found)) (call_id k (parts from).first) ((parts from).attempt + 1)
           × (WasMade q c.calls.words (call_id k (parts from).first) ((parts from).attempt + 1) → ⊥)
       by e found same = let low = l.0 in let few = l.1 in let inside : k < q.slots = may.0 in
           let slot : id_slot (call_id k (parts from).first) ≡ k = omega (arith, low) in let first : id_first (call_id k (parts from).first) ≡ (parts from).first = omega (arith, low) in
-          let ws : List ℕ = set c.calls.words (id_word k) (cond (eqb found from) (packed (unlocked_word (parts from) 1)) found) in
-          let new_word : parts (get_or (set c.calls.words (id_word k) (cond (eqb found from) (packed (unlocked_word (parts from) 1)) found)) (id_word k) 0) ≡ unlocked_word (parts from) 1
-          = ap parts (get_or-set_same c.calls.words (id_word k) (cond (eqb found from) (packed (unlocked_word (parts from) 1)) found) 0 (omega (arith, sized, inside)) ∙ ap (λ b. cond b (packed (unlocked_word (parts from) 1)) found) (eq-eqb found from same)) ∙ unlocked_is from true few in
+          let ws : List ℕ = set c.calls.words (id_index k) (cond (eqb found from) (packed (unlocked_word (parts from) 1)) found) in
+          let new_word : parts (get_or (set c.calls.words (id_index k) (cond (eqb found from) (packed (unlocked_word (parts from) 1)) found)) (id_index k) 0) ≡ unlocked_word (parts from) 1
+          = ap parts (get_or-set_same c.calls.words (id_index k) (cond (eqb found from) (packed (unlocked_word (parts from) 1)) found) 0 (omega (arith, sized, inside)) ∙ ap (λ b. cond b (packed (unlocked_word (parts from) 1)) found) (eq-eqb found from same)) ∙ unlocked_is from true few in
           let some_more = state_some (eqb (parts from).oldest 0) in (
             (
               subst (λ x. x < q.slots) (sym slot) inside,
-              (subst (λ x. ((word_of_id (set c.calls.words (id_word k) (cond (eqb found from) (packed (unlocked_word (parts from) 1)) found)) x).first ≡ id_first (call_id k (parts from).first))
-                  × (0 < (word_of_id (set c.calls.words (id_word k) (cond (eqb found from) (packed (unlocked_word (parts from) 1)) found)) x).state) × ((parts from).attempt + 1 ≤ (word_of_id (set c.calls.words (id_word k) (cond (eqb found from) (packed (unlocked_word (parts from) 1)) found)) x).attempt)) (sym slot)
+              (subst (λ x. ((word_of_id (set c.calls.words (id_index k) (cond (eqb found from) (packed (unlocked_word (parts from) 1)) found)) x).first ≡ id_first (call_id k (parts from).first))
+                  × (0 < (word_of_id (set c.calls.words (id_index k) (cond (eqb found from) (packed (unlocked_word (parts from) 1)) found)) x).state) × ((parts from).attempt + 1 ≤ (word_of_id (set c.calls.words (id_index k) (cond (eqb found from) (packed (unlocked_word (parts from) 1)) found)) x).attempt)) (sym slot)
                   (ap (λ (w : Parts). w.first) new_word ∙ sym first, subst (λ (w : Parts). 0 < w.state) (sym new_word) some_more, subst (λ (w : Parts). (parts from).attempt + 1 ≤ w.attempt) (sym new_word) (omega arith))),
             ),
             λ was. let here : word_of_id c.calls.words (id_slot (call_id k (parts from).first)) ≡ parts from = ap (word_of_id c.calls.words) slot ∙ ap parts (sym e) in

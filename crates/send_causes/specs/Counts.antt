@@ -10,16 +10,16 @@ use Rattle.sock_model.specs.declared.view.View.{View}
 use Rattle.sock_model.specs.Weights.{total}
 use Rattle.corr_core.specs.Word.{Parts, parts}
 use Rattle.corr_core.specs.declared.marks.Plan.{Plan as IdPlan}
-use Rattle.id_rule.specs.Lawful.{id_word}
-use Rattle.sock_programs.specs.Asides.{StoreAt, id_slot, id_first}
+use Rattle.id_rule.specs.Lawful.{id_index}
+use Rattle.seat_programs.specs.Asides.{StoreAt, id_slot, id_first}
 use Rattle.sock_message.specs.Asked.{Asked, frame_of}
-use Rattle.sock_programs.specs.Beside.{call_at}
-use Rattle.sock_programs.specs.Heads.{Retry}
-use Rattle.sock_programs.specs.Cores.{Core, SeatState}
+use Rattle.seat_programs.specs.Beside.{call_at}
+use Rattle.seat_programs.specs.Heads.{Retry}
+use Rattle.seat_programs.specs.Cores.{Core, SeatState}
 use Rattle.sock_words.specs.declared.plain.Plan.{Plan}
 use Rattle.sock_words.specs.Words.{at_word}
-use Rattle.sock_programs.specs.Programs.{Program, Aside}
-use Rattle.sock_programs.specs.Ticks.{Moment, ticked}
+use Rattle.seat_programs.specs.Programs.{Program, Aside}
+use Rattle.seat_programs.specs.Ticks.{Moment, ticked}
 use Rattle.sock_runs.specs.Sound.{first_step}
 use Rattle.id_runs.specs.Held.{IdView}
 use Rattle.id_runs.specs.Goes.{SoundIds, IsFittingIds}
@@ -57,7 +57,7 @@ times_of id n c vs ts = total (of_trial id n) ts + (total (total (of_retry id n)
 -- ## What was made
 
 abbrev pub word_of_id : List ℕ → ℕ → Parts
-word_of_id ws i = parts (slice_index ws (id_word i))
+word_of_id ws i = parts (slice_index ws (id_index i))
 
 -- the range of this id has ended, or it has come to this attempt
 abbrev pub WasMade : IdPlan → List ℕ → ℕ → ℕ → Type 0

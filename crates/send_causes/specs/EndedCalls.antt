@@ -8,12 +8,12 @@ use Rattle.brpc_model.specs.Causes.{HasFault}
 use Rattle.brpc_model.specs.Items.{Item}
 use Rattle.brpc_model.specs.Operations.{Turn}
 use Rattle.corr_core.specs.Word.{error_of}
-use Rattle.sock_programs.specs.Asides.{Step, Found, StoreAt, LoadAt, Taking, call_id}
-use Rattle.sock_programs.specs.Beside.{found_in}
-use Rattle.sock_programs.specs.Programs.{Program, Aside}
-use Rattle.sock_programs.specs.Cores.{Calls, Core}
-use Rattle.sock_programs.specs.Ticks.{Moment, taken}
-use Rattle.sock_programs.specs.Scripts.{IsRunWithCalls}
+use Rattle.seat_programs.specs.Asides.{Step, Found, StoreAt, LoadAt, Taking, call_id}
+use Rattle.seat_programs.specs.Beside.{found_in}
+use Rattle.seat_programs.specs.Programs.{Program, Aside}
+use Rattle.seat_programs.specs.Cores.{Calls, Core}
+use Rattle.seat_programs.specs.Ticks.{Moment, taken}
+use Rattle.seat_programs.specs.Scripts.{IsRunWithCalls}
 use Rattle.sock_runs.specs.Sound.{first_step}
 use Rattle.call_causes.specs.Lists.{given, shows_in_run, early_of_run, closed_of_run, silent_of_run}
 use Rattle.call_causes.specs.Posts.{Post, posted_at}

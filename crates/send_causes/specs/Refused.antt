@@ -13,18 +13,18 @@ use Rattle.brpc_model.specs.Items.{Item}
 use Rattle.brpc_model.specs.Operations.{Turn}
 use Rattle.corr_core.specs.Word.{parts, error_of}
 use Rattle.sock_message.specs.Asked.{Asked, name_of}
-use Rattle.sock_programs.specs.Asides.{Step, Found, PutCall, StoreAt, PostId, call_id, id_slot, id_first}
-use Rattle.sock_programs.specs.Calls.{Call, AddRef, LoadName, LookWord, LoadCode, ClaimRequest, DropPlace}
-use Rattle.sock_programs.specs.Heads.{Head, Exit, Retry, Posts, Unlocks, Locks, Reads}
-use Rattle.sock_programs.specs.Posts.{WHOLE}
-use Rattle.sock_programs.specs.Writings.{Holder, Writing, Puts}
-use Rattle.sock_programs.specs.Programs.{Program, Do, Say, Sent, Rest, TakeMessage, TakeHome, PutHome, PutBytes, AskReady, Write, Aside, Round, Keep, Retries}
-use Rattle.sock_programs.specs.Cores.{Core, SeatState, word_of, found_at, waiting_at}
-use Rattle.sock_programs.specs.Ticks.{Moment, quiet, ticked}
-use Rattle.sock_programs.specs.Tasks.{plan_of}
-use Rattle.sock_programs.specs.Scripts.{opened, ending, set_up, played, IsRunWithCalls}
+use Rattle.seat_programs.specs.Asides.{Step, Found, PutCall, StoreAt, PostId, call_id, id_slot, id_first}
+use Rattle.seat_programs.specs.Calls.{Call, AddRef, LoadName, LookWord, LoadCode, ClaimRequest, DropPlace}
+use Rattle.seat_programs.specs.Heads.{Head, Exit, Retry, Posts, Unlocks, Locks, Reads}
+use Rattle.seat_programs.specs.Posts.{WHOLE}
+use Rattle.seat_programs.specs.Writings.{Holder, Writing, Puts}
+use Rattle.seat_programs.specs.Programs.{Program, Do, Say, Sent, Rest, TakeMessage, TakeHome, PutHome, PutBytes, AskReady, Write, Aside, Round, Keep, Retries}
+use Rattle.seat_programs.specs.Cores.{Core, SeatState, word_of, found_at, waiting_at}
+use Rattle.seat_programs.specs.Ticks.{Moment, quiet, ticked}
+use Rattle.seat_programs.specs.Tasks.{plan_of}
+use Rattle.seat_programs.specs.Scripts.{opened, ending, set_up, played, IsRunWithCalls}
 use Rattle.sock_runs.specs.Sound.{first_step}
-use Rattle.sock_causes.specs.Stories.{In}
+use Rattle.outcome_causes.specs.Stories.{In}
 use Rattle.id_runs.specs.Goes.{FitsSock}
 use Rattle.label_runs.specs.Labels.{Trial, Idle, Tries, Sends, put_behind, Kept, unlocks_trial, locked_trial, LeavesLabel, MayPut, AsideMove, FindsLabel, AtLabel}
 use Rattle.corr_core.specs.declared.marks.Plan.{Plan as IdPlan}

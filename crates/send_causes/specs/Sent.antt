@@ -2,10 +2,10 @@
 use Rattle.std.specs.Prelude.{ℕ, ◌≡◌, ◌≤◌, List, Option}
 use Rattle.sock_words.specs.declared.outcome.Outcome.{Outcome}
 use Rattle.sock_message.specs.Asked.{Asked, frame_of}
-use Rattle.sock_programs.specs.declared.task.Op.TheVariants as ops
-use Rattle.sock_programs.specs.declared.task.Task.{Task}
-use Rattle.sock_programs.specs.Told.{IsTask}
-use Rattle.sock_programs.specs.ToldCalls.{Accepted}
+use Rattle.seat_programs.specs.declared.task.Op.TheVariants as ops
+use Rattle.seat_programs.specs.declared.task.Task.{Task}
+use Rattle.seat_programs.specs.Told.{IsTask}
+use Rattle.seat_programs.specs.ToldCalls.{Accepted}
 
 -- the message is the frame of an attempt of a call of the clients; `ids o` is the id of operation o's call
 pub record IsAttempt (ids : ℕ → ℕ) (clients : List (List Task)) (outcomes : List (Option Outcome)) (a : Accepted) : Type 0 where

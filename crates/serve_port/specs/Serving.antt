@@ -104,7 +104,7 @@ pub record LinkerState : Type 0 where
   pub back : List LinkEnd
   pub done : List ConnectionEnd
   pub faults : ℕ
-  pub prompt : Bool
+  pub always_ready : Bool
 
 -- Of so many connections these were accepted, in this order; each was served, and all were given back, in the same order. Of the links nothing changed.
 pub record ServesAll (count : ℕ) (old new : LinkerState) (result : Result ℕ ServeFault) : Type 0 where

@@ -21,7 +21,7 @@ fn give_back<L: Linker>(links: &mut L, kept: Vec<Connection<L::O, L::I>>) -> Tal
     ensures accepted { L.accepted links.new ≡ L.accepted links.old }
     ensures back { L.back links.new ≡ L.back links.old }
     ensures faults { L.faults links.new ≡ L.faults links.old }
-    ensures prompt { L.prompt links.new ≡ L.prompt links.old }
+    ensures always_ready { L.always_ready links.new ≡ L.always_ready links.old }
     ensures tally { IsTally (map (λ c. as_served L.O.state L.I.state c) kept.items) result }
 {
     let mut tally = Tally::new();
@@ -46,8 +46,8 @@ pub fn serve_all<R: Threads + Wait + Sync, L: Linker>(
     requires few { L.accepted links.old + count ≤ 256 }
     requires done { length (L.done links.old) ≤ L.accepted links.old }
     ensures { ServesAll count
-        (record { asked = L.asked links.old; accepted = L.accepted links.old; back = L.back links.old; done = L.done links.old; faults = L.faults links.old; prompt = L.prompt links.old })
-        (record { asked = L.asked links.new; accepted = L.accepted links.new; back = L.back links.new; done = L.done links.new; faults = L.faults links.new; prompt = L.prompt links.new })
+        (record { asked = L.asked links.old; accepted = L.accepted links.old; back = L.back links.old; done = L.done links.old; faults = L.faults links.old; always_ready = L.always_ready links.old })
+        (record { asked = L.asked links.new; accepted = L.accepted links.new; back = L.back links.new; done = L.done links.new; faults = L.faults links.new; always_ready = L.always_ready links.new })
         result }
 {
     let count = usize::from(count);

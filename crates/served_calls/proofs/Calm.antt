@@ -26,18 +26,18 @@ use Rattle.report_fits.proofs.Places.{lateness, known_of}
 use Rattle.report_fits.proofs.Targets as targets
 use Rattle.report_fits.proofs.TaskLemmas.{numbers_at, task_is, send_asks, call_asks, fail_asks, expire_asks, mentions_send}
 use Rattle.sock_message.specs.Asked.{Asked, name_of}
-use Rattle.sock_programs.specs.declared.task.Op.TheVariants as ops
-use Rattle.sock_programs.specs.declared.task.Task.{Task}
-use Rattle.sock_programs.specs.Asides.{AtEnd, Broken}
-use Rattle.sock_programs.specs.Readers.{LIMIT}
-use Rattle.sock_programs.specs.Cores.{Core}
-use Rattle.sock_programs.specs.Tasks.{numbered, asked_of, plan_of}
-use Rattle.sock_programs.specs.Told.{IsTask, Made}
-use Rattle.sock_programs.specs.ToldCalls.{Order, Fixed, ToldCalls, IsUnordered, WasFull}
-use Rattle.sock_programs.specs.Scripts.{Reports, all_tasks, IsRunWithCalls}
-use Rattle.served_runs.specs.whole_runs.specs.Heard.{heard_takes, given_by}
-use Rattle.served_runs.specs.whole_runs.proofs.Gave.{gave_heard}
-use Rattle.served_runs.specs.whole_runs.proofs.Starts.{made}
+use Rattle.seat_programs.specs.declared.task.Op.TheVariants as ops
+use Rattle.seat_programs.specs.declared.task.Task.{Task}
+use Rattle.seat_programs.specs.Asides.{AtEnd, Broken}
+use Rattle.seat_programs.specs.Readers.{LIMIT}
+use Rattle.seat_programs.specs.Cores.{Core}
+use Rattle.seat_programs.specs.Tasks.{numbered, asked_of, plan_of}
+use Rattle.seat_programs.specs.Told.{IsTask, Made}
+use Rattle.seat_programs.specs.ToldCalls.{Order, Fixed, ToldCalls, IsUnordered, WasFull}
+use Rattle.seat_programs.specs.Scripts.{Reports, all_tasks, IsRunWithCalls}
+use Rattle.served_runs.specs.run_theorems.specs.Heard.{heard_takes, given_by}
+use Rattle.served_runs.specs.run_theorems.proofs.Gave.{gave_heard}
+use Rattle.served_runs.specs.run_theorems.proofs.Starts.{made}
 use Rattle.served_runs.specs.call_causes.specs.Lists.{given, attempts_of_run}
 use Rattle.served_runs.specs.Served.{GivesReplies, GivesLast, GivesNoFault, GivesCallReplies}
 use Rattle.served_calls.specs.Quiet.{AreShown, GivesFew, HasServer, AreEarly, IsQuiet, IsTimely, IsForServers, IsUnexpired, CallIsDone}

@@ -13,15 +13,15 @@ use Rattle.brpc_model.specs.Served.{first_of, given_for}
 use Rattle.brpc_model.specs.Stream.{stream, stream_from}
 use Rattle.report_fits.proofs.Lists.{Has, all_at, all_from, has_from, has_filter_map, filter_map_has}
 use Rattle.sock_message.specs.Asked.{Asked, request_of, frame_of}
-use Rattle.sock_programs.specs.declared.task.Op.TheVariants as ops
-use Rattle.sock_programs.specs.declared.task.Task.{Task}
-use Rattle.sock_programs.specs.Cores.{Core}
-use Rattle.sock_programs.specs.Tasks.{plan_of}
-use Rattle.sock_programs.specs.Told.{AskedFits, OpFits, TaskFits, IsTask, Became, Made}
-use Rattle.sock_programs.specs.ToldCalls.{Accepted, Order, Fixed, ToldCalls, IsTaken, IsSent, OfSend, OfCall, StandsAt, bytes_of}
-use Rattle.sock_programs.specs.Scripts.{all_tasks, IsRunWithCalls}
-use Rattle.served_runs.specs.sock_causes.proofs.Members.{contains_in}
-use Rattle.served_runs.specs.sock_causes.proofs.Tasks.{one_task}
+use Rattle.seat_programs.specs.declared.task.Op.TheVariants as ops
+use Rattle.seat_programs.specs.declared.task.Task.{Task}
+use Rattle.seat_programs.specs.Cores.{Core}
+use Rattle.seat_programs.specs.Tasks.{plan_of}
+use Rattle.seat_programs.specs.Told.{AskedFits, OpFits, TaskFits, IsTask, Became, Made}
+use Rattle.seat_programs.specs.ToldCalls.{Accepted, Order, Fixed, ToldCalls, IsTaken, IsSent, OfSend, OfCall, StandsAt, bytes_of}
+use Rattle.seat_programs.specs.Scripts.{all_tasks, IsRunWithCalls}
+use Rattle.served_runs.specs.outcome_causes.proofs.Members.{contains_in}
+use Rattle.served_runs.specs.outcome_causes.proofs.Tasks.{one_task}
 use Rattle.served_runs.specs.joint_runs.proofs.Runs.{AreMade}
 use Rattle.served_runs.specs.call_causes.specs.Lists.{given}
 use Rattle.served_runs.specs.call_causes.proofs.Streams.{frames_stay}

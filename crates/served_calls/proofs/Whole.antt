@@ -15,15 +15,15 @@ use Rattle.report_fits.proofs.Reading.{InRange}
 use Rattle.report_fits.proofs.Sizes.{is_counted}
 use Rattle.report_fits.proofs.Targets.{AreThere, are_there}
 use Rattle.sock_message.specs.Asked.{Asked}
-use Rattle.sock_programs.specs.declared.task.Op.TheVariants as ops
-use Rattle.sock_programs.specs.declared.task.Task.{Task}
-use Rattle.sock_programs.specs.Cores.{Core}
-use Rattle.sock_programs.specs.Tasks.{plan_of}
-use Rattle.sock_programs.specs.Told.{IsTask}
-use Rattle.sock_programs.specs.ToldCalls.{Order, Fixed, ToldCalls}
-use Rattle.sock_programs.specs.Scripts.{Reports, all_tasks, IsRunWithCalls}
+use Rattle.seat_programs.specs.declared.task.Op.TheVariants as ops
+use Rattle.seat_programs.specs.declared.task.Task.{Task}
+use Rattle.seat_programs.specs.Cores.{Core}
+use Rattle.seat_programs.specs.Tasks.{plan_of}
+use Rattle.seat_programs.specs.Told.{IsTask}
+use Rattle.seat_programs.specs.ToldCalls.{Order, Fixed, ToldCalls}
+use Rattle.seat_programs.specs.Scripts.{Reports, all_tasks, IsRunWithCalls}
 use Rattle.served_runs.specs.owed_calls.specs.Lives.{ClosesInRun}
-use Rattle.served_runs.specs.whole_runs.proofs.Starts.{made}
+use Rattle.served_runs.specs.run_theorems.proofs.Starts.{made}
 use Rattle.served_runs.specs.call_causes.specs.Lists.{given, attempts_of_run}
 use Rattle.served_runs.specs.Offered.{OffersInRun}
 use Rattle.served_runs.proofs.Own.{id_small}

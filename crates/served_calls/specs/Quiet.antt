@@ -11,17 +11,17 @@ use Rattle.brpc_model.specs.Reply.{reply}
 use Rattle.sock_words.specs.declared.outcome.Outcome.{Outcome}
 use Rattle.sock_words.specs.declared.outcome.Outcome.TheVariants.{Unopened}
 use Rattle.sock_message.specs.Asked.{Asked, name_of}
-use Rattle.sock_programs.specs.declared.task.Op.TheVariants as ops
-use Rattle.sock_programs.specs.declared.task.Task.{Task}
-use Rattle.sock_programs.specs.Asides.{AtEnd, Broken}
-use Rattle.sock_programs.specs.Readers.{LIMIT}
-use Rattle.sock_programs.specs.Cores.{Core}
-use Rattle.sock_programs.specs.Tasks.{plan_of}
-use Rattle.sock_programs.specs.Told.{IsTask, Made}
-use Rattle.sock_programs.specs.ToldCalls.{Fixed, Order, FoundNone, IsUnordered, WasFull}
-use Rattle.sock_programs.specs.Scripts.{all_tasks, IsRunWithCalls}
-use Rattle.served_runs.specs.sock_causes.specs.Facts.{late_links_of_run}
-use Rattle.served_runs.specs.whole_runs.specs.Heard.{heard_takes, given_by}
+use Rattle.seat_programs.specs.declared.task.Op.TheVariants as ops
+use Rattle.seat_programs.specs.declared.task.Task.{Task}
+use Rattle.seat_programs.specs.Asides.{AtEnd, Broken}
+use Rattle.seat_programs.specs.Readers.{LIMIT}
+use Rattle.seat_programs.specs.Cores.{Core}
+use Rattle.seat_programs.specs.Tasks.{plan_of}
+use Rattle.seat_programs.specs.Told.{IsTask, Made}
+use Rattle.seat_programs.specs.ToldCalls.{Fixed, Order, FoundNone, IsUnordered, WasFull}
+use Rattle.seat_programs.specs.Scripts.{all_tasks, IsRunWithCalls}
+use Rattle.served_runs.specs.outcome_causes.specs.Facts.{late_links_of_run}
+use Rattle.served_runs.specs.run_theorems.specs.Heard.{heard_takes, given_by}
 use Rattle.served_runs.specs.call_causes.specs.Lists.{given}
 use Rattle.served_runs.specs.Served.{request_with}
 

@@ -24,16 +24,16 @@ use Rattle.report_fits.proofs.Reading.{InRange}
 use Rattle.report_fits.proofs.Reported.{is_said}
 use Rattle.report_fits.proofs.Sizes.{is_counted}
 use Rattle.report_fits.proofs.Targets.{AreThere, are_there}
-use Rattle.sock_programs.specs.declared.task.Op.TheVariants as ops
-use Rattle.sock_programs.specs.Cores.{Core}
-use Rattle.sock_programs.specs.Tasks.{name_number, plan_of}
-use Rattle.sock_programs.specs.Told.{Made}
-use Rattle.sock_programs.specs.ToldCalls.{Order, Fixed, ToldCalls}
-use Rattle.sock_programs.specs.Scripts.{Reports, all_tasks, IsRunWithCalls}
-use Rattle.served_calls.specs.sock_causes.specs.Facts.{late_links_of_run}
+use Rattle.seat_programs.specs.declared.task.Op.TheVariants as ops
+use Rattle.seat_programs.specs.Cores.{Core}
+use Rattle.seat_programs.specs.Tasks.{name_number, plan_of}
+use Rattle.seat_programs.specs.Told.{Made}
+use Rattle.seat_programs.specs.ToldCalls.{Order, Fixed, ToldCalls}
+use Rattle.seat_programs.specs.Scripts.{Reports, all_tasks, IsRunWithCalls}
+use Rattle.served_calls.specs.outcome_causes.specs.Facts.{late_links_of_run}
 use Rattle.served_calls.specs.owed_calls.specs.Lives.{ClosesInRun}
-use Rattle.served_calls.specs.whole_runs.proofs.Lengths.{ended_length}
-use Rattle.served_calls.specs.whole_runs.proofs.Starts.{made}
+use Rattle.served_calls.specs.run_theorems.proofs.Lengths.{ended_length}
+use Rattle.served_calls.specs.run_theorems.proofs.Starts.{made}
 use Rattle.served_calls.specs.call_causes.specs.Lists.{given}
 use Rattle.served_calls.specs.served_runs.specs.Offered.{OffersInRun}
 use Rattle.served_calls.specs.served_runs.specs.Served.{IsServed, took_in_all}

@@ -7,15 +7,15 @@ use lib.ListN.{get_elem?}
 use Rattle.brpc_model.specs.Items.{Item}
 use Rattle.brpc_model.specs.Operations.{Turn}
 use Rattle.corr_core.specs.Word.{Parts}
-use Rattle.sock_programs.specs.Asides.{id_first, id_slot}
-use Rattle.sock_programs.specs.Cores.{Core}
-use Rattle.sock_programs.specs.Heads.{Head, Exit, Sought, First, Version, Posts, Unlocks, Decides, Locks, Joins, Opens, Reads, Discards}
-use Rattle.sock_programs.specs.Posts.{is_sought}
-use Rattle.sock_programs.specs.Programs.{Program, Round}
-use Rattle.sock_programs.specs.Runs.{IsAtRest}
-use Rattle.sock_programs.specs.Scripts.{opened, set_up, played, IsRunWithCalls}
-use Rattle.sock_programs.specs.Tasks.{plan_of, id_plan_of}
-use Rattle.sock_programs.specs.Ticks.{Answer, Moment, IsPrompt, quiet, waits, waits_at, waits_in}
+use Rattle.seat_programs.specs.Asides.{id_first, id_slot}
+use Rattle.seat_programs.specs.Cores.{Core}
+use Rattle.seat_programs.specs.Heads.{Head, Exit, Sought, First, Version, Posts, Unlocks, Decides, Locks, Joins, Opens, Reads, Discards}
+use Rattle.seat_programs.specs.Posts.{is_sought}
+use Rattle.seat_programs.specs.Programs.{Program, Round}
+use Rattle.seat_programs.specs.Runs.{IsAtRest}
+use Rattle.seat_programs.specs.Scripts.{opened, set_up, played, IsRunWithCalls}
+use Rattle.seat_programs.specs.Tasks.{plan_of, id_plan_of}
+use Rattle.seat_programs.specs.Ticks.{Answer, Moment, IsAlwaysReady, quiet, waits, waits_at, waits_in}
 use Rattle.calm_runs.specs.sock_runs.specs.Sound.{views_along}
 use Rattle.calm_runs.specs.sock_runs.proofs.Along.{seat_rests, place_inside}
 use Rattle.calm_runs.specs.sock_runs.proofs.Passes.{and_left, and_right}
@@ -50,7 +50,7 @@ module _ (script : List Item) (made : AreMade script) (turns : List Turn) (core 
   waits_aside : (i : ℕ) → i < length rested.seats → settled.IsAtRest rested i ⊎ settled.WaitsAside (plan_of script) rested i
   waits_aside i inside = ⊎_elim (λ rest. inl (rests i rest)) (λ w. by w (aside script made turns core is i inside)) (still script made turns core is i inside)
     where
-      by : (m : Moment) × (m.seat ≡ i) × IsPrompt m × (waits (plan_of script) rested m ≡ true) → IsAtRest rested i ⊎ StandsAside rested i
+      by : (m : Moment) × (m.seat ≡ i) × IsAlwaysReady m × (waits (plan_of script) rested m ≡ true) → IsAtRest rested i ⊎ StandsAside rested i
           → settled.IsAtRest rested i ⊎ settled.WaitsAside (plan_of script) rested i
       by w (inl rest) = inl (rests i rest)
       by w (inr s) = let waiting : waits_at (plan_of script) rested w.0.answer s.0.program ≡ true =

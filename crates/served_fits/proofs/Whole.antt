@@ -12,15 +12,15 @@ use Rattle.brpc_model.specs.Script.{script_of}
 use Rattle.report_fits.specs.Ends.{AreEndsOf, AreTold}
 use Rattle.report_fits.proofs.Lists.{Has, has_from, contains_from, has_later, has_cases, has_none}
 use Rattle.report_fits.proofs.Places.{lateness}
-use Rattle.sock_programs.specs.Cores.{Core}
-use Rattle.sock_programs.specs.Tasks.{plan_of}
-use Rattle.sock_programs.specs.ToldCalls.{Order, Fixed, ToldCalls}
-use Rattle.sock_programs.specs.Scripts.{Reports, all_tasks, IsRunWithCalls}
-use Rattle.served_calls.specs.sock_causes.specs.Facts.{late_of_run, late_links_of_run}
+use Rattle.seat_programs.specs.Cores.{Core}
+use Rattle.seat_programs.specs.Tasks.{plan_of}
+use Rattle.seat_programs.specs.ToldCalls.{Order, Fixed, ToldCalls}
+use Rattle.seat_programs.specs.Scripts.{Reports, all_tasks, IsRunWithCalls}
+use Rattle.served_calls.specs.outcome_causes.specs.Facts.{late_of_run, late_links_of_run}
 use Rattle.served_calls.specs.owed_calls.specs.Lives.{ClosesInRun}
-use Rattle.served_calls.specs.whole_runs.proofs.Lengths.{ended_length}
-use Rattle.served_calls.specs.whole_runs.proofs.Starts.{made}
-use Rattle.served_calls.specs.whole_runs.proofs.Unjoined.{no_join}
+use Rattle.served_calls.specs.run_theorems.proofs.Lengths.{ended_length}
+use Rattle.served_calls.specs.run_theorems.proofs.Starts.{made}
+use Rattle.served_calls.specs.run_theorems.proofs.Unjoined.{no_join}
 use Rattle.served_calls.specs.call_causes.specs.Lists.{given}
 use Rattle.served_calls.specs.served_runs.specs.Offered.{OffersInRun}
 use Rattle.calm_runs.proofs.Nothing.{nothing_behind, nothing_late}

@@ -4,14 +4,14 @@ use Rattle.brpc_model.specs.Items.{Item, Shape}
 use Rattle.brpc_model.specs.Link.{LinkEnd}
 use Rattle.brpc_model.specs.Operations.{Turn, link_shapes}
 use Rattle.sock_message.specs.Asked.{Asked}
-use Rattle.sock_programs.specs.declared.task.Op.TheVariants as ops
-use Rattle.sock_programs.specs.declared.task.Task.{Task}
-use Rattle.sock_programs.specs.Cores.{Core}
-use Rattle.sock_programs.specs.Told.{IsTask}
-use Rattle.sock_programs.specs.ToldCalls.{Fixed}
-use Rattle.sock_programs.specs.Scripts.{all_tasks, played, IsRunWithCalls}
-use Rattle.sock_programs.specs.Tasks.{id_plan_of}
-use Rattle.served_calls.specs.sock_causes.specs.Facts.{late_of_run, late_links_of_run}
+use Rattle.seat_programs.specs.declared.task.Op.TheVariants as ops
+use Rattle.seat_programs.specs.declared.task.Task.{Task}
+use Rattle.seat_programs.specs.Cores.{Core}
+use Rattle.seat_programs.specs.Told.{IsTask}
+use Rattle.seat_programs.specs.ToldCalls.{Fixed}
+use Rattle.seat_programs.specs.Scripts.{all_tasks, played, IsRunWithCalls}
+use Rattle.seat_programs.specs.Tasks.{id_plan_of}
+use Rattle.served_calls.specs.outcome_causes.specs.Facts.{late_of_run, late_links_of_run}
 use Rattle.served_calls.specs.owed_calls.specs.Sound.{id_word_of}
 use Rattle.served_calls.specs.call_causes.specs.Lists.{attempts_of_run}
 

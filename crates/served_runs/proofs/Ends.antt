@@ -9,17 +9,17 @@ use lib.ListN.{get_elem?}
 use Rattle.sock_model.specs.declared.view.View.{View}
 use Rattle.brpc_model.specs.Items.{Item, Shape}
 use Rattle.brpc_model.specs.Operations.{link_shapes}
-use Rattle.sock_programs.specs.Asides.{TakeBytes, Taking, Bytes, Nothing, NoMore, AtEnd, Closed, Broken}
-use Rattle.sock_programs.specs.Beside.{at_last}
-use Rattle.sock_programs.specs.Programs.{Aside}
-use Rattle.sock_programs.specs.Cores.{Core, SeatState}
-use Rattle.sock_programs.specs.Tasks.{calls, plan_of}
-use Rattle.sock_programs.specs.Ticks.{Answer, OfTake, Moment, IsAnswered, FitsTake, IsTaken, tick_with, ticked}
+use Rattle.seat_programs.specs.Asides.{TakeBytes, Taking, Bytes, Nothing, NoMore, AtEnd, Closed, Broken}
+use Rattle.seat_programs.specs.Beside.{at_last}
+use Rattle.seat_programs.specs.Programs.{Aside}
+use Rattle.seat_programs.specs.Cores.{Core, SeatState}
+use Rattle.seat_programs.specs.Tasks.{calls, plan_of}
+use Rattle.seat_programs.specs.Ticks.{Answer, OfTake, Moment, IsAnswered, FitsTake, IsTaken, tick_with, ticked}
 use Rattle.sock_runs.specs.Sound.{Sound, IsFitting}
 use Rattle.sock_runs.proofs.LinkTicks.{RetriesGo}
-use Rattle.send_causes.specs.sock_causes.specs.Stories.{In}
+use Rattle.send_causes.specs.outcome_causes.specs.Stories.{In}
 use Rattle.send_causes.specs.owed_calls.proofs.EndsStill.{run_ending}
-use Rattle.send_causes.specs.whole_runs.specs.Heard.{as_taken, taken_link, taken_at, bytes_found}
+use Rattle.send_causes.specs.run_theorems.specs.Heard.{as_taken, taken_link, taken_at, bytes_found}
 use Rattle.send_causes.specs.call_causes.specs.Lists.{given}
 use Rattle.send_causes.proofs.EndedTicks.{seats_else}
 use Rattle.send_causes.proofs.Readings.{IsTake, takes_or_not}

@@ -3,19 +3,19 @@ use Rattle.std.proofs.Common.{ℕ, List, [], ◌∷◌, inl, subst, arith}
 use Rattle.sock_model.specs.declared.view.View.{View}
 use Rattle.brpc_model.specs.Items.{Item}
 use Rattle.brpc_model.specs.Operations.{Turn}
-use Rattle.sock_programs.specs.Cores.{Core}
-use Rattle.sock_programs.specs.Tasks.{plan_of}
-use Rattle.sock_programs.specs.Ticks.{Moment, IsAnswered, ticked}
-use Rattle.sock_programs.specs.Scripts.{IsRunWithCalls}
+use Rattle.seat_programs.specs.Cores.{Core}
+use Rattle.seat_programs.specs.Tasks.{plan_of}
+use Rattle.seat_programs.specs.Ticks.{Moment, IsAnswered, ticked}
+use Rattle.seat_programs.specs.Scripts.{IsRunWithCalls}
 use Rattle.sock_runs.specs.GoesOn.{GoesOn}
 use Rattle.sock_runs.specs.Sound.{Sound, IsFitting, views_after}
 use Rattle.sock_runs.proofs.Cases.{goes_first}
 use Rattle.sock_runs.proofs.Passes.{goes_round}
 use Rattle.sock_runs.proofs.Rounds.{begins_round}
 use Rattle.sock_runs.proofs.Whole.{views_closed}
-use Rattle.send_causes.specs.sock_causes.specs.Facts.{born_at, shown_in, late_links_of_run}
-use Rattle.send_causes.specs.sock_causes.specs.Stories.{In}
-use Rattle.send_causes.specs.sock_causes.proofs.Plain.{in_left, in_right}
+use Rattle.send_causes.specs.outcome_causes.specs.Facts.{born_at, shown_in, late_links_of_run}
+use Rattle.send_causes.specs.outcome_causes.specs.Stories.{In}
+use Rattle.send_causes.specs.outcome_causes.proofs.Plain.{in_left, in_right}
 use Rattle.send_causes.specs.joint_runs.proofs.Runs.{AreMade, first_views}
 use Rattle.send_causes.specs.owed_calls.proofs.EndsStill.{view_of}
 use Rattle.send_causes.proofs.LateEnding.{ended_past}

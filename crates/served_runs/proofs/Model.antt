@@ -19,12 +19,12 @@ use Rattle.send_causes.specs.report_fits.proofs.Numbering.{are_from}
 use Rattle.send_causes.specs.report_fits.proofs.Reading.{InRange}
 use Rattle.send_causes.specs.report_fits.proofs.Targets.{AreThere}
 use Rattle.send_causes.specs.report_fits.proofs.TaskLemmas.{numbers_at, IsTaskOf, task_is, operation_task, open_asks, send_asks, mentions_open, mentions_send, named_at}
-use Rattle.sock_programs.specs.declared.task.Op.TheVariants as ops
-use Rattle.sock_programs.specs.declared.task.Task.{Task}
-use Rattle.sock_programs.specs.Cores.{Core}
-use Rattle.sock_programs.specs.Tasks.{numbered, asked_of, op_of}
-use Rattle.sock_programs.specs.Told.{IsTask, Made}
-use Rattle.sock_programs.specs.Scripts.{all_tasks, IsRunWithCalls}
+use Rattle.seat_programs.specs.declared.task.Op.TheVariants as ops
+use Rattle.seat_programs.specs.declared.task.Task.{Task}
+use Rattle.seat_programs.specs.Cores.{Core}
+use Rattle.seat_programs.specs.Tasks.{numbered, asked_of, op_of}
+use Rattle.seat_programs.specs.Told.{IsTask, Made}
+use Rattle.seat_programs.specs.Scripts.{all_tasks, IsRunWithCalls}
 use Rattle.send_causes.specs.joint_runs.proofs.Runs.{AreMade}
 use Rattle.send_causes.specs.owed_calls.specs.Lives.{ClosesInRun}
 use Rattle.send_causes.specs.call_causes.specs.Lists.{given}

@@ -6,28 +6,28 @@ use mathlib.Core.Option.{some, some-injective}
 use lib.ListN.{get_elem?}
 use Rattle.sock_words.specs.Words.{socket_id, socket_id_slot, socket_id_version}
 use Rattle.sock_words.specs.declared.outcome.Outcome.TheVariants.{Opened}
-use Rattle.sock_model.specs.Layout.{open_word}
+use Rattle.sock_model.specs.Layout.{open_index}
 use Rattle.brpc_model.specs.Items.{Item}
 use Rattle.brpc_model.specs.Operations.{Turn}
 use Rattle.send_causes.specs.report_fits.proofs.Reading.{InRange}
 use Rattle.send_causes.specs.report_fits.proofs.Targets.{AreThere}
-use Rattle.sock_programs.specs.declared.task.Op.TheVariants as ops
-use Rattle.sock_programs.specs.Calls.{GiveBirth}
-use Rattle.sock_programs.specs.Programs.{NO_SOCKET}
-use Rattle.sock_programs.specs.Cores.{Core}
-use Rattle.sock_programs.specs.Tasks.{opens, plan_of}
-use Rattle.sock_programs.specs.Told.{Made}
-use Rattle.sock_programs.specs.Scripts.{all_tasks, IsRunWithCalls}
+use Rattle.seat_programs.specs.declared.task.Op.TheVariants as ops
+use Rattle.seat_programs.specs.Calls.{CreateLife}
+use Rattle.seat_programs.specs.Programs.{NO_SOCKET}
+use Rattle.seat_programs.specs.Cores.{Core}
+use Rattle.seat_programs.specs.Tasks.{opens, plan_of}
+use Rattle.seat_programs.specs.Told.{Made}
+use Rattle.seat_programs.specs.Scripts.{all_tasks, IsRunWithCalls}
 use Rattle.sock_runs.proofs.Whole.{views_ended, ended_sound}
-use Rattle.send_causes.specs.sock_causes.specs.Causes.{Asks, WasGiven}
-use Rattle.send_causes.specs.sock_causes.specs.Explains.{step, Because, Explained}
-use Rattle.send_causes.specs.sock_causes.specs.PlainTasks.{told_tasks_of}
-use Rattle.send_causes.specs.sock_causes.specs.Stories.{trace_of}
-use Rattle.send_causes.specs.sock_causes.proofs.Events.{given_by}
-use Rattle.send_causes.specs.sock_causes.proofs.Final.{Final, final}
-use Rattle.send_causes.specs.sock_causes.proofs.Lifted.{made_down}
-use Rattle.send_causes.specs.sock_causes.proofs.Members.{contains_in, from_trace}
-use Rattle.send_causes.specs.sock_causes.proofs.Openings.{are_seats}
+use Rattle.send_causes.specs.outcome_causes.specs.Causes.{Asks, WasGiven}
+use Rattle.send_causes.specs.outcome_causes.specs.Explains.{step, Because, Explained}
+use Rattle.send_causes.specs.outcome_causes.specs.PlainTasks.{told_tasks_of}
+use Rattle.send_causes.specs.outcome_causes.specs.Stories.{trace_of}
+use Rattle.send_causes.specs.outcome_causes.proofs.Events.{given_by}
+use Rattle.send_causes.specs.outcome_causes.proofs.Final.{Final, final}
+use Rattle.send_causes.specs.outcome_causes.proofs.Lifted.{made_down}
+use Rattle.send_causes.specs.outcome_causes.proofs.Members.{contains_in, from_trace}
+use Rattle.send_causes.specs.outcome_causes.proofs.Openings.{are_seats}
 use Rattle.send_causes.specs.joint_runs.proofs.Runs.{AreMade, first_views}
 use Rattle.send_causes.specs.owed_calls.specs.Lives.{ClosesInRun}
 use Rattle.send_causes.specs.owed_calls.proofs.Known.{run_all_rest}
@@ -50,7 +50,7 @@ module _ (script : List Item) (made : AreMade script) (there : AreThere script) 
     asks = (let i = told.is in (i.0, i.1, contains_in i.0 told.task i.2))
 
     given : WasGiven story.events slot version k
-    given = given_by story.events told.client told.task.number b.1 slot version k (from_trace told.client told.task.number story.events (step (GiveBirth slot k) b.1) b.3) (sym b.4)
+    given = given_by story.events told.client told.task.number b.1 slot version k (from_trace told.client told.task.number story.events (step (CreateLife slot k) b.1) b.3) (sym b.4)
       where
         f : Final (plan_of script).slots (plan_of script).requests (told_tasks_of script) story.events core.outcomes told.client told.task
         f = final (plan_of script) (told_tasks_of script) (are_seats (plan_of script) (all_tasks script) made.are (length (opens script))) true core (views_ended script turns core is (first_views script)) story.events story.lost
@@ -71,7 +71,7 @@ module _ (script : List Item) (made : AreMade script) (there : AreThere script) 
     few : slot < 4294967296
     few = let y = opened_life in let s = y.inside in let m = made.limits in let l = m.slots in omega (arith, s, l)
 
-    socket : get_or core.words (open_word (plan_of script) opened_life.operation) 0 ≢ NO_SOCKET
+    socket : get_or core.words (open_index (plan_of script) opened_life.operation) 0 ≢ NO_SOCKET
     socket e = let y = opened_life in let w : version * 4294967296 + slot + 1 ≡ 18446744073709551615 = sym y.word ∙ e in let low = y.low in let s = few in omega (arith, w, low, s)
 
     own : opened_life.link ≡ k
@@ -79,5 +79,5 @@ module _ (script : List Item) (made : AreMade script) (there : AreThere script) 
         (let s = few in let z : slot ≡ socket_id_slot (version * 4294967296 + slot) = omega (arith, s) in z) (let s = few in let z : version ≡ socket_id_version (version * 4294967296 + slot) = omega (arith, s) in z) given
 
     -- the `open` of the link found a socket
-    pub opened_word : (o : ℕ) → get_elem? (opens script) k ≡ some o → get_or core.words (open_word (plan_of script) o) 0 ≢ NO_SOCKET
-    opened_word o at e = let y = opened_life in socket (ap (λ z. get_or core.words (open_word (plan_of script) z) 0) (some-injective y.operation o (sym y.at ∙ (ap (get_elem? (opens script)) own ∙ at))) ∙ e)
+    pub opened_word : (o : ℕ) → get_elem? (opens script) k ≡ some o → get_or core.words (open_index (plan_of script) o) 0 ≢ NO_SOCKET
+    opened_word o at e = let y = opened_life in socket (ap (λ z. get_or core.words (open_index (plan_of script) z) 0) (some-injective y.operation o (sym y.at ∙ (ap (get_elem? (opens script)) own ∙ at))) ∙ e)

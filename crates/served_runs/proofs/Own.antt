@@ -20,15 +20,15 @@ use Rattle.brpc_model.specs.Stream.{Rest, Fault, stream, stream_from}
 use Rattle.send_causes.specs.report_fits.proofs.Reading.{InRange}
 use Rattle.send_causes.specs.report_fits.proofs.Targets.{AreThere}
 use Rattle.sock_message.specs.Asked.{Asked, request_of}
-use Rattle.sock_programs.specs.declared.task.Op.TheVariants as ops
-use Rattle.sock_programs.specs.declared.task.Task.{Task}
-use Rattle.sock_programs.specs.Cores.{Core}
-use Rattle.sock_programs.specs.Tasks.{plan_of, id_plan_of}
-use Rattle.sock_programs.specs.Told.{AskedFits, OpFits, TaskFits, IsTask, Became, Made}
-use Rattle.sock_programs.specs.ToldCalls.{Accepted, IsTaken, IsSent, OfSend, OfCall, bytes_of}
-use Rattle.sock_programs.specs.Scripts.{all_tasks, took_at_home, IsRunWithCalls}
-use Rattle.send_causes.specs.sock_causes.proofs.Members.{contains_in}
-use Rattle.send_causes.specs.sock_causes.proofs.Tasks.{one_task}
+use Rattle.seat_programs.specs.declared.task.Op.TheVariants as ops
+use Rattle.seat_programs.specs.declared.task.Task.{Task}
+use Rattle.seat_programs.specs.Cores.{Core}
+use Rattle.seat_programs.specs.Tasks.{plan_of, id_plan_of}
+use Rattle.seat_programs.specs.Told.{AskedFits, OpFits, TaskFits, IsTask, Became, Made}
+use Rattle.seat_programs.specs.ToldCalls.{Accepted, IsTaken, IsSent, OfSend, OfCall, bytes_of}
+use Rattle.seat_programs.specs.Scripts.{all_tasks, took_at_home, IsRunWithCalls}
+use Rattle.send_causes.specs.outcome_causes.proofs.Members.{contains_in}
+use Rattle.send_causes.specs.outcome_causes.proofs.Tasks.{one_task}
 use Rattle.send_causes.specs.joint_runs.proofs.Runs.{AreMade}
 use Rattle.send_causes.specs.owed_calls.specs.Lives.{ClosesInRun}
 use Rattle.send_causes.specs.call_causes.specs.Lists.{given, attempts_of_run}

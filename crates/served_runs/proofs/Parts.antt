@@ -14,19 +14,19 @@ use Rattle.brpc_model.specs.Operations.{link_shapes}
 use Rattle.brpc_model.specs.Reply.{reply, reply_frames}
 use Rattle.brpc_model.specs.Served.{first_of, given_for}
 use Rattle.brpc_model.specs.Stream.{Ending, Rest, Fault, stream}
-use Rattle.sock_programs.specs.Asides.{TakeBytes, Taking, Bytes, Nothing, NoMore, AtEnd, Closed, Broken}
-use Rattle.sock_programs.specs.Beside.{at_last}
-use Rattle.sock_programs.specs.Programs.{Aside}
-use Rattle.sock_programs.specs.Readers.{last_of}
-use Rattle.sock_programs.specs.Cores.{Core, SeatState, with_seat}
-use Rattle.sock_programs.specs.Tasks.{plan_of}
-use Rattle.sock_programs.specs.Ticks.{Answer, Moment, IsAnswered, AreAnswered, IsTaken, step_with, ticked, run}
-use Rattle.sock_programs.specs.Beside.{more_given}
+use Rattle.seat_programs.specs.Asides.{TakeBytes, Taking, Bytes, Nothing, NoMore, AtEnd, Closed, Broken}
+use Rattle.seat_programs.specs.Beside.{at_last}
+use Rattle.seat_programs.specs.Programs.{Aside}
+use Rattle.seat_programs.specs.Readers.{last_of}
+use Rattle.seat_programs.specs.Cores.{Core, SeatState, with_seat}
+use Rattle.seat_programs.specs.Tasks.{plan_of}
+use Rattle.seat_programs.specs.Ticks.{Answer, Moment, IsAnswered, AreAnswered, IsTaken, step_with, ticked, run}
+use Rattle.seat_programs.specs.Beside.{more_given}
 use Rattle.sock_runs.specs.Sound.{Sound, IsFitting, AreFitting, views_after}
 use Rattle.sock_runs.proofs.LinkTicks.{RetriesGo}
 use Rattle.sock_runs.proofs.Ticks.{sound_ticks}
-use Rattle.send_causes.specs.whole_runs.specs.Heard.{taken_link, bytes_found}
-use Rattle.send_causes.specs.whole_runs.proofs.Lengths.{tick_long}
+use Rattle.send_causes.specs.run_theorems.specs.Heard.{taken_link, bytes_found}
+use Rattle.send_causes.specs.run_theorems.proofs.Lengths.{tick_long}
 use Rattle.send_causes.specs.call_causes.specs.Lists.{given}
 use Rattle.send_causes.specs.call_causes.proofs.Streams.{frames_behind_rest, frames_before_fault}
 use Rattle.send_causes.proofs.Readings.{IsTake, takes_or_not}

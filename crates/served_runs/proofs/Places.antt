@@ -11,14 +11,14 @@ use Rattle.sock_model.specs.declared.home.Home.{Home}
 use Rattle.sock_model.specs.declared.home.Home.TheVariants.{Empty, Link, Message}
 use Rattle.sock_model.specs.declared.view.View.{View}
 use Rattle.brpc_model.specs.Items.{Item}
-use Rattle.sock_programs.specs.Clients.{ending_of}
-use Rattle.sock_programs.specs.Scripts.{ending}
-use Rattle.sock_programs.specs.Tasks.{opens, plan_of}
-use Rattle.sock_programs.specs.Calls.{Call, TakeLink, FinishLink, PutLink, PutMessage}
-use Rattle.sock_programs.specs.Programs.{Program, PutBytes}
-use Rattle.sock_programs.specs.Beside.{calls_after}
-use Rattle.sock_programs.specs.Cores.{Calls, Core, SeatState, word_of, word_after, found_at, words_after, with_seat, homes_after, hand_after, lies_at, first_of, others_of, finished, link_place, resolved, next_step, waiting_at}
-use Rattle.sock_programs.specs.Ticks.{Moment, IsAnswered, fed, with_places, onto_first, ticked}
+use Rattle.seat_programs.specs.Clients.{ending_of}
+use Rattle.seat_programs.specs.Scripts.{ending}
+use Rattle.seat_programs.specs.Tasks.{opens, plan_of}
+use Rattle.seat_programs.specs.Calls.{Call, TakeLink, FinishLink, PutLink, PutMessage}
+use Rattle.seat_programs.specs.Programs.{Program, PutBytes}
+use Rattle.seat_programs.specs.Beside.{calls_after}
+use Rattle.seat_programs.specs.Cores.{Calls, Core, SeatState, word_of, word_after, found_at, words_after, with_seat, homes_after, hand_after, lies_at, first_of, others_of, finished, link_place, resolved, next_step, waiting_at}
+use Rattle.seat_programs.specs.Ticks.{Moment, IsAnswered, fed, with_places, onto_first, ticked}
 use Rattle.sock_runs.specs.May.{May}
 use Rattle.sock_runs.specs.GoesOn.{GoesOn}
 use Rattle.sock_runs.specs.Sound.{state, Sound, IsFitting, HasLink, first_step}

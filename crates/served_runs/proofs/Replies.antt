@@ -6,24 +6,24 @@ use Rattle.std.specs.Prelude.{slice_get, slice_index_or, Some}
 use mathlib.Core.Option.{Option, none, some}
 use lib.ListN.{get_elem?}
 use Rattle.atomic_table.proofs.Lists.{set_else}
-use Rattle.chain_laws.proofs.Lists.{at_some}
+use Rattle.chain_steps.proofs.Lists.{at_some}
 use Rattle.sock_words.specs.declared.plain.Plan.{Plan}
 use Rattle.sock_model.specs.declared.home.Home.{Home}
 use Rattle.sock_model.specs.declared.home.Home.TheVariants.{Link}
 use Rattle.sock_model.specs.declared.view.View.{View}
-use Rattle.sock_model.specs.Layout.{open_word}
+use Rattle.sock_model.specs.Layout.{open_index}
 use Rattle.brpc_model.specs.Items.{Item, Shape}
 use Rattle.brpc_model.specs.Operations.{Turn, link_shapes}
 use Rattle.brpc_model.specs.Causes.{HasFault}
-use Rattle.sock_programs.specs.Asides.{AtEnd, Broken}
-use Rattle.sock_programs.specs.Clients.{client_from}
-use Rattle.sock_programs.specs.Programs.{Program, Rest, NO_SOCKET}
-use Rattle.sock_programs.specs.Readers.{LIMIT, reader}
-use Rattle.sock_programs.specs.Cores.{Core, SeatState, lies_at, link_place}
-use Rattle.sock_programs.specs.Runs.{from_to}
-use Rattle.sock_programs.specs.Tasks.{opens, calls, plan_of, id_plan_of}
-use Rattle.sock_programs.specs.Ticks.{Moment, quiet, ticked, run}
-use Rattle.sock_programs.specs.Scripts.{sizes_of, programs, all_tasks, opened, ending, is_ending, set_up, played, taken_by, took_at_home, IsRunWithCalls}
+use Rattle.seat_programs.specs.Asides.{AtEnd, Broken}
+use Rattle.seat_programs.specs.Clients.{client_from}
+use Rattle.seat_programs.specs.Programs.{Program, Rest, NO_SOCKET}
+use Rattle.seat_programs.specs.Readers.{LIMIT, reader}
+use Rattle.seat_programs.specs.Cores.{Core, SeatState, lies_at, link_place}
+use Rattle.seat_programs.specs.Runs.{from_to}
+use Rattle.seat_programs.specs.Tasks.{opens, calls, plan_of, id_plan_of}
+use Rattle.seat_programs.specs.Ticks.{Moment, quiet, ticked, run}
+use Rattle.seat_programs.specs.Scripts.{sizes_of, programs, all_tasks, opened, ending, is_ending, set_up, played, taken_by, took_at_home, IsRunWithCalls}
 use Rattle.sock_runs.specs.Sound.{AllRest, views_along}
 use Rattle.sock_runs.proofs.Along.{place_inside}
 use Rattle.sock_runs.proofs.Ends.{links_home}
@@ -31,17 +31,17 @@ use Rattle.sock_runs.proofs.OpensStay.{readers_begin}
 use Rattle.sock_runs.proofs.Quiets.{run_seats}
 use Rattle.sock_runs.proofs.Whole.{IsListed, closing_of, views_played, views_closed, views_ended, set_up_answered, end_answered, set_up_sound, closing_sound, closed_sound, ended_sound, recorded_opened, recorded_set_up, recorded_closing, recorded_closed}
 use Rattle.sock_runs.proofs.HandTicks.{AtHome}
-use Rattle.send_causes.specs.sock_causes.specs.Facts.{late_links_of_run}
-use Rattle.send_causes.specs.sock_causes.specs.Stories.{In}
-use Rattle.send_causes.specs.sock_causes.proofs.Plain.{in_left, in_right, in_both}
-use Rattle.send_causes.specs.client_laws.proofs.Beginning as clients_begin
+use Rattle.send_causes.specs.outcome_causes.specs.Facts.{late_links_of_run}
+use Rattle.send_causes.specs.outcome_causes.specs.Stories.{In}
+use Rattle.send_causes.specs.outcome_causes.proofs.Plain.{in_left, in_right, in_both}
+use Rattle.send_causes.specs.programs_allowed.proofs.Beginning as clients_begin
 use Rattle.send_causes.specs.joint_runs.proofs.Runs.{AreMade, first_views}
 use Rattle.send_causes.specs.owed_calls.specs.Lives.{ClosesInRun}
 use Rattle.send_causes.specs.owed_calls.proofs.EndsStill.{run_ending}
 use Rattle.send_causes.specs.owed_calls.proofs.Known.{run_all_rest}
-use Rattle.send_causes.specs.whole_runs.specs.Heard.{as_taken, taken_in, heard_takes}
-use Rattle.send_causes.specs.whole_runs.proofs.HeardRuns.{taken_append}
-use Rattle.send_causes.specs.whole_runs.proofs.Lengths.{tick_long}
+use Rattle.send_causes.specs.run_theorems.specs.Heard.{as_taken, taken_in, heard_takes}
+use Rattle.send_causes.specs.run_theorems.proofs.HeardRuns.{taken_append}
+use Rattle.send_causes.specs.run_theorems.proofs.Lengths.{tick_long}
 use Rattle.send_causes.specs.call_causes.specs.Lists.{given}
 use Rattle.send_causes.proofs.Early.{Any, ends_anyhow, start, go, fitting, known}
 use Rattle.send_causes.proofs.EndedWhole.{opened_keeps, closing_keeps, closed_keeps}
@@ -309,7 +309,7 @@ module _ (script : List Item) (made : AreMade script) (turns : List Turn) (core 
         seat_low = let m = (let x = closed_keeps script made turns core is in x.many) in let r = run_seats (plan_of script) is.ended is.final in let e = ap (λ (d : Core). length d.seats) is.is_end in
             let i = place_inside (opens script) k o at in omega (arith, m, r, e, i)
 
-    module _ (in_time : In k (late_links_of_run script turns core is) → ⊥) (socket : get_or core.words (open_word (plan_of script) o) 0 ≢ NO_SOCKET) (none_broken : In Broken (heard_takes is k) → ⊥) (faultless : HasFault (given core k) → ⊥) (few : length (given core k) < LIMIT) where
+    module _ (in_time : In k (late_links_of_run script turns core is) → ⊥) (socket : get_or core.words (open_index (plan_of script) o) 0 ≢ NO_SOCKET) (none_broken : In Broken (heard_takes is k) → ⊥) (faultless : HasFault (given core k) → ⊥) (few : length (given core k) < LIMIT) where
       gave_all : given core k ≡ offered_by shape home.took
       gave_all = by_stand ((over_holds in_time).reader seat_there.0 seat_there.1)
         where
@@ -323,7 +323,7 @@ module _ (script : List Item) (made : AreMade script) (turns : List Turn) (core 
           at_rest : seat_there.0.program ≡ Rest
           at_rest = rests (32 + k) seat_there.0 seat_there.1
 
-          by_stand : Stands (plan_of script) (calls script) k o (given core k) (over_holds in_time).last (get_or core.words (open_word (plan_of script) o) 0) seat_there.0.program → given core k ≡ offered_by shape home.took
+          by_stand : Stands (plan_of script) (calls script) k o (given core k) (over_holds in_time).last (get_or core.words (open_index (plan_of script) o) 0) seat_there.0.program → given core k ≡ offered_by shape home.took
           by_stand (inl x) = absurd (let z : Rest ≡ reader (calls script) k o = sym at_rest ∙ x.0 in cc)
           by_stand (inr (inl x)) = absurd (socket x.1)
           by_stand (inr (inr x)) = by_rest (subst (Goes k (given core k) (over_holds in_time).last) at_rest x)

@@ -7,24 +7,24 @@ use native.Mathlib.Decide.{dec_le}
 use lib.ListN.{get_elem?}
 use Rattle.sock_words.specs.declared.plain.Plan.{Plan}
 use Rattle.sock_model.specs.declared.view.View.{View}
-use Rattle.sock_model.specs.Layout.{open_word}
+use Rattle.sock_model.specs.Layout.{open_index}
 use Rattle.brpc_model.specs.Items.{Item, Shape}
 use Rattle.brpc_model.specs.Operations.{link_shapes}
-use Rattle.sock_programs.specs.Asides.{TakeBytes, Taking, Broken}
-use Rattle.sock_programs.specs.Programs.{Program, Aside}
-use Rattle.sock_programs.specs.Cores.{Core, SeatState}
-use Rattle.sock_programs.specs.Tasks.{opens, calls, plan_of}
-use Rattle.sock_programs.specs.Ticks.{Answer, Unasked, OfTake, Moment, IsAnswered, AreAnswered, quiet, ticked, run}
+use Rattle.seat_programs.specs.Asides.{TakeBytes, Taking, Broken}
+use Rattle.seat_programs.specs.Programs.{Program, Aside}
+use Rattle.seat_programs.specs.Cores.{Core, SeatState}
+use Rattle.seat_programs.specs.Tasks.{opens, calls, plan_of}
+use Rattle.seat_programs.specs.Ticks.{Answer, Unasked, OfTake, Moment, IsAnswered, AreAnswered, quiet, ticked, run}
 use Rattle.sock_runs.specs.Sound.{Sound, IsFitting, AreFitting, first_step, views_after}
 use Rattle.sock_runs.proofs.LinkTicks.{RetriesGo}
 use Rattle.sock_runs.proofs.OpensStay.{run_word}
 use Rattle.sock_runs.proofs.Recorded.{Recorded, recorded_ticks}
 use Rattle.sock_runs.proofs.Ticks.{sound_ticks}
-use Rattle.send_causes.specs.sock_causes.specs.Stories.{In}
-use Rattle.send_causes.specs.sock_causes.proofs.Plain.{in_left, in_right, in_both}
-use Rattle.send_causes.specs.whole_runs.specs.Heard.{as_taken, taken_link, taken_at, taken_in}
-use Rattle.send_causes.specs.whole_runs.proofs.HeardRuns.{taken_append}
-use Rattle.send_causes.specs.whole_runs.proofs.Lengths.{tick_long}
+use Rattle.send_causes.specs.outcome_causes.specs.Stories.{In}
+use Rattle.send_causes.specs.outcome_causes.proofs.Plain.{in_left, in_right, in_both}
+use Rattle.send_causes.specs.run_theorems.specs.Heard.{as_taken, taken_link, taken_at, taken_in}
+use Rattle.send_causes.specs.run_theorems.proofs.HeardRuns.{taken_append}
+use Rattle.send_causes.specs.run_theorems.proofs.Lengths.{tick_long}
 use Rattle.send_causes.proofs.Early.{Any, ends_anyhow}
 use Rattle.send_causes.proofs.ReaderRuns.{Keeps, reader_of, view_at, state_at, keeps_ticks}
 use Rattle.send_causes.proofs.Readings.{found_by, takes_own}
@@ -72,7 +72,7 @@ module _ (script : List Item) (in_os : (k o : ℕ) → get_elem? (opens script) 
       (λ high. let r = reader_of (plan_of script) (calls script) (opens script) in_os Any (Unit {0}) ends_anyhow c vs h k j seat at high in let v = view_at (plan_of script) (calls script) (opens script) in_os Any (Unit {0}) ends_anyhow c vs sound j seat at in
       ⊎_elim (λ e. ap (filter (λ l. l == n)) e)
       (λ t. ap (filter (λ l. l == n)) t.1 ∙ ap (λ b. cond b (t.0 ∷ []) []) (ne_eqb t.0 n (λ e. far (r.2 ∙ ap (λ x. 32 + x) (sym t.2 ∙ e)))))
-      (takes_own (plan_of script) (calls script) r.0 r.1 (in_os r.0 r.1 r.3) Any (Unit {0}) (ends_anyhow r.0) (get_or c.words (open_word (plan_of script) r.1) 0) (h r.0) seat.program v.0
+      (takes_own (plan_of script) (calls script) r.0 r.1 (in_os r.0 r.1 r.3) Any (Unit {0}) (ends_anyhow r.0) (get_or c.words (open_index (plan_of script) r.1) 0) (h r.0) seat.program v.0
       (state_at (plan_of script) (calls script) (opens script) in_os Any (Unit {0}) ends_anyhow c vs h k j seat v.0 at v.1 r)))
       (λ low. ap (filter (λ l. l == n)) (none_taken seat.program (k.clients j (omega (arith, low)) seat at)))
 

@@ -5,7 +5,7 @@ use Rattle.std.specs.Prelude.{slice_get, Some, IsTrue}
 use Rattle.std.proofs.lemmas.Option.{slice_get_within}
 use lib.ListN.{get_elem?}
 use mathlib.Core.Option.{some}
-use Rattle.chain_laws.proofs.Lists.{at_some}
+use Rattle.chain_steps.proofs.Lists.{at_some}
 use Rattle.brpc_model.specs.Causes.{HasFault}
 use Rattle.brpc_model.specs.Frame.{Frame}
 use Rattle.brpc_model.specs.Items.{Item, Shape, Open, opened_name, opened_shape}
@@ -15,15 +15,15 @@ use Rattle.brpc_model.specs.Operations.{Turn, link_shapes}
 use Rattle.brpc_model.specs.Served.{given_for}
 use Rattle.send_causes.specs.report_fits.proofs.Reading.{InRange}
 use Rattle.send_causes.specs.report_fits.proofs.Targets.{AreThere}
-use Rattle.sock_programs.specs.Asides.{AtEnd, Broken}
-use Rattle.sock_programs.specs.Cores.{Core}
-use Rattle.sock_programs.specs.Tasks.{opens, plan_of}
-use Rattle.sock_programs.specs.Scripts.{IsRunWithCalls}
-use Rattle.send_causes.specs.sock_causes.specs.Facts.{late_links_of_run}
-use Rattle.send_causes.specs.sock_causes.proofs.Members.{in_contains, contains_in}
+use Rattle.seat_programs.specs.Asides.{AtEnd, Broken}
+use Rattle.seat_programs.specs.Cores.{Core}
+use Rattle.seat_programs.specs.Tasks.{opens, plan_of}
+use Rattle.seat_programs.specs.Scripts.{IsRunWithCalls}
+use Rattle.send_causes.specs.outcome_causes.specs.Facts.{late_links_of_run}
+use Rattle.send_causes.specs.outcome_causes.proofs.Members.{in_contains, contains_in}
 use Rattle.send_causes.specs.joint_runs.proofs.Runs.{AreMade}
 use Rattle.send_causes.specs.owed_calls.specs.Lives.{ClosesInRun}
-use Rattle.send_causes.specs.whole_runs.specs.Heard.{heard_takes}
+use Rattle.send_causes.specs.run_theorems.specs.Heard.{heard_takes}
 use Rattle.served_runs.specs.Offered.{OffersInRun}
 use Rattle.send_causes.specs.call_causes.specs.Lists.{given}
 use Rattle.send_causes.proofs.Early.{known}

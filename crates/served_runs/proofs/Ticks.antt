@@ -7,23 +7,23 @@ use Rattle.atomic_table.proofs.Lists.{at_set}
 use Rattle.sock_words.specs.declared.plain.Plan.{Plan}
 use Rattle.sock_io.specs.declared.link.Put.{Put}
 use Rattle.sock_io.specs.declared.link.Ready.{Ready}
-use Rattle.sock_model.specs.Layout.{open_word}
+use Rattle.sock_model.specs.Layout.{open_index}
 use Rattle.sock_model.specs.Messages.{Letter}
 use Rattle.sock_model.specs.Reads.{message, link_home}
 use Rattle.send_causes.specs.sock_steps.proofs.Quiet.{either_way}
 use Rattle.corr_core.specs.Word.{parts}
-use Rattle.sock_programs.specs.Asides.{Step, Found, ClaimId, PutCall, MakeId, StoreCall, LoadCall, StoreAt, LoadAt, LoadIdWord, LockId, PostId, UnlockId, EndId, FreeId, TakeCall, TakeBytes, Taking, Bytes, Nothing, NoMore, AtEnd, Closed, Broken}
-use Rattle.sock_programs.specs.Beside.{at_last, found_in, calls_after, more_given}
-use Rattle.sock_programs.specs.Calls.{LoadOpen}
-use Rattle.sock_programs.specs.Heads.{Retry, Decides, Locks, Reads}
-use Rattle.sock_programs.specs.Posts.{ends_call}
-use Rattle.sock_programs.specs.Programs.{Program, Do, Rest, TakeMessage, TakeHome, PutHome, PutBytes, AskReady, Write, Aside, Round, Retries, NO_SOCKET}
-use Rattle.sock_programs.specs.Readers.{read, reader}
-use Rattle.sock_programs.specs.Writings.{Puts, Waits, Empties, Walks}
-use Rattle.sock_programs.specs.Cores.{Core, SeatState, word_of, found_at, waiting_at, with_seat, resolved, next_step}
-use Rattle.sock_programs.specs.Ticks.{Answer, OfPut, OfReady, OfTake, Moment, taken, with_message, with_link, with_put, with_ready, with_found, step_with, tick_with, ticked}
+use Rattle.seat_programs.specs.Asides.{Step, Found, ClaimId, PutCall, MakeId, StoreCall, LoadCall, StoreAt, LoadAt, LoadIdWord, LockId, PostId, UnlockId, EndId, FreeId, TakeCall, TakeBytes, Taking, Bytes, Nothing, NoMore, AtEnd, Closed, Broken}
+use Rattle.seat_programs.specs.Beside.{at_last, found_in, calls_after, more_given}
+use Rattle.seat_programs.specs.Calls.{LoadOpen}
+use Rattle.seat_programs.specs.Heads.{Retry, Decides, Locks, Reads}
+use Rattle.seat_programs.specs.Posts.{ends_call}
+use Rattle.seat_programs.specs.Programs.{Program, Do, Rest, TakeMessage, TakeHome, PutHome, PutBytes, AskReady, Write, Aside, Round, Retries, NO_SOCKET}
+use Rattle.seat_programs.specs.Readers.{read, reader}
+use Rattle.seat_programs.specs.Writings.{Puts, Waits, Empties, Walks}
+use Rattle.seat_programs.specs.Cores.{Core, SeatState, word_of, found_at, waiting_at, with_seat, resolved, next_step}
+use Rattle.seat_programs.specs.Ticks.{Answer, OfPut, OfReady, OfTake, Moment, taken, with_message, with_link, with_put, with_ready, with_found, step_with, tick_with, ticked}
 use Rattle.sock_runs.specs.Sound.{first_step}
-use Rattle.send_causes.specs.whole_runs.specs.Heard.{taken_link, bytes_found}
+use Rattle.send_causes.specs.run_theorems.specs.Heard.{taken_link, bytes_found}
 use Rattle.send_causes.specs.call_causes.specs.Lists.{given}
 use Rattle.send_causes.proofs.Readings.{IsTake, ticks_first}
 use Rattle.served_runs.proofs.Readings.{Goes, is_last, goes_first, goes_next, begins_reading}
@@ -143,7 +143,7 @@ module _ (p : Plan) (k : ℕ) (c : Core) (m : Moment) where
 
 module _ (p : Plan) (calls : List ℕ) (k o : ℕ) where
   abbrev pub Word : Core → ℕ
-  Word c = get_or c.words (open_word p o) 0
+  Word c = get_or c.words (open_index p o) 0
 
   -- it waits for the word of its `open`, found none of a socket, or is at work; by what the link gave, and whether a take found its end
   abbrev pub Stands : List ℕ → Bool → ℕ → Program → Type 0

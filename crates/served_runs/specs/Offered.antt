@@ -8,12 +8,12 @@ use Rattle.sock_model.specs.declared.home.Home.TheVariants.{Link}
 use Rattle.brpc_model.specs.Items.{Item, Shape}
 use Rattle.brpc_model.specs.Operations.{Turn, link_shapes}
 use Rattle.brpc_model.specs.Served.{given_for}
-use Rattle.sock_programs.specs.Asides.{TakeBytes, Taking, Bytes, Nothing, AtEnd, Closed}
-use Rattle.sock_programs.specs.Programs.{Program, Aside}
-use Rattle.sock_programs.specs.Cores.{Core, SeatState, link_place}
-use Rattle.sock_programs.specs.Ticks.{Answer, OfTake, Moment, ticked}
-use Rattle.sock_programs.specs.Tasks.{plan_of}
-use Rattle.sock_programs.specs.Scripts.{set_up, IsRunWithCalls}
+use Rattle.seat_programs.specs.Asides.{TakeBytes, Taking, Bytes, Nothing, AtEnd, Closed}
+use Rattle.seat_programs.specs.Programs.{Program, Aside}
+use Rattle.seat_programs.specs.Cores.{Core, SeatState, link_place}
+use Rattle.seat_programs.specs.Ticks.{Answer, OfTake, Moment, ticked}
+use Rattle.seat_programs.specs.Tasks.{plan_of}
+use Rattle.seat_programs.specs.Scripts.{set_up, IsRunWithCalls}
 use Rattle.sock_runs.specs.Sound.{first_step}
 use Rattle.send_causes.specs.owed_calls.specs.Lives.{InHand}
 use Rattle.send_causes.specs.call_causes.specs.Lists.{given}

@@ -10,16 +10,16 @@ use Rattle.brpc_model.specs.Served.{given_for}
 use Rattle.brpc_model.specs.Stream.{stream}
 use Rattle.sock_words.specs.declared.outcome.Outcome.{Outcome}
 use Rattle.sock_message.specs.Asked.{Asked, meta_with}
-use Rattle.sock_programs.specs.declared.task.Op.TheVariants as ops
-use Rattle.sock_programs.specs.declared.task.Task.{Task}
-use Rattle.sock_programs.specs.Asides.{AtEnd, Broken}
-use Rattle.sock_programs.specs.Readers.{LIMIT}
-use Rattle.sock_programs.specs.Cores.{Core}
-use Rattle.sock_programs.specs.Tasks.{plan_of}
-use Rattle.sock_programs.specs.Told.{IsTask, Became, Made}
-use Rattle.sock_programs.specs.Scripts.{all_tasks, took_at_home, IsRunWithCalls}
-use Rattle.send_causes.specs.sock_causes.specs.Facts.{late_links_of_run}
-use Rattle.send_causes.specs.whole_runs.specs.Heard.{heard_takes}
+use Rattle.seat_programs.specs.declared.task.Op.TheVariants as ops
+use Rattle.seat_programs.specs.declared.task.Task.{Task}
+use Rattle.seat_programs.specs.Asides.{AtEnd, Broken}
+use Rattle.seat_programs.specs.Readers.{LIMIT}
+use Rattle.seat_programs.specs.Cores.{Core}
+use Rattle.seat_programs.specs.Tasks.{plan_of}
+use Rattle.seat_programs.specs.Told.{IsTask, Became, Made}
+use Rattle.seat_programs.specs.Scripts.{all_tasks, took_at_home, IsRunWithCalls}
+use Rattle.send_causes.specs.outcome_causes.specs.Facts.{late_links_of_run}
+use Rattle.send_causes.specs.run_theorems.specs.Heard.{heard_takes}
 use Rattle.send_causes.specs.call_causes.specs.Lists.{given, attempts_of_run}
 
 -- the request of a call under a correlation id

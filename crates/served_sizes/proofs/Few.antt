@@ -22,13 +22,13 @@ use Rattle.report_fits.proofs.Sizes.{is_counted, keeps_limits}
 use Rattle.report_fits.proofs.Targets.{are_there}
 use Rattle.report_fits.proofs.TaskLemmas.{numbers_at, task_is, send_asks, call_asks}
 use Rattle.sock_message.specs.Asked.{Asked, meta_of, frame_of}
-use Rattle.sock_programs.specs.Readers.{LIMIT}
-use Rattle.sock_programs.specs.Cores.{Core}
-use Rattle.sock_programs.specs.Tasks.{numbered, plan_of}
-use Rattle.sock_programs.specs.ToldCalls.{Accepted, Order, Fixed, ToldCalls, IsTaken, IsSent, OfSend, OfCall, label, bytes_of}
-use Rattle.sock_programs.specs.Scripts.{all_tasks, IsRunWithCalls}
+use Rattle.seat_programs.specs.Readers.{LIMIT}
+use Rattle.seat_programs.specs.Cores.{Core}
+use Rattle.seat_programs.specs.Tasks.{numbered, plan_of}
+use Rattle.seat_programs.specs.ToldCalls.{Accepted, Order, Fixed, ToldCalls, IsTaken, IsSent, OfSend, OfCall, label, bytes_of}
+use Rattle.seat_programs.specs.Scripts.{all_tasks, IsRunWithCalls}
 use Rattle.served_runs.specs.owed_calls.specs.Lives.{ClosesInRun}
-use Rattle.served_runs.specs.whole_runs.proofs.Starts.{made}
+use Rattle.served_runs.specs.run_theorems.proofs.Starts.{made}
 use Rattle.served_runs.specs.call_causes.specs.Lists.{given}
 use Rattle.served_runs.specs.Offered.{OffersInRun}
 use Rattle.served_runs.specs.Served.{took_in_all}

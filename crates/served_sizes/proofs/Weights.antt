@@ -7,7 +7,7 @@ use Rattle.std.specs.List.{AllByRecursion}
 use Rattle.brpc_model.specs.Items.{Item, attempts_of}
 use Rattle.brpc_model.specs.Operations.{Operation, operations_from}
 use Rattle.brpc_model.specs.Order.{EachBefore}
-use Rattle.sock_programs.specs.ToldCalls.{Accepted, label, bytes_of}
+use Rattle.seat_programs.specs.ToldCalls.{Accepted, label, bytes_of}
 use Rattle.report_fits.proofs.LabelCounts.{Differ}
 use Rattle.report_fits.proofs.Lists.{Has, has_first, has_later, some_is, all_at}
 use Rattle.report_fits.proofs.Numbering.{behind_item}

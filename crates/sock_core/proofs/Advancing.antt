@@ -7,23 +7,23 @@ use mathlib.Core.Option as core
 use lib.ListN.{get_elem?}
 use Rattle.sock_words.specs.declared.kind.Kind.{Kind}
 use Rattle.sock_io.specs.declared.link.Ready.TheVariants as asks
-use Rattle.sock_programs.specs.Asides as asides
-use Rattle.sock_programs.specs.Heads.{Head, Exit, Posts, Unlocks, Decides, Locks, Joins, Opens, Reads, Discards}
-use Rattle.sock_programs.specs.Writings as heads
-use Rattle.sock_programs.specs.Programs.{Program, Write, Round}
-use Rattle.sock_programs.specs.Cores.{Core, SeatState}
-use Rattle.sock_programs.specs.Ticks.{Answer, Unasked, OfPut, OfReady, OfTake, Moment, waits_at, waits, broken_at}
-use Rattle.sock_programs.specs.Runs.{kind_in, next_kind, IsAtRest}
+use Rattle.seat_programs.specs.Asides as asides
+use Rattle.seat_programs.specs.Heads.{Head, Exit, Posts, Unlocks, Decides, Locks, Joins, Opens, Reads, Discards}
+use Rattle.seat_programs.specs.Writings as heads
+use Rattle.seat_programs.specs.Programs.{Program, Write, Round}
+use Rattle.seat_programs.specs.Cores.{Core, SeatState}
+use Rattle.seat_programs.specs.Ticks.{Answer, Unasked, OfPut, OfReady, OfTake, Moment, waits_at, waits, broken_at}
+use Rattle.seat_programs.specs.Runs.{kind_in, next_kind, IsAtRest}
 use Rattle.sock_runs.specs.Sound.{IsAhead}
 use Rattle.sock_runs.proofs.Along.{place_inside, seat_rests}
-use Rattle.whole_runs.specs.Heard.{heard_at}
+use Rattle.run_theorems.specs.Heard.{heard_at}
 use Rattle.call_points.specs.declared.aside.Aside.{Aside as AsideStep}
 use Rattle.call_points.specs.declared.aside.Aside.TheVariants as code
 use Rattle.call_points.specs.Steps as aside_steps
-use Rattle.seat_points.specs.declared.point.Step.{Step}
-use Rattle.seat_points.specs.declared.point.Step.TheVariants as firsts
-use Rattle.seat_points.specs.Steps.{First, OfCall, OfAside, OfMessage, OfLink, OfHome, step_of, step_as, first_in}
-use Rattle.seat_points.specs.Steps as kinds
+use Rattle.seat_states.specs.declared.point.Step.{Step}
+use Rattle.seat_states.specs.declared.point.Step.TheVariants as firsts
+use Rattle.seat_states.specs.Steps.{First, OfCall, OfAside, OfMessage, OfLink, OfHome, step_of, step_as, first_in}
+use Rattle.seat_states.specs.Steps as kinds
 use Rattle.client_seats.specs.Seats.{around, seat_program, asked_of}
 use Rattle.reader_points.specs.declared.point.ReadStep.{ReadStep}
 use Rattle.reader_points.specs.declared.point.ReadStep.TheVariants as steps
@@ -201,7 +201,7 @@ module _ (m fresh : MachineState) (room i : ℕ) (step : Step) (tick : Tick) (is
   follows : (took : Taken) (gave : Given) → Agrees m.links took → AgreesGave m.links gave → Follows m fresh took gave (moment ∷ [])
   follows took gave agrees agrees_gave = let s = stepped took gave agrees agrees_gave in let c : Core = core_with m took gave in record {
     answered = (s.answered, tt);
-    prompt = λ prompt. (made_prompt m fresh i w.seat w.seat' step first answer made prompt, tt);
+    always_ready = λ always_ready. (made_prompt m fresh i w.seat w.seat' step first answer made always_ready, tt);
     closes = λ tell. made_closes m fresh i w.seat w.seat' step m.plan c first answer made;
     offers = λ k serve end h. (made_offers m fresh i w.seat w.seat' step m.plan k serve end c first answer made, made_offering m fresh i w.seat w.seat' step k serve end h first answer made);
     later = s.later;
@@ -337,7 +337,7 @@ module _ (m fresh : MachineState) (room k : ℕ) (step : ReadStep) (tick : Tick)
   read_follows : (took : Taken) (gave : Given) → Agrees m.links took → AgreesGave m.links gave → Follows m fresh took gave (read_moment ∷ [])
   read_follows took gave agrees agrees_gave = let s = read_stepped took gave agrees agrees_gave in let c : Core = core_with m took gave in let own : SeatState = state_of m.plan m.links took reading i in record {
     answered = (s.answered, tt);
-    prompt = λ prompt. (read_prompt m fresh i w.reader w.reader' begins given_answer read_made, tt);
+    always_ready = λ always_ready. (read_prompt m fresh i w.reader w.reader' begins given_answer read_made, tt);
     closes = λ tell. read_closes m fresh k w.reader w.reader' (is.closed enough) w.at w.seats read_sized.letters_are read_sized.inns_are read_few took gave tell begins given_answer read_made;
     offers = λ x serve end h. (
       read_offers m fresh k w.reader w.reader' x serve end h (is.closed enough) w.at read_sized.letters_are read_sized.inns_are read_few took gave agrees agrees_gave begins given_answer read_made,

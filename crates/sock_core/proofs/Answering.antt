@@ -17,22 +17,22 @@ use Rattle.sock_io.specs.declared.link.Put.TheVariants as puts
 use Rattle.sock_io.specs.declared.link.Ready.{Ready}
 use Rattle.sock_io.specs.declared.link.Ready.TheVariants as asks
 use Rattle.sock_io.specs.Link.{OutState, InState, PutStep, ReadyStep, of_put, of_ready, more_told}
-use Rattle.whole_runs.specs.Heard.{half_of, as_told, heard_at}
+use Rattle.run_theorems.specs.Heard.{half_of, as_told, heard_at}
 use Rattle.sock_io.specs.Causes.{Rose}
-use Rattle.sock_programs.specs.Calls as calls
-use Rattle.sock_programs.specs.Writings.{Puts, Waits, Empties, Walks}
-use Rattle.sock_programs.specs.Programs.{Program, Do, Say, Sent, Rest, TakeMessage, TakeHome, PutHome, PutBytes, AskReady, Write, Aside, Round, Keep, Retries}
+use Rattle.seat_programs.specs.Calls as calls
+use Rattle.seat_programs.specs.Writings.{Puts, Waits, Empties, Walks}
+use Rattle.seat_programs.specs.Programs.{Program, Do, Say, Sent, Rest, TakeMessage, TakeHome, PutHome, PutBytes, AskReady, Write, Aside, Round, Keep, Retries}
 use Rattle.corr_core.specs.Word.{parts, code_of}
-use Rattle.sock_programs.specs.Asides.{id_slot, PutCall}
-use Rattle.sock_programs.specs.Heads.{Posts, Unlocks, Decides, Locks, Joins, Opens, Reads, Discards, HasEnded}
-use Rattle.sock_programs.specs.Posts.{ends_call, end_id, unlocked}
-use Rattle.seat_points.specs.declared.point.Step.{Step}
-use Rattle.sock_programs.specs.Cores.{Core, SeatState}
-use Rattle.sock_programs.specs.Ticks.{Answer, Unasked, OfPut, OfReady, asked_link, broken_at}
-use Rattle.seat_points.specs.Steps.{First, OfCall, OfAside, OfMessage, OfLink, OfHome, first_of, first_in}
-use Rattle.seat_points.specs.Steps as kinds
+use Rattle.seat_programs.specs.Asides.{id_slot, PutCall}
+use Rattle.seat_programs.specs.Heads.{Posts, Unlocks, Decides, Locks, Joins, Opens, Reads, Discards, HasEnded}
+use Rattle.seat_programs.specs.Posts.{ends_call, end_id, unlocked}
+use Rattle.seat_states.specs.declared.point.Step.{Step}
+use Rattle.seat_programs.specs.Cores.{Core, SeatState}
+use Rattle.seat_programs.specs.Ticks.{Answer, Unasked, OfPut, OfReady, asked_link, broken_at}
+use Rattle.seat_states.specs.Steps.{First, OfCall, OfAside, OfMessage, OfLink, OfHome, first_of, first_in}
+use Rattle.seat_states.specs.Steps as kinds
 use Rattle.client_seats.specs.Seats.{SeatData}
-use Rattle.sock_core.specs.Links.{LinksData, ArePrompt, TellClosing, is_done}
+use Rattle.sock_core.specs.Links.{LinksData, AreAlwaysReady, TellClosing, is_done}
 use Rattle.sock_core.specs.Machines.{MachineState, table_of}
 use Rattle.sock_core.specs.Steps.{OutsAfter, MadeFirst, LinkAsked}
 use Rattle.sock_core.specs.Runs.{SameLink, SameLinks, ShowFaults, LinksTell}
@@ -47,17 +47,17 @@ AsksUnfinished l other = Unit {0}
 
 -- ## Prompt links
 
-pub prompt_same : (l l' : LinksData) → l'.outs ≡ l.outs → ArePrompt l → ArePrompt l'
-prompt_same l l' same prompt k out at = prompt k out (sym (ap (λ (os : List OutState). get_elem? os k) same) ∙ at)
+pub prompt_same : (l l' : LinksData) → l'.outs ≡ l.outs → AreAlwaysReady l → AreAlwaysReady l'
+prompt_same l l' same always_ready k out at = always_ready k out (sym (ap (λ (os : List OutState). get_elem? os k) same) ∙ at)
 
-prompt_set : (l l' : LinksData) (k : ℕ) (out out' : OutState) → get_elem? l.outs k ≡ core.some out → l'.outs ≡ slice_set l.outs k out' → out'.prompt ≡ out.prompt → ArePrompt l → ArePrompt l'
-prompt_set l l' k out out' at outs same prompt j other there = ⊎_elim
-    (λ a. subst (λ (o : OutState). o.prompt ≡ true) a.1 (same ∙ prompt k out at))
-    (λ a. prompt j other a.1)
+prompt_set : (l l' : LinksData) (k : ℕ) (out out' : OutState) → get_elem? l.outs k ≡ core.some out → l'.outs ≡ slice_set l.outs k out' → out'.always_ready ≡ out.always_ready → AreAlwaysReady l → AreAlwaysReady l'
+prompt_set l l' k out out' at outs same always_ready j other there = ⊎_elim
+    (λ a. subst (λ (o : OutState). o.always_ready ≡ true) a.1 (same ∙ always_ready k out at))
+    (λ a. always_ready j other a.1)
     (at_set l.outs k j out' other (sym (ap (λ (os : List OutState). get_elem? os j) outs) ∙ there))
 
-pub prompt_call : (call : calls.Call) (l l' : LinksData) → OutsAfter call l.outs l'.outs → ArePrompt l → ArePrompt l'
-prompt_call (calls.FinishLink k) l l' o = prompt_set l l' k o.0 o.1 o.2 o.3 o.4.same.prompt
+pub prompt_call : (call : calls.Call) (l l' : LinksData) → OutsAfter call l.outs l'.outs → AreAlwaysReady l → AreAlwaysReady l'
+prompt_call (calls.FinishLink k) l l' o = prompt_set l l' k o.0 o.1 o.2 o.3 o.4.same.always_ready
 prompt_call _ l l' o = prompt_same l l' o
 
 -- ## Links that tell whether their other ends closed them
@@ -67,11 +67,11 @@ tell_same l l' same tell k inn at = tell k inn (sym (ap (λ (is : List InState).
 
 -- ## The same links
 
-pub links_kept : (old fresh : MachineState) → fresh.ends ≡ old.ends → (ArePrompt old.links → ArePrompt fresh.links) → (TellClosing old.links → TellClosing fresh.links) → SameLinks old fresh
-links_kept old fresh ends prompt tell = record {
+pub links_kept : (old fresh : MachineState) → fresh.ends ≡ old.ends → (AreAlwaysReady old.links → AreAlwaysReady fresh.links) → (TellClosing old.links → TellClosing fresh.links) → SameLinks old fresh
+links_kept old fresh ends always_ready tell = record {
   as_many = ap length ends;
   each = λ k x y at also. subst (SameLink x) (same_Some x y (sym at ∙ ap (λ (es : List LinkEnd). slice_get es k) (sym ends) ∙ also)) (same_link_none x);
-  prompt = prompt;
+  always_ready = always_ready;
   tell = tell;
 }
 
@@ -94,8 +94,8 @@ get_set_other (x ∷ xs) zero (suc j) b differ = refl
 get_set_other (x ∷ xs) (suc k) zero b differ = refl
 get_set_other (x ∷ xs) (suc k) (suc j) b differ = get_set_other xs k j b (λ e. differ (ap suc e))
 
-pub links_set : (old fresh : MachineState) (k : ℕ) (before behind : LinkEnd) → get_elem? old.ends k ≡ core.some before → fresh.ends ≡ slice_set old.ends k behind → SameLink before behind → (ArePrompt old.links → ArePrompt fresh.links) → (TellClosing old.links → TellClosing fresh.links) → SameLinks old fresh
-links_set old fresh k before behind at ends same prompt tell = record {
+pub links_set : (old fresh : MachineState) (k : ℕ) (before behind : LinkEnd) → get_elem? old.ends k ≡ core.some before → fresh.ends ≡ slice_set old.ends k behind → SameLink before behind → (AreAlwaysReady old.links → AreAlwaysReady fresh.links) → (TellClosing old.links → TellClosing fresh.links) → SameLinks old fresh
+links_set old fresh k before behind at ends same always_ready tell = record {
   as_many = ap length ends ∙ length-set old.ends k behind;
   each = λ j x y there also. let also' : slice_get (slice_set old.ends k behind) j ≡ Some y = ap (λ (es : List LinkEnd). slice_get es j) (sym ends) ∙ also in dite (ℕ_discrete j k)
       (λ e. let inside = place_inside old.ends k before at in
@@ -103,13 +103,13 @@ links_set old fresh k before behind at ends same prompt tell = record {
       let x_is : before ≡ x = first_is old.ends k before x at (subst (λ n. slice_get old.ends n ≡ Some x) e there) in
       subst (λ (z : LinkEnd). SameLink z y) x_is (subst (SameLink before) y_is same))
       (λ differ. subst (SameLink x) (sym (get_or_from_slice_get old.ends j x y there) ∙ sym (get_or-set_other old.ends k j behind y differ) ∙ get_or_from_slice_get (slice_set old.ends k behind) j y y also') (same_link_none x));
-  prompt = prompt;
+  always_ready = always_ready;
   tell = tell;
 }
 
 module _ (old fresh : MachineState) (i : ℕ) (place seat' : SeatData) (step : Step) where
   asked_links : {k : ℕ} {next : Program} {HasAnswered : OutState → OutState → Type 0} → LinkAsked (table_of old) (table_of fresh) i place seat' k next HasAnswered →
-      ((out out' : OutState) → HasAnswered out out' → out'.prompt ≡ out.prompt) → SameLinks old fresh
+      ((out out' : OutState) → HasAnswered out out' → out'.always_ready ≡ out.always_ready) → SameLinks old fresh
   asked_links {k} w stays = let a = w.asked in links_set old fresh k a.before a.behind a.end_at a.ends_are a.same (prompt_set old.links fresh.links k a.out a.out' a.at a.outs_are (stays a.out a.out' a.answered)) (tell_same old.links fresh.links w.goes.base.inns)
 
   -- the links stay those that they were
@@ -119,18 +119,18 @@ module _ (old fresh : MachineState) (i : ℕ) (place seat' : SeatData) (step : S
   made_links (OfMessage q) answer w = links_kept old fresh w.1.ends (prompt_same old.links fresh.links (ap (λ (l : LinksData). l.outs) w.1.links)) (tell_same old.links fresh.links w.1.goes.base.inns)
   made_links (OfLink k) answer w = links_kept old fresh w.1.ends (prompt_same old.links fresh.links (ap (λ (l : LinksData). l.outs) w.1.links)) (tell_same old.links fresh.links w.1.goes.base.inns)
   made_links (OfHome k n) answer w = links_kept old fresh w.1.ends (prompt_same old.links fresh.links (ap (λ (l : LinksData). l.outs) w.1.links)) (tell_same old.links fresh.links w.1.goes.base.inns)
-  made_links (kinds.OfPut k asked bytes) answer w = asked_links w.2 (λ out out' step. step.same.prompt)
-  made_links (kinds.OfReady k) answer w = asked_links w.2 (λ out out' step. step.same.prompt)
+  made_links (kinds.OfPut k asked bytes) answer w = asked_links w.2 (λ out out' step. step.same.always_ready)
+  made_links (kinds.OfReady k) answer w = asked_links w.2 (λ out out' step. step.same.always_ready)
 
   -- a prompt link answers in time
-  pub made_prompt : (first : First) (answer : Answer) → MadeFirst (table_of old) (table_of fresh) i place seat' step first answer → ArePrompt old.links → answer ≢ OfReady asks.NotYet
-  made_prompt (OfCall call) answer w prompt yet = let e = w.0 in cc
-  made_prompt (OfAside aside) answer w prompt yet = let e = w.0 in cc
-  made_prompt (OfMessage q) answer w prompt yet = let e = w.0 in cc
-  made_prompt (OfLink k) answer w prompt yet = let e = w.0 in cc
-  made_prompt (OfHome k n) answer w prompt yet = let e = w.0 in cc
-  made_prompt (kinds.OfPut k asked bytes) answer w prompt yet = let e = w.1 in cc
-  made_prompt (kinds.OfReady k) answer w prompt yet = let a = w.2.asked in let e = w.1 in a.answered.prompt (prompt k a.out a.at) (let f : w.0 ≡ asks.NotYet = cc in f)
+  pub made_prompt : (first : First) (answer : Answer) → MadeFirst (table_of old) (table_of fresh) i place seat' step first answer → AreAlwaysReady old.links → answer ≢ OfReady asks.NotYet
+  made_prompt (OfCall call) answer w always_ready yet = let e = w.0 in cc
+  made_prompt (OfAside aside) answer w always_ready yet = let e = w.0 in cc
+  made_prompt (OfMessage q) answer w always_ready yet = let e = w.0 in cc
+  made_prompt (OfLink k) answer w always_ready yet = let e = w.0 in cc
+  made_prompt (OfHome k n) answer w always_ready yet = let e = w.0 in cc
+  made_prompt (kinds.OfPut k asked bytes) answer w always_ready yet = let e = w.1 in cc
+  made_prompt (kinds.OfReady k) answer w always_ready yet = let a = w.2.asked in let e = w.1 in a.answered.always_ready (always_ready k a.out a.at) (let f : w.0 ≡ asks.NotYet = cc in f)
 
   -- ## Links that failed
 

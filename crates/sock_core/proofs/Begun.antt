@@ -2,17 +2,17 @@
 use Rattle.std.proofs.Common.{◌≡◌, refl, ℕ, zero, suc, ◌+◌, false, List, [], ◌∷◌, ◌++◌, map, fold, length, take, drop, replicate, Option, None, ap, ap₂, sym, ◌∙◌, arith, subst}
 use Rattle.std.specs.List.{AllByRecursion}
 use Rattle.sock_words.specs.declared.outcome.Outcome.{Outcome}
-use Rattle.sock_programs.specs.declared.task.Task.{Task}
-use Rattle.sock_programs.specs.declared.task.Sizes.{Sizes}
-use Rattle.sock_programs.specs.Heads.{Retry}
-use Rattle.sock_programs.specs.declared.task.Op.{Op}
-use Rattle.sock_programs.specs.declared.task.Op.TheVariants as ops
-use Rattle.sock_programs.specs.Programs.{Program, open_from}
-use Rattle.sock_programs.specs.Readers.{reader}
-use Rattle.sock_programs.specs.Clients.{HeldLife, operation, client_from}
-use Rattle.sock_programs.specs.Cores.{said, resolved, still_waiting, next_step}
-use Rattle.sock_programs.specs.Scripts.{free_slot, free_slots, programs, readers_from}
-use Rattle.seat_points.specs.declared.point.Point.TheVariants as point
+use Rattle.seat_programs.specs.declared.task.Task.{Task}
+use Rattle.seat_programs.specs.declared.task.Sizes.{Sizes}
+use Rattle.seat_programs.specs.Heads.{Retry}
+use Rattle.seat_programs.specs.declared.task.Op.{Op}
+use Rattle.seat_programs.specs.declared.task.Op.TheVariants as ops
+use Rattle.seat_programs.specs.Programs.{Program, open_from}
+use Rattle.seat_programs.specs.Readers.{reader}
+use Rattle.seat_programs.specs.Clients.{HeldLife, operation, client_from}
+use Rattle.seat_programs.specs.Cores.{said, resolved, still_waiting, next_step}
+use Rattle.seat_programs.specs.Scripts.{free_slot, free_slots, programs, readers_from}
+use Rattle.seat_states.specs.declared.point.Point.TheVariants as point
 use Rattle.reader_seats.specs.Readers.{ReaderData, reader_program}
 use Rattle.client_seats.specs.Following.{FollowsOn}
 use Rattle.client_seats.specs.Seats.{SeatData, seat_program, client_of}

@@ -6,13 +6,13 @@ use mathlib.Core.Logic.{dite}
 use native.Mathlib.Decide.{ℕ_discrete, dec_lt}
 use mathlib.Core.Option as core
 use Rattle.corr_core.specs.declared.marks.Plan.{Plan as IdPlan}
-use Rattle.id_rule.specs.Lawful.{tag_word, id_word, call_word, at_word}
+use Rattle.id_rule.specs.Lawful.{tag_index, id_index, call_index, at_index}
 use Rattle.id_points.specs.declared.call_id.CallId.{CallId}
 use Rattle.id_points.specs.Ids.{id_of}
 use Rattle.sock_message.specs.Asked.{Asked}
-use Rattle.sock_programs.specs.Asides.{Found, Taking, Bytes, id_first}
-use Rattle.sock_programs.specs.Beside.{calls_after, more_given}
-use Rattle.sock_programs.specs.Cores.{Calls}
+use Rattle.seat_programs.specs.Asides.{Found, Taking, Bytes, id_first}
+use Rattle.seat_programs.specs.Beside.{calls_after, more_given}
+use Rattle.seat_programs.specs.Cores.{Calls}
 use Rattle.call_points.specs.declared.aside.Aside.{Aside}
 use Rattle.call_points.specs.declared.aside.Aside.TheVariants as code
 use Rattle.call_points.specs.Steps.{step_of}
@@ -26,7 +26,7 @@ IsBelow word = id_first word < 67108864
 
 -- so are those of these ids and calls
 abbrev CalledIn : Calls → Type 0
-CalledIn a = (o : ℕ) → o < a.plan.operations → IsBelow (get_or a.words (call_word a.plan o) 0)
+CalledIn a = (o : ℕ) → o < a.plan.operations → IsBelow (get_or a.words (call_index a.plan o) 0)
 
 zero_below : IsBelow 0
 zero_below = omega arith
@@ -55,21 +55,21 @@ module _ (t : TableState) (asked : Asked) where
   q = t.ids.plan
 
   step_called : (step : Aside) (found : Found (step_of asked step)) → FitsSlots t step → CalledIn a → CalledIn (calls_after (step_of asked step) found a)
-  step_called (code.ClaimId i) found fits called o inside = let within = fits.0 in other_below t.ids.words (call_word q o) (tag_word i) 1 (λ e. omega (arith, e, within)) (called o inside)
+  step_called (code.ClaimId i) found fits called o inside = let within = fits.0 in other_below t.ids.words (call_index q o) (tag_index i) 1 (λ e. omega (arith, e, within)) (called o inside)
   step_called (code.PutCall i) found fits called o inside = called o inside
-  step_called (code.MakeId i range) found fits called o inside = let within = fits.0 in other_below t.ids.words (call_word q o) (id_word i) _ (λ e. omega (arith, e, within)) (called o inside)
+  step_called (code.MakeId i range) found fits called o inside = let within = fits.0 in other_below t.ids.words (call_index q o) (id_index i) _ (λ e. omega (arith, e, within)) (called o inside)
   step_called (code.StoreCall x id) found fits called o inside = dite (ℕ_discrete o x)
-      (λ same. subst (λ y. IsBelow (get_or (slice_set t.ids.words (call_word q x) (id_of id)) (call_word q y) 0)) (sym same) (same_below t.ids.words (call_word q x) (id_of id) (own_below id)))
-      (λ differ. other_below t.ids.words (call_word q o) (call_word q x) (id_of id) (λ e. differ (omega (arith, e))) (called o inside))
+      (λ same. subst (λ y. IsBelow (get_or (slice_set t.ids.words (call_index q x) (id_of id)) (call_index q y) 0)) (sym same) (same_below t.ids.words (call_index q x) (id_of id) (own_below id)))
+      (λ differ. other_below t.ids.words (call_index q o) (call_index q x) (id_of id) (λ e. differ (omega (arith, e))) (called o inside))
   step_called (code.LoadCall x) found fits called o inside = called o inside
-  step_called (code.StoreAt x w) found fits called o inside = other_below t.ids.words (call_word q o) (at_word q x) w.0 (λ e. omega (arith, e)) (called o inside)
+  step_called (code.StoreAt x w) found fits called o inside = other_below t.ids.words (call_index q o) (at_index q x) w.0 (λ e. omega (arith, e)) (called o inside)
   step_called (code.LoadAt x) found fits called o inside = called o inside
   step_called (code.LoadIdWord i) found fits called o inside = called o inside
-  step_called (code.LockId i from) found fits called o inside = let within = fits.0 in other_below t.ids.words (call_word q o) (id_word i) _ (λ e. omega (arith, e, within)) (called o inside)
-  step_called (code.PostId i from e) found fits called o inside = let within = fits.0 in other_below t.ids.words (call_word q o) (id_word i) _ (λ e. omega (arith, e, within)) (called o inside)
-  step_called (code.UnlockId i from advance) found fits called o inside = let within = fits.0 in other_below t.ids.words (call_word q o) (id_word i) _ (λ e. omega (arith, e, within)) (called o inside)
-  step_called (code.EndId i) found fits called o inside = let within = fits.0 in other_below t.ids.words (call_word q o) (id_word i) _ (λ e. omega (arith, e, within)) (called o inside)
-  step_called (code.FreeId i) found fits called o inside = let within = fits.0 in other_below t.ids.words (call_word q o) (tag_word i) 0 (λ e. omega (arith, e, within)) (called o inside)
+  step_called (code.LockId i from) found fits called o inside = let within = fits.0 in other_below t.ids.words (call_index q o) (id_index i) _ (λ e. omega (arith, e, within)) (called o inside)
+  step_called (code.PostId i from e) found fits called o inside = let within = fits.0 in other_below t.ids.words (call_index q o) (id_index i) _ (λ e. omega (arith, e, within)) (called o inside)
+  step_called (code.UnlockId i from advance) found fits called o inside = let within = fits.0 in other_below t.ids.words (call_index q o) (id_index i) _ (λ e. omega (arith, e, within)) (called o inside)
+  step_called (code.EndId i) found fits called o inside = let within = fits.0 in other_below t.ids.words (call_index q o) (id_index i) _ (λ e. omega (arith, e, within)) (called o inside)
+  step_called (code.FreeId i) found fits called o inside = let within = fits.0 in other_below t.ids.words (call_index q o) (tag_index i) 0 (λ e. omega (arith, e, within)) (called o inside)
   step_called (code.TakeCall i) found fits called o inside = called o inside
   step_called (code.TakeBytes k room) found fits called o inside = given_called k found a called o inside
 

@@ -10,7 +10,7 @@ use Rattle.sock_words.specs.declared.plain.Plan.{Plan}
 use Rattle.sock_io.specs.Link.{OutState}
 use Rattle.sock_model.specs.declared.home.Home.{Home}
 use Rattle.sock_model.specs.declared.home.Home.TheVariants.{Link}
-use Rattle.sock_programs.specs.Cores.{lies_at, link_place}
+use Rattle.seat_programs.specs.Cores.{lies_at, link_place}
 use Rattle.sock_core.specs.declared.letter.Letter.{Letter}
 use Rattle.sock_core.specs.Links.{LinksData, Taken, holder_of, is_done, link_with, homes_of, hand_of}
 use Rattle.sock_core.proofs.Hands.{HasNone, HasOnly, IsKept, lies_home, is_away, hand_none, hand_only, home_at, homes_set, kept_home, others_hand, has_only, has_none, homes_kept}

@@ -4,7 +4,7 @@ use Rattle.std.specs.Prelude.{IfOk, OnOk, OnErr}
 use Rattle.atomic_table.proofs.Lists.{set_else}
 use lib.ListN.{get_elem?}
 use Rattle.client_seats.specs.Seats.{SeatData}
-use Rattle.seat_points.specs.declared.point.Step.{Step}
+use Rattle.seat_states.specs.declared.point.Step.{Step}
 use Rattle.reader_points.specs.declared.point.ReadStep.{ReadStep}
 use Rattle.sock_core.specs.declared.machine.Tick.{Tick}
 use Rattle.sock_core.specs.declared.machine.Tick.TheVariants.{Idle}

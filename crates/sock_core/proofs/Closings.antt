@@ -8,25 +8,25 @@ use native.Mathlib.Decide.{ℕ_discrete, dec_lt}
 use mathlib.Core.Option as core
 use lib.ListN.{get_elem?}
 use Rattle.atomic_table.proofs.Lists.{at_set, set_here, set_else}
-use Rattle.chain_laws.proofs.Lists.{at_some}
+use Rattle.chain_steps.proofs.Lists.{at_some}
 use Rattle.sock_words.specs.declared.plain.Plan.{Plan}
 use Rattle.sock_io.specs.Link.{OutState, InState}
 use Rattle.sock_model.specs.declared.home.Home.{Home}
 use Rattle.sock_model.specs.declared.home.Home.TheVariants.{Link}
 use Rattle.sock_runs.proofs.Along.{place_inside}
-use Rattle.sock_programs.specs.Asides as asides
-use Rattle.sock_programs.specs.Asides.{Taking, Closed}
-use Rattle.sock_programs.specs.Calls as calls
-use Rattle.sock_programs.specs.Programs.{Program}
-use Rattle.sock_programs.specs.Cores.{Core, SeatState, link_place}
-use Rattle.sock_programs.specs.Ticks.{Answer, Unasked, OfPut, OfReady, Moment, taken}
-use Rattle.sock_programs.specs.Runs.{from_to}
+use Rattle.seat_programs.specs.Asides as asides
+use Rattle.seat_programs.specs.Asides.{Taking, Closed}
+use Rattle.seat_programs.specs.Calls as calls
+use Rattle.seat_programs.specs.Programs.{Program}
+use Rattle.seat_programs.specs.Cores.{Core, SeatState, link_place}
+use Rattle.seat_programs.specs.Ticks.{Answer, Unasked, OfPut, OfReady, Moment, taken}
+use Rattle.seat_programs.specs.Runs.{from_to}
 use Rattle.id_runs.specs.Goes.{first_of}
-use Rattle.whole_runs.specs.Offered.{HasTaken}
-use Rattle.whole_runs.specs.owed_calls.specs.Lives.{InHand, IsFinished, ClosesAt, ClosesInTime}
-use Rattle.seat_points.specs.declared.point.Step.{Step}
-use Rattle.seat_points.specs.Steps.{First, OfCall, OfAside, OfMessage, OfLink, OfHome}
-use Rattle.seat_points.specs.Steps as kinds
+use Rattle.run_theorems.specs.Offered.{HasTaken}
+use Rattle.run_theorems.specs.owed_calls.specs.Lives.{InHand, IsFinished, ClosesAt, ClosesInTime}
+use Rattle.seat_states.specs.declared.point.Step.{Step}
+use Rattle.seat_states.specs.Steps.{First, OfCall, OfAside, OfMessage, OfLink, OfHome}
+use Rattle.seat_states.specs.Steps as kinds
 use Rattle.reader_seats.specs.Readers.{ReaderData, reader_program}
 use Rattle.client_seats.specs.Seats.{SeatData, seat_program}
 use Rattle.sock_core.specs.Links.{LinksData, Taken, Given, ClosedAreDone, TellClosing, holder_of, is_done, link_with, in_hand}

@@ -6,7 +6,7 @@ use Rattle.std.proofs.Math.Logic.{∥∥₁_elim}
 use Rattle.std.proofs.Math.ListN.{length-set}
 use Rattle.std.proofs.lemmas.Bool.{true≢false}
 use Rattle.atomic_table.proofs.Lists.{at_set, set_here}
-use Rattle.chain_laws.proofs.Lists.{at_some}
+use Rattle.chain_steps.proofs.Lists.{at_some}
 use mathlib.Core.Option as core
 use lib.ListN.{get_elem?}
 use Rattle.sock_words.specs.Words.{socket_id_version, socket_id_slot, vref_version, vref_nref}
@@ -15,14 +15,14 @@ use Rattle.sock_words.specs.declared.outcome.Outcome.{Outcome}
 use Rattle.sock_words.specs.declared.plain.Plan.{Plan}
 use Rattle.corr_core.specs.declared.marks.Plan.{Plan as IdPlan}
 use Rattle.sock_model.specs.declared.home.Home.{Home}
-use Rattle.sock_programs.specs.declared.task.Sizes.{Sizes}
-use Rattle.sock_programs.specs.Heads.{Retry}
-use Rattle.sock_programs.specs.Programs.{Program, Do, Say, Sent, Rest, Retries, LAST_VERSION, NO_SOCKET, recycle, release, address, set_failed, end_open}
-use Rattle.sock_programs.specs.Clients.{ending_of}
-use Rattle.sock_programs.specs.Cores.{Core, SeatState, resolved, said, next_step, with_seat}
-use Rattle.sock_programs.specs.Ticks.{Answer, waits_at, waits}
-use Rattle.sock_programs.specs.Runs.{IsAtRest}
-use Rattle.sock_programs.specs.Scripts.{is_ending}
+use Rattle.seat_programs.specs.declared.task.Sizes.{Sizes}
+use Rattle.seat_programs.specs.Heads.{Retry}
+use Rattle.seat_programs.specs.Programs.{Program, Do, Say, Sent, Rest, Retries, LAST_VERSION, NO_SOCKET, recycle, release, address, set_failed, end_open}
+use Rattle.seat_programs.specs.Clients.{ending_of}
+use Rattle.seat_programs.specs.Cores.{Core, SeatState, resolved, said, next_step, with_seat}
+use Rattle.seat_programs.specs.Ticks.{Answer, waits_at, waits}
+use Rattle.seat_programs.specs.Runs.{IsAtRest}
+use Rattle.seat_programs.specs.Scripts.{is_ending}
 use Rattle.sock_runs.specs.GoesOn.{GoesOn}
 use Rattle.sock_runs.specs.Lasts.{Lasts}
 use Rattle.sock_runs.specs.Sound.{Sound, IsAhead}
@@ -31,8 +31,8 @@ use Rattle.sock_runs.proofs.Along.{place_inside, seat_ahead, seat_rests}
 use Rattle.sock_runs.proofs.Held.{held_in_hand}
 use Rattle.id_runs.specs.Goes.{SoundIds}
 use Rattle.id_runs.proofs.Opening.{ending_ids, told_ids}
-use Rattle.whole_runs.specs.client_laws.proofs.Opens.{ending_resolved, ending_sound, told_sound}
-use Rattle.whole_runs.specs.client_laws.proofs.Lasting.{ending_lasts, told_lasts}
+use Rattle.run_theorems.specs.programs_allowed.proofs.Opens.{ending_resolved, ending_sound, told_sound}
+use Rattle.run_theorems.specs.programs_allowed.proofs.Lasting.{ending_lasts, told_lasts}
 use Rattle.call_slots.specs.Slots.{SlotState, calls_with}
 use Rattle.reader_seats.specs.Readers.{ReaderData}
 use Rattle.client_seats.specs.Seats.{SeatData, seat_program}

@@ -3,7 +3,7 @@ use Rattle.std.proofs.Common.{◌≡◌, refl, ℕ, ◌+◌, ◌<◌, ◌≤◌,
 use Rattle.std.proofs.Props.{props}
 use Rattle.std.proofs.Math.Logic.{∥∥₁_elim}
 use Rattle.atomic_table.proofs.Lists.{at_map, at_longer}
-use Rattle.chain_laws.proofs.Lists.{at_some}
+use Rattle.chain_steps.proofs.Lists.{at_some}
 use mathlib.Core.Logic.{dite}
 use native.Mathlib.Decide.{ℕ_discrete}
 use mathlib.Core.Option as core
@@ -11,16 +11,16 @@ use lib.ListN.{get_elem?}
 use Rattle.sock_words.specs.declared.plain.Plan.{Plan}
 use Rattle.sock_message.specs.Asked.{Asked}
 use Rattle.sock_io.specs.Link.{OutState}
-use Rattle.sock_programs.specs.Calls as calls
-use Rattle.sock_programs.specs.Asides as asides
-use Rattle.sock_programs.specs.Asides.{id_slot, id_first}
-use Rattle.sock_programs.specs.Beside.{found_in, call_at}
-use Rattle.sock_programs.specs.Writings as heads
-use Rattle.sock_programs.specs.Programs.{Program, PutBytes, Write}
-use Rattle.sock_programs.specs.Cores.{word_of, found_at}
-use Rattle.sock_programs.specs.declared.task.Sizes.{Sizes}
+use Rattle.seat_programs.specs.Calls as calls
+use Rattle.seat_programs.specs.Asides as asides
+use Rattle.seat_programs.specs.Asides.{id_slot, id_first}
+use Rattle.seat_programs.specs.Beside.{found_in, call_at}
+use Rattle.seat_programs.specs.Writings as heads
+use Rattle.seat_programs.specs.Programs.{Program, PutBytes, Write}
+use Rattle.seat_programs.specs.Cores.{word_of, found_at}
+use Rattle.seat_programs.specs.declared.task.Sizes.{Sizes}
 use Rattle.sock_runs.specs.Sound.{AllowsWord}
-use Rattle.id_rule.specs.Lawful.{call_word}
+use Rattle.id_rule.specs.Lawful.{call_index}
 use Rattle.id_runs.specs.Held.{IdView}
 use Rattle.id_runs.specs.Goes.{FitsSock, IdGoesOn}
 use Rattle.id_runs.proofs.Steps.{call_there}
@@ -30,12 +30,12 @@ use Rattle.call_points.specs.Steps as aside_steps
 use Rattle.call_slots.specs.Steps as slots
 use Rattle.call_slots.specs.Steps.{word_found}
 use Rattle.call_slots.proofs.Fitting.{IsOnWord, fits_prop, may_fits}
-use Rattle.seat_points.specs.declared.point.Step.{Step}
-use Rattle.seat_points.specs.declared.point.Step.TheVariants as firsts
-use Rattle.seat_points.specs.Points.{Around, MayFindId}
-use Rattle.seat_points.specs.Steps.{First, OfCall, OfAside, OfMessage, OfLink, OfHome, step_of, step_as, first_in}
-use Rattle.seat_points.specs.Steps as kinds
-use Rattle.seat_points.proofs.StepFacts.{FitsSizes, may_find, is_within}
+use Rattle.seat_states.specs.declared.point.Step.{Step}
+use Rattle.seat_states.specs.declared.point.Step.TheVariants as firsts
+use Rattle.seat_states.specs.Points.{Around, MayFindId}
+use Rattle.seat_states.specs.Steps.{First, OfCall, OfAside, OfMessage, OfLink, OfHome, step_of, step_as, first_in}
+use Rattle.seat_states.specs.Steps as kinds
+use Rattle.seat_states.proofs.StepFacts.{FitsSizes, may_find, is_within}
 use Rattle.client_seats.specs.Seats.{SeatData, around, seat_program, asked_of}
 use Rattle.reader_points.specs.declared.point.ReadStep.{ReadStep}
 use Rattle.reader_points.specs.declared.point.ReadStep.TheVariants as steps
@@ -57,7 +57,7 @@ use Rattle.sock_core.proofs.Ticked.{MayCall, MayMake}
 -- ## Facts that have one proof at most
 
 word_prop : (call : calls.Call) (found : ℕ) → IsProp (AllowsWord call found)
-word_prop (calls.GiveBirth i k) found = hlevel props
+word_prop (calls.CreateLife i k) found = hlevel props
 word_prop (calls.AddRef id) found = hlevel props
 word_prop (calls.SubRef i) found = hlevel props
 word_prop (calls.Recycle i from) found = hlevel props
@@ -204,7 +204,7 @@ module _ (m : MachineState) (sized : IsSized (table_of m)) (few_slots : m.ids.pl
         by_step (code.FreeId k) next = fits (code.FreeId k) tt next
 
     -- a call's word names an id
-    call_found : (o word : ℕ) → first_in program ≡ Some (OfAside (asides.LoadCall o)) → get_or m.ids.words (call_word m.ids.plan o) 0 ≡ word → MayFindId word
+    call_found : (o word : ℕ) → first_in program ≡ Some (OfAside (asides.LoadCall o)) → get_or m.ids.words (call_index m.ids.plan o) 0 ≡ word → MayFindId word
     call_found o word next is = (
       dite (ℕ_discrete word 0)
           (λ none_. let z : id_slot word ≡ 0 = ap id_slot none_ in omega (arith, z))

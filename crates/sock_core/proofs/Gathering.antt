@@ -3,8 +3,8 @@ use Rattle.std.proofs.Common.{◌≡◌, refl, ℕ, zero, suc, ◌+◌, List, []
 use Rattle.sock_words.specs.declared.outcome.Outcome.{Outcome}
 use Rattle.sock_words.specs.declared.plain.Plan.{Plan}
 use Rattle.sock_words.specs.declared.place_word.PlaceWord.{PlaceWord}
-use Rattle.sock_model.specs.Layout.{place_word}
-use Rattle.sock_programs.specs.Runs.{from_to}
+use Rattle.sock_model.specs.Layout.{place_index}
+use Rattle.seat_programs.specs.Runs.{from_to}
 use Rattle.sock_core.specs.Finish.{told_at, told_from}
 
 assoc : {A : Type 0} (xs ys zs : List A) → (xs ++ ys) ++ zs ≡ xs ++ (ys ++ zs)
@@ -33,9 +33,9 @@ map_one_more f a (suc n) =
 
 -- the place word of this number
 abbrev pub word_of_place : Plan → List ℕ → ℕ → PlaceWord
-word_of_place p words k = record { 0 = slice_index words (place_word p k) }
+word_of_place p words k = record { 0 = slice_index words (place_index p k) }
 
-pub places_last : (p : Plan) (words : List ℕ) (n : ℕ) (ws : List PlaceWord) (w : PlaceWord) → ws ≡ map (word_of_place p words) (from_to 0 n) → w.0 ≡ slice_index words (place_word p n) →
+pub places_last : (p : Plan) (words : List ℕ) (n : ℕ) (ws : List PlaceWord) (w : PlaceWord) → ws ≡ map (word_of_place p words) (from_to 0 n) → w.0 ≡ slice_index words (place_index p n) →
     ws ++ w ∷ [] ≡ map (word_of_place p words) (from_to 0 (n + 1))
 places_last p words n ws w are is =
     let e : n ≡ 0 + n = omega arith in

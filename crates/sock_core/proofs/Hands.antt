@@ -7,8 +7,8 @@ use mathlib.Core.Option as core
 use lib.ListN.{get_elem?}
 use Rattle.sock_words.specs.declared.plain.Plan.{Plan}
 use Rattle.sock_model.specs.declared.home.Home.{Home}
-use Rattle.sock_programs.specs.Cores.{link_place}
-use Rattle.sock_programs.specs.Runs.{from_to}
+use Rattle.seat_programs.specs.Cores.{link_place}
+use Rattle.seat_programs.specs.Runs.{from_to}
 use Rattle.std.proofs.Math.ListN.{length-map}
 use Rattle.sock_core.specs.declared.letter.Letter.{Letter}
 use Rattle.sock_core.specs.Links.{LinksData, Taken, holder_of, link_with, link_home, homes_of, in_hand, hand_of, letter_home}

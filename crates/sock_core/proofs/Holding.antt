@@ -8,7 +8,7 @@ use mathlib.Core.List.{cons-ne-nil}
 use Rattle.sock_model.specs.declared.home.Home.{Home}
 use Rattle.sock_model.specs.declared.home.Home.TheVariants.{Link}
 use Rattle.sock_model.specs.declared.view.Hand.{Hand}
-use Rattle.sock_programs.specs.Runs.{from_to}
+use Rattle.seat_programs.specs.Runs.{from_to}
 use Rattle.sock_runs.specs.Sound.{AreInHand}
 use Rattle.sock_core.specs.Links.{LinksData, Taken, holder_of, link_with, in_hand, hand_of}
 use Rattle.sock_core.proofs.FirstSteps.{same_some}

@@ -13,20 +13,20 @@ use Rattle.sock_words.specs.declared.kind.Kind.{Kind}
 use Rattle.sock_words.specs.declared.plain.Plan.{Plan}
 use Rattle.brpc_model.specs.Link.{LinkEnd, HalfAnswer, TakeAnswer}
 use Rattle.sock_io.specs.Link.{OutState, more_told}
-use Rattle.whole_runs.specs.Answers.{said_at}
-use Rattle.whole_runs.specs.Heard.{as_told, as_taken, answer_of, take_answers, taken_link, heard_at, heard_in, taken_at, taken_in}
-use Rattle.whole_runs.proofs.HeardRuns.{told_append, taken_append, heard_on, taken_on}
+use Rattle.run_theorems.specs.Answers.{said_at}
+use Rattle.run_theorems.specs.Heard.{as_told, as_taken, answer_of, take_answers, taken_link, heard_at, heard_in, taken_at, taken_in}
+use Rattle.run_theorems.proofs.HeardRuns.{told_append, taken_append, heard_on, taken_on}
 use Rattle.id_runs.specs.Goes.{first_of}
-use Rattle.whole_runs.specs.owed_calls.specs.Lives.{ClosesAt, ClosesInTime}
-use Rattle.whole_runs.specs.Offered.{OffersAt, AreOffered}
-use Rattle.sock_programs.specs.Asides.{TakeBytes, Taking, Bytes, Nothing, NoMore, AtEnd, Closed, Broken}
-use Rattle.sock_programs.specs.Programs.{Program, Aside, Say, Sent, Rest, Keep, Retries}
-use Rattle.sock_programs.specs.Cores.{Core, SeatState}
-use Rattle.sock_programs.specs.Ticks.{Answer, Unasked, Moment, quiet, seats_of, taken, tick_with, ticked, run, IsAnswer, IsAnswered, AreAnswered, IsPrompt, asked_link, broken_at, broken_in}
-use Rattle.sock_programs.specs.Runs.{kind_in, IsAtRest}
+use Rattle.run_theorems.specs.owed_calls.specs.Lives.{ClosesAt, ClosesInTime}
+use Rattle.run_theorems.specs.Offered.{OffersAt, AreOffered}
+use Rattle.seat_programs.specs.Asides.{TakeBytes, Taking, Bytes, Nothing, NoMore, AtEnd, Closed, Broken}
+use Rattle.seat_programs.specs.Programs.{Program, Aside, Say, Sent, Rest, Keep, Retries}
+use Rattle.seat_programs.specs.Cores.{Core, SeatState}
+use Rattle.seat_programs.specs.Ticks.{Answer, Unasked, Moment, quiet, seats_of, taken, tick_with, ticked, run, IsAnswer, IsAnswered, AreAnswered, IsAlwaysReady, asked_link, broken_at, broken_in}
+use Rattle.seat_programs.specs.Runs.{kind_in, IsAtRest}
 use Rattle.sock_core.specs.declared.machine.Tick.{Tick}
 use Rattle.sock_core.specs.Links.{LinksData, Taken, Given, Agrees, AgreesGave}
-use Rattle.sock_programs.specs.declared.task.Sizes.{Sizes}
+use Rattle.seat_programs.specs.declared.task.Sizes.{Sizes}
 use Rattle.client_seats.specs.Seats.{SeatData, seat_program}
 use Rattle.reader_seats.specs.Readers.{ReaderData, reader_program}
 use Rattle.sock_core.specs.Machines.{MachineState, READERS, machine_sizes, between, resting, clients_with, readers_with, seats_with, core_with}
@@ -66,13 +66,13 @@ stood_before : (old new : List LinkEnd) (k : ℕ) (e : LinkEnd) → length new �
 stood_before old new k e many at = let inside = slice_get_within new k e at in (get_or old k e, slice_get-get_or old k e (omega (arith, many, inside)))
 
 pub same_links_none : (m : MachineState) → SameLinks m m
-same_links_none m = record { as_many = refl; each = λ k x y at also. subst (SameLink x) (same_Some x y (sym at ∙ also)) (same_link_none x); prompt = λ h. h; tell = λ h. h }
+same_links_none m = record { as_many = refl; each = λ k x y at also. subst (SameLink x) (same_Some x y (sym at ∙ also)) (same_link_none x); always_ready = λ h. h; tell = λ h. h }
 
 pub same_links_join : (a b c : MachineState) → SameLinks a b → SameLinks b c → SameLinks a c
 same_links_join a b c h o = record {
   as_many = o.as_many ∙ h.as_many;
   each = λ k x z at also. let y = stood_before b.ends c.ends k z o.as_many also in same_link_join x y.0 z (h.each k x y.0 at y.1) (o.each k y.0 z y.1 also);
-  prompt = λ prompt. o.prompt (h.prompt prompt);
+  always_ready = λ always_ready. o.always_ready (h.always_ready always_ready);
   tell = λ tell. o.tell (h.tell tell);
 }
 
@@ -204,7 +204,7 @@ pub seats_append : (xs ys : List Moment) → seats_of (xs ++ ys) ≡ seats_of xs
 seats_append [] ys = refl
 seats_append (m ∷ ms) ys = ap (λ (is : List ℕ). m.seat ∷ is) (seats_append ms ys)
 
-pub prompt_append : (xs ys : List Moment) → AllByRecursion IsPrompt xs → AllByRecursion IsPrompt ys → AllByRecursion IsPrompt (xs ++ ys)
+pub prompt_append : (xs ys : List Moment) → AllByRecursion IsAlwaysReady xs → AllByRecursion IsAlwaysReady ys → AllByRecursion IsAlwaysReady (xs ++ ys)
 prompt_append [] ys first second = second
 prompt_append (m ∷ ms) ys first second = (first.0, prompt_append ms ys first.1 second)
 
@@ -250,7 +250,7 @@ module _ (p : Plan) where
 pub follows_none : (m : MachineState) (took : Taken) (gave : Given) → Agrees m.links took → AgreesGave m.links gave → Follows m m took gave []
 follows_none m took gave agrees agrees_gave = record {
   answered = tt;
-  prompt = λ h. tt;
+  always_ready = λ h. tt;
   closes = λ h. tt;
   offers = λ k serve end h. (tt, h);
   later = took;
@@ -275,7 +275,7 @@ module _ (a b c : MachineState) (took : Taken) (gave : Given) (xs ys : List Mome
   pub follows_join : Follows a c took gave (xs ++ ys)
   follows_join = record {
     answered = answered_append a.plan start xs ys f.answered (moved (λ p d. AreAnswered p d ys) g.answered);
-    prompt = λ prompt. prompt_append xs ys (f.prompt prompt) (g.prompt (links.prompt prompt));
+    always_ready = λ always_ready. prompt_append xs ys (f.always_ready always_ready) (g.always_ready (links.always_ready always_ready));
     closes = λ tell. closes_append a.plan start xs ys (f.closes tell) (moved (λ p d. ClosesInTime p d ys) (g.closes (links.tell tell)));
     offers = λ k serve end h. let x = f.offers k serve end h in let y = g.offers k serve end x.1 in (offers_append a.plan k serve end start xs ys x.0 (moved (λ p d. AreOffered p k serve end d ys) y.0), y.1);
     later = g.later;
@@ -411,7 +411,7 @@ pub seats_quiet : (n i : ℕ) → seats_of (replicate n (quiet i)) ≡ replicate
 seats_quiet zero i = refl
 seats_quiet (suc n) i = ap (λ (is : List ℕ). i ∷ is) (seats_quiet n i)
 
-pub quiet_prompt : (n i : ℕ) → AllByRecursion IsPrompt (replicate n (quiet i))
+pub quiet_prompt : (n i : ℕ) → AllByRecursion IsAlwaysReady (replicate n (quiet i))
 quiet_prompt zero i = tt
 quiet_prompt (suc n) i = (λ e. absurd (cc), quiet_prompt n i)
 
@@ -422,7 +422,7 @@ quiet_broken p c (suc n) i = quiet_broken p (ticked p c (quiet i)) n i
 follows_rest : (m : MachineState) (took : Taken) (gave : Given) (i n : ℕ) → Agrees m.links took → AgreesGave m.links gave → IsAtRest (core_with m took gave) i → Follows m m took gave (replicate n (quiet i))
 follows_rest m took gave i n agrees agrees_gave rest = record {
   answered = rests_answered m.plan (core_with m took gave) i rest n;
-  prompt = λ h. quiet_prompt n i;
+  always_ready = λ h. quiet_prompt n i;
   closes = λ h. quiet_closes m.plan (core_with m took gave) n i;
   offers = λ k serve end h. (quiet_offers m.plan k serve end (core_with m took gave) n i, h);
   later = took;

@@ -13,15 +13,15 @@ use Rattle.sock_io.specs.declared.link.Ready.{Ready}
 use Rattle.sock_io.specs.declared.link.Ready.TheVariants as asks
 use Rattle.sock_io.specs.Link.{OutState}
 use Rattle.sock_model.specs.declared.view.View.{View}
-use Rattle.sock_programs.specs.declared.task.Sizes.{Sizes}
-use Rattle.sock_programs.specs.Clients.{HeldLife}
-use Rattle.sock_programs.specs.Heads.{Retry}
-use Rattle.sock_programs.specs.Calls as calls
-use Rattle.sock_programs.specs.Writings as heads
-use Rattle.sock_programs.specs.Programs.{Program, Do, Say, Sent, Rest, TakeMessage, TakeHome, PutHome, PutBytes, AskReady, Write, Aside, Round, Keep, Retries}
-use Rattle.sock_programs.specs.Cores.{Core, SeatState, word_of, found_at, next_step, resolved}
-use Rattle.sock_programs.specs.Ticks.{Answer, Unasked, OfPut, OfReady, OfTake, Moment, ticked, waits}
-use Rattle.sock_programs.specs.Runs.{IsAtRest}
+use Rattle.seat_programs.specs.declared.task.Sizes.{Sizes}
+use Rattle.seat_programs.specs.Clients.{HeldLife}
+use Rattle.seat_programs.specs.Heads.{Retry}
+use Rattle.seat_programs.specs.Calls as calls
+use Rattle.seat_programs.specs.Writings as heads
+use Rattle.seat_programs.specs.Programs.{Program, Do, Say, Sent, Rest, TakeMessage, TakeHome, PutHome, PutBytes, AskReady, Write, Aside, Round, Keep, Retries}
+use Rattle.seat_programs.specs.Cores.{Core, SeatState, word_of, found_at, next_step, resolved}
+use Rattle.seat_programs.specs.Ticks.{Answer, Unasked, OfPut, OfReady, OfTake, Moment, ticked, waits}
+use Rattle.seat_programs.specs.Runs.{IsAtRest}
 use Rattle.sock_runs.specs.GoesOn.{GoesOn}
 use Rattle.sock_runs.specs.Lasts.{Lasts}
 use Rattle.sock_runs.specs.Sound.{Sound, AreFew, HasLink, IsAhead, views_after}
@@ -31,20 +31,20 @@ use Rattle.sock_runs.proofs.LinkTicks.{link_asked_there}
 use Rattle.sock_runs.proofs.Few.{few_lasts}
 use Rattle.sock_runs.proofs.Waiting.{waits_still}
 use Rattle.sock_runs.proofs.HeadMoves.{calls_last}
-use Rattle.whole_runs.specs.client_laws.proofs.Retrying.{retries_go}
+use Rattle.run_theorems.specs.programs_allowed.proofs.Retrying.{retries_go}
 use Rattle.id_runs.specs.Held.{IdView}
 use Rattle.id_runs.specs.Goes.{SoundIds}
-use Rattle.whole_runs.specs.joint_runs.proofs.Both.{BothSound, FitsBoth, fits_both, joint_ticks}
+use Rattle.run_theorems.specs.joint_runs.proofs.Both.{BothSound, FitsBoth, fits_both, joint_ticks}
 use Rattle.call_points.specs.Steps.{after_word}
-use Rattle.seat_points.specs.Points.{Around, after_put, after_ready}
-use Rattle.seat_points.specs.Steps.{First, OfCall, OfAside, OfMessage, OfLink, OfHome, step_as, first_in}
-use Rattle.seat_points.specs.Steps as kinds
-use Rattle.seat_points.proofs.StepFacts as facts
+use Rattle.seat_states.specs.Points.{Around, after_put, after_ready}
+use Rattle.seat_states.specs.Steps.{First, OfCall, OfAside, OfMessage, OfLink, OfHome, step_as, first_in}
+use Rattle.seat_states.specs.Steps as kinds
+use Rattle.seat_states.proofs.StepFacts as facts
 use Rattle.client_seats.specs.Seats.{SeatData, around, seat_program}
 use Rattle.sock_core.specs.Links.{LinksData, Taken, Given, Agrees, AgreesGave, IsPaced, holder_of}
 use Rattle.sock_core.specs.Machines.{MachineState, IsSoundMachine, ArePaced, MOST_LEFT, table_of, machine_sizes, state_of, core_with}
 use Rattle.sock_core.specs.Steps.{IsSized, OutsAfter, SameBase, Goes, MadeFirst}
-use Rattle.seat_points.specs.declared.point.Step.{Step}
+use Rattle.seat_states.specs.declared.point.Step.{Step}
 use Rattle.sock_core.proofs.FirstSteps.{same_some}
 use Rattle.sock_core.proofs.Holding.{only_of}
 use Rattle.sock_core.proofs.Paces.{calm_paced, IsCalm, goes_calm, ends_calm, behind_word, behind_aside, behind_message, behind_link, behind_home, behind_put, behind_ready}
@@ -281,7 +281,7 @@ module _ (old fresh : MachineState) (i : ℕ) (answer : Answer) (plan : fresh.pl
 
   pub step_keeps : (IsAtRest c i → ⊥) → (answer ≡ OfReady asks.NotYet → waits old.plan c moment ≡ true) → Keeps old fresh s moment
   step_keeps rests_not yet_waits = ⊎_elim
-      (λ prompt. ⊎_elim (λ t. ⊎_elim (λ rest. absurd (rests_not rest)) still t) (λ t. moved t.0 t.1 t.2)
-      (calls_last old.plan (retries_go old.plan s.sound.limits.requests) c s.views moment s.left s.sound tick.answered prompt fits.fitting fits.counted few_seats s.lasts))
+      (λ always_ready. ⊎_elim (λ t. ⊎_elim (λ rest. absurd (rests_not rest)) still t) (λ t. moved t.0 t.1 t.2)
+      (calls_last old.plan (retries_go old.plan s.sound.limits.requests) c s.views moment s.left s.sound tick.answered always_ready fits.fitting fits.counted few_seats s.lasts))
       (λ yet. still (yet_waits yet))
       (prompt_or answer)

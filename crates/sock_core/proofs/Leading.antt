@@ -10,11 +10,11 @@ use Rattle.sock_words.specs.declared.kind.Kind.{Kind}
 use Rattle.sock_words.specs.KindText.{kind_text}
 use Rattle.sock_words.proofs.KindNames.{found_by_name}
 use Rattle.sock_words.specs.declared.plain.Plan.{Plan}
-use Rattle.sock_programs.specs.Programs.{Program, Write, Round}
-use Rattle.sock_programs.specs.Rounds.{kind_of_round}
-use Rattle.sock_programs.specs.Cores.{Core, SeatState}
-use Rattle.sock_programs.specs.Ticks.{Answer, Moment, ticked, run, waits_at, waits}
-use Rattle.sock_programs.specs.Runs.{head_kind, kind_in, next_kind, IsAtRest, LeadsUpTo}
+use Rattle.seat_programs.specs.Programs.{Program, Write, Round}
+use Rattle.seat_programs.specs.Rounds.{kind_of_round}
+use Rattle.seat_programs.specs.Cores.{Core, SeatState}
+use Rattle.seat_programs.specs.Ticks.{Answer, Moment, ticked, run, waits_at, waits}
+use Rattle.seat_programs.specs.Runs.{head_kind, kind_in, next_kind, IsAtRest, LeadsUpTo}
 use Rattle.sock_core.specs.declared.machine.On.{On}
 use Rattle.sock_core.specs.declared.machine.Tick.TheVariants as ticks
 use Rattle.sock_core.specs.Links.{Taken, Given}

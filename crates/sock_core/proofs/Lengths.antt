@@ -6,14 +6,14 @@ use Rattle.corr_core.specs.declared.marks.Plan as marks
 use Rattle.sock_words.specs.declared.outcome.Outcome.{Outcome}
 use Rattle.sock_words.specs.declared.plain.Plan.{Plan}
 use Rattle.sock_io.specs.Link.{OutState}
-use Rattle.sock_programs.specs.Calls as calls
-use Rattle.sock_programs.specs.Programs.{Program, Say, Sent}
-use Rattle.sock_programs.specs.Cores.{resolved, said}
-use Rattle.sock_programs.specs.Ticks.{Answer}
-use Rattle.seat_points.specs.declared.point.Step.{Step}
-use Rattle.seat_points.specs.declared.point.Step.TheVariants as firsts
-use Rattle.seat_points.specs.Steps.{First, OfCall, OfAside, OfMessage, OfLink, OfHome}
-use Rattle.seat_points.specs.Steps as kinds
+use Rattle.seat_programs.specs.Calls as calls
+use Rattle.seat_programs.specs.Programs.{Program, Say, Sent}
+use Rattle.seat_programs.specs.Cores.{resolved, said}
+use Rattle.seat_programs.specs.Ticks.{Answer}
+use Rattle.seat_states.specs.declared.point.Step.{Step}
+use Rattle.seat_states.specs.declared.point.Step.TheVariants as firsts
+use Rattle.seat_states.specs.Steps.{First, OfCall, OfAside, OfMessage, OfLink, OfHome}
+use Rattle.seat_states.specs.Steps as kinds
 use Rattle.client_seats.specs.Seats.{SeatData}
 use Rattle.reader_seats.specs.Readers.{ReaderData}
 use Rattle.sock_core.specs.declared.letter.Letter.{Letter}

@@ -11,24 +11,24 @@ use Rattle.brpc_model.specs.Script.{script_of}
 use Rattle.brpc_model.specs.Operations.{clients, link_names}
 use Rattle.corr_core.specs.declared.marks.Plan.{Plan as IdPlan}
 use Rattle.sock_io.specs.Link.{OutState, InState}
-use Rattle.sock_programs.specs.declared.task.Op.{Op}
-use Rattle.sock_programs.specs.declared.task.Op.TheVariants as ops
-use Rattle.sock_programs.specs.declared.task.Task.{Task}
-use Rattle.sock_programs.specs.declared.task.Sizes.{Sizes}
-use Rattle.sock_programs.specs.Programs.{Program, Do, Say, Sent, Rest, Retries, open_from}
-use Rattle.sock_programs.specs.Clients.{HeldLife, operation, client_from}
-use Rattle.sock_programs.specs.Cores.{resolved, next_step}
-use Rattle.sock_programs.specs.Ticks.{quiet, run}
-use Rattle.sock_programs.specs.Scripts.{all_tasks, all_programs, beginning, programs, readers_from, opened, set_up, sizes_of}
-use Rattle.sock_programs.specs.Tasks.{calls, opens, plan_of, id_plan_of}
-use Rattle.sock_programs.specs.Told.{AreTasks, IsOpen}
+use Rattle.seat_programs.specs.declared.task.Op.{Op}
+use Rattle.seat_programs.specs.declared.task.Op.TheVariants as ops
+use Rattle.seat_programs.specs.declared.task.Task.{Task}
+use Rattle.seat_programs.specs.declared.task.Sizes.{Sizes}
+use Rattle.seat_programs.specs.Programs.{Program, Do, Say, Sent, Rest, Retries, open_from}
+use Rattle.seat_programs.specs.Clients.{HeldLife, operation, client_from}
+use Rattle.seat_programs.specs.Cores.{resolved, next_step}
+use Rattle.seat_programs.specs.Ticks.{quiet, run}
+use Rattle.seat_programs.specs.Scripts.{all_tasks, all_programs, beginning, programs, readers_from, opened, set_up, sizes_of}
+use Rattle.seat_programs.specs.Tasks.{calls, opens, plan_of, id_plan_of}
+use Rattle.seat_programs.specs.Told.{AreTasks, IsOpen}
 use Rattle.report_fits.proofs.TaskLemmas.{tasks_length}
-use Rattle.whole_runs.proofs.Starts.{made}
-use Rattle.whole_runs.specs.joint_runs.proofs.Starts.{AreFor}
+use Rattle.run_theorems.proofs.Starts.{made}
+use Rattle.run_theorems.specs.joint_runs.proofs.Starts.{AreFor}
 use Rattle.call_slots.specs.Slots.{SlotState}
 use Rattle.reader_seats.specs.Readers.{ReaderData}
 use Rattle.client_seats.specs.Seats.{SeatData, seat_program}
-use Rattle.sock_core.specs.Links.{LinksData, Agrees, AgreesGave, ArePrompt, TellClosing, ClosedAreDone}
+use Rattle.sock_core.specs.Links.{LinksData, Agrees, AgreesGave, AreAlwaysReady, TellClosing, ClosedAreDone}
 use Rattle.sock_core.specs.Machines.{MachineState, core_with}
 use Rattle.sock_core.specs.Runs.{RanFirst}
 use Rattle.sock_core.specs.declared.letter.Letter.{Letter}
@@ -77,8 +77,8 @@ module _ {E : Type 0} (out : E → OutState) (es : List E) (l : LinksData) (outs
   pub nothing_taken : AllByRecursion (λ (e : E). IfSome (out e).took (λ bytes. bytes ≡ [])) es → Agrees l (λ k. [])
   nothing_taken all k o at = all_at (λ (o : OutState). IfSome o.took (λ bytes. bytes ≡ [])) out es all k o (there k o at)
 
-  pub all_prompt : AllByRecursion (λ (e : E). (out e).prompt ≡ true) es → ArePrompt l
-  all_prompt all k o at = all_at (λ (o : OutState). o.prompt ≡ true) out es all k o (there k o at)
+  pub all_prompt : AllByRecursion (λ (e : E). (out e).always_ready ≡ true) es → AreAlwaysReady l
+  all_prompt all k o at = all_at (λ (o : OutState). o.always_ready ≡ true) out es all k o (there k o at)
 
 module _ {E : Type 0} (inn : E → InState) (es : List E) (l : LinksData) (inns : l.inns ≡ map inn es) where
   inn_at : (k : ℕ) (i : InState) → get_elem? l.inns k ≡ core.some i → get_elem? (map inn es) k ≡ core.some i

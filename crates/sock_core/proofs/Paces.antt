@@ -16,22 +16,22 @@ use Rattle.sock_model.specs.Entries.{slot_of, generation_of}
 use Rattle.sock_model.specs.Memory.{IDLE, UNCONNECTED}
 use Rattle.corr_core.specs.Word.{parts, code_of, posted_word, unlocked_word}
 use Rattle.corr_core.specs.Law.{LAST}
-use Rattle.sock_programs.specs.Asides as asides
-use Rattle.sock_programs.specs.Asides.{Step, Found, id_slot, id_first}
-use Rattle.sock_programs.specs.Calls as calls
-use Rattle.sock_programs.specs.Writings as heads
-use Rattle.sock_programs.specs.Programs.{Program, Do, PutBytes, Write, Aside, Round, Keep, NO_SOCKET, LAST_VERSION, LAST_GENERATION, open_from}
-use Rattle.sock_programs.specs.Sends.{block, freed, passed_telling, tell_drop, claim_from}
-use Rattle.sock_programs.specs.Attempts.{claims_from, claim_id, tried_again, retry_locked}
-use Rattle.sock_programs.specs.Posts.{packed, is_first, is_stale, is_full, is_sought, judged, posted, decided, popped, unlocked, decide, locking, ends_call, advance_of}
-use Rattle.sock_programs.specs.Rounds.{round}
-use Rattle.sock_programs.specs.Clients.{HeldLife, operation, give_back, client_from, ending_of, drop_of, held_under, without_name}
-use Rattle.sock_programs.specs.Cores.{resolved, next_step}
-use Rattle.sock_programs.specs.Heads.{Retry, Sought, Unlocks, Posting, WasGone, WasStale, WasCrowded, WasQueued, HasLocked, Unlocking, IsOpen, HasNext, Deciding, GoesOn, Locking, NotThere, Has}
-use Rattle.sock_programs.specs.declared.task.Op.TheVariants as ops
-use Rattle.sock_programs.specs.declared.task.Op.{Op}
-use Rattle.sock_programs.specs.declared.task.Sizes.{Sizes}
-use Rattle.sock_programs.specs.declared.task.Task.{Task}
+use Rattle.seat_programs.specs.Asides as asides
+use Rattle.seat_programs.specs.Asides.{Step, Found, id_slot, id_first}
+use Rattle.seat_programs.specs.Calls as calls
+use Rattle.seat_programs.specs.Writings as heads
+use Rattle.seat_programs.specs.Programs.{Program, Do, PutBytes, Write, Aside, Round, Keep, NO_SOCKET, LAST_VERSION, LAST_GENERATION, open_from}
+use Rattle.seat_programs.specs.Sends.{block, freed, passed_telling, tell_drop, claim_from}
+use Rattle.seat_programs.specs.Attempts.{claims_from, claim_id, tried_again, retry_locked}
+use Rattle.seat_programs.specs.Posts.{packed, is_first, is_stale, is_full, is_sought, judged, posted, decided, popped, unlocked, decide, locking, ends_call, advance_of}
+use Rattle.seat_programs.specs.Rounds.{round}
+use Rattle.seat_programs.specs.Clients.{HeldLife, operation, give_back, client_from, ending_of, drop_of, held_under, without_name}
+use Rattle.seat_programs.specs.Cores.{resolved, next_step}
+use Rattle.seat_programs.specs.Heads.{Retry, Sought, Unlocks, Posting, WasGone, WasStale, WasCrowded, WasQueued, HasLocked, Unlocking, IsOpen, HasNext, Deciding, GoesOn, Locking, NotThere, Has}
+use Rattle.seat_programs.specs.declared.task.Op.TheVariants as ops
+use Rattle.seat_programs.specs.declared.task.Op.{Op}
+use Rattle.seat_programs.specs.declared.task.Sizes.{Sizes}
+use Rattle.seat_programs.specs.declared.task.Task.{Task}
 use Rattle.sock_runs.specs.Sound.{first_step}
 use Rattle.id_points.specs.Ids.{id_of, number_of}
 use Rattle.id_points.specs.Turns.{sought_as}
@@ -41,30 +41,30 @@ use Rattle.call_points.specs.declared.deciding.OnCall.{OnCall}
 use Rattle.call_points.specs.declared.deciding.DecideStep.TheVariants as decides
 use Rattle.call_points.specs.declared.posting.PostStep.TheVariants as posts
 use Rattle.call_points.specs.declared.locking.LockStep.TheVariants as locks
-use Rattle.seat_points.specs.declared.point.OpenStep.TheVariants as opens
-use Rattle.seat_points.specs.declared.point.Aim.{Aim}
-use Rattle.seat_points.specs.declared.point.Aim.TheVariants as aims
-use Rattle.seat_points.specs.declared.point.SeekStep.TheVariants as seeks
-use Rattle.seat_points.specs.declared.point.FailStep.TheVariants as fails
-use Rattle.seat_points.specs.declared.point.Then.{Then}
-use Rattle.seat_points.specs.declared.point.Then.TheVariants as thens
-use Rattle.seat_points.specs.declared.point.ReleaseStep.TheVariants as releases
-use Rattle.seat_points.specs.declared.point.SendStep.TheVariants as sends
-use Rattle.seat_points.specs.declared.point.Writer.{Writer}
-use Rattle.seat_points.specs.declared.point.WriteStep.TheVariants as writes
-use Rattle.seat_points.specs.declared.point.Author.{Author}
-use Rattle.seat_points.specs.declared.point.Author.TheVariants as authors
-use Rattle.seat_points.specs.declared.point.After.{After}
-use Rattle.seat_points.specs.declared.point.After.TheVariants as afters
-use Rattle.seat_points.specs.declared.point.CallStep.TheVariants as begins
-use Rattle.seat_points.specs.declared.point.AttemptStep.TheVariants as attempts
-use Rattle.seat_points.specs.declared.point.RetryStep.TheVariants as retries
-use Rattle.seat_points.specs.declared.point.JoinStep.TheVariants as joins
-use Rattle.seat_points.specs.declared.point.Point.{Point}
-use Rattle.seat_points.specs.declared.point.Point.TheVariants as points
-use Rattle.seat_points.specs.Points.{Around, heading_by, locker_of, client_on, then_program, point_program, reached_program, full_program, freed_program, after_program, posted_program, look_program, told, tell, GoesByWord, TakesCall, TakesMessage, TakesLink, PutsHome, PutsPiece, Asks, after_message, after_link, after_home, after_put, after_ready}
-use Rattle.seat_points.specs.Steps.{OfCall, first_of, first_in}
-use Rattle.seat_points.specs.Steps as kinds
+use Rattle.seat_states.specs.declared.point.OpenStep.TheVariants as opens
+use Rattle.seat_states.specs.declared.point.Aim.{Aim}
+use Rattle.seat_states.specs.declared.point.Aim.TheVariants as aims
+use Rattle.seat_states.specs.declared.point.SeekStep.TheVariants as seeks
+use Rattle.seat_states.specs.declared.point.FailStep.TheVariants as fails
+use Rattle.seat_states.specs.declared.point.Then.{Then}
+use Rattle.seat_states.specs.declared.point.Then.TheVariants as thens
+use Rattle.seat_states.specs.declared.point.ReleaseStep.TheVariants as releases
+use Rattle.seat_states.specs.declared.point.SendStep.TheVariants as sends
+use Rattle.seat_states.specs.declared.point.Writer.{Writer}
+use Rattle.seat_states.specs.declared.point.WriteStep.TheVariants as writes
+use Rattle.seat_states.specs.declared.point.Author.{Author}
+use Rattle.seat_states.specs.declared.point.Author.TheVariants as authors
+use Rattle.seat_states.specs.declared.point.After.{After}
+use Rattle.seat_states.specs.declared.point.After.TheVariants as afters
+use Rattle.seat_states.specs.declared.point.CallStep.TheVariants as begins
+use Rattle.seat_states.specs.declared.point.AttemptStep.TheVariants as attempts
+use Rattle.seat_states.specs.declared.point.RetryStep.TheVariants as retries
+use Rattle.seat_states.specs.declared.point.JoinStep.TheVariants as joins
+use Rattle.seat_states.specs.declared.point.Point.{Point}
+use Rattle.seat_states.specs.declared.point.Point.TheVariants as points
+use Rattle.seat_states.specs.Points.{Around, heading_by, locker_of, client_on, then_program, point_program, reached_program, full_program, freed_program, after_program, posted_program, look_program, told, tell, GoesByWord, TakesCall, TakesMessage, TakesLink, PutsHome, PutsPiece, Asks, after_message, after_link, after_home, after_put, after_ready}
+use Rattle.seat_states.specs.Steps.{OfCall, first_of, first_in}
+use Rattle.seat_states.specs.Steps as kinds
 use Rattle.client_seats.specs.Seats.{SeatData, around}
 use Rattle.sock_core.specs.Links.{IsClear, WasRefused, IsPaced}
 
@@ -278,8 +278,8 @@ module _ (a : Around) (on : (hs : List HeldLife) → Calm (a.goes_on hs)) (ends 
   step_calm (points.Open g (opens.Claim i)) = inl (λ found. either_way (found == 0) _ _ Calm (λ w. tt) (open_calm (a.sizes.slots - (i + 1)) (i + 1) g.operation g.name g.link (client_on a)))
   step_calm (points.Open g (opens.StoreLink i)) = inl (λ found w. tt)
   step_calm (points.Open g (opens.ResetHead i)) = inl (λ found w. tt)
-  step_calm (points.Open g (opens.WipeCode i)) = inl (λ found w. tt)
-  step_calm (points.Open g (opens.GiveBirth i)) = inl (λ found w. tt)
+  step_calm (points.Open g (opens.ClearCode i)) = inl (λ found w. tt)
+  step_calm (points.Open g (opens.CreateLife i)) = inl (λ found w. tt)
   step_calm (points.Open g (opens.StoreOpen i v)) = inl (λ found w. tt)
   step_calm (points.Open g (opens.StoreName i v)) = inl (λ found. on a.held)
   step_calm (points.Open g opens.TakeLink) = inl (λ found w. tt)
@@ -293,7 +293,7 @@ module _ (a : Around) (on : (hs : List HeldLife) → Calm (a.goes_on hs)) (ends 
   step_calm (points.Seek aim (seeks.AddRef id)) = inl (λ found. either_way (vref_version found == socket_id_version id.0) _ _ Calm (reached_calm aim id) (λ w. tt))
   step_calm (points.Fail f fails.SetOdd) = inl (λ found. either_way (vref_version found % 2 == 0) _ _ Calm (λ w. tt) (λ w. tt))
   step_calm (points.Fail f (fails.StoreCode x)) = inl (λ found w. tt)
-  step_calm (points.Fail f (fails.GiveBack x)) = inl (λ found w. tt)
+  step_calm (points.Fail f (fails.ReleaseFirst x)) = inl (λ found w. tt)
   step_calm (points.Release i t releases.SubRef) = inl (λ found. either_way ((vref_version found % 2 == 1) && (vref_nref found == 1)) _ _ Calm (λ w. tt) (then_calm t false))
   step_calm (points.Release i t (releases.Recycle x)) = inl (λ found. either_way (found == x.0) _ _ Calm (λ w. tt) (then_calm t false))
   step_calm (points.Release i t (releases.LoadLink x)) = inl (λ found w. tt)
@@ -316,7 +316,7 @@ module _ (a : Around) (on : (hs : List HeldLife) → Calm (a.goes_on hs)) (ends 
   step_calm (points.Write w (writes.Ask c)) = inl (λ goes. goes)
   step_calm (points.Write w (writes.SetOdd c)) = inl (λ found. either_way (vref_version found % 2 == 0) _ _ Calm (λ _. tt) (λ _. refl))
   step_calm (points.Write w (writes.StoreCode c)) = inl (λ found _. tt)
-  step_calm (points.Write w (writes.GiveBack c)) = inl (λ found _. refl)
+  step_calm (points.Write w (writes.ReleaseFirst c)) = inl (λ found _. refl)
   step_calm (points.Write w (writes.StorePlace c)) = inl (λ found. passed_calm _ c.ticket.0 (λ x. x) _ (λ x calm. calm))
   step_calm (points.Write w (writes.LoadCode c)) = inl (λ found _. tt)
   step_calm (points.Write w (writes.DropPlace c n)) = inl (λ found. passed_calm _ c.ticket.0 (tell c.author a.left_parts n) _ (λ x calm. tell_calm (heading_by c.author a.left_parts) n x calm))

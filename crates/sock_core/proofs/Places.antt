@@ -6,9 +6,9 @@ use Rattle.atomic_table.proofs.Lists.{at_map, at_index}
 use mathlib.Core.Option as core
 use lib.ListN.{get_elem?}
 use Rattle.sock_runs.proofs.Along.{place_inside}
-use Rattle.seat_points.specs.declared.point.Step.{Step}
-use Rattle.seat_points.specs.Points.{point_program}
-use Rattle.seat_points.specs.Steps.{step_as, first_in}
+use Rattle.seat_states.specs.declared.point.Step.{Step}
+use Rattle.seat_states.specs.Points.{point_program}
+use Rattle.seat_states.specs.Steps.{step_as, first_in}
 use Rattle.sock_core.specs.declared.machine.Tick.{Tick}
 use Rattle.client_seats.specs.declared.seat.Seat.{Seat}
 use Rattle.client_seats.specs.Seats.{SeatData, seat_data, seat_program, around}

@@ -3,33 +3,33 @@ use Rattle.std.proofs.Common.{◌≡◌, refl, ℕ, zero, suc, ◌+◌, ◌<◌,
 use Rattle.atomic_table.proofs.Lists.{set_here}
 use mathlib.Core.Option as core
 use lib.ListN.{get_elem?}
-use Rattle.chain_laws.proofs.Lists.{at_some}
+use Rattle.chain_steps.proofs.Lists.{at_some}
 use Rattle.sock_words.specs.declared.kind.Kind.{Kind}
 use Rattle.corr_core.specs.Word.{parts, code_of}
 use Rattle.sock_model.specs.Entries.{slot_of, generation_of}
-use Rattle.sock_programs.specs.declared.task.Sizes.{Sizes}
-use Rattle.sock_programs.specs.Calls as calls
-use Rattle.sock_programs.specs.Asides.{PutCall, id_slot}
-use Rattle.sock_programs.specs.Heads.{Retry, Posts, Unlocks, Decides, Locks, Joins, Opens, Reads, Discards, HasEnded}
-use Rattle.sock_programs.specs.Posts.{ends_call, end_id, unlocked}
-use Rattle.sock_programs.specs.Writings as heads
-use Rattle.sock_programs.specs.Programs.{Program, Do, Say, Sent, Rest, TakeMessage, TakeHome, PutHome, PutBytes, AskReady, Write, Aside, Round, Keep, Retries, LAST_GENERATION}
-use Rattle.sock_programs.specs.Sends.{freed, tell_drop, one_more, passed_telling}
-use Rattle.sock_programs.specs.Cores.{Core, SeatState, word_of, found_at, next_step, resolved, still_waiting}
-use Rattle.sock_programs.specs.Ticks.{quiet}
-use Rattle.sock_programs.specs.Runs.{kind_in, IsAtRest}
+use Rattle.seat_programs.specs.declared.task.Sizes.{Sizes}
+use Rattle.seat_programs.specs.Calls as calls
+use Rattle.seat_programs.specs.Asides.{PutCall, id_slot}
+use Rattle.seat_programs.specs.Heads.{Retry, Posts, Unlocks, Decides, Locks, Joins, Opens, Reads, Discards, HasEnded}
+use Rattle.seat_programs.specs.Posts.{ends_call, end_id, unlocked}
+use Rattle.seat_programs.specs.Writings as heads
+use Rattle.seat_programs.specs.Programs.{Program, Do, Say, Sent, Rest, TakeMessage, TakeHome, PutHome, PutBytes, AskReady, Write, Aside, Round, Keep, Retries, LAST_GENERATION}
+use Rattle.seat_programs.specs.Sends.{freed, tell_drop, one_more, passed_telling}
+use Rattle.seat_programs.specs.Cores.{Core, SeatState, word_of, found_at, next_step, resolved, still_waiting}
+use Rattle.seat_programs.specs.Ticks.{quiet}
+use Rattle.seat_programs.specs.Runs.{kind_in, IsAtRest}
 use Rattle.sock_runs.proofs.Along.{place_inside}
 use Rattle.call_points.specs.Steps.{after_word}
-use Rattle.seat_points.specs.declared.point.WriteStep.TheVariants as writes
-use Rattle.seat_points.specs.declared.point.CallStep.TheVariants as begins
-use Rattle.seat_points.specs.declared.point.AttemptStep.TheVariants as attempts
-use Rattle.seat_points.specs.declared.point.RetryStep.TheVariants as retries
-use Rattle.seat_points.specs.declared.point.Step.{Step}
-use Rattle.seat_points.specs.declared.point.Author.{Author}
-use Rattle.seat_points.specs.declared.point.Point.{Point}
-use Rattle.seat_points.specs.declared.point.Point.TheVariants as points
-use Rattle.seat_points.specs.Points.{Around, point_program, heading_by, holder_of, tell, written_program, HasInHand, HasLinkAt, TellsCodeAt, framed}
-use Rattle.seat_points.specs.Steps.{First, OfCall, step_as, first_of, first_in}
+use Rattle.seat_states.specs.declared.point.WriteStep.TheVariants as writes
+use Rattle.seat_states.specs.declared.point.CallStep.TheVariants as begins
+use Rattle.seat_states.specs.declared.point.AttemptStep.TheVariants as attempts
+use Rattle.seat_states.specs.declared.point.RetryStep.TheVariants as retries
+use Rattle.seat_states.specs.declared.point.Step.{Step}
+use Rattle.seat_states.specs.declared.point.Author.{Author}
+use Rattle.seat_states.specs.declared.point.Point.{Point}
+use Rattle.seat_states.specs.declared.point.Point.TheVariants as points
+use Rattle.seat_states.specs.Points.{Around, point_program, heading_by, holder_of, tell, written_program, HasInHand, HasLinkAt, TellsCodeAt, framed}
+use Rattle.seat_states.specs.Steps.{First, OfCall, step_as, first_of, first_in}
 use Rattle.client_seats.specs.Seats.{SeatData, around, seat_program}
 use Rattle.reader_seats.specs.Readers.{ReaderData, reader_program}
 use Rattle.sock_core.specs.declared.machine.Tick.{Tick}

@@ -7,13 +7,13 @@ use Rattle.sock_words.specs.declared.id_word.IdWord.{IdWord}
 use Rattle.corr_core.specs.declared.marks.Plan.{Plan as IdPlan}
 use Rattle.corr_core.specs.Word.{parts, code_of}
 use Rattle.sock_message.specs.Asked.{Asked}
-use Rattle.sock_programs.specs.declared.task.Sizes.{Sizes}
-use Rattle.sock_programs.specs.Calls as calls
-use Rattle.sock_programs.specs.Asides as asides
-use Rattle.sock_programs.specs.Asides.{PutCall, id_slot}
-use Rattle.sock_programs.specs.Heads.{HasEnded, Unlocks}
-use Rattle.sock_programs.specs.Posts.{ends_call, end_id, unlocked, decided}
-use Rattle.sock_programs.specs.Programs.{Program, Aside, Round}
+use Rattle.seat_programs.specs.declared.task.Sizes.{Sizes}
+use Rattle.seat_programs.specs.Calls as calls
+use Rattle.seat_programs.specs.Asides as asides
+use Rattle.seat_programs.specs.Asides.{PutCall, id_slot}
+use Rattle.seat_programs.specs.Heads.{HasEnded, Unlocks}
+use Rattle.seat_programs.specs.Posts.{ends_call, end_id, unlocked, decided}
+use Rattle.seat_programs.specs.Programs.{Program, Aside, Round}
 use Rattle.sock_runs.specs.Sound.{AllowsWord}
 use Rattle.id_runs.specs.Held.{IdView}
 use Rattle.id_runs.specs.Goes.{FitsSock, IsLocked, IsTaken, IdGoesOn}
@@ -22,25 +22,25 @@ use Rattle.call_points.specs.declared.deciding.OnCall.{OnCall}
 use Rattle.call_points.specs.declared.deciding.DecideStep.TheVariants as decides
 use Rattle.call_points.specs.declared.posting.PostStep.TheVariants as posts
 use Rattle.call_points.specs.declared.locking.LockStep.TheVariants as locks
-use Rattle.seat_points.specs.declared.point.OpenStep.TheVariants as opens
-use Rattle.seat_points.specs.declared.point.SeekStep.TheVariants as seeks
-use Rattle.seat_points.specs.declared.point.Aim.TheVariants as aims
-use Rattle.seat_points.specs.declared.point.FailStep.TheVariants as fails
-use Rattle.seat_points.specs.declared.point.ReleaseStep.TheVariants as releases
-use Rattle.seat_points.specs.declared.point.SendStep.TheVariants as sends
-use Rattle.seat_points.specs.declared.point.WriteStep.TheVariants as writes
-use Rattle.seat_points.specs.declared.point.CallStep.TheVariants as begins
-use Rattle.seat_points.specs.declared.point.AttemptStep.TheVariants as attempts
-use Rattle.seat_points.specs.declared.point.RetryStep.TheVariants as retries
-use Rattle.seat_points.specs.declared.point.JoinStep.TheVariants as joins
-use Rattle.seat_points.specs.declared.point.Sending.{Sending}
-use Rattle.seat_points.specs.declared.point.Author.{Author}
-use Rattle.seat_points.specs.declared.point.Author.TheVariants as authors
-use Rattle.seat_points.specs.declared.point.After.{After}
-use Rattle.seat_points.specs.declared.point.Point.{Point}
-use Rattle.seat_points.specs.declared.point.Point.TheVariants as points
-use Rattle.seat_points.specs.Points.{Around, point_program, look_program, after_program, IsWithin, IsWithinIds, MayFind, MayFindAside, MayFindId, GoesByWord, TakesCall}
-use Rattle.seat_points.specs.Steps.{First, OfCall, OfAside, first_of, first_in}
+use Rattle.seat_states.specs.declared.point.OpenStep.TheVariants as opens
+use Rattle.seat_states.specs.declared.point.SeekStep.TheVariants as seeks
+use Rattle.seat_states.specs.declared.point.Aim.TheVariants as aims
+use Rattle.seat_states.specs.declared.point.FailStep.TheVariants as fails
+use Rattle.seat_states.specs.declared.point.ReleaseStep.TheVariants as releases
+use Rattle.seat_states.specs.declared.point.SendStep.TheVariants as sends
+use Rattle.seat_states.specs.declared.point.WriteStep.TheVariants as writes
+use Rattle.seat_states.specs.declared.point.CallStep.TheVariants as begins
+use Rattle.seat_states.specs.declared.point.AttemptStep.TheVariants as attempts
+use Rattle.seat_states.specs.declared.point.RetryStep.TheVariants as retries
+use Rattle.seat_states.specs.declared.point.JoinStep.TheVariants as joins
+use Rattle.seat_states.specs.declared.point.Sending.{Sending}
+use Rattle.seat_states.specs.declared.point.Author.{Author}
+use Rattle.seat_states.specs.declared.point.Author.TheVariants as authors
+use Rattle.seat_states.specs.declared.point.After.{After}
+use Rattle.seat_states.specs.declared.point.Point.{Point}
+use Rattle.seat_states.specs.declared.point.Point.TheVariants as points
+use Rattle.seat_states.specs.Points.{Around, point_program, look_program, after_program, IsWithin, IsWithinIds, MayFind, MayFindAside, MayFindId, GoesByWord, TakesCall}
+use Rattle.seat_states.specs.Steps.{First, OfCall, OfAside, first_of, first_in}
 use Rattle.reader_points.specs.Points as reading
 use Rattle.reader_points.specs.declared.point.Closing.{Closing}
 use Rattle.reader_points.specs.declared.point.ReadPoint.{ReadPoint}
@@ -84,8 +84,8 @@ beside_facts a points.Rest = tt
 beside_facts a (points.Open g (opens.Claim i)) = (λ found h. tt)
 beside_facts a (points.Open g (opens.StoreLink i)) = (λ found h. tt)
 beside_facts a (points.Open g (opens.ResetHead i)) = (λ found h. tt)
-beside_facts a (points.Open g (opens.WipeCode i)) = (λ found h. tt)
-beside_facts a (points.Open g (opens.GiveBirth i)) = (λ found h. tt)
+beside_facts a (points.Open g (opens.ClearCode i)) = (λ found h. tt)
+beside_facts a (points.Open g (opens.CreateLife i)) = (λ found h. tt)
 beside_facts a (points.Open g (opens.StoreOpen i v)) = (λ found h. tt)
 beside_facts a (points.Open g (opens.StoreName i v)) = (λ found h. tt)
 beside_facts a (points.Open g opens.TakeLink) = (λ found h. tt)
@@ -99,7 +99,7 @@ beside_facts a (points.Seek (aims.End o) seeks.Load) = (λ found h. tt)
 beside_facts a (points.Seek aim (seeks.AddRef id)) = (λ found h. tt)
 beside_facts a (points.Fail f fails.SetOdd) = (λ found h. tt)
 beside_facts a (points.Fail f (fails.StoreCode w)) = (λ found h. tt)
-beside_facts a (points.Fail f (fails.GiveBack w)) = (λ found h. tt)
+beside_facts a (points.Fail f (fails.ReleaseFirst w)) = (λ found h. tt)
 beside_facts a (points.Release i t releases.SubRef) = (λ found h. tt)
 beside_facts a (points.Release i t (releases.Recycle w)) = (λ found h. tt)
 beside_facts a (points.Release i t (releases.LoadLink w)) = (λ found h. tt)
@@ -122,7 +122,7 @@ beside_facts a (points.Write w (writes.Put m asked)) = tt
 beside_facts a (points.Write w (writes.Ask m)) = tt
 beside_facts a (points.Write w (writes.SetOdd m)) = (λ found h. tt)
 beside_facts a (points.Write w (writes.StoreCode m)) = (λ found h. tt)
-beside_facts a (points.Write w (writes.GiveBack m)) = (λ found h. tt)
+beside_facts a (points.Write w (writes.ReleaseFirst m)) = (λ found h. tt)
 beside_facts a (points.Write w (writes.StorePlace m)) = (λ found h. tt)
 beside_facts a (points.Write w (writes.LoadCode m)) = (λ found h. h)
 beside_facts a (points.Write w (writes.DropPlace m n)) = (λ found h. tt)
@@ -229,7 +229,7 @@ closes_finds : (a : reading.Around) (c : Closing) (at : CloseStep) → OnWord (f
 closes_finds a c closes.AddRef = (λ found h. tt)
 closes_finds a c closes.SetOdd = (λ found h. tt)
 closes_finds a c closes.StoreCode = (λ found h. tt)
-closes_finds a c closes.GiveBack = (λ found h. tt)
+closes_finds a c closes.ReleaseFirst = (λ found h. tt)
 closes_finds a c (closes.Release releases.SubRef) = (λ found h. tt)
 closes_finds a c (closes.Release (releases.Recycle from)) = (λ found h. h.2)
 closes_finds a c (closes.Release (releases.LoadLink w)) = (λ found h. h)

@@ -10,15 +10,15 @@ use mathlib.Core.Option as core
 use lib.ListN.{get_elem?}
 use Rattle.sock_words.specs.declared.plain.Plan.{Plan}
 use Rattle.corr_core.specs.declared.marks.Plan as marks
-use Rattle.sock_programs.specs.declared.task.Sizes.{Sizes}
-use Rattle.sock_programs.specs.Heads.{Retry}
-use Rattle.sock_programs.specs.Programs.{Program}
-use Rattle.sock_programs.specs.Cores.{Core, SeatState}
-use Rattle.sock_programs.specs.Ticks.{Answer, Moment, AreAnswered, run, broken_in}
+use Rattle.seat_programs.specs.declared.task.Sizes.{Sizes}
+use Rattle.seat_programs.specs.Heads.{Retry}
+use Rattle.seat_programs.specs.Programs.{Program}
+use Rattle.seat_programs.specs.Cores.{Core, SeatState}
+use Rattle.seat_programs.specs.Ticks.{Answer, Moment, AreAnswered, run, broken_in}
 use Rattle.sock_runs.proofs.Along.{place_inside}
-use Rattle.whole_runs.specs.owed_calls.specs.Lives.{ClosesInTime}
-use Rattle.whole_runs.specs.Offered.{AreOffered}
-use Rattle.whole_runs.specs.Heard.{heard_in, taken_in}
+use Rattle.run_theorems.specs.owed_calls.specs.Lives.{ClosesInTime}
+use Rattle.run_theorems.specs.Offered.{AreOffered}
+use Rattle.run_theorems.specs.Heard.{heard_in, taken_in}
 use Rattle.call_slots.specs.Slots.{calls_with}
 use Rattle.client_seats.specs.Seats.{SeatData, seat_program}
 use Rattle.reader_seats.specs.Readers.{ReaderData}
@@ -51,7 +51,7 @@ module _ (old new : MachineState) (ss : List SeatData) (same : (took : Taken) (g
   follows_before : (took : Taken) (gave : Given) (ms : List Moment) → Follows mid new took gave ms → Follows old new took gave ms
   follows_before took gave ms f = let e : core_with mid took gave ≡ core_with old took gave = same took gave in record {
     answered = subst (λ (c : Core). AreAnswered old.plan c ms) e f.answered;
-    prompt = f.prompt;
+    always_ready = f.always_ready;
     closes = λ tell. subst (λ (c : Core). ClosesInTime old.plan c ms) e (f.closes tell);
     offers = λ k serve end h. let x = f.offers k serve end h in (subst (λ (c : Core). AreOffered old.plan k serve end c ms) e x.0, x.1);
     later = f.later;
@@ -74,7 +74,7 @@ module _ (old new : MachineState) (ss : List SeatData) (same : (took : Taken) (g
   pub ticked_before : (i : ℕ) (tick : Tick) → Ticked mid new i tick → Ticked old new i tick
   ticked_before i tick t = (
     record { plan = t.0.plan; id_plan = t.0.id_plan; calls = t.0.calls; opens = t.0.opens; ending = t.0.ending },
-    record { as_many = t.1.as_many; each = t.1.each; prompt = t.1.prompt; tell = t.1.tell },
+    record { as_many = t.1.as_many; each = t.1.each; always_ready = t.1.always_ready; tell = t.1.tell },
     λ took gave agrees agrees_gave. let w = t.2 took gave agrees agrees_gave in record { moment = w.moment; is_of = w.is_of; is = is_before took gave w.moment tick w.is; follows = follows_before took gave (w.moment ∷ []) w.follows },
   )
 
@@ -118,7 +118,7 @@ module _ (old fresh : MachineState) (i : ℕ) (w : PreparedAt old fresh i) where
   made_table = record { plan = refl; id_plan = refl; calls = refl; opens = refl; ending = refl }
 
   made_links : SameLinks old made
-  made_links = let n = same_links_none old in record { as_many = n.as_many; each = n.each; prompt = n.prompt; tell = n.tell }
+  made_links = let n = same_links_none old in record { as_many = n.as_many; each = n.each; always_ready = n.always_ready; tell = n.tell }
 
   pub prepared_same : SameTable old fresh × SameLinks old fresh
   prepared_same = subst (λ (m : MachineState). SameTable old m × SameLinks old m) (sym w.is) (made_table, made_links)

@@ -3,7 +3,7 @@ use Rattle.std.proofs.Common.{◌≡◌, ◌≢◌, refl, ℕ, zero, suc, ◌+�
 use Rattle.std.proofs.lemmas.List.{append-nil}
 use mathlib.Core.Option.{some}
 use lib.ListN.{get_elem?}
-use Rattle.sock_programs.specs.Runs.{from_to}
+use Rattle.seat_programs.specs.Runs.{from_to}
 
 module _ {A : Type 0} where
   pub get-range : (f : ℕ → A) (a n k : ℕ) → k < n → get_elem? (map f (from_to a n)) k ≡ some (f (a + k))

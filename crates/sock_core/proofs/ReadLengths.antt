@@ -5,12 +5,12 @@ use Rattle.std.specs.List.{AllByRecursion}
 use Rattle.sock_words.specs.declared.plain.Plan.{Plan}
 use Rattle.corr_core.specs.declared.marks.Plan as marks
 use Rattle.sock_io.specs.declared.link.Ready.TheVariants as ready
-use Rattle.sock_programs.specs.Asides as asides
-use Rattle.sock_programs.specs.Asides.{TakeBytes}
-use Rattle.sock_programs.specs.Programs.{Program}
-use Rattle.sock_programs.specs.Cores.{resolved}
-use Rattle.sock_programs.specs.Ticks.{Answer, OfReady}
-use Rattle.seat_points.specs.Steps.{First, OfCall, OfAside}
+use Rattle.seat_programs.specs.Asides as asides
+use Rattle.seat_programs.specs.Asides.{TakeBytes}
+use Rattle.seat_programs.specs.Programs.{Program}
+use Rattle.seat_programs.specs.Cores.{resolved}
+use Rattle.seat_programs.specs.Ticks.{Answer, OfReady}
+use Rattle.seat_states.specs.Steps.{First, OfCall, OfAside}
 use Rattle.reader_seats.specs.Readers.{ReaderData}
 use Rattle.reader_seats.specs.GoesOn.{GoesOn}
 use Rattle.sock_core.specs.Links.{LinksData}

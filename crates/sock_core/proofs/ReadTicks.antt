@@ -6,17 +6,17 @@ use Rattle.atomic_table.proofs.Lists.{at_set}
 use mathlib.Core.Option as core
 use lib.ListN.{get_elem?}
 use Rattle.sock_io.specs.Link.{InState}
-use Rattle.sock_programs.specs.Asides as asides
-use Rattle.sock_programs.specs.Asides.{Taking, Bytes, Nothing, NoMore, AtEnd, Closed, Broken}
-use Rattle.sock_programs.specs.Beside.{at_last, more_given}
-use Rattle.sock_programs.specs.Calls as calls
-use Rattle.sock_programs.specs.Programs.{Program}
-use Rattle.sock_programs.specs.Runs.{from_to}
-use Rattle.sock_programs.specs.Cores.{Calls, Core, SeatState, word_of, found_at, with_seat, hand_after, words_after, word_after, homes_after}
-use Rattle.sock_programs.specs.Ticks.{Answer, Unasked, OfTake, IsAnswer, IsAnswered, tick_with, ticked}
+use Rattle.seat_programs.specs.Asides as asides
+use Rattle.seat_programs.specs.Asides.{Taking, Bytes, Nothing, NoMore, AtEnd, Closed, Broken}
+use Rattle.seat_programs.specs.Beside.{at_last, more_given}
+use Rattle.seat_programs.specs.Calls as calls
+use Rattle.seat_programs.specs.Programs.{Program}
+use Rattle.seat_programs.specs.Runs.{from_to}
+use Rattle.seat_programs.specs.Cores.{Calls, Core, SeatState, word_of, found_at, with_seat, hand_after, words_after, word_after, homes_after}
+use Rattle.seat_programs.specs.Ticks.{Answer, Unasked, OfTake, IsAnswer, IsAnswered, tick_with, ticked}
 use Rattle.call_points.specs.Steps as aside_steps
 use Rattle.call_slots.specs.Slots.{calls_with}
-use Rattle.seat_points.specs.Steps.{First, OfCall, OfAside, step_of, first_in}
+use Rattle.seat_states.specs.Steps.{First, OfCall, OfAside, step_of, first_in}
 use Rattle.reader_points.specs.declared.point.ReadStep.{ReadStep}
 use Rattle.reader_points.specs.declared.point.ReadStep.TheVariants as steps
 use Rattle.reader_points.specs.Steps.{step_as}

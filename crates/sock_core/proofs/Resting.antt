@@ -7,12 +7,12 @@ use mathlib.Core.Option.{some, none, some-injective, some-ne-none}
 use lib.ListN.{get_elem?}
 use Rattle.sock_words.specs.declared.kind.Kind.{Kind}
 use Rattle.sock_words.specs.declared.plain.Plan.{Plan}
-use Rattle.whole_runs.specs.Heard.{heard_at, taken_at, heard_in, taken_in}
-use Rattle.sock_programs.specs.declared.task.Sizes.{Sizes}
-use Rattle.sock_programs.specs.Programs.{Program}
-use Rattle.sock_programs.specs.Cores.{Core, SeatState}
-use Rattle.sock_programs.specs.Ticks.{Answer, Moment, quiet, seats_of, ticked, run}
-use Rattle.sock_programs.specs.Runs.{kind_in, IsAtRest}
+use Rattle.run_theorems.specs.Heard.{heard_at, taken_at, heard_in, taken_in}
+use Rattle.seat_programs.specs.declared.task.Sizes.{Sizes}
+use Rattle.seat_programs.specs.Programs.{Program}
+use Rattle.seat_programs.specs.Cores.{Core, SeatState}
+use Rattle.seat_programs.specs.Ticks.{Answer, Moment, quiet, seats_of, ticked, run}
+use Rattle.seat_programs.specs.Runs.{kind_in, IsAtRest}
 use Rattle.reader_seats.specs.Readers.{ReaderData, reader_program}
 use Rattle.client_seats.specs.Seats.{SeatData, seat_program}
 use Rattle.sock_core.specs.declared.machine.Tick.TheVariants as ticks
@@ -70,7 +70,7 @@ idle_core a b i took gave t = t.follows.core ∙ rests a.plan (core_with a took 
 pub follows_idle : (a b : MachineState) (i : ℕ) (took : Taken) (gave : Given) → TickedWith a b i ticks.Idle took gave → Follows a b took gave []
 follows_idle a b i took gave t = record {
   answered = tt;
-  prompt = λ h. tt;
+  always_ready = λ h. tt;
   closes = λ h. tt;
   offers = λ k serve end h. (tt, (t.follows.offers k serve end h).1);
   later = t.follows.later;
@@ -99,7 +99,7 @@ rest_ticks m i rest = (
     is = rest took gave;
     follows = record {
       answered = (rest_answered (core_with m took gave) i (rest took gave), tt);
-      prompt = λ h. (λ e. absurd (cc), tt);
+      always_ready = λ h. (λ e. absurd (cc), tt);
       closes = λ h. quiet_closes m.plan (core_with m took gave) 1 i;
       offers = λ k serve end h. (quiet_offers m.plan k serve end (core_with m took gave) 1 i, h);
       later = took;
@@ -151,7 +151,7 @@ idle_ran a b i t n = (
     are_of = seats_quiet n i;
     follows = record {
       answered = rests_answered a.plan c i rest n;
-      prompt = λ h. quiet_prompt n i;
+      always_ready = λ h. quiet_prompt n i;
       closes = λ h. quiet_closes a.plan c n i;
       offers = λ k serve end h. (quiet_offers a.plan k serve end c n i, (w.follows.offers k serve end h).1);
       later = w.follows.later;
@@ -207,7 +207,7 @@ module _ (p : Plan) (i : ℕ) where
 pub none_follows : (a b : MachineState) (took : Taken) (gave : Given) (i n : ℕ) (ms : List Moment) → IsAtRest (core_with a took gave) i → seats_of ms ≡ replicate n i → Follows a b took gave ms → Follows a b took gave []
 none_follows a b took gave i n ms rest are f = let u = unmoved a.plan i n (core_with a took gave) ms rest are in record {
   answered = tt;
-  prompt = λ h. tt;
+  always_ready = λ h. tt;
   closes = λ h. tt;
   offers = λ k serve end h. (tt, (f.offers k serve end h).1);
   later = f.later;

@@ -6,10 +6,10 @@ use Rattle.std.proofs.lemmas.Option.{none-some}
 use Rattle.std.proofs.Math.Logic.{∥∥₁_elim}
 use Rattle.sock_words.specs.declared.kind.Kind.{Kind}
 use Rattle.sock_words.specs.declared.plain.Plan.{Plan}
-use Rattle.sock_programs.specs.Cores.{Core}
-use Rattle.sock_programs.specs.Ticks.{Moment, seats_of, ticked, run, quiet}
-use Rattle.sock_programs.specs.Runs.{from_to}
-use Rattle.sock_programs.specs.Scripts.{AreStill}
+use Rattle.seat_programs.specs.Cores.{Core}
+use Rattle.seat_programs.specs.Ticks.{Moment, seats_of, ticked, run, quiet}
+use Rattle.seat_programs.specs.Runs.{from_to}
+use Rattle.seat_programs.specs.Scripts.{AreStill}
 use Rattle.sock_core.specs.declared.machine.Tick.{Tick}
 use Rattle.sock_core.specs.declared.machine.Tick.TheVariants.{Moved, Waits, Idle}
 use Rattle.sock_core.specs.Links.{Taken, Given, Agrees, AgreesGave, StayOffered}

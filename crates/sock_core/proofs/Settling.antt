@@ -1,13 +1,13 @@
 -- The whole of a run behind its schedule: rounds up to one in which nothing moved, the ending by seat 0, and such rounds again.
 use Rattle.std.proofs.Common.{◌≡◌, ℕ, List, replicate, refl, sym, ap, ◌∙◌, subst}
 use Rattle.sock_words.specs.declared.plain.Plan.{Plan}
-use Rattle.sock_programs.specs.Cores.{Core}
-use Rattle.sock_programs.specs.Ticks.{quiet, run, AreAnswered, broken_in}
-use Rattle.sock_programs.specs.Scripts.{is_ending}
-use Rattle.whole_runs.specs.owed_calls.specs.Lives.{ClosesInTime}
-use Rattle.whole_runs.specs.Offered.{AreOffered}
-use Rattle.whole_runs.specs.Heard.{heard_in, taken_in}
-use Rattle.sock_core.specs.Links.{LinksData, Taken, Given, Agrees, AgreesGave, ArePrompt, TellClosing, IsOffering}
+use Rattle.seat_programs.specs.Cores.{Core}
+use Rattle.seat_programs.specs.Ticks.{quiet, run, AreAnswered, broken_in}
+use Rattle.seat_programs.specs.Scripts.{is_ending}
+use Rattle.run_theorems.specs.owed_calls.specs.Lives.{ClosesInTime}
+use Rattle.run_theorems.specs.Offered.{AreOffered}
+use Rattle.run_theorems.specs.Heard.{heard_in, taken_in}
+use Rattle.sock_core.specs.Links.{LinksData, Taken, Given, Agrees, AgreesGave, AreAlwaysReady, TellClosing, IsOffering}
 use Rattle.sock_core.specs.Machines.{MachineState, core_with, ending_by}
 use Rattle.sock_core.specs.Runs.{SameLinks, ShowFaults, LinksTell, TakesTell, ShowTakings, SettlesBy, PlayedWith, PlayedOn, RanFirst, SettledWith, Settled}
 use Rattle.sock_core.specs.Driving.{told_ending}
@@ -16,7 +16,7 @@ use Rattle.sock_core.proofs.Joining.{same_links_join, show_faults_later, show_fa
 
 -- links that are told of the ending are the same
 told_same : (m : MachineState) → SameLinks m (told_ending m)
-told_same m = links_kept m (told_ending m) refl (λ prompt. prompt) (λ tell. tell)
+told_same m = links_kept m (told_ending m) refl (λ always_ready. always_ready) (λ tell. tell)
 
 module _ (a b c d f : MachineState) (played : PlayedOn a b) (plan : c.plan ≡ b.plan) (id_plan : c.ids.plan ≡ b.ids.plan) (links : c.links ≡ b.links) (ends : c.ends ≡ b.ends)
     (begins : (took : Taken) (gave : Given) → core_with c took gave ≡ ending_by b.opens (core_with b took gave)) (first : RanFirst c d) (final : PlayedOn (told_ending d) f) where
@@ -24,7 +24,7 @@ module _ (a b c d f : MachineState) (played : PlayedOn a b) (plan : c.plan ≡ b
   told = told_ending d
 
   begun_same : SameLinks b c
-  begun_same = links_kept b c ends (λ prompt. subst ArePrompt (sym links) prompt) (λ tell. subst TellClosing (sym links) tell)
+  begun_same = links_kept b c ends (λ always_ready. subst AreAlwaysReady (sym links) always_ready) (λ tell. subst TellClosing (sym links) tell)
 
   ran_same : SameLinks b told
   ran_same = same_links_join b d told (same_links_join b c d begun_same first.same.1) (told_same d)
@@ -70,7 +70,7 @@ module _ (a b c d f : MachineState) (played : PlayedOn a b) (plan : c.plan ≡ b
       final = y.moments;
       settles_again = subst (λ (p : Plan). SettlesBy p ended y.moments) plans y.settles;
       answered_again = subst (λ (p : Plan). AreAnswered p ended y.moments) plans y.follows.answered;
-      prompt = λ prompt. prompt_append x.moments y.moments (x.follows.prompt prompt) (y.follows.prompt (ran_same.prompt (played.1.prompt prompt)));
+      always_ready = λ always_ready. prompt_append x.moments y.moments (x.follows.always_ready always_ready) (y.follows.always_ready (ran_same.always_ready (played.1.always_ready always_ready)));
       closes = x.follows.closes;
       closes_again = λ tell. subst (λ (p : Plan). ClosesInTime p ended y.moments) plans (y.follows.closes (ran_same.tell (played.1.tell tell)));
       offers = λ k serve end h.
@@ -116,4 +116,4 @@ module _ (a b c d f : MachineState) (played : PlayedOn a b) (plan : c.plan ≡ b
 -- what stays where memory ran out behind the ending
 pub settled_links : (a b c d f : MachineState) → SameLinks a b → c.links ≡ b.links → c.ends ≡ b.ends → SameLinks c d → SameLinks (told_ending d) f → SameLinks a f
 settled_links a b c d f first links ends ran last =
-    same_links_join a b f first (same_links_join b c f (links_kept b c ends (λ prompt. subst ArePrompt (sym links) prompt) (λ tell. subst TellClosing (sym links) tell)) (same_links_join c d f ran (same_links_join d (told_ending d) f (told_same d) last)))
+    same_links_join a b f first (same_links_join b c f (links_kept b c ends (λ always_ready. subst AreAlwaysReady (sym links) always_ready) (λ tell. subst TellClosing (sym links) tell)) (same_links_join c d f ran (same_links_join d (told_ending d) f (told_same d) last)))

@@ -11,15 +11,15 @@ use Rattle.sock_model.specs.declared.home.Home.{Home}
 use Rattle.sock_model.specs.declared.home.Home.TheVariants.{Link, Message}
 use Rattle.sock_model.specs.declared.view.View.{View}
 use Rattle.sock_model.specs.declared.view.Hand.{Hand}
-use Rattle.sock_programs.specs.declared.task.Sizes.{Sizes}
-use Rattle.sock_programs.specs.Calls as calls
-use Rattle.sock_programs.specs.Asides as asides
-use Rattle.sock_programs.specs.Programs.{Program, Do, Say, Sent, Rest, TakeMessage, TakeHome, PutHome, PutBytes, AskReady, Write, Aside, Round, Keep, Retries}
-use Rattle.sock_programs.specs.Writings as heads
-use Rattle.sock_programs.specs.Rounds.{round}
-use Rattle.sock_programs.specs.Ticks.{quiet}
-use Rattle.sock_programs.specs.Cores.{Core, SeatState, link_place, word_of, found_at}
-use Rattle.sock_programs.specs.Scripts.{sizes_of}
+use Rattle.seat_programs.specs.declared.task.Sizes.{Sizes}
+use Rattle.seat_programs.specs.Calls as calls
+use Rattle.seat_programs.specs.Asides as asides
+use Rattle.seat_programs.specs.Programs.{Program, Do, Say, Sent, Rest, TakeMessage, TakeHome, PutHome, PutBytes, AskReady, Write, Aside, Round, Keep, Retries}
+use Rattle.seat_programs.specs.Writings as heads
+use Rattle.seat_programs.specs.Rounds.{round}
+use Rattle.seat_programs.specs.Ticks.{quiet}
+use Rattle.seat_programs.specs.Cores.{Core, SeatState, link_place, word_of, found_at}
+use Rattle.seat_programs.specs.Scripts.{sizes_of}
 use Rattle.sock_runs.specs.May.{May}
 use Rattle.sock_runs.specs.GoesOn.{GoesOn}
 use Rattle.sock_runs.specs.Sound.{IsOfRight, AreInHand, AreHeld, Allows, AllowsStep, first_step}
@@ -28,16 +28,16 @@ use Rattle.sock_runs.proofs.Cases.{goes_first}
 use Rattle.sock_runs.proofs.Rounds.{begins_round}
 use Rattle.sock_runs.proofs.Passes.{goes_round}
 use Rattle.sock_runs.proofs.Allowed.{sound_allows, view_there}
-use Rattle.whole_runs.specs.client_laws.proofs.Retrying.{retries_go}
+use Rattle.run_theorems.specs.programs_allowed.proofs.Retrying.{retries_go}
 use Rattle.id_runs.specs.Held.{IdView, MayId}
 use Rattle.id_runs.specs.Goes.{IdGoesOn, FitsSock, FitsFirst}
 use Rattle.id_runs.specs.Goes as goes
-use Rattle.whole_runs.specs.joint_runs.proofs.Joint.{is_fitting_ids}
+use Rattle.run_theorems.specs.joint_runs.proofs.Joint.{is_fitting_ids}
 use Rattle.call_points.specs.Steps.{aside_of, aside_in}
 use Rattle.call_slots.proofs.Fitting.{may_next}
-use Rattle.seat_points.specs.Steps.{First, OfCall, OfAside, OfMessage, OfLink, first_of, first_in}
-use Rattle.seat_points.specs.Steps as kinds
-use Rattle.seat_points.proofs.StepFacts.{FitsSizes}
+use Rattle.seat_states.specs.Steps.{First, OfCall, OfAside, OfMessage, OfLink, first_of, first_in}
+use Rattle.seat_states.specs.Steps as kinds
+use Rattle.seat_states.proofs.StepFacts.{FitsSizes}
 use Rattle.sock_core.specs.declared.letter.Letter.{Letter}
 use Rattle.sock_core.specs.Links.{LinksData, Taken, holder_of, is_done, link_home, homes_of, hand_of}
 use Rattle.sock_core.specs.Machines.{MachineState, IsSoundMachine, table_of, machine_sizes, state_of, core_with}

@@ -13,23 +13,23 @@ use Rattle.corr_core.specs.declared.marks.Plan.{Plan as IdPlan}
 use Rattle.sock_io.specs.Link.{OutState}
 use Rattle.sock_model.specs.declared.home.Home.{Home}
 use Rattle.sock_model.specs.declared.home.Home.TheVariants.{Link}
-use Rattle.sock_programs.specs.declared.task.Task.{Task}
-use Rattle.sock_programs.specs.declared.task.Sizes.{Sizes}
-use Rattle.sock_programs.specs.Asides.{id_first}
-use Rattle.sock_programs.specs.Heads.{Retry}
-use Rattle.sock_programs.specs.Programs.{Program, Rest}
-use Rattle.sock_programs.specs.Readers.{reader}
-use Rattle.sock_programs.specs.Clients.{client_from}
-use Rattle.sock_programs.specs.Cores.{Calls, Core, SeatState, said, resolved, next_step}
-use Rattle.sock_programs.specs.Runs.{from_to}
-use Rattle.sock_programs.specs.Scripts.{sizes_of, programs, readers_from, all_programs, beginning, opening_homes, opening_words, opening_calls, new_links}
+use Rattle.seat_programs.specs.declared.task.Task.{Task}
+use Rattle.seat_programs.specs.declared.task.Sizes.{Sizes}
+use Rattle.seat_programs.specs.Asides.{id_first}
+use Rattle.seat_programs.specs.Heads.{Retry}
+use Rattle.seat_programs.specs.Programs.{Program, Rest}
+use Rattle.seat_programs.specs.Readers.{reader}
+use Rattle.seat_programs.specs.Clients.{client_from}
+use Rattle.seat_programs.specs.Cores.{Calls, Core, SeatState, said, resolved, next_step}
+use Rattle.seat_programs.specs.Runs.{from_to}
+use Rattle.seat_programs.specs.Scripts.{sizes_of, programs, readers_from, all_programs, beginning, opening_homes, opening_words, opening_calls, new_links}
 use Rattle.sock_runs.specs.Lasts.{Lasts}
 use Rattle.sock_runs.specs.Sound.{IsAhead, Sound}
-use Rattle.whole_runs.specs.client_laws.specs.Openings.{opening_views, all_seats}
-use Rattle.id_rule.specs.Lawful.{call_word}
+use Rattle.run_theorems.specs.programs_allowed.specs.Openings.{opening_views, all_seats}
+use Rattle.id_rule.specs.Lawful.{call_index}
 use Rattle.id_runs.proofs.Opening.{unused}
 use Rattle.id_runs.specs.Goes.{SoundIds}
-use Rattle.whole_runs.specs.joint_runs.proofs.Starts.{AreFor, opens_both, opens_bounded}
+use Rattle.run_theorems.specs.joint_runs.proofs.Starts.{AreFor, opens_both, opens_bounded}
 use Rattle.call_slots.specs.Slots.{calls_with}
 use Rattle.reader_seats.specs.Readers.{ReaderData, reader_program}
 use Rattle.sock_core.specs.declared.letter.Letter.{Letter}
@@ -226,8 +226,8 @@ module _ (p : Plan) (q : IdPlan) (clients : List (List Task)) (m : MachineState)
   begins_called : AreCalled m.ids
   begins_called o inside = subst (λ n. id_first n < 67108864) (sym none_there) (omega arith)
     where
-      none_there : slice_index m.ids.words (call_word m.ids.plan o) ≡ 0
-      none_there = ap (λ (ws : List ℕ). slice_index ws (call_word m.ids.plan o)) (ap (λ (a : Calls). a.words) (ids 0)) ∙ (unused q).rest (call_word m.ids.plan o) (let e = ap (λ (x : IdPlan). x.slots) id_plan in omega (arith, e))
+      none_there : slice_index m.ids.words (call_index m.ids.plan o) ≡ 0
+      none_there = ap (λ (ws : List ℕ). slice_index ws (call_index m.ids.plan o)) (ap (λ (a : Calls). a.words) (ids 0)) ∙ (unused q).rest (call_index m.ids.plan o) (let e = ap (λ (x : IdPlan). x.slots) id_plan in omega (arith, e))
 
   pub machine_begins : (room : ℕ) → Agrees m.links NOTHING → AgreesGave m.links NOTHING → ClosedAreDone m.links → length m.links.outs ≡ p.links → length m.links.inns ≡ p.links → length m.ends ≡ p.links → length m.opens ≡ p.links → length clients ≡ p.seats → p.operations ≤ room → IsMachine m room
   machine_begins room agrees agrees_gave closed outs inns ends opens seats_many has_room =

@@ -3,45 +3,45 @@ use Rattle.std.proofs.Common.{◌≡◌, refl, ℕ, zero, suc, ◌+◌, Bool, tr
 use Rattle.sock_io.specs.declared.link.Put.{Put}
 use Rattle.sock_io.specs.declared.link.Put.TheVariants as puts
 use Rattle.message_parts.specs.Frames.{OutgoingData, ParcelData}
-use Rattle.sock_programs.specs.declared.task.Sizes.{Sizes}
-use Rattle.sock_programs.specs.Programs.{Program, Aside, Round}
+use Rattle.seat_programs.specs.declared.task.Sizes.{Sizes}
+use Rattle.seat_programs.specs.Programs.{Program, Aside, Round}
 use Rattle.corr_core.specs.Word.{parts, code_of}
 use Rattle.id_points.specs.Ids.{id_of}
-use Rattle.sock_programs.specs.Asides.{PutCall, id_slot}
-use Rattle.sock_programs.specs.Heads.{Retry, HasEnded, Unlocks}
-use Rattle.sock_programs.specs.Posts.{ends_call, end_id, unlocked, decided}
-use Rattle.sock_programs.specs.Cores.{resolved, still_waiting, next_step, said}
-use Rattle.sock_programs.specs.Calls as calls
+use Rattle.seat_programs.specs.Asides.{PutCall, id_slot}
+use Rattle.seat_programs.specs.Heads.{Retry, HasEnded, Unlocks}
+use Rattle.seat_programs.specs.Posts.{ends_call, end_id, unlocked, decided}
+use Rattle.seat_programs.specs.Cores.{resolved, still_waiting, next_step, said}
+use Rattle.seat_programs.specs.Calls as calls
 use Rattle.sock_model.specs.declared.chain.Heading.{Heading}
-use Rattle.seat_points.specs.declared.point.OpenStep.TheVariants as opens
-use Rattle.seat_points.specs.declared.point.SeekStep.TheVariants as seeks
-use Rattle.seat_points.specs.declared.point.Aim.TheVariants as aims
-use Rattle.seat_points.specs.declared.point.FailStep.TheVariants as fails
-use Rattle.seat_points.specs.declared.point.ReleaseStep.TheVariants as releases
-use Rattle.seat_points.specs.declared.point.SendStep.TheVariants as sends
-use Rattle.seat_points.specs.declared.point.WriteStep.TheVariants as writes
+use Rattle.seat_states.specs.declared.point.OpenStep.TheVariants as opens
+use Rattle.seat_states.specs.declared.point.SeekStep.TheVariants as seeks
+use Rattle.seat_states.specs.declared.point.Aim.TheVariants as aims
+use Rattle.seat_states.specs.declared.point.FailStep.TheVariants as fails
+use Rattle.seat_states.specs.declared.point.ReleaseStep.TheVariants as releases
+use Rattle.seat_states.specs.declared.point.SendStep.TheVariants as sends
+use Rattle.seat_states.specs.declared.point.WriteStep.TheVariants as writes
 use Rattle.call_points.specs.declared.deciding.DecideStep.TheVariants as decides
 use Rattle.call_points.specs.declared.posting.PostStep.TheVariants as posts
 use Rattle.call_points.specs.declared.locking.LockStep.TheVariants as locks
 use Rattle.call_points.specs.Steps.{after_word}
-use Rattle.seat_points.specs.declared.point.Author.{Author}
-use Rattle.seat_points.specs.declared.point.Author.TheVariants as authors
-use Rattle.seat_points.specs.declared.point.CallStep.TheVariants as begins
-use Rattle.seat_points.specs.declared.point.AttemptStep.TheVariants as attempts
-use Rattle.seat_points.specs.declared.point.RetryStep.TheVariants as retries
-use Rattle.seat_points.specs.declared.point.JoinStep.TheVariants as joins
-use Rattle.seat_points.specs.declared.point.Point.{Point}
-use Rattle.seat_points.specs.declared.point.Point.TheVariants as points
-use Rattle.seat_points.specs.Steps.{First, OfCall, step_as, first_of, first_in}
-use Rattle.seat_points.specs.declared.point.Next.{Next}
-use Rattle.seat_points.specs.declared.point.Step.{Step}
-use Rattle.seat_points.specs.Points.{Around, point_program, look_program, after_program, next_program, with_message, with_put, is_whole, parts_by, after_message, after_put}
-use Rattle.sock_programs.specs.Ticks.{Answer}
+use Rattle.seat_states.specs.declared.point.Author.{Author}
+use Rattle.seat_states.specs.declared.point.Author.TheVariants as authors
+use Rattle.seat_states.specs.declared.point.CallStep.TheVariants as begins
+use Rattle.seat_states.specs.declared.point.AttemptStep.TheVariants as attempts
+use Rattle.seat_states.specs.declared.point.RetryStep.TheVariants as retries
+use Rattle.seat_states.specs.declared.point.JoinStep.TheVariants as joins
+use Rattle.seat_states.specs.declared.point.Point.{Point}
+use Rattle.seat_states.specs.declared.point.Point.TheVariants as points
+use Rattle.seat_states.specs.Steps.{First, OfCall, step_as, first_of, first_in}
+use Rattle.seat_states.specs.declared.point.Next.{Next}
+use Rattle.seat_states.specs.declared.point.Step.{Step}
+use Rattle.seat_states.specs.Points.{Around, point_program, look_program, after_program, next_program, with_message, with_put, is_whole, parts_by, after_message, after_put}
+use Rattle.seat_programs.specs.Ticks.{Answer}
 use Rattle.client_seats.specs.Seats.{SeatData, around, seat_program, bytes_of, parts_of, left_of, taken_of, left_parts_of}
 use Rattle.client_seats.specs.Following.{FollowsOn}
 use Rattle.brpc_model.specs.Link.{LinkEnd}
 use Rattle.sock_io.specs.Link.{OutState, InState, PutStep}
-use Rattle.sock_programs.specs.Parts.{part}
+use Rattle.seat_programs.specs.Parts.{part}
 use Rattle.sock_core.specs.Links.{LinksData}
 use Rattle.sock_core.specs.Machines.{TableState, table_sizes}
 use Rattle.sock_core.specs.Steps.{SameBase, Goes, Makes, IsNext, AskedAt, OutsAfter, left_behind, taken_behind}
@@ -123,8 +123,8 @@ behind_put a other others points.Rest = tt
 behind_put a other others (points.Open g (opens.Claim i)) = tt
 behind_put a other others (points.Open g (opens.StoreLink i)) = tt
 behind_put a other others (points.Open g (opens.ResetHead i)) = tt
-behind_put a other others (points.Open g (opens.WipeCode i)) = tt
-behind_put a other others (points.Open g (opens.GiveBirth i)) = tt
+behind_put a other others (points.Open g (opens.ClearCode i)) = tt
+behind_put a other others (points.Open g (opens.CreateLife i)) = tt
 behind_put a other others (points.Open g (opens.StoreOpen i v)) = tt
 behind_put a other others (points.Open g (opens.StoreName i v)) = tt
 behind_put a other others (points.Open g opens.TakeLink) = tt
@@ -138,7 +138,7 @@ behind_put a other others (points.Seek (aims.End o) seeks.Load) = tt
 behind_put a other others (points.Seek aim (seeks.AddRef id)) = tt
 behind_put a other others (points.Fail f fails.SetOdd) = tt
 behind_put a other others (points.Fail f (fails.StoreCode w)) = tt
-behind_put a other others (points.Fail f (fails.GiveBack w)) = tt
+behind_put a other others (points.Fail f (fails.ReleaseFirst w)) = tt
 behind_put a other others (points.Release i t releases.SubRef) = tt
 behind_put a other others (points.Release i t (releases.Recycle w)) = tt
 behind_put a other others (points.Release i t (releases.LoadLink w)) = tt
@@ -161,7 +161,7 @@ behind_put a other others (points.Write w (writes.Put m asked)) = tt
 behind_put a other others (points.Write w (writes.Ask m)) = tt
 behind_put a other others (points.Write w (writes.SetOdd m)) = tt
 behind_put a other others (points.Write w (writes.StoreCode m)) = tt
-behind_put a other others (points.Write w (writes.GiveBack m)) = tt
+behind_put a other others (points.Write w (writes.ReleaseFirst m)) = tt
 behind_put a other others (points.Write w (writes.StorePlace m)) = tt
 behind_put a other others (points.Write w (writes.LoadCode m)) = tt
 behind_put a other others (points.Write w (writes.DropPlace m n)) = tt

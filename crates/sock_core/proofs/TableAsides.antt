@@ -4,13 +4,13 @@ use mathlib.Core.Option as core
 use Rattle.corr_core.specs.Word.{parts, code_of}
 use Rattle.sock_message.specs.Asked.{Asked}
 use Rattle.id_points.specs.Ids.{id_of}
-use Rattle.sock_programs.specs.Asides as asides
-use Rattle.sock_programs.specs.Asides.{Step, Found, Taking, Bytes, PutCall, id_slot}
-use Rattle.sock_programs.specs.Beside.{calls_after}
-use Rattle.sock_programs.specs.Heads.{HasEnded, Unlocks}
-use Rattle.sock_programs.specs.Posts.{ends_call, end_id, unlocked, decided}
-use Rattle.sock_programs.specs.Cores.{Calls}
-use Rattle.sock_programs.specs.Programs.{Program, Aside, Round}
+use Rattle.seat_programs.specs.Asides as asides
+use Rattle.seat_programs.specs.Asides.{Step, Found, Taking, Bytes, PutCall, id_slot}
+use Rattle.seat_programs.specs.Beside.{calls_after}
+use Rattle.seat_programs.specs.Heads.{HasEnded, Unlocks}
+use Rattle.seat_programs.specs.Posts.{ends_call, end_id, unlocked, decided}
+use Rattle.seat_programs.specs.Cores.{Calls}
+use Rattle.seat_programs.specs.Programs.{Program, Aside, Round}
 use Rattle.sock_runs.specs.Sound.{first_step}
 use Rattle.call_slots.specs.Slots.{SlotState, calls_with}
 use Rattle.call_slots.specs.Steps as slots
@@ -22,23 +22,23 @@ use Rattle.call_points.specs.Steps.{after_word, after_call, word_behind, with_wo
 use Rattle.call_points.specs.declared.deciding.DecideStep.TheVariants as decides
 use Rattle.call_points.specs.declared.posting.PostStep.TheVariants as posts
 use Rattle.call_points.specs.declared.locking.LockStep.TheVariants as locks
-use Rattle.seat_points.specs.declared.point.OpenStep.TheVariants as opens
-use Rattle.seat_points.specs.declared.point.SeekStep.TheVariants as seeks
-use Rattle.seat_points.specs.declared.point.Aim.TheVariants as aims
-use Rattle.seat_points.specs.declared.point.FailStep.TheVariants as fails
-use Rattle.seat_points.specs.declared.point.ReleaseStep.TheVariants as releases
-use Rattle.seat_points.specs.declared.point.SendStep.TheVariants as sends
-use Rattle.seat_points.specs.declared.point.WriteStep.TheVariants as writes
-use Rattle.seat_points.specs.declared.point.Author.{Author}
-use Rattle.seat_points.specs.declared.point.Author.TheVariants as authors
-use Rattle.seat_points.specs.declared.point.CallStep.TheVariants as begins
-use Rattle.seat_points.specs.declared.point.AttemptStep.TheVariants as attempts
-use Rattle.seat_points.specs.declared.point.RetryStep.TheVariants as retries
-use Rattle.seat_points.specs.declared.point.JoinStep.TheVariants as joins
-use Rattle.seat_points.specs.declared.point.Point.{Point}
-use Rattle.seat_points.specs.declared.point.Point.TheVariants as points
-use Rattle.seat_points.specs.Points.{Around, point_program, look_program, after_program, GoesByWord, TakesCall}
-use Rattle.seat_points.specs.Steps.{First, OfAside, first_of, first_in}
+use Rattle.seat_states.specs.declared.point.OpenStep.TheVariants as opens
+use Rattle.seat_states.specs.declared.point.SeekStep.TheVariants as seeks
+use Rattle.seat_states.specs.declared.point.Aim.TheVariants as aims
+use Rattle.seat_states.specs.declared.point.FailStep.TheVariants as fails
+use Rattle.seat_states.specs.declared.point.ReleaseStep.TheVariants as releases
+use Rattle.seat_states.specs.declared.point.SendStep.TheVariants as sends
+use Rattle.seat_states.specs.declared.point.WriteStep.TheVariants as writes
+use Rattle.seat_states.specs.declared.point.Author.{Author}
+use Rattle.seat_states.specs.declared.point.Author.TheVariants as authors
+use Rattle.seat_states.specs.declared.point.CallStep.TheVariants as begins
+use Rattle.seat_states.specs.declared.point.AttemptStep.TheVariants as attempts
+use Rattle.seat_states.specs.declared.point.RetryStep.TheVariants as retries
+use Rattle.seat_states.specs.declared.point.JoinStep.TheVariants as joins
+use Rattle.seat_states.specs.declared.point.Point.{Point}
+use Rattle.seat_states.specs.declared.point.Point.TheVariants as points
+use Rattle.seat_states.specs.Points.{Around, point_program, look_program, after_program, GoesByWord, TakesCall}
+use Rattle.seat_states.specs.Steps.{First, OfAside, first_of, first_in}
 use Rattle.sock_core.specs.Steps.{IsOnWord, FitsSlots}
 use Rattle.sock_core.specs.Machines.{TableState}
 use Rattle.sock_core.proofs.FirstSteps.{IsBare, bare_first, after_first, step_is}
@@ -170,8 +170,8 @@ facts a points.Rest = tt
 facts a (points.Open g (opens.Claim i)) = tt
 facts a (points.Open g (opens.StoreLink i)) = tt
 facts a (points.Open g (opens.ResetHead i)) = tt
-facts a (points.Open g (opens.WipeCode i)) = tt
-facts a (points.Open g (opens.GiveBirth i)) = tt
+facts a (points.Open g (opens.ClearCode i)) = tt
+facts a (points.Open g (opens.CreateLife i)) = tt
 facts a (points.Open g (opens.StoreOpen i v)) = tt
 facts a (points.Open g (opens.StoreName i v)) = tt
 facts a (points.Open g opens.TakeLink) = tt
@@ -185,7 +185,7 @@ facts a (points.Seek (aims.End o) seeks.Load) = tt
 facts a (points.Seek aim (seeks.AddRef id)) = tt
 facts a (points.Fail f fails.SetOdd) = tt
 facts a (points.Fail f (fails.StoreCode w)) = tt
-facts a (points.Fail f (fails.GiveBack w)) = tt
+facts a (points.Fail f (fails.ReleaseFirst w)) = tt
 facts a (points.Release i t releases.SubRef) = tt
 facts a (points.Release i t (releases.Recycle w)) = tt
 facts a (points.Release i t (releases.LoadLink w)) = tt
@@ -208,7 +208,7 @@ facts a (points.Write w (writes.Put m asked)) = tt
 facts a (points.Write w (writes.Ask m)) = tt
 facts a (points.Write w (writes.SetOdd m)) = tt
 facts a (points.Write w (writes.StoreCode m)) = tt
-facts a (points.Write w (writes.GiveBack m)) = tt
+facts a (points.Write w (writes.ReleaseFirst m)) = tt
 facts a (points.Write w (writes.StorePlace m)) = tt
 facts a (points.Write w (writes.LoadCode m)) = tt
 facts a (points.Write w (writes.DropPlace m n)) = tt

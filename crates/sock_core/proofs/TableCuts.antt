@@ -8,9 +8,9 @@ use mathlib.Core.Option as core
 use lib.ListN.{get_elem?}
 use Rattle.brpc_model.specs.Link.{LinkEnd}
 use Rattle.sock_io.specs.Link.{OutState, InState}
-use Rattle.sock_programs.specs.Asides.{Taking}
-use Rattle.sock_programs.specs.Calls as calls
-use Rattle.sock_core.specs.Links.{LinksData, ArePrompt, TellClosing}
+use Rattle.seat_programs.specs.Asides.{Taking}
+use Rattle.seat_programs.specs.Calls as calls
+use Rattle.sock_core.specs.Links.{LinksData, AreAlwaysReady, TellClosing}
 use Rattle.sock_core.specs.Machines.{MachineState, TableState, table_of}
 use Rattle.sock_core.specs.Reading.{IsCutTable, IsCutShort, TakenFrom}
 use Rattle.sock_core.specs.Runs.{SameLink}
@@ -21,8 +21,8 @@ use Rattle.sock_core.proofs.Joining.{same_link_none}
 each_same : (es es' : List LinkEnd) → es' ≡ es → (k : ℕ) (a b : LinkEnd) → slice_get es k ≡ Some a → slice_get es' k ≡ Some b → SameLink a b
 each_same es es' e k a b at also = subst (SameLink a) (same_Some a b (sym at ∙ ap (λ (xs : List LinkEnd). slice_get xs k) (sym e) ∙ also)) (same_link_none a)
 
-prompt_same : (l l' : LinksData) → l'.outs ≡ l.outs → ArePrompt l → ArePrompt l'
-prompt_same l l' same prompt k out at = prompt k out (sym (ap (λ (os : List OutState). get_elem? os k) same) ∙ at)
+prompt_same : (l l' : LinksData) → l'.outs ≡ l.outs → AreAlwaysReady l → AreAlwaysReady l'
+prompt_same l l' same always_ready k out at = always_ready k out (sym (ap (λ (os : List OutState). get_elem? os k) same) ∙ at)
 
 tell_same : (l l' : LinksData) → l'.inns ≡ l.inns → TellClosing l → TellClosing l'
 tell_same l l' same tell k inn at = tell k inn (sym (ap (λ (is : List InState). get_elem? is k) same) ∙ at)
@@ -42,7 +42,7 @@ cut_ids t u plan ids calls ending letters links ends outcomes = record {
   outcomes = outcomes;
   as_many = ap length ends;
   each = each_same t.ends u.ends ends;
-  prompt = prompt_same t.links u.links (ap (λ (l : LinksData). l.outs) links);
+  always_ready = prompt_same t.links u.links (ap (λ (l : LinksData). l.outs) links);
   tell = tell_same t.links u.links (ap (λ (l : LinksData). l.inns) links);
 }
 
@@ -62,7 +62,7 @@ cut_halves t u plan ids own ending letters holders nexts outs inns ends outcomes
   outcomes = outcomes;
   as_many = ap length ends;
   each = each_same t.ends u.ends ends;
-  prompt = prompt_same t.links u.links outs;
+  always_ready = prompt_same t.links u.links outs;
   tell = tell_same t.links u.links inns;
 }
 
@@ -89,14 +89,14 @@ outs_length : (call : calls.Call) (old fresh : List OutState) → OutsAfter call
 outs_length (calls.FinishLink k) old fresh o = ap length o.3 ∙ length-set old k o.1
 outs_length _ old fresh o = ap length o
 
-prompt_set : (l l' : LinksData) (k : ℕ) (out out' : OutState) → get_elem? l.outs k ≡ core.some out → l'.outs ≡ slice_set l.outs k out' → out'.prompt ≡ out.prompt → ArePrompt l → ArePrompt l'
-prompt_set l l' k out out' at outs same prompt j other there = ⊎_elim
-    (λ a. subst (λ (o : OutState). o.prompt ≡ true) a.1 (same ∙ prompt k out at))
-    (λ a. prompt j other a.1)
+prompt_set : (l l' : LinksData) (k : ℕ) (out out' : OutState) → get_elem? l.outs k ≡ core.some out → l'.outs ≡ slice_set l.outs k out' → out'.always_ready ≡ out.always_ready → AreAlwaysReady l → AreAlwaysReady l'
+prompt_set l l' k out out' at outs same always_ready j other there = ⊎_elim
+    (λ a. subst (λ (o : OutState). o.always_ready ≡ true) a.1 (same ∙ always_ready k out at))
+    (λ a. always_ready j other a.1)
     (at_set l.outs k j out' other (sym (ap (λ (os : List OutState). get_elem? os j) outs) ∙ there))
 
-prompt_call : (call : calls.Call) (l l' : LinksData) → OutsAfter call l.outs l'.outs → ArePrompt l → ArePrompt l'
-prompt_call (calls.FinishLink k) l l' o = prompt_set l l' k o.0 o.1 o.2 o.3 o.4.same.prompt
+prompt_call : (call : calls.Call) (l l' : LinksData) → OutsAfter call l.outs l'.outs → AreAlwaysReady l → AreAlwaysReady l'
+prompt_call (calls.FinishLink k) l l' o = prompt_set l l' k o.0 o.1 o.2 o.3 o.4.same.always_ready
 prompt_call _ l l' o = prompt_same l l' o
 
 pub cut_call : (t u : TableState) (i : ℕ) (call : calls.Call) → u.plan ≡ t.plan → u.ids.plan ≡ t.ids.plan → u.calls ≡ t.calls → u.ending ≡ t.ending → length u.letters ≡ length t.letters → u.links.holders ≡ holders_after i call t.links.holders → u.links.nexts ≡ t.links.nexts →
@@ -114,7 +114,7 @@ cut_call t u i call plan ids own ending letters holders nexts outs inns ends out
   outcomes = outcomes;
   as_many = ap length ends;
   each = each_same t.ends u.ends ends;
-  prompt = prompt_call call t.links u.links outs;
+  always_ready = prompt_call call t.links u.links outs;
   tell = tell_same t.links u.links inns;
 }
 
@@ -163,7 +163,7 @@ cut_take t u k n taking from plan ids own ending letters holders nexts outs outc
   outcomes = outcomes;
   as_many = ap length from.ends_are ∙ length-set t.ends k from.behind;
   each = each_set t.ends u.ends k from.before from.behind from.end_at from.ends_are from.same;
-  prompt = prompt_same t.links u.links outs;
+  always_ready = prompt_same t.links u.links outs;
   tell = tell_set t.links u.links k from.inn from.inn' from.at from.inns_are (⊎_elim (λ c. inl c) (λ c. inr c.1) from.closing);
 }
 
@@ -185,7 +185,7 @@ cut_machine m fresh c short opens seats readers = record {
   seats = seats;
   readers = readers;
   outcomes = c.outcomes;
-  links = record { as_many = c.as_many; each = c.each; prompt = c.prompt; tell = c.tell };
+  links = record { as_many = c.as_many; each = c.each; always_ready = c.always_ready; tell = c.tell };
 }
 
 pub short_along : {m n fresh : MachineState} → m ≡ n → IsCutShort m fresh → IsCutShort n fresh

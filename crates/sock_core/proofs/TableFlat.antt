@@ -10,48 +10,48 @@ use Rattle.sock_model.specs.Entries.{slot_of, generation_of}
 use Rattle.sock_model.specs.Memory.{IDLE, UNCONNECTED}
 use Rattle.sock_model.specs.declared.chain.Heading.{Heading}
 use Rattle.id_points.specs.Ids.{id_of, number_of}
-use Rattle.sock_programs.specs.Asides.{PutCall, id_slot}
-use Rattle.sock_programs.specs.Heads.{HasEnded, Unlocks}
-use Rattle.sock_programs.specs.Posts.{post, ends_call, end_id, unlocked, decided}
-use Rattle.sock_programs.specs.Attempts.{claims_from, attempt, claim_id}
-use Rattle.sock_programs.specs.Calls as calls
-use Rattle.sock_programs.specs.Clients.{HeldLife}
-use Rattle.sock_programs.specs.Writings as heads
-use Rattle.sock_programs.specs.Programs.{Program, Do, TakeMessage, Say, Rest, Aside, Round, Keep, Write, LAST_VERSION, LAST_GENERATION, recycle, release, make_socket, open_from}
-use Rattle.sock_programs.specs.Sends.{one_more, freed, passed_telling, tell_drop, dropped, write_link, accept, claim_from}
+use Rattle.seat_programs.specs.Asides.{PutCall, id_slot}
+use Rattle.seat_programs.specs.Heads.{HasEnded, Unlocks}
+use Rattle.seat_programs.specs.Posts.{post, ends_call, end_id, unlocked, decided}
+use Rattle.seat_programs.specs.Attempts.{claims_from, attempt, claim_id}
+use Rattle.seat_programs.specs.Calls as calls
+use Rattle.seat_programs.specs.Clients.{HeldLife}
+use Rattle.seat_programs.specs.Writings as heads
+use Rattle.seat_programs.specs.Programs.{Program, Do, TakeMessage, Say, Rest, Aside, Round, Keep, Write, LAST_VERSION, LAST_GENERATION, recycle, release, make_socket, open_from}
+use Rattle.seat_programs.specs.Sends.{one_more, freed, passed_telling, tell_drop, dropped, write_link, accept, claim_from}
 use Rattle.call_points.specs.Steps.{after_word}
 use Rattle.call_points.specs.declared.deciding.OnCall.{OnCall}
 use Rattle.call_points.specs.declared.deciding.DecideStep.TheVariants as decides
 use Rattle.call_points.specs.declared.posting.PostStep.TheVariants as posts
 use Rattle.call_points.specs.declared.locking.LockStep.TheVariants as locks
-use Rattle.seat_points.specs.declared.point.OpenStep.TheVariants as opens
-use Rattle.seat_points.specs.declared.point.SeekStep.TheVariants as seeks
-use Rattle.seat_points.specs.declared.point.Aim.TheVariants as aims
-use Rattle.seat_points.specs.declared.point.FailStep.TheVariants as fails
-use Rattle.seat_points.specs.declared.point.ReleaseStep.TheVariants as releases
-use Rattle.seat_points.specs.declared.point.SendStep.TheVariants as sends
-use Rattle.seat_points.specs.declared.point.WriteStep.TheVariants as writes
-use Rattle.seat_points.specs.declared.point.Author.{Author}
-use Rattle.seat_points.specs.declared.point.Author.TheVariants as authors
-use Rattle.seat_points.specs.declared.point.CallStep.TheVariants as begins
-use Rattle.seat_points.specs.declared.point.AttemptStep.TheVariants as attempts
-use Rattle.seat_points.specs.declared.point.RetryStep.TheVariants as retries
-use Rattle.seat_points.specs.declared.point.JoinStep.TheVariants as joins
-use Rattle.seat_points.specs.declared.point.Point.{Point}
-use Rattle.seat_points.specs.declared.point.Point.TheVariants as points
-use Rattle.seat_points.specs.declared.point.Then.{Then}
-use Rattle.seat_points.specs.declared.point.Then.TheVariants as thens
-use Rattle.seat_points.specs.declared.point.ReleaseStep.{ReleaseStep}
-use Rattle.seat_points.specs.declared.point.Aim.{Aim}
-use Rattle.seat_points.specs.declared.point.Writer.{Writer}
-use Rattle.seat_points.specs.declared.point.Next.{Next}
-use Rattle.seat_points.specs.declared.point.Next.TheVariants as nexts
+use Rattle.seat_states.specs.declared.point.OpenStep.TheVariants as opens
+use Rattle.seat_states.specs.declared.point.SeekStep.TheVariants as seeks
+use Rattle.seat_states.specs.declared.point.Aim.TheVariants as aims
+use Rattle.seat_states.specs.declared.point.FailStep.TheVariants as fails
+use Rattle.seat_states.specs.declared.point.ReleaseStep.TheVariants as releases
+use Rattle.seat_states.specs.declared.point.SendStep.TheVariants as sends
+use Rattle.seat_states.specs.declared.point.WriteStep.TheVariants as writes
+use Rattle.seat_states.specs.declared.point.Author.{Author}
+use Rattle.seat_states.specs.declared.point.Author.TheVariants as authors
+use Rattle.seat_states.specs.declared.point.CallStep.TheVariants as begins
+use Rattle.seat_states.specs.declared.point.AttemptStep.TheVariants as attempts
+use Rattle.seat_states.specs.declared.point.RetryStep.TheVariants as retries
+use Rattle.seat_states.specs.declared.point.JoinStep.TheVariants as joins
+use Rattle.seat_states.specs.declared.point.Point.{Point}
+use Rattle.seat_states.specs.declared.point.Point.TheVariants as points
+use Rattle.seat_states.specs.declared.point.Then.{Then}
+use Rattle.seat_states.specs.declared.point.Then.TheVariants as thens
+use Rattle.seat_states.specs.declared.point.ReleaseStep.{ReleaseStep}
+use Rattle.seat_states.specs.declared.point.Aim.{Aim}
+use Rattle.seat_states.specs.declared.point.Writer.{Writer}
+use Rattle.seat_states.specs.declared.point.Next.{Next}
+use Rattle.seat_states.specs.declared.point.Next.TheVariants as nexts
 use Rattle.sock_words.specs.declared.ticket.Ticket.{Ticket}
-use Rattle.seat_points.specs.declared.calling.Calling.{Calling}
-use Rattle.seat_points.specs.declared.point.Attempt.{Attempt}
-use Rattle.seat_points.specs.Points.{Around, IsCalling, HasInHand, IsFramed, framed, point_program, next_program, then_program, gone_then, holder_of, heading_by, has_life, reached_program, unopened_program, seek_program, failed_program, fail_program, release_on, free_on, sent_program, full_program, claims_program, connect_program, look_program, failed_look, write_program, written_program, puts_program, put_piece, next_message, freed_program, told, tell, taken_again, walk_program, first_of_walk, find_program, after_program}
-use Rattle.seat_points.specs.Steps.{First, OfCall, first_of, first_in}
-use Rattle.seat_points.proofs.Behind.{seeks_life, seeks_none}
+use Rattle.seat_states.specs.declared.calling.Calling.{Calling}
+use Rattle.seat_states.specs.declared.point.Attempt.{Attempt}
+use Rattle.seat_states.specs.Points.{Around, IsCalling, HasInHand, IsFramed, framed, point_program, next_program, then_program, gone_then, holder_of, heading_by, has_life, reached_program, unopened_program, seek_program, failed_program, fail_program, release_on, free_on, sent_program, full_program, claims_program, connect_program, look_program, failed_look, write_program, written_program, puts_program, put_piece, next_message, freed_program, told, tell, taken_again, walk_program, first_of_walk, find_program, after_program}
+use Rattle.seat_states.specs.Steps.{First, OfCall, first_of, first_in}
+use Rattle.seat_states.proofs.Behind.{seeks_life, seeks_none}
 use Rattle.client_seats.specs.Following.{IsFlat}
 
 -- it doesn't tell that a call ended, and keeps no retry
@@ -205,8 +205,8 @@ ends_none a points.Rest found = tt
 ends_none a (points.Open g (opens.Claim i)) found = either_none (found == 0) (make_socket g.operation g.name g.link i Rest) (open_from (a.sizes.slots - (i + 1)) (i + 1) g.operation g.name g.link Rest) tt (opens_none (a.sizes.slots - (i + 1)) (i + 1) g.operation g.name g.link)
 ends_none a (points.Open g (opens.StoreLink i)) found = tt
 ends_none a (points.Open g (opens.ResetHead i)) found = tt
-ends_none a (points.Open g (opens.WipeCode i)) found = tt
-ends_none a (points.Open g (opens.GiveBirth i)) found = tt
+ends_none a (points.Open g (opens.ClearCode i)) found = tt
+ends_none a (points.Open g (opens.CreateLife i)) found = tt
 ends_none a (points.Open g (opens.StoreOpen i v)) found = tt
 ends_none a (points.Open g (opens.StoreName i v)) found = tt
 ends_none a (points.Open g opens.TakeLink) found = tt
@@ -220,7 +220,7 @@ ends_none a (points.Seek (aims.End o) seeks.Load) found = seek_none a (aims.End 
 ends_none a (points.Seek aim (seeks.AddRef id)) found = either_none (vref_version found == socket_id_version id.0) (reached_program (bare a) aim id) (release (socket_id_slot id.0) (λ _. then_program (bare a) (gone_then aim found) false)) (reached_none a aim id) tt
 ends_none a (points.Fail f fails.SetOdd) found = either_none (vref_version found % 2 == 0) (fail_program (bare a) f (fails.StoreCode (record { 0 = found }))) (failed_program (bare a) f found) tt tt
 ends_none a (points.Fail f (fails.StoreCode w)) found = tt
-ends_none a (points.Fail f (fails.GiveBack w)) found = tt
+ends_none a (points.Fail f (fails.ReleaseFirst w)) found = tt
 ends_none a (points.Release i t releases.SubRef) found = release_none i (then_program (bare a) t) (then_none a t) releases.SubRef found
 ends_none a (points.Release i t (releases.Recycle w)) found = release_none i (then_program (bare a) t) (then_none a t) (releases.Recycle w) found
 ends_none a (points.Release i t (releases.LoadLink w)) found = tt
@@ -243,7 +243,7 @@ ends_none a (points.Write w (writes.Put m asked)) found = tt
 ends_none a (points.Write w (writes.Ask m)) found = tt
 ends_none a (points.Write w (writes.SetOdd m)) found = either_none (vref_version found % 2 == 0) (write_program (bare a) w (writes.StoreCode m)) (puts_program (bare a) w m false) tt tt
 ends_none a (points.Write w (writes.StoreCode m)) found = tt
-ends_none a (points.Write w (writes.GiveBack m)) found = tt
+ends_none a (points.Write w (writes.ReleaseFirst m)) found = tt
 ends_none a (points.Write w (writes.StorePlace m)) found = passed_none (one_more (holder_of w.holder)) m.ticket.0 (λ next. next) (written_program (bare a) w) (λ next h. h)
 ends_none a (points.Write w (writes.LoadCode m)) found = tt
 ends_none a (points.Write w (writes.DropPlace m n)) found = passed_none (one_more (holder_of w.holder)) m.ticket.0 (tell m.author a.left_parts n) (written_program (bare a) w) (λ next h. tell_none (heading_by m.author a.left_parts) n next h)
@@ -253,7 +253,7 @@ ends_none a (points.Write w (writes.TakeMessage next)) found = tt
 ends_none a (points.Write w writes.PutHome) found = tt
 ends_none a (points.Write w writes.EmptyHead) found = either_none (found == w.holder.last.0) (written_program (bare a) w) (taken_again (bare a) w found) tt tt
 ends_none a (points.Write w (writes.TakeHome word)) found = tt
-ends_none a (points.Write w (writes.Walk top at after)) found = either_none (found == UNCONNECTED) (walk_program (bare a) w top.0 at.0 after.0) (Do (calls.TurnNext (slot_of at.0) after.0) (λ _. if found == w.holder.last.0 then first_of_walk (bare a) w top.0 at.0 else walk_program (bare a) w top.0 found at.0)) tt tt
+ends_none a (points.Write w (writes.Walk top at after)) found = either_none (found == UNCONNECTED) (walk_program (bare a) w top.0 at.0 after.0) (Do (calls.ReverseNext (slot_of at.0) after.0) (λ _. if found == w.holder.last.0 then first_of_walk (bare a) w top.0 at.0 else walk_program (bare a) w top.0 found at.0)) tt tt
 ends_none a (points.Write w (writes.Turn top at after before)) found = either_none (before.0 == w.holder.last.0) (first_of_walk (bare a) w top.0 at.0) (walk_program (bare a) w top.0 before.0 at.0) tt tt
 ends_none a (points.Write w (writes.TakeFirst top at)) found = tt
 ends_none a (points.Call begins.LoadName) found = either_none (found == 0) (Say a.asked.operation Unopened Rest) (claim_id a.sizes.ids 0 a.sizes.requests (found - 1) a.asked Rest) tt (ids_none a.sizes.ids 0 a.sizes.requests (found - 1) a.asked)

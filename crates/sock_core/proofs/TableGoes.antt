@@ -2,19 +2,19 @@
 use Rattle.std.proofs.Common.{◌≡◌, refl, ℕ, List, Option, Some, ap, sym, ◌∙◌, subst}
 use Rattle.sock_words.specs.declared.outcome.Outcome.{Outcome}
 use Rattle.sock_model.specs.declared.chain.Heading.{Heading}
-use Rattle.sock_programs.specs.declared.task.Sizes.{Sizes}
-use Rattle.sock_programs.specs.Calls as calls
-use Rattle.sock_programs.specs.Cores.{said, resolved}
-use Rattle.sock_programs.specs.Programs.{Program}
+use Rattle.seat_programs.specs.declared.task.Sizes.{Sizes}
+use Rattle.seat_programs.specs.Calls as calls
+use Rattle.seat_programs.specs.Cores.{said, resolved}
+use Rattle.seat_programs.specs.Programs.{Program}
 use Rattle.call_points.specs.Steps.{after_word}
-use Rattle.seat_points.specs.declared.calling.Calling.{Calling}
-use Rattle.seat_points.specs.declared.point.CallStep.TheVariants as begins
-use Rattle.seat_points.specs.declared.point.RetryStep.TheVariants as retries
-use Rattle.seat_points.specs.declared.point.Next.{Next}
-use Rattle.seat_points.specs.declared.point.Point.{Point}
-use Rattle.seat_points.specs.declared.point.Point.TheVariants as points
-use Rattle.seat_points.specs.Points.{Around, point_program, next_program, framed, IsCalling, HasInHand, IsWithin, IsWithinIds, MayFind, MayFindAside, HasLinkAt, TellsCodeAt, GoesByWord}
-use Rattle.seat_points.specs.Steps.{OfCall, first_in}
+use Rattle.seat_states.specs.declared.calling.Calling.{Calling}
+use Rattle.seat_states.specs.declared.point.CallStep.TheVariants as begins
+use Rattle.seat_states.specs.declared.point.RetryStep.TheVariants as retries
+use Rattle.seat_states.specs.declared.point.Next.{Next}
+use Rattle.seat_states.specs.declared.point.Point.{Point}
+use Rattle.seat_states.specs.declared.point.Point.TheVariants as points
+use Rattle.seat_states.specs.Points.{Around, point_program, next_program, framed, IsCalling, HasInHand, IsWithin, IsWithinIds, MayFind, MayFindAside, HasLinkAt, TellsCodeAt, GoesByWord}
+use Rattle.seat_states.specs.Steps.{OfCall, first_in}
 use Rattle.message_parts.specs.Frames.{ParcelData}
 use Rattle.client_seats.specs.declared.hand.InHand.{InHand}
 use Rattle.client_seats.specs.declared.seat.Seat.{Seat}

@@ -5,12 +5,12 @@ use Rattle.atomic_table.proofs.Lists.{at_index}
 use mathlib.Core.Option as core
 use lib.ListN.{get_elem?}
 use Rattle.sock_runs.proofs.Along.{place_inside}
-use Rattle.seat_points.specs.Steps.{first_in}
+use Rattle.seat_states.specs.Steps.{first_in}
 use Rattle.reader_points.specs.declared.point.ReadStep.{ReadStep}
 use Rattle.reader_points.specs.Steps.{step_as}
 use Rattle.reader_seats.specs.Readers.{ReaderData, reader_program}
 use Rattle.sock_core.specs.declared.machine.Tick.{Tick}
-use Rattle.seat_points.specs.declared.point.Step.{Step}
+use Rattle.seat_states.specs.declared.point.Step.{Step}
 use Rattle.client_seats.specs.Following.{IsPrepared}
 use Rattle.client_seats.specs.Seats.{SeatData}
 use Rattle.sock_core.specs.Machines.{MachineState, TableState, machine_sizes, table_of}

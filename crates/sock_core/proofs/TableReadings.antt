@@ -5,20 +5,20 @@ use Rattle.sock_words.specs.declared.kind.Kind.{Kind}
 use Rattle.sock_words.specs.declared.kind.Kind.TheVariants.{K2, R1}
 use Rattle.sock_words.specs.declared.outcome.Outcome.{Outcome}
 use Rattle.sock_message.specs.Asked.{Asked}
-use Rattle.sock_programs.specs.Asides as asides
-use Rattle.sock_programs.specs.Asides.{Found, Taking}
-use Rattle.sock_programs.specs.Beside.{found_in, at_last}
-use Rattle.sock_programs.specs.Cores.{word_of, found_at, words_after, word_after}
-use Rattle.sock_programs.specs.Programs.{Program}
-use Rattle.sock_programs.specs.Ticks.{Unasked, OfTake, is_nothing}
+use Rattle.seat_programs.specs.Asides as asides
+use Rattle.seat_programs.specs.Asides.{Found, Taking}
+use Rattle.seat_programs.specs.Beside.{found_in, at_last}
+use Rattle.seat_programs.specs.Cores.{word_of, found_at, words_after, word_after}
+use Rattle.seat_programs.specs.Programs.{Program}
+use Rattle.seat_programs.specs.Ticks.{Unasked, OfTake, is_nothing}
 use Rattle.call_points.specs.declared.aside.Aside as code
 use Rattle.call_points.specs.declared.aside.Aside.TheVariants as variants
 use Rattle.call_points.specs.Steps as aside_steps
 use Rattle.call_points.specs.Steps.{after_word, after_call}
 use Rattle.call_slots.specs.Steps as slots
 use Rattle.call_slots.specs.Steps.{word_found}
-use Rattle.seat_points.specs.declared.call.Call.{Call}
-use Rattle.seat_points.specs.Steps.{OfCall, OfAside, step_of, kind_of_first}
+use Rattle.seat_states.specs.declared.call.Call.{Call}
+use Rattle.seat_states.specs.Steps.{OfCall, OfAside, step_of, kind_of_first}
 use Rattle.reader_points.specs.declared.point.ReadPoint.{ReadPoint}
 use Rattle.reader_points.specs.declared.point.ReadStep.{ReadStep}
 use Rattle.reader_points.specs.declared.point.ReadStep.TheVariants as steps

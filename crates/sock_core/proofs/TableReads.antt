@@ -3,18 +3,18 @@ use Rattle.std.proofs.Common.{◌≡◌, refl, ℕ, ◌+◌, ◌≤◌, Bool, tr
 use Rattle.corr_core.specs.Word.{parts, code_of}
 use Rattle.sock_message.specs.Asked.{Asked}
 use Rattle.id_points.specs.Ids.{id_of}
-use Rattle.sock_programs.specs.Calls as calls
-use Rattle.sock_programs.specs.Asides as asides
-use Rattle.sock_programs.specs.Asides.{Step, Taking, PutCall, id_slot}
-use Rattle.sock_programs.specs.Heads.{HasEnded, Unlocks}
-use Rattle.sock_programs.specs.Posts.{ends_call, end_id, unlocked}
-use Rattle.sock_programs.specs.Programs.{Program, Aside, Round}
+use Rattle.seat_programs.specs.Calls as calls
+use Rattle.seat_programs.specs.Asides as asides
+use Rattle.seat_programs.specs.Asides.{Step, Taking, PutCall, id_slot}
+use Rattle.seat_programs.specs.Heads.{HasEnded, Unlocks}
+use Rattle.seat_programs.specs.Posts.{ends_call, end_id, unlocked}
+use Rattle.seat_programs.specs.Programs.{Program, Aside, Round}
 use Rattle.sock_runs.specs.Sound.{first_step}
 use Rattle.call_points.specs.Steps.{after_call}
 use Rattle.call_points.specs.declared.posting.PostStep.TheVariants as posts
 use Rattle.call_points.specs.declared.locking.LockStep.TheVariants as locks
 use Rattle.call_points.specs.declared.ending.EndStep.TheVariants as ends
-use Rattle.seat_points.specs.declared.point.ReleaseStep.TheVariants as releases
+use Rattle.seat_states.specs.declared.point.ReleaseStep.TheVariants as releases
 use Rattle.reader_points.specs.declared.point.AnswerStep.TheVariants as answers
 use Rattle.reader_points.specs.declared.point.CloseStep.TheVariants as closes
 use Rattle.reader_points.specs.declared.point.FailStep.TheVariants as lost
@@ -22,7 +22,7 @@ use Rattle.reader_points.specs.declared.point.ReadPoint.{ReadPoint}
 use Rattle.reader_points.specs.declared.point.ReadPoint.TheVariants as points
 use Rattle.reader_points.specs.Points.{Around, point_program, error_in, ended_call, room_at, GoesByWord, TakesBytes, TakesCall}
 use Rattle.reader_points.specs.Steps.{after_taking, taken_behind}
-use Rattle.seat_points.specs.Steps.{First, OfCall, OfAside, first_of, first_in}
+use Rattle.seat_states.specs.Steps.{First, OfCall, OfAside, first_of, first_in}
 use Rattle.sock_core.proofs.FirstSteps.{IsBare, bare_first, step_is}
 use Rattle.sock_core.proofs.TableAsides.{FindsWord}
 
@@ -54,7 +54,7 @@ facts a (points.Answer b id (answers.End o ends.Free)) = tt
 facts a (points.Close c closes.AddRef) = tt
 facts a (points.Close c closes.SetOdd) = tt
 facts a (points.Close c closes.StoreCode) = tt
-facts a (points.Close c closes.GiveBack) = tt
+facts a (points.Close c closes.ReleaseFirst) = tt
 facts a (points.Close c (closes.Release releases.SubRef)) = tt
 facts a (points.Close c (closes.Release (releases.Recycle from))) = tt
 facts a (points.Close c (closes.Release (releases.LoadLink w))) = tt

@@ -1,12 +1,12 @@
 -- A seat that asks no link, makes no step aside of the sockets and holds no life wants no room.
 use Rattle.std.proofs.Common.{◌≡◌, refl, ℕ, ◌<◌, ◌⊎◌, inl, inr, Some, vec_len, vec_capacity, sym, subst}
 use Rattle.sock_words.specs.declared.socket_id.SocketId.{SocketId}
-use Rattle.sock_programs.specs.Programs.{Program, Do, Say, Sent, Rest, Retries}
+use Rattle.seat_programs.specs.Programs.{Program, Do, Say, Sent, Rest, Retries}
 use Rattle.call_points.specs.Steps.{after_word}
-use Rattle.seat_points.specs.declared.point.Next.{Next}
-use Rattle.seat_points.specs.declared.point.Next.TheVariants as nexts
-use Rattle.seat_points.specs.Points.{Around, next_program}
-use Rattle.seat_points.specs.Steps.{First, OfCall, first_in}
+use Rattle.seat_states.specs.declared.point.Next.{Next}
+use Rattle.seat_states.specs.declared.point.Next.TheVariants as nexts
+use Rattle.seat_states.specs.Points.{Around, next_program}
+use Rattle.seat_states.specs.Steps.{First, OfCall, first_in}
 use Rattle.client_seats.specs.declared.seat.Seat.{Seat}
 use Rattle.client_seats.specs.Seats.{seat_data, seat_program}
 use Rattle.client_seats.specs.Following.{HasRoom}

@@ -11,10 +11,10 @@ use Rattle.sock_io.specs.declared.link.Take.TheVariants as takes
 use Rattle.sock_io.specs.Causes.{Rose}
 use Rattle.sock_io.specs.Link.{OutState, InState, Offer, IsServed, IsSettled, OfferTaken, OffersKept, OffersTaken, TakeStep, SettleStep, given_of, offered_by, of_take, more_told, end_of}
 use Rattle.sock_io.proofs.Offers.{served_take, gave_offered, gave_to_end}
-use Rattle.whole_runs.specs.Heard.{answer_of}
-use Rattle.whole_runs.specs.Offered.{GaveSo}
-use Rattle.sock_programs.specs.Asides.{Closed}
-use Rattle.sock_programs.specs.Ticks.{FitsTake}
+use Rattle.run_theorems.specs.Heard.{answer_of}
+use Rattle.run_theorems.specs.Offered.{GaveSo}
+use Rattle.seat_programs.specs.Asides.{Closed}
+use Rattle.seat_programs.specs.Ticks.{FitsTake}
 use Rattle.reader_seats.specs.GoesOn.{taking_of}
 use Rattle.sock_core.specs.Links.{is_done}
 use Rattle.sock_core.specs.Machines.{TableState}

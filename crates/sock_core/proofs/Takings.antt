@@ -12,18 +12,18 @@ use Rattle.brpc_model.specs.Link.{LinkEnd, TakeAnswer}
 use Rattle.sock_io.specs.Link.{more_told}
 use Rattle.sock_words.specs.declared.plain.Plan.{Plan}
 use Rattle.sock_runs.proofs.Along.{place_inside}
-use Rattle.whole_runs.specs.Heard.{as_told, as_taken, answer_of, take_answers, taken_link, heard_at, heard_in, taken_at, taken_in}
-use Rattle.sock_programs.specs.Asides as asides
-use Rattle.sock_programs.specs.Asides.{Taking, TakeBytes, PutCall, id_slot}
-use Rattle.sock_programs.specs.Heads.{Posts, Unlocks, Decides, Locks, Joins, Opens, Reads, Discards, HasEnded}
-use Rattle.sock_programs.specs.Posts.{ends_call, end_id, unlocked}
-use Rattle.sock_programs.specs.Writings as heads
-use Rattle.sock_programs.specs.Programs.{Program, Do, Say, Sent, Rest, TakeMessage, TakeHome, PutHome, PutBytes, AskReady, Write, Aside, Round, Keep, Retries}
-use Rattle.sock_programs.specs.Cores.{Core, SeatState}
-use Rattle.sock_programs.specs.Ticks.{Answer, Unasked, OfPut, OfReady, OfTake, Moment, taken, IsAnswer, IsAnswered, asked_link, is_refusal, broken_at, broken_in}
-use Rattle.seat_points.specs.declared.point.Step.{Step}
-use Rattle.seat_points.specs.Steps.{First, OfCall, OfAside, OfMessage, OfLink, OfHome, first_of, first_in}
-use Rattle.seat_points.specs.Steps as kinds
+use Rattle.run_theorems.specs.Heard.{as_told, as_taken, answer_of, take_answers, taken_link, heard_at, heard_in, taken_at, taken_in}
+use Rattle.seat_programs.specs.Asides as asides
+use Rattle.seat_programs.specs.Asides.{Taking, TakeBytes, PutCall, id_slot}
+use Rattle.seat_programs.specs.Heads.{Posts, Unlocks, Decides, Locks, Joins, Opens, Reads, Discards, HasEnded}
+use Rattle.seat_programs.specs.Posts.{ends_call, end_id, unlocked}
+use Rattle.seat_programs.specs.Writings as heads
+use Rattle.seat_programs.specs.Programs.{Program, Do, Say, Sent, Rest, TakeMessage, TakeHome, PutHome, PutBytes, AskReady, Write, Aside, Round, Keep, Retries}
+use Rattle.seat_programs.specs.Cores.{Core, SeatState}
+use Rattle.seat_programs.specs.Ticks.{Answer, Unasked, OfPut, OfReady, OfTake, Moment, taken, IsAnswer, IsAnswered, asked_link, is_refusal, broken_at, broken_in}
+use Rattle.seat_states.specs.declared.point.Step.{Step}
+use Rattle.seat_states.specs.Steps.{First, OfCall, OfAside, OfMessage, OfLink, OfHome, first_of, first_in}
+use Rattle.seat_states.specs.Steps as kinds
 use Rattle.reader_seats.specs.Readers.{ReaderData}
 use Rattle.client_seats.specs.Seats.{SeatData}
 use Rattle.sock_core.specs.Machines.{MachineState, table_of}

@@ -9,46 +9,46 @@ use Rattle.sock_io.specs.declared.link.Put.{Put}
 use Rattle.sock_io.specs.declared.link.Ready.{Ready}
 use Rattle.sock_io.specs.declared.link.Ready.TheVariants as asks
 use Rattle.sock_words.specs.declared.plain.Plan.{Plan}
-use Rattle.sock_programs.specs.Parts.{part}
-use Rattle.sock_programs.specs.Asides.{id_first, id_slot, PutCall}
-use Rattle.sock_programs.specs.Asides as asides
-use Rattle.sock_programs.specs.Beside.{found_in}
-use Rattle.sock_programs.specs.Heads.{Posts, Unlocks, Decides, Locks, Joins, Opens, Reads, Discards, HasEnded}
-use Rattle.sock_programs.specs.Posts.{ends_call, end_id, unlocked, decided, is_first, is_sought}
-use Rattle.sock_programs.specs.Calls as calls
-use Rattle.sock_programs.specs.Writings as heads
-use Rattle.sock_programs.specs.Programs.{Program, Do, Say, Sent, Rest, TakeMessage, TakeHome, PutHome, PutBytes, AskReady, Write, Aside, Round, Keep, Retries}
-use Rattle.sock_programs.specs.Cores.{Core, word_of, found_at}
-use Rattle.sock_programs.specs.Ticks.{Answer, Unasked, OfPut, OfReady, waits_at}
-use Rattle.sock_programs.specs.Runs.{kind_in}
+use Rattle.seat_programs.specs.Parts.{part}
+use Rattle.seat_programs.specs.Asides.{id_first, id_slot, PutCall}
+use Rattle.seat_programs.specs.Asides as asides
+use Rattle.seat_programs.specs.Beside.{found_in}
+use Rattle.seat_programs.specs.Heads.{Posts, Unlocks, Decides, Locks, Joins, Opens, Reads, Discards, HasEnded}
+use Rattle.seat_programs.specs.Posts.{ends_call, end_id, unlocked, decided, is_first, is_sought}
+use Rattle.seat_programs.specs.Calls as calls
+use Rattle.seat_programs.specs.Writings as heads
+use Rattle.seat_programs.specs.Programs.{Program, Do, Say, Sent, Rest, TakeMessage, TakeHome, PutHome, PutBytes, AskReady, Write, Aside, Round, Keep, Retries}
+use Rattle.seat_programs.specs.Cores.{Core, word_of, found_at}
+use Rattle.seat_programs.specs.Ticks.{Answer, Unasked, OfPut, OfReady, waits_at}
+use Rattle.seat_programs.specs.Runs.{kind_in}
 use Rattle.call_slots.specs.Steps.{word_found}
 use Rattle.call_points.specs.declared.aside.Aside as code
 use Rattle.call_points.specs.Steps as aside_steps
 use Rattle.call_points.specs.declared.deciding.DecideStep.TheVariants as decides
 use Rattle.call_points.specs.declared.posting.PostStep.TheVariants as posts
 use Rattle.call_points.specs.declared.locking.LockStep.TheVariants as locks
-use Rattle.seat_points.specs.declared.point.OpenStep.TheVariants as opens
-use Rattle.seat_points.specs.declared.point.SeekStep.TheVariants as seeks
-use Rattle.seat_points.specs.declared.point.Aim.TheVariants as aims
-use Rattle.seat_points.specs.declared.point.FailStep.TheVariants as fails
-use Rattle.seat_points.specs.declared.point.ReleaseStep.TheVariants as releases
-use Rattle.seat_points.specs.declared.point.SendStep.TheVariants as sends
-use Rattle.seat_points.specs.declared.point.WriteStep.TheVariants as writes
-use Rattle.seat_points.specs.declared.point.Author.{Author}
-use Rattle.seat_points.specs.declared.point.Author.TheVariants as authors
-use Rattle.seat_points.specs.declared.point.CallStep.TheVariants as begins
-use Rattle.seat_points.specs.declared.point.AttemptStep.TheVariants as attempts
-use Rattle.seat_points.specs.declared.point.RetryStep.TheVariants as retries
-use Rattle.seat_points.specs.declared.point.JoinStep.TheVariants as joins
-use Rattle.seat_points.specs.declared.point.Point.{Point}
-use Rattle.seat_points.specs.declared.point.Point.TheVariants as points
-use Rattle.seat_points.specs.Points.{Around, point_program, look_program, after_program, heading_by, parts_by}
-use Rattle.seat_points.specs.Steps.{First, OfCall, OfAside, OfMessage, OfLink, OfHome, first_of, first_in, kind_of_first}
-use Rattle.seat_points.specs.Steps as kinds
-use Rattle.seat_points.specs.Steps.{step_of, step_as}
-use Rattle.seat_points.specs.declared.call.Call.{Call}
-use Rattle.seat_points.specs.declared.point.Step.{Step}
-use Rattle.seat_points.specs.declared.point.Step.TheVariants as firsts
+use Rattle.seat_states.specs.declared.point.OpenStep.TheVariants as opens
+use Rattle.seat_states.specs.declared.point.SeekStep.TheVariants as seeks
+use Rattle.seat_states.specs.declared.point.Aim.TheVariants as aims
+use Rattle.seat_states.specs.declared.point.FailStep.TheVariants as fails
+use Rattle.seat_states.specs.declared.point.ReleaseStep.TheVariants as releases
+use Rattle.seat_states.specs.declared.point.SendStep.TheVariants as sends
+use Rattle.seat_states.specs.declared.point.WriteStep.TheVariants as writes
+use Rattle.seat_states.specs.declared.point.Author.{Author}
+use Rattle.seat_states.specs.declared.point.Author.TheVariants as authors
+use Rattle.seat_states.specs.declared.point.CallStep.TheVariants as begins
+use Rattle.seat_states.specs.declared.point.AttemptStep.TheVariants as attempts
+use Rattle.seat_states.specs.declared.point.RetryStep.TheVariants as retries
+use Rattle.seat_states.specs.declared.point.JoinStep.TheVariants as joins
+use Rattle.seat_states.specs.declared.point.Point.{Point}
+use Rattle.seat_states.specs.declared.point.Point.TheVariants as points
+use Rattle.seat_states.specs.Points.{Around, point_program, look_program, after_program, heading_by, parts_by}
+use Rattle.seat_states.specs.Steps.{First, OfCall, OfAside, OfMessage, OfLink, OfHome, first_of, first_in, kind_of_first}
+use Rattle.seat_states.specs.Steps as kinds
+use Rattle.seat_states.specs.Steps.{step_of, step_as}
+use Rattle.seat_states.specs.declared.call.Call.{Call}
+use Rattle.seat_states.specs.declared.point.Step.{Step}
+use Rattle.seat_states.specs.declared.point.Step.TheVariants as firsts
 use Rattle.sock_model.specs.declared.chain.Heading.{Heading}
 use Rattle.sock_core.specs.declared.machine.On.{On}
 use Rattle.sock_core.specs.declared.machine.On.TheVariants as on
@@ -192,8 +192,8 @@ module _ (p : Plan) (c : Core) where
   asks_link a (points.Open g (opens.Claim i)) = tt
   asks_link a (points.Open g (opens.StoreLink i)) = tt
   asks_link a (points.Open g (opens.ResetHead i)) = tt
-  asks_link a (points.Open g (opens.WipeCode i)) = tt
-  asks_link a (points.Open g (opens.GiveBirth i)) = tt
+  asks_link a (points.Open g (opens.ClearCode i)) = tt
+  asks_link a (points.Open g (opens.CreateLife i)) = tt
   asks_link a (points.Open g (opens.StoreOpen i v)) = tt
   asks_link a (points.Open g (opens.StoreName i v)) = tt
   asks_link a (points.Open g opens.TakeLink) = tt
@@ -207,7 +207,7 @@ module _ (p : Plan) (c : Core) where
   asks_link a (points.Seek aim (seeks.AddRef id)) = tt
   asks_link a (points.Fail f fails.SetOdd) = tt
   asks_link a (points.Fail f (fails.StoreCode w)) = tt
-  asks_link a (points.Fail f (fails.GiveBack w)) = tt
+  asks_link a (points.Fail f (fails.ReleaseFirst w)) = tt
   asks_link a (points.Release i t releases.SubRef) = tt
   asks_link a (points.Release i t (releases.Recycle w)) = tt
   asks_link a (points.Release i t (releases.LoadLink w)) = tt
@@ -230,7 +230,7 @@ module _ (p : Plan) (c : Core) where
   asks_link a (points.Write w (writes.Ask m)) = (refl, refl, refl, refl)
   asks_link a (points.Write w (writes.SetOdd m)) = tt
   asks_link a (points.Write w (writes.StoreCode m)) = tt
-  asks_link a (points.Write w (writes.GiveBack m)) = tt
+  asks_link a (points.Write w (writes.ReleaseFirst m)) = tt
   asks_link a (points.Write w (writes.StorePlace m)) = tt
   asks_link a (points.Write w (writes.LoadCode m)) = tt
   asks_link a (points.Write w (writes.DropPlace m n)) = tt

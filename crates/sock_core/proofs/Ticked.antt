@@ -14,25 +14,25 @@ use Rattle.sock_io.specs.Link.{OutState, InState, PutStep, ReadyStep, taken_of}
 use Rattle.sock_model.specs.declared.home.Home.{Home}
 use Rattle.sock_model.specs.declared.home.Home.TheVariants.{Link, Message}
 use Rattle.sock_model.specs.Reads.{letter_of, took_of, as_link, shown, message, link_home}
-use Rattle.sock_programs.specs.Asides as asides
-use Rattle.sock_programs.specs.Calls as calls
-use Rattle.sock_programs.specs.Programs.{Program}
-use Rattle.sock_programs.specs.Cores.{Calls, Core, SeatState, word_of, found_at, homes_after, hand_after, first_of, others_of, link_place, with_seat}
-use Rattle.sock_programs.specs.Ticks.{Answer, Unasked, OfPut, OfReady, FitsPut, IsAnswer, IsAnswered, fed, with_places, onto_first, tick_with, ticked}
+use Rattle.seat_programs.specs.Asides as asides
+use Rattle.seat_programs.specs.Calls as calls
+use Rattle.seat_programs.specs.Programs.{Program}
+use Rattle.seat_programs.specs.Cores.{Calls, Core, SeatState, word_of, found_at, homes_after, hand_after, first_of, others_of, link_place, with_seat}
+use Rattle.seat_programs.specs.Ticks.{Answer, Unasked, OfPut, OfReady, FitsPut, IsAnswer, IsAnswered, fed, with_places, onto_first, tick_with, ticked}
 use Rattle.sock_runs.proofs.Along.{place_inside}
 use Rattle.call_points.specs.Steps.{after_word}
 use Rattle.call_points.specs.Steps as aside_steps
 use Rattle.call_slots.specs.Slots.{SlotState, calls_with}
 use Rattle.message_parts.specs.Parcels.{parcel_of}
-use Rattle.seat_points.specs.declared.point.Step.{Step}
-use Rattle.seat_points.specs.declared.point.Step.TheVariants as firsts
-use Rattle.seat_points.specs.declared.point.Author.{Author}
-use Rattle.seat_points.specs.declared.call.Call.{Call}
-use Rattle.seat_points.specs.declared.call.Call.TheVariants as steps
-use Rattle.seat_points.specs.Points.{heading_by, after_link, after_home, after_put, after_ready}
-use Rattle.seat_points.specs.Steps.{First, OfCall, OfAside, OfMessage, OfLink, OfHome, step_of, step_as, first_in}
-use Rattle.seat_points.specs.Steps as kinds
-use Rattle.seat_points.proofs.StepFacts as facts
+use Rattle.seat_states.specs.declared.point.Step.{Step}
+use Rattle.seat_states.specs.declared.point.Step.TheVariants as firsts
+use Rattle.seat_states.specs.declared.point.Author.{Author}
+use Rattle.seat_states.specs.declared.call.Call.{Call}
+use Rattle.seat_states.specs.declared.call.Call.TheVariants as steps
+use Rattle.seat_states.specs.Points.{heading_by, after_link, after_home, after_put, after_ready}
+use Rattle.seat_states.specs.Steps.{First, OfCall, OfAside, OfMessage, OfLink, OfHome, step_of, step_as, first_in}
+use Rattle.seat_states.specs.Steps as kinds
+use Rattle.seat_states.proofs.StepFacts as facts
 use Rattle.client_seats.specs.Seats.{SeatData, around, seat_program, bytes_of, parts_of}
 use Rattle.sock_core.specs.declared.letter.Letter.{Letter}
 use Rattle.sock_core.specs.Links.{LinksData, Taken, Given, Agrees, AgreesGave, IsPaced, holder_of, is_done, link_with, homes_of, hand_of, letter_home}
@@ -206,7 +206,7 @@ fits_put asked bytes puts.Failed out out' step paced = tt
 
 pub letters_by : (call : Call) (old fresh : List (Option Letter)) → fresh ≡ old → LettersBy (step_of call) old fresh
 letters_by (steps.ClaimSlot i) old fresh same = same
-letters_by (steps.GiveBirth i k) old fresh same = same
+letters_by (steps.CreateLife i k) old fresh same = same
 letters_by (steps.AddRef id) old fresh same = same
 letters_by (steps.SubRef i) old fresh same = same
 letters_by (steps.SetOdd i) old fresh same = same
@@ -215,7 +215,7 @@ letters_by (steps.FreeSlot i) old fresh same = same
 letters_by (steps.StoreLink i k) old fresh same = same
 letters_by (steps.LoadLink i w) old fresh same = same
 letters_by (steps.ResetHead i k) old fresh same = same
-letters_by (steps.WipeCode i k) old fresh same = same
+letters_by (steps.ClearCode i k) old fresh same = same
 letters_by (steps.StoreCode i h c) old fresh same = same
 letters_by (steps.StoreName n w) old fresh same = same
 letters_by (steps.LoadName n) old fresh same = same
@@ -233,7 +233,7 @@ letters_by (steps.SwapHead i own) old fresh same = same
 letters_by (steps.Connect q before) old fresh same = same
 letters_by (steps.EmptyHead i last) old fresh same = same
 letters_by (steps.ReadNext q) old fresh same = same
-letters_by (steps.TurnNext q value) old fresh same = same
+letters_by (steps.ReverseNext q value) old fresh same = same
 letters_by (steps.FreeRequest q g) old fresh same = same
 letters_by (steps.StorePlace o k n) old fresh same = same
 letters_by (steps.DropPlace o k n) old fresh same = same

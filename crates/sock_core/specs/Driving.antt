@@ -2,11 +2,11 @@
 use Rattle.std.specs.Prelude.{ℕ, ◌≡◌, ◌≢◌, ◌-◌, ◌<◌, ◌≤◌, true, false, [], slice_set}
 use mathlib.Core.Option as core
 use lib.ListN.{get_elem?}
-use Rattle.sock_programs.specs.Programs.{Program, Do, Say, Sent, Rest, Retries}
-use Rattle.sock_programs.specs.Clients.{ending_of}
-use Rattle.sock_programs.specs.Cores.{next_step}
-use Rattle.sock_programs.specs.Ticks.{quiet, ticked}
-use Rattle.sock_programs.specs.Runs.{IsAtRest}
+use Rattle.seat_programs.specs.Programs.{Program, Do, Say, Sent, Rest, Retries}
+use Rattle.seat_programs.specs.Clients.{ending_of}
+use Rattle.seat_programs.specs.Cores.{next_step}
+use Rattle.seat_programs.specs.Ticks.{quiet, ticked}
+use Rattle.seat_programs.specs.Runs.{IsAtRest}
 use Rattle.sock_words.specs.declared.kind.Kind.{Kind}
 use Rattle.sock_words.specs.declared.outcome.Outcome.TheVariants.{Held}
 use Rattle.sock_core.specs.declared.machine.Tick.{Tick}

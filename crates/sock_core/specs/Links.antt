@@ -6,11 +6,11 @@ use Rattle.sock_words.specs.declared.plain.Plan.{Plan}
 use Rattle.sock_io.specs.Link.{OutState, InState}
 use Rattle.sock_model.specs.declared.home.Home.{Home}
 use Rattle.sock_model.specs.declared.home.Home.TheVariants.{Link, Message}
-use Rattle.sock_programs.specs.Writings as heads
-use Rattle.sock_programs.specs.Programs.{Program, PutBytes, Write}
-use Rattle.sock_programs.specs.Runs.{from_to}
+use Rattle.seat_programs.specs.Writings as heads
+use Rattle.seat_programs.specs.Programs.{Program, PutBytes, Write}
+use Rattle.seat_programs.specs.Runs.{from_to}
 use Rattle.message_parts.specs.Parcels.{parcel_of}
-use Rattle.seat_points.specs.Points.{heading_by}
+use Rattle.seat_states.specs.Points.{heading_by}
 use Rattle.script_links.specs.Offered.{IsOffered}
 use Rattle.sock_core.specs.declared.letter.Letter.{Letter}
 
@@ -76,8 +76,8 @@ module _ (l : LinksData) where
   TellClosing = (k : ℕ) (inn : InState) → get_elem? l.inns k ≡ core.some inn → inn.closing ≢ None
 
   -- each of them is prompt
-  abbrev pub ArePrompt : Type 0
-  ArePrompt = (k : ℕ) (out : OutState) → get_elem? l.outs k ≡ core.some out → out.prompt ≡ true
+  abbrev pub AreAlwaysReady : Type 0
+  AreAlwaysReady = (k : ℕ) (out : OutState) → get_elem? l.outs k ≡ core.some out → out.always_ready ≡ true
 
 abbrev pub IsOffering : LinksData → ℕ → Bool → Option ℕ → Type 0
 IsOffering l k serve end = IsOffered l.outs l.inns k serve end

@@ -7,15 +7,15 @@ use Rattle.sock_words.specs.declared.plain.Plan.{Plan}
 use Rattle.sock_words.specs.declared.outcome.Outcome.{Outcome}
 use Rattle.brpc_model.specs.Link.{LinkEnd}
 use Rattle.sock_model.specs.declared.view.View.{View}
-use Rattle.sock_programs.specs.declared.task.Sizes.{Sizes}
-use Rattle.id_rule.specs.Lawful.{call_word}
-use Rattle.sock_programs.specs.Asides.{id_first}
-use Rattle.sock_programs.specs.Heads.{Retry}
-use Rattle.sock_programs.specs.Programs.{Program, Rest}
-use Rattle.sock_programs.specs.Clients.{ending_of}
-use Rattle.sock_programs.specs.Cores.{Calls, Core, SeatState, with_seat}
-use Rattle.sock_programs.specs.Runs.{from_to}
-use Rattle.sock_programs.specs.Scripts.{sizes_of}
+use Rattle.seat_programs.specs.declared.task.Sizes.{Sizes}
+use Rattle.id_rule.specs.Lawful.{call_index}
+use Rattle.seat_programs.specs.Asides.{id_first}
+use Rattle.seat_programs.specs.Heads.{Retry}
+use Rattle.seat_programs.specs.Programs.{Program, Rest}
+use Rattle.seat_programs.specs.Clients.{ending_of}
+use Rattle.seat_programs.specs.Cores.{Calls, Core, SeatState, with_seat}
+use Rattle.seat_programs.specs.Runs.{from_to}
+use Rattle.seat_programs.specs.Scripts.{sizes_of}
 use Rattle.sock_runs.specs.Sound.{Sound, AreFew, IsAhead}
 use Rattle.sock_runs.specs.Lasts.{Lasts, MOST_PAID}
 use Rattle.id_runs.specs.Held.{IdView}
@@ -179,7 +179,7 @@ pub record KeepsClosed (m : MachineState) : Type 0 where
 
 -- the word of each call names an id whose first version has room in an id word
 abbrev pub AreCalled : SlotState → Type 0
-AreCalled ids = (o : ℕ) → o < ids.plan.operations → id_first (slice_index ids.words (call_word ids.plan o)) < 67108864
+AreCalled ids = (o : ℕ) → o < ids.plan.operations → id_first (slice_index ids.words (call_index ids.plan o)) < 67108864
 
 -- a machine with room for so many outcomes; unless memory ran out in a step of it, both rules hold of it
 pub record IsMachine (m : MachineState) (room : ℕ) : Type 0 where

@@ -5,22 +5,22 @@ use mathlib.Core.Option as core
 use lib.ListN.{get_elem?}
 use Rattle.brpc_model.specs.Link.{LinkEnd}
 use Rattle.sock_io.specs.Link.{OutState, InState, Offer, IsServed, more_told}
-use Rattle.whole_runs.specs.Heard.{answer_of}
-use Rattle.whole_runs.specs.Offered.{GaveSo}
-use Rattle.sock_programs.specs.Asides as asides
-use Rattle.sock_programs.specs.Asides.{Found, Taking, Bytes, Closed}
-use Rattle.sock_programs.specs.Beside.{found_in, at_last}
-use Rattle.sock_programs.specs.Calls as calls
-use Rattle.sock_programs.specs.Programs.{Program}
-use Rattle.sock_programs.specs.Programs as programs
-use Rattle.sock_programs.specs.Cores.{word_of, found_at, words_after, word_after}
-use Rattle.sock_programs.specs.Ticks.{Answer, Unasked, OfTake, FitsTake}
+use Rattle.run_theorems.specs.Heard.{answer_of}
+use Rattle.run_theorems.specs.Offered.{GaveSo}
+use Rattle.seat_programs.specs.Asides as asides
+use Rattle.seat_programs.specs.Asides.{Found, Taking, Bytes, Closed}
+use Rattle.seat_programs.specs.Beside.{found_in, at_last}
+use Rattle.seat_programs.specs.Calls as calls
+use Rattle.seat_programs.specs.Programs.{Program}
+use Rattle.seat_programs.specs.Programs as programs
+use Rattle.seat_programs.specs.Cores.{word_of, found_at, words_after, word_after}
+use Rattle.seat_programs.specs.Ticks.{Answer, Unasked, OfTake, FitsTake}
 use Rattle.sock_runs.specs.Sound.{AllowsWord, first_step}
 use Rattle.call_points.specs.Steps.{after_word}
 use Rattle.call_slots.specs.Steps as slots
 use Rattle.call_slots.specs.Steps.{word_found}
 use Rattle.call_points.specs.Steps as aside_steps
-use Rattle.seat_points.specs.Steps.{First, OfCall, OfAside, first_in, step_of}
+use Rattle.seat_states.specs.Steps.{First, OfCall, OfAside, first_in, step_of}
 use Rattle.reader_points.specs.declared.point.ReadStep.{ReadStep}
 use Rattle.reader_points.specs.declared.point.ReadStep.TheVariants as steps
 use Rattle.reader_points.specs.Points.{IsWithin, MayFind}
@@ -28,7 +28,7 @@ use Rattle.reader_points.specs.Steps.{step_as}
 use Rattle.reader_seats.specs.Readers.{ReaderData, reader_program}
 use Rattle.reader_seats.specs.GoesOn.{GoesOn}
 use Rattle.sock_core.specs.declared.machine.Tick.{Tick}
-use Rattle.sock_core.specs.Links.{ArePrompt, TellClosing, is_done}
+use Rattle.sock_core.specs.Links.{AreAlwaysReady, TellClosing, is_done}
 use Rattle.sock_core.specs.Machines.{MachineState, TableState, table_of}
 use Rattle.sock_core.specs.Runs.{SameLink, ShowsTaking, SameLinks}
 use Rattle.sock_core.specs.Steps.{OutsAfter, FitsSlots, IsOfLinks, holders_after, beside}
@@ -192,7 +192,7 @@ pub record IsCutTable (old fresh : TableState) : Type 0 where
   pub outcomes : length fresh.outcomes ≡ length old.outcomes
   pub as_many : length fresh.ends ≡ length old.ends
   pub each : (k : ℕ) (a b : LinkEnd) → slice_get old.ends k ≡ Some a → slice_get fresh.ends k ≡ Some b → SameLink a b
-  pub prompt : ArePrompt old.links → ArePrompt fresh.links
+  pub always_ready : AreAlwaysReady old.links → AreAlwaysReady fresh.links
   pub tell : TellClosing old.links → TellClosing fresh.links
 
 -- the tables keep their sizes, the seats of clients stay, and the links are those that they were

@@ -7,23 +7,23 @@ use Rattle.sock_words.specs.declared.kind.Kind.{Kind}
 use Rattle.sock_words.specs.declared.plain.Plan.{Plan}
 use Rattle.sock_words.specs.KindText.{kind_text}
 use Rattle.brpc_model.specs.Link.{LinkEnd}
-use Rattle.sock_programs.specs.Writings as heads
-use Rattle.sock_programs.specs.Asides.{Taking, AtEnd, Closed, Broken, call_id}
-use Rattle.sock_programs.specs.Heads.{Sought, First, Version, Locks, Joins, Opens, Reads, Discards}
-use Rattle.sock_programs.specs.Programs.{Program, Write, Round}
-use Rattle.sock_programs.specs.Cores.{Core, SeatState}
-use Rattle.sock_programs.specs.Ticks.{Answer, Moment, quiet, seats_of, run, waits, AreAnswered, IsPrompt, broken_in}
-use Rattle.sock_programs.specs.Runs.{IsAtRest, LeadsUpTo, next_kind, from_to}
-use Rattle.sock_programs.specs.Scripts.{AreStill, is_ending}
+use Rattle.seat_programs.specs.Writings as heads
+use Rattle.seat_programs.specs.Asides.{Taking, AtEnd, Closed, Broken, call_id}
+use Rattle.seat_programs.specs.Heads.{Sought, First, Version, Locks, Joins, Opens, Reads, Discards}
+use Rattle.seat_programs.specs.Programs.{Program, Write, Round}
+use Rattle.seat_programs.specs.Cores.{Core, SeatState}
+use Rattle.seat_programs.specs.Ticks.{Answer, Moment, quiet, seats_of, run, waits, AreAnswered, IsAlwaysReady, broken_in}
+use Rattle.seat_programs.specs.Runs.{IsAtRest, LeadsUpTo, next_kind, from_to}
+use Rattle.seat_programs.specs.Scripts.{AreStill, is_ending}
 use Rattle.sock_io.specs.Link.{more_told}
-use Rattle.whole_runs.specs.owed_calls.specs.Lives.{ClosesInTime}
-use Rattle.whole_runs.specs.Offered.{AreOffered}
-use Rattle.whole_runs.specs.Heard.{as_told, as_taken, take_answers, heard_in, taken_in}
+use Rattle.run_theorems.specs.owed_calls.specs.Lives.{ClosesInTime}
+use Rattle.run_theorems.specs.Offered.{AreOffered}
+use Rattle.run_theorems.specs.Heard.{as_told, as_taken, take_answers, heard_in, taken_in}
 use Rattle.sock_core.specs.declared.machine.On.{On}
 use Rattle.sock_core.specs.declared.machine.On.TheVariants as on
 use Rattle.sock_core.specs.declared.machine.Tick.{Tick}
 use Rattle.sock_core.specs.declared.machine.Tick.TheVariants.{Moved, Waits, Idle}
-use Rattle.sock_core.specs.Links.{Taken, Given, Agrees, AgreesGave, ArePrompt, TellClosing, IsOffering, StayOffered}
+use Rattle.sock_core.specs.Links.{Taken, Given, Agrees, AgreesGave, AreAlwaysReady, TellClosing, IsOffering, StayOffered}
 use Rattle.sock_core.specs.Machines.{MachineState, READERS, core_with, ending_by}
 
 -- ## Links
@@ -41,7 +41,7 @@ pub record SameLink (old new : LinkEnd) : Type 0 where
 pub record SameLinks (old new : MachineState) : Type 0 where
   pub as_many : length new.ends ≡ length old.ends
   pub each : (k : ℕ) (a b : LinkEnd) → slice_get old.ends k ≡ Some a → slice_get new.ends k ≡ Some b → SameLink a b
-  pub prompt : ArePrompt old.links → ArePrompt new.links
+  pub always_ready : AreAlwaysReady old.links → AreAlwaysReady new.links
   pub tell : TellClosing old.links → TellClosing new.links
 
 -- of each of these links the count of faults shows that it failed
@@ -113,7 +113,7 @@ KeepOffers old new c moments = (k : ℕ) (serve : Bool) (end : Option ℕ) → I
 -- these ticks make the one machine of the other, where its links had taken and given this
 pub record Follows (old new : MachineState) (took : Taken) (gave : Given) (moments : List Moment) : Type 0 where
   pub answered : AreAnswered old.plan (core_with old took gave) moments
-  pub prompt : ArePrompt old.links → AllByRecursion IsPrompt moments
+  pub always_ready : AreAlwaysReady old.links → AllByRecursion IsAlwaysReady moments
   -- a link that tells whether its other end closed its half answers that it is closed only where it is finished
   pub closes : TellClosing old.links → ClosesInTime old.plan (core_with old took gave) moments
   pub offers : KeepOffers old new (core_with old took gave) moments
@@ -219,7 +219,7 @@ pub record SettledWith (old new : MachineState) (took : Taken) (gave : Given) : 
   pub final : List Moment
   pub settles_again : SettlesBy old.plan ended final
   pub answered_again : AreAnswered old.plan ended final
-  pub prompt : ArePrompt old.links → AllByRecursion IsPrompt (moments ++ final)
+  pub always_ready : AreAlwaysReady old.links → AllByRecursion IsAlwaysReady (moments ++ final)
   pub closes : TellClosing old.links → ClosesInTime old.plan (core_with old took gave) moments
   pub closes_again : TellClosing old.links → ClosesInTime old.plan ended final
   pub offers : (k : ℕ) (serve : Bool) (end : Option ℕ) → IsOffering old.links k serve end → AreOffered old.plan k serve end (core_with old took gave) moments × AreOffered old.plan k serve end ended final × IsOffering new.links k serve end

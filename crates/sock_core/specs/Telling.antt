@@ -4,16 +4,16 @@ use mathlib.Core.Option as core
 use lib.ListN.{get_elem?}
 use Rattle.corr_core.specs.Word.{parts}
 use Rattle.sock_model.specs.Memory.{UNCONNECTED}
-use Rattle.sock_programs.specs.Asides.{id_first}
-use Rattle.sock_programs.specs.Heads.{Locks, Joins, Opens}
-use Rattle.sock_programs.specs.Posts.{is_first, is_sought}
-use Rattle.sock_programs.specs.Writings as heads
-use Rattle.sock_programs.specs.Programs.{Program, Write, Round}
-use Rattle.sock_programs.specs.Ticks.{Answer, waits_at}
-use Rattle.sock_programs.specs.Runs.{kind_in}
+use Rattle.seat_programs.specs.Asides.{id_first}
+use Rattle.seat_programs.specs.Heads.{Locks, Joins, Opens}
+use Rattle.seat_programs.specs.Posts.{is_first, is_sought}
+use Rattle.seat_programs.specs.Writings as heads
+use Rattle.seat_programs.specs.Programs.{Program, Write, Round}
+use Rattle.seat_programs.specs.Ticks.{Answer, waits_at}
+use Rattle.seat_programs.specs.Runs.{kind_in}
 use Rattle.sock_core.specs.declared.machine.Tick.{Tick}
 use Rattle.sock_core.specs.declared.machine.Tick.TheVariants.{Moved, Waits, Idle}
-use Rattle.seat_points.specs.declared.point.Step.{Step}
+use Rattle.seat_states.specs.declared.point.Step.{Step}
 use Rattle.client_seats.specs.Seats.{SeatData, seat_program}
 use Rattle.sock_core.specs.Machines.{MachineState, TableState, table_of, table_sizes}
 use Rattle.sock_core.specs.Runs.{IsWaitingFor}

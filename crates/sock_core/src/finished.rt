@@ -1,6 +1,6 @@
 ghost use Rattle.std.specs.Prelude.{◌≡◌, ◌≤◌, ◌<◌, ◌+◌, ◌*◌, ◌++◌, [], vec_len, vec_capacity, slice_index};
-ghost use Rattle.sock_model.specs.Layout.{place_word};
-ghost use Rattle.sock_programs.specs.Scripts.{place_words};
+ghost use Rattle.sock_model.specs.Layout.{place_index};
+ghost use Rattle.seat_programs.specs.Scripts.{place_words};
 ghost use Rattle.sock_core.specs.Finish.{told_from, told_at};
 
 use sock_io::{Ends, In, Out, Peer};
@@ -46,7 +46,7 @@ pub fn gather(told: &mut Vec<(u16, Outcome)>, outcomes: Vec<Option<Outcome>>)
 /// The word of this number among the place words; 0 where the words end before it.
 fn word_at(plan: &Plan, words: &[u64], number: usize) -> u64
     requires { number < 8 * plan.now.operations }
-    ensures { result ≡ slice_index words.now (place_word plan.now number) }
+    ensures { result ≡ slice_index words.now (place_index plan.now number) }
 {
     let open = 6 * plan.slots as usize + plan.names as usize;
     let next = open + plan.operations as usize + plan.requests as usize;

@@ -1,5 +1,5 @@
 use message_parts::Parcel;
-use seat_points::Author;
+use seat_states::Author;
 
 /// A message at the home of a request, and who sent it.
 #[derive(Drop)]

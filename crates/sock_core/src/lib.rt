@@ -3,16 +3,16 @@
 #![tactic(auto)]
 
 mod finished;
+mod homes;
+mod inputs;
 mod letter;
+mod link_calls;
 mod machine;
-mod moves;
-mod puts;
 mod reading;
 mod setup;
 mod table;
 mod tables;
 mod waiting;
-mod wanted;
 mod words;
 
 pub use finished::Finished;

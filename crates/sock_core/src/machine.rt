@@ -4,20 +4,20 @@ ghost use Rattle.brpc_model.specs.Link.{LinkEnd};
 ghost use Rattle.brpc_model.specs.Script.{script_of};
 ghost use Rattle.brpc_model.specs.Operations.{link_names};
 ghost use Rattle.sock_io.specs.Link.{OutState, InState, end_of};
-ghost use Rattle.sock_programs.specs.Scripts.{beginning, programs, readers_from, all_programs, set_up, sizes_of, place_words};
-ghost use Rattle.sock_programs.specs.Tasks.{plan_of, id_plan_of, opens, calls};
+ghost use Rattle.seat_programs.specs.Scripts.{beginning, programs, readers_from, all_programs, set_up, sizes_of, place_words};
+ghost use Rattle.seat_programs.specs.Tasks.{plan_of, id_plan_of, opens, calls};
 ghost use Rattle.sock_core.specs.Finish.{told_from};
-ghost use Rattle.whole_runs.specs.joint_runs.proofs.Starts.{AreFor};
-ghost use Rattle.sock_core.specs.Links.{Taken, Given, Agrees, AgreesGave, ArePrompt, StayOffered, TellClosing};
+ghost use Rattle.run_theorems.specs.joint_runs.proofs.Starts.{AreFor};
+ghost use Rattle.sock_core.specs.Links.{Taken, Given, Agrees, AgreesGave, AreAlwaysReady, StayOffered, TellClosing};
 ghost use Rattle.sock_core.specs.Machines.{MOST_LEFT as most_left, HasSizes, core_with, ending_by};
 ghost use Rattle.sock_core.specs.Runs.{SameLinks, SameTable, Ticked, Led, Still, HasMoved, PlayedOn, RanFirst, Settled};
 ghost use Rattle.sock_core.specs.Driving.{LastsAtMost, LeavesFewer, Leaves, IsLast, IsOther, IsPlain, FirstRests, TickedFirst, told_ending};
 
 use crate::finished::{Finished, gather, gather_places};
+use crate::inputs::{Wanted, wanted_of};
 use crate::setup::{Parts, parts_of};
 use crate::table::Table;
 use crate::tables::{READERS, Tables};
-use crate::wanted::{Wanted, wanted_of};
 use script_items::Script;
 use sock_io::{Ends, In, Linker, NoMemory, Out, Peer};
 use sock_message::BlockPool;
@@ -143,7 +143,7 @@ impl<O: Out, I: In, P: Peer> Machine<O, I, P> {
         ensures back { L.back links.new ≡ L.back links.old }
         ensures done { L.done links.new ≡ L.done links.old }
         ensures faults { L.faults links.new ≡ L.faults links.old }
-        ensures prompt { L.prompt links.new ≡ L.prompt links.old }
+        ensures always_ready { L.always_ready links.new ≡ L.always_ready links.old }
     {
         let Some(step) = self.tables.next_read(link) else {
             return Ok(Tick::Idle);
@@ -168,7 +168,7 @@ impl<O: Out, I: In, P: Peer> Machine<O, I, P> {
         ensures back { L.back links.new ≡ L.back links.old }
         ensures done { L.done links.new ≡ L.done links.old }
         ensures faults { L.faults links.new ≡ L.faults links.old }
-        ensures prompt { L.prompt links.new ≡ L.prompt links.old }
+        ensures always_ready { L.always_ready links.new ≡ L.always_ready links.old }
     {
         if self.tables.short {
             return Err(NoMemory);
@@ -271,7 +271,7 @@ impl<O: Out, I: In, P: Peer> Machine<O, I, P> {
         ensures back { L.back links.new ≡ L.back links.old }
         ensures done { L.done links.new ≡ L.done links.old }
         ensures faults { L.faults links.new ≡ L.faults links.old }
-        ensures prompt { L.prompt links.new ≡ L.prompt links.old }
+        ensures always_ready { L.always_ready links.new ≡ L.always_ready links.old }
     {
         if seat == 0 {
             if self.tables.short {
@@ -299,7 +299,7 @@ impl<O: Out, I: In, P: Peer> Machine<O, I, P> {
         ensures back { L.back links.new ≡ L.back links.old }
         ensures done { L.done links.new ≡ L.done links.old }
         ensures faults { L.faults links.new ≡ L.faults links.old }
-        ensures prompt { L.prompt links.new ≡ L.prompt links.old }
+        ensures always_ready { L.always_ready links.new ≡ L.always_ready links.old }
     {
         for _ in 0..self.most_left()? {
             if self.tick(links, seat)?.is_last(kind) {
@@ -322,7 +322,7 @@ impl<O: Out, I: In, P: Peer> Machine<O, I, P> {
         ensures back { L.back links.new ≡ L.back links.old }
         ensures done { L.done links.new ≡ L.done links.old }
         ensures faults { L.faults links.new ≡ L.faults links.old }
-        ensures prompt { L.prompt links.new ≡ L.prompt links.old }
+        ensures always_ready { L.always_ready links.new ≡ L.always_ready links.old }
     {
         let mut moved = false;
         for seat in 1..self.clients() {
@@ -349,7 +349,7 @@ impl<O: Out, I: In, P: Peer> Machine<O, I, P> {
         ensures back { L.back links.new ≡ L.back links.old }
         ensures done { L.done links.new ≡ L.done links.old }
         ensures faults { L.faults links.new ≡ L.faults links.old }
-        ensures prompt { L.prompt links.new ≡ L.prompt links.old }
+        ensures always_ready { L.always_ready links.new ≡ L.always_ready links.old }
     {
         for _ in 0..self.most_left()? {
             if !self.round(links)? {
@@ -390,7 +390,7 @@ impl<O: Out, I: In, P: Peer> Machine<O, I, P> {
         ensures back { L.back links.new ≡ L.back links.old }
         ensures done { L.done links.new ≡ L.done links.old }
         ensures faults { L.faults links.new ≡ L.faults links.old }
-        ensures prompt { L.prompt links.new ≡ L.prompt links.old }
+        ensures always_ready { L.always_ready links.new ≡ L.always_ready links.old }
     {
         self.play_on(links)?;
         self.begin_ending();
@@ -422,7 +422,7 @@ impl<O: Out, I: In, P: Peer> Machine<O, I, P> {
         ensures rest { IfOk result FirstRests }
         ensures enough { IfOk result (λ m. (m.short ≡ false) × (m.ending ≡ false)) }
         ensures ends { IfOk result (λ m. m.ends ≡ map (λ (e : _). end_of (O.state e.out) (I.state e.inn)) ends.items) }
-        ensures outs { IfOk result (λ m. AllByRecursion (λ (e : _). (O.state e.out).prompt ≡ true) ends.items → ArePrompt m.links) }
+        ensures outs { IfOk result (λ m. AllByRecursion (λ (e : _). (O.state e.out).always_ready ≡ true) ends.items → AreAlwaysReady m.links) }
         ensures tell { IfOk result (λ m. AllByRecursion (λ (e : _). (I.state e.inn).closing ≢ None) ends.items → TellClosing m.links) }
         ensures offers { IfOk result (λ m. StayOffered (map (λ (e : _). O.state e.out) ends.items) (map (λ (e : _). I.state e.inn) ends.items) m.links) }
         ensures back { IfErr result (λ e. e.ends ≡ ends) }
@@ -456,7 +456,7 @@ impl<O: Out, I: In, P: Peer> Machine<O, I, P> {
         ensures opens { IfOk result (λ m. (m.opens ≡ wanted.opens.items) × (m.calls ≡ wanted.calls.items)) }
         ensures enough { IfOk result (λ m. (m.short ≡ false) × (m.ending ≡ false)) }
         ensures ends { IfOk result (λ m. m.ends ≡ map (λ (e : _). end_of (O.state e.out) (I.state e.inn)) ends.items) }
-        ensures outs { IfOk result (λ m. AllByRecursion (λ (e : _). (O.state e.out).prompt ≡ true) ends.items → ArePrompt m.links) }
+        ensures outs { IfOk result (λ m. AllByRecursion (λ (e : _). (O.state e.out).always_ready ≡ true) ends.items → AreAlwaysReady m.links) }
         ensures tell { IfOk result (λ m. AllByRecursion (λ (e : _). (I.state e.inn).closing ≢ None) ends.items → TellClosing m.links) }
         ensures offers { IfOk result (λ m. StayOffered (map (λ (e : _). O.state e.out) ends.items) (map (λ (e : _). I.state e.inn) ends.items) m.links) }
         ensures err { IfErr result (λ e. e.ends ≡ ends) }

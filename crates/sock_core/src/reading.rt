@@ -1,6 +1,6 @@
 ghost use Rattle.std.specs.Prelude.{◌≡◌, ◌≤◌, ◌<◌, ℕ, true, false, List, IfOk, OnErr, length, take};
 ghost use Rattle.sock_io.specs.Link.{TakeStep};
-ghost use Rattle.sock_programs.specs.Ticks.{OfTake, is_nothing};
+ghost use Rattle.seat_programs.specs.Ticks.{OfTake, is_nothing};
 ghost use Rattle.reader_seats.specs.GoesOn.{taking_of};
 ghost use Rattle.sock_core.specs.Steps.{IsSized, IsOnWord};
 ghost use Rattle.sock_core.specs.Reading.{IsNextRead, FitsRead, ReadTold, IsCutTable};
@@ -12,7 +12,7 @@ use crate::words::{end_link, pass_link, step_word};
 use call_points::Aside;
 use reader_points::ReadStep;
 use reader_seats::ReaderSeat;
-use seat_points::Call;
+use seat_states::Call;
 use sock_io::{In, Linker, NoMemory, Out, Peer, Take};
 use sock_words::Kind;
 
@@ -109,7 +109,7 @@ impl<O: Out, I: In, P: Peer> Table<O, I, P> {
         ensures back { L.back links.new ≡ L.back links.old }
         ensures done { L.done links.new ≡ L.done links.old }
         ensures faults { L.faults links.new ≡ L.faults links.old }
-        ensures prompt { L.prompt links.new ≡ L.prompt links.old }
+        ensures always_ready { L.always_ready links.new ≡ L.always_ready links.old }
     {
         // A reader takes some bytes of a link that there is.
         if usize::from(link) >= self.ends.len() || count == 0 {
@@ -150,7 +150,7 @@ impl<O: Out, I: In, P: Peer> Table<O, I, P> {
         ensures back { L.back links.new ≡ L.back links.old }
         ensures done { L.done links.new ≡ L.done links.old }
         ensures faults { L.faults links.new ≡ L.faults links.old }
-        ensures prompt { L.prompt links.new ≡ L.prompt links.old }
+        ensures always_ready { L.always_ready links.new ≡ L.always_ready links.old }
     {
         match step {
             ReadStep::Call(call) => self.read_call(reader, seat, call),

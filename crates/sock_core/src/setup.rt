@@ -1,5 +1,5 @@
 ghost use Rattle.std.specs.Prelude.{◌≡◌, ◌*◌, ◌≤◌, ℕ, List, [], None, IfOk, OnOk, ◌++◌, length, map, replicate, vec_len, vec_capacity};
-ghost use Rattle.sock_programs.specs.Scripts.{free_slot, free_slots, opening_words, programs};
+ghost use Rattle.seat_programs.specs.Scripts.{free_slot, free_slots, opening_words, programs};
 ghost use Rattle.client_seats.specs.Seats.{seat_data};
 ghost use Rattle.sock_core.specs.Beginnings.{AreBegun, AreReading, AreParts, said_first};
 
@@ -8,8 +8,8 @@ use call_slots::CallSlots;
 use client_seats::Seat;
 use corr_core::Plan as IdPlan;
 use reader_seats::ReaderSeat;
+use seat_programs::{Sizes, Task};
 use sock_message::NoMemory;
-use sock_programs::{Sizes, Task};
 use sock_words::{Outcome, PlaceWord, Plan};
 use std::alloc::{AllocError, Global};
 use std::collections::VecDeque;

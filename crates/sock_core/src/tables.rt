@@ -13,10 +13,10 @@ use crate::waiting::stands;
 use client_seats::Seat;
 use reader_points::ReadStep;
 use reader_seats::ReaderSeat;
-use seat_points::{Point, Step};
+use seat_programs::Sizes;
+use seat_states::{Point, Step};
 use sock_io::{In, Linker, NoMemory, Out, Peer};
 use sock_message::BlockPool;
-use sock_programs::Sizes;
 use std::alloc::Global;
 use std::collections::VecDeque;
 use std::marker::Model;
@@ -197,7 +197,7 @@ impl<O: Out, I: In, P: Peer> Tables<O, I, P> {
         ensures back { L.back links.new ≡ L.back links.old }
         ensures done { L.done links.new ≡ L.done links.old }
         ensures faults { L.faults links.new ≡ L.faults links.old }
-        ensures prompt { L.prompt links.new ≡ L.prompt links.old }
+        ensures always_ready { L.always_ready links.new ≡ L.always_ready links.old }
     {
         if !has_reader(link) {
             self.short = true;

@@ -1,8 +1,8 @@
 ghost use Rattle.std.specs.Prelude.{◌≡◌, ◌==◌, ◌&&◌, not, true, is_some, IfSome};
 ghost use Rattle.corr_core.specs.Word.{parts};
 ghost use Rattle.id_points.specs.Turns.{sought_as};
-ghost use Rattle.sock_programs.specs.Posts.{is_sought};
-ghost use Rattle.seat_points.specs.Points.{Around, point_program, HasLinkAt, TellsCodeAt};
+ghost use Rattle.seat_programs.specs.Posts.{is_sought};
+ghost use Rattle.seat_states.specs.Points.{Around, point_program, HasLinkAt, TellsCodeAt};
 ghost use Rattle.reader_points.specs.Points as reading;
 ghost use Rattle.sock_core.specs.Runs.{IsWaitingFor, sought_id};
 ghost use Rattle.sock_core.specs.Telling.{waits_by};
@@ -12,7 +12,7 @@ use call_points::LockStep;
 use call_table::has_version;
 use id_points::{Sought, is_awaited};
 use reader_points::ReadPoint;
-use seat_points::{AttemptStep, JoinStep, Point, RetryStep, WriteStep};
+use seat_states::{AttemptStep, JoinStep, Point, RetryStep, WriteStep};
 use sock_words::IdWord;
 
 /// The next word of an entry that isn't connected to its successor yet: 2^64 - 1.

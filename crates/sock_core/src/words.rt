@@ -1,12 +1,12 @@
 ghost use Rattle.std.specs.Prelude.{◌≡◌, ◌<◌, ℕ, length, map};
 ghost use mathlib.Core.Option.{some};
 ghost use Rattle.sock_io.specs.Link.{end_of};
-ghost use Rattle.sock_programs.specs.Cores.{word_of, found_at, words_after, word_after};
+ghost use Rattle.seat_programs.specs.Cores.{word_of, found_at, words_after, word_after};
 ghost use Rattle.sock_runs.specs.Sound.{AllowsWord};
-ghost use Rattle.seat_points.specs.Steps.{step_of};
+ghost use Rattle.seat_states.specs.Steps.{step_of};
 ghost use Rattle.sock_core.specs.Steps.{IsOfLinks, OutsAfter, holders_after};
 
-use seat_points::Call;
+use seat_states::Call;
 use sock_io::{Ends, In, Out, Peer};
 use sock_words::Plan;
 

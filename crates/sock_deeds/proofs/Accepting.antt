@@ -13,8 +13,8 @@ use Rattle.sock_model.specs.declared.chain.Entry.{Entry}
 use Rattle.sock_model.specs.declared.chain.Heading.{Heading}
 use Rattle.sock_model.specs.declared.view.View.{View}
 use Rattle.sock_model.specs.Authors.{pick}
-use Rattle.chain_laws.proofs.Lists.{at_some, at_length}
-use Rattle.sock_programs.specs.declared.task.Task.{Task}
+use Rattle.chain_steps.proofs.Lists.{at_some, at_length}
+use Rattle.seat_programs.specs.declared.task.Task.{Task}
 use Rattle.rpc_client.specs.sock_rule.specs.declared.homes.Letter.{Letter}
 use Rattle.rpc_client.specs.sock_rule.specs.declared.homes.SockHome.{SockHome}
 use Rattle.sock_deeds.specs.Deeds.{sends, own_number}

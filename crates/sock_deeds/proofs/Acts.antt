@@ -21,9 +21,9 @@ use Rattle.sock_model.specs.Marks.{about}
 use Rattle.sock_model.specs.Seats.{newcomer}
 use Rattle.sock_model.specs.SlotRows.{marks_of}
 use Rattle.sock_model.specs.Weights.{total}
-use Rattle.slot_laws.proofs.Seats.{about-append}
-use Rattle.slot_laws.proofs.Sums.{total-append, total_some, term_le}
-use Rattle.sock_programs.specs.declared.task.Task.{Task}
+use Rattle.slot_steps.proofs.Seats.{about-append}
+use Rattle.slot_steps.proofs.Sums.{total-append, total_some, term_le}
+use Rattle.seat_programs.specs.declared.task.Task.{Task}
 use Rattle.rpc_client.specs.sock_rule.specs.OnTable.{is_put, put_in}
 use Rattle.rpc_client.specs.sock_rule.specs.declared.homes.SockHome.{SockHome}
 use Rattle.rpc_client.specs.sock_rule.proofs.Closes.{two_terms}

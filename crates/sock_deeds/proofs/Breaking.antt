@@ -12,8 +12,8 @@ use Rattle.sock_words.specs.Words.{socket_id_version, socket_id_slot}
 use Rattle.sock_model.specs.declared.marks.Mark.{Mark}
 use Rattle.sock_model.specs.SlotRows.{marks_of}
 use Rattle.sock_model.specs.Weights.{total}
-use Rattle.slot_laws.proofs.Numbers.{only-at}
-use Rattle.sock_programs.specs.declared.task.Task.{Task}
+use Rattle.slot_steps.proofs.Numbers.{only-at}
+use Rattle.seat_programs.specs.declared.task.Task.{Task}
 use Rattle.rpc_client.specs.sock_rule.specs.Faults.{is_fault}
 use Rattle.rpc_client.specs.sock_rule.specs.Faults as faults
 use Rattle.report_fits.proofs.Lists.{has_from}

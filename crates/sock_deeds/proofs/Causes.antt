@@ -15,14 +15,14 @@ use Rattle.sock_words.specs.Words.{socket_id_version, socket_id_slot, vref_versi
 use Rattle.sock_model.specs.declared.marks.Mark.{Mark}
 use Rattle.sock_model.specs.declared.marks.Mark.TheVariants.{Saw}
 use Rattle.sock_model.specs.declared.view.View.{View}
-use Rattle.sock_model.specs.Layout.{name_word}
+use Rattle.sock_model.specs.Layout.{name_index}
 use Rattle.sock_model.specs.SlotRows.{marks_of}
 use Rattle.sock_model.specs.Weights.{is_known, is_saw, only, total}
-use Rattle.slot_laws.proofs.Numbers.{only-same}
+use Rattle.slot_steps.proofs.Numbers.{only-same}
 use Rattle.rpc_client.specs.sock_rule.specs.Becoming.{Became as Becomes}
 use Rattle.rpc_client.specs.sock_rule.specs.declared.homes.Letter.{Letter}
-use Rattle.sock_programs.specs.declared.task.Task.{Task}
-use Rattle.sock_programs.specs.Told.{HasLife}
+use Rattle.seat_programs.specs.declared.task.Task.{Task}
+use Rattle.seat_programs.specs.Told.{HasLife}
 use Rattle.rpc_client.specs.sock_table.specs.declared.refs.SockRef.{SockRef}
 use Rattle.rpc_client.specs.declared.reaching.Reached.TheVariants as reached
 use Rattle.rpc_client.specs.Failing.{TriedTo}
@@ -71,13 +71,13 @@ module _ {O : Type 0} {g : Ghosts O} {state : O → OutState} {p : Plan} {client
       let at = earlier run b f.a m f.life.number (sym client) (omega arith) mine its in
       let grew = act_between run b f.a (sym client) at in
       let t = f.life.tried in
-      let also = found_grew (name_word p f.life.name) t.sock.id.0 (before run f.a) t.reached_it.0 t.reached_it.1.1 in
+      let also = found_grew (name_index p f.life.name) t.sock.id.0 (before run f.a) t.reached_it.0 t.reached_it.1.1 in
       let here = grew.marks (is_saw w) (λ x. refl) (socket_id_slot id.0) in
       let then = also.marks (is_saw w) (λ x. refl) (socket_id_slot id.0) in
       let none_ = t.reached_it.3 w (subst (λ s. 0 < marks_of (is_saw w) s t.reached_it.0) (sym f.slot) (omega arith)) in
       let v = f.version in omega arith))))
 
-  pub dead : (b : Act run) → FailsNone b → (n : ℕ) → n < p.names → (id : SocketId) (w : ℕ) → socket_id_slot id.0 < p.slots → HasFound record { place = name_word p n; word = id.0 + 1 } (after run b)
+  pub dead : (b : Act run) → FailsNone b → (n : ℕ) → n < p.names → (id : SocketId) (w : ℕ) → socket_id_slot id.0 < p.slots → HasFound record { place = name_index p n; word = id.0 + 1 } (after run b)
       → 0 < marks_of (is_known (socket_id_version id.0)) (socket_id_slot id.0) (after run b) → 0 < marks_of (is_saw w) (socket_id_slot id.0) (after run b) → socket_id_version id.0 < w → (P : ℕ → Type 0) → P (socket_id_version id.0) → FoundDead b n P
   dead b other n named id w low found known saw less P holds =
       let i = socket_id_slot id.0 in
@@ -113,7 +113,7 @@ module _ {O : Type 0} {g : Ghosts O} {state : O → OutState} {p : Plan} {client
       let k = grew.marks (is_known (socket_id_version id.0)) (λ x. refl) i in
       let y = know.known in
       dead b other n named id (vref_version found.0) know.inside
-      (grew.finds record { place = name_word p n; word = id.0 + 1 } (0, ap (λ (z : View). get_elem? z.finds 0) r.2.1.view)) (omega arith) (saw_there i (vref_version found.0) u (after run b) gone.notes gone.became) gone.later
+      (grew.finds record { place = name_index p n; word = id.0 + 1 } (0, ap (λ (z : View). get_elem? z.finds 0) r.2.1.view)) (omega arith) (saw_there i (vref_version found.0) u (after run b) gone.notes gone.became) gone.later
       (λ version. vref_version found.0 ≢ version) (λ e. (let l = gone.later in omega arith))
 
   -- a message that came back since its life was failed
@@ -131,7 +131,7 @@ module _ {O : Type 0} {g : Ghosts O} {state : O → OutState} {p : Plan} {client
       let k = grew.marks (is_known (socket_id_version id.0)) (λ x. refl) i in
       let y = r.1 in
       dead b other n named id (vref_version found.0) r.0
-      (grew.finds record { place = name_word p n; word = id.0 + 1 } (here_found p n s.sock (before run b) s.has s.reached_it)) (omega arith) (omega arith) (omega arith)
+      (grew.finds record { place = name_index p n; word = id.0 + 1 } (here_found p n s.sock (before run b) s.has s.reached_it)) (omega arith) (omega arith) (omega arith)
       (λ version. vref_version found.0 ≢ version) (λ e. omega arith)
 
   -- a `fail` that came too late
@@ -149,7 +149,7 @@ module _ {O : Type 0} {g : Ghosts O} {state : O → OutState} {p : Plan} {client
       let m = back.marks (is_saw (vref_version found.0)) (λ x. refl) i in
       let k = grew.marks (is_known h) (λ x. refl) i in
       let y = r.1 in
-      let seen = grew.finds record { place = name_word p n; word = id.0 + 1 } (here_found p n t.sock (before run b) t.has t.reached_it) in
+      let seen = grew.finds record { place = name_index p n; word = id.0 + 1 } (here_found p n t.sock (before run b) t.has t.reached_it) in
       let made = found_made run b n id named seen in
       let even = (run.closed.closing.born_life i h r.0 (made_born run n made.0 i h made.1)).1 in
       dead b other n named id (vref_version found.0) r.0 seen (omega arith) (omega arith) (omega arith)
@@ -159,7 +159,7 @@ module _ {O : Type 0} {g : Ghosts O} {state : O → OutState} {p : Plan} {client
 
   pub has_life : (b : Act run) (n : ℕ) → n < p.names → (sock : SockRef) (u : View) → ReachedBy p n (reached.Here sock) (before run b) u → Grew u (after run b) → HasLife clients outcomes n
   has_life b n named sock u r grew =
-      let made = found_made run b n sock.id named (grew.finds record { place = name_word p n; word = sock.id.0 + 1 } (here_found p n sock (before run b) u r)) in
+      let made = found_made run b n sock.id named (grew.finds record { place = name_index p n; word = sock.id.0 + 1 } (here_found p n sock (before run b) u r)) in
       (made.0, socket_id_slot sock.id.0, socket_id_version sock.id.0, made.1)
 
   pub opened_cause : (b : Act run) (n number k slot version : ℕ) → did_of run b ≡ opens n number k (outcome.Opened slot version k) → (slot < p.slots) × (version % 2 ≡ 0) × (p.first ≤ version)

@@ -18,12 +18,12 @@ use Rattle.sock_words.specs.declared.place_word.PlaceWord.{PlaceWord}
 use Rattle.sock_words.specs.declared.vref.Vref.{Vref}
 use Rattle.sock_model.specs.Seats.{newcomer}
 use Rattle.sock_model.specs.Weights.{total}
-use Rattle.slot_laws.proofs.Sums.{total-append}
-use Rattle.sock_programs.specs.declared.task.Op.{Op}
-use Rattle.sock_programs.specs.declared.task.Op.TheVariants as ops
-use Rattle.sock_programs.specs.declared.task.Task.{Task}
-use Rattle.sock_programs.specs.Told.{IsTask, AfterHold, goes_well, in_hand_behind, alternate}
-use Rattle.sock_causes.proofs.Tests.{split_eq, both_left, both_right, none_of}
+use Rattle.slot_steps.proofs.Sums.{total-append}
+use Rattle.seat_programs.specs.declared.task.Op.{Op}
+use Rattle.seat_programs.specs.declared.task.Op.TheVariants as ops
+use Rattle.seat_programs.specs.declared.task.Task.{Task}
+use Rattle.seat_programs.specs.Told.{IsTask, AfterHold, goes_well, in_hand_behind, alternate}
+use Rattle.outcome_causes.proofs.Tests.{split_eq, both_left, both_right, none_of}
 use Rattle.report_fits.proofs.Lists.{all_at, contains_from}
 use Rattle.rpc_client.specs.declared.holding.Held.{Held}
 use Rattle.rpc_client.specs.Holding.{HeldBy, DroppedBy, place_in}

@@ -13,7 +13,7 @@ use Rattle.sock_model.specs.declared.marks.Mark.TheVariants.{Failer}
 use Rattle.sock_model.specs.declared.view.View.{View}
 use Rattle.sock_model.specs.SlotRows.{marks_of}
 use Rattle.sock_model.specs.Weights.{is_saw}
-use Rattle.slot_laws.proofs.Numbers.{only_is}
+use Rattle.slot_steps.proofs.Numbers.{only_is}
 use Rattle.rpc_client.specs.sock_table.specs.Answers.{Held as HeldOne, NoneLater}
 use Rattle.rpc_client.specs.sock_table.specs.Named.{NotedAs}
 use Rattle.rpc_client.specs.sock_table.specs.declared.finding.Noted.{Noted}

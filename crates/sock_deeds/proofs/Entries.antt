@@ -7,7 +7,7 @@ use lib.ListN.{get_elem?}
 use Rattle.sock_model.specs.declared.chain.Entry.{Entry}
 use Rattle.sock_model.specs.Authors.{pick}
 use Rattle.sock_model.specs.Entries.{on}
-use Rattle.chain_laws.proofs.Lists.{filter_in, filter_at}
+use Rattle.chain_steps.proofs.Lists.{filter_in, filter_at}
 
 -- ## Of one author
 

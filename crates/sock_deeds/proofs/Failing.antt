@@ -16,12 +16,12 @@ use Rattle.sock_words.specs.declared.vref.Vref.{Vref}
 use Rattle.sock_words.specs.Words.{socket_id_version, socket_id_slot}
 use Rattle.sock_model.specs.SlotRows.{marks_of}
 use Rattle.sock_model.specs.Weights.{is_saw, is_failer, is_met}
-use Rattle.slot_laws.proofs.Numbers.{only_is}
-use Rattle.sock_programs.specs.declared.task.Op.{Op}
-use Rattle.sock_programs.specs.declared.task.Op.TheVariants as ops
-use Rattle.sock_programs.specs.declared.task.Task.{Task}
-use Rattle.sock_programs.specs.Runs.{from_to}
-use Rattle.sock_programs.specs.Told.{Became, IsFail}
+use Rattle.slot_steps.proofs.Numbers.{only_is}
+use Rattle.seat_programs.specs.declared.task.Op.{Op}
+use Rattle.seat_programs.specs.declared.task.Op.TheVariants as ops
+use Rattle.seat_programs.specs.declared.task.Task.{Task}
+use Rattle.seat_programs.specs.Runs.{from_to}
+use Rattle.seat_programs.specs.Told.{Became, IsFail}
 use Rattle.report_fits.proofs.Lists.{Has, contains_from, all_from, has_filter_map, filter_map_has, before_filter_map, before_from}
 use Rattle.sock_deeds.specs.Deeds.{fails, own_number}
 use Rattle.sock_deeds.specs.Broken.{faults_of}

@@ -18,16 +18,16 @@ use Rattle.sock_words.specs.Words.{socket_id_version, socket_id_slot}
 use Rattle.sock_model.specs.declared.marks.Mark.{Mark}
 use Rattle.sock_model.specs.declared.view.StoredWord.{StoredWord}
 use Rattle.sock_model.specs.declared.view.View.{View}
-use Rattle.sock_model.specs.Layout.{name_word, ref_word}
+use Rattle.sock_model.specs.Layout.{name_index, ref_index}
 use Rattle.sock_model.specs.Slots.{version_of}
 use Rattle.sock_model.specs.SlotRows.{marks_of}
 use Rattle.sock_model.specs.Weights.{is_born, is_failer, only}
-use Rattle.slot_laws.proofs.Numbers.{only-same}
-use Rattle.sock_programs.specs.declared.task.Op.{Op}
-use Rattle.sock_programs.specs.declared.task.Op.TheVariants as ops
-use Rattle.sock_programs.specs.declared.task.Task.{Task}
-use Rattle.sock_programs.specs.Told.{IsTask, Became, IsFail}
-use Rattle.sock_causes.proofs.Tasks.{one_link}
+use Rattle.slot_steps.proofs.Numbers.{only-same}
+use Rattle.seat_programs.specs.declared.task.Op.{Op}
+use Rattle.seat_programs.specs.declared.task.Op.TheVariants as ops
+use Rattle.seat_programs.specs.declared.task.Task.{Task}
+use Rattle.seat_programs.specs.Told.{IsTask, Became, IsFail}
+use Rattle.outcome_causes.proofs.Tasks.{one_link}
 use Rattle.rpc_client.specs.sock_table.specs.declared.refs.SockRef.{SockRef}
 use Rattle.rpc_client.specs.declared.reaching.Reached.TheVariants as reached
 use Rattle.rpc_client.specs.Failing.{TriedTo}
@@ -41,7 +41,7 @@ use Rattle.sock_deeds.proofs.Tasks.{name_in, is_for, asks_of, same_task, one_out
 
 -- ## What was found under a name
 
-pub here_found : (p : Plan) (n : ℕ) (sock : SockRef) (v w : View) → ReachedBy p n (reached.Here sock) v w → HasFound record { place = name_word p n; word = sock.id.0 + 1 } w
+pub here_found : (p : Plan) (n : ℕ) (sock : SockRef) (v w : View) → ReachedBy p n (reached.Here sock) v w → HasFound record { place = name_index p n; word = sock.id.0 + 1 } w
 here_found p n sock v w r = (0, ap (λ (y : View). get_elem? y.finds 0) r.2.others ∙ ap (λ (y : View). get_elem? y.finds 0) r.1.1.view)
 
 -- its steps noted that they failed the life
@@ -55,7 +55,7 @@ tried_fails p n code v w t =
     let c = (back_grew i (socket_id_version t.sock.id.0) t.set w t.ended t.back).marks f (λ h. refl) i in
     omega arith
 
-tried_finds : (p : Plan) (n code : ℕ) (v w : View) (t : TriedTo p n code outcome.Failed v w) → w.finds ≡ record { place = name_word p n; word = t.sock.id.0 + 1 } ∷ v.finds
+tried_finds : (p : Plan) (n code : ℕ) (v w : View) (t : TriedTo p n code outcome.Failed v w) → w.finds ≡ record { place = name_index p n; word = t.sock.id.0 + 1 } ∷ v.finds
 tried_finds p n code v w t = ap (λ (y : View). y.finds) t.back.became.others ∙ (ap (λ (y : View). y.finds) t.set_by.others ∙ (ap (λ (y : View). y.finds) t.reached_it.2.others ∙ ap (λ (y : View). y.finds) t.reached_it.1.1.view))
 
 first_word : (x y : StoredWord) (s t : List StoredWord) → x ∷ s ≡ y ∷ t → x.word ≡ y.word
@@ -96,7 +96,7 @@ module _ {O : Type 0} {g : Ghosts O} {state : O → OutState} {p : Plan} {client
 
   -- a life is failed once at most
   pub failer_once : (i h : ℕ) → i < p.slots → 0 < marks_of (is_born h) i (All run) → marks_of (is_failer h) i (All run) ≤ 1
-  failer_once i h low born = let c = run.closed.closing in dite (dec_lt h (version_of (slice_index run.closed.words (ref_word i))))
+  failer_once i h low born = let c = run.closed.closing in dite (dec_lt h (version_of (slice_index run.closed.words (ref_index i))))
       (λ lt. (let e = c.failed_once i h low born lt in omega arith))
       (λ ge. (let e = c.not_failed i h low (omega arith) in omega arith))
 
@@ -119,7 +119,7 @@ module _ {O : Type 0} {g : Ghosts O} {state : O → OutState} {p : Plan} {client
   life_by a name number code is t =
       let found = here_found p name t.sock (before run a) t.has t.reached_it in
       let later = grew_then t.has t.set (after run a) (added_grew (socket_id_slot t.sock.id.0) t.has t.set _ t.set_by) (back_grew (socket_id_slot t.sock.id.0) (socket_id_version t.sock.id.0) t.set (after run a) t.ended t.back) in
-      let made = found_made run a name t.sock.id (act_name run a name (ap name_in is)) (later.finds record { place = name_word p name; word = t.sock.id.0 + 1 } found) in
+      let made = found_made run a name t.sock.id (act_name run a name (ap name_in is)) (later.finds record { place = name_index p name; word = t.sock.id.0 + 1 } found) in
       record { name = name; number = number; code = code; did_is = is; tried = t; link = made.0; made = made.1 }
 
   pub failed_life : (a : Act run) (name number code : ℕ) → did_of run a ≡ fails name number code outcome.Failed → FailedLife a
@@ -166,8 +166,8 @@ module _ {O : Type 0} {g : Ghosts O} {state : O → OutState} {p : Plan} {client
   same_link a b l m same =
       let at = one_place run a b l.number (number_of_fail a l) (number_of_fail b m ∙ ap Some (sym same)) in
       let e = same_deed run a b at.0 at.1 in
-      let x : StoredWord = record { place = name_word p l.name; word = l.tried.sock.id.0 + 1 } in
-      let y : StoredWord = record { place = name_word p m.name; word = m.tried.sock.id.0 + 1 } in
+      let x : StoredWord = record { place = name_index p l.name; word = l.tried.sock.id.0 + 1 } in
+      let y : StoredWord = record { place = name_index p m.name; word = m.tried.sock.id.0 + 1 } in
       let word = first_word x y (before run a).finds (before run b).finds (sym (tried_finds p l.name l.code (before run a) (after run a) l.tried) ∙ (ap (λ (d : Deed g state p). d.after.view.finds) e ∙ tried_finds p m.name m.code (before run b) (after run b) m.tried)) in
       let id : l.tried.sock.id.0 ≡ m.tried.sock.id.0 = omega arith in
       (life_is l.name m.name l.link m.link (socket_id_slot l.tried.sock.id.0) (socket_id_version l.tried.sock.id.0) l.made

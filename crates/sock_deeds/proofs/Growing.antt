@@ -16,11 +16,11 @@ use Rattle.sock_model.specs.declared.marks.Mark.TheVariants.{Hold, Known}
 use Rattle.sock_model.specs.declared.marks.SlotMark.{SlotMark}
 use Rattle.sock_model.specs.declared.view.StoredWord.{StoredWord}
 use Rattle.sock_model.specs.declared.view.View.{View}
-use Rattle.sock_model.specs.Layout.{name_word, open_word}
+use Rattle.sock_model.specs.Layout.{name_index, open_index}
 use Rattle.sock_model.specs.Marks.{about, at, noted}
 use Rattle.sock_model.specs.SlotRows.{marks_of}
 use Rattle.sock_model.specs.Weights.{total}
-use Rattle.slot_laws.proofs.Sums.{about-here, about-other}
+use Rattle.slot_steps.proofs.Sums.{about-here, about-other}
 use Rattle.rpc_client.specs.sock_rule.specs.Becoming.{Became}
 use Rattle.rpc_client.specs.sock_rule.specs.OnTable.{is_put, put_in}
 use Rattle.rpc_client.specs.sock_rule.specs.Rows.{PutAt}
@@ -116,8 +116,8 @@ returned_grew id v w r = back_grew (socket_id_slot id) (socket_id_version id) v 
 
 pub reached_grew : (p : Plan) (n : ℕ) (r : Reached) (v w : View) → ReachedBy p n r v w → Grew v w
 reached_grew p n reached.Unopened v w r = stays_as v w r.0
-reached_grew p n (reached.Gone found) v w r = grew_then v r.1 w (found_grew (name_word p n) r.0.0 v r.1 r.2.1) (added_grew (socket_id_slot r.0.0) r.1 w _ r.3.became)
-reached_grew p n (reached.Here sock) v w r = grew_then v r.0 w (found_grew (name_word p n) sock.id.0 v r.0 r.1.1) (added_grew (socket_id_slot sock.id.0) r.0 w _ r.2)
+reached_grew p n (reached.Gone found) v w r = grew_then v r.1 w (found_grew (name_index p n) r.0.0 v r.1 r.2.1) (added_grew (socket_id_slot r.0.0) r.1 w _ r.3.became)
+reached_grew p n (reached.Here sock) v w r = grew_then v r.0 w (found_grew (name_index p n) sock.id.0 v r.0 r.1.1) (added_grew (socket_id_slot sock.id.0) r.0 w _ r.2)
 
 -- ## Sending
 
@@ -212,11 +212,11 @@ created_grew id k v w c = record {
 }
 
 pub none_grew : {S : Type 0} (p : Plan) (operation : ℕ) (m n : Me S View) → GotNone p operation m n → Grew m.0 n.0
-none_grew {S} p operation m n b = grew_then m.0 b.finished.0 n.0 (notes_grew m.0 b.finished.0 b.same) (put_grew (open_word p operation) _ b.finished n b.noted)
+none_grew {S} p operation m n b = grew_then m.0 b.finished.0 n.0 (notes_grew m.0 b.finished.0 b.same) (put_grew (open_index p operation) _ b.finished n b.noted)
 
 pub opened_grew : {S : Type 0} (p : Plan) (name operation link : ℕ) (by : Outcome) (m n : Me S View) → OpenedBy p name operation link by m n → Grew m.0 n.0
 opened_grew p name operation link (outcome.Opened slot version k) m n b = let o = b.4 in grew_then m.0 o.made.0 n.0 (created_grew b.0.0 link m.0 o.made.0 o.created)
-    (grew_then o.made.0 o.told.0 n.0 (put_grew (open_word p operation) (b.0.0 + 1) o.made o.told o.noted) (put_grew (name_word p name) (b.0.0 + 1) o.told n o.published))
+    (grew_then o.made.0 o.told.0 n.0 (put_grew (open_index p operation) (b.0.0 + 1) o.made o.told o.noted) (put_grew (name_index p name) (b.0.0 + 1) o.told n o.published))
 opened_grew p name operation link outcome.SlotsFull m n b = grew_then m.0 b.tried.0 n.0 (tried_grew p.slots m.0 b.tried.0 b.each) (none_grew p operation b.tried n b.none_)
 opened_grew p name operation link _ m n b = elim b [ ]
 
@@ -263,7 +263,7 @@ looked_grew p number noteds.Nothing v w b = record {
   finds = λ x h. (suc h.0, ap (λ (z : View). get_elem? z.finds (suc h.0)) b.view ∙ h.1);
   puts = λ x n. (let e = ap (λ (z : View). put_in x n z) b.view in omega arith);
 }
-looked_grew p number (noteds.Id id) v w b = found_grew (open_word p number) id.0 v w b.1
+looked_grew p number (noteds.Id id) v w b = found_grew (open_index p number) id.0 v w b.1
 
 gone_grew : (id found : ℕ) (v w : View) → GoneFrom id found v w → Grew v w
 gone_grew id found v w b = added_grew (socket_id_slot id) v w _ b.became
@@ -277,7 +277,7 @@ module _ {O : Type 0} (g : Ghosts O) (state : O → OutState) (p : Plan) where
   done_grew (holds name number by) s t b = held_grew p name by s.held s.view t.held t.view b
   done_grew (drops name number by) s t b = dropped_grew name by s.held s.view t.held t.view b
   done_grew (fails name number code by) s t b = failed_grew p name code by s.view t.view b.0
-  done_grew (waits name) s t b = found_grew (name_word p name) b.0.0.0 s.view t.view b.0.1.1
+  done_grew (waits name) s t b = found_grew (name_index p name) b.0.0.0 s.view t.view b.0.1.1
   done_grew (looks number n) s t b = looked_grew p number n s.view t.view b.0
   done_grew (takes id) s t b = added_grew (socket_id_slot id) s.view t.view _ b.1
   done_grew (misses id found) s t b = gone_grew id found s.view t.view b.0

@@ -13,14 +13,14 @@ use Rattle.sock_words.specs.declared.vref.Vref.{Vref}
 use Rattle.sock_words.specs.Words.{socket_id_version, socket_id_slot}
 use Rattle.sock_model.specs.declared.marks.Mark.{Mark}
 use Rattle.sock_model.specs.declared.view.View.{View}
-use Rattle.sock_model.specs.Layout.{name_word, open_word}
+use Rattle.sock_model.specs.Layout.{name_index, open_index}
 use Rattle.sock_model.specs.SlotRows.{marks_of}
 use Rattle.sock_model.specs.Weights.{is_born, is_linked, is_failer, only}
-use Rattle.slot_laws.proofs.Numbers.{only-same, pair_is}
-use Rattle.sock_programs.specs.declared.task.Op.{Op}
-use Rattle.sock_programs.specs.declared.task.Op.TheVariants as ops
-use Rattle.sock_programs.specs.declared.task.Task.{Task}
-use Rattle.sock_programs.specs.Told.{Made}
+use Rattle.slot_steps.proofs.Numbers.{only-same, pair_is}
+use Rattle.seat_programs.specs.declared.task.Op.{Op}
+use Rattle.seat_programs.specs.declared.task.Op.TheVariants as ops
+use Rattle.seat_programs.specs.declared.task.Task.{Task}
+use Rattle.seat_programs.specs.Told.{Made}
 use Rattle.rpc_client.specs.Opening.{OpenedBy}
 use Rattle.sock_deeds.specs.Deeds.{Hand, Did, opens, DoneBy, Deed, own_number}
 use Rattle.sock_deeds.specs.Runs.{IsFor, DeedRun}
@@ -51,8 +51,8 @@ opened_born p name operation link slot version k m n b =
     let i = socket_id_slot b.0.0 in
     let e : marks_of f i o.made.0 ≡ marks_of f i m.0 + (0 + (only (socket_id_version b.0.0) (socket_id_version b.0.0) + 0)) = o.created.here f in
     let q = only-same (socket_id_version b.0.0) in
-    let g1 = (put_grew (open_word p operation) (b.0.0 + 1) o.made o.told o.noted).marks f (λ h. refl) i in
-    let g2 = (put_grew (name_word p name) (b.0.0 + 1) o.told n o.published).marks f (λ h. refl) i in
+    let g1 = (put_grew (open_index p operation) (b.0.0 + 1) o.made o.told o.noted).marks f (λ h. refl) i in
+    let g2 = (put_grew (name_index p name) (b.0.0 + 1) o.told n o.published).marks f (λ h. refl) i in
     let less : marks_of f i m.0 < marks_of f i n.0 = omega arith in
     subst (λ s. marks_of (is_born version) s m.0 < marks_of (is_born version) s n.0) (sym b.1) (subst (λ v. marks_of (is_born v) i m.0 < marks_of (is_born v) i n.0) (sym b.2) less)
 
@@ -103,10 +103,10 @@ module _ {O : Type 0} {g : Ghosts O} {state : O → OutState} {p : Plan} {client
       by_source a (by_write id v w all grew f listed) = absurd (let m = f.weighs in omega arith)
 
   -- what was found under a name is a life that an `open` of the name made
-  pub found_made : (a : Act run) (n : ℕ) (id : SocketId) → n < p.names → HasFound record { place = name_word p n; word = id.0 + 1 } (after run a) → (k : ℕ) × MadeHere n k (socket_id_slot id.0) (socket_id_version id.0)
+  pub found_made : (a : Act run) (n : ℕ) (id : SocketId) → n < p.names → HasFound record { place = name_index p n; word = id.0 + 1 } (after run a) → (k : ℕ) × MadeHere n k (socket_id_slot id.0) (socket_id_version id.0)
   found_made a n id low found =
-      let h = has_found run a record { place = name_word p n; word = id.0 + 1 } found in
-      let w = puts_from run (name_word p n) (id.0 + 1) (run.closed.closing.found_was h.0 record { place = name_word p n; word = id.0 + 1 } h.1) in
+      let h = has_found run a record { place = name_index p n; word = id.0 + 1 } found in
+      let w = puts_from run (name_index p n) (id.0 + 1) (run.closed.closing.found_was h.0 record { place = name_index p n; word = id.0 + 1 } h.1) in
       let b = w.0 in
       let u = done_puts p n (id.0 + 1) low g state (did_of run b) b.d.before b.d.after (done_of run b) w.1 in
       let q : u.id.0 ≡ id.0 = (let e = u.word in omega arith) in

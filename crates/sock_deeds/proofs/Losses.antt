@@ -13,12 +13,12 @@ use Rattle.sock_words.specs.Words.{socket_id_version, socket_id_slot}
 use Rattle.sock_model.specs.declared.chain.Entry.{Entry}
 use Rattle.sock_model.specs.Deliveries.{place_value}
 use Rattle.sock_model.specs.Entries.{on}
-use Rattle.sock_model.specs.Layout.{place_word}
+use Rattle.sock_model.specs.Layout.{place_index}
 use Rattle.sock_model.specs.SlotRows.{marks_of}
 use Rattle.sock_model.specs.Weights.{is_met, is_saw}
-use Rattle.chain_laws.proofs.Lists.{distinct_filter}
-use Rattle.sock_programs.specs.declared.task.Op.TheVariants as ops
-use Rattle.sock_programs.specs.declared.task.Task.{Task}
+use Rattle.chain_steps.proofs.Lists.{distinct_filter}
+use Rattle.seat_programs.specs.declared.task.Op.TheVariants as ops
+use Rattle.seat_programs.specs.declared.task.Task.{Task}
 use Rattle.rpc_client.specs.sock_rule.specs.Closing.{PlacesDiffer}
 use Rattle.rpc_client.specs.sock_rule.specs.declared.homes.Letter.{Letter}
 use Rattle.sock_deeds.specs.Deeds.{opens}
@@ -78,11 +78,11 @@ module _ {O : Type 0} {g : Ghosts O} {state : O → OutState} {p : Plan} {client
       let i = kept run differ k in
       let e = place_there (on k (log run)) i less in
       let l = e.0.heading.place in
-      let n = slice_index run.closed.words (place_word p l) in
+      let n = slice_index run.closed.words (place_index p l) in
       let word : n ≡ place_value true k i = ((ends run differ).1 k low).fifo.dropped i e.0 e.1 (omega arith) in
       let q = from_on k (log run) i e.0 e.1 in
       let put = (run.closed.dropped l (low_entry q.0 e.0 q.1)).told (omega arith) in
-      let w = puts_from run (place_word p l) n put in
+      let w = puts_from run (place_index p l) n put in
       let d = done_drops p l n g state (did_of run w.0) w.0.d.before w.0.d.after (done_of run w.0) (low_open w.0) w.1 in
       let id = d.over.sock.id.0 in
       let x = d.word in

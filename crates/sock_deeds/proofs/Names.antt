@@ -12,15 +12,15 @@ use Rattle.sock_words.specs.declared.vref.Vref.{Vref}
 use Rattle.sock_words.specs.Words.{socket_id_slot}
 use Rattle.sock_message.specs.Asked.{name_of}
 use Rattle.sock_model.specs.declared.view.View.{View}
-use Rattle.sock_model.specs.Layout.{name_word, request_word}
+use Rattle.sock_model.specs.Layout.{name_index, request_index}
 use Rattle.sock_model.specs.SlotRows.{marks_of}
 use Rattle.sock_model.specs.Weights.{is_born, is_tried}
 use Rattle.rpc_client.specs.sock_rule.specs.declared.homes.Letter.{Letter}
-use Rattle.sock_programs.specs.declared.task.Op.{Op}
-use Rattle.sock_programs.specs.declared.task.Op.TheVariants as ops
-use Rattle.sock_programs.specs.declared.task.Task.{Task}
-use Rattle.sock_programs.specs.Told.{IsTask, Became, OpensNone, EachOpened}
-use Rattle.sock_programs.specs.ToldCalls.{Fixed, Order, FoundNone, Seeks}
+use Rattle.seat_programs.specs.declared.task.Op.{Op}
+use Rattle.seat_programs.specs.declared.task.Op.TheVariants as ops
+use Rattle.seat_programs.specs.declared.task.Task.{Task}
+use Rattle.seat_programs.specs.Told.{IsTask, Became, OpensNone, EachOpened}
+use Rattle.seat_programs.specs.ToldCalls.{Fixed, Order, FoundNone, Seeks}
 use Rattle.rpc_client.specs.sock_table.specs.Named.{HasSeen}
 use Rattle.rpc_client.specs.sock_table.specs.declared.refs.SockRef.{SockRef}
 use Rattle.rpc_client.specs.declared.holding.Held.{Held}
@@ -42,16 +42,16 @@ use Rattle.sock_deeds.proofs.Tasks.{Does, act_of, act_does, earlier, one_outcome
 -- ## What has seen a name
 
 abbrev SeenBy : Plan → ℕ → View → Type 0
-SeenBy p n v = HasSeen (name_word p n) v
+SeenBy p n v = HasSeen (name_index p n) v
 
 here_seen : (p : Plan) (n : ℕ) (sock : SockRef) (v w : View) → ReachedBy p n (reached.Here sock) v w → SeenBy p n w
-here_seen p n sock v w r = (added_grew (socket_id_slot sock.id.0) r.0 w _ r.2).seen (name_word p n) (0, ap (λ (y : View). get_elem? y.found 0) r.1.1.view)
+here_seen p n sock v w r = (added_grew (socket_id_slot sock.id.0) r.0 w _ r.2).seen (name_index p n) (0, ap (λ (y : View). get_elem? y.found 0) r.1.1.view)
 
 gone_seen : (p : Plan) (n : ℕ) (found : Vref) (v w : View) → ReachedBy p n (reached.Gone found) v w → SeenBy p n w
-gone_seen p n found v w r = (added_grew (socket_id_slot r.0.0) r.1 w _ r.3.became).seen (name_word p n) (0, ap (λ (y : View). get_elem? y.found 0) r.2.1.view)
+gone_seen p n found v w r = (added_grew (socket_id_slot r.0.0) r.1 w _ r.3.became).seen (name_index p n) (0, ap (λ (y : View). get_elem? y.found 0) r.2.1.view)
 
 over_seen : {O : Type 0} (state : O → OutState) (p : Plan) (n : ℕ) (msg : Letter) (by : Option Outcome) (v w : View) → SentOver state p n msg by v w → SeenBy p n w
-over_seen state p n msg by v w s = (over_grew state p n msg by v w s).seen (name_word p n) (here_seen p n s.sock v s.has s.reached_it)
+over_seen state p n msg by v w s = (over_grew state p n msg by v w s).seen (name_index p n) (here_seen p n s.sock v s.has s.reached_it)
 
 message_seen : {O : Type 0} (state : O → OutState) (p : Plan) (n : ℕ) (msg : Letter) (by : Option Outcome) (v w : View) → MessageBy state p n msg by v w → (by ≡ Some outcome.Unopened) ⊎ SeenBy p n w
 message_seen state p n msg None v w s = inr (over_seen state p n msg None v w s)
@@ -72,13 +72,13 @@ failed_seen p n code (outcome.Gone found) v w b = inr (gone_seen p n found v w b
 failed_seen p n code outcome.Failed v w b = inr (tried_seen outcome.Failed b)
   where
     tried_seen : (by : Outcome) → TriedTo p n code by v w → SeenBy p n w
-    tried_seen by t = (back_grew (socket_id_slot t.sock.id.0) _ t.set w t.ended t.back).seen (name_word p n) (set_seen by t.sock.id.0 t.has t.set t.set_by (here_seen p n t.sock v t.has t.reached_it))
+    tried_seen by t = (back_grew (socket_id_slot t.sock.id.0) _ t.set w t.ended t.back).seen (name_index p n) (set_seen by t.sock.id.0 t.has t.set t.set_by (here_seen p n t.sock v t.has t.reached_it))
       where
         set_seen : (by : Outcome) (id : ℕ) (u x : View) → SetBy id code by u x → SeenBy p n u → SeenBy p n x
-        set_seen outcome.Failed id u x s h = (added_grew (socket_id_slot id) u x _ s).seen (name_word p n) h
-        set_seen (outcome.Already found) id u x s h = (added_grew (socket_id_slot id) u x _ s.1).seen (name_word p n) h
+        set_seen outcome.Failed id u x s h = (added_grew (socket_id_slot id) u x _ s).seen (name_index p n) h
+        set_seen (outcome.Already found) id u x s h = (added_grew (socket_id_slot id) u x _ s.1).seen (name_index p n) h
         set_seen _ id u x s h = elim s [ ]
-failed_seen p n code (outcome.Already found) v w b = inr ((grew_then b.has b.set w (added_grew (socket_id_slot b.sock.id.0) b.has b.set _ b.set_by.1) (back_grew (socket_id_slot b.sock.id.0) _ b.set w b.ended b.back)).seen (name_word p n) (here_seen p n b.sock v b.has b.reached_it))
+failed_seen p n code (outcome.Already found) v w b = inr ((grew_then b.has b.set w (added_grew (socket_id_slot b.sock.id.0) b.has b.set _ b.set_by.1) (back_grew (socket_id_slot b.sock.id.0) _ b.set w b.ended b.back)).seen (name_index p n) (here_seen p n b.sock v b.has b.reached_it))
 failed_seen p n code _ v w b = elim b [ ]
 
 opened_seen : {S : Type 0} (p : Plan) (n operation link slot version k : ℕ) (m m' : Me S View) → OpenedBy p n operation link (outcome.Opened slot version k) m m' → SeenBy p n m'.0
@@ -96,7 +96,7 @@ module _ {O : Type 0} {g : Ghosts O} {state : O → OutState} {p : Plan} {client
   module _ (fixed_ : Fixed) (gave : ℕ → List ℕ) (orders : ℕ → Order) (b : Act run) (m n : ℕ) (mine : own_number (did_of run b) ≡ Some m) (unseen : SeenBy p n (before run b) → ⊥) where
     -- no earlier deed of its seat saw the name
     none_seen : (a : Act run) → a.c ≡ b.c → a.k < b.k → SeenBy p n (after run a) → ⊥
-    none_seen a client less seen = unseen ((act_between run a b client less).seen (name_word p n) seen)
+    none_seen a client less seen = unseen ((act_between run a b client less).seen (name_index p n) seen)
 
     as_did : (a : Act run) (d : Did) → did_of run a ≡ d → DoneBy g state p d a.d.before a.d.after
     as_did a d e = subst (λ (x : Did). DoneBy g state p x a.d.before a.d.after) e (done_of run a)
@@ -184,4 +184,4 @@ module _ {O : Type 0} {g : Ghosts O} {state : O → OutState} {p : Plan} {client
   pub was_full : (b : Act run) (n : ℕ) (msg : Letter) → SentOver state p n msg (Some outcome.Full) (before run b) (after run b) → p.requests ≤ length (log run)
   was_full b n msg s =
       let d = s.delivered in
-      run.closed.ordered.full (λ q low. has_seen run b (request_word p q) ((returned_grew s.sock.id.0 d.refused_at (after run b) d.returned).seen (request_word p q) (d.refused_by.2 q low)))
+      run.closed.ordered.full (λ q low. has_seen run b (request_index p q) ((returned_grew s.sock.id.0 d.refused_at (after run b) d.returned).seen (request_index p q) (d.refused_by.2 q low)))

@@ -9,12 +9,12 @@ use Rattle.sock_words.specs.declared.outcome.Outcome.{Outcome}
 use Rattle.sock_words.specs.declared.plain.Plan.{Plan}
 use Rattle.sock_words.specs.declared.place_word.PlaceWord.{PlaceWord}
 use Rattle.sock_words.specs.declared.vref.Vref.{Vref}
-use Rattle.sock_programs.specs.declared.task.Op.{Op}
-use Rattle.sock_programs.specs.declared.task.Op.TheVariants as ops
-use Rattle.sock_programs.specs.declared.task.Task.{Task}
-use Rattle.sock_programs.specs.Told.{IsTask}
-use Rattle.sock_causes.proofs.Tasks.{sorted_of}
-use Rattle.sock_causes.proofs.Seats.{Less}
+use Rattle.seat_programs.specs.declared.task.Op.{Op}
+use Rattle.seat_programs.specs.declared.task.Op.TheVariants as ops
+use Rattle.seat_programs.specs.declared.task.Task.{Task}
+use Rattle.seat_programs.specs.Told.{IsTask}
+use Rattle.outcome_causes.proofs.Tasks.{sorted_of}
+use Rattle.outcome_causes.proofs.Seats.{Less}
 use Rattle.report_fits.proofs.Lists.{has_from, before_at}
 use Rattle.sock_deeds.specs.Deeds.{own_number, Deed}
 use Rattle.sock_deeds.specs.Runs.{number_at, numbers_at, listed, numbers_of, Seated, DeedRun}

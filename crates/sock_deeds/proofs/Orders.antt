@@ -23,15 +23,15 @@ use Rattle.sock_model.specs.declared.home.Home.TheVariants.{Link}
 use Rattle.sock_model.specs.Deliveries.{whole, Taken, place_value}
 use Rattle.sock_model.specs.Entries.{on}
 use Rattle.sock_model.specs.Fifo.{IsFifo}
-use Rattle.sock_model.specs.Layout.{place_word}
-use Rattle.sock_programs.specs.declared.task.Op.TheVariants as ops
-use Rattle.chain_laws.proofs.Lists.{distinct_filter}
-use Rattle.sock_programs.specs.declared.task.Task.{Task}
-use Rattle.sock_programs.specs.Cores.{Core, link_place, lies_at}
-use Rattle.sock_programs.specs.Runs.{from_to}
-use Rattle.sock_programs.specs.Scripts.{taken_by, took_at_home}
-use Rattle.sock_programs.specs.Told.{IsTask}
-use Rattle.sock_programs.specs.ToldCalls.{Accepted, Order, Fixed, AreOrders, IsTaken, StandsAt, StandsOn, InOwnOrder, bytes_of, label}
+use Rattle.sock_model.specs.Layout.{place_index}
+use Rattle.seat_programs.specs.declared.task.Op.TheVariants as ops
+use Rattle.chain_steps.proofs.Lists.{distinct_filter}
+use Rattle.seat_programs.specs.declared.task.Task.{Task}
+use Rattle.seat_programs.specs.Cores.{Core, link_place, lies_at}
+use Rattle.seat_programs.specs.Runs.{from_to}
+use Rattle.seat_programs.specs.Scripts.{taken_by, took_at_home}
+use Rattle.seat_programs.specs.Told.{IsTask}
+use Rattle.seat_programs.specs.ToldCalls.{Accepted, Order, Fixed, AreOrders, IsTaken, StandsAt, StandsOn, InOwnOrder, bytes_of, label}
 use Rattle.report_fits.proofs.Lists.{before_from}
 use Rattle.rpc_client.specs.sock_rule.specs.Closing.{LifeFailed, PlacesDiffer}
 use Rattle.rpc_client.specs.sock_rule.specs.declared.homes.Letter.{Letter}
@@ -129,7 +129,7 @@ frame_some asked id n e = cc
 module _ {O : Type 0} {g : Ghosts O} {state : O → OutState} {p : Plan} {clients : List (List Task)} {outcomes : List (Option Outcome)} {places : List PlaceWord} {vrefs : List Vref} {outs : List O} (run : DeedRun g state p clients outcomes places vrefs outs) (differ : PlacesDiffer (log run)) where
   -- what a link took, and how many messages whole
   pub record LinkEnds (k : ℕ) (x : List ℕ × ℕ) : Type 0 where
-    pub fifo : IsFifo (λ l. slice_index run.closed.words (place_word p l)) k (on k (log run)) x.1 x.0
+    pub fifo : IsFifo (λ l. slice_index run.closed.words (place_index p l)) k (on k (log run)) x.1 x.0
     pub failed : x.1 < length (on k (log run)) → LifeFailed p run.closed.view k
     pub out : O
     pub there : get_elem? outs k ≡ some out
@@ -166,7 +166,7 @@ module _ {O : Type 0} {g : Ghosts O} {state : O → OutState} {p : Plan} {client
 
   -- ## The orders
 
-  word_at : (k i : ℕ) (e : Entry) → k < p.links → get_elem? (on k (log run)) i ≡ some e → slice_index run.closed.words (place_word p e.heading.place) ≡ place_value (nat_le (kept k) i) k i
+  word_at : (k i : ℕ) (e : Entry) → k < p.links → get_elem? (on k (log run)) i ≡ some e → slice_index run.closed.words (place_index p e.heading.place) ≡ place_value (nat_le (kept k) i) k i
   word_at k i e low at =
       let f = (ends.1 k low).fifo in
       dite (dec_lt i (kept k))
@@ -186,8 +186,8 @@ module _ {O : Type 0} {g : Ghosts O} {state : O → OutState} {p : Plan} {client
 
   pub are_orders : (c : Core) → IsLeft c → AreOrders p c orders
   are_orders c left = record {
-    written = λ k i a low at. (let w = entry_on k i a at in ap (λ l. slice_index l (place_word p (label a))) left.words ∙ (ap (λ l. slice_index run.closed.words (place_word p l)) (ap label (sym w.2) ∙ label_is w.0) ∙ word_at k i w.0 low w.1));
-    alone = λ l low. ⊎_elim (λ none_. inl (ap (λ ws. slice_index ws (place_word p l)) left.words ∙ none_)) (λ w. inr (w.link, w.position, accepted_of w.entry, w.inside, accepted_there (on w.link (log run)) w.position w.entry w.there, sym w.own ∙ sym (label_is w.entry))) (run.closed.shown l low);
+    written = λ k i a low at. (let w = entry_on k i a at in ap (λ l. slice_index l (place_index p (label a))) left.words ∙ (ap (λ l. slice_index run.closed.words (place_index p l)) (ap label (sym w.2) ∙ label_is w.0) ∙ word_at k i w.0 low w.1));
+    alone = λ l low. ⊎_elim (λ none_. inl (ap (λ ws. slice_index ws (place_index p l)) left.words ∙ none_)) (λ w. inr (w.link, w.position, accepted_of w.entry, w.inside, accepted_there (on w.link (log run)) w.position w.entry w.there, sym w.own ∙ sym (label_is w.entry))) (run.closed.shown l low);
     within = λ k low. (let c_ = (ends.1 k low).fifo.count in let n = map_long accepted_of (on k (log run)) in omega arith);
     taken = λ k low. subst (λ hs. IsTaken (orders k) (get_or (took_at_home p hs) k [])) (sym left.homes) (subst (IsTaken (orders k)) (sym (took_home p took k low)) (taken_of (on k (log run)) (kept k) (took k) (λ i e at. (let w = from_on k (log run) i e at in has_bytes w.0 e w.1)) (ends.1 k low).fifo.took_is));
     apart = λ k l i j a b low_k low_l at bt same. (

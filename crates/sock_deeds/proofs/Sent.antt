@@ -14,16 +14,16 @@ use Rattle.sock_words.specs.Words.{socket_id_version, socket_id_slot}
 use Rattle.sock_message.specs.Asked.{name_of, frame_of}
 use Rattle.sock_model.specs.declared.chain.Entry.{Entry}
 use Rattle.sock_model.specs.declared.marks.Mark.{Mark}
-use Rattle.sock_model.specs.Layout.{name_word}
+use Rattle.sock_model.specs.Layout.{name_index}
 use Rattle.sock_model.specs.SlotRows.{marks_of}
 use Rattle.sock_model.specs.Weights.{is_met, pair}
-use Rattle.slot_laws.proofs.Numbers.{pair-same}
+use Rattle.slot_steps.proofs.Numbers.{pair-same}
 use Rattle.rpc_client.specs.sock_rule.specs.Closing.{PlacesDiffer}
 use Rattle.rpc_client.specs.sock_rule.specs.declared.homes.Letter.{Letter}
-use Rattle.sock_programs.specs.declared.task.Op.TheVariants as ops
-use Rattle.sock_programs.specs.declared.task.Task.{Task}
-use Rattle.sock_programs.specs.Told.{Made}
-use Rattle.sock_programs.specs.ToldCalls.{Accepted, Fixed, IsSent as IsSentBy, OfSend}
+use Rattle.seat_programs.specs.declared.task.Op.TheVariants as ops
+use Rattle.seat_programs.specs.declared.task.Task.{Task}
+use Rattle.seat_programs.specs.Told.{Made}
+use Rattle.seat_programs.specs.ToldCalls.{Accepted, Fixed, IsSent as IsSentBy, OfSend}
 use Rattle.report_fits.proofs.Lists.{all_from}
 use Rattle.sock_deeds.specs.Left.{accepted_of}
 use Rattle.sock_deeds.specs.Told.{IsAttempt}
@@ -46,7 +46,7 @@ module _ {O : Type 0} {g : Ghosts O} {state : O → OutState} {p : Plan} {client
       let h = socket_id_version id.0 in
       let low = s.sent.reached_it.1.0.inside in
       let named = act_name run a s.name (ap name_in s.did_is) in
-      let found = (over_grew state p s.name s.msg None (before run a) (after run a) s.sent).finds record { place = name_word p s.name; word = id.0 + 1 } (here_found p s.name s.sent.sock (before run a) s.sent.has s.sent.reached_it) in
+      let found = (over_grew state p s.name s.msg None (before run a) (after run a) s.sent).finds record { place = name_index p s.name; word = id.0 + 1 } (here_found p s.name s.sent.sock (before run a) s.sent.has s.sent.reached_it) in
       let made = found_made run a s.name id named found in
       let f : Mark → ℕ = is_met h d.accepted.entry.link in
       let link : d.accepted.entry.link ≡ e.link = ap (λ (x : Entry). x.link) s.entry in

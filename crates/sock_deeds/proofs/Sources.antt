@@ -16,11 +16,11 @@ use Rattle.sock_model.specs.declared.marks.Mark.{Mark}
 use Rattle.sock_model.specs.declared.marks.Mark.TheVariants.{Hold, Known, Saw, Met, Told, Tried, Freer, Recycling, Stored, Failer, Born, Linked}
 use Rattle.sock_model.specs.declared.marks.SlotMark.{SlotMark}
 use Rattle.sock_model.specs.declared.view.View.{View}
-use Rattle.sock_model.specs.Layout.{name_word, open_word}
+use Rattle.sock_model.specs.Layout.{name_index, open_index}
 use Rattle.sock_model.specs.Marks.{about, at}
 use Rattle.sock_model.specs.SlotRows.{marks_of}
 use Rattle.sock_model.specs.Weights.{total}
-use Rattle.slot_laws.proofs.Sums.{about-here, about-other}
+use Rattle.slot_steps.proofs.Sums.{about-here, about-other}
 use Rattle.rpc_client.specs.sock_rule.specs.Becoming.{Became}
 use Rattle.rpc_client.specs.sock_rule.specs.Faults.{fault as fault_mark}
 use Rattle.rpc_client.specs.sock_rule.specs.Rows.{PutAt}
@@ -114,9 +114,9 @@ module _ (f : Mark → ℕ) (z : IsOfLife f) where
 
   pub reached_same : (p : Plan) (n : ℕ) (r : Reached) (v w : View) → ReachedBy p n r v w → Same f v w
   reached_same p n reached.Unopened v w r = same_as f v w r.0
-  reached_same p n (reached.Gone found) v w r = same_then f v r.1 w (found_same (name_word p n) r.0.0 v r.1 r.2.1)
+  reached_same p n (reached.Gone found) v w r = same_then f v r.1 w (found_same (name_index p n) r.0.0 v r.1 r.2.1)
       (became_same f (socket_id_slot r.0.0) r.1 w _ [] (let e = ended_none r.3.ended r.3.version r.3.notes r.3.by in let a = z.saw (vref_version found.0) in omega arith) refl r.3.became)
-  reached_same p n (reached.Here sock) v w r = same_then f v r.0 w (found_same (name_word p n) sock.id.0 v r.0 r.1.1)
+  reached_same p n (reached.Here sock) v w r = same_then f v r.0 w (found_same (name_index p n) sock.id.0 v r.0 r.1.1)
       (became_same f (socket_id_slot sock.id.0) r.0 w _ [] (let a = z.saw (socket_id_version sock.id.0) in let b = z.hold (socket_id_version sock.id.0) in omega arith) refl r.2)
 
   -- ## What is noted while a link is written
@@ -196,7 +196,7 @@ module _ (f : Mark → ℕ) (z : IsOfLife f) where
   tried_same n v w t j = dite (dec_lt j n) (λ lt. let e = t.each j lt f in let y = z.tried in omega arith) (λ ge. ap (total f) (t.elsewhere j (omega arith)))
 
   none_same : {S : Type 0} (p : Plan) (operation : ℕ) (m n : Me S View) → GotNone p operation m n → Same f m.0 n.0
-  none_same {S} p operation m n b = same_then f m.0 b.finished.0 n.0 (notes_same m.0 b.finished.0 b.same) (put_same (open_word p operation) _ b.finished n b.noted)
+  none_same {S} p operation m n b = same_then f m.0 b.finished.0 n.0 (notes_same m.0 b.finished.0 b.same) (put_same (open_index p operation) _ b.finished n b.noted)
 
   created_at : (id k : ℕ) (v w : View) → Created id k v w → (i : ℕ) → marks_of f i v < marks_of f i w → (socket_id_slot id ≡ i) × (0 < f (Linked (socket_id_version id) k) + f (Born (socket_id_version id)))
   created_at id k v w c i less = dite (ℕ_discrete i (socket_id_slot id))
@@ -207,8 +207,8 @@ module _ (f : Mark → ℕ) (z : IsOfLife f) where
       → (version : ℕ) × (by ≡ outcome.Opened i version link) × (0 < f (Linked version link) + f (Born version))
   opened_source p name operation link (outcome.Opened slot version k) m n b i less =
       let o = b.4 in
-      let e = put_same (open_word p operation) (b.0.0 + 1) o.made o.told o.noted i in
-      let e' = put_same (name_word p name) (b.0.0 + 1) o.told n o.published i in
+      let e = put_same (open_index p operation) (b.0.0 + 1) o.made o.told o.noted i in
+      let e' = put_same (name_index p name) (b.0.0 + 1) o.told n o.published i in
       let c = created_at b.0.0 link m.0 o.made.0 o.created i (omega arith) in
       (socket_id_version b.0.0, (λ x. outcome.Opened ((b.1 ∙ c.0) x) (b.2 x) (b.3 x)), c.1)
   opened_source p name operation link outcome.SlotsFull m n b i less = absurd (not_more f m.0 n.0 (same_then f m.0 b.tried.0 n.0 (tried_same p.slots m.0 b.tried.0 b.each) (none_same p operation b.tried n b.none_)) i less)
@@ -263,7 +263,7 @@ module _ (f : Mark → ℕ) (z : IsOfLife f) where
   looked_same : (p : Plan) (number : ℕ) (n : NotedKind) (v w : View) → NotedAs p number n v w → Same f v w
   looked_same p number noteds.NotYet v w b = same_as f v w b.0
   looked_same p number noteds.Nothing v w b = λ i. ap (marks_of f i) b.view
-  looked_same p number (noteds.Id id) v w b = found_same (open_word p number) id.0 v w b.1
+  looked_same p number (noteds.Id id) v w b = found_same (open_index p number) id.0 v w b.1
 
   gone_same : (id found : ℕ) (v w : View) → GoneFrom id found v w → Same f v w
   gone_same id found v w b = became_same f (socket_id_slot id) v w _ [] (let e = ended_none b.ended b.version b.notes b.by in let a = z.saw (vref_version found) in omega arith) refl b.became
@@ -297,7 +297,7 @@ module _ (f : Mark → ℕ) (z : IsOfLife f) where
     done_source (holds name number by) s t b i less = absurd (not_more f s.view t.view (held_same p name by s.held s.view t.held t.view b) i less)
     done_source (drops name number by) s t b i less = absurd (not_more f s.view t.view (dropped_same name by s.held s.view t.held t.view b) i less)
     done_source (fails name number code by) s t b i less = let w = failed_source p name code by s.view t.view b.0 i less in by_fail name number code (ap (fails name number code) w.1) (w.0, refl, w.2, w.3)
-    done_source (waits name) s t b i less = absurd (not_more f s.view t.view (found_same (name_word p name) b.0.0.0 s.view t.view b.0.1.1) i less)
+    done_source (waits name) s t b i less = absurd (not_more f s.view t.view (found_same (name_index p name) b.0.0.0 s.view t.view b.0.1.1) i less)
     done_source (looks number n) s t b i less = absurd (not_more f s.view t.view (looked_same p number n s.view t.view b.0) i less)
     done_source (takes id) s t b i less = absurd (not_more f s.view t.view (taken_same id s.view t.view b.1) i less)
     done_source (misses id found) s t b i less = absurd (not_more f s.view t.view (gone_same id found s.view t.view b.0) i less)

@@ -12,10 +12,10 @@ use Rattle.sock_words.specs.declared.socket_id.SocketId.{SocketId}
 use Rattle.sock_words.specs.Words.{socket_id_version, socket_id_slot}
 use Rattle.sock_model.specs.declared.view.StoredWord.{StoredWord}
 use Rattle.sock_model.specs.declared.view.View.{View}
-use Rattle.sock_model.specs.Layout.{name_word, open_word, place_word}
+use Rattle.sock_model.specs.Layout.{name_index, open_index, place_index}
 use Rattle.sock_model.specs.Marks.{noted}
 use Rattle.sock_model.specs.Weights.{total, pair}
-use Rattle.slot_laws.proofs.Numbers.{pair_is}
+use Rattle.slot_steps.proofs.Numbers.{pair_is}
 use Rattle.rpc_client.specs.sock_rule.specs.OnTable.{is_put, put_in}
 use Rattle.rpc_client.specs.sock_rule.specs.Rows.{NOTHING, PutAt}
 use Rattle.rpc_client.specs.sock_rule.specs.declared.homes.Letter.{Letter}
@@ -61,34 +61,34 @@ module _ (p : Plan) (x w : ℕ) where
 
   reached_puts : (n : ℕ) (r : Reached) (v u : View) → ReachedBy p n r v u → puts u ≡ puts v
   reached_puts n reached.Unopened v u r = ap puts r.0
-  reached_puts n (reached.Gone found) v u r = others_puts r.1 u r.3.became.others ∙ found_puts (name_word p n) r.0.0 v r.1 r.2.1
-  reached_puts n (reached.Here sock) v u r = others_puts r.0 u r.2.others ∙ found_puts (name_word p n) sock.id.0 v r.0 r.1.1
+  reached_puts n (reached.Gone found) v u r = others_puts r.1 u r.3.became.others ∙ found_puts (name_index p n) r.0.0 v r.1 r.2.1
+  reached_puts n (reached.Here sock) v u r = others_puts r.0 u r.2.others ∙ found_puts (name_index p n) sock.id.0 v r.0 r.1.1
 
   -- ## Opening
 
   -- an `open` stored what is noted for its number, or the id of its socket at its name
   pub data Publishes (name number link : ℕ) (by : Outcome) : Type 0 where
-    for_number : x ≡ open_word p number → Publishes name number link by
-    under_name : (id : SocketId) → by ≡ outcome.Opened (socket_id_slot id.0) (socket_id_version id.0) link → x ≡ name_word p name → w ≡ id.0 + 1 → Publishes name number link by
+    for_number : x ≡ open_index p number → Publishes name number link by
+    under_name : (id : SocketId) → by ≡ outcome.Opened (socket_id_slot id.0) (socket_id_version id.0) link → x ≡ name_index p name → w ≡ id.0 + 1 → Publishes name number link by
 
   opened_puts : {S : Type 0} (name number link : ℕ) (by : Outcome) (m m' : Me S View) → OpenedBy p name number link by m m' → puts m.0 < puts m'.0 → Publishes name number link by
   opened_puts name number link (outcome.Opened slot version k) m m' b less =
       let o = b.4 in
       let e1 = o.created.stores x w in
-      let e2 = put_is x w (open_word p number) (b.0.0 + 1) o.made o.told o.noted in
-      let e4 = put_is x w (name_word p name) (b.0.0 + 1) o.told m' o.published in
-      dite (ℕ_discrete x (open_word p number))
+      let e2 = put_is x w (open_index p number) (b.0.0 + 1) o.made o.told o.noted in
+      let e4 = put_is x w (name_index p name) (b.0.0 + 1) o.told m' o.published in
+      dite (ℕ_discrete x (open_index p number))
       (λ same. for_number same)
       (λ ne. (
-      let e3 = none_at (open_word p number) (b.0.0 + 1) ne in
-      let q = pair_is x w (name_word p name) (b.0.0 + 1) (omega arith) in
+      let e3 = none_at (open_index p number) (b.0.0 + 1) ne in
+      let q = pair_is x w (name_index p name) (b.0.0 + 1) (omega arith) in
       under_name b.0 (λ i. outcome.Opened (b.1 i) (b.2 i) (b.3 i)) (sym q.0) (sym q.1)))
   opened_puts name number link outcome.SlotsFull m m' b less =
       let n = b.none_ in
       let e1 = ap puts b.each.others in
-      let e2 = put_is x w (open_word p number) NOTHING n.finished m' n.noted in
+      let e2 = put_is x w (open_index p number) NOTHING n.finished m' n.noted in
       let e3 = n.same.stores x w in
-      for_number (sym (pair_is x w (open_word p number) NOTHING (omega arith)).0)
+      for_number (sym (pair_is x w (open_index p number) NOTHING (omega arith)).0)
   opened_puts name number link _ m m' b less = elim b [ ]
 
   -- ## Messages
@@ -154,7 +154,7 @@ module _ (p : Plan) (x w : ℕ) where
   looked_puts : (number : ℕ) (x_ : Noted) (v u : View) → NotedAs p number x_ v u → puts u ≡ puts v
   looked_puts number noteds.NotYet v u b = ap puts b.0
   looked_puts number noteds.Nothing v u b = ap puts b.view
-  looked_puts number (noteds.Id id) v u b = found_puts (open_word p number) id.0 v u b.1
+  looked_puts number (noteds.Id id) v u b = found_puts (open_index p number) id.0 v u b.1
 
   -- ## Any deed
 
@@ -170,7 +170,7 @@ module _ (p : Plan) (x w : ℕ) where
   done_stores g state (holds name number by) s t b less = absurd (let e = held_puts name by s.held s.view t.held t.view b in omega arith)
   done_stores g state (drops name number by) s t b less = absurd (let e = dropped_puts name by s.held s.view t.held t.view b in omega arith)
   done_stores g state (fails name number code by) s t b less = absurd (let e = failed_puts name code by s.view t.view b.0 in omega arith)
-  done_stores g state (waits name) s t b less = absurd (let e = found_puts (name_word p name) b.0.0.0 s.view t.view b.0.1.1 in omega arith)
+  done_stores g state (waits name) s t b less = absurd (let e = found_puts (name_index p name) b.0.0.0 s.view t.view b.0.1.1 in omega arith)
   done_stores g state (looks number n) s t b less = absurd (let e = looked_puts number n s.view t.view b.0 in omega arith)
   done_stores g state (takes id) s t b less = absurd (let e = others_puts s.view t.view b.1.others in omega arith)
   done_stores g state (misses id found) s t b less = absurd (let e = others_puts s.view t.view b.0.became.others in omega arith)
@@ -188,15 +188,15 @@ module _ (p : Plan) (n w : ℕ) (low : n < p.names) where
     pub did_is : d ≡ opens n number link (outcome.Opened (socket_id_slot id.0) (socket_id_version id.0) link)
     pub word : w ≡ id.0 + 1
 
-  pub done_puts : {O : Type 0} (g : Ghosts O) (state : O → OutState) (d : Did) (s t : Hand) → DoneBy g state p d s t → put_in (name_word p n) w s.view < put_in (name_word p n) w t.view → Opens d
-  done_puts g state d s t b less = by_storing (done_stores p (name_word p n) w g state d s t b less)
+  pub done_puts : {O : Type 0} (g : Ghosts O) (state : O → OutState) (d : Did) (s t : Hand) → DoneBy g state p d s t → put_in (name_index p n) w s.view < put_in (name_index p n) w t.view → Opens d
+  done_puts g state d s t b less = by_storing (done_stores p (name_index p n) w g state d s t b less)
     where
-      by_name : (name number link : ℕ) (by : Outcome) → d ≡ opens name number link by → Publishes p (name_word p n) w name number link by → Opens d
+      by_name : (name number link : ℕ) (by : Outcome) → d ≡ opens name number link by → Publishes p (name_index p n) w name number link by → Opens d
       -- a name's word isn't one of an operation or of a place
       by_name name number link by is (for_number e) = absurd (omega arith)
       by_name name number link by is (under_name id by_is e word) = let same : name ≡ n = omega arith in record { number = number; link = link; id = id; did_is = is ∙ (λ i. opens (same i) number link (by_is i)); word = word }
 
-      by_storing : Storing p (name_word p n) w state d s t → Opens d
+      by_storing : Storing p (name_index p n) w state d s t → Opens d
       by_storing (by_open name number link by is u) = by_name name number link by is u
       by_storing (by_drop name number attempt msg is o dropped) = absurd (let e = dropped.at_place in omega arith)
 
@@ -208,15 +208,15 @@ module _ (p : Plan) (l w : ℕ) {O : Type 0} (g : Ghosts O) (state : O → OutSt
     pub name : ℕ
     pub msg : Letter
     pub over : SentOver state p name msg None s.view t.view
-    pub word : IsDropWord p over.sock.id.0 over.delivered.through.wrote (place_word p l) w
+    pub word : IsDropWord p over.sock.id.0 over.delivered.through.wrote (place_index p l) w
 
-  pub done_drops : (d : Did) (s t : Hand) → DoneBy g state p d s t → ((name number link : ℕ) (by : Outcome) → d ≡ opens name number link by → (name < p.names) × (number < p.operations)) → put_in (place_word p l) w s.view < put_in (place_word p l) w t.view → DropsThere s t
-  done_drops d s t b fits less = by_storing (done_stores p (place_word p l) w g state d s t b less)
+  pub done_drops : (d : Did) (s t : Hand) → DoneBy g state p d s t → ((name number link : ℕ) (by : Outcome) → d ≡ opens name number link by → (name < p.names) × (number < p.operations)) → put_in (place_index p l) w s.view < put_in (place_index p l) w t.view → DropsThere s t
+  done_drops d s t b fits less = by_storing (done_stores p (place_index p l) w g state d s t b less)
     where
-      no_open : (name number link : ℕ) (by : Outcome) → (name < p.names) × (number < p.operations) → Publishes p (place_word p l) w name number link by → ⊥
+      no_open : (name number link : ℕ) (by : Outcome) → (name < p.names) × (number < p.operations) → Publishes p (place_index p l) w name number link by → ⊥
       no_open name number link by low (for_number e) = let a = low.1 in omega arith
       no_open name number link by low (under_name id by_is e word) = let a = low.0 in omega arith
 
-      by_storing : Storing p (place_word p l) w state d s t → DropsThere s t
+      by_storing : Storing p (place_index p l) w state d s t → DropsThere s t
       by_storing (by_open name number link by is u) = absurd (no_open name number link by (fits name number link by is) u)
       by_storing (by_drop name number attempt msg is o dropped) = record { name = name; msg = msg; over = o; word = dropped }

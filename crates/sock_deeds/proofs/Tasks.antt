@@ -14,14 +14,14 @@ use Rattle.sock_words.specs.declared.place_word.PlaceWord.{PlaceWord}
 use Rattle.sock_words.specs.declared.vref.Vref.{Vref}
 use Rattle.sock_message.specs.Asked.{name_of}
 use Rattle.rpc_client.specs.sock_rule.specs.declared.homes.Letter.{Letter}
-use Rattle.sock_programs.specs.declared.task.Op.{Op}
-use Rattle.sock_programs.specs.declared.task.Op.TheVariants as ops
-use Rattle.sock_programs.specs.declared.task.Task.{Task}
-use Rattle.sock_programs.specs.Told.{IsTask, Became, TaskFits, OpFits}
-use Rattle.sock_causes.specs.Stories.{In}
-use Rattle.sock_causes.specs.Causes.{Asks}
-use Rattle.sock_causes.proofs.Members.{all_in}
-use Rattle.sock_causes.proofs.Tasks.{one_task, fits_of}
+use Rattle.seat_programs.specs.declared.task.Op.{Op}
+use Rattle.seat_programs.specs.declared.task.Op.TheVariants as ops
+use Rattle.seat_programs.specs.declared.task.Task.{Task}
+use Rattle.seat_programs.specs.Told.{IsTask, Became, TaskFits, OpFits}
+use Rattle.outcome_causes.specs.Stories.{In}
+use Rattle.outcome_causes.specs.Causes.{Asks}
+use Rattle.outcome_causes.proofs.Members.{all_in}
+use Rattle.outcome_causes.proofs.Tasks.{one_task, fits_of}
 use Rattle.report_fits.proofs.Lists.{has_from}
 use Rattle.sock_deeds.specs.Deeds.{Did, opens, sends, holds, drops, fails, waits, looks, takes, misses, sets, returns, own_number, Deed}
 use Rattle.sock_deeds.specs.Runs.{IsOperation, IsMessage, of_send, of_call, IsFor, Seated, DeedRun}

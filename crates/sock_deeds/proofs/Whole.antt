@@ -20,14 +20,14 @@ use Rattle.sock_model.specs.declared.chain.Entry.{Entry}
 use Rattle.sock_model.specs.Entries.{on}
 use Rattle.rpc_client.specs.sock_rule.specs.Closing.{PlacesDiffer}
 use Rattle.rpc_client.specs.sock_rule.specs.declared.homes.Letter.{Letter}
-use Rattle.sock_programs.specs.declared.task.Op.{Op}
-use Rattle.sock_programs.specs.declared.task.Op.TheVariants as ops
-use Rattle.sock_programs.specs.declared.task.Task.{Task}
-use Rattle.sock_programs.specs.Cores.{Core}
-use Rattle.sock_programs.specs.Runs.{from_to}
-use Rattle.sock_programs.specs.Told.{IsTask, Became, IsOpen}
-use Rattle.sock_programs.specs.ToldCalls.{Fixed, StandsOn, FoundNone, FoundFailed, MayFail, IsFailing, Why, all_accepted}
-use Rattle.sock_causes.proofs.Tasks.{setup_opens}
+use Rattle.seat_programs.specs.declared.task.Op.{Op}
+use Rattle.seat_programs.specs.declared.task.Op.TheVariants as ops
+use Rattle.seat_programs.specs.declared.task.Task.{Task}
+use Rattle.seat_programs.specs.Cores.{Core}
+use Rattle.seat_programs.specs.Runs.{from_to}
+use Rattle.seat_programs.specs.Told.{IsTask, Became, IsOpen}
+use Rattle.seat_programs.specs.ToldCalls.{Fixed, StandsOn, FoundNone, FoundFailed, MayFail, IsFailing, Why, all_accepted}
+use Rattle.outcome_causes.proofs.Tasks.{setup_opens}
 use Rattle.rpc_client.specs.Failing.{FailedBy as FailedAs}
 use Rattle.rpc_client.specs.Holding.{HeldBy}
 use Rattle.sock_deeds.specs.Deeds.{SentOver, MessageBy, OpenedOn, Did, opens, sends, holds, drops, fails, own_number, DoneBy}

@@ -5,9 +5,9 @@ use Rattle.sock_words.specs.declared.plain.Plan.{Plan}
 use Rattle.sock_words.specs.Words.{socket_id_version}
 use Rattle.sock_model.specs.declared.view.View.{View}
 use Rattle.sock_model.specs.Deliveries.{place_value}
-use Rattle.sock_model.specs.Layout.{place_word}
+use Rattle.sock_model.specs.Layout.{place_index}
 use Rattle.sock_model.specs.Weights.{total, is_met, is_saw}
-use Rattle.slot_laws.proofs.Numbers.{pair_is}
+use Rattle.slot_steps.proofs.Numbers.{pair_is}
 use Rattle.rpc_client.specs.sock_rule.specs.OnTable.{is_put, put_in}
 use Rattle.rpc_client.specs.write_chain.specs.Noting.{Wrote, WroteDrop}
 use Rattle.rpc_client.specs.write_chain.specs.Writing.{FoundDead}
@@ -35,6 +35,6 @@ module _ {O : Type 0} {state : O → OutState} (p : Plan) (id x n : ℕ) where
   pub word_dropped : (place : ℕ) (v w : View) → WroteDrop state p id place v w → FoundDead id w → put_in x n v < put_in x n w → IsDropWord p id w x n
   word_dropped place v w a dead less =
       let e = ap (total (total (is_put x n))) a.stores in
-      let f = note_is x n record { place = place_word p place; word = place_value true a.link a.position } v.stores in
-      let q = pair_is x n (place_word p place) (place_value true a.link a.position) (omega arith) in
+      let f = note_is x n record { place = place_index p place; word = place_value true a.link a.position } v.stores in
+      let q = pair_is x n (place_index p place) (place_value true a.link a.position) (omega arith) in
       record { place = place; at_place = sym q.0; link = a.link; position = a.position; low = a.low; word_is = sym q.1; met = a.met; dead = dead }

@@ -8,7 +8,7 @@ use Rattle.sock_words.specs.declared.outcome.Outcome.TheVariants as outcome
 use Rattle.sock_words.specs.declared.socket_id.SocketId.{SocketId}
 use Rattle.sock_model.specs.declared.view.View.{View}
 use Rattle.sock_model.specs.Deliveries.{place_value}
-use Rattle.sock_model.specs.Layout.{place_word}
+use Rattle.sock_model.specs.Layout.{place_index}
 use Rattle.rpc_client.specs.sock_rule.specs.OnTable.{put_in}
 use Rattle.rpc_client.specs.sock_rule.specs.declared.homes.Letter.{Letter}
 use Rattle.rpc_client.specs.sock_rule.specs.declared.homes.SockHome.{SockHome}
@@ -36,7 +36,7 @@ pub record Hand : Type 0 where
 -- a word that is stored while the link of the life of this id is written: it stands at the place of a message of this link that was dropped, and the seat had found the life failed
 pub record IsDropWord (p : Plan) (id : ℕ) (v : View) (x n : ℕ) : Type 0 where
   pub place : ℕ
-  pub at_place : x ≡ place_word p place
+  pub at_place : x ≡ place_index p place
   pub link : ℕ
   pub position : ℕ
   pub low : position < 4294967295

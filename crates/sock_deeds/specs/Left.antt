@@ -6,8 +6,8 @@ use Rattle.sock_model.specs.declared.chain.Entry.{Entry}
 use Rattle.sock_model.specs.declared.home.Home.{Home}
 use Rattle.sock_model.specs.declared.home.Home.TheVariants.{Link}
 use Rattle.sock_model.specs.Entries.{on}
-use Rattle.sock_programs.specs.Runs.{from_to}
-use Rattle.sock_programs.specs.ToldCalls.{Accepted, Order}
+use Rattle.seat_programs.specs.Runs.{from_to}
+use Rattle.seat_programs.specs.ToldCalls.{Accepted, Order}
 
 -- each link lies at home with what it took
 abbrev pub homes_of : Plan → (ℕ → List ℕ) → List (core.Option Home)

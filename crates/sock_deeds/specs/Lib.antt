@@ -5,4 +5,4 @@ pub mod Left
 pub mod Told
 pub use Rattle.report_fits
 pub use Rattle.rpc_client
-pub use Rattle.sock_causes
+pub use Rattle.outcome_causes

@@ -6,12 +6,12 @@ use Rattle.sock_words.specs.declared.outcome.Outcome.TheVariants as outcome
 use Rattle.sock_words.specs.declared.plain.Plan.{Plan}
 use Rattle.sock_message.specs.Asked.{Asked, name_of, frame_of}
 use Rattle.brpc_model.specs.Order.{EachBefore}
-use Rattle.sock_programs.specs.declared.task.Op.{Op}
-use Rattle.sock_programs.specs.declared.task.Op.TheVariants as ops
-use Rattle.sock_programs.specs.declared.task.Task.{Task}
-use Rattle.sock_programs.specs.Cores.{Core}
-use Rattle.sock_programs.specs.Told.{IsTask, Became, Made, IsFail}
-use Rattle.sock_programs.specs.ToldCalls.{Accepted, Order, Fixed, AreOrders, StandsOn, InOwnOrder, FoundNone, IsFailing, IsSent, Why}
+use Rattle.seat_programs.specs.declared.task.Op.{Op}
+use Rattle.seat_programs.specs.declared.task.Op.TheVariants as ops
+use Rattle.seat_programs.specs.declared.task.Task.{Task}
+use Rattle.seat_programs.specs.Cores.{Core}
+use Rattle.seat_programs.specs.Told.{IsTask, Became, Made, IsFail}
+use Rattle.seat_programs.specs.ToldCalls.{Accepted, Order, Fixed, AreOrders, StandsOn, InOwnOrder, FoundNone, IsFailing, IsSent, Why}
 
 -- what the table of sockets fixes besides: the links that failed, and the lives that were failed
 abbrev pub fixed_by : List ℕ → List (ℕ × ℕ) → Fixed

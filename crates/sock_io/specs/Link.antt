@@ -33,7 +33,7 @@ pub record OutState : Type 0 where
   -- whether its next put isn't `Again`
   pub clear : Bool
   -- whether its `ready` never answers `NotYet`
-  pub prompt : Bool
+  pub always_ready : Bool
   -- whether its last put answered `Again`
   pub again : Bool
   -- whether a `Now` clears its next put whatever its last put answered
@@ -135,7 +135,7 @@ IsPutCount piece other = Unit {0}
 -- which link it is stays, which way its bytes go, and whether it is always ready
 pub record SameOut (old new : OutState) : Type 0 where
   pub link : new.link ≡ old.link
-  pub prompt : new.prompt ≡ old.prompt
+  pub always_ready : new.always_ready ≡ old.always_ready
   pub way : new.way ≡ old.way
   pub later : old.faults ≤ new.faults
 
@@ -173,7 +173,7 @@ pub record ReadyStep (old new : OutState) (result : Ready) : Type 0 where
   pub steady : result ≡ ready.Now → old.steady ≡ true → new.clear ≡ true
   -- asking never takes back what an earlier `Now` said
   pub clear : old.clear ≡ true → new.clear ≡ true
-  pub prompt : old.prompt ≡ true → result ≢ ready.NotYet
+  pub always_ready : old.always_ready ≡ true → result ≢ ready.NotYet
   pub failed : result ≡ ready.Failed → old.finished ≡ false → Rose old.faults new.faults
   pub kept : result ≢ ready.Failed → new.faults ≡ old.faults
   pub ended : old.finished ≡ true → (result ≡ ready.Failed) × (new.faults ≡ old.faults)

@@ -51,4 +51,4 @@ pub record ShapedState : Type 0 where
 
 -- such a half as a writing half: the next put isn't `Again` where neither its number nor the half inside asks for it
 abbrev pub shaped_out : ShapedState → OutState
-shaped_out s = record { link = s.inner.link; took = Some s.taken; put_bytes = Some s.taken; way = s.inner.way; faults = s.faults; finished = s.inner.finished; clear = not (pauses_at s.shape (next_number s.puts) && not s.paused) && s.inner.clear; prompt = s.inner.prompt; again = s.paused; steady = false; whole = false; answers = Some s.answers }
+shaped_out s = record { link = s.inner.link; took = Some s.taken; put_bytes = Some s.taken; way = s.inner.way; faults = s.faults; finished = s.inner.finished; clear = not (pauses_at s.shape (next_number s.puts) && not s.paused) && s.inner.clear; always_ready = s.inner.always_ready; again = s.paused; steady = false; whole = false; answers = Some s.answers }

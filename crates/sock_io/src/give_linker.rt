@@ -86,7 +86,7 @@ impl Linker for GiveLinker {
 
     ghost faults = { λ _. 0 };
 
-    ghost prompt = { λ _. true };
+    ghost always_ready = { λ _. true };
 
     fn open(&mut self, spec: &LinkSpec) -> Result<Link, OpenFault>
         requires piece { 0 < spec.now.piece }

@@ -186,7 +186,7 @@ pub trait Linker {
     ghost faults: { Self → ℕ };
 
     /// Whether `ready` never answers `NotYet` on its links in mode `Loop`.
-    ghost prompt: { Self → Bool };
+    ghost always_ready: { Self → Bool };
 
     /// Opens the next link, and reserves the room for its `back`.
     fn open(&mut self, spec: &LinkSpec) -> Result<Ends<Self::O, Self::I, Self::P>, OpenFault>
@@ -197,13 +197,13 @@ pub trait Linker {
         ensures offer { IfOk result (λ ends. IfSome (Self.I.state ends.inn).offer (λ o. IsNewOffer spec.now o)) }
         ensures one { IfOk result (λ ends. AreEnds (Self.O.state ends.out) (Self.P.state ends.peer) (Self.I.state ends.inn)) }
         ensures other { IfOk result (λ ends. IsAskedPeer spec.now (Self.P.state ends.peer)) }
-        ensures prompt { IfOk result (λ ends. prompt self.old ≡ true → spec.now.mode ≡ Mode.Loop → (Self.O.state ends.out).prompt ≡ true) }
+        ensures always_ready { IfOk result (λ ends. always_ready self.old ≡ true → spec.now.mode ≡ Mode.Loop → (Self.O.state ends.out).always_ready ≡ true) }
         ensures asked { IfOk result (λ _. asked self.new ≡ asked self.old ++ spec.now ∷ []) }
         ensures refused { OnErr result (asked self.new ≡ asked self.old) }
         ensures accepted { accepted self.new ≡ accepted self.old }
         ensures back { back self.new ≡ back self.old }
         ensures done { done self.new ≡ done self.old }
-        ensures stays_prompt { prompt self.new ≡ prompt self.old }
+        ensures stays_prompt { always_ready self.new ≡ always_ready self.old }
         ensures later { faults self.old ≤ faults self.new }
         ensures failed { IsErrOf result OpenFault.Failed → Rose (faults self.old) (faults self.new) }
         ensures kept { (¬ IsErrOf result OpenFault.Failed) → faults self.new ≡ faults self.old };
@@ -221,7 +221,7 @@ pub trait Linker {
         ensures accepted { accepted self.new ≡ accepted self.old }
         ensures back { back self.new ≡ back self.old }
         ensures done { done self.new ≡ done self.old }
-        ensures stays_prompt { prompt self.new ≡ prompt self.old }
+        ensures stays_prompt { always_ready self.new ≡ always_ready self.old }
         ensures faults { faults self.new ≡ faults self.old };
 
     /// Compares the ends of a link, once nobody else moves them: what its other end offers may become known by that.
@@ -235,7 +235,7 @@ pub trait Linker {
         ensures accepted { accepted self.new ≡ accepted self.old }
         ensures back { back self.new ≡ back self.old }
         ensures done { done self.new ≡ done self.old }
-        ensures stays_prompt { prompt self.new ≡ prompt self.old }
+        ensures stays_prompt { always_ready self.new ≡ always_ready self.old }
         ensures faults { faults self.new ≡ faults self.old }
     {}
 
@@ -249,7 +249,7 @@ pub trait Linker {
         ensures asked { asked self.new ≡ asked self.old }
         ensures back { back self.new ≡ back self.old }
         ensures done { done self.new ≡ done self.old }
-        ensures stays_prompt { prompt self.new ≡ prompt self.old }
+        ensures stays_prompt { always_ready self.new ≡ always_ready self.old }
         ensures later { faults self.old ≤ faults self.new }
         ensures failed { IsErrOf result OpenFault.Failed → Rose (faults self.old) (faults self.new) }
         ensures kept { (¬ IsErrOf result OpenFault.Failed) → faults self.new ≡ faults self.old };
@@ -261,7 +261,7 @@ pub trait Linker {
         ensures asked { asked self.new ≡ asked self.old }
         ensures accepted { accepted self.new ≡ accepted self.old }
         ensures back { back self.new ≡ back self.old }
-        ensures stays_prompt { prompt self.new ≡ prompt self.old }
+        ensures stays_prompt { always_ready self.new ≡ always_ready self.old }
         ensures faults { faults self.new ≡ faults self.old };
 
     /// Takes a link back, which was opened and not given back before.
@@ -274,7 +274,7 @@ pub trait Linker {
         ensures done { done self.new ≡ done self.old }
         ensures asked { asked self.new ≡ asked self.old }
         ensures accepted { accepted self.new ≡ accepted self.old }
-        ensures stays_prompt { prompt self.new ≡ prompt self.old }
+        ensures stays_prompt { always_ready self.new ≡ always_ready self.old }
         ensures faults { faults self.new ≡ faults self.old };
 }
 

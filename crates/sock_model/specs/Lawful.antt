@@ -8,7 +8,7 @@ use Rattle.sock_model.specs.declared.chain.Entry.{Entry}
 use Rattle.sock_model.specs.declared.home.Home.{Home}
 use Rattle.sock_model.specs.declared.view.View.{View}
 use Rattle.sock_model.specs.declared.view.Hand.{Hand}
-use Rattle.sock_model.specs.Layout.{place_word}
+use Rattle.sock_model.specs.Layout.{place_index}
 use Rattle.sock_model.specs.References.{References}
 use Rattle.sock_model.specs.Entries.{on}
 use Rattle.sock_model.specs.Chains.{Chains}
@@ -49,7 +49,7 @@ module _ {S : Type 0} (shows : S → Home) where
     -- where messages without a place lie
     pub messages : Messages p.links p.requests (message shows s.homes) (tokens s.views) log places
     -- place words, and what each link took
-    pub delivered : Delivered p.links (8 * p.operations) (λ l. slice_index s.words (place_word p l)) (link_home shows p s.homes) (Failed p s) (tokens s.views) log places kept
+    pub delivered : Delivered p.links (8 * p.operations) (λ l. slice_index s.words (place_index p l)) (link_home shows p s.homes) (Failed p s) (tokens s.views) log places kept
     -- and what those took that are in hand without a right
     pub carried : (id n : ℕ) (v : View) (h : Hand) → get_elem? s.views id ≡ some v → get_elem? v.hands n ≡ some h → HasTaken (on h.link log) (places h.link) (kept h.link) h.took h.next
     -- where each link is

@@ -8,7 +8,7 @@ use Rattle.sock_model.specs.declared.chain.Entry.{Entry}
 use Rattle.sock_model.specs.declared.chain.Right.{Right}
 use Rattle.sock_model.specs.declared.view.View.{View}
 use Rattle.sock_model.specs.Weights.{is_hold, is_failer, is_freer, is_linked, is_met, is_reset}
-use Rattle.sock_model.specs.Layout.{head_word}
+use Rattle.sock_model.specs.Layout.{head_index}
 use Rattle.sock_model.specs.Slots.{count}
 use Rattle.sock_model.specs.References.{slot_facts}
 use Rattle.sock_model.specs.SlotRows.{marks_of}
@@ -63,4 +63,4 @@ module _ {S : Type 0} (p : Plan) (s : State S View) where
     -- a link that accepted a message was given to a life
     pub entered : (q : ℕ) (e : Entry) → get_elem? log q ≡ some e → (j : ℕ) × (h : ℕ) × Given j h e.link
     -- a claim's head stays reset until the birth
-    pub reset : (j : ℕ) → j < p.slots → 0 < count is_reset (slot_facts s j) → slice_index s.words (head_word j) ≡ IDLE
+    pub reset : (j : ℕ) → j < p.slots → 0 < count is_reset (slot_facts s j) → slice_index s.words (head_index j) ≡ IDLE

@@ -13,18 +13,18 @@ use Rattle.sock_model.specs.declared.marks.SlotMark.{SlotMark}
 use Rattle.sock_model.specs.declared.view.View.{View}
 use Rattle.sock_model.specs.declared.view.Hand.{Hand}
 use Rattle.sock_model.specs.Weights.{total, only, is_waiting}
-use Rattle.sock_model.specs.Layout.{head_word, request_word, next_word}
+use Rattle.sock_model.specs.Layout.{head_index, request_index, next_index}
 use Rattle.sock_model.specs.Tokens.{Tokens}
 use Rattle.sock_model.specs.Memory.{Memory}
 use Rattle.sock_model.specs.Messages.{Letter}
 
 abbrev pub head_at : List ℕ → Option ℕ → Option ℕ
 head_at ws none = none
-head_at ws (some j) = some (slice_index ws (head_word j))
+head_at ws (some j) = some (slice_index ws (head_index j))
 
 -- the words of the chains, where link k is in the slot `slot k`
 abbrev pub memory : Plan → (ℕ → Option ℕ) → List ℕ → Memory
-memory p slot ws = record { head = λ k. head_at ws (slot k); next = λ r. slice_index ws (next_word p r); request = λ r. slice_index ws (request_word p r) }
+memory p slot ws = record { head = λ k. head_at ws (slot k); next = λ r. slice_index ws (next_index p r); request = λ r. slice_index ws (request_index p r) }
 
 abbrev pub rights_on : ℕ → View → List Right
 rights_on k v = filter (λ (x : Right). x.link == k) v.rights

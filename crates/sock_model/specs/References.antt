@@ -6,7 +6,7 @@ use Rattle.sock_model.specs.declared.view.View.{View}
 use Rattle.sock_words.specs.declared.plain.Plan.{Plan}
 use Rattle.sock_model.specs.Weights.{total, only, is_born, uses}
 use Rattle.sock_model.specs.Marks.{about, says}
-use Rattle.sock_model.specs.Layout.{tag_word, ref_word, link_word, code_word, name_word, open_word, all_words}
+use Rattle.sock_model.specs.Layout.{tag_index, ref_index, link_index, code_index, name_index, open_index, all_words}
 use Rattle.sock_model.specs.Slots.{SlotFacts, version_of, nref_of, live, count, SlotLaw}
 
 -- how far the link k is used by this mark
@@ -32,11 +32,11 @@ module _ {S : Type 0} where
   -- what the rule reads of slot i
   abbrev pub slot_facts : State S View → ℕ → SlotFacts
   slot_facts s i = record {
-    tag = slice_index s.words (tag_word i);
-    version = version_of (slice_index s.words (ref_word i));
-    nref = nref_of (slice_index s.words (ref_word i));
-    link = slice_index s.words (link_word i);
-    code = slice_index s.words (code_word i);
+    tag = slice_index s.words (tag_index i);
+    version = version_of (slice_index s.words (ref_index i));
+    nref = nref_of (slice_index s.words (ref_index i));
+    link = slice_index s.words (link_index i);
+    code = slice_index s.words (code_index i);
     marks = map (λ v. about i v.marks) s.views;
   }
 
@@ -51,11 +51,11 @@ module _ {S : Type 0} where
   -- the words of names and of operations' opens
   pub record NamedWords (p : Plan) (s : State S View) : Type 0 where
     -- each is the id of a life that was born
-    pub names : (n : ℕ) → n < p.names → Names p s (slice_index s.words (name_word p n))
-    pub opens : (o : ℕ) → o < p.operations → slice_index s.words (open_word p o) ≢ 18446744073709551615 → Names p s (slice_index s.words (open_word p o))
+    pub names : (n : ℕ) → n < p.names → Names p s (slice_index s.words (name_index p n))
+    pub opens : (o : ℕ) → o < p.operations → slice_index s.words (open_index p o) ≢ 18446744073709551615 → Names p s (slice_index s.words (open_index p o))
     -- and what one of the seats stored there last
-    pub names_by : (n : ℕ) → n < p.names → Stores s (name_word p n)
-    pub opens_by : (o : ℕ) → o < p.operations → Stores s (open_word p o)
+    pub names_by : (n : ℕ) → n < p.names → Stores s (name_index p n)
+    pub opens_by : (o : ℕ) → o < p.operations → Stores s (open_index p o)
 
   -- all of the words but those of the chains, and all marks, passes and stores
   pub record References (p : Plan) (s : State S View) : Type 0 where

@@ -8,7 +8,7 @@ use Rattle.sock_model.specs.declared.chain.Entry.{Entry}
 use Rattle.sock_model.specs.declared.home.Home.{Home}
 use Rattle.sock_model.specs.declared.view.View.{View}
 use Rattle.sock_model.specs.Weights.{total}
-use Rattle.sock_model.specs.Layout.{name_word, open_word, request_word}
+use Rattle.sock_model.specs.Layout.{name_index, open_index, request_index}
 use Rattle.sock_model.specs.Seats.{spent}
 use Rattle.sock_model.specs.Lawful.{Lawful}
 
@@ -16,9 +16,9 @@ use Rattle.sock_model.specs.Lawful.{Lawful}
 
 -- the place of a word that is never 0 again once it isn't: of a name, of an `open`, or of a request
 pub data Lasting (p : Plan) (x : ℕ) : Type 0 where
-  of_name : (n : ℕ) → n < p.names → x ≡ name_word p n → Lasting p x
-  of_open : (o : ℕ) → o < p.operations → x ≡ open_word p o → Lasting p x
-  of_request : (q : ℕ) → q < p.requests → x ≡ request_word p q → Lasting p x
+  of_name : (n : ℕ) → n < p.names → x ≡ name_index p n → Lasting p x
+  of_open : (o : ℕ) → o < p.operations → x ≡ open_index p o → Lasting p x
+  of_request : (q : ℕ) → q < p.requests → x ≡ request_index p q → Lasting p x
 
 -- where a seat found or left such a word other than 0, it isn't 0: the name or the `open` has its id, and the request is taken or was given back
 abbrev pub FoundWords : Plan → List ℕ → View → Type 0

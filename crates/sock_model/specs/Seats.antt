@@ -1,7 +1,7 @@
 -- What becomes of views where a seat is split in two, and where two are joined.
 use Rattle.std.specs.Prelude.{◌≡◌, ℕ, zero, suc, ◌+◌, ◌-◌, ◌*◌, ◌<◌, List, [], ◌∷◌, ◌++◌, length, slice_index}
 use Rattle.sock_words.specs.declared.plain.Plan.{Plan}
-use Rattle.sock_model.specs.Layout.{tag_word, ref_word, link_word, code_word, name_word, open_word, all_words}
+use Rattle.sock_model.specs.Layout.{tag_index, ref_index, link_index, code_index, name_index, open_index, all_words}
 use Rattle.sock_model.specs.declared.view.View.{View}
 
 -- a seat that is split off with these passes. Its own lists are there from the start, so that they are never mixed with those of a seat that it takes in.
@@ -56,9 +56,9 @@ lighter v = record v { passes = later v.passes; spare = v.spare - 1 }
 -- the words before any step
 pub record Unused (p : Plan) (ws : List ℕ) : Type 0 where
   pub sized : length ws ≡ all_words p
-  pub tags : (i : ℕ) → i < p.slots → slice_index ws (tag_word i) ≡ 0
-  pub refs : (i : ℕ) → i < p.slots → slice_index ws (ref_word i) ≡ p.first * 4294967296
-  pub links : (i : ℕ) → i < p.slots → slice_index ws (link_word i) ≡ 0
-  pub codes : (i : ℕ) → i < p.slots → slice_index ws (code_word i) ≡ 0
-  pub names : (n : ℕ) → n < p.names → slice_index ws (name_word p n) ≡ 0
-  pub opens : (o : ℕ) → o < p.operations → slice_index ws (open_word p o) ≡ 0
+  pub tags : (i : ℕ) → i < p.slots → slice_index ws (tag_index i) ≡ 0
+  pub refs : (i : ℕ) → i < p.slots → slice_index ws (ref_index i) ≡ p.first * 4294967296
+  pub links : (i : ℕ) → i < p.slots → slice_index ws (link_index i) ≡ 0
+  pub codes : (i : ℕ) → i < p.slots → slice_index ws (code_index i) ≡ 0
+  pub names : (n : ℕ) → n < p.names → slice_index ws (name_index p n) ≡ 0
+  pub opens : (o : ℕ) → o < p.operations → slice_index ws (open_index p o) ≡ 0

@@ -11,7 +11,7 @@ use Rattle.sock_model.specs.declared.marks.Mark.{Mark}
 use Rattle.sock_model.specs.declared.marks.SlotMark.{SlotMark}
 use Rattle.sock_model.specs.declared.view.View.{View}
 use Rattle.sock_model.specs.Weights.{total, is_ref, is_known}
-use Rattle.sock_table.specs.slot_laws.proofs.Sums.{total-append}
+use Rattle.sock_table.specs.slot_steps.proofs.Sums.{total-append}
 use Rattle.sock_rule.specs.Becoming.{Became}
 use Rattle.sock_rule.proofs.Becoming.{then_}
 use Rattle.sock_rule.specs.Rows.{PutAt}

@@ -12,8 +12,8 @@ use Rattle.sock_model.specs.declared.view.View.{View}
 use Rattle.sock_model.specs.Weights.{total, is_ref, is_probe, is_known, is_hold}
 use Rattle.sock_model.specs.Marks.{about}
 use Rattle.sock_model.specs.SlotRows.{marks_of}
-use Rattle.sock_table.specs.slot_laws.proofs.Sums.{total_mono, total-append}
-use Rattle.sock_table.specs.slot_laws.proofs.Numbers.{only-same}
+use Rattle.sock_table.specs.slot_steps.proofs.Sums.{total_mono, total-append}
+use Rattle.sock_table.specs.slot_steps.proofs.Numbers.{only-same}
 use Rattle.sock_rule.specs.Becoming.{Became}
 use Rattle.sock_rule.specs.Seated.{IsSeat}
 use Rattle.sock_rule.proofs.Becoming.{then_}

@@ -8,7 +8,7 @@ use Rattle.atomic_table.proofs.Lists.{at_longer, at_last}
 use Rattle.sock_io.specs.declared.link.Out.{Ghosts}
 use Rattle.sock_words.specs.declared.plain.Plan.{Plan}
 use Rattle.sock_model.specs.declared.home.Home.TheVariants as home
-use Rattle.sock_model.specs.Layout.{tag_word, ref_word, link_word, code_word, name_word, open_word, request_word, place_word, all_words}
+use Rattle.sock_model.specs.Layout.{tag_index, ref_index, link_index, code_index, name_index, open_index, request_index, place_index, all_words}
 use Rattle.sock_rule.specs.Seated.{IsNew}
 use Rattle.sock_rule.specs.declared.homes.SockHome.{SockHome}
 use Rattle.sock_rule.specs.declared.homes.LinkHome.{LinkHome}
@@ -20,8 +20,8 @@ use Rattle.sock_open.specs.Opening.{AreNewWords, AreFresh, AreNewHomes, MayBegin
 -- the first n slots have their words
 pub record Begun (p : Plan) (n : ℕ) (ws : List ℕ) : Type 0 where
   pub sized : length ws ≡ all_words p
-  pub refs : (i : ℕ) → i < n → get_or ws (ref_word i) 0 ≡ p.first * 4294967296
-  pub zeros : (x : ℕ) → ((i : ℕ) → i < n → ¬ (x ≡ ref_word i)) → get_or ws x 0 ≡ 0
+  pub refs : (i : ℕ) → i < n → get_or ws (ref_index i) 0 ≡ p.first * 4294967296
+  pub zeros : (x : ℕ) → ((i : ℕ) → i < n → ¬ (x ≡ ref_index i)) → get_or ws x 0 ≡ 0
 
 zeros_of : ℕ → List ℕ
 zeros_of n = replicate n 0
@@ -41,13 +41,13 @@ pub none_begun : (p : Plan) (n : ℕ) (ws : List ℕ) → ws ≡ replicate n 0 �
 unfolding zeros_of
 none_begun p n ws is e = record { sized = ap length is ∙ (length_zeros n ∙ e); refs = λ i il. absurd (omega arith); zeros = λ x h. ap (λ l. get_or l x 0) is ∙ zero_at n x }
 
-pub one_begun : (p : Plan) (i word : ℕ) (ws vs : List ℕ) → vs ≡ set ws (ref_word i) word → word ≡ p.first * 4294967296 → i < p.slots → Begun p i ws → Begun p (i + 1) vs
+pub one_begun : (p : Plan) (i word : ℕ) (ws vs : List ℕ) → vs ≡ set ws (ref_index i) word → word ≡ p.first * 4294967296 → i < p.slots → Begun p i ws → Begun p (i + 1) vs
 one_begun p i word ws vs is w il b = let size = b.sized in record {
-  sized = ap length is ∙ (length-set ws (ref_word i) word ∙ b.sized);
-  refs = λ j jl. ap (λ l. get_or l (ref_word j) 0) is ∙ dite (ℕ_discrete j i)
-      (λ e. subst (λ (x : ℕ). get_or (set ws (ref_word i) word) (ref_word x) 0 ≡ p.first * 4294967296) (sym e) (get_or-set_same ws (ref_word i) word 0 (omega arith) ∙ w))
-      (λ ne. get_or-set_other ws (ref_word i) (ref_word j) word 0 (λ q. ne (omega arith)) ∙ b.refs j (omega arith));
-  zeros = λ x h. ap (λ l. get_or l x 0) is ∙ (get_or-set_other ws (ref_word i) x word 0 (λ q. h i (omega arith) q) ∙ b.zeros x (λ j jl. h j (omega arith)));
+  sized = ap length is ∙ (length-set ws (ref_index i) word ∙ b.sized);
+  refs = λ j jl. ap (λ l. get_or l (ref_index j) 0) is ∙ dite (ℕ_discrete j i)
+      (λ e. subst (λ (x : ℕ). get_or (set ws (ref_index i) word) (ref_index x) 0 ≡ p.first * 4294967296) (sym e) (get_or-set_same ws (ref_index i) word 0 (omega arith) ∙ w))
+      (λ ne. get_or-set_other ws (ref_index i) (ref_index j) word 0 (λ q. ne (omega arith)) ∙ b.refs j (omega arith));
+  zeros = λ x h. ap (λ l. get_or l x 0) is ∙ (get_or-set_other ws (ref_index i) x word 0 (λ q. h i (omega arith) q) ∙ b.zeros x (λ j jl. h j (omega arith)));
 }
 
 pub all_begun : (p : Plan) (n : ℕ) (ws : List ℕ) → p.slots ≤ n → n ≤ p.slots → Begun p n ws → AreNewWords p ws
@@ -134,19 +134,19 @@ pub is_new : {O : Type 0} {g : Ghosts O} (p : Plan) (ws : List ℕ) (xs : List (
 is_new p ws xs w h m narrow = record {
   unused = record {
     sized = w.sized;
-    tags = λ i il. w.zeros (tag_word i) (λ j jl e. omega arith);
+    tags = λ i il. w.zeros (tag_index i) (λ j jl e. omega arith);
     refs = λ i il. w.refs i il;
-    links = λ i il. w.zeros (link_word i) (λ j jl e. omega arith);
-    codes = λ i il. w.zeros (code_word i) (λ j jl e. omega arith);
-    names = λ n nl. w.zeros (name_word p n) (λ j jl e. omega arith);
-    opens = λ o ol. w.zeros (open_word p o) (λ j jl e. omega arith);
+    links = λ i il. w.zeros (link_index i) (λ j jl e. omega arith);
+    codes = λ i il. w.zeros (code_index i) (λ j jl e. omega arith);
+    names = λ n nl. w.zeros (name_index p n) (λ j jl e. omega arith);
+    opens = λ o ol. w.zeros (open_index p o) (λ j jl e. omega arith);
   };
   fits = record { narrow = narrow; even = m.even };
   first_low = m.low;
   some_seats = m.some_seats;
   few_seats = m.few_seats;
-  requests = λ r rl. w.zeros (request_word p r) (λ j jl e. omega arith);
-  places = λ l ll. w.zeros (place_word p l) (λ j jl e. omega arith);
+  requests = λ r rl. w.zeros (request_index p r) (λ j jl e. omega arith);
+  places = λ l ll. w.zeros (place_index p l) (λ j jl e. omega arith);
   homes = h.count;
   links = h.links;
 }

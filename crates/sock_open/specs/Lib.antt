@@ -1,3 +1,3 @@
 pub mod Opening
 pub mod Made
-pub use Rattle.sock_table.specs.slot_laws
+pub use Rattle.sock_table.specs.slot_steps

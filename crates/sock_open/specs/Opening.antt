@@ -8,15 +8,15 @@ use Rattle.sock_io.specs.declared.link.Out.{Ghosts}
 use Rattle.sock_io.specs.Link.{OutState}
 use Rattle.sock_words.specs.declared.plain.Plan.{Plan}
 use Rattle.sock_model.specs.declared.home.Home.TheVariants as home
-use Rattle.sock_model.specs.Layout.{ref_word, all_words}
+use Rattle.sock_model.specs.Layout.{ref_index, all_words}
 use Rattle.sock_rule.specs.declared.homes.SockHome.{SockHome}
 use Rattle.sock_rule.specs.Shows.{shows}
 
 -- the word of each slot stands at its first version, and all others are 0
 pub record AreNewWords (p : Plan) (ws : List ℕ) : Type 0 where
   pub sized : length ws ≡ all_words p
-  pub refs : (i : ℕ) → i < p.slots → slice_index ws (ref_word i) ≡ p.first * 4294967296
-  pub zeros : (x : ℕ) → ((i : ℕ) → i < p.slots → ¬ (x ≡ ref_word i)) → slice_index ws x ≡ 0
+  pub refs : (i : ℕ) → i < p.slots → slice_index ws (ref_index i) ≡ p.first * 4294967296
+  pub zeros : (x : ℕ) → ((i : ℕ) → i < p.slots → ¬ (x ≡ ref_index i)) → slice_index ws x ≡ 0
 
 -- one writing half for each link, in order, which took nothing and isn't finished
 pub record AreFresh {O : Type 0} (state : O → OutState) (p : Plan) (outs : List O) : Type 0 where

@@ -15,13 +15,13 @@ use Rattle.sock_model.specs.declared.marks.Mark.TheVariants.{Claimed}
 use Rattle.sock_model.specs.Marks.{about}
 use Rattle.sock_model.specs.Rule.{Rule}
 use Rattle.sock_model.specs.Weights.{is_claimed, is_busy, is_ref, is_any_coding, is_stage, is_recycled, is_hold, is_known, is_zero, is_saw}
-use Rattle.sock_model.specs.Layout.{tag_word, ref_word}
+use Rattle.sock_model.specs.Layout.{tag_index, ref_index}
 use Rattle.sock_model.specs.Slots.{version_of, nref_of}
 use Rattle.sock_model.specs.References.{slot_facts}
 use Rattle.sock_model.specs.SlotRows.{marks_of, knows, claimed, gave_birth, added, back, subbed, failed, recycled, freed, looked}
-use Rattle.chain_core.specs.slot_laws.proofs.Numbers.{pair_le}
-use Rattle.chain_core.specs.slot_laws.proofs.Sums.{total_mono}
-use Rattle.chain_core.specs.slot_laws.proofs.Kept.{few_refs, life_found, known_found, some_ref, one_claim}
+use Rattle.chain_core.specs.slot_steps.proofs.Numbers.{pair_le}
+use Rattle.chain_core.specs.slot_steps.proofs.Sums.{total_mono}
+use Rattle.chain_core.specs.slot_steps.proofs.Kept.{few_refs, life_found, known_found, some_ref, one_claim}
 use Rattle.chain_core.specs.sock_steps.proofs.SlotSteps.{KeepsRights}
 use Rattle.chain_core.specs.sock_steps.proofs.Places.{own_count}
 use Rattle.chain_core.specs.sock_steps.proofs.RuleSteps.{claim_rule, birth_rule, add_rule, sub_rule, set_odd_rule, recycle_rule, recycle_lost_rule, look_rule, free_rule}
@@ -45,37 +45,37 @@ module _ {S : Type 0} (shows : S → Home) (rose : S → ℕ) (p : Plan) (slots 
   v = me.0
 
   -- the slot of a word is one
-  of_ref : (f : ℕ → View) (x : ℕ) → ref_word i ≡ ref_word x → ◌≡◌ {A = Me S View} (f i, me.1) (f x, me.1)
+  of_ref : (f : ℕ → View) (x : ℕ) → ref_index i ≡ ref_index x → ◌≡◌ {A = Me S View} (f i, me.1) (f x, me.1)
   of_ref f x at = let e : i ≡ x = omega arith in ap (λ (y : ℕ). (f y, me.1)) e
 
-  of_tag : (f : ℕ → View) (x : ℕ) → tag_word i ≡ tag_word x → ◌≡◌ {A = Me S View} (f i, me.1) (f x, me.1)
+  of_tag : (f : ℕ → View) (x : ℕ) → tag_index i ≡ tag_index x → ◌≡◌ {A = Me S View} (f i, me.1) (f x, me.1)
   of_tag f x at = let e : i ≡ x = omega arith in ap (λ (y : ℕ). (f y, me.1)) e
 
   -- what the seat knows of the word that it finds
-  pub word_fits : (s : State S View) → OnTable shows rose p s → get_elem? s.views id ≡ some me.0 → get_or s.words (ref_word i) 0 < 18446744073709551616 → (x : ℕ) → ref_word i ≡ ref_word x → WordFits x (get_or s.words (ref_word i) 0) me.0
-  word_fits s t here fits x at = let e : i ≡ x = omega arith in let refs = t.rule.lawful.references in subst (λ (y : ℕ). WordFits y (get_or s.words (ref_word i) 0) me.0) e record {
+  pub word_fits : (s : State S View) → OnTable shows rose p s → get_elem? s.views id ≡ some me.0 → get_or s.words (ref_index i) 0 < 18446744073709551616 → (x : ℕ) → ref_index i ≡ ref_index x → WordFits x (get_or s.words (ref_index i) 0) me.0
+  word_fits s t here fits x at = let e : i ≡ x = omega arith in let refs = t.rule.lawful.references in subst (λ (y : ℕ). WordFits y (get_or s.words (ref_index i) 0) me.0) e record {
     known = λ h some_known. known_found p s refs id me.0 here me.1 keeps i inside h some_known;
     held = λ h some_held. life_found p s refs id me.0 here me.1 keeps i inside fits h some_held;
     saw = λ w some_saw. (refs.slots i inside).saw w (omega (arith, own_count s id me.0 here (is_saw w) i));
   }
 
   -- A1
-  pub claims : Allows (OnTable shows rose p) slots id me (tag_word i) (λ _. 1) (claim_told (step slots (tag_word i) 1 0 none) me)
-  claims s t long here fits = let tag : ℕ = get_or s.words (tag_word i) 0 in (
+  pub claims : Allows (OnTable shows rose p) slots id me (tag_index i) (λ _. 1) (claim_told (step slots (tag_index i) 1 0 none) me)
+  claims s t long here fits = let tag : ℕ = get_or s.words (tag_index i) 0 in (
     claimed i tag v,
     keeps,
     tt,
-    beside t id v (claimed i tag v) here some_ (set s.words (tag_word i) 1) s.homes (refl, λ l ll. refl) record { share = refl; lists = refl; finds = refl; stores = λ x y. omega arith; accepts = λ l. omega arith; labels = λ x. x } record { faults = λ l. claimed_same l i v tag; outs = λ l. omega arith } (slot_settled t.settled _ _ (omega arith) (λ j e. omega arith)) (claim_rule t.rule id v here mine i inside),
+    beside t id v (claimed i tag v) here some_ (set s.words (tag_index i) 1) s.homes (refl, λ l ll. refl) record { share = refl; lists = refl; finds = refl; stores = λ x y. omega arith; accepts = λ l. omega arith; labels = λ x. x } record { faults = λ l. claimed_same l i v tag; outs = λ l. omega arith } (slot_settled t.settled _ _ (omega arith) (λ j e. omega arith)) (claim_rule t.rule id v here mine i inside),
     of_tag (λ y. claimed y tag v),
   )
 
   -- A2
-  pub births : (k : ℕ) → 0 < marks_of (is_stage 3 k) i v → Allows (OnTable shows rose p) slots id me (ref_word i) (λ n. (n + 1) % 2 ^ 64) (birth_told (step slots (ref_word i) 1 0 none) me)
-  births k there s t long here fits = let found : ℕ = get_or s.words (ref_word i) 0 in let refs = t.rule.lawful.references in let law = refs.slots i inside in let few = few_refs p s refs i inside in (
+  pub births : (k : ℕ) → 0 < marks_of (is_stage 3 k) i v → Allows (OnTable shows rose p) slots id me (ref_index i) (λ n. (n + 1) % 2 ^ 64) (birth_told (step slots (ref_index i) 1 0 none) me)
+  births k there s t long here fits = let found : ℕ = get_or s.words (ref_index i) 0 in let refs = t.rule.lawful.references in let law = refs.slots i inside in let few = few_refs p s refs i inside in (
     gave_birth i found k v,
     keeps,
     tt,
-    beside t id v (gave_birth i found k v) here some_ (set s.words (ref_word i) ((found + 1) % 2 ^ 64)) s.homes (refl, λ l ll. refl) record { share = refl; lists = refl; finds = refl; stores = λ x y. omega arith; accepts = λ l. omega arith; labels = λ x. x } record { faults = λ l. birth_same l i v found k; outs = λ l. omega arith } (slot_settled t.settled _ _ (omega arith) (λ j e. omega arith))
+    beside t id v (gave_birth i found k v) here some_ (set s.words (ref_index i) ((found + 1) % 2 ^ 64)) s.homes (refl, λ l ll. refl) record { share = refl; lists = refl; finds = refl; stores = λ x y. omega arith; accepts = λ l. omega arith; labels = λ x. x } record { faults = λ l. birth_same l i v found k; outs = λ l. omega arith } (slot_settled t.settled _ _ (omega arith) (λ j e. omega arith))
         (birth_rule t.rule id v here mine i inside fits k there),
     (
       omega arith,
@@ -88,48 +88,48 @@ module _ {S : Type 0} (shows : S → Home) (rose : S → ℕ) (p : Plan) (slots 
   )
 
   -- A3
-  pub adds : marks_of is_ref i v < 65540 → Allows (OnTable shows rose p) slots id me (ref_word i) (λ n. (n + 1) % 2 ^ 64) (add_told (step slots (ref_word i) 1 0 none) me)
-  adds room s t long here fits = let found : ℕ = get_or s.words (ref_word i) 0 in let h : ℕ = version_of found in let few = few_refs p s t.rule.lawful.references i inside in let b : Bool = knows i h v in (
+  pub adds : marks_of is_ref i v < 65540 → Allows (OnTable shows rose p) slots id me (ref_index i) (λ n. (n + 1) % 2 ^ 64) (add_told (step slots (ref_index i) 1 0 none) me)
+  adds room s t long here fits = let found : ℕ = get_or s.words (ref_index i) 0 in let h : ℕ = version_of found in let few = few_refs p s t.rule.lawful.references i inside in let b : Bool = knows i h v in (
     added i found b v,
     keeps,
     tt,
-    beside t id v (added i found b v) here some_ (set s.words (ref_word i) ((found + 1) % 2 ^ 64)) s.homes (refl, λ l ll. refl) record { share = refl; lists = refl; finds = refl; stores = λ x y. omega arith; accepts = λ l. omega arith; labels = λ x. x } record { faults = λ l. added_same l i v found b; outs = λ l. omega arith } (slot_settled t.settled _ _ (omega arith) (λ j e. omega arith))
+    beside t id v (added i found b v) here some_ (set s.words (ref_index i) ((found + 1) % 2 ^ 64)) s.homes (refl, λ l ll. refl) record { share = refl; lists = refl; finds = refl; stores = λ x y. omega arith; accepts = λ l. omega arith; labels = λ x. x } record { faults = λ l. added_same l i v found b; outs = λ l. omega arith } (slot_settled t.settled _ _ (omega arith) (λ j e. omega arith))
         (add_rule t.rule id v here mine i inside fits b (λ e. ltb-true 0 (marks_of (is_known h) i v) e) room),
     (omega arith, λ x at. (of_ref (λ y. added y found (knows y h v) v) x at, word_fits s t here fits x at)),
   )
 
   -- A4
-  pub subs : 0 < marks_of is_ref i v → marks_of is_any_coding i v ≡ 0 → KeepsRights i v → Allows (OnTable shows rose p) slots id me (ref_word i) (λ n. (n + (2 ^ 64 - 1)) % 2 ^ 64) (sub_told (step slots (ref_word i) 1 0 none) me)
-  subs there idle rights s t long here fits = let found : ℕ = get_or s.words (ref_word i) 0 in let refs = t.rule.lawful.references in (
+  pub subs : 0 < marks_of is_ref i v → marks_of is_any_coding i v ≡ 0 → KeepsRights i v → Allows (OnTable shows rose p) slots id me (ref_index i) (λ n. (n + (2 ^ 64 - 1)) % 2 ^ 64) (sub_told (step slots (ref_index i) 1 0 none) me)
+  subs there idle rights s t long here fits = let found : ℕ = get_or s.words (ref_index i) 0 in let refs = t.rule.lawful.references in (
     subbed i found (back i found v) v,
     keeps,
     tt,
-    beside t id v (subbed i found (back i found v) v) here some_ (set s.words (ref_word i) ((found + (2 ^ 64 - 1)) % 2 ^ 64)) s.homes (refl, λ l ll. refl) record { share = refl; lists = refl; finds = refl; stores = λ x y. omega arith; accepts = λ l. omega arith; labels = λ x. x } record { faults = λ l. subbed_same l i v found; outs = λ l. omega arith } (slot_settled t.settled _ _ (omega arith) (λ j e. omega arith))
+    beside t id v (subbed i found (back i found v) v) here some_ (set s.words (ref_index i) ((found + (2 ^ 64 - 1)) % 2 ^ 64)) s.homes (refl, λ l ll. refl) record { share = refl; lists = refl; finds = refl; stores = λ x y. omega arith; accepts = λ l. omega arith; labels = λ x. x } record { faults = λ l. subbed_same l i v found; outs = λ l. omega arith } (slot_settled t.settled _ _ (omega arith) (λ j e. omega arith))
         (sub_rule t.rule id v here mine i inside fits there idle rights),
     (some_ref p s refs id v here me.1 keeps i inside there, (refs.slots i inside).top, λ x at. (of_ref (λ y. subbed y found (back y found v) v) x at, word_fits s t here fits x at, (let own = own_count s id v here is_ref i in let counted = (refs.slots i inside).counted in let e : i ≡ x = omega arith in subst (λ (y : ℕ). marks_of is_ref y v ≤ nref_of found) e (omega arith)))),
   )
 
   -- A5
-  pub fails : (h : ℕ) → 0 < marks_of (is_hold h) i v → marks_of is_ref i v < 65540 → Allows (OnTable shows rose p) slots id me (ref_word i) (λ n. bit_or n 4294967296) (fail_told (step slots (ref_word i) 4294967296 0 none) me)
-  fails h there room s t long here fits = let found : ℕ = get_or s.words (ref_word i) 0 in (
+  pub fails : (h : ℕ) → 0 < marks_of (is_hold h) i v → marks_of is_ref i v < 65540 → Allows (OnTable shows rose p) slots id me (ref_index i) (λ n. bit_or n 4294967296) (fail_told (step slots (ref_index i) 4294967296 0 none) me)
+  fails h there room s t long here fits = let found : ℕ = get_or s.words (ref_index i) 0 in (
     failed i found v,
     keeps,
     tt,
-    beside t id v (failed i found v) here some_ (set s.words (ref_word i) (bit_or found 4294967296)) s.homes (refl, λ l ll. refl) record { share = refl; lists = refl; finds = refl; stores = λ x y. omega arith; accepts = λ l. omega arith; labels = λ x. x } record { faults = λ l. failed_same l i v found; outs = λ l. omega arith } (slot_settled t.settled _ _ (omega arith) (λ j e. omega arith))
+    beside t id v (failed i found v) here some_ (set s.words (ref_index i) (bit_or found 4294967296)) s.homes (refl, λ l ll. refl) record { share = refl; lists = refl; finds = refl; stores = λ x y. omega arith; accepts = λ l. omega arith; labels = λ x. x } record { faults = λ l. failed_same l i v found; outs = λ l. omega arith } (slot_settled t.settled _ _ (omega arith) (λ j e. omega arith))
         (set_odd_rule t.rule id v here mine i inside fits h there room),
     λ x at. (of_ref (λ y. failed y found v) x at, word_fits s t here fits x at),
   )
 
   -- A6, won or lost
   pub recycles : (from next : ℕ) → next ≡ from + 4294967296 → version_of from % 2 ≡ 1 → nref_of from ≡ 0 → 0 < marks_of (is_zero (version_of from)) i v → (said : Option S)
-      → Allows (OnTable shows rose p) slots id me (ref_word i) (λ n. either (eqb n from) next n) (recycle_told (step slots (ref_word i) from next said) me)
-  recycles from next is odd last there said s t long here fits = let found : ℕ = get_or s.words (ref_word i) 0 in let w : View = recycled i from found v in let is_next : (version_of from + 1) * 4294967296 ≡ next = omega arith in (
+      → Allows (OnTable shows rose p) slots id me (ref_index i) (λ n. either (eqb n from) next n) (recycle_told (step slots (ref_index i) from next said) me)
+  recycles from next is odd last there said s t long here fits = let found : ℕ = get_or s.words (ref_index i) 0 in let w : View = recycled i from found v in let is_next : (version_of from + 1) * 4294967296 ≡ next = omega arith in (
     w,
     keeps,
     tt,
-    beside t id v w here some_ (set s.words (ref_word i) (either (eqb found from) next found)) s.homes (refl, λ l ll. refl) record { share = refl; lists = refl; finds = refl; stores = λ x y. omega arith; accepts = λ l. omega arith; labels = λ x. x } record { faults = λ l. recycled_same l i v from found; outs = λ l. omega arith } (slot_settled t.settled _ _ (omega arith) (λ j e. omega arith))
-        (exchanged found from next (λ n. Rule shows p (stepped s (ref_word i) n id [] w keeps))
-        (λ hit. subst (λ (n : ℕ). Rule shows p (stepped s (ref_word i) n id [] w keeps)) is_next (recycle_rule t.rule id v here mine i inside fits from hit odd last there))
+    beside t id v w here some_ (set s.words (ref_index i) (either (eqb found from) next found)) s.homes (refl, λ l ll. refl) record { share = refl; lists = refl; finds = refl; stores = λ x y. omega arith; accepts = λ l. omega arith; labels = λ x. x } record { faults = λ l. recycled_same l i v from found; outs = λ l. omega arith } (slot_settled t.settled _ _ (omega arith) (λ j e. omega arith))
+        (exchanged found from next (λ n. Rule shows p (stepped s (ref_index i) n id [] w keeps))
+        (λ hit. subst (λ (n : ℕ). Rule shows p (stepped s (ref_index i) n id [] w keeps)) is_next (recycle_rule t.rule id v here mine i inside fits from hit odd last there))
         (λ miss. recycle_lost_rule t.rule id v here mine i inside fits from miss last there)),
     λ x at. let e : i ≡ x = omega arith in (
       of_ref (λ y. recycled y from found v) x at,
@@ -140,21 +140,21 @@ module _ {S : Type 0} (shows : S → Home) (rose : S → ℕ) (p : Plan) (slots 
   )
 
   -- A7
-  pub frees : (x : ℕ) → 0 < marks_of (is_recycled x) i v → x ≤ 4294967292 → v.hands ≡ [] → Allows (OnTable shows rose p) slots id me (tag_word i) (λ _. 0) (λ _. free_told (step slots (tag_word i) 0 0 none) me 0)
+  pub frees : (x : ℕ) → 0 < marks_of (is_recycled x) i v → x ≤ 4294967292 → v.hands ≡ [] → Allows (OnTable shows rose p) slots id me (tag_index i) (λ _. 0) (λ _. free_told (step slots (tag_index i) 0 0 none) me 0)
   frees x there low empty s t long here fits = (
     freed i v,
     keeps,
     tt,
-    beside t id v (freed i v) here some_ (set s.words (tag_word i) 0) s.homes (refl, λ l ll. refl) record { share = refl; lists = refl; finds = refl; stores = λ y z. omega arith; accepts = λ l. omega arith; labels = λ x. x } record { faults = λ l. freed_same l i v; outs = λ l. omega arith } (slot_settled t.settled _ _ (omega arith) (λ j e. omega arith)) (free_rule t.rule id v here mine i inside x there low empty),
+    beside t id v (freed i v) here some_ (set s.words (tag_index i) 0) s.homes (refl, λ l ll. refl) record { share = refl; lists = refl; finds = refl; stores = λ y z. omega arith; accepts = λ l. omega arith; labels = λ x. x } record { faults = λ l. freed_same l i v; outs = λ l. omega arith } (slot_settled t.settled _ _ (omega arith) (λ j e. omega arith)) (free_rule t.rule id v here mine i inside x there low empty),
     of_tag (λ y. freed y v),
   )
 
   -- A8
-  pub looks : Allows (OnTable shows rose p) slots id me (ref_word i) (λ n. n) (look_told (step slots (ref_word i) 0 0 none) me)
-  looks s t long here fits = let found : ℕ = get_or s.words (ref_word i) 0 in (
+  pub looks : Allows (OnTable shows rose p) slots id me (ref_index i) (λ n. n) (look_told (step slots (ref_index i) 0 0 none) me)
+  looks s t long here fits = let found : ℕ = get_or s.words (ref_index i) 0 in (
     looked i found v,
     keeps,
     tt,
-    beside t id v (looked i found v) here some_ (set s.words (ref_word i) found) s.homes (refl, λ l ll. refl) record { share = refl; lists = refl; finds = refl; stores = λ x y. omega arith; accepts = λ l. omega arith; labels = λ x. x } record { faults = λ l. omega arith; outs = λ l. omega arith } (slot_settled t.settled _ _ (omega arith) (λ j e. omega arith)) (look_rule t.rule id v here mine i inside fits),
+    beside t id v (looked i found v) here some_ (set s.words (ref_index i) found) s.homes (refl, λ l ll. refl) record { share = refl; lists = refl; finds = refl; stores = λ x y. omega arith; accepts = λ l. omega arith; labels = λ x. x } record { faults = λ l. omega arith; outs = λ l. omega arith } (slot_settled t.settled _ _ (omega arith) (λ j e. omega arith)) (look_rule t.rule id v here mine i inside fits),
     λ x at. (of_ref (λ y. looked y found v) x at, word_fits s t here fits x at),
   )

@@ -9,13 +9,13 @@ use Rattle.sock_model.specs.Marks.{about, at, without, without_at}
 use Rattle.sock_model.specs.Slots.{version_of, nref_of}
 use Rattle.sock_model.specs.SlotRows.{marks_of, added, back, subbed, failed, recycled, freed, looked, coded, met_link}
 use Rattle.sock_model.specs.ChainRows.{with_hand, without_hand}
-use Rattle.chain_core.specs.slot_laws.proofs.Sums.{total-append, total_mono, taken, taken_as, about-here, about-other}
-use Rattle.chain_core.specs.slot_laws.proofs.Slots.{hold_is, probe_is, zero_is, any_recycled, recycled_le}
-use Rattle.chain_core.specs.slot_laws.proofs.Numbers.{only_is, only-else}
+use Rattle.chain_core.specs.slot_steps.proofs.Sums.{total-append, total_mono, taken, taken_as, about-here, about-other}
+use Rattle.chain_core.specs.slot_steps.proofs.Slots.{hold_is, probe_is, zero_is, any_recycled, recycled_le}
+use Rattle.chain_core.specs.slot_steps.proofs.Numbers.{only_is, only-else}
 use Rattle.std.specs.List.{filter}
 use mathlib.Core.Logic.{dite}
 use native.Mathlib.Decide.{ℕ_discrete}
-use Rattle.chain_core.specs.slot_laws.proofs.Frame.{about-without, about-without_else}
+use Rattle.chain_core.specs.slot_steps.proofs.Frame.{about-without, about-without_else}
 use Rattle.sock_rule.specs.Becoming.{Became, Goes, probe_goes, hold_goes}
 
 module _ (i : ℕ) where

@@ -9,10 +9,10 @@ use Rattle.sock_model.specs.declared.home.Home.{Home}
 use Rattle.sock_model.specs.declared.view.View.{View}
 use Rattle.sock_model.specs.declared.view.StoredWord.{StoredWord}
 use Rattle.sock_model.specs.Weights.{total}
-use Rattle.sock_model.specs.Layout.{place_word}
+use Rattle.sock_model.specs.Layout.{place_index}
 use Rattle.sock_model.specs.Rule.{lists_of, Rule}
-use Rattle.chain_core.specs.slot_laws.proofs.Sums.{total-set}
-use Rattle.chain_core.specs.chain_laws.proofs.Lists.{at_length}
+use Rattle.chain_core.specs.slot_steps.proofs.Sums.{total-set}
+use Rattle.chain_core.specs.chain_steps.proofs.Lists.{at_length}
 use Rattle.chain_core.specs.sock_steps.proofs.Maps.{set_at, set_twice}
 use Rattle.sock_rule.specs.Faults.{faults_of, out_of, LinkFaults}
 use Rattle.sock_rule.specs.OnTable.{share_of, put_in, labelled_in, IsDropKept, Settled, Labelled, OnTable}
@@ -59,7 +59,7 @@ light_after shows p s id v u w here ws hs a mine r = subst (λ vs. Rule shows p 
     (light_rule shows p record { words = ws; homes = hs; views = set s.views id u } id u w (set_at s.views id u (at_length s.views id v here)) a r mine)
 
 -- what was noted of a place index stays where no view loses a note or an accepted message
-pub drop_stays : (p : Plan) (old new : List View) (l word : ℕ) → ((n : ℕ) → total (put_in (place_word p l) n) old ≡ total (put_in (place_word p l) n) new) → total (labelled_in l) old ≤ total (labelled_in l) new → IsDropKept p old l word → IsDropKept p new l word
+pub drop_stays : (p : Plan) (old new : List View) (l word : ℕ) → ((n : ℕ) → total (put_in (place_index p l) n) old ≡ total (put_in (place_index p l) n) new) → total (labelled_in l) old ≤ total (labelled_in l) new → IsDropKept p old l word → IsDropKept p new l word
 drop_stays p old new l word same more k = record {
   told = λ high. omega (arith, k.told high, same word);
   stays = λ one n some_. k.stays (omega arith) n (omega (arith, same n));
@@ -98,7 +98,7 @@ module _ {S : Type 0} {shows : S → Home} {rose : S → ℕ} {p : Plan} {s : St
 
   -- and where place words don't change it stays
   pub beside_faults : ((k : ℕ) → k < p.links → LinkFaults rose p record { words = ws; homes = hs; views = set s.views id w } k) → length hs ≡ length s.homes → SameShare p v w → Settled p t.stored t.placed ws hs → Rule shows p record { words = ws; homes = hs; views = set s.views id w } → OnTable shows rose p record { words = ws; homes = hs; views = set s.views id w }
-  beside_faults faults long same kept r = beside_placed t.placed (λ l ll. drop_stays p s.views (set s.views id w) l (t.placed l) (λ n. still_put same.stores (place_word p l) n) (omega (arith, total-set (labelled_in l) s.views id v w here, same.accepts l)) (t.drops l ll)) faults long same kept r
+  beside_faults faults long same kept r = beside_placed t.placed (λ l ll. drop_stays p s.views (set s.views id w) l (t.placed l) (λ n. still_put same.stores (place_index p l) n) (omega (arith, total-set (labelled_in l) s.views id v w here, same.accepts l)) (t.drops l ll)) faults long same kept r
 
   pub beside : StillHomes p s.homes hs → SameShare p v w → Calm v w → Settled p t.stored t.placed ws hs → Rule shows p record { words = ws; homes = hs; views = set s.views id w } → OnTable shows rose p record { words = ws; homes = hs; views = set s.views id w }
   beside still same c kept r = beside_faults (calm_links still c) still.0 same kept r

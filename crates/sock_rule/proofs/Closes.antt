@@ -16,14 +16,14 @@ use Rattle.sock_model.specs.Slots.{live, count, SlotLaw}
 use Rattle.sock_model.specs.References.{slot_facts}
 use Rattle.sock_model.specs.SlotRows.{marks_of}
 use Rattle.sock_model.specs.declared.marks.Mark.TheVariants.{Coding}
-use Rattle.chain_core.specs.slot_laws.proofs.Numbers.{only_le, live_le, live_is, life-in, life-high, life_is, life_le}
-use Rattle.chain_core.specs.slot_laws.proofs.Sums.{total_mono}
-use Rattle.chain_core.specs.slot_laws.proofs.Clauses as clauses
+use Rattle.chain_core.specs.slot_steps.proofs.Numbers.{only_le, live_le, live_is, life-in, life-high, life_is, life_le}
+use Rattle.chain_core.specs.slot_steps.proofs.Sums.{total_mono}
+use Rattle.chain_core.specs.slot_steps.proofs.Clauses as clauses
 use Rattle.sock_rule.specs.OnTable.{share_of, put_in, IsIdle, OnTable}
 use Rattle.sock_rule.specs.Closing.{IsAtRest, Closing, Ordered}
 use Rattle.sock_model.specs.declared.chain.Entry.{Entry}
 use Rattle.sock_model.specs.Authors.{pick}
-use Rattle.chain_core.specs.chain_laws.proofs.Lists.{at_some}
+use Rattle.chain_core.specs.chain_steps.proofs.Lists.{at_some}
 use Rattle.std.specs.List.{filter, flat_map}
 use Rattle.sock_model.specs.declared.chain.Claim.{Claim}
 use Rattle.sock_model.specs.Reads.{claims_of}

@@ -8,8 +8,8 @@ use Rattle.sock_model.specs.declared.home.Home.{Home}
 use Rattle.sock_model.specs.declared.view.View.{View}
 use Rattle.sock_model.specs.Weights.{total}
 use Rattle.sock_model.specs.Authors.{pick}
-use Rattle.sock_model.specs.Layout.{place_word}
-use Rattle.chain_core.specs.slot_laws.proofs.Numbers.{only_is, only_le}
+use Rattle.sock_model.specs.Layout.{place_index}
+use Rattle.chain_core.specs.slot_steps.proofs.Numbers.{only_is, only_le}
 use Rattle.sock_rule.specs.OnTable.{put_in, DROPPED, is_labelled, labelled_in, OnTable}
 use Rattle.sock_rule.specs.Closing.{PlacesDiffer, IsDropTold}
 use Rattle.sock_rule.proofs.Closes.{others, put_is, only_one}
@@ -29,6 +29,6 @@ module _ {S : Type 0} {shows : S → Home} {rose : S → ℕ} {p : Plan} (s : St
 
   pub drop_told : (l : ℕ) → l < 8 * p.operations → IsDropTold p t.rule.lawful.log v s.words l
   drop_told l ll = let k = t.drops l ll in let word = t.settled.places l ll in record {
-    told = subst (λ (n : ℕ). DROPPED ≤ n → 0 < put_in (place_word p l) n v) (sym word) (λ high. omega (arith, k.told high, put_is s t id v here all (place_word p l) (t.placed l)));
-    stays = λ apart n some_. let a = k.stays (one_labelled apart l) n (omega (arith, put_is s t id v here all (place_word p l) n)) in (word ∙ a.0, a.1);
+    told = subst (λ (n : ℕ). DROPPED ≤ n → 0 < put_in (place_index p l) n v) (sym word) (λ high. omega (arith, k.told high, put_is s t id v here all (place_index p l) (t.placed l)));
+    stays = λ apart n some_. let a = k.stays (one_labelled apart l) n (omega (arith, put_is s t id v here all (place_index p l) n)) in (word ∙ a.0, a.1);
   }

@@ -17,8 +17,8 @@ use Rattle.sock_model.specs.References.{uses_link}
 use Rattle.sock_model.specs.Reads.{waits_link, carries}
 use Rattle.sock_model.specs.Slots.{version_of, nref_of}
 use Rattle.sock_model.specs.SlotRows.{marks_of, claimed, gave_birth, added, back, subbed, failed, recycled, freed, linked, staged, coded}
-use Rattle.chain_core.specs.slot_laws.proofs.Numbers.{only-same, only_is, only-else}
-use Rattle.chain_core.specs.slot_laws.proofs.Sums.{total-set, total-append, term_le, about-here, about-other}
+use Rattle.chain_core.specs.slot_steps.proofs.Numbers.{only-same, only_is, only-else}
+use Rattle.chain_core.specs.slot_steps.proofs.Sums.{total-set, total-append, term_le, about-here, about-other}
 use Rattle.sock_rule.specs.Faults.{fault, is_fault, faults_link, faults_of, noting_fault, fault_found, without_fault, fault_left, away, out_of, noted_out, present, rose_at, LinkFaults}
 use Rattle.sock_rule.proofs.Light.{Light, Alike}
 

@@ -11,19 +11,19 @@ use Rattle.sock_model.specs.declared.home.Home.{Home}
 use Rattle.sock_model.specs.declared.view.View.{View}
 use Rattle.sock_model.specs.declared.view.StoredWord.{StoredWord}
 use Rattle.sock_model.specs.Weights.{total, only}
-use Rattle.sock_model.specs.Layout.{place_word}
+use Rattle.sock_model.specs.Layout.{place_index}
 use Rattle.sock_model.specs.Marks.{latest, says, noted}
 use Rattle.sock_model.specs.SlotRows.{wrote}
 use Rattle.sock_model.specs.Reads.{claims_of, loose_at, tokens, message}
 use Rattle.sock_model.specs.References.{sayers}
 use Rattle.sock_model.specs.Lawful.{Lawful}
 use Rattle.sock_model.specs.Rule.{lists_of, Rule}
-use Rattle.chain_core.specs.chain_laws.proofs.Frames.{chains_frame}
-use Rattle.chain_core.specs.chain_laws.proofs.Gather.{gather_same}
-use Rattle.chain_core.specs.chain_laws.proofs.Letters.{messages_frame}
-use Rattle.chain_core.specs.chain_laws.proofs.Lists.{at_length}
-use Rattle.chain_core.specs.slot_laws.proofs.Numbers.{only-else, only_le, pair-at, pair_only}
-use Rattle.chain_core.specs.slot_laws.proofs.Sums.{total-set, total_mono}
+use Rattle.chain_core.specs.chain_steps.proofs.Frames.{chains_frame}
+use Rattle.chain_core.specs.chain_steps.proofs.Gather.{gather_same}
+use Rattle.chain_core.specs.chain_steps.proofs.Letters.{messages_frame}
+use Rattle.chain_core.specs.chain_steps.proofs.Lists.{at_length}
+use Rattle.chain_core.specs.slot_steps.proofs.Numbers.{only-else, only_le, pair-at, pair_only}
+use Rattle.chain_core.specs.slot_steps.proofs.Sums.{total-set, total_mono}
 use Rattle.chain_core.specs.sock_steps.proofs.Words.{beside_all}
 use Rattle.chain_core.specs.sock_steps.proofs.ChainFrame.{SameSlots}
 use Rattle.chain_core.specs.sock_steps.proofs.ClaimSteps.{rights_stay, other_base}
@@ -84,7 +84,7 @@ finds_beside {S} {shows} {rose} {p} {s} t id v u here some_ mine ws x word was s
       stored = t.stored;
       put = λ y z. t.put y z ∙ more y z;
       placed = t.placed;
-      drops = λ l ll. drop_stays p s.views (set s.views id w) l (t.placed l) (λ n. more (place_word p l) n) (omega (arith, total-set (labelled_in l) s.views id v w here, same.accepts l)) (t.drops l ll);
+      drops = λ l ll. drop_stays p s.views (set s.views id w) l (t.placed l) (λ n. more (place_index p l) n) (omega (arith, total-set (labelled_in l) s.views id v w here, same.accepts l)) (t.drops l ll);
       faults = λ k kl. calm id v w here ws s.homes k (t.faults k kl) refl (c.faults k) (c.outs k);
       settled = kept;
       met = λ j z g n h e. ⊎_elim (λ y. own_met n h (subst (λ (q : View). get_elem? q.histories n ≡ some h) (sym y.1) e)) (λ y. t.met j z y.1 n h e) (at_set s.views id j w z g);
@@ -115,7 +115,7 @@ puts_beside {S} {shows} {rose} {p} {s} t id v here some_ mine ws x word low kept
       stored = record { place = x; word = word } ∷ t.stored;
       put = λ y z. let a = t.put y z in omega (arith, more y z);
       placed = t.placed;
-      drops = λ l ll. drop_stays p s.views (set s.views id w) l (t.placed l) (λ n. omega (arith, more (place_word p l) n, pair_only (place_word p l) n x word, only-else (place_word p l) x (λ e. omega arith))) (omega (arith, total-set (labelled_in l) s.views id v w here)) (t.drops l ll);
+      drops = λ l ll. drop_stays p s.views (set s.views id w) l (t.placed l) (λ n. omega (arith, more (place_index p l) n, pair_only (place_index p l) n x word, only-else (place_index p l) x (λ e. omega arith))) (omega (arith, total-set (labelled_in l) s.views id v w here)) (t.drops l ll);
       faults = λ k kl. calm id v w here ws s.homes k (t.faults k kl) refl refl refl;
       settled = kept;
       met = λ j z g n h e. ⊎_elim (λ y. own n h (subst (λ (q : View). get_elem? q.histories n ≡ some h) (sym y.1) e)) (λ y. further h (t.met j z y.1 n h e)) (at_set s.views id j w z g);

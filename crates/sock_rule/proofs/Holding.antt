@@ -16,7 +16,7 @@ use Rattle.sock_model.specs.declared.home.Home.{Home}
 use Rattle.sock_model.specs.declared.home.Home.TheVariants.{Link}
 use Rattle.sock_model.specs.declared.view.View.{View}
 use Rattle.sock_model.specs.Weights.{total, only, is_hold, is_saw}
-use Rattle.sock_model.specs.Layout.{ref_word, link_word, head_word, request_word, next_word, place_word}
+use Rattle.sock_model.specs.Layout.{ref_index, link_index, head_index, request_index, next_index, place_index}
 use Rattle.sock_model.specs.Memory.{IDLE, UNCONNECTED}
 use Rattle.sock_model.specs.Entries.{slot_of, generation_of}
 use Rattle.sock_model.specs.Slots.{version_of}
@@ -27,9 +27,9 @@ use Rattle.sock_model.specs.Conditions.{HasRight, MayPlace, MayDrop, MayTake, Ma
 use Rattle.sock_model.specs.Deliveries.{place_value}
 use Rattle.sock_model.specs.Links.{HoldsLink, Failed}
 use Rattle.sock_model.specs.Lawful.{Lawful}
-use Rattle.chain_core.specs.slot_laws.proofs.Numbers.{life-in, only-at}
-use Rattle.chain_core.specs.chain_laws.proofs.Frees.{Leads, to_end, to_next, now_slot}
-use Rattle.chain_core.specs.chain_laws.proofs.Lists.{at_length}
+use Rattle.chain_core.specs.slot_steps.proofs.Numbers.{life-in, only-at}
+use Rattle.chain_core.specs.chain_steps.proofs.Frees.{Leads, to_end, to_next, now_slot}
+use Rattle.chain_core.specs.chain_steps.proofs.Lists.{at_length}
 use Rattle.chain_core.specs.sock_steps.proofs.Maps.{set_at, set_twice}
 use Rattle.chain_core.specs.sock_steps.proofs.Places.{own_count, holder_lives}
 use Rattle.chain_core.specs.sock_steps.proofs.RightSteps.{right_in, right_alone}
@@ -113,35 +113,35 @@ module _ {S : Type 0} (shows : S → Home) (rose : S → ℕ) (p : Plan) (slots 
   after s here w = set_at s.views id w (at_length s.views id v here)
 
   -- A8: where the life is live the right is clean
-  pub looks_clean : (i h : ℕ) → HoldsLink p v i h r.link → Allows (OnTable shows rose p) slots id me (ref_word i) (λ n. n) (clean_told (step slots (ref_word i) 0 0 none) me)
-  looks_clean i h holds s t long here fits = let found : ℕ = get_or s.words (ref_word i) 0 in let inside = holds.inside in
-      let told : (x : ℕ) → ref_word i ≡ ref_word x → Rattle.sock_rule.specs.Plays.WordFits x found v = λ x at. word_fits shows rose p slots id me mine some_ i inside s t here fits x at in
-      dite (ℕ_discrete (version_of (get_or s.words (ref_word i) 0) % 2) 0)
+  pub looks_clean : (i h : ℕ) → HoldsLink p v i h r.link → Allows (OnTable shows rose p) slots id me (ref_index i) (λ n. n) (clean_told (step slots (ref_index i) 0 0 none) me)
+  looks_clean i h holds s t long here fits = let found : ℕ = get_or s.words (ref_index i) 0 in let inside = holds.inside in
+      let told : (x : ℕ) → ref_index i ≡ ref_index x → Rattle.sock_rule.specs.Plays.WordFits x found v = λ x at. word_fits shows rose p slots id me mine some_ i inside s t here fits x at in
+      dite (ℕ_discrete (version_of (get_or s.words (ref_index i) 0) % 2) 0)
       (λ even. let w : View = with_right (looked i found v) (record r { clean = true }) in (
         with_right (looked i found v) (record r { clean = true }),
         keeps,
         tt,
-        beside t id v w here some_ (set s.words (ref_word i) found) s.homes (refl, λ l ll. refl) record { share = refl; lists = refl; finds = refl; stores = λ x y. omega arith; accepts = λ l. omega arith; labels = λ x. x } record { faults = λ l. omega arith; outs = (steady (record r { clean = true }) refl refl).outs } (slot_settled t.settled (ref_word i) found (omega arith) (λ j e. omega arith))
-            (load_rule t.rule id v here mine (ref_word i) found refl w record { plan = refl; found = refl; lists = refl } (clean_look_law shows p s t.rule.lawful id v here has_one i h holds fits even)),
+        beside t id v w here some_ (set s.words (ref_index i) found) s.homes (refl, λ l ll. refl) record { share = refl; lists = refl; finds = refl; stores = λ x y. omega arith; accepts = λ l. omega arith; labels = λ x. x } record { faults = λ l. omega arith; outs = (steady (record r { clean = true }) refl refl).outs } (slot_settled t.settled (ref_index i) found (omega arith) (λ j e. omega arith))
+            (load_rule t.rule id v here mine (ref_index i) found refl w record { plan = refl; found = refl; lists = refl } (clean_look_law shows p s t.rule.lawful id v here has_one i h holds fits even)),
         λ q x e at. let same : i ≡ x = omega arith in let k = its q e in (told x at, (λ z. λ y. (with_right (looked (same y) found v) (record (k y) { clean = true }), me.1)), λ odd. absurd (odd even)),
       ))
       (λ odd. (
         looked i found v,
         keeps,
         tt,
-        beside t id v (looked i found v) here some_ (set s.words (ref_word i) found) s.homes (refl, λ l ll. refl) record { share = refl; lists = refl; finds = refl; stores = λ x y. omega arith; accepts = λ l. omega arith; labels = λ x. x } record { faults = λ l. omega arith; outs = λ l. omega arith } (slot_settled t.settled (ref_word i) found (omega arith) (λ j e. omega arith))
+        beside t id v (looked i found v) here some_ (set s.words (ref_index i) found) s.homes (refl, λ l ll. refl) record { share = refl; lists = refl; finds = refl; stores = λ x y. omega arith; accepts = λ l. omega arith; labels = λ x. x } record { faults = λ l. omega arith; outs = λ l. omega arith } (slot_settled t.settled (ref_index i) found (omega arith) (λ j e. omega arith))
             (look_rule t.rule id v here mine i inside fits),
         λ q x e at. let same : i ≡ x = omega arith in (told x at, (λ even. absurd (odd even)), λ z. λ y. (looked (same y) found v, me.1)),
       ))
 
   -- L1
-  pub takes_own : (i : ℕ) → r.at_home ≡ true → Allows (OnTable shows rose p) slots id me (link_word i) (λ n. n) (take_own_told shows rose (step slots (link_word i) 0 0 none) me)
+  pub takes_own : (i : ℕ) → r.at_home ≡ true → Allows (OnTable shows rose p) slots id me (link_index i) (λ n. n) (take_own_told shows rose (step slots (link_index i) 0 0 none) me)
   takes_own i home s t long here fits = let o = t.rule.lawful in let a = link_home_law shows p s o id v here has_one home in let u : View = with_right v (record r { at_home = false }) in let w : View = fault_found (rose a.0) i r.link u in let alike = found_alike (rose a.0) i r.link u in
       let low : r.link < p.links = right_in o id 0 v r here has_one.has in let hs : List (Option S) = set s.homes (p.requests + r.link) none in (
         fault_found (rose a.0) i r.link (with_right v (record r { at_home = false })),
         takes (p.requests + r.link) a.0,
         a.1,
-        loaded s (link_word i) id w hs (beside_faults t id v w here some_ s.words hs (takes_link t.faults id v u here r.link a.0 low (omega (arith, t.housed)) s.words i a.1 refl taken) (length-set s.homes (p.requests + r.link) none) (alike_share p v u w (quiet (record r { at_home = false })) alike) (home_settled t.settled (p.requests + r.link) none (omega arith))
+        loaded s (link_index i) id w hs (beside_faults t id v w here some_ s.words hs (takes_link t.faults id v u here r.link a.0 low (omega (arith, t.housed)) s.words i a.1 refl taken) (length-set s.homes (p.requests + r.link) none) (alike_share p v u w (quiet (record r { at_home = false })) alike) (home_settled t.settled (p.requests + r.link) none (omega arith))
             (light_after shows p s id v u w here s.words hs alike mine (right_rule t.rule id v here mine (record r { at_home = false }) hs (link_goes_law shows p s o id v here has_one none refl (omega (arith, t.housed)))))),
         λ q j e at. subst (λ (z : Right). TookOwn shows rose me (fault_found (rose a.0) i r.link (with_right v (record r { at_home = false })), (p.requests + r.link, a.0) ∷ me.1) z j) (its q e)
             (subst (λ (z : ℕ). TookOwn shows rose me (fault_found (rose a.0) i r.link (with_right v (record r { at_home = false })), (p.requests + r.link, a.0) ∷ me.1) r z) (let same : i ≡ j = omega arith in same) record {
@@ -158,12 +158,12 @@ module _ {S : Type 0} (shows : S → Home) (rose : S → ℕ) (p : Plan) (slots 
       taken l = omega (arith, ap (total (away l)) (one_right v r (record r { at_home = false }) one refl), ap (total (away l)) one, ap (λ b. cond b 0 (only l r.link)) home)
 
   -- a fault of the link in hand is noted
-  pub notes_fault : (i : ℕ) → r.at_home ≡ false → Allows (OnTable shows rose p) slots id me (link_word i) (λ n. n) (note_fault_told (step slots (link_word i) 0 0 none) me)
+  pub notes_fault : (i : ℕ) → r.at_home ≡ false → Allows (OnTable shows rose p) slots id me (link_index i) (λ n. n) (note_fault_told (step slots (link_index i) 0 0 none) me)
   notes_fault i gone s t long here fits = let w : View = noting_fault i r.link v in let alike = found_alike 1 i r.link v in let low : r.link < p.links = right_in t.rule.lawful id 0 v r here has_one.has in (
     noting_fault i r.link v,
     keeps,
     tt,
-    loaded s (link_word i) id w s.homes (beside_faults t id v w here some_ s.words s.homes (noted s t here low) refl record { share = refl; lists = refl; finds = refl; stores = λ x y. omega arith; accepts = λ l. omega arith; labels = λ x. record { entries = x.entries; claimed = x.claimed } } t.settled
+    loaded s (link_index i) id w s.homes (beside_faults t id v w here some_ s.words s.homes (noted s t here low) refl record { share = refl; lists = refl; finds = refl; stores = λ x y. omega arith; accepts = λ l. omega arith; labels = λ x. record { entries = x.entries; claimed = x.claimed } } t.settled
         (light_rule shows p s id v w here alike t.rule mine)),
     λ q j e at. let same = its q e in let same_i : i ≡ j = omega arith in λ z. (noting_fault (same_i z) (same z).link v, me.1),
   )
@@ -217,7 +217,7 @@ module _ {S : Type 0} (shows : S → Home) (rose : S → ℕ) (p : Plan) (slots 
 
   -- P1
   pub places : (now : ℕ) → r.stage ≡ Writes now → r.taken ≡ true → r.clean ≡ true → r.at_home ≡ false → r.heading.place < 8 * p.operations → r.link < 65536
-      → Allows (OnTable shows rose p) slots id me (place_word p r.heading.place) (λ _. place_value false r.link r.places) (λ _. place_told (step slots (place_word p r.heading.place) (place_value false r.link r.places) 0 none) me (place_value false r.link r.places))
+      → Allows (OnTable shows rose p) slots id me (place_index p r.heading.place) (λ _. place_value false r.link r.places) (λ _. place_told (step slots (place_index p r.heading.place) (place_value false r.link r.places) 0 none) me (place_value false r.link r.places))
   places now stage taken clean away label narrow s t long here fits = let may : MayPlace p v = record { mine = has_one; now = now; stage = stage; taken = taken; is_clean = clean; away = away; label_in = label } in let w : View = with_right v (placed_right r now) in
       let value : ℕ = place_value false r.link r.places in (
         with_right v (placed_right r now),
@@ -237,10 +237,10 @@ module _ {S : Type 0} (shows : S → Home) (rose : S → ℕ) (p : Plan) (slots 
 
   -- P1 with the dropped bit: the link lies in the slot that was taken last
   pub drops : (now j h : ℕ) (y : ℕ × S) → r.stage ≡ Writes now → r.taken ≡ true → r.at_home ≡ false → r.heading.place < 8 * p.operations → Part r (took_in (shows y.1)) → me.1 ≡ y ∷ rest me.1 → HoldsLink p v j h r.link → 0 < marks_of (is_saw (h + 1)) j v
-      → Allows (OnTable shows rose p) slots id me (place_word p r.heading.place) (λ _. place_value true r.link r.places) (λ _. drop_told shows (step slots (place_word p r.heading.place) (place_value true r.link r.places) 0 none) me (place_value true r.link r.places))
+      → Allows (OnTable shows rose p) slots id me (place_index p r.heading.place) (λ _. place_value true r.link r.places) (λ _. drop_told shows (step slots (place_index p r.heading.place) (place_value true r.link r.places) 0 none) me (place_value true r.link r.places))
   drops now j h y stage taken away label part top holds seen s t long here fits = let may : MayDrop p v = record { mine = has_one; now = now; sent = took_in (shows y.1); stage = stage; taken = taken; away = away; label_in = label; part = part } in
-      let u : View = with_right v (dropped_right r now (took_in (shows y.1))) in let x : ℕ = place_word p r.heading.place in let value : ℕ = place_value true r.link r.places in (
-        wrote (place_word p r.heading.place) (place_value true r.link r.places) (with_right v (dropped_right r now (took_in (shows y.1)))),
+      let u : View = with_right v (dropped_right r now (took_in (shows y.1))) in let x : ℕ = place_index p r.heading.place in let value : ℕ = place_value true r.link r.places in (
+        wrote (place_index p r.heading.place) (place_value true r.link r.places) (with_right v (dropped_right r now (took_in (shows y.1)))),
         keeps,
         tt,
         drops_beside t id v here r one now stage taken label value u (omega arith) some_ mine (quiet (dropped_right r now (took_in (shows y.1)))) (steady (dropped_right r now (took_in (shows y.1))) refl refl) refl (omega (arith, t.rule.lawful.references.sized)) (λ noted same. place_settled t.settled r.heading.place value noted same (omega (arith, t.rule.lawful.references.sized)))
@@ -250,8 +250,8 @@ module _ {S : Type 0} (shows : S → Home) (rose : S → ℕ) (p : Plan) (slots 
       )
 
   -- C5 after a message that has its place
-  pub reads_on : (now : ℕ) → r.stage ≡ Placed now → now ≢ r.last → Allows (OnTable shows rose p) slots id me (next_word p (slot_of now)) (λ n. n) (read_next_told (step slots (next_word p (slot_of now)) 0 0 none) me)
-  reads_on now stage ne s t long here fits = let o = t.rule.lawful in let x : ℕ = next_word p (slot_of now) in let found : ℕ = get_or s.words (next_word p (slot_of now)) 0 in
+  pub reads_on : (now : ℕ) → r.stage ≡ Placed now → now ≢ r.last → Allows (OnTable shows rose p) slots id me (next_index p (slot_of now)) (λ n. n) (read_next_told (step slots (next_index p (slot_of now)) 0 0 none) me)
+  reads_on now stage ne s t long here fits = let o = t.rule.lawful in let x : ℕ = next_index p (slot_of now) in let found : ℕ = get_or s.words (next_index p (slot_of now)) 0 in
       let r' : Right = passing_right r now found in let w : View = with_right v r' in
       let t' : OnTable shows rose p record { words = s.words; homes = s.homes; views = set s.views id (with_right v (passing_right r now found)) } =
       beside t id v w here some_ s.words s.homes (refl, λ l ll. refl) (quiet r') (steady r' refl refl) t.settled (right_rule t.rule id v here mine r' s.homes (passing_law shows p s o id v here has_one now stage ne)) in
@@ -267,10 +267,10 @@ module _ {S : Type 0} (shows : S → Home) (rose : S → ℕ) (p : Plan) (slots 
       )
 
   -- C5 on the walk
-  pub reads_back : (top a next : ℕ) → r.stage ≡ Walks top a next → Allows (OnTable shows rose p) slots id me (next_word p (slot_of a)) (λ n. n) (read_next_told (step slots (next_word p (slot_of a)) 0 0 none) me)
-  reads_back top a next stage s t long here fits = let o = t.rule.lawful in let x : ℕ = next_word p (slot_of a) in let found : ℕ = get_or s.words (next_word p (slot_of a)) 0 in
+  pub reads_back : (top a next : ℕ) → r.stage ≡ Walks top a next → Allows (OnTable shows rose p) slots id me (next_index p (slot_of a)) (λ n. n) (read_next_told (step slots (next_index p (slot_of a)) 0 0 none) me)
+  reads_back top a next stage s t long here fits = let o = t.rule.lawful in let x : ℕ = next_index p (slot_of a) in let found : ℕ = get_or s.words (next_index p (slot_of a)) 0 in
       let not_placed : (q : Right) (m : ℕ) → me.0.rights ≡ q ∷ [] → q.stage ≡ Placed m → ⊥ = λ q m e st. (let z : Walks top a next ≡ Placed m = sym stage ∙ (ap (λ (u : Right). u.stage) (its q e) ∙ st) in cc) in
-      dite (ℕ_discrete (get_or s.words (next_word p (slot_of a)) 0) UNCONNECTED)
+      dite (ℕ_discrete (get_or s.words (next_index p (slot_of a)) 0) UNCONNECTED)
       (λ waits. (
         v,
         keeps,
@@ -298,20 +298,20 @@ module _ {S : Type 0} (shows : S → Home) (rose : S → ℕ) (p : Plan) (slots 
 
   -- C8
   pub frees : (now : ℕ) (b : Stage) (y : S) (below : List (ℕ × S)) → Leads r.last r.stage now b → generation_of now < 140737488355327 → me.1 ≡ (slot_of now, y) ∷ below
-      → Allows (OnTable shows rose p) slots id me (request_word p (slot_of now)) (λ _. 2 * (generation_of now + 1)) (λ _. free_request_told (step slots (request_word p (slot_of now)) (2 * (generation_of now + 1)) 0 none) me (2 * (generation_of now + 1)))
-  frees now b y below leads small top s t long here fits = let o = t.rule.lawful in let x : ℕ = request_word p (slot_of now) in let n : ℕ = 2 * (generation_of now + 1) in
+      → Allows (OnTable shows rose p) slots id me (request_index p (slot_of now)) (λ _. 2 * (generation_of now + 1)) (λ _. free_request_told (step slots (request_index p (slot_of now)) (2 * (generation_of now + 1)) 0 none) me (2 * (generation_of now + 1)))
+  frees now b y below leads small top s t long here fits = let o = t.rule.lawful in let x : ℕ = request_index p (slot_of now) in let n : ℕ = 2 * (generation_of now + 1) in
       let kl = right_in o id 0 v r here has_one.has in let alone = right_alone o id 0 v r here has_one.has in
       let low : slot_of now < p.requests = now_slot o.chains r.link r kl alone o.fits.narrow now b leads in
       let r' : Right = record r { stage = b } in let w : View = with_right v r' in let hs : List (Option S) = set s.homes (slot_of now) (some y) in
       let law = freeing_law shows p id 0 now b v r s o here has_one.has leads small in
-      let even : get_or (set s.words (request_word p (slot_of now)) (2 * (generation_of now + 1))) (request_word p (slot_of now)) 0 % 2 ≡ 0 =
-      (let e = get_or-set_same s.words (request_word p (slot_of now)) (2 * (generation_of now + 1)) 0 (omega (arith, o.references.sized)) in omega arith) in
-      let homed = free_home_law {s = record { words = set s.words (request_word p (slot_of now)) (2 * (generation_of now + 1)); homes = s.homes; views = set s.views id (with_right v (record r { stage = b })) }} law id w (after s here w) (slot_of now) (some y) low even in
-      let law' = subst (λ vs. Lawful shows p record { words = set s.words (request_word p (slot_of now)) (2 * (generation_of now + 1)); homes = set s.homes (slot_of now) (some y); views = vs }) (set_twice s.views id w w) homed in (
+      let even : get_or (set s.words (request_index p (slot_of now)) (2 * (generation_of now + 1))) (request_index p (slot_of now)) 0 % 2 ≡ 0 =
+      (let e = get_or-set_same s.words (request_index p (slot_of now)) (2 * (generation_of now + 1)) 0 (omega (arith, o.references.sized)) in omega arith) in
+      let homed = free_home_law {s = record { words = set s.words (request_index p (slot_of now)) (2 * (generation_of now + 1)); homes = s.homes; views = set s.views id (with_right v (record r { stage = b })) }} law id w (after s here w) (slot_of now) (some y) low even in
+      let law' = subst (λ vs. Lawful shows p record { words = set s.words (request_index p (slot_of now)) (2 * (generation_of now + 1)); homes = set s.homes (slot_of now) (some y); views = vs }) (set_twice s.views id w w) homed in (
         with_right v (record r { stage = b }),
         gives_back,
         tt,
-        subst (λ (l : List (ℕ × S)). OnTable shows rose p record { words = set s.words (request_word p (slot_of now)) (2 * (generation_of now + 1)); homes = put_back s.homes l; views = set s.views id (with_right v (record r { stage = b })) }) (sym top)
+        subst (λ (l : List (ℕ × S)). OnTable shows rose p record { words = set s.words (request_index p (slot_of now)) (2 * (generation_of now + 1)); homes = put_back s.homes l; views = set s.views id (with_right v (record r { stage = b })) }) (sym top)
             (beside t id v w here some_ (set s.words x n) hs (homes_else p s.homes (slot_of now) (some y) low) (quiet r') (steady r' refl refl) (back_settled t.settled (slot_of now) n y low (omega (arith, t.housed)))
             (word_rule t.rule id v here mine w x n hs record { plan = refl; found = refl; lists = refl } (λ l z. absurd (omega arith)) law')),
         λ q e. let same = its q e in let st = leads_freed r.last now r.stage b leads in (λ u. (with_right v (record r { stage = sym st u }), rest me.1)) ∙ (λ u. (with_right v (freed_right (same u)), rest me.1)),
@@ -337,16 +337,16 @@ module _ {S : Type 0} (shows : S → Home) (rose : S → ℕ) (p : Plan) (slots 
 
   -- C4
   pub empties : (i h : ℕ) → r.stage ≡ Empties → r.at_home ≡ true → HoldsLink p v i h r.link
-      → Allows (OnTable shows rose p) slots id me (head_word i) (λ n. either (eqb n r.last) (IDLE + r.last) n) (empty_told (step slots (head_word i) r.last (IDLE + r.last) none) me)
+      → Allows (OnTable shows rose p) slots id me (head_index i) (λ n. either (eqb n r.last) (IDLE + r.last) n) (empty_told (step slots (head_index i) r.last (IDLE + r.last) none) me)
   empties i h stage home holds s t long here fits = let o = t.rule.lawful in
-      let one_gone : (without_right v r.link).rights ≡ [] = ap (filter (λ (x : Right). not (eqb x.link r.link))) one ∙ ap (λ b. cond (not b) (r ∷ []) []) (eq-eqb r.link r.link refl) in let x : ℕ = head_word i in let found : ℕ = get_or s.words (head_word i) 0 in
+      let one_gone : (without_right v r.link).rights ≡ [] = ap (filter (λ (x : Right). not (eqb x.link r.link))) one ∙ ap (λ b. cond (not b) (r ∷ []) []) (eq-eqb r.link r.link refl) in let x : ℕ = head_index i in let found : ℕ = get_or s.words (head_index i) 0 in
       let may : MayEmpty p v i r.last (IDLE + r.last) = record { mine = has_one; stage = stage; link_home = home; last_is = refl; empty_is = refl; life = h; holds = holds } in
-      dite (ℕ_discrete (get_or s.words (head_word i) 0) r.last)
+      dite (ℕ_discrete (get_or s.words (head_index i) 0) r.last)
       (λ won. (
         without_right v r.link,
         keeps,
         tt,
-        subst (λ (b : Bool). OnTable shows rose p record { words = set s.words (head_word i) (either b (IDLE + r.last) found); homes = s.homes; views = set s.views id (without_right v r.link) }) (sym (eq-eqb found r.last won))
+        subst (λ (b : Bool). OnTable shows rose p record { words = set s.words (head_index i) (either b (IDLE + r.last) found); homes = s.homes; views = set s.views id (without_right v r.link) }) (sym (eq-eqb found r.last won))
             (beside t id v (without_right v r.link) here some_ (set s.words x (IDLE + r.last)) s.homes (refl, λ l ll. refl) record { share = refl; lists = refl; finds = refl; stores = λ y z. omega arith; accepts = λ l. omega arith; labels = λ y. y } record { faults = λ l. refl; outs = λ l. omega (arith, ap (total (away l)) one_gone, ap (total (away l)) one, ap (λ b. cond b 0 (only l r.link)) home) } (slot_settled t.settled x (IDLE + r.last) (let a = holds.inside in omega arith) (λ j e. omega arith))
             (emptied_rule t.rule id v here mine i r.last (IDLE + r.last) may holds.inside won)),
         λ q e. let same = its q e in ((λ z. λ u. (without_right v (same u).link, me.1)), λ ne. absurd (ne won)),
@@ -358,18 +358,18 @@ module _ {S : Type 0} (shows : S → Home) (rose : S → ℕ) (p : Plan) (slots 
         with_right v (walking_right r found),
         keeps,
         tt,
-        subst (λ (b : Bool). OnTable shows rose p record { words = set s.words (head_word i) (either b (IDLE + r.last) found); homes = s.homes; views = set s.views id (with_right v (walking_right r found)) }) (sym (ne_eqb found r.last lost))
+        subst (λ (b : Bool). OnTable shows rose p record { words = set s.words (head_index i) (either b (IDLE + r.last) found); homes = s.homes; views = set s.views id (with_right v (walking_right r found)) }) (sym (ne_eqb found r.last lost))
             (loaded s x id w s.homes t'),
         λ q e. let same = its q e in ((λ z. absurd (lost z)), λ ne. ((λ u. (with_right v (walking_right (same u) found), me.1)), ticket)),
       ))
 
   -- C6
-  pub turns : (top a next before : ℕ) → r.stage ≡ Turns top a next before → Allows (OnTable shows rose p) slots id me (next_word p (slot_of a)) (λ _. next) (λ _. turn_told (step slots (next_word p (slot_of a)) next 0 none) me next)
+  pub turns : (top a next before : ℕ) → r.stage ≡ Turns top a next before → Allows (OnTable shows rose p) slots id me (next_index p (slot_of a)) (λ _. next) (λ _. turn_told (step slots (next_index p (slot_of a)) next 0 none) me next)
   turns top a next before stage s t long here fits = let x : MayTurn v next = record { mine = has_one; top = top; at = a; before = before; stage = stage } in let w : View = with_right v (turned_right r top a before) in (
     with_right v (turned_right r top a before),
     keeps,
     tt,
-    beside t id v w here some_ (set s.words (next_word p (slot_of a)) next) s.homes (refl, λ l ll. refl) (quiet (turned_right r top a before)) (steady (turned_right r top a before) (turn_link r top a before) (turn_home r top a before)) (next_settled t.settled (slot_of a) next (turn_ticket t.rule.lawful id v here r one top a next before stage).inside) (turning_rule t.rule id v here mine next x),
+    beside t id v w here some_ (set s.words (next_index p (slot_of a)) next) s.homes (refl, λ l ll. refl) (quiet (turned_right r top a before)) (steady (turned_right r top a before) (turn_link r top a before) (turn_home r top a before)) (next_settled t.settled (slot_of a) next (turn_ticket t.rule.lawful id v here r one top a next before stage).inside) (turning_rule t.rule id v here mine next x),
     λ q top_ at_ after_ before_ e st. turns_as top a next before top_ at_ after_ before_ (sym stage ∙ (ap (λ (u : Right). u.stage) (its q e) ∙ st)) q (its q e),
   )
     where

@@ -12,15 +12,15 @@ use Rattle.sock_model.specs.declared.marks.Mark.TheVariants.{Handed}
 use Rattle.sock_model.specs.declared.view.View.{View}
 use Rattle.sock_model.specs.Weights.{total, only, tally, is_claimed, is_recycling, is_busy, is_ref, is_any_coding, is_tried, is_stage, is_recycled, is_hold, is_zero, is_coding, is_known, is_born, is_saw, is_failer, is_freer, is_coded, is_stored, is_told, is_linked, is_met, is_reset}
 use Rattle.sock_model.specs.Marks.{about}
-use Rattle.sock_model.specs.Layout.{name_word, open_word}
+use Rattle.sock_model.specs.Layout.{name_index, open_index}
 use Rattle.sock_model.specs.Slots.{SlotFacts, live_by, live, count, KeepsCodes, SlotLaw}
 use Rattle.sock_model.specs.SlotRows.{marks_of}
 use Rattle.sock_model.specs.References.{uses_of, uses_link, sayers, spare, slot_facts, Names, Stores, References}
 use Rattle.sock_model.specs.Reads.{waits_link}
 use Rattle.sock_model.specs.Lawful.{Lawful}
 use Rattle.sock_model.specs.Rule.{Rule}
-use Rattle.chain_core.specs.slot_laws.proofs.Slots.{moved, few_with}
-use Rattle.chain_core.specs.slot_laws.proofs.Sums.{total-set, each_set}
+use Rattle.chain_core.specs.slot_steps.proofs.Slots.{moved, few_with}
+use Rattle.chain_core.specs.slot_steps.proofs.Sums.{total-set, each_set}
 use Rattle.chain_core.specs.sock_steps.proofs.Places.{counts}
 use Rattle.chain_core.specs.sock_steps.proofs.RuleFrame.{lasts_all, same_rule}
 use Rattle.chain_core.specs.sock_steps.proofs.SlotFrame.{still_holds, slot_frame}
@@ -116,10 +116,10 @@ module _ {S : Type 0} (shows : S → Home) (p : Plan) (s : State S View) (id : �
     slots = λ i l. law_same i (law.slots i l);
     links = λ k. omega (arith, total-set (uses_of k) s.views id v w here, law.links k, a.uses k, ap (λ (u : View). total (only k) u.passes) a.others);
     named = record {
-      names = λ n l. names_same (get_or s.words (name_word p n) 0) (law.named.names n l);
-      opens = λ n l ne. names_same (get_or s.words (open_word p n) 0) (law.named.opens n l ne);
-      names_by = λ n l. stores_same (name_word p n) (law.named.names_by n l);
-      opens_by = λ n l. stores_same (open_word p n) (law.named.opens_by n l);
+      names = λ n l. names_same (get_or s.words (name_index p n) 0) (law.named.names n l);
+      opens = λ n l ne. names_same (get_or s.words (open_index p n) 0) (law.named.opens n l ne);
+      names_by = λ n l. stores_same (name_index p n) (law.named.names_by n l);
+      opens_by = λ n l. stores_same (open_index p n) (law.named.opens_by n l);
     };
   }
 

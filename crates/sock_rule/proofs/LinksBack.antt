@@ -17,10 +17,10 @@ use Rattle.sock_model.specs.Weights.{total, is_linked, is_failer, is_freer}
 use Rattle.sock_model.specs.SlotRows.{marks_of}
 use Rattle.sock_model.specs.Reads.{took_of, link_at, rights_on, hands_of, carries, tokens}
 use Rattle.sock_model.specs.Seats.{IsBare}
-use Rattle.sock_model.specs.Layout.{place_word}
+use Rattle.sock_model.specs.Layout.{place_index}
 use Rattle.sock_model.specs.Links.{Failed}
 use Rattle.sock_model.specs.Deliveries.{no_place, one_place}
-use Rattle.chain_core.specs.chain_laws.proofs.Settles.{all_placed}
+use Rattle.chain_core.specs.chain_steps.proofs.Settles.{all_placed}
 use Rattle.chain_core.specs.sock_steps.proofs.HandSteps.{link_value}
 use Rattle.chain_core.specs.sock_steps.proofs.Reseat.{closing_law}
 use Rattle.sock_rule.specs.OnTable.{OnTable}
@@ -99,7 +99,7 @@ module _ {S : Type 0} {shows : S → Home} {rose : S → ℕ} {p : Plan} (s : St
       }
 
   -- the word of a place index is 0, or the place of a message that has it
-  pub place_of : (l : ℕ) → l < 8 * p.operations → (slice_index s.words (place_word p l) ≡ 0) ⊎ PlaceOf p t.rule.lawful.log s.words l
+  pub place_of : (l : ℕ) → l < 8 * p.operations → (slice_index s.words (place_index p l) ≡ 0) ⊎ PlaceOf p t.rule.lawful.log s.words l
   place_of l ll = elim (t.rule.lawful.delivered.shown l ll) [
     | no_place z h ↦ inl z
     | one_place k i e kl il g own z ↦ inr record { link = k; position = i; entry = e; dropped = nat_le (t.rule.lawful.kept k) i; inside = kl; there = g; own = own; word = z }

@@ -13,14 +13,14 @@ use Rattle.sock_model.specs.declared.view.View.{View}
 use Rattle.sock_model.specs.declared.view.Hand.{Hand}
 use Rattle.sock_model.specs.Weights.{total, only, is_recycling, is_recycled, is_met}
 use Rattle.sock_model.specs.Marks.{about}
-use Rattle.sock_model.specs.Layout.{link_word}
+use Rattle.sock_model.specs.Layout.{link_index}
 use Rattle.sock_model.specs.References.{slot_facts}
 use Rattle.sock_model.specs.Reads.{waits_of, carries, hands_of}
 use Rattle.sock_model.specs.SlotRows.{marks_of}
 use Rattle.sock_model.specs.ChainRows.{with_hand, without_hand, spent_hand}
-use Rattle.chain_core.specs.slot_laws.proofs.Numbers.{only-same}
-use Rattle.chain_core.specs.slot_laws.proofs.Slots.{recycled_le}
-use Rattle.chain_core.specs.slot_laws.proofs.Sums.{total_mono, term_le}
+use Rattle.chain_core.specs.slot_steps.proofs.Numbers.{only-same}
+use Rattle.chain_core.specs.slot_steps.proofs.Slots.{recycled_le}
+use Rattle.chain_core.specs.slot_steps.proofs.Sums.{total_mono, term_le}
 use Rattle.chain_core.specs.sock_steps.proofs.Places.{own_count}
 use Rattle.chain_core.specs.sock_steps.proofs.HandSteps.{take_last_law, put_hand_law, spend_law}
 use Rattle.chain_core.specs.sock_steps.proofs.RuleSteps.{take_rule, spend_rule, put_rule}
@@ -42,7 +42,7 @@ module _ {S : Type 0} (shows : S → Home) (rose : S → ℕ) (p : Plan) (slots 
 
   -- L1 of whoever recycled slot i
   pub takes_last : (i w k : ℕ) → i < p.slots → 0 < marks_of (is_recycled w) i v → 0 < marks_of (is_met (w - 2) k) i v → hands_of k v ≡ 0
-      → Allows (OnTable shows rose p) slots id me (link_word i) (λ n. n) (take_last_told shows rose (step slots (link_word i) 0 0 none) me)
+      → Allows (OnTable shows rose p) slots id me (link_index i) (λ n. n) (take_last_told shows rose (step slots (link_index i) 0 0 none) me)
   takes_last i w k inside there met empty s t long here fits = let o = t.rule.lawful in let law = o.references.slots i inside in
       let a = take_last_law shows p s o id v here i w k inside there met empty in
       let h : Hand = record { link = k; took = a.1; next = a.2 } in let hs : List (Option S) = set s.homes (p.requests + k) none in
@@ -54,7 +54,7 @@ module _ {S : Type 0} (shows : S → Home) (rose : S → ℕ) (p : Plan) (slots 
         fault_found (rose a.0) 0 k (with_hand v record { link = k; took = a.1; next = a.2 }),
         takes (p.requests + k) a.0,
         a.4,
-        loaded s (link_word i) id n hs
+        loaded s (link_index i) id n hs
             (beside_faults t id v n here some_ s.words hs (takes_link t.faults id v u here k a.0 low (omega (arith, t.housed)) s.words 0 a.4 refl (λ l. omega arith)) (length-set s.homes (p.requests + k) none) (alike_share p v u n record { share = refl; lists = refl; finds = refl; stores = λ x y. omega arith; accepts = λ l. omega arith; labels = λ x. x } alike) (home_settled t.settled (p.requests + k) _ (omega arith))
             (light_after shows p s id v u n here s.words hs alike mine (take_rule t.rule id v here mine h hs (a.6 none refl)))),
         λ x z l at some_z some_met. let e : i ≡ x = omega arith in

@@ -15,7 +15,7 @@ use Rattle.sock_model.specs.SlotRows.{met}
 use Rattle.sock_rule.specs.OnTable.{OnTable}
 use Rattle.sock_rule.specs.Rows.{NOTHING, finding, found_at}
 use Rattle.sock_rule.specs.Seated.{IsSeat}
-use Rattle.sock_model.specs.Layout.{name_word, open_word}
+use Rattle.sock_model.specs.Layout.{name_index, open_index}
 use Rattle.sock_rule.specs.Plays.{store_told, find_told, find_name_told}
 use Rattle.sock_rule.proofs.Storing.{stores_name, finds_name, stores_open, finds_open}
 use Rattle.sock_rule.proofs.Seating.{still_seat}
@@ -29,23 +29,23 @@ stored_id p v id word is inside known = let e : id ≡ word - 1 = omega arith in
 -- S6 and S7 on a table whose key is this plan
 module _ {S : Type 0} (shows : S → Home) (rose : S → ℕ) (q p : Plan) (slots id : ℕ) (me : Me S View) (key : q ≡ p) (mine : me.0.plan ≡ p) (some_ : 0 < me.0.share) where
   pub stores_name_on : (n word : ℕ) → n < p.names → word ≢ 0 → (word - 1) % 4294967296 < p.slots → 0 < marks_of (is_known ((word - 1) / 4294967296)) ((word - 1) % 4294967296) me.0
-      → Allows (OnTable shows rose q) slots id me (name_word p n) (λ _. word) (λ _. store_told (step slots (name_word p n) word 0 none) me word)
-  stores_name_on n word low some_word inside known = subst (λ (r : Plan). Allows (OnTable shows rose r) slots id me (name_word p n) (λ _. word) (λ _. store_told (step slots (name_word p n) word 0 none) me word)) (sym key) (stores_name shows rose p slots id me mine some_ n word low some_word inside known)
+      → Allows (OnTable shows rose q) slots id me (name_index p n) (λ _. word) (λ _. store_told (step slots (name_index p n) word 0 none) me word)
+  stores_name_on n word low some_word inside known = subst (λ (r : Plan). Allows (OnTable shows rose r) slots id me (name_index p n) (λ _. word) (λ _. store_told (step slots (name_index p n) word 0 none) me word)) (sym key) (stores_name shows rose p slots id me mine some_ n word low some_word inside known)
 
-  pub finds_name_on : (n : ℕ) → n < p.names → Allows (OnTable shows rose q) slots id me (name_word p n) (λ n. n) (find_name_told (step slots (name_word p n) 0 0 none) me)
-  finds_name_on n low = subst (λ (r : Plan). Allows (OnTable shows rose r) slots id me (name_word p n) (λ n. n) (find_name_told (step slots (name_word p n) 0 0 none) me)) (sym key) (finds_name shows rose p slots id me mine some_ n low)
+  pub finds_name_on : (n : ℕ) → n < p.names → Allows (OnTable shows rose q) slots id me (name_index p n) (λ n. n) (find_name_told (step slots (name_index p n) 0 0 none) me)
+  finds_name_on n low = subst (λ (r : Plan). Allows (OnTable shows rose r) slots id me (name_index p n) (λ n. n) (find_name_told (step slots (name_index p n) 0 0 none) me)) (sym key) (finds_name shows rose p slots id me mine some_ n low)
 
   pub stores_open_on : (n word : ℕ) → n < p.operations → word ≢ 0 → (word - 1) % 4294967296 < p.slots → 0 < marks_of (is_known ((word - 1) / 4294967296)) ((word - 1) % 4294967296) me.0
-      → Allows (OnTable shows rose q) slots id me (open_word p n) (λ _. word) (λ _. store_told (step slots (open_word p n) word 0 none) me word)
-  stores_open_on n word low some_word inside known = subst (λ (r : Plan). Allows (OnTable shows rose r) slots id me (open_word p n) (λ _. word) (λ _. store_told (step slots (open_word p n) word 0 none) me word)) (sym key)
+      → Allows (OnTable shows rose q) slots id me (open_index p n) (λ _. word) (λ _. store_told (step slots (open_index p n) word 0 none) me word)
+  stores_open_on n word low some_word inside known = subst (λ (r : Plan). Allows (OnTable shows rose r) slots id me (open_index p n) (λ _. word) (λ _. store_told (step slots (open_index p n) word 0 none) me word)) (sym key)
       (stores_open shows rose p slots id me mine some_ n word ((word - 1) % 4294967296) low some_word inside (inr (refl, known)))
 
-  pub stores_nothing_on : (n word : ℕ) → n < p.operations → 0 < p.slots → word ≡ NOTHING → Allows (OnTable shows rose q) slots id me (open_word p n) (λ _. word) (λ _. store_told (step slots (open_word p n) word 0 none) me word)
-  stores_nothing_on n word low some_slots is = subst (λ (r : Plan). Allows (OnTable shows rose r) slots id me (open_word p n) (λ _. word) (λ _. store_told (step slots (open_word p n) word 0 none) me word)) (sym key)
+  pub stores_nothing_on : (n word : ℕ) → n < p.operations → 0 < p.slots → word ≡ NOTHING → Allows (OnTable shows rose q) slots id me (open_index p n) (λ _. word) (λ _. store_told (step slots (open_index p n) word 0 none) me word)
+  stores_nothing_on n word low some_slots is = subst (λ (r : Plan). Allows (OnTable shows rose r) slots id me (open_index p n) (λ _. word) (λ _. store_told (step slots (open_index p n) word 0 none) me word)) (sym key)
       (stores_open shows rose p slots id me mine some_ n word 0 low (λ z. omega arith) some_slots (inl is))
 
-  pub finds_open_on : (n : ℕ) → n < p.operations → Allows (OnTable shows rose q) slots id me (open_word p n) (λ n. n) (find_told (step slots (open_word p n) 0 0 none) me)
-  finds_open_on n low = subst (λ (r : Plan). Allows (OnTable shows rose r) slots id me (open_word p n) (λ n. n) (find_told (step slots (open_word p n) 0 0 none) me)) (sym key) (finds_open shows rose p slots id me mine some_ n low)
+  pub finds_open_on : (n : ℕ) → n < p.operations → Allows (OnTable shows rose q) slots id me (open_index p n) (λ n. n) (find_told (step slots (open_index p n) 0 0 none) me)
+  finds_open_on n low = subst (λ (r : Plan). Allows (OnTable shows rose r) slots id me (open_index p n) (λ n. n) (find_told (step slots (open_index p n) 0 0 none) me)) (sym key) (finds_open shows rose p slots id me mine some_ n low)
 
 -- a seat stays one of the table, whatever it found
 pub found_seat : {S : Type 0} (z : TableId) (p : Plan) (s t : Seat S View) (x word : ℕ) → IsSeat z p s → t.table_id ≡ s.table_id → (all : List StoredWord) → t.me ≡ (found_at x word all s.me.0, s.me.1) → IsSeat z p t

@@ -15,10 +15,10 @@ use Rattle.sock_model.specs.declared.home.Home.TheVariants as home
 use Rattle.sock_model.specs.declared.view.View.{View}
 use Rattle.sock_model.specs.Deliveries.{place_value}
 use Rattle.sock_model.specs.Entries.{slot_of, generation_of}
-use Rattle.sock_model.specs.Layout.{ref_word, head_word, request_word, next_word, place_word}
+use Rattle.sock_model.specs.Layout.{ref_index, head_index, request_index, next_index, place_index}
 use Rattle.sock_model.specs.Memory.{IDLE, UNCONNECTED}
 use Rattle.sock_model.specs.Slots.{version_of}
-use Rattle.chain_core.specs.chain_laws.proofs.Frees.{Leads, to_end, to_next}
+use Rattle.chain_core.specs.chain_steps.proofs.Frees.{Leads, to_end, to_next}
 use Rattle.sock_rule.specs.Faults.{faults_of}
 use Rattle.sock_rule.specs.OnTable.{OnTable}
 use Rattle.sock_rule.specs.Seated.{IsSeat}
@@ -32,60 +32,60 @@ leads_by last now a b (ends _ e) = to_end now e
 leads_by last now a b (goes_on _ next) = to_next now next
 
 module _ {S : Type 0} (shows : S → Home) (rose : S → ℕ) (q p : Plan) (slots id : ℕ) (me : Me S View) (mine : me.0.plan ≡ p) (some_ : 0 < me.0.share) (key : q ≡ p) where
-  pub looks_on : (i word : ℕ) → word ≡ ref_word i → MayLookToWrite p i me.0 → Allows (OnTable shows rose q) slots id me word (λ n. n) (clean_told (step slots word 0 0 none) me)
+  pub looks_on : (i word : ℕ) → word ≡ ref_index i → MayLookToWrite p i me.0 → Allows (OnTable shows rose q) slots id me word (λ n. n) (clean_told (step slots word 0 0 none) me)
   looks_on i word e m = subst (λ (x : ℕ). Allows (OnTable shows rose q) slots id me x (λ n. n) (clean_told (step slots x 0 0 none) me)) (sym e)
-      (subst (λ (z : Plan). Allows (OnTable shows rose z) slots id me (ref_word i) (λ n. n) (clean_told (step slots (ref_word i) 0 0 none) me)) (sym key) (looks_clean shows rose p slots id me mine some_ m.right m.one i m.life m.holds))
+      (subst (λ (z : Plan). Allows (OnTable shows rose z) slots id me (ref_index i) (λ n. n) (clean_told (step slots (ref_index i) 0 0 none) me)) (sym key) (looks_clean shows rose p slots id me mine some_ m.right m.one i m.life m.holds))
 
-  pub places_on : (l k n word value : ℕ) → word ≡ place_word p l → value ≡ place_value false k n → MayStorePlace p l k n me.0 → Allows (OnTable shows rose q) slots id me word (λ _. value) (λ _. place_told (step slots word value 0 none) me value)
+  pub places_on : (l k n word value : ℕ) → word ≡ place_index p l → value ≡ place_value false k n → MayStorePlace p l k n me.0 → Allows (OnTable shows rose q) slots id me word (λ _. value) (λ _. place_told (step slots word value 0 none) me value)
   places_on l k n word value e v m = let r = m.right in
-      let same_word : place_word p m.right.heading.place ≡ word = ap (place_word p) m.place_is ∙ sym e in let same_value : place_value false m.right.link m.right.places ≡ value = (λ i. place_value false (m.link_is i) (m.places_are i)) ∙ sym v in
+      let same_word : place_index p m.right.heading.place ≡ word = ap (place_index p) m.place_is ∙ sym e in let same_value : place_value false m.right.link m.right.places ≡ value = (λ i. place_value false (m.link_is i) (m.places_are i)) ∙ sym v in
       subst (λ (y : ℕ). Allows (OnTable shows rose q) slots id me word (λ _. y) (λ _. place_told (step slots word y 0 none) me y)) same_value
       (subst (λ (x : ℕ). Allows (OnTable shows rose q) slots id me x (λ _. place_value false m.right.link m.right.places) (λ _. place_told (step slots x (place_value false m.right.link m.right.places) 0 none) me (place_value false m.right.link m.right.places))) same_word
-      (subst (λ (z : Plan). Allows (OnTable shows rose z) slots id me (place_word p m.right.heading.place) (λ _. place_value false m.right.link m.right.places) (λ _. place_told (step slots (place_word p m.right.heading.place) (place_value false m.right.link m.right.places) 0 none) me (place_value false m.right.link m.right.places))) (sym key)
+      (subst (λ (z : Plan). Allows (OnTable shows rose z) slots id me (place_index p m.right.heading.place) (λ _. place_value false m.right.link m.right.places) (λ _. place_told (step slots (place_index p m.right.heading.place) (place_value false m.right.link m.right.places) 0 none) me (place_value false m.right.link m.right.places))) (sym key)
       (places shows rose p slots id me mine some_ m.right m.one m.now m.stage m.taken m.clean m.away (subst (λ (x : ℕ). x < 8 * p.operations) (sym m.place_is) m.place_in) (subst (λ (x : ℕ). x < 65536) (sym m.link_is) m.link_fits))))
 
-  pub frees_on : (now word value : ℕ) → word ≡ request_word p (slot_of now) → value ≡ 2 * (generation_of now + 1) → generation_of now < 140737488355327 → MayFreeRequest now me → Allows (OnTable shows rose q) slots id me word (λ _. value) (λ _. free_request_told (step slots word value 0 none) me value)
+  pub frees_on : (now word value : ℕ) → word ≡ request_index p (slot_of now) → value ≡ 2 * (generation_of now + 1) → generation_of now < 140737488355327 → MayFreeRequest now me → Allows (OnTable shows rose q) slots id me word (λ _. value) (λ _. free_request_told (step slots word value 0 none) me value)
   frees_on now word value e v small m = subst (λ (y : ℕ). Allows (OnTable shows rose q) slots id me word (λ _. y) (λ _. free_request_told (step slots word y 0 none) me y)) (sym v)
       (subst (λ (x : ℕ). Allows (OnTable shows rose q) slots id me x (λ _. 2 * (generation_of now + 1)) (λ _. free_request_told (step slots x (2 * (generation_of now + 1)) 0 none) me (2 * (generation_of now + 1)))) (sym e)
-      (subst (λ (z : Plan). Allows (OnTable shows rose z) slots id me (request_word p (slot_of now)) (λ _. 2 * (generation_of now + 1)) (λ _. free_request_told (step slots (request_word p (slot_of now)) (2 * (generation_of now + 1)) 0 none) me (2 * (generation_of now + 1)))) (sym key)
+      (subst (λ (z : Plan). Allows (OnTable shows rose z) slots id me (request_index p (slot_of now)) (λ _. 2 * (generation_of now + 1)) (λ _. free_request_told (step slots (request_index p (slot_of now)) (2 * (generation_of now + 1)) 0 none) me (2 * (generation_of now + 1)))) (sym key)
       (frees shows rose p slots id me mine some_ m.right m.one now m.next m.value (rest me.1) (leads_by m.right.last now m.right.stage m.next m.follows) small m.home)))
 
   pub retires_on : (now word : ℕ) → generation_of now ≡ 140737488355327 → MayFreeRequest now me → Allows (OnTable shows rose q) slots id me word (λ n. n) (free_request_told (step slots word 0 0 none) me)
   retires_on now word last_one m = subst (λ (z : Plan). Allows (OnTable shows rose z) slots id me word (λ n. n) (free_request_told (step slots word 0 0 none) me)) (sym key)
       (retires shows rose p slots id me mine some_ m.right m.one word now m.next m.value (rest me.1) (leads_by m.right.last now m.right.stage m.next m.follows) last_one m.home)
 
-  pub drops_on : (l k n word value : ℕ) (y : ℕ × S) → word ≡ place_word p l → value ≡ place_value true k n → MayDropPlace p l k n (took_in (shows y.1)) me.0 → me.1 ≡ y ∷ rest me.1 → Allows (OnTable shows rose q) slots id me word (λ _. value) (λ _. drop_told shows (step slots word value 0 none) me value)
+  pub drops_on : (l k n word value : ℕ) (y : ℕ × S) → word ≡ place_index p l → value ≡ place_value true k n → MayDropPlace p l k n (took_in (shows y.1)) me.0 → me.1 ≡ y ∷ rest me.1 → Allows (OnTable shows rose q) slots id me word (λ _. value) (λ _. drop_told shows (step slots word value 0 none) me value)
   drops_on l k n word value y e v m top = let r = m.right in
-      let same_word : place_word p m.right.heading.place ≡ word = ap (place_word p) m.place_is ∙ sym e in let same_value : place_value true m.right.link m.right.places ≡ value = (λ i. place_value true (m.link_is i) (m.places_are i)) ∙ sym v in
+      let same_word : place_index p m.right.heading.place ≡ word = ap (place_index p) m.place_is ∙ sym e in let same_value : place_value true m.right.link m.right.places ≡ value = (λ i. place_value true (m.link_is i) (m.places_are i)) ∙ sym v in
       subst (λ (x : ℕ). Allows (OnTable shows rose q) slots id me word (λ _. x) (λ _. drop_told shows (step slots word x 0 none) me x)) same_value
       (subst (λ (x : ℕ). Allows (OnTable shows rose q) slots id me x (λ _. place_value true m.right.link m.right.places) (λ _. drop_told shows (step slots x (place_value true m.right.link m.right.places) 0 none) me (place_value true m.right.link m.right.places))) same_word
-      (subst (λ (z : Plan). Allows (OnTable shows rose z) slots id me (place_word p m.right.heading.place) (λ _. place_value true m.right.link m.right.places) (λ _. drop_told shows (step slots (place_word p m.right.heading.place) (place_value true m.right.link m.right.places) 0 none) me (place_value true m.right.link m.right.places))) (sym key)
+      (subst (λ (z : Plan). Allows (OnTable shows rose z) slots id me (place_index p m.right.heading.place) (λ _. place_value true m.right.link m.right.places) (λ _. drop_told shows (step slots (place_index p m.right.heading.place) (place_value true m.right.link m.right.places) 0 none) me (place_value true m.right.link m.right.places))) (sym key)
       (drops shows rose p slots id me mine some_ m.right m.one m.now m.slot m.life y m.stage m.taken m.away (subst (λ (x : ℕ). x < 8 * p.operations) (sym m.place_is) m.place_in) m.part top m.holds m.seen)))
 
   pub puts_on : (r : Right) (word k : ℕ) (y : S) (below : List (ℕ × S)) → me.0.rights ≡ r ∷ [] → r.link ≡ k → me.1 ≡ (p.requests + k, y) ∷ below → shows y ≡ home.Link k r.sent r.places false → r.at_home ≡ false → (0 < faults_of k me.0 → 0 < rose y) → Allows (OnTable shows rose q) slots id me word (λ n. n) (put_own_told (step slots word 0 0 none) me)
   puts_on r word k y below one is top shown gone known = subst (λ (z : Plan). Allows (OnTable shows rose z) slots id me word (λ n. n) (put_own_told (step slots word 0 0 none) me)) (sym key)
       (puts_own shows rose p slots id me mine some_ r one word y below (top ∙ ap (λ (x : ℕ). (p.requests + x, y) ∷ below) (sym is)) (shown ∙ ap (λ (x : ℕ). home.Link x r.sent r.places false) (sym is)) gone (subst (λ (x : ℕ). 0 < faults_of x me.0 → 0 < rose y) (sym is) known))
 
-  pub empties_on : (i last word old new : ℕ) → word ≡ head_word i → old ≡ last → new ≡ IDLE + last → MayEmptyHead p i last me.0 → Allows (OnTable shows rose q) slots id me word (λ n. either (eqb n old) new n) (empty_told (step slots word old new none) me)
+  pub empties_on : (i last word old new : ℕ) → word ≡ head_index i → old ≡ last → new ≡ IDLE + last → MayEmptyHead p i last me.0 → Allows (OnTable shows rose q) slots id me word (λ n. either (eqb n old) new n) (empty_told (step slots word old new none) me)
   empties_on i last word old new e o w m = let lo : m.right.last ≡ old = m.last_is ∙ sym o in let nw : IDLE + m.right.last ≡ new = ap (λ (x : ℕ). IDLE + x) m.last_is ∙ sym w in
       subst (λ (y : ℕ). Allows (OnTable shows rose q) slots id me word (λ n. either (eqb n old) y n) (empty_told (step slots word old y none) me)) nw
       (subst (λ (y : ℕ). Allows (OnTable shows rose q) slots id me word (λ n. either (eqb n y) (IDLE + m.right.last) n) (empty_told (step slots word y (IDLE + m.right.last) none) me)) lo
       (subst (λ (x : ℕ). Allows (OnTable shows rose q) slots id me x (λ n. either (eqb n m.right.last) (IDLE + m.right.last) n) (empty_told (step slots x m.right.last (IDLE + m.right.last) none) me)) (sym e)
-      (subst (λ (z : Plan). Allows (OnTable shows rose z) slots id me (head_word i) (λ n. either (eqb n m.right.last) (IDLE + m.right.last) n) (empty_told (step slots (head_word i) m.right.last (IDLE + m.right.last) none) me)) (sym key)
+      (subst (λ (z : Plan). Allows (OnTable shows rose z) slots id me (head_index i) (λ n. either (eqb n m.right.last) (IDLE + m.right.last) n) (empty_told (step slots (head_index i) m.right.last (IDLE + m.right.last) none) me)) (sym key)
       (empties shows rose p slots id me mine some_ m.right m.one i m.life m.stage m.home m.holds))))
 
 module _ {S : Type 0} (shows : S → Home) (rose : S → ℕ) (q p : Plan) (slots id : ℕ) (me : Me S View) (mine : me.0.plan ≡ p) (some_ : 0 < me.0.share) (key : q ≡ p) where
-  pub reads_on_on : (now word : ℕ) → word ≡ next_word p (slot_of now) → MayReadOn now me.0 → Allows (OnTable shows rose q) slots id me word (λ n. n) (read_next_told (step slots word 0 0 none) me)
+  pub reads_on_on : (now word : ℕ) → word ≡ next_index p (slot_of now) → MayReadOn now me.0 → Allows (OnTable shows rose q) slots id me word (λ n. n) (read_next_told (step slots word 0 0 none) me)
   reads_on_on now word e m = subst (λ (x : ℕ). Allows (OnTable shows rose q) slots id me x (λ n. n) (read_next_told (step slots x 0 0 none) me)) (sym e)
-      (subst (λ (z : Plan). Allows (OnTable shows rose z) slots id me (next_word p (slot_of now)) (λ n. n) (read_next_told (step slots (next_word p (slot_of now)) 0 0 none) me)) (sym key) (reads_on shows rose p slots id me mine some_ m.right m.one now m.stage m.more))
+      (subst (λ (z : Plan). Allows (OnTable shows rose z) slots id me (next_index p (slot_of now)) (λ n. n) (read_next_told (step slots (next_index p (slot_of now)) 0 0 none) me)) (sym key) (reads_on shows rose p slots id me mine some_ m.right m.one now m.stage m.more))
 
-  pub reads_back_on : (at word : ℕ) → word ≡ next_word p (slot_of at) → MayReadBack at me.0 → Allows (OnTable shows rose q) slots id me word (λ n. n) (read_next_told (step slots word 0 0 none) me)
+  pub reads_back_on : (at word : ℕ) → word ≡ next_index p (slot_of at) → MayReadBack at me.0 → Allows (OnTable shows rose q) slots id me word (λ n. n) (read_next_told (step slots word 0 0 none) me)
   reads_back_on at word e m = subst (λ (x : ℕ). Allows (OnTable shows rose q) slots id me x (λ n. n) (read_next_told (step slots x 0 0 none) me)) (sym e)
-      (subst (λ (z : Plan). Allows (OnTable shows rose z) slots id me (next_word p (slot_of at)) (λ n. n) (read_next_told (step slots (next_word p (slot_of at)) 0 0 none) me)) (sym key) (reads_back shows rose p slots id me mine some_ m.right m.one m.top at m.after m.stage))
+      (subst (λ (z : Plan). Allows (OnTable shows rose z) slots id me (next_index p (slot_of at)) (λ n. n) (read_next_told (step slots (next_index p (slot_of at)) 0 0 none) me)) (sym key) (reads_back shows rose p slots id me mine some_ m.right m.one m.top at m.after m.stage))
 
-  pub turns_on : (at word value : ℕ) → word ≡ next_word p (slot_of at) → MayTurnNext at value me.0 → Allows (OnTable shows rose q) slots id me word (λ _. value) (λ _. turn_told (step slots word value 0 none) me value)
+  pub turns_on : (at word value : ℕ) → word ≡ next_index p (slot_of at) → MayTurnNext at value me.0 → Allows (OnTable shows rose q) slots id me word (λ _. value) (λ _. turn_told (step slots word value 0 none) me value)
   turns_on at word value e m = subst (λ (x : ℕ). Allows (OnTable shows rose q) slots id me x (λ _. value) (λ _. turn_told (step slots x value 0 none) me value)) (sym e)
-      (subst (λ (z : Plan). Allows (OnTable shows rose z) slots id me (next_word p (slot_of at)) (λ _. value) (λ _. turn_told (step slots (next_word p (slot_of at)) value 0 none) me value)) (sym key) (turns shows rose p slots id me mine some_ m.right m.one m.top at value m.before m.stage))
+      (subst (λ (z : Plan). Allows (OnTable shows rose z) slots id me (next_index p (slot_of at)) (λ _. value) (λ _. turn_told (step slots (next_index p (slot_of at)) value 0 none) me value)) (sym key) (turns shows rose p slots id me mine some_ m.right m.one m.top at value m.before m.stage))
 
 pub read_back_seat : {S : Type 0} (z : TableId) (p : Plan) (s t : Seat S View) (r : Right) (top at after found : ℕ) → IsSeat z p s → t.table_id ≡ s.table_id → ReadBack r top at after found s.me t.me → IsSeat z p t
 read_back_seat {S} z p s t r top at after found is same a = dite (ℕ_discrete found UNCONNECTED) (λ waits. still_seat z p s t _ is same (a.0 waits) refl refl) (λ there. still_seat z p s t _ is same ((a.1 there).0) refl refl)

@@ -18,18 +18,18 @@ use Rattle.sock_model.specs.declared.view.StoredWord.{StoredWord}
 use Rattle.sock_model.specs.Weights.{total, is_born, is_reset}
 use Rattle.sock_model.specs.Marks.{about, latest}
 use Rattle.sock_model.specs.Entries.{on}
-use Rattle.sock_model.specs.Layout.{name_word, open_word, place_word}
+use Rattle.sock_model.specs.Layout.{name_index, open_index, place_index}
 use Rattle.sock_model.specs.Slots.{SlotFacts, live, count, SlotLaw}
 use Rattle.sock_model.specs.SlotRows.{wrote}
 use Rattle.sock_model.specs.References.{uses_of, sayers, spare, slot_facts, Names, Stores, References}
 use Rattle.sock_model.specs.Deliveries.{no_place, one_place}
 use Rattle.sock_model.specs.Lawful.{Lawful}
 use Rattle.sock_model.specs.Rule.{lists_of, Rule}
-use Rattle.chain_core.specs.chain_laws.proofs.Letters.{writes_room}
-use Rattle.chain_core.specs.chain_laws.proofs.Lists.{at_length, at_some}
-use Rattle.chain_core.specs.slot_laws.proofs.Numbers.{only-at, only-else, pair_only, pair_is, pair-at}
-use Rattle.chain_core.specs.slot_laws.proofs.Stored.{noted-else}
-use Rattle.chain_core.specs.slot_laws.proofs.Sums.{total-set, term_le}
+use Rattle.chain_core.specs.chain_steps.proofs.Letters.{writes_room}
+use Rattle.chain_core.specs.chain_steps.proofs.Lists.{at_length, at_some}
+use Rattle.chain_core.specs.slot_steps.proofs.Numbers.{only-at, only-else, pair_only, pair_is, pair-at}
+use Rattle.chain_core.specs.slot_steps.proofs.Stored.{noted-else}
+use Rattle.chain_core.specs.slot_steps.proofs.Sums.{total-set, term_le}
 use Rattle.chain_core.specs.sock_steps.proofs.Maps.{put, put-at, put-else, set_at, set_twice}
 use Rattle.chain_core.specs.sock_steps.proofs.RightSteps.{right_in, right_alone}
 use Rattle.chain_core.specs.sock_steps.proofs.RuleFrame.{lasts_all, same_rule}
@@ -73,10 +73,10 @@ module _ {S : Type 0} (shows : S → Home) (p : Plan) (s : State S View) (id : �
     slots = λ i l. subst (λ (y : SlotFacts). SlotLaw p.first (live y) y) (sym (local_same i)) (law.slots i l);
     links = λ k. omega (arith, total-set (uses_of k) s.views id v w here, law.links k);
     named = record {
-      names = λ n l. names_same (get_or s.words (name_word p n) 0) (law.named.names n l);
-      opens = λ n l ne. names_same (get_or s.words (open_word p n) 0) (law.named.opens n l ne);
-      names_by = λ n l. stores_same (name_word p n) (λ e. omega arith) (law.named.names_by n l);
-      opens_by = λ n l. stores_same (open_word p n) (λ e. omega arith) (law.named.opens_by n l);
+      names = λ n l. names_same (get_or s.words (name_index p n) 0) (law.named.names n l);
+      opens = λ n l ne. names_same (get_or s.words (open_index p n) 0) (law.named.opens n l ne);
+      names_by = λ n l. stores_same (name_index p n) (λ e. omega arith) (law.named.names_by n l);
+      opens_by = λ n l. stores_same (open_index p n) (λ e. omega arith) (law.named.opens_by n l);
     };
   }
 
@@ -112,17 +112,17 @@ module _ {S : Type 0} {shows : S → Home} {rose : S → ℕ} {p : Plan} {s : St
       ]
 
   -- so no message with this index was dropped before, where it is that of one message
-  no_drop : total (labelled_in r.heading.place) s.views ≤ 1 → (n : ℕ) → 0 < total (put_in (place_word p r.heading.place) n) s.views → ⊥
+  no_drop : total (labelled_in r.heading.place) s.views ≤ 1 → (n : ℕ) → 0 < total (put_in (place_index p r.heading.place) n) s.views → ⊥
   no_drop one_ n some_ = let a = (t.drops r.heading.place low).stays one_ n some_ in let z = placed_twice (λ e. (let b = a.0 in let c = a.1 in omega arith)) in omega arith
 
   -- P1 of a message that its link took whole
-  pub places_beside : (value : ℕ) (w : View) → value < DROPPED → 0 < v.share → SameShare p v w → Calm v w → w.lists ≡ v.lists → Settled p t.stored (put t.placed r.heading.place value) (set s.words (place_word p r.heading.place) value) s.homes
-      → Rule shows p record { words = set s.words (place_word p r.heading.place) value; homes = s.homes; views = set s.views id w }
-      → OnTable shows rose p record { words = set s.words (place_word p r.heading.place) value; homes = s.homes; views = set s.views id w }
-  places_beside value w small some_ same c lists kept rule = beside_placed t id v w here some_ (set s.words (place_word p r.heading.place) value) s.homes (put t.placed r.heading.place value) drops (λ k kl. calm id v w here (set s.words (place_word p r.heading.place) value) s.homes k (t.faults k kl) refl (c.faults k) (c.outs k)) refl same kept rule
+  pub places_beside : (value : ℕ) (w : View) → value < DROPPED → 0 < v.share → SameShare p v w → Calm v w → w.lists ≡ v.lists → Settled p t.stored (put t.placed r.heading.place value) (set s.words (place_index p r.heading.place) value) s.homes
+      → Rule shows p record { words = set s.words (place_index p r.heading.place) value; homes = s.homes; views = set s.views id w }
+      → OnTable shows rose p record { words = set s.words (place_index p r.heading.place) value; homes = s.homes; views = set s.views id w }
+  places_beside value w small some_ same c lists kept rule = beside_placed t id v w here some_ (set s.words (place_index p r.heading.place) value) s.homes (put t.placed r.heading.place value) drops (λ k kl. calm id v w here (set s.words (place_index p r.heading.place) value) s.homes k (t.faults k kl) refl (c.faults k) (c.outs k)) refl same kept rule
     where
-      puts : (l n : ℕ) → total (put_in (place_word p l) n) s.views ≡ total (put_in (place_word p l) n) (set s.views id w)
-      puts l n = omega (arith, total-set (put_in (place_word p l) n) s.views id v w here, same.stores (place_word p l) n)
+      puts : (l n : ℕ) → total (put_in (place_index p l) n) s.views ≡ total (put_in (place_index p l) n) (set s.views id w)
+      puts l n = omega (arith, total-set (put_in (place_index p l) n) s.views id v w here, same.stores (place_index p l) n)
 
       labels : (l : ℕ) → total (labelled_in l) s.views ≡ total (labelled_in l) (set s.views id w)
       labels l = omega (arith, total-set (labelled_in l) s.views id v w here, ap (total (total (is_labelled l))) lists)
@@ -130,27 +130,27 @@ module _ {S : Type 0} {shows : S → Home} {rose : S → ℕ} {p : Plan} {s : St
       drops : (l : ℕ) → l < 8 * p.operations → IsDropKept p (set s.views id w) l (put t.placed r.heading.place value l)
       drops l ll = dite (ℕ_discrete l r.heading.place)
           (λ e. subst (IsDropKept p (set s.views id w) l) (sym (put-at t.placed r.heading.place l value e))
-          record { told = λ high. absurd (omega arith); stays = λ one_ n there. absurd (no_drop (omega (arith, labels l, ap (λ (y : ℕ). total (labelled_in y) s.views) e)) n (omega (arith, puts l n, ap (λ (y : ℕ). total (put_in (place_word p y) n) s.views) e))) })
+          record { told = λ high. absurd (omega arith); stays = λ one_ n there. absurd (no_drop (omega (arith, labels l, ap (λ (y : ℕ). total (labelled_in y) s.views) e)) n (omega (arith, puts l n, ap (λ (y : ℕ). total (put_in (place_index p y) n) s.views) e))) })
           (λ ne. subst (IsDropKept p (set s.views id w) l) (sym (put-else t.placed r.heading.place l value ne)) (drop_stays p s.views (set s.views id w) l (t.placed l) (puts l) (omega (arith, labels l)) (t.drops l ll)))
 
   -- P1 of one that is dropped, which the seat notes
-  pub drops_beside : (value : ℕ) (u : View) → DROPPED ≤ value → 0 < v.share → u.plan ≡ p → SameShare p v u → Calm v u → u.lists ≡ v.lists → place_word p r.heading.place < length s.words
-      → ((noted : List StoredWord) → ((y : ℕ) → y < 6 * p.slots + p.names + p.operations → latest y noted ≡ latest y t.stored) → Settled p noted (put t.placed r.heading.place value) (set s.words (place_word p r.heading.place) value) s.homes)
-      → Rule shows p record { words = set s.words (place_word p r.heading.place) value; homes = s.homes; views = set s.views id u }
-      → OnTable shows rose p record { words = set s.words (place_word p r.heading.place) value; homes = s.homes; views = set s.views id (wrote (place_word p r.heading.place) value u) }
-  drops_beside value u high some_ mine same c lists long kept rule = let w : View = wrote (place_word p r.heading.place) value u in record {
-    rule = subst (λ vs. Rule shows p record { words = set s.words (place_word p r.heading.place) value; homes = s.homes; views = vs }) (set_twice s.views id u w)
-        (noted_rule shows p record { words = set s.words (place_word p r.heading.place) value; homes = s.homes; views = set s.views id u } id u (set_at s.views id u (at_length s.views id v here)) (place_word p r.heading.place) value (omega arith) rule mine);
+  pub drops_beside : (value : ℕ) (u : View) → DROPPED ≤ value → 0 < v.share → u.plan ≡ p → SameShare p v u → Calm v u → u.lists ≡ v.lists → place_index p r.heading.place < length s.words
+      → ((noted : List StoredWord) → ((y : ℕ) → y < 6 * p.slots + p.names + p.operations → latest y noted ≡ latest y t.stored) → Settled p noted (put t.placed r.heading.place value) (set s.words (place_index p r.heading.place) value) s.homes)
+      → Rule shows p record { words = set s.words (place_index p r.heading.place) value; homes = s.homes; views = set s.views id u }
+      → OnTable shows rose p record { words = set s.words (place_index p r.heading.place) value; homes = s.homes; views = set s.views id (wrote (place_index p r.heading.place) value u) }
+  drops_beside value u high some_ mine same c lists long kept rule = let w : View = wrote (place_index p r.heading.place) value u in record {
+    rule = subst (λ vs. Rule shows p record { words = set s.words (place_index p r.heading.place) value; homes = s.homes; views = vs }) (set_twice s.views id u w)
+        (noted_rule shows p record { words = set s.words (place_index p r.heading.place) value; homes = s.homes; views = set s.views id u } id u (set_at s.views id u (at_length s.views id v here)) (place_index p r.heading.place) value (omega arith) rule mine);
     housed = t.housed;
     shares = (let a = t.shares in omega (arith, same.share, total-set share_of s.views id v w here));
     listed = λ j z g. ⊎_elim (λ y. subst (λ (q : View). lists_of q ≤ q.share) y.1 (omega (arith, t.listed id v here, same.lists, same.share))) (λ y. t.listed j z y.1) (at_set s.views id j w z g);
     idle = λ j z g none_. ⊎_elim (λ y. absurd (omega (arith, ap (λ (q : View). q.share) y.1, same.share))) (λ y. t.idle j z y.1 none_) (at_set s.views id j w z g);
-    stored = noting_drop (place_word p r.heading.place) value ∷ t.stored;
+    stored = noting_drop (place_index p r.heading.place) value ∷ t.stored;
     put = λ y z. omega (arith, t.put y z, puts y z);
     placed = put t.placed r.heading.place value;
     drops = drops;
-    faults = λ k kl. calm id v w here (set s.words (place_word p r.heading.place) value) s.homes k (t.faults k kl) refl (c.faults k) (c.outs k);
-    settled = kept (noting_drop (place_word p r.heading.place) value ∷ t.stored) (λ y low_. ap (λ b. cond b value (latest y t.stored)) (ne_eqb (place_word p r.heading.place) y (λ e. omega arith)));
+    faults = λ k kl. calm id v w here (set s.words (place_index p r.heading.place) value) s.homes k (t.faults k kl) refl (c.faults k) (c.outs k);
+    settled = kept (noting_drop (place_index p r.heading.place) value ∷ t.stored) (λ y low_. ap (λ b. cond b value (latest y t.stored)) (ne_eqb (place_index p r.heading.place) y (λ e. omega arith)));
     met = λ j z g n h e. further h (⊎_elim (λ y. t.met id v here n h (subst (λ (l : List (List StoredWord)). get_elem? l n ≡ some h) (ap (λ (q : List StoredWord × List (List StoredWord)). q.1) same.finds) (subst (λ (q : View). get_elem? q.histories n ≡ some h) (sym y.1) e)))
         (λ y. t.met j z y.1 n h e) (at_set s.views id j w z g));
     labelled = λ j z g. ⊎_elim (λ y. subst (Labelled p) y.1 (same.labels (t.labelled id v here))) (λ y. t.labelled j z y.1) (at_set s.views id j w z g);
@@ -158,23 +158,23 @@ module _ {S : Type 0} {shows : S → Home} {rose : S → ℕ} {p : Plan} {s : St
         (λ y. omega (arith, t.found_was j z y.1 n f e, puts f.place f.word)) (at_set s.views id j w z g);
   }
     where
-      puts : (y z : ℕ) → is_put y z (noting_drop (place_word p r.heading.place) value) + total (put_in y z) s.views ≡ total (put_in y z) (set s.views id (wrote (place_word p r.heading.place) value u))
-      puts y z = omega (arith, total-set (put_in y z) s.views id v (wrote (place_word p r.heading.place) value u) here, wrote_more (place_word p r.heading.place) value y z u, same.stores y z)
+      puts : (y z : ℕ) → is_put y z (noting_drop (place_index p r.heading.place) value) + total (put_in y z) s.views ≡ total (put_in y z) (set s.views id (wrote (place_index p r.heading.place) value u))
+      puts y z = omega (arith, total-set (put_in y z) s.views id v (wrote (place_index p r.heading.place) value u) here, wrote_more (place_index p r.heading.place) value y z u, same.stores y z)
 
-      further : (h : List StoredWord) → Follows t.stored h → Follows (noting_drop (place_word p r.heading.place) value ∷ t.stored) h
-      further h g = (noting_drop (place_word p r.heading.place) value ∷ g.0, ap (λ (l : List StoredWord). noting_drop (place_word p r.heading.place) value ∷ l) g.1)
+      further : (h : List StoredWord) → Follows t.stored h → Follows (noting_drop (place_index p r.heading.place) value ∷ t.stored) h
+      further h g = (noting_drop (place_index p r.heading.place) value ∷ g.0, ap (λ (l : List StoredWord). noting_drop (place_index p r.heading.place) value ∷ l) g.1)
 
-      labels : (l : ℕ) → total (labelled_in l) s.views ≡ total (labelled_in l) (set s.views id (wrote (place_word p r.heading.place) value u))
-      labels l = omega (arith, total-set (labelled_in l) s.views id v (wrote (place_word p r.heading.place) value u) here, ap (total (total (is_labelled l))) lists)
+      labels : (l : ℕ) → total (labelled_in l) s.views ≡ total (labelled_in l) (set s.views id (wrote (place_index p r.heading.place) value u))
+      labels l = omega (arith, total-set (labelled_in l) s.views id v (wrote (place_index p r.heading.place) value u) here, ap (total (total (is_labelled l))) lists)
 
-      drops : (l : ℕ) → l < 8 * p.operations → IsDropKept p (set s.views id (wrote (place_word p r.heading.place) value u)) l (put t.placed r.heading.place value l)
+      drops : (l : ℕ) → l < 8 * p.operations → IsDropKept p (set s.views id (wrote (place_index p r.heading.place) value u)) l (put t.placed r.heading.place value l)
       drops l ll = dite (ℕ_discrete l r.heading.place)
-          (λ e. subst (IsDropKept p (set s.views id (wrote (place_word p r.heading.place) value u)) l) (sym (put-at t.placed r.heading.place l value e)) record {
-            told = λ h. omega (arith, puts (place_word p l) value, pair-at (place_word p l) value (place_word p r.heading.place) value (ap (place_word p) (sym e)) refl);
+          (λ e. subst (IsDropKept p (set s.views id (wrote (place_index p r.heading.place) value u)) l) (sym (put-at t.placed r.heading.place l value e)) record {
+            told = λ h. omega (arith, puts (place_index p l) value, pair-at (place_index p l) value (place_index p r.heading.place) value (ap (place_index p) (sym e)) refl);
             stays = λ one_ n there. dite (ℕ_discrete value n) (λ y. (y, (let z = high in omega arith)))
-                (λ ne. absurd (dite (ℕ_discrete (total (put_in (place_word p l) n) s.views) 0)
-                (λ none_. ne (pair_is (place_word p l) n (place_word p r.heading.place) value (omega (arith, puts (place_word p l) n))).1)
-                (λ some_. no_drop (omega (arith, labels l, ap (λ (y : ℕ). total (labelled_in y) s.views) e)) n (omega (arith, ap (λ (y : ℕ). total (put_in (place_word p y) n) s.views) e)))));
+                (λ ne. absurd (dite (ℕ_discrete (total (put_in (place_index p l) n) s.views) 0)
+                (λ none_. ne (pair_is (place_index p l) n (place_index p r.heading.place) value (omega (arith, puts (place_index p l) n))).1)
+                (λ some_. no_drop (omega (arith, labels l, ap (λ (y : ℕ). total (labelled_in y) s.views) e)) n (omega (arith, ap (λ (y : ℕ). total (put_in (place_index p y) n) s.views) e)))));
           })
-          (λ ne. subst (IsDropKept p (set s.views id (wrote (place_word p r.heading.place) value u)) l) (sym (put-else t.placed r.heading.place l value ne))
-          (drop_stays p s.views (set s.views id (wrote (place_word p r.heading.place) value u)) l (t.placed l) (λ n. omega (arith, puts (place_word p l) n, pair_only (place_word p l) n (place_word p r.heading.place) value, only-else (place_word p l) (place_word p r.heading.place) (λ e. ne (omega arith)))) (omega (arith, labels l)) (t.drops l ll)))
+          (λ ne. subst (IsDropKept p (set s.views id (wrote (place_index p r.heading.place) value u)) l) (sym (put-else t.placed r.heading.place l value ne))
+          (drop_stays p s.views (set s.views id (wrote (place_index p r.heading.place) value u)) l (t.placed l) (λ n. omega (arith, puts (place_index p l) n, pair_only (place_index p l) n (place_index p r.heading.place) value, only-else (place_index p l) (place_index p r.heading.place) (λ e. ne (omega arith)))) (omega (arith, labels l)) (t.drops l ll)))

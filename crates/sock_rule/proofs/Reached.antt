@@ -15,19 +15,19 @@ use Rattle.sock_model.specs.declared.home.Home.{Home}
 use Rattle.sock_model.specs.declared.view.View.{View}
 use Rattle.sock_model.specs.Authors.{pick}
 use Rattle.sock_model.specs.Entries.{ticket, slot_of, on, nth}
-use Rattle.sock_model.specs.Layout.{request_word}
+use Rattle.sock_model.specs.Layout.{request_index}
 use Rattle.sock_model.specs.Reads.{as_link, letter_of, shown, memory, message, claims_of, loose_at, tokens}
 use Rattle.sock_model.specs.Memory.{Memory}
 use Rattle.sock_model.specs.Tokens.{Tokens}
 use Rattle.sock_model.specs.Writing.{Counts, Held, InStage, OnWalk, Standing, absent, idle, busy}
 use Rattle.sock_model.specs.Lawful.{Lawful}
-use Rattle.chain_core.specs.chain_laws.proofs.Lists.{at_some, at_length, ticket_at_is}
-use Rattle.chain_core.specs.chain_laws.proofs.Frames.{in_size, live_same, chains_frame}
-use Rattle.chain_core.specs.chain_laws.proofs.Frees.{Leads, to_end, to_next}
-use Rattle.chain_core.specs.chain_laws.proofs.Gather.{gather_same}
-use Rattle.chain_core.specs.chain_laws.proofs.Claims.{free_of}
-use Rattle.chain_core.specs.chain_laws.proofs.Heads.{held_of, slot_is}
-use Rattle.chain_core.specs.chain_laws.proofs.Letters.{writes_room}
+use Rattle.chain_core.specs.chain_steps.proofs.Lists.{at_some, at_length, ticket_at_is}
+use Rattle.chain_core.specs.chain_steps.proofs.Frames.{in_size, live_same, chains_frame}
+use Rattle.chain_core.specs.chain_steps.proofs.Frees.{Leads, to_end, to_next}
+use Rattle.chain_core.specs.chain_steps.proofs.Gather.{gather_same}
+use Rattle.chain_core.specs.chain_steps.proofs.Claims.{free_of}
+use Rattle.chain_core.specs.chain_steps.proofs.Heads.{held_of, slot_is}
+use Rattle.chain_core.specs.chain_steps.proofs.Letters.{writes_room}
 use Rattle.chain_core.specs.sock_steps.proofs.Words.{beside_all}
 use Rattle.chain_core.specs.sock_steps.proofs.ChainFrame.{SameSlots}
 use Rattle.chain_core.specs.sock_steps.proofs.ClaimSteps.{rights_stay, other_base}
@@ -86,7 +86,7 @@ module _ {S : Type 0} {shows : S → Home} {p : Plan} {s : State S View} (o : La
     writes_ticket now stage = let f = held.fits in let st = in_stage (Writes now) stage in let some_ = st.2 in entry_ticket r.link (o.freed r.link) now (omega (arith, f.1, f.2, f.3, some_)) st.3
 
     -- the request of the next message is taken
-    pub writes_taken : (now : ℕ) → r.stage ≡ Writes now → get_or s.words (request_word p (slot_of now)) 0 % 2 ≡ 1
+    pub writes_taken : (now : ℕ) → r.stage ≡ Writes now → get_or s.words (request_index p (slot_of now)) 0 % 2 ≡ 1
     writes_taken now stage = let f = held.fits in let st = in_stage (Writes now) stage in let some_ = st.2 in let e = at_some (on r.link o.log) (o.freed r.link) (omega (arith, f.1, f.2, f.3, some_)) in
         let size = in_size o.chains r.link (o.freed r.link) e.0 e.1 in let narrow = o.fits.narrow in let z = size.1 in let small : e.0.request < 65535 = omega arith in
         let tick : ticket e.0 ≡ now = sym (ticket_at_is (on r.link o.log) (o.freed r.link) e.0 e.1) ∙ st.3 in
@@ -118,8 +118,8 @@ module _ {S : Type 0} {shows : S → Home} {p : Plan} {s : State S View} (o : La
         entry_ticket r.link (held.counts.left - 1) a (omega (arith, f.2, f.3, some_)) (ap (nth (on r.link o.log)) back ∙ walk.at_is)
 
   -- the generation of a request that isn't taken
-  pub free_generation : (r : ℕ) → r < p.requests → get_or s.words (request_word p r) 0 % 2 ≡ 0 → get_or s.words (request_word p r) 0 / 2 < 140737488355328
-  free_generation r rl even = let u = o.chains.in_use r rl in let f = free_of o.chains r (get_or s.words (request_word p r) 0 / 2) u (omega arith) in let w = f.word in omega (arith, u.small)
+  pub free_generation : (r : ℕ) → r < p.requests → get_or s.words (request_index p r) 0 % 2 ≡ 0 → get_or s.words (request_index p r) 0 / 2 < 140737488355328
+  free_generation r rl even = let u = o.chains.in_use r rl in let f = free_of o.chains r (get_or s.words (request_index p r) 0 / 2) u (omega arith) in let w = f.word in omega (arith, u.small)
 
   -- ## A home that no message needs
 
@@ -143,9 +143,9 @@ module _ {S : Type 0} {shows : S → Home} {p : Plan} {s : State S View} (o : La
       no_claim q c e h = one_not_none c (sym h ∙ (ap (tokens s.views).claims e ∙ unclaimed))
 
   -- as that of a request that isn't taken
-  pub free_home_law : (id : ℕ) (v : View) → get_elem? s.views id ≡ some v → (r : ℕ) (z : Option S) → r < p.requests → get_or s.words (request_word p r) 0 % 2 ≡ 0
+  pub free_home_law : (id : ℕ) (v : View) → get_elem? s.views id ≡ some v → (r : ℕ) (z : Option S) → r < p.requests → get_or s.words (request_index p r) 0 % 2 ≡ 0
       → Lawful shows p record { words = s.words; homes = set s.homes r z; views = set s.views id v }
-  free_home_law id v here r z rl even = let f = free_of o.chains r (get_or s.words (request_word p r) 0 / 2) (o.chains.in_use r rl) (omega arith) in
+  free_home_law id v here r z rl even = let f = free_of o.chains r (get_or s.words (request_index p r) 0 / 2) (o.chains.in_use r rl) (omega arith) in
       home_law id v here r z f.unclaimed (λ k i e late g q. (let l = (o.chains.live k i e (freed_first k i e g late) g).0 in let w = ap (memory p o.slot s.words).request q in omega arith)) rl
 
   -- as that of the entry that has its place, whose request isn't given back yet

@@ -13,13 +13,13 @@ use Rattle.sock_model.specs.declared.home.Home.TheVariants.{Link}
 use Rattle.sock_model.specs.declared.view.View.{View}
 use Rattle.sock_model.specs.declared.view.StoredWord.{StoredWord}
 use Rattle.sock_model.specs.Weights.{total}
-use Rattle.sock_model.specs.Layout.{place_word}
+use Rattle.sock_model.specs.Layout.{place_index}
 use Rattle.sock_model.specs.Reads.{carries, as_link, shown, link_at}
 use Rattle.sock_model.specs.Seats.{newcomer, carrier, earliest, later, joined, spent, first_view}
 use Rattle.sock_model.specs.Rule.{lists_of, Rule}
-use Rattle.chain_core.specs.chain_laws.proofs.Lists.{at_length}
-use Rattle.chain_core.specs.slot_laws.proofs.Sums.{total-set, total-append}
-use Rattle.chain_core.specs.slot_laws.proofs.Seats.{passes-left}
+use Rattle.chain_core.specs.chain_steps.proofs.Lists.{at_length}
+use Rattle.chain_core.specs.slot_steps.proofs.Sums.{total-set, total-append}
+use Rattle.chain_core.specs.slot_steps.proofs.Seats.{passes-left}
 use Rattle.chain_core.specs.sock_steps.proofs.Maps.{set_at, set_twice}
 use Rattle.chain_core.specs.sock_steps.proofs.Reseat.{opening_law}
 use Rattle.chain_core.specs.sock_steps.proofs.RuleSeats.{opening_rule, splitting_rule, joining_rule}
@@ -103,7 +103,7 @@ module _ {S : Type 0} (shows : S → Home) (rose : S → ℕ) (p : Plan) (id : �
         stored = t.stored;
         put = λ x w. t.put x w ∙ more x w;
         placed = t.placed;
-        drops = λ l ll. drop_stays p s.views (set s.views id left ++ right ∷ []) l (t.placed l) (λ n. more (place_word p l) n) (omega (arith, total-append (labelled_in l) first (right ∷ []), total-set (labelled_in l) s.views id v left here, accepts l)) (t.drops l ll);
+        drops = λ l ll. drop_stays p s.views (set s.views id left ++ right ∷ []) l (t.placed l) (λ n. more (place_index p l) n) (omega (arith, total-append (labelled_in l) first (right ∷ []), total-set (labelled_in l) s.views id v left here, accepts l)) (t.drops l ll);
         faults = λ k kl. split_faults id v left right here k (t.faults k kl) (calm.faults k) (calm.outs k) (none_noted k).0 (none_noted k).1;
         settled = t.settled;
         met = λ j u g n h e. ⊎_elim
@@ -155,7 +155,7 @@ module _ {S : Type 0} (shows : S → Home) (rose : S → ℕ) (p : Plan) (id : �
         stored = t.stored;
         put = λ x y. t.put x y ∙ more x y;
         placed = t.placed;
-        drops = λ l ll. drop_stays p s.views (set first other spent) l (t.placed l) (λ n. more (place_word p l) n) (omega (arith, total-set (labelled_in l) s.views id v both here, total-set (labelled_in l) first other w spent there, total-append (total (is_labelled l)) v.lists w.lists)) (t.drops l ll);
+        drops = λ l ll. drop_stays p s.views (set first other spent) l (t.placed l) (λ n. more (place_index p l) n) (omega (arith, total-set (labelled_in l) s.views id v both here, total-set (labelled_in l) first other w spent there, total-append (total (is_labelled l)) v.lists w.lists)) (t.drops l ll);
         faults = λ k kl. join_faults id other v w (joined v w) spent here there k (t.faults k kl) (total-append (faults_link k) v.marks w.marks) refl (omega (arith, ap (total (away k)) done.bare.rights, ap (total (carries k)) done.bare.hands)) refl refl;
         settled = t.settled;
         met = λ j u g n h e. ⊎_elim (λ y. absurd (some-ne-none h (sym (subst (λ (z : View). get_elem? z.histories n ≡ some h) (sym y.1) e))))

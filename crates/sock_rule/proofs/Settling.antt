@@ -9,7 +9,7 @@ use Rattle.atomic_table.proofs.Lists.{set_else}
 use Rattle.sock_words.specs.declared.plain.Plan.{Plan}
 use Rattle.sock_model.specs.declared.view.StoredWord.{StoredWord}
 use Rattle.sock_model.specs.Marks.{latest}
-use Rattle.sock_model.specs.Layout.{code_word, request_word, next_word, place_word}
+use Rattle.sock_model.specs.Layout.{code_index, request_index, next_index, place_index}
 use Rattle.chain_core.specs.sock_steps.proofs.Maps.{put, put-at, put-else, set_at}
 use Rattle.sock_rule.specs.OnTable.{Settled}
 
@@ -19,20 +19,20 @@ module _ {S : Type 0} {p : Plan} {stored : List StoredWord} {placed : ℕ → �
   still_named x n other y high low = get_or-set_other ws x y n 0 (other y high low) ∙ t.names y high low
 
   -- and so does the word of a place index
-  still_placed : (x n : ℕ) → ((l : ℕ) → place_word p l ≢ x) → (l : ℕ) → l < 8 * p.operations → get_or (set ws x n) (place_word p l) 0 ≡ placed l
-  still_placed x n other l low = get_or-set_other ws x (place_word p l) n 0 (other l) ∙ t.places l low
+  still_placed : (x n : ℕ) → ((l : ℕ) → place_index p l ≢ x) → (l : ℕ) → l < 8 * p.operations → get_or (set ws x n) (place_index p l) 0 ≡ placed l
+  still_placed x n other l low = get_or-set_other ws x (place_index p l) n 0 (other l) ∙ t.places l low
 
   -- a word that is neither a code nor a request's, nor one of a name, an operation or a place index
-  pub other_settled : (x n : ℕ) → ((i : ℕ) → i < p.slots → code_word i ≢ x) → ((r : ℕ) → r < p.requests → request_word p r ≢ x) → ((y : ℕ) → 6 * p.slots ≤ y → y < 6 * p.slots + p.names + p.operations → y ≢ x) → ((l : ℕ) → place_word p l ≢ x) → Settled p stored placed (set ws x n) hs
+  pub other_settled : (x n : ℕ) → ((i : ℕ) → i < p.slots → code_index i ≢ x) → ((r : ℕ) → r < p.requests → request_index p r ≢ x) → ((y : ℕ) → 6 * p.slots ≤ y → y < 6 * p.slots + p.names + p.operations → y ≢ x) → ((l : ℕ) → place_index p l ≢ x) → Settled p stored placed (set ws x n) hs
   other_settled x n code request other place = record {
     names = still_named x n other;
     places = still_placed x n place;
-    codes = λ i il. subst (λ (y : ℕ). y < 4096) (sym (get_or-set_other ws x (code_word i) n 0 (code i il))) (t.codes i il);
-    present = λ r rl even. t.present r rl (sym (ap (λ (y : ℕ). y % 2) (get_or-set_other ws x (request_word p r) n 0 (request r rl))) ∙ even);
+    codes = λ i il. subst (λ (y : ℕ). y < 4096) (sym (get_or-set_other ws x (code_index i) n 0 (code i il))) (t.codes i il);
+    present = λ r rl even. t.present r rl (sym (ap (λ (y : ℕ). y % 2) (get_or-set_other ws x (request_index p r) n 0 (request r rl))) ∙ even);
   }
 
   -- a word of a slot, but for its code
-  pub slot_settled : (x n : ℕ) → x < 6 * p.slots → ((i : ℕ) → code_word i ≢ x) → Settled p stored placed (set ws x n) hs
+  pub slot_settled : (x n : ℕ) → x < 6 * p.slots → ((i : ℕ) → code_index i ≢ x) → Settled p stored placed (set ws x n) hs
   slot_settled x n low code = other_settled x n (λ i il. code i) (λ r rl e. omega arith) (λ y yh yl e. omega arith) (λ l e. omega arith)
 
   -- a word of a name or an operation, which is then what was stored there last
@@ -42,33 +42,33 @@ module _ {S : Type 0} {p : Plan} {stored : List StoredWord} {placed : ℕ → �
         (λ e. subst (λ (z : ℕ). get_or (set ws x n) z 0 ≡ latest z (record { place = x; word = n } ∷ stored)) (sym e) (get_or-set_same ws x n 0 long ∙ sym (ap (λ b. cond b n (latest x stored)) (eq-eqb x x refl))))
         (λ ne. get_or-set_other ws x y n 0 ne ∙ (t.names y yh yl ∙ sym (ap (λ b. cond b n (latest y stored)) (ne_eqb x y (λ e. ne (sym e))))));
     places = still_placed x n (λ l e. omega arith);
-    codes = λ i il. subst (λ (y : ℕ). y < 4096) (sym (get_or-set_other ws x (code_word i) n 0 (λ e. omega arith))) (t.codes i il);
-    present = λ r rl even. t.present r rl (sym (ap (λ (y : ℕ). y % 2) (get_or-set_other ws x (request_word p r) n 0 (λ e. omega arith))) ∙ even);
+    codes = λ i il. subst (λ (y : ℕ). y < 4096) (sym (get_or-set_other ws x (code_index i) n 0 (λ e. omega arith))) (t.codes i il);
+    present = λ r rl even. t.present r rl (sym (ap (λ (y : ℕ). y % 2) (get_or-set_other ws x (request_index p r) n 0 (λ e. omega arith))) ∙ even);
   }
 
   -- a next word
-  pub next_settled : (q n : ℕ) → q < p.requests → Settled p stored placed (set ws (next_word p q) n) hs
-  next_settled q n low = other_settled (next_word p q) n (λ i il e. omega arith) (λ r rl e. omega arith) (λ y yh yl e. omega arith) (λ l e. omega arith)
+  pub next_settled : (q n : ℕ) → q < p.requests → Settled p stored placed (set ws (next_index p q) n) hs
+  next_settled q n low = other_settled (next_index p q) n (λ i il e. omega arith) (λ r rl e. omega arith) (λ y yh yl e. omega arith) (λ l e. omega arith)
 
   -- the word of a place index, which is looked at from then on; the note of it may be one of those that were stored
-  pub place_settled : (l n : ℕ) (noted : List StoredWord) → ((y : ℕ) → y < 6 * p.slots + p.names + p.operations → latest y noted ≡ latest y stored) → place_word p l < length ws → Settled p noted (put placed l n) (set ws (place_word p l) n) hs
+  pub place_settled : (l n : ℕ) (noted : List StoredWord) → ((y : ℕ) → y < 6 * p.slots + p.names + p.operations → latest y noted ≡ latest y stored) → place_index p l < length ws → Settled p noted (put placed l n) (set ws (place_index p l) n) hs
   place_settled l n noted same long = record {
-    names = λ y yh yl. still_named (place_word p l) n (λ z zh zl e. omega arith) y yh yl ∙ sym (same y yl);
+    names = λ y yh yl. still_named (place_index p l) n (λ z zh zl e. omega arith) y yh yl ∙ sym (same y yl);
     places = λ m ml. dite (ℕ_discrete m l)
-        (λ e. ap (λ (z : ℕ). get_or (set ws (place_word p l) n) (place_word p z) 0) e ∙ (get_or-set_same ws (place_word p l) n 0 long ∙ sym (put-at placed l m n e)))
-        (λ ne. get_or-set_other ws (place_word p l) (place_word p m) n 0 (λ e. ne (omega arith)) ∙ (t.places m ml ∙ sym (put-else placed l m n ne)));
-    codes = λ i il. subst (λ (y : ℕ). y < 4096) (sym (get_or-set_other ws (place_word p l) (code_word i) n 0 (λ e. omega arith))) (t.codes i il);
-    present = λ r rl even. t.present r rl (sym (ap (λ (y : ℕ). y % 2) (get_or-set_other ws (place_word p l) (request_word p r) n 0 (λ e. omega arith))) ∙ even);
+        (λ e. ap (λ (z : ℕ). get_or (set ws (place_index p l) n) (place_index p z) 0) e ∙ (get_or-set_same ws (place_index p l) n 0 long ∙ sym (put-at placed l m n e)))
+        (λ ne. get_or-set_other ws (place_index p l) (place_index p m) n 0 (λ e. ne (omega arith)) ∙ (t.places m ml ∙ sym (put-else placed l m n ne)));
+    codes = λ i il. subst (λ (y : ℕ). y < 4096) (sym (get_or-set_other ws (place_index p l) (code_index i) n 0 (λ e. omega arith))) (t.codes i il);
+    present = λ r rl even. t.present r rl (sym (ap (λ (y : ℕ). y % 2) (get_or-set_other ws (place_index p l) (request_index p r) n 0 (λ e. omega arith))) ∙ even);
   }
 
-  pub code_settled : (i n : ℕ) → i < p.slots → n < 4096 → code_word i < length ws → Settled p stored placed (set ws (code_word i) n) hs
+  pub code_settled : (i n : ℕ) → i < p.slots → n < 4096 → code_index i < length ws → Settled p stored placed (set ws (code_index i) n) hs
   code_settled i n il fits long = record {
-    names = still_named (code_word i) n (λ y yh yl e. omega arith);
-    places = still_placed (code_word i) n (λ l e. omega arith);
+    names = still_named (code_index i) n (λ y yh yl e. omega arith);
+    places = still_placed (code_index i) n (λ l e. omega arith);
     codes = λ j jl. dite (ℕ_discrete j i)
-        (λ e. subst (λ (y : ℕ). get_or (set ws (code_word i) n) (code_word y) 0 < 4096) (sym e) (subst (λ (y : ℕ). y < 4096) (sym (get_or-set_same ws (code_word i) n 0 long)) fits))
-        (λ ne. subst (λ (y : ℕ). y < 4096) (sym (get_or-set_other ws (code_word i) (code_word j) n 0 (λ e. ne (omega arith)))) (t.codes j jl));
-    present = λ r rl even. t.present r rl (sym (ap (λ (y : ℕ). y % 2) (get_or-set_other ws (code_word i) (request_word p r) n 0 (λ e. omega arith))) ∙ even);
+        (λ e. subst (λ (y : ℕ). get_or (set ws (code_index i) n) (code_index y) 0 < 4096) (sym e) (subst (λ (y : ℕ). y < 4096) (sym (get_or-set_same ws (code_index i) n 0 long)) fits))
+        (λ ne. subst (λ (y : ℕ). y < 4096) (sym (get_or-set_other ws (code_index i) (code_index j) n 0 (λ e. ne (omega arith)))) (t.codes j jl));
+    present = λ r rl even. t.present r rl (sym (ap (λ (y : ℕ). y % 2) (get_or-set_other ws (code_index i) (request_index p r) n 0 (λ e. omega arith))) ∙ even);
   }
 
   -- a word that is loaded stays
@@ -85,14 +85,14 @@ module _ {S : Type 0} {p : Plan} {stored : List StoredWord} {placed : ℕ → �
   }
 
   -- a request's home comes back, with any word
-  pub back_settled : (r n : ℕ) (y : S) → r < p.requests → r < length hs → Settled p stored placed (set ws (request_word p r) n) (set hs r (some y))
+  pub back_settled : (r n : ℕ) (y : S) → r < p.requests → r < length hs → Settled p stored placed (set ws (request_index p r) n) (set hs r (some y))
   back_settled r n y low long = record {
-    names = still_named (request_word p r) n (λ y yh yl e. omega arith);
-    places = still_placed (request_word p r) n (λ l e. omega arith);
-    codes = λ i il. subst (λ (z : ℕ). z < 4096) (sym (get_or-set_other ws (request_word p r) (code_word i) n 0 (λ e. omega arith))) (t.codes i il);
+    names = still_named (request_index p r) n (λ y yh yl e. omega arith);
+    places = still_placed (request_index p r) n (λ l e. omega arith);
+    codes = λ i il. subst (λ (z : ℕ). z < 4096) (sym (get_or-set_other ws (request_index p r) (code_index i) n 0 (λ e. omega arith))) (t.codes i il);
     present = λ q ql even. dite (ℕ_discrete q r)
         (λ e. (y, ap (get_elem? (set hs r (some y))) e ∙ set_at hs r (some y) long))
-        (λ ne. let z = t.present q ql (sym (ap (λ (w : ℕ). w % 2) (get_or-set_other ws (request_word p r) (request_word p q) n 0 (λ e. ne (omega arith)))) ∙ even) in (z.0, set_else hs r q (some y) ne ∙ z.1));
+        (λ ne. let z = t.present q ql (sym (ap (λ (w : ℕ). w % 2) (get_or-set_other ws (request_index p r) (request_index p q) n 0 (λ e. ne (omega arith)))) ∙ even) in (z.0, set_else hs r q (some y) ne ∙ z.1));
   }
 
   pub home_back_settled : (r : ℕ) (y : S) → r < length hs → Settled p stored placed ws (set hs r (some y))
@@ -104,20 +104,20 @@ module _ {S : Type 0} {p : Plan} {stored : List StoredWord} {placed : ℕ → �
   }
 
   -- a request is taken, and its home goes
-  pub taken_settled : (r n : ℕ) → r < p.requests → n % 2 ≡ 1 → request_word p r < length ws → Settled p stored placed (set ws (request_word p r) n) (set hs r none)
+  pub taken_settled : (r n : ℕ) → r < p.requests → n % 2 ≡ 1 → request_index p r < length ws → Settled p stored placed (set ws (request_index p r) n) (set hs r none)
   taken_settled r n low odd long = record {
-    names = still_named (request_word p r) n (λ y yh yl e. omega arith);
-    places = still_placed (request_word p r) n (λ l e. omega arith);
-    codes = λ i il. subst (λ (z : ℕ). z < 4096) (sym (get_or-set_other ws (request_word p r) (code_word i) n 0 (λ e. omega arith))) (t.codes i il);
+    names = still_named (request_index p r) n (λ y yh yl e. omega arith);
+    places = still_placed (request_index p r) n (λ l e. omega arith);
+    codes = λ i il. subst (λ (z : ℕ). z < 4096) (sym (get_or-set_other ws (request_index p r) (code_index i) n 0 (λ e. omega arith))) (t.codes i il);
     present = λ q ql even. dite (ℕ_discrete q r)
-        (λ e. let w : get_or (set ws (request_word p r) n) (request_word p q) 0 ≡ n = subst (λ (y : ℕ). get_or (set ws (request_word p r) n) (request_word p y) 0 ≡ n) (sym e) (get_or-set_same ws (request_word p r) n 0 long) in let o = ap (λ (y : ℕ). y % 2) w in absurd (omega arith))
-        (λ ne. let z = t.present q ql (sym (ap (λ (w : ℕ). w % 2) (get_or-set_other ws (request_word p r) (request_word p q) n 0 (λ e. ne (omega arith)))) ∙ even) in (z.0, set_else hs r q none ne ∙ z.1));
+        (λ e. let w : get_or (set ws (request_index p r) n) (request_index p q) 0 ≡ n = subst (λ (y : ℕ). get_or (set ws (request_index p r) n) (request_index p y) 0 ≡ n) (sym e) (get_or-set_same ws (request_index p r) n 0 long) in let o = ap (λ (y : ℕ). y % 2) w in absurd (omega arith))
+        (λ ne. let z = t.present q ql (sym (ap (λ (w : ℕ). w % 2) (get_or-set_other ws (request_index p r) (request_index p q) n 0 (λ e. ne (omega arith)))) ∙ even) in (z.0, set_else hs r q none ne ∙ z.1));
   }
 
-  pub home_taken_settled : (r : ℕ) → get_or ws (request_word p r) 0 % 2 ≡ 1 → Settled p stored placed ws (set hs r none)
+  pub home_taken_settled : (r : ℕ) → get_or ws (request_index p r) 0 % 2 ≡ 1 → Settled p stored placed ws (set hs r none)
   home_taken_settled r odd = record {
     names = t.names;
     places = t.places;
     codes = t.codes;
-    present = λ q ql even. dite (ℕ_discrete q r) (λ e. let w = ap (λ (y : ℕ). get_or ws (request_word p y) 0 % 2) e in absurd (omega arith)) (λ ne. let z = t.present q ql even in (z.0, set_else hs r q none ne ∙ z.1));
+    present = λ q ql even. dite (ℕ_discrete q r) (λ e. let w = ap (λ (y : ℕ). get_or ws (request_index p y) 0 % 2) e in absurd (omega arith)) (λ ne. let z = t.present q ql even in (z.0, set_else hs r q none ne ∙ z.1));
   }

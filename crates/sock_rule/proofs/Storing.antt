@@ -12,15 +12,15 @@ use Rattle.sock_model.specs.declared.view.View.{View}
 use Rattle.sock_model.specs.declared.marks.Mark.{Mark}
 use Rattle.sock_model.specs.Marks.{about}
 use Rattle.sock_model.specs.Weights.{total, tally, only, is_busy, is_recycling, is_stage, is_recycled, is_hold, is_known, is_coding, is_told, is_met}
-use Rattle.sock_model.specs.Layout.{link_word, head_word, code_word, name_word, open_word}
+use Rattle.sock_model.specs.Layout.{link_index, head_index, code_index, name_index, open_index}
 use Rattle.sock_model.specs.Memory.{IDLE}
 use Rattle.sock_model.specs.References.{slot_facts, Names, Stores}
 use Rattle.sock_model.specs.SlotRows.{marks_of, linked, staged, coded, told_code, met, met_link}
 use Rattle.sock_model.specs.Rule.{Lasting, of_name, of_open, noting, Rule}
-use Rattle.chain_core.specs.slot_laws.proofs.Clauses.{link_held, code_stays}
-use Rattle.chain_core.specs.slot_laws.proofs.Numbers.{live_le}
-use Rattle.chain_core.specs.slot_laws.proofs.Slots.{recycled_le}
-use Rattle.chain_core.specs.slot_laws.proofs.Sums.{total_mono}
+use Rattle.chain_core.specs.slot_steps.proofs.Clauses.{link_held, code_stays}
+use Rattle.chain_core.specs.slot_steps.proofs.Numbers.{live_le}
+use Rattle.chain_core.specs.slot_steps.proofs.Slots.{recycled_le}
+use Rattle.chain_core.specs.slot_steps.proofs.Sums.{total_mono}
 use Rattle.atomic_table.proofs.Lists.{at_map}
 use Rattle.chain_core.specs.sock_steps.proofs.Places.{own_count}
 use Rattle.chain_core.specs.sock_steps.proofs.SlotSteps.{idle_law}
@@ -36,14 +36,14 @@ use Rattle.sock_rule.proofs.Finds.{was_put, finds_beside, puts_beside, found_his
 
 -- the link of a life that a seat holds, and of one that it ended, is one of the table
 module _ {S : Type 0} {shows : S → Home} {rose : S → ℕ} {p : Plan} (s : State S View) (t : OnTable shows rose p s) (id : ℕ) (u : View) (here : get_elem? s.views id ≡ some u) (i : ℕ) (inside : i < p.slots) where
-  pub held_linked : (h : ℕ) → 0 < marks_of (is_hold h) i u → get_or s.words (link_word i) 0 < p.links
+  pub held_linked : (h : ℕ) → 0 < marks_of (is_hold h) i u → get_or s.words (link_index i) 0 < p.links
   held_linked h held = let law = t.rule.lawful.references.slots i inside in
       let its = link_held p.first (slot_facts s i) law id (about i u.marks) (at_map (λ (y : View). about i y.marks) s.views id u here) h held in
-      t.rule.lawful.in_slots.small i h (get_or s.words (link_word i) 0) record { inside = inside; given = its }
+      t.rule.lawful.in_slots.small i h (get_or s.words (link_index i) 0) record { inside = inside; given = its }
 
-  last_linked : (w : ℕ) → 0 < marks_of (is_recycled w) i u → get_or s.words (link_word i) 0 < p.links
+  last_linked : (w : ℕ) → 0 < marks_of (is_recycled w) i u → get_or s.words (link_index i) 0 < p.links
   last_linked w there = let law = t.rule.lawful.references.slots i inside in let a = own_count s id u here is_recycling i in let b = total_mono (is_recycled w) is_recycling (recycled_le w) (about i u.marks) in
-      t.rule.lawful.in_slots.small i ((slot_facts s i).version - 2) (get_or s.words (link_word i) 0) record { inside = inside; given = law.link_last (omega arith) }
+      t.rule.lawful.in_slots.small i ((slot_facts s i).version - 2) (get_or s.words (link_index i) 0) record { inside = inside; given = law.link_last (omega arith) }
 
 module _ {S : Type 0} (shows : S → Home) (rose : S → ℕ) (p : Plan) (slots id : ℕ) (me : Me S View) (mine : me.0.plan ≡ p) (some_ : 0 < me.0.share) where
   abbrev v : View
@@ -51,12 +51,12 @@ module _ {S : Type 0} (shows : S → Home) (rose : S → ℕ) (p : Plan) (slots 
 
   module _ (i : ℕ) (inside : i < p.slots) where
     -- S1
-    pub links : (k : ℕ) → 0 < marks_of (is_stage 0 0) i v → 0 < total (only k) v.passes → Allows (OnTable shows rose p) slots id me (link_word i) (λ _. k) (λ _. link_told (step slots (link_word i) k 0 none) me k)
+    pub links : (k : ℕ) → 0 < marks_of (is_stage 0 0) i v → 0 < total (only k) v.passes → Allows (OnTable shows rose p) slots id me (link_index i) (λ _. k) (λ _. link_told (step slots (link_index i) k 0 none) me k)
     links k there pass s t long here fits = (
       linked i k v,
       keeps,
       tt,
-      beside t id v (linked i k v) here some_ (set s.words (link_word i) k) s.homes (refl, λ l ll. refl) record { share = refl; lists = refl; finds = refl; stores = λ x y. omega arith; accepts = λ l. omega arith; labels = λ x. x } record { faults = λ l. linked_same l i v k; outs = λ l. omega arith } (slot_settled t.settled _ _ (omega arith) (λ j e. omega arith)) (link_rule t.rule id v here mine i inside k there pass),
+      beside t id v (linked i k v) here some_ (set s.words (link_index i) k) s.homes (refl, λ l ll. refl) record { share = refl; lists = refl; finds = refl; stores = λ x y. omega arith; accepts = λ l. omega arith; labels = λ x. x } record { faults = λ l. linked_same l i v k; outs = λ l. omega arith } (slot_settled t.settled _ _ (omega arith) (λ j e. omega arith)) (link_rule t.rule id v here mine i inside k there pass),
       λ x at. let e : i ≡ x = omega arith in ap (λ (y : ℕ). (linked y k v, me.1)) e,
     )
 
@@ -75,7 +75,7 @@ module _ {S : Type 0} (shows : S → Home) (rose : S → ℕ) (p : Plan) (slots 
     coding_is s t here h g a b = let law = t.rule.lawful.references.slots i inside in let c = (law.codes id (about i me.0.marks) (at_map (λ (y : View). about i y.marks) s.views id me.0 here)).1 in let x = c h a in let y = c g b in held_is s t here h g x.0 y.0
 
     -- the link that it met for the life that it holds stands in the slot
-    pub met_is : (s : State S View) → OnTable shows rose p s → get_elem? s.views id ≡ some me.0 → (h l : ℕ) → 0 < marks_of (is_hold h) i me.0 → 0 < marks_of (is_met h l) i me.0 → get_or s.words (link_word i) 0 ≡ l
+    pub met_is : (s : State S View) → OnTable shows rose p s → get_elem? s.views id ≡ some me.0 → (h l : ℕ) → 0 < marks_of (is_hold h) i me.0 → 0 < marks_of (is_met h l) i me.0 → get_or s.words (link_index i) 0 ≡ l
     met_is s t here h l held met = let law = t.rule.lawful.references.slots i inside in
         let lk = law.met h l (omega (arith, own_count s id me.0 here (is_met h l) i)) in let hh = law.held h (omega (arith, own_count s id me.0 here (is_hold h) i)) in let hh₀ = hh.0 in
         law.link_is h l lk (omega (arith, live_le (slot_facts s i).tag (slot_facts s i).version (tally is_busy (slot_facts s i).marks)))
@@ -84,13 +84,13 @@ module _ {S : Type 0} (shows : S → Home) (rose : S → ℕ) (p : Plan) (slots 
     at_slot f x e there = subst (λ (y : ℕ). 0 < marks_of f y me.0) (sym e) there
 
     -- S2
-    pub meets : (h : ℕ) → 0 < marks_of (is_hold h) i v → Allows (OnTable shows rose p) slots id me (link_word i) (λ n. n) (meet_told (step slots (link_word i) 0 0 none) me)
-    meets h there s t long here fits = let k : ℕ = get_or s.words (link_word i) 0 in let refs = t.rule.lawful.references in let law = refs.slots i inside in
+    pub meets : (h : ℕ) → 0 < marks_of (is_hold h) i v → Allows (OnTable shows rose p) slots id me (link_index i) (λ n. n) (meet_told (step slots (link_index i) 0 0 none) me)
+    meets h there s t long here fits = let k : ℕ = get_or s.words (link_index i) 0 in let refs = t.rule.lawful.references in let law = refs.slots i inside in
         let its = held_linked s t id v here i inside h there in (
           met_link i h k v,
           keeps,
           tt,
-          beside t id v (met_link i h k v) here some_ (set s.words (link_word i) k) s.homes (refl, λ l ll. refl) record { share = refl; lists = refl; finds = refl; stores = λ x y. omega arith; accepts = λ l. omega arith; labels = λ x. x } record { faults = λ l. omega arith; outs = λ l. omega arith } (slot_settled t.settled _ _ (omega arith) (λ j e. omega arith)) (meet_rule t.rule id v here mine i inside h there),
+          beside t id v (met_link i h k v) here some_ (set s.words (link_index i) k) s.homes (refl, λ l ll. refl) record { share = refl; lists = refl; finds = refl; stores = λ x y. omega arith; accepts = λ l. omega arith; labels = λ x. x } record { faults = λ l. omega arith; outs = λ l. omega arith } (slot_settled t.settled _ _ (omega arith) (λ j e. omega arith)) (meet_rule t.rule id v here mine i inside h there),
           λ x g at other. let e : i ≡ x = omega arith in let same : h ≡ g = held_is s t here h g there (at_slot (is_hold g) x e other) in (
             (λ q. (met_link (e q) (same q) k v, me.1)),
             (λ l mt. let m1 : 0 < marks_of (is_met g l) i v = at_slot (is_met g l) x e mt in let hg : 0 < marks_of (is_hold g) i v = at_slot (is_hold g) x e other in
@@ -101,91 +101,91 @@ module _ {S : Type 0} (shows : S → Home) (rose : S → ℕ) (p : Plan) (slots 
         )
 
     -- S2 of whoever recycled the slot
-    pub meets_last : (w : ℕ) → 0 < marks_of (is_recycled w) i v → Allows (OnTable shows rose p) slots id me (link_word i) (λ n. n) (meet_last_told (step slots (link_word i) 0 0 none) me)
-    meets_last w there s t long here fits = let k : ℕ = get_or s.words (link_word i) 0 in let its = last_linked s t id v here i inside w there in (
+    pub meets_last : (w : ℕ) → 0 < marks_of (is_recycled w) i v → Allows (OnTable shows rose p) slots id me (link_index i) (λ n. n) (meet_last_told (step slots (link_index i) 0 0 none) me)
+    meets_last w there s t long here fits = let k : ℕ = get_or s.words (link_index i) 0 in let its = last_linked s t id v here i inside w there in (
       met_link i (w - 2) k v,
       keeps,
       tt,
-      beside t id v (met_link i (w - 2) k v) here some_ (set s.words (link_word i) k) s.homes (refl, λ l ll. refl) record { share = refl; lists = refl; finds = refl; stores = λ x y. omega arith; accepts = λ l. omega arith; labels = λ x. x } record { faults = λ l. omega arith; outs = λ l. omega arith } (slot_settled t.settled _ _ (omega arith) (λ j e. omega arith)) (meet_last_rule t.rule id v here mine i inside w there),
+      beside t id v (met_link i (w - 2) k v) here some_ (set s.words (link_index i) k) s.homes (refl, λ l ll. refl) record { share = refl; lists = refl; finds = refl; stores = λ x y. omega arith; accepts = λ l. omega arith; labels = λ x. x } record { faults = λ l. omega arith; outs = λ l. omega arith } (slot_settled t.settled _ _ (omega arith) (λ j e. omega arith)) (meet_last_rule t.rule id v here mine i inside w there),
       λ x g at other. let e : i ≡ x = omega arith in let same : w ≡ g = last_is s t here w g there (at_slot (is_recycled g) x e other) in ((λ q. (met_link (e q) (same q - 2) k v, me.1)), subst (λ (q : Plan). k < q.links) (sym mine) its),
     )
 
     -- S3
-    pub resets : (k : ℕ) → 0 < marks_of (is_stage 1 k) i v → Allows (OnTable shows rose p) slots id me (head_word i) (λ _. IDLE) (λ _. reset_told (step slots (head_word i) IDLE 0 none) me IDLE)
+    pub resets : (k : ℕ) → 0 < marks_of (is_stage 1 k) i v → Allows (OnTable shows rose p) slots id me (head_index i) (λ _. IDLE) (λ _. reset_told (step slots (head_index i) IDLE 0 none) me IDLE)
     resets k there s t long here fits = (
       staged i 1 k 2 v,
       keeps,
       tt,
-      beside t id v (staged i 1 k 2 v) here some_ (set s.words (head_word i) IDLE) s.homes (refl, λ l ll. refl) record { share = refl; lists = refl; finds = refl; stores = λ x y. omega arith; accepts = λ l. omega arith; labels = λ x. x } record { faults = λ l. staged_same l i v 1 k 2; outs = λ l. omega arith } (slot_settled t.settled _ _ (omega arith) (λ j e. omega arith)) (reset_rule t.rule id v here mine i inside k there),
+      beside t id v (staged i 1 k 2 v) here some_ (set s.words (head_index i) IDLE) s.homes (refl, λ l ll. refl) record { share = refl; lists = refl; finds = refl; stores = λ x y. omega arith; accepts = λ l. omega arith; labels = λ x. x } record { faults = λ l. staged_same l i v 1 k 2; outs = λ l. omega arith } (slot_settled t.settled _ _ (omega arith) (λ j e. omega arith)) (reset_rule t.rule id v here mine i inside k there),
       λ x g at other. let e : i ≡ x = omega arith in let same : k ≡ g = staged_is s t here 1 k g (omega arith) there (at_slot (is_stage 1 g) x e other) in λ q. (staged (e q) 1 (same q) 2 v, me.1),
     )
 
     -- S4 of 0
-    pub wipes : (k : ℕ) → 0 < marks_of (is_stage 2 k) i v → Allows (OnTable shows rose p) slots id me (code_word i) (λ _. 0) (λ _. wipe_told (step slots (code_word i) 0 0 none) me 0)
+    pub wipes : (k : ℕ) → 0 < marks_of (is_stage 2 k) i v → Allows (OnTable shows rose p) slots id me (code_index i) (λ _. 0) (λ _. wipe_told (step slots (code_index i) 0 0 none) me 0)
     wipes k there s t long here fits = (
       staged i 2 k 3 v,
       keeps,
       tt,
-      beside t id v (staged i 2 k 3 v) here some_ (set s.words (code_word i) 0) s.homes (refl, λ l ll. refl) record { share = refl; lists = refl; finds = refl; stores = λ x y. omega arith; accepts = λ l. omega arith; labels = λ x. x } record { faults = λ l. staged_same l i v 2 k 3; outs = λ l. omega arith } (code_settled t.settled i 0 inside (omega arith) (omega (arith, t.rule.lawful.references.sized))) (wipe_rule t.rule id v here mine i inside k there),
+      beside t id v (staged i 2 k 3 v) here some_ (set s.words (code_index i) 0) s.homes (refl, λ l ll. refl) record { share = refl; lists = refl; finds = refl; stores = λ x y. omega arith; accepts = λ l. omega arith; labels = λ x. x } record { faults = λ l. staged_same l i v 2 k 3; outs = λ l. omega arith } (code_settled t.settled i 0 inside (omega arith) (omega (arith, t.rule.lawful.references.sized))) (wipe_rule t.rule id v here mine i inside k there),
       λ x g at other. let e : i ≡ x = omega arith in let same : k ≡ g = staged_is s t here 2 k g (omega arith) there (at_slot (is_stage 2 g) x e other) in λ q. (staged (e q) 2 (same q) 3 v, me.1),
     )
 
     -- S4 of a code
-    pub codes : (h c : ℕ) → 0 < marks_of (is_coding h) i v → c ≢ 0 → c < 4096 → Allows (OnTable shows rose p) slots id me (code_word i) (λ _. c) (λ _. code_told (step slots (code_word i) c 0 none) me c)
+    pub codes : (h c : ℕ) → 0 < marks_of (is_coding h) i v → c ≢ 0 → c < 4096 → Allows (OnTable shows rose p) slots id me (code_index i) (λ _. c) (λ _. code_told (step slots (code_index i) c 0 none) me c)
     codes h c there no_zero small s t long here fits = (
       coded i h c v,
       keeps,
       tt,
-      beside t id v (coded i h c v) here some_ (set s.words (code_word i) c) s.homes (refl, λ l ll. refl) record { share = refl; lists = refl; finds = refl; stores = λ x y. omega arith; accepts = λ l. omega arith; labels = λ x. x } record { faults = λ l. coded_same l i v h c; outs = λ l. omega arith } (code_settled t.settled i c inside small (omega (arith, t.rule.lawful.references.sized))) (code_rule t.rule id v here mine i inside h c there no_zero),
+      beside t id v (coded i h c v) here some_ (set s.words (code_index i) c) s.homes (refl, λ l ll. refl) record { share = refl; lists = refl; finds = refl; stores = λ x y. omega arith; accepts = λ l. omega arith; labels = λ x. x } record { faults = λ l. coded_same l i v h c; outs = λ l. omega arith } (code_settled t.settled i c inside small (omega (arith, t.rule.lawful.references.sized))) (code_rule t.rule id v here mine i inside h c there no_zero),
       λ x g at other. let e : i ≡ x = omega arith in let same : h ≡ g = coding_is s t here h g there (at_slot (is_coding g) x e other) in λ q. (coded (e q) (same q) c v, me.1),
     )
 
     -- S5
-    pub reads : (h : ℕ) → 0 < marks_of (is_hold h) i v → Allows (OnTable shows rose p) slots id me (code_word i) (λ n. n) (read_told (step slots (code_word i) 0 0 none) me)
-    reads h there s t long here fits = let c : ℕ = get_or s.words (code_word i) 0 in
-        let told : (g d : ℕ) → 0 < marks_of (is_hold g) i v → 0 < marks_of (is_told g d) i v → get_or s.words (code_word i) 0 ≡ d =
+    pub reads : (h : ℕ) → 0 < marks_of (is_hold h) i v → Allows (OnTable shows rose p) slots id me (code_index i) (λ n. n) (read_told (step slots (code_index i) 0 0 none) me)
+    reads h there s t long here fits = let c : ℕ = get_or s.words (code_index i) 0 in
+        let told : (g d : ℕ) → 0 < marks_of (is_hold g) i v → 0 < marks_of (is_told g d) i v → get_or s.words (code_index i) 0 ≡ d =
         λ g d a b. (code_stays p.first (slot_facts s i) (t.rule.lawful.references.slots i inside) id (about i v.marks) (at_map (λ (y : View). about i y.marks) s.views id v here) g d a b).0 in
-        let also : (x g : ℕ) → i ≡ x → 0 < marks_of (is_hold g) x v → (d : ℕ) → 0 < marks_of (is_told g d) x v → get_or s.words (code_word i) 0 ≡ d = λ x g e other d td. told g d (at_slot (is_hold g) x e other) (at_slot (is_told g d) x e td) in
-        let small : get_or s.words (code_word i) 0 < 4096 = t.settled.codes i inside in
-        dite (ℕ_discrete (get_or s.words (code_word i) 0) 0)
+        let also : (x g : ℕ) → i ≡ x → 0 < marks_of (is_hold g) x v → (d : ℕ) → 0 < marks_of (is_told g d) x v → get_or s.words (code_index i) 0 ≡ d = λ x g e other d td. told g d (at_slot (is_hold g) x e other) (at_slot (is_told g d) x e td) in
+        let small : get_or s.words (code_index i) 0 < 4096 = t.settled.codes i inside in
+        dite (ℕ_discrete (get_or s.words (code_index i) 0) 0)
         (λ zero_. (
           v,
           keeps,
           tt,
-          beside t id v v here some_ (set s.words (code_word i) c) s.homes (refl, λ l ll. refl) record { share = refl; lists = refl; finds = refl; stores = λ x y. omega arith; accepts = λ l. omega arith; labels = λ x. x } record { faults = λ l. omega arith; outs = λ l. omega arith } (load_settled t.settled _)
-              (load_rule t.rule id v here mine (code_word i) c refl v record { plan = refl; found = refl; lists = refl } (idle_law shows p s t.rule.lawful id v here (code_word i))),
+          beside t id v v here some_ (set s.words (code_index i) c) s.homes (refl, λ l ll. refl) record { share = refl; lists = refl; finds = refl; stores = λ x y. omega arith; accepts = λ l. omega arith; labels = λ x. x } record { faults = λ l. omega arith; outs = λ l. omega arith } (load_settled t.settled _)
+              (load_rule t.rule id v here mine (code_index i) c refl v record { plan = refl; found = refl; lists = refl } (idle_law shows p s t.rule.lawful id v here (code_index i))),
           λ x g at other. let e : i ≡ x = omega arith in (ap (λ b. (cond b v (told_code x g c v), me.1)) (sym (eq-eqb c 0 zero_)), also x g e other, small),
         ))
         (λ no_zero. (
           told_code i h c v,
           keeps,
           tt,
-          beside t id v (told_code i h c v) here some_ (set s.words (code_word i) c) s.homes (refl, λ l ll. refl) record { share = refl; lists = refl; finds = refl; stores = λ x y. omega arith; accepts = λ l. omega arith; labels = λ x. x } record { faults = λ l. omega arith; outs = λ l. omega arith } (load_settled t.settled _) (found_code_rule t.rule id v here mine i inside h there (omega arith)),
+          beside t id v (told_code i h c v) here some_ (set s.words (code_index i) c) s.homes (refl, λ l ll. refl) record { share = refl; lists = refl; finds = refl; stores = λ x y. omega arith; accepts = λ l. omega arith; labels = λ x. x } record { faults = λ l. omega arith; outs = λ l. omega arith } (load_settled t.settled _) (found_code_rule t.rule id v here mine i inside h there (omega arith)),
           λ x g at other. let e : i ≡ x = omega arith in let same : h ≡ g = held_is s t here h g there (at_slot (is_hold g) x e other) in ((λ q. (told_code (e q) (same q) c v, me.1)) ∙ ap (λ b. (cond b v (told_code x g c v), me.1)) (sym (ne_eqb c 0 no_zero)), also x g e other, small),
         ))
 
   -- S6 into a name: the word of an id that the seat knows
   pub stores_name : (n word : ℕ) → n < p.names → word ≢ 0 → (word - 1) % 4294967296 < p.slots → 0 < marks_of (is_known ((word - 1) / 4294967296)) ((word - 1) % 4294967296) v
-      → Allows (OnTable shows rose p) slots id me (name_word p n) (λ _. word) (λ _. store_told (step slots (name_word p n) word 0 none) me word)
+      → Allows (OnTable shows rose p) slots id me (name_index p n) (λ _. word) (λ _. store_told (step slots (name_index p n) word 0 none) me word)
   stores_name n word low some_word inside known s t long here fits = (
-    put_at (name_word p n) word (record { place = name_word p n; word = word } ∷ t.stored) v,
+    put_at (name_index p n) word (record { place = name_index p n; word = word } ∷ t.stored) v,
     keeps,
     tt,
-    puts_beside t id v here some_ mine (set s.words (name_word p n) word) (name_word p n) word (omega arith) (name_settled t.settled _ _ (omega arith) (omega arith) (omega (arith, t.rule.lawful.references.sized)))
+    puts_beside t id v here some_ mine (set s.words (name_index p n) word) (name_index p n) word (omega arith) (name_settled t.settled _ _ (omega arith) (omega arith) (omega (arith, t.rule.lawful.references.sized)))
         (store_name_note_rule t.rule id v here mine n low word some_word inside known),
-    record { all = record { place = name_word p n; word = word } ∷ t.stored; view = refl; history = stored_history t id v here (name_word p n) word },
+    record { all = record { place = name_index p n; word = word } ∷ t.stored; view = refl; history = stored_history t id v here (name_index p n) word },
   )
 
   -- S6 into the word of an operation
   pub stores_open : (n word i : ℕ) → n < p.operations → word ≢ 0 → i < p.slots → (word ≡ NOTHING) ⊎ (((word - 1) % 4294967296 ≡ i) × (0 < marks_of (is_known ((word - 1) / 4294967296)) i v))
-      → Allows (OnTable shows rose p) slots id me (open_word p n) (λ _. word) (λ _. store_told (step slots (open_word p n) word 0 none) me word)
+      → Allows (OnTable shows rose p) slots id me (open_index p n) (λ _. word) (λ _. store_told (step slots (open_index p n) word 0 none) me word)
   stores_open n word i low some_word inside how s t long here fits = (
-    put_at (open_word p n) word (record { place = open_word p n; word = word } ∷ t.stored) v,
+    put_at (open_index p n) word (record { place = open_index p n; word = word } ∷ t.stored) v,
     keeps,
     tt,
-    puts_beside t id v here some_ mine (set s.words (open_word p n) word) (open_word p n) word (omega arith) (name_settled t.settled _ _ (omega arith) (omega arith) (omega (arith, t.rule.lawful.references.sized)))
+    puts_beside t id v here some_ mine (set s.words (open_index p n) word) (open_index p n) word (omega arith) (name_settled t.settled _ _ (omega arith) (omega arith) (omega (arith, t.rule.lawful.references.sized)))
         (store_open_note_rule t.rule id v here mine n low word i some_word inside how),
-    record { all = record { place = open_word p n; word = word } ∷ t.stored; view = refl; history = stored_history t id v here (open_word p n) word },
+    record { all = record { place = open_index p n; word = word } ∷ t.stored; view = refl; history = stored_history t id v here (open_index p n) word },
   )
 
   -- S7 at a place whose word, other than 0, is the id of a life that was born or says that there is none, and was stored there
@@ -226,10 +226,10 @@ module _ {S : Type 0} (shows : S → Home) (rose : S → ℕ) (p : Plan) (slots 
       )))
 
   -- S7 of a name
-  pub finds_name : (n : ℕ) → n < p.names → Allows (OnTable shows rose p) slots id me (name_word p n) (λ n. n) (find_name_told (step slots (name_word p n) 0 0 none) me)
-  finds_name n low s t long here fits = let a = finds_at (name_word p n) (of_name n low refl) (omega arith) (omega arith) (λ s t other. t.rule.lawful.references.named.names n low) (λ s t. t.rule.lawful.references.named.names_by n low) s t long here fits in
-      (a.0, a.1, a.2, a.3, (a.4, λ z. subst (λ (q : Plan). (get_or s.words (name_word p n) 0 - 1) % 4294967296 < q.slots) (sym mine) (t.rule.lawful.references.named.names n low z).0))
+  pub finds_name : (n : ℕ) → n < p.names → Allows (OnTable shows rose p) slots id me (name_index p n) (λ n. n) (find_name_told (step slots (name_index p n) 0 0 none) me)
+  finds_name n low s t long here fits = let a = finds_at (name_index p n) (of_name n low refl) (omega arith) (omega arith) (λ s t other. t.rule.lawful.references.named.names n low) (λ s t. t.rule.lawful.references.named.names_by n low) s t long here fits in
+      (a.0, a.1, a.2, a.3, (a.4, λ z. subst (λ (q : Plan). (get_or s.words (name_index p n) 0 - 1) % 4294967296 < q.slots) (sym mine) (t.rule.lawful.references.named.names n low z).0))
 
   -- S7 of the word of an operation
-  pub finds_open : (n : ℕ) → n < p.operations → Allows (OnTable shows rose p) slots id me (open_word p n) (λ n. n) (find_told (step slots (open_word p n) 0 0 none) me)
-  finds_open n low = finds_at (open_word p n) (of_open n low refl) (omega arith) (omega arith) (λ s t other. t.rule.lawful.references.named.opens n low other) (λ s t. t.rule.lawful.references.named.opens_by n low)
+  pub finds_open : (n : ℕ) → n < p.operations → Allows (OnTable shows rose p) slots id me (open_index p n) (λ n. n) (find_told (step slots (open_index p n) 0 0 none) me)
+  finds_open n low = finds_at (open_index p n) (of_open n low refl) (omega arith) (omega arith) (λ s t other. t.rule.lawful.references.named.opens n low other) (λ s t. t.rule.lawful.references.named.opens_by n low)

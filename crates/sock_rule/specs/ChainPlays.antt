@@ -11,7 +11,7 @@ use Rattle.sock_model.specs.declared.chain.Stage.TheVariants.{Writes, Placed, Wa
 use Rattle.sock_model.specs.declared.view.View.{View}
 use Rattle.sock_model.specs.Entries.{slot_of}
 use Rattle.sock_model.specs.Memory.{IDLE, UNCONNECTED}
-use Rattle.sock_model.specs.Layout.{ref_word, link_word, request_word, next_word}
+use Rattle.sock_model.specs.Layout.{ref_index, link_index, request_index, next_index}
 use Rattle.sock_model.specs.Slots.{version_of}
 use Rattle.sock_model.specs.Weights.{is_hold, is_met}
 use Rattle.sock_model.specs.SlotRows.{marks_of, looked, met_link, wrote}
@@ -69,12 +69,12 @@ module _ {S : Type 0} where
 
   -- C1: the request is claimed, and its home taken; or its place is noted since it was found taken
   abbrev pub request_told : Step S → Me S View → ℕ → Me S View → Type 0
-  request_told st m found n = (r : ℕ) → st.word ≡ request_word m.0.plan r →
-      (found % 2 ≡ 0 → (y : S) × (found / 2 < 140737488355328) × (n ≡ (with_claim m.0 (fresh_claim 0 r found blank []), (r, y) ∷ m.1))) × (found % 2 ≢ 0 → n ≡ (noting (request_word m.0.plan r) m.0, m.1))
+  request_told st m found n = (r : ℕ) → st.word ≡ request_index m.0.plan r →
+      (found % 2 ≡ 0 → (y : S) × (found / 2 < 140737488355328) × (n ≡ (with_claim m.0 (fresh_claim 0 r found blank []), (r, y) ∷ m.1))) × (found % 2 ≢ 0 → n ≡ (noting (request_index m.0.plan r) m.0, m.1))
 
   -- M1, with a load of the link word of the slot whose life the seat holds: the message is at home, for that link
   abbrev pub fill_told : (S → Home) → Step S → Me S View → ℕ → Me S View → Type 0
-  fill_told shows st m found n = (c : Claim) (y : ℕ × S) (i h : ℕ) → m.0.claims ≡ c ∷ [] → m.1 ≡ y ∷ rest m.1 → st.word ≡ link_word i → 0 < marks_of (is_hold h) i m.0 →
+  fill_told shows st m found n = (c : Claim) (y : ℕ × S) (i h : ℕ) → m.0.claims ≡ c ∷ [] → m.1 ≡ y ∷ rest m.1 → st.word ≡ link_index i → 0 < marks_of (is_hold h) i m.0 →
       (n ≡ (with_claim (met_link i h found m.0) (filled_with c found (shows y.1)), rest m.1)) × (found < m.0.plan.links) × ((k : ℕ) → 0 < marks_of (is_met h k) i m.0 → found ≡ k)
 
   -- C7
@@ -87,22 +87,22 @@ module _ {S : Type 0} where
 
   -- C3
   abbrev pub connect_told : Step S → Me S View → ℕ → Me S View → Type 0
-  connect_told st m stored n = (q : ℕ) → st.word ≡ next_word m.0.plan q → n ≡ (without_loose m.0 q, m.1)
+  connect_told st m stored n = (q : ℕ) → st.word ≡ next_index m.0.plan q → n ≡ (without_loose m.0 q, m.1)
 
   -- ## Whoever writes
 
   -- A8
   abbrev pub clean_told : Step S → Me S View → ℕ → Me S View → Type 0
-  clean_told st m found n = (r : Right) (i : ℕ) → m.0.rights ≡ r ∷ [] → st.word ≡ ref_word i →
+  clean_told st m found n = (r : Right) (i : ℕ) → m.0.rights ≡ r ∷ [] → st.word ≡ ref_index i →
       WordFits i found m.0 × (version_of found % 2 ≡ 0 → n ≡ (with_right (looked i found m.0) (record r { clean = true }), m.1)) × (version_of found % 2 ≢ 0 → n ≡ (looked i found m.0, m.1))
 
   -- L1 and L2
   abbrev pub take_own_told : (S → Home) → (S → ℕ) → Step S → Me S View → ℕ → Me S View → Type 0
-  take_own_told shows rose st m found n = (r : Right) (i : ℕ) → m.0.rights ≡ r ∷ [] → st.word ≡ link_word i → TookOwn shows rose m n r i
+  take_own_told shows rose st m found n = (r : Right) (i : ℕ) → m.0.rights ≡ r ∷ [] → st.word ≡ link_index i → TookOwn shows rose m n r i
 
   -- a fault of the link in hand is noted
   abbrev pub note_fault_told : Step S → Me S View → ℕ → Me S View → Type 0
-  note_fault_told st m found n = (r : Right) (i : ℕ) → m.0.rights ≡ r ∷ [] → st.word ≡ link_word i → n ≡ (noting_fault i r.link m.0, m.1)
+  note_fault_told st m found n = (r : Right) (i : ℕ) → m.0.rights ≡ r ∷ [] → st.word ≡ link_index i → n ≡ (noting_fault i r.link m.0, m.1)
 
   abbrev pub put_own_told : Step S → Me S View → ℕ → Me S View → Type 0
   put_own_told st m found n = (r : Right) → m.0.rights ≡ r ∷ [] → n ≡ (with_right m.0 (record r { at_home = true }), rest m.1)

@@ -11,7 +11,7 @@ use Rattle.sock_model.specs.Deliveries.{place_value}
 use Rattle.sock_model.specs.Fifo.{IsFifo}
 use Rattle.sock_model.specs.declared.view.StoredWord.{StoredWord}
 use Rattle.sock_model.specs.Weights.{total, is_claimed, is_any_coding, is_zero, is_tried, is_known, is_born, is_saw, is_failer, is_freer, is_coded, is_stored, is_told, is_linked, is_met}
-use Rattle.sock_model.specs.Layout.{ref_word, request_word, place_word}
+use Rattle.sock_model.specs.Layout.{ref_index, request_index, place_index}
 use Rattle.sock_model.specs.Slots.{version_of, nref_of}
 use Rattle.sock_model.specs.SlotRows.{marks_of}
 use Rattle.sock_rule.specs.OnTable.{is_put, put_in, DROPPED, Follows}
@@ -32,21 +32,21 @@ pub record Closing (p : Plan) (v : View) (words : List ℕ) : Type 0 where
   pub put : (x w : ℕ) → total (is_put x w) stored ≡ put_in x w v
   pub met : (n : ℕ) (h : List StoredWord) → get_elem? v.histories n ≡ some h → Follows stored h
   -- each word of a slot has an even version, and one reference where it is live, else none
-  pub even : (i : ℕ) → i < p.slots → version_of (slice_index words (ref_word i)) % 2 ≡ 0
-  pub one_or_none : (i : ℕ) → i < p.slots → nref_of (slice_index words (ref_word i)) ≤ 1
+  pub even : (i : ℕ) → i < p.slots → version_of (slice_index words (ref_index i)) % 2 ≡ 0
+  pub one_or_none : (i : ℕ) → i < p.slots → nref_of (slice_index words (ref_index i)) ≤ 1
   -- and that is so where the word has the version of a life that was made
-  pub one_where_live : (i : ℕ) → i < p.slots → nref_of (slice_index words (ref_word i)) ≡ marks_of (is_born (version_of (slice_index words (ref_word i)))) i v
+  pub one_where_live : (i : ℕ) → i < p.slots → nref_of (slice_index words (ref_index i)) ≡ marks_of (is_born (version_of (slice_index words (ref_index i)))) i v
   -- a life was made once
   pub born_once : (i h : ℕ) → i < p.slots → marks_of (is_born h) i v ≤ 1
   -- and has an even version, no less than the first one
   pub born_life : (i h : ℕ) → i < p.slots → 0 < marks_of (is_born h) i v → (p.first ≤ h) × (h % 2 ≡ 0)
   -- and then it was failed once, by a seat that stored its code, where the slot has a later version, and else not
-  pub failed_once : (i h : ℕ) → i < p.slots → 0 < marks_of (is_born h) i v → h < version_of (slice_index words (ref_word i)) → marks_of (is_failer h) i v ≡ 1
-  pub not_failed : (i h : ℕ) → i < p.slots → version_of (slice_index words (ref_word i)) ≤ h → marks_of (is_failer h) i v ≡ 0
+  pub failed_once : (i h : ℕ) → i < p.slots → 0 < marks_of (is_born h) i v → h < version_of (slice_index words (ref_index i)) → marks_of (is_failer h) i v ≡ 1
+  pub not_failed : (i h : ℕ) → i < p.slots → version_of (slice_index words (ref_index i)) ≤ h → marks_of (is_failer h) i v ≡ 0
   pub coded : (i h : ℕ) → i < p.slots → marks_of (is_failer h) i v ≡ marks_of (is_coded h) i v
   -- and ended once
-  pub ended_once : (i h : ℕ) → i < p.slots → 0 < marks_of (is_born h) i v → h < version_of (slice_index words (ref_word i)) → marks_of (is_freer h) i v ≡ 1
-  pub not_ended : (i h : ℕ) → i < p.slots → version_of (slice_index words (ref_word i)) ≤ h → marks_of (is_freer h) i v ≡ 0
+  pub ended_once : (i h : ℕ) → i < p.slots → 0 < marks_of (is_born h) i v → h < version_of (slice_index words (ref_index i)) → marks_of (is_freer h) i v ≡ 1
+  pub not_ended : (i h : ℕ) → i < p.slots → version_of (slice_index words (ref_index i)) ≤ h → marks_of (is_freer h) i v ≡ 0
   -- a life that is known, and behind a version that was seen, was failed
   pub dead_failed : (i h w : ℕ) → i < p.slots → 0 < marks_of (is_known h) i v → 0 < marks_of (is_saw w) i v → h < w → marks_of (is_failer h) i v ≡ 1
   -- a code that was found was stored, by the seat that failed the life
@@ -72,7 +72,7 @@ pub record LifeFailed (p : Plan) (v : View) (k : ℕ) : Type 0 where
 pub record LinkTook (p : Plan) (v : View) (log : List Entry) (words : List ℕ) (k : ℕ) (took : List ℕ) : Type 0 where
   -- how many messages were placed, and not dropped
   pub kept : ℕ
-  pub fifo : PlacesDiffer log → IsFifo (λ l. slice_index words (place_word p l)) k (on k log) kept took
+  pub fifo : PlacesDiffer log → IsFifo (λ l. slice_index words (place_index p l)) k (on k log) kept took
   -- not all of them only where its life was failed
   pub failed : kept < length (on k log) → LifeFailed p v k
 
@@ -85,12 +85,12 @@ pub record PlaceOf (p : Plan) (log : List Entry) (words : List ℕ) (l : ℕ) : 
   pub inside : link < p.links
   pub there : get_elem? (on link log) position ≡ some entry
   pub own : entry.heading.place ≡ l
-  pub word : slice_index words (place_word p l) ≡ place_value dropped link position
+  pub word : slice_index words (place_index p l) ≡ place_value dropped link position
 
 -- of the place index l: a seat noted that it dropped the message there, with the word that stands there, where that has the dropped bit; and where the places of all labels differ, what a seat noted there is the word
 pub record IsDropTold (p : Plan) (log : List Entry) (v : View) (words : List ℕ) (l : ℕ) : Type 0 where
-  pub told : DROPPED ≤ slice_index words (place_word p l) → 0 < put_in (place_word p l) (slice_index words (place_word p l)) v
-  pub stays : PlacesDiffer log → (n : ℕ) → 0 < put_in (place_word p l) n v → (slice_index words (place_word p l) ≡ n) × (DROPPED ≤ n)
+  pub told : DROPPED ≤ slice_index words (place_index p l) → 0 < put_in (place_index p l) (slice_index words (place_index p l)) v
+  pub stays : PlacesDiffer log → (n : ℕ) → 0 < put_in (place_index p l) n v → (slice_index words (place_index p l) ≡ n) × (DROPPED ≤ n)
 
 -- the messages that all seats had accepted stand in one order, and each list that the last view keeps is what one of the seats had accepted, in its own order
 pub record Ordered (p : Plan) (found : List ℕ) (lists : List (List Entry)) : Type 0 where
@@ -106,4 +106,4 @@ pub record Ordered (p : Plan) (found : List ℕ) (lists : List (List Entry)) : T
   -- and each author has one
   pub named : (q a : ℕ) → get_elem? by q ≡ some a → (i : ℕ) × (get_elem? names i ≡ some a)
   -- where each request was found taken, there are as many as requests at least
-  pub full : ((q : ℕ) → q < p.requests → (n : ℕ) × (get_elem? found n ≡ some (request_word p q))) → p.requests ≤ length log
+  pub full : ((q : ℕ) → q < p.requests → (n : ℕ) × (get_elem? found n ≡ some (request_index p q))) → p.requests ≤ length log

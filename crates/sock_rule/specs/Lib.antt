@@ -12,4 +12,4 @@ pub mod Sending
 pub mod Holding
 pub use Rattle.message_parts
 pub use Rattle.ref_core
-pub use Rattle.chain_core.specs.slot_laws
+pub use Rattle.chain_core.specs.slot_steps

@@ -11,7 +11,7 @@ use Rattle.sock_model.specs.declared.view.View.{View}
 use Rattle.sock_model.specs.declared.view.StoredWord.{StoredWord}
 use Rattle.sock_model.specs.Weights.{total, only, pair}
 use Rattle.sock_model.specs.Marks.{latest}
-use Rattle.sock_model.specs.Layout.{code_word, request_word, place_word}
+use Rattle.sock_model.specs.Layout.{code_index, request_index, place_index}
 use Rattle.sock_model.specs.Seats.{first_view}
 use Rattle.sock_model.specs.Rule.{lists_of, Rule}
 use Rattle.sock_rule.specs.Faults.{LinkFaults}
@@ -58,8 +58,8 @@ labelled_in l v = total (total (is_labelled l)) v.lists
 
 -- of the word of the place index l: a seat noted that it stored it, where it has the dropped bit, and what a seat noted so is the word still, unless two accepted messages have this index
 pub record IsDropKept (p : Plan) (views : List View) (l word : ℕ) : Type 0 where
-  pub told : DROPPED ≤ word → 0 < total (put_in (place_word p l) word) views
-  pub stays : total (labelled_in l) views ≤ 1 → (n : ℕ) → 0 < total (put_in (place_word p l) n) views → (word ≡ n) × (DROPPED ≤ n)
+  pub told : DROPPED ≤ word → 0 < total (put_in (place_index p l) word) views
+  pub stays : total (labelled_in l) views ≤ 1 → (n : ℕ) → 0 < total (put_in (place_index p l) n) views → (word ≡ n) × (DROPPED ≤ n)
 
 -- each code is below 4096, and a request that isn't taken has its home there: a seat that claims one takes its home with it, gives it back with the message in it, takes it
 -- with the message, and gives it back where it frees the request
@@ -67,9 +67,9 @@ pub record Settled {S : Type 0} (p : Plan) (stored : List StoredWord) (placed : 
   -- the word of a name or of an operation is what was stored there last
   pub names : (x : ℕ) → 6 * p.slots ≤ x → x < 6 * p.slots + p.names + p.operations → slice_index ws x ≡ latest x stored
   -- the word of each place index is the one that is looked at beside what was noted of it
-  pub places : (l : ℕ) → l < 8 * p.operations → slice_index ws (place_word p l) ≡ placed l
-  pub codes : (i : ℕ) → i < p.slots → slice_index ws (code_word i) < 4096
-  pub present : (r : ℕ) → r < p.requests → slice_index ws (request_word p r) % 2 ≡ 0 → (y : S) × (get_elem? hs r ≡ some (some y))
+  pub places : (l : ℕ) → l < 8 * p.operations → slice_index ws (place_index p l) ≡ placed l
+  pub codes : (i : ℕ) → i < p.slots → slice_index ws (code_index i) < 4096
+  pub present : (r : ℕ) → r < p.requests → slice_index ws (request_index p r) % 2 ≡ 0 → (y : S) × (get_elem? hs r ≡ some (some y))
 
 -- the label of each message that a seat had accepted, or that its claim has, is of a place word of the table
 pub record LabelledIn (p : Plan) (lists : List (List Entry)) (claims : List Claim) : Type 0 where

@@ -7,7 +7,7 @@ use Rattle.sock_model.specs.declared.home.Home.{Home}
 use Rattle.sock_model.specs.declared.home.Home.TheVariants.{Link}
 use Rattle.sock_model.specs.declared.view.View.{View}
 use Rattle.sock_model.specs.Weights.{is_busy, is_ref, is_known, is_hold, is_stage, is_saw, is_coding, is_told, is_met, is_recycled}
-use Rattle.sock_model.specs.Layout.{tag_word, ref_word, link_word, head_word, code_word}
+use Rattle.sock_model.specs.Layout.{tag_index, ref_index, link_index, head_index, code_index}
 use Rattle.sock_model.specs.Slots.{version_of, nref_of}
 use Rattle.sock_model.specs.SlotRows.{marks_of, knows, claimed, gave_birth, added, back, subbed, failed, recycled, freed, looked, linked, staged, coded, told_code, met_link}
 use Rattle.sock_model.specs.ChainRows.{with_hand, without_hand, spent_hand}
@@ -43,63 +43,63 @@ module _ {S : Type 0} where
 
   -- A1
   abbrev pub claim_told : Step S → Me S View → ℕ → Me S View → Type 0
-  claim_told st m found n = (i : ℕ) → st.word ≡ tag_word i → Becomes m n (claimed i found m.0)
+  claim_told st m found n = (i : ℕ) → st.word ≡ tag_index i → Becomes m n (claimed i found m.0)
 
   -- A2
   abbrev pub birth_told : Step S → Me S View → ℕ → Me S View → Type 0
-  birth_told st m found n = (nref_of found < 4294967295) × ((i k : ℕ) → st.word ≡ ref_word i → 0 < marks_of (is_stage 3 k) i m.0 → Becomes m n (gave_birth i found k m.0) × (version_of found ≤ 4294967292) × (version_of found % 2 ≡ 0))
+  birth_told st m found n = (nref_of found < 4294967295) × ((i k : ℕ) → st.word ≡ ref_index i → 0 < marks_of (is_stage 3 k) i m.0 → Becomes m n (gave_birth i found k m.0) × (version_of found ≤ 4294967292) × (version_of found % 2 ≡ 0))
 
   -- A3
   abbrev pub add_told : Step S → Me S View → ℕ → Me S View → Type 0
-  add_told st m found n = (nref_of found < 4294967295) × ((i : ℕ) → st.word ≡ ref_word i → Becomes m n (added i found (knows i (version_of found) m.0) m.0) × WordFits i found m.0)
+  add_told st m found n = (nref_of found < 4294967295) × ((i : ℕ) → st.word ≡ ref_index i → Becomes m n (added i found (knows i (version_of found) m.0) m.0) × WordFits i found m.0)
 
   -- A4
   abbrev pub sub_told : Step S → Me S View → ℕ → Me S View → Type 0
-  sub_told st m found n = (0 < nref_of found) × (version_of found ≤ 4294967294) × ((i : ℕ) → st.word ≡ ref_word i → Becomes m n (subbed i found (back i found m.0) m.0) × WordFits i found m.0 × (marks_of is_ref i m.0 ≤ nref_of found))
+  sub_told st m found n = (0 < nref_of found) × (version_of found ≤ 4294967294) × ((i : ℕ) → st.word ≡ ref_index i → Becomes m n (subbed i found (back i found m.0) m.0) × WordFits i found m.0 × (marks_of is_ref i m.0 ≤ nref_of found))
 
   -- A5
   abbrev pub fail_told : Step S → Me S View → ℕ → Me S View → Type 0
-  fail_told st m found n = (i : ℕ) → st.word ≡ ref_word i → Becomes m n (failed i found m.0) × WordFits i found m.0
+  fail_told st m found n = (i : ℕ) → st.word ≡ ref_index i → Becomes m n (failed i found m.0) × WordFits i found m.0
 
   -- A6; whoever wins had nothing else of the slot than notes
   abbrev pub recycle_told : Step S → Me S View → ℕ → Me S View → Type 0
-  recycle_told st m found n = (i : ℕ) → st.word ≡ ref_word i → Becomes m n (recycled i st.first found m.0) × (found ≡ st.first → marks_of is_busy i m.0 ≡ 0)
+  recycle_told st m found n = (i : ℕ) → st.word ≡ ref_index i → Becomes m n (recycled i st.first found m.0) × (found ≡ st.first → marks_of is_busy i m.0 ≡ 0)
 
   -- A7
   abbrev pub free_told : Step S → Me S View → ℕ → Me S View → Type 0
-  free_told st m found n = (i : ℕ) → st.word ≡ tag_word i → Becomes m n (freed i m.0)
+  free_told st m found n = (i : ℕ) → st.word ≡ tag_index i → Becomes m n (freed i m.0)
 
   -- A8
   abbrev pub look_told : Step S → Me S View → ℕ → Me S View → Type 0
-  look_told st m found n = (i : ℕ) → st.word ≡ ref_word i → Becomes m n (looked i found m.0) × WordFits i found m.0
+  look_told st m found n = (i : ℕ) → st.word ≡ ref_index i → Becomes m n (looked i found m.0) × WordFits i found m.0
 
   -- S1
   abbrev pub link_told : Step S → Me S View → ℕ → Me S View → Type 0
-  link_told st m stored n = (i : ℕ) → st.word ≡ link_word i → Becomes m n (linked i stored m.0)
+  link_told st m stored n = (i : ℕ) → st.word ≡ link_index i → Becomes m n (linked i stored m.0)
 
   -- S2 of a life that it holds
   abbrev pub meet_told : Step S → Me S View → ℕ → Me S View → Type 0
-  meet_told st m found n = (i h : ℕ) → st.word ≡ link_word i → 0 < marks_of (is_hold h) i m.0 → Becomes m n (met_link i h found m.0) × ((k : ℕ) → 0 < marks_of (is_met h k) i m.0 → found ≡ k) × (found < m.0.plan.links)
+  meet_told st m found n = (i h : ℕ) → st.word ≡ link_index i → 0 < marks_of (is_hold h) i m.0 → Becomes m n (met_link i h found m.0) × ((k : ℕ) → 0 < marks_of (is_met h k) i m.0 → found ≡ k) × (found < m.0.plan.links)
 
   -- S2 of whoever recycled the slot
   abbrev pub meet_last_told : Step S → Me S View → ℕ → Me S View → Type 0
-  meet_last_told st m found n = (i w : ℕ) → st.word ≡ link_word i → 0 < marks_of (is_recycled w) i m.0 → Becomes m n (met_link i (w - 2) found m.0) × (found < m.0.plan.links)
+  meet_last_told st m found n = (i w : ℕ) → st.word ≡ link_index i → 0 < marks_of (is_recycled w) i m.0 → Becomes m n (met_link i (w - 2) found m.0) × (found < m.0.plan.links)
 
   -- S3
   abbrev pub reset_told : Step S → Me S View → ℕ → Me S View → Type 0
-  reset_told st m stored n = (i k : ℕ) → st.word ≡ head_word i → 0 < marks_of (is_stage 1 k) i m.0 → Becomes m n (staged i 1 k 2 m.0)
+  reset_told st m stored n = (i k : ℕ) → st.word ≡ head_index i → 0 < marks_of (is_stage 1 k) i m.0 → Becomes m n (staged i 1 k 2 m.0)
 
   -- S4 of 0
   abbrev pub wipe_told : Step S → Me S View → ℕ → Me S View → Type 0
-  wipe_told st m stored n = (i k : ℕ) → st.word ≡ code_word i → 0 < marks_of (is_stage 2 k) i m.0 → Becomes m n (staged i 2 k 3 m.0)
+  wipe_told st m stored n = (i k : ℕ) → st.word ≡ code_index i → 0 < marks_of (is_stage 2 k) i m.0 → Becomes m n (staged i 2 k 3 m.0)
 
   -- S4 of a code
   abbrev pub code_told : Step S → Me S View → ℕ → Me S View → Type 0
-  code_told st m stored n = (i h : ℕ) → st.word ≡ code_word i → 0 < marks_of (is_coding h) i m.0 → Becomes m n (coded i h stored m.0)
+  code_told st m stored n = (i h : ℕ) → st.word ≡ code_index i → 0 < marks_of (is_coding h) i m.0 → Becomes m n (coded i h stored m.0)
 
   -- S5: a code other than 0 is noted
   abbrev pub read_told : Step S → Me S View → ℕ → Me S View → Type 0
-  read_told st m found n = (i h : ℕ) → st.word ≡ code_word i → 0 < marks_of (is_hold h) i m.0 → Becomes m n (cond (found == 0) m.0 (told_code i h found m.0)) × ((c : ℕ) → 0 < marks_of (is_told h c) i m.0 → found ≡ c) × (found < 4096)
+  read_told st m found n = (i h : ℕ) → st.word ≡ code_index i → 0 < marks_of (is_hold h) i m.0 → Becomes m n (cond (found == 0) m.0 (told_code i h found m.0)) × ((c : ℕ) → 0 < marks_of (is_told h c) i m.0 → found ≡ c) × (found < 4096)
 
   -- S6
   abbrev pub store_told : Step S → Me S View → ℕ → Me S View → Type 0
@@ -117,7 +117,7 @@ module _ {S : Type 0} where
 
   -- L1 of whoever recycled the slot of this link word, and found that the link of the life that ended is k
   abbrev pub take_last_told : (S → Home) → (S → ℕ) → Step S → Me S View → ℕ → Me S View → Type 0
-  take_last_told shows rose st m found n = (i w k : ℕ) → st.word ≡ link_word i → 0 < marks_of (is_recycled w) i m.0 → 0 < marks_of (is_met (w - 2) k) i m.0 → TookLink shows rose m n k (λ took next. with_hand m.0 record { link = k; took = took; next = next })
+  take_last_told shows rose st m found n = (i w k : ℕ) → st.word ≡ link_index i → 0 < marks_of (is_recycled w) i m.0 → 0 < marks_of (is_met (w - 2) k) i m.0 → TookLink shows rose m n k (λ took next. with_hand m.0 record { link = k; took = took; next = next })
 
   -- L1 of a pass that gets no socket
   abbrev pub spend_told : (S → Home) → (S → ℕ) → Step S → Me S View → ℕ → Me S View → Type 0

@@ -9,7 +9,7 @@ use Rattle.sock_model.specs.declared.home.Home.{Home}
 use Rattle.sock_model.specs.declared.home.Home.TheVariants.{Link}
 use Rattle.sock_model.specs.declared.view.View.{View}
 use Rattle.sock_model.specs.Weights.{is_ref}
-use Rattle.sock_model.specs.Layout.{request_word, place_word}
+use Rattle.sock_model.specs.Layout.{request_index, place_index}
 use Rattle.sock_model.specs.SlotRows.{marks_of}
 use Rattle.sock_model.specs.Seats.{newcomer, carrier, earliest, later, IsBare, Unused}
 use Rattle.sock_model.specs.Lawful.{PlanFits}
@@ -52,7 +52,7 @@ pub record IsNew {S : Type 0} (shows : S → Home) (p : Plan) (ws : List ℕ) (x
   pub first_low : p.first ≤ 4294967292
   pub some_seats : 1 ≤ p.seats
   pub few_seats : p.seats ≤ 64
-  pub requests : (r : ℕ) → r < p.requests → slice_index ws (request_word p r) ≡ 0
-  pub places : (l : ℕ) → l < 8 * p.operations → slice_index ws (place_word p l) ≡ 0
+  pub requests : (r : ℕ) → r < p.requests → slice_index ws (request_index p r) ≡ 0
+  pub places : (l : ℕ) → l < 8 * p.operations → slice_index ws (place_index p l) ≡ 0
   pub homes : length xs ≡ p.requests + p.links
   pub links : (k : ℕ) → k < p.links → (y : S) × (get_elem? xs (p.requests + k) ≡ some y) × (shows y ≡ Link k [] 0 false)

@@ -5,7 +5,7 @@ use Rattle.sock_words.specs.declared.plain.Plan.{Plan}
 use Rattle.sock_model.specs.declared.chain.Claim.{Claim}
 use Rattle.sock_model.specs.declared.chain.Heading.{Heading}
 use Rattle.sock_model.specs.declared.view.View.{View}
-use Rattle.sock_model.specs.Layout.{request_word}
+use Rattle.sock_model.specs.Layout.{request_index}
 use Rattle.sock_model.specs.Memory.{IDLE}
 use Rattle.sock_model.specs.Conditions.{MayExchange}
 use Rattle.sock_model.specs.ChainRows.{with_claim, fresh_claim, filled_claim, queued, righted}
@@ -14,7 +14,7 @@ use Rattle.sock_rule.specs.ChainPlays.{blank}
 
 -- C1: where the word was even the request is claimed, and its home is out with the seat
 abbrev pub Asked : {S : Type 0} → Plan → ℕ → ℕ → Me S View → Me S View → Type 0
-Asked {S} p at found m n = (found % 2 ≡ 0 → (y : S) × (found / 2 < 140737488355328) × (n ≡ (with_claim m.0 (fresh_claim 0 at found blank []), (at, y) ∷ m.1))) × (found % 2 ≢ 0 → n ≡ (noting (request_word p at) m.0, m.1))
+Asked {S} p at found m n = (found % 2 ≡ 0 → (y : S) × (found / 2 < 140737488355328) × (n ≡ (with_claim m.0 (fresh_claim 0 at found blank []), (at, y) ∷ m.1))) × (found % 2 ≢ 0 → n ≡ (noting (request_index p at) m.0, m.1))
 
 -- the seat's one claim is c
 abbrev pub Claims : Claim → View → Type 0

@@ -4,7 +4,7 @@ ghost use mathlib.Core.Option.{some};
 ghost use lib.ListN.{get_elem?};
 ghost use Rattle.sock_words.specs.Words.{socket_id_version, socket_id_slot};
 ghost use Rattle.sock_model.specs.Weights.{is_known};
-ghost use Rattle.sock_model.specs.Layout.{name_word, open_word};
+ghost use Rattle.sock_model.specs.Layout.{name_index, open_index};
 ghost use Rattle.sock_model.specs.SlotRows.{marks_of};
 ghost use Rattle.sock_rule.specs.Rows.{NOTHING, PutAt, FoundAt};
 ghost use Rattle.sock_rule.specs.Seated.{IsSeat};
@@ -22,7 +22,7 @@ impl<O: Out> RuleTable<O> {
         requires inside { socket_id_slot id.0 < self.now.plan.slots }
         requires known { 0 < marks_of (is_known (socket_id_version id.0)) (socket_id_slot id.0) seat.old.me.0 }
         ensures seat { IsSeat self.now.table.shared.table_id self.now.plan seat.new }
-        ensures view { PutAt (name_word self.now.plan name) (id.0 + 1) seat.old.me seat.new.me }
+        ensures view { PutAt (name_index self.now.plan name) (id.0 + 1) seat.old.me seat.new.me }
     {
         let place = 6 * self.plan.slots as usize + name as usize;
         let word = id.word() + 1;
@@ -34,9 +34,9 @@ impl<O: Out> RuleTable<O> {
         requires seat { IsSeat self.now.table.shared.table_id self.now.plan seat.old }
         requires name { name < self.now.plan.names }
         ensures seat { IsSeat self.now.table.shared.table_id self.now.plan seat.new }
-        ensures view { FoundAt (name_word self.now.plan name) result seat.old.me seat.new.me }
+        ensures view { FoundAt (name_index self.now.plan name) result seat.old.me seat.new.me }
         ensures inside { result ≢ 0 → (result - 1) % 4294967296 < self.now.plan.slots }
-        ensures stays { (k : ℕ) → get_elem? seat.old.me.0.found k ≡ some (name_word self.now.plan name) → result ≢ 0 }
+        ensures stays { (k : ℕ) → get_elem? seat.old.me.0.found k ≡ some (name_index self.now.plan name) → result ≢ 0 }
     {
         let place = 6 * self.plan.slots as usize + name as usize;
         self.table.shared.load::<FindName>(seat, place)
@@ -49,7 +49,7 @@ impl<O: Out> RuleTable<O> {
         requires inside { socket_id_slot id.0 < self.now.plan.slots }
         requires known { 0 < marks_of (is_known (socket_id_version id.0)) (socket_id_slot id.0) seat.old.me.0 }
         ensures seat { IsSeat self.now.table.shared.table_id self.now.plan seat.new }
-        ensures view { PutAt (open_word self.now.plan operation) (id.0 + 1) seat.old.me seat.new.me }
+        ensures view { PutAt (open_index self.now.plan operation) (id.0 + 1) seat.old.me seat.new.me }
     {
         let place = 6 * self.plan.slots as usize + self.plan.names as usize + operation as usize;
         let word = id.word() + 1;
@@ -61,7 +61,7 @@ impl<O: Out> RuleTable<O> {
         requires seat { IsSeat self.now.table.shared.table_id self.now.plan seat.old }
         requires operation { operation < self.now.plan.operations }
         ensures seat { IsSeat self.now.table.shared.table_id self.now.plan seat.new }
-        ensures view { PutAt (open_word self.now.plan operation) NOTHING seat.old.me seat.new.me }
+        ensures view { PutAt (open_index self.now.plan operation) NOTHING seat.old.me seat.new.me }
     {
         let place = 6 * self.plan.slots as usize + self.plan.names as usize + operation as usize;
         self.table.shared.store::<StoreId>(seat, place, u64::MAX);
@@ -72,9 +72,9 @@ impl<O: Out> RuleTable<O> {
         requires seat { IsSeat self.now.table.shared.table_id self.now.plan seat.old }
         requires operation { operation < self.now.plan.operations }
         ensures seat { IsSeat self.now.table.shared.table_id self.now.plan seat.new }
-        ensures view { FoundAt (open_word self.now.plan operation) result seat.old.me seat.new.me }
+        ensures view { FoundAt (open_index self.now.plan operation) result seat.old.me seat.new.me }
         ensures inside { result ≢ 0 → result ≢ NOTHING → (result - 1) % 4294967296 < self.now.plan.slots }
-        ensures stays { (k : ℕ) → get_elem? seat.old.me.0.found k ≡ some (open_word self.now.plan operation) → result ≢ 0 }
+        ensures stays { (k : ℕ) → get_elem? seat.old.me.0.found k ≡ some (open_index self.now.plan operation) → result ≢ 0 }
     {
         let place = 6 * self.plan.slots as usize + self.plan.names as usize + operation as usize;
         self.table.shared.load::<FindId>(seat, place)

@@ -53,9 +53,9 @@ impl<S> Play<S, View> for ClaimSlot {
     ghost then = { claim_told };
 }
 
-pub struct GiveBirth;
+pub struct CreateLife;
 
-impl<S> Play<S, View> for GiveBirth {
+impl<S> Play<S, View> for CreateLife {
     ghost then = { birth_told };
 }
 
@@ -119,9 +119,9 @@ impl<S> Play<S, View> for ResetHead {
     ghost then = { reset_told };
 }
 
-pub struct WipeCode;
+pub struct ClearCode;
 
-impl<S> Play<S, View> for WipeCode {
+impl<S> Play<S, View> for ClearCode {
     ghost then = { wipe_told };
 }
 
@@ -263,8 +263,8 @@ impl<S> Play<S, View> for EmptyHead {
     ghost then = { empty_told };
 }
 
-pub struct TurnNext;
+pub struct ReverseNext;
 
-impl<S> Play<S, View> for TurnNext {
+impl<S> Play<S, View> for ReverseNext {
     ghost then = { turn_told };
 }

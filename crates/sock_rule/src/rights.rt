@@ -6,7 +6,7 @@ ghost use Rattle.sock_model.specs.declared.chain.Right.{Right};
 ghost use Rattle.sock_model.specs.declared.chain.Stage.TheVariants.{Writes, Walks, Turns};
 ghost use Rattle.sock_model.specs.ChainRows.{with_right, placed_right, dropped_right, freed_right, turned_right};
 ghost use Rattle.sock_model.specs.SlotRows.{wrote};
-ghost use Rattle.sock_model.specs.Layout.{place_word};
+ghost use Rattle.sock_model.specs.Layout.{place_index};
 ghost use Rattle.sock_model.specs.Entries.{slot_of, generation_of};
 ghost use Rattle.sock_rule.specs.declared.homes.SockHome.TheVariants.{Empty};
 ghost use Rattle.sock_rule.specs.Seated.{IsSeat};
@@ -16,8 +16,8 @@ ghost use Rattle.sock_rule.specs.Holding.{Rights, LinkAtHome, MayTakeMsg, TookMs
 
 use crate::homes::{Letter, LinkHome, SockHome};
 use crate::plays::{
-    DropPlace, EmptyHead, FreeRequest, LookToWrite, NoteFault, PutOwn, ReadNext, StorePlace,
-    TakeLetter, TakeOwn, TurnNext,
+    DropPlace, EmptyHead, FreeRequest, LookToWrite, NoteFault, PutOwn, ReadNext, ReverseNext,
+    StorePlace, TakeLetter, TakeOwn,
 };
 use crate::table::{RuleTable, SockSeat};
 use sock_io::Out;
@@ -119,7 +119,7 @@ impl<O: Out> RuleTable<O> {
         requires ticket { (0 < now.0 % 65536) × (now.0 < 9223372036854775808) }
         requires top { seat.old.me.1 ≡ (slot_of now.0, Empty) ∷ rest seat.old.me.1 }
         ensures seat { IsSeat self.now.table.shared.table_id self.now.plan seat.new }
-        ensures view { (r : Right) (n : ℕ) → Rights r seat.old.me.0 → r.stage ≡ Writes n → seat.new.me ≡ (wrote (place_word self.now.plan at) value.0 (with_right seat.old.me.0 (dropped_right r n home.took.list)), seat.old.me.1) }
+        ensures view { (r : Right) (n : ℕ) → Rights r seat.old.me.0 → r.stage ≡ Writes n → seat.new.me ≡ (wrote (place_index self.now.plan at) value.0 (with_right seat.old.me.0 (dropped_right r n home.took.list)), seat.old.me.1) }
         ensures home { result ≡ home }
     {
         let slot = now.request() as usize;
@@ -253,6 +253,6 @@ impl<O: Out> RuleTable<O> {
             + self.plan.operations as usize
             + self.plan.requests as usize
             + at.request() as usize;
-        self.table.shared.store::<TurnNext>(seat, word, value);
+        self.table.shared.store::<ReverseNext>(seat, word, value);
     }
 }

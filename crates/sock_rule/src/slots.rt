@@ -8,7 +8,7 @@ ghost use Rattle.ref_core.specs.Keeping.{KeepsRights};
 ghost use Rattle.sock_rule.specs.Seated.{IsSeat};
 ghost use Rattle.sock_rule.specs.Plays.{WordFits};
 
-use crate::plays::{AddRef, ClaimSlot, FreeSlot, GiveBirth, LookWord, Recycle, SetOdd, SubRef};
+use crate::plays::{AddRef, ClaimSlot, CreateLife, FreeSlot, LookWord, Recycle, SetOdd, SubRef};
 use crate::table::{RuleTable, SockSeat};
 use sock_io::Out;
 use sock_words::{Step, Vref};
@@ -53,7 +53,7 @@ impl<O: Out> RuleTable<O> {
         ensures version { (version_of result.found ≤ 4294967292) × (version_of result.found % 2 ≡ 0) }
     {
         let word = 6 * at as usize + 1;
-        let found = self.table.shared.fetch_add::<GiveBirth>(seat, word, 1);
+        let found = self.table.shared.fetch_add::<CreateLife>(seat, word, 1);
         ref_core::birth(found)
     }
 

@@ -4,7 +4,7 @@ ghost use Rattle.sock_model.specs.Weights.{total, only, is_stage, is_hold, is_re
 ghost use Rattle.sock_model.specs.SlotRows.{marks_of, linked, met_link, staged, coded, told_code};
 ghost use Rattle.sock_rule.specs.Seated.{IsSeat};
 
-use crate::plays::{MeetLast, MeetLink, ReadCode, ResetHead, StoreCode, StoreLink, WipeCode};
+use crate::plays::{ClearCode, MeetLast, MeetLink, ReadCode, ResetHead, StoreCode, StoreLink};
 use crate::table::{RuleTable, SockSeat};
 use sock_io::Out;
 
@@ -74,7 +74,7 @@ impl<O: Out> RuleTable<O> {
         ensures view { (k : ℕ) → 0 < marks_of (is_stage 2 k) at seat.old.me.0 → seat.new.me ≡ (staged at 2 k 3 seat.old.me.0, seat.old.me.1) }
     {
         let word = 6 * at as usize + 4;
-        self.table.shared.store::<WipeCode>(seat, word, 0);
+        self.table.shared.store::<ClearCode>(seat, word, 0);
     }
 
     /// S4: the code of the life that the seat failed.

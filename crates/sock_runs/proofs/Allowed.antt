@@ -5,12 +5,12 @@ use lib.ListN.{get_elem?}
 use Rattle.sock_words.specs.declared.plain.Plan.{Plan}
 use Rattle.sock_words.specs.Words.{socket_id_slot}
 use Rattle.sock_model.specs.declared.view.View.{View}
-use Rattle.sock_model.specs.Layout.{tag_word, ref_word, link_word, head_word, code_word, all_words, name_word, open_word, request_word, next_word, place_word}
+use Rattle.sock_model.specs.Layout.{tag_index, ref_index, link_index, head_index, code_index, all_words, name_index, open_index, request_index, next_index, place_index}
 use Rattle.sock_model.specs.Memory.{IDLE}
-use Rattle.sock_programs.specs.Calls.{Call, ClaimSlot, GiveBirth, AddRef, SubRef, SetOdd, Recycle, FreeSlot, StoreLink, LoadLink, ResetHead, WipeCode, StoreCode, StoreName, LoadName, StoreOpen, LoadOpen, TakeLink, FinishLink, PutLink, LookWord, FindLink, LoadCode, ClaimRequest, PutMessage, Unconnect, SwapHead, Connect, EmptyHead, ReadNext, TurnNext, FreeRequest, StorePlace, DropPlace}
-use Rattle.sock_programs.specs.Programs.{Program, Do, Say, Sent, Rest, TakeMessage, TakeHome, PutHome, PutBytes, AskReady, Write, Aside, Round, Keep, Retries}
+use Rattle.seat_programs.specs.Calls.{Call, ClaimSlot, CreateLife, AddRef, SubRef, SetOdd, Recycle, FreeSlot, StoreLink, LoadLink, ResetHead, ClearCode, StoreCode, StoreName, LoadName, StoreOpen, LoadOpen, TakeLink, FinishLink, PutLink, LookWord, FindLink, LoadCode, ClaimRequest, PutMessage, Unconnect, SwapHead, Connect, EmptyHead, ReadNext, ReverseNext, FreeRequest, StorePlace, DropPlace}
+use Rattle.seat_programs.specs.Programs.{Program, Do, Say, Sent, Rest, TakeMessage, TakeHome, PutHome, PutBytes, AskReady, Write, Aside, Round, Keep, Retries}
 use Rattle.sock_runs.proofs.Passes.{goes_round}
-use Rattle.sock_programs.specs.Cores.{Core, SeatState, word_of, found_at}
+use Rattle.seat_programs.specs.Cores.{Core, SeatState, word_of, found_at}
 use Rattle.sock_runs.specs.Rows.{hand_at}
 use Rattle.sock_runs.specs.May.{May, Finds}
 use Rattle.sock_runs.specs.GoesOn.{GoesOn}
@@ -31,50 +31,50 @@ module _ (p : Plan) (c : Core) (vs : List View) (sound : Sound p c vs) (few : Ar
   abbrev found : Call → ℕ
   found call = found_at c.words (word_of p call)
 
-  next_there : (q : ℕ) → q < p.requests → (x : ℕ) → some (next_word p q) ≡ some x → x < length c.words
-  next_there q inside x e = omega (arith, inside, sound.lawful.references.sized, some-injective (next_word p q) x e)
+  next_there : (q : ℕ) → q < p.requests → (x : ℕ) → some (next_index p q) ≡ some x → x < length c.words
+  next_there q inside x e = omega (arith, inside, sound.lawful.references.sized, some-injective (next_index p q) x e)
 
-  place_there : (l : ℕ) → l < 8 * p.operations → (x : ℕ) → some (place_word p l) ≡ some x → x < length c.words
-  place_there l inside x e = omega (arith, inside, sound.lawful.references.sized, some-injective (place_word p l) x e)
+  place_there : (l : ℕ) → l < 8 * p.operations → (x : ℕ) → some (place_index p l) ≡ some x → x < length c.words
+  place_there l inside x e = omega (arith, inside, sound.lawful.references.sized, some-injective (place_index p l) x e)
 
   word_there : (call : Call) → May p v call → (x : ℕ) → word_of p call ≡ some x → x < length c.words
-  word_there (ClaimSlot j) may x e = slot_word p c.words sound.lawful.references.sized j (tag_word j) may (omega arith) x e
-  word_there (GiveBirth j k) may x e = slot_word p c.words sound.lawful.references.sized j (ref_word j) may.0 (omega arith) x e
-  word_there (AddRef id) may x e = slot_word p c.words sound.lawful.references.sized (socket_id_slot id) (ref_word (socket_id_slot id)) may.0.0 (omega arith) x e
-  word_there (SubRef j) may x e = slot_word p c.words sound.lawful.references.sized j (ref_word j) may.0 (omega arith) x e
-  word_there (SetOdd j) may x e = slot_word p c.words sound.lawful.references.sized j (ref_word j) may.0 (omega arith) x e
-  word_there (Recycle j from) may x e = slot_word p c.words sound.lawful.references.sized j (ref_word j) may.0 (omega arith) x e
-  word_there (FreeSlot j) may x e = slot_word p c.words sound.lawful.references.sized j (tag_word j) may.0 (omega arith) x e
-  word_there (StoreLink j k) may x e = slot_word p c.words sound.lawful.references.sized j (link_word j) may.0 (omega arith) x e
-  word_there (LoadLink j w) may x e = slot_word p c.words sound.lawful.references.sized j (link_word j) may.0 (omega arith) x e
-  word_there (ResetHead j k) may x e = slot_word p c.words sound.lawful.references.sized j (head_word j) may.0 (omega arith) x e
-  word_there (WipeCode j k) may x e = slot_word p c.words sound.lawful.references.sized j (code_word j) may.0 (omega arith) x e
-  word_there (StoreCode j h d) may x e = slot_word p c.words sound.lawful.references.sized j (code_word j) may.0 (omega arith) x e
-  word_there (StoreName n w) may x e = let inside = may.0 in omega (arith, inside, sound.lawful.references.sized, some-injective (name_word p n) x e)
-  word_there (LoadName n) may x e = let inside = may in omega (arith, inside, sound.lawful.references.sized, some-injective (name_word p n) x e)
-  word_there (StoreOpen n w) may x e = let inside = may.0 in omega (arith, inside, sound.lawful.references.sized, some-injective (open_word p n) x e)
-  word_there (LoadOpen n) may x e = let inside = may in omega (arith, inside, sound.lawful.references.sized, some-injective (open_word p n) x e)
+  word_there (ClaimSlot j) may x e = slot_word p c.words sound.lawful.references.sized j (tag_index j) may (omega arith) x e
+  word_there (CreateLife j k) may x e = slot_word p c.words sound.lawful.references.sized j (ref_index j) may.0 (omega arith) x e
+  word_there (AddRef id) may x e = slot_word p c.words sound.lawful.references.sized (socket_id_slot id) (ref_index (socket_id_slot id)) may.0.0 (omega arith) x e
+  word_there (SubRef j) may x e = slot_word p c.words sound.lawful.references.sized j (ref_index j) may.0 (omega arith) x e
+  word_there (SetOdd j) may x e = slot_word p c.words sound.lawful.references.sized j (ref_index j) may.0 (omega arith) x e
+  word_there (Recycle j from) may x e = slot_word p c.words sound.lawful.references.sized j (ref_index j) may.0 (omega arith) x e
+  word_there (FreeSlot j) may x e = slot_word p c.words sound.lawful.references.sized j (tag_index j) may.0 (omega arith) x e
+  word_there (StoreLink j k) may x e = slot_word p c.words sound.lawful.references.sized j (link_index j) may.0 (omega arith) x e
+  word_there (LoadLink j w) may x e = slot_word p c.words sound.lawful.references.sized j (link_index j) may.0 (omega arith) x e
+  word_there (ResetHead j k) may x e = slot_word p c.words sound.lawful.references.sized j (head_index j) may.0 (omega arith) x e
+  word_there (ClearCode j k) may x e = slot_word p c.words sound.lawful.references.sized j (code_index j) may.0 (omega arith) x e
+  word_there (StoreCode j h d) may x e = slot_word p c.words sound.lawful.references.sized j (code_index j) may.0 (omega arith) x e
+  word_there (StoreName n w) may x e = let inside = may.0 in omega (arith, inside, sound.lawful.references.sized, some-injective (name_index p n) x e)
+  word_there (LoadName n) may x e = let inside = may in omega (arith, inside, sound.lawful.references.sized, some-injective (name_index p n) x e)
+  word_there (StoreOpen n w) may x e = let inside = may.0 in omega (arith, inside, sound.lawful.references.sized, some-injective (open_index p n) x e)
+  word_there (LoadOpen n) may x e = let inside = may in omega (arith, inside, sound.lawful.references.sized, some-injective (open_index p n) x e)
   word_there (TakeLink k) may x e = absurd (some-ne-none x (sym e))
   word_there (FinishLink k) may x e = absurd (some-ne-none x (sym e))
   word_there (PutLink k) may x e = absurd (some-ne-none x (sym e))
-  word_there (LookWord id) may x e = slot_word p c.words sound.lawful.references.sized (socket_id_slot id) (ref_word (socket_id_slot id)) may.0 (omega arith) x e
-  word_there (FindLink j h) may x e = slot_word p c.words sound.lawful.references.sized j (link_word j) may.0 (omega arith) x e
-  word_there (LoadCode j h) may x e = slot_word p c.words sound.lawful.references.sized j (code_word j) may.0 (omega arith) x e
-  word_there (ClaimRequest id q) may x e = let inside = may.0 in omega (arith, inside, sound.lawful.references.sized, some-injective (request_word p q) x e)
+  word_there (LookWord id) may x e = slot_word p c.words sound.lawful.references.sized (socket_id_slot id) (ref_index (socket_id_slot id)) may.0 (omega arith) x e
+  word_there (FindLink j h) may x e = slot_word p c.words sound.lawful.references.sized j (link_index j) may.0 (omega arith) x e
+  word_there (LoadCode j h) may x e = slot_word p c.words sound.lawful.references.sized j (code_index j) may.0 (omega arith) x e
+  word_there (ClaimRequest id q) may x e = let inside = may.0 in omega (arith, inside, sound.lawful.references.sized, some-injective (request_index p q) x e)
   word_there (PutMessage q heading bytes) may x e = absurd (some-ne-none x (sym e))
   word_there (Unconnect q) may x e = next_there q may.0 x e
-  word_there (SwapHead j own) may x e = slot_word p c.words sound.lawful.references.sized j (head_word j) may.0 (omega arith) x e
+  word_there (SwapHead j own) may x e = slot_word p c.words sound.lawful.references.sized j (head_index j) may.0 (omega arith) x e
   word_there (Connect q before) may x e = next_there q may.0 x e
-  word_there (EmptyHead j last) may x e = slot_word p c.words sound.lawful.references.sized j (head_word j) may.0 (omega arith) x e
+  word_there (EmptyHead j last) may x e = slot_word p c.words sound.lawful.references.sized j (head_index j) may.0 (omega arith) x e
   word_there (ReadNext q) may x e = next_there q (read_inside p (state c vs) sound.lawful i v at q may) x e
-  word_there (TurnNext q value) may x e = next_there q (turn_inside p (state c vs) sound.lawful i v at q value may) x e
-  word_there (FreeRequest q g) may x e = let inside = free_inside p (state c vs) sound.lawful i v at q g may in omega (arith, inside, sound.lawful.references.sized, some-injective (request_word p q) x e)
+  word_there (ReverseNext q value) may x e = next_there q (turn_inside p (state c vs) sound.lawful i v at q value may) x e
+  word_there (FreeRequest q g) may x e = let inside = free_inside p (state c vs) sound.lawful i v at q g may in omega (arith, inside, sound.lawful.references.sized, some-injective (request_index p q) x e)
   word_there (StorePlace l k n) may x e = place_there l (let inside = may.0.label_in in omega (arith, inside, may.2)) x e
   word_there (DropPlace l k n) may x e = place_there l (let inside = may.0.label_in in omega (arith, inside, may.2)) x e
 
   allows_word : (call : Call) → May p v call → Finds p v call (found call) (hand_at p c.words c.homes call) → AllowsWord call (found call)
   allows_word (ClaimSlot j) may f = tt
-  allows_word (GiveBirth j k) may f = f.0
+  allows_word (CreateLife j k) may f = f.0
   allows_word (AddRef id) may f = f
   allows_word (SubRef j) may f = omega (arith, f.0, may.1)
   allows_word (SetOdd j) may f = tt
@@ -83,7 +83,7 @@ module _ (p : Plan) (c : Core) (vs : List View) (sound : Sound p c vs) (few : Ar
   allows_word (StoreLink j k) may f = tt
   allows_word (LoadLink j w) may f = omega (arith, f.0, sound.limits.links)
   allows_word (ResetHead j k) may f = tt
-  allows_word (WipeCode j k) may f = tt
+  allows_word (ClearCode j k) may f = tt
   allows_word (StoreCode j h d) may f = tt
   allows_word (StoreName n w) may f = tt
   allows_word (LoadName n) may f = f.1

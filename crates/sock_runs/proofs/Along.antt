@@ -9,24 +9,24 @@ use lib.ListN.{get_elem?}
 use Rattle.atomic_table.proofs.Lists.{at_set}
 use Rattle.sock_words.specs.declared.kind.Kind.{Kind}
 use Rattle.sock_words.specs.declared.plain.Plan.{Plan}
-use Rattle.sock_programs.specs.sock_io.specs.declared.link.Put.{Put}
-use Rattle.sock_programs.specs.sock_io.specs.declared.link.Ready.{Ready}
+use Rattle.seat_programs.specs.sock_io.specs.declared.link.Put.{Put}
+use Rattle.seat_programs.specs.sock_io.specs.declared.link.Ready.{Ready}
 use Rattle.sock_model.specs.declared.home.Home.{Home}
 use Rattle.sock_model.specs.Messages.{Letter}
 use Rattle.sock_model.specs.Reads.{message, link_home}
 use Rattle.sock_model.specs.declared.view.View.{View}
-use Rattle.sock_programs.specs.Calls.{kind_of}
-use Rattle.sock_programs.specs.Programs.{Program, Do, Say, Sent, Rest, TakeMessage, TakeHome, PutHome, PutBytes, AskReady, Write, Aside, Round, Keep, Retries}
-use Rattle.sock_programs.specs.Heads.{Retry}
-use Rattle.sock_programs.specs.Asides.{Step, Found, kind_aside}
-use Rattle.sock_programs.specs.Beside.{found_in, calls_after}
-use Rattle.sock_programs.specs.Rounds.{round, kind_of_round}
-use Rattle.sock_programs.specs.corr_core.specs.declared.marks.Plan.{Plan as IdPlan}
-use Rattle.sock_programs.specs.Cores.{Core, SeatState, word_of, word_after, found_at, words_after, homes_after, hand_after, lies_at, first_of, others_of, link_place, with_seat, next_step, resolved, waiting_at}
-use Rattle.sock_programs.specs.Sends.{block}
-use Rattle.sock_programs.specs.Ticks.{Answer, Unasked, OfPut, OfReady, OfTake, Moment, AreAnswered, fed, with_places, onto_first, with_message, with_link, with_put, with_ready, with_found, taken, step_with, tick_with, ticked, run}
-use Rattle.sock_programs.specs.Runs.{kind_in, IsAtRest, IsSettled}
-use Rattle.sock_programs.specs.Scripts.{beginning}
+use Rattle.seat_programs.specs.Calls.{kind_of}
+use Rattle.seat_programs.specs.Programs.{Program, Do, Say, Sent, Rest, TakeMessage, TakeHome, PutHome, PutBytes, AskReady, Write, Aside, Round, Keep, Retries}
+use Rattle.seat_programs.specs.Heads.{Retry}
+use Rattle.seat_programs.specs.Asides.{Step, Found, kind_aside}
+use Rattle.seat_programs.specs.Beside.{found_in, calls_after}
+use Rattle.seat_programs.specs.Rounds.{round, kind_of_round}
+use Rattle.seat_programs.specs.corr_core.specs.declared.marks.Plan.{Plan as IdPlan}
+use Rattle.seat_programs.specs.Cores.{Core, SeatState, word_of, word_after, found_at, words_after, homes_after, hand_after, lies_at, first_of, others_of, link_place, with_seat, next_step, resolved, waiting_at}
+use Rattle.seat_programs.specs.Sends.{block}
+use Rattle.seat_programs.specs.Ticks.{Answer, Unasked, OfPut, OfReady, OfTake, Moment, AreAnswered, fed, with_places, onto_first, with_message, with_link, with_put, with_ready, with_found, taken, step_with, tick_with, ticked, run}
+use Rattle.seat_programs.specs.Runs.{kind_in, IsAtRest, IsSettled}
+use Rattle.seat_programs.specs.Scripts.{beginning}
 use Rattle.sock_runs.specs.Sound.{Sound, IsAhead, AllRest, is_begun, AreFitting, views_after, views_along}
 use Rattle.sock_runs.proofs.LinkTicks.{RetriesGo}
 use Rattle.sock_runs.proofs.Ticks.{sound_ticks}

@@ -1,10 +1,10 @@
 -- What each kind of change of an id word is counted for.
 use Rattle.std.proofs.Common.{◌≡◌, ◌≢◌, ℕ, zero, suc, ◌+◌, ◌-◌, ◌*◌, ◌<◌, ◌≤◌, Bool, true, false, List, length, set, refl, sym, ap, ap₂, ◌∙◌, subst, arith, cond, eqb, eq-eqb, get_or-set_other}
 use Rattle.std.specs.Prelude.{slice_index}
-use Rattle.sock_programs.specs.corr_core.specs.Word.{Parts, parts, made_word, locked_word, posted_word, unlocked_word, free_word}
-use Rattle.sock_programs.specs.corr_core.specs.declared.marks.Plan.{Plan as IdPlan}
-use Rattle.sock_programs.specs.id_rule.specs.Lawful.{tag_word, id_word, call_word, at_word}
-use Rattle.sock_programs.specs.Posts.{packed, advance_of}
+use Rattle.seat_programs.specs.corr_core.specs.Word.{Parts, parts, made_word, locked_word, posted_word, unlocked_word, free_word}
+use Rattle.seat_programs.specs.corr_core.specs.declared.marks.Plan.{Plan as IdPlan}
+use Rattle.seat_programs.specs.id_rule.specs.Lawful.{tag_index, id_index, call_index, at_index}
+use Rattle.seat_programs.specs.Posts.{packed, advance_of}
 use Rattle.sock_runs.specs.Lasts.{ERROR, attempt_cost, popped_gain, id_left, ids_left}
 use Rattle.sock_runs.proofs.Passes.{packed_attempt, packed_range}
 use Rattle.sock_runs.proofs.IdsLeft.{ids_set, made_left, freed_left, locked_left, queued_left, unlocked_left}
@@ -72,41 +72,41 @@ unlocked_packed requests from more room = packed_left requests (unlocked_word (p
 count_sum : (a b c d x y : ℕ) → a + b ≡ c + d → d + y ≤ b + x → a + y ≤ c + x
 count_sum a b c d x y set_ le = omega (arith, set_, le)
 
-module _ (requests : ℕ) (ws : List ℕ) (i n : ℕ) (inside : id_word i < length ws) (slot : i < n) where
+module _ (requests : ℕ) (ws : List ℕ) (i n : ℕ) (inside : id_index i < length ws) (slot : i < n) where
   -- a new call has its attempts
-  pub made_counts : (first range : ℕ) → 2 ≤ range → range ≤ 8 → ids_left requests (set ws (id_word i) (packed (made_word first range))) n ≤ ids_left requests ws n + (range - 2) * attempt_cost requests
+  pub made_counts : (first range : ℕ) → 2 ≤ range → range ≤ 8 → ids_left requests (set ws (id_index i) (packed (made_word first range))) n ≤ ids_left requests ws n + (range - 2) * attempt_cost requests
   made_counts first range low high = let w : ℕ = packed (made_word first range) in
       let is : id_left requests (parts (packed (made_word first range))) ≡ (range - 2) * attempt_cost requests = packed_left requests (made_word first range) (omega arith) (omega (arith, low)) high (omega arith) (omega arith) (omega arith) ∙ made_left requests first range in
-      made_sum (ids_left requests (set ws (id_word i) (packed (made_word first range))) n) (id_left requests (parts (slice_index ws (id_word i)))) (ids_left requests ws n) (id_left requests (parts (packed (made_word first range)))) ((range - 2) * attempt_cost requests) (ids_set requests ws i (packed (made_word first range)) inside n slot) is
+      made_sum (ids_left requests (set ws (id_index i) (packed (made_word first range))) n) (id_left requests (parts (slice_index ws (id_index i)))) (ids_left requests ws n) (id_left requests (parts (packed (made_word first range)))) ((range - 2) * attempt_cost requests) (ids_set requests ws i (packed (made_word first range)) inside n slot) is
     where
       made_sum : (a b c d x : ℕ) → a + b ≡ c + d → d ≡ x → a ≤ c + x
       made_sum a b c d x set_ is = omega (arith, set_, is)
 
-  pub ended_counts : (first : ℕ) → ids_left requests (set ws (id_word i) (packed (free_word first))) n ≤ ids_left requests ws n
+  pub ended_counts : (first : ℕ) → ids_left requests (set ws (id_index i) (packed (free_word first))) n ≤ ids_left requests ws n
   ended_counts first = let is : id_left requests (parts (packed (free_word first))) ≡ 0 = packed_left requests (free_word first) (omega arith) (omega arith) (omega arith) (omega arith) (omega arith) (omega arith) ∙ freed_left requests first in
-      ended_sum (ids_left requests (set ws (id_word i) (packed (free_word first))) n) (id_left requests (parts (slice_index ws (id_word i)))) (ids_left requests ws n) (id_left requests (parts (packed (free_word first)))) (ids_set requests ws i (packed (free_word first)) inside n slot) is
+      ended_sum (ids_left requests (set ws (id_index i) (packed (free_word first))) n) (id_left requests (parts (slice_index ws (id_index i)))) (ids_left requests ws n) (id_left requests (parts (packed (free_word first)))) (ids_set requests ws i (packed (free_word first)) inside n slot) is
     where
       ended_sum : (a b c d : ℕ) → a + b ≡ c + d → d ≡ 0 → a ≤ c
       ended_sum a b c d set_ is = omega (arith, set_, is)
 
-  module _ (from : ℕ) (found : slice_index ws (id_word i) ≡ from) where
-    old_is : id_left requests (parts (slice_index ws (id_word i))) ≡ id_left requests (parts from)
+  module _ (from : ℕ) (found : slice_index ws (id_index i) ≡ from) where
+    old_is : id_left requests (parts (slice_index ws (id_index i))) ≡ id_left requests (parts from)
     old_is = ap (λ w. id_left requests (parts w)) found
 
-    counts : (w x y : ℕ) → id_left requests (parts w) + y ≤ id_left requests (parts from) + x → ids_left requests (set ws (id_word i) w) n + y ≤ ids_left requests ws n + x
-    counts w x y le = count_sum (ids_left requests (set ws (id_word i) w) n) (id_left requests (parts (slice_index ws (id_word i)))) (ids_left requests ws n) (id_left requests (parts w)) x y (ids_set requests ws i w inside n slot)
+    counts : (w x y : ℕ) → id_left requests (parts w) + y ≤ id_left requests (parts from) + x → ids_left requests (set ws (id_index i) w) n + y ≤ ids_left requests ws n + x
+    counts w x y le = count_sum (ids_left requests (set ws (id_index i) w) n) (id_left requests (parts (slice_index ws (id_index i)))) (ids_left requests ws n) (id_left requests (parts w)) x y (ids_set requests ws i w inside n slot)
         (subst (λ m. id_left requests (parts w) + y ≤ m + x) (sym old_is) le)
 
     same_sum : (a b : ℕ) → a ≡ b → a + 0 ≤ b + 0
     same_sum a b is = omega (arith, is)
 
     -- an open id is locked
-    pub locked_counts : (e : ℕ) → (parts from).state ≡ 1 → ids_left requests (set ws (id_word i) (packed (posted_word (parts from) e))) n + 0 ≤ ids_left requests ws n + 0
+    pub locked_counts : (e : ℕ) → (parts from).state ≡ 1 → ids_left requests (set ws (id_index i) (packed (posted_word (parts from) e))) n + 0 ≤ ids_left requests ws n + 0
     locked_counts e one = counts (packed (posted_word (parts from) e)) 0 0 (same_sum (id_left requests (parts (packed (posted_word (parts from) e)))) (id_left requests (parts from))
         (ap (λ (w : Parts). id_left requests (parts (packed w))) (posted_open from e one) ∙ (locked_packed requests from ∙ locked_left requests (parts from) one)))
 
     -- an error is queued
-    pub queued_counts : (e : ℕ) → (parts from).state ≡ 2 → (parts from).second ≡ 0 → e < 32768 → ids_left requests (set ws (id_word i) (packed (posted_word (parts from) e))) n + 0 ≤ ids_left requests ws n + ERROR
+    pub queued_counts : (e : ℕ) → (parts from).state ≡ 2 → (parts from).second ≡ 0 → e < 32768 → ids_left requests (set ws (id_index i) (packed (posted_word (parts from) e))) n + 0 ≤ ids_left requests ws n + ERROR
     queued_counts e two room small = counts (packed (posted_word (parts from) e)) ERROR 0
         (queued_sum (id_left requests (parts (packed (posted_word (parts from) e)))) (id_left requests (posted_word (parts from) e)) (id_left requests (parts from)) (queued_packed requests from e two small) (queued_left requests (parts from) e two room))
       where
@@ -115,7 +115,7 @@ module _ (requests : ℕ) (ws : List ℕ) (i n : ℕ) (inside : id_word i < leng
 
     -- a lock is given back
     pub unlocked_counts : (advance : Bool) → 0 < (parts from).state → (parts from).attempt + advance_of advance + 2 ≤ (parts from).range
-        → ids_left requests (set ws (id_word i) (packed (unlocked_word (parts from) (advance_of advance)))) n + (popped_gain from + cond advance (attempt_cost requests) 0) ≤ ids_left requests ws n + 0
+        → ids_left requests (set ws (id_index i) (packed (unlocked_word (parts from) (advance_of advance)))) n + (popped_gain from + cond advance (attempt_cost requests) 0) ≤ ids_left requests ws n + 0
     unlocked_counts advance some_ room = counts (packed (unlocked_word (parts from) (advance_of advance))) 0 (popped_gain from + cond advance (attempt_cost requests) 0)
         (unlocked_sum (id_left requests (parts (packed (unlocked_word (parts from) (advance_of advance))))) (id_left requests (unlocked_word (parts from) (advance_of advance))) (popped_gain from + cond advance (attempt_cost requests) 0) (id_left requests (parts from))
         (unlocked_packed requests from (advance_of advance) room) (unlocked_left requests (parts from) advance some_ room))
@@ -126,16 +126,16 @@ module _ (requests : ℕ) (ws : List ℕ) (i n : ℕ) (inside : id_word i < leng
 -- ## Words beside them
 
 -- a word that is none of the ids' changes none of them
-beside_same : (ws : List ℕ) (x w : ℕ) → ((j : ℕ) → id_word j ≢ x) → (j : ℕ) → slice_index (set ws x w) (id_word j) ≡ slice_index ws (id_word j)
-beside_same ws x w other j = get_or-set_other ws x (id_word j) w 0 (λ e. other j e)
+beside_same : (ws : List ℕ) (x w : ℕ) → ((j : ℕ) → id_index j ≢ x) → (j : ℕ) → slice_index (set ws x w) (id_index j) ≡ slice_index ws (id_index j)
+beside_same ws x w other j = get_or-set_other ws x (id_index j) w 0 (λ e. other j e)
 
-pub tag_same : (ws : List ℕ) (i w : ℕ) (j : ℕ) → slice_index (set ws (tag_word i) w) (id_word j) ≡ slice_index ws (id_word j)
-tag_same ws i w = beside_same ws (tag_word i) w (λ j e. omega (arith, e))
+pub tag_same : (ws : List ℕ) (i w : ℕ) (j : ℕ) → slice_index (set ws (tag_index i) w) (id_index j) ≡ slice_index ws (id_index j)
+tag_same ws i w = beside_same ws (tag_index i) w (λ j e. omega (arith, e))
 
-pub call_same : (q : IdPlan) (ws : List ℕ) (o w : ℕ) (j : ℕ) → slice_index (set ws (call_word q o) w) (id_word j) ≡ slice_index ws (id_word j)
-call_same q ws o w = beside_same ws (call_word q o) w (λ j e. omega (arith, e))
+pub call_same : (q : IdPlan) (ws : List ℕ) (o w : ℕ) (j : ℕ) → slice_index (set ws (call_index q o) w) (id_index j) ≡ slice_index ws (id_index j)
+call_same q ws o w = beside_same ws (call_index q o) w (λ j e. omega (arith, e))
 
 -- an at word is none of the table's ids
-pub at_counts : (requests : ℕ) (q : IdPlan) (ws : List ℕ) (o w : ℕ) (n : ℕ) → n ≤ q.slots → ids_left requests (set ws (at_word q o) w) n ≡ ids_left requests ws n
+pub at_counts : (requests : ℕ) (q : IdPlan) (ws : List ℕ) (o w : ℕ) (n : ℕ) → n ≤ q.slots → ids_left requests (set ws (at_index q o) w) n ≡ ids_left requests ws n
 at_counts requests q ws o w zero few = refl
-at_counts requests q ws o w (suc n) few = ap₂ (λ a b. a + b) (ap (λ x. id_left requests (parts x)) (get_or-set_other ws (at_word q o) (id_word n) w 0 (λ e. omega (arith, e, few)))) (at_counts requests q ws o w n (omega (arith, few)))
+at_counts requests q ws o w (suc n) few = ap₂ (λ a b. a + b) (ap (λ x. id_left requests (parts x)) (get_or-set_other ws (at_index q o) (id_index n) w 0 (λ e. omega (arith, e, few)))) (at_counts requests q ws o w n (omega (arith, few)))

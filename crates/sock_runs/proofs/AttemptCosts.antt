@@ -6,16 +6,16 @@ use Rattle.sock_model.specs.declared.chain.Heading.{Heading}
 use Rattle.sock_model.specs.declared.view.View.{View}
 use Rattle.sock_model.specs.Entries.{ticket_of}
 use Rattle.sock_model.specs.Memory.{IDLE}
-use Rattle.sock_programs.specs.sock_message.specs.Asked.{Asked, name_of, frame_of}
-use Rattle.sock_programs.specs.Calls.{AddRef, SubRef, Recycle, FreeSlot, LoadLink, LoadName, TakeLink, FinishLink, PutLink, LookWord, FindLink, ClaimRequest, PutMessage, Unconnect, SwapHead, Connect}
-use Rattle.sock_programs.specs.Asides.{StoreAt, id_slot, id_first}
-use Rattle.sock_programs.specs.Heads.{Unlocks, Unlocking, IsOpen, HasNext, Deciding, HasEnded, Locking, NotThere, Has}
-use Rattle.sock_programs.specs.Heads as heads
-use Rattle.sock_programs.specs.Programs.{Program, Do, Aside, LAST_VERSION, recycle, release, address}
-use Rattle.sock_programs.specs.Posts.{post, decided}
-use Rattle.sock_programs.specs.Sends.{write_link, accept}
-use Rattle.sock_programs.specs.Attempts.{claims_from, heading_for, attempt, tried_again, retry_locked, retry}
-use Rattle.sock_programs.specs.Told.{AskedFits}
+use Rattle.seat_programs.specs.sock_message.specs.Asked.{Asked, name_of, frame_of}
+use Rattle.seat_programs.specs.Calls.{AddRef, SubRef, Recycle, FreeSlot, LoadLink, LoadName, TakeLink, FinishLink, PutLink, LookWord, FindLink, ClaimRequest, PutMessage, Unconnect, SwapHead, Connect}
+use Rattle.seat_programs.specs.Asides.{StoreAt, id_slot, id_first}
+use Rattle.seat_programs.specs.Heads.{Unlocks, Unlocking, IsOpen, HasNext, Deciding, HasEnded, Locking, NotThere, Has}
+use Rattle.seat_programs.specs.Heads as heads
+use Rattle.seat_programs.specs.Programs.{Program, Do, Aside, LAST_VERSION, recycle, release, address}
+use Rattle.seat_programs.specs.Posts.{post, decided}
+use Rattle.seat_programs.specs.Sends.{write_link, accept}
+use Rattle.seat_programs.specs.Attempts.{claims_from, heading_for, attempt, tried_again, retry_locked, retry}
+use Rattle.seat_programs.specs.Told.{AskedFits}
 use Rattle.sock_runs.specs.Rows.{row, link_away}
 use Rattle.sock_runs.specs.Lasts.{LastsFor, STALE, CHANGE, ERROR, POST, ACCEPT, weight, attempt_cost, unlocking_gain}
 use Rattle.sock_runs.proofs.IdCosts.{lasts_more, post_lasts, decide_lasts}

@@ -8,23 +8,23 @@ use lib.ListN.{get_elem?}
 use Rattle.atomic_table.proofs.Lists.{set_again}
 use Rattle.sock_words.specs.Words.{socket_id_version, socket_id_slot}
 use Rattle.sock_words.specs.declared.plain.Plan.{Plan}
-use Rattle.sock_programs.specs.sock_io.specs.declared.link.Ready.TheVariants.{NotYet}
+use Rattle.seat_programs.specs.sock_io.specs.declared.link.Ready.TheVariants.{NotYet}
 use Rattle.sock_model.specs.declared.chain.Right.{Right}
 use Rattle.sock_model.specs.declared.chain.Stage.{Stage}
 use Rattle.sock_model.specs.declared.chain.Stage.TheVariants as stages
 use Rattle.sock_model.specs.declared.view.View.{View}
-use Rattle.sock_model.specs.Layout.{next_word, open_word}
+use Rattle.sock_model.specs.Layout.{next_index, open_index}
 use Rattle.sock_model.specs.Entries.{slot_of}
 use Rattle.sock_model.specs.Memory.{UNCONNECTED}
 use Rattle.sock_model.specs.ChainRows.{with_right}
 use Rattle.sock_model.specs.SlotRows.{met}
-use Rattle.sock_programs.specs.Calls.{ReadNext}
-use Rattle.sock_programs.specs.Writings as heads
-use Rattle.sock_programs.specs.Heads.{Head, Exit, Locks, Joins, Opens, Reads, Discards}
-use Rattle.sock_programs.specs.Programs.{Program, Rest, Write, Round, NO_SOCKET}
-use Rattle.sock_programs.specs.Cores.{Core, SeatState}
-use Rattle.sock_programs.specs.Ticks.{Answer, OfReady, Moment, IsAnswered, IsPrompt, ticked, tick_with, waits_at, waits_in, waits}
-use Rattle.sock_programs.specs.Runs.{IsAtRest}
+use Rattle.seat_programs.specs.Calls.{ReadNext}
+use Rattle.seat_programs.specs.Writings as heads
+use Rattle.seat_programs.specs.Heads.{Head, Exit, Locks, Joins, Opens, Reads, Discards}
+use Rattle.seat_programs.specs.Programs.{Program, Rest, Write, Round, NO_SOCKET}
+use Rattle.seat_programs.specs.Cores.{Core, SeatState}
+use Rattle.seat_programs.specs.Ticks.{Answer, OfReady, Moment, IsAnswered, IsAlwaysReady, ticked, tick_with, waits_at, waits_in, waits}
+use Rattle.seat_programs.specs.Runs.{IsAtRest}
 use Rattle.sock_runs.specs.Rows.{row, hand_at, by_right, read_next, found_id}
 use Rattle.sock_runs.specs.GoesOn.{GoesOn}
 use Rattle.sock_runs.specs.Sound.{Sound, IsAhead, AreFew, IsFitting, views_of, views_after}
@@ -54,14 +54,14 @@ module _ (p : Plan) (i : ℕ) (c : Core) (vs : List View) (v : View) (at_view : 
   round_stays : (head : Head) (next : Exit head → Program) (answer : Answer) → waits_in p c.words c.calls answer head ≡ true → views_of p i c vs v answer (Round head next) ≡ vs
   round_stays (Locks j sought std.None) next answer is = refl
   round_stays (Joins id) next answer is = refl
-  round_stays (Opens o) next answer is = set_same (found_id (slice_index c.words (open_word p o)) v) (open_same (slice_index c.words (open_word p o)) is)
+  round_stays (Opens o) next answer is = set_same (found_id (slice_index c.words (open_index p o)) v) (open_same (slice_index c.words (open_index p o)) is)
   round_stays (Reads r) next answer is = refl
   round_stays (Discards k total) next answer is = refl
   round_stays _ next answer is = absurd (true≢false (sym is))
 
   -- a seat that waits keeps its view
   views_stay : (program : Program) (answer : Answer) → GoesOn p v program → waits_at p c answer program ≡ true → views_of p i c vs v answer program ≡ vs
-  views_stay (Write (heads.Walks h top place after) then_) answer g is = let found : ℕ = slice_index c.words (next_word p (slot_of place)) in
+  views_stay (Write (heads.Walks h top place after) then_) answer g is = let found : ℕ = slice_index c.words (next_index p (slot_of place)) in
       set_same (row p (ReadNext (slot_of place)) found (hand_at p c.words c.homes (ReadNext (slot_of place))) v) (walk_same top place after g.0.0 g.0.1.one g.0.2.stage_is found is)
   views_stay (Write (heads.Waits h now heading left taken) after) (OfReady NotYet) g is = refl
   views_stay (Write (heads.Waits h now heading left taken) after) _ g is = absurd (true≢false (sym is))
@@ -105,12 +105,12 @@ pub record IsBounded (p : Plan) (most : ℕ) (c : Core) (vs : List View) : Type 
   pub within : left ≤ most
   pub few : AreFew vs
 
-module _ (p : Plan) (go : RetriesGo p) (c : Core) (vs : List View) (m : Moment) (sound : Sound p c vs) (answered : IsAnswered c m) (prompt : IsPrompt m) (fitting : IsFitting p c m) (counted : IsCounted c m) where
+module _ (p : Plan) (go : RetriesGo p) (c : Core) (vs : List View) (m : Moment) (sound : Sound p c vs) (answered : IsAnswered c m) (always_ready : IsAlwaysReady m) (fitting : IsFitting p c m) (counted : IsCounted c m) where
   -- no more is left behind a tick than before
   pub tick_lasts : (n : ℕ) → IsAhead c → length c.seats ≤ 64 → Lasts p c vs n → (l : ℕ) × (l ≤ n) × Lasts p (ticked p c m) (views_after p c vs m) l
   tick_lasts n ahead few lasts = ⊎_elim
       (λ still. (n, omega arith, ⊎_elim (λ idle. let r = rests_still p c vs m ahead idle in same r.0 r.1) (λ is. same (waits_still p c vs m sound ahead answered is) (views_still p c vs m sound is)) still))
-      (λ moves. let less = moves.1 in (moves.0, omega (arith, less), moves.2)) (calls_last p go c vs m n sound answered prompt fitting counted few lasts)
+      (λ moves. let less = moves.1 in (moves.0, omega (arith, less), moves.2)) (calls_last p go c vs m n sound answered always_ready fitting counted few lasts)
     where
       same : ticked p c m ≡ c → views_after p c vs m ≡ vs → Lasts p (ticked p c m) (views_after p c vs m) n
       same a b = subst (λ d. Lasts p d (views_after p c vs m) n) (sym a) (subst (λ us. Lasts p c us n) (sym b) lasts)

@@ -8,15 +8,15 @@ use Rattle.sock_model.specs.declared.home.Home.{Home}
 use Rattle.sock_model.specs.declared.view.View.{View}
 use Rattle.sock_model.specs.Weights.{total, is_ref, is_busy}
 use Rattle.sock_model.specs.Marks.{about}
-use Rattle.sock_model.specs.Layout.{ref_word}
+use Rattle.sock_model.specs.Layout.{ref_index}
 use Rattle.sock_model.specs.Slots.{SlotLaw, live, count}
 use Rattle.sock_model.specs.References.{slot_facts, References}
-use Rattle.sock_steps.specs.slot_laws.proofs.Sums.{total_bound}
-use Rattle.sock_steps.specs.slot_laws.proofs.Numbers.{live_le}
+use Rattle.sock_steps.specs.slot_steps.proofs.Sums.{total_bound}
+use Rattle.sock_steps.specs.slot_steps.proofs.Numbers.{live_le}
 
 module _ (p : Plan) (s : State Home View) (o : References p s) (i : ℕ) (inside : i < p.slots) where
   abbrev pub word : ℕ
-  word = get_or s.words (ref_word i) 0
+  word = get_or s.words (ref_index i) 0
 
   pub law : SlotLaw p.first (live (slot_facts s i)) (slot_facts s i)
   law = o.slots i inside
@@ -24,11 +24,11 @@ module _ (p : Plan) (s : State Home View) (o : References p s) (i : ℕ) (inside
   pub lives_le : live (slot_facts s i) ≤ 1
   lives_le = live_le (slot_facts s i).tag (slot_facts s i).version (count is_busy (slot_facts s i))
 
-  pub next_version : vref_version (get_or s.words (ref_word i) 0) < 4294967295
+  pub next_version : vref_version (get_or s.words (ref_index i) 0) < 4294967295
   next_version = omega (arith, law.top)
 
-  pub fits : get_or s.words (ref_word i) 0 < 18446744073709551616
+  pub fits : get_or s.words (ref_index i) 0 < 18446744073709551616
   fits = omega (arith, law.top)
 
-  pub has_room : vref_nref (get_or s.words (ref_word i) 0) < 4294967295
+  pub has_room : vref_nref (get_or s.words (ref_index i) 0) < 4294967295
   has_room = omega (arith, law.counted, lives_le, total_bound (total is_ref) 65540 (slot_facts s i).marks law.few, length-map s.views (λ (v : View). about i v.marks), o.seat_limit)

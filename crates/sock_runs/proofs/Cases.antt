@@ -4,9 +4,9 @@ use mathlib.Core.Option.{Option, some, none, some-injective, some-ne-none}
 use lib.ListN.{get_elem?}
 use Rattle.atomic_table.proofs.Lists.{set_again}
 use Rattle.sock_words.specs.declared.plain.Plan.{Plan}
-use Rattle.sock_programs.specs.sock_io.specs.declared.link.Put.{Put}
-use Rattle.sock_programs.specs.sock_io.specs.declared.link.Put.TheVariants.{Took, Again, Failed}
-use Rattle.sock_programs.specs.sock_io.specs.declared.link.Ready.{Ready}
+use Rattle.seat_programs.specs.sock_io.specs.declared.link.Put.{Put}
+use Rattle.seat_programs.specs.sock_io.specs.declared.link.Put.TheVariants.{Took, Again, Failed}
+use Rattle.seat_programs.specs.sock_io.specs.declared.link.Ready.{Ready}
 use Rattle.sock_model.specs.declared.chain.Heading.{Heading}
 use Rattle.sock_model.specs.declared.chain.Right.{Right}
 use Rattle.sock_model.specs.declared.home.Home.{Home}
@@ -15,22 +15,22 @@ use Rattle.sock_model.specs.declared.view.View.{View}
 use Rattle.sock_model.specs.ChainRows.{with_right, taken_right, put_right}
 use Rattle.sock_model.specs.Messages.{Letter}
 use Rattle.sock_model.specs.Reads.{letter_of, shown, message, link_home}
-use Rattle.sock_programs.specs.Writings.{Writing, Puts, Waits, Empties, Walks}
-use Rattle.sock_programs.specs.Calls.{Call}
-use Rattle.sock_programs.specs.Programs.{Program, Do, Say, Sent, Rest, TakeMessage, TakeHome, PutHome, PutBytes, AskReady, Write, Aside, Round, Keep, Retries}
-use Rattle.sock_programs.specs.Asides.{Step, Found}
-use Rattle.sock_programs.specs.Heads.{Head, Exit, Posts, Unlocks, Decides, Locks, Joins, Opens, Reads, Discards}
-use Rattle.sock_programs.specs.Rounds.{round}
-use Rattle.sock_programs.specs.Beside.{found_in, calls_after}
+use Rattle.seat_programs.specs.Writings.{Writing, Puts, Waits, Empties, Walks}
+use Rattle.seat_programs.specs.Calls.{Call}
+use Rattle.seat_programs.specs.Programs.{Program, Do, Say, Sent, Rest, TakeMessage, TakeHome, PutHome, PutBytes, AskReady, Write, Aside, Round, Keep, Retries}
+use Rattle.seat_programs.specs.Asides.{Step, Found}
+use Rattle.seat_programs.specs.Heads.{Head, Exit, Posts, Unlocks, Decides, Locks, Joins, Opens, Reads, Discards}
+use Rattle.seat_programs.specs.Rounds.{round}
+use Rattle.seat_programs.specs.Beside.{found_in, calls_after}
 use Rattle.sock_runs.specs.Fits.{FitsFound}
-use Rattle.sock_programs.specs.Sends.{block}
-use Rattle.sock_programs.specs.corr_core.specs.Word.{parts, code_of}
-use Rattle.sock_programs.specs.Asides.{PutCall, id_slot}
-use Rattle.sock_programs.specs.Heads.{HasEnded}
-use Rattle.sock_programs.specs.Posts.{ends_call, end_id, unlocked}
+use Rattle.seat_programs.specs.Sends.{block}
+use Rattle.seat_programs.specs.corr_core.specs.Word.{parts, code_of}
+use Rattle.seat_programs.specs.Asides.{PutCall, id_slot}
+use Rattle.seat_programs.specs.Heads.{HasEnded}
+use Rattle.seat_programs.specs.Posts.{ends_call, end_id, unlocked}
 use Rattle.std.specs.Prelude.{if◌then◌else◌, ◌+◌, Some, None}
-use Rattle.sock_programs.specs.Cores.{Calls, Core, SeatState, word_of, found_at, lies_at, first_of, others_of, link_place, with_seat, stepped}
-use Rattle.sock_programs.specs.Ticks.{Answer, OfPut, OfReady, Moment, FitsPut, IsAnswer, IsAnswered, fed, with_places, onto_first, with_message, with_link, taken, with_found, step_with, tick_with, ticked}
+use Rattle.seat_programs.specs.Cores.{Calls, Core, SeatState, word_of, found_at, lies_at, first_of, others_of, link_place, with_seat, stepped}
+use Rattle.seat_programs.specs.Ticks.{Answer, OfPut, OfReady, Moment, FitsPut, IsAnswer, IsAnswered, fed, with_places, onto_first, with_message, with_link, taken, with_found, step_with, tick_with, ticked}
 use Rattle.sock_runs.specs.Rows.{row, hand_at, by_right, took_message, link_away, link_home_again, took_bytes}
 use Rattle.sock_runs.specs.GoesOn.{GoesOn}
 use Rattle.sock_runs.specs.Sound.{Sound, first_step, views_with_message, views_with_link, views_with, views_of, views_after, FitsBeside, IsFitting}

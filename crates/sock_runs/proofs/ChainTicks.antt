@@ -19,7 +19,7 @@ use Rattle.sock_model.specs.declared.home.Home.TheVariants.{Message}
 use Rattle.sock_model.specs.declared.view.View.{View}
 use Rattle.sock_model.specs.declared.view.Hand.{Hand}
 use Rattle.sock_model.specs.Weights.{is_hold, is_met, is_saw, is_linked}
-use Rattle.sock_model.specs.Layout.{ref_word, link_word, head_word, code_word, request_word, next_word, place_word}
+use Rattle.sock_model.specs.Layout.{ref_index, link_index, head_index, code_index, request_index, next_index, place_index}
 use Rattle.sock_model.specs.Entries.{slot_of, generation_of, ticket, on, nth}
 use Rattle.sock_model.specs.Writing.{Held, InStage, OnWalk}
 use Rattle.sock_model.specs.Memory.{IDLE, UNCONNECTED}
@@ -32,12 +32,12 @@ use Rattle.sock_model.specs.Deliveries.{place_value}
 use Rattle.sock_model.specs.Reads.{memory, tokens, link_home}
 use Rattle.sock_model.specs.ChainRows.{with_claim, with_right, without_right, queued, righted, new_right, turned_right, placed_right, dropped_right}
 use Rattle.sock_model.specs.Lawful.{Lawful}
-use Rattle.sock_steps.specs.slot_laws.proofs.Numbers.{life-in}
-use Rattle.sock_steps.specs.chain_laws.proofs.Lists.{at_length, at_some, ticket_at_is}
-use Rattle.sock_steps.specs.chain_laws.proofs.Frames.{in_size}
-use Rattle.sock_steps.specs.chain_laws.proofs.Heads.{held_of, slot_is}
-use Rattle.sock_steps.specs.chain_laws.proofs.Nexts.{turn_slot}
-use Rattle.sock_steps.specs.chain_laws.proofs.Frees.{Leads, to_end, to_next, now_small}
+use Rattle.sock_steps.specs.slot_steps.proofs.Numbers.{life-in}
+use Rattle.sock_steps.specs.chain_steps.proofs.Lists.{at_length, at_some, ticket_at_is}
+use Rattle.sock_steps.specs.chain_steps.proofs.Frames.{in_size}
+use Rattle.sock_steps.specs.chain_steps.proofs.Heads.{held_of, slot_is}
+use Rattle.sock_steps.specs.chain_steps.proofs.Nexts.{turn_slot}
+use Rattle.sock_steps.specs.chain_steps.proofs.Frees.{Leads, to_end, to_next, now_small}
 use Rattle.sock_steps.proofs.Maps.{set_at, set_twice}
 use Rattle.sock_steps.proofs.Places.{own_count, holder_lives}
 use Rattle.sock_steps.proofs.SlotSteps.{look_law, meet_law, found_code_law, idle_law}
@@ -47,9 +47,9 @@ use Rattle.sock_steps.proofs.AcceptSteps.{queued_law, righted_law}
 use Rattle.sock_steps.proofs.WalkSteps.{passing_law, reading_law, emptied_law, walking_law, turning_law}
 use Rattle.sock_steps.proofs.WriteSteps.{freeing_law, retiring_law, placing_law, dropping_law}
 use Rattle.sock_steps.proofs.RightSteps.{right_in, right_alone}
-use Rattle.sock_programs.specs.Calls.{LookWord, FindLink, LoadCode, ClaimRequest, PutMessage, Unconnect, SwapHead, Connect, EmptyHead, ReadNext, TurnNext, FreeRequest, StorePlace, DropPlace}
-use Rattle.sock_programs.specs.Cores.{word_after, homes_after}
-use Rattle.sock_programs.specs.Programs.{LAST_GENERATION}
+use Rattle.seat_programs.specs.Calls.{LookWord, FindLink, LoadCode, ClaimRequest, PutMessage, Unconnect, SwapHead, Connect, EmptyHead, ReadNext, ReverseNext, FreeRequest, StorePlace, DropPlace}
+use Rattle.seat_programs.specs.Cores.{word_after, homes_after}
+use Rattle.seat_programs.specs.Programs.{LAST_GENERATION}
 use Rattle.sock_runs.specs.Rows.{row, hand_at, as_hand, by_claim, by_right, new_claim, filled_claim, ready_claim, exchanged, looked_clean, emptied, settled_stage, settled, read_next, turned_next, freed_stage, freed_next, placed_next, dropped_next}
 use Rattle.sock_runs.specs.May.{May, HoldsLife, FoundFailed}
 use Rattle.sock_runs.proofs.Bounds.{law, lives_le, fits}
@@ -71,18 +71,18 @@ module _ (v : View) (r : Right) (one : v.rights ≡ r ∷ []) where
 
 -- the link of a life that a seat holds stands in the slot
 module _ (p : Plan) (s : State Home View) (o : Lawful (λ home. home) p s) (i : ℕ) (v : View) (at : get_elem? s.views i ≡ some v) (j h : ℕ) (holds : HoldsLife p v j h) where
-  held_link_given : Given p s j h (get_or s.words (link_word j) 0)
+  held_link_given : Given p s j h (get_or s.words (link_index j) 0)
   held_link_given = let l = law p s o.references j holds.0 in let here = l.held h (let a = holds.1 in omega (arith, own_count s i v at (is_hold h) j)) in
       let le = lives_le p s o.references j holds.0 in let here₀ = here.0 in let here₁ = here.1 in
       dite (ℕ_discrete h (slot_facts s j).version)
-      (λ e. record { inside = holds.0; given = subst (λ z. 0 < count (is_linked z (get_or s.words (link_word j) 0)) (slot_facts s j)) (sym e) (l.link_live (omega arith)) })
+      (λ e. record { inside = holds.0; given = subst (λ z. 0 < count (is_linked z (get_or s.words (link_index j) 0)) (slot_facts s j)) (sym e) (l.link_live (omega arith)) })
       (λ ne. let odd : h + 1 ≡ (slot_facts s j).version = omega arith in let before : (slot_facts s j).version - 1 ≡ h = omega arith in
-      record { inside = holds.0; given = subst (λ z. 0 < count (is_linked z (get_or s.words (link_word j) 0)) (slot_facts s j)) before (l.link_odd (omega arith)) })
+      record { inside = holds.0; given = subst (λ z. 0 < count (is_linked z (get_or s.words (link_index j) 0)) (slot_facts s j)) before (l.link_odd (omega arith)) })
 
-  pub held_link_in : get_or s.words (link_word j) 0 < p.links
-  held_link_in = o.in_slots.small j h (get_or s.words (link_word j) 0) held_link_given
+  pub held_link_in : get_or s.words (link_index j) 0 < p.links
+  held_link_in = o.in_slots.small j h (get_or s.words (link_index j) 0) held_link_given
 
-  pub held_link_is : (k : ℕ) → 0 < marks_of (is_met h k) j v → get_or s.words (link_word j) 0 ≡ k
+  pub held_link_is : (k : ℕ) → 0 < marks_of (is_met h k) j v → get_or s.words (link_index j) 0 ≡ k
   held_link_is k met = let l = law p s o.references j holds.0 in let here = l.held h (let a = holds.1 in omega (arith, own_count s i v at (is_hold h) j)) in let here₀ = here.0 in
       l.link_is h k (l.met h k (omega (arith, own_count s i v at (is_met h k) j))) (omega arith)
 
@@ -104,41 +104,41 @@ module _ (p : Plan) (s : State Home View) (o : Lawful (λ home. home) p s) (i : 
   -- ## Slots
 
   pub looks : (id : ℕ) → May p v (LookWord id) → KeepsWord p s i v (LookWord id)
-  looks id may = let j : ℕ = socket_id_slot id in let h : ℕ = socket_id_version id in let found : ℕ = get_or s.words (ref_word j) 0 in let inside = may.0 in
-      let plain : With (set s.words (ref_word j) found) (looked j found v) = look_law (λ home. home) p s o i v at j inside (fits p s o.references j inside) in
+  looks id may = let j : ℕ = socket_id_slot id in let h : ℕ = socket_id_version id in let found : ℕ = get_or s.words (ref_index j) 0 in let inside = may.0 in
+      let plain : With (set s.words (ref_index j) found) (looked j found v) = look_law (λ home. home) p s o i v at j inside (fits p s o.references j inside) in
       ⊎_elim
-      (λ none_. subst (λ rs. With (set s.words (ref_word j) found) (by_right rs (looked_clean j found v) (looked j found v))) (sym none_) plain)
-      (λ mine. let r : Right = mine.0 in subst (λ rs. With (set s.words (ref_word j) found) (by_right rs (looked_clean j found v) (looked j found v))) (sym mine.1)
+      (λ none_. subst (λ rs. With (set s.words (ref_index j) found) (by_right rs (looked_clean j found v) (looked j found v))) (sym none_) plain)
+      (λ mine. let r : Right = mine.0 in subst (λ rs. With (set s.words (ref_index j) found) (by_right rs (looked_clean j found v) (looked j found v))) (sym mine.1)
       (dite (ℕ_discrete (vref_version found % 2) 0)
-      (λ even. subst (λ b. With (set s.words (ref_word j) found) (cond b (with_right (looked j found v) (record r { clean = true })) (looked j found v))) (sym (eq-eqb (vref_version found % 2) 0 even))
+      (λ even. subst (λ b. With (set s.words (ref_index j) found) (cond b (with_right (looked j found v) (record r { clean = true })) (looked j found v))) (sym (eq-eqb (vref_version found % 2) 0 even))
       (clean_look_law (λ home. home) p s o i v at (has_one v r mine.1) j h mine.2 (fits p s o.references j inside) even))
-      (λ odd. subst (λ b. With (set s.words (ref_word j) found) (cond b (with_right (looked j found v) (record r { clean = true })) (looked j found v))) (sym (ne_eqb (vref_version found % 2) 0 odd)) plain)))
+      (λ odd. subst (λ b. With (set s.words (ref_index j) found) (cond b (with_right (looked j found v) (record r { clean = true })) (looked j found v))) (sym (ne_eqb (vref_version found % 2) 0 odd)) plain)))
       may.1
 
   pub finds_link : (j h : ℕ) → May p v (FindLink j h) → KeepsWord p s i v (FindLink j h)
   finds_link j h may = meet_law (λ home. home) p s o i v at j may.0 h may.1
 
   pub loads_code : (j h : ℕ) → May p v (LoadCode j h) → KeepsWord p s i v (LoadCode j h)
-  loads_code j h may = let found : ℕ = get_or s.words (code_word j) 0 in let P : Bool → Type 0 = λ b. With (set s.words (code_word j) found) (cond b v (told_code j h found v)) in
+  loads_code j h may = let found : ℕ = get_or s.words (code_index j) 0 in let P : Bool → Type 0 = λ b. With (set s.words (code_index j) found) (cond b v (told_code j h found v)) in
       dite (ℕ_discrete found 0)
-      (λ none_. subst P (sym (eq-eqb found 0 none_)) (idle_law (λ home. home) p s o i v at (code_word j)))
+      (λ none_. subst P (sym (eq-eqb found 0 none_)) (idle_law (λ home. home) p s o i v at (code_index j)))
       (λ some_. subst P (sym (ne_eqb found 0 some_)) (found_code_law (λ home. home) p s o i v at j may.0 h may.1 (omega arith)))
 
   -- ## Whoever sends
 
   pub claims_request : (id q : ℕ) → May p v (ClaimRequest id q) → KeepsWord p s i v (ClaimRequest id q)
-  claims_request id q may = let j : ℕ = socket_id_slot id in let h : ℕ = socket_id_version id in let k : ℕ = get_or s.words (link_word j) 0 in let found : ℕ = get_or s.words (request_word p q) 0 in
+  claims_request id q may = let j : ℕ = socket_id_slot id in let h : ℕ = socket_id_version id in let k : ℕ = get_or s.words (link_index j) 0 in let found : ℕ = get_or s.words (request_index p q) 0 in
       let w : View = met_link j h k v in let c : Claim = new_claim k q found in
-      let P : Bool → Type 0 = λ b. With (set s.words (request_word p q) (cond b (found + 1) found)) (cond b (with_claim w c) v) in
+      let P : Bool → Type 0 = λ b. With (set s.words (request_index p q) (cond b (found + 1) found)) (cond b (with_claim w c) v) in
       dite (ℕ_discrete (found % 2) 0)
-      (λ even. let met : Lawful (λ home. home) p record { words = s.words; homes = s.homes; views = set s.views i w } = subst (λ ws. With ws w) (set-get_or s.words (link_word j) 0) (meet_law (λ home. home) p s o i v at j may.1.0 h may.1.1) in
+      (λ even. let met : Lawful (λ home. home) p record { words = s.words; homes = s.homes; views = set s.views i w } = subst (λ ws. With ws w) (set-get_or s.words (link_index j) 0) (meet_law (λ home. home) p s o i v at j may.1.0 h may.1.1) in
       let g : ℕ = found / 2 in let word : found ≡ 2 * (found / 2) = omega (arith, even) in
       let claimed = claiming_law (λ home. home) p i q (found / 2) w c record { words = s.words; homes = s.homes; views = set s.views i w } met (set_at s.views i w (at_length s.views i v at)) may.0 may.2 refl refl refl refl word in
       let is : 2 * (found / 2) + 1 ≡ found + 1 = omega (arith, even) in
       subst P (sym (eq-eqb (found % 2) 0 even))
-      (subst (λ n. With (set s.words (request_word p q) n) (with_claim w c)) is
-      (subst (λ vs. Lawful (λ home. home) p record { words = set s.words (request_word p q) (2 * (found / 2) + 1); homes = s.homes; views = vs }) (set_twice s.views i w (with_claim w c)) claimed)))
-      (λ odd. subst P (sym (ne_eqb (found % 2) 0 odd)) (idle_law (λ home. home) p s o i v at (request_word p q)))
+      (subst (λ n. With (set s.words (request_index p q) n) (with_claim w c)) is
+      (subst (λ vs. Lawful (λ home. home) p record { words = set s.words (request_index p q) (2 * (found / 2) + 1); homes = s.homes; views = vs }) (set_twice s.views i w (with_claim w c)) claimed)))
+      (λ odd. subst P (sym (ne_eqb (found % 2) 0 odd)) (idle_law (λ home. home) p s o i v at (request_index p q)))
 
   pub puts_message : (hand : List Home) (q : ℕ) (heading : Heading) (bytes : List ℕ) → q < length s.homes → May p v (PutMessage q heading bytes)
       → Lawful (λ home. home) p record { words = s.words; homes = homes_after p (PutMessage q heading bytes) hand s.homes; views = set s.views i (row p (PutMessage q heading bytes) 0 (hand_at p s.words s.homes (PutMessage q heading bytes)) v) }
@@ -148,29 +148,29 @@ module _ (p : Plan) (s : State Home View) (o : Lawful (λ home. home) p s) (i : 
 
   pub unconnects : (q : ℕ) → May p v (Unconnect q) → KeepsWord p s i v (Unconnect q)
   unconnects q may = let c : Claim = may.1.0 in let alone = claim_alone o i q v c (ready_claim c) at may.0 may.1.1 may.1.2 may.1.2 in
-      subst (λ cs. With (set s.words (next_word p q) UNCONNECTED) (by_claim cs (λ c. with_claim v (ready_claim c)) v)) (sym may.1.1)
+      subst (λ cs. With (set s.words (next_index p q) UNCONNECTED) (by_claim cs (λ c. with_claim v (ready_claim c)) v)) (sym may.1.1)
       (readying_law o i q v c (ready_claim c) at may.0 may.1.1 may.1.2 may.1.2 refl (λ filled. o.messages.claimed q c may.0 alone filled))
 
   pub swaps_head : (j own : ℕ) → May p v (SwapHead j own) → KeepsWord p s i v (SwapHead j own)
-  swaps_head j own may = let x = may.1 in let c : Claim = x.claim in let found : ℕ = get_or s.words (head_word j) 0 in let hand : Hand = hand_at p s.words s.homes (SwapHead j own) in
-      let P : Bool → Type 0 = λ b. With (set s.words (head_word j) own) (cond b (queued v c found) (righted v c found hand.took hand.next)) in
-      subst (λ cs. With (set s.words (head_word j) own) (by_claim cs (exchanged found hand v) v)) (sym x.claims)
+  swaps_head j own may = let x = may.1 in let c : Claim = x.claim in let found : ℕ = get_or s.words (head_index j) 0 in let hand : Hand = hand_at p s.words s.homes (SwapHead j own) in
+      let P : Bool → Type 0 = λ b. With (set s.words (head_index j) own) (cond b (queued v c found) (righted v c found hand.took hand.next)) in
+      subst (λ cs. With (set s.words (head_index j) own) (by_claim cs (exchanged found hand v) v)) (sym x.claims)
       (dite (dec_le IDLE found)
       (λ idle. subst P (sym (le-ltb found IDLE idle)) (becomes_right x idle))
       (λ busy. let low : found < IDLE = omega arith in subst P (sym (lt-ltb found IDLE low)) (queued_law (λ home. home) p s o i j own v at x low)))
     where
-      hand_is : (k : ℕ) (sent : List ℕ) (places : ℕ) → get_or s.words (link_word j) 0 ≡ k → link_home (λ home. home) p s.homes k ≡ some (sent, places) → hand_at p s.words s.homes (SwapHead j own) ≡ record { link = k; took = sent; next = places }
+      hand_is : (k : ℕ) (sent : List ℕ) (places : ℕ) → get_or s.words (link_index j) 0 ≡ k → link_home (λ home. home) p s.homes k ≡ some (sent, places) → hand_at p s.words s.homes (SwapHead j own) ≡ record { link = k; took = sent; next = places }
       hand_is k sent places e h = ap (λ z. as_hand z (link_home (λ home. home) p s.homes z)) e ∙ ap (as_hand k) h
 
-      becomes_right : (x : MayExchange p v j own) → IDLE ≤ get_or s.words (head_word j) 0
-          → With (set s.words (head_word j) own) (righted v x.claim (get_or s.words (head_word j) 0) (hand_at p s.words s.homes (SwapHead j own)).took (hand_at p s.words s.homes (SwapHead j own)).next)
-      becomes_right x idle = let found : ℕ = get_or s.words (head_word j) 0 in let k : ℕ = x.claim.link in let a = righted_law (λ home. home) p s o i j own v at x idle in let w : View = righted v x.claim found a.0 a.1 in
+      becomes_right : (x : MayExchange p v j own) → IDLE ≤ get_or s.words (head_index j) 0
+          → With (set s.words (head_index j) own) (righted v x.claim (get_or s.words (head_index j) 0) (hand_at p s.words s.homes (SwapHead j own)).took (hand_at p s.words s.homes (SwapHead j own)).next)
+      becomes_right x idle = let found : ℕ = get_or s.words (head_index j) 0 in let k : ℕ = x.claim.link in let a = righted_law (λ home. home) p s o i j own v at x idle in let w : View = righted v x.claim found a.0 a.1 in
           let r : Right = new_right x.claim found a.0 a.1 in let here = set_at s.views i w (at_length s.views i v at) in
           let alone = right_alone a.2 i 0 w r here refl in
           let kl : k < p.links = o.in_slots.small j x.life x.claim.link (holder_lives p s o.references i v j x.life x.claim.link at x.holds).life in
           let home : link_home (λ home. home) p s.homes x.claim.link ≡ some (a.0, a.1) = a.2.homes.busy x.claim.link r kl alone in
-          let link : get_or s.words (link_word j) 0 ≡ x.claim.link = held_link_is p s o i v at j x.life (x.holds.inside, x.holds.held) x.claim.link x.holds.met in
-          subst (λ (z : Hand). With (set s.words (head_word j) own) (righted v x.claim found z.took z.next)) (sym (hand_is x.claim.link a.0 a.1 link home)) a.2
+          let link : get_or s.words (link_index j) 0 ≡ x.claim.link = held_link_is p s o i v at j x.life (x.holds.inside, x.holds.held) x.claim.link x.holds.met in
+          subst (λ (z : Hand). With (set s.words (head_index j) own) (righted v x.claim found z.took z.next)) (sym (hand_is x.claim.link a.0 a.1 link home)) a.2
 
   pub connects : (q before : ℕ) → May p v (Connect q before) → KeepsWord p s i v (Connect q before)
   connects q before may = connecting_law (λ home. home) p i may.1.0 v record { request = q; before = before } s o at may.0 may.1.1
@@ -178,12 +178,12 @@ module _ (p : Plan) (s : State Home View) (o : Lawful (λ home. home) p s) (i : 
   -- ## Whoever writes
 
   pub empties : (j last : ℕ) → May p v (EmptyHead j last) → KeepsWord p s i v (EmptyHead j last)
-  empties j last may = let x = may.1.0 in let r : Right = x.mine.right in let found : ℕ = get_or s.words (head_word j) 0 in
-      let P : Bool → Type 0 = λ b. With (set s.words (head_word j) (cond b (IDLE + last) found)) (cond b (without_right v r.link) (with_right v (record r { stage = Walks found found 0 }))) in
-      subst (λ rs. With (set s.words (head_word j) (word_after (EmptyHead j last) found)) (by_right rs (emptied last found v) v)) (sym may.1.1)
+  empties j last may = let x = may.1.0 in let r : Right = x.mine.right in let found : ℕ = get_or s.words (head_index j) 0 in
+      let P : Bool → Type 0 = λ b. With (set s.words (head_index j) (cond b (IDLE + last) found)) (cond b (without_right v r.link) (with_right v (record r { stage = Walks found found 0 }))) in
+      subst (λ rs. With (set s.words (head_index j) (word_after (EmptyHead j last) found)) (by_right rs (emptied last found v) v)) (sym may.1.1)
       (dite (ℕ_discrete found last)
       (λ won. subst P (sym (eq-eqb found last won)) (emptied_law (λ home. home) p s o i j last (IDLE + last) v at x won))
-      (λ lost. subst P (sym (ne_eqb found last lost)) (still_words (head_word j) (with_right v (record r { stage = Walks found found 0 })) (walking_law (λ home. home) p s o i j last (IDLE + last) v at x found refl lost))))
+      (λ lost. subst P (sym (ne_eqb found last lost)) (still_words (head_index j) (with_right v (record r { stage = Walks found found 0 })) (walking_law (λ home. home) p s o i j last (IDLE + last) v at x found refl lost))))
 
   -- a right whose request is of the last generation goes on at once
   module _ (ws : List ℕ) (r : Right) (one : v.rights ≡ r ∷ []) (r' : Right) (same : r'.link ≡ r.link) (o' : With ws (with_right v r')) where
@@ -217,31 +217,31 @@ module _ (p : Plan) (s : State Home View) (o : Lawful (λ home. home) p s) (i : 
     settles = settles_at r'.stage refl
 
   pub reads_next : (q : ℕ) → May p v (ReadNext q) → KeepsWord p s i v (ReadNext q)
-  reads_next q may = let r : Right = may.0 in let found : ℕ = get_or s.words (next_word p q) 0 in
-      still_words (next_word p q) (row p (ReadNext q) found (hand_at p s.words s.homes (ReadNext q)) v)
+  reads_next q may = let r : Right = may.0 in let found : ℕ = get_or s.words (next_index p q) 0 in
+      still_words (next_index p q) (row p (ReadNext q) found (hand_at p s.words s.homes (ReadNext q)) v)
       (subst (λ rs. With s.words (by_right rs (λ r. read_next found v r r.stage) v)) (sym may.1)
       (⊎_elim (λ x. passes r may.1 x.0 x.1 x.2 x.3) (λ x. walks r may.1 x.0 x.1 x.2 x.3 x.4) may.2))
     where
-      passes : (r : Right) → v.rights ≡ r ∷ [] → (now : ℕ) → r.stage ≡ Placed now → now ≢ r.last → slot_of now ≡ q → With s.words (read_next (get_or s.words (next_word p q) 0) v r r.stage)
-      passes r one now stage ne is = let found : ℕ = get_or s.words (next_word p q) 0 in
-          subst (λ b. With s.words (read_next (get_or s.words (next_word p q) 0) v r b)) (sym stage)
+      passes : (r : Right) → v.rights ≡ r ∷ [] → (now : ℕ) → r.stage ≡ Placed now → now ≢ r.last → slot_of now ≡ q → With s.words (read_next (get_or s.words (next_index p q) 0) v r r.stage)
+      passes r one now stage ne is = let found : ℕ = get_or s.words (next_index p q) 0 in
+          subst (λ b. With s.words (read_next (get_or s.words (next_index p q) 0) v r b)) (sym stage)
           (settles s.words r one (record r { stage = Passes now found }) refl
-          (subst (λ z. With s.words (with_right v (record r { stage = Passes now (get_or s.words (next_word p z) 0) }))) is (passing_law (λ home. home) p s o i v at (has_one v r one) now stage ne)))
+          (subst (λ z. With s.words (with_right v (record r { stage = Passes now (get_or s.words (next_index p z) 0) }))) is (passing_law (λ home. home) p s o i v at (has_one v r one) now stage ne)))
 
-      walks : (r : Right) → v.rights ≡ r ∷ [] → (top a after : ℕ) → r.stage ≡ Walks top a after → slot_of a ≡ q → With s.words (read_next (get_or s.words (next_word p q) 0) v r r.stage)
-      walks r one top a after stage is = let found : ℕ = get_or s.words (next_word p q) 0 in let P : Bool → Type 0 = λ b. With s.words (cond b v (with_right v (record r { stage = Turns top a after found }))) in
-          subst (λ b. With s.words (read_next (get_or s.words (next_word p q) 0) v r b)) (sym stage)
+      walks : (r : Right) → v.rights ≡ r ∷ [] → (top a after : ℕ) → r.stage ≡ Walks top a after → slot_of a ≡ q → With s.words (read_next (get_or s.words (next_index p q) 0) v r r.stage)
+      walks r one top a after stage is = let found : ℕ = get_or s.words (next_index p q) 0 in let P : Bool → Type 0 = λ b. With s.words (cond b v (with_right v (record r { stage = Turns top a after found }))) in
+          subst (λ b. With s.words (read_next (get_or s.words (next_index p q) 0) v r b)) (sym stage)
           (dite (ℕ_discrete found UNCONNECTED)
-          (λ waits. subst P (sym (eq-eqb found UNCONNECTED waits)) (subst (λ ws. With ws v) (set-get_or s.words (next_word p q) 0) (idle_law (λ home. home) p s o i v at (next_word p q))))
+          (λ waits. subst P (sym (eq-eqb found UNCONNECTED waits)) (subst (λ ws. With ws v) (set-get_or s.words (next_index p q) 0) (idle_law (λ home. home) p s o i v at (next_index p q))))
           (λ there. subst P (sym (ne_eqb found UNCONNECTED there))
-          (subst (λ z. With s.words (with_right v (record r { stage = Turns top a after (get_or s.words (next_word p z) 0) }))) is
-          (reading_law (λ home. home) p s o i v at (has_one v r one) top a after stage (λ e. there (ap (λ z. get_or s.words (next_word p z) 0) (sym is) ∙ e))))))
+          (subst (λ z. With s.words (with_right v (record r { stage = Turns top a after (get_or s.words (next_index p z) 0) }))) is
+          (reading_law (λ home. home) p s o i v at (has_one v r one) top a after stage (λ e. there (ap (λ z. get_or s.words (next_index p z) 0) (sym is) ∙ e))))))
 
-  pub turns_next : (q value : ℕ) → May p v (TurnNext q value) → KeepsWord p s i v (TurnNext q value)
+  pub turns_next : (q value : ℕ) → May p v (ReverseNext q value) → KeepsWord p s i v (ReverseNext q value)
   turns_next q value may = let x = may.0 in let r : Right = x.mine.right in
-      subst (λ rs. With (set s.words (next_word p q) value) (by_right rs (λ r. turned_next v r r.stage) v)) (sym may.1)
-      (subst (λ b. With (set s.words (next_word p q) value) (turned_next v r b)) (sym x.stage)
-      (subst (λ z. With (set s.words (next_word p z) value) (with_right v (turned_right r x.top x.at x.before))) may.2 (turning_law (λ home. home) p s o i value v at x)))
+      subst (λ rs. With (set s.words (next_index p q) value) (by_right rs (λ r. turned_next v r r.stage) v)) (sym may.1)
+      (subst (λ b. With (set s.words (next_index p q) value) (turned_next v r b)) (sym x.stage)
+      (subst (λ z. With (set s.words (next_index p z) value) (with_right v (turned_right r x.top x.at x.before))) may.2 (turning_law (λ home. home) p s o i value v at x)))
 
   -- which isn't of the last generation, since generations are bounded
   pub free_small : (q g : ℕ) → May p v (FreeRequest q g) → g < LAST_GENERATION
@@ -255,38 +255,38 @@ module _ (p : Plan) (s : State Home View) (o : Lawful (λ home. home) p s) (i : 
 
   pub frees_request : (q g : ℕ) → May p v (FreeRequest q g) → KeepsWord p s i v (FreeRequest q g)
   frees_request q g may = let now : ℕ = may.0 in let r : Right = may.4.0 in
-      subst (λ rs. With (set s.words (request_word p q) (2 * (g + 1))) (by_right rs (freed_next v) v)) (sym may.4.1)
+      subst (λ rs. With (set s.words (request_index p q) (2 * (g + 1))) (by_right rs (freed_next v) v)) (sym may.4.1)
       (⊎_elim (λ x. goes r may.4.1 now Empties (subst (λ z. Leads r.last z now Empties) (sym x.0) (to_end now x.1)) may.1 may.2 (free_small q g may) (ap freed_stage x.0))
       (λ x. goes r may.4.1 now (Writes x.0) (subst (λ z. Leads r.last z now (Writes x.0)) (sym x.1) (to_next now x.0)) may.1 may.2 (free_small q g may) (ap freed_stage x.1)) may.4.2)
     where
       goes : (r : Right) → v.rights ≡ r ∷ [] → (now : ℕ) (b : Stage) → Leads r.last r.stage now b → slot_of now ≡ q → generation_of now ≡ g → g < LAST_GENERATION → freed_stage r.stage ≡ b
-          → With (set s.words (request_word p q) (2 * (g + 1))) (freed_next v r)
+          → With (set s.words (request_index p q) (2 * (g + 1))) (freed_next v r)
       goes r one now b leads slot is small to = let low : generation_of now < 140737488355327 = omega (arith, is, small) in
-          subst (λ z. With (set s.words (request_word p q) (2 * (g + 1))) (with_right v (record r { stage = z }))) (sym to)
-          (subst (λ z. With (set s.words (request_word p z) (2 * (g + 1))) (with_right v (record r { stage = b }))) slot
-          (subst (λ z. With (set s.words (request_word p (slot_of now)) (2 * (z + 1))) (with_right v (record r { stage = b }))) is
+          subst (λ z. With (set s.words (request_index p q) (2 * (g + 1))) (with_right v (record r { stage = z }))) (sym to)
+          (subst (λ z. With (set s.words (request_index p z) (2 * (g + 1))) (with_right v (record r { stage = b }))) slot
+          (subst (λ z. With (set s.words (request_index p (slot_of now)) (2 * (z + 1))) (with_right v (record r { stage = b }))) is
           (freeing_law (λ home. home) p i 0 now b v r s o at (ap (λ l. get_elem? l 0) one) leads low)))
 
   pub stores_place : (l k n : ℕ) → May p v (StorePlace l k n) → KeepsWord p s i v (StorePlace l k n)
-  stores_place l k n may = let x = may.0 in let r : Right = x.mine.right in let ws : List ℕ = set s.words (place_word p l) (place_value false k n) in
+  stores_place l k n may = let x = may.0 in let r : Right = x.mine.right in let ws : List ℕ = set s.words (place_index p l) (place_value false k n) in
       let placed = placing_law (λ home. home) p i v x s o at in
-      let placed₁ : With (set s.words (place_word p l) (place_value false r.link r.places)) (with_right v (placed_right r x.now)) = subst (λ z. With (set s.words (place_word p z) (place_value false r.link r.places)) (with_right v (placed_right r x.now))) (sym may.2) placed in
-      let placed₂ : With (set s.words (place_word p l) (place_value false k r.places)) (with_right v (placed_right r x.now)) = subst (λ z. With (set s.words (place_word p l) (place_value false z r.places)) (with_right v (placed_right r x.now))) (sym may.3) placed₁ in
-      let placed₃ : With (set s.words (place_word p l) (place_value false k n)) (with_right v (placed_right r x.now)) = subst (λ z. With (set s.words (place_word p l) (place_value false k z)) (with_right v (placed_right r x.now))) (sym may.4) placed₂ in
-      subst (λ rs. With (set s.words (place_word p l) (place_value false k n)) (by_right rs (λ r. placed_next v r r.stage) v)) (sym may.1)
-      (subst (λ b. With (set s.words (place_word p l) (place_value false k n)) (placed_next v r b)) (sym x.stage)
+      let placed₁ : With (set s.words (place_index p l) (place_value false r.link r.places)) (with_right v (placed_right r x.now)) = subst (λ z. With (set s.words (place_index p z) (place_value false r.link r.places)) (with_right v (placed_right r x.now))) (sym may.2) placed in
+      let placed₂ : With (set s.words (place_index p l) (place_value false k r.places)) (with_right v (placed_right r x.now)) = subst (λ z. With (set s.words (place_index p l) (place_value false z r.places)) (with_right v (placed_right r x.now))) (sym may.3) placed₁ in
+      let placed₃ : With (set s.words (place_index p l) (place_value false k n)) (with_right v (placed_right r x.now)) = subst (λ z. With (set s.words (place_index p l) (place_value false k z)) (with_right v (placed_right r x.now))) (sym may.4) placed₂ in
+      subst (λ rs. With (set s.words (place_index p l) (place_value false k n)) (by_right rs (λ r. placed_next v r r.stage) v)) (sym may.1)
+      (subst (λ b. With (set s.words (place_index p l) (place_value false k n)) (placed_next v r b)) (sym x.stage)
       (settles ws r may.1 (placed_right r x.now) refl placed₃))
 
   pub drops_place : (l k n : ℕ) → May p v (DropPlace l k n) → KeepsWord p s i v (DropPlace l k n)
-  drops_place l k n may = let x = may.0 in let r : Right = x.mine.right in let ws : List ℕ = set s.words (place_word p l) (place_value true k n) in
+  drops_place l k n may = let x = may.0 in let r : Right = x.mine.right in let ws : List ℕ = set s.words (place_index p l) (place_value true k n) in
       let dropped = dropping_law (λ home. home) p i v x s o at (failed_life r.link may.6) in
       let w : View = with_right v (dropped_right r x.now x.sent) in
-      let dropped₁ : With (set s.words (place_word p l) (place_value true r.link r.places)) w = subst (λ z. With (set s.words (place_word p z) (place_value true r.link r.places)) w) (sym may.2) dropped in
-      let dropped₂ : With (set s.words (place_word p l) (place_value true k r.places)) w = subst (λ z. With (set s.words (place_word p l) (place_value true z r.places)) w) (sym may.3) dropped₁ in
-      let dropped₃ : With (set s.words (place_word p l) (place_value true k n)) w = subst (λ z. With (set s.words (place_word p l) (place_value true k z)) w) (sym may.4) dropped₂ in
-      subst (λ rs. With (set s.words (place_word p l) (place_value true k n)) (by_right rs (λ r. dropped_next v r r.stage) v)) (sym may.1)
-      (subst (λ b. With (set s.words (place_word p l) (place_value true k n)) (dropped_next v r b)) (sym x.stage)
-      (subst (λ z. With (set s.words (place_word p l) (place_value true k n)) (with_right v (settled (dropped_right r x.now z)))) may.5
+      let dropped₁ : With (set s.words (place_index p l) (place_value true r.link r.places)) w = subst (λ z. With (set s.words (place_index p z) (place_value true r.link r.places)) w) (sym may.2) dropped in
+      let dropped₂ : With (set s.words (place_index p l) (place_value true k r.places)) w = subst (λ z. With (set s.words (place_index p l) (place_value true z r.places)) w) (sym may.3) dropped₁ in
+      let dropped₃ : With (set s.words (place_index p l) (place_value true k n)) w = subst (λ z. With (set s.words (place_index p l) (place_value true k z)) w) (sym may.4) dropped₂ in
+      subst (λ rs. With (set s.words (place_index p l) (place_value true k n)) (by_right rs (λ r. dropped_next v r r.stage) v)) (sym may.1)
+      (subst (λ b. With (set s.words (place_index p l) (place_value true k n)) (dropped_next v r b)) (sym x.stage)
+      (subst (λ z. With (set s.words (place_index p l) (place_value true k n)) (with_right v (settled (dropped_right r x.now z)))) may.5
       (settles ws r may.1 (dropped_right r x.now x.sent) refl dropped₃)))
 
   -- ## The requests of which these are
@@ -324,7 +324,7 @@ module _ (p : Plan) (s : State Home View) (o : Lawful (λ home. home) p s) (i : 
   pub read_inside : (q : ℕ) → May p v (ReadNext q) → q < p.requests
   read_inside q may = ⊎_elim (λ x. subst (λ z. z < p.requests) x.3 (placed_inside may.0 may.1 x.0 x.1)) (λ x. subst (λ z. z < p.requests) x.4 (walk_inside may.0 may.1 x.0 x.1 x.2 x.3)) may.2
 
-  pub turn_inside : (q value : ℕ) → May p v (TurnNext q value) → q < p.requests
+  pub turn_inside : (q value : ℕ) → May p v (ReverseNext q value) → q < p.requests
   turn_inside q value may = let x = may.0 in subst (λ z. z < p.requests) may.2
       (turn_slot o.chains x.mine.right.link x.mine.right (right_in o i x.mine.place v x.mine.right at x.mine.has) (right_alone o i x.mine.place v x.mine.right at x.mine.has) o.fits.narrow x.top x.at value x.before x.stage).5
 

@@ -13,22 +13,22 @@ use Rattle.sock_model.specs.declared.home.Home.{Home}
 use Rattle.sock_model.specs.declared.marks.Mark.{Mark}
 use Rattle.sock_model.specs.declared.view.View.{View}
 use Rattle.sock_model.specs.Weights.{is_born, is_failer, is_busy}
-use Rattle.sock_model.specs.Layout.{ref_word, open_word}
+use Rattle.sock_model.specs.Layout.{ref_index, open_index}
 use Rattle.sock_model.specs.SlotRows.{marks_of}
 use Rattle.sock_model.specs.Slots.{version_of, count, live}
 use Rattle.sock_model.specs.References.{slot_facts}
-use Rattle.sock_steps.specs.slot_laws.proofs.Numbers.{life_is, life-in, live-odd, or-even, or-odd}
+use Rattle.sock_steps.specs.slot_steps.proofs.Numbers.{life_is, life-in, live-odd, or-even, or-odd}
 use Rattle.sock_steps.proofs.Places.{counts}
-use Rattle.sock_programs.specs.Calls.{Call, GiveBirth, AddRef, SetOdd, StoreOpen, LoadOpen}
-use Rattle.sock_programs.specs.sock_io.specs.declared.link.Put.{Put}
-use Rattle.sock_programs.specs.sock_io.specs.declared.link.Ready.{Ready}
+use Rattle.seat_programs.specs.Calls.{Call, CreateLife, AddRef, SetOdd, StoreOpen, LoadOpen}
+use Rattle.seat_programs.specs.sock_io.specs.declared.link.Put.{Put}
+use Rattle.seat_programs.specs.sock_io.specs.declared.link.Ready.{Ready}
 use Rattle.sock_model.specs.declared.chain.Heading.{Heading}
-use Rattle.sock_programs.specs.Asides.{Found}
-use Rattle.sock_programs.specs.Heads.{Exit, Retry}
-use Rattle.sock_programs.specs.Programs.{Program, Do, Say, Sent, Rest, TakeMessage, TakeHome, PutHome, PutBytes, AskReady, Write, Aside, Round, Keep, Retries, NO_SOCKET, address, set_failed, release}
-use Rattle.sock_programs.specs.Clients.{ending_of}
-use Rattle.sock_programs.specs.Cores.{Calls, Core, SeatState, word_of, word_after, found_at, words_after, homes_after, hand_after, resolved, next_step, waiting_at, stepped, with_seat}
-use Rattle.sock_programs.specs.Ticks.{Moment, ticked, run, IsAnswered, AreAnswered}
+use Rattle.seat_programs.specs.Asides.{Found}
+use Rattle.seat_programs.specs.Heads.{Exit, Retry}
+use Rattle.seat_programs.specs.Programs.{Program, Do, Say, Sent, Rest, TakeMessage, TakeHome, PutHome, PutBytes, AskReady, Write, Aside, Round, Keep, Retries, NO_SOCKET, address, set_failed, release}
+use Rattle.seat_programs.specs.Clients.{ending_of}
+use Rattle.seat_programs.specs.Cores.{Calls, Core, SeatState, word_of, word_after, found_at, words_after, homes_after, hand_after, resolved, next_step, waiting_at, stepped, with_seat}
+use Rattle.seat_programs.specs.Ticks.{Moment, ticked, run, IsAnswered, AreAnswered}
 use Rattle.sock_runs.specs.Rows.{row, hand_at}
 use Rattle.sock_runs.specs.GoesOn.{GoesOn}
 use Rattle.sock_runs.specs.Sound.{state, Sound, first_step, IsFitting, AreFitting, AllFailed, views_after, views_along}
@@ -141,16 +141,16 @@ stores_nothing (Do (StoreOpen o w) next) r = absurd (true≢false (sym r.0))
 stores_nothing _ r = refl
 
 is_still : (call : Call) (next : ℕ → Program) → Records nothing (Do call next) → (stores call ≡ none) × (bears call ≡ none)
-is_still (GiveBirth i k) next r = let m = r 0 in absurd (some-ne-none (m.0.0, socket_id 0 i + 1) (sym m.0.1 ∙ stores_nothing (next 0) m.1))
+is_still (CreateLife i k) next r = let m = r 0 in absurd (some-ne-none (m.0.0, socket_id 0 i + 1) (sym m.0.1 ∙ stores_nothing (next 0) m.1))
 is_still (StoreOpen o w) next r = absurd (true≢false (sym r.0))
 is_still call next r = (refl, refl)
 
 -- a step of such a program: it finds that the life has gone on, or sets its slot's version odd, or leaves it to what follows
-what_fails : (p : Plan) (ws : List ℕ) (o w : ℕ) (call : Call) (next : ℕ → Program) → get_or ws (open_word p o) 0 ≡ w → Fails o w (Do call next)
-    → ((id : ℕ) × (id + 1 ≡ w) × (vref_version (get_or ws (ref_word (socket_id_slot id)) 0) ≢ socket_id_version id)) ⊎ ((call ≡ SetOdd (socket_id_slot (w - 1))) ⊎ Fails o w (next (found_at ws (word_of p call))))
-what_fails p ws o w (LoadOpen n) next word f = inr (inr (f (get_or ws (open_word p n) 0) (λ e. ap (λ z. get_or ws (open_word p z) 0) e ∙ word)))
-what_fails p ws o w (AddRef id) next word f = ⊎_elim (λ a. inl (id, a.0, a.1)) (λ g. inr (inr g)) (f (get_or ws (ref_word (socket_id_slot id)) 0))
-what_fails p ws o w (SetOdd i) next word f = ⊎_elim (λ e. inr (inl (ap SetOdd (sym e)))) (λ g. inr (inr (g (get_or ws (ref_word i) 0)))) f
+what_fails : (p : Plan) (ws : List ℕ) (o w : ℕ) (call : Call) (next : ℕ → Program) → get_or ws (open_index p o) 0 ≡ w → Fails o w (Do call next)
+    → ((id : ℕ) × (id + 1 ≡ w) × (vref_version (get_or ws (ref_index (socket_id_slot id)) 0) ≢ socket_id_version id)) ⊎ ((call ≡ SetOdd (socket_id_slot (w - 1))) ⊎ Fails o w (next (found_at ws (word_of p call))))
+what_fails p ws o w (LoadOpen n) next word f = inr (inr (f (get_or ws (open_index p n) 0) (λ e. ap (λ z. get_or ws (open_index p z) 0) e ∙ word)))
+what_fails p ws o w (AddRef id) next word f = ⊎_elim (λ a. inl (id, a.0, a.1)) (λ g. inr (inr g)) (f (get_or ws (ref_index (socket_id_slot id)) 0))
+what_fails p ws o w (SetOdd i) next word f = ⊎_elim (λ e. inr (inl (ap SetOdd (sym e)))) (λ g. inr (inr (g (get_or ws (ref_index i) 0)))) f
 what_fails p ws o w call next word f = inr (inr (f (found_at ws (word_of p call))))
 
 -- ## The state
@@ -159,7 +159,7 @@ what_fails p ws o w call next word f = inr (inr (f (found_at ws (word_of p call)
 pub record WillFail (p : Plan) (c : Core) (n w : ℕ) : Type 0 where
   pub operation : ℕ
   pub inside : operation < p.operations
-  pub word : get_or c.words (open_word p operation) 0 ≡ w
+  pub word : get_or c.words (open_index p operation) 0 ≡ w
   pub seat : SeatState
   pub there : get_elem? c.seats n ≡ some seat
   pub fails : Fails operation w seat.program
@@ -207,23 +207,23 @@ module _ (p : Plan) (n : ℕ) (c : Core) (vs : List View) (i : ℕ) (sound : Sou
 
   -- where the version of its slot was set odd, each life of the slot was failed
   set_odd : (j h : ℕ) → j < p.slots → 0 < count (is_born h) (slot_facts (state c vs) j) → call ≡ SetOdd j → 0 < count (is_failer h) (slot_facts (state after (set vs i w)) j)
-  set_odd j h inside born made = let x : ℕ = get_or c.words (ref_word j) 0 in let l = law p (state c vs) sound.lawful.references j inside in let l' = law p (state after (set vs i w)) sound_after.lawful.references j inside in
+  set_odd j h inside born made = let x : ℕ = get_or c.words (ref_index j) 0 in let l = law p (state c vs) sound.lawful.references j inside in let l' = law p (state after (set vs i w)) sound_after.lawful.references j inside in
       let t = life_is p.first h ((slot_facts (state c vs) j).version + live (slot_facts (state c vs) j)) (omega (arith, born, l.born h)) in let t₀ = t.0 in let t₁ = t.1 in let t₂ = t.2 in
       let le = lives_le p (state c vs) sound.lawful.references j inside in
-      let word_is : get_or (words_after c.words (word_of p call) (word_after call (found_at c.words (word_of p call)))) (ref_word j) 0 ≡ bit_or (get_or c.words (ref_word j) 0) 4294967296
-      = subst (λ y. get_or (words_after c.words (word_of p y) (word_after y (found_at c.words (word_of p y)))) (ref_word j) 0 ≡ bit_or (get_or c.words (ref_word j) 0) 4294967296) (sym made)
-      (get_or-set_same c.words (ref_word j) (bit_or (get_or c.words (ref_word j) 0) 4294967296) 0 (omega (arith, sound.lawful.references.sized))) in
-      let below : h < (slot_facts (state after (set vs i w)) j).version = dite (ℕ_discrete (version_of (get_or c.words (ref_word j) 0) % 2) 0)
-      (λ even. let y = ap version_of (word_is ∙ or-even (get_or c.words (ref_word j) 0) even) in omega arith)
-      (λ no_. let odd : version_of (get_or c.words (ref_word j) 0) % 2 ≡ 1 = omega arith in let y = ap version_of (word_is ∙ or-odd (get_or c.words (ref_word j) 0) odd) in
+      let word_is : get_or (words_after c.words (word_of p call) (word_after call (found_at c.words (word_of p call)))) (ref_index j) 0 ≡ bit_or (get_or c.words (ref_index j) 0) 4294967296
+      = subst (λ y. get_or (words_after c.words (word_of p y) (word_after y (found_at c.words (word_of p y)))) (ref_index j) 0 ≡ bit_or (get_or c.words (ref_index j) 0) 4294967296) (sym made)
+      (get_or-set_same c.words (ref_index j) (bit_or (get_or c.words (ref_index j) 0) 4294967296) 0 (omega (arith, sound.lawful.references.sized))) in
+      let below : h < (slot_facts (state after (set vs i w)) j).version = dite (ℕ_discrete (version_of (get_or c.words (ref_index j) 0) % 2) 0)
+      (λ even. let y = ap version_of (word_is ∙ or-even (get_or c.words (ref_index j) 0) even) in omega arith)
+      (λ no_. let odd : version_of (get_or c.words (ref_index j) 0) % 2 ≡ 1 = omega arith in let y = ap version_of (word_is ∙ or-odd (get_or c.words (ref_index j) 0) odd) in
       let dead = live-odd (slot_facts (state c vs) j).tag (slot_facts (state c vs) j).version (count is_busy (slot_facts (state c vs) j)) odd in omega arith) in
       omega (arith, l'.failed h, life-in p.first h (slot_facts (state after (set vs i w)) j).version t₀ below t₂)
 
-  step_fails : (j h o : ℕ) → j < p.slots → 0 < count (is_born h) (slot_facts (state c vs) j) → get_or c.words (open_word p o) 0 ≡ socket_id h j + 1 → Fails o (socket_id h j + 1) (Do call next)
+  step_fails : (j h o : ℕ) → j < p.slots → 0 < count (is_born h) (slot_facts (state c vs) j) → get_or c.words (open_index p o) 0 ≡ socket_id h j + 1 → Fails o (socket_id h j + 1) (Do call next)
       → (0 < count (is_failer h) (slot_facts (state after (set vs i w)) j)) ⊎ Fails o (socket_id h j + 1) (next found)
   step_fails j h o inside born word f = let few = sound.limits.slots in ⊎_elim
       (λ a. let id_is = a.1 in let slot_is : socket_id_slot a.0 ≡ j = omega arith in let version_is : socket_id_version a.0 ≡ h = omega arith in let far = a.2 in
-      inl (failed_after j h (gone_on j h inside born (λ e. far (ap (λ z. vref_version (get_or c.words (ref_word z) 0)) slot_is ∙ (e ∙ sym version_is))))))
+      inl (failed_after j h (gone_on j h inside born (λ e. far (ap (λ z. vref_version (get_or c.words (ref_index z) 0)) slot_is ∙ (e ∙ sym version_is))))))
       (λ b. ⊎_elim (λ made. let slot_is : socket_id_slot (socket_id h j + 1 - 1) ≡ j = omega arith in inl (set_odd j h inside born (made ∙ ap SetOdd slot_is))) (λ g. inr g) b)
       (what_fails p c.words o (socket_id h j + 1) call next word f)
 

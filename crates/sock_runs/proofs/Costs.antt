@@ -4,9 +4,9 @@ use Rattle.std.proofs.lemmas.Bool.{true≢false}
 use Rattle.std.proofs.lemmas.List.{length-drop}
 use Rattle.sock_words.specs.declared.plain.Plan.{Plan}
 use Rattle.sock_words.specs.Words.{socket_id_version, socket_id_slot, vref_version, vref_nref}
-use Rattle.sock_programs.specs.sock_io.specs.declared.link.Put.{Put}
-use Rattle.sock_programs.specs.sock_io.specs.declared.link.Put.TheVariants as puts
-use Rattle.sock_programs.specs.sock_io.specs.declared.link.Ready.TheVariants as asks
+use Rattle.seat_programs.specs.sock_io.specs.declared.link.Put.{Put}
+use Rattle.seat_programs.specs.sock_io.specs.declared.link.Put.TheVariants as puts
+use Rattle.seat_programs.specs.sock_io.specs.declared.link.Ready.TheVariants as asks
 use Rattle.sock_model.specs.declared.chain.Heading.{Heading}
 use Rattle.sock_model.specs.declared.marks.Mark.{Mark}
 use Rattle.sock_model.specs.declared.marks.Mark.TheVariants.{Hold, Coding, Saw, Failer, Stored, Told, Zero}
@@ -17,17 +17,17 @@ use Rattle.sock_model.specs.Marks.{about, at, without_at}
 use Rattle.sock_model.specs.Entries.{slot_of, generation_of}
 use Rattle.sock_model.specs.SlotRows.{marks_of, back, looked}
 use Rattle.sock_model.specs.ChainRows.{with_right}
-use Rattle.sock_programs.specs.Calls.{Call, LookWord, LoadCode, SetOdd, SubRef, StoreCode, StorePlace, DropPlace, EmptyHead, ReadNext, TurnNext, FreeRequest}
-use Rattle.sock_programs.specs.Writings.{Holder, Writing, Puts, Waits, Empties, Walks}
-use Rattle.sock_programs.specs.Programs.{Program, Do, Say, Sent, TakeMessage, TakeHome, PutBytes, Write, LAST_GENERATION, set_failed}
-use Rattle.sock_programs.specs.Sends.{freed, one_more, passed, passed_telling, tell_drop, placed, dropped, put_answered, block, first_put}
-use Rattle.sock_programs.specs.Parts.{part}
-use Rattle.sock_programs.specs.Posts.{post}
-use Rattle.sock_programs.specs.Ticks.{FitsPut}
-use Rattle.sock_programs.specs.Cores.{next_step}
+use Rattle.seat_programs.specs.Calls.{Call, LookWord, LoadCode, SetOdd, SubRef, StoreCode, StorePlace, DropPlace, EmptyHead, ReadNext, ReverseNext, FreeRequest}
+use Rattle.seat_programs.specs.Writings.{Holder, Writing, Puts, Waits, Empties, Walks}
+use Rattle.seat_programs.specs.Programs.{Program, Do, Say, Sent, TakeMessage, TakeHome, PutBytes, Write, LAST_GENERATION, set_failed}
+use Rattle.seat_programs.specs.Sends.{freed, one_more, passed, passed_telling, tell_drop, placed, dropped, put_answered, block, first_put}
+use Rattle.seat_programs.specs.Parts.{part}
+use Rattle.seat_programs.specs.Posts.{post}
+use Rattle.seat_programs.specs.Ticks.{FitsPut}
+use Rattle.seat_programs.specs.Cores.{next_step}
 use Rattle.sock_steps.proofs.Quiet.{either_way}
-use Rattle.sock_steps.specs.slot_laws.proofs.Sums.{about-here}
-use Rattle.sock_steps.specs.slot_laws.proofs.Numbers.{only-same}
+use Rattle.sock_steps.specs.slot_steps.proofs.Sums.{about-here}
+use Rattle.sock_steps.specs.slot_steps.proofs.Numbers.{only-same}
 use Rattle.sock_runs.specs.Rows.{row, by_right, looked_clean, took_message, link_home_again, link_away, took_bytes}
 use Rattle.sock_runs.specs.May.{IsOfHeld, FindsFailed}
 use Rattle.sock_runs.specs.Writes.{At}
@@ -302,13 +302,13 @@ module _ (p : Plan) (after : Program) (m : ℕ) (follows : Lasting p after m) wh
         )
 
     waits_round : (v : View) → 0 < marks_of (is_hold its_life) its_slot v → (n : ℕ) → loop_cost v (Waits h now heading left taken) + m ≤ n → LastsFor p v (block (Waits h now heading left taken) after) n
-    waits_round v holds n le asks.Now prompt = (n - 1, omega (arith, le), heads_lasts v (Puts h now heading left taken true) (n - 1) (now_few (saw_failed v h) refl))
+    waits_round v holds n le asks.Now always_ready = (n - 1, omega (arith, le), heads_lasts v (Puts h now heading left taken true) (n - 1) (now_few (saw_failed v h) refl))
       where
         now_few : (b : Bool) → saw_failed v h ≡ b → 14 * length left + 0 + failing_cost (saw_failed v h) + 8 + POST + m ≤ n - 1
         now_few true is = omega (arith, le, ap failing_cost is, ap waiting_cost is)
         now_few false is = omega (arith, le, ap failing_cost is, ap waiting_cost is)
-    waits_round v holds n le asks.NotYet prompt = absurd (prompt refl)
-    waits_round v holds n le asks.Failed prompt = (14 * length left + 23 + POST + m, few (saw_failed v h) refl, refused_lasts v holds)
+    waits_round v holds n le asks.NotYet always_ready = absurd (always_ready refl)
+    waits_round v holds n le asks.Failed always_ready = (14 * length left + 23 + POST + m, few (saw_failed v h) refl, refused_lasts v holds)
       where
         few : (b : Bool) → saw_failed v h ≡ b → 14 * length left + 23 + POST + m + 1 ≤ n
         few true is = omega (arith, le, ap waiting_cost is)
@@ -328,7 +328,7 @@ module _ (p : Plan) (after : Program) (m : ℕ) (follows : Lasting p after m) wh
   )
 
   -- a walk that found the next word of its entry, and turns it: its steps are counted by what is left of it
-  turned_lasts : (h : Holder) (top place successor found n : ℕ) → 1 + m ≤ n → Lasting p (Do (TurnNext (slot_of place) successor) (λ _. cond (eqb found h.last)
+  turned_lasts : (h : Holder) (top place successor found n : ℕ) → 1 + m ≤ n → Lasting p (Do (ReverseNext (slot_of place) successor) (λ _. cond (eqb found h.last)
       (TakeMessage (slot_of place) (λ heading bytes. Write (Puts (record h { last = top }) place heading bytes 0 false) after)) (Write (Walks h top found place) after))) n
   turned_lasts h top place successor found n le v = (
     n,
@@ -336,7 +336,7 @@ module _ (p : Plan) (after : Program) (m : ℕ) (follows : Lasting p after m) wh
     λ word hand f. either_lasts p (TakeMessage (slot_of place) (λ heading bytes. Write (Puts (record h { last = top }) place heading bytes 0 false) after)) (Write (Walks h top found place) after) n (eqb found h.last)
         (lasting_more p (TakeMessage (slot_of place) (λ heading bytes. Write (Puts (record h { last = top }) place heading bytes 0 false) after)) (1 + m) n le (takes_next (record h { last = top }) place (slot_of place)))
         (λ u. heads_lasts u (Walks h top found place) n le)
-        (row p (TurnNext (slot_of place) successor) word hand v),
+        (row p (ReverseNext (slot_of place) successor) word hand v),
   )
 
 -- a program that is at the head of a walk
@@ -353,5 +353,5 @@ lasts_round p v (Walks h top place successor) after n a other l = absurd (other 
 
 -- a walk goes on behind the next word of its entry, where that was found
 pub lasts_walk : (p : Plan) (v : View) (h : Holder) (top place successor found : ℕ) (then_ : Program) (n : ℕ) → LastsFor p v (Write (Walks h top place successor) then_) n
-    → Lasting p (Do (TurnNext (slot_of place) successor) (λ _. cond (eqb found h.last) (TakeMessage (slot_of place) (λ heading bytes. Write (Puts (record h { last = top }) place heading bytes 0 false) then_)) (Write (Walks h top found place) then_))) n
+    → Lasting p (Do (ReverseNext (slot_of place) successor) (λ _. cond (eqb found h.last) (TakeMessage (slot_of place) (λ heading bytes. Write (Puts (record h { last = top }) place heading bytes 0 false) then_)) (Write (Walks h top found place) then_))) n
 lasts_walk p v h top place successor found then_ n l = turned_lasts p then_ l.0 l.2 h top place successor found n l.1

@@ -17,12 +17,12 @@ use Rattle.sock_model.specs.SlotRows.{marks_of}
 use Rattle.sock_model.specs.Slots.{SlotFacts, SlotLaw, live, count}
 use Rattle.sock_model.specs.Reads.{link_at, rights_on, tokens, carries, hands_of}
 use Rattle.sock_model.specs.References.{slot_facts}
-use Rattle.sock_steps.specs.slot_laws.proofs.Sums.{total_some}
+use Rattle.sock_steps.specs.slot_steps.proofs.Sums.{total_some}
 use Rattle.sock_steps.proofs.Places.{own_count}
-use Rattle.sock_steps.specs.slot_laws.proofs.Numbers.{only-same, life_is, life-in, life-high, live-odd, live-yes}
+use Rattle.sock_steps.specs.slot_steps.proofs.Numbers.{only-same, life_is, life-in, life-high, live-odd, live-yes}
 use Rattle.sock_steps.proofs.Maps.{took_some, gather_nil}
 use Rattle.sock_steps.proofs.HandSteps.{link_value}
-use Rattle.sock_programs.specs.Cores.{Core}
+use Rattle.seat_programs.specs.Cores.{Core}
 use Rattle.sock_runs.specs.GoesOn.{HasNothing, GoesOn}
 use Rattle.sock_runs.specs.Sound.{state, Sound, AllRest, AllFailed, AllEnded, IsOver, IsAlive}
 use Rattle.sock_runs.proofs.Bounds.{law}

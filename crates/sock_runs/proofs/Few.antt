@@ -22,18 +22,18 @@ use Rattle.sock_model.specs.ChainRows.{with_hand, spent_hand, entry_of, more, qu
 use Rattle.sock_model.specs.Lawful.{Lawful}
 use Rattle.sock_model.specs.Rule.{MOST_ACCEPTED, AreShort, lists_of}
 use Rattle.sock_words.specs.Words.{socket_id_version, socket_id_slot}
-use Rattle.sock_steps.specs.slot_laws.proofs.Sums.{term_le, total_bound}
-use Rattle.sock_steps.specs.chain_laws.proofs.Frames.{in_size}
-use Rattle.sock_steps.specs.chain_laws.proofs.Heads.{held_of}
-use Rattle.sock_steps.specs.chain_laws.proofs.Lists.{nth_some}
+use Rattle.sock_steps.specs.slot_steps.proofs.Sums.{term_le, total_bound}
+use Rattle.sock_steps.specs.chain_steps.proofs.Frames.{in_size}
+use Rattle.sock_steps.specs.chain_steps.proofs.Heads.{held_of}
+use Rattle.sock_steps.specs.chain_steps.proofs.Lists.{nth_some}
 use Rattle.sock_steps.proofs.Quiet.{either_way}
 use Rattle.sock_steps.proofs.RightSteps.{right_in, right_alone}
 use Rattle.sock_steps.proofs.RuleFrame.{SameNotes, accept_short}
 use Rattle.sock_steps.proofs.Positions.{few_log, on_shorter}
 use Rattle.sock_steps.proofs.Walked.{writes_left}
-use Rattle.sock_programs.specs.Calls.{Call, ClaimSlot, GiveBirth, AddRef, SubRef, SetOdd, Recycle, FreeSlot, StoreLink, LoadLink, ResetHead, WipeCode, StoreCode, StoreName, LoadName, StoreOpen, LoadOpen, TakeLink, FinishLink, PutLink, SwapHead}
-use Rattle.sock_programs.specs.Cores.{Core, word_of, found_at}
-use Rattle.sock_programs.specs.Ticks.{Moment, IsAnswered}
+use Rattle.seat_programs.specs.Calls.{Call, ClaimSlot, CreateLife, AddRef, SubRef, SetOdd, Recycle, FreeSlot, StoreLink, LoadLink, ResetHead, ClearCode, StoreCode, StoreName, LoadName, StoreOpen, LoadOpen, TakeLink, FinishLink, PutLink, SwapHead}
+use Rattle.seat_programs.specs.Cores.{Core, word_of, found_at}
+use Rattle.seat_programs.specs.Ticks.{Moment, IsAnswered}
 use Rattle.sock_runs.specs.Rows.{row, hand_at, is_id, by_claim, exchanged}
 use Rattle.sock_runs.specs.May.{May}
 use Rattle.sock_runs.specs.Sound.{Sound, AreFew, MOST_PLACES, views_after, IsFitting}
@@ -51,7 +51,7 @@ row_same p (LoadName n) found hand v other_ = either_way (is_id found) (met (soc
 row_same p (LoadOpen n) found hand v other_ = either_way (is_id found) (met (socket_id_slot (found - 1)) (socket_id_version (found - 1)) v) v (λ w. SameNotes v w) record { plan = refl; found = refl; lists = refl } record { plan = refl; found = refl; lists = refl }
 row_same p (TakeLink k) found hand v other_ = either_way (nat_lt 0 (total (only hand.link) v.passes)) (spent_hand v hand) (with_hand v hand) (λ w. SameNotes v w) record { plan = refl; found = refl; lists = refl } record { plan = refl; found = refl; lists = refl }
 row_same p (ClaimSlot i) found hand v other_ = record { plan = refl; found = refl; lists = refl }
-row_same p (GiveBirth i k) found hand v other_ = record { plan = refl; found = refl; lists = refl }
+row_same p (CreateLife i k) found hand v other_ = record { plan = refl; found = refl; lists = refl }
 row_same p (AddRef id) found hand v other_ = record { plan = refl; found = refl; lists = refl }
 row_same p (SubRef i) found hand v other_ = record { plan = refl; found = refl; lists = refl }
 row_same p (SetOdd i) found hand v other_ = record { plan = refl; found = refl; lists = refl }
@@ -60,7 +60,7 @@ row_same p (FreeSlot i) found hand v other_ = record { plan = refl; found = refl
 row_same p (StoreLink i k) found hand v other_ = record { plan = refl; found = refl; lists = refl }
 row_same p (LoadLink i w) found hand v other_ = record { plan = refl; found = refl; lists = refl }
 row_same p (ResetHead i k) found hand v other_ = record { plan = refl; found = refl; lists = refl }
-row_same p (WipeCode i k) found hand v other_ = record { plan = refl; found = refl; lists = refl }
+row_same p (ClearCode i k) found hand v other_ = record { plan = refl; found = refl; lists = refl }
 row_same p (StoreCode i h c) found hand v other_ = record { plan = refl; found = refl; lists = refl }
 row_same p (StoreName n w) found hand v other_ = record { plan = refl; found = refl; lists = refl }
 row_same p (StoreOpen n w) found hand v other_ = record { plan = refl; found = refl; lists = refl }

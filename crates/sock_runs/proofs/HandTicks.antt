@@ -17,8 +17,8 @@ use Rattle.sock_model.specs.Reads.{took_of, as_link, shown}
 use Rattle.sock_model.specs.ChainRows.{with_hand, without_hand, spent_hand}
 use Rattle.sock_model.specs.Lawful.{Lawful}
 use Rattle.sock_steps.proofs.HandSteps.{take_last_law, spend_law, put_hand_law}
-use Rattle.sock_programs.specs.Calls.{Call, TakeLink, FinishLink, PutLink}
-use Rattle.sock_programs.specs.Cores.{homes_after, hand_after, lies_at, first_of, others_of, finished}
+use Rattle.seat_programs.specs.Calls.{Call, TakeLink, FinishLink, PutLink}
+use Rattle.seat_programs.specs.Cores.{homes_after, hand_after, lies_at, first_of, others_of, finished}
 use Rattle.sock_runs.specs.Rows.{row, hand_at, as_hand, taken}
 use Rattle.sock_runs.specs.May.{May, HasInHand}
 use Rattle.sock_runs.specs.Sound.{AreInHand}

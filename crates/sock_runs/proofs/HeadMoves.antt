@@ -7,25 +7,25 @@ use mathlib.Core.Option.{Option, some, none}
 use lib.ListN.{get_elem?}
 use Rattle.sock_words.specs.declared.plain.Plan.{Plan}
 use Rattle.sock_words.specs.declared.kind.Kind.{Kind}
-use Rattle.sock_programs.specs.sock_io.specs.declared.link.Ready.TheVariants.{NotYet}
+use Rattle.seat_programs.specs.sock_io.specs.declared.link.Ready.TheVariants.{NotYet}
 use Rattle.sock_model.specs.declared.view.View.{View}
 use Rattle.sock_model.specs.declared.view.Hand.{Hand}
-use Rattle.sock_model.specs.Layout.{open_word}
+use Rattle.sock_model.specs.Layout.{open_index}
 use Rattle.sock_model.specs.Weights.{total}
-use Rattle.sock_programs.specs.corr_core.specs.Word.{parts, posted_word, unlocked_word, code_of}
-use Rattle.sock_programs.specs.corr_core.specs.Law.{LAST}
-use Rattle.sock_programs.specs.id_rule.specs.Lawful.{id_word}
-use Rattle.sock_programs.specs.sock_message.specs.Asked.{Asked}
-use Rattle.sock_programs.specs.Calls.{LoadOpen}
-use Rattle.sock_programs.specs.Asides.{Step, Found, ClaimId, PutCall, MakeId, StoreCall, LoadCall, StoreAt, LoadAt, LoadIdWord, LockId, PostId, UnlockId, EndId, FreeId, TakeCall, TakeBytes, Taking, Bytes, Nothing, NoMore, AtEnd, Closed, Broken, id_slot, id_first}
-use Rattle.sock_programs.specs.Heads.{Head, Exit, Sought, Reading, Posts, Unlocks, Decides, Locks, Joins, Opens, Reads, Discards, Posting, WasQueued, HasLocked, Unlocking, Deciding, HasEnded, Locking, Has, Ended}
-use Rattle.sock_programs.specs.Beside.{found_in, at_last, taking_in}
-use Rattle.sock_programs.specs.Posts.{packed, judged, popped, locking, advance_of, ends_call, end_id, unlocked, is_sought, is_first}
-use Rattle.sock_programs.specs.Readers.{took, discarded, room_of}
-use Rattle.sock_programs.specs.Programs.{Program, Do, Say, Sent, Rest, TakeMessage, TakeHome, PutHome, PutBytes, AskReady, Write, Aside, Round, Keep, Retries}
-use Rattle.sock_programs.specs.Cores.{Core, SeatState}
-use Rattle.sock_programs.specs.Ticks.{Answer, OfReady, OfTake, Moment, FitsTake, IsTaken, IsAnswer, IsAnswered, IsPrompt, taken, with_found, step_with, tick_with, ticked, is_nothing, waits_at, waits}
-use Rattle.sock_programs.specs.Runs.{kind_in, IsAtRest}
+use Rattle.seat_programs.specs.corr_core.specs.Word.{parts, posted_word, unlocked_word, code_of}
+use Rattle.seat_programs.specs.corr_core.specs.Law.{LAST}
+use Rattle.seat_programs.specs.id_rule.specs.Lawful.{id_index}
+use Rattle.seat_programs.specs.sock_message.specs.Asked.{Asked}
+use Rattle.seat_programs.specs.Calls.{LoadOpen}
+use Rattle.seat_programs.specs.Asides.{Step, Found, ClaimId, PutCall, MakeId, StoreCall, LoadCall, StoreAt, LoadAt, LoadIdWord, LockId, PostId, UnlockId, EndId, FreeId, TakeCall, TakeBytes, Taking, Bytes, Nothing, NoMore, AtEnd, Closed, Broken, id_slot, id_first}
+use Rattle.seat_programs.specs.Heads.{Head, Exit, Sought, Reading, Posts, Unlocks, Decides, Locks, Joins, Opens, Reads, Discards, Posting, WasQueued, HasLocked, Unlocking, Deciding, HasEnded, Locking, Has, Ended}
+use Rattle.seat_programs.specs.Beside.{found_in, at_last, taking_in}
+use Rattle.seat_programs.specs.Posts.{packed, judged, popped, locking, advance_of, ends_call, end_id, unlocked, is_sought, is_first}
+use Rattle.seat_programs.specs.Readers.{took, discarded, room_of}
+use Rattle.seat_programs.specs.Programs.{Program, Do, Say, Sent, Rest, TakeMessage, TakeHome, PutHome, PutBytes, AskReady, Write, Aside, Round, Keep, Retries}
+use Rattle.seat_programs.specs.Cores.{Core, SeatState}
+use Rattle.seat_programs.specs.Ticks.{Answer, OfReady, OfTake, Moment, FitsTake, IsTaken, IsAnswer, IsAnswered, IsAlwaysReady, taken, with_found, step_with, tick_with, ticked, is_nothing, waits_at, waits}
+use Rattle.seat_programs.specs.Runs.{kind_in, IsAtRest}
 use Rattle.sock_runs.specs.Rows.{row, hand_at}
 use Rattle.sock_runs.specs.GoesOn.{GoesOn}
 use Rattle.sock_runs.specs.Sound.{Sound, FitsBeside, IsFitting, first_step, views_with, views_of, views_after}
@@ -108,7 +108,7 @@ module _ (p : Plan) (go : RetriesGo p) (c : Core) (vs : List View) (n : ℕ) (la
   any_aside step next = plain_aside step next (λ found. late_plain step found (total (stale_cost c.calls.words) (expects seat.program)))
 
   -- a seat whose exchange fails counted for another word
-  late_of : (j from : ℕ) → eqb (slice_index c.calls.words (id_word j)) from ≡ false → expects seat.program ≡ (j, from) ∷ [] → STALE ≤ total (stale_cost c.calls.words) (expects seat.program)
+  late_of : (j from : ℕ) → eqb (slice_index c.calls.words (id_index j)) from ≡ false → expects seat.program ≡ (j, from) ∷ [] → STALE ≤ total (stale_cost c.calls.words) (expects seat.program)
   late_of j from lost at = subst (λ (xs : List (ℕ × ℕ)). STALE ≤ total (stale_cost c.calls.words) xs) (sym at) (omega (arith, ap (λ b. cond b 0 STALE) lost))
 
   -- ## The heads
@@ -122,36 +122,36 @@ module _ (p : Plan) (go : RetriesGo p) (c : Core) (vs : List View) (n : ℕ) (la
 
   posts_move : (id e from : ℕ) (next : Posting → Program) → seat.program ≡ Round (Posts id e from) next → GoesOn p v (Round (Posts id e from) next) → LastsFor p v (Round (Posts id e from) next) (k + STALE) → Counted (Round (Posts id e from) next) → Moves (Round (Posts id e from) next)
   posts_move id e from next at goes l counted =
-      inr (aside_moves STALE (omega arith) (PostId (id_slot id) from e) (λ found. cond (eqb found from) (cond (eqb (parts from).state 1) (next (HasLocked (packed (posted_word (parts from) e)))) (next WasQueued)) (judged id e found next)) (slice_index c.calls.words (id_word (id_slot id))) refl counted.0.1 counted.1 (λ lost. late_of (id_slot id) from lost (ap expects at))
-      (goes_round p v (Posts id e from) next goes) (posts_fall p v id e from next (k + STALE) (λ one. posted_fits from e one goes.0.0) l (slice_index c.calls.words (id_word (id_slot id)))))
+      inr (aside_moves STALE (omega arith) (PostId (id_slot id) from e) (λ found. cond (eqb found from) (cond (eqb (parts from).state 1) (next (HasLocked (packed (posted_word (parts from) e)))) (next WasQueued)) (judged id e found next)) (slice_index c.calls.words (id_index (id_slot id))) refl counted.0.1 counted.1 (λ lost. late_of (id_slot id) from lost (ap expects at))
+      (goes_round p v (Posts id e from) next goes) (posts_fall p v id e from next (k + STALE) (λ one. posted_fits from e one goes.0.0) l (slice_index c.calls.words (id_index (id_slot id)))))
 
   unlocks_move : (j from : ℕ) (advance : Bool) (next : Unlocking → Program) → seat.program ≡ Round (Unlocks j from advance) next → GoesOn p v (Round (Unlocks j from advance) next) → LastsFor p v (Round (Unlocks j from advance) next) (k + STALE) → Counted (Round (Unlocks j from advance) next)
       → Moves (Round (Unlocks j from advance) next)
   unlocks_move j from advance next at goes l counted =
-      inr (aside_moves STALE (omega arith) (UnlockId j from advance) (λ found. cond (eqb found from) (popped j (parts from).oldest (packed (unlocked_word (parts from) (advance_of advance))) next) (Round (Unlocks j found advance) next)) (slice_index c.calls.words (id_word j)) refl counted.0.1 counted.1 (λ lost. late_of j from lost (ap expects at))
-      (goes_round p v (Unlocks j from advance) next goes) (unlocks_fall p v j from advance next (k + STALE) (unlocked_fits from (advance_of advance) goes.0.0) l (slice_index c.calls.words (id_word j))))
+      inr (aside_moves STALE (omega arith) (UnlockId j from advance) (λ found. cond (eqb found from) (popped j (parts from).oldest (packed (unlocked_word (parts from) (advance_of advance))) next) (Round (Unlocks j found advance) next)) (slice_index c.calls.words (id_index j)) refl counted.0.1 counted.1 (λ lost. late_of j from lost (ap expects at))
+      (goes_round p v (Unlocks j from advance) next goes) (unlocks_fall p v j from advance next (k + STALE) (unlocked_fits from (advance_of advance) goes.0.0) l (slice_index c.calls.words (id_index j))))
 
   tries_move : (j : ℕ) (sought : Sought) (from : ℕ) (next : Locking → Program) → seat.program ≡ Round (Locks j sought (Some from)) next → GoesOn p v (Round (Locks j sought (Some from)) next) → LastsFor p v (Round (Locks j sought (Some from)) next) (k + STALE) → Counted (Round (Locks j sought (Some from)) next)
       → Moves (Round (Locks j sought (Some from)) next)
   tries_move j sought from next at goes l counted =
-      inr (aside_moves STALE (omega arith) (LockId j from) (λ found. cond (eqb found from) (next (Has (packed (posted_word (parts from) 0)))) (locking j sought found next)) (slice_index c.calls.words (id_word j)) refl counted.0.1 counted.1 (λ lost. late_of j from lost (ap expects at))
-      (goes_round p v (Locks j sought (Some from)) next goes) (tries_fall p v j sought from next (k + STALE) (got_fits from goes.0.0) l (slice_index c.calls.words (id_word j))))
+      inr (aside_moves STALE (omega arith) (LockId j from) (λ found. cond (eqb found from) (next (Has (packed (posted_word (parts from) 0)))) (locking j sought found next)) (slice_index c.calls.words (id_index j)) refl counted.0.1 counted.1 (λ lost. late_of j from lost (ap expects at))
+      (goes_round p v (Locks j sought (Some from)) next goes) (tries_fall p v j sought from next (k + STALE) (got_fits from goes.0.0) l (slice_index c.calls.words (id_index j))))
 
   locks_move : (j : ℕ) (sought : Sought) (next : Locking → Program) → GoesOn p v (Round (Locks j sought None) next) → LastsFor p v (Round (Locks j sought None) next) (k + 0) → Counted (Round (Locks j sought None) next) → Moves (Round (Locks j sought None) next)
-  locks_move j sought next goes l counted = by_word ((is_sought sought (parts (slice_index c.calls.words (id_word j)))) && not (eqb (parts (slice_index c.calls.words (id_word j))).state 1)) refl
+  locks_move j sought next goes l counted = by_word ((is_sought sought (parts (slice_index c.calls.words (id_index j)))) && not (eqb (parts (slice_index c.calls.words (id_index j))).state 1)) refl
     where
-      by_word : (b : Bool) → ((is_sought sought (parts (slice_index c.calls.words (id_word j)))) && not (eqb (parts (slice_index c.calls.words (id_word j))).state 1)) ≡ b → Moves (Round (Locks j sought None) next)
+      by_word : (b : Bool) → ((is_sought sought (parts (slice_index c.calls.words (id_index j)))) && not (eqb (parts (slice_index c.calls.words (id_index j))).state 1)) ≡ b → Moves (Round (Locks j sought None) next)
       by_word true is = inl (inr is)
-      by_word false is = inr (aside_moves 0 (omega arith) (LoadIdWord j) (λ found. locking j sought found next) (slice_index c.calls.words (id_word j)) refl counted.0.1 counted.1 refl
-          (goes_round p v (Locks j sought None) next goes) (locks_fall p v j sought next (k + 0) l (slice_index c.calls.words (id_word j)) is))
+      by_word false is = inr (aside_moves 0 (omega arith) (LoadIdWord j) (λ found. locking j sought found next) (slice_index c.calls.words (id_index j)) refl counted.0.1 counted.1 refl
+          (goes_round p v (Locks j sought None) next goes) (locks_fall p v j sought next (k + 0) l (slice_index c.calls.words (id_index j)) is))
 
   joins_move : (id : ℕ) (next : ℕ → Program) → GoesOn p v (Round (Joins id) next) → LastsFor p v (Round (Joins id) next) (k + 0) → Counted (Round (Joins id) next) → Moves (Round (Joins id) next)
-  joins_move id next goes l counted = by_word (is_first (id_first id) (parts (slice_index c.calls.words (id_word (id_slot id))))) refl
+  joins_move id next goes l counted = by_word (is_first (id_first id) (parts (slice_index c.calls.words (id_index (id_slot id))))) refl
     where
-      by_word : (b : Bool) → is_first (id_first id) (parts (slice_index c.calls.words (id_word (id_slot id)))) ≡ b → Moves (Round (Joins id) next)
+      by_word : (b : Bool) → is_first (id_first id) (parts (slice_index c.calls.words (id_index (id_slot id)))) ≡ b → Moves (Round (Joins id) next)
       by_word true is = inl (inr is)
-      by_word false is = inr (aside_moves 0 (omega arith) (LoadIdWord (id_slot id)) (λ found. cond (is_first (id_first id) (parts found)) (Round (Joins id) next) (next found)) (slice_index c.calls.words (id_word (id_slot id))) refl counted.0.1 counted.1 refl
-          (goes_round p v (Joins id) next goes) (joins_fall p v id next (k + 0) l (slice_index c.calls.words (id_word (id_slot id))) is))
+      by_word false is = inr (aside_moves 0 (omega arith) (LoadIdWord (id_slot id)) (λ found. cond (is_first (id_first id) (parts found)) (Round (Joins id) next) (next found)) (slice_index c.calls.words (id_index (id_slot id))) refl counted.0.1 counted.1 refl
+          (goes_round p v (Joins id) next goes) (joins_fall p v id next (k + 0) l (slice_index c.calls.words (id_index (id_slot id))) is))
 
   -- the two ways of a decision
   abbrev ends_by : ℕ → Asked → ℕ → (Deciding → Program) → Program
@@ -171,12 +171,12 @@ module _ (p : Plan) (go : RetriesGo p) (c : Core) (vs : List View) (n : ℕ) (la
   decides_move id asked word e next goes l counted = inr (either_moves id asked word e next (ends_call (parts word) e) (goes_round p v (Decides id asked word e) next goes) (decides_lasts p v id asked word e next (k + 0) l) counted.0 counted.1)
 
   opens_move : (o : ℕ) (next : ℕ → Program) → GoesOn p v (Round (Opens o) next) → LastsFor p v (Round (Opens o) next) (k + 0) → Moves (Round (Opens o) next)
-  opens_move o next goes l = by_word (eqb (slice_index c.words (open_word p o)) 0) refl
+  opens_move o next goes l = by_word (eqb (slice_index c.words (open_index p o)) 0) refl
     where
-      by_word : (b : Bool) → eqb (slice_index c.words (open_word p o)) 0 ≡ b → Moves (Round (Opens o) next)
+      by_word : (b : Bool) → eqb (slice_index c.words (open_index p o)) 0 ≡ b → Moves (Round (Opens o) next)
       by_word true is = inl (inr is)
-      by_word false is = let goes' = goes_round p v (Opens o) next goes in let room = l.1 in let found : ℕ = slice_index c.words (open_word p o) in let hand : Hand = hand_at p c.words c.homes (LoadOpen o) in
-          let w : View = row p (LoadOpen o) (slice_index c.words (open_word p o)) (hand_at p c.words c.homes (LoadOpen o)) v in
+      by_word false is = let goes' = goes_round p v (Opens o) next goes in let room = l.1 in let found : ℕ = slice_index c.words (open_index p o) in let hand : Hand = hand_at p c.words c.homes (LoadOpen o) in
+          let w : View = row p (LoadOpen o) (slice_index c.words (open_index p o)) (hand_at p c.words c.homes (LoadOpen o)) v in
           inr (found_steps p c vs n lasts i seat v at_seat at_view k at_number sound (LoadOpen o) (λ word. cond (eqb word 0) (Round (Opens o) next) (next word)) 1 l.0 refl goes'.0 goes'
           (subst (λ b. LastsFor p w (cond b (Round (Opens o) next) (next found)) l.0) (sym is) (l.2 found w)) (omega (arith, room))
           (let z = rights_few (accepted vs) p v found hand (LoadOpen o) goes'.0 refl in omega (arith, z)))
@@ -211,26 +211,26 @@ module _ (p : Plan) (go : RetriesGo p) (c : Core) (vs : List View) (n : ℕ) (la
   less_zero : (program : Program) → LastsFor p v program (k + 0) → LastsFor p v program k
   less_zero program l = lasts_more p v program (k + 0) k (omega arith) l
 
-  module _ (prompt : answer ≢ OfReady NotYet) where
+  module _ (always_ready : answer ≢ OfReady NotYet) where
     any_tick : (program : Program) → seat.program ≡ program → GoesOn p v program → LastsFor p v program (k + arriving program) → IsAnswer program answer → Counted program → Moves program
     any_tick (Round head next) at goes l a counted = head_moves head next at goes l a counted
     any_tick (Aside step next) at goes l a counted = inr (any_aside step next counted.0 counted.1 goes l)
-    any_tick (Do call next) at goes l a counted = tick_moves p c vs n lasts i seat v at_seat at_view k at_number go sound answer prompt (Do call next) tt goes (less_zero (Do call next) l) a
+    any_tick (Do call next) at goes l a counted = tick_moves p c vs n lasts i seat v at_seat at_view k at_number go sound answer always_ready (Do call next) tt goes (less_zero (Do call next) l) a
     any_tick (Say o outcome next) at goes l a counted = inl (inl refl)
     any_tick (Sent o next) at goes l a counted = inl (inl refl)
     any_tick Rest at goes l a counted = inl (inl refl)
     any_tick (Keep r next) at goes l a counted = inl (inl refl)
     any_tick (Retries requests after) at goes l a counted = inl (inl refl)
-    any_tick (TakeMessage q next) at goes l a counted = tick_moves p c vs n lasts i seat v at_seat at_view k at_number go sound answer prompt (TakeMessage q next) tt goes (less_zero (TakeMessage q next) l) a
-    any_tick (TakeHome j next) at goes l a counted = tick_moves p c vs n lasts i seat v at_seat at_view k at_number go sound answer prompt (TakeHome j next) tt goes (less_zero (TakeHome j next) l) a
-    any_tick (PutHome j places after) at goes l a counted = tick_moves p c vs n lasts i seat v at_seat at_view k at_number go sound answer prompt (PutHome j places after) tt goes (less_zero (PutHome j places after) l) a
-    any_tick (PutBytes j asked bytes next) at goes l a counted = tick_moves p c vs n lasts i seat v at_seat at_view k at_number go sound answer prompt (PutBytes j asked bytes next) tt goes (less_zero (PutBytes j asked bytes next) l) a
-    any_tick (AskReady j next) at goes l a counted = tick_moves p c vs n lasts i seat v at_seat at_view k at_number go sound answer prompt (AskReady j next) tt goes (less_zero (AskReady j next) l) a
-    any_tick (Write w after) at goes l a counted = tick_moves p c vs n lasts i seat v at_seat at_view k at_number go sound answer prompt (Write w after) tt goes (less_zero (Write w after) l) a
+    any_tick (TakeMessage q next) at goes l a counted = tick_moves p c vs n lasts i seat v at_seat at_view k at_number go sound answer always_ready (TakeMessage q next) tt goes (less_zero (TakeMessage q next) l) a
+    any_tick (TakeHome j next) at goes l a counted = tick_moves p c vs n lasts i seat v at_seat at_view k at_number go sound answer always_ready (TakeHome j next) tt goes (less_zero (TakeHome j next) l) a
+    any_tick (PutHome j places after) at goes l a counted = tick_moves p c vs n lasts i seat v at_seat at_view k at_number go sound answer always_ready (PutHome j places after) tt goes (less_zero (PutHome j places after) l) a
+    any_tick (PutBytes j asked bytes next) at goes l a counted = tick_moves p c vs n lasts i seat v at_seat at_view k at_number go sound answer always_ready (PutBytes j asked bytes next) tt goes (less_zero (PutBytes j asked bytes next) l) a
+    any_tick (AskReady j next) at goes l a counted = tick_moves p c vs n lasts i seat v at_seat at_view k at_number go sound answer always_ready (AskReady j next) tt goes (less_zero (AskReady j next) l) a
+    any_tick (Write w after) at goes l a counted = tick_moves p c vs n lasts i seat v at_seat at_view k at_number go sound answer always_ready (Write w after) tt goes (less_zero (Write w after) l) a
 
 -- ## A tick of any seat
 
-module _ (p : Plan) (go : RetriesGo p) (c : Core) (vs : List View) (m : Moment) (n : ℕ) (sound : Sound p c vs) (answered : IsAnswered c m) (prompt : IsPrompt m) (fitting : IsFitting p c m) (counted : IsCounted c m) (few : length c.seats ≤ 64) (lasts : Lasts p c vs n) where
+module _ (p : Plan) (go : RetriesGo p) (c : Core) (vs : List View) (m : Moment) (n : ℕ) (sound : Sound p c vs) (answered : IsAnswered c m) (always_ready : IsAlwaysReady m) (fitting : IsFitting p c m) (counted : IsCounted c m) (few : length c.seats ≤ 64) (lasts : Lasts p c vs n) where
   -- of a core and views behind the tick
   abbrev Behind : Option SeatState → Option View → Type 0
   Behind q o = ((elim q as (λ o. std.Option Kind) [ none ↦ None | some seat ↦ kind_in seat.program ] ≡ None) ⊎ (elim q as (λ o. Bool) [ none ↦ false | some seat ↦ waits_at p c m.answer seat.program ] ≡ true))
@@ -240,13 +240,13 @@ module _ (p : Plan) (go : RetriesGo p) (c : Core) (vs : List View) (m : Moment) 
   by_view : (seat : SeatState) → get_elem? c.seats m.seat ≡ some seat → (o : Option View) → get_elem? vs m.seat ≡ o → Behind (some seat) o
   by_view seat at none none_ = absurd (beside c.seats vs m.seat seat sound.each at none_)
   by_view seat at (some v) at_view = let k = view_there c.seats lasts.numbers m.seat seat lasts.each at (get_elem? lasts.numbers m.seat) refl in
-      any_tick p go c vs n lasts m.seat seat v at at_view k.0 k.1 few sound m.answer prompt seat.program refl (sound.seats m.seat seat v at at_view).goes_on (lasts.seats m.seat seat v k.0 at at_view k.1) (answered seat at) (counted seat at, fitting seat at)
+      any_tick p go c vs n lasts m.seat seat v at at_view k.0 k.1 few sound m.answer always_ready seat.program refl (sound.seats m.seat seat v at at_view).goes_on (lasts.seats m.seat seat v k.0 at at_view k.1) (answered seat at) (counted seat at, fitting seat at)
 
   by_seat : (q : Option SeatState) → get_elem? c.seats m.seat ≡ q → Behind q (get_elem? vs m.seat)
   by_seat none e = inl (inl refl)
   by_seat (some seat) e = by_view seat e (get_elem? vs m.seat) refl
 
 -- a tick over a prompt link leaves fewer, unless its seat is at rest or waits
-pub calls_last : (p : Plan) → RetriesGo p → (c : Core) (vs : List View) (m : Moment) (n : ℕ) → Sound p c vs → IsAnswered c m → IsPrompt m → IsFitting p c m → IsCounted c m → length c.seats ≤ 64 → Lasts p c vs n
+pub calls_last : (p : Plan) → RetriesGo p → (c : Core) (vs : List View) (m : Moment) (n : ℕ) → Sound p c vs → IsAnswered c m → IsAlwaysReady m → IsFitting p c m → IsCounted c m → length c.seats ≤ 64 → Lasts p c vs n
     → (IsAtRest c m.seat ⊎ (waits p c m ≡ true)) ⊎ ((k : ℕ) × (k < n) × Lasts p (ticked p c m) (views_after p c vs m) k)
-calls_last p go c vs m n sound answered prompt fitting counted few lasts = by_seat p go c vs m n sound answered prompt fitting counted few lasts (get_elem? c.seats m.seat) refl
+calls_last p go c vs m n sound answered always_ready fitting counted few lasts = by_seat p go c vs m n sound answered always_ready fitting counted few lasts (get_elem? c.seats m.seat) refl

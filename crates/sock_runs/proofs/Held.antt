@@ -18,8 +18,8 @@ use Rattle.sock_model.specs.SlotRows.{met, looked, told_code, met_link}
 use Rattle.sock_model.specs.ChainRows.{with_claim, with_hand, spent_hand, without_hand, with_right, without_right, turned_right, placed_right, dropped_right}
 use Rattle.sock_model.specs.Lawful.{Lawful}
 use Rattle.sock_steps.proofs.Quiet.{either_way}
-use Rattle.sock_programs.specs.Calls.{Call, ClaimSlot, GiveBirth, AddRef, SubRef, SetOdd, Recycle, FreeSlot, StoreLink, LoadLink, ResetHead, WipeCode, StoreCode, StoreName, LoadName, StoreOpen, LoadOpen, TakeLink, FinishLink, PutLink, LookWord, FindLink, LoadCode, ClaimRequest, PutMessage, Unconnect, SwapHead, Connect, EmptyHead, ReadNext, TurnNext, FreeRequest, StorePlace, DropPlace}
-use Rattle.sock_programs.specs.Cores.{Core, word_of, found_at, hand_after}
+use Rattle.seat_programs.specs.Calls.{Call, ClaimSlot, CreateLife, AddRef, SubRef, SetOdd, Recycle, FreeSlot, StoreLink, LoadLink, ResetHead, ClearCode, StoreCode, StoreName, LoadName, StoreOpen, LoadOpen, TakeLink, FinishLink, PutLink, LookWord, FindLink, LoadCode, ClaimRequest, PutMessage, Unconnect, SwapHead, Connect, EmptyHead, ReadNext, ReverseNext, FreeRequest, StorePlace, DropPlace}
+use Rattle.seat_programs.specs.Cores.{Core, word_of, found_at, hand_after}
 use Rattle.sock_runs.specs.Rows.{row, hand_at, is_id, found_id, taken, by_right, new_claim, filled_claim, ready_claim, exchanged, looked_clean, emptied, settled, read_next, turned_next, freed_stage, freed_next, placed_next, dropped_next}
 use Rattle.sock_runs.specs.May.{May}
 use Rattle.sock_runs.specs.Sound.{state, IsOfRight, AreInHand, AreHeld}
@@ -138,7 +138,7 @@ module _ (p : Plan) (c : Core) (vs : List View) (o : Lawful (λ home. home) p (s
 
   pub keeps_held : (call : Call) → May p v call → AreHeld (hand_after p call c.homes hand) (after call).rights (after call).hands
   keeps_held (ClaimSlot j) may = held
-  keeps_held (GiveBirth j k) may = held
+  keeps_held (CreateLife j k) may = held
   keeps_held (AddRef id) may = held
   keeps_held (SubRef j) may = held
   keeps_held (SetOdd j) may = held
@@ -147,7 +147,7 @@ module _ (p : Plan) (c : Core) (vs : List View) (o : Lawful (λ home. home) p (s
   keeps_held (StoreLink j k) may = held
   keeps_held (LoadLink j w) may = held
   keeps_held (ResetHead j k) may = held
-  keeps_held (WipeCode j k) may = held
+  keeps_held (ClearCode j k) may = held
   keeps_held (StoreCode j h d) may = held
   keeps_held (StoreName n w) may = held
   keeps_held (LoadName n) may = held_id p v hand held (found (LoadName n))
@@ -177,7 +177,7 @@ module _ (p : Plan) (c : Core) (vs : List View) (o : Lawful (λ home. home) p (s
       of_right p v hand held r may.1.1 (emptied last w v) v
       (either_way (w == last) (without_right v r.link) (with_right v (record r { stage = Walks w w 0 })) (Holds p v hand held) (gone_held p v hand held r may.1.1 may.1.0.link_home) (stage_held p v hand held r may.1.1 (Walks w w 0)))
   keeps_held (ReadNext q) may = of_right p v hand held may.0 may.1 (λ r. read_next (found (ReadNext q)) v r r.stage) v (reads_held p v hand held (found (ReadNext q)) may.0 may.1 may.0.stage)
-  keeps_held (TurnNext q value) may = let r : Right = may.0.mine.right in of_right p v hand held r may.1 (λ r. turned_next v r r.stage) v (turns_held p v hand held r may.1 r.stage)
+  keeps_held (ReverseNext q value) may = let r : Right = may.0.mine.right in of_right p v hand held r may.1 (λ r. turned_next v r r.stage) v (turns_held p v hand held r may.1 r.stage)
   keeps_held (FreeRequest q g) may = let r : Right = may.4.0 in of_right p v hand held r may.4.1 (freed_next v) v (stage_held p v hand held r may.4.1 (freed_stage r.stage))
   keeps_held (StorePlace l k n) may = let r : Right = may.0.mine.right in of_right p v hand held r may.1 (λ r. placed_next v r r.stage) v (places_held p v hand held r may.1 may.5 r.stage)
   keeps_held (DropPlace l k n) may = let r : Right = may.0.mine.right in of_right p v hand held r may.1 (λ r. dropped_next v r r.stage) v (drops_held p v hand held r may.1 r.stage)

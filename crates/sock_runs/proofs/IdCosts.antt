@@ -4,14 +4,14 @@ use Rattle.std.proofs.lemmas.Bool.{true≢false}
 use Rattle.std.specs.Prelude as std
 use Rattle.sock_words.specs.declared.plain.Plan.{Plan}
 use Rattle.sock_model.specs.declared.view.View.{View}
-use Rattle.sock_programs.specs.corr_core.specs.Word.{parts, code_of, error_of, posted_word, unlocked_word}
-use Rattle.sock_programs.specs.corr_core.specs.Law.{LAST}
-use Rattle.sock_programs.specs.sock_message.specs.Asked.{Asked}
-use Rattle.sock_programs.specs.Asides.{Step, Found, LoadIdWord, LockId, PostId, UnlockId, FreeId, PutCall, id_slot, id_first}
-use Rattle.sock_programs.specs.Heads.{Head, Exit, Retry, Sought, Posts, Unlocks, Decides, Locks, Joins, Opens, Posting, WasGone, WasStale, WasCrowded, WasQueued, HasLocked, Unlocking, IsOpen, HasNext, Deciding, HasEnded, Locking, NotThere, Has}
-use Rattle.sock_programs.specs.Heads as heads
-use Rattle.sock_programs.specs.Programs.{Program, Do, Say, Sent, Rest, TakeMessage, TakeHome, PutHome, PutBytes, AskReady, Write, Aside, Round, Keep, Retries}
-use Rattle.sock_programs.specs.Posts.{packed, advance_of, is_first, is_sought, is_stale, is_full, judged, posted, post, popped, ends_call, end_id, decide, unlocked, decides_round, decided, locking}
+use Rattle.seat_programs.specs.corr_core.specs.Word.{parts, code_of, error_of, posted_word, unlocked_word}
+use Rattle.seat_programs.specs.corr_core.specs.Law.{LAST}
+use Rattle.seat_programs.specs.sock_message.specs.Asked.{Asked}
+use Rattle.seat_programs.specs.Asides.{Step, Found, LoadIdWord, LockId, PostId, UnlockId, FreeId, PutCall, id_slot, id_first}
+use Rattle.seat_programs.specs.Heads.{Head, Exit, Retry, Sought, Posts, Unlocks, Decides, Locks, Joins, Opens, Posting, WasGone, WasStale, WasCrowded, WasQueued, HasLocked, Unlocking, IsOpen, HasNext, Deciding, HasEnded, Locking, NotThere, Has}
+use Rattle.seat_programs.specs.Heads as heads
+use Rattle.seat_programs.specs.Programs.{Program, Do, Say, Sent, Rest, TakeMessage, TakeHome, PutHome, PutBytes, AskReady, Write, Aside, Round, Keep, Retries}
+use Rattle.seat_programs.specs.Posts.{packed, advance_of, is_first, is_sought, is_stale, is_full, judged, posted, post, popped, ends_call, end_id, decide, unlocked, decides_round, decided, locking}
 use Rattle.sock_runs.specs.Fits.{FitsWord, FitsPosting, FitsUnlocking, FitsLocking}
 use Rattle.sock_runs.specs.Lasts.{LastsFor, fresh, fresh_at, left_word, STALE, CHANGE, DECISION, ERROR, POST, attempt_cost, advance_gain, aside_cost, aside_gain, unlocking_gain}
 
@@ -25,7 +25,7 @@ lasts_more p v (TakeMessage q next) m n le l = λ heading bytes some_. let a = l
 lasts_more p v (TakeHome k next) m n le l = let a = l.1 in (l.0, omega (arith, le, a), l.2)
 lasts_more p v (PutHome k places after) m n le l = let a = l.1 in (l.0, omega (arith, le, a), l.2)
 lasts_more p v (PutBytes k asked bytes next) m n le l = λ answer fits. let a = l answer fits in let b = a.1 in (a.0, omega (arith, le, b), a.2)
-lasts_more p v (AskReady k next) m n le l = λ answer prompt. let a = l answer prompt in let b = a.1 in (a.0, omega (arith, le, b), a.2)
+lasts_more p v (AskReady k next) m n le l = λ answer always_ready. let a = l answer always_ready in let b = a.1 in (a.0, omega (arith, le, b), a.2)
 lasts_more p v (Write w after) m n le l = let a = l.1 in (l.0, omega (arith, le, a), l.2)
 lasts_more p v (Aside step next) m n le l = λ found fits. let a = l found fits in let b = a.1 in (a.0, omega (arith, le, b), a.2)
 lasts_more p v (Round (Opens o) next) m n le l = let a = l.1 in (l.0, omega (arith, le, a), l.2)

@@ -1,7 +1,7 @@
 -- The words that are ids of lives.
 use Rattle.std.proofs.Common.{◌≡◌, ◌≢◌, ℕ, true, arith}
 use Rattle.std.proofs.lemmas.Bool.Decides.{nat_tests}
-use Rattle.sock_programs.specs.Programs.{NO_SOCKET}
+use Rattle.seat_programs.specs.Programs.{NO_SOCKET}
 use Rattle.sock_runs.specs.Rows.{is_id}
 
 pub id_some : (w : ℕ) → is_id w ≡ true → w ≢ 0

@@ -4,12 +4,12 @@ use mathlib.Core.Logic.{dite}
 use native.Mathlib.Decide.{ℕ_discrete}
 use Rattle.std.specs.Prelude.{slice_index, Some}
 use Rattle.sock_model.specs.Weights.{total}
-use Rattle.sock_programs.specs.corr_core.specs.Word.{Parts, parts, made_word, locked_word, posted_word, unlocked_word, free_word}
-use Rattle.sock_programs.specs.id_rule.specs.Lawful.{id_word}
-use Rattle.sock_programs.specs.Asides.{id_slot}
-use Rattle.sock_programs.specs.Heads.{Head, Posts, Unlocks, Locks}
-use Rattle.sock_programs.specs.Programs.{Program, Round}
-use Rattle.sock_programs.specs.Cores.{SeatState}
+use Rattle.seat_programs.specs.corr_core.specs.Word.{Parts, parts, made_word, locked_word, posted_word, unlocked_word, free_word}
+use Rattle.seat_programs.specs.id_rule.specs.Lawful.{id_index}
+use Rattle.seat_programs.specs.Asides.{id_slot}
+use Rattle.seat_programs.specs.Heads.{Head, Posts, Unlocks, Locks}
+use Rattle.seat_programs.specs.Programs.{Program, Round}
+use Rattle.seat_programs.specs.Cores.{SeatState}
 use Rattle.sock_runs.specs.Lasts.{STALE, ERROR, attempt_cost, expected, expects, stale_cost, queued_errors, id_left, ids_left}
 
 -- ## Stale words
@@ -19,7 +19,7 @@ stale_small true = omega arith
 stale_small false = omega arith
 
 one_stale : (words : List ℕ) (x : ℕ × ℕ) → total (stale_cost words) (x ∷ []) ≤ STALE
-one_stale words x = let small = stale_small (eqb (slice_index words (id_word x.0)) x.1) in omega (arith, small)
+one_stale words x = let small = stale_small (eqb (slice_index words (id_index x.0)) x.1) in omega (arith, small)
 
 head_stale : (words : List ℕ) (head : Head) → total (stale_cost words) (expected head) ≤ STALE
 head_stale words (Posts id e w) = one_stale words (id_slot id, w)
@@ -102,20 +102,20 @@ unlocked_left requests w advance some_ room =
 
 -- ## All ids
 
-module _ (requests : ℕ) (ws : List ℕ) (i w : ℕ) (inside : id_word i < length ws) where
-  head_else : (n : ℕ) → n ≢ i → id_left requests (parts (slice_index (set ws (id_word i) w) (id_word n))) ≡ id_left requests (parts (slice_index ws (id_word n)))
-  head_else n other = ap (λ x. id_left requests (parts x)) (get_or-set_other ws (id_word i) (id_word n) w 0 (λ e. other (omega (arith, e))))
+module _ (requests : ℕ) (ws : List ℕ) (i w : ℕ) (inside : id_index i < length ws) where
+  head_else : (n : ℕ) → n ≢ i → id_left requests (parts (slice_index (set ws (id_index i) w) (id_index n))) ≡ id_left requests (parts (slice_index ws (id_index n)))
+  head_else n other = ap (λ x. id_left requests (parts x)) (get_or-set_other ws (id_index i) (id_index n) w 0 (λ e. other (omega (arith, e))))
 
-  ids_else : (n : ℕ) → n ≤ i → ids_left requests (set ws (id_word i) w) n ≡ ids_left requests ws n
+  ids_else : (n : ℕ) → n ≤ i → ids_left requests (set ws (id_index i) w) n ≡ ids_left requests ws n
   ids_else zero few = refl
   ids_else (suc n) few = ap₂ (λ a b. a + b) (head_else n (λ e. omega (arith, e, few))) (ids_else n (omega (arith, few)))
 
   -- one word counts for another
-  pub ids_set : (n : ℕ) → i < n → ids_left requests (set ws (id_word i) w) n + id_left requests (parts (slice_index ws (id_word i))) ≡ ids_left requests ws n + id_left requests (parts w)
+  pub ids_set : (n : ℕ) → i < n → ids_left requests (set ws (id_index i) w) n + id_left requests (parts (slice_index ws (id_index i))) ≡ ids_left requests ws n + id_left requests (parts w)
   ids_set zero less = absurd (omega (arith, less))
   ids_set (suc n) less = dite (ℕ_discrete n i)
-      (λ same. let here : id_left requests (parts (slice_index (set ws (id_word i) w) (id_word n))) ≡ id_left requests (parts w) = ap (λ x. id_left requests (parts x)) (ap (λ j. slice_index (set ws (id_word i) w) (id_word j)) same ∙ get_or-set_same ws (id_word i) w 0 inside) in
-      let old : id_left requests (parts (slice_index ws (id_word n))) ≡ id_left requests (parts (slice_index ws (id_word i))) = ap (λ j. id_left requests (parts (slice_index ws (id_word j)))) same in
+      (λ same. let here : id_left requests (parts (slice_index (set ws (id_index i) w) (id_index n))) ≡ id_left requests (parts w) = ap (λ x. id_left requests (parts x)) (ap (λ j. slice_index (set ws (id_index i) w) (id_index j)) same ∙ get_or-set_same ws (id_index i) w 0 inside) in
+      let old : id_left requests (parts (slice_index ws (id_index n))) ≡ id_left requests (parts (slice_index ws (id_index i))) = ap (λ j. id_left requests (parts (slice_index ws (id_index j)))) same in
       let rest = ids_else n (omega (arith, same)) in sum_here _ _ _ _ _ _ here old rest)
       (λ other. let rest = ids_set n (omega (arith, less, other)) in sum_there _ _ _ _ _ _ (head_else n other) rest)
     where

@@ -10,9 +10,9 @@ use lib.ListN.{get_elem?}
 use Rattle.std.specs.Prelude.{slice_index, None}
 use Rattle.atomic_table.proofs.Lists.{at_set, set_again}
 use Rattle.sock_words.specs.declared.plain.Plan.{Plan}
-use Rattle.sock_programs.specs.sock_io.specs.declared.link.Put.{Put}
-use Rattle.sock_programs.specs.sock_io.specs.declared.link.Ready.{Ready}
-use Rattle.sock_programs.specs.sock_io.specs.declared.link.Ready.TheVariants.{NotYet}
+use Rattle.seat_programs.specs.sock_io.specs.declared.link.Put.{Put}
+use Rattle.seat_programs.specs.sock_io.specs.declared.link.Ready.{Ready}
+use Rattle.seat_programs.specs.sock_io.specs.declared.link.Ready.TheVariants.{NotYet}
 use Rattle.sock_model.specs.declared.chain.Entry.{Entry}
 use Rattle.sock_model.specs.declared.chain.Heading.{Heading}
 use Rattle.sock_model.specs.declared.chain.Right.{Right}
@@ -21,30 +21,30 @@ use Rattle.sock_model.specs.declared.home.Home.TheVariants.{Link, Message}
 use Rattle.sock_model.specs.declared.view.View.{View}
 use Rattle.sock_model.specs.declared.view.Hand.{Hand}
 use Rattle.sock_model.specs.Entries.{on, slot_of}
-use Rattle.sock_model.specs.Layout.{head_word, link_word, next_word}
+use Rattle.sock_model.specs.Layout.{head_index, link_index, next_index}
 use Rattle.sock_model.specs.Memory.{IDLE, UNCONNECTED}
 use Rattle.sock_model.specs.Weights.{total, only}
 use Rattle.sock_model.specs.Messages.{Letter}
 use Rattle.sock_model.specs.ChainRows.{entry_of, more, new_right, queued, righted}
 use Rattle.sock_model.specs.Reads.{letter_of, took_of, as_link, shown, message, link_home}
-use Rattle.sock_steps.specs.slot_laws.proofs.Sums.{total-set}
-use Rattle.sock_steps.specs.slot_laws.proofs.Numbers.{only-same}
-use Rattle.sock_steps.specs.chain_laws.proofs.Few.{few_rights}
+use Rattle.sock_steps.specs.slot_steps.proofs.Sums.{total-set}
+use Rattle.sock_steps.specs.slot_steps.proofs.Numbers.{only-same}
+use Rattle.sock_steps.specs.chain_steps.proofs.Few.{few_rights}
 use Rattle.sock_steps.proofs.Maps.{set_at}
 use Rattle.sock_runs.proofs.Along.{place_inside}
 use Rattle.sock_steps.proofs.AcceptSteps.{link_in, idle_home}
 use Rattle.sock_steps.proofs.Walked.{walk_less, turn_less, accepted_count}
-use Rattle.sock_programs.specs.Writings.{Holder, Writing, Puts, Waits, Empties, Walks}
-use Rattle.sock_programs.specs.Calls.{Call, SwapHead, PutMessage, ReadNext, TurnNext}
-use Rattle.sock_programs.specs.Programs.{Program, Do, Say, Sent, Rest, TakeMessage, TakeHome, PutHome, PutBytes, AskReady, Write, Aside, Round, Keep, Retries}
-use Rattle.sock_programs.specs.Heads.{Retry}
-use Rattle.sock_programs.specs.Sends.{block}
-use Rattle.sock_programs.specs.corr_core.specs.Word.{parts}
-use Rattle.sock_programs.specs.corr_core.specs.declared.marks.Plan.{Plan as IdPlan}
-use Rattle.sock_programs.specs.id_rule.specs.Lawful.{id_word}
-use Rattle.sock_programs.specs.Cores.{Calls, Core, SeatState, resolved, still_waiting, waiting_at, word_of, word_after, found_at, words_after, homes_after, hand_after, lies_at, first_of, others_of, link_place, with_seat, next_step, stepped}
-use Rattle.sock_programs.specs.Ticks.{Answer, OfReady, FitsPut, IsAnswer, fed, with_places, onto_first, with_message, with_link, step_with, tick_with, waits_at, waits}
-use Rattle.sock_programs.specs.Runs.{kind_in}
+use Rattle.seat_programs.specs.Writings.{Holder, Writing, Puts, Waits, Empties, Walks}
+use Rattle.seat_programs.specs.Calls.{Call, SwapHead, PutMessage, ReadNext, ReverseNext}
+use Rattle.seat_programs.specs.Programs.{Program, Do, Say, Sent, Rest, TakeMessage, TakeHome, PutHome, PutBytes, AskReady, Write, Aside, Round, Keep, Retries}
+use Rattle.seat_programs.specs.Heads.{Retry}
+use Rattle.seat_programs.specs.Sends.{block}
+use Rattle.seat_programs.specs.corr_core.specs.Word.{parts}
+use Rattle.seat_programs.specs.corr_core.specs.declared.marks.Plan.{Plan as IdPlan}
+use Rattle.seat_programs.specs.id_rule.specs.Lawful.{id_index}
+use Rattle.seat_programs.specs.Cores.{Calls, Core, SeatState, resolved, still_waiting, waiting_at, word_of, word_after, found_at, words_after, homes_after, hand_after, lies_at, first_of, others_of, link_place, with_seat, next_step, stepped}
+use Rattle.seat_programs.specs.Ticks.{Answer, OfReady, FitsPut, IsAnswer, fed, with_places, onto_first, with_message, with_link, step_with, tick_with, waits_at, waits}
+use Rattle.seat_programs.specs.Runs.{kind_in}
 use Rattle.sock_runs.specs.Rows.{row, hand_at, as_hand, by_claim, exchanged, took_message, link_away, link_home_again, took_bytes}
 use Rattle.sock_runs.specs.May.{May, Finds}
 use Rattle.sock_runs.specs.GoesOn.{GoesOn}
@@ -102,7 +102,7 @@ stale_left words seats = total (λ (s : SeatState). total (stale_cost words) (ex
 
 -- the words of all ids are the same
 abbrev pub AreSameIds : List ℕ → List ℕ → Type 0
-AreSameIds words others = (j : ℕ) → slice_index words (id_word j) ≡ slice_index others (id_word j)
+AreSameIds words others = (j : ℕ) → slice_index words (id_index j) ≡ slice_index others (id_index j)
 
 expected_same : (words others : List ℕ) → AreSameIds words others → (xs : List (ℕ × ℕ)) → total (stale_cost words) xs ≡ total (stale_cost others) xs
 expected_same words others ids [] = refl
@@ -257,7 +257,7 @@ module _ (p : Plan) (c : Core) (vs : List View) (n : ℕ) (lasts : Lasts p c vs 
     link = may.1.claim.link
 
     abbrev found : ℕ
-    found = slice_index c.words (head_word j)
+    found = slice_index c.words (head_index j)
 
     abbrev hand : Hand
     hand = hand_at p c.words c.homes (SwapHead j own)
@@ -302,36 +302,36 @@ module _ (p : Plan) (c : Core) (vs : List View) (n : ℕ) (lasts : Lasts p c vs 
         → walks (set vs i w) ≤ walks vs + (2 + ACCEPT)
     walks_after w e is lists rights = omega (arith, rights_after w e is lists rights, entries_after w e lists)
 
-    busy_after : walks (set vs i (queued v may.1.claim (slice_index c.words (head_word j)))) ≤ walks vs + (2 + ACCEPT)
-    busy_after = let x = may.1 in let n : ℕ = slice_index c.words (head_word j) in walks_after (queued v x.claim n) (entry_of x.claim n) refl refl refl
+    busy_after : walks (set vs i (queued v may.1.claim (slice_index c.words (head_index j)))) ≤ walks vs + (2 + ACCEPT)
+    busy_after = let x = may.1 in let n : ℕ = slice_index c.words (head_index j) in walks_after (queued v x.claim n) (entry_of x.claim n) refl refl refl
 
-    hand_is : (q : ℕ) (sent : List ℕ) (places : ℕ) → slice_index c.words (link_word j) ≡ q → link_home (λ home. home) p c.homes q ≡ some (sent, places) → hand_at p c.words c.homes (SwapHead j own) ≡ record { link = q; took = sent; next = places }
+    hand_is : (q : ℕ) (sent : List ℕ) (places : ℕ) → slice_index c.words (link_index j) ≡ q → link_home (λ home. home) p c.homes q ≡ some (sent, places) → hand_at p c.words c.homes (SwapHead j own) ≡ record { link = q; took = sent; next = places }
     hand_is q sent places e h = ap (λ z. as_hand z (link_home (λ home. home) p c.homes z)) e ∙ ap (as_hand q) h
 
     -- whoever found an idle head has no walk left
     none_left : (sent : List ℕ) (places : ℕ) → places ≡ length (on may.1.claim.link sound.lawful.log)
-        → walk_left (accepted (set vs i (righted v may.1.claim (slice_index c.words (head_word j)) sent places))) (new_right may.1.claim (slice_index c.words (head_word j)) sent places) ≡ 0
-    none_left sent places all = let x = may.1 in let n : ℕ = slice_index c.words (head_word j) in let w : View = righted v x.claim n sent places in
+        → walk_left (accepted (set vs i (righted v may.1.claim (slice_index c.words (head_index j)) sent places))) (new_right may.1.claim (slice_index c.words (head_index j)) sent places) ≡ 0
+    none_left sent places all = let x = may.1 in let n : ℕ = slice_index c.words (head_index j) in let w : View = righted v x.claim n sent places in
         omega (arith, all, counts_after (entry_of x.claim (n - IDLE)) w refl refl x.claim.link, only-same x.claim.link, accepted_count (λ (u : View). u.lists) vs sound.lawful.log sound.lawful.authors x.claim.link)
 
-    idle_after : IDLE ≤ slice_index c.words (head_word j)
-        → walks (set vs i (righted v may.1.claim (slice_index c.words (head_word j)) (hand_at p c.words c.homes (SwapHead j own)).took (hand_at p c.words c.homes (SwapHead j own)).next)) ≤ walks vs + (2 + ACCEPT)
-    idle_after idle = let o = sound.lawful in let x = may.1 in let n : ℕ = slice_index c.words (head_word j) in let a = idle_home (λ home. home) p (state c vs) o i j own v at_view x idle in
-        let is : slice_index c.words (link_word j) ≡ x.claim.link = held_link_is p (state c vs) o i v at_view j x.life (x.holds.inside, x.holds.held) x.claim.link x.holds.met in
+    idle_after : IDLE ≤ slice_index c.words (head_index j)
+        → walks (set vs i (righted v may.1.claim (slice_index c.words (head_index j)) (hand_at p c.words c.homes (SwapHead j own)).took (hand_at p c.words c.homes (SwapHead j own)).next)) ≤ walks vs + (2 + ACCEPT)
+    idle_after idle = let o = sound.lawful in let x = may.1 in let n : ℕ = slice_index c.words (head_index j) in let a = idle_home (λ home. home) p (state c vs) o i j own v at_view x idle in
+        let is : slice_index c.words (link_index j) ≡ x.claim.link = held_link_is p (state c vs) o i v at_view j x.life (x.holds.inside, x.holds.held) x.claim.link x.holds.met in
         subst (λ (z : Hand). walks (set vs i (righted v x.claim n z.took z.next)) ≤ walks vs + (2 + ACCEPT)) (sym (hand_is x.claim.link a.0 a.1 is a.2))
         (walks_after (righted v x.claim n a.0 a.1) (entry_of x.claim (n - IDLE)) refl refl (omega (arith, none_left a.0 a.1 a.3)))
 
-    swapped : walks (set vs i (row p (SwapHead j own) (slice_index c.words (head_word j)) (hand_at p c.words c.homes (SwapHead j own)) v)) ≤ walks vs + (2 + ACCEPT)
-    swapped = let x = may.1 in let n : ℕ = slice_index c.words (head_word j) in let g : Hand = hand_at p c.words c.homes (SwapHead j own) in
+    swapped : walks (set vs i (row p (SwapHead j own) (slice_index c.words (head_index j)) (hand_at p c.words c.homes (SwapHead j own)) v)) ≤ walks vs + (2 + ACCEPT)
+    swapped = let x = may.1 in let n : ℕ = slice_index c.words (head_index j) in let g : Hand = hand_at p c.words c.homes (SwapHead j own) in
         subst (λ cs. walks (set vs i (by_claim cs (exchanged n g v) v)) ≤ walks vs + (2 + ACCEPT)) (sym x.claims)
         (dite (dec_le IDLE n)
         (λ idle. subst (λ b. walks (set vs i (cond b (queued v x.claim n) (righted v x.claim n g.took g.next))) ≤ walks vs + (2 + ACCEPT)) (sym (le-ltb n IDLE idle)) (idle_after idle))
         (λ busy. subst (λ b. walks (set vs i (cond b (queued v x.claim n) (righted v x.claim n g.took g.next))) ≤ walks vs + (2 + ACCEPT)) (sym (lt-ltb n IDLE (lt_of_not-le busy))) busy_after))
 
     exchange_steps : (next : ℕ → Program) → GoesOn p v (Do (SwapHead j own) next) → LastsFor p v (Do (SwapHead j own) next) k
-        → Fewer p n (stepped p i seat (SwapHead j own) next c) (set vs i (row p (SwapHead j own) (slice_index c.words (head_word j)) (hand_at p c.words c.homes (SwapHead j own)) v))
-    exchange_steps next goes l = let few = l.1 in let found : ℕ = slice_index c.words (head_word j) in let g : Hand = hand_at p c.words c.homes (SwapHead j own) in
-        plain_moves (next found) seat.hand (set c.words (head_word j) own) c.homes (row p (SwapHead j own) found g v) l.0 (goes.1 found g (allowed sound (SwapHead j own) may)) (l.2 found g (allowed sound (SwapHead j own) may)) (omega (arith, few, swapped))
+        → Fewer p n (stepped p i seat (SwapHead j own) next c) (set vs i (row p (SwapHead j own) (slice_index c.words (head_index j)) (hand_at p c.words c.homes (SwapHead j own)) v))
+    exchange_steps next goes l = let few = l.1 in let found : ℕ = slice_index c.words (head_index j) in let g : Hand = hand_at p c.words c.homes (SwapHead j own) in
+        plain_moves (next found) seat.hand (set c.words (head_index j) own) c.homes (row p (SwapHead j own) found g v) l.0 (goes.1 found g (allowed sound (SwapHead j own) may)) (l.2 found g (allowed sound (SwapHead j own) may)) (omega (arith, few, swapped))
 
   -- ## Any step
 
@@ -339,9 +339,9 @@ module _ (p : Plan) (c : Core) (vs : List View) (n : ℕ) (lasts : Lasts p c vs 
     pub call_moves : (call : Call) (next : ℕ → Program) → GoesOn p v (Do call next) → LastsFor p v (Do call next) k
         → Fewer p n (stepped p i seat call next c) (set vs i (row p call (found_at c.words (word_of p call)) (hand_at p c.words c.homes call) v))
     call_moves (SwapHead j own) next goes l = exchange_steps sound j own goes.0 next goes l
-    call_moves (TurnNext q value) next goes l = let may = goes.0 in let x = may.0 in let r : Right = x.mine.right in let o = sound.lawful in let few = l.1 in
-        call_steps sound (TurnNext q value) next 0 refl may goes l (omega (arith, few))
-        (let z = WalksLeft.turn_less (accepted vs) p v (found_at c.words (word_of p (TurnNext q value))) (hand_at p c.words c.homes (TurnNext q value)) q value r x.top x.at value x.before may.1 x.stage
+    call_moves (ReverseNext q value) next goes l = let may = goes.0 in let x = may.0 in let r : Right = x.mine.right in let o = sound.lawful in let few = l.1 in
+        call_steps sound (ReverseNext q value) next 0 refl may goes l (omega (arith, few))
+        (let z = WalksLeft.turn_less (accepted vs) p v (found_at c.words (word_of p (ReverseNext q value))) (hand_at p c.words c.homes (ReverseNext q value)) q value r x.top x.at value x.before may.1 x.stage
         (omega (arith, turn_less o i x.mine.place v r at_view x.mine.has x.top x.at value x.before x.stage, accepted_count (λ (u : View). u.lists) vs o.log o.authors r.link)) in omega (arith, z))
     call_moves (PutMessage q heading bytes) next goes l = let few = l.1 in call_steps sound (PutMessage q heading bytes) next 1 refl goes.0 goes l (omega (arith, few)) (stays (PutMessage q heading bytes) goes.0 refl)
       where
@@ -380,10 +380,10 @@ module _ (p : Plan) (c : Core) (vs : List View) (n : ℕ) (lasts : Lasts p c vs 
         seat_steps (next answer) (onto_first (fed bytes answer) seat.hand) c.words c.homes (took_bytes answer v) a.0 (goes.1 answer fits) a.2 (put_lists v answer) (omega (arith, few, put_few (accepted vs) v answer))
 
     ready_moves : (j : ℕ) (next : Ready → Program) (answer : Ready) → answer ≢ NotYet → GoesOn p v (AskReady j next) → LastsFor p v (AskReady j next) k → Fewer p n (with_seat i (next answer) seat.hand c.words c.homes c) vs
-    ready_moves j next answer prompt goes l = let a = l answer prompt in let few = a.1 in
+    ready_moves j next answer always_ready goes l = let a = l answer always_ready in let few = a.1 in
         subst (Fewer p n (with_seat i (next answer) seat.hand c.words c.homes c)) (set_again vs i v at_view) (seat_steps (next answer) seat.hand c.words c.homes v a.0 (goes.1 answer) a.2 refl (omega (arith, few)))
 
-    module _ (answer : Answer) (prompt : answer ≢ OfReady NotYet) where
+    module _ (answer : Answer) (always_ready : answer ≢ OfReady NotYet) where
       -- the seat is at rest, or fewer are left behind its first step
       first_moves : (program : Program) → IsStep program → GoesOn p v program → LastsFor p v program k → IsAnswer program answer
           → (kind_in program ≡ None) ⊎ Fewer p n (step_with p i seat c answer program) (views_with p i c vs v answer program)
@@ -393,7 +393,7 @@ module _ (p : Plan) (c : Core) (vs : List View) (n : ℕ) (lasts : Lasts p c vs 
       first_moves (PutHome j places after) step goes l a = inr (home_moves j places after goes l)
       first_moves (PutBytes j asked bytes next) step goes l a = inr (subst (λ (x : Answer). Fewer p n (step_with p i seat c x (PutBytes j asked bytes next)) (views_with p i c vs v x (PutBytes j asked bytes next))) (sym a.1) (put_moves j asked bytes next a.0 a.2 goes l))
       first_moves (AskReady j next) step goes l a = inr (subst (λ (x : Answer). Fewer p n (step_with p i seat c x (AskReady j next)) (views_with p i c vs v x (AskReady j next))) (sym a.1)
-          (ready_moves j next a.0 (λ e. prompt (a.1 ∙ ap OfReady e)) goes l))
+          (ready_moves j next a.0 (λ e. always_ready (a.1 ∙ ap OfReady e)) goes l))
       first_moves (Say o outcome next) step goes l a = inl refl
       first_moves (Sent o next) step goes l a = inl refl
       first_moves Rest step goes l a = inl refl
@@ -412,15 +412,15 @@ module _ (p : Plan) (c : Core) (vs : List View) (n : ℕ) (lasts : Lasts p c vs 
       round_moves w after step goes l a = ⊎_elim (λ none_. absurd (never_rests w after none_)) (λ few. few) (first_moves (block w after) step (begins_round p v w after goes) l a)
 
       walk_moves : (h : Holder) (top place successor : ℕ) (then_ : Program) → GoesOn p v (Write (Walks h top place successor) then_) → LastsFor p v (Write (Walks h top place successor) then_) k → Moves (Write (Walks h top place successor) then_)
-      walk_moves h top place successor then_ goes l = by_found (eqb (slice_index c.words (next_word p (slot_of place))) UNCONNECTED) refl
+      walk_moves h top place successor then_ goes l = by_found (eqb (slice_index c.words (next_index p (slot_of place))) UNCONNECTED) refl
         where
-          by_found : (b : Bool) → eqb (slice_index c.words (next_word p (slot_of place))) UNCONNECTED ≡ b → Moves (Write (Walks h top place successor) then_)
+          by_found : (b : Bool) → eqb (slice_index c.words (next_index p (slot_of place))) UNCONNECTED ≡ b → Moves (Write (Walks h top place successor) then_)
           by_found true is = inl (inr is)
-          by_found false is = let found : ℕ = slice_index c.words (next_word p (slot_of place)) in let r : Right = goes.0.0 in let o = sound.lawful in let call : Call = ReadNext (slot_of place) in
+          by_found false is = let found : ℕ = slice_index c.words (next_index p (slot_of place)) in let r : Right = goes.0.0 in let o = sound.lawful in let call : Call = ReadNext (slot_of place) in
               let w : View = row p call found (hand_at p c.words c.homes call) v in
-              let turns : Program = Do (TurnNext (slot_of place) successor) (λ _. cond (eqb found h.last) (TakeMessage (slot_of place) (λ heading bytes. Write (Puts (record h { last = top }) place heading bytes 0 false) then_)) (Write (Walks h top found place) then_)) in
+              let turns : Program = Do (ReverseNext (slot_of place) successor) (λ _. cond (eqb found h.last) (TakeMessage (slot_of place) (λ heading bytes. Write (Puts (record h { last = top }) place heading bytes 0 false) then_)) (Write (Walks h top found place) then_)) in
               let begins = begins_round p v (Walks h top place successor) then_ goes in
-              inr (seat_steps (cond (eqb found UNCONNECTED) (Write (Walks h top place successor) then_) turns) seat.hand (set c.words (next_word p (slot_of place)) found) c.homes w k
+              inr (seat_steps (cond (eqb found UNCONNECTED) (Write (Walks h top place successor) then_) turns) seat.hand (set c.words (next_index p (slot_of place)) found) c.homes w k
               (begins.1 found (hand_at p c.words c.homes call) (allowed sound call begins.0))
               (subst (λ b. LastsFor p w (cond b (Write (Walks h top place successor) then_) turns) k) (sym is) (lasts_walk p v h top place successor found then_ k l w))
               (lists_stay p v found (hand_at p c.words c.homes call) call refl)

@@ -17,7 +17,7 @@ use Rattle.sock_model.specs.Slots.{version_of}
 use Rattle.sock_model.specs.SlotRows.{looked, told_code, met_link}
 use Rattle.sock_model.specs.ChainRows.{with_claim, queued, righted, with_right, without_right, turned_right, placed_right, dropped_right}
 use Rattle.sock_steps.proofs.Quiet.{either_way}
-use Rattle.sock_programs.specs.Calls.{Call, LookWord, FindLink, LoadCode, ClaimRequest, PutMessage, Unconnect, SwapHead, Connect, EmptyHead, ReadNext, TurnNext, FreeRequest, StorePlace, DropPlace}
+use Rattle.seat_programs.specs.Calls.{Call, LookWord, FindLink, LoadCode, ClaimRequest, PutMessage, Unconnect, SwapHead, Connect, EmptyHead, ReadNext, ReverseNext, FreeRequest, StorePlace, DropPlace}
 use Rattle.sock_runs.specs.Rows.{row, by_claim, by_right, new_claim, filled_claim, ready_claim, exchanged, looked_clean, emptied, settled, read_next, turned_next, freed_next, placed_next, dropped_next}
 
 -- whether a step is one of whoever sends or writes
@@ -32,7 +32,7 @@ is_sending (SwapHead i own) = true
 is_sending (Connect q before) = true
 is_sending (EmptyHead i last) = true
 is_sending (ReadNext q) = true
-is_sending (TurnNext q value) = true
+is_sending (ReverseNext q value) = true
 is_sending (FreeRequest q g) = true
 is_sending (StorePlace l k n) = true
 is_sending (DropPlace l k n) = true
@@ -91,7 +91,7 @@ module _ (p : Plan) (v : View) (found : ℕ) (hand : Hand) (Q : List SlotMark �
   sending_marks (Connect q before) is = same
   sending_marks (EmptyHead i last) is = right_way P v.rights (emptied last found v) v same (emptied_way P v same (λ c. same) (λ r. same) (λ k. same) last found)
   sending_marks (ReadNext q) is = right_way P v.rights (λ r. read_next found v r r.stage) v same (λ r. reads_way P v same (λ c. same) (λ r. same) (λ k. same) found r r.stage)
-  sending_marks (TurnNext q value) is = right_way P v.rights (λ r. turned_next v r r.stage) v same (λ r. turns_way P v same (λ c. same) (λ r. same) (λ k. same) r r.stage)
+  sending_marks (ReverseNext q value) is = right_way P v.rights (λ r. turned_next v r r.stage) v same (λ r. turns_way P v same (λ c. same) (λ r. same) (λ k. same) r r.stage)
   sending_marks (FreeRequest q g) is = right_way P v.rights (freed_next v) v same (λ r. same)
   sending_marks (StorePlace l k n) is = right_way P v.rights (λ r. placed_next v r r.stage) v same (λ r. places_way P v same (λ c. same) (λ r. same) (λ k. same) r r.stage)
   sending_marks (DropPlace l k n) is = right_way P v.rights (λ r. dropped_next v r r.stage) v same (λ r. drops_way P v same (λ c. same) (λ r. same) (λ k. same) r r.stage)
@@ -124,7 +124,7 @@ module _ (p : Plan) (v : View) (found : ℕ) (hand : Hand) where
   sending_same (Connect q before) is = record { plan = refl; passes = refl; spare = refl; stores = refl; hands = refl; found = refl }
   sending_same (EmptyHead i last) is = right_way Same v.rights (emptied last found v) v (record { plan = refl; passes = refl; spare = refl; stores = refl; hands = refl; found = refl }) (emptied_way Same v (record { plan = refl; passes = refl; spare = refl; stores = refl; hands = refl; found = refl }) (λ c. (record { plan = refl; passes = refl; spare = refl; stores = refl; hands = refl; found = refl })) (λ r. (record { plan = refl; passes = refl; spare = refl; stores = refl; hands = refl; found = refl })) (λ k. (record { plan = refl; passes = refl; spare = refl; stores = refl; hands = refl; found = refl })) last found)
   sending_same (ReadNext q) is = right_way Same v.rights (λ r. read_next found v r r.stage) v (record { plan = refl; passes = refl; spare = refl; stores = refl; hands = refl; found = refl }) (λ r. reads_way Same v (record { plan = refl; passes = refl; spare = refl; stores = refl; hands = refl; found = refl }) (λ c. (record { plan = refl; passes = refl; spare = refl; stores = refl; hands = refl; found = refl })) (λ r. (record { plan = refl; passes = refl; spare = refl; stores = refl; hands = refl; found = refl })) (λ k. (record { plan = refl; passes = refl; spare = refl; stores = refl; hands = refl; found = refl })) found r r.stage)
-  sending_same (TurnNext q value) is = right_way Same v.rights (λ r. turned_next v r r.stage) v (record { plan = refl; passes = refl; spare = refl; stores = refl; hands = refl; found = refl }) (λ r. turns_way Same v (record { plan = refl; passes = refl; spare = refl; stores = refl; hands = refl; found = refl }) (λ c. (record { plan = refl; passes = refl; spare = refl; stores = refl; hands = refl; found = refl })) (λ r. (record { plan = refl; passes = refl; spare = refl; stores = refl; hands = refl; found = refl })) (λ k. (record { plan = refl; passes = refl; spare = refl; stores = refl; hands = refl; found = refl })) r r.stage)
+  sending_same (ReverseNext q value) is = right_way Same v.rights (λ r. turned_next v r r.stage) v (record { plan = refl; passes = refl; spare = refl; stores = refl; hands = refl; found = refl }) (λ r. turns_way Same v (record { plan = refl; passes = refl; spare = refl; stores = refl; hands = refl; found = refl }) (λ c. (record { plan = refl; passes = refl; spare = refl; stores = refl; hands = refl; found = refl })) (λ r. (record { plan = refl; passes = refl; spare = refl; stores = refl; hands = refl; found = refl })) (λ k. (record { plan = refl; passes = refl; spare = refl; stores = refl; hands = refl; found = refl })) r r.stage)
   sending_same (FreeRequest q g) is = right_way Same v.rights (freed_next v) v (record { plan = refl; passes = refl; spare = refl; stores = refl; hands = refl; found = refl }) (λ r. (record { plan = refl; passes = refl; spare = refl; stores = refl; hands = refl; found = refl }))
   sending_same (StorePlace l k n) is = right_way Same v.rights (λ r. placed_next v r r.stage) v (record { plan = refl; passes = refl; spare = refl; stores = refl; hands = refl; found = refl }) (λ r. places_way Same v (record { plan = refl; passes = refl; spare = refl; stores = refl; hands = refl; found = refl }) (λ c. (record { plan = refl; passes = refl; spare = refl; stores = refl; hands = refl; found = refl })) (λ r. (record { plan = refl; passes = refl; spare = refl; stores = refl; hands = refl; found = refl })) (λ k. (record { plan = refl; passes = refl; spare = refl; stores = refl; hands = refl; found = refl })) r r.stage)
   sending_same (DropPlace l k n) is = right_way Same v.rights (λ r. dropped_next v r r.stage) v (record { plan = refl; passes = refl; spare = refl; stores = refl; hands = refl; found = refl }) (λ r. drops_way Same v (record { plan = refl; passes = refl; spare = refl; stores = refl; hands = refl; found = refl }) (λ c. (record { plan = refl; passes = refl; spare = refl; stores = refl; hands = refl; found = refl })) (λ r. (record { plan = refl; passes = refl; spare = refl; stores = refl; hands = refl; found = refl })) (λ k. (record { plan = refl; passes = refl; spare = refl; stores = refl; hands = refl; found = refl })) r r.stage)
@@ -156,7 +156,7 @@ module _ (p : Plan) (v : View) (found : ℕ) (hand : Hand) where
   own_lists (Connect q before) is other_ = refl
   own_lists (EmptyHead i last) is other_ = right_way SameLists v.rights (emptied last found v) v refl (emptied_way SameLists v refl (λ c. refl) (λ r. refl) (λ k. refl) last found)
   own_lists (ReadNext q) is other_ = right_way SameLists v.rights (λ r. read_next found v r r.stage) v refl (λ r. reads_way SameLists v refl (λ c. refl) (λ r. refl) (λ k. refl) found r r.stage)
-  own_lists (TurnNext q value) is other_ = right_way SameLists v.rights (λ r. turned_next v r r.stage) v refl (λ r. turns_way SameLists v refl (λ c. refl) (λ r. refl) (λ k. refl) r r.stage)
+  own_lists (ReverseNext q value) is other_ = right_way SameLists v.rights (λ r. turned_next v r r.stage) v refl (λ r. turns_way SameLists v refl (λ c. refl) (λ r. refl) (λ k. refl) r r.stage)
   own_lists (FreeRequest q g) is other_ = right_way SameLists v.rights (freed_next v) v refl (λ r. refl)
   own_lists (StorePlace l k n) is other_ = right_way SameLists v.rights (λ r. placed_next v r r.stage) v refl (λ r. places_way SameLists v refl (λ c. refl) (λ r. refl) (λ k. refl) r r.stage)
   own_lists (DropPlace l k n) is other_ = right_way SameLists v.rights (λ r. dropped_next v r r.stage) v refl (λ r. drops_way SameLists v refl (λ c. refl) (λ r. refl) (λ k. refl) r r.stage)

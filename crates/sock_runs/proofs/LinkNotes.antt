@@ -15,11 +15,11 @@ use Rattle.sock_model.specs.Marks.{at, without_at}
 use Rattle.sock_model.specs.Slots.{version_of, nref_of}
 use Rattle.sock_model.specs.SlotRows.{marks_of, back, met}
 use Rattle.sock_model.specs.ChainRows.{with_hand, spent_hand}
-use Rattle.sock_steps.specs.slot_laws.proofs.Sums.{about-other}
-use Rattle.sock_steps.specs.slot_laws.proofs.Numbers.{pair_is}
-use Rattle.sock_steps.specs.slot_laws.proofs.Slots.{stage_is, any_recycled, hold_is, probe_is, zero_is}
+use Rattle.sock_steps.specs.slot_steps.proofs.Sums.{about-other}
+use Rattle.sock_steps.specs.slot_steps.proofs.Numbers.{pair_is}
+use Rattle.sock_steps.specs.slot_steps.proofs.Slots.{stage_is, any_recycled, hold_is, probe_is, zero_is}
 use Rattle.sock_steps.proofs.Quiet.{either_way, Less, More, less_add, less_all, less_without, more_add, more_all, more_without}
-use Rattle.sock_programs.specs.Calls.{Call, ClaimSlot, GiveBirth, AddRef, SubRef, SetOdd, Recycle, FreeSlot, StoreLink, LoadLink, ResetHead, WipeCode, StoreCode, StoreName, LoadName, StoreOpen, LoadOpen, TakeLink, FinishLink, PutLink}
+use Rattle.seat_programs.specs.Calls.{Call, ClaimSlot, CreateLife, AddRef, SubRef, SetOdd, Recycle, FreeSlot, StoreLink, LoadLink, ResetHead, ClearCode, StoreCode, StoreName, LoadName, StoreOpen, LoadOpen, TakeLink, FinishLink, PutLink}
 use Rattle.sock_runs.specs.Rows.{row, is_id, found_id}
 use Rattle.sock_runs.proofs.Leaves.{sending_marks}
 use Rattle.sock_runs.proofs.Notes.{bears}
@@ -63,7 +63,7 @@ module _ (p : Plan) (v : View) (found : ℕ) (hand : Hand) where
     -- which link a life was given stays noted
     pub links_stay : (call : Call) → More (is_linked h l) v.marks (row p call found hand v).marks
     links_stay (ClaimSlot i) = add i (cond (found == 0) (Claimed 0 0) Tried) v.marks same
-    links_stay (GiveBirth i k) = let g : ℕ = version_of found in let left : List SlotMark = without_at i (is_stage 3 k) v.marks in
+    links_stay (CreateLife i k) = let g : ℕ = version_of found in let left : List SlotMark = without_at i (is_stage 3 k) v.marks in
         add i (Known g) (at i (Born g) ∷ at i (Linked g k) ∷ left) (add i (Born g) (at i (Linked g k) ∷ left) (add i (Linked g k) left (stage_out i 3 k)))
     links_stay (AddRef id) = let i : ℕ = socket_id_slot id in let g : ℕ = version_of found in
         add i (cond (vref_version found == socket_id_version id) (Hold g) Probe) (at i (Saw g) ∷ v.marks) (add i (Saw g) v.marks same)
@@ -79,7 +79,7 @@ module _ (p : Plan) (v : View) (found : ℕ) (hand : Hand) where
     links_stay (StoreLink i k) = add i (Claimed 1 k) (without_at i (is_stage 0 0) v.marks) (stage_out i 0 0)
     links_stay (LoadLink i w) = add i (Met (w - 2) found) v.marks same
     links_stay (ResetHead i k) = add i (Claimed 2 k) (without_at i (is_stage 1 k) v.marks) (stage_out i 1 k)
-    links_stay (WipeCode i k) = add i (Claimed 3 k) (without_at i (is_stage 2 k) v.marks) (stage_out i 2 k)
+    links_stay (ClearCode i k) = add i (Claimed 3 k) (without_at i (is_stage 2 k) v.marks) (stage_out i 2 k)
     links_stay (StoreCode i g d) = let left : List SlotMark = without_at i (is_coding g) v.marks in add i (Stored g d) (at i (Told g d) ∷ left) (add i (Told g d) left (drop i (is_coding g) (coding_none g)))
     links_stay (StoreName n w) = same
     links_stay (LoadName n) = stay_found found
@@ -110,7 +110,7 @@ module _ (p : Plan) (v : View) (found : ℕ) (hand : Hand) where
     -- a step that makes no life notes none
     pub links_only : (call : Call) → bears call ≡ none → Less (is_linked h l) v.marks (row p call found hand v).marks
     links_only (ClaimSlot i) no_birth = plus i (cond (found == 0) (Claimed 0 0) Tried) v.marks (either_way (found == 0) (Claimed 0 0) Tried (λ m. is_linked h l m ≡ 0) refl refl) as_many
-    links_only (GiveBirth i k) no_birth = absurd (some-ne-none i no_birth)
+    links_only (CreateLife i k) no_birth = absurd (some-ne-none i no_birth)
     links_only (AddRef id) no_birth = let i : ℕ = socket_id_slot id in let g : ℕ = version_of found in
         plus i (cond (vref_version found == socket_id_version id) (Hold g) Probe) (at i (Saw g) ∷ v.marks) (either_way (vref_version found == socket_id_version id) (Hold g) Probe (λ m. is_linked h l m ≡ 0) refl refl) (plus i (Saw g) v.marks refl as_many)
     links_only (SubRef i) no_birth = let w : ℕ = version_of found in let left : List SlotMark = without_at i (back i found v) v.marks in
@@ -125,7 +125,7 @@ module _ (p : Plan) (v : View) (found : ℕ) (hand : Hand) where
     links_only (StoreLink i k) no_birth = plus i (Claimed 1 k) (without_at i (is_stage 0 0) v.marks) refl (minus i (is_stage 0 0))
     links_only (LoadLink i w) no_birth = plus i (Met (w - 2) found) v.marks refl as_many
     links_only (ResetHead i k) no_birth = plus i (Claimed 2 k) (without_at i (is_stage 1 k) v.marks) refl (minus i (is_stage 1 k))
-    links_only (WipeCode i k) no_birth = plus i (Claimed 3 k) (without_at i (is_stage 2 k) v.marks) refl (minus i (is_stage 2 k))
+    links_only (ClearCode i k) no_birth = plus i (Claimed 3 k) (without_at i (is_stage 2 k) v.marks) refl (minus i (is_stage 2 k))
     links_only (StoreCode i g d) no_birth = let left : List SlotMark = without_at i (is_coding g) v.marks in plus i (Stored g d) (at i (Told g d) ∷ left) refl (plus i (Told g d) left refl (minus i (is_coding g)))
     links_only (StoreName n w) no_birth = as_many
     links_only (LoadName n) no_birth = fewer_found found
@@ -137,9 +137,9 @@ module _ (p : Plan) (v : View) (found : ℕ) (hand : Hand) where
     links_only call no_birth = sending_marks p v found hand Fewer as_many (λ i w. plus i (Saw w) v.marks refl as_many) (λ i g k. plus i (Met g k) v.marks refl as_many) (λ i g d w. plus i (Told g d) (at i (Saw w) ∷ v.marks) refl (plus i (Saw w) v.marks refl as_many)) call refl
 
     -- and a birth notes one
-    pub birth_links : (i k : ℕ) (j : ℕ) → ((j ≡ i) × (h ≡ version_of found) × (l ≡ k)) ⊎ (marks_of (is_linked h l) j (row p (GiveBirth i k) found hand v) ≤ marks_of (is_linked h l) j v)
+    pub birth_links : (i k : ℕ) (j : ℕ) → ((j ≡ i) × (h ≡ version_of found) × (l ≡ k)) ⊎ (marks_of (is_linked h l) j (row p (CreateLife i k) found hand v) ≤ marks_of (is_linked h l) j v)
     birth_links i k j = let g : ℕ = version_of found in let left : List SlotMark = without_at i (is_stage 3 k) v.marks in
-        let far : is_linked h l (Linked g k) ≡ 0 → marks_of (is_linked h l) j (row p (GiveBirth i k) found hand v) ≤ marks_of (is_linked h l) j v =
+        let far : is_linked h l (Linked g k) ≡ 0 → marks_of (is_linked h l) j (row p (CreateLife i k) found hand v) ≤ marks_of (is_linked h l) j v =
         λ none_. plus i (Known g) (at i (Born g) ∷ at i (Linked g k) ∷ left) refl (plus i (Born g) (at i (Linked g k) ∷ left) refl (plus i (Linked g k) left none_ (minus i (is_stage 3 k)))) j in
         dite (ℕ_discrete h g)
         (λ same. dite (ℕ_discrete l k)

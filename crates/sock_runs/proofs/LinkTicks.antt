@@ -6,9 +6,9 @@ use mathlib.Core.Option.{Option, some, none, some-injective, some-ne-none}
 use lib.ListN.{get_elem?}
 use Rattle.atomic_table.proofs.Lists.{at_set, set_again}
 use Rattle.sock_words.specs.declared.plain.Plan.{Plan}
-use Rattle.sock_programs.specs.sock_io.specs.declared.link.Put.{Put}
-use Rattle.sock_programs.specs.sock_io.specs.declared.link.Put.TheVariants.{Took, Again, Failed}
-use Rattle.sock_programs.specs.sock_io.specs.declared.link.Ready.{Ready}
+use Rattle.seat_programs.specs.sock_io.specs.declared.link.Put.{Put}
+use Rattle.seat_programs.specs.sock_io.specs.declared.link.Put.TheVariants.{Took, Again, Failed}
+use Rattle.seat_programs.specs.sock_io.specs.declared.link.Ready.{Ready}
 use Rattle.sock_model.specs.declared.chain.Heading.{Heading}
 use Rattle.sock_model.specs.declared.chain.Right.{Right}
 use Rattle.sock_model.specs.declared.home.Home.{Home}
@@ -23,16 +23,16 @@ use Rattle.sock_model.specs.Reads.{took_of, as_link, shown, link_home}
 use Rattle.sock_steps.proofs.RightSteps.{right_in}
 use Rattle.sock_steps.proofs.WriteSteps.{taking_law, writes_in}
 use Rattle.sock_steps.proofs.LinkSteps.{link_goes_law, link_comes_law, link_home_law, put_law}
-use Rattle.sock_programs.specs.Programs.{Program, Say, Sent, TakeMessage, TakeHome, PutHome, PutBytes, AskReady, Keep, Retries}
+use Rattle.seat_programs.specs.Programs.{Program, Say, Sent, TakeMessage, TakeHome, PutHome, PutBytes, AskReady, Keep, Retries}
 use Rattle.std.specs.List.{AllByRecursion}
-use Rattle.sock_programs.specs.Heads.{Retry}
-use Rattle.sock_programs.specs.Attempts.{retry}
-use Rattle.sock_programs.specs.Asides.{Step, Found, ClaimId, PutCall, MakeId, StoreCall, LoadCall, StoreAt, LoadAt, LoadIdWord, LockId, PostId, UnlockId, EndId, FreeId, TakeCall, TakeBytes, Taking, Bytes}
-use Rattle.sock_programs.specs.Programs.{Aside}
-use Rattle.sock_programs.specs.Beside.{calls_after, more_given}
+use Rattle.seat_programs.specs.Heads.{Retry}
+use Rattle.seat_programs.specs.Attempts.{retry}
+use Rattle.seat_programs.specs.Asides.{Step, Found, ClaimId, PutCall, MakeId, StoreCall, LoadCall, StoreAt, LoadAt, LoadIdWord, LockId, PostId, UnlockId, EndId, FreeId, TakeCall, TakeBytes, Taking, Bytes}
+use Rattle.seat_programs.specs.Programs.{Aside}
+use Rattle.seat_programs.specs.Beside.{calls_after, more_given}
 use Rattle.sock_runs.specs.Fits.{FitsFound, FitsRetry}
-use Rattle.sock_programs.specs.Cores.{Calls, Core, SeatState, lies_at, first_of, others_of, link_place, resolved, still_waiting, waiting_at, next_step, with_seat}
-use Rattle.sock_programs.specs.Ticks.{fed, with_places, onto_first, FitsPut}
+use Rattle.seat_programs.specs.Cores.{Calls, Core, SeatState, lies_at, first_of, others_of, link_place, resolved, still_waiting, waiting_at, next_step, with_seat}
+use Rattle.seat_programs.specs.Ticks.{fed, with_places, onto_first, FitsPut}
 use Rattle.sock_runs.specs.Rows.{by_right, took_message, link_away, link_home_again, took_bytes}
 use Rattle.sock_runs.specs.Writes.{MayTakeMessage, Writes}
 use Rattle.sock_runs.specs.GoesOn.{GoesOn}

@@ -7,24 +7,24 @@ use mathlib.Core.Option.{some, some-injective, some-ne-none}
 use lib.ListN.{get_elem?}
 use Rattle.sock_words.specs.Words.{socket_id_slot}
 use Rattle.sock_words.specs.declared.plain.Plan.{Plan}
-use Rattle.sock_programs.specs.brpc_model.specs.Items.{Item, Open, Send, Call, Expire, Join, Hold, Drop, Fail, is_open}
-use Rattle.sock_programs.specs.brpc_model.specs.Operations.{Operation, operations}
-use Rattle.sock_programs.specs.brpc_model.specs.Places.{names}
-use Rattle.sock_programs.specs.corr_core.specs.declared.marks.Plan.{Plan as IdPlan}
+use Rattle.seat_programs.specs.brpc_model.specs.Items.{Item, Open, Send, Call, Expire, Join, Hold, Drop, Fail, is_open}
+use Rattle.seat_programs.specs.brpc_model.specs.Operations.{Operation, operations}
+use Rattle.seat_programs.specs.brpc_model.specs.Places.{names}
+use Rattle.seat_programs.specs.corr_core.specs.declared.marks.Plan.{Plan as IdPlan}
 use Rattle.sock_model.specs.declared.view.View.{View}
 use Rattle.sock_model.specs.Weights.{total, is_linked}
 use Rattle.sock_model.specs.Marks.{about}
 use Rattle.sock_steps.proofs.Quiet.{either_way}
-use Rattle.sock_programs.specs.declared.task.Op.{Op}
-use Rattle.sock_programs.specs.declared.task.Op.TheVariants as ops
-use Rattle.sock_programs.specs.declared.task.Task.{Task}
-use Rattle.sock_programs.specs.declared.task.Sizes.{Sizes}
-use Rattle.sock_programs.specs.Programs.{Program, Rest, open_from, make_socket}
-use Rattle.sock_programs.specs.Tasks.{Numbered, numbered_from, numbered, of_client, op_of, task_of, tasks, opens}
-use Rattle.sock_programs.specs.Clients.{HeldLife, held_under, without_name, give_back, drop_of, operation, client_from}
-use Rattle.sock_programs.specs.Readers.{reader}
-use Rattle.sock_programs.specs.Cores.{SeatState, resolved, next_step}
-use Rattle.sock_programs.specs.Scripts.{sizes_of, beginning, programs, readers_from}
+use Rattle.seat_programs.specs.declared.task.Op.{Op}
+use Rattle.seat_programs.specs.declared.task.Op.TheVariants as ops
+use Rattle.seat_programs.specs.declared.task.Task.{Task}
+use Rattle.seat_programs.specs.declared.task.Sizes.{Sizes}
+use Rattle.seat_programs.specs.Programs.{Program, Rest, open_from, make_socket}
+use Rattle.seat_programs.specs.Tasks.{Numbered, numbered_from, numbered, of_client, op_of, task_of, tasks, opens}
+use Rattle.seat_programs.specs.Clients.{HeldLife, held_under, without_name, give_back, drop_of, operation, client_from}
+use Rattle.seat_programs.specs.Readers.{reader}
+use Rattle.seat_programs.specs.Cores.{SeatState, resolved, next_step}
+use Rattle.seat_programs.specs.Scripts.{sizes_of, beginning, programs, readers_from}
 use Rattle.sock_runs.proofs.Ends.{none_has}
 use Rattle.sock_runs.proofs.Through.{through_release, through_fail, through_hold, through_drop}
 use Rattle.sock_runs.proofs.ThroughSends.{through_send}

@@ -8,24 +8,24 @@ use lib.ListN.{get_elem?}
 use Rattle.atomic_table.proofs.Lists.{at_set, set_here, set_else}
 use Rattle.sock_words.specs.Words.{socket_id, vref_version}
 use Rattle.sock_words.specs.declared.plain.Plan.{Plan}
-use Rattle.sock_programs.specs.sock_io.specs.declared.link.Put.{Put}
-use Rattle.sock_programs.specs.sock_io.specs.declared.link.Ready.{Ready}
+use Rattle.seat_programs.specs.sock_io.specs.declared.link.Put.{Put}
+use Rattle.seat_programs.specs.sock_io.specs.declared.link.Ready.{Ready}
 use Rattle.sock_model.specs.declared.chain.Heading.{Heading}
 use Rattle.sock_model.specs.declared.chain.Right.{Right}
 use Rattle.sock_model.specs.declared.home.Home.{Home}
 use Rattle.sock_model.specs.declared.view.View.{View}
 use Rattle.sock_model.specs.Weights.{is_linked}
-use Rattle.sock_model.specs.Layout.{all_words, open_word}
+use Rattle.sock_model.specs.Layout.{all_words, open_index}
 use Rattle.sock_model.specs.SlotRows.{marks_of}
 use Rattle.sock_model.specs.Slots.{count}
 use Rattle.sock_model.specs.References.{slot_facts}
 use Rattle.sock_steps.proofs.Places.{counts}
-use Rattle.sock_programs.specs.Calls.{Call, GiveBirth, StoreOpen}
-use Rattle.sock_programs.specs.Asides.{Found}
-use Rattle.sock_programs.specs.Heads.{Exit}
-use Rattle.sock_programs.specs.Programs.{Program, Do, Say, Sent, Rest, TakeMessage, TakeHome, PutHome, PutBytes, AskReady, Write, Aside, Round, Keep, Retries}
-use Rattle.sock_programs.specs.Cores.{Calls, Core, SeatState, word_of, word_after, found_at, words_after, homes_after, hand_after, resolved, next_step, waiting_at, with_seat, stepped}
-use Rattle.sock_programs.specs.Ticks.{Moment, ticked, run, IsAnswered, AreAnswered}
+use Rattle.seat_programs.specs.Calls.{Call, CreateLife, StoreOpen}
+use Rattle.seat_programs.specs.Asides.{Found}
+use Rattle.seat_programs.specs.Heads.{Exit}
+use Rattle.seat_programs.specs.Programs.{Program, Do, Say, Sent, Rest, TakeMessage, TakeHome, PutHome, PutBytes, AskReady, Write, Aside, Round, Keep, Retries}
+use Rattle.seat_programs.specs.Cores.{Calls, Core, SeatState, word_of, word_after, found_at, words_after, homes_after, hand_after, resolved, next_step, waiting_at, with_seat, stepped}
+use Rattle.seat_programs.specs.Ticks.{Moment, ticked, run, IsAnswered, AreAnswered}
 use Rattle.sock_runs.specs.Rows.{row, hand_at}
 use Rattle.sock_runs.specs.May.{May}
 use Rattle.sock_runs.specs.Sound.{state, Sound, first_step, IsFitting, AreFitting, views_after, views_along}
@@ -44,7 +44,7 @@ use Rattle.sock_runs.proofs.Ticks.{sound_ticks}
 
 -- each life that the program makes it stores next, at an operation that is its link's own
 abbrev pub Gives : (ℕ → ℕ → Type 0) → Program → Type 0
-Gives own (Do (GiveBirth i k) next) = (found : ℕ) → ((o : ℕ) × own k o × (next_stores (next found) ≡ some (o, socket_id (vref_version found) i + 1))) × Gives own (next found)
+Gives own (Do (CreateLife i k) next) = (found : ℕ) → ((o : ℕ) × own k o × (next_stores (next found) ≡ some (o, socket_id (vref_version found) i + 1))) × Gives own (next found)
 Gives own (Do call next) = (found : ℕ) → Gives own (next found)
 Gives own (Say o outcome next) = Gives own next
 Gives own (Sent o next) = Gives own next
@@ -78,7 +78,7 @@ gives_passes own = record {
 }
   where
     plain : (own : ℕ → ℕ → Type 0) (call : Call) (next : ℕ → Program) → bears call ≡ none → ((found : ℕ) → Gives own (next found)) → Gives own (Do call next)
-    plain own (GiveBirth i k) next b r = absurd (some-ne-none i b)
+    plain own (CreateLife i k) next b r = absurd (some-ne-none i b)
     plain own call next b r = r
 
 pub gives_opens : (own : ℕ → ℕ → Type 0) → PassesOpens (Gives own)
@@ -101,7 +101,7 @@ gives_follow own = record {
 }
 
 behind_gives : (own : ℕ → ℕ → Type 0) (call : Call) (next : ℕ → Program) → Gives own (Do call next) → (found : ℕ) → Gives own (next found)
-behind_gives own (GiveBirth i k) next r found = (r found).1
+behind_gives own (CreateLife i k) next r found = (r found).1
 behind_gives own call next r found = r found
 
 -- a seat stores the life next
@@ -117,7 +117,7 @@ pub record Stored (p : Plan) (own : ℕ → ℕ → Type 0) (c : Core) (k id : �
   pub operation : ℕ
   pub mine : own k operation
   pub inside : operation < p.operations
-  pub word : get_or c.words (open_word p operation) 0 ≡ id + 1
+  pub word : get_or c.words (open_index p operation) 0 ≡ id + 1
 
 pub record Linked (p : Plan) (own : ℕ → ℕ → Type 0) (c : Core) (vs : List View) : Type 0 where
   pub programs : (j : ℕ) (seat : SeatState) → get_elem? c.seats j ≡ some seat → Gives own seat.program
@@ -175,7 +175,7 @@ module _ (p : Plan) (own : ℕ → ℕ → Type 0) (Q : ℕ → ℕ → Type 0) 
     pub plain_step : stores call ≡ none → bears call ≡ none → Linked p own after (set vs i w)
     plain_step none_ no_birth = with_linked (λ j h k inside some_. carry none_ k (socket_id h j) (l.linked j h k inside (before_too no_birth j h k some_)))
 
-    pub birth_step : (n m : ℕ) → call ≡ GiveBirth n m → Linked p own after (set vs i w)
+    pub birth_step : (n m : ℕ) → call ≡ CreateLife n m → Linked p own after (set vs i w)
     birth_step n m made = let g = subst (λ x. Gives own (Do x next)) made mine found in
         with_linked (λ j h k inside some_. ⊎_elim
         (λ a. inr record { place = i; seat = seat'; there = here; operation = g.0.0; mine = subst (λ y. own y g.0.0) (sym a.2) g.0.1; next = next_stored (waiting_at c.calls.waiting i) (next found) (g.0.0, socket_id h j + 1) (g.0.2 ∙ (λ q. some (g.0.0, socket_id (sym a.1 q) (sym a.0 q) + 1))) })
@@ -189,7 +189,7 @@ module _ (p : Plan) (own : ℕ → ℕ → Type 0) (Q : ℕ → ℕ → Type 0) 
         left = (subst (λ y. Records (r.left i) (Do y next)) made (subst (Records (r.left i)) is (through_first (Records (r.left i)) (records_passes (r.left i)) (records_opens (r.left i)) (records_follow (r.left i)) seat.program (r.records i seat at_seat)))).0
 
         word : Call → ℕ → ℕ
-        word y n = get_or (words_after c.words (word_of p y) (word_after y (found_at c.words (word_of p y)))) (open_word p n) 0
+        word y n = get_or (words_after c.words (word_of p y) (word_after y (found_at c.words (word_of p y)))) (open_index p n) 0
 
         fits : o < p.operations
         fits = (subst (May p v) made may).0
@@ -200,8 +200,8 @@ module _ (p : Plan) (own : ℕ → ℕ → Type 0) (Q : ℕ → ℕ → Type 0) 
               operation = y.operation;
               mine = y.mine;
               inside = y.inside;
-              word = subst (λ z. get_or (words_after c.words (word_of p z) (word_after z (found_at c.words (word_of p z)))) (open_word p y.operation) 0 ≡ get_or c.words (open_word p y.operation) 0) (sym made)
-                  (get_or-set_other c.words (open_word p o) (open_word p y.operation) x 0 (λ e. far (omega (arith, e)))) ∙ y.word;
+              word = subst (λ z. get_or (words_after c.words (word_of p z) (word_after z (found_at c.words (word_of p z)))) (open_index p y.operation) 0 ≡ get_or c.words (open_index p y.operation) 0) (sym made)
+                  (get_or-set_other c.words (open_index p o) (open_index p y.operation) x 0 (λ e. far (omega (arith, e)))) ∙ y.word;
             }
         settle k id (inr y) = dite (ℕ_discrete y.place i)
             (λ e. let same : (o, x) ≡ (y.operation, id + 1) = some-injective (o, x) (y.operation, id + 1) (sym (ap stores made) ∙ its_next y.seat (y.operation, id + 1) (ap (get_elem? c.seats) (sym e) ∙ y.there) y.next) in
@@ -209,8 +209,8 @@ module _ (p : Plan) (own : ℕ → ℕ → Type 0) (Q : ℕ → ℕ → Type 0) 
               operation = o;
               mine = subst (own k) (ap (λ (z : ℕ × ℕ). z.0) (sym same)) y.mine;
               inside = fits;
-              word = subst (λ z. get_or (words_after c.words (word_of p z) (word_after z (found_at c.words (word_of p z)))) (open_word p o) 0 ≡ x) (sym made)
-                  (get_or-set_same c.words (open_word p o) x 0 (let f = fits in omega (arith, f, sized))) ∙ ap (λ (z : ℕ × ℕ). z.1) same;
+              word = subst (λ z. get_or (words_after c.words (word_of p z) (word_after z (found_at c.words (word_of p z)))) (open_index p o) 0 ≡ x) (sym made)
+                  (get_or-set_same c.words (open_index p o) x 0 (let f = fits in omega (arith, f, sized))) ∙ ap (λ (z : ℕ × ℕ). z.1) same;
             })
             (λ far. inr (far_stores k id y far))
 
@@ -248,7 +248,7 @@ linked_ticks p own Q c vs m sound answered fitting r l = tick_keeps_marks p c vs
   where
     by_call : (seat : SeatState) (v : View) (call : Call) (next : ℕ → Program) → get_elem? c.seats m.seat ≡ some seat → get_elem? vs m.seat ≡ some v → first_step seat.program ≡ Do call next → May p v call
         → Linked p own (stepped p m.seat seat call next c) (set vs m.seat (row p call (found_at c.words (word_of p call)) (hand_at p c.words c.homes call) v))
-    by_call seat v (GiveBirth n k) next at_seat at_view is may = birth_step p own Q c vs m.seat sound.lawful.references.sized r l seat v at_seat at_view (GiveBirth n k) next is may n k refl
+    by_call seat v (CreateLife n k) next at_seat at_view is may = birth_step p own Q c vs m.seat sound.lawful.references.sized r l seat v at_seat at_view (CreateLife n k) next is may n k refl
     by_call seat v (StoreOpen o x) next at_seat at_view is may = store_step p own Q c vs m.seat sound.lawful.references.sized r l seat v at_seat at_view (StoreOpen o x) next is may o x refl
     by_call seat v call next at_seat at_view is may = plain_step p own Q c vs m.seat sound.lawful.references.sized r l seat v at_seat at_view call next is may refl refl
 

@@ -6,14 +6,14 @@ use native.Mathlib.Decide.{ℕ_discrete}
 use lib.ListN.{get_elem?}
 use Rattle.sock_words.specs.declared.plain.Plan.{Plan}
 use Rattle.sock_model.specs.declared.view.View.{View}
-use Rattle.sock_model.specs.Layout.{link_word}
+use Rattle.sock_model.specs.Layout.{link_index}
 use Rattle.sock_model.specs.Weights.{is_hold, is_linked}
 use Rattle.sock_model.specs.Slots.{count, live}
 use Rattle.sock_model.specs.References.{slot_facts}
 use Rattle.sock_steps.proofs.Places.{counts, own_count}
-use Rattle.sock_programs.specs.Calls.{FindLink}
-use Rattle.sock_programs.specs.Cores.{Core, word_of, word_after, found_at, words_after, homes_after}
-use Rattle.sock_programs.specs.Ticks.{Moment, ticked, run, IsAnswered, AreAnswered}
+use Rattle.seat_programs.specs.Calls.{FindLink}
+use Rattle.seat_programs.specs.Cores.{Core, word_of, word_after, found_at, words_after, homes_after}
+use Rattle.seat_programs.specs.Ticks.{Moment, ticked, run, IsAnswered, AreAnswered}
 use Rattle.sock_runs.specs.Rows.{row, hand_at}
 use Rattle.sock_runs.specs.May.{May}
 use Rattle.sock_runs.specs.Sound.{state, Sound, IsFitting, AreFitting, views_after, views_along}
@@ -42,9 +42,9 @@ module _ (p : Plan) (i h k : ℕ) where
   run_given go c vs (m ∷ ms) sound answered fitting given = run_given go (ticked p c m) (views_after p c vs m) ms (sound_ticks p go c vs m sound answered.0 fitting.0) answered.1 fitting.1 (given_ticks c vs m sound answered.0 fitting.0 given)
 
 -- whoever holds a life finds its link
-pub finds_given : (p : Plan) (c : Core) (vs : List View) → Sound p c vs → (j : ℕ) (v : View) → get_elem? vs j ≡ some v → (i h : ℕ) → May p v (FindLink i h) → IsGiven c vs i h (get_or c.words (link_word i) 0)
+pub finds_given : (p : Plan) (c : Core) (vs : List View) → Sound p c vs → (j : ℕ) (v : View) → get_elem? vs j ≡ some v → (i h : ℕ) → May p v (FindLink i h) → IsGiven c vs i h (get_or c.words (link_index i) 0)
 finds_given p c vs sound j v at i h may = let l = law p (state c vs) sound.lawful.references i may.0 in let le = lives_le p (state c vs) sound.lawful.references i may.0 in
     let some_ : 0 < count (is_hold h) (slot_facts (state c vs) i) = (let m = may.1 in omega (arith, m, own_count (state c vs) j v at (is_hold h) i)) in
     let held = l.held h some_ in let last = held.0 in let even = held.1 in dite (ℕ_discrete (live (slot_facts (state c vs) i)) 0)
-    (λ none_. let version : (slot_facts (state c vs) i).version - 1 ≡ h = omega (arith, last, none_) in subst (λ x. 0 < count (is_linked x (get_or c.words (link_word i) 0)) (slot_facts (state c vs) i)) version (l.link_odd (omega (arith, last, none_, even))))
-    (λ one. let version : (slot_facts (state c vs) i).version ≡ h = omega (arith, last, one, le) in subst (λ x. 0 < count (is_linked x (get_or c.words (link_word i) 0)) (slot_facts (state c vs) i)) version (l.link_live (omega (arith, one))))
+    (λ none_. let version : (slot_facts (state c vs) i).version - 1 ≡ h = omega (arith, last, none_) in subst (λ x. 0 < count (is_linked x (get_or c.words (link_index i) 0)) (slot_facts (state c vs) i)) version (l.link_odd (omega (arith, last, none_, even))))
+    (λ one. let version : (slot_facts (state c vs) i).version ≡ h = omega (arith, last, one, le) in subst (λ x. 0 < count (is_linked x (get_or c.words (link_index i) 0)) (slot_facts (state c vs) i)) version (l.link_live (omega (arith, one))))

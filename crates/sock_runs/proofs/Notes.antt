@@ -15,17 +15,17 @@ use Rattle.sock_model.specs.Marks.{at, without_at}
 use Rattle.sock_model.specs.Slots.{version_of, nref_of}
 use Rattle.sock_model.specs.SlotRows.{marks_of, back, met}
 use Rattle.sock_model.specs.ChainRows.{with_hand, spent_hand}
-use Rattle.sock_steps.specs.slot_laws.proofs.Sums.{about-other}
-use Rattle.sock_steps.specs.slot_laws.proofs.Numbers.{only-else}
-use Rattle.sock_steps.specs.slot_laws.proofs.Slots.{stage_is, any_recycled, hold_is, probe_is, zero_is}
+use Rattle.sock_steps.specs.slot_steps.proofs.Sums.{about-other}
+use Rattle.sock_steps.specs.slot_steps.proofs.Numbers.{only-else}
+use Rattle.sock_steps.specs.slot_steps.proofs.Slots.{stage_is, any_recycled, hold_is, probe_is, zero_is}
 use Rattle.sock_steps.proofs.Quiet.{either_way, Less, More, less_add, less_all, less_without, more_add, more_all, more_without}
-use Rattle.sock_programs.specs.Calls.{Call, ClaimSlot, GiveBirth, AddRef, SubRef, SetOdd, Recycle, FreeSlot, StoreLink, LoadLink, ResetHead, WipeCode, StoreCode, StoreName, LoadName, StoreOpen, LoadOpen, TakeLink, FinishLink, PutLink}
+use Rattle.seat_programs.specs.Calls.{Call, ClaimSlot, CreateLife, AddRef, SubRef, SetOdd, Recycle, FreeSlot, StoreLink, LoadLink, ResetHead, ClearCode, StoreCode, StoreName, LoadName, StoreOpen, LoadOpen, TakeLink, FinishLink, PutLink}
 use Rattle.sock_runs.specs.Rows.{row, is_id, found_id}
 use Rattle.sock_runs.proofs.Leaves.{sending_marks}
 
 -- the slot in which a step makes a life
 abbrev pub bears : Call → Option ℕ
-bears (GiveBirth i k) = some i
+bears (CreateLife i k) = some i
 bears _ = none
 
 module _ (p : Plan) (v : View) (found : ℕ) (hand : Hand) where
@@ -63,7 +63,7 @@ module _ (p : Plan) (v : View) (found : ℕ) (hand : Hand) where
     -- who failed a life stays noted
     pub failers_stay : (call : Call) → More (is_failer h) v.marks (row p call found hand v).marks
     failers_stay (ClaimSlot i) = add i (cond (found == 0) (Claimed 0 0) Tried) v.marks same
-    failers_stay (GiveBirth i k) = let g : ℕ = version_of found in let left : List SlotMark = without_at i (is_stage 3 k) v.marks in
+    failers_stay (CreateLife i k) = let g : ℕ = version_of found in let left : List SlotMark = without_at i (is_stage 3 k) v.marks in
         add i (Known g) (at i (Born g) ∷ at i (Linked g k) ∷ left) (add i (Born g) (at i (Linked g k) ∷ left) (add i (Linked g k) left (stage_out i 3 k)))
     failers_stay (AddRef id) = let i : ℕ = socket_id_slot id in let g : ℕ = version_of found in
         add i (cond (vref_version found == socket_id_version id) (Hold g) Probe) (at i (Saw g) ∷ v.marks) (add i (Saw g) v.marks same)
@@ -79,7 +79,7 @@ module _ (p : Plan) (v : View) (found : ℕ) (hand : Hand) where
     failers_stay (StoreLink i k) = add i (Claimed 1 k) (without_at i (is_stage 0 0) v.marks) (stage_out i 0 0)
     failers_stay (LoadLink i w) = add i (Met (w - 2) found) v.marks same
     failers_stay (ResetHead i k) = add i (Claimed 2 k) (without_at i (is_stage 1 k) v.marks) (stage_out i 1 k)
-    failers_stay (WipeCode i k) = add i (Claimed 3 k) (without_at i (is_stage 2 k) v.marks) (stage_out i 2 k)
+    failers_stay (ClearCode i k) = add i (Claimed 3 k) (without_at i (is_stage 2 k) v.marks) (stage_out i 2 k)
     failers_stay (StoreCode i g d) = let left : List SlotMark = without_at i (is_coding g) v.marks in add i (Stored g d) (at i (Told g d) ∷ left) (add i (Told g d) left (drop i (is_coding g) (coding_none g)))
     failers_stay (StoreName n w) = same
     failers_stay (LoadName n) = stay_found found
@@ -110,7 +110,7 @@ module _ (p : Plan) (v : View) (found : ℕ) (hand : Hand) where
     -- a step that makes no life notes none
     pub births_only : (call : Call) → bears call ≡ none → Less (is_born h) v.marks (row p call found hand v).marks
     births_only (ClaimSlot i) no_birth = plus i (cond (found == 0) (Claimed 0 0) Tried) v.marks (either_way (found == 0) (Claimed 0 0) Tried (λ m. is_born h m ≡ 0) refl refl) as_many
-    births_only (GiveBirth i k) no_birth = absurd (some-ne-none i no_birth)
+    births_only (CreateLife i k) no_birth = absurd (some-ne-none i no_birth)
     births_only (AddRef id) no_birth = let i : ℕ = socket_id_slot id in let g : ℕ = version_of found in
         plus i (cond (vref_version found == socket_id_version id) (Hold g) Probe) (at i (Saw g) ∷ v.marks) (either_way (vref_version found == socket_id_version id) (Hold g) Probe (λ m. is_born h m ≡ 0) refl refl) (plus i (Saw g) v.marks refl as_many)
     births_only (SubRef i) no_birth = let w : ℕ = version_of found in let left : List SlotMark = without_at i (back i found v) v.marks in
@@ -125,7 +125,7 @@ module _ (p : Plan) (v : View) (found : ℕ) (hand : Hand) where
     births_only (StoreLink i k) no_birth = plus i (Claimed 1 k) (without_at i (is_stage 0 0) v.marks) refl (minus i (is_stage 0 0))
     births_only (LoadLink i w) no_birth = plus i (Met (w - 2) found) v.marks refl as_many
     births_only (ResetHead i k) no_birth = plus i (Claimed 2 k) (without_at i (is_stage 1 k) v.marks) refl (minus i (is_stage 1 k))
-    births_only (WipeCode i k) no_birth = plus i (Claimed 3 k) (without_at i (is_stage 2 k) v.marks) refl (minus i (is_stage 2 k))
+    births_only (ClearCode i k) no_birth = plus i (Claimed 3 k) (without_at i (is_stage 2 k) v.marks) refl (minus i (is_stage 2 k))
     births_only (StoreCode i g d) no_birth = let left : List SlotMark = without_at i (is_coding g) v.marks in plus i (Stored g d) (at i (Told g d) ∷ left) refl (plus i (Told g d) left refl (minus i (is_coding g)))
     births_only (StoreName n w) no_birth = as_many
     births_only (LoadName n) no_birth = fewer_found found
@@ -137,7 +137,7 @@ module _ (p : Plan) (v : View) (found : ℕ) (hand : Hand) where
     births_only call no_birth = sending_marks p v found hand Fewer as_many (λ i w. plus i (Saw w) v.marks refl as_many) (λ i g k. plus i (Met g k) v.marks refl as_many) (λ i g d w. plus i (Told g d) (at i (Saw w) ∷ v.marks) refl (plus i (Saw w) v.marks refl as_many)) call refl
 
     -- and a birth notes one life
-    pub birth_notes : (i k : ℕ) (j : ℕ) → ((j ≡ i) × (h ≡ version_of found)) ⊎ (marks_of (is_born h) j (row p (GiveBirth i k) found hand v) ≤ marks_of (is_born h) j v)
+    pub birth_notes : (i k : ℕ) (j : ℕ) → ((j ≡ i) × (h ≡ version_of found)) ⊎ (marks_of (is_born h) j (row p (CreateLife i k) found hand v) ≤ marks_of (is_born h) j v)
     birth_notes i k j = let g : ℕ = version_of found in let left : List SlotMark = without_at i (is_stage 3 k) v.marks in
         dite (ℕ_discrete h g) (λ same. dite (ℕ_discrete j i) (λ here. inl (here, same))
         (λ far. inr (omega (arith, ap (total (is_born h)) (about-other j i (Known g) (at i (Born g) ∷ at i (Linked g k) ∷ left) far), ap (total (is_born h)) (about-other j i (Born g) (at i (Linked g k) ∷ left) far), ap (total (is_born h)) (about-other j i (Linked g k) left far), minus i (is_stage 3 k) j))))

@@ -10,25 +10,25 @@ use native.Mathlib.Decide.{ℕ_discrete, dec_le}
 use lib.ListN.{get_elem?}
 use Rattle.sock_words.specs.Words.{socket_id_slot}
 use Rattle.sock_words.specs.declared.plain.Plan.{Plan}
-use Rattle.sock_programs.specs.brpc_model.specs.Order.{EachBefore}
+use Rattle.seat_programs.specs.brpc_model.specs.Order.{EachBefore}
 use Rattle.sock_model.specs.declared.view.View.{View}
 use Rattle.sock_model.specs.Weights.{total, is_born}
 use Rattle.sock_model.specs.Marks.{about}
 use Rattle.sock_steps.proofs.Quiet.{either_way}
-use Rattle.sock_programs.specs.declared.task.Op.{Op}
-use Rattle.sock_programs.specs.declared.task.Op.TheVariants as ops
-use Rattle.sock_programs.specs.declared.task.Task.{Task}
-use Rattle.sock_programs.specs.declared.task.Sizes.{Sizes}
-use Rattle.sock_programs.specs.Programs.{Program, Rest, open_from, make_socket, no_socket}
-use Rattle.sock_programs.specs.Clients.{HeldLife, held_under, without_name, give_back, drop_of, operation, client_from}
-use Rattle.sock_programs.specs.Cores.{SeatState, resolved, next_step}
-use Rattle.sock_programs.specs.Scripts.{free_slots, opening_words, sizes_of, beginning, programs, readers_from}
-use Rattle.sock_model.specs.Layout.{all_words, open_word}
-use Rattle.sock_programs.specs.corr_core.specs.declared.marks.Plan.{Plan as IdPlan}
-use Rattle.sock_programs.specs.Told.{HaveOwnLinks, Differ, AreTasks}
+use Rattle.seat_programs.specs.declared.task.Op.{Op}
+use Rattle.seat_programs.specs.declared.task.Op.TheVariants as ops
+use Rattle.seat_programs.specs.declared.task.Task.{Task}
+use Rattle.seat_programs.specs.declared.task.Sizes.{Sizes}
+use Rattle.seat_programs.specs.Programs.{Program, Rest, open_from, make_socket, no_socket}
+use Rattle.seat_programs.specs.Clients.{HeldLife, held_under, without_name, give_back, drop_of, operation, client_from}
+use Rattle.seat_programs.specs.Cores.{SeatState, resolved, next_step}
+use Rattle.seat_programs.specs.Scripts.{free_slots, opening_words, sizes_of, beginning, programs, readers_from}
+use Rattle.sock_model.specs.Layout.{all_words, open_index}
+use Rattle.seat_programs.specs.corr_core.specs.declared.marks.Plan.{Plan as IdPlan}
+use Rattle.seat_programs.specs.Told.{HaveOwnLinks, Differ, AreTasks}
 use Rattle.sock_runs.proofs.Along.{place_inside}
 use Rattle.sock_runs.proofs.Ends.{none_has}
-use Rattle.sock_programs.specs.Readers.{reader}
+use Rattle.seat_programs.specs.Readers.{reader}
 use Rattle.sock_runs.proofs.Records.{but, Records}
 use Rattle.sock_runs.proofs.Recorded.{Recorded, nothing, records_more}
 use Rattle.sock_runs.proofs.Through.{records_passes, records_opens, records_follow, through_release, through_fail, through_hold, through_drop}
@@ -155,8 +155,8 @@ many_slots first zero = refl
 many_slots first (suc n) = let m = many_slots first n in omega (arith, m)
 
 -- no word of an operation is stored at the beginning
-unstored : (p : Plan) (o : ℕ) → get_or (opening_words p) (open_word p o) 0 ≡ 0
-unstored p o = past_zeros (all_words p - 6 * p.slots) (free_slots p.first p.slots) (open_word p o) (let m = many_slots p.first p.slots in omega (arith, m))
+unstored : (p : Plan) (o : ℕ) → get_or (opening_words p) (open_index p o) 0 ≡ 0
+unstored p o = past_zeros (all_words p - 6 * p.slots) (free_slots p.first p.slots) (open_index p o) (let m = many_slots p.first p.slots in omega (arith, m))
 
 module _ (p : Plan) (clients : List (List Task)) (are : AreTasks p clients) where
   -- the operations of which client j stores the words

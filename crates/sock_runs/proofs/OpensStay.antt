@@ -8,14 +8,14 @@ use native.Mathlib.Decide.{ℕ_discrete}
 use lib.ListN.{get_elem?}
 use Rattle.sock_words.specs.declared.plain.Plan.{Plan}
 use Rattle.sock_model.specs.declared.view.View.{View}
-use Rattle.sock_model.specs.Layout.{open_word}
-use Rattle.sock_programs.specs.corr_core.specs.declared.marks.Plan.{Plan as IdPlan}
-use Rattle.sock_programs.specs.Calls.{Call, StoreOpen}
-use Rattle.sock_programs.specs.Programs.{Program, Do, Rest}
-use Rattle.sock_programs.specs.Readers.{reader}
-use Rattle.sock_programs.specs.Cores.{Core, SeatState, resolved, next_step, stepped}
-use Rattle.sock_programs.specs.Ticks.{Moment, ticked, run, IsAnswered, AreAnswered}
-use Rattle.sock_programs.specs.Scripts.{beginning, readers_from, all_programs}
+use Rattle.sock_model.specs.Layout.{open_index}
+use Rattle.seat_programs.specs.corr_core.specs.declared.marks.Plan.{Plan as IdPlan}
+use Rattle.seat_programs.specs.Calls.{Call, StoreOpen}
+use Rattle.seat_programs.specs.Programs.{Program, Do, Rest}
+use Rattle.seat_programs.specs.Readers.{reader}
+use Rattle.seat_programs.specs.Cores.{Core, SeatState, resolved, next_step, stepped}
+use Rattle.seat_programs.specs.Ticks.{Moment, ticked, run, IsAnswered, AreAnswered}
+use Rattle.seat_programs.specs.Scripts.{beginning, readers_from, all_programs}
 use Rattle.sock_runs.specs.May.{May}
 use Rattle.sock_runs.specs.Sound.{Sound, first_step, IsFitting, AreFitting, views_after}
 use Rattle.sock_runs.proofs.Records.{Records, opens_same}
@@ -32,7 +32,7 @@ use Rattle.sock_runs.proofs.ReaderSeats.{AtReader}
 
 module _ (p : Plan) (Q : ℕ → ℕ → Type 0) (o : ℕ) (inside : o < p.operations) where
   abbrev pub Word : Core → ℕ
-  Word c = get_or c.words (open_word p o) 0
+  Word c = get_or c.words (open_index p o) 0
 
   word_ticks : (c : Core) (vs : List View) (m : Moment) → Sound p c vs → IsAnswered c m → IsFitting p c m → Recorded p Q c vs → Word c ≢ 0 → Word (ticked p c m) ≡ Word c
   word_ticks c vs m sound answered fitting r some_ = tick_keeps_marks p c vs m sound answered fitting (begins_round p) (goes_round p) (λ d ws. Word d ≡ Word c) refl
@@ -42,7 +42,7 @@ module _ (p : Plan) (Q : ℕ → ℕ → Type 0) (o : ℕ) (inside : o < p.opera
       by_call seat v (StoreOpen n w) next at_seat is may = let mine : Records (r.left m.seat) (Do (StoreOpen n w) next) = subst (Records (r.left m.seat)) is
           (through_first (Records (r.left m.seat)) (records_passes (r.left m.seat)) (records_opens (r.left m.seat)) (records_follow (r.left m.seat)) seat.program (r.records m.seat seat at_seat)) in dite (ℕ_discrete n o)
           (λ e. absurd (true≢false (sym (ap (r.left m.seat) (sym e) ∙ mine.0) ∙ r.once o inside some_ m.seat)))
-          (λ far. get_or-set_other c.words (open_word p n) (open_word p o) w 0 (λ e. far (omega (arith, e))))
+          (λ far. get_or-set_other c.words (open_index p n) (open_index p o) w 0 (λ e. far (omega (arith, e))))
       by_call seat v call next at_seat is may = opens_same p c.words v o inside call may refl
 
   -- over every run

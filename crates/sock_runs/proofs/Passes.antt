@@ -3,16 +3,16 @@ use Rattle.std.proofs.Common.{◌≡◌, ◌≢◌, ℕ, zero, suc, ◌+◌, ◌
 use Rattle.sock_words.specs.declared.plain.Plan.{Plan}
 use Rattle.sock_model.specs.declared.chain.Heading.{Heading}
 use Rattle.sock_model.specs.declared.view.View.{View}
-use Rattle.sock_programs.specs.corr_core.specs.Word.{Parts, parts, posted_word, locked_word, unlocked_word, code_of, error_of}
-use Rattle.sock_programs.specs.brpc_model.specs.Frame.{Frame}
-use Rattle.sock_programs.specs.brpc_model.specs.Stream as streams
-use Rattle.sock_programs.specs.Asides.{Step, Found, Taking, Bytes, Nothing, NoMore, AtEnd, Closed, Broken, TakeCall, EndId, FreeId, LoadIdWord, id_slot, id_first}
-use Rattle.sock_programs.specs.Heads.{Head, Exit, Retry, Sought, Version, Reading, Posts, Unlocks, Decides, Locks, Joins, Opens, Reads, Discards, Posting, WasGone, WasStale, WasCrowded, WasQueued, HasLocked, Unlocking, IsOpen, HasNext, Deciding, HasEnded, GoesOn as OpenAgain, Locking, NotThere, Has, Ended}
-use Rattle.sock_programs.specs.Programs.{Program, Say, Aside, Round}
-use Rattle.sock_programs.specs.Posts.{packed, advance_of, is_first, is_sought, is_stale, is_full, judged, post_with, post, posted, popped, end_id, ends_call, is_final, decide, decided, unlocked, locking}
-use Rattle.sock_programs.specs.Readers.{answer, answered, responses, read_on, took, last_of, slot_in, version_in, has_response, ending_of, LIMIT}
-use Rattle.sock_programs.specs.Rounds.{round}
-use Rattle.sock_programs.specs.Sends.{tell_drop}
+use Rattle.seat_programs.specs.corr_core.specs.Word.{Parts, parts, posted_word, locked_word, unlocked_word, code_of, error_of}
+use Rattle.seat_programs.specs.brpc_model.specs.Frame.{Frame}
+use Rattle.seat_programs.specs.brpc_model.specs.Stream as streams
+use Rattle.seat_programs.specs.Asides.{Step, Found, Taking, Bytes, Nothing, NoMore, AtEnd, Closed, Broken, TakeCall, EndId, FreeId, LoadIdWord, id_slot, id_first}
+use Rattle.seat_programs.specs.Heads.{Head, Exit, Retry, Sought, Version, Reading, Posts, Unlocks, Decides, Locks, Joins, Opens, Reads, Discards, Posting, WasGone, WasStale, WasCrowded, WasQueued, HasLocked, Unlocking, IsOpen, HasNext, Deciding, HasEnded, GoesOn as OpenAgain, Locking, NotThere, Has, Ended}
+use Rattle.seat_programs.specs.Programs.{Program, Say, Aside, Round}
+use Rattle.seat_programs.specs.Posts.{packed, advance_of, is_first, is_sought, is_stale, is_full, judged, post_with, post, posted, popped, end_id, ends_call, is_final, decide, decided, unlocked, locking}
+use Rattle.seat_programs.specs.Readers.{answer, answered, responses, read_on, took, last_of, slot_in, version_in, has_response, ending_of, LIMIT}
+use Rattle.seat_programs.specs.Rounds.{round}
+use Rattle.seat_programs.specs.Sends.{tell_drop}
 use Rattle.sock_runs.specs.Rows.{found_id}
 use Rattle.sock_runs.specs.May.{FindsId}
 use Rattle.sock_runs.specs.Fits.{FitsMore, FitsWord, FitsTaken, FitsPosting, FitsUnlocking, FitsLocking, FitsEnded, FitsRetry}
@@ -107,7 +107,7 @@ module _ (p : Plan) (v : View) where
       (λ _. ((f (first_taken (id_first id) (parts found) (not_true (is_first (id_first id) (parts found)) here)), tt), goes))))
 
   end_goes : (i : ℕ) (next : Program) → GoesOn p v next → GoesOn p v (end_id i next)
-  end_goes i next goes = λ found _. way p v (Rattle.std.proofs.Common.leb ((parts found).first + (parts found).range) Rattle.sock_programs.specs.corr_core.specs.Law.LAST) (Aside (FreeId i) (λ _. next)) next (λ _. λ _ _. goes) (λ _. goes)
+  end_goes i next goes = λ found _. way p v (Rattle.std.proofs.Common.leb ((parts found).first + (parts found).range) Rattle.seat_programs.specs.corr_core.specs.Law.LAST) (Aside (FreeId i) (λ _. next)) next (λ _. λ _ _. goes) (λ _. goes)
 
   -- the call is taken out of its home, and decided on
   pub decide_goes : (id word e : ℕ) (k : Deciding → Program) → FitsWord word → ((exit : Deciding) → GoesOn p v (k exit)) → GoesOn p v (decide id word e k)
@@ -150,10 +150,10 @@ module _ (p : Plan) (v : View) where
   unlocked_goes r k few goes (HasNext word e) f = (few, decide_goes r.id word e k f goes)
 
   pub answer_goes : (frame : Frame) (first : ℕ) (next : Program) → GoesOn p v next → GoesOn p v (answer frame first next)
-  answer_goes frame first next goes = λ asked _. end_goes (slot_in frame) (Say asked.operation (ending_of (Rattle.sock_programs.specs.Asides.call_id (slot_in frame) first) frame) next) goes
+  answer_goes frame first next goes = λ asked _. end_goes (slot_in frame) (Say asked.operation (ending_of (Rattle.seat_programs.specs.Asides.call_id (slot_in frame) first) frame) next) goes
 
   answered_goes : (frame : Frame) (kept : List Frame) (k : List Frame → Program) → ((kept' : List Frame) → GoesOn p v (k kept')) → Goes FitsLocking (answered frame kept k)
-  answered_goes frame kept k goes (NotThere found) f = goes (cond (Rattle.sock_programs.specs.Readers.is_early (version_in frame) found) (kept ++ frame ∷ []) kept)
+  answered_goes frame kept k goes (NotThere found) f = goes (cond (Rattle.seat_programs.specs.Readers.is_early (version_in frame) found) (kept ++ frame ∷ []) kept)
   answered_goes frame kept k goes (Has word) f = answer_goes frame (parts word).first (k kept) (goes kept)
 
   responses_goes : v.loose ≡ [] → (ids : ℕ) (fs kept : List Frame) (k : List Frame → Program) → ((kept' : List Frame) → GoesOn p v (k kept')) → GoesOn p v (responses ids fs kept k)
@@ -164,20 +164,20 @@ module _ (p : Plan) (v : View) where
 
   read_goes : v.loose ≡ [] → (r : Reading) (bytes : List ℕ) (s : streams.Ending) (k : Ended → Program) → ((exit : Ended) → FitsEnded r.id exit → GoesOn p v (k exit)) → GoesOn p v (read_on r bytes s k)
   read_goes loose r bytes (streams.Rest n) k goes = let r' : Reading = record r { rest = last_of n bytes } in
-      way p v (nat_lt r.total LIMIT) (Round (Reads r') k) (k (Rattle.sock_programs.specs.Readers.ended_by 1014 false false r')) (λ _. ((tt, loose), goes)) (λ _. goes (Rattle.sock_programs.specs.Readers.ended_by 1014 false false r') (refl, λ z. absurd (omega (arith, z))))
-  read_goes loose r bytes (streams.Fault at fault) k goes = goes (Rattle.sock_programs.specs.Readers.ended_by 2002 false true r) (refl, λ z. absurd (omega (arith, z)))
+      way p v (nat_lt r.total LIMIT) (Round (Reads r') k) (k (Rattle.seat_programs.specs.Readers.ended_by 1014 false false r')) (λ _. ((tt, loose), goes)) (λ _. goes (Rattle.seat_programs.specs.Readers.ended_by 1014 false false r') (refl, λ z. absurd (omega (arith, z))))
+  read_goes loose r bytes (streams.Fault at fault) k goes = goes (Rattle.seat_programs.specs.Readers.ended_by 2002 false true r) (refl, λ z. absurd (omega (arith, z)))
 
   took_goes : v.loose ≡ [] → (r : Reading) (k : Ended → Program) → ((exit : Ended) → FitsEnded r.id exit → GoesOn p v (k exit)) → (t : Taking) → GoesOn p v (took r k t)
   took_goes loose r k goes (Bytes bytes) = let s = streams.stream (r.rest ++ bytes) in
       responses_goes loose r.ids s.frames r.kept (λ kept. read_on (record { ids = r.ids; link = r.link; id = r.id; rest = r.rest; total = r.total + length bytes; kept = kept }) (r.rest ++ bytes) s.ending k)
       (λ kept. read_goes loose (record { ids = r.ids; link = r.link; id = r.id; rest = r.rest; total = r.total + length bytes; kept = kept }) (r.rest ++ bytes) s.ending k goes)
   took_goes loose r k goes Nothing = ((tt, loose), goes)
-  took_goes loose r k goes NoMore = goes (Rattle.sock_programs.specs.Readers.ended_by 1014 false false r) (refl, λ z. absurd (omega (arith, z)))
-  took_goes loose r k goes AtEnd = goes (Rattle.sock_programs.specs.Readers.ended_by 1014 false false r) (refl, λ z. absurd (omega (arith, z)))
-  took_goes loose r k goes Closed = goes (Rattle.sock_programs.specs.Readers.ended_by 1014 true false r) (refl, λ z. absurd (omega (arith, z)))
-  took_goes loose r k goes Broken = goes (Rattle.sock_programs.specs.Readers.ended_by 1014 false false r) (refl, λ z. absurd (omega (arith, z)))
+  took_goes loose r k goes NoMore = goes (Rattle.seat_programs.specs.Readers.ended_by 1014 false false r) (refl, λ z. absurd (omega (arith, z)))
+  took_goes loose r k goes AtEnd = goes (Rattle.seat_programs.specs.Readers.ended_by 1014 false false r) (refl, λ z. absurd (omega (arith, z)))
+  took_goes loose r k goes Closed = goes (Rattle.seat_programs.specs.Readers.ended_by 1014 true false r) (refl, λ z. absurd (omega (arith, z)))
+  took_goes loose r k goes Broken = goes (Rattle.seat_programs.specs.Readers.ended_by 1014 false false r) (refl, λ z. absurd (omega (arith, z)))
 
-  discarded_goes : v.loose ≡ [] → (l total : ℕ) (k : ℕ → Program) → ((exit : ℕ) → GoesOn p v (k exit)) → (t : Taking) → GoesOn p v (Rattle.sock_programs.specs.Readers.discarded l total k t)
+  discarded_goes : v.loose ≡ [] → (l total : ℕ) (k : ℕ → Program) → ((exit : ℕ) → GoesOn p v (k exit)) → (t : Taking) → GoesOn p v (Rattle.seat_programs.specs.Readers.discarded l total k t)
   discarded_goes loose l total k goes (Bytes bytes) = way p v (nat_lt (total + length bytes) LIMIT) (Round (Discards l (total + length bytes)) k) (k (total + length bytes)) (λ _. ((tt, loose), λ exit _. goes exit)) (λ _. goes (total + length bytes))
   discarded_goes loose l total k goes Nothing = ((tt, loose), λ exit _. goes exit)
   discarded_goes loose l total k goes NoMore = goes total
@@ -204,9 +204,9 @@ module _ (p : Plan) (v : View) where
       (λ _. ((fits, tt), g.1))
   goes_round (Decides id asked word e) k g =
       way p v (ends_call (parts word) e) (end_id (id_slot id) (k (HasEnded asked.operation (code_of e))))
-      (Aside (Rattle.sock_programs.specs.Asides.PutCall (id_slot id) asked) (λ _. Round (Unlocks (id_slot id) word true) (unlocked (record { id = id; attempt = (parts word).attempt + 1 }) k)))
+      (Aside (Rattle.seat_programs.specs.Asides.PutCall (id_slot id) asked) (λ _. Round (Unlocks (id_slot id) word true) (unlocked (record { id = id; attempt = (parts word).attempt + 1 }) k)))
       (λ _. end_goes (id_slot id) (k (HasEnded asked.operation (code_of e))) (g.1 (HasEnded asked.operation (code_of e)) tt))
-      (λ no. λ _ _. let left = not_equal ((parts word).attempt + 2) (parts word).range (or_right (is_final (code_of e)) ((parts word).attempt + 2 == (parts word).range) (or_right (Rattle.sock_programs.specs.corr_core.specs.Word.attempt_of e == 7) (is_final (code_of e) || ((parts word).attempt + 2 == (parts word).range)) no)) in
+      (λ no. λ _ _. let left = not_equal ((parts word).attempt + 2) (parts word).range (or_right (is_final (code_of e)) ((parts word).attempt + 2 == (parts word).range) (or_right (Rattle.seat_programs.specs.corr_core.specs.Word.attempt_of e == 7) (is_final (code_of e) || ((parts word).attempt + 2 == (parts word).range)) no)) in
       (((let f = g.0.0.1 in omega arith), tt), unlocked_goes (record { id = id; attempt = (parts word).attempt + 1 }) k (let f = g.0.0.1 in omega arith) (λ exit. g.1 exit tt)))
   goes_round (Locks i sought None) k g = λ found fits. locking_goes g.0.1 i sought found k fits g.1
   goes_round (Locks i sought (Some from)) k g = λ found fits.

@@ -8,19 +8,19 @@ use native.Mathlib.Decide.{ℕ_discrete}
 use lib.ListN.{get_elem?}
 use Rattle.atomic_table.proofs.Lists.{at_set}
 use Rattle.sock_words.specs.declared.plain.Plan.{Plan}
-use Rattle.sock_programs.specs.sock_io.specs.declared.link.Put.{Put}
-use Rattle.sock_programs.specs.sock_io.specs.declared.link.Ready.{Ready}
+use Rattle.seat_programs.specs.sock_io.specs.declared.link.Put.{Put}
+use Rattle.seat_programs.specs.sock_io.specs.declared.link.Ready.{Ready}
 use Rattle.sock_model.specs.declared.chain.Heading.{Heading}
 use Rattle.sock_model.specs.declared.home.Home.{Home}
 use Rattle.sock_model.specs.declared.view.View.{View}
-use Rattle.sock_model.specs.Layout.{open_word}
-use Rattle.sock_programs.specs.Calls.{Call, LoadOpen, StoreOpen}
-use Rattle.sock_programs.specs.Asides.{Found}
-use Rattle.sock_programs.specs.Heads.{Head, Exit, Opens, Reads}
-use Rattle.sock_programs.specs.Programs.{Program, Do, Say, Sent, Rest, TakeMessage, TakeHome, PutHome, PutBytes, AskReady, Write, Aside, Round, Keep, Retries, NO_SOCKET}
-use Rattle.sock_programs.specs.Readers.{read, reader}
-use Rattle.sock_programs.specs.Cores.{Calls, Core, SeatState, word_of, word_after, found_at, words_after, hand_after, resolved, next_step, waiting_at, with_seat, stepped}
-use Rattle.sock_programs.specs.Ticks.{Moment, ticked, run, IsAnswered, AreAnswered}
+use Rattle.sock_model.specs.Layout.{open_index}
+use Rattle.seat_programs.specs.Calls.{Call, LoadOpen, StoreOpen}
+use Rattle.seat_programs.specs.Asides.{Found}
+use Rattle.seat_programs.specs.Heads.{Head, Exit, Opens, Reads}
+use Rattle.seat_programs.specs.Programs.{Program, Do, Say, Sent, Rest, TakeMessage, TakeHome, PutHome, PutBytes, AskReady, Write, Aside, Round, Keep, Retries, NO_SOCKET}
+use Rattle.seat_programs.specs.Readers.{read, reader}
+use Rattle.seat_programs.specs.Cores.{Calls, Core, SeatState, word_of, word_after, found_at, words_after, hand_after, resolved, next_step, waiting_at, with_seat, stepped}
+use Rattle.seat_programs.specs.Ticks.{Moment, ticked, run, IsAnswered, AreAnswered}
 use Rattle.sock_runs.specs.May.{May, Knows}
 use Rattle.sock_runs.specs.Sound.{Sound, first_step, IsFitting, AreFitting, views_after}
 use Rattle.sock_runs.proofs.Records.{stores, loads, awaits, opens_same}
@@ -100,7 +100,7 @@ no_opens_follow = record {
 first_none : (program : Program) → NoOpens program → NoOpens (first_step program)
 first_none program x = through_head NoOpens no_opens_passes (λ o exits y. absurd y) no_opens_follow program x
 
-next_none : (ws : List Rattle.sock_programs.specs.Heads.Retry) (program : Program) → NoOpens program → NoOpens (next_step (resolved ws program))
+next_none : (ws : List Rattle.seat_programs.specs.Heads.Retry) (program : Program) → NoOpens program → NoOpens (next_step (resolved ws program))
 next_none ws program x = through_next NoOpens no_opens_passes no_opens_follow ws program x
 
 behind_none : (call : Call) (next : ℕ → Program) → NoOpens (Do call next) → (found : ℕ) → NoOpens (next found)
@@ -115,22 +115,22 @@ stored_some p v w (inl e) z = let y : 18446744073709551615 ≡ 0 = sym e ∙ z i
 stored_some p v w (inr k) z = let y : IsTrue (nat_lt 0 0) = subst (λ x. IsTrue (nat_lt 0 x)) z k.0 in true≢false (sym y)
 
 -- a word that was stored isn't 0 again
-pub stays_stored : (p : Plan) (c : Core) (v : View) (o : ℕ) → o < p.operations → length c.words ≡ Rattle.sock_model.specs.Layout.all_words p → (call : Call) → May p v call → get_or c.words (open_word p o) 0 ≢ 0
-    → get_or (words_after c.words (word_of p call) (word_after call (found_at c.words (word_of p call)))) (open_word p o) 0 ≢ 0
+pub stays_stored : (p : Plan) (c : Core) (v : View) (o : ℕ) → o < p.operations → length c.words ≡ Rattle.sock_model.specs.Layout.all_words p → (call : Call) → May p v call → get_or c.words (open_index p o) 0 ≢ 0
+    → get_or (words_after c.words (word_of p call) (word_after call (found_at c.words (word_of p call)))) (open_index p o) 0 ≢ 0
 stays_stored p c v o inside sized (StoreOpen n w) may some_ = dite (ℕ_discrete n o)
-    (λ e. λ z. let same : get_or (set c.words (open_word p n) w) (open_word p o) 0 ≡ w = ap (λ k. get_or (set c.words (open_word p n) w) (open_word p k) 0) (sym e) ∙ get_or-set_same c.words (open_word p n) w 0 (omega (arith, inside, e, sized)) in
+    (λ e. λ z. let same : get_or (set c.words (open_index p n) w) (open_index p o) 0 ≡ w = ap (λ k. get_or (set c.words (open_index p n) w) (open_index p k) 0) (sym e) ∙ get_or-set_same c.words (open_index p n) w 0 (omega (arith, inside, e, sized)) in
     stored_some p v w may.1 (sym same ∙ z))
-    (λ far. λ z. some_ (sym (get_or-set_other c.words (open_word p n) (open_word p o) w 0 (λ e. far (omega (arith, e)))) ∙ z))
+    (λ far. λ z. some_ (sym (get_or-set_other c.words (open_index p n) (open_index p o) w 0 (λ e. far (omega (arith, e)))) ∙ z))
 stays_stored p c v o inside sized call may some_ = by_none call may refl
   where
-    by_none : (call : Call) → May p v call → stores call ≡ none → get_or (words_after c.words (word_of p call) (word_after call (found_at c.words (word_of p call)))) (open_word p o) 0 ≢ 0
+    by_none : (call : Call) → May p v call → stores call ≡ none → get_or (words_after c.words (word_of p call) (word_after call (found_at c.words (word_of p call)))) (open_index p o) 0 ≢ 0
     by_none call may none_ = λ z. some_ (sym (opens_same p c.words v o inside call may none_) ∙ z)
 
 -- ## The seat of a reader
 
 -- seat j has still to find the word of operation o, which is that of link n, or found it
 abbrev pub AtReader : Plan → List ℕ → ℕ → ℕ → ℕ → Core → Type 0
-AtReader p calls j n o c = (seat : SeatState) → get_elem? c.seats j ≡ some seat → (seat.program ≡ reader calls n o) ⊎ ((get_or c.words (open_word p o) 0 ≢ 0) × NoOpens seat.program)
+AtReader p calls j n o c = (seat : SeatState) → get_elem? c.seats j ≡ some seat → (seat.program ≡ reader calls n o) ⊎ ((get_or c.words (open_index p o) 0 ≢ 0) × NoOpens seat.program)
 
 module _ (p : Plan) (calls : List ℕ) (j n o : ℕ) (inside : o < p.operations) where
   abbrev behind : ℕ → Program
@@ -144,7 +144,7 @@ module _ (p : Plan) (calls : List ℕ) (j n o : ℕ) (inside : o < p.operations)
 
   module _ (c : Core) (vs : List View) (m : Moment) (sound : Sound p c vs) (answered : IsAnswered c m) (fitting : IsFitting p c m) (before : AtReader p calls j n o c) where
     abbrev word' : Call → ℕ
-    word' x = get_or (words_after c.words (word_of p x) (word_after x (found_at c.words (word_of p x)))) (open_word p o) 0
+    word' x = get_or (words_after c.words (word_of p x) (word_after x (found_at c.words (word_of p x)))) (open_index p o) 0
 
     abbrev G : Call → (ℕ → Program) → Type 0
     G x f = (next_step (resolved (waiting_at c.calls.waiting m.seat) (f (found_at c.words (word_of p x)))) ≡ reader calls n o) ⊎ ((word' x ≢ 0) × NoOpens (next_step (resolved (waiting_at c.calls.waiting m.seat) (f (found_at c.words (word_of p x))))))
@@ -159,17 +159,17 @@ module _ (p : Plan) (calls : List ℕ) (j n o : ℕ) (inside : o < p.operations)
         seat' = record { program = next_step (resolved (waiting_at c.calls.waiting m.seat) (next (found_at c.words (word_of p call)))); hand = hand_after p call c.homes seat.hand }
 
         loaded : May p v (LoadOpen o) → G (LoadOpen o) first
-        loaded may = by_word (get_or c.words (open_word p o) 0 == 0) refl
+        loaded may = by_word (get_or c.words (open_index p o) 0 == 0) refl
           where
-            by_word : (b : Bool) → (get_or c.words (open_word p o) 0 == 0) ≡ b → (next_step (resolved (waiting_at c.calls.waiting m.seat) (cond b (reader calls n o) (behind (get_or c.words (open_word p o) 0)))) ≡ reader calls n o)
-                ⊎ ((word' (LoadOpen o) ≢ 0) × NoOpens (next_step (resolved (waiting_at c.calls.waiting m.seat) (cond b (reader calls n o) (behind (get_or c.words (open_word p o) 0))))))
+            by_word : (b : Bool) → (get_or c.words (open_index p o) 0 == 0) ≡ b → (next_step (resolved (waiting_at c.calls.waiting m.seat) (cond b (reader calls n o) (behind (get_or c.words (open_index p o) 0)))) ≡ reader calls n o)
+                ⊎ ((word' (LoadOpen o) ≢ 0) × NoOpens (next_step (resolved (waiting_at c.calls.waiting m.seat) (cond b (reader calls n o) (behind (get_or c.words (open_index p o) 0))))))
             by_word true e = inl refl
             by_word false e = inr (
-              stays_stored p c v o inside sound.lawful.references.sized (LoadOpen o) may (λ z. true≢false (sym (eq-eqb (get_or c.words (open_word p o) 0) 0 z) ∙ e)),
-              next_none (waiting_at c.calls.waiting m.seat) (behind (get_or c.words (open_word p o) 0)) (through_reading NoOpens no_opens_passes tt calls n (get_or c.words (open_word p o) 0)),
+              stays_stored p c v o inside sound.lawful.references.sized (LoadOpen o) may (λ z. true≢false (sym (eq-eqb (get_or c.words (open_index p o) 0) 0 z) ∙ e)),
+              next_none (waiting_at c.calls.waiting m.seat) (behind (get_or c.words (open_index p o) 0)) (through_reading NoOpens no_opens_passes tt calls n (get_or c.words (open_index p o) 0)),
             )
 
-        own : (seat.program ≡ reader calls n o) ⊎ ((get_or c.words (open_word p o) 0 ≢ 0) × NoOpens seat.program) → G call next
+        own : (seat.program ≡ reader calls n o) ⊎ ((get_or c.words (open_index p o) 0 ≢ 0) × NoOpens seat.program) → G call next
         own (inl e) = let x = load_is call next seat.program e is in subst (λ y. G y next) (sym x.0) (subst (λ f. G (LoadOpen o) f) (sym x.1) (loaded (subst (May p v) x.0 may)))
         own (inr x) = inr (
           stays_stored p c v o inside sound.lawful.references.sized call may x.0,
@@ -178,13 +178,13 @@ module _ (p : Plan) (calls : List ℕ) (j n o : ℕ) (inside : o < p.operations)
 
     on_other : (seat : SeatState) (program : Program) (hand : List Home) (hs : List (Option Home)) (a : Calls) → get_elem? c.seats m.seat ≡ some seat → ComesNext p (first_step seat.program) program → AtReader p calls j n o (with_seat m.seat program hand c.words hs (record c { calls = a }))
     on_other seat program hand hs a at_seat comes s at = ⊎_elim
-        (λ y. subst (λ (x : SeatState). (x.program ≡ reader calls n o) ⊎ ((get_or c.words (open_word p o) 0 ≢ 0) × NoOpens x.program)) y.1 (own (before seat (ap (get_elem? c.seats) y.0 ∙ at_seat))))
+        (λ y. subst (λ (x : SeatState). (x.program ≡ reader calls n o) ⊎ ((get_or c.words (open_index p o) 0 ≢ 0) × NoOpens x.program)) y.1 (own (before seat (ap (get_elem? c.seats) y.0 ∙ at_seat))))
         (λ y. before s y.1) (at_set c.seats m.seat j seat' s at)
       where
         seat' : SeatState
         seat' = record { program = next_step (resolved (waiting_at a.waiting m.seat) program); hand = hand }
 
-        own : (seat.program ≡ reader calls n o) ⊎ ((get_or c.words (open_word p o) 0 ≢ 0) × NoOpens seat.program) → (seat'.program ≡ reader calls n o) ⊎ ((get_or c.words (open_word p o) 0 ≢ 0) × NoOpens seat'.program)
+        own : (seat.program ≡ reader calls n o) ⊎ ((get_or c.words (open_index p o) 0 ≢ 0) × NoOpens seat.program) → (seat'.program ≡ reader calls n o) ⊎ ((get_or c.words (open_index p o) 0 ≢ 0) × NoOpens seat'.program)
         own (inl e) = absurd (subst (λ x. ComesNext p (first_step x) program) e comes)
         own (inr x) = inr (x.0, next_none (waiting_at a.waiting m.seat) program (comes_follows NoOpens no_opens_follow p (first_step seat.program) program comes (first_none seat.program x.1)))
 
@@ -212,5 +212,5 @@ module _ (p : Plan) (calls : List ℕ) (j n o : ℕ) (inside : o < p.operations)
         opened e = let y : Round (Opens o) behind ≡ Round (Opens x) next = e in cc
 
     -- another step comes behind it
-    pub steps_behind : (call : Call) (next : ℕ → Program) → first_step seat.program ≡ Do call next → loads call ≡ none → get_or c.words (open_word p o) 0 ≢ 0
+    pub steps_behind : (call : Call) (next : ℕ → Program) → first_step seat.program ≡ Do call next → loads call ≡ none → get_or c.words (open_index p o) 0 ≢ 0
     steps_behind call next is none_ = ⊎_elim (λ e. let y = load_is call next seat.program e is in absurd (some-ne-none o (sym (ap loads y.0) ∙ none_))) (λ y. y.0) (r seat at)

@@ -12,15 +12,15 @@ use Rattle.sock_model.specs.declared.chain.Right.{Right}
 use Rattle.sock_model.specs.declared.home.Home.{Home}
 use Rattle.sock_model.specs.declared.view.View.{View}
 use Rattle.sock_model.specs.Weights.{is_born}
-use Rattle.sock_model.specs.Layout.{open_word}
+use Rattle.sock_model.specs.Layout.{open_index}
 use Rattle.sock_model.specs.SlotRows.{marks_of}
 use Rattle.sock_model.specs.Slots.{count}
 use Rattle.sock_model.specs.References.{slot_facts}
 use Rattle.sock_steps.proofs.Places.{counts}
-use Rattle.sock_programs.specs.Calls.{Call, GiveBirth, StoreOpen}
-use Rattle.sock_programs.specs.Programs.{Program, Do, Say, Sent, Rest, TakeMessage, TakeHome, PutHome, PutBytes, AskReady, Write, Aside, Round, Keep, Retries}
-use Rattle.sock_programs.specs.Cores.{Calls, Core, SeatState, word_of, word_after, found_at, words_after, homes_after, hand_after, resolved, next_step, waiting_at, with_seat, stepped}
-use Rattle.sock_programs.specs.Ticks.{Moment, ticked, run, IsAnswered, AreAnswered}
+use Rattle.seat_programs.specs.Calls.{Call, CreateLife, StoreOpen}
+use Rattle.seat_programs.specs.Programs.{Program, Do, Say, Sent, Rest, TakeMessage, TakeHome, PutHome, PutBytes, AskReady, Write, Aside, Round, Keep, Retries}
+use Rattle.seat_programs.specs.Cores.{Calls, Core, SeatState, word_of, word_after, found_at, words_after, homes_after, hand_after, resolved, next_step, waiting_at, with_seat, stepped}
+use Rattle.seat_programs.specs.Ticks.{Moment, ticked, run, IsAnswered, AreAnswered}
 use Rattle.sock_runs.specs.Rows.{row, hand_at}
 use Rattle.sock_runs.specs.May.{May}
 use Rattle.sock_runs.specs.Sound.{state, Sound, first_step, IsFitting, AreFitting, views_after, views_along}
@@ -38,7 +38,7 @@ use Rattle.sock_runs.proofs.Ticks.{sound_ticks}
 -- the id stands in the word of operation o, in which no seat stores any more
 pub record IsRecorded (p : Plan) (c : Core) (left : ℕ → ℕ → Bool) (o id : ℕ) : Type 0 where
   pub inside : o < p.operations
-  pub word : get_or c.words (open_word p o) 0 ≡ id + 1
+  pub word : get_or c.words (open_index p o) 0 ≡ id + 1
   pub spent : (j : ℕ) → left j o ≡ false
 
 -- a seat stores it by its next step
@@ -59,7 +59,7 @@ pub record Recorded (p : Plan) (Q : ℕ → ℕ → Type 0) (c : Core) (vs : Lis
   pub apart : (j k o : ℕ) → left j o ≡ true → left k o ≡ true → j ≡ k
   pub records : (j : ℕ) (seat : SeatState) → get_elem? c.seats j ≡ some seat → Records (left j) seat.program
   -- a word that was stored isn't stored again
-  pub once : (o : ℕ) → o < p.operations → get_or c.words (open_word p o) 0 ≢ 0 → (j : ℕ) → left j o ≡ false
+  pub once : (o : ℕ) → o < p.operations → get_or c.words (open_index p o) 0 ≢ 0 → (j : ℕ) → left j o ≡ false
   pub lives : (i h : ℕ) → i < p.slots → 0 < count (is_born h) (slot_facts (state c vs) i) → Stands p Q c left (socket_id h i)
 
 pub either_bool : (b : Bool) → (b ≡ true) ⊎ (b ≡ false)
@@ -86,7 +86,7 @@ but_none o left = ap (λ b. left o && not b) (eq-eqb o o refl) ∙ and_false (le
 
 -- a program may as well have more operations left
 pub records_more : (program : Program) (left more : ℕ → Bool) → ((o : ℕ) → left o ≡ true → more o ≡ true) → Records left program → Records more program
-records_more (Do (GiveBirth i k) next) left more up r = λ found. ((r found).0, records_more (next found) left more up (r found).1)
+records_more (Do (CreateLife i k) next) left more up r = λ found. ((r found).0, records_more (next found) left more up (r found).1)
 records_more (Do (StoreOpen o w) next) left more up r = (up o r.0, λ found. records_more (next found) (but o left) (but o more) (λ x e. but_more o left more up x e) (r.1 found))
 records_more (Do call next) left more up r = λ found. records_more (next found) left more up (r found)
 records_more (Say o outcome next) left more up r = records_more next left more up r
@@ -113,7 +113,7 @@ records_nothing p Q c vs r j none_ seat at = records_more seat.program (r.left j
 
 -- a step that stores nothing and makes no life goes on as it may
 pub plain_next : (left : ℕ → Bool) (call : Call) (next : ℕ → Program) → stores call ≡ none → bears call ≡ none → Records left (Do call next) → (found : ℕ) → Records left (next found)
-plain_next left (GiveBirth i k) next s b r found = absurd (some-ne-none i b)
+plain_next left (CreateLife i k) next s b r found = absurd (some-ne-none i b)
 plain_next left (StoreOpen o w) next s b r found = absurd (some-ne-none (o, w) s)
 plain_next left call next s b r found = r found
 
@@ -169,7 +169,7 @@ module _ (p : Plan) (Q : ℕ → ℕ → Type 0) (c : Core) (vs : List View) (i 
     plain_step no_birth = keep (plain_next (r.left i) call next none_ no_birth mine found)
         (λ j h inside born. carry (socket_id h j) (r.lives j h inside (omega (arith, born, born_after j h, births_only p v found (hand_at p c.words c.homes call) h call no_birth j))))
 
-    pub birth_step : (n k : ℕ) → call ≡ GiveBirth n k → Recorded p Q after (set vs i w)
+    pub birth_step : (n k : ℕ) → call ≡ CreateLife n k → Recorded p Q after (set vs i w)
     birth_step n k made = let m = subst (λ x. Records (r.left i) (Do x next)) made mine found in
         keep m.1 (λ j h inside born. ⊎_elim
         (λ a. inr record { place = i; seat = seat'; there = here; operation = m.0.0; next = next_stored (waiting_at c.calls.waiting i) (next found) (m.0.0, socket_id h j + 1) (m.0.1 ∙ (λ q. some (m.0.0, socket_id (sym a.1 q) (sym a.0 q) + 1))) })
@@ -201,13 +201,13 @@ module _ (p : Plan) (Q : ℕ → ℕ → Type 0) (c : Core) (vs : List View) (i 
     fits = (subst (May p v) made may).0
 
     abbrev word : Call → ℕ → ℕ
-    word y n = get_or (words_after c.words (word_of p y) (word_after y (found_at c.words (word_of p y)))) (open_word p n) 0
+    word y n = get_or (words_after c.words (word_of p y) (word_after y (found_at c.words (word_of p y)))) (open_index p n) 0
 
     word_here : word call o ≡ x
-    word_here = subst (λ y. word y o ≡ x) (sym made) (get_or-set_same c.words (open_word p o) x 0 (let f = fits in omega (arith, sound.lawful.references.sized)))
+    word_here = subst (λ y. word y o ≡ x) (sym made) (get_or-set_same c.words (open_index p o) x 0 (let f = fits in omega (arith, sound.lawful.references.sized)))
 
-    word_else : (n : ℕ) → n ≢ o → word call n ≡ get_or c.words (open_word p n) 0
-    word_else n far = subst (λ y. word y n ≡ get_or c.words (open_word p n) 0) (sym made) (get_or-set_other c.words (open_word p o) (open_word p n) x 0 (λ e. far (omega arith)))
+    word_else : (n : ℕ) → n ≢ o → word call n ≡ get_or c.words (open_index p n) 0
+    word_else n far = subst (λ y. word y n ≡ get_or c.words (open_index p n) 0) (sym made) (get_or-set_other c.words (open_index p o) (open_index p n) x 0 (λ e. far (omega arith)))
 
     spent_here : (j : ℕ) → left' j o ≡ false
     spent_here j = dite (ℕ_discrete j i)
@@ -284,7 +284,7 @@ recorded_ticks p Q c vs m sound answered fitting r = tick_keeps_marks p c vs m s
   where
     by_call : (seat : SeatState) (v : View) (call : Call) (next : ℕ → Program) → get_elem? c.seats m.seat ≡ some seat → get_elem? vs m.seat ≡ some v → first_step seat.program ≡ Do call next → May p v call
         → Recorded p Q (stepped p m.seat seat call next c) (set vs m.seat (row p call (found_at c.words (word_of p call)) (hand_at p c.words c.homes call) v))
-    by_call seat v (GiveBirth n k) next at_seat at_view is may = birth_step p Q c vs m.seat r seat v (GiveBirth n k) next at_seat at_view is may refl n k refl
+    by_call seat v (CreateLife n k) next at_seat at_view is may = birth_step p Q c vs m.seat r seat v (CreateLife n k) next at_seat at_view is may refl n k refl
     by_call seat v (StoreOpen o x) next at_seat at_view is may = store_step p Q c vs m.seat r seat v (StoreOpen o x) next at_seat at_view is may sound o x refl
     by_call seat v call next at_seat at_view is may = plain_step p Q c vs m.seat r seat v call next at_seat at_view is may refl refl
 

@@ -5,16 +5,16 @@ use lib.Seq.{set-get_or}
 use Rattle.sock_words.specs.Words.{socket_id, socket_id_slot, vref_version}
 use Rattle.sock_words.specs.declared.plain.Plan.{Plan}
 use Rattle.sock_model.specs.declared.view.View.{View}
-use Rattle.sock_model.specs.Layout.{tag_word, ref_word, link_word, head_word, code_word, name_word, open_word, request_word, next_word, place_word}
+use Rattle.sock_model.specs.Layout.{tag_index, ref_index, link_index, head_index, code_index, name_index, open_index, request_index, next_index, place_index}
 use Rattle.sock_model.specs.Deliveries.{place_value}
-use Rattle.sock_programs.specs.Calls.{Call, ClaimSlot, GiveBirth, AddRef, SubRef, SetOdd, Recycle, FreeSlot, StoreLink, LoadLink, ResetHead, WipeCode, StoreCode, StoreName, LoadName, StoreOpen, LoadOpen, TakeLink, FinishLink, PutLink, LookWord, FindLink, LoadCode, ClaimRequest, PutMessage, Unconnect, SwapHead, Connect, EmptyHead, ReadNext, TurnNext, FreeRequest, StorePlace, DropPlace}
-use Rattle.sock_programs.specs.sock_io.specs.declared.link.Put.{Put}
-use Rattle.sock_programs.specs.sock_io.specs.declared.link.Ready.{Ready}
+use Rattle.seat_programs.specs.Calls.{Call, ClaimSlot, CreateLife, AddRef, SubRef, SetOdd, Recycle, FreeSlot, StoreLink, LoadLink, ResetHead, ClearCode, StoreCode, StoreName, LoadName, StoreOpen, LoadOpen, TakeLink, FinishLink, PutLink, LookWord, FindLink, LoadCode, ClaimRequest, PutMessage, Unconnect, SwapHead, Connect, EmptyHead, ReadNext, ReverseNext, FreeRequest, StorePlace, DropPlace}
+use Rattle.seat_programs.specs.sock_io.specs.declared.link.Put.{Put}
+use Rattle.seat_programs.specs.sock_io.specs.declared.link.Ready.{Ready}
 use Rattle.sock_model.specs.declared.chain.Heading.{Heading}
-use Rattle.sock_programs.specs.Asides.{Found}
-use Rattle.sock_programs.specs.Heads.{Head, Exit, Retry, Opens}
-use Rattle.sock_programs.specs.Programs.{Program, Do, Say, Sent, Rest, TakeMessage, TakeHome, PutHome, PutBytes, AskReady, Write, Aside, Round, Keep, Retries}
-use Rattle.sock_programs.specs.Cores.{word_of, word_after, found_at, words_after, next_step, resolved}
+use Rattle.seat_programs.specs.Asides.{Found}
+use Rattle.seat_programs.specs.Heads.{Head, Exit, Retry, Opens}
+use Rattle.seat_programs.specs.Programs.{Program, Do, Say, Sent, Rest, TakeMessage, TakeHome, PutHome, PutBytes, AskReady, Write, Aside, Round, Keep, Retries}
+use Rattle.seat_programs.specs.Cores.{word_of, word_after, found_at, words_after, next_step, resolved}
 use Rattle.sock_runs.specs.May.{May}
 use Rattle.sock_runs.specs.Sound.{first_step}
 
@@ -44,7 +44,7 @@ but o left x = left x && not (x == o)
 
 -- the program stores only words of the operations of `left`, each at most once, and of each life that it makes at once
 abbrev pub Records : (ℕ → Bool) → Program → Type 0
-Records left (Do (GiveBirth i k) next) = (found : ℕ) → ((o : ℕ) × (next_stores (next found) ≡ some (o, socket_id (vref_version found) i + 1))) × Records left (next found)
+Records left (Do (CreateLife i k) next) = (found : ℕ) → ((o : ℕ) × (next_stores (next found) ≡ some (o, socket_id (vref_version found) i + 1))) × Records left (next found)
 Records left (Do (StoreOpen o w) next) = (left o ≡ true) × ((found : ℕ) → Records (but o left) (next found))
 Records left (Do call next) = (found : ℕ) → Records left (next found)
 Records left (Say o outcome next) = Records left next
@@ -79,37 +79,37 @@ first_stored _ x e = e
 
 -- a step that stores in none leaves them all
 pub opens_same : (p : Plan) (ws : List ℕ) (v : View) (o : ℕ) → o < p.operations → (call : Call) → May p v call → stores call ≡ none
-    → get_or (words_after ws (word_of p call) (word_after call (found_at ws (word_of p call)))) (open_word p o) 0 ≡ get_or ws (open_word p o) 0
-opens_same p ws v o inside (ClaimSlot j) may none_ = let slot = may in get_or-set_other ws (tag_word j) (open_word p o) 1 0 (λ e. omega arith)
-opens_same p ws v o inside (GiveBirth j k) may none_ = let slot = may.0 in get_or-set_other ws (ref_word j) (open_word p o) (word_after (GiveBirth j k) (get_or ws (ref_word j) 0)) 0 (λ e. omega arith)
-opens_same p ws v o inside (AddRef id) may none_ = let slot = may.0.0 in get_or-set_other ws (ref_word (socket_id_slot id)) (open_word p o) (word_after (AddRef id) (get_or ws (ref_word (socket_id_slot id)) 0)) 0 (λ e. omega arith)
-opens_same p ws v o inside (SubRef j) may none_ = let slot = may.0 in get_or-set_other ws (ref_word j) (open_word p o) (word_after (SubRef j) (get_or ws (ref_word j) 0)) 0 (λ e. omega arith)
-opens_same p ws v o inside (SetOdd j) may none_ = let slot = may.0 in get_or-set_other ws (ref_word j) (open_word p o) (word_after (SetOdd j) (get_or ws (ref_word j) 0)) 0 (λ e. omega arith)
-opens_same p ws v o inside (Recycle j from) may none_ = let slot = may.0 in get_or-set_other ws (ref_word j) (open_word p o) (word_after (Recycle j from) (get_or ws (ref_word j) 0)) 0 (λ e. omega arith)
-opens_same p ws v o inside (FreeSlot j) may none_ = let slot = may.0 in get_or-set_other ws (tag_word j) (open_word p o) 0 0 (λ e. omega arith)
-opens_same p ws v o inside (StoreLink j k) may none_ = let slot = may.0 in get_or-set_other ws (link_word j) (open_word p o) k 0 (λ e. omega arith)
-opens_same p ws v o inside (LoadLink j w) may none_ = ap (λ l. get_or l (open_word p o) 0) (set-get_or ws (link_word j) 0)
-opens_same p ws v o inside (ResetHead j k) may none_ = let slot = may.0 in get_or-set_other ws (head_word j) (open_word p o) (word_after (ResetHead j k) (get_or ws (head_word j) 0)) 0 (λ e. omega arith)
-opens_same p ws v o inside (WipeCode j k) may none_ = let slot = may.0 in get_or-set_other ws (code_word j) (open_word p o) 0 0 (λ e. omega arith)
-opens_same p ws v o inside (StoreCode j h d) may none_ = let slot = may.0 in get_or-set_other ws (code_word j) (open_word p o) d 0 (λ e. omega arith)
-opens_same p ws v o inside (StoreName n w) may none_ = let slot = may.0 in get_or-set_other ws (name_word p n) (open_word p o) w 0 (λ e. omega arith)
-opens_same p ws v o inside (LoadName n) may none_ = ap (λ l. get_or l (open_word p o) 0) (set-get_or ws (name_word p n) 0)
+    → get_or (words_after ws (word_of p call) (word_after call (found_at ws (word_of p call)))) (open_index p o) 0 ≡ get_or ws (open_index p o) 0
+opens_same p ws v o inside (ClaimSlot j) may none_ = let slot = may in get_or-set_other ws (tag_index j) (open_index p o) 1 0 (λ e. omega arith)
+opens_same p ws v o inside (CreateLife j k) may none_ = let slot = may.0 in get_or-set_other ws (ref_index j) (open_index p o) (word_after (CreateLife j k) (get_or ws (ref_index j) 0)) 0 (λ e. omega arith)
+opens_same p ws v o inside (AddRef id) may none_ = let slot = may.0.0 in get_or-set_other ws (ref_index (socket_id_slot id)) (open_index p o) (word_after (AddRef id) (get_or ws (ref_index (socket_id_slot id)) 0)) 0 (λ e. omega arith)
+opens_same p ws v o inside (SubRef j) may none_ = let slot = may.0 in get_or-set_other ws (ref_index j) (open_index p o) (word_after (SubRef j) (get_or ws (ref_index j) 0)) 0 (λ e. omega arith)
+opens_same p ws v o inside (SetOdd j) may none_ = let slot = may.0 in get_or-set_other ws (ref_index j) (open_index p o) (word_after (SetOdd j) (get_or ws (ref_index j) 0)) 0 (λ e. omega arith)
+opens_same p ws v o inside (Recycle j from) may none_ = let slot = may.0 in get_or-set_other ws (ref_index j) (open_index p o) (word_after (Recycle j from) (get_or ws (ref_index j) 0)) 0 (λ e. omega arith)
+opens_same p ws v o inside (FreeSlot j) may none_ = let slot = may.0 in get_or-set_other ws (tag_index j) (open_index p o) 0 0 (λ e. omega arith)
+opens_same p ws v o inside (StoreLink j k) may none_ = let slot = may.0 in get_or-set_other ws (link_index j) (open_index p o) k 0 (λ e. omega arith)
+opens_same p ws v o inside (LoadLink j w) may none_ = ap (λ l. get_or l (open_index p o) 0) (set-get_or ws (link_index j) 0)
+opens_same p ws v o inside (ResetHead j k) may none_ = let slot = may.0 in get_or-set_other ws (head_index j) (open_index p o) (word_after (ResetHead j k) (get_or ws (head_index j) 0)) 0 (λ e. omega arith)
+opens_same p ws v o inside (ClearCode j k) may none_ = let slot = may.0 in get_or-set_other ws (code_index j) (open_index p o) 0 0 (λ e. omega arith)
+opens_same p ws v o inside (StoreCode j h d) may none_ = let slot = may.0 in get_or-set_other ws (code_index j) (open_index p o) d 0 (λ e. omega arith)
+opens_same p ws v o inside (StoreName n w) may none_ = let slot = may.0 in get_or-set_other ws (name_index p n) (open_index p o) w 0 (λ e. omega arith)
+opens_same p ws v o inside (LoadName n) may none_ = ap (λ l. get_or l (open_index p o) 0) (set-get_or ws (name_index p n) 0)
 opens_same p ws v o inside (StoreOpen n w) may none_ = absurd (some-ne-none (n, w) none_)
-opens_same p ws v o inside (LoadOpen n) may none_ = ap (λ l. get_or l (open_word p o) 0) (set-get_or ws (open_word p n) 0)
+opens_same p ws v o inside (LoadOpen n) may none_ = ap (λ l. get_or l (open_index p o) 0) (set-get_or ws (open_index p n) 0)
 opens_same p ws v o inside (TakeLink k) may none_ = refl
 opens_same p ws v o inside (FinishLink k) may none_ = refl
 opens_same p ws v o inside (PutLink k) may none_ = refl
-opens_same p ws v o inside (LookWord id) may none_ = ap (λ l. get_or l (open_word p o) 0) (set-get_or ws (ref_word (socket_id_slot id)) 0)
-opens_same p ws v o inside (FindLink i h) may none_ = ap (λ l. get_or l (open_word p o) 0) (set-get_or ws (link_word i) 0)
-opens_same p ws v o inside (LoadCode i h) may none_ = ap (λ l. get_or l (open_word p o) 0) (set-get_or ws (code_word i) 0)
-opens_same p ws v o inside (ClaimRequest id q) may none_ = let low = inside in get_or-set_other ws (request_word p q) (open_word p o) (word_after (ClaimRequest id q) (get_or ws (request_word p q) 0)) 0 (λ e. omega arith)
+opens_same p ws v o inside (LookWord id) may none_ = ap (λ l. get_or l (open_index p o) 0) (set-get_or ws (ref_index (socket_id_slot id)) 0)
+opens_same p ws v o inside (FindLink i h) may none_ = ap (λ l. get_or l (open_index p o) 0) (set-get_or ws (link_index i) 0)
+opens_same p ws v o inside (LoadCode i h) may none_ = ap (λ l. get_or l (open_index p o) 0) (set-get_or ws (code_index i) 0)
+opens_same p ws v o inside (ClaimRequest id q) may none_ = let low = inside in get_or-set_other ws (request_index p q) (open_index p o) (word_after (ClaimRequest id q) (get_or ws (request_index p q) 0)) 0 (λ e. omega arith)
 opens_same p ws v o inside (PutMessage q heading bytes) may none_ = refl
-opens_same p ws v o inside (Unconnect q) may none_ = let low = inside in get_or-set_other ws (next_word p q) (open_word p o) (word_after (Unconnect q) 0) 0 (λ e. omega arith)
-opens_same p ws v o inside (SwapHead i own) may none_ = let slot = may.0 in get_or-set_other ws (head_word i) (open_word p o) own 0 (λ e. omega arith)
-opens_same p ws v o inside (Connect q before) may none_ = let low = inside in get_or-set_other ws (next_word p q) (open_word p o) before 0 (λ e. omega arith)
-opens_same p ws v o inside (EmptyHead i last) may none_ = let slot = may.0 in get_or-set_other ws (head_word i) (open_word p o) (word_after (EmptyHead i last) (get_or ws (head_word i) 0)) 0 (λ e. omega arith)
-opens_same p ws v o inside (ReadNext q) may none_ = ap (λ l. get_or l (open_word p o) 0) (set-get_or ws (next_word p q) 0)
-opens_same p ws v o inside (TurnNext q value) may none_ = let low = inside in get_or-set_other ws (next_word p q) (open_word p o) value 0 (λ e. omega arith)
-opens_same p ws v o inside (FreeRequest q g) may none_ = let low = inside in get_or-set_other ws (request_word p q) (open_word p o) (2 * (g + 1)) 0 (λ e. omega arith)
-opens_same p ws v o inside (StorePlace l k n) may none_ = let low = inside in get_or-set_other ws (place_word p l) (open_word p o) (place_value false k n) 0 (λ e. omega arith)
-opens_same p ws v o inside (DropPlace l k n) may none_ = let low = inside in get_or-set_other ws (place_word p l) (open_word p o) (place_value true k n) 0 (λ e. omega arith)
+opens_same p ws v o inside (Unconnect q) may none_ = let low = inside in get_or-set_other ws (next_index p q) (open_index p o) (word_after (Unconnect q) 0) 0 (λ e. omega arith)
+opens_same p ws v o inside (SwapHead i own) may none_ = let slot = may.0 in get_or-set_other ws (head_index i) (open_index p o) own 0 (λ e. omega arith)
+opens_same p ws v o inside (Connect q before) may none_ = let low = inside in get_or-set_other ws (next_index p q) (open_index p o) before 0 (λ e. omega arith)
+opens_same p ws v o inside (EmptyHead i last) may none_ = let slot = may.0 in get_or-set_other ws (head_index i) (open_index p o) (word_after (EmptyHead i last) (get_or ws (head_index i) 0)) 0 (λ e. omega arith)
+opens_same p ws v o inside (ReadNext q) may none_ = ap (λ l. get_or l (open_index p o) 0) (set-get_or ws (next_index p q) 0)
+opens_same p ws v o inside (ReverseNext q value) may none_ = let low = inside in get_or-set_other ws (next_index p q) (open_index p o) value 0 (λ e. omega arith)
+opens_same p ws v o inside (FreeRequest q g) may none_ = let low = inside in get_or-set_other ws (request_index p q) (open_index p o) (2 * (g + 1)) 0 (λ e. omega arith)
+opens_same p ws v o inside (StorePlace l k n) may none_ = let low = inside in get_or-set_other ws (place_index p l) (open_index p o) (place_value false k n) 0 (λ e. omega arith)
+opens_same p ws v o inside (DropPlace l k n) may none_ = let low = inside in get_or-set_other ws (place_index p l) (open_index p o) (place_value true k n) 0 (λ e. omega arith)

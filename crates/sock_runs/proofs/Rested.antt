@@ -9,15 +9,15 @@ use Rattle.atomic_table.proofs.Lists.{at_set, set_else}
 use Rattle.sock_words.specs.Words.{socket_id, socket_id_version, socket_id_slot, vref_version}
 use Rattle.sock_words.specs.declared.plain.Plan.{Plan}
 use Rattle.sock_model.specs.declared.view.View.{View}
-use Rattle.sock_model.specs.Layout.{ref_word, open_word}
+use Rattle.sock_model.specs.Layout.{ref_index, open_index}
 use Rattle.sock_model.specs.Weights.{is_failer}
 use Rattle.sock_model.specs.Slots.{count, live}
 use Rattle.sock_model.specs.References.{slot_facts}
-use Rattle.sock_steps.specs.slot_laws.proofs.Numbers.{life_is, life-in}
-use Rattle.sock_programs.specs.Programs.{Rest, NO_SOCKET}
-use Rattle.sock_programs.specs.Clients.{ending_of}
-use Rattle.sock_programs.specs.Cores.{Core, SeatState, resolved, next_step, waiting_at, with_seat}
-use Rattle.sock_programs.specs.Scripts.{is_ending}
+use Rattle.sock_steps.specs.slot_steps.proofs.Numbers.{life_is, life-in}
+use Rattle.seat_programs.specs.Programs.{Rest, NO_SOCKET}
+use Rattle.seat_programs.specs.Clients.{ending_of}
+use Rattle.seat_programs.specs.Cores.{Core, SeatState, resolved, next_step, waiting_at, with_seat}
+use Rattle.seat_programs.specs.Scripts.{is_ending}
 use Rattle.sock_runs.specs.Sound.{state, Sound, AllRest, AllFailed}
 use Rattle.sock_runs.proofs.Bounds.{law, lives_le}
 use Rattle.sock_runs.proofs.Records.{next_stores, Records}
@@ -28,7 +28,7 @@ use Rattle.sock_runs.proofs.Closing.{records_ending}
 
 -- the life in the word of an operation isn't live
 abbrev pub IsPast : Plan → Core → ℕ → Type 0
-IsPast p c o = (s : ℕ) → get_or c.words (open_word p o) 0 ≡ s + 1 → s + 1 ≢ NO_SOCKET → vref_version (get_or c.words (ref_word (socket_id_slot s)) 0) ≢ socket_id_version s
+IsPast p c o = (s : ℕ) → get_or c.words (open_index p o) 0 ≡ s + 1 → s + 1 ≢ NO_SOCKET → vref_version (get_or c.words (ref_index (socket_id_slot s)) 0) ≢ socket_id_version s
 
 -- a seat that is at rest begins the ending
 pub recorded_ending : (p : Plan) (os : List ℕ) (Q : ℕ → ℕ → Type 0) (c : Core) (vs : List View) → Recorded p Q c vs → ((seat : SeatState) → get_elem? c.seats 0 ≡ some seat → seat.program ≡ Rest) → Recorded p Q (with_seat 0 (ending_of os) [] c.words c.homes c) vs
@@ -64,7 +64,7 @@ recorded_on p Q c vs r = record { left = r.left; among = r.among; apart = r.apar
 -- where all is at rest, and no word of an operation is of a live life, every life was failed
 pub rested_failed : (p : Plan) (Q : ℕ → ℕ → Type 0) (c : Core) (vs : List View) → Sound p c vs → Recorded p Q c vs → AllRest c → ((j o : ℕ) → Q j o → IsPast p c o) → AllFailed p c vs
 rested_failed p Q c vs sound r rests past i h inside born = ⊎_elim
-    (λ x. let far = past x.0 x.1 x.2 (socket_id h i) x.3.word low in gone_on (λ e. far (ap (λ z. vref_version (get_or c.words (ref_word z) 0)) slot_is ∙ (e ∙ sym version_is))))
+    (λ x. let far = past x.0 x.1 x.2 (socket_id h i) x.3.word low in gone_on (λ e. far (ap (λ z. vref_version (get_or c.words (ref_index z) 0)) slot_is ∙ (e ∙ sym version_is))))
     (λ x. absurd (some-ne-none (x.operation, socket_id h i + 1) (sym x.next ∙ ap next_stores (rests x.place x.seat x.there))))
     (r.lives i h inside born)
   where

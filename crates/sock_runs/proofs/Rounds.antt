@@ -9,10 +9,10 @@ use native.Mathlib.Decide.{ℕ_discrete}
 use lib.ListN.{get_elem?}
 use Rattle.sock_words.specs.declared.plain.Plan.{Plan}
 use Rattle.sock_words.specs.Words.{socket_id_version, socket_id_slot, vref_version, vref_nref}
-use Rattle.sock_programs.specs.sock_io.specs.declared.link.Put.{Put}
-use Rattle.sock_programs.specs.sock_io.specs.declared.link.Put.TheVariants as puts
-use Rattle.sock_programs.specs.sock_io.specs.declared.link.Ready.{Ready}
-use Rattle.sock_programs.specs.sock_io.specs.declared.link.Ready.TheVariants as asks
+use Rattle.seat_programs.specs.sock_io.specs.declared.link.Put.{Put}
+use Rattle.seat_programs.specs.sock_io.specs.declared.link.Put.TheVariants as puts
+use Rattle.seat_programs.specs.sock_io.specs.declared.link.Ready.{Ready}
+use Rattle.seat_programs.specs.sock_io.specs.declared.link.Ready.TheVariants as asks
 use Rattle.sock_model.specs.declared.chain.Heading.{Heading}
 use Rattle.sock_model.specs.declared.chain.Right.{Right}
 use Rattle.sock_model.specs.declared.chain.Stage.{Stage}
@@ -27,18 +27,18 @@ use Rattle.sock_model.specs.SlotRows.{marks_of, back, subbed, looked, told_code}
 use Rattle.sock_model.specs.ChainRows.{with_right, without_right, taken_right, placed_right, dropped_right, put_right}
 use Rattle.sock_model.specs.Conditions.{HasRight}
 use Rattle.sock_model.specs.Links.{HoldsLink}
-use Rattle.sock_programs.specs.Ticks.{FitsPut}
-use Rattle.sock_steps.specs.slot_laws.proofs.Sums.{total_mono, about-here}
-use Rattle.sock_steps.specs.slot_laws.proofs.Numbers.{only-same, only-else}
-use Rattle.sock_steps.specs.slot_laws.proofs.Slots.{hold_ref}
+use Rattle.seat_programs.specs.Ticks.{FitsPut}
+use Rattle.sock_steps.specs.slot_steps.proofs.Sums.{total_mono, about-here}
+use Rattle.sock_steps.specs.slot_steps.proofs.Numbers.{only-same, only-else}
+use Rattle.sock_steps.specs.slot_steps.proofs.Slots.{hold_ref}
 use Rattle.sock_model.specs.Entries.{slot_of, generation_of}
 use Rattle.sock_model.specs.Memory.{UNCONNECTED}
-use Rattle.sock_programs.specs.Calls.{StoreCode, SubRef, ReadNext, FreeRequest, DropPlace, EmptyHead, TurnNext}
-use Rattle.sock_programs.specs.Parts.{room_of_part}
-use Rattle.sock_programs.specs.Writings.{Holder, Writing, Puts, Waits, Empties, Walks}
-use Rattle.sock_programs.specs.Programs.{Program, Do, TakeMessage, TakeHome, PutBytes, Write, LAST_GENERATION, set_failed}
+use Rattle.seat_programs.specs.Calls.{StoreCode, SubRef, ReadNext, FreeRequest, DropPlace, EmptyHead, ReverseNext}
+use Rattle.seat_programs.specs.Parts.{room_of_part}
+use Rattle.seat_programs.specs.Writings.{Holder, Writing, Puts, Waits, Empties, Walks}
+use Rattle.seat_programs.specs.Programs.{Program, Do, TakeMessage, TakeHome, PutBytes, Write, LAST_GENERATION, set_failed}
 use Rattle.sock_runs.proofs.Passes.{tell_goes}
-use Rattle.sock_programs.specs.Sends.{freed, one_more, passed, passed_telling, tell_drop, placed, dropped, put_answered, ready_answered, block, first_put}
+use Rattle.seat_programs.specs.Sends.{freed, one_more, passed, passed_telling, tell_drop, placed, dropped, put_answered, ready_answered, block, first_put}
 use Rattle.sock_runs.specs.May.{even_version}
 use Rattle.sock_runs.specs.Rows as Rows
 use Rattle.sock_runs.specs.Rows.{row, by_right, settled, settled_stage, read_next, turned_next, placed_next, dropped_next, emptied, looked_clean, took_bytes}
@@ -562,7 +562,7 @@ module _ (p : Plan) (after : Program) (v : View) (h : Holder) (r : Right) (a : I
 
     read_branch : IsBetween r (stages.Walks top place successor) → (found : ℕ) (b : Bool) → GoesOn p (cond b v (with_right v (record r { stage = stages.Turns top place successor found })))
         (cond b (Write (Walks h top place successor) after)
-        (Do (TurnNext (slot_of place) successor) (λ _. cond (eqb found h.last) (TakeMessage (slot_of place) (λ heading bytes. Write (Puts (record h { last = top }) place heading bytes 0 false) after)) (Write (Walks h top found place) after))))
+        (Do (ReverseNext (slot_of place) successor) (λ _. cond (eqb found h.last) (TakeMessage (slot_of place) (λ heading bytes. Write (Puts (record h { last = top }) place heading bytes 0 false) after)) (Write (Walks h top found place) after))))
     read_branch b found true = ((r, a, b), follows)
     read_branch b found false = let t : Right = record r { stage = stages.Turns top place successor found } in let u : View = with_right v t in let c : Keeps p u h.id h.link t = changed t (keeps a) a.link in
         let next : Program = cond (eqb found h.last) (TakeMessage (slot_of place) (λ heading bytes. Write (Puts (record h { last = top }) place heading bytes 0 false) after)) (Write (Walks h top found place) after) in (
@@ -574,7 +574,7 @@ module _ (p : Plan) (after : Program) (v : View) (h : Holder) (r : Right) (a : I
 
     walks_round : IsBetween r (stages.Walks top place successor) → GoesOn p v (block (Walks h top place successor) after)
     walks_round b = let next : ℕ → Program = λ found. cond (eqb found UNCONNECTED) (Write (Walks h top place successor) after)
-        (Do (TurnNext (slot_of place) successor) (λ _. cond (eqb found h.last) (TakeMessage (slot_of place) (λ heading bytes. Write (Puts (record h { last = top }) place heading bytes 0 false) after)) (Write (Walks h top found place) after))) in (
+        (Do (ReverseNext (slot_of place) successor) (λ _. cond (eqb found h.last) (TakeMessage (slot_of place) (λ heading bytes. Write (Puts (record h { last = top }) place heading bytes 0 false) after)) (Write (Walks h top found place) after))) in (
           (r, a.one, inr (top, place, successor, b.stage_is, refl)),
           λ found hand f. by_one p v r (λ r. read_next found v r r.stage) v (next found) a.one (subst (λ x. GoesOn p (read_next found v r x) (next found)) (sym b.stage_is) (read_branch b found (eqb found UNCONNECTED))),
         )

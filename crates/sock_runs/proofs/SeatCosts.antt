@@ -5,11 +5,11 @@ use Rattle.std.specs.Prelude as std
 use Rattle.sock_words.specs.declared.plain.Plan.{Plan}
 use Rattle.sock_model.specs.declared.view.View.{View}
 use Rattle.sock_model.specs.Weights.{total}
-use Rattle.sock_programs.specs.id_rule.specs.Lawful.{id_word}
-use Rattle.sock_programs.specs.Heads.{Head, Exit, Retry, Posts, Unlocks, Locks}
-use Rattle.sock_programs.specs.Programs.{Program, Do, Say, Sent, Rest, TakeMessage, TakeHome, PutHome, PutBytes, AskReady, Write, Aside, Round, Keep, Retries}
-use Rattle.sock_programs.specs.Attempts.{retry}
-use Rattle.sock_programs.specs.Cores.{resolved, still_waiting, next_step}
+use Rattle.seat_programs.specs.id_rule.specs.Lawful.{id_index}
+use Rattle.seat_programs.specs.Heads.{Head, Exit, Retry, Posts, Unlocks, Locks}
+use Rattle.seat_programs.specs.Programs.{Program, Do, Say, Sent, Rest, TakeMessage, TakeHome, PutHome, PutBytes, AskReady, Write, Aside, Round, Keep, Retries}
+use Rattle.seat_programs.specs.Attempts.{retry}
+use Rattle.seat_programs.specs.Cores.{resolved, still_waiting, next_step}
 use Rattle.sock_runs.specs.GoesOn.{GoesOn}
 use Rattle.sock_runs.specs.Lasts.{LastsFor, STALE, attempt_cost, expects, arriving, stale_cost, fresh, fresh_at}
 use Rattle.sock_runs.proofs.IdCosts.{lasts_more}
@@ -28,25 +28,25 @@ arrives_at p v _ next m l = omega arith
 -- the word that a step left is there
 abbrev pub IsThere : List ℕ → std.Option (ℕ × ℕ) → Type 0
 IsThere words None = Unit {0}
-IsThere words (Some y) = slice_index words (id_word y.0) ≡ y.1
+IsThere words (Some y) = slice_index words (id_index y.0) ≡ y.1
 
-one_paid : (words : List ℕ) (y x : ℕ × ℕ) → slice_index words (id_word y.0) ≡ y.1 → stale_cost words x + fresh_at y x ≤ STALE
-one_paid words y x there = by_same ((eqb x.0 y.0) && (eqb x.1 y.1)) refl (eqb (slice_index words (id_word x.0)) x.1) refl
+one_paid : (words : List ℕ) (y x : ℕ × ℕ) → slice_index words (id_index y.0) ≡ y.1 → stale_cost words x + fresh_at y x ≤ STALE
+one_paid words y x there = by_same ((eqb x.0 y.0) && (eqb x.1 y.1)) refl (eqb (slice_index words (id_index x.0)) x.1) refl
   where
-    by_same : (b : Bool) → ((eqb x.0 y.0) && (eqb x.1 y.1)) ≡ b → (s : Bool) → eqb (slice_index words (id_word x.0)) x.1 ≡ s → cond s 0 STALE + cond b STALE 0 ≤ STALE
+    by_same : (b : Bool) → ((eqb x.0 y.0) && (eqb x.1 y.1)) ≡ b → (s : Bool) → eqb (slice_index words (id_index x.0)) x.1 ≡ s → cond s 0 STALE + cond b STALE 0 ≤ STALE
     by_same false other true is = omega arith
     by_same false other false is = omega arith
     by_same true same true is = omega arith
     by_same true same false is = let a = eqb-true x.0 y.0 (and_left (eqb x.0 y.0) (eqb x.1 y.1) same) in let b = eqb-true x.1 y.1 (and_right (eqb x.0 y.0) (eqb x.1 y.1) same) in
-        let here : slice_index words (id_word x.0) ≡ x.1 = ap (λ n. slice_index words (id_word n)) a ∙ (there ∙ sym b) in
-        let never : true ≡ false = sym (eq-eqb (slice_index words (id_word x.0)) x.1 here) ∙ is in cc
+        let here : slice_index words (id_index x.0) ≡ x.1 = ap (λ n. slice_index words (id_index n)) a ∙ (there ∙ sym b) in
+        let never : true ≡ false = sym (eq-eqb (slice_index words (id_index x.0)) x.1 here) ∙ is in cc
 
-some_paid : (words : List ℕ) (y : ℕ × ℕ) (xs : List (ℕ × ℕ)) → slice_index words (id_word y.0) ≡ y.1 → total (stale_cost words) xs + total (fresh_at y) xs ≤ total (λ (x : ℕ × ℕ). STALE) xs
+some_paid : (words : List ℕ) (y : ℕ × ℕ) (xs : List (ℕ × ℕ)) → slice_index words (id_index y.0) ≡ y.1 → total (stale_cost words) xs + total (fresh_at y) xs ≤ total (λ (x : ℕ × ℕ). STALE) xs
 some_paid words y [] there = omega arith
 some_paid words y (x ∷ xs) there = let a = one_paid words y x there in let b = some_paid words y xs there in omega (arith, a, b)
 
 one_small : (words : List ℕ) (x : ℕ × ℕ) → stale_cost words x ≤ STALE
-one_small words x = small (eqb (slice_index words (id_word x.0)) x.1)
+one_small words x = small (eqb (slice_index words (id_index x.0)) x.1)
   where
     small : (s : Bool) → cond s 0 STALE ≤ STALE
     small true = omega arith

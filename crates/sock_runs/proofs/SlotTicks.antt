@@ -10,15 +10,15 @@ use Rattle.sock_words.specs.declared.plain.Plan.{Plan}
 use Rattle.sock_model.specs.declared.home.Home.{Home}
 use Rattle.sock_model.specs.declared.view.View.{View}
 use Rattle.sock_model.specs.Weights.{is_ref, is_known}
-use Rattle.sock_model.specs.Layout.{ref_word}
+use Rattle.sock_model.specs.Layout.{ref_index}
 use Rattle.sock_model.specs.SlotRows.{marks_of, gave_birth, added, back, subbed, recycled}
 use Rattle.sock_model.specs.Lawful.{Lawful}
 use Rattle.sock_steps.proofs.SlotSteps.{claim_law, add_law, sub_law, set_odd_law, recycle_lost_law, free_law, link_law, meet_last_law, wipe_law, code_law}
 use Rattle.sock_steps.proofs.Places.{own_count}
 use Rattle.sock_steps.proofs.Birth.{birth_law, reset_law}
 use Rattle.sock_steps.proofs.End.{recycle_law}
-use Rattle.sock_programs.specs.Calls.{Call, ClaimSlot, GiveBirth, AddRef, SubRef, SetOdd, Recycle, FreeSlot, StoreLink, LoadLink, ResetHead, WipeCode, StoreCode}
-use Rattle.sock_programs.specs.Cores.{word_of, word_after, found_at, words_after}
+use Rattle.seat_programs.specs.Calls.{Call, ClaimSlot, CreateLife, AddRef, SubRef, SetOdd, Recycle, FreeSlot, StoreLink, LoadLink, ResetHead, ClearCode, StoreCode}
+use Rattle.seat_programs.specs.Cores.{word_of, word_after, found_at, words_after}
 use Rattle.sock_runs.specs.Rows.{row, hand_at}
 use Rattle.sock_runs.specs.May.{May}
 use Rattle.sock_runs.proofs.Bounds.{fits, has_room, law}
@@ -33,35 +33,35 @@ module _ (p : Plan) (s : State Home View) (o : Lawful (λ home. home) p s) (i : 
   claims j may = claim_law (λ home. home) p s o i v at j may
 
   pub adds : (id : ℕ) → May p v (AddRef id) → KeepsWord p s i v (AddRef id)
-  adds id may = let j : ℕ = socket_id_slot id in let inside = may.0.0 in let found : ℕ = get_or s.words (ref_word j) 0 in let room = has_room p s o.references j inside in
-      let is : (get_or s.words (ref_word (socket_id_slot id)) 0 + 1) % 2 ^ 64 ≡ get_or s.words (ref_word (socket_id_slot id)) 0 + 1 = omega (arith, room, fits p s o.references j inside) in
+  adds id may = let j : ℕ = socket_id_slot id in let inside = may.0.0 in let found : ℕ = get_or s.words (ref_index j) 0 in let room = has_room p s o.references j inside in
+      let is : (get_or s.words (ref_index (socket_id_slot id)) 0 + 1) % 2 ^ 64 ≡ get_or s.words (ref_index (socket_id_slot id)) 0 + 1 = omega (arith, room, fits p s o.references j inside) in
       let is_life : Bool = eqb (vref_version found) (socket_id_version id) in
-      subst (λ n. Lawful (λ home. home) p (stepped s (ref_word j) n i [] (added j found is_life v) keeps)) is
+      subst (λ n. Lawful (λ home. home) p (stepped s (ref_index j) n i [] (added j found is_life v) keeps)) is
       (add_law (λ home. home) p s o i v at j inside (fits p s o.references j inside) is_life
       (λ e. subst (λ h. 0 < marks_of (is_known h) j v) (sym (eqb-true (vref_version found) (socket_id_version id) e)) may.0.1) may.1)
 
-  pub bears : (j k : ℕ) → May p v (GiveBirth j k) → KeepsWord p s i v (GiveBirth j k)
-  bears j k may = let found : ℕ = get_or s.words (ref_word j) 0 in let room = has_room p s o.references j may.0 in
-      let is : (get_or s.words (ref_word j) 0 + 1) % 2 ^ 64 ≡ get_or s.words (ref_word j) 0 + 1 = omega (arith, room, fits p s o.references j may.0) in
-      subst (λ n. Lawful (λ home. home) p (stepped s (ref_word j) n i [] (gave_birth j found k v) keeps)) is
+  pub bears : (j k : ℕ) → May p v (CreateLife j k) → KeepsWord p s i v (CreateLife j k)
+  bears j k may = let found : ℕ = get_or s.words (ref_index j) 0 in let room = has_room p s o.references j may.0 in
+      let is : (get_or s.words (ref_index j) 0 + 1) % 2 ^ 64 ≡ get_or s.words (ref_index j) 0 + 1 = omega (arith, room, fits p s o.references j may.0) in
+      subst (λ n. Lawful (λ home. home) p (stepped s (ref_index j) n i [] (gave_birth j found k v) keeps)) is
       (birth_law (λ home. home) p s o i v at j may.0 (fits p s o.references j may.0) k may.1)
 
   -- a reference that the seat has is counted
-  pub some_counted : (j : ℕ) → j < p.slots → 0 < marks_of is_ref j v → 0 < vref_nref (get_or s.words (ref_word j) 0)
+  pub some_counted : (j : ℕ) → j < p.slots → 0 < marks_of is_ref j v → 0 < vref_nref (get_or s.words (ref_index j) 0)
   some_counted j inside there = omega (arith, (law p s o.references j inside).counted, own_count s i v at is_ref j)
 
   pub subs : (j : ℕ) → May p v (SubRef j) → KeepsWord p s i v (SubRef j)
-  subs j may = let found : ℕ = get_or s.words (ref_word j) 0 in
-      let is : (get_or s.words (ref_word j) 0 + (2 ^ 64 - 1)) % 2 ^ 64 ≡ get_or s.words (ref_word j) 0 - 1 = omega (arith, some_counted j may.0 may.1, fits p s o.references j may.0) in
-      subst (λ n. Lawful (λ home. home) p (stepped s (ref_word j) n i [] (subbed j found (back j found v) v) keeps)) is
+  subs j may = let found : ℕ = get_or s.words (ref_index j) 0 in
+      let is : (get_or s.words (ref_index j) 0 + (2 ^ 64 - 1)) % 2 ^ 64 ≡ get_or s.words (ref_index j) 0 - 1 = omega (arith, some_counted j may.0 may.1, fits p s o.references j may.0) in
+      subst (λ n. Lawful (λ home. home) p (stepped s (ref_index j) n i [] (subbed j found (back j found v) v) keeps)) is
       (sub_law (λ home. home) p s o i v at j may.0 (fits p s o.references j may.0) may.1 may.2 may.3)
 
   pub fails : (j : ℕ) → May p v (SetOdd j) → KeepsWord p s i v (SetOdd j)
   fails j may = set_odd_law (λ home. home) p s o i v at j may.0 (fits p s o.references j may.0) may.1.0 may.1.1 may.2
 
   pub recycles : (j from : ℕ) → May p v (Recycle j from) → KeepsWord p s i v (Recycle j from)
-  recycles j from may = let found : ℕ = get_or s.words (ref_word j) 0 in
-      let P : Bool → Type 0 = λ b. Lawful (λ home. home) p (stepped s (ref_word j) (cond b ((vref_version from + 1) * 4294967296) found) i [] (recycled j from found v) keeps) in
+  recycles j from may = let found : ℕ = get_or s.words (ref_index j) 0 in
+      let P : Bool → Type 0 = λ b. Lawful (λ home. home) p (stepped s (ref_index j) (cond b ((vref_version from + 1) * 4294967296) found) i [] (recycled j from found v) keeps) in
       dite (ℕ_discrete found from)
       (λ e. subst P (sym (eq-eqb found from e)) (recycle_law (λ home. home) p s o i v at j may.0 (fits p s o.references j may.0) from e may.2 may.3 may.1))
       (λ ne. subst P (sym (ne_eqb found from ne)) (recycle_lost_law (λ home. home) p s o i v at j may.0 (fits p s o.references j may.0) from ne may.3 may.1))
@@ -78,7 +78,7 @@ module _ (p : Plan) (s : State Home View) (o : Lawful (λ home. home) p s) (i : 
   pub resets : (j k : ℕ) → May p v (ResetHead j k) → KeepsWord p s i v (ResetHead j k)
   resets j k may = reset_law (λ home. home) p s o i v at j may.0 k may.1
 
-  pub wipes : (j k : ℕ) → May p v (WipeCode j k) → KeepsWord p s i v (WipeCode j k)
+  pub wipes : (j k : ℕ) → May p v (ClearCode j k) → KeepsWord p s i v (ClearCode j k)
   wipes j k may = wipe_law (λ home. home) p s o i v at j may.0 k may.1
 
   pub codes : (j h d : ℕ) → May p v (StoreCode j h d) → KeepsWord p s i v (StoreCode j h d)

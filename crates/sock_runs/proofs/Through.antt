@@ -5,16 +5,16 @@ use Rattle.sock_words.specs.Words.{socket_id_version, socket_id_slot, vref_versi
 use Rattle.sock_words.specs.declared.outcome.Outcome.{Outcome}
 use Rattle.sock_words.specs.declared.outcome.Outcome.TheVariants.{Gone, Held, Freed, Kept}
 use Rattle.sock_words.specs.declared.plain.Plan.{Plan}
-use Rattle.sock_programs.specs.sock_io.specs.declared.link.Put.{Put}
-use Rattle.sock_programs.specs.sock_io.specs.declared.link.Ready.{Ready}
+use Rattle.seat_programs.specs.sock_io.specs.declared.link.Put.{Put}
+use Rattle.seat_programs.specs.sock_io.specs.declared.link.Ready.{Ready}
 use Rattle.sock_model.specs.declared.chain.Heading.{Heading}
 use Rattle.sock_steps.proofs.Quiet.{either_way}
-use Rattle.sock_programs.specs.Calls.{Call, GiveBirth, StoreOpen, AddRef, SubRef, SetOdd, Recycle, FreeSlot, LoadLink, StoreCode, LoadName, LoadOpen, TakeLink, FinishLink, PutLink}
-use Rattle.sock_programs.specs.Writings.{Writing}
-use Rattle.sock_programs.specs.Asides.{Step, Found}
-use Rattle.sock_programs.specs.Heads.{Head, Exit, Retry, Opens}
-use Rattle.sock_programs.specs.Programs.{Program, Do, Say, Sent, Rest, TakeMessage, TakeHome, PutHome, PutBytes, AskReady, Write, Aside, Round, Keep, Retries, LAST_VERSION, recycle, release, address, reach, set_failed, fail, fail_outcome, hold, drop_held}
-use Rattle.sock_programs.specs.Cores.{next_step}
+use Rattle.seat_programs.specs.Calls.{Call, CreateLife, StoreOpen, AddRef, SubRef, SetOdd, Recycle, FreeSlot, LoadLink, StoreCode, LoadName, LoadOpen, TakeLink, FinishLink, PutLink}
+use Rattle.seat_programs.specs.Writings.{Writing}
+use Rattle.seat_programs.specs.Asides.{Step, Found}
+use Rattle.seat_programs.specs.Heads.{Head, Exit, Retry, Opens}
+use Rattle.seat_programs.specs.Programs.{Program, Do, Say, Sent, Rest, TakeMessage, TakeHome, PutHome, PutBytes, AskReady, Write, Aside, Round, Keep, Retries, LAST_VERSION, recycle, release, address, reach, set_failed, fail, fail_outcome, hold, drop_held}
+use Rattle.seat_programs.specs.Cores.{next_step}
 use Rattle.sock_runs.proofs.Cases.{ComesNext}
 use Rattle.sock_runs.proofs.Notes.{bears}
 use Rattle.sock_runs.proofs.Records.{stores, loads, awaits, Records}
@@ -74,7 +74,7 @@ records_passes left = record {
 }
   where
     plain : (left : ℕ → Bool) (call : Call) (next : ℕ → Program) → stores call ≡ none → bears call ≡ none → ((found : ℕ) → Records left (next found)) → Records left (Do call next)
-    plain left (GiveBirth i k) next s b r = absurd (some-ne-none i b)
+    plain left (CreateLife i k) next s b r = absurd (some-ne-none i b)
     plain left (StoreOpen o w) next s b r = absurd (some-ne-none (o, w) s)
     plain left call next s b r = r
 

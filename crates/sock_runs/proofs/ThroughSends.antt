@@ -2,18 +2,18 @@
 use Rattle.std.proofs.Common.{ℕ, zero, suc, ◌+◌, ◌-◌, ◌/◌, ◌%◌, ◌==◌, nat_lt, nat_le, true, false, cond, List, length, drop, refl}
 use Rattle.sock_words.specs.Words.{socket_id_version, socket_id_slot, vref_version}
 use Rattle.sock_words.specs.declared.outcome.Outcome.TheVariants.{Unopened, Gone, Full}
-use Rattle.sock_programs.specs.sock_io.specs.declared.link.Put.{Put}
-use Rattle.sock_programs.specs.sock_io.specs.declared.link.Put.TheVariants as puts
-use Rattle.sock_programs.specs.sock_io.specs.declared.link.Ready.{Ready}
-use Rattle.sock_programs.specs.sock_io.specs.declared.link.Ready.TheVariants as asks
+use Rattle.seat_programs.specs.sock_io.specs.declared.link.Put.{Put}
+use Rattle.seat_programs.specs.sock_io.specs.declared.link.Put.TheVariants as puts
+use Rattle.seat_programs.specs.sock_io.specs.declared.link.Ready.{Ready}
+use Rattle.seat_programs.specs.sock_io.specs.declared.link.Ready.TheVariants as asks
 use Rattle.sock_model.specs.declared.chain.Heading.{Heading}
 use Rattle.sock_model.specs.Entries.{ticket_of, slot_of, generation_of}
 use Rattle.sock_model.specs.Memory.{IDLE, UNCONNECTED}
 use Rattle.sock_steps.proofs.Quiet.{either_way}
-use Rattle.sock_programs.specs.Calls.{LookWord, FindLink, LoadCode, ClaimRequest, PutMessage, Unconnect, SwapHead, Connect, EmptyHead, ReadNext, TurnNext, FreeRequest, StorePlace, DropPlace}
-use Rattle.sock_programs.specs.Writings.{Holder, Writing, Puts, Waits, Empties, Walks}
-use Rattle.sock_programs.specs.Programs.{Program, Sent, TakeMessage, Write, NO_SOCKET, LAST_GENERATION, release, address, set_failed, end_open}
-use Rattle.sock_programs.specs.Sends.{freed, one_more, passed_telling, tell_drop, placed, dropped, link_failed, put_answered, ready_answered, block, first_put, write_link, heading_of, accept, claim_from, start, send}
+use Rattle.seat_programs.specs.Calls.{LookWord, FindLink, LoadCode, ClaimRequest, PutMessage, Unconnect, SwapHead, Connect, EmptyHead, ReadNext, ReverseNext, FreeRequest, StorePlace, DropPlace}
+use Rattle.seat_programs.specs.Writings.{Holder, Writing, Puts, Waits, Empties, Walks}
+use Rattle.seat_programs.specs.Programs.{Program, Sent, TakeMessage, Write, NO_SOCKET, LAST_GENERATION, release, address, set_failed, end_open}
+use Rattle.seat_programs.specs.Sends.{freed, one_more, passed_telling, tell_drop, placed, dropped, link_failed, put_answered, ready_answered, block, first_put, write_link, heading_of, accept, claim_from, start, send}
 use Rattle.sock_runs.proofs.Through.{Passes, PassesOpens, through_release, through_address, through_reach, through_set_failed}
 use Rattle.sock_runs.proofs.ThroughLoops.{through_post}
 
@@ -56,7 +56,7 @@ module _ (G : Program → Type 0) (g : Passes G) where
   through_block (Empties h) next after = g.puts_home h.link h.places _ (g.step (EmptyHead (socket_id_slot h.id) h.last) _ refl refl refl (λ found. either_way (found == h.last) _ _ G after
       (g.home h.link _ (λ places. g.write (Walks (record h { places = places }) found found 0) next after))))
   through_block (Walks h top at after_) next after = g.step (ReadNext (slot_of at)) _ refl refl refl (λ found. either_way (found == UNCONNECTED) _ _ G (g.write (Walks h top at after_) next after)
-      (g.step (TurnNext (slot_of at) after_) _ refl refl refl (λ _. either_way (found == h.last) _ _ G
+      (g.step (ReverseNext (slot_of at) after_) _ refl refl refl (λ _. either_way (found == h.last) _ _ G
       (g.message (slot_of at) _ (λ heading bytes. g.write (Puts (record h { last = top }) at heading bytes 0 false) next after)) (g.write (Walks h top found at) next after))))
 
   -- a message that is sent

@@ -10,10 +10,10 @@ use Rattle.sock_model.specs.declared.home.Home.TheVariants.{Link, Message}
 use Rattle.sock_model.specs.declared.view.View.{View}
 use Rattle.sock_model.specs.declared.view.Hand.{Hand}
 use Rattle.sock_model.specs.Lawful.{Lawful}
-use Rattle.sock_programs.specs.Calls.{Call, ClaimSlot, GiveBirth, AddRef, SubRef, SetOdd, Recycle, FreeSlot, StoreLink, LoadLink, ResetHead, WipeCode, StoreCode, StoreName, LoadName, StoreOpen, LoadOpen, TakeLink, FinishLink, PutLink, LookWord, FindLink, LoadCode, ClaimRequest, PutMessage, Unconnect, SwapHead, Connect, EmptyHead, ReadNext, TurnNext, FreeRequest, StorePlace, DropPlace}
-use Rattle.sock_programs.specs.Programs.{Program, Do}
-use Rattle.sock_programs.specs.Cores.{Core, SeatState, word_of, word_after, found_at, words_after, homes_after, hand_after, first_of, stepped}
-use Rattle.sock_programs.specs.Ticks.{Moment, IsAnswered, ticked}
+use Rattle.seat_programs.specs.Calls.{Call, ClaimSlot, CreateLife, AddRef, SubRef, SetOdd, Recycle, FreeSlot, StoreLink, LoadLink, ResetHead, ClearCode, StoreCode, StoreName, LoadName, StoreOpen, LoadOpen, TakeLink, FinishLink, PutLink, LookWord, FindLink, LoadCode, ClaimRequest, PutMessage, Unconnect, SwapHead, Connect, EmptyHead, ReadNext, ReverseNext, FreeRequest, StorePlace, DropPlace}
+use Rattle.seat_programs.specs.Programs.{Program, Do}
+use Rattle.seat_programs.specs.Cores.{Core, SeatState, word_of, word_after, found_at, words_after, homes_after, hand_after, first_of, stepped}
+use Rattle.seat_programs.specs.Ticks.{Moment, IsAnswered, ticked}
 use Rattle.sock_runs.specs.Rows.{row, hand_at}
 use Rattle.sock_runs.specs.May.{May}
 use Rattle.sock_runs.specs.GoesOn.{GoesOn}
@@ -41,7 +41,7 @@ module _ (p : Plan) (c : Core) (vs : List View) (o : Lawful (λ home. home) p (s
   -- the rule holds behind the step
   keeps_rule : (call : Call) → May p v call → Lawful (λ home. home) p record { words = words_after c.words (word_of p call) (word_after call (found call)); homes = homes_after p call hand c.homes; views = set vs i (after call) }
   keeps_rule (ClaimSlot j) may = slots.claims p (state c vs) o i v at j may
-  keeps_rule (GiveBirth j k) may = slots.bears p (state c vs) o i v at j k may
+  keeps_rule (CreateLife j k) may = slots.bears p (state c vs) o i v at j k may
   keeps_rule (AddRef id) may = slots.adds p (state c vs) o i v at id may
   keeps_rule (SubRef j) may = slots.subs p (state c vs) o i v at j may
   keeps_rule (SetOdd j) may = slots.fails p (state c vs) o i v at j may
@@ -50,7 +50,7 @@ module _ (p : Plan) (c : Core) (vs : List View) (o : Lawful (λ home. home) p (s
   keeps_rule (StoreLink j k) may = slots.links p (state c vs) o i v at j k may
   keeps_rule (LoadLink j w) may = slots.meets p (state c vs) o i v at j w may
   keeps_rule (ResetHead j k) may = slots.resets p (state c vs) o i v at j k may
-  keeps_rule (WipeCode j k) may = slots.wipes p (state c vs) o i v at j k may
+  keeps_rule (ClearCode j k) may = slots.wipes p (state c vs) o i v at j k may
   keeps_rule (StoreCode j h d) may = slots.codes p (state c vs) o i v at j h d may
   keeps_rule (StoreName n w) may = names.store_names p (state c vs) o i v at n w may
   keeps_rule (LoadName n) may = names.load_names p (state c vs) o i v at n may
@@ -69,7 +69,7 @@ module _ (p : Plan) (c : Core) (vs : List View) (o : Lawful (λ home. home) p (s
   keeps_rule (Connect q before) may = chains.connects p (state c vs) o i v at q before may
   keeps_rule (EmptyHead j last) may = chains.empties p (state c vs) o i v at j last may
   keeps_rule (ReadNext q) may = chains.reads_next p (state c vs) o i v at q may
-  keeps_rule (TurnNext q value) may = chains.turns_next p (state c vs) o i v at q value may
+  keeps_rule (ReverseNext q value) may = chains.turns_next p (state c vs) o i v at q value may
   keeps_rule (FreeRequest q g) may = chains.frees_request p (state c vs) o i v at q g may
   keeps_rule (StorePlace l k n) may = chains.stores_place p (state c vs) o i v at l k n may
   keeps_rule (DropPlace l k n) may = chains.drops_place p (state c vs) o i v at l k n may

@@ -7,13 +7,13 @@ use mathlib.Core.Option.{Option, some, none, some-injective, some-ne-none}
 use lib.ListN.{get_elem?}
 use Rattle.sock_words.specs.declared.kind.Kind.{Kind}
 use Rattle.sock_words.specs.declared.plain.Plan.{Plan}
-use Rattle.sock_programs.specs.Writings.{Puts, Waits, Empties, Walks}
-use Rattle.sock_programs.specs.Programs.{Program, Do, Say, Sent, Rest, TakeMessage, TakeHome, PutHome, PutBytes, AskReady, Write, Aside, Round, Keep, Retries}
-use Rattle.sock_programs.specs.Asides.{TakeBytes}
-use Rattle.sock_programs.specs.Heads.{Reads, Discards}
-use Rattle.sock_programs.specs.Cores.{Core, SeatState}
-use Rattle.sock_programs.specs.Ticks.{Unasked, quiet, tick_with, ticked, run, IsAnswer, AreAnswered}
-use Rattle.sock_programs.specs.Runs.{kind_in, IsAtRest, IsSettled}
+use Rattle.seat_programs.specs.Writings.{Puts, Waits, Empties, Walks}
+use Rattle.seat_programs.specs.Programs.{Program, Do, Say, Sent, Rest, TakeMessage, TakeHome, PutHome, PutBytes, AskReady, Write, Aside, Round, Keep, Retries}
+use Rattle.seat_programs.specs.Asides.{TakeBytes}
+use Rattle.seat_programs.specs.Heads.{Reads, Discards}
+use Rattle.seat_programs.specs.Cores.{Core, SeatState}
+use Rattle.seat_programs.specs.Ticks.{Unasked, quiet, tick_with, ticked, run, IsAnswer, AreAnswered}
+use Rattle.seat_programs.specs.Runs.{kind_in, IsAtRest, IsSettled}
 use Rattle.sock_runs.proofs.Along.{place_inside}
 
 -- whoever asks its link isn't at rest, and stays as it is where the link isn't asked

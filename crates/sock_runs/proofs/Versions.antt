@@ -8,15 +8,15 @@ use lib.Seq.{set-get_or}
 use Rattle.sock_words.specs.Words.{socket_id_version, socket_id_slot, vref_version}
 use Rattle.sock_words.specs.declared.plain.Plan.{Plan}
 use Rattle.sock_model.specs.declared.view.View.{View}
-use Rattle.sock_model.specs.Layout.{tag_word, ref_word, link_word, head_word, code_word, name_word, open_word, request_word, next_word, place_word}
+use Rattle.sock_model.specs.Layout.{tag_index, ref_index, link_index, head_index, code_index, name_index, open_index, request_index, next_index, place_index}
 use Rattle.sock_model.specs.Deliveries.{place_value}
 use Rattle.sock_model.specs.Weights.{is_born, is_known}
 use Rattle.sock_model.specs.Slots.{count, live}
 use Rattle.sock_model.specs.References.{slot_facts}
-use Rattle.sock_steps.specs.slot_laws.proofs.Numbers.{life_is, or-even, or-odd}
+use Rattle.sock_steps.specs.slot_steps.proofs.Numbers.{life_is, or-even, or-odd}
 use Rattle.sock_steps.proofs.Places.{own_count}
-use Rattle.sock_programs.specs.Calls.{Call, ClaimSlot, GiveBirth, AddRef, SubRef, SetOdd, Recycle, FreeSlot, StoreLink, LoadLink, ResetHead, WipeCode, StoreCode, StoreName, LoadName, StoreOpen, LoadOpen, TakeLink, FinishLink, PutLink, LookWord, FindLink, LoadCode, ClaimRequest, PutMessage, Unconnect, SwapHead, Connect, EmptyHead, ReadNext, TurnNext, FreeRequest, StorePlace, DropPlace}
-use Rattle.sock_programs.specs.Cores.{Core, word_of, word_after, found_at, words_after}
+use Rattle.seat_programs.specs.Calls.{Call, ClaimSlot, CreateLife, AddRef, SubRef, SetOdd, Recycle, FreeSlot, StoreLink, LoadLink, ResetHead, ClearCode, StoreCode, StoreName, LoadName, StoreOpen, LoadOpen, TakeLink, FinishLink, PutLink, LookWord, FindLink, LoadCode, ClaimRequest, PutMessage, Unconnect, SwapHead, Connect, EmptyHead, ReadNext, ReverseNext, FreeRequest, StorePlace, DropPlace}
+use Rattle.seat_programs.specs.Cores.{Core, word_of, word_after, found_at, words_after}
 use Rattle.sock_runs.specs.Rows.{hand_at}
 use Rattle.sock_runs.specs.May.{May, Finds}
 use Rattle.sock_runs.specs.Sound.{state, Sound}
@@ -25,13 +25,13 @@ use Rattle.sock_runs.proofs.Founds.{finds}
 
 module _ (p : Plan) (c : Core) (vs : List View) (sound : Sound p c vs) (i : ℕ) (v : View) (at : get_elem? vs i ≡ some v) where
   abbrev pub version : ℕ → ℕ
-  version j = vref_version (get_or c.words (ref_word j) 0)
+  version j = vref_version (get_or c.words (ref_index j) 0)
 
   abbrev pub after : Call → List ℕ
   after call = words_after c.words (word_of p call) (word_after call (found_at c.words (word_of p call)))
 
   abbrev pub version_after : Call → ℕ → ℕ
-  version_after call j = vref_version (get_or (after call) (ref_word j) 0)
+  version_after call j = vref_version (get_or (after call) (ref_index j) 0)
 
   abbrev GoesOn : Call → ℕ → Type 0
   GoesOn call j = version j ≤ version_after call j
@@ -40,19 +40,19 @@ module _ (p : Plan) (c : Core) (vs : List View) (sound : Sound p c vs) (i : ℕ)
   found call may = finds p (state c vs) sound.lawful i v at sound.limits.slots call may
 
   -- another word
-  other : (j x w : ℕ) → x ≢ ref_word j → vref_version (get_or c.words (ref_word j) 0) ≤ vref_version (get_or (set c.words x w) (ref_word j) 0)
-  other j x w far = let e = ap vref_version (get_or-set_other c.words x (ref_word j) w 0 (λ e. far (sym e))) in omega (arith, e)
+  other : (j x w : ℕ) → x ≢ ref_index j → vref_version (get_or c.words (ref_index j) 0) ≤ vref_version (get_or (set c.words x w) (ref_index j) 0)
+  other j x w far = let e = ap vref_version (get_or-set_other c.words x (ref_index j) w 0 (λ e. far (sym e))) in omega (arith, e)
 
   -- this word, or another slot's
-  own : (j n w : ℕ) → j < p.slots → vref_version (get_or c.words (ref_word n) 0) ≤ vref_version w → vref_version (get_or c.words (ref_word j) 0) ≤ vref_version (get_or (set c.words (ref_word n) w) (ref_word j) 0)
+  own : (j n w : ℕ) → j < p.slots → vref_version (get_or c.words (ref_index n) 0) ≤ vref_version w → vref_version (get_or c.words (ref_index j) 0) ≤ vref_version (get_or (set c.words (ref_index n) w) (ref_index j) 0)
   own j n w inside le = dite (ℕ_discrete j n)
-      (λ e. let same : get_or (set c.words (ref_word n) w) (ref_word j) 0 ≡ w = ap (λ k. get_or (set c.words (ref_word n) w) (ref_word k) 0) e ∙ get_or-set_same c.words (ref_word n) w 0 (omega (arith, inside, e, sound.lawful.references.sized)) in
-      let a = ap vref_version same in let b = ap (λ k. vref_version (get_or c.words (ref_word k) 0)) e in omega (arith, le, a, b))
-      (λ far. other j (ref_word n) w (λ e. far (omega (arith, e))))
+      (λ e. let same : get_or (set c.words (ref_index n) w) (ref_index j) 0 ≡ w = ap (λ k. get_or (set c.words (ref_index n) w) (ref_index k) 0) e ∙ get_or-set_same c.words (ref_index n) w 0 (omega (arith, inside, e, sound.lawful.references.sized)) in
+      let a = ap vref_version same in let b = ap (λ k. vref_version (get_or c.words (ref_index k) 0)) e in omega (arith, le, a, b))
+      (λ far. other j (ref_index n) w (λ e. far (omega (arith, e))))
 
   -- a word that is loaded
-  loaded : (j x : ℕ) → vref_version (get_or c.words (ref_word j) 0) ≤ vref_version (get_or (set c.words x (get_or c.words x 0)) (ref_word j) 0)
-  loaded j x = let e = ap (λ l. vref_version (get_or l (ref_word j) 0)) (set-get_or c.words x 0) in omega (arith, e)
+  loaded : (j x : ℕ) → vref_version (get_or c.words (ref_index j) 0) ≤ vref_version (get_or (set c.words x (get_or c.words x 0)) (ref_index j) 0)
+  loaded j x = let e = ap (λ l. vref_version (get_or l (ref_index j) 0)) (set-get_or c.words x 0) in omega (arith, e)
 
   set_version : (w : ℕ) → vref_version w ≤ vref_version (bit_or w 4294967296)
   set_version w = dite (ℕ_discrete (w / 4294967296 % 2) 0) (λ even. let e = ap vref_version (or-even w even) in omega (arith, e)) (λ no_. let e = ap vref_version (or-odd w (omega (arith, no_))) in omega (arith, e))
@@ -66,39 +66,39 @@ module _ (p : Plan) (c : Core) (vs : List View) (sound : Sound p c vs) (i : ℕ)
 
   -- a version never goes back
   pub versions_on : (call : Call) → May p v call → (j : ℕ) → j < p.slots → GoesOn call j
-  versions_on (ClaimSlot n) may j inside = other j (tag_word n) 1 (λ e. omega (arith, e))
-  versions_on (GiveBirth n k) may j inside = let f = (found (GiveBirth n k) may).0 in own j n (get_or c.words (ref_word n) 0 + 1) inside (omega (arith, f))
-  versions_on (AddRef id) may j inside = let f = found (AddRef id) may in own j (socket_id_slot id) (get_or c.words (ref_word (socket_id_slot id)) 0 + 1) inside (omega (arith, f))
-  versions_on (SubRef n) may j inside = let f = (found (SubRef n) may).0 in let m = may.1 in own j n (get_or c.words (ref_word n) 0 - 1) inside (omega (arith, f, m))
-  versions_on (SetOdd n) may j inside = own j n (bit_or (get_or c.words (ref_word n) 0) 4294967296) inside (set_version (get_or c.words (ref_word n) 0))
-  versions_on (Recycle n from) may j inside = own j n (word_after (Recycle n from) (get_or c.words (ref_word n) 0)) inside (recycled_version (get_or c.words (ref_word n) 0) from)
-  versions_on (FreeSlot n) may j inside = other j (tag_word n) 0 (λ e. omega (arith, e))
-  versions_on (StoreLink n k) may j inside = other j (link_word n) k (λ e. omega (arith, e))
-  versions_on (LoadLink n w) may j inside = loaded j (link_word n)
-  versions_on (ResetHead n k) may j inside = other j (head_word n) (word_after (ResetHead n k) (get_or c.words (head_word n) 0)) (λ e. omega (arith, e))
-  versions_on (WipeCode n k) may j inside = other j (code_word n) 0 (λ e. omega (arith, e))
-  versions_on (StoreCode n h d) may j inside = other j (code_word n) d (λ e. omega (arith, e))
-  versions_on (StoreName n w) may j inside = other j (name_word p n) w (λ e. omega (arith, e, inside))
-  versions_on (LoadName n) may j inside = loaded j (name_word p n)
-  versions_on (StoreOpen n w) may j inside = other j (open_word p n) w (λ e. omega (arith, e, inside))
-  versions_on (LoadOpen n) may j inside = loaded j (open_word p n)
+  versions_on (ClaimSlot n) may j inside = other j (tag_index n) 1 (λ e. omega (arith, e))
+  versions_on (CreateLife n k) may j inside = let f = (found (CreateLife n k) may).0 in own j n (get_or c.words (ref_index n) 0 + 1) inside (omega (arith, f))
+  versions_on (AddRef id) may j inside = let f = found (AddRef id) may in own j (socket_id_slot id) (get_or c.words (ref_index (socket_id_slot id)) 0 + 1) inside (omega (arith, f))
+  versions_on (SubRef n) may j inside = let f = (found (SubRef n) may).0 in let m = may.1 in own j n (get_or c.words (ref_index n) 0 - 1) inside (omega (arith, f, m))
+  versions_on (SetOdd n) may j inside = own j n (bit_or (get_or c.words (ref_index n) 0) 4294967296) inside (set_version (get_or c.words (ref_index n) 0))
+  versions_on (Recycle n from) may j inside = own j n (word_after (Recycle n from) (get_or c.words (ref_index n) 0)) inside (recycled_version (get_or c.words (ref_index n) 0) from)
+  versions_on (FreeSlot n) may j inside = other j (tag_index n) 0 (λ e. omega (arith, e))
+  versions_on (StoreLink n k) may j inside = other j (link_index n) k (λ e. omega (arith, e))
+  versions_on (LoadLink n w) may j inside = loaded j (link_index n)
+  versions_on (ResetHead n k) may j inside = other j (head_index n) (word_after (ResetHead n k) (get_or c.words (head_index n) 0)) (λ e. omega (arith, e))
+  versions_on (ClearCode n k) may j inside = other j (code_index n) 0 (λ e. omega (arith, e))
+  versions_on (StoreCode n h d) may j inside = other j (code_index n) d (λ e. omega (arith, e))
+  versions_on (StoreName n w) may j inside = other j (name_index p n) w (λ e. omega (arith, e, inside))
+  versions_on (LoadName n) may j inside = loaded j (name_index p n)
+  versions_on (StoreOpen n w) may j inside = other j (open_index p n) w (λ e. omega (arith, e, inside))
+  versions_on (LoadOpen n) may j inside = loaded j (open_index p n)
   versions_on (TakeLink k) may j inside = omega arith
   versions_on (FinishLink k) may j inside = omega arith
   versions_on (PutLink k) may j inside = omega arith
-  versions_on (LookWord id) may j inside = loaded j (ref_word (socket_id_slot id))
-  versions_on (FindLink n h) may j inside = loaded j (link_word n)
-  versions_on (LoadCode n h) may j inside = loaded j (code_word n)
-  versions_on (ClaimRequest id q) may j inside = other j (request_word p q) (word_after (ClaimRequest id q) (get_or c.words (request_word p q) 0)) (λ e. omega (arith, e, inside))
+  versions_on (LookWord id) may j inside = loaded j (ref_index (socket_id_slot id))
+  versions_on (FindLink n h) may j inside = loaded j (link_index n)
+  versions_on (LoadCode n h) may j inside = loaded j (code_index n)
+  versions_on (ClaimRequest id q) may j inside = other j (request_index p q) (word_after (ClaimRequest id q) (get_or c.words (request_index p q) 0)) (λ e. omega (arith, e, inside))
   versions_on (PutMessage q heading bytes) may j inside = omega arith
-  versions_on (Unconnect q) may j inside = other j (next_word p q) (word_after (Unconnect q) 0) (λ e. omega (arith, e, inside))
-  versions_on (SwapHead n mine) may j inside = other j (head_word n) mine (λ e. omega (arith, e))
-  versions_on (Connect q before) may j inside = other j (next_word p q) before (λ e. omega (arith, e, inside))
-  versions_on (EmptyHead n last) may j inside = other j (head_word n) (word_after (EmptyHead n last) (get_or c.words (head_word n) 0)) (λ e. omega (arith, e))
-  versions_on (ReadNext q) may j inside = loaded j (next_word p q)
-  versions_on (TurnNext q value) may j inside = other j (next_word p q) value (λ e. omega (arith, e, inside))
-  versions_on (FreeRequest q g) may j inside = other j (request_word p q) (2 * (g + 1)) (λ e. omega (arith, e, inside))
-  versions_on (StorePlace l k n) may j inside = other j (place_word p l) (place_value false k n) (λ e. omega (arith, e, inside))
-  versions_on (DropPlace l k n) may j inside = other j (place_word p l) (place_value true k n) (λ e. omega (arith, e, inside))
+  versions_on (Unconnect q) may j inside = other j (next_index p q) (word_after (Unconnect q) 0) (λ e. omega (arith, e, inside))
+  versions_on (SwapHead n mine) may j inside = other j (head_index n) mine (λ e. omega (arith, e))
+  versions_on (Connect q before) may j inside = other j (next_index p q) before (λ e. omega (arith, e, inside))
+  versions_on (EmptyHead n last) may j inside = other j (head_index n) (word_after (EmptyHead n last) (get_or c.words (head_index n) 0)) (λ e. omega (arith, e))
+  versions_on (ReadNext q) may j inside = loaded j (next_index p q)
+  versions_on (ReverseNext q value) may j inside = other j (next_index p q) value (λ e. omega (arith, e, inside))
+  versions_on (FreeRequest q g) may j inside = other j (request_index p q) (2 * (g + 1)) (λ e. omega (arith, e, inside))
+  versions_on (StorePlace l k n) may j inside = other j (place_index p l) (place_value false k n) (λ e. omega (arith, e, inside))
+  versions_on (DropPlace l k n) may j inside = other j (place_index p l) (place_value true k n) (λ e. omega (arith, e, inside))
 
   -- a life that was made is no later one than the slot's
   pub born_low : (j h : ℕ) → j < p.slots → 0 < count (is_born h) (slot_facts (state c vs) j) → (h ≤ version j) × (h % 2 ≡ 0)
@@ -107,11 +107,11 @@ module _ (p : Plan) (c : Core) (vs : List View) (sound : Sound p c vs) (i : ℕ)
 
   -- whoever sets a slot odd leaves each life made there behind
   pub odd_past : (j h : ℕ) → j < p.slots → 0 < count (is_born h) (slot_facts (state c vs) j) → h < version_after (SetOdd j) j
-  odd_past j h inside born = let b = born_low j h inside born in let low = b.0 in let even = b.1 in let w : ℕ = get_or c.words (ref_word j) 0 in
-      let same = ap vref_version (get_or-set_same c.words (ref_word j) (bit_or (get_or c.words (ref_word j) 0) 4294967296) 0 (omega (arith, inside, sound.lawful.references.sized))) in
-      dite (ℕ_discrete (get_or c.words (ref_word j) 0 / 4294967296 % 2) 0)
-      (λ is. let e = ap vref_version (or-even (get_or c.words (ref_word j) 0) is) in omega (arith, e, same, low))
-      (λ no_. let e = ap vref_version (or-odd (get_or c.words (ref_word j) 0) (omega (arith, no_))) in omega (arith, e, same, low, even, no_))
+  odd_past j h inside born = let b = born_low j h inside born in let low = b.0 in let even = b.1 in let w : ℕ = get_or c.words (ref_index j) 0 in
+      let same = ap vref_version (get_or-set_same c.words (ref_index j) (bit_or (get_or c.words (ref_index j) 0) 4294967296) 0 (omega (arith, inside, sound.lawful.references.sized))) in
+      dite (ℕ_discrete (get_or c.words (ref_index j) 0 / 4294967296 % 2) 0)
+      (λ is. let e = ap vref_version (or-even (get_or c.words (ref_index j) 0) is) in omega (arith, e, same, low))
+      (λ no_. let e = ap vref_version (or-odd (get_or c.words (ref_index j) 0) (omega (arith, no_))) in omega (arith, e, same, low, even, no_))
 
   -- who finds another version than that of a life that it knows finds a later one
   pub other_past : (id : ℕ) → May p v (AddRef id) → version (socket_id_slot id) ≢ socket_id_version id → socket_id_version id < version_after (AddRef id) (socket_id_slot id)

@@ -9,40 +9,40 @@ use lib.ListN.{get_elem?}
 use lib.Seq.{set-get_or}
 use Rattle.atomic_table.proofs.Lists.{set_again}
 use Rattle.sock_words.specs.declared.plain.Plan.{Plan}
-use Rattle.sock_programs.specs.sock_io.specs.declared.link.Ready.TheVariants.{NotYet}
+use Rattle.seat_programs.specs.sock_io.specs.declared.link.Ready.TheVariants.{NotYet}
 use Rattle.sock_model.specs.declared.chain.Entry.{Entry}
 use Rattle.sock_model.specs.declared.chain.Loose.{Loose}
 use Rattle.sock_model.specs.declared.chain.Right.{Right}
 use Rattle.sock_model.specs.declared.chain.Stage.TheVariants as stages
 use Rattle.sock_model.specs.declared.view.View.{View}
-use Rattle.sock_model.specs.Layout.{next_word}
+use Rattle.sock_model.specs.Layout.{next_index}
 use Rattle.sock_model.specs.Entries.{slot_of, on, nth}
 use Rattle.sock_model.specs.Memory.{Memory, UNCONNECTED}
 use Rattle.sock_model.specs.Tokens.{Tokens}
 use Rattle.sock_model.specs.Writing.{Held, InStage, OnWalk, Waits}
 use Rattle.sock_model.specs.Chains.{Chains}
 use Rattle.sock_model.specs.Reads.{tokens, loose_at}
-use Rattle.sock_steps.specs.chain_laws.proofs.Lists.{nth_some, at_some}
-use Rattle.sock_steps.specs.chain_laws.proofs.Frames.{in_size}
-use Rattle.sock_steps.specs.chain_laws.proofs.Heads.{held_of, slot_is}
+use Rattle.sock_steps.specs.chain_steps.proofs.Lists.{nth_some, at_some}
+use Rattle.sock_steps.specs.chain_steps.proofs.Frames.{in_size}
+use Rattle.sock_steps.specs.chain_steps.proofs.Heads.{held_of, slot_is}
 use Rattle.sock_steps.proofs.Maps.{gather_nil}
 use Rattle.sock_steps.proofs.RightSteps.{right_in, right_alone}
-use Rattle.sock_programs.specs.Writings.{Writing}
-use Rattle.sock_programs.specs.Writings as heads
+use Rattle.seat_programs.specs.Writings.{Writing}
+use Rattle.seat_programs.specs.Writings as heads
 use Rattle.std.specs.Prelude as std
-use Rattle.sock_programs.specs.corr_core.specs.Word.{parts}
-use Rattle.sock_programs.specs.id_rule.specs.Lawful.{id_word}
-use Rattle.sock_model.specs.Layout.{open_word}
-use Rattle.sock_programs.specs.Asides.{Taking, Nothing, id_slot}
-use Rattle.sock_programs.specs.Beside.{at_last, more_given}
-use Rattle.sock_programs.specs.Heads.{Head, Exit, Retry, Sought, Locks, Joins, Opens, Reads, Discards, Locking, NotThere}
-use Rattle.sock_programs.specs.Posts.{is_sought, locking}
-use Rattle.sock_programs.specs.Readers.{took, discarded}
-use Rattle.sock_programs.specs.Programs.{Program, Do, Say, Sent, TakeMessage, Write, Round, Keep, Retries}
-use Rattle.sock_programs.specs.Calls.{TurnNext}
-use Rattle.sock_programs.specs.Cores.{Core, SeatState, with_seat}
-use Rattle.sock_programs.specs.Ticks.{Answer, OfReady, OfTake, Moment, tick_with, ticked, IsAnswered, IsPrompt, waits_at, waits_in, waits}
-use Rattle.sock_programs.specs.Runs.{IsAtRest}
+use Rattle.seat_programs.specs.corr_core.specs.Word.{parts}
+use Rattle.seat_programs.specs.id_rule.specs.Lawful.{id_index}
+use Rattle.sock_model.specs.Layout.{open_index}
+use Rattle.seat_programs.specs.Asides.{Taking, Nothing, id_slot}
+use Rattle.seat_programs.specs.Beside.{at_last, more_given}
+use Rattle.seat_programs.specs.Heads.{Head, Exit, Retry, Sought, Locks, Joins, Opens, Reads, Discards, Locking, NotThere}
+use Rattle.seat_programs.specs.Posts.{is_sought, locking}
+use Rattle.seat_programs.specs.Readers.{took, discarded}
+use Rattle.seat_programs.specs.Programs.{Program, Do, Say, Sent, TakeMessage, Write, Round, Keep, Retries}
+use Rattle.seat_programs.specs.Calls.{ReverseNext}
+use Rattle.seat_programs.specs.Cores.{Core, SeatState, with_seat}
+use Rattle.seat_programs.specs.Ticks.{Answer, OfReady, OfTake, Moment, tick_with, ticked, IsAnswered, IsAlwaysReady, waits_at, waits_in, waits}
+use Rattle.seat_programs.specs.Runs.{IsAtRest}
 use Rattle.sock_runs.specs.GoesOn.{GoesOn}
 use Rattle.sock_runs.specs.Sound.{Sound, IsAhead, is_begun}
 use Rattle.sock_runs.proofs.Allowed.{view_there}
@@ -66,10 +66,10 @@ module _ (p : Plan) (i : ℕ) (seat : SeatState) (c : Core) where
 
   walk_stays : (h : heads.Holder) (top place after : ℕ) (then_ : Program) (answer : Answer) → waits_at p c answer (Write (heads.Walks h top place after) then_) ≡ true
       → tick_with p i seat c answer (Write (heads.Walks h top place after) then_) ≡ with_program (Write (heads.Walks h top place after) then_)
-  walk_stays h top place after then_ answer is = let found : ℕ = slice_index c.words (next_word p (slot_of place)) in
-      ap₂ (λ (b : Bool) (ws : List ℕ). with_seat i (cond b (Write (heads.Walks h top place after) then_) (Do (TurnNext (slot_of place) after) (λ _. cond (eqb found h.last)
+  walk_stays h top place after then_ answer is = let found : ℕ = slice_index c.words (next_index p (slot_of place)) in
+      ap₂ (λ (b : Bool) (ws : List ℕ). with_seat i (cond b (Write (heads.Walks h top place after) then_) (Do (ReverseNext (slot_of place) after) (λ _. cond (eqb found h.last)
       (TakeMessage (slot_of place) (λ heading bytes. Write (heads.Puts (record h { last = top }) place heading bytes 0 false) then_)) (Write (heads.Walks h top found place) then_)))) seat.hand ws c.homes c)
-      is (set-get_or c.words (next_word p (slot_of place)) 0) ∙ again (Write (heads.Walks h top place after) then_) refl
+      is (set-get_or c.words (next_index p (slot_of place)) 0) ∙ again (Write (heads.Walks h top place after) then_) refl
 
   -- an id that is sought is locked
   locking_stays : (j : ℕ) (sought : Sought) (found : ℕ) (k : Locking → Program) → (is_sought sought (parts found) && not (eqb (parts found).state 1)) ≡ true → locking j sought found k ≡ Round (Locks j sought std.None) k
@@ -89,11 +89,11 @@ module _ (p : Plan) (i : ℕ) (seat : SeatState) (c : Core) where
       by_ending false is = refl
 
   round_stays : (head : Head) (next : Exit head → Program) (answer : Answer) → waits_in p c.words c.calls answer head ≡ true → tick_with p i seat c answer (Round head next) ≡ with_program (Round head next)
-  round_stays (Locks j sought std.None) next answer is = ap (λ (x : Program). with_seat i x seat.hand c.words c.homes c) (locking_stays j sought (slice_index c.calls.words (id_word j)) next is) ∙ again (Round (Locks j sought std.None) next) refl
-  round_stays (Joins id) next answer is = let found : ℕ = slice_index c.calls.words (id_word (id_slot id)) in
+  round_stays (Locks j sought std.None) next answer is = ap (λ (x : Program). with_seat i x seat.hand c.words c.homes c) (locking_stays j sought (slice_index c.calls.words (id_index j)) next is) ∙ again (Round (Locks j sought std.None) next) refl
+  round_stays (Joins id) next answer is = let found : ℕ = slice_index c.calls.words (id_index (id_slot id)) in
       ap (λ (b : Bool). with_seat i (cond b (Round (Joins id) next) (next found)) seat.hand c.words c.homes c) is ∙ again (Round (Joins id) next) refl
-  round_stays (Opens o) next answer is = let found : ℕ = slice_index c.words (open_word p o) in
-      ap₂ (λ (b : Bool) (ws : List ℕ). with_seat i (cond b (Round (Opens o) next) (next found)) seat.hand ws c.homes c) is (set-get_or c.words (open_word p o) 0) ∙ again (Round (Opens o) next) refl
+  round_stays (Opens o) next answer is = let found : ℕ = slice_index c.words (open_index p o) in
+      ap₂ (λ (b : Bool) (ws : List ℕ). with_seat i (cond b (Round (Opens o) next) (next found)) seat.hand ws c.homes c) is (set-get_or c.words (open_index p o) 0) ∙ again (Round (Opens o) next) refl
   round_stays (Reads r) next (OfTake Nothing) is = ap (λ (t : Taking). with_seat i (took r next t) seat.hand c.words c.homes (record c { calls = more_given r.link t c.calls })) (nothing_stays is) ∙ again (Round (Reads r) next) refl
   round_stays (Discards k total) next (OfTake Nothing) is = ap (λ (t : Taking). with_seat i (discarded k total next t) seat.hand c.words c.homes (record c { calls = more_given k t c.calls })) (nothing_stays is) ∙ again (Round (Discards k total) next) refl
   round_stays _ next answer is = absurd (true≢false (sym is))
@@ -144,7 +144,7 @@ module _ {links requests : ℕ} {m : Memory} {t : Tokens} {log : List Entry} {fr
 
 -- a seat waits, whose link is prompt
 abbrev WaitsPromptly : Plan → Core → ℕ → Type 0
-WaitsPromptly p c i = (m : Moment) × (m.seat ≡ i) × IsPrompt m × (waits p c m ≡ true)
+WaitsPromptly p c i = (m : Moment) × (m.seat ≡ i) × IsAlwaysReady m × (waits p c m ≡ true)
 
 -- a seat waits for an id, for an `open`, or for more bytes
 abbrev pub StandsAside : Core → ℕ → Type 0
@@ -179,12 +179,12 @@ module _ (p : Plan) (c : Core) (vs : List View) (sound : Sound p c vs) (ahead : 
 
   -- so no writer waits
   waits_aside : (j : ℕ) (v : View) → get_elem? vs j ≡ some v → (program : Program) (answer : Answer) → GoesOn p v program → answer ≢ OfReady NotYet → waits_at p c answer program ≡ true → (head : Head) × (next : Exit head → Program) × (program ≡ Round head next)
-  waits_aside j v at (Write (heads.Walks h top place after) then_) answer goes prompt is = let r : Right = goes.0.0 in let has = ap (λ (rs : List Right). get_elem? rs 0) goes.0.1.one in let o = sound.lawful in
+  waits_aside j v at (Write (heads.Walks h top place after) then_) answer goes always_ready is = let r : Right = goes.0.0 in let has = ap (λ (rs : List Right). get_elem? rs 0) goes.0.1.one in let o = sound.lawful in
       absurd (walk_waits o.chains r.link r (right_in o j 0 v r at has) (right_alone o j 0 v r at has) o.fits.narrow top place after goes.0.2.stage_is (eqb-true _ UNCONNECTED is) (all_connected (slot_of place)))
-  waits_aside j v at (Write (heads.Waits h now heading left taken) after) (OfReady NotYet) goes prompt is = absurd (prompt refl)
-  waits_aside j v at (Write (heads.Waits h now heading left taken) after) _ goes prompt is = absurd (true≢false (sym is))
-  waits_aside j v at (Round head next) answer goes prompt is = (head, next, refl)
-  waits_aside j v at _ answer goes prompt is = absurd (true≢false (sym is))
+  waits_aside j v at (Write (heads.Waits h now heading left taken) after) (OfReady NotYet) goes always_ready is = absurd (always_ready refl)
+  waits_aside j v at (Write (heads.Waits h now heading left taken) after) _ goes always_ready is = absurd (true≢false (sym is))
+  waits_aside j v at (Round head next) answer goes always_ready is = (head, next, refl)
+  waits_aside j v at _ answer goes always_ready is = absurd (true≢false (sym is))
 
   settles : (i : ℕ) → i < length c.seats → IsAtRest c i ⊎ StandsAside c i
   settles i inside = ⊎_elim (λ rest. inl rest)
@@ -193,5 +193,5 @@ module _ (p : Plan) (c : Core) (vs : List View) (sound : Sound p c vs) (ahead : 
       (each i inside)
 
 -- where each seat is at rest or waits, and no link answers that it takes no more yet, no writer waits
-pub still_settles : (p : Plan) (c : Core) (vs : List View) → Sound p c vs → IsAhead c → ((i : ℕ) → i < length c.seats → IsAtRest c i ⊎ ((m : Moment) × (m.seat ≡ i) × IsPrompt m × (waits p c m ≡ true))) → (i : ℕ) → i < length c.seats → IsAtRest c i ⊎ StandsAside c i
+pub still_settles : (p : Plan) (c : Core) (vs : List View) → Sound p c vs → IsAhead c → ((i : ℕ) → i < length c.seats → IsAtRest c i ⊎ ((m : Moment) × (m.seat ≡ i) × IsAlwaysReady m × (waits p c m ≡ true))) → (i : ℕ) → i < length c.seats → IsAtRest c i ⊎ StandsAside c i
 still_settles p c vs sound ahead each = settles p c vs sound ahead each

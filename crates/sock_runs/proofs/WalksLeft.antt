@@ -7,8 +7,8 @@ use mathlib.Core.Option.{Option, some, none}
 use native.Mathlib.Decide.{ℕ_discrete}
 use Rattle.sock_words.specs.declared.plain.Plan.{Plan}
 use Rattle.sock_words.specs.Words.{socket_id_version, socket_id_slot, vref_version}
-use Rattle.sock_programs.specs.sock_io.specs.declared.link.Put.{Put}
-use Rattle.sock_programs.specs.sock_io.specs.declared.link.Put.TheVariants.{Took, Again, Failed}
+use Rattle.seat_programs.specs.sock_io.specs.declared.link.Put.{Put}
+use Rattle.seat_programs.specs.sock_io.specs.declared.link.Put.TheVariants.{Took, Again, Failed}
 use Rattle.sock_model.specs.declared.chain.Entry.{Entry}
 use Rattle.sock_model.specs.declared.chain.Heading.{Heading}
 use Rattle.sock_model.specs.declared.chain.Right.{Right}
@@ -24,12 +24,12 @@ use Rattle.sock_model.specs.Weights.{total, only}
 use Rattle.sock_model.specs.SlotRows.{met, looked, told_code, met_link}
 use Rattle.sock_model.specs.ChainRows.{with_hand, spent_hand, with_claim, with_right, without_right, more, turned_right, placed_right, dropped_right, taken_right, put_right}
 use Rattle.sock_model.specs.Reads.{rights_on}
-use Rattle.sock_steps.specs.slot_laws.proofs.Numbers.{only-at, only-else}
-use Rattle.sock_steps.specs.chain_laws.proofs.Lists.{on_hit, on_miss}
+use Rattle.sock_steps.specs.slot_steps.proofs.Numbers.{only-at, only-else}
+use Rattle.sock_steps.specs.chain_steps.proofs.Lists.{on_hit, on_miss}
 use Rattle.sock_steps.proofs.Quiet.{either_way}
-use Rattle.sock_programs.specs.Calls.{Call, ClaimSlot, GiveBirth, AddRef, SubRef, SetOdd, Recycle, FreeSlot, StoreLink, LoadLink, ResetHead, WipeCode, StoreCode, StoreName, LoadName, StoreOpen, LoadOpen, TakeLink, FinishLink, PutLink, LookWord, LoadCode, ClaimRequest, PutMessage, Unconnect, SwapHead, EmptyHead, ReadNext, TurnNext, FreeRequest, StorePlace, DropPlace}
-use Rattle.sock_programs.specs.Programs.{LAST_GENERATION}
-use Rattle.sock_programs.specs.Cores.{first_of, link_place, homes_after}
+use Rattle.seat_programs.specs.Calls.{Call, ClaimSlot, CreateLife, AddRef, SubRef, SetOdd, Recycle, FreeSlot, StoreLink, LoadLink, ResetHead, ClearCode, StoreCode, StoreName, LoadName, StoreOpen, LoadOpen, TakeLink, FinishLink, PutLink, LookWord, LoadCode, ClaimRequest, PutMessage, Unconnect, SwapHead, EmptyHead, ReadNext, ReverseNext, FreeRequest, StorePlace, DropPlace}
+use Rattle.seat_programs.specs.Programs.{LAST_GENERATION}
+use Rattle.seat_programs.specs.Cores.{first_of, link_place, homes_after}
 use Rattle.sock_runs.specs.Rows.{row, is_id, found_id, by_right, new_claim, filled_claim, ready_claim, looked_clean, emptied, settled_stage, settled, freed_stage, read_next, turned_next, freed_next, placed_next, dropped_next, took_message, link_away, link_home_again, took_bytes}
 use Rattle.sock_runs.specs.May.{May}
 use Rattle.sock_runs.specs.Sound.{AreInHand, IsOfRight, AreHeld}
@@ -45,7 +45,7 @@ module _ (p : Plan) (v : View) (found : ℕ) (hand : Hand) where
 
   pub lists_stay : (call : Call) → is_exchange call ≡ false → (row p call found hand v).lists ≡ v.lists
   lists_stay (ClaimSlot i) other = refl
-  lists_stay (GiveBirth i k) other = refl
+  lists_stay (CreateLife i k) other = refl
   lists_stay (AddRef id) other = refl
   lists_stay (SubRef i) other = refl
   lists_stay (SetOdd i) other = refl
@@ -54,7 +54,7 @@ module _ (p : Plan) (v : View) (found : ℕ) (hand : Hand) where
   lists_stay (StoreLink i k) other = refl
   lists_stay (LoadLink i w) other = refl
   lists_stay (ResetHead i k) other = refl
-  lists_stay (WipeCode i k) other = refl
+  lists_stay (ClearCode i k) other = refl
   lists_stay (StoreCode i h c) other = refl
   lists_stay (StoreName n w) other = refl
   lists_stay (LoadName n) other = either_way (is_id found) (met (socket_id_slot (found - 1)) (socket_id_version (found - 1)) v) v SameLists refl refl
@@ -180,7 +180,7 @@ module _ (counts : ℕ → ℕ) where
     rights_few (EmptyHead i last) may other = let x = may.1.0 in let r : Right = x.mine.right in
         subst (λ (l : List Right). total left (by_right l (emptied last found v) v).rights ≤ total left l) (sym may.1.1) (empties_few v r [] may.1.1 last found (ap is_turning x.stage))
     rights_few (ReadNext q) may other = by_right_few left v.rights (λ r. read_next found v r r.stage) v refl (λ r others is. reads_few v r others is found r.stage refl)
-    rights_few (TurnNext q value) may other = by_right_few left v.rights (λ r. turned_next v r r.stage) v refl (λ r others is. turns_few v r others is r.stage refl)
+    rights_few (ReverseNext q value) may other = by_right_few left v.rights (λ r. turned_next v r r.stage) v refl (λ r others is. turns_few v r others is r.stage refl)
     rights_few (FreeRequest q g) may other = by_right_few left v.rights (freed_next v) v refl (λ r others is. frees_few v r others is r.stage refl)
     rights_few (StorePlace l k n) may other = by_right_few left v.rights (λ r. placed_next v r r.stage) v refl (λ r others is. places_few v r others is r.stage refl)
     rights_few (DropPlace l k n) may other = by_right_few left v.rights (λ r. dropped_next v r r.stage) v refl (λ r others is. drops_next_few v r others is r.stage refl)
@@ -194,7 +194,7 @@ module _ (counts : ℕ → ℕ) where
         (subst (λ (b : Bool). total left (cond b v (with_right v s)).rights < total left (r ∷ [])) (sym (ne_eqb found UNCONNECTED some_))
         (let z = with_right_few left v r s [] 1 one refl (omega (arith, less, ap is_turning stage)) in omega (arith, z))))
 
-    pub turn_less : (q value : ℕ) (r : Right) (top at after before : ℕ) → v.rights ≡ r ∷ [] → r.stage ≡ Turns top at after before → r.noted + r.turned < counts r.link → total left (row p (TurnNext q value) found hand v).rights < total left v.rights
+    pub turn_less : (q value : ℕ) (r : Right) (top at after before : ℕ) → v.rights ≡ r ∷ [] → r.stage ≡ Turns top at after before → r.noted + r.turned < counts r.link → total left (row p (ReverseNext q value) found hand v).rights < total left v.rights
     turn_less q value r top at after before one stage less = let t = turned_few r top at before in
         subst (λ (l : List Right). total left (by_right l (λ r. turned_next v r r.stage) v).rights < total left l) (sym one)
         (subst (λ (b : Stage). total left (turned_next v r b).rights < total left (r ∷ [])) (sym stage)

@@ -7,20 +7,20 @@ use Rattle.std.proofs.lemmas.Bool.{true≢false}
 use mathlib.Core.Option.{some, some-injective, some-ne-none}
 use lib.ListN.{get_elem?}
 use Rattle.sock_words.specs.declared.plain.Plan.{Plan}
-use Rattle.sock_programs.specs.brpc_model.specs.Items.{Item, Open, is_open}
-use Rattle.sock_programs.specs.brpc_model.specs.Places.{names}
-use Rattle.sock_programs.specs.brpc_model.specs.Operations.{Turn, clients}
+use Rattle.seat_programs.specs.brpc_model.specs.Items.{Item, Open, is_open}
+use Rattle.seat_programs.specs.brpc_model.specs.Places.{names}
+use Rattle.seat_programs.specs.brpc_model.specs.Operations.{Turn, clients}
 use Rattle.sock_model.specs.declared.view.View.{View}
-use Rattle.sock_programs.specs.declared.task.Op.{Op}
-use Rattle.sock_programs.specs.declared.task.Task.{Task}
-use Rattle.sock_programs.specs.Tasks.{Numbered, numbered, of_client, op_of, task_of, tasks, opens, calls, plan_of, id_plan_of}
-use Rattle.sock_programs.specs.Programs.{Rest}
-use Rattle.sock_programs.specs.Clients.{ending_of}
-use Rattle.sock_programs.specs.Cores.{Core}
-use Rattle.sock_programs.specs.Ticks.{Moment, quiet, run, AreAnswered}
-use Rattle.sock_programs.specs.Runs.{IsAtRest, IsSettled}
-use Rattle.sock_programs.specs.Scripts.{sizes_of, programs, readers_from, all_programs, tasks_from, all_tasks, opened, ending, is_ending, set_up, played, IsRunWithCalls}
-use Rattle.sock_programs.specs.Told.{AreTasks}
+use Rattle.seat_programs.specs.declared.task.Op.{Op}
+use Rattle.seat_programs.specs.declared.task.Task.{Task}
+use Rattle.seat_programs.specs.Tasks.{Numbered, numbered, of_client, op_of, task_of, tasks, opens, calls, plan_of, id_plan_of}
+use Rattle.seat_programs.specs.Programs.{Rest}
+use Rattle.seat_programs.specs.Clients.{ending_of}
+use Rattle.seat_programs.specs.Cores.{Core}
+use Rattle.seat_programs.specs.Ticks.{Moment, quiet, run, AreAnswered}
+use Rattle.seat_programs.specs.Runs.{IsAtRest, IsSettled}
+use Rattle.seat_programs.specs.Scripts.{sizes_of, programs, readers_from, all_programs, tasks_from, all_tasks, opened, ending, is_ending, set_up, played, IsRunWithCalls}
+use Rattle.seat_programs.specs.Told.{AreTasks}
 use Rattle.sock_runs.specs.Sound.{Sound, IsAhead, AllRest, AreFitting, AllFailed, AllEnded, IsOver, IsAlive, views_along}
 use Rattle.sock_runs.proofs.HandTicks.{AtHome}
 use Rattle.sock_runs.proofs.LinkTicks.{RetriesGo}

@@ -7,24 +7,24 @@ use mathlib.Core.Option.{Option, some}
 use lib.ListN.{get_elem?}
 use Rattle.atomic_table.proofs.Lists.{at_set}
 use Rattle.sock_words.specs.declared.plain.Plan.{Plan}
-use Rattle.sock_programs.specs.sock_io.specs.declared.link.Put.{Put}
-use Rattle.sock_programs.specs.sock_io.specs.declared.link.Ready.{Ready}
+use Rattle.seat_programs.specs.sock_io.specs.declared.link.Put.{Put}
+use Rattle.seat_programs.specs.sock_io.specs.declared.link.Ready.{Ready}
 use Rattle.sock_model.specs.declared.chain.Heading.{Heading}
 use Rattle.sock_model.specs.declared.home.Home.{Home}
 use Rattle.sock_model.specs.declared.view.View.{View}
-use Rattle.sock_model.specs.Layout.{open_word}
+use Rattle.sock_model.specs.Layout.{open_index}
 use Rattle.sock_steps.proofs.Quiet.{either_way}
-use Rattle.sock_programs.specs.declared.task.Op.{Op}
-use Rattle.sock_programs.specs.declared.task.Op.TheVariants as ops
-use Rattle.sock_programs.specs.declared.task.Task.{Task}
-use Rattle.sock_programs.specs.declared.task.Sizes.{Sizes}
-use Rattle.sock_programs.specs.Calls.{Call, StoreOpen}
-use Rattle.sock_programs.specs.Asides.{Found}
-use Rattle.sock_programs.specs.Heads.{Exit}
-use Rattle.sock_programs.specs.Programs.{Program, Do, Say, Sent, Rest, TakeMessage, TakeHome, PutHome, PutBytes, AskReady, Write, Aside, Round, Keep, Retries, open_from, make_socket}
-use Rattle.sock_programs.specs.Clients.{HeldLife, held_under, without_name, drop_of, operation, client_from}
-use Rattle.sock_programs.specs.Cores.{Calls, Core, SeatState, word_of, found_at, hand_after, resolved, next_step, waiting_at, with_seat, stepped}
-use Rattle.sock_programs.specs.Ticks.{Moment, ticked, run, IsAnswered, AreAnswered}
+use Rattle.seat_programs.specs.declared.task.Op.{Op}
+use Rattle.seat_programs.specs.declared.task.Op.TheVariants as ops
+use Rattle.seat_programs.specs.declared.task.Task.{Task}
+use Rattle.seat_programs.specs.declared.task.Sizes.{Sizes}
+use Rattle.seat_programs.specs.Calls.{Call, StoreOpen}
+use Rattle.seat_programs.specs.Asides.{Found}
+use Rattle.seat_programs.specs.Heads.{Exit}
+use Rattle.seat_programs.specs.Programs.{Program, Do, Say, Sent, Rest, TakeMessage, TakeHome, PutHome, PutBytes, AskReady, Write, Aside, Round, Keep, Retries, open_from, make_socket}
+use Rattle.seat_programs.specs.Clients.{HeldLife, held_under, without_name, drop_of, operation, client_from}
+use Rattle.seat_programs.specs.Cores.{Calls, Core, SeatState, word_of, found_at, hand_after, resolved, next_step, waiting_at, with_seat, stepped}
+use Rattle.seat_programs.specs.Ticks.{Moment, ticked, run, IsAnswered, AreAnswered}
 use Rattle.sock_runs.specs.May.{May}
 use Rattle.sock_runs.specs.Sound.{Sound, first_step, IsFitting, AreFitting, views_after}
 use Rattle.sock_runs.proofs.Through.{Passes, PassesOpens, Follows, comes_follows, through_fail, through_hold, through_drop}
@@ -143,7 +143,7 @@ module _ (o : ℕ) where
 
 -- the word of operation o is stored, or seat j stores it
 abbrev pub IsToStore : Plan → ℕ → ℕ → Core → Type 0
-IsToStore p j o c = (get_or c.words (open_word p o) 0 ≢ 0) ⊎ ((seat : SeatState) → get_elem? c.seats j ≡ some seat → WillStore o seat.program)
+IsToStore p j o c = (get_or c.words (open_index p o) 0 ≢ 0) ⊎ ((seat : SeatState) → get_elem? c.seats j ≡ some seat → WillStore o seat.program)
 
 module _ (p : Plan) (j o : ℕ) (inside : o < p.operations) where
   module _ (c : Core) (vs : List View) (m : Moment) (sound : Sound p c vs) (answered : IsAnswered c m) (fitting : IsFitting p c m) where
@@ -163,7 +163,7 @@ module _ (p : Plan) (j o : ℕ) (inside : o < p.operations) where
         by_call (StoreOpen n w) may is = by_own (eqb n o) refl
           where
             by_own : (b : Bool) → (n == o) ≡ b → IsToStore p j o (stepped p m.seat seat (StoreOpen n w) next c)
-            by_own true e = let same = eqb-true n o e in inl (λ z. stored_some p v w may.1 (sym (ap (λ k. get_or (set c.words (open_word p n) w) (open_word p k) 0) (sym same) ∙ get_or-set_same c.words (open_word p n) w 0 (omega (arith, inside, same, sound.lawful.references.sized))) ∙ z))
+            by_own true e = let same = eqb-true n o e in inl (λ z. stored_some p v w may.1 (sym (ap (λ k. get_or (set c.words (open_index p n) w) (open_index p k) 0) (sym same) ∙ get_or-set_same c.words (open_index p n) w 0 (omega (arith, inside, same, sound.lawful.references.sized))) ∙ z))
             by_own false e = inr (others (StoreOpen n w) next (λ found f. ⊎_elim (λ same. absurd (true≢false (sym (eq-eqb n o same) ∙ e))) (λ r. r found) (mine (StoreOpen n w) is f)))
         by_call call may is = inr (others call next (λ found f. mine call is f found))
 
@@ -186,6 +186,6 @@ module _ (p : Plan) (j o : ℕ) (inside : o < p.operations) where
   run_stores go c vs (m ∷ ms) sound answered fitting r = run_stores go (ticked p c m) (views_after p c vs m) ms (sound_ticks p go c vs m sound answered.0 fitting.0) answered.1 fitting.1 (store_ticks c vs m sound answered.0 fitting.0 r)
 
   -- where that seat is at rest the word was stored
-  pub rested_stored : (c : Core) (seat : SeatState) → get_elem? c.seats j ≡ some seat → seat.program ≡ Rest → IsToStore p j o c → get_or c.words (open_word p o) 0 ≢ 0
+  pub rested_stored : (c : Core) (seat : SeatState) → get_elem? c.seats j ≡ some seat → seat.program ≡ Rest → IsToStore p j o c → get_or c.words (open_index p o) 0 ≢ 0
   rested_stored c seat at rest (inl some_) = some_
   rested_stored c seat at rest (inr will) = absurd (subst (WillStore o) rest (will seat at))

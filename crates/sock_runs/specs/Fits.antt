@@ -1,11 +1,11 @@
 -- What the table of the sockets relies on of the steps and loops aside of it: the numbers that calls and id words have. It is shown by the rule of the ids.
 use Rattle.std.specs.Prelude.{ℕ, ◌≡◌, ◌≢◌, ◌+◌, ◌<◌, ◌≤◌, Option, Some, None}
 use Rattle.sock_words.specs.declared.plain.Plan.{Plan}
-use Rattle.sock_programs.specs.corr_core.specs.Word.{parts}
-use Rattle.sock_programs.specs.Asides.{Step, TakeCall, LoadIdWord, LockId, PostId, UnlockId, Found}
-use Rattle.sock_programs.specs.Heads.{Head, Exit, Retry, Posts, Unlocks, Decides, Locks, Opens, Posting, HasLocked, Unlocking, HasNext, Locking, Has, Reads, Ended}
-use Rattle.sock_programs.specs.Posts.{advance_of}
-use Rattle.sock_programs.specs.Told.{AskedFits}
+use Rattle.seat_programs.specs.corr_core.specs.Word.{parts}
+use Rattle.seat_programs.specs.Asides.{Step, TakeCall, LoadIdWord, LockId, PostId, UnlockId, Found}
+use Rattle.seat_programs.specs.Heads.{Head, Exit, Retry, Posts, Unlocks, Decides, Locks, Opens, Posting, HasLocked, Unlocking, HasNext, Locking, Has, Reads, Ended}
+use Rattle.seat_programs.specs.Posts.{advance_of}
+use Rattle.seat_programs.specs.Told.{AskedFits}
 
 -- the attempt of the word is one of its range, also behind so many more
 abbrev pub FitsMore : ℕ → ℕ → Type 0

@@ -1,8 +1,8 @@
 -- A program that the rule allows from a view on: each step in turn, whatever it finds.
 use Rattle.std.specs.Prelude.{ℕ, ◌≡◌, ◌≢◌, ◌*◌, ◌<◌, ◌≤◌, true, false, List, [], ◌∷◌, length}
 use Rattle.sock_words.specs.declared.plain.Plan.{Plan}
-use Rattle.sock_programs.specs.sock_io.specs.declared.link.Put.{Put}
-use Rattle.sock_programs.specs.sock_io.specs.declared.link.Ready.{Ready}
+use Rattle.seat_programs.specs.sock_io.specs.declared.link.Put.{Put}
+use Rattle.seat_programs.specs.sock_io.specs.declared.link.Ready.{Ready}
 use Rattle.sock_model.specs.declared.chain.Heading.{Heading}
 use Rattle.sock_model.specs.declared.chain.Right.{Right}
 use Rattle.sock_model.specs.declared.marks.SlotMark.{SlotMark}
@@ -10,17 +10,17 @@ use Rattle.sock_model.specs.declared.view.View.{View}
 use Rattle.sock_model.specs.declared.view.Hand.{Hand}
 use Rattle.sock_model.specs.Weights.{is_ref, is_zero, is_any_coding, is_claimed, is_recycled}
 use Rattle.sock_model.specs.SlotRows.{marks_of}
-use Rattle.sock_programs.specs.Programs.{Program, Do, Say, Sent, Rest, TakeMessage, TakeHome, PutHome, PutBytes, AskReady, Write, Aside, Round, Keep, Retries, LAST_VERSION}
-use Rattle.sock_programs.specs.Ticks.{FitsPut}
+use Rattle.seat_programs.specs.Programs.{Program, Do, Say, Sent, Rest, TakeMessage, TakeHome, PutHome, PutBytes, AskReady, Write, Aside, Round, Keep, Retries, LAST_VERSION}
+use Rattle.seat_programs.specs.Ticks.{FitsPut}
 use Rattle.sock_runs.specs.Rows.{row, found_id, took_message, link_away, link_home_again, took_bytes}
 use Rattle.sock_runs.specs.Writes.{MayTakeMessage, Writes, MayPut, At, AreNotes, behind}
 use Rattle.sock_runs.specs.May.{May, Finds, FindsId}
 use Rattle.sock_model.specs.declared.chain.Entry.{Entry}
-use Rattle.sock_programs.specs.Clients.{HeldLife}
+use Rattle.seat_programs.specs.Clients.{HeldLife}
 use Rattle.sock_runs.specs.Has.{IsQuiet, Has}
 use Rattle.sock_runs.specs.Fits.{FitsFound, FitsHead, FitsExit, FitsRetry}
-use Rattle.sock_programs.specs.Asides.{Found}
-use Rattle.sock_programs.specs.Heads.{Head, Exit, Opens, Posts, Unlocks, Decides}
+use Rattle.seat_programs.specs.Asides.{Found}
+use Rattle.seat_programs.specs.Heads.{Head, Exit, Opens, Posts, Unlocks, Decides}
 
 -- a seat that has nothing to give back: no reference, no exchange left, no code to store, no slot claimed, none recycled
 -- but those whose versions are used up, no link in hand, and nothing on the chains

@@ -10,8 +10,8 @@ use Rattle.sock_model.specs.declared.view.Hand.{Hand}
 use Rattle.sock_model.specs.Weights.{total, only, is_ref, is_zero, is_any_coding, is_claimed, is_recycled}
 use Rattle.sock_model.specs.Marks.{about, at}
 use Rattle.sock_model.specs.SlotRows.{marks_of}
-use Rattle.sock_programs.specs.Programs.{LAST_VERSION}
-use Rattle.sock_programs.specs.Clients.{HeldLife}
+use Rattle.seat_programs.specs.Programs.{LAST_VERSION}
+use Rattle.seat_programs.specs.Clients.{HeldLife}
 
 -- a seat that writes no link and has no message on its way
 pub record IsQuiet (v : View) : Type 0 where

@@ -5,9 +5,9 @@ use mathlib.Core.Option.{Option, some}
 use lib.ListN.{get_elem?}
 use Rattle.sock_words.specs.Words.{socket_id_version, socket_id_slot}
 use Rattle.sock_words.specs.declared.plain.Plan.{Plan}
-use Rattle.sock_programs.specs.sock_io.specs.declared.link.Put.{Put}
-use Rattle.sock_programs.specs.sock_io.specs.declared.link.Ready.{Ready}
-use Rattle.sock_programs.specs.sock_io.specs.declared.link.Ready.TheVariants.{NotYet}
+use Rattle.seat_programs.specs.sock_io.specs.declared.link.Put.{Put}
+use Rattle.seat_programs.specs.sock_io.specs.declared.link.Ready.{Ready}
+use Rattle.seat_programs.specs.sock_io.specs.declared.link.Ready.TheVariants.{NotYet}
 use Rattle.sock_model.specs.declared.chain.Entry.{Entry}
 use Rattle.sock_model.specs.declared.chain.Heading.{Heading}
 use Rattle.sock_model.specs.declared.chain.Right.{Right}
@@ -20,19 +20,19 @@ use Rattle.sock_model.specs.declared.view.Hand.{Hand}
 use Rattle.sock_model.specs.Entries.{on}
 use Rattle.sock_model.specs.SlotRows.{marks_of}
 use Rattle.sock_model.specs.Weights.{total, is_saw}
-use Rattle.sock_programs.specs.Calls.{Call, PutMessage, SwapHead, TurnNext}
-use Rattle.sock_programs.specs.Cores.{Core, SeatState}
-use Rattle.sock_programs.specs.Writings.{Holder, Writing, Puts, Waits, Empties, Walks}
-use Rattle.sock_programs.specs.Programs.{Program, Do, Say, Sent, Rest, TakeMessage, TakeHome, PutHome, PutBytes, AskReady, Write, Aside, Round, Keep, Retries}
-use Rattle.sock_programs.specs.corr_core.specs.Word.{Parts, parts}
-use Rattle.sock_programs.specs.id_rule.specs.Lawful.{id_word}
-use Rattle.sock_programs.specs.Asides.{Step, Found, MakeId, StoreAt, LoadIdWord, LockId, PostId, UnlockId, EndId, id_slot}
-use Rattle.sock_programs.specs.Beside.{found_in}
-use Rattle.sock_programs.specs.Posts.{advance_of}
-use Rattle.sock_programs.specs.Heads.{Head, Exit, Retry, Posts, Unlocks, Decides, Locks, Joins, Opens, Reads, Discards, Unlocking, IsOpen, HasNext}
-use Rattle.sock_programs.specs.Readers.{LIMIT}
+use Rattle.seat_programs.specs.Calls.{Call, PutMessage, SwapHead, ReverseNext}
+use Rattle.seat_programs.specs.Cores.{Core, SeatState}
+use Rattle.seat_programs.specs.Writings.{Holder, Writing, Puts, Waits, Empties, Walks}
+use Rattle.seat_programs.specs.Programs.{Program, Do, Say, Sent, Rest, TakeMessage, TakeHome, PutHome, PutBytes, AskReady, Write, Aside, Round, Keep, Retries}
+use Rattle.seat_programs.specs.corr_core.specs.Word.{Parts, parts}
+use Rattle.seat_programs.specs.id_rule.specs.Lawful.{id_index}
+use Rattle.seat_programs.specs.Asides.{Step, Found, MakeId, StoreAt, LoadIdWord, LockId, PostId, UnlockId, EndId, id_slot}
+use Rattle.seat_programs.specs.Beside.{found_in}
+use Rattle.seat_programs.specs.Posts.{advance_of}
+use Rattle.seat_programs.specs.Heads.{Head, Exit, Retry, Posts, Unlocks, Decides, Locks, Joins, Opens, Reads, Discards, Unlocking, IsOpen, HasNext}
+use Rattle.seat_programs.specs.Readers.{LIMIT}
 use Rattle.sock_runs.specs.Fits.{FitsFound, FitsExit}
-use Rattle.sock_programs.specs.Ticks.{Answer, Moment, FitsPut, taken, ticked}
+use Rattle.seat_programs.specs.Ticks.{Answer, Moment, FitsPut, taken, ticked}
 use Rattle.sock_runs.specs.Rows.{row, took_message, link_away, link_home_again, took_bytes}
 use Rattle.sock_runs.specs.May.{Finds}
 use Rattle.sock_runs.specs.Sound.{first_step}
@@ -101,7 +101,7 @@ walks_left views = total (λ (v : View). total (walk_left (accepted views)) v.ri
 abbrev pub cost : Call → ℕ
 cost (PutMessage q heading bytes) = 1 + weight (length bytes)
 cost (SwapHead i own) = 3 + ACCEPT
-cost (TurnNext q value) = 0
+cost (ReverseNext q value) = 0
 cost other = 1
 
 -- the seat saw the life failed
@@ -200,7 +200,7 @@ arriving program = total (λ (x : ℕ × ℕ). STALE) (expects program)
 
 -- and counts for so much where another word is there by now
 abbrev pub stale_cost : List ℕ → ℕ × ℕ → ℕ
-stale_cost words x = if slice_index words (id_word x.0) == x.1 then 0 else STALE
+stale_cost words x = if slice_index words (id_index x.0) == x.1 then 0 else STALE
 
 -- the word of an id slot of which the step shows that it is there
 abbrev pub left_word : (step : Step) → Found step → std.Option (ℕ × ℕ)
@@ -227,7 +227,7 @@ id_left requests w = if w.state == 0 then 0 else (w.range - (2 + w.attempt)) * a
 
 abbrev pub ids_left : ℕ → List ℕ → ℕ → ℕ
 ids_left requests words zero = 0
-ids_left requests words (suc n) = id_left requests (parts (slice_index words (id_word n))) + ids_left requests words n
+ids_left requests words (suc n) = id_left requests (parts (slice_index words (id_index n))) + ids_left requests words n
 
 -- what is left beside the seats' own numbers: attempts and errors of ids, retries that wait, and loops that expect another word
 abbrev pub calls_left : Plan → Core → ℕ
@@ -266,7 +266,7 @@ pub record Lasts (p : Plan) (c : Core) (views : List View) (n : ℕ) : Type 0 wh
 
 -- the id slot is one of the table
 abbrev pub IsSlot : Core → ℕ → Type 0
-IsSlot c i = (i < c.calls.plan.slots) × (id_word i < length c.calls.words)
+IsSlot c i = (i < c.calls.plan.slots) × (id_index i < length c.calls.words)
 
 -- a call has from one to seven attempts; a word that is tried is that of an open id, or, where an error is queued or a lock is given back, of
 -- one with room

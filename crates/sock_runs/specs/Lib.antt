@@ -6,8 +6,8 @@ pub mod Fits
 pub mod GoesOn
 pub mod Sound
 pub mod Lasts
-pub use Rattle.sock_programs.specs.brpc_model
-pub use Rattle.sock_steps.specs.chain_laws
-pub use Rattle.sock_programs.specs.corr_core
-pub use Rattle.sock_steps.specs.slot_laws
+pub use Rattle.seat_programs.specs.brpc_model
+pub use Rattle.sock_steps.specs.chain_steps
+pub use Rattle.seat_programs.specs.corr_core
+pub use Rattle.sock_steps.specs.slot_steps
 pub use Rattle.sock_steps

@@ -15,8 +15,8 @@ use Rattle.sock_model.specs.Entries.{slot_of, generation_of}
 use Rattle.sock_model.specs.Memory.{IDLE}
 use Rattle.sock_model.specs.Links.{HoldsLink}
 use Rattle.sock_model.specs.Conditions.{MayExchange, MayEmpty, MayTurn, MayPlace, MayDrop}
-use Rattle.sock_programs.specs.Calls.{Call, ClaimSlot, GiveBirth, AddRef, SubRef, SetOdd, Recycle, FreeSlot, StoreLink, LoadLink, ResetHead, WipeCode, StoreCode, StoreName, LoadName, StoreOpen, LoadOpen, TakeLink, FinishLink, PutLink, LookWord, FindLink, LoadCode, ClaimRequest, PutMessage, Unconnect, SwapHead, Connect, EmptyHead, ReadNext, TurnNext, FreeRequest, StorePlace, DropPlace}
-use Rattle.sock_programs.specs.Programs.{NO_SOCKET, LAST_VERSION, LAST_GENERATION}
+use Rattle.seat_programs.specs.Calls.{Call, ClaimSlot, CreateLife, AddRef, SubRef, SetOdd, Recycle, FreeSlot, StoreLink, LoadLink, ResetHead, ClearCode, StoreCode, StoreName, LoadName, StoreOpen, LoadOpen, TakeLink, FinishLink, PutLink, LookWord, FindLink, LoadCode, ClaimRequest, PutMessage, Unconnect, SwapHead, Connect, EmptyHead, ReadNext, ReverseNext, FreeRequest, StorePlace, DropPlace}
+use Rattle.seat_programs.specs.Programs.{NO_SOCKET, LAST_VERSION, LAST_GENERATION}
 use Rattle.sock_runs.specs.Rows.{is_id}
 
 -- ## Before a step
@@ -75,7 +75,7 @@ FoundFailed p v k = (i h : ℕ) × HoldsLink p v i h k × (0 < marks_of (is_saw 
 
 abbrev pub May : Plan → View → Call → Type 0
 May p v (ClaimSlot i) = i < p.slots
-May p v (GiveBirth i k) = (i < p.slots) × (0 < marks_of (is_stage 3 k) i v)
+May p v (CreateLife i k) = (i < p.slots) × (0 < marks_of (is_stage 3 k) i v)
 May p v (AddRef id) = Knows p v id × HasRoom v (socket_id_slot id)
 May p v (SubRef i) = (i < p.slots) × (0 < marks_of is_ref i v) × (marks_of is_any_coding i v ≡ 0) × KeepsRights i v
 May p v (SetOdd i) = (i < p.slots) × ((h : ℕ) × (0 < marks_of (is_hold h) i v)) × HasRoom v i
@@ -84,7 +84,7 @@ May p v (FreeSlot i) = (i < p.slots) × ((w : ℕ) × (0 < marks_of (is_recycled
 May p v (StoreLink i k) = (i < p.slots) × (0 < marks_of (is_stage 0 0) i v) × (0 < total (only k) v.passes)
 May p v (LoadLink i w) = (i < p.slots) × (0 < marks_of (is_recycled w) i v)
 May p v (ResetHead i k) = (i < p.slots) × (0 < marks_of (is_stage 1 k) i v)
-May p v (WipeCode i k) = (i < p.slots) × (0 < marks_of (is_stage 2 k) i v)
+May p v (ClearCode i k) = (i < p.slots) × (0 < marks_of (is_stage 2 k) i v)
 May p v (StoreCode i h c) = (i < p.slots) × (0 < marks_of (is_coding h) i v) × (c ≢ 0)
 May p v (StoreName n w) = (n < p.names) × IsTrue (nat_lt 0 w) × Knows p v (w - 1)
 May p v (LoadName n) = n < p.names
@@ -103,7 +103,7 @@ May p v (SwapHead i own) = (i < p.slots) × MayExchange p v i own
 May p v (Connect q before) = (q < p.requests) × IsLoose v q before
 May p v (EmptyHead i last) = (i < p.slots) × ((x : MayEmpty p v i last (IDLE + last)) × (v.rights ≡ x.mine.right ∷ []))
 May p v (ReadNext q) = MayRead v q
-May p v (TurnNext q value) = (x : MayTurn v value) × (v.rights ≡ x.mine.right ∷ []) × (slot_of x.at ≡ q)
+May p v (ReverseNext q value) = (x : MayTurn v value) × (v.rights ≡ x.mine.right ∷ []) × (slot_of x.at ≡ q)
 May p v (FreeRequest q g) = (now : ℕ) × (slot_of now ≡ q) × (generation_of now ≡ g) × (g ≢ LAST_GENERATION) × MayFree v now
 May p v (StorePlace l k n) = (x : MayPlace p v) × (v.rights ≡ x.mine.right ∷ []) × (l ≡ x.mine.right.heading.place) × (k ≡ x.mine.right.link) × (n ≡ x.mine.right.places) × (x.mine.right.put ≡ length x.mine.right.bytes)
 May p v (DropPlace l k n) = (x : MayDrop p v) × (v.rights ≡ x.mine.right ∷ []) × (l ≡ x.mine.right.heading.place) × (k ≡ x.mine.right.link) × (n ≡ x.mine.right.places)
@@ -133,7 +133,7 @@ FindsLink p v i h found = (found < p.links) × ((k : ℕ) → 0 < marks_of (is_m
 -- a word counts the seat's own references, a seat claims or recycles a slot once, and the pass of a link that is in a slot
 -- was spent
 abbrev pub Finds : Plan → View → Call → ℕ → Hand → Type 0
-Finds p v (GiveBirth i k) found hand = (vref_nref found < 4294967295) × (vref_version found % 2 ≡ 0) × (vref_version found ≤ LAST_VERSION)
+Finds p v (CreateLife i k) found hand = (vref_nref found < 4294967295) × (vref_version found % 2 ≡ 0) × (vref_version found ≤ LAST_VERSION)
 Finds p v (AddRef id) found hand = vref_nref found < 4294967295
 Finds p v (SubRef i) found hand = (marks_of is_ref i v ≤ vref_nref found) × IsOfHeld v i found × (vref_version found < 4294967295)
 Finds p v (SetOdd i) found hand = IsOfHeld v i found

@@ -11,17 +11,17 @@ use Rattle.sock_model.specs.declared.chain.Stage.TheVariants.{Writes, Placed, Pa
 use Rattle.sock_model.specs.declared.home.Home.{Home}
 use Rattle.sock_model.specs.declared.view.View.{View}
 use Rattle.sock_model.specs.declared.view.Hand.{Hand}
-use Rattle.sock_model.specs.Layout.{link_word, name_word, open_word}
+use Rattle.sock_model.specs.Layout.{link_index, name_index, open_index}
 use Rattle.sock_model.specs.Entries.{generation_of}
 use Rattle.sock_model.specs.Memory.{IDLE, UNCONNECTED}
 use Rattle.sock_model.specs.Weights.{total, only}
 use Rattle.sock_model.specs.SlotRows.{claimed, gave_birth, added, back, subbed, failed, recycled, freed, linked, staged, coded, met, wrote, met_link, looked, told_code}
 use Rattle.sock_model.specs.ChainRows.{with_hand, without_hand, spent_hand, with_claim, queued, righted, without_loose, with_right, without_right, turned_right, placed_right, dropped_right, taken_right, put_right}
 use Rattle.sock_model.specs.Reads.{link_home}
-use Rattle.sock_programs.specs.sock_io.specs.declared.link.Put.{Put}
-use Rattle.sock_programs.specs.sock_io.specs.declared.link.Put.TheVariants.{Took}
-use Rattle.sock_programs.specs.Calls.{Call, ClaimSlot, GiveBirth, AddRef, SubRef, SetOdd, Recycle, FreeSlot, StoreLink, LoadLink, ResetHead, WipeCode, StoreCode, StoreName, LoadName, StoreOpen, LoadOpen, TakeLink, FinishLink, PutLink, LookWord, FindLink, LoadCode, ClaimRequest, PutMessage, Unconnect, SwapHead, Connect, EmptyHead, ReadNext, TurnNext, FreeRequest, StorePlace, DropPlace}
-use Rattle.sock_programs.specs.Programs.{NO_SOCKET, LAST_GENERATION}
+use Rattle.seat_programs.specs.sock_io.specs.declared.link.Put.{Put}
+use Rattle.seat_programs.specs.sock_io.specs.declared.link.Put.TheVariants.{Took}
+use Rattle.seat_programs.specs.Calls.{Call, ClaimSlot, CreateLife, AddRef, SubRef, SetOdd, Recycle, FreeSlot, StoreLink, LoadLink, ResetHead, ClearCode, StoreCode, StoreName, LoadName, StoreOpen, LoadOpen, TakeLink, FinishLink, PutLink, LookWord, FindLink, LoadCode, ClaimRequest, PutMessage, Unconnect, SwapHead, Connect, EmptyHead, ReadNext, ReverseNext, FreeRequest, StorePlace, DropPlace}
+use Rattle.seat_programs.specs.Programs.{NO_SOCKET, LAST_GENERATION}
 
 -- ## What is found
 
@@ -32,7 +32,7 @@ as_hand k (some home) = record { link = k; took = home.0; next = home.1 }
 
 -- the link of a slot
 abbrev pub link_in : List ℕ → ℕ → ℕ
-link_in ws i = slice_index ws (link_word i)
+link_in ws i = slice_index ws (link_index i)
 
 -- the link that a step takes out of its home, or that is to take the message for which a request is claimed or the head is exchanged
 abbrev pub hand_at : Plan → List ℕ → List (Option Home) → Call → Hand
@@ -151,7 +151,7 @@ took_bytes other v = v
 -- the view after a step that found this word, and this link at home
 abbrev pub row : Plan → Call → ℕ → Hand → View → View
 row p (ClaimSlot i) found hand v = claimed i found v
-row p (GiveBirth i k) found hand v = gave_birth i found k v
+row p (CreateLife i k) found hand v = gave_birth i found k v
 row p (AddRef id) found hand v = added (socket_id_slot id) found (vref_version found == socket_id_version id) v
 row p (SubRef i) found hand v = subbed i found (back i found v) v
 row p (SetOdd i) found hand v = failed i found v
@@ -160,11 +160,11 @@ row p (FreeSlot i) found hand v = freed i v
 row p (StoreLink i k) found hand v = linked i k v
 row p (LoadLink i w) found hand v = met_link i (w - 2) found v
 row p (ResetHead i k) found hand v = staged i 1 k 2 v
-row p (WipeCode i k) found hand v = staged i 2 k 3 v
+row p (ClearCode i k) found hand v = staged i 2 k 3 v
 row p (StoreCode i h c) found hand v = coded i h c v
-row p (StoreName n w) found hand v = wrote (name_word p n) w v
+row p (StoreName n w) found hand v = wrote (name_index p n) w v
 row p (LoadName n) found hand v = found_id found v
-row p (StoreOpen o w) found hand v = wrote (open_word p o) w v
+row p (StoreOpen o w) found hand v = wrote (open_index p o) w v
 row p (LoadOpen o) found hand v = found_id found v
 row p (TakeLink k) found hand v = taken hand v
 row p (FinishLink k) found hand v = v
@@ -179,7 +179,7 @@ row p (SwapHead i own) found hand v = by_claim v.claims (exchanged found hand v)
 row p (Connect q before) found hand v = without_loose v q
 row p (EmptyHead i last) found hand v = by_right v.rights (emptied last found v) v
 row p (ReadNext q) found hand v = by_right v.rights (λ r. read_next found v r r.stage) v
-row p (TurnNext q value) found hand v = by_right v.rights (λ r. turned_next v r r.stage) v
+row p (ReverseNext q value) found hand v = by_right v.rights (λ r. turned_next v r r.stage) v
 row p (FreeRequest q g) found hand v = by_right v.rights (freed_next v) v
 row p (StorePlace l k n) found hand v = by_right v.rights (λ r. placed_next v r r.stage) v
 row p (DropPlace l k n) found hand v = by_right v.rights (λ r. dropped_next v r r.stage) v

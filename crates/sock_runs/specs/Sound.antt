@@ -13,7 +13,7 @@ use Rattle.sock_model.specs.declared.home.Home.TheVariants.{Link, Message}
 use Rattle.sock_model.specs.declared.view.View.{View}
 use Rattle.sock_model.specs.declared.view.Hand.{Hand}
 use Rattle.sock_model.specs.Lawful.{Lawful}
-use Rattle.sock_model.specs.Layout.{tag_word, ref_word}
+use Rattle.sock_model.specs.Layout.{tag_index, ref_index}
 use Rattle.sock_model.specs.Memory.{IDLE}
 use Rattle.sock_model.specs.Rule.{AreShort, lists_of}
 use Rattle.sock_model.specs.Slots.{count}
@@ -21,15 +21,15 @@ use Rattle.sock_model.specs.Weights.{is_born, is_failer, is_freer}
 use Rattle.sock_model.specs.References.{slot_facts}
 use Rattle.sock_model.specs.Messages.{Letter}
 use Rattle.sock_model.specs.Reads.{message, link_home}
-use Rattle.sock_programs.specs.Calls.{Call, GiveBirth, AddRef, SubRef, Recycle, LoadLink, LoadName, TakeLink, FinishLink, PutLink, FindLink, ClaimRequest, PutMessage, EmptyHead, FreeRequest, StorePlace, DropPlace}
-use Rattle.sock_programs.specs.Programs.{Program, Do, TakeMessage, TakeHome, PutHome, PutBytes, Say, Sent, Keep, Retries, AskReady, Write, Aside, Round, Rest, LAST_VERSION, NO_SOCKET, LAST_GENERATION}
-use Rattle.sock_programs.specs.Sends.{block}
-use Rattle.sock_programs.specs.Rounds.{round}
-use Rattle.sock_programs.specs.Asides.{Found}
-use Rattle.sock_programs.specs.Beside.{found_in}
+use Rattle.seat_programs.specs.Calls.{Call, CreateLife, AddRef, SubRef, Recycle, LoadLink, LoadName, TakeLink, FinishLink, PutLink, FindLink, ClaimRequest, PutMessage, EmptyHead, FreeRequest, StorePlace, DropPlace}
+use Rattle.seat_programs.specs.Programs.{Program, Do, TakeMessage, TakeHome, PutHome, PutBytes, Say, Sent, Keep, Retries, AskReady, Write, Aside, Round, Rest, LAST_VERSION, NO_SOCKET, LAST_GENERATION}
+use Rattle.seat_programs.specs.Sends.{block}
+use Rattle.seat_programs.specs.Rounds.{round}
+use Rattle.seat_programs.specs.Asides.{Found}
+use Rattle.seat_programs.specs.Beside.{found_in}
 use Rattle.sock_runs.specs.Fits.{FitsFound, FitsRetry}
-use Rattle.sock_programs.specs.Cores.{Core, SeatState, word_of, found_at, link_place, waiting_at}
-use Rattle.sock_programs.specs.Ticks.{Answer, OfPut, Moment, ticked, taken}
+use Rattle.seat_programs.specs.Cores.{Core, SeatState, word_of, found_at, link_place, waiting_at}
+use Rattle.seat_programs.specs.Ticks.{Answer, OfPut, Moment, ticked, taken}
 use Rattle.sock_runs.specs.Rows.{row, hand_at, took_message, link_away, link_home_again, took_bytes}
 use Rattle.sock_runs.specs.GoesOn.{GoesOn}
 
@@ -140,7 +140,7 @@ abbrev pub MOST_PLACES : ℕ
 MOST_PLACES = 4294967295
 
 abbrev pub AllowsWord : Call → ℕ → Type 0
-AllowsWord (GiveBirth i k) found = vref_nref found < 4294967295
+AllowsWord (CreateLife i k) found = vref_nref found < 4294967295
 AllowsWord (AddRef id) found = vref_nref found < 4294967295
 AllowsWord (SubRef i) found = 0 < vref_nref found
 AllowsWord (Recycle i from) found = (vref_nref from ≡ 0) × (vref_version from % 2 ≡ 1) × (vref_version from < 4294967295)
@@ -232,9 +232,9 @@ AllEnded p c views = (i h : ℕ) → i < p.slots → 0 < count (is_born h) (slot
 
 -- nobody refers to the slot, its version is that of no failed life, and it is free unless its versions are used up
 pub record IsOver (words : List ℕ) (i : ℕ) : Type 0 where
-  pub unreferred : vref_nref (slice_index words (ref_word i)) ≡ 0
-  pub even : vref_version (slice_index words (ref_word i)) % 2 ≡ 0
-  pub free : (slice_index words (tag_word i) ≡ 0) ⊎ (LAST_VERSION < vref_version (slice_index words (ref_word i)))
+  pub unreferred : vref_nref (slice_index words (ref_index i)) ≡ 0
+  pub even : vref_version (slice_index words (ref_index i)) % 2 ≡ 0
+  pub free : (slice_index words (tag_index i) ≡ 0) ⊎ (LAST_VERSION < vref_version (slice_index words (ref_index i)))
 
 -- the life of version h of slot i was made, and has not ended
 pub record IsAlive (p : Plan) (c : Core) (views : List View) (i h : ℕ) : Type 0 where

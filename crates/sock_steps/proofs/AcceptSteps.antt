@@ -6,33 +6,33 @@ use mathlib.Core.Option.{some, none, some-injective, some-ne-none}
 use native.Mathlib.Decide.{ℕ_discrete}
 use lib.ListN.{get_elem?}
 use Rattle.atomic_table.specs.Table.{State}
-use Rattle.slot_laws.specs.sock_model.specs.declared.chain.Entry.{Entry}
-use Rattle.slot_laws.specs.sock_model.specs.declared.chain.Right.{Right}
-use Rattle.slot_laws.specs.sock_model.specs.declared.chain.Claim.{Claim}
-use Rattle.slot_laws.specs.sock_model.specs.declared.chain.Stage.TheVariants.{Writes}
-use Rattle.slot_laws.specs.sock_model.specs.declared.home.Home.{Home}
-use Rattle.slot_laws.specs.sock_words.specs.declared.plain.Plan.{Plan}
-use Rattle.slot_laws.specs.sock_model.specs.declared.view.View.{View}
-use Rattle.slot_laws.specs.sock_model.specs.Weights.{is_met}
-use Rattle.slot_laws.specs.sock_model.specs.SlotRows.{marks_of}
-use Rattle.slot_laws.specs.sock_model.specs.Layout.{head_word, place_word}
-use Rattle.slot_laws.specs.sock_model.specs.Entries.{ticket, ticket_of, on, nth}
-use Rattle.slot_laws.specs.sock_model.specs.Memory.{IDLE}
-use Rattle.slot_laws.specs.sock_model.specs.Writing.{loose_of}
-use Rattle.slot_laws.specs.sock_model.specs.Reads.{head_at, memory, link_home, rights_on, claims_of, loose_at, tokens}
-use Rattle.slot_laws.specs.sock_model.specs.ChainRows.{entry_of, more, queued, righted}
-use Rattle.slot_laws.specs.sock_model.specs.Conditions.{MayExchange}
-use Rattle.slot_laws.specs.sock_model.specs.Links.{Given, Lives}
-use Rattle.slot_laws.specs.sock_model.specs.Lawful.{Lawful}
-use Rattle.chain_laws.proofs.Lists.{on_miss, at_snoc, old, new}
-use Rattle.chain_laws.proofs.Frames.{Same, Changed, one_token, no_token}
-use Rattle.chain_laws.proofs.Claims.{claim_of}
-use Rattle.chain_laws.proofs.Gather.{gather_all, gather_none, gather_own, gather_same}
-use Rattle.chain_laws.proofs.Few.{few_claims}
-use Rattle.chain_laws.proofs.Authored.{accepts}
-use Rattle.chain_laws.proofs.Letters.{entrusts, places_fit}
-use Rattle.chain_laws.proofs.Delivers.{delivers_more, delivers_same}
-use Rattle.chain_laws.proofs.Grow.{IsNext, busy_found, idle_found, queues, begins}
+use Rattle.slot_steps.specs.sock_model.specs.declared.chain.Entry.{Entry}
+use Rattle.slot_steps.specs.sock_model.specs.declared.chain.Right.{Right}
+use Rattle.slot_steps.specs.sock_model.specs.declared.chain.Claim.{Claim}
+use Rattle.slot_steps.specs.sock_model.specs.declared.chain.Stage.TheVariants.{Writes}
+use Rattle.slot_steps.specs.sock_model.specs.declared.home.Home.{Home}
+use Rattle.slot_steps.specs.sock_words.specs.declared.plain.Plan.{Plan}
+use Rattle.slot_steps.specs.sock_model.specs.declared.view.View.{View}
+use Rattle.slot_steps.specs.sock_model.specs.Weights.{is_met}
+use Rattle.slot_steps.specs.sock_model.specs.SlotRows.{marks_of}
+use Rattle.slot_steps.specs.sock_model.specs.Layout.{head_index, place_index}
+use Rattle.slot_steps.specs.sock_model.specs.Entries.{ticket, ticket_of, on, nth}
+use Rattle.slot_steps.specs.sock_model.specs.Memory.{IDLE}
+use Rattle.slot_steps.specs.sock_model.specs.Writing.{loose_of}
+use Rattle.slot_steps.specs.sock_model.specs.Reads.{head_at, memory, link_home, rights_on, claims_of, loose_at, tokens}
+use Rattle.slot_steps.specs.sock_model.specs.ChainRows.{entry_of, more, queued, righted}
+use Rattle.slot_steps.specs.sock_model.specs.Conditions.{MayExchange}
+use Rattle.slot_steps.specs.sock_model.specs.Links.{Given, Lives}
+use Rattle.slot_steps.specs.sock_model.specs.Lawful.{Lawful}
+use Rattle.chain_steps.proofs.Lists.{on_miss, at_snoc, old, new}
+use Rattle.chain_steps.proofs.Frames.{Same, Changed, one_token, no_token}
+use Rattle.chain_steps.proofs.Claims.{claim_of}
+use Rattle.chain_steps.proofs.Gather.{gather_all, gather_none, gather_own, gather_same}
+use Rattle.chain_steps.proofs.Few.{few_claims}
+use Rattle.chain_steps.proofs.Authored.{accepts}
+use Rattle.chain_steps.proofs.Letters.{entrusts, places_fit}
+use Rattle.chain_steps.proofs.Delivers.{delivers_more, delivers_same}
+use Rattle.chain_steps.proofs.Grow.{IsNext, busy_found, idle_found, queues, begins}
 use Rattle.sock_steps.proofs.Places.{holder_lives}
 use Rattle.sock_steps.proofs.Words.{Beside, head_beside, head_changed, next_same, request_same, place_same}
 use Rattle.sock_steps.proofs.ChainFrame.{SameSlots, carried_same, slots_in, one_slot, links_frame, chain_frame}
@@ -58,7 +58,7 @@ module _ {S : Type 0} (shows : S → Home) (p : Plan) (s : State S View) (o : La
   pub link_in : x.claim.link < p.links
   link_in = o.in_slots.small i x.life x.claim.link life.life
 
-  own_beside : Beside p o.slot s.words (set s.words (head_word i) own)
+  own_beside : Beside p o.slot s.words (set s.words (head_index i) own)
   own_beside = head_beside p o.slot s.words own o.references.sized (slots_in o) x.claim.link i link_slot (one_slot o)
 
   entered_more : (e : Entry) → e.link ≡ x.claim.link → (q : ℕ) (d : Entry) → get_elem? (o.log ++ e ∷ []) q ≡ some d → (j : ℕ) × (h : ℕ) × Given p s j h d.link
@@ -68,7 +68,7 @@ module _ {S : Type 0} (shows : S → Home) (p : Plan) (s : State S View) (o : La
   ]
 
   abbrev found : ℕ
-  found = get_or s.words (head_word i) 0
+  found = get_or s.words (head_index i) 0
 
   head_is : (memory p o.slot s.words).head x.claim.link ≡ some found
   head_is = ap (head_at s.words) link_slot
@@ -91,25 +91,25 @@ module _ {S : Type 0} (shows : S → Home) (p : Plan) (s : State S View) (o : La
     else = λ r rl ne. gather_same (claims_of r) s.views id v w at (empty r ∙ sym (no_claim r v x.claim x.claims (λ q. ne (sym q))));
   }
 
-  own_head : Changed p.links (memory p o.slot s.words).head (memory p o.slot (set s.words (head_word i) own)).head x.claim.link (some (ticket_of x.claim.request x.claim.generation))
-  own_head = subst (λ y. Changed p.links (memory p o.slot s.words).head (memory p o.slot (set s.words (head_word i) own)).head x.claim.link (some y)) x.own_is (head_changed p o.slot s.words own o.references.sized (slots_in o) x.claim.link i link_slot (one_slot o))
+  own_head : Changed p.links (memory p o.slot s.words).head (memory p o.slot (set s.words (head_index i) own)).head x.claim.link (some (ticket_of x.claim.request x.claim.generation))
+  own_head = subst (λ y. Changed p.links (memory p o.slot s.words).head (memory p o.slot (set s.words (head_index i) own)).head x.claim.link (some y)) x.own_is (head_changed p o.slot s.words own o.references.sized (slots_in o) x.claim.link i link_slot (one_slot o))
 
   own_lists : (w : View) (e : Entry) → w.lists ≡ more v.lists e → w.lists ≡ (x.made ++ e ∷ []) ∷ x.taken_in
   own_lists w e h = h ∙ ap (λ l. more l e) x.lists
 
   -- the head was busy
-  pub queued_law : found < IDLE → Lawful shows p record { words = set s.words (head_word i) own; homes = s.homes; views = set s.views id (queued v x.claim found) }
+  pub queued_law : found < IDLE → Lawful shows p record { words = set s.words (head_index i) own; homes = s.homes; views = set s.views id (queued v x.claim found) }
   queued_law low =
       let b = busy_found o.chains x.claim.link found link_in head_is low in
       let c = x.claim in let e = entry_of c found in let w : View = queued v c found in let same_slots : SameSlots v (queued v x.claim found) = record { plan = refl; marks = refl; passes = λ y. omega arith; spare = refl; stores = refl } in
       let no_loose : (tokens s.views).loose c.request ≡ [] = (claim_of o.chains c.request c (o.chains.in_use c.request x.request_in) claimed).still in
       let own_loose : loose_at c.request v ≡ [] = gather_none (loose_at c.request) s.views id v at no_loose in
       let rights : Same p.links (tokens s.views).rights (tokens (set s.views id w)).rights = λ k kl. gather_same (rights_on k) s.views id v w at refl in
-      chain_frame shows p s o id v w at (set s.words (head_word i) own) s.homes same_slots own_beside (o.log ++ entry_of x.claim found ∷ []) o.freed o.places o.kept
+      chain_frame shows p s o id v w at (set s.words (head_index i) own) s.homes same_slots own_beside (o.log ++ entry_of x.claim found ∷ []) o.freed o.places o.kept
       (entered_more (entry_of x.claim found) refl)
       (λ n r g. let y = o.held id v at n r g in let h = y.3 in (y.0, y.1, y.2, record { inside = h.inside; held = h.held; met = h.met }))
-      (carried_same shows p s o id v w at (set s.words (head_word i) own) s.homes same_slots own_beside refl) (log_else (entry_of x.claim found) refl)
-      (queues o.chains c.link c e (next_entry found b.last_is) (memory p o.slot (set s.words (head_word i) own)) (tokens (set s.views id w)) b.right (head_is ∙ ap (λ (y : ℕ). some y) b.last_is) b.rights b.held own_head
+      (carried_same shows p s o id v w at (set s.words (head_index i) own) s.homes same_slots own_beside refl) (log_else (entry_of x.claim found) refl)
+      (queues o.chains c.link c e (next_entry found b.last_is) (memory p o.slot (set s.words (head_index i) own)) (tokens (set s.views id w)) b.right (head_is ∙ ap (λ (y : ℕ). some y) b.last_is) b.rights b.held own_head
       (next_same p o.slot s.words own o.references.sized (slots_in o) c.link i link_slot (one_slot o))
       (request_same p o.slot s.words own o.references.sized (slots_in o) c.link i link_slot (one_slot o))
       rights
@@ -122,9 +122,9 @@ module _ {S : Type 0} (shows : S → Home) (p : Plan) (s : State S View) (o : La
       (entrusts o.chains o.messages (tokens (set s.views id w)) c.link c e (next_entry found b.last_is) x.is_filled refl refl (claims_after w refl) (λ k r kl h. rights k kl ∙ h) (λ k r kl h f. (r, sym (rights k kl) ∙ h, f, refl, refl, refl)))
       (delivers_same
       (delivers_more o.delivered (tokens (set s.views id w)) c.link e refl (λ k kl. places_fit o.chains k kl) (λ k r kl h. inl (sym (rights k kl) ∙ h)))
-      (tokens (set s.views id w)) (λ l. get_or (set s.words (head_word i) own) (place_word p l) 0)
+      (tokens (set s.views id w)) (λ l. get_or (set s.words (head_index i) own) (place_index p l) 0)
       (place_same p o.slot s.words own o.references.sized (slots_in o) c.link i link_slot (one_slot o)) (λ k r kl h. (r, h, refl, refl, refl)))
-      (links_frame shows p s o id v w at (set s.words (head_word i) own) s.homes same_slots own_beside (λ k h. refl) o.homes.own
+      (links_frame shows p s o id v w at (set s.words (head_index i) own) s.homes same_slots own_beside (λ k h. refl) o.homes.own
       (λ k i kl sk h. o.homes.idle k i kl sk (sym (rights k kl) ∙ h))
       (λ k r kl h. o.homes.busy k r kl (sym (rights k kl) ∙ h))
       (λ k kl e. refl) refl)
@@ -137,7 +137,7 @@ module _ {S : Type 0} (shows : S → Home) (p : Plan) (s : State S View) (o : La
       (took.0, took.1, took.2, (o.delivered.at_home x.claim.link took.0 took.1 link_in took.2).2 ∙ (b.all_placed ∙ b.all_freed))
 
   -- the head was idle
-  pub righted_law : IDLE ≤ found → (sent : List ℕ) × (places : ℕ) × Lawful shows p record { words = set s.words (head_word i) own; homes = s.homes; views = set s.views id (righted v x.claim found sent places) }
+  pub righted_law : IDLE ≤ found → (sent : List ℕ) × (places : ℕ) × Lawful shows p record { words = set s.words (head_index i) own; homes = s.homes; views = set s.views id (righted v x.claim found sent places) }
   righted_law high =
       let b = idle_found o.chains x.claim.link found link_in o.fits.narrow head_is high in
       let took = o.homes.idle x.claim.link i link_in link_slot b.rights in
@@ -151,12 +151,12 @@ module _ {S : Type 0} (shows : S → Home) (p : Plan) (s : State S View) (o : La
       } in (
         took.0,
         took.1,
-        chain_frame shows p s o id v w at (set s.words (head_word i) own) s.homes same_slots own_beside (o.log ++ entry_of x.claim (found - IDLE) ∷ []) o.freed o.places o.kept
+        chain_frame shows p s o id v w at (set s.words (head_index i) own) s.homes same_slots own_beside (o.log ++ entry_of x.claim (found - IDLE) ∷ []) o.freed o.places o.kept
             (entered_more (entry_of x.claim (found - IDLE)) refl)
             (λ n r g. ⊎_elim (λ q. let h = x.holds in let link : c.link ≡ r.link = ap (λ (y : Right). y.link) q in (subst (λ y. y < p.links) link link_in, i, x.life, record { inside = h.inside; held = h.held; met = subst (λ y. 0 < marks_of (is_met x.life y) i v) link h.met }))
             (λ q. let y = o.held id v at q.0 r q.1 in let h = y.3 in (y.0, y.1, y.2, record { inside = h.inside; held = h.held; met = h.met })) (head_or v.rights fresh n r g))
-            (carried_same shows p s o id v w at (set s.words (head_word i) own) s.homes same_slots own_beside refl) (log_else (entry_of x.claim (found - IDLE)) refl)
-            (begins o.chains c.link c e (next_entry (found - IDLE) before) (memory p o.slot (set s.words (head_word i) own)) (tokens (set s.views id w)) fresh b.all_freed b.all_placed refl refl (ap suc (o.delivered.at_home c.link took.0 took.1 link_in took.2).2) refl own_head
+            (carried_same shows p s o id v w at (set s.words (head_index i) own) s.homes same_slots own_beside refl) (log_else (entry_of x.claim (found - IDLE)) refl)
+            (begins o.chains c.link c e (next_entry (found - IDLE) before) (memory p o.slot (set s.words (head_index i) own)) (tokens (set s.views id w)) fresh b.all_freed b.all_placed refl refl (ap suc (o.delivered.at_home c.link took.0 took.1 link_in took.2).2) refl own_head
             (next_same p o.slot s.words own o.references.sized (slots_in o) c.link i link_slot (one_slot o))
             (request_same p o.slot s.words own o.references.sized (slots_in o) c.link i link_slot (one_slot o))
             rights
@@ -174,9 +174,9 @@ module _ {S : Type 0} (shows : S → Home) (p : Plan) (s : State S View) (o : La
             (λ same. let q : fresh ≡ r = one_token ((tokens (set s.views id w)).rights c.link) fresh r rights.here (ap (tokens (set s.views id w)).rights (sym same) ∙ h) in
             inr (ap (λ (y : Right). y.clean) (sym q), ap (link_home shows p s.homes) same ∙ (took.2 ∙ ap (λ (y : Right). some (y.sent, y.places)) q)))
             (λ ne. inl (sym (rights.else k kl ne) ∙ h))))
-            (tokens (set s.views id w)) (λ l. get_or (set s.words (head_word i) own) (place_word p l) 0)
+            (tokens (set s.views id w)) (λ l. get_or (set s.words (head_index i) own) (place_index p l) 0)
             (place_same p o.slot s.words own o.references.sized (slots_in o) c.link i link_slot (one_slot o)) (λ k r kl h. (r, h, refl, refl, refl)))
-            (links_frame shows p s o id v w at (set s.words (head_word i) own) s.homes same_slots own_beside (λ k h. refl) o.homes.own
+            (links_frame shows p s o id v w at (set s.words (head_index i) own) s.homes same_slots own_beside (λ k h. refl) o.homes.own
             (λ k i kl sk h. dite (ℕ_discrete k c.link)
             (λ same. absurd (no_token ((tokens (set s.views id w)).rights c.link) fresh rights.here (ap (tokens (set s.views id w)).rights (sym same) ∙ h)))
             (λ ne. o.homes.idle k i kl sk (sym (rights.else k kl ne) ∙ h)))

@@ -6,36 +6,36 @@ use native.Mathlib.Decide.{ℕ_discrete}
 use lib.ListN.{get_elem?}
 use Rattle.atomic_table.specs.Table.{State, stepped, keeps}
 use Rattle.atomic_table.proofs.Lists.{at_set}
-use Rattle.slot_laws.specs.sock_model.specs.declared.marks.Mark.{Mark}
-use Rattle.slot_laws.specs.sock_model.specs.declared.marks.Mark.TheVariants.{Claimed, Known, Born, Linked}
-use Rattle.slot_laws.specs.sock_model.specs.declared.marks.SlotMark.{SlotMark}
-use Rattle.slot_laws.specs.sock_model.specs.declared.home.Home.{Home}
-use Rattle.slot_laws.specs.sock_model.specs.declared.home.Home.TheVariants.{Link}
-use Rattle.slot_laws.specs.sock_words.specs.declared.plain.Plan.{Plan}
-use Rattle.slot_laws.specs.sock_model.specs.declared.view.View.{View}
-use Rattle.slot_laws.specs.sock_model.specs.Weights.{total, only, pair, is_busy, is_stage, is_reset, is_recycled, is_hold, is_freer, is_failer, is_linked, is_met}
-use Rattle.slot_laws.specs.sock_model.specs.Marks.{about, at, without_at}
-use Rattle.slot_laws.specs.sock_model.specs.Layout.{ref_word, head_word, request_word, next_word, place_word}
-use Rattle.slot_laws.specs.sock_model.specs.Slots.{version_of, count}
-use Rattle.slot_laws.specs.sock_model.specs.References.{slot_facts}
-use Rattle.slot_laws.specs.sock_model.specs.SlotRows.{marks_of, gave_birth, staged}
-use Rattle.slot_laws.specs.sock_model.specs.Entries.{on}
-use Rattle.slot_laws.specs.sock_model.specs.Memory.{IDLE}
-use Rattle.slot_laws.specs.sock_model.specs.Reads.{rights_on, claims_of, loose_at, head_at, memory, tokens, link_at, link_home, took_of, waits_of, hands_of, message}
-use Rattle.slot_laws.specs.sock_model.specs.Links.{HoldsRights, Given, Lives, Failed, InSlots}
-use Rattle.slot_laws.specs.sock_model.specs.Homes.{Unborn, Recycles, LinkHomes}
-use Rattle.slot_laws.specs.sock_model.specs.Lawful.{Lawful}
-use Rattle.slot_laws.proofs.Sums.{total-set, term_le, total_mono, about-here, about-other}
-use Rattle.slot_laws.proofs.Numbers.{pair_le, only-same, pair-same, pair_is, life-high}
-use Rattle.slot_laws.proofs.Slots.{stage_is}
-use Rattle.slot_laws.proofs.Kept.{birth_keeps}
-use Rattle.slot_laws.proofs.Stored.{head_keeps}
-use Rattle.chain_laws.proofs.Frames.{Changed, in_log}
-use Rattle.chain_laws.proofs.Gather.{gather_same}
-use Rattle.chain_laws.proofs.Authored.{keeps_lists}
-use Rattle.chain_laws.proofs.Letters.{messages_frame}
-use Rattle.chain_laws.proofs.Delivers.{delivers_same, delivers_failed}
-use Rattle.chain_laws.proofs.Settles.{comes_in}
+use Rattle.slot_steps.specs.sock_model.specs.declared.marks.Mark.{Mark}
+use Rattle.slot_steps.specs.sock_model.specs.declared.marks.Mark.TheVariants.{Claimed, Known, Born, Linked}
+use Rattle.slot_steps.specs.sock_model.specs.declared.marks.SlotMark.{SlotMark}
+use Rattle.slot_steps.specs.sock_model.specs.declared.home.Home.{Home}
+use Rattle.slot_steps.specs.sock_model.specs.declared.home.Home.TheVariants.{Link}
+use Rattle.slot_steps.specs.sock_words.specs.declared.plain.Plan.{Plan}
+use Rattle.slot_steps.specs.sock_model.specs.declared.view.View.{View}
+use Rattle.slot_steps.specs.sock_model.specs.Weights.{total, only, pair, is_busy, is_stage, is_reset, is_recycled, is_hold, is_freer, is_failer, is_linked, is_met}
+use Rattle.slot_steps.specs.sock_model.specs.Marks.{about, at, without_at}
+use Rattle.slot_steps.specs.sock_model.specs.Layout.{ref_index, head_index, request_index, next_index, place_index}
+use Rattle.slot_steps.specs.sock_model.specs.Slots.{version_of, count}
+use Rattle.slot_steps.specs.sock_model.specs.References.{slot_facts}
+use Rattle.slot_steps.specs.sock_model.specs.SlotRows.{marks_of, gave_birth, staged}
+use Rattle.slot_steps.specs.sock_model.specs.Entries.{on}
+use Rattle.slot_steps.specs.sock_model.specs.Memory.{IDLE}
+use Rattle.slot_steps.specs.sock_model.specs.Reads.{rights_on, claims_of, loose_at, head_at, memory, tokens, link_at, link_home, took_of, waits_of, hands_of, message}
+use Rattle.slot_steps.specs.sock_model.specs.Links.{HoldsRights, Given, Lives, Failed, InSlots}
+use Rattle.slot_steps.specs.sock_model.specs.Homes.{Unborn, Recycles, LinkHomes}
+use Rattle.slot_steps.specs.sock_model.specs.Lawful.{Lawful}
+use Rattle.slot_steps.proofs.Sums.{total-set, term_le, total_mono, about-here, about-other}
+use Rattle.slot_steps.proofs.Numbers.{pair_le, only-same, pair-same, pair_is, life-high}
+use Rattle.slot_steps.proofs.Slots.{stage_is}
+use Rattle.slot_steps.proofs.Kept.{birth_keeps}
+use Rattle.slot_steps.proofs.Stored.{head_keeps}
+use Rattle.chain_steps.proofs.Frames.{Changed, in_log}
+use Rattle.chain_steps.proofs.Gather.{gather_same}
+use Rattle.chain_steps.proofs.Authored.{keeps_lists}
+use Rattle.chain_steps.proofs.Letters.{messages_frame}
+use Rattle.chain_steps.proofs.Delivers.{delivers_same, delivers_failed}
+use Rattle.chain_steps.proofs.Settles.{comes_in}
 use Rattle.sock_steps.proofs.Quiet.{Less, More, less_add, more_add, less_without, more_without}
 use Rattle.sock_steps.proofs.Steady.{same_chain, waits-taken, staged_steady, staged_else}
 use Rattle.sock_steps.proofs.Places.{counts, own_count, given_more, failed_more, busy_idle, claimed_unborn}
@@ -59,23 +59,23 @@ module _ {S : Type 0} (shows : S → Home) (p : Plan) (s : State S View) (o : La
   claimed_idle n k there h l g = busy_idle p s o.references i h l (omega (arith, own_count s id v here is_busy i, total_mono (is_stage n k) is_busy (stage_busy n k) (about i v.marks))) g
 
   -- S3
-  pub reset_law : (k : ℕ) → 0 < marks_of (is_stage 1 k) i v → Lawful shows p (stepped s (head_word i) IDLE id [] (staged i 1 k 2 v) keeps)
+  pub reset_law : (k : ℕ) → 0 < marks_of (is_stage 1 k) i v → Lawful shows p (stepped s (head_index i) IDLE id [] (staged i 1 k 2 v) keeps)
   reset_law k there = let w : View = staged i 1 k 2 v in let st = staged_steady v i 1 k 2 there (λ x. refl) in let sized = o.references.sized in
-      slot_frame shows p s o id v w here (set s.words (head_word i) IDLE) (same_chain v w refl) st.0
+      slot_frame shows p s o id v w here (set s.words (head_index i) IDLE) (same_chain v w refl) st.0
       record {
-        heads = λ l j e. let a = o.in_slots.lives l j e in get_or-set_other s.words (head_word i) (head_word j) IDLE 0 (λ q. let same : j ≡ i = omega arith in claimed_idle 1 k there a.0 l (subst (λ y. Lives p s y a.0 l) same a.1));
-        nexts = λ r rl. get_or-set_other s.words (head_word i) (next_word p r) IDLE 0 (λ q. omega arith);
-        requests = λ r rl. get_or-set_other s.words (head_word i) (request_word p r) IDLE 0 (λ q. omega arith);
-        places = λ l ll. get_or-set_other s.words (head_word i) (place_word p l) IDLE 0 (λ q. omega arith);
+        heads = λ l j e. let a = o.in_slots.lives l j e in get_or-set_other s.words (head_index i) (head_index j) IDLE 0 (λ q. let same : j ≡ i = omega arith in claimed_idle 1 k there a.0 l (subst (λ y. Lives p s y a.0 l) same a.1));
+        nexts = λ r rl. get_or-set_other s.words (head_index i) (next_index p r) IDLE 0 (λ q. omega arith);
+        requests = λ r rl. get_or-set_other s.words (head_index i) (request_index p r) IDLE 0 (λ q. omega arith);
+        places = λ l ll. get_or-set_other s.words (head_index i) (place_index p l) IDLE 0 (λ q. omega arith);
       }
       (λ j jl h. dite (ℕ_discrete j i)
-      (λ e. ap (λ y. get_or (set s.words (head_word i) IDLE) (head_word y) 0) e ∙ get_or-set_same s.words (head_word i) IDLE 0 (omega arith))
-      (λ n. get_or-set_other s.words (head_word i) (head_word j) IDLE 0 (λ q. n (omega arith)) ∙ o.in_slots.reset j jl (omega (arith, counts s id v w here (set s.words (head_word i) IDLE) s.homes is_reset j, staged_else v i 1 k 2 there j n))))
+      (λ e. ap (λ y. get_or (set s.words (head_index i) IDLE) (head_index y) 0) e ∙ get_or-set_same s.words (head_index i) IDLE 0 (omega arith))
+      (λ n. get_or-set_other s.words (head_index i) (head_index j) IDLE 0 (λ q. n (omega arith)) ∙ o.in_slots.reset j jl (omega (arith, counts s id v w here (set s.words (head_index i) IDLE) s.homes is_reset j, staged_else v i 1 k 2 there j n))))
       (still_holds p v w st.0.met st.1.hold refl (o.held id v here)) (inl st.1.recycling) (head_keeps p s o.references id v here [] keeps i inside k IDLE there)
 
-  module _ (fits : get_or s.words (ref_word i) 0 < 18446744073709551616) (k : ℕ) (there : 0 < marks_of (is_stage 3 k) i v) where
+  module _ (fits : get_or s.words (ref_index i) 0 < 18446744073709551616) (k : ℕ) (there : 0 < marks_of (is_stage 3 k) i v) where
     abbrev found : ℕ
-    found = get_or s.words (ref_word i) 0
+    found = get_or s.words (ref_index i) 0
 
     abbrev h : ℕ
     h = version_of found
@@ -87,7 +87,7 @@ module _ {S : Type 0} (shows : S → Home) (p : Plan) (s : State S View) (o : La
     w = gave_birth i found k v
 
     abbrev ws : List ℕ
-    ws = set s.words (ref_word i) ((found + 1) % 2 ^ 64)
+    ws = set s.words (ref_index i) ((found + 1) % 2 ^ 64)
 
     abbrev t : State S View
     t = record { words = ws; homes = s.homes; views = set s.views id w }
@@ -107,7 +107,7 @@ module _ {S : Type 0} (shows : S → Home) (p : Plan) (s : State S View) (o : La
     no_entries : on k o.log ≡ []
     no_entries = no_members (on k o.log) (λ n e g. let a = in_log o.chains k n e g in let b = o.in_slots.entered a.0 e a.1 in unborn b.0 b.1 (subst (λ y. Given p s b.0 b.1 y) a.2 b.2))
 
-    head_idle : get_or s.words (head_word i) 0 ≡ IDLE
+    head_idle : get_or s.words (head_index i) 0 ≡ IDLE
     head_idle = o.in_slots.reset i inside (omega (arith, own_count s id v here is_reset i, total_mono (is_stage 3 k) is_reset (stage_reset 1 k) (about i v.marks)))
 
     -- the marks of the seat
@@ -165,7 +165,7 @@ module _ {S : Type 0} (shows : S → Home) (p : Plan) (s : State S View) (o : La
           (λ n. put-else o.slot k l (some i) n ∙ o.in_slots.alone j g l record { life = from j g l n b.life; unended = (let u = b.unended in omega (arith, count_of (is_freer g) j, more (is_freer g) refl j)) });
       small = λ j g l b. dite (ℕ_discrete l k) (λ y. subst (λ x. x < p.links) (sym y) was_home.0) (λ n. o.in_slots.small j g l (from j g l n b));
       entered = λ q e g. let a = o.in_slots.entered q e g in (a.0, a.1, to a.0 a.1 e.link a.2);
-      reset = λ j jl b. get_or-set_other s.words (ref_word i) (head_word j) ((found + 1) % 2 ^ 64) 0 (λ q. omega arith) ∙ o.in_slots.reset j jl (omega (arith, count_of is_reset j, less is_reset refl refl refl j));
+      reset = λ j jl b. get_or-set_other s.words (ref_index i) (head_index j) ((found + 1) % 2 ^ 64) 0 (λ q. omega arith) ∙ o.in_slots.reset j jl (omega (arith, count_of is_reset j, less is_reset refl refl refl j));
     }
 
     waiters_less : (l : ℕ) → total (waits_of l) (set s.views id w) + only l k ≤ total (waits_of l) s.views
@@ -203,7 +203,7 @@ module _ {S : Type 0} (shows : S → Home) (p : Plan) (s : State S View) (o : La
         carry l {v'} u n rec (inr a) = let b = a.recycling in inr record { slot = a.slot; version = a.version; recycling = omega (arith, rec a.slot a.version); life = to a.slot (a.version - 2) l a.life }
 
     -- A2
-    pub birth_law : Lawful shows p (stepped s (ref_word i) ((found + 1) % 2 ^ 64) id [] (gave_birth i found k v) keeps)
+    pub birth_law : Lawful shows p (stepped s (ref_index i) ((found + 1) % 2 ^ 64) id [] (gave_birth i found k v) keeps)
     birth_law = record {
       slot = slot;
       log = o.log;
@@ -219,20 +219,20 @@ module _ {S : Type 0} (shows : S → Home) (p : Plan) (s : State S View) (o : La
       authors = keeps_lists (λ (y : View). y.lists) s.views o.log id v w o.authors here refl;
       messages = messages_frame o.chains o.messages (tokens (set s.views id w)) (message shows s.homes) (λ r rl. refl) (λ r rl. gather_same (claims_of r) s.views id v w here refl)
           (λ l e ll u. record { right = u.right; has = rights_same l ∙ u.has; stage = u.stage; taken = u.taken }) (λ l r ll b f. (r, sym (rights_same l) ∙ b, f, refl, refl, refl));
-      delivered = delivers_failed (delivers_same o.delivered (tokens (set s.views id w)) (λ l. get_or ws (place_word p l) 0) words.places (λ l r ll b. (r, sym (rights_same l) ∙ b, refl, refl, refl)))
+      delivered = delivers_failed (delivers_same o.delivered (tokens (set s.views id w)) (λ l. get_or ws (place_index p l) 0) words.places (λ l r ll b. (r, sym (rights_same l) ∙ b, refl, refl, refl)))
           (Failed p t) (λ l ll. failed_more s id v w here ws s.homes p (λ j g x. more (is_linked g x) refl j) (λ j g. more (is_failer g) refl j) l);
       carried = λ j n u b c e. ⊎_elim (λ y. o.carried id n v b here (subst (λ (z : View). get_elem? z.hands n ≡ some b) (sym y.1) e)) (λ y. o.carried j n u b y.1 e) (at_set s.views id j w u c);
       homes = homes_after;
     }
       where
         words : ChainWords p o.slot s.words ws
-        words = low_words shows p s o id v here (ref_word i) ((found + 1) % 2 ^ 64) (omega arith) (λ j jl e. omega arith)
+        words = low_words shows p s o id v here (ref_index i) ((found + 1) % 2 ^ 64) (omega arith) (λ j jl e. omega arith)
 
         rights_same : (l : ℕ) → (tokens (set s.views id w)).rights l ≡ (tokens s.views).rights l
         rights_same l = gather_same (rights_on l) s.views id v w here refl
 
         heads : Changed p.links (memory p o.slot s.words).head (memory p slot ws).head k (some IDLE)
         heads = record {
-          here = ap (head_at ws) (put-here o.slot k (some i)) ∙ ap (λ (y : ℕ). some y) (get_or-set_other s.words (ref_word i) (head_word i) ((found + 1) % 2 ^ 64) 0 (λ q. omega arith) ∙ head_idle);
+          here = ap (head_at ws) (put-here o.slot k (some i)) ∙ ap (λ (y : ℕ). some y) (get_or-set_other s.words (ref_index i) (head_index i) ((found + 1) % 2 ^ 64) 0 (λ q. omega arith) ∙ head_idle);
           else = λ l ll n. ap (head_at ws) (put-else o.slot k l (some i) n) ∙ head_is (o.slot l) s.words ws (words.heads l);
         }

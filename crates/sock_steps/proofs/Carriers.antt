@@ -6,23 +6,23 @@ use native.Mathlib.Decide.{ℕ_discrete}
 use lib.ListN.{get_elem?}
 use Rattle.atomic_table.specs.Table.{State}
 use Rattle.atomic_table.proofs.Lists.{at_set, at_map, at_snoc}
-use Rattle.slot_laws.specs.sock_words.specs.declared.plain.Plan.{Plan}
-use Rattle.slot_laws.specs.sock_model.specs.declared.chain.Entry.{Entry}
-use Rattle.slot_laws.specs.sock_model.specs.declared.home.Home.{Home}
-use Rattle.slot_laws.specs.sock_model.specs.declared.view.View.{View}
-use Rattle.slot_laws.specs.sock_model.specs.Weights.{total, only}
-use Rattle.slot_laws.specs.sock_model.specs.Layout.{place_word}
-use Rattle.slot_laws.specs.sock_model.specs.Seats.{newcomer, carrier}
-use Rattle.slot_laws.specs.sock_model.specs.Authors.{pick, Authored}
-use Rattle.slot_laws.specs.sock_model.specs.Reads.{rights_on, claims_of, loose_at, tokens, message}
-use Rattle.slot_laws.specs.sock_model.specs.Lawful.{Lawful}
-use Rattle.slot_laws.specs.sock_model.specs.Rule.{FoundWords, AreShort, lists_of, Rule}
-use Rattle.slot_laws.proofs.Sums.{total-set, total-append}
-use Rattle.chain_laws.proofs.Frames.{chains_frame}
-use Rattle.chain_laws.proofs.Gather.{gather_same}
-use Rattle.chain_laws.proofs.Letters.{messages_frame}
-use Rattle.chain_laws.proofs.Delivers.{delivers_same}
-use Rattle.chain_laws.proofs.Lists.{at_last}
+use Rattle.slot_steps.specs.sock_words.specs.declared.plain.Plan.{Plan}
+use Rattle.slot_steps.specs.sock_model.specs.declared.chain.Entry.{Entry}
+use Rattle.slot_steps.specs.sock_model.specs.declared.home.Home.{Home}
+use Rattle.slot_steps.specs.sock_model.specs.declared.view.View.{View}
+use Rattle.slot_steps.specs.sock_model.specs.Weights.{total, only}
+use Rattle.slot_steps.specs.sock_model.specs.Layout.{place_index}
+use Rattle.slot_steps.specs.sock_model.specs.Seats.{newcomer, carrier}
+use Rattle.slot_steps.specs.sock_model.specs.Authors.{pick, Authored}
+use Rattle.slot_steps.specs.sock_model.specs.Reads.{rights_on, claims_of, loose_at, tokens, message}
+use Rattle.slot_steps.specs.sock_model.specs.Lawful.{Lawful}
+use Rattle.slot_steps.specs.sock_model.specs.Rule.{FoundWords, AreShort, lists_of, Rule}
+use Rattle.slot_steps.proofs.Sums.{total-set, total-append}
+use Rattle.chain_steps.proofs.Frames.{chains_frame}
+use Rattle.chain_steps.proofs.Gather.{gather_same}
+use Rattle.chain_steps.proofs.Letters.{messages_frame}
+use Rattle.chain_steps.proofs.Delivers.{delivers_same}
+use Rattle.chain_steps.proofs.Lists.{at_last}
 use Rattle.sock_steps.proofs.Words.{beside_all}
 use Rattle.sock_steps.proofs.ChainFrame.{SameSlots, carried_same, links_frame, chain_frame}
 use Rattle.sock_steps.proofs.Reseat.{splitting_law}
@@ -79,7 +79,7 @@ module _ {S : Type 0} {shows : S → Home} {p : Plan} {s : State S View} (o : La
       (unlists (λ (y : View). y.lists) s.views o.log id v (record v { lists = []; share = 0 }) o.authors here one refl)
       (messages_frame o.chains o.messages (tokens (set s.views id (record v { lists = []; share = 0 }))) (message shows s.homes) (λ q ql. refl) (λ q ql. claims q)
       (λ k e kl u. record { right = u.right; has = rights k ∙ u.has; stage = u.stage; taken = u.taken }) (λ k r kl h g. (r, sym (rights k) ∙ h, g, refl, refl, refl)))
-      (delivers_same o.delivered (tokens (set s.views id (record v { lists = []; share = 0 }))) (λ l. get_or s.words (place_word p l) 0) (λ l ll. refl) (λ j y jl h. (y, sym (rights j) ∙ h, refl, refl, refl)))
+      (delivers_same o.delivered (tokens (set s.views id (record v { lists = []; share = 0 }))) (λ l. get_or s.words (place_index p l) 0) (λ l ll. refl) (λ j y jl h. (y, sym (rights j) ∙ h, refl, refl, refl)))
       (links_frame shows p s o id v (record v { lists = []; share = 0 }) here s.words s.homes same (beside_all p o.slot s.words) (λ k h. refl) (λ k x kl e. o.homes.own k x kl e)
       (λ k j kl sk h. o.homes.idle k j kl sk (sym (rights k) ∙ h)) (λ k r kl h. o.homes.busy k r kl (sym (rights k) ∙ h)) (λ k kl e. refl) refl)
 

@@ -5,32 +5,32 @@ use lib.ListN.{get_elem?}
 use lib.Seq.{map-set}
 use Rattle.atomic_table.specs.Table.{State}
 use Rattle.atomic_table.proofs.Lists.{at_map, at_set, set_again}
-use Rattle.slot_laws.specs.sock_model.specs.declared.marks.Mark.{Mark}
-use Rattle.slot_laws.specs.sock_model.specs.declared.marks.Mark.TheVariants.{Claimed}
-use Rattle.slot_laws.specs.sock_model.specs.declared.chain.Entry.{Entry}
-use Rattle.slot_laws.specs.sock_model.specs.declared.chain.Right.{Right}
-use Rattle.slot_laws.specs.sock_model.specs.declared.home.Home.{Home}
-use Rattle.slot_laws.specs.sock_words.specs.declared.plain.Plan.{Plan}
-use Rattle.slot_laws.specs.sock_model.specs.declared.view.View.{View}
-use Rattle.slot_laws.specs.sock_model.specs.declared.view.Hand.{Hand}
-use Rattle.slot_laws.specs.sock_model.specs.Entries.{on}
-use Rattle.slot_laws.specs.sock_model.specs.Weights.{total, only, is_linked, is_freer, is_failer, is_born, is_busy, is_reset, is_recycled, is_met}
-use Rattle.slot_laws.specs.sock_model.specs.Marks.{about, says}
-use Rattle.slot_laws.specs.sock_model.specs.Layout.{name_word, open_word, place_word}
-use Rattle.slot_laws.specs.sock_model.specs.Slots.{SlotFacts, version_of, nref_of, live, count, SlotLaw}
-use Rattle.slot_laws.specs.sock_model.specs.References.{uses_of, uses_link, sayers, spare, slot_facts, Names, Stores, References}
-use Rattle.slot_laws.specs.sock_model.specs.SlotRows.{marks_of}
-use Rattle.slot_laws.specs.sock_model.specs.Chains.{Chains}
-use Rattle.slot_laws.specs.sock_model.specs.Authors.{Authored}
-use Rattle.slot_laws.specs.sock_model.specs.Messages.{Messages}
-use Rattle.slot_laws.specs.sock_model.specs.Deliveries.{HasTaken, Delivered}
-use Rattle.slot_laws.specs.sock_model.specs.Reads.{carries, memory, tokens, message, link_at, link_home, waits_link, waits_of, hands_of}
-use Rattle.slot_laws.specs.sock_model.specs.Links.{HoldsRights, Given, Failed, InSlots}
-use Rattle.slot_laws.specs.sock_model.specs.Homes.{IsOwn, Unborn, Recycles, LinkHomes}
-use Rattle.slot_laws.specs.sock_model.specs.Lawful.{Lawful}
-use Rattle.slot_laws.proofs.Sums.{total-set, term_le, tally_mono}
-use Rattle.slot_laws.proofs.Numbers.{only-same}
-use Rattle.chain_laws.proofs.Delivers.{delivers_failed}
+use Rattle.slot_steps.specs.sock_model.specs.declared.marks.Mark.{Mark}
+use Rattle.slot_steps.specs.sock_model.specs.declared.marks.Mark.TheVariants.{Claimed}
+use Rattle.slot_steps.specs.sock_model.specs.declared.chain.Entry.{Entry}
+use Rattle.slot_steps.specs.sock_model.specs.declared.chain.Right.{Right}
+use Rattle.slot_steps.specs.sock_model.specs.declared.home.Home.{Home}
+use Rattle.slot_steps.specs.sock_words.specs.declared.plain.Plan.{Plan}
+use Rattle.slot_steps.specs.sock_model.specs.declared.view.View.{View}
+use Rattle.slot_steps.specs.sock_model.specs.declared.view.Hand.{Hand}
+use Rattle.slot_steps.specs.sock_model.specs.Entries.{on}
+use Rattle.slot_steps.specs.sock_model.specs.Weights.{total, only, is_linked, is_freer, is_failer, is_born, is_busy, is_reset, is_recycled, is_met}
+use Rattle.slot_steps.specs.sock_model.specs.Marks.{about, says}
+use Rattle.slot_steps.specs.sock_model.specs.Layout.{name_index, open_index, place_index}
+use Rattle.slot_steps.specs.sock_model.specs.Slots.{SlotFacts, version_of, nref_of, live, count, SlotLaw}
+use Rattle.slot_steps.specs.sock_model.specs.References.{uses_of, uses_link, sayers, spare, slot_facts, Names, Stores, References}
+use Rattle.slot_steps.specs.sock_model.specs.SlotRows.{marks_of}
+use Rattle.slot_steps.specs.sock_model.specs.Chains.{Chains}
+use Rattle.slot_steps.specs.sock_model.specs.Authors.{Authored}
+use Rattle.slot_steps.specs.sock_model.specs.Messages.{Messages}
+use Rattle.slot_steps.specs.sock_model.specs.Deliveries.{HasTaken, Delivered}
+use Rattle.slot_steps.specs.sock_model.specs.Reads.{carries, memory, tokens, message, link_at, link_home, waits_link, waits_of, hands_of}
+use Rattle.slot_steps.specs.sock_model.specs.Links.{HoldsRights, Given, Failed, InSlots}
+use Rattle.slot_steps.specs.sock_model.specs.Homes.{IsOwn, Unborn, Recycles, LinkHomes}
+use Rattle.slot_steps.specs.sock_model.specs.Lawful.{Lawful}
+use Rattle.slot_steps.proofs.Sums.{total-set, term_le, tally_mono}
+use Rattle.slot_steps.proofs.Numbers.{only-same}
+use Rattle.chain_steps.proofs.Delivers.{delivers_failed}
 use Rattle.sock_steps.proofs.Steady.{Steady}
 use Rattle.sock_steps.proofs.Places.{given_to, given_from, lives_to, lives_from, failed_to, busy_idle, one_link}
 use Rattle.sock_steps.proofs.Words.{Beside}
@@ -106,10 +106,10 @@ module _ {S : Type 0} (shows : S → Home) (p : Plan) (s : State S View) (o : La
     slots = λ i l. subst (λ (y : SlotFacts). SlotLaw p.first (live y) y) (sym (local_same i l)) (law.slots i l);
     links = λ k. omega (arith, total-set (uses_of k) s.views id v w here, law.links k, same.passes k, ap (total (uses_link k)) same.marks);
     named = record {
-      names = λ n l. subst (Names p t) (sym (beside.names n l)) (names_same (get_or s.words (name_word p n) 0) (law.named.names n l));
-      opens = λ n l. subst (λ (y : ℕ). y ≢ 18446744073709551615 → Names p t y) (sym (beside.opens n l)) (λ ne. names_same (get_or s.words (open_word p n) 0) (law.named.opens n l ne));
-      names_by = λ n l. stores_same (name_word p n) (beside.names n l) (law.named.names_by n l);
-      opens_by = λ n l. stores_same (open_word p n) (beside.opens n l) (law.named.opens_by n l);
+      names = λ n l. subst (Names p t) (sym (beside.names n l)) (names_same (get_or s.words (name_index p n) 0) (law.named.names n l));
+      opens = λ n l. subst (λ (y : ℕ). y ≢ 18446744073709551615 → Names p t y) (sym (beside.opens n l)) (λ ne. names_same (get_or s.words (open_index p n) 0) (law.named.opens n l ne));
+      names_by = λ n l. stores_same (name_index p n) (beside.names n l) (law.named.names_by n l);
+      opens_by = λ n l. stores_same (open_index p n) (beside.opens n l) (law.named.opens_by n l);
     };
   }
 
@@ -159,7 +159,7 @@ module _ {S : Type 0} (shows : S → Home) (p : Plan) (s : State S View) (o : La
       → Chains p.links p.requests (memory p o.slot ws) (tokens (set s.views id w)) log freed places
       → Authored (λ (u : View). u.lists) (set s.views id w) log
       → Messages p.links p.requests (message shows hs) (tokens (set s.views id w)) log places
-      → Delivered p.links (8 * p.operations) (λ l. get_or ws (place_word p l) 0) (link_home shows p hs) (Failed p s) (tokens (set s.views id w)) log places kept
+      → Delivered p.links (8 * p.operations) (λ l. get_or ws (place_index p l) 0) (link_home shows p hs) (Failed p s) (tokens (set s.views id w)) log places kept
       → LinkHomes shows p t o.slot → Lawful shows p t
   chain_frame log freed places kept entered held mine still chains authors messages delivered homes = record {
     slot = o.slot;

@@ -4,32 +4,32 @@ use Rattle.std.specs.List.{filter, flat_map}
 use mathlib.Core.Option.{Option, some}
 use lib.ListN.{get_elem?}
 use Rattle.atomic_table.specs.Table.{State}
-use Rattle.slot_laws.specs.sock_model.specs.declared.chain.Right.{Right}
-use Rattle.slot_laws.specs.sock_model.specs.declared.chain.Claim.{Claim}
-use Rattle.slot_laws.specs.sock_model.specs.declared.chain.Loose.{Loose}
-use Rattle.slot_laws.specs.sock_model.specs.declared.home.Home.{Home}
-use Rattle.slot_laws.specs.sock_model.specs.declared.home.Home.TheVariants.{Message}
-use Rattle.slot_laws.specs.sock_words.specs.declared.plain.Plan.{Plan}
-use Rattle.slot_laws.specs.sock_model.specs.declared.view.View.{View}
-use Rattle.slot_laws.specs.sock_model.specs.declared.marks.SlotMark.{SlotMark}
-use Rattle.slot_laws.specs.sock_model.specs.Weights.{total, is_hold, is_met}
-use Rattle.slot_laws.specs.sock_model.specs.Marks.{about}
-use Rattle.slot_laws.specs.sock_model.specs.Layout.{next_word, request_word, place_word}
-use Rattle.slot_laws.specs.sock_model.specs.Memory.{UNCONNECTED}
-use Rattle.slot_laws.specs.sock_model.specs.Chains.{Chains}
-use Rattle.slot_laws.specs.sock_model.specs.Messages.{Messages}
-use Rattle.slot_laws.specs.sock_model.specs.Reads.{as_link, link_home, took_of, memory, letter_of, shown, message, link_at, rights_on, claims_of, loose_at, tokens}
-use Rattle.slot_laws.specs.sock_model.specs.ChainRows.{with_claim, without_loose}
-use Rattle.slot_laws.specs.sock_model.specs.Lawful.{Lawful}
-use Rattle.chain_laws.proofs.Lists.{at_length, filter_in}
-use Rattle.chain_laws.proofs.Frames.{Same, Changed}
-use Rattle.chain_laws.proofs.Claims.{claims, free_of, reclaims, readies}
-use Rattle.chain_laws.proofs.Nexts.{connects}
-use Rattle.chain_laws.proofs.Gather.{gather_all, gather_own, gather_same}
-use Rattle.chain_laws.proofs.Few.{few_loose, few_claims}
-use Rattle.chain_laws.proofs.Authored.{keeps_lists}
-use Rattle.chain_laws.proofs.Letters.{messages_frame, claims_letter, fills}
-use Rattle.chain_laws.proofs.Delivers.{delivers_same, moves_link}
+use Rattle.slot_steps.specs.sock_model.specs.declared.chain.Right.{Right}
+use Rattle.slot_steps.specs.sock_model.specs.declared.chain.Claim.{Claim}
+use Rattle.slot_steps.specs.sock_model.specs.declared.chain.Loose.{Loose}
+use Rattle.slot_steps.specs.sock_model.specs.declared.home.Home.{Home}
+use Rattle.slot_steps.specs.sock_model.specs.declared.home.Home.TheVariants.{Message}
+use Rattle.slot_steps.specs.sock_words.specs.declared.plain.Plan.{Plan}
+use Rattle.slot_steps.specs.sock_model.specs.declared.view.View.{View}
+use Rattle.slot_steps.specs.sock_model.specs.declared.marks.SlotMark.{SlotMark}
+use Rattle.slot_steps.specs.sock_model.specs.Weights.{total, is_hold, is_met}
+use Rattle.slot_steps.specs.sock_model.specs.Marks.{about}
+use Rattle.slot_steps.specs.sock_model.specs.Layout.{next_index, request_index, place_index}
+use Rattle.slot_steps.specs.sock_model.specs.Memory.{UNCONNECTED}
+use Rattle.slot_steps.specs.sock_model.specs.Chains.{Chains}
+use Rattle.slot_steps.specs.sock_model.specs.Messages.{Messages}
+use Rattle.slot_steps.specs.sock_model.specs.Reads.{as_link, link_home, took_of, memory, letter_of, shown, message, link_at, rights_on, claims_of, loose_at, tokens}
+use Rattle.slot_steps.specs.sock_model.specs.ChainRows.{with_claim, without_loose}
+use Rattle.slot_steps.specs.sock_model.specs.Lawful.{Lawful}
+use Rattle.chain_steps.proofs.Lists.{at_length, filter_in}
+use Rattle.chain_steps.proofs.Frames.{Same, Changed}
+use Rattle.chain_steps.proofs.Claims.{claims, free_of, reclaims, readies}
+use Rattle.chain_steps.proofs.Nexts.{connects}
+use Rattle.chain_steps.proofs.Gather.{gather_all, gather_own, gather_same}
+use Rattle.chain_steps.proofs.Few.{few_loose, few_claims}
+use Rattle.chain_steps.proofs.Authored.{keeps_lists}
+use Rattle.chain_steps.proofs.Letters.{messages_frame, claims_letter, fills}
+use Rattle.chain_steps.proofs.Delivers.{delivers_same, moves_link}
 use Rattle.sock_steps.proofs.Words.{Beside, beside_all, next_beside, next_head, next_changed, next_request, next_place, request_beside, request_head, request_changed, request_next, request_place}
 use Rattle.sock_steps.proofs.ChainFrame.{SameSlots, carried_same, slots_in, links_frame, chain_frame}
 use Rattle.atomic_table.proofs.Lists.{set_else}
@@ -41,7 +41,7 @@ module _ {S : Type 0} {shows : S → Home} {p : Plan} {s : State S View} (o : La
   rights_stay k = gather_same (rights_on k) s.views id v w at (ap (λ (l : List Right). filter (λ (x : Right). eqb x.link k) l) rights)
 
   -- a step that leaves the rights, the lists, the links' homes and the place words
-  pub other_base : (ws : List ℕ) (hs : List (Option S)) → Beside p o.slot s.words ws → ((k : ℕ) → link_at shows p hs k ≡ link_at shows p s.homes k) → Same (8 * p.operations) (λ l. get_or s.words (place_word p l) 0) (λ l. get_or ws (place_word p l) 0)
+  pub other_base : (ws : List ℕ) (hs : List (Option S)) → Beside p o.slot s.words ws → ((k : ℕ) → link_at shows p hs k ≡ link_at shows p s.homes k) → Same (8 * p.operations) (λ l. get_or s.words (place_index p l) 0) (λ l. get_or ws (place_index p l) 0)
       → Chains p.links p.requests (memory p o.slot ws) (tokens (set s.views id w)) o.log o.freed o.places
       → Messages p.links p.requests (message shows hs) (tokens (set s.views id w)) o.log o.places
       → Lawful shows p record { words = ws; homes = hs; views = set s.views id w }
@@ -49,14 +49,14 @@ module _ {S : Type 0} {shows : S → Home} {p : Plan} {s : State S View} (o : La
       (λ i r g. let x = o.held id v at i r (subst (λ l. get_elem? l i ≡ some r) rights g) in let h = x.3 in
       (x.0, x.1, x.2, record { inside = h.inside; held = subst (λ (m : List SlotMark). 0 < total (is_hold x.2) (about x.1 m)) (sym same.marks) h.held; met = subst (λ (m : List SlotMark). 0 < total (is_met x.2 r.link) (about x.1 m)) (sym same.marks) h.met }))
       (carried_same shows p s o id v w at ws hs same beside hands) (λ k e. (refl, refl, refl)) chains (keeps_lists (λ (y : View). y.lists) s.views o.log id v w o.authors at lists) messages
-      (moves_link (delivers_same o.delivered (tokens (set s.views id w)) (λ l. get_or ws (place_word p l) 0) pl (λ j y jl h. (y, sym (rights_stay j) ∙ h, refl, refl, refl)))
+      (moves_link (delivers_same o.delivered (tokens (set s.views id w)) (λ l. get_or ws (place_index p l) 0) pl (λ j y jl h. (y, sym (rights_stay j) ∙ h, refl, refl, refl)))
       (link_home shows p hs) (λ j took next jl h. inl (sym (ap took_of (links j)) ∙ h)))
       (links_frame shows p s o id v w at ws hs same beside (λ k h. links k) (λ k x kl e. o.homes.own k x kl (sym (links k) ∙ e))
       (λ k j kl sk h. let a = o.homes.idle k j kl sk (sym (rights_stay k) ∙ h) in (a.0, a.1, ap took_of (links k) ∙ a.2)) (λ k r kl h. ap took_of (links k) ∙ o.homes.busy k r kl (sym (rights_stay k) ∙ h)) (λ k kl e. links k) hands)
 
 -- C1, where the word was even: the seat had no claim, and has the new one
 pub claiming_law : {S : Type 0} (shows : S → Home) (p : Plan) (id r g : ℕ) (v : View) (c : Claim) (s : State S View) (o : Lawful shows p s) → get_elem? s.views id ≡ some v → r < p.requests → v.claims ≡ [] → c.request ≡ r → c.generation ≡ g → c.ready ≡ false → c.filled ≡ false
-    → get_or s.words (request_word p r) 0 ≡ 2 * g → Lawful shows p record { words = set s.words (request_word p r) (2 * g + 1); homes = s.homes; views = set s.views id (with_claim v c) }
+    → get_or s.words (request_index p r) 0 ≡ 2 * g → Lawful shows p record { words = set s.words (request_index p r) (2 * g + 1); homes = s.homes; views = set s.views id (with_claim v c) }
 claiming_law shows p id r g v c s o at rl empty cr cg ready filled word =
     let w : View = with_claim v c in let claim_same : SameSlots v (with_claim v c) = record { plan = refl; marks = refl; passes = λ y. omega arith; spare = refl; stores = refl } in
     let none_of : (q : ℕ) → claims_of q v ≡ [] = λ q. ap (λ (l : List Claim). filter (λ (x : Claim). eqb x.request q) l) empty in
@@ -66,7 +66,7 @@ claiming_law shows p id r g v c s o at rl empty cr cg ready filled word =
       else = λ q ql ne. gather_same (claims_of q) s.views id v (with_claim v c) at (ap (λ b. cond b (c ∷ []) []) (ne_eqb c.request q (λ e. ne (sym e ∙ cr))) ∙ sym (none_of q));
     } in
     let rt : Same p.links (tokens s.views).rights (tokens (set s.views id (with_claim v c))).rights = λ k kl. rights_stay o id v (with_claim v c) at claim_same refl refl refl k in
-    other_base o id v (with_claim v c) at claim_same refl refl refl (set s.words (request_word p r) (2 * g + 1)) s.homes (request_beside p o.slot s.words (2 * g + 1) o.references.sized (slots_in o) r rl) (λ k. refl)
+    other_base o id v (with_claim v c) at claim_same refl refl refl (set s.words (request_index p r) (2 * g + 1)) s.homes (request_beside p o.slot s.words (2 * g + 1) o.references.sized (slots_in o) r rl) (λ k. refl)
     (request_place p o.slot s.words (2 * g + 1) o.references.sized (slots_in o) r rl)
     (claims o.chains r g c rl word cg ready (request_head p o.slot s.words (2 * g + 1) o.references.sized (slots_in o) r rl) (request_next p o.slot s.words (2 * g + 1) o.references.sized (slots_in o) r rl) (request_changed p o.slot s.words (2 * g + 1) o.references.sized (slots_in o) r rl)
     rt cl (λ q ql. gather_same (loose_at q) s.views id v (with_claim v c) at refl))
@@ -90,7 +90,7 @@ loose_else r j (x ∷ xs) ne = loose_else_at r j x (filter (λ (y : Loose). not 
 
 -- C3
 pub connecting_law : {S : Type 0} (shows : S → Home) (p : Plan) (id i : ℕ) (v : View) (l : Loose) (s : State S View) (o : Lawful shows p s) → get_elem? s.views id ≡ some v → l.request < p.requests → get_elem? v.loose i ≡ some l
-    → Lawful shows p record { words = set s.words (next_word p l.request) l.before; homes = s.homes; views = set s.views id (without_loose v l.request) }
+    → Lawful shows p record { words = set s.words (next_index p l.request) l.before; homes = s.homes; views = set s.views id (without_loose v l.request) }
 connecting_law shows p id i v l s o at rl has =
     let loose_same : SameSlots v (without_loose v l.request) = record { plan = refl; marks = refl; passes = λ y. omega arith; spare = refl; stores = refl } in
     let a = filter_in (λ (x : Loose). eqb x.request l.request) v.loose i l has (eq-eqb l.request l.request refl) in
@@ -100,7 +100,7 @@ connecting_law shows p id i v l s o at rl has =
     let alone : (tokens s.views).loose l.request ≡ l ∷ [] = all ∙ single (loose_at l.request v) a.0 l (omega arith) a.1 in
     let cl : Same p.requests (tokens s.views).claims (tokens (set s.views id (without_loose v l.request))).claims = λ q ql. gather_same (claims_of q) s.views id v (without_loose v l.request) at refl in
     let rt : Same p.links (tokens s.views).rights (tokens (set s.views id (without_loose v l.request))).rights = λ k kl. rights_stay o id v (without_loose v l.request) at loose_same refl refl refl k in
-    other_base o id v (without_loose v l.request) at loose_same refl refl refl (set s.words (next_word p l.request) l.before) s.homes (next_beside p o.slot s.words l.before o.references.sized (slots_in o) l.request rl) (λ k. refl)
+    other_base o id v (without_loose v l.request) at loose_same refl refl refl (set s.words (next_index p l.request) l.before) s.homes (next_beside p o.slot s.words l.before o.references.sized (slots_in o) l.request rl) (λ k. refl)
     (next_place p o.slot s.words l.before o.references.sized (slots_in o) l.request rl)
     (connects o.chains l.request l rl alone (next_head p o.slot s.words l.before o.references.sized (slots_in o) l.request rl) (next_changed p o.slot s.words l.before o.references.sized (slots_in o) l.request rl) (next_request p o.slot s.words l.before o.references.sized (slots_in o) l.request rl)
     rt cl record {
@@ -128,9 +128,9 @@ module _ {S : Type 0} {shows : S → Home} {p : Plan} {s : State S View} (o : La
   same_slots = record { plan = refl; marks = refl; passes = λ y. omega arith; spare = refl; stores = refl }
 
   -- C7
-  pub readying_law : c'.generation ≡ c.generation → (c'.filled ≡ true → message shows s.homes r ≡ some (c'.heading, c'.bytes)) → Lawful shows p record { words = set s.words (next_word p r) UNCONNECTED; homes = s.homes; views = set s.views id (with_claim v c') }
+  pub readying_law : c'.generation ≡ c.generation → (c'.filled ≡ true → message shows s.homes r ≡ some (c'.heading, c'.bytes)) → Lawful shows p record { words = set s.words (next_index p r) UNCONNECTED; homes = s.homes; views = set s.views id (with_claim v c') }
   readying_law same told = let rt : Same p.links (tokens s.views).rights (tokens (set s.views id (with_claim v c'))).rights = λ k kl. rights_stay o id v (with_claim v c') at same_slots refl refl refl k in
-      other_base o id v (with_claim v c') at same_slots refl refl refl (set s.words (next_word p r) UNCONNECTED) s.homes (next_beside p o.slot s.words UNCONNECTED o.references.sized (slots_in o) r rl) (λ k. refl)
+      other_base o id v (with_claim v c') at same_slots refl refl refl (set s.words (next_index p r) UNCONNECTED) s.homes (next_beside p o.slot s.words UNCONNECTED o.references.sized (slots_in o) r rl) (λ k. refl)
       (next_place p o.slot s.words UNCONNECTED o.references.sized (slots_in o) r rl)
       (readies o.chains r c c' rl claim_alone same (next_head p o.slot s.words UNCONNECTED o.references.sized (slots_in o) r rl) (next_changed p o.slot s.words UNCONNECTED o.references.sized (slots_in o) r rl) (next_request p o.slot s.words UNCONNECTED o.references.sized (slots_in o) r rl)
       rt claim_changed (λ q ql. gather_same (loose_at q) s.views id v (with_claim v c') at refl))

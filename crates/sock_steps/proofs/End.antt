@@ -6,34 +6,34 @@ use native.Mathlib.Decide.{ℕ_discrete}
 use lib.ListN.{get_elem?}
 use Rattle.atomic_table.specs.Table.{State, stepped, keeps}
 use Rattle.atomic_table.proofs.Lists.{at_set}
-use Rattle.slot_laws.specs.sock_model.specs.declared.marks.Mark.{Mark}
-use Rattle.slot_laws.specs.sock_model.specs.declared.marks.Mark.TheVariants.{Recycling, Zero, Freer}
-use Rattle.slot_laws.specs.sock_model.specs.declared.marks.SlotMark.{SlotMark}
-use Rattle.slot_laws.specs.sock_model.specs.declared.chain.Right.{Right}
-use Rattle.slot_laws.specs.sock_model.specs.declared.home.Home.{Home}
-use Rattle.slot_laws.specs.sock_words.specs.declared.plain.Plan.{Plan}
-use Rattle.slot_laws.specs.sock_model.specs.declared.view.View.{View}
-use Rattle.slot_laws.specs.sock_model.specs.Weights.{total, only, is_busy, is_zero, is_reset, is_recycled, is_hold, is_freer, is_failer, is_linked, is_met}
-use Rattle.slot_laws.specs.sock_model.specs.Marks.{about, at, without_at}
-use Rattle.slot_laws.specs.sock_model.specs.Layout.{ref_word, head_word, place_word}
-use Rattle.slot_laws.specs.sock_model.specs.Slots.{version_of, nref_of, count}
-use Rattle.slot_laws.specs.sock_model.specs.References.{slot_facts, References}
-use Rattle.slot_laws.specs.sock_model.specs.SlotRows.{marks_of, recycled}
-use Rattle.slot_laws.specs.sock_model.specs.Reads.{rights_on, claims_of, loose_at, head_at, memory, tokens, link_at, waits_of, hands_of, message}
-use Rattle.slot_laws.specs.sock_model.specs.Links.{HoldsRights, Given, Lives, Failed, InSlots}
-use Rattle.slot_laws.specs.sock_model.specs.Homes.{Unborn, Recycles, LinkHomes}
-use Rattle.slot_laws.specs.sock_model.specs.Lawful.{Lawful}
-use Rattle.slot_laws.proofs.Sums.{total-set, about-here, about-other}
-use Rattle.slot_laws.proofs.Numbers.{only-same, life-high, live-odd}
-use Rattle.slot_laws.proofs.Slots.{zero_is}
-use Rattle.slot_laws.proofs.Kept.{recycle_keeps}
-use Rattle.chain_laws.proofs.Lists.{filter_at}
-use Rattle.chain_laws.proofs.Frames.{Changed}
-use Rattle.chain_laws.proofs.Gather.{gather_same}
-use Rattle.chain_laws.proofs.Authored.{keeps_lists}
-use Rattle.chain_laws.proofs.Letters.{messages_frame}
-use Rattle.chain_laws.proofs.Delivers.{delivers_same, delivers_failed}
-use Rattle.chain_laws.proofs.Settles.{goes_out}
+use Rattle.slot_steps.specs.sock_model.specs.declared.marks.Mark.{Mark}
+use Rattle.slot_steps.specs.sock_model.specs.declared.marks.Mark.TheVariants.{Recycling, Zero, Freer}
+use Rattle.slot_steps.specs.sock_model.specs.declared.marks.SlotMark.{SlotMark}
+use Rattle.slot_steps.specs.sock_model.specs.declared.chain.Right.{Right}
+use Rattle.slot_steps.specs.sock_model.specs.declared.home.Home.{Home}
+use Rattle.slot_steps.specs.sock_words.specs.declared.plain.Plan.{Plan}
+use Rattle.slot_steps.specs.sock_model.specs.declared.view.View.{View}
+use Rattle.slot_steps.specs.sock_model.specs.Weights.{total, only, is_busy, is_zero, is_reset, is_recycled, is_hold, is_freer, is_failer, is_linked, is_met}
+use Rattle.slot_steps.specs.sock_model.specs.Marks.{about, at, without_at}
+use Rattle.slot_steps.specs.sock_model.specs.Layout.{ref_index, head_index, place_index}
+use Rattle.slot_steps.specs.sock_model.specs.Slots.{version_of, nref_of, count}
+use Rattle.slot_steps.specs.sock_model.specs.References.{slot_facts, References}
+use Rattle.slot_steps.specs.sock_model.specs.SlotRows.{marks_of, recycled}
+use Rattle.slot_steps.specs.sock_model.specs.Reads.{rights_on, claims_of, loose_at, head_at, memory, tokens, link_at, waits_of, hands_of, message}
+use Rattle.slot_steps.specs.sock_model.specs.Links.{HoldsRights, Given, Lives, Failed, InSlots}
+use Rattle.slot_steps.specs.sock_model.specs.Homes.{Unborn, Recycles, LinkHomes}
+use Rattle.slot_steps.specs.sock_model.specs.Lawful.{Lawful}
+use Rattle.slot_steps.proofs.Sums.{total-set, about-here, about-other}
+use Rattle.slot_steps.proofs.Numbers.{only-same, life-high, live-odd}
+use Rattle.slot_steps.proofs.Slots.{zero_is}
+use Rattle.slot_steps.proofs.Kept.{recycle_keeps}
+use Rattle.chain_steps.proofs.Lists.{filter_at}
+use Rattle.chain_steps.proofs.Frames.{Changed}
+use Rattle.chain_steps.proofs.Gather.{gather_same}
+use Rattle.chain_steps.proofs.Authored.{keeps_lists}
+use Rattle.chain_steps.proofs.Letters.{messages_frame}
+use Rattle.chain_steps.proofs.Delivers.{delivers_same, delivers_failed}
+use Rattle.chain_steps.proofs.Settles.{goes_out}
 use Rattle.sock_steps.proofs.Quiet.{Less, More, less_add, more_add, less_without, more_without, waits-without}
 use Rattle.sock_steps.proofs.Places.{counts, own_count, given_more, failed_more, last_life, one_link, holder_lives, held_nref}
 use Rattle.sock_steps.proofs.SlotFrame.{still_holds, ChainWords, head_is}
@@ -51,7 +51,7 @@ module _ {S : Type 0} (shows : S → Home) (p : Plan) (s : State S View) (o : La
       let some_ = held_nref p s o.references id u c.1 c.2 at_u c.3.inside c.3.held in omega (arith, ap (λ y. (slot_facts s y).nref) same)))
 
 module _ {S : Type 0} (shows : S → Home) (p : Plan) (s : State S View) (o : Lawful shows p s) (id : ℕ) (v : View) (here : get_elem? s.views id ≡ some v) (i : ℕ) (inside : i < p.slots)
-    (fits : get_or s.words (ref_word i) 0 < 18446744073709551616) (from : ℕ) (hit : get_or s.words (ref_word i) 0 ≡ from) (odd : version_of from % 2 ≡ 1) (last : nref_of from ≡ 0) (there : 0 < marks_of (is_zero (version_of from)) i v) where
+    (fits : get_or s.words (ref_index i) 0 < 18446744073709551616) (from : ℕ) (hit : get_or s.words (ref_index i) 0 ≡ from) (odd : version_of from % 2 ≡ 1) (last : nref_of from ≡ 0) (there : 0 < marks_of (is_zero (version_of from)) i v) where
   abbrev x : ℕ
   x = version_of from
 
@@ -71,7 +71,7 @@ module _ {S : Type 0} (shows : S → Home) (p : Plan) (s : State S View) (o : La
   w = record v { marks = all }
 
   abbrev ws : List ℕ
-  ws = set s.words (ref_word i) ((x + 1) * 4294967296)
+  ws = set s.words (ref_index i) ((x + 1) * 4294967296)
 
   abbrev t : State S View
   t = record { words = ws; homes = s.homes; views = set s.views id w }
@@ -142,7 +142,7 @@ module _ {S : Type 0} (shows : S → Home) (p : Plan) (s : State S View) (o : La
         (λ n. put-else o.slot k l none n ∙ o.in_slots.alone j h l (lives_back j h l b));
     small = λ j h l b. o.in_slots.small j h l (back j h l b);
     entered = λ q e c. let a = o.in_slots.entered q e c in (a.0, a.1, to a.0 a.1 e.link a.2);
-    reset = λ j jl b. get_or-set_other s.words (ref_word i) (head_word j) ((x + 1) * 4294967296) 0 (λ q. omega arith) ∙ o.in_slots.reset j jl (omega (arith, count_of is_reset j, less is_reset refl refl j));
+    reset = λ j jl b. get_or-set_other s.words (ref_index i) (head_index j) ((x + 1) * 4294967296) 0 (λ q. omega arith) ∙ o.in_slots.reset j jl (omega (arith, count_of is_reset j, less is_reset refl refl j));
   }
 
   waiters_less : (l : ℕ) → total (waits_of l) (set s.views id w) ≤ total (waits_of l) s.views
@@ -189,14 +189,14 @@ module _ {S : Type 0} (shows : S → Home) (p : Plan) (s : State S View) (o : La
     authors = keeps_lists (λ (y : View). y.lists) s.views o.log id v w o.authors here refl;
     messages = messages_frame o.chains o.messages (tokens (set s.views id w)) (message shows s.homes) (λ r rl. refl) (λ r rl. gather_same (claims_of r) s.views id v w here refl)
         (λ l e ll u. record { right = u.right; has = rights_same l ∙ u.has; stage = u.stage; taken = u.taken }) (λ l r ll b f. (r, sym (rights_same l) ∙ b, f, refl, refl, refl));
-    delivered = delivers_failed (delivers_same o.delivered (tokens (set s.views id w)) (λ l. get_or ws (place_word p l) 0) words.places (λ l r ll b. (r, sym (rights_same l) ∙ b, refl, refl, refl)))
+    delivered = delivers_failed (delivers_same o.delivered (tokens (set s.views id w)) (λ l. get_or ws (place_index p l) 0) words.places (λ l r ll b. (r, sym (rights_same l) ∙ b, refl, refl, refl)))
         (Failed p t) (λ l ll. failed_more s id v w here ws s.homes p (λ j h y. more (is_linked h y) refl j) (λ j h. more (is_failer h) refl j) l);
     carried = λ j n u b c e. ⊎_elim (λ y. o.carried id n v b here (subst (λ (z : View). get_elem? z.hands n ≡ some b) (sym y.1) e)) (λ y. o.carried j n u b y.1 e) (at_set s.views id j w u c);
     homes = homes_after;
   }
     where
       words : ChainWords p o.slot s.words ws
-      words = low_words shows p s o id v here (ref_word i) ((x + 1) * 4294967296) (omega arith) (λ j jl e. omega arith)
+      words = low_words shows p s o id v here (ref_index i) ((x + 1) * 4294967296) (omega arith) (λ j jl e. omega arith)
 
       heads : Changed p.links (memory p o.slot s.words).head (memory p slot ws).head k none
       heads = record {
@@ -205,8 +205,8 @@ module _ {S : Type 0} (shows : S → Home) (p : Plan) (s : State S View) (o : La
       }
 
   -- A6, won
-  pub recycle_law : Lawful shows p (stepped s (ref_word i) ((x + 1) * 4294967296) id [] (recycled i from (get_or s.words (ref_word i) 0) v) keeps)
-  recycle_law = let is : w ≡ recycled i from (get_or s.words (ref_word i) 0) v = ap (λ b. record v { marks = cond b all rest }) (sym (eq-eqb (get_or s.words (ref_word i) 0) from hit)) in
+  pub recycle_law : Lawful shows p (stepped s (ref_index i) ((x + 1) * 4294967296) id [] (recycled i from (get_or s.words (ref_index i) 0) v) keeps)
+  recycle_law = let is : w ≡ recycled i from (get_or s.words (ref_index i) 0) v = ap (λ b. record v { marks = cond b all rest }) (sym (eq-eqb (get_or s.words (ref_index i) 0) from hit)) in
       let refs = recycle_keeps p s o.references id v here [] keeps i inside fits o.fits.even from hit odd last there in
-      subst (λ (u : View). Lawful shows p (stepped s (ref_word i) ((x + 1) * 4294967296) id [] u keeps)) is
-      (won (subst (λ (u : View). References p (stepped s (ref_word i) ((x + 1) * 4294967296) id [] u keeps)) (sym is) refs))
+      subst (λ (u : View). Lawful shows p (stepped s (ref_index i) ((x + 1) * 4294967296) id [] u keeps)) is
+      (won (subst (λ (u : View). References p (stepped s (ref_index i) ((x + 1) * 4294967296) id [] u keeps)) (sym is) refs))

@@ -7,37 +7,37 @@ use native.Mathlib.Decide.{ℕ_discrete}
 use lib.ListN.{get_elem?}
 use Rattle.atomic_table.specs.Table.{State}
 use Rattle.atomic_table.proofs.Lists.{at_set, at_map, set_else}
-use Rattle.slot_laws.specs.sock_model.specs.declared.marks.Mark.{Mark}
-use Rattle.slot_laws.specs.sock_model.specs.declared.marks.Mark.TheVariants.{Recycling}
-use Rattle.slot_laws.specs.sock_model.specs.declared.chain.Right.{Right}
-use Rattle.slot_laws.specs.sock_model.specs.declared.chain.Claim.{Claim}
-use Rattle.slot_laws.specs.sock_model.specs.declared.chain.Loose.{Loose}
-use Rattle.slot_laws.specs.sock_model.specs.declared.home.Home.{Home}
-use Rattle.slot_laws.specs.sock_model.specs.declared.home.Home.TheVariants.{Empty, Link, Message}
-use Rattle.slot_laws.specs.sock_words.specs.declared.plain.Plan.{Plan}
-use Rattle.slot_laws.specs.sock_model.specs.declared.view.View.{View}
-use Rattle.slot_laws.specs.sock_model.specs.declared.view.Hand.{Hand}
-use Rattle.slot_laws.specs.sock_model.specs.Weights.{total, only, is_hold, is_busy, is_recycling, is_recycled, is_met}
-use Rattle.slot_laws.specs.sock_model.specs.Marks.{about}
-use Rattle.slot_laws.specs.sock_model.specs.Layout.{place_word}
-use Rattle.slot_laws.specs.sock_model.specs.SlotRows.{marks_of}
-use Rattle.slot_laws.specs.sock_model.specs.Entries.{on}
-use Rattle.slot_laws.specs.sock_model.specs.Deliveries.{HasTaken}
-use Rattle.slot_laws.specs.sock_model.specs.Reads.{letter_of, took_of, as_link, shown, message, link_at, link_home, rights_on, claims_of, loose_at, tokens, waits_of, carries, hands_of}
-use Rattle.slot_laws.specs.sock_model.specs.ChainRows.{with_hand, without_hand, spent_hand}
-use Rattle.slot_laws.specs.sock_model.specs.Links.{Given, Lives}
-use Rattle.slot_laws.specs.sock_model.specs.Homes.{IsOwn, Unborn, Recycles}
-use Rattle.slot_laws.specs.sock_model.specs.Lawful.{Lawful}
-use Rattle.slot_laws.proofs.Sums.{total-set, term_le, total_mono, total_some}
-use Rattle.slot_laws.proofs.Numbers.{only-same, only-else}
-use Rattle.slot_laws.proofs.Slots.{recycled_le}
-use Rattle.slot_laws.proofs.Frame.{passes-without}
-use Rattle.chain_laws.proofs.Lists.{filter_at, at_length}
-use Rattle.chain_laws.proofs.Frames.{Same, chains_frame}
-use Rattle.chain_laws.proofs.Gather.{gather_same}
-use Rattle.chain_laws.proofs.Authored.{keeps_lists}
-use Rattle.chain_laws.proofs.Letters.{messages_frame}
-use Rattle.chain_laws.proofs.Delivers.{delivers_same, delivers_home}
+use Rattle.slot_steps.specs.sock_model.specs.declared.marks.Mark.{Mark}
+use Rattle.slot_steps.specs.sock_model.specs.declared.marks.Mark.TheVariants.{Recycling}
+use Rattle.slot_steps.specs.sock_model.specs.declared.chain.Right.{Right}
+use Rattle.slot_steps.specs.sock_model.specs.declared.chain.Claim.{Claim}
+use Rattle.slot_steps.specs.sock_model.specs.declared.chain.Loose.{Loose}
+use Rattle.slot_steps.specs.sock_model.specs.declared.home.Home.{Home}
+use Rattle.slot_steps.specs.sock_model.specs.declared.home.Home.TheVariants.{Empty, Link, Message}
+use Rattle.slot_steps.specs.sock_words.specs.declared.plain.Plan.{Plan}
+use Rattle.slot_steps.specs.sock_model.specs.declared.view.View.{View}
+use Rattle.slot_steps.specs.sock_model.specs.declared.view.Hand.{Hand}
+use Rattle.slot_steps.specs.sock_model.specs.Weights.{total, only, is_hold, is_busy, is_recycling, is_recycled, is_met}
+use Rattle.slot_steps.specs.sock_model.specs.Marks.{about}
+use Rattle.slot_steps.specs.sock_model.specs.Layout.{place_index}
+use Rattle.slot_steps.specs.sock_model.specs.SlotRows.{marks_of}
+use Rattle.slot_steps.specs.sock_model.specs.Entries.{on}
+use Rattle.slot_steps.specs.sock_model.specs.Deliveries.{HasTaken}
+use Rattle.slot_steps.specs.sock_model.specs.Reads.{letter_of, took_of, as_link, shown, message, link_at, link_home, rights_on, claims_of, loose_at, tokens, waits_of, carries, hands_of}
+use Rattle.slot_steps.specs.sock_model.specs.ChainRows.{with_hand, without_hand, spent_hand}
+use Rattle.slot_steps.specs.sock_model.specs.Links.{Given, Lives}
+use Rattle.slot_steps.specs.sock_model.specs.Homes.{IsOwn, Unborn, Recycles}
+use Rattle.slot_steps.specs.sock_model.specs.Lawful.{Lawful}
+use Rattle.slot_steps.proofs.Sums.{total-set, term_le, total_mono, total_some}
+use Rattle.slot_steps.proofs.Numbers.{only-same, only-else}
+use Rattle.slot_steps.proofs.Slots.{recycled_le}
+use Rattle.slot_steps.proofs.Frame.{passes-without}
+use Rattle.chain_steps.proofs.Lists.{filter_at, at_length}
+use Rattle.chain_steps.proofs.Frames.{Same, chains_frame}
+use Rattle.chain_steps.proofs.Gather.{gather_same}
+use Rattle.chain_steps.proofs.Authored.{keeps_lists}
+use Rattle.chain_steps.proofs.Letters.{messages_frame}
+use Rattle.chain_steps.proofs.Delivers.{delivers_same, delivers_home}
 use Rattle.sock_steps.proofs.Steady.{Steady}
 use Rattle.sock_steps.proofs.Places.{own_count, given_to, given_from, given_once, given_unwaited, waiters_once, busy_idle, holder_lives, two_seats}
 use Rattle.sock_steps.proofs.Words.{beside_all}
@@ -101,7 +101,7 @@ module _ {S : Type 0} (shows : S → Home) (p : Plan) (s : State S View) (o : La
       (keeps_lists (λ (y : View). y.lists) s.views o.log id v w o.authors at lists)
       (messages_frame o.chains o.messages (tokens (set s.views id w)) (message shows hs) ms cl
       (λ j e jl u. record { right = u.right; has = rt j ∙ u.has; stage = u.stage; taken = u.taken }) (λ j r jl h f. (r, sym (rt j) ∙ h, f, refl, refl, refl)))
-      (delivers_home (delivers_same o.delivered (tokens (set s.views id w)) (λ l. get_or s.words (place_word p l) 0) (λ l ll. refl) (λ j r jl h. (r, sym (rt j) ∙ h, refl, refl, refl)))
+      (delivers_home (delivers_same o.delivered (tokens (set s.views id w)) (λ l. get_or s.words (place_index p l) 0) (λ l ll. refl) (λ j r jl h. (r, sym (rt j) ∙ h, refl, refl, refl)))
       (link_home shows p hs) (λ j took next jl h. dite (ℕ_discrete j k)
       (λ e. inr (subst (λ y. HasTaken (on y o.log) (o.places y) (o.kept y) took next) (sym e) (took_is took next (sym (ap took_of here) ∙ (ap (link_home shows p hs) (sym e) ∙ h)))))
       (λ ne. inl (sym (ap took_of (else_ j ne)) ∙ h))))

@@ -7,33 +7,33 @@ use lib.ListN.{get_elem?}
 use lib.Seq.{set-get_or}
 use Rattle.atomic_table.specs.Table.{State, stepped, keeps}
 use Rattle.atomic_table.proofs.Lists.{set_else}
-use Rattle.slot_laws.specs.sock_model.specs.declared.chain.Right.{Right}
-use Rattle.slot_laws.specs.sock_model.specs.declared.home.Home.{Home}
-use Rattle.slot_laws.specs.sock_model.specs.declared.home.Home.TheVariants.{Empty, Link, Message}
-use Rattle.slot_laws.specs.sock_words.specs.declared.plain.Plan.{Plan}
-use Rattle.slot_laws.specs.sock_model.specs.declared.view.View.{View}
-use Rattle.slot_laws.specs.sock_model.specs.Layout.{place_word, ref_word}
-use Rattle.slot_laws.specs.sock_model.specs.Slots.{version_of, count}
-use Rattle.slot_laws.specs.sock_model.specs.References.{slot_facts}
-use Rattle.slot_laws.specs.sock_model.specs.SlotRows.{looked}
-use Rattle.slot_laws.specs.sock_model.specs.Weights.{is_busy, is_hold, is_failer}
-use Rattle.slot_laws.specs.sock_model.specs.Entries.{on}
-use Rattle.slot_laws.specs.sock_model.specs.Chains.{Chains}
-use Rattle.slot_laws.specs.sock_model.specs.Writing.{InStage}
-use Rattle.slot_laws.specs.sock_model.specs.Tokens.{Tokens}
-use Rattle.slot_laws.specs.sock_model.specs.Messages.{Messages}
-use Rattle.slot_laws.specs.sock_model.specs.Reads.{letter_of, took_of, as_link, shown, memory, message, link_at, link_home, tokens}
-use Rattle.slot_laws.specs.sock_model.specs.ChainRows.{with_right, put_right}
-use Rattle.slot_laws.specs.sock_model.specs.Conditions.{HasRight}
-use Rattle.slot_laws.specs.sock_model.specs.Links.{HoldsLink, Failed}
-use Rattle.slot_laws.specs.sock_model.specs.Homes.{IsOwn}
-use Rattle.slot_laws.specs.sock_model.specs.Lawful.{Lawful}
-use Rattle.slot_laws.proofs.Numbers.{life_is, live_le}
-use Rattle.chain_laws.proofs.Lists.{at_length}
-use Rattle.chain_laws.proofs.Frames.{Changed, Same, one_token, from_same}
-use Rattle.chain_laws.proofs.Heads.{restages}
-use Rattle.chain_laws.proofs.Letters.{messages_frame}
-use Rattle.chain_laws.proofs.Delivers.{delivers_same, moves_link, looks}
+use Rattle.slot_steps.specs.sock_model.specs.declared.chain.Right.{Right}
+use Rattle.slot_steps.specs.sock_model.specs.declared.home.Home.{Home}
+use Rattle.slot_steps.specs.sock_model.specs.declared.home.Home.TheVariants.{Empty, Link, Message}
+use Rattle.slot_steps.specs.sock_words.specs.declared.plain.Plan.{Plan}
+use Rattle.slot_steps.specs.sock_model.specs.declared.view.View.{View}
+use Rattle.slot_steps.specs.sock_model.specs.Layout.{place_index, ref_index}
+use Rattle.slot_steps.specs.sock_model.specs.Slots.{version_of, count}
+use Rattle.slot_steps.specs.sock_model.specs.References.{slot_facts}
+use Rattle.slot_steps.specs.sock_model.specs.SlotRows.{looked}
+use Rattle.slot_steps.specs.sock_model.specs.Weights.{is_busy, is_hold, is_failer}
+use Rattle.slot_steps.specs.sock_model.specs.Entries.{on}
+use Rattle.slot_steps.specs.sock_model.specs.Chains.{Chains}
+use Rattle.slot_steps.specs.sock_model.specs.Writing.{InStage}
+use Rattle.slot_steps.specs.sock_model.specs.Tokens.{Tokens}
+use Rattle.slot_steps.specs.sock_model.specs.Messages.{Messages}
+use Rattle.slot_steps.specs.sock_model.specs.Reads.{letter_of, took_of, as_link, shown, memory, message, link_at, link_home, tokens}
+use Rattle.slot_steps.specs.sock_model.specs.ChainRows.{with_right, put_right}
+use Rattle.slot_steps.specs.sock_model.specs.Conditions.{HasRight}
+use Rattle.slot_steps.specs.sock_model.specs.Links.{HoldsLink, Failed}
+use Rattle.slot_steps.specs.sock_model.specs.Homes.{IsOwn}
+use Rattle.slot_steps.specs.sock_model.specs.Lawful.{Lawful}
+use Rattle.slot_steps.proofs.Numbers.{life_is, live_le}
+use Rattle.chain_steps.proofs.Lists.{at_length}
+use Rattle.chain_steps.proofs.Frames.{Changed, Same, one_token, from_same}
+use Rattle.chain_steps.proofs.Heads.{restages}
+use Rattle.chain_steps.proofs.Letters.{messages_frame}
+use Rattle.chain_steps.proofs.Delivers.{delivers_same, moves_link, looks}
 use Rattle.sock_steps.proofs.Maps.{set_at, set_twice, took_some}
 use Rattle.sock_steps.proofs.Places.{own_count, holder_lives, given_once}
 use Rattle.sock_steps.proofs.Words.{beside_all}
@@ -79,7 +79,7 @@ module _ {S : Type 0} (shows : S → Home) (p : Plan) (s : State S View) (o : La
         let else_ : (k : ℕ) → k ≢ x.right.link → link_at shows p (set s.homes (p.requests + x.right.link) z) k ≡ link_at shows p s.homes k = λ k ne. ap (λ y. as_link (shown shows y)) (set_else s.homes (p.requests + x.right.link) (p.requests + k) z (λ q. ne (omega arith))) in
         right_moves o id x.place v x.right at x.has r' link' (set s.homes (p.requests + x.right.link) z) else_ (λ y e. own y (sym here ∙ e)) chains_stay
         (messages_stay (set s.homes (p.requests + x.right.link) z) (λ q ql. ap (λ y. letter_of (shown shows y)) (set_else s.homes (p.requests + x.right.link) q z (λ e. omega arith))))
-        (moves_link (delivers_same o.delivered (tokens (set s.views id (with_right v r'))) (λ q. get_or s.words (place_word p q) 0) (λ q ql. refl)
+        (moves_link (delivers_same o.delivered (tokens (set s.views id (with_right v r'))) (λ q. get_or s.words (place_index p q) 0) (λ q ql. refl)
         (λ j y jl g. from_same (tokens s.views) (tokens (set s.views id (with_right v r'))) p.links x.right.link x.right r' alone rt clean' sent' count' j y jl g))
         (link_home shows p (set s.homes (p.requests + x.right.link) z))
         (λ j took next jl g. dite (ℕ_discrete j x.right.link)
@@ -107,7 +107,7 @@ module _ {S : Type 0} (shows : S → Home) (p : Plan) (s : State S View) (o : La
   pub put_law : (n : ℕ) → Lawful shows p record { words = s.words; homes = s.homes; views = set s.views id (with_right v (put_right x.right n)) }
   put_law n = let r' : Right = put_right x.right n in right_base o id x.place v x.right at x.has r' refl s.words s.homes o.freed o.places o.kept (λ k ne. (refl, refl)) (beside_all p o.slot s.words) (λ k. refl)
       (chains_stay r' refl refl refl refl refl refl refl refl) (messages_stay r' refl refl refl refl refl refl refl refl s.homes (λ q ql. refl))
-      (delivers_same o.delivered (tokens (set s.views id (with_right v r'))) (λ q. get_or s.words (place_word p q) 0) (λ q ql. refl)
+      (delivers_same o.delivered (tokens (set s.views id (with_right v r'))) (λ q. get_or s.words (place_index p q) 0) (λ q ql. refl)
       (λ j y jl g. from_same (tokens s.views) (tokens (set s.views id (with_right v r'))) p.links x.right.link x.right r' alone (rt r' refl refl refl refl refl refl refl refl) refl refl refl j y jl g))
       (o.homes.busy x.right.link x.right kl alone)
 
@@ -147,13 +147,13 @@ module _ {S : Type 0} (shows : S → Home) (p : Plan) (s : State S View) (o : La
 
 -- A8 of whoever writes a link, where the life in its slot is live
 pub clean_look_law : {S : Type 0} (shows : S → Home) (p : Plan) (s : State S View) (o : Lawful shows p s) (id : ℕ) (v : View) → get_elem? s.views id ≡ some v → (x : HasRight v) (i h : ℕ) → HoldsLink p v i h x.right.link
-    → get_or s.words (ref_word i) 0 < 18446744073709551616 → version_of (get_or s.words (ref_word i) 0) % 2 ≡ 0
-    → Lawful shows p (stepped s (ref_word i) (get_or s.words (ref_word i) 0) id [] (with_right (looked i (get_or s.words (ref_word i) 0) v) (record x.right { clean = true })) keeps)
+    → get_or s.words (ref_index i) 0 < 18446744073709551616 → version_of (get_or s.words (ref_index i) 0) % 2 ≡ 0
+    → Lawful shows p (stepped s (ref_index i) (get_or s.words (ref_index i) 0) id [] (with_right (looked i (get_or s.words (ref_index i) 0) v) (record x.right { clean = true })) keeps)
 clean_look_law {S} shows p s o id v at x i h holds fits even =
-    let f : ℕ = get_or s.words (ref_word i) 0 in let w : View = looked i (get_or s.words (ref_word i) 0) v in
-    let t : State S View = stepped s (ref_word i) (get_or s.words (ref_word i) 0) id [] (looked i (get_or s.words (ref_word i) 0) v) keeps in
-    let o' = look_law shows p s o id v at i holds.inside fits in let st = looked_steady v i (get_or s.words (ref_word i) 0) in let a = holds.held in let b = holds.met in
-    let words : set s.words (ref_word i) (get_or s.words (ref_word i) 0) ≡ s.words = set-get_or s.words (ref_word i) 0 in
+    let f : ℕ = get_or s.words (ref_index i) 0 in let w : View = looked i (get_or s.words (ref_index i) 0) v in
+    let t : State S View = stepped s (ref_index i) (get_or s.words (ref_index i) 0) id [] (looked i (get_or s.words (ref_index i) 0) v) keeps in
+    let o' = look_law shows p s o id v at i holds.inside fits in let st = looked_steady v i (get_or s.words (ref_index i) 0) in let a = holds.held in let b = holds.met in
+    let words : set s.words (ref_index i) (get_or s.words (ref_index i) 0) ≡ s.words = set-get_or s.words (ref_index i) 0 in
     let last = clean_law shows p t o' id w (set_at s.views id w (at_length s.views id v at)) record { right = x.right; place = x.place; has = x.has } i h
-    record { inside = holds.inside; held = omega (arith, st.1.hold i h); met = omega (arith, st.0.0.met i h x.right.link) } (ap (λ ws. version_of (get_or ws (ref_word i) 0) % 2) words ∙ even) in
-    subst (λ vs. Lawful shows p record { words = set s.words (ref_word i) (get_or s.words (ref_word i) 0); homes = s.homes; views = vs }) (set_twice s.views id w (with_right w (record x.right { clean = true }))) last
+    record { inside = holds.inside; held = omega (arith, st.1.hold i h); met = omega (arith, st.0.0.met i h x.right.link) } (ap (λ ws. version_of (get_or ws (ref_index i) 0) % 2) words ∙ even) in
+    subst (λ vs. Lawful shows p record { words = set s.words (ref_index i) (get_or s.words (ref_index i) 0); homes = s.homes; views = vs }) (set_twice s.views id w (with_right w (record x.right { clean = true }))) last

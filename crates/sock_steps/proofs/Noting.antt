@@ -4,18 +4,18 @@ use mathlib.Core.Option.{Option, some, some-injective}
 use lib.ListN.{get_elem?}
 use lib.Seq.{set-get_or}
 use Rattle.atomic_table.specs.Table.{State, stepped, keeps}
-use Rattle.slot_laws.specs.sock_words.specs.declared.plain.Plan.{Plan}
-use Rattle.slot_laws.specs.sock_model.specs.declared.home.Home.{Home}
-use Rattle.slot_laws.specs.sock_model.specs.declared.view.View.{View}
-use Rattle.slot_laws.specs.sock_model.specs.Layout.{request_word}
-use Rattle.slot_laws.specs.sock_model.specs.Reads.{claims_of, loose_at, tokens, message}
-use Rattle.slot_laws.specs.sock_model.specs.Lawful.{Lawful}
-use Rattle.slot_laws.specs.sock_model.specs.Rule.{Lasting, of_request, FoundWords, noting, Rule}
-use Rattle.chain_laws.proofs.Bits.{or_one_odd}
-use Rattle.chain_laws.proofs.Frames.{chains_frame}
-use Rattle.chain_laws.proofs.Gather.{gather_same}
-use Rattle.chain_laws.proofs.Letters.{messages_frame}
-use Rattle.chain_laws.proofs.Lists.{at_length}
+use Rattle.slot_steps.specs.sock_words.specs.declared.plain.Plan.{Plan}
+use Rattle.slot_steps.specs.sock_model.specs.declared.home.Home.{Home}
+use Rattle.slot_steps.specs.sock_model.specs.declared.view.View.{View}
+use Rattle.slot_steps.specs.sock_model.specs.Layout.{request_index}
+use Rattle.slot_steps.specs.sock_model.specs.Reads.{claims_of, loose_at, tokens, message}
+use Rattle.slot_steps.specs.sock_model.specs.Lawful.{Lawful}
+use Rattle.slot_steps.specs.sock_model.specs.Rule.{Lasting, of_request, FoundWords, noting, Rule}
+use Rattle.chain_steps.proofs.Bits.{or_one_odd}
+use Rattle.chain_steps.proofs.Frames.{chains_frame}
+use Rattle.chain_steps.proofs.Gather.{gather_same}
+use Rattle.chain_steps.proofs.Letters.{messages_frame}
+use Rattle.chain_steps.proofs.Lists.{at_length}
 use Rattle.sock_steps.proofs.Words.{beside_all}
 use Rattle.sock_steps.proofs.ChainFrame.{SameSlots}
 use Rattle.sock_steps.proofs.ClaimSteps.{rights_stay, other_base}
@@ -48,9 +48,9 @@ step_notes {S} {shows} {p} views id v w ws hs here mine x last some_ r = let t :
     subst (λ vs. Rule shows p record { words = ws; homes = hs; views = vs }) (set_twice views id w (noting x w)) (note_rule {s = t} id w (set_at views id w (at_length views id v here)) r mine x last some_)
 
 -- C1 that finds the request taken: the word stays, and the seat notes that it was
-pub tried_rule : {S : Type 0} {shows : S → Home} {p : Plan} {s : State S View} → Rule shows p s → (id : ℕ) (v : View) → get_elem? s.views id ≡ some v → v.plan ≡ p → (q : ℕ) → q < p.requests → get_or s.words (request_word p q) 0 % 2 ≡ 1
-    → Rule shows p (stepped s (request_word p q) (bit_or (get_or s.words (request_word p q) 0) 1) id [] (noting (request_word p q) v) keeps)
-tried_rule {S} {shows} {p} {s} r id v here mine q inside odd = let x : ℕ = request_word p q in let found : ℕ = get_or s.words (request_word p q) 0 in let g : ℕ = found / 2 in
-    let is : found ≡ 2 * g + 1 = omega arith in let same : bit_or (get_or s.words (request_word p q) 0) 1 ≡ get_or s.words (request_word p q) 0 = ap (λ n. bit_or n 1) is ∙ (or_one_odd g ∙ sym is) in
-    let words : set s.words (request_word p q) (bit_or (get_or s.words (request_word p q) 0) 1) ≡ s.words = ap (set s.words (request_word p q)) same ∙ set-get_or s.words (request_word p q) 0 in
-    subst (λ ws. Rule shows p record { words = ws; homes = s.homes; views = set s.views id (noting (request_word p q) v) }) (sym words) (note_rule id v here r mine x (of_request q inside refl) (λ z. omega arith))
+pub tried_rule : {S : Type 0} {shows : S → Home} {p : Plan} {s : State S View} → Rule shows p s → (id : ℕ) (v : View) → get_elem? s.views id ≡ some v → v.plan ≡ p → (q : ℕ) → q < p.requests → get_or s.words (request_index p q) 0 % 2 ≡ 1
+    → Rule shows p (stepped s (request_index p q) (bit_or (get_or s.words (request_index p q) 0) 1) id [] (noting (request_index p q) v) keeps)
+tried_rule {S} {shows} {p} {s} r id v here mine q inside odd = let x : ℕ = request_index p q in let found : ℕ = get_or s.words (request_index p q) 0 in let g : ℕ = found / 2 in
+    let is : found ≡ 2 * g + 1 = omega arith in let same : bit_or (get_or s.words (request_index p q) 0) 1 ≡ get_or s.words (request_index p q) 0 = ap (λ n. bit_or n 1) is ∙ (or_one_odd g ∙ sym is) in
+    let words : set s.words (request_index p q) (bit_or (get_or s.words (request_index p q) 0) 1) ≡ s.words = ap (set s.words (request_index p q)) same ∙ set-get_or s.words (request_index p q) 0 in
+    subst (λ ws. Rule shows p record { words = ws; homes = s.homes; views = set s.views id (noting (request_index p q) v) }) (sym words) (note_rule id v here r mine x (of_request q inside refl) (λ z. omega arith))

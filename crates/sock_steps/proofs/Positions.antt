@@ -5,22 +5,22 @@ use mathlib.Core.Option.{some, some-injective, some-ne-none}
 use native.Mathlib.Decide.{ℕ_discrete}
 use lib.ListN.{get_elem?}
 use Rattle.atomic_table.specs.Table.{State}
-use Rattle.slot_laws.specs.sock_words.specs.declared.plain.Plan.{Plan}
-use Rattle.slot_laws.specs.sock_model.specs.declared.chain.Entry.{Entry}
-use Rattle.slot_laws.specs.sock_model.specs.declared.home.Home.{Home}
-use Rattle.slot_laws.specs.sock_model.specs.declared.view.View.{View}
-use Rattle.slot_laws.specs.sock_model.specs.Weights.{total, only}
-use Rattle.slot_laws.specs.sock_model.specs.Entries.{on, uses, count_up}
-use Rattle.slot_laws.specs.sock_model.specs.Layout.{request_word}
-use Rattle.slot_laws.specs.sock_model.specs.Reads.{tokens}
-use Rattle.slot_laws.specs.sock_model.specs.Requests.{free_phase, claimed_phase, used_phase, retired_phase}
-use Rattle.slot_laws.specs.sock_model.specs.Authors.{pick, Authored}
-use Rattle.slot_laws.specs.sock_model.specs.Rule.{MOST_ACCEPTED, AreShort, lists_of, Rule}
-use Rattle.slot_laws.proofs.Sums.{term_le, total_bound, total_parts}
-use Rattle.slot_laws.proofs.Numbers.{only-at, only-else}
+use Rattle.slot_steps.specs.sock_words.specs.declared.plain.Plan.{Plan}
+use Rattle.slot_steps.specs.sock_model.specs.declared.chain.Entry.{Entry}
+use Rattle.slot_steps.specs.sock_model.specs.declared.home.Home.{Home}
+use Rattle.slot_steps.specs.sock_model.specs.declared.view.View.{View}
+use Rattle.slot_steps.specs.sock_model.specs.Weights.{total, only}
+use Rattle.slot_steps.specs.sock_model.specs.Entries.{on, uses, count_up}
+use Rattle.slot_steps.specs.sock_model.specs.Layout.{request_index}
+use Rattle.slot_steps.specs.sock_model.specs.Reads.{tokens}
+use Rattle.slot_steps.specs.sock_model.specs.Requests.{free_phase, claimed_phase, used_phase, retired_phase}
+use Rattle.slot_steps.specs.sock_model.specs.Authors.{pick, Authored}
+use Rattle.slot_steps.specs.sock_model.specs.Rule.{MOST_ACCEPTED, AreShort, lists_of, Rule}
+use Rattle.slot_steps.proofs.Sums.{term_le, total_bound, total_parts}
+use Rattle.slot_steps.proofs.Numbers.{only-at, only-else}
 use Rattle.std.proofs.lemmas.List.{length-map}
-use Rattle.chain_laws.proofs.Totals.{log_full}
-use Rattle.chain_laws.proofs.Lists.{at_length}
+use Rattle.chain_steps.proofs.Totals.{log_full}
+use Rattle.chain_steps.proofs.Lists.{at_length}
 
 -- ## Each author's entries stand in one list
 
@@ -117,11 +117,11 @@ module _ {S : Type 0} {shows : S → Home} {p : Plan} {s : State S View} (r : Ru
   place_fits k i e g = omega (arith, few_entries, on_shorter k r.lawful.log, at_length (on k r.lawful.log) i e g)
 
   -- once a seat has found each request taken, and nobody claims one, the links have accepted as many messages at least as there are requests
-  pub full_log : (id : ℕ) (v : View) → get_elem? s.views id ≡ some v → ((q : ℕ) → q < p.requests → (n : ℕ) × (get_elem? v.found n ≡ some (request_word p q))) → ((q : ℕ) → q < p.requests → (tokens s.views).claims q ≡ [])
+  pub full_log : (id : ℕ) (v : View) → get_elem? s.views id ≡ some v → ((q : ℕ) → q < p.requests → (n : ℕ) × (get_elem? v.found n ≡ some (request_index p q))) → ((q : ℕ) → q < p.requests → (tokens s.views).claims q ≡ [])
       → p.requests ≤ length r.lawful.log
-  full_log id v here tried unclaimed = log_full p.requests r.lawful.log (λ q ql. let t = tried q ql in used_once q ql (r.found_words id v here t.0 (request_word p q) t.1).1 (unclaimed q ql))
+  full_log id v here tried unclaimed = log_full p.requests r.lawful.log (λ q ql. let t = tried q ql in used_once q ql (r.found_words id v here t.0 (request_index p q) t.1).1 (unclaimed q ql))
     where
-      used_once : (q : ℕ) → q < p.requests → get_or s.words (request_word p q) 0 ≢ 0 → (tokens s.views).claims q ≡ [] → 1 ≤ length (uses q r.lawful.log)
+      used_once : (q : ℕ) → q < p.requests → get_or s.words (request_index p q) 0 ≢ 0 → (tokens s.views).claims q ≡ [] → 1 ≤ length (uses q r.lawful.log)
       used_once q ql some_ none_ = let u = r.lawful.chains.in_use q ql in
           let long : length (uses q r.lawful.log) ≡ u.times = sym (length-map (uses q r.lawful.log) (λ (e : Entry). e.generation)) ∙ (ap length u.each_once ∙ count_length u.times) in
           elim u.phase [

@@ -9,39 +9,39 @@ use lib.ListN.{get_elem?}
 use lib.Seq.{map-set}
 use Rattle.atomic_table.specs.Table.{State}
 use Rattle.atomic_table.proofs.Lists.{at_set, at_map, at_snoc, set_again}
-use Rattle.slot_laws.specs.sock_model.specs.declared.marks.Mark.{Mark}
-use Rattle.slot_laws.specs.sock_model.specs.declared.chain.Entry.{Entry}
-use Rattle.slot_laws.specs.sock_model.specs.declared.chain.Right.{Right}
-use Rattle.slot_laws.specs.sock_model.specs.declared.chain.Claim.{Claim}
-use Rattle.slot_laws.specs.sock_model.specs.declared.chain.Loose.{Loose}
-use Rattle.slot_laws.specs.sock_model.specs.declared.home.Home.{Home}
-use Rattle.slot_laws.specs.sock_model.specs.declared.home.Home.TheVariants.{Link}
-use Rattle.slot_laws.specs.sock_words.specs.declared.plain.Plan.{Plan}
-use Rattle.slot_laws.specs.sock_model.specs.declared.view.View.{View}
-use Rattle.slot_laws.specs.sock_model.specs.declared.view.Hand.{Hand}
-use Rattle.slot_laws.specs.sock_model.specs.Weights.{total, tally, only, is_ref, is_reset, is_linked, is_freer, is_failer, is_hold, is_met, is_recycled}
-use Rattle.slot_laws.specs.sock_model.specs.Marks.{about}
-use Rattle.slot_laws.specs.sock_model.specs.Layout.{request_word, place_word}
-use Rattle.slot_laws.specs.sock_model.specs.References.{References}
-use Rattle.slot_laws.specs.sock_model.specs.Seats.{newcomer, spent, joined, IsBare, Unused, below, first_view}
-use Rattle.slot_laws.specs.sock_model.specs.SlotRows.{marks_of}
-use Rattle.slot_laws.specs.sock_model.specs.Entries.{on}
-use Rattle.slot_laws.specs.sock_model.specs.Authors.{Authored}
-use Rattle.slot_laws.specs.sock_model.specs.Deliveries.{HasTaken, no_place}
-use Rattle.slot_laws.specs.sock_model.specs.Fifo.{IsFifo}
-use Rattle.slot_laws.specs.sock_model.specs.Reads.{took_of, memory, message, link_at, link_home, rights_on, claims_of, loose_at, tokens, waits_link, waits_of, carries, hands_of}
-use Rattle.slot_laws.specs.sock_model.specs.Links.{HoldsRights, Given, Failed}
-use Rattle.slot_laws.specs.sock_model.specs.Homes.{Unborn, Recycles}
-use Rattle.slot_laws.specs.sock_model.specs.Lawful.{PlanFits, Lawful}
-use Rattle.slot_laws.proofs.Sums.{total-append, total-set}
-use Rattle.slot_laws.proofs.Seats.{about-append, opening_keeps, split_keeps, join_keeps, below-once}
-use Rattle.chain_laws.proofs.Lists.{Distinct}
-use Rattle.chain_laws.proofs.Frames.{chains_frame, no_token}
-use Rattle.chain_laws.proofs.Gather.{gather_same}
-use Rattle.chain_laws.proofs.Authored.{takes_in, makes}
-use Rattle.chain_laws.proofs.Letters.{messages_frame}
-use Rattle.chain_laws.proofs.Delivers.{delivers_same, delivers_failed, taken_whole}
-use Rattle.chain_laws.proofs.Settles.{opens, settles}
+use Rattle.slot_steps.specs.sock_model.specs.declared.marks.Mark.{Mark}
+use Rattle.slot_steps.specs.sock_model.specs.declared.chain.Entry.{Entry}
+use Rattle.slot_steps.specs.sock_model.specs.declared.chain.Right.{Right}
+use Rattle.slot_steps.specs.sock_model.specs.declared.chain.Claim.{Claim}
+use Rattle.slot_steps.specs.sock_model.specs.declared.chain.Loose.{Loose}
+use Rattle.slot_steps.specs.sock_model.specs.declared.home.Home.{Home}
+use Rattle.slot_steps.specs.sock_model.specs.declared.home.Home.TheVariants.{Link}
+use Rattle.slot_steps.specs.sock_words.specs.declared.plain.Plan.{Plan}
+use Rattle.slot_steps.specs.sock_model.specs.declared.view.View.{View}
+use Rattle.slot_steps.specs.sock_model.specs.declared.view.Hand.{Hand}
+use Rattle.slot_steps.specs.sock_model.specs.Weights.{total, tally, only, is_ref, is_reset, is_linked, is_freer, is_failer, is_hold, is_met, is_recycled}
+use Rattle.slot_steps.specs.sock_model.specs.Marks.{about}
+use Rattle.slot_steps.specs.sock_model.specs.Layout.{request_index, place_index}
+use Rattle.slot_steps.specs.sock_model.specs.References.{References}
+use Rattle.slot_steps.specs.sock_model.specs.Seats.{newcomer, spent, joined, IsBare, Unused, below, first_view}
+use Rattle.slot_steps.specs.sock_model.specs.SlotRows.{marks_of}
+use Rattle.slot_steps.specs.sock_model.specs.Entries.{on}
+use Rattle.slot_steps.specs.sock_model.specs.Authors.{Authored}
+use Rattle.slot_steps.specs.sock_model.specs.Deliveries.{HasTaken, no_place}
+use Rattle.slot_steps.specs.sock_model.specs.Fifo.{IsFifo}
+use Rattle.slot_steps.specs.sock_model.specs.Reads.{took_of, memory, message, link_at, link_home, rights_on, claims_of, loose_at, tokens, waits_link, waits_of, carries, hands_of}
+use Rattle.slot_steps.specs.sock_model.specs.Links.{HoldsRights, Given, Failed}
+use Rattle.slot_steps.specs.sock_model.specs.Homes.{Unborn, Recycles}
+use Rattle.slot_steps.specs.sock_model.specs.Lawful.{PlanFits, Lawful}
+use Rattle.slot_steps.proofs.Sums.{total-append, total-set}
+use Rattle.slot_steps.proofs.Seats.{about-append, opening_keeps, split_keeps, join_keeps, below-once}
+use Rattle.chain_steps.proofs.Lists.{Distinct}
+use Rattle.chain_steps.proofs.Frames.{chains_frame, no_token}
+use Rattle.chain_steps.proofs.Gather.{gather_same}
+use Rattle.chain_steps.proofs.Authored.{takes_in, makes}
+use Rattle.chain_steps.proofs.Letters.{messages_frame}
+use Rattle.chain_steps.proofs.Delivers.{delivers_same, delivers_failed, taken_whole}
+use Rattle.chain_steps.proofs.Settles.{opens, settles}
 
 -- seats that change hands, and no word and no home
 module _ {S : Type 0} (shows : S → Home) (p : Plan) (s : State S View) (o : Lawful shows p s) (vs : List View)
@@ -80,7 +80,7 @@ module _ {S : Type 0} (shows : S → Home) (p : Plan) (s : State S View) (o : La
     authors = authors;
     messages = messages_frame o.chains o.messages (tokens vs) (message shows s.homes) (λ r rl. refl) (λ r rl. cl r)
         (λ k e kl u. record { right = u.right; has = rt k ∙ u.has; stage = u.stage; taken = u.taken }) (λ k r kl h f. (r, sym (rt k) ∙ h, f, refl, refl, refl));
-    delivered = delivers_failed (delivers_same o.delivered (tokens vs) (λ l. get_or s.words (place_word p l) 0) (λ l ll. refl) (λ k r kl h. (r, sym (rt k) ∙ h, refl, refl, refl)))
+    delivered = delivers_failed (delivers_same o.delivered (tokens vs) (λ l. get_or s.words (place_index p l) 0) (λ l ll. refl) (λ k r kl h. (r, sym (rt k) ∙ h, refl, refl, refl)))
         (Failed p t) (λ k kl f. let b = f.failed in record { slot = f.slot; version = f.version; life = given_there f.slot f.version k f.life; failed = omega (arith, same f.slot (is_failer f.version)) });
     carried = carried;
     homes = record {
@@ -129,7 +129,7 @@ joining_law {S} shows p s o id other v w here ne there bare idle = let both : Vi
 
 -- what a table leaves of a link that nobody writes
 pub closing_law : {S : Type 0} (shows : S → Home) (p : Plan) (s : State S View) (o : Lawful shows p s) → Distinct (λ (e : Entry). e.heading.place) o.log → ((i : ℕ) (e : Entry) → get_elem? o.log i ≡ some e → e.heading.place < 8 * p.operations)
-    → (k : ℕ) → k < p.links → (tokens s.views).rights k ≡ [] → (took : List ℕ) (next : ℕ) → link_home shows p s.homes k ≡ some (took, next) → IsFifo (λ l. get_or s.words (place_word p l) 0) k (on k o.log) (o.kept k) took
+    → (k : ℕ) → k < p.links → (tokens s.views).rights k ≡ [] → (took : List ℕ) (next : ℕ) → link_home shows p s.homes k ≡ some (took, next) → IsFifo (λ l. get_or s.words (place_index p l) 0) k (on k o.log) (o.kept k) took
 closing_law shows p s o apart small k kl gone took next home = settles o.chains o.delivered apart small k took next kl gone home
 
 flat_last : {V A : Type 0} (f : V → List A) (vs : List V) (u : V) → f u ≡ [] → flat_map f (vs ++ u ∷ []) ≡ flat_map f vs
@@ -182,7 +182,7 @@ first_lists p (suc id) v e = absurd (some-ne-none v (sym e))
 
 -- a new table, whose first seat has all passes
 pub opening_law : {S : Type 0} (shows : S → Home) (p : Plan) (ws : List ℕ) (hs : List (Option S)) → Unused p ws → PlanFits p → p.first ≤ 4294967292
-    → ((r : ℕ) → r < p.requests → get_or ws (request_word p r) 0 ≡ 0) → ((l : ℕ) → l < 8 * p.operations → get_or ws (place_word p l) 0 ≡ 0)
+    → ((r : ℕ) → r < p.requests → get_or ws (request_index p r) 0 ≡ 0) → ((l : ℕ) → l < 8 * p.operations → get_or ws (place_index p l) 0 ≡ 0)
     → ((k : ℕ) → k < p.links → link_at shows p hs k ≡ some (Link k [] 0 false)) → Lawful shows p record { words = ws; homes = hs; views = first_view p ∷ [] }
 opening_law {S} shows p ws hs unused fits low requests labels links = let v : View = first_view p in let s : State S View = record { words = ws; homes = hs; views = first_view p ∷ [] } in
     let inside : (k : ℕ) → 0 < total (waits_of k) (first_view p ∷ []) → k < p.links = λ k h. dite (dec_le p.links k) (λ y. let z = (below-once k p.links).1 y in absurd (omega arith)) (λ n. omega arith) in record {

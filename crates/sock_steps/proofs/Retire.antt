@@ -4,20 +4,20 @@ use Rattle.std.specs.List.{filter}
 use mathlib.Core.Option.{some}
 use lib.ListN.{get_elem?}
 use Rattle.atomic_table.specs.Table.{State}
-use Rattle.slot_laws.specs.sock_words.specs.declared.plain.Plan.{Plan}
-use Rattle.slot_laws.specs.sock_model.specs.declared.chain.Right.{Right}
-use Rattle.slot_laws.specs.sock_model.specs.declared.chain.Stage.TheVariants.{Placed}
-use Rattle.slot_laws.specs.sock_model.specs.declared.home.Home.{Home}
-use Rattle.slot_laws.specs.sock_model.specs.declared.view.View.{View}
-use Rattle.slot_laws.specs.sock_model.specs.Layout.{next_word, place_word}
-use Rattle.slot_laws.specs.sock_model.specs.Entries.{slot_of, generation_of}
-use Rattle.slot_laws.specs.sock_model.specs.Deliveries.{place_value}
-use Rattle.slot_laws.specs.sock_model.specs.Links.{Failed}
-use Rattle.slot_laws.specs.sock_model.specs.ChainRows.{with_right, passing_right, placed_right, dropped_right, freed_right}
-use Rattle.slot_laws.specs.sock_model.specs.Conditions.{HasRight, MayPlace, MayDrop}
-use Rattle.slot_laws.specs.sock_model.specs.Lawful.{Lawful}
-use Rattle.chain_laws.proofs.Lists.{at_length}
-use Rattle.chain_laws.proofs.Frees.{Leads, to_end, to_next}
+use Rattle.slot_steps.specs.sock_words.specs.declared.plain.Plan.{Plan}
+use Rattle.slot_steps.specs.sock_model.specs.declared.chain.Right.{Right}
+use Rattle.slot_steps.specs.sock_model.specs.declared.chain.Stage.TheVariants.{Placed}
+use Rattle.slot_steps.specs.sock_model.specs.declared.home.Home.{Home}
+use Rattle.slot_steps.specs.sock_model.specs.declared.view.View.{View}
+use Rattle.slot_steps.specs.sock_model.specs.Layout.{next_index, place_index}
+use Rattle.slot_steps.specs.sock_model.specs.Entries.{slot_of, generation_of}
+use Rattle.slot_steps.specs.sock_model.specs.Deliveries.{place_value}
+use Rattle.slot_steps.specs.sock_model.specs.Links.{Failed}
+use Rattle.slot_steps.specs.sock_model.specs.ChainRows.{with_right, passing_right, placed_right, dropped_right, freed_right}
+use Rattle.slot_steps.specs.sock_model.specs.Conditions.{HasRight, MayPlace, MayDrop}
+use Rattle.slot_steps.specs.sock_model.specs.Lawful.{Lawful}
+use Rattle.chain_steps.proofs.Lists.{at_length}
+use Rattle.chain_steps.proofs.Frees.{Leads, to_end, to_next}
 use Rattle.sock_steps.proofs.Maps.{set_at, set_twice}
 use Rattle.sock_steps.proofs.WalkSteps.{passing_law}
 use Rattle.sock_steps.proofs.WriteSteps.{retiring_law, placing_law, dropping_law}
@@ -51,18 +51,18 @@ module _ {S : Type 0} (shows : S → Home) (p : Plan) (id now : ℕ) (v : View) 
 
 -- C5, of an entry that isn't the last one noted
 pub passing_last_law : {S : Type 0} (shows : S → Home) (p : Plan) (id : ℕ) (v : View) (x : HasRight v) (s : State S View) (o : Lawful shows p s) → get_elem? s.views id ≡ some v → (now : ℕ) → x.right.stage ≡ Placed now → now ≢ x.right.last → generation_of now ≡ 140737488355327
-    → Lawful shows p record { words = s.words; homes = s.homes; views = set s.views id (with_right v (freed_right (passing_right x.right now (get_or s.words (next_word p (slot_of now)) 0)))) }
+    → Lawful shows p record { words = s.words; homes = s.homes; views = set s.views id (with_right v (freed_right (passing_right x.right now (get_or s.words (next_index p (slot_of now)) 0)))) }
 passing_last_law shows p id v x s o here now stage ne last =
-    goes_on shows p id now v (passing_right x.right now (get_or s.words (next_word p (slot_of now)) 0)) s here (to_next now (get_or s.words (next_word p (slot_of now)) 0)) last s.words (passing_law shows p s o id v here x now stage ne)
+    goes_on shows p id now v (passing_right x.right now (get_or s.words (next_index p (slot_of now)) 0)) s here (to_next now (get_or s.words (next_index p (slot_of now)) 0)) last s.words (passing_law shows p s o id v here x now stage ne)
 
 -- P1, of the last entry noted
 pub placing_last_law : {S : Type 0} (shows : S → Home) (p : Plan) (id : ℕ) (v : View) (x : MayPlace p v) (s : State S View) (o : Lawful shows p s) → get_elem? s.views id ≡ some v → x.now ≡ x.mine.right.last → generation_of x.now ≡ 140737488355327
-    → Lawful shows p record { words = set s.words (place_word p x.mine.right.heading.place) (place_value false x.mine.right.link x.mine.right.places); homes = s.homes; views = set s.views id (with_right v (freed_right (placed_right x.mine.right x.now))) }
+    → Lawful shows p record { words = set s.words (place_index p x.mine.right.heading.place) (place_value false x.mine.right.link x.mine.right.places); homes = s.homes; views = set s.views id (with_right v (freed_right (placed_right x.mine.right x.now))) }
 placing_last_law shows p id v x s o here at_last last =
-    goes_on shows p id x.now v (placed_right x.mine.right x.now) s here (to_end x.now at_last) last (set s.words (place_word p x.mine.right.heading.place) (place_value false x.mine.right.link x.mine.right.places)) (placing_law shows p id v x s o here)
+    goes_on shows p id x.now v (placed_right x.mine.right x.now) s here (to_end x.now at_last) last (set s.words (place_index p x.mine.right.heading.place) (place_value false x.mine.right.link x.mine.right.places)) (placing_law shows p id v x s o here)
 
 -- P1 with the dropped bit, of the last entry noted
 pub dropping_last_law : {S : Type 0} (shows : S → Home) (p : Plan) (id : ℕ) (v : View) (x : MayDrop p v) (s : State S View) (o : Lawful shows p s) → get_elem? s.views id ≡ some v → Failed p s x.mine.right.link → x.now ≡ x.mine.right.last → generation_of x.now ≡ 140737488355327
-    → Lawful shows p record { words = set s.words (place_word p x.mine.right.heading.place) (place_value true x.mine.right.link x.mine.right.places); homes = s.homes; views = set s.views id (with_right v (freed_right (dropped_right x.mine.right x.now x.sent))) }
+    → Lawful shows p record { words = set s.words (place_index p x.mine.right.heading.place) (place_value true x.mine.right.link x.mine.right.places); homes = s.homes; views = set s.views id (with_right v (freed_right (dropped_right x.mine.right x.now x.sent))) }
 dropping_last_law shows p id v x s o here dead at_last last =
-    goes_on shows p id x.now v (dropped_right x.mine.right x.now x.sent) s here (to_end x.now at_last) last (set s.words (place_word p x.mine.right.heading.place) (place_value true x.mine.right.link x.mine.right.places)) (dropping_law shows p id v x s o here dead)
+    goes_on shows p id x.now v (dropped_right x.mine.right x.now x.sent) s here (to_end x.now at_last) last (set s.words (place_index p x.mine.right.heading.place) (place_value true x.mine.right.link x.mine.right.places)) (dropping_law shows p id v x s o here dead)

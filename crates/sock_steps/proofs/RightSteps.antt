@@ -6,29 +6,29 @@ use mathlib.Core.Option.{Option, none, some, some-injective, some-ne-none}
 use native.Mathlib.Decide.{ℕ_discrete}
 use lib.ListN.{get_elem?}
 use Rattle.atomic_table.specs.Table.{State}
-use Rattle.slot_laws.specs.sock_model.specs.declared.chain.Right.{Right}
-use Rattle.slot_laws.specs.sock_model.specs.declared.chain.Stage.TheVariants.{Writes}
-use Rattle.slot_laws.specs.sock_words.specs.declared.plain.Plan.{Plan}
-use Rattle.slot_laws.specs.sock_model.specs.declared.view.View.{View}
-use Rattle.slot_laws.specs.sock_model.specs.declared.home.Home.{Home}
-use Rattle.slot_laws.specs.sock_model.specs.Weights.{total}
-use Rattle.slot_laws.specs.sock_model.specs.Entries.{ticket}
-use Rattle.slot_laws.specs.sock_model.specs.Layout.{place_word}
-use Rattle.slot_laws.specs.sock_model.specs.Chains.{Chains}
-use Rattle.slot_laws.specs.sock_model.specs.Messages.{Messages}
-use Rattle.slot_laws.specs.sock_model.specs.Deliveries.{Delivered}
-use Rattle.slot_laws.specs.sock_model.specs.ChainRows.{with_right, without_right}
-use Rattle.slot_laws.specs.sock_model.specs.Reads.{took_of, waits_of, memory, message, link_at, link_home, rights_on, claims_of, loose_at, tokens}
-use Rattle.slot_laws.specs.sock_model.specs.Links.{HoldsLink, HoldsRights, Failed}
-use Rattle.slot_laws.specs.sock_model.specs.Homes.{IsOwn}
-use Rattle.slot_laws.specs.sock_model.specs.Lawful.{Lawful}
-use Rattle.chain_laws.proofs.Lists.{at_length, filter_in, filter_at}
-use Rattle.chain_laws.proofs.Frames.{Same, Changed, one_token, no_token}
-use Rattle.chain_laws.proofs.Gather.{gather_all, gather_own, gather_same, nil_of}
-use Rattle.chain_laws.proofs.Few.{few_rights}
-use Rattle.chain_laws.proofs.Authored.{keeps_lists}
-use Rattle.chain_laws.proofs.Letters.{messages_frame}
-use Rattle.chain_laws.proofs.Delivers.{delivers_same}
+use Rattle.slot_steps.specs.sock_model.specs.declared.chain.Right.{Right}
+use Rattle.slot_steps.specs.sock_model.specs.declared.chain.Stage.TheVariants.{Writes}
+use Rattle.slot_steps.specs.sock_words.specs.declared.plain.Plan.{Plan}
+use Rattle.slot_steps.specs.sock_model.specs.declared.view.View.{View}
+use Rattle.slot_steps.specs.sock_model.specs.declared.home.Home.{Home}
+use Rattle.slot_steps.specs.sock_model.specs.Weights.{total}
+use Rattle.slot_steps.specs.sock_model.specs.Entries.{ticket}
+use Rattle.slot_steps.specs.sock_model.specs.Layout.{place_index}
+use Rattle.slot_steps.specs.sock_model.specs.Chains.{Chains}
+use Rattle.slot_steps.specs.sock_model.specs.Messages.{Messages}
+use Rattle.slot_steps.specs.sock_model.specs.Deliveries.{Delivered}
+use Rattle.slot_steps.specs.sock_model.specs.ChainRows.{with_right, without_right}
+use Rattle.slot_steps.specs.sock_model.specs.Reads.{took_of, waits_of, memory, message, link_at, link_home, rights_on, claims_of, loose_at, tokens}
+use Rattle.slot_steps.specs.sock_model.specs.Links.{HoldsLink, HoldsRights, Failed}
+use Rattle.slot_steps.specs.sock_model.specs.Homes.{IsOwn}
+use Rattle.slot_steps.specs.sock_model.specs.Lawful.{Lawful}
+use Rattle.chain_steps.proofs.Lists.{at_length, filter_in, filter_at}
+use Rattle.chain_steps.proofs.Frames.{Same, Changed, one_token, no_token}
+use Rattle.chain_steps.proofs.Gather.{gather_all, gather_own, gather_same, nil_of}
+use Rattle.chain_steps.proofs.Few.{few_rights}
+use Rattle.chain_steps.proofs.Authored.{keeps_lists}
+use Rattle.chain_steps.proofs.Letters.{messages_frame}
+use Rattle.chain_steps.proofs.Delivers.{delivers_same}
 use Rattle.sock_steps.proofs.Places.{holder_lives, given_unwaited}
 use Rattle.sock_steps.proofs.Words.{Beside, beside_all}
 use Rattle.sock_steps.proofs.ChainFrame.{SameSlots, carried_same, links_frame, chain_frame}
@@ -110,7 +110,7 @@ module _ {S : Type 0} {shows : S → Home} {p : Plan} {s : State S View} (o : La
     pub right_base : (ws : List ℕ) (hs : List (Option S)) (freed places kept : ℕ → ℕ) → ((k : ℕ) → k ≢ r.link → (places k ≡ o.places k) × (kept k ≡ o.kept k)) → Beside p o.slot s.words ws → ((k : ℕ) → link_at shows p hs k ≡ link_at shows p s.homes k)
         → Chains p.links p.requests (memory p o.slot ws) (tokens (set s.views id (with_right v r'))) o.log freed places
         → Messages p.links p.requests (message shows hs) (tokens (set s.views id (with_right v r'))) o.log places
-        → Delivered p.links (8 * p.operations) (λ l. get_or ws (place_word p l) 0) (link_home shows p hs) (Failed p s) (tokens (set s.views id (with_right v r'))) o.log places kept
+        → Delivered p.links (8 * p.operations) (λ l. get_or ws (place_index p l) 0) (link_home shows p hs) (Failed p s) (tokens (set s.views id (with_right v r'))) o.log places kept
         → link_home shows p s.homes r.link ≡ cond r'.at_home (some (r'.sent, r'.places)) none
         → Lawful shows p record { words = ws; homes = hs; views = set s.views id (with_right v r') }
     right_base ws hs freed places kept else_ beside homes chains messages delivered home = chain_frame shows p s o id v (with_right v r') at ws hs same_slots beside o.log freed places kept o.in_slots.entered held_after (carried_same shows p s o id v (with_right v r') at ws hs same_slots beside refl)
@@ -130,7 +130,7 @@ module _ {S : Type 0} {shows : S → Home} {p : Plan} {s : State S View} (o : La
     pub right_moves : (hs : List (Option S)) → ((k : ℕ) → k ≢ r.link → link_at shows p hs k ≡ link_at shows p s.homes k) → ((x : Home) → link_at shows p hs r.link ≡ some x → IsOwn o.slot r.link x)
         → Chains p.links p.requests (memory p o.slot s.words) (tokens (set s.views id (with_right v r'))) o.log o.freed o.places
         → Messages p.links p.requests (message shows hs) (tokens (set s.views id (with_right v r'))) o.log o.places
-        → Delivered p.links (8 * p.operations) (λ l. get_or s.words (place_word p l) 0) (link_home shows p hs) (Failed p s) (tokens (set s.views id (with_right v r'))) o.log o.places o.kept
+        → Delivered p.links (8 * p.operations) (λ l. get_or s.words (place_index p l) 0) (link_home shows p hs) (Failed p s) (tokens (set s.views id (with_right v r'))) o.log o.places o.kept
         → link_home shows p hs r.link ≡ cond r'.at_home (some (r'.sent, r'.places)) none
         → Lawful shows p record { words = s.words; homes = hs; views = set s.views id (with_right v r') }
     right_moves hs homes own chains messages delivered home = let x = right_slot in let life = o.in_slots.lives r.link x.0 x.1 in
@@ -150,7 +150,7 @@ module _ {S : Type 0} {shows : S → Home} {p : Plan} {s : State S View} (o : La
 
     -- all but the chains, where no message is in hand and nothing gets a place
     pub right_step : (ws : List ℕ) (freed : ℕ → ℕ) → r'.clean ≡ r.clean → r'.sent ≡ r.sent → r'.places ≡ r.places → r'.at_home ≡ r.at_home → r'.taken ≡ r.taken → ((now : ℕ) → r.stage ≢ Writes now) → Beside p o.slot s.words ws
-        → Same (8 * p.operations) (λ l. get_or s.words (place_word p l) 0) (λ l. get_or ws (place_word p l) 0)
+        → Same (8 * p.operations) (λ l. get_or s.words (place_index p l) 0) (λ l. get_or ws (place_index p l) 0)
         → Chains p.links p.requests (memory p o.slot ws) (tokens (set s.views id (with_right v r'))) o.log freed o.places
         → Lawful shows p record { words = ws; homes = s.homes; views = set s.views id (with_right v r') }
     right_step ws freed clean sent count home hand stage long pl chains = right_base ws s.homes freed o.places o.kept (λ k ne. (refl, refl)) long (λ k. refl) chains
@@ -162,7 +162,7 @@ module _ {S : Type 0} {shows : S → Home} {p : Plan} {s : State S View} (o : La
         (λ same. let q : r' ≡ y = one_token ((tokens (set s.views id (with_right v r'))).rights r.link) r' y rights_after.here (ap (tokens (set s.views id (with_right v r'))).rights (sym same) ∙ h) in
         let w = o.messages.taken_writes j r jl (ap (tokens s.views).rights same ∙ right_alone) (sym hand ∙ (ap (λ (x : Right). x.taken) q ∙ f)) in absurd (stage w.0 w.1))
         (λ ne. (y, sym (rights_after.else j jl ne) ∙ h, f, refl, refl, refl))))
-        (delivers_same o.delivered (tokens (set s.views id (with_right v r'))) (λ l. get_or ws (place_word p l) 0) pl
+        (delivers_same o.delivered (tokens (set s.views id (with_right v r'))) (λ l. get_or ws (place_index p l) 0) pl
         (λ j y jl h. dite (ℕ_discrete j r.link)
         (λ same. let q : r' ≡ y = one_token ((tokens (set s.views id (with_right v r'))).rights r.link) r' y rights_after.here (ap (tokens (set s.views id (with_right v r'))).rights (sym same) ∙ h) in
         (r, ap (tokens s.views).rights same ∙ right_alone, ap (λ (z : Right). z.clean) (sym q) ∙ clean, ap (λ (z : Right). z.sent) (sym q) ∙ sent, ap (λ (z : Right). z.places) (sym q) ∙ count))
@@ -177,7 +177,7 @@ module _ {S : Type 0} {shows : S → Home} {p : Plan} {s : State S View} (o : La
   }
 
   pub right_goes : (ws : List ℕ) → r.at_home ≡ true → ((now : ℕ) → r.stage ≢ Writes now) → Beside p o.slot s.words ws
-      → Same (8 * p.operations) (λ l. get_or s.words (place_word p l) 0) (λ l. get_or ws (place_word p l) 0)
+      → Same (8 * p.operations) (λ l. get_or s.words (place_index p l) 0) (λ l. get_or ws (place_index p l) 0)
       → (Changed p.links (tokens s.views).rights (tokens (set s.views id (without_right v r.link))).rights r.link [] → Same p.requests (tokens s.views).claims (tokens (set s.views id (without_right v r.link))).claims
       → Same p.requests (tokens s.views).loose (tokens (set s.views id (without_right v r.link))).loose → Chains p.links p.requests (memory p o.slot ws) (tokens (set s.views id (without_right v r.link))) o.log o.freed o.places)
       → Lawful shows p record { words = ws; homes = s.homes; views = set s.views id (without_right v r.link) }
@@ -197,7 +197,7 @@ module _ {S : Type 0} {shows : S → Home} {p : Plan} {s : State S View} (o : La
       (λ same. let q : r ≡ u.right = one_token ((tokens s.views).rights r.link) r u.right right_alone (ap (tokens s.views).rights (sym same) ∙ u.has) in absurd (stage (ticket e) (ap (λ (y : Right). y.stage) q ∙ u.stage)))
       (λ ne. record { right = u.right; has = rights_gone.else j jl ne ∙ u.has; stage = u.stage; taken = u.taken }))
       (λ j y jl h f. (y, sym (rights_gone.else j jl (gone j y jl h)) ∙ h, f, refl, refl, refl)))
-      (delivers_same o.delivered (tokens (set s.views id (without_right v r.link))) (λ l. get_or ws (place_word p l) 0) pl
+      (delivers_same o.delivered (tokens (set s.views id (without_right v r.link))) (λ l. get_or ws (place_index p l) 0) pl
       (λ j y jl h. (y, sym (rights_gone.else j jl (gone j y jl h)) ∙ h, refl, refl, refl)))
       (links_frame shows p s o id v (without_right v r.link) at ws s.homes same long (λ k h. refl) o.homes.own
       (λ j x jl sk h. dite (ℕ_discrete j r.link) (λ same. (r.sent, r.places, o.homes.busy j r jl (ap (tokens s.views).rights same ∙ right_alone) ∙ ap (λ b. cond b (some (r.sent, r.places)) none) home)) (λ ne. o.homes.idle j x jl sk (sym (rights_gone.else j jl ne) ∙ h)))

@@ -3,21 +3,21 @@ use Rattle.std.proofs.Common.{◌≡◌, ℕ, ◌+◌, ◌-◌, ◌*◌, ◌<◌
 use mathlib.Core.Option.{Option, some}
 use lib.ListN.{get_elem?}
 use Rattle.atomic_table.specs.Table.{State}
-use Rattle.slot_laws.specs.sock_words.specs.declared.plain.Plan.{Plan}
-use Rattle.slot_laws.specs.sock_model.specs.declared.chain.Claim.{Claim}
-use Rattle.slot_laws.specs.sock_model.specs.declared.chain.Loose.{Loose}
-use Rattle.slot_laws.specs.sock_model.specs.declared.chain.Right.{Right}
-use Rattle.slot_laws.specs.sock_model.specs.declared.chain.Stage.{Stage}
-use Rattle.slot_laws.specs.sock_model.specs.declared.home.Home.{Home}
-use Rattle.slot_laws.specs.sock_model.specs.declared.view.View.{View}
-use Rattle.slot_laws.specs.sock_model.specs.Layout.{head_word, request_word, next_word, place_word}
-use Rattle.slot_laws.specs.sock_model.specs.Entries.{slot_of, generation_of}
-use Rattle.slot_laws.specs.sock_model.specs.Memory.{IDLE}
-use Rattle.slot_laws.specs.sock_model.specs.ChainRows.{with_claim, without_loose, with_right, without_right, turned_right, entry_of, queued, righted}
-use Rattle.slot_laws.specs.sock_model.specs.Conditions.{MayExchange, MayEmpty, MayTurn}
-use Rattle.slot_laws.specs.sock_model.specs.Lawful.{Lawful}
-use Rattle.slot_laws.specs.sock_model.specs.Rule.{MOST_ACCEPTED, Lasting, Rule}
-use Rattle.chain_laws.proofs.Frees.{Leads}
+use Rattle.slot_steps.specs.sock_words.specs.declared.plain.Plan.{Plan}
+use Rattle.slot_steps.specs.sock_model.specs.declared.chain.Claim.{Claim}
+use Rattle.slot_steps.specs.sock_model.specs.declared.chain.Loose.{Loose}
+use Rattle.slot_steps.specs.sock_model.specs.declared.chain.Right.{Right}
+use Rattle.slot_steps.specs.sock_model.specs.declared.chain.Stage.{Stage}
+use Rattle.slot_steps.specs.sock_model.specs.declared.home.Home.{Home}
+use Rattle.slot_steps.specs.sock_model.specs.declared.view.View.{View}
+use Rattle.slot_steps.specs.sock_model.specs.Layout.{head_index, request_index, next_index, place_index}
+use Rattle.slot_steps.specs.sock_model.specs.Entries.{slot_of, generation_of}
+use Rattle.slot_steps.specs.sock_model.specs.Memory.{IDLE}
+use Rattle.slot_steps.specs.sock_model.specs.ChainRows.{with_claim, without_loose, with_right, without_right, turned_right, entry_of, queued, righted}
+use Rattle.slot_steps.specs.sock_model.specs.Conditions.{MayExchange, MayEmpty, MayTurn}
+use Rattle.slot_steps.specs.sock_model.specs.Lawful.{Lawful}
+use Rattle.slot_steps.specs.sock_model.specs.Rule.{MOST_ACCEPTED, Lasting, Rule}
+use Rattle.chain_steps.proofs.Frees.{Leads}
 use Rattle.sock_steps.proofs.AcceptSteps.{queued_law, righted_law}
 use Rattle.sock_steps.proofs.ClaimSteps.{claiming_law, connecting_law}
 use Rattle.sock_steps.proofs.WalkSteps.{emptied_law, turning_law}
@@ -41,54 +41,54 @@ module _ {S : Type 0} {shows : S → Home} {p : Plan} {s : State S View} (r : Ru
   apart_rule x n apart w hs same = word_rule r id v here mine w x n hs same (λ l. absurd (apart l))
 
   -- C1 that claims the request
-  pub claiming_rule : (q g : ℕ) (c : Claim) → q < p.requests → v.claims ≡ [] → c.request ≡ q → c.generation ≡ g → c.ready ≡ false → c.filled ≡ false → get_or s.words (request_word p q) 0 ≡ 2 * g
-      → Rule shows p record { words = set s.words (request_word p q) (2 * g + 1); homes = s.homes; views = set s.views id (with_claim v c) }
-  claiming_rule q g c inside empty request generation ready filled word = word_rule r id v here mine (with_claim v c) (request_word p q) (2 * g + 1) s.homes record { plan = refl; found = refl; lists = refl } (λ l z. absurd (omega arith))
+  pub claiming_rule : (q g : ℕ) (c : Claim) → q < p.requests → v.claims ≡ [] → c.request ≡ q → c.generation ≡ g → c.ready ≡ false → c.filled ≡ false → get_or s.words (request_index p q) 0 ≡ 2 * g
+      → Rule shows p record { words = set s.words (request_index p q) (2 * g + 1); homes = s.homes; views = set s.views id (with_claim v c) }
+  claiming_rule q g c inside empty request generation ready filled word = word_rule r id v here mine (with_claim v c) (request_index p q) (2 * g + 1) s.homes record { plan = refl; found = refl; lists = refl } (λ l z. absurd (omega arith))
       (claiming_law shows p id q g v c s o here inside empty request generation ready filled word)
 
   -- C2, where the seat's own list has room: it found a busy head, or an idle one
   module _ (i own : ℕ) (x : MayExchange p v i own) (inside : i < p.slots) (room : length x.made < MOST_ACCEPTED) where
     abbrev found : ℕ
-    found = get_or s.words (head_word i) 0
+    found = get_or s.words (head_index i) 0
 
-    pub queued_rule : found < IDLE → Rule shows p record { words = set s.words (head_word i) own; homes = s.homes; views = set s.views id (queued v x.claim found) }
-    queued_rule busy = accept_rule r id v here mine (queued v x.claim found) (head_word i) own x.made x.taken_in (entry_of x.claim found) refl refl x.lists refl room (λ l. absurd (low_apart p (head_word i) (omega arith) l))
+    pub queued_rule : found < IDLE → Rule shows p record { words = set s.words (head_index i) own; homes = s.homes; views = set s.views id (queued v x.claim found) }
+    queued_rule busy = accept_rule r id v here mine (queued v x.claim found) (head_index i) own x.made x.taken_in (entry_of x.claim found) refl refl x.lists refl room (λ l. absurd (low_apart p (head_index i) (omega arith) l))
         (queued_law shows p s o id i own v here x busy)
 
-    pub righted_rule : IDLE ≤ found → (sent : List ℕ) × (places : ℕ) × Rule shows p record { words = set s.words (head_word i) own; homes = s.homes; views = set s.views id (righted v x.claim found sent places) }
+    pub righted_rule : IDLE ≤ found → (sent : List ℕ) × (places : ℕ) × Rule shows p record { words = set s.words (head_index i) own; homes = s.homes; views = set s.views id (righted v x.claim found sent places) }
     righted_rule idle = let a = righted_law shows p s o id i own v here x idle in
-        (a.0, a.1, accept_rule r id v here mine (righted v x.claim found a.0 a.1) (head_word i) own x.made x.taken_in (entry_of x.claim (found - IDLE)) refl refl x.lists refl room (λ l. absurd (low_apart p (head_word i) (omega arith) l)) a.2)
+        (a.0, a.1, accept_rule r id v here mine (righted v x.claim found a.0 a.1) (head_index i) own x.made x.taken_in (entry_of x.claim (found - IDLE)) refl refl x.lists refl room (λ l. absurd (low_apart p (head_index i) (omega arith) l)) a.2)
 
   -- C3
-  pub connecting_rule : (i : ℕ) (l : Loose) → l.request < p.requests → get_elem? v.loose i ≡ some l → Rule shows p record { words = set s.words (next_word p l.request) l.before; homes = s.homes; views = set s.views id (without_loose v l.request) }
-  connecting_rule i l inside has = apart_rule (next_word p l.request) l.before (high_apart p (next_word p l.request) (omega arith)) (without_loose v l.request) s.homes record { plan = refl; found = refl; lists = refl } (connecting_law shows p id i v l s o here inside has)
+  pub connecting_rule : (i : ℕ) (l : Loose) → l.request < p.requests → get_elem? v.loose i ≡ some l → Rule shows p record { words = set s.words (next_index p l.request) l.before; homes = s.homes; views = set s.views id (without_loose v l.request) }
+  connecting_rule i l inside has = apart_rule (next_index p l.request) l.before (high_apart p (next_index p l.request) (omega arith)) (without_loose v l.request) s.homes record { plan = refl; found = refl; lists = refl } (connecting_law shows p id i v l s o here inside has)
 
   -- C4, won
-  pub emptied_rule : (i last empty : ℕ) (x : MayEmpty p v i last empty) → i < p.slots → get_or s.words (head_word i) 0 ≡ last → Rule shows p record { words = set s.words (head_word i) empty; homes = s.homes; views = set s.views id (without_right v x.mine.right.link) }
-  emptied_rule i last empty x inside won = apart_rule (head_word i) empty (low_apart p (head_word i) (omega arith)) (without_right v x.mine.right.link) s.homes record { plan = refl; found = refl; lists = refl } (emptied_law shows p s o id i last empty v here x won)
+  pub emptied_rule : (i last empty : ℕ) (x : MayEmpty p v i last empty) → i < p.slots → get_or s.words (head_index i) 0 ≡ last → Rule shows p record { words = set s.words (head_index i) empty; homes = s.homes; views = set s.views id (without_right v x.mine.right.link) }
+  emptied_rule i last empty x inside won = apart_rule (head_index i) empty (low_apart p (head_index i) (omega arith)) (without_right v x.mine.right.link) s.homes record { plan = refl; found = refl; lists = refl } (emptied_law shows p s o id i last empty v here x won)
 
   -- C6
-  pub turning_rule : (value : ℕ) (x : MayTurn v value) → Rule shows p record { words = set s.words (next_word p (slot_of x.at)) value; homes = s.homes; views = set s.views id (with_right v (turned_right x.mine.right x.top x.at x.before)) }
+  pub turning_rule : (value : ℕ) (x : MayTurn v value) → Rule shows p record { words = set s.words (next_index p (slot_of x.at)) value; homes = s.homes; views = set s.views id (with_right v (turned_right x.mine.right x.top x.at x.before)) }
   turning_rule value x = let w : Right = turned_right x.mine.right x.top x.at x.before in
-      apart_rule (next_word p (slot_of x.at)) value (high_apart p (next_word p (slot_of x.at)) (omega arith)) (with_right v (turned_right x.mine.right x.top x.at x.before)) s.homes record { plan = refl; found = refl; lists = refl } (turning_law shows p s o id value v here x)
+      apart_rule (next_index p (slot_of x.at)) value (high_apart p (next_index p (slot_of x.at)) (omega arith)) (with_right v (turned_right x.mine.right x.top x.at x.before)) s.homes record { plan = refl; found = refl; lists = refl } (turning_law shows p s o id value v here x)
 
   -- C8
   pub freeing_rule : (i now : ℕ) (b : Stage) (right : Right) → get_elem? v.rights i ≡ some right → Leads right.last right.stage now b → generation_of now < 140737488355327
-      → Rule shows p record { words = set s.words (request_word p (slot_of now)) (2 * (generation_of now + 1)); homes = s.homes; views = set s.views id (with_right v (record right { stage = b })) }
-  freeing_rule i now b right has leads small = word_rule r id v here mine (with_right v (record right { stage = b })) (request_word p (slot_of now)) (2 * (generation_of now + 1)) s.homes record { plan = refl; found = refl; lists = refl } (λ l z. absurd (omega arith))
+      → Rule shows p record { words = set s.words (request_index p (slot_of now)) (2 * (generation_of now + 1)); homes = s.homes; views = set s.views id (with_right v (record right { stage = b })) }
+  freeing_rule i now b right has leads small = word_rule r id v here mine (with_right v (record right { stage = b })) (request_index p (slot_of now)) (2 * (generation_of now + 1)) s.homes record { plan = refl; found = refl; lists = refl } (λ l z. absurd (omega arith))
       (freeing_law shows p id i now b v right s o here has leads small)
 
   -- the right's other steps: C4 lost, C5, M2, A8, L1 and L2 change no word, and P1 a place word
   pub right_rule : (right : Right) (hs : List (Option S)) → Lawful shows p record { words = s.words; homes = hs; views = set s.views id (with_right v right) } → Rule shows p record { words = s.words; homes = hs; views = set s.views id (with_right v right) }
   right_rule right hs = still_rule r id v here mine (with_right v right) hs record { plan = refl; found = refl; lists = refl }
 
-  pub place_rule : (l n : ℕ) (right : Right) (hs : List (Option S)) → Lawful shows p record { words = set s.words (place_word p l) n; homes = hs; views = set s.views id (with_right v right) }
-      → Rule shows p record { words = set s.words (place_word p l) n; homes = hs; views = set s.views id (with_right v right) }
-  place_rule l n right hs = apart_rule (place_word p l) n (high_apart p (place_word p l) (omega arith)) (with_right v right) hs record { plan = refl; found = refl; lists = refl }
+  pub place_rule : (l n : ℕ) (right : Right) (hs : List (Option S)) → Lawful shows p record { words = set s.words (place_index p l) n; homes = hs; views = set s.views id (with_right v right) }
+      → Rule shows p record { words = set s.words (place_index p l) n; homes = hs; views = set s.views id (with_right v right) }
+  place_rule l n right hs = apart_rule (place_index p l) n (high_apart p (place_index p l) (omega arith)) (with_right v right) hs record { plan = refl; found = refl; lists = refl }
 
   -- and a claim's: C7 changes a next word, M1 none
-  pub ready_rule : (q n : ℕ) (c : Claim) → Lawful shows p record { words = set s.words (next_word p q) n; homes = s.homes; views = set s.views id (with_claim v c) } → Rule shows p record { words = set s.words (next_word p q) n; homes = s.homes; views = set s.views id (with_claim v c) }
-  ready_rule q n c = apart_rule (next_word p q) n (high_apart p (next_word p q) (omega arith)) (with_claim v c) s.homes record { plan = refl; found = refl; lists = refl }
+  pub ready_rule : (q n : ℕ) (c : Claim) → Lawful shows p record { words = set s.words (next_index p q) n; homes = s.homes; views = set s.views id (with_claim v c) } → Rule shows p record { words = set s.words (next_index p q) n; homes = s.homes; views = set s.views id (with_claim v c) }
+  ready_rule q n c = apart_rule (next_index p q) n (high_apart p (next_index p q) (omega arith)) (with_claim v c) s.homes record { plan = refl; found = refl; lists = refl }
 
   pub fill_rule : (c : Claim) (hs : List (Option S)) → Lawful shows p record { words = s.words; homes = hs; views = set s.views id (with_claim v c) } → Rule shows p record { words = s.words; homes = hs; views = set s.views id (with_claim v c) }
   fill_rule c hs = still_rule r id v here mine (with_claim v c) hs record { plan = refl; found = refl; lists = refl }

@@ -4,16 +4,16 @@ use mathlib.Core.Option.{Option, some, some-injective, some-ne-none}
 use lib.ListN.{get_elem?}
 use Rattle.atomic_table.specs.Table.{State}
 use Rattle.atomic_table.proofs.Lists.{at_set, at_snoc}
-use Rattle.slot_laws.specs.sock_words.specs.declared.plain.Plan.{Plan}
-use Rattle.slot_laws.specs.sock_model.specs.declared.chain.Entry.{Entry}
-use Rattle.slot_laws.specs.sock_model.specs.declared.home.Home.{Home}
-use Rattle.slot_laws.specs.sock_model.specs.declared.view.View.{View}
-use Rattle.slot_laws.specs.sock_model.specs.Weights.{total, only, is_ref}
-use Rattle.slot_laws.specs.sock_model.specs.Marks.{about}
-use Rattle.slot_laws.specs.sock_model.specs.Seats.{newcomer, spent, joined, IsBare, first_view}
-use Rattle.slot_laws.specs.sock_model.specs.Lawful.{Lawful}
-use Rattle.slot_laws.specs.sock_model.specs.Rule.{FoundWords, MOST_ACCEPTED, AreShort, lists_of, Rule}
-use Rattle.slot_laws.proofs.Sums.{total-set, total-append, total_bound}
+use Rattle.slot_steps.specs.sock_words.specs.declared.plain.Plan.{Plan}
+use Rattle.slot_steps.specs.sock_model.specs.declared.chain.Entry.{Entry}
+use Rattle.slot_steps.specs.sock_model.specs.declared.home.Home.{Home}
+use Rattle.slot_steps.specs.sock_model.specs.declared.view.View.{View}
+use Rattle.slot_steps.specs.sock_model.specs.Weights.{total, only, is_ref}
+use Rattle.slot_steps.specs.sock_model.specs.Marks.{about}
+use Rattle.slot_steps.specs.sock_model.specs.Seats.{newcomer, spent, joined, IsBare, first_view}
+use Rattle.slot_steps.specs.sock_model.specs.Lawful.{Lawful}
+use Rattle.slot_steps.specs.sock_model.specs.Rule.{FoundWords, MOST_ACCEPTED, AreShort, lists_of, Rule}
+use Rattle.slot_steps.proofs.Sums.{total-set, total-append, total_bound}
 use Rattle.sock_steps.proofs.Reseat.{splitting_law, joining_law}
 
 at_append : {A : Type 0} (xs ys : List A) (i : ℕ) (a : A) → get_elem? (xs ++ ys) i ≡ some a → (get_elem? xs i ≡ some a) ⊎ ((k : ℕ) × (get_elem? ys k ≡ some a))

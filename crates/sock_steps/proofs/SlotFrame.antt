@@ -5,28 +5,28 @@ use mathlib.Core.Option.{Option, some, none}
 use lib.ListN.{get_elem?}
 use Rattle.atomic_table.specs.Table.{State}
 use Rattle.atomic_table.proofs.Lists.{at_set}
-use Rattle.slot_laws.specs.sock_model.specs.declared.chain.Right.{Right}
-use Rattle.slot_laws.specs.sock_model.specs.declared.chain.Claim.{Claim}
-use Rattle.slot_laws.specs.sock_model.specs.declared.chain.Loose.{Loose}
-use Rattle.slot_laws.specs.sock_model.specs.declared.home.Home.{Home}
-use Rattle.slot_laws.specs.sock_words.specs.declared.plain.Plan.{Plan}
-use Rattle.slot_laws.specs.sock_model.specs.declared.view.View.{View}
-use Rattle.slot_laws.specs.sock_model.specs.Weights.{total, is_reset, is_recycled, is_hold, is_met}
-use Rattle.slot_laws.specs.sock_model.specs.Layout.{head_word, request_word, next_word, place_word}
-use Rattle.slot_laws.specs.sock_model.specs.Slots.{count}
-use Rattle.slot_laws.specs.sock_model.specs.References.{slot_facts, References}
-use Rattle.slot_laws.specs.sock_model.specs.SlotRows.{marks_of}
-use Rattle.slot_laws.specs.sock_model.specs.Memory.{IDLE}
-use Rattle.slot_laws.specs.sock_model.specs.Reads.{head_at, rights_on, claims_of, loose_at, tokens, message, waits_of, carries, hands_of}
-use Rattle.slot_laws.specs.sock_model.specs.Links.{HoldsRights, Failed, InSlots}
-use Rattle.slot_laws.specs.sock_model.specs.Homes.{Unborn, Recycles, LinkHomes}
-use Rattle.slot_laws.specs.sock_model.specs.Lawful.{Lawful}
-use Rattle.slot_laws.proofs.Sums.{total-set}
-use Rattle.chain_laws.proofs.Frames.{chains_frame}
-use Rattle.chain_laws.proofs.Gather.{gather_same}
-use Rattle.chain_laws.proofs.Authored.{keeps_lists}
-use Rattle.chain_laws.proofs.Letters.{messages_frame}
-use Rattle.chain_laws.proofs.Delivers.{delivers_same, delivers_failed}
+use Rattle.slot_steps.specs.sock_model.specs.declared.chain.Right.{Right}
+use Rattle.slot_steps.specs.sock_model.specs.declared.chain.Claim.{Claim}
+use Rattle.slot_steps.specs.sock_model.specs.declared.chain.Loose.{Loose}
+use Rattle.slot_steps.specs.sock_model.specs.declared.home.Home.{Home}
+use Rattle.slot_steps.specs.sock_words.specs.declared.plain.Plan.{Plan}
+use Rattle.slot_steps.specs.sock_model.specs.declared.view.View.{View}
+use Rattle.slot_steps.specs.sock_model.specs.Weights.{total, is_reset, is_recycled, is_hold, is_met}
+use Rattle.slot_steps.specs.sock_model.specs.Layout.{head_index, request_index, next_index, place_index}
+use Rattle.slot_steps.specs.sock_model.specs.Slots.{count}
+use Rattle.slot_steps.specs.sock_model.specs.References.{slot_facts, References}
+use Rattle.slot_steps.specs.sock_model.specs.SlotRows.{marks_of}
+use Rattle.slot_steps.specs.sock_model.specs.Memory.{IDLE}
+use Rattle.slot_steps.specs.sock_model.specs.Reads.{head_at, rights_on, claims_of, loose_at, tokens, message, waits_of, carries, hands_of}
+use Rattle.slot_steps.specs.sock_model.specs.Links.{HoldsRights, Failed, InSlots}
+use Rattle.slot_steps.specs.sock_model.specs.Homes.{Unborn, Recycles, LinkHomes}
+use Rattle.slot_steps.specs.sock_model.specs.Lawful.{Lawful}
+use Rattle.slot_steps.proofs.Sums.{total-set}
+use Rattle.chain_steps.proofs.Frames.{chains_frame}
+use Rattle.chain_steps.proofs.Gather.{gather_same}
+use Rattle.chain_steps.proofs.Authored.{keeps_lists}
+use Rattle.chain_steps.proofs.Letters.{messages_frame}
+use Rattle.chain_steps.proofs.Delivers.{delivers_same, delivers_failed}
 use Rattle.sock_steps.proofs.Steady.{Steady, SameChain}
 use Rattle.sock_steps.proofs.Places.{given_to, given_from, lives_to, lives_from, failed_to}
 
@@ -37,12 +37,12 @@ still_holds p v w known hold same a i r g = let x = a i r (subst (λ l. get_elem
 
 -- the words that the chains read
 pub record ChainWords (p : Plan) (slot : ℕ → Option ℕ) (ws vs : List ℕ) : Type 0 where
-  pub heads : (k j : ℕ) → slot k ≡ some j → get_or vs (head_word j) 0 ≡ get_or ws (head_word j) 0
-  pub nexts : (r : ℕ) → r < p.requests → get_or vs (next_word p r) 0 ≡ get_or ws (next_word p r) 0
-  pub requests : (r : ℕ) → r < p.requests → get_or vs (request_word p r) 0 ≡ get_or ws (request_word p r) 0
-  pub places : (l : ℕ) → l < 8 * p.operations → get_or vs (place_word p l) 0 ≡ get_or ws (place_word p l) 0
+  pub heads : (k j : ℕ) → slot k ≡ some j → get_or vs (head_index j) 0 ≡ get_or ws (head_index j) 0
+  pub nexts : (r : ℕ) → r < p.requests → get_or vs (next_index p r) 0 ≡ get_or ws (next_index p r) 0
+  pub requests : (r : ℕ) → r < p.requests → get_or vs (request_index p r) 0 ≡ get_or ws (request_index p r) 0
+  pub places : (l : ℕ) → l < 8 * p.operations → get_or vs (place_index p l) 0 ≡ get_or ws (place_index p l) 0
 
-pub head_is : (slot : Option ℕ) (ws vs : List ℕ) → ((j : ℕ) → slot ≡ some j → get_or vs (head_word j) 0 ≡ get_or ws (head_word j) 0) → head_at vs slot ≡ head_at ws slot
+pub head_is : (slot : Option ℕ) (ws vs : List ℕ) → ((j : ℕ) → slot ≡ some j → get_or vs (head_index j) 0 ≡ get_or ws (head_index j) 0) → head_at vs slot ≡ head_at ws slot
 head_is none ws vs h = refl
 head_is (some j) ws vs h = ap (λ (y : ℕ). some y) (h j refl)
 
@@ -65,7 +65,7 @@ module _ {S : Type 0} (shows : S → Home) (p : Plan) (s : State S View) (o : La
   waiters_less : (k : ℕ) → total (waits_of k) (set s.views id w) ≤ total (waits_of k) s.views
   waiters_less k = omega (arith, total-set (waits_of k) s.views id v w here, st.waits k)
 
-  pub in_slots_stay : ((j : ℕ) → j < p.slots → 0 < count is_reset (slot_facts t j) → get_or ws (head_word j) 0 ≡ IDLE) → InSlots p t o.slot o.log
+  pub in_slots_stay : ((j : ℕ) → j < p.slots → 0 < count is_reset (slot_facts t j) → get_or ws (head_index j) 0 ≡ IDLE) → InSlots p t o.slot o.log
   in_slots_stay reset = record {
     lives = λ k j e. let a = o.in_slots.lives k j e in (a.0, lives_to p s id v w here ws s.homes st j a.0 k a.1);
     alone = λ j h k g. o.in_slots.alone j h k (lives_from p s id v w here ws s.homes st j h k g);
@@ -97,7 +97,7 @@ module _ {S : Type 0} (shows : S → Home) (p : Plan) (s : State S View) (o : La
       carry {k} {v'} u more (inr a) = let b = a.recycling in inr record { slot = a.slot; version = a.version; recycling = omega (arith, more a.slot a.version); life = given_to p s id v w here ws s.homes st a.slot (a.version - 2) k a.life }
 
   -- the whole rule, from that of the slots
-  pub slot_frame : ChainWords p o.slot s.words ws → ((j : ℕ) → j < p.slots → 0 < count is_reset (slot_facts t j) → get_or ws (head_word j) 0 ≡ IDLE) → HoldsRights p w
+  pub slot_frame : ChainWords p o.slot s.words ws → ((j : ℕ) → j < p.slots → 0 < count is_reset (slot_facts t j) → get_or ws (head_index j) 0 ≡ IDLE) → HoldsRights p w
       → ((j x : ℕ) → marks_of (is_recycled x) j v ≤ marks_of (is_recycled x) j w) ⊎ ((k : ℕ) → hands_of k w ≡ 0) → References p t → Lawful shows p t
   slot_frame words reset held hands refs = record {
     slot = o.slot;
@@ -113,7 +113,7 @@ module _ {S : Type 0} (shows : S → Home) (p : Plan) (s : State S View) (o : La
     authors = keeps_lists (λ (y : View). y.lists) s.views o.log id v w o.authors here same.lists;
     messages = messages_frame o.chains o.messages (tokens (set s.views id w)) (message shows s.homes) (λ r rl. refl) (λ r rl. claims_stay r)
         (λ k e kl u. record { right = u.right; has = rights_stay k ∙ u.has; stage = u.stage; taken = u.taken }) (λ k r kl h f. (r, sym (rights_stay k) ∙ h, f, refl, refl, refl));
-    delivered = delivers_failed (delivers_same o.delivered (tokens (set s.views id w)) (λ l. get_or ws (place_word p l) 0) words.places (λ k r kl h. (r, sym (rights_stay k) ∙ h, refl, refl, refl)))
+    delivered = delivers_failed (delivers_same o.delivered (tokens (set s.views id w)) (λ l. get_or ws (place_index p l) 0) words.places (λ k r kl h. (r, sym (rights_stay k) ∙ h, refl, refl, refl)))
         (Failed p t) (λ k kl. failed_to p s id v w here ws s.homes st k);
     carried = λ j n u h g e. ⊎_elim (λ y. o.carried id n v h here (subst (λ l. get_elem? l n ≡ some h) (ap (λ (z : View). z.hands) (sym y.1) ∙ same.hands) e)) (λ y. o.carried j n u h y.1 e) (at_set s.views id j w u g);
     homes = homes_stay hands;

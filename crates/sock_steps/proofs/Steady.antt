@@ -2,21 +2,21 @@
 use Rattle.std.proofs.Common.{◌≡◌, ◌≢◌, ℕ, ◌+◌, ◌-◌, ◌%◌, ◌<◌, ◌≤◌, Bool, List, [], ◌∷◌, refl, sym, ap, ◌∙◌, subst, arith, cond, eqb, eq-eqb, ne_eqb}
 use mathlib.Core.Logic.{dite}
 use native.Mathlib.Decide.{ℕ_discrete}
-use Rattle.slot_laws.specs.sock_model.specs.declared.marks.Mark.{Mark}
-use Rattle.slot_laws.specs.sock_model.specs.declared.marks.Mark.TheVariants.{Claimed, Recycling, Hold, Probe, Zero, Coding, Tried, Known, Saw, Failer, Stored, Told, Freer, Met}
-use Rattle.slot_laws.specs.sock_model.specs.declared.marks.SlotMark.{SlotMark}
-use Rattle.slot_laws.specs.sock_model.specs.declared.view.View.{View}
-use Rattle.slot_laws.specs.sock_model.specs.Weights.{total, only, is_failer, is_freer, is_linked, is_met, is_hold, is_zero, is_coding, is_stage, is_recycling, is_recycled, is_reset, is_waiting}
-use Rattle.slot_laws.specs.sock_model.specs.Marks.{about, at, without, without_at}
-use Rattle.slot_laws.specs.sock_model.specs.Slots.{version_of, nref_of}
-use Rattle.slot_laws.specs.sock_model.specs.References.{OnlyMarks}
-use Rattle.slot_laws.specs.sock_model.specs.SlotRows.{marks_of, claimed, added, subbed, failed, recycled, freed, looked, linked, staged, coded, told_code, met, wrote, met_link}
-use Rattle.slot_laws.specs.sock_model.specs.Reads.{waits_link, waits_of}
-use Rattle.slot_laws.proofs.Sums.{taken_as, about-here, about-other}
-use Rattle.slot_laws.proofs.Frame.{about-without, about-without_else, passes-without}
-use Rattle.slot_laws.proofs.Kept.{conds}
-use Rattle.slot_laws.proofs.Codes.{coding_as}
-use Rattle.slot_laws.proofs.Slots.{IsRef, zero_is, stage_is, any_recycled}
+use Rattle.slot_steps.specs.sock_model.specs.declared.marks.Mark.{Mark}
+use Rattle.slot_steps.specs.sock_model.specs.declared.marks.Mark.TheVariants.{Claimed, Recycling, Hold, Probe, Zero, Coding, Tried, Known, Saw, Failer, Stored, Told, Freer, Met}
+use Rattle.slot_steps.specs.sock_model.specs.declared.marks.SlotMark.{SlotMark}
+use Rattle.slot_steps.specs.sock_model.specs.declared.view.View.{View}
+use Rattle.slot_steps.specs.sock_model.specs.Weights.{total, only, is_failer, is_freer, is_linked, is_met, is_hold, is_zero, is_coding, is_stage, is_recycling, is_recycled, is_reset, is_waiting}
+use Rattle.slot_steps.specs.sock_model.specs.Marks.{about, at, without, without_at}
+use Rattle.slot_steps.specs.sock_model.specs.Slots.{version_of, nref_of}
+use Rattle.slot_steps.specs.sock_model.specs.References.{OnlyMarks}
+use Rattle.slot_steps.specs.sock_model.specs.SlotRows.{marks_of, claimed, added, subbed, failed, recycled, freed, looked, linked, staged, coded, told_code, met, wrote, met_link}
+use Rattle.slot_steps.specs.sock_model.specs.Reads.{waits_link, waits_of}
+use Rattle.slot_steps.proofs.Sums.{taken_as, about-here, about-other}
+use Rattle.slot_steps.proofs.Frame.{about-without, about-without_else, passes-without}
+use Rattle.slot_steps.proofs.Kept.{conds}
+use Rattle.slot_steps.proofs.Codes.{coding_as}
+use Rattle.slot_steps.proofs.Slots.{IsRef, zero_is, stage_is, any_recycled}
 use Rattle.sock_steps.proofs.Quiet.{either_way, Less, More, less_add, more_add, less_all, more_all, less_without, more_without, Quiet, quiet_linked, quiet_freer, quiet_failer, quiet_reset, waits-without}
 
 -- of lives, links and claims

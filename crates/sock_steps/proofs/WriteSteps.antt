@@ -4,31 +4,31 @@ use mathlib.Core.Option.{Option, some, none, some-injective, some-ne-none}
 use lib.ListN.{get_elem?}
 use Rattle.atomic_table.specs.Table.{State}
 use Rattle.atomic_table.proofs.Lists.{set_else}
-use Rattle.slot_laws.specs.sock_model.specs.declared.chain.Heading.{Heading}
-use Rattle.slot_laws.specs.sock_model.specs.declared.chain.Right.{Right}
-use Rattle.slot_laws.specs.sock_model.specs.declared.chain.Stage.{Stage}
-use Rattle.slot_laws.specs.sock_model.specs.declared.chain.Stage.TheVariants.{Writes, Placed, Passes}
-use Rattle.slot_laws.specs.sock_model.specs.declared.home.Home.{Home}
-use Rattle.slot_laws.specs.sock_model.specs.declared.home.Home.TheVariants.{Empty, Link, Message}
-use Rattle.slot_laws.specs.sock_words.specs.declared.plain.Plan.{Plan}
-use Rattle.slot_laws.specs.sock_model.specs.declared.view.View.{View}
-use Rattle.slot_laws.specs.sock_model.specs.Layout.{request_word, place_word}
-use Rattle.slot_laws.specs.sock_model.specs.Entries.{ticket, slot_of, generation_of, on, nth}
-use Rattle.slot_laws.specs.sock_model.specs.Tokens.{Tokens}
-use Rattle.slot_laws.specs.sock_model.specs.Writing.{InStage}
-use Rattle.slot_laws.specs.sock_model.specs.Messages.{InHand}
-use Rattle.slot_laws.specs.sock_model.specs.Deliveries.{place_value}
-use Rattle.slot_laws.specs.sock_model.specs.Reads.{letter_of, took_of, as_link, shown, memory, message, link_home, tokens}
-use Rattle.slot_laws.specs.sock_model.specs.ChainRows.{with_right, placed_right, dropped_right, taken_right}
-use Rattle.slot_laws.specs.sock_model.specs.Conditions.{MayPlace, MayDrop, MayTake}
-use Rattle.slot_laws.specs.sock_model.specs.Links.{Failed}
-use Rattle.slot_laws.specs.sock_model.specs.Lawful.{Lawful}
-use Rattle.chain_laws.proofs.Lists.{at_some, at_length, ticket_at_is}
-use Rattle.chain_laws.proofs.Frames.{Changed, one_token, in_size, from_same}
-use Rattle.chain_laws.proofs.Heads.{held_of, places_one, restages, slot_is}
-use Rattle.chain_laws.proofs.Frees.{Leads, to_end, to_next, frees, retires, now_slot}
-use Rattle.chain_laws.proofs.Letters.{lets_go, takes_letter, writes_room}
-use Rattle.chain_laws.proofs.Delivers.{places_whole, drops, delivers_same, moves_link}
+use Rattle.slot_steps.specs.sock_model.specs.declared.chain.Heading.{Heading}
+use Rattle.slot_steps.specs.sock_model.specs.declared.chain.Right.{Right}
+use Rattle.slot_steps.specs.sock_model.specs.declared.chain.Stage.{Stage}
+use Rattle.slot_steps.specs.sock_model.specs.declared.chain.Stage.TheVariants.{Writes, Placed, Passes}
+use Rattle.slot_steps.specs.sock_model.specs.declared.home.Home.{Home}
+use Rattle.slot_steps.specs.sock_model.specs.declared.home.Home.TheVariants.{Empty, Link, Message}
+use Rattle.slot_steps.specs.sock_words.specs.declared.plain.Plan.{Plan}
+use Rattle.slot_steps.specs.sock_model.specs.declared.view.View.{View}
+use Rattle.slot_steps.specs.sock_model.specs.Layout.{request_index, place_index}
+use Rattle.slot_steps.specs.sock_model.specs.Entries.{ticket, slot_of, generation_of, on, nth}
+use Rattle.slot_steps.specs.sock_model.specs.Tokens.{Tokens}
+use Rattle.slot_steps.specs.sock_model.specs.Writing.{InStage}
+use Rattle.slot_steps.specs.sock_model.specs.Messages.{InHand}
+use Rattle.slot_steps.specs.sock_model.specs.Deliveries.{place_value}
+use Rattle.slot_steps.specs.sock_model.specs.Reads.{letter_of, took_of, as_link, shown, memory, message, link_home, tokens}
+use Rattle.slot_steps.specs.sock_model.specs.ChainRows.{with_right, placed_right, dropped_right, taken_right}
+use Rattle.slot_steps.specs.sock_model.specs.Conditions.{MayPlace, MayDrop, MayTake}
+use Rattle.slot_steps.specs.sock_model.specs.Links.{Failed}
+use Rattle.slot_steps.specs.sock_model.specs.Lawful.{Lawful}
+use Rattle.chain_steps.proofs.Lists.{at_some, at_length, ticket_at_is}
+use Rattle.chain_steps.proofs.Frames.{Changed, one_token, in_size, from_same}
+use Rattle.chain_steps.proofs.Heads.{held_of, places_one, restages, slot_is}
+use Rattle.chain_steps.proofs.Frees.{Leads, to_end, to_next, frees, retires, now_slot}
+use Rattle.chain_steps.proofs.Letters.{lets_go, takes_letter, writes_room}
+use Rattle.chain_steps.proofs.Delivers.{places_whole, drops, delivers_same, moves_link}
 use Rattle.sock_steps.proofs.Maps.{set_at}
 use Rattle.sock_steps.proofs.Words.{beside_all, request_beside, request_head, request_changed, request_next, request_place, place_beside, place_head, place_changed, place_next, place_request}
 use Rattle.sock_steps.proofs.ChainFrame.{slots_in}
@@ -51,14 +51,14 @@ bump-else f k j ne = ap (λ b. cond b (suc (f k)) (f j)) (ne_eqb j k ne)
 
 -- C8
 pub freeing_law : {S : Type 0} (shows : S → Home) (p : Plan) (id i now : ℕ) (b : Stage) (v : View) (r : Right) (s : State S View) (o : Lawful shows p s) → get_elem? s.views id ≡ some v → get_elem? v.rights i ≡ some r → Leads r.last r.stage now b → generation_of now < 140737488355327
-    → Lawful shows p record { words = set s.words (request_word p (slot_of now)) (2 * (generation_of now + 1)); homes = s.homes; views = set s.views id (with_right v (record r { stage = b })) }
+    → Lawful shows p record { words = set s.words (request_index p (slot_of now)) (2 * (generation_of now + 1)); homes = s.homes; views = set s.views id (with_right v (record r { stage = b })) }
 freeing_law shows p id i now b v r s o at has leads small =
     let kl = right_in o id i v r at has in let alone = right_alone o id i v r at has in
     let low : slot_of now < p.requests = now_slot o.chains r.link r kl alone o.fits.narrow now b leads in
-    let ws : List ℕ = set s.words (request_word p (slot_of now)) (2 * (generation_of now + 1)) in
-    right_step o id i v r at has (record r { stage = b }) refl (set s.words (request_word p (slot_of now)) (2 * (generation_of now + 1))) (bump o.freed r.link) refl refl refl refl refl (λ any. leads_no_writes r.last now any r.stage b leads)
+    let ws : List ℕ = set s.words (request_index p (slot_of now)) (2 * (generation_of now + 1)) in
+    right_step o id i v r at has (record r { stage = b }) refl (set s.words (request_index p (slot_of now)) (2 * (generation_of now + 1))) (bump o.freed r.link) refl refl refl refl refl (λ any. leads_no_writes r.last now any r.stage b leads)
     (request_beside p o.slot s.words (2 * (generation_of now + 1)) o.references.sized (slots_in o) (slot_of now) low) (request_place p o.slot s.words (2 * (generation_of now + 1)) o.references.sized (slots_in o) (slot_of now) low)
-    (frees o.chains r.link r kl alone o.fits.narrow now b leads (memory p o.slot (set s.words (request_word p (slot_of now)) (2 * (generation_of now + 1)))) (tokens (set s.views id (with_right v (record r { stage = b })))) (bump o.freed r.link) (bump_changed p.links o.freed r.link)
+    (frees o.chains r.link r kl alone o.fits.narrow now b leads (memory p o.slot (set s.words (request_index p (slot_of now)) (2 * (generation_of now + 1)))) (tokens (set s.views id (with_right v (record r { stage = b })))) (bump o.freed r.link) (bump_changed p.links o.freed r.link)
     (record r { stage = b }) refl refl refl refl small
     (request_head p o.slot s.words (2 * (generation_of now + 1)) o.references.sized (slots_in o) (slot_of now) low) (request_next p o.slot s.words (2 * (generation_of now + 1)) o.references.sized (slots_in o) (slot_of now) low) (request_changed p o.slot s.words (2 * (generation_of now + 1)) o.references.sized (slots_in o) (slot_of now) low)
     (rights_after o id i v r at has (record r { stage = b }) refl) (claims_after o id i v r at has (record r { stage = b }) refl) (loose_after o id i v r at has (record r { stage = b }) refl))
@@ -136,7 +136,7 @@ taking_law shows p id v x s o at =
           (restages o.chains x.mine.right.link x.mine.right kl has {places' = o.places} (taken_right x.mine.right e.0.heading e.0.bytes) refl refl refl (λ g. g.stage_is) (λ j jl. refl) (λ j jl. refl) (λ j jl. refl) rt cl lo (λ j jl ne. refl))
           (takes_letter o.chains o.messages t' x.mine.right.link x.mine.right (taken_right x.mine.right e.0.heading e.0.bytes) x.now kl has x.stage rt cl (message shows (set s.homes request z)) e.0 e.1 tick x.stage refl refl refl
           record { here = ap (λ i. letter_of (shown shows (get_elem? (set s.homes request z) i))) (sym rq) ∙ (ap (λ h. letter_of (shown shows h)) (set_at s.homes request z long) ∙ empty); else = λ j jl ne. ap (λ h. letter_of (shown shows h)) (set_else s.homes request j z (λ q. ne (q ∙ rq))) })
-          (moves_link (delivers_same o.delivered t' (λ q. get_or s.words (place_word p q) 0) (λ q ql. refl)
+          (moves_link (delivers_same o.delivered t' (λ q. get_or s.words (place_index p q) 0) (λ q ql. refl)
           (λ j y jl g. from_same (tokens s.views) t' p.links x.mine.right.link x.mine.right (taken_right x.mine.right e.0.heading e.0.bytes) has rt refl refl refl j y jl g))
           (link_home shows p (set s.homes request z)) (λ j took next jl g. inl (sym (ap (λ h. took_of (as_link (shown shows h))) (set_else s.homes request (p.requests + j) z (λ q. omega arith))) ∙ g)))
           (o.homes.busy x.mine.right.link x.mine.right kl has),
@@ -144,7 +144,7 @@ taking_law shows p id v x s o at =
 
 -- P1, of a message that was taken whole
 pub placing_law : {S : Type 0} (shows : S → Home) (p : Plan) (id : ℕ) (v : View) (x : MayPlace p v) (s : State S View) (o : Lawful shows p s) → get_elem? s.views id ≡ some v
-    → Lawful shows p record { words = set s.words (place_word p x.mine.right.heading.place) (place_value false x.mine.right.link x.mine.right.places); homes = s.homes; views = set s.views id (with_right v (placed_right x.mine.right x.now)) }
+    → Lawful shows p record { words = set s.words (place_index p x.mine.right.heading.place) (place_value false x.mine.right.link x.mine.right.places); homes = s.homes; views = set s.views id (with_right v (placed_right x.mine.right x.now)) }
 placing_law shows p id v x s o at =
     let r : Right = x.mine.right in
     let r' : Right = placed_right x.mine.right x.now in
@@ -155,7 +155,7 @@ placing_law shows p id v x s o at =
     let counted = o.delivered.counted x.mine.right.link x.mine.right kl has in
     let label : x.mine.right.heading.place ≡ e.0.heading.place = ap (λ (y : Heading). y.place) hand.0 in
     let lab : e.0.heading.place < 8 * p.operations = subst (λ y. y < 8 * p.operations) label x.label_in in
-    let is : place_word p e.0.heading.place ≡ place_word p x.mine.right.heading.place = ap (place_word p) (sym label) in
+    let is : place_index p e.0.heading.place ≡ place_index p x.mine.right.heading.place = ap (place_index p) (sym label) in
     let val : value ≡ place_value false x.mine.right.link (o.places x.mine.right.link) = ap (place_value false x.mine.right.link) counted in
     let t' : Tokens = tokens (set s.views id (with_right v (placed_right x.mine.right x.now))) in
     let rt = rights_after o id x.mine.place v x.mine.right at x.mine.has (placed_right x.mine.right x.now) refl in
@@ -163,20 +163,20 @@ placing_law shows p id v x s o at =
     let lo = loose_after o id x.mine.place v x.mine.right at x.mine.has (placed_right x.mine.right x.now) refl in
     let away : link_home shows p s.homes x.mine.right.link ≡ none = o.homes.busy x.mine.right.link x.mine.right kl has ∙ ap (λ b. cond b (some (x.mine.right.sent, x.mine.right.places)) none) x.away in
     subst (λ i. Lawful shows p record { words = set s.words i (place_value false x.mine.right.link x.mine.right.places); homes = s.homes; views = set s.views id (with_right v (placed_right x.mine.right x.now)) }) is
-    (right_base o id x.mine.place v x.mine.right at x.mine.has (placed_right x.mine.right x.now) refl (set s.words (place_word p e.0.heading.place) value) s.homes o.freed (bump o.places x.mine.right.link) (bump o.kept x.mine.right.link) (λ k ne. (bump-else o.places x.mine.right.link k ne, bump-else o.kept x.mine.right.link k ne))
+    (right_base o id x.mine.place v x.mine.right at x.mine.has (placed_right x.mine.right x.now) refl (set s.words (place_index p e.0.heading.place) value) s.homes o.freed (bump o.places x.mine.right.link) (bump o.kept x.mine.right.link) (λ k ne. (bump-else o.places x.mine.right.link k ne, bump-else o.kept x.mine.right.link k ne))
     (place_beside p o.slot s.words value o.references.sized (slots_in o) e.0.heading.place lab) (λ k. refl)
     (places_one o.chains x.mine.right.link x.mine.right kl has {places' = bump o.places x.mine.right.link} (placed_right x.mine.right x.now) x.now x.stage refl refl refl refl (bump_changed p.links o.places x.mine.right.link)
     (place_head p o.slot s.words value o.references.sized (slots_in o) e.0.heading.place lab) (place_next p o.slot s.words value o.references.sized (slots_in o) e.0.heading.place lab) (place_request p o.slot s.words value o.references.sized (slots_in o) e.0.heading.place lab) rt cl lo)
     (lets_go o.chains o.messages t' x.mine.right.link x.mine.right (placed_right x.mine.right x.now) x.now kl has x.stage rt cl (bump o.places x.mine.right.link) refl (bump_changed p.links o.places x.mine.right.link))
-    (places_whole o.delivered t' (λ q. get_or (set s.words (place_word p e.0.heading.place) value) (place_word p q) 0) (bump o.places x.mine.right.link) (bump o.kept x.mine.right.link) (Failed p s) x.mine.right.link x.mine.right (placed_right x.mine.right x.now) e.0 kl has rt e.1 lab
+    (places_whole o.delivered t' (λ q. get_or (set s.words (place_index p e.0.heading.place) value) (place_index p q) 0) (bump o.places x.mine.right.link) (bump o.kept x.mine.right.link) (Failed p s) x.mine.right.link x.mine.right (placed_right x.mine.right x.now) e.0 kl has rt e.1 lab
     (bump_changed p.links o.places x.mine.right.link) refl x.is_clean refl (ap (λ l. x.mine.right.sent ++ l) hand.1) (bump_changed p.links o.kept x.mine.right.link)
-    (subst (λ y. Changed (8 * p.operations) (λ q. get_or s.words (place_word p q) 0) (λ q. get_or (set s.words (place_word p e.0.heading.place) value) (place_word p q) 0) e.0.heading.place y) val (place_changed p o.slot s.words value o.references.sized (slots_in o) e.0.heading.place lab))
+    (subst (λ y. Changed (8 * p.operations) (λ q. get_or s.words (place_index p q) 0) (λ q. get_or (set s.words (place_index p e.0.heading.place) value) (place_index p q) 0) e.0.heading.place y) val (place_changed p o.slot s.words value o.references.sized (slots_in o) e.0.heading.place lab))
     (λ j jl f. f) away)
     (away ∙ sym (ap (λ b. cond b (some (x.mine.right.sent ++ x.mine.right.bytes, suc x.mine.right.places)) none) x.away)))
 
 -- P1 with the dropped bit, where the life was failed
 pub dropping_law : {S : Type 0} (shows : S → Home) (p : Plan) (id : ℕ) (v : View) (x : MayDrop p v) (s : State S View) (o : Lawful shows p s) → get_elem? s.views id ≡ some v → Failed p s x.mine.right.link
-    → Lawful shows p record { words = set s.words (place_word p x.mine.right.heading.place) (place_value true x.mine.right.link x.mine.right.places); homes = s.homes; views = set s.views id (with_right v (dropped_right x.mine.right x.now x.sent)) }
+    → Lawful shows p record { words = set s.words (place_index p x.mine.right.heading.place) (place_value true x.mine.right.link x.mine.right.places); homes = s.homes; views = set s.views id (with_right v (dropped_right x.mine.right x.now x.sent)) }
 dropping_law shows p id v x s o at dead =
     let r : Right = x.mine.right in
     let r' : Right = dropped_right x.mine.right x.now x.sent in
@@ -187,7 +187,7 @@ dropping_law shows p id v x s o at dead =
     let counted = o.delivered.counted x.mine.right.link x.mine.right kl has in
     let label : x.mine.right.heading.place ≡ e.0.heading.place = ap (λ (y : Heading). y.place) hand.0 in
     let lab : e.0.heading.place < 8 * p.operations = subst (λ y. y < 8 * p.operations) label x.label_in in
-    let is : place_word p e.0.heading.place ≡ place_word p x.mine.right.heading.place = ap (place_word p) (sym label) in
+    let is : place_index p e.0.heading.place ≡ place_index p x.mine.right.heading.place = ap (place_index p) (sym label) in
     let val : value ≡ place_value true x.mine.right.link (o.places x.mine.right.link) = ap (place_value true x.mine.right.link) counted in
     let t' : Tokens = tokens (set s.views id (with_right v (dropped_right x.mine.right x.now x.sent))) in
     let rt = rights_after o id x.mine.place v x.mine.right at x.mine.has (dropped_right x.mine.right x.now x.sent) refl in
@@ -195,13 +195,13 @@ dropping_law shows p id v x s o at dead =
     let lo = loose_after o id x.mine.place v x.mine.right at x.mine.has (dropped_right x.mine.right x.now x.sent) refl in
     let away : link_home shows p s.homes x.mine.right.link ≡ none = o.homes.busy x.mine.right.link x.mine.right kl has ∙ ap (λ b. cond b (some (x.mine.right.sent, x.mine.right.places)) none) x.away in
     subst (λ i. Lawful shows p record { words = set s.words i (place_value true x.mine.right.link x.mine.right.places); homes = s.homes; views = set s.views id (with_right v (dropped_right x.mine.right x.now x.sent)) }) is
-    (right_base o id x.mine.place v x.mine.right at x.mine.has (dropped_right x.mine.right x.now x.sent) refl (set s.words (place_word p e.0.heading.place) value) s.homes o.freed (bump o.places x.mine.right.link) o.kept (λ k ne. (bump-else o.places x.mine.right.link k ne, refl))
+    (right_base o id x.mine.place v x.mine.right at x.mine.has (dropped_right x.mine.right x.now x.sent) refl (set s.words (place_index p e.0.heading.place) value) s.homes o.freed (bump o.places x.mine.right.link) o.kept (λ k ne. (bump-else o.places x.mine.right.link k ne, refl))
     (place_beside p o.slot s.words value o.references.sized (slots_in o) e.0.heading.place lab) (λ k. refl)
     (places_one o.chains x.mine.right.link x.mine.right kl has {places' = bump o.places x.mine.right.link} (dropped_right x.mine.right x.now x.sent) x.now x.stage refl refl refl refl (bump_changed p.links o.places x.mine.right.link)
     (place_head p o.slot s.words value o.references.sized (slots_in o) e.0.heading.place lab) (place_next p o.slot s.words value o.references.sized (slots_in o) e.0.heading.place lab) (place_request p o.slot s.words value o.references.sized (slots_in o) e.0.heading.place lab) rt cl lo)
     (lets_go o.chains o.messages t' x.mine.right.link x.mine.right (dropped_right x.mine.right x.now x.sent) x.now kl has x.stage rt cl (bump o.places x.mine.right.link) refl (bump_changed p.links o.places x.mine.right.link))
-    (drops o.delivered t' (λ q. get_or (set s.words (place_word p e.0.heading.place) value) (place_word p q) 0) (bump o.places x.mine.right.link) o.kept (Failed p s) x.mine.right.link x.mine.right (dropped_right x.mine.right x.now x.sent) e.0 kl has rt e.1 lab
+    (drops o.delivered t' (λ q. get_or (set s.words (place_index p e.0.heading.place) value) (place_index p q) 0) (bump o.places x.mine.right.link) o.kept (Failed p s) x.mine.right.link x.mine.right (dropped_right x.mine.right x.now x.sent) e.0 kl has rt e.1 lab
     (bump_changed p.links o.places x.mine.right.link) refl refl (⊎_elim (λ y. inl y) (λ y. inr (y.0, y.1, y.2, y.3, sym hand.1 ∙ y.4, y.5)) x.part) (λ j jl. refl)
-    (subst (λ y. Changed (8 * p.operations) (λ q. get_or s.words (place_word p q) 0) (λ q. get_or (set s.words (place_word p e.0.heading.place) value) (place_word p q) 0) e.0.heading.place y) val (place_changed p o.slot s.words value o.references.sized (slots_in o) e.0.heading.place lab))
+    (subst (λ y. Changed (8 * p.operations) (λ q. get_or s.words (place_index p q) 0) (λ q. get_or (set s.words (place_index p e.0.heading.place) value) (place_index p q) 0) e.0.heading.place y) val (place_changed p o.slot s.words value o.references.sized (slots_in o) e.0.heading.place lab))
     (λ j jl f. f) dead away)
     (away ∙ sym (ap (λ b. cond b (some (x.sent, suc x.mine.right.places)) none) x.away)))

@@ -1,3 +1,3 @@
-pub use Rattle.chain_laws
-pub use Rattle.slot_laws
-pub use Rattle.slot_laws.specs.sock_model
+pub use Rattle.chain_steps
+pub use Rattle.slot_steps
+pub use Rattle.slot_steps.specs.sock_model

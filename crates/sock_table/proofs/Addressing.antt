@@ -7,7 +7,7 @@ use Rattle.sock_model.specs.declared.view.View.{View}
 use Rattle.sock_model.specs.Weights.{is_probe, is_hold, is_known, is_saw}
 use Rattle.sock_model.specs.Slots.{version_of}
 use Rattle.sock_model.specs.SlotRows.{marks_of, knows, added}
-use Rattle.sock_rule.specs.slot_laws.proofs.Numbers.{only-same}
+use Rattle.sock_rule.specs.slot_steps.proofs.Numbers.{only-same}
 use Rattle.sock_rule.specs.Becoming.{Became, Goes, probe_goes, hold_goes}
 use Rattle.sock_rule.proofs.Becoming.{then_, counts_as, becomes, added_marks}
 use Rattle.sock_table.specs.Refs.{GaveBack}

@@ -10,8 +10,8 @@ use Rattle.sock_model.specs.Weights.{total, is_busy, is_recycling, is_zero, is_r
 use Rattle.sock_model.specs.Marks.{about, at}
 use Rattle.sock_model.specs.Slots.{version_of}
 use Rattle.sock_model.specs.SlotRows.{marks_of, recycled, freed, met_link}
-use Rattle.sock_rule.specs.slot_laws.proofs.Numbers.{only-same, pair-same}
-use Rattle.sock_rule.specs.slot_laws.proofs.Sums.{total_mono}
+use Rattle.sock_rule.specs.slot_steps.proofs.Numbers.{only-same, pair-same}
+use Rattle.sock_rule.specs.slot_steps.proofs.Sums.{total_mono}
 use Rattle.sock_rule.specs.Becoming.{Became}
 use Rattle.sock_model.specs.ChainRows.{with_hand, without_hand}
 use Rattle.sock_rule.specs.Faults.{fault, faults_link, faults_of, fault_found, without_fault, fault_left}

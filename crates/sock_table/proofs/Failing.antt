@@ -10,7 +10,7 @@ use Rattle.sock_model.specs.Slots.{version_of}
 use Rattle.sock_model.specs.SlotRows.{marks_of, failed, coded}
 use mathlib.Core.Logic.{dite}
 use native.Mathlib.Decide.{ℕ_discrete}
-use Rattle.sock_rule.specs.slot_laws.proofs.Numbers.{only-same, only-else}
+use Rattle.sock_rule.specs.slot_steps.proofs.Numbers.{only-same, only-else}
 use Rattle.sock_rule.specs.Becoming.{Became, Goes, hold_goes}
 use Rattle.sock_rule.proofs.Becoming.{then_, counts_as, becomes, failed_marks, failed_again, coded_marks}
 use Rattle.sock_rule.specs.ref_core.specs.Keeping.{KeepsRights}

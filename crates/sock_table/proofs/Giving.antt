@@ -11,8 +11,8 @@ use Rattle.sock_model.specs.Marks.{about}
 use Rattle.sock_model.specs.Slots.{version_of, nref_of}
 use Rattle.sock_model.specs.SlotRows.{marks_of, subbed, back}
 use Rattle.sock_rule.specs.ref_core.specs.Keeping.{KeepsRights}
-use Rattle.sock_rule.specs.slot_laws.proofs.Sums.{total_mono, total-append}
-use Rattle.sock_rule.specs.slot_laws.proofs.Numbers.{only_le, only-same}
+use Rattle.sock_rule.specs.slot_steps.proofs.Sums.{total_mono, total-append}
+use Rattle.sock_rule.specs.slot_steps.proofs.Numbers.{only_le, only-same}
 use Rattle.sock_rule.specs.Becoming.{Became, Goes, probe_goes, hold_goes}
 use Rattle.sock_rule.proofs.Becoming.{then_, counts_as, becomes, zero_left, subbed_marks}
 use Rattle.sock_table.specs.Refs.{EndedBy, GaveBack}

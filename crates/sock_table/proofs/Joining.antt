@@ -14,8 +14,8 @@ use Rattle.sock_model.specs.Weights.{total, is_ref, is_claimed, is_any_coding, i
 use Rattle.sock_model.specs.Marks.{about}
 use Rattle.sock_model.specs.SlotRows.{marks_of}
 use Rattle.sock_model.specs.Seats.{joined}
-use Rattle.sock_rule.specs.slot_laws.proofs.Sums.{total-append}
-use Rattle.sock_rule.specs.slot_laws.proofs.Seats.{about-append}
+use Rattle.sock_rule.specs.slot_steps.proofs.Sums.{total-append}
+use Rattle.sock_rule.specs.slot_steps.proofs.Seats.{about-append}
 use Rattle.sock_rule.specs.Seated.{IsSeat, IsDone}
 use Rattle.sock_rule.specs.Closing.{IsAtRest}
 use Rattle.sock_table.specs.Closed.{IsDoneSeat, AllDone}

@@ -23,7 +23,7 @@ use Rattle.sock_rule.proofs.LinksBack.{AtHome, links_back, place_of}
 use Rattle.sock_model.specs.declared.home.Home.{Home}
 use Rattle.sock_model.specs.declared.view.View.{View}
 use Rattle.sock_model.specs.declared.chain.Entry.{Entry}
-use Rattle.sock_model.specs.Layout.{ref_word, place_word}
+use Rattle.sock_model.specs.Layout.{ref_index, place_index}
 use Rattle.sock_rule.specs.OnTable.{OnTable}
 use Rattle.sock_rule.specs.Seated.{IsDone}
 use Rattle.sock_rule.specs.Closing.{IsAtRest, Closing, PlaceOf, LinkTook, IsDropTold}
@@ -131,11 +131,11 @@ module _ {O : Type 0} {g : Ghosts O} (q p : Plan) (id : ℕ) (v : View) (ws : Li
       }
 
   abbrev IsShown : ℕ → List Entry → List ℕ → Type 0
-  IsShown l log words = (slice_index words (place_word p l) ≡ 0) ⊎ PlaceOf p log words l
+  IsShown l log words = (slice_index words (place_index p l) ≡ 0) ⊎ PlaceOf p log words l
 
   pub closes : (seats : List (Seat (SockHome O g) View)) (places : List PlaceWord) (vs : List Vref) (outs : List O) → IsAtRest p v
       → v.marks ≡ flat_map marks_in seats → v.finds ≡ flat_map finds_in seats → v.histories ≡ flat_map histories_in seats → v.stores ≡ flat_map stores_in seats → v.lists ≡ flat_map lists_in seats → v.found ≡ flat_map found_in seats
-      → WordsAre (λ (x : Vref). x.0) ref_word p.slots vs ws → WordsAre (λ (x : PlaceWord). x.0) (place_word p) (8 * p.operations) places ws → OutsOf p.requests p.links outs xs
+      → WordsAre (λ (x : Vref). x.0) ref_index p.slots vs ws → WordsAre (λ (x : PlaceWord). x.0) (place_index p) (8 * p.operations) places ws → OutsOf p.requests p.links outs xs
       → length vs ≡ p.slots → length places ≡ 8 * p.operations → length outs ≡ p.links → ClosedBy g.state p seats places vs outs
   closes seats places vs outs rest m n h k l d read placed of slots indices links = record {
     view = v;

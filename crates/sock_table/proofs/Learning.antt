@@ -11,7 +11,7 @@ use Rattle.sock_model.specs.Marks.{about, without_pass}
 use Rattle.sock_model.specs.Seats.{carrier, joined}
 use Rattle.sock_model.specs.SlotRows.{marks_of, met_link, told_code}
 use Rattle.sock_model.specs.ChainRows.{without_hand, spent_hand}
-use Rattle.sock_rule.specs.slot_laws.proofs.Sums.{total-append}
+use Rattle.sock_rule.specs.slot_steps.proofs.Sums.{total-append}
 use Rattle.sock_rule.specs.Becoming.{Became}
 use Rattle.sock_rule.specs.Faults.{fault_found, fault_left}
 use Rattle.sock_rule.specs.Hands.{hand_of}

@@ -12,9 +12,9 @@ use Rattle.sock_model.specs.Marks.{about, at, without_at, without_pass}
 use Rattle.sock_model.specs.Seats.{carrier, joined}
 use Rattle.sock_model.specs.Slots.{version_of}
 use Rattle.sock_model.specs.SlotRows.{marks_of, claimed, linked, staged, gave_birth}
-use Rattle.sock_rule.specs.slot_laws.proofs.Numbers.{only-same, only-else, pair-same, pair_only}
-use Rattle.sock_rule.specs.slot_laws.proofs.Sums.{total-append}
-use Rattle.sock_rule.specs.slot_laws.proofs.Slots.{stage_is}
+use Rattle.sock_rule.specs.slot_steps.proofs.Numbers.{only-same, only-else, pair-same, pair_only}
+use Rattle.sock_rule.specs.slot_steps.proofs.Sums.{total-append}
+use Rattle.sock_rule.specs.slot_steps.proofs.Slots.{stage_is}
 use Rattle.sock_rule.specs.Seated.{IsDone}
 use Rattle.sock_rule.specs.Becoming.{Became}
 use Rattle.sock_rule.proofs.Becoming.{then_, becomes, adds_mark, drops_mark}

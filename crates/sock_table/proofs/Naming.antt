@@ -8,7 +8,7 @@ use Rattle.sock_model.specs.declared.view.View.{View}
 use Rattle.sock_model.specs.declared.view.StoredWord.{StoredWord}
 use Rattle.sock_model.specs.Weights.{is_known}
 use Rattle.sock_model.specs.SlotRows.{marks_of, met}
-use Rattle.sock_rule.specs.slot_laws.proofs.Numbers.{only-same}
+use Rattle.sock_rule.specs.slot_steps.proofs.Numbers.{only-same}
 use Rattle.sock_rule.specs.Becoming.{Became}
 use Rattle.sock_rule.specs.Rows.{NOTHING, IsHistory, FoundAt, put_at, finding, found_at}
 use Rattle.sock_rule.proofs.Becoming.{adds_mark}

@@ -9,7 +9,7 @@ use Rattle.sock_words.specs.declared.place_word.PlaceWord.{PlaceWord}
 use Rattle.sock_model.specs.declared.view.View.{View}
 use Rattle.sock_model.specs.Weights.{is_linked, is_freer}
 use Rattle.sock_model.specs.SlotRows.{marks_of}
-use Rattle.sock_model.specs.Layout.{ref_word, place_word}
+use Rattle.sock_model.specs.Layout.{ref_index, place_index}
 use Rattle.sock_rule.specs.Faults.{faults_of}
 use Rattle.sock_rule.specs.Seated.{IsSeat, IsDone}
 use Rattle.sock_rule.specs.Closing.{IsAtRest, Closing, Ordered, PlaceOf, IsDropTold, LinkTook}
@@ -92,11 +92,11 @@ pub record ClosedBy {O S : Type 0} (state : O → OutState) (p : Plan) (seats : 
   pub ordered : Ordered p view.found view.lists
   pub closing : Closing p view words
   -- one reference word for each slot, and one place word for each place index, and nothing behind them
-  pub each : WordsAre (λ (x : Vref). x.0) ref_word p.slots vrefs words
-  pub placed : WordsAre (λ (x : PlaceWord). x.0) (place_word p) (8 * p.operations) places words
+  pub each : WordsAre (λ (x : Vref). x.0) ref_index p.slots vrefs words
+  pub placed : WordsAre (λ (x : PlaceWord). x.0) (place_index p) (8 * p.operations) places words
   pub sized : (length vrefs ≡ p.slots) × (length places ≡ 8 * p.operations)
   -- the word of a place index is 0, or the place of an accepted message that has this index
-  pub shown : (l : ℕ) → l < 8 * p.operations → (slice_index words (place_word p l) ≡ 0) ⊎ PlaceOf p ordered.log words l
+  pub shown : (l : ℕ) → l < 8 * p.operations → (slice_index words (place_index p l) ≡ 0) ⊎ PlaceOf p ordered.log words l
   -- which of them have the dropped bit: those of the messages that the seats noted as dropped, where the places of all labels differ
   pub dropped : (l : ℕ) → l < 8 * p.operations → IsDropTold p ordered.log view words l
   -- one half for each link, and no more

@@ -3,4 +3,4 @@ pub mod Answers
 pub mod Passes
 pub mod Named
 pub mod Closed
-pub use Rattle.sock_rule.specs.slot_laws
+pub use Rattle.sock_rule.specs.slot_steps

@@ -3,7 +3,7 @@ ghost use Rattle.std.specs.Prelude.{◌≡◌, ◌+◌, ◌*◌, ◌<◌, ◌≤
 ghost use Rattle.std.specs.Mem.Slots.{slots_items, slots_filled, slots_len, IsFull};
 ghost use Rattle.sock_words.specs.declared.vref.Vref.{Vref};
 ghost use Rattle.sock_words.specs.declared.place_word.PlaceWord.{PlaceWord};
-ghost use Rattle.sock_model.specs.Layout.{all_words, ref_word, place_word};
+ghost use Rattle.sock_model.specs.Layout.{all_words, ref_index, place_index};
 ghost use Rattle.std.specs.List.{flat_map};
 ghost use Rattle.sock_model.specs.Weights.{total};
 ghost use Rattle.sock_rule.specs.Seated.{IsSeat};
@@ -73,7 +73,7 @@ fn read_vrefs<S>(table: &ClosedTable<S, Global>, plan: &Plan, vrefs: &mut Vec<Vr
     requires full { IsFull table.now.words }
     requires words { slots_len table.now.words ≡ all_words plan.now }
     requires sized { length vrefs.old.items ≡ plan.now.slots }
-    ensures words { WordsAre (λ (x : Vref). x.0) ref_word plan.now.slots vrefs.new.items (slots_items table.now.words) }
+    ensures words { WordsAre (λ (x : Vref). x.0) ref_index plan.now.slots vrefs.new.items (slots_items table.now.words) }
     ensures sized { length vrefs.new.items ≡ plan.now.slots }
 {
     let slots = plan.slots as usize;
@@ -88,7 +88,7 @@ fn read_places<S>(table: &ClosedTable<S, Global>, plan: &Plan, places: &mut Vec<
     requires full { IsFull table.now.words }
     requires words { slots_len table.now.words ≡ all_words plan.now }
     requires sized { length places.old.items ≡ 8 * plan.now.operations }
-    ensures words { WordsAre (λ (x : PlaceWord). x.0) (place_word plan.now) (8 * plan.now.operations) places.new.items (slots_items table.now.words) }
+    ensures words { WordsAre (λ (x : PlaceWord). x.0) (place_index plan.now) (8 * plan.now.operations) places.new.items (slots_items table.now.words) }
     ensures sized { length places.new.items ≡ 8 * plan.now.operations }
 {
     let first = 6 * plan.slots as usize

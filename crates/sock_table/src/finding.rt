@@ -1,7 +1,7 @@
 // The words of names and of operations, by which one seat tells another of a socket.
 ghost use Rattle.std.specs.Prelude.{◌≡◌, ◌+◌, ◌<◌};
 ghost use Rattle.std.specs.Option.{ForSome};
-ghost use Rattle.sock_model.specs.Layout.{name_word, open_word};
+ghost use Rattle.sock_model.specs.Layout.{name_index, open_index};
 ghost use Rattle.sock_rule.specs.Rows.{PutAt};
 ghost use Rattle.sock_rule.specs.Seated.{IsSeat};
 ghost use Rattle.sock_table.specs.Refs.{IsBetween, SameTokens, Knows};
@@ -28,7 +28,7 @@ impl<O: Out> SockTable<O> {
         requires name { name < self.now.rule.plan.names }
         requires known { Knows self.now.rule.plan seat.old.me.0 id.0 }
         ensures seat { IsSeat self.now.rule.table.shared.table_id self.now.rule.plan seat.new }
-        ensures published { PutAt (name_word self.now.rule.plan name) (id.0 + 1) seat.old.me seat.new.me }
+        ensures published { PutAt (name_index self.now.rule.plan name) (id.0 + 1) seat.old.me seat.new.me }
         ensures between { IsBetween self.now.rule.plan seat.old.me.0 → IsBetween self.now.rule.plan seat.new.me.0 }
         ensures same { SameTokens self.now.rule.plan seat.old.me.0 seat.new.me.0 }
     {

@@ -147,7 +147,7 @@ impl Linker for HeldLinker {
 
     ghost faults = { λ l. l.inner.faults };
 
-    ghost prompt = { λ _. true };
+    ghost always_ready = { λ _. true };
 
     fn open(&mut self, spec: &LinkSpec) -> Result<Link, OpenFault> {
         let Ok(flags) = Arc::try_clone(&self.flags) else {

@@ -13,13 +13,13 @@ use Rattle.sock_model.specs.declared.chain.Right.{Right}
 use Rattle.sock_model.specs.declared.marks.Mark.TheVariants.{Saw, Met}
 use Rattle.sock_model.specs.declared.view.View.{View}
 use Rattle.sock_model.specs.Entries.{ticket_of}
-use Rattle.sock_model.specs.Layout.{request_word}
+use Rattle.sock_model.specs.Layout.{request_index}
 use Rattle.sock_model.specs.Memory.{IDLE}
 use Rattle.sock_model.specs.Weights.{total, is_hold, is_met}
 use Rattle.sock_model.specs.SlotRows.{marks_of, met_link}
 use Rattle.sock_model.specs.ChainRows.{with_claim, ready_claim, queued, righted, new_right, without_loose, more, entry_of}
-use Rattle.sock_open.specs.slot_laws.proofs.Numbers.{pair-same}
-use Rattle.sock_open.specs.slot_laws.proofs.Sums.{about-here}
+use Rattle.sock_open.specs.slot_steps.proofs.Numbers.{pair-same}
+use Rattle.sock_open.specs.slot_steps.proofs.Sums.{about-here}
 use Rattle.sock_rule.specs.Becoming.{Became}
 use Rattle.sock_rule.specs.Sending.{MaySwap, filled_for}
 use Rattle.sock_rule.proofs.Becoming.{adds_mark, becomes}
@@ -144,12 +144,12 @@ asks_first p id v w b = record {
   seen = λ x h. (h.0, ap (λ (y : View). get_elem? y.found h.0) b.others ∙ h.1);
 }
 
-pub asks_next : (p : Plan) (id at : ℕ) (v w x : View) → Asking p id at v w → x ≡ Rattle.sock_model.specs.Rule.noting (request_word p at) w → Asking p id (at + 1) v x
+pub asks_next : (p : Plan) (id at : ℕ) (v w x : View) → Asking p id at v w → x ≡ Rattle.sock_model.specs.Rule.noting (request_index p at) w → Asking p id (at + 1) v x
 asks_next p id at v w x a e = record {
   marks = subst (λ l. Became (socket_id_slot id) v (record v { marks = l }) (Saw (socket_id_version id) ∷ []) []) (sym (ap (λ (y : View). y.marks) e)) a.marks;
-  others = e ∙ (ap (λ (y : View). record y { found = request_word p at ∷ w.found }) a.others ∙ (let m = ap (λ (y : View). y.marks) e in let f = ap (λ (y : View). y.found) e in λ i. record v { marks = sym m i; found = sym f i }));
+  others = e ∙ (ap (λ (y : View). record y { found = request_index p at ∷ w.found }) a.others ∙ (let m = ap (λ (y : View). y.marks) e in let f = ap (λ (y : View). y.found) e in λ i. record v { marks = sym m i; found = sym f i }));
   taken = λ q lt. mathlib.Core.Logic.dite (native.Mathlib.Decide.ℕ_discrete q at)
-      (λ s. (0, ap (λ (y : View). get_elem? y.found 0) e ∙ ap (λ (z : ℕ). some (request_word p z)) (sym s)))
+      (λ s. (0, ap (λ (y : View). get_elem? y.found 0) e ∙ ap (λ (z : ℕ). some (request_index p z)) (sym s)))
       (λ ne. let t = a.taken q (omega arith) in (suc t.0, ap (λ (y : View). get_elem? y.found (suc t.0)) e ∙ t.1));
   seen = λ n h. (let t = a.seen n h in (suc t.0, ap (λ (y : View). get_elem? y.found (suc t.0)) e ∙ t.1));
 }

@@ -10,7 +10,7 @@ use Rattle.sock_model.specs.declared.marks.Mark.TheVariants.{Saw}
 use Rattle.sock_model.specs.declared.view.View.{View}
 use Rattle.sock_model.specs.Weights.{is_ref, is_hold, is_met}
 use Rattle.sock_model.specs.SlotRows.{marks_of}
-use Rattle.sock_open.specs.slot_laws.proofs.Numbers.{pair-same}
+use Rattle.sock_open.specs.slot_steps.proofs.Numbers.{pair-same}
 use Rattle.sock_rule.specs.declared.homes.SockHome.{SockHome}
 use Rattle.sock_table.specs.Refs.{IsBetween, Rests}
 use Rattle.sock_table.specs.Answers.{Holds}

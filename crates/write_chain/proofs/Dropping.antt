@@ -11,7 +11,7 @@ use Rattle.sock_model.specs.declared.view.View.{View}
 use Rattle.sock_model.specs.Marks.{about}
 use Rattle.sock_model.specs.Weights.{total, is_saw, is_told}
 use Rattle.sock_model.specs.SlotRows.{marks_of}
-use Rattle.sock_open.specs.slot_laws.proofs.Numbers.{pair-same}
+use Rattle.sock_open.specs.slot_steps.proofs.Numbers.{pair-same}
 use Rattle.sock_rule.specs.Becoming.{Became}
 use Rattle.sock_rule.proofs.Becoming.{stays}
 use Rattle.sock_table.specs.Answers.{CodeOf}

@@ -2,7 +2,7 @@
 use Rattle.std.proofs.Common.{◌≡◌, ◌≢◌, ℕ, ◌+◌, ◌-◌, ◌%◌, ◌<◌, zero, suc, Bool, true, false, not, cond, eqb, eqb-true, eq-eqb, ltb, ltb-true, min, List, [], ◌∷◌, ◌++◌, length, take, refl, sym, ap, ◌∙◌, subst, arith}
 use Rattle.std.specs.Prelude.{◌↔◌, IsTrue, Ok, Err, IfOk, IfErr}
 use Rattle.std.specs.declared.result.Result.{Result}
-use Rattle.message_parts.specs.sock_programs.specs.Parts.{room_of_part, part}
+use Rattle.message_parts.specs.seat_programs.specs.Parts.{room_of_part, part}
 use mathlib.Core.Logic.{dite}
 use native.Mathlib.Decide.{ℕ_discrete}
 use Rattle.atomic_table.specs.Table.{Me}
@@ -19,7 +19,7 @@ use Rattle.sock_model.specs.declared.view.View.{View}
 use Rattle.sock_model.specs.Slots.{version_of}
 use Rattle.sock_model.specs.Weights.{is_hold, is_met, is_saw}
 use Rattle.sock_model.specs.SlotRows.{marks_of, looked}
-use Rattle.sock_open.specs.slot_laws.proofs.Numbers.{only-same}
+use Rattle.sock_open.specs.slot_steps.proofs.Numbers.{only-same}
 use Rattle.sock_rule.specs.Becoming.{Became}
 use Rattle.sock_rule.specs.Holding.{LookedToWrite}
 use Rattle.sock_rule.specs.declared.homes.SockHome.{SockHome}

@@ -9,7 +9,7 @@ use Rattle.sock_model.specs.declared.view.View.{View}
 use Rattle.sock_model.specs.Weights.{total, is_ref, is_met}
 use Rattle.sock_model.specs.declared.view.StoredWord.{StoredWord}
 use Rattle.sock_model.specs.ChainRows.{with_right}
-use Rattle.sock_model.specs.Layout.{place_word}
+use Rattle.sock_model.specs.Layout.{place_index}
 use Rattle.sock_model.specs.Deliveries.{place_value}
 use Rattle.sock_model.specs.Marks.{noted}
 use Rattle.sock_model.specs.SlotRows.{marks_of, wrote}
@@ -85,7 +85,7 @@ module _ {O : Type 0} {state : O → OutState} {id : ℕ} where
     position = b.position;
     low = b.low;
     met = b.met;
-    stores = b.stores ∙ ap (noted record { place = place_word p place; word = place_value true b.link b.position }) same;
+    stores = b.stores ∙ ap (noted record { place = place_index p place; word = place_value true b.link b.position }) same;
     wrote = subst (λ (l : List (List StoredWord)). Wrote state id u (record w { stores = l })) same (wrote_then u v (record w { stores = v.stores }) a b.wrote);
   }
 

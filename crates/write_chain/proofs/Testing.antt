@@ -17,7 +17,7 @@ use Rattle.sock_model.specs.declared.marks.Mark.TheVariants.{Hold, Saw}
 use Rattle.sock_model.specs.declared.view.View.{View}
 use Rattle.sock_model.specs.SlotRows.{marks_of}
 use Rattle.sock_model.specs.Weights.{total, only, is_ref, is_hold, is_known}
-use Rattle.sock_open.specs.slot_laws.proofs.Numbers.{only-at, only-else, only-same}
+use Rattle.sock_open.specs.slot_steps.proofs.Numbers.{only-at, only-else, only-same}
 use Rattle.sock_rule.specs.Becoming.{Became}
 use Rattle.sock_rule.specs.Seated.{IsSeat}
 use Rattle.sock_table.specs.Answers.{Holds, Held, GoneFrom}

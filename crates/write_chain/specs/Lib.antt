@@ -5,5 +5,5 @@ pub mod Keeping
 pub mod Puts
 pub mod Ready
 pub use Rattle.message_parts
-pub use Rattle.sock_open.specs.slot_laws
+pub use Rattle.sock_open.specs.slot_steps
 pub use Rattle.sock_open

@@ -9,7 +9,7 @@ use Rattle.sock_model.specs.declared.marks.Mark.{Mark}
 use Rattle.sock_model.specs.declared.marks.Mark.TheVariants.{Saw, Failer, Stored, Told, Met}
 use Rattle.sock_model.specs.declared.view.View.{View}
 use Rattle.sock_model.specs.Weights.{is_met}
-use Rattle.sock_model.specs.Layout.{place_word}
+use Rattle.sock_model.specs.Layout.{place_index}
 use Rattle.sock_model.specs.Deliveries.{place_value}
 use Rattle.sock_model.specs.Marks.{noted}
 use Rattle.sock_model.specs.SlotRows.{marks_of}
@@ -55,5 +55,5 @@ pub record WroteDrop {O : Type 0} (state : O → OutState) (p : Plan) (id place 
   -- so the word tells its link
   pub low : position < 4294967295
   pub met : Met_by id w link
-  pub stores : w.stores ≡ noted record { place = place_word p place; word = place_value true link position } v.stores
+  pub stores : w.stores ≡ noted record { place = place_index p place; word = place_value true link position } v.stores
   pub wrote : Wrote state id v (record w { stores = v.stores })

@@ -12,7 +12,7 @@ use Rattle.sock_model.specs.declared.chain.Stage.TheVariants.{Writes}
 use Rattle.sock_model.specs.declared.marks.Mark.{Mark}
 use Rattle.sock_model.specs.declared.marks.Mark.TheVariants.{Saw, Met}
 use Rattle.sock_model.specs.declared.view.View.{View}
-use Rattle.sock_model.specs.Layout.{request_word}
+use Rattle.sock_model.specs.Layout.{request_index}
 use Rattle.sock_model.specs.ChainRows.{more}
 use Rattle.sock_model.specs.Rule.{MOST_ACCEPTED}
 use Rattle.sock_rule.specs.Becoming.{Became}
@@ -79,7 +79,7 @@ StartedBy p sock heading bytes s v w = StartedWith (Saw (socket_id_version sock.
 
 -- the seat found the request q taken
 abbrev pub FoundTaken : Plan → ℕ → View → Type 0
-FoundTaken p q w = (n : ℕ) × (get_elem? w.found n ≡ some (request_word p q))
+FoundTaken p q w = (n : ℕ) × (get_elem? w.found n ≡ some (request_index p q))
 
 -- the order is as it was, and all comes back
 abbrev pub RefusedBy : Plan → SockRef → Letter → Refused → View → View → Type 0

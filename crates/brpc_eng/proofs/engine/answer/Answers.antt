@@ -38,7 +38,7 @@ returns-in-Sim-clause-answers g c =
       faults = record { before = g.K.Sink.faults c.args.out.now; now = g.K.Sink.faults c.replay-in-Sim.new.out };
     } in
     let links : answer.Links = record {
-      prompt = g.L.Linker.prompt c.args.links.now;
+      always_ready = g.L.Linker.always_ready c.args.links.now;
       tells = TellClosed g.L.I.In.state;
       offering = TellOffers g.L.O.Out.state g.L.I.In.state;
       asked = g.L.Linker.asked c.replay-in-Sim.new.links;

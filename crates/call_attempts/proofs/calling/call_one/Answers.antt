@@ -1,7 +1,7 @@
 use Rattle.std.proofs.Common.{◌≡◌, ℕ, ◌<◌, ◌≤◌, ◌+◌, ◌*◌, ◌∙◌, true, Some, None, zero-le, ap, sym, refl, subst, arith}
 use Rattle.sock_words.specs.declared.plain.Label.{Label}
 use Rattle.sock_rule.specs.declared.homes.Letter.{Letter}
-use Rattle.id_rule.specs.Lawful.{call_word, with_kept}
+use Rattle.id_rule.specs.Lawful.{call_index, with_kept}
 use Rattle.corr_id.specs.Calls.{MadeAs}
 use Rattle.corr_id.proofs.Testing.{sits_on, quiet_free}
 use Rattle.sock_message.specs.Asked.{Asked}
@@ -116,7 +116,7 @@ pub returns-in_default-new-clause-same : goal.returns-in_default-new-clause-same
 returns-in_default-new-clause-same g c = (c.give_up.ensures.seat.0 ∙ (c.note.ensures.seat.0 ∙ c.create.ensures.seat.0), c.give_up.ensures.seat.1 ∙ (c.note.ensures.seat.1 ∙ c.create.ensures.seat.1), c.give_up.ensures.seat.2 ∙ (c.note.ensures.seat.2 ∙ c.create.ensures.seat.2))
 
 pub returns-in_default-new-clause-wanted : goal.returns-in_default-new-clause-wanted
-returns-in_default-new-clause-wanted g c = behind_id c.in-Ok.id c.in-Some.socket (both c.find.new.seat.me.0 (record c.args.calls.now { seat = c.note.new.seat })) record { found = (subst (λ (n : ℕ). Found c.args.tables.now.socks.rule.plan n (Some c.in-Some.socket) c.args.seat.now.me.0 c.find.new.seat.me.0) c.name.ensures.name c.in-Some.ensures.found); view = c.create.new.seat.me.0; made = (subst (λ (a : Asked). MadeAs c.args.calls.now.seat.me.0 c.create.new.seat.me.0 c.args.tables.now.ids.plan.slots c.in-Ok.id a.range c.args.call) c.call.view_is c.in-Ok.ensures.made); noted = (subst (λ (a : Asked). c.note.new.seat.me.0 ≡ with_kept (call_word c.args.tables.now.ids.plan a.operation) true c.in-Ok.id c.create.new.seat.me.0) c.call.view_is c.note.ensures.stored); books = refl } refl c.give_up.ensures.given_up
+returns-in_default-new-clause-wanted g c = behind_id c.in-Ok.id c.in-Some.socket (both c.find.new.seat.me.0 (record c.args.calls.now { seat = c.note.new.seat })) record { found = (subst (λ (n : ℕ). Found c.args.tables.now.socks.rule.plan n (Some c.in-Some.socket) c.args.seat.now.me.0 c.find.new.seat.me.0) c.name.ensures.name c.in-Some.ensures.found); view = c.create.new.seat.me.0; made = (subst (λ (a : Asked). MadeAs c.args.calls.now.seat.me.0 c.create.new.seat.me.0 c.args.tables.now.ids.plan.slots c.in-Ok.id a.range c.args.call) c.call.view_is c.in-Ok.ensures.made); noted = (subst (λ (a : Asked). c.note.new.seat.me.0 ≡ with_kept (call_index c.args.tables.now.ids.plan a.operation) true c.in-Ok.id c.create.new.seat.me.0) c.call.view_is c.note.ensures.stored); books = refl } refl c.give_up.ensures.given_up
 
 pub returns-in_default-new-clause-refs : goal.returns-in_default-new-clause-refs
 returns-in_default-new-clause-refs g c = (found_keeps c.args.tables.now.socks.rule.plan c.name.result c.find.result c.args.seat.now.me.0 c.find.new.seat.me.0 c.find.ensures.found).refs
@@ -134,7 +134,7 @@ pub returns-clause-same : goal.returns-clause-same
 returns-clause-same g c = (c.attempt_one.ensures.same.0 ∙ (c.note.ensures.seat.0 ∙ c.create.ensures.seat.0), c.attempt_one.ensures.same.1 ∙ (c.note.ensures.seat.1 ∙ c.create.ensures.seat.1), c.attempt_one.ensures.same.2 ∙ (c.note.ensures.seat.2 ∙ c.create.ensures.seat.2))
 
 pub returns-clause-by : goal.returns-clause-by
-returns-clause-by g c = record { socket = c.in-Some.socket; at = (both c.find.new.seat.me.0 (record c.args.calls.now { seat = c.note.new.seat })); made_for = record { found = (subst (λ (n : ℕ). Found c.args.tables.now.socks.rule.plan n (Some c.in-Some.socket) c.args.seat.now.me.0 c.find.new.seat.me.0) c.name.ensures.name c.in-Some.ensures.found); view = c.create.new.seat.me.0; made = (subst (λ (a : Asked). MadeAs c.args.calls.now.seat.me.0 c.create.new.seat.me.0 c.args.tables.now.ids.plan.slots c.in-Ok.id a.range c.args.call) c.call.view_is c.in-Ok.ensures.made); noted = (subst (λ (a : Asked). c.note.new.seat.me.0 ≡ with_kept (call_word c.args.tables.now.ids.plan a.operation) true c.in-Ok.id c.create.new.seat.me.0) c.call.view_is c.note.ensures.stored); books = refl }; attempted = subst (λ (m : Letter). AttemptedBy g.O.Out.state c.args.tables.now.socks.rule.plan c.args.tables.now.ids.plan c.in-Some.socket m (both c.find.new.seat.me.0 (record c.args.calls.now { seat = c.note.new.seat })) (both c.attempt_one.new.seat.me.0 c.attempt_one.new.calls)) (letter_is c.args.call c.in_ok-kept.kept c.in-Ok.id 0 zero-le c.in-Ok-new.frame c.letter_of-msg.result c.in_ok-kept.ensures c.in-Ok-new.ensures c.letter_of-msg.ensures.bytes (subst (λ (a : Asked). c.letter_of-msg.result.label ≡ attempt_label a.operation 0) c.call.view_is c.letter_of-msg.ensures.label) c.letter_of-msg.ensures.owner) c.attempt_one.ensures.by }
+returns-clause-by g c = record { socket = c.in-Some.socket; at = (both c.find.new.seat.me.0 (record c.args.calls.now { seat = c.note.new.seat })); made_for = record { found = (subst (λ (n : ℕ). Found c.args.tables.now.socks.rule.plan n (Some c.in-Some.socket) c.args.seat.now.me.0 c.find.new.seat.me.0) c.name.ensures.name c.in-Some.ensures.found); view = c.create.new.seat.me.0; made = (subst (λ (a : Asked). MadeAs c.args.calls.now.seat.me.0 c.create.new.seat.me.0 c.args.tables.now.ids.plan.slots c.in-Ok.id a.range c.args.call) c.call.view_is c.in-Ok.ensures.made); noted = (subst (λ (a : Asked). c.note.new.seat.me.0 ≡ with_kept (call_index c.args.tables.now.ids.plan a.operation) true c.in-Ok.id c.create.new.seat.me.0) c.call.view_is c.note.ensures.stored); books = refl }; attempted = subst (λ (m : Letter). AttemptedBy g.O.Out.state c.args.tables.now.socks.rule.plan c.args.tables.now.ids.plan c.in-Some.socket m (both c.find.new.seat.me.0 (record c.args.calls.now { seat = c.note.new.seat })) (both c.attempt_one.new.seat.me.0 c.attempt_one.new.calls)) (letter_is c.args.call c.in_ok-kept.kept c.in-Ok.id 0 zero-le c.in-Ok-new.frame c.letter_of-msg.result c.in_ok-kept.ensures c.in-Ok-new.ensures c.letter_of-msg.ensures.bytes (subst (λ (a : Asked). c.letter_of-msg.result.label ≡ attempt_label a.operation 0) c.call.view_is c.letter_of-msg.ensures.label) c.letter_of-msg.ensures.owner) c.attempt_one.ensures.by }
 
 pub returns-clause-refs : goal.returns-clause-refs
 returns-clause-refs g c = refs_then c.args.seat.now.me.0 c.find.new.seat.me.0 c.attempt_one.new.seat.me.0 (found_keeps c.args.tables.now.socks.rule.plan c.name.result c.find.result c.args.seat.now.me.0 c.find.new.seat.me.0 c.find.ensures.found).refs c.attempt_one.ensures.refs

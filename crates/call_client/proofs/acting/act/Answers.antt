@@ -1,7 +1,7 @@
 use Rattle.std.proofs.Common.{ℕ, ◌+◌, refl, sym, subst, ap, arith}
 use Rattle.std.specs.Prelude.{IfOk, IfErr}
-use Rattle.sock_programs.specs.declared.task.Op.{Op}
-use Rattle.sock_programs.specs.declared.task.Op.TheVariants as ops
+use Rattle.seat_programs.specs.declared.task.Op.{Op}
+use Rattle.seat_programs.specs.declared.task.Op.TheVariants as ops
 use Rattle.call_client.specs.Acting.{stand, Acted}
 use Rattle.call_client.specs.Running.{NotCalled}
 use Rattle.call_client.specs.Making.{NotMade}

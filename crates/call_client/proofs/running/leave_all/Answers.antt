@@ -1,6 +1,6 @@
 use Rattle.std.proofs.Common.{◌≡◌, ◌∷◌, ◌∙◌, length, sym, subst}
 use Rattle.std.specs.Prelude.{List}
-use Rattle.sock_programs.specs.declared.task.Task.{Task}
+use Rattle.seat_programs.specs.declared.task.Task.{Task}
 use Rattle.rpc_client.proofs.Counting.{refs_then}
 use Rattle.call_client.specs.Acting.{stand}
 use Rattle.call_client.specs.Running.{LeftAll}

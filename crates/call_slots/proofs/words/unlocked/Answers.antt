@@ -1,5 +1,5 @@
 use Rattle.corr_core.specs.Word.{parts, unlocked_word}
-use Rattle.sock_programs.specs.Posts.{advance_of}
+use Rattle.seat_programs.specs.Posts.{advance_of}
 use Rattle.call_slots.proofs.Packing.{left_is}
 use Rattle.call_slots.proofs.words.unlocked.Goals as goal
 

@@ -1,5 +1,5 @@
 use Rattle.std.proofs.Common.{sym, subst}
-use Rattle.sock_steps.specs.sock_model.specs.Layout.{request_word}
+use Rattle.sock_steps.specs.sock_model.specs.Layout.{request_index}
 use Rattle.sock_steps.specs.sock_model.specs.ChainRows.{with_claim, fresh_claim}
 use Rattle.sock_steps.specs.sock_model.specs.Keeping.{KeepsRule}
 use Rattle.chain_core.specs.Conditions.{MayLook, MayClaim}
@@ -14,12 +14,12 @@ returns-clause-lost c taken = (or_taken c.args.found taken, tests_taken c.args.f
 
 pub returns-clause-keeps_won : goal.returns-clause-keeps_won
 returns-clause-keeps_won c free r k heading bytes =
-    subst (λ n. KeepsRule (MayClaim r) (λ p. request_word p r) c.args.found n (λ p v m. with_claim v (fresh_claim k r c.args.found heading bytes))) (sym (or_free c.args.found free))
+    subst (λ n. KeepsRule (MayClaim r) (λ p. request_index p r) c.args.found n (λ p v m. with_claim v (fresh_claim k r c.args.found heading bytes))) (sym (or_free c.args.found free))
     (claims r k c.args.found heading bytes free)
 
 pub returns-clause-keeps_lost : goal.returns-clause-keeps_lost
 returns-clause-keeps_lost c taken r =
-    subst (λ n. KeepsRule MayLook (λ p. request_word p r) c.args.found n (λ p v m. v)) (sym (or_taken c.args.found taken)) (looks (λ p. request_word p r) c.args.found)
+    subst (λ n. KeepsRule MayLook (λ p. request_index p r) c.args.found n (λ p v m. v)) (sym (or_taken c.args.found taken)) (looks (λ p. request_index p r) c.args.found)
 
 pub returns-clause-notes_lost : goal.returns-clause-notes_lost
 returns-clause-notes_lost c taken r = notes r c.args.found taken

@@ -1,4 +1,4 @@
-use Rattle.sock_steps.specs.sock_model.specs.Layout.{next_word}
+use Rattle.sock_steps.specs.sock_model.specs.Layout.{next_index}
 use Rattle.chain_core.proofs.KeptRules.{passes, retires, reads, looks}
 use Rattle.chain_core.proofs.steps.read_next.Goals as goal
 
@@ -12,4 +12,4 @@ pub returns-clause-keeps_walk : goal.returns-clause-keeps_walk
 returns-clause-keeps_walk c some_ r = reads r c.args.found some_
 
 pub returns-clause-keeps_waiting : goal.returns-clause-keeps_waiting
-returns-clause-keeps_waiting c r = looks (λ p. next_word p r) c.args.found
+returns-clause-keeps_waiting c r = looks (λ p. next_index p r) c.args.found

@@ -1,5 +1,5 @@
 use Rattle.std.proofs.Common.{◌≡◌, drop}
-use Rattle.sock_programs.specs.Clients.{held_under}
+use Rattle.seat_programs.specs.Clients.{held_under}
 use Rattle.client_seats.specs.Seats.{lives}
 use Rattle.client_seats.proofs.seat.find_held.Given as goal
 

@@ -13,6 +13,6 @@ meets-preserved g c =
       accepted = e.accepted ∙ on.accepted;
       back = e.back ∙ on.back;
       done = e.done ∙ on.done;
-      prompt = e.stays_prompt ∙ on.prompt;
+      always_ready = e.stays_prompt ∙ on.always_ready;
       faults = e.faults ∙ on.faults;
     }

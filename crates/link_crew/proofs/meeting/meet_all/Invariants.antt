@@ -11,6 +11,6 @@ invariant-meets g l = record {
   accepted : g.L.Linker.accepted l.links ≡ g.L.Linker.accepted l.fn.links;
   back : g.L.Linker.back l.links ≡ g.L.Linker.back l.fn.links;
   done : g.L.Linker.done l.links ≡ g.L.Linker.done l.fn.links;
-  prompt : g.L.Linker.prompt l.links ≡ g.L.Linker.prompt l.fn.links;
+  always_ready : g.L.Linker.always_ready l.links ≡ g.L.Linker.always_ready l.fn.links;
   faults : g.L.Linker.faults l.links ≡ g.L.Linker.faults l.fn.links;
 }

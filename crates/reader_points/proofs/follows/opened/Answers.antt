@@ -1,6 +1,6 @@
 use Rattle.std.proofs.Common.{◌≡◌, ◌==◌, false, sym, refl, arith}
 use Rattle.std.proofs.lemmas.Bool.Decides.{nat_tests}
-use Rattle.sock_programs.specs.Programs.{NO_SOCKET}
+use Rattle.seat_programs.specs.Programs.{NO_SOCKET}
 use Rattle.reader_points.proofs.follows.opened.Goals as goal
 
 pub returns-then-found-eq0-clause-program : goal.returns-then-found-eq0-clause-program

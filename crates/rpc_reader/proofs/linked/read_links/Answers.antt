@@ -28,6 +28,6 @@ links-preserved g c = let i = c.links.one-index in let d = c.one-item.result in 
   accepted = c.read_served.ensures.accepted ∙ on.accepted;
   back = c.read_served.ensures.back ∙ on.back;
   done = c.read_served.ensures.done ∙ on.done;
-  prompt = c.read_served.ensures.prompt ∙ on.prompt;
+  always_ready = c.read_served.ensures.always_ready ∙ on.always_ready;
   faults = c.read_served.ensures.faults ∙ on.faults;
 }

@@ -1,6 +1,6 @@
 use Rattle.std.proofs.Common.{◌≡◌, map, drop}
 use Rattle.script_items.specs.Meaning.{item}
-use Rattle.sock_programs.specs.Scripts.{is_callless}
+use Rattle.seat_programs.specs.Scripts.{is_callless}
 use Rattle.script_calls.proofs.built.is_callless.Given as goal
 
 abbrev pub invariant-lines : goal.invariant-lines

@@ -1,7 +1,7 @@
 use Rattle.std.proofs.Common.{refl, map, length, ap, sym, subst, ◌∙◌, arith}
 use Rattle.std.proofs.lemmas.List.{length-map}
 use Rattle.call_run.specs.sock_open.specs.Opening.{MayBegin, AreFresh}
-use Rattle.sock_programs.specs.Tasks.{plan_of}
+use Rattle.seat_programs.specs.Tasks.{plan_of}
 use Rattle.sock_words.specs.declared.plain.Plan.{Plan}
 use Rattle.call_run.specs.Threads.{ids_of, MayRunAll}
 use Rattle.script_links.proofs.Numbering.{numbered_of}

@@ -18,6 +18,6 @@ loop-ends-preserved g c =
         whole = given_more _ _ _ _ _ _ _ i.whole one c.give_one.ensures.back;
         asked = c.give_one.ensures.asked ∙ i.asked;
         faults = c.give_one.ensures.faults ∙ i.faults;
-        prompt = c.give_one.ensures.prompt ∙ i.prompt;
+        always_ready = c.give_one.ensures.always_ready ∙ i.always_ready;
       },
     )

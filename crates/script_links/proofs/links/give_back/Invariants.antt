@@ -16,5 +16,5 @@ invariant-loop-ends g l =
       whole : g.L.Linker.back l.links ++ map (λ e. end_of (g.L.O.Out.state e.out) (g.L.I.In.state e.inn)) (into_iter_items l.ends-iterator) ≡ map (λ e. end_of (g.L.O.Out.state e.out) (g.L.I.In.state e.inn)) l.fn.ends.items;
       asked : g.L.Linker.asked l.links ≡ g.L.Linker.asked l.initial.links;
       faults : g.L.Linker.faults l.links ≡ g.L.Linker.faults l.initial.links;
-      prompt : g.L.Linker.prompt l.links ≡ g.L.Linker.prompt l.initial.links;
+      always_ready : g.L.Linker.always_ready l.links ≡ g.L.Linker.always_ready l.initial.links;
     }

@@ -16,10 +16,10 @@ loop-line-preserved g c =
       fresh = step.fresh i.fresh;
       unfinished = step.unfinished i.unfinished;
       unclosed = step.unclosed i.unclosed;
-      prompt_each = λ prompt loop. step.prompt_each (i.prompt ∙ prompt) loop (i.prompt_each prompt loop);
+      prompt_each = λ always_ready loop. step.prompt_each (i.always_ready ∙ always_ready) loop (i.prompt_each always_ready loop);
       count = grind (arith, common_steps);
       back = step.back ∙ i.back;
-      prompt = step.prompt ∙ i.prompt;
+      always_ready = step.always_ready ∙ i.always_ready;
       later = omega arith;
       kept = grind (arith, common_steps);
     }

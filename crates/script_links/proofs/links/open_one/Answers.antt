@@ -11,7 +11,7 @@ pub returns-clause-unfinished : goal.returns-clause-unfinished
 returns-clause-unfinished g c old = all_with _ _ _ c.in_ok-opened.opened old (search rules) c.in_ok-opened.ensures.fresh.finished
 
 pub returns-clause-prompt_each : goal.returns-clause-prompt_each
-returns-clause-prompt_each g c prompt loop old = all_with _ _ _ c.in_ok-opened.opened old (search rules) (c.in_ok-opened.ensures.prompt prompt (ap (λ (s : LinkSpec). s.mode) c.spec_of.ensures ∙ loop))
+returns-clause-prompt_each g c always_ready loop old = all_with _ _ _ c.in_ok-opened.opened old (search rules) (c.in_ok-opened.ensures.always_ready always_ready (ap (λ (s : LinkSpec). s.mode) c.spec_of.ensures ∙ loop))
 
 pub open-requires-clause-piece : goal.open-requires-clause-piece
 open-requires-clause-piece g c = subst (λ (s : LinkSpec). 0 < s.piece) (sym c.spec_of.ensures) c.requires.piece

@@ -1,7 +1,7 @@
 use Rattle.std.proofs.Common.{ap, sym, subst, ◌∙◌}
 use Rattle.sock_words.specs.declared.plain.Plan.{Plan}
 use Rattle.sock_io.specs.Link.{end_of}
-use Rattle.sock_programs.specs.Tasks.{plan_of}
+use Rattle.seat_programs.specs.Tasks.{plan_of}
 use Rattle.report_fits.specs.Limits.{KeepsLimits}
 use Rattle.report_fits.proofs.Sizes.{keeps_limits}
 use Rattle.script_run.specs.Played.{IsPrintOf}

@@ -11,8 +11,8 @@ new-requires-clause-unused g c = unused_of (λ e. end_of (g.L.O.Out.state e.out)
 pub give_back-requires-clause-numbered : goal.give_back-requires-clause-numbered
 give_back-requires-clause-numbered g c κs within = rw c.in-Err.ensures.back (numbered_of 0 _ c.requires.untouched)
 
-pub run_on-requires-clause-prompt : goal.run_on-requires-clause-prompt
-run_on-requires-clause-prompt g c κs within is = c.in-Ok.ensures.outs (c.requires.prompt is)
+pub run_on-requires-clause-always_ready : goal.run_on-requires-clause-always_ready
+run_on-requires-clause-always_ready g c κs within is = c.in-Ok.ensures.outs (c.requires.always_ready is)
 
 pub new-requires-clause-silent : goal.new-requires-clause-silent
 new-requires-clause-silent g c = silent_of (λ e. end_of (g.L.O.Out.state e.out) (g.L.I.In.state e.inn)) 0 c.args.ends.items c.requires.untouched

@@ -26,8 +26,8 @@ run_over-requires-clause-few g c κs within =
     let most = c.in-Ok.ensures.most in
     let few = few_links c.requires.script.0 c.args.script.now c.lines.result.now c.requires.script.1 c.lines.ensures in omega (arith, most, few)
 
-pub run_over-requires-clause-prompt : goal.run_over-requires-clause-prompt
-run_over-requires-clause-prompt g c κs within prompt = c.in-Ok.ensures.prompt_each (sym c.in-Ok.ensures.prompt ∙ prompt) refl
+pub run_over-requires-clause-always_ready : goal.run_over-requires-clause-always_ready
+run_over-requires-clause-always_ready g c κs within always_ready = c.in-Ok.ensures.prompt_each (sym c.in-Ok.ensures.always_ready ∙ always_ready) refl
 
 pub run_over-requires-clause-offers : goal.run_over-requires-clause-offers
 run_over-requires-clause-offers g c κs within tell =
@@ -51,5 +51,5 @@ returns-in-Err-clause-kept g c known =
     c.give_back.ensures.faults ∙ c.in-Err.ensures.kept (λ e. let is : c.in-Err.fault ≡ Failed = cc in known (ap (λ x. Err x) (c.not_opened.ensures.kept is)))
 
 pub returns-in-Ok-clause-text : goal.returns-in-Ok-clause-text
-returns-in-Ok-clause-text g c = IfOk-weaker c.run_over.result _ (λ text. g.L.Linker.prompt c.args.links.now ≡ true → TellClosed g.L.I.In.state → IsPrinted (TellOffers g.L.O.Out.state g.L.I.In.state) c.args.print c.args.script.now (turns_of c.args.script.now c.args.schedule) text.items (g.L.Linker.back c.run_over.new.links))
-    (λ text h prompt tell. h (c.in-Ok.ensures.prompt ∙ prompt) tell) c.run_over.ensures.text
+returns-in-Ok-clause-text g c = IfOk-weaker c.run_over.result _ (λ text. g.L.Linker.always_ready c.args.links.now ≡ true → TellClosed g.L.I.In.state → IsPrinted (TellOffers g.L.O.Out.state g.L.I.In.state) c.args.print c.args.script.now (turns_of c.args.script.now c.args.schedule) text.items (g.L.Linker.back c.run_over.new.links))
+    (λ text h always_ready tell. h (c.in-Ok.ensures.always_ready ∙ always_ready) tell) c.run_over.ensures.text

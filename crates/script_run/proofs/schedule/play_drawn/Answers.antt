@@ -4,7 +4,7 @@ use Rattle.report_fits.specs.Limits.{KeepsLimits}
 use Rattle.report_fits.proofs.Sizes.{keeps_limits}
 use Rattle.script_print.specs.Seats.{SeatDraws}
 use Rattle.sock_words.specs.declared.plain.Plan.{Plan}
-use Rattle.sock_programs.specs.Tasks.{plan_of}
+use Rattle.seat_programs.specs.Tasks.{plan_of}
 use Rattle.sock_core.proofs.Joining.{same_links_none, same_links_join}
 use Rattle.script_run.proofs.Lines.{seats_in, none_drawn, begins_drawing, count_is, seats_there, draws_on, seat_drawn, drawn_more, drawn_played}
 use Rattle.script_run.proofs.schedule.play_drawn.Goals as goal
@@ -31,7 +31,7 @@ loop-init g c =
       back = refl;
       done = refl;
       faults = refl;
-      prompt = refl;
+      always_ready = refl;
     }
 
 pub next_seat-seat-requires : goal.next_seat-seat-requires
@@ -60,8 +60,8 @@ returns-in_err-tick_seat-clause-done g c = c.tick_seat.ensures.done ∙ c.loop.i
 pub returns-in_err-tick_seat-clause-faults : goal.returns-in_err-tick_seat-clause-faults
 returns-in_err-tick_seat-clause-faults g c = c.tick_seat.ensures.faults ∙ c.loop.invariant.faults
 
-pub returns-in_err-tick_seat-clause-prompt : goal.returns-in_err-tick_seat-clause-prompt
-returns-in_err-tick_seat-clause-prompt g c = c.tick_seat.ensures.prompt ∙ c.loop.invariant.prompt
+pub returns-in_err-tick_seat-clause-always_ready : goal.returns-in_err-tick_seat-clause-always_ready
+returns-in_err-tick_seat-clause-always_ready g c = c.tick_seat.ensures.always_ready ∙ c.loop.invariant.always_ready
 
 pub loop-preserved : goal.loop-preserved
 loop-preserved g c =
@@ -79,7 +79,7 @@ loop-preserved g c =
       back = step.back ∙ i.back;
       done = step.done ∙ i.done;
       faults = step.faults ∙ i.faults;
-      prompt = step.prompt ∙ i.prompt;
+      always_ready = step.always_ready ∙ i.always_ready;
     }
 
 pub returns-clause-played : goal.returns-clause-played
@@ -107,5 +107,5 @@ returns-clause-done g c = c.loop.invariant.done
 pub returns-clause-faults : goal.returns-clause-faults
 returns-clause-faults g c = c.loop.invariant.faults
 
-pub returns-clause-prompt : goal.returns-clause-prompt
-returns-clause-prompt g c = c.loop.invariant.prompt
+pub returns-clause-always_ready : goal.returns-clause-always_ready
+returns-clause-always_ready g c = c.loop.invariant.always_ready

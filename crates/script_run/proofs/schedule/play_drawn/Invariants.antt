@@ -1,7 +1,7 @@
 use Rattle.std.proofs.Common.{◌≡◌, length}
 use Rattle.brpc_model.specs.Operations.{clients, operations}
 use Rattle.script_print.specs.Seats.{seat_count}
-use Rattle.sock_programs.specs.Runs.{Scheduled}
+use Rattle.seat_programs.specs.Runs.{Scheduled}
 use Rattle.sock_core.specs.Runs.{SameLinks}
 use Rattle.script_run.specs.Played.{IsPlayable, HasPlayed}
 use Rattle.script_run.proofs.Lines.{drawn_so_far, draws_of, seats_in}
@@ -19,5 +19,5 @@ invariant-loop g l = record {
   back : g.L.Linker.back l.links ≡ g.L.Linker.back l.initial.links;
   done : g.L.Linker.done l.links ≡ g.L.Linker.done l.initial.links;
   faults : g.L.Linker.faults l.links ≡ g.L.Linker.faults l.initial.links;
-  prompt : g.L.Linker.prompt l.links ≡ g.L.Linker.prompt l.initial.links;
+  always_ready : g.L.Linker.always_ready l.links ≡ g.L.Linker.always_ready l.initial.links;
 }

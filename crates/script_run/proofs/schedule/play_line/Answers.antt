@@ -22,5 +22,5 @@ returns-in_default g c = record {
   back = refl;
   done = refl;
   faults = refl;
-  prompt = refl;
+  always_ready = refl;
 }

@@ -1,7 +1,7 @@
 use Rattle.std.proofs.Common.{refl, ◌∙◌, map, take}
 use Rattle.brpc_model.specs.Operations.{schedule}
 use Rattle.script_items.specs.Meaning.{item}
-use Rattle.sock_programs.specs.Runs.{Scheduled}
+use Rattle.seat_programs.specs.Runs.{Scheduled}
 use Rattle.sock_core.proofs.Joining.{same_links_none, same_links_join}
 use Rattle.script_run.proofs.Playing.{none_played}
 use Rattle.script_run.proofs.Lines.{line_played, whole_played}
@@ -17,7 +17,7 @@ loop-line-init g c = record {
   back = refl;
   done = refl;
   faults = refl;
-  prompt = refl;
+  always_ready = refl;
 }
 
 pub returns-in_err-play_line-clause-ends : goal.returns-in_err-play_line-clause-ends
@@ -35,7 +35,7 @@ loop-line-preserved g c =
       back = step.back ∙ i.back;
       done = step.done ∙ i.done;
       faults = step.faults ∙ i.faults;
-      prompt = step.prompt ∙ i.prompt;
+      always_ready = step.always_ready ∙ i.always_ready;
     }
 
 pub returns-clause-played : goal.returns-clause-played

@@ -1,7 +1,7 @@
 use Rattle.std.proofs.Common.{◌≡◌, map, take}
 use Rattle.brpc_model.specs.Operations.{schedule}
 use Rattle.script_items.specs.Meaning.{item}
-use Rattle.sock_programs.specs.Runs.{Scheduled}
+use Rattle.seat_programs.specs.Runs.{Scheduled}
 use Rattle.sock_core.specs.Runs.{SameLinks}
 use Rattle.script_run.specs.Played.{IsPlayable, HasPlayed}
 use Rattle.script_run.proofs.schedule.play_lines.Given as goal
@@ -16,5 +16,5 @@ invariant-loop-line g l = record {
   back : g.L.Linker.back l.links ≡ g.L.Linker.back l.initial.links;
   done : g.L.Linker.done l.links ≡ g.L.Linker.done l.initial.links;
   faults : g.L.Linker.faults l.links ≡ g.L.Linker.faults l.initial.links;
-  prompt : g.L.Linker.prompt l.links ≡ g.L.Linker.prompt l.initial.links;
+  always_ready : g.L.Linker.always_ready l.links ≡ g.L.Linker.always_ready l.initial.links;
 }

@@ -1,5 +1,5 @@
 use Rattle.std.proofs.Common.{ap}
-use Rattle.sock_programs.specs.Scripts.{drawn_turns}
+use Rattle.seat_programs.specs.Scripts.{drawn_turns}
 use Rattle.script_run.specs.Played.{turns_of}
 use Rattle.sock_core.proofs.Endings.{on_ok}
 use Rattle.script_run.proofs.Lines.{by_lines, by_draws}

@@ -1,5 +1,5 @@
 use Rattle.std.proofs.Common.{◌≡◌, replicate, subst, refl, ◌∙◌, arith}
-use Rattle.sock_programs.specs.Ticks.{seats_of}
+use Rattle.seat_programs.specs.Ticks.{seats_of}
 use Rattle.script_run.specs.Played.{HasPlayed}
 use Rattle.sock_core.proofs.Joining.{same_links_none, same_links_join}
 use Rattle.script_run.proofs.Playing.{none_played}
@@ -16,7 +16,7 @@ loop-init g c = record {
   back = refl;
   done = refl;
   faults = refl;
-  prompt = refl;
+  always_ready = refl;
 }
 
 pub returns-in_err-tick_seat-clause-ends : goal.returns-in_err-tick_seat-clause-ends
@@ -44,7 +44,7 @@ loop-preserved g c =
       back = step.back ∙ i.back;
       done = step.done ∙ i.done;
       faults = step.faults ∙ i.faults;
-      prompt = step.prompt ∙ i.prompt;
+      always_ready = step.always_ready ∙ i.always_ready;
     }
 
 pub returns-clause-played : goal.returns-clause-played

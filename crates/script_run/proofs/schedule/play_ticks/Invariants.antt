@@ -1,5 +1,5 @@
 use Rattle.std.proofs.Common.{◌≡◌, replicate}
-use Rattle.sock_programs.specs.Ticks.{seats_of}
+use Rattle.seat_programs.specs.Ticks.{seats_of}
 use Rattle.sock_core.specs.Runs.{SameLinks}
 use Rattle.script_run.specs.Played.{IsPlayable, HasPlayed}
 use Rattle.script_run.proofs.schedule.play_ticks.Given as goal
@@ -14,5 +14,5 @@ invariant-loop g l = record {
   back : g.L.Linker.back l.links ≡ g.L.Linker.back l.initial.links;
   done : g.L.Linker.done l.links ≡ g.L.Linker.done l.initial.links;
   faults : g.L.Linker.faults l.links ≡ g.L.Linker.faults l.initial.links;
-  prompt : g.L.Linker.prompt l.links ≡ g.L.Linker.prompt l.initial.links;
+  always_ready : g.L.Linker.always_ready l.links ≡ g.L.Linker.always_ready l.initial.links;
 }

@@ -15,7 +15,7 @@ returns-in-Moved g c =
       back = step.back;
       done = step.done;
       faults = step.faults;
-      prompt = step.prompt;
+      always_ready = step.always_ready;
     }
 
 pub returns-in-Idle-clause-ticked : goal.returns-in-Idle-clause-ticked

@@ -1,5 +1,5 @@
 use Rattle.std.proofs.Common.{◌≡◌, ◌+◌, map, drop}
-use Rattle.sock_programs.specs.Tasks.{name_number}
+use Rattle.seat_programs.specs.Tasks.{name_number}
 use Rattle.script_tasks.proofs.names.number_of.Given as goal
 
 abbrev pub invariant-loop-known : goal.invariant-loop-known

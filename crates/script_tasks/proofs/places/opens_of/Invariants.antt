@@ -1,5 +1,5 @@
 use Rattle.std.proofs.Common.{◌≡◌, ◌≤◌, ◌+◌, ◌++◌, map, drop}
-use Rattle.sock_programs.specs.Tasks.{opens}
+use Rattle.seat_programs.specs.Tasks.{opens}
 use Rattle.brpc_model.specs.Items.{is_open}
 use Rattle.script_items.specs.Meaning.{item}
 use Rattle.script_tasks.specs.Along.{numbers_along}

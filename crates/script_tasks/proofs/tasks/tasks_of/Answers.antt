@@ -1,8 +1,8 @@
 use Rattle.std.proofs.Common.{◌+◌, map, drop, [], ◌∷◌, ◌++◌, if◌then◌else◌, arith, ap, sym, ◌∙◌}
 use Rattle.std.proofs.lemmas.List.{map-append}
-use Rattle.sock_programs.specs.Scripts.{all_tasks}
+use Rattle.seat_programs.specs.Scripts.{all_tasks}
 use Rattle.script_items.specs.Meaning.{item}
-use Rattle.sock_programs.specs.Tasks.{numbered}
+use Rattle.seat_programs.specs.Tasks.{numbered}
 use Rattle.script_tasks.specs.Along.{task_at, tasks_along}
 use Rattle.script_tasks.proofs.NameSteps.{line_step}
 use Rattle.script_tasks.proofs.Starts.{known_by}

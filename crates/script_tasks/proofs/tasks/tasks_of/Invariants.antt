@@ -1,6 +1,6 @@
 use Rattle.std.proofs.Common.{map, drop}
-use Rattle.sock_programs.specs.Tasks.{numbered}
-use Rattle.sock_programs.specs.Scripts.{all_tasks}
+use Rattle.seat_programs.specs.Tasks.{numbered}
+use Rattle.seat_programs.specs.Scripts.{all_tasks}
 use Rattle.script_items.specs.Meaning.{item}
 use Rattle.script_tasks.proofs.Alongs.{Sofar}
 use Rattle.script_tasks.proofs.tasks.tasks_of.Given as goal

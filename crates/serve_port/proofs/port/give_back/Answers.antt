@@ -16,6 +16,6 @@ gives-preserved g c = let i = c.gives.invariant.2 in let x = as_served g.L.O.Out
     accepted = e.accepted ∙ i.accepted;
     back = e.back ∙ i.back;
     faults = e.faults ∙ i.faults;
-    prompt = e.stays_prompt ∙ i.prompt;
+    always_ready = e.stays_prompt ∙ i.always_ready;
   },
 )

@@ -18,11 +18,11 @@ returns g c =
       back = g.L.Linker.back c.give_back-tally.new.links;
       done = g.L.Linker.done c.give_back-tally.new.links;
       faults = g.L.Linker.faults c.give_back-tally.new.links;
-      prompt = g.L.Linker.prompt c.give_back-tally.new.links;
+      always_ready = g.L.Linker.always_ready c.give_back-tally.new.links;
     }) _ c.reverse.new.self.items c.serve_rest-accepted.result c.answer.result
     (from_none was c.from-count.result _ _ _ _ c.serve_rest-accepted.result c.in-Ok.ensures.items c.serve_rest-accepted.ensures.accepts)
     c.reverse.ensures.items
-    (λ i. record { asked = e.asked i; accepted = e.accepted i; back = e.back i; done = e.done i; faults = e.faults i; prompt = e.prompt i })
+    (λ i. record { asked = e.asked i; accepted = e.accepted i; back = e.back i; done = e.done i; faults = e.faults i; always_ready = e.always_ready i })
     (λ x. c.answer.ensures _ _ _ _ e.tally x) in
     let old : LinkerState = record {
       asked = g.L.Linker.asked c.args.links.now;
@@ -30,7 +30,7 @@ returns g c =
       back = g.L.Linker.back c.args.links.now;
       done = g.L.Linker.done c.args.links.now;
       faults = g.L.Linker.faults c.args.links.now;
-      prompt = g.L.Linker.prompt c.args.links.now;
+      always_ready = g.L.Linker.always_ready c.args.links.now;
     } in
     let new : LinkerState = record {
       asked = g.L.Linker.asked c.links-1.given.0;
@@ -38,7 +38,7 @@ returns g c =
       back = g.L.Linker.back c.links-1.given.0;
       done = g.L.Linker.done c.links-1.given.0;
       faults = g.L.Linker.faults c.links-1.given.0;
-      prompt = g.L.Linker.prompt c.links-1.given.0;
+      always_ready = g.L.Linker.always_ready c.links-1.given.0;
     } in
     let turned : ServesAll c.from-count.result old new c.answer.result = subst (λ l. ServesAll c.from-count.result old (record {
       asked = g.L.Linker.asked l;
@@ -46,6 +46,6 @@ returns g c =
       back = g.L.Linker.back l;
       done = g.L.Linker.done l;
       faults = g.L.Linker.faults l;
-      prompt = g.L.Linker.prompt l;
+      always_ready = g.L.Linker.always_ready l;
     }) c.answer.result) (sym links) all in
     subst (λ n. ServesAll n old new c.answer.result) c.from-count.ensures turned

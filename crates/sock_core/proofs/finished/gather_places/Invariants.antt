@@ -1,5 +1,5 @@
 use Rattle.std.proofs.Common.{◌≡◌, map, vec_len, vec_capacity}
-use Rattle.sock_programs.specs.Runs.{from_to}
+use Rattle.seat_programs.specs.Runs.{from_to}
 use Rattle.sock_core.proofs.Gathering.{word_of_place}
 use Rattle.sock_core.proofs.finished.gather_places.Given as goal
 

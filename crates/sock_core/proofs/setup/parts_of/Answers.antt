@@ -1,5 +1,5 @@
 use Rattle.std.proofs.Common.{None, length, map, replicate, ap, ◌∙◌, arith}
-use Rattle.sock_programs.specs.Scripts.{programs, sizes_of}
+use Rattle.seat_programs.specs.Scripts.{programs, sizes_of}
 use Rattle.sock_core.specs.Beginnings.{said_first}
 use Rattle.sock_core.proofs.Begun.{told_length, written_over}
 use Rattle.sock_core.proofs.setup.parts_of.Goals as goal

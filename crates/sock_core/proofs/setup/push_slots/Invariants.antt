@@ -1,5 +1,5 @@
 use Rattle.std.proofs.Common.{◌≡◌, ◌++◌}
-use Rattle.sock_programs.specs.Scripts.{free_slots}
+use Rattle.seat_programs.specs.Scripts.{free_slots}
 use Rattle.sock_core.proofs.setup.push_slots.Given as goal
 
 abbrev pub invariant-loop : goal.invariant-loop

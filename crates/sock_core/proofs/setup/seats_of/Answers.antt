@@ -1,8 +1,8 @@
 use Rattle.std.proofs.Common.{◌∷◌, ◌++◌, List, [], map, ap, sym, ◌∙◌, subst}
-use Rattle.sock_programs.specs.declared.task.Task.{Task}
-use Rattle.sock_programs.specs.Clients.{client_from}
-use Rattle.sock_programs.specs.Cores.{said, resolved}
-use Rattle.sock_programs.specs.Scripts.{programs}
+use Rattle.seat_programs.specs.declared.task.Task.{Task}
+use Rattle.seat_programs.specs.Clients.{client_from}
+use Rattle.seat_programs.specs.Cores.{said, resolved}
+use Rattle.seat_programs.specs.Scripts.{programs}
 use Rattle.client_seats.specs.Seats.{seat_data}
 use Rattle.sock_core.specs.Beginnings.{AreBegun, said_first}
 use Rattle.sock_core.proofs.Begun.{begun_more, goes_first, told_more, map_last}

@@ -6,7 +6,7 @@ use Rattle.sock_model.specs.declared.view.View.{View}
 use Rattle.sock_model.specs.ChainRows.{dropped_right}
 use Rattle.sock_model.specs.Deliveries.{place_value}
 use Rattle.sock_model.specs.Entries.{slot_of}
-use Rattle.sock_model.specs.Layout.{place_word}
+use Rattle.sock_model.specs.Layout.{place_index}
 use Rattle.sock_model.specs.Marks.{about, noted}
 use Rattle.sock_model.specs.Weights.{total, is_met}
 use Rattle.sock_model.specs.Links.{HoldsLink}
@@ -52,14 +52,14 @@ drop_place-home-requires-clause-top g c = let h = part_noted c.args.hand c.args.
 
 pub go_past-doing-requires-clause-may : goal.go_past-doing-requires-clause-may
 go_past-doing-requires-clause-may g c = let h = part_noted c.args.hand c.args.seat.now.me c.code-told.new.seat.me (code_noted {state = g.O.Out.state} c.code-told.result c.args.sock.now.id.0 c.args.seat.now.me.0 c.code-told.new.seat.me.0 c.code-told.ensures.code).notes (code_noted {state = g.O.Out.state} c.code-told.result c.args.sock.now.id.0 c.args.seat.now.me.0 c.code-told.new.seat.me.0 c.code-told.ensures.code).noted (code_noted {state = g.O.Out.state} c.code-told.result c.args.sock.now.id.0 c.args.seat.now.me.0 c.code-told.new.seat.me.0 c.code-told.ensures.code).became c.code-told.ensures.slots (λ t. c.requires.may.0.0.noted (code_faults c.args.hand.link c.code-told.result c.args.sock.now.id.0 c.args.seat.now.me.0 c.code-told.new.seat.me.0 c.code-told.ensures.code t)) c.requires.may.0 in let is = c.drop_place-home.ensures.home in let n = c.count_place.ensures in (
-  part_dropped c.args.hand c.count_place.new.self c.code-told.new.seat.me c.drop_place-home.new.seat.me h.0 (n.same.0 ∙ ap (λ y. y.took.list) is, n.same.1 ∙ ap (λ y. y.next + 1) is) (n.out ∙ ap (λ y. y.out) is) (place_word c.args.table.now.rule.plan c.args.hand.label.place) c.pack-place.result.0
+  part_dropped c.args.hand c.count_place.new.self c.code-told.new.seat.me c.drop_place-home.new.seat.me h.0 (n.same.0 ∙ ap (λ y. y.took.list) is, n.same.1 ∙ ap (λ y. y.next + 1) is) (n.out ∙ ap (λ y. y.out) is) (place_index c.args.table.now.rule.plan c.args.hand.label.place) c.pack-place.result.0
       (c.drop_place-home.ensures.view h.0.right_is c.args.hand.now.0 h.0.writer.one h.0.stage_is),
   h.0.ticket,
 )
 
 pub returns-clause-wrote : goal.returns-clause-wrote
 returns-clause-wrote g c = let h = part_noted c.args.hand c.args.seat.now.me c.code-told.new.seat.me (code_noted {state = g.O.Out.state} c.code-told.result c.args.sock.now.id.0 c.args.seat.now.me.0 c.code-told.new.seat.me.0 c.code-told.ensures.code).notes (code_noted {state = g.O.Out.state} c.code-told.result c.args.sock.now.id.0 c.args.seat.now.me.0 c.code-told.new.seat.me.0 c.code-told.ensures.code).noted (code_noted {state = g.O.Out.state} c.code-told.result c.args.sock.now.id.0 c.args.seat.now.me.0 c.code-told.new.seat.me.0 c.code-told.ensures.code).became c.code-told.ensures.slots (λ t. c.requires.may.0.0.noted (code_faults c.args.hand.link c.code-told.result c.args.sock.now.id.0 c.args.seat.now.me.0 c.code-told.new.seat.me.0 c.code-told.ensures.code t)) c.requires.may.0 in
-    let left = rights_but_store c.code-told.new.seat.me.0 c.drop_place-home.new.seat.me.0 c.go_past-doing.new.seat.me.0 (place_word c.args.table.now.rule.plan c.args.hand.label.place) c.pack-place.result.0 (dropped_right h.0.right_is c.args.hand.now.0 c.args.hand.home.took.list)
+    let left = rights_but_store c.code-told.new.seat.me.0 c.drop_place-home.new.seat.me.0 c.go_past-doing.new.seat.me.0 (place_index c.args.table.now.rule.plan c.args.hand.label.place) c.pack-place.result.0 (dropped_right h.0.right_is c.args.hand.now.0 c.args.hand.home.took.list)
     (ap (λ m. m.0) (c.drop_place-home.ensures.view h.0.right_is c.args.hand.now.0 h.0.writer.one h.0.stage_is)) c.go_past-doing.ensures.others in
     let value : c.pack-place.result.0 ≡ place_value true c.args.hand.link c.args.hand.home.next = omega (arith, c.pack-place.ensures.word) in
     let begun = wrote_notes c.args.seat.now.me.0 c.code-told.new.seat.me.0 (code_noted {state = g.O.Out.state} c.code-told.result c.args.sock.now.id.0 c.args.seat.now.me.0 c.code-told.new.seat.me.0 c.code-told.ensures.code).notes (code_noted {state = g.O.Out.state} c.code-told.result c.args.sock.now.id.0 c.args.seat.now.me.0 c.code-told.new.seat.me.0 c.code-told.ensures.code).noted (code_noted {state = g.O.Out.state} c.code-told.result c.args.sock.now.id.0 c.args.seat.now.me.0 c.code-told.new.seat.me.0 c.code-told.ensures.code).became in
@@ -68,7 +68,7 @@ returns-clause-wrote g c = let h = part_noted c.args.hand c.args.seat.now.me c.c
       position = c.args.hand.home.next;
       low = c.requires.may.0.0.few;
       met = subst (λ (l : List SlotMark). 0 < total (is_met (socket_id_version c.args.sock.now.id.0) c.args.hand.link) (about (socket_id_slot c.args.sock.now.id.0) l)) (sym (ap (λ (y : View). y.marks) left.0)) h.0.writer.holds.met;
-      stores = left.1 ∙ ap (λ (x : ℕ). noted record { place = place_word c.args.table.now.rule.plan c.args.hand.label.place; word = x } c.code-told.new.seat.me.0.stores) value;
+      stores = left.1 ∙ ap (λ (x : ℕ). noted record { place = place_index c.args.table.now.rule.plan c.args.hand.label.place; word = x } c.code-told.new.seat.me.0.stores) value;
       wrote = wrote_rights c.code-told.new.seat.me.0 (record c.go_past-doing.new.seat.me.0 { stores = c.code-told.new.seat.me.0.stores }) left.0;
     }
 

@@ -2,7 +2,7 @@ use Rattle.std.proofs.Common.{◌≡◌, ◌<◌, None, length, get_or, sym, ap,
 use Rattle.std.specs.Option.{option_copied}
 use Rattle.std.proofs.lemmas.List.{get_or_read}
 use lib.ListN.{get_elem?}
-use Rattle.sock_programs.specs.Beside.{call_at}
+use Rattle.seat_programs.specs.Beside.{call_at}
 use Rattle.call_slots.specs.Slots.{SlotState, as_found}
 use Rattle.call_slots.proofs.Making.{found_at}
 use Rattle.call_slots.proofs.call_slots.CallSlots.call_at.Goals as goal

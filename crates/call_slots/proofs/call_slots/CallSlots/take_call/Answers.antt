@@ -1,6 +1,6 @@
 use Rattle.std.proofs.Common.{◌≡◌, ◌<◌, None, length, get_or, set, sym, ap, ◌∙◌, subst, arith}
 use Rattle.std.proofs.lemmas.List.{get_or_read}
-use Rattle.sock_programs.specs.Asides.{TakeCall}
+use Rattle.seat_programs.specs.Asides.{TakeCall}
 use Rattle.call_slots.specs.Slots.{SlotState, as_found}
 use Rattle.call_slots.specs.Steps.{Makes}
 use Rattle.call_slots.proofs.Making.{slots_of, takes}

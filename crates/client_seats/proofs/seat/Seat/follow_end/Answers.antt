@@ -1,8 +1,8 @@
 use Rattle.std.proofs.Common.{refl}
 use Rattle.id_points.specs.Ids.{id_of, number_of}
 use Rattle.call_points.specs.declared.deciding.DecideStep.TheVariants as decides
-use Rattle.seat_points.specs.declared.point.Point.TheVariants as points
-use Rattle.seat_points.specs.Points.{Around, point_program, after_program}
+use Rattle.seat_states.specs.declared.point.Point.TheVariants as points
+use Rattle.seat_states.specs.Points.{Around, point_program, after_program}
 use Rattle.client_seats.specs.Seats.{around, seat_data}
 use Rattle.client_seats.proofs.Begun.{begun, follows_point}
 use Rattle.client_seats.proofs.Follows.{kept_on}

@@ -1,5 +1,5 @@
 use Rattle.std.proofs.Common.{◌≡◌, ◌<◌, ◌∷◌, [], length, get_or, arith, ap, subst, ◌∙◌, length-take}
-use Rattle.sock_programs.specs.Parts.{part}
+use Rattle.seat_programs.specs.Parts.{part}
 use Rattle.message_parts.specs.Frames.{OutgoingData}
 use Rattle.message_parts.proofs.Parts.{first_is_part}
 use Rattle.message_parts.proofs.frame.OutgoingFrame.next_piece.Goals as goal

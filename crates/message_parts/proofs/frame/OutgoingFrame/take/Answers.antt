@@ -1,5 +1,5 @@
 use Rattle.std.proofs.Common.{◌≤◌, ◌∷◌, [], length, arith, ap, length-take}
-use Rattle.sock_programs.specs.Parts.{room_of_part}
+use Rattle.seat_programs.specs.Parts.{room_of_part}
 use Rattle.message_parts.specs.Frames.{OutgoingData}
 use Rattle.message_parts.proofs.Parts.{lies_dropped}
 use Rattle.message_parts.proofs.frame.OutgoingFrame.take.Goals as goal

@@ -1,5 +1,5 @@
 use Rattle.id_points.specs.Ids.{id_of}
-use Rattle.sock_programs.specs.Asides.{id_slot}
+use Rattle.seat_programs.specs.Asides.{id_slot}
 use Rattle.reader_points.specs.Points.{said_program}
 use Rattle.reader_points.proofs.point.AnswerStep.next.Goals as goal
 

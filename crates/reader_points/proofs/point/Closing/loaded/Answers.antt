@@ -1,6 +1,6 @@
 use Rattle.std.proofs.Common.{sym, ap, ◌∙◌}
 use Rattle.sock_words.specs.Words.{at_word_slot, at_word_first, at_word_attempt}
-use Rattle.sock_programs.specs.Asides.{call_id}
+use Rattle.seat_programs.specs.Asides.{call_id}
 use Rattle.reader_points.proofs.Going.{loads_post, loads_none}
 use Rattle.reader_points.proofs.point.Closing.loaded.Goals as goal
 

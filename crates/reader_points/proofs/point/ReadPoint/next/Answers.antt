@@ -1,6 +1,6 @@
 use Rattle.std.proofs.Common.{◌∙◌}
 use Rattle.id_points.specs.Ids.{id_of}
-use Rattle.sock_programs.specs.Readers.{answered, posted_last}
+use Rattle.seat_programs.specs.Readers.{answered, posted_last}
 use Rattle.reader_points.specs.Points.{error_in, frames_behind, posts_program}
 use Rattle.reader_points.proofs.point.ReadPoint.next.Goals as goal
 

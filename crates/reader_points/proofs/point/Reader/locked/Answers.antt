@@ -1,6 +1,6 @@
 use Rattle.std.proofs.Common.{◌≡◌, ◌∙◌, true, false, sym, refl, ap}
-use Rattle.sock_programs.specs.Asides.{call_id}
-use Rattle.sock_programs.specs.Readers.{is_early, version_in}
+use Rattle.seat_programs.specs.Asides.{call_id}
+use Rattle.seat_programs.specs.Readers.{is_early, version_in}
 use Rattle.corr_core.specs.Word.{parts}
 use Rattle.id_points.specs.Ids.{id_of}
 use Rattle.reader_points.specs.declared.point.Behind.TheVariants as behinds

@@ -1,5 +1,5 @@
 use Rattle.std.proofs.Common.{[], subst}
-use Rattle.sock_programs.specs.Beside.{at_last}
+use Rattle.seat_programs.specs.Beside.{at_last}
 use Rattle.reader_points.specs.Points.{HasInHand}
 use Rattle.reader_seats.specs.GoesOn.{taking_of}
 use Rattle.reader_seats.specs.Inside.{data_of}

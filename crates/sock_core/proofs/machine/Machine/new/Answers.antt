@@ -29,7 +29,7 @@ returns-clause-core g c = core_made c.args.script.now c.in-Ok.wanted.plan c.in-O
     c.in_ok-machine.ensures.core c.in_ok-machine.ensures.plan c.in_ok-machine.ensures.opens c.in_ok-machine.ensures.agrees c.run_first.new.self c.run_first.ensures.ran
 
 pub returns-clause-outs : goal.returns-clause-outs
-returns-clause-outs g c all = c.run_first.ensures.ran.same.1.prompt (c.in_ok-machine.ensures.outs all)
+returns-clause-outs g c all = c.run_first.ensures.ran.same.1.always_ready (c.in_ok-machine.ensures.outs all)
 
 pub returns-clause-tell : goal.returns-clause-tell
 returns-clause-tell g c all = c.run_first.ensures.ran.same.1.tell (c.in_ok-machine.ensures.tell all)

@@ -11,7 +11,7 @@ loop-init g c = record {
   back = refl;
   done = refl;
   faults = refl;
-  prompt = refl;
+  always_ready = refl;
 }
 
 pub round-requires-clause-enough : goal.round-requires-clause-enough
@@ -37,5 +37,5 @@ loop-preserved g c = let moved = c.in_ok-round.ensures.moved (ap Ok c.if-not-bra
   back = c.round.ensures.back ∙ c.loop.invariant.back;
   done = c.round.ensures.done ∙ c.loop.invariant.done;
   faults = c.round.ensures.faults ∙ c.loop.invariant.faults;
-  prompt = c.round.ensures.prompt ∙ c.loop.invariant.prompt;
+  always_ready = c.round.ensures.always_ready ∙ c.loop.invariant.always_ready;
 }

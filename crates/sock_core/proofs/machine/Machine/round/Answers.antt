@@ -1,6 +1,6 @@
 use Rattle.std.proofs.Common.{◌≡◌, ℕ, true, List, refl, sym, ap, subst, append-nil, arith, ◌+◌, ◌-◌, ◌++◌, ◌∙◌}
 use Rattle.sock_words.specs.declared.plain.Plan.{Plan}
-use Rattle.sock_programs.specs.Runs.{from_to}
+use Rattle.seat_programs.specs.Runs.{from_to}
 use Rattle.sock_core.specs.Machines.{READERS}
 use Rattle.sock_core.proofs.Endings.{in_ok, both_join}
 use Rattle.sock_core.proofs.Rounding.{RoundSoFar, round_begins, round_moved, round_still, round_went, round_stood, client_more, reader_more}
@@ -15,7 +15,7 @@ loop-seat-init g c = record {
   back = refl;
   done = refl;
   faults = refl;
-  prompt = refl;
+  always_ready = refl;
 }
 
 pub loop-seat-preserved : goal.loop-seat-preserved
@@ -34,7 +34,7 @@ loop-seat-preserved g c =
         back = c.advance.ensures.back ∙ c.loop-seat.invariant.back;
         done = c.advance.ensures.done ∙ c.loop-seat.invariant.done;
         faults = c.advance.ensures.faults ∙ c.loop-seat.invariant.faults;
-        prompt = c.advance.ensures.prompt ∙ c.loop-seat.invariant.prompt;
+        always_ready = c.advance.ensures.always_ready ∙ c.loop-seat.invariant.always_ready;
       }
       | goal.else-is_moved w ↦ record {
         so_far = subst (RoundSoFar c.args.self.now c.advance.new.self (from_to 1 ((c.loop-seat.seat + 1) - 1))) (sym w.moved-is) (subst (λ (l : List ℕ). RoundSoFar c.args.self.now c.advance.new.self l c.loop-seat.moved) more
@@ -45,7 +45,7 @@ loop-seat-preserved g c =
         back = c.advance.ensures.back ∙ c.loop-seat.invariant.back;
         done = c.advance.ensures.done ∙ c.loop-seat.invariant.done;
         faults = c.advance.ensures.faults ∙ c.loop-seat.invariant.faults;
-        prompt = c.advance.ensures.prompt ∙ c.loop-seat.invariant.prompt;
+        always_ready = c.advance.ensures.always_ready ∙ c.loop-seat.invariant.always_ready;
       }
     ]
 
@@ -62,7 +62,7 @@ loop-link-init g c =
       back = i.back;
       done = i.done;
       faults = i.faults;
-      prompt = i.prompt;
+      always_ready = i.always_ready;
     }
 
 pub loop-link-preserved : goal.loop-link-preserved
@@ -84,7 +84,7 @@ loop-link-preserved g c =
         back = c.advance-in-loop-link.ensures.back ∙ c.loop-link.invariant.back;
         done = c.advance-in-loop-link.ensures.done ∙ c.loop-link.invariant.done;
         faults = c.advance-in-loop-link.ensures.faults ∙ c.loop-link.invariant.faults;
-        prompt = c.advance-in-loop-link.ensures.prompt ∙ c.loop-link.invariant.prompt;
+        always_ready = c.advance-in-loop-link.ensures.always_ready ∙ c.loop-link.invariant.always_ready;
       }
       | goal.else-is_moved-2 w ↦ record {
         so_far = subst (RoundSoFar c.args.self.now c.advance-in-loop-link.new.self (clients ++ from_to READERS (c.loop-link.link + 1))) (sym w.moved-is) (subst (λ (l : List ℕ). RoundSoFar c.args.self.now c.advance-in-loop-link.new.self l c.loop-link.moved) more
@@ -95,7 +95,7 @@ loop-link-preserved g c =
         back = c.advance-in-loop-link.ensures.back ∙ c.loop-link.invariant.back;
         done = c.advance-in-loop-link.ensures.done ∙ c.loop-link.invariant.done;
         faults = c.advance-in-loop-link.ensures.faults ∙ c.loop-link.invariant.faults;
-        prompt = c.advance-in-loop-link.ensures.prompt ∙ c.loop-link.invariant.prompt;
+        always_ready = c.advance-in-loop-link.ensures.always_ready ∙ c.loop-link.invariant.always_ready;
       }
     ]
 

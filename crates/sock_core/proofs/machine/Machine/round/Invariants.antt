@@ -1,5 +1,5 @@
 use Rattle.std.proofs.Common.{◌≡◌, ◌≤◌, ◌-◌, ◌++◌}
-use Rattle.sock_programs.specs.Runs.{from_to}
+use Rattle.seat_programs.specs.Runs.{from_to}
 use Rattle.sock_core.specs.Machines.{READERS}
 use Rattle.sock_core.proofs.Rounding.{RoundSoFar}
 use Rattle.sock_core.proofs.machine.Machine.round.Given as goal
@@ -14,7 +14,7 @@ invariant-loop-seat g l = record {
   back : g.L.Linker.back l.links ≡ g.L.Linker.back l.fn.links;
   done : g.L.Linker.done l.links ≡ g.L.Linker.done l.fn.links;
   faults : g.L.Linker.faults l.links ≡ g.L.Linker.faults l.fn.links;
-  prompt : g.L.Linker.prompt l.links ≡ g.L.Linker.prompt l.fn.links;
+  always_ready : g.L.Linker.always_ready l.links ≡ g.L.Linker.always_ready l.fn.links;
 }
 
 -- the clients were, and the readers before this one
@@ -27,5 +27,5 @@ invariant-loop-link g l = record {
   back : g.L.Linker.back l.links ≡ g.L.Linker.back l.fn.links;
   done : g.L.Linker.done l.links ≡ g.L.Linker.done l.fn.links;
   faults : g.L.Linker.faults l.links ≡ g.L.Linker.faults l.fn.links;
-  prompt : g.L.Linker.prompt l.links ≡ g.L.Linker.prompt l.fn.links;
+  always_ready : g.L.Linker.always_ready l.links ≡ g.L.Linker.always_ready l.fn.links;
 }

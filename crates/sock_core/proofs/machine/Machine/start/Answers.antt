@@ -1,7 +1,7 @@
 use Rattle.std.proofs.Common.{◌≡◌, refl, false, map, length, vec_capacity, ap, sym, ◌∙◌, arith}
 use Rattle.std.proofs.lemmas.List.{length-map}
 use Rattle.sock_io.specs.Link.{end_of}
-use Rattle.sock_programs.specs.Cores.{Calls}
+use Rattle.seat_programs.specs.Cores.{Calls}
 use Rattle.client_seats.specs.Seats.{seat_data}
 use Rattle.sock_core.specs.Links.{LinksData}
 use Rattle.sock_core.specs.Machines.{MachineState}

@@ -10,7 +10,7 @@ loop-init g c = record {
   back = refl;
   done = refl;
   faults = refl;
-  prompt = refl;
+  always_ready = refl;
 }
 
 pub tick-requires-clause-rest : goal.tick-requires-clause-rest
@@ -33,5 +33,5 @@ loop-preserved g c = record {
   back = c.tick.ensures.back ∙ c.loop.invariant.back;
   done = c.tick.ensures.done ∙ c.loop.invariant.done;
   faults = c.tick.ensures.faults ∙ c.loop.invariant.faults;
-  prompt = c.tick.ensures.prompt ∙ c.loop.invariant.prompt;
+  always_ready = c.tick.ensures.always_ready ∙ c.loop.invariant.always_ready;
 }

@@ -11,5 +11,5 @@ invariant-loop g l = record {
   back : g.L.Linker.back l.links ≡ g.L.Linker.back l.fn.links;
   done : g.L.Linker.done l.links ≡ g.L.Linker.done l.fn.links;
   faults : g.L.Linker.faults l.links ≡ g.L.Linker.faults l.fn.links;
-  prompt : g.L.Linker.prompt l.links ≡ g.L.Linker.prompt l.fn.links;
+  always_ready : g.L.Linker.always_ready l.links ≡ g.L.Linker.always_ready l.fn.links;
 }

@@ -1,11 +1,11 @@
 use Rattle.std.proofs.Common.{inr, refl, arith, ap, map, ◌∙◌}
-use Rattle.sock_programs.specs.Scripts.{sizes_of}
-use Rattle.seat_points.specs.Points.{next_program}
+use Rattle.seat_programs.specs.Scripts.{sizes_of}
+use Rattle.seat_states.specs.Points.{next_program}
 use Rattle.client_seats.specs.Seats.{seat_data, around}
-use Rattle.seat_points.specs.Points.{after_ready}
+use Rattle.seat_states.specs.Points.{after_ready}
 use Rattle.sock_io.specs.Link.{end_of}
 use Rattle.sock_core.proofs.Stepping.{written, makes_along, goes, same_sizes, asked_in}
-use Rattle.seat_points.proofs.StepFacts.{asks}
+use Rattle.seat_states.proofs.StepFacts.{asks}
 use Rattle.sock_core.specs.Machines.{table_sizes}
 use Rattle.sock_core.proofs.TableGoes.{follows_as}
 use Rattle.sock_core.proofs.table.Table.ask_ready.Goals as goal

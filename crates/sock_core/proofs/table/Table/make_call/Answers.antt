@@ -1,12 +1,12 @@
 use Rattle.std.proofs.Common.{refl, arith, ap, ◌∙◌, subst, sym, inl, map, ℕ, List}
 use Rattle.sock_io.specs.Link.{end_of}
-use Rattle.sock_programs.specs.Cores.{word_of, found_at}
+use Rattle.seat_programs.specs.Cores.{word_of, found_at}
 use Rattle.call_points.specs.Steps.{after_word}
-use Rattle.seat_points.specs.Points.{next_program}
-use Rattle.seat_points.specs.Steps.{step_of}
-use Rattle.seat_points.proofs.StepFacts.{goes_by_word}
+use Rattle.seat_states.specs.Points.{next_program}
+use Rattle.seat_states.specs.Steps.{step_of}
+use Rattle.seat_states.proofs.StepFacts.{goes_by_word}
 use Rattle.client_seats.specs.Seats.{seat_data, around, seat_program}
-use Rattle.sock_programs.specs.Scripts.{sizes_of}
+use Rattle.seat_programs.specs.Scripts.{sizes_of}
 use Rattle.sock_core.specs.Machines.{TableState, table_sizes}
 use Rattle.sock_core.specs.Steps.{IsReady, MayGoOn}
 use Rattle.sock_core.specs.Telling.{waits_by}

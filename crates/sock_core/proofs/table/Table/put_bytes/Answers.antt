@@ -1,10 +1,10 @@
 use Rattle.std.proofs.Common.{◌≡◌, refl, arith, ap, map, sym, ◌∙◌, inr, Some, option_map}
 use Rattle.sock_io.specs.Link.{end_of}
-use Rattle.sock_programs.specs.Scripts.{sizes_of}
-use Rattle.sock_programs.specs.Parts.{part}
+use Rattle.seat_programs.specs.Scripts.{sizes_of}
+use Rattle.seat_programs.specs.Parts.{part}
 use Rattle.message_parts.specs.Parcels.{outgoing_of}
-use Rattle.seat_points.specs.Points.{next_program, parts_by, is_whole}
-use Rattle.seat_points.proofs.StepFacts.{puts_piece}
+use Rattle.seat_states.specs.Points.{next_program, parts_by, is_whole}
+use Rattle.seat_states.proofs.StepFacts.{puts_piece}
 use Rattle.client_seats.specs.Seats.{seat_data, around, left_of, taken_of, left_parts_of}
 use Rattle.sock_core.specs.Machines.{table_sizes}
 use Rattle.sock_core.specs.Steps.{left_behind, taken_behind}

@@ -2,12 +2,12 @@ use Rattle.std.proofs.Common.{refl, arith, ap, ◌∙◌, subst, sym, inr, [], �
 use mathlib.Core.Option as core
 use Rattle.corr_core.specs.declared.marks.Plan.{Plan as IdPlan}
 use Rattle.sock_message.specs.Asked.{Asked}
-use Rattle.sock_programs.specs.Asides as asides
-use Rattle.sock_programs.specs.Scripts.{sizes_of}
+use Rattle.seat_programs.specs.Asides as asides
+use Rattle.seat_programs.specs.Scripts.{sizes_of}
 use Rattle.call_points.specs.declared.aside.Aside.TheVariants as steps
 use Rattle.call_slots.specs.Steps as slots
-use Rattle.seat_points.specs.declared.point.Step.TheVariants as firsts
-use Rattle.seat_points.specs.Points.{next_program}
+use Rattle.seat_states.specs.declared.point.Step.TheVariants as firsts
+use Rattle.seat_states.specs.Points.{next_program}
 use Rattle.client_seats.specs.Seats.{seat_data, around, seat_program, asked_of}
 use Rattle.sock_core.specs.Machines.{TableState, table_sizes}
 use Rattle.sock_core.specs.Steps.{IsReady, FoundBeside}

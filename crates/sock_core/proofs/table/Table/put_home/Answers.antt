@@ -1,10 +1,10 @@
 use Rattle.std.proofs.Common.{inr, refl, arith, ap, ◌∙◌, slice_set, None}
-use Rattle.sock_programs.specs.Scripts.{sizes_of}
-use Rattle.seat_points.specs.Points.{next_program}
+use Rattle.seat_programs.specs.Scripts.{sizes_of}
+use Rattle.seat_states.specs.Points.{next_program}
 use Rattle.client_seats.specs.Seats.{seat_data, around}
-use Rattle.seat_points.specs.Points.{after_home}
+use Rattle.seat_states.specs.Points.{after_home}
 use Rattle.sock_core.proofs.Stepping.{written, makes_along, goes, same_sizes, links_are}
-use Rattle.seat_points.proofs.StepFacts.{puts_home}
+use Rattle.seat_states.proofs.StepFacts.{puts_home}
 use Rattle.sock_core.specs.Machines.{table_sizes}
 use Rattle.sock_core.proofs.TableGoes.{follows_as}
 use Rattle.sock_core.proofs.table.Table.put_home.Goals as goal

@@ -1,9 +1,9 @@
 use Rattle.std.proofs.Common.{refl, arith, ap, ◌∙◌, inl, Some, List, Option, slice_set}
-use Rattle.sock_programs.specs.Calls as calls
-use Rattle.sock_programs.specs.Scripts.{sizes_of}
-use Rattle.seat_points.specs.declared.point.Step.TheVariants as firsts
-use Rattle.seat_points.specs.Points.{next_program, heading_by}
-use Rattle.seat_points.proofs.StepFacts.{goes_by_word}
+use Rattle.seat_programs.specs.Calls as calls
+use Rattle.seat_programs.specs.Scripts.{sizes_of}
+use Rattle.seat_states.specs.declared.point.Step.TheVariants as firsts
+use Rattle.seat_states.specs.Points.{next_program, heading_by}
+use Rattle.seat_states.proofs.StepFacts.{goes_by_word}
 use Rattle.client_seats.specs.Seats.{seat_data, around, bytes_of, parts_of, message_in}
 use Rattle.sock_core.specs.declared.letter.Letter.{Letter}
 use Rattle.sock_core.specs.Machines.{TableState, table_sizes}

@@ -1,6 +1,6 @@
 use Rattle.std.proofs.Common.{◌≡◌, refl, ap, ◌∙◌, sym, subst}
 use Rattle.corr_core.specs.declared.marks.Plan.{Plan as IdPlan}
-use Rattle.sock_programs.specs.Asides as asides
+use Rattle.seat_programs.specs.Asides as asides
 use Rattle.call_points.specs.declared.aside.Aside.TheVariants as variants
 use Rattle.call_slots.specs.Slots.{as_found}
 use Rattle.reader_points.specs.declared.point.ReadStep.{ReadStep}

@@ -5,7 +5,7 @@ use Rattle.sock_io.specs.Link.{end_of}
 use Rattle.reader_points.specs.declared.point.ReadStep.TheVariants as steps
 use Rattle.call_points.specs.declared.aside.Aside.TheVariants as variants
 use Rattle.reader_points.specs.Steps.{after_taking}
-use Rattle.sock_programs.specs.Beside.{at_last}
+use Rattle.seat_programs.specs.Beside.{at_last}
 use Rattle.reader_seats.specs.Readers.{around, reader_program}
 use Rattle.reader_seats.specs.GoesOn.{GoesOn, taking_of}
 use Rattle.sock_core.proofs.Stepping.{written}

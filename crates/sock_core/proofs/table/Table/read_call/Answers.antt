@@ -1,8 +1,8 @@
 use Rattle.std.proofs.Common.{refl, arith, ap, ◌∙◌, length, map, ℕ, List}
 use Rattle.sock_io.specs.Link.{end_of}
-use Rattle.sock_programs.specs.Cores.{word_of, found_at}
+use Rattle.seat_programs.specs.Cores.{word_of, found_at}
 use Rattle.call_points.specs.Steps.{after_word}
-use Rattle.seat_points.specs.Steps.{step_of}
+use Rattle.seat_states.specs.Steps.{step_of}
 use Rattle.reader_points.specs.declared.point.ReadStep.TheVariants as steps
 use Rattle.reader_seats.specs.Readers.{around, reader_program}
 use Rattle.sock_core.proofs.Stepping.{written, outs_in}

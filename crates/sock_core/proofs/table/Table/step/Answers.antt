@@ -1,9 +1,9 @@
 use Rattle.std.proofs.Common.{◌≢◌, ◌∙◌, refl, sym, subst, ⊎_elim}
-use Rattle.sock_programs.specs.Cores.{word_of, found_at}
+use Rattle.seat_programs.specs.Cores.{word_of, found_at}
 use Rattle.sock_io.specs.declared.link.Ready.TheVariants as asks
-use Rattle.seat_points.specs.declared.point.Step.{Step}
-use Rattle.seat_points.specs.declared.point.Step.TheVariants as firsts
-use Rattle.seat_points.specs.Steps.{step_of, step_as}
+use Rattle.seat_states.specs.declared.point.Step.{Step}
+use Rattle.seat_states.specs.declared.point.Step.TheVariants as firsts
+use Rattle.seat_states.specs.Steps.{step_of, step_as}
 use Rattle.client_seats.specs.Seats.{seat_data, around, seat_program}
 use Rattle.sock_core.specs.Machines.{table_sizes}
 use Rattle.sock_core.specs.Steps.{IsNext}

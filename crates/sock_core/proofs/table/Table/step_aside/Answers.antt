@@ -1,9 +1,9 @@
 use Rattle.std.proofs.Common.{◌≡◌, refl, ℕ, ap, subst}
-use Rattle.sock_programs.specs.Asides as asides
-use Rattle.sock_programs.specs.Ticks.{Unasked}
+use Rattle.seat_programs.specs.Asides as asides
+use Rattle.seat_programs.specs.Ticks.{Unasked}
 use Rattle.call_points.specs.declared.aside.Aside.TheVariants as steps
 use Rattle.call_points.specs.declared.aside.Aside as code
-use Rattle.seat_points.specs.declared.point.Step.TheVariants as firsts
+use Rattle.seat_states.specs.declared.point.Step.TheVariants as firsts
 use Rattle.client_seats.specs.Seats.{seat_data, around, seat_program, asked_of}
 use Rattle.sock_core.specs.Machines.{table_sizes}
 use Rattle.sock_core.specs.Steps.{IsNext, Fits, IsOnWord}

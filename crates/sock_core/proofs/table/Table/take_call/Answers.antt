@@ -1,13 +1,13 @@
 use Rattle.std.proofs.Common.{◌<◌, refl, arith, ap, ◌∙◌, subst, sym, inr}
 use Rattle.corr_core.specs.declared.marks.Plan.{Plan as IdPlan}
-use Rattle.sock_programs.specs.Asides as asides
-use Rattle.sock_programs.specs.Programs.{Program}
-use Rattle.sock_programs.specs.Scripts.{sizes_of}
+use Rattle.seat_programs.specs.Asides as asides
+use Rattle.seat_programs.specs.Programs.{Program}
+use Rattle.seat_programs.specs.Scripts.{sizes_of}
 use Rattle.call_points.specs.declared.aside.Aside.TheVariants as steps
 use Rattle.call_points.specs.Steps.{after_call}
 use Rattle.call_slots.specs.Slots.{as_found}
-use Rattle.seat_points.specs.declared.point.Step.TheVariants as firsts
-use Rattle.seat_points.specs.Points.{next_program}
+use Rattle.seat_states.specs.declared.point.Step.TheVariants as firsts
+use Rattle.seat_states.specs.Points.{next_program}
 use Rattle.client_seats.specs.Seats.{SeatData, seat_data, around}
 use Rattle.sock_core.specs.Machines.{TableState, table_sizes}
 use Rattle.sock_core.proofs.Stepping.{written, makes_along, goes, next_along, same_sizes}

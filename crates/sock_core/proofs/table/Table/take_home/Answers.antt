@@ -1,11 +1,11 @@
 use Rattle.std.proofs.Common.{inr, refl, arith, ap, ◌∙◌, slice_set, Some}
-use Rattle.sock_programs.specs.Scripts.{sizes_of}
-use Rattle.seat_points.specs.Points.{next_program}
+use Rattle.seat_programs.specs.Scripts.{sizes_of}
+use Rattle.seat_states.specs.Points.{next_program}
 use Rattle.client_seats.specs.Seats.{seat_data, around}
-use Rattle.seat_points.specs.Points.{after_link}
+use Rattle.seat_states.specs.Points.{after_link}
 use Rattle.client_seats.specs.Seats.{seat_program}
 use Rattle.sock_core.proofs.Stepping.{written, makes_along, goes, same_sizes, links_are}
-use Rattle.seat_points.proofs.StepFacts.{takes_link}
+use Rattle.seat_states.proofs.StepFacts.{takes_link}
 use Rattle.sock_core.specs.Machines.{table_sizes}
 use Rattle.sock_core.proofs.TableGoes.{follows_as}
 use Rattle.sock_core.proofs.table.Table.take_home.Goals as goal

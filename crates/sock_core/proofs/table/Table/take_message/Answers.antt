@@ -1,8 +1,8 @@
 use Rattle.std.proofs.Common.{refl, arith, ap, ◌∙◌, slice_set, None, inr, option_map}
-use Rattle.sock_programs.specs.Scripts.{sizes_of}
+use Rattle.seat_programs.specs.Scripts.{sizes_of}
 use Rattle.message_parts.specs.Parcels.{parcel_of, outgoing_of}
-use Rattle.seat_points.specs.Points.{next_program}
-use Rattle.seat_points.proofs.StepFacts.{takes_message}
+use Rattle.seat_states.specs.Points.{next_program}
+use Rattle.seat_states.proofs.StepFacts.{takes_message}
 use Rattle.client_seats.specs.Seats.{seat_data, around}
 use Rattle.sock_core.specs.Machines.{table_sizes}
 use Rattle.sock_core.proofs.Stepping.{written, makes_along, goes, message_is}

@@ -1,9 +1,9 @@
 use Rattle.std.proofs.Common.{◌<◌, refl, length, ap, ◌∙◌, arith}
 use Rattle.std.proofs.Math.ListN.{length-map}
 use Rattle.std.proofs.lemmas.List.{map-set}
-use Rattle.sock_programs.specs.Clients.{ending_of}
-use Rattle.sock_programs.specs.Cores.{next_step}
-use Rattle.sock_programs.specs.Scripts.{sizes_of}
+use Rattle.seat_programs.specs.Clients.{ending_of}
+use Rattle.seat_programs.specs.Cores.{next_step}
+use Rattle.seat_programs.specs.Scripts.{sizes_of}
 use Rattle.client_seats.specs.Seats.{seat_data, retries}
 use Rattle.sock_core.specs.Machines.{MachineState}
 use Rattle.sock_core.proofs.Places.{seat_there}

@@ -1,7 +1,7 @@
 use Rattle.std.proofs.Common.{arith, subst, sym, ap, None, IfSome, IfNone}
-use Rattle.seat_points.specs.declared.point.Point.{Point}
-use Rattle.seat_points.specs.Points.{point_program}
-use Rattle.seat_points.specs.Steps.{first_in}
+use Rattle.seat_states.specs.declared.point.Point.{Point}
+use Rattle.seat_states.specs.Points.{point_program}
+use Rattle.seat_states.specs.Steps.{first_in}
 use Rattle.client_seats.specs.Seats.{seat_data, around}
 use Rattle.sock_core.specs.Machines.{MachineState, table_sizes}
 use Rattle.sock_core.specs.Steps.{NextIs, HasNoStep, ReadyAt, StandsAt}

@@ -1,7 +1,7 @@
 use Rattle.std.proofs.Common.{◌<◌, refl, length, ap, ◌∙◌, arith, slice_set, ℕ}
 use Rattle.std.proofs.Math.ListN.{length-map}
 use Rattle.std.proofs.lemmas.List.{map-set}
-use Rattle.sock_programs.specs.Scripts.{sizes_of}
+use Rattle.seat_programs.specs.Scripts.{sizes_of}
 use Rattle.client_seats.specs.Seats.{seat_data}
 use Rattle.sock_core.specs.Machines.{MachineState}
 use Rattle.sock_core.proofs.Places.{view_of, seat_there}

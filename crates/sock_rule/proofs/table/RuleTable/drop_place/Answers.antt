@@ -2,7 +2,7 @@ use Rattle.std.proofs.Common.{ℕ, ◌<◌, ◌∷◌, arith, refl, ◌∙◌, s
 use Rattle.atomic_table.specs.Table.{rest}
 use Rattle.sock_model.specs.declared.view.View.{View}
 use Rattle.sock_model.specs.ChainRows.{with_right, dropped_right}
-use Rattle.sock_model.specs.Layout.{place_word}
+use Rattle.sock_model.specs.Layout.{place_index}
 use Rattle.sock_model.specs.SlotRows.{wrote}
 use Rattle.sock_rule.specs.declared.homes.SockHome.TheVariants.{Empty, Link}
 use Rattle.sock_rule.specs.Holding.{MayDropPlace}
@@ -28,24 +28,24 @@ exchange-back-requires g c = let same = ap (λ m. m.0) c.exchange-empty.ensures.
   c.store.ensures.0 ∙ (c.exchange-empty.ensures.0 ∙ c.requires.seat.0),
   (
     Link c.args.home,
-    laid_still c.args.seat.now.me c.exchange-empty.new.seat.me c.request-slot.result c.args.now.0 c.args.home c.request-slot.ensures c.requires.top c.exchange-empty.ensures.3 c.store.new.seat.me m.right m.now (place_word c.args.self.now.plan c.args.at) c.word-place.result
+    laid_still c.args.seat.now.me c.exchange-empty.new.seat.me c.request-slot.result c.args.now.0 c.args.home c.request-slot.ensures c.requires.top c.exchange-empty.ensures.3 c.store.new.seat.me m.right m.now (place_index c.args.self.now.plan c.args.at) c.word-place.result
         (c.store.ensures.2 m.right m.now (c.request-slot.result, Link c.args.home) (ap (λ v. v.rights) same ∙ m.one) m.stage top),
   ),
 )
 
 pub unreachable-requires-in_default-back : goal.unreachable-requires-in_default-back
-unreachable-requires-in_default-back g c = c.in_default-back.not-Link c.args.home (sym (comes_back c.store.new.seat.me.1 c.request-slot.result c.args.home c.exchange-back.result (rest c.store.new.seat.me.1) (laid_still c.args.seat.now.me c.exchange-empty.new.seat.me c.request-slot.result c.args.now.0 c.args.home c.request-slot.ensures c.requires.top c.exchange-empty.ensures.3 c.store.new.seat.me c.requires.may.2.right c.requires.may.2.now (place_word c.args.self.now.plan c.args.at) c.word-place.result
+unreachable-requires-in_default-back g c = c.in_default-back.not-Link c.args.home (sym (comes_back c.store.new.seat.me.1 c.request-slot.result c.args.home c.exchange-back.result (rest c.store.new.seat.me.1) (laid_still c.args.seat.now.me c.exchange-empty.new.seat.me c.request-slot.result c.args.now.0 c.args.home c.request-slot.ensures c.requires.top c.exchange-empty.ensures.3 c.store.new.seat.me c.requires.may.2.right c.requires.may.2.now (place_index c.args.self.now.plan c.args.at) c.word-place.result
     (c.store.ensures.2 c.requires.may.2.right c.requires.may.2.now (c.request-slot.result, Link c.args.home) (ap (λ v. v.rights) (ap (λ m. m.0) c.exchange-empty.ensures.3) ∙ c.requires.may.2.one) c.requires.may.2.stage (laid_top c.args.seat.now.me c.exchange-empty.new.seat.me c.request-slot.result c.args.now.0 c.args.home c.request-slot.ensures c.requires.top c.exchange-empty.ensures.3))) c.exchange-back.ensures.2))
 
 pub returns-clause-home : goal.returns-clause-home
-returns-clause-home g c = same_link c.store.new.seat.me.1 c.request-slot.result c.args.home c.exchange-back.result (rest c.store.new.seat.me.1) (laid_still c.args.seat.now.me c.exchange-empty.new.seat.me c.request-slot.result c.args.now.0 c.args.home c.request-slot.ensures c.requires.top c.exchange-empty.ensures.3 c.store.new.seat.me c.requires.may.2.right c.requires.may.2.now (place_word c.args.self.now.plan c.args.at) c.word-place.result
+returns-clause-home g c = same_link c.store.new.seat.me.1 c.request-slot.result c.args.home c.exchange-back.result (rest c.store.new.seat.me.1) (laid_still c.args.seat.now.me c.exchange-empty.new.seat.me c.request-slot.result c.args.now.0 c.args.home c.request-slot.ensures c.requires.top c.exchange-empty.ensures.3 c.store.new.seat.me c.requires.may.2.right c.requires.may.2.now (place_index c.args.self.now.plan c.args.at) c.word-place.result
     (c.store.ensures.2 c.requires.may.2.right c.requires.may.2.now (c.request-slot.result, Link c.args.home) (ap (λ v. v.rights) (ap (λ m. m.0) c.exchange-empty.ensures.3) ∙ c.requires.may.2.one) c.requires.may.2.stage (laid_top c.args.seat.now.me c.exchange-empty.new.seat.me c.request-slot.result c.args.now.0 c.args.home c.request-slot.ensures c.requires.top c.exchange-empty.ensures.3))) c.exchange-back.ensures.2 c.in-Link.home c.in-Link.is
 
 pub returns-clause-view : goal.returns-clause-view
 returns-clause-view g c = λ r n one stage. let same = ap (λ m. m.0) c.exchange-empty.ensures.3 in let top = laid_top c.args.seat.now.me c.exchange-empty.new.seat.me c.request-slot.result c.args.now.0 c.args.home c.request-slot.ensures c.requires.top c.exchange-empty.ensures.3 in
-    dropped_after c.args.seat.now.me c.exchange-empty.new.seat.me c.request-slot.result c.args.now.0 c.args.home c.request-slot.ensures c.requires.top c.exchange-empty.ensures.3 c.store.new.seat.me r n (place_word c.args.self.now.plan c.args.at) c.word-place.result
+    dropped_after c.args.seat.now.me c.exchange-empty.new.seat.me c.request-slot.result c.args.now.0 c.args.home c.request-slot.ensures c.requires.top c.exchange-empty.ensures.3 c.store.new.seat.me r n (place_index c.args.self.now.plan c.args.at) c.word-place.result
     (c.store.ensures.2 r n (c.request-slot.result, Link c.args.home) (ap (λ v. v.rights) same ∙ one) stage top) c.exchange-back.new.seat.me c.exchange-back.ensures.3
-    ∙ ap (λ (x : ℕ). (wrote (place_word c.args.self.now.plan c.args.at) x (with_right c.args.seat.now.me.0 (dropped_right r n c.args.home.took.list)), c.args.seat.now.me.1)) c.word-place.ensures
+    ∙ ap (λ (x : ℕ). (wrote (place_index c.args.self.now.plan c.args.at) x (with_right c.args.seat.now.me.0 (dropped_right r n c.args.home.took.list)), c.args.seat.now.me.1)) c.word-place.ensures
 
 pub returns-clause-seat : goal.returns-clause-seat
 returns-clause-seat g c = let m = c.requires.may.2 in still_seat _ _ c.args.seat.now c.exchange-back.new.seat _ c.requires.seat (c.exchange-back.ensures.0 ∙ (c.store.ensures.0 ∙ c.exchange-empty.ensures.0)) (returns-clause-view g c m.right m.now m.one m.stage) refl refl

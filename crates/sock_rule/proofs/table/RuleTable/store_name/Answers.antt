@@ -1,5 +1,5 @@
 use Rattle.std.proofs.Common.{ℕ, ◌+◌, arith, refl, ap, subst}
-use Rattle.sock_model.specs.Layout.{name_word}
+use Rattle.sock_model.specs.Layout.{name_index}
 use Rattle.sock_rule.specs.Rows.{PutAt}
 use Rattle.sock_rule.specs.Shows.{shows, rose}
 use Rattle.sock_rule.proofs.Naming.{stored_id, stores_name_on}
@@ -14,7 +14,7 @@ store-requires g c = let a = c.requires.seat in let e = c.word-word.ensures in l
 )
 
 pub returns-clause-view : goal.returns-clause-view
-returns-clause-view g c = subst (λ (n : ℕ). PutAt (name_word c.args.self.now.plan c.args.name) n c.args.seat.now.me c.store.new.seat.me) (ap (λ (n : ℕ). n + 1) c.word-word.ensures) c.store.ensures.2
+returns-clause-view g c = subst (λ (n : ℕ). PutAt (name_index c.args.self.now.plan c.args.name) n c.args.seat.now.me c.store.new.seat.me) (ap (λ (n : ℕ). n + 1) c.word-word.ensures) c.store.ensures.2
 
 pub returns-clause-seat : goal.returns-clause-seat
 returns-clause-seat g c = still_seat _ _ c.args.seat.now c.store.new.seat _ c.requires.seat c.store.ensures.0 c.store.ensures.2.view refl refl

@@ -1,10 +1,10 @@
 use Rattle.std.proofs.Common.{ap}
-use Rattle.sock_model.specs.Layout.{name_word}
+use Rattle.sock_model.specs.Layout.{name_index}
 use Rattle.sock_table.proofs.Naming.{put_between, put_same}
 use Rattle.sock_table.proofs.table.SockTable.publish.Goals as goal
 
 pub returns-clause-between : goal.returns-clause-between
-returns-clause-between g c = put_between c.args.self.now.rule.plan (name_word c.args.self.now.rule.plan c.args.name) _ _ c.args.seat.now.me.0 c.store_name.new.seat.me.0 (ap (λ m. m.0) c.store_name.ensures.view.view)
+returns-clause-between g c = put_between c.args.self.now.rule.plan (name_index c.args.self.now.rule.plan c.args.name) _ _ c.args.seat.now.me.0 c.store_name.new.seat.me.0 (ap (λ m. m.0) c.store_name.ensures.view.view)
 
 pub returns-clause-same : goal.returns-clause-same
-returns-clause-same g c = put_same c.args.self.now.rule.plan (name_word c.args.self.now.rule.plan c.args.name) _ _ c.args.seat.now.me.0 c.store_name.new.seat.me.0 (ap (λ m. m.0) c.store_name.ensures.view.view)
+returns-clause-same g c = put_same c.args.self.now.rule.plan (name_index c.args.self.now.rule.plan c.args.name) _ _ c.args.seat.now.me.0 c.store_name.new.seat.me.0 (ap (λ m. m.0) c.store_name.ensures.view.view)

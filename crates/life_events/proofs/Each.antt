@@ -1,0 +1,127 @@
+-- Each step of a seat, and so each tick of a machine, is one event of the plain model, or none.
+use Rattle.std.proofs.Common.{◌≡◌, ℕ, ◌-◌, List, [], ◌∷◌, set, refl, ap, true, false, eqb, eqb-true, nat_lt}
+use mathlib.Core.Option.{Option, some, none}
+use lib.ListN.{get_elem?}
+use Rattle.atomic_table.specs.Table.{State}
+use Rattle.sock_words.specs.declared.plain.Plan.{Plan}
+use Rattle.sock_words.specs.Words.{socket_id_version, socket_id_slot, vref_version}
+use Rattle.sock_model.specs.declared.chain.Right.{Right}
+use Rattle.sock_model.specs.declared.home.Home.{Home}
+use Rattle.sock_model.specs.declared.view.View.{View}
+use Rattle.sock_model.specs.declared.view.Hand.{Hand}
+use Rattle.sock_model.specs.Weights.{total, only}
+use Rattle.sock_model.specs.Layout.{name_index, open_index}
+use Rattle.sock_model.specs.SlotRows.{met, wrote}
+use Rattle.sock_model.specs.ChainRows.{with_hand, without_hand, spent_hand, taken_right}
+use Rattle.sock_model.specs.Messages.{Letter}
+use Rattle.sock_model.specs.Reads.{message, link_home}
+use Rattle.sock_model.specs.Lawful.{Lawful}
+use Rattle.sock_model.specs.Plain.{Event, Nothing, Becomes, Leads, plain}
+use Rattle.seat_programs.specs.Calls.{Call, ClaimSlot, CreateLife, AddRef, SubRef, SetOdd, Recycle, FreeSlot, StoreLink, LoadLink, ResetHead, ClearCode, StoreCode, StoreName, LoadName, StoreOpen, LoadOpen, TakeLink, FinishLink, PutLink}
+use Rattle.seat_programs.specs.Programs.{Program, Do, TakeMessage, TakeHome, PutHome, PutBytes, Write, Round}
+use Rattle.seat_programs.specs.Rounds.{round}
+use Rattle.seat_programs.specs.Cores.{Core, SeatState, word_of, found_at}
+use Rattle.seat_programs.specs.Sends.{block}
+use Rattle.seat_programs.specs.Ticks.{Answer, Unasked, OfPut, OfReady, OfTake, Moment, AreAnswered, ticked}
+use Rattle.sock_runs.specs.Rows.{row, hand_at, is_id, found_id, took_message, link_away, link_home_again, took_bytes}
+use Rattle.sock_runs.specs.May.{May}
+use Rattle.sock_runs.specs.GoesOn.{GoesOn}
+use Rattle.sock_runs.specs.Sound.{Sound, state, first_step, views_with_message, views_with_link, views_with_put, views_with, views_of, views_after, views_along, AreFitting}
+use Rattle.sock_steps.proofs.Quiet.{either_way}
+use Rattle.life_events.specs.Events.{event_of, next_event, event_at, events_of}
+use Rattle.sock_model.specs.declared.marks.Mark.TheVariants as mark
+use Rattle.sock_model.specs.Marks.{at}
+use Rattle.sock_runs.proofs.Leaves.{sending_marks}
+use Rattle.sock_runs.proofs.Rounds.{begins_round}
+use Rattle.sock_runs.proofs.Passes.{goes_round}
+use Rattle.sock_runs.proofs.LinkTicks.{RetriesGo}
+use Rattle.sock_runs.proofs.Ticks.{sound_ticks}
+use Rattle.sock_runs.proofs.Cases.{with_rights, right_rights, put_rights}
+use Rattle.life_events.proofs.Grown.{Same, same_marks, silent_more}
+use Rattle.life_events.proofs.Steps.{nothing, marks_event, claim_event, birth_event, add_event, sub_event, fail_event, recycle_event, free_event, stage_event, code_event, met_event, met_link_event}
+
+-- an id that was found, or none
+id_found : {S : Type 0} (shows : S → Home) (p : Plan) (s : State S View) → Lawful shows p s → (id : ℕ) (v : View) → get_elem? s.views id ≡ some v → (word : ℕ)
+    → Becomes (plain s.views) Nothing (plain (set s.views id (found_id word v)))
+id_found shows p s o id v here word = let slot : ℕ = socket_id_slot (word - 1) in let version : ℕ = socket_id_version (word - 1) in
+    either_way (is_id word) (met slot version v) v (λ w. Becomes (plain s.views) Nothing (plain (set s.views id w))) (met_event shows p s o id v here slot version) (marks_event shows p s o id v here v refl)
+
+-- each step is its event
+pub each_step : {S : Type 0} (shows : S → Home) (p : Plan) (s : State S View) → Lawful shows p s → (id : ℕ) (v : View) → get_elem? s.views id ≡ some v → (call : Call) (hand : Hand) → May p v call
+    → Becomes (plain s.views) (event_of id call (found_at s.words (word_of p call)) v) (plain (set s.views id (row p call (found_at s.words (word_of p call)) hand v)))
+each_step shows p s o id v here (ClaimSlot i) hand may = claim_event shows p s o id v here i (found_at s.words (word_of p (ClaimSlot i)))
+each_step shows p s o id v here (CreateLife i k) hand may = birth_event shows p s o id v here i may.0 k may.1
+each_step shows p s o id v here (AddRef x) hand may = let knows = may.0 in
+    add_event shows p s o id v here (socket_id_slot x) knows.0 (socket_id_version x) (eqb (vref_version (found_at s.words (word_of p (AddRef x)))) (socket_id_version x)) (eqb-true (vref_version (found_at s.words (word_of p (AddRef x)))) (socket_id_version x)) knows.1
+each_step shows p s o id v here (SubRef i) hand may = sub_event shows p s o id v here i may.0 may.1
+each_step shows p s o id v here (SetOdd i) hand may = let held = may.1 in fail_event shows p s o id v here i may.0 held.0 held.1
+each_step shows p s o id v here (Recycle i from) hand may = recycle_event shows p s o id v here i may.0 from may.1 may.2 may.3
+each_step shows p s o id v here (FreeSlot i) hand may = free_event shows p s o id v here i
+each_step shows p s o id v here (StoreLink i k) hand may = let w : View = row p (StoreLink i k) (found_at s.words (word_of p (StoreLink i k))) hand v in stage_event shows p s o id v here i 0 0 1 k w.passes
+each_step shows p s o id v here (LoadLink i w) hand may = met_link_event shows p s o id v here i (w - 2) (found_at s.words (word_of p (LoadLink i w)))
+each_step shows p s o id v here (ResetHead i k) hand may = stage_event shows p s o id v here i 1 k 2 k v.passes
+each_step shows p s o id v here (ClearCode i k) hand may = stage_event shows p s o id v here i 2 k 3 k v.passes
+each_step shows p s o id v here (StoreCode i h c) hand may = code_event shows p s o id v here i h c
+each_step shows p s o id v here (StoreName n w) hand may = marks_event shows p s o id v here (wrote (name_index p n) w v) refl
+each_step shows p s o id v here (LoadName n) hand may = id_found shows p s o id v here (found_at s.words (word_of p (LoadName n)))
+each_step shows p s o id v here (StoreOpen n w) hand may = marks_event shows p s o id v here (wrote (open_index p n) w v) refl
+each_step shows p s o id v here (LoadOpen n) hand may = id_found shows p s o id v here (found_at s.words (word_of p (LoadOpen n)))
+each_step shows p s o id v here (TakeLink k) hand may = either_way (nat_lt 0 (total (only hand.link) v.passes)) (spent_hand v hand) (with_hand v hand) (λ w. Becomes (plain s.views) Nothing (plain (set s.views id w)))
+    (marks_event shows p s o id v here (spent_hand v hand) refl) (marks_event shows p s o id v here (with_hand v hand) refl)
+each_step shows p s o id v here (FinishLink k) hand may = marks_event shows p s o id v here v refl
+each_step shows p s o id v here (PutLink k) hand may = marks_event shows p s o id v here (without_hand v k) refl
+each_step shows p s o id v here call hand may = let found : ℕ = found_at s.words (word_of p call) in nothing shows p s o id v here (row p call found hand v)
+    (sending_marks p v found hand (Same v.marks) (same_marks v.marks) (λ i w. silent_more v.marks v.marks (same_marks v.marks) i (mark.Saw w) refl) (λ i h k. silent_more v.marks v.marks (same_marks v.marks) i (mark.Met h k) refl)
+    (λ i h c w. silent_more v.marks (at i (mark.Saw w) ∷ v.marks) (silent_more v.marks v.marks (same_marks v.marks) i (mark.Saw w) refl) i (mark.Told h c) refl) call refl)
+
+module _ (p : Plan) (c : Core) (views : List View) (sound : Sound p c views) (m : Moment) where
+  -- a move or a put of whoever writes a link leaves all but its right
+  moved : (v w : View) → get_elem? views m.seat ≡ some v → (rights : List Right) × (w ≡ with_rights v rights) → Becomes (plain views) Nothing (plain (set views m.seat w))
+  moved v w here x = marks_event (λ (home : Home). home) p (state c views) sound.lawful m.seat v here w (ap (λ (u : View). u.marks) x.1)
+
+  of_letter : (v : View) → get_elem? views m.seat ≡ some v → (x : Option Letter) → Becomes (plain views) Nothing (plain (views_with_message p m.seat c views v x))
+  of_letter v here none = (tt, refl)
+  of_letter v here (some letter) = moved v (took_message letter.0 letter.1 v) here (right_rights v v.rights (λ r. taken_right r letter.0 letter.1))
+
+  of_home : (v : View) → get_elem? views m.seat ≡ some v → (x : Option (List ℕ × ℕ)) → Becomes (plain views) Nothing (plain (views_with_link p m.seat c views v x))
+  of_home v here none = (tt, refl)
+  of_home v here (some home) = moved v (link_away v) here (right_rights v v.rights (λ r. record r { at_home = false }))
+
+  of_put : (v : View) → get_elem? views m.seat ≡ some v → (answer : Answer) → Becomes (plain views) Nothing (plain (views_with_put p m.seat c views v answer))
+  of_put v here (OfPut answer) = moved v (took_bytes answer v) here (put_rights v answer)
+  of_put v here Unasked = (tt, refl)
+  of_put v here (OfReady answer) = (tt, refl)
+  of_put v here (OfTake answer) = (tt, refl)
+
+  of_first : (program : Program) (v : View) → get_elem? views m.seat ≡ some v → GoesOn p v program → Becomes (plain views) (next_event p m.seat program c.words v) (plain (views_with p m.seat c views v m.answer program))
+  of_first (Do call next) v here goes = each_step (λ (home : Home). home) p (state c views) sound.lawful m.seat v here call (hand_at p c.words c.homes call) goes.0
+  of_first (TakeMessage q next) v here goes = of_letter v here (message (λ (home : Home). home) c.homes q)
+  of_first (TakeHome k next) v here goes = of_home v here (link_home (λ (home : Home). home) p c.homes k)
+  of_first (PutHome k n after) v here goes = moved v (link_home_again v) here (right_rights v v.rights (λ r. record r { at_home = true }))
+  of_first (PutBytes k asked bytes next) v here goes = of_put v here m.answer
+  of_first _ v here goes = (tt, refl)
+
+  of_program : (program : Program) (v : View) → get_elem? views m.seat ≡ some v → GoesOn p v program → Becomes (plain views) (next_event p m.seat (first_step program) c.words v) (plain (views_of p m.seat c views v m.answer program))
+  of_program (Write w after) v here goes = of_first (block w after) v here (begins_round p v w after goes)
+  of_program (Round head next) v here goes = of_first (round head next) v here (goes_round p v head next goes)
+  of_program program v here goes = of_first program v here goes
+
+  of_view : (seat : SeatState) → get_elem? c.seats m.seat ≡ some seat → (o : Option View) → get_elem? views m.seat ≡ o
+      → Becomes (plain views) (elim o as (λ o. Event) [ none ↦ Nothing | some v ↦ next_event p m.seat (first_step seat.program) c.words v ]) (plain (elim o as (λ o. List View) [ none ↦ views | some v ↦ views_of p m.seat c views v m.answer seat.program ]))
+  of_view seat at_seat none here = (tt, refl)
+  of_view seat at_seat (some v) here = of_program seat.program v here (sound.seats m.seat seat v at_seat here).goes_on
+
+  of_seat : (o : Option SeatState) → get_elem? c.seats m.seat ≡ o → Becomes (plain views)
+      (elim o as (λ o. Event) [ none ↦ Nothing | some seat ↦ elim (get_elem? views m.seat) as (λ o. Event) [ none ↦ Nothing | some v ↦ next_event p m.seat (first_step seat.program) c.words v ] ])
+      (plain (elim o as (λ o. List View) [ none ↦ views | some seat ↦ elim (get_elem? views m.seat) as (λ o. List View) [ none ↦ views | some v ↦ views_of p m.seat c views v m.answer seat.program ] ]))
+  of_seat none at_seat = (tt, refl)
+  of_seat (some seat) at_seat = of_view seat at_seat (get_elem? views m.seat) refl
+
+  -- each tick is one event, or none
+  pub each_tick : Becomes (plain views) (event_at p c views m) (plain (views_after p c views m))
+  each_tick = of_seat (get_elem? c.seats m.seat) refl
+
+-- and each run of ticks is their events one after another
+pub each_run : (p : Plan) → RetriesGo p → (moments : List Moment) (c : Core) (views : List View) → Sound p c views → AreAnswered p c moments → AreFitting p c moments → Leads (plain views) (events_of p c views moments) (plain (views_along p c views moments))
+each_run p retries_go [] c views sound answered fitting = refl
+each_run p retries_go (m ∷ moments) c views sound answered fitting = (plain (views_after p c views m), each_tick p c views sound m, each_run p retries_go moments (ticked p c m) (views_after p c views m) (sound_ticks p retries_go c views m sound answered.0 fitting.0) answered.1 fitting.1)

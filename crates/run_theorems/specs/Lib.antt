@@ -1,0 +1,10 @@
+pub mod Answers
+pub mod Heard
+pub mod Offered
+pub mod OfferedRuns
+pub mod Sizes
+pub mod Unserved
+pub mod Over
+pub use Rattle.owed_calls.specs.programs_allowed
+pub use Rattle.owed_calls.specs.joint_runs
+pub use Rattle.owed_calls

@@ -1,5 +1,0 @@
-use Rattle.seat_points.proofs.Behind.{recycles}
-use Rattle.seat_points.proofs.point.ReleaseStep.behind.Goals as goal
-
-pub returns-then-found-word-clause-program : goal.returns-then-found-word-clause-program
-returns-then-found-word-clause-program c i k = rw (c.in-Recycle.is, c.version.ensures) (recycles i k c.in-Recycle.from c.args.found cc)

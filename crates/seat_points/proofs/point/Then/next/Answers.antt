@@ -1,5 +1,0 @@
-use Rattle.std.proofs.Common.{refl}
-use Rattle.seat_points.proofs.point.Then.next.Goals as goal
-
-pub returns-in-Unreached-clause-program : goal.returns-in-Unreached-clause-program
-returns-in-Unreached-clause-program c a = rw (c.posting.ensures, c.error.ensures, c.in-Unreached.is) refl

@@ -1,0 +1,105 @@
+-- The steps that seats make: each is one atomic step on a word, one move of a link, or one call on the link in hand.
+use Rattle.std.specs.Prelude.{ℕ, List}
+use Rattle.sock_model.specs.sock_words.specs.declared.kind.Kind.{Kind}
+use Rattle.sock_model.specs.sock_words.specs.declared.kind.Kind.TheVariants.{A1, A2, A3, A4, A5, A6, A7, A8, C1, C2, C3, C4, C5, C6, C7, C8, M1, P1, S1, S2, S3, S4, S5, S6, S7, L1, L2, W3}
+use Rattle.sock_model.specs.declared.chain.Heading.{Heading}
+
+-- a step: the number of the slot, name, operation or link of which it is, and what it is to store; behind these, where the
+-- word alone doesn't tell it, the link or the life for which it is made
+pub data Call : Type 0 where
+  -- swap of the slot's tag with 1
+  ClaimSlot : ℕ → Call
+  -- one more reference on the slot's word, which makes the life: slot, link
+  CreateLife : ℕ → ℕ → Call
+  -- one more reference, for the life of this id
+  AddRef : ℕ → Call
+  -- one reference less
+  SubRef : ℕ → Call
+  -- the version is made odd
+  SetOdd : ℕ → Call
+  -- the slot's word becomes the next version without references, where it is this word
+  Recycle : ℕ → ℕ → Call
+  -- the slot's tag becomes 0
+  FreeSlot : ℕ → Call
+  -- the slot's link is stored: slot, link
+  StoreLink : ℕ → ℕ → Call
+  -- the link of a slot that was recycled is loaded: slot, the version to which it was recycled
+  LoadLink : ℕ → ℕ → Call
+  -- the slot's head becomes idle, without any ticket: slot, link
+  ResetHead : ℕ → ℕ → Call
+  -- the slot's error code becomes 0: slot, link
+  ClearCode : ℕ → ℕ → Call
+  -- the slot's error code is stored: slot, the version of the life that failed, code
+  StoreCode : ℕ → ℕ → ℕ → Call
+  -- the word of a name, and of an `open`
+  StoreName : ℕ → ℕ → Call
+  LoadName : ℕ → Call
+  StoreOpen : ℕ → ℕ → Call
+  LoadOpen : ℕ → Call
+  -- a link out of its home, its writing half ended, and into its home
+  TakeLink : ℕ → Call
+  FinishLink : ℕ → Call
+  PutLink : ℕ → Call
+  -- the slot's word is loaded, for the life of this id
+  LookWord : ℕ → Call
+  -- the link of a life that the seat holds is loaded, and the error code of one: slot, the version of the life
+  FindLink : ℕ → ℕ → Call
+  LoadCode : ℕ → ℕ → Call
+  -- bit 0 of a request's word is set: the id of the life for whose link the request is to be used, request
+  ClaimRequest : ℕ → ℕ → Call
+  -- a message into its home: request, heading, bytes
+  PutMessage : ℕ → Heading → List ℕ → Call
+  -- a request's next word is marked as not connected
+  Unconnect : ℕ → Call
+  -- the slot's head is exchanged with a ticket: slot, ticket
+  SwapHead : ℕ → ℕ → Call
+  -- a request's next word becomes the ticket that the exchange found: request, ticket
+  Connect : ℕ → ℕ → Call
+  -- the slot's head becomes idle behind this ticket, where it is this ticket: slot, ticket
+  EmptyHead : ℕ → ℕ → Call
+  -- a request's next word is loaded
+  ReadNext : ℕ → Call
+  -- on a walk a request's next word becomes the ticket of its successor, or 0: request, ticket
+  ReverseNext : ℕ → ℕ → Call
+  -- a request's word becomes the generation after this one, not taken: request, generation
+  FreeRequest : ℕ → ℕ → Call
+  -- the place word of a message that the link took whole: its number, link, position
+  StorePlace : ℕ → ℕ → ℕ → Call
+  -- and of one that was dropped: its number, link, position
+  DropPlace : ℕ → ℕ → ℕ → Call
+
+-- the kind of a step, as the schedule of a script names it
+abbrev pub kind_of : Call → Kind
+kind_of (ClaimSlot i) = A1
+kind_of (CreateLife i k) = A2
+kind_of (AddRef id) = A3
+kind_of (SubRef i) = A4
+kind_of (SetOdd i) = A5
+kind_of (Recycle i from) = A6
+kind_of (FreeSlot i) = A7
+kind_of (StoreLink i k) = S1
+kind_of (LoadLink i w) = S2
+kind_of (ResetHead i k) = S3
+kind_of (ClearCode i k) = S4
+kind_of (StoreCode i h c) = S4
+kind_of (StoreName n w) = S6
+kind_of (LoadName n) = S7
+kind_of (StoreOpen o w) = S6
+kind_of (LoadOpen o) = S7
+kind_of (TakeLink k) = L1
+kind_of (FinishLink k) = W3
+kind_of (PutLink k) = L2
+kind_of (LookWord id) = A8
+kind_of (FindLink i h) = S2
+kind_of (LoadCode i h) = S5
+kind_of (ClaimRequest id q) = C1
+kind_of (PutMessage q heading bytes) = M1
+kind_of (Unconnect q) = C7
+kind_of (SwapHead i own) = C2
+kind_of (Connect q before) = C3
+kind_of (EmptyHead i last) = C4
+kind_of (ReadNext q) = C5
+kind_of (ReverseNext q value) = C6
+kind_of (FreeRequest q g) = C8
+kind_of (StorePlace l k n) = P1
+kind_of (DropPlace l k n) = P1

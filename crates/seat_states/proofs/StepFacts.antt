@@ -1,0 +1,290 @@
+-- What the next step of a point tells of the point.
+use Rattle.std.proofs.Common.{◌≡◌, refl, ℕ, ◌+◌, ◌<◌, ◌≤◌, Bool, true, false, if◌then◌else◌, List, Option, Some, None, subst}
+use Rattle.sock_words.specs.declared.outcome.Outcome.{Outcome}
+use Rattle.seat_programs.specs.declared.task.Sizes.{Sizes}
+use Rattle.seat_programs.specs.Calls as calls
+use Rattle.seat_programs.specs.Asides as asides
+use Rattle.seat_programs.specs.Cores.{said, next_step}
+use Rattle.sock_runs.specs.Sound.{AllowsWord}
+use Rattle.seat_states.specs.declared.point.OpenStep.TheVariants as opens
+use Rattle.seat_states.specs.declared.point.SeekStep.TheVariants as seeks
+use Rattle.seat_states.specs.declared.point.Aim.TheVariants as aims
+use Rattle.seat_states.specs.declared.point.FailStep.TheVariants as fails
+use Rattle.seat_states.specs.declared.point.ReleaseStep.TheVariants as releases
+use Rattle.seat_states.specs.declared.point.SendStep.TheVariants as sends
+use Rattle.seat_states.specs.declared.point.WriteStep.TheVariants as writes
+use Rattle.sock_words.specs.declared.id_word.IdWord.{IdWord}
+use Rattle.seat_programs.specs.Programs.{Program, Aside, Round}
+use Rattle.corr_core.specs.Word.{parts, code_of}
+use Rattle.id_points.specs.Ids.{id_of}
+use Rattle.seat_programs.specs.Asides.{PutCall, id_slot}
+use Rattle.seat_programs.specs.Heads.{HasEnded, Unlocks}
+use Rattle.seat_programs.specs.Posts.{ends_call, end_id, unlocked, decided}
+use Rattle.call_points.specs.declared.deciding.OnCall.{OnCall}
+use Rattle.call_points.specs.declared.deciding.DecideStep.TheVariants as decides
+use Rattle.call_points.specs.declared.posting.PostStep.TheVariants as posts
+use Rattle.call_points.specs.declared.locking.LockStep.TheVariants as locks
+use Rattle.seat_states.specs.declared.point.Sending.{Sending}
+use Rattle.seat_states.specs.declared.point.Author.{Author}
+use Rattle.seat_states.specs.declared.point.Author.TheVariants as authors
+use Rattle.seat_states.specs.declared.point.After.{After}
+use Rattle.seat_states.specs.declared.point.CallStep.TheVariants as begins
+use Rattle.seat_states.specs.declared.point.AttemptStep.TheVariants as attempts
+use Rattle.seat_states.specs.declared.point.RetryStep.TheVariants as retries
+use Rattle.seat_states.specs.declared.point.JoinStep.TheVariants as joins
+use Rattle.seat_states.specs.declared.point.Point.{Point}
+use Rattle.seat_states.specs.declared.point.Point.TheVariants as points
+use Rattle.seat_states.specs.Points.{Around, point_program, look_program, after_program, link_at, link_left, MayFind, IsWithin, GoesByWord, TakesCall, TakesMessage, TakesLink, PutsHome, PutsPiece, Asks}
+use Rattle.seat_states.specs.Steps.{First, OfCall, OfAside, OfMessage, OfLink, OfHome, OfPut, OfReady, first_of, first_in}
+
+-- the link in hand without a right before and behind a step
+abbrev pub HandOver : calls.Call → Option ℕ → Option ℕ → Type 0
+HandOver (calls.TakeLink k) before behind = (before ≡ None) × (behind ≡ Some k)
+HandOver (calls.FinishLink k) before behind = (before ≡ Some k) × (behind ≡ Some k)
+HandOver (calls.PutLink k) before behind = (before ≡ Some k) × (behind ≡ None)
+HandOver other before behind = (before ≡ None) × (behind ≡ None)
+
+-- a slot or request that is tried is one of the table's, and a place word has room for the place
+abbrev pub FitsSizes : Sizes → calls.Call → Type 0
+FitsSizes sizes (calls.ClaimSlot i) = i < sizes.slots
+FitsSizes sizes (calls.ClaimRequest id q) = q < sizes.requests
+FitsSizes sizes (calls.StorePlace l k n) = n < 4294967295
+FitsSizes sizes (calls.DropPlace l k n) = n < 4294967295
+FitsSizes sizes other = Unit {0}
+
+abbrev HasNone : Point → Type 0
+HasNone p = (link_at p ≡ None) × (link_left p ≡ None)
+
+abbrev AsideFacts : asides.Step → Point → Type 0
+AsideFacts (asides.TakeCall i) p = TakesCall p × HasNone p
+AsideFacts other p = GoesByWord p × HasNone p
+
+abbrev Facts : Option First → Point → Type 0
+Facts None p = Unit {0}
+Facts (Some (OfCall call)) p = GoesByWord p × HandOver call (link_at p) (link_left p) × ((found : ℕ) → AllowsWord call found → MayFind p found)
+    × ((sizes : Sizes) → sizes.requests ≤ 4096 → FitsSizes sizes call → IsWithin sizes p)
+Facts (Some (OfAside step)) p = AsideFacts step p
+Facts (Some (OfMessage q)) p = TakesMessage p × HasNone p
+Facts (Some (OfLink k)) p = TakesLink p × HasNone p
+Facts (Some (OfHome k n)) p = PutsHome p × HasNone p
+Facts (Some (OfPut k asked bytes)) p = PutsPiece p × HasNone p
+Facts (Some (OfReady k)) p = Asks p × HasNone p
+
+-- the look of a `send` and that of an attempt
+look_facts : (a : Around) (s : Sending) (author : Author) → Facts (first_in (look_program a author s.id.0)) (points.Send s sends.Look)
+look_facts a s (authors.Send o) = (tt, (refl, refl), (λ found h. tt), (λ sizes few fits. (few, tt)))
+look_facts a s (authors.Attempt t) = (tt, (refl, refl), (λ found h. tt), (λ sizes few fits. (few, tt)))
+
+-- a call that is decided on ends, or goes home again
+judge_facts : (c : OnCall) (after : After) (w : IdWord) (ends : Bool) (x y : Program) → Facts (first_of x) (points.Decide c after (decides.Judge w)) → Facts (first_of y) (points.Decide c after (decides.Judge w))
+    → Facts (first_of (if ends then x else y)) (points.Decide c after (decides.Judge w))
+judge_facts c after w true x y f g = f
+judge_facts c after w false x y f g = g
+
+facts : (a : Around) (p : Point) → Facts (first_in (point_program a p)) p
+facts a points.Rest = tt
+facts a (points.Open g (opens.Claim i)) = (tt, (refl, refl), (λ found h. tt), (λ sizes few fits. fits))
+facts a (points.Open g (opens.StoreLink i)) = (tt, (refl, refl), (λ found h. tt), (λ sizes few fits. tt))
+facts a (points.Open g (opens.ResetHead i)) = (tt, (refl, refl), (λ found h. tt), (λ sizes few fits. tt))
+facts a (points.Open g (opens.ClearCode i)) = (tt, (refl, refl), (λ found h. tt), (λ sizes few fits. tt))
+facts a (points.Open g (opens.CreateLife i)) = (tt, (refl, refl), (λ found h. tt), (λ sizes few fits. tt))
+facts a (points.Open g (opens.StoreOpen i v)) = (tt, (refl, refl), (λ found h. tt), (λ sizes few fits. tt))
+facts a (points.Open g (opens.StoreName i v)) = (tt, (refl, refl), (λ found h. tt), (λ sizes few fits. tt))
+facts a (points.Open g opens.TakeLink) = (tt, (refl, refl), (λ found h. tt), (λ sizes few fits. tt))
+facts a (points.Open g opens.FinishLink) = (tt, (refl, refl), (λ found h. tt), (λ sizes few fits. tt))
+facts a (points.Open g opens.PutLink) = (tt, (refl, refl), (λ found h. tt), (λ sizes few fits. tt))
+facts a (points.Open g opens.StoreNone) = (tt, (refl, refl), (λ found h. tt), (λ sizes few fits. tt))
+facts a (points.Seek (aims.Hold o n) seeks.Load) = (tt, (refl, refl), (λ found h. tt), (λ sizes few fits. tt))
+facts a (points.Seek (aims.Send o n) seeks.Load) = (tt, (refl, refl), (λ found h. tt), (λ sizes few fits. tt))
+facts a (points.Seek (aims.Fail o n code) seeks.Load) = (tt, (refl, refl), (λ found h. tt), (λ sizes few fits. tt))
+facts a (points.Seek (aims.End o) seeks.Load) = (tt, (refl, refl), (λ found h. tt), (λ sizes few fits. tt))
+facts a (points.Seek aim (seeks.AddRef id)) = (tt, (refl, refl), (λ found h. tt), (λ sizes few fits. tt))
+facts a (points.Fail f fails.SetOdd) = (tt, (refl, refl), (λ found h. tt), (λ sizes few fits. tt))
+facts a (points.Fail f (fails.StoreCode w)) = (tt, (refl, refl), (λ found h. tt), (λ sizes few fits. tt))
+facts a (points.Fail f (fails.ReleaseFirst w)) = (tt, (refl, refl), (λ found h. tt), (λ sizes few fits. tt))
+facts a (points.Release i t releases.SubRef) = (tt, (refl, refl), (λ found h. tt), (λ sizes few fits. tt))
+facts a (points.Release i t (releases.Recycle w)) = (tt, (refl, refl), (λ found h. h.2), (λ sizes few fits. tt))
+facts a (points.Release i t (releases.LoadLink w)) = (tt, (refl, refl), (λ found h. h), (λ sizes few fits. tt))
+facts a (points.Release i t (releases.TakeLink w k)) = (tt, (refl, refl), (λ found h. tt), (λ sizes few fits. tt))
+facts a (points.Release i t (releases.FinishLink w k)) = (tt, (refl, refl), (λ found h. tt), (λ sizes few fits. tt))
+facts a (points.Release i t (releases.PutLink w k)) = (tt, (refl, refl), (λ found h. tt), (λ sizes few fits. tt))
+facts a (points.Release i t releases.FreeSlot) = (tt, (refl, refl), (λ found h. tt), (λ sizes few fits. tt))
+facts a (points.Send s sends.Look) = look_facts a s s.author
+facts a (points.Send s (sends.Claim q)) = (tt, (refl, refl), (λ found h. h), (λ sizes few fits. (few, fits)))
+facts a (points.Send s (sends.PutMessage q own)) = (tt, (refl, refl), (λ found h. tt), (λ sizes few fits. (few, tt)))
+facts a (points.Send s (sends.Unconnect q own)) = (tt, (refl, refl), (λ found h. tt), (λ sizes few fits. (few, tt)))
+facts a (points.Send s (sends.SwapHead q own)) = (tt, (refl, refl), (λ found h. tt), (λ sizes few fits. (few, tt)))
+facts a (points.Send s (sends.Connect q before)) = (tt, (refl, refl), (λ found h. tt), (λ sizes few fits. (few, tt)))
+facts a (points.Send s (sends.FindLink q own)) = (tt, (refl, refl), (λ found h. h), (λ sizes few fits. (few, tt)))
+facts a (points.Send s (sends.TakeHome q own k)) = (tt, (refl, refl))
+facts a (points.Send s (sends.TakeMessage q own k n)) = (tt, (refl, refl))
+facts a (points.Write w (writes.FirstLook m)) = (tt, (refl, refl), (λ found h. tt), (λ sizes few fits. tt))
+facts a (points.Write w (writes.Look m asked)) = (tt, (refl, refl), (λ found h. tt), (λ sizes few fits. tt))
+facts a (points.Write w (writes.Put m asked)) = (tt, (refl, refl))
+facts a (points.Write w (writes.Ask m)) = (tt, (refl, refl))
+facts a (points.Write w (writes.SetOdd m)) = (tt, (refl, refl), (λ found h. tt), (λ sizes few fits. tt))
+facts a (points.Write w (writes.StoreCode m)) = (tt, (refl, refl), (λ found h. tt), (λ sizes few fits. tt))
+facts a (points.Write w (writes.ReleaseFirst m)) = (tt, (refl, refl), (λ found h. tt), (λ sizes few fits. tt))
+facts a (points.Write w (writes.StorePlace m)) = (tt, (refl, refl), (λ found h. tt), (λ sizes few fits. fits))
+facts a (points.Write w (writes.LoadCode m)) = (tt, (refl, refl), (λ found h. tt), (λ sizes few fits. tt))
+facts a (points.Write w (writes.DropPlace m n)) = (tt, (refl, refl), (λ found h. tt), (λ sizes few fits. fits))
+facts a (points.Write w (writes.ReadNext now c)) = (tt, (refl, refl), (λ found h. tt), (λ sizes few fits. tt))
+facts a (points.Write w (writes.Free now next c)) = (tt, (refl, refl), (λ found h. tt), (λ sizes few fits. tt))
+facts a (points.Write w (writes.TakeMessage next)) = (tt, (refl, refl))
+facts a (points.Write w writes.PutHome) = (tt, (refl, refl))
+facts a (points.Write w writes.EmptyHead) = (tt, (refl, refl), (λ found h. tt), (λ sizes few fits. tt))
+facts a (points.Write w (writes.TakeHome found)) = (tt, (refl, refl))
+facts a (points.Write w (writes.Walk top at after)) = (tt, (refl, refl), (λ found h. tt), (λ sizes few fits. tt))
+facts a (points.Write w (writes.Turn top at after before)) = (tt, (refl, refl), (λ found h. tt), (λ sizes few fits. tt))
+facts a (points.Write w (writes.TakeFirst top at)) = (tt, (refl, refl))
+facts a (points.Call begins.LoadName) = (tt, (refl, refl), (λ found h. tt), (λ sizes few fits. tt))
+facts a (points.Call (begins.ClaimId i socket)) = (tt, (refl, refl))
+facts a (points.Call (begins.PutCall i socket)) = (tt, (refl, refl))
+facts a (points.Call (begins.MakeId i socket)) = (tt, (refl, refl))
+facts a (points.Call (begins.StoreCall id socket)) = (tt, (refl, refl))
+facts a (points.Attempt t socket attempts.AddRef) = (tt, (refl, refl), (λ found h. tt), (λ sizes few fits. tt))
+facts a (points.Attempt t socket attempts.FindLink) = (tt, (refl, refl), (λ found h. tt), (λ sizes few fits. tt))
+facts a (points.Attempt t socket (attempts.StoreAt k)) = (tt, (refl, refl))
+facts a (points.Post c after posts.Load) = (tt, (refl, refl))
+facts a (points.Post c after (posts.Exchange from)) = (tt, (refl, refl))
+facts a (points.Decide c after (decides.Take w)) = (tt, (refl, refl))
+facts a (points.Decide c after (decides.Judge w)) = judge_facts c after w (ends_call (parts w.0) c.error.0) (end_id (id_slot (id_of c.id)) (decided (id_of c.id) (after_program a after) (HasEnded a.asked.operation (code_of c.error.0)))) (Aside (PutCall (id_slot (id_of c.id)) a.asked) (λ _. Round (Unlocks (id_slot (id_of c.id)) w.0 true) (unlocked (record { id = id_of c.id; attempt = (parts w.0).attempt + 1 }) (decided (id_of c.id) (after_program a after))))) (tt, (refl, refl)) (tt, (refl, refl))
+facts a (points.Decide c after (decides.Free o)) = (tt, (refl, refl))
+facts a (points.Decide c after (decides.Unlock from advance n)) = (tt, (refl, refl))
+facts a (points.Retry r (retries.Lock locks.Read)) = (tt, (refl, refl))
+facts a (points.Retry r (retries.Lock (locks.Exchange from))) = (tt, (refl, refl))
+facts a (points.Retry r (retries.TakeCall w)) = (tt, (refl, refl))
+facts a (points.Retry r (retries.PutCall w)) = (tt, (refl, refl))
+facts a (points.Retry r (retries.Unlock w advance)) = (tt, (refl, refl))
+facts a (points.Retry r retries.LoadName) = (tt, (refl, refl), (λ found h. tt), (λ sizes few fits. tt))
+facts a (points.Expire o t) = (tt, (refl, refl))
+facts a (points.Join o (joins.LoadCall t)) = (tt, (refl, refl))
+facts a (points.Join o (joins.Wait id)) = (tt, (refl, refl))
+
+module _ (a : Around) (p : Point) where
+  facts_at : (first : First) → first_in (point_program a p) ≡ Some first → Facts (Some first) p
+  facts_at first e = subst (λ (o : Option First). Facts o p) e (facts a p)
+
+  -- ## Of a step on a word, or into the home of a message
+
+  pub goes_by_word : (call : calls.Call) → first_in (point_program a p) ≡ Some (OfCall call) → GoesByWord p
+  goes_by_word call e = (facts_at (OfCall call) e).0
+
+  pub hand_over : (call : calls.Call) → first_in (point_program a p) ≡ Some (OfCall call) → HandOver call (link_at p) (link_left p)
+  hand_over call e = (facts_at (OfCall call) e).1
+
+  pub may_find : (call : calls.Call) (found : ℕ) → first_in (point_program a p) ≡ Some (OfCall call) → AllowsWord call found → MayFind p found
+  may_find call found e h = (facts_at (OfCall call) e).2 found h
+
+  pub is_within : (call : calls.Call) (sizes : Sizes) → first_in (point_program a p) ≡ Some (OfCall call) → sizes.requests ≤ 4096 → FitsSizes sizes call → IsWithin sizes p
+  is_within call sizes e few fits = (facts_at (OfCall call) e).3 sizes few fits
+
+  -- ## Of the others: which one it is, and that no link is in hand without a right
+
+  pub takes_message : (q : ℕ) → first_in (point_program a p) ≡ Some (OfMessage q) → TakesMessage p × HasNone p
+  takes_message q e = facts_at (OfMessage q) e
+
+  pub takes_link : (k : ℕ) → first_in (point_program a p) ≡ Some (OfLink k) → TakesLink p × HasNone p
+  takes_link k e = facts_at (OfLink k) e
+
+  pub puts_home : (k n : ℕ) → first_in (point_program a p) ≡ Some (OfHome k n) → PutsHome p × HasNone p
+  puts_home k n e = facts_at (OfHome k n) e
+
+  pub puts_piece : (k : ℕ) (asked : Bool) (bytes : List ℕ) → first_in (point_program a p) ≡ Some (OfPut k asked bytes) → PutsPiece p × HasNone p
+  puts_piece k asked bytes e = facts_at (OfPut k asked bytes) e
+
+  pub asks : (k : ℕ) → first_in (point_program a p) ≡ Some (OfReady k) → Asks p × HasNone p
+  asks k e = facts_at (OfReady k) e
+
+-- ## Nothing is said at a point
+
+look_ahead : (a : Around) (author : Author) (id : ℕ) → (next_step (look_program a author id) ≡ look_program a author id) × ((os : List (Option Outcome)) → said (look_program a author id) os ≡ os)
+look_ahead a (authors.Send o) id = (refl, λ os. refl)
+look_ahead a (authors.Attempt t) id = (refl, λ os. refl)
+
+ahead : (a : Around) (p : Point) → (next_step (point_program a p) ≡ point_program a p) × ((os : List (Option Outcome)) → said (point_program a p) os ≡ os)
+ahead a points.Rest = (refl, λ os. refl)
+ahead a (points.Open g (opens.Claim i)) = (refl, λ os. refl)
+ahead a (points.Open g (opens.StoreLink i)) = (refl, λ os. refl)
+ahead a (points.Open g (opens.ResetHead i)) = (refl, λ os. refl)
+ahead a (points.Open g (opens.ClearCode i)) = (refl, λ os. refl)
+ahead a (points.Open g (opens.CreateLife i)) = (refl, λ os. refl)
+ahead a (points.Open g (opens.StoreOpen i v)) = (refl, λ os. refl)
+ahead a (points.Open g (opens.StoreName i v)) = (refl, λ os. refl)
+ahead a (points.Open g opens.TakeLink) = (refl, λ os. refl)
+ahead a (points.Open g opens.FinishLink) = (refl, λ os. refl)
+ahead a (points.Open g opens.PutLink) = (refl, λ os. refl)
+ahead a (points.Open g opens.StoreNone) = (refl, λ os. refl)
+ahead a (points.Seek (aims.Hold o n) seeks.Load) = (refl, λ os. refl)
+ahead a (points.Seek (aims.Send o n) seeks.Load) = (refl, λ os. refl)
+ahead a (points.Seek (aims.Fail o n code) seeks.Load) = (refl, λ os. refl)
+ahead a (points.Seek (aims.End o) seeks.Load) = (refl, λ os. refl)
+ahead a (points.Seek aim (seeks.AddRef id)) = (refl, λ os. refl)
+ahead a (points.Fail f fails.SetOdd) = (refl, λ os. refl)
+ahead a (points.Fail f (fails.StoreCode w)) = (refl, λ os. refl)
+ahead a (points.Fail f (fails.ReleaseFirst w)) = (refl, λ os. refl)
+ahead a (points.Release i t releases.SubRef) = (refl, λ os. refl)
+ahead a (points.Release i t (releases.Recycle w)) = (refl, λ os. refl)
+ahead a (points.Release i t (releases.LoadLink w)) = (refl, λ os. refl)
+ahead a (points.Release i t (releases.TakeLink w k)) = (refl, λ os. refl)
+ahead a (points.Release i t (releases.FinishLink w k)) = (refl, λ os. refl)
+ahead a (points.Release i t (releases.PutLink w k)) = (refl, λ os. refl)
+ahead a (points.Release i t releases.FreeSlot) = (refl, λ os. refl)
+ahead a (points.Send s sends.Look) = look_ahead a s.author s.id.0
+ahead a (points.Send s (sends.Claim q)) = (refl, λ os. refl)
+ahead a (points.Send s (sends.PutMessage q own)) = (refl, λ os. refl)
+ahead a (points.Send s (sends.Unconnect q own)) = (refl, λ os. refl)
+ahead a (points.Send s (sends.SwapHead q own)) = (refl, λ os. refl)
+ahead a (points.Send s (sends.Connect q before)) = (refl, λ os. refl)
+ahead a (points.Send s (sends.FindLink q own)) = (refl, λ os. refl)
+ahead a (points.Send s (sends.TakeHome q own k)) = (refl, λ os. refl)
+ahead a (points.Send s (sends.TakeMessage q own k n)) = (refl, λ os. refl)
+ahead a (points.Write w (writes.FirstLook m)) = (refl, λ os. refl)
+ahead a (points.Write w (writes.Look m asked)) = (refl, λ os. refl)
+ahead a (points.Write w (writes.Put m asked)) = (refl, λ os. refl)
+ahead a (points.Write w (writes.Ask m)) = (refl, λ os. refl)
+ahead a (points.Write w (writes.SetOdd m)) = (refl, λ os. refl)
+ahead a (points.Write w (writes.StoreCode m)) = (refl, λ os. refl)
+ahead a (points.Write w (writes.ReleaseFirst m)) = (refl, λ os. refl)
+ahead a (points.Write w (writes.StorePlace m)) = (refl, λ os. refl)
+ahead a (points.Write w (writes.LoadCode m)) = (refl, λ os. refl)
+ahead a (points.Write w (writes.DropPlace m n)) = (refl, λ os. refl)
+ahead a (points.Write w (writes.ReadNext now c)) = (refl, λ os. refl)
+ahead a (points.Write w (writes.Free now next c)) = (refl, λ os. refl)
+ahead a (points.Write w (writes.TakeMessage next)) = (refl, λ os. refl)
+ahead a (points.Write w writes.PutHome) = (refl, λ os. refl)
+ahead a (points.Write w writes.EmptyHead) = (refl, λ os. refl)
+ahead a (points.Write w (writes.TakeHome found)) = (refl, λ os. refl)
+ahead a (points.Write w (writes.Walk top at after)) = (refl, λ os. refl)
+ahead a (points.Write w (writes.Turn top at after before)) = (refl, λ os. refl)
+ahead a (points.Write w (writes.TakeFirst top at)) = (refl, λ os. refl)
+ahead a (points.Call begins.LoadName) = (refl, λ os. refl)
+ahead a (points.Call (begins.ClaimId i socket)) = (refl, λ os. refl)
+ahead a (points.Call (begins.PutCall i socket)) = (refl, λ os. refl)
+ahead a (points.Call (begins.MakeId i socket)) = (refl, λ os. refl)
+ahead a (points.Call (begins.StoreCall id socket)) = (refl, λ os. refl)
+ahead a (points.Attempt t socket attempts.AddRef) = (refl, λ os. refl)
+ahead a (points.Attempt t socket attempts.FindLink) = (refl, λ os. refl)
+ahead a (points.Attempt t socket (attempts.StoreAt k)) = (refl, λ os. refl)
+ahead a (points.Post c after posts.Load) = (refl, λ os. refl)
+ahead a (points.Post c after (posts.Exchange from)) = (refl, λ os. refl)
+ahead a (points.Decide c after (decides.Take w)) = (refl, λ os. refl)
+ahead a (points.Decide c after (decides.Judge w)) = (refl, λ os. refl)
+ahead a (points.Decide c after (decides.Free o)) = (refl, λ os. refl)
+ahead a (points.Decide c after (decides.Unlock from advance n)) = (refl, λ os. refl)
+ahead a (points.Retry r (retries.Lock locks.Read)) = (refl, λ os. refl)
+ahead a (points.Retry r (retries.Lock (locks.Exchange from))) = (refl, λ os. refl)
+ahead a (points.Retry r (retries.TakeCall w)) = (refl, λ os. refl)
+ahead a (points.Retry r (retries.PutCall w)) = (refl, λ os. refl)
+ahead a (points.Retry r (retries.Unlock w advance)) = (refl, λ os. refl)
+ahead a (points.Retry r retries.LoadName) = (refl, λ os. refl)
+ahead a (points.Expire o t) = (refl, λ os. refl)
+ahead a (points.Join o (joins.LoadCall t)) = (refl, λ os. refl)
+ahead a (points.Join o (joins.Wait id)) = (refl, λ os. refl)
+
+-- it is at its next step
+pub at_step : (a : Around) (p : Point) → next_step (point_program a p) ≡ point_program a p
+at_step a p = (ahead a p).0
+
+pub says_none : (a : Around) (p : Point) (os : List (Option Outcome)) → said (point_program a p) os ≡ os
+says_none a p os = (ahead a p).1 os

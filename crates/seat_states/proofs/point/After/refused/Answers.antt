@@ -1,0 +1,8 @@
+use Rattle.std.proofs.Common.{◌∙◌, ap}
+use Rattle.seat_states.specs.Points.{refused_program}
+use Rattle.seat_states.proofs.Behind.{refused}
+use Rattle.seat_states.proofs.point.After.refused.Goals as goal
+
+pub returns-clause-program : goal.returns-clause-program
+returns-clause-program c a call how none is =
+    c.without_lock.ensures.program a ∙ ap (refused_program a c.args.self) is ∙ refused a call c.args.self how none

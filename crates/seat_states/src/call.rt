@@ -1,0 +1,217 @@
+ghost use Rattle.std.specs.Prelude.{◌≡◌, IfSome, IfNone};
+ghost use mathlib.Core.Option.{some, none};
+ghost use Rattle.std.specs.Prelude.{◌*◌};
+ghost use Rattle.sock_model.specs.Layout.{request_index, next_index, place_index};
+ghost use Rattle.seat_programs.specs.Calls.{kind_of};
+ghost use Rattle.seat_programs.specs.Cores.{word_of, word_after};
+ghost use Rattle.sock_runs.specs.Sound.{AllowsWord};
+ghost use Rattle.seat_states.specs.Steps.{step_of};
+
+use chain_core::{
+    claim_request, connect, empty_head, free_request, swap_head, turn_next, unconnect,
+};
+use ref_core::{add_ref, birth, claim_slot, free_slot, recycle, set_odd, sub_ref};
+use sock_words::{Kind, PlaceWord, Plan, SocketId, Ticket, Vref};
+
+/// A step of a seat: of which slot, name, operation or link it is, and what it is to store.
+/// References are counted as in versioned_ref_with_id.h, messages written as in socket.cpp.
+#[derive(Clone, Copy)]
+pub enum Call {
+    /// Swap of a slot's tag with 1.
+    ClaimSlot(u32),
+    /// One more reference on a slot's word, which makes a life over this link.
+    CreateLife(u32, u16),
+    /// One more reference, for the life of this id.
+    AddRef(SocketId),
+    /// One reference of a slot less.
+    SubRef(u32),
+    /// The version of a slot is made odd.
+    SetOdd(u32),
+    /// The slot's word becomes the next version without references, where it is this word.
+    Recycle(u32, Vref),
+    /// A slot's tag becomes 0.
+    FreeSlot(u32),
+    /// A slot's link is stored.
+    StoreLink(u32, u16),
+    /// The link of a slot that was recycled to this version is loaded.
+    LoadLink(u32, u32),
+    /// A slot's head becomes idle, before it has this link.
+    ResetHead(u32, u16),
+    /// A slot's error code becomes 0, before it has this link.
+    ClearCode(u32, u16),
+    /// The error code of the life of this version is stored.
+    StoreCode(u32, u32, u16),
+    /// The word of a name.
+    StoreName(u16, u64),
+    LoadName(u16),
+    /// The word of an `open`.
+    StoreOpen(u16, u64),
+    LoadOpen(u16),
+    /// A link out of its home, its writing half ended, and into its home.
+    TakeLink(u16),
+    FinishLink(u16),
+    PutLink(u16),
+    /// The slot's word is loaded, for the life of this id.
+    LookWord(SocketId),
+    /// The link of a life that is held is loaded, and its error code.
+    FindLink(SocketId),
+    LoadCode(SocketId),
+    /// Bit 0 of a request's word is set, for a message to the life of this id.
+    ClaimRequest(SocketId, u16),
+    /// A request's next word is marked as not connected.
+    Unconnect(u16),
+    /// A slot's head is exchanged with a ticket.
+    SwapHead(u32, Ticket),
+    /// A request's next word becomes the ticket that the exchange found.
+    Connect(u16, Ticket),
+    /// A slot's head becomes idle behind this ticket, where it is this ticket.
+    EmptyHead(u32, Ticket),
+    /// A request's next word is loaded.
+    ReadNext(u16),
+    /// On a walk a request's next word becomes the ticket of its successor, or 0.
+    ReverseNext(u16, Ticket),
+    /// A request's word becomes the generation after this one, not taken.
+    FreeRequest(u16, u64),
+    /// The place word of a message, by its number: the link, the position; and of one that is dropped.
+    StorePlace(u32, u16, u32),
+    DropPlace(u32, u16, u32),
+}
+
+/// Where the word of a request stands, its next word, and a place word.
+fn request_place(plan: &Plan, request: u16) -> usize
+    ensures { result ≡ request_index plan.now request }
+{
+    6 * plan.slots as usize + plan.names as usize + plan.operations as usize + request as usize
+}
+
+fn next_place(plan: &Plan, request: u16) -> usize
+    ensures { result ≡ next_index plan.now request }
+{
+    let open = 6 * plan.slots as usize + plan.names as usize;
+    open + plan.operations as usize + plan.requests as usize + request as usize
+}
+
+fn message_place(plan: &Plan, place: u32) -> usize
+    ensures { result ≡ place_index plan.now place }
+{
+    let open = 6 * plan.slots as usize + plan.names as usize;
+    let next = open + plan.operations as usize + plan.requests as usize;
+    next + plan.requests as usize + place as usize
+}
+
+impl Call {
+    /// Its kind, as a schedule names it.
+    pub fn kind(self) -> Kind
+        ensures { result ≡ kind_of (step_of self) }
+    {
+        match self {
+            Call::ClaimSlot(_) => Kind::A1,
+            Call::CreateLife(_, _) => Kind::A2,
+            Call::AddRef(_) => Kind::A3,
+            Call::SubRef(_) => Kind::A4,
+            Call::SetOdd(_) => Kind::A5,
+            Call::Recycle(_, _) => Kind::A6,
+            Call::FreeSlot(_) => Kind::A7,
+            Call::StoreLink(_, _) => Kind::S1,
+            Call::LoadLink(_, _) => Kind::S2,
+            Call::ResetHead(_, _) => Kind::S3,
+            Call::ClearCode(_, _) | Call::StoreCode(_, _, _) => Kind::S4,
+            Call::StoreName(_, _) | Call::StoreOpen(_, _) => Kind::S6,
+            Call::LoadName(_) | Call::LoadOpen(_) => Kind::S7,
+            Call::TakeLink(_) => Kind::L1,
+            Call::FinishLink(_) => Kind::W3,
+            Call::PutLink(_) => Kind::L2,
+            Call::LookWord(_) => Kind::A8,
+            Call::FindLink(_) => Kind::S2,
+            Call::LoadCode(_) => Kind::S5,
+            Call::ClaimRequest(_, _) => Kind::C1,
+            Call::Unconnect(_) => Kind::C7,
+            Call::SwapHead(_, _) => Kind::C2,
+            Call::Connect(_, _) => Kind::C3,
+            Call::EmptyHead(_, _) => Kind::C4,
+            Call::ReadNext(_) => Kind::C5,
+            Call::ReverseNext(_, _) => Kind::C6,
+            Call::FreeRequest(_, _) => Kind::C8,
+            Call::StorePlace(_, _, _) | Call::DropPlace(_, _, _) => Kind::P1,
+        }
+    }
+
+    /// Where the word that it reads or changes stands; a move of a link has none.
+    pub fn place(self, plan: &Plan) -> Option<usize>
+        ensures word { IfSome result (λ x. word_of plan.now (step_of self) ≡ some x) }
+        ensures none { IfNone result (word_of plan.now (step_of self) ≡ none) }
+    {
+        match self {
+            Call::ClaimSlot(slot) | Call::FreeSlot(slot) => Some(6 * slot as usize),
+            Call::CreateLife(slot, _)
+            | Call::SubRef(slot)
+            | Call::SetOdd(slot)
+            | Call::Recycle(slot, _) => Some(6 * slot as usize + 1),
+            Call::AddRef(id) => Some(6 * id.slot() as usize + 1),
+            Call::StoreLink(slot, _) | Call::LoadLink(slot, _) => Some(6 * slot as usize + 2),
+            Call::ResetHead(slot, _) => Some(6 * slot as usize + 3),
+            Call::ClearCode(slot, _) | Call::StoreCode(slot, _, _) => Some(6 * slot as usize + 4),
+            Call::StoreName(name, _) | Call::LoadName(name) => {
+                Some(6 * plan.slots as usize + name as usize)
+            }
+            Call::StoreOpen(operation, _) | Call::LoadOpen(operation) => {
+                Some(6 * plan.slots as usize + plan.names as usize + operation as usize)
+            }
+            Call::TakeLink(_) | Call::FinishLink(_) | Call::PutLink(_) => None,
+            Call::LookWord(id) => Some(6 * id.slot() as usize + 1),
+            Call::FindLink(id) => Some(6 * id.slot() as usize + 2),
+            Call::LoadCode(id) => Some(6 * id.slot() as usize + 4),
+            Call::SwapHead(slot, _) | Call::EmptyHead(slot, _) => Some(6 * slot as usize + 3),
+            Call::ClaimRequest(_, request) | Call::FreeRequest(request, _) => {
+                Some(request_place(plan, request))
+            }
+            Call::Unconnect(request)
+            | Call::Connect(request, _)
+            | Call::ReadNext(request)
+            | Call::ReverseNext(request, _) => Some(next_place(plan, request)),
+            Call::StorePlace(place, _, _) | Call::DropPlace(place, _, _) => {
+                Some(message_place(plan, place))
+            }
+        }
+    }
+
+    /// The word after the step, of the word found.
+    pub fn word_after(self, found: u64) -> u64
+        requires { AllowsWord (step_of self) found }
+        ensures { result ≡ word_after (step_of self) found }
+    {
+        match self {
+            Call::ClaimSlot(_) => claim_slot(found).next,
+            Call::CreateLife(_, _) => birth(found).next,
+            Call::AddRef(_) => add_ref(found).next,
+            Call::SubRef(_) => sub_ref(found).next,
+            Call::SetOdd(_) => set_odd(found).next,
+            Call::Recycle(_, from) => recycle(found, from).next,
+            Call::FreeSlot(_) => free_slot(found).next,
+            Call::StoreLink(_, link) => u64::from(link),
+            Call::ResetHead(_, _) => Ticket::IDLE.word(),
+            Call::ClearCode(_, _) => 0,
+            Call::StoreCode(_, _, code) => u64::from(code),
+            Call::StoreName(_, word) | Call::StoreOpen(_, word) => word,
+            Call::LoadLink(_, _)
+            | Call::LoadName(_)
+            | Call::LoadOpen(_)
+            | Call::TakeLink(_)
+            | Call::FinishLink(_)
+            | Call::PutLink(_)
+            | Call::LookWord(_)
+            | Call::FindLink(_)
+            | Call::LoadCode(_)
+            | Call::ReadNext(_) => found,
+            Call::ClaimRequest(_, _) => claim_request(found).next,
+            Call::Unconnect(_) => unconnect(found).next,
+            Call::SwapHead(_, own) => swap_head(found, own).next,
+            Call::Connect(_, before) => connect(found, before).next,
+            Call::EmptyHead(_, last) => empty_head(found, last).next,
+            Call::ReverseNext(_, value) => turn_next(found, value.word()).next,
+            Call::FreeRequest(_, generation) => free_request(found, generation).next,
+            Call::StorePlace(_, link, position) => PlaceWord::pack(false, link, position).word(),
+            Call::DropPlace(_, link, position) => PlaceWord::pack(true, link, position).word(),
+        }
+    }
+}

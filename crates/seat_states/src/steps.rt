@@ -1,0 +1,138 @@
+ghost use Rattle.std.specs.Prelude.{◌≡◌, ◌+◌, Bool, option_map, Some, None};
+ghost use Rattle.sock_words.specs.Words.{socket_id};
+ghost use Rattle.seat_programs.specs.Programs.{Program};
+ghost use Rattle.seat_states.specs.Points.{Around, open_program, seek_program, fail_program, release_on, point_program, IsCalling, HasInHand, HasLinkAt};
+ghost use Rattle.seat_states.specs.Steps.{OfCall, step_of, first_in, step_as, kind_of_first};
+
+use crate::call::Call;
+use crate::calling::Calling;
+use crate::point::{Aim, FailStep, Failing, OpenStep, Opening, Point, ReleaseStep, SeekStep, Step};
+use call_points::Aside;
+use sock_words::{Kind, SocketId};
+
+/// The word of an `open` that got no slot.
+pub const NO_SOCKET: u64 = u64::MAX;
+
+/// The word that names a life: its id, and 1.
+fn socket_word(version: u32, slot: u16) -> u64
+    ensures { result ≡ socket_id version slot + 1 }
+{
+    SocketId::pack(version, u32::from(slot)).word() + 1
+}
+
+impl Opening {
+    /// The next step of an `open`.
+    fn call(self, step: OpenStep) -> Call
+        ensures { (a : Around) → first_in (open_program a self step) ≡ Some (OfCall (step_of result)) }
+    {
+        match step {
+            OpenStep::Claim(slot) => Call::ClaimSlot(u32::from(slot)),
+            OpenStep::StoreLink(slot) => Call::StoreLink(u32::from(slot), self.link),
+            OpenStep::ResetHead(slot) => Call::ResetHead(u32::from(slot), self.link),
+            OpenStep::ClearCode(slot) => Call::ClearCode(u32::from(slot), self.link),
+            OpenStep::CreateLife(slot) => Call::CreateLife(u32::from(slot), self.link),
+            OpenStep::StoreOpen(slot, version) => {
+                Call::StoreOpen(self.operation, socket_word(version, slot))
+            }
+            OpenStep::StoreName(slot, version) => {
+                Call::StoreName(self.name, socket_word(version, slot))
+            }
+            OpenStep::TakeLink => Call::TakeLink(self.link),
+            OpenStep::FinishLink => Call::FinishLink(self.link),
+            OpenStep::PutLink => Call::PutLink(self.link),
+            OpenStep::StoreNone => Call::StoreOpen(self.operation, NO_SOCKET),
+        }
+    }
+}
+
+impl Aim {
+    /// The next step of the way to a life.
+    fn call(self, step: SeekStep) -> Call
+        ensures { (a : Around) → first_in (seek_program a self step) ≡ Some (OfCall (step_of result)) }
+    {
+        match step {
+            SeekStep::AddRef(id) => Call::AddRef(id),
+            SeekStep::Load => match self {
+                Aim::Hold { name, .. } | Aim::Send { name, .. } | Aim::Fail { name, .. } => {
+                    Call::LoadName(name)
+                }
+                Aim::End { operation } => Call::LoadOpen(operation),
+            },
+        }
+    }
+}
+
+impl Failing {
+    /// The next step of a failing.
+    fn call(self, step: FailStep) -> Call
+        ensures { (a : Around) → first_in (fail_program a self step) ≡ Some (OfCall (step_of result)) }
+    {
+        match step {
+            FailStep::SetOdd => Call::SetOdd(self.id.slot()),
+            FailStep::StoreCode(_) => {
+                Call::StoreCode(self.id.slot(), self.id.version(), self.code)
+            }
+            FailStep::ReleaseFirst(_) => Call::SubRef(self.id.slot()),
+        }
+    }
+}
+
+impl ReleaseStep {
+    /// The next step of a release.
+    pub fn call(self, slot: u32) -> Call
+        ensures { (k : Bool → Program) → first_in (release_on slot k self) ≡ Some (OfCall (step_of result)) }
+    {
+        match self {
+            ReleaseStep::SubRef => Call::SubRef(slot),
+            ReleaseStep::Recycle(from) => Call::Recycle(slot, from),
+            ReleaseStep::LoadLink(version) => Call::LoadLink(slot, version),
+            ReleaseStep::TakeLink(_, link) => Call::TakeLink(link),
+            ReleaseStep::FinishLink(_, link) => Call::FinishLink(link),
+            ReleaseStep::PutLink(_, link) => Call::PutLink(link),
+            ReleaseStep::FreeSlot => Call::FreeSlot(slot),
+        }
+    }
+}
+
+impl Point {
+    /// The next step, if there is one, with this call in hand.
+    pub fn step(&self, calling: Calling) -> Option<Step>
+        requires { HasLinkAt self.now }
+        ensures { (a : Around) → IsCalling a calling → HasInHand a self.now → option_map (step_as a) result ≡ first_in (point_program a self.now) }
+    {
+        match *self {
+            Point::Rest => None,
+            Point::Open(opening, step) => Some(Step::Call(opening.call(step))),
+            Point::Seek(aim, step) => Some(Step::Call(aim.call(step))),
+            Point::Fail(failing, step) => Some(Step::Call(failing.call(step))),
+            Point::Release(slot, _, step) => Some(Step::Call(step.call(slot))),
+            Point::Send(sending, step) => Some(sending.step(step)),
+            Point::Write(writer, step) => Some(writer.step(step)),
+            Point::Call(step) => Some(step.step(calling)),
+            Point::Attempt(attempt, socket, step) => Some(step.step(attempt, socket)),
+            Point::Post(error, _, step) => Some(Step::Aside(error.post_step(step))),
+            Point::Decide(error, _, step) => Some(Step::Aside(error.decide_step(step))),
+            Point::Retry(retrying, step) => Some(retrying.step(step)),
+            Point::Expire(_, call) => Some(Step::Aside(Aside::LoadCall(call))),
+            Point::Join(_, step) => Some(step.step()),
+        }
+    }
+}
+
+impl Step {
+    /// Its kind, as a schedule names it.
+    pub fn kind(&self) -> Kind
+        ensures { (a : Around) → result ≡ kind_of_first (step_as a self.now) }
+    {
+        match *self {
+            Step::Call(call) => call.kind(),
+            Step::Aside(aside) => aside.kind(),
+            Step::PutMessage(_, _) => Kind::M1,
+            Step::TakeMessage(_) => Kind::M2,
+            Step::TakeHome(_) => Kind::L1,
+            Step::PutHome(_, _) => Kind::L2,
+            Step::PutBytes(_, _, _) => Kind::W1,
+            Step::AskReady(_) => Kind::W2,
+        }
+    }
+}
