@@ -6,8 +6,10 @@ use Rattle.sock_model.specs.Layout.{place_index}
 use Rattle.sock_model.specs.SlotRows.{wrote}
 use Rattle.sock_rule.specs.declared.homes.SockHome.TheVariants.{Empty, Link}
 use Rattle.sock_rule.specs.Holding.{MayDropPlace}
-use Rattle.sock_rule.specs.Shows.{shows, rose}
+use Rattle.sock_rule.specs.OnKey.{shows_by}
+use Rattle.sock_rule.specs.Shows.{rose}
 use Rattle.sock_rule.proofs.Seating.{still_seat}
+use Rattle.sock_rule.proofs.Ways.{drops_alike}
 use Rattle.sock_rule.proofs.Owning.{drops_on}
 use Rattle.sock_rule.proofs.Handing.{comes_back, same_link, laid_top, laid_still, dropped_after}
 use Rattle.sock_rule.proofs.table.RuleTable.drop_place.Goals as goal
@@ -19,8 +21,8 @@ pub store-requires : goal.store-requires
 store-requires g c = let same = ap (λ m. m.0) c.exchange-empty.ensures.3 in let a = c.requires.seat in let m = c.requires.may in (
   c.exchange-empty.ensures.0 ∙ a.0,
   omega (arith, c.args.self.now.sized, m.2.place_in),
-  drops_on shows rose c.args.self.now.table.shared.key c.args.self.now.plan _ _ _ (ap (λ v. v.plan) same ∙ a.1) (subst (λ (n : ℕ). 0 < n) (sym (ap (λ v. v.share) same)) a.2) c.args.self.now.planned c.args.at m.0 m.1 _ c.word-place.result (c.request-slot.result, Link c.args.home) refl (c.word-place.ensures ∙ m.3)
-      (subst (λ (v : View). MayDropPlace c.args.self.now.plan c.args.at m.0 m.1 c.args.home.took.list v) (sym same) m.2) (laid_top c.args.seat.now.me c.exchange-empty.new.seat.me c.request-slot.result c.args.now.0 c.args.home c.request-slot.ensures c.requires.top c.exchange-empty.ensures.3),
+  drops_alike c.args.self.now.table.shared.key.plan c.args.self.now.table.shared.key.ways.list _ _ _ _ _ _ (drops_on (shows_by c.args.self.now.table.shared.key) rose c.args.self.now.table.shared.key.plan c.args.self.now.plan _ _ _ (ap (λ v. v.plan) same ∙ a.1) (subst (λ (n : ℕ). 0 < n) (sym (ap (λ v. v.share) same)) a.2) c.args.self.now.planned c.args.at m.0 m.1 _ c.word-place.result (c.request-slot.result, Link c.args.home) refl (c.word-place.ensures ∙ m.3)
+      (subst (λ (v : View). MayDropPlace c.args.self.now.plan c.args.at m.0 m.1 c.args.home.took.list v) (sym same) m.2) (laid_top c.args.seat.now.me c.exchange-empty.new.seat.me c.request-slot.result c.args.now.0 c.args.home c.request-slot.ensures c.requires.top c.exchange-empty.ensures.3)),
 )
 
 pub exchange-back-requires : goal.exchange-back-requires
