@@ -1,6 +1,7 @@
 -- Steps under the rule by the key of a table: what homes show there, and what the steps tell that are told the ways of the links.
 use Rattle.std.proofs.Common.{◌≡◌, ℕ, zero, suc, ◌+◌, ◌*◌, ◌<◌, Bool, true, false, cond, eqb, List, [], ◌∷◌, refl, sym, ap, ◌∙◌, subst, arith}
 use Rattle.std.specs.Prelude.{bytes_eq}
+use Rattle.std.proofs.Math.Dec.{eqb-suc-zero}
 use Rattle.std.proofs.lemmas.Slice.Eq.{bytes_eq-Decides}
 use mathlib.Core.Option.{none, some}
 use prog.Atomic.{either}
@@ -38,7 +39,7 @@ module _ {S V : Type 0} (holds : State S V → Type 0) (slots id i : ℕ) (me : 
 -- a word that is exchanged 0 for 0 stays
 pub stays : (n : ℕ) → n ≡ either (eqb n 0) 0 n
 stays zero = refl
-stays (suc n) = refl
+stays (suc n) = ap (λ (b : Bool). either b 0 (suc n)) (sym (eqb-suc-zero n))
 
 -- ## The number of a half whose bytes go the way of its link
 
@@ -55,11 +56,11 @@ module _ (p : Plan) (ways : List (List ℕ)) (o : OutState) (k : ℕ) where
 
 -- ## Messages show what they show without a key
 
-module _ {O : Type 0} {g : Ghosts O} where
-  abbrev no_letter : Home → ℕ
-  no_letter (home.Message l b) = 0
-  no_letter _ = 1
+abbrev no_letter : Home → ℕ
+no_letter (home.Message l b) = 0
+no_letter _ = 1
 
+module _ {O : Type 0} {g : Ghosts O} where
   took_alike : (p : Plan) (ways : List (List ℕ)) (y : SockHome O g) → took_in (shows_in p ways y) ≡ took_in (shows y)
   took_alike p ways Empty = refl
   took_alike p ways (Link h) = refl
