@@ -1,5 +1,5 @@
 -- The loops of the close.
-use Rattle.std.proofs.Common.{◌≡◌, ◌≢◌, ℕ, zero, suc, ◌+◌, ◌*◌, ◌<◌, ◌≤◌, ◌⊎◌, ◌++◌, Bool, true, false, List, [], ◌∷◌, length, get_or, set, sym, refl, ap, ◌∙◌, subst, arith}
+use Rattle.std.proofs.Common.{◌≡◌, ◌≢◌, ℕ, zero, suc, ◌+◌, ◌*◌, ◌<◌, ◌≤◌, ◌⊎◌, ◌++◌, Bool, true, false, List, [], ◌∷◌, length, get_or, set, map, sym, refl, ap, ◌∙◌, subst, arith}
 use mathlib.Core.Logic.{dite}
 use mathlib.Core.Option.{some, some-injective, some-ne-none}
 use native.Mathlib.Decide.{ℕ_discrete}
@@ -17,9 +17,10 @@ use Rattle.sock_words.specs.declared.place_word.PlaceWord.{PlaceWord}
 use Rattle.sock_model.specs.declared.home.Home.TheVariants as home
 use Rattle.sock_rule.specs.declared.homes.LinkHome.{LinkHome}
 use Rattle.sock_rule.specs.declared.homes.SockHome.{SockHome}
-use Rattle.sock_rule.specs.declared.homes.SockHome.TheVariants.{Empty, Link, Message}
-use Rattle.sock_rule.specs.Shows.{shows, rose}
+use Rattle.sock_rule.specs.declared.homes.SockHome.TheVariants.{Empty, Link, Message, Ways}
+use Rattle.sock_rule.specs.Shows.{shows_in, rose, way_at}
 use Rattle.sock_rule.proofs.LinksBack.{AtHome, links_back, place_of}
+use Rattle.sock_rule.proofs.Ways.{own_number}
 use Rattle.sock_model.specs.declared.home.Home.{Home}
 use Rattle.sock_model.specs.declared.view.View.{View}
 use Rattle.sock_model.specs.declared.chain.Entry.{Entry}
@@ -29,7 +30,7 @@ use Rattle.sock_rule.specs.Seated.{IsDone}
 use Rattle.sock_rule.specs.Closing.{IsAtRest, Closing, PlaceOf, LinkTook, IsDropTold}
 use Rattle.sock_rule.proofs.DropsTold.{drop_told}
 use Rattle.sock_rule.proofs.Closes.{ordered, ordered_log, closing}
-use Rattle.sock_table.specs.Closed.{WordsAre, AreLinks, OutsOf, OutBack, ClosedBy}
+use Rattle.sock_table.specs.Closed.{WordsAre, AreLinks, OutsOf, OutBack, ways_of, ClosedBy}
 use Rattle.sock_table.proofs.Joining.{marks_in, finds_in, histories_in, stores_in, lists_in, found_in}
 
 set_false : (l : List Bool) (k : ℕ) → get_or (set l k false) k false ≡ false
@@ -84,6 +85,14 @@ module _ {O : Type 0} {g : Ghosts O} (requests : ℕ) (homes : List (SockHome O 
   pub is_link : (links k : ℕ) (x : SockHome O g) → AreLinks requests links homes → k < links → get_elem? homes (requests + k) ≡ some x → ((h : LinkHome O g) → x ≡ Link h → ⊥) → ⊥
   is_link links k x all lt e none_ = let a = all k lt in none_ a.0 (some-injective x (Link a.0) (sym e ∙ a.1))
 
+-- lists that have the same at each index
+ways_alike : {O : Type 0} (way : O → List ℕ) (outs : List O) (ways : List (List ℕ)) → length outs ≡ length ways → ((k : ℕ) → k < length ways → (o : O) × (get_elem? outs k ≡ some o) × (way o ≡ way_at ways k)) → map way outs ≡ ways
+ways_alike way [] [] long each = refl
+ways_alike way [] (w ∷ ws) long each = absurd (omega arith)
+ways_alike way (o ∷ os) [] long each = absurd (omega arith)
+ways_alike way (o ∷ os) (w ∷ ws) long each = let first = each 0 (omega arith) in let same : way o ≡ w = ap way (some-injective o first.0 first.1) ∙ first.2 in
+    let rest = ways_alike way os ws (omega arith) (λ k kl. each (suc k) (omega arith)) in (λ i. same i ∷ rest i)
+
 -- what a link's home shows
 abbrev number : Home → ℕ
 number (home.Link k took next done) = k
@@ -101,34 +110,43 @@ abbrev shows_link : Home → ℕ
 shows_link (home.Link k took next done) = 1
 shows_link _ = 0
 
-by_value : {O : Type 0} {g : Ghosts O} (homes : List (SockHome O g)) (at k next : ℕ) (took : List ℕ) (done : Bool) (y : SockHome O g) → get_elem? homes at ≡ some y → shows y ≡ home.Link k took next done → (h : LinkHome O g) × (get_elem? homes at ≡ some (Link h))
-by_value homes at k next took done Empty e s = let a = ap shows_link s in absurd (omega arith)
-by_value homes at k next took done (Message m) e s = let a = ap shows_link s in absurd (omega arith)
-by_value homes at k next took done (Link h) e s = (h, e)
+by_value : {O : Type 0} {g : Ghosts O} (q : Plan) (ways : List (List ℕ)) (homes : List (SockHome O g)) (at k next : ℕ) (took : List ℕ) (done : Bool) (y : SockHome O g) → get_elem? homes at ≡ some y → shows_in q ways y ≡ home.Link k took next done → (h : LinkHome O g) × (get_elem? homes at ≡ some (Link h))
+by_value q ways homes at k next took done Empty e s = let a = ap shows_link s in absurd (omega arith)
+by_value q ways homes at k next took done (Message m) e s = let a = ap shows_link s in absurd (omega arith)
+by_value q ways homes at k next took done (Link h) e s = (h, e)
+by_value q ways homes at k next took done (Ways w) e s = let a = ap shows_link s in absurd (omega arith)
 
 -- the table at the end, and the seat that took in all others
-module _ {O : Type 0} {g : Ghosts O} (q p : Plan) (id : ℕ) (v : View) (ws : List ℕ) (xs : List (SockHome O g)) (key : q ≡ p) (f : Final (Seen (OnTable (shows {O = O} {g = g}) (rose {O = O} {g = g}) q) id v) ws xs) (all : v.share ≡ p.seats) (done : IsDone p v) where
-  abbrev pub rule_at : OnTable (shows {O = O} {g = g}) (rose {O = O} {g = g}) p f.0
-  rule_at = subst (λ (r : Plan). OnTable (shows {O = O} {g = g}) (rose {O = O} {g = g}) r f.0) key f.1.0
+module _ {O : Type 0} {g : Ghosts O} (ways : List (List ℕ)) (q p : Plan) (id : ℕ) (v : View) (ws : List ℕ) (xs : List (SockHome O g)) (key : q ≡ p) (f : Final (Seen (OnTable (shows_in {O = O} {g = g} q ways) (rose {O = O} {g = g}) q) id v) ws xs) (all : v.share ≡ p.seats) (done : IsDone p v) where
+  abbrev pub rule_at : OnTable (shows_in {O = O} {g = g} p ways) (rose {O = O} {g = g}) p f.0
+  rule_at = subst (λ (r : Plan). OnTable (shows_in {O = O} {g = g} r ways) (rose {O = O} {g = g}) r f.0) key f.1.0
 
-  back : (k : ℕ) → k < p.links → AtHome (shows {O = O} {g = g}) (rose {O = O} {g = g}) p f.0 v rule_at.rule.lawful.log k
+  back : (k : ℕ) → k < p.links → AtHome (shows_in {O = O} {g = g} p ways) (rose {O = O} {g = g}) p f.0 v rule_at.rule.lawful.log k
   back k kl = links_back f.0 rule_at id v f.1.1 all done.bare k kl
 
   pub are_links : AreLinks p.requests p.links xs
-  are_links k kl = let b = back k kl in by_value xs (p.requests + k) k b.next b.took b.done b.value (f.4 (p.requests + k) b.value b.there) b.shown_is
+  are_links k kl = let b = back k kl in by_value p ways xs (p.requests + k) k b.next b.took b.done b.value (f.4 (p.requests + k) b.value b.there) b.shown_is
 
   pub out_back : (log : List Entry) → log ≡ rule_at.rule.lawful.log → (outs : List O) → OutsOf p.requests p.links outs xs → (k : ℕ) → k < p.links → OutBack g.state p v log ws outs k
   out_back log same outs of k kl = let b = back k kl in let a = of k kl in let e : b.value ≡ Link a.0 = some-injective b.value (Link a.0) (sym (f.4 (p.requests + k) b.value b.there) ∙ a.2) in
-      let s : shows (Link a.0) ≡ home.Link k b.took b.next b.done = ap shows (sym e) ∙ b.shown_is in record {
+      let s : shows_in p ways (Link a.0) ≡ home.Link k b.took b.next b.done = ap (shows_in p ways) (sym e) ∙ b.shown_is in record {
         out = a.0.out;
         there = a.1;
-        own = ap number s;
+        own = (own_number p ways (g.state a.0.out) k (ap number s) kl).0;
         took = b.took;
         faulted = λ some_. subst (λ (y : SockHome O g). 0 < rose y) e (b.faulted some_);
         tells = subst (λ (l : List ℕ). ForSome (g.state a.0.out).took (λ y. y ≡ l)) (ap bytes s) a.0.tells;
         unfinished = λ i h il given unended. ap is_done s ∙ b.unfinished i h il given unended;
         took_is = subst (λ (l : List Entry). LinkTook p v l ws k b.took) (sym same) (subst (λ (y : List ℕ). LinkTook p v rule_at.rule.lawful.log y k b.took) f.2 b.took_is);
       }
+
+  -- its bytes go the way of its link still
+  way_back : (outs : List O) → OutsOf p.requests p.links outs xs → (k : ℕ) → k < p.links → (o : O) × (get_elem? outs k ≡ some o) × ((g.state o).way ≡ way_at ways k)
+  way_back outs of k kl = let b = back k kl in let a = of k kl in let e : b.value ≡ Link a.0 = some-injective b.value (Link a.0) (sym (f.4 (p.requests + k) b.value b.there) ∙ a.2) in
+      (a.0.out, a.1, (own_number p ways (g.state a.0.out) k (ap number (ap (shows_in p ways) (sym e) ∙ b.shown_is)) kl).1)
+
+  pub ways_back : (outs : List O) → OutsOf p.requests p.links outs xs → length outs ≡ p.links → length ways ≡ p.links → ways_of g.state outs ≡ ways
+  ways_back outs of count each = ways_alike (λ (o : O). (g.state o).way) outs ways (count ∙ sym each) (λ k kl. way_back outs of k (omega arith))
 
   abbrev IsShown : ℕ → List Entry → List ℕ → Type 0
   IsShown l log words = (slice_index words (place_index p l) ≡ 0) ⊎ PlaceOf p log words l

@@ -1,5 +1,5 @@
 -- The seats that are handed in at the end, and what the table's last words say of them.
-use Rattle.std.specs.Prelude.{◌≡◌, ℕ, ◌+◌, ◌*◌, ◌<◌, ◌⊎◌, false, List, [], ◌∷◌, length, vec_len, vec_capacity}
+use Rattle.std.specs.Prelude.{◌≡◌, ℕ, ◌+◌, ◌*◌, ◌<◌, ◌⊎◌, false, List, [], ◌∷◌, length, map, vec_len, vec_capacity}
 use Rattle.std.specs.List.{flat_map}
 use Rattle.atomic_table.specs.Seated.{TableId}
 use Rattle.atomic_table.specs.declared.shared.Seat.{Seat}
@@ -69,6 +69,10 @@ pub record OutBack {O : Type 0} (state : O → OutState) (p : Plan) (v : View) (
   pub faulted : 0 < faults_of k v → 0 < (state out).faults
   -- it isn't finished where the life that it was given hasn't ended
   pub unfinished : (i h : ℕ) → i < p.slots → 0 < marks_of (is_linked h k) i v → marks_of (is_freer h) i v ≡ 0 → (state out).finished ≡ false
+
+-- which way the bytes of each half go
+abbrev pub ways_of : {O : Type 0} → (O → OutState) → List O → List (List ℕ)
+ways_of state outs = map (λ o. (state o).way) outs
 
 -- room for what a table of this plan leaves: its words, and as many writing halves as it has links
 pub record IsRoomOf {O : Type 0} (p : Plan) (c : Closed O) : Type 0 where
