@@ -16,7 +16,7 @@ use Rattle.sock_model.specs.declared.chain.Heading.{Heading}
 use Rattle.sock_model.specs.declared.chain.Right.{Right}
 use Rattle.sock_model.specs.Entries.{slot_of}
 use Rattle.sock_model.specs.ChainRows.{with_right, taken_right, dropped_right}
-use Rattle.sock_model.specs.SlotRows.{wrote}
+use Rattle.sock_rule.specs.Rows.{dropped_at}
 use Rattle.sock_rule.specs.ChainPlays.{TookOwn, TookLetter}
 use Rattle.sock_rule.specs.Faults.{faults_of, fault_found, fault_left}
 use Rattle.sock_rule.specs.Shows.{shows, rose, heading_of, way_at, number_in, shows_in}
@@ -181,11 +181,11 @@ module _ {O : Type 0} {g : Ghosts O} (m₀ m₁ : Me (SockHome O g) View) (slot 
   pub laid_top : m₁.1 ≡ (slot, Link home) ∷ rest m₁.1
   laid_top = let t = ap (λ (m : Me (SockHome O g) View). m.1) laid in t ∙ ap (λ (l : List (ℕ × SockHome O g)). (slot, Link home) ∷ l) (sym (ap rest t))
 
-  module _ (m₂ : Me (SockHome O g) View) (x : Right) (n word value : ℕ) (told : m₂ ≡ (wrote word value (with_right m₁.0 (dropped_right x n home.took.list)), m₁.1)) where
+  module _ (m₂ : Me (SockHome O g) View) (x : Right) (n word value : ℕ) (told : m₂ ≡ (dropped_at word value x.heading (with_right m₁.0 (dropped_right x n home.took.list)), m₁.1)) where
     pub laid_still : m₂.1 ≡ (slot, Link home) ∷ rest m₂.1
     laid_still = let t = ap (λ (m : Me (SockHome O g) View). m.1) told in t ∙ (laid_top ∙ ap (λ (l : List (ℕ × SockHome O g)). (slot, Link home) ∷ rest l) (sym t))
 
-    pub dropped_after : (m₃ : Me (SockHome O g) View) → m₃ ≡ (m₂.0, (slot, Empty) ∷ rest m₂.1) → m₃ ≡ (wrote word value (with_right m₀.0 (dropped_right x n home.took.list)), m₀.1)
-    dropped_after m₃ e = let v : m₂.0 ≡ wrote word value (with_right m₀.0 (dropped_right x n home.took.list)) = ap (λ (m : Me (SockHome O g) View). m.0) told ∙ ap (λ (m : Me (SockHome O g) View). wrote word value (with_right m.0 (dropped_right x n home.took.list))) laid in
+    pub dropped_after : (m₃ : Me (SockHome O g) View) → m₃ ≡ (m₂.0, (slot, Empty) ∷ rest m₂.1) → m₃ ≡ (dropped_at word value x.heading (with_right m₀.0 (dropped_right x n home.took.list)), m₀.1)
+    dropped_after m₃ e = let v : m₂.0 ≡ dropped_at word value x.heading (with_right m₀.0 (dropped_right x n home.took.list)) = ap (λ (m : Me (SockHome O g) View). m.0) told ∙ ap (λ (m : Me (SockHome O g) View). dropped_at word value x.heading (with_right m.0 (dropped_right x n home.took.list))) laid in
         let below : rest m₂.1 ≡ rest m₀.1 = ap (λ (m : Me (SockHome O g) View). rest m.1) told ∙ ap (λ (m : Me (SockHome O g) View). rest m.1) laid in
-        e ∙ ((λ i. (v i, (at i, Empty) ∷ below i)) ∙ (λ i. (wrote word value (with_right m₀.0 (dropped_right x n home.took.list)), sym there i)))
+        e ∙ ((λ i. (v i, (at i, Empty) ∷ below i)) ∙ (λ i. (dropped_at word value x.heading (with_right m₀.0 (dropped_right x n home.took.list)), sym there i)))

@@ -5,7 +5,7 @@ ghost use Rattle.sock_model.specs.Deliveries.{place_value};
 ghost use Rattle.sock_model.specs.declared.chain.Right.{Right};
 ghost use Rattle.sock_model.specs.declared.chain.Stage.TheVariants.{Writes, Walks, Turns};
 ghost use Rattle.sock_model.specs.ChainRows.{with_right, placed_right, dropped_right, freed_right, turned_right};
-ghost use Rattle.sock_model.specs.SlotRows.{wrote};
+ghost use Rattle.sock_rule.specs.Rows.{dropped_at};
 ghost use Rattle.sock_model.specs.Layout.{place_index};
 ghost use Rattle.sock_model.specs.Entries.{slot_of, generation_of};
 ghost use Rattle.sock_rule.specs.declared.homes.SockHome.TheVariants.{Empty};
@@ -123,7 +123,7 @@ impl<O: Out> RuleTable<O> {
         requires ticket { (0 < now.0 % 65536) × (now.0 < 9223372036854775808) }
         requires top { seat.old.me.1 ≡ (slot_of now.0, Empty) ∷ rest seat.old.me.1 }
         ensures seat { IsSeat self.now.table.shared.table_id self.now.plan seat.new }
-        ensures view { (r : Right) (n : ℕ) → Rights r seat.old.me.0 → r.stage ≡ Writes n → seat.new.me ≡ (wrote (place_index self.now.plan at) value.0 (with_right seat.old.me.0 (dropped_right r n home.took.list)), seat.old.me.1) }
+        ensures view { (r : Right) (n : ℕ) → Rights r seat.old.me.0 → r.stage ≡ Writes n → seat.new.me ≡ (dropped_at (place_index self.now.plan at) value.0 r.heading (with_right seat.old.me.0 (dropped_right r n home.took.list)), seat.old.me.1) }
         ensures home { result ≡ home }
     {
         let slot = now.request() as usize;
