@@ -27,11 +27,11 @@ use Rattle.sock_model.specs.declared.chain.Entry.{Entry}
 use Rattle.sock_model.specs.Layout.{ref_index, place_index}
 use Rattle.sock_rule.specs.OnTable.{OnTable}
 use Rattle.sock_rule.specs.Seated.{IsDone}
-use Rattle.sock_rule.specs.Closing.{IsAtRest, Closing, PlaceOf, LinkTook, IsDropTold}
-use Rattle.sock_rule.proofs.DropsTold.{drop_told}
+use Rattle.sock_rule.specs.Closing.{IsAtRest, Closing, PlaceOf, LinkTook, IsDropTold, IsLogged}
+use Rattle.sock_rule.proofs.DropsTold.{drop_told, dropped_logged}
 use Rattle.sock_rule.proofs.Closes.{ordered, ordered_log, closing}
 use Rattle.sock_table.specs.Closed.{WordsAre, AreLinks, OutsOf, OutBack, ways_of, ClosedBy}
-use Rattle.sock_table.proofs.Joining.{marks_in, finds_in, histories_in, stores_in, lists_in, found_in}
+use Rattle.sock_table.proofs.Joining.{marks_in, finds_in, histories_in, drops_in, stores_in, lists_in, found_in}
 
 set_false : (l : List Bool) (k : ℕ) → get_or (set l k false) k false ≡ false
 set_false [] k = refl
@@ -152,15 +152,16 @@ module _ {O : Type 0} {g : Ghosts O} (ways : List (List ℕ)) (q p : Plan) (id :
   IsShown l log words = (slice_index words (place_index p l) ≡ 0) ⊎ PlaceOf p log words l
 
   pub closes : (seats : List (Seat (SockHome O g) View)) (places : List PlaceWord) (vs : List Vref) (outs : List O) → IsAtRest p v
-      → v.marks ≡ flat_map marks_in seats → v.finds ≡ flat_map finds_in seats → v.histories ≡ flat_map histories_in seats → v.stores ≡ flat_map stores_in seats → v.lists ≡ flat_map lists_in seats → v.found ≡ flat_map found_in seats
+      → v.marks ≡ flat_map marks_in seats → v.finds ≡ flat_map finds_in seats → v.histories ≡ flat_map histories_in seats → v.drops ≡ flat_map drops_in seats → v.stores ≡ flat_map stores_in seats → v.lists ≡ flat_map lists_in seats → v.found ≡ flat_map found_in seats
       → WordsAre (λ (x : Vref). x.0) ref_index p.slots vs ws → WordsAre (λ (x : PlaceWord). x.0) (place_index p) (8 * p.operations) places ws → OutsOf p.requests p.links outs xs
       → length vs ≡ p.slots → length places ≡ 8 * p.operations → length outs ≡ p.links → ClosedBy g.state p seats places vs outs
-  closes seats places vs outs rest m n h k l d read placed of slots indices links = record {
+  closes seats places vs outs rest m n h x k l d read placed of slots indices links = record {
     view = v;
     words = ws;
     marks = m;
     finds = n;
     histories = h;
+    drops = x;
     stores = k;
     lists = l;
     found = d;
@@ -172,5 +173,6 @@ module _ {O : Type 0} {g : Ghosts O} (ways : List (List ℕ)) (q p : Plan) (id :
     count = links;
     shown = λ l ll. subst (λ (y : List Entry). IsShown l y ws) (sym (ordered_log f.0 rule_at id v f.1.1 all done.bare.claims)) (subst (λ (y : List ℕ). IsShown l rule_at.rule.lawful.log y) f.2 (place_of f.0 rule_at id v f.1.1 all done.bare l ll));
     dropped = λ l ll. subst (λ (y : List Entry). IsDropTold p y v ws l) (sym (ordered_log f.0 rule_at id v f.1.1 all done.bare.claims)) (subst (λ (y : List ℕ). IsDropTold p rule_at.rule.lawful.log v y l) f.2 (drop_told f.0 rule_at id v f.1.1 all l ll));
+    drops_logged = λ i y e. subst (λ (log : List Entry). IsLogged log y) (sym (ordered_log f.0 rule_at id v f.1.1 all done.bare.claims)) (dropped_logged f.0 rule_at id v f.1.1 all i y e);
     outs_back = out_back (ordered f.0 rule_at id v f.1.1 all done.bare.claims).log (ordered_log f.0 rule_at id v f.1.1 all done.bare.claims) outs of;
   }

@@ -41,6 +41,7 @@ fn join_all<O: Out>(rule: &RuleTable<O>, mut seats: Vec<SockSeat<O>>) -> SockSea
     ensures marks { result.me.0.marks ≡ flat_map (λ s. s.me.0.marks) seats.items }
     ensures finds { result.me.0.finds ≡ flat_map (λ s. s.me.0.finds) seats.items }
     ensures histories { result.me.0.histories ≡ flat_map (λ s. s.me.0.histories) seats.items }
+    ensures drops { result.me.0.drops ≡ flat_map (λ s. s.me.0.drops) seats.items }
     ensures stores { result.me.0.stores ≡ flat_map (λ s. s.me.0.stores) seats.items }
     ensures lists { result.me.0.lists ≡ flat_map (λ s. s.me.0.lists) seats.items }
     ensures found { result.me.0.found ≡ flat_map (λ s. s.me.0.found) seats.items }

@@ -17,7 +17,9 @@ use Rattle.sock_model.specs.declared.view.View.{View}
 use Rattle.sock_model.specs.Entries.{slot_of}
 use Rattle.sock_model.specs.Links.{HoldsLink}
 use Rattle.sock_model.specs.Weights.{is_ref, is_hold, is_met}
-use Rattle.sock_model.specs.SlotRows.{met_link, wrote}
+use Rattle.sock_model.specs.SlotRows.{met_link}
+use Rattle.sock_model.specs.declared.chain.Heading.{Heading}
+use Rattle.sock_rule.specs.Rows.{dropped_at}
 use Rattle.sock_model.specs.ChainRows.{with_right, without_right, taken_right, placed_right, dropped_right, passing_right, freed_stage, freed_right, walking_right, reading_right, turned_right}
 use Rattle.message_parts.specs.Parcels.{parcel_of, outgoing_of}
 use Rattle.sock_rule.specs.Becoming.{Became}
@@ -57,8 +59,8 @@ writer_on {p} {id} {last} {link} {x} {v} {w} is last' x' same now ticket e = sub
 }
 
 -- and a drop is noted
-writer_dropped : {p : Plan} {id last link : ℕ} {x : Right} {v w : View} → IsWriter p id last link x v → (y word : ℕ) (x' : Right) → x'.link ≡ x.link → x'.last ≡ last → w ≡ wrote y word (with_right v x') → IsWriter p id last link x' w
-writer_dropped {p} {id} {last} {link} {x} {v} {w} is y word x' same now e = subst (λ (z : View). IsWriter p id last link x' z) (sym e) record {
+writer_dropped : {p : Plan} {id last link : ℕ} {x : Right} {v w : View} → IsWriter p id last link x v → (y word : ℕ) (h : Heading) (x' : Right) → x'.link ≡ x.link → x'.last ≡ last → w ≡ dropped_at y word h (with_right v x') → IsWriter p id last link x' w
+writer_dropped {p} {id} {last} {link} {x} {v} {w} is y word h x' same now e = subst (λ (z : View). IsWriter p id last link x' z) (sym e) record {
   one = one_right v x x' is.one same;
   last_is = now;
   last_ticket = is.last_ticket;
@@ -100,6 +102,8 @@ module _ {O : Type 0} {g : Ghosts O} {p : Plan} {ways : List (List ℕ)} {id las
       ticket = h.0.ticket;
       taken = h.0.taken;
       place_is = h.0.place_is;
+      attempt_is = h.0.attempt_is;
+      owner_is = h.0.owner_is;
       place_in = h.0.place_in;
       begun = h.0.begun;
       bytes_are = h.0.bytes_are;
@@ -123,6 +127,8 @@ module _ {O : Type 0} {g : Ghosts O} {p : Plan} {ways : List (List ℕ)} {id las
       ticket = h.0.ticket;
       taken = h.0.taken;
       place_is = h.0.place_is;
+      attempt_is = h.0.attempt_is;
+      owner_is = h.0.owner_is;
       place_in = h.0.place_in;
       begun = h.0.begun;
       bytes_are = h.0.bytes_are;
@@ -152,6 +158,8 @@ module _ {O : Type 0} {g : Ghosts O} {p : Plan} {ways : List (List ℕ)} {id las
       ticket = subst (λ (y : Ticket). IsTicket p y.0) (sym t) h.ticket;
       taken = h.taken;
       place_is = h.place_is ∙ ap (λ (y : Label). y.place) (sym l);
+      attempt_is = h.attempt_is ∙ ap (λ (y : Label). y.attempt) (sym l);
+      owner_is = h.owner_is ∙ sym w.others.3;
       place_in = subst (λ (y : Label). y.place < 8 * p.operations) (sym l) h.place_in;
       begun = h.begun ++ taken;
       bytes_are = h.bytes_are ∙ (ap (λ y. h.begun ++ y) w.left ∙ sym (append_assoc h.begun taken (outgoing_of new.bytes).left));
@@ -211,8 +219,8 @@ module _ {O : Type 0} {g : Ghosts O} {p : Plan} {ways : List (List ℕ)} {id las
   -- M2
   pub letter_taken : (hand : LinkInHand O g) (new : InHand O g) (now : ℕ) (msg : Letter) (m n : Me (SockHome O g) View) (h : HasLink p ways id last (Writes now) [] hand m) → IsTicket p now → msg.label.place < 8 * p.operations → h.right_is.places < 4294967295
       → n ≡ (with_right m.0 (taken_right h.right_is (heading_of msg) (parcel_of msg.bytes).bytes), (slot_of now, Empty) ∷ m.1)
-      → new.link ≡ hand.link → new.home ≡ hand.home → new.now.0 ≡ now → (outgoing_of new.bytes).left ≡ (parcel_of msg.bytes).bytes → new.label ≡ msg.label → HasPart p ways id last new n
-  letter_taken hand new now msg m n h ticket label few e same_link same_home same_now left same_label = let x' : Right = taken_right h.right_is (heading_of msg) (parcel_of msg.bytes).bytes in let its : LinkHome O g → ℕ = λ y. y.next in (
+      → new.link ≡ hand.link → new.home ≡ hand.home → new.now.0 ≡ now → (outgoing_of new.bytes).left ≡ (parcel_of msg.bytes).bytes → new.label ≡ msg.label → new.owner ≡ msg.owner → HasPart p ways id last new n
+  letter_taken hand new now msg m n h ticket label few e same_link same_home same_now left same_label same_owner = let x' : Right = taken_right h.right_is (heading_of msg) (parcel_of msg.bytes).bytes in let its : LinkHome O g → ℕ = λ y. y.next in (
     record {
       right_is = taken_right h.right_is (heading_of msg) (parcel_of msg.bytes).bytes;
       writer = subst (λ (y : ℕ). IsWriter p id last y (taken_right h.right_is (heading_of msg) (parcel_of msg.bytes).bytes) n.0) (sym same_link) (writer_on h.writer last x' refl h.writer.last_is h.writer.last_ticket (ap (λ (q : Me (SockHome O g) View). q.0) e));
@@ -228,6 +236,8 @@ module _ {O : Type 0} {g : Ghosts O} {p : Plan} {ways : List (List ℕ)} {id las
       ticket = subst (IsTicket p) (sym same_now) ticket;
       taken = refl;
       place_is = ap (λ (y : Label). y.place) (sym same_label);
+      attempt_is = ap (λ (y : Label). y.attempt) (sym same_label);
+      owner_is = sym same_owner;
       place_in = subst (λ (y : Label). y.place < 8 * p.operations) (sym same_label) label;
       begun = [];
       bytes_are = sym left;
@@ -263,10 +273,10 @@ module _ {O : Type 0} {g : Ghosts O} {p : Plan} {ways : List (List ℕ)} {id las
 
   -- P1 with the dropped bit
   pub part_dropped : (hand : InHand O g) (home : LinkHome O g) (m n : Me (SockHome O g) View) (h : HasInHand p ways id last hand m) → (home.took.list ≡ hand.home.took.list) × (home.next ≡ hand.home.next + 1) → home.out ≡ hand.home.out
-      → (word value : ℕ) → n ≡ (wrote word value (with_right m.0 (dropped_right h.right_is hand.now.0 hand.home.took.list)), m.1) → HasLink p ways id last (Placed hand.now.0) ((slot_of hand.now.0, Empty) ∷ []) record { link = hand.link; home = home } n
+      → (word value : ℕ) → n ≡ (dropped_at word value h.right_is.heading (with_right m.0 (dropped_right h.right_is hand.now.0 hand.home.took.list)), m.1) → HasLink p ways id last (Placed hand.now.0) ((slot_of hand.now.0, Empty) ∷ []) record { link = hand.link; home = home } n
   part_dropped hand home m n r more out word value e = let x' : Right = dropped_right r.right_is hand.now.0 hand.home.took.list in record {
     right_is = dropped_right r.right_is hand.now.0 hand.home.took.list;
-    writer = writer_dropped r.writer word value x' refl r.writer.last_is (ap (λ (q : Me (SockHome O g) View). q.0) e);
+    writer = writer_dropped r.writer word value r.right_is.heading x' refl r.writer.last_is (ap (λ (q : Me (SockHome O g) View). q.0) e);
     has = record { away = r.has.away; link_in = r.has.link_in; places_are = (let a = more.1 in let b = r.has.places_are in omega arith); own = ap (λ (y : O). (g.state y).link) out ∙ r.has.own; way = ap (λ (y : O). (g.state y).way) out ∙ r.has.way; unfinished = ap (λ (y : O). (g.state y).finished) out ∙ r.has.unfinished };
     stage_is = refl;
     idle = refl;

@@ -48,12 +48,12 @@ KeptBy p ways sock (kept.Dropped r msg code) v m = (r.sock ≡ sock) × MayGoOn 
 -- the seat only wrote, or dropped the message that is told
 abbrev pub WentWriting : {O : Type 0} {g : Ghosts O} → Plan → SockRef → Went O g → View → View → Type 0
 WentWriting {O} {g} p sock (went.Done s) v w = Wrote g.state sock.id.0 v w
-WentWriting {O} {g} p sock (went.Dropped r msg code) v w = WroteDrop g.state p sock.id.0 msg.label.place v w
+WentWriting {O} {g} p sock (went.Dropped r msg code) v w = WroteDrop g.state p sock.id.0 msg v w
 WentWriting {O} {g} p sock (went.Further r) v w = Wrote g.state sock.id.0 v w
 
 abbrev pub KeptWriting : {O : Type 0} {g : Ghosts O} → Plan → SockRef → Kept O g → View → View → Type 0
 KeptWriting {O} {g} p sock (kept.Done s) v w = Wrote g.state sock.id.0 v w
-KeptWriting {O} {g} p sock (kept.Dropped r msg code) v w = WroteDrop g.state p sock.id.0 msg.label.place v w
+KeptWriting {O} {g} p sock (kept.Dropped r msg code) v w = WroteDrop g.state p sock.id.0 msg v w
 
 abbrev pub KeptDropped : {O : Type 0} {g : Ghosts O} → Kept O g → Type 0
 KeptDropped (kept.Done s) = ⊥

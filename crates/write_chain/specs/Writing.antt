@@ -104,6 +104,8 @@ pub record HasInHand {O : Type 0} {g : Ghosts O} (p : Plan) (ways : List (List �
   pub ticket : IsTicket p hand.now.0
   pub taken : right_is.taken ≡ true
   pub place_is : right_is.heading.place ≡ hand.label.place
+  pub attempt_is : right_is.heading.attempt ≡ hand.label.attempt
+  pub owner_is : right_is.heading.owner ≡ hand.owner
   pub place_in : hand.label.place < 8 * p.operations
   pub begun : List ℕ
   pub bytes_are : right_is.bytes ≡ begun ++ (outgoing_of hand.bytes).left

@@ -58,7 +58,7 @@ pub fn drop_one<O: Out>(
     ensures message { (result.1.left ≡ hand.bytes) × (result.1.label ≡ hand.label) × (result.1.owner ≡ hand.owner) }
     ensures code { IsCode result.2 sock.now.id.0 seat.old.me.0 seat.new.me.0 }
     ensures dead { FoundDead sock.now.id.0 seat.new.me.0 }
-    ensures wrote { WroteDrop O.state table.now.rule.plan sock.now.id.0 result.1.label.place seat.old.me.0 seat.new.me.0 }
+    ensures wrote { WroteDrop O.state table.now.rule.plan sock.now.id.0 result.1 seat.old.me.0 seat.new.me.0 }
 {
     let told = table.code(seat, sock);
     let InHand {

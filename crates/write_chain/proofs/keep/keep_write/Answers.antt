@@ -24,7 +24,7 @@ returns-in-Dropped-clause-kept g c = let w = (subst (λ (y : SockRef). WentBy c.
     (w.0, w.1, w.2, code_before c.in-Dropped.code c.args.right.sock.id.0 c.args.seat.now.me.0 c.goes.seat.me.0 c.go_on.new.seat.me.0 c.goes.invariant.wrote w.3)
 
 pub returns-in-Dropped-clause-wrote : goal.returns-in-Dropped-clause-wrote
-returns-in-Dropped-clause-wrote g c = (drop_then c.args.table.now.rule.plan c.in-Dropped.msg.label.place c.args.seat.now.me.0 c.goes.seat.me.0 c.go_on.new.seat.me.0 c.goes.invariant.wrote (subst (λ (y : SockRef). WentWriting c.args.table.now.rule.plan y (went.Dropped c.in-Dropped.right c.in-Dropped.msg c.in-Dropped.code) c.goes.seat.me.0 c.go_on.new.seat.me.0) c.goes.invariant.same c.in-Dropped.ensures.wrote))
+returns-in-Dropped-clause-wrote g c = (drop_then c.args.table.now.rule.plan c.in-Dropped.msg c.args.seat.now.me.0 c.goes.seat.me.0 c.go_on.new.seat.me.0 c.goes.invariant.wrote (subst (λ (y : SockRef). WentWriting c.args.table.now.rule.plan y (went.Dropped c.in-Dropped.right c.in-Dropped.msg c.in-Dropped.code) c.goes.seat.me.0 c.go_on.new.seat.me.0) c.goes.invariant.same c.in-Dropped.ensures.wrote))
 
 pub returns-in-Done-clause-stays : goal.returns-in-Done-clause-stays
 returns-in-Done-clause-stays g c = λ d m. absurd (c.in-Done.ensures.stays (subst (λ (y : SockRef). FoundDead y.id.0 c.goes.seat.me.0) (sym c.goes.invariant.same) (still_dead c.args.right.sock.id.0 c.args.seat.now.me.0 c.goes.seat.me.0 c.goes.invariant.wrote d)) (c.goes.invariant.stays d m))
