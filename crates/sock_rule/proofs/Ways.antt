@@ -1,5 +1,5 @@
 -- Steps under the rule by the key of a table: what homes show there, and what the steps tell that are told the ways of the links.
-use Rattle.std.proofs.Common.{◌≡◌, ℕ, zero, suc, ◌+◌, ◌*◌, ◌<◌, Bool, true, false, cond, eqb, List, [], ◌∷◌, refl, sym, ap, ◌∙◌, subst, arith}
+use Rattle.std.proofs.Common.{◌≡◌, ℕ, zero, suc, ◌<◌, Bool, true, false, cond, eqb, List, refl, sym, ap, ◌∙◌, subst, arith}
 use Rattle.std.specs.Prelude.{bytes_eq}
 use Rattle.std.proofs.Math.Dec.{eqb-suc-zero}
 use Rattle.std.proofs.lemmas.Slice.Eq.{bytes_eq-Decides}
@@ -11,7 +11,6 @@ use Rattle.sock_io.specs.Link.{OutState}
 use Rattle.sock_words.specs.declared.plain.Plan.{Plan}
 use Rattle.sock_model.specs.declared.chain.Claim.{Claim}
 use Rattle.sock_model.specs.declared.chain.Heading.{Heading}
-use Rattle.sock_model.specs.declared.chain.Right.{Right}
 use Rattle.sock_model.specs.declared.home.Home.{Home}
 use Rattle.sock_model.specs.declared.home.Home.TheVariants as home
 use Rattle.sock_model.specs.declared.view.View.{View}
@@ -19,7 +18,7 @@ use Rattle.sock_model.specs.SlotRows.{wrote, met_link}
 use Rattle.sock_model.specs.ChainRows.{with_claim, with_right, dropped_right}
 use Rattle.sock_rule.specs.declared.homes.SockHome.{SockHome}
 use Rattle.sock_rule.specs.declared.homes.SockHome.TheVariants.{Empty, Link, Message, Ways}
-use Rattle.sock_rule.specs.ChainPlays.{took_in, filled_with, TookLetter, fill_told, take_own_told, take_letter_told, drop_told}
+use Rattle.sock_rule.specs.ChainPlays.{took_in, filled_with, fill_told, take_own_told, take_letter_told, drop_told}
 use Rattle.sock_rule.specs.Plays.{take_last_told, spend_told}
 use Rattle.sock_rule.specs.Shows.{shows, rose, way_at, number_in, shows_in, SaysWays, SaidWays}
 use Rattle.sock_rule.specs.OnKey.{take_own_said, take_last_said, spend_said}
