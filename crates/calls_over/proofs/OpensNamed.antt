@@ -27,9 +27,8 @@ use Rattle.outcome_causes.proofs.Scripts.{own_from}
 use Rattle.id_rule.specs.Lawful.{at_index}
 use Rattle.served_fits.specs.call_causes.specs.Lists.{shows_in}
 use Rattle.served_fits.specs.send_causes.specs.EndedCalls.{Store, stored_at}
-use Rattle.served_fits.specs.send_causes.proofs.Runs.{AreLabelledIn, IsCallOf}
+use Rattle.served_fits.specs.send_causes.proofs.Runs.{AreLabelledIn, IsCallOf, asked_by}
 use Rattle.served_fits.specs.send_causes.proofs.EndedTrails.{lost}
-use Rattle.served_fits.specs.send_causes.proofs.AttemptedBegin.{asked_by}
 use Rattle.served_fits.specs.send_causes.proofs.EndedNamed.{all_follow, begins_named, Named, Behind, seats_named, setup_named}
 use Rattle.served_fits.specs.send_causes.proofs.EndedNames.{NameLaw, StoredFor}
 use Rattle.sock_words.specs.Words as sockets

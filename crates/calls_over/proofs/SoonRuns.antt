@@ -34,10 +34,9 @@ use Rattle.owed_calls.specs.joint_runs.proofs.Runs.{AreMade, first_views, joint_
 use Rattle.owed_calls.specs.Lives.{ClosesInRun, InHand}
 use Rattle.served_fits.specs.run_theorems.proofs.Lengths.{tick_long}
 use Rattle.served_fits.specs.call_causes.specs.Scenes.{In}
-use Rattle.served_fits.specs.send_causes.proofs.AttemptedBegin.{begins_labels, asked_by}
 use Rattle.served_fits.specs.send_causes.proofs.Early.{start, go, fitting}
 use Rattle.served_fits.specs.send_causes.proofs.Labelled.{ids_of_run}
-use Rattle.served_fits.specs.send_causes.proofs.Runs.{IsCallOf, programs_go}
+use Rattle.served_fits.specs.send_causes.proofs.Runs.{IsCallOf, programs_go, begins_labels, asked_by}
 use Rattle.served_fits.specs.send_causes.proofs.Sends.{narrow, few_clients, opening_claims, labelled}
 use Rattle.served_fits.specs.send_causes.proofs.Whole.{get_same}
 use Rattle.served_fits.specs.served_runs.specs.Offered.{TookSoFar, offered_by, OffersInRun}

@@ -33,8 +33,7 @@ use Rattle.label_runs.specs.Labels.{Trial}
 use Rattle.label_runs.proofs.Programs.{ending_goes}
 use Rattle.send_causes.specs.Counts.{times_of, word_of_id, WasNow, LabelLaw, StoresOwn, AreLabelled}
 use Rattle.send_causes.proofs.Ticks.{moves, label_ticks}
-use Rattle.send_causes.proofs.Runs.{AreLabelledIn, IsCallOf, behind_ids, programs_go}
-use Rattle.send_causes.proofs.AttemptedBegin.{begins_labels, asked_by}
+use Rattle.send_causes.proofs.Runs.{AreLabelledIn, IsCallOf, behind_ids, programs_go, begins_labels, asked_by}
 use Rattle.send_causes.proofs.AttemptedWords.{Rise, is_new, is_same, is_more}
 use Rattle.send_causes.proofs.AttemptedIds.{AdvancesId, AreRising, AreRisingIn}
 

@@ -54,11 +54,10 @@ use Rattle.call_causes.proofs.Ticks.{IsSetUp, keeps_few, story_ticks}
 use Rattle.label_runs.proofs.Loops.{id_back}
 use Rattle.send_causes.specs.Counts.{word_of_id, StoresOwn, AreLabelled}
 use Rattle.send_causes.proofs.Early.{start, go, fitting}
-use Rattle.send_causes.proofs.Runs.{AreLabelledIn, IsCallOf}
+use Rattle.send_causes.proofs.Runs.{AreLabelledIn, IsCallOf, asked_by}
 use Rattle.send_causes.proofs.Sends.{opening_claims}
 use Rattle.call_causes.specs.programs_allowed.specs.Openings.{all_seats}
 use Rattle.call_causes.specs.programs_allowed.proofs.Fresh.{opening_fresh}
-use Rattle.send_causes.proofs.AttemptedBegin.{asked_by}
 use Rattle.send_causes.proofs.AttemptedWords.{Rise, AdvancesAt, is_new, is_same, is_more, tick_rises}
 use Rattle.send_causes.proofs.AttemptedIds.{AdvancesId, AreRising, AreRisingIn}
 use Rattle.send_causes.specs.Refused.{WouldStore, WouldOwn, AllWouldOwn, RunWouldOwn}

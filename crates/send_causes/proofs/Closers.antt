@@ -1,34 +1,34 @@
 -- A reader sets its socket failed only where the reading of its link ended, with the code of that end; it exchanges no head, and takes bytes of its own link alone.
-use Rattle.std.proofs.Common.{◌≡◌, ℕ, ◌+◌, ◌-◌, ◌%◌, ◌≤◌, ◌==◌, ◌&&◌, ◌⊎◌, inl, inr, not, nat_lt, nat_le, ltb-false, Bool, true, false, cond, List, [], ◌∷◌, ◌++◌, length, length-append, append-nil, append_assoc, refl, sym, ap, ◌∙◌, subst, arith}
+use Rattle.std.proofs.Common.{◌≡◌, ℕ, ◌+◌, ◌%◌, ◌≤◌, ◌==◌, ◌&&◌, ◌⊎◌, inl, inr, nat_lt, ltb-false, Bool, true, false, cond, List, [], ◌∷◌, ◌++◌, length, length-append, append-nil, append_assoc, refl, sym, ap, ◌∙◌, subst, arith}
 use Rattle.std.proofs.lemmas.Bool.{true≢false}
 use Rattle.std.proofs.lemmas.List.Concat.{flat_map-append}
-use Rattle.std.specs.Prelude.{Option, Some, None}
-use Rattle.sock_words.specs.Words.{socket_id_version, socket_id_slot, vref_version, vref_nref, at_word_first, at_word_slot, at_word_link, at_word_attempt}
+use Rattle.std.specs.Prelude.{Some, None}
+use Rattle.sock_words.specs.Words.{socket_id_version, socket_id_slot, vref_version}
 use Rattle.sock_steps.proofs.Quiet.{either_way}
-use Rattle.corr_core.specs.Word.{parts, posted_word, unlocked_word, code_of, error_of}
-use Rattle.corr_core.specs.Law.{LAST}
+use Rattle.corr_core.specs.Word.{parts, code_of}
 use Rattle.brpc_model.specs.Frame.{Frame}
 use Rattle.brpc_model.specs.Stream as streams
 use Rattle.seat_programs.specs.Calls.{Call, SetOdd, StoreCode, AddRef, SwapHead, CreateLife, StoreOpen}
-use Rattle.seat_programs.specs.Asides.{Step, Found, TakeBytes, Taking, Bytes, Nothing, NoMore, AtEnd, Closed, Broken, call_id, id_slot, id_first}
-use Rattle.seat_programs.specs.Heads.{Head, Exit, Retry, Sought, Reading, Posts, Unlocks, Decides, Locks, Joins, Opens, Reads, Discards, Posting, WasGone, WasStale, WasCrowded, WasQueued, HasLocked, Unlocking, IsOpen, HasNext, Deciding, HasEnded, GoesOn, Locking, NotThere, Has, Ended}
-use Rattle.seat_programs.specs.Programs.{Program, Do, Say, Sent, Rest, TakeMessage, TakeHome, PutHome, PutBytes, AskReady, Write, Aside, Round, Keep, Retries, LAST_VERSION, recycle, release, address, set_failed}
-use Rattle.seat_programs.specs.Posts.{packed, advance_of, is_first, is_sought, is_stale, is_full, judged, posts_round, post_with, popped, unlocks_round, ends_call, end_id, decide, decided, unlocked, locking, locks_round, joins_round}
-use Rattle.seat_programs.specs.Readers.{LIMIT, ending_of, slot_in, version_in, has_response, is_early, answer, answered, responses, last_of, ended_by, read_on, took, discarded, kept_for, ends_with, posted_last, post_each, thrown_away, read}
+use Rattle.seat_programs.specs.Asides.{Step, Found, TakeBytes, Taking, Bytes, Nothing, NoMore, AtEnd, Closed, Broken, id_slot}
+use Rattle.seat_programs.specs.Heads.{Head, Exit, Retry, Reading, Posts, Unlocks, Decides, Locks, Joins, Opens, Reads, Discards, HasEnded, Ended}
+use Rattle.seat_programs.specs.Programs.{Program, Do, Say, Sent, Rest, TakeMessage, TakeHome, PutHome, PutBytes, AskReady, Write, Aside, Round, Keep, Retries, release, address, set_failed}
+use Rattle.seat_programs.specs.Posts.{ends_call}
+use Rattle.seat_programs.specs.Readers.{LIMIT, last_of, ended_by, read_on, took, discarded, post_each, thrown_away, read}
 use Rattle.seat_programs.specs.Rounds.{round}
 use Rattle.seat_programs.specs.Cores.{resolved, next_step}
 use Rattle.sock_runs.specs.Sound.{first_step}
 use Rattle.outcome_causes.specs.Stories.{In}
 use Rattle.outcome_causes.proofs.Plain.{in_left, in_right}
 use Rattle.run_theorems.specs.Heard.{bytes_found, given_by}
+use Rattle.send_causes.proofs.ReaderParts.{is_freeing, is_of_id, is_loop, ReadsOn, PostsOn, release_on, unlocks_on, end_id_on, unlocked_on, locks_on, joins_on, responses_on, posts_on, post_each_on}
 use Rattle.send_causes.proofs.Faults.{Faults, fault_stays, fault_follows}
 
 -- ## What takes gave
 
-gave_more : (h : List Taking) (bytes : List ℕ) → given_by (h ++ Bytes bytes ∷ []) ≡ given_by h ++ bytes
+pub gave_more : (h : List Taking) (bytes : List ℕ) → given_by (h ++ Bytes bytes ∷ []) ≡ given_by h ++ bytes
 gave_more h bytes = flat_map-append bytes_found h (Bytes bytes ∷ []) ∙ ap (λ l. given_by h ++ l) (append-nil bytes)
 
-gave_none : (h : List Taking) (t : Taking) → bytes_found t ≡ [] → given_by (h ++ t ∷ []) ≡ given_by h
+pub gave_none : (h : List Taking) (t : Taking) → bytes_found t ≡ [] → given_by (h ++ t ∷ []) ≡ given_by h
 gave_none h t e = flat_map-append bytes_found h (t ∷ []) ∙ ap (λ l. given_by h ++ (l ++ [])) e ∙ append-nil (given_by h)
 
 -- the code with which a reading ends that wasn't closed, by these takes
@@ -54,7 +54,7 @@ over_more h later (inl (inr (inr (inr m)))) = inl (inr (inr (inr (in_left h late
 over_more h later (inr (inl m)) = inr (inl (in_left h later Closed m))
 over_more h later (inr (inr m)) = inr (inr (in_left h later NoMore m))
 
-last_in : (h : List Taking) (t : Taking) → In t (h ++ t ∷ [])
+pub last_in : (h : List Taking) (t : Taking) → In t (h ++ t ∷ [])
 last_in h t = in_right h (t ∷ []) t (inl refl)
 
 -- ## Programs
@@ -103,96 +103,37 @@ module _ (k id : ℕ) (Odd : List Taking → Type 0) (Lasts : Type 0) where
     abbrev C : Program → Type 0
     C = Calm false h
 
-    calm_recycle : (i from : ℕ) (next : Bool → Program) → ((b : Bool) → C (next b)) → C (recycle i from next)
-    calm_recycle i from next after = (λ found. either_way (found == from) _ _ C
-        ((λ k. (λ _. (λ _. (λ _.
-        either_way (nat_le (vref_version from + 1) LAST_VERSION) _ _ C ((λ _. after true)) (after true))))))
-        (after false))
+    frees : (call : Call) (next : ℕ → Program) → is_freeing call ≡ true → ((found : ℕ) → C (next found)) → C (Do call next)
+    frees (SetOdd i) next is x = absurd (true≢false (sym is))
+    frees (StoreCode i v code) next is x = absurd (true≢false (sym is))
+    frees (AddRef y) next is x = absurd (true≢false (sym is))
+    frees (SwapHead i own) next is x = absurd (true≢false (sym is))
+    frees (CreateLife i l) next is x = absurd (true≢false (sym is))
+    frees (StoreOpen o w) next is x = absurd (true≢false (sym is))
+    frees call next is x = x
 
-    calm_release : (i : ℕ) (next : Bool → Program) → ((b : Bool) → C (next b)) → C (release i next)
-    calm_release i next after = (λ found. either_way ((vref_version found % 2 == 1) && (vref_nref found == 1)) _ _ C (calm_recycle i (found - 1) next after) (after false))
+    asides : (step : Step) (next : Found step → Program) → is_of_id step ≡ true → ((found : Found step) → C (next found)) → C (Aside step next)
+    asides (TakeBytes l room) next is x = absurd (true≢false (sym is))
+    asides step next is x = x
 
-    calm_judged : (id e found : ℕ) (k : Posting → Program) → ((x : Posting) → C (k x)) → C (judged id e found k)
-    calm_judged id e found k after = either_way (not (is_first (id_first id) (parts found))) _ _ C (after WasGone)
-        (either_way (is_stale e (parts found)) _ _ C (after WasStale)
-        (either_way (is_full (parts found)) _ _ C (after (WasCrowded (code_of (parts found).oldest) (code_of (parts found).second))) (after)))
+    rounds : (head : Head) (next : Exit head → Program) → is_loop head ≡ true → ((exit : Exit head) → C (next exit)) → C (Round head next)
+    rounds (Opens o) next is x = absurd (true≢false (sym is))
+    rounds (Reads r) next is x = absurd (true≢false (sym is))
+    rounds (Discards l total) next is x = absurd (true≢false (sym is))
+    rounds head next is x = x
 
-    calm_posts : (id e from : ℕ) (k : Posting → Program) → ((x : Posting) → C (k x)) → C (posts_round id e from k)
-    calm_posts id e from k after = (λ found. either_way (found == from) _ _ C
-        (either_way ((parts from).state == 1) _ _ C (after (HasLocked (packed (posted_word (parts from) e)))) (after WasQueued)) (calm_judged id e found k after))
+    calm_on : ReadsOn (Calm false h)
+    calm_on = record { frees = frees; say = λ o outcome next x. x; aside = asides; round = rounds; keep = λ r next x. x }
 
-    calm_post_with : (id e : ℕ) (k : Posting → Program) → ((x : Posting) → C (k x)) → C (post_with id e k)
-    calm_post_with id e k after = (λ found. calm_judged id e found k after)
-
-    calm_popped : (i oldest word : ℕ) (k : Unlocking → Program) → ((x : Unlocking) → C (k x)) → C (popped i oldest word k)
-    calm_popped i oldest word k after = either_way (oldest == 0) _ _ C (after (IsOpen word)) (either_way (is_stale oldest (parts word)) _ _ C (after) (after (HasNext word oldest)))
-
-    calm_unlocks : (i from : ℕ) (advance : Bool) (k : Unlocking → Program) → ((x : Unlocking) → C (k x)) → C (unlocks_round i from advance k)
-    calm_unlocks i from advance k after = (λ found. either_way (found == from) _ _ C
-        (calm_popped i (parts from).oldest (packed (unlocked_word (parts from) (advance_of advance))) k after) (after))
-
-    calm_end_id : (i : ℕ) (next : Program) → C next → C (end_id i next)
-    calm_end_id i next after = (λ found. either_way (nat_le ((parts found).first + (parts found).range) LAST) _ _ C ((λ _. after)) after)
-
-    calm_decide : (id word e : ℕ) (k : Deciding → Program) → ((x : Deciding) → C (k x)) → C (decide id word e k)
-    calm_decide id word e k after = (λ asked. after)
-
-    calm_unlocked : (r : Retry) (k : Deciding → Program) → ((x : Deciding) → C (k x)) → (exit : Unlocking) → C (unlocked r k exit)
-    calm_unlocked r k after (IsOpen word) = (after GoesOn)
-    calm_unlocked r k after (HasNext word e) = (calm_decide r.id word e k after)
-
-    calm_decided : (id : ℕ) (next : Program) → C next → (exit : Deciding) → C (decided id next exit)
-    calm_decided id next after (HasEnded o c) = after
-    calm_decided id next after GoesOn = after
-
-    calm_locking : (i : ℕ) (sought : Sought) (found : ℕ) (k : Locking → Program) → ((x : Locking) → C (k x)) → C (locking i sought found k)
-    calm_locking i sought found k after = either_way (not (is_sought sought (parts found))) _ _ C (after (NotThere found))
-        (either_way ((parts found).state == 1) _ _ C (after) (after))
-
-    calm_locks : (i : ℕ) (sought : Sought) (word : Option ℕ) (k : Locking → Program) → ((x : Locking) → C (k x)) → C (locks_round i sought word k)
-    calm_locks i sought None k after = (λ found. calm_locking i sought found k after)
-    calm_locks i sought (Some from) k after = (λ found. either_way (found == from) _ _ C (after (Has (packed (posted_word (parts from) 0)))) (calm_locking i sought found k after))
-
-    calm_joins : (id : ℕ) (k : ℕ → Program) → ((x : ℕ) → C (k x)) → C (joins_round id k)
-    calm_joins id k after = (λ found. either_way (is_first (id_first id) (parts found)) _ _ C (after) (after found))
-
-    calm_answer : (frame : Frame) (first : ℕ) (next : Program) → C next → C (answer frame first next)
-    calm_answer frame first next after = (λ asked. calm_end_id (slot_in frame) (Say asked.operation (ending_of (call_id (slot_in frame) first) frame) next)
-        (after))
-
-    calm_answered : (frame : Frame) (kept : List Frame) (k : List Frame → Program) → ((x : List Frame) → C (k x)) → (exit : Locking) → C (answered frame kept k exit)
-    calm_answered frame kept k after (NotThere found) = after (cond (is_early (version_in frame) found) (kept ++ frame ∷ []) kept)
-    calm_answered frame kept k after (Has word) = calm_answer frame (parts word).first (k kept) (after kept)
-
-    calm_responses : (ids : ℕ) (frames kept : List Frame) (k : List Frame → Program) → ((x : List Frame) → C (k x)) → C (responses ids frames kept k)
-    calm_responses ids [] kept k after = after kept
-    calm_responses ids (f ∷ fs) kept k after = either_way (has_response f.meta.response && nat_lt (slot_in f) ids) _ _ C
-        ((calm_answered f kept (λ kept'. responses ids fs kept' k) (λ kept'. calm_responses ids fs kept' k after)))
-        (calm_responses ids fs kept k after)
-
-    calm_ends_with : (id e word : ℕ) (kept : List Frame) (next : Program) → C next → C (ends_with id e word kept next)
-    calm_ends_with id e word [] next after = calm_decide id word e (decided id next) (calm_decided id next after)
-    calm_ends_with id e word (f ∷ fs) next after = calm_answer f (id_first id) next after
-
-    calm_posted_last : (id e : ℕ) (kept : List Frame) (next : Program) → C next → (exit : Posting) → C (posted_last id e kept next exit)
-    calm_posted_last id e kept next after (HasLocked word) = calm_ends_with id e word (kept_for id (parts word).range kept) next after
-    calm_posted_last id e kept next after WasGone = after
-    calm_posted_last id e kept next after WasStale = after
-    calm_posted_last id e kept next after (WasCrowded a b) = after
-    calm_posted_last id e kept next after WasQueued = after
-
-    calm_post_each : (os : List ℕ) (k c : ℕ) (kept : List Frame) (next : Program) → C next → C (post_each os k c kept next)
-    calm_post_each [] k c kept next after = after
-    calm_post_each (o ∷ os) k c kept next after = (λ w. let more = calm_post_each os k c kept next after in either_way (w == 0) _ _ C more (either_way (at_word_link w == k) _ _ C
-        (calm_post_with (call_id (at_word_slot w) (at_word_first w)) (error_of c (at_word_attempt w)) (posted_last (call_id (at_word_slot w) (at_word_first w)) (error_of c (at_word_attempt w)) kept (post_each os k c kept next))
-        (calm_posted_last (call_id (at_word_slot w) (at_word_first w)) (error_of c (at_word_attempt w)) kept (post_each os k c kept next) more)) more))
+    calm_posts : PostsOn (Calm false h)
+    calm_posts = record { load = λ o next x. x; post = λ i from e next x. x; round = λ id e w next x. x }
 
     address_calm : (held : Program) (gone : ℕ → Program) → Calm true h held → ((found : ℕ) → C (gone found)) → C (address id held gone)
     address_calm held gone goes after = (refl, λ found. by found (vref_version found == socket_id_version id))
       where
         by : (found : ℕ) (b : Bool) → Calm b h (cond b held (release (socket_id_slot id) (λ _. gone found)))
         by found true = goes
-        by found false = calm_release (socket_id_slot id) (λ _. gone found) (λ _. after found)
+        by found false = release_on calm_on (socket_id_slot id) (λ _. gone found) (λ _. after found)
 
     set_failed_calm : (code : ℕ) (next : ℕ → Program) → Odd h × Codes h code → ((found : ℕ) → C (next found)) → Calm true h (set_failed id code next)
     set_failed_calm code next codes after = (refl, codes.0, refl, λ found. either_way (vref_version found % 2 == 0) _ _ C (codes.1, refl, refl, λ _ _. after found) (after found))
@@ -208,13 +149,13 @@ module _ (k id : ℕ) (Odd : List Taking → Type 0) (Lasts : Type 0) where
     read_calm calls how e = by how.closed refl
       where
         lasts : C (last_posts calls how)
-        lasts = calm_post_each calls how.reading.link how.code how.reading.kept (thrown_away how) (thrown_calm how e.1 e.3)
+        lasts = post_each_on calm_on calm_posts calls how.reading.link how.code how.reading.kept (thrown_away how) (thrown_calm how e.1 e.3)
 
         by : (b : Bool) → how.closed ≡ b → C (cond b (last_posts calls how) (address how.reading.id (set_failed how.reading.id how.code (λ _. release (socket_id_slot how.reading.id) (λ _. (last_posts calls how)))) (λ _. (last_posts calls how))))
         by true is = lasts
         by false is = subst (λ x. C (address x (set_failed x how.code (λ _. release (socket_id_slot x) (λ _. (last_posts calls how)))) (λ _. (last_posts calls how)))) (sym e.2)
             (address_calm (set_failed id how.code (λ _. release (socket_id_slot id) (λ _. (last_posts calls how)))) (λ _. (last_posts calls how))
-            (set_failed_calm how.code (λ _. release (socket_id_slot id) (λ _. (last_posts calls how))) (e.0 is) (λ _. calm_release (socket_id_slot id) (λ _. (last_posts calls how)) (λ _. lasts))) (λ _. lasts))
+            (set_failed_calm how.code (λ _. release (socket_id_slot id) (λ _. (last_posts calls how))) (e.0 is) (λ _. release_on calm_on (socket_id_slot id) (λ _. (last_posts calls how)) (λ _. lasts))) (λ _. lasts))
 
   -- ## Reading
 
@@ -258,7 +199,7 @@ module _ (k id : ℕ) (Odd : List Taking → Type 0) (Lasts : Type 0) where
           goes (ended_by 2002 false true (with_more bytes kept)) (h ++ Bytes bytes ∷ []) ((λ _. (ends.fault (h ++ Bytes bytes ∷ []) faulty, inr (refl, faulty))), at.link, at.own, inl (inr (inl faulty)))
 
       took_calm : (t : Taking) → (t ≡ NoMore → Lasts) → Calm false (h ++ t ∷ []) (took r next t)
-      took_calm (Bytes bytes) some_ = calm_responses (h ++ Bytes bytes ∷ []) r.ids (streams.stream (r.rest ++ bytes)).frames r.kept (λ kept. read_on (with_more bytes kept) (r.rest ++ bytes) (streams.stream (r.rest ++ bytes)).ending next)
+      took_calm (Bytes bytes) some_ = responses_on (calm_on (h ++ Bytes bytes ∷ [])) r.ids (streams.stream (r.rest ++ bytes)).frames r.kept (λ kept. read_on (with_more bytes kept) (r.rest ++ bytes) (streams.stream (r.rest ++ bytes)).ending next)
           (λ kept. read_on_calm kept bytes (streams.stream (r.rest ++ bytes)).ending refl)
       took_calm Nothing some_ = (
         record { link = at.link; own = at.own; total = at.total ∙ ap length (sym (gave_none h Nothing refl)); tied = λ more f. subst (λ l. Faults 0 (l ++ more)) (sym (gave_none h Nothing refl)) (at.tied more f) },
@@ -280,14 +221,14 @@ module _ (k id : ℕ) (Odd : List Taking → Type 0) (Lasts : Type 0) where
 
     -- one round of a loop
     calm_round : (held : Bool) (h : List Taking) (head : Head) (next : Exit head → Program) → Calm held h (Round head next) → Calm held h (round head next)
-    calm_round held h (Posts i e w) next x = calm_posts h i e w next x
-    calm_round held h (Unlocks i w advance) next x = calm_unlocks h i w advance next x
+    calm_round held h (Posts i e w) next x = posts_on (calm_on h) (calm_posts h) i e w next x
+    calm_round held h (Unlocks i w advance) next x = unlocks_on (calm_on h) i w advance next x
     calm_round held h (Decides i asked w e) next x = either_way (ends_call (parts w) e) _ _ (Calm held h)
-        (calm_end_id h (id_slot i) (next (HasEnded asked.operation (code_of e))) (x (HasEnded asked.operation (code_of e))))
-        (λ _ exit. calm_unlocked h (record { id = i; attempt = (parts w).attempt + 1 }) next x exit)
-    calm_round held h (Locks i sought None) next x = calm_locks h i sought None next x
-    calm_round held h (Locks i sought (Some w)) next x = calm_locks h i sought (Some w) next x
-    calm_round held h (Joins i) next x = calm_joins h i next x
+        (end_id_on (calm_on h) (id_slot i) (next (HasEnded asked.operation (code_of e))) (x (HasEnded asked.operation (code_of e))))
+        (λ _ exit. unlocked_on (calm_on h) (record { id = i; attempt = (parts w).attempt + 1 }) next x exit)
+    calm_round held h (Locks i sought None) next x = locks_on (calm_on h) i sought None next x
+    calm_round held h (Locks i sought (Some w)) next x = locks_on (calm_on h) i sought (Some w) next x
+    calm_round held h (Joins i) next x = joins_on (calm_on h) i next x
     calm_round held h (Opens o) next x = absurd x
     calm_round held h (Reads r) next x = let at = x.0 in (at.link, λ t some_. took_calm h r next at x.1 t some_)
     calm_round held h (Discards l total) next x = (x.0, λ t some_. discarded_calm h l total next x.0 x.1 x.2 t)

@@ -39,15 +39,14 @@ use Rattle.outcome_causes.proofs.Openings.{are_seats, all_explained}
 use Rattle.outcome_causes.proofs.Runs.{IsStoried, set_up_over, ending_story, is_ending_story}
 use Rattle.outcome_causes.proofs.Scripts.{own_from}
 use Rattle.outcome_causes.proofs.Ticks.{elem_there, tick_story}
-use Rattle.label_runs.proofs.Programs.{OpCalls}
+use Rattle.label_runs.proofs.Operations.{OpCalls}
 use Rattle.id_rule.specs.Lawful.{at_index}
 use Rattle.call_causes.specs.Lists.{shows_in}
 use Rattle.id_runs.proofs.Opening.{unused}
 use Rattle.send_causes.specs.Counts.{AreLabelled}
 use Rattle.send_causes.specs.EndedCalls.{Load, loaded_at, loads_of_run, Store, stored_at, stores_of_run}
-use Rattle.send_causes.proofs.Runs.{AreLabelledIn, IsCallOf, behind_ids}
+use Rattle.send_causes.proofs.Runs.{AreLabelledIn, IsCallOf, behind_ids, asked_by}
 use Rattle.send_causes.proofs.Ticks.{none_asked}
-use Rattle.send_causes.proofs.AttemptedBegin.{asked_by}
 use Rattle.send_causes.proofs.EndedTrails.{Trail, lost, Follows}
 use Rattle.send_causes.proofs.EndedPrograms.{client_goes, ending_goes, reader_goes}
 use Rattle.send_causes.proofs.EndedNames.{NameLaw, StoredFor, for_up, lost_true, resolves, moves, name_ticks, tick_loads}

@@ -24,7 +24,6 @@ use Rattle.corr_core.specs.declared.marks.Plan.{Plan as IdPlan}
 use Rattle.id_rule.specs.Lawful as ids
 use Rattle.id_runs.specs.Held.{IdView, MayId}
 use Rattle.id_runs.specs.Goes.{FitsRetryId, FitsSock, IdGoesOn, SoundIds, IsFittingIds}
-use Rattle.id_runs.specs.Goes as goes
 use Rattle.id_runs.proofs.Steps.{finds_ids}
 use Rattle.seat_programs.specs.Asides.{Step, Found, ClaimId, PutCall, MakeId, StoreCall, LoadCall, StoreAt, LoadAt, LoadIdWord, LockId, PostId, UnlockId, EndId, FreeId, TakeCall, TakeBytes, Taking, Bytes, Nothing, NoMore, AtEnd, Closed, Broken, id_slot, id_first}
 use Rattle.sock_message.specs.Asked.{Asked, name_of}
@@ -53,8 +52,7 @@ use Rattle.send_causes.proofs.Words.{finds_label, makes_new}
 use Rattle.send_causes.proofs.Ticks.{AreTries, few_more, few_of, AreCalls, PutsCall, calls_behind, calls_waiting, ids_first, fits_as}
 use Rattle.send_causes.proofs.Views.{row_same}
 use Rattle.send_causes.proofs.EndedTrails.{Of, NoCall, Makes, Knows, Trail, lost, Stays, IsOwnStore, MayAttempt, GoesDo, GoesAside, Follows}
-use Rattle.send_causes.proofs.EndedLoops.{follows_round}
-use Rattle.send_causes.proofs.EndedPrograms.{block_goes, retry_goes}
+use Rattle.send_causes.proofs.EndedPrograms.{follows_round, block_goes, retry_goes}
 
 -- ## First steps
 

@@ -33,16 +33,16 @@ use Rattle.outcome_causes.proofs.Plain.{in_left, in_right, in_both}
 use Rattle.outcome_causes.proofs.Ticks.{elem_there}
 use Rattle.call_causes.specs.joint_runs.proofs.Runs.{AreMade, first_views}
 use Rattle.label_runs.specs.Labels.{Trial, Idle, Labels}
-use Rattle.label_runs.proofs.Programs.{OpCalls, client_goes, ending_goes, reader_goes}
+use Rattle.label_runs.proofs.Operations.{OpCalls}
+use Rattle.label_runs.proofs.Programs.{client_goes, ending_goes, reader_goes}
 use Rattle.call_causes.specs.owed_calls.specs.Lives.{ClosesInRun}
 use Rattle.call_causes.specs.Lists.{shows_in}
 use Rattle.send_causes.specs.Counts.{of_retry, AreLabelled}
 use Rattle.send_causes.specs.EndedCalls.{Store, stored_at, stores_of_run, AreStoredOnce}
 use Rattle.send_causes.proofs.Early.{start, go, fitting}
-use Rattle.send_causes.proofs.Runs.{AreLabelledIn, IsCallOf, behind_ids}
+use Rattle.send_causes.proofs.Runs.{AreLabelledIn, IsCallOf, behind_ids, asked_by}
 use Rattle.send_causes.proofs.Sends.{narrow}
 use Rattle.send_causes.proofs.Ticks.{none_asked}
-use Rattle.send_causes.proofs.AttemptedBegin.{asked_by}
 use Rattle.send_causes.proofs.EndedTryTicks.{of_try, OnceLaw, moves, once_ticks}
 use Rattle.send_causes.proofs.EndedWhole.{seats_played}
 

@@ -1,36 +1,31 @@
 -- A reader posts errors only behind the end of its reading, and for at words that it loaded which name its link.
-use Rattle.std.proofs.Common.{◌≡◌, ◌≢◌, ℕ, ◌+◌, ◌-◌, ◌%◌, ◌==◌, ◌&&◌, ◌⊎◌, inl, inr, not, nat_lt, nat_le, ltb-false, eqb-true, eq-eqb, Bool, true, false, cond, List, [], ◌∷◌, ◌++◌, length, length-append, append-nil, append_assoc, refl, sym, ap, ◌∙◌, subst, arith}
+use Rattle.std.proofs.Common.{◌≡◌, ◌≢◌, ℕ, ◌+◌, ◌-◌, ◌%◌, ◌==◌, ◌&&◌, ◌⊎◌, inl, inr, not, nat_lt, ltb-false, eqb-true, eq-eqb, Bool, true, false, cond, List, [], ◌∷◌, ◌++◌, length, length-append, append-nil, append_assoc, refl, sym, ap, ◌∙◌, subst, arith}
 use Rattle.std.proofs.lemmas.Bool.{true≢false}
 use Rattle.std.proofs.lemmas.List.Concat.{flat_map-append}
-use Rattle.std.specs.Prelude.{Option, Some, None}
-use Rattle.sock_words.specs.Words.{socket_id_version, socket_id_slot, vref_version, vref_nref, at_word_first, at_word_slot, at_word_link, at_word_attempt}
+use Rattle.std.specs.Prelude.{Some, None}
+use Rattle.sock_words.specs.Words.{socket_id_version, socket_id_slot, vref_version, at_word_first, at_word_slot, at_word_link, at_word_attempt}
 use Rattle.sock_steps.proofs.Quiet.{either_way}
-use Rattle.corr_core.specs.Word.{parts, posted_word, unlocked_word, code_of, error_of}
-use Rattle.corr_core.specs.Law.{LAST}
+use Rattle.corr_core.specs.Word.{parts, posted_word, code_of, error_of}
 use Rattle.brpc_model.specs.Frame.{Frame}
 use Rattle.brpc_model.specs.Stream as streams
 use Rattle.label_runs.proofs.Loops.{id_back, not_true, and_left}
-use Rattle.seat_programs.specs.Asides.{Found, LoadAt, PostId, TakeBytes, Taking, Bytes, Nothing, NoMore, AtEnd, Closed, Broken, call_id, id_slot, id_first}
-use Rattle.seat_programs.specs.Heads.{Head, Exit, Retry, Sought, Reading, Posts, Unlocks, Decides, Locks, Joins, Opens, Reads, Discards, Posting, WasGone, WasStale, WasCrowded, WasQueued, HasLocked, Unlocking, IsOpen, HasNext, Deciding, HasEnded, GoesOn, Locking, NotThere, Has, Ended}
-use Rattle.seat_programs.specs.Programs.{Program, Do, Say, Sent, Rest, TakeMessage, TakeHome, PutHome, PutBytes, AskReady, Write, Aside, Round, Keep, Retries, NO_SOCKET, LAST_VERSION, recycle, release, address, set_failed}
-use Rattle.seat_programs.specs.Posts.{packed, advance_of, is_first, is_sought, is_stale, is_full, judged, posts_round, post_with, popped, unlocks_round, ends_call, end_id, decide, decided, unlocked, locking, locks_round, joins_round}
-use Rattle.seat_programs.specs.Readers.{LIMIT, ending_of, slot_in, version_in, has_response, is_early, answer, answered, responses, last_of, ended_by, read_on, took, discarded, opens_round, kept_for, ends_with, posted_last, post_each, thrown_away, read, reader}
+use Rattle.seat_programs.specs.Asides.{Step, Found, LoadAt, PostId, TakeBytes, Taking, Bytes, Nothing, NoMore, AtEnd, Closed, Broken, call_id, id_slot, id_first}
+use Rattle.seat_programs.specs.Heads.{Head, Exit, Retry, Reading, Posts, Unlocks, Decides, Locks, Joins, Opens, Reads, Discards, Posting, WasGone, WasStale, WasCrowded, WasQueued, HasLocked, HasEnded, Ended}
+use Rattle.seat_programs.specs.Programs.{Program, Do, Say, Sent, Rest, TakeMessage, TakeHome, PutHome, PutBytes, AskReady, Write, Aside, Round, Keep, Retries, NO_SOCKET, release, address, set_failed}
+use Rattle.seat_programs.specs.Posts.{packed, is_first, is_stale, is_full, judged, posts_round, post_with, ends_call}
+use Rattle.seat_programs.specs.Readers.{LIMIT, last_of, ended_by, read_on, took, discarded, opens_round, posted_last, post_each, thrown_away, read, reader}
 use Rattle.seat_programs.specs.Rounds.{round}
 use Rattle.seat_programs.specs.Cores.{resolved, next_step}
 use Rattle.sock_runs.specs.Sound.{first_step}
 use Rattle.outcome_causes.specs.Stories.{In}
-use Rattle.outcome_causes.proofs.Plain.{in_left, in_right}
+use Rattle.outcome_causes.proofs.Plain.{in_left}
 use Rattle.run_theorems.specs.Heard.{bytes_found, given_by}
+use Rattle.send_causes.proofs.ReaderParts.{is_of_id, is_loop, ReadsOn, release_on, unlocks_on, end_id_on, unlocked_on, locks_on, joins_on, responses_on, posted_last_on}
 use Rattle.send_causes.proofs.Faults.{Faults, fault_stays, fault_follows}
+use Rattle.send_causes.proofs.Closers.{gave_more, gave_none, last_in}
 use Rattle.send_causes.proofs.Early.{EndedBy, ended_more}
 
 -- ## How a reading ends
-
-gave_more : (h : List Taking) (bytes : List ℕ) → given_by (h ++ Bytes bytes ∷ []) ≡ given_by h ++ bytes
-gave_more h bytes = flat_map-append bytes_found h (Bytes bytes ∷ []) ∙ ap (λ l. given_by h ++ l) (append-nil bytes)
-
-gave_none : (h : List Taking) (t : Taking) → bytes_found t ≡ [] → given_by (h ++ t ∷ []) ≡ given_by h
-gave_none h t e = flat_map-append bytes_found h (t ∷ []) ∙ ap (λ l. given_by h ++ (l ++ [])) e ∙ append-nil (given_by h)
 
 -- with this code, by these takes
 abbrev pub WasOver : ℕ → List Taking → Type 0
@@ -41,9 +36,6 @@ over_more code h later (inl (e, inl x)) = inl (e, inl (ended_more h later x))
 over_more code h later (inl (e, inr (inl x))) = inl (e, inr (inl (in_left h later Closed x)))
 over_more code h later (inl (e, inr (inr x))) = inl (e, inr (inr (in_left h later NoMore x)))
 over_more code h later (inr (e, f)) = inr (e, subst (Faults 0) (sym (flat_map-append bytes_found h later)) (fault_stays 0 (given_by h) (given_by later) f))
-
-last_in : (h : List Taking) (t : Taking) → In t (h ++ t ∷ [])
-last_in h t = in_right h (t ∷ []) t (inl refl)
 
 -- ## Programs
 
@@ -105,14 +97,20 @@ module _ (k : ℕ) (At : ℕ → ℕ → Type 0) where
     way true x y f g = f refl
     way false x y f g = g refl
 
-    tell_recycle : (i from : ℕ) (next : Bool → Program) → ((b : Bool) → C (next b)) → C (recycle i from next)
-    tell_recycle i from next after = (λ found. either_way (found == from) _ _ C
-        ((λ k. (λ _. (λ _. (λ _.
-        either_way (nat_le (vref_version from + 1) LAST_VERSION) _ _ C ((λ _. after true)) (after true))))))
-        (after false))
+    asides : (step : Step) (next : Found step → Program) → is_of_id step ≡ true → ((found : Found step) → C (next found)) → C (Aside step next)
+    asides (TakeBytes l room) next is x = absurd (true≢false (sym is))
+    asides (LoadAt o) next is x = absurd (true≢false (sym is))
+    asides (PostId i from e) next is x = absurd (true≢false (sym is))
+    asides step next is x = x
 
-    tell_release : (i : ℕ) (next : Bool → Program) → ((b : Bool) → C (next b)) → C (release i next)
-    tell_release i next after = (λ found. either_way ((vref_version found % 2 == 1) && (vref_nref found == 1)) _ _ C (tell_recycle i (found - 1) next after) (after false))
+    rounds : (head : Head) (next : Exit head → Program) → is_loop head ≡ true → ((exit : Exit head) → C (next exit)) → C (Round head next)
+    rounds (Posts id e w) next is x = absurd (true≢false (sym is))
+    rounds (Reads r) next is x = absurd (true≢false (sym is))
+    rounds (Discards l total) next is x = absurd (true≢false (sym is))
+    rounds head next is x = x
+
+    tell_on : ReadsOn (Tells h)
+    tell_on = record { frees = λ call next is x. x; say = λ o outcome next x. x; aside = asides; round = rounds; keep = λ r next x. x }
 
     tell_judged : (id e found : ℕ) (next : Posting → Program) → MayPost h id e → ((x : Posting) → C (next x)) → C (judged id e found next)
     tell_judged id e found next may after = let two : Program = cond (is_full (parts found)) (next (WasCrowded (code_of (parts found).oldest) (code_of (parts found).second))) (Round (Posts id e found) next) in
@@ -131,65 +129,8 @@ module _ (k : ℕ) (At : ℕ → ℕ → Type 0) where
     tell_post_with : (id e : ℕ) (next : Posting → Program) → MayPost h id e → ((x : Posting) → C (next x)) → C (post_with id e next)
     tell_post_with id e next may after = (λ found. tell_judged id e found next may after)
 
-    tell_popped : (i oldest word : ℕ) (next : Unlocking → Program) → ((x : Unlocking) → C (next x)) → C (popped i oldest word next)
-    tell_popped i oldest word next after = either_way (oldest == 0) _ _ C (after (IsOpen word)) (either_way (is_stale oldest (parts word)) _ _ C (after) (after (HasNext word oldest)))
-
-    tell_unlocks : (i from : ℕ) (advance : Bool) (next : Unlocking → Program) → ((x : Unlocking) → C (next x)) → C (unlocks_round i from advance next)
-    tell_unlocks i from advance next after = (λ found. either_way (found == from) _ _ C
-        (tell_popped i (parts from).oldest (packed (unlocked_word (parts from) (advance_of advance))) next after) (after))
-
-    tell_end_id : (i : ℕ) (next : Program) → C next → C (end_id i next)
-    tell_end_id i next after = (λ found. either_way (nat_le ((parts found).first + (parts found).range) LAST) _ _ C ((λ _. after)) after)
-
-    tell_decide : (id word e : ℕ) (next : Deciding → Program) → ((x : Deciding) → C (next x)) → C (decide id word e next)
-    tell_decide id word e next after = (λ asked. after)
-
-    tell_unlocked : (r : Retry) (next : Deciding → Program) → ((x : Deciding) → C (next x)) → (exit : Unlocking) → C (unlocked r next exit)
-    tell_unlocked r next after (IsOpen word) = (after GoesOn)
-    tell_unlocked r next after (HasNext word e) = (tell_decide r.id word e next after)
-
-    tell_decided : (id : ℕ) (next : Program) → C next → (exit : Deciding) → C (decided id next exit)
-    tell_decided id next after (HasEnded o c) = after
-    tell_decided id next after GoesOn = after
-
-    tell_locking : (i : ℕ) (sought : Sought) (found : ℕ) (next : Locking → Program) → ((x : Locking) → C (next x)) → C (locking i sought found next)
-    tell_locking i sought found next after = either_way (not (is_sought sought (parts found))) _ _ C (after (NotThere found))
-        (either_way ((parts found).state == 1) _ _ C (after) (after))
-
-    tell_locks : (i : ℕ) (sought : Sought) (word : Option ℕ) (next : Locking → Program) → ((x : Locking) → C (next x)) → C (locks_round i sought word next)
-    tell_locks i sought None next after = (λ found. tell_locking i sought found next after)
-    tell_locks i sought (Some from) next after = (λ found. either_way (found == from) _ _ C (after (Has (packed (posted_word (parts from) 0)))) (tell_locking i sought found next after))
-
-    tell_joins : (id : ℕ) (next : ℕ → Program) → ((x : ℕ) → C (next x)) → C (joins_round id next)
-    tell_joins id next after = (λ found. either_way (is_first (id_first id) (parts found)) _ _ C (after) (after found))
-
     tell_opens : (o : ℕ) (next : ℕ → Program) → ((x : ℕ) → C (next x)) → C (opens_round o next)
     tell_opens o next after = (λ word. either_way (word == 0) _ _ C (after) (after word))
-
-    tell_answer : (frame : Frame) (first : ℕ) (next : Program) → C next → C (answer frame first next)
-    tell_answer frame first next after = (λ asked. tell_end_id (slot_in frame) (Say asked.operation (ending_of (call_id (slot_in frame) first) frame) next)
-        (after))
-
-    tell_answered : (frame : Frame) (kept : List Frame) (next : List Frame → Program) → ((x : List Frame) → C (next x)) → (exit : Locking) → C (answered frame kept next exit)
-    tell_answered frame kept next after (NotThere found) = after (cond (is_early (version_in frame) found) (kept ++ frame ∷ []) kept)
-    tell_answered frame kept next after (Has word) = tell_answer frame (parts word).first (next kept) (after kept)
-
-    tell_responses : (ids : ℕ) (frames kept : List Frame) (next : List Frame → Program) → ((x : List Frame) → C (next x)) → C (responses ids frames kept next)
-    tell_responses ids [] kept next after = after kept
-    tell_responses ids (f ∷ fs) kept next after = either_way (has_response f.meta.response && nat_lt (slot_in f) ids) _ _ C
-        ((tell_answered f kept (λ kept'. responses ids fs kept' next) (λ kept'. tell_responses ids fs kept' next after)))
-        (tell_responses ids fs kept next after)
-
-    tell_ends_with : (id e word : ℕ) (kept : List Frame) (next : Program) → C next → C (ends_with id e word kept next)
-    tell_ends_with id e word [] next after = tell_decide id word e (decided id next) (tell_decided id next after)
-    tell_ends_with id e word (f ∷ fs) next after = tell_answer f (id_first id) next after
-
-    tell_posted_last : (id e : ℕ) (kept : List Frame) (next : Program) → C next → (exit : Posting) → C (posted_last id e kept next exit)
-    tell_posted_last id e kept next after (HasLocked word) = tell_ends_with id e word (kept_for id (parts word).range kept) next after
-    tell_posted_last id e kept next after WasGone = after
-    tell_posted_last id e kept next after WasStale = after
-    tell_posted_last id e kept next after (WasCrowded a b) = after
-    tell_posted_last id e kept next after WasQueued = after
 
     tell_post_each : (os : List ℕ) (c : ℕ) (kept : List Frame) (next : Program) → WasOver c h → C next → C (post_each os k c kept next)
     tell_post_each [] c kept next over after = after
@@ -200,11 +141,11 @@ module _ (k : ℕ) (At : ℕ → ℕ → Type 0) where
         (λ some_. way (at_word_link w == k) (post_with (call_id (at_word_slot w) (at_word_first w)) (error_of c (at_word_attempt w)) (posted_last (call_id (at_word_slot w) (at_word_first w)) (error_of c (at_word_attempt w)) kept (post_each os k c kept next))) (post_each os k c kept next)
         (λ own. tell_post_with (call_id (at_word_slot w) (at_word_first w)) (error_of c (at_word_attempt w)) (posted_last (call_id (at_word_slot w) (at_word_first w)) (error_of c (at_word_attempt w)) kept (post_each os k c kept next))
         (record { operation = o; word = w; code = c; loaded = at; some_ = λ z. true≢false (sym (eq-eqb w 0 z) ∙ some_); link = eqb-true (at_word_link w) k own; id_is = refl; error_is = refl; over = over })
-        (tell_posted_last (call_id (at_word_slot w) (at_word_first w)) (error_of c (at_word_attempt w)) kept (post_each os k c kept next) more))
+        (posted_last_on tell_on (call_id (at_word_slot w) (at_word_first w)) (error_of c (at_word_attempt w)) kept (post_each os k c kept next) more))
         (λ _. more)))
 
     tell_address : (id : ℕ) (held : Program) (gone : ℕ → Program) → C held → ((found : ℕ) → C (gone found)) → C (address id held gone)
-    tell_address id held gone goes after = λ found. either_way (vref_version found == socket_id_version id) held (release (socket_id_slot id) (λ _. gone found)) C goes (tell_release (socket_id_slot id) (λ _. gone found) (λ _. after found))
+    tell_address id held gone goes after = λ found. either_way (vref_version found == socket_id_version id) held (release (socket_id_slot id) (λ _. gone found)) C goes (release_on tell_on (socket_id_slot id) (λ _. gone found) (λ _. after found))
 
     tell_set_failed : (id code : ℕ) (next : ℕ → Program) → ((found : ℕ) → C (next found)) → C (set_failed id code next)
     tell_set_failed id code next after = λ found. either_way (vref_version found % 2 == 0) _ _ C (λ _ _. after found) (after found)
@@ -219,7 +160,7 @@ module _ (k : ℕ) (At : ℕ → ℕ → Type 0) where
     read_tells : (calls : List ℕ) (how : Ended) → EndsSo h how → C (read calls how)
     read_tells calls how e = either_way how.closed (last_posts calls how) (address how.reading.id (set_failed how.reading.id how.code (λ _. release (socket_id_slot how.reading.id) (λ _. (last_posts calls how)))) (λ _. (last_posts calls how))) C lasts
         (tell_address how.reading.id (set_failed how.reading.id how.code (λ _. release (socket_id_slot how.reading.id) (λ _. (last_posts calls how)))) (λ _. (last_posts calls how))
-        (tell_set_failed how.reading.id how.code (λ _. release (socket_id_slot how.reading.id) (λ _. (last_posts calls how))) (λ _. tell_release (socket_id_slot how.reading.id) (λ _. (last_posts calls how)) (λ _. lasts))) (λ _. lasts))
+        (tell_set_failed how.reading.id how.code (λ _. release (socket_id_slot how.reading.id) (λ _. (last_posts calls how))) (λ _. release_on tell_on (socket_id_slot how.reading.id) (λ _. (last_posts calls how)) (λ _. lasts))) (λ _. lasts))
       where
         lasts : C (last_posts calls how)
         lasts = subst (λ l. C (post_each calls l how.code how.reading.kept (thrown_away how))) (sym e.1) (tell_post_each calls how.code how.reading.kept (thrown_away how) e.0 (thrown_tells how e.1))
@@ -252,7 +193,7 @@ module _ (k : ℕ) (At : ℕ → ℕ → Type 0) where
         (inr (refl, subst (Faults 0) (append-nil (given_by (h ++ Bytes bytes ∷ []))) (all_tied bytes [] (subst (Faults 0) (sym (append-nil (r.rest ++ bytes))) (start, fault, is)))), at.link)
 
     tell_took : (t : Taking) → Tells (h ++ t ∷ []) (took r next t)
-    tell_took (Bytes bytes) = tell_responses (h ++ Bytes bytes ∷ []) r.ids (streams.stream (r.rest ++ bytes)).frames r.kept (λ kept. read_on (with_more bytes kept) (r.rest ++ bytes) (streams.stream (r.rest ++ bytes)).ending next)
+    tell_took (Bytes bytes) = responses_on (tell_on (h ++ Bytes bytes ∷ [])) r.ids (streams.stream (r.rest ++ bytes)).frames r.kept (λ kept. read_on (with_more bytes kept) (r.rest ++ bytes) (streams.stream (r.rest ++ bytes)).ending next)
         (λ kept. tell_read_on kept bytes (streams.stream (r.rest ++ bytes)).ending refl)
     tell_took Nothing = (
       record { link = at.link; total = at.total ∙ ap length (sym (gave_none h Nothing refl)); tied = λ more f. subst (λ l. Faults 0 (l ++ more)) (sym (gave_none h Nothing refl)) (at.tied more f) },
@@ -274,13 +215,13 @@ module _ (k : ℕ) (At : ℕ → ℕ → Type 0) where
   -- one round of a loop
   tell_round : (h : List Taking) (head : Head) (next : Exit head → Program) → Tells h (Round head next) → Tells h (round head next)
   tell_round h (Posts i e w) next x = tell_posts h i e w next x.0 x.1 x.2
-  tell_round h (Unlocks i w advance) next x = tell_unlocks h i w advance next x
+  tell_round h (Unlocks i w advance) next x = unlocks_on (tell_on h) i w advance next x
   tell_round h (Decides i asked w e) next x = either_way (ends_call (parts w) e) _ _ (Tells h)
-      (tell_end_id h (id_slot i) (next (HasEnded asked.operation (code_of e))) (x (HasEnded asked.operation (code_of e))))
-      (λ _ exit. tell_unlocked h (record { id = i; attempt = (parts w).attempt + 1 }) next x exit)
-  tell_round h (Locks i sought None) next x = tell_locks h i sought None next x
-  tell_round h (Locks i sought (Some w)) next x = tell_locks h i sought (Some w) next x
-  tell_round h (Joins i) next x = tell_joins h i next x
+      (end_id_on (tell_on h) (id_slot i) (next (HasEnded asked.operation (code_of e))) (x (HasEnded asked.operation (code_of e))))
+      (λ _ exit. unlocked_on (tell_on h) (record { id = i; attempt = (parts w).attempt + 1 }) next x exit)
+  tell_round h (Locks i sought None) next x = locks_on (tell_on h) i sought None next x
+  tell_round h (Locks i sought (Some w)) next x = locks_on (tell_on h) i sought (Some w) next x
+  tell_round h (Joins i) next x = joins_on (tell_on h) i next x
   tell_round h (Opens o) next x = tell_opens h o next x
   tell_round h (Reads r) next x = let at = x.0 in (at.link, λ t. tell_took h r next at x.1 t)
   tell_round h (Discards l total) next x = (x.0, λ t. tell_discarded h l total next x.0 x.1 t)

@@ -36,8 +36,7 @@ use Rattle.send_causes.specs.EndedCalls.{Store, stores_by, stored_at}
 use Rattle.send_causes.proofs.Words.{made_on, finds_label, words_forward, makes_new, advances_new}
 use Rattle.send_causes.proofs.Readings.{ticks_first}
 use Rattle.send_causes.proofs.Ticks.{AreTries, few_more, few_of, AreCalls, PutsCall, calls_behind, calls_waiting, ids_first, fits_as, pair_one, pair_same, waits_set}
-use Rattle.label_runs.proofs.Loops.{labels_round}
-use Rattle.label_runs.proofs.Programs.{block_goes, retry_goes}
+use Rattle.label_runs.proofs.Programs.{labels_round, block_goes, retry_goes}
 
 -- ## Attempts that are tried
 

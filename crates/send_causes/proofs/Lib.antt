@@ -7,6 +7,7 @@ pub mod Whole
 pub mod Labelled
 pub mod Faults
 pub mod Takeless
+pub mod ReaderParts
 pub mod Closers
 pub mod Readings
 pub mod ReaderRuns
@@ -60,7 +61,6 @@ pub mod EndedTicks
 pub mod EndedRuns
 pub mod EndedWhole
 pub mod EndedTrails
-pub mod EndedLoops
 pub mod EndedPrograms
 pub mod EndedNames
 pub mod EndedNamed
@@ -71,7 +71,6 @@ pub mod EndedOnce
 pub mod EndedCauses
 pub mod AttemptedWords
 pub mod AttemptedIds
-pub mod AttemptedBegin
 pub mod AttemptedRuns
 pub mod AttemptedCalls
 pub mod AttemptedSent

@@ -32,7 +32,7 @@ use Rattle.seat_programs.specs.Sends.{freed as given_back, one_more, passed_tell
 use Rattle.seat_programs.specs.Writings.{Holder, Writing, Puts, Waits, Empties, Walks}
 use Rattle.outcome_causes.specs.Stories.{In}
 use Rattle.label_runs.proofs.Loops.{not_equal}
-use Rattle.label_runs.proofs.Programs.{OpCalls}
+use Rattle.label_runs.proofs.Operations.{OpCalls}
 use Rattle.label_runs.specs.Labels.{Idle, Tries, Sends, MayPut, Kept, LeavesLabel, LeavesLock, LeavesUnlock, locked_trial}
 use Rattle.send_causes.specs.Refused.{Deed, DidStep, DidPut, DidRound, DidMiss, Charge, NoCharge, IsRefused, HasDropped, Doing, idle, begins, FoundTaken, WasOther, WasOdd, WasNone, WouldStore, IsPostOf}
 use Rattle.send_causes.proofs.RefusedLoops.{bare, Goes, way, Steps, step_way, aside_way, forgets, let_go, post_with_goes, posted_goes, decide_goes, decided_goes, answer_goes}

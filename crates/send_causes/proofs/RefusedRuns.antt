@@ -25,7 +25,7 @@ use Rattle.sock_runs.proofs.Opening.{mapped}
 use Rattle.outcome_causes.specs.Stories.{In}
 use Rattle.outcome_causes.proofs.Plain.{in_both}
 use Rattle.label_runs.specs.Labels.{Trial, Idle}
-use Rattle.label_runs.proofs.Programs.{OpCalls}
+use Rattle.label_runs.proofs.Operations.{OpCalls}
 use Rattle.call_causes.specs.Lists.{shows_in}
 use Rattle.call_causes.specs.Decided.{posted_by}
 use Rattle.call_causes.specs.Posts.{Post}

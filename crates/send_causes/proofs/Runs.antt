@@ -38,7 +38,8 @@ use Rattle.sock_runs.proofs.Ticks.{sound_ticks}
 use Rattle.sock_runs.proofs.Opening.{mapped, appended}
 use Rattle.sock_runs.proofs.Whole.{Begins, AreFittingIn, closing_of, rested_of, views_played, views_closed, views_ended, set_up_answered, end_answered, set_up_sound, closing_sound, closed_sound}
 use Rattle.label_runs.specs.Labels.{Trial, Idle, Labels}
-use Rattle.label_runs.proofs.Programs.{OpCalls, client_goes, ending_goes, reader_goes}
+use Rattle.label_runs.proofs.Operations.{OpCalls}
+use Rattle.label_runs.proofs.Programs.{client_goes, ending_goes, reader_goes}
 use Rattle.outcome_causes.specs.PlainTasks.{told_tasks_of, OwnsCall}
 use Rattle.outcome_causes.proofs.Final.{at_there}
 use Rattle.outcome_causes.proofs.Scripts.{own_from, seats, closing_told}
@@ -102,12 +103,17 @@ module _ (p : Plan) (q : IdPlan) (narrow : q.slots ≤ 65536) (is_call : Asked �
   none_home (suc n) zero asked e = some-ne-none asked (sym e)
   none_home (suc n) (suc k) asked e = none_home n k asked e
 
-  begins_labels : (xs : List Program) → ((i : ℕ) (x : Program) → get_elem? xs i ≡ some x → Labels is_call Idle x) → (vs : List View) → ((i : ℕ) (v : View) → get_elem? vs i ≡ some v → IsBare v) → Lawful_ (beginning p q xs) vs
+  none_at : (xs : List Program) (vs : List View) → ((i : ℕ) (v : View) → get_elem? vs i ≡ some v → IsBare v) → (id n : ℕ) → times_of id n (beginning p q xs) vs (map (λ (x : Program). Idle) xs) ≡ 0
+  none_at xs vs bare id n = let a = total_none (of_trial id n) (map (λ (x : Program). Idle) xs) (λ i t e. ap (of_trial id n) (all_idle xs i t e)) in let b = none_waits id n q.seats in
+      let d = total_none (of_view id n) vs (λ i v e. bare_count id n v (bare i v e)) in omega (arith, a, b, d)
+
+  -- no attempt stands anywhere
+  pub begins_labels : (xs : List Program) → ((i : ℕ) (x : Program) → get_elem? xs i ≡ some x → Labels is_call Idle x) → (vs : List View) → ((i : ℕ) (v : View) → get_elem? vs i ≡ some v → IsBare v) → (ts : List Trial) × LabelLaw is_call ids p q (beginning p q xs) vs ts × ((id n : ℕ) → times_of id n (beginning p q xs) vs ts ≡ 0)
   begins_labels xs goes vs bare = (
     map (λ (x : Program). Idle) xs,
     record {
-      once = λ id n. let z = none_at id n in omega (arith, z);
-      made = λ id n some_. absurd (let z = none_at id n in omega (arith, z, some_));
+      once = λ id n. let z = none_at xs vs bare id n in omega (arith, z);
+      made = λ id n some_. absurd (let z = none_at xs vs bare id n in omega (arith, z, some_));
       views = λ j v e. let b = bare j v e in (subst (AllByRecursion (ClaimFits is_call ids p)) (sym b.0) tt, subst (AllByRecursion (AllByRecursion (EntryFits is_call ids p))) (sym b.1) (tt, tt));
       trials = λ j t e. subst (TrialFits ids) (sym (all_idle xs j t e)) tt;
       calls = λ k asked e. absurd (none_home q.slots k asked e);
@@ -115,11 +121,8 @@ module _ (p : Plan) (q : IdPlan) (narrow : q.slots ≤ 65536) (is_call : Asked �
       programs = λ j seat t es et. let x = mapped (λ (x : Program). record { program = next_step (resolved [] x); hand = [] }) xs j seat es in
           subst (λ (s : SeatState). Labels is_call t s.program) x.2 (subst (λ y. Labels is_call y (next_step (resolved [] x.0))) (sym (all_idle xs j t et)) (idle_stays x.0 (goes j x.0 x.1)));
     },
+    none_at xs vs bare,
   )
-    where
-      none_at : (id n : ℕ) → times_of id n (beginning p q xs) vs (map (λ (x : Program). Idle) xs) ≡ 0
-      none_at id n = let a = total_none (of_trial id n) (map (λ (x : Program). Idle) xs) (λ i t e. ap (of_trial id n) (all_idle xs i t e)) in let b = none_waits id n q.seats in
-          let d = total_none (of_view id n) vs (λ i v e. bare_count id n v (bare i v e)) in omega (arith, a, b, d)
 
 clients_go : (is_call : Asked → Type 0) (sizes : Sizes) (cs : List (List Task)) → ((i : ℕ) (ts : List Task) → get_elem? cs i ≡ some ts → AllByRecursion (λ (t : Task). OpCalls is_call t.op) ts) → (i : ℕ) (x : Program) → get_elem? (programs sizes cs) i ≡ some x → Labels is_call Idle x
 clients_go is_call sizes cs asks i x e = let t = mapped (client_from sizes []) cs i x e in subst (Labels is_call Idle) t.2 (client_goes is_call sizes [] t.0 (asks i t.0 t.1))
@@ -148,6 +151,7 @@ pub record AreLabelledIn (ids : ℕ → ℕ) (script : List Item) (turns : List 
 abbrev pub IsCallOf : List Item → Asked → Type 0
 IsCallOf script asked = (i : ℕ) × (ts : List Task) × (t : Task) × (get_elem? (all_tasks script) i ≡ some ts) × In t ts × (t.op ≡ ops.Call asked) × (asked.operation ≡ t.number)
 
+-- the calls of a client's tasks are those of the script
 pub asked_by : (script : List Item) (i : ℕ) (ts : List Task) → get_elem? (all_tasks script) i ≡ some ts → AllByRecursion (λ (t : Task). OpCalls (IsCallOf script) t.op) ts
 asked_by script i ts at = all_of (λ (t : Task). OpCalls (IsCallOf script) t.op) ts of_task
   where
@@ -170,8 +174,8 @@ module _ (script : List Item) (are : AreTasks (plan_of script) (all_tasks script
   Law c ws = (ts : List Trial) × LabelLaw (IsCallOf script) ids (plan_of script) (id_plan_of script) c ws ts
 
   pub first : Law (opened script) vs
-  first = begins_labels (plan_of script) (id_plan_of script) narrow (IsCallOf script) ids (all_programs (programs (sizes_of (plan_of script) (id_plan_of script)) (all_tasks script)) (readers_from (calls script) 0 (opens script)))
-      (programs_go (IsCallOf script) (sizes_of (plan_of script) (id_plan_of script)) (all_tasks script) (asked_by script) (calls script) (opens script)) vs bare
+  first = let l = begins_labels (plan_of script) (id_plan_of script) narrow (IsCallOf script) ids (all_programs (programs (sizes_of (plan_of script) (id_plan_of script)) (all_tasks script)) (readers_from (calls script) 0 (opens script)))
+      (programs_go (IsCallOf script) (sizes_of (plan_of script) (id_plan_of script)) (all_tasks script) (asked_by script) (calls script) (opens script)) vs bare in (l.0, l.1)
 
   pub set_up_law : Law (set_up script is.setup) (views_along (plan_of script) (opened script) vs (replicate is.setup (quiet 0)))
   set_up_law = run_labels (plan_of script) (id_plan_of script) narrow (IsCallOf script) ids go (replicate is.setup (quiet 0)) (opened script) vs begins.sound (set_up_answered script are vs begins go turns core is fitting) fitting.of_setup labelled.of_setup first

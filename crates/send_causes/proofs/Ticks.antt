@@ -39,8 +39,7 @@ use Rattle.outcome_causes.proofs.Cases.{tick_cases}
 use Rattle.outcome_causes.proofs.Ticks.{elem_there}
 use Rattle.sock_model.specs.ChainRows.{taken_right}
 use Rattle.label_runs.specs.Labels.{Trial, Idle, Tries, Sends, IsOfTrial, put_behind, Kept, Storing, unlocked_trial, Labels}
-use Rattle.label_runs.proofs.Loops.{labels_round}
-use Rattle.label_runs.proofs.Programs.{block_goes, retry_goes}
+use Rattle.label_runs.proofs.Programs.{labels_round, block_goes, retry_goes}
 use Rattle.send_causes.specs.Counts.{pair_of, of_trial, of_retry, of_view, times_of, WasMade, WasNow, ViewFits, TrialFits, IsOfCall, LabelLaw, StoresOwn}
 use Rattle.send_causes.proofs.Words.{made_on, finds_label, words_forward, makes_new, advances_new}
 use Rattle.send_causes.proofs.Views.{put_of, row_count, rights_count, PutsFit, row_fits, rights_fit}

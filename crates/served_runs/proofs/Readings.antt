@@ -1,22 +1,22 @@
 -- Where the reader of a link comes to rest its reading is over: a take found its end, or what it gave ends the reading.
-use Rattle.std.proofs.Common.{◌≡◌, ℕ, ◌+◌, ◌-◌, ◌%◌, ◌≤◌, ◌==◌, ◌&&◌, ◌||◌, ◌⊎◌, inl, inr, not, nat_lt, nat_le, ltb-false, Bool, true, false, cond, List, [], ◌∷◌, ◌++◌, length, length-append, append-nil, append_assoc, refl, sym, ap, ◌∙◌, subst, arith}
+use Rattle.std.proofs.Common.{◌≡◌, ℕ, ◌+◌, ◌%◌, ◌≤◌, ◌==◌, ◌&&◌, ◌||◌, ◌⊎◌, inl, inr, nat_lt, ltb-false, Bool, true, false, cond, List, [], ◌∷◌, ◌++◌, length, length-append, append-nil, append_assoc, refl, sym, ap, ◌∙◌, subst, arith}
 use Rattle.std.proofs.lemmas.Bool.{true≢false}
-use Rattle.std.specs.Prelude.{Option, Some, None}
-use Rattle.sock_words.specs.Words.{socket_id_version, socket_id_slot, vref_version, vref_nref, at_word_first, at_word_slot, at_word_link, at_word_attempt}
+use Rattle.std.specs.Prelude.{Some, None}
+use Rattle.sock_words.specs.Words.{socket_id_version, socket_id_slot, vref_version}
 use Rattle.send_causes.specs.sock_steps.proofs.Quiet.{either_way}
-use Rattle.corr_core.specs.Word.{parts, posted_word, unlocked_word, code_of, error_of}
-use Rattle.corr_core.specs.Law.{LAST}
+use Rattle.corr_core.specs.Word.{parts, code_of}
 use Rattle.brpc_model.specs.Frame.{Frame}
 use Rattle.brpc_model.specs.Stream as streams
-use Rattle.seat_programs.specs.Asides.{Found, TakeBytes, Taking, Bytes, Nothing, NoMore, AtEnd, Closed, Broken, call_id, id_slot, id_first}
-use Rattle.seat_programs.specs.Heads.{Head, Exit, Retry, Sought, Reading, Posts, Unlocks, Decides, Locks, Joins, Opens, Reads, Discards, Posting, WasGone, WasStale, WasCrowded, WasQueued, HasLocked, Unlocking, IsOpen, HasNext, Deciding, HasEnded, GoesOn, Locking, NotThere, Has, Ended}
-use Rattle.seat_programs.specs.Programs.{Program, Do, Say, Sent, Rest, TakeMessage, TakeHome, PutHome, PutBytes, AskReady, Write, Aside, Round, Keep, Retries, LAST_VERSION, recycle, release, address, set_failed}
-use Rattle.seat_programs.specs.Posts.{packed, advance_of, is_first, is_sought, is_stale, is_full, judged, posts_round, post_with, popped, unlocks_round, ends_call, end_id, decide, decided, unlocked, locking, locks_round, joins_round}
-use Rattle.seat_programs.specs.Readers.{LIMIT, ending_of, slot_in, version_in, has_response, is_early, answer, answered, responses, last_of, ended_by, read_on, took, discarded, opens_round, kept_for, ends_with, posted_last, post_each, thrown_away, read}
+use Rattle.seat_programs.specs.Asides.{Step, Found, TakeBytes, Taking, Bytes, Nothing, NoMore, AtEnd, Closed, Broken, id_slot}
+use Rattle.seat_programs.specs.Heads.{Head, Exit, Retry, Reading, Posts, Unlocks, Decides, Locks, Joins, Opens, Reads, Discards, HasEnded, Ended}
+use Rattle.seat_programs.specs.Programs.{Program, Do, Say, Sent, Rest, TakeMessage, TakeHome, PutHome, PutBytes, AskReady, Write, Aside, Round, Keep, Retries, release, address, set_failed}
+use Rattle.seat_programs.specs.Posts.{ends_call}
+use Rattle.seat_programs.specs.Readers.{LIMIT, last_of, ended_by, read_on, took, discarded, opens_round, post_each, thrown_away, read}
 use Rattle.seat_programs.specs.Rounds.{round}
 use Rattle.seat_programs.specs.Cores.{resolved, next_step}
 use Rattle.sock_runs.specs.Sound.{first_step}
 use Rattle.send_causes.specs.run_theorems.specs.Heard.{bytes_found}
+use Rattle.send_causes.proofs.ReaderParts.{is_of_id, is_loop, ReadsOn, PostsOn, release_on, unlocks_on, end_id_on, unlocked_on, locks_on, joins_on, responses_on, posts_on, post_each_on}
 use Rattle.send_causes.proofs.Faults.{Faults, fault_stays, fault_follows}
 
 -- ## How a reading ends
@@ -79,102 +79,26 @@ module _ (k : ℕ) where
     abbrev C : Program → Type 0
     C = Goes g last
 
-    way : (b : Bool) (x y : Program) → (b ≡ true → C x) → (b ≡ false → C y) → C (cond b x y)
-    way true x y f g = f refl
-    way false x y f g = g refl
+    asides : (step : Step) (next : Found step → Program) → is_of_id step ≡ true → ((found : Found step) → C (next found)) → C (Aside step next)
+    asides (TakeBytes l room) next is x = absurd (true≢false (sym is))
+    asides step next is x = x
 
-    go_recycle : (i from : ℕ) (next : Bool → Program) → ((b : Bool) → C (next b)) → C (recycle i from next)
-    go_recycle i from next after = (λ found. either_way (found == from) _ _ C
-        ((λ k. (λ _. (λ _. (λ _.
-        either_way (nat_le (vref_version from + 1) LAST_VERSION) _ _ C ((λ _. after true)) (after true))))))
-        (after false))
+    rounds : (head : Head) (next : Exit head → Program) → is_loop head ≡ true → ((exit : Exit head) → C (next exit)) → C (Round head next)
+    rounds (Reads r) next is x = absurd (true≢false (sym is))
+    rounds (Discards l total) next is x = absurd (true≢false (sym is))
+    rounds head next is x = x
 
-    go_release : (i : ℕ) (next : Bool → Program) → ((b : Bool) → C (next b)) → C (release i next)
-    go_release i next after = (λ found. either_way ((vref_version found % 2 == 1) && (vref_nref found == 1)) _ _ C (go_recycle i (found - 1) next after) (after false))
+    go_on : ReadsOn (Goes g last)
+    go_on = record { frees = λ call next is x. x; say = λ o outcome next x. x; aside = asides; round = rounds; keep = λ r next x. x }
 
-    go_judged : (id e found : ℕ) (next : Posting → Program) → ((x : Posting) → C (next x)) → C (judged id e found next)
-    go_judged id e found next after = let two : Program = cond (is_full (parts found)) (next (WasCrowded (code_of (parts found).oldest) (code_of (parts found).second))) (Round (Posts id e found) next) in
-        either_way (not (is_first (id_first id) (parts found))) (next WasGone) (cond (is_stale e (parts found)) (next WasStale) two) C (after WasGone)
-        (either_way (is_stale e (parts found)) (next WasStale) two C (after WasStale)
-        (either_way (is_full (parts found)) (next (WasCrowded (code_of (parts found).oldest) (code_of (parts found).second))) (Round (Posts id e found) next) C (after (WasCrowded (code_of (parts found).oldest) (code_of (parts found).second))) after))
-
-    go_posts : (id e from : ℕ) (next : Posting → Program) → ((x : Posting) → C (next x)) → C (posts_round id e from next)
-    go_posts id e from next after = λ found. either_way (found == from) (cond ((parts from).state == 1) (next (HasLocked (packed (posted_word (parts from) e)))) (next WasQueued)) (judged id e found next) C
-        (either_way ((parts from).state == 1) (next (HasLocked (packed (posted_word (parts from) e)))) (next WasQueued) C (after (HasLocked (packed (posted_word (parts from) e)))) (after WasQueued)) (go_judged id e found next after)
-
-    go_post_with : (id e : ℕ) (next : Posting → Program) → ((x : Posting) → C (next x)) → C (post_with id e next)
-    go_post_with id e next after = λ found. go_judged id e found next after
-
-    go_popped : (i oldest word : ℕ) (next : Unlocking → Program) → ((x : Unlocking) → C (next x)) → C (popped i oldest word next)
-    go_popped i oldest word next after = either_way (oldest == 0) _ _ C (after (IsOpen word)) (either_way (is_stale oldest (parts word)) _ _ C (after) (after (HasNext word oldest)))
-
-    go_unlocks : (i from : ℕ) (advance : Bool) (next : Unlocking → Program) → ((x : Unlocking) → C (next x)) → C (unlocks_round i from advance next)
-    go_unlocks i from advance next after = (λ found. either_way (found == from) _ _ C
-        (go_popped i (parts from).oldest (packed (unlocked_word (parts from) (advance_of advance))) next after) (after))
-
-    go_end_id : (i : ℕ) (next : Program) → C next → C (end_id i next)
-    go_end_id i next after = (λ found. either_way (nat_le ((parts found).first + (parts found).range) LAST) _ _ C ((λ _. after)) after)
-
-    go_decide : (id word e : ℕ) (next : Deciding → Program) → ((x : Deciding) → C (next x)) → C (decide id word e next)
-    go_decide id word e next after = (λ asked. after)
-
-    go_unlocked : (r : Retry) (next : Deciding → Program) → ((x : Deciding) → C (next x)) → (exit : Unlocking) → C (unlocked r next exit)
-    go_unlocked r next after (IsOpen word) = (after GoesOn)
-    go_unlocked r next after (HasNext word e) = (go_decide r.id word e next after)
-
-    go_decided : (id : ℕ) (next : Program) → C next → (exit : Deciding) → C (decided id next exit)
-    go_decided id next after (HasEnded o c) = after
-    go_decided id next after GoesOn = after
-
-    go_locking : (i : ℕ) (sought : Sought) (found : ℕ) (next : Locking → Program) → ((x : Locking) → C (next x)) → C (locking i sought found next)
-    go_locking i sought found next after = either_way (not (is_sought sought (parts found))) _ _ C (after (NotThere found))
-        (either_way ((parts found).state == 1) _ _ C (after) (after))
-
-    go_locks : (i : ℕ) (sought : Sought) (word : Option ℕ) (next : Locking → Program) → ((x : Locking) → C (next x)) → C (locks_round i sought word next)
-    go_locks i sought None next after = (λ found. go_locking i sought found next after)
-    go_locks i sought (Some from) next after = (λ found. either_way (found == from) _ _ C (after (Has (packed (posted_word (parts from) 0)))) (go_locking i sought found next after))
-
-    go_joins : (id : ℕ) (next : ℕ → Program) → ((x : ℕ) → C (next x)) → C (joins_round id next)
-    go_joins id next after = (λ found. either_way (is_first (id_first id) (parts found)) _ _ C (after) (after found))
+    go_posts : PostsOn (Goes g last)
+    go_posts = record { load = λ o next x. x; post = λ i from e next x. x; round = λ id e w next x. x }
 
     go_opens : (o : ℕ) (next : ℕ → Program) → ((x : ℕ) → C (next x)) → C (opens_round o next)
     go_opens o next after = (λ word. either_way (word == 0) _ _ C (after) (after word))
 
-    go_answer : (frame : Frame) (first : ℕ) (next : Program) → C next → C (answer frame first next)
-    go_answer frame first next after = (λ asked. go_end_id (slot_in frame) (Say asked.operation (ending_of (call_id (slot_in frame) first) frame) next)
-        (after))
-
-    go_answered : (frame : Frame) (kept : List Frame) (next : List Frame → Program) → ((x : List Frame) → C (next x)) → (exit : Locking) → C (answered frame kept next exit)
-    go_answered frame kept next after (NotThere found) = after (cond (is_early (version_in frame) found) (kept ++ frame ∷ []) kept)
-    go_answered frame kept next after (Has word) = go_answer frame (parts word).first (next kept) (after kept)
-
-    go_responses : (ids : ℕ) (frames kept : List Frame) (next : List Frame → Program) → ((x : List Frame) → C (next x)) → C (responses ids frames kept next)
-    go_responses ids [] kept next after = after kept
-    go_responses ids (f ∷ fs) kept next after = either_way (has_response f.meta.response && nat_lt (slot_in f) ids) _ _ C
-        ((go_answered f kept (λ kept'. responses ids fs kept' next) (λ kept'. go_responses ids fs kept' next after)))
-        (go_responses ids fs kept next after)
-
-    go_ends_with : (id e word : ℕ) (kept : List Frame) (next : Program) → C next → C (ends_with id e word kept next)
-    go_ends_with id e word [] next after = go_decide id word e (decided id next) (go_decided id next after)
-    go_ends_with id e word (f ∷ fs) next after = go_answer f (id_first id) next after
-
-    go_posted_last : (id e : ℕ) (kept : List Frame) (next : Program) → C next → (exit : Posting) → C (posted_last id e kept next exit)
-    go_posted_last id e kept next after (HasLocked word) = go_ends_with id e word (kept_for id (parts word).range kept) next after
-    go_posted_last id e kept next after WasGone = after
-    go_posted_last id e kept next after WasStale = after
-    go_posted_last id e kept next after (WasCrowded a b) = after
-    go_posted_last id e kept next after WasQueued = after
-
-    go_post_each : (os : List ℕ) (c : ℕ) (kept : List Frame) (next : Program) → C next → C (post_each os k c kept next)
-    go_post_each [] c kept next after = after
-    go_post_each (o ∷ os) c kept next after = λ w. (let id : ℕ = call_id (at_word_slot w) (at_word_first w) in let e : ℕ = error_of c (at_word_attempt w) in
-        let more : C (post_each os k c kept next) = go_post_each os c kept next after in
-        either_way (w == 0) (post_each os k c kept next) (cond (at_word_link w == k) (post_with id e (posted_last id e kept (post_each os k c kept next))) (post_each os k c kept next)) C more
-        (either_way (at_word_link w == k) (post_with id e (posted_last id e kept (post_each os k c kept next))) (post_each os k c kept next) C
-        (go_post_with id e (posted_last id e kept (post_each os k c kept next)) (go_posted_last id e kept (post_each os k c kept next) more)) more))
-
     go_address : (id : ℕ) (held : Program) (gone : ℕ → Program) → C held → ((found : ℕ) → C (gone found)) → C (address id held gone)
-    go_address id held gone goes after = λ found. either_way (vref_version found == socket_id_version id) held (release (socket_id_slot id) (λ _. gone found)) C goes (go_release (socket_id_slot id) (λ _. gone found) (λ _. after found))
+    go_address id held gone goes after = λ found. either_way (vref_version found == socket_id_version id) held (release (socket_id_slot id) (λ _. gone found)) C goes (release_on go_on (socket_id_slot id) (λ _. gone found) (λ _. after found))
 
     go_set_failed : (id code : ℕ) (next : ℕ → Program) → ((found : ℕ) → C (next found)) → C (set_failed id code next)
     go_set_failed id code next after = λ found. either_way (vref_version found % 2 == 0) _ _ C (λ _ _. after found) (after found)
@@ -193,10 +117,10 @@ module _ (k : ℕ) where
     pub read_goes : (calls : List ℕ) (how : Ended) → EndsSo g last how → C (read calls how)
     read_goes calls how e = either_way how.closed (last_posts calls how) (address how.reading.id (set_failed how.reading.id how.code (λ _. release (socket_id_slot how.reading.id) (λ _. (last_posts calls how)))) (λ _. (last_posts calls how))) C lasts
         (go_address how.reading.id (set_failed how.reading.id how.code (λ _. release (socket_id_slot how.reading.id) (λ _. (last_posts calls how)))) (λ _. (last_posts calls how))
-        (go_set_failed how.reading.id how.code (λ _. release (socket_id_slot how.reading.id) (λ _. (last_posts calls how))) (λ _. go_release (socket_id_slot how.reading.id) (λ _. (last_posts calls how)) (λ _. lasts))) (λ _. lasts))
+        (go_set_failed how.reading.id how.code (λ _. release (socket_id_slot how.reading.id) (λ _. (last_posts calls how))) (λ _. release_on go_on (socket_id_slot how.reading.id) (λ _. (last_posts calls how)) (λ _. lasts))) (λ _. lasts))
       where
         lasts : C (last_posts calls how)
-        lasts = subst (λ l. C (post_each calls l how.code how.reading.kept (thrown_away how))) (sym e.1) (go_post_each calls how.code how.reading.kept (thrown_away how) (thrown_goes how e))
+        lasts = subst (λ l. C (post_each calls l how.code how.reading.kept (thrown_away how))) (sym e.1) (post_each_on go_on go_posts calls k how.code how.reading.kept (thrown_away how) (thrown_goes how e))
 
   -- ## Reading
 
@@ -244,7 +168,7 @@ module _ (k : ℕ) where
     found_last closed t is = ends (ended_by 1014 closed false r) (g ++ bytes_found t) (last || is_last t) (inl (ap (λ b. last || b) is ∙ or_true last), at.link, λ e. absurd (true≢false (sym e)))
 
     go_took : (t : Taking) → Goes (g ++ bytes_found t) (last || is_last t) (took r next t)
-    go_took (Bytes bytes) = go_responses (g ++ bytes) (last || false) r.ids (streams.stream (r.rest ++ bytes)).frames r.kept (λ kept. read_on (with_more bytes kept) (r.rest ++ bytes) (streams.stream (r.rest ++ bytes)).ending next)
+    go_took (Bytes bytes) = responses_on (go_on (g ++ bytes) (last || false)) r.ids (streams.stream (r.rest ++ bytes)).frames r.kept (λ kept. read_on (with_more bytes kept) (r.rest ++ bytes) (streams.stream (r.rest ++ bytes)).ending next)
         (λ kept. go_read_on (last || false) none_yet kept bytes (streams.stream (r.rest ++ bytes)).ending refl)
     go_took Nothing = (none_yet, same_reading, ends)
     go_took NoMore = found_last false NoMore refl
@@ -263,14 +187,14 @@ module _ (k : ℕ) where
 
   -- one round of a loop
   go_round : (g : List ℕ) (last : Bool) (head : Head) (next : Exit head → Program) → Goes g last (Round head next) → Goes g last (round head next)
-  go_round g last (Posts i e w) next x = go_posts g last i e w next x
-  go_round g last (Unlocks i w advance) next x = go_unlocks g last i w advance next x
+  go_round g last (Posts i e w) next x = posts_on (go_on g last) (go_posts g last) i e w next x
+  go_round g last (Unlocks i w advance) next x = unlocks_on (go_on g last) i w advance next x
   go_round g last (Decides i asked w e) next x = either_way (ends_call (parts w) e) _ _ (Goes g last)
-      (go_end_id g last (id_slot i) (next (HasEnded asked.operation (code_of e))) (x (HasEnded asked.operation (code_of e))))
-      (λ _ exit. go_unlocked g last (record { id = i; attempt = (parts w).attempt + 1 }) next x exit)
-  go_round g last (Locks i sought None) next x = go_locks g last i sought None next x
-  go_round g last (Locks i sought (Some w)) next x = go_locks g last i sought (Some w) next x
-  go_round g last (Joins i) next x = go_joins g last i next x
+      (end_id_on (go_on g last) (id_slot i) (next (HasEnded asked.operation (code_of e))) (x (HasEnded asked.operation (code_of e))))
+      (λ _ exit. unlocked_on (go_on g last) (record { id = i; attempt = (parts w).attempt + 1 }) next x exit)
+  go_round g last (Locks i sought None) next x = locks_on (go_on g last) i sought None next x
+  go_round g last (Locks i sought (Some w)) next x = locks_on (go_on g last) i sought (Some w) next x
+  go_round g last (Joins i) next x = joins_on (go_on g last) i next x
   go_round g last (Opens o) next x = go_opens g last o next x
   go_round g last (Reads r) next x = let at = x.1 in (at.link, x.0, λ t. go_took g last x.0 r next at x.2 t)
   go_round g last (Discards l total) next x = (x.0, x.1, λ t. go_discarded g last x.1 l total next x.0 x.2 x.3 t)

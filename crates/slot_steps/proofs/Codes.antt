@@ -11,7 +11,7 @@ use Rattle.sock_model.specs.Marks.{without}
 use Rattle.sock_model.specs.Slots.{SlotFacts, live, Each, KeepsCodes, SlotLaw}
 use Rattle.slot_steps.proofs.Sums.{taken_as, tally_mono, each_set}
 use Rattle.slot_steps.proofs.Numbers.{only-else, only_is, pair_is, pair-at, life_le, pair_le, pair_only, live_is}
-use Rattle.slot_steps.proofs.Slots.{moved, own, few_with, busy_is, alive_le, stage_is}
+use Rattle.slot_steps.proofs.Slots.{moved, own, few_with, busy_is, alive_le, keeps_notes, stage_is}
 
 stage_le : (n k : ℕ) (x : Mark) → is_stage n k x ≤ is_claimed x
 stage_le n k (Claimed a b) = pair_le n k a b
@@ -148,137 +148,23 @@ module _ (first : ℕ) (l : SlotFacts) (law : SlotLaw first (live l) l) (j : ℕ
   keeps_found_code h there some_ = let v : ℕ = l.version in let lv : ℕ = live l in let c : ℕ = l.code in let w : List Mark = Told h c ∷ Saw (h + 1) ∷ m in let by = moved first l law j m here w in let mine = own first l law j m here in
       let at = law.held h (omega (arith, mine (is_hold h))) in let at₀ : h + 1 ≡ v + lv = at.0 in let at₁ = at.1 in let le = alive_le first l law j m here in
       let still : lv ≡ 0 = dite (ℕ_discrete lv 0) (λ e. e) (λ n. absurd (omega (arith, law.code_none (omega arith)))) in let is : h + 1 ≡ v = omega arith in
-      let found = law.code_by (omega arith) some_ in let e : v - 1 ≡ h = omega arith in let stored : 0 < tally (is_stored h c) l.marks = subst (λ (y : ℕ). 0 < tally (is_stored y c) l.marks) e found in record {
-        counted = omega (arith, by is_ref, law.counted);
-        few = few_with first l law j m here w (let a = law.few j m here in omega arith);
-        tagged = law.tagged;
-        busy_once = omega (arith, by is_busy, law.busy_once);
-        busy_taken = λ p. law.busy_taken (omega (arith, by is_busy));
-        busy_even = λ p. law.busy_even (omega (arith, by is_busy));
-        free_even = law.free_even;
-        free_low = law.free_low;
-        claimed_low = λ p. law.claimed_low (omega (arith, by is_claimed));
-        recycled = λ x p. law.recycled x (omega (arith, by (is_recycled x)));
-        begun = law.begun;
-        top = law.top;
-        taken_by = λ p. omega (arith, by is_claimed, by is_tried, law.taken_by);
-        held = λ g p. law.held g (omega (arith, by (is_hold g)));
-        saw = λ x p. dite (ℕ_discrete (h + 1) x) (λ q. omega arith) (λ n. law.saw x (omega (arith, by (is_saw x), only-else x (h + 1) n)));
-        zero_noted = λ p q. omega (arith, by (is_zero v), law.zero_noted p q);
-        known = λ g p. law.known g (omega (arith, by (is_known g)));
-        born = λ g. omega (arith, by (is_born g), law.born g);
-        failed = λ g. omega (arith, by (is_failer g), law.failed g);
-        ended = λ g. omega (arith, by (is_freer g), law.ended g);
-        codes = each_set KeepsCodes l.marks j w law.codes (
-          (λ g. omega (arith, (law.codes j m here).0 g)),
-          (λ g p. let t = (law.codes j m here).1 g (omega arith) in let t₀ = t.0 in let t₁ = t.1 in (omega arith, omega arith)),
-        );
-        coding_once = omega (arith, by is_any_coding, law.coding_once);
-        coding_odd = λ p. law.coding_odd (omega (arith, by is_any_coding));
-        code_none = λ p. law.code_none (omega (arith, by is_any_coding));
-        code_is = λ g d p. law.code_is g d (omega (arith, by (is_stored g d)));
-        code_even = λ g d p. law.code_even g d (omega (arith, by (is_stored g d)));
-        code_by = λ p q. omega (arith, by (is_stored (v - 1) c), law.code_by p q);
-        told = λ g d p. dite (ℕ_discrete (pair g d h c) 0) (λ z. omega (arith, by (is_stored g d), law.told g d (omega (arith, by (is_told g d)))))
-            (λ n. let t = pair_is g d h c (omega arith) in let q : 0 < tally (is_stored g d) l.marks = subst (λ (y : ℕ). 0 < tally (is_stored g y) l.marks) t.1 (subst (λ (y : ℕ). 0 < tally (is_stored y c) l.marks) t.0 stored) in omega (arith, by (is_stored g d)));
-        staged = λ n k p. law.staged n k (omega (arith, by (is_stage n k)));
-        link_low = λ g k p. law.link_low g k (omega (arith, by (is_linked g k)));
-        link_even = λ g k p. law.link_even g k (omega (arith, by (is_linked g k)));
-        link_begun = λ g k p. law.link_begun g k (omega (arith, by (is_linked g k)));
-        met = λ g k p. omega (arith, by (is_linked g k), law.met g k (omega (arith, by (is_met g k))));
-        link_is = λ g k p q. law.link_is g k (omega (arith, by (is_linked g k))) (omega (arith, by is_recycling));
-        link_live = λ p. omega (arith, by (is_linked v l.link), law.link_live p);
-        link_odd = λ p. omega (arith, by (is_linked (v - 1) l.link), law.link_odd p);
-        link_last = λ p. omega (arith, by (is_linked (v - 2) l.link), law.link_last (omega (arith, by is_recycling)));
-      }
+      let found = law.code_by (omega arith) some_ in let e : v - 1 ≡ h = omega arith in let stored : 0 < tally (is_stored h c) l.marks = subst (λ (y : ℕ). 0 < tally (is_stored y c) l.marks) e found in
+      keeps_notes first l law j m here w (λ f n. let a = n.1 (h + 1) in let b = n.3 h l.code in omega arith) (λ x. omega arith) (λ p. omega (arith, by is_tried))
+      (λ x p. dite (ℕ_discrete (h + 1) x) (λ q. omega arith) (λ n. law.saw x (omega (arith, by (is_saw x), only-else x (h + 1) n))))
+      (λ g p. law.known g (omega (arith, by (is_known g))))
+      (λ g d p. dite (ℕ_discrete (pair g d h c) 0) (λ z. law.told g d (omega (arith, by (is_told g d))))
+      (λ n. let t = pair_is g d h c (omega arith) in subst (λ (y : ℕ). 0 < tally (is_stored g y) l.marks) t.1 (subst (λ (y : ℕ). 0 < tally (is_stored y c) l.marks) t.0 stored)))
+      (λ g k p. law.met g k (omega (arith, by (is_met g k))))
 
   -- an id that was found
   pub keeps_known : (h : ℕ) → life first h (l.version + live l) ≡ 1 → SlotLaw first (live l) record l { marks = set l.marks j (Known h ∷ m) }
-  keeps_known h was_born = let w : List Mark = Known h ∷ m in let by = moved first l law j m here w in record {
-    counted = omega (arith, by is_ref, law.counted);
-    few = few_with first l law j m here w (let a = law.few j m here in omega arith);
-    tagged = law.tagged;
-    busy_once = omega (arith, by is_busy, law.busy_once);
-    busy_taken = λ p. law.busy_taken (omega (arith, by is_busy));
-    busy_even = λ p. law.busy_even (omega (arith, by is_busy));
-    free_even = law.free_even;
-    free_low = law.free_low;
-    claimed_low = λ p. law.claimed_low (omega (arith, by is_claimed));
-    recycled = λ v p. law.recycled v (omega (arith, by (is_recycled v)));
-    begun = law.begun;
-    top = law.top;
-    taken_by = λ p. omega (arith, by is_claimed, by is_tried, law.taken_by);
-    held = λ h p. law.held h (omega (arith, by (is_hold h)));
-    saw = λ v p. law.saw v (omega (arith, by (is_saw v)));
-    zero_noted = λ p q. omega (arith, by (is_zero l.version), law.zero_noted p q);
-    known = λ g p. dite (ℕ_discrete h g) (λ e. subst (λ (y : ℕ). life first y (l.version + live l) ≡ 1) e was_born) (λ n. law.known g (omega (arith, by (is_known g), only-else g h n)));
-    born = λ h. omega (arith, by (is_born h), law.born h);
-    failed = λ h. omega (arith, by (is_failer h), law.failed h);
-    ended = λ h. omega (arith, by (is_freer h), law.ended h);
-    codes = each_set KeepsCodes l.marks j w law.codes (
-      (λ h. omega (arith, (law.codes j m here).0 h)),
-      (λ h p. let t = (law.codes j m here).1 h (omega arith) in let a = t.0 in let b = t.1 in (omega arith, omega arith)),
-    );
-    coding_once = omega (arith, by is_any_coding, law.coding_once);
-    coding_odd = λ p. law.coding_odd (omega (arith, by is_any_coding));
-    code_none = λ p. law.code_none (omega (arith, by is_any_coding));
-    code_is = λ h c p. law.code_is h c (omega (arith, by (is_stored h c)));
-    code_even = λ h c p. law.code_even h c (omega (arith, by (is_stored h c)));
-    code_by = λ p q. omega (arith, by (is_stored (l.version - 1) l.code), law.code_by p q);
-    told = λ h c p. omega (arith, by (is_stored h c), law.told h c (omega (arith, by (is_told h c))));
-    staged = λ n k p. law.staged n k (omega (arith, by (is_stage n k)));
-    link_low = λ h k p. law.link_low h k (omega (arith, by (is_linked h k)));
-    link_even = λ h k p. law.link_even h k (omega (arith, by (is_linked h k)));
-    link_begun = λ h k p. law.link_begun h k (omega (arith, by (is_linked h k)));
-    met = λ h k p. omega (arith, by (is_linked h k), law.met h k (omega (arith, by (is_met h k))));
-    link_is = λ h k p q. law.link_is h k (omega (arith, by (is_linked h k))) (omega (arith, by is_recycling));
-    link_live = λ p. omega (arith, by (is_linked l.version l.link), law.link_live p);
-    link_odd = λ p. omega (arith, by (is_linked (l.version - 1) l.link), law.link_odd p);
-    link_last = λ p. omega (arith, by (is_linked (l.version - 2) l.link), law.link_last (omega (arith, by is_recycling)));
-  }
+  keeps_known h was_born = let by = moved first l law j m here (Known h ∷ m) in keeps_notes first l law j m here (Known h ∷ m) (λ f n. let a = n.2 h in omega arith) (λ v. omega arith) (λ p. omega (arith, by is_tried)) (λ v p. law.saw v (omega (arith, by (is_saw v))))
+      (λ g p. dite (ℕ_discrete h g) (λ e. subst (λ (y : ℕ). life first y (l.version + live l) ≡ 1) e was_born) (λ n. law.known g (omega (arith, by (is_known g), only-else g h n))))
+      (λ h c p. law.told h c (omega (arith, by (is_told h c)))) (λ h k p. law.met h k (omega (arith, by (is_met h k))))
 
   -- the link of a life was found
   pub keeps_met : (h k : ℕ) → 0 < tally (is_linked h k) l.marks → SlotLaw first (live l) record l { marks = set l.marks j (Met h k ∷ m) }
-  keeps_met h k there = let w : List Mark = Met h k ∷ m in let by = moved first l law j m here w in record {
-    counted = omega (arith, by is_ref, law.counted);
-    few = few_with first l law j m here w (let a = law.few j m here in omega arith);
-    tagged = law.tagged;
-    busy_once = omega (arith, by is_busy, law.busy_once);
-    busy_taken = λ p. law.busy_taken (omega (arith, by is_busy));
-    busy_even = λ p. law.busy_even (omega (arith, by is_busy));
-    free_even = law.free_even;
-    free_low = law.free_low;
-    claimed_low = λ p. law.claimed_low (omega (arith, by is_claimed));
-    recycled = λ v p. law.recycled v (omega (arith, by (is_recycled v)));
-    begun = law.begun;
-    top = law.top;
-    taken_by = λ p. omega (arith, by is_claimed, by is_tried, law.taken_by);
-    held = λ h p. law.held h (omega (arith, by (is_hold h)));
-    saw = λ v p. law.saw v (omega (arith, by (is_saw v)));
-    zero_noted = λ p q. omega (arith, by (is_zero l.version), law.zero_noted p q);
-    known = λ g p. law.known g (omega (arith, by (is_known g)));
-    born = λ h. omega (arith, by (is_born h), law.born h);
-    failed = λ h. omega (arith, by (is_failer h), law.failed h);
-    ended = λ h. omega (arith, by (is_freer h), law.ended h);
-    codes = each_set KeepsCodes l.marks j w law.codes (
-      (λ h. omega (arith, (law.codes j m here).0 h)),
-      (λ h p. let t = (law.codes j m here).1 h (omega arith) in let a = t.0 in let b = t.1 in (omega arith, omega arith)),
-    );
-    coding_once = omega (arith, by is_any_coding, law.coding_once);
-    coding_odd = λ p. law.coding_odd (omega (arith, by is_any_coding));
-    code_none = λ p. law.code_none (omega (arith, by is_any_coding));
-    code_is = λ h c p. law.code_is h c (omega (arith, by (is_stored h c)));
-    code_even = λ h c p. law.code_even h c (omega (arith, by (is_stored h c)));
-    code_by = λ p q. omega (arith, by (is_stored (l.version - 1) l.code), law.code_by p q);
-    told = λ h c p. omega (arith, by (is_stored h c), law.told h c (omega (arith, by (is_told h c))));
-    staged = λ n k p. law.staged n k (omega (arith, by (is_stage n k)));
-    link_low = λ h k p. law.link_low h k (omega (arith, by (is_linked h k)));
-    link_even = λ h k p. law.link_even h k (omega (arith, by (is_linked h k)));
-    link_begun = λ h k p. law.link_begun h k (omega (arith, by (is_linked h k)));
-    met = λ g c p. dite (ℕ_discrete (pair g c h k) 0) (λ e. omega (arith, by (is_linked g c), law.met g c (omega (arith, by (is_met g c)))))
-        (λ n. let t = pair_is g c h k (omega arith) in let r : 0 < tally (is_linked g c) l.marks = subst (λ y. 0 < tally (is_linked y c) l.marks) t.0 (subst (λ y. 0 < tally (is_linked h y) l.marks) t.1 there) in omega (arith, by (is_linked g c)));
-    link_is = λ h k p q. law.link_is h k (omega (arith, by (is_linked h k))) (omega (arith, by is_recycling));
-    link_live = λ p. omega (arith, by (is_linked l.version l.link), law.link_live p);
-    link_odd = λ p. omega (arith, by (is_linked (l.version - 1) l.link), law.link_odd p);
-    link_last = λ p. omega (arith, by (is_linked (l.version - 2) l.link), law.link_last (omega (arith, by is_recycling)));
-  }
+  keeps_met h k there = let by = moved first l law j m here (Met h k ∷ m) in keeps_notes first l law j m here (Met h k ∷ m) (λ f n. let a = n.4 h k in omega arith) (λ v. omega arith) (λ p. omega (arith, by is_tried)) (λ v p. law.saw v (omega (arith, by (is_saw v))))
+      (λ h p. law.known h (omega (arith, by (is_known h)))) (λ h c p. law.told h c (omega (arith, by (is_told h c))))
+      (λ g c p. dite (ℕ_discrete (pair g c h k) 0) (λ e. law.met g c (omega (arith, by (is_met g c))))
+      (λ n. let t = pair_is g c h k (omega arith) in subst (λ y. 0 < tally (is_linked y c) l.marks) t.0 (subst (λ y. 0 < tally (is_linked h y) l.marks) t.1 there)))

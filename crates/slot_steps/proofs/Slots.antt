@@ -5,7 +5,7 @@ use mathlib.Core.Option.{some}
 use native.Mathlib.Decide.{ℕ_discrete}
 use lib.ListN.{get_elem?}
 use Rattle.sock_model.specs.declared.marks.Mark.{Mark}
-use Rattle.sock_model.specs.declared.marks.Mark.TheVariants.{Claimed, Recycling, Hold, Probe, Zero, Coding, Tried, Known, Born, Saw, Failer, Freer, Linked}
+use Rattle.sock_model.specs.declared.marks.Mark.TheVariants.{Claimed, Recycling, Hold, Probe, Zero, Coding, Tried, Known, Born, Saw, Failer, Freer, Linked, Told, Met}
 use Rattle.sock_model.specs.Weights.{total, tally, pair, life, is_claimed, is_recycling, is_busy, is_ref, is_probe, is_any_coding, is_tried, is_stage, is_recycled, is_hold, is_zero, is_coding, is_known, is_born, is_saw, is_failer, is_freer, is_coded, is_stored, is_told, is_linked, is_met}
 use Rattle.sock_model.specs.Marks.{without, dropped}
 use Rattle.sock_model.specs.Slots.{SlotFacts, live, Each, KeepsCodes, SlotLaw}
@@ -61,6 +61,13 @@ coding_is _ p = absurd (omega arith)
 
 z : (h : ℕ) → zero ≡ zero
 z h = refl
+
+zz : (h k : ℕ) → zero ≡ zero
+zz h k = refl
+
+-- a weight that notes of what was found taken, seen, known, told or met don't have
+abbrev pub IsNone : (Mark → ℕ) → Type 0
+IsNone f = (f Tried ≡ 0) × ((v : ℕ) → f (Saw v) ≡ 0) × ((h : ℕ) → f (Known h) ≡ 0) × ((h c : ℕ) → f (Told h c) ≡ 0) × ((h k : ℕ) → f (Met h k) ≡ 0)
 
 -- a reference, to a life or only to the word
 abbrev pub IsRef : Mark → Type 0
@@ -170,50 +177,59 @@ module _ (first : ℕ) (l : SlotFacts) (law : SlotLaw first (live l) l) (j : ℕ
       let t = life_is first v (v + lv) (omega (arith, law.known v (omega (arith, own (is_known v))))) in let t₁ = t.1 in let t₂ = t.2 in
       add (Hold v) (λ f a b. b v) refl (λ h p. let e = only_is h v p in let o : v + 1 ≡ v + lv = omega arith in (ap (λ (x : ℕ). x + 1) (sym e) ∙ o, ap (λ (x : ℕ). x % 2) (sym e) ∙ t₂)) room
 
-  -- a look at the word
-  pub keeps_look : SlotLaw first (live l) record l { marks = set l.marks j (Saw l.version ∷ m) }
-  keeps_look = let w : List Mark = Saw l.version ∷ m in let by = moved w in record {
-    counted = omega (arith, by is_ref, law.counted);
-    few = few_with w (let a = law.few j m here in omega arith);
+  -- a step that notes what it saw, knows, was told, met or found taken, and nothing else
+  pub keeps_notes : (w : List Mark) → ((f : Mark → ℕ) → IsNone f → total f w ≡ total f m) → ((v : ℕ) → total (is_saw v) m ≤ total (is_saw v) w) → (0 < l.tag + tally is_tried (set l.marks j w) → 0 < l.tag + tally is_tried l.marks)
+      → ((v : ℕ) → 0 < tally (is_saw v) (set l.marks j w) → v ≤ l.version) → ((h : ℕ) → 0 < tally (is_known h) (set l.marks j w) → life first h (l.version + live l) ≡ 1)
+      → ((h c : ℕ) → 0 < tally (is_told h c) (set l.marks j w) → 0 < tally (is_stored h c) l.marks) → ((h k : ℕ) → 0 < tally (is_met h k) (set l.marks j w) → 0 < tally (is_linked h k) l.marks)
+      → SlotLaw first (live l) record l { marks = set l.marks j w }
+  keeps_notes w rest more tried saw known told met = let by = moved w in let same : (f : Mark → ℕ) → IsNone f → tally f (set l.marks j w) ≡ tally f l.marks = λ f n. let d = rest f n in omega (arith, by f) in record {
+    counted = omega (arith, same is_ref (refl, z, z, zz, zz), law.counted);
+    few = few_with w (let a = law.few j m here in omega (arith, rest is_ref (refl, z, z, zz, zz)));
     tagged = law.tagged;
-    busy_once = omega (arith, by is_busy, law.busy_once);
-    busy_taken = λ p. law.busy_taken (omega (arith, by is_busy));
-    busy_even = λ p. law.busy_even (omega (arith, by is_busy));
+    busy_once = omega (arith, same is_busy (refl, z, z, zz, zz), law.busy_once);
+    busy_taken = λ p. law.busy_taken (omega (arith, same is_busy (refl, z, z, zz, zz)));
+    busy_even = λ p. law.busy_even (omega (arith, same is_busy (refl, z, z, zz, zz)));
     free_even = law.free_even;
     free_low = law.free_low;
-    claimed_low = λ p. law.claimed_low (omega (arith, by is_claimed));
-    recycled = λ v p. law.recycled v (omega (arith, by (is_recycled v)));
+    claimed_low = λ p. law.claimed_low (omega (arith, same is_claimed (refl, z, z, zz, zz)));
+    recycled = λ v p. law.recycled v (omega (arith, same (is_recycled v) (refl, z, z, zz, zz)));
     begun = law.begun;
     top = law.top;
-    taken_by = λ p. omega (arith, by is_claimed, by is_tried, law.taken_by);
-    held = λ h p. law.held h (omega (arith, by (is_hold h)));
-    saw = λ v p. dite (ℕ_discrete l.version v) (λ i. omega arith) (λ n. law.saw v (omega (arith, by (is_saw v), only-else v l.version n)));
-    zero_noted = λ p q. omega (arith, by (is_zero l.version), law.zero_noted p q);
-    known = λ h p. law.known h (omega (arith, by (is_known h)));
-    born = λ h. omega (arith, by (is_born h), law.born h);
-    failed = λ h. omega (arith, by (is_failer h), law.failed h);
-    ended = λ h. omega (arith, by (is_freer h), law.ended h);
+    taken_by = λ p. omega (arith, same is_claimed (refl, z, z, zz, zz), law.taken_by (tried p));
+    held = λ h p. law.held h (omega (arith, same (is_hold h) (refl, z, z, zz, zz)));
+    saw = saw;
+    zero_noted = λ p q. omega (arith, same (is_zero l.version) (refl, z, z, zz, zz), law.zero_noted p q);
+    known = known;
+    born = λ h. omega (arith, same (is_born h) (refl, z, z, zz, zz), law.born h);
+    failed = λ h. omega (arith, same (is_failer h) (refl, z, z, zz, zz), law.failed h);
+    ended = λ h. omega (arith, same (is_freer h) (refl, z, z, zz, zz), law.ended h);
     codes = each_set KeepsCodes l.marks j w law.codes (
-      (λ h. omega (arith, (law.codes j m here).0 h)),
-      (λ h p. let t = (law.codes j m here).1 h (omega arith) in let a = t.0 in let b = t.1 in (omega arith, omega arith)),
+      (λ h. omega (arith, (law.codes j m here).0 h, rest (is_failer h) (refl, z, z, zz, zz), rest (is_coding h) (refl, z, z, zz, zz), rest (is_coded h) (refl, z, z, zz, zz))),
+      (λ h p. let t = (law.codes j m here).1 h (omega (arith, rest (is_coding h) (refl, z, z, zz, zz))) in let a = t.0 in let b = t.1 in (omega (arith, rest (is_hold h) (refl, z, z, zz, zz)), omega (arith, more (h + 1)))),
     );
-    coding_once = omega (arith, by is_any_coding, law.coding_once);
-    coding_odd = λ p. law.coding_odd (omega (arith, by is_any_coding));
-    code_none = λ p. law.code_none (omega (arith, by is_any_coding));
-    code_is = λ h c p. law.code_is h c (omega (arith, by (is_stored h c)));
-    code_even = λ h c p. law.code_even h c (omega (arith, by (is_stored h c)));
-    code_by = λ p q. omega (arith, by (is_stored (l.version - 1) l.code), law.code_by p q);
-    told = λ h c p. omega (arith, by (is_stored h c), law.told h c (omega (arith, by (is_told h c))));
-    staged = λ n k p. law.staged n k (omega (arith, by (is_stage n k)));
-    link_low = λ h k p. law.link_low h k (omega (arith, by (is_linked h k)));
-    link_even = λ h k p. law.link_even h k (omega (arith, by (is_linked h k)));
-    link_begun = λ h k p. law.link_begun h k (omega (arith, by (is_linked h k)));
-    met = λ h k p. omega (arith, by (is_linked h k), law.met h k (omega (arith, by (is_met h k))));
-    link_is = λ h k p q. law.link_is h k (omega (arith, by (is_linked h k))) (omega (arith, by is_recycling));
-    link_live = λ p. omega (arith, by (is_linked l.version l.link), law.link_live p);
-    link_odd = λ p. omega (arith, by (is_linked (l.version - 1) l.link), law.link_odd p);
-    link_last = λ p. omega (arith, by (is_linked (l.version - 2) l.link), law.link_last (omega (arith, by is_recycling)));
+    coding_once = omega (arith, same is_any_coding (refl, z, z, zz, zz), law.coding_once);
+    coding_odd = λ p. law.coding_odd (omega (arith, same is_any_coding (refl, z, z, zz, zz)));
+    code_none = λ p. law.code_none (omega (arith, same is_any_coding (refl, z, z, zz, zz)));
+    code_is = λ h c p. law.code_is h c (omega (arith, same (is_stored h c) (refl, z, z, zz, zz)));
+    code_even = λ h c p. law.code_even h c (omega (arith, same (is_stored h c) (refl, z, z, zz, zz)));
+    code_by = λ p q. omega (arith, same (is_stored (l.version - 1) l.code) (refl, z, z, zz, zz), law.code_by p q);
+    told = λ h c p. omega (arith, same (is_stored h c) (refl, z, z, zz, zz), told h c p);
+    staged = λ n k p. law.staged n k (omega (arith, same (is_stage n k) (refl, z, z, zz, zz)));
+    link_low = λ h k p. law.link_low h k (omega (arith, same (is_linked h k) (refl, z, z, zz, zz)));
+    link_even = λ h k p. law.link_even h k (omega (arith, same (is_linked h k) (refl, z, z, zz, zz)));
+    link_begun = λ h k p. law.link_begun h k (omega (arith, same (is_linked h k) (refl, z, z, zz, zz)));
+    met = λ h k p. omega (arith, same (is_linked h k) (refl, z, z, zz, zz), met h k p);
+    link_is = λ h k p q. law.link_is h k (omega (arith, same (is_linked h k) (refl, z, z, zz, zz))) (omega (arith, same is_recycling (refl, z, z, zz, zz)));
+    link_live = λ p. omega (arith, same (is_linked l.version l.link) (refl, z, z, zz, zz), law.link_live p);
+    link_odd = λ p. omega (arith, same (is_linked (l.version - 1) l.link) (refl, z, z, zz, zz), law.link_odd p);
+    link_last = λ p. omega (arith, same (is_linked (l.version - 2) l.link) (refl, z, z, zz, zz), law.link_last (omega (arith, same is_recycling (refl, z, z, zz, zz))));
   }
+
+  -- a look at the word
+  pub keeps_look : SlotLaw first (live l) record l { marks = set l.marks j (Saw l.version ∷ m) }
+  keeps_look = let by = moved (Saw l.version ∷ m) in keeps_notes (Saw l.version ∷ m) (λ f n. let a = n.1 l.version in omega arith) (λ v. omega arith) (λ p. omega (arith, by is_tried))
+      (λ v p. dite (ℕ_discrete l.version v) (λ i. omega arith) (λ n. law.saw v (omega (arith, by (is_saw v), only-else v l.version n))))
+      (λ h p. law.known h (omega (arith, by (is_known h)))) (λ h c p. law.told h c (omega (arith, by (is_told h c)))) (λ h k p. law.met h k (omega (arith, by (is_met h k))))
 
   -- a reference taken back, from a life or only from the word
   sub : (w : List Mark) → total is_ref w + 1 ≡ total is_ref m → ((h : ℕ) → total (is_hold h) w ≤ total (is_hold h) m)
@@ -484,48 +500,8 @@ module _ (first : ℕ) (l : SlotFacts) (law : SlotLaw first (live l) l) (j : ℕ
       }
 
   pub keeps_tried : l.tag ≡ 1 → SlotLaw first (live l) record l { marks = set l.marks j (Tried ∷ m) }
-  keeps_tried is_taken = let w : List Mark = Tried ∷ m in let by = moved w in record {
-    counted = omega (arith, by is_ref, law.counted);
-    few = few_with w (let a = law.few j m here in omega arith);
-    tagged = law.tagged;
-    busy_once = omega (arith, by is_busy, law.busy_once);
-    busy_taken = λ p. law.busy_taken (omega (arith, by is_busy));
-    busy_even = λ p. law.busy_even (omega (arith, by is_busy));
-    free_even = law.free_even;
-    free_low = law.free_low;
-    claimed_low = λ p. law.claimed_low (omega (arith, by is_claimed));
-    recycled = λ v p. law.recycled v (omega (arith, by (is_recycled v)));
-    begun = law.begun;
-    top = law.top;
-    taken_by = λ p. omega (arith, by is_claimed, law.taken_by (omega arith));
-    held = λ h p. law.held h (omega (arith, by (is_hold h)));
-    saw = λ v p. law.saw v (omega (arith, by (is_saw v)));
-    zero_noted = λ p q. omega (arith, by (is_zero l.version), law.zero_noted p q);
-    known = λ h p. law.known h (omega (arith, by (is_known h)));
-    born = λ h. omega (arith, by (is_born h), law.born h);
-    failed = λ h. omega (arith, by (is_failer h), law.failed h);
-    ended = λ h. omega (arith, by (is_freer h), law.ended h);
-    codes = each_set KeepsCodes l.marks j w law.codes (
-      (λ h. omega (arith, (law.codes j m here).0 h)),
-      (λ h p. let t = (law.codes j m here).1 h (omega arith) in let a = t.0 in let b = t.1 in (omega arith, omega arith)),
-    );
-    coding_once = omega (arith, by is_any_coding, law.coding_once);
-    coding_odd = λ p. law.coding_odd (omega (arith, by is_any_coding));
-    code_none = λ p. law.code_none (omega (arith, by is_any_coding));
-    code_is = λ h c p. law.code_is h c (omega (arith, by (is_stored h c)));
-    code_even = λ h c p. law.code_even h c (omega (arith, by (is_stored h c)));
-    code_by = λ p q. omega (arith, by (is_stored (l.version - 1) l.code), law.code_by p q);
-    told = λ h c p. omega (arith, by (is_stored h c), law.told h c (omega (arith, by (is_told h c))));
-    staged = λ n k p. law.staged n k (omega (arith, by (is_stage n k)));
-    link_low = λ h k p. law.link_low h k (omega (arith, by (is_linked h k)));
-    link_even = λ h k p. law.link_even h k (omega (arith, by (is_linked h k)));
-    link_begun = λ h k p. law.link_begun h k (omega (arith, by (is_linked h k)));
-    met = λ h k p. omega (arith, by (is_linked h k), law.met h k (omega (arith, by (is_met h k))));
-    link_is = λ h k p q. law.link_is h k (omega (arith, by (is_linked h k))) (omega (arith, by is_recycling));
-    link_live = λ p. omega (arith, by (is_linked l.version l.link), law.link_live p);
-    link_odd = λ p. omega (arith, by (is_linked (l.version - 1) l.link), law.link_odd p);
-    link_last = λ p. omega (arith, by (is_linked (l.version - 2) l.link), law.link_last (omega (arith, by is_recycling)));
-  }
+  keeps_tried is_taken = let by = moved (Tried ∷ m) in keeps_notes (Tried ∷ m) (λ f n. let a = n.0 in omega arith) (λ v. omega arith) (λ p. omega arith) (λ v p. law.saw v (omega (arith, by (is_saw v))))
+      (λ h p. law.known h (omega (arith, by (is_known h)))) (λ h c p. law.told h c (omega (arith, by (is_told h c)))) (λ h k p. law.met h k (omega (arith, by (is_met h k))))
 
   pub keeps_birth : (k : ℕ) → 0 < total (is_stage 3 k) m
       → SlotLaw first 1 record l { nref = l.nref + 1; marks = set l.marks j (Known l.version ∷ Born l.version ∷ Linked l.version k ∷ without (is_stage 3 k) m) }
