@@ -138,16 +138,21 @@ impl Refs {
         mem::replace(&mut self.first, None)
     }
 
-    /// Gives each reference up where it lies, from the last to the first.
-    #[inline(never)]
-    pub(crate) fn recycle(&mut self, pool: &mut BlockPool)
+    /// Gives each reference up, from the last to the first.
+    #[inline(always)]
+    pub(crate) fn recycle(self, pool: &mut BlockPool)
         ensures { pool.old ≤ pool.new }
     {
-        while let Some(piece) = self.rest.pop_back() {
-            pool.recycle(piece);
+        let Refs {
+            first,
+            second,
+            rest,
+        } = self;
+        if !rest.is_empty() {
+            recycle_rest(rest, pool);
         }
-        recycle_place(&mut self.second, pool);
-        recycle_place(&mut self.first, pool);
+        recycle_held(second, pool);
+        recycle_held(first, pool);
     }
 
     pub(crate) fn reserve_exact(&mut self, more: usize) -> Result<(), AllocError>
@@ -167,27 +172,22 @@ impl Refs {
     }
 }
 
-// Gives the reference at a place up, and moves it out only where its block came free so.
-#[inline(always)]
-fn recycle_place(place: &mut Option<Bytes>, pool: &mut BlockPool)
-    ensures none { place.new ≡ None }
-    ensures pool { pool.old ≤ pool.new }
-{
-    if let Some(piece) = place
-        && piece.is_unique()
-    {
-        recycle_last(mem::replace(place, None), pool);
-        return;
-    }
-    *place = None;
-}
-
-// Gives the last reference to a block up.
+// Gives the references behind the first two up, from the last to the first.
 #[inline(never)]
-fn recycle_last(last: Option<Bytes>, pool: &mut BlockPool)
+fn recycle_rest(mut rest: VecDeque<Bytes>, pool: &mut BlockPool)
     ensures { pool.old ≤ pool.new }
 {
-    if let Some(piece) = last {
+    while let Some(piece) = rest.pop_back() {
+        pool.recycle(piece);
+    }
+}
+
+// Gives a reference up where there is one.
+#[inline(always)]
+fn recycle_held(held: Option<Bytes>, pool: &mut BlockPool)
+    ensures { pool.old ≤ pool.new }
+{
+    if let Some(piece) = held {
         pool.recycle(piece);
     }
 }

@@ -1,6 +1,7 @@
-ghost use Rattle.std.specs.Prelude.{◌≡◌, ◌+◌, ◌<◌, ◌≤◌, [], ◌∷◌, ◌++◌, length};
+ghost use Rattle.std.specs.Prelude.{◌≡◌, ◌+◌, ◌<◌, ◌≤◌, [], ◌∷◌, ◌++◌, length, take};
 ghost use Rattle.pb_wire.specs.brpc_model.specs.Wire.{varint_bytes};
 
+use crate::meta::HERE_BYTES;
 use std::marker::Model;
 
 /// So many bytes a front has room for.
@@ -63,6 +64,26 @@ impl Front {
         let end = self.len + bytes.len();
         self.bytes[self.len..end].copy_from_slice(bytes);
         self.len = end;
+    }
+
+    /// How many bytes there is room for.
+    #[inline(always)]
+    pub(crate) fn left(&self) -> usize
+        ensures { result + length self.now ≡ FRONT_BYTES }
+    {
+        FRONT_BYTES - self.len
+    }
+
+    /// Puts the first n of 31 bytes behind the others, where there is room for all.
+    #[inline(always)]
+    pub(crate) fn extend_part(&mut self, bytes: &[u8; HERE_BYTES], n: usize)
+        requires room { length self.old + HERE_BYTES ≤ FRONT_BYTES }
+        requires n { n ≤ HERE_BYTES }
+        ensures { self.new ≡ self.old ++ take n bytes.now }
+    {
+        let end = self.len + HERE_BYTES;
+        self.bytes[self.len..end].copy_from_slice(bytes);
+        self.len += n;
     }
 
     /// Puts the shortest varint of a number behind the others.

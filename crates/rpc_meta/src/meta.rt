@@ -1,10 +1,11 @@
-ghost use Rattle.std.specs.Prelude.{◌≡◌, ◌≤◌, length, IfOk};
+ghost use Rattle.std.specs.Prelude.{◌≡◌, ◌+◌, ◌≤◌, ◌++◌, length, IfOk};
 
+use crate::front::{FRONT_BYTES, Front};
 use std::alloc::{AllocError, Global};
 use std::marker::Model;
 
 /// So many bytes a meta carries without memory.
-const HERE_BYTES: usize = 31;
+pub(crate) const HERE_BYTES: usize = 31;
 
 /// Bytes that a meta carries; contracts see the list of them. Up to 31 take no memory.
 #[derive(Drop)]
@@ -59,6 +60,20 @@ impl MetaBytes {
             &self.here[..self.len as usize]
         } else {
             self.heap.as_slice()
+        }
+    }
+
+    /// Spells the bytes in place. Few are copied with all that is behind them, which takes one step
+    /// however many they are.
+    #[inline(always)]
+    pub(crate) fn spell_to(&self, out: &mut Front)
+        requires { length out.old + length self.now ≤ FRONT_BYTES }
+        ensures { out.new ≡ out.old ++ self.now }
+    {
+        if self.heap.is_empty() && out.left() >= HERE_BYTES {
+            out.extend_part(&self.here, self.len as usize);
+        } else {
+            out.extend(self.as_slice());
         }
     }
 

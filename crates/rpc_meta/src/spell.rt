@@ -7,7 +7,7 @@ ghost use Rattle.rpc_meta.specs.Sizes.{IsRequestSize, IsResponseSize, AreSizes};
 ghost use Rattle.rpc_meta.specs.Writing.{HasPart, RequestFits, ResponseFits, MetaFits};
 
 use crate::front::{FRONT_BYTES, Front};
-use crate::meta::{RequestMeta, ResponseMeta, RpcMeta};
+use crate::meta::{MetaBytes, RequestMeta, ResponseMeta, RpcMeta};
 use crate::sizes::MetaSizes;
 use crate::write::spelled;
 
@@ -56,8 +56,8 @@ fn spell_names(request: &RequestMeta, out: &mut Front)
     ensures exact { out.new ≡ out.old ++ request_bytes (request_of request.now) }
     ensures fits { RequestFits (Some (request_of request.now)) }
 {
-    spell_bytes(1, request.service.as_slice(), out);
-    spell_bytes(2, request.method.as_slice(), out);
+    spell_name(1, &request.service, out);
+    spell_name(2, &request.method, out);
     if let Some(log_id) = request.log_id {
         spell_number(3, log_id, out);
     }
@@ -116,6 +116,16 @@ fn spell_text(number: u8, bytes: &[u8], out: &mut Front)
     if !bytes.is_empty() {
         spell_bytes(number, bytes, out);
     }
+}
+
+/// Spells a name under a number.
+#[inline(always)]
+fn spell_name(number: u8, name: &MetaBytes, out: &mut Front)
+    requires { length out.old + length (bytes_field number name.now) ≤ FRONT_BYTES }
+    ensures { out.new ≡ out.old ++ bytes_field number name.now }
+{
+    spell_head(number, name.as_slice().len(), out);
+    name.spell_to(out);
 }
 
 /// Spells bytes under a number.

@@ -11,6 +11,7 @@ impl IoBuf {
     /// Copies the bytes to the end, first into the rest of the block that the pool's buffers wrote to
     /// last, and then into whole blocks. In a buffer that was empty they lie in pieces of 8,192
     /// bytes from their start, the last one shorter, and at most 8,192 bytes in one piece.
+    #[inline(always)]
     pub fn append_bytes(&mut self, pool: &mut BlockPool, bytes: &[u8]) -> Result<(), NoMemory>
         ensures items { OnOk result (self.new.items ≡ self.old.items ++ bytes.now) }
         ensures empty { OnOk result (self.old.items ≡ []
@@ -25,6 +26,20 @@ impl IoBuf {
         if bytes.len() <= BLOCK_BYTES && (fresh || bytes.len() <= pool.left()) {
             return self.write_piece(pool, bytes);
         }
+        self.append_blocks(pool, bytes)
+    }
+
+    // As `append_bytes`, of bytes that may be several pieces.
+    #[inline(never)]
+    fn append_blocks(&mut self, pool: &mut BlockPool, bytes: &[u8]) -> Result<(), NoMemory>
+        requires { 0 < length bytes.now }
+        ensures items { OnOk result (self.new.items ≡ self.old.items ++ bytes.now) }
+        ensures empty { OnOk result (self.old.items ≡ []
+            → self.new.sizes ≡ block_sizes (length bytes.now)) }
+        ensures kept { OnOk result ((more : List ℕ) × (self.new.sizes ≡ self.old.sizes ++ more)) }
+        ensures err { OnErr result (self.new ≡ self.old) }
+    {
+        let fresh = self.len == 0;
         let added = in_blocks(self.alloc, pool, bytes, fresh)?;
         self.reserve_refs(added.refs())?;
         self.append_buf(added);
@@ -50,7 +65,7 @@ impl IoBuf {
         ensures { pool.old ≤ pool.new }
     {
         let IoBuf {
-            mut pieces,
+            pieces,
             len: _,
             alloc: _,
         } = self;
