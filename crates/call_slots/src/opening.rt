@@ -48,7 +48,7 @@ pub fn opening_words(alloc: Global, plan: Plan) -> Result<Vec<u64>, AllocError>
 pub fn empty_homes(alloc: Global, count: u16) -> Result<Vec<Option<Call>>, AllocError>
     ensures { IfOk result (λ homes. homes.items ≡ replicate count None) }
 {
-    let mut homes = Vec::new(alloc);
+    let mut homes = Vec::with_capacity(alloc, usize::from(count))?;
     for _ in 0..count {
         homes.push(None)?;
     }

@@ -159,6 +159,9 @@ impl Reader {
                 kind: MAY_HANG,
             });
         }
-        Ok(Script::new(self.lines))
+        let mut lines = self.lines;
+        // They are kept for a whole run.
+        lines.shrink_to_fit();
+        Ok(Script::new(lines))
     }
 }

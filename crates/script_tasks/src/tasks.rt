@@ -1,4 +1,4 @@
-ghost use Rattle.std.specs.Prelude.{◌≡◌, ◌≤◌, ◌++◌, List, length, map, IfOk, OnOk};
+ghost use Rattle.std.specs.Prelude.{◌≡◌, ◌≤◌, ◌++◌, [], List, length, map, IfOk, OnOk};
 ghost use Rattle.std.specs.List.{AllByRecursion};
 ghost use Rattle.script_items.specs.Meaning.{item, call_of};
 ghost use Rattle.seat_programs.specs.Tasks.{Numbered, asked_of, op_of};
@@ -13,7 +13,7 @@ use crate::sizes::{is_client, is_open, is_operation};
 use script_items::{CallLine, Line, Name};
 use seat_programs::{Op, Task};
 use sock_message::{BlockPool, Call, Message, NoMemory};
-use std::alloc::Global;
+use std::alloc::{AllocError, Global};
 use std::collections::VecDeque;
 
 /// A call of a script, by numbers. The memory is for its bytes.
@@ -93,6 +93,19 @@ fn push_task(
     Ok(())
 }
 
+/// An empty queue with room for the tasks of this client, the setup's first: one for each of its operations, by these starts.
+fn queue_of(alloc: Global, starts: &[u16], client: usize) -> Result<VecDeque<Task>, AllocError>
+    ensures { IfOk result (λ q. q.items ≡ []) }
+{
+    let count = starts.len();
+    let operations = if count > 1 && client < count - 1 {
+        starts[client + 1].saturating_sub(starts[client])
+    } else {
+        0
+    };
+    VecDeque::with_capacity(alloc, usize::from(operations))
+}
+
 /// The tasks of the setup and of each client, in the order of the script. The bytes of each message and of each call are
 /// copied once, into blocks of the pool.
 pub fn tasks_of(
@@ -107,13 +120,13 @@ pub fn tasks_of(
     let names = names_of(alloc, lines)?;
     let starts = starts_of(alloc, lines)?;
     let mut clients = Vec::new(alloc);
-    let mut tasks = VecDeque::new(alloc);
+    let mut tasks = queue_of(alloc, &starts, 0)?;
     let mut number = 0u16;
     let mut link = 0u16;
     for line in lines {
         if is_client(line) {
             clients.push(tasks)?;
-            tasks = VecDeque::new(alloc);
+            tasks = queue_of(alloc, &starts, clients.len())?;
         } else if is_operation(line) {
             push_task(alloc, pool, &mut tasks, &names, &starts, number, link, line)?;
             number += 1;

@@ -35,4 +35,4 @@ returns c = λ said knows.
     whole_is self said knows c.first_lost.result c.first_hanging.result lost hanging
     ∙ ap (λ l. fault_in l 10 (fault_in c.first_hanging.result 11 (Ok (map item self.lines.items)))) none
     ∙ ap (λ h. fault_in h 11 (Ok (map item self.lines.items))) none-2
-    ∙ ap (λ is. Ok is) (sym c.new.ensures)
+    ∙ ap (λ is. Ok is) (sym (c.new.ensures ∙ ap (map item) c.shrink_to_fit.ensures.items))
