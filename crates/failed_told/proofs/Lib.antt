@@ -13,3 +13,9 @@ pub mod Reaching
 pub mod Fallen
 pub mod Asked
 pub mod Whole
+mod SeenTmp
+mod NamesTmp
+pub mod Before
+pub mod Makers
+pub mod Seeking
+pub mod Unopened

@@ -177,22 +177,22 @@ module _ {O : Type 0} {g : Ghosts O} {state : O → OutState} {p : Plan} {slots 
   abbrev crew : List (Client g state p q)
   crew = all_clients run
 
-  laws : IdLaws slots notes
+  pub laws : IdLaws slots notes
   laws = laws_of q notes kept words closing
 
-  within : (c : ℕ) (x : Client g state p q) → get_elem? crew c ≡ some x → (slot : ℕ) (f : Note Asked → ℕ) → total f (notes_of slot (view_of x).notes) ≤ total f (notes_of slot notes)
+  pub within : (c : ℕ) (x : Client g state p q) → get_elem? crew c ≡ some x → (slot : ℕ) (f : Note Asked → ℕ) → total f (notes_of slot (view_of x).notes) ≤ total f (notes_of slot notes)
   within c x at slot f =
       let h : View Asked → ℕ = λ v. total f (notes_of slot v.notes) in
       let a = term (λ (y : Client g state p q). h (view_of y)) crew c x at in let b = total_map h view_of crew in let d = ap (total h) (views_are run) in let e = noted.all slot f in omega (arith, a, b, d, e)
 
-  may_make : (c : ℕ) (x : Client g state p q) → get_elem? crew c ≡ some x → (n : ℕ) × MayMakeAll p q (tasks_of x) n
+  pub may_make : (c : ℕ) (x : Client g state p q) → get_elem? crew c ≡ some x → (n : ℕ) × MayMakeAll p q (tasks_of x) n
   may_make c x at = may_at p q (setup ∷ clients) (may.setup_may, may.clients_may) c (tasks_of x) (ap (λ (l : List (List Task)). get_elem? l c) (sym (tasks_are run)) ∙ mapped tasks_of crew c x at)
 
   numbers : (o : ℕ) → total (λ (x : Client g state p q). total (numbered o) (tasks_of x)) crew ≤ 1
   numbers o = let f : List Task → ℕ = λ ts. total (numbered o) ts in let a = total_map f tasks_of crew in let b = ap (total f) (tasks_are run) in let d = numbered_once p (setup ∷ clients) tasks o in omega (arith, a, b, d)
 
   -- one id at most was made for an operation
-  made_once : (o : ℕ) → total (makes o) notes ≤ 1
+  pub made_once : (o : ℕ) → total (makes o) notes ≤ 1
   made_once o =
       let f : View Asked → ℕ = λ v. total (makes o) v.notes in
       let a = noted.made o in let b = total_map f view_of crew in let c = ap (total f) (views_are run) in
@@ -263,7 +263,7 @@ module _ {O : Type 0} {g : Ghosts O} {state : O → OutState} {p : Plan} {slots 
         let few = tried_few x.thread x.is slot version r.attempt (version_low r.id) in
         lock_id laws r.id r.attempt k s.calls.view (view_of x) u.calls.view l.got knows (within c x at) (omega (arith, counted, one, few))
 
-    again_later : get_elem? (deeds_of x) i ≡ some went → 0 < r.attempt
+    pub again_later : get_elem? (deeds_of x) i ≡ some went → 0 < r.attempt
     again_later there = dite (ℕ_discrete r.attempt 0)
         (λ z. absurd (let a = term (by_retry is_first) (deeds_of x) i went there in let b = none_first x.thread x.is in let d = only-at 0 r.attempt z in omega (arith, a, b, d)))
         (λ n. omega (arith, n))
@@ -299,7 +299,7 @@ module _ {O : Type 0} {g : Ghosts O} {state : O → OutState} {p : Plan} {slots 
     pub no_frame : entries_of d ≡ []
     pub asks : (asked : Asked) → IsAskedIn d asked → asked.operation ≡ operation
 
-  first_id : (o id : ℕ) → slot_of id < slots → 0 < total (is_made_for (version_of id) o) (notes_of (slot_of id) notes) → IsIdOf slots notes o id
+  pub first_id : (o id : ℕ) → slot_of id < slots → 0 < total (is_made_for (version_of id) o) (notes_of (slot_of id) notes) → IsIdOf slots notes o id
   first_id o id inside made =
       let n = total_some (is_made_for (version_of id) o) (notes_of (slot_of id) notes) made in let m = made_note (version_of id) o n.1 n.3 in
       record { slot = slot_of id; first = version_of id; inside = inside; low = version_low id; id_is = sym (div-add-mod' id 4294967296); range = m.0; asked = m.1; place = n.0; made = n.2 ∙ ap some m.2; operation = m.3 }
