@@ -1,4 +1,5 @@
 pub mod Views
+pub mod Keeping
 pub mod Origins
 pub mod Clients
 pub mod Codes
