@@ -16,7 +16,10 @@ pub mod Asked
 pub mod Whole
 mod SeenTmp
 mod NamesTmp
+pub mod Crew
 pub mod Before
 pub mod Makers
 pub mod Seeking
 pub mod Unopened
+pub mod Premises
+pub mod Ended

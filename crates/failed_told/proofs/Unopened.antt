@@ -51,17 +51,15 @@ use Rattle.expire_told.specs.call_places.proofs.Still.{again_still}
 use Rattle.expire_told.specs.call_places.proofs.Counts.{locks_for, KnowsLock, Grows, lock_stays, lock_known}
 use Rattle.expire_told.specs.call_places.proofs.Ids.{IsIdOf, version_low, locker_there, one_id}
 use Rattle.expire_told.specs.call_places.proofs.Clients.{Client, view_of, tasks_of, deeds_of}
-use Rattle.expire_told.specs.call_places.proofs.Places.{all as all_clients, all_are, views_are, tasks_are}
+use Rattle.expire_told.specs.call_places.proofs.Places.{all as all_clients, all_are, views_are}
 use Rattle.expire_told.specs.call_told.specs.Least.{is_made_for}
 use Rattle.expire_told.specs.call_told.proofs.Lists.{all_at}
-use Rattle.expire_told.specs.call_deeds.proofs.Links.{IsOwnCall, call_at}
 use Rattle.expire_told.specs.call_deeds.proofs.Ran.{Result}
 use Rattle.expire_told.specs.call_deeds.proofs.Told.{all_results, told_by, task_at, result_of, said_at, open_said}
 use Rattle.expire_told.specs.outcome_causes.proofs.Seats.{Less}
 use Rattle.expire_told.specs.outcome_causes.proofs.Tasks.{sorted_of}
-use Rattle.expire_told.specs.report_fits.proofs.Lists.{has_from, contains_from}
 use Rattle.expire_told.specs.sock_deeds.specs.Runs.{IsOperation}
-use Rattle.expire_told.specs.sock_deeds.proofs.Places.{to_slice, to_elem, place_low}
+use Rattle.expire_told.specs.sock_deeds.proofs.Places.{place_low}
 use Rattle.expire_told.specs.Said.{AreSaid}
 use Rattle.expire_told.proofs.Begun.{made_begun as begun_made}
 use Rattle.expire_told.proofs.Making.{mapped_from}
@@ -73,6 +71,7 @@ use Rattle.failed_told.proofs.Reaching.{retry_grew}
 use Rattle.failed_told.proofs.Single.{within, may_make, made_once, first_id, again_later}
 use Rattle.failed_told.proofs.Clients.{says_own}
 use Rattle.failed_told.proofs.Makers.{IsBegun, made_begun}
+use Rattle.failed_told.proofs.Crew.{tasks_there, its_tasks, place_of, is_task, own_call}
 use Rattle.failed_told.proofs.Before.{stands_before, stands_behind, IsRetry, Operation, MadeBefore, MadeBehind, PlacedHere, all_placed, ends_at, noted_last}
 use Rattle.failed_told.proofs.Seeking.{sought_seen, opens_seen, missed_seen, waited_seen, names_are, none_again}
 
@@ -116,23 +115,6 @@ module _ {O : Type 0} {g : Ghosts O} {state : O → OutState} {p : Plan} {slots 
   abbrev every : List (List Task)
   every = setup ∷ clients
 
-  -- ## The tasks of a client
-
-  tasks_there : (c : ℕ) (x : Client g state p q) → get_elem? crew c ≡ some x → get_elem? every c ≡ some (tasks_of x)
-  tasks_there c x at = ap (λ (l : List (List Task)). get_elem? l c) (sym (tasks_are run)) ∙ mapped tasks_of crew c x at
-
-  its_tasks : (c : ℕ) (x : Client g state p q) → get_elem? crew c ≡ some x → slice_get every c ≡ Some (tasks_of x)
-  its_tasks c x at = to_slice every c (tasks_of x) (tasks_there c x at)
-
-  -- where a task stands among those of its client
-  place_of : (c : ℕ) (x : Client g state p q) → get_elem? crew c ≡ some x → (t : Task) → IsTask every outcomes c t → (k : ℕ) × (get_elem? (tasks_of x) k ≡ some t)
-  place_of c x at t is =
-      let h = has_from is.0 t is.2 in let same : is.0 ≡ tasks_of x = same_Some is.0 (tasks_of x) (sym is.1 ∙ its_tasks c x at) in
-      (h.0, ap (λ (l : List Task). get_elem? l h.0) (sym same) ∙ to_elem is.0 h.0 t h.1)
-
-  is_task : (c : ℕ) (x : Client g state p q) → get_elem? crew c ≡ some x → (k : ℕ) (t : Task) → get_elem? (tasks_of x) k ≡ some t → IsTask every outcomes c t
-  is_task c x at k t there = (tasks_of x, its_tasks c x at, contains_from (tasks_of x) t (k, to_slice (tasks_of x) k t there))
-
   -- what a client told of an operation is what became of it
   became_of : (c : ℕ) (x : Client g state p q) → get_elem? crew c ≡ some x → (k : ℕ) (r : Result) → get_elem? (all_results x.thread x.is) k ≡ some r → (o : Outcome) → r.by ≡ Some o → Became every outcomes r.task.number o
   became_of c x at k r there o by = let w = said_at x.thread x.is k r o there by in says_own run outcomes said c x at w.0 record { number = r.task.number; outcome = o } w.1
@@ -147,13 +129,13 @@ module _ {O : Type 0} {g : Ghosts O} {state : O → OutState} {p : Plan} {slots 
     placed = all_at (PlacedHere x.thread x.is) (deeds_of x) i d (all_placed x.thread x.is) there
 
     cut : IsBehind (tasks_of x) placed.made
-    cut = behind_first (tasks_of x) placed.made (sorted_of p every tasks c (tasks_of x) (its_tasks c x at))
+    cut = behind_first (tasks_of x) placed.made (sorted_of p every tasks c (tasks_of x) (its_tasks run outcomes c x at))
 
     -- the setup made no retry
     no_setup : 1 ≤ c
     no_setup = dite (ℕ_discrete c 0)
         (λ e. absurd (
-        let none_ = none_again x.thread x.is (λ k t here. (let is = is_task c x at k t here in all_at (λ (u : Task). IsOpen u.op) (tasks_of x) k t (tasks.setup (tasks_of x) (subst (λ (z : ℕ). slice_get every z ≡ Some (tasks_of x)) e (its_tasks c x at))) here)) in
+        let none_ = none_again x.thread x.is (λ k t here. all_at (λ (u : Task). IsOpen u.op) (tasks_of x) k t (tasks.setup (tasks_of x) (subst (λ (z : ℕ). slice_get every z ≡ Some (tasks_of x)) e (its_tasks run outcomes c x at))) here) in
         all_at (λ (e : Deed g state p q). IsRetry e → ⊥) (deeds_of x) i d none_ there again))
         (λ ne. omega (arith, ne))
 
@@ -161,7 +143,7 @@ module _ {O : Type 0} {g : Ghosts O} {state : O → OutState} {p : Plan} {slots 
       -- an operation before it
       made_by : (t : Task) → IsTask every outcomes c t → t.number < cut.number → (k : ℕ) × (b : MadeBefore state p q (all_results x.thread x.is) k (stands_before d)) × (b.operation.task ≡ t)
       made_by t is low =
-          let h = place_of c x at t is in let b = placed.first h.0 (cut.only_first h.0 t h.1 low) in
+          let h = place_of run outcomes c x at t is in let b = placed.first h.0 (cut.only_first h.0 t h.1 low) in
           (h.0, b, some-injective b.operation.task t (sym (task_at x.thread x.is h.0 record { task = b.operation.task; by = b.operation.by } b.operation.at) ∙ h.1))
 
       opened_none : (t : Task) → IsTask every outcomes c t → t.number < cut.number → OpensNone every outcomes n t
@@ -186,7 +168,7 @@ module _ {O : Type 0} {g : Ghosts O} {state : O → OutState} {p : Plan} {slots 
       setup_none : (t : Task) → IsTask every outcomes 0 t → OpensNone every outcomes n t
       setup_none t is k slot version op became =
           let main : Client g state p q = record { thread = run.ran.main; first = 0; is = run.ran.main_is } in
-          let h = place_of 0 main refl t is in
+          let h = place_of run outcomes 0 main refl t is in
           let r = result_of run.ran.main run.ran.main_is h.0 t h.1 in
           let y = opening_told main h.0 r.0 r.1 (ap (λ (u : Task). u.op) r.2 ∙ op) in
           let number : r.0.task.number ≡ t.number = ap (λ (u : Task). u.number) r.2 in
@@ -288,9 +270,9 @@ module _ {O : Type 0} {g : Ghosts O} {state : O → OutState} {p : Plan} {slots 
         let b = made_begun y.0.thread y.0.is o (subst (λ (z : View Asked). 0 < total (makes o) z.notes) (sym y.2) v.3) in
         let task = task_at y.0.thread y.0.is b.0 b.1 b.2 in
         let makes_all = may_make run tasks may notes kept words closing noted v.0 y.0 y.1 in
-        let own : b.3.asked.operation ≡ b.1.task.number = subst (λ (z : Op). IsOwnCall b.1.task.number z) b.3.op (call_at p q (tasks_of y.0) makes_all.0 b.0 b.1.task makes_all.1 task) in
+        let own : b.3.asked.operation ≡ b.1.task.number = own_call p q (tasks_of y.0) makes_all.0 makes_all.1 b.0 b.1.task task b.3.asked b.3.op in
         let number : b.1.task.number ≡ asked.operation = sym own ∙ (b.3.operation ∙ sym same) in
-        let its = same_task g state p q every outcomes tasks v.0 client b.1.task record { number = asked.operation; op = ops.Call asked } (is_task v.0 y.0 y.1 b.0 b.1.task task) is number in
+        let its = same_task g state p q every outcomes tasks v.0 client b.1.task record { number = asked.operation; op = ops.Call asked } (is_task run outcomes v.0 y.0 y.1 b.0 b.1.task task) is number in
         let one : y.0 ≡ x = some-injective y.0 x (sym y.1 ∙ (ap (get_elem? crew) (its.0 ∙ e) ∙ at)) in
         let low = began_first b.0 b.1 (subst (λ (z : Client g state p q). get_elem? (all_results z.thread z.is) b.0 ≡ some b.1) one b.2) b.3 in
         omega (arith, low, number)
@@ -307,5 +289,5 @@ module _ {O : Type 0} {g : Ghosts O} {state : O → OutState} {p : Plan} {slots 
       let d : Deed g state p q = retries r s t (went_again k v l w) in let n : ℕ = name_of asked r.attempt in
       let unseen : SeenBy p n s.socks → ⊥ = λ seen. found.1 (subst (SeenBy p n) found.0 ((retry_grew state p q r s t (went_again k v l w)).seen (name_index p n) seen)) in
       WasUnopened (again_later run tasks may notes kept words closing noted c x at i r s t k v l w there) c (cut c x at i d there tt).number (no_setup c x at i d there tt)
-      (place_low every c (tasks_of x) (tasks_there c x at)) (λ e. began_before c x at i r s t k v l w there asked (ap (λ (y : Asked). y.operation) (sym asks)) client task (sym e))
+      (place_low every c (tasks_of x) (tasks_there run outcomes c x at)) (λ e. began_before c x at i r s t k v l w there asked (ap (λ (y : Asked). y.operation) (sym asks)) client task (sym e))
       (found_none c x at i d there tt fixed gave orders n unseen)
