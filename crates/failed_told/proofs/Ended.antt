@@ -7,12 +7,12 @@ use Rattle.sock_io.specs.declared.link.Out.{Ghosts}
 use Rattle.sock_io.specs.Link.{OutState}
 use Rattle.sock_words.specs.Codes.{EEOF, EFAILEDSOCKET, EINTERNAL, ERESPONSE, ERPCTIMEDOUT}
 use Rattle.sock_words.specs.declared.outcome.Outcome.{Outcome}
+use Rattle.sock_words.specs.declared.outcome.Outcome.TheVariants.{CallFailed}
 use Rattle.sock_words.specs.declared.plain.Plan.{Plan}
 use Rattle.sock_words.specs.declared.place_word.PlaceWord.{PlaceWord}
 use Rattle.sock_words.specs.declared.vref.Vref.{Vref}
 use Rattle.sock_model.specs.declared.chain.Entry.{Entry}
 use Rattle.expire_told.specs.sock_rule.specs.Closing.{PlacesDiffer}
-use Rattle.seat_programs.specs.declared.task.Op.{Op}
 use Rattle.seat_programs.specs.declared.task.Op.TheVariants as ops
 use Rattle.seat_programs.specs.declared.task.Task.{Task}
 use Rattle.seat_programs.specs.Told.{AreTasks, IsTask}
@@ -38,6 +38,7 @@ use Rattle.expire_told.specs.call_places.specs.Deeds.{Deed}
 use Rattle.expire_told.specs.call_places.proofs.Ids.{IsIdOf}
 use Rattle.expire_told.specs.call_places.proofs.Clients.{Client, view_of, tasks_of, deeds_of}
 use Rattle.expire_told.specs.call_places.proofs.Places.{all as all_clients}
+use Rattle.expire_told.specs.call_told.proofs.Lists.{all_at}
 use Rattle.expire_told.specs.Said.{AreSaid, HaveKeptOf}
 use Rattle.expire_told.specs.sock_deeds.specs.Runs.{IsOperation, seat_of, DeedRun}
 use Rattle.expire_told.specs.sock_deeds.proofs.Accepting.{log}
@@ -45,9 +46,10 @@ use Rattle.expire_told.specs.sock_deeds.proofs.Orders.{orders, entry_on}
 use Rattle.expire_told.specs.sock_deeds.proofs.Tasks.{same_task}
 use Rattle.expire_told.specs.sock_deeds.proofs.Whole.{fixed}
 use Rattle.attempts_told.specs.Attempts.{last_attempt}
+use Rattle.attempts_told.proofs.Told.{same_asked}
 use Rattle.failed_told.specs.Missed.{id_of, attempt_of}
 use Rattle.failed_told.specs.Reasons.{WasDropped, IsCaused}
-use Rattle.failed_told.proofs.Clients.{Says}
+use Rattle.failed_told.proofs.Clients.{Says, ended_caused}
 use Rattle.failed_told.proofs.Codes.{IsReadCode}
 use Rattle.failed_told.proofs.Fallen.{Fallen, fell, none_opened}
 use Rattle.failed_told.proofs.Losses.{IsAskedIn}
@@ -56,16 +58,6 @@ use Rattle.failed_told.proofs.Unopened.{unopened_why}
 use Rattle.failed_told.proofs.Verdicts.{last_one, made_so, MissedLast, DroppedLast, Verdict, timed, lost, fell as dropped_last, behind, verdict, by_expiry, IsAskedSo}
 use Rattle.failed_told.proofs.Views.{queued_in}
 use Rattle.failed_told.proofs.Whole.{IsFallen, missed_why}
-
--- ## What a call asks for
-
-asked_in : Op → Asked → Asked
-asked_in (ops.Call asked) other = asked
-asked_in op other = other
-
-same_asked : (a b : Asked) → ops.Call a ≡ ops.Call b → a ≡ b
-unfolding asked_in
-same_asked a b e = ap (λ (o : Op). asked_in o a) e
 
 -- ## A `fail`'s code leaves retries
 
@@ -147,8 +139,8 @@ module _ {O : Type 0} {g : Ghosts O} {state : O → OutState} {p : Plan} {slots 
 
     -- ## Its last attempt came to nothing
 
-    by_fallen : (l : MissedHere) → FallenHere l → (f : FallenHere l) → FailedHere f.client f.asked (id_of l.deed) (attempt_of l.deed)
-    by_fallen l _ f = by f.why
+    by_fallen : (l : MissedHere) (f : FallenHere l) → FailedHere f.client f.asked (id_of l.deed) (attempt_of l.deed)
+    by_fallen l f = by f.why
       where
         by : Fallen run tasks may notes kept words closing noted outcomes drun seats logged differ gave all_there l.place l.client l.in_crew l.index l.deed l.there e.code l.missed l.backed f.client operation f.asked (id_of l.deed) (attempt_of l.deed) → FailedHere f.client f.asked (id_of l.deed) (attempt_of l.deed)
         by (fell w) = w
@@ -164,7 +156,7 @@ module _ {O : Type 0} {g : Ghosts O} {state : O → OutState} {p : Plan} {slots 
         let last : attempt_of l.deed ≡ last_attempt notes operation = omega (arith, most, two, low, range) in
         subst (λ (n : ℕ). FailedHere client asked (id_in e.lock) n) last
         (subst (λ (i : ℕ). FailedHere client asked i (attempt_of l.deed)) (sym l.id_is)
-        (subst (λ (a : Asked). FailedHere client a (id_of l.deed) (attempt_of l.deed)) same.1 (subst (λ (d : ℕ). FailedHere d f.asked (id_of l.deed) (attempt_of l.deed)) same.0 (by_fallen l f f))))
+        (subst (λ (a : Asked). FailedHere client a (id_of l.deed) (attempt_of l.deed)) same.1 (subst (λ (d : ℕ). FailedHere d f.asked (id_of l.deed) (attempt_of l.deed)) same.0 (by_fallen l f))))
 
     -- ## Its last attempt was dropped
 
@@ -181,10 +173,10 @@ module _ {O : Type 0} {g : Ghosts O} {state : O → OutState} {p : Plan} {slots 
         by_cause fell_here its range
         (elim h.1 [
           | inl a ↦ inl (
-              a.0,
-              subst (λ (o : ℕ). WhyLost p every outcomes fixed_here gave orders_here client o l.attempt (name_of asked l.attempt)) m.2
-              (subst (λ (z : Asked). WhyLost p every outcomes fixed_here gave orders_here client m.0.operation l.attempt (name_of z l.attempt)) same.1 (subst (λ (d : ℕ). WhyLost p every outcomes fixed_here gave orders_here d m.0.operation l.attempt (name_of m.0 l.attempt)) same.0 a.1)),
-            )
+            a.0,
+            subst (λ (o : ℕ). WhyLost p every outcomes fixed_here gave orders_here client o l.attempt (name_of asked l.attempt)) m.2
+                (subst (λ (z : Asked). WhyLost p every outcomes fixed_here gave orders_here client m.0.operation l.attempt (name_of z l.attempt)) same.1 (subst (λ (d : ℕ). WhyLost p every outcomes fixed_here gave orders_here d m.0.operation l.attempt (name_of m.0 l.attempt)) same.0 a.1)),
+          )
           | inr a ↦ inr (a.0, a.1, subst (λ (z : Asked). IsFailedWith p every outcomes fixed_here gave orders_here (name_of z l.attempt) e.code) same.1 a.2)
         ])
       where
@@ -218,3 +210,18 @@ module _ {O : Type 0} {g : Ghosts O} {state : O → OutState} {p : Plan} {slots 
       | dropped_last l ↦ inl (by_dropped asks l client asked task)
       | behind loss ↦ inr loss
     ]
+
+  -- of each end that a client told
+  pub told_why : (asks : (i j f r : ℕ) (asked : Asked) → i < slots → get_elem? (notes_of i notes) j ≡ some (Made f r asked) → (d : ℕ) × IsTask every outcomes d record { number = asked.operation; op = ops.Call asked } × (r ≡ asked.range))
+      → (c : ℕ) (x : Client g state p q) → get_elem? (all_clients run) c ≡ some x → (i : ℕ) (one : Told) → get_elem? x.thread.ended.calls.told.items i ≡ some one → (client : ℕ) (asked : Asked) → IsOperation every outcomes client one.number (ops.Call asked)
+      → (id code : ℕ) × (one.outcome ≡ CallFailed id code) × (FailedBy p every outcomes fixed_here gave orders_here client one.number asked id code (last_attempt notes one.number) ⊎ IsReadCode code)
+  told_why asks c x at i one there client asked task =
+      let Caused : Told → Type 0 = IsCaused state p q (tasks_of x) (Says run outcomes said_own) (deeds_of x) (view_of x) in
+      let e : Caused one = all_at Caused x.thread.ended.calls.told.items i one (ended_caused run outcomes said_own c x at).1 there in
+      let number : one.number ≡ e.lock.content.operation = ap (λ (t : Told). t.number) e.is in
+      let w = ended_why c x at one e asks client asked (subst (λ (n : ℕ). IsOperation every outcomes client n (ops.Call asked)) number task) in (
+        id_in e.lock,
+        e.code,
+        ap (λ (t : Told). t.outcome) e.is,
+        subst (λ (n : ℕ). FailedBy p every outcomes fixed_here gave orders_here client n asked (id_in e.lock) e.code (last_attempt notes n) ⊎ IsReadCode e.code) (sym number) w,
+      )

@@ -16,6 +16,7 @@ pub mod Asked
 pub mod Whole
 mod SeenTmp
 mod NamesTmp
+mod SizesTmp
 pub mod Crew
 pub mod Before
 pub mod Makers

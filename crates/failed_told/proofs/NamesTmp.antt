@@ -69,7 +69,6 @@ names_there told (t ∷ ts) (suc k) number n link e seen = behind (opening_in t.
     behind [] w = w
     behind (o ∷ os) w = let r = behind os w in (length (name_if told o) + r.0, append_later (name_if told o) (opened_names told (os ++ openings ts)) r.0 n r.1)
 
-
 module _ {O : Type 0} (g : Ghosts O) (state : O → OutState) (p : Plan) (q : id_plan.Plan) (all : List (List Task)) (outcomes : List (Option Outcome)) (tasks_are : AreTasks p all) where
   in_at : (ts : List Task) (k : ℕ) (t : Task) → slice_get ts k ≡ Some t → In t ts
   in_at [] k t e = none-some t e
@@ -78,4 +77,3 @@ module _ {O : Type 0} (g : Ghosts O) (state : O → OutState) (p : Plan) (q : id
 
   pub same_task : (c d : ℕ) (t u : Task) → IsTask all outcomes c t → IsTask all outcomes d u → t.number ≡ u.number → (c ≡ d) × (t ≡ u)
   same_task c d t u a b e = let h = has_from a.0 t a.2 in let k = has_from b.0 u b.2 in one_task p all tasks_are c d t u (a.0, a.1, in_at a.0 h.0 t h.1) (b.0, b.1, in_at b.0 k.0 u k.1) e
-

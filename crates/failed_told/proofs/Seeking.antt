@@ -133,8 +133,7 @@ module _ {O : Type 0} {g : Ghosts O} (state : O → OutState) (p : Plan) (q : id
   ran_none xs opens (suc n) s t h e =
       let m = h.4 in let now : Deed g state p q = operates h.1 m.by m.ready t.has m.acted in
       let again : List (Deed g state p q) = retries_of {g = g} state p q (both_of h.0.has) (both_of m.ready) m.retried.all.retried in
-      let a = ran_none xs opens n s h.0 h.2 e in let b = retried_none (both_of h.0.has) (both_of m.ready) m.retried.all.retried a.0 in
-      (
+      let a = ran_none xs opens n s h.0 h.2 e in let b = retried_none (both_of h.0.has) (both_of m.ready) m.retried.all.retried a.0 in (
         ap (λ (c : CallStand). c.books.retries) (open_calls h.1.number h.1.op m.by m.ready t.has (opens n h.1 h.3) m.acted) ∙ b.0,
         all_both NoRetry (ran_deeds state p q xs n s h.0 h.2) (again ++ now ∷ []) a.1 (all_both NoRetry again (now ∷ []) b.1 (λ is. is, tt)),
       )

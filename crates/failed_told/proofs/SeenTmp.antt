@@ -81,4 +81,3 @@ failed_seen p n code _ v w b = elim b [ ]
 
 pub opened_seen : {S : Type 0} (p : Plan) (n operation link slot version k : ℕ) (m m' : Me S View) → OpenedBy p n operation link (outcome.Opened slot version k) m m' → SeenBy p n m'.0
 opened_seen {S} p n operation link slot version k m m' b = (0, ap (λ (z : Me S View). get_elem? z.0.found 0) b.4.published.view)
-
