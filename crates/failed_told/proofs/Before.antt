@@ -63,7 +63,7 @@ module _ {O : Type 0} {g : Ghosts O} {state : O → OutState} {p : Plan} {q : id
   abbrev pub Between : Both → Both → Deed g state p q → Type 0
   Between s t d = Went s (stands_before d) × Went (stands_behind d) t
 
-module _ {O : Type 0} {g : Ghosts O} (state : O → OutState) (p : Plan) (q : id_plan.Plan) where
+module _ {O : Type 0} (g : Ghosts O) (state : O → OutState) (p : Plan) (q : id_plan.Plan) where
   retry_went : (r : Retry) (s t : Both) → RetriedBy state p q r s t → Went s t
   retry_went r s t by = (retry_grew state p q r s t by, (retried_still state p q r s t by).grows)
 
@@ -231,13 +231,13 @@ module _ {O : Type 0} {g : Ghosts O} {state : O → OutState} {p : Plan} {q : id
   ends_at = both_of th.ran.last
 
   abbrev pub PlacedHere : Deed g state p q → Type 0
-  PlacedHere d = Placed state p q (all_results x th) (length x.tasks) (both_of (stand x.began)) ends_at d
+  PlacedHere d = Placed g state p q (all_results x th) (length x.tasks) (both_of (stand x.began)) ends_at d
 
   last_waits : Went (both_of (stand th.ran.came)) ends_at
-  last_waits = retried_went {g = g} state p q (both_of (stand th.ran.came)) ends_at th.ran.ends.1.all.retried
+  last_waits = retried_went g state p q (both_of (stand th.ran.came)) ends_at th.ran.ends.1.all.retried
 
   -- a deed among the operations
-  placed_early : (d : Deed g state p q) → Placed state p q (all_results x th) th.ran.made (both_of (stand x.began)) (both_of (stand th.ran.came)) d → PlacedHere d
+  placed_early : (d : Deed g state p q) → Placed g state p q (all_results x th) th.ran.made (both_of (stand x.began)) (both_of (stand th.ran.came)) d → PlacedHere d
   placed_early d w =
       let n = th.ran.ends.0 in let most = w.most in
       record {
@@ -259,8 +259,8 @@ module _ {O : Type 0} {g : Ghosts O} {state : O → OutState} {p : Plan} {q : id
       record {
         made = th.ran.made;
         most = omega (arith, n);
-        between = (went_on (both_of (stand x.began)) (both_of (stand th.ran.came)) (stands_before d) (ran_went state p q x.tasks th.ran.made (begins x.began) (came x th) (made x th)) w.0, w.1);
-        first = all_before state p q x.tasks th.ran.made (begins x.began) (came x th) (made x th) (stands_before d) w.0;
+        between = (went_on (both_of (stand x.began)) (both_of (stand th.ran.came)) (stands_before d) (ran_went g state p q x.tasks th.ran.made (begins x.began) (came x th) (made x th)) w.0, w.1);
+        first = all_before g state p q x.tasks th.ran.made (begins x.began) (came x th) (made x th) (stands_before d) w.0;
         rest = λ is k high low. absurd (omega (arith, n, high, low));
       }
 
@@ -269,8 +269,8 @@ module _ {O : Type 0} {g : Ghosts O} {state : O → OutState} {p : Plan} {q : id
       let early : List (Deed g state p q) = ran_deeds state p q x.tasks th.ran.made (begins x.began) (came x th) (made x th) in
       let late : List (Deed g state p q) = retries_of {g = g} state p q (both_of (stand th.ran.came)) ends_at th.ran.ends.1.all.retried in
       all_both PlacedHere early late
-      (all_then (Placed state p q (all_results x th) th.ran.made (both_of (stand x.began)) (both_of (stand th.ran.came))) PlacedHere early placed_early (ran_placed state p q x.tasks th.ran.made (begins x.began) (came x th) (made x th)))
-      (all_then (Between (both_of (stand th.ran.came)) ends_at) PlacedHere late placed_late (retried_between state p q (both_of (stand th.ran.came)) ends_at th.ran.ends.1.all.retried))
+      (all_then (Placed g state p q (all_results x th) th.ran.made (both_of (stand x.began)) (both_of (stand th.ran.came))) PlacedHere early placed_early (ran_placed g state p q x.tasks th.ran.made (begins x.began) (came x th) (made x th)))
+      (all_then (Between (both_of (stand th.ran.came)) ends_at) PlacedHere late placed_late (retried_between g state p q (both_of (stand th.ran.came)) ends_at th.ran.ends.1.all.retried))
 
   -- what it noted of calls there it has noted in the end
   pub noted_last : Grows ends_at.calls.view x.ended.calls.seat.me.0

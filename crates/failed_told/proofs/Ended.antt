@@ -17,7 +17,7 @@ use Rattle.seat_programs.specs.declared.task.Op.TheVariants as ops
 use Rattle.seat_programs.specs.declared.task.Task.{Task}
 use Rattle.seat_programs.specs.Told.{AreTasks, IsTask}
 use Rattle.seat_programs.specs.ToldCalls.{Accepted, Fixed, Order, IsDropped, IsFailedWith, WhyLost, FailedBy, BySocket, ByFail, all_accepted}
-use Rattle.corr_core.specs.Law.{total}
+use Rattle.corr_core.specs.Law.{total, is_attempt}
 use Rattle.corr_core.specs.Word.{parts, code_of}
 use Rattle.corr_core.specs.declared.marks.Kept.{Kept}
 use Rattle.corr_core.specs.declared.marks.Note.TheVariants.{Made}
@@ -32,13 +32,17 @@ use Rattle.call_table.specs.declared.errors.Decision.TheVariants as decisions
 use Rattle.expire_told.specs.rpc_client.specs.declared.acting.Told.{Told}
 use Rattle.expire_told.specs.call_errors.specs.Locking.{id_in}
 use Rattle.expire_told.specs.call_errors.specs.Handling.{decision}
-use Rattle.expire_told.specs.call_run.specs.Threads.{Thread, RanOn, MayRunAll, ids_of}
+use Rattle.expire_told.specs.call_run.specs.Threads.{Thread, RanOn, MayRunAll, ids_of, opens_of, opened_names, openings}
 use Rattle.expire_told.specs.call_places.specs.Counted.{HaveNotesOf}
 use Rattle.expire_told.specs.call_places.specs.Deeds.{Deed}
+use Rattle.expire_told.specs.call_places.proofs.Still.{advances}
 use Rattle.expire_told.specs.call_places.proofs.Ids.{IsIdOf}
 use Rattle.expire_told.specs.call_places.proofs.Clients.{Client, view_of, tasks_of, deeds_of}
 use Rattle.expire_told.specs.call_places.proofs.Places.{all as all_clients}
 use Rattle.expire_told.specs.call_told.proofs.Lists.{all_at}
+use Rattle.expire_told.specs.call_deeds.specs.Retried.{all_asked}
+use Rattle.expire_told.specs.call_deeds.specs.Scripts.{AllHaveLinks, Reports, AllLater}
+use Rattle.expire_told.specs.call_deeds.proofs.Ran.{AreLater}
 use Rattle.expire_told.specs.Said.{AreSaid, HaveKeptOf}
 use Rattle.expire_told.specs.sock_deeds.specs.Runs.{IsOperation, seat_of, DeedRun}
 use Rattle.expire_told.specs.sock_deeds.proofs.Accepting.{log}
@@ -53,6 +57,7 @@ use Rattle.failed_told.proofs.Clients.{Says, ended_caused}
 use Rattle.failed_told.proofs.Codes.{IsReadCode}
 use Rattle.failed_told.proofs.Fallen.{Fallen, fell, none_opened}
 use Rattle.failed_told.proofs.Losses.{IsAskedIn}
+use Rattle.failed_told.proofs.Premises.{drun as deeds_of_run, seats as seats_here, logged as logged_here, said_own as said_here, all_there as there_here, asked_so as asked_here, few as few_here}
 use Rattle.failed_told.proofs.Single.{sender, made_low}
 use Rattle.failed_told.proofs.Unopened.{unopened_why}
 use Rattle.failed_told.proofs.Verdicts.{last_one, made_so, MissedLast, DroppedLast, Verdict, timed, lost, fell as dropped_last, behind, verdict, by_expiry, IsAskedSo}
@@ -71,6 +76,17 @@ fail_open code low high = all_false (code == ERPCTIMEDOUT) (code == EEOF) (code 
 -- ## The run
 
 module _ {O : Type 0} {g : Ghosts O} {state : O → OutState} {p : Plan} {slots : ℕ} {setup : List Task} {clients : List (List Task)} {opens : List ℕ} {told ended : List (List Told)} {places : List PlaceWord} {vrefs : List Vref} {outs : List O} {ids : List (View Asked)}
+    (run : RanOn g state p slots setup clients opens told ended places vrefs outs ids) (notes : List (Noted Asked)) (outcomes : List (Option Outcome)) (drun : DeedRun g state p (setup ∷ clients) outcomes places vrefs outs) (differ : PlacesDiffer (log drun)) (gave : ℕ → List ℕ) where
+  -- a message that was dropped is one of the call that was made with its id, and why it was
+  abbrev pub TellsDrops : Type 0
+  TellsDrops =
+      (c : ℕ) (x : Client g state p (ids_of p slots)) → get_elem? (all_clients run) c ≡ some x → (id code n : ℕ) → WasDropped state p (ids_of p slots) (deeds_of x) id code n
+      → (slot first r j : ℕ) (asked : Asked) → slot < slots → first < 4294967296 → id ≡ slot * 4294967296 + first → get_elem? (notes_of slot notes) j ≡ some (Made first r asked)
+      → (client : ℕ) → IsOperation (setup ∷ clients) outcomes client asked.operation (ops.Call asked)
+      → IsDropped p (setup ∷ clients) outcomes (fixed drun differ gave) gave (orders drun differ) asked.operation n × (((code ≡ EFAILEDSOCKET) × WhyLost p (setup ∷ clients) outcomes (fixed drun differ gave) gave (orders drun differ) client asked.operation n (name_of asked n))
+      ⊎ ((1500 ≤ code) × (code ≤ 1999) × IsFailedWith p (setup ∷ clients) outcomes (fixed drun differ gave) gave (orders drun differ) (name_of asked n) code))
+
+module _ {O : Type 0} {g : Ghosts O} {state : O → OutState} {p : Plan} {slots : ℕ} {setup : List Task} {clients : List (List Task)} {opens : List ℕ} {told ended : List (List Told)} {places : List PlaceWord} {vrefs : List Vref} {outs : List O} {ids : List (View Asked)}
     (run : RanOn g state p slots setup clients opens told ended places vrefs outs ids) (tasks : AreTasks p (setup ∷ clients)) (may : MayRunAll p (ids_of p slots) setup clients)
     (notes : List (Noted Asked)) (kept : List Kept) (words : List ℕ) (closing : Closing (ids_of p slots) notes kept words) (noted : HaveNotesOf ids notes) (keeps : HaveKeptOf ids kept)
     (outcomes : List (Option Outcome)) (said_own : AreSaid outcomes told) (said_ended : AreSaid outcomes ended)
@@ -81,12 +97,7 @@ module _ {O : Type 0} {g : Ghosts O} {state : O → OutState} {p : Plan} {slots 
     → (client : ℕ) × IsOperation (setup ∷ clients) outcomes client asked.operation (ops.Call asked))
     -- the last attempt of a call leaves its range
     (few : (client : ℕ) (t : Task) (asked : Asked) → IsTask (setup ∷ clients) outcomes client t → t.op ≡ ops.Call asked → last_attempt notes t.number + 2 ≤ asked.range)
-    -- why an attempt was dropped
-    (dropped_why : (c : ℕ) (x : Client g state p (ids_of p slots)) → get_elem? (all_clients run) c ≡ some x → (id code n : ℕ) → WasDropped state p (ids_of p slots) (deeds_of x) id code n
-    → (slot first r j : ℕ) (asked : Asked) → slot < slots → first < 4294967296 → id ≡ slot * 4294967296 + first → get_elem? (notes_of slot notes) j ≡ some (Made first r asked)
-    → (client : ℕ) → IsOperation (setup ∷ clients) outcomes client asked.operation (ops.Call asked)
-    → IsDropped p (setup ∷ clients) outcomes (fixed drun differ gave) gave (orders drun differ) asked.operation n × (((code ≡ EFAILEDSOCKET) × WhyLost p (setup ∷ clients) outcomes (fixed drun differ gave) gave (orders drun differ) client asked.operation n (name_of asked n))
-    ⊎ ((1500 ≤ code) × (code ≤ 1999) × IsFailedWith p (setup ∷ clients) outcomes (fixed drun differ gave) gave (orders drun differ) (name_of asked n) code))) where
+    (dropped_why : TellsDrops run notes outcomes drun differ gave) where
   abbrev q : id_plan.Plan
   q = ids_of p slots
 
@@ -225,3 +236,27 @@ module _ {O : Type 0} {g : Ghosts O} {state : O → OutState} {p : Plan} {slots 
         ap (λ (t : Told). t.outcome) e.is,
         subst (λ (n : ℕ). FailedBy p every outcomes fixed_here gave orders_here client n asked (id_in e.lock) e.code (last_attempt notes n) ⊎ IsReadCode e.code) (sym number) w,
       )
+
+-- ## By what is known of each run of a script
+
+module _ {O : Type 0} {g : Ghosts O} {state : O → OutState} {p : Plan} {slots : ℕ} {setup : List Task} {clients : List (List Task)} {opens : List ℕ} {told ended : List (List Told)} {places : List PlaceWord} {vrefs : List Vref} {outs : List O} {ids : List (View Asked)}
+    (run : RanOn g state p slots setup clients opens told ended places vrefs outs ids) (tasks : AreTasks p (setup ∷ clients)) (may : MayRunAll p (ids_of p slots) setup clients)
+    (notes : List (Noted Asked)) (kept : List Kept) (words : List ℕ) (closing : Closing (ids_of p slots) notes kept words) (noted : HaveNotesOf ids notes) (keeps : HaveKeptOf ids kept)
+    (outcomes : List (Option Outcome)) (long : length outcomes ≡ p.operations) (reports : Reports (setup ∷ clients) outcomes told) (links : AllHaveLinks 0 (setup ∷ clients))
+    (main_later : AreLater (setup ∷ clients) outcomes (all_asked run.ran.main run.ran.main_is))
+    (others_later : AllLater (setup ∷ clients) outcomes state p (ids_of p slots) (opened_names run.ran.main.ended.outcomes.items (openings setup)) (opens_of setup) run.ran.others run.ran.others_are)
+    (later : (c : ℕ) (x : Client g state p (ids_of p slots)) → get_elem? (all_clients run) c ≡ some x → AreLater (setup ∷ clients) outcomes (all_asked x.thread x.is)) (said_ended : AreSaid outcomes ended)
+    (others : (i first e : ℕ) → 0 < queued_in i first e notes → (0 < total (λ (v : View Asked). queued_in i first e v.notes) ids) ⊎ IsReadCode (code_of e))
+    (made : (i j f r : ℕ) (asked : Asked) → i < slots → get_elem? (notes_of i notes) j ≡ some (Made f r asked) → (c : ℕ) × IsTask (setup ∷ clients) outcomes c record { number = asked.operation; op = ops.Call asked } × (r ≡ asked.range))
+    (own : (i f n : ℕ) → total (is_attempt f n) (notes_of i notes) ≤ total (λ (v : View Asked). advances i f n v) ids) (differ : PlacesDiffer run.closed.ordered.log) (gave : ℕ → List ℕ) where
+  abbrev every : List (List Task)
+  every = setup ∷ clients
+
+  abbrev drun : DeedRun g state p every outcomes places vrefs outs
+  drun = deeds_of_run run tasks may notes kept words closing noted outcomes long reports links main_later others_later later
+
+  pub ends_told : TellsDrops run notes outcomes drun differ gave → (c : ℕ) (x : Client g state p (ids_of p slots)) → get_elem? (all_clients run) c ≡ some x → (i : ℕ) (one : Told) → get_elem? x.thread.ended.calls.told.items i ≡ some one
+      → (client : ℕ) (asked : Asked) → IsOperation every outcomes client one.number (ops.Call asked)
+      → (id code : ℕ) × (one.outcome ≡ CallFailed id code) × (FailedBy p every outcomes (fixed drun differ gave) gave (orders drun differ) client one.number asked id code (last_attempt notes one.number) ⊎ IsReadCode code)
+  ends_told dropped = told_why run tasks may notes kept words closing noted keeps outcomes (said_here run tasks may notes kept words closing noted outcomes long reports links main_later others_later later) said_ended others drun (seats_here run tasks may notes kept words closing noted outcomes long reports links main_later others_later later) (logged_here run tasks may notes kept words closing noted outcomes long reports links main_later others_later later) differ gave
+      (there_here run tasks may notes kept words closing noted outcomes long reports links main_later others_later later differ) (asked_here run tasks may notes kept words closing noted outcomes long reports links main_later others_later later) (few_here run tasks may notes kept words closing noted outcomes long reports links main_later others_later later made own) dropped made

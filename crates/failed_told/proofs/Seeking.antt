@@ -38,7 +38,7 @@ use Rattle.failed_told.proofs.SeenTmp.{SeenBy, message_seen, held_seen, failed_s
 use Rattle.failed_told.specs.Missed.{acted_missed}
 use Rattle.failed_told.proofs.Before.{IsRetry}
 
-module _ {O : Type 0} {g : Ghosts O} (state : O → OutState) (p : Plan) (q : id_plan.Plan) where
+module _ {O : Type 0} (g : Ghosts O) (state : O → OutState) (p : Plan) (q : id_plan.Plan) where
   -- ## By an operation
 
   -- a call that began found its first name
@@ -142,7 +142,7 @@ pub none_again : {O : Type 0} {g : Ghosts O} {state : O → OutState} {p : Plan}
     → AllByRecursion (λ (d : Deed g state p q). IsRetry d → ⊥) (deeds x th)
 none_again {O} {g} {state} {p} {q} x th opens =
     let begin = ap (λ (b : Books). b.retries) th.nothing.books in
-    let a = ran_none state p q x.tasks opens th.ran.made (begins x.began) (came x th) (made x th) begin in
+    let a = ran_none g state p q x.tasks opens th.ran.made (begins x.began) (came x th) (made x th) begin in
     let late : List (Deed g state p q) = retries_of {g = g} state p q (both_of (stand th.ran.came)) (both_of th.ran.last) th.ran.ends.1.all.retried in
     all_both (λ (d : Deed g state p q). IsRetry d → ⊥) (ran_deeds state p q x.tasks th.ran.made (begins x.began) (came x th) (made x th)) late a.1
-    (retried_none {g = g} state p q (both_of (stand th.ran.came)) (both_of th.ran.last) th.ran.ends.1.all.retried a.0).1
+    (retried_none g state p q (both_of (stand th.ran.came)) (both_of th.ran.last) th.ran.ends.1.all.retried a.0).1

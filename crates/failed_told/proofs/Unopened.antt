@@ -1,6 +1,6 @@
 -- A retry that found no socket under its name: no task of the setup had given the name a socket, and none that its client had made before had given it one or found one.
-use Rattle.std.proofs.Common.{◌≡◌, ◌⊎◌, ℕ, zero, suc, ◌+◌, ◌*◌, ◌<◌, ◌≤◌, max, inl, inr, List, [], ◌∷◌, length, map, slice_get, Some, None, refl, sym, ap, ◌∙◌, subst, arith}
-use Rattle.std.specs.Prelude.{Option}
+use Rattle.std.proofs.Common.{◌≡◌, ◌⊎◌, ℕ, zero, suc, ◌+◌, ◌*◌, ◌<◌, ◌≤◌, inl, inr, List, [], ◌∷◌, length, map, slice_get, Some, None, refl, sym, ap, ◌∙◌, subst, arith}
+use Rattle.std.specs.Prelude.{Option, max}
 use Rattle.std.specs.List.{AllByRecursion}
 use Rattle.std.proofs.lemmas.Option.{none-some, same_Some}
 use mathlib.Core.Logic.{dite}
@@ -141,7 +141,7 @@ module _ {O : Type 0} {g : Ghosts O} {state : O → OutState} {p : Plan} {slots 
 
     module _ (fixed : Fixed) (gave : ℕ → List ℕ) (orders : ℕ → Order) (n : ℕ) (unseen : SeenBy p n (stands_before d).socks → ⊥) where
       -- an operation before it
-      made_by : (t : Task) → IsTask every outcomes c t → t.number < cut.number → (k : ℕ) × (b : MadeBefore state p q (all_results x.thread x.is) k (stands_before d)) × (b.operation.task ≡ t)
+      made_by : (t : Task) → IsTask every outcomes c t → t.number < cut.number → (k : ℕ) × (b : MadeBefore g state p q (all_results x.thread x.is) k (stands_before d)) × (b.operation.task ≡ t)
       made_by t is low =
           let h = place_of run outcomes c x at t is in let b = placed.first h.0 (cut.only_first h.0 t h.1 low) in
           (h.0, b, some-injective b.operation.task t (sym (task_at x.thread x.is h.0 record { task = b.operation.task; by = b.operation.by } b.operation.at) ∙ h.1))
@@ -150,7 +150,7 @@ module _ {O : Type 0} {g : Ghosts O} {state : O → OutState} {p : Plan} {slots 
       opened_none t is low k slot version op became =
           let m = made_by t is low in let o = m.1.operation in
           let same : o.task.op ≡ ops.Open n k = ap (λ (u : Task). u.op) m.2 ∙ op in
-          let w = opens_seen state p q n k o.task.number o.by o.before o.after (subst (λ (y : Op). Acted state p q o.task.number y o.by o.before o.after) same o.acted) in
+          let w = opens_seen g state p q n k o.task.number o.by o.before o.after (subst (λ (y : Op). Acted state p q o.task.number y o.by o.before o.after) same o.acted) in
           let was = became_of c x at m.0 record { task = o.task; by = o.by } o.at w.0 w.1 in
           let is_it = one_outcome t.number w.0 (outcome.Opened slot version k) (subst (λ (u : Task). Became every outcomes u.number w.0) m.2 was) became in
           unseen (m.1.went.0.seen (name_index p n) (w.2 slot version k is_it))
@@ -159,7 +159,7 @@ module _ {O : Type 0} {g : Ghosts O} {state : O → OutState} {p : Plan} {slots 
       sought_none t is low sought =
           let m = made_by t is low in let o = m.1.operation in
           let seeks = subst (λ (u : Task). Seeks p every outcomes fixed gave orders n u.op) (sym m.2) sought in
-          elim (sought_seen state p q every outcomes fixed gave orders n o.task.number o.task.op o.by o.before o.after o.acted seeks) [
+          elim (sought_seen g state p q every outcomes fixed gave orders n o.task.number o.task.op o.by o.before o.after o.acted seeks) [
             | inl e ↦ subst (λ (u : Task). Became every outcomes u.number outcome.Unopened) m.2 (became_of c x at m.0 record { task = o.task; by = o.by } o.at outcome.Unopened e)
             | inr seen ↦ absurd (unseen (m.1.went.0.seen (name_index p n) seen))
           ]
@@ -177,7 +177,7 @@ module _ {O : Type 0} {g : Ghosts O} {state : O → OutState} {p : Plan} {slots 
           let opened = opened_there (told_by run.ran.main run.ran.main_is) told_it.0 t.number slot version k (told_it.1 ∙ (λ j. some record { number = number j; outcome = is_it j })) in
           let task_is : get_elem? setup h.0 ≡ some record { number = t.number; op = ops.Open n k } = ap (λ (l : List Task). get_elem? l h.0) (sym run.ran.setup_asked) ∙ (h.1 ∙ (λ j. some record { number = t.number; op = op j })) in
           let name = names_there (told_by run.ran.main run.ran.main_is) setup h.0 t.number n k task_is opened in
-          let waited = waited_seen state p q {g = g} x.thread.names _ x.thread.began.seat.me.0 x.is.waited name.0 n (ap (λ (l : List ℕ). get_elem? l name.0) its_names ∙ name.1) in
+          let waited = waited_seen g state p q x.thread.names _ x.thread.began.seat.me.0 x.is.waited name.0 n (ap (λ (l : List ℕ). get_elem? l name.0) its_names ∙ name.1) in
           unseen (placed.between.0.0.seen (name_index p n) waited)
         where
           opening_told : (main : Client g state p q) (j : ℕ) (r : Result) → get_elem? (all_results main.thread main.is) j ≡ some r → r.task.op ≡ ops.Open n k → (o : Outcome) × (r.by ≡ Some o)
@@ -192,7 +192,7 @@ module _ {O : Type 0} {g : Ghosts O} {state : O → OutState} {p : Plan} {slots 
                   let threads : List (Thread g) = run.ran.main ∷ run.ran.others in
                   let list : get_elem? (map (λ (y : Thread g). y) threads) (suc b) ≡ some x.thread = ap (λ (l : List (Thread g)). get_elem? l (suc b)) (sym (all_are run (λ (y : Thread g). y))) ∙ mapped (λ (y : Client g state p q). y.thread) crew (suc b) x here in
                   let w = mapped_from (λ (y : Thread g). y) threads (suc b) x.thread list in
-                  ap (λ (y : Thread g). y.names) (sym w.2) ∙ names_are state p q (opened_names run.ran.main.ended.outcomes.items (openings setup)) (opens_of setup) run.ran.others run.ran.others_are b w.0 w.1
+                  ap (λ (y : Thread g). y.names) (sym w.2) ∙ names_are g state p q (opened_names run.ran.main.ended.outcomes.items (openings setup)) (opens_of setup) run.ran.others run.ran.others_are b w.0 w.1
 
       found_none : FoundNone p every outcomes fixed gave orders c cut.number n
       found_none = record { setup = setup_none; own = λ t is low. (opened_none t is low, sought_none t is low) }
@@ -282,7 +282,7 @@ module _ {O : Type 0} {g : Ghosts O} {state : O → OutState} {p : Plan} {slots 
   pub unopened_why : (fixed : Fixed) (gave : ℕ → List ℕ) (orders : ℕ → Order) (c : ℕ) (x : Client g state p q) → get_elem? crew c ≡ some x → (i : ℕ) (d : Deed g state p q) → get_elem? (deeds_of x) i ≡ some d
       → (code : ℕ) → missed_in d ≡ Some code → (asked : Asked) → IsAskedIn d asked → (client : ℕ) → IsOperation every outcomes client asked.operation (ops.Call asked) → (u : sock_view.View) → Found p (name_of asked (attempt_of d)) None u (socks_behind d)
       → WhyLost p every outcomes fixed gave orders client asked.operation (attempt_of d) (name_of asked (attempt_of d))
-  unopened_why fixed gave orders c x at i (operates y by s t a) there code is asked asks client task u found = absurd (found.1 (subst (SeenBy p (name_of asked 0)) found.0 (missed_seen state p q code y.number y.op by s t a is asked asks)))
+  unopened_why fixed gave orders c x at i (operates y by s t a) there code is asked asks client task u found = absurd (found.1 (subst (SeenBy p (name_of asked 0)) found.0 (missed_seen g state p q code y.number y.op by s t a is asked asks)))
   unopened_why fixed gave orders c x at i (retries r s t (had_ended h)) there code is asked asks client task u found = elim asks [ ]
   unopened_why fixed gave orders c x at i (retries r s t (overtaken k v l o)) there code is asked asks client task u found = elim asks [ ]
   unopened_why fixed gave orders c x at i (retries r s t (went_again k v l w)) there code is asked asks client task u found =
