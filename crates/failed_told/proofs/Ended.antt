@@ -38,12 +38,13 @@ use Rattle.expire_told.specs.call_places.specs.Deeds.{Deed}
 use Rattle.expire_told.specs.call_places.proofs.Still.{advances}
 use Rattle.expire_told.specs.call_places.proofs.Ids.{IsIdOf}
 use Rattle.expire_told.specs.call_places.proofs.Clients.{Client, view_of, tasks_of, deeds_of}
-use Rattle.expire_told.specs.call_places.proofs.Places.{all as all_clients}
+use Rattle.expire_told.specs.call_places.proofs.Places.{all as all_clients, all_are}
 use Rattle.expire_told.specs.call_told.proofs.Lists.{all_at}
 use Rattle.expire_told.specs.call_deeds.specs.Retried.{all_asked}
 use Rattle.expire_told.specs.call_deeds.specs.Scripts.{AllHaveLinks, Reports, AllLater}
 use Rattle.expire_told.specs.call_deeds.proofs.Ran.{AreLater}
 use Rattle.expire_told.specs.Said.{AreSaid, HaveKeptOf}
+use Rattle.expire_told.proofs.Making.{mapped_from}
 use Rattle.expire_told.specs.sock_deeds.specs.Runs.{IsOperation, seat_of, DeedRun}
 use Rattle.expire_told.specs.sock_deeds.proofs.Accepting.{log}
 use Rattle.expire_told.specs.sock_deeds.proofs.Orders.{orders, entry_on}
@@ -255,8 +256,11 @@ module _ {O : Type 0} {g : Ghosts O} {state : O → OutState} {p : Plan} {slots 
   abbrev drun : DeedRun g state p every outcomes places vrefs outs
   drun = deeds_of_run run tasks may notes kept words closing noted outcomes long reports links main_later others_later later
 
-  pub ends_told : TellsDrops run notes outcomes drun differ gave → (c : ℕ) (x : Client g state p (ids_of p slots)) → get_elem? (all_clients run) c ≡ some x → (i : ℕ) (one : Told) → get_elem? x.thread.ended.calls.told.items i ≡ some one
-      → (client : ℕ) (asked : Asked) → IsOperation every outcomes client one.number (ops.Call asked)
+  -- of each end that is told behind the operations of a client
+  pub ends_told : TellsDrops run notes outcomes drun differ gave → (c i : ℕ) (ts : List Told) (one : Told) → get_elem? ended c ≡ some ts → get_elem? ts i ≡ some one → (client : ℕ) (asked : Asked) → IsOperation every outcomes client one.number (ops.Call asked)
       → (id code : ℕ) × (one.outcome ≡ CallFailed id code) × (FailedBy p every outcomes (fixed drun differ gave) gave (orders drun differ) client one.number asked id code (last_attempt notes one.number) ⊎ IsReadCode code)
-  ends_told dropped = told_why run tasks may notes kept words closing noted keeps outcomes (said_here run tasks may notes kept words closing noted outcomes long reports links main_later others_later later) said_ended others drun (seats_here run tasks may notes kept words closing noted outcomes long reports links main_later others_later later) (logged_here run tasks may notes kept words closing noted outcomes long reports links main_later others_later later) differ gave
-      (there_here run tasks may notes kept words closing noted outcomes long reports links main_later others_later later differ) (asked_here run tasks may notes kept words closing noted outcomes long reports links main_later others_later later) (few_here run tasks may notes kept words closing noted outcomes long reports links main_later others_later later made own) dropped made
+  ends_told dropped c i ts one at there =
+      let f : Thread g → List Told = λ x. x.ended.calls.told.items in
+      let w = mapped_from (λ (x : Client g state p (ids_of p slots)). f x.thread) (all_clients run) c ts (ap (λ (l : List (List Told)). get_elem? l c) (all_are run f ∙ run.ran.ended_is) ∙ at) in
+      told_why run tasks may notes kept words closing noted keeps outcomes (said_here run tasks may notes kept words closing noted outcomes long reports links main_later others_later later) said_ended others drun (seats_here run tasks may notes kept words closing noted outcomes long reports links main_later others_later later) (logged_here run tasks may notes kept words closing noted outcomes long reports links main_later others_later later) differ gave (there_here run tasks may notes kept words closing noted outcomes long reports links main_later others_later later differ) (asked_here run tasks may notes kept words closing noted outcomes long reports links main_later others_later later)
+      (few_here run tasks may notes kept words closing noted outcomes long reports links main_later others_later later made own) dropped made c w.0 w.1 i one (ap (λ (l : List Told). get_elem? l i) w.2 ∙ there)
