@@ -34,11 +34,10 @@ use Rattle.expire_told.specs.call_places.proofs.Clients.{Client, view_of, tasks_
 use Rattle.expire_told.specs.call_places.proofs.Places.{all as all_clients}
 use Rattle.expire_told.specs.Said.{AreSaid}
 use Rattle.failed_told.specs.Missed.{missed_in, id_of, IsBacked, attempt_of}
-use Rattle.failed_told.specs.Reasons.{Reason, timed_out, missed, dropped, AdvancedFor}
+use Rattle.failed_told.specs.Reasons.{WasDropped, Reason, timed_out, missed, dropped, AdvancedFor}
 use Rattle.failed_told.proofs.Clients.{Says, advanced_caused}
 use Rattle.failed_told.proofs.Codes.{IsReadCode}
 use Rattle.failed_told.proofs.Posters.{Poster, posted_by}
-use Rattle.failed_told.proofs.Verdicts.{WasDropped}
 use Rattle.failed_told.proofs.Views.{queued_in, advanced_in}
 
 -- ## Errors that leave retries
@@ -94,10 +93,13 @@ module _ {O : Type 0} {g : Ghosts O} {state : O → OutState} {p : Plan} {slots 
     pub id_is : id ≡ id_of deed
     pub attempt_is : n ≡ attempt_of deed
 
-  -- or its message was dropped
+  -- or its message was dropped, by one of a client's deeds
   pub record DroppedAt (id n : ℕ) : Type 0 where
     pub code : ℕ
-    pub drop : WasDropped state p q id code n
+    pub place : ℕ
+    pub client : Client g state p q
+    pub in_crew : get_elem? crew place ≡ some client
+    pub drop : WasDropped state p q (deeds_of client) id code n
 
   pub data WhyAdvanced (id n : ℕ) : Type 0 where
     by_miss : MissedAt id n → WhyAdvanced id n
@@ -108,8 +110,8 @@ module _ {O : Type 0} {g : Ghosts O} {state : O → OutState} {p : Plan} {slots 
   by_reason id code n attempt is w (timed_out i t o by s u h there has says counts keeps a b z) = absurd (none-some n (sym z ∙ is))
   by_reason id code n attempt is w (missed i d there has backed a z) =
       by_miss (record { code = code; place = w.place; client = w.client; in_crew = w.at; index = i; deed = d; there = there; missed = has; backed = backed; id_is = a; attempt_is = same_Some n (attempt_of d) (sym is ∙ z) })
-  by_reason id code n attempt is w (dropped life before s after t h a b z) =
-      by_drop (record { code = code; drop = record { life = life; before = before; calls = s; after = after; calls_after = t; drop = h; owner = a; code_is = b; attempt_is = same_Some n h.msg.label.attempt (sym is ∙ z) } })
+  by_reason id code n attempt is w (dropped m d z) =
+      by_drop (record { code = code; place = w.place; client = w.client; in_crew = w.at; drop = subst (λ (y : ℕ). WasDropped state p q (deeds_of w.client) id code y) (sym (same_Some n m (sym is ∙ z))) d })
 
   -- the id with this first version in the slot, one of the table's, which a client noted to have advanced behind attempt n
   pub record IsAdvanced (i first n : ℕ) : Type 0 where

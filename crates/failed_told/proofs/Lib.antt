@@ -13,3 +13,5 @@ pub mod Reaching
 pub mod Fallen
 pub mod Asked
 pub mod Whole
+pub mod Advances
+pub mod Again

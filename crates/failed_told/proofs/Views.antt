@@ -158,14 +158,13 @@ ended_stays i first v w b = record {
   advanced = λ j f n. (let a = more (is_attempt f n) j in let d = silent.advanced j f n in omega (arith, a, d));
 }
   where
-    abbrev es : List (Noted Asked)
-    es = one i (Ended first)
-
-    silent : AreSilent es
+    silent : AreSilent (one i (Ended first))
     silent = one_silent i (Ended first) (λ f e. refl) (λ f n. refl)
 
-    more : (W : Note Asked → ℕ) (j : ℕ) → total W (notes_of j w.notes) ≡ total W (notes_of j es) + total W (notes_of j v.notes)
-    more W j = ap (λ l. total W (notes_of j l)) b.notes ∙ (ap (total W) (notes_append j es v.notes) ∙ total_append W (notes_of j es) (notes_of j v.notes))
+    more : (W : Note Asked → ℕ) (j : ℕ) → total W (notes_of j w.notes) ≡ total W (notes_of j (one i (Ended first))) + total W (notes_of j v.notes)
+    more W j =
+        let es : List (Noted Asked) = one i (Ended first) in
+        ap (λ (l : List (Noted Asked)). total W (notes_of j l)) b.notes ∙ (ap (total W) (notes_append j es v.notes) ∙ total_append W (notes_of j es) (notes_of j v.notes))
 
 pub got_stays : (i : ℕ) (v w : View Asked) (word : ℕ) (k : Parts) (call : Asked) → GotLock i v w word k call → Stays v w
 got_stays i v w word k call g = did_stays i v w _ (one i (Locker k.first call)) (one_silent i (Locker k.first call) (λ x y. refl) (λ x y. refl)) g.did
@@ -184,19 +183,16 @@ handed_later u w k l advance code attempt h = did_later k.slot u w _ _ h.3
 did_steps : (k : IdLock Asked) (v w : View Asked) (q : Parts) (ts : List (Token Asked)) → q.attempt ≡ (parts k.word.0).attempt + 1 → Did k.slot v w ts (advance_note k.slot (parts k.word.0) q) → Steps k v w
 did_steps k v w q ts up d = record {
   later = did_later k.slot v w ts _ d;
-  queued = λ j first e. (let a = more (is_queued first e) (queued_silent first e) j in let b = none_of_one (is_queued first e) (queued_silent first e) k.slot x refl j in omega (arith, a, b));
+  queued = λ j first e. (let a = more (is_queued first e) (queued_silent first e) j in let b = none_of_one (is_queued first e) (queued_silent first e) k.slot (Attempt (parts k.word.0).first q.attempt) refl j in omega (arith, a, b));
   advanced = λ j first n h. (
       let a = more (is_attempt first n) (attempt_silent first n) j in
-      dite (ℕ_discrete (advanced_in j first n (one k.slot x)) 0)
+      dite (ℕ_discrete (advanced_in j first n (one k.slot (Attempt (parts k.word.0).first q.attempt))) 0)
       (λ z. inl (omega (arith, a, z, h)))
       (λ ne. inr (let e = advanced_one k.slot j first n (parts k.word.0).first q.attempt (omega (arith, ne)) in (e.0, e.1, sym e.2 ∙ up)))
       );
 }
   where
-    abbrev x : Note Asked
-    x = Attempt (parts k.word.0).first q.attempt
-
-    more : (W : Note Asked → ℕ) → ((n : Note Asked) → is_event n ≡ false → W n ≡ 0) → (j : ℕ) → total W (notes_of j w.notes) ≡ total W (notes_of j (one k.slot x)) + total W (notes_of j v.notes)
+    more : (W : Note Asked → ℕ) → ((n : Note Asked) → is_event n ≡ false → W n ≡ 0) → (j : ℕ) → total W (notes_of j w.notes) ≡ total W (notes_of j (one k.slot (Attempt (parts k.word.0).first q.attempt))) + total W (notes_of j v.notes)
     more W silent j = did_total W silent k.slot v w ts (advance_note k.slot (parts k.word.0) q) d j ∙ ap (λ (l : List (Noted Asked)). total W (notes_of j l) + total W (notes_of j v.notes)) (one_further k.slot (parts k.word.0) q up)
 
 pub opened_steps : (u w : View Asked) (k : IdLock Asked) → UnlockOk u w k.slot (parts k.word.0) k.content true Open → Steps k u w
