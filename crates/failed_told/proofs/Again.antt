@@ -30,7 +30,6 @@ use Rattle.corr_core.specs.declared.marks.View.{View}
 use Rattle.corr_core.proofs.Notes.{total_some}
 use Rattle.id_rule.specs.Lawful.{notes_of}
 use Rattle.sock_message.specs.Asked.{Asked, name_of}
-use Rattle.corr_id.specs.Calls.{slot_of}
 use Rattle.corr_id.specs.Closing.{Closing}
 use Rattle.expire_told.specs.rpc_client.specs.declared.acting.Told.{Told}
 use Rattle.expire_told.specs.call_run.specs.Threads.{Thread, RanOn, MayRunAll, ids_of}
@@ -127,9 +126,9 @@ module _ {O : Type 0} {g : Ghosts O} {state : O → OutState} {p : Plan} {slots 
       -- in the words of its task
       in_words : (c o' m : ℕ) (a : Asked) → c ≡ client → o' ≡ o → m ≡ n → a ≡ asked → WhyAgainHere c o' m (name_of a m) → WhyAgainHere client o n (name_of asked n)
       in_words c o' m a ec eo em ea w =
-          let A = subst (λ (y : Asked). WhyAgainHere c o' m (name_of y m)) ea w in
-          let M = subst (λ (y : ℕ). WhyAgainHere c o' y (name_of asked y)) em A in
-          let W = subst (λ (y : ℕ). WhyAgainHere c y n (name_of asked n)) eo M in subst (λ (y : ℕ). WhyAgainHere y o n (name_of asked n)) ec W
+          let on = subst (λ (y : Asked). WhyAgainHere c o' m (name_of y m)) ea w in
+          let at = subst (λ (y : ℕ). WhyAgainHere c o' y (name_of asked y)) em on in
+          let of = subst (λ (y : ℕ). WhyAgainHere c y n (name_of asked n)) eo at in subst (λ (y : ℕ). WhyAgainHere y o n (name_of asked n)) ec of
 
       -- it came to nothing
       missed_again : MissedHere id n → WhyAgainHere client o n (name_of asked n)
