@@ -245,8 +245,7 @@ module _ {O : Type 0} {g : Ghosts O} {state : O → OutState} {p : Plan} {client
         let late : kept run differ k ≤ i = dite (dec_lt i (kept run differ k))
         (λ lt. absurd (let v = fifo.placed i e s.1 lt in omega (arith, v, w, high, count, few_, few_operations, few_links, kl, lt)))
         (λ ge. omega (arith, ge)) in
-        let v = fifo.dropped i e s.1 late in
-        (
+        let v = fifo.dropped i e s.1 late in (
           record { position = i; inside = low.1; there = s.1; behind = late; less = inside },
           omega (arith, v, w, low_position, few_, few_operations, inside),
         )

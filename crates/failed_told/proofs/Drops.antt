@@ -126,9 +126,7 @@ module _ {O : Type 0} {g : Ghosts O} {state : O → OutState} {p : Plan} {slots 
     (drun : DeedRun g state p (setup ∷ clients) outcomes places vrefs outs) (seats : map seat_of drun.seats ≡ map (λ (x : Thread g). x.ended.seat) (run.ran.main ∷ run.ran.others)) (logged : log drun ≡ run.closed.ordered.log) (differ : PlacesDiffer (log drun)) (gave : ℕ → List ℕ)
     (all_there : length (log drun) ≤ all_accepted p.links (orders drun differ)) (few : p.operations ≤ 65536) (few_links : p.links ≤ 65536)
     -- the codes that a `fail` may have in a script
-    (bounds : (client number name code : ℕ) → IsOperation (setup ∷ clients) outcomes client number (ops.Fail name code) → (1500 ≤ code) × (code ≤ 1999))
-    -- each message that a client dropped is the one that stands in the log with its place index
-    (owned : (c : ℕ) (x : Client g state p (ids_of p slots)) → get_elem? (all_clients run) c ≡ some x → (id code n : ℕ) (w : WasDropped state p (ids_of p slots) (deeds_of x) id code n) → IsLogged (log drun) w.drop.msg) where
+    (bounds : (client number name code : ℕ) → IsOperation (setup ∷ clients) outcomes client number (ops.Fail name code) → (1500 ≤ code) × (code ≤ 1999)) where
   abbrev q : id_plan.Plan
   q = ids_of p slots
 
@@ -160,11 +158,11 @@ module _ {O : Type 0} {g : Ghosts O} {state : O → OutState} {p : Plan} {slots 
     word_there = place_value true w.drop.wrote.link w.drop.wrote.position
 
     -- a deed at the table of sockets behind which the seat has all that it noted by the drop
-    record Kept_ : Type 0 where
+    record IsKept : Type 0 where
       pub act : Act drun
       pub still : StillHas w.after (after drun act)
 
-    kept_there : Kept_
+    kept_there : IsKept
     kept_there =
         let y = its_seat run tasks may notes kept words closing noted outcomes drun seats logged differ gave all_there c x at in
         let b = w.behind in
@@ -182,91 +180,109 @@ module _ {O : Type 0} {g : Ghosts O} {state : O → OutState} {p : Plan} {slots 
         let m = note_is (place_index p place_there) word_there y w.before.stores in
         let one = pair-same (place_index p place_there) word_there in omega (arith, e, m, one)
 
-    -- where its message stands
-    pub record IsDroppedAt (o : ℕ) : Type 0 where
-      pub position : ℕ
-      pub entry : Entry
-      pub there : get_elem? (log drun) position ≡ some entry
-      pub place : entry.heading.place ≡ 8 * o + n
-      pub low : n ≤ 6
-      pub behind : IsBehindPlaced drun differ few few_links entry
-      pub link : w.drop.wrote.link ≡ entry.link
+    -- its life was made by an `open` with the link that the seat met
+    pub its_life : (name : ℕ) × MadeHere drun name w.drop.wrote.link slot_there version_there
+    its_life =
+        let i = slot_there in let link = w.drop.wrote.link in let f : Mark → ℕ = is_met version_there link in let k = kept_there in
+        let still = k.still.marks f (λ z. refl) i in let all = has_marks drun k.act f (λ z. refl) i in let met = w.drop.wrote.met in
+        linked_made drun i version_there link (drun.closed.closing.met_linked i version_there link w.inside (omega (arith, still, all, met)))
 
-    module _ (slot first r j : ℕ) (asked : Asked) (inside : slot < slots) (low : first < 4294967296) (same : id ≡ slot * 4294967296 + first) (made : get_elem? (notes_of slot notes) j ≡ some (Made first r asked)) where
-      dropped_at : IsDroppedAt asked.operation
-      dropped_at =
-          let l = owned c x at id code n w in let e = l.entry in
-          let attempt : e.heading.attempt ≡ n = l.attempt_is ∙ sym w.attempt_is in
-          let owner : e.heading.owner ≡ id = l.owner_is ∙ sym w.owner in
-          let k = kept_there in let more = k.still.puts (place_index p place_there) word_there in let put = stored_there in
-          let there : 0 < put_in (place_index p e.heading.place) word_there (after drun k.act) = subst (λ (z : ℕ). 0 < put_in (place_index p z) word_there (after drun k.act)) (sym l.place_is) (omega (arith, more, put)) in
-          let stands = dropped_stands drun differ few few_links l.position e l.there k.act w.drop.wrote.link w.drop.wrote.position w.drop.wrote.low there in
-          let o : IsOwned run tasks may notes kept words closing noted e = elim (owned_by run tasks may notes kept words closing noted l.position e (ap (λ (z : List Entry). get_elem? z l.position) (sym logged) ∙ l.there)) [
-            | inl none_ ↦ absurd (w.call (sym l.owner_is ∙ none_))
-            | inr own ↦ own
-          ] in
-          let number : o.operation ≡ asked.operation = one_operation run tasks may notes kept words closing noted outcomes drun seats logged differ gave all_there o.operation id slot first r j asked inside low (subst (IsIdOf slots notes o.operation) owner o.its) same made in
-          let place = o.place in let few_ = o.low in
-          record { position = l.position; entry = e; there = l.there; place = omega (arith, place, number, attempt); low = omega (arith, few_, attempt); behind = stands.0; link = stands.1 }
+    -- the code is EFAILEDSOCKET, or that of a `fail` of the name of its life
+    by_code : (name link : ℕ) → MadeHere drun name link slot_there version_there → (code ≡ EFAILEDSOCKET) ⊎ FailsWith drun name code
+    by_code name link made = let d = w.drop.code_is in dite (ℕ_discrete d.word 0)
+        (λ z. inl (w.code_is ∙ (d.code_is ∙ ap (λ b. cond b EFAILEDSOCKET d.word) (eq-eqb d.word 0 z))))
+        (λ ne. (
+        let i = slot_there in let h = version_there in let k = kept_there in
+        let is : code ≡ d.word = w.code_is ∙ (d.code_is ∙ ap (λ b. cond b EFAILEDSOCKET d.word) (ne_eqb d.word 0 ne)) in
+        let told_ = k.still.marks (is_told h d.word) (λ z. refl) i in let found = d.noted ne in let saw = k.still.marks (is_saw (h + 1)) (λ z. refl) i in let dead = w.drop.dead in
+        elim (life_code drun k.act name link i h (h + 1) d.word w.inside made (omega (arith, told_, found)) (omega (arith, saw, dead)) (omega arith)) [
+          | inl e ↦ inl (is ∙ e)
+          | inr f ↦ inr (subst (FailsWith drun name) (sym is) f)
+        ]))
 
-      -- the attempt stands behind the placed ones
-      is_dropped : IsDropped p every outcomes fixed_here gave orders_here asked.operation n
-      is_dropped =
-          let d = dropped_at in let e = d.entry in let b = d.behind in let place = d.place in let few_ = d.low in
-          let o : e.heading.place / 8 ≡ asked.operation = omega (arith, place, few_) in let m : e.heading.place % 8 ≡ n = omega (arith, place, few_) in
-          (e.link, b.position, (b.inside, accepted_of e, accepted_there (on e.link (log drun)) b.position e b.there, o, m), b.behind)
+    -- so it is one with which a call may end
+    pub drop_code : (code ≡ EFAILEDSOCKET) ⊎ ((1500 ≤ code) × (code ≤ 1999))
+    drop_code = let l = its_life in elim (by_code l.0 w.drop.wrote.link l.1) [ inl e ↦ inl e | inr f ↦ inr (bounds f.client f.number l.0 code f.is) ]
 
-      is_failing : IsFailing p every outcomes fixed_here gave orders_here dropped_at.entry.link
-      is_failing = let b = dropped_at.behind in let late = b.behind in let less = b.less in
-          by (lost_by drun differ few dropped_at.entry.link b.inside (omega (arith, late, less))).why
-        where
-          by : {i h : ℕ} → WhyFailed drun i h dropped_at.entry.link → IsFailing p every outcomes fixed_here gave orders_here dropped_at.entry.link
-          by (by_name f) = inl (f.life.number, f.listed, tt)
-          by (by_link b) = inr (inl b)
+  -- ## Which message it is
 
-      module _ (client : ℕ) (task : IsOperation every outcomes client asked.operation (ops.Call asked)) where
-        abbrev name : ℕ
-        name = name_of asked n
+  -- each message that a client dropped is the one that stands in the log with its place index
+  module _ (owned : (c : ℕ) (x : Client g state p q) → get_elem? crew c ≡ some x → (id code n : ℕ) (w : WasDropped state p q (deeds_of x) id code n) → IsLogged (log drun) w.drop.msg) where
+    module _ (c : ℕ) (x : Client g state p q) (at : get_elem? crew c ≡ some x) (id code n : ℕ) (w : WasDropped state p q (deeds_of x) id code n) where
+      -- where its message stands
+      pub record IsDroppedAt (o : ℕ) : Type 0 where
+        pub position : ℕ
+        pub entry : Entry
+        pub there : get_elem? (log drun) position ≡ some entry
+        pub place : entry.heading.place ≡ 8 * o + n
+        pub low : n ≤ 6
+        pub behind : IsBehindPlaced drun differ few few_links entry
+        pub link : w.drop.wrote.link ≡ entry.link
 
-        its_socket : SentTo drun name dropped_at.entry
-        its_socket = let d = dropped_at in sent_to drun client asked n d.low task d.position d.entry d.there d.place
+      module _ (slot first r j : ℕ) (asked : Asked) (inside : slot < slots) (low : first < 4294967296) (same : id ≡ slot * 4294967296 + first) (made : get_elem? (notes_of slot notes) j ≡ some (Made first r asked)) where
+        dropped_at : IsDroppedAt asked.operation
+        dropped_at =
+            let l = owned c x at id code n w in let e = l.entry in
+            let attempt : e.heading.attempt ≡ n = l.attempt_is ∙ sym w.attempt_is in
+            let owner : e.heading.owner ≡ id = l.owner_is ∙ sym w.owner in
+            let k = kept_there c x at id code n w in let l_ = w.drop.msg.label.place in let word = place_value true w.drop.wrote.link w.drop.wrote.position in let more = k.still.puts (place_index p l_) word in let put = stored_there c x at id code n w in
+            let there : 0 < put_in (place_index p e.heading.place) word (after drun k.act) = subst (λ (z : ℕ). 0 < put_in (place_index p z) word (after drun k.act)) (sym l.place_is) (omega (arith, more, put)) in
+            let stands = dropped_stands drun differ few few_links l.position e l.there k.act w.drop.wrote.link w.drop.wrote.position w.drop.wrote.low there in
+            let o : IsOwned run tasks may notes kept words closing noted e = elim (owned_by run tasks may notes kept words closing noted l.position e (ap (λ (z : List Entry). get_elem? z l.position) (sym logged) ∙ l.there)) [
+              | inl none_ ↦ absurd (w.call (sym l.owner_is ∙ none_))
+              | inr own ↦ own
+            ] in
+            let number : o.operation ≡ asked.operation = one_operation run tasks may notes kept words closing noted outcomes drun seats logged differ gave all_there o.operation id slot first r j asked inside low (subst (IsIdOf slots notes o.operation) owner o.its) same made in
+            let place = o.place in let few_ = o.low in
+            record { position = l.position; entry = e; there = l.there; place = omega (arith, place, number, attempt); low = omega (arith, few_, attempt); behind = stands.0; link = stands.1 }
 
-        -- a life with the code that was found was failed by a `fail` with it, or its link failed
-        by_code : (word : ℕ) → 0 < marks_of (is_told version_there word) slot_there w.after → (word ≡ EFAILEDSOCKET) ⊎ FailsWith drun name word
-        by_code word found =
-            let i = slot_there in let h = version_there in let k = kept_there in let d = dropped_at in let s = its_socket in let link = w.drop.wrote.link in
-            let met_ = k.still.marks (is_met h link) (λ z. refl) i in let met_all = has_marks drun k.act (is_met h link) (λ z. refl) i in let met = w.drop.wrote.met in
-            let m = linked_made drun i h link (drun.closed.closing.met_linked i h link w.inside (omega (arith, met_, met_all, met))) in
-            let its : MadeHere drun m.0 d.entry.link i h = subst (λ (z : ℕ). MadeHere drun m.0 z i h) d.link m.1 in
-            let one = link_is drun m.0 name d.entry.link i s.slot h s.version its s.made in
-            let here : MadeHere drun name d.entry.link i h = subst (λ (z : ℕ). MadeHere drun name d.entry.link z h) (sym one.0) (subst (λ (z : ℕ). MadeHere drun name d.entry.link s.slot z) (sym one.1) s.made) in
-            let told_ = k.still.marks (is_told h word) (λ z. refl) i in let saw = k.still.marks (is_saw (h + 1)) (λ z. refl) i in let dead = w.drop.dead in
-            life_code drun k.act name d.entry.link i h (h + 1) word w.inside here (omega (arith, told_, found)) (omega (arith, saw, dead)) (omega arith)
+        -- the attempt stands behind the placed ones
+        is_dropped : IsDropped p every outcomes fixed_here gave orders_here asked.operation n
+        is_dropped =
+            let d = dropped_at in let e = d.entry in let b = d.behind in let place = d.place in let few_ = d.low in
+            let o : e.heading.place / 8 ≡ asked.operation = omega (arith, place, few_) in let m : e.heading.place % 8 ≡ n = omega (arith, place, few_) in
+            (e.link, b.position, (b.inside, accepted_of e, accepted_there (on e.link (log drun)) b.position e b.there, o, m), b.behind)
 
-        abbrev WhyDropped : Type 0
-        WhyDropped = ((code ≡ EFAILEDSOCKET) × WhyLost p every outcomes fixed_here gave orders_here client asked.operation n name) ⊎ ((1500 ≤ code) × (code ≤ 1999) × IsFailedWith p every outcomes fixed_here gave orders_here name code)
+        is_failing : IsFailing p every outcomes fixed_here gave orders_here dropped_at.entry.link
+        is_failing = let b = dropped_at.behind in let late = b.behind in let less = b.less in
+            by (lost_by drun differ few dropped_at.entry.link b.inside (omega (arith, late, less))).why
+          where
+            by : {i h : ℕ} → WhyFailed drun i h dropped_at.entry.link → IsFailing p every outcomes fixed_here gave orders_here dropped_at.entry.link
+            by (by_name f) = inl (f.life.number, f.listed, tt)
+            by (by_link b) = inr (inl b)
 
-        by_socket : code ≡ EFAILEDSOCKET → WhyDropped
-        by_socket e = let s = its_socket in inl (e, WasFailing dropped_at.entry.link s.slot s.version s.made is_failing)
+        module _ (client : ℕ) (task : IsOperation every outcomes client asked.operation (ops.Call asked)) where
+          abbrev name : ℕ
+          name = name_of asked n
 
-        by_fail : FailsWith drun name code → WhyDropped
-        by_fail f = let b = bounds f.client f.number name code f.is in inr (b.0, b.1, (f.client, record { number = f.number; op = ops.Fail name code }, f.is, refl, f.became))
+          its_socket : SentTo drun name dropped_at.entry
+          its_socket = let d = dropped_at in sent_to drun client asked n d.low task d.position d.entry d.there d.place
 
-        its_code : WhyDropped
-        its_code = let d = w.drop.code_is in dite (ℕ_discrete d.word 0)
-            (λ z. by_socket (w.code_is ∙ (d.code_is ∙ ap (λ b. cond b EFAILEDSOCKET d.word) (eq-eqb d.word 0 z))))
-            (λ ne. (
-            let is : code ≡ d.word = w.code_is ∙ (d.code_is ∙ ap (λ b. cond b EFAILEDSOCKET d.word) (ne_eqb d.word 0 ne)) in
-            elim (by_code d.word (d.noted ne)) [
-              | inl e ↦ by_socket (is ∙ e)
-              | inr f ↦ by_fail (subst (FailsWith drun name) (sym is) f)
-            ]))
+          abbrev WhyDropped : Type 0
+          WhyDropped = ((code ≡ EFAILEDSOCKET) × WhyLost p every outcomes fixed_here gave orders_here client asked.operation n name) ⊎ ((1500 ≤ code) × (code ≤ 1999) × IsFailedWith p every outcomes fixed_here gave orders_here name code)
 
-  pub dropped_why : (c : ℕ) (x : Client g state p q) → get_elem? crew c ≡ some x → (id code n : ℕ) → WasDropped state p q (deeds_of x) id code n
-      → (slot first r j : ℕ) (asked : Asked) → slot < slots → first < 4294967296 → id ≡ slot * 4294967296 + first → get_elem? (notes_of slot notes) j ≡ some (Made first r asked)
-      → (client : ℕ) → IsOperation every outcomes client asked.operation (ops.Call asked)
-      → IsDropped p every outcomes fixed_here gave orders_here asked.operation n
-      × (((code ≡ EFAILEDSOCKET) × WhyLost p every outcomes fixed_here gave orders_here client asked.operation n (name_of asked n))
-      ⊎ ((1500 ≤ code) × (code ≤ 1999) × IsFailedWith p every outcomes fixed_here gave orders_here (name_of asked n) code))
-  dropped_why c x at id code n w slot first r j asked inside low same made client task =
-      (is_dropped c x at id code n w slot first r j asked inside low same made, its_code c x at id code n w slot first r j asked inside low same made client task)
+          by_socket : code ≡ EFAILEDSOCKET → WhyDropped
+          by_socket e = let s = its_socket in inl (e, WasFailing dropped_at.entry.link s.slot s.version s.made is_failing)
+
+          by_fail : FailsWith drun name code → WhyDropped
+          by_fail f = let b = bounds f.client f.number name code f.is in inr (b.0, b.1, (f.client, record { number = f.number; op = ops.Fail name code }, f.is, refl, f.became))
+
+          -- the life of the link that was written is that of the name
+          its_name : MadeHere drun name dropped_at.entry.link (socket_id_slot w.life) (socket_id_version w.life)
+          its_name =
+              let i = socket_id_slot w.life in let h = socket_id_version w.life in let d = dropped_at in let s = its_socket in let m = its_life c x at id code n w in
+              let its : MadeHere drun m.0 d.entry.link i h = subst (λ (z : ℕ). MadeHere drun m.0 z i h) d.link m.1 in
+              let one = link_is drun m.0 name d.entry.link i s.slot h s.version its s.made in
+              subst (λ (z : ℕ). MadeHere drun name d.entry.link z h) (sym one.0) (subst (λ (z : ℕ). MadeHere drun name d.entry.link s.slot z) (sym one.1) s.made)
+
+          its_code : WhyDropped
+          its_code = elim (by_code c x at id code n w name dropped_at.entry.link its_name) [ inl e ↦ by_socket e | inr f ↦ by_fail f ]
+
+    pub dropped_why : (c : ℕ) (x : Client g state p q) → get_elem? crew c ≡ some x → (id code n : ℕ) → WasDropped state p q (deeds_of x) id code n
+        → (slot first r j : ℕ) (asked : Asked) → slot < slots → first < 4294967296 → id ≡ slot * 4294967296 + first → get_elem? (notes_of slot notes) j ≡ some (Made first r asked)
+        → (client : ℕ) → IsOperation every outcomes client asked.operation (ops.Call asked)
+        → IsDropped p every outcomes fixed_here gave orders_here asked.operation n
+        × (((code ≡ EFAILEDSOCKET) × WhyLost p every outcomes fixed_here gave orders_here client asked.operation n (name_of asked n))
+        ⊎ ((1500 ≤ code) × (code ≤ 1999) × IsFailedWith p every outcomes fixed_here gave orders_here (name_of asked n) code))
+    dropped_why c x at id code n w slot first r j asked inside low same made client task =
+        (is_dropped c x at id code n w slot first r j asked inside low same made, its_code c x at id code n w slot first r j asked inside low same made client task)

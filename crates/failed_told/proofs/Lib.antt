@@ -15,5 +15,6 @@ pub mod Fallen
 pub mod DropCodes
 pub mod Owners
 pub mod Drops
+pub mod PostedCodes
 pub mod Asked
 pub mod Whole
