@@ -71,7 +71,7 @@ use Rattle.expire_told.specs.sock_deeds.proofs.Growing.{stays, returned_grew}
 use Rattle.expire_told.specs.rpc_client.specs.Running.{telling}
 use Rattle.call_table.specs.declared.errors.Decision.TheVariants as decisions
 use Rattle.expire_told.specs.call_errors.specs.Locking.{id_in}
-use Rattle.failed_told.specs.Reasons.{Counts, StillHas, IsBehind, Reason, timed_out, missed, dropped, QueuedFor, Origin, posted_so, handed_out, IsSeen, Cause, IsCaused}
+use Rattle.failed_told.specs.Reasons.{Counts, StillHas, IsBehind, WasDropped, Reason, timed_out, missed, dropped, QueuedFor, Origin, posted_so, handed_out, IsSeen, Cause, IsCaused}
 use Rattle.failed_told.specs.Missed.{delivery_missed, attempt_missed, went_missed, retry_missed, acted_missed, acted_id, IsMadeBy, IsBacked, socks_behind}
 use Rattle.failed_told.proofs.Keeping.{still_as, still_then, wrote_still, drop_still}
 use Rattle.failed_told.proofs.Views.{queued_silent, queued_in, Later, later_then, Stays, one_none, queued_one, same_stays, then_stays, did_later, did_stays, quiet_stays, kept_stays, ended_stays, got_stays, opened_stays, handed_stays}
@@ -321,8 +321,9 @@ module _ {O : Type 0} {g : Ghosts O} (state : O → OutState) (p : Plan) (q : id
     where
       by : ToldDrop q.slots d.msg d.code s t → Caused s t
       by (of_send e is) = caused_same s t is
-      by (of_call ne b) = posted s d.msg.owner d.code (Some d.msg.label.attempt) t b (λ counts. dropped d.msg.label.attempt
-      (record { life = id; before = v; calls = s; after = w; calls_after = t; drop = d; behind = behind; inside = inside; call = ne; owner = refl; code_is = refl; attempt_is = refl }) refl)
+      by (of_call ne b) =
+          let it : WasDropped state p q ds d.msg.owner d.code d.msg.label.attempt = record { life = id; before = v; calls = s; after = w; calls_after = t; drop = d; behind = behind; inside = inside; call = ne; owner = refl; code_is = refl; attempt_is = refl } in
+          posted s d.msg.owner d.code (Some d.msg.label.attempt) t b (λ counts. dropped d.msg.label.attempt it refl)
 
   dropped_all : (id : ℕ) (v : sock_view.View) (s : CallStand) (w : sock_view.View) (t : CallStand) → DroppedAll state p q.slots id v s w t → socket_id_slot id < p.slots → Behind w → Caused s t
   dropped_all id v s _ _ draining.none inside behind = caused_same s s refl
