@@ -84,7 +84,7 @@ same_range a b e = ap range_in e
 
 module _ {O : Type 0} (g : Ghosts O) (state : O → OutState) (p : Plan) where
   -- where a chain ends: at its begin, or behind its last deed
-  chain_last : (ds : List (socks.Deed g state p)) (s t : socks.Hand) → socks.Chain g state p ds s t → (t ≡ s) ⊎ ((k : ℕ) × (d : socks.Deed g state p) × (get_elem? ds k ≡ some d) × (t ≡ d.after))
+  pub chain_last : (ds : List (socks.Deed g state p)) (s t : socks.Hand) → socks.Chain g state p ds s t → (t ≡ s) ⊎ ((k : ℕ) × (d : socks.Deed g state p) × (get_elem? ds k ≡ some d) × (t ≡ d.after))
   chain_last [] s t e = inl e
   chain_last (d ∷ ds) s t h = elim (chain_last ds d.after t h.1) [ inl e ↦ inr (0, d, refl, e) | inr w ↦ inr (suc w.0, w.1, w.2, w.3) ]
 
@@ -158,7 +158,7 @@ module _ {O : Type 0} {g : Ghosts O} {state : O → OutState} {p : Plan} {slots 
   fixed_here = fixed drun differ gave
 
   -- the seat of a client
-  its_seat : (c : ℕ) (x : Client g state p q) → get_elem? crew c ≡ some x → (y : Seated g state p) × (get_elem? drun.seats c ≡ some y) × (y.ended.view ≡ x.thread.ended.seat.me.0)
+  pub its_seat : (c : ℕ) (x : Client g state p q) → get_elem? crew c ≡ some x → (y : Seated g state p) × (get_elem? drun.seats c ≡ some y) × (y.ended.view ≡ x.thread.ended.seat.me.0)
   its_seat c x at =
       let f : Thread g → Seat (SockHome O g) sock_view.View = λ z. z.ended.seat in
       let list : get_elem? (map seat_of drun.seats) c ≡ some x.thread.ended.seat = ap (λ l. get_elem? l c) (seats ∙ sym (all_are run f)) ∙ mapped (λ (z : Client g state p q). f z.thread) crew c x at in
@@ -166,7 +166,7 @@ module _ {O : Type 0} {g : Ghosts O} {state : O → OutState} {p : Plan} {slots 
       (w.0, w.1, sym w.0.left ∙ ap (λ s. s.me.0) w.2)
 
   -- what a deed's seat saw by it, it has in the end
-  reached : (c : ℕ) (x : Client g state p q) → get_elem? crew c ≡ some x → (i : ℕ) (d : Deed g state p q) → get_elem? (deeds_of x) i ≡ some d → Reaches state p q {g = g} x.thread.ended.seat.me.0 d
+  pub reached : (c : ℕ) (x : Client g state p q) → get_elem? crew c ≡ some x → (i : ℕ) (d : Deed g state p q) → get_elem? (deeds_of x) i ≡ some d → Reaches state p q {g = g} x.thread.ended.seat.me.0 d
   reached c x at i d there = all_at (Reaches state p q {g = g} x.thread.ended.seat.me.0) (deeds_of x) i d (deeds_reach x.thread x.is) there
 
   -- ## One id

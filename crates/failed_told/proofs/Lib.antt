@@ -1,4 +1,5 @@
 pub mod Views
+pub mod Keeping
 pub mod Origins
 pub mod Clients
 pub mod Codes
@@ -11,6 +12,10 @@ pub mod Losses
 pub mod Single
 pub mod Reaching
 pub mod Fallen
+pub mod DropCodes
+pub mod Owners
+pub mod Drops
+pub mod PostedCodes
 pub mod Asked
 pub mod Whole
 pub mod Advances

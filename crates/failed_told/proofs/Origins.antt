@@ -11,6 +11,7 @@ use lib.ListN.{get_elem?}
 use Rattle.sock_io.specs.declared.link.Out.{Ghosts}
 use Rattle.sock_io.specs.Link.{OutState}
 use Rattle.sock_words.specs.Codes.{EFAILEDSOCKET, EINTERNAL, ERPCTIMEDOUT}
+use Rattle.sock_words.specs.Words.{socket_id_slot}
 use Rattle.sock_words.specs.declared.plain.Plan.{Plan}
 use Rattle.sock_words.specs.declared.socket_id.SocketId.{SocketId}
 use Rattle.sock_words.specs.declared.outcome.Outcome.{Outcome}
@@ -67,11 +68,13 @@ use Rattle.expire_told.specs.call_told.proofs.Lists.{all_both, all_then}
 use Rattle.expire_told.specs.call_told.proofs.Resting.{is_word}
 use Rattle.expire_told.specs.call_told.proofs.Runs.{none_left}
 use Rattle.expire_told.specs.sock_deeds.proofs.Flats.{append_first, append_later}
+use Rattle.expire_told.specs.sock_deeds.proofs.Growing.{stays, returned_grew}
 use Rattle.expire_told.specs.rpc_client.specs.Running.{telling}
 use Rattle.call_table.specs.declared.errors.Decision.TheVariants as decisions
 use Rattle.expire_told.specs.call_errors.specs.Locking.{id_in}
-use Rattle.failed_told.specs.Reasons.{Counts, Reason, timed_out, missed, dropped, QueuedFor, AdvancedFor, Origin, posted_so, handed_out, IsSeen, Cause, IsCaused}
-use Rattle.failed_told.specs.Missed.{delivery_missed, attempt_missed, went_missed, retry_missed, acted_missed, acted_id, IsMadeBy, IsBacked}
+use Rattle.failed_told.specs.Reasons.{Counts, StillHas, IsBehind, WasDropped, Reason, timed_out, missed, dropped, QueuedFor, AdvancedFor, Origin, posted_so, handed_out, IsSeen, Cause, IsCaused}
+use Rattle.failed_told.specs.Missed.{delivery_missed, attempt_missed, went_missed, retry_missed, acted_missed, acted_id, IsMadeBy, IsBacked, socks_behind}
+use Rattle.failed_told.proofs.Keeping.{still_as, still_then, wrote_still, drop_still}
 use Rattle.failed_told.proofs.Views.{queued_silent, queued_in, advanced_in, Later, later_then, Stays, Steps, one_silent, queued_one, same_stays, then_stays, did_later, did_stays, quiet_stays, kept_stays, ended_stays, got_stays, opened_stays, handed_stays, handed_later, opened_steps, handed_steps}
 
 -- the lock that was got has the word that was found
@@ -139,7 +142,7 @@ module _ {O : Type 0} {g : Ghosts O} (state : O → OutState) (p : Plan) (q : id
   reason_later : (v w : View Asked) → Later v w → (id code : ℕ) (attempt : Maybe ℕ) → ReasonHere v id code attempt → ReasonHere w id code attempt
   reason_later v w l id code attempt (timed_out i x operation by s t h there is says counts keeps a b c) = timed_out i x operation by s t h there is says counts (let z = l.kept (is_word (call_index q operation) id) in omega (arith, z, keeps)) a b c
   reason_later v w l id code attempt (missed i d there is backed a b) = missed i d there is (backed_later v w l d backed) a b
-  reason_later v w l id code attempt (dropped life x s y t h a b c) = dropped life x s y t h a b c
+  reason_later v w l id code attempt (dropped n d z) = dropped n d z
 
   queued_later : (v w : View Asked) → Later v w → (i first e : ℕ) → QueuedHere v i first e → QueuedHere w i first e
   queued_later v w l i first e h = record { id = h.id; code = h.code; attempt = h.attempt; slot_is = h.slot_is; first_is = h.first_is; error_is = h.error_is; reason = reason_later v w l h.id h.code h.attempt h.reason }
@@ -339,33 +342,42 @@ module _ {O : Type 0} {g : Ghosts O} (state : O → OutState) (p : Plan) (q : id
 
   -- ## Messages
 
-  dropped_one : (id : ℕ) (v : sock_view.View) (s : CallStand) (w : sock_view.View) (t : CallStand) → DroppedOne state p q.slots id v s w t → Caused s t
-  dropped_one id v s w t d = by d.told
+  before_then : (v w : sock_view.View) → StillHas v w → IsBehind state p q ds w → IsBehind state p q ds v
+  before_then v w h b = record { index = b.index; deed = b.deed; there = b.there; still = still_then v w (socks_behind b.deed) h b.still }
+
+  -- one of the client's deeds leads on from here
+  abbrev Behind : sock_view.View → Type 0
+  Behind v = IsBehind state p q ds v
+
+  dropped_one : (id : ℕ) (v : sock_view.View) (s : CallStand) (w : sock_view.View) (t : CallStand) → DroppedOne state p q.slots id v s w t → socket_id_slot id < p.slots → Behind w → Caused s t
+  dropped_one id v s w t d inside behind = by d.told
     where
       by : ToldDrop q.slots d.msg d.code s t → Caused s t
       by (of_send e is) = caused_same s t is
-      by (of_call ne b) = posted s d.msg.owner d.code (Some d.msg.label.attempt) t b (λ counts. dropped id v s w t d refl refl refl)
+      by (of_call ne b) =
+          let it : WasDropped state p q ds d.msg.owner d.code d.msg.label.attempt = record { life = id; before = v; calls = s; after = w; calls_after = t; drop = d; behind = behind; inside = inside; call = ne; owner = refl; code_is = refl; attempt_is = refl } in
+          posted s d.msg.owner d.code (Some d.msg.label.attempt) t b (λ counts. dropped d.msg.label.attempt it refl)
 
-  dropped_all : (id : ℕ) (v : sock_view.View) (s : CallStand) (w : sock_view.View) (t : CallStand) → DroppedAll state p q.slots id v s w t → Caused s t
-  dropped_all id v s _ _ draining.none = caused_same s s refl
-  dropped_all id v s _ _ (draining.one_more u r w t more one) = in_turn s r t (dropped_all id v s u r more) (dropped_one id u r w t one)
+  dropped_all : (id : ℕ) (v : sock_view.View) (s : CallStand) (w : sock_view.View) (t : CallStand) → DroppedAll state p q.slots id v s w t → socket_id_slot id < p.slots → Behind w → Caused s t
+  dropped_all id v s _ _ draining.none inside behind = caused_same s s refl
+  dropped_all id v s _ _ (draining.one_more u r w t more one) inside behind = in_turn s r t (dropped_all id v s u r more inside (before_then u w (drop_still state p id one.msg.label.place u w one.wrote) behind)) (dropped_one id u r w t one inside behind)
 
-  drained : (id : ℕ) (v : sock_view.View) (s : CallStand) (w : sock_view.View) (t : CallStand) → Drained state p q.slots id v s w t → Caused s t
-  drained id v s w t d = dropped_all id v s d.last t d.dropped
+  drained : (id : ℕ) (v : sock_view.View) (s : CallStand) (w : sock_view.View) (t : CallStand) → Drained state p q.slots id v s w t → socket_id_slot id < p.slots → Behind w → Caused s t
+  drained id v s w t d inside behind = dropped_all id v s d.last t d.dropped inside (before_then d.last w (wrote_still state id d.last w d.wrote) behind)
 
-  delivered : (sock : SockRef) (msg : Letter) (by : Maybe Outcome) (v : sock_view.View) (s : CallStand) (w : sock_view.View) (t : CallStand) → DeliveredCalling state p q.slots sock msg by v s w t → Caused s t
-  delivered sock msg None v s w t d = drained sock.id.0 d.taken s d.through.wrote t d.through.drained
-  delivered sock msg (Some (outcome.Gone found)) v s w t d = caused_same s t d.1
-  delivered sock msg (Some outcome.Full) v s w t d = caused_same s t d.1
-  delivered sock msg (Some _) v s w t d = elim d [ ]
+  delivered : (sock : SockRef) (msg : Letter) (by : Maybe Outcome) (v : sock_view.View) (s : CallStand) (w : sock_view.View) (t : CallStand) → DeliveredCalling state p q.slots sock msg by v s w t → socket_id_slot sock.id.0 < p.slots → Behind w → Caused s t
+  delivered sock msg None v s w t d inside behind = drained sock.id.0 d.taken s d.through.wrote t d.through.drained inside (before_then d.through.wrote w (still_as d.through.wrote w (returned_grew sock.id.0 d.through.wrote w d.through.returned)) behind)
+  delivered sock msg (Some (outcome.Gone found)) v s w t d inside behind = caused_same s t d.1
+  delivered sock msg (Some outcome.Full) v s w t d inside behind = caused_same s t d.1
+  delivered sock msg (Some _) v s w t d inside behind = elim d [ ]
 
-  sent_calling : (n : ℕ) (msg : Letter) (by : Maybe Outcome) (v : sock_view.View) (s : CallStand) (w : sock_view.View) (t : CallStand) → SentCalling state p q.slots n msg by v s w t → Caused s t
-  sent_calling n msg None v s w t h = delivered h.sock msg None h.has s w t h.delivered
-  sent_calling n msg (Some outcome.Unopened) v s w t h = caused_same s t h.1
-  sent_calling n msg (Some (outcome.Gone found)) v s w t (inl h) = caused_same s t h.1
-  sent_calling n msg (Some (outcome.Gone found)) v s w t (inr h) = delivered h.sock msg (Some (outcome.Gone found)) h.has s w t h.delivered
-  sent_calling n msg (Some outcome.Full) v s w t h = delivered h.sock msg (Some outcome.Full) h.has s w t h.delivered
-  sent_calling n msg (Some _) v s w t h = elim h [ ]
+  sent_calling : (n : ℕ) (msg : Letter) (by : Maybe Outcome) (v : sock_view.View) (s : CallStand) (w : sock_view.View) (t : CallStand) → SentCalling state p q.slots n msg by v s w t → Behind w → Caused s t
+  sent_calling n msg None v s w t h behind = delivered h.sock msg None h.has s w t h.delivered h.reached_it.1.0.inside behind
+  sent_calling n msg (Some outcome.Unopened) v s w t h behind = caused_same s t h.1
+  sent_calling n msg (Some (outcome.Gone found)) v s w t (inl h) behind = caused_same s t h.1
+  sent_calling n msg (Some (outcome.Gone found)) v s w t (inr h) behind = delivered h.sock msg (Some (outcome.Gone found)) h.has s w t h.delivered h.reached_it.1.0.inside behind
+  sent_calling n msg (Some outcome.Full) v s w t h behind = delivered h.sock msg (Some outcome.Full) h.has s w t h.delivered h.reached_it.1.0.inside behind
+  sent_calling n msg (Some _) v s w t h behind = elim h [ ]
 
   -- ## Attempts
 
@@ -374,20 +386,20 @@ module _ {O : Type 0} {g : Ghosts O} (state : O → OutState) (p : Plan) (q : id
   WhyMissed code id n Known = (v : View Asked) (c : ℕ) → code ≡ Some c → Known v → ReasonHere v id c (Some n)
 
   module _ (Known : View Asked → Type 0) (still : (v w : View Asked) → Later v w → Known v → Known w) where
-    delivered_by : (socket : SocketId) (msg : Letter) (s t : Both) (d : DeliveredBy state p q socket msg s t) → Known s.calls.view → WhyMissed (delivery_missed state p q socket msg s t d) msg.owner msg.label.attempt Known → Caused s.calls t.calls
-    delivered_by socket msg s t (went_out w) known why = drained socket.0 w.taken s.calls w.through.wrote t.calls w.through.drained
-    delivered_by socket msg s t (came_back by c) known why = posted s.calls msg.owner (code_for by) (Some msg.label.attempt) t.calls c.posted (λ counts. why s.calls.view (code_for by) refl known)
+    delivered_by : (socket : SocketId) (msg : Letter) (s t : Both) (d : DeliveredBy state p q socket msg s t) → socket_id_slot socket.0 < p.slots → Behind t.socks → Known s.calls.view → WhyMissed (delivery_missed state p q socket msg s t d) msg.owner msg.label.attempt Known → Caused s.calls t.calls
+    delivered_by socket msg s t (went_out w) inside behind known why = drained socket.0 w.taken s.calls w.through.wrote t.calls w.through.drained inside (before_then w.through.wrote t.socks (still_as w.through.wrote t.socks (returned_grew socket.0 w.through.wrote t.socks w.through.returned)) behind)
+    delivered_by socket msg s t (came_back by c) inside behind known why = posted s.calls msg.owner (code_for by) (Some msg.label.attempt) t.calls c.posted (λ counts. why s.calls.view (code_for by) refl known)
 
-    attempted_by : (socket : SocketId) (msg : Letter) (s t : Both) (a : AttemptedBy state p q socket msg s t) → Known s.calls.view → WhyMissed (attempt_missed state p q socket msg s t a) msg.owner msg.label.attempt Known → Caused s.calls t.calls
-    attempted_by socket msg s t (nowhere g) known why = posted s.calls msg.owner EFAILEDSOCKET (Some msg.label.attempt) t.calls g.posted (λ counts. why s.calls.view EFAILEDSOCKET refl known)
-    attempted_by socket msg s t (over_link u l d) known why =
+    attempted_by : (socket : SocketId) (msg : Letter) (s t : Both) (a : AttemptedBy state p q socket msg s t) → socket_id_slot socket.0 < p.slots → Behind t.socks → Known s.calls.view → WhyMissed (attempt_missed state p q socket msg s t a) msg.owner msg.label.attempt Known → Caused s.calls t.calls
+    attempted_by socket msg s t (nowhere g) inside behind known why = posted s.calls msg.owner EFAILEDSOCKET (Some msg.label.attempt) t.calls g.posted (λ counts. why s.calls.view EFAILEDSOCKET refl known)
+    attempted_by socket msg s t (over_link u l d) inside behind known why =
         let stays = kept_stays s.calls.view u.calls.view _ _ _ l.stored in
-        in_turn s.calls u.calls t.calls (caused_seen s.calls u.calls stays l.books) (delivered_by socket msg u t d (still s.calls.view u.calls.view stays.later known) why)
+        in_turn s.calls u.calls t.calls (caused_seen s.calls u.calls stays l.books) (delivered_by socket msg u t d inside behind (still s.calls.view u.calls.view stays.later known) why)
 
-    went_to : (name : ℕ) (msg : Letter) (s t : Both) (w : WentTo state p q name msg s t) → Known s.calls.view → WhyMissed (went_missed state p q name msg s t w) msg.owner msg.label.attempt Known → Caused s.calls t.calls
-    went_to name msg s t (stray a e h) known why = posted s.calls msg.owner EFAILEDSOCKET (Some msg.label.attempt) t.calls h (λ counts. why s.calls.view EFAILEDSOCKET refl known)
-    went_to name msg s t (unopened f h) known why = posted s.calls msg.owner EFAILEDSOCKET (Some msg.label.attempt) t.calls h (λ counts. why s.calls.view EFAILEDSOCKET refl known)
-    went_to name msg s t (to_socket socket u f e a) known why = let same = caused_same s.calls u.calls e in in_turn s.calls u.calls t.calls same (attempted_by socket msg u t a (still s.calls.view u.calls.view same.later known) why)
+    went_to : (name : ℕ) (msg : Letter) (s t : Both) (w : WentTo state p q name msg s t) → Behind t.socks → Known s.calls.view → WhyMissed (went_missed state p q name msg s t w) msg.owner msg.label.attempt Known → Caused s.calls t.calls
+    went_to name msg s t (stray a e h) behind known why = posted s.calls msg.owner EFAILEDSOCKET (Some msg.label.attempt) t.calls h (λ counts. why s.calls.view EFAILEDSOCKET refl known)
+    went_to name msg s t (unopened f h) behind known why = posted s.calls msg.owner EFAILEDSOCKET (Some msg.label.attempt) t.calls h (λ counts. why s.calls.view EFAILEDSOCKET refl known)
+    went_to name msg s t (to_socket socket u f e a) behind known why = let same = caused_same s.calls u.calls e in in_turn s.calls u.calls t.calls same (attempted_by socket msg u t a f.0.inside behind (still s.calls.view u.calls.view same.later known) why)
 
   -- the id was made for the operation
   abbrev IsMade : ℕ → ℕ → View Asked → Type 0
@@ -396,8 +408,8 @@ module _ {O : Type 0} {g : Ghosts O} (state : O → OutState) (p : Plan) (q : id
   made_still : (operation id : ℕ) (v w : View Asked) → Later v w → IsMade operation id v → IsMade operation id w
   made_still operation id v w l h = let a = l.notes (slot_of id) (is_made_for (version_of id) operation) in omega (arith, a, h)
 
-  begun_by : (asked : Asked) (id : ℕ) (s t : Both) (h : CalledBy state p q asked (called.Begun id) s t) → WhyMissed (attempt_missed state p q h.socket _ h.at t h.attempted) id 0 (IsMade asked.operation id) → Caused s.calls t.calls
-  begun_by asked id s t h why =
+  begun_by : (asked : Asked) (id : ℕ) (s t : Both) (h : CalledBy state p q asked (called.Begun id) s t) → Behind t.socks → WhyMissed (attempt_missed state p q h.socket _ h.at t h.attempted) id 0 (IsMade asked.operation id) → Caused s.calls t.calls
+  begun_by asked id s t h behind why =
       let m = h.made_for in let u : CallStand = record { view = m.view; books = s.calls.books } in let n : Note Asked = Made (version_of id) asked.range asked in
       let f : Note Asked → ℕ = is_made_for (version_of id) asked.operation in
       let made = did_stays (slot_of id) s.calls.view m.view _ (one (slot_of id) n) (one_silent (slot_of id) n (λ x y. refl) (λ x y. refl)) m.made.did in
@@ -406,7 +418,7 @@ module _ {O : Type 0} {g : Ghosts O} (state : O → OutState) (p : Plan) (q : id
       let a = did_total f (made_silent (version_of id) asked.operation) (slot_of id) s.calls.view m.view _ (one (slot_of id) n) m.made.did (slot_of id) in
       let b = counted_here f (slot_of id) n in let c = pair-same (version_of id) asked.operation in let d = noted.later.notes (slot_of id) f in omega (arith, a, b, c, d)
       ) in
-      in_turn s.calls h.at.calls t.calls (in_turn s.calls u h.at.calls (caused_seen s.calls u made refl) (caused_seen u h.at.calls noted m.books)) (attempted_by (IsMade asked.operation id) (made_still asked.operation id) h.socket _ h.at t h.attempted known why)
+      in_turn s.calls h.at.calls t.calls (in_turn s.calls u h.at.calls (caused_seen s.calls u made refl) (caused_seen u h.at.calls noted m.books)) (attempted_by (IsMade asked.operation id) (made_still asked.operation id) h.socket _ h.at t h.attempted h.made_for.found.0.inside behind known why)
 
   -- of a retry nothing is known besides
   abbrev Nothing : View Asked → Type 0
@@ -415,21 +427,24 @@ module _ {O : Type 0} {g : Ghosts O} (state : O → OutState) (p : Plan) (q : id
   locked : (r : Retry) (k : IdLock Asked) (s t : Both) → Locked state p q r k s t → Caused s.calls t.calls
   locked r k s t l = caused_seen s.calls t.calls (got_stays k.slot s.calls.view t.calls.view l.got.word (parts k.word.0) k.content l.got.got) l.books
 
-  retried_by : (r : Retry) (s t : Both) (by : RetriedBy state p q r s t) → WhyMissed (retry_missed state p q r s t by) r.id r.attempt Nothing → Caused s.calls t.calls
-  retried_by r s t (had_ended h) why = caused_seen s.calls t.calls (quiet_stays s.calls.view t.calls.view h.gone.quiet) h.books
-  retried_by r s t (overtaken k u l o) why =
+  retried_by : (r : Retry) (s t : Both) (by : RetriedBy state p q r s t) → Behind t.socks → WhyMissed (retry_missed state p q r s t by) r.id r.attempt Nothing → Caused s.calls t.calls
+  retried_by r s t (had_ended h) behind why = caused_seen s.calls t.calls (quiet_stays s.calls.view t.calls.view h.gone.quiet) h.books
+  retried_by r s t (overtaken k u l o) behind why =
       let x : CallStand = record { view = o.view; books = u.calls.books } in
       let has = got_locked k.slot s.calls.view u.calls.view l.got.word (parts k.word.0) k.content l.got.got in
       in_turn s.calls u.calls t.calls (locked r k s u l) (in_turn u.calls x t.calls (caused_seen u.calls x (handed_stays u.calls.view o.view k o.next o.code o.attempt o.unlocked) refl) (decided o.decided (next_cause u.calls.view o.view k o.next false o.code o.attempt l.got.inside has o.unlocked)))
-  retried_by r s t (went_again k u l w) why =
+  retried_by r s t (went_again k u l w) behind why =
       let x : CallStand = record { view = w.view; books = u.calls.books } in
-      in_turn s.calls u.calls t.calls (locked r k s u l) (in_turn u.calls x t.calls (caused_seen u.calls x (opened_stays u.calls.view w.view k w.unlocked) refl) (went_to Nothing (λ v y l h. tt) _ _ (record { socks = u.socks; calls = x }) t w.went tt why))
+      in_turn s.calls u.calls t.calls (locked r k s u l) (in_turn u.calls x t.calls (caused_seen u.calls x (opened_stays u.calls.view w.view k w.unlocked) refl) (went_to Nothing (λ v y l h. tt) _ _ (record { socks = u.socks; calls = x }) t w.went behind tt why))
 
   -- ## Deeds
 
   -- it is one of the client's
   abbrev IsAmong : Deed g state p q → Type 0
   IsAmong d = (i : ℕ) × (get_elem? ds i ≡ some d)
+
+  behind_deed : (i : ℕ) (d : Deed g state p q) → get_elem? ds i ≡ some d → Behind (socks_behind d)
+  behind_deed i d at = record { index = i; deed = d; there = at; still = still_as (socks_behind d) (socks_behind d) (stays (socks_behind d)) }
 
   abbrev AreAmong : List (Deed g state p q) → Type 0
   AreAmong list = (d : Deed g state p q) (j : ℕ) → get_elem? list j ≡ some d → IsAmong d
@@ -446,7 +461,7 @@ module _ {O : Type 0} {g : Ghosts O} (state : O → OutState) (p : Plan) (q : id
       let x = without_oldest rest u in let d : Deed g state p q = retries r x t by in
       let last = later_among (retries_of state p q s u more) (d ∷ []) among d 0 refl in
       in_turn s.calls u.calls t.calls (retried s u more (first_among (retries_of state p q s u more) (d ∷ []) among))
-      (in_turn u.calls x.calls t.calls (caused_books u.calls x.calls (same_stays u.calls.view x.calls.view refl) refl refl) (retried_by r x t by (λ v c is known. missed last.0 d last.1 is tt refl refl)))
+      (in_turn u.calls x.calls t.calls (caused_books u.calls x.calls (same_stays u.calls.view x.calls.view refl) refl refl) (retried_by r x t by (behind_deed last.0 d last.1) (λ v c is known. missed last.0 d last.1 is tt refl refl)))
 
   -- what stands in a list is said
   abbrev AreSays : List Told → Type 0
@@ -459,18 +474,18 @@ module _ {O : Type 0} {g : Ghosts O} (state : O → OutState) (p : Plan) (q : id
 
   -- ## A client's run
 
-  acted_caused : (i : ℕ) (x : Task) → get_elem? xs i ≡ some x → (op : Op) → x.op ≡ op → (by : Maybe Outcome) → ((b : Outcome) → by ≡ Some b → Says x.number b) → (s t : Stand g) (h : Acted state p q x.number op by s t)
+  acted_caused : (i : ℕ) (x : Task) → get_elem? xs i ≡ some x → (op : Op) → x.op ≡ op → (by : Maybe Outcome) → ((b : Outcome) → by ≡ Some b → Says x.number b) → (s t : Stand g) (h : Acted state p q x.number op by s t) → Behind t.me.0
       → WhyMissed (acted_missed state p q x.number op by s t h) (acted_id state p q x.number op by s t h) 0 (λ v. IsMadeBy state p q v x.number op by s t h) → Caused s.calls t.calls
-  acted_caused i x there (ops.Open n k) is (Some by) says s t h why = caused_same s.calls t.calls h.2
-  acted_caused i x there (ops.Send n bytes) is by says s t h why = sent_calling n (letter_of x.number bytes) by s.me.0 s.calls t.me.0 t.calls h.0
-  acted_caused i x there (ops.Call asked) is (Some outcome.Unopened) says s t h why = caused_same s.calls t.calls h.0.1
-  acted_caused i x there (ops.Call asked) is None says s t h why = begun_by asked h.0 (both_of s) (both_of t) h.1 why
-  acted_caused i x there (ops.Expire of) is (Some by) says s t h why = expired_by i x there of is by (says by refl) s.calls t.calls h.0
-  acted_caused i x there (ops.Join of) is (Some by) says s t h why = joined_by of by s.calls t.calls h.0
-  acted_caused i x there (ops.Hold n) is (Some by) says s t h why = caused_same s.calls t.calls h.2
-  acted_caused i x there (ops.Drop n) is (Some by) says s t h why = caused_same s.calls t.calls h.2
-  acted_caused i x there (ops.Fail n code) is (Some by) says s t h why = caused_same s.calls t.calls h.2
-  acted_caused i x there _ is _ says s t h why = elim h [ ]
+  acted_caused i x there (ops.Open n k) is (Some by) says s t h behind why = caused_same s.calls t.calls h.2
+  acted_caused i x there (ops.Send n bytes) is by says s t h behind why = sent_calling n (letter_of x.number bytes) by s.me.0 s.calls t.me.0 t.calls h.0 behind
+  acted_caused i x there (ops.Call asked) is (Some outcome.Unopened) says s t h behind why = caused_same s.calls t.calls h.0.1
+  acted_caused i x there (ops.Call asked) is None says s t h behind why = begun_by asked h.0 (both_of s) (both_of t) h.1 behind why
+  acted_caused i x there (ops.Expire of) is (Some by) says s t h behind why = expired_by i x there of is by (says by refl) s.calls t.calls h.0
+  acted_caused i x there (ops.Join of) is (Some by) says s t h behind why = joined_by of by s.calls t.calls h.0
+  acted_caused i x there (ops.Hold n) is (Some by) says s t h behind why = caused_same s.calls t.calls h.2
+  acted_caused i x there (ops.Drop n) is (Some by) says s t h behind why = caused_same s.calls t.calls h.2
+  acted_caused i x there (ops.Fail n code) is (Some by) says s t h behind why = caused_same s.calls t.calls h.2
+  acted_caused i x there _ is _ says s t h behind why = elim h [ ]
 
   pub ran_caused : (n : ℕ) (s t : Course g) (h : Ran state p q xs n s t) → AreSays t.told → AreAmong (ran_deeds state p q xs n s t h) → Caused s.has.calls t.has.calls
   ran_caused zero s t e says among = caused_same s.has.calls t.has.calls (ap (λ (c : Course g). c.has.calls) e)
@@ -483,7 +498,7 @@ module _ {O : Type 0} {g : Ghosts O} (state : O → OutState) (p : Plan) (q : id
       let now = later_among earlier (again ++ d ∷ []) among in let last = later_among again (d ∷ []) now d 0 refl in
       in_turn s.has.calls h.0.has.calls t.has.calls (ran_caused n s h.0 h.2 before (first_among earlier (again ++ d ∷ []) among))
       (in_turn h.0.has.calls m.ready.calls t.has.calls (retried (both_of h.0.has) (both_of m.ready) m.retried.all.retried (first_among again (d ∷ []) now))
-      (acted_caused n h.1 h.3 h.1.op refl m.by (said_now h.1.number m.by h.0.told t.told m.told says) m.ready t.has m.acted (λ v c is known. missed last.0 d last.1 is known refl refl)))
+      (acted_caused n h.1 h.3 h.1.op refl m.by (said_now h.1.number m.by h.0.told t.told m.told says) m.ready t.has m.acted (behind_deed last.0 d last.1) (λ v c is known. missed last.0 d last.1 is known refl refl)))
 
   -- all deeds of a client that made all its operations
   abbrev pub AreDeeds : (c d : Caller O g) → RunBy state p q false xs c d → Type 0

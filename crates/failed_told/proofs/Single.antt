@@ -72,10 +72,10 @@ call_operation : (a b : Asked) → ops.Call a ≡ ops.Call b → a.operation ≡
 unfolding operation_in
 call_operation a b e = ap operation_in e
 
-none_there : (m : ℕ) (e : Entry) → get_elem? [] m ≡ some e → ⊥
+pub none_there : (m : ℕ) (e : Entry) → get_elem? [] m ≡ some e → ⊥
 none_there m e h = some-ne-none e (sym h)
 
-one_there : (m : ℕ) (x e : Entry) → get_elem? (x ∷ []) m ≡ some e → x ≡ e
+pub one_there : (m : ℕ) (x e : Entry) → get_elem? (x ∷ []) m ≡ some e → x ≡ e
 one_there zero x e h = some-injective x e h
 one_there (suc m) x e h = absurd (none_there m e h)
 
@@ -180,7 +180,7 @@ module _ {O : Type 0} {g : Ghosts O} {state : O → OutState} {p : Plan} {slots 
   laws : IdLaws slots notes
   laws = laws_of q notes kept words closing
 
-  within : (c : ℕ) (x : Client g state p q) → get_elem? crew c ≡ some x → (slot : ℕ) (f : Note Asked → ℕ) → total f (notes_of slot (view_of x).notes) ≤ total f (notes_of slot notes)
+  pub within : (c : ℕ) (x : Client g state p q) → get_elem? crew c ≡ some x → (slot : ℕ) (f : Note Asked → ℕ) → total f (notes_of slot (view_of x).notes) ≤ total f (notes_of slot notes)
   within c x at slot f =
       let h : View Asked → ℕ = λ v. total f (notes_of slot v.notes) in
       let a = term (λ (y : Client g state p q). h (view_of y)) crew c x at in let b = total_map h view_of crew in let d = ap (total h) (views_are run) in let e = noted.all slot f in omega (arith, a, b, d, e)
@@ -253,7 +253,7 @@ module _ {O : Type 0} {g : Ghosts O} {state : O → OutState} {p : Plan} {slots 
     abbrev went : Deed g state p q
     went = retries r s t (went_again k u l w)
 
-    again_id : get_elem? (deeds_of x) i ≡ some went → IsIdOf slots notes k.content.operation r.id
+    pub again_id : get_elem? (deeds_of x) i ≡ some went → IsIdOf slots notes k.content.operation r.id
     again_id there =
         let slot : ℕ = slot_of r.id in let version : ℕ = version_of r.id in
         let whole : slot * 4294967296 + version ≡ r.id = div-add-mod' r.id 4294967296 in
@@ -299,7 +299,7 @@ module _ {O : Type 0} {g : Ghosts O} {state : O → OutState} {p : Plan} {slots 
     pub no_frame : entries_of d ≡ []
     pub asks : (asked : Asked) → IsAskedIn d asked → asked.operation ≡ operation
 
-  first_id : (o id : ℕ) → slot_of id < slots → 0 < total (is_made_for (version_of id) o) (notes_of (slot_of id) notes) → IsIdOf slots notes o id
+  pub first_id : (o id : ℕ) → slot_of id < slots → 0 < total (is_made_for (version_of id) o) (notes_of (slot_of id) notes) → IsIdOf slots notes o id
   first_id o id inside made =
       let n = total_some (is_made_for (version_of id) o) (notes_of (slot_of id) notes) made in let m = made_note (version_of id) o n.1 n.3 in
       record { slot = slot_of id; first = version_of id; inside = inside; low = version_low id; id_is = sym (div-add-mod' id 4294967296); range = m.0; asked = m.1; place = n.0; made = n.2 ∙ ap some m.2; operation = m.3 }
