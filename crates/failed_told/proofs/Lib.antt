@@ -12,6 +12,10 @@ pub mod Losses
 pub mod Single
 pub mod Reaching
 pub mod Fallen
+pub mod DropCodes
+pub mod Owners
+pub mod Drops
+pub mod PostedCodes
 pub mod Asked
 pub mod Whole
 mod SeenTmp
@@ -24,3 +28,5 @@ pub mod Seeking
 pub mod Unopened
 pub mod Premises
 pub mod Ended
+pub mod Advances
+pub mod Again

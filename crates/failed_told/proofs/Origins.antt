@@ -1,4 +1,4 @@
--- Each end of a call that a client told goes back to an error that it posted, or that was handed out of a locked word that it found; and each error that it queued is one that it posted.
+-- Each end of a call that a client told goes back to an error that it posted, or that was handed out of a locked word that it found, and so does each advance of an id that it noted; and each error that it queued is one that it posted.
 use Rattle.std.proofs.Common.{◌*◌, ◌<◌, length, Bool, ◌≡◌, ℕ, zero, suc, ◌+◌, ◌⊎◌, inl, inr, true, false, cond, eqb, List, [], ◌∷◌, ◌++◌, Some, None, drop, refl, sym, ap, ◌∙◌, subst, arith}
 use Rattle.std.specs.Prelude.{Option as Maybe}
 use Rattle.std.specs.List.{AllByRecursion}
@@ -23,7 +23,7 @@ use Rattle.seat_programs.specs.declared.task.Op.{Op}
 use Rattle.seat_programs.specs.declared.task.Op.TheVariants as ops
 use Rattle.seat_programs.specs.declared.task.Task.{Task}
 use Rattle.corr_core.specs.Word.{Parts, parts}
-use Rattle.corr_core.specs.Law.{total, is_queued}
+use Rattle.corr_core.specs.Law.{total, is_queued, is_attempt}
 use Rattle.corr_core.specs.declared.marks.Note.{Note}
 use Rattle.corr_core.specs.declared.marks.Note.TheVariants.{Made, Queued}
 use Rattle.corr_core.specs.declared.marks.Noted.{Noted}
@@ -60,7 +60,8 @@ use Rattle.expire_told.specs.call_client.specs.Acting.{Stand, stand, both_of, le
 use Rattle.expire_told.specs.call_client.specs.Running.{Course, Ran, begins, RunBy}
 use Rattle.expire_told.specs.rpc_client.specs.declared.acting.Told.{Told}
 use Rattle.expire_told.specs.call_places.specs.Deeds.{Deed, operates, retries, retries_of, ran_deeds}
-use Rattle.expire_told.specs.call_client.proofs.Telling.{did_total}
+use Rattle.expire_told.specs.call_places.proofs.Still.{attempt_silent}
+use Rattle.expire_told.specs.call_client.proofs.Telling.{did_total, none_of_one}
 use Rattle.expire_told.specs.call_told.specs.Least.{is_made_for, is_locked_for}
 use Rattle.expire_told.specs.call_told.proofs.Ends.{made_silent, counted_here, HasLocked, got_locked}
 use Rattle.expire_told.specs.call_told.proofs.Lists.{all_both, all_then}
@@ -71,10 +72,10 @@ use Rattle.expire_told.specs.sock_deeds.proofs.Growing.{stays, returned_grew}
 use Rattle.expire_told.specs.rpc_client.specs.Running.{telling}
 use Rattle.call_table.specs.declared.errors.Decision.TheVariants as decisions
 use Rattle.expire_told.specs.call_errors.specs.Locking.{id_in}
-use Rattle.failed_told.specs.Reasons.{Counts, StillHas, IsBehind, Reason, timed_out, missed, dropped, QueuedFor, Origin, posted_so, handed_out, IsSeen, Cause, IsCaused}
+use Rattle.failed_told.specs.Reasons.{Counts, StillHas, IsBehind, WasDropped, Reason, timed_out, missed, dropped, QueuedFor, AdvancedFor, Origin, posted_so, handed_out, IsSeen, Cause, IsCaused}
 use Rattle.failed_told.specs.Missed.{delivery_missed, attempt_missed, went_missed, retry_missed, acted_missed, acted_id, IsMadeBy, IsBacked, socks_behind}
 use Rattle.failed_told.proofs.Keeping.{still_as, still_then, wrote_still, drop_still}
-use Rattle.failed_told.proofs.Views.{queued_silent, queued_in, Later, later_then, Stays, one_none, queued_one, same_stays, then_stays, did_later, did_stays, quiet_stays, kept_stays, ended_stays, got_stays, opened_stays, handed_stays}
+use Rattle.failed_told.proofs.Views.{queued_silent, queued_in, advanced_in, Later, later_then, Stays, Steps, one_silent, queued_one, same_stays, then_stays, did_later, did_stays, quiet_stays, kept_stays, ended_stays, got_stays, opened_stays, handed_stays, handed_later, opened_steps, handed_steps}
 
 -- the lock that was got has the word that was found
 got_seen : (v w : View Asked) (word : ℕ) (k : IdLock Asked) → GotLock k.slot v w word (parts k.word.0) k.content → IsSeen w k
@@ -111,10 +112,14 @@ module _ {O : Type 0} {g : Ghosts O} (state : O → OutState) (p : Plan) (q : id
   abbrev pub QueuedHere : View Asked → ℕ → ℕ → ℕ → Type 0
   QueuedHere v i first e = QueuedFor state p q xs Says ds v i first e
 
-  -- the notes stay; each error that is noted as queued more had a reason; and what is told more is caused, where memory is there behind it
+  abbrev pub AdvancedHere : View Asked → ℕ → ℕ → ℕ → Type 0
+  AdvancedHere v i first n = AdvancedFor state p q xs Says ds v i first n
+
+  -- the notes stay; each error that is noted as queued more had a reason, and so has each advance that is noted more; and what is told more is caused, where memory is there behind it
   pub record Caused (s t : CallStand) : Type 0 where
     pub later : Later s.view t.view
     pub queued : (j first e : ℕ) → 0 < queued_in j first e t.view.notes → (0 < queued_in j first e s.view.notes) ⊎ QueuedHere t.view j first e
+    pub advanced : (j first n : ℕ) → 0 < advanced_in j first n t.view.notes → (0 < advanced_in j first n s.view.notes) ⊎ AdvancedHere t.view j first n
     pub told : t.books.starved ≡ false → (s.books.starved ≡ false) × ((more : List Told) × (t.books.told ≡ s.books.told ++ more) × AllByRecursion (IsCausedHere t.view) more)
 
   -- ## In later views
@@ -158,11 +163,18 @@ module _ {O : Type 0} {g : Ghosts O} (state : O → OutState) (p : Plan) (q : id
   caused_later : (v w : View Asked) → Later v w → (x : Told) → IsCausedHere v x → IsCausedHere w x
   caused_later v w l x c = record { lock = c.lock; code = c.code; attempt = c.attempt; is = c.is; ends = c.ends; cause = cause_later v w l c.lock c.code c.attempt c.cause }
 
+  advanced_later : (v w : View Asked) → Later v w → (i first n : ℕ) → AdvancedHere v i first n → AdvancedHere w i first n
+  advanced_later v w l i first n h = record { lock = h.lock; code = h.code; attempt = h.attempt; slot_is = h.slot_is; first_is = h.first_is; next = h.next; goes_on = h.goes_on; cause = cause_later v w l h.lock h.code h.attempt h.cause }
+
   pub in_turn : (s u t : CallStand) → Caused s u → Caused u t → Caused s t
   in_turn s u t a b = record {
     later = later_then s.view u.view t.view a.later b.later;
     queued = λ j first e h. elim (b.queued j first e h) [
       | inl x ↦ elim (a.queued j first e x) [ inl y ↦ inl y | inr y ↦ inr (queued_later u.view t.view b.later j first e y) ]
+      | inr y ↦ inr y
+    ];
+    advanced = λ j first n h. elim (b.advanced j first n h) [
+      | inl x ↦ elim (a.advanced j first n x) [ inl y ↦ inl y | inr y ↦ inr (advanced_later u.view t.view b.later j first n y) ]
       | inr y ↦ inr y
     ];
     told = λ fed. (let y = b.told fed in let x = a.told y.0 in (
@@ -175,9 +187,16 @@ module _ {O : Type 0} {g : Ghosts O} (state : O → OutState) (p : Plan) (q : id
     ));
   }
 
+  -- where nothing is queued, and nothing advances
+  none_more : (s t : CallStand) → Stays s.view t.view → (j first e : ℕ) → 0 < queued_in j first e t.view.notes → (0 < queued_in j first e s.view.notes) ⊎ QueuedHere t.view j first e
+  none_more s t g j first e h = inl (let a = g.queued j first e in omega (arith, a, h))
+
+  none_further : (s t : CallStand) → Stays s.view t.view → (j first n : ℕ) → 0 < advanced_in j first n t.view.notes → (0 < advanced_in j first n s.view.notes) ⊎ AdvancedHere t.view j first n
+  none_further s t g j first n h = inl (let a = g.advanced j first n in omega (arith, a, h))
+
   -- nothing more is told
   caused_books : (s t : CallStand) → Stays s.view t.view → t.books.told ≡ s.books.told → t.books.starved ≡ s.books.starved → Caused s t
-  caused_books s t g e f = record { later = g.later; queued = λ j first d h. inl (let a = g.queued j first d in omega (arith, a, h)); told = λ fed. (sym f ∙ fed, ([], e ∙ sym (append-nil s.books.told), tt)) }
+  caused_books s t g e f = record { later = g.later; queued = none_more s t g; advanced = none_further s t g; told = λ fed. (sym f ∙ fed, ([], e ∙ sym (append-nil s.books.told), tt)) }
 
   caused_seen : (s t : CallStand) → Stays s.view t.view → t.books ≡ s.books → Caused s t
   caused_seen s t g e = caused_books s t g (ap (λ (y : Books). y.told) e) (ap (λ (y : Books). y.starved) e)
@@ -197,6 +216,11 @@ module _ {O : Type 0} {g : Ghosts O} (state : O → OutState) (p : Plan) (q : id
         (λ ne. inr (let w = queued_one (slot_of id) j first e (version_of id) (error_in code attempt) (omega (arith, ne)) in
         record { id = id; code = code; attempt = attempt; slot_is = w.0; first_is = w.1; error_is = w.2; reason = reason_later s.view t.view now id code attempt r }))
         );
+    advanced = λ j first n h. inl (
+        let x : Note Asked = Queued (version_of id) (error_in code attempt) in
+        let a = did_total (is_attempt first n) (attempt_silent first n) (slot_of id) s.view t.view ts (one (slot_of id) x) d j in
+        let b = none_of_one (is_attempt first n) (attempt_silent first n) (slot_of id) x refl j in omega (arith, a, b, h)
+        );
     told = λ fed. (sym (ap (λ (y : Books). y.starved) same) ∙ fed, ([], ap (λ (y : Books). y.told) same ∙ sym (append-nil s.books.told), tt));
   }
     where
@@ -206,7 +230,7 @@ module _ {O : Type 0} {g : Ghosts O} (state : O → OutState) (p : Plan) (q : id
   -- ## Errors of calls
 
   lock_ends : (k : IdLock Asked) (code : ℕ) (attempt : Maybe ℕ) (s t : CallStand) → decision k code attempt ≡ decisions.End → CauseHere s.view k code attempt → EndedWith k code s t → Caused s t
-  lock_ends k code attempt s t end c e = record { later = grown.later; queued = λ j first d h. inl (let a = grown.queued j first d in omega (arith, a, h)); told = λ fed. by fed e.tells }
+  lock_ends k code attempt s t end c e = record { later = grown.later; queued = none_more s t grown; advanced = none_further s t grown; told = λ fed. by fed e.tells }
     where
       grown : Stays s.view t.view
       grown = ended_stays k.slot (parts k.word.0).first s.view t.view e.ended
@@ -220,7 +244,7 @@ module _ {O : Type 0} {g : Ghosts O} (state : O → OutState) (p : Plan) (q : id
 
   -- for want of memory
   starved_ends : (k : IdLock Asked) (s t : CallStand) → EndedWith k EINTERNAL (record { view = s.view; books = starving s.books }) t → Caused s t
-  starved_ends k s t e = record { later = grown.later; queued = λ j first d h. inl (let a = grown.queued j first d in omega (arith, a, h)); told = λ fed. by fed e.tells }
+  starved_ends k s t e = record { later = grown.later; queued = none_more s t grown; advanced = none_further s t grown; told = λ fed. by fed e.tells }
     where
       grown : Stays s.view t.view
       grown = ended_stays k.slot (parts k.word.0).first s.view t.view e.ended
@@ -229,8 +253,17 @@ module _ {O : Type 0} {g : Ghosts O} (state : O → OutState) (p : Plan) (q : id
       by fed (told is) = let z : true ≡ false = sym (ap (λ (b : Books). b.starved) is) ∙ fed in absurd (cc)
       by fed (lost is) = let z : true ≡ false = sym (ap (λ (b : Books). b.starved) is) ∙ fed in absurd (cc)
 
-  keeps : (s t : CallStand) (r : Retry) → Stays s.view t.view → t.books ≡ keeping r s.books → Caused s t
-  keeps s t r g e = caused_books s t g (ap (λ (y : Books). y.told) e) (ap (λ (y : Books). y.starved) e)
+  -- the attempt of a lock advances
+  steps : (k : IdLock Asked) (code : ℕ) (attempt : Maybe ℕ) (s t : CallStand) (r : Retry) → decision k code attempt ≡ decisions.Retry → CauseHere s.view k code attempt → Steps k s.view t.view → t.books ≡ keeping r s.books → Caused s t
+  steps k code attempt s t r goes_on c g e = record {
+    later = g.later;
+    queued = λ j first d h. inl (let a = g.queued j first d in omega (arith, a, h));
+    advanced = λ j first n h. elim (g.advanced j first n h) [
+      | inl x ↦ inl x
+      | inr x ↦ inr (record { lock = k; code = code; attempt = attempt; slot_is = x.0; first_is = x.1; next = x.2; goes_on = goes_on; cause = cause_later s.view t.view g.later k code attempt c })
+    ];
+    told = λ fed. (sym (ap (λ (y : Books). y.starved) e) ∙ fed, ([], ap (λ (y : Books). y.told) e ∙ sym (append-nil s.books.told), tt));
+  }
 
   -- what is handed out instead of a lock
   next_cause : (u w : View Asked) (k l : IdLock Asked) (advance : Bool) (code : ℕ) (attempt : Maybe ℕ) → k.slot < q.slots → HasLockOf k u → UnlockOk u w k.slot (parts k.word.0) k.content advance (unlocked.Next l code attempt) → CauseHere w l code attempt
@@ -243,7 +276,7 @@ module _ {O : Type 0} {g : Ghosts O} (state : O → OutState) (p : Plan) (q : id
         inside = (let a = h.0 in omega (arith, a, inside));
         seen = record { word = h.4.0; found = found; taken = (let a = r.was_locked in omega (arith, a)); first_is = first; range_is = sym (ap (λ (y : Parts). y.range) r.left.1) };
         locked = (
-            let now = (handed_stays u w k l advance code attempt h).later.notes k.slot (is_locked_for (parts k.word.0).first k.content.operation) in
+            let now = (handed_later u w k l advance code attempt h).notes k.slot (is_locked_for (parts k.word.0).first k.content.operation) in
             let a : total (is_locked_for (parts l.word.0).first l.content.operation) (notes_of l.slot w.notes) ≡ total (is_locked_for (parts k.word.0).first k.content.operation) (notes_of k.slot w.notes)
             = λ i. total (is_locked_for (same i) (h.1 i).operation) (notes_of (h.0 i) w.notes) in omega (arith, now, a, has)
             );
@@ -257,9 +290,9 @@ module _ {O : Type 0} {g : Ghosts O} (state : O → OutState) (p : Plan) (q : id
   pub decided : {s : CallStand} {k : IdLock Asked} {code : ℕ} {attempt : Maybe ℕ} {t : CallStand} → Decided s k code attempt t → CauseHere s.view k code attempt → Caused s t
   decided (handling.ends s k code attempt t a b e) c = lock_ends k code attempt s t b c e
   decided (handling.starves s k code attempt t a e) c = starved_ends k s t e
-  decided (handling.waits s k code attempt t a b e) c = keeps s t e.retry (opened_stays s.view t.view k true e.unlocked) e.kept
+  decided (handling.waits s k code attempt t a b e) c = steps k code attempt s t e.retry b c (opened_steps s.view t.view k e.unlocked) e.kept
   decided (handling.goes_on s k code attempt t u l next of a b e rest) c =
-      in_turn s u t (keeps s u e.retry (handed_stays s.view u.view k l true next of e.unlocked) e.kept) (decided rest (next_cause s.view u.view k l true next of c.inside c.locked e.unlocked))
+      in_turn s u t (steps k code attempt s u e.retry b c (handed_steps s.view u.view k l next of e.unlocked) e.kept) (decided rest (next_cause s.view u.view k l true next of c.inside c.locked e.unlocked))
 
   seen_only : (s : CallStand) (v : View Asked) (t : CallStand) → Quiet s.view v → t ≡ record { view = v; books = s.books } → Caused s t
   seen_only s v t quiet e = let u : CallStand = record { view = v; books = s.books } in in_turn s u t (caused_seen s u (quiet_stays s.view v quiet) refl) (caused_same u t e)
@@ -321,8 +354,9 @@ module _ {O : Type 0} {g : Ghosts O} (state : O → OutState) (p : Plan) (q : id
     where
       by : ToldDrop q.slots d.msg d.code s t → Caused s t
       by (of_send e is) = caused_same s t is
-      by (of_call ne b) = posted s d.msg.owner d.code (Some d.msg.label.attempt) t b (λ counts. dropped d.msg.label.attempt
-      (record { life = id; before = v; calls = s; after = w; calls_after = t; drop = d; behind = behind; inside = inside; call = ne; owner = refl; code_is = refl; attempt_is = refl }) refl)
+      by (of_call ne b) =
+          let it : WasDropped state p q ds d.msg.owner d.code d.msg.label.attempt = record { life = id; before = v; calls = s; after = w; calls_after = t; drop = d; behind = behind; inside = inside; call = ne; owner = refl; code_is = refl; attempt_is = refl } in
+          posted s d.msg.owner d.code (Some d.msg.label.attempt) t b (λ counts. dropped d.msg.label.attempt it refl)
 
   dropped_all : (id : ℕ) (v : sock_view.View) (s : CallStand) (w : sock_view.View) (t : CallStand) → DroppedAll state p q.slots id v s w t → socket_id_slot id < p.slots → Behind w → Caused s t
   dropped_all id v s _ _ draining.none inside behind = caused_same s s refl
@@ -378,7 +412,7 @@ module _ {O : Type 0} {g : Ghosts O} (state : O → OutState) (p : Plan) (q : id
   begun_by asked id s t h behind why =
       let m = h.made_for in let u : CallStand = record { view = m.view; books = s.calls.books } in let n : Note Asked = Made (version_of id) asked.range asked in
       let f : Note Asked → ℕ = is_made_for (version_of id) asked.operation in
-      let made = did_stays (slot_of id) s.calls.view m.view _ (one (slot_of id) n) (one_none (slot_of id) n (λ x y. refl)) m.made.did in
+      let made = did_stays (slot_of id) s.calls.view m.view _ (one (slot_of id) n) (one_silent (slot_of id) n (λ x y. refl) (λ x y. refl)) m.made.did in
       let noted = kept_stays m.view h.at.calls.view _ _ _ m.noted in
       let known : IsMade asked.operation id h.at.calls.view = (
       let a = did_total f (made_silent (version_of id) asked.operation) (slot_of id) s.calls.view m.view _ (one (slot_of id) n) m.made.did (slot_of id) in
@@ -398,10 +432,10 @@ module _ {O : Type 0} {g : Ghosts O} (state : O → OutState) (p : Plan) (q : id
   retried_by r s t (overtaken k u l o) behind why =
       let x : CallStand = record { view = o.view; books = u.calls.books } in
       let has = got_locked k.slot s.calls.view u.calls.view l.got.word (parts k.word.0) k.content l.got.got in
-      in_turn s.calls u.calls t.calls (locked r k s u l) (in_turn u.calls x t.calls (caused_seen u.calls x (handed_stays u.calls.view o.view k o.next false o.code o.attempt o.unlocked) refl) (decided o.decided (next_cause u.calls.view o.view k o.next false o.code o.attempt l.got.inside has o.unlocked)))
+      in_turn s.calls u.calls t.calls (locked r k s u l) (in_turn u.calls x t.calls (caused_seen u.calls x (handed_stays u.calls.view o.view k o.next o.code o.attempt o.unlocked) refl) (decided o.decided (next_cause u.calls.view o.view k o.next false o.code o.attempt l.got.inside has o.unlocked)))
   retried_by r s t (went_again k u l w) behind why =
       let x : CallStand = record { view = w.view; books = u.calls.books } in
-      in_turn s.calls u.calls t.calls (locked r k s u l) (in_turn u.calls x t.calls (caused_seen u.calls x (opened_stays u.calls.view w.view k false w.unlocked) refl) (went_to Nothing (λ v y l h. tt) _ _ (record { socks = u.socks; calls = x }) t w.went behind tt why))
+      in_turn s.calls u.calls t.calls (locked r k s u l) (in_turn u.calls x t.calls (caused_seen u.calls x (opened_stays u.calls.view w.view k w.unlocked) refl) (went_to Nothing (λ v y l h. tt) _ _ (record { socks = u.socks; calls = x }) t w.went behind tt why))
 
   -- ## Deeds
 
@@ -493,5 +527,12 @@ module _ {O : Type 0} {g : Ghosts O} (state : O → OutState) (p : Plan) (q : id
   pub run_queued : (c d : Caller O g) (r : RunBy state p q false xs c d) → AreDeeds c d r → c.calls.seat.me.0.notes ≡ [] → AreSays d.outcomes.items → (i first e : ℕ) → 0 < queued_in i first e d.calls.seat.me.0.notes → QueuedHere d.calls.seat.me.0 i first e
   run_queued c d r among nothing says i first e h = elim ((run_all c d r among says).queued i first e h) [
     | inl before ↦ absurd (let a = ap (queued_in i first e) nothing in omega (arith, a, before))
+    | inr why ↦ why
+  ]
+
+  -- and each advance that it noted had a cause
+  pub run_advanced : (c d : Caller O g) (r : RunBy state p q false xs c d) → AreDeeds c d r → c.calls.seat.me.0.notes ≡ [] → AreSays d.outcomes.items → (i first n : ℕ) → 0 < advanced_in i first n d.calls.seat.me.0.notes → AdvancedHere d.calls.seat.me.0 i first n
+  run_advanced c d r among nothing says i first n h = elim ((run_all c d r among says).advanced i first n h) [
+    | inl before ↦ absurd (let a = ap (advanced_in i first n) nothing in omega (arith, a, before))
     | inr why ↦ why
   ]

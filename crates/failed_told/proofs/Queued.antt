@@ -1,6 +1,8 @@
 -- Which codes are queued in the words of ids.
 use Rattle.std.proofs.Common.{◌≡◌, ℕ, ◌<◌, ◌⊎◌, inl, inr, List, [], ◌∷◌, Some, refl, sym, ◌∙◌, subst, ap, arith}
 use Rattle.std.specs.Prelude.{Option, Contains, slice_get}
+use mathlib.Core.Option.{some}
+use lib.ListN.{get_elem?}
 use Rattle.expire_told.specs.report_fits.proofs.Lists.{contains_from}
 use Rattle.sock_io.specs.declared.link.Out.{Ghosts}
 use Rattle.sock_io.specs.Link.{OutState}

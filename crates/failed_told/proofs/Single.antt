@@ -74,10 +74,10 @@ call_operation : (a b : Asked) → ops.Call a ≡ ops.Call b → a.operation ≡
 unfolding operation_in
 call_operation a b e = ap operation_in e
 
-none_there : (m : ℕ) (e : Entry) → get_elem? [] m ≡ some e → ⊥
+pub none_there : (m : ℕ) (e : Entry) → get_elem? [] m ≡ some e → ⊥
 none_there m e h = some-ne-none e (sym h)
 
-one_there : (m : ℕ) (x e : Entry) → get_elem? (x ∷ []) m ≡ some e → x ≡ e
+pub one_there : (m : ℕ) (x e : Entry) → get_elem? (x ∷ []) m ≡ some e → x ≡ e
 one_there zero x e h = some-injective x e h
 one_there (suc m) x e h = absurd (none_there m e h)
 
@@ -255,7 +255,7 @@ module _ {O : Type 0} {g : Ghosts O} {state : O → OutState} {p : Plan} {slots 
     abbrev went : Deed g state p q
     went = retries r s t (went_again k u l w)
 
-    again_id : get_elem? (deeds_of x) i ≡ some went → IsIdOf slots notes k.content.operation r.id
+    pub again_id : get_elem? (deeds_of x) i ≡ some went → IsIdOf slots notes k.content.operation r.id
     again_id there =
         let slot : ℕ = slot_of r.id in let version : ℕ = version_of r.id in
         let whole : slot * 4294967296 + version ≡ r.id = div-add-mod' r.id 4294967296 in

@@ -1,5 +1,5 @@
--- Why a client posts an error to a call, and where the error comes from by which a call ended.
-use Rattle.std.specs.Prelude.{◌≡◌, ◌≢◌, ℕ, ◌<◌, ◌≤◌, ◌⊎◌, List, Some, None}
+-- Why a client posts an error to a call, and where the error comes from by which a call ended or was tried again.
+use Rattle.std.specs.Prelude.{◌≡◌, ◌≢◌, ℕ, ◌+◌, ◌<◌, ◌≤◌, ◌⊎◌, List, Some, None}
 use Rattle.std.specs.Prelude.{Option as Maybe}
 use mathlib.Core.Option.{some}
 use lib.ListN.{get_elem?}
@@ -126,4 +126,15 @@ module _ {O : Type 0} {g : Ghosts O} (state : O → OutState) (p : Plan) (q : id
     pub attempt : Maybe ℕ
     pub is : x ≡ failed lock code
     pub ends : decision lock code attempt ≡ decisions.End
+    pub cause : Cause v lock code attempt
+
+  -- the id with this first version in slot i advanced to attempt n: for an error that left it retries, which a lock at the attempt before had
+  pub record AdvancedFor (v : View Asked) (i first n : ℕ) : Type 0 where
+    pub lock : IdLock Asked
+    pub code : ℕ
+    pub attempt : Maybe ℕ
+    pub slot_is : lock.slot ≡ i
+    pub first_is : (parts lock.word.0).first ≡ first
+    pub next : n ≡ (parts lock.word.0).attempt + 1
+    pub goes_on : decision lock code attempt ≡ decisions.Retry
     pub cause : Cause v lock code attempt
