@@ -1,4 +1,4 @@
--- Of all clients of a run: each end of a call that one of them told goes back to an error that was posted, and so does each error that one of them queued.
+-- Of all clients of a run: each end of a call that one of them told goes back to an error that was posted, and so does each error that one of them queued, and each advance of an id that one of them noted.
 use Rattle.std.proofs.Common.{◌≡◌, ◌<◌, ℕ, List, ◌∷◌, sym, ap, ◌∙◌}
 use Rattle.std.specs.Prelude.{Option}
 use Rattle.std.specs.List.{AllByRecursion}
@@ -23,9 +23,9 @@ use Rattle.expire_told.specs.call_places.proofs.Clients.{Client, view_of, tasks_
 use Rattle.expire_told.specs.call_places.proofs.Places.{all as all_clients, all_are}
 use Rattle.expire_told.specs.Said.{AreSaid}
 use Rattle.expire_told.proofs.Doing.{run_fed}
-use Rattle.failed_told.specs.Reasons.{IsCaused, QueuedFor}
-use Rattle.failed_told.proofs.Views.{queued_in}
-use Rattle.failed_told.proofs.Origins.{AreDeeds, run_caused, run_queued}
+use Rattle.failed_told.specs.Reasons.{IsCaused, QueuedFor, AdvancedFor}
+use Rattle.failed_told.proofs.Views.{queued_in, advanced_in}
+use Rattle.failed_told.proofs.Origins.{AreDeeds, run_caused, run_queued, run_advanced}
 
 module _ {O : Type 0} {g : Ghosts O} {state : O → OutState} {p : Plan} {slots : ℕ} {setup : List Task} {clients : List (List Task)} {opens : List ℕ} {told ended : List (List Told)} {places : List PlaceWord} {vrefs : List Vref} {outs : List O} {ids : List (View Asked)}
     (run : RanOn g state p slots setup clients opens told ended places vrefs outs ids) (outcomes : List (Option Outcome)) (said : AreSaid outcomes told) where
@@ -38,7 +38,7 @@ module _ {O : Type 0} {g : Ghosts O} {state : O → OutState} {p : Plan} {slots 
   abbrev pub Says : ℕ → Outcome → Type 0
   Says n o = Became (setup ∷ clients) outcomes n o
 
-  says_own : (c : ℕ) (x : Client g state p (ids_of p slots)) → get_elem? (all_clients run) c ≡ some x → (j : ℕ) (y : Told) → get_elem? x.thread.ended.outcomes.items j ≡ some y → Says y.number y.outcome
+  pub says_own : (c : ℕ) (x : Client g state p (ids_of p slots)) → get_elem? (all_clients run) c ≡ some x → (j : ℕ) (y : Told) → get_elem? x.thread.ended.outcomes.items j ≡ some y → Says y.number y.outcome
   says_own c x at j y there =
       let f : Thread g → List Told = λ y. y.ended.outcomes.items in
       let list : get_elem? told c ≡ some x.thread.ended.outcomes.items = ap (λ (l : List (List Told)). get_elem? l c) (sym (all_are run f ∙ run.ran.told_is)) ∙ mapped (λ (y : Client g state p (ids_of p slots)). f y.thread) (all_clients run) c x at in
@@ -58,3 +58,7 @@ module _ {O : Type 0} {g : Ghosts O} {state : O → OutState} {p : Plan} {slots 
   -- it had a reason for each error that it queued
   pub queued_caused : (c : ℕ) (x : Client g state p (ids_of p slots)) → get_elem? (all_clients run) c ≡ some x → (i first e : ℕ) → 0 < queued_in i first e (view_of x).notes → QueuedFor state p (ids_of p slots) (tasks_of x) Says (deeds_of x) (view_of x) i first e
   queued_caused c x at = run_queued state p (ids_of p slots) (tasks_of x) Says (deeds_of x) x.thread.began x.thread.ended x.is.ran (are_deeds x) (ap (λ (m : Me (Option Asked) (View Asked)). m.0.notes) x.is.ids) (says_own c x at)
+
+  -- and a cause for each advance that it noted
+  pub advanced_caused : (c : ℕ) (x : Client g state p (ids_of p slots)) → get_elem? (all_clients run) c ≡ some x → (i first n : ℕ) → 0 < advanced_in i first n (view_of x).notes → AdvancedFor state p (ids_of p slots) (tasks_of x) Says (deeds_of x) (view_of x) i first n
+  advanced_caused c x at = run_advanced state p (ids_of p slots) (tasks_of x) Says (deeds_of x) x.thread.began x.thread.ended x.is.ran (are_deeds x) (ap (λ (m : Me (Option Asked) (View Asked)). m.0.notes) x.is.ids) (says_own c x at)

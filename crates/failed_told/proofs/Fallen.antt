@@ -8,7 +8,7 @@ use lib.ListN.{get_elem?}
 use Rattle.atomic_table.specs.declared.shared.Seat.{Seat}
 use Rattle.sock_io.specs.declared.link.Out.{Ghosts}
 use Rattle.sock_io.specs.Link.{OutState}
-use Rattle.sock_words.specs.Codes.{EFAILEDSOCKET}
+use Rattle.sock_words.specs.Codes.{EFAILEDSOCKET, EREQUESTS}
 use Rattle.sock_words.specs.Words.{socket_id_slot, socket_id_version}
 use Rattle.sock_words.specs.declared.outcome.Outcome.{Outcome}
 use Rattle.sock_words.specs.declared.plain.Plan.{Plan}
@@ -24,7 +24,7 @@ use Rattle.seat_programs.specs.declared.task.Op.{Op}
 use Rattle.seat_programs.specs.declared.task.Op.TheVariants as ops
 use Rattle.seat_programs.specs.declared.task.Task.{Task}
 use Rattle.seat_programs.specs.Told.{AreTasks}
-use Rattle.seat_programs.specs.ToldCalls.{Accepted, Fixed, IsFailing, IsUnordered, WasFailing, FailedBy, BySocket, ByRequests, all_accepted}
+use Rattle.seat_programs.specs.ToldCalls.{Accepted, Fixed, IsFailing, IsUnordered, WasFull, WhyLost, WasFailing, FailedBy, BySocket, ByRequests, all_accepted}
 use Rattle.corr_core.specs.Law.{is_made}
 use Rattle.corr_core.specs.declared.marks.Kept.{Kept}
 use Rattle.corr_core.specs.declared.marks.Note.{Note}
@@ -84,7 +84,7 @@ same_range a b e = ap range_in e
 
 module _ {O : Type 0} (g : Ghosts O) (state : O → OutState) (p : Plan) where
   -- where a chain ends: at its begin, or behind its last deed
-  chain_last : (ds : List (socks.Deed g state p)) (s t : socks.Hand) → socks.Chain g state p ds s t → (t ≡ s) ⊎ ((k : ℕ) × (d : socks.Deed g state p) × (get_elem? ds k ≡ some d) × (t ≡ d.after))
+  pub chain_last : (ds : List (socks.Deed g state p)) (s t : socks.Hand) → socks.Chain g state p ds s t → (t ≡ s) ⊎ ((k : ℕ) × (d : socks.Deed g state p) × (get_elem? ds k ≡ some d) × (t ≡ d.after))
   chain_last [] s t e = inl e
   chain_last (d ∷ ds) s t h = elim (chain_last ds d.after t h.1) [ inl e ↦ inr (0, d, refl, e) | inr w ↦ inr (suc w.0, w.1, w.2, w.3) ]
 
@@ -158,7 +158,7 @@ module _ {O : Type 0} {g : Ghosts O} {state : O → OutState} {p : Plan} {slots 
   fixed_here = fixed drun differ gave
 
   -- the seat of a client
-  its_seat : (c : ℕ) (x : Client g state p q) → get_elem? crew c ≡ some x → (y : Seated g state p) × (get_elem? drun.seats c ≡ some y) × (y.ended.view ≡ x.thread.ended.seat.me.0)
+  pub its_seat : (c : ℕ) (x : Client g state p q) → get_elem? crew c ≡ some x → (y : Seated g state p) × (get_elem? drun.seats c ≡ some y) × (y.ended.view ≡ x.thread.ended.seat.me.0)
   its_seat c x at =
       let f : Thread g → Seat (SockHome O g) sock_view.View = λ z. z.ended.seat in
       let list : get_elem? (map seat_of drun.seats) c ≡ some x.thread.ended.seat = ap (λ l. get_elem? l c) (seats ∙ sym (all_are run f)) ∙ mapped (λ (z : Client g state p q). f z.thread) crew c x at in
@@ -166,7 +166,7 @@ module _ {O : Type 0} {g : Ghosts O} {state : O → OutState} {p : Plan} {slots 
       (w.0, w.1, sym w.0.left ∙ ap (λ s. s.me.0) w.2)
 
   -- what a deed's seat saw by it, it has in the end
-  reached : (c : ℕ) (x : Client g state p q) → get_elem? crew c ≡ some x → (i : ℕ) (d : Deed g state p q) → get_elem? (deeds_of x) i ≡ some d → Reaches state p q {g = g} x.thread.ended.seat.me.0 d
+  pub reached : (c : ℕ) (x : Client g state p q) → get_elem? crew c ≡ some x → (i : ℕ) (d : Deed g state p q) → get_elem? (deeds_of x) i ≡ some d → Reaches state p q {g = g} x.thread.ended.seat.me.0 d
   reached c x at i d there = all_at (Reaches state p q {g = g} x.thread.ended.seat.me.0) (deeds_of x) i d (deeds_reach x.thread x.is) there
 
   -- ## One id
@@ -209,21 +209,25 @@ module _ {O : Type 0} {g : Ghosts O} {state : O → OutState} {p : Plan} {slots 
       fell : FailedBy p every outcomes fixed_here gave (orders drun differ) client o asked id code n → Fallen client o asked id n
       none_opened : code ≡ EFAILEDSOCKET → (u : sock_view.View) → Found p (name_of asked n) None u (socks_behind d) → Fallen client o asked id n
 
-    pub fallen : (client o : ℕ) (asked : Asked) (id : ℕ) → IsOperation every outcomes client asked.operation (ops.Call asked) → IsUnordered p every outcomes fixed_here gave (orders drun differ) o (attempt_of d) → attempt_of d + 2 ≡ asked.range
-        → WhyMissed p q (name_of asked (attempt_of d)) asked.operation code (socks_behind d) → Fallen client o asked id (attempt_of d)
-    fallen client o asked id is none_ last (was_dead same dead) =
+    -- why it came to nothing, as it is told; or its name had no socket
+    pub data WhyNothing (client o : ℕ) (asked : Asked) : Type 0 where
+      had_failed : code ≡ EFAILEDSOCKET → WhyLost p every outcomes fixed_here gave (orders drun differ) client o (attempt_of d) (name_of asked (attempt_of d)) → WhyNothing client o asked
+      were_full : code ≡ EREQUESTS → WasFull p every outcomes fixed_here gave (orders drun differ) → WhyNothing client o asked
+      had_none : code ≡ EFAILEDSOCKET → (u : sock_view.View) → Found p (name_of asked (attempt_of d)) None u (socks_behind d) → WhyNothing client o asked
+
+    pub why_nothing : (client o : ℕ) (asked : Asked) → IsOperation every outcomes client asked.operation (ops.Call asked) → WhyMissed p q (name_of asked (attempt_of d)) asked.operation code (socks_behind d) → WhyNothing client o asked
+    why_nothing client o asked is (was_dead same dead) =
         let y = its_seat c x at in
         let low = (fits drun client record { number = asked.operation; op = ops.Call asked } is).1.names (attempt_of d) in
         let seen = subst (SawDead p (name_of asked (attempt_of d))) (sym y.2) (dead_later p (name_of asked (attempt_of d)) (socks_behind d) x.thread.ended.seat.me.0 (reached c x at i d there) dead) in
         let l = dead_by drun c y.0 y.1 (name_of asked (attempt_of d)) low seen in
-        fell (BySocket same last (inl none_) (WasFailing l.link l.slot l.version l.made (is_failing (name_of asked (attempt_of d)) l)))
-    fallen client o asked id is none_ last (was_full same full) =
+        had_failed same (WasFailing l.link l.slot l.version l.made (is_failing (name_of asked (attempt_of d)) l))
+    why_nothing client o asked is (was_full same full) =
         let y = its_seat c x at in
         let seen = subst (SawFull p) (sym y.2) (full_later p (socks_behind d) x.thread.ended.seat.me.0 (reached c x at i d there) full) in
-        let many = full_by drun c y.0 y.1 seen in
-        fell (ByRequests same last none_ (omega (arith, many, all_there)))
-    fallen client o asked id is none_ last (was_unopened same u found) = none_opened same u found
-    fallen client o asked id is none_ last (was_stray stray) = absurd (by stray)
+        let many = full_by drun c y.0 y.1 seen in were_full same (omega (arith, many, all_there))
+    why_nothing client o asked is (was_unopened same u found) = had_none same u found
+    why_nothing client o asked is (was_stray stray) = absurd (by stray)
       where
         fit : (asked.operation < p.operations) × (name_of asked (attempt_of d) < p.names)
         fit = let f = (fits drun client record { number = asked.operation; op = ops.Call asked } is).1 in (f.operation, f.names (attempt_of d))
@@ -232,3 +236,12 @@ module _ {O : Type 0} {g : Ghosts O} {state : O → OutState} {p : Plan} {slots 
         by (inl a) = let b = fit.1 in omega (arith, a, b)
         by (inr (inl a)) = let b = fit.0 in omega (arith, a, b)
         by (inr (inr a)) = let b = fit.0 in omega (arith, a, b)
+
+    pub fallen : (client o : ℕ) (asked : Asked) (id : ℕ) → IsOperation every outcomes client asked.operation (ops.Call asked) → IsUnordered p every outcomes fixed_here gave (orders drun differ) o (attempt_of d) → attempt_of d + 2 ≡ asked.range
+        → WhyMissed p q (name_of asked (attempt_of d)) asked.operation code (socks_behind d) → Fallen client o asked id (attempt_of d)
+    fallen client o asked id is none_ last why = by (why_nothing client o asked is why)
+      where
+        by : WhyNothing client o asked → Fallen client o asked id (attempt_of d)
+        by (had_failed same lost) = fell (BySocket same last (inl none_) lost)
+        by (were_full same full) = fell (ByRequests same last none_ full)
+        by (had_none same u found) = none_opened same u found

@@ -1,4 +1,5 @@
 pub mod Views
+pub mod Keeping
 pub mod Origins
 pub mod Clients
 pub mod Codes
@@ -11,5 +12,21 @@ pub mod Losses
 pub mod Single
 pub mod Reaching
 pub mod Fallen
+pub mod DropCodes
+pub mod Owners
+pub mod Drops
+pub mod PostedCodes
 pub mod Asked
 pub mod Whole
+mod SeenTmp
+mod NamesTmp
+mod SizesTmp
+pub mod Crew
+pub mod Before
+pub mod Makers
+pub mod Seeking
+pub mod Unopened
+pub mod Premises
+pub mod Ended
+pub mod Advances
+pub mod Again

@@ -73,7 +73,7 @@ module _ {O : Type 0} {g : Ghosts O} {state : O → OutState} {p : Plan} {q : id
   pub reason_low : {xs : List Task} {S : ℕ → Outcome → Type 0} {ds : List (Deed g state p q)} {v : View Asked} {id code : ℕ} {attempt : Option ℕ} → Reason state p q xs S ds v id code attempt → IsLow attempt
   reason_low {attempt = attempt} (timed_out i x operation by s t h there is says counts keeps a b c) = subst IsLow (sym c) tt
   reason_low {attempt = attempt} (missed i d there is backed a b) = low_of attempt (attempt_of d) (attempt_low d) b
-  reason_low {attempt = attempt} (dropped life x s y t h a b c) = low_of attempt h.msg.label.attempt h.msg.numbered c
+  reason_low {attempt = attempt} (dropped n d z) = low_of attempt n (let a = d.attempt_is in let b = d.drop.msg.numbered in omega (arith, a, b)) z
 
 -- ## The run
 

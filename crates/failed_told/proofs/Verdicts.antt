@@ -13,7 +13,6 @@ use Rattle.sock_words.specs.declared.outcome.Outcome.TheVariants as outcome
 use Rattle.sock_words.specs.declared.plain.Plan.{Plan}
 use Rattle.sock_words.specs.declared.place_word.PlaceWord.{PlaceWord}
 use Rattle.sock_words.specs.declared.vref.Vref.{Vref}
-use Rattle.sock_model.specs.declared.view.View as sock_view
 use Rattle.seat_programs.specs.declared.task.Op.TheVariants as ops
 use Rattle.seat_programs.specs.declared.task.Task.{Task}
 use Rattle.seat_programs.specs.Told.{AreTasks, IsTask, Became}
@@ -37,11 +36,9 @@ use Rattle.corr_id.proofs.Ranges.{lock_range}
 use Rattle.expire_told.specs.rpc_client.specs.declared.acting.Told.{Told}
 use Rattle.call_table.specs.Errors.{is_final}
 use Rattle.call_table.specs.declared.errors.Decision.TheVariants as decisions
-use Rattle.expire_told.specs.call_errors.specs.Books.{CallStand}
 use Rattle.expire_told.specs.call_errors.specs.Locking.{id_in}
 use Rattle.expire_told.specs.call_errors.specs.Ending.{failed}
 use Rattle.expire_told.specs.call_errors.specs.Handling.{decision}
-use Rattle.expire_told.specs.call_writes.specs.Draining.{DroppedOne}
 use Rattle.expire_told.specs.call_run.specs.Threads.{RanOn, MayRunAll, ids_of}
 use Rattle.expire_told.specs.call_places.specs.Counted.{HaveNotesOf}
 use Rattle.expire_told.specs.call_places.specs.Deeds.{Deed}
@@ -55,7 +52,7 @@ use Rattle.expire_told.specs.Said.{AreSaid, HaveKeptOf}
 use Rattle.expire_told.proofs.Expires.{found_maker}
 use Rattle.expire_told.proofs.Making.{slice_at}
 use Rattle.failed_told.specs.Missed.{missed_in, id_of, IsBacked, attempt_of}
-use Rattle.failed_told.specs.Reasons.{KeepsWord, Reason, timed_out, missed, dropped, IsCaused}
+use Rattle.failed_told.specs.Reasons.{KeepsWord, WasDropped, Reason, timed_out, missed, dropped, IsCaused}
 use Rattle.failed_told.proofs.Clients.{Says}
 use Rattle.failed_told.proofs.Codes.{IsMissCode, IsReadCode, deed_code}
 use Rattle.failed_told.proofs.Posters.{Poster, within, posted_by}
@@ -74,18 +71,6 @@ either a b none_ e = subst (λ (x : Bool). (x || b) ≡ true) none_ e
 -- an error for an attempt, with a code that leaves retries, ends a call at the last attempt of its range
 pub last_one : (k : IdLock Asked) (code n : ℕ) → is_final code ≡ false → decision k code (Some n) ≡ decisions.End → (parts k.word.0).attempt + 2 ≡ (parts k.word.0).range
 last_one k code n open_ e = let w : Parts = parts k.word.0 in eqb-true (w.attempt + 2) w.range (either (is_final code) (w.attempt + 2 == w.range) open_ (ends_true (is_final code || (w.attempt + 2 == w.range)) e))
-
--- a message of this attempt was dropped, with this code of its socket's life
-pub record WasDropped {O : Type 0} (state : O → OutState) (p : Plan) (q : id_plan.Plan) (id code n : ℕ) : Type 0 where
-  pub life : ℕ
-  pub before : sock_view.View
-  pub calls : CallStand
-  pub after : sock_view.View
-  pub calls_after : CallStand
-  pub drop : DroppedOne state p q.slots life before calls after calls_after
-  pub owner : id ≡ drop.msg.owner
-  pub code_is : code ≡ drop.code
-  pub attempt_is : n ≡ drop.msg.label.attempt
 
 -- ## The run
 
@@ -187,11 +172,14 @@ module _ {O : Type 0} {g : Ghosts O} {state : O → OutState} {p : Plan} {slots 
         pub id_is : id ≡ id_of deed
         pub attempt_is : attempt ≡ attempt_of deed
 
-      -- or its message was dropped
+      -- or its message was dropped, by a client's deed
       pub record DroppedLast : Type 0 where
         pub attempt : ℕ
         pub current : IsCurrent attempt
-        pub drop : WasDropped state p q id e.code attempt
+        pub place : ℕ
+        pub client : Client g state p q
+        pub in_crew : get_elem? crew place ≡ some client
+        pub drop : WasDropped state p q (deeds_of client) id e.code attempt
 
       -- its time was out, its attempt came to nothing or was dropped, or whoever read the links ended it
       pub data Verdict : Type 0 where
@@ -206,8 +194,7 @@ module _ {O : Type 0} {g : Ghosts O} {state : O → OutState} {p : Plan} {slots 
       by_reason : (w : PosterHere id e.code e.attempt) → Reason state p q (tasks_of w.client) (Says run outcomes said_own) (deeds_of w.client) (view_of w.client) id e.code e.attempt → Verdict
       by_reason w (timed_out i t o by s u h there is says counts kept_ a b z) = timed b (expired_with o w.place i w.client t by w.at there is says counts kept_)
       by_reason w (missed i d there is backed a z) = lost (record { attempt = attempt_of d; current = is_current (attempt_of d) z; place = w.place; client = w.client; in_crew = w.at; index = i; deed = d; there = there; missed = is; backed = backed; id_is = a; attempt_is = refl })
-      by_reason w (dropped life before s after t h a b z) =
-          fell (record { attempt = h.msg.label.attempt; current = is_current h.msg.label.attempt z; drop = record { life = life; before = before; calls = s; after = after; calls_after = t; drop = h; owner = a; code_is = b; attempt_is = refl } })
+      by_reason w (dropped n d z) = fell (record { attempt = n; current = is_current n z; place = w.place; client = w.client; in_crew = w.at; drop = d })
 
       pub verdict : Verdict
       verdict = elim (posted_by run outcomes said_own notes kept words closing noted others c x at lock e.code e.attempt e.cause) [ inl w ↦ by_reason w w.reason | inr loss ↦ behind loss ]

@@ -1,15 +1,20 @@
--- Why a client posts an error to a call, and where the error comes from by which a call ended.
-use Rattle.std.specs.Prelude.{◌≡◌, ◌≢◌, ℕ, ◌<◌, ◌⊎◌, List, Some, None}
+-- Why a client posts an error to a call, and where the error comes from by which a call ended or was tried again.
+use Rattle.std.specs.Prelude.{◌≡◌, ◌≢◌, ℕ, ◌+◌, ◌<◌, ◌≤◌, ◌⊎◌, List, Some, None}
 use Rattle.std.specs.Prelude.{Option as Maybe}
 use mathlib.Core.Option.{some}
 use lib.ListN.{get_elem?}
 use Rattle.sock_io.specs.declared.link.Out.{Ghosts}
 use Rattle.sock_io.specs.Link.{OutState}
 use Rattle.sock_words.specs.Codes.{ERPCTIMEDOUT}
+use Rattle.sock_words.specs.Words.{socket_id_slot}
 use Rattle.sock_words.specs.declared.outcome.Outcome.{Outcome}
 use Rattle.sock_words.specs.declared.outcome.Outcome.TheVariants as outcome
 use Rattle.sock_words.specs.declared.plain.Plan.{Plan}
+use Rattle.sock_model.specs.declared.marks.Mark.{Mark}
+use Rattle.sock_model.specs.declared.marks.Mark.TheVariants.{Hold}
 use Rattle.sock_model.specs.declared.view.View as sock_view
+use Rattle.sock_model.specs.SlotRows.{marks_of}
+use Rattle.expire_told.specs.sock_rule.specs.OnTable.{put_in}
 use Rattle.seat_programs.specs.declared.task.Op.TheVariants as ops
 use Rattle.seat_programs.specs.declared.task.Task.{Task}
 use Rattle.corr_core.specs.Word.{parts}
@@ -34,7 +39,7 @@ use Rattle.expire_told.specs.call_errors.specs.Asking.{TimedOut}
 use Rattle.expire_told.specs.call_writes.specs.Draining.{DroppedOne}
 use Rattle.expire_told.specs.call_told.specs.Least.{is_locked_for}
 use Rattle.expire_told.specs.call_places.specs.Deeds.{Deed}
-use Rattle.failed_told.specs.Missed.{missed_in, id_of, IsBacked, attempt_of}
+use Rattle.failed_told.specs.Missed.{missed_in, id_of, IsBacked, attempt_of, socks_behind}
 
 -- the post locked the id, or its error was queued there
 abbrev pub Counts : Posted Asked → Type 0
@@ -54,6 +59,34 @@ pub record IsSeen (v : View Asked) (k : IdLock Asked) : Type 0 where
   pub first_is : (parts word).first ≡ (parts k.word.0).first
   pub range_is : (parts word).range ≡ (parts k.word.0).range
 
+-- what a seat noted of sockets, but for its references, and the words that it stored are there still
+pub record StillHas (v w : sock_view.View) : Type 0 where
+  pub marks : (f : Mark → ℕ) → ((h : ℕ) → f (Hold h) ≡ 0) → (i : ℕ) → marks_of f i v ≤ marks_of f i w
+  pub puts : (x n : ℕ) → put_in x n v ≤ put_in x n w
+
+module _ {O : Type 0} {g : Ghosts O} (state : O → OutState) (p : Plan) (q : id_plan.Plan) (ds : List (Deed g state p q)) where
+  -- the seat has still, behind one of these deeds, what it had here
+  pub record IsBehind (v : sock_view.View) : Type 0 where
+    pub index : ℕ
+    pub deed : Deed g state p q
+    pub there : get_elem? ds index ≡ some deed
+    pub still : StillHas v (socks_behind deed)
+
+  -- by one of these deeds a message of attempt n of the call with this id was dropped, with this code of its socket's life
+  pub record WasDropped (id code n : ℕ) : Type 0 where
+    pub life : ℕ
+    pub before : sock_view.View
+    pub calls : CallStand
+    pub after : sock_view.View
+    pub calls_after : CallStand
+    pub drop : DroppedOne state p q.slots life before calls after calls_after
+    pub behind : IsBehind after
+    pub inside : socket_id_slot life < p.slots
+    pub call : drop.msg.owner ≢ 0
+    pub owner : id ≡ drop.msg.owner
+    pub code_is : code ≡ drop.code
+    pub attempt_is : n ≡ drop.msg.label.attempt
+
 -- a client was asked for these operations, says these outcomes of them, and did these deeds
 module _ {O : Type 0} {g : Ghosts O} (state : O → OutState) (p : Plan) (q : id_plan.Plan) (xs : List Task) (Says : ℕ → Outcome → Type 0) (ds : List (Deed g state p q)) where
   -- the error with this code was posted to the call with this id, for the attempt or for the whole call: by an `expire`; since the attempt, one of the client's deeds, came to nothing; or since its message was dropped, with the code of the socket's life
@@ -61,7 +94,7 @@ module _ {O : Type 0} {g : Ghosts O} (state : O → OutState) (p : Plan) (q : id
     timed_out : (i : ℕ) (x : Task) (operation : ℕ) (by : Outcome) (s t : CallStand) (h : TimedOut q operation by s t) → get_elem? xs i ≡ some x → x.op ≡ ops.Expire operation → Says x.number by → (by ≡ outcome.Expired) ⊎ (by ≡ outcome.Queued) → KeepsWord (call_index q operation) id v
         → id ≡ h.id → code ≡ ERPCTIMEDOUT → attempt ≡ None → Reason v id code attempt
     missed : (i : ℕ) (d : Deed g state p q) → get_elem? ds i ≡ some d → missed_in d ≡ Some code → IsBacked v d → id ≡ id_of d → attempt ≡ Some (attempt_of d) → Reason v id code attempt
-    dropped : (life : ℕ) (a : sock_view.View) (s : CallStand) (b : sock_view.View) (t : CallStand) (d : DroppedOne state p q.slots life a s b t) → id ≡ d.msg.owner → code ≡ d.code → attempt ≡ Some d.msg.label.attempt → Reason v id code attempt
+    dropped : (n : ℕ) → WasDropped state p q ds id code n → attempt ≡ Some n → Reason v id code attempt
 
   -- an error that is queued for the id with this first version in slot i is one that the client had a reason to post
   pub record QueuedFor (v : View Asked) (i first e : ℕ) : Type 0 where
@@ -93,4 +126,15 @@ module _ {O : Type 0} {g : Ghosts O} (state : O → OutState) (p : Plan) (q : id
     pub attempt : Maybe ℕ
     pub is : x ≡ failed lock code
     pub ends : decision lock code attempt ≡ decisions.End
+    pub cause : Cause v lock code attempt
+
+  -- the id with this first version in slot i advanced to attempt n: for an error that left it retries, which a lock at the attempt before had
+  pub record AdvancedFor (v : View Asked) (i first n : ℕ) : Type 0 where
+    pub lock : IdLock Asked
+    pub code : ℕ
+    pub attempt : Maybe ℕ
+    pub slot_is : lock.slot ≡ i
+    pub first_is : (parts lock.word.0).first ≡ first
+    pub next : n ≡ (parts lock.word.0).attempt + 1
+    pub goes_on : decision lock code attempt ≡ decisions.Retry
     pub cause : Cause v lock code attempt

@@ -1,0 +1,251 @@
+-- With which code a life was failed: that of the `fail` of its name that was answered `failed`, or EFAILEDSOCKET where its link failed. And where a dropped message stands.
+use Rattle.std.proofs.Common.{◌≡◌, ◌≢◌, ℕ, zero, suc, ◌+◌, ◌*◌, ◌<◌, ◌≤◌, ◌⊎◌, inl, inr, Bool, true, false, cond, eqb, List, [], ◌∷◌, ◌++◌, length, flat_map, map, append-nil, refl, sym, ap, ◌∙◌, subst, arith}
+use Rattle.std.specs.Prelude.{Option, None, slice_index}
+use mathlib.Core.Logic.{dite}
+use mathlib.Core.Option.{some, some-injective, some-ne-none}
+use native.Mathlib.Decide.{ℕ_discrete, dec_lt}
+use lib.ListN.{get_elem?}
+use Rattle.atomic_table.specs.declared.shared.Seat.{Seat}
+use Rattle.sock_io.specs.declared.link.Out.{Ghosts}
+use Rattle.sock_io.specs.Link.{OutState}
+use Rattle.sock_words.specs.Codes.{EFAILEDSOCKET}
+use Rattle.sock_words.specs.Words.{socket_id_slot, socket_id_version}
+use Rattle.sock_words.specs.declared.outcome.Outcome.{Outcome}
+use Rattle.sock_words.specs.declared.outcome.Outcome.TheVariants as outcome
+use Rattle.sock_words.specs.declared.plain.Plan.{Plan}
+use Rattle.sock_words.specs.declared.place_word.PlaceWord.{PlaceWord}
+use Rattle.sock_words.specs.declared.vref.Vref.{Vref}
+use Rattle.sock_model.specs.declared.chain.Entry.{Entry}
+use Rattle.sock_model.specs.declared.marks.Mark.{Mark}
+use Rattle.sock_model.specs.declared.marks.Mark.TheVariants as marks
+use Rattle.sock_model.specs.declared.view.StoredWord.{StoredWord}
+use Rattle.sock_model.specs.declared.view.View.{View}
+use Rattle.sock_model.specs.Deliveries.{place_value}
+use Rattle.sock_model.specs.Entries.{on}
+use Rattle.sock_model.specs.Layout.{place_index}
+use Rattle.sock_model.specs.Marks.{about}
+use Rattle.sock_model.specs.SlotRows.{marks_of}
+use Rattle.sock_model.specs.Weights.{is_coded, is_failer, is_saw, is_stored, is_told, only, pair, total}
+use Rattle.expire_told.specs.sock_rule.specs.slot_steps.proofs.Numbers.{only-same, only_is, pair-same, pair_is, pair_only}
+use Rattle.expire_told.specs.sock_rule.specs.slot_steps.proofs.Sums.{total-append, term_le}
+use Rattle.expire_told.specs.sock_rule.specs.Closing.{PlacesDiffer}
+use Rattle.expire_told.specs.sock_rule.specs.OnTable.{is_put, put_in}
+use Rattle.expire_told.specs.sock_rule.specs.declared.homes.Letter.{Letter}
+use Rattle.expire_told.specs.sock_rule.specs.declared.homes.SockHome.{SockHome}
+use Rattle.expire_told.specs.rpc_client.specs.Failing.{TriedTo}
+use Rattle.expire_told.specs.rpc_client.specs.Sending.{WroteAll}
+use Rattle.expire_told.specs.write_chain.specs.Noting.{Noted, nothing, finding, failing}
+use Rattle.seat_programs.specs.declared.task.Op.TheVariants as ops
+use Rattle.seat_programs.specs.declared.task.Task.{Task}
+use Rattle.seat_programs.specs.Told.{Became}
+use Rattle.expire_told.specs.sock_deeds.specs.Broken.{noted_links}
+use Rattle.expire_told.specs.sock_deeds.specs.Deeds.{Did}
+use Rattle.expire_told.specs.sock_deeds.specs.Runs.{IsOperation, IsFor, IsMessage, of_send, of_call, Seated, seat_of, DeedRun}
+use Rattle.expire_told.specs.sock_deeds.proofs.Accepting.{log, act_of_entry, sent_for, sent_place}
+use Rattle.expire_told.specs.sock_deeds.proofs.Acts.{Act, All, after, before, did_of, done_of, final_of, later, has_marks, Late, marks_from, noted_before}
+use Rattle.expire_told.specs.sock_deeds.proofs.Ending.{SetNow, ids_kept}
+use Rattle.expire_told.specs.sock_deeds.proofs.Entries.{from_on, on_there}
+use Rattle.expire_told.specs.sock_deeds.proofs.Fails.{FailedLife, life_by, fail_for, failer_once, life_is, made_born}
+use Rattle.expire_told.specs.sock_deeds.proofs.Few.{few_entries}
+use Rattle.expire_told.specs.sock_deeds.proofs.Growing.{back_grew}
+use Rattle.expire_told.specs.sock_deeds.proofs.Lives.{MadeHere, failer_life}
+use Rattle.expire_told.specs.sock_deeds.proofs.Orders.{ends, kept}
+use Rattle.expire_told.specs.sock_deeds.proofs.Places.{map_there, place_low}
+use Rattle.expire_told.specs.sock_deeds.proofs.Sources.{Source, by_open, by_fail, by_set, by_write, done_source}
+use Rattle.expire_told.specs.sock_deeds.proofs.Tasks.{is_for, fits}
+
+-- ## Codes among the notes
+
+pairs_fit : (h c d k e : ℕ) → c ≢ d → pair h c k e + pair h d k e ≤ only h k
+pairs_fit h c d k e ne = let a = pair_only h c k e in let b = pair_only h d k e in
+    dite (ℕ_discrete (pair h c k e) 0)
+    (λ z. omega (arith, z, b))
+    (λ x. dite (ℕ_discrete (pair h d k e) 0)
+    (λ z. omega (arith, z, a))
+    (λ y. absurd (ne (sym (pair_is h c k e (omega (arith, x))).1 ∙ (pair_is h d k e (omega (arith, y))).1))))
+
+-- a note that a code was stored is of one code
+stored_fit : (h c d : ℕ) → c ≢ d → (m : Mark) → is_stored h c m + is_stored h d m ≤ is_coded h m
+stored_fit h c d ne (marks.Claimed k l) = omega arith
+stored_fit h c d ne (marks.Recycling w) = omega arith
+stored_fit h c d ne (marks.Hold k) = omega arith
+stored_fit h c d ne marks.Probe = omega arith
+stored_fit h c d ne (marks.Zero w) = omega arith
+stored_fit h c d ne (marks.Coding k) = omega arith
+stored_fit h c d ne (marks.Waiting n) = omega arith
+stored_fit h c d ne (marks.Owed n) = omega arith
+stored_fit h c d ne (marks.Handed k n) = omega arith
+stored_fit h c d ne marks.Tried = omega arith
+stored_fit h c d ne (marks.Known k) = omega arith
+stored_fit h c d ne (marks.Born k) = omega arith
+stored_fit h c d ne (marks.Saw w) = omega arith
+stored_fit h c d ne (marks.Failer k) = omega arith
+stored_fit h c d ne (marks.Stored k e) = pairs_fit h c d k e ne
+stored_fit h c d ne (marks.Told k e) = omega arith
+stored_fit h c d ne (marks.Freer k) = omega arith
+stored_fit h c d ne (marks.Linked k l) = omega arith
+stored_fit h c d ne (marks.Met k l) = omega arith
+
+stored_both : (h c d : ℕ) → c ≢ d → (ms : List Mark) → total (is_stored h c) ms + total (is_stored h d) ms ≤ total (is_coded h) ms
+stored_both h c d ne [] = omega arith
+stored_both h c d ne (m ∷ ms) = let a = stored_fit h c d ne m in let b = stored_both h c d ne ms in omega (arith, a, b)
+
+-- where one code was stored, two that were are the same
+one_code : (h c d i : ℕ) (v : View) → marks_of (is_coded h) i v ≤ 1 → 0 < marks_of (is_stored h c) i v → 0 < marks_of (is_stored h d) i v → c ≡ d
+one_code h c d i v few a b = dite (ℕ_discrete c d) (λ e. e) (λ ne. absurd (let z = stored_both h c d ne (about i v.marks) in omega (arith, z, few, a, b)))
+
+stored_coded : (h c : ℕ) (ms : List Mark) → 0 < total (is_stored h c) ms → 0 < total (is_coded h) ms
+stored_coded h c ms some_ = let z = stored_both h c (c + 1) (λ e. omega (arith, e)) ms in omega (arith, z, some_)
+
+-- a seat that failed a life for a fault stored EFAILEDSOCKET
+noted_stored : {O : Type 0} {state : O → OutState} {L : ℕ → Type 0} (h : ℕ) (ms : List Mark) (noted : Noted state L h ms) (j k : ℕ) → get_elem? (noted_links h ms noted) j ≡ some k → 0 < total (is_stored h EFAILEDSOCKET) ms
+noted_stored h _ nothing j k e = absurd (some-ne-none k (sym e))
+noted_stored h _ (finding m ms a b) j k e = let r = noted_stored h ms b j k e in omega (arith, r)
+noted_stored h _ (failing l ms a b c) j k e = let s = pair-same h EFAILEDSOCKET in omega (arith, s)
+
+-- and one that did it by a `fail` the `fail`'s code
+tried_stored : (p : Plan) (n code : ℕ) (v w : View) (t : TriedTo p n code outcome.Failed v w) → 0 < marks_of (is_stored (socket_id_version t.sock.id.0) code) (socket_id_slot t.sock.id.0) w
+tried_stored p n code v w t =
+    let h = socket_id_version t.sock.id.0 in let i = socket_id_slot t.sock.id.0 in let f : Mark → ℕ = is_stored h code in
+    let e : marks_of f i t.set + 0 ≡ marks_of f i t.has + (0 + (0 + (pair h code h code + (0 + 0)))) = t.set_by.here f in
+    let s = pair-same h code in let c = (back_grew i h t.set w t.ended t.back).marks f (λ x. refl) i in
+    omega (arith, e, s, c)
+
+-- ## Words that were stored
+
+on_short : (k : ℕ) (es : List Entry) → length (on k es) ≤ length es
+on_short k [] = omega arith
+on_short k (e ∷ es) = by_case (eqb e.link k)
+  where
+    by_case : (b : Bool) → length (cond b (e ∷ on k es) (on k es)) ≤ suc (length es)
+    by_case true = let a = on_short k es in omega (arith, a)
+    by_case false = let a = on_short k es in omega (arith, a)
+
+flat_term : {A B : Type 0} (f : B → ℕ) (l : A → List B) (xs : List A) (c : ℕ) (x : A) → get_elem? xs c ≡ some x → total f (l x) ≤ total f (flat_map l xs)
+flat_term f l [] c x e = absurd (some-ne-none x (sym e))
+flat_term f l (y ∷ ys) zero x e = let a = total-append f (l y) (flat_map l ys) in let b = ap (λ z. total f (l z)) (some-injective y x e) in omega (arith, a, b)
+flat_term f l (y ∷ ys) (suc c) x e = let a = total-append f (l y) (flat_map l ys) in let b = flat_term f l ys c x e in omega (arith, a, b)
+
+module _ {O : Type 0} {g : Ghosts O} {state : O → OutState} {p : Plan} {clients : List (List Task)} {outcomes : List (Option Outcome)} {places : List PlaceWord} {vrefs : List Vref} {outs : List O} (run : DeedRun g state p clients outcomes places vrefs outs) where
+  -- all together have a word that a seat stored
+  pub has_puts : (a : Act run) (x n : ℕ) → put_in x n (after run a) ≤ put_in x n (All run)
+  has_puts a x n =
+      let s : Seat (SockHome O g) View → List (List StoredWord) = λ z. z.me.0.stores in
+      let own = (later a.y a.k a.d a.is).puts x n in
+      let joined = flat_term (total (is_put x n)) s (map seat_of run.seats) a.c (seat_of a.y) (map_there seat_of run.seats a.c a.y a.at) in
+      let kept_ = ids_kept g state p run.ending.deeds run.ending.began run.ending.ended run.ending.chain run.ending.by_ids in
+      let alone = ap (flat_map s) (sym run.left_is) ∙ (append-nil run.ending.seat.me.0.stores ∙ ap (λ (v : View). v.stores) run.ending.left) in
+      let all = ap (total (total (is_put x n))) (run.closed.stores ∙ (alone ∙ (kept_.1 ∙ run.ending.took_in.stores))) in
+      omega (arith, own, joined, all)
+
+  -- ## Why a failed life has its code
+
+  -- a `fail` of the name with this code was answered `failed`
+  pub record FailsWith (n c : ℕ) : Type 0 where
+    pub client : ℕ
+    pub number : ℕ
+    pub is : IsOperation clients outcomes client number (ops.Fail n c)
+    pub became : Became clients outcomes number outcome.Failed
+
+  module _ (b : Act run) (n k i h w c : ℕ) (low : i < p.slots) (made : MadeHere run n k i h) (told : 0 < marks_of (is_told h c) i (after run b)) (saw : 0 < marks_of (is_saw w) i (after run b)) (less : h < w) where
+    stored : 0 < marks_of (is_stored h c) i (All run)
+    stored = run.closed.closing.told_stored i h c low (let a = has_marks run b (is_told h c) (λ x. refl) i in omega (arith, a, told))
+
+    failed : 0 < marks_of (is_failer h) i (All run)
+    failed = let a = run.closed.closing.coded i h low in let b = stored_coded h c (about i (All run).marks) stored in omega (arith, a, b)
+
+    few : marks_of (is_coded h) i (All run) ≤ 1
+    few = let a = run.closed.closing.coded i h low in let b = failer_once run i h low (made_born run n k i h made) in omega (arith, a, b)
+
+    -- the code that was stored is that which was found
+    same_code : (a : Act run) (d : ℕ) → 0 < marks_of (is_stored h d) i (after run a) → c ≡ d
+    same_code a d there = one_code h c d i (All run) few stored (let x = has_marks run a (is_stored h d) (λ y. refl) i in omega (arith, x, there))
+
+    at_life : (m l j v : ℕ) → j ≡ i → v ≡ h → MadeHere run m l j v → MadeHere run m l i h
+    at_life m l j v a b it = subst (λ x. MadeHere run m l x h) a (subst (λ x. MadeHere run m l j x) b it)
+
+    abbrev IsWhy : Type 0
+    IsWhy = (c ≡ EFAILEDSOCKET) ⊎ FailsWith n c
+
+    by_name : (a : Act run) (l : FailedLife run a) → socket_id_slot l.tried.sock.id.0 ≡ i → socket_id_version l.tried.sock.id.0 ≡ h → IsWhy
+    by_name a l slot version =
+        let i_ = socket_id_slot l.tried.sock.id.0 in let h_ = socket_id_version l.tried.sock.id.0 in
+        let f = fail_for run a l in
+        let its = tried_stored p l.name l.code (before run a) (after run a) l.tried in
+        let here = subst (λ x. 0 < marks_of (is_stored h l.code) x (after run a)) slot (subst (λ x. 0 < marks_of (is_stored x l.code) i_ (after run a)) version its) in
+        let code = same_code a l.code here in
+        let name = (life_is run l.name n l.link k i h (at_life l.name l.link i_ h_ slot version l.made) made).0 in
+        inr (record { client = a.c; number = l.number; is = subst (λ x. IsOperation clients outcomes a.c l.number (ops.Fail n x)) (sym code) (subst (λ x. IsOperation clients outcomes a.c l.number (ops.Fail x l.code)) name f.0); became = f.1 })
+
+    by_source : (a : Act run) → Source (is_failer h) (failer_life h) g state p i (did_of run a) a.d.before a.d.after (done_of run a) → IsWhy
+    by_source a (by_open name number version link e weighs) = absurd (omega (arith, weighs))
+    by_source a (by_fail name number code e f) = by_name a (life_by run a name number code e f.0) f.2 (only_is h (socket_id_version f.0.sock.id.0) f.3)
+    by_source a (by_set id code e slot weighs) = absurd (subst (IsFor clients outcomes a.c) e (is_for run a))
+    by_source a (by_write id v u all grew f listed) =
+        let version = only_is h (socket_id_version id) f.weighs in let j = socket_id_slot id in let m : Mark → ℕ = is_stored (socket_id_version id) EFAILEDSOCKET in
+        let noted = noted_stored (socket_id_version id) all.notes all.noted f.place f.link f.listed in
+        let came = all.became.here m in
+        let then = grew.marks m (λ x. refl) j in
+        let there : 0 < marks_of m j (after run a) = omega (arith, noted, came, then) in
+        inl (same_code a EFAILEDSOCKET (subst (λ x. 0 < marks_of (is_stored h EFAILEDSOCKET) x (after run a)) f.slot (subst (λ x. 0 < marks_of (is_stored x EFAILEDSOCKET) j (after run a)) version there)))
+
+    -- the sockets were ended behind what was seen
+    not_ended : (l : Late run) → SetNow g state p (is_failer h) i l.d.before.view → ⊥
+    not_ended l s =
+        let version = only_is h (socket_id_version s.id) s.weighs in
+        let then = noted_before run b l (is_saw w) (λ x. refl) i in
+        let low_ = s.live w (subst (λ j. 0 < marks_of (is_saw w) j l.d.before.view) (sym s.slot) (omega (arith, then, saw))) in
+        omega (arith, low_, version, less)
+
+    -- of a life of the name, which a client found failed: its code is EFAILEDSOCKET, or that of a `fail`
+    pub life_code : (c ≡ EFAILEDSOCKET) ⊎ FailsWith n c
+    life_code = elim (marks_from run (is_failer h) (failer_life h) i failed) [
+      | inl s ↦ by_source s.0 (done_source (is_failer h) (failer_life h) g state p (did_of run s.0) s.0.d.before s.0.d.after (done_of run s.0) i s.1)
+      | inr l ↦ absurd (not_ended l.0 l.1)
+    ]
+
+  -- ## Where a dropped message stands
+
+  module _ (differ : PlacesDiffer (log run)) (few_operations : p.operations ≤ 65536) (few_links : p.links ≤ 65536) where
+    low_message : (c name number attempt : ℕ) (msg : Letter) → IsMessage clients outcomes c name number attempt msg None → (number < p.operations) × (attempt ≤ 6)
+    low_message c name number attempt msg (of_send bytes is first sent told) = ((fits run c record { number = number; op = ops.Send name bytes } is).0, omega (arith, first))
+    low_message c name number attempt msg (of_call client asked is mine low name_is sent told) = ((fits run client record { number = number; op = ops.Call asked } is).0, low)
+
+    low_entry : (q : ℕ) (e : Entry) → get_elem? (log run) q ≡ some e → (e.heading.place < 8 * p.operations) × (e.link < p.links)
+    low_entry q e at =
+        let w = act_of_entry run q e at in let s = w.1 in
+        let place = sent_place run w.0 e s in
+        let low = low_message w.0.c s.name s.number s.attempt s.msg (sent_for run w.0 e s).0 in let a = low.0 in let b = low.1 in
+        (omega (arith, place, a, b), subst (λ (x : Entry). x.link < p.links) s.entry s.sent.delivered.accepted.inside)
+
+    few_on : (k : ℕ) → length (on k (log run)) ≤ 8 * p.operations
+    few_on k = let a = on_short k (log run) in let b = few_entries (8 * p.operations) (log run) differ (λ i e at. (low_entry i e at).0) in omega (arith, a, b)
+
+    -- the message stands behind the placed ones of its link
+    pub record IsBehindPlaced (e : Entry) : Type 0 where
+      pub position : ℕ
+      pub inside : e.link < p.links
+      pub there : get_elem? (on e.link (log run)) position ≡ some e
+      pub behind : kept run differ e.link ≤ position
+      pub less : position < length (on e.link (log run))
+
+    -- where a seat stored the word of a dropped message at its place index, for this link
+    pub dropped_stands : (q : ℕ) (e : Entry) → get_elem? (log run) q ≡ some e → (a : Act run) (link position : ℕ) → position < 4294967295 → 0 < put_in (place_index p e.heading.place) (place_value true link position) (after run a) → IsBehindPlaced e × (link ≡ e.link)
+    dropped_stands q e at a link position low_position put =
+        let l = e.heading.place in let k = e.link in let n = place_value true link position in
+        let low = low_entry q e at in
+        let s = on_there k (log run) q e at refl in let i = s.0 in
+        let all = has_puts a (place_index p l) n in
+        let word = (run.closed.dropped l low.0).stays differ n (omega (arith, all, put)) in
+        let w : slice_index run.closed.words (place_index p l) ≡ n = word.0 in let high = word.1 in
+        let fifo = ((ends run differ).1 k low.1).fifo in
+        let count = fifo.count in let few_ = few_on k in
+        let inside : i < length (on k (log run)) = place_low (on k (log run)) i e s.1 in
+        let kl = low.1 in
+        let late : kept run differ k ≤ i = dite (dec_lt i (kept run differ k))
+        (λ lt. absurd (let v = fifo.placed i e s.1 lt in omega (arith, v, w, high, count, few_, few_operations, few_links, kl, lt)))
+        (λ ge. omega (arith, ge)) in
+        let v = fifo.dropped i e s.1 late in (
+          record { position = i; inside = low.1; there = s.1; behind = late; less = inside },
+          omega (arith, v, w, low_position, few_, few_operations, inside),
+        )

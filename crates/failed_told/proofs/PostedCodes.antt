@@ -1,0 +1,141 @@
+-- Whatever is queued in a word of an id has a code that is posted to calls; so have both errors of a crowded id, and an `expire` is told with that.
+use Rattle.std.proofs.Common.{◌≡◌, ℕ, ◌<◌, ◌≤◌, inl, inr, List, [], ◌∷◌, length, map, Some, None, refl, sym, ap, ◌∙◌, subst, arith}
+use Rattle.std.specs.Prelude.{Option, Contains}
+use Rattle.expire_told.specs.report_fits.proofs.Lists.{contains_from}
+use Rattle.sock_io.specs.declared.link.Out.{Ghosts}
+use Rattle.sock_io.specs.Link.{OutState}
+use Rattle.sock_words.specs.Codes.{EEOF, EFAILEDSOCKET, EREQUESTS, ERESPONSE, ERPCTIMEDOUT}
+use Rattle.sock_words.specs.declared.outcome.Outcome.{Outcome}
+use Rattle.sock_words.specs.declared.outcome.Outcome.TheVariants as outcome
+use Rattle.sock_words.specs.declared.plain.Plan.{Plan}
+use Rattle.sock_words.specs.declared.place_word.PlaceWord.{PlaceWord}
+use Rattle.sock_words.specs.declared.vref.Vref.{Vref}
+use Rattle.expire_told.specs.sock_rule.specs.Closing.{PlacesDiffer}
+use Rattle.seat_programs.specs.declared.task.Op.TheVariants as ops
+use Rattle.seat_programs.specs.declared.task.Task.{Task}
+use Rattle.seat_programs.specs.Told.{AreTasks, IsTask, Became}
+use Rattle.seat_programs.specs.ToldCalls.{Fixed, Order, IsPosted, WhyExpire, all_accepted}
+use Rattle.corr_core.specs.Word.{parts, code_of}
+use Rattle.corr_core.specs.Law.{total}
+use Rattle.corr_core.specs.declared.marks.Kept.{Kept}
+use Rattle.corr_core.specs.declared.marks.Noted.{Noted}
+use Rattle.corr_core.specs.declared.marks.Plan as id_plan
+use Rattle.corr_core.specs.declared.marks.View.{View}
+use Rattle.id_rule.specs.Lawful.{call_index, notes_of}
+use Rattle.sock_message.specs.Asked.{Asked}
+use Rattle.corr_id.specs.declared.posts.Posted.{Posted}
+use Rattle.corr_id.specs.declared.posts.Posted.TheVariants.{Locked as HasLock, Queued as IsQueued, Gone, Stale, Crowded}
+use Rattle.corr_id.specs.Calls.{slot_of, is_saw}
+use Rattle.corr_id.specs.Closing.{Closing}
+use Rattle.expire_told.specs.rpc_client.specs.declared.acting.Told.{Told}
+use Rattle.expire_told.specs.call_errors.specs.Books.{Books, CallStand}
+use Rattle.expire_told.specs.call_errors.specs.Posting.{PostedAs}
+use Rattle.expire_told.specs.call_errors.specs.Asking.{found_id, outcome_by, TimedOut}
+use Rattle.expire_told.specs.call_run.specs.Threads.{Thread, RanOn, MayRunAll, ids_of}
+use Rattle.expire_told.specs.call_places.specs.Counted.{HaveNotesOf}
+use Rattle.expire_told.specs.call_told.proofs.Resting.{is_word}
+use Rattle.expire_told.specs.sock_deeds.specs.Runs.{IsOperation, seat_of, DeedRun}
+use Rattle.expire_told.specs.sock_deeds.proofs.Accepting.{log}
+use Rattle.expire_told.specs.sock_deeds.proofs.Orders.{orders}
+use Rattle.expire_told.specs.sock_deeds.proofs.Whole.{fixed}
+use Rattle.expire_told.specs.Said.{AreSaid, HaveKeptOf, WhyExpired}
+use Rattle.expire_told.proofs.Expires.{IsMade, made_of, expire_made, found_maker}
+use Rattle.expire_told.proofs.Expiring.{timed_out_word}
+use Rattle.failed_told.proofs.Codes.{IsReadCode}
+use Rattle.failed_told.proofs.Drops.{drop_code}
+use Rattle.failed_told.proofs.Queued.{WasDropCode, queued_code}
+use Rattle.failed_told.proofs.Single.{within}
+use Rattle.failed_told.proofs.Views.{queued_in}
+
+-- the codes of a crowded id
+first_in : Outcome → ℕ
+first_in (outcome.Crowded a b) = a
+first_in other = 0
+
+second_in : Outcome → ℕ
+second_in (outcome.Crowded a b) = b
+second_in other = 0
+
+same_codes : (a b c d : ℕ) → outcome.Crowded a b ≡ outcome.Crowded c d → (c ≡ a) × (d ≡ b)
+unfolding first_in second_in
+same_codes a b c d e = (sym (ap first_in e), sym (ap second_in e))
+
+module _ {O : Type 0} {g : Ghosts O} {state : O → OutState} {p : Plan} {slots : ℕ} {setup : List Task} {clients : List (List Task)} {opens : List ℕ} {told ended : List (List Told)} {places : List PlaceWord} {vrefs : List Vref} {outs : List O} {ids : List (View Asked)}
+    (run : RanOn g state p slots setup clients opens told ended places vrefs outs ids) (tasks : AreTasks p (setup ∷ clients)) (may : MayRunAll p (ids_of p slots) setup clients)
+    (notes : List (Noted Asked)) (kept : List Kept) (words : List ℕ) (closing : Closing (ids_of p slots) notes kept words) (noted : HaveNotesOf ids notes) (keeps : HaveKeptOf ids kept)
+    (outcomes : List (Option Outcome)) (said_own : AreSaid outcomes told) (said_ended : AreSaid outcomes ended)
+    (others : (i first e : ℕ) → 0 < queued_in i first e notes → (0 < total (λ (v : View Asked). queued_in i first e v.notes) ids) ⊎ IsReadCode (code_of e))
+    (drun : DeedRun g state p (setup ∷ clients) outcomes places vrefs outs) (seats : map seat_of drun.seats ≡ map (λ (x : Thread g). x.ended.seat) (run.ran.main ∷ run.ran.others)) (logged : log drun ≡ run.closed.ordered.log) (differ : PlacesDiffer (log drun)) (gave : ℕ → List ℕ)
+    (all_there : length (log drun) ≤ all_accepted p.links (orders drun differ)) (few : p.operations ≤ 65536) (few_links : p.links ≤ 65536)
+    (bounds : (client number name code : ℕ) → IsOperation (setup ∷ clients) outcomes client number (ops.Fail name code) → (1500 ≤ code) × (code ≤ 1999)) where
+  abbrev q : id_plan.Plan
+  q = ids_of p slots
+
+  abbrev every : List (List Task)
+  every = setup ∷ clients
+
+  abbrev fixed_here : Fixed
+  fixed_here = fixed drun differ gave
+
+  abbrev orders_here : ℕ → Order
+  orders_here = orders drun differ
+
+  abbrev PostedHere : ℕ → Type 0
+  PostedHere code = IsPosted p every outcomes fixed_here gave orders_here code
+
+  dropped_posted : (code : ℕ) → WasDropCode p every outcomes fixed_here gave orders_here run said_own notes others code → PostedHere code
+  dropped_posted code d = elim (drop_code run tasks may notes kept words closing noted outcomes drun seats logged differ gave all_there few few_links bounds d.place d.client d.in_crew d.id code d.attempt d.drop) [
+    | inl e ↦ inl (subst (λ (z : ℕ). Contains (ERPCTIMEDOUT ∷ EFAILEDSOCKET ∷ EEOF ∷ ERESPONSE ∷ EREQUESTS ∷ []) z) (sym e) (contains_from (ERPCTIMEDOUT ∷ EFAILEDSOCKET ∷ EEOF ∷ ERESPONSE ∷ EREQUESTS ∷ []) EFAILEDSOCKET (1, refl)))
+    | inr b ↦ inr b
+  ]
+
+  -- each error that was ever queued has a code that is posted
+  pub queued_posted : (i f e : ℕ) → 0 < queued_in i f e notes → PostedHere (code_of e)
+  queued_posted i f e there = elim (queued_code p every outcomes fixed_here gave orders_here run said_own notes others i f e there) [ inl posted ↦ posted | inr d ↦ dropped_posted (code_of e) d ]
+
+  -- ## Crowded ids
+
+  module _ (c of : ℕ) (t : Task) (a b : ℕ) (is : IsTask every outcomes c t) (op : t.op ≡ ops.Expire of) (became : Became every outcomes t.number (outcome.Crowded a b)) where
+    m : IsMade run tasks may notes kept words closing noted keeps outcomes said_own said_ended c t
+    m = made_of run tasks may notes kept words closing noted keeps outcomes said_own said_ended c t is
+
+    h : TimedOut q of (outcome.Crowded a b) m.done.made.ready.calls m.done.after.has.calls
+    h = expire_made run tasks may notes kept words closing noted keeps outcomes said_own said_ended c of t (outcome.Crowded a b) m op became
+
+    inside : slot_of h.id < slots
+    inside =
+        let w = is_word (call_index q of) h.id in let x = timed_out_word q of (outcome.Crowded a b) m.done.made.ready.calls m.done.after.has.calls h in let y = (m.done.later of).1.grows.kept w in
+        (found_maker run tasks may notes kept words closing noted keeps outcomes said_own said_ended of h.id c m.client m.at (omega (arith, x, y))).begun.inside
+
+    -- a word that was found behind the post
+    seen : (word : ℕ) (v : View Asked) (bs : Books) → m.done.after.has.calls ≡ record { view = v; books = bs } → 0 < total (is_saw word) (notes_of (slot_of h.id) v.notes) → 0 < total (is_saw word) (notes_of (slot_of h.id) notes)
+    seen word v bs e found =
+        let x = ap (λ (s : CallStand). total (is_saw word) (notes_of (slot_of h.id) s.view.notes)) e in let y = (m.done.later of).1.grows.notes (slot_of h.id) (is_saw word) in
+        let z = within run tasks may notes kept words closing noted c m.client m.at (slot_of h.id) (is_saw word) in omega (arith, x, y, z, found)
+
+    by_answer : (answer : Posted Asked) → outcome.Crowded a b ≡ outcome_by answer → PostedAs slots answer (found_id q of h.id m.done.made.ready.calls) h.id ERPCTIMEDOUT None m.done.after.has.calls → PostedHere a × PostedHere b
+    by_answer (HasLock k) e x = absurd (cc)
+    by_answer IsQueued e x = absurd (cc)
+    by_answer (Gone found) e x = absurd (cc)
+    by_answer (Stale current) e x = absurd (cc)
+    by_answer (Crowded first second) e x =
+        let same = same_codes a b first second e in let word = x.post.1.0 in let was = x.post.1.1 in
+        let saw = seen word x.view m.done.made.ready.calls.books x.handled was.0 in let taken : 0 < (parts word).state = (let s = was.2 in omega (arith, s)) in
+        let oldest = closing.oldest_is (slot_of h.id) word inside saw taken (λ z. was.3 (closing.in_turn (slot_of h.id) word inside saw was.2 z)) in
+        let younger = closing.second_is (slot_of h.id) word inside saw taken was.3 in (
+          subst PostedHere (was.5 ∙ same.0) (queued_posted (slot_of h.id) (parts word).first (parts word).oldest oldest),
+          subst PostedHere (was.6 ∙ same.1) (queued_posted (slot_of h.id) (parts word).first (parts word).second younger),
+        )
+
+    -- both codes of a crowded id are posted
+    pub crowded_posted : PostedHere a × PostedHere b
+    crowded_posted = by_answer h.answer h.by_answer h.posted
+
+  -- so an `expire` has its outcome as is told of it
+  pub expire_posted : (last : ℕ → ℕ) (c of : ℕ) (t : Task) (by : Outcome) → IsTask every outcomes c t → t.op ≡ ops.Expire of → Became every outcomes t.number by → WhyExpired p every outcomes fixed_here gave orders_here c t.number of by → WhyExpire p every outcomes fixed_here gave orders_here last c t.number of by
+  expire_posted last c of t outcome.Expired is op became why = why
+  expire_posted last c of t outcome.Queued is op became why = why
+  expire_posted last c of t outcome.Late is op became why = why
+  expire_posted last c of t (outcome.Crowded a b) is op became why = let posted = crowded_posted c of t a b is op became in (why, posted.0, posted.1)
+  expire_posted last c of t outcome.NotBegun is op became why = why
+  expire_posted last c of t _ is op became why = elim why [ ]
