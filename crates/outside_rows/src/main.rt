@@ -11,6 +11,8 @@ mod giving;
 #[cfg(test)]
 mod noting;
 #[cfg(test)]
+mod ports;
+#[cfg(test)]
 mod serving;
 #[cfg(test)]
 mod streams;
