@@ -5,6 +5,8 @@
 #[cfg(test)]
 mod answer;
 #[cfg(test)]
+mod commands;
+#[cfg(test)]
 mod failing;
 #[cfg(test)]
 mod giving;
