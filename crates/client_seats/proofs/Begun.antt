@@ -25,15 +25,15 @@ use Rattle.seat_programs.specs.Heads.{Retry}
 use Rattle.seat_programs.specs.Programs.{Program, Do, Say, Sent, Rest, TakeMessage, TakeHome, PutHome, PutBytes, AskReady, Write, Aside, Round, Keep, Retries}
 use Rattle.seat_programs.specs.Cores.{resolved, still_waiting, said, next_step}
 use Rattle.seat_states.specs.sock_runs.specs.Sound.{is_begun}
-use Rattle.seat_states.specs.Points.{Around, point_program, look_program}
+use Rattle.seat_states.specs.Points.{Context, point_program, look_program}
 use Rattle.client_seats.specs.Seats.{SeatData, seat_program}
 use Rattle.client_seats.specs.Following.{FollowsOn}
 
-look_begun : (a : Around) (author : Author) (id : ℕ) → is_begun (look_program a author id) ≡ true
+look_begun : (a : Context) (author : Author) (id : ℕ) → is_begun (look_program a author id) ≡ true
 look_begun a (authors.Send o) id = refl
 look_begun a (authors.Attempt t) id = refl
 
-pub begun : (a : Around) (p : Point) → is_begun (point_program a p) ≡ true
+pub begun : (a : Context) (p : Point) → is_begun (point_program a p) ≡ true
 begun a points.Rest = refl
 begun a (points.Open g (opens.Claim i)) = refl
 begun a (points.Open g (opens.StoreLink i)) = refl

@@ -9,11 +9,11 @@ use Rattle.seat_programs.specs.Heads.{Retry}
 use Rattle.seat_programs.specs.Programs.{Program, Say, Sent, Keep, Rest}
 use Rattle.seat_programs.specs.Clients.{HeldLife, ending_of}
 use Rattle.seat_programs.specs.Cores.{resolved, said, next_step}
-use Rattle.seat_states.specs.declared.point.After.{After}
-use Rattle.seat_states.specs.declared.point.After.TheVariants as afters
+use Rattle.seat_states.specs.declared.point.AfterStep.{AfterStep}
+use Rattle.seat_states.specs.declared.point.AfterStep.TheVariants as afters
 use Rattle.seat_states.specs.declared.point.Next.{Next}
 use Rattle.seat_states.specs.declared.point.Next.TheVariants as nexts
-use Rattle.seat_states.specs.Points.{Around, next_program, after_program}
+use Rattle.seat_states.specs.Points.{Context, next_program, after_program}
 use Rattle.client_seats.specs.Seats.{SeatData, around, nothing_asked, seat_program}
 use Rattle.client_seats.specs.Following.{FollowsOn, IsFlat}
 
@@ -27,7 +27,7 @@ pub sent_on : (sizes : Sizes) (old new : SeatData) (program : Program) (o : ℕ)
 sent_on sizes old new program o before behind f = record { next = f.next; waiting = f.waiting; told = f.told }
 
 -- it keeps a retry, and goes on so
-pub kept_on : (sizes : Sizes) (old new mid : SeatData) (r : Retry) (P : Around → Program) (before behind : List (Option Outcome)) → mid ≡ record old { waiting = old.waiting ++ r ∷ [] } →
+pub kept_on : (sizes : Sizes) (old new mid : SeatData) (r : Retry) (P : Context → Program) (before behind : List (Option Outcome)) → mid ≡ record old { waiting = old.waiting ++ r ∷ [] } →
     FollowsOn sizes mid new (P (around sizes mid)) before behind → FollowsOn sizes old new (Keep r (P (around sizes old))) before behind
 kept_on sizes old new mid r P before behind is f =
     let f' = subst (λ (x : SeatData). FollowsOn sizes x new (P (around sizes x)) before behind) is f in
@@ -51,7 +51,7 @@ IsPlain (Keep r next) = false
 IsPlain other = true
 
 -- where nothing is left to do
-abbrev nothing_left : Around
+abbrev nothing_left : Context
 nothing_left = record {
   sizes = record { slots = 0; requests = 0; ids = 0 };
   goes_on = λ (hs : List HeldLife). Rest;
@@ -65,14 +65,14 @@ nothing_left = record {
   left_parts = [];
 }
 
-after_plain : (after : After) → IsPlain (after_program nothing_left after) ≡ true
+after_plain : (after : AfterStep) → IsPlain (after_program nothing_left after) ≡ true
 after_plain (afters.Attempt None) = refl
 after_plain (afters.Attempt (Some i)) = refl
 after_plain (afters.Expire o) = refl
 after_plain (afters.Drop w None) = refl
 after_plain (afters.Drop w (Some next)) = refl
 
-pub after_flat : (after : After) (next : Next) → ((a : Around) → next_program a next ≡ after_program a after) → IsFlat next
+pub after_flat : (after : AfterStep) (next : Next) → ((a : Context) → next_program a next ≡ after_program a after) → IsFlat next
 after_flat after next e = flat next (ap IsPlain (e nothing_left) ∙ after_plain after)
   where
     flat : (n : Next) → IsPlain (next_program nothing_left n) ≡ true → IsFlat n
@@ -87,5 +87,5 @@ after_flat after next e = flat next (ap IsPlain (e nothing_left) ∙ after_plain
     flat (nexts.KeptWith c n word after) k = absurd (true≢false (sym k))
 
 -- it holds no life then
-pub after_holds_none : (after : After) (next : Next) (o name : ℕ) (id : SocketId) → ((a : Around) → next_program a next ≡ after_program a after) → next ≡ nexts.Held o name id → ⊥
+pub after_holds_none : (after : AfterStep) (next : Next) (o name : ℕ) (id : SocketId) → ((a : Context) → next_program a next ≡ after_program a after) → next ≡ nexts.Held o name id → ⊥
 after_holds_none after next o name id e is = true≢false (sym (ap IsPlain (e nothing_left) ∙ after_plain after) ∙ ap (λ (n : Next). IsPlain (next_program nothing_left n)) is)

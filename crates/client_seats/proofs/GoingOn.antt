@@ -10,7 +10,7 @@ use Rattle.seat_programs.specs.Attempts.{retry}
 use Rattle.seat_programs.specs.Clients.{HeldLife, operation, client_from, give_back}
 use Rattle.seat_programs.specs.Cores.{resolved, still_waiting, said, next_step}
 use Rattle.seat_states.specs.declared.point.Point.{Point}
-use Rattle.seat_states.specs.Points.{Around, point_program}
+use Rattle.seat_states.specs.Points.{Context, point_program}
 use Rattle.client_seats.specs.declared.seat.Kept.{Kept}
 use Rattle.client_seats.specs.Seats.{SeatData, retries, client_of, seat_program}
 use Rattle.client_seats.specs.Following.{FollowsOn}
@@ -22,7 +22,7 @@ pub record Comes (w : List Retry) (program next : Program) : Type 0 where
   pub waiting_is : still_waiting w program ≡ w
   pub said_is : (os : List (Option Outcome)) → said (resolved w program) os ≡ os
 
-comes_at : (w : List Retry) (a : Around) (point : Point) → Comes w (point_program a point) (point_program a point)
+comes_at : (w : List Retry) (a : Context) (point : Point) → Comes w (point_program a point) (point_program a point)
 comes_at w a point = let at = at_step w (point_program a point) (begun a point) in record {
   next_is = ap next_step at.resolved_is ∙ at.next_is;
   waiting_is = at.waiting_is;
@@ -30,21 +30,21 @@ comes_at w a point = let at = at_step w (point_program a point) (begun a point) 
 }
 
 -- without retries a client comes to its next task
-pub comes_to_task : (a : Around) (sizes : Sizes) (held : List HeldLife) (tasks : List Task) (t : Task) (ts : List Task) (point : Point) →
+pub comes_to_task : (a : Context) (sizes : Sizes) (held : List HeldLife) (tasks : List Task) (t : Task) (ts : List Task) (point : Point) →
     tasks ≡ t ∷ ts → point_program a point ≡ operation sizes held t.number (λ hs. client_from sizes hs ts) t.op → Comes [] (client_from sizes held tasks) (point_program a point)
 comes_to_task a sizes held tasks t ts point e f =
     let c : Comes [] (operation sizes held t.number (λ hs. client_from sizes hs ts) t.op) (point_program a point) = subst (λ (p : Program). Comes [] p (point_program a point)) f (comes_at [] a point) in
     subst (λ (l : List Task). Comes [] (client_from sizes held l) (point_program a point)) (sym e) (record { next_is = c.next_is; waiting_is = c.waiting_is; said_is = c.said_is })
 
 -- and behind the last it gives back what it holds
-pub comes_to_end : (a : Around) (sizes : Sizes) (held : List HeldLife) (tasks : List Task) (point : Point) →
+pub comes_to_end : (a : Context) (sizes : Sizes) (held : List HeldLife) (tasks : List Task) (point : Point) →
     tasks ≡ [] → point_program a point ≡ give_back held → Comes [] (client_from sizes held tasks) (point_program a point)
 comes_to_end a sizes held tasks point e f =
     let c : Comes [] (give_back held) (point_program a point) = subst (λ (p : Program). Comes [] p (point_program a point)) f (comes_at [] a point) in
     subst (λ (l : List Task). Comes [] (client_from sizes held l) (point_program a point)) (sym e) (record { next_is = c.next_is; waiting_is = c.waiting_is; said_is = c.said_is })
 
 -- it does so whatever retries wait
-pub comes_back : (w : List Retry) (a : Around) (held : List HeldLife) (point : Point) → point_program a point ≡ give_back held → Comes w (give_back held) (point_program a point)
+pub comes_back : (w : List Retry) (a : Context) (held : List HeldLife) (point : Point) → point_program a point ≡ give_back held → Comes w (give_back held) (point_program a point)
 comes_back w a held point f = subst (λ (p : Program). Comes w p (point_program a point)) f (comes_at w a point)
 
 -- a task that takes no step says so, and the client goes on with the others
@@ -119,7 +119,7 @@ retries_on sizes old new r rs os stays some left is =
     }
 
 -- a client that leaves gives back what it holds
-pub leaves_on : (sizes : Sizes) (old new : SeatData) (a : Around) (point : Point) (os : List (Option Outcome)) →
+pub leaves_on : (sizes : Sizes) (old new : SeatData) (a : Context) (point : Point) (os : List (Option Outcome)) →
     old.leaving ≡ true → new.waiting ≡ old.waiting → seat_program sizes new ≡ point_program a point → point_program a point ≡ give_back old.held → FollowsOn sizes old new (client_of sizes old) os os
 leaves_on sizes old new a point os leaves waiting is gives =
     let client : client_of sizes old ≡ give_back old.held = rw (leaves) refl in

@@ -11,8 +11,8 @@ use Rattle.seat_programs.specs.Sends.{send}
 use Rattle.seat_programs.specs.declared.task.Sizes.{Sizes}
 use Rattle.sock_words.specs.declared.socket_id.SocketId.{SocketId}
 use Rattle.client_seats.specs.declared.seat.Held.{Held}
-use Rattle.seat_states.specs.declared.point.Then.TheVariants as thens
-use Rattle.seat_states.specs.Points.{Around, client_on, then_program}
+use Rattle.seat_states.specs.declared.point.Continuation.TheVariants as thens
+use Rattle.seat_states.specs.Points.{Context, client_on, then_program}
 use Rattle.client_seats.specs.Seats.{lives}
 
 -- nothing is held under the name any more
@@ -25,7 +25,7 @@ lives_without name (h ∷ hs) = step (h.name == name) (lives_without name hs)
     step false e = ap (λ (ls : List HeldLife). (record { name = h.name; id = h.id.0 }) ∷ ls) e
 
 -- the oldest is given back first
-pub gives_oldest : (a : Around) (held : List Held) (x : Held) (i : ℕ) (rest : List Held) → i ≡ socket_id_slot x.id.0 → x ≡ slice_index_or held 0 x → 0 < length held → rest ≡ remove held 0 →
+pub gives_oldest : (a : Context) (held : List Held) (x : Held) (i : ℕ) (rest : List Held) → i ≡ socket_id_slot x.id.0 → x ≡ slice_index_or held 0 x → 0 < length held → rest ≡ remove held 0 →
     a.goes_on ≡ give_back → a.held ≡ lives rest → release i (then_program a thens.GaveBack) ≡ give_back (lives held)
 gives_oldest a [] x i rest slot is some gone on are = absurd (omega arith)
 gives_oldest a (h ∷ hs) x i rest slot is some gone on are =
@@ -34,16 +34,16 @@ gives_oldest a (h ∷ hs) x i rest slot is some gone on are =
     rw (e, on, are, f) refl
 
 -- a life that is held is given back
-pub drops : (a : Around) (sizes : Sizes) (number name : ℕ) (id : SocketId) (held : List HeldLife) (i : ℕ) → i ≡ socket_id_slot id.0 → Some id.0 ≡ held_under name held → a.held ≡ without_name name held →
+pub drops : (a : Context) (sizes : Sizes) (number name : ℕ) (id : SocketId) (held : List HeldLife) (i : ℕ) → i ≡ socket_id_slot id.0 → Some id.0 ≡ held_under name held → a.held ≡ without_name name held →
     release i (then_program a (thens.Dropped number)) ≡ operation sizes held number a.goes_on (ops.Drop name)
 drops a sizes number name id held i slot is rest = rw (slot, ← is, rest) refl
 
 -- a message is sent
-pub sends : (a : Around) (sizes : Sizes) (number name : ℕ) (bytes : List ℕ) (held : List HeldLife) (op : Op) → a.sizes ≡ sizes → a.held ≡ held → a.message ≡ bytes → op ≡ ops.Send name bytes →
+pub sends : (a : Context) (sizes : Sizes) (number name : ℕ) (bytes : List ℕ) (held : List HeldLife) (op : Op) → a.sizes ≡ sizes → a.held ≡ held → a.message ≡ bytes → op ≡ ops.Send name bytes →
     send a.sizes.requests number name a.message (client_on a) ≡ operation sizes held number a.goes_on op
 sends a sizes number name bytes held op e f g h = rw (e, f, g, h) refl
 
 -- a call begins
-pub calls : (a : Around) (sizes : Sizes) (number : ℕ) (asked : Asked) (held : List HeldLife) (op : Op) → a.sizes ≡ sizes → a.held ≡ held → a.asked ≡ asked → op ≡ ops.Call asked →
+pub calls : (a : Context) (sizes : Sizes) (number : ℕ) (asked : Asked) (held : List HeldLife) (op : Op) → a.sizes ≡ sizes → a.held ≡ held → a.asked ≡ asked → op ≡ ops.Call asked →
     call a.sizes.requests a.sizes.ids a.asked (client_on a) ≡ operation sizes held number a.goes_on op
 calls a sizes number asked held op e f g h = rw (e, f, g, h) refl

@@ -11,8 +11,8 @@ use Rattle.id_points.specs.Ids.{id_of, number_of}
 use Rattle.call_points.specs.Steps.{after_call}
 use Rattle.call_points.specs.declared.deciding.DecideStep.TheVariants as decides
 use Rattle.call_points.specs.declared.locking.LockStep.TheVariants as locks
-use Rattle.seat_states.specs.declared.point.After.{After}
-use Rattle.seat_states.specs.declared.point.After.TheVariants as afters
+use Rattle.seat_states.specs.declared.point.AfterStep.{AfterStep}
+use Rattle.seat_states.specs.declared.point.AfterStep.TheVariants as afters
 use Rattle.seat_states.specs.declared.point.CallStep.TheVariants as begins
 use Rattle.seat_states.specs.declared.point.Retrying.{Retrying}
 use Rattle.seat_states.specs.declared.point.RetryStep.{RetryStep}
@@ -20,7 +20,7 @@ use Rattle.seat_states.specs.declared.point.RetryStep.TheVariants as retries
 use Rattle.seat_states.specs.declared.point.Next.{Next}
 use Rattle.seat_states.specs.declared.point.Point.{Point}
 use Rattle.seat_states.specs.declared.point.Point.TheVariants as points
-use Rattle.seat_states.specs.Points.{Around, point_program, next_program, after_program, taken_with, IsNextName, TakesCall, HasInHand, HasRetry, IsFramed}
+use Rattle.seat_states.specs.Points.{Context, point_program, next_program, after_program, taken_with, IsNextName, TakesCall, HasInHand, HasRetry, IsFramed}
 use Rattle.client_seats.specs.Seats.{SeatData, around, asked_of, seat_program}
 use Rattle.client_seats.specs.Following.{IsFramedAs, IsPrepared, IsWithFrame}
 
@@ -102,7 +102,7 @@ prepared_retry sizes old mid new r r' step at f ids numbers operation name is = 
 -- ## A call that came into its hand
 
 -- what was decided doesn't hang on what is in hand
-after_same : (a : Around) (bytes parts : List ℕ) (after : After) → after_program (record a { message = bytes; parts = parts }) after ≡ after_program a after
+after_same : (a : Context) (bytes parts : List ℕ) (after : AfterStep) → after_program (record a { message = bytes; parts = parts }) after ≡ after_program a after
 after_same a bytes parts (afters.Attempt None) = refl
 after_same a bytes parts (afters.Attempt (Some i)) = refl
 after_same a bytes parts (afters.Expire o) = refl
@@ -112,7 +112,7 @@ after_same a bytes parts (afters.Drop w (Some next)) = refl
 -- a retry goes on with its call, and has its message
 pub retries_with : (sizes : Sizes) (old new : SeatData) (asked asked' : Asked) (next : Next) (r : Retrying) (step : RetryStep) → old.point ≡ points.Retry r step → asked' ≡ asked →
     new ≡ record old { message = Some (record { bytes = frame_of asked' (id_of r.attempt.id) (number_of r.attempt.number); parts = parts_of asked' (id_of r.attempt.id) (number_of r.attempt.number) }); call = Some asked' } →
-    ((a : Around) → next_program (taken_with (points.Retry r step) asked a) next ≡ after_call (point_program a (points.Retry r step)) asked) → next_program (around sizes new) next ≡ after_call (seat_program sizes old) asked
+    ((a : Context) → next_program (taken_with (points.Retry r step) asked a) next ≡ after_call (point_program a (points.Retry r step)) asked) → next_program (around sizes new) next ≡ after_call (seat_program sizes old) asked
 retries_with sizes old new asked asked' next r step at same is h =
     ap (λ (x : SeatData). next_program (around sizes x) next) is
     ∙ ap (λ (x : Asked). next_program (around sizes (record old { message = Some (record { bytes = frame_of x (id_of r.attempt.id) (number_of r.attempt.number); parts = parts_of x (id_of r.attempt.id) (number_of r.attempt.number) }); call = Some x })) next) same
@@ -125,7 +125,7 @@ IsNoRetry (points.Retry r at) = ⊥
 IsNoRetry other = Unit {0}
 
 -- whoever decides goes on with the call
-pub takes_on : (sizes : Sizes) (old : SeatData) (asked : Asked) (next : Next) (p : Point) → old.point ≡ p → TakesCall p → IsNoRetry p → ((a : Around) → next_program (taken_with p asked a) next ≡ after_call (point_program a p) asked) →
+pub takes_on : (sizes : Sizes) (old : SeatData) (asked : Asked) (next : Next) (p : Point) → old.point ≡ p → TakesCall p → IsNoRetry p → ((a : Context) → next_program (taken_with p asked a) next ≡ after_call (point_program a p) asked) →
     next_program (around sizes (record old { message = None; call = Some asked })) next ≡ after_call (seat_program sizes old) asked
 takes_on sizes old asked next (points.Decide c after (decides.Take w)) at takes none h =
     h (record (around sizes old) { message = []; parts = [] })

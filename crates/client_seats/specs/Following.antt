@@ -8,7 +8,7 @@ use Rattle.seat_programs.specs.Programs.{Program}
 use Rattle.seat_programs.specs.Cores.{resolved, still_waiting, next_step, said}
 use Rattle.seat_states.specs.declared.point.Next.{Next}
 use Rattle.seat_states.specs.declared.point.Next.TheVariants as nexts
-use Rattle.seat_states.specs.Points.{Around, HasInHand, framed}
+use Rattle.seat_states.specs.Points.{Context, HasInHand, framed}
 use Rattle.seat_states.specs.declared.point.Point.{Point}
 use Rattle.client_seats.specs.declared.seat.Seat.{Seat}
 use Rattle.client_seats.specs.Seats.{SeatData, around, seat_program}
@@ -33,7 +33,7 @@ pub record IsFramedAs (old new : SeatData) (id attempt : ℕ) : Type 0 where
   pub is : new ≡ record old { message = Some (record { bytes = frame_of asked id attempt; parts = parts_of asked id attempt }) }
 
 -- the message that is made behind its step is made
-abbrev pub IsWithFrame : Point → Around → Type 0
+abbrev pub IsWithFrame : Point → Context → Type 0
 IsWithFrame point a = framed point a ≡ a
 
 -- what its step needs is in hand, and it goes on as before

@@ -10,7 +10,7 @@ use Rattle.seat_programs.specs.Programs.{Program}
 use Rattle.seat_programs.specs.Clients.{HeldLife, client_from, give_back, ending_of}
 use Rattle.id_points.specs.Ids.{id_of, number_of}
 use Rattle.seat_states.specs.declared.point.Point.{Point}
-use Rattle.seat_states.specs.Points.{Around, point_program}
+use Rattle.seat_states.specs.Points.{Context, point_program}
 use Rattle.client_seats.specs.declared.hand.InHand.{InHand}
 use Rattle.client_seats.specs.declared.hand.InHand.TheVariants.{Nothing, Message, Call, Framed}
 use Rattle.client_seats.specs.declared.seat.Held.{Held}
@@ -99,7 +99,7 @@ module _ (sizes : Sizes) (seat : SeatData) where
   goes_on hs = if seat.leaving then give_back hs else client_from sizes hs seat.tasks
 
   -- what stands round its point, over a table of these sizes
-  abbrev pub around : Around
+  abbrev pub around : Context
   around = record {
     sizes = sizes;
     goes_on = goes_on;

@@ -6,7 +6,7 @@ ghost use Rattle.seat_programs.specs.Attempts.{retry};
 ghost use Rattle.seat_programs.specs.Clients.{HeldLife, held_under, without_name, give_back, operation, client_from, ending_of};
 ghost use Rattle.seat_programs.specs.Cores.{resolved, still_waiting, said, next_step};
 ghost use Rattle.id_points.specs.Ids.{id_of, number_of};
-ghost use Rattle.seat_states.specs.Points.{Around, client_on, point_program, next_program, after_program, IsCalling, TakesCall};
+ghost use Rattle.seat_states.specs.Points.{Context, client_on, point_program, next_program, after_program, IsCalling, TakesCall};
 ghost use Rattle.client_seats.specs.Seats.{lives, retries, bytes_of, asked_of, message_in, call_in, seat_data, around, client_of, seat_program};
 ghost use Rattle.sock_message.specs.Asked.{name_of};
 ghost use Rattle.call_points.specs.Steps.{after_call};
@@ -18,8 +18,8 @@ use id_points::{AttemptNumber, CallId};
 use message_parts::OutgoingParcel;
 use seat_programs::{Op, Sizes, Task};
 use seat_states::{
-    After, Aim, Attempt, CallStep, Calling, JoinStep, Next, Opening, Point, ReleaseStep, RetryStep,
-    Retrying, SeekStep, Then,
+    AfterStep, Aim, Attempt, CallStep, Calling, Continuation, JoinStep, Next, Opening, Point,
+    ReleaseStep, RetryStep, Retrying, SeekStep,
 };
 use sock_message::{BlockPool, Call, NoMemory};
 use sock_words::{Outcome, SocketId};
@@ -43,7 +43,7 @@ pub struct Kept {
 impl Kept {
     /// Where a client tries it.
     fn point(self) -> Point
-        ensures { (a : Around) → point_program a result ≡ retry a.sizes.requests (id_of self.id) (number_of self.attempt) (client_on a) }
+        ensures { (a : Context) → point_program a result ≡ retry a.sizes.requests (id_of self.id) (number_of self.attempt) (client_on a) }
     {
         // Its operation and its name are those of its call, once that is in hand.
         let attempt = Attempt {
@@ -120,7 +120,7 @@ fn take_held(held: &mut Vec<Held>, name: u16) -> Option<SocketId>
 /// Where a task begins, over a table of these sizes; nowhere where it is a `drop` of what isn't held. The message of a `send`
 /// and the call of a `call` come into the seat's hand.
 fn begin(held: &mut Vec<Held>, hand: &mut InHand, sizes: Sizes, task: Task) -> Option<Point>
-    ensures some { IfSome result (λ point. (a : Around) → a.sizes ≡ sizes → a.held ≡ lives held.new.items → a.message ≡ bytes_of (message_in hand.new) → a.asked ≡ asked_of (call_in hand.new) →
+    ensures some { IfSome result (λ point. (a : Context) → a.sizes ≡ sizes → a.held ≡ lives held.new.items → a.message ≡ bytes_of (message_in hand.new) → a.asked ≡ asked_of (call_in hand.new) →
         point_program a point ≡ operation sizes (lives held.old.items) task.number a.goes_on task.op) }
     ensures none { IfNone result ((goes_on : List HeldLife → Program) →
         operation sizes (lives held.old.items) task.number goes_on task.op ≡ Say task.number NotHeld (goes_on (lives held.new.items))) }
@@ -159,20 +159,28 @@ fn begin(held: &mut Vec<Held>, hand: &mut InHand, sizes: Sizes, task: Task) -> O
         }
         Op::Drop(name) => {
             let id = take_held(held, name)?;
-            Some(Point::Release(id.slot(), Then::Dropped { operation }, ReleaseStep::SubRef))
+            Some(Point::Release(
+                id.slot(),
+                Continuation::Dropped { operation },
+                ReleaseStep::SubRef,
+            ))
         }
     }
 }
 
 /// Where a client goes on behind its last task: it gives back what it holds, the oldest first.
 fn give_back(held: &mut Vec<Held>) -> Point
-    ensures { (a : Around) → a.goes_on ≡ give_back → a.held ≡ lives held.new.items → point_program a result ≡ give_back (lives held.old.items) }
+    ensures { (a : Context) → a.goes_on ≡ give_back → a.held ≡ lives held.new.items → point_program a result ≡ give_back (lives held.old.items) }
 {
     if held.is_empty() {
         return Point::Rest;
     }
     let oldest = held.remove(0);
-    Point::Release(oldest.id.slot(), Then::GaveBack, ReleaseStep::SubRef)
+    Point::Release(
+        oldest.id.slot(),
+        Continuation::GaveBack,
+        ReleaseStep::SubRef,
+    )
 }
 
 impl Seat {
@@ -378,7 +386,7 @@ impl Seat {
     }
 
     /// The seat goes on behind what it decided on an error.
-    fn follow_after(&mut self, sizes: Sizes, after: After, outcomes: &mut [Option<Outcome>])
+    fn follow_after(&mut self, sizes: Sizes, after: AfterStep, outcomes: &mut [Option<Outcome>])
         ensures { FollowsOn sizes (seat_data self.old) (seat_data self.new) (after_program (around sizes (seat_data self.old)) after) outcomes.old outcomes.new }
     {
         self.follow_flat(sizes, after.next(), outcomes);

@@ -19,7 +19,7 @@ use Rattle.reader_points.specs.Steps.{after_taking}
 use Rattle.reader_points.specs.declared.point.ByteCount.{ByteCount}
 use Rattle.reader_points.specs.declared.point.Reader.{Reader}
 use Rattle.reader_points.specs.Cuts.{is_asked}
-use Rattle.reader_points.specs.Points.{Around, count_of, reading_with, frames_program, point_program, with_held, with_frame, with_taking, IsLocker}
+use Rattle.reader_points.specs.Points.{Context, count_of, reading_with, frames_program, point_program, with_held, with_frame, with_taking, IsLocker}
 
 -- ## Frames that are no responses
 
@@ -84,7 +84,7 @@ last_left old new n l le =
     ap (λ m. drop m old) e ∙ sym (drop-drop (length new - n) (length old - length new) old) ∙ ap (λ x. drop (length new - n) x) l.last
 
 -- how a reading goes on behind its frames, whatever its rest was before
-pub read_same : (a : Around) (r : Reader) (old new kept : _) (e e' : Ending) → IsLeft old new → SameEnd (length new) e e' →
+pub read_same : (a : Context) (r : Reader) (old new kept : _) (e e' : Ending) → IsLeft old new → SameEnd (length new) e e' →
     read_on (reading_with a r old kept) old e (read a.calls) ≡ read_on (reading_with a r new kept) new e' (read a.calls)
 read_same a r old new kept (Rest n) (Rest m) l h =
     let f : last_of n old ≡ last_of m new = last_left old new n l h.1 ∙ ap (λ k. last_of k new) h.0 in
@@ -96,7 +96,7 @@ read_same a r old new kept (Fault at f) (Rest n) l h = absurd h
 -- ## What is cut
 
 -- the frames of a stream are gone through
-abbrev goes : Around → Reader → List ℕ → List Frame → Stream → Program
+abbrev goes : Context → Reader → List ℕ → List Frame → Stream → Program
 goes a r bytes kept s = responses (length a.calls) s.frames kept (λ kept'. read_on (reading_with a r bytes kept') bytes s.ending (read a.calls))
 
 none_asked : (ids : ℕ) (fs kept : List Frame) (k : List Frame → Program) → AllByRecursion (IsSkipped ids) fs → responses ids fs kept k ≡ k kept
@@ -106,7 +106,7 @@ none_asked ids (f ∷ fs) kept k all = rw all.0 (none_asked ids fs kept k all.1)
 last_all : (bytes : List ℕ) → last_of (length bytes) bytes ≡ bytes
 last_all bytes = let e : length bytes - length bytes ≡ 0 = omega arith in rw e refl
 
-module _ (a : Around) (r : Reader) (old new : List ℕ) (fs : List Frame) (cut : Cut old fs new) (left : IsLeft old new) (all : AllByRecursion (IsSkipped (length a.calls)) fs) where
+module _ (a : Context) (r : Reader) (old new : List ℕ) (fs : List Frame) (cut : Cut old fs new) (left : IsLeft old new) (all : AllByRecursion (IsSkipped (length a.calls)) fs) where
   rest_behind : judged new ≡ NoneYet → frames_program a r old a.kept ≡ read_on (reading_with a r new a.kept) new (Rest (length new)) (read a.calls)
   rest_behind e = ap (goes a r old a.kept) (stream_rest old new fs cut e)
       ∙ none_asked (length a.calls) fs a.kept (λ kept. read_on (reading_with a r old kept) old (Rest (length new)) (read a.calls)) all
@@ -126,7 +126,7 @@ module _ (a : Around) (r : Reader) (old new : List ℕ) (fs : List Frame) (cut :
       ∙ none_asked (length a.calls) fs a.kept (λ kept. read_on (reading_with a r old kept) old (Fault cut.size f) (read a.calls)) all
 
 -- a response is cut
-module _ (a : Around) (r : Reader) (old new : List ℕ) (fs : List Frame) (f : Frame) (cut : Cut old (fs ++ f ∷ []) new) (left : IsLeft old new) (all : AllByRecursion (IsSkipped (length a.calls)) fs) (asked : is_asked (length a.calls) f ≡ true) where
+module _ (a : Context) (r : Reader) (old new : List ℕ) (fs : List Frame) (f : Frame) (cut : Cut old (fs ++ f ∷ []) new) (left : IsLeft old new) (all : AllByRecursion (IsSkipped (length a.calls)) fs) (asked : is_asked (length a.calls) f ≡ true) where
   abbrev later : Stream
   later = stream_from cut.size new
 
@@ -158,7 +158,7 @@ read_rest : (q : Reading) (ops : List ℕ) (x y bytes : List ℕ) (e : Ending) �
 read_rest q ops x y bytes (Rest n) = refl
 read_rest q ops x y bytes (Fault at f) = refl
 
-pub takes_bytes : (a : Around) (r : Reader) (total : ByteCount) (bytes : List ℕ) → count_of total ≡ count_of r.total + length bytes →
+pub takes_bytes : (a : Context) (r : Reader) (total : ByteCount) (bytes : List ℕ) → count_of total ≡ count_of r.total + length bytes →
     frames_program (with_taking (Bytes bytes) a) (record r { total = total }) (a.held ++ bytes) a.kept ≡ after_taking (point_program a (points.Take r)) (Bytes bytes)
 takes_bytes a r total bytes e =
     let s = stream (a.held ++ bytes) in

@@ -20,9 +20,9 @@ use Rattle.reader_points.specs.declared.point.CloseStep.TheVariants as closes
 use Rattle.reader_points.specs.declared.point.Closing.{Closing}
 use Rattle.reader_points.specs.declared.point.Lost.{Lost}
 use Rattle.reader_points.specs.declared.point.ReadPoint.TheVariants as points
-use Rattle.reader_points.specs.Points.{Around, code_by, posts_program, close_program, load_program, behind_program, said_program, answer_program, point_program, with_asked}
+use Rattle.reader_points.specs.Points.{Context, code_by, posts_program, close_program, load_program, behind_program, said_program, answer_program, point_program, with_asked}
 
-module _ (a : Around) where
+module _ (a : Context) where
   -- ## The end of a call by a response
 
   -- the id is one of the response in hand

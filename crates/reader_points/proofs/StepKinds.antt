@@ -37,10 +37,10 @@ use Rattle.reader_points.specs.declared.point.Reader.{Reader}
 use Rattle.reader_points.specs.declared.point.ReadPoint.{ReadPoint}
 use Rattle.reader_points.specs.declared.point.ReadPoint.TheVariants as points
 use Rattle.reader_points.specs.declared.point.ReadStep.TheVariants as steps
-use Rattle.reader_points.specs.Points.{Around, on_call, error_in, room_at, answer_program, close_program, fail_program, ended_call, point_program, NO_FRAME, GoesBy, GoesByWord, TakesBytes, TakesCall}
+use Rattle.reader_points.specs.Points.{Context, on_call, error_in, room_at, answer_program, close_program, fail_program, ended_call, point_program, NO_FRAME, GoesBy, GoesByWord, TakesBytes, TakesCall}
 
 -- a reader with nothing in hand
-abbrev pub nowhere : Around
+abbrev pub nowhere : Context
 nowhere = record { calls = []; held = []; kept = []; frame = NO_FRAME; fresh = false; asked = record { operation = 0; names = []; service = []; method = []; payload = []; attachment = []; range = 0 } }
 
 abbrev FindsWord : steps_aside.Step → Type 0
@@ -95,7 +95,7 @@ pub posts_by : (asked : Asked) (l : Lost) (at : PostStep) (x : Aside) (k : Posti
 posts_by asked l posts.Load x k e = goes_by (points.Post l posts.Load) asked x (subst FindsIn (sym e) tt) tt
 posts_by asked l (posts.Exchange from) x k e = goes_by (points.Post l (posts.Exchange from)) asked x (subst FindsIn (sym e) tt) tt
 
-pub answers_by : (a : Around) (b : Behind) (id : CallId) (at : AnswerStep) (x : Aside) → Some (step_of a.asked x) ≡ aside_in (answer_program a b (id_of id) at) → GoesBy (points.Answer b id at) (Some (steps.Aside x))
+pub answers_by : (a : Context) (b : Behind) (id : CallId) (at : AnswerStep) (x : Aside) → Some (step_of a.asked x) ≡ aside_in (answer_program a b (id_of id) at) → GoesBy (points.Answer b id at) (Some (steps.Aside x))
 answers_by a b id answers.Take x e = takes_call (points.Answer b id answers.Take) a.asked x _ e tt
 answers_by a b id (answers.End o ends.End) x e = goes_by (points.Answer b id (answers.End o ends.End)) a.asked x (subst FindsIn (sym e) tt) tt
 answers_by a b id (answers.End o ends.Free) x e = goes_by (points.Answer b id (answers.End o ends.Free)) a.asked x (subst FindsIn (sym e) tt) tt
@@ -141,7 +141,7 @@ module _ (point : ReadPoint) (asked : Asked) where
   on_bytes (steps.Call call) link n e is t = absurd (cc)
   on_bytes (steps.Aside x) link n e is t = let same : Some (step_of asked x) ≡ Some (steps_aside.TakeBytes link n) = cc in takes_bytes x link n same is t
 
-closes_by : (a : Around) (c : Closing) (at : CloseStep) → FirstFindsIn (first_in (close_program a c at))
+closes_by : (a : Context) (c : Closing) (at : CloseStep) → FirstFindsIn (first_in (close_program a c at))
 closes_by a c closes.AddRef = tt
 closes_by a c closes.SetOdd = tt
 closes_by a c closes.StoreCode = tt
@@ -158,14 +158,14 @@ either : (b : Bool) (p q : Program) → FirstFindsIn (first_of p) → FirstFinds
 either true p q h k = h
 either false p q h k = k
 
-judges_by : (a : Around) (l : Lost) (word : IdWord) → FirstFindsIn (first_in (fail_program a l (fails.Judge word)))
+judges_by : (a : Context) (l : Lost) (word : IdWord) → FirstFindsIn (first_in (fail_program a l (fails.Judge word)))
 judges_by a l word =
     let slot = id_slot (id_of l.id) in
     either (ends_call (parts word.0) (error_in l)) (end_id slot (ended_call a l (HasEnded a.asked.operation (code_of (error_in l)))))
     (programs.Aside (steps_aside.PutCall slot a.asked) (λ _. Round (Unlocks slot word.0 true) (unlocked (record { id = id_of l.id; attempt = (parts word.0).attempt + 1 }) (ended_call a l)))) tt tt
 
 -- a point goes on as the first step of its program does
-pub goes_by_first : (a : Around) (point : ReadPoint) (step : ReadStep) → first_in (point_program a point) ≡ Some (step_as a.asked step) → GoesBy point (Some step)
+pub goes_by_first : (a : Context) (point : ReadPoint) (step : ReadStep) → first_in (point_program a point) ≡ Some (step_as a.asked step) → GoesBy point (Some step)
 goes_by_first a points.Rest step e = absurd (cc)
 goes_by_first a (points.Open link o) step e = on_word (points.Open link o) a.asked step (subst FirstFindsIn e tt) tt
 goes_by_first a (points.Take r) step e = on_bytes (points.Take r) a.asked step r.link (room_at (points.Take r)) e refl tt

@@ -9,11 +9,11 @@ use Rattle.reader_points.specs.declared.point.ReadPoint.TheVariants as points
 use Rattle.reader_points.specs.declared.point.ReadNext.TheVariants as nexts
 use Rattle.reader_points.specs.declared.point.Taken.{Taken}
 use Rattle.reader_points.specs.declared.point.Taken.TheVariants as takens
-use Rattle.reader_points.specs.Points.{Around, count_of, point_program, next_program, with_taking, IsTaken}
+use Rattle.reader_points.specs.Points.{Context, count_of, point_program, next_program, with_taking, IsTaken}
 use Rattle.reader_points.specs.Steps.{after_taking}
 use Rattle.reader_points.proofs.Frames.{takes_bytes}
 
-module _ (a : Around) (r : Reader) where
+module _ (a : Context) (r : Reader) where
   pub took_bytes : (total : ByteCount) (n : ℕ) (taking : Taking) → count_of total ≡ count_of r.total + n → IsTaken (takens.Bytes n) taking →
       next_program (with_taking taking a) (nexts.Frames (record r { total = total })) ≡ after_taking (point_program a (points.Take r)) taking
   took_bytes total n (Bytes bytes) e h = takes_bytes a r total bytes (e ∙ ap (λ m. count_of r.total + m) h)
@@ -57,7 +57,7 @@ IsOver takens.Over = Unit {0}
 IsOver takens.Closed = Unit {0}
 IsOver other = ⊥
 
-module _ (a : Around) (link : ℕ) (before : ByteCount) where
+module _ (a : Context) (link : ℕ) (before : ByteCount) where
   pub threw_bytes : (total : ByteCount) (n : ℕ) (taking : Taking) → count_of total ≡ count_of before + n → nat_lt (count_of total) LIMIT ≡ true → IsTaken (takens.Bytes n) taking →
       point_program a (points.Discard link total) ≡ after_taking (point_program a (points.Discard link before)) taking
   threw_bytes total n (Bytes bytes) e few h =

@@ -43,7 +43,7 @@ use Rattle.reader_points.specs.declared.point.Taken.TheVariants as takens
 
 -- what stands round a reader's point: the operations that are calls, the bytes behind the last frame that was cut, the responses
 -- kept, the response in hand, whether that is a fresh one, which isn't kept, and the call in hand
-pub record Around : Type 0 where
+pub record Context : Type 0 where
   pub calls : List ℕ
   pub held : List ℕ
   pub kept : List Frame
@@ -66,7 +66,7 @@ error_in l = error_of (code_by l.closing.fault) (number_of l.attempt)
 abbrev pub on_call : Lost → OnCall
 on_call l = record { id = l.id; error = record { 0 = error_in l } }
 
-module _ (a : Around) where
+module _ (a : Context) where
   -- where the reading stands, with these bytes and responses in hand
   abbrev pub reading_with : Reader → List ℕ → List Frame → Reading
   reading_with r bytes kept = record { ids = length a.calls; link = r.link; id = r.socket.0; rest = bytes; total = count_of r.total; kept = kept }
@@ -161,29 +161,29 @@ module _ (a : Around) where
 -- ## What a step finds
 
 -- with what a take gave
-abbrev pub with_taking : Taking → Around → Around
+abbrev pub with_taking : Taking → Context → Context
 with_taking (Bytes bytes) a = record a { held = a.held ++ bytes }
 with_taking other a = a
 
-abbrev pub with_asked : Asked → Around → Around
+abbrev pub with_asked : Asked → Context → Context
 with_asked asked a = record a { asked = asked }
 
 -- with a fresh response in hand, and with one that is kept
-abbrev pub with_frame : Frame → Around → Around
+abbrev pub with_frame : Frame → Context → Context
 with_frame frame a = record a { frame = frame; fresh = true }
 
-abbrev pub with_kept : Frame → Around → Around
+abbrev pub with_kept : Frame → Context → Context
 with_kept frame a = record a { frame = frame; fresh = false }
 
 -- without one
 abbrev pub NO_FRAME : Frame
 NO_FRAME = record { meta = record { request = None; response = None; compress_type = pos 0; correlation_id = 0; attachment_size = pos 0 }; payload = []; attachment = [] }
 
-abbrev pub without_frame : Around → Around
+abbrev pub without_frame : Context → Context
 without_frame a = record a { frame = NO_FRAME; fresh = false }
 
 -- with these bytes left
-abbrev pub with_held : List ℕ → Around → Around
+abbrev pub with_held : List ℕ → Context → Context
 with_held bytes a = record a { held = bytes }
 
 -- what a take found; where a run is ending, what isn't there any more is over too
@@ -222,7 +222,7 @@ IsBelow n = nat_lt (count_of n) LIMIT ≡ true
 
 -- nothing came yet to a reader that waits for its socket; where bytes are taken there is neither a whole frame nor a fault in hand, and the
 -- limit isn't reached; a lock is that of the response in hand, which is a fresh one
-abbrev pub HasInHand : Around → ReadPoint → Type 0
+abbrev pub HasInHand : Context → ReadPoint → Type 0
 HasInHand a (points.Open link o) = (a.held ≡ []) × (a.kept ≡ [])
 HasInHand a (points.Take r) = (judged a.held ≡ NoneYet) × IsBelow r.total
 HasInHand a (points.Lock r l at) = (a.fresh ≡ true) × IsLocker a.frame l
@@ -230,7 +230,7 @@ HasInHand a (points.Discard link total) = IsBelow total
 HasInHand a other = Unit {0}
 
 -- only a fresh response is kept
-abbrev pub HasNext : Around → ReadNext → Type 0
+abbrev pub HasNext : Context → ReadNext → Type 0
 HasNext a (nexts.Point point) = HasInHand a point
 HasNext a (nexts.Early r) = a.fresh ≡ true
 HasNext a other = Unit {0}

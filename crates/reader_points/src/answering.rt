@@ -2,7 +2,7 @@ ghost use Rattle.std.specs.Prelude.{◌≡◌};
 ghost use Rattle.sock_message.specs.Asked.{Asked};
 ghost use Rattle.call_points.specs.Steps.{after_word, after_call};
 ghost use Rattle.id_points.specs.Ids.{id_of};
-ghost use Rattle.reader_points.specs.Points.{Around, answer_program, next_program, point_program, with_asked, AnswersByWord, HasInHand, HasNext};
+ghost use Rattle.reader_points.specs.Points.{Context, answer_program, next_program, point_program, with_asked, AnswersByWord, HasInHand, HasNext};
 
 use crate::point::{AnswerStep, Behind, ReadNext, ReadPoint};
 use call_points::EndStep;
@@ -11,8 +11,8 @@ use id_points::CallId;
 impl Behind {
     /// Where the end of the call with this id goes on with the call in hand, which is that of this operation.
     pub fn with_call(self, id: CallId, operation: u16) -> ReadPoint
-        ensures program { (a : Around) (asked : Asked) → asked.operation ≡ operation → point_program (with_asked asked a) result ≡ after_call (answer_program a self (id_of id) AnswerStep.Take) asked }
-        ensures hand { (a : Around) → HasInHand a result }
+        ensures program { (a : Context) (asked : Asked) → asked.operation ≡ operation → point_program (with_asked asked a) result ≡ after_call (answer_program a self (id_of id) AnswerStep.Take) asked }
+        ensures hand { (a : Context) → HasInHand a result }
     {
         ReadPoint::Answer(self, id, AnswerStep::End(operation, EndStep::End))
     }
@@ -22,8 +22,8 @@ impl AnswerStep {
     /// How it goes on by the word that its step found.
     pub fn next(self, behind: Behind, id: CallId, found: u64) -> ReadNext
         requires { AnswersByWord self }
-        ensures program { (a : Around) → next_program a result ≡ after_word (answer_program a behind (id_of id) self) found }
-        ensures hand { (a : Around) → HasNext a result }
+        ensures program { (a : Context) → next_program a result ≡ after_word (answer_program a behind (id_of id) self) found }
+        ensures hand { (a : Context) → HasNext a result }
     {
         match self {
             AnswerStep::Take => ReadNext::Point(ReadPoint::Rest),

@@ -1,6 +1,6 @@
 ghost use Rattle.std.specs.Prelude.{◌≡◌, ◌≤◌, ◌<◌, ◌+◌, length};
 ghost use Rattle.call_points.specs.Steps.{after_word};
-ghost use Rattle.reader_points.specs.Points.{Around, next_program, close_program, posts_program, point_program, MayFindClosing, HasInHand, HasNext};
+ghost use Rattle.reader_points.specs.Points.{Context, next_program, close_program, posts_program, point_program, MayFindClosing, HasInHand, HasNext};
 
 use crate::point::{CloseStep, Closing, ReadNext, ReadPoint};
 use seat_states::{ReleaseStep, Released};
@@ -29,8 +29,8 @@ impl Closing {
     /// away.
     pub fn posts(self, calls: &[u16]) -> ReadPoint
         requires { length calls.now ≤ 4096 }
-        ensures program { (a : Around) → a.calls ≡ calls.now → point_program a result ≡ posts_program a self }
-        ensures hand { (a : Around) → HasInHand a result }
+        ensures program { (a : Context) → a.calls ≡ calls.now → point_program a result ≡ posts_program a self }
+        ensures hand { (a : Context) → HasInHand a result }
     {
         let next = self.next as usize;
         let reader = self.reader;
@@ -48,8 +48,8 @@ impl CloseStep {
     /// How the failing of the reader's socket goes on by the word that its step found.
     pub fn next(self, closing: Closing, found: u64) -> ReadNext
         requires { MayFindClosing self found }
-        ensures program { (a : Around) → next_program a result ≡ after_word (close_program a closing self) found }
-        ensures hand { (a : Around) → HasNext a result }
+        ensures program { (a : Context) → next_program a result ≡ after_word (close_program a closing self) found }
+        ensures hand { (a : Context) → HasNext a result }
     {
         let word = Vref::from_word(found);
         match self {

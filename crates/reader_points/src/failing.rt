@@ -2,7 +2,7 @@ ghost use Rattle.std.specs.Prelude.{◌≡◌, Some};
 ghost use Rattle.sock_message.specs.Asked.{Asked};
 ghost use Rattle.call_points.specs.Steps.{aside_in, after_word, after_call};
 ghost use Rattle.call_points.specs.Steps as asides;
-ghost use Rattle.reader_points.specs.Points.{Around, next_program, point_program, fail_program, with_asked, FailsByWord, HasInHand, HasNext, GoesBy};
+ghost use Rattle.reader_points.specs.Points.{Context, next_program, point_program, fail_program, with_asked, FailsByWord, HasInHand, HasNext, GoesBy};
 
 use crate::point::{FailStep, Lost, ReadNext, ReadPoint, ReadStep};
 use call_points::Aside;
@@ -12,7 +12,7 @@ use sock_words::IdWord;
 impl Lost {
     /// The next step of the end of the call.
     pub fn fail_step(self, step: FailStep) -> Aside
-        ensures program { (a : Around) → Some (asides.step_of a.asked result) ≡ aside_in (fail_program a self step) }
+        ensures program { (a : Context) → Some (asides.step_of a.asked result) ≡ aside_in (fail_program a self step) }
         ensures kind { GoesBy (ReadPoint.Fail self step) (Some (ReadStep.Aside result)) }
     {
         let slot = self.id.slot();
@@ -25,8 +25,8 @@ impl Lost {
 
     /// Where it goes on with the call in hand; its id has this word.
     pub fn with_call(self, word: IdWord) -> ReadPoint
-        ensures program { (a : Around) (asked : Asked) → point_program (with_asked asked a) result ≡ after_call (fail_program a self (FailStep.Take word)) asked }
-        ensures hand { (a : Around) → HasInHand a result }
+        ensures program { (a : Context) (asked : Asked) → point_program (with_asked asked a) result ≡ after_call (fail_program a self (FailStep.Take word)) asked }
+        ensures hand { (a : Context) → HasInHand a result }
     {
         ReadPoint::Fail(self, FailStep::Judge(word))
     }
@@ -34,8 +34,8 @@ impl Lost {
     /// How it goes on behind a step that found this word; the call in hand is that of this operation.
     pub fn fail_next(self, step: FailStep, operation: u16, found: u64) -> ReadNext
         requires { FailsByWord step }
-        ensures program { (a : Around) → a.asked.operation ≡ operation → next_program a result ≡ after_word (fail_program a self step) found }
-        ensures hand { (a : Around) → HasNext a result }
+        ensures program { (a : Context) → a.asked.operation ≡ operation → next_program a result ≡ after_word (fail_program a self step) found }
+        ensures hand { (a : Context) → HasNext a result }
     {
         match step {
             FailStep::Take(_) => ReadNext::Point(ReadPoint::Rest),

@@ -1,7 +1,7 @@
 ghost use Rattle.std.specs.Prelude.{◌≡◌};
 ghost use Rattle.sock_message.specs.Asked.{Asked};
 ghost use Rattle.call_points.specs.Steps.{after_word, after_call};
-ghost use Rattle.reader_points.specs.Points.{Around, next_program, point_program, with_asked, HasInHand, HasNext, GoesByWord, TakesCall, MayFind, IsWithin};
+ghost use Rattle.reader_points.specs.Points.{Context, next_program, point_program, with_asked, HasInHand, HasNext, GoesByWord, TakesCall, MayFind, IsWithin};
 
 use crate::point::{AnswerStep, ByteCount, FailStep, ReadNext, ReadPoint, Reader};
 use sock_words::SocketId;
@@ -11,8 +11,8 @@ const NO_SOCKET: u64 = u64::MAX;
 
 /// How the reader of a link goes on by the word of the `open` of its link and operation.
 fn opened(link: u16, operation: u16, found: u64) -> ReadNext
-    ensures program { (a : Around) → HasInHand a (ReadPoint.Open link operation) → next_program a result ≡ after_word (point_program a (ReadPoint.Open link operation)) found }
-    ensures hand { (a : Around) → HasInHand a (ReadPoint.Open link operation) → HasNext a result }
+    ensures program { (a : Context) → HasInHand a (ReadPoint.Open link operation) → next_program a result ≡ after_word (point_program a (ReadPoint.Open link operation)) found }
+    ensures hand { (a : Context) → HasInHand a (ReadPoint.Open link operation) → HasNext a result }
 {
     if found == 0 {
         ReadNext::Point(ReadPoint::Open(link, operation))
@@ -34,8 +34,8 @@ impl ReadPoint {
         requires within { IsWithin self }
         requires word { MayFind self found }
         requires step { GoesByWord self }
-        ensures program { (a : Around) → a.asked.operation ≡ operation → HasInHand a self → next_program a result ≡ after_word (point_program a self) found }
-        ensures hand { (a : Around) → HasInHand a self → HasNext a result }
+        ensures program { (a : Context) → a.asked.operation ≡ operation → HasInHand a self → next_program a result ≡ after_word (point_program a self) found }
+        ensures hand { (a : Context) → HasInHand a self → HasNext a result }
     {
         match self {
             ReadPoint::Open(link, operation) => opened(link, operation, found),
@@ -56,8 +56,8 @@ impl ReadPoint {
     /// Where it goes on with a call in hand that it took out of its home, which is that of this operation.
     pub fn with_call(self, operation: u16) -> ReadPoint
         requires { TakesCall self }
-        ensures program { (a : Around) (asked : Asked) → asked.operation ≡ operation → point_program (with_asked asked a) result ≡ after_call (point_program a self) asked }
-        ensures hand { (a : Around) → HasInHand a result }
+        ensures program { (a : Context) (asked : Asked) → asked.operation ≡ operation → point_program (with_asked asked a) result ≡ after_call (point_program a self) asked }
+        ensures hand { (a : Context) → HasInHand a result }
     {
         match self {
             ReadPoint::Answer(behind, id, AnswerStep::Take) => behind.with_call(id, operation),

@@ -6,7 +6,7 @@ ghost use Rattle.prpc_frame.specs.Meaning.{frame_of};
 ghost use Rattle.id_points.specs.Ids.{id_of};
 ghost use Rattle.reader_points.specs.Kept.{IsFirstKept, is_kept_of};
 ghost use Rattle.corr_core.specs.Word.{parts};
-ghost use Rattle.reader_points.specs.Points.{Around, next_program, point_program, with_kept, HasInHand};
+ghost use Rattle.reader_points.specs.Points.{Context, next_program, point_program, with_kept, HasInHand};
 
 use crate::point::{AnswerStep, Behind, FailStep, Lost, ReadNext, ReadPoint};
 use id_points::CallId;
@@ -42,17 +42,17 @@ pub fn first_kept(kept: &[Frame], id: CallId, range: u8) -> Option<usize>
 impl Lost {
     /// Where its id is locked, a kept response ends the call,
     pub fn answers(self) -> ReadPoint
-        ensures program { (a : Around) (word : IdWord) (f : model.Frame) (fs : List model.Frame) → slot_in f ≡ id_slot (id_of self.id) → kept_for (id_of self.id) (parts word.0).range a.kept ≡ f ∷ fs
+        ensures program { (a : Context) (word : IdWord) (f : model.Frame) (fs : List model.Frame) → slot_in f ≡ id_slot (id_of self.id) → kept_for (id_of self.id) (parts word.0).range a.kept ≡ f ∷ fs
             → point_program (with_kept f a) result ≡ next_program a (ReadNext.Locked self word) }
-        ensures hand { (a : Around) → HasInHand a result }
+        ensures hand { (a : Context) → HasInHand a result }
     {
         ReadPoint::Answer(Behind::Posts(self.closing), self.id, AnswerStep::Take)
     }
 
     /// or, where none was kept, the error does; the id has this word.
     pub fn fails(self, word: IdWord) -> ReadPoint
-        ensures program { (a : Around) → kept_for (id_of self.id) (parts word.0).range a.kept ≡ [] → point_program a result ≡ next_program a (ReadNext.Locked self word) }
-        ensures hand { (a : Around) → HasInHand a result }
+        ensures program { (a : Context) → kept_for (id_of self.id) (parts word.0).range a.kept ≡ [] → point_program a result ≡ next_program a (ReadNext.Locked self word) }
+        ensures hand { (a : Context) → HasInHand a result }
     {
         ReadPoint::Fail(self, FailStep::Take(word))
     }

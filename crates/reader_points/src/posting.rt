@@ -5,7 +5,7 @@ ghost use Rattle.seat_programs.specs.Readers.{posted_last};
 ghost use Rattle.call_points.specs.Steps.{after_word};
 ghost use Rattle.id_points.specs.Ids.{id_of, number_of};
 ghost use Rattle.id_points.specs.Turns.{post_on};
-ghost use Rattle.reader_points.specs.Points.{Around, next_program, load_program, posts_program, on_call, error_in, HasNext};
+ghost use Rattle.reader_points.specs.Points.{Context, next_program, load_program, posts_program, on_call, error_in, HasNext};
 
 use crate::point::{Closing, Lost, ReadNext, ReadPoint};
 use call_points::{OnCall, PostStep};
@@ -42,8 +42,8 @@ impl Closing {
 
     /// How it goes on by the at word of a call: where this names the link, an error is posted.
     pub fn loaded(self, found: u64) -> ReadNext
-        ensures program { (a : Around) (operation : ℕ) → next_program a result ≡ after_word (load_program a self operation) found }
-        ensures hand { (a : Around) → HasNext a result }
+        ensures program { (a : Context) (operation : ℕ) → next_program a result ≡ after_word (load_program a self operation) found }
+        ensures hand { (a : Context) → HasNext a result }
     {
         let word = AtWord::from_word(found);
         if self.is_named(word) {
@@ -68,8 +68,8 @@ impl Lost {
 
     /// How it goes on behind the step of the post.
     pub fn posted(self, turn: PostTurn) -> ReadNext
-        ensures program { (a : Around) → next_program a result ≡ post_on (id_of self.id) (error_in self) (posted_last (id_of self.id) (error_in self) a.kept (posts_program a self.closing)) turn }
-        ensures hand { (a : Around) → HasNext a result }
+        ensures program { (a : Context) → next_program a result ≡ post_on (id_of self.id) (error_in self) (posted_last (id_of self.id) (error_in self) a.kept (posts_program a self.closing)) turn }
+        ensures hand { (a : Context) → HasNext a result }
     {
         match turn {
             PostTurn::Gone | PostTurn::Stale | PostTurn::Crowded(_, _) | PostTurn::Queued => {

@@ -6,7 +6,7 @@ ghost use Rattle.corr_core.specs.Word.{parts};
 ghost use Rattle.seat_programs.specs.Asides.{call_id, id_slot};
 ghost use Rattle.id_points.specs.Ids.{id_of};
 ghost use Rattle.id_points.specs.Turns.{lock_on, sought_as};
-ghost use Rattle.reader_points.specs.Points.{Around, point_program, next_program, frames_behind, with_taking, room, IsTaken, IsLocker, FitsRoom, HasInHand, HasNext};
+ghost use Rattle.reader_points.specs.Points.{Context, point_program, next_program, frames_behind, with_taking, room, IsTaken, IsLocker, FitsRoom, HasInHand, HasNext};
 ghost use Rattle.reader_points.specs.Steps.{after_taking};
 
 use crate::point::{
@@ -38,8 +38,8 @@ impl Reader {
     /// How it goes on by what a take found.
     pub fn taken(self, taken: Taken) -> ReadNext
         requires { FitsRoom (room self.total) taken }
-        ensures program { (a : Around) (taking : Taking) → IsTaken taken taking → next_program (with_taking taking a) result ≡ after_taking (point_program a (ReadPoint.Take self)) taking }
-        ensures hand { (a : Around) (taking : Taking) → IsTaken taken taking → HasInHand a (ReadPoint.Take self) → HasNext (with_taking taking a) result }
+        ensures program { (a : Context) (taking : Taking) → IsTaken taken taking → next_program (with_taking taking a) result ≡ after_taking (point_program a (ReadPoint.Take self)) taking }
+        ensures hand { (a : Context) (taking : Taking) → IsTaken taken taking → HasInHand a (ReadPoint.Take self) → HasNext (with_taking taking a) result }
     {
         match taken {
             Taken::Bytes(count) => ReadNext::Frames(Reader {
@@ -56,8 +56,8 @@ impl Reader {
 
     /// How it goes on behind a step on the way to the lock of its response.
     pub fn locked(self, locker: Locker, turn: LockTurn) -> ReadNext
-        ensures program { (a : Around) → IsLocker a.frame locker → next_program a result ≡ lock_on locker.slot (sought_as locker.sought) (answered a.frame a.kept (frames_behind a self)) turn }
-        ensures hand { (a : Around) → a.fresh ≡ true → IsLocker a.frame locker → HasNext a result }
+        ensures program { (a : Context) → IsLocker a.frame locker → next_program a result ≡ lock_on locker.slot (sought_as locker.sought) (answered a.frame a.kept (frames_behind a self)) turn }
+        ensures hand { (a : Context) → a.fresh ≡ true → IsLocker a.frame locker → HasNext a result }
     {
         match turn {
             LockTurn::NotThere(found) => {
@@ -103,8 +103,8 @@ fn comes_early(locker: Locker, found: IdWord) -> bool
 /// Where the throwing away goes on by what a take of this link found, over which so many bytes came before.
 pub fn discarded(link: u16, total: ByteCount, taken: Taken) -> ReadPoint
     requires { FitsRoom (room total) taken }
-    ensures program { (a : Around) (taking : Taking) → IsTaken taken taking → point_program a result ≡ after_taking (point_program a (ReadPoint.Discard link total)) taking }
-    ensures hand { (a : Around) → HasInHand a (ReadPoint.Discard link total) → HasInHand a result }
+    ensures program { (a : Context) (taking : Taking) → IsTaken taken taking → point_program a result ≡ after_taking (point_program a (ReadPoint.Discard link total)) taking }
+    ensures hand { (a : Context) → HasInHand a (ReadPoint.Discard link total) → HasInHand a result }
 {
     match taken {
         Taken::Bytes(count) => {

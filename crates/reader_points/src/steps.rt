@@ -4,7 +4,7 @@ ghost use Rattle.id_points.specs.Ids.{id_of};
 ghost use Rattle.call_points.specs.Steps.{aside_in};
 ghost use Rattle.call_points.specs.Steps as asides;
 ghost use Rattle.seat_states.specs.Steps.{OfCall, step_of, first_in};
-ghost use Rattle.reader_points.specs.Points.{Around, close_program, answer_program, point_program, code_by, room, GoesBy};
+ghost use Rattle.reader_points.specs.Points.{Context, close_program, answer_program, point_program, code_by, room, GoesBy};
 ghost use Rattle.reader_points.specs.Steps.{step_as};
 
 use crate::point::{AnswerStep, Behind, ByteCount, CloseStep, Closing, ReadPoint, ReadStep};
@@ -25,7 +25,7 @@ impl Closing {
 impl CloseStep {
     /// The next step of the failing of a reader's socket.
     fn call(self, closing: Closing) -> Call
-        ensures { (a : Around) → first_in (close_program a closing self) ≡ Some (OfCall (step_of result)) }
+        ensures { (a : Context) → first_in (close_program a closing self) ≡ Some (OfCall (step_of result)) }
     {
         let id = closing.reader.socket;
         match self {
@@ -41,7 +41,7 @@ impl CloseStep {
 impl AnswerStep {
     /// The next step of the end of the call with this id by a response.
     fn aside(self, id: CallId) -> Aside
-        ensures { (a : Around) (b : Behind) → Some (asides.step_of a.asked result) ≡ aside_in (answer_program a b (id_of id) self) }
+        ensures { (a : Context) (b : Behind) → Some (asides.step_of a.asked result) ≡ aside_in (answer_program a b (id_of id) self) }
     {
         match self {
             AnswerStep::Take => Aside::TakeCall(id.slot()),
@@ -53,7 +53,7 @@ impl AnswerStep {
 impl ReadPoint {
     /// The next step, if there is one.
     pub fn step(self) -> Option<ReadStep>
-        ensures program { (a : Around) → option_map (step_as a.asked) result ≡ first_in (point_program a self) }
+        ensures program { (a : Context) → option_map (step_as a.asked) result ≡ first_in (point_program a self) }
         ensures kind { GoesBy self result }
     {
         match self {

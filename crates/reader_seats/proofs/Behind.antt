@@ -12,7 +12,7 @@ use Rattle.reader_points.specs.declared.point.ReadPoint.{ReadPoint}
 use Rattle.reader_points.specs.declared.point.ReadPoint.TheVariants as points
 use Rattle.reader_points.specs.declared.point.ReadNext.{ReadNext}
 use Rattle.reader_points.specs.declared.point.ReadNext.TheVariants as nexts
-use Rattle.reader_points.specs.Points.{Around, frames_behind, point_program, next_program, with_taking, HasInHand, HasNext, IsBelow}
+use Rattle.reader_points.specs.Points.{Context, frames_behind, point_program, next_program, with_taking, HasInHand, HasNext, IsBelow}
 use Rattle.reader_points.specs.Steps.{after_taking}
 use Rattle.reader_seats.specs.GoesOn.{GoesOn}
 use Rattle.reader_seats.specs.Readers.{ReaderData, around, reader_program}
@@ -58,12 +58,12 @@ fed_around : (calls : List ℕ) (old seen mid : ReaderData) (ending : Bool) (t :
 fed_around calls old seen mid ending t v fed = fed calls ∙ ap (λ s. with_taking t (around calls s)) (sym v) ∙ sym (at_last_same ending t (around calls old))
 
 pub fed_hand : (others : List ℕ) (old seen mid : ReaderData) (r : Reader) (ending : Bool) (t : Taking) (next : ReadNext) → old ≡ seen → old.point ≡ points.Take r → HasInHand (around others old) old.point → IsFed t seen mid
-    → ((a : Around) → HasInHand a (points.Take r) → HasNext (with_taking (at_last ending t) a) next) → HasNext (around others mid) next
+    → ((a : Context) → HasInHand a (points.Take r) → HasNext (with_taking (at_last ending t) a) next) → HasNext (around others mid) next
 fed_hand others old seen mid r ending t next v is h fed hand =
     subst (λ a. HasNext a next) (sym (fed_around others old seen mid ending t v fed)) (hand (around others old) (subst (λ p. HasInHand (around others old) p) is h))
 
 pub took_goes : (calls : List ℕ) (old seen mid new : ReaderData) (r : Reader) (ending : Bool) (t : Taking) (next : ReadNext) {T E : Type 0} (result : Result T E) (os us : List (Option Outcome)) → old ≡ seen → old.point ≡ points.Take r → IsFed t seen mid
-    → ((a : Around) → next_program (with_taking (at_last ending t) a) next ≡ after_taking (point_program a (points.Take r)) (at_last ending t))
+    → ((a : Context) → next_program (with_taking (at_last ending t) a) next ≡ after_taking (point_program a (points.Take r)) (at_last ending t))
     → OnOk result (GoesOn calls (next_program (around calls mid) next) new os us) → OnOk result (GoesOn calls (after_taking (reader_program calls seen) (at_last ending t)) new os us)
 took_goes calls old seen mid new r ending t next result os us v is fed program ok =
     let f : next_program (around calls mid) next ≡ after_taking (reader_program calls seen) (at_last ending t) =

@@ -20,7 +20,7 @@ use Rattle.reader_points.specs.declared.point.ReadNext.TheVariants as nexts
 use Rattle.reader_points.specs.declared.point.Lost.{Lost}
 use Rattle.reader_points.specs.Kept.{IsFirstKept}
 use Rattle.reader_points.specs.Cuts.{GoesOnBehind, with_cut}
-use Rattle.reader_points.specs.Points.{Around, NO_FRAME, count_of, room_at, frames_program, frames_behind, point_program, next_program, with_held, with_kept, with_taking, HasInHand, TakesBytes}
+use Rattle.reader_points.specs.Points.{Context, NO_FRAME, count_of, room_at, frames_program, frames_behind, point_program, next_program, with_held, with_kept, with_taking, HasInHand, TakesBytes}
 use Rattle.reader_seats.specs.declared.hand.Hand.{Hand}
 use Rattle.reader_seats.specs.Hands.{frame_in, is_fresh, hand_of}
 use Rattle.reader_seats.specs.Readers.{ReaderData, around, reader_program, nothing_asked}
@@ -31,7 +31,7 @@ use Rattle.reader_seats.specs.Readers.{ReaderData, around, reader_program, nothi
 abbrev pub cut_data : ReaderData → List ℕ → Hand → ReadPoint → ReaderData
 cut_data old held hand point = record { point = point; held = held; kept = old.kept; frame = frame_in old.kept hand; fresh = is_fresh hand; asked = nothing_asked }
 
-abbrev without_call : List ℕ → ReaderData → Around
+abbrev without_call : List ℕ → ReaderData → Context
 without_call calls old = let a = around calls old in record a { asked = nothing_asked }
 
 module _ (calls : List ℕ) (old : ReaderData) (held : List ℕ) (point : ReadPoint) where
@@ -55,7 +55,7 @@ kept_at kept i x within is = get_or-map frame_of kept i x NO_FRAME within ∙ ap
 -- ## Behind a take
 
 -- an ending run makes no difference to what is in hand
-pub at_last_same : (ending : Bool) (t : Taking) (a : Around) → with_taking (at_last ending t) a ≡ with_taking t a
+pub at_last_same : (ending : Bool) (t : Taking) (a : Context) → with_taking (at_last ending t) a ≡ with_taking t a
 at_last_same false t a = refl
 at_last_same true (Bytes bytes) a = refl
 at_last_same true Nothing a = refl
@@ -70,7 +70,7 @@ room_some : (n : ℕ) → nat_lt n LIMIT ≡ true → (0 < min 4096 (LIMIT - n))
 room_some n e = let below : n < LIMIT = grind (arith, nat_tests, e) in (omega (arith, below), omega arith)
 
 -- some bytes are taken at once, and no more than that
-pub some_room : (a : Around) (point : ReadPoint) → HasInHand a point → TakesBytes point → (0 < room_at point) × (room_at point ≤ 4096)
+pub some_room : (a : Context) (point : ReadPoint) → HasInHand a point → TakesBytes point → (0 < room_at point) × (room_at point ≤ 4096)
 some_room a points.Rest hand takes = absurd takes
 some_room a (points.Open link o) hand takes = absurd takes
 some_room a (points.Take r) hand takes = room_some (count_of r.total) hand.1
@@ -89,7 +89,7 @@ kept_data old i point = record { point = point; held = old.held; kept = old.kept
 
 -- at this point it does
 abbrev pub EndsKept : Lost → ReadPoint → Type 0
-EndsKept lost point = (a : Around) (word : IdWord) (f : model.Frame) (fs : List model.Frame) → slot_in f ≡ id_slot (id_of lost.id) → kept_for (id_of lost.id) (parts word.0).range a.kept ≡ f ∷ fs
+EndsKept lost point = (a : Context) (word : IdWord) (f : model.Frame) (fs : List model.Frame) → slot_in f ≡ id_slot (id_of lost.id) → kept_for (id_of lost.id) (parts word.0).range a.kept ≡ f ∷ fs
     → point_program (with_kept f a) point ≡ next_program a (nexts.Locked lost word)
 
 pub kept_goes : (calls : List ℕ) (old : ReaderData) (kept : List Frame) (i range : ℕ) (lost : Lost) (word : IdWord) (point : ReadPoint) → old.kept ≡ map frame_of kept → range ≡ (parts word.0).range → IsFirstKept (id_of lost.id) range kept i → EndsKept lost point →

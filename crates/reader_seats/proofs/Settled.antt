@@ -13,7 +13,7 @@ use Rattle.reader_points.specs.declared.point.CloseStep.TheVariants as closes
 use Rattle.reader_points.specs.declared.point.FailStep.TheVariants as fails
 use Rattle.reader_points.specs.declared.point.ReadPoint.{ReadPoint}
 use Rattle.reader_points.specs.declared.point.ReadPoint.TheVariants as points
-use Rattle.reader_points.specs.Points.{Around, point_program}
+use Rattle.reader_points.specs.Points.{Context, point_program}
 use Rattle.reader_seats.specs.Readers.{ReaderData, around, reader_program}
 use Rattle.reader_seats.specs.GoesOn.{GoesOn}
 
@@ -47,7 +47,7 @@ reached (Write w after) h = record { resolved_same = refl; same = refl; silent =
 reached (Aside step next) h = record { resolved_same = refl; same = refl; silent = λ os. refl; none_kept = refl }
 reached (Round head next) h = record { resolved_same = refl; same = refl; silent = λ os. refl; none_kept = refl }
 
-has_step : (a : Around) (point : ReadPoint) → HasStep (point_program a point)
+has_step : (a : Context) (point : ReadPoint) → HasStep (point_program a point)
 has_step a points.Rest = tt
 has_step a (points.Open link o) = tt
 has_step a (points.Take r) = tt

@@ -4,7 +4,7 @@ use Rattle.brpc_model.specs.Frame.{Frame}
 use Rattle.sock_message.specs.Asked.{Asked}
 use Rattle.seat_programs.specs.Programs.{Program}
 use Rattle.reader_points.specs.declared.point.ReadPoint.{ReadPoint}
-use Rattle.reader_points.specs.Points.{Around, point_program}
+use Rattle.reader_points.specs.Points.{Context, point_program}
 
 -- without a call in hand nothing is asked
 abbrev pub nothing_asked : Asked
@@ -25,7 +25,7 @@ pub record ReaderData : Type 0 where
   pub asked : Asked
 
 -- what stands round its point, over these calls
-abbrev pub around : List ℕ → ReaderData → Around
+abbrev pub around : List ℕ → ReaderData → Context
 around calls r = record { calls = calls; held = r.held; kept = r.kept; frame = r.frame; fresh = r.fresh; asked = r.asked }
 
 abbrev pub reader_program : List ℕ → ReaderData → Program

@@ -9,7 +9,7 @@ use Rattle.id_points.specs.Ids.{id_of, number_of}
 use Rattle.call_points.specs.Steps.{aside_of, aside_in}
 use Rattle.seat_states.specs.declared.point.Attempt.{Attempt}
 use Rattle.seat_states.specs.declared.point.AttemptStep.TheVariants as attempts
-use Rattle.seat_states.specs.Points.{Around, IsFramed, attempt_program, client_on, with_frame}
+use Rattle.seat_states.specs.Points.{Context, IsFramed, attempt_program, client_on, with_frame}
 use Rattle.seat_states.specs.Steps.{First, OfAside, first_of, first_in}
 
 of_aside : (p : Program) (s : Step) → aside_of p ≡ Some s → first_of p ≡ Some (OfAside s)
@@ -46,12 +46,12 @@ in_aside (Keep r next) s e = absurd (cc)
 in_aside (Retries requests after) s e = absurd (cc)
 
 -- an attempt with its message in hand is that of the programs
-pub attempts_as : (a : Around) (t : Attempt) (socket : SocketId) → IsFramed a t →
+pub attempts_as : (a : Context) (t : Attempt) (socket : SocketId) → IsFramed a t →
     attempt_program a t socket attempts.AddRef ≡ attempt a.sizes.requests a.asked (id_of t.id) (number_of t.number) socket.0 (client_on a)
 attempts_as a t socket f = rw (f.message, f.parts, f.operation) refl
 
 -- the message of the first attempt is made behind the word of its call
-pub begins_as : (a : Around) (t : Attempt) (socket : SocketId) → t.operation ≡ a.asked.operation → number_of t.number ≡ 0 →
+pub begins_as : (a : Context) (t : Attempt) (socket : SocketId) → t.operation ≡ a.asked.operation → number_of t.number ≡ 0 →
     attempt_program (with_frame (id_of t.id) 0 a) t socket attempts.AddRef ≡ attempt a.sizes.requests a.asked (id_of t.id) 0 socket.0 (client_on a)
 begins_as a t socket o n =
     let f : IsFramed (with_frame (id_of t.id) (number_of t.number) a) t = record { operation = o; message = refl; parts = refl } in

@@ -23,17 +23,17 @@ use Rattle.seat_states.specs.declared.point.Attempt.{Attempt}
 use Rattle.seat_states.specs.declared.point.AttemptStep.TheVariants as attempts
 use Rattle.seat_states.specs.declared.point.Author.{Author}
 use Rattle.seat_states.specs.declared.point.Author.TheVariants as authors
-use Rattle.seat_states.specs.declared.point.After.{After}
-use Rattle.seat_states.specs.declared.point.After.TheVariants as afters
+use Rattle.seat_states.specs.declared.point.AfterStep.{AfterStep}
+use Rattle.seat_states.specs.declared.point.AfterStep.TheVariants as afters
 use Rattle.seat_states.specs.declared.point.Next.TheVariants as nexts
 use Rattle.seat_states.specs.declared.point.Point.TheVariants as points
-use Rattle.seat_states.specs.declared.point.Then.TheVariants as thens
+use Rattle.seat_states.specs.declared.point.Continuation.TheVariants as thens
 use Rattle.seat_states.specs.declared.point.Opening.{Opening}
 use Rattle.seat_states.specs.declared.point.OpenStep.TheVariants as opens
 use Rattle.seat_states.specs.declared.point.Aim.{Aim}
 use Rattle.seat_states.specs.declared.point.Aim.TheVariants as aims
 use Rattle.seat_states.specs.declared.point.SeekStep.TheVariants as seeks
-use Rattle.seat_states.specs.declared.point.Then.{Then}
+use Rattle.seat_states.specs.declared.point.Continuation.{Continuation}
 use Rattle.seat_states.specs.declared.point.ReleaseStep.TheVariants as releases
 use Rattle.sock_words.specs.declared.socket_id.SocketId.{SocketId}
 use Rattle.seat_states.specs.declared.point.Sending.{Sending}
@@ -42,14 +42,14 @@ use Rattle.seat_states.specs.declared.point.Writer.{Writer}
 use Rattle.seat_states.specs.declared.point.Current.{Current}
 use Rattle.seat_states.specs.declared.point.WriteStep.TheVariants as writes
 use Rattle.call_points.specs.Steps.{after_word}
-use Rattle.seat_states.specs.Points.{Around, client_on, holder_of, error_by, told, failed_look, look_program, claims_program, sent_program, written_program, behind_drop, after_program, refused_program, posted_program, with_asked, next_program, unopened_program, attempt_program, IsRefused, release_on, open_program, seek_program, release_program, send_program, write_program, then_program, gone_then, has_life, after_put, with_put}
+use Rattle.seat_states.specs.Points.{Context, client_on, holder_of, error_by, told, failed_look, look_program, claims_program, sent_program, written_program, behind_drop, after_program, refused_program, posted_program, with_asked, next_program, unopened_program, attempt_program, IsRefused, release_on, open_program, seek_program, release_program, send_program, write_program, then_program, gone_then, has_life, after_put, with_put}
 
 -- a claimed slot gets its link, and then its head
-pub links : (a : Around) (g : Opening) (i found : ℕ) → open_program a g (opens.ResetHead i) ≡ after_word (open_program a g (opens.StoreLink i)) found
+pub links : (a : Context) (g : Opening) (i found : ℕ) → open_program a g (opens.ResetHead i) ≡ after_word (open_program a g (opens.StoreLink i)) found
 links a g i found = refl
 
 -- a link that no socket got is taken, and then its half is ended
-pub takes : (a : Around) (g : Opening) (found : ℕ) → open_program a g opens.FinishLink ≡ after_word (open_program a g opens.TakeLink) found
+pub takes : (a : Context) (g : Opening) (found : ℕ) → open_program a g opens.FinishLink ≡ after_word (open_program a g opens.TakeLink) found
 takes a g found = refl
 
 not_true : (b : Bool) → not b ≡ true → b ≡ false
@@ -61,7 +61,7 @@ or_false true c h = cc
 or_false false c h = (refl, h)
 
 -- where the word is the id of a life, this life is addressed
-pub seeks_life : (a : Around) (aim : Aim) (found : ℕ) → has_life aim found ≡ true → seek_program a aim (seeks.AddRef (record { 0 = found - 1 })) ≡ after_word (seek_program a aim seeks.Load) found
+pub seeks_life : (a : Context) (aim : Aim) (found : ℕ) → has_life aim found ≡ true → seek_program a aim (seeks.AddRef (record { 0 = found - 1 })) ≡ after_word (seek_program a aim seeks.Load) found
 seeks_life a (aims.Hold o name) found h = rw (not_true (found == 0) h) refl
 seeks_life a (aims.Send o name) found h = rw (not_true (found == 0) h) refl
 seeks_life a (aims.Fail o name code) found h = rw (not_true (found == 0) h) refl
@@ -70,7 +70,7 @@ seeks_life a (aims.End o) found h =
     rw (e.0, e.1) refl
 
 -- what was added to the word of another version is taken back
-pub seeks_gone : (a : Around) (aim : Aim) (i found : ℕ) → release_program a i (gone_then aim found) releases.SubRef ≡ release i (λ _. then_program a (gone_then aim found) false)
+pub seeks_gone : (a : Context) (aim : Aim) (i found : ℕ) → release_program a i (gone_then aim found) releases.SubRef ≡ release i (λ _. then_program a (gone_then aim found) false)
 seeks_gone a (aims.Hold o name) i found = refl
 seeks_gone a (aims.Send o name) i found = refl
 seeks_gone a (aims.Fail o name code) i found = refl
@@ -83,7 +83,7 @@ recycles i k from found h =
     rw e refl
 
 -- the life is addressed where the version is its own
-pub seeks_reached : (a : Around) (aim : Aim) (id : SocketId) (found : ℕ) → vref_version found ≢ socket_id_version id.0 → release_program a (socket_id_slot id.0) (gone_then aim found) releases.SubRef ≡ after_word (seek_program a aim (seeks.AddRef id)) found
+pub seeks_reached : (a : Context) (aim : Aim) (id : SocketId) (found : ℕ) → vref_version found ≢ socket_id_version id.0 → release_program a (socket_id_slot id.0) (gone_then aim found) releases.SubRef ≡ after_word (seek_program a aim (seeks.AddRef id)) found
 seeks_reached a aim id found h =
     let e : (vref_version found == socket_id_version id.0) ≡ false = grind (arith, nat_tests) in
     rw e (seeks_gone a aim (socket_id_slot id.0) found)
@@ -105,26 +105,26 @@ sends_claims (suc more) q o id bytes next =
     ap (λ p. let r : Program = if found % 2 == 0 then accept id q (found / 2) (heading_of o) bytes sent else p in r) (sends_claims more (q + 1) o id bytes next)))
 
 -- behind a look that found the life live, the first request is tried
-looks_live : (a : Around) (author : Author) (id : SocketId) (found : ℕ) → (vref_version found % 2 == 0) ≡ true →
+looks_live : (a : Context) (author : Author) (id : SocketId) (found : ℕ) → (vref_version found % 2 == 0) ≡ true →
     claims_program a (record { author = author; id = id }) a.sizes.requests 0 ≡ after_word (look_program a author id.0) found
 looks_live a (authors.Send o) id found e = rw e (sym (sends_claims a.sizes.requests 0 o id.0 a.message (client_on a)))
 looks_live a (authors.Attempt t) id found e = rw e refl
 
-pub looks_on : (a : Around) (s : Sending) (requests found : ℕ) → a.sizes.requests ≡ requests → (vref_version found % 2 == 0) ≡ true → claims_program a s (requests - 0) 0 ≡ after_word (look_program a s.author s.id.0) found
+pub looks_on : (a : Context) (s : Sending) (requests found : ℕ) → a.sizes.requests ≡ requests → (vref_version found % 2 == 0) ≡ true → claims_program a s (requests - 0) 0 ≡ after_word (look_program a s.author s.id.0) found
 looks_on a s requests found same e =
     let n : requests - 0 ≡ a.sizes.requests = omega (arith, same) in
     rw n (looks_live a s.author s.id found e)
 
 -- and behind one that found it failed
-looks_dead : (a : Around) (author : Author) (id found : ℕ) → (vref_version found % 2 == 0) ≡ false → failed_look a author id found ≡ after_word (look_program a author id) found
+looks_dead : (a : Context) (author : Author) (id found : ℕ) → (vref_version found % 2 == 0) ≡ false → failed_look a author id found ≡ after_word (look_program a author id) found
 looks_dead a (authors.Send o) id found e = rw e refl
 looks_dead a (authors.Attempt t) id found e = rw e refl
 
-pub looks_failed : (a : Around) (s : Sending) (found : ℕ) → vref_version found % 2 ≡ 1 → failed_look a s.author s.id.0 found ≡ after_word (look_program a s.author s.id.0) found
+pub looks_failed : (a : Context) (s : Sending) (found : ℕ) → vref_version found % 2 ≡ 1 → failed_look a s.author s.id.0 found ≡ after_word (look_program a s.author s.id.0) found
 looks_failed a s found odd = looks_dead a s.author s.id.0 found (odd_version (vref_version found) odd)
 
 -- a request that was free is claimed, in the generation that its word had
-pub claims : (a : Around) (s : Sending) (q found : ℕ) (own : Ticket) → found % 2 ≡ 0 → own.0 ≡ ticket false (found / 2) q → send_program a s (sends.PutMessage q own) ≡ after_word (send_program a s (sends.Claim q)) found
+pub claims : (a : Context) (s : Sending) (q found : ℕ) (own : Ticket) → found % 2 ≡ 0 → own.0 ≡ ticket false (found / 2) q → send_program a s (sends.PutMessage q own) ≡ after_word (send_program a s (sends.Claim q)) found
 claims a s q found own even is =
     let e : (found % 2 == 0) ≡ true = rw even refl in
     let f : own.0 ≡ ticket_of q (found / 2) = omega (arith, is) in
@@ -133,15 +133,15 @@ claims a s q found own even is =
 -- ## Writing
 
 -- a put that took all that was left
-pub took_all : (a : Around) (w : Writer) (c : Current) (asked : Bool) (n : ℕ) → nat_le (length a.left) n ≡ true → write_program (with_put (puts.Took n) a) w (writes.StorePlace c) ≡ after_put (write_program a w (writes.Put c asked)) (puts.Took n)
+pub took_all : (a : Context) (w : Writer) (c : Current) (asked : Bool) (n : ℕ) → nat_le (length a.left) n ≡ true → write_program (with_put (puts.Took n) a) w (writes.StorePlace c) ≡ after_put (write_program a w (writes.Put c asked)) (puts.Took n)
 took_all a w c asked n e = rw e refl
 
 -- and one that took a part
-pub took_part : (a : Around) (w : Writer) (c : Current) (asked : Bool) (n : ℕ) → nat_le (length a.left) n ≡ false → write_program (with_put (puts.Took n) a) w (writes.Look c false) ≡ after_put (write_program a w (writes.Put c asked)) (puts.Took n)
+pub took_part : (a : Context) (w : Writer) (c : Current) (asked : Bool) (n : ℕ) → nat_le (length a.left) n ≡ false → write_program (with_put (puts.Took n) a) w (writes.Look c false) ≡ after_put (write_program a w (writes.Put c asked)) (puts.Took n)
 took_part a w c asked n e = rw e refl
 
 -- a message has its place, and isn't the last
-pub passes : (a : Around) (w v : Writer) (now : Ticket) (c : Option OnCall) → holder_of v.holder ≡ one_more (holder_of w.holder) → v.author ≡ w.author → (now.0 == w.holder.last.0) ≡ false →
+pub passes : (a : Context) (w v : Writer) (now : Ticket) (c : Option OnCall) → holder_of v.holder ≡ one_more (holder_of w.holder) → v.author ≡ w.author → (now.0 == w.holder.last.0) ≡ false →
     write_program a v (writes.ReadNext now c) ≡ passed_telling (one_more (holder_of w.holder)) now.0 (told c) (written_program a w)
 passes a w v now c h author e =
     let id : v.holder.id.0 ≡ w.holder.id.0 = ap (λ (h : heads.Holder). h.id) h in
@@ -151,7 +151,7 @@ passes a w v now c h author e =
     rw (id, link, last, places, author, e) refl
 
 -- and where it is the last
-pub passes_last : (a : Around) (w v : Writer) (now : Ticket) (c : Option OnCall) → holder_of v.holder ≡ one_more (holder_of w.holder) → v.author ≡ w.author → (now.0 == w.holder.last.0) ≡ true →
+pub passes_last : (a : Context) (w v : Writer) (now : Ticket) (c : Option OnCall) → holder_of v.holder ≡ one_more (holder_of w.holder) → v.author ≡ w.author → (now.0 == w.holder.last.0) ≡ true →
     freed now.0 (behind_drop a v c None) ≡ passed_telling (one_more (holder_of w.holder)) now.0 (told c) (written_program a w)
 passes_last a w v now c h author e =
     let id : v.holder.id.0 ≡ w.holder.id.0 = ap (λ (h : heads.Holder). h.id) h in
@@ -163,7 +163,7 @@ passes_last a w v now c h author e =
 -- ## Behind an error
 
 -- an attempt tells its call of an error
-pub posts : (a : Around) (t : Attempt) (n : ℕ) (slot : Option ℕ) → next_program a (nexts.Point (points.Post (error_by t n) (afters.Attempt slot) calls_posts.Load)) ≡ post (id_of t.id) n (number_of t.number) (after_program a (afters.Attempt slot))
+pub posts : (a : Context) (t : Attempt) (n : ℕ) (slot : Option ℕ) → next_program a (nexts.Point (points.Post (error_by t n) (afters.Attempt slot) calls_posts.Load)) ≡ post (id_of t.id) n (number_of t.number) (after_program a (afters.Attempt slot))
 posts a t n slot = refl
 
 -- a post that has no lock
@@ -174,17 +174,17 @@ refuses id e next (WasCrowded m n) r = refl
 refuses id e next WasQueued r = refl
 refuses id e next (HasLocked w) r = absurd r
 
-pub refused : (a : Around) (c : OnCall) (after : After) (how : Posting) → IsRefused how → refused_program a after (expire_outcome how) ≡ posted_program a c after how
+pub refused : (a : Context) (c : OnCall) (after : AfterStep) (how : Posting) → IsRefused how → refused_program a after (expire_outcome how) ≡ posted_program a c after how
 refused a c (afters.Attempt slot) how r = refuses (id_of c.id) c.error.0 (after_program a (afters.Attempt slot)) how r
 refused a c (afters.Expire o) how r = refuses (id_of c.id) c.error.0 (Say o (expire_outcome how) (client_on a)) how r
 refused a c (afters.Drop w next) how r = refuses (id_of c.id) c.error.0 (after_program a (afters.Drop w next)) how r
 
 -- what follows an error is the same with another call in hand
-sent_asked : (a : Around) (asked : Asked) (author : Author) (id : ℕ) → sent_program (with_asked asked a) author id ≡ sent_program a author id
+sent_asked : (a : Context) (asked : Asked) (author : Author) (id : ℕ) → sent_program (with_asked asked a) author id ≡ sent_program a author id
 sent_asked a asked (authors.Send o) id = refl
 sent_asked a asked (authors.Attempt t) id = refl
 
-pub after_asked : (a : Around) (asked : Asked) (after : After) → after_program (with_asked asked a) after ≡ after_program a after
+pub after_asked : (a : Context) (asked : Asked) (after : AfterStep) → after_program (with_asked asked a) after ≡ after_program a after
 after_asked a asked (afters.Attempt None) = refl
 after_asked a asked (afters.Attempt (Some i)) = refl
 after_asked a asked (afters.Expire o) = refl
@@ -204,14 +204,14 @@ not_false true h = refl
 not_false false h = sym h
 
 -- the word is the id of no life
-pub seeks_none : (a : Around) (aim : Aim) (found : ℕ) → has_life aim found ≡ false → unopened_program a aim ≡ after_word (seek_program a aim seeks.Load) found
+pub seeks_none : (a : Context) (aim : Aim) (found : ℕ) → has_life aim found ≡ false → unopened_program a aim ≡ after_word (seek_program a aim seeks.Load) found
 seeks_none a (aims.Hold o name) found h = rw (not_false (found == 0) h) refl
 seeks_none a (aims.Send o name) found h = rw (not_false (found == 0) h) refl
 seeks_none a (aims.Fail o name code) found h = rw (not_false (found == 0) h) refl
 seeks_none a (aims.End o) found h = none_of (found == 0) (found == NO_SOCKET) a.ends _ (not_false _ h)
 
 -- an attempt found another version than that of its socket
-pub attempts_gone : (a : Around) (t : Attempt) (socket : SocketId) (found : ℕ) → vref_version found ≢ socket_id_version socket.0 →
+pub attempts_gone : (a : Context) (t : Attempt) (socket : SocketId) (found : ℕ) → vref_version found ≢ socket_id_version socket.0 →
     release_program a (socket_id_slot socket.0) (thens.Unreached t) releases.SubRef ≡ after_word (attempt_program a t socket attempts.AddRef) found
 attempts_gone a t socket found h =
     let e : (vref_version found == socket_id_version socket.0) ≡ false = grind (arith, nat_tests) in

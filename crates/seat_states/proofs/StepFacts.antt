@@ -27,14 +27,14 @@ use Rattle.call_points.specs.declared.locking.LockStep.TheVariants as locks
 use Rattle.seat_states.specs.declared.point.Sending.{Sending}
 use Rattle.seat_states.specs.declared.point.Author.{Author}
 use Rattle.seat_states.specs.declared.point.Author.TheVariants as authors
-use Rattle.seat_states.specs.declared.point.After.{After}
+use Rattle.seat_states.specs.declared.point.AfterStep.{AfterStep}
 use Rattle.seat_states.specs.declared.point.CallStep.TheVariants as begins
 use Rattle.seat_states.specs.declared.point.AttemptStep.TheVariants as attempts
 use Rattle.seat_states.specs.declared.point.RetryStep.TheVariants as retries
 use Rattle.seat_states.specs.declared.point.JoinStep.TheVariants as joins
 use Rattle.seat_states.specs.declared.point.Point.{Point}
 use Rattle.seat_states.specs.declared.point.Point.TheVariants as points
-use Rattle.seat_states.specs.Points.{Around, point_program, look_program, after_program, link_at, link_left, MayFind, IsWithin, GoesByWord, TakesCall, TakesMessage, TakesLink, PutsHome, PutsPiece, Asks}
+use Rattle.seat_states.specs.Points.{Context, point_program, look_program, after_program, link_at, link_left, MayFind, IsWithin, GoesByWord, TakesCall, TakesMessage, TakesLink, PutsHome, PutsPiece, Asks}
 use Rattle.seat_states.specs.Steps.{First, OfCall, OfAside, OfMessage, OfLink, OfHome, OfPut, OfReady, first_of, first_in}
 
 -- the link in hand without a right before and behind a step
@@ -71,17 +71,17 @@ Facts (Some (OfPut k asked bytes)) p = PutsPiece p × HasNone p
 Facts (Some (OfReady k)) p = Asks p × HasNone p
 
 -- the look of a `send` and that of an attempt
-look_facts : (a : Around) (s : Sending) (author : Author) → Facts (first_in (look_program a author s.id.0)) (points.Send s sends.Look)
+look_facts : (a : Context) (s : Sending) (author : Author) → Facts (first_in (look_program a author s.id.0)) (points.Send s sends.Look)
 look_facts a s (authors.Send o) = (tt, (refl, refl), (λ found h. tt), (λ sizes few fits. (few, tt)))
 look_facts a s (authors.Attempt t) = (tt, (refl, refl), (λ found h. tt), (λ sizes few fits. (few, tt)))
 
 -- a call that is decided on ends, or goes home again
-judge_facts : (c : OnCall) (after : After) (w : IdWord) (ends : Bool) (x y : Program) → Facts (first_of x) (points.Decide c after (decides.Judge w)) → Facts (first_of y) (points.Decide c after (decides.Judge w))
+judge_facts : (c : OnCall) (after : AfterStep) (w : IdWord) (ends : Bool) (x y : Program) → Facts (first_of x) (points.Decide c after (decides.Judge w)) → Facts (first_of y) (points.Decide c after (decides.Judge w))
     → Facts (first_of (if ends then x else y)) (points.Decide c after (decides.Judge w))
 judge_facts c after w true x y f g = f
 judge_facts c after w false x y f g = g
 
-facts : (a : Around) (p : Point) → Facts (first_in (point_program a p)) p
+facts : (a : Context) (p : Point) → Facts (first_in (point_program a p)) p
 facts a points.Rest = tt
 facts a (points.Open g (opens.Claim i)) = (tt, (refl, refl), (λ found h. tt), (λ sizes few fits. fits))
 facts a (points.Open g (opens.StoreLink i)) = (tt, (refl, refl), (λ found h. tt), (λ sizes few fits. tt))
@@ -161,7 +161,7 @@ facts a (points.Expire o t) = (tt, (refl, refl))
 facts a (points.Join o (joins.LoadCall t)) = (tt, (refl, refl))
 facts a (points.Join o (joins.Wait id)) = (tt, (refl, refl))
 
-module _ (a : Around) (p : Point) where
+module _ (a : Context) (p : Point) where
   facts_at : (first : First) → first_in (point_program a p) ≡ Some first → Facts (Some first) p
   facts_at first e = subst (λ (o : Option First). Facts o p) e (facts a p)
 
@@ -198,11 +198,11 @@ module _ (a : Around) (p : Point) where
 
 -- ## Nothing is said at a point
 
-look_ahead : (a : Around) (author : Author) (id : ℕ) → (next_step (look_program a author id) ≡ look_program a author id) × ((os : List (Option Outcome)) → said (look_program a author id) os ≡ os)
+look_ahead : (a : Context) (author : Author) (id : ℕ) → (next_step (look_program a author id) ≡ look_program a author id) × ((os : List (Option Outcome)) → said (look_program a author id) os ≡ os)
 look_ahead a (authors.Send o) id = (refl, λ os. refl)
 look_ahead a (authors.Attempt t) id = (refl, λ os. refl)
 
-ahead : (a : Around) (p : Point) → (next_step (point_program a p) ≡ point_program a p) × ((os : List (Option Outcome)) → said (point_program a p) os ≡ os)
+ahead : (a : Context) (p : Point) → (next_step (point_program a p) ≡ point_program a p) × ((os : List (Option Outcome)) → said (point_program a p) os ≡ os)
 ahead a points.Rest = (refl, λ os. refl)
 ahead a (points.Open g (opens.Claim i)) = (refl, λ os. refl)
 ahead a (points.Open g (opens.StoreLink i)) = (refl, λ os. refl)
@@ -283,8 +283,8 @@ ahead a (points.Join o (joins.LoadCall t)) = (refl, λ os. refl)
 ahead a (points.Join o (joins.Wait id)) = (refl, λ os. refl)
 
 -- it is at its next step
-pub at_step : (a : Around) (p : Point) → next_step (point_program a p) ≡ point_program a p
+pub at_step : (a : Context) (p : Point) → next_step (point_program a p) ≡ point_program a p
 at_step a p = (ahead a p).0
 
-pub says_none : (a : Around) (p : Point) (os : List (Option Outcome)) → said (point_program a p) os ≡ os
+pub says_none : (a : Context) (p : Point) (os : List (Option Outcome)) → said (point_program a p) os ≡ os
 says_none a p os = (ahead a p).1 os

@@ -35,8 +35,8 @@ use Rattle.seat_states.specs.declared.point.SeekStep.TheVariants as seeks
 use Rattle.seat_states.specs.declared.point.Failing.{Failing}
 use Rattle.seat_states.specs.declared.point.FailStep.{FailStep}
 use Rattle.seat_states.specs.declared.point.FailStep.TheVariants as fails
-use Rattle.seat_states.specs.declared.point.Then.{Then}
-use Rattle.seat_states.specs.declared.point.Then.TheVariants as thens
+use Rattle.seat_states.specs.declared.point.Continuation.{Continuation}
+use Rattle.seat_states.specs.declared.point.Continuation.TheVariants as thens
 use Rattle.seat_states.specs.declared.point.Released.{Released}
 use Rattle.seat_states.specs.declared.point.Released.TheVariants as turns
 use Rattle.seat_states.specs.declared.point.ReleaseStep.{ReleaseStep}
@@ -55,8 +55,8 @@ use Rattle.seat_states.specs.declared.point.Attempt.{Attempt}
 use Rattle.seat_states.specs.declared.calling.Calling.{Calling}
 use Rattle.seat_states.specs.declared.point.Author.{Author}
 use Rattle.seat_states.specs.declared.point.Author.TheVariants as authors
-use Rattle.seat_states.specs.declared.point.After.{After}
-use Rattle.seat_states.specs.declared.point.After.TheVariants as afters
+use Rattle.seat_states.specs.declared.point.AfterStep.{AfterStep}
+use Rattle.seat_states.specs.declared.point.AfterStep.TheVariants as afters
 use Rattle.seat_states.specs.declared.point.CallStep.{CallStep}
 use Rattle.seat_states.specs.declared.point.CallStep.TheVariants as begins
 use Rattle.seat_states.specs.declared.point.AttemptStep.{AttemptStep}
@@ -82,7 +82,7 @@ use Rattle.seat_states.specs.declared.point.Next.TheVariants as nexts
 -- what stands round a point: how many slots, requests and ids there are, how the client goes on by what it holds, how the ending
 -- goes on, what is held now, the message that the seat is to send with the lengths of its parts, the call in its hand, and of the
 -- message that it writes what the link hasn't taken, how many bytes it took, and the lengths of its parts
-pub record Around : Type 0 where
+pub record Context : Type 0 where
   pub sizes : Sizes
   pub goes_on : List HeldLife → Program
   pub ends : Program
@@ -119,12 +119,12 @@ abbrev pub heading_by : Author → List ℕ → Heading
 heading_by author ps = record { client = 0; operation = operation_by author; attempt = attempt_by author; place = place_by author; owner = owner_by author; parts = parts_by author ps }
 
 -- what follows the release of a life that was set failed, where this word was found
-abbrev pub failed_then : Option ℕ → ℕ → Then
+abbrev pub failed_then : Option ℕ → ℕ → Continuation
 failed_then (Some o) found = thens.Failed o (record { 0 = found })
 failed_then None found = thens.Ended
 
 -- what follows where another version was found
-abbrev pub gone_then : Aim → ℕ → Then
+abbrev pub gone_then : Aim → ℕ → Continuation
 gone_then (aims.Hold o name) found = thens.Gone o (record { 0 = found })
 gone_then (aims.Send o name) found = thens.Gone o (record { 0 = found })
 gone_then (aims.Fail o name code) found = thens.Gone o (record { 0 = found })
@@ -148,7 +148,7 @@ abbrev pub error_by : Attempt → ℕ → OnCall
 error_by t code_ = record { id = t.id; error = record { 0 = error_of code_ (number_of t.number) } }
 
 -- behind a message that was accepted the life is given back
-abbrev pub sent_then : Author → Then
+abbrev pub sent_then : Author → Continuation
 sent_then (authors.Send o) = thens.Sent o
 sent_then (authors.Attempt t) = thens.GaveBack
 
@@ -189,12 +189,12 @@ abbrev pub released_on : ℕ → (Bool → Program) → Released → Program
 released_on i k (turns.Step at) = release_on i k at
 released_on i k (turns.Done freed) = k freed
 
-module _ (a : Around) where
+module _ (a : Context) where
   abbrev pub client_on : Program
   client_on = a.goes_on a.held
 
   -- what follows a release, told whether it recycled the slot
-  abbrev pub then_program : Then → Bool → Program
+  abbrev pub then_program : Continuation → Bool → Program
   then_program (thens.Gone o found) freed = Say o (Gone found) client_on
   then_program (thens.Failed o found) freed = Say o (fail_outcome found.0) client_on
   then_program (thens.Dropped o) freed = Say o (if freed then Freed else Kept) client_on
@@ -206,7 +206,7 @@ module _ (a : Around) where
 
   -- ## Releasing
 
-  abbrev pub release_program : ℕ → Then → ReleaseStep → Program
+  abbrev pub release_program : ℕ → Continuation → ReleaseStep → Program
   release_program i t = release_on i (then_program t)
 
   -- ## Failing
@@ -403,19 +403,19 @@ module _ (a : Around) where
 
   -- ## Behind an error
 
-  abbrev pub after_program : After → Program
+  abbrev pub after_program : AfterStep → Program
   after_program (afters.Attempt None) = client_on
   after_program (afters.Attempt (Some i)) = release i (then_program thens.GaveBack)
   after_program (afters.Expire o) = Say o Expired client_on
   after_program (afters.Drop w next) = freed_program w next
 
   -- behind one that was refused or queued; an `expire` tells so
-  abbrev pub refused_program : After → Outcome → Program
+  abbrev pub refused_program : AfterStep → Outcome → Program
   refused_program (afters.Expire o) outcome = Say o outcome client_on
   refused_program after outcome = after_program after
 
   -- behind a post, by how it ended
-  abbrev pub posted_program : OnCall → After → Posting → Program
+  abbrev pub posted_program : OnCall → AfterStep → Posting → Program
   posted_program c (afters.Expire o) how = posted (id_of c.id) c.error.0 (Say o (expire_outcome how) client_on) how
   posted_program c after how = posted (id_of c.id) c.error.0 (after_program after) how
 
@@ -498,15 +498,15 @@ module _ (a : Around) where
 -- ## What follows a step
 
 -- with the message of an attempt
-abbrev pub with_frame : ℕ → ℕ → Around → Around
+abbrev pub with_frame : ℕ → ℕ → Context → Context
 with_frame id n a = record a { message = frame_of a.asked id n; parts = parts_of a.asked id n }
 
 -- with a call in hand
-abbrev pub with_asked : Asked → Around → Around
+abbrev pub with_asked : Asked → Context → Context
 with_asked asked a = record a { asked = asked }
 
 -- the seat makes the message of its first attempt behind this step
-abbrev pub framed : Point → Around → Around
+abbrev pub framed : Point → Context → Context
 framed (points.Call (begins.StoreCall id socket)) a = with_frame (id_of id) 0 a
 framed other a = a
 
@@ -543,15 +543,15 @@ after_ready (Write w after) answer = ready_behind (block w after) answer
 after_ready other answer = other
 
 -- what stands round a point then
-abbrev pub with_message : List ℕ → List ℕ → Around → Around
+abbrev pub with_message : List ℕ → List ℕ → Context → Context
 with_message parts bytes a = record a { left = bytes; taken = 0; left_parts = parts }
 
-abbrev pub with_put : Put → Around → Around
+abbrev pub with_put : Put → Context → Context
 with_put (puts.Took n) a = record a { left = drop n a.left; taken = a.taken + n }
 with_put other a = a
 
 -- a call is taken out of its home; a retry makes its message then
-abbrev pub taken_with : Point → Asked → Around → Around
+abbrev pub taken_with : Point → Asked → Context → Context
 taken_with (points.Retry r at) asked a = with_frame (id_of r.attempt.id) (number_of r.attempt.number) (with_asked asked a)
 taken_with other asked a = with_asked asked a
 
@@ -621,7 +621,7 @@ IsOneOfIds ids (begins.ClaimId i socket) = i < ids
 IsOneOfIds ids other = Unit {0}
 
 -- what is known of the call in hand
-pub record IsCalling (a : Around) (c : Calling) : Type 0 where
+pub record IsCalling (a : Context) (c : Calling) : Type 0 where
   pub operation : c.operation ≡ a.asked.operation
   pub name : c.name ≡ name_of a.asked 0
   pub range : c.range ≡ a.asked.range
@@ -714,18 +714,18 @@ IsRefused other = Unit {0}
 -- ## What a point has in hand
 
 -- the message in hand is that of this attempt of the call in hand
-pub record IsFramed (a : Around) (t : Attempt) : Type 0 where
+pub record IsFramed (a : Context) (t : Attempt) : Type 0 where
   pub operation : t.operation ≡ a.asked.operation
   pub message : a.message ≡ frame_of a.asked (id_of t.id) (number_of t.number)
   pub parts : a.parts ≡ parts_of a.asked (id_of t.id) (number_of t.number)
 
 -- a retry that has taken its call has its message too, and knows its name
-abbrev pub HasRetry : Around → Retrying → RetryStep → Type 0
+abbrev pub HasRetry : Context → Retrying → RetryStep → Type 0
 HasRetry a r (retries.Lock at) = Unit {0}
 HasRetry a r (retries.TakeCall w) = Unit {0}
 HasRetry a r other = IsFramed a r.attempt × (r.name ≡ name_of a.asked (number_of r.attempt.number))
 
-abbrev pub HasInHand : Around → Point → Type 0
+abbrev pub HasInHand : Context → Point → Type 0
 HasInHand a (points.Retry r at) = HasRetry a r at
 HasInHand a other = Unit {0}
 

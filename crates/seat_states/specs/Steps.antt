@@ -14,7 +14,7 @@ use Rattle.seat_states.specs.declared.call.Call.{Call}
 use Rattle.seat_states.specs.declared.call.Call.TheVariants as steps
 use Rattle.seat_states.specs.declared.point.Step.{Step}
 use Rattle.seat_states.specs.declared.point.Step.TheVariants as firsts
-use Rattle.seat_states.specs.Points.{Around, heading_by, parts_by}
+use Rattle.seat_states.specs.Points.{Context, heading_by, parts_by}
 
 abbrev pub step_of : Call → calls.Call
 step_of (steps.ClaimSlot i) = calls.ClaimSlot i
@@ -77,7 +77,7 @@ first_in (Round head next) = first_of (round head next)
 first_in other = first_of other
 
 -- a step of the machine as that
-abbrev pub step_as : Around → Step → First
+abbrev pub step_as : Context → Step → First
 step_as a (firsts.Call call) = OfCall (step_of call)
 step_as a (firsts.Aside step) = OfAside (aside_steps.step_of a.asked step)
 step_as a (firsts.PutMessage q author) = OfCall (calls.PutMessage q (heading_by author a.parts) a.message)

@@ -6,23 +6,23 @@ ghost use Rattle.seat_programs.specs.Programs.{Program};
 ghost use Rattle.id_points.specs.Turns.{post_on};
 ghost use Rattle.call_points.specs.Points.{decide_on};
 ghost use Rattle.id_points.specs.Ids.{id_of};
-ghost use Rattle.seat_states.specs.Points.{Around, after_program, error_by, refused_program, posted_program, IsRefused, next_program, tell, told, link_behind};
+ghost use Rattle.seat_states.specs.Points.{Context, after_program, error_by, refused_program, posted_program, IsRefused, next_program, tell, told, link_behind};
 
-use crate::point::{After, Attempt, Author, Next, Point, ReleaseStep, Then};
+use crate::point::{AfterStep, Attempt, Author, Continuation, Next, Point, ReleaseStep};
 use crate::releasing::releasing;
 use call_points::{DecideNext, DecideStep, OnCall, PostStep};
 use id_points::{IdError, PostTurn};
 use sock_words::{EFAILEDSOCKET, Outcome};
 
 /// An error is posted, and this follows.
-pub fn posting(error: OnCall, after: After) -> Next
+pub fn posting(error: OnCall, after: AfterStep) -> Next
     ensures { result ≡ Next.Point (Point.Post error after PostStep.Load) }
 {
     Next::Point(Point::Post(error, after, PostStep::Load))
 }
 
 /// An error is decided on, at this step.
-pub fn deciding(error: OnCall, after: After, step: DecideStep) -> Next
+pub fn deciding(error: OnCall, after: AfterStep, step: DecideStep) -> Next
     ensures { result ≡ Next.Point (Point.Decide error after step) }
 {
     Next::Point(Point::Decide(error, after, step))
@@ -63,36 +63,44 @@ impl Author {
     }
 }
 
-impl After {
+impl AfterStep {
     /// How a seat goes on behind what it decided.
     pub fn next(self) -> Next
-        ensures program { (a : Around) → next_program a result ≡ after_program a self }
+        ensures program { (a : Context) → next_program a result ≡ after_program a self }
         ensures hand { link_behind result ≡ None }
     {
         match self {
-            After::Attempt(None) => Next::GaveBack,
-            After::Attempt(Some(slot)) => releasing(slot, Then::GaveBack, ReleaseStep::SubRef),
-            After::Expire(operation) => Next::Said(operation, Outcome::Expired),
-            After::Drop(writer, next) => writer.freed(next),
+            AfterStep::Attempt(None) => Next::GaveBack,
+            AfterStep::Attempt(Some(slot)) => releasing(
+                slot,
+                Continuation::GaveBack,
+                ReleaseStep::SubRef,
+            ),
+            AfterStep::Expire(operation) => Next::Said(operation, Outcome::Expired),
+            AfterStep::Drop(writer, next) => writer.freed(next),
         }
     }
 
     /// How it goes on where a post has no lock; an `expire` tells so.
     fn without_lock(self, outcome: Outcome) -> Next
-        ensures program { (a : Around) → next_program a result ≡ refused_program a self outcome }
+        ensures program { (a : Context) → next_program a result ≡ refused_program a self outcome }
         ensures hand { link_behind result ≡ None }
     {
         match self {
-            After::Attempt(None) => Next::GaveBack,
-            After::Attempt(Some(slot)) => releasing(slot, Then::GaveBack, ReleaseStep::SubRef),
-            After::Expire(operation) => Next::Said(operation, outcome),
-            After::Drop(writer, next) => writer.freed(next),
+            AfterStep::Attempt(None) => Next::GaveBack,
+            AfterStep::Attempt(Some(slot)) => releasing(
+                slot,
+                Continuation::GaveBack,
+                ReleaseStep::SubRef,
+            ),
+            AfterStep::Expire(operation) => Next::Said(operation, outcome),
+            AfterStep::Drop(writer, next) => writer.freed(next),
         }
     }
 
     /// How it goes on where a post was refused or queued, which has this outcome for an `expire`.
     fn refused(self, outcome: Outcome) -> Next
-        ensures program { (a : Around) (c : OnCall) (how : Posting) → IsRefused how → outcome ≡ expire_outcome how → next_program a result ≡ posted_program a c self how }
+        ensures program { (a : Context) (c : OnCall) (how : Posting) → IsRefused how → outcome ≡ expire_outcome how → next_program a result ≡ posted_program a c self how }
         ensures hand { link_behind result ≡ None }
     {
         self.without_lock(outcome)
@@ -100,7 +108,7 @@ impl After {
 
     /// How it goes on behind the step of a post.
     pub fn posted(self, error: OnCall, turn: PostTurn) -> Next
-        ensures program { (a : Around) → next_program a result ≡ post_on (id_of error.id) error.error.0 (posted_program a error self) turn }
+        ensures program { (a : Context) → next_program a result ≡ post_on (id_of error.id) error.error.0 (posted_program a error self) turn }
         ensures hand { link_behind result ≡ None }
     {
         match turn {
@@ -120,7 +128,7 @@ impl After {
 
     /// How it goes on behind the step of a decision.
     pub fn decided(self, error: OnCall, next: DecideNext) -> Next
-        ensures program { (a : Around) → next_program a result ≡ decide_on a.asked (decided (id_of error.id) (after_program a self)) error next }
+        ensures program { (a : Context) → next_program a result ≡ decide_on a.asked (decided (id_of error.id) (after_program a self)) error next }
         ensures hand { link_behind result ≡ None }
     {
         match next {

@@ -1,12 +1,13 @@
 ghost use Rattle.std.specs.Prelude.{◌≡◌, ◌-◌, ◌≤◌, ◌+◌, None, Some};
 ghost use Rattle.seat_programs.specs.Attempts.{claim_id};
 ghost use Rattle.call_points.specs.Steps.{after_word};
-ghost use Rattle.seat_states.specs.Points.{Around, client_on, call_program, attempt_program, next_program, framed, IsOneOfIds, IsCalling, HasLink, MayFindAt, link_behind};
+ghost use Rattle.seat_states.specs.Points.{Context, client_on, call_program, attempt_program, next_program, framed, IsOneOfIds, IsCalling, HasLink, MayFindAt, link_behind};
 ghost use Rattle.seat_states.specs.Steps.{first_in, step_as};
 
 use crate::call::Call;
 use crate::point::{
-    Attempt, AttemptStep, Author, CallStep, Next, Point, ReleaseStep, SendStep, Sending, Step, Then,
+    Attempt, AttemptStep, Author, CallStep, Continuation, Next, Point, ReleaseStep, SendStep,
+    Sending, Step,
 };
 use crate::releasing::releasing;
 use call_points::Aside;
@@ -24,7 +25,7 @@ pub struct Calling {
 
 /// A call is begun: this id slot is tried, or the one behind it.
 fn claiming(ids: u16, slot: u16, socket: SocketId) -> Next
-    ensures program { (a : Around) → a.sizes.ids ≡ ids → next_program a result ≡ claim_id (ids - slot) slot a.sizes.requests socket.0 a.asked (client_on a) }
+    ensures program { (a : Context) → a.sizes.ids ≡ ids → next_program a result ≡ claim_id (ids - slot) slot a.sizes.requests socket.0 a.asked (client_on a) }
     ensures hand { link_behind result ≡ None }
 {
     if slot < ids {
@@ -37,7 +38,7 @@ fn claiming(ids: u16, slot: u16, socket: SocketId) -> Next
 impl CallStep {
     /// The next step of the call in hand.
     pub fn step(self, calling: Calling) -> Step
-        ensures { (a : Around) → IsCalling a calling → first_in (call_program a self) ≡ Some (step_as a result) }
+        ensures { (a : Context) → IsCalling a calling → first_in (call_program a self) ≡ Some (step_as a result) }
     {
         match self {
             CallStep::LoadName => Step::Call(Call::LoadName(calling.name)),
@@ -52,7 +53,7 @@ impl CallStep {
     pub fn next(self, calling: Calling, ids: u16, found: u64) -> Next
         requires few { ids ≤ 4096 }
         requires within { IsOneOfIds ids self }
-        ensures program { (a : Around) → IsCalling a calling → a.sizes.ids ≡ ids → next_program (framed (Point.Call self) a) result ≡ after_word (call_program a self) found }
+        ensures program { (a : Context) → IsCalling a calling → a.sizes.ids ≡ ids → next_program (framed (Point.Call self) a) result ≡ after_word (call_program a self) found }
         ensures hand { link_behind result ≡ None }
     {
         match self {
@@ -113,7 +114,7 @@ impl AttemptStep {
     /// The next step of an attempt over this socket.
     pub fn step(self, attempt: Attempt, socket: SocketId) -> Step
         requires { HasLink self }
-        ensures { (a : Around) → first_in (attempt_program a attempt socket self) ≡ Some (step_as a result) }
+        ensures { (a : Context) → first_in (attempt_program a attempt socket self) ≡ Some (step_as a result) }
     {
         match self {
             AttemptStep::AddRef => Step::Call(Call::AddRef(socket)),
@@ -129,7 +130,7 @@ impl AttemptStep {
     /// How an attempt goes on by the word that its step found.
     pub fn next(self, attempt: Attempt, socket: SocketId, found: u64) -> Next
         requires { MayFindAt self found }
-        ensures program { (a : Around) → next_program a result ≡ after_word (attempt_program a attempt socket self) found }
+        ensures program { (a : Context) → next_program a result ≡ after_word (attempt_program a attempt socket self) found }
         ensures hand { link_behind result ≡ None }
     {
         match self {
@@ -138,7 +139,11 @@ impl AttemptStep {
                 if word.version() == socket.version() {
                     attempt.to(socket, AttemptStep::FindLink)
                 } else {
-                    releasing(socket.slot(), Then::Unreached(attempt), ReleaseStep::SubRef)
+                    releasing(
+                        socket.slot(),
+                        Continuation::Unreached(attempt),
+                        ReleaseStep::SubRef,
+                    )
                 }
             }
             AttemptStep::FindLink => attempt.to(socket, AttemptStep::StoreAt(found as u16)),

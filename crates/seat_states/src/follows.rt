@@ -1,7 +1,7 @@
 ghost use Rattle.std.specs.Prelude.{◌≡◌, ℕ, List, None, Bool};
 ghost use Rattle.call_points.specs.Steps.{after_word, after_call};
 ghost use Rattle.seat_programs.specs.sock_message.specs.Asked.{Asked};
-ghost use Rattle.seat_states.specs.Points.{Around, point_program, next_program, after_message, after_link, after_home, after_put, after_ready, with_message, with_put, is_whole, IsWithin, IsWithinIds, MayFindAside, HasLinkAt, TellsCodeAt, IsCalling, HasInHand, IsNextName, framed, taken_with, TakesCall, MayFind, GoesByWord, TakesMessage, TakesLink, PutsHome, PutsPiece, Asks, link_behind, link_left};
+ghost use Rattle.seat_states.specs.Points.{Context, point_program, next_program, after_message, after_link, after_home, after_put, after_ready, with_message, with_put, is_whole, IsWithin, IsWithinIds, MayFindAside, HasLinkAt, TellsCodeAt, IsCalling, HasInHand, IsNextName, framed, taken_with, TakesCall, MayFind, GoesByWord, TakesMessage, TakesLink, PutsHome, PutsPiece, Asks, link_behind, link_left};
 
 use crate::asking::deciding;
 use crate::calling::Calling;
@@ -22,7 +22,7 @@ impl Point {
         requires link { HasLinkAt self.now }
         requires told { TellsCodeAt self.now }
         requires step { GoesByWord self.now }
-        ensures program { (a : Around) → a.sizes ≡ sizes → IsCalling a calling → HasInHand a self.now → next_program (framed self.now a) result ≡ after_word (point_program a self.now) found }
+        ensures program { (a : Context) → a.sizes ≡ sizes → IsCalling a calling → HasInHand a self.now → next_program (framed self.now a) result ≡ after_word (point_program a self.now) found }
         ensures hand { link_behind result ≡ link_left self.now }
     {
         match *self {
@@ -48,7 +48,7 @@ impl Point {
     /// Where it goes on with the message of this author in hand.
     pub fn with_message(self, author: Author) -> Next
         requires step { TakesMessage self }
-        ensures program { (a : Around) (parts bytes : List ℕ) → next_program (with_message parts bytes a) result ≡ after_message (point_program a self) author parts bytes }
+        ensures program { (a : Context) (parts bytes : List ℕ) → next_program (with_message parts bytes a) result ≡ after_message (point_program a self) author parts bytes }
         ensures hand { link_behind result ≡ None }
     {
         match self {
@@ -67,7 +67,7 @@ impl Point {
     /// its next attempt.
     pub fn with_call(self, operation: u16, name: u16) -> Next
         requires step { TakesCall self }
-        ensures program { (a : Around) (asked : Asked) → asked.operation ≡ operation → IsNextName asked self name → next_program (taken_with self asked a) result ≡ after_call (point_program a self) asked }
+        ensures program { (a : Context) (asked : Asked) → asked.operation ≡ operation → IsNextName asked self name → next_program (taken_with self asked a) result ≡ after_call (point_program a self) asked }
         ensures hand { link_behind result ≡ None }
     {
         match self {
@@ -85,7 +85,7 @@ impl Point {
     /// Where it goes on with its link in hand, of whose messages so many have places.
     pub fn with_link(self, places: u32) -> Next
         requires step { TakesLink self }
-        ensures program { (a : Around) → next_program a result ≡ after_link (point_program a self) places }
+        ensures program { (a : Context) → next_program a result ≡ after_link (point_program a self) places }
         ensures hand { link_behind result ≡ None }
     {
         match self {
@@ -100,7 +100,7 @@ impl Point {
     /// Where it goes on once its link is home.
     pub fn link_home(self) -> Next
         requires step { PutsHome self }
-        ensures program { (a : Around) → next_program a result ≡ after_home (point_program a self) }
+        ensures program { (a : Context) → next_program a result ≡ after_home (point_program a self) }
         ensures hand { link_behind result ≡ None }
     {
         match self {
@@ -112,7 +112,7 @@ impl Point {
     /// Where it goes on by what its link answered to a put, and whether it took all that was left.
     pub fn put_answered(self, answer: Put, whole: bool) -> Next
         requires step { PutsPiece self }
-        ensures program { (a : Around) → whole ≡ is_whole a.left answer → next_program (with_put answer a) result ≡ after_put (point_program a self) answer }
+        ensures program { (a : Context) → whole ≡ is_whole a.left answer → next_program (with_put answer a) result ≡ after_put (point_program a self) answer }
         ensures hand { link_behind result ≡ None }
     {
         match self {
@@ -126,7 +126,7 @@ impl Point {
     /// Where it goes on by what its link answered to the question whether it takes more.
     pub fn ready_answered(self, answer: Ready) -> Next
         requires step { Asks self }
-        ensures program { (a : Around) → next_program a result ≡ after_ready (point_program a self) answer }
+        ensures program { (a : Context) → next_program a result ≡ after_ready (point_program a self) answer }
         ensures hand { link_behind result ≡ None }
     {
         match self {

@@ -17,7 +17,7 @@ pub mod writing;
 pub use call::Call;
 pub use calling::Calling;
 pub use point::{
-    After, Aim, Attempt, AttemptStep, Author, CallStep, Current, FailStep, Failing, Holder,
-    JoinStep, Next, OpenStep, Opening, Point, ReleaseStep, Released, RetryStep, Retrying, SeekStep,
-    SendStep, Sending, Step, Then, WriteStep, Writer,
+    AfterStep, Aim, Attempt, AttemptStep, Author, CallStep, Continuation, Current, FailStep,
+    Failing, Holder, JoinStep, Next, OpenStep, Opening, Point, ReleaseStep, Released, RetryStep,
+    Retrying, SeekStep, SendStep, Sending, Step, WriteStep, Writer,
 };

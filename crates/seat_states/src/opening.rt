@@ -1,7 +1,7 @@
 ghost use Rattle.std.specs.Prelude.{◌≡◌, ◌-◌, None};
 ghost use Rattle.seat_programs.specs.Programs.{open_from};
 ghost use Rattle.call_points.specs.Steps.{after_word};
-ghost use Rattle.seat_states.specs.Points.{Around, client_on, open_program, point_program, next_program, link_at, link_behind, link_left, IsOneOf};
+ghost use Rattle.seat_states.specs.Points.{Context, client_on, open_program, point_program, next_program, link_at, link_behind, link_left, IsOneOf};
 
 use crate::point::{Next, OpenStep, Opening, Point};
 use sock_words::{Outcome, Vref};
@@ -9,7 +9,7 @@ use sock_words::{Outcome, Vref};
 impl Opening {
     /// An `open` that has come to this of so many slots.
     pub fn try_slot(self, slots: u16, slot: u16) -> Point
-        ensures program { (a : Around) → a.sizes.slots ≡ slots → point_program a result ≡ open_from (slots - slot) slot self.operation self.name self.link (client_on a) }
+        ensures program { (a : Context) → a.sizes.slots ≡ slots → point_program a result ≡ open_from (slots - slot) slot self.operation self.name self.link (client_on a) }
         ensures hand { link_at result ≡ None }
     {
         if slot < slots {
@@ -40,7 +40,7 @@ impl Opening {
     /// Where an `open` goes on, of so many slots, by the word that its step found.
     pub fn next(self, slots: u16, step: OpenStep, found: u64) -> Next
         requires { IsOneOf slots step }
-        ensures program { (a : Around) → a.sizes.slots ≡ slots → next_program a result ≡ after_word (open_program a self step) found }
+        ensures program { (a : Context) → a.sizes.slots ≡ slots → next_program a result ≡ after_word (open_program a self step) found }
         ensures hand { link_behind result ≡ link_left (Point.Open self step) }
     {
         match step {

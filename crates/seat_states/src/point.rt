@@ -109,7 +109,7 @@ pub enum FailStep {
 
 /// What follows a release.
 #[derive(Clone, Copy)]
-pub enum Then {
+pub enum Continuation {
     /// The operation found another version.
     Gone { operation: u16, found: Vref },
     /// The operation `fail` is done, and had found this word.
@@ -251,7 +251,7 @@ pub enum WriteStep {
 
 /// What a client does behind the post of an error, and behind what it decided on it.
 #[derive(Clone, Copy)]
-pub enum After {
+pub enum AfterStep {
     /// Behind an attempt that wasn't written: it gives back the life of this slot, if it holds one, and goes on.
     Attempt(Option<u32>),
     /// Behind the operation `expire` of this number.
@@ -324,15 +324,15 @@ pub enum Point {
     Seek(Aim, SeekStep),
     Fail(Failing, FailStep),
     /// A reference to this slot is given back.
-    Release(u32, Then, ReleaseStep),
+    Release(u32, Continuation, ReleaseStep),
     Send(Sending, SendStep),
     Write(Writer, WriteStep),
     /// The call in hand is begun.
     Call(CallStep),
     /// An attempt over the socket with this id.
     Attempt(Attempt, SocketId, AttemptStep),
-    Post(OnCall, After, PostStep),
-    Decide(OnCall, After, DecideStep),
+    Post(OnCall, AfterStep, PostStep),
+    Decide(OnCall, AfterStep, DecideStep),
     Retry(Retrying, RetryStep),
     /// The operation `expire` of this number, of the call of the second one.
     Expire(u16, u16),
@@ -378,9 +378,9 @@ pub enum Next {
     /// The ending of an `open` is done.
     Ended,
     /// The call of this operation and id ended with this code.
-    CallEnded(u16, CallId, u16, After),
+    CallEnded(u16, CallId, u16, AfterStep),
     /// A retry is kept: this attempt of the call with this id,
-    Kept(CallId, AttemptNumber, After),
+    Kept(CallId, AttemptNumber, AfterStep),
     /// and first this error is decided on, by the word of the locked id.
-    KeptWith(OnCall, AttemptNumber, IdWord, After),
+    KeptWith(OnCall, AttemptNumber, IdWord, AfterStep),
 }

@@ -1,30 +1,39 @@
 ghost use Rattle.std.specs.Prelude.{◌≡◌, None, ℕ, Bool, if◌then◌else◌};
 ghost use Rattle.seat_programs.specs.Programs.{Program, fail_outcome};
 ghost use Rattle.call_points.specs.Steps.{after_word};
-ghost use Rattle.seat_states.specs.Points.{Around, release_on, released_on, release_program, next_program, then_program, MayFindIn, release_left, released_link, link_behind, link_left};
+ghost use Rattle.seat_states.specs.Points.{Context, release_on, released_on, release_program, next_program, then_program, MayFindIn, release_left, released_link, link_behind, link_left};
 
 use crate::asking::posting;
-use crate::point::{After, Next, Point, ReleaseStep, Released, Then};
+use crate::point::{AfterStep, Continuation, Next, Point, ReleaseStep, Released};
 use sock_words::{EFAILEDSOCKET, Outcome, Vref};
 
 /// The last version that a slot may be given again with.
 const LAST_VERSION: u32 = 4_294_967_292;
 
-impl Then {
+impl Continuation {
     /// What follows a release that recycled the slot, or didn't.
     pub fn next(self, freed: bool) -> Next
-        ensures program { (a : Around) → next_program a result ≡ then_program a self freed }
+        ensures program { (a : Context) → next_program a result ≡ then_program a self freed }
         ensures hand { link_behind result ≡ None }
     {
         match self {
-            Then::Gone { operation, found } => Next::Said(operation, Outcome::Gone { found }),
-            Then::Failed { operation, found } => Next::Said(operation, failed_outcome(found)),
-            Then::Full { operation } => Next::Said(operation, Outcome::Full),
-            Then::Sent { operation } => Next::Sent(operation),
-            Then::Dropped { operation } => Next::Said(operation, dropped_outcome(freed)),
-            Then::GaveBack => Next::GaveBack,
-            Then::Unreached(attempt) => posting(attempt.error(EFAILEDSOCKET), After::Attempt(None)),
-            Then::Ended => Next::Ended,
+            Continuation::Gone { operation, found } => Next::Said(
+                operation,
+                Outcome::Gone { found },
+            ),
+            Continuation::Failed { operation, found } => Next::Said(
+                operation,
+                failed_outcome(found),
+            ),
+            Continuation::Full { operation } => Next::Said(operation, Outcome::Full),
+            Continuation::Sent { operation } => Next::Sent(operation),
+            Continuation::Dropped { operation } => Next::Said(operation, dropped_outcome(freed)),
+            Continuation::GaveBack => Next::GaveBack,
+            Continuation::Unreached(attempt) => posting(
+                attempt.error(EFAILEDSOCKET),
+                AfterStep::Attempt(None),
+            ),
+            Continuation::Ended => Next::Ended,
         }
     }
 }
@@ -48,7 +57,7 @@ fn dropped_outcome(freed: bool) -> Outcome
 }
 
 /// The release of a slot, at this step.
-pub fn releasing(slot: u32, follows: Then, step: ReleaseStep) -> Next
+pub fn releasing(slot: u32, follows: Continuation, step: ReleaseStep) -> Next
     ensures { result ≡ Next.Point (Point.Release slot follows step) }
 {
     Next::Point(Point::Release(slot, follows, step))
@@ -98,9 +107,9 @@ impl ReleaseStep {
     }
 
     /// Where the release of a slot goes on, and what follows it, by the word that its step found.
-    pub fn next(self, slot: u32, follows: Then, found: u64) -> Next
+    pub fn next(self, slot: u32, follows: Continuation, found: u64) -> Next
         requires { MayFindIn self found }
-        ensures program { (a : Around) → next_program a result ≡ after_word (release_program a slot follows self) found }
+        ensures program { (a : Context) → next_program a result ≡ after_word (release_program a slot follows self) found }
         ensures hand { link_behind result ≡ link_left (Point.Release slot follows self) }
     {
         match self.behind(found) {

@@ -5,12 +5,14 @@ ghost use Rattle.id_points.specs.Turns.{lock_on, unlock_on, sought_as};
 ghost use Rattle.call_points.specs.Steps.{after_word, after_call};
 ghost use Rattle.seat_programs.specs.sock_message.specs.Asked.{Asked};
 ghost use Rattle.id_points.specs.Ids.{id_of, number_of};
-ghost use Rattle.seat_states.specs.Points.{Around, client_on, locker_of, retry_program, join_program, next_program, with_asked, with_frame, HasRetry, MayLock, RetriesByWord, MayFindId, MayFindJoined, link_behind};
+ghost use Rattle.seat_states.specs.Points.{Context, client_on, locker_of, retry_program, join_program, next_program, with_asked, with_frame, HasRetry, MayLock, RetriesByWord, MayFindId, MayFindJoined, link_behind};
 ghost use Rattle.seat_states.specs.Steps.{first_in, step_as};
 
 use crate::asking::posting;
 use crate::call::Call;
-use crate::point::{After, Attempt, AttemptStep, JoinStep, Next, Point, RetryStep, Retrying, Step};
+use crate::point::{
+    AfterStep, Attempt, AttemptStep, JoinStep, Next, Point, RetryStep, Retrying, Step,
+};
 use call_points::{Aside, DecideStep, LockStep, Locker, OnCall};
 use id_points::{CallId, IdError, LockTurn, Sought, UnlockTurn, is_awaited, unlock_behind};
 use sock_words::{EFAILEDSOCKET, ERPCTIMEDOUT, IdWord, Outcome, SocketId};
@@ -36,7 +38,7 @@ impl Retrying {
 
     /// The next step of a retry.
     pub fn step(self, step: RetryStep) -> Step
-        ensures { (a : Around) → HasRetry a self step → first_in (retry_program a self step) ≡ Some (step_as a result) }
+        ensures { (a : Context) → HasRetry a self step → first_in (retry_program a self step) ≡ Some (step_as a result) }
     {
         let slot = self.attempt.id.slot();
         match step {
@@ -52,7 +54,7 @@ impl Retrying {
 
     /// How a retry goes on behind a step on the way to its lock.
     fn locked(self, turn: LockTurn) -> Next
-        ensures program { (a : Around) → next_program a result ≡ lock_on (locker_of self).slot (sought_as (locker_of self).sought) (retry_locked a.sizes.requests (id_of self.attempt.id) (number_of self.attempt.number) (client_on a)) turn }
+        ensures program { (a : Context) → next_program a result ≡ lock_on (locker_of self).slot (sought_as (locker_of self).sought) (retry_locked a.sizes.requests (id_of self.attempt.id) (number_of self.attempt.number) (client_on a)) turn }
         ensures hand { link_behind result ≡ None }
     {
         match turn {
@@ -65,7 +67,7 @@ impl Retrying {
 
     /// How it goes on behind the giving back of its lock; an error that was queued is decided on.
     fn unlocked(self, turn: UnlockTurn) -> Next
-        ensures program { (a : Around) → next_program a result ≡ unlock_on (id_slot (id_of self.attempt.id)) (tried_again a.sizes.requests (id_of self.attempt.id) (number_of self.attempt.number) a.asked (client_on a)) turn }
+        ensures program { (a : Context) → next_program a result ≡ unlock_on (id_slot (id_of self.attempt.id)) (tried_again a.sizes.requests (id_of self.attempt.id) (number_of self.attempt.number) a.asked (client_on a)) turn }
         ensures hand { link_behind result ≡ None }
     {
         match turn {
@@ -75,7 +77,7 @@ impl Retrying {
                     id: self.attempt.id,
                     error,
                 };
-                Next::Point(Point::Decide(queued, After::Attempt(None), DecideStep::Take(word)))
+                Next::Point(Point::Decide(queued, AfterStep::Attempt(None), DecideStep::Take(word)))
             }
             UnlockTurn::Again(from, advance) => self.to(RetryStep::Unlock(from, advance)),
         }
@@ -85,7 +87,7 @@ impl Retrying {
     pub fn next(self, step: RetryStep, found: u64) -> Next
         requires lock { MayLock step }
         requires word { RetriesByWord step }
-        ensures program { (a : Around) → HasRetry a self step → next_program a result ≡ after_word (retry_program a self step) found }
+        ensures program { (a : Context) → HasRetry a self step → next_program a result ≡ after_word (retry_program a self step) found }
         ensures hand { link_behind result ≡ None }
     {
         match step {
@@ -97,7 +99,7 @@ impl Retrying {
             }
             RetryStep::LoadName => {
                 if found == 0 {
-                    posting(self.attempt.error(EFAILEDSOCKET), After::Attempt(None))
+                    posting(self.attempt.error(EFAILEDSOCKET), AfterStep::Attempt(None))
                 } else {
                     let socket = SocketId::from_word(found - 1);
                     self.attempt.to(socket, AttemptStep::AddRef)
@@ -108,7 +110,7 @@ impl Retrying {
 
     /// How it goes on with its call in hand, which is that of this operation, and this is the name of the attempt.
     pub fn with_call(self, word: IdWord, operation: u16, name: u16) -> Next
-        ensures program { (a : Around) (asked : Asked) → next_program (with_frame (id_of self.attempt.id) (number_of self.attempt.number) (with_asked asked a)) result ≡ after_call (retry_program a self (RetryStep.TakeCall word)) asked }
+        ensures program { (a : Context) (asked : Asked) → next_program (with_frame (id_of self.attempt.id) (number_of self.attempt.number) (with_asked asked a)) result ≡ after_call (retry_program a self (RetryStep.TakeCall word)) asked }
         ensures hand { link_behind result ≡ None }
     {
         let retrying = Retrying {
@@ -125,7 +127,7 @@ impl Retrying {
 /// An `expire` goes on by the word of the call that it loaded.
 pub fn expiring(operation: u16, found: u64) -> Next
     requires { MayFindId found }
-    ensures program { (a : Around) (call : ℕ) → next_program a result ≡ after_word (expire operation call (client_on a)) found }
+    ensures program { (a : Context) (call : ℕ) → next_program a result ≡ after_word (expire operation call (client_on a)) found }
     ensures hand { link_behind result ≡ None }
 {
     if found == 0 {
@@ -135,13 +137,13 @@ pub fn expiring(operation: u16, found: u64) -> Next
         id: CallId::from_number(found),
         error: IdError::of_call(ERPCTIMEDOUT),
     };
-    posting(error, After::Expire(operation))
+    posting(error, AfterStep::Expire(operation))
 }
 
 impl JoinStep {
     /// The next step of a `join`.
     pub fn step(self) -> Step
-        ensures { (a : Around) (o : ℕ) → first_in (join_program a o self) ≡ Some (step_as a result) }
+        ensures { (a : Context) (o : ℕ) → first_in (join_program a o self) ≡ Some (step_as a result) }
     {
         match self {
             JoinStep::LoadCall(call) => Step::Aside(Aside::LoadCall(call)),
@@ -152,7 +154,7 @@ impl JoinStep {
     /// How a `join` goes on by the word that its step found.
     pub fn next(self, operation: u16, found: u64) -> Next
         requires { MayFindJoined self found }
-        ensures program { (a : Around) → next_program a result ≡ after_word (join_program a operation self) found }
+        ensures program { (a : Context) → next_program a result ≡ after_word (join_program a operation self) found }
         ensures hand { link_behind result ≡ None }
     {
         match self {

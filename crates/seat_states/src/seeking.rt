@@ -1,10 +1,11 @@
 ghost use Rattle.std.specs.Prelude.{◌≡◌, None};
 ghost use Rattle.sock_words.specs.Words.{socket_id_slot};
 ghost use Rattle.call_points.specs.Steps.{after_word};
-ghost use Rattle.seat_states.specs.Points.{Around, seek_program, fail_program, failed_then, gone_then, has_life, unopened_program, reached_program, next_program, link_behind};
+ghost use Rattle.seat_states.specs.Points.{Context, seek_program, fail_program, failed_then, gone_then, has_life, unopened_program, reached_program, next_program, link_behind};
 
 use crate::point::{
-    Aim, Author, FailStep, Failing, Next, Point, ReleaseStep, SeekStep, SendStep, Sending, Then,
+    Aim, Author, Continuation, FailStep, Failing, Next, Point, ReleaseStep, SeekStep, SendStep,
+    Sending,
 };
 use crate::releasing::releasing;
 use crate::steps::NO_SOCKET;
@@ -12,12 +13,12 @@ use sock_words::{EEOF, Outcome, SocketId, Vref};
 
 impl Failing {
     /// What follows the failing of a life that found this word.
-    fn then(self, found: Vref) -> Then
+    fn then(self, found: Vref) -> Continuation
         ensures { result ≡ failed_then self.operation found.0 }
     {
         match self.operation {
-            Some(operation) => Then::Failed { operation, found },
-            None => Then::Ended,
+            Some(operation) => Continuation::Failed { operation, found },
+            None => Continuation::Ended,
         }
     }
 
@@ -30,7 +31,7 @@ impl Failing {
 
     /// Where the failing of a life goes on, by the word that its step found.
     pub fn next(self, step: FailStep, found: u64) -> Next
-        ensures program { (a : Around) → next_program a result ≡ after_word (fail_program a self step) found }
+        ensures program { (a : Context) → next_program a result ≡ after_word (fail_program a self step) found }
         ensures hand { link_behind result ≡ None }
     {
         match step {
@@ -54,7 +55,7 @@ impl Failing {
 impl Aim {
     /// Where it goes on without a life under the name.
     fn unopened(self) -> Next
-        ensures program { (a : Around) → next_program a result ≡ unopened_program a self }
+        ensures program { (a : Context) → next_program a result ≡ unopened_program a self }
         ensures hand { link_behind result ≡ None }
     {
         match self {
@@ -77,7 +78,7 @@ impl Aim {
 
     /// Where it goes on with a reference to the life.
     fn reached(self, id: SocketId) -> Next
-        ensures program { (a : Around) → next_program a result ≡ reached_program a self id }
+        ensures program { (a : Context) → next_program a result ≡ reached_program a self id }
         ensures hand { link_behind result ≡ None }
     {
         match self {
@@ -110,20 +111,20 @@ impl Aim {
     }
 
     /// What follows the release of a 1 that was added to the word of another version.
-    fn gone(self, found: Vref) -> Then
+    fn gone(self, found: Vref) -> Continuation
         ensures { result ≡ gone_then self found.0 }
     {
         match self {
             Aim::Hold { operation, .. }
             | Aim::Send { operation, .. }
-            | Aim::Fail { operation, .. } => Then::Gone { operation, found },
-            Aim::End { .. } => Then::Ended,
+            | Aim::Fail { operation, .. } => Continuation::Gone { operation, found },
+            Aim::End { .. } => Continuation::Ended,
         }
     }
 
     /// Where the way to a life goes on, by the word that its step found.
     pub fn next(self, step: SeekStep, found: u64) -> Next
-        ensures program { (a : Around) → next_program a result ≡ after_word (seek_program a self step) found }
+        ensures program { (a : Context) → next_program a result ≡ after_word (seek_program a self step) found }
         ensures hand { link_behind result ≡ None }
     {
         match step {

@@ -1,26 +1,26 @@
 ghost use Rattle.std.specs.Prelude.{◌≡◌, ◌-◌, ◌≤◌, ℕ, List, None, Some};
 ghost use Rattle.sock_words.specs.Words.{socket_id_slot};
 ghost use Rattle.call_points.specs.Steps.{after_word};
-ghost use Rattle.seat_states.specs.Points.{Around, client_on, place_by, claims_program, full_program, failed_look, look_program, sent_then, point_program, send_program, first_program, next_program, after_message, with_message, IsOneOfRequests, MayFindOf, SendsByWord, link_at, link_behind};
+ghost use Rattle.seat_states.specs.Points.{Context, client_on, place_by, claims_program, full_program, failed_look, look_program, sent_then, point_program, send_program, first_program, next_program, after_message, with_message, IsOneOfRequests, MayFindOf, SendsByWord, link_at, link_behind};
 ghost use Rattle.seat_states.specs.Steps.{first_in, step_as};
 
 use crate::asking::posting;
 use crate::call::Call;
 use crate::point::{
-    After, Author, Current, Holder, Next, Point, ReleaseStep, SendStep, Sending, Step, Then,
-    WriteStep, Writer,
+    AfterStep, Author, Continuation, Current, Holder, Next, Point, ReleaseStep, SendStep, Sending,
+    Step, WriteStep, Writer,
 };
 use crate::releasing::releasing;
 use sock_words::{EFAILEDSOCKET, EREQUESTS, Ticket, Vref};
 
 impl Author {
     /// What follows the release of the life behind its message, which was accepted.
-    pub fn sent(self) -> Then
+    pub fn sent(self) -> Continuation
         ensures { result ≡ sent_then self }
     {
         match self {
-            Author::Send(operation) => Then::Sent { operation },
-            Author::Attempt(_) => Then::GaveBack,
+            Author::Send(operation) => Continuation::Sent { operation },
+            Author::Attempt(_) => Continuation::GaveBack,
         }
     }
 
@@ -47,7 +47,7 @@ impl Sending {
 
     /// Its next step.
     pub fn step(self, step: SendStep) -> Step
-        ensures { (a : Around) → first_in (send_program a self step) ≡ Some (step_as a result) }
+        ensures { (a : Context) → first_in (send_program a self step) ≡ Some (step_as a result) }
     {
         let slot = self.id.slot();
         match step {
@@ -65,7 +65,7 @@ impl Sending {
 
     /// It has come to this of so many requests.
     pub fn try_request(self, requests: u16, request: u16) -> Next
-        ensures program { (a : Around) → a.sizes.requests ≡ requests → next_program a result ≡ claims_program a self (requests - request) request }
+        ensures program { (a : Context) → a.sizes.requests ≡ requests → next_program a result ≡ claims_program a self (requests - request) request }
         ensures hand { link_behind result ≡ None }
     {
         if request < requests {
@@ -77,39 +77,43 @@ impl Sending {
 
     /// Each request was found taken.
     fn full(self) -> Next
-        ensures program { (a : Around) → next_program a result ≡ full_program a self.author self.id.0 }
+        ensures program { (a : Context) → next_program a result ≡ full_program a self.author self.id.0 }
         ensures hand { link_behind result ≡ None }
     {
         let slot = self.id.slot();
         match self.author {
             Author::Send(operation) => {
-                releasing(slot, Then::Full { operation }, ReleaseStep::SubRef)
+                releasing(slot, Continuation::Full { operation }, ReleaseStep::SubRef)
             }
             Author::Attempt(attempt) => {
-                posting(attempt.error(EREQUESTS), After::Attempt(Some(slot)))
+                posting(attempt.error(EREQUESTS), AfterStep::Attempt(Some(slot)))
             }
         }
     }
 
     /// Its life was found failed, by this word.
     fn refused(self, found: Vref) -> Next
-        ensures program { (a : Around) → next_program a result ≡ failed_look a self.author self.id.0 found.0 }
+        ensures program { (a : Context) → next_program a result ≡ failed_look a self.author self.id.0 found.0 }
         ensures hand { link_behind result ≡ None }
     {
         let slot = self.id.slot();
         match self.author {
             Author::Send(operation) => {
-                releasing(slot, Then::Gone { operation, found }, ReleaseStep::SubRef)
+                releasing(
+                    slot,
+                    Continuation::Gone { operation, found },
+                    ReleaseStep::SubRef,
+                )
             }
             Author::Attempt(attempt) => {
-                posting(attempt.error(EFAILEDSOCKET), After::Attempt(Some(slot)))
+                posting(attempt.error(EFAILEDSOCKET), AfterStep::Attempt(Some(slot)))
             }
         }
     }
 
     /// Where it goes on behind its look.
     fn looked(self, requests: u16, found: Vref) -> Next
-        ensures program { (a : Around) → a.sizes.requests ≡ requests → next_program a result ≡ after_word (look_program a self.author self.id.0) found.0 }
+        ensures program { (a : Context) → a.sizes.requests ≡ requests → next_program a result ≡ after_word (look_program a self.author self.id.0) found.0 }
         ensures hand { link_behind result ≡ None }
     {
         if found.is_failed() {
@@ -121,7 +125,7 @@ impl Sending {
 
     /// Where it goes on behind the head's exchange, which found this word.
     fn swapped(self, request: u16, own: Ticket, found: Ticket) -> Next
-        ensures program { (a : Around) → next_program a result ≡ after_word (send_program a self (SendStep.SwapHead request own)) found.0 }
+        ensures program { (a : Context) → next_program a result ≡ after_word (send_program a self (SendStep.SwapHead request own)) found.0 }
         ensures hand { link_behind result ≡ None }
     {
         if found.idle() {
@@ -144,7 +148,7 @@ impl Sending {
         requires within { IsOneOfRequests requests step }
         requires word { MayFindOf step found }
         requires by_word { SendsByWord step }
-        ensures program { (a : Around) → a.sizes.requests ≡ requests → next_program a result ≡ after_word (send_program a self step) found }
+        ensures program { (a : Context) → a.sizes.requests ≡ requests → next_program a result ≡ after_word (send_program a self step) found }
         ensures hand { link_behind result ≡ None }
     {
         match step {
@@ -172,7 +176,7 @@ impl Sending {
 
     /// It found an idle head, and has the message of this ticket and author in hand, and the link.
     pub fn writes(self, own: Ticket, link: u16, places: u32, author: Author) -> Next
-        ensures program { (a : Around) (request : ℕ) (parts bytes : List ℕ) → next_program (with_message parts bytes a) result ≡ after_message (first_program a self request own.0 link places) author parts bytes }
+        ensures program { (a : Context) (request : ℕ) (parts bytes : List ℕ) → next_program (with_message parts bytes a) result ≡ after_message (first_program a self request own.0 link places) author parts bytes }
         ensures hand { link_behind result ≡ None }
     {
         let writer = Writer {

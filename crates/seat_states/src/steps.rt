@@ -1,7 +1,7 @@
 ghost use Rattle.std.specs.Prelude.{◌≡◌, ◌+◌, Bool, option_map, Some, None};
 ghost use Rattle.sock_words.specs.Words.{socket_id};
 ghost use Rattle.seat_programs.specs.Programs.{Program};
-ghost use Rattle.seat_states.specs.Points.{Around, open_program, seek_program, fail_program, release_on, point_program, IsCalling, HasInHand, HasLinkAt};
+ghost use Rattle.seat_states.specs.Points.{Context, open_program, seek_program, fail_program, release_on, point_program, IsCalling, HasInHand, HasLinkAt};
 ghost use Rattle.seat_states.specs.Steps.{OfCall, step_of, first_in, step_as, kind_of_first};
 
 use crate::call::Call;
@@ -23,7 +23,7 @@ fn socket_word(version: u32, slot: u16) -> u64
 impl Opening {
     /// The next step of an `open`.
     fn call(self, step: OpenStep) -> Call
-        ensures { (a : Around) → first_in (open_program a self step) ≡ Some (OfCall (step_of result)) }
+        ensures { (a : Context) → first_in (open_program a self step) ≡ Some (OfCall (step_of result)) }
     {
         match step {
             OpenStep::Claim(slot) => Call::ClaimSlot(u32::from(slot)),
@@ -48,7 +48,7 @@ impl Opening {
 impl Aim {
     /// The next step of the way to a life.
     fn call(self, step: SeekStep) -> Call
-        ensures { (a : Around) → first_in (seek_program a self step) ≡ Some (OfCall (step_of result)) }
+        ensures { (a : Context) → first_in (seek_program a self step) ≡ Some (OfCall (step_of result)) }
     {
         match step {
             SeekStep::AddRef(id) => Call::AddRef(id),
@@ -65,7 +65,7 @@ impl Aim {
 impl Failing {
     /// The next step of a failing.
     fn call(self, step: FailStep) -> Call
-        ensures { (a : Around) → first_in (fail_program a self step) ≡ Some (OfCall (step_of result)) }
+        ensures { (a : Context) → first_in (fail_program a self step) ≡ Some (OfCall (step_of result)) }
     {
         match step {
             FailStep::SetOdd => Call::SetOdd(self.id.slot()),
@@ -98,7 +98,7 @@ impl Point {
     /// The next step, if there is one, with this call in hand.
     pub fn step(&self, calling: Calling) -> Option<Step>
         requires { HasLinkAt self.now }
-        ensures { (a : Around) → IsCalling a calling → HasInHand a self.now → option_map (step_as a) result ≡ first_in (point_program a self.now) }
+        ensures { (a : Context) → IsCalling a calling → HasInHand a self.now → option_map (step_as a) result ≡ first_in (point_program a self.now) }
     {
         match *self {
             Point::Rest => None,
@@ -122,7 +122,7 @@ impl Point {
 impl Step {
     /// Its kind, as a schedule names it.
     pub fn kind(&self) -> Kind
-        ensures { (a : Around) → result ≡ kind_of_first (step_as a self.now) }
+        ensures { (a : Context) → result ≡ kind_of_first (step_as a self.now) }
     {
         match *self {
             Step::Call(call) => call.kind(),

@@ -3,13 +3,13 @@ ghost use Rattle.sock_model.specs.Entries.{slot_of, generation_of};
 ghost use Rattle.seat_programs.specs.Sends.{one_more, freed, passed_telling};
 ghost use Rattle.sock_io.specs.declared.link.Put.{Put};
 ghost use Rattle.call_points.specs.Steps.{after_word};
-ghost use Rattle.seat_states.specs.Points.{Around, point_program, write_program, written_program, holder_of, next_message, told, behind_drop, freed_program, taken_again, next_program, after_message, after_link, after_put, after_ready, with_message, with_put, is_whole, HasPlaceLeft, MayFindWriting, TellsCode, WritesByWord, link_behind};
+ghost use Rattle.seat_states.specs.Points.{Context, point_program, write_program, written_program, holder_of, next_message, told, behind_drop, freed_program, taken_again, next_program, after_message, after_link, after_put, after_ready, with_message, with_put, is_whole, HasPlaceLeft, MayFindWriting, TellsCode, WritesByWord, link_behind};
 ghost use Rattle.seat_states.specs.Steps.{first_in, step_as};
 
 use crate::asking::posting;
 use crate::call::Call;
 use crate::point::{
-    After, Author, Current, Holder, Next, Point, ReleaseStep, Step, WriteStep, Writer,
+    AfterStep, Author, Current, Holder, Next, Point, ReleaseStep, Step, WriteStep, Writer,
 };
 use crate::releasing::releasing;
 use call_points::OnCall;
@@ -40,7 +40,7 @@ impl Current {
     /// its place; before what is left is put the socket is looked at; behind `Again` the link is asked whether it takes more;
     /// where it failed, the socket is set failed.
     pub fn put_answered(self, answer: Put, whole: bool) -> WriteStep
-        ensures { (a : Around) (w : Writer) (asked : Bool) → whole ≡ is_whole a.left answer → write_program (with_put answer a) w result ≡ after_put (write_program a w (WriteStep.Put self asked)) answer }
+        ensures { (a : Context) (w : Writer) (asked : Bool) → whole ≡ is_whole a.left answer → write_program (with_put answer a) w result ≡ after_put (write_program a w (WriteStep.Put self asked)) answer }
     {
         match answer {
             Put::Took(_) => {
@@ -57,7 +57,7 @@ impl Current {
 
     /// What follows the question whether the link takes more.
     pub fn ready_answered(self, answer: Ready) -> WriteStep
-        ensures { (a : Around) (w : Writer) → write_program a w result ≡ after_ready (write_program a w (WriteStep.Ask self)) answer }
+        ensures { (a : Context) (w : Writer) → write_program a w result ≡ after_ready (write_program a w (WriteStep.Ask self)) answer }
     {
         match answer {
             Ready::Now => WriteStep::Look(self, true),
@@ -90,7 +90,7 @@ impl Writer {
 
     /// It has the message of this ticket and author in hand.
     pub fn writes(self, ticket: Ticket, author: Author) -> Next
-        ensures program { (a : Around) (parts bytes : List ℕ) → next_program (with_message parts bytes a) result ≡ after_message (next_message a self (holder_of self.holder) ticket.0) author parts bytes }
+        ensures program { (a : Context) (parts bytes : List ℕ) → next_program (with_message parts bytes a) result ≡ after_message (next_message a self (holder_of self.holder) ticket.0) author parts bytes }
         ensures hand { link_behind result ≡ None }
     {
         self.to(WriteStep::Look(Current { ticket, author }, false))
@@ -112,7 +112,7 @@ impl Writer {
 
     /// It has its link in hand again, of whose messages so many have places, and walks from the ticket found in the head.
     pub fn walks(self, found: Ticket, places: u32) -> Next
-        ensures program { (a : Around) → next_program a result ≡ after_link (taken_again a self found.0) places }
+        ensures program { (a : Context) → next_program a result ≡ after_link (taken_again a self found.0) places }
         ensures hand { link_behind result ≡ None }
     {
         let writer = Writer {
@@ -127,7 +127,7 @@ impl Writer {
 
     /// The next step of whoever writes.
     pub fn step(self, step: WriteStep) -> Step
-        ensures { (a : Around) → first_in (write_program a self step) ≡ Some (step_as a result) }
+        ensures { (a : Context) → first_in (write_program a self step) ≡ Some (step_as a result) }
     {
         let Holder {
             id,
@@ -170,7 +170,7 @@ impl Writer {
 
     /// What follows the first look: a put, or the loop, which drops nothing before it looked again.
     fn looked_first(self, current: Current, found: Vref) -> Next
-        ensures program { (a : Around) → next_program a result ≡ after_word (write_program a self (WriteStep.FirstLook current)) found.0 }
+        ensures program { (a : Context) → next_program a result ≡ after_word (write_program a self (WriteStep.FirstLook current)) found.0 }
         ensures hand { link_behind result ≡ None }
     {
         if found.is_failed() {
@@ -182,7 +182,7 @@ impl Writer {
 
     /// What follows a look: a put, or the message is dropped.
     fn looked(self, current: Current, asked: bool, found: Vref) -> Next
-        ensures program { (a : Around) → next_program a result ≡ after_word (write_program a self (WriteStep.Look current asked)) found.0 }
+        ensures program { (a : Context) → next_program a result ≡ after_word (write_program a self (WriteStep.Look current asked)) found.0 }
         ensures hand { link_behind result ≡ None }
     {
         if found.is_failed() {
@@ -194,7 +194,7 @@ impl Writer {
 
     /// What follows the exchange that makes the version odd: who did so stores the code.
     fn failed(self, current: Current, found: Vref) -> Next
-        ensures program { (a : Around) → next_program a result ≡ after_word (write_program a self (WriteStep.SetOdd current)) found.0 }
+        ensures program { (a : Context) → next_program a result ≡ after_word (write_program a self (WriteStep.SetOdd current)) found.0 }
         ensures hand { link_behind result ≡ None }
     {
         if found.is_failed() {
@@ -206,7 +206,7 @@ impl Writer {
 
     /// What follows once the request of this ticket needn't be given back: the next message, or the head.
     pub fn freed(self, next: Option<Ticket>) -> Next
-        ensures program { (a : Around) → next_program a result ≡ freed_program a self next }
+        ensures program { (a : Context) → next_program a result ≡ freed_program a self next }
         ensures hand { link_behind result ≡ None }
     {
         match next {
@@ -217,18 +217,18 @@ impl Writer {
 
     /// The call of a dropped message is told, if it is one of a call, and then the next message follows, or the head.
     fn tells(self, next: Option<Ticket>, told: Option<OnCall>) -> Next
-        ensures program { (a : Around) → next_program a result ≡ behind_drop a self told next }
+        ensures program { (a : Context) → next_program a result ≡ behind_drop a self told next }
         ensures hand { link_behind result ≡ None }
     {
         match told {
-            Some(error) => posting(error, After::Drop(self, next)),
+            Some(error) => posting(error, AfterStep::Drop(self, next)),
             None => self.freed(next),
         }
     }
 
     /// The request of this ticket is given back, but for one of the last generation.
     fn gives_back(self, now: Ticket, next: Option<Ticket>, told: Option<OnCall>) -> Next
-        ensures program { (a : Around) → next_program a result ≡ freed now.0 (behind_drop a self told next) }
+        ensures program { (a : Context) → next_program a result ≡ freed now.0 (behind_drop a self told next) }
         ensures hand { link_behind result ≡ None }
     {
         if generation(now) == LAST_GENERATION {
@@ -260,7 +260,7 @@ impl Writer {
     /// The message of this ticket has its place, and this call is to be told that it was dropped.
     fn passed(self, now: Ticket, call: Option<OnCall>) -> Next
         requires { self.holder.places < 4294967295 }
-        ensures program { (a : Around) → next_program a result ≡ passed_telling (one_more (holder_of self.holder)) now.0 (told call) (written_program a self) }
+        ensures program { (a : Context) → next_program a result ≡ passed_telling (one_more (holder_of self.holder)) now.0 (told call) (written_program a self) }
         ensures hand { link_behind result ≡ None }
     {
         let writer = self.placed();
@@ -275,7 +275,7 @@ impl Writer {
     fn dropped(self, current: Current, code: u16) -> Next
         requires places { self.holder.places < 4294967295 }
         requires code { code ≤ 4095 }
-        ensures program { (a : Around) (found : ℕ) → next_program a result ≡ after_word (write_program a self (WriteStep.DropPlace current code)) found }
+        ensures program { (a : Context) (found : ℕ) → next_program a result ≡ after_word (write_program a self (WriteStep.DropPlace current code)) found }
         ensures hand { link_behind result ≡ None }
     {
         self.passed(current.ticket, current.author.told(code))
@@ -283,7 +283,7 @@ impl Writer {
 
     /// What follows a try of the head: where it is idle now all is written, and else a newer ticket was found there.
     fn emptied(self, found: Ticket) -> Next
-        ensures program { (a : Around) → next_program a result ≡ after_word (write_program a self WriteStep.EmptyHead) found.0 }
+        ensures program { (a : Context) → next_program a result ≡ after_word (write_program a self WriteStep.EmptyHead) found.0 }
         ensures hand { link_behind result ≡ None }
     {
         if found == self.holder.last {
@@ -299,7 +299,7 @@ impl Writer {
 
     /// What follows on a walk once a next word was turned; before that it had the last of these tickets.
     fn turned(self, top: Ticket, at: Ticket, before: Ticket) -> Next
-        ensures program { (a : Around) (after : Ticket) (found : ℕ) → next_program a result ≡ after_word (write_program a self (WriteStep.Turn top at after before)) found }
+        ensures program { (a : Context) (after : Ticket) (found : ℕ) → next_program a result ≡ after_word (write_program a self (WriteStep.Turn top at after before)) found }
         ensures hand { link_behind result ≡ None }
     {
         if before == self.holder.last {
@@ -311,7 +311,7 @@ impl Writer {
 
     /// What follows on a walk once the next word was read, which may not be connected yet.
     fn walked(self, top: Ticket, at: Ticket, after: Ticket, found: u64) -> Next
-        ensures program { (a : Around) → next_program a result ≡ after_word (write_program a self (WriteStep.Walk top at after)) found }
+        ensures program { (a : Context) → next_program a result ≡ after_word (write_program a self (WriteStep.Walk top at after)) found }
         ensures hand { link_behind result ≡ None }
     {
         if found == UNCONNECTED {
@@ -327,7 +327,7 @@ impl Writer {
         requires word { MayFindWriting step found }
         requires told { TellsCode step }
         requires by_word { WritesByWord step }
-        ensures program { (a : Around) → next_program a result ≡ after_word (write_program a self step) found }
+        ensures program { (a : Context) → next_program a result ≡ after_word (write_program a self step) found }
         ensures hand { link_behind result ≡ None }
     {
         match step {

@@ -25,7 +25,7 @@ use Rattle.seat_states.specs.declared.point.Point.TheVariants as points
 use Rattle.seat_states.specs.declared.point.SendStep.TheVariants as sends
 use Rattle.seat_states.specs.declared.point.WriteStep.TheVariants as writes
 use Rattle.seat_states.specs.declared.point.Author.{Author}
-use Rattle.seat_states.specs.Points.{Around, point_program, heading_by, TakesMessage, TakesLink, PutsHome, PutsPiece, Asks, after_message, after_link, after_home, after_put, after_ready, ready_behind}
+use Rattle.seat_states.specs.Points.{Context, point_program, heading_by, TakesMessage, TakesLink, PutsHome, PutsPiece, Asks, after_message, after_link, after_home, after_put, after_ready, ready_behind}
 use Rattle.seat_states.specs.Steps.{First, OfCall, OfAside, OfMessage, OfLink, OfHome, first_in}
 use Rattle.seat_states.specs.Steps as kinds
 use Rattle.sock_core.specs.Links.{IsClear, IsPaced}
@@ -88,11 +88,11 @@ abbrev pub IsHead : Program → Type 0
 IsHead (Write w after) = Unit {0}
 IsHead other = ⊥
 
-pub head_home : (a : Around) (p : Point) → PutsHome p → IsHead (point_program a p)
+pub head_home : (a : Context) (p : Point) → PutsHome p → IsHead (point_program a p)
 head_home a (points.Write w writes.PutHome) puts = tt
 head_home a _ puts = absurd puts
 
-pub head_asks : (a : Around) (p : Point) → Asks p → IsHead (point_program a p)
+pub head_asks : (a : Context) (p : Point) → Asks p → IsHead (point_program a p)
 head_asks a (points.Write w (writes.Ask m)) asks = tt
 head_asks a _ asks = absurd asks
 
@@ -115,18 +115,18 @@ IsBare (Write w after) = ⊥
 IsBare (Round head next) = ⊥
 IsBare other = Unit {0}
 
-pub bare_message : (a : Around) (p : Point) → TakesMessage p → IsBare (point_program a p)
+pub bare_message : (a : Context) (p : Point) → TakesMessage p → IsBare (point_program a p)
 bare_message a (points.Send s (sends.TakeMessage q own k places)) takes = tt
 bare_message a (points.Write w (writes.TakeMessage next)) takes = tt
 bare_message a (points.Write w (writes.TakeFirst top at)) takes = tt
 bare_message a _ takes = absurd takes
 
-pub bare_link : (a : Around) (p : Point) → TakesLink p → IsBare (point_program a p)
+pub bare_link : (a : Context) (p : Point) → TakesLink p → IsBare (point_program a p)
 bare_link a (points.Send s (sends.TakeHome q own k)) takes = tt
 bare_link a (points.Write w (writes.TakeHome found)) takes = tt
 bare_link a _ takes = absurd takes
 
-pub bare_put : (a : Around) (p : Point) → PutsPiece p → IsBare (point_program a p)
+pub bare_put : (a : Context) (p : Point) → PutsPiece p → IsBare (point_program a p)
 bare_put a (points.Write w (writes.Put c asked)) puts = tt
 bare_put a _ puts = absurd puts
 

@@ -32,7 +32,7 @@ use Rattle.call_slots.specs.Steps.{word_found}
 use Rattle.call_slots.proofs.Fitting.{IsOnWord, fits_prop, may_fits}
 use Rattle.seat_states.specs.declared.point.Step.{Step}
 use Rattle.seat_states.specs.declared.point.Step.TheVariants as firsts
-use Rattle.seat_states.specs.Points.{Around, MayFindId}
+use Rattle.seat_states.specs.Points.{Context, MayFindId}
 use Rattle.seat_states.specs.Steps.{First, OfCall, OfAside, OfMessage, OfLink, OfHome, step_of, step_as, first_in}
 use Rattle.seat_states.specs.Steps as kinds
 use Rattle.seat_states.proofs.StepFacts.{FitsSizes, may_find, is_within}
@@ -225,7 +225,7 @@ module _ (m : MachineState) (sized : IsSized (table_of m)) (few_slots : m.ids.pl
     abbrev client : Program
     client = seat_program (machine_sizes m) seat
 
-    abbrev a : Around
+    abbrev a : Context
     a = around (machine_sizes m) seat
 
     client_at : (s : IsSoundMachine m) → get_elem? (core_with m s.took s.gave).seats i ≡ core.some (state_of m.plan m.links s.took client i)

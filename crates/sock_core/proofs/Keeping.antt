@@ -36,7 +36,7 @@ use Rattle.id_runs.specs.Held.{IdView}
 use Rattle.id_runs.specs.Goes.{SoundIds}
 use Rattle.run_theorems.specs.joint_runs.proofs.Both.{BothSound, FitsBoth, fits_both, joint_ticks}
 use Rattle.call_points.specs.Steps.{after_word}
-use Rattle.seat_states.specs.Points.{Around, after_put, after_ready}
+use Rattle.seat_states.specs.Points.{Context, after_put, after_ready}
 use Rattle.seat_states.specs.Steps.{First, OfCall, OfAside, OfMessage, OfLink, OfHome, step_as, first_in}
 use Rattle.seat_states.specs.Steps as kinds
 use Rattle.seat_states.proofs.StepFacts as facts
@@ -150,7 +150,7 @@ module _ (old : MachineState) (sized : IsSized (table_of old)) (paced : ArePaced
     abbrev program : Program
     program = seat_program (machine_sizes old) seat
 
-    abbrev a : Around
+    abbrev a : Context
     a = around (machine_sizes old) seat
 
     -- how it goes on behind its next step

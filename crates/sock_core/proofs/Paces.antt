@@ -46,23 +46,23 @@ use Rattle.seat_states.specs.declared.point.Aim.{Aim}
 use Rattle.seat_states.specs.declared.point.Aim.TheVariants as aims
 use Rattle.seat_states.specs.declared.point.SeekStep.TheVariants as seeks
 use Rattle.seat_states.specs.declared.point.FailStep.TheVariants as fails
-use Rattle.seat_states.specs.declared.point.Then.{Then}
-use Rattle.seat_states.specs.declared.point.Then.TheVariants as thens
+use Rattle.seat_states.specs.declared.point.Continuation.{Continuation}
+use Rattle.seat_states.specs.declared.point.Continuation.TheVariants as thens
 use Rattle.seat_states.specs.declared.point.ReleaseStep.TheVariants as releases
 use Rattle.seat_states.specs.declared.point.SendStep.TheVariants as sends
 use Rattle.seat_states.specs.declared.point.Writer.{Writer}
 use Rattle.seat_states.specs.declared.point.WriteStep.TheVariants as writes
 use Rattle.seat_states.specs.declared.point.Author.{Author}
 use Rattle.seat_states.specs.declared.point.Author.TheVariants as authors
-use Rattle.seat_states.specs.declared.point.After.{After}
-use Rattle.seat_states.specs.declared.point.After.TheVariants as afters
+use Rattle.seat_states.specs.declared.point.AfterStep.{AfterStep}
+use Rattle.seat_states.specs.declared.point.AfterStep.TheVariants as afters
 use Rattle.seat_states.specs.declared.point.CallStep.TheVariants as begins
 use Rattle.seat_states.specs.declared.point.AttemptStep.TheVariants as attempts
 use Rattle.seat_states.specs.declared.point.RetryStep.TheVariants as retries
 use Rattle.seat_states.specs.declared.point.JoinStep.TheVariants as joins
 use Rattle.seat_states.specs.declared.point.Point.{Point}
 use Rattle.seat_states.specs.declared.point.Point.TheVariants as points
-use Rattle.seat_states.specs.Points.{Around, heading_by, locker_of, client_on, then_program, point_program, reached_program, full_program, freed_program, after_program, posted_program, look_program, told, tell, GoesByWord, TakesCall, TakesMessage, TakesLink, PutsHome, PutsPiece, Asks, after_message, after_link, after_home, after_put, after_ready}
+use Rattle.seat_states.specs.Points.{Context, heading_by, locker_of, client_on, then_program, point_program, reached_program, full_program, freed_program, after_program, posted_program, look_program, told, tell, GoesByWord, TakesCall, TakesMessage, TakesLink, PutsHome, PutsPiece, Asks, after_message, after_link, after_home, after_put, after_ready}
 use Rattle.seat_states.specs.Steps.{OfCall, first_of, first_in}
 use Rattle.seat_states.specs.Steps as kinds
 use Rattle.client_seats.specs.Seats.{SeatData, around}
@@ -203,19 +203,19 @@ Looks (points.Write w (writes.Look c asked)) = Unit {0}
 Looks other = ⊥
 
 -- it is calm there; or a look was made, and the put that follows is paced as the look was
-abbrev pub Behind : Around → List Retry → Point → Program → Type 0
+abbrev pub Behind : Context → List Retry → Point → Program → Type 0
 Behind a w p next = IsCalm (next_step (resolved w next)) ⊎ (((outs : List OutState) → IsPaced outs (point_program a p) → IsPaced outs (next_step (resolved w next))) × ((id : ℕ) × (first_in (point_program a p) ≡ Some (OfCall (calls.LookWord id)))))
 
 -- a look is no step on the ids
 not_aside : {call : calls.Call} {k : ℕ → Program} {step : Step} {next : Found step → Program} → Do call k ≡ Aside step next → ⊥
 not_aside {call} {k} {step} {next} e = let f : first_of (Do call k) ≡ first_of (Aside step next) = ap first_of e in cc
 
-no_look : (a : Around) (p : Point) (step : Step) (next : Found step → Program) → Looks p → first_step (point_program a p) ≡ Aside step next → ⊥
+no_look : (a : Context) (p : Point) (step : Step) (next : Found step → Program) → Looks p → first_step (point_program a p) ≡ Aside step next → ⊥
 no_look a (points.Write w (writes.Look c asked)) step next looks is = not_aside is
 no_look a _ step next looks is = absurd looks
 
-module _ (a : Around) (on : (hs : List HeldLife) → Calm (a.goes_on hs)) (ends : Calm a.ends) where
-  then_calm : (t : Then) (b : Bool) → Calm (then_program a t b)
+module _ (a : Context) (on : (hs : List HeldLife) → Calm (a.goes_on hs)) (ends : Calm a.ends) where
+  then_calm : (t : Continuation) (b : Bool) → Calm (then_program a t b)
   then_calm (thens.Gone o found) b = on a.held
   then_calm (thens.Failed o found) b = on a.held
   then_calm (thens.Dropped o) b = on a.held
@@ -239,7 +239,7 @@ module _ (a : Around) (on : (hs : List HeldLife) → Calm (a.goes_on hs)) (ends 
   written_calm w None = λ _. tt
   written_calm w (Some next) = λ _. tt
 
-  after_calm : (after : After) → Calm (after_program a after)
+  after_calm : (after : AfterStep) → Calm (after_program a after)
   after_calm (afters.Attempt None) = on a.held
   after_calm (afters.Attempt (Some i)) = λ w. tt
   after_calm (afters.Expire o) = on a.held
@@ -252,7 +252,7 @@ module _ (a : Around) (on : (hs : List HeldLife) → Calm (a.goes_on hs)) (ends 
   posted_calm id e next calm (WasCrowded x y) = calm
   posted_calm id e next calm WasQueued = calm
 
-  post_calm : (c : OnCall) (after : After) (how : Posting) → Calm (posted_program a c after how)
+  post_calm : (c : OnCall) (after : AfterStep) (how : Posting) → Calm (posted_program a c after how)
   post_calm c (afters.Expire o) how = posted_calm (id_of c.id) c.error.0 _ (on a.held) how
   post_calm c (afters.Attempt i) how = posted_calm (id_of c.id) c.error.0 _ (after_calm (afters.Attempt i)) how
   post_calm c (afters.Drop w next) how = posted_calm (id_of c.id) c.error.0 _ (after_calm (afters.Drop w next)) how
@@ -402,29 +402,29 @@ module _ (a : Around) (on : (hs : List HeldLife) → Calm (a.goes_on hs)) (ends 
 
 -- ## Behind the others
 
-pub behind_message : (a : Around) (w : List Retry) (p : Point) (author : Author) (ps bytes : List ℕ) → TakesMessage p → IsCalm (next_step (resolved w (after_message (point_program a p) author ps bytes)))
+pub behind_message : (a : Context) (w : List Retry) (p : Point) (author : Author) (ps bytes : List ℕ) → TakesMessage p → IsCalm (next_step (resolved w (after_message (point_program a p) author ps bytes)))
 behind_message a w (points.Send s (sends.TakeMessage q own k n)) author ps bytes takes = tt
 behind_message a w (points.Write x (writes.TakeMessage next)) author ps bytes takes = refl
 behind_message a w (points.Write x (writes.TakeFirst top at)) author ps bytes takes = refl
 behind_message a w _ author ps bytes takes = absurd takes
 
-pub behind_link : (a : Around) (w : List Retry) (p : Point) (n : ℕ) → TakesLink p → IsCalm (next_step (resolved w (after_link (point_program a p) n)))
+pub behind_link : (a : Context) (w : List Retry) (p : Point) (n : ℕ) → TakesLink p → IsCalm (next_step (resolved w (after_link (point_program a p) n)))
 behind_link a w (points.Send s (sends.TakeHome q own k)) n takes = tt
 behind_link a w (points.Write x (writes.TakeHome found)) n takes = tt
 behind_link a w _ n takes = absurd takes
 
-pub behind_home : (a : Around) (w : List Retry) (p : Point) → PutsHome p → IsCalm (next_step (resolved w (after_home (point_program a p))))
+pub behind_home : (a : Context) (w : List Retry) (p : Point) → PutsHome p → IsCalm (next_step (resolved w (after_home (point_program a p))))
 behind_home a w (points.Write x writes.PutHome) goes = tt
 behind_home a w _ goes = absurd goes
 
-pub behind_put : (a : Around) (ws : List Retry) (p : Point) (outs : List OutState) (k : ℕ) (asked : Bool) (bytes : List ℕ) (put : Put) → PutsPiece p → first_in (point_program a p) ≡ Some (kinds.OfPut k asked bytes) → (put ≡ puts.Again → WasRefused outs k) →
+pub behind_put : (a : Context) (ws : List Retry) (p : Point) (outs : List OutState) (k : ℕ) (asked : Bool) (bytes : List ℕ) (put : Put) → PutsPiece p → first_in (point_program a p) ≡ Some (kinds.OfPut k asked bytes) → (put ≡ puts.Again → WasRefused outs k) →
     IsPaced outs (next_step (resolved ws (after_put (point_program a p) put)))
 behind_put a ws (points.Write w (writes.Put c b)) outs k asked bytes (puts.Took n) goes e refused = either_way (nat_le (length a.left) n) _ _ (λ x. IsPaced outs (next_step (resolved ws x))) tt (λ f. absurd (true≢false (sym f)))
 behind_put a ws (points.Write w (writes.Put c b)) outs k asked bytes puts.Again goes e refused = let h : k ≡ w.holder.link = cc in subst (WasRefused outs) h (refused refl)
 behind_put a ws (points.Write w (writes.Put c b)) outs k asked bytes puts.Failed goes e refused = tt
 behind_put a ws _ outs k asked bytes put goes e refused = absurd goes
 
-pub behind_ready : (a : Around) (ws : List Retry) (p : Point) (outs outs' : List OutState) (k : ℕ) (ready : Ready) → Asks p → first_in (point_program a p) ≡ Some (kinds.OfReady k) → IsPaced outs (point_program a p) →
+pub behind_ready : (a : Context) (ws : List Retry) (p : Point) (outs outs' : List OutState) (k : ℕ) (ready : Ready) → Asks p → first_in (point_program a p) ≡ Some (kinds.OfReady k) → IsPaced outs (point_program a p) →
     (ready ≡ asks.Now → WasRefused outs k → IsClear outs' k) → (ready ≡ asks.NotYet → WasRefused outs k → WasRefused outs' k) → IsPaced outs' (next_step (resolved ws (after_ready (point_program a p) ready)))
 behind_ready a ws (points.Write w (writes.Ask c)) outs outs' k asks.Now goes e paced now yet = λ f. let h : w.holder.link ≡ k = cc in subst (IsClear outs') (sym h) (now refl (subst (WasRefused outs) h paced))
 behind_ready a ws (points.Write w (writes.Ask c)) outs outs' k asks.NotYet goes e paced now yet = let h : w.holder.link ≡ k = cc in subst (WasRefused outs') (sym h) (yet refl (subst (WasRefused outs) h paced))

@@ -28,7 +28,7 @@ use Rattle.seat_states.specs.declared.point.Step.{Step}
 use Rattle.seat_states.specs.declared.point.Author.{Author}
 use Rattle.seat_states.specs.declared.point.Point.{Point}
 use Rattle.seat_states.specs.declared.point.Point.TheVariants as points
-use Rattle.seat_states.specs.Points.{Around, point_program, heading_by, holder_of, tell, written_program, HasInHand, HasLinkAt, TellsCodeAt, framed}
+use Rattle.seat_states.specs.Points.{Context, point_program, heading_by, holder_of, tell, written_program, HasInHand, HasLinkAt, TellsCodeAt, framed}
 use Rattle.seat_states.specs.Steps.{First, OfCall, step_as, first_of, first_in}
 use Rattle.client_seats.specs.Seats.{SeatData, around, seat_program}
 use Rattle.reader_seats.specs.Readers.{ReaderData, reader_program}
@@ -144,7 +144,7 @@ freed_asks : (now : ℕ) (next : Program) → (AsksNone next → ⊥) → AsksNo
 freed_asks now next f = none_either (generation_of now == LAST_GENERATION) next (Do (calls.FreeRequest (slot_of now) (generation_of now)) (λ _. next)) f (λ x. f (x 0))
 
 -- what it needs is in hand, and it stands
-plain_stands : (a : Around) (p : Point) → AsksNone (point_program a p) → HasInHand a p × (framed p a ≡ a) × HasLinkAt p × TellsCodeAt p
+plain_stands : (a : Context) (p : Point) → AsksNone (point_program a p) → HasInHand a p × (framed p a ≡ a) × HasLinkAt p × TellsCodeAt p
 plain_stands a (points.Call begins.LoadName) x = (tt, refl, tt, tt)
 plain_stands a (points.Call (begins.ClaimId i socket)) x = absurd x
 plain_stands a (points.Call (begins.PutCall i socket)) x = absurd x

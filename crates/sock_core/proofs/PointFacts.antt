@@ -36,10 +36,10 @@ use Rattle.seat_states.specs.declared.point.JoinStep.TheVariants as joins
 use Rattle.seat_states.specs.declared.point.Sending.{Sending}
 use Rattle.seat_states.specs.declared.point.Author.{Author}
 use Rattle.seat_states.specs.declared.point.Author.TheVariants as authors
-use Rattle.seat_states.specs.declared.point.After.{After}
+use Rattle.seat_states.specs.declared.point.AfterStep.{AfterStep}
 use Rattle.seat_states.specs.declared.point.Point.{Point}
 use Rattle.seat_states.specs.declared.point.Point.TheVariants as points
-use Rattle.seat_states.specs.Points.{Around, point_program, look_program, after_program, IsWithin, IsWithinIds, MayFind, MayFindAside, MayFindId, GoesByWord, TakesCall}
+use Rattle.seat_states.specs.Points.{Context, point_program, look_program, after_program, IsWithin, IsWithinIds, MayFind, MayFindAside, MayFindId, GoesByWord, TakesCall}
 use Rattle.seat_states.specs.Steps.{First, OfCall, OfAside, first_of, first_in}
 use Rattle.reader_points.specs.Points as reading
 use Rattle.reader_points.specs.declared.point.Closing.{Closing}
@@ -70,16 +70,16 @@ Beside (Some (OfCall call)) p = (found : ℕ) → FitsSock call found → MayFin
 Beside (Some (OfAside step)) p = GoesAside step p × ((sizes : Sizes) → IsWithin sizes p) × ((found : ℕ) → MayFind p found) × ((found : ℕ) → ((o : ℕ) → step ≡ asides.LoadCall o → MayFindId found) → MayFindAside p found)
 Beside other p = Unit {0}
 
-look_beside : (a : Around) (s : Sending) (author : Author) → Beside (first_in (look_program a author s.id.0)) (points.Send s sends.Look)
+look_beside : (a : Context) (s : Sending) (author : Author) → Beside (first_in (look_program a author s.id.0)) (points.Send s sends.Look)
 look_beside a s (authors.Send o) = (λ found h. tt)
 look_beside a s (authors.Attempt t) = (λ found h. tt)
 
-judge_beside : (c : OnCall) (after : After) (w : IdWord) (ends : Bool) (x y : Program) → Beside (first_of x) (points.Decide c after (decides.Judge w)) → Beside (first_of y) (points.Decide c after (decides.Judge w))
+judge_beside : (c : OnCall) (after : AfterStep) (w : IdWord) (ends : Bool) (x y : Program) → Beside (first_of x) (points.Decide c after (decides.Judge w)) → Beside (first_of y) (points.Decide c after (decides.Judge w))
     → Beside (first_of (if ends then x else y)) (points.Decide c after (decides.Judge w))
 judge_beside c after w true x y f g = f
 judge_beside c after w false x y f g = g
 
-beside_facts : (a : Around) (p : Point) → Beside (first_in (point_program a p)) p
+beside_facts : (a : Context) (p : Point) → Beside (first_in (point_program a p)) p
 beside_facts a points.Rest = tt
 beside_facts a (points.Open g (opens.Claim i)) = (λ found h. tt)
 beside_facts a (points.Open g (opens.StoreLink i)) = (λ found h. tt)
@@ -159,7 +159,7 @@ beside_facts a (points.Expire o t) = (tt, (λ sizes. tt), (λ found. tt), (λ fo
 beside_facts a (points.Join o (joins.LoadCall t)) = (tt, (λ sizes. tt), (λ found. tt), (λ found h. h t refl))
 beside_facts a (points.Join o (joins.Wait id)) = (tt, (λ sizes. tt), (λ found. tt), (λ found h. tt))
 
-module _ (a : Around) (p : Point) where
+module _ (a : Context) (p : Point) where
   beside_at : (first : First) → first_in (point_program a p) ≡ Some first → Beside (Some first) p
   beside_at first e = subst (λ (o : Option First). Beside o p) e (beside_facts a p)
 
@@ -195,7 +195,7 @@ module _ (p : Plan) (q : IdPlan) (few : q.slots ≤ 4096) where
   abbrev Goes : Program → Type 0
   Goes program = ∥ ((u : IdView) × IdGoesOn p q u program) ∥₁
 
-  pub within_ids : (a : Around) (x : Point) → a.sizes.ids ≡ q.slots → Goes (point_program a x) → IsWithinIds a.sizes x
+  pub within_ids : (a : Context) (x : Point) → a.sizes.ids ≡ q.slots → Goes (point_program a x) → IsWithinIds a.sizes x
   within_ids a (points.Call begins.LoadName) same goes = (omega (arith, few, same), tt)
   within_ids a (points.Call (begins.ClaimId i socket)) same goes = (omega (arith, few, same), ∥∥₁_elim goes (hlevel props) (λ g. let h = g.1.0 in omega (arith, h, same)))
   within_ids a (points.Call (begins.PutCall i socket)) same goes = (omega (arith, few, same), tt)
@@ -213,7 +213,7 @@ module _ (p : Plan) (q : IdPlan) (few : q.slots ≤ 4096) where
   within_ids a (points.Retry r retries.LoadName) same goes = tt
   within_ids a _ same goes = tt
 
-  pub reads_within : (a : reading.Around) (x : ReadPoint) → Goes (reading.point_program a x) → reading.IsWithin x
+  pub reads_within : (a : reading.Context) (x : ReadPoint) → Goes (reading.point_program a x) → reading.IsWithin x
   reads_within a (reads.Lock r l locks.Read) goes = tt
   reads_within a (reads.Lock r l (locks.Exchange from)) goes = ∥∥₁_elim goes (hlevel props) (λ g. g.1.0.2)
   reads_within a _ goes = tt
@@ -225,7 +225,7 @@ OnWord (Some (OfCall call)) Finds = (found : ℕ) → AllowsWord call found → 
 OnWord (Some (OfAside step)) Finds = (found : ℕ) → Finds found
 OnWord other Finds = Unit {0}
 
-closes_finds : (a : reading.Around) (c : Closing) (at : CloseStep) → OnWord (first_in (reading.close_program a c at)) (reading.MayFindClosing at)
+closes_finds : (a : reading.Context) (c : Closing) (at : CloseStep) → OnWord (first_in (reading.close_program a c at)) (reading.MayFindClosing at)
 closes_finds a c closes.AddRef = (λ found h. tt)
 closes_finds a c closes.SetOdd = (λ found h. tt)
 closes_finds a c closes.StoreCode = (λ found h. tt)
@@ -238,7 +238,7 @@ closes_finds a c (closes.Release (releases.FinishLink w k)) = (λ found h. tt)
 closes_finds a c (closes.Release (releases.PutLink w k)) = (λ found h. tt)
 closes_finds a c (closes.Release releases.FreeSlot) = (λ found h. tt)
 
-module _ (a : reading.Around) (x : ReadPoint) where
+module _ (a : reading.Context) (x : ReadPoint) where
   -- what a reader finds
   pub reads_word : (call : calls.Call) (found : ℕ) → first_in (reading.point_program a x) ≡ Some (OfCall call) → AllowsWord call found → reading.MayFind x found
   reads_word call found e allowed = by_point x e

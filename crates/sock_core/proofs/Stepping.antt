@@ -35,7 +35,7 @@ use Rattle.seat_states.specs.declared.point.Point.TheVariants as points
 use Rattle.seat_states.specs.Steps.{First, OfCall, step_as, first_of, first_in}
 use Rattle.seat_states.specs.declared.point.Next.{Next}
 use Rattle.seat_states.specs.declared.point.Step.{Step}
-use Rattle.seat_states.specs.Points.{Around, point_program, look_program, after_program, next_program, with_message, with_put, is_whole, parts_by, after_message, after_put}
+use Rattle.seat_states.specs.Points.{Context, point_program, look_program, after_program, next_program, with_message, with_put, is_whole, parts_by, after_message, after_put}
 use Rattle.seat_programs.specs.Ticks.{Answer}
 use Rattle.client_seats.specs.Seats.{SeatData, around, seat_program, bytes_of, parts_of, left_of, taken_of, left_parts_of}
 use Rattle.client_seats.specs.Following.{FollowsOn}
@@ -86,12 +86,12 @@ outs_in f call was is h = rw (← was, is) h
 
 -- with a message in hand
 pub message_is : (s sizes : Sizes) (seat : SeatData) (out' : Option OutgoingData) (n : Next) (author author' : Author) (parts bytes : List ℕ) → s ≡ sizes → out' ≡ Some (record { left = bytes; taken = 0; parts = parts }) → author ≡ author' →
-    ((a : Around) (ps bs : List ℕ) → next_program (with_message ps bs a) n ≡ after_message (point_program a seat.point) author ps bs) → next_program (around s (record seat { out = out' })) n ≡ after_message (seat_program sizes seat) author' parts bytes
+    ((a : Context) (ps bs : List ℕ) → next_program (with_message ps bs a) n ≡ after_message (point_program a seat.point) author ps bs) → next_program (around s (record seat { out = out' })) n ≡ after_message (seat_program sizes seat) author' parts bytes
 message_is s sizes seat out' n author author' parts bytes e f g h = rw (e, f, ← g) (h (around sizes seat) parts bytes)
 
 -- behind a put
 pub put_is : (s sizes : Sizes) (seat : SeatData) (out' : Option OutgoingData) (n : Next) (put : Put) (whole : Bool) → s ≡ sizes → left_of out' ≡ left_behind put (left_of seat.out) → taken_of out' ≡ taken_behind put (taken_of seat.out) → left_parts_of out' ≡ left_parts_of seat.out → whole ≡ is_whole (left_of seat.out) put →
-    ((a : Around) → whole ≡ is_whole a.left put → next_program (with_put put a) n ≡ after_put (point_program a seat.point) put) → next_program (around s (record seat { out = out' })) n ≡ after_put (seat_program sizes seat) put
+    ((a : Context) → whole ≡ is_whole a.left put → next_program (with_put put a) n ≡ after_put (point_program a seat.point) put) → next_program (around s (record seat { out = out' })) n ≡ after_put (seat_program sizes seat) put
 put_is s sizes seat out' n (puts.Took count) whole e f g k w h = rw (e, f, g, k) (h (around sizes seat) w)
 put_is s sizes seat out' n puts.Again whole e f g k w h = rw (e, f, g, k) (h (around sizes seat) w)
 put_is s sizes seat out' n puts.Failed whole e f g k w h = rw (e, f, g, k) (h (around sizes seat) w)
@@ -106,19 +106,19 @@ asked_bytes {outs} {outs'} {ends} {ends'} {k} {bytes} {piece} {put} e h = subst 
 -- ## A message that goes home
 
 -- what follows doesn't depend on the message
-abbrev BehindPut : Option First → Around → List ℕ → List ℕ → Point → Type 0
+abbrev BehindPut : Option First → Context → List ℕ → List ℕ → Point → Type 0
 BehindPut (Some (OfCall (calls.PutMessage q heading bytes))) a other others p = after_word (point_program (record a { message = other; parts = others }) p) 0 ≡ after_word (point_program a p) 0
 BehindPut first a other others p = Unit {0}
 
-behind_look : (a : Around) (other others : List ℕ) (author : Author) (id : ℕ) (p : Point) → BehindPut (first_in (look_program a author id)) a other others p
+behind_look : (a : Context) (other others : List ℕ) (author : Author) (id : ℕ) (p : Point) → BehindPut (first_in (look_program a author id)) a other others p
 behind_look a other others (authors.Send o) id p = tt
 behind_look a other others (authors.Attempt t) id p = tt
 
-behind_judge : (a : Around) (other others : List ℕ) (p : Point) (ends : Bool) (x y : Program) → BehindPut (first_of x) a other others p → BehindPut (first_of y) a other others p → BehindPut (first_of (if ends then x else y)) a other others p
+behind_judge : (a : Context) (other others : List ℕ) (p : Point) (ends : Bool) (x y : Program) → BehindPut (first_of x) a other others p → BehindPut (first_of y) a other others p → BehindPut (first_of (if ends then x else y)) a other others p
 behind_judge a other others p true x y f g = f
 behind_judge a other others p false x y f g = g
 
-behind_put : (a : Around) (other others : List ℕ) (p : Point) → BehindPut (first_in (point_program a p)) a other others p
+behind_put : (a : Context) (other others : List ℕ) (p : Point) → BehindPut (first_in (point_program a p)) a other others p
 behind_put a other others points.Rest = tt
 behind_put a other others (points.Open g (opens.Claim i)) = tt
 behind_put a other others (points.Open g (opens.StoreLink i)) = tt

@@ -37,7 +37,7 @@ use Rattle.seat_states.specs.declared.point.RetryStep.TheVariants as retries
 use Rattle.seat_states.specs.declared.point.JoinStep.TheVariants as joins
 use Rattle.seat_states.specs.declared.point.Point.{Point}
 use Rattle.seat_states.specs.declared.point.Point.TheVariants as points
-use Rattle.seat_states.specs.Points.{Around, point_program, look_program, after_program, GoesByWord, TakesCall}
+use Rattle.seat_states.specs.Points.{Context, point_program, look_program, after_program, GoesByWord, TakesCall}
 use Rattle.seat_states.specs.Steps.{First, OfAside, first_of, first_in}
 use Rattle.sock_core.specs.Steps.{IsOnWord, FitsSlots}
 use Rattle.sock_core.specs.Machines.{TableState}
@@ -128,7 +128,7 @@ behind_aside program step word e h = let x = step_is program (OfAside step) e in
 
 -- ## A call that is taken
 
-pub bare_call : (a : Around) (p : Point) → TakesCall p → IsBare (point_program a p)
+pub bare_call : (a : Context) (p : Point) → TakesCall p → IsBare (point_program a p)
 bare_call a (points.Decide c after (decides.Take w)) takes = tt
 bare_call a (points.Retry r (retries.TakeCall w)) takes = tt
 bare_call a _ takes = absurd takes
@@ -139,7 +139,7 @@ pub record GoesOnWith (program : Program) (i : ℕ) (asked : Asked) : Type 0 whe
   pub is : first_step program ≡ Aside (asides.TakeCall i) next
   pub behind : after_call program asked ≡ next asked
 
-pub behind_call : (a : Around) (p : Point) (i : ℕ) (asked : Asked) → TakesCall p → first_in (point_program a p) ≡ Some (OfAside (asides.TakeCall i)) → GoesOnWith (point_program a p) i asked
+pub behind_call : (a : Context) (p : Point) (i : ℕ) (asked : Asked) → TakesCall p → first_in (point_program a p) ≡ Some (OfAside (asides.TakeCall i)) → GoesOnWith (point_program a p) i asked
 behind_call a p i asked takes e = let x = step_is (point_program a p) (OfAside (asides.TakeCall i)) e in record {
   next = x.0;
   is = x.1;
@@ -157,7 +157,7 @@ abbrev Facts : Option First → Point → Type 0
 Facts (Some (OfAside step)) p = AsideFacts step p
 Facts other p = Unit {0}
 
-look_facts : (a : Around) (author : Author) (id : ℕ) (p : Point) → Facts (first_in (look_program a author id)) p
+look_facts : (a : Context) (author : Author) (id : ℕ) (p : Point) → Facts (first_in (look_program a author id)) p
 look_facts a (authors.Send o) id p = tt
 look_facts a (authors.Attempt t) id p = tt
 
@@ -165,7 +165,7 @@ judge_facts : (p : Point) (ends : Bool) (x y : Program) → Facts (first_of x) p
 judge_facts p true x y f g = f
 judge_facts p false x y f g = g
 
-facts : (a : Around) (p : Point) → Facts (first_in (point_program a p)) p
+facts : (a : Context) (p : Point) → Facts (first_in (point_program a p)) p
 facts a points.Rest = tt
 facts a (points.Open g (opens.Claim i)) = tt
 facts a (points.Open g (opens.StoreLink i)) = tt
@@ -245,7 +245,7 @@ facts a (points.Expire o t) = tt
 facts a (points.Join o (joins.LoadCall t)) = tt
 facts a (points.Join o (joins.Wait id)) = tt
 
-facts_at : (a : Around) (p : Point) (step : Step) → first_in (point_program a p) ≡ Some (OfAside step) → AsideFacts step p
+facts_at : (a : Context) (p : Point) (step : Step) → first_in (point_program a p) ≡ Some (OfAside step) → AsideFacts step p
 facts_at a p step e = subst (λ (o : Option First). Facts o p) e (facts a p)
 
 by_word : (step : Step) (p : Point) → FindsWord step → AsideFacts step p → GoesByWord p
@@ -253,13 +253,13 @@ by_word (asides.TakeCall i) p h f = absurd h
 by_word (asides.TakeBytes k room) p h f = absurd h
 by_word _ p h f = f
 
-pub goes_by_word : (a : Around) (p : Point) (step : Step) → first_in (point_program a p) ≡ Some (OfAside step) → FindsWord step → GoesByWord p
+pub goes_by_word : (a : Context) (p : Point) (step : Step) → first_in (point_program a p) ≡ Some (OfAside step) → FindsWord step → GoesByWord p
 goes_by_word a p step e h = by_word step p h (facts_at a p step e)
 
-pub takes_call : (a : Around) (p : Point) (i : ℕ) → first_in (point_program a p) ≡ Some (OfAside (asides.TakeCall i)) → TakesCall p
+pub takes_call : (a : Context) (p : Point) (i : ℕ) → first_in (point_program a p) ≡ Some (OfAside (asides.TakeCall i)) → TakesCall p
 takes_call a p i e = facts_at a p (asides.TakeCall i) e
 
-pub takes_none : (a : Around) (p : Point) (k n : ℕ) → first_in (point_program a p) ≡ Some (OfAside (asides.TakeBytes k n)) → ⊥
+pub takes_none : (a : Context) (p : Point) (k n : ℕ) → first_in (point_program a p) ≡ Some (OfAside (asides.TakeBytes k n)) → ⊥
 takes_none a p k n e = facts_at a p (asides.TakeBytes k n) e
 
 -- ## The sizes of the table stay

@@ -39,8 +39,8 @@ use Rattle.seat_states.specs.declared.point.RetryStep.TheVariants as retries
 use Rattle.seat_states.specs.declared.point.JoinStep.TheVariants as joins
 use Rattle.seat_states.specs.declared.point.Point.{Point}
 use Rattle.seat_states.specs.declared.point.Point.TheVariants as points
-use Rattle.seat_states.specs.declared.point.Then.{Then}
-use Rattle.seat_states.specs.declared.point.Then.TheVariants as thens
+use Rattle.seat_states.specs.declared.point.Continuation.{Continuation}
+use Rattle.seat_states.specs.declared.point.Continuation.TheVariants as thens
 use Rattle.seat_states.specs.declared.point.ReleaseStep.{ReleaseStep}
 use Rattle.seat_states.specs.declared.point.Aim.{Aim}
 use Rattle.seat_states.specs.declared.point.Writer.{Writer}
@@ -49,7 +49,7 @@ use Rattle.seat_states.specs.declared.point.Next.TheVariants as nexts
 use Rattle.sock_words.specs.declared.ticket.Ticket.{Ticket}
 use Rattle.seat_states.specs.declared.calling.Calling.{Calling}
 use Rattle.seat_states.specs.declared.point.Attempt.{Attempt}
-use Rattle.seat_states.specs.Points.{Around, IsCalling, HasInHand, IsFramed, framed, point_program, next_program, then_program, gone_then, holder_of, heading_by, has_life, reached_program, unopened_program, seek_program, failed_program, fail_program, release_on, free_on, sent_program, full_program, claims_program, connect_program, look_program, failed_look, write_program, written_program, puts_program, put_piece, next_message, freed_program, told, tell, taken_again, walk_program, first_of_walk, find_program, after_program}
+use Rattle.seat_states.specs.Points.{Context, IsCalling, HasInHand, IsFramed, framed, point_program, next_program, then_program, gone_then, holder_of, heading_by, has_life, reached_program, unopened_program, seek_program, failed_program, fail_program, release_on, free_on, sent_program, full_program, claims_program, connect_program, look_program, failed_look, write_program, written_program, puts_program, put_piece, next_message, freed_program, told, tell, taken_again, walk_program, first_of_walk, find_program, after_program}
 use Rattle.seat_states.specs.Steps.{First, OfCall, first_of, first_in}
 use Rattle.seat_states.proofs.Behind.{seeks_life, seeks_none}
 use Rattle.client_seats.specs.Following.{IsFlat}
@@ -60,7 +60,7 @@ NoEnd (Say o (CallFailed id code) next) = ⊥
 NoEnd (Keep r next) = ⊥
 NoEnd other = Unit {0}
 
-next_flat : (a : Around) (n : Next) → NoEnd (next_program a n) → IsFlat n
+next_flat : (a : Context) (n : Next) → NoEnd (next_program a n) → IsFlat n
 next_flat a (nexts.Point point) h = tt
 next_flat a (nexts.Said o outcome) h = tt
 next_flat a (nexts.Sent o) h = tt
@@ -132,14 +132,14 @@ release_none i k h releases.FreeSlot found = h true
 -- ## Points
 
 -- where nothing is left to do behind the operation
-abbrev pub bare : Around → Around
+abbrev pub bare : Context → Context
 bare a = record a { goes_on = λ (hs : List HeldLife). Rest; ends = Rest }
 
-module _ (a : Around) where
-  abbrev b : Around
+module _ (a : Context) where
+  abbrev b : Context
   b = bare a
 
-  then_none : (t : Then) (freed : Bool) → NoEnd (then_program b t freed)
+  then_none : (t : Continuation) (freed : Bool) → NoEnd (then_program b t freed)
   then_none (thens.Gone o found) freed = tt
   then_none (thens.Failed o found) freed = says_either o (vref_version found.0 % 2 == 0) Failed (Already (record { 0 = found.0 })) Rest tt tt
   then_none (thens.Dropped o) true = tt
@@ -188,19 +188,19 @@ module _ (a : Around) where
   free_none w (Some next) = tt
 
 -- behind a first step on a word
-abbrev EndsNone : Option First → Around → Point → ℕ → Type 0
+abbrev EndsNone : Option First → Context → Point → ℕ → Type 0
 EndsNone (Some (OfCall call)) a p found = NoEnd (after_word (point_program (bare a) p) found)
 EndsNone other a p found = Unit {0}
 
-look_ends : (a : Around) (p : Point) (author : Author) (id found : ℕ) → NoEnd (after_word (point_program (bare a) p) found) → EndsNone (first_in (look_program a author id)) a p found
+look_ends : (a : Context) (p : Point) (author : Author) (id found : ℕ) → NoEnd (after_word (point_program (bare a) p) found) → EndsNone (first_in (look_program a author id)) a p found
 look_ends a p (authors.Send o) id found h = h
 look_ends a p (authors.Attempt t) id found h = h
 
-judge_ends : (a : Around) (p : Point) (found : ℕ) (ends : Bool) (x y : Program) → EndsNone (first_of x) a p found → EndsNone (first_of y) a p found → EndsNone (first_of (if ends then x else y)) a p found
+judge_ends : (a : Context) (p : Point) (found : ℕ) (ends : Bool) (x y : Program) → EndsNone (first_of x) a p found → EndsNone (first_of y) a p found → EndsNone (first_of (if ends then x else y)) a p found
 judge_ends a p found true x y f g = f
 judge_ends a p found false x y f g = g
 
-ends_none : (a : Around) (p : Point) (found : ℕ) → EndsNone (first_in (point_program a p)) a p found
+ends_none : (a : Context) (p : Point) (found : ℕ) → EndsNone (first_in (point_program a p)) a p found
 ends_none a points.Rest found = tt
 ends_none a (points.Open g (opens.Claim i)) found = either_none (found == 0) (make_socket g.operation g.name g.link i Rest) (open_from (a.sizes.slots - (i + 1)) (i + 1) g.operation g.name g.link Rest) tt (opens_none (a.sizes.slots - (i + 1)) (i + 1) g.operation g.name g.link)
 ends_none a (points.Open g (opens.StoreLink i)) found = tt
@@ -282,13 +282,13 @@ ends_none a (points.Join o (joins.Wait id)) found = tt
 
 -- ## What follows
 
-bare_calling : (a : Around) (c : Calling) → IsCalling a c → IsCalling (bare a) c
+bare_calling : (a : Context) (c : Calling) → IsCalling a c → IsCalling (bare a) c
 bare_calling a c h = record { operation = h.operation; name = h.name; range = h.range }
 
-bare_framed : (a : Around) (t : Attempt) → IsFramed a t → IsFramed (bare a) t
+bare_framed : (a : Context) (t : Attempt) → IsFramed a t → IsFramed (bare a) t
 bare_framed a t h = record { operation = h.operation; message = h.message; parts = h.parts }
 
-bare_hand : (a : Around) (p : Point) → HasInHand a p → HasInHand (bare a) p
+bare_hand : (a : Context) (p : Point) → HasInHand a p → HasInHand (bare a) p
 bare_hand a (points.Retry r (retries.Lock at)) h = tt
 bare_hand a (points.Retry r (retries.TakeCall w)) h = tt
 bare_hand a (points.Retry r (retries.PutCall w)) h = (bare_framed a r.attempt h.0, h.1)
@@ -297,13 +297,13 @@ bare_hand a (points.Retry r retries.LoadName) h = (bare_framed a r.attempt h.0, 
 bare_hand a _ h = tt
 
 -- a step on a word makes no frame
-pub no_frame : (a : Around) (p : Point) (call : calls.Call) → first_in (point_program a p) ≡ Some (OfCall call) → (other : Around) → framed p other ≡ other
+pub no_frame : (a : Context) (p : Point) (call : calls.Call) → first_in (point_program a p) ≡ Some (OfCall call) → (other : Context) → framed p other ≡ other
 no_frame a (points.Call (begins.StoreCall id socket)) call e other = cc
 no_frame a _ call e other = refl
 
-pub flat_behind : (a : Around) (p : Point) (call : calls.Call) (found : ℕ) (n : Next) (calling : Calling) → first_in (point_program a p) ≡ Some (OfCall call) → IsCalling a calling → HasInHand a p →
-    ((other : Around) → other.sizes ≡ a.sizes → IsCalling other calling → HasInHand other p → next_program (framed p other) n ≡ after_word (point_program other p) found) → IsFlat n
+pub flat_behind : (a : Context) (p : Point) (call : calls.Call) (found : ℕ) (n : Next) (calling : Calling) → first_in (point_program a p) ≡ Some (OfCall call) → IsCalling a calling → HasInHand a p →
+    ((other : Context) → other.sizes ≡ a.sizes → IsCalling other calling → HasInHand other p → next_program (framed p other) n ≡ after_word (point_program other p) found) → IsFlat n
 flat_behind a p call found n calling e asks hand behind =
     let is : next_program (framed p (bare a)) n ≡ after_word (point_program (bare a) p) found = behind (bare a) refl (bare_calling a calling asks) (bare_hand a p hand) in
     let none_ : NoEnd (after_word (point_program (bare a) p) found) = subst (λ (o : Option First). EndsNone o a p found) e (ends_none a p found) in
-    next_flat (bare a) n (subst (λ (x : Around). NoEnd (next_program x n)) (no_frame a p call e (bare a)) (subst NoEnd (sym is) none_))
+    next_flat (bare a) n (subst (λ (x : Context). NoEnd (next_program x n)) (no_frame a p call e (bare a)) (subst NoEnd (sym is) none_))

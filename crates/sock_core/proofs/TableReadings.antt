@@ -22,7 +22,7 @@ use Rattle.seat_states.specs.Steps.{OfCall, OfAside, step_of, kind_of_first}
 use Rattle.reader_points.specs.declared.point.ReadPoint.{ReadPoint}
 use Rattle.reader_points.specs.declared.point.ReadStep.{ReadStep}
 use Rattle.reader_points.specs.declared.point.ReadStep.TheVariants as steps
-use Rattle.reader_points.specs.Points.{Around, point_program}
+use Rattle.reader_points.specs.Points.{Context, point_program}
 use Rattle.reader_points.specs.Steps.{after_taking}
 use Rattle.reader_seats.specs.Readers.{ReaderData, around, reader_program}
 use Rattle.reader_seats.specs.GoesOn.{GoesOn}
@@ -60,7 +60,7 @@ pub record Awaited (program : Program) (word : ℕ) (o : Option On) : Type 0 whe
   pub waits : is_some o ≡ waits_by program word
   pub for_ : IfSome o (IsWaitingFor program)
 
-pub awaited_at : (a : Around) (p q : ReadPoint) (word : ℕ) (o : Option On) → p ≡ q → ((x : Around) → is_some o ≡ waits_by (point_program x p) word) → ((x : Around) → IfSome o (IsWaitingFor (point_program x p))) → Awaited (point_program a q) word o
+pub awaited_at : (a : Context) (p q : ReadPoint) (word : ℕ) (o : Option On) → p ≡ q → ((x : Context) → is_some o ≡ waits_by (point_program x p) word) → ((x : Context) → IfSome o (IsWaitingFor (point_program x p))) → Awaited (point_program a q) word o
 awaited_at a p q word o e waits for_ = subst (λ (x : ReadPoint). Awaited (point_program a x) word o) e (record { waits = waits a; for_ = for_ a })
 
 module _ (t : TableState) (reader : ReaderData) (word : ℕ) (o : Option On) (awaited : Awaited (reader_program t.calls reader) word o) where

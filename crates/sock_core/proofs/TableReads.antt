@@ -20,7 +20,7 @@ use Rattle.reader_points.specs.declared.point.CloseStep.TheVariants as closes
 use Rattle.reader_points.specs.declared.point.FailStep.TheVariants as lost
 use Rattle.reader_points.specs.declared.point.ReadPoint.{ReadPoint}
 use Rattle.reader_points.specs.declared.point.ReadPoint.TheVariants as points
-use Rattle.reader_points.specs.Points.{Around, point_program, error_in, ended_call, room_at, GoesByWord, TakesBytes, TakesCall}
+use Rattle.reader_points.specs.Points.{Context, point_program, error_in, ended_call, room_at, GoesByWord, TakesBytes, TakesCall}
 use Rattle.reader_points.specs.Steps.{after_taking, taken_behind}
 use Rattle.seat_states.specs.Steps.{First, OfCall, OfAside, first_of, first_in}
 use Rattle.sock_core.proofs.FirstSteps.{IsBare, bare_first, step_is}
@@ -42,7 +42,7 @@ judge_facts : (p : ReadPoint) (ends : Bool) (x y : Program) → Facts (first_of 
 judge_facts p true x y f g = f
 judge_facts p false x y f g = g
 
-facts : (a : Around) (p : ReadPoint) → Facts (first_in (point_program a p)) p
+facts : (a : Context) (p : ReadPoint) → Facts (first_in (point_program a p)) p
 facts a points.Rest = tt
 facts a (points.Open link o) = tt
 facts a (points.Take r) = (tt, refl)
@@ -75,7 +75,7 @@ by_word (asides.TakeCall i) p h f = absurd h
 by_word (asides.TakeBytes k room) p h f = absurd h
 by_word _ p h f = f
 
-module _ (a : Around) (p : ReadPoint) where
+module _ (a : Context) (p : ReadPoint) where
   facts_at : (first : First) → first_in (point_program a p) ≡ Some first → Facts (Some first) p
   facts_at first e = subst (λ (o : Option First). Facts o p) e (facts a p)
 
@@ -98,7 +98,7 @@ few_room _ = omega arith
 
 -- ## Behind a call that was taken, and behind a take
 
-pub bare_call : (a : Around) (p : ReadPoint) → TakesCall p → IsBare (point_program a p)
+pub bare_call : (a : Context) (p : ReadPoint) → TakesCall p → IsBare (point_program a p)
 bare_call a (points.Answer b id answers.Take) takes = tt
 bare_call a (points.Fail l (lost.Take word)) takes = tt
 bare_call a _ takes = absurd takes
@@ -108,7 +108,7 @@ pub record ReadsOnWith (program : Program) (i : ℕ) (asked : Asked) : Type 0 wh
   pub is : first_step program ≡ Aside (asides.TakeCall i) next
   pub behind : after_call program asked ≡ next asked
 
-pub behind_call : (a : Around) (p : ReadPoint) (i : ℕ) (asked : Asked) → first_in (point_program a p) ≡ Some (OfAside (asides.TakeCall i)) → ReadsOnWith (point_program a p) i asked
+pub behind_call : (a : Context) (p : ReadPoint) (i : ℕ) (asked : Asked) → first_in (point_program a p) ≡ Some (OfAside (asides.TakeCall i)) → ReadsOnWith (point_program a p) i asked
 behind_call a p i asked e = let x = step_is (point_program a p) (OfAside (asides.TakeCall i)) e in record {
   next = x.0;
   is = x.1;
@@ -119,7 +119,7 @@ abbrev IsRound : Program → Type 0
 IsRound (Round head next) = Unit {0}
 IsRound other = ⊥
 
-round_bytes : (a : Around) (p : ReadPoint) → TakesBytes p → IsRound (point_program a p)
+round_bytes : (a : Context) (p : ReadPoint) → TakesBytes p → IsRound (point_program a p)
 round_bytes a (points.Take r) takes = tt
 round_bytes a (points.Discard link total) takes = tt
 round_bytes a _ takes = absurd takes
@@ -133,7 +133,7 @@ taking_first : (program : Program) (k n : ℕ) (next : Taking → Program) → I
 taking_first (Round head x) k n next here e t = ap (λ (y : Program). taken_behind y t) e
 taking_first _ k n next here e t = absurd here
 
-pub behind_take : (a : Around) (p : ReadPoint) (k n : ℕ) → first_in (point_program a p) ≡ Some (OfAside (asides.TakeBytes k n)) → ReadsOnBy (point_program a p) k n
+pub behind_take : (a : Context) (p : ReadPoint) (k n : ℕ) → first_in (point_program a p) ≡ Some (OfAside (asides.TakeBytes k n)) → ReadsOnBy (point_program a p) k n
 behind_take a p k n e = let x = step_is (point_program a p) (OfAside (asides.TakeBytes k n)) e in record {
   next = x.0;
   is = x.1;

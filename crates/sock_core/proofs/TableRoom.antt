@@ -5,7 +5,7 @@ use Rattle.seat_programs.specs.Programs.{Program, Do, Say, Sent, Rest, Retries}
 use Rattle.call_points.specs.Steps.{after_word}
 use Rattle.seat_states.specs.declared.point.Next.{Next}
 use Rattle.seat_states.specs.declared.point.Next.TheVariants as nexts
-use Rattle.seat_states.specs.Points.{Around, next_program}
+use Rattle.seat_states.specs.Points.{Context, next_program}
 use Rattle.seat_states.specs.Steps.{First, OfCall, first_in}
 use Rattle.client_seats.specs.declared.seat.Seat.{Seat}
 use Rattle.client_seats.specs.Seats.{seat_data, seat_program}
@@ -36,12 +36,12 @@ only_calls (Retries requests after) first e x = cc
 only_calls Rest first e x = cc
 only_calls _ first e x = absurd x
 
-no_hold : (a : Around) (program : Program) (found : ℕ) (n : Next) → AsksNone program → next_program a n ≡ after_word program found → (o name : ℕ) (id : SocketId) → n ≡ nexts.Held o name id → ⊥
+no_hold : (a : Context) (program : Program) (found : ℕ) (n : Next) → AsksNone program → next_program a n ≡ after_word program found → (o name : ℕ) (id : SocketId) → n ≡ nexts.Held o name id → ⊥
 no_hold a program found n plain is o name id held =
     let says : AsksNone (next_program a (nexts.Held o name id)) = subst (λ (m : Next). AsksNone (next_program a m)) held (subst AsksNone (sym is) (after_none program found plain)) in says.0 refl
 
 -- so there is room for a life where one comes to be held
-pub room_for : (t : TableState) (place : Seat) (a : Around) (n : Next) (found : ℕ) → HasRoom place ⊎ AsksNone (seat_program (table_sizes t) (seat_data place)) → next_program a n ≡ after_word (seat_program (table_sizes t) (seat_data place)) found →
+pub room_for : (t : TableState) (place : Seat) (a : Context) (n : Next) (found : ℕ) → HasRoom place ⊎ AsksNone (seat_program (table_sizes t) (seat_data place)) → next_program a n ≡ after_word (seat_program (table_sizes t) (seat_data place)) found →
     (o name : ℕ) (id : SocketId) → n ≡ nexts.Held o name id → vec_len place.held < vec_capacity place.held
 room_for t place a n found (inl room) is o name id held = room.0
 room_for t place a n found (inr plain) is o name id held = absurd (no_hold a (seat_program (table_sizes t) (seat_data place)) found n plain is o name id held)

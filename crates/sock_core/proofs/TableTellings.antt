@@ -16,7 +16,7 @@ use Rattle.call_slots.specs.Steps.{word_found}
 use Rattle.seat_states.specs.Steps.{First, OfCall, OfAside, first_in, kind_of_first}
 use Rattle.reader_points.specs.declared.point.ReadPoint.{ReadPoint}
 use Rattle.reader_points.specs.declared.point.ReadPoint.TheVariants as points
-use Rattle.reader_points.specs.Points.{Around, point_program, TakesBytes}
+use Rattle.reader_points.specs.Points.{Context, point_program, TakesBytes}
 use Rattle.call_points.specs.declared.aside.Aside as code
 use Rattle.seat_states.specs.declared.point.Step.{Step}
 use Rattle.seat_states.specs.declared.point.Step.TheVariants as firsts
@@ -125,12 +125,12 @@ abbrev TakesOf : Option First → Program → TableState → Taking → Type 0
 TakesOf (Some (OfAside (asides.TakeBytes k n))) program t taking = (is_waiting t (OfTake taking) program ≡ is_nothing t.ending (OfTake taking)) × IsWaitingFor program (on.In k)
 TakesOf other program t taking = Unit {0}
 
-takes_of : (a : Around) (p : ReadPoint) (t : TableState) (taking : Taking) → TakesBytes p → TakesOf (first_in (point_program a p)) (point_program a p) t taking
+takes_of : (a : Context) (p : ReadPoint) (t : TableState) (taking : Taking) → TakesBytes p → TakesOf (first_in (point_program a p)) (point_program a p) t taking
 takes_of a (points.Take r) t taking takes = (refl, refl)
 takes_of a (points.Discard link total) t taking takes = (refl, refl)
 takes_of a _ t taking takes = absurd takes
 
-pub take_tells : (a : Around) (p : ReadPoint) (t : TableState) (k n : ℕ) (taking : Taking) (tick : Tick) → first_in (point_program a p) ≡ Some (OfAside (asides.TakeBytes k n)) → (is_nothing t.ending (OfTake taking) ≡ true → tick ≡ Waits (on.In k)) → (is_nothing t.ending (OfTake taking) ≡ false → tick ≡ Moved R1) →
+pub take_tells : (a : Context) (p : ReadPoint) (t : TableState) (k n : ℕ) (taking : Taking) (tick : Tick) → first_in (point_program a p) ≡ Some (OfAside (asides.TakeBytes k n)) → (is_nothing t.ending (OfTake taking) ≡ true → tick ≡ Waits (on.In k)) → (is_nothing t.ending (OfTake taking) ≡ false → tick ≡ Moved R1) →
     Tells t (point_program a p) (OfTake taking) tick
 take_tells a p t k n taking tick first waited moved =
     let of = subst (λ (o : Option First). TakesOf o (point_program a p) t taking) first (takes_of a p t taking (reads_bytes a p k n first).0) in

@@ -42,7 +42,7 @@ use Rattle.seat_states.specs.declared.point.RetryStep.TheVariants as retries
 use Rattle.seat_states.specs.declared.point.JoinStep.TheVariants as joins
 use Rattle.seat_states.specs.declared.point.Point.{Point}
 use Rattle.seat_states.specs.declared.point.Point.TheVariants as points
-use Rattle.seat_states.specs.Points.{Around, point_program, look_program, after_program, heading_by, parts_by}
+use Rattle.seat_states.specs.Points.{Context, point_program, look_program, after_program, heading_by, parts_by}
 use Rattle.seat_states.specs.Steps.{First, OfCall, OfAside, OfMessage, OfLink, OfHome, first_of, first_in, kind_of_first}
 use Rattle.seat_states.specs.Steps as kinds
 use Rattle.seat_states.specs.Steps.{step_of, step_as}
@@ -179,7 +179,7 @@ module _ (p : Plan) (c : Core) where
   AsksLink (Some (kinds.OfReady k)) program = (waits_at p c (OfReady asks.NotYet) program ≡ true) × (waits_at p c (OfReady asks.Now) program ≡ false) × (waits_at p c (OfReady asks.Failed) program ≡ false) × IsWaitingFor program (on.Out k)
   AsksLink other program = Unit {0}
 
-  look_asks : (a : Around) (author : Author) (id : ℕ) (program : Program) → AsksLink (first_in (look_program a author id)) program
+  look_asks : (a : Context) (author : Author) (id : ℕ) (program : Program) → AsksLink (first_in (look_program a author id)) program
   look_asks a (authors.Send o) id program = tt
   look_asks a (authors.Attempt t) id program = tt
 
@@ -187,7 +187,7 @@ module _ (p : Plan) (c : Core) where
   judge_asks program true x y f g = f
   judge_asks program false x y f g = g
 
-  asks_link : (a : Around) (point : Point) → AsksLink (first_in (point_program a point)) (point_program a point)
+  asks_link : (a : Context) (point : Point) → AsksLink (first_in (point_program a point)) (point_program a point)
   asks_link a points.Rest = tt
   asks_link a (points.Open g (opens.Claim i)) = tt
   asks_link a (points.Open g (opens.StoreLink i)) = tt
@@ -267,7 +267,7 @@ module _ (p : Plan) (c : Core) where
   asks_link a (points.Join o (joins.LoadCall t)) = tt
   asks_link a (points.Join o (joins.Wait id)) = tt
 
-  pub ready_waits : (a : Around) (point : Point) (k : ℕ) → first_in (point_program a point) ≡ Some (kinds.OfReady k) → AsksLink (Some (kinds.OfReady k)) (point_program a point)
+  pub ready_waits : (a : Context) (point : Point) (k : ℕ) → first_in (point_program a point) ≡ Some (kinds.OfReady k) → AsksLink (Some (kinds.OfReady k)) (point_program a point)
   ready_waits a point k e = subst (λ (o : Option First). AsksLink o (point_program a point)) e (asks_link a point)
 
 -- ## Ticks

@@ -2,7 +2,7 @@ ghost use Rattle.std.specs.Prelude.{◌≡◌, ◌==◌, ◌&&◌, not, true, is
 ghost use Rattle.corr_core.specs.Word.{parts};
 ghost use Rattle.id_points.specs.Turns.{sought_as};
 ghost use Rattle.seat_programs.specs.Posts.{is_sought};
-ghost use Rattle.seat_states.specs.Points.{Around, point_program, HasLinkAt, TellsCodeAt};
+ghost use Rattle.seat_states.specs.Points.{Context, point_program, HasLinkAt, TellsCodeAt};
 ghost use Rattle.reader_points.specs.Points as reading;
 ghost use Rattle.sock_core.specs.Runs.{IsWaitingFor, sought_id};
 ghost use Rattle.sock_core.specs.Telling.{waits_by};
@@ -27,8 +27,8 @@ fn is_locked(there: bool, word: IdWord) -> bool
 
 /// For what a client at this point waits, if its step, which found this word, shows that it waits.
 pub fn awaited(point: &Point, found: u64) -> Option<On>
-    ensures waits { (a : Around) → is_some result ≡ waits_by (point_program a point.now) found }
-    ensures on { (a : Around) → IfSome result (IsWaitingFor (point_program a point.now)) }
+    ensures waits { (a : Context) → is_some result ≡ waits_by (point_program a point.now) found }
+    ensures on { (a : Context) → IfSome result (IsWaitingFor (point_program a point.now)) }
 {
     let word = IdWord::from_word(found);
     match *point {
@@ -91,8 +91,8 @@ fn sought_id(slot: u16, sought: Sought) -> u64
 
 /// The same of a reader, behind a step on a word.
 pub fn awaited_by_reader(point: ReadPoint, found: u64) -> Option<On>
-    ensures waits { (a : reading.Around) → is_some result ≡ waits_by (reading.point_program a point) found }
-    ensures on { (a : reading.Around) → IfSome result (IsWaitingFor (reading.point_program a point)) }
+    ensures waits { (a : reading.Context) → is_some result ≡ waits_by (reading.point_program a point) found }
+    ensures on { (a : reading.Context) → IfSome result (IsWaitingFor (reading.point_program a point)) }
 {
     let word = IdWord::from_word(found);
     match point {

@@ -1,7 +1,7 @@
 use Rattle.std.proofs.Common.{◌∙◌, ap}
 use Rattle.seat_states.specs.Points.{refused_program}
 use Rattle.seat_states.proofs.Behind.{refused}
-use Rattle.seat_states.proofs.point.After.refused.Goals as goal
+use Rattle.seat_states.proofs.point.AfterStep.refused.Goals as goal
 
 pub returns-clause-program : goal.returns-clause-program
 returns-clause-program c a call how none is =
