@@ -19,7 +19,7 @@ use Rattle.sock_io.specs.Memory.{MemInState, mem_in}
 use Rattle.loop_link.specs.Serving.{LoopInState, loop_in}
 use Rattle.script_links.specs.Offered.{TellOffers}
 use Rattle.script_run.specs.Played.{TellClosed}
-use Rattle.script_calls.specs.Built.{is_runnable}
+use Rattle.script_calls.specs.Built.{is_joinless}
 use Rattle.serve_port.specs.Serving.{ServedConnection}
 use Rattle.brpc_eng.proofs.Statuses.{each_script_is_run, IsUnbuilt, unbuilt_script_exactly}
 use Rattle.brpc_eng.specs.Streams.{script_limit, IsAtEnd}
@@ -36,11 +36,11 @@ not_two_ran turns script out links status (Reported text fits of_run wrote) = no
 not_two_ran turns script out links status (MemoryRanOut s wrote) = λ e. absurd (omega (arith, e, s))
 not_two_ran turns script out links status (OpenFailed s rose back wrote) = λ e. absurd (omega (arith, e, s))
 
-not_two_threads : (mode : Mode) (script : List Item) (out : Output) (links : Links) (status : ℕ) → RanOnThreads mode script out links status → status ≢ 2
-not_two_threads mode script out links status (ThreadsReported built text is wrote) = not_two_written out text status wrote
-not_two_threads mode script out links status (ThreadsRanOut built s wrote) = λ e. absurd (omega (arith, e, s))
-not_two_threads mode script out links status (ThreadsNotOpened built s rose back wrote) = λ e. absurd (omega (arith, e, s))
-not_two_threads mode script out links status (ScriptNotBuilt unbuilt s none_ wrote) = λ e. absurd (omega (arith, e, s))
+not_two_threads : (script : List Item) (out : Output) (links : Links) (status : ℕ) → RanOnThreads script out links status → status ≢ 2
+not_two_threads script out links status (ThreadsReported built text is wrote) = not_two_written out text status wrote
+not_two_threads script out links status (ThreadsRanOut built s wrote) = λ e. absurd (omega (arith, e, s))
+not_two_threads script out links status (ThreadsNotOpened built s rose back wrote) = λ e. absurd (omega (arith, e, s))
+not_two_threads script out links status (ScriptNotBuilt unbuilt s none_ wrote) = λ e. absurd (omega (arith, e, s))
 
 not_two_fault : (out : Output) (line kind status : ℕ) → FaultWritten out line kind status → status ≢ 2
 not_two_fault out line kind status (inl w) = λ e. absurd (omega (arith, e, w.0))
@@ -87,7 +87,7 @@ usage_exactly words input out links status (PrintsInput is back printed) = (λ e
 usage_exactly words input out links status (Replays is replayed) = (λ e. absurd (not_two _ input out links replayed.bytes status (λ script ran. not_two_ran _ script out links status ran) replayed.replayed e), λ e. absurd (cc))
 usage_exactly words input out links status (Simulates seed is replayed) = (λ e. absurd (not_two _ input out links replayed.bytes status (λ script ran. not_two_ran _ script out links status ran) replayed.replayed e), λ e. absurd (cc))
 usage_exactly words input out links status (RunsOnThreads port is replayed) =
-    (λ e. absurd (not_two _ input out links replayed.bytes status (λ script ran. not_two_threads (run_mode port) script out links status ran) replayed.replayed e), λ e. absurd (cc))
+    (λ e. absurd (not_two _ input out links replayed.bytes status (λ script ran. not_two_threads script out links status ran) replayed.replayed e), λ e. absurd (cc))
 usage_exactly words input out links status (ServesPort port count is same served) = (λ e. absurd (not_two_served count served.served out links status served.ended e), λ e. absurd (cc))
 
 -- ## A report, or want of memory
@@ -116,11 +116,11 @@ calm_ran turns script input out links status calm (Reported text fits of_run wro
 calm_ran turns script input out links status calm (MemoryRanOut s wrote) = inr s
 calm_ran turns script input out links status calm (OpenFailed s rose back wrote) = absurd (calm.linker rose)
 
-calm_threads : (mode : Mode) (script : List Item) (input : Input) (out : Output) (links : Links) (status : ℕ) → IsCalm input out links → is_runnable mode script ≡ true → RanOnThreads mode script out links status → (status ≡ 0) ⊎ (status ≡ 7)
-calm_threads mode script input out links status calm built (ThreadsReported same text is wrote) = inl (calm_written out text status calm.sink wrote)
-calm_threads mode script input out links status calm built (ThreadsRanOut same s wrote) = inr s
-calm_threads mode script input out links status calm built (ThreadsNotOpened same s rose back wrote) = absurd (calm.linker rose)
-calm_threads mode script input out links status calm built (ScriptNotBuilt unbuilt s none_ wrote) = let f : true ≡ false = sym built ∙ unbuilt in absurd (cc)
+calm_threads : (script : List Item) (input : Input) (out : Output) (links : Links) (status : ℕ) → IsCalm input out links → is_joinless script ≡ true → RanOnThreads script out links status → (status ≡ 0) ⊎ (status ≡ 7)
+calm_threads script input out links status calm built (ThreadsReported same text is wrote) = inl (calm_written out text status calm.sink wrote)
+calm_threads script input out links status calm built (ThreadsRanOut same s wrote) = inr s
+calm_threads script input out links status calm built (ThreadsNotOpened same s rose back wrote) = absurd (calm.linker rose)
+calm_threads script input out links status calm built (ScriptNotBuilt unbuilt s none_ wrote) = let f : true ≡ false = sym built ∙ unbuilt in absurd (cc)
 
 calm_replayed : {mode : Mode} (ran : ScriptEnd) (script : List Item) (given : List ℕ) (input : Input) (out : Output) (links : Links) (bytes : List ℕ) (status : ℕ) → IsCalm input out links → Consumes (Some given) input.left bytes →
     length given ≤ script_limit → script_of given ≡ Ok script → ((read : List Item) → read ≡ script → ran read out links status → (status ≡ 0) ⊎ (status ≡ 7)) → Replayed mode ran input out links bytes status → (status ≡ 0) ⊎ (status ≡ 7)
@@ -138,7 +138,7 @@ calm_replayed ran script given input out links bytes status calm came few is run
 abbrev RunsScript : List Item → Command → Type 0
 RunsScript script Replay = Unit {0}
 RunsScript script (Sim seed) = Unit {0}
-RunsScript script (Run port) = is_runnable (run_mode port) script ≡ true
+RunsScript script (Run port) = is_joinless script ≡ true
 RunsScript script other = ⊥
 
 -- `replay` and `sim` of a script, and `run` of one that is built, with no fault of the outside, end with its report or for want of memory
@@ -165,9 +165,9 @@ report_comes script given words input out links status command (RunsOnThreads po
     let P : Option (List ℕ) → Type 0 = λ x. Consumes x input.left replayed.bytes in
     let one : Some (Run port) ≡ Some command = sym named ∙ asked in
     let alike : Run port ≡ command = cc in
-    let built : is_runnable (run_mode port) script ≡ true = subst (RunsScript script) (sym alike) runs in
+    let built : is_joinless script ≡ true = subst (RunsScript script) (sym alike) runs in
     calm_replayed _ script given input out links replayed.bytes status calm (subst P told replayed.came) few is
-    (λ read alike ran. calm_threads (run_mode port) read input out links status calm (subst (λ (s : List Item). is_runnable (run_mode port) s ≡ true) (sym alike) built) ran) replayed.replayed
+    (λ read alike ran. calm_threads read input out links status calm (subst (λ (s : List Item). is_joinless s ≡ true) (sym alike) built) ran) replayed.replayed
 report_comes script given words input out links status command (ServesPort port count named same served) asked runs told few is calm =
     let one : Some (Serve port count) ≡ Some command = sym named ∙ asked in
     let alike : Serve port count ≡ command = cc in absurd (subst (RunsScript script) (sym alike) runs)
@@ -201,13 +201,13 @@ not_ten_served count served out links status (ConnectionFailed s failing wrote) 
 not_ten_served count served out links status (MetFault s fine faulty wrote) = λ e. absurd (omega (arith, e, s))
 not_ten_served count served out links status (ServeRanOut s fine clean wrote) = λ e. absurd (omega (arith, e, s))
 
--- what came for `run` is a script that isn't built for links of this mode
-abbrev CameUnbuilt : Mode → Input → Type 0
-CameUnbuilt mode input = (bytes : List ℕ) × Consumes input.given input.left bytes × IsUnbuilt mode input bytes
+-- what came for `run` is a script with a line that waits for a call
+abbrev CameUnbuilt : Input → Type 0
+CameUnbuilt input = (bytes : List ℕ) × Consumes input.given input.left bytes × IsUnbuilt input bytes
 
--- 10 comes only where the command is `run`, and the script isn't built for it
+-- 10 comes only where the command is `run`, and a line of the script waits for a call
 pub unbuilt_exactly : (command : Command) (words : List (List ℕ)) (input : Input) (out : Output) (links : Links) (status : ℕ) → Answers words input out links status → command_of words ≡ Some command → status ≡ 10 →
-    (port : Option ℕ) × (command ≡ Run port) × CameUnbuilt (run_mode port) input
+    (port : Option ℕ) × (command ≡ Run port) × CameUnbuilt input
 unbuilt_exactly command words input out links status (NoCommand s none same back wrote) asked e = absurd (cc)
 unbuilt_exactly command words input out links status (Generates seed clients count named same back made) asked e = absurd (not_ten_made seed clients count out status made e)
 unbuilt_exactly command words input out links status (Loads seed clients count named same made) asked e = absurd (not_ten_loaded seed clients count out links status made.ran e)
@@ -234,11 +234,11 @@ still_faulty : (out : Output) (line kind status : ℕ) → FaultWritten out line
 still_faulty out line kind status (inl w) e = absurd (omega (arith, e, w.0))
 still_faulty out line kind status (inr w) e = w.1.1
 
-still_threads : (mode : Mode) (script : List Item) (out : Output) (links : Links) (status : ℕ) → RanOnThreads mode script out links status → status ≡ 0 → StandStill out.faults
-still_threads mode script out links status (ThreadsReported built text is wrote) e = still_written out text status wrote e
-still_threads mode script out links status (ThreadsRanOut built s wrote) e = wrote.1
-still_threads mode script out links status (ThreadsNotOpened built s rose back wrote) e = wrote.1
-still_threads mode script out links status (ScriptNotBuilt unbuilt s none_ wrote) e = absurd (omega (arith, e, s))
+still_threads : (script : List Item) (out : Output) (links : Links) (status : ℕ) → RanOnThreads script out links status → status ≡ 0 → StandStill out.faults
+still_threads script out links status (ThreadsReported built text is wrote) e = still_written out text status wrote e
+still_threads script out links status (ThreadsRanOut built s wrote) e = wrote.1
+still_threads script out links status (ThreadsNotOpened built s rose back wrote) e = wrote.1
+still_threads script out links status (ScriptNotBuilt unbuilt s none_ wrote) e = absurd (omega (arith, e, s))
 
 still_replayed : {mode : Mode} (ran : ScriptEnd) (input : Input) (out : Output) (links : Links) (bytes : List ℕ) (status : ℕ) → ((script : List Item) → ran script out links status → status ≡ 0 → StandStill out.faults) → Replayed mode ran input out links bytes status → status ≡ 0 → StandStill out.faults
 still_replayed ran input out links bytes status runs (RanScript end script is opened ended) e = runs script ended e
@@ -276,7 +276,7 @@ no_write_failed words input out links status (Loads seed clients count named sam
 no_write_failed words input out links status (PrintsInput named back printed) e = still_ended input out printed.printed.bytes printed.ended status printed.numbered printed.printed.ended e
 no_write_failed words input out links status (Replays named replayed) e = still_replayed _ input out links replayed.bytes status (λ script ran e. still_ran _ script out links status ran e) replayed.replayed e
 no_write_failed words input out links status (Simulates seed named replayed) e = still_replayed _ input out links replayed.bytes status (λ script ran e. still_ran _ script out links status ran e) replayed.replayed e
-no_write_failed words input out links status (RunsOnThreads port named replayed) e = still_replayed _ input out links replayed.bytes status (λ script ran e. still_threads (run_mode port) script out links status ran e) replayed.replayed e
+no_write_failed words input out links status (RunsOnThreads port named replayed) e = still_replayed _ input out links replayed.bytes status (λ script ran e. still_threads script out links status ran e) replayed.replayed e
 no_write_failed words input out links status (ServesPort port count named same served) e = still_served count served.served out links status served.ended e
 
 -- ## One text

@@ -80,9 +80,9 @@ simulated words input out links status command seed drawn e is same replayed = a
 
 -- a run on threads
 pub threaded : (words : List (List ℕ)) (input : answer.Input) (out : answer.Output) (links : answer.Links) (status : ℕ) (command : Command) (port : Option ℕ) (mode : Mode) → option_map meaning (Some command) ≡ model.command_of words → command ≡ Run port →
-    mode ≡ answer.run_mode port → answer.ReplayedInput mode (answer.RanOnThreads mode) input out links status → answer.Answers words input out links status
+    mode ≡ answer.run_mode port → answer.ReplayedInput mode answer.RanOnThreads input out links status → answer.Answers words input out links status
 threaded words input out links status command port mode e is made replayed =
-    answer.RunsOnThreads port (sym e ∙ ap (λ c. option_map meaning (Some c)) is) (subst (λ (m : Mode). answer.ReplayedInput m (answer.RanOnThreads m) input out links status) made replayed)
+    answer.RunsOnThreads port (sym e ∙ ap (λ c. option_map meaning (Some c)) is) (subst (λ (m : Mode). answer.ReplayedInput m answer.RanOnThreads input out links status) made replayed)
 
 -- ## The frames
 

@@ -5,7 +5,7 @@ use Rattle.brpc_model.specs.Items.{Item}
 use Rattle.brpc_model.specs.Operations.{Turn}
 use Rattle.brpc_model.specs.Script.{script_of}
 use Rattle.sock_io.specs.declared.link.Mode.{Mode}
-use Rattle.script_calls.specs.Built.{is_runnable}
+use Rattle.script_calls.specs.Built.{is_joinless}
 use Rattle.brpc_eng.specs.Streams.{script_limit, IsAtEnd}
 use Rattle.brpc_eng.specs.Answers.{HaveRisen, Input, Output, Links, TextWritten, Ran, Reported, MemoryRanOut, OpenFailed, RanOnThreads, ThreadsReported, ThreadsRanOut, ThreadsNotOpened, ScriptNotBuilt, ScriptEnd, by_turns, FaultWritten, Replayed, RanScript, FaultyScript, SourceFailed, TooLong, NoMemory, ReplayedInput}
 
@@ -37,11 +37,11 @@ is_run turns script out links status (OpenFailed s rose back wrote) = inr (inr (
 pub turns_run : (turns : List Item → List Turn) → AreRuns (by_turns turns)
 turns_run turns script out links status ran = is_run (turns script) script out links status ran
 
-pub threads_run : (mode : Mode) → AreRuns (RanOnThreads mode)
-threads_run mode script out links status (ThreadsReported built text is wrote) = is_written out text status wrote
-threads_run mode script out links status (ThreadsRanOut built s wrote) = inr (inr (inl s))
-threads_run mode script out links status (ThreadsNotOpened built s rose back wrote) = inr (inr (inr (inl s)))
-threads_run mode script out links status (ScriptNotBuilt unbuilt s none_ wrote) = inr (inr (inr (inr s)))
+pub threads_run : AreRuns RanOnThreads
+threads_run script out links status (ThreadsReported built text is wrote) = is_written out text status wrote
+threads_run script out links status (ThreadsRanOut built s wrote) = inr (inr (inl s))
+threads_run script out links status (ThreadsNotOpened built s rose back wrote) = inr (inr (inr (inl s)))
+threads_run script out links status (ScriptNotBuilt unbuilt s none_ wrote) = inr (inr (inr (inr s)))
 
 fault_status : (out : Output) (line kind status : ℕ) → FaultWritten out line kind status → (status ≡ 3) ⊎ (status ≡ 7)
 fault_status out line kind status (inl w) = inl w.0
@@ -131,40 +131,40 @@ each_script_is_run turns input out links status read = not_ten turns input out l
 
 -- on threads, those that are built
 
-unbuilt_ran : (mode : Mode) (script : List Item) (out : Output) (links : Links) (status : ℕ) → RanOnThreads mode script out links status → status ≡ 10 → is_runnable mode script ≡ false
-unbuilt_ran mode script out links status (ThreadsReported built text is wrote) e = absurd (not_ten_written out text status wrote e)
-unbuilt_ran mode script out links status (ThreadsRanOut built s wrote) e = absurd (omega (arith, e, s))
-unbuilt_ran mode script out links status (ThreadsNotOpened built s rose back wrote) e = absurd (omega (arith, e, s))
-unbuilt_ran mode script out links status (ScriptNotBuilt unbuilt s none_ wrote) e = unbuilt
+unbuilt_ran : (script : List Item) (out : Output) (links : Links) (status : ℕ) → RanOnThreads script out links status → status ≡ 10 → is_joinless script ≡ false
+unbuilt_ran script out links status (ThreadsReported built text is wrote) e = absurd (not_ten_written out text status wrote e)
+unbuilt_ran script out links status (ThreadsRanOut built s wrote) e = absurd (omega (arith, e, s))
+unbuilt_ran script out links status (ThreadsNotOpened built s rose back wrote) e = absurd (omega (arith, e, s))
+unbuilt_ran script out links status (ScriptNotBuilt unbuilt s none_ wrote) e = unbuilt
 
-ten_ran : (mode : Mode) (script : List Item) (out : Output) (links : Links) (status : ℕ) → RanOnThreads mode script out links status → is_runnable mode script ≡ false → status ≡ 10
-ten_ran mode script out links status (ThreadsReported taken text is wrote) unbuilt = let f : true ≡ false = sym taken ∙ unbuilt in absurd (cc)
-ten_ran mode script out links status (ThreadsRanOut built s wrote) unbuilt = let f : true ≡ false = sym built ∙ unbuilt in absurd (cc)
-ten_ran mode script out links status (ThreadsNotOpened built s rose back wrote) unbuilt = let f : true ≡ false = sym built ∙ unbuilt in absurd (cc)
-ten_ran mode script out links status (ScriptNotBuilt same s none_ wrote) unbuilt = s
+ten_ran : (script : List Item) (out : Output) (links : Links) (status : ℕ) → RanOnThreads script out links status → is_joinless script ≡ false → status ≡ 10
+ten_ran script out links status (ThreadsReported taken text is wrote) unbuilt = let f : true ≡ false = sym taken ∙ unbuilt in absurd (cc)
+ten_ran script out links status (ThreadsRanOut built s wrote) unbuilt = let f : true ≡ false = sym built ∙ unbuilt in absurd (cc)
+ten_ran script out links status (ThreadsNotOpened built s rose back wrote) unbuilt = let f : true ≡ false = sym built ∙ unbuilt in absurd (cc)
+ten_ran script out links status (ScriptNotBuilt same s none_ wrote) unbuilt = s
 
--- the whole input was read, and is a script that isn't built for links of this mode
-abbrev pub IsUnbuilt : Mode → Input → List ℕ → Type 0
-IsUnbuilt mode input bytes = IsAtEnd input.left × ((script : List Item) × (script_of bytes ≡ Ok script) × (is_runnable mode script ≡ false))
+-- the whole input was read, and is a script with a line that waits for a call
+abbrev pub IsUnbuilt : Input → List ℕ → Type 0
+IsUnbuilt input bytes = IsAtEnd input.left × ((script : List Item) × (script_of bytes ≡ Ok script) × (is_joinless script ≡ false))
 
-unbuilt_by : (mode : Mode) (input : Input) (out : Output) (links : Links) (bytes : List ℕ) (status : ℕ) → Replayed mode (RanOnThreads mode) input out links bytes status → status ≡ 10 → IsUnbuilt mode input bytes
-unbuilt_by mode input out links bytes status (RanScript end script is opened ran) e = (end, (script, is, unbuilt_ran mode script out links status ran e))
+unbuilt_by : (mode : Mode) (input : Input) (out : Output) (links : Links) (bytes : List ℕ) (status : ℕ) → Replayed mode RanOnThreads input out links bytes status → status ≡ 10 → IsUnbuilt input bytes
+unbuilt_by mode input out links bytes status (RanScript end script is opened ran) e = (end, (script, is, unbuilt_ran script out links status ran e))
 unbuilt_by mode input out links bytes status (FaultyScript end line kind is back wrote) e = absurd (not_ten_fault out line kind status wrote e)
 unbuilt_by mode input out links bytes status (SourceFailed s rose back wrote) e = absurd (omega (arith, e, s))
 unbuilt_by mode input out links bytes status (TooLong s long back wrote) e = absurd (omega (arith, e, s))
 unbuilt_by mode input out links bytes status (NoMemory s back wrote) e = absurd (omega (arith, e, s))
 
-ten_by : (mode : Mode) (input : Input) (out : Output) (links : Links) (bytes : List ℕ) (status : ℕ) (script : List Item) → Replayed mode (RanOnThreads mode) input out links bytes status → script_of bytes ≡ Ok script → is_runnable mode script ≡ false → (status ≡ 10) ⊎ EndedBefore input bytes status
+ten_by : (mode : Mode) (input : Input) (out : Output) (links : Links) (bytes : List ℕ) (status : ℕ) (script : List Item) → Replayed mode RanOnThreads input out links bytes status → script_of bytes ≡ Ok script → is_joinless script ≡ false → (status ≡ 10) ⊎ EndedBefore input bytes status
 ten_by mode input out links bytes status script (RanScript end other is opened ran) reads unbuilt =
     let one : Ok other ≡ Ok script = sym is ∙ reads in
     let alike : other ≡ script = cc in
-    let no : is_runnable mode other ≡ false = subst (λ (s : List Item). is_runnable mode s ≡ false) (sym alike) unbuilt in
-    inl (ten_ran mode other out links status ran no)
+    let no : is_joinless other ≡ false = subst (λ (s : List Item). is_joinless s ≡ false) (sym alike) unbuilt in
+    inl (ten_ran other out links status ran no)
 ten_by mode input out links bytes status script (FaultyScript end line kind is back wrote) reads unbuilt = absurd (cc)
 ten_by mode input out links bytes status script (SourceFailed s rose back wrote) reads unbuilt = inr (inl (s, rose))
 ten_by mode input out links bytes status script (TooLong s long back wrote) reads unbuilt = inr (inr (inl (s, long)))
 ten_by mode input out links bytes status script (NoMemory s back wrote) reads unbuilt = inr (inr (inr s))
 
-pub unbuilt_script_exactly : (mode : Mode) (input : Input) (out : Output) (links : Links) (status : ℕ) → (read : ReplayedInput mode (RanOnThreads mode) input out links status) →
-    (status ≡ 10 → IsUnbuilt mode input read.bytes) × ((script : List Item) → script_of read.bytes ≡ Ok script → is_runnable mode script ≡ false → (status ≡ 10) ⊎ EndedBefore input read.bytes status)
+pub unbuilt_script_exactly : (mode : Mode) (input : Input) (out : Output) (links : Links) (status : ℕ) → (read : ReplayedInput mode RanOnThreads input out links status) →
+    (status ≡ 10 → IsUnbuilt input read.bytes) × ((script : List Item) → script_of read.bytes ≡ Ok script → is_joinless script ≡ false → (status ≡ 10) ⊎ EndedBefore input read.bytes status)
 unbuilt_script_exactly mode input out links status read = (unbuilt_by mode input out links read.bytes status read.replayed, λ script reads unbuilt. ten_by mode input out links read.bytes status script read.replayed reads unbuilt)

@@ -33,7 +33,7 @@ use Rattle.serve_port.specs.Serving.{ServedConnection, IsServed, any_failing, an
 use Rattle.script_links.specs.Given.{AreNumbered, AreUntouched, IsBeginning, specs_of}
 use Rattle.script_run.specs.Causes.{CameLate, late_in}
 use Rattle.script_run.specs.Played.{IsRunText}
-use Rattle.script_calls.specs.Built.{is_runnable}
+use Rattle.script_calls.specs.Built.{is_joinless}
 use Rattle.script_calls.specs.Told.{IsCallText}
 use Rattle.brpc_eng.specs.Streams.{script_limit, IsAtEnd}
 
@@ -170,16 +170,16 @@ abbrev pub run_mode : Option ℕ → Mode
 run_mode None = modes.Loop
 run_mode (Some port) = modes.Tcp port
 
--- how the run of a script on threads ends, over links of this mode
-pub data RanOnThreads (mode : Mode) (script : List Item) (out : Output) (links : Links) (status : ℕ) : Type 0 where
+-- how the run of a script on threads ends
+pub data RanOnThreads (script : List Item) (out : Output) (links : Links) (status : ℕ) : Type 0 where
   -- the place words of the run tell an order of each link, each operation has an outcome or a message with a place, and the text reports that; each operation
   -- on sockets and each `expire` has its cause, by what became of all others; and without calls the report fits
-  ThreadsReported : is_runnable mode script ≡ true → (text : List ℕ) → IsCallText script text links.ends → TextWritten out text status → RanOnThreads mode script out links status
-  ThreadsRanOut : is_runnable mode script ≡ true → status ≡ 7 → WroteNothing out → RanOnThreads mode script out links status
+  ThreadsReported : is_joinless script ≡ true → (text : List ℕ) → IsCallText script text links.ends → TextWritten out text status → RanOnThreads script out links status
+  ThreadsRanOut : is_joinless script ≡ true → status ≡ 7 → WroteNothing out → RanOnThreads script out links status
   -- the links that were opened before are given back, and nothing was done with them
-  ThreadsNotOpened : is_runnable mode script ≡ true → status ≡ 8 → HaveRisen links.faults → AreUntouched 0 links.ends → WroteNothing out → RanOnThreads mode script out links status
-  -- a line waits for a call; or over links to another process a line asks for a call or for something of one: no link is opened
-  ScriptNotBuilt : is_runnable mode script ≡ false → status ≡ 10 → OpenedNone links → Wrote out not_built_text → RanOnThreads mode script out links status
+  ThreadsNotOpened : is_joinless script ≡ true → status ≡ 8 → HaveRisen links.faults → AreUntouched 0 links.ends → WroteNothing out → RanOnThreads script out links status
+  -- a line waits for a call: no link is opened
+  ScriptNotBuilt : is_joinless script ≡ false → status ≡ 10 → OpenedNone links → Wrote out not_built_text → RanOnThreads script out links status
 
 -- ## `replay`, `sim` and `run`
 
@@ -311,7 +311,7 @@ pub data Answers (words : List (List ℕ)) (input : Input) (out : Output) (links
   -- or by one that is drawn from a seed
   Simulates : (seed : ℕ) → command_of words ≡ Some (Sim seed) → ReplayedInput modes.Loop (by_turns (λ script. drawn_turns script seed)) input out links status → Answers words input out links status
   -- or on threads, whatever its schedule, over links in memory or over TCP
-  RunsOnThreads : (port : Option ℕ) → command_of words ≡ Some (Run port) → ReplayedInput (run_mode port) (RanOnThreads (run_mode port)) input out links status → Answers words input out links status
+  RunsOnThreads : (port : Option ℕ) → command_of words ≡ Some (Run port) → ReplayedInput (run_mode port) RanOnThreads input out links status → Answers words input out links status
   -- they ask for so many connections to be served at a port, and nothing is read
   ServesPort : (port count : ℕ) → command_of words ≡ Some (Serve port count) → input.left ≡ input.given → ServedPort count out links status → Answers words input out links status
 

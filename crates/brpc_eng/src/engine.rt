@@ -34,7 +34,7 @@ const USAGE: &[u8] =
 /// | 7 | where memory ran out; in `run` of a script with calls also where no report could be made of what its threads left |
 /// | 8 | only where a link couldn't be opened, and those opened before are given back untouched; in `serve` only where an accept failed, or a put or a take of a connection |
 /// | 9 | exactly where the bytes read by `frames` have a faulty frame, also where the sink fails; the frames before it and the fault are written; in `serve` exactly where the bytes of a connection have one, and 8 isn't answered |
-/// | 10 | exactly where the command is `run` and the script has a line that isn't built for it; `not built` is written |
+/// | 10 | exactly where the command is `run` and a line of the script waits for a call (`join`), which threads don't do yet; `not built` is written |
 ///
 /// Faults are met in the order words, source, size, script, opening, run, printing; want of memory
 /// may come at any place of it, and is the one answer that needs no cause. `serve` reads nothing: it gives each connection that

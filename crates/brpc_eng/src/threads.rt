@@ -1,7 +1,7 @@
 ghost use Rattle.std.specs.Prelude.{◌≡◌, ◌≢◌, ℕ, true, [], Ok, List};
 ghost use Rattle.std.specs.List.{list_all};
 ghost use Rattle.brpc_model.specs.Script.{script_of};
-ghost use Rattle.script_calls.specs.Built.{is_runnable};
+ghost use Rattle.script_calls.specs.Built.{is_joinless};
 ghost use Rattle.script_links.specs.Given.{has_piece};
 ghost use Rattle.script_links.specs.Offered.{TellOffers};
 ghost use Rattle.script_run.specs.Played.{TellClosed};
@@ -12,7 +12,7 @@ use crate::replay::{NOT_BUILT, write_answer, write_fault};
 use crate::run::write_report;
 use crate::status::Status;
 use crate::streams::{InputFault, read_all};
-use script_calls::{is_runnable, run_calls_on_threads};
+use script_calls::{is_joinless, run_calls_on_threads};
 use script_items::Script;
 use script_lang::{ScriptError, read_script};
 use sock_io::{Gate, Linker, Mode, OpenFault, Sink, Source};
@@ -42,7 +42,7 @@ pub fn run_threads<R: Threads + Wait + Sync, S: Source, K: Sink, L: Linker, G: G
 ) -> Status
     requires asked { L.asked links.old ≡ [] }
     requires back { L.back links.old ≡ [] }
-    ensures replayed { ReplayedInput mode (RanOnThreads mode)
+    ensures replayed { ReplayedInput mode RanOnThreads
         (record { given = S.left source.old; left = S.left source.new; faults = record { before = S.faults source.old; now = S.faults source.new } })
         (record { before = K.contents out.old; now = K.contents out.new; faults = record { before = K.faults out.old; now = K.faults out.new } })
         (record { always_ready = L.always_ready links.old; tells = TellClosed L.I.state; offering = TellOffers L.O.state L.I.state; asked = L.asked links.new; ends = L.back links.new; accepted = L.accepted links.new; done = L.done links.new; faults = record { before = L.faults links.old; now = L.faults links.new } })
@@ -65,7 +65,7 @@ pub fn run_threads<R: Threads + Wait + Sync, S: Source, K: Sink, L: Linker, G: G
     }
 }
 
-/// Runs a script on threads and writes its report. One with a line that isn't built for it is refused, and no link is opened.
+/// Runs a script on threads and writes its report. One with a line that waits for a call is refused, and no link is opened.
 fn threads_and_report<R: Threads + Wait + Sync, K: Sink, L: Linker, G: Gate + Sync>(
     rt: &R,
     alloc: Global,
@@ -79,7 +79,7 @@ fn threads_and_report<R: Threads + Wait + Sync, K: Sink, L: Linker, G: Gate + Sy
     requires back { L.back links.old ≡ [] }
     requires script { (bytes : List ℕ) × (script_of bytes ≡ Ok script.now) }
     requires pieces { list_all has_piece script.now ≡ true }
-    ensures ran { RanOnThreads mode script.now
+    ensures ran { RanOnThreads script.now
         (record { before = K.contents out.old; now = K.contents out.new; faults = record { before = K.faults out.old; now = K.faults out.new } })
         (record { always_ready = L.always_ready links.old; tells = TellClosed L.I.state; offering = TellOffers L.O.state L.I.state; asked = L.asked links.new; ends = L.back links.new; accepted = L.accepted links.new; done = L.done links.new; faults = record { before = L.faults links.old; now = L.faults links.new } })
         (number_of result) }
@@ -88,7 +88,7 @@ fn threads_and_report<R: Threads + Wait + Sync, K: Sink, L: Linker, G: Gate + Sy
         (number_of result) }
     ensures linker { number_of result ≢ 8 → L.faults links.new ≡ L.faults links.old }
 {
-    if !is_runnable(mode, script) {
+    if !is_joinless(script) {
         write_answer(out, NOT_BUILT);
         return Status::NotBuilt;
     }

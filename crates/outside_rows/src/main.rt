@@ -5,11 +5,15 @@
 #[cfg(test)]
 mod answer;
 #[cfg(test)]
+mod commands;
+#[cfg(test)]
 mod failing;
 #[cfg(test)]
 mod giving;
 #[cfg(test)]
 mod noting;
+#[cfg(test)]
+mod ports;
 #[cfg(test)]
 mod serving;
 #[cfg(test)]

@@ -10,5 +10,5 @@ mod reporting;
 mod run;
 mod saying;
 
-pub use built::is_runnable;
+pub use built::is_joinless;
 pub use run::run_calls_on_threads;

@@ -4,7 +4,7 @@ ghost use Rattle.brpc_model.specs.Script.{script_of};
 ghost use Rattle.script_links.specs.Given.{has_piece};
 
 use crate::held::{HeldGate, HeldLinker, is_done, new_flags};
-use script_calls::{is_runnable, run_calls_on_threads};
+use script_calls::{is_joinless, run_calls_on_threads};
 use script_items::Script;
 use script_lang::read_script;
 use sock_io::{Gate, Linker, Mode, OpenGate};
@@ -24,7 +24,7 @@ fn runnable_script(alloc: Global, text: &[u8]) -> Option<Script>
     let Ok(script) = read_script(alloc, text) else {
         return None;
     };
-    if is_runnable(Mode::Loop, &script) {
+    if is_joinless(&script) {
         Some(script)
     } else {
         None
