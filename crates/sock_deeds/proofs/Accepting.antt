@@ -74,7 +74,7 @@ module _ {O : Type 0} {g : Ghosts O} {state : O → OutState} {p : Plan} {client
     pub place : get_elem? (own y) (before author run.closed.ordered.by q) ≡ some e
 
   -- a reader has none accepted
-  read_none : (r : ReaderSeat g state p clients outcomes) (m : ℕ) (e : Entry) → get_elem? (own r.sits) m ≡ some e → ⊥
+  pub read_none : (r : ReaderSeat g state p clients outcomes) (m : ℕ) (e : Entry) → get_elem? (own r.sits) m ≡ some e → ⊥
   read_none r m e at =
       let w = flat_from entries_of r.sits.deeds m e at in
       subst IsById (entry_source g state p w.1.did w.1.before w.1.after w.1.done w.3 e w.4).did_is (read_by_ids r w.0 w.1 w.2)
@@ -93,7 +93,7 @@ module _ {O : Type 0} {g : Ghosts O} {state : O → OutState} {p : Plan} {client
       let au = at_some by q (omega arith) in
       let n = run.closed.ordered.named q au.0 au.1 in
       let w = both_at (λ a. pick a by log) own run.closed.ordered.names (Seats run) n.0 au.0 (sym lists_same) n.1 in
-      let place : get_elem? (own w.0) (before au.0 by q) ≡ some e = ap (λ l. get_elem? l (before au.0 by q)) w.2 ∙ pick_at au.0 by log q e au.1 there in record {
+      let place : get_elem? (own w.0) (before au.0 by q) ≡ some e = ap (λ l. get_elem? l (before au.0 by q)) (sym w.2) ∙ pick_at au.0 by log q e au.1 there in record {
         author = au.0;
         by_author = au.1;
         c = n.0;

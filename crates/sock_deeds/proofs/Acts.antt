@@ -253,6 +253,10 @@ module _ {O : Type 0} {g : Ghosts O} {state : O → OutState} {p : Plan} {client
         | inr w ↦ inr (w.0, subst (λ (d : Deed g state p). marks_of f i d.before.view < marks_of f i d.after.view) (sym w.1) less)
       ]
 
+  -- where no link was read beside the clients there is none of a reader
+  pub no_reader : run.readers ≡ [] → Read → ⊥
+  no_reader none_ r = some-ne-none r.r (sym (ap (λ l. get_elem? l r.c) (sym none_) ∙ r.at))
+
   -- all that a reader did is done by ids
   pub read_is_by_id : (r : Read) → IsById r.d.did
   read_is_by_id r = read_by_ids r.r r.k r.d r.is

@@ -7,9 +7,10 @@ use Rattle.sock_io.specs.Link.{OutState}
 use Rattle.sock_words.specs.declared.outcome.Outcome.{Outcome}
 use Rattle.sock_words.specs.declared.plain.Plan.{Plan}
 use Rattle.sock_words.specs.declared.socket_id.SocketId.{SocketId}
+use Rattle.sock_model.specs.Seats.{newcomer}
 use Rattle.seat_programs.specs.declared.task.Task.{Task}
 use Rattle.rpc_client.specs.sock_table.specs.declared.finding.Noted.TheVariants as noted
-use Rattle.sock_deeds.specs.Deeds.{Did, looks, takes, misses, sets, returns, Deed}
+use Rattle.sock_deeds.specs.Deeds.{Hand, Did, opens, sends, holds, drops, fails, waits, looks, takes, misses, sets, returns, DoneBy, Deed, Chain}
 use Rattle.sock_deeds.specs.Runs.{IsById, IsReaderCode, DidRead, had_none, left_it, missed_it, set_it, did_in, ReaderSeat}
 use Rattle.sock_deeds.proofs.Places.{map_there}
 
@@ -89,6 +90,26 @@ module _ (number : ℕ) (early : Bool) (id code : ℕ) (by : Outcome) where
       by_place (suc (suc (suc zero))) h = no_set _ _ (λ x. x) (some-injective _ _ h)
       by_place (suc (suc (suc (suc k)))) h = absurd (some-ne-none this (sym h))
 
+-- ## What is held by a name
+
+module _ {O : Type 0} (g : Ghosts O) (state : O → OutState) (p : Plan) where
+  id_held : (d : Did) (s t : Hand) → IsById d → DoneBy g state p d s t → t.held ≡ s.held
+  id_held (looks number n) s t is b = b.1
+  id_held (takes id) s t is b = b.2
+  id_held (misses id found) s t is b = b.1
+  id_held (sets id code by) s t is b = b.1
+  id_held (returns id) s t is b = b.1
+  id_held (opens name number link by) s t is b = elim is [ ]
+  id_held (sends name number attempt msg by) s t is b = elim is [ ]
+  id_held (holds name number by) s t is b = elim is [ ]
+  id_held (drops name number by) s t is b = elim is [ ]
+  id_held (fails name number code by) s t is b = elim is [ ]
+  id_held (waits name) s t is b = elim is [ ]
+
+  ids_held : (ds : List (Deed g state p)) (s t : Hand) → Chain g state p ds s t → ((k : ℕ) (d : Deed g state p) → get_elem? ds k ≡ some d → IsById d.did) → t.held ≡ s.held
+  ids_held [] s t c are = ap (λ (h : Hand). h.held) c
+  ids_held (d ∷ ds) s t c are = ids_held ds d.after t c.1 (λ k e at. are (suc k) e at) ∙ (id_held d.did d.before d.after (are 0 d refl) d.done ∙ ap (λ (h : Hand). h.held) c.0)
+
 module _ {O : Type 0} {g : Ghosts O} {state : O → OutState} {p : Plan} {clients : List (List Task)} {outcomes : List (Option Outcome)} (r : ReaderSeat g state p clients outcomes) where
   abbrev pub dids_of : List Did
   dids_of = map did_in r.sits.deeds
@@ -99,3 +120,7 @@ module _ {O : Type 0} {g : Ghosts O} {state : O → OutState} {p : Plan} {client
   pub read_sets : (k : ℕ) (d : Deed g state p) (id code : ℕ) (by : Outcome) → get_elem? r.sits.deeds k ≡ some d → d.did ≡ sets id code by → SetByFinding r.number r.early dids_of id code
   unfolding this
   read_sets k d id code by at is = found_first r.number r.early id code by dids_of r.did k (map_there did_in r.sits.deeds k d at ∙ ap some is)
+
+  -- it keeps nothing by a name
+  pub read_held : r.sits.ended.held ≡ []
+  read_held = ids_held g state p r.sits.deeds record { view = newcomer p [] r.sits.spare; held = [] } r.sits.ended r.sits.chain read_by_ids

@@ -82,9 +82,13 @@ module _ (p : Plan) (x w : ℕ) where
       let e4 = put_is x w (name_index p name) (b.0.0 + 1) o.told m' o.published in
       let is : outcome.Opened slot version k ≡ outcome.Opened (socket_id_slot b.0.0) (socket_id_version b.0.0) link = λ i. outcome.Opened (b.1 i) (b.2 i) (b.3 i) in
       dite (ℕ_discrete x (open_index p number))
-      (λ same. for_number same (inl (b.0, is, dite (dec_lt 0 (pair x w (open_index p number) (b.0.0 + 1)))
-      (λ some_. sym (pair_is x w (open_index p number) (b.0.0 + 1) some_).1)
-      (λ none_. sym (pair_is x w (name_index p name) (b.0.0 + 1) (omega arith)).1))))
+      (λ same. for_number same (inl (
+        b.0,
+        is,
+        dite (dec_lt 0 (pair x w (open_index p number) (b.0.0 + 1)))
+            (λ some_. sym (pair_is x w (open_index p number) (b.0.0 + 1) some_).1)
+            (λ none_. sym (pair_is x w (name_index p name) (b.0.0 + 1) (omega arith)).1),
+      )))
       (λ ne. (
       let e3 = none_at (open_index p number) (b.0.0 + 1) ne in
       let q = pair_is x w (name_index p name) (b.0.0 + 1) (omega arith) in
