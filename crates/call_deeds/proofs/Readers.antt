@@ -42,7 +42,7 @@ module _ {O : Type 0} (g : Ghosts O) (state : O → OutState) (p : Plan) (operat
     pub chain : Chain g state p deeds (bare g state p v) (bare g state p w)
     pub did : DidRead operation early (map did_in deeds)
 
-  did_one : (d : Did) (v w : View) → DoneBy g state p d (bare g state p v) (bare g state p w) → Deed g state p
+  abbrev did_one : (d : Did) (v w : View) → DoneBy g state p d (bare g state p v) (bare g state p w) → Deed g state p
   did_one d v w b = record { did = d; before = bare g state p v; after = bare g state p w; done = b }
 
   set_deeds : (id : SocketId) (code : ℕ) (v u w : View) → NotedAs p operation (noted.Id id) v u → SetOnce id.0 code u w → IsReaderCode code → ReadDeeds true v w
