@@ -174,10 +174,10 @@ module _ {O : Type 0} {g : Ghosts O} {state : O → OutState} {p : Plan} {client
   pub client_there : (c : ℕ) (y : Seated g state p) → get_elem? run.seats c ≡ some y → get_elem? Seats c ≡ some y
   client_there c y at = append_first run.seats (map sits_of run.readers) c y at
 
-  of_client : Act → Sat
+  abbrev of_client : Act → Sat
   of_client a = record { c = a.c; y = a.y; at = client_there a.c a.y a.at; k = a.k; d = a.d; is = a.is }
 
-  of_reader : Read → Sat
+  abbrev of_reader : Read → Sat
   of_reader r = record { c = length run.seats + r.c; y = r.r.sits; at = append_later run.seats (map sits_of run.readers) r.c r.r.sits (map_there sits_of run.readers r.c r.r r.at); k = r.k; d = r.d; is = r.is }
 
   -- a seat is a client's or a reader's

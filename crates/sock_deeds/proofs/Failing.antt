@@ -1,5 +1,5 @@
 -- The list of `fail`s that failed a life, the links that failed or whose reading ended early, and why each failed life was failed.
-use Rattle.std.proofs.Common.{◌≡◌, ◌≢◌, ℕ, zero, suc, ◌+◌, ◌<◌, ◌≤◌, ◌⊎◌, inl, inr, Bool, true, if◌then◌else◌, List, [], ◌∷◌, flat_map, filter_map, slice_get, option_map, Option, Some, None, Contains, refl, sym, ap, ◌∙◌, subst, arith}
+use Rattle.std.proofs.Common.{◌≡◌, ◌≢◌, ℕ, zero, suc, ◌+◌, ◌<◌, ◌≤◌, ◌⊎◌, inl, inr, true, List, flat_map, filter_map, slice_get, option_map, Option, Some, None, Contains, refl, sym, ap, ◌∙◌, subst, arith}
 use Rattle.std.specs.List.{AllByRecursion}
 use Rattle.std.proofs.lemmas.Option.{none-some, same_Some, slice_get_within}
 use native.Mathlib.Decide.{dec_lt}
@@ -33,7 +33,7 @@ use Rattle.sock_deeds.proofs.Flats.{flat_there}
 use Rattle.sock_deeds.proofs.Lives.{MadeHere, linked_made, failer_life}
 use Rattle.sock_deeds.proofs.Noting.{noted_made}
 use Rattle.sock_deeds.proofs.Places.{to_slice}
-use Rattle.sock_deeds.proofs.Readers.{read_sets}
+use Rattle.sock_deeds.proofs.Readers.{read_sets, early_there}
 use Rattle.sock_deeds.proofs.Sources.{Source, by_open, by_fail, by_set, by_write, done_source}
 use Rattle.sock_deeds.proofs.Tasks.{is_for, same_task, one_outcome, task_does}
 
@@ -202,7 +202,7 @@ module _ {O : Type 0} {g : Ghosts O} {state : O → OutState} {p : Plan} {client
 
   is_early : (j : ℕ) (r : ReaderSeat g state p clients outcomes) → get_elem? run.readers j ≡ some r → r.early ≡ true → Contains early r.link
   is_early j r at e =
-      let w = flat_there early_of run.readers j r 0 r.link at (ap (λ (b : Bool). get_elem? (if b then r.link ∷ [] else []) 0) e) in
+      let w = flat_there early_of run.readers j r 0 r.link at (early_there r e) in
       contains_from early r.link (w.0, to_slice early w.0 r.link w.1)
 
   -- this `fail` failed the life, which has link k

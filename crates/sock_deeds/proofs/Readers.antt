@@ -1,5 +1,5 @@
 -- What a reader does at the table of sockets: all by ids, and it sets failed only what it found noted for the `open` of its link.
-use Rattle.std.proofs.Common.{◌≡◌, ℕ, zero, suc, Bool, true, List, [], ◌∷◌, map, Option, refl, sym, ap, ◌∙◌, subst}
+use Rattle.std.proofs.Common.{◌≡◌, ℕ, zero, suc, Bool, true, if◌then◌else◌, List, [], ◌∷◌, map, Option, refl, sym, ap, ◌∙◌, subst}
 use mathlib.Core.Option.{some, some-injective, some-ne-none}
 use lib.ListN.{get_elem?}
 use Rattle.sock_io.specs.declared.link.Out.{Ghosts}
@@ -11,7 +11,7 @@ use Rattle.sock_model.specs.Seats.{newcomer}
 use Rattle.seat_programs.specs.declared.task.Task.{Task}
 use Rattle.rpc_client.specs.sock_table.specs.declared.finding.Noted.TheVariants as noted
 use Rattle.sock_deeds.specs.Deeds.{Hand, Did, opens, sends, holds, drops, fails, waits, looks, takes, misses, sets, returns, DoneBy, Deed, Chain}
-use Rattle.sock_deeds.specs.Runs.{IsById, IsReaderCode, DidRead, had_none, left_it, missed_it, set_it, did_in, ReaderSeat}
+use Rattle.sock_deeds.specs.Runs.{IsById, IsReaderCode, DidRead, had_none, left_it, missed_it, set_it, did_in, ReaderSeat, early_of}
 use Rattle.sock_deeds.proofs.Places.{map_there}
 
 -- ## By ids
@@ -124,3 +124,7 @@ module _ {O : Type 0} {g : Ghosts O} {state : O → OutState} {p : Plan} {client
   -- it keeps nothing by a name
   pub read_held : r.sits.ended.held ≡ []
   read_held = ids_held g state p r.sits.deeds record { view = newcomer p [] r.sits.spare; held = [] } r.sits.ended r.sits.chain read_by_ids
+
+  -- its link is told, where its reading ended early
+  pub early_there : r.early ≡ true → get_elem? (early_of r) 0 ≡ some r.link
+  early_there e = ap (λ (b : Bool). get_elem? (if b then r.link ∷ [] else []) 0) e
