@@ -4,6 +4,7 @@ pub mod Links
 pub mod Ran
 pub mod Told
 pub mod Ends
+pub mod Readers
 pub mod Clients
 pub mod Runs
 pub mod Whole

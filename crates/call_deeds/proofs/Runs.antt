@@ -1,5 +1,5 @@
 -- A run of clients with calls as a run of deeds at the table of sockets.
-use Rattle.std.proofs.Common.{◌≡◌, ◌≢◌, ℕ, zero, suc, ◌+◌, ◌<◌, ◌==◌, ◌&&◌, ◌||◌, true, false, Bool, if◌then◌else◌, inl, inr, Option, Some, None, List, [], ◌∷◌, ◌++◌, length, map, flat_map, slice_get, eq-eqb, refl, sym, ap, ◌∙◌, subst, arith}
+use Rattle.std.proofs.Common.{◌≡◌, ◌≢◌, ℕ, zero, suc, ◌+◌, ◌<◌, ◌==◌, ◌&&◌, ◌||◌, true, false, Bool, if◌then◌else◌, inl, inr, Option, Some, None, List, [], ◌∷◌, ◌++◌, length, map, flat_map, slice_get, eq-eqb, append-nil, refl, sym, ap, ◌∙◌, subst, arith}
 use Rattle.std.proofs.lemmas.List.{length-map}
 use Rattle.std.proofs.lemmas.Option.{none-some, same_Some}
 use mathlib.Core.Logic.{dite}
@@ -34,7 +34,7 @@ use Rattle.call_places.specs.call_run.specs.declared.opened.Opening.{Opening}
 use Rattle.call_places.specs.call_run.specs.Ending.{EndedBehind}
 use Rattle.call_places.specs.call_run.specs.Threads.{ids_of, opens_of, is_opened, opened_in, opening_in, openings, name_if, opened_names, Thread, IsThread, AreThreads, MayRun, AllMayRun, MayRunAll, RanOn}
 use Rattle.call_places.specs.sock_deeds.specs.Deeds.{waits, own_number, Deed}
-use Rattle.call_places.specs.sock_deeds.specs.Runs.{IsOperation, IsFor, numbers_at, Seated, Ended, seat_of, DeedRun}
+use Rattle.call_places.specs.sock_deeds.specs.Runs.{IsOperation, IsFor, numbers_at, Seated, Ended, seat_of, ReaderSeat, all_seats, DeedRun}
 use Rattle.call_places.specs.sock_deeds.proofs.Flats.{append_later}
 use Rattle.call_places.specs.sock_deeds.proofs.Places.{to_slice, to_elem, map_there, map_back}
 use Rattle.call_deeds.specs.Scripts.{HaveLinks, AllHaveLinks, Reports, AllLater}
@@ -244,9 +244,15 @@ module _ {O : Type 0} {g : Ghosts O} {state : O → OutState} {p : Plan} {slots 
   pub seats_are : map seat_of seats ≡ map (λ (x : Thread g). x.ended.seat) threads
   seats_are i = main_seated.1 i ∷ others_dealt.seats_are i
 
+  -- no link is read beside them
+  abbrev pub none_read : List (ReaderSeat g state p all outcomes)
+  none_read = []
+
   -- and the one that ended the sockets behind them
-  pub ended_all : (e : Ended g state p (map seat_of seats)) × (e.seat ∷ [] ≡ run.seats)
-  ended_all = ended_behind g state p opens_ (map seat_of seats) run.seats (subst (λ (l : List (Seat (SockHome O g) View)). EndedBehind p opens_ l run.seats) (sym seats_are) run.ran.ending)
+  pub ended_all : (e : Ended g state p (map seat_of (all_seats seats none_read))) × (e.seat ∷ [] ≡ run.seats)
+  ended_all =
+      let are = ap (map seat_of) (append-nil seats) ∙ seats_are in
+      ended_behind g state p opens_ (map seat_of (all_seats seats none_read)) run.seats (subst (λ (l : List (Seat (SockHome O g) View)). EndedBehind p opens_ l run.seats) (sym are) run.ran.ending)
 
   -- ## What its deeds are done for
 
@@ -293,6 +299,7 @@ module _ {O : Type 0} {g : Ghosts O} {state : O → OutState} {p : Plan} {slots 
     tasks = tasks;
     long = long;
     seats = seats;
+    readers = none_read;
     ending = ended_all.0;
     left = run.seats;
     left_is = ended_all.1;

@@ -30,9 +30,9 @@ nothing_there x h = has_none x (has_from [] x h)
 
 module _ (bytes : List ℕ) (script : List Item) (reads : script_of bytes ≡ Ok script) (callless : is_callless script ≡ true) (outcomes : List (Option Outcome)) (places : List PlaceWord) (broken : List ℕ) (fails : List (ℕ × ℕ)) (gave : ℕ → List ℕ) (orders : ℕ → Order) (core : Core)
     (long : length outcomes ≡ length (operations script)) (words : place_words (plan_of script) core.words ≡ places) (each : HasEachOutcome places outcomes)
-    (tells : ToldSockets (plan_of script) (all_tasks script) outcomes (fixed_by broken fails) gave orders core) where
+    (tells : ToldSockets (plan_of script) (all_tasks script) outcomes (fixed_by broken [] fails) gave orders core) where
   abbrev fixed : Fixed
-  fixed = fixed_by broken fails
+  fixed = fixed_by broken [] fails
 
   told_of_sockets : ToldCalls (plan_of script) (all_tasks script) outcomes fixed gave orders (core_with core outcomes)
   told_of_sockets = told_callless script callless outcomes fixed gave orders core tells long (subst (λ (l : List PlaceWord). HasEachOutcome l outcomes) (sym words) each)
@@ -77,7 +77,7 @@ gave_nothing (Some bytes) = refl
 
 -- so it does over links that nobody read: what became of the operations doesn't turn on what the links gave
 module _ (bytes : List ℕ) (script : List Item) (reads : script_of bytes ≡ Ok script) (callless : is_callless script ≡ true) (outcomes : List (Option Outcome)) (places : List PlaceWord) (broken : List ℕ) (fails : List (ℕ × ℕ)) (gave : ℕ → List ℕ) (orders : ℕ → Order) (core : Core) where
-  unread_end : (k : ℕ) (e : LinkEnd) → IsEndOf (plan_of script) core (fixed_by broken fails) gave k e → IsEndOf (plan_of script) core (fixed_by broken fails) gave_none k (unread e)
+  unread_end : (k : ℕ) (e : LinkEnd) → IsEndOf (plan_of script) core (fixed_by broken [] fails) gave k e → IsEndOf (plan_of script) core (fixed_by broken [] fails) gave_none k (unread e)
   unread_end k e h = record {
     numbered = h.numbered;
     took = h.took;
@@ -88,17 +88,17 @@ module _ (bytes : List ℕ) (script : List Item) (reads : script_of bytes ≡ Ok
     closed = λ there. absurd (nothing_there k there);
   }
 
-  unread_ends : (ends : List LinkEnd) → AreEndsOf script core (fixed_by broken fails) gave ends → AreEndsOf script core (fixed_by broken fails) gave_none (map unread ends)
+  unread_ends : (ends : List LinkEnd) → AreEndsOf script core (fixed_by broken [] fails) gave ends → AreEndsOf script core (fixed_by broken [] fails) gave_none (map unread ends)
   unread_ends ends h = record {
     as_many = map_length unread ends ∙ h.as_many;
-    each = λ k e at. (let w = at_map unread ends k e at in subst (IsEndOf (plan_of script) core (fixed_by broken fails) gave_none k) w.2 (unread_end k w.0 (h.each k w.0 w.1)));
+    each = λ k e at. (let w = at_map unread ends k e at in subst (IsEndOf (plan_of script) core (fixed_by broken [] fails) gave_none k) w.2 (unread_end k w.0 (h.each k w.0 w.1)));
   }
 
   unread_told : (ends : List LinkEnd) (took : List (List ℕ)) → AreTold ends took → AreTold (map unread ends) took
   unread_told ends took h k e at = let w = at_map unread ends k e at in subst (λ (x : LinkEnd). IfSome x.took (λ bytes. took_at took k ≡ bytes)) w.2 (h k w.0 w.1)
 
-  pub text_is_whole_unread : length outcomes ≡ length (operations script) → place_words (plan_of script) core.words ≡ places → HasEachOutcome places outcomes → ToldSockets (plan_of script) (all_tasks script) outcomes (fixed_by broken fails) gave orders core →
-      (text : List ℕ) (took : List (List ℕ)) (ends : List LinkEnd) → IsReportText script outcomes places took text → AreTold ends took → AreEndsOf script core (fixed_by broken fails) gave ends → IsWholeText script text gave_none (map unread ends)
+  pub text_is_whole_unread : length outcomes ≡ length (operations script) → place_words (plan_of script) core.words ≡ places → HasEachOutcome places outcomes → ToldSockets (plan_of script) (all_tasks script) outcomes (fixed_by broken [] fails) gave orders core →
+      (text : List ℕ) (took : List (List ℕ)) (ends : List LinkEnd) → IsReportText script outcomes places took text → AreTold ends took → AreEndsOf script core (fixed_by broken [] fails) gave ends → IsWholeText script text gave_none (map unread ends)
   text_is_whole_unread long words each tells text took ends reported told given =
-      text_is_whole bytes script reads callless outcomes places broken fails gave_none orders core long words each (told_still (plan_of script) (all_tasks script) outcomes (fixed_by broken fails) gave gave_none orders core tells)
+      text_is_whole bytes script reads callless outcomes places broken fails gave_none orders core long words each (told_still (plan_of script) (all_tasks script) outcomes (fixed_by broken [] fails) gave gave_none orders core tells)
       text took (map unread ends) reported (unread_told ends took told) (unread_ends ends given)

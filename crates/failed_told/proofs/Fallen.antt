@@ -52,7 +52,7 @@ use Rattle.expire_told.specs.sock_deeds.specs.Deeds as socks
 use Rattle.expire_told.specs.sock_deeds.specs.Runs.{IsOperation, Seated, seat_of, DeedRun}
 use Rattle.expire_told.specs.sock_deeds.proofs.Accepting.{log}
 use Rattle.expire_told.specs.sock_deeds.proofs.Acts.{Act, after, has_marks, has_seen}
-use Rattle.expire_told.specs.sock_deeds.proofs.Failing.{WhyFailed, by_name, by_link, life_failed}
+use Rattle.expire_told.specs.sock_deeds.proofs.Failing.{WhyFailed, by_name, by_link, by_reader, life_failed}
 use Rattle.expire_told.specs.sock_deeds.proofs.Lives.{MadeHere, found_made}
 use Rattle.expire_told.specs.sock_deeds.proofs.Orders.{orders, entry_on}
 use Rattle.expire_told.specs.sock_deeds.proofs.Tasks.{fits}
@@ -196,13 +196,14 @@ module _ {O : Type 0} {g : Ghosts O} {state : O → OutState} {p : Plan} {slots 
               n.1 w.3 w.0 (ap (λ l. get_elem? l w.3) (sym logged) ∙ w.4) (omega (arith, operation, number))),
         )
 
-    -- the life was failed by a `fail`, or by its link
+    -- the life was failed by a `fail`, by its link, or by the reader of its link
     is_failing : (n : ℕ) (l : LifeFailed drun n) → IsFailing p every outcomes fixed_here gave (orders drun differ) l.link
     is_failing n l = by l.why
       where
         by : WhyFailed drun l.slot l.version l.link → IsFailing p every outcomes fixed_here gave (orders drun differ) l.link
         by (by_name f) = inl (f.life.number, f.listed, tt)
         by (by_link b) = inr (inl b)
+        by (by_reader e) = inr (inr (inl e))
 
     -- why the call failed: one of the causes that are told of failed calls; or its name had no socket
     pub data Fallen (client o : ℕ) (asked : Asked) (id n : ℕ) : Type 0 where

@@ -1,5 +1,5 @@
 -- How many attempts the calls of a run of a script made, and whose the messages are that its links accepted.
-use Rattle.std.proofs.Common.{◌≡◌, ℕ, ◌+◌, ◌*◌, ◌<◌, ◌≤◌, List, ◌∷◌, length, map, slice_get, Option, Some, None, Ok, refl, sym, ap, ◌∙◌, subst, arith}
+use Rattle.std.proofs.Common.{◌≡◌, ℕ, ◌+◌, ◌*◌, ◌<◌, ◌≤◌, List, [], ◌∷◌, length, map, slice_get, Option, Some, None, Ok, refl, sym, ap, ◌∙◌, subst, arith}
 use Rattle.std.specs.List.{AllByRecursion}
 use Rattle.std.proofs.lemmas.Option.{slice_get_within}
 use mathlib.Core.Logic.{dite}
@@ -173,11 +173,11 @@ module _ {O I P : Type 0} (g : Ghosts O) (out : O → OutState) (inn : I → InS
     abbrev t : AreSocketsTold script outcomes places gave links
     t = sockets_told g out inn bytes script reads told ended places seats left ends ends' last read halves kept gave links given givers
 
-    pub attempts_of : AreAttemptsTold p (all_tasks script) outcomes (fixed_by t.broken t.fails) gave t.orders
+    pub attempts_of : AreAttemptsTold p (all_tasks script) outcomes (fixed_by t.broken [] t.fails) gave t.orders
     attempts_of =
         let ids = are_ids g out inn bytes script reads told ended places seats left ends ends' last read in
-        let tells = subst (λ (l : List (List Task)). ToldSockets p l outcomes (fixed_by t.broken t.fails) gave t.orders t.core) (sym left.tasks) t.tells in
-        subst (λ (l : List (List Task)). AreAttemptsTold p l outcomes (fixed_by t.broken t.fails) gave t.orders) left.tasks
+        let tells = subst (λ (l : List (List Task)). ToldSockets p l outcomes (fixed_by t.broken [] t.fails) gave t.orders t.core) (sym left.tasks) t.tells in
+        subst (λ (l : List (List Task)). AreAttemptsTold p l outcomes (fixed_by t.broken [] t.fails) gave t.orders) left.tasks
         (attempts_told left.ran outcomes (may g out inn bytes script reads told ended places seats left ends ends' last read) notes read.last.view.kept read.words read.closing
-        (have g out inn bytes script reads told ended places seats left ends ends' last read) own later ids.made two ids.one (fixed_by t.broken t.fails) gave t.orders t.core tells
+        (have g out inn bytes script reads told ended places seats left ends ends' last read) own later ids.made two ids.one (fixed_by t.broken [] t.fails) gave t.orders t.core tells
         (sockets_logged g out inn bytes script reads told ended places seats left ends ends' last read halves kept gave links given givers) shown)

@@ -114,7 +114,7 @@ module _ {O I P : Type 0} (g : Ghosts O) (out : O → OutState) (inn : I → InS
   core = core_of p left.ran.closed.words (took run differ) outcomes
 
   abbrev fixed : Fixed
-  fixed = fixed_by (broken run) (all_fails run)
+  fixed = fixed_by (broken run) [] (all_fails run)
 
   tells : (gave : ℕ → List ℕ) → ToldSockets p all outcomes fixed gave (orders run differ) core
   tells gave = told_of_run left.ran outcomes (are g out inn bytes script reads told ended places seats left ends ends' last read) (may g out inn bytes script reads told ended places seats left ends ends' last read)

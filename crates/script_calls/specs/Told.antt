@@ -59,9 +59,9 @@ pub record AreSocketsTold (script : List Item) (outcomes : List (Option Outcome)
   pub fails : List (ℕ × ℕ)
   -- what each link accepted, and how many messages it took whole
   pub orders : ℕ → Order
-  pub tells : ToldSockets (plan_of script) (all_tasks script) outcomes (fixed_by broken fails) gave orders core
+  pub tells : ToldSockets (plan_of script) (all_tasks script) outcomes (fixed_by broken [] fails) gave orders core
   -- the links are those of this run: they took what is at home, and show where they failed
-  pub ends_told : AreEndsOf script core (fixed_by broken fails) gave ends
+  pub ends_told : AreEndsOf script core (fixed_by broken [] fails) gave ends
 
 -- Why each `expire` of these clients has its outcome, by what became of all others, and none ended a call twice; and each call has versions of its own
 pub record AreCallsTold (p : Plan) (clients : List (List Task)) (outcomes : List (Option Outcome)) (fixed : Fixed) (gave : ℕ → List ℕ) (orders : ℕ → Order) : Type 0 where
@@ -81,14 +81,14 @@ pub record IsCallText (script : List Item) (text : List ℕ) (ends : List LinkEn
   pub answered : AreAnsweredBy (operations script) outcomes ends
   -- each operation on sockets has its cause, and so has each `expire`; and the links took what the clients sent
   pub sockets : AreSocketsTold script outcomes places answered.gave ends
-  pub on_calls : AreCallsTold (plan_of script) (all_tasks script) outcomes (fixed_by sockets.broken sockets.fails) answered.gave sockets.orders
+  pub on_calls : AreCallsTold (plan_of script) (all_tasks script) outcomes (fixed_by sockets.broken [] sockets.fails) answered.gave sockets.orders
   -- no two operations have the end of one call as their outcome, of those whose ids are in the slots that the calls of the script have
   pub once : ShownOnce (length (calls script)) outcomes
   -- without calls the report fits, with nothing late, whatever the links gave: over the links as they are, and as if nobody had read them; so where no put
   -- failed, and nothing of the script can make a message fail, every send is placed
   pub whole : is_callless script ≡ true → IsWholeText script text answered.gave ends × IsWholeText script text gave_none (map unread ends)
   -- no call made more attempts than it may; and each message that a link accepted is that of a `send` of which nothing is said, or of an attempt of a call, with the id that the call's outcome shows
-  pub attempts : AreAttemptsTold (plan_of script) (all_tasks script) outcomes (fixed_by sockets.broken sockets.fails) answered.gave sockets.orders
+  pub attempts : AreAttemptsTold (plan_of script) (all_tasks script) outcomes (fixed_by sockets.broken [] sockets.fails) answered.gave sockets.orders
 
 -- the clients of the script left this: what they told of their own operations and of the calls that they ended, the place words, and their seats of the ids
 pub record IsLeft {O : Type 0} (g : Ghosts O) (out : O → OutState) (script : List Item) (told ended : List (List Told)) (places : List PlaceWord) (seats : List IdSeat) : Type 0 where

@@ -1,5 +1,5 @@
 -- Each message in the log is that of one deed: which deed sent it, and in which order.
-use Rattle.std.proofs.Common.{◌≡◌, ℕ, zero, suc, ◌+◌, ◌*◌, ◌<◌, List, [], ◌∷◌, ◌++◌, flat_map, map, Option, Some, None, refl, sym, ap, ◌∙◌, subst, arith}
+use Rattle.std.proofs.Common.{◌≡◌, inl, inr, ℕ, zero, suc, ◌+◌, ◌*◌, ◌<◌, List, [], ◌∷◌, ◌++◌, flat_map, map, Option, Some, None, refl, sym, ap, ◌∙◌, subst, arith}
 use mathlib.Core.Option.{some, some-injective, some-ne-none}
 use lib.ListN.{get_elem?}
 use Rattle.atomic_table.specs.declared.shared.Seat.{Seat}
@@ -18,11 +18,12 @@ use Rattle.seat_programs.specs.declared.task.Task.{Task}
 use Rattle.rpc_client.specs.sock_rule.specs.declared.homes.Letter.{Letter}
 use Rattle.rpc_client.specs.sock_rule.specs.declared.homes.SockHome.{SockHome}
 use Rattle.sock_deeds.specs.Deeds.{sends, own_number}
-use Rattle.sock_deeds.specs.Runs.{IsMessage, of_send, of_call, IsFor, Seated, seat_of, DeedRun}
-use Rattle.sock_deeds.proofs.Acts.{Act, final_of, all_lists, did_of, done_of}
+use Rattle.sock_deeds.specs.Runs.{IsMessage, of_send, of_call, IsFor, IsById, Seated, seat_of, ReaderSeat, DeedRun}
+use Rattle.sock_deeds.proofs.Acts.{Act, Seats, final_of, all_lists, client_there, seat_cases, did_of, done_of}
 use Rattle.sock_deeds.proofs.Entries.{before, pick_at, before_rises, from_pick}
 use Rattle.sock_deeds.proofs.Flats.{flat_from, flat_there, flat_rises}
 use Rattle.sock_deeds.proofs.Owning.{IsSent, entries_of, entry_source, entry_there, entries_small, own_list}
+use Rattle.sock_deeds.proofs.Readers.{read_by_ids}
 use Rattle.sock_deeds.proofs.Tasks.{is_for, rises}
 
 -- lists of one list each
@@ -55,9 +56,9 @@ module _ {O : Type 0} {g : Ghosts O} {state : O → OutState} {p : Plan} {client
   abbrev pub own : Seated g state p → List Entry
   own y = flat_map entries_of y.deeds
 
-  lists_same : map own run.seats ≡ map (λ a. pick a run.closed.ordered.by log) run.closed.ordered.names
-  lists_same = sym (flat_ones (λ (y : Seated g state p). (final_of y).lists) own run.seats (λ c y at. own_list y))
-      ∙ (sym (flat_mapped (λ (s : Seat (SockHome O g) View). s.me.0.lists) seat_of run.seats) ∙ (sym (all_lists run) ∙ run.closed.ordered.lists_are))
+  lists_same : map own (Seats run) ≡ map (λ a. pick a run.closed.ordered.by log) run.closed.ordered.names
+  lists_same = sym (flat_ones (λ (y : Seated g state p). (final_of y).lists) own (Seats run) (λ c y at. own_list y))
+      ∙ (sym (flat_mapped (λ (s : Seat (SockHome O g) View). s.me.0.lists) seat_of (Seats run)) ∙ (sym (all_lists run) ∙ run.closed.ordered.lists_are))
 
   -- ## Whose an entry is
 
@@ -72,6 +73,18 @@ module _ {O : Type 0} {g : Ghosts O} {state : O → OutState} {p : Plan} {client
     pub own_list : own y ≡ pick author run.closed.ordered.by log
     pub place : get_elem? (own y) (before author run.closed.ordered.by q) ≡ some e
 
+  -- a reader has none accepted
+  pub read_none : (r : ReaderSeat g state p clients outcomes) (m : ℕ) (e : Entry) → get_elem? (own r.sits) m ≡ some e → ⊥
+  read_none r m e at =
+      let w = flat_from entries_of r.sits.deeds m e at in
+      subst IsById (entry_source g state p w.1.did w.1.before w.1.after w.1.done w.3 e w.4).did_is (read_by_ids r w.0 w.1 w.2)
+
+  client_has : (c : ℕ) (y : Seated g state p) → get_elem? (Seats run) c ≡ some y → (m : ℕ) (e : Entry) → get_elem? (own y) m ≡ some e → get_elem? run.seats c ≡ some y
+  client_has c y at m e there = elim (seat_cases run c y at) [
+    | inl h ↦ h
+    | inr w ↦ absurd (read_none w.1 m e (ap (λ (z : Seated g state p). get_elem? (own z) m) w.3 ∙ there))
+  ]
+
   pub sender : (q : ℕ) (e : Entry) → get_elem? log q ≡ some e → Sender q e
   sender q e there =
       let by = run.closed.ordered.by in
@@ -79,15 +92,16 @@ module _ {O : Type 0} {g : Ghosts O} {state : O → OutState} {p : Plan} {client
       let long = run.closed.ordered.long in
       let au = at_some by q (omega arith) in
       let n = run.closed.ordered.named q au.0 au.1 in
-      let w = both_at (λ a. pick a by log) own run.closed.ordered.names run.seats n.0 au.0 (sym lists_same) n.1 in record {
+      let w = both_at (λ a. pick a by log) own run.closed.ordered.names (Seats run) n.0 au.0 (sym lists_same) n.1 in
+      let place : get_elem? (own w.0) (before au.0 by q) ≡ some e = ap (λ l. get_elem? l (before au.0 by q)) (sym w.2) ∙ pick_at au.0 by log q e au.1 there in record {
         author = au.0;
         by_author = au.1;
         c = n.0;
         y = w.0;
-        at = w.1;
+        at = client_has n.0 w.0 w.1 (before au.0 by q) e place;
         name = n.1;
         own_list = sym w.2;
-        place = ap (λ l. get_elem? l (before au.0 by q)) (sym w.2) ∙ pick_at au.0 by log q e au.1 there;
+        place = place;
       }
 
   -- the deed that sent an entry
@@ -119,7 +133,7 @@ module _ {O : Type 0} {g : Ghosts O} {state : O → OutState} {p : Plan} {client
       let by = run.closed.ordered.by in
       let w = entry_there g state p name number attempt msg (did_of run a) a.d.before a.d.after (done_of run a) is in
       let at = flat_there entries_of a.y.deeds a.k a.d 0 w.0 a.is w.1 in
-      let n = both_at own (λ x. pick x by log) run.seats run.closed.ordered.names a.c a.y lists_same a.at in
+      let n = both_at own (λ x. pick x by log) (Seats run) run.closed.ordered.names a.c a.y lists_same (client_there run a.c a.y a.at) in
       let q = from_pick n.0 by log at.0 w.0 (ap (λ l. get_elem? l at.0) (sym n.2) ∙ at.1) in
       (q.0, w.0, q.2, sent_by a 0 w.0 w.1)
 

@@ -39,7 +39,7 @@ looked_kept p number noteds.Nothing v w b = (ap (λ (y : View). y.lists) b.view,
 looked_kept p number (noteds.Id id) v w b = (ap (λ (y : View). y.lists) b.1.view, ap (λ (y : View). y.stores) b.1.view)
 
 module _ {O : Type 0} (g : Ghosts O) (state : O → OutState) (p : Plan) where
-  id_kept : (d : Did) (s t : Hand) → IsById d → DoneBy g state p d s t → Keeps s.view t.view
+  pub id_kept : (d : Did) (s t : Hand) → IsById d → DoneBy g state p d s t → Keeps s.view t.view
   id_kept (looks number n) s t is b = looked_kept p number n s.view t.view b.0
   id_kept (takes id) s t is b = others_kept s.view t.view b.1.others
   id_kept (misses id found) s t is b = others_kept s.view t.view b.0.became.others
@@ -62,7 +62,7 @@ module _ {O : Type 0} (g : Ghosts O) (state : O → OutState) (p : Plan) where
 
   -- ## Lives
 
-  no_faults : (d : Did) (s t : Hand) (b : DoneBy g state p d s t) → IsById d → faults_by g state p d s t b ≡ []
+  pub no_faults : (d : Did) (s t : Hand) (b : DoneBy g state p d s t) → IsById d → faults_by g state p d s t b ≡ []
   no_faults (looks number n) s t b is = refl
   no_faults (takes id) s t b is = refl
   no_faults (misses id found) s t b is = refl

@@ -1,9 +1,9 @@
--- The list of `fail`s that failed a life, the links that failed, and why each failed life was failed.
-use Rattle.std.proofs.Common.{◌≡◌, ◌≢◌, ℕ, zero, suc, ◌+◌, ◌<◌, ◌≤◌, ◌⊎◌, inl, inr, List, flat_map, filter_map, slice_get, option_map, Option, Some, None, Contains, refl, sym, ap, ◌∙◌, subst, arith}
+-- The list of `fail`s that failed a life, the links that failed or whose reading ended early, and why each failed life was failed.
+use Rattle.std.proofs.Common.{◌≡◌, ◌≢◌, ℕ, zero, suc, ◌+◌, ◌<◌, ◌≤◌, ◌⊎◌, inl, inr, true, List, flat_map, filter_map, slice_get, option_map, Option, Some, None, Contains, refl, sym, ap, ◌∙◌, subst, arith}
 use Rattle.std.specs.List.{AllByRecursion}
 use Rattle.std.proofs.lemmas.Option.{none-some, same_Some, slice_get_within}
 use native.Mathlib.Decide.{dec_lt}
-use mathlib.Core.Option.{some}
+use mathlib.Core.Option.{some, some-ne-none}
 use lib.ListN.{get_elem?}
 use Rattle.brpc_model.specs.Order.{EachBefore}
 use Rattle.sock_io.specs.declared.link.Out.{Ghosts}
@@ -25,13 +25,15 @@ use Rattle.seat_programs.specs.Told.{Became, IsFail}
 use Rattle.report_fits.proofs.Lists.{Has, contains_from, all_from, has_filter_map, filter_map_has, before_filter_map, before_from}
 use Rattle.sock_deeds.specs.Deeds.{fails, own_number}
 use Rattle.sock_deeds.specs.Broken.{faults_of}
-use Rattle.sock_deeds.specs.Runs.{IsOperation, IsFor, Seated, DeedRun}
-use Rattle.sock_deeds.proofs.Acts.{Act, All, after, did_of, done_of, has_marks, Late, noted_before, marks_from}
-use Rattle.sock_deeds.proofs.Ending.{SetNow}
-use Rattle.sock_deeds.proofs.Fails.{FailedLife, number_of_fail, failed_life, life_by, fail_for, as_fail, fails_once, same_link, life_is}
+use Rattle.sock_deeds.specs.Runs.{IsOperation, IsFor, IsById, Seated, ReaderSeat, early_of, DeedRun}
+use Rattle.sock_deeds.proofs.Acts.{Act, Read, All, after, did_of, done_of, has_marks, Late, noted_before, read_is_by_id, marks_from}
+use Rattle.sock_deeds.proofs.Ending.{no_faults, SetNow}
+use Rattle.sock_deeds.proofs.Fails.{FailedLife, number_of_fail, failed_life, life_by, fail_for, as_fail, fails_once, same_link, life_is, made_born}
 use Rattle.sock_deeds.proofs.Flats.{flat_there}
 use Rattle.sock_deeds.proofs.Lives.{MadeHere, linked_made, failer_life}
+use Rattle.sock_deeds.proofs.Noting.{noted_made}
 use Rattle.sock_deeds.proofs.Places.{to_slice}
+use Rattle.sock_deeds.proofs.Readers.{read_sets, early_there}
 use Rattle.sock_deeds.proofs.Sources.{Source, by_open, by_fail, by_set, by_write, done_source}
 use Rattle.sock_deeds.proofs.Tasks.{is_for, same_task, one_outcome, task_does}
 
@@ -194,6 +196,15 @@ module _ {O : Type 0} {g : Ghosts O} {state : O → OutState} {p : Plan} {client
       let two = flat_there (λ (y : Seated g state p). flat_map faults_of y.deeds) run.seats a.c a.y one.0 k a.at one.1 in
       contains_from broken k (two.0, to_slice broken two.0 k two.1)
 
+  -- the links of the readers whose reading ended early
+  abbrev pub early : List ℕ
+  early = flat_map early_of run.readers
+
+  is_early : (j : ℕ) (r : ReaderSeat g state p clients outcomes) → get_elem? run.readers j ≡ some r → r.early ≡ true → Contains early r.link
+  is_early j r at e =
+      let w = flat_there early_of run.readers j r 0 r.link at (early_there r e) in
+      contains_from early r.link (w.0, to_slice early w.0 r.link w.1)
+
   -- this `fail` failed the life, which has link k
   pub record FailedBy (i h k : ℕ) : Type 0 where
     pub a : Act run
@@ -202,10 +213,11 @@ module _ {O : Type 0} {g : Ghosts O} {state : O → OutState} {p : Plan} {client
     pub version : socket_id_version life.tried.sock.id.0 ≡ h
     pub listed : Contains all_fails (life.number, k)
 
-  -- or its link failed
+  -- or its link failed, or the link's reader did since its reading ended early
   pub data WhyFailed (i h k : ℕ) : Type 0 where
     by_name : FailedBy i h k → WhyFailed i h k
     by_link : Contains broken k → WhyFailed i h k
+    by_reader : Contains early k → WhyFailed i h k
 
   -- or it was failed when the sockets were ended, and no client had seen a later version
   abbrev pub EndedAlive : ℕ → ℕ → Type 0
@@ -214,7 +226,10 @@ module _ {O : Type 0} {g : Ghosts O} {state : O → OutState} {p : Plan} {client
   pub life_failed : (n k i h : ℕ) → i < p.slots → MadeHere run n k i h → 0 < marks_of (is_failer h) i (All run) → WhyFailed i h k ⊎ EndedAlive i h
   life_failed n k i h low made some_ = elim (marks_from run (is_failer h) (failer_life h) i some_) [
     | inl w ↦ inl (by_source w.0 (done_source (is_failer h) (failer_life h) g state p (did_of run w.0) w.0.d.before w.0.d.after (done_of run w.0) i w.1))
-    | inr w ↦ inr (alive w.0 w.1)
+    | inr o ↦ elim o [
+      | inl w ↦ inl (by_reading w.0 (done_source (is_failer h) (failer_life h) g state p w.0.d.did w.0.d.before w.0.d.after w.0.d.done i w.1))
+      | inr w ↦ inr (alive w.0 w.1)
+    ]
   ]
     where
       alive : (l : Late run) → SetNow g state p (is_failer h) i l.d.before.view → EndedAlive i h
@@ -251,3 +266,19 @@ module _ {O : Type 0} {g : Ghosts O} {state : O → OutState} {p : Plan} {client
           let met : 0 < marks_of (is_met h f.link) i w = subst (λ x. 0 < marks_of (is_met h f.link) x w) f.slot (subst (λ x. 0 < marks_of (is_met x f.link) (socket_id_slot id) w) version f.link_met) in
           let more = grew.marks (is_met h f.link) (λ x. refl) i in
           by_link (is_broken a f.place k (listed ∙ ap some (met_link f.link a (omega arith))))
+
+      -- a reader sets failed what it found noted for the `open` of its link
+      by_reading : (r : Read run) → Source (is_failer h) (failer_life h) g state p i r.d.did r.d.before r.d.after r.d.done → WhyFailed i h k
+      by_reading r (by_open name number version link e weighs) = absurd (subst IsById e (read_is_by_id run r))
+      by_reading r (by_fail name number code e f) = absurd (subst IsById e (read_is_by_id run r))
+      by_reading r (by_set id code e slot weighs) =
+          let s = read_sets r.r r.k r.d id code outcome.Failed r.is e in
+          let version : socket_id_version id ≡ h = only_is h (socket_id_version id) weighs in
+          let slot_is : socket_id_slot s.sock.0 ≡ i = ap socket_id_slot s.same ∙ slot in
+          let version_is : socket_id_version s.sock.0 ≡ h = ap socket_id_version s.same ∙ version in
+          let even = (run.closed.closing.born_life i h low (made_born run n k i h made)).1 in
+          let w = noted_made run r.c r.r r.at s.sock s.first (λ none_. omega (arith, none_, version_is, even)) in
+          let its = at_life w.0 r.r.link (socket_id_slot s.sock.0) (socket_id_version s.sock.0) slot_is version_is w.1 in
+          by_reader (subst (Contains early) (life_is run w.0 n r.r.link k i h its made).1 (is_early r.c r.r r.at s.is_early))
+      by_reading r (by_write id v w all grew f listed) =
+          absurd (some-ne-none f.link (sym (ap (λ l. get_elem? l f.place) (sym (no_faults g state p r.d.did r.d.before r.d.after r.d.done (read_is_by_id run r))) ∙ listed)))

@@ -5,6 +5,7 @@ pub mod Words
 pub mod Chains
 pub mod Flats
 pub mod Ending
+pub mod Readers
 pub mod Acts
 pub mod Numbered
 pub mod Tasks
@@ -13,6 +14,7 @@ pub mod Steps
 pub mod Places
 pub mod Waiting
 pub mod Fails
+pub mod Noting
 pub mod Failing
 pub mod Breaking
 pub mod Owning

@@ -102,7 +102,7 @@ module _ {O : Type 0} {g : Ghosts O} {state : O → OutState} {p : Plan} {client
         dead = omega arith;
       }
 
-  -- so the link's life was failed by a `fail`, or by a fault of the link
+  -- so the link's life was failed by a `fail`, by a fault of the link, or by its reader
   pub record LostBy (k : ℕ) : Type 0 where
     pub slot : ℕ
     pub version : ℕ

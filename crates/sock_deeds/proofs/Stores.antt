@@ -1,7 +1,7 @@
 -- Which deeds store a word, at a name or at a place index.
 use Rattle.std.proofs.Common.{◌≡◌, ◌≢◌, ◌⊎◌, ℕ, ◌+◌, ◌<◌, Option, Some, None, inl, inr, List, [], ◌∷◌, refl, sym, ap, ◌∙◌, arith}
 use mathlib.Core.Logic.{dite}
-use native.Mathlib.Decide.{ℕ_discrete}
+use native.Mathlib.Decide.{ℕ_discrete, dec_lt}
 use Rattle.atomic_table.specs.Table.{Me}
 use Rattle.sock_io.specs.declared.link.Out.{Ghosts}
 use Rattle.sock_io.specs.Link.{OutState}
@@ -66,9 +66,12 @@ module _ (p : Plan) (x w : ℕ) where
 
   -- ## Opening
 
-  -- an `open` stored what is noted for its number, or the id of its socket at its name
+  -- an `open` stored what is noted for its number: the id of its socket, or that it got none; or that id at its name
+  abbrev pub NotesOpen : ℕ → Outcome → Type 0
+  NotesOpen link by = ((id : SocketId) × (by ≡ outcome.Opened (socket_id_slot id.0) (socket_id_version id.0) link) × (w ≡ id.0 + 1)) ⊎ (w ≡ NOTHING)
+
   pub data Publishes (name number link : ℕ) (by : Outcome) : Type 0 where
-    for_number : x ≡ open_index p number → Publishes name number link by
+    for_number : x ≡ open_index p number → NotesOpen link by → Publishes name number link by
     under_name : (id : SocketId) → by ≡ outcome.Opened (socket_id_slot id.0) (socket_id_version id.0) link → x ≡ name_index p name → w ≡ id.0 + 1 → Publishes name number link by
 
   opened_puts : {S : Type 0} (name number link : ℕ) (by : Outcome) (m m' : Me S View) → OpenedBy p name number link by m m' → puts m.0 < puts m'.0 → Publishes name number link by
@@ -77,18 +80,26 @@ module _ (p : Plan) (x w : ℕ) where
       let e1 = o.created.stores x w in
       let e2 = put_is x w (open_index p number) (b.0.0 + 1) o.made o.told o.noted in
       let e4 = put_is x w (name_index p name) (b.0.0 + 1) o.told m' o.published in
+      let is : outcome.Opened slot version k ≡ outcome.Opened (socket_id_slot b.0.0) (socket_id_version b.0.0) link = λ i. outcome.Opened (b.1 i) (b.2 i) (b.3 i) in
       dite (ℕ_discrete x (open_index p number))
-      (λ same. for_number same)
+      (λ same. for_number same (inl (
+        b.0,
+        is,
+        dite (dec_lt 0 (pair x w (open_index p number) (b.0.0 + 1)))
+            (λ some_. sym (pair_is x w (open_index p number) (b.0.0 + 1) some_).1)
+            (λ none_. sym (pair_is x w (name_index p name) (b.0.0 + 1) (omega arith)).1),
+      )))
       (λ ne. (
       let e3 = none_at (open_index p number) (b.0.0 + 1) ne in
       let q = pair_is x w (name_index p name) (b.0.0 + 1) (omega arith) in
-      under_name b.0 (λ i. outcome.Opened (b.1 i) (b.2 i) (b.3 i)) (sym q.0) (sym q.1)))
+      under_name b.0 is (sym q.0) (sym q.1)))
   opened_puts name number link outcome.SlotsFull m m' b less =
       let n = b.none_ in
       let e1 = ap puts b.each.others in
       let e2 = put_is x w (open_index p number) NOTHING n.finished m' n.noted in
       let e3 = n.same.stores x w in
-      for_number (sym (pair_is x w (open_index p number) NOTHING (omega arith)).0)
+      let q = pair_is x w (open_index p number) NOTHING (omega arith) in
+      for_number (sym q.0) (inr (sym q.1))
   opened_puts name number link _ m m' b less = elim b [ ]
 
   -- ## Messages
@@ -193,12 +204,38 @@ module _ (p : Plan) (n w : ℕ) (low : n < p.names) where
     where
       by_name : (name number link : ℕ) (by : Outcome) → d ≡ opens name number link by → Publishes p (name_index p n) w name number link by → Opens d
       -- a name's word isn't one of an operation or of a place
-      by_name name number link by is (for_number e) = absurd (omega arith)
+      by_name name number link by is (for_number e said) = absurd (omega arith)
       by_name name number link by is (under_name id by_is e word) = let same : name ≡ n = omega arith in record { number = number; link = link; id = id; did_is = is ∙ (λ i. opens (same i) number link (by_is i)); word = word }
 
       by_storing : Storing p (name_index p n) w state d s t → Opens d
       by_storing (by_open name number link by is u) = by_name name number link by is u
       by_storing (by_drop name number attempt msg is o dropped) = absurd (let e = dropped.at_place in omega arith)
+
+-- ## At an operation
+
+module _ (p : Plan) (o w : ℕ) (low : o < p.operations) where
+  -- whoever stored an id for the operation of this number opened a socket by it, the one of that id
+  pub record OpensBy (d : Did) : Type 0 where
+    pub name : ℕ
+    pub link : ℕ
+    pub id : SocketId
+    pub did_is : d ≡ opens name o link (outcome.Opened (socket_id_slot id.0) (socket_id_version id.0) link)
+    pub word : w ≡ id.0 + 1
+
+  pub done_notes : {O : Type 0} (g : Ghosts O) (state : O → OutState) (d : Did) (s t : Hand) → DoneBy g state p d s t → ((name number link : ℕ) (by : Outcome) → d ≡ opens name number link by → name < p.names) → w ≢ NOTHING → put_in (open_index p o) w s.view < put_in (open_index p o) w t.view → OpensBy d
+  done_notes g state d s t b named some_ less = by_storing (done_stores p (open_index p o) w g state d s t b less)
+    where
+      by_open_of : (name number link : ℕ) (by : Outcome) → d ≡ opens name number link by → name < p.names → Publishes p (open_index p o) w name number link by → OpensBy d
+      by_open_of name number link by is low_name (for_number e (inl said)) =
+          let same : number ≡ o = omega arith in
+          record { name = name; link = link; id = said.0; did_is = is ∙ (λ i. opens name (same i) link (said.1 i)); word = said.2 }
+      by_open_of name number link by is low_name (for_number e (inr none_)) = absurd (some_ none_)
+      -- an operation's word isn't one of a name or of a place
+      by_open_of name number link by is low_name (under_name id by_is e word) = absurd (omega arith)
+
+      by_storing : Storing p (open_index p o) w state d s t → OpensBy d
+      by_storing (by_open name number link by is u) = by_open_of name number link by is (named name number link by is) u
+      by_storing (by_drop name number attempt msg is over dropped) = absurd (let e = dropped.at_place in omega arith)
 
 -- ## At a place index
 
@@ -214,7 +251,7 @@ module _ (p : Plan) (l w : ℕ) {O : Type 0} (g : Ghosts O) (state : O → OutSt
   done_drops d s t b fits less = by_storing (done_stores p (place_index p l) w g state d s t b less)
     where
       no_open : (name number link : ℕ) (by : Outcome) → (name < p.names) × (number < p.operations) → Publishes p (place_index p l) w name number link by → ⊥
-      no_open name number link by low (for_number e) = let a = low.1 in omega arith
+      no_open name number link by low (for_number e said) = let a = low.1 in omega arith
       no_open name number link by low (under_name id by_is e word) = let a = low.0 in omega arith
 
       by_storing : Storing p (place_index p l) w state d s t → DropsThere s t

@@ -39,7 +39,7 @@ use Rattle.sock_deeds.proofs.Acts.{Act, before, after, did_of, done_of}
 use Rattle.sock_deeds.proofs.Causes.{FailsNone, FoundDead, gone_cause, refused_cause, already_cause, has_life, opened_cause}
 use Rattle.sock_deeds.proofs.Drops.{WhyDrop, drop_cause}
 use Rattle.sock_deeds.proofs.Fails.{fail_for}
-use Rattle.sock_deeds.proofs.Failing.{FailedBy, WhyFailed, by_name, by_link, all_fails, each_failed, broken, are, once}
+use Rattle.sock_deeds.proofs.Failing.{FailedBy, WhyFailed, by_name, by_link, by_reader, early, all_fails, each_failed, broken, are, once}
 use Rattle.sock_deeds.proofs.Growing.{stays, over_grew}
 use Rattle.sock_deeds.proofs.Losses.{lost_by}
 use Rattle.sock_deeds.proofs.Lives.{lives}
@@ -87,7 +87,7 @@ sizes_all n (e ∷ es) below = omega (arith, sizes_in 0 n e es (omega arith) (om
 
 module _ {O : Type 0} {g : Ghosts O} {state : O → OutState} {p : Plan} {clients : List (List Task)} {outcomes : List (Option Outcome)} {places : List PlaceWord} {vrefs : List Vref} {outs : List O} (run : DeedRun g state p clients outcomes places vrefs outs) (differ : PlacesDiffer (log run)) (gave : ℕ → List ℕ) where
   abbrev pub fixed : Fixed
-  fixed = fixed_by (broken run) (all_fails run)
+  fixed = fixed_by (broken run) (early run) (all_fails run)
 
   -- ## Lives that were failed
 
@@ -98,10 +98,12 @@ module _ {O : Type 0} {g : Ghosts O} {state : O → OutState} {p : Plan} {client
       may : WhyFailed run d.slot d.version d.link → ((f : FailedBy run d.slot d.version d.link) → f.a.c ≡ b.c → f.life.number < m) → MayFail p clients outcomes fixed gave (orders run differ) b.c m d.link
       may (by_name f) no_later = inl (f.life.number, f.listed, λ t is e. no_later f (same_task run f.a.c b.c record { number = f.life.number; op = ops.Fail f.life.name f.life.code } t (fail_for run f.a f.life).0 is (sym e)).0)
       may (by_link x) no_later = inr (inl x)
+      may (by_reader x) no_later = inr (inr (inl x))
 
   failing_by : (k i h : ℕ) → WhyFailed run i h k → IsFailing p clients outcomes fixed gave (orders run differ) k
   failing_by k i h (by_name f) = inl (f.life.number, f.listed, tt)
   failing_by k i h (by_link b) = inr (inl b)
+  failing_by k i h (by_reader e) = inr (inr (inl e))
 
   dropped : p.operations ≤ 65536 → (k : ℕ) → k < p.links → ((orders run differ) k).placed < length ((orders run differ) k).accepted → IsFailing p clients outcomes fixed gave (orders run differ) k
   dropped few k low less =

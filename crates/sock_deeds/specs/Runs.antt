@@ -1,15 +1,17 @@
 -- A run as the table of sockets sees it: what each seat did, for which tasks of the clients, and the table that was closed behind them.
-use Rattle.std.specs.Prelude.{◌≡◌, ℕ, ◌+◌, ◌*◌, ◌<◌, ◌≤◌, List, [], ◌∷◌, length, map, flat_map, slice_get, Option, Some, None}
+use Rattle.std.specs.Prelude.{◌≡◌, ◌⊎◌, ℕ, ◌+◌, ◌*◌, ◌<◌, ◌≤◌, Bool, true, false, if◌then◌else◌, List, [], ◌∷◌, ◌++◌, length, map, flat_map, slice_get, Option, Some, None}
 use mathlib.Core.Option.{some}
 use lib.ListN.{get_elem?}
 use Rattle.atomic_table.specs.declared.shared.Seat.{Seat}
 use Rattle.rpc_client.specs.message_parts.specs.Parcels.{parcel_of}
 use Rattle.sock_io.specs.declared.link.Out.{Ghosts}
 use Rattle.sock_io.specs.Link.{OutState}
+use Rattle.sock_words.specs.Codes.{EEOF, ERESPONSE}
 use Rattle.sock_words.specs.declared.outcome.Outcome.{Outcome}
 use Rattle.sock_words.specs.declared.outcome.Outcome.TheVariants as outcome
 use Rattle.sock_words.specs.declared.plain.Plan.{Plan}
 use Rattle.sock_words.specs.declared.place_word.PlaceWord.{PlaceWord}
+use Rattle.sock_words.specs.declared.socket_id.SocketId.{SocketId}
 use Rattle.sock_words.specs.declared.vref.Vref.{Vref}
 use Rattle.sock_message.specs.Asked.{Asked, name_of, frame_of}
 use Rattle.sock_model.specs.declared.view.View.{View}
@@ -17,6 +19,7 @@ use Rattle.sock_model.specs.Seats.{newcomer}
 use Rattle.rpc_client.specs.sock_rule.specs.declared.homes.Letter.{Letter}
 use Rattle.rpc_client.specs.sock_rule.specs.declared.homes.SockHome.{SockHome}
 use Rattle.rpc_client.specs.sock_table.specs.Closed.{HasAll, ClosedBy}
+use Rattle.rpc_client.specs.sock_table.specs.declared.finding.Noted.TheVariants as noted
 use Rattle.seat_programs.specs.declared.task.Op.{Op}
 use Rattle.seat_programs.specs.declared.task.Op.TheVariants as ops
 use Rattle.seat_programs.specs.declared.task.Task.{Task}
@@ -99,6 +102,45 @@ pub record Ended {O : Type 0} (g : Ghosts O) (state : O → OutState) (p : Plan)
 abbrev pub seat_of : {O : Type 0} {g : Ghosts O} {state : O → OutState} {p : Plan} → Seated g state p → Seat (SockHome O g) View
 seat_of y = y.seat
 
+-- ## Readers
+
+-- the code with which a reader sets a socket failed: nothing more comes, or what came can't be read
+abbrev pub IsReaderCode : ℕ → Type 0
+IsReaderCode code = (code ≡ EEOF) ⊎ (code ≡ ERESPONSE)
+
+-- all that the reader of a link did, whose `open` has this number: it looked up what was noted for the `open`; and where a socket was noted and the reading of the link ended early, it set that socket's life failed by the id that it had found, with a reference that it gave back, unless the id was gone
+pub data DidRead (number : ℕ) (early : Bool) (dids : List Did) : Type 0 where
+  had_none : early ≡ false → dids ≡ looks number noted.Nothing ∷ [] → DidRead number early dids
+  left_it : (id : SocketId) → early ≡ false → dids ≡ looks number (noted.Id id) ∷ [] → DidRead number early dids
+  missed_it : (id : SocketId) (found : ℕ) → early ≡ true → dids ≡ looks number (noted.Id id) ∷ misses id.0 found ∷ [] → DidRead number early dids
+  set_it : (id : SocketId) (code : ℕ) (by : Outcome) → early ≡ true → IsReaderCode code → dids ≡ looks number (noted.Id id) ∷ takes id.0 ∷ sets id.0 code by ∷ returns id.0 ∷ [] → DidRead number early dids
+
+abbrev pub did_in : {O : Type 0} {g : Ghosts O} {state : O → OutState} {p : Plan} → Deed g state p → Did
+did_in d = d.did
+
+-- the reader of a link, for which an `open` of this number asks
+pub record ReaderSeat {O : Type 0} (g : Ghosts O) (state : O → OutState) (p : Plan) (clients : List (List Task)) (outcomes : List (Option Outcome)) : Type 0 where
+  pub sits : Seated g state p
+  pub link : ℕ
+  pub number : ℕ
+  pub client : ℕ
+  pub name : ℕ
+  pub asked : IsOperation clients outcomes client number (ops.Open name link)
+  -- whether its reading ended early
+  pub early : Bool
+  pub did : DidRead number early (map did_in sits.deeds)
+
+abbrev pub sits_of : {O : Type 0} {g : Ghosts O} {state : O → OutState} {p : Plan} {clients : List (List Task)} {outcomes : List (Option Outcome)} → ReaderSeat g state p clients outcomes → Seated g state p
+sits_of r = r.sits
+
+-- its link, where it did
+abbrev pub early_of : {O : Type 0} {g : Ghosts O} {state : O → OutState} {p : Plan} {clients : List (List Task)} {outcomes : List (Option Outcome)} → ReaderSeat g state p clients outcomes → List ℕ
+early_of r = if r.early then r.link ∷ [] else []
+
+-- the seats of the clients, and behind them those of the readers
+abbrev pub all_seats : {O : Type 0} {g : Ghosts O} {state : O → OutState} {p : Plan} {clients : List (List Task)} {outcomes : List (Option Outcome)} → List (Seated g state p) → List (ReaderSeat g state p clients outcomes) → List (Seated g state p)
+all_seats seats readers = seats ++ map sits_of readers
+
 -- ## The run
 
 -- seat c is that of client c; the setup is client 0
@@ -106,8 +148,10 @@ pub record DeedRun {O : Type 0} (g : Ghosts O) (state : O → OutState) (p : Pla
   pub tasks : AreTasks p clients
   pub long : length outcomes ≡ p.operations
   pub seats : List (Seated g state p)
+  -- links may have been read beside the clients, each by a seat of its own
+  pub readers : List (ReaderSeat g state p clients outcomes)
   -- behind all of them the sockets were ended, by one seat that took them in; and the table was closed with it alone
-  pub ending : Ended g state p (map seat_of seats)
+  pub ending : Ended g state p (map seat_of (all_seats seats readers))
   pub left : List (Seat (SockHome O g) View)
   pub left_is : ending.seat ∷ [] ≡ left
   pub closed : ClosedBy state p left places vrefs outs

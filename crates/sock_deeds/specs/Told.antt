@@ -13,9 +13,9 @@ use Rattle.seat_programs.specs.Cores.{Core}
 use Rattle.seat_programs.specs.Told.{IsTask, Became, Made, IsFail}
 use Rattle.seat_programs.specs.ToldCalls.{Accepted, Order, Fixed, AreOrders, StandsOn, InOwnOrder, FoundNone, IsFailing, IsSent, Why}
 
--- what the table of sockets fixes besides: the links that failed, and the lives that were failed
-abbrev pub fixed_by : List ℕ → List (ℕ × ℕ) → Fixed
-fixed_by broken fails = record { broken = broken; early = []; closed = []; silent = []; late = []; late_links = []; soon = []; fails = fails }
+-- what the table of sockets fixes besides: the links that failed, those whose reading beside the clients ended early, and the lives that were failed
+abbrev pub fixed_by : List ℕ → List ℕ → List (ℕ × ℕ) → Fixed
+fixed_by broken early fails = record { broken = broken; early = early; closed = []; silent = []; late = []; late_links = []; soon = []; fails = fails }
 
 -- the operation is on sockets alone
 abbrev pub IsOfSockets : Op → Type 0
