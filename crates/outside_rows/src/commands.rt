@@ -531,7 +531,10 @@ fn runs_on_threads(rt: HostRuntime) -> Result<(), Fail> {
 /// Words and a script with a line that waits for a call.
 const UNBUILT: [(&'static str, &'static str); 2] = [
     ("run", "open a serve\nclient\ncall a Echo.Echo -\njoin 1.1"),
-    ("run 65535", "open a serve\nclient\ncall a Echo.Echo -\njoin 1.1"),
+    (
+        "run 65535",
+        "open a serve\nclient\ncall a Echo.Echo -\njoin 1.1",
+    ),
 ];
 
 #[test]

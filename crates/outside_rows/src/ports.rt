@@ -23,15 +23,8 @@ fn free_port<N: Net<Stream = TcpStream, Listener = TcpListener>>(net: &N) -> io:
 
 /// What `serve PORT 1` answered, and what it wrote.
 fn serve_one<
-    R: Threads
-        + Wait
-        + Sync
-        + Alloc<A = Global>
-        + Net<Stream = TcpStream, Listener = TcpListener>,
->(
-    rt: &R,
-    port: u16,
-) -> Result<(u8, Vec<u8>), Fail> {
+    R: Threads + Wait + Sync + Alloc<A = Global> + Net<Stream = TcpStream, Listener = TcpListener>,
+>(rt: &R, port: u16) -> Result<(u8, Vec<u8>), Fail> {
     let alloc = rt.alloc();
     let mut links = TcpLinker::new(rt, alloc);
     let words = vec![in alloc;
@@ -44,15 +37,8 @@ fn serve_one<
 
 /// What `run PORT` over that script answered, and what it wrote.
 fn run_once<
-    R: Threads
-        + Wait
-        + Sync
-        + Alloc<A = Global>
-        + Net<Stream = TcpStream, Listener = TcpListener>,
->(
-    rt: &R,
-    port: u16,
-) -> Result<(u8, Vec<u8>), Fail> {
+    R: Threads + Wait + Sync + Alloc<A = Global> + Net<Stream = TcpStream, Listener = TcpListener>,
+>(rt: &R, port: u16) -> Result<(u8, Vec<u8>), Fail> {
     let alloc = rt.alloc();
     let mut links = TcpLinker::new(rt, alloc);
     let words = vec![in alloc; String::from_str(alloc, "run")?, port.to_string(alloc)?]?;
@@ -62,15 +48,8 @@ fn run_once<
 
 /// The same, as soon as somebody listens.
 fn run_once_served<
-    R: Threads
-        + Wait
-        + Sync
-        + Alloc<A = Global>
-        + Net<Stream = TcpStream, Listener = TcpListener>,
->(
-    rt: &R,
-    port: u16,
-) -> Result<(u8, Vec<u8>), Fail> {
+    R: Threads + Wait + Sync + Alloc<A = Global> + Net<Stream = TcpStream, Listener = TcpListener>,
+>(rt: &R, port: u16) -> Result<(u8, Vec<u8>), Fail> {
     for _ in 0..10_000 {
         let (status, written) = run_once(rt, port)?;
         if status != 8 {
@@ -84,11 +63,7 @@ fn run_once_served<
 #[test]
 fn call_over_tcp_is_answered_by_a_server_beside_it(rt: HostRuntime) -> Result<(), Fail> {
     let port = free_port(&rt)?;
-    let (served, ran) = thread::join(
-        &rt,
-        || serve_one(&rt, port),
-        || run_once_served(&rt, port),
-    );
+    let (served, ran) = thread::join(&rt, || serve_one(&rt, port), || run_once_served(&rt, port));
     let (status, written) = served?;
     assert!(rt; status == 0);
     assert!(rt; written.as_slice() == b"served 1 frames 1\n");
