@@ -14,7 +14,8 @@ use Rattle.sock_model.specs.declared.chain.Heading.{Heading}
 use Rattle.sock_model.specs.declared.home.Home.{Home}
 use Rattle.sock_model.specs.declared.home.Home.TheVariants as home
 use Rattle.sock_model.specs.declared.view.View.{View}
-use Rattle.sock_model.specs.SlotRows.{wrote, met_link}
+use Rattle.sock_model.specs.SlotRows.{met_link}
+use Rattle.sock_rule.specs.Rows.{dropped_at}
 use Rattle.sock_model.specs.ChainRows.{with_claim, with_right, dropped_right}
 use Rattle.sock_rule.specs.declared.homes.SockHome.{SockHome}
 use Rattle.sock_rule.specs.declared.homes.SockHome.TheVariants.{Empty, Link, Message, Ways}
@@ -98,7 +99,7 @@ module _ {O : Type 0} {g : Ghosts O} where
 
     pub drops_alike : (value : ℕ) → Allows holds slots id me x (λ _. value) (λ _. drop_told (shows_in p ways) (step slots x value 0 none) me value) → Allows holds slots id me x (λ _. value) (λ _. drop_told shows (step slots x value 0 none) me value)
     drops_alike value = allows_alike holds slots id x me (λ _. value) (λ _. value) (λ _. drop_told (shows_in p ways) (step slots x value 0 none) me value) (λ _. drop_told shows (step slots x value 0 none) me value) (λ n. refl)
-        (λ found n t r now y one stage top. t r now y one stage top ∙ ap (λ (took : List ℕ). (wrote x value (with_right me.0 (dropped_right r now took)), me.1)) (took_alike p ways y.1))
+        (λ found n t r now y one stage top. t r now y one stage top ∙ ap (λ (took : List ℕ). (dropped_at x value r.heading (with_right me.0 (dropped_right r now took)), me.1)) (took_alike p ways y.1))
 
   -- ## A step that takes a link
 

@@ -10,7 +10,7 @@ open-requires-clause-new g c = is_new c.args.plan.now c.of-ways.result.list _ _ 
     (subst (λ w. AreNewHomes c.args.plan.now w c.house.new.homes.items) (sym c.of-ways.ensures) c.house.ensures.new) c.requires.plan c.in-Ok.ensures.narrow
 
 pub open-requires-clause-ways : goal.open-requires-clause-ways
-open-requires-clause-ways g c = ap length c.of-ways.ensures ∙ (length-map (λ o. (g.O.Out.state o).way) c.args.outs.items ∙ c.requires.outs.count)
+open-requires-clause-ways g c = ap length c.of-ways.ensures ∙ (length-map c.args.outs.items (λ o. (g.O.Out.state o).way) ∙ c.requires.outs.count)
 
 pub take_back-requires-clause-links : goal.take_back-requires-clause-links
 take_back-requires-clause-links g c = subst (AreLinks c.args.plan.now.requests c.args.plan.now.links) (sym c.in-Err.ensures.err) (halves_links c.args.plan.now.requests c.args.plan.now.links c.args.outs.items c.house.new.homes.items c.house.ensures.outs)
