@@ -32,8 +32,8 @@ module _ {O : Type 0} (state : O → OutState) (p : Plan) where
   all_words : (slots id x n : ℕ) (v : View) (s : CallStand) (w : View) (t : CallStand) → DroppedAll state p slots id v s w t → put_in x n v < put_in x n w → IsDropWord p id w x n
   all_words slots id x n v s _ _ none less = absurd (omega arith)
   all_words slots id x n v s _ _ (one_more u r w t more one) less = dite (dec_lt (put_in x n v) (put_in x n u))
-      (λ lt. word_kept p id x n one.msg.label.place u w one.wrote (all_words slots id x n v s u r more lt))
-      (λ ge. word_dropped p id x n one.msg.label.place u w one.wrote one.dead (omega arith))
+      (λ lt. word_kept p id x n one.msg u w one.wrote (all_words slots id x n v s u r more lt))
+      (λ ge. word_dropped p id x n one.msg u w one.wrote one.dead (omega arith))
 
   -- whoever had the right wrote, and told calls besides
   drained_words : (slots id : ℕ) (v : View) (s : CallStand) (w : View) (t : CallStand) → Drained state p slots id v s w t → StoresDrops p id v w

@@ -4,7 +4,7 @@ ghost use Rattle.corr_core.specs.Law.{total};
 ghost use Rattle.corr_id.specs.Opening.{AreNew};
 ghost use Rattle.sock_open.specs.Made.{AreMade};
 ghost use Rattle.sock_open.specs.Opening.{MayBegin, AreFresh};
-ghost use Rattle.sock_table.specs.Closed.{ClosedBy, IsRoomOf};
+ghost use Rattle.sock_table.specs.Closed.{ClosedBy, IsRoomOf, ways_of};
 ghost use Rattle.call_run.specs.Threads.{ids_of, MayRunAll, RanOn};
 ghost use Rattle.call_run.specs.Crew.{IsLeft, AreLeft, IsCast, IsCrew, CrewRan, AreBack};
 
@@ -204,6 +204,8 @@ fn end<O: Out>(tables: Tables<O>, room: Closed<O>, left: Left<O>) -> Result<Ran<
     requires done { IsLeft tables.socks.rule.table.shared.table_id tables.socks.rule.plan left.seats.items }
     ensures ran { IfOk result (λ r. (left.short ≡ false) × (r.told ≡ left.told) × (r.ended ≡ left.ended) × (r.ids ≡ tables.ids) × (r.seats ≡ left.ids) × ClosedBy O.state tables.socks.rule.plan left.seats.items r.places.items r.vrefs.items r.outs.items) }
     ensures back { IfErr result (λ e. AreBack O.state tables.socks.rule.plan e.outs.items) }
+    ensures ways { IfOk result (λ r. ways_of O.state r.outs.items ≡ tables.socks.rule.ways.list) }
+    ensures ways_back { IfErr result (λ e. ways_of O.state e.outs.items ≡ tables.socks.rule.ways.list) }
 {
     let Tables { socks, ids } = tables;
     let Left {
@@ -254,6 +256,8 @@ pub fn run_on<O: Out + Send, G: Gate + Sync, R: Threads + Wait + Sync>(
     ensures ran { IfOk result (λ r. RanOn O.Out O.state plan.now slots setup.items (map (λ v. v.items) clients.items) opens.now (map (λ v. v.items) r.told.items) (map (λ v. v.items) r.ended.items) r.places.items r.vrefs.items r.outs.items (map (λ s. s.me.0) r.seats.items)) }
     ensures ids { IfOk result (λ r. (r.ids.plan ≡ ids_of plan.now slots) × AreLeft r.ids.table.shared.table_id r.seats.items × (total (λ s. s.me.0.share) r.seats.items ≡ r.ids.plan.seats)) }
     ensures back { IfErr result (λ e. AreBack O.state plan.now e.outs.items) }
+    ensures ways { IfOk result (λ r. ways_of O.state r.outs.items ≡ ways_of O.state outs.items) }
+    ensures ways_back { IfErr result (λ e. ways_of O.state e.outs.items ≡ ways_of O.state outs.items) }
 {
     let Ok(room) = rooms(alloc, plan) else {
         return Err(NoRun { outs });

@@ -25,7 +25,7 @@ module _ {O : Type 0} {state : O → OutState} (p : Plan) (slots id : ℕ) where
   one_after u v w s t a one = record {
     msg = one.msg;
     code = one.code;
-    wrote = drop_then p one.msg.label.place u v w a one.wrote;
+    wrote = drop_then p one.msg u v w a one.wrote;
     dead = one.dead;
     code_is = code_before one.code id u v w a one.code_is;
     told = one.told;
@@ -47,7 +47,7 @@ module _ {O : Type 0} {state : O → OutState} (p : Plan) (slots id : ℕ) where
   -- of sockets alone
   all_wrote_all : (v : View) (s : CallStand) (w : View) (t : CallStand) → DroppedAll state p slots id v s w t → WroteAll state p id v w
   all_wrote_all v s _ _ none = all_none p id v
-  all_wrote_all v s _ _ (one_more x r w t more one) = all_then p id v x w (all_wrote_all v s x r more) (all_dropped p id one.msg.label.place x w one.wrote)
+  all_wrote_all v s _ _ (one_more x r w t more one) = all_then p id v x w (all_wrote_all v s x r more) (all_dropped p id one.msg x w one.wrote)
 
   pub drained_all : (v w : View) (s t : CallStand) → Drained state p slots id v s w t → WroteAll state p id v w
   drained_all v w s t d = all_then p id v d.last w (all_wrote_all v s d.last t d.dropped) (all_wrote p id d.last w d.wrote)

@@ -21,7 +21,7 @@ module _ {O : Type 0} (state : O → OutState) (p : Plan) (slots id : ℕ) where
   pub record DroppedOne (v : View) (s : CallStand) (w : View) (t : CallStand) : Type 0 where
     pub msg : Undelivered
     pub code : ℕ
-    pub wrote : WroteDrop state p id msg.label.place v w
+    pub wrote : WroteDrop state p id msg v w
     pub dead : FoundDead id w
     pub code_is : IsCode code id v w
     pub told : ToldDrop slots msg code s t

@@ -48,7 +48,7 @@ fn drain<O: Out, R: Wait>(
     mut right: WriteRight<O>,
 ) -> SockRef
     requires seat { IsSeat table.now.rule.table.shared.table_id table.now.rule.plan seat.old }
-    requires may { MayGoOn table.now.rule.plan right seat.old.me }
+    requires may { MayGoOn table.now.rule.plan table.now.rule.ways.list right seat.old.me }
     requires calls { Sits ids.now.table.shared.table_id calls.old.seat }
     requires free { IsFree calls.old.seat.me.0 }
     ensures seat { IsSeat table.now.rule.table.shared.table_id table.now.rule.plan seat.new }

@@ -15,6 +15,7 @@ use Rattle.sock_table.specs.Closed.{AllDone, IsDoneSeat}
 use Rattle.sock_rule.specs.declared.homes.Letter.{Letter}
 use Rattle.sock_open.specs.Made.{IsNewSeat}
 use Rattle.sock_open.proofs.Making.{new_view}
+use Rattle.write_chain.specs.declared.right.Undelivered.{Undelivered}
 use Rattle.write_chain.specs.Noting.{Wrote, WroteDrop}
 use Rattle.write_chain.specs.Sending.{HasRoom, StartedBy, RefusedBy}
 use Rattle.write_chain.specs.declared.entry.Started.{Started}
@@ -54,8 +55,8 @@ new_room z p s n = record { made = []; taken_in = []; lists = ap (λ (y : View).
 pub wrote_lists : {O : Type 0} {state : O → OutState} (id : ℕ) (v w : View) → Wrote state id v w → w.lists ≡ v.lists
 wrote_lists id v w a = ap (λ (y : View). y.lists) a.became.others
 
-pub dropped_lists : {O : Type 0} {state : O → OutState} (p : Plan) (id place : ℕ) (v w : View) → WroteDrop state p id place v w → w.lists ≡ v.lists
-dropped_lists p id place v w a = ap (λ (y : View). y.lists) a.wrote.became.others
+pub dropped_lists : {O : Type 0} {state : O → OutState} (p : Plan) (id : ℕ) (msg : Undelivered) (v w : View) → WroteDrop state p id msg v w → w.lists ≡ v.lists
+dropped_lists p id msg v w a = ap (λ (y : View). y.lists) a.wrote.became.others
 
 -- a message that was accepted is one more
 pub started_more : {O : Type 0} {g : Ghosts O} (p : Plan) (sock : SockRef) (heading : Heading) (bytes : List ℕ) (s : Started O g) (u v w : View) → v.lists ≡ u.lists → StartedBy p sock heading bytes s v w → OneMore u w

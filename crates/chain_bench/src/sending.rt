@@ -109,7 +109,7 @@ fn write_on<R: Wait>(
     mut right: WriteRight<SlowOut>,
 ) -> SockRef
     requires seat { IsSeat table.now.rule.table.shared.table_id table.now.rule.plan seat.old }
-    requires may { MayGoOn table.now.rule.plan right seat.old.me }
+    requires may { MayGoOn table.now.rule.plan table.now.rule.ways.list right seat.old.me }
     requires one { HoldsOne table.now.rule.plan right.sock.id.0 seat.old.me.0 }
     ensures holding { IsHolding table.now.rule.table.shared.table_id table.now.rule.plan result.id.0 seat.new }
     ensures lists { seat.new.me.0.lists ≡ seat.old.me.0.lists }

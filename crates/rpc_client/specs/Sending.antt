@@ -1,5 +1,5 @@
 -- What becomes of a `send`.
-use Rattle.std.specs.Prelude.{◌≡◌, ◌⊎◌, ℕ, true, Bool, List, [], ◌∷◌, Option, Some, None, All}
+use Rattle.std.specs.Prelude.{◌≡◌, ◌⊎◌, ℕ, true, Bool, List, [], ◌∷◌, ◌++◌, Option, Some, None, All}
 use Rattle.sock_io.specs.declared.link.Out.{Ghosts}
 use Rattle.sock_io.specs.Link.{OutState}
 use Rattle.sock_words.specs.declared.plain.Plan.{Plan}
@@ -48,9 +48,12 @@ pub record WroteAll {O : Type 0} (state : O → OutState) (p : Plan) (id : ℕ) 
   pub drops : List StoredWord
   pub are_drops : All (IsDrop p id w) drops
   pub stores : w.stores ≡ with_notes drops v.stores
+  -- what stands with these messages
+  pub headings : List Heading
+  pub headings_are : w.drops ≡ headings ++ v.drops
   pub notes : List Mark
   pub noted : Noted state (Met_by id w) (socket_id_version id) notes
-  pub became : Became (socket_id_slot id) v (record w { rights = v.rights; stores = v.stores }) notes []
+  pub became : Became (socket_id_slot id) v (record w { rights = v.rights; stores = v.stores; drops = v.drops }) notes []
 
 -- the reference is given back
 pub record Returned (id : ℕ) (v w : View) : Type 0 where

@@ -132,7 +132,7 @@ notes_more x n (y ∷ ys) all = omega (arith, notes_more x n ys all, note_more x
 module _ {O : Type 0} (state : O → OutState) (p : Plan) where
   pub wrote_grew : (id : ℕ) (v w : View) → WroteAll state p id v w → Grew v w
   wrote_grew id v w a = record {
-    marks = λ f note j. became_marks (socket_id_slot id) v (record w { rights = v.rights; stores = v.stores }) a.notes [] f refl a.became j;
+    marks = λ f note j. became_marks (socket_id_slot id) v (record w { rights = v.rights; stores = v.stores; drops = v.drops }) a.notes [] f refl a.became j;
     seen = λ x h. (h.0, ap (λ (z : View). get_elem? z.found h.0) a.became.others ∙ h.1);
     finds = λ x h. (h.0, ap (λ (z : View). get_elem? z.finds h.0) a.became.others ∙ h.1);
     puts = λ x n. (let e = ap (total (total (is_put x n))) a.stores in let m = notes_more x n a.drops v.stores in omega arith);

@@ -150,7 +150,7 @@ module _ (f : Mark → ℕ) (z : IsOfLife f) where
   module _ {O : Type 0} (state : O → OutState) (p : Plan) where
     wrote_same : (id : ℕ) (v w : View) (a : WroteAll state p id v w) (i : ℕ) → marks_of f i v < marks_of f i w → WroteFail state p id i v w a
     wrote_same id v w a i less =
-        let b = became_slot f (socket_id_slot id) v (record w { rights = v.rights; stores = v.stores }) a.notes [] refl a.became i less in
+        let b = became_slot f (socket_id_slot id) v (record w { rights = v.rights; stores = v.stores; drops = v.drops }) a.notes [] refl a.became i less in
         let n = noted_by (socket_id_version id) a.notes a.noted b.1 in
         let weighs : 0 < f (Failer (socket_id_version id)) = dite (ℕ_discrete (f (Failer (socket_id_version id))) 0) (λ none_. absurd (let e = noted_none (socket_id_version id) a.notes none_ a.noted in let m = b.1 in omega arith)) (λ ne. omega arith) in
         record { slot = b.0; weighs = weighs; link = n.0; link_met = n.1; place = n.2; listed = n.3 }

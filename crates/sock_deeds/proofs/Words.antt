@@ -9,6 +9,7 @@ use Rattle.sock_model.specs.Layout.{place_index}
 use Rattle.sock_model.specs.Weights.{total, is_met, is_saw}
 use Rattle.slot_steps.proofs.Numbers.{pair_is}
 use Rattle.rpc_client.specs.sock_rule.specs.OnTable.{is_put, put_in}
+use Rattle.rpc_client.specs.write_chain.specs.declared.right.Undelivered.{Undelivered}
 use Rattle.rpc_client.specs.write_chain.specs.Noting.{Wrote, WroteDrop}
 use Rattle.rpc_client.specs.write_chain.specs.Writing.{FoundDead}
 use Rattle.rpc_client.specs.write_chain.proofs.Noting.{wrote_more, wrote_stores}
@@ -28,13 +29,13 @@ module _ {O : Type 0} {state : O → OutState} (p : Plan) (id x n : ℕ) where
       record { place = d.place; at_place = d.at_place; link = d.link; position = d.position; low = d.low; word_is = d.word_is; met = omega arith; dead = omega arith }
 
   -- behind a drop too
-  pub word_kept : (place : ℕ) (v w : View) → WroteDrop state p id place v w → IsDropWord p id v x n → IsDropWord p id w x n
-  word_kept place v w a d = let k = word_stays v (record w { stores = v.stores }) a.wrote d in record { place = k.place; at_place = k.at_place; link = k.link; position = k.position; low = k.low; word_is = k.word_is; met = k.met; dead = k.dead }
+  pub word_kept : (msg : Undelivered) (v w : View) → WroteDrop state p id msg v w → IsDropWord p id v x n → IsDropWord p id w x n
+  word_kept msg v w a d = let k = word_stays v (record w { stores = v.stores; drops = v.drops }) a.wrote d in record { place = k.place; at_place = k.at_place; link = k.link; position = k.position; low = k.low; word_is = k.word_is; met = k.met; dead = k.dead }
 
   -- the word of a drop
-  pub word_dropped : (place : ℕ) (v w : View) → WroteDrop state p id place v w → FoundDead id w → put_in x n v < put_in x n w → IsDropWord p id w x n
-  word_dropped place v w a dead less =
+  pub word_dropped : (msg : Undelivered) (v w : View) → WroteDrop state p id msg v w → FoundDead id w → put_in x n v < put_in x n w → IsDropWord p id w x n
+  word_dropped msg v w a dead less =
       let e = ap (total (total (is_put x n))) a.stores in
-      let f = note_is x n record { place = place_index p place; word = place_value true a.link a.position } v.stores in
-      let q = pair_is x n (place_index p place) (place_value true a.link a.position) (omega arith) in
-      record { place = place; at_place = sym q.0; link = a.link; position = a.position; low = a.low; word_is = sym q.1; met = a.met; dead = dead }
+      let f = note_is x n record { place = place_index p msg.label.place; word = place_value true a.link a.position } v.stores in
+      let q = pair_is x n (place_index p msg.label.place) (place_value true a.link a.position) (omega arith) in
+      record { place = msg.label.place; at_place = sym q.0; link = a.link; position = a.position; low = a.low; word_is = sym q.1; met = a.met; dead = dead }

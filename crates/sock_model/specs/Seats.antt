@@ -6,15 +6,15 @@ use Rattle.sock_model.specs.declared.view.View.{View}
 
 -- a seat that is split off with these passes. Its own lists are there from the start, so that they are never mixed with those of a seat that it takes in.
 abbrev pub newcomer : Plan → List ℕ → ℕ → View
-newcomer p passes more = record { plan = p; marks = []; passes = passes; spare = more; share = 1; stores = [] ∷ []; claims = []; loose = []; rights = []; hands = []; found = []; finds = []; histories = []; lists = [] ∷ [] }
+newcomer p passes more = record { plan = p; marks = []; passes = passes; spare = more; share = 1; stores = [] ∷ []; claims = []; loose = []; rights = []; hands = []; found = []; finds = []; histories = []; lists = [] ∷ []; drops = [] }
 
 -- a seat that only carries passes until another takes it in: it accepts no message, and so has no list of them
 abbrev pub carrier : Plan → List ℕ → View
-carrier p passes = record { plan = p; marks = []; passes = passes; spare = 0; share = 0; stores = [] ∷ []; claims = []; loose = []; rights = []; hands = []; found = []; finds = []; histories = []; lists = [] }
+carrier p passes = record { plan = p; marks = []; passes = passes; spare = 0; share = 0; stores = [] ∷ []; claims = []; loose = []; rights = []; hands = []; found = []; finds = []; histories = []; lists = []; drops = [] }
 
 -- a seat that was taken in
 abbrev pub void : Plan → View
-void p = record { plan = p; marks = []; passes = []; spare = 0; share = 0; stores = []; claims = []; loose = []; rights = []; hands = []; found = []; finds = []; histories = []; lists = [] }
+void p = record { plan = p; marks = []; passes = []; spare = 0; share = 0; stores = []; claims = []; loose = []; rights = []; hands = []; found = []; finds = []; histories = []; lists = []; drops = [] }
 
 abbrev pub no_plan : Plan
 no_plan = record { slots = 0; links = 0; requests = 0; names = 0; operations = 0; seats = 0; first = 0 }
@@ -24,7 +24,7 @@ spent = void no_plan
 
 -- the seat v takes in a seat that has no claim, entry, right or link in hand
 abbrev pub joined : View → View → View
-joined v w = record v { marks = v.marks ++ w.marks; passes = v.passes ++ w.passes; spare = v.spare + w.spare; share = v.share + w.share; stores = v.stores ++ w.stores; found = v.found ++ w.found; finds = v.finds ++ w.finds; histories = v.histories ++ w.histories; lists = v.lists ++ w.lists }
+joined v w = record v { marks = v.marks ++ w.marks; passes = v.passes ++ w.passes; spare = v.spare + w.spare; share = v.share + w.share; stores = v.stores ++ w.stores; found = v.found ++ w.found; finds = v.finds ++ w.finds; histories = v.histories ++ w.histories; lists = v.lists ++ w.lists; drops = v.drops ++ w.drops }
 
 -- such a seat
 pub record IsBare (v : View) : Type 0 where

@@ -1,4 +1,4 @@
-use crate::chain::{Claim, Entry, Loose, Right};
+use crate::chain::{Claim, Entry, Heading, Loose, Right};
 use crate::marks::SlotMark;
 use sock_words::Plan;
 
@@ -48,4 +48,6 @@ pub struct View {
     pub histories: [[StoredWord; 0]; 0],
     /// The accepted entries, the earliest first.
     pub lists: [[Entry; 0]; 0],
+    /// What stood with the messages that it dropped, the latest first.
+    pub drops: [Heading; 0],
 }

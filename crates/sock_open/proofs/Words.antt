@@ -1,7 +1,7 @@
 -- The words and homes of a new table.
-use Rattle.std.proofs.Common.{◌≡◌, ℕ, zero, suc, ◌+◌, ◌*◌, ◌<◌, ◌≤◌, false, List, [], ◌∷◌, ◌++◌, length, length-append, length-set, get_or, set, get_or-set_other, get_or-set_same, replicate, refl, sym, ap, ◌∙◌, subst, arith}
+use Rattle.std.proofs.Common.{◌≡◌, ℕ, zero, suc, ◌+◌, ◌*◌, ◌<◌, ◌≤◌, false, List, [], ◌∷◌, ◌++◌, length, length-append, length-set, get_or, map, set, get_or-set_other, get_or-set_same, replicate, refl, sym, ap, ◌∙◌, subst, arith}
 use mathlib.Core.Logic.{dite}
-use mathlib.Core.Option.{some, some-injective}
+use mathlib.Core.Option.{some, some-injective, some-ne-none}
 use native.Mathlib.Decide.{ℕ_discrete}
 use lib.ListN.{get_elem?}
 use Rattle.atomic_table.proofs.Lists.{at_longer, at_last}
@@ -13,8 +13,9 @@ use Rattle.sock_rule.specs.Seated.{IsNew}
 use Rattle.sock_rule.specs.declared.homes.SockHome.{SockHome}
 use Rattle.sock_rule.specs.declared.homes.LinkHome.{LinkHome}
 use Rattle.sock_rule.specs.declared.homes.SockHome.TheVariants.{Link}
-use Rattle.sock_rule.specs.Shows.{shows}
-use Rattle.sock_table.specs.Closed.{AreLinks, OutsOf}
+use Rattle.sock_rule.specs.Shows.{shows_in, way_at}
+use Rattle.sock_rule.proofs.Ways.{is_number}
+use Rattle.sock_table.specs.Closed.{AreLinks, OutsOf, ways_of}
 use Rattle.sock_open.specs.Opening.{AreNewWords, AreFresh, AreNewHomes, MayBegin}
 
 -- the first n slots have their words
@@ -62,12 +63,18 @@ append_one : {O : Type 0} (xs : List O) (x : O) (ys : List O) → (xs ++ x ∷ [
 append_one [] x ys = refl
 append_one (z ∷ zs) x ys = ap (λ l. z ∷ l) (append_one zs x ys)
 
+-- which way the bytes of a half go that stands at a place of the list
+its_way : {O : Type 0} (way : O → List ℕ) (outs : List O) (k : ℕ) (o : O) → get_elem? outs k ≡ some o → way_at (map way outs) k ≡ way o
+its_way way [] k o e = absurd (some-ne-none o (sym e))
+its_way way (x ∷ xs) zero o e = ap way (some-injective x o e)
+its_way way (x ∷ xs) (suc k) o e = its_way way xs k o e
+
 module _ {O : Type 0} {g : Ghosts O} where
   -- the homes of the first links stand behind those of the requests
   pub record Housed (p : Plan) (outs yielded rest : List O) (xs : List (SockHome O g)) : Type 0 where
     pub parts : yielded ++ rest ≡ outs
     pub count : length xs ≡ p.requests + length yielded
-    pub links : (k : ℕ) → k < length yielded → (y : SockHome O g) × (get_elem? xs (p.requests + k) ≡ some y) × (shows y ≡ home.Link k [] 0 false)
+    pub links : (k : ℕ) → k < length yielded → (y : SockHome O g) × (get_elem? xs (p.requests + k) ≡ some y) × (shows_in p (ways_of g.state outs) y ≡ home.Link k [] 0 false)
     pub halves : OutsOf p.requests (length yielded) outs xs
 
   pub none_housed : (p : Plan) (outs rest : List O) (xs : List (SockHome O g)) → rest ≡ outs → length xs ≡ p.requests → Housed p outs [] rest xs
@@ -83,7 +90,7 @@ module _ {O : Type 0} {g : Ghosts O} where
             (λ e. (
               Link h,
               ap (λ (l : List (SockHome O g)). get_elem? l (p.requests + k)) is ∙ at_last xs (Link h) (p.requests + k) (omega (arith, b.count)),
-              (λ i. home.Link ((ap (λ (z : O). (g.state z).link) out ∙ (its.0 ∙ sym e)) i) (took i) (next i) ((ap (λ (z : O). (g.state z).finished) out ∙ its.1) i)),
+              (λ i. home.Link (is_number p (ways_of g.state outs) (g.state h.out) k (ap (λ (z : O). (g.state z).link) out ∙ (its.0 ∙ sym e)) (ap (λ (z : O). (g.state z).way) out ∙ sym (its_way (λ (z : O). (g.state z).way) outs k o (ap (get_elem? outs) e ∙ at))) i) (took i) (next i) ((ap (λ (z : O). (g.state z).finished) out ∙ its.1) i)),
             ))
             (λ ne. let y = b.links k (omega arith) in (y.0, ap (λ (l : List (SockHome O g)). get_elem? l (p.requests + k)) is ∙ at_longer xs (Link h ∷ []) (p.requests + k) y.0 y.1, y.2));
         halves = λ k kl. dite (ℕ_discrete k (length yielded))
@@ -94,7 +101,7 @@ module _ {O : Type 0} {g : Ghosts O} where
   pub may_be_fresh : (p : Plan) (outs yielded rest rest' : List O) (o : O) (xs : List (SockHome O g)) → AreFresh g.state p outs → Housed p outs yielded rest xs → rest ≡ o ∷ rest' → Rattle.std.specs.Option.ForSome (g.state o).took (λ bytes. bytes ≡ [])
   may_be_fresh p outs yielded rest rest' o xs fresh b r = (fresh.each (length yielded) o (subst (λ l. get_elem? l (length yielded) ≡ some o) (ap (λ l. yielded ++ l) (sym r) ∙ b.parts) (next_at yielded rest' o))).2
 
-  pub all_housed : (p : Plan) (outs yielded rest : List O) (xs : List (SockHome O g)) → AreFresh g.state p outs → Housed p outs yielded rest xs → length rest ≡ 0 → AreNewHomes p xs
+  pub all_housed : (p : Plan) (outs yielded rest : List O) (xs : List (SockHome O g)) → AreFresh g.state p outs → Housed p outs yielded rest xs → length rest ≡ 0 → AreNewHomes p (ways_of g.state outs) xs
   all_housed p outs yielded rest xs fresh b none_ = let c = fresh.count in let all = ap length b.parts in let e = length-append yielded rest in record { count = omega (arith, b.count); links = λ k kl. b.links k (omega arith) }
 
   pub all_halves : (p : Plan) (outs yielded rest : List O) (xs : List (SockHome O g)) → AreFresh g.state p outs → Housed p outs yielded rest xs → length rest ≡ 0 → OutsOf p.requests p.links outs xs
@@ -130,8 +137,8 @@ pub halves_links : {O : Type 0} {g : Ghosts O} (r n : ℕ) (outs : List O) (xs :
 halves_links r n outs xs a k kl = let x = a k kl in (x.0, x.2)
 
 -- and a table may begin with these
-pub is_new : {O : Type 0} {g : Ghosts O} (p : Plan) (ws : List ℕ) (xs : List (SockHome O g)) → AreNewWords p ws → AreNewHomes p xs → MayBegin p → p.requests ≤ 65535 → IsNew shows p ws xs
-is_new p ws xs w h m narrow = record {
+pub is_new : {O : Type 0} {g : Ghosts O} (p : Plan) (ways : List (List ℕ)) (ws : List ℕ) (xs : List (SockHome O g)) → AreNewWords p ws → AreNewHomes p ways xs → MayBegin p → p.requests ≤ 65535 → IsNew (shows_in p ways) p ws xs
+is_new p ways ws xs w h m narrow = record {
   unused = record {
     sized = w.sized;
     tags = λ i il. w.zeros (tag_index i) (λ j jl e. omega arith);

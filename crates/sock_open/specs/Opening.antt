@@ -10,7 +10,7 @@ use Rattle.sock_words.specs.declared.plain.Plan.{Plan}
 use Rattle.sock_model.specs.declared.home.Home.TheVariants as home
 use Rattle.sock_model.specs.Layout.{ref_index, all_words}
 use Rattle.sock_rule.specs.declared.homes.SockHome.{SockHome}
-use Rattle.sock_rule.specs.Shows.{shows}
+use Rattle.sock_rule.specs.Shows.{shows_in}
 
 -- the word of each slot stands at its first version, and all others are 0
 pub record AreNewWords (p : Plan) (ws : List ℕ) : Type 0 where
@@ -23,10 +23,10 @@ pub record AreFresh {O : Type 0} (state : O → OutState) (p : Plan) (outs : Lis
   pub count : length outs ≡ p.links
   pub each : (k : ℕ) (o : O) → get_elem? outs k ≡ some o → ((state o).link ≡ k) × ((state o).finished ≡ false) × ForSome (state o).took (λ bytes. bytes ≡ [])
 
--- each request's home, and then that of each link with its half
-pub record AreNewHomes {O : Type 0} {g : Ghosts O} (p : Plan) (xs : List (SockHome O g)) : Type 0 where
+-- each request's home, and then that of each link with its half, whose bytes go the way of the link
+pub record AreNewHomes {O : Type 0} {g : Ghosts O} (p : Plan) (ways : List (List ℕ)) (xs : List (SockHome O g)) : Type 0 where
   pub count : length xs ≡ p.requests + p.links
-  pub links : (k : ℕ) → k < p.links → (y : SockHome O g) × (get_elem? xs (p.requests + k) ≡ some y) × (shows y ≡ home.Link k [] 0 false)
+  pub links : (k : ℕ) → k < p.links → (y : SockHome O g) × (get_elem? xs (p.requests + k) ≡ some y) × (shows_in p ways y ≡ home.Link k [] 0 false)
 
 -- an empty list with room for n values
 abbrev pub IsRoom : {T A : Type 0} → ℕ → Vec T A → Type 0

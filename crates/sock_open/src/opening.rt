@@ -2,12 +2,12 @@
 ghost use Rattle.std.specs.Prelude.{◌≡◌, ◌+◌, ◌*◌, ◌%◌, ◌<◌, ◌≤◌, ℕ, [], IfOk, IfErr, length, vec_len};
 ghost use Rattle.sock_open.specs.Opening.{AreNewWords, AreFresh, AreNewHomes, IsRoom, MayBegin};
 ghost use Rattle.sock_rule.specs.OnTable.{opener};
-ghost use Rattle.sock_table.specs.Closed.{AreLinks, OutsOf};
+ghost use Rattle.sock_table.specs.Closed.{AreLinks, OutsOf, ways_of};
 ghost use Rattle.sock_open.specs.Made.{AreMade};
 
 use atomic_table::Refused;
 use sock_io::Out;
-use sock_rule::{LinkHome, RuleTable, SockHome, SockSeat};
+use sock_rule::{LinkHome, RuleTable, SockHome, SockSeat, Ways};
 use sock_table::{LinkPass, SockTable};
 use sock_words::Plan;
 use std::alloc::{AllocError, Global};
@@ -80,7 +80,7 @@ fn rooms<O: Out>(alloc: Global, plan: &Plan) -> Result<Room<O>, AllocError>
 fn house<O: Out>(plan: &Plan, outs: Vec<O>, homes: &mut Vec<SockHome<O>>)
     requires outs { AreFresh O.state plan.now outs.items }
     requires room { IsRoom (plan.now.requests + plan.now.links) homes.old }
-    ensures new { AreNewHomes plan.now homes.new.items }
+    ensures new { AreNewHomes plan.now (ways_of O.state outs.items) homes.new.items }
     ensures outs { OutsOf plan.now.requests plan.now.links outs.items homes.new.items }
 {
     for _ in 0..plan.requests {
@@ -146,6 +146,7 @@ pub fn new_table<O: Out>(alloc: Global, plan: &Plan, outs: Vec<O>) -> Result<Mad
     requires outs { AreFresh O.state plan.now outs.items }
     ensures plan { IfOk result (λ m. m.table.rule.plan ≡ plan.now) }
     ensures made { IfOk result (λ m. AreMade m.table.rule.table.shared.table_id plan.now m.seats.items m.passes.items) }
+    ensures ways { IfOk result (λ m. m.table.rule.ways.list ≡ ways_of O.state outs.items) }
     ensures back { IfErr result (λ e. e.outs.items ≡ outs.items) }
 {
     let Ok(room) = rooms(alloc, plan) else {
@@ -158,8 +159,9 @@ pub fn new_table<O: Out>(alloc: Global, plan: &Plan, outs: Vec<O>) -> Result<Mad
         mut passes,
         mut back,
     } = room;
+    let ways = Ways::of(&outs);
     house(plan, outs, &mut homes);
-    match RuleTable::open(alloc, *plan, words.as_slice(), homes) {
+    match RuleTable::open(alloc, *plan, ways, words.as_slice(), homes) {
         Ok((rule, first)) => {
             deal(&rule, first, &mut seats, &mut passes);
             let table = SockTable { rule };

@@ -8,6 +8,8 @@ use Rattle.sock_words.specs.declared.plain.Plan.{Plan}
 use Rattle.sock_model.specs.declared.home.Home.{Home}
 use Rattle.sock_model.specs.declared.view.View.{View}
 use Rattle.sock_model.specs.declared.view.StoredWord.{StoredWord}
+use Rattle.sock_model.specs.declared.chain.Entry.{Entry}
+use Rattle.sock_model.specs.declared.chain.Heading.{Heading}
 use Rattle.sock_model.specs.Weights.{total}
 use Rattle.sock_model.specs.Layout.{place_index}
 use Rattle.sock_model.specs.Rule.{lists_of, Rule}
@@ -15,18 +17,18 @@ use Rattle.chain_core.specs.slot_steps.proofs.Sums.{total-set}
 use Rattle.chain_core.specs.chain_steps.proofs.Lists.{at_length}
 use Rattle.chain_core.specs.sock_steps.proofs.Maps.{set_at, set_twice}
 use Rattle.sock_rule.specs.Faults.{faults_of, out_of, LinkFaults}
-use Rattle.sock_rule.specs.OnTable.{share_of, put_in, labelled_in, IsDropKept, Settled, Labelled, OnTable}
+use Rattle.sock_rule.specs.OnTable.{share_of, put_in, is_labelled, labelled_in, is_headed, headed_in, IsDropKept, Settled, Labelled, OnTable}
 use Rattle.sock_rule.proofs.Light.{Alike, light_rule}
 use Rattle.sock_rule.proofs.Faults.{calm}
 
--- the step leaves the seat's share, its number of lists, what it found and met, and what it stored
+-- the step leaves the seat's share, its number of lists, what it found, met and dropped, and what it stored
 pub record SameShare (p : Plan) (v w : View) : Type 0 where
   pub share : w.share ≡ v.share
   pub lists : lists_of w ≡ lists_of v
-  pub finds : ◌≡◌ {A = List StoredWord × List (List StoredWord)} (w.finds, w.histories) (v.finds, v.histories)
+  pub finds : ◌≡◌ {A = List StoredWord × (List (List StoredWord) × List Heading)} (w.finds, (w.histories, w.drops)) (v.finds, (v.histories, v.drops))
   pub stores : (x y : ℕ) → put_in x y w ≡ put_in x y v
   -- no accepted message goes
-  pub accepts : (l : ℕ) → labelled_in l v ≤ labelled_in l w
+  pub accepts : (f : Entry → ℕ) → total (total f) v.lists ≤ total (total f) w.lists
   pub labels : Labelled p v → Labelled p w
 
 -- and what it noted of faults, and which links it has in hand
@@ -47,9 +49,9 @@ pub alike_share : (p : Plan) (v u w : View) → SameShare p v u → Alike u w �
 alike_share p v u w same a = record {
   share = ap (λ (z : View). z.share) a.others ∙ same.share;
   lists = ap lists_of a.others ∙ same.lists;
-  finds = ap (λ (z : View). (z.finds, z.histories)) a.others ∙ same.finds;
+  finds = ap (λ (z : View). (z.finds, (z.histories, z.drops))) a.others ∙ same.finds;
   stores = λ x y. ap (put_in x y) a.others ∙ same.stores x y;
-  accepts = λ l. omega (arith, ap (labelled_in l) a.others, same.accepts l);
+  accepts = λ f. omega (arith, ap (λ (z : View). total (total f) z.lists) a.others, same.accepts f);
   labels = λ h. subst (Labelled p) (sym a.others) (let q = same.labels h in record { entries = q.entries; claimed = q.claimed });
 }
 
@@ -70,6 +72,10 @@ module _ {S : Type 0} {shows : S → Home} {rose : S → ℕ} {p : Plan} {s : St
   still_put : ((x y : ℕ) → put_in x y w ≡ put_in x y v) → (x y : ℕ) → total (put_in x y) s.views ≡ total (put_in x y) (set s.views id w)
   still_put more x y = omega (arith, total-set (put_in x y) s.views id v w here, more x y)
 
+  -- and what was accepted stays accepted
+  still_headed : ((f : Entry → ℕ) → total (total f) v.lists ≤ total (total f) w.lists) → (h : Heading) → total (headed_in h) s.views ≤ total (headed_in h) (set s.views id w)
+  still_headed more h = omega (arith, total-set (headed_in h) s.views id v w here, more (is_headed h))
+
   -- where place words change, what was noted of each place index is given
   pub beside_placed : (placed : ℕ → ℕ) → ((l : ℕ) → l < 8 * p.operations → IsDropKept p (set s.views id w) l (placed l)) → ((k : ℕ) → k < p.links → LinkFaults rose p record { words = ws; homes = hs; views = set s.views id w } k) → length hs ≡ length s.homes → SameShare p v w → Settled p t.stored placed ws hs → Rule shows p record { words = ws; homes = hs; views = set s.views id w } → OnTable shows rose p record { words = ws; homes = hs; views = set s.views id w }
   beside_placed placed drops faults long same kept r = record {
@@ -84,12 +90,15 @@ module _ {S : Type 0} {shows : S → Home} {rose : S → ℕ} {p : Plan} {s : St
     drops = drops;
     faults = faults;
     settled = kept;
-    met = λ j u g n h e. ⊎_elim (λ y. t.met id v here n h (subst (λ (l : List (List StoredWord)). get_elem? l n ≡ some h) (ap (λ (q : List StoredWord × List (List StoredWord)). q.1) same.finds) (subst (λ (z : View). get_elem? z.histories n ≡ some h) (sym y.1) e)))
+    met = λ j u g n h e. ⊎_elim (λ y. t.met id v here n h (subst (λ (l : List (List StoredWord)). get_elem? l n ≡ some h) (ap (λ (q : List StoredWord × (List (List StoredWord) × List Heading)). q.1.0) same.finds) (subst (λ (z : View). get_elem? z.histories n ≡ some h) (sym y.1) e)))
         (λ y. t.met j u y.1 n h e) (at_set s.views id j w u g);
     labelled = λ j u g. ⊎_elim (λ y. subst (Labelled p) y.1 (same.labels (t.labelled id v here))) (λ y. t.labelled j u y.1) (at_set s.views id j w u g);
     found_was = λ j u g n x e. let more = still_put same.stores x.place x.word in
-        ⊎_elim (λ y. let f : get_elem? v.finds n ≡ some x = subst (λ (l : List StoredWord). get_elem? l n ≡ some x) (ap (λ (q : List StoredWord × List (List StoredWord)). q.0) same.finds) (subst (λ (z : View). get_elem? z.finds n ≡ some x) (sym y.1) e) in omega (arith, t.found_was id v here n x f))
+        ⊎_elim (λ y. let f : get_elem? v.finds n ≡ some x = subst (λ (l : List StoredWord). get_elem? l n ≡ some x) (ap (λ (q : List StoredWord × (List (List StoredWord) × List Heading)). q.0) same.finds) (subst (λ (z : View). get_elem? z.finds n ≡ some x) (sym y.1) e) in omega (arith, t.found_was id v here n x f))
         (λ y. omega (arith, t.found_was j u y.1 n x e)) (at_set s.views id j w u g);
+    dropped_was = λ j u g n h e. let more = still_headed same.accepts h in
+        ⊎_elim (λ y. let f : get_elem? v.drops n ≡ some h = subst (λ (l : List Heading). get_elem? l n ≡ some h) (ap (λ (q : List StoredWord × (List (List StoredWord) × List Heading)). q.1.1) same.finds) (subst (λ (z : View). get_elem? z.drops n ≡ some h) (sym y.1) e) in omega (arith, t.dropped_was id v here n h f))
+        (λ y. omega (arith, t.dropped_was j u y.1 n h e)) (at_set s.views id j w u g);
   }
 
   -- nothing of faults changed
@@ -98,7 +107,7 @@ module _ {S : Type 0} {shows : S → Home} {rose : S → ℕ} {p : Plan} {s : St
 
   -- and where place words don't change it stays
   pub beside_faults : ((k : ℕ) → k < p.links → LinkFaults rose p record { words = ws; homes = hs; views = set s.views id w } k) → length hs ≡ length s.homes → SameShare p v w → Settled p t.stored t.placed ws hs → Rule shows p record { words = ws; homes = hs; views = set s.views id w } → OnTable shows rose p record { words = ws; homes = hs; views = set s.views id w }
-  beside_faults faults long same kept r = beside_placed t.placed (λ l ll. drop_stays p s.views (set s.views id w) l (t.placed l) (λ n. still_put same.stores (place_index p l) n) (omega (arith, total-set (labelled_in l) s.views id v w here, same.accepts l)) (t.drops l ll)) faults long same kept r
+  beside_faults faults long same kept r = beside_placed t.placed (λ l ll. drop_stays p s.views (set s.views id w) l (t.placed l) (λ n. still_put same.stores (place_index p l) n) (omega (arith, total-set (labelled_in l) s.views id v w here, same.accepts (is_labelled l))) (t.drops l ll)) faults long same kept r
 
   pub beside : StillHomes p s.homes hs → SameShare p v w → Calm v w → Settled p t.stored t.placed ws hs → Rule shows p record { words = ws; homes = hs; views = set s.views id w } → OnTable shows rose p record { words = ws; homes = hs; views = set s.views id w }
   beside still same c kept r = beside_faults (calm_links still c) still.0 same kept r

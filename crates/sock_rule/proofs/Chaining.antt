@@ -31,7 +31,7 @@ use Rattle.chain_core.specs.sock_steps.proofs.Noting.{tried_rule}
 use Rattle.chain_core.specs.sock_steps.proofs.RuleFrame.{word_rule}
 use Rattle.chain_core.specs.sock_steps.proofs.RuleSteps.{meet_rule}
 use Rattle.chain_core.specs.sock_steps.proofs.RuleChains.{queued_rule, righted_rule, connecting_rule, ready_rule, fill_rule}
-use Rattle.sock_rule.specs.OnTable.{is_labelled, labelled_in, LabelledIn, Labelled, OnTable}
+use Rattle.sock_rule.specs.OnTable.{LabelledIn, Labelled, OnTable}
 use Rattle.sock_rule.specs.ChainPlays.{blank, filled_with, request_told, fill_told, ready_told, swap_told, connect_told}
 use Rattle.sock_rule.proofs.Beside.{beside, homes_else}
 use Rattle.sock_rule.proofs.Settling.{slot_settled, next_settled, taken_settled, home_back_settled, load_settled}
@@ -46,12 +46,12 @@ same_lists : (v : View) (made : List Entry) (taken_in : List (List Entry)) (e : 
 same_lists v made taken_in e own = ap (λ (l : List (List Entry)). length (more l e)) own ∙ sym (ap length own)
 
 -- and no message less
-more_accepts : (l : ℕ) (v : View) (e : Entry) → labelled_in l v ≤ total (total (is_labelled l)) (more v.lists e)
-more_accepts l v e = in_lists v.lists
+more_accepts : (f : Entry → ℕ) (v : View) (e : Entry) → total (total f) v.lists ≤ total (total f) (more v.lists e)
+more_accepts f v e = in_lists v.lists
   where
-    in_lists : (ls : List (List Entry)) → total (total (is_labelled l)) ls ≤ total (total (is_labelled l)) (more ls e)
+    in_lists : (ls : List (List Entry)) → total (total f) ls ≤ total (total f) (more ls e)
     in_lists [] = omega arith
-    in_lists (first ∷ others) = omega (arith, total-append (is_labelled l) first (e ∷ []))
+    in_lists (first ∷ others) = omega (arith, total-append f first (e ∷ []))
 
 odd_stays : (n : ℕ) → n % 2 ≡ 1 → bit_or n 1 ≡ n
 odd_stays n odd = let e : n ≡ 2 * (n / 2) + 1 = omega arith in ap (λ x. bit_or x 1) e ∙ (or_one_odd (n / 2) ∙ sym e)

@@ -10,6 +10,7 @@ use Rattle.sock_words.specs.declared.plain.Plan.{Plan}
 use Rattle.sock_model.specs.declared.home.Home.{Home}
 use Rattle.sock_model.specs.declared.view.View.{View}
 use Rattle.sock_model.specs.declared.view.StoredWord.{StoredWord}
+use Rattle.sock_model.specs.declared.chain.Heading.{Heading}
 use Rattle.sock_model.specs.Weights.{total, only}
 use Rattle.sock_model.specs.Layout.{place_index}
 use Rattle.sock_model.specs.Marks.{latest, says, noted}
@@ -30,7 +31,7 @@ use Rattle.chain_core.specs.sock_steps.proofs.ClaimSteps.{rights_stay, other_bas
 use Rattle.chain_core.specs.sock_steps.proofs.Maps.{set_at, set_twice}
 use Rattle.chain_core.specs.sock_steps.proofs.RuleFrame.{lasts_all, same_rule}
 use Rattle.sock_model.specs.Rule.{noting}
-use Rattle.sock_rule.specs.OnTable.{share_of, is_put, put_in, labelled_in, Follows, Settled, Labelled, OnTable}
+use Rattle.sock_rule.specs.OnTable.{share_of, is_put, put_in, is_labelled, labelled_in, is_headed, headed_in, Follows, Settled, Labelled, OnTable}
 use Rattle.sock_rule.specs.Rows.{IsHistory, put_at}
 use Rattle.sock_rule.proofs.Beside.{SameShare, Calm, drop_stays, beside}
 use Rattle.sock_rule.proofs.Faults.{calm}
@@ -56,17 +57,17 @@ wrote_more y word x w v = noted_more x w record { place = y; word = word } v.sto
 
 module _ {S : Type 0} {shows : S → Home} {p : Plan} {s : State S View} (id : ℕ) (v : View) (here : get_elem? s.views id ≡ some v) where
   -- what is lawful reads nothing of what seats found, nor for how many they stand
-  pub aside_law : Lawful shows p s → (share : ℕ) (finds : List StoredWord) (met : List (List StoredWord)) → Lawful shows p record { words = s.words; homes = s.homes; views = set s.views id (record v { share = share; finds = finds; histories = met }) }
-  aside_law o share finds met = let same : SameSlots v (record v { share = share; finds = finds; histories = met }) = record { plan = refl; marks = refl; passes = λ k. omega arith; spare = refl; stores = refl } in
-      let rights : (k : ℕ) → (tokens (set s.views id (record v { share = share; finds = finds; histories = met }))).rights k ≡ (tokens s.views).rights k = rights_stay o id v (record v { share = share; finds = finds; histories = met }) here same refl refl refl in
-      let claims : (q : ℕ) → (tokens (set s.views id (record v { share = share; finds = finds; histories = met }))).claims q ≡ (tokens s.views).claims q = λ q. gather_same (claims_of q) s.views id v (record v { share = share; finds = finds; histories = met }) here refl in
-      other_base o id v (record v { share = share; finds = finds; histories = met }) here same refl refl refl s.words s.homes (beside_all p o.slot s.words) (λ k. refl) (λ l ll. refl)
-      (chains_frame o.chains (λ k kl. refl) (λ q ql. refl) (λ q ql. refl) (λ k kl. rights k) (λ q ql. claims q) (λ q ql. gather_same (loose_at q) s.views id v (record v { share = share; finds = finds; histories = met }) here refl))
-      (messages_frame o.chains o.messages (tokens (set s.views id (record v { share = share; finds = finds; histories = met }))) (message shows s.homes) (λ q ql. refl) (λ q ql. claims q)
+  pub aside_law : Lawful shows p s → (share : ℕ) (finds : List StoredWord) (met : List (List StoredWord)) (drops : List Heading) → Lawful shows p record { words = s.words; homes = s.homes; views = set s.views id (record v { share = share; finds = finds; histories = met; drops = drops }) }
+  aside_law o share finds met drops = let same : SameSlots v (record v { share = share; finds = finds; histories = met; drops = drops }) = record { plan = refl; marks = refl; passes = λ k. omega arith; spare = refl; stores = refl } in
+      let rights : (k : ℕ) → (tokens (set s.views id (record v { share = share; finds = finds; histories = met; drops = drops }))).rights k ≡ (tokens s.views).rights k = rights_stay o id v (record v { share = share; finds = finds; histories = met; drops = drops }) here same refl refl refl in
+      let claims : (q : ℕ) → (tokens (set s.views id (record v { share = share; finds = finds; histories = met; drops = drops }))).claims q ≡ (tokens s.views).claims q = λ q. gather_same (claims_of q) s.views id v (record v { share = share; finds = finds; histories = met; drops = drops }) here refl in
+      other_base o id v (record v { share = share; finds = finds; histories = met; drops = drops }) here same refl refl refl s.words s.homes (beside_all p o.slot s.words) (λ k. refl) (λ l ll. refl)
+      (chains_frame o.chains (λ k kl. refl) (λ q ql. refl) (λ q ql. refl) (λ k kl. rights k) (λ q ql. claims q) (λ q ql. gather_same (loose_at q) s.views id v (record v { share = share; finds = finds; histories = met; drops = drops }) here refl))
+      (messages_frame o.chains o.messages (tokens (set s.views id (record v { share = share; finds = finds; histories = met; drops = drops }))) (message shows s.homes) (λ q ql. refl) (λ q ql. claims q)
       (λ k e kl u. record { right = u.right; has = rights k ∙ u.has; stage = u.stage; taken = u.taken }) (λ k r kl h g. (r, sym (rights k) ∙ h, g, refl, refl, refl)))
 
-  pub aside_rule : Rule shows p s → v.plan ≡ p → (share : ℕ) (finds : List StoredWord) (met : List (List StoredWord)) → Rule shows p record { words = s.words; homes = s.homes; views = set s.views id (record v { share = share; finds = finds; histories = met }) }
-  aside_rule r mine share finds met = same_rule r id v here mine (record v { share = share; finds = finds; histories = met }) s.words s.homes record { plan = refl; found = refl; lists = refl } (lasts_all p s.words) (aside_law r.lawful share finds met)
+  pub aside_rule : Rule shows p s → v.plan ≡ p → (share : ℕ) (finds : List StoredWord) (met : List (List StoredWord)) (drops : List Heading) → Rule shows p record { words = s.words; homes = s.homes; views = set s.views id (record v { share = share; finds = finds; histories = met; drops = drops }) }
+  aside_rule r mine share finds met drops = same_rule r id v here mine (record v { share = share; finds = finds; histories = met; drops = drops }) s.words s.homes record { plan = refl; found = refl; lists = refl } (lasts_all p s.words) (aside_law r.lawful share finds met drops)
 
 -- a seat that notes what it finds, which was stored there
 pub finds_beside : {S : Type 0} {shows : S → Home} {rose : S → ℕ} {p : Plan} {s : State S View} (t : OnTable shows rose p s) (id : ℕ) (v u : View) (here : get_elem? s.views id ≡ some v) (some_ : 0 < v.share) (mine : u.plan ≡ p) (ws : List ℕ) (x word : ℕ) → 0 < total (put_in x word) s.views
@@ -76,7 +77,7 @@ finds_beside {S} {shows} {rose} {p} {s} t id v u here some_ mine ws x word was s
     let o : OnTable shows rose p record { words = ws; homes = s.homes; views = set s.views id u } = beside t id v u here some_ ws s.homes (refl, λ l ll. refl) same c kept r in
     let more : (y z : ℕ) → total (put_in y z) s.views ≡ total (put_in y z) (set s.views id w) = λ y z. omega (arith, total-set (put_in y z) s.views id v w here, same.stores y z) in
     record {
-      rule = subst (λ vs. Rule shows p record { words = ws; homes = s.homes; views = vs }) (set_twice s.views id u w) (aside_rule {s = record { words = ws; homes = s.homes; views = set s.views id u }} id u (set_at s.views id u (at_length s.views id v here)) r mine u.share fs (t.stored ∷ u.histories));
+      rule = subst (λ vs. Rule shows p record { words = ws; homes = s.homes; views = vs }) (set_twice s.views id u w) (aside_rule {s = record { words = ws; homes = s.homes; views = set s.views id u }} id u (set_at s.views id u (at_length s.views id v here)) r mine u.share fs (t.stored ∷ u.histories) u.drops);
       housed = t.housed;
       shares = (let a = t.shares in omega (arith, same.share, total-set share_of s.views id v w here));
       listed = λ j z g. ⊎_elim (λ y. subst (λ (q : View). lists_of q ≤ q.share) y.1 (omega (arith, t.listed id v here, same.lists, same.share))) (λ y. t.listed j z y.1) (at_set s.views id j w z g);
@@ -84,21 +85,24 @@ finds_beside {S} {shows} {rose} {p} {s} t id v u here some_ mine ws x word was s
       stored = t.stored;
       put = λ y z. t.put y z ∙ more y z;
       placed = t.placed;
-      drops = λ l ll. drop_stays p s.views (set s.views id w) l (t.placed l) (λ n. more (place_index p l) n) (omega (arith, total-set (labelled_in l) s.views id v w here, same.accepts l)) (t.drops l ll);
+      drops = λ l ll. drop_stays p s.views (set s.views id w) l (t.placed l) (λ n. more (place_index p l) n) (omega (arith, total-set (labelled_in l) s.views id v w here, same.accepts (is_labelled l))) (t.drops l ll);
       faults = λ k kl. calm id v w here ws s.homes k (t.faults k kl) refl (c.faults k) (c.outs k);
       settled = kept;
       met = λ j z g n h e. ⊎_elim (λ y. own_met n h (subst (λ (q : View). get_elem? q.histories n ≡ some h) (sym y.1) e)) (λ y. t.met j z y.1 n h e) (at_set s.views id j w z g);
       labelled = λ j z g. ⊎_elim (λ y. subst (Labelled p) y.1 (same.labels (t.labelled id v here))) (λ y. t.labelled j z y.1) (at_set s.views id j w z g);
       found_was = λ j z g n f e. ⊎_elim (λ y. own (set s.views id w) more n f (subst (λ (q : View). get_elem? q.finds n ≡ some f) (sym y.1) e)) (λ y. omega (arith, t.found_was j z y.1 n f e, more f.place f.word)) (at_set s.views id j w z g);
+      dropped_was = λ j z g n h e. let l = o.dropped_was in let same_ = total-set (headed_in h) s.views id v w here in let as_u = total-set (headed_in h) s.views id v u here in
+          ⊎_elim (λ y. omega (arith, l id u (set_at s.views id u (at_length s.views id v here)) n h (subst (λ (q : View). get_elem? q.drops n ≡ some h) (sym y.1) e), same_, as_u))
+          (λ y. omega (arith, t.dropped_was j z y.1 n h e, same_, same.accepts (is_headed h))) (at_set s.views id j w z g);
     }
   where
     own_met : (n : ℕ) (h : List StoredWord) → get_elem? (t.stored ∷ u.histories) n ≡ some h → Follows t.stored h
     own_met zero h e = ([], some-injective t.stored h e)
-    own_met (suc n) h e = t.met id v here n h (subst (λ (l : List (List StoredWord)). get_elem? l n ≡ some h) (ap (λ (q : List StoredWord × List (List StoredWord)). q.1) same.finds) e)
+    own_met (suc n) h e = t.met id v here n h (subst (λ (l : List (List StoredWord)). get_elem? l n ≡ some h) (ap (λ (q : List StoredWord × (List (List StoredWord) × List Heading)). q.1.0) same.finds) e)
 
     own : (vs : List View) → ((y z : ℕ) → total (put_in y z) s.views ≡ total (put_in y z) vs) → (n : ℕ) (f : StoredWord) → get_elem? (record { place = x; word = word } ∷ u.finds) n ≡ some f → 0 < total (put_in f.place f.word) vs
     own vs more zero f e = subst (λ (q : StoredWord). 0 < total (put_in q.place q.word) vs) (some-injective (record { place = x; word = word }) f e) (omega (arith, was, more x word))
-    own vs more (suc n) f e = omega (arith, t.found_was id v here n f (subst (λ (l : List StoredWord). get_elem? l n ≡ some f) (ap (λ (q : List StoredWord × List (List StoredWord)). q.0) same.finds) e), more f.place f.word)
+    own vs more (suc n) f e = omega (arith, t.found_was id v here n f (subst (λ (l : List StoredWord). get_elem? l n ≡ some f) (ap (λ (q : List StoredWord × (List (List StoredWord) × List Heading)). q.0) same.finds) e), more f.place f.word)
 
 -- a seat that stores a word, which stands before all that was stored then
 pub puts_beside : {S : Type 0} {shows : S → Home} {rose : S → ℕ} {p : Plan} {s : State S View} (t : OnTable shows rose p s) (id : ℕ) (v : View) (here : get_elem? s.views id ≡ some v) (some_ : 0 < v.share) (mine : v.plan ≡ p) (ws : List ℕ) (x word : ℕ) → x < 6 * p.slots + p.names + p.operations
@@ -107,7 +111,7 @@ pub puts_beside : {S : Type 0} {shows : S → Home} {rose : S → ℕ} {p : Plan
 puts_beside {S} {shows} {rose} {p} {s} t id v here some_ mine ws x word low kept r = let u : View = noting x (wrote x word v) in let w : View = put_at x word (record { place = x; word = word } ∷ t.stored) v in
     let more : (y z : ℕ) → is_put y z record { place = x; word = word } + total (put_in y z) s.views ≡ total (put_in y z) (set s.views id w) = λ y z. omega (arith, total-set (put_in y z) s.views id v w here, wrote_more x word y z v) in
     record {
-      rule = subst (λ vs. Rule shows p record { words = ws; homes = s.homes; views = vs }) (set_twice s.views id u w) (aside_rule {s = record { words = ws; homes = s.homes; views = set s.views id u }} id u (set_at s.views id u (at_length s.views id v here)) r mine u.share u.finds ((record { place = x; word = word } ∷ t.stored) ∷ v.histories));
+      rule = subst (λ vs. Rule shows p record { words = ws; homes = s.homes; views = vs }) (set_twice s.views id u w) (aside_rule {s = record { words = ws; homes = s.homes; views = set s.views id u }} id u (set_at s.views id u (at_length s.views id v here)) r mine u.share u.finds ((record { place = x; word = word } ∷ t.stored) ∷ v.histories) u.drops);
       housed = t.housed;
       shares = (let a = t.shares in omega (arith, total-set share_of s.views id v w here));
       listed = λ j z g. ⊎_elim (λ y. subst (λ (q : View). lists_of q ≤ q.share) y.1 (t.listed id v here)) (λ y. t.listed j z y.1) (at_set s.views id j w z g);
@@ -122,6 +126,8 @@ puts_beside {S} {shows} {rose} {p} {s} t id v here some_ mine ws x word low kept
       labelled = λ j z g. ⊎_elim (λ y. subst (Labelled p) y.1 (t.labelled id v here)) (λ y. t.labelled j z y.1) (at_set s.views id j w z g);
       found_was = λ j z g n f e. ⊎_elim (λ y. omega (arith, t.found_was id v here n f (subst (λ (q : View). get_elem? q.finds n ≡ some f) (sym y.1) e), more f.place f.word))
           (λ y. omega (arith, t.found_was j z y.1 n f e, more f.place f.word)) (at_set s.views id j w z g);
+      dropped_was = λ j z g n h e. let same_ = total-set (headed_in h) s.views id v w here in
+          ⊎_elim (λ y. omega (arith, t.dropped_was id v here n h (subst (λ (q : View). get_elem? q.drops n ≡ some h) (sym y.1) e), same_)) (λ y. omega (arith, t.dropped_was j z y.1 n h e, same_)) (at_set s.views id j w z g);
     }
   where
     further : (h : List StoredWord) → Follows t.stored h → Follows (record { place = x; word = word } ∷ t.stored) h

@@ -8,7 +8,7 @@ use Rattle.sock_model.specs.declared.home.Home.TheVariants as home
 use Rattle.sock_model.specs.declared.view.View.{View}
 use Rattle.sock_rule.specs.declared.homes.LinkHome.{LinkHome}
 use Rattle.sock_rule.specs.declared.homes.SockHome.{SockHome}
-use Rattle.sock_rule.specs.declared.homes.SockHome.TheVariants.{Empty, Link, Message}
+use Rattle.sock_rule.specs.declared.homes.SockHome.TheVariants.{Empty, Link, Message, Ways}
 use Rattle.sock_model.specs.ChainRows.{without_hand}
 use Rattle.message_parts.specs.Parcels.{parcel_of}
 use Rattle.sock_rule.specs.declared.homes.Letter.{Letter}
@@ -16,11 +16,12 @@ use Rattle.sock_model.specs.declared.chain.Heading.{Heading}
 use Rattle.sock_model.specs.declared.chain.Right.{Right}
 use Rattle.sock_model.specs.Entries.{slot_of}
 use Rattle.sock_model.specs.ChainRows.{with_right, taken_right, dropped_right}
-use Rattle.sock_model.specs.SlotRows.{wrote}
+use Rattle.sock_rule.specs.Rows.{dropped_at}
 use Rattle.sock_rule.specs.ChainPlays.{TookOwn, TookLetter}
 use Rattle.sock_rule.specs.Faults.{faults_of, fault_found, fault_left}
-use Rattle.sock_rule.specs.Shows.{shows, rose, heading_of}
+use Rattle.sock_rule.specs.Shows.{shows, rose, heading_of, way_at, number_in, shows_in}
 use Rattle.sock_rule.specs.Plays.{TookLink}
+use Rattle.sock_rule.proofs.Ways.{own_number}
 
 abbrev number : Home → ℕ
 number (home.Link k took next done) = k
@@ -46,7 +47,7 @@ top d (c ∷ cs) = c.1
 pub taken_slots : {S : Type 0} {f : S → Home} {faults : S → ℕ} {m n : Me S View} {k : ℕ} {row : List ℕ → ℕ → View} (t : TookLink f faults m n k row) (q : Plan) → m.0.plan ≡ q → n.1 ≡ (q.requests + k, t.value) ∷ rest n.1
 taken_slots {k = k} t q e = t.slots ∙ (λ i. ((e i).requests + k, t.value) ∷ rest (sym t.slots i))
 
-module _ {O : Type 0} {g : Ghosts O} (m n : Me (SockHome O g) View) (k : ℕ) (row : List ℕ → ℕ → View) (t : TookLink shows rose m n k row) (slot : ℕ) (x : SockHome O g) (moved : n.1 ≡ (slot, x) ∷ rest n.1) where
+module _ {O : Type 0} {g : Ghosts O} (p : Plan) (ways : List (List ℕ)) (m n : Me (SockHome O g) View) (k : ℕ) (row : List ℕ → ℕ → View) (t : TookLink (shows_in p ways) rose m n k row) (slot : ℕ) (x : SockHome O g) (moved : n.1 ≡ (slot, x) ∷ rest n.1) where
   value_is : t.value ≡ x
   value_is = ap (top t.value) (sym t.slots ∙ moved)
 
@@ -54,16 +55,17 @@ module _ {O : Type 0} {g : Ghosts O} (m n : Me (SockHome O g) View) (k : ℕ) (r
   must_link none_ = by_value x refl
     where
       by_value : (y : SockHome O g) → x ≡ y → ⊥
-      by_value Empty e = let a = ap is_link (sym t.shown ∙ ap shows (value_is ∙ e)) in omega arith
+      by_value Empty e = let a = ap is_link (sym t.shown ∙ ap (shows_in p ways) (value_is ∙ e)) in omega arith
       by_value (Link h) e = none_ h e
-      by_value (Message m) e = let a = ap is_link (sym t.shown ∙ ap shows (value_is ∙ e)) in omega arith
+      by_value (Message m) e = let a = ap is_link (sym t.shown ∙ ap (shows_in p ways) (value_is ∙ e)) in omega arith
+      by_value (Ways w) e = let a = ap is_link (sym t.shown ∙ ap (shows_in p ways) (value_is ∙ e)) in omega arith
 
   module _ (h : LinkHome O g) (is : x ≡ Link h) where
-    shown_is : home.Link (g.state h.out).link h.took.list h.next (g.state h.out).finished ≡ home.Link k t.took t.next t.done
-    shown_is = ap shows (sym (value_is ∙ is)) ∙ t.shown
+    shown_is : home.Link (number_in p ways (g.state h.out)) h.took.list h.next (g.state h.out).finished ≡ home.Link k t.took t.next t.done
+    shown_is = ap (shows_in p ways) (sym (value_is ∙ is)) ∙ t.shown
 
-    pub its_link : (g.state h.out).link ≡ k
-    its_link = ap number shown_is
+    pub its_link : k < p.links → ((g.state h.out).link ≡ k) × ((g.state h.out).way ≡ way_at ways k)
+    its_link low = own_number p ways (g.state h.out) k (ap number shown_is) low
 
     pub its_known : 0 < faults_of k m.0 → 0 < (g.state h.out).faults
     its_known some_ = subst (λ (y : SockHome O g). 0 < rose y) (value_is ∙ is) (t.known some_)
@@ -84,14 +86,14 @@ back_home {S} faults m n r q k y plan is told = let v = ap (λ (x : Me S View). 
 
 -- ## The link of a right, and a message
 
-pub own_slots : {O : Type 0} {g : Ghosts O} (m n : Me (SockHome O g) View) (r : Right) (i : ℕ) (t : TookOwn shows rose m n r i) (q : Plan) → m.0.plan ≡ q → n.1 ≡ (q.requests + r.link, t.value) ∷ rest n.1
-own_slots m n r at t q e = t.slots ∙ (λ i. ((e i).requests + r.link, t.value) ∷ rest (sym t.slots i))
+pub own_slots : {O : Type 0} {g : Ghosts O} (p : Plan) (ways : List (List ℕ)) (m n : Me (SockHome O g) View) (r : Right) (i : ℕ) (t : TookOwn (shows_in p ways) rose m n r i) (q : Plan) → m.0.plan ≡ q → n.1 ≡ (q.requests + r.link, t.value) ∷ rest n.1
+own_slots p ways m n r at t q e = t.slots ∙ (λ i. ((e i).requests + r.link, t.value) ∷ rest (sym t.slots i))
 
 abbrev is_done : Home → Bool
 is_done (home.Link k took next done) = done
 is_done _ = true
 
-module _ {O : Type 0} {g : Ghosts O} (m n : Me (SockHome O g) View) (r : Right) (at : ℕ) (t : TookOwn shows rose m n r at) (slot : ℕ) (x : SockHome O g) (moved : n.1 ≡ (slot, x) ∷ rest n.1) where
+module _ {O : Type 0} {g : Ghosts O} (p : Plan) (ways : List (List ℕ)) (m n : Me (SockHome O g) View) (r : Right) (at : ℕ) (t : TookOwn (shows_in p ways) rose m n r at) (slot : ℕ) (x : SockHome O g) (moved : n.1 ≡ (slot, x) ∷ rest n.1) where
   own_value : t.value ≡ x
   own_value = ap (top t.value) (sym t.slots ∙ moved)
 
@@ -99,16 +101,20 @@ module _ {O : Type 0} {g : Ghosts O} (m n : Me (SockHome O g) View) (r : Right) 
   must_own none_ = by_value x refl
     where
       by_value : (y : SockHome O g) → x ≡ y → ⊥
-      by_value Empty e = let a = ap is_link (sym t.shown ∙ ap shows (own_value ∙ e)) in omega arith
+      by_value Empty e = let a = ap is_link (sym t.shown ∙ ap (shows_in p ways) (own_value ∙ e)) in omega arith
       by_value (Link h) e = none_ h e
-      by_value (Message w) e = let a = ap is_link (sym t.shown ∙ ap shows (own_value ∙ e)) in omega arith
+      by_value (Message w) e = let a = ap is_link (sym t.shown ∙ ap (shows_in p ways) (own_value ∙ e)) in omega arith
+      by_value (Ways w) e = let a = ap is_link (sym t.shown ∙ ap (shows_in p ways) (own_value ∙ e)) in omega arith
 
   module _ (h : LinkHome O g) (is : x ≡ Link h) where
-    own_shown : home.Link (g.state h.out).link h.took.list h.next (g.state h.out).finished ≡ home.Link r.link r.sent r.places false
-    own_shown = ap shows (sym (own_value ∙ is)) ∙ t.shown
+    own_shown : home.Link (number_in p ways (g.state h.out)) h.took.list h.next (g.state h.out).finished ≡ home.Link r.link r.sent r.places false
+    own_shown = ap (shows_in p ways) (sym (own_value ∙ is)) ∙ t.shown
 
-    pub own_link : ((g.state h.out).link ≡ r.link) × ((g.state h.out).finished ≡ false)
-    own_link = (ap number own_shown, ap is_done own_shown)
+    pub own_link : r.link < p.links → ((g.state h.out).link ≡ r.link) × ((g.state h.out).way ≡ way_at ways r.link)
+    own_link low = own_number p ways (g.state h.out) r.link (ap number own_shown) low
+
+    pub own_unfinished : (g.state h.out).finished ≡ false
+    own_unfinished = ap is_done own_shown
 
     pub own_took : (h.took.list ≡ r.sent) × (h.next ≡ r.places)
     own_took = (ap bytes own_shown, ap next_place own_shown)
@@ -142,6 +148,7 @@ module _ {O : Type 0} {g : Ghosts O} (m n : Me (SockHome O g) View) (r : Right) 
       by_value Empty e = let a = ap is_letter (sym t.shown ∙ ap shows (letter_value ∙ e)) in omega arith
       by_value (Link h) e = let a = ap is_letter (sym t.shown ∙ ap shows (letter_value ∙ e)) in omega arith
       by_value (Message w) e = none_ w e
+      by_value (Ways w) e = let a = ap is_letter (sym t.shown ∙ ap shows (letter_value ∙ e)) in omega arith
 
   module _ (h : Letter) (is : x ≡ Message h) where
     letter_shown : home.Message (heading_of h) (parcel_of h.bytes).bytes ≡ home.Message t.heading t.bytes
@@ -160,6 +167,7 @@ abbrev link_or : {O : Type 0} {g : Ghosts O} → LinkHome O g → SockHome O g �
 link_or d (Link h) = h
 link_or d Empty = d
 link_or d (Message m) = d
+link_or d (Ways w) = d
 
 module _ {O : Type 0} {g : Ghosts O} (l : List (ℕ × SockHome O g)) (slot : ℕ) (home : LinkHome O g) (x : SockHome O g) (below : List (ℕ × SockHome O g)) (there : l ≡ (slot, Link home) ∷ below) (moved : l ≡ (slot, x) ∷ rest l) where
   pub comes_back : Link home ≡ x
@@ -173,11 +181,11 @@ module _ {O : Type 0} {g : Ghosts O} (m₀ m₁ : Me (SockHome O g) View) (slot 
   pub laid_top : m₁.1 ≡ (slot, Link home) ∷ rest m₁.1
   laid_top = let t = ap (λ (m : Me (SockHome O g) View). m.1) laid in t ∙ ap (λ (l : List (ℕ × SockHome O g)). (slot, Link home) ∷ l) (sym (ap rest t))
 
-  module _ (m₂ : Me (SockHome O g) View) (x : Right) (n word value : ℕ) (told : m₂ ≡ (wrote word value (with_right m₁.0 (dropped_right x n home.took.list)), m₁.1)) where
+  module _ (m₂ : Me (SockHome O g) View) (x : Right) (n word value : ℕ) (told : m₂ ≡ (dropped_at word value x.heading (with_right m₁.0 (dropped_right x n home.took.list)), m₁.1)) where
     pub laid_still : m₂.1 ≡ (slot, Link home) ∷ rest m₂.1
     laid_still = let t = ap (λ (m : Me (SockHome O g) View). m.1) told in t ∙ (laid_top ∙ ap (λ (l : List (ℕ × SockHome O g)). (slot, Link home) ∷ rest l) (sym t))
 
-    pub dropped_after : (m₃ : Me (SockHome O g) View) → m₃ ≡ (m₂.0, (slot, Empty) ∷ rest m₂.1) → m₃ ≡ (wrote word value (with_right m₀.0 (dropped_right x n home.took.list)), m₀.1)
-    dropped_after m₃ e = let v : m₂.0 ≡ wrote word value (with_right m₀.0 (dropped_right x n home.took.list)) = ap (λ (m : Me (SockHome O g) View). m.0) told ∙ ap (λ (m : Me (SockHome O g) View). wrote word value (with_right m.0 (dropped_right x n home.took.list))) laid in
+    pub dropped_after : (m₃ : Me (SockHome O g) View) → m₃ ≡ (m₂.0, (slot, Empty) ∷ rest m₂.1) → m₃ ≡ (dropped_at word value x.heading (with_right m₀.0 (dropped_right x n home.took.list)), m₀.1)
+    dropped_after m₃ e = let v : m₂.0 ≡ dropped_at word value x.heading (with_right m₀.0 (dropped_right x n home.took.list)) = ap (λ (m : Me (SockHome O g) View). m.0) told ∙ ap (λ (m : Me (SockHome O g) View). dropped_at word value x.heading (with_right m.0 (dropped_right x n home.took.list))) laid in
         let below : rest m₂.1 ≡ rest m₀.1 = ap (λ (m : Me (SockHome O g) View). rest m.1) told ∙ ap (λ (m : Me (SockHome O g) View). rest m.1) laid in
-        e ∙ ((λ i. (v i, (at i, Empty) ∷ below i)) ∙ (λ i. (wrote word value (with_right m₀.0 (dropped_right x n home.took.list)), sym there i)))
+        e ∙ ((λ i. (v i, (at i, Empty) ∷ below i)) ∙ (λ i. (dropped_at word value x.heading (with_right m₀.0 (dropped_right x n home.took.list)), sym there i)))

@@ -21,7 +21,8 @@ use Rattle.sock_model.specs.Memory.{IDLE, UNCONNECTED}
 use Rattle.sock_model.specs.Entries.{slot_of, generation_of}
 use Rattle.sock_model.specs.Slots.{version_of}
 use Rattle.sock_model.specs.References.{slot_facts}
-use Rattle.sock_model.specs.SlotRows.{marks_of, looked, wrote}
+use Rattle.sock_model.specs.SlotRows.{marks_of, looked}
+use Rattle.sock_rule.specs.Rows.{dropped_at}
 use Rattle.sock_model.specs.ChainRows.{with_right, without_right, walking_right, passing_right, reading_right, turned_right, freed_stage, freed_right, placed_right, dropped_right, taken_right}
 use Rattle.sock_model.specs.Conditions.{HasRight, MayPlace, MayDrop, MayTake, MayEmpty, MayTurn}
 use Rattle.sock_model.specs.Deliveries.{place_value}
@@ -240,13 +241,13 @@ module _ {S : Type 0} (shows : S → Home) (rose : S → ℕ) (p : Plan) (slots 
       → Allows (OnTable shows rose p) slots id me (place_index p r.heading.place) (λ _. place_value true r.link r.places) (λ _. drop_told shows (step slots (place_index p r.heading.place) (place_value true r.link r.places) 0 none) me (place_value true r.link r.places))
   drops now j h y stage taken away label part top holds seen s t long here fits = let may : MayDrop p v = record { mine = has_one; now = now; sent = took_in (shows y.1); stage = stage; taken = taken; away = away; label_in = label; part = part } in
       let u : View = with_right v (dropped_right r now (took_in (shows y.1))) in let x : ℕ = place_index p r.heading.place in let value : ℕ = place_value true r.link r.places in (
-        wrote (place_index p r.heading.place) (place_value true r.link r.places) (with_right v (dropped_right r now (took_in (shows y.1)))),
+        dropped_at (place_index p r.heading.place) (place_value true r.link r.places) r.heading (with_right v (dropped_right r now (took_in (shows y.1)))),
         keeps,
         tt,
         drops_beside t id v here r one now stage taken label value u (omega arith) some_ mine (quiet (dropped_right r now (took_in (shows y.1)))) (steady (dropped_right r now (took_in (shows y.1))) refl refl) refl (omega (arith, t.rule.lawful.references.sized)) (λ noted same. place_settled t.settled r.heading.place value noted same (omega (arith, t.rule.lawful.references.sized)))
             (place_rule t.rule id v here mine r.heading.place value (dropped_right r now (took_in (shows y.1))) s.homes (dropping_law shows p id v may s t.rule.lawful here (failed_life s t here j h holds seen))),
         λ q m z e st at. let same = its q e in let sm : now ≡ m = writes_same now m (sym stage ∙ (ap (λ (u : Right). u.stage) same ∙ st)) in let sy : y ≡ z = first_is y z (rest me.1) (rest me.1) (sym top ∙ at) in
-            λ i. (wrote x value (with_right v (dropped_right (same i) (sm i) (took_in (shows (sy i).1)))), me.1),
+            λ i. (dropped_at x value (same i).heading (with_right v (dropped_right (same i) (sm i) (took_in (shows (sy i).1)))), me.1),
       )
 
   -- C5 after a message that has its place

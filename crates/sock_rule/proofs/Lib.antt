@@ -21,3 +21,4 @@ pub mod LinksBack
 pub mod Counting
 pub mod Placing
 pub mod DropsTold
+pub mod Ways

@@ -1,7 +1,7 @@
 -- P1: the word of a place index changes, and a seat notes that it dropped a message. A second store at the same index means that two accepted messages have it.
-use Rattle.std.proofs.Common.{◌≡◌, ◌≢◌, ℕ, ◌+◌, ◌-◌, ◌*◌, ◌/◌, ◌%◌, ◌<◌, ◌≤◌, List, [], ◌∷◌, length, length-set, map, get_or, set, true, cond, ne_eqb, inl, refl, sym, ap, ◌∙◌, subst, ⊎_elim, arith}
+use Rattle.std.proofs.Common.{◌≡◌, ◌≢◌, ℕ, zero, suc, ◌+◌, ◌-◌, ◌*◌, ◌/◌, ◌%◌, ◌<◌, ◌≤◌, List, [], ◌∷◌, length, length-set, map, get_or, set, true, cond, ne_eqb, inl, refl, sym, ap, ◌∙◌, subst, ⊎_elim, arith}
 use mathlib.Core.Logic.{dite}
-use mathlib.Core.Option.{some}
+use mathlib.Core.Option.{some, some-injective}
 use native.Mathlib.Decide.{ℕ_discrete}
 use lib.ListN.{get_elem?}
 use lib.Seq.{map-set}
@@ -35,12 +35,13 @@ use Rattle.chain_core.specs.sock_steps.proofs.RightSteps.{right_in, right_alone}
 use Rattle.chain_core.specs.sock_steps.proofs.RuleFrame.{lasts_all, same_rule}
 use Rattle.chain_core.specs.sock_steps.proofs.SlotFrame.{still_holds, slot_frame}
 use Rattle.chain_core.specs.sock_steps.proofs.Steady.{wrote_steady}
-use Rattle.sock_rule.specs.OnTable.{share_of, is_put, put_in, DROPPED, is_labelled, labelled_in, IsDropKept, Follows, Settled, Labelled, OnTable}
+use Rattle.sock_rule.specs.OnTable.{share_of, is_put, put_in, DROPPED, is_labelled, labelled_in, is_headed, headed_in, IsDropKept, Follows, Settled, Labelled, OnTable}
 use Rattle.sock_rule.proofs.Beside.{SameShare, Calm, drop_stays, beside_placed}
 use Rattle.sock_rule.proofs.Faults.{calm}
 use Rattle.sock_rule.proofs.Closes.{two_terms}
 use Rattle.sock_rule.proofs.Counting.{log_weight, on_weight, on_both}
-use Rattle.sock_rule.proofs.Finds.{wrote_more}
+use Rattle.sock_rule.proofs.Finds.{wrote_more, aside_rule}
+use Rattle.sock_rule.specs.Rows.{dropped_at}
 
 -- ## A note of a store elsewhere than at names and operations
 
@@ -111,6 +112,17 @@ module _ {S : Type 0} {shows : S → Home} {rose : S → ℕ} {p : Plan} {s : St
             (λ n. omega (arith, term_le (is_labelled r.heading.place) (on k o.log) i d g, term_le (is_labelled r.heading.place) (on r.link o.log) (o.places r.link) e.0 e.1, on_both (is_labelled r.heading.place) k r.link o.log n)))
       ]
 
+  -- the message in hand was accepted
+  headed_there : 0 < total (headed_in r.heading) s.views
+  headed_there = let o = t.rule.lawful in
+      let has_ = ap (λ (y : List Right). get_elem? y 0) one in let kl = right_in o id 0 v r here has_ in let alone = right_alone o id 0 v r here has_ in
+      let e = at_some (on r.link o.log) (o.places r.link) (writes_room o.chains r.link r now kl alone stage) in
+      let its : r.heading ≡ e.0.heading = (o.messages.in_hand r.link r e.0 kl alone taken e.1).0 in
+      let place = only-at r.heading.place e.0.heading.place (sym (ap (λ (h : Heading). h.place) its)) in
+      let rest_ = pair-at r.heading.attempt r.heading.owner e.0.heading.attempt e.0.heading.owner (sym (ap (λ (h : Heading). h.attempt) its)) (sym (ap (λ (h : Heading). h.owner) its)) in
+      let one_ : is_headed r.heading e.0 ≡ 1 = λ i. place i * rest_ i in
+      omega (arith, one_, term_le (is_headed r.heading) (on r.link o.log) (o.places r.link) e.0 e.1, on_weight (is_headed r.heading) r.link o.log, log_weight (is_headed r.heading) (λ (y : View). y.lists) s.views o.log o.authors)
+
   -- so no message with this index was dropped before, where it is that of one message
   no_drop : total (labelled_in r.heading.place) s.views ≤ 1 → (n : ℕ) → 0 < total (put_in (place_index p r.heading.place) n) s.views → ⊥
   no_drop one_ n some_ = let a = (t.drops r.heading.place low).stays one_ n some_ in let z = placed_twice (λ e. (let b = a.0 in let c = a.1 in omega arith)) in omega arith
@@ -137,10 +149,13 @@ module _ {S : Type 0} {shows : S → Home} {rose : S → ℕ} {p : Plan} {s : St
   pub drops_beside : (value : ℕ) (u : View) → DROPPED ≤ value → 0 < v.share → u.plan ≡ p → SameShare p v u → Calm v u → u.lists ≡ v.lists → place_index p r.heading.place < length s.words
       → ((noted : List StoredWord) → ((y : ℕ) → y < 6 * p.slots + p.names + p.operations → latest y noted ≡ latest y t.stored) → Settled p noted (put t.placed r.heading.place value) (set s.words (place_index p r.heading.place) value) s.homes)
       → Rule shows p record { words = set s.words (place_index p r.heading.place) value; homes = s.homes; views = set s.views id u }
-      → OnTable shows rose p record { words = set s.words (place_index p r.heading.place) value; homes = s.homes; views = set s.views id (wrote (place_index p r.heading.place) value u) }
-  drops_beside value u high some_ mine same c lists long kept rule = let w : View = wrote (place_index p r.heading.place) value u in record {
-    rule = subst (λ vs. Rule shows p record { words = set s.words (place_index p r.heading.place) value; homes = s.homes; views = vs }) (set_twice s.views id u w)
-        (noted_rule shows p record { words = set s.words (place_index p r.heading.place) value; homes = s.homes; views = set s.views id u } id u (set_at s.views id u (at_length s.views id v here)) (place_index p r.heading.place) value (omega arith) rule mine);
+      → OnTable shows rose p record { words = set s.words (place_index p r.heading.place) value; homes = s.homes; views = set s.views id (dropped_at (place_index p r.heading.place) value r.heading u) }
+  drops_beside value u high some_ mine same c lists long kept rule = let w : View = dropped_at (place_index p r.heading.place) value r.heading u in let wrote_it : View = wrote (place_index p r.heading.place) value u in record {
+    rule = subst (λ vs. Rule shows p record { words = set s.words (place_index p r.heading.place) value; homes = s.homes; views = vs }) (set_twice s.views id wrote_it w)
+        (aside_rule {s = record { words = set s.words (place_index p r.heading.place) value; homes = s.homes; views = set s.views id wrote_it }} id wrote_it (set_at s.views id wrote_it (at_length s.views id v here))
+        (subst (λ vs. Rule shows p record { words = set s.words (place_index p r.heading.place) value; homes = s.homes; views = vs }) (set_twice s.views id u wrote_it)
+        (noted_rule shows p record { words = set s.words (place_index p r.heading.place) value; homes = s.homes; views = set s.views id u } id u (set_at s.views id u (at_length s.views id v here)) (place_index p r.heading.place) value (omega arith) rule mine))
+        mine u.share u.finds u.histories (r.heading ∷ u.drops));
     housed = t.housed;
     shares = (let a = t.shares in omega (arith, same.share, total-set share_of s.views id v w here));
     listed = λ j z g. ⊎_elim (λ y. subst (λ (q : View). lists_of q ≤ q.share) y.1 (omega (arith, t.listed id v here, same.lists, same.share))) (λ y. t.listed j z y.1) (at_set s.views id j w z g);
@@ -151,30 +166,38 @@ module _ {S : Type 0} {shows : S → Home} {rose : S → ℕ} {p : Plan} {s : St
     drops = drops;
     faults = λ k kl. calm id v w here (set s.words (place_index p r.heading.place) value) s.homes k (t.faults k kl) refl (c.faults k) (c.outs k);
     settled = kept (noting_drop (place_index p r.heading.place) value ∷ t.stored) (λ y low_. ap (λ b. cond b value (latest y t.stored)) (ne_eqb (place_index p r.heading.place) y (λ e. omega arith)));
-    met = λ j z g n h e. further h (⊎_elim (λ y. t.met id v here n h (subst (λ (l : List (List StoredWord)). get_elem? l n ≡ some h) (ap (λ (q : List StoredWord × List (List StoredWord)). q.1) same.finds) (subst (λ (q : View). get_elem? q.histories n ≡ some h) (sym y.1) e)))
+    met = λ j z g n h e. further h (⊎_elim (λ y. t.met id v here n h (subst (λ (l : List (List StoredWord)). get_elem? l n ≡ some h) (ap (λ (q : List StoredWord × (List (List StoredWord) × List Heading)). q.1.0) same.finds) (subst (λ (q : View). get_elem? q.histories n ≡ some h) (sym y.1) e)))
         (λ y. t.met j z y.1 n h e) (at_set s.views id j w z g));
     labelled = λ j z g. ⊎_elim (λ y. subst (Labelled p) y.1 (same.labels (t.labelled id v here))) (λ y. t.labelled j z y.1) (at_set s.views id j w z g);
-    found_was = λ j z g n f e. ⊎_elim (λ y. let x : get_elem? v.finds n ≡ some f = subst (λ (l : List StoredWord). get_elem? l n ≡ some f) (ap (λ (q : List StoredWord × List (List StoredWord)). q.0) same.finds) (subst (λ (q : View). get_elem? q.finds n ≡ some f) (sym y.1) e) in omega (arith, t.found_was id v here n f x, puts f.place f.word))
+    found_was = λ j z g n f e. ⊎_elim (λ y. let x : get_elem? v.finds n ≡ some f = subst (λ (l : List StoredWord). get_elem? l n ≡ some f) (ap (λ (q : List StoredWord × (List (List StoredWord) × List Heading)). q.0) same.finds) (subst (λ (q : View). get_elem? q.finds n ≡ some f) (sym y.1) e) in omega (arith, t.found_was id v here n f x, puts f.place f.word))
         (λ y. omega (arith, t.found_was j z y.1 n f e, puts f.place f.word)) (at_set s.views id j w z g);
+    dropped_was = λ j z g n f e. ⊎_elim (λ y. own n f (subst (λ (q : View). get_elem? q.drops n ≡ some f) (sym y.1) e)) (λ y. omega (arith, t.dropped_was j z y.1 n f e, headed f)) (at_set s.views id j w z g);
   }
     where
-      puts : (y z : ℕ) → is_put y z (noting_drop (place_index p r.heading.place) value) + total (put_in y z) s.views ≡ total (put_in y z) (set s.views id (wrote (place_index p r.heading.place) value u))
-      puts y z = omega (arith, total-set (put_in y z) s.views id v (wrote (place_index p r.heading.place) value u) here, wrote_more (place_index p r.heading.place) value y z u, same.stores y z)
+      puts : (y z : ℕ) → is_put y z (noting_drop (place_index p r.heading.place) value) + total (put_in y z) s.views ≡ total (put_in y z) (set s.views id (dropped_at (place_index p r.heading.place) value r.heading u))
+      puts y z = omega (arith, total-set (put_in y z) s.views id v (dropped_at (place_index p r.heading.place) value r.heading u) here, wrote_more (place_index p r.heading.place) value y z u, same.stores y z)
 
       further : (h : List StoredWord) → Follows t.stored h → Follows (noting_drop (place_index p r.heading.place) value ∷ t.stored) h
       further h g = (noting_drop (place_index p r.heading.place) value ∷ g.0, ap (λ (l : List StoredWord). noting_drop (place_index p r.heading.place) value ∷ l) g.1)
 
-      labels : (l : ℕ) → total (labelled_in l) s.views ≡ total (labelled_in l) (set s.views id (wrote (place_index p r.heading.place) value u))
-      labels l = omega (arith, total-set (labelled_in l) s.views id v (wrote (place_index p r.heading.place) value u) here, ap (total (total (is_labelled l))) lists)
+      headed : (f : Heading) → total (headed_in f) s.views ≡ total (headed_in f) (set s.views id (dropped_at (place_index p r.heading.place) value r.heading u))
+      headed f = omega (arith, total-set (headed_in f) s.views id v (dropped_at (place_index p r.heading.place) value r.heading u) here, ap (total (total (is_headed f))) lists)
 
-      drops : (l : ℕ) → l < 8 * p.operations → IsDropKept p (set s.views id (wrote (place_index p r.heading.place) value u)) l (put t.placed r.heading.place value l)
+      own : (n : ℕ) (f : Heading) → get_elem? (r.heading ∷ u.drops) n ≡ some f → 0 < total (headed_in f) (set s.views id (dropped_at (place_index p r.heading.place) value r.heading u))
+      own zero f e = subst (λ (q : Heading). 0 < total (headed_in q) (set s.views id (dropped_at (place_index p r.heading.place) value r.heading u))) (some-injective r.heading f e) (omega (arith, headed_there, headed r.heading))
+      own (suc n) f e = omega (arith, t.dropped_was id v here n f (subst (λ (l : List Heading). get_elem? l n ≡ some f) (ap (λ (q : List StoredWord × (List (List StoredWord) × List Heading)). q.1.1) same.finds) e), headed f)
+
+      labels : (l : ℕ) → total (labelled_in l) s.views ≡ total (labelled_in l) (set s.views id (dropped_at (place_index p r.heading.place) value r.heading u))
+      labels l = omega (arith, total-set (labelled_in l) s.views id v (dropped_at (place_index p r.heading.place) value r.heading u) here, ap (total (total (is_labelled l))) lists)
+
+      drops : (l : ℕ) → l < 8 * p.operations → IsDropKept p (set s.views id (dropped_at (place_index p r.heading.place) value r.heading u)) l (put t.placed r.heading.place value l)
       drops l ll = dite (ℕ_discrete l r.heading.place)
-          (λ e. subst (IsDropKept p (set s.views id (wrote (place_index p r.heading.place) value u)) l) (sym (put-at t.placed r.heading.place l value e)) record {
+          (λ e. subst (IsDropKept p (set s.views id (dropped_at (place_index p r.heading.place) value r.heading u)) l) (sym (put-at t.placed r.heading.place l value e)) record {
             told = λ h. omega (arith, puts (place_index p l) value, pair-at (place_index p l) value (place_index p r.heading.place) value (ap (place_index p) (sym e)) refl);
             stays = λ one_ n there. dite (ℕ_discrete value n) (λ y. (y, (let z = high in omega arith)))
                 (λ ne. absurd (dite (ℕ_discrete (total (put_in (place_index p l) n) s.views) 0)
                 (λ none_. ne (pair_is (place_index p l) n (place_index p r.heading.place) value (omega (arith, puts (place_index p l) n))).1)
                 (λ some_. no_drop (omega (arith, labels l, ap (λ (y : ℕ). total (labelled_in y) s.views) e)) n (omega (arith, ap (λ (y : ℕ). total (put_in (place_index p y) n) s.views) e)))));
           })
-          (λ ne. subst (IsDropKept p (set s.views id (wrote (place_index p r.heading.place) value u)) l) (sym (put-else t.placed r.heading.place l value ne))
-          (drop_stays p s.views (set s.views id (wrote (place_index p r.heading.place) value u)) l (t.placed l) (λ n. omega (arith, puts (place_index p l) n, pair_only (place_index p l) n (place_index p r.heading.place) value, only-else (place_index p l) (place_index p r.heading.place) (λ e. ne (omega arith)))) (omega (arith, labels l)) (t.drops l ll)))
+          (λ ne. subst (IsDropKept p (set s.views id (dropped_at (place_index p r.heading.place) value r.heading u)) l) (sym (put-else t.placed r.heading.place l value ne))
+          (drop_stays p s.views (set s.views id (dropped_at (place_index p r.heading.place) value r.heading u)) l (t.placed l) (λ n. omega (arith, puts (place_index p l) n, pair_only (place_index p l) n (place_index p r.heading.place) value, only-else (place_index p l) (place_index p r.heading.place) (λ e. ne (omega arith)))) (omega (arith, labels l)) (t.drops l ll)))

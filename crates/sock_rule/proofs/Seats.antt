@@ -9,6 +9,7 @@ use Rattle.atomic_table.proofs.Lists.{at_set, at_snoc, at_map, some_there}
 use Rattle.sock_words.specs.declared.plain.Plan.{Plan}
 use Rattle.sock_model.specs.declared.home.Home.{Home}
 use Rattle.sock_model.specs.declared.chain.Entry.{Entry}
+use Rattle.sock_model.specs.declared.chain.Heading.{Heading}
 use Rattle.sock_model.specs.declared.home.Home.TheVariants.{Link}
 use Rattle.sock_model.specs.declared.view.View.{View}
 use Rattle.sock_model.specs.declared.view.StoredWord.{StoredWord}
@@ -24,7 +25,7 @@ use Rattle.chain_core.specs.sock_steps.proofs.Maps.{set_at, set_twice}
 use Rattle.chain_core.specs.sock_steps.proofs.Reseat.{opening_law}
 use Rattle.chain_core.specs.sock_steps.proofs.RuleSeats.{opening_rule, splitting_rule, joining_rule}
 use Rattle.chain_core.specs.sock_steps.proofs.Carriers.{carrying_rule}
-use Rattle.sock_rule.specs.OnTable.{share_of, is_put, put_in, is_labelled, labelled_in, IsIdle, Labelled, OnTable, opener}
+use Rattle.sock_rule.specs.OnTable.{share_of, is_put, put_in, is_labelled, labelled_in, is_headed, headed_in, IsIdle, Labelled, OnTable, opener}
 use Rattle.sock_rule.specs.Seated.{giving, given, MayGive, passing, passed, IsDone, IsNew}
 use Rattle.sock_rule.specs.Faults.{faults_link, faults_of, away, out_of}
 use Rattle.sock_rule.proofs.Beside.{Calm, drop_stays}
@@ -53,7 +54,7 @@ opens {S} shows rose p ws xs new = let hs : List (Option S) = map some xs in let
     ap (λ h. as_link (shown shows h)) (at_map some xs (p.requests + k) y.0 y.1) ∙ ap (λ (h : Home). as_link (some h)) y.2 in
     let r : Rule shows p record { words = ws; homes = map some xs; views = first_view p ∷ [] } = opening_rule shows p ws (map some xs) new.some_seats new.few_seats (opening_law shows p ws (map some xs) new.unused new.fits new.first_low new.requests new.places at) in
     record {
-      rule = aside_rule {s = record { words = ws; homes = map some xs; views = first_view p ∷ [] }} 0 v refl r refl p.seats [] [];
+      rule = aside_rule {s = record { words = ws; homes = map some xs; views = first_view p ∷ [] }} 0 v refl r refl p.seats [] [] [];
       housed = length-map xs some ∙ new.homes;
       shares = omega arith;
       listed = λ id u e. subst (λ (z : View). lists_of z ≤ z.share) (one_view (opener p) u id e) new.some_seats;
@@ -67,6 +68,7 @@ opens {S} shows rose p ws xs new = let hs : List (Option S) = map some xs in let
       settled = record { names = new_names; places = new.places; codes = λ i il. omega (arith, new.unused.codes i il); present = λ r rl even. some_there xs r (omega (arith, new.homes)) };
       labelled = λ id u e. subst (Labelled p) (one_view (opener p) u id e) record { entries = λ n l f i x g. no_entries n l f i x g; claimed = λ i c f. absurd (some-ne-none c (sym f)) };
       found_was = λ id u e n x g. absurd (some-ne-none x (sym (subst (λ (z : View). get_elem? z.finds n ≡ some x) (sym (one_view (opener p) u id e)) g)));
+      dropped_was = λ id u e n h g. absurd (some-ne-none h (sym (subst (λ (z : View). get_elem? z.drops n ≡ some h) (sym (one_view (opener p) u id e)) g)));
     }
   where
     new_names : (x : ℕ) → 6 * p.slots ≤ x → x < 6 * p.slots + p.names + p.operations → get_or ws x 0 ≡ 0
@@ -85,13 +87,13 @@ opens {S} shows rose p ws xs new = let hs : List (Option S) = map some xs in let
 
 module _ {S : Type 0} (shows : S → Home) (rose : S → ℕ) (p : Plan) (id : ℕ) (v : View) (mine : v.plan ≡ p) where
   -- what holds beside the rule once a seat is added that found nothing
-  adds_seat : (s : State S View) (t : OnTable shows rose p s) → get_elem? s.views id ≡ some v → (left right : View) → 0 < left.share → ◌≡◌ {A = List StoredWord × List (List StoredWord)} (left.finds, left.histories) (v.finds, v.histories) → left.stores ≡ v.stores → Calm v left → ((k : ℕ) → (faults_of k right ≡ 0) × (out_of k right ≡ 0)) → ((l : ℕ) → labelled_in l v ≤ labelled_in l left) → lists_of left ≤ left.share → left.share + right.share ≡ v.share
-      → lists_of right ≤ right.share → (right.share ≡ 0 → IsIdle right) → ◌≡◌ {A = List StoredWord × (List (List StoredWord) × List (List StoredWord))} (right.finds, (right.histories, right.stores)) ([], ([], [] ∷ [])) → (Labelled p v → Labelled p left) → Labelled p right → Rule shows p record { words = s.words; homes = s.homes; views = set s.views id left ++ right ∷ [] }
+  adds_seat : (s : State S View) (t : OnTable shows rose p s) → get_elem? s.views id ≡ some v → (left right : View) → 0 < left.share → ◌≡◌ {A = List StoredWord × (List (List StoredWord) × List Heading)} (left.finds, (left.histories, left.drops)) (v.finds, (v.histories, v.drops)) → left.stores ≡ v.stores → Calm v left → ((k : ℕ) → (faults_of k right ≡ 0) × (out_of k right ≡ 0)) → ((f : Entry → ℕ) → total (total f) v.lists ≤ total (total f) left.lists) → lists_of left ≤ left.share → left.share + right.share ≡ v.share
+      → lists_of right ≤ right.share → (right.share ≡ 0 → IsIdle right) → ◌≡◌ {A = List StoredWord × (List (List StoredWord) × (List (List StoredWord) × List Heading))} (right.finds, (right.histories, (right.stores, right.drops))) ([], ([], ([] ∷ [], []))) → (Labelled p v → Labelled p left) → Labelled p right → Rule shows p record { words = s.words; homes = s.homes; views = set s.views id left ++ right ∷ [] }
       → OnTable shows rose p record { words = s.words; homes = s.homes; views = set s.views id left ++ right ∷ [] }
   adds_seat s t here left right some_left finds stores calm none_noted accepts fits sum fits_too idle_too none_found labels labels_too r = let first : List View = set s.views id left in
-      let finds_stay : left.finds ≡ v.finds = ap (λ (q : List StoredWord × List (List StoredWord)). q.0) finds in let met_stay : left.histories ≡ v.histories = ap (λ (q : List StoredWord × List (List StoredWord)). q.1) finds in
-      let no_finds : right.finds ≡ [] = ap (λ (q : List StoredWord × (List (List StoredWord) × List (List StoredWord))). q.0) none_found in let no_met : right.histories ≡ [] = ap (λ (q : List StoredWord × (List (List StoredWord) × List (List StoredWord))). q.1.0) none_found in
-      let no_stores : right.stores ≡ [] ∷ [] = ap (λ (q : List StoredWord × (List (List StoredWord) × List (List StoredWord))). q.1.1) none_found in
+      let finds_stay : left.finds ≡ v.finds = ap (λ (q : List StoredWord × (List (List StoredWord) × List Heading)). q.0) finds in let met_stay : left.histories ≡ v.histories = ap (λ (q : List StoredWord × (List (List StoredWord) × List Heading)). q.1.0) finds in let drops_stay : left.drops ≡ v.drops = ap (λ (q : List StoredWord × (List (List StoredWord) × List Heading)). q.1.1) finds in
+      let no_finds : right.finds ≡ [] = ap (λ (q : List StoredWord × (List (List StoredWord) × (List (List StoredWord) × List Heading))). q.0) none_found in let no_met : right.histories ≡ [] = ap (λ (q : List StoredWord × (List (List StoredWord) × (List (List StoredWord) × List Heading))). q.1.0) none_found in let no_drops : right.drops ≡ [] = ap (λ (q : List StoredWord × (List (List StoredWord) × (List (List StoredWord) × List Heading))). q.1.1.1) none_found in
+      let no_stores : right.stores ≡ [] ∷ [] = ap (λ (q : List StoredWord × (List (List StoredWord) × (List (List StoredWord) × List Heading))). q.1.1.0) none_found in
       let more : (x w : ℕ) → total (put_in x w) s.views ≡ total (put_in x w) (set s.views id left ++ right ∷ []) = λ x w. omega (arith, total-append (put_in x w) first (right ∷ []), total-set (put_in x w) s.views id v left here, ap (total (total (is_put x w))) stores, ap (total (total (is_put x w))) no_stores) in
       record {
         rule = r;
@@ -103,7 +105,7 @@ module _ {S : Type 0} (shows : S → Home) (rose : S → ℕ) (p : Plan) (id : �
         stored = t.stored;
         put = λ x w. t.put x w ∙ more x w;
         placed = t.placed;
-        drops = λ l ll. drop_stays p s.views (set s.views id left ++ right ∷ []) l (t.placed l) (λ n. more (place_index p l) n) (omega (arith, total-append (labelled_in l) first (right ∷ []), total-set (labelled_in l) s.views id v left here, accepts l)) (t.drops l ll);
+        drops = λ l ll. drop_stays p s.views (set s.views id left ++ right ∷ []) l (t.placed l) (λ n. more (place_index p l) n) (omega (arith, total-append (labelled_in l) first (right ∷ []), total-set (labelled_in l) s.views id v left here, accepts (is_labelled l))) (t.drops l ll);
         faults = λ k kl. split_faults id v left right here k (t.faults k kl) (calm.faults k) (calm.outs k) (none_noted k).0 (none_noted k).1;
         settled = t.settled;
         met = λ j u g n h e. ⊎_elim
@@ -113,13 +115,16 @@ module _ {S : Type 0} (shows : S → Home) (rose : S → ℕ) (p : Plan) (id : �
         found_was = λ j u g n x e. ⊎_elim
             (λ a. ⊎_elim (λ y. omega (arith, more x.place x.word, t.found_was id v here n x (subst (λ (l : List StoredWord). get_elem? l n ≡ some x) finds_stay (subst (λ (z : View). get_elem? z.finds n ≡ some x) (sym y.1) e)))) (λ y. omega (arith, more x.place x.word, t.found_was j u y.1 n x e)) (at_set s.views id j left u a))
             (λ y. absurd (some-ne-none x (sym (subst (λ (l : List StoredWord). get_elem? l n ≡ some x) no_finds (subst (λ (z : View). get_elem? z.finds n ≡ some x) (sym y) e))))) (at_snoc first right u j g);
+        dropped_was = λ j u g n h e. let more_h : total (headed_in h) s.views ≤ total (headed_in h) (set s.views id left ++ right ∷ []) = omega (arith, total-append (headed_in h) first (right ∷ []), total-set (headed_in h) s.views id v left here, accepts (is_headed h)) in ⊎_elim
+            (λ a. ⊎_elim (λ y. omega (arith, more_h, t.dropped_was id v here n h (subst (λ (l : List Heading). get_elem? l n ≡ some h) drops_stay (subst (λ (z : View). get_elem? z.drops n ≡ some h) (sym y.1) e)))) (λ y. omega (arith, more_h, t.dropped_was j u y.1 n h e)) (at_set s.views id j left u a))
+            (λ y. absurd (some-ne-none h (sym (subst (λ (l : List Heading). get_elem? l n ≡ some h) no_drops (subst (λ (z : View). get_elem? z.drops n ≡ some h) (sym y) e))))) (at_snoc first right u j g);
       }
 
   -- a seat is split off
   pub gives : MayGive v → Splits (OnTable shows rose p) id v (giving v) (given v)
   gives may s t here = let v' : View = record v { share = v.share - 1 } in let s' : State S View = record { words = s.words; homes = s.homes; views = set s.views id (record v { share = v.share - 1 }) } in
       let less = less_by lists_of share_of 1 s.views id v t.listed here (omega (arith, may.more)) in
-      let r' : Rule shows p record { words = s.words; homes = s.homes; views = set s.views id (record v { share = v.share - 1 }) } = aside_rule id v here t.rule mine (v.share - 1) v.finds v.histories in
+      let r' : Rule shows p record { words = s.words; homes = s.homes; views = set s.views id (record v { share = v.share - 1 }) } = aside_rule id v here t.rule mine (v.share - 1) v.finds v.histories v.drops in
       let two = splitting_rule r' id v' (set_at s.views id v' (at_length s.views id v here)) mine v.passes [] (v.spare - 1) 0 (λ k. omega arith) (omega (arith, may.spare)) (let a = t.shares in omega (arith, total-set lists_of s.views id v v' here)) in
       let is : newcomer p [] 0 ≡ newcomer v.plan [] 0 = ap (λ (q : Plan). newcomer q [] 0) (sym mine) in
       let r : Rule shows p record { words = s.words; homes = s.homes; views = set s.views id (giving v) ++ given v ∷ [] } =
@@ -166,6 +171,10 @@ module _ {S : Type 0} (shows : S → Home) (rose : S → ℕ) (p : Plan) (id : �
         found_was = λ j u g n x e. ⊎_elim (λ y. absurd (some-ne-none x (sym (subst (λ (z : View). get_elem? z.finds n ≡ some x) (sym y.1) e))))
             (λ y. ⊎_elim (λ q. ⊎_elim (λ a. omega (arith, more x.place x.word, t.found_was id v here n x a)) (λ a. omega (arith, more x.place x.word, t.found_was other w its a.0 x a.1)) (at_append v.finds w.finds n x (subst (λ (z : View). get_elem? z.finds n ≡ some x) (sym q.1) e)))
             (λ q. omega (arith, more x.place x.word, t.found_was j u q.1 n x e)) (at_set s.views id j both u y.1)) (at_set first other j spent u g);
+        dropped_was = λ j u g n h e. let more_h : total (headed_in h) s.views ≡ total (headed_in h) (set first other spent) = omega (arith, total-set (headed_in h) s.views id v both here, total-set (headed_in h) first other w spent there, total-append (total (is_headed h)) v.lists w.lists) in
+            ⊎_elim (λ y. absurd (some-ne-none h (sym (subst (λ (z : View). get_elem? z.drops n ≡ some h) (sym y.1) e))))
+            (λ y. ⊎_elim (λ q. ⊎_elim (λ a. omega (arith, more_h, t.dropped_was id v here n h a)) (λ a. omega (arith, more_h, t.dropped_was other w its a.0 h a.1)) (at_append v.drops w.drops n h (subst (λ (z : View). get_elem? z.drops n ≡ some h) (sym q.1) e)))
+            (λ q. omega (arith, more_h, t.dropped_was j u q.1 n h e)) (at_set s.views id j both u y.1)) (at_set first other j spent u g);
       }
     where
       joins : Labelled p v → Labelled p w → Labelled p (joined v w)

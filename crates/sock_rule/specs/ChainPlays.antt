@@ -14,7 +14,8 @@ use Rattle.sock_model.specs.Memory.{IDLE, UNCONNECTED}
 use Rattle.sock_model.specs.Layout.{ref_index, link_index, request_index, next_index}
 use Rattle.sock_model.specs.Slots.{version_of}
 use Rattle.sock_model.specs.Weights.{is_hold, is_met}
-use Rattle.sock_model.specs.SlotRows.{marks_of, looked, met_link, wrote}
+use Rattle.sock_model.specs.SlotRows.{marks_of, looked, met_link}
+use Rattle.sock_rule.specs.Rows.{dropped_at}
 use Rattle.sock_model.specs.ChainRows.{with_claim, fresh_claim, filled_claim, ready_claim, queued, righted, without_loose, with_right, without_right, walking_right, passing_right, reading_right, turned_right, freed_right, placed_right, dropped_right, taken_right}
 use Rattle.sock_model.specs.Rule.{noting}
 use Rattle.sock_rule.specs.Faults.{faults_of, fault_found, noting_fault}
@@ -117,7 +118,7 @@ module _ {S : Type 0} where
 
   -- P1 of one that was dropped, which the seat notes: the link lies in the slot that was taken last, with what it took
   abbrev pub drop_told : (S → Home) → Step S → Me S View → ℕ → Me S View → Type 0
-  drop_told shows st m stored n = (r : Right) (now : ℕ) (y : ℕ × S) → m.0.rights ≡ r ∷ [] → r.stage ≡ Writes now → m.1 ≡ y ∷ rest m.1 → n ≡ (wrote st.word stored (with_right m.0 (dropped_right r now (took_in (shows y.1)))), m.1)
+  drop_told shows st m stored n = (r : Right) (now : ℕ) (y : ℕ × S) → m.0.rights ≡ r ∷ [] → r.stage ≡ Writes now → m.1 ≡ y ∷ rest m.1 → n ≡ (dropped_at st.word stored r.heading (with_right m.0 (dropped_right r now (took_in (shows y.1)))), m.1)
 
   -- C5
   abbrev pub read_next_told : Step S → Me S View → ℕ → Me S View → Type 0

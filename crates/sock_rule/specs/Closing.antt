@@ -5,6 +5,7 @@ use lib.ListN.{get_elem?}
 use Rattle.sock_words.specs.declared.plain.Plan.{Plan}
 use Rattle.sock_model.specs.declared.view.View.{View}
 use Rattle.sock_model.specs.declared.chain.Entry.{Entry}
+use Rattle.sock_model.specs.declared.chain.Heading.{Heading}
 use Rattle.sock_model.specs.Authors.{pick}
 use Rattle.sock_model.specs.Entries.{on}
 use Rattle.sock_model.specs.Deliveries.{place_value}
@@ -91,6 +92,15 @@ pub record PlaceOf (p : Plan) (log : List Entry) (words : List ℕ) (l : ℕ) : 
 pub record IsDropTold (p : Plan) (log : List Entry) (v : View) (words : List ℕ) (l : ℕ) : Type 0 where
   pub told : DROPPED ≤ slice_index words (place_index p l) → 0 < put_in (place_index p l) (slice_index words (place_index p l)) v
   pub stays : PlacesDiffer log → (n : ℕ) → 0 < put_in (place_index p l) n v → (slice_index words (place_index p l) ≡ n) × (DROPPED ≤ n)
+
+-- what stands with a message: an accepted message has this place index, attempt and owner
+pub record IsLogged (log : List Entry) (h : Heading) : Type 0 where
+  pub position : ℕ
+  pub entry : Entry
+  pub there : get_elem? log position ≡ some entry
+  pub place_is : entry.heading.place ≡ h.place
+  pub attempt_is : entry.heading.attempt ≡ h.attempt
+  pub owner_is : entry.heading.owner ≡ h.owner
 
 -- the messages that all seats had accepted stand in one order, and each list that the last view keeps is what one of the seats had accepted, in its own order
 pub record Ordered (p : Plan) (found : List ℕ) (lists : List (List Entry)) : Type 0 where

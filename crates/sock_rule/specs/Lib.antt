@@ -1,6 +1,7 @@
 pub mod Shows
 pub mod Faults
 pub mod OnTable
+pub mod OnKey
 pub mod Plays
 pub mod Rows
 pub mod Seated

@@ -7,6 +7,7 @@ use Rattle.sock_words.specs.declared.plain.Plan.{Plan}
 use Rattle.sock_model.specs.declared.home.Home.{Home}
 use Rattle.sock_model.specs.declared.chain.Claim.{Claim}
 use Rattle.sock_model.specs.declared.chain.Entry.{Entry}
+use Rattle.sock_model.specs.declared.chain.Heading.{Heading}
 use Rattle.sock_model.specs.declared.view.View.{View}
 use Rattle.sock_model.specs.declared.view.StoredWord.{StoredWord}
 use Rattle.sock_model.specs.Weights.{total, only, pair}
@@ -55,6 +56,17 @@ is_labelled l e = only l e.heading.place
 
 abbrev pub labelled_in : ℕ → View → ℕ
 labelled_in l v = total (total (is_labelled l)) v.lists
+
+-- 1 where what stands with the accepted message is of this place index, attempt and owner
+abbrev pub is_headed : Heading → Entry → ℕ
+is_headed h e = only h.place e.heading.place * pair h.attempt h.owner e.heading.attempt e.heading.owner
+
+abbrev pub headed_in : Heading → View → ℕ
+headed_in h v = total (total (is_headed h)) v.lists
+
+-- each message that a seat dropped had been accepted
+abbrev pub DropsWere : List View → View → Type 0
+DropsWere views v = (n : ℕ) (h : Heading) → get_elem? v.drops n ≡ some h → 0 < total (headed_in h) views
 
 -- of the word of the place index l: a seat noted that it stored it, where it has the dropped bit, and what a seat noted so is the word still, unless two accepted messages have this index
 pub record IsDropKept (p : Plan) (views : List View) (l word : ℕ) : Type 0 where
@@ -108,6 +120,8 @@ module _ {S : Type 0} (shows : S → Home) (rose : S → ℕ) where
     pub faults : (k : ℕ) → k < p.links → LinkFaults rose p s k
     -- what was found was stored
     pub found_was : (id : ℕ) (v : View) → get_elem? s.views id ≡ some v → FindsWere s.views v
+    -- and what was dropped was accepted
+    pub dropped_was : (id : ℕ) (v : View) → get_elem? s.views id ≡ some v → DropsWere s.views v
 
 -- the first seat stands for all, and has all passes
 abbrev pub opener : Plan → View

@@ -3,6 +3,7 @@ use Rattle.std.specs.Prelude.{◌≡◌, ℕ, ◌-◌, ◌/◌, ◌%◌, ◌==�
 use mathlib.Core.Option.{some}
 use lib.ListN.{get_elem?}
 use Rattle.atomic_table.specs.Table.{Me}
+use Rattle.sock_model.specs.declared.chain.Heading.{Heading}
 use Rattle.sock_model.specs.declared.view.View.{View}
 use Rattle.sock_model.specs.declared.view.StoredWord.{StoredWord}
 use Rattle.sock_model.specs.Marks.{latest}
@@ -30,6 +31,10 @@ found_at x word all v = cond (word == 0) v (cond (word == 18446744073709551615) 
 -- S6: the word stands there, and stays other than 0
 abbrev pub put_at : ℕ → ℕ → List StoredWord → View → View
 put_at x word all v = record (noting x (wrote x word v)) { histories = all ∷ v.histories }
+
+-- P1 with the dropped bit: the seat notes the word, and what stands with the message in hand
+abbrev pub dropped_at : ℕ → ℕ → Heading → View → View
+dropped_at x word h v = record (wrote x word v) { drops = h ∷ v.drops }
 
 -- what S7 leaves, and S6, with all that was stored by then
 pub record FoundAt {S : Type 0} (x word : ℕ) (m n : Me S View) : Type 0 where

@@ -5,6 +5,7 @@ ghost use Rattle.sock_io.specs.declared.link.Ready.TheVariants as ready;
 ghost use Rattle.sock_io.specs.Causes.{Rose};
 ghost use Rattle.sock_io.specs.Link.{taken_of, IsPutCount};
 
+use crate::key::Ways;
 use ghosts::Ghosts;
 use message_parts::Parcel;
 use sock_io::{Out, Put, Ready};
@@ -37,6 +38,7 @@ impl<O: Out> LinkHome<O> {
         ensures took { (self.new.took.list ≡ self.old.took.list ++ taken_of piece.now result) × (self.new.next ≡ self.old.next) }
         ensures count { IsPutCount piece.now result }
         ensures link { (O.state self.new.out).link ≡ (O.state self.old.out).link }
+        ensures way { (O.state self.new.out).way ≡ (O.state self.old.out).way }
         ensures finished { (O.state self.new.out).finished ≡ (O.state self.old.out).finished }
         ensures faults { result ≡ Failed → (O.state self.old.out).finished ≡ false → Rose (O.state self.old.out).faults (O.state self.new.out).faults }
         ensures kept { result ≢ Failed → (O.state self.new.out).faults ≡ (O.state self.old.out).faults }
@@ -53,6 +55,7 @@ impl<O: Out> LinkHome<O> {
     pub fn ready(&mut self) -> Ready
         ensures same { (self.new.took.list ≡ self.old.took.list) × (self.new.next ≡ self.old.next) }
         ensures link { (O.state self.new.out).link ≡ (O.state self.old.out).link }
+        ensures way { (O.state self.new.out).way ≡ (O.state self.old.out).way }
         ensures finished { (O.state self.new.out).finished ≡ (O.state self.old.out).finished }
         ensures faults { result ≡ ready.Failed → (O.state self.old.out).finished ≡ false → Rose (O.state self.old.out).faults (O.state self.new.out).faults }
         ensures kept { result ≢ ready.Failed → (O.state self.new.out).faults ≡ (O.state self.old.out).faults }
@@ -74,6 +77,7 @@ impl<O: Out> LinkHome<O> {
     pub fn finish(&mut self)
         ensures same { (self.new.took.list ≡ self.old.took.list) × (self.new.next ≡ self.old.next) }
         ensures link { (O.state self.new.out).link ≡ (O.state self.old.out).link }
+        ensures way { (O.state self.new.out).way ≡ (O.state self.old.out).way }
         ensures finished { (O.state self.new.out).finished ≡ true }
         ensures faults { (O.state self.new.out).faults ≡ (O.state self.old.out).faults }
     {
@@ -97,4 +101,6 @@ pub enum SockHome<O: Out> {
     Empty,
     Link(LinkHome<O>),
     Message(Letter),
+    /// It lies nowhere: a step that takes a link is told the ways of the links by it, for the proof alone.
+    Ways(Ways),
 }

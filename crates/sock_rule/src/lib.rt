@@ -3,6 +3,7 @@
 
 mod homes;
 mod ids;
+mod key;
 mod letters;
 mod links;
 mod plays;
@@ -12,5 +13,6 @@ mod stores;
 mod table;
 
 pub use homes::{Letter, LinkHome, SockHome};
+pub use key::{TableKey, Ways};
 pub use plays::SockRule;
 pub use table::{RuleTable, SockSeat};

@@ -1,5 +1,5 @@
-// L1 and L2 of links that nobody has a right to write. While such a link is in hand, the seat notes where its half has faults. A link comes out of its home by a load that takes the slot's turn
-// and a plain move, and goes back by a plain move and a load that gives the turn back.
+// L1 and L2 of links that nobody has a right to write. While such a link is in hand, the seat notes where its half has faults. A link comes out of its home by an
+// exchange of 0 for 0, which takes the slot's turn and is told the ways of the links, and a plain move, and goes back by a plain move and a load that gives the turn back.
 ghost use Rattle.std.specs.Prelude.{◌≡◌, ◌+◌, ◌-◌, ◌<◌, ℕ, [], ◌∷◌};
 ghost use Rattle.atomic_table.specs.Table.{rest};
 ghost use Rattle.sock_model.specs.Weights.{is_recycled, is_met};
@@ -7,6 +7,7 @@ ghost use Rattle.sock_model.specs.SlotRows.{marks_of};
 ghost use Rattle.sock_model.specs.ChainRows.{with_hand, without_hand, spent_hand};
 ghost use Rattle.sock_rule.specs.declared.homes.SockHome.TheVariants.{Empty};
 ghost use Rattle.sock_rule.specs.Seated.{IsSeat};
+ghost use Rattle.sock_rule.specs.Shows.{way_at};
 ghost use Rattle.sock_rule.specs.Faults.{faults_of, fault_found, fault_left};
 ghost use Rattle.sock_rule.specs.Hands.{hand_of, Recycles};
 
@@ -25,10 +26,14 @@ impl<O: Out> RuleTable<O> {
         ensures seat { IsSeat self.now.table.shared.table_id self.now.plan seat.new }
         ensures view { seat.new.me ≡ (fault_found (O.state result.out).faults 0 link (with_hand seat.old.me.0 (hand_of link result.took.list result.next)), (self.now.plan.requests + link, Empty) ∷ seat.old.me.1) }
         ensures link { ((O.state result.out).link ≡ link) × (link < self.now.plan.links) }
+        ensures way { (O.state result.out).way ≡ way_at self.now.ways.list link }
         ensures known { 0 < faults_of link seat.old.me.0 → 0 < (O.state result.out).faults }
     {
         let word = 6 * at as usize + 2;
-        self.table.shared.load::<TakeLast>(seat, word);
+        let said = self.said();
+        self.table
+            .shared
+            .compare_exchange_with::<TakeLast>(seat, word, 0, 0, &said);
         let slot = self.plan.requests as usize + link as usize;
         let value = self.table.shared.exchange(seat, slot, SockHome::Empty);
         let SockHome::Link(home) = value else {
@@ -44,9 +49,13 @@ impl<O: Out> RuleTable<O> {
         ensures seat { IsSeat self.now.table.shared.table_id self.now.plan seat.new }
         ensures view { seat.new.me ≡ (fault_found (O.state result.out).faults 0 link (spent_hand seat.old.me.0 (hand_of link result.took.list result.next)), (self.now.plan.requests + link, Empty) ∷ seat.old.me.1) }
         ensures link { ((O.state result.out).link ≡ link) × (link < self.now.plan.links) }
+        ensures way { (O.state result.out).way ≡ way_at self.now.ways.list link }
         ensures known { 0 < faults_of link seat.old.me.0 → 0 < (O.state result.out).faults }
     {
-        self.table.shared.load::<SpendPass>(seat, 0);
+        let said = self.said();
+        self.table
+            .shared
+            .compare_exchange_with::<SpendPass>(seat, 0, 0, 0, &said);
         let slot = self.plan.requests as usize + link as usize;
         let value = self.table.shared.exchange(seat, slot, SockHome::Empty);
         let SockHome::Link(home) = value else {
@@ -62,6 +71,7 @@ impl<O: Out> RuleTable<O> {
         requires top { seat.old.me.1 ≡ (self.now.plan.requests + link, Empty) ∷ rest seat.old.me.1 }
         requires hand { seat.old.me.0.hands ≡ hand_of link home.took.list home.next ∷ [] }
         requires link { (O.state home.out).link ≡ link }
+        requires way { (O.state home.out).way ≡ way_at self.now.ways.list link }
         requires noted { 0 < faults_of link seat.old.me.0 → 0 < (O.state home.out).faults }
         ensures seat { IsSeat self.now.table.shared.table_id self.now.plan seat.new }
         ensures view { seat.new.me ≡ (fault_left (O.state home.out).faults link (without_hand seat.old.me.0 link), rest seat.old.me.1) }

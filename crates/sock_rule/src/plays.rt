@@ -1,23 +1,24 @@
 // The rule of the table, and the names of its steps.
 ghost use Rattle.std.specs.Prelude.{[]};
 ghost use Rattle.sock_model.specs.Seats.{joined, spent};
-ghost use Rattle.sock_rule.specs.OnTable.{OnTable, opener};
+ghost use Rattle.sock_rule.specs.OnKey.{OnKey, opener_by, take_own_said, take_last_said, spend_said};
 ghost use Rattle.sock_rule.specs.Shows.{shows, rose};
 ghost use Rattle.sock_rule.specs.Seated.{giving, given, passing, passed};
-ghost use Rattle.sock_rule.specs.Plays.{claim_told, birth_told, add_told, sub_told, fail_told, recycle_told, free_told, look_told, link_told, meet_told, meet_last_told, reset_told, wipe_told, code_told, read_told, store_told, find_told, find_name_told, take_last_told, spend_told, put_told};
-ghost use Rattle.sock_rule.specs.ChainPlays.{request_told, fill_told, ready_told, swap_told, connect_told, clean_told, take_own_told, note_fault_told, put_own_told, take_letter_told, place_told, drop_told, read_next_told, free_request_told, empty_told, turn_told};
+ghost use Rattle.sock_rule.specs.Plays.{claim_told, birth_told, add_told, sub_told, fail_told, recycle_told, free_told, look_told, link_told, meet_told, meet_last_told, reset_told, wipe_told, code_told, read_told, store_told, find_told, find_name_told, put_told};
+ghost use Rattle.sock_rule.specs.ChainPlays.{request_told, fill_told, ready_told, swap_told, connect_told, clean_told, note_fault_told, put_own_told, take_letter_told, place_told, drop_told, read_next_told, free_request_told, empty_told, turn_told};
 
 use crate::homes::SockHome;
+use crate::key::TableKey;
 use atomic_table::{Join, Play, Split, TableRule};
 use sock_io::Out;
-use sock_model::{Plan, View};
+use sock_model::View;
 
 pub struct SockRule;
 
-impl<O: Out> TableRule<SockHome<O>, View, Plan> for SockRule {
-    ghost holds = { OnTable shows rose };
+impl<O: Out> TableRule<SockHome<O>, View, TableKey> for SockRule {
+    ghost holds = { OnKey };
 
-    ghost first = { opener };
+    ghost first = { opener_by };
 }
 
 /// A seat is split off.
@@ -164,13 +165,13 @@ impl<O: Out> Play<SockHome<O>, View> for PutLink {
 pub struct TakeLast;
 
 impl<O: Out> Play<SockHome<O>, View> for TakeLast {
-    ghost then = { take_last_told shows rose };
+    ghost then = { take_last_said };
 }
 
 pub struct SpendPass;
 
 impl<O: Out> Play<SockHome<O>, View> for SpendPass {
-    ghost then = { spend_told shows rose };
+    ghost then = { spend_said };
 }
 
 pub struct ClaimRequest;
@@ -212,7 +213,7 @@ impl<S> Play<S, View> for LookToWrite {
 pub struct TakeOwn;
 
 impl<O: Out> Play<SockHome<O>, View> for TakeOwn {
-    ghost then = { take_own_told shows rose };
+    ghost then = { take_own_said };
 }
 
 pub struct NoteFault;

@@ -5,13 +5,13 @@ ghost use Rattle.sock_model.specs.Deliveries.{place_value};
 ghost use Rattle.sock_model.specs.declared.chain.Right.{Right};
 ghost use Rattle.sock_model.specs.declared.chain.Stage.TheVariants.{Writes, Walks, Turns};
 ghost use Rattle.sock_model.specs.ChainRows.{with_right, placed_right, dropped_right, freed_right, turned_right};
-ghost use Rattle.sock_model.specs.SlotRows.{wrote};
+ghost use Rattle.sock_rule.specs.Rows.{dropped_at};
 ghost use Rattle.sock_model.specs.Layout.{place_index};
 ghost use Rattle.sock_model.specs.Entries.{slot_of, generation_of};
 ghost use Rattle.sock_rule.specs.declared.homes.SockHome.TheVariants.{Empty};
 ghost use Rattle.sock_rule.specs.Seated.{IsSeat};
 ghost use Rattle.sock_rule.specs.Faults.{faults_of, fault_found, noting_fault};
-ghost use Rattle.sock_rule.specs.Shows.{heading_of};
+ghost use Rattle.sock_rule.specs.Shows.{heading_of, way_at};
 ghost use Rattle.sock_rule.specs.Holding.{Rights, LinkAtHome, MayTakeMsg, TookMsg, MayLookToWrite, LookedToWrite, MayStorePlace, MayDropPlace, MayFreeRequest, MayEmptyHead, Emptied, MayReadOn, ReadOn, MayReadBack, ReadBack, MayTurnNext};
 
 use crate::homes::{Letter, LinkHome, SockHome};
@@ -33,10 +33,14 @@ impl<O: Out> RuleTable<O> {
         ensures view { (r : Right) → Rights r seat.old.me.0 → seat.new.me ≡ (fault_found (O.state result.out).faults at link (with_right seat.old.me.0 (record r { at_home = false })), (self.now.plan.requests + link, Empty) ∷ seat.old.me.1) }
         ensures took { (r : Right) → Rights r seat.old.me.0 → (result.took.list ≡ r.sent) × (result.next ≡ r.places) }
         ensures link { ((O.state result.out).link ≡ link) × ((O.state result.out).finished ≡ false) × (link < self.now.plan.links) }
+        ensures way { (O.state result.out).way ≡ way_at self.now.ways.list link }
         ensures known { 0 < faults_of link seat.old.me.0 → 0 < (O.state result.out).faults }
     {
         let word = 6 * at as usize + 2;
-        self.table.shared.load::<TakeOwn>(seat, word);
+        let said = self.said();
+        self.table
+            .shared
+            .compare_exchange_with::<TakeOwn>(seat, word, 0, 0, &said);
         let slot = self.plan.requests as usize + link as usize;
         let value = self.table.shared.exchange(seat, slot, SockHome::Empty);
         let SockHome::Link(home) = value else {
@@ -119,7 +123,7 @@ impl<O: Out> RuleTable<O> {
         requires ticket { (0 < now.0 % 65536) × (now.0 < 9223372036854775808) }
         requires top { seat.old.me.1 ≡ (slot_of now.0, Empty) ∷ rest seat.old.me.1 }
         ensures seat { IsSeat self.now.table.shared.table_id self.now.plan seat.new }
-        ensures view { (r : Right) (n : ℕ) → Rights r seat.old.me.0 → r.stage ≡ Writes n → seat.new.me ≡ (wrote (place_index self.now.plan at) value.0 (with_right seat.old.me.0 (dropped_right r n home.took.list)), seat.old.me.1) }
+        ensures view { (r : Right) (n : ℕ) → Rights r seat.old.me.0 → r.stage ≡ Writes n → seat.new.me ≡ (dropped_at (place_index self.now.plan at) value.0 r.heading (with_right seat.old.me.0 (dropped_right r n home.took.list)), seat.old.me.1) }
         ensures home { result ≡ home }
     {
         let slot = now.request() as usize;
@@ -177,6 +181,7 @@ impl<O: Out> RuleTable<O> {
         requires top { seat.old.me.1 ≡ (self.now.plan.requests + link, Empty) ∷ rest seat.old.me.1 }
         requires right { (r : Right) × Rights r seat.old.me.0 × (r.link ≡ link) × (r.at_home ≡ false) × (home.took.list ≡ r.sent) × (home.next ≡ r.places) }
         requires link { ((O.state home.out).link ≡ link) × ((O.state home.out).finished ≡ false) }
+        requires way { (O.state home.out).way ≡ way_at self.now.ways.list link }
         requires noted { 0 < faults_of link seat.old.me.0 → 0 < (O.state home.out).faults }
         ensures seat { IsSeat self.now.table.shared.table_id self.now.plan seat.new }
         ensures view { (r : Right) → Rights r seat.old.me.0 → seat.new.me ≡ (with_right seat.old.me.0 (record r { at_home = true }), rest seat.old.me.1) }

@@ -1,14 +1,16 @@
 // The table of words and homes, and its seats.
-ghost use Rattle.std.specs.Prelude.{◌≡◌, ◌+◌, ◌*◌, ◌<◌, ◌≤◌, ℕ, [], IfOk, IfErr};
+ghost use Rattle.std.specs.Prelude.{◌≡◌, ◌+◌, ◌*◌, ◌<◌, ◌≤◌, ℕ, [], IfOk, IfErr, length};
 ghost use Rattle.sock_model.specs.Layout.{all_words};
 ghost use Rattle.sock_model.specs.Seats.{joined};
 ghost use Rattle.sock_rule.specs.OnTable.{opener};
-ghost use Rattle.sock_rule.specs.Shows.{shows};
+ghost use Rattle.sock_rule.specs.Shows.{shows_in, SaysWays};
 ghost use Rattle.sock_rule.specs.Seated.{IsNew, IsSeat, MayGive, giving, given, passing, passed, IsDone};
 
 use crate::homes::SockHome;
+use crate::key::{TableKey, Ways};
 use crate::plays::{Give, PassOut, SockRule, TakeIn};
 use atomic_table::{Refused, Seat, Table};
+use ghosts::Ghosts;
 use sock_io::Out;
 use sock_model::{Plan, View};
 use std::alloc::Global;
@@ -18,11 +20,14 @@ pub type SockSeat<O> = Seat<SockHome<O>, View>;
 /// The words and homes of the sockets, on which each seat steps through a `&`.
 #[derive(Drop)]
 pub struct RuleTable<O: Out> {
-    pub table: Table<SockHome<O>, View, Plan, SockRule, Global>,
+    pub table: Table<SockHome<O>, View, TableKey, SockRule, Global>,
     pub plan: Plan,
+    pub ways: Ways,
     pub ghost sized: { table.shared.table_id.words ≡ all_words plan },
     pub ghost housed: { table.shared.table_id.slots ≡ plan.requests + plan.links },
-    pub ghost planned: { table.shared.key ≡ plan },
+    pub ghost planned: { table.shared.key.plan ≡ plan },
+    pub ghost keyed: { table.shared.key.ways.list ≡ ways.list },
+    pub ghost each_way: { length ways.list ≡ plan.links },
     pub ghost some_slots: { 0 < plan.slots },
 }
 
@@ -31,16 +36,28 @@ impl<O: Out> RuleTable<O> {
     pub fn open(
         alloc: Global,
         plan: Plan,
+        ways: Ways,
         words: &[u64],
         homes: Vec<SockHome<O>>,
     ) -> Result<(RuleTable<O>, SockSeat<O>), Refused<SockHome<O>, Global>>
-        requires new { IsNew shows plan words.now homes.items }
+        requires new { IsNew (shows_in plan ways.list) plan words.now homes.items }
+        requires ways { length ways.list ≡ plan.links }
         requires slots { 0 < plan.slots }
         ensures ok { IfOk result (λ t. (t.0.plan ≡ plan) × (t.1.table_id ≡ t.0.table.shared.table_id) × (t.1.me ≡ (opener plan, []))) }
+        ensures ways { IfOk result (λ t. t.0.ways.list ≡ ways.list) }
         ensures err { IfErr result (λ r. r.slots.items ≡ homes.items) }
     {
-        let (table, seat) = Table::new(alloc, words, homes, &plan)?;
-        Ok((RuleTable { table, plan }, seat))
+        let key = TableKey { plan, ways };
+        let (table, seat) = Table::new(alloc, words, homes, &key)?;
+        let TableKey { plan, ways } = key;
+        Ok((RuleTable { table, plan, ways }, seat))
+    }
+
+    /// The ways of the links, as a step is told them.
+    pub fn said(&self) -> SockHome<O>
+        ensures { SaysWays self.now.ways.list result }
+    {
+        SockHome::Ways(Ghosts::of(&self.ways))
     }
 
     /// A new seat.

@@ -7,6 +7,7 @@ use Rattle.atomic_table.specs.declared.shared.Seat.{Seat}
 use Rattle.sock_words.specs.declared.plain.Plan.{Plan}
 use Rattle.sock_model.specs.declared.marks.Mark.{Mark}
 use Rattle.sock_model.specs.declared.chain.Entry.{Entry}
+use Rattle.sock_model.specs.declared.chain.Heading.{Heading}
 use Rattle.sock_model.specs.declared.marks.SlotMark.{SlotMark}
 use Rattle.sock_model.specs.declared.view.View.{View}
 use Rattle.sock_model.specs.declared.view.StoredWord.{StoredWord}
@@ -58,6 +59,9 @@ module _ {S : Type 0} where
   abbrev pub histories_in : Seat S View → List (List StoredWord)
   histories_in s = s.me.0.histories
 
+  abbrev pub drops_in : Seat S View → List Heading
+  drops_in s = s.me.0.drops
+
   abbrev pub stores_in : Seat S View → List (List StoredWord)
   stores_in s = s.me.0.stores
 
@@ -76,6 +80,7 @@ module _ {S : Type 0} where
     pub marks : flat_map marks_in rest ++ seat.me.0.marks ≡ flat_map marks_in all
     pub finds : flat_map finds_in rest ++ seat.me.0.finds ≡ flat_map finds_in all
     pub histories : flat_map histories_in rest ++ seat.me.0.histories ≡ flat_map histories_in all
+    pub drops : flat_map drops_in rest ++ seat.me.0.drops ≡ flat_map drops_in all
     pub stores : flat_map stores_in rest ++ seat.me.0.stores ≡ flat_map stores_in all
     pub lists : flat_map lists_in rest ++ seat.me.0.lists ≡ flat_map lists_in all
     pub found : flat_map found_in rest ++ seat.me.0.found ≡ flat_map found_in all
@@ -88,6 +93,7 @@ module _ {S : Type 0} where
     marks = sym (ap (flat_map marks_in) e ∙ flat_last marks_in rest x);
     finds = sym (ap (flat_map finds_in) e ∙ flat_last finds_in rest x);
     histories = sym (ap (flat_map histories_in) e ∙ flat_last histories_in rest x);
+    drops = sym (ap (flat_map drops_in) e ∙ flat_last drops_in rest x);
     stores = sym (ap (flat_map stores_in) e ∙ flat_last stores_in rest x);
     lists = sym (ap (flat_map lists_in) e ∙ flat_last lists_in rest x);
     found = sym (ap (flat_map found_in) e ∙ flat_last found_in rest x);
@@ -104,6 +110,7 @@ module _ {S : Type 0} where
     marks = ap (λ (y : View). flat_map marks_in rest' ++ y.marks) v ∙ (sym (append_assoc (flat_map marks_in rest') earlier.me.0.marks seat.me.0.marks) ∙ (ap (λ l. l ++ seat.me.0.marks) (sym (ap (flat_map marks_in) e ∙ flat_last marks_in rest' earlier)) ∙ j.marks));
     finds = ap (λ (y : View). flat_map finds_in rest' ++ y.finds) v ∙ (sym (append_assoc (flat_map finds_in rest') earlier.me.0.finds seat.me.0.finds) ∙ (ap (λ l. l ++ seat.me.0.finds) (sym (ap (flat_map finds_in) e ∙ flat_last finds_in rest' earlier)) ∙ j.finds));
     histories = ap (λ (y : View). flat_map histories_in rest' ++ y.histories) v ∙ (sym (append_assoc (flat_map histories_in rest') earlier.me.0.histories seat.me.0.histories) ∙ (ap (λ l. l ++ seat.me.0.histories) (sym (ap (flat_map histories_in) e ∙ flat_last histories_in rest' earlier)) ∙ j.histories));
+    drops = ap (λ (y : View). flat_map drops_in rest' ++ y.drops) v ∙ (sym (append_assoc (flat_map drops_in rest') earlier.me.0.drops seat.me.0.drops) ∙ (ap (λ l. l ++ seat.me.0.drops) (sym (ap (flat_map drops_in) e ∙ flat_last drops_in rest' earlier)) ∙ j.drops));
     stores = ap (λ (y : View). flat_map stores_in rest' ++ y.stores) v ∙ (sym (append_assoc (flat_map stores_in rest') earlier.me.0.stores seat.me.0.stores) ∙ (ap (λ l. l ++ seat.me.0.stores) (sym (ap (flat_map stores_in) e ∙ flat_last stores_in rest' earlier)) ∙ j.stores));
     lists = ap (λ (y : View). flat_map lists_in rest' ++ y.lists) v ∙ (sym (append_assoc (flat_map lists_in rest') earlier.me.0.lists seat.me.0.lists) ∙ (ap (λ l. l ++ seat.me.0.lists) (sym (ap (flat_map lists_in) e ∙ flat_last lists_in rest' earlier)) ∙ j.lists));
     found = ap (λ (y : View). flat_map found_in rest' ++ y.found) v ∙ (sym (append_assoc (flat_map found_in rest') earlier.me.0.found seat.me.0.found) ∙ (ap (λ l. l ++ seat.me.0.found) (sym (ap (flat_map found_in) e ∙ flat_last found_in rest' earlier)) ∙ j.found));

@@ -1,5 +1,5 @@
 -- The loops of the close.
-use Rattle.std.proofs.Common.{◌≡◌, ◌≢◌, ℕ, zero, suc, ◌+◌, ◌*◌, ◌<◌, ◌≤◌, ◌⊎◌, ◌++◌, Bool, true, false, List, [], ◌∷◌, length, get_or, set, sym, refl, ap, ◌∙◌, subst, arith}
+use Rattle.std.proofs.Common.{◌≡◌, ◌≢◌, ℕ, zero, suc, ◌+◌, ◌*◌, ◌<◌, ◌≤◌, ◌⊎◌, ◌++◌, Bool, true, false, List, [], ◌∷◌, length, get_or, set, map, sym, refl, ap, ◌∙◌, subst, arith}
 use mathlib.Core.Logic.{dite}
 use mathlib.Core.Option.{some, some-injective, some-ne-none}
 use native.Mathlib.Decide.{ℕ_discrete}
@@ -17,20 +17,21 @@ use Rattle.sock_words.specs.declared.place_word.PlaceWord.{PlaceWord}
 use Rattle.sock_model.specs.declared.home.Home.TheVariants as home
 use Rattle.sock_rule.specs.declared.homes.LinkHome.{LinkHome}
 use Rattle.sock_rule.specs.declared.homes.SockHome.{SockHome}
-use Rattle.sock_rule.specs.declared.homes.SockHome.TheVariants.{Empty, Link, Message}
-use Rattle.sock_rule.specs.Shows.{shows, rose}
+use Rattle.sock_rule.specs.declared.homes.SockHome.TheVariants.{Empty, Link, Message, Ways}
+use Rattle.sock_rule.specs.Shows.{shows_in, rose, way_at}
 use Rattle.sock_rule.proofs.LinksBack.{AtHome, links_back, place_of}
+use Rattle.sock_rule.proofs.Ways.{own_number}
 use Rattle.sock_model.specs.declared.home.Home.{Home}
 use Rattle.sock_model.specs.declared.view.View.{View}
 use Rattle.sock_model.specs.declared.chain.Entry.{Entry}
 use Rattle.sock_model.specs.Layout.{ref_index, place_index}
 use Rattle.sock_rule.specs.OnTable.{OnTable}
 use Rattle.sock_rule.specs.Seated.{IsDone}
-use Rattle.sock_rule.specs.Closing.{IsAtRest, Closing, PlaceOf, LinkTook, IsDropTold}
-use Rattle.sock_rule.proofs.DropsTold.{drop_told}
+use Rattle.sock_rule.specs.Closing.{IsAtRest, Closing, PlaceOf, LinkTook, IsDropTold, IsLogged}
+use Rattle.sock_rule.proofs.DropsTold.{drop_told, dropped_logged}
 use Rattle.sock_rule.proofs.Closes.{ordered, ordered_log, closing}
-use Rattle.sock_table.specs.Closed.{WordsAre, AreLinks, OutsOf, OutBack, ClosedBy}
-use Rattle.sock_table.proofs.Joining.{marks_in, finds_in, histories_in, stores_in, lists_in, found_in}
+use Rattle.sock_table.specs.Closed.{WordsAre, AreLinks, OutsOf, OutBack, ways_of, ClosedBy}
+use Rattle.sock_table.proofs.Joining.{marks_in, finds_in, histories_in, drops_in, stores_in, lists_in, found_in}
 
 set_false : (l : List Bool) (k : ℕ) → get_or (set l k false) k false ≡ false
 set_false [] k = refl
@@ -84,6 +85,14 @@ module _ {O : Type 0} {g : Ghosts O} (requests : ℕ) (homes : List (SockHome O 
   pub is_link : (links k : ℕ) (x : SockHome O g) → AreLinks requests links homes → k < links → get_elem? homes (requests + k) ≡ some x → ((h : LinkHome O g) → x ≡ Link h → ⊥) → ⊥
   is_link links k x all lt e none_ = let a = all k lt in none_ a.0 (some-injective x (Link a.0) (sym e ∙ a.1))
 
+-- lists that have the same at each index
+ways_alike : {O : Type 0} (way : O → List ℕ) (outs : List O) (ways : List (List ℕ)) → length outs ≡ length ways → ((k : ℕ) → k < length ways → (o : O) × (get_elem? outs k ≡ some o) × (way o ≡ way_at ways k)) → map way outs ≡ ways
+ways_alike way [] [] long each = refl
+ways_alike way [] (w ∷ ws) long each = absurd (omega arith)
+ways_alike way (o ∷ os) [] long each = absurd (omega arith)
+ways_alike way (o ∷ os) (w ∷ ws) long each = let first = each 0 (omega arith) in let same : way o ≡ w = ap way (some-injective o first.0 first.1) ∙ first.2 in
+    let rest = ways_alike way os ws (omega arith) (λ k kl. each (suc k) (omega arith)) in (λ i. same i ∷ rest i)
+
 -- what a link's home shows
 abbrev number : Home → ℕ
 number (home.Link k took next done) = k
@@ -101,28 +110,29 @@ abbrev shows_link : Home → ℕ
 shows_link (home.Link k took next done) = 1
 shows_link _ = 0
 
-by_value : {O : Type 0} {g : Ghosts O} (homes : List (SockHome O g)) (at k next : ℕ) (took : List ℕ) (done : Bool) (y : SockHome O g) → get_elem? homes at ≡ some y → shows y ≡ home.Link k took next done → (h : LinkHome O g) × (get_elem? homes at ≡ some (Link h))
-by_value homes at k next took done Empty e s = let a = ap shows_link s in absurd (omega arith)
-by_value homes at k next took done (Message m) e s = let a = ap shows_link s in absurd (omega arith)
-by_value homes at k next took done (Link h) e s = (h, e)
+by_value : {O : Type 0} {g : Ghosts O} (q : Plan) (ways : List (List ℕ)) (homes : List (SockHome O g)) (at k next : ℕ) (took : List ℕ) (done : Bool) (y : SockHome O g) → get_elem? homes at ≡ some y → shows_in q ways y ≡ home.Link k took next done → (h : LinkHome O g) × (get_elem? homes at ≡ some (Link h))
+by_value q ways homes at k next took done Empty e s = let a = ap shows_link s in absurd (omega arith)
+by_value q ways homes at k next took done (Message m) e s = let a = ap shows_link s in absurd (omega arith)
+by_value q ways homes at k next took done (Link h) e s = (h, e)
+by_value q ways homes at k next took done (Ways w) e s = let a = ap shows_link s in absurd (omega arith)
 
 -- the table at the end, and the seat that took in all others
-module _ {O : Type 0} {g : Ghosts O} (q p : Plan) (id : ℕ) (v : View) (ws : List ℕ) (xs : List (SockHome O g)) (key : q ≡ p) (f : Final (Seen (OnTable (shows {O = O} {g = g}) (rose {O = O} {g = g}) q) id v) ws xs) (all : v.share ≡ p.seats) (done : IsDone p v) where
-  abbrev pub rule_at : OnTable (shows {O = O} {g = g}) (rose {O = O} {g = g}) p f.0
-  rule_at = subst (λ (r : Plan). OnTable (shows {O = O} {g = g}) (rose {O = O} {g = g}) r f.0) key f.1.0
+module _ {O : Type 0} {g : Ghosts O} (ways : List (List ℕ)) (q p : Plan) (id : ℕ) (v : View) (ws : List ℕ) (xs : List (SockHome O g)) (key : q ≡ p) (f : Final (Seen (OnTable (shows_in {O = O} {g = g} q ways) (rose {O = O} {g = g}) q) id v) ws xs) (all : v.share ≡ p.seats) (done : IsDone p v) where
+  abbrev pub rule_at : OnTable (shows_in {O = O} {g = g} p ways) (rose {O = O} {g = g}) p f.0
+  rule_at = subst (λ (r : Plan). OnTable (shows_in {O = O} {g = g} r ways) (rose {O = O} {g = g}) r f.0) key f.1.0
 
-  back : (k : ℕ) → k < p.links → AtHome (shows {O = O} {g = g}) (rose {O = O} {g = g}) p f.0 v rule_at.rule.lawful.log k
+  back : (k : ℕ) → k < p.links → AtHome (shows_in {O = O} {g = g} p ways) (rose {O = O} {g = g}) p f.0 v rule_at.rule.lawful.log k
   back k kl = links_back f.0 rule_at id v f.1.1 all done.bare k kl
 
   pub are_links : AreLinks p.requests p.links xs
-  are_links k kl = let b = back k kl in by_value xs (p.requests + k) k b.next b.took b.done b.value (f.4 (p.requests + k) b.value b.there) b.shown_is
+  are_links k kl = let b = back k kl in by_value p ways xs (p.requests + k) k b.next b.took b.done b.value (f.4 (p.requests + k) b.value b.there) b.shown_is
 
   pub out_back : (log : List Entry) → log ≡ rule_at.rule.lawful.log → (outs : List O) → OutsOf p.requests p.links outs xs → (k : ℕ) → k < p.links → OutBack g.state p v log ws outs k
   out_back log same outs of k kl = let b = back k kl in let a = of k kl in let e : b.value ≡ Link a.0 = some-injective b.value (Link a.0) (sym (f.4 (p.requests + k) b.value b.there) ∙ a.2) in
-      let s : shows (Link a.0) ≡ home.Link k b.took b.next b.done = ap shows (sym e) ∙ b.shown_is in record {
+      let s : shows_in p ways (Link a.0) ≡ home.Link k b.took b.next b.done = ap (shows_in p ways) (sym e) ∙ b.shown_is in record {
         out = a.0.out;
         there = a.1;
-        own = ap number s;
+        own = (own_number p ways (g.state a.0.out) k (ap number s) kl).0;
         took = b.took;
         faulted = λ some_. subst (λ (y : SockHome O g). 0 < rose y) e (b.faulted some_);
         tells = subst (λ (l : List ℕ). ForSome (g.state a.0.out).took (λ y. y ≡ l)) (ap bytes s) a.0.tells;
@@ -130,19 +140,28 @@ module _ {O : Type 0} {g : Ghosts O} (q p : Plan) (id : ℕ) (v : View) (ws : Li
         took_is = subst (λ (l : List Entry). LinkTook p v l ws k b.took) (sym same) (subst (λ (y : List ℕ). LinkTook p v rule_at.rule.lawful.log y k b.took) f.2 b.took_is);
       }
 
+  -- its bytes go the way of its link still
+  way_back : (outs : List O) → OutsOf p.requests p.links outs xs → (k : ℕ) → k < p.links → (o : O) × (get_elem? outs k ≡ some o) × ((g.state o).way ≡ way_at ways k)
+  way_back outs of k kl = let b = back k kl in let a = of k kl in let e : b.value ≡ Link a.0 = some-injective b.value (Link a.0) (sym (f.4 (p.requests + k) b.value b.there) ∙ a.2) in
+      (a.0.out, a.1, (own_number p ways (g.state a.0.out) k (ap number (ap (shows_in p ways) (sym e) ∙ b.shown_is)) kl).1)
+
+  pub ways_back : (outs : List O) → OutsOf p.requests p.links outs xs → length outs ≡ p.links → length ways ≡ p.links → ways_of g.state outs ≡ ways
+  ways_back outs of count each = ways_alike (λ (o : O). (g.state o).way) outs ways (count ∙ sym each) (λ k kl. way_back outs of k (omega arith))
+
   abbrev IsShown : ℕ → List Entry → List ℕ → Type 0
   IsShown l log words = (slice_index words (place_index p l) ≡ 0) ⊎ PlaceOf p log words l
 
   pub closes : (seats : List (Seat (SockHome O g) View)) (places : List PlaceWord) (vs : List Vref) (outs : List O) → IsAtRest p v
-      → v.marks ≡ flat_map marks_in seats → v.finds ≡ flat_map finds_in seats → v.histories ≡ flat_map histories_in seats → v.stores ≡ flat_map stores_in seats → v.lists ≡ flat_map lists_in seats → v.found ≡ flat_map found_in seats
+      → v.marks ≡ flat_map marks_in seats → v.finds ≡ flat_map finds_in seats → v.histories ≡ flat_map histories_in seats → v.drops ≡ flat_map drops_in seats → v.stores ≡ flat_map stores_in seats → v.lists ≡ flat_map lists_in seats → v.found ≡ flat_map found_in seats
       → WordsAre (λ (x : Vref). x.0) ref_index p.slots vs ws → WordsAre (λ (x : PlaceWord). x.0) (place_index p) (8 * p.operations) places ws → OutsOf p.requests p.links outs xs
       → length vs ≡ p.slots → length places ≡ 8 * p.operations → length outs ≡ p.links → ClosedBy g.state p seats places vs outs
-  closes seats places vs outs rest m n h k l d read placed of slots indices links = record {
+  closes seats places vs outs rest m n h x k l d read placed of slots indices links = record {
     view = v;
     words = ws;
     marks = m;
     finds = n;
     histories = h;
+    drops = x;
     stores = k;
     lists = l;
     found = d;
@@ -154,5 +173,6 @@ module _ {O : Type 0} {g : Ghosts O} (q p : Plan) (id : ℕ) (v : View) (ws : Li
     count = links;
     shown = λ l ll. subst (λ (y : List Entry). IsShown l y ws) (sym (ordered_log f.0 rule_at id v f.1.1 all done.bare.claims)) (subst (λ (y : List ℕ). IsShown l rule_at.rule.lawful.log y) f.2 (place_of f.0 rule_at id v f.1.1 all done.bare l ll));
     dropped = λ l ll. subst (λ (y : List Entry). IsDropTold p y v ws l) (sym (ordered_log f.0 rule_at id v f.1.1 all done.bare.claims)) (subst (λ (y : List ℕ). IsDropTold p rule_at.rule.lawful.log v y l) f.2 (drop_told f.0 rule_at id v f.1.1 all l ll));
+    drops_logged = λ i y e. subst (λ (log : List Entry). IsLogged log y) (sym (ordered_log f.0 rule_at id v f.1.1 all done.bare.claims)) (dropped_logged f.0 rule_at id v f.1.1 all i y e);
     outs_back = out_back (ordered f.0 rule_at id v f.1.1 all done.bare.claims).log (ordered_log f.0 rule_at id v f.1.1 all done.bare.claims) outs of;
   }

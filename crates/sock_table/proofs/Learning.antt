@@ -104,6 +104,7 @@ module _ (p : Plan) (u a x t c : View) (k next n m : ℕ) (took : List ℕ) (is 
     found = ap (λ (y : View). y.found) finished ∙ (ap (λ (y : View). y.found) took_in ∙ (ap (λ (y : View). u.found ++ y.found) is ∙ append-nil u.found));
     finds = ap (λ (y : View). y.finds) finished ∙ (ap (λ (y : View). y.finds) took_in ∙ (ap (λ (y : View). u.finds ++ y.finds) is ∙ append-nil u.finds));
     histories = ap (λ (y : View). y.histories) finished ∙ (ap (λ (y : View). y.histories) took_in ∙ (ap (λ (y : View). u.histories ++ y.histories) is ∙ append-nil u.histories));
+    drops = ap (λ (y : View). y.drops) finished ∙ (ap (λ (y : View). y.drops) took_in ∙ (ap (λ (y : View). u.drops ++ y.drops) is ∙ append-nil u.drops));
     stores = λ z n. (let e = ap (λ (y : View). put_in z n y) finished ∙ (ap (λ (y : View). put_in z n y) took_in ∙ ap (λ (y : View). total (total (is_put z n)) (u.stores ++ y.stores)) is) in
         let s = total-append (total (is_put z n)) u.stores ([] ∷ []) in omega arith);
   }

@@ -98,6 +98,7 @@ module _ (p : Plan) (u a x : View) (k : ℕ) (is : x ≡ carrier p (k ∷ [])) (
               found = ap (λ (y : View). y.found) all.others ∙ (ap (λ (y : View). y.found) took_in ∙ (ap (λ (y : View). u.found ++ y.found) is ∙ append-nil u.found));
               finds = ap (λ (y : View). y.finds) all.others ∙ (ap (λ (y : View). y.finds) took_in ∙ (ap (λ (y : View). u.finds ++ y.finds) is ∙ append-nil u.finds));
               histories = ap (λ (y : View). y.histories) all.others ∙ (ap (λ (y : View). y.histories) took_in ∙ (ap (λ (y : View). u.histories ++ y.histories) is ∙ append-nil u.histories));
+              drops = ap (λ (y : View). y.drops) all.others ∙ (ap (λ (y : View). y.drops) took_in ∙ (ap (λ (y : View). u.drops ++ y.drops) is ∙ append-nil u.drops));
               stores = λ z n. (let q = ap (put_in z n) all.others ∙ (ap (put_in z n) took_in ∙ ap (λ (y : View). total (total (is_put z n)) (u.stores ++ y.stores)) is) in let s = total-append (total (is_put z n)) u.stores ([] ∷ []) in omega arith);
             }
 
@@ -159,6 +160,7 @@ created i id k u v w x a won m = let at_id : socket_id_slot id ≡ i = m.slot in
   found = m.found ∙ (ap (λ (y : View). y.found) won.others ∙ ap (λ (y : View). y.found) a.others);
   finds = m.finds ∙ (ap (λ (y : View). y.finds) won.others ∙ ap (λ (y : View). y.finds) a.others);
   histories = m.histories ∙ (ap (λ (y : View). y.histories) won.others ∙ ap (λ (y : View). y.histories) a.others);
+  drops = m.drops ∙ (ap (λ (y : View). y.drops) won.others ∙ ap (λ (y : View). y.drops) a.others);
   stores = λ z n. m.stores z n ∙ (ap (put_in z n) won.others ∙ ap (put_in z n) a.others);
 }
 

@@ -1,5 +1,5 @@
 -- The seats that are handed in at the end, and what the table's last words say of them.
-use Rattle.std.specs.Prelude.{◌≡◌, ℕ, ◌+◌, ◌*◌, ◌<◌, ◌⊎◌, false, List, [], ◌∷◌, length, vec_len, vec_capacity}
+use Rattle.std.specs.Prelude.{◌≡◌, ℕ, ◌+◌, ◌*◌, ◌<◌, ◌⊎◌, false, List, [], ◌∷◌, length, map, vec_len, vec_capacity}
 use Rattle.std.specs.List.{flat_map}
 use Rattle.atomic_table.specs.Seated.{TableId}
 use Rattle.atomic_table.specs.declared.shared.Seat.{Seat}
@@ -12,12 +12,13 @@ use Rattle.sock_model.specs.SlotRows.{marks_of}
 use Rattle.sock_model.specs.Layout.{ref_index, place_index}
 use Rattle.sock_rule.specs.Faults.{faults_of}
 use Rattle.sock_rule.specs.Seated.{IsSeat, IsDone}
-use Rattle.sock_rule.specs.Closing.{IsAtRest, Closing, Ordered, PlaceOf, IsDropTold, LinkTook}
+use Rattle.sock_rule.specs.Closing.{IsAtRest, Closing, Ordered, PlaceOf, IsDropTold, IsLogged, LinkTook}
 use Rattle.std.specs.Prelude.{slice_index}
 use Rattle.std.specs.Option.{ForSome}
 use Rattle.sock_io.specs.declared.link.Out.{Ghosts}
 use Rattle.sock_io.specs.Link.{OutState}
 use Rattle.sock_model.specs.declared.chain.Entry.{Entry}
+use Rattle.sock_model.specs.declared.chain.Heading.{Heading}
 use Rattle.sock_table.specs.declared.closing.Closed.{Closed}
 use Rattle.sock_rule.specs.declared.homes.LinkHome.{LinkHome}
 use Rattle.sock_rule.specs.declared.homes.SockHome.{SockHome}
@@ -41,6 +42,7 @@ pub record HasAll {S : Type 0} (seats : List (Seat S View)) (v : View) : Type 0 
   pub marks : v.marks ≡ flat_map (λ (s : Seat S View). s.me.0.marks) seats
   pub finds : v.finds ≡ flat_map (λ (s : Seat S View). s.me.0.finds) seats
   pub histories : v.histories ≡ flat_map (λ (s : Seat S View). s.me.0.histories) seats
+  pub drops : v.drops ≡ flat_map (λ (s : Seat S View). s.me.0.drops) seats
   pub stores : v.stores ≡ flat_map (λ (s : Seat S View). s.me.0.stores) seats
   pub lists : v.lists ≡ flat_map (λ (s : Seat S View). s.me.0.lists) seats
   pub found : v.found ≡ flat_map (λ (s : Seat S View). s.me.0.found) seats
@@ -70,6 +72,10 @@ pub record OutBack {O : Type 0} (state : O → OutState) (p : Plan) (v : View) (
   -- it isn't finished where the life that it was given hasn't ended
   pub unfinished : (i h : ℕ) → i < p.slots → 0 < marks_of (is_linked h k) i v → marks_of (is_freer h) i v ≡ 0 → (state out).finished ≡ false
 
+-- which way the bytes of each half go
+abbrev pub ways_of : {O : Type 0} → (O → OutState) → List O → List (List ℕ)
+ways_of state outs = map (λ o. (state o).way) outs
+
 -- room for what a table of this plan leaves: its words, and as many writing halves as it has links
 pub record IsRoomOf {O : Type 0} (p : Plan) (c : Closed O) : Type 0 where
   pub places : length c.places.items ≡ 8 * p.operations
@@ -85,6 +91,7 @@ pub record ClosedBy {O S : Type 0} (state : O → OutState) (p : Plan) (seats : 
   pub finds : view.finds ≡ flat_map (λ (s : Seat S View). s.me.0.finds) seats
   -- what each seat met at its finds and stores is the end of one order of all that was stored (`closing.stored`)
   pub histories : view.histories ≡ flat_map (λ (s : Seat S View). s.me.0.histories) seats
+  pub drops : view.drops ≡ flat_map (λ (s : Seat S View). s.me.0.drops) seats
   pub stores : view.stores ≡ flat_map (λ (s : Seat S View). s.me.0.stores) seats
   -- the lists of accepted messages: those of each seat in its place, each in its own order
   pub lists : view.lists ≡ flat_map (λ (s : Seat S View). s.me.0.lists) seats
@@ -99,6 +106,8 @@ pub record ClosedBy {O S : Type 0} (state : O → OutState) (p : Plan) (seats : 
   pub shown : (l : ℕ) → l < 8 * p.operations → (slice_index words (place_index p l) ≡ 0) ⊎ PlaceOf p ordered.log words l
   -- which of them have the dropped bit: those of the messages that the seats noted as dropped, where the places of all labels differ
   pub dropped : (l : ℕ) → l < 8 * p.operations → IsDropTold p ordered.log view words l
+  -- each message that a seat dropped stands in the order
+  pub drops_logged : (n : ℕ) (h : Heading) → get_elem? view.drops n ≡ some h → IsLogged ordered.log h
   -- one half for each link, and no more
   pub count : length outs ≡ p.links
   pub outs_back : (k : ℕ) → k < p.links → OutBack state p view ordered.log words outs k

@@ -39,6 +39,7 @@ pub record Made (i id k : ℕ) (v w : View) : Type 0 where
   pub found : w.found ≡ v.found
   pub finds : w.finds ≡ v.finds
   pub histories : w.histories ≡ v.histories
+  pub drops : w.drops ≡ v.drops
   pub stores : (x n : ℕ) → put_in x n w ≡ put_in x n v
 
 -- the tags of the first n slots were found taken, and nothing else changed
@@ -55,4 +56,5 @@ pub record Created (id k : ℕ) (v w : View) : Type 0 where
   pub found : w.found ≡ v.found
   pub finds : w.finds ≡ v.finds
   pub histories : w.histories ≡ v.histories
+  pub drops : w.drops ≡ v.drops
   pub stores : (x n : ℕ) → put_in x n w ≡ put_in x n v

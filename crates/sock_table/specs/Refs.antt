@@ -59,6 +59,7 @@ pub record SameNotes (v w : View) : Type 0 where
   pub found : w.found ≡ v.found
   pub finds : w.finds ≡ v.finds
   pub histories : w.histories ≡ v.histories
+  pub drops : w.drops ≡ v.drops
   pub stores : (x n : ℕ) → put_in x n w ≡ put_in x n v
 
 -- the seat may address this id

@@ -7,7 +7,7 @@ ghost use Rattle.sock_model.specs.Layout.{all_words, ref_index, place_index};
 ghost use Rattle.std.specs.List.{flat_map};
 ghost use Rattle.sock_model.specs.Weights.{total};
 ghost use Rattle.sock_rule.specs.Seated.{IsSeat};
-ghost use Rattle.sock_table.specs.Closed.{AllDone, IsDoneSeat, WordsAre, AreLinks, OutsOf, ClosedBy, IsRoomOf, HasAll};
+ghost use Rattle.sock_table.specs.Closed.{AllDone, IsDoneSeat, WordsAre, AreLinks, OutsOf, ways_of, ClosedBy, IsRoomOf, HasAll};
 
 use crate::table::SockTable;
 use atomic_table::Closed as ClosedTable;
@@ -41,6 +41,7 @@ fn join_all<O: Out>(rule: &RuleTable<O>, mut seats: Vec<SockSeat<O>>) -> SockSea
     ensures marks { result.me.0.marks ≡ flat_map (λ s. s.me.0.marks) seats.items }
     ensures finds { result.me.0.finds ≡ flat_map (λ s. s.me.0.finds) seats.items }
     ensures histories { result.me.0.histories ≡ flat_map (λ s. s.me.0.histories) seats.items }
+    ensures drops { result.me.0.drops ≡ flat_map (λ s. s.me.0.drops) seats.items }
     ensures stores { result.me.0.stores ≡ flat_map (λ s. s.me.0.stores) seats.items }
     ensures lists { result.me.0.lists ≡ flat_map (λ s. s.me.0.lists) seats.items }
     ensures found { result.me.0.found ≡ flat_map (λ s. s.me.0.found) seats.items }
@@ -152,11 +153,12 @@ impl<O: Out> SockTable<O> {
         requires seats { AllDone self.rule.table.shared.table_id self.rule.plan seats.items }
         requires all { total (λ s. s.me.0.share) seats.items ≡ self.rule.plan.seats }
         requires some { 1 ≤ self.rule.plan.seats }
-        ensures { ClosedBy O.state self.rule.plan seats.items result.places.items result.vrefs.items result.outs.items }
+        ensures closed { ClosedBy O.state self.rule.plan seats.items result.places.items result.vrefs.items result.outs.items }
+        ensures ways { ways_of O.state result.outs.items ≡ self.rule.ways.list }
     {
         let seat = join_all(&self.rule, seats);
         let SockTable { rule } = self;
-        let RuleTable { table, plan } = rule;
+        let RuleTable { table, plan, .. } = rule;
         let mut table = table.close_with(seat);
         let Closed {
             mut places,
@@ -180,6 +182,7 @@ impl<O: Out> SockTable<O> {
         requires all { total (λ s. s.me.0.share) seats.items ≡ self.rule.plan.seats }
         requires some { 1 ≤ self.rule.plan.seats }
         ensures closed { IfOk result (λ c. ClosedBy O.state self.rule.plan seats.items c.places.items c.vrefs.items c.outs.items) }
+        ensures ways { IfOk result (λ c. ways_of O.state c.outs.items ≡ self.rule.ways.list) }
         ensures untouched { IfErr result (λ e. (e.table ≡ self) × (e.seats ≡ seats)) }
     {
         let Ok(left) = rooms(alloc, &self.rule.plan) else {

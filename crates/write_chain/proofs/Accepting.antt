@@ -90,6 +90,7 @@ module _ (p : Plan) (v a b : View) (id slot h k at own : ℕ) (c : Claim) (headi
         seen = λ n h. (h.0, ap (λ (y : View). get_elem? y.found h.0) all ∙ h.1);
         finds = ap (λ (y : View). y.finds) all;
         histories = ap (λ (y : View). y.histories) all;
+        drops = ap (λ (y : View). y.drops) all;
         stores = ap (λ (y : View). y.stores) all;
       },
       ap (λ (y : View). y.rights) all ∙ rights,
@@ -117,6 +118,7 @@ module _ (p : Plan) (v a b : View) (id slot h k at own : ℕ) (c : Claim) (headi
         seen = λ n h. (h.0, ap (λ (y : View). get_elem? y.found h.0) all_r ∙ h.1);
         finds = ap (λ (y : View). y.finds) all_r;
         histories = ap (λ (y : View). y.histories) all_r;
+        drops = ap (λ (y : View). y.drops) all_r;
         stores = ap (λ (y : View). y.stores) all_r;
       },
       new_right (ready_claim (filled_for c k heading bytes)) found sent places,
@@ -185,6 +187,7 @@ accepted_after p id at heading bytes c v w x a k = record {
   seen = λ n h. k.seen n (a.seen n h);
   finds = k.finds ∙ ap (λ (y : View). y.finds) a.others;
   histories = k.histories ∙ ap (λ (y : View). y.histories) a.others;
+  drops = k.drops ∙ ap (λ (y : View). y.drops) a.others;
   stores = k.stores ∙ ap (λ (y : View). y.stores) a.others;
 }
 

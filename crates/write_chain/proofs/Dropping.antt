@@ -15,6 +15,7 @@ use Rattle.sock_open.specs.slot_steps.proofs.Numbers.{pair-same}
 use Rattle.sock_rule.specs.Becoming.{Became}
 use Rattle.sock_rule.proofs.Becoming.{stays}
 use Rattle.sock_table.specs.Answers.{CodeOf}
+use Rattle.write_chain.specs.declared.right.Undelivered.{Undelivered}
 use Rattle.write_chain.specs.Noting.{saw, told, nothing, finding, Wrote, WroteDrop}
 use Rattle.write_chain.specs.Writing.{FoundDead}
 use Rattle.write_chain.specs.Keeping.{IsCode, IsDropped, LeavesMore}
@@ -53,8 +54,8 @@ code_before code id u v w a k = record { word = k.word; code_is = k.code_is; fit
 pub still_dead : {O : Type 0} {state : O → OutState} (id : ℕ) (v w : View) → Wrote state id v w → FoundDead id v → FoundDead id w
 still_dead id v w a there = let x = wrote_more (is_saw (socket_id_version id + 1)) (v) w a in omega arith
 
-pub dead_dropped : {O : Type 0} {state : O → OutState} (p : Plan) (id place : ℕ) (v w : View) → WroteDrop state p id place v w → FoundDead id v → FoundDead id w
-dead_dropped p id place v w a there = let x = wrote_more (is_saw (socket_id_version id + 1)) v (record w { stores = v.stores }) a.wrote in omega arith
+pub dead_dropped : {O : Type 0} {state : O → OutState} (p : Plan) (id : ℕ) (msg : Undelivered) (v w : View) → WroteDrop state p id msg v w → FoundDead id v → FoundDead id w
+dead_dropped p id msg v w a there = let x = wrote_more (is_saw (socket_id_version id + 1)) v (record w { stores = v.stores; drops = v.drops }) a.wrote in omega arith
 
 -- where the message was dropped, none is left of it
 pub dropped_leaves : {O : Type 0} {g : Ghosts O} (w : Went O g) → IsDropped w → LeavesMore w

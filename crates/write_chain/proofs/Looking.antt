@@ -57,20 +57,20 @@ module _ (b : Bool) (found word : ℕ) (same : word ≡ found) (is : IsTrue b �
   pub found_dead : not b ≡ false → version_of found % 2 ≢ 0
   found_dead f e = let odd : version_of word % 2 ≡ 1 = is.0 (not_false b f) in let k = ap (λ (w : ℕ). version_of w % 2) same in absurd (omega arith)
 
-module _ {O : Type 0} {g : Ghosts O} {p : Plan} {id last : ℕ} (hand : InHand O g) (m n : Me (SockHome O g) View) (slot found : ℕ) (at : slot ≡ socket_id_slot id) (h : HasPart p id last hand m) (l : LookedToWrite h.0.right_is slot found m n) where
+module _ {O : Type 0} {g : Ghosts O} {p : Plan} {ways : List (List ℕ)} {id last : ℕ} (hand : InHand O g) (m n : Me (SockHome O g) View) (slot found : ℕ) (at : slot ≡ socket_id_slot id) (h : HasPart p ways id last hand m) (l : LookedToWrite h.0.right_is slot found m n) where
   became_looked : Became (socket_id_slot id) m.0 (looked slot found m.0) (Saw (version_of found) ∷ []) []
   became_looked = subst (λ (j : ℕ). Became j m.0 (looked slot found m.0) (Saw (version_of found) ∷ []) []) at (looked_marks slot found m.0)
 
   noted_saw : {L : ℕ → Type 0} → Noted g.state L (socket_id_version id) (Saw (version_of found) ∷ [])
   noted_saw {L} = found_it (Saw (version_of found)) (saw (version_of found))
 
-  pub live : version_of found % 2 ≡ 0 → IsClean p id last hand n
+  pub live : version_of found % 2 ≡ 0 → IsClean p ways id last hand n
   live even = part_clean {L = λ k. ⊥} hand m n (looked slot found m.0) (Saw (version_of found) ∷ []) noted_saw became_looked (λ t. h.0.noted (became_faults hand.link (socket_id_slot id) m.0 (looked slot found m.0) _ _ became_looked refl t)) h (l.1 even)
 
   odd_is : version_of found % 2 ≢ 0 → version_of found ≡ socket_id_version id + 1
   odd_is odd = let a = l.0.held (socket_id_version id) (subst (λ (j : ℕ). 0 < marks_of (is_hold (socket_id_version id)) j m.0) (sym at) h.0.writer.holds.held) in omega arith
 
-  pub dead : version_of found % 2 ≢ 0 → HasPart p id last hand n × FoundDead id n.0
+  pub dead : version_of found % 2 ≢ 0 → HasPart p ways id last hand n × FoundDead id n.0
   dead odd = let v = ap (λ (q : Me (SockHome O g) View). q.0) (l.2 odd) in let b : Became (socket_id_slot id) m.0 n.0 (Saw (version_of found) ∷ []) [] = subst (λ (y : View). Became (socket_id_slot id) m.0 y (Saw (version_of found) ∷ []) []) (sym v) became_looked in
       let one : is_saw (socket_id_version id + 1) (Saw (version_of found)) ≡ 1 = ap (λ (y : ℕ). is_saw (socket_id_version id + 1) (Saw y)) (odd_is odd) ∙ only-same (socket_id_version id + 1) in (
         part_noted {L = λ k. ⊥} hand m n (Saw (version_of found) ∷ []) noted_saw b (ap (λ (q : Me (SockHome O g) View). q.1) (l.2 odd)) (λ t. h.0.noted (became_faults hand.link (socket_id_slot id) m.0 n.0 _ _ b refl t)) h,

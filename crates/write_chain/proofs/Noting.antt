@@ -5,14 +5,17 @@ use Rattle.sock_words.specs.declared.plain.Plan.{Plan}
 use Rattle.sock_words.specs.Words.{socket_id_version, socket_id_slot}
 use Rattle.sock_model.specs.declared.chain.Right.{Right}
 use Rattle.sock_model.specs.declared.marks.Mark.{Mark}
+use Rattle.sock_model.specs.declared.chain.Heading.{Heading}
 use Rattle.sock_model.specs.declared.view.View.{View}
+use Rattle.write_chain.specs.declared.right.Undelivered.{Undelivered}
 use Rattle.sock_model.specs.Weights.{total, is_ref, is_met}
 use Rattle.sock_model.specs.declared.view.StoredWord.{StoredWord}
 use Rattle.sock_model.specs.ChainRows.{with_right}
 use Rattle.sock_model.specs.Layout.{place_index}
 use Rattle.sock_model.specs.Deliveries.{place_value}
 use Rattle.sock_model.specs.Marks.{noted}
-use Rattle.sock_model.specs.SlotRows.{marks_of, wrote}
+use Rattle.sock_model.specs.SlotRows.{marks_of}
+use Rattle.sock_rule.specs.Rows.{dropped_at}
 use Rattle.sock_rule.specs.Becoming.{Became}
 use Rattle.sock_rule.proofs.Becoming.{then_, stays}
 use Rattle.sock_table.proofs.Quiet.{IsQuiet}
@@ -79,14 +82,19 @@ module _ {O : Type 0} {state : O → OutState} {id : ℕ} where
   wrote_stores v w a = ap (λ (y : View). y.stores) a.became.others
 
   -- a seat that only wrote, and then dropped a message
-  pub drop_then : (p : Plan) (place : ℕ) (u v w : View) → Wrote state id u v → WroteDrop state p id place v w → WroteDrop state p id place u w
-  drop_then p place u v w a b = let same = wrote_stores u v a in record {
+  pub drop_then : (p : Plan) (msg : Undelivered) (u v w : View) → Wrote state id u v → WroteDrop state p id msg v w → WroteDrop state p id msg u w
+  drop_then p msg u v w a b = let same = wrote_stores u v a in let kept : v.drops ≡ u.drops = ap (λ (y : View). y.drops) a.became.others in record {
     link = b.link;
     position = b.position;
     low = b.low;
     met = b.met;
-    stores = b.stores ∙ ap (noted record { place = place_index p place; word = place_value true b.link b.position }) same;
-    wrote = subst (λ (l : List (List StoredWord)). Wrote state id u (record w { stores = l })) same (wrote_then u v (record w { stores = v.stores }) a b.wrote);
+    stores = b.stores ∙ ap (noted record { place = place_index p msg.label.place; word = place_value true b.link b.position }) same;
+    heading = b.heading;
+    drops = b.drops ∙ ap (λ (l : List Heading). b.heading ∷ l) kept;
+    place_is = b.place_is;
+    attempt_is = b.attempt_is;
+    owner_is = b.owner_is;
+    wrote = subst (λ (l : List (List StoredWord)). Wrote state id u (record w { stores = l; drops = u.drops })) same (subst (λ (d : List Heading). Wrote state id u (record w { stores = v.stores; drops = d })) kept (wrote_then u v (record w { stores = v.stores; drops = v.drops }) a b.wrote));
   }
 
 -- ## Rights alone
@@ -98,8 +106,10 @@ pub rights_then : (u v w : View) → v ≡ record u { rights = v.rights } → w 
 rights_then u v w first second = second ∙ ap (λ (y : View). record y { rights = w.rights }) first
 
 -- and a drop
-pub rights_but_store : (u v w : View) (x word : ℕ) (r : Right) → v ≡ wrote x word (with_right u r) → w ≡ record v { rights = w.rights } → (record w { stores = u.stores } ≡ record u { rights = w.rights }) × (w.stores ≡ noted record { place = x; word = word } u.stores)
-rights_but_store u v w x word r first second = (
-  ap (λ (y : View). record y { stores = u.stores }) second ∙ ap (λ (y : View). record y { rights = w.rights; stores = u.stores }) first,
+pub rights_but_store : (u v w : View) (x word : ℕ) (h : Heading) (r : Right) → v ≡ dropped_at x word h (with_right u r) → w ≡ record v { rights = w.rights }
+    → (record w { stores = u.stores; drops = u.drops } ≡ record u { rights = w.rights }) × (w.stores ≡ noted record { place = x; word = word } u.stores) × (w.drops ≡ h ∷ u.drops)
+rights_but_store u v w x word h r first second = (
+  ap (λ (y : View). record y { stores = u.stores; drops = u.drops }) second ∙ ap (λ (y : View). record y { rights = w.rights; stores = u.stores; drops = u.drops }) first,
   ap (λ (y : View). y.stores) second ∙ ap (λ (y : View). y.stores) first,
+  ap (λ (y : View). y.drops) second ∙ ap (λ (y : View). y.drops) first,
 )

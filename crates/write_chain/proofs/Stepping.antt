@@ -17,7 +17,9 @@ use Rattle.sock_model.specs.declared.view.View.{View}
 use Rattle.sock_model.specs.Entries.{slot_of}
 use Rattle.sock_model.specs.Links.{HoldsLink}
 use Rattle.sock_model.specs.Weights.{is_ref, is_hold, is_met}
-use Rattle.sock_model.specs.SlotRows.{met_link, wrote}
+use Rattle.sock_model.specs.SlotRows.{met_link}
+use Rattle.sock_model.specs.declared.chain.Heading.{Heading}
+use Rattle.sock_rule.specs.Rows.{dropped_at}
 use Rattle.sock_model.specs.ChainRows.{with_right, without_right, taken_right, placed_right, dropped_right, passing_right, freed_stage, freed_right, walking_right, reading_right, turned_right}
 use Rattle.message_parts.specs.Parcels.{parcel_of, outgoing_of}
 use Rattle.sock_rule.specs.Becoming.{Became}
@@ -28,7 +30,7 @@ use Rattle.sock_rule.specs.declared.homes.LinkHome.{LinkHome}
 use Rattle.sock_rule.specs.declared.homes.Letter.{Letter}
 use Rattle.sock_rule.specs.declared.homes.SockHome.{SockHome}
 use Rattle.sock_rule.specs.declared.homes.SockHome.TheVariants.{Empty}
-use Rattle.sock_rule.specs.Shows.{heading_of}
+use Rattle.sock_rule.specs.Shows.{heading_of, way_at}
 use Rattle.sock_rule.proofs.Holding.{one_right}
 use Rattle.sock_rule.proofs.Becoming.{met_marks}
 use Rattle.sock_table.proofs.Ending.{noted_taken}
@@ -57,8 +59,8 @@ writer_on {p} {id} {last} {link} {x} {v} {w} is last' x' same now ticket e = sub
 }
 
 -- and a drop is noted
-writer_dropped : {p : Plan} {id last link : ℕ} {x : Right} {v w : View} → IsWriter p id last link x v → (y word : ℕ) (x' : Right) → x'.link ≡ x.link → x'.last ≡ last → w ≡ wrote y word (with_right v x') → IsWriter p id last link x' w
-writer_dropped {p} {id} {last} {link} {x} {v} {w} is y word x' same now e = subst (λ (z : View). IsWriter p id last link x' z) (sym e) record {
+writer_dropped : {p : Plan} {id last link : ℕ} {x : Right} {v w : View} → IsWriter p id last link x v → (y word : ℕ) (h : Heading) (x' : Right) → x'.link ≡ x.link → x'.last ≡ last → w ≡ dropped_at y word h (with_right v x') → IsWriter p id last link x' w
+writer_dropped {p} {id} {last} {link} {x} {v} {w} is y word h x' same now e = subst (λ (z : View). IsWriter p id last link x' z) (sym e) record {
   one = one_right v x x' is.one same;
   last_is = now;
   last_ticket = is.last_ticket;
@@ -88,9 +90,9 @@ writer_noted {p = p} {id = id} {last = last} {link = link} {x = x} {v = v} {w = 
 took_all : (sent begun bytes left took : List ℕ) → took ≡ sent ++ begun → bytes ≡ begun ++ left → left ≡ [] → took ≡ sent ++ bytes
 took_all sent begun bytes left took t b none_ = t ∙ ap (λ l. sent ++ l) (sym (b ∙ (ap (λ l. begun ++ l) none_ ∙ append-nil begun)))
 
-module _ {O : Type 0} {g : Ghosts O} {p : Plan} {id last : ℕ} where
+module _ {O : Type 0} {g : Ghosts O} {p : Plan} {ways : List (List ℕ)} {id last : ℕ} where
   -- what is in hand stays where notes come
-  pub part_noted : {L : ℕ → Type 0} (hand : InHand O g) (m n : Me (SockHome O g) View) (notes : List Mark) → Noted g.state L (socket_id_version id) notes → Became (socket_id_slot id) m.0 n.0 notes [] → n.1 ≡ m.1 → (0 < faults_of hand.link n.0 → 0 < (g.state hand.home.out).faults) → HasPart p id last hand m → HasPart p id last hand n
+  pub part_noted : {L : ℕ → Type 0} (hand : InHand O g) (m n : Me (SockHome O g) View) (notes : List Mark) → Noted g.state L (socket_id_version id) notes → Became (socket_id_slot id) m.0 n.0 notes [] → n.1 ≡ m.1 → (0 < faults_of hand.link n.0 → 0 < (g.state hand.home.out).faults) → HasPart p ways id last hand m → HasPart p ways id last hand n
   part_noted hand m n notes noted b slots faults h = (
     record {
       right_is = h.0.right_is;
@@ -100,6 +102,8 @@ module _ {O : Type 0} {g : Ghosts O} {p : Plan} {id last : ℕ} where
       ticket = h.0.ticket;
       taken = h.0.taken;
       place_is = h.0.place_is;
+      attempt_is = h.0.attempt_is;
+      owner_is = h.0.owner_is;
       place_in = h.0.place_in;
       begun = h.0.begun;
       bytes_are = h.0.bytes_are;
@@ -112,17 +116,19 @@ module _ {O : Type 0} {g : Ghosts O} {p : Plan} {id last : ℕ} where
   )
 
   -- the look found the life live
-  pub part_clean : {L : ℕ → Type 0} (hand : InHand O g) (m n : Me (SockHome O g) View) (v : View) (notes : List Mark) → Noted g.state L (socket_id_version id) notes → Became (socket_id_slot id) m.0 v notes [] → (0 < faults_of hand.link v → 0 < (g.state hand.home.out).faults) → (h : HasPart p id last hand m)
-      → n ≡ (with_right v (record h.0.right_is { clean = true }), m.1) → IsClean p id last hand n
+  pub part_clean : {L : ℕ → Type 0} (hand : InHand O g) (m n : Me (SockHome O g) View) (v : View) (notes : List Mark) → Noted g.state L (socket_id_version id) notes → Became (socket_id_slot id) m.0 v notes [] → (0 < faults_of hand.link v → 0 < (g.state hand.home.out).faults) → (h : HasPart p ways id last hand m)
+      → n ≡ (with_right v (record h.0.right_is { clean = true }), m.1) → IsClean p ways id last hand n
   part_clean hand m n v notes noted b faults h e = let w = writer_noted h.0.writer notes noted b in (
     record {
       right_is = record h.0.right_is { clean = true };
       writer = writer_on w last (record h.0.right_is { clean = true }) refl w.last_is w.last_ticket (ap (λ (q : Me (SockHome O g) View). q.0) e);
-      has = record { away = h.0.has.away; link_in = h.0.has.link_in; places_are = h.0.has.places_are; own = h.0.has.own; unfinished = h.0.has.unfinished };
+      has = record { away = h.0.has.away; link_in = h.0.has.link_in; places_are = h.0.has.places_are; own = h.0.has.own; way = h.0.has.way; unfinished = h.0.has.unfinished };
       stage_is = h.0.stage_is;
       ticket = h.0.ticket;
       taken = h.0.taken;
       place_is = h.0.place_is;
+      attempt_is = h.0.attempt_is;
+      owner_is = h.0.owner_is;
       place_in = h.0.place_in;
       begun = h.0.begun;
       bytes_are = h.0.bytes_are;
@@ -135,7 +141,7 @@ module _ {O : Type 0} {g : Ghosts O} {p : Plan} {id last : ℕ} where
   )
 
   -- a put was made, or the link was asked
-  went_on : (old new : InHand O g) (taken : List ℕ) (m : Me (SockHome O g) View) → WentOn old new taken → (h : HasInHand p id last old m) → (h' : HasInHand p id last new m) × (h'.right_is ≡ h.right_is) × (h'.begun ≡ h.begun ++ taken)
+  went_on : (old new : InHand O g) (taken : List ℕ) (m : Me (SockHome O g) View) → WentOn old new taken → (h : HasInHand p ways id last old m) → (h' : HasInHand p ways id last new m) × (h'.right_is ≡ h.right_is) × (h'.begun ≡ h.begun ++ taken)
   went_on old new taken m w h = let k = w.others.0 in let t = w.others.1 in let l = w.others.2 in (
     record {
       right_is = h.right_is;
@@ -145,12 +151,15 @@ module _ {O : Type 0} {g : Ghosts O} {p : Plan} {id last : ℕ} where
         link_in = subst (λ (y : ℕ). y < p.links) (sym k) h.has.link_in;
         places_are = w.next ∙ h.has.places_are;
         own = w.link ∙ (h.has.own ∙ sym k);
+        way = w.way ∙ (h.has.way ∙ ap (way_at ways) (sym k));
         unfinished = w.finished ∙ h.has.unfinished;
       };
       stage_is = h.stage_is ∙ ap (λ (y : Ticket). Writes y.0) (sym t);
       ticket = subst (λ (y : Ticket). IsTicket p y.0) (sym t) h.ticket;
       taken = h.taken;
       place_is = h.place_is ∙ ap (λ (y : Label). y.place) (sym l);
+      attempt_is = h.attempt_is ∙ ap (λ (y : Label). y.attempt) (sym l);
+      owner_is = h.owner_is ∙ sym w.others.3;
       place_in = subst (λ (y : Label). y.place < 8 * p.operations) (sym l) h.place_in;
       begun = h.begun ++ taken;
       bytes_are = h.bytes_are ∙ (ap (λ y. h.begun ++ y) w.left ∙ sym (append_assoc h.begun taken (outgoing_of new.bytes).left));
@@ -163,11 +172,11 @@ module _ {O : Type 0} {g : Ghosts O} {p : Plan} {id last : ℕ} where
     refl,
   )
 
-  pub clean_put : (old new : InHand O g) (taken : List ℕ) (m : Me (SockHome O g) View) → WentOn old new taken → IsClean p id last old m → IsClean p id last new m
+  pub clean_put : (old new : InHand O g) (taken : List ℕ) (m : Me (SockHome O g) View) → WentOn old new taken → IsClean p ways id last old m → IsClean p ways id last new m
   clean_put old new taken m w h = let r = went_on old new taken m w h.0 in (r.0, ap (λ (y : Right). y.clean) r.1 ∙ h.1)
 
   -- the link was asked
-  pub part_asked : (old new : InHand O g) (m : Me (SockHome O g) View) → WentOn old new [] → HasPart p id last old m → HasPart p id last new m
+  pub part_asked : (old new : InHand O g) (m : Me (SockHome O g) View) → WentOn old new [] → HasPart p ways id last old m → HasPart p ways id last new m
   part_asked old new m w h = let r = went_on old new [] m w h.0 in (r.0, by_part h.1)
     where
       by_part : IsPart h.0.right_is h.0.begun (outgoing_of old.bytes).left → IsPart (went_on old new [] m w h.0).0.right_is (went_on old new [] m w h.0).0.begun (outgoing_of new.bytes).left
@@ -177,15 +186,15 @@ module _ {O : Type 0} {g : Ghosts O} {p : Plan} {id last : ℕ} where
   -- ## Moves
 
   -- L1
-  pub link_fetched : (link : ℕ) (at : Stage) (hand : LinkInHand O g) (m n : Me (SockHome O g) View) (s : Stands p id last at link m) → hand.link ≡ link → link < p.links → ((g.state hand.home.out).link ≡ link) × ((g.state hand.home.out).finished ≡ false)
+  pub link_fetched : (link : ℕ) (at : Stage) (hand : LinkInHand O g) (m n : Me (SockHome O g) View) (s : Stands p id last at link m) → hand.link ≡ link → link < p.links → ((g.state hand.home.out).link ≡ link) × ((g.state hand.home.out).finished ≡ false) → (g.state hand.home.out).way ≡ way_at ways link
       → (hand.home.took.list ≡ s.right_is.sent) × (hand.home.next ≡ s.right_is.places) → (slot : ℕ) → slot ≡ socket_id_slot id → (0 < faults_of link m.0 → 0 < (g.state hand.home.out).faults)
-      → n ≡ (fault_found (g.state hand.home.out).faults slot link (with_right m.0 (record s.right_is { at_home = false })), (p.requests + link, Empty) ∷ m.1) → HasLink p id last at [] hand n
-  link_fetched link at hand m n s same low half took slot slot_is known e = let x' : Right = record s.right_is { at_home = false } in let u : View = with_right m.0 x' in let faults : ℕ = (g.state hand.home.out).faults in
+      → n ≡ (fault_found (g.state hand.home.out).faults slot link (with_right m.0 (record s.right_is { at_home = false })), (p.requests + link, Empty) ∷ m.1) → HasLink p ways id last at [] hand n
+  link_fetched link at hand m n s same low half way took slot slot_is known e = let x' : Right = record s.right_is { at_home = false } in let u : View = with_right m.0 x' in let faults : ℕ = (g.state hand.home.out).faults in
       let with_notes : IsWriter p id last link x' (fault_found faults slot link u) = writer_noted {O = O} {state = g.state} {L = λ k. ⊥} (writer_on s.writer last x' refl s.writer.last_is s.writer.last_ticket refl) (found_marks faults link) (found_noted faults link)
       (subst (λ (j : ℕ). Became j u (fault_found faults slot link u) (found_marks faults link) []) slot_is (found_became faults slot link u)) in record {
         right_is = record s.right_is { at_home = false };
         writer = subst (λ (y : ℕ). IsWriter p id last y (record s.right_is { at_home = false }) n.0) (sym same) (subst (λ (z : View). IsWriter p id last link x' z) (sym (ap (λ (q : Me (SockHome O g) View). q.0) e)) with_notes);
-        has = record { away = refl; link_in = subst (λ (y : ℕ). y < p.links) (sym same) low; places_are = took.1; own = half.0 ∙ sym same; unfinished = half.1 };
+        has = record { away = refl; link_in = subst (λ (y : ℕ). y < p.links) (sym same) low; places_are = took.1; own = half.0 ∙ sym same; way = way ∙ ap (way_at ways) (sym same); unfinished = half.1 };
         stage_is = s.stage_is;
         idle = s.idle;
         took = took.0;
@@ -194,12 +203,12 @@ module _ {O : Type 0} {g : Ghosts O} {p : Plan} {id last : ℕ} where
       }
 
   -- the right changes, and what is in hand with it
-  pub link_moves : {last' : ℕ} {at at' : Stage} {above above' : List (ℕ × SockHome O g)} (hand : LinkInHand O g) (m n : Me (SockHome O g) View) (h : HasLink p id last at above hand m) (x' : Right) (s : List (ℕ × SockHome O g)) → x'.link ≡ h.right_is.link → x'.last ≡ last' → IsTicket p last'
-      → x'.at_home ≡ false → x'.places ≡ h.right_is.places → x'.sent ≡ h.right_is.sent → x'.taken ≡ false → x'.stage ≡ at' → n ≡ (with_right m.0 x', s) → s ≡ above' ++ (p.requests + hand.link, Empty) ∷ [] → HasLink p id last' at' above' hand n
+  pub link_moves : {last' : ℕ} {at at' : Stage} {above above' : List (ℕ × SockHome O g)} (hand : LinkInHand O g) (m n : Me (SockHome O g) View) (h : HasLink p ways id last at above hand m) (x' : Right) (s : List (ℕ × SockHome O g)) → x'.link ≡ h.right_is.link → x'.last ≡ last' → IsTicket p last'
+      → x'.at_home ≡ false → x'.places ≡ h.right_is.places → x'.sent ≡ h.right_is.sent → x'.taken ≡ false → x'.stage ≡ at' → n ≡ (with_right m.0 x', s) → s ≡ above' ++ (p.requests + hand.link, Empty) ∷ [] → HasLink p ways id last' at' above' hand n
   link_moves {last'} hand m n h x' s link now ticket away places sent idle stage e slots = record {
     right_is = x';
     writer = writer_on h.writer last' x' link now ticket (ap (λ (q : Me (SockHome O g) View). q.0) e);
-    has = record { away = away; link_in = h.has.link_in; places_are = h.has.places_are ∙ sym places; own = h.has.own; unfinished = h.has.unfinished };
+    has = record { away = away; link_in = h.has.link_in; places_are = h.has.places_are ∙ sym places; own = h.has.own; way = h.has.way; unfinished = h.has.unfinished };
     stage_is = stage;
     idle = idle;
     took = h.took ∙ sym sent;
@@ -208,10 +217,10 @@ module _ {O : Type 0} {g : Ghosts O} {p : Plan} {id last : ℕ} where
   }
 
   -- M2
-  pub letter_taken : (hand : LinkInHand O g) (new : InHand O g) (now : ℕ) (msg : Letter) (m n : Me (SockHome O g) View) (h : HasLink p id last (Writes now) [] hand m) → IsTicket p now → msg.label.place < 8 * p.operations → h.right_is.places < 4294967295
+  pub letter_taken : (hand : LinkInHand O g) (new : InHand O g) (now : ℕ) (msg : Letter) (m n : Me (SockHome O g) View) (h : HasLink p ways id last (Writes now) [] hand m) → IsTicket p now → msg.label.place < 8 * p.operations → h.right_is.places < 4294967295
       → n ≡ (with_right m.0 (taken_right h.right_is (heading_of msg) (parcel_of msg.bytes).bytes), (slot_of now, Empty) ∷ m.1)
-      → new.link ≡ hand.link → new.home ≡ hand.home → new.now.0 ≡ now → (outgoing_of new.bytes).left ≡ (parcel_of msg.bytes).bytes → new.label ≡ msg.label → HasPart p id last new n
-  letter_taken hand new now msg m n h ticket label few e same_link same_home same_now left same_label = let x' : Right = taken_right h.right_is (heading_of msg) (parcel_of msg.bytes).bytes in let its : LinkHome O g → ℕ = λ y. y.next in (
+      → new.link ≡ hand.link → new.home ≡ hand.home → new.now.0 ≡ now → (outgoing_of new.bytes).left ≡ (parcel_of msg.bytes).bytes → new.label ≡ msg.label → new.owner ≡ msg.owner → HasPart p ways id last new n
+  letter_taken hand new now msg m n h ticket label few e same_link same_home same_now left same_label same_owner = let x' : Right = taken_right h.right_is (heading_of msg) (parcel_of msg.bytes).bytes in let its : LinkHome O g → ℕ = λ y. y.next in (
     record {
       right_is = taken_right h.right_is (heading_of msg) (parcel_of msg.bytes).bytes;
       writer = subst (λ (y : ℕ). IsWriter p id last y (taken_right h.right_is (heading_of msg) (parcel_of msg.bytes).bytes) n.0) (sym same_link) (writer_on h.writer last x' refl h.writer.last_is h.writer.last_ticket (ap (λ (q : Me (SockHome O g) View). q.0) e));
@@ -220,12 +229,15 @@ module _ {O : Type 0} {g : Ghosts O} {p : Plan} {id last : ℕ} where
         link_in = subst (λ (y : ℕ). y < p.links) (sym same_link) h.has.link_in;
         places_are = ap (λ (y : LinkHome O g). y.next) same_home ∙ h.has.places_are;
         own = ap (λ (y : LinkHome O g). (g.state y.out).link) same_home ∙ (h.has.own ∙ sym same_link);
+        way = ap (λ (y : LinkHome O g). (g.state y.out).way) same_home ∙ (h.has.way ∙ ap (way_at ways) (sym same_link));
         unfinished = ap (λ (y : LinkHome O g). (g.state y.out).finished) same_home ∙ h.has.unfinished;
       };
       stage_is = h.stage_is ∙ ap (λ (y : ℕ). Writes y) (sym same_now);
       ticket = subst (IsTicket p) (sym same_now) ticket;
       taken = refl;
       place_is = ap (λ (y : Label). y.place) (sym same_label);
+      attempt_is = ap (λ (y : Label). y.attempt) (sym same_label);
+      owner_is = sym same_owner;
       place_in = subst (λ (y : Label). y.place < 8 * p.operations) (sym same_label) label;
       begun = [];
       bytes_are = sym left;
@@ -238,12 +250,12 @@ module _ {O : Type 0} {g : Ghosts O} {p : Plan} {id last : ℕ} where
   )
 
   -- P1
-  pub whole_placed : (hand : InHand O g) (home : LinkHome O g) (m n : Me (SockHome O g) View) (h : HasWhole p id last hand m) → (home.took.list ≡ hand.home.took.list) × (home.next ≡ hand.home.next + 1) → home.out ≡ hand.home.out
-      → n ≡ (with_right m.0 (placed_right h.0.right_is hand.now.0), m.1) → HasLink p id last (Placed hand.now.0) ((slot_of hand.now.0, Empty) ∷ []) record { link = hand.link; home = home } n
+  pub whole_placed : (hand : InHand O g) (home : LinkHome O g) (m n : Me (SockHome O g) View) (h : HasWhole p ways id last hand m) → (home.took.list ≡ hand.home.took.list) × (home.next ≡ hand.home.next + 1) → home.out ≡ hand.home.out
+      → n ≡ (with_right m.0 (placed_right h.0.right_is hand.now.0), m.1) → HasLink p ways id last (Placed hand.now.0) ((slot_of hand.now.0, Empty) ∷ []) record { link = hand.link; home = home } n
   whole_placed hand home m n h more out e = let r = h.0 in let x' : Right = placed_right h.0.right_is hand.now.0 in record {
     right_is = placed_right h.0.right_is hand.now.0;
     writer = writer_on r.writer last x' refl r.writer.last_is r.writer.last_ticket (ap (λ (q : Me (SockHome O g) View). q.0) e);
-    has = record { away = r.has.away; link_in = r.has.link_in; places_are = (let a = more.1 in let b = r.has.places_are in omega arith); own = ap (λ (y : O). (g.state y).link) out ∙ r.has.own; unfinished = ap (λ (y : O). (g.state y).finished) out ∙ r.has.unfinished };
+    has = record { away = r.has.away; link_in = r.has.link_in; places_are = (let a = more.1 in let b = r.has.places_are in omega arith); own = ap (λ (y : O). (g.state y).link) out ∙ r.has.own; way = ap (λ (y : O). (g.state y).way) out ∙ r.has.way; unfinished = ap (λ (y : O). (g.state y).finished) out ∙ r.has.unfinished };
     stage_is = refl;
     idle = refl;
     took = more.0 ∙ took_all r.right_is.sent r.begun r.right_is.bytes (outgoing_of hand.bytes).left hand.home.took.list r.took r.bytes_are h.2;
@@ -252,7 +264,7 @@ module _ {O : Type 0} {g : Ghosts O} {p : Plan} {id last : ℕ} where
   }
 
   -- what the link took of a message that is dropped
-  pub part_of : (hand : InHand O g) (m : Me (SockHome O g) View) (h : HasPart p id last hand m) → Part h.0.right_is hand.home.took.list
+  pub part_of : (hand : InHand O g) (m : Me (SockHome O g) View) (h : HasPart p ways id last hand m) → Part h.0.right_is hand.home.took.list
   part_of hand m h = by_part h.1
     where
       by_part : IsPart h.0.right_is h.0.begun (outgoing_of hand.bytes).left → Part h.0.right_is hand.home.took.list
@@ -260,12 +272,12 @@ module _ {O : Type 0} {g : Ghosts O} {p : Plan} {id last : ℕ} where
       by_part (inr more) = inr (more.0, h.0.begun, (outgoing_of hand.bytes).left, h.0.took, h.0.bytes_are, more.1)
 
   -- P1 with the dropped bit
-  pub part_dropped : (hand : InHand O g) (home : LinkHome O g) (m n : Me (SockHome O g) View) (h : HasInHand p id last hand m) → (home.took.list ≡ hand.home.took.list) × (home.next ≡ hand.home.next + 1) → home.out ≡ hand.home.out
-      → (word value : ℕ) → n ≡ (wrote word value (with_right m.0 (dropped_right h.right_is hand.now.0 hand.home.took.list)), m.1) → HasLink p id last (Placed hand.now.0) ((slot_of hand.now.0, Empty) ∷ []) record { link = hand.link; home = home } n
+  pub part_dropped : (hand : InHand O g) (home : LinkHome O g) (m n : Me (SockHome O g) View) (h : HasInHand p ways id last hand m) → (home.took.list ≡ hand.home.took.list) × (home.next ≡ hand.home.next + 1) → home.out ≡ hand.home.out
+      → (word value : ℕ) → n ≡ (dropped_at word value h.right_is.heading (with_right m.0 (dropped_right h.right_is hand.now.0 hand.home.took.list)), m.1) → HasLink p ways id last (Placed hand.now.0) ((slot_of hand.now.0, Empty) ∷ []) record { link = hand.link; home = home } n
   part_dropped hand home m n r more out word value e = let x' : Right = dropped_right r.right_is hand.now.0 hand.home.took.list in record {
     right_is = dropped_right r.right_is hand.now.0 hand.home.took.list;
-    writer = writer_dropped r.writer word value x' refl r.writer.last_is (ap (λ (q : Me (SockHome O g) View). q.0) e);
-    has = record { away = r.has.away; link_in = r.has.link_in; places_are = (let a = more.1 in let b = r.has.places_are in omega arith); own = ap (λ (y : O). (g.state y).link) out ∙ r.has.own; unfinished = ap (λ (y : O). (g.state y).finished) out ∙ r.has.unfinished };
+    writer = writer_dropped r.writer word value r.right_is.heading x' refl r.writer.last_is (ap (λ (q : Me (SockHome O g) View). q.0) e);
+    has = record { away = r.has.away; link_in = r.has.link_in; places_are = (let a = more.1 in let b = r.has.places_are in omega arith); own = ap (λ (y : O). (g.state y).link) out ∙ r.has.own; way = ap (λ (y : O). (g.state y).way) out ∙ r.has.way; unfinished = ap (λ (y : O). (g.state y).finished) out ∙ r.has.unfinished };
     stage_is = refl;
     idle = refl;
     took = more.0;
@@ -274,26 +286,26 @@ module _ {O : Type 0} {g : Ghosts O} {p : Plan} {id last : ℕ} where
   }
 
   -- C8
-  pub may_free : {at : Stage} (next : Stage) (now : ℕ) (hand : LinkInHand O g) (m : Me (SockHome O g) View) (h : HasLink p id last at ((slot_of now, Empty) ∷ []) hand m) → Follows h.right_is.last h.right_is.stage now next → MayFreeRequest now m
+  pub may_free : {at : Stage} (next : Stage) (now : ℕ) (hand : LinkInHand O g) (m : Me (SockHome O g) View) (h : HasLink p ways id last at ((slot_of now, Empty) ∷ []) hand m) → Follows h.right_is.last h.right_is.stage now next → MayFreeRequest now m
   may_free next now hand m h follows = record { right = h.right_is; one = h.writer.one; next = next; follows = follows; value = Empty; home = h.slots ∙ ap (λ (l : List (ℕ × SockHome O g)). (slot_of now, Empty) ∷ l) (sym (ap rest h.slots)) }
 
-  pub ends_at : (now : ℕ) (hand : LinkInHand O g) (m : Me (SockHome O g) View) (h : HasLink p id last (Placed now) ((slot_of now, Empty) ∷ []) hand m) → now ≡ last → Follows h.right_is.last h.right_is.stage now Empties
+  pub ends_at : (now : ℕ) (hand : LinkInHand O g) (m : Me (SockHome O g) View) (h : HasLink p ways id last (Placed now) ((slot_of now, Empty) ∷ []) hand m) → now ≡ last → Follows h.right_is.last h.right_is.stage now Empties
   ends_at now hand m h e = subst (λ (b : Stage). Follows h.right_is.last b now Empties) (sym h.stage_is) (ends now (e ∙ sym h.writer.last_is))
 
-  pub past_end : (now : ℕ) (hand : LinkInHand O g) (m n : Me (SockHome O g) View) (h : HasLink p id last (Placed now) ((slot_of now, Empty) ∷ []) hand m) → n ≡ (with_right m.0 (freed_right h.right_is), rest m.1) → HasLink p id last Empties [] hand n
+  pub past_end : (now : ℕ) (hand : LinkInHand O g) (m n : Me (SockHome O g) View) (h : HasLink p ways id last (Placed now) ((slot_of now, Empty) ∷ []) hand m) → n ≡ (with_right m.0 (freed_right h.right_is), rest m.1) → HasLink p ways id last Empties [] hand n
   past_end now hand m n h e = link_moves hand m n h (freed_right h.right_is) (rest m.1) refl h.writer.last_is h.writer.last_ticket h.has.away refl refl h.idle (ap freed_stage h.stage_is) e (ap rest h.slots)
 
-  pub passes_by : (now found : ℕ) (hand : LinkInHand O g) (m n : Me (SockHome O g) View) (h : HasLink p id last (Placed now) ((slot_of now, Empty) ∷ []) hand m) → n ≡ (with_right m.0 (passing_right h.right_is now found), m.1) → HasLink p id last (Passes now found) ((slot_of now, Empty) ∷ []) hand n
+  pub passes_by : (now found : ℕ) (hand : LinkInHand O g) (m n : Me (SockHome O g) View) (h : HasLink p ways id last (Placed now) ((slot_of now, Empty) ∷ []) hand m) → n ≡ (with_right m.0 (passing_right h.right_is now found), m.1) → HasLink p ways id last (Passes now found) ((slot_of now, Empty) ∷ []) hand n
   passes_by now found hand m n h e = link_moves hand m n h (passing_right h.right_is now found) m.1 refl h.writer.last_is h.writer.last_ticket h.has.away refl refl h.idle refl e h.slots
 
-  pub goes_to : (now found : ℕ) (hand : LinkInHand O g) (m : Me (SockHome O g) View) (h : HasLink p id last (Passes now found) ((slot_of now, Empty) ∷ []) hand m) → Follows h.right_is.last h.right_is.stage now (Writes found)
+  pub goes_to : (now found : ℕ) (hand : LinkInHand O g) (m : Me (SockHome O g) View) (h : HasLink p ways id last (Passes now found) ((slot_of now, Empty) ∷ []) hand m) → Follows h.right_is.last h.right_is.stage now (Writes found)
   goes_to now found hand m h = subst (λ (b : Stage). Follows h.right_is.last b now (Writes found)) (sym h.stage_is) (goes_on now found)
 
-  pub past_next : (now found : ℕ) (hand : LinkInHand O g) (m n : Me (SockHome O g) View) (h : HasLink p id last (Passes now found) ((slot_of now, Empty) ∷ []) hand m) → n ≡ (with_right m.0 (freed_right h.right_is), rest m.1) → HasLink p id last (Writes found) [] hand n
+  pub past_next : (now found : ℕ) (hand : LinkInHand O g) (m n : Me (SockHome O g) View) (h : HasLink p ways id last (Passes now found) ((slot_of now, Empty) ∷ []) hand m) → n ≡ (with_right m.0 (freed_right h.right_is), rest m.1) → HasLink p ways id last (Writes found) [] hand n
   past_next now found hand m n h e = link_moves hand m n h (freed_right h.right_is) (rest m.1) refl h.writer.last_is h.writer.last_ticket h.has.away refl refl h.idle (ap freed_stage h.stage_is) e (ap rest h.slots)
 
   -- L2
-  pub link_home : {at : Stage} (hand : LinkInHand O g) (m n : Me (SockHome O g) View) (h : HasLink p id last at [] hand m) → n ≡ (with_right m.0 (record h.right_is { at_home = true }), rest m.1) → Stands p id last at hand.link n
+  pub link_home : {at : Stage} (hand : LinkInHand O g) (m n : Me (SockHome O g) View) (h : HasLink p ways id last at [] hand m) → n ≡ (with_right m.0 (record h.right_is { at_home = true }), rest m.1) → Stands p id last at hand.link n
   link_home hand m n h e = record {
     right_is = record h.right_is { at_home = true };
     writer = writer_on h.writer last (record h.right_is { at_home = true }) refl h.writer.last_is h.writer.last_ticket (ap (λ (q : Me (SockHome O g) View). q.0) e);
@@ -353,24 +365,24 @@ module _ {S : Type 0} {p : Plan} {id last link : ℕ} where
     slots = ap (λ (q : Me S View). q.1) e ∙ s.slots;
   }
 
-module _ {O : Type 0} {g : Ghosts O} {p : Plan} {id last : ℕ} where
+module _ {O : Type 0} {g : Ghosts O} {p : Plan} {ways : List (List ℕ)} {id last : ℕ} where
   -- C5 on the walk
-  pub reads_at : (top at after found : ℕ) (hand : LinkInHand O g) (m n : Me (SockHome O g) View) (h : HasLink p id last (Walks top at after) [] hand m) → n ≡ (with_right m.0 (reading_right h.right_is top at after found), m.1) → HasLink p id last (Turns top at after found) [] hand n
+  pub reads_at : (top at after found : ℕ) (hand : LinkInHand O g) (m n : Me (SockHome O g) View) (h : HasLink p ways id last (Walks top at after) [] hand m) → n ≡ (with_right m.0 (reading_right h.right_is top at after found), m.1) → HasLink p ways id last (Turns top at after found) [] hand n
   reads_at top at after found hand m n h e = link_moves hand m n h (reading_right h.right_is top at after found) m.1 refl h.writer.last_is h.writer.last_ticket h.has.away refl refl h.idle refl e h.slots
 
   -- C6
-  module _ (top at after found : ℕ) (hand : LinkInHand O g) (m n : Me (SockHome O g) View) (h : HasLink p id last (Turns top at after found) [] hand m) (e : n ≡ (with_right m.0 (turned_right h.right_is top at found), m.1)) where
+  module _ (top at after found : ℕ) (hand : LinkInHand O g) (m n : Me (SockHome O g) View) (h : HasLink p ways id last (Turns top at after found) [] hand m) (e : n ≡ (with_right m.0 (turned_right h.right_is top at found), m.1)) where
     abbrev done : Right
     done = record h.right_is { last = top; stage = Writes at; turned = 0; noted = h.right_is.noted + suc h.right_is.turned }
 
     abbrev on : Right
     on = record h.right_is { stage = Walks top found at; turned = suc h.right_is.turned }
 
-    pub turned_last : found ≡ last → IsTicket p top → HasLink p id top (Writes at) [] hand n
+    pub turned_last : found ≡ last → IsTicket p top → HasLink p ways id top (Writes at) [] hand n
     turned_last same ticket = link_moves hand m n h (record h.right_is { last = top; stage = Writes at; turned = 0; noted = h.right_is.noted + suc h.right_is.turned }) m.1 refl refl ticket h.has.away refl refl h.idle refl
         (e ∙ ap (λ (b : Bool). (with_right m.0 (cond b (record h.right_is { last = top; stage = Writes at; turned = 0; noted = h.right_is.noted + suc h.right_is.turned }) (record h.right_is { stage = Walks top found at; turned = suc h.right_is.turned })), m.1)) (eq-eqb found h.right_is.last (same ∙ sym h.writer.last_is))) h.slots
 
-    pub turned_on : found ≢ last → HasLink p id last (Walks top found at) [] hand n
+    pub turned_on : found ≢ last → HasLink p ways id last (Walks top found at) [] hand n
     turned_on other = link_moves hand m n h (record h.right_is { stage = Walks top found at; turned = suc h.right_is.turned }) m.1 refl h.writer.last_is h.writer.last_ticket h.has.away refl refl h.idle refl
         (e ∙ ap (λ (b : Bool). (with_right m.0 (cond b (record h.right_is { last = top; stage = Writes at; turned = 0; noted = h.right_is.noted + suc h.right_is.turned }) (record h.right_is { stage = Walks top found at; turned = suc h.right_is.turned })), m.1)) (ne_eqb found h.right_is.last (λ z. other (z ∙ h.writer.last_is)))) h.slots
 

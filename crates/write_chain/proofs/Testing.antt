@@ -30,6 +30,7 @@ use Rattle.sock_open.specs.Opening.{AreFresh}
 use Rattle.sock_open.proofs.Making.{new_view, new_done}
 use Rattle.sock_open.proofs.Racing.{stored_done, stored_known}
 use Rattle.sock_rule.specs.Rows.{PutAt}
+use Rattle.write_chain.specs.declared.right.Undelivered.{Undelivered}
 use Rattle.write_chain.specs.Noting.{Wrote, WroteDrop}
 use Rattle.write_chain.specs.Sending.{HasRoom, Accepted, StartedBy, RefusedBy}
 use Rattle.write_chain.specs.Writing.{GaveUp}
@@ -140,8 +141,8 @@ pub wrote_one : {O : Type 0} {state : O → OutState} (p : Plan) (id : ℕ) (v w
 wrote_one p id v w a h = let o = a.became.others in let q = noted_quiet a.notes a.noted in
     noted_one p id v w a.notes record { here = λ f. a.became.here f; elsewhere = λ j ne. a.became.elsewhere j ne; others = refl } q.1 (ap (λ (y : View). y.claims) o) (ap (λ (y : View). y.loose) o) (ap (λ (y : View). y.share) o) (ap (λ (y : View). y.lists) o) h
 
-pub dropped_one : {O : Type 0} {state : O → OutState} (p : Plan) (id place : ℕ) (v w : View) → WroteDrop state p id place v w → HoldsOne p id v → HoldsOne p id w
-dropped_one p id place v w a h = let k = wrote_one p id v (record w { stores = v.stores }) a.wrote h in record { claims = k.claims; loose = k.loose; refs = k.refs; known = record { inside = k.known.inside; known = k.known.known }; share = k.share }
+pub dropped_one : {O : Type 0} {state : O → OutState} (p : Plan) (id : ℕ) (msg : Undelivered) (v w : View) → WroteDrop state p id msg v w → HoldsOne p id v → HoldsOne p id w
+dropped_one p id msg v w a h = let k = wrote_one p id v (record w { stores = v.stores; drops = v.drops }) a.wrote h in record { claims = k.claims; loose = k.loose; refs = k.refs; known = record { inside = k.known.inside; known = k.known.known }; share = k.share }
 
 -- a refusal leaves the seat as it was, but for notes
 marks_alone : (i : ℕ) (v w : View) (adds : List Mark) → Became i v w adds [] → Became i v (record v { marks = w.marks }) adds []

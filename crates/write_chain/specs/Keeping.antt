@@ -1,5 +1,5 @@
 -- What keeping on writing comes to.
-use Rattle.std.specs.Prelude.{◌≡◌, ◌≢◌, ℕ, ◌<◌, ◌≤◌, ◌==◌, cond}
+use Rattle.std.specs.Prelude.{◌≡◌, ◌≢◌, ℕ, ◌<◌, ◌≤◌, ◌==◌, cond, List}
 use Rattle.atomic_table.specs.Table.{Me}
 use Rattle.sock_io.specs.declared.link.Out.{Ghosts}
 use Rattle.sock_words.specs.declared.plain.Plan.{Plan}
@@ -25,10 +25,10 @@ pub record IsCode (code id : ℕ) (v w : View) : Type 0 where
   pub noted : word ≢ 0 → 0 < marks_of (is_told (socket_id_version id) word) (socket_id_slot id) w
   pub same : (d : ℕ) → d ≢ 0 → 0 < marks_of (is_told (socket_id_version id) d) (socket_id_slot id) v → code ≡ d
 
-abbrev pub WentBy : {O : Type 0} {g : Ghosts O} → Plan → SockRef → Went O g → View → Me (SockHome O g) View → Type 0
-WentBy p sock (went.Done s) v m = (s ≡ sock) × GaveUp p sock.id.0 m
-WentBy p sock (went.Dropped r msg code) v m = (r.sock ≡ sock) × MayGoOn p r m × FoundDead sock.id.0 m.0 × IsCode code sock.id.0 v m.0
-WentBy p sock (went.Further r) v m = (r.sock ≡ sock) × MayGoOn p r m
+abbrev pub WentBy : {O : Type 0} {g : Ghosts O} → Plan → List (List ℕ) → SockRef → Went O g → View → Me (SockHome O g) View → Type 0
+WentBy p ways sock (went.Done s) v m = (s ≡ sock) × GaveUp p sock.id.0 m
+WentBy p ways sock (went.Dropped r msg code) v m = (r.sock ≡ sock) × MayGoOn p ways r m × FoundDead sock.id.0 m.0 × IsCode code sock.id.0 v m.0
+WentBy p ways sock (went.Further r) v m = (r.sock ≡ sock) × MayGoOn p ways r m
 
 -- the message was dropped
 abbrev pub IsDropped : {O : Type 0} {g : Ghosts O} → Went O g → Type 0
@@ -41,19 +41,19 @@ LeavesMore (went.Done s) = ⊥
 LeavesMore (went.Dropped r msg code) = Unit {0}
 LeavesMore (went.Further r) = HasMore r.doing
 
-abbrev pub KeptBy : {O : Type 0} {g : Ghosts O} → Plan → SockRef → Kept O g → View → Me (SockHome O g) View → Type 0
-KeptBy p sock (kept.Done s) v m = (s ≡ sock) × GaveUp p sock.id.0 m
-KeptBy p sock (kept.Dropped r msg code) v m = (r.sock ≡ sock) × MayGoOn p r m × FoundDead sock.id.0 m.0 × IsCode code sock.id.0 v m.0
+abbrev pub KeptBy : {O : Type 0} {g : Ghosts O} → Plan → List (List ℕ) → SockRef → Kept O g → View → Me (SockHome O g) View → Type 0
+KeptBy p ways sock (kept.Done s) v m = (s ≡ sock) × GaveUp p sock.id.0 m
+KeptBy p ways sock (kept.Dropped r msg code) v m = (r.sock ≡ sock) × MayGoOn p ways r m × FoundDead sock.id.0 m.0 × IsCode code sock.id.0 v m.0
 
 -- the seat only wrote, or dropped the message that is told
 abbrev pub WentWriting : {O : Type 0} {g : Ghosts O} → Plan → SockRef → Went O g → View → View → Type 0
 WentWriting {O} {g} p sock (went.Done s) v w = Wrote g.state sock.id.0 v w
-WentWriting {O} {g} p sock (went.Dropped r msg code) v w = WroteDrop g.state p sock.id.0 msg.label.place v w
+WentWriting {O} {g} p sock (went.Dropped r msg code) v w = WroteDrop g.state p sock.id.0 msg v w
 WentWriting {O} {g} p sock (went.Further r) v w = Wrote g.state sock.id.0 v w
 
 abbrev pub KeptWriting : {O : Type 0} {g : Ghosts O} → Plan → SockRef → Kept O g → View → View → Type 0
 KeptWriting {O} {g} p sock (kept.Done s) v w = Wrote g.state sock.id.0 v w
-KeptWriting {O} {g} p sock (kept.Dropped r msg code) v w = WroteDrop g.state p sock.id.0 msg.label.place v w
+KeptWriting {O} {g} p sock (kept.Dropped r msg code) v w = WroteDrop g.state p sock.id.0 msg v w
 
 abbrev pub KeptDropped : {O : Type 0} {g : Ghosts O} → Kept O g → Type 0
 KeptDropped (kept.Done s) = ⊥

@@ -7,7 +7,9 @@ use Rattle.sock_words.specs.Codes.{EFAILEDSOCKET}
 use Rattle.sock_words.specs.Words.{socket_id_version, socket_id_slot}
 use Rattle.sock_model.specs.declared.marks.Mark.{Mark}
 use Rattle.sock_model.specs.declared.marks.Mark.TheVariants.{Saw, Failer, Stored, Told, Met}
+use Rattle.sock_model.specs.declared.chain.Heading.{Heading}
 use Rattle.sock_model.specs.declared.view.View.{View}
+use Rattle.write_chain.specs.declared.right.Undelivered.{Undelivered}
 use Rattle.sock_model.specs.Weights.{is_met}
 use Rattle.sock_model.specs.Layout.{place_index}
 use Rattle.sock_model.specs.Deliveries.{place_value}
@@ -48,12 +50,17 @@ pub record Wrote {O : Type 0} (state : O → OutState) (id : ℕ) (v w : View) :
   pub noted : Noted state (Met_by id w) (socket_id_version id) notes
   pub became : Became (socket_id_slot id) v (record w { rights = v.rights }) notes []
 
--- a seat dropped a message with this place index, of the link of the life of this id: it stored the word of the index with the dropped bit, and noted that; beside that it only wrote
-pub record WroteDrop {O : Type 0} (state : O → OutState) (p : Plan) (id place : ℕ) (v w : View) : Type 0 where
+-- a seat dropped this message, of the link of the life of this id: it stored the word of its place index with the dropped bit, and noted that, and what stands with the message; beside that it only wrote
+pub record WroteDrop {O : Type 0} (state : O → OutState) (p : Plan) (id : ℕ) (msg : Undelivered) (v w : View) : Type 0 where
   pub link : ℕ
   pub position : ℕ
   -- so the word tells its link
   pub low : position < 4294967295
   pub met : Met_by id w link
-  pub stores : w.stores ≡ noted record { place = place_index p place; word = place_value true link position } v.stores
-  pub wrote : Wrote state id v (record w { stores = v.stores })
+  pub stores : w.stores ≡ noted record { place = place_index p msg.label.place; word = place_value true link position } v.stores
+  pub heading : Heading
+  pub drops : w.drops ≡ heading ∷ v.drops
+  pub place_is : heading.place ≡ msg.label.place
+  pub attempt_is : heading.attempt ≡ msg.label.attempt
+  pub owner_is : heading.owner ≡ msg.owner
+  pub wrote : Wrote state id v (record w { stores = v.stores; drops = v.drops })

@@ -16,6 +16,7 @@ pub record WentOn {O : Type 0} {g : Ghosts O} (old new : InHand O g) (taken : Li
   pub took : new.home.took.list ≡ old.home.took.list ++ taken
   pub next : new.home.next ≡ old.home.next
   pub link : (g.state new.home.out).link ≡ (g.state old.home.out).link
+  pub way : (g.state new.home.out).way ≡ (g.state old.home.out).way
   pub finished : (g.state new.home.out).finished ≡ (g.state old.home.out).finished
   pub later : (g.state old.home.out).faults ≤ (g.state new.home.out).faults
   pub others : (new.link ≡ old.link) × (new.now ≡ old.now) × (new.label ≡ old.label) × (new.owner ≡ old.owner)

@@ -58,6 +58,7 @@ pub record Accepted (notes : List Mark) (p : Plan) (id : ℕ) (heading : Heading
   pub seen : (x : ℕ) → HasSeen x v → HasSeen x w
   pub finds : w.finds ≡ v.finds
   pub histories : w.histories ≡ v.histories
+  pub drops : w.drops ≡ v.drops
   pub stores : w.stores ≡ v.stores
 
 -- the seat's one right is x, of this link up to this ticket, and nothing was done with it

@@ -15,6 +15,7 @@ use Rattle.sock_model.specs.SlotRows.{marks_of}
 use Rattle.message_parts.specs.Parcels.{outgoing_of}
 use Rattle.sock_rule.specs.Faults.{faults_of}
 use Rattle.sock_rule.specs.Holding.{Rights}
+use Rattle.sock_rule.specs.Shows.{way_at}
 use Rattle.sock_rule.specs.ChainPlays.{IsTicket}
 use Rattle.sock_rule.specs.declared.homes.LinkHome.{LinkHome}
 use Rattle.sock_rule.specs.declared.homes.SockHome.{SockHome}
@@ -73,18 +74,20 @@ Begins p sock (started.Queued s) m = (s ≡ sock) × GaveUp p sock.id.0 m
 Begins p sock (started.Right r) m = (r.sock ≡ sock) × MayBegin p r m
 
 -- the link is in hand as the right has it
-pub record HasHome {O : Type 0} {g : Ghosts O} (p : Plan) (link : ℕ) (home : LinkHome O g) (x : Right) : Type 0 where
+pub record HasHome {O : Type 0} {g : Ghosts O} (p : Plan) (ways : List (List ℕ)) (link : ℕ) (home : LinkHome O g) (x : Right) : Type 0 where
   pub away : x.at_home ≡ false
   pub link_in : link < p.links
   pub places_are : home.next ≡ x.places
   pub own : (g.state home.out).link ≡ link
+  -- its bytes go the way that the table was told of this link
+  pub way : (g.state home.out).way ≡ way_at ways link
   pub unfinished : (g.state home.out).finished ≡ false
 
 -- the link is in hand, and no message; the homes that were taken since stand above that of the link
-pub record HasLink {O : Type 0} {g : Ghosts O} (p : Plan) (id last : ℕ) (at : Stage) (above : List (ℕ × SockHome O g)) (hand : LinkInHand O g) (m : Me (SockHome O g) View) : Type 0 where
+pub record HasLink {O : Type 0} {g : Ghosts O} (p : Plan) (ways : List (List ℕ)) (id last : ℕ) (at : Stage) (above : List (ℕ × SockHome O g)) (hand : LinkInHand O g) (m : Me (SockHome O g) View) : Type 0 where
   pub right_is : Right
   pub writer : IsWriter p id last hand.link right_is m.0
-  pub has : HasHome p hand.link hand.home right_is
+  pub has : HasHome p ways hand.link hand.home right_is
   pub stage_is : right_is.stage ≡ at
   pub idle : right_is.taken ≡ false
   pub took : hand.home.took.list ≡ right_is.sent
@@ -93,14 +96,16 @@ pub record HasLink {O : Type 0} {g : Ghosts O} (p : Plan) (id last : ℕ) (at : 
   pub slots : m.1 ≡ above ++ (p.requests + hand.link, Empty) ∷ []
 
 -- the message of ticket `now` is in hand with the link, which took `begun` of it
-pub record HasInHand {O : Type 0} {g : Ghosts O} (p : Plan) (id last : ℕ) (hand : InHand O g) (m : Me (SockHome O g) View) : Type 0 where
+pub record HasInHand {O : Type 0} {g : Ghosts O} (p : Plan) (ways : List (List ℕ)) (id last : ℕ) (hand : InHand O g) (m : Me (SockHome O g) View) : Type 0 where
   pub right_is : Right
   pub writer : IsWriter p id last hand.link right_is m.0
-  pub has : HasHome p hand.link hand.home right_is
+  pub has : HasHome p ways hand.link hand.home right_is
   pub stage_is : right_is.stage ≡ stage.Writes hand.now.0
   pub ticket : IsTicket p hand.now.0
   pub taken : right_is.taken ≡ true
   pub place_is : right_is.heading.place ≡ hand.label.place
+  pub attempt_is : right_is.heading.attempt ≡ hand.label.attempt
+  pub owner_is : right_is.heading.owner ≡ hand.owner
   pub place_in : hand.label.place < 8 * p.operations
   pub begun : List ℕ
   pub bytes_are : right_is.bytes ≡ begun ++ (outgoing_of hand.bytes).left
@@ -114,16 +119,16 @@ pub record HasInHand {O : Type 0} {g : Ghosts O} (p : Plan) (id last : ℕ) (han
 abbrev pub IsPart : Right → List ℕ → List ℕ → Type 0
 IsPart x begun left = (begun ≡ []) ⊎ ((x.clean ≡ true) × (left ≢ []))
 
-abbrev pub HasPart : {O : Type 0} {g : Ghosts O} → Plan → ℕ → ℕ → InHand O g → Me (SockHome O g) View → Type 0
-HasPart p id last hand m = (h : HasInHand p id last hand m) × IsPart h.right_is h.begun (outgoing_of hand.bytes).left
+abbrev pub HasPart : {O : Type 0} {g : Ghosts O} → Plan → List (List ℕ) → ℕ → ℕ → InHand O g → Me (SockHome O g) View → Type 0
+HasPart p ways id last hand m = (h : HasInHand p ways id last hand m) × IsPart h.right_is h.begun (outgoing_of hand.bytes).left
 
 -- the look before a put found the life live
-abbrev pub IsClean : {O : Type 0} {g : Ghosts O} → Plan → ℕ → ℕ → InHand O g → Me (SockHome O g) View → Type 0
-IsClean p id last hand m = (h : HasInHand p id last hand m) × (h.right_is.clean ≡ true)
+abbrev pub IsClean : {O : Type 0} {g : Ghosts O} → Plan → List (List ℕ) → ℕ → ℕ → InHand O g → Me (SockHome O g) View → Type 0
+IsClean p ways id last hand m = (h : HasInHand p ways id last hand m) × (h.right_is.clean ≡ true)
 
 -- the link took the whole message, and the look before its last put found the life live
-abbrev pub HasWhole : {O : Type 0} {g : Ghosts O} → Plan → ℕ → ℕ → InHand O g → Me (SockHome O g) View → Type 0
-HasWhole p id last hand m = (h : HasInHand p id last hand m) × (h.right_is.clean ≡ true) × ((outgoing_of hand.bytes).left ≡ [])
+abbrev pub HasWhole : {O : Type 0} {g : Ghosts O} → Plan → List (List ℕ) → ℕ → ℕ → InHand O g → Me (SockHome O g) View → Type 0
+HasWhole p ways id last hand m = (h : HasInHand p ways id last hand m) × (h.right_is.clean ≡ true) × ((outgoing_of hand.bytes).left ≡ [])
 
 -- the seat found that the life was failed
 abbrev pub FoundDead : ℕ → View → Type 0
@@ -134,17 +139,17 @@ abbrev pub FaultTold : {O : Type 0} {g : Ghosts O} → ℕ → ℕ → LinkHome 
 FaultTold {O} {g} n id home v = ((g.state home.out).faults ≡ n) ⊎ FoundDead id v
 
 -- what the seat has where it goes on by this
-abbrev pub GoesBy : {O : Type 0} {g : Ghosts O} → Plan → ℕ → ℕ → Doing O g → Me (SockHome O g) View → Type 0
-GoesBy p id last First m = ⊥
-GoesBy p id last (doing.Puts hand) m = HasPart p id last hand m
-GoesBy p id last (doing.Waits hand) m = HasPart p id last hand m
-GoesBy p id last (doing.Next link now) m = HasLink p id last (stage.Writes now.0) [] link m × IsTicket p now.0
-GoesBy p id last (doing.Last link) m = HasLink p id last stage.Empties [] link m
-GoesBy p id last (doing.Walks link top) m = Stands p id last (stage.Walks top.0 top.0 0) link m × IsTicket p top.0
-GoesBy p id last (doing.Back w) m = HasLink p id last (stage.Walks w.top.0 w.at.0 w.after) [] w.link m × IsTicket p w.top.0 × IsTicket p w.at.0
+abbrev pub GoesBy : {O : Type 0} {g : Ghosts O} → Plan → List (List ℕ) → ℕ → ℕ → Doing O g → Me (SockHome O g) View → Type 0
+GoesBy p ways id last First m = ⊥
+GoesBy p ways id last (doing.Puts hand) m = HasPart p ways id last hand m
+GoesBy p ways id last (doing.Waits hand) m = HasPart p ways id last hand m
+GoesBy p ways id last (doing.Next link now) m = HasLink p ways id last (stage.Writes now.0) [] link m × IsTicket p now.0
+GoesBy p ways id last (doing.Last link) m = HasLink p ways id last stage.Empties [] link m
+GoesBy p ways id last (doing.Walks link top) m = Stands p id last (stage.Walks top.0 top.0 0) link m × IsTicket p top.0
+GoesBy p ways id last (doing.Back w) m = HasLink p ways id last (stage.Walks w.top.0 w.at.0 w.after) [] w.link m × IsTicket p w.top.0 × IsTicket p w.at.0
 
-abbrev pub MayGoOn : {O : Type 0} {g : Ghosts O} → Plan → WriteRight O g → Me (SockHome O g) View → Type 0
-MayGoOn p right m = GoesBy p right.sock.id.0 right.last.0 right.doing m
+abbrev pub MayGoOn : {O : Type 0} {g : Ghosts O} → Plan → List (List ℕ) → WriteRight O g → Me (SockHome O g) View → Type 0
+MayGoOn p ways right m = GoesBy p ways right.sock.id.0 right.last.0 right.doing m
 
 -- and of the link, where it is in hand still
 abbrev pub FaultsBy : {O : Type 0} {g : Ghosts O} → ℕ → ℕ → Doing O g → View → Type 0
@@ -168,15 +173,15 @@ IsLeft (doing.Waits hand) = Unit {0}
 IsLeft (doing.Walks link top) = Unit {0}
 IsLeft other = ⊥
 
-abbrev pub OnceBy : {O : Type 0} {g : Ghosts O} → Plan → SockRef → Once O g → Me (SockHome O g) View → Type 0
-OnceBy p sock (once.Done s) m = (s ≡ sock) × GaveUp p sock.id.0 m
-OnceBy p sock (once.Keep r) m = (r.sock ≡ sock) × MayGoOn p r m × IsLeft r.doing
+abbrev pub OnceBy : {O : Type 0} {g : Ghosts O} → Plan → List (List ℕ) → SockRef → Once O g → Me (SockHome O g) View → Type 0
+OnceBy p ways sock (once.Done s) m = (s ≡ sock) × GaveUp p sock.id.0 m
+OnceBy p ways sock (once.Keep r) m = (r.sock ≡ sock) × MayGoOn p ways r m × IsLeft r.doing
 
 -- of the message of ticket `now`
-abbrev pub TriedBy : {O : Type 0} {g : Ghosts O} → Plan → ℕ → ℕ → ℕ → Tried O g → Me (SockHome O g) View → Type 0
-TriedBy p id last now (tried.Dead hand) m = HasPart p id last hand m × FoundDead id m.0
-TriedBy p id last now (tried.Whole hand) m = HasWhole p id last hand m × (hand.now.0 ≡ now)
-TriedBy p id last now (tried.Goes by) m = GoesBy p id last by m × IsLeft by
+abbrev pub TriedBy : {O : Type 0} {g : Ghosts O} → Plan → List (List ℕ) → ℕ → ℕ → ℕ → Tried O g → Me (SockHome O g) View → Type 0
+TriedBy p ways id last now (tried.Dead hand) m = HasPart p ways id last hand m × FoundDead id m.0
+TriedBy p ways id last now (tried.Whole hand) m = HasWhole p ways id last hand m × (hand.now.0 ≡ now)
+TriedBy p ways id last now (tried.Goes by) m = GoesBy p ways id last by m × IsLeft by
 
 abbrev pub TriedFaults : {O : Type 0} {g : Ghosts O} → ℕ → ℕ → Tried O g → View → Type 0
 TriedFaults n id (tried.Dead hand) v = FaultTold n id hand.home v

@@ -62,7 +62,7 @@ pub fn fetch_link<O: Out>(
     requires seat { IsSeat table.now.rule.table.shared.table_id table.now.rule.plan seat.old }
     requires may { (last : ℕ) × (stage : Stage) × Stands table.now.rule.plan sock.now.id.0 last stage link seat.old.me }
     ensures seat { IsSeat table.now.rule.table.shared.table_id table.now.rule.plan seat.new }
-    ensures has { (last : ℕ) (stage : Stage) → Stands table.now.rule.plan sock.now.id.0 last stage link seat.old.me → HasLink table.now.rule.plan sock.now.id.0 last stage [] result seat.new.me }
+    ensures has { (last : ℕ) (stage : Stage) → Stands table.now.rule.plan sock.now.id.0 last stage link seat.old.me → HasLink table.now.rule.plan table.now.rule.ways.list sock.now.id.0 last stage [] result seat.new.me }
     ensures wrote { Wrote O.state sock.now.id.0 seat.old.me.0 seat.new.me.0 }
 {
     let slot = slot_at(table, sock);
@@ -80,9 +80,9 @@ pub fn take_next<O: Out>(
     now: Ticket,
 ) -> InHand<O>
     requires seat { IsSeat table.now.rule.table.shared.table_id table.now.rule.plan seat.old }
-    requires may { HasLink table.now.rule.plan _sock.now.id.0 _last.0 (Writes now.0) [] link seat.old.me × IsTicket table.now.rule.plan now.0 }
+    requires may { HasLink table.now.rule.plan table.now.rule.ways.list _sock.now.id.0 _last.0 (Writes now.0) [] link seat.old.me × IsTicket table.now.rule.plan now.0 }
     ensures seat { IsSeat table.now.rule.table.shared.table_id table.now.rule.plan seat.new }
-    ensures hand { HasPart table.now.rule.plan _sock.now.id.0 _last.0 result seat.new.me }
+    ensures hand { HasPart table.now.rule.plan table.now.rule.ways.list _sock.now.id.0 _last.0 result seat.new.me }
     ensures now { result.now.0 ≡ now.0 }
     ensures others { seat.new.me.0 ≡ record seat.old.me.0 { rights = seat.new.me.0.rights } }
 {
@@ -127,9 +127,9 @@ pub fn go_past<O: Out>(
     now: Ticket,
 ) -> Doing<O>
     requires seat { IsSeat table.now.rule.table.shared.table_id table.now.rule.plan seat.old }
-    requires may { HasLink table.now.rule.plan _sock.now.id.0 last.0 (Placed now.0) ((slot_of now.0, Empty) ∷ []) link seat.old.me × IsTicket table.now.rule.plan now.0 }
+    requires may { HasLink table.now.rule.plan table.now.rule.ways.list _sock.now.id.0 last.0 (Placed now.0) ((slot_of now.0, Empty) ∷ []) link seat.old.me × IsTicket table.now.rule.plan now.0 }
     ensures seat { IsSeat table.now.rule.table.shared.table_id table.now.rule.plan seat.new }
-    ensures goes { GoesBy table.now.rule.plan _sock.now.id.0 last.0 result seat.new.me }
+    ensures goes { GoesBy table.now.rule.plan table.now.rule.ways.list _sock.now.id.0 last.0 result seat.new.me }
     ensures last { now.0 ≡ last.0 → IsLast result }
     ensures others { seat.new.me.0 ≡ record seat.old.me.0 { rights = seat.new.me.0.rights } }
 {
@@ -151,9 +151,9 @@ pub fn place<O: Out>(
     hand: InHand<O>,
 ) -> Doing<O>
     requires seat { IsSeat table.now.rule.table.shared.table_id table.now.rule.plan seat.old }
-    requires may { HasWhole table.now.rule.plan sock.now.id.0 last.0 hand seat.old.me }
+    requires may { HasWhole table.now.rule.plan table.now.rule.ways.list sock.now.id.0 last.0 hand seat.old.me }
     ensures seat { IsSeat table.now.rule.table.shared.table_id table.now.rule.plan seat.new }
-    ensures goes { GoesBy table.now.rule.plan sock.now.id.0 last.0 result seat.new.me }
+    ensures goes { GoesBy table.now.rule.plan table.now.rule.ways.list sock.now.id.0 last.0 result seat.new.me }
     ensures last { hand.now.0 ≡ last.0 → IsLast result }
     ensures others { seat.new.me.0 ≡ record seat.old.me.0 { rights = seat.new.me.0.rights } }
 {
@@ -181,9 +181,9 @@ pub fn leave<O: Out>(
     link: LinkInHand<O>,
 ) -> Once<O>
     requires seat { IsSeat table.now.rule.table.shared.table_id table.now.rule.plan seat.old }
-    requires may { HasLink table.now.rule.plan sock.id.0 last.0 Empties [] link seat.old.me }
+    requires may { HasLink table.now.rule.plan table.now.rule.ways.list sock.id.0 last.0 Empties [] link seat.old.me }
     ensures seat { IsSeat table.now.rule.table.shared.table_id table.now.rule.plan seat.new }
-    ensures once { OnceBy table.now.rule.plan sock result seat.new.me }
+    ensures once { OnceBy table.now.rule.plan table.now.rule.ways.list sock result seat.new.me }
     ensures others { seat.new.me.0 ≡ record seat.old.me.0 { rights = seat.new.me.0.rights } }
 {
     let LinkInHand { link: number, home } = link;
@@ -209,11 +209,11 @@ pub fn look<O: Out>(
     _hand: &InHand<O>,
 ) -> bool
     requires seat { IsSeat table.now.rule.table.shared.table_id table.now.rule.plan seat.old }
-    requires may { HasPart table.now.rule.plan sock.now.id.0 _last.0 _hand.now seat.old.me }
+    requires may { HasPart table.now.rule.plan table.now.rule.ways.list sock.now.id.0 _last.0 _hand.now seat.old.me }
     ensures seat { IsSeat table.now.rule.table.shared.table_id table.now.rule.plan seat.new }
-    ensures live { result ≡ true → IsClean table.now.rule.plan sock.now.id.0 _last.0 _hand.entry.now seat.new.me }
+    ensures live { result ≡ true → IsClean table.now.rule.plan table.now.rule.ways.list sock.now.id.0 _last.0 _hand.entry.now seat.new.me }
     ensures stays { FoundDead sock.now.id.0 seat.old.me.0 → result ≡ false }
-    ensures dead { result ≡ false → HasPart table.now.rule.plan sock.now.id.0 _last.0 _hand.entry.now seat.new.me × FoundDead sock.now.id.0 seat.new.me.0 }
+    ensures dead { result ≡ false → HasPart table.now.rule.plan table.now.rule.ways.list sock.now.id.0 _last.0 _hand.entry.now seat.new.me × FoundDead sock.now.id.0 seat.new.me.0 }
     ensures wrote { Wrote O.state sock.now.id.0 seat.old.me.0 seat.new.me.0 }
 {
     let slot = slot_at(table, sock);
@@ -232,11 +232,11 @@ pub fn fail_link<O: Out>(
     _hand: &InHand<O>,
 )
     requires seat { IsSeat table.now.rule.table.shared.table_id table.now.rule.plan seat.old }
-    requires may { HasPart table.now.rule.plan sock.now.id.0 _last.0 _hand.now seat.old.me }
+    requires may { HasPart table.now.rule.plan table.now.rule.ways.list sock.now.id.0 _last.0 _hand.now seat.old.me }
     requires fault { Faulted O.state _hand.now.link }
     requires rose { 0 < (O.state _hand.now.home.out).faults }
     ensures seat { IsSeat table.now.rule.table.shared.table_id table.now.rule.plan seat.new }
-    ensures has { HasPart table.now.rule.plan sock.now.id.0 _last.0 _hand.entry.now seat.new.me }
+    ensures has { HasPart table.now.rule.plan table.now.rule.ways.list sock.now.id.0 _last.0 _hand.entry.now seat.new.me }
     ensures dead { FoundDead sock.now.id.0 seat.new.me.0 }
     ensures wrote { Wrote O.state sock.now.id.0 seat.old.me.0 seat.new.me.0 }
 {
@@ -255,9 +255,9 @@ pub fn put_piece<O: Out>(
     mut hand: InHand<O>,
 ) -> Tried<O>
     requires seat { IsSeat table.now.rule.table.shared.table_id table.now.rule.plan seat.old }
-    requires may { IsClean table.now.rule.plan sock.now.id.0 last.0 hand seat.old.me × ((outgoing_of hand.bytes).left ≢ []) }
+    requires may { IsClean table.now.rule.plan table.now.rule.ways.list sock.now.id.0 last.0 hand seat.old.me × ((outgoing_of hand.bytes).left ≢ []) }
     ensures seat { IsSeat table.now.rule.table.shared.table_id table.now.rule.plan seat.new }
-    ensures tried { TriedBy table.now.rule.plan sock.now.id.0 last.0 hand.now.0 result seat.new.me }
+    ensures tried { TriedBy table.now.rule.plan table.now.rule.ways.list sock.now.id.0 last.0 hand.now.0 result seat.new.me }
     ensures faults { TriedFaults (O.state hand.home.out).faults sock.now.id.0 result seat.new.me.0 }
     ensures wrote { Wrote O.state sock.now.id.0 seat.old.me.0 seat.new.me.0 }
 {
@@ -284,9 +284,9 @@ pub fn put_or_place<O: Out>(
     hand: InHand<O>,
 ) -> Tried<O>
     requires seat { IsSeat table.now.rule.table.shared.table_id table.now.rule.plan seat.old }
-    requires may { IsClean table.now.rule.plan sock.now.id.0 last.0 hand seat.old.me }
+    requires may { IsClean table.now.rule.plan table.now.rule.ways.list sock.now.id.0 last.0 hand seat.old.me }
     ensures seat { IsSeat table.now.rule.table.shared.table_id table.now.rule.plan seat.new }
-    ensures tried { TriedBy table.now.rule.plan sock.now.id.0 last.0 hand.now.0 result seat.new.me }
+    ensures tried { TriedBy table.now.rule.plan table.now.rule.ways.list sock.now.id.0 last.0 hand.now.0 result seat.new.me }
     ensures faults { TriedFaults (O.state hand.home.out).faults sock.now.id.0 result seat.new.me.0 }
     ensures wrote { Wrote O.state sock.now.id.0 seat.old.me.0 seat.new.me.0 }
 {
@@ -305,9 +305,9 @@ pub fn try_put<O: Out>(
     hand: InHand<O>,
 ) -> Tried<O>
     requires seat { IsSeat table.now.rule.table.shared.table_id table.now.rule.plan seat.old }
-    requires may { HasPart table.now.rule.plan sock.now.id.0 last.0 hand seat.old.me }
+    requires may { HasPart table.now.rule.plan table.now.rule.ways.list sock.now.id.0 last.0 hand seat.old.me }
     ensures seat { IsSeat table.now.rule.table.shared.table_id table.now.rule.plan seat.new }
-    ensures tried { TriedBy table.now.rule.plan sock.now.id.0 last.0 hand.now.0 result seat.new.me }
+    ensures tried { TriedBy table.now.rule.plan table.now.rule.ways.list sock.now.id.0 last.0 hand.now.0 result seat.new.me }
     ensures stays { FoundDead sock.now.id.0 seat.old.me.0 → IsDead hand result }
     ensures faults { TriedFaults (O.state hand.home.out).faults sock.now.id.0 result seat.new.me.0 }
     ensures wrote { Wrote O.state sock.now.id.0 seat.old.me.0 seat.new.me.0 }
@@ -328,7 +328,7 @@ pub fn take_up<O: Out>(
     requires seat { IsSeat table.now.rule.table.shared.table_id table.now.rule.plan seat.old }
     requires may { (link : ℕ) × Stands table.now.rule.plan sock.now.id.0 last.0 (Writes last.0) link seat.old.me }
     ensures seat { IsSeat table.now.rule.table.shared.table_id table.now.rule.plan seat.new }
-    ensures hand { HasPart table.now.rule.plan sock.now.id.0 last.0 result seat.new.me }
+    ensures hand { HasPart table.now.rule.plan table.now.rule.ways.list sock.now.id.0 last.0 result seat.new.me }
     ensures now { result.now.0 ≡ last.0 }
     ensures wrote { Wrote O.state sock.now.id.0 seat.old.me.0 seat.new.me.0 }
 {
@@ -349,10 +349,10 @@ pub fn leave_last<O: Out>(
     doing: Doing<O>,
 ) -> Once<O>
     requires seat { IsSeat table.now.rule.table.shared.table_id table.now.rule.plan seat.old }
-    requires may { GoesBy table.now.rule.plan sock.id.0 last.0 doing seat.old.me }
+    requires may { GoesBy table.now.rule.plan table.now.rule.ways.list sock.id.0 last.0 doing seat.old.me }
     requires last { IsLast doing }
     ensures seat { IsSeat table.now.rule.table.shared.table_id table.now.rule.plan seat.new }
-    ensures once { OnceBy table.now.rule.plan sock result seat.new.me }
+    ensures once { OnceBy table.now.rule.plan table.now.rule.ways.list sock result seat.new.me }
     ensures others { seat.new.me.0 ≡ record seat.old.me.0 { rights = seat.new.me.0.rights } }
 {
     let Doing::Last(link) = doing else {
@@ -372,7 +372,7 @@ pub fn write_once<O: Out>(
     requires seat { IsSeat table.now.rule.table.shared.table_id table.now.rule.plan seat.old }
     requires may { MayBegin table.now.rule.plan right seat.old.me }
     ensures seat { IsSeat table.now.rule.table.shared.table_id table.now.rule.plan seat.new }
-    ensures once { OnceBy table.now.rule.plan right.sock result seat.new.me }
+    ensures once { OnceBy table.now.rule.plan table.now.rule.ways.list right.sock result seat.new.me }
     ensures stays { FoundDead right.sock.id.0 seat.old.me.0 → IsKeep result }
     ensures wrote { Wrote O.state right.sock.id.0 seat.old.me.0 seat.new.me.0 }
 {

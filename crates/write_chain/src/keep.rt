@@ -52,13 +52,13 @@ pub fn drop_one<O: Out>(
     hand: InHand<O>,
 ) -> (Doing<O>, Undelivered, u16)
     requires seat { IsSeat table.now.rule.table.shared.table_id table.now.rule.plan seat.old }
-    requires may { HasPart table.now.rule.plan sock.now.id.0 last.0 hand seat.old.me × FoundDead sock.now.id.0 seat.old.me.0 }
+    requires may { HasPart table.now.rule.plan table.now.rule.ways.list sock.now.id.0 last.0 hand seat.old.me × FoundDead sock.now.id.0 seat.old.me.0 }
     ensures seat { IsSeat table.now.rule.table.shared.table_id table.now.rule.plan seat.new }
-    ensures goes { GoesBy table.now.rule.plan sock.now.id.0 last.0 result.0 seat.new.me }
+    ensures goes { GoesBy table.now.rule.plan table.now.rule.ways.list sock.now.id.0 last.0 result.0 seat.new.me }
     ensures message { (result.1.left ≡ hand.bytes) × (result.1.label ≡ hand.label) × (result.1.owner ≡ hand.owner) }
     ensures code { IsCode result.2 sock.now.id.0 seat.old.me.0 seat.new.me.0 }
     ensures dead { FoundDead sock.now.id.0 seat.new.me.0 }
-    ensures wrote { WroteDrop O.state table.now.rule.plan sock.now.id.0 result.1.label.place seat.old.me.0 seat.new.me.0 }
+    ensures wrote { WroteDrop O.state table.now.rule.plan sock.now.id.0 result.1 seat.old.me.0 seat.new.me.0 }
 {
     let told = table.code(seat, sock);
     let InHand {
@@ -92,9 +92,9 @@ pub fn ask<O: Out>(
     backoff: &Backoff,
 ) -> Doing<O>
     requires seat { IsSeat table.now.rule.table.shared.table_id table.now.rule.plan seat.old }
-    requires may { HasPart table.now.rule.plan sock.now.id.0 last.0 hand seat.old.me }
+    requires may { HasPart table.now.rule.plan table.now.rule.ways.list sock.now.id.0 last.0 hand seat.old.me }
     ensures seat { IsSeat table.now.rule.table.shared.table_id table.now.rule.plan seat.new }
-    ensures goes { GoesBy table.now.rule.plan sock.now.id.0 last.0 result seat.new.me }
+    ensures goes { GoesBy table.now.rule.plan table.now.rule.ways.list sock.now.id.0 last.0 result seat.new.me }
     ensures faults { FaultsBy (O.state hand.home.out).faults sock.now.id.0 result seat.new.me.0 }
     ensures more { HasMore result }
     ensures wrote { Wrote O.state sock.now.id.0 seat.old.me.0 seat.new.me.0 }
@@ -124,9 +124,9 @@ pub fn walk_back<O: Out>(
     backoff: &Backoff,
 ) -> WriteRight<O>
     requires seat { IsSeat table.now.rule.table.shared.table_id table.now.rule.plan seat.old }
-    requires may { GoesBy table.now.rule.plan sock.id.0 last.0 (Back walk) seat.old.me }
+    requires may { GoesBy table.now.rule.plan table.now.rule.ways.list sock.id.0 last.0 (Back walk) seat.old.me }
     ensures seat { IsSeat table.now.rule.table.shared.table_id table.now.rule.plan seat.new }
-    ensures goes { (result.sock ≡ sock) × MayGoOn table.now.rule.plan result seat.new.me }
+    ensures goes { (result.sock ≡ sock) × MayGoOn table.now.rule.plan table.now.rule.ways.list result seat.new.me }
     ensures more { HasMore result.doing }
     ensures others { seat.new.me.0 ≡ record seat.old.me.0 { rights = seat.new.me.0.rights } }
 {
@@ -176,9 +176,9 @@ pub fn put_or_drop<O: Out>(
     hand: InHand<O>,
 ) -> Went<O>
     requires seat { IsSeat table.now.rule.table.shared.table_id table.now.rule.plan seat.old }
-    requires may { HasPart table.now.rule.plan sock.id.0 last.0 hand seat.old.me }
+    requires may { HasPart table.now.rule.plan table.now.rule.ways.list sock.id.0 last.0 hand seat.old.me }
     ensures seat { IsSeat table.now.rule.table.shared.table_id table.now.rule.plan seat.new }
-    ensures went { WentBy table.now.rule.plan sock result seat.old.me.0 seat.new.me }
+    ensures went { WentBy table.now.rule.plan table.now.rule.ways.list sock result seat.old.me.0 seat.new.me }
     ensures stays { FoundDead sock.id.0 seat.old.me.0 → IsDropped result }
     ensures wrote { WentWriting table.now.rule.plan sock result seat.old.me.0 seat.new.me.0 }
 {
@@ -204,9 +204,9 @@ pub fn try_head<O: Out>(
     link: LinkInHand<O>,
 ) -> Went<O>
     requires seat { IsSeat table.now.rule.table.shared.table_id table.now.rule.plan seat.old }
-    requires may { HasLink table.now.rule.plan sock.id.0 last.0 Empties [] link seat.old.me }
+    requires may { HasLink table.now.rule.plan table.now.rule.ways.list sock.id.0 last.0 Empties [] link seat.old.me }
     ensures seat { IsSeat table.now.rule.table.shared.table_id table.now.rule.plan seat.new }
-    ensures went { WentBy table.now.rule.plan sock result seat.old.me.0 seat.new.me }
+    ensures went { WentBy table.now.rule.plan table.now.rule.ways.list sock result seat.old.me.0 seat.new.me }
     ensures wrote { WentWriting table.now.rule.plan sock result seat.old.me.0 seat.new.me.0 }
     ensures others { seat.new.me.0 ≡ record seat.old.me.0 { rights = seat.new.me.0.rights } }
 {
@@ -224,9 +224,9 @@ pub fn go_on<O: Out>(
     backoff: &Backoff,
 ) -> Went<O>
     requires seat { IsSeat table.now.rule.table.shared.table_id table.now.rule.plan seat.old }
-    requires may { MayGoOn table.now.rule.plan right seat.old.me }
+    requires may { MayGoOn table.now.rule.plan table.now.rule.ways.list right seat.old.me }
     ensures seat { IsSeat table.now.rule.table.shared.table_id table.now.rule.plan seat.new }
-    ensures went { WentBy table.now.rule.plan right.sock result seat.old.me.0 seat.new.me }
+    ensures went { WentBy table.now.rule.plan table.now.rule.ways.list right.sock result seat.old.me.0 seat.new.me }
     ensures stays { FoundDead right.sock.id.0 seat.old.me.0 → HasMore right.doing → LeavesMore result }
     ensures wrote { WentWriting table.now.rule.plan right.sock result seat.old.me.0 seat.new.me.0 }
 {
@@ -276,9 +276,9 @@ pub fn keep_write<O: Out, R: Wait>(
     mut right: WriteRight<O>,
 ) -> Kept<O>
     requires seat { IsSeat table.now.rule.table.shared.table_id table.now.rule.plan seat.old }
-    requires may { MayGoOn table.now.rule.plan right seat.old.me }
+    requires may { MayGoOn table.now.rule.plan table.now.rule.ways.list right seat.old.me }
     ensures seat { IsSeat table.now.rule.table.shared.table_id table.now.rule.plan seat.new }
-    ensures kept { KeptBy table.now.rule.plan right.sock result seat.old.me.0 seat.new.me }
+    ensures kept { KeptBy table.now.rule.plan table.now.rule.ways.list right.sock result seat.old.me.0 seat.new.me }
     ensures stays { FoundDead right.sock.id.0 seat.old.me.0 → HasMore right.doing → KeptDropped result }
     ensures wrote { KeptWriting table.now.rule.plan right.sock result seat.old.me.0 seat.new.me.0 }
 {

@@ -1,4 +1,6 @@
-use Rattle.std.proofs.Common.{ap, sym, subst}
+use Rattle.std.proofs.Common.{◌≡◌, ap, sym, subst}
+use Rattle.std.specs.Prelude.{IfOk, IfErr}
+use Rattle.sock_table.specs.Closed.{ways_of}
 use Rattle.call_run.specs.Crew.{AreBack}
 use Rattle.call_run.proofs.Whole.{fresh_back, run_ended}
 use Rattle.call_run.proofs.running.run_on.Goals as goal
@@ -19,3 +21,12 @@ pub returns-in-Ok-new_table-clause-ran : goal.returns-in-Ok-new_table-clause-ran
 returns-in-Ok-new_table-clause-ran g c = let t = c.in-Ok-new_table.field-0.table.rule in let i = c.in-Ok-new.ids in let crew = c.crew_of-crew.ensures in let cast = c.in-Ok-prepare.ensures in
     let same_ids = ap (λ x. x.plan) c.in-Ok-new.ids-is in let made_ids = c.in-Ok-new.ensures.plan in
     run_ended g.O.Out.state t.table.shared.table_id t.plan c.args.plan.now i.table.shared.table_id i.plan c.args.slots _ _ _ _ _ _ c.args.opens.now c.run_crew-left.result i c.end.result c.in-Ok-new_table.ensures.plan (cc) crew.main_is cast.main_is crew.tasks cast.tasks c.run_crew-left.ensures c.end.ensures.ran
+
+pub returns-in-Err-clause-ways_back : goal.returns-in-Err-clause-ways_back
+returns-in-Err-clause-ways_back g c = ap (ways_of g.O.Out.state) c.in-Err.ensures.back
+
+pub returns-in-Ok-new_table-clause-ways : goal.returns-in-Ok-new_table-clause-ways
+returns-in-Ok-new_table-clause-ways g c = subst (λ w. IfOk c.end.result (λ r. ways_of g.O.Out.state r.outs.items ≡ w)) c.in-Ok-new_table.ensures.ways c.end.ensures.ways
+
+pub returns-in-Ok-new_table-clause-ways_back : goal.returns-in-Ok-new_table-clause-ways_back
+returns-in-Ok-new_table-clause-ways_back g c = subst (λ w. IfErr c.end.result (λ e. ways_of g.O.Out.state e.outs.items ≡ w)) c.in-Ok-new_table.ensures.ways c.end.ensures.ways_back

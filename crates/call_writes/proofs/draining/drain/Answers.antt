@@ -20,7 +20,7 @@ tell_dropped-requires-clause-code g c = c.in-Dropped.ensures.kept.3.fits
 
 pub drops-preserved : goal.drops-preserved
 drops-preserved g c = let p = c.args.table.now.rule.plan in
-    let w = subst (λ (y : SockRef). KeptBy p y (kept.Dropped c.in-Dropped.next c.in-Dropped.msg c.in-Dropped.code) c.drops.seat.me.0 c.keep_write.new.seat.me) c.drops.invariant.same c.in-Dropped.ensures.kept in
+    let w = subst (λ (y : SockRef). KeptBy p c.args.table.now.rule.ways.list y (kept.Dropped c.in-Dropped.next c.in-Dropped.msg c.in-Dropped.code) c.drops.seat.me.0 c.keep_write.new.seat.me) c.drops.invariant.same c.in-Dropped.ensures.kept in
     let wrote = subst (λ (y : SockRef). KeptWriting p y (kept.Dropped c.in-Dropped.next c.in-Dropped.msg c.in-Dropped.code) c.drops.seat.me.0 c.keep_write.new.seat.me.0) c.drops.invariant.same c.in-Dropped.ensures.wrote in
     let stays = c.drops.invariant.stays in
     let now = c.tell_dropped.ensures.stays in record {
@@ -43,7 +43,7 @@ drops-preserved g c = let p = c.args.table.now.rule.plan in
     }
 
 pub returns-in-Done-clause-gave : goal.returns-in-Done-clause-gave
-returns-in-Done-clause-gave g c = let p = c.args.table.now.rule.plan in subst (λ (y : SockRef). KeptBy p y (kept.Done c.in-Done.sock) c.drops.seat.me.0 c.keep_write.new.seat.me) c.drops.invariant.same c.in-Done.ensures.kept
+returns-in-Done-clause-gave g c = let p = c.args.table.now.rule.plan in subst (λ (y : SockRef). KeptBy p c.args.table.now.rule.ways.list y (kept.Done c.in-Done.sock) c.drops.seat.me.0 c.keep_write.new.seat.me) c.drops.invariant.same c.in-Done.ensures.kept
 
 pub returns-in-Done-clause-stays : goal.returns-in-Done-clause-stays
 returns-in-Done-clause-stays g c = c.drops.invariant.stays

@@ -12,7 +12,7 @@ invariant-drops g l = record {
   is_finite : (goal.iterator-drops g).is_finite l.iterator';
   seat : IsSeat l.table.rule.table.shared.table_id l.table.rule.plan l.seat;
   same : l.right.sock ≡ l.fn.right.sock;
-  may : MayGoOn l.table.rule.plan l.right l.seat.me;
+  may : MayGoOn l.table.rule.plan l.table.rule.ways.list l.right l.seat.me;
   stays : Stays l.fn.calls.seat l.calls.seat;
   sits : Sits l.ids.table.shared.table_id l.calls.seat;
   free : IsFree l.calls.seat.me.0;

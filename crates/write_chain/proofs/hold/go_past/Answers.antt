@@ -22,7 +22,7 @@ give_request_back-requires-2-clause-may g c = let h = c.requires.may.0 in let on
 
 pub returns-clause-goes : goal.returns-clause-goes
 returns-clause-goes g c = let h = c.requires.may.0 in let read = c.read_on-found.ensures.view h.right_is h.writer.one in let on = passes_by c.args.now.0 c.read_on-found.result c.args.link c.args.seat.now.me c.read_on-found.new.seat.me h read.0 in
-    subst (λ (y : ℕ). HasLink c.args.table.now.rule.plan c.args._sock.now.id.0 c.args.last.0 (Writes y) [] c.args.link c.give_request_back-2.new.seat.me × IsTicket c.args.table.now.rule.plan y) (sym c.from_word.ensures) (
+    subst (λ (y : ℕ). HasLink c.args.table.now.rule.plan c.args.table.now.rule.ways.list c.args._sock.now.id.0 c.args.last.0 (Writes y) [] c.args.link c.give_request_back-2.new.seat.me × IsTicket c.args.table.now.rule.plan y) (sym c.from_word.ensures) (
       past_next c.args.now.0 c.read_on-found.result c.args.link c.read_on-found.new.seat.me c.give_request_back-2.new.seat.me on (c.give_request_back-2.ensures.view on.right_is on.writer.one),
       subst (λ (q : Plan). IsTicket q c.read_on-found.result) c.requires.seat.1 read.1,
     )

@@ -27,6 +27,9 @@ put_own_link-requires-clause-noted g c = c.requires.may.noted
 pub put_own_link-requires-clause-link : goal.put_own_link-requires-clause-link
 put_own_link-requires-clause-link g c = (c.requires.may.has.own, c.requires.may.has.unfinished)
 
+pub put_own_link-requires-clause-way : goal.put_own_link-requires-clause-way
+put_own_link-requires-clause-way g c = c.requires.may.has.way
+
 pub empty_head-step-requires-clause-may : goal.empty_head-step-requires-clause-may
 empty_head-step-requires-clause-may g c = let h = c.requires.may in may_empty c.slot_at-slot.result c.slot_at-slot.ensures.slot (link_home c.args.link c.args.seat.now.me c.put_own_link.new.seat.me h (c.put_own_link.ensures.view h.right_is h.writer.one))
 

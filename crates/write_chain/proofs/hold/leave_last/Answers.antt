@@ -7,4 +7,4 @@ pub unreachable-requires : goal.unreachable-requires
 unreachable-requires g c = must_last c.args.doing c.requires.last c.in_default.not-Last
 
 pub leave-requires-clause-may : goal.leave-requires-clause-may
-leave-requires-clause-may g c = subst (λ d. GoesBy c.args.table.now.rule.plan c.args.sock.id.0 c.args.last.0 d c.args.seat.now.me) c.in-Last.is c.requires.may
+leave-requires-clause-may g c = subst (λ d. GoesBy c.args.table.now.rule.plan c.args.table.now.rule.ways.list c.args.sock.id.0 c.args.last.0 d c.args.seat.now.me) c.in-Last.is c.requires.may

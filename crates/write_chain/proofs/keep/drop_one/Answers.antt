@@ -59,21 +59,26 @@ go_past-doing-requires-clause-may g c = let h = part_noted c.args.hand c.args.se
 
 pub returns-clause-wrote : goal.returns-clause-wrote
 returns-clause-wrote g c = let h = part_noted c.args.hand c.args.seat.now.me c.code-told.new.seat.me (code_noted {state = g.O.Out.state} c.code-told.result c.args.sock.now.id.0 c.args.seat.now.me.0 c.code-told.new.seat.me.0 c.code-told.ensures.code).notes (code_noted {state = g.O.Out.state} c.code-told.result c.args.sock.now.id.0 c.args.seat.now.me.0 c.code-told.new.seat.me.0 c.code-told.ensures.code).noted (code_noted {state = g.O.Out.state} c.code-told.result c.args.sock.now.id.0 c.args.seat.now.me.0 c.code-told.new.seat.me.0 c.code-told.ensures.code).became c.code-told.ensures.slots (λ t. c.requires.may.0.0.noted (code_faults c.args.hand.link c.code-told.result c.args.sock.now.id.0 c.args.seat.now.me.0 c.code-told.new.seat.me.0 c.code-told.ensures.code t)) c.requires.may.0 in
-    let left = rights_but_store c.code-told.new.seat.me.0 c.drop_place-home.new.seat.me.0 c.go_past-doing.new.seat.me.0 (place_index c.args.table.now.rule.plan c.args.hand.label.place) c.pack-place.result.0 (dropped_right h.0.right_is c.args.hand.now.0 c.args.hand.home.took.list)
+    let left = rights_but_store c.code-told.new.seat.me.0 c.drop_place-home.new.seat.me.0 c.go_past-doing.new.seat.me.0 (place_index c.args.table.now.rule.plan c.args.hand.label.place) c.pack-place.result.0 h.0.right_is.heading (dropped_right h.0.right_is c.args.hand.now.0 c.args.hand.home.took.list)
     (ap (λ m. m.0) (c.drop_place-home.ensures.view h.0.right_is c.args.hand.now.0 h.0.writer.one h.0.stage_is)) c.go_past-doing.ensures.others in
     let value : c.pack-place.result.0 ≡ place_value true c.args.hand.link c.args.hand.home.next = omega (arith, c.pack-place.ensures.word) in
     let begun = wrote_notes c.args.seat.now.me.0 c.code-told.new.seat.me.0 (code_noted {state = g.O.Out.state} c.code-told.result c.args.sock.now.id.0 c.args.seat.now.me.0 c.code-told.new.seat.me.0 c.code-told.ensures.code).notes (code_noted {state = g.O.Out.state} c.code-told.result c.args.sock.now.id.0 c.args.seat.now.me.0 c.code-told.new.seat.me.0 c.code-told.ensures.code).noted (code_noted {state = g.O.Out.state} c.code-told.result c.args.sock.now.id.0 c.args.seat.now.me.0 c.code-told.new.seat.me.0 c.code-told.ensures.code).became in
-    drop_then {state = g.O.Out.state} c.args.table.now.rule.plan c.args.hand.label.place c.args.seat.now.me.0 c.code-told.new.seat.me.0 c.go_past-doing.new.seat.me.0 begun record {
+    drop_then {state = g.O.Out.state} c.args.table.now.rule.plan record { left = c.args.hand.bytes; label = c.args.hand.label; owner = c.args.hand.owner; numbered = c.result-1.given.0 } c.args.seat.now.me.0 c.code-told.new.seat.me.0 c.go_past-doing.new.seat.me.0 begun record {
       link = c.args.hand.link;
       position = c.args.hand.home.next;
       low = c.requires.may.0.0.few;
       met = subst (λ (l : List SlotMark). 0 < total (is_met (socket_id_version c.args.sock.now.id.0) c.args.hand.link) (about (socket_id_slot c.args.sock.now.id.0) l)) (sym (ap (λ (y : View). y.marks) left.0)) h.0.writer.holds.met;
       stores = left.1 ∙ ap (λ (x : ℕ). noted record { place = place_index c.args.table.now.rule.plan c.args.hand.label.place; word = x } c.code-told.new.seat.me.0.stores) value;
-      wrote = wrote_rights c.code-told.new.seat.me.0 (record c.go_past-doing.new.seat.me.0 { stores = c.code-told.new.seat.me.0.stores }) left.0;
+      heading = h.0.right_is.heading;
+      drops = left.2;
+      place_is = h.0.place_is;
+      attempt_is = h.0.attempt_is;
+      owner_is = h.0.owner_is;
+      wrote = wrote_rights c.code-told.new.seat.me.0 (record c.go_past-doing.new.seat.me.0 { stores = c.code-told.new.seat.me.0.stores; drops = c.code-told.new.seat.me.0.drops }) left.0;
     }
 
 pub returns-clause-dead : goal.returns-clause-dead
-returns-clause-dead g c = dead_dropped c.args.table.now.rule.plan c.args.sock.now.id.0 c.args.hand.label.place c.args.seat.now.me.0 c.go_past-doing.new.seat.me.0 (returns-clause-wrote g c) c.requires.may.1
+returns-clause-dead g c = dead_dropped c.args.table.now.rule.plan c.args.sock.now.id.0 _ c.args.seat.now.me.0 c.go_past-doing.new.seat.me.0 (returns-clause-wrote g c) c.requires.may.1
 
 pub returns-clause-code : goal.returns-clause-code
 returns-clause-code g c = let h = part_noted c.args.hand c.args.seat.now.me c.code-told.new.seat.me (code_noted {state = g.O.Out.state} c.code-told.result c.args.sock.now.id.0 c.args.seat.now.me.0 c.code-told.new.seat.me.0 c.code-told.ensures.code).notes (code_noted {state = g.O.Out.state} c.code-told.result c.args.sock.now.id.0 c.args.seat.now.me.0 c.code-told.new.seat.me.0 c.code-told.ensures.code).noted (code_noted {state = g.O.Out.state} c.code-told.result c.args.sock.now.id.0 c.args.seat.now.me.0 c.code-told.new.seat.me.0 c.code-told.ensures.code).became c.code-told.ensures.slots (λ t. c.requires.may.0.0.noted (code_faults c.args.hand.link c.code-told.result c.args.sock.now.id.0 c.args.seat.now.me.0 c.code-told.new.seat.me.0 c.code-told.ensures.code t)) c.requires.may.0 in is_code c.code_or-code.result c.code-told.result c.args.sock.now.id.0 c.args.seat.now.me.0 c.code-told.new.seat.me.0 c.go_past-doing.new.seat.me.0 c.code-told.ensures.code c.code_or-code.ensures.code c.code-told.ensures.small

@@ -10,7 +10,7 @@ invariant-goes g l = record {
   is_finite : (goal.iterator-goes g).is_finite l.iterator';
   seat : IsSeat l.table.rule.table.shared.table_id l.table.rule.plan l.seat;
   same : l.right.sock ≡ l.fn.right.sock;
-  may : MayGoOn l.table.rule.plan l.right l.seat.me;
+  may : MayGoOn l.table.rule.plan l.table.rule.ways.list l.right l.seat.me;
   stays : FoundDead l.fn.right.sock.id.0 l.fn.seat.me.0 → HasMore l.fn.right.doing → HasMore l.right.doing;
   wrote : Wrote g.O.Out.state l.fn.right.sock.id.0 l.fn.seat.me.0 l.seat.me.0;
 }

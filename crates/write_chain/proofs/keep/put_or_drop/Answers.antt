@@ -10,7 +10,7 @@ pub returns-in-Dead-clause-went : goal.returns-in-Dead-clause-went
 returns-in-Dead-clause-went g c = (refl, c.drop_one-doing.ensures.goes, c.drop_one-doing.ensures.dead, code_before c.drop_one-doing.result.2 c.args.sock.id.0 c.args.seat.now.me.0 c.try_put.new.seat.me.0 c.drop_one-doing.new.seat.me.0 c.try_put.ensures.wrote c.drop_one-doing.ensures.code)
 
 pub returns-in-Dead-clause-wrote : goal.returns-in-Dead-clause-wrote
-returns-in-Dead-clause-wrote g c = drop_then c.args.table.now.rule.plan c.drop_one-doing.result.1.label.place c.args.seat.now.me.0 c.try_put.new.seat.me.0 c.drop_one-doing.new.seat.me.0 c.try_put.ensures.wrote c.drop_one-doing.ensures.wrote
+returns-in-Dead-clause-wrote g c = drop_then c.args.table.now.rule.plan c.drop_one-doing.result.1 c.args.seat.now.me.0 c.try_put.new.seat.me.0 c.drop_one-doing.new.seat.me.0 c.try_put.ensures.wrote c.drop_one-doing.ensures.wrote
 
 pub place-doing-requires-clause-may : goal.place-doing-requires-clause-may
 place-doing-requires-clause-may g c = c.in-Whole.ensures.tried.0

@@ -16,7 +16,7 @@ read_back-found-requires-clause-ticket g c = let t = c.requires.may.2 in (t.some
 
 pub returns-then-found-clause-goes : goal.returns-then-found-clause-goes
 returns-then-found-clause-goes g c = let h = c.requires.may.0 in let read = c.read_back-found.ensures.view h.right_is c.args.walk.top.0 c.args.walk.after h.writer.one h.stage_is in
-    (refl, subst (λ q. GoesBy c.args.table.now.rule.plan c.args.sock.id.0 c.args.last.0 (Back c.args.walk) q) (sym (read.0 c.if-found.true)) c.requires.may)
+    (refl, subst (λ q. GoesBy c.args.table.now.rule.plan c.args.table.now.rule.ways.list c.args.sock.id.0 c.args.last.0 (Back c.args.walk) q) (sym (read.0 c.if-found.true)) c.requires.may)
 
 pub returns-then-found-clause-others : goal.returns-then-found-clause-others
 returns-then-found-clause-others g c = let h = c.requires.may.0 in let read = c.read_back-found.ensures.view h.right_is c.args.walk.top.0 c.args.walk.after h.writer.one h.stage_is in
@@ -46,8 +46,8 @@ returns-clause-goes g c = let h = c.requires.may.0 in let read = (c.read_back-fo
     let on = turned_on c.args.walk.top.0 c.args.walk.at.0 c.args.walk.after c.read_back-found.result c.args.walk.link c.read_back-found.new.seat.me c.turn_next.new.seat.me t (c.turn_next.ensures.view t.right_is c.args.walk.top.0 c.args.walk.after c.read_back-found.result t.writer.one t.stage_is) (λ e. c.if-found-end.false (e ∙ sym c.word-end.ensures)) in (
       refl,
       (
-        subst (λ (b : ℕ). HasLink c.args.table.now.rule.plan c.args.sock.id.0 c.args.last.0 (Walks c.args.walk.top.0 c.from_word.result.0 b) [] c.args.walk.link c.turn_next.new.seat.me) (sym c.word.ensures)
-            (subst (λ (a : ℕ). HasLink c.args.table.now.rule.plan c.args.sock.id.0 c.args.last.0 (Walks c.args.walk.top.0 a c.args.walk.at.0) [] c.args.walk.link c.turn_next.new.seat.me) (sym c.from_word.ensures) on),
+        subst (λ (b : ℕ). HasLink c.args.table.now.rule.plan c.args.table.now.rule.ways.list c.args.sock.id.0 c.args.last.0 (Walks c.args.walk.top.0 c.from_word.result.0 b) [] c.args.walk.link c.turn_next.new.seat.me) (sym c.word.ensures)
+            (subst (λ (a : ℕ). HasLink c.args.table.now.rule.plan c.args.table.now.rule.ways.list c.args.sock.id.0 c.args.last.0 (Walks c.args.walk.top.0 a c.args.walk.at.0) [] c.args.walk.link c.turn_next.new.seat.me) (sym c.from_word.ensures) on),
         c.requires.may.1,
         subst (IsTicket c.args.table.now.rule.plan) (sym c.from_word.ensures) (subst (λ (q : Plan). IsTicket q c.read_back-found.result) c.requires.seat.1 read.1),
       ),

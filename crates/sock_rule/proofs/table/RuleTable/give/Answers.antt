@@ -1,7 +1,8 @@
 use Rattle.std.proofs.Common.{arith, ◌∙◌, sym}
-use Rattle.sock_rule.specs.Shows.{shows, rose}
+use Rattle.sock_rule.specs.OnKey.{shows_by}
+use Rattle.sock_rule.specs.Shows.{rose}
 use Rattle.sock_rule.proofs.Seats.{gives}
 use Rattle.sock_rule.proofs.table.RuleTable.give.Goals as goal
 
 pub split_seat-requires : goal.split_seat-requires
-split_seat-requires g c = let a = c.requires.seat in (a.0, omega (arith, c.args.self.now.sized, c.args.self.now.some_slots), gives shows rose c.args.self.now.table.shared.key _ _ (a.1 ∙ sym c.args.self.now.planned) c.requires.may)
+split_seat-requires g c = let a = c.requires.seat in (a.0, omega (arith, c.args.self.now.sized, c.args.self.now.some_slots), gives (shows_by c.args.self.now.table.shared.key) rose c.args.self.now.table.shared.key.plan _ _ (a.1 ∙ sym c.args.self.now.planned) c.requires.may)

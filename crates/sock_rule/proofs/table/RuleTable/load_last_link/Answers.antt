@@ -1,11 +1,12 @@
 use Rattle.std.proofs.Common.{arith, refl, ◌∙◌, ◌<◌, sym, subst}
-use Rattle.sock_rule.specs.Shows.{shows, rose}
+use Rattle.sock_rule.specs.OnKey.{shows_by}
+use Rattle.sock_rule.specs.Shows.{rose}
 use Rattle.sock_rule.proofs.Storing.{meets_last}
 use Rattle.sock_rule.proofs.Seating.{still_seat}
 use Rattle.sock_rule.proofs.table.RuleTable.load_last_link.Goals as goal
 
 pub load-requires : goal.load-requires
-load-requires g c = let a = c.requires.seat in (a.0, omega (arith, c.args.self.now.sized, c.requires.slot), meets_last shows rose c.args.self.now.table.shared.key _ _ _ (a.1 ∙ sym c.args.self.now.planned) a.2 c.args.at (subst (λ q. c.args.at < q.slots) (sym c.args.self.now.planned) c.requires.slot) c.requires.recycled.0 c.requires.recycled.1)
+load-requires g c = let a = c.requires.seat in (a.0, omega (arith, c.args.self.now.sized, c.requires.slot), meets_last (shows_by c.args.self.now.table.shared.key) rose c.args.self.now.table.shared.key.plan _ _ _ (a.1 ∙ sym c.args.self.now.planned) a.2 c.args.at (subst (λ q. c.args.at < q.slots) (sym c.args.self.now.planned) c.requires.slot) c.requires.recycled.0 c.requires.recycled.1)
 
 pub returns-clause-view : goal.returns-clause-view
 returns-clause-view g c = λ w there. (c.load.ensures.2 c.args.at w refl there).0

@@ -1,5 +1,6 @@
 use Rattle.std.proofs.Common.{◌-◌, ◌%◌, ◌<◌, ◌≢◌, arith, subst}
-use Rattle.sock_rule.specs.Shows.{shows, rose}
+use Rattle.sock_rule.specs.OnKey.{shows_by}
+use Rattle.sock_rule.specs.Shows.{rose}
 use Rattle.sock_rule.proofs.Naming.{finds_name_on, found_seat}
 use Rattle.sock_rule.proofs.table.RuleTable.load_name.Goals as goal
 
@@ -7,7 +8,7 @@ pub load-requires : goal.load-requires
 load-requires g c = let a = c.requires.seat in (
   a.0,
   omega (arith, c.args.self.now.sized, c.requires.name),
-  finds_name_on shows rose _ _ _ _ _ c.args.self.now.planned a.1 a.2 c.args.name c.requires.name,
+  finds_name_on (shows_by c.args.self.now.table.shared.key) rose _ _ _ _ _ c.args.self.now.planned a.1 a.2 c.args.name c.requires.name,
 )
 
 pub returns-clause-view : goal.returns-clause-view

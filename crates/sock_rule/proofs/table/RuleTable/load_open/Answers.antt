@@ -1,6 +1,7 @@
 use Rattle.std.proofs.Common.{◌-◌, ◌%◌, ◌<◌, ◌≢◌, arith, subst}
 use Rattle.sock_rule.specs.Rows.{NOTHING}
-use Rattle.sock_rule.specs.Shows.{shows, rose}
+use Rattle.sock_rule.specs.OnKey.{shows_by}
+use Rattle.sock_rule.specs.Shows.{rose}
 use Rattle.sock_rule.proofs.Naming.{finds_open_on, found_seat}
 use Rattle.sock_rule.proofs.table.RuleTable.load_open.Goals as goal
 
@@ -8,7 +9,7 @@ pub load-requires : goal.load-requires
 load-requires g c = let a = c.requires.seat in (
   a.0,
   omega (arith, c.args.self.now.sized, c.requires.operation),
-  finds_open_on shows rose _ _ _ _ _ c.args.self.now.planned a.1 a.2 c.args.operation c.requires.operation,
+  finds_open_on (shows_by c.args.self.now.table.shared.key) rose _ _ _ _ _ c.args.self.now.planned a.1 a.2 c.args.operation c.requires.operation,
 )
 
 pub returns-clause-view : goal.returns-clause-view

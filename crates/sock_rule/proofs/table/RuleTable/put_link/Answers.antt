@@ -4,21 +4,23 @@ use Rattle.sock_model.specs.declared.home.Home.TheVariants.{Link}
 use Rattle.sock_rule.specs.declared.homes.SockHome.TheVariants as at_home
 use Rattle.sock_rule.specs.Hands.{hand_of}
 use Rattle.sock_rule.specs.Faults.{faults_of}
-use Rattle.sock_rule.specs.Shows.{shows, rose}
+use Rattle.sock_rule.specs.OnKey.{shows_by}
+use Rattle.sock_rule.specs.Shows.{rose, way_at}
 use Rattle.sock_model.specs.ChainRows.{without_hand}
 use Rattle.sock_rule.proofs.Faults.{left_alike}
 use Rattle.sock_rule.proofs.Moving.{puts}
 use Rattle.sock_rule.proofs.Handing.{put_slots, back_home}
 use Rattle.sock_rule.proofs.Seating.{still_seat}
+use Rattle.sock_rule.proofs.Ways.{is_number}
 use Rattle.sock_rule.proofs.table.RuleTable.put_link.Goals as goal
 
 pub load-requires : goal.load-requires
 load-requires g c = let a = c.requires.seat in let same = ap (λ m. m.0) c.exchange-place.ensures.3 in (
   c.exchange-place.ensures.0 ∙ a.0,
   omega (arith, c.args.self.now.sized, c.args.self.now.some_slots),
-  puts shows rose c.args.self.now.table.shared.key _ _ _ (ap (λ v. v.plan) same ∙ (a.1 ∙ sym c.args.self.now.planned)) (subst (λ (n : ℕ). 0 < n) (sym (ap (λ v. v.share) same)) a.2) 0 (hand_of c.args.link c.args.home.took.list c.args.home.next) (at_home.Link c.args.home) (rest c.args.seat.now.me.1) (g.O.Out.state c.args.home.out).finished
+  puts (shows_by c.args.self.now.table.shared.key) rose c.args.self.now.table.shared.key.plan _ _ _ (ap (λ v. v.plan) same ∙ (a.1 ∙ sym c.args.self.now.planned)) (subst (λ (n : ℕ). 0 < n) (sym (ap (λ v. v.share) same)) a.2) 0 (hand_of c.args.link c.args.home.took.list c.args.home.next) (at_home.Link c.args.home) (rest c.args.seat.now.me.1) (g.O.Out.state c.args.home.out).finished
       (ap (λ v. v.hands) same ∙ c.requires.hand) (subst (λ q. c.args.link < q.links) (sym c.args.self.now.planned) c.requires.inside)
-      (put_slots c.args.self.now.table.shared.key c.args.self.now.plan c.exchange-place.new.seat.me.1 c.args.link (at_home.Link c.args.home) (rest c.args.seat.now.me.1) c.args.self.now.planned (ap (λ m. m.1) c.exchange-place.ensures.3)) (ap (λ (k : ℕ). Link k c.args.home.took.list c.args.home.next (g.O.Out.state c.args.home.out).finished) c.requires.link) (λ some_. c.requires.noted (subst (λ (n : ℕ). 0 < n) (ap (λ v. faults_of c.args.link v) same) some_)),
+      (put_slots c.args.self.now.table.shared.key.plan c.args.self.now.plan c.exchange-place.new.seat.me.1 c.args.link (at_home.Link c.args.home) (rest c.args.seat.now.me.1) c.args.self.now.planned (ap (λ m. m.1) c.exchange-place.ensures.3)) (ap (λ (k : ℕ). Link k c.args.home.took.list c.args.home.next (g.O.Out.state c.args.home.out).finished) (is_number c.args.self.now.table.shared.key.plan c.args.self.now.table.shared.key.ways.list (g.O.Out.state c.args.home.out) c.args.link c.requires.link (c.requires.way ∙ ap (λ w. way_at w c.args.link) (sym c.args.self.now.keyed)))) (λ some_. c.requires.noted (subst (λ (n : ℕ). 0 < n) (ap (λ v. faults_of c.args.link v) same) some_)),
 )
 
 pub returns-clause-view : goal.returns-clause-view

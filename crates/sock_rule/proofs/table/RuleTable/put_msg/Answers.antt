@@ -1,4 +1,5 @@
 use Rattle.std.proofs.Common.{ℕ, ◌<◌, ◌∷◌, arith, refl, ◌∙◌, sym, ap, subst}
+use Rattle.sock_rule.specs.OnKey.{shows_by}
 use Rattle.sock_rule.specs.Shows.{shows, rose}
 use Rattle.sock_rule.proofs.Seating.{still_seat}
 use Rattle.atomic_table.specs.Table.{rest}
@@ -7,6 +8,7 @@ use Rattle.sock_rule.specs.declared.homes.SockHome.TheVariants as at_home
 use Rattle.message_parts.specs.Parcels.{parcel_of}
 use Rattle.sock_rule.specs.Shows.{heading_of}
 use Rattle.sock_rule.proofs.Chaining.{fills}
+use Rattle.sock_rule.proofs.Ways.{fills_alike}
 use Rattle.sock_rule.proofs.Sending.{filled_me}
 use Rattle.sock_rule.proofs.table.RuleTable.put_msg.Goals as goal
 
@@ -17,9 +19,9 @@ pub load-requires : goal.load-requires
 load-requires g c = let a = c.requires.seat in let r = c.requires.claimed in let same = ap (λ m. m.0) c.exchange-old.ensures.3 in let h = c.requires.held in (
   c.exchange-old.ensures.0 ∙ a.0,
   omega (arith, c.args.self.now.sized, c.requires.slot),
-  fills shows rose c.args.self.now.table.shared.key _ _ _ (ap (λ v. v.plan) same ∙ (a.1 ∙ sym c.args.self.now.planned)) (subst (λ (n : ℕ). 0 < n) (sym (ap (λ v. v.share) same)) a.2) c.args.slot h.0 r.0 (at_home.Message c.args.msg) (rest c.args.seat.now.me.1) (heading_of c.args.msg) (parcel_of c.args.msg.bytes).bytes
+  fills_alike c.args.self.now.table.shared.key.plan c.args.self.now.table.shared.key.ways.list _ _ _ _ _ (fills (shows_by c.args.self.now.table.shared.key) rose c.args.self.now.table.shared.key.plan _ _ _ (ap (λ v. v.plan) same ∙ (a.1 ∙ sym c.args.self.now.planned)) (subst (λ (n : ℕ). 0 < n) (sym (ap (λ v. v.share) same)) a.2) c.args.slot h.0 r.0 (at_home.Message c.args.msg) (rest c.args.seat.now.me.1) (heading_of c.args.msg) (parcel_of c.args.msg.bytes).bytes
       (subst (λ q. c.args.slot < q.slots) (sym c.args.self.now.planned) c.requires.slot) (subst (λ (v : View). 0 < Rattle.sock_model.specs.SlotRows.marks_of (Rattle.sock_model.specs.Weights.is_hold h.0) c.args.slot v) (sym same) h.1) (ap (λ v. v.claims) same ∙ r.1) (let e = r.2 in let q = ap (λ z. z.requests) c.args.self.now.planned in let i = c.requires.request in omega arith)
-      (ap (λ m. m.1) c.exchange-old.ensures.3 ∙ ap (λ (k : ℕ). (k, at_home.Message c.args.msg) ∷ rest c.args.seat.now.me.1) (sym r.2)) refl (let q = ap (λ z. z.operations) c.args.self.now.planned in let l = c.requires.label in omega arith),
+      (ap (λ m. m.1) c.exchange-old.ensures.3 ∙ ap (λ (k : ℕ). (k, at_home.Message c.args.msg) ∷ rest c.args.seat.now.me.1) (sym r.2)) refl (let q = ap (λ z. z.operations) c.args.self.now.planned in let l = c.requires.label in omega arith)),
 )
 
 pub returns-clause-view : goal.returns-clause-view

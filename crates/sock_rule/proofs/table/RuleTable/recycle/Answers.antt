@@ -3,7 +3,8 @@ use mathlib.Core.Option.{none}
 use Rattle.sock_model.specs.Weights.{is_zero}
 use Rattle.sock_model.specs.Slots.{version_of, nref_of}
 use Rattle.sock_model.specs.SlotRows.{marks_of, recycled}
-use Rattle.sock_rule.specs.Shows.{shows, rose}
+use Rattle.sock_rule.specs.OnKey.{shows_by}
+use Rattle.sock_rule.specs.Shows.{rose}
 use Rattle.sock_rule.proofs.Allowed.{recycles}
 use Rattle.sock_rule.proofs.Seating.{still_seat}
 use Rattle.sock_rule.proofs.table.RuleTable.recycle.Goals as goal
@@ -12,7 +13,7 @@ pub compare_exchange-found-requires : goal.compare_exchange-found-requires
 compare_exchange-found-requires g c = let a = c.requires.seat in let e = sym c.word-old.ensures in (
   a.0,
   omega (arith, c.args.self.now.sized, c.requires.slot),
-  recycles shows rose c.args.self.now.table.shared.key _ _ _ (a.1 ∙ sym c.args.self.now.planned) a.2 c.args.at (subst (λ q. c.args.at < q.slots) (sym c.args.self.now.planned) c.requires.slot)
+  recycles (shows_by c.args.self.now.table.shared.key) rose c.args.self.now.table.shared.key.plan _ _ _ (a.1 ∙ sym c.args.self.now.planned) a.2 c.args.at (subst (λ q. c.args.at < q.slots) (sym c.args.self.now.planned) c.requires.slot)
       c.word-old.result _ refl (subst (λ (q : ℕ). version_of q % 2 ≡ 1) e c.requires.from.1) (subst (λ (q : ℕ). nref_of q ≡ 0) e c.requires.from.2) (subst (λ (q : ℕ). 0 < marks_of (is_zero (version_of q)) c.args.at c.args.seat.now.me.0) e c.requires.zero) none,
 )
 

@@ -1,11 +1,12 @@
 use Rattle.std.proofs.Common.{arith, refl, ◌∙◌, ◌<◌, sym, subst}
-use Rattle.sock_rule.specs.Shows.{shows, rose}
+use Rattle.sock_rule.specs.OnKey.{shows_by}
+use Rattle.sock_rule.specs.Shows.{rose}
 use Rattle.sock_rule.proofs.Allowed.{fails}
 use Rattle.sock_rule.proofs.Seating.{still_seat}
 use Rattle.sock_rule.proofs.table.RuleTable.set_odd.Goals as goal
 
 pub fetch_or-found-requires : goal.fetch_or-found-requires
-fetch_or-found-requires g c = let a = c.requires.seat in (a.0, omega (arith, c.args.self.now.sized, c.requires.slot), fails shows rose c.args.self.now.table.shared.key _ _ _ (a.1 ∙ sym c.args.self.now.planned) a.2 c.args.at (subst (λ q. c.args.at < q.slots) (sym c.args.self.now.planned) c.requires.slot) c.requires.held.0 c.requires.held.1 c.requires.room)
+fetch_or-found-requires g c = let a = c.requires.seat in (a.0, omega (arith, c.args.self.now.sized, c.requires.slot), fails (shows_by c.args.self.now.table.shared.key) rose c.args.self.now.table.shared.key.plan _ _ _ (a.1 ∙ sym c.args.self.now.planned) a.2 c.args.at (subst (λ q. c.args.at < q.slots) (sym c.args.self.now.planned) c.requires.slot) c.requires.held.0 c.requires.held.1 c.requires.room)
 
 pub returns-clause-view : goal.returns-clause-view
 returns-clause-view g c = rw c.set_odd.ensures.step.0 ((c.fetch_or-found.ensures.2 c.args.at refl).0)

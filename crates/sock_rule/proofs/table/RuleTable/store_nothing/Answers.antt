@@ -1,5 +1,6 @@
 use Rattle.std.proofs.Common.{arith, refl}
-use Rattle.sock_rule.specs.Shows.{shows, rose}
+use Rattle.sock_rule.specs.OnKey.{shows_by}
+use Rattle.sock_rule.specs.Shows.{rose}
 use Rattle.sock_rule.proofs.Naming.{stores_nothing_on}
 use Rattle.sock_rule.proofs.Seating.{still_seat}
 use Rattle.sock_rule.proofs.table.RuleTable.store_nothing.Goals as goal
@@ -8,7 +9,7 @@ pub store-requires : goal.store-requires
 store-requires g c = let a = c.requires.seat in (
   a.0,
   omega (arith, c.args.self.now.sized, c.requires.operation),
-  stores_nothing_on shows rose _ _ _ _ _ c.args.self.now.planned a.1 a.2 c.args.operation _ c.requires.operation c.args.self.now.some_slots refl,
+  stores_nothing_on (shows_by c.args.self.now.table.shared.key) rose _ _ _ _ _ c.args.self.now.planned a.1 a.2 c.args.operation _ c.requires.operation c.args.self.now.some_slots refl,
 )
 
 pub returns-clause-view : goal.returns-clause-view

@@ -1,5 +1,6 @@
 use Rattle.std.proofs.Common.{arith, ◌∙◌, sym, subst}
-use Rattle.sock_rule.specs.Shows.{shows, rose}
+use Rattle.sock_rule.specs.OnKey.{shows_by}
+use Rattle.sock_rule.specs.Shows.{rose}
 use Rattle.sock_rule.specs.Seated.{IsDone}
 use Rattle.sock_rule.proofs.Seats.{takes}
 use Rattle.sock_rule.proofs.table.RuleTable.take_in.Goals as goal
@@ -10,5 +11,5 @@ join_seat-requires g c = let a = c.requires.seat in (
   c.requires.from.0,
   c.requires.from.1,
   omega (arith, c.args.self.now.sized, c.args.self.now.some_slots),
-  takes shows rose c.args.self.now.table.shared.key _ _ (a.1 ∙ sym c.args.self.now.planned) a.2 _ _ (subst (λ q. IsDone q c.args.from.me.0) (sym c.args.self.now.planned) c.requires.done),
+  takes (shows_by c.args.self.now.table.shared.key) rose c.args.self.now.table.shared.key.plan _ _ (a.1 ∙ sym c.args.self.now.planned) a.2 _ _ (subst (λ q. IsDone q c.args.from.me.0) (sym c.args.self.now.planned) c.requires.done),
 )

@@ -1,12 +1,14 @@
 use Rattle.std.proofs.Common.{◌*◌, ◌<◌, ◌∷◌, arith, refl, ◌∙◌, sym, subst}
-use Rattle.sock_rule.specs.Shows.{shows, rose}
+use Rattle.sock_rule.specs.OnKey.{shows_by}
+use Rattle.sock_rule.specs.Shows.{rose}
 use Rattle.sock_rule.proofs.Seating.{still_seat}
+use Rattle.sock_rule.proofs.Ways.{letters_alike}
 use Rattle.sock_rule.proofs.Holding.{takes_letter, stage_of}
 use Rattle.sock_rule.proofs.Handing.{must_letter, letter_label, letter_after}
 use Rattle.sock_rule.proofs.table.RuleTable.take_msg.Goals as goal
 
 pub load-requires : goal.load-requires
-load-requires g c = let a = c.requires.seat in let r = c.requires.may in (a.0, omega (arith, c.args.self.now.sized, c.args.self.now.some_slots), takes_letter shows rose c.args.self.now.table.shared.key _ _ _ (a.1 ∙ sym c.args.self.now.planned) a.2 r.right r.one 0 c.args.now.0 r.stage r.idle)
+load-requires g c = let a = c.requires.seat in let r = c.requires.may in (a.0, omega (arith, c.args.self.now.sized, c.args.self.now.some_slots), letters_alike c.args.self.now.table.shared.key.plan c.args.self.now.table.shared.key.ways.list _ _ _ _ _ (takes_letter (shows_by c.args.self.now.table.shared.key) rose c.args.self.now.table.shared.key.plan _ _ _ (a.1 ∙ sym c.args.self.now.planned) a.2 r.right r.one 0 c.args.now.0 r.stage r.idle))
 
 pub exchange-value-requires : goal.exchange-value-requires
 exchange-value-requires g c = let t = (c.load.ensures.2 c.requires.may.right c.args.now.0 c.requires.may.one c.requires.may.stage) in (c.load.ensures.0 ∙ c.requires.seat.0, (t.value, t.slots ∙ (λ i. (sym c.request-slot.ensures i, t.value) ∷ Rattle.atomic_table.specs.Table.rest (sym t.slots i))))

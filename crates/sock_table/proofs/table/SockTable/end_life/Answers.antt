@@ -33,6 +33,9 @@ put_link-requires-clause-noted g c = λ some_. let k : ℕ = c.load_last_link-fo
     (noted_taken (g.O.Out.state c.take_last_link-home.result.out).faults 0 c.load_last_link-found.result v (with_hand v (hand_of c.load_last_link-found.result c.take_last_link-home.result.took.list c.take_last_link-home.result.next)) refl c.take_last_link-home.ensures.known
     (subst (λ (n : ℕ). 0 < n) (ap (λ m. faults_of c.load_last_link-found.result m.0) c.take_last_link-home.ensures.view) some_))
 
+pub put_link-requires-clause-way : goal.put_link-requires-clause-way
+put_link-requires-clause-way g c = c.finish.ensures.way ∙ c.take_last_link-home.ensures.way
+
 pub free_slot-requires-clause-recycled : goal.free_slot-requires-clause-recycled
 free_slot-requires-clause-recycled g c = let e = ap (λ m. m.0) c.recycle-step.ensures.view in let hit = c.if-step-word.false ∙ c.word.ensures in let r = recycled_in c.args.at c.args.from.0 c.recycle-step.result.found c.args.seat.now.me.0 c.recycle-step.new.seat.me.0 e c.requires.zero hit in
     let b = c.load_last_link-found.ensures.view _ r in let empty = ap (λ m. m.0.hands) b ∙ (ap (λ v. v.hands) e ∙ c.requires.empty) in

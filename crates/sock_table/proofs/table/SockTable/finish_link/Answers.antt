@@ -1,4 +1,4 @@
-use Rattle.std.proofs.Common.{ℕ, ◌<◌, refl, sym, ap, subst}
+use Rattle.std.proofs.Common.{ℕ, ◌<◌, refl, sym, ap, ◌∙◌, subst}
 use Rattle.sock_model.specs.ChainRows.{spent_hand}
 use Rattle.sock_rule.specs.Faults.{faults_of}
 use Rattle.sock_rule.specs.Hands.{hand_of}
@@ -10,6 +10,9 @@ pub put_link-requires-clause-noted : goal.put_link-requires-clause-noted
 put_link-requires-clause-noted g c = λ some_. subst (λ (n : ℕ). 0 < n) (sym c.finish.ensures.faults)
     (noted_taken (g.O.Out.state c.spend_pass-home.result.out).faults 0 c.args.pass.link c.take_in.new.seat.me.0 (spent_hand c.take_in.new.seat.me.0 (hand_of c.args.pass.link c.spend_pass-home.result.took.list c.spend_pass-home.result.next)) refl c.spend_pass-home.ensures.known
     (subst (λ (n : ℕ). 0 < n) (ap (λ m. faults_of c.args.pass.link m.0) c.spend_pass-home.ensures.view) some_))
+
+pub put_link-requires-clause-way : goal.put_link-requires-clause-way
+put_link-requires-clause-way g c = c.finish.ensures.way ∙ c.spend_pass-home.ensures.way
 
 pub returns-clause-between : goal.returns-clause-between
 returns-clause-between g c = finished_between c.args.self.now.rule.plan c.args.seat.now.me.0 c.take_in.new.seat.me.0 c.args.pass.seat.me.0 c.spend_pass-home.new.seat.me.0 c.put_link.new.seat.me.0 c.args.pass.link c.spend_pass-home.result.next _ _ c.spend_pass-home.result.took.list
