@@ -14,6 +14,7 @@ use Rattle.sock_words.specs.declared.plain.Plan.{Plan}
 use Rattle.sock_words.specs.declared.place_word.PlaceWord.{PlaceWord}
 use Rattle.sock_words.specs.declared.vref.Vref.{Vref}
 use Rattle.sock_model.specs.declared.chain.Entry.{Entry}
+use Rattle.sock_model.specs.declared.chain.Heading.{Heading}
 use Rattle.sock_model.specs.declared.marks.Mark.{Mark}
 use Rattle.sock_model.specs.declared.view.StoredWord.{StoredWord}
 use Rattle.sock_model.specs.declared.view.View as sock_view
@@ -23,10 +24,9 @@ use Rattle.sock_model.specs.Layout.{place_index}
 use Rattle.sock_model.specs.SlotRows.{marks_of}
 use Rattle.sock_model.specs.Weights.{is_met, is_saw, is_told, total}
 use Rattle.expire_told.specs.sock_rule.specs.slot_steps.proofs.Numbers.{pair-same}
-use Rattle.expire_told.specs.sock_rule.specs.Closing.{PlacesDiffer}
+use Rattle.expire_told.specs.sock_rule.specs.Closing.{PlacesDiffer, IsLogged}
 use Rattle.expire_told.specs.sock_rule.specs.OnTable.{is_put, put_in}
 use Rattle.expire_told.specs.sock_rule.specs.declared.homes.Letter.{Letter}
-use Rattle.expire_told.specs.write_chain.specs.declared.right.Undelivered.{Undelivered}
 use Rattle.seat_programs.specs.declared.task.Op.{Op}
 use Rattle.seat_programs.specs.declared.task.Op.TheVariants as ops
 use Rattle.seat_programs.specs.declared.task.Task.{Task}
@@ -51,7 +51,8 @@ use Rattle.expire_told.specs.sock_deeds.specs.Left.{accepted_of}
 use Rattle.expire_told.specs.sock_deeds.specs.Deeds as socks
 use Rattle.expire_told.specs.sock_deeds.specs.Runs.{IsOperation, IsMessage, of_send, of_call, Seated, seat_of, DeedRun}
 use Rattle.expire_told.specs.sock_deeds.proofs.Accepting.{log, act_of_entry, sent_for, sent_place}
-use Rattle.expire_told.specs.sock_deeds.proofs.Acts.{Act, after, has_marks}
+use Rattle.expire_told.specs.sock_deeds.proofs.Acts.{Act, after, has_marks, has_drops}
+use Rattle.expire_told.specs.sock_deeds.proofs.DropCodes.{FailsWith, life_code, IsBehindPlaced, dropped_stands}
 use Rattle.expire_told.specs.sock_deeds.proofs.Failing.{WhyFailed, by_name, by_link}
 use Rattle.expire_told.specs.sock_deeds.proofs.Fails.{life_is, link_is}
 use Rattle.expire_told.specs.sock_deeds.proofs.Lives.{MadeHere, linked_made}
@@ -63,19 +64,9 @@ use Rattle.expire_told.specs.sock_deeds.proofs.Tasks.{same_task}
 use Rattle.expire_told.specs.sock_deeds.proofs.Whole.{fixed}
 use Rattle.failed_told.specs.Missed.{socks_behind}
 use Rattle.failed_told.specs.Reasons.{StillHas, WasDropped}
-use Rattle.failed_told.proofs.DropCodes.{FailsWith, life_code, IsBehindPlaced, dropped_stands}
 use Rattle.failed_told.proofs.Fallen.{chain_last, its_seat, reached, one_operation}
 use Rattle.failed_told.proofs.Keeping.{still_as, still_then}
 use Rattle.failed_told.proofs.Owners.{IsOwned, owned_by}
-
--- the message stands in the log, with its place index, its attempt and its owner
-pub record IsLogged (log_ : List Entry) (msg : Undelivered) : Type 0 where
-  pub position : ℕ
-  pub entry : Entry
-  pub there : get_elem? log_ position ≡ some entry
-  pub place_is : entry.heading.place ≡ msg.label.place
-  pub attempt_is : entry.heading.attempt ≡ msg.label.attempt
-  pub owner_is : entry.heading.owner ≡ msg.owner
 
 name_at : ℕ → Op → ℕ
 name_at n (ops.Call asked) = name_of asked n
@@ -204,85 +195,89 @@ module _ {O : Type 0} {g : Ghosts O} {state : O → OutState} {p : Plan} {slots 
     pub drop_code : (code ≡ EFAILEDSOCKET) ⊎ ((1500 ≤ code) × (code ≤ 1999))
     drop_code = let l = its_life in elim (by_code l.0 w.drop.wrote.link l.1) [ inl e ↦ inl e | inr f ↦ inr (bounds f.client f.number l.0 code f.is) ]
 
-  -- ## Which message it is
+    -- ## Which message it is
 
-  -- each message that a client dropped is the one that stands in the log with its place index
-  module _ (owned : (c : ℕ) (x : Client g state p q) → get_elem? crew c ≡ some x → (id code n : ℕ) (w : WasDropped state p q (deeds_of x) id code n) → IsLogged (log drun) w.drop.msg) where
-    module _ (c : ℕ) (x : Client g state p q) (at : get_elem? crew c ≡ some x) (id code n : ℕ) (w : WasDropped state p q (deeds_of x) id code n) where
-      -- where its message stands
-      pub record IsDroppedAt (o : ℕ) : Type 0 where
-        pub position : ℕ
-        pub entry : Entry
-        pub there : get_elem? (log drun) position ≡ some entry
-        pub place : entry.heading.place ≡ 8 * o + n
-        pub low : n ≤ 6
-        pub behind : IsBehindPlaced drun differ few few_links entry
-        pub link : w.drop.wrote.link ≡ entry.link
+    -- what stands with it stands in the log
+    logged_there : IsLogged (log drun) w.drop.wrote.heading
+    logged_there =
+        let d = w.drop.wrote in let k = kept_there in
+        let there = has_drops drun k.act d.heading (k.still.drops d.heading (0, ap (λ (l : List Heading). get_elem? l 0) d.drops)) in
+        drun.closed.drops_logged there.0 d.heading there.1
 
-      module _ (slot first r j : ℕ) (asked : Asked) (inside : slot < slots) (low : first < 4294967296) (same : id ≡ slot * 4294967296 + first) (made : get_elem? (notes_of slot notes) j ≡ some (Made first r asked)) where
-        dropped_at : IsDroppedAt asked.operation
-        dropped_at =
-            let l = owned c x at id code n w in let e = l.entry in
-            let attempt : e.heading.attempt ≡ n = l.attempt_is ∙ sym w.attempt_is in
-            let owner : e.heading.owner ≡ id = l.owner_is ∙ sym w.owner in
-            let k = kept_there c x at id code n w in let l_ = w.drop.msg.label.place in let word = place_value true w.drop.wrote.link w.drop.wrote.position in let more = k.still.puts (place_index p l_) word in let put = stored_there c x at id code n w in
-            let there : 0 < put_in (place_index p e.heading.place) word (after drun k.act) = subst (λ (z : ℕ). 0 < put_in (place_index p z) word (after drun k.act)) (sym l.place_is) (omega (arith, more, put)) in
-            let stands = dropped_stands drun differ few few_links l.position e l.there k.act w.drop.wrote.link w.drop.wrote.position w.drop.wrote.low there in
-            let o : IsOwned run tasks may notes kept words closing noted e = elim (owned_by run tasks may notes kept words closing noted l.position e (ap (λ (z : List Entry). get_elem? z l.position) (sym logged) ∙ l.there)) [
-              | inl none_ ↦ absurd (w.call (sym l.owner_is ∙ none_))
-              | inr own ↦ own
-            ] in
-            let number : o.operation ≡ asked.operation = one_operation run tasks may notes kept words closing noted outcomes drun seats logged differ gave all_there o.operation id slot first r j asked inside low (subst (IsIdOf slots notes o.operation) owner o.its) same made in
-            let place = o.place in let few_ = o.low in
-            record { position = l.position; entry = e; there = l.there; place = omega (arith, place, number, attempt); low = omega (arith, few_, attempt); behind = stands.0; link = stands.1 }
+    -- where its message stands
+    pub record IsDroppedAt (o : ℕ) : Type 0 where
+      pub position : ℕ
+      pub entry : Entry
+      pub there : get_elem? (log drun) position ≡ some entry
+      pub place : entry.heading.place ≡ 8 * o + n
+      pub low : n ≤ 6
+      pub behind : IsBehindPlaced drun differ few few_links entry
+      pub link : w.drop.wrote.link ≡ entry.link
 
-        -- the attempt stands behind the placed ones
-        is_dropped : IsDropped p every outcomes fixed_here gave orders_here asked.operation n
-        is_dropped =
-            let d = dropped_at in let e = d.entry in let b = d.behind in let place = d.place in let few_ = d.low in
-            let o : e.heading.place / 8 ≡ asked.operation = omega (arith, place, few_) in let m : e.heading.place % 8 ≡ n = omega (arith, place, few_) in
-            (e.link, b.position, (b.inside, accepted_of e, accepted_there (on e.link (log drun)) b.position e b.there, o, m), b.behind)
+    module _ (slot first r j : ℕ) (asked : Asked) (inside : slot < slots) (low : first < 4294967296) (same : id ≡ slot * 4294967296 + first) (made : get_elem? (notes_of slot notes) j ≡ some (Made first r asked)) where
+      dropped_at : IsDroppedAt asked.operation
+      dropped_at =
+          let l = logged_there in let d = w.drop.wrote in let e = l.entry in
+          let attempt : e.heading.attempt ≡ n = l.attempt_is ∙ (d.attempt_is ∙ sym w.attempt_is) in
+          let owner : e.heading.owner ≡ id = l.owner_is ∙ (d.owner_is ∙ sym w.owner) in
+          let k = kept_there in let l_ = w.drop.msg.label.place in let word = place_value true w.drop.wrote.link w.drop.wrote.position in let more = k.still.puts (place_index p l_) word in let put = stored_there in
+          let there : 0 < put_in (place_index p e.heading.place) word (after drun k.act) = subst (λ (z : ℕ). 0 < put_in (place_index p z) word (after drun k.act)) (sym (l.place_is ∙ d.place_is)) (omega (arith, more, put)) in
+          let stands = dropped_stands drun differ few few_links l.position e l.there k.act w.drop.wrote.link w.drop.wrote.position w.drop.wrote.low there in
+          let o : IsOwned run tasks may notes kept words closing noted e = elim (owned_by run tasks may notes kept words closing noted l.position e (ap (λ (z : List Entry). get_elem? z l.position) (sym logged) ∙ l.there)) [
+            | inl none_ ↦ absurd (w.call (sym (l.owner_is ∙ d.owner_is) ∙ none_))
+            | inr own ↦ own
+          ] in
+          let number : o.operation ≡ asked.operation = one_operation run tasks may notes kept words closing noted outcomes drun seats logged differ gave all_there o.operation id slot first r j asked inside low (subst (IsIdOf slots notes o.operation) owner o.its) same made in
+          let place = o.place in let few_ = o.low in
+          record { position = l.position; entry = e; there = l.there; place = omega (arith, place, number, attempt); low = omega (arith, few_, attempt); behind = stands.0; link = stands.1 }
 
-        is_failing : IsFailing p every outcomes fixed_here gave orders_here dropped_at.entry.link
-        is_failing = let b = dropped_at.behind in let late = b.behind in let less = b.less in
-            by (lost_by drun differ few dropped_at.entry.link b.inside (omega (arith, late, less))).why
-          where
-            by : {i h : ℕ} → WhyFailed drun i h dropped_at.entry.link → IsFailing p every outcomes fixed_here gave orders_here dropped_at.entry.link
-            by (by_name f) = inl (f.life.number, f.listed, tt)
-            by (by_link b) = inr (inl b)
+      -- the attempt stands behind the placed ones
+      is_dropped : IsDropped p every outcomes fixed_here gave orders_here asked.operation n
+      is_dropped =
+          let d = dropped_at in let e = d.entry in let b = d.behind in let place = d.place in let few_ = d.low in
+          let o : e.heading.place / 8 ≡ asked.operation = omega (arith, place, few_) in let m : e.heading.place % 8 ≡ n = omega (arith, place, few_) in
+          (e.link, b.position, (b.inside, accepted_of e, accepted_there (on e.link (log drun)) b.position e b.there, o, m), b.behind)
 
-        module _ (client : ℕ) (task : IsOperation every outcomes client asked.operation (ops.Call asked)) where
-          abbrev name : ℕ
-          name = name_of asked n
+      is_failing : IsFailing p every outcomes fixed_here gave orders_here dropped_at.entry.link
+      is_failing = let b = dropped_at.behind in let late = b.behind in let less = b.less in
+          by (lost_by drun differ few dropped_at.entry.link b.inside (omega (arith, late, less))).why
+        where
+          by : {i h : ℕ} → WhyFailed drun i h dropped_at.entry.link → IsFailing p every outcomes fixed_here gave orders_here dropped_at.entry.link
+          by (by_name f) = inl (f.life.number, f.listed, tt)
+          by (by_link b) = inr (inl b)
 
-          its_socket : SentTo drun name dropped_at.entry
-          its_socket = let d = dropped_at in sent_to drun client asked n d.low task d.position d.entry d.there d.place
+      module _ (client : ℕ) (task : IsOperation every outcomes client asked.operation (ops.Call asked)) where
+        abbrev name : ℕ
+        name = name_of asked n
 
-          abbrev WhyDropped : Type 0
-          WhyDropped = ((code ≡ EFAILEDSOCKET) × WhyLost p every outcomes fixed_here gave orders_here client asked.operation n name) ⊎ ((1500 ≤ code) × (code ≤ 1999) × IsFailedWith p every outcomes fixed_here gave orders_here name code)
+        its_socket : SentTo drun name dropped_at.entry
+        its_socket = let d = dropped_at in sent_to drun client asked n d.low task d.position d.entry d.there d.place
 
-          by_socket : code ≡ EFAILEDSOCKET → WhyDropped
-          by_socket e = let s = its_socket in inl (e, WasFailing dropped_at.entry.link s.slot s.version s.made is_failing)
+        abbrev WhyDropped : Type 0
+        WhyDropped = ((code ≡ EFAILEDSOCKET) × WhyLost p every outcomes fixed_here gave orders_here client asked.operation n name) ⊎ ((1500 ≤ code) × (code ≤ 1999) × IsFailedWith p every outcomes fixed_here gave orders_here name code)
 
-          by_fail : FailsWith drun name code → WhyDropped
-          by_fail f = let b = bounds f.client f.number name code f.is in inr (b.0, b.1, (f.client, record { number = f.number; op = ops.Fail name code }, f.is, refl, f.became))
+        by_socket : code ≡ EFAILEDSOCKET → WhyDropped
+        by_socket e = let s = its_socket in inl (e, WasFailing dropped_at.entry.link s.slot s.version s.made is_failing)
 
-          -- the life of the link that was written is that of the name
-          its_name : MadeHere drun name dropped_at.entry.link (socket_id_slot w.life) (socket_id_version w.life)
-          its_name =
-              let i = socket_id_slot w.life in let h = socket_id_version w.life in let d = dropped_at in let s = its_socket in let m = its_life c x at id code n w in
-              let its : MadeHere drun m.0 d.entry.link i h = subst (λ (z : ℕ). MadeHere drun m.0 z i h) d.link m.1 in
-              let one = link_is drun m.0 name d.entry.link i s.slot h s.version its s.made in
-              subst (λ (z : ℕ). MadeHere drun name d.entry.link z h) (sym one.0) (subst (λ (z : ℕ). MadeHere drun name d.entry.link s.slot z) (sym one.1) s.made)
+        by_fail : FailsWith drun name code → WhyDropped
+        by_fail f = let b = bounds f.client f.number name code f.is in inr (b.0, b.1, (f.client, record { number = f.number; op = ops.Fail name code }, f.is, refl, f.became))
 
-          its_code : WhyDropped
-          its_code = elim (by_code c x at id code n w name dropped_at.entry.link its_name) [ inl e ↦ by_socket e | inr f ↦ by_fail f ]
+        -- the life of the link that was written is that of the name
+        its_name : MadeHere drun name dropped_at.entry.link (socket_id_slot w.life) (socket_id_version w.life)
+        its_name =
+            let i = socket_id_slot w.life in let h = socket_id_version w.life in let d = dropped_at in let s = its_socket in let m = its_life in
+            let its : MadeHere drun m.0 d.entry.link i h = subst (λ (z : ℕ). MadeHere drun m.0 z i h) d.link m.1 in
+            let one = link_is drun m.0 name d.entry.link i s.slot h s.version its s.made in
+            subst (λ (z : ℕ). MadeHere drun name d.entry.link z h) (sym one.0) (subst (λ (z : ℕ). MadeHere drun name d.entry.link s.slot z) (sym one.1) s.made)
 
-    pub dropped_why : (c : ℕ) (x : Client g state p q) → get_elem? crew c ≡ some x → (id code n : ℕ) → WasDropped state p q (deeds_of x) id code n
-        → (slot first r j : ℕ) (asked : Asked) → slot < slots → first < 4294967296 → id ≡ slot * 4294967296 + first → get_elem? (notes_of slot notes) j ≡ some (Made first r asked)
-        → (client : ℕ) → IsOperation every outcomes client asked.operation (ops.Call asked)
-        → IsDropped p every outcomes fixed_here gave orders_here asked.operation n
-        × (((code ≡ EFAILEDSOCKET) × WhyLost p every outcomes fixed_here gave orders_here client asked.operation n (name_of asked n))
-        ⊎ ((1500 ≤ code) × (code ≤ 1999) × IsFailedWith p every outcomes fixed_here gave orders_here (name_of asked n) code))
-    dropped_why c x at id code n w slot first r j asked inside low same made client task =
-        (is_dropped c x at id code n w slot first r j asked inside low same made, its_code c x at id code n w slot first r j asked inside low same made client task)
+        its_code : WhyDropped
+        its_code = elim (by_code name dropped_at.entry.link its_name) [ inl e ↦ by_socket e | inr f ↦ by_fail f ]
+
+  pub dropped_why : (c : ℕ) (x : Client g state p q) → get_elem? crew c ≡ some x → (id code n : ℕ) → WasDropped state p q (deeds_of x) id code n
+      → (slot first r j : ℕ) (asked : Asked) → slot < slots → first < 4294967296 → id ≡ slot * 4294967296 + first → get_elem? (notes_of slot notes) j ≡ some (Made first r asked)
+      → (client : ℕ) → IsOperation every outcomes client asked.operation (ops.Call asked)
+      → IsDropped p every outcomes fixed_here gave orders_here asked.operation n
+      × (((code ≡ EFAILEDSOCKET) × WhyLost p every outcomes fixed_here gave orders_here client asked.operation n (name_of asked n))
+      ⊎ ((1500 ≤ code) × (code ≤ 1999) × IsFailedWith p every outcomes fixed_here gave orders_here (name_of asked n) code))
+  dropped_why c x at id code n w slot first r j asked inside low same made client task =
+      (is_dropped c x at id code n w slot first r j asked inside low same made, its_code c x at id code n w slot first r j asked inside low same made client task)

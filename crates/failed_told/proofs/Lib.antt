@@ -12,7 +12,6 @@ pub mod Losses
 pub mod Single
 pub mod Reaching
 pub mod Fallen
-pub mod DropCodes
 pub mod Owners
 pub mod Drops
 pub mod PostedCodes

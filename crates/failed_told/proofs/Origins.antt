@@ -360,7 +360,7 @@ module _ {O : Type 0} {g : Ghosts O} (state : O → OutState) (p : Plan) (q : id
 
   dropped_all : (id : ℕ) (v : sock_view.View) (s : CallStand) (w : sock_view.View) (t : CallStand) → DroppedAll state p q.slots id v s w t → socket_id_slot id < p.slots → Behind w → Caused s t
   dropped_all id v s _ _ draining.none inside behind = caused_same s s refl
-  dropped_all id v s _ _ (draining.one_more u r w t more one) inside behind = in_turn s r t (dropped_all id v s u r more inside (before_then u w (drop_still state p id one.msg.label.place u w one.wrote) behind)) (dropped_one id u r w t one inside behind)
+  dropped_all id v s _ _ (draining.one_more u r w t more one) inside behind = in_turn s r t (dropped_all id v s u r more inside (before_then u w (drop_still state p id one.msg u w one.wrote) behind)) (dropped_one id u r w t one inside behind)
 
   drained : (id : ℕ) (v : sock_view.View) (s : CallStand) (w : sock_view.View) (t : CallStand) → Drained state p q.slots id v s w t → socket_id_slot id < p.slots → Behind w → Caused s t
   drained id v s w t d inside behind = dropped_all id v s d.last t d.dropped inside (before_then d.last w (wrote_still state id d.last w d.wrote) behind)

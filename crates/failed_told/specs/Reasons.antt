@@ -10,6 +10,7 @@ use Rattle.sock_words.specs.Words.{socket_id_slot}
 use Rattle.sock_words.specs.declared.outcome.Outcome.{Outcome}
 use Rattle.sock_words.specs.declared.outcome.Outcome.TheVariants as outcome
 use Rattle.sock_words.specs.declared.plain.Plan.{Plan}
+use Rattle.sock_model.specs.declared.chain.Heading.{Heading}
 use Rattle.sock_model.specs.declared.marks.Mark.{Mark}
 use Rattle.sock_model.specs.declared.marks.Mark.TheVariants.{Hold}
 use Rattle.sock_model.specs.declared.view.View as sock_view
@@ -59,10 +60,15 @@ pub record IsSeen (v : View Asked) (k : IdLock Asked) : Type 0 where
   pub first_is : (parts word).first ≡ (parts k.word.0).first
   pub range_is : (parts word).range ≡ (parts k.word.0).range
 
--- what a seat noted of sockets, but for its references, and the words that it stored are there still
+-- a seat noted that it dropped a message with which this stands
+abbrev pub HasHeading : Heading → sock_view.View → Type 0
+HasHeading h v = (k : ℕ) × (get_elem? v.drops k ≡ some h)
+
+-- what a seat noted of sockets, but for its references, the words that it stored, and what it dropped are there still
 pub record StillHas (v w : sock_view.View) : Type 0 where
   pub marks : (f : Mark → ℕ) → ((h : ℕ) → f (Hold h) ≡ 0) → (i : ℕ) → marks_of f i v ≤ marks_of f i w
   pub puts : (x n : ℕ) → put_in x n v ≤ put_in x n w
+  pub drops : (h : Heading) → HasHeading h v → HasHeading h w
 
 module _ {O : Type 0} {g : Ghosts O} (state : O → OutState) (p : Plan) (q : id_plan.Plan) (ds : List (Deed g state p q)) where
   -- the seat has still, behind one of these deeds, what it had here

@@ -16,6 +16,7 @@ use Rattle.sock_words.specs.Words.{socket_id_version}
 use Rattle.sock_model.specs.declared.marks.Mark.{Mark}
 use Rattle.sock_model.specs.declared.marks.Mark.TheVariants.{Failer}
 use Rattle.sock_model.specs.declared.view.StoredWord.{StoredWord}
+use Rattle.sock_model.specs.declared.chain.Heading.{Heading}
 use Rattle.sock_model.specs.declared.view.View.{View}
 use Rattle.sock_model.specs.Marks.{about}
 use Rattle.sock_model.specs.Seats.{newcomer}
@@ -33,7 +34,7 @@ use Rattle.sock_deeds.specs.Runs.{Seated, IsById, seat_of, ReaderSeat, sits_of, 
 use Rattle.sock_deeds.proofs.Chains.{gain, stored, chain_grew, ends_grew, begins_grew, between_grew, gains, stores}
 use Rattle.sock_deeds.proofs.Ending.{Keeps, id_kept, ids_kept, SetNow, id_source}
 use Rattle.sock_deeds.proofs.Flats.{append_cases, append_first, append_later}
-use Rattle.sock_deeds.proofs.Growing.{IsNote, HasFound, Grew}
+use Rattle.sock_deeds.proofs.Growing.{IsNote, HasFound, HasDropped, Grew}
 use Rattle.sock_deeds.proofs.Places.{map_there, map_back}
 use Rattle.sock_deeds.proofs.Readers.{read_by_ids}
 use Rattle.sock_deeds.proofs.Sources.{IsOfLife}
@@ -219,6 +220,14 @@ module _ {O : Type 0} {g : Ghosts O} {state : O → OutState} {p : Plan} {client
 
   pub read_found : (r : Read) (x : StoredWord) → HasFound x r.d.after.view → HasFound x All
   read_found r x h = sat_found (of_reader r) x h
+
+  -- what stands with a message that it dropped
+  pub has_drops : (a : Act) (x : Heading) → HasDropped x (after a) → HasDropped x All
+  has_drops a x h =
+      let l = (later a.y a.k a.d a.is).dropped x h in
+      let r = flat_place (λ (s : Seat (SockHome O g) View). s.me.0.drops) (map seat_of Seats) a.c (seat_of a.y) x (map_place seat_of Seats a.c a.y (client_there a.c a.y a.at)) l.0 l.1 in
+      let e = ends_grew_all.dropped x (r.0, ap (λ l. get_elem? l r.0) run.ending.took_in.drops ∙ r.1) in
+      (e.0, ap (λ l. get_elem? l e.0) (run.closed.drops ∙ flat_alone (λ (v : View). v.drops)) ∙ e.1)
 
   pub has_seen : (a : Act) (x : ℕ) → HasSeen x (after a) → HasSeen x All
   has_seen a x h =

@@ -1,5 +1,5 @@
 -- What a seat has noted stays noted, whatever it does.
-use Rattle.std.proofs.Common.{◌≡◌, ◌⊎◌, ℕ, suc, ◌+◌, ◌≤◌, Bool, true, false, Option, Some, None, inl, inr, List, [], ◌∷◌, refl, sym, ap, ◌∙◌, subst, arith}
+use Rattle.std.proofs.Common.{◌≡◌, ◌⊎◌, ℕ, suc, ◌+◌, ◌≤◌, Bool, true, false, Option, Some, None, inl, inr, List, [], ◌∷◌, ◌++◌, length, refl, sym, ap, ◌∙◌, subst, arith}
 use mathlib.Core.Logic.{dite}
 use mathlib.Core.Option.{some}
 use native.Mathlib.Decide.{ℕ_discrete, dec_lt}
@@ -11,6 +11,7 @@ use Rattle.sock_words.specs.declared.outcome.Outcome.{Outcome}
 use Rattle.sock_words.specs.declared.outcome.Outcome.TheVariants as outcome
 use Rattle.sock_words.specs.declared.plain.Plan.{Plan}
 use Rattle.sock_words.specs.Words.{socket_id_version, socket_id_slot}
+use Rattle.sock_model.specs.declared.chain.Heading.{Heading}
 use Rattle.sock_model.specs.declared.marks.Mark.{Mark}
 use Rattle.sock_model.specs.declared.marks.Mark.TheVariants.{Hold, Known}
 use Rattle.sock_model.specs.declared.marks.SlotMark.{SlotMark}
@@ -43,6 +44,7 @@ use Rattle.rpc_client.specs.Holding.{HeldBy, DroppedBy, GaveOne}
 use Rattle.rpc_client.specs.Opening.{OpenedBy, GotNone}
 use Rattle.rpc_client.specs.Reaching.{ReachedBy}
 use Rattle.rpc_client.specs.Sending.{with_notes, WroteAll, Returned, CameBack, DeliveredBy}
+use Rattle.sock_deeds.proofs.Flats.{append_later}
 use Rattle.sock_deeds.specs.Deeds.{Hand, SentOver, MessageBy, Did, opens, sends, holds, drops, fails, waits, looks, takes, misses, sets, returns, DoneBy, Deed}
 
 -- a mark that isn't a reference
@@ -52,14 +54,19 @@ IsNote f = (h : ℕ) → f (Hold h) ≡ 0
 abbrev pub HasFound : StoredWord → View → Type 0
 HasFound x v = (k : ℕ) × (get_elem? v.finds k ≡ some x)
 
+-- it dropped a message with which this stands
+abbrev pub HasDropped : Heading → View → Type 0
+HasDropped h v = (k : ℕ) × (get_elem? v.drops k ≡ some h)
+
 pub record Grew (v w : View) : Type 0 where
   pub marks : (f : Mark → ℕ) → IsNote f → (i : ℕ) → marks_of f i v ≤ marks_of f i w
   pub seen : (x : ℕ) → HasSeen x v → HasSeen x w
   pub finds : (x : StoredWord) → HasFound x v → HasFound x w
   pub puts : (x n : ℕ) → put_in x n v ≤ put_in x n w
+  pub dropped : (h : Heading) → HasDropped h v → HasDropped h w
 
 pub stays : (v : View) → Grew v v
-stays v = record { marks = λ f note i. omega arith; seen = λ x h. h; finds = λ x h. h; puts = λ x n. omega arith }
+stays v = record { marks = λ f note i. omega arith; seen = λ x h. h; finds = λ x h. h; puts = λ x n. omega arith; dropped = λ x h. h }
 
 pub stays_as : (v w : View) → w ≡ v → Grew v w
 stays_as v w e = subst (λ (y : View). Grew v y) (sym e) (stays v)
@@ -69,6 +76,7 @@ grew_then u v w a b = record {
   marks = λ f note i. omega (arith, a.marks f note i, b.marks f note i);
   seen = λ x h. b.seen x (a.seen x h);
   finds = λ x h. b.finds x (a.finds x h);
+  dropped = λ x h. b.dropped x (a.dropped x h);
   puts = λ x n. omega (arith, a.puts x n, b.puts x n);
 }
 
@@ -85,6 +93,7 @@ found_grew x id v w d = record {
   marks = λ f note i. (let e = ap (λ (y : View). marks_of f i y) d.view in let m = more_marks f i (socket_id_slot id) (Known (socket_id_version id)) v.marks in omega arith);
   seen = λ y h. (suc h.0, ap (λ (z : View). get_elem? z.found (suc h.0)) d.view ∙ h.1);
   finds = λ y h. (suc h.0, ap (λ (z : View). get_elem? z.finds (suc h.0)) d.view ∙ h.1);
+  dropped = λ y h. (h.0, ap (λ (z : View). get_elem? z.drops h.0) d.view ∙ h.1);
   puts = λ y n. (let e = ap (λ (z : View). put_in y n z) d.view in omega arith);
 }
 
@@ -99,6 +108,7 @@ others_grew v w e marks = record {
   marks = marks;
   seen = λ x h. (h.0, ap (λ (z : View). get_elem? z.found h.0) e ∙ h.1);
   finds = λ x h. (h.0, ap (λ (z : View). get_elem? z.finds h.0) e ∙ h.1);
+  dropped = λ x h. (h.0, ap (λ (z : View). get_elem? z.drops h.0) e ∙ h.1);
   puts = λ x n. (let q = ap (λ (z : View). put_in x n z) e in omega arith);
 }
 
@@ -135,6 +145,7 @@ module _ {O : Type 0} (state : O → OutState) (p : Plan) where
     marks = λ f note j. became_marks (socket_id_slot id) v (record w { rights = v.rights; stores = v.stores; drops = v.drops }) a.notes [] f refl a.became j;
     seen = λ x h. (h.0, ap (λ (z : View). get_elem? z.found h.0) a.became.others ∙ h.1);
     finds = λ x h. (h.0, ap (λ (z : View). get_elem? z.finds h.0) a.became.others ∙ h.1);
+    dropped = λ x h. (length a.headings + h.0, ap (λ l. get_elem? l (length a.headings + h.0)) a.headings_are ∙ append_later a.headings v.drops h.0 x h.1);
     puts = λ x n. (let e = ap (total (total (is_put x n))) a.stores in let m = notes_more x n a.drops v.stores in omega arith);
   }
 
@@ -144,6 +155,7 @@ module _ {O : Type 0} (state : O → OutState) (p : Plan) where
     marks = λ f note j. became_marks (socket_id_slot sock.id.0) v (record v { marks = w.marks }) _ [] f refl b.7 j;
     seen = b.9;
     finds = λ x h. (h.0, ap (λ (z : View). get_elem? z.finds h.0) b.8 ∙ h.1);
+    dropped = λ x h. (h.0, ap (λ (z : View). get_elem? z.drops h.0) b.8 ∙ h.1);
     puts = λ x n. (let q = ap (λ (z : View). put_in x n z) b.8 in omega arith);
   }
 
@@ -156,6 +168,7 @@ module _ {O : Type 0} (state : O → OutState) (p : Plan) where
         marks = λ f note j. became_marks (socket_id_slot sock.id.0) v (record v { marks = c.taken.marks }) _ [] f refl a.marks j;
         seen = a.seen;
         finds = λ x h. (h.0, ap (λ l. get_elem? l h.0) a.finds ∙ h.1);
+        dropped = λ x h. (h.0, ap (λ l. get_elem? l h.0) a.drops ∙ h.1);
         puts = λ x n. (let q = ap (total (total (is_put x n))) a.stores in omega arith);
       }
       (grew_then c.taken c.through.wrote w (wrote_grew sock.id.0 c.taken c.through.wrote c.through.by) (returned_grew sock.id.0 c.through.wrote w c.through.returned))
@@ -187,6 +200,7 @@ put_grew {S} x word m n put = record {
   marks = λ f note i. (let e = ap (λ (y : Me S View). marks_of f i y.0) put.view in omega arith);
   seen = λ y h. (suc h.0, ap (λ (z : Me S View). get_elem? z.0.found (suc h.0)) put.view ∙ h.1);
   finds = λ y h. (h.0, ap (λ (z : Me S View). get_elem? z.0.finds h.0) put.view ∙ h.1);
+  dropped = λ y h. (h.0, ap (λ (z : Me S View). get_elem? z.0.drops h.0) put.view ∙ h.1);
   puts = λ y k. (let e = ap (λ (z : Me S View). put_in y k z.0) put.view in let m_ = note_more y k record { place = x; word = word } m.0.stores in omega arith);
 }
 
@@ -195,6 +209,7 @@ notes_grew v w s = record {
   marks = λ f note i. (let e = ap (λ l. total f (about i l)) s.marks in omega arith);
   seen = λ x h. (h.0, ap (λ l. get_elem? l h.0) s.found ∙ h.1);
   finds = λ x h. (h.0, ap (λ l. get_elem? l h.0) s.finds ∙ h.1);
+  dropped = λ x h. (h.0, ap (λ l. get_elem? l h.0) s.drops ∙ h.1);
   puts = λ x n. (let q = s.stores x n in omega arith);
 }
 
@@ -208,6 +223,7 @@ created_grew id k v w c = record {
       (λ ne. dite (dec_lt j (socket_id_slot id)) (λ lt. let e = c.tried j lt f in omega arith) (λ ge. let e = ap (total f) (c.elsewhere j (omega arith)) in omega arith));
   seen = λ x h. (h.0, ap (λ l. get_elem? l h.0) c.found ∙ h.1);
   finds = λ x h. (h.0, ap (λ l. get_elem? l h.0) c.finds ∙ h.1);
+  dropped = λ x h. (h.0, ap (λ l. get_elem? l h.0) c.drops ∙ h.1);
   puts = λ x n. (let q = c.stores x n in omega arith);
 }
 
@@ -261,6 +277,7 @@ looked_grew p number noteds.Nothing v w b = record {
   marks = λ f note i. (let e = ap (λ (y : View). marks_of f i y) b.view in omega arith);
   seen = λ x h. (suc h.0, ap (λ (z : View). get_elem? z.found (suc h.0)) b.view ∙ h.1);
   finds = λ x h. (suc h.0, ap (λ (z : View). get_elem? z.finds (suc h.0)) b.view ∙ h.1);
+  dropped = λ x h. (h.0, ap (λ (z : View). get_elem? z.drops h.0) b.view ∙ h.1);
   puts = λ x n. (let e = ap (λ (z : View). put_in x n z) b.view in omega arith);
 }
 looked_grew p number (noteds.Id id) v w b = found_grew (open_index p number) id.0 v w b.1

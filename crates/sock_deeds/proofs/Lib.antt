@@ -25,6 +25,7 @@ pub mod Names
 pub mod Orders
 pub mod Few
 pub mod Losses
+pub mod DropCodes
 pub mod Drops
 pub mod Whole
 pub mod Sent

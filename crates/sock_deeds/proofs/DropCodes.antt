@@ -1,6 +1,6 @@
 -- With which code a life was failed: that of the `fail` of its name that was answered `failed`, or EFAILEDSOCKET where its link failed. And where a dropped message stands.
-use Rattle.std.proofs.Common.{◌≡◌, ◌≢◌, ℕ, zero, suc, ◌+◌, ◌*◌, ◌<◌, ◌≤◌, ◌⊎◌, inl, inr, Bool, true, false, cond, eqb, List, [], ◌∷◌, length, flat_map, map, append-nil, refl, sym, ap, ◌∙◌, subst, arith}
-use Rattle.std.specs.Prelude.{Option, None, slice_index}
+use Rattle.std.proofs.Common.{◌≡◌, ◌≢◌, ℕ, zero, suc, ◌+◌, ◌*◌, ◌<◌, ◌≤◌, ◌⊎◌, inl, inr, true, List, [], ◌∷◌, length, flat_map, map, append-nil, refl, sym, ap, ◌∙◌, subst, arith}
+use Rattle.std.specs.Prelude.{Option, slice_index}
 use mathlib.Core.Logic.{dite}
 use mathlib.Core.Option.{some, some-injective, some-ne-none}
 use native.Mathlib.Decide.{ℕ_discrete, dec_lt}
@@ -26,31 +26,30 @@ use Rattle.sock_model.specs.Layout.{place_index}
 use Rattle.sock_model.specs.Marks.{about}
 use Rattle.sock_model.specs.SlotRows.{marks_of}
 use Rattle.sock_model.specs.Weights.{is_coded, is_failer, is_saw, is_stored, is_told, only, pair, total}
-use Rattle.expire_told.specs.sock_rule.specs.slot_steps.proofs.Numbers.{only_is, pair-same, pair_is, pair_only}
-use Rattle.expire_told.specs.sock_rule.specs.slot_steps.proofs.Sums.{total-append}
-use Rattle.expire_told.specs.sock_rule.specs.Closing.{PlacesDiffer}
-use Rattle.expire_told.specs.sock_rule.specs.OnTable.{is_put, put_in}
-use Rattle.expire_told.specs.sock_rule.specs.declared.homes.Letter.{Letter}
-use Rattle.expire_told.specs.sock_rule.specs.declared.homes.SockHome.{SockHome}
-use Rattle.expire_told.specs.rpc_client.specs.Failing.{TriedTo}
-use Rattle.expire_told.specs.write_chain.specs.Noting.{Noted, nothing, finding, failing}
+use Rattle.slot_steps.proofs.Numbers.{only_is, pair-same, pair_is, pair_only}
+use Rattle.slot_steps.proofs.Sums.{total-append}
+use Rattle.rpc_client.specs.sock_rule.specs.Closing.{PlacesDiffer}
+use Rattle.rpc_client.specs.sock_rule.specs.OnTable.{is_put, put_in}
+use Rattle.rpc_client.specs.sock_rule.specs.declared.homes.SockHome.{SockHome}
+use Rattle.rpc_client.specs.Failing.{TriedTo}
+use Rattle.rpc_client.specs.write_chain.specs.Noting.{Noted, nothing, finding, failing}
 use Rattle.seat_programs.specs.declared.task.Op.TheVariants as ops
 use Rattle.seat_programs.specs.declared.task.Task.{Task}
 use Rattle.seat_programs.specs.Told.{Became}
-use Rattle.expire_told.specs.sock_deeds.specs.Broken.{noted_links}
-use Rattle.expire_told.specs.sock_deeds.specs.Runs.{IsOperation, IsFor, IsMessage, of_send, of_call, seat_of, DeedRun}
-use Rattle.expire_told.specs.sock_deeds.proofs.Accepting.{log, act_of_entry, sent_for, sent_place}
-use Rattle.expire_told.specs.sock_deeds.proofs.Acts.{Act, All, after, before, did_of, done_of, later, has_marks, Late, marks_from, noted_before}
-use Rattle.expire_told.specs.sock_deeds.proofs.Ending.{SetNow, ids_kept}
-use Rattle.expire_told.specs.sock_deeds.proofs.Entries.{on_there}
-use Rattle.expire_told.specs.sock_deeds.proofs.Fails.{FailedLife, life_by, fail_for, failer_once, life_is, made_born}
-use Rattle.expire_told.specs.sock_deeds.proofs.Few.{few_entries}
-use Rattle.expire_told.specs.sock_deeds.proofs.Growing.{back_grew}
-use Rattle.expire_told.specs.sock_deeds.proofs.Lives.{MadeHere, failer_life}
-use Rattle.expire_told.specs.sock_deeds.proofs.Orders.{ends, kept}
-use Rattle.expire_told.specs.sock_deeds.proofs.Places.{map_there, place_low}
-use Rattle.expire_told.specs.sock_deeds.proofs.Sources.{Source, by_open, by_fail, by_set, by_write, done_source}
-use Rattle.expire_told.specs.sock_deeds.proofs.Tasks.{is_for, fits}
+use Rattle.sock_deeds.specs.Broken.{noted_links}
+use Rattle.sock_deeds.specs.Runs.{IsOperation, IsFor, seat_of, DeedRun}
+use Rattle.sock_deeds.proofs.Accepting.{log, act_of_entry}
+use Rattle.sock_deeds.proofs.Acts.{Act, All, after, before, did_of, done_of, later, has_marks, Late, marks_from, noted_before}
+use Rattle.sock_deeds.proofs.Ending.{SetNow, ids_kept}
+use Rattle.sock_deeds.proofs.Entries.{on_there}
+use Rattle.sock_deeds.proofs.Fails.{FailedLife, life_by, fail_for, failer_once, life_is, made_born}
+use Rattle.sock_deeds.proofs.Growing.{back_grew}
+use Rattle.sock_deeds.proofs.Lives.{MadeHere, failer_life}
+use Rattle.sock_deeds.proofs.Losses.{low_entry, few_on}
+use Rattle.sock_deeds.proofs.Orders.{ends, kept}
+use Rattle.sock_deeds.proofs.Places.{map_there, place_low}
+use Rattle.sock_deeds.proofs.Sources.{Source, by_open, by_fail, by_set, by_write, done_source}
+use Rattle.sock_deeds.proofs.Tasks.{is_for}
 
 -- ## Codes among the notes
 
@@ -110,14 +109,6 @@ tried_stored p n code v w t =
     omega (arith, e, s, c)
 
 -- ## Words that were stored
-
-on_short : (k : ℕ) (es : List Entry) → length (on k es) ≤ length es
-on_short k [] = omega arith
-on_short k (e ∷ es) = by_case (eqb e.link k) (on_short k es)
-  where
-    by_case : (b : Bool) → length (on k es) ≤ length es → length (cond b (e ∷ on k es) (on k es)) ≤ suc (length es)
-    by_case true less = omega (arith, less)
-    by_case false less = omega (arith, less)
 
 flat_term : {A B : Type 0} (f : B → ℕ) (l : A → List B) (xs : List A) (c : ℕ) (x : A) → get_elem? xs c ≡ some x → total f (l x) ≤ total f (flat_map l xs)
 flat_term f l [] c x e = absurd (some-ne-none x (sym e))
@@ -205,19 +196,8 @@ module _ {O : Type 0} {g : Ghosts O} {state : O → OutState} {p : Plan} {client
   -- ## Where a dropped message stands
 
   module _ (differ : PlacesDiffer (log run)) (few_operations : p.operations ≤ 65536) (few_links : p.links ≤ 65536) where
-    low_message : (c name number attempt : ℕ) (msg : Letter) → IsMessage clients outcomes c name number attempt msg None → (number < p.operations) × (attempt ≤ 6)
-    low_message c name number attempt msg (of_send bytes is first sent told) = ((fits run c record { number = number; op = ops.Send name bytes } is).0, omega (arith, first))
-    low_message c name number attempt msg (of_call client asked is mine low name_is sent told) = ((fits run client record { number = number; op = ops.Call asked } is).0, low)
-
-    low_entry : (q : ℕ) (e : Entry) → get_elem? (log run) q ≡ some e → (e.heading.place < 8 * p.operations) × (e.link < p.links)
-    low_entry q e at =
-        let w = act_of_entry run q e at in let s = w.1 in
-        let place = sent_place run w.0 e s in
-        let low = low_message w.0.c s.name s.number s.attempt s.msg (sent_for run w.0 e s).0 in let a = low.0 in let b = low.1 in
-        (omega (arith, place, a, b), subst (λ (x : Entry). x.link < p.links) s.entry s.sent.delivered.accepted.inside)
-
-    few_on : (k : ℕ) → length (on k (log run)) ≤ 8 * p.operations
-    few_on k = let a = on_short k (log run) in let b = few_entries (8 * p.operations) (log run) differ (λ i e at. (low_entry i e at).0) in omega (arith, a, b)
+    low_link : (q : ℕ) (e : Entry) → get_elem? (log run) q ≡ some e → e.link < p.links
+    low_link q e at = let s = (act_of_entry run q e at).1 in subst (λ (x : Entry). x.link < p.links) s.entry s.sent.delivered.accepted.inside
 
     -- the message stands behind the placed ones of its link
     pub record IsBehindPlaced (e : Entry) : Type 0 where
@@ -231,19 +211,18 @@ module _ {O : Type 0} {g : Ghosts O} {state : O → OutState} {p : Plan} {client
     pub dropped_stands : (q : ℕ) (e : Entry) → get_elem? (log run) q ≡ some e → (a : Act run) (link position : ℕ) → position < 4294967295 → 0 < put_in (place_index p e.heading.place) (place_value true link position) (after run a) → IsBehindPlaced e × (link ≡ e.link)
     dropped_stands q e at a link position low_position put =
         let l = e.heading.place in let k = e.link in let n = place_value true link position in
-        let low = low_entry q e at in
+        let low = low_entry run differ q e at in let kl = low_link q e at in
         let s = on_there k (log run) q e at refl in let i = s.0 in
         let all = has_puts a (place_index p l) n in
-        let word = (run.closed.dropped l low.0).stays differ n (omega (arith, all, put)) in
+        let word = (run.closed.dropped l low).stays differ n (omega (arith, all, put)) in
         let w : slice_index run.closed.words (place_index p l) ≡ n = word.0 in let high = word.1 in
-        let fifo = ((ends run differ).1 k low.1).fifo in
-        let count = fifo.count in let few_ = few_on k in
+        let fifo = ((ends run differ).1 k kl).fifo in
+        let count = fifo.count in let few_ = few_on run differ k in
         let inside : i < length (on k (log run)) = place_low (on k (log run)) i e s.1 in
-        let kl = low.1 in
         let late : kept run differ k ≤ i = dite (dec_lt i (kept run differ k))
         (λ lt. absurd (let v = fifo.placed i e s.1 lt in omega (arith, v, w, high, count, few_, few_operations, few_links, kl, lt)))
         (λ ge. omega (arith, ge)) in
         let v = fifo.dropped i e s.1 late in (
-          record { position = i; inside = low.1; there = s.1; behind = late; less = inside },
+          record { position = i; inside = kl; there = s.1; behind = late; less = inside },
           omega (arith, v, w, low_position, few_, few_operations, inside),
         )
