@@ -31,7 +31,7 @@ use Rattle.expire_told.specs.call_told.proofs.Answering.{noted_place}
 -- ## By a response
 
 -- an outcome with a code is none of a response that can be read
-is_no_answer : (id ended code : ℕ) (f : Frame) (z : ℤ) → outcome_of_code id f z ≡ CallFailed ended code → ⊥
+pub is_no_answer : (id ended code : ℕ) (f : Frame) (z : ℤ) → outcome_of_code id f z ≡ CallFailed ended code → ⊥
 is_no_answer id ended code f (pos zero) e = cc
 is_no_answer id ended code f (pos (suc n)) e = cc
 is_no_answer id ended code f (negsuc n) e = cc

@@ -8,6 +8,7 @@ pub mod Posters
 pub mod Queued
 pub mod Verdicts
 pub mod Behind
+pub mod ReadCodes
 pub mod Losses
 pub mod Single
 pub mod Reaching

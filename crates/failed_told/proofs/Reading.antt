@@ -62,7 +62,7 @@ code_at : (code w : ℕ) → code_of (error_in code (attempt_at w)) ≡ code
 code_at code w = elim (nat_lt (at_word_attempt w) 7) as (λ (b : Bool). code_of (error_in code (if b then Some (at_word_attempt w) else None)) ≡ code) [ true ↦ coded code (at_word_attempt w) (omega arith) | false ↦ coded code 7 (omega arith) ]
 
 -- memory was never wanting
-loss_code : (h : How) → is_starved h ≡ false → IsReadCode (reading.code_of h)
+pub loss_code : (h : How) → is_starved h ≡ false → IsReadCode (reading.code_of h)
 loss_code how.Fault calm = inr refl
 loss_code how.NoMemory calm = let k : true ≡ false = calm in absurd (cc)
 loss_code other calm = inl refl
