@@ -34,7 +34,7 @@ pub fn issue(
     // It keeps its limits.
     let _ = call.name(attempt);
     let meta = request_meta(alloc, call, id + u64::from(attempt) + 1)?;
-    encode(alloc, pool, &meta, &call.payload, &call.attachment)
+    encode(alloc, pool, &meta, call.payload(), call.attachment())
 }
 
 // The meta of the call's request under this correlation id.
@@ -46,8 +46,8 @@ fn request_meta(alloc: Global, call: &Call, correlation_id: u64) -> Result<RpcMe
     ensures short { IfOk result (λ m. length (meta_bytes (meaning m)) < 512) }
 {
     let request = RequestMeta {
-        service: MetaBytes::copy(alloc, &call.service)?,
-        method: MetaBytes::copy(alloc, &call.method)?,
+        service: MetaBytes::copy(alloc, call.service())?,
+        method: MetaBytes::copy(alloc, call.method())?,
         log_id: None,
     };
     Ok(RpcMeta {
@@ -55,6 +55,6 @@ fn request_meta(alloc: Global, call: &Call, correlation_id: u64) -> Result<RpcMe
         response: None,
         compress_type: 0,
         correlation_id,
-        attachment_size: call.attachment.len() as i32,
+        attachment_size: call.attachment().len() as i32,
     })
 }

@@ -45,8 +45,8 @@ impl CallFrame {
         ensures { IfOk result (λ f. f ≡ record { bytes = frame_of call.now id attempt; parts = parts_of call.now id attempt }) }
     {
         let buf = issue(alloc, pool, call, id, attempt)?;
-        let payload = call.payload.len();
-        let attachment = call.attachment.len();
+        let payload = call.payload().len();
+        let attachment = call.attachment().len();
         let head = buf.len() - (payload + attachment);
         // Each piece has some byte, and at most a block's.
         let _ = buf.refs();

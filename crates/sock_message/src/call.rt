@@ -5,24 +5,28 @@ use io_buf::{BlockPool, IoBuf, NoMemory};
 use std::alloc::Global;
 use std::marker::Model;
 
-/// A call, as its client asks for it (bRPC's bthread_id.md). It is handed from thread to thread with the lock of its id.
-/// Contracts see what is asked.
+/// A call, as its client asks for it (bRPC's bthread_id.md). It is handed from thread to thread with the lock of its id, so
+/// all but two of its numbers lie in memory of their own. Contracts see what is asked.
 #[derive(Drop)]
 pub struct Call {
     /// The number of its operation in the script.
     pub operation: u16,
-    /// The numbers of the names to which its attempts go in turn: one, or two.
-    pub names: Vec<u16>,
-    /// The service's name, at most 64 bytes.
-    pub service: Vec<u8>,
-    /// The method's name, at most 64 bytes.
-    pub method: Vec<u8>,
-    /// In blocks of 8,192 bytes from its start, as its attachment.
-    pub payload: IoBuf,
-    /// At most 65,280 bytes together with the payload.
-    pub attachment: IoBuf,
     /// How many versions its id has: one for the whole call and one for each attempt, 2 to 8.
     pub range: u8,
+    body: Box<Body>,
+}
+
+// What is asked of whom.
+#[derive(Drop)]
+struct Body {
+    // The numbers of the names to which its attempts go in turn: one, or two.
+    names: Vec<u16>,
+    // At most 64 bytes each.
+    service: Vec<u8>,
+    method: Vec<u8>,
+    // In blocks of 8,192 bytes from its start, as its attachment; at most 65,280 bytes both together.
+    payload: IoBuf,
+    attachment: IoBuf,
 }
 
 impl Model for Call {
@@ -33,15 +37,15 @@ impl Model for Call {
 
     ghost view = { λ c. record {
       operation = c.operation;
-      names = c.names.items;
-      service = c.service.items;
-      method = c.method.items;
-      payload = c.payload.items;
-      attachment = c.attachment.items;
+      names = c.body.value.names.items;
+      service = c.body.value.service.items;
+      method = c.body.value.method.items;
+      payload = c.body.value.payload.items;
+      attachment = c.body.value.attachment.items;
       range = c.range;
     } };
 
-    ghost invariant = { λ c. KeepsLimits (record { operation = c.operation; names = c.names.items; service = c.service.items; method = c.method.items; payload = c.payload.items; attachment = c.attachment.items; range = c.range }) × LiesInBlocks c.payload × LiesInBlocks c.attachment };
+    ghost invariant = { λ c. KeepsLimits (record { operation = c.operation; names = c.body.value.names.items; service = c.body.value.service.items; method = c.body.value.method.items; payload = c.body.value.payload.items; attachment = c.body.value.attachment.items; range = c.range }) × LiesInBlocks c.body.value.payload × LiesInBlocks c.body.value.attachment };
 }
 
 impl Call {
@@ -63,18 +67,17 @@ impl Call {
         requires { KeepsLimits (record { operation = operation; names = names.items; service = service.now; method = method.now; payload = payload.now; attachment = attachment.now; range = range }) }
         ensures { IfOk result (λ c. c ≡ record { operation = operation; names = names.items; service = service.now; method = method.now; payload = payload.now; attachment = attachment.now; range = range }) }
     {
-        let service = Vec::from_slice(alloc, service)?;
-        let method = Vec::from_slice(alloc, method)?;
-        let payload = in_blocks(alloc, pool, payload)?;
-        let attachment = in_blocks(alloc, pool, attachment)?;
+        let body = Body {
+            names,
+            service: Vec::from_slice(alloc, service)?,
+            method: Vec::from_slice(alloc, method)?,
+            payload: in_blocks(alloc, pool, payload)?,
+            attachment: in_blocks(alloc, pool, attachment)?,
+        };
         Ok(Call {
             operation,
-            names,
-            service,
-            method,
-            payload,
-            attachment,
             range,
+            body: Box::new(alloc, body)?,
         })
     }
 
@@ -82,16 +85,49 @@ impl Call {
     pub fn share(&self) -> Result<Call, NoMemory>
         ensures { IfOk result (λ c. c ≡ self.now) }
     {
-        let alloc = *self.names.allocator();
+        let alloc = *self.body.names.allocator();
+        let body = Body {
+            names: Vec::from_slice(alloc, &self.body.names)?,
+            service: Vec::from_slice(alloc, &self.body.service)?,
+            method: Vec::from_slice(alloc, &self.body.method)?,
+            payload: self.body.payload.share()?,
+            attachment: self.body.attachment.share()?,
+        };
         Ok(Call {
             operation: self.operation,
-            names: Vec::from_slice(alloc, &self.names)?,
-            service: Vec::from_slice(alloc, &self.service)?,
-            method: Vec::from_slice(alloc, &self.method)?,
-            payload: self.payload.share()?,
-            attachment: self.attachment.share()?,
             range: self.range,
+            body: Box::new(alloc, body)?,
         })
+    }
+
+    /// The service's name, at most 64 bytes.
+    pub fn service(&self) -> &[u8]
+        ensures { result.now ≡ self.now.service }
+    {
+        self.body.service.as_slice()
+    }
+
+    /// The method's name, at most 64 bytes.
+    pub fn method(&self) -> &[u8]
+        ensures { result.now ≡ self.now.method }
+    {
+        self.body.method.as_slice()
+    }
+
+    /// In blocks of 8,192 bytes from its start, as its attachment.
+    pub fn payload(&self) -> &IoBuf
+        ensures bytes { result.now.items ≡ self.now.payload }
+        ensures blocks { LiesInBlocks result.now }
+    {
+        &self.body.payload
+    }
+
+    /// At most 65,280 bytes together with the payload.
+    pub fn attachment(&self) -> &IoBuf
+        ensures bytes { result.now.items ≡ self.now.attachment }
+        ensures blocks { LiesInBlocks result.now }
+    {
+        &self.body.attachment
     }
 
     /// The number of the name to which an attempt goes, which is counted from 0: of two names they take turns.
@@ -99,10 +135,11 @@ impl Call {
         ensures name { result ≡ name_of self.now attempt }
         ensures limits { KeepsLimits self.now }
     {
-        if self.names.len() == 1 || attempt % 2 == 0 {
-            self.names[0]
+        let names = &self.body.names;
+        if names.len() == 1 || attempt % 2 == 0 {
+            names[0]
         } else {
-            self.names[1]
+            names[1]
         }
     }
 }

@@ -9,8 +9,8 @@ pub invariant_of-result : goal.invariant_of-result
 invariant_of-result c =
     let asked : Asked = c.args.call.now in
     let head : ℕ = head_of asked c.args.id c.args.attempt in
-    let is_payload : c.len-payload.result ≡ length asked.payload = c.len-payload.ensures ∙ ap (λ (a : Asked). length a.payload) c.call.view_is in
-    let is_attachment : c.len-attachment.result ≡ length asked.attachment = c.len-attachment.ensures ∙ ap (λ (a : Asked). length a.attachment) c.call.view_is in
+    let is_payload : c.len-payload.result ≡ length asked.payload = c.len-payload.ensures ∙ ap length c.payload.ensures.bytes in
+    let is_attachment : c.len-attachment.result ≡ length asked.attachment = c.len-attachment.ensures ∙ ap length c.attachment.ensures.bytes in
     let many : length c.in_ok-buf.buf.items ≡ length (frame_of asked c.args.id c.args.attempt) = ap length c.in_ok-buf.ensures.bytes in
     let is_head : c.len.result - (c.len-payload.result + c.len-attachment.result) ≡ head = omega (arith, c.len.ensures, is_payload, is_attachment, many) in
     let each : All IsSize (head ∷ block_sizes (length asked.payload) ++ block_sizes (length asked.attachment)) = subst (λ (l : List ℕ). All IsSize l) c.in_ok-buf.ensures.pieces c.refs.ensures.each in
