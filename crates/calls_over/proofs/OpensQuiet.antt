@@ -61,7 +61,7 @@ use Rattle.served_fits.specs.send_causes.proofs.AttemptedStored.{played_leads}
 use Rattle.served_fits.specs.send_causes.proofs.Early.{start, go, fitting, closed_early}
 use Rattle.served_fits.specs.send_causes.proofs.Faults.{Faults, fault_stays}
 use Rattle.served_fits.specs.send_causes.proofs.Sends.{owed}
-use Rattle.served_fits.specs.send_causes.proofs.Storied.{run_tells, failed_early}
+use Rattle.outcome_causes.proofs.Scripts.{run_tells, failed_early}
 use Rattle.served_fits.specs.served_runs.specs.Offered.{OffersInRun}
 use Rattle.served_fits.specs.served_runs.specs.Served.{IsForCalls}
 use Rattle.served_fits.specs.served_runs.proofs.Ends.{Holds}

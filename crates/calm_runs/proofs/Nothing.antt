@@ -32,7 +32,7 @@ use Rattle.send_causes.specs.programs_allowed.specs.Openings.{all_seats}
 use Rattle.send_causes.specs.programs_allowed.proofs.Fresh.{opening_fresh}
 use Rattle.send_causes.specs.joint_runs.proofs.Runs.{AreMade, first_views}
 use Rattle.send_causes.proofs.Early.{start, go, fitting, known}
-use Rattle.send_causes.proofs.Storied as stories
+use Rattle.send_causes.specs.outcome_causes.proofs.Scripts as stories
 use Rattle.send_causes.specs.owed_calls.specs.Settled.{IsAtRest}
 use Rattle.calm_runs.specs.Calm.{IsCalm}
 use Rattle.calm_runs.proofs.Along.{calm_setup, calm_along, StaysQuiet, quiet_along}

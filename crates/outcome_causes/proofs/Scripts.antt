@@ -1,6 +1,6 @@
 -- The run of a script with calls tells why each of its tasks but those on calls has its outcome, and what its links accepted.
 use Rattle.std.proofs.Common.{true, false, ◌≡◌, ℕ, zero, suc, ◌+◌, ◌<◌, arith, ◌⊎◌, inl, inr, ◌++◌, List, [], ◌∷◌, length, replicate, ⊎_elim, refl, sym, ap, ◌∙◌, subst}
-use Rattle.std.specs.Prelude.{◌&&◌, Bool, Option, Some, None, option_map, slice_get}
+use Rattle.std.specs.Prelude.{Contains, ◌&&◌, Bool, Option, Some, None, option_map, slice_get}
 use Rattle.std.specs.List.{AllByRecursion, filter_map, cons_option}
 use mathlib.Core.Option.{some}
 use lib.ListN.{get_elem?}
@@ -22,6 +22,8 @@ use Rattle.sock_runs.specs.Sound.{views_along}
 use Rattle.sock_runs.proofs.LinkTicks.{RetriesGo}
 use Rattle.sock_runs.proofs.Along.{seat_rests}
 use Rattle.sock_runs.proofs.Whole.{Begins, AreFittingIn, IsOwed, closing_of, views_played, views_closed, views_ended, set_up_answered, end_answered, rested_ahead, rested_idle, closing_sound, closed_sound, ended_sound, end_rests}
+use Rattle.sock_model.specs.Links.{Failed}
+use Rattle.sock_runs.specs.Sound.{state}
 use Rattle.outcome_causes.specs.Stories.{Event, In}
 use Rattle.outcome_causes.specs.Losses.{lost_in}
 use Rattle.outcome_causes.specs.PlainTasks.{told_tasks_of, OwnsCall}
@@ -43,7 +45,7 @@ use Rattle.outcome_causes.proofs.Outcomes.{IsSaidOf, said_keeps, run_said, made_
 use Rattle.seat_programs.specs.ToldCalls.{Order}
 use Rattle.outcome_causes.proofs.Delivered.{orders_of}
 use Rattle.outcome_causes.proofs.Whys.{Timely}
-use Rattle.outcome_causes.proofs.Told.{told_tasks, drops_told}
+use Rattle.outcome_causes.proofs.Told.{Tells, told_so, told_tasks, drops_told}
 
 -- ## Calls know their numbers
 
@@ -91,7 +93,7 @@ module _ (script : List Item) (are : AreTasks (plan_of script) (all_tasks script
   pub seats : AreTasks (plan_of script) (told_tasks_of script)
   seats = are_seats (plan_of script) (all_tasks script) are (length (opens script))
 
-  first : IsStoried (plan_of script) (told_tasks_of script) seats false (opened script) vs
+  pub first : IsStoried (plan_of script) (told_tasks_of script) seats false (opened script) vs
   first = record {
     events = [];
     lost = [];
@@ -99,17 +101,17 @@ module _ (script : List Item) (are : AreTasks (plan_of script) (all_tasks script
     story = start_story (plan_of script) (id_plan_of script) (told_tasks_of script) seats _ (all_explained (plan_of script) (all_tasks script) are (length (opens script)) (id_plan_of script) (own_from script 0 (clients script + 1)) (calls script) (opens script) refl) vs fresh begins.sound;
   }
 
-  abbrev views_set : List View
+  abbrev pub views_set : List View
   views_set = views_along (plan_of script) (opened script) vs (replicate is.setup (quiet 0))
 
-  set_up_told : (g : Goes (plan_of script) (told_tasks_of script) seats false (replicate is.setup (quiet 0)) (opened script) vs first) × ((e : Event) → In e g.after.events → e.client ≡ 0)
+  pub set_up_told : (g : Goes (plan_of script) (told_tasks_of script) seats false (replicate is.setup (quiet 0)) (opened script) vs first) × ((e : Event) → In e g.after.events → e.client ≡ 0)
   unfolding first
   set_up_told = setup_runs (plan_of script) (told_tasks_of script) seats go is.setup (opened script) vs (set_up_answered script are vs begins go turns core is fitting) fitting.of_setup first (λ e m. absurd m)
 
-  over : (s : IsStoried (plan_of script) (told_tasks_of script) seats true (set_up script is.setup) views_set) × (s.events ≡ set_up_told.0.after.events) × (s.lost ≡ set_up_told.0.after.lost)
+  pub over : (s : IsStoried (plan_of script) (told_tasks_of script) seats true (set_up script is.setup) views_set) × (s.events ≡ set_up_told.0.after.events) × (s.lost ≡ set_up_told.0.after.lost)
   over = set_up_over (plan_of script) (told_tasks_of script) seats (set_up script is.setup) views_set set_up_told.0.after is.is_set_up
 
-  played_told : Goes (plan_of script) (told_tasks_of script) seats true (is.scheduled ++ is.later) (set_up script is.setup) views_set over.0
+  pub played_told : Goes (plan_of script) (told_tasks_of script) seats true (is.scheduled ++ is.later) (set_up script is.setup) views_set over.0
   played_told = seats_run (plan_of script) (told_tasks_of script) seats go (is.scheduled ++ is.later) (set_up script is.setup) views_set is.answered fitting.of_played over.0
 
   -- seat 0 begins the ending
@@ -161,7 +163,7 @@ module _ (script : List Item) (are : AreTasks (plan_of script) (all_tasks script
   lost_four = lost_in (plan_of script) is.ended is.final
 
   -- each link that was lost was so in a tick of the run
-  lost_where : (k : ℕ) → In k final_told.after.lost → In k (lost_of_run script turns core is)
+  pub lost_where : (k : ℕ) → In k final_told.after.lost → In k (lost_of_run script turns core is)
   unfolding first closing_told ended_told
   lost_where k m = ⊎_elim
       (λ d. ⊎_elim
@@ -185,7 +187,7 @@ module _ (script : List Item) (are : AreTasks (plan_of script) (all_tasks script
   abbrev pub lost_before : List ℕ
   lost_before = lost_one ++ lost_two
 
-  before_within : (k : ℕ) → In k played_told.after.lost → In k lost_before
+  pub before_within : (k : ℕ) → In k played_told.after.lost → In k lost_before
   unfolding first
   before_within k m = ⊎_elim (λ a. ⊎_elim (λ z. absurd z) (λ z. in_left k lost_one lost_two z) (set_up_told.0.losses k (subst (In k) over.2 a))) (λ a. in_right k lost_one lost_two a) (played_told.losses k m)
 
@@ -207,7 +209,7 @@ module _ (script : List Item) (are : AreTasks (plan_of script) (all_tasks script
       by None e = ap (λ z. (elim z as (λ x. Bool) [ None ↦ false | Some x ↦ elim x as (λ y. Bool) [ None ↦ true | Some outcome ↦ false ] ]) && is_told script turns core is core o) e
           ∙ ap (λ z. elim z as (λ x. Bool) [ None ↦ false | Some x ↦ elim x as (λ y. Bool) [ None ↦ false | Some outcome ↦ true ] ]) said_.1
 
-  timely : Timely (plan_of script) (told_tasks_of script) core.outcomes final_told.after.events lost_before late
+  pub timely : Timely (plan_of script) (told_tasks_of script) core.outcomes final_told.after.events lost_before late
   unfolding closing_told ended_told
   timely = record {
     story = played_told.after.events;
@@ -238,3 +240,16 @@ module _ (script : List Item) (are : AreTasks (plan_of script) (all_tasks script
     pub run_drops : DropsMade (told_tasks_of script) core.outcomes (MadeInRun script turns core is)
     run_drops = drops_told (plan_of script) (told_tasks_of script) seats true core (views_ended script turns core is vs) final_told.after.events final_told.after.lost (lost_of_run script turns core is) lost_where
         (ended_sound script are vs begins go turns core is fitting) story_end (end_rests script are vs begins go turns core is fitting owed) lost_before late timely (MadeInRun script turns core is) made_where
+
+    -- and each link that failed before the ending did so by a cause that counts
+    pub run_tells : Tells (plan_of script) (told_tasks_of script) seats true core (views_ended script turns core is vs) final_told.after.events final_told.after.lost (lost_of_run script turns core is) lost_where
+        (ended_sound script are vs begins go turns core is fitting) story_end (end_rests script are vs begins go turns core is fitting owed) lost_before late timely
+    run_tells = told_so (plan_of script) (told_tasks_of script) seats true core (views_ended script turns core is vs) final_told.after.events final_told.after.lost (lost_of_run script turns core is) lost_where
+        (ended_sound script are vs begins go turns core is fitting) story_end (end_rests script are vs begins go turns core is fitting owed) lost_before late timely
+
+    -- a link whose life was failed before the ending was so by an operation that counts, or was lost by then
+    pub failed_early : (k : ℕ) → Failed (plan_of script) (state (played script is.setup (is.scheduled ++ is.later)) (views_played script turns core is vs)) k → Contains lost_before k ⊎ ((fail : ℕ) × Contains run_tells.tells.fails (fail, k))
+    unfolding timely
+    failed_early k f = let t = played_told.after in let tie = t.story.links f.slot f.life.inside f.version k in
+        run_tells.early f.slot f.version k (omega (arith, tie, f.life.given))
+        (⊎_elim (λ was. inl was) (λ lost. inr (lost.0, before_within lost.0 lost.1, lost.2)) (t.story.lost f.slot f.life.inside f.version f.failed))

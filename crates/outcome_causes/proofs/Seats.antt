@@ -103,6 +103,29 @@ starts Own c todo es is idle = sym idle
 starts Beside c todo es is idle = idle
 starts Closing c todo es is idle = absurd is
 
+-- where the steps are the same: by another program, in another view, and with other outcomes and links of which what is said of the seat's tasks holds
+keeps : {p : Plan} {calls : ℕ → Type 0} {over : Bool} {es : List Event} {broken more : List ℕ} {os os' : List (Option Outcome)} {c : ℕ} {tasks : List Task} {way : Way} {trace : List Entry} {done : List Done} {todo : List Task} {program next : Program} {v w : View}
+    → AllByRecursion (λ (y : Done). slice_get os' y.task.number ≡ Some y.outcome) done → AllByRecursion (λ (u : Task). slice_get os' u.number ≡ Some None) todo → ExplainsBy p.slots p.requests calls way more done trace todo next
+    → ((i h : ℕ) → holds i h trace ≤ marks_of (is_hold h) i w) → AreClaims es trace w.claims → w.lists ≡ v.lists → SeatAt p calls over es broken os c tasks way trace done todo program v → SeatAt p calls over es more os' c tasks way trace done todo next w
+keeps became unsaid explains holding claims lists s = record {
+  set_up = s.set_up;
+  closes = s.closes;
+  traced = s.traced;
+  all = s.all;
+  became = became;
+  unsaid = unsaid;
+  kept = s.kept;
+  past = s.past;
+  explains = explains;
+  holding = holding;
+  linked = s.linked;
+  claims = claims;
+  made = s.made;
+  lists = lists ∙ s.lists;
+  are_made = s.are_made;
+  of_calls = s.of_calls;
+}
+
 module _ (p : Plan) (calls : ℕ → Type 0) (over : Bool) (es : List Event) (broken : List ℕ) (c : ℕ) (tasks : List Task) (order : EachBefore Less tasks) (apart : (t : Task) → In t tasks → calls t.number → ⊥) (v : View) where
   -- the seat's part of the story, where its outcomes are these
   abbrev At : Way → List Entry → List (Option Outcome) → List Done → List Task → Program → Type 0
@@ -145,45 +168,13 @@ module _ (p : Plan) (calls : ℕ → Type 0) (over : Bool) (es : List Event) (br
   -- something is said of a call, which is none of the tasks
   call_done : (way : Way) (trace : List Entry) (os : List (Option Outcome)) (done : List Done) (todo : List Task) (o : ℕ) (outcome : Outcome) (program more : Program) → calls o → ExplainsBy p.slots p.requests calls way broken done trace todo more
       → At way trace os done todo program → At way trace (set os o (Some outcome)) done todo more
-  call_done way trace os done todo o outcome program more of_call explains s = let stays = λ (t : Task) (m : In t (undo done todo)). get_set_else os o t.number (Some outcome) (λ e. apart t (subst (In t) (sym s.all) m) (subst calls e of_call)) in record {
-    set_up = s.set_up;
-    closes = s.closes;
-    traced = s.traced;
-    all = s.all;
-    became = all_of (λ (y : Done). slice_get (set os o (Some outcome)) y.task.number ≡ Some y.outcome) done (λ y m. stays y.task (undo_done done todo y m) ∙ all_in (λ (y : Done). slice_get os y.task.number ≡ Some y.outcome) done y s.became m);
-    unsaid = all_of (λ (u : Task). slice_get (set os o (Some outcome)) u.number ≡ Some None) todo (λ u m. stays u (undo_in done todo u m) ∙ all_in (λ (u : Task). slice_get os u.number ≡ Some None) todo u s.unsaid m);
-    kept = s.kept;
-    past = s.past;
-    explains = explains;
-    holding = s.holding;
-    linked = s.linked;
-    claims = s.claims;
-    made = s.made;
-    lists = s.lists;
-    are_made = s.are_made;
-    of_calls = s.of_calls;
-  }
+  call_done way trace os done todo o outcome program more of_call explains s = let stays = λ (t : Task) (m : In t (undo done todo)). get_set_else os o t.number (Some outcome) (λ e. apart t (subst (In t) (sym s.all) m) (subst calls e of_call)) in
+      keeps (all_of (λ (y : Done). slice_get (set os o (Some outcome)) y.task.number ≡ Some y.outcome) done (λ y m. stays y.task (undo_done done todo y m) ∙ all_in (λ (y : Done). slice_get os y.task.number ≡ Some y.outcome) done y s.became m))
+      (all_of (λ (u : Task). slice_get (set os o (Some outcome)) u.number ≡ Some None) todo (λ u m. stays u (undo_in done todo u m) ∙ all_in (λ (u : Task). slice_get os u.number ≡ Some None) todo u s.unsaid m)) explains s.holding s.claims refl s
 
   -- the same tasks by another program
   goes_on : (way : Way) (trace : List Entry) (os : List (Option Outcome)) (done : List Done) (todo : List Task) (program next : Program) → ExplainsBy p.slots p.requests calls way broken done trace todo next → At way trace os done todo program → At way trace os done todo next
-  goes_on way trace os done todo program next explains s = record {
-    set_up = s.set_up;
-    closes = s.closes;
-    traced = s.traced;
-    all = s.all;
-    became = s.became;
-    unsaid = s.unsaid;
-    kept = s.kept;
-    past = s.past;
-    explains = explains;
-    holding = s.holding;
-    linked = s.linked;
-    claims = s.claims;
-    made = s.made;
-    lists = s.lists;
-    are_made = s.are_made;
-    of_calls = s.of_calls;
-  }
+  goes_on way trace os done todo program next explains s = keeps s.became s.unsaid explains s.holding s.claims refl s
 
   -- from a place between operations on
   begins : (way w : Way) (trace : List Entry) (os : List (Option Outcome)) (done : List Done) (todo : List Task) (program next : Program) → IsBare way trace → IsTasked w → (w ≡ Closing → ⊥) → ExplainsBy p.slots p.requests calls w broken done [] todo next
@@ -318,24 +309,8 @@ module _ (p : Plan) (calls : ℕ → Type 0) (over : Bool) (es : List Event) (br
   pub seat_else : (c d : ℕ) → c ≢ d → (new_todo : List Task) (entry : Entry) (tasks : List Task) (way : Way) (trace : List Entry) (done : List Done) (todo : List Task) (program : Program) (v : View) (os' : List (Option Outcome))
       → ((t : Task) → In t (undo done todo) → slice_get os' t.number ≡ slice_get os t.number)
       → SeatAt p calls over es broken os d tasks way trace done todo program v → SeatAt p calls over (told_of c new_todo entry es) more os' d tasks way trace done todo program v
-  seat_else c d ne [] entry tasks way trace done todo program v os' same s = record {
-    set_up = s.set_up;
-    closes = s.closes;
-    traced = s.traced;
-    all = s.all;
-    became = became_same os' tasks done todo same s.became;
-    unsaid = unsaid_same os' tasks done todo same s.unsaid;
-    kept = s.kept;
-    past = s.past;
-    explains = explains_more p.slots p.requests calls way program broken more done trace todo within s.explains;
-    holding = s.holding;
-    linked = s.linked;
-    claims = s.claims;
-    made = s.made;
-    lists = s.lists;
-    are_made = s.are_made;
-    of_calls = s.of_calls;
-  }
+  seat_else c d ne [] entry tasks way trace done todo program v os' same s = keeps (became_same os' tasks done todo same s.became) (unsaid_same os' tasks done todo same s.unsaid)
+      (explains_more p.slots p.requests calls way program broken more done trace todo within s.explains) s.holding s.claims refl s
   seat_else c d ne (n ∷ ns) entry tasks way trace done todo program v os' same s = let e : Event = record { client = c; number = n.number; entry = entry } in
       let now : trace_now d todo (e ∷ es) ≡ trace_now d todo es = unchanged todo in
       let past_same = all_of (λ (x : Done). trace_of d x.task.number (e ∷ es) ≡ trace_of d x.task.number es) done (λ x m. trace_client d x.task.number e es ne) in record {
@@ -364,24 +339,8 @@ module _ (p : Plan) (calls : ℕ → Type 0) (over : Bool) (es : List Event) (br
   -- a move or a put of this client, which changes its right alone, or a step aside
   pub seat_moves : (c : ℕ) (tasks : List Task) (way : Way) (trace : List Entry) (done : List Done) (todo : List Task) (program next : Program) (v w : View) → w.marks ≡ v.marks → w.claims ≡ v.claims → w.lists ≡ v.lists
       → ExplainsBy p.slots p.requests calls way more done trace todo next → SeatAt p calls over es broken os c tasks way trace done todo program v → SeatAt p calls over es more os c tasks way trace done todo next w
-  seat_moves c tasks way trace done todo program next v w marks claims lists explains s = record {
-    set_up = s.set_up;
-    closes = s.closes;
-    traced = s.traced;
-    all = s.all;
-    became = s.became;
-    unsaid = s.unsaid;
-    kept = s.kept;
-    past = s.past;
-    explains = explains;
-    holding = λ i h. subst (λ ms. holds i h trace ≤ marks_of (is_hold h) i (record w { marks = ms })) (sym marks) (s.holding i h);
-    linked = s.linked;
-    claims = subst (AreClaims es trace) (sym claims) s.claims;
-    made = s.made;
-    lists = lists ∙ s.lists;
-    are_made = s.are_made;
-    of_calls = s.of_calls;
-  }
+  seat_moves c tasks way trace done todo program next v w marks claims lists explains s = keeps s.became s.unsaid explains (λ i h. subst (λ ms. holds i h trace ≤ marks_of (is_hold h) i (record w { marks = ms })) (sym marks) (s.holding i h))
+      (subst (AreClaims es trace) (sym claims) s.claims) lists s
 
 -- a step of this client
 module _ (p : Plan) (calls : ℕ → Type 0) (over : Bool) (es : List Event) (broken more : List ℕ) (within : Within broken more) (os : List (Option Outcome)) (c : ℕ) (tasks : List Task) (order : EachBefore Less tasks) (trace : List Entry) (done : List Done) (call : Call) (next : ℕ → Program) (v w : View) (found : ℕ) where
@@ -393,45 +352,11 @@ module _ (p : Plan) (calls : ℕ → Type 0) (over : Bool) (es : List Event) (br
 
   -- behind the last task
   pub seat_ends : SeatAt p calls over es broken os c tasks Own trace done [] (Do call next) v → w.lists ≡ v.lists → SeatAt p calls over es broken os c tasks Own trace done [] (next found) w
-  seat_ends s lists = record {
-    set_up = s.set_up;
-    closes = s.closes;
-    traced = s.traced;
-    all = s.all;
-    became = s.became;
-    unsaid = s.unsaid;
-    kept = s.kept;
-    past = s.past;
-    explains = s.explains.1 found;
-    holding = nothing_held s.traced;
-    linked = s.linked;
-    claims = none_claimed s.traced;
-    made = s.made;
-    lists = lists ∙ s.lists;
-    are_made = s.are_made;
-    of_calls = s.of_calls;
-  }
+  seat_ends s lists = keeps s.became s.unsaid (s.explains.1 found) (nothing_held s.traced) (none_claimed s.traced) lists s
 
   -- where it closes sockets
   pub seat_closes : (todo : List Task) → SeatAt p calls over es broken os c tasks Closing trace done todo (Do call next) v → w.lists ≡ v.lists → SeatAt p calls over es more os c tasks Closing trace done todo (next found) w
-  seat_closes todo s lists = record {
-    set_up = s.set_up;
-    closes = s.closes;
-    traced = s.traced;
-    all = s.all;
-    became = s.became;
-    unsaid = s.unsaid;
-    kept = s.kept;
-    past = s.past;
-    explains = explains_more p.slots p.requests calls Closing (next found) broken more done trace todo within (s.explains.1 found);
-    holding = nothing_held s.traced.0;
-    linked = s.linked;
-    claims = none_claimed s.traced.0;
-    made = s.made;
-    lists = lists ∙ s.lists;
-    are_made = s.are_made;
-    of_calls = s.of_calls;
-  }
+  seat_closes todo s lists = keeps s.became s.unsaid (explains_more p.slots p.requests calls Closing (next found) broken more done trace todo within (s.explains.1 found)) (nothing_held s.traced.0) (none_claimed s.traced.0) lists s
 
   -- beside the tasks
   pub seat_beside : (todo : List Task) → SeatAt p calls over es broken os c tasks Beside trace done todo (Do call next) v → ((i h : ℕ) → holds i h (step call found ∷ trace) ≤ marks_of (is_hold h) i w) → ((i h : ℕ) → call ≡ FindLink i h → WasGiven es i h found)

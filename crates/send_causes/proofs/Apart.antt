@@ -47,9 +47,6 @@ pair_self id n i m e f = ap (λ b. cond b (cond (eqb m n) 1 0) 0) (eq-eqb i id e
 
 module _ (p : Plan) (q : IdPlan) (is_call : Asked → Type 0) (ids : ℕ → ℕ) (clients : List (List Task)) (are : AreTasks p clients) (c : Core) (vs : List View) (es : List Event) (lost : List ℕ) (sound : Sound p c vs) (story : Story p clients true c vs es lost) (settled : AllRest c)
     (ts : List Trial) (law : LabelLaw is_call ids p q c vs ts) where
-  Sent : ℕ → ℕ → Entry → Type 0
-  Sent i n e = HasSent vs i n e
-
   fits : (i n : ℕ) (e : Entry) → HasSent vs i n e → EntryFits is_call ids p e
   fits i n e h = let all = (law.views i h.view h.here).1 in all_in (EntryFits is_call ids p) h.made e (subst (AllByRecursion (AllByRecursion (EntryFits is_call ids p))) h.lists all).0 (in_of_at h.made n e h.stands)
 
@@ -58,9 +55,6 @@ module _ (p : Plan) (q : IdPlan) (is_call : Asked → Type 0) (ids : ℕ → ℕ
   of_call_fits i n e h not_ = ⊎_elim
       (λ none_. let z : is_of_send e ≡ true = ap (λ l. elim l as (λ l. Bool) [ [] ↦ true | x ∷ xs ↦ false ]) none_.1 in absurd (true≢false (sym z ∙ not_)))
       (λ x. x) (fits i n e h).0
-
-  Message : ℕ → Entry → Type 0
-  Message i e = IsMessage p clients are true c vs es lost sound story settled i e
 
   module _ (i n : ℕ) (e : Entry) (h : HasSent vs i n e) (is : is_of_send e ≡ true) where
     abbrev message : IsMessage p clients are true c vs es lost sound story settled i e

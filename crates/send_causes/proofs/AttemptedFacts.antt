@@ -55,9 +55,6 @@ module _ (p : Plan) (q : IdPlan) (clients : List (List Task)) (gives : ℕ → L
     may_at : (j : ℕ) (seat : SeatState) (program : Program) → get_elem? w.core.seats j ≡ some seat → first_step seat.program ≡ program → (m : Mark) × (get_elem? ms j ≡ some m) × MayFirst p q clients gives w m program
     may_at j seat program at is = let m = other_there w.core.seats ms j seat story.each at in (m.0, m.1, subst (MayFirst p q clients gives w m.0) is (may_first p q clients gives w m.0 seat.program (story.seats j seat m.0 at m.1)))
 
-    HasBirth : ℕ → ℕ → Type 0
-    HasBirth o id = (b : Birth) × In b w.births × (b.id ≡ id) × (b.asked.operation ≡ o)
-
     storing_birth : (o x j : ℕ) (seat : SeatState) (next : Found (StoreCall o x) → Program) → get_elem? w.core.seats j ≡ some seat → first_step seat.program ≡ Aside (StoreCall o x) next → (b : Birth) × In b w.births × (b.id ≡ x) × (b.asked.operation ≡ o)
     storing_birth o x j seat next at is = let s = may_at j seat (Aside (StoreCall o x) next) at is in let may = s.2 in (may.0, may.9, sym may.8, sym may.7)
 

@@ -253,9 +253,6 @@ module _ (script : List Item) (made : AreMade script) (there : AreThere script) 
   abbrev Goes : Core → List Moment → Type 0
   Goes c ms = Ahead (plan_of script) (id_plan_of script) (all_tasks script) (given core) numbered slots small (IsCallOf script) c ms
 
-  abbrev all : List Program
-  all = all_programs (programs (sizes_of (plan_of script) (id_plan_of script)) (all_tasks script)) (readers_from (calls script) 0 (opens script))
-
   length_is : length (all_programs (programs (sizes_of (plan_of script) (id_plan_of script)) (all_tasks script)) (readers_from (calls script) 0 (opens script))) ≡ (id_plan_of script).seats
   length_is = let seats = made.seats in omega (arith, seats, length_all (plan_of script) (id_plan_of script) (all_tasks script) (calls script) (opens script) made.few_clients)
 
@@ -275,9 +272,6 @@ module _ (script : List Item) (made : AreMade script) (there : AreThere script) 
 
   pub played_ahead : IsAhead (played script is.setup (is.scheduled ++ is.later))
   played_ahead = run_ahead (plan_of script) (set_up script is.setup) (is.scheduled ++ is.later) set_up_ahead
-
-  abbrev at_ending : Core
-  at_ending = ending script (played script is.setup (is.scheduled ++ is.later))
 
   pub ended_ahead : IsAhead is.ended
   ended_ahead = subst IsAhead (sym is.is_ended) (run_ahead (plan_of script) (ending script (played script is.setup (is.scheduled ++ is.later))) (replicate is.last (quiet 0))

@@ -62,10 +62,6 @@ small_state : (b : Bool) → cond b 1 2 < 4
 small_state true = omega arith
 small_state false = omega arith
 
-live_state : (b : Bool) → 0 < cond b 1 2
-live_state true = omega arith
-live_state false = omega arith
-
 -- a post or a lock leaves the attempt
 posted_rise : (from e : ℕ) (M : Type 0) → e < 32768 → 0 < (parts from).state → Rise (parts from) (parts (packed (posted_word (parts from) e))) ⊥ M
 posted_rise from e M small live = by (eqb (parts from).state 1)
@@ -78,10 +74,6 @@ posted_rise from e M small live = by (eqb (parts from).state 1)
 
 unlocked_parts : (from n : ℕ) → (parts from).attempt + n ≤ 6 → parts (packed (unlocked_word (parts from) n)) ≡ unlocked_word (parts from) n
 unlocked_parts from n few = parts_packed (unlocked_word (parts from) n) (small_state (eqb (parts from).oldest 0)) (omega arith) (omega arith) (omega (arith, few)) (omega arith) (omega arith)
-
--- the word of an exchange that advances lives
-pub advanced_lives : (from : ℕ) → (parts from).attempt + 1 ≤ 6 → 0 < (parts (packed (unlocked_word (parts from) 1))).state
-advanced_lives from few = subst (λ (w : Parts). 0 < w.state) (sym (unlocked_parts from 1 few)) (live_state (eqb (parts from).oldest 0))
 
 module _ (p : Plan) (q : IdPlan) (c : Core) (us : List IdView) (ids : SoundIds p q c us) where
   abbrev Raw : ℕ → ℕ

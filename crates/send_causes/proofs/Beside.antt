@@ -1,33 +1,25 @@
 -- What a whole run of a script with calls tells of its other tasks, and of what its links accepted.
-use Rattle.std.proofs.Common.{◌≡◌, ℕ, ◌<◌, ◌⊎◌, List, ◌++◌, length, Ok}
+use Rattle.std.proofs.Common.{◌≡◌, ℕ, List, ◌++◌, Ok}
 use Rattle.std.specs.Prelude.{Contains}
-use Rattle.std.specs.List.{AllByRecursion}
 use Rattle.sock_model.specs.Links.{Failed}
 use Rattle.brpc_model.specs.Items.{Item}
 use Rattle.brpc_model.specs.Operations.{Turn}
-use Rattle.brpc_model.specs.Order.{EachBefore}
 use Rattle.brpc_model.specs.Script.{script_of}
 use Rattle.seat_programs.specs.Cores.{Core}
-use Rattle.seat_programs.specs.Tasks.{opens, plan_of}
+use Rattle.seat_programs.specs.Tasks.{plan_of}
 use Rattle.seat_programs.specs.Scripts.{all_tasks, played, IsRunWithCalls}
-use Rattle.seat_programs.specs.ToldCalls.{Accepted, Order, Fixed, IsSent, InOwnOrder, IsFailing}
+use Rattle.seat_programs.specs.ToldCalls.{Order, Fixed, IsFailing}
 use Rattle.sock_runs.specs.Sound.{state}
 use Rattle.sock_runs.proofs.Whole.{views_played}
-use Rattle.outcome_causes.specs.Facts.{CallsFoundNone, ToldPlain, last_attempt, closed_before_ending}
+use Rattle.outcome_causes.specs.Facts.{last_attempt, closed_before_ending}
 use Rattle.outcome_causes.specs.Stories.{In}
-use Rattle.call_causes.specs.programs_allowed.specs.Openings.{all_seats}
-use Rattle.call_causes.specs.programs_allowed.proofs.Fresh.{opening_fresh}
 use Rattle.call_causes.specs.joint_runs.proofs.Runs.{AreMade, first_views}
 use Rattle.call_causes.specs.owed_calls.specs.Lives.{ClosesInRun}
 use Rattle.run_theorems.specs.Heard.{heard_takes, given_by}
 use Rattle.call_causes.specs.Lists.{early_of_run, closed_of_run, silent_of_run, soon_of_run}
-use Rattle.send_causes.specs.Sent.{IsAttempt}
-use Rattle.send_causes.proofs.Early.{start, go, fitting, closed_so, closed_early}
-use Rattle.send_causes.proofs.FirstRuns.{run_own_order}
-use Rattle.send_causes.proofs.Labelled.{ids_of_run}
+use Rattle.send_causes.proofs.Early.{closed_so, closed_early}
 use Rattle.send_causes.proofs.Lists.{early_listed}
-use Rattle.send_causes.proofs.Sends.{fixed, owed, orders_of_run, narrow, few_clients, labelled, opening_claims, told_plain, failing_early}
-use Rattle.send_causes.proofs.Whole.{run_sent}
+use Rattle.send_causes.proofs.Sends.{fixed, orders_of_run, failing_early}
 
 module _ (script : List Item) (made : AreMade script) (turns : List Turn) (core : Core) (is : IsRunWithCalls script turns core) (closes : ClosesInRun script turns core is) where
   -- what the run fixes, by the lists that it has itself
@@ -43,27 +35,9 @@ module _ (script : List Item) (made : AreMade script) (turns : List Turn) (core 
   abbrev pub orders_here : ℕ → Order
   orders_here = orders_of_run script made turns core is closes
 
-  -- of each client the links accepted sends and first attempts in the order of its operations
-  pub own_order_of_run : (k : ℕ) → k < (plan_of script).links → EachBefore (InOwnOrder (plan_of script) (all_tasks script) core.outcomes fixed_of_run gave_of_run orders_here) (orders_here k).accepted
-  own_order_of_run k kl = run_own_order script made.are (first_views script) (start script made turns core is) (go script made turns core is) turns core is (fitting script made turns core is)
-      (λ i v at. (opening_claims (plan_of script) (all_seats (all_tasks script) (length (opens script))) i v at, opening_fresh (plan_of script) (all_seats (all_tasks script) (length (opens script))) i v at))
-      fixed_of_run gave_of_run orders_here k
-
-  -- what they accepted are the messages of sends of which nothing is said, and frames of attempts of calls
-  pub sent_of_run : (k : ℕ) → k < (plan_of script).links
-      → AllByRecursion (λ (a : Accepted). IsSent (plan_of script) (all_tasks script) core.outcomes fixed_of_run gave_of_run orders_here last_of_run k a ⊎ IsAttempt (ids_of_run script made turns core is (narrow script made turns core is closes) (few_clients script made turns core is closes)) (all_tasks script) core.outcomes a)
-      (orders_here k).accepted
-  sent_of_run k kl = run_sent script made.are (first_views script) (start script made turns core is) (opening_fresh (plan_of script) (all_seats (all_tasks script) (length (opens script)))) (go script made turns core is) turns core is (fitting script made turns core is)
-      (owed script made turns core is closes) (narrow script made turns core is closes) (opening_claims (plan_of script) (all_seats (all_tasks script) (length (opens script))))
-      (ids_of_run script made turns core is (narrow script made turns core is closes) (few_clients script made turns core is closes)) (labelled script made turns core is closes) fixed_of_run gave_of_run last_of_run k kl
-
   module _ (bytes : List ℕ) (reads : script_of bytes ≡ Ok script) where
     pub ends_listed : (k : ℕ) → In k (closed_before_ending script turns core is) → Contains (early_of_run script turns core is) k
     ends_listed k m = early_listed script turns core is bytes reads k (closed_early script made turns core is k m).0 (closed_so script made turns core is k m).1
-
-    -- each of the other tasks has its outcome, and a cause of it
-    pub plain_of_run : CallsFoundNone (all_tasks script) core.outcomes → ToldPlain (plan_of script) (all_tasks script) core.outcomes fixed_of_run gave_of_run orders_here last_of_run
-    plain_of_run found = told_plain script made turns core is closes (early_of_run script turns core is) (closed_of_run script turns core is) (silent_of_run script turns core is) (soon_of_run script turns core is) gave_of_run last_of_run ends_listed found
 
     -- a link that failed before the ending may drop messages
     pub failing_of_run : (k : ℕ) → Failed (plan_of script) (state (played script is.setup (is.scheduled ++ is.later)) (views_played script turns core is (first_views script))) k

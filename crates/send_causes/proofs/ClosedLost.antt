@@ -239,12 +239,6 @@ module _ (script : List Item) (made : AreMade script) (turns : List Turn) (core 
     abbrev Stands : ℕ → ℕ → ℕ → Type 0
     Stands o n k = StandsOn (plan_of script) (all_tasks script) core.outcomes (fixed_of_run script made turns core is closes) (gave_of_run script made turns core is closes) (orders_here script made turns core is closes) o n k
 
-    abbrev Fails : ℕ → Type 0
-    Fails k = IsFailing (plan_of script) (all_tasks script) core.outcomes (fixed_of_run script made turns core is closes) (gave_of_run script made turns core is closes) (orders_here script made turns core is closes) k
-
-    abbrev Unordered : ℕ → ℕ → Type 0
-    Unordered o n = IsUnordered (plan_of script) (all_tasks script) core.outcomes (fixed_of_run script made turns core is closes) (gave_of_run script made turns core is closes) (orders_here script made turns core is closes) o n
-
     abbrev Full : Type 0
     Full = WasFull (plan_of script) (all_tasks script) core.outcomes (fixed_of_run script made turns core is closes) (gave_of_run script made turns core is closes) (orders_here script made turns core is closes)
 

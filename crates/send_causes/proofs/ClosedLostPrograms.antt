@@ -25,7 +25,7 @@ use Rattle.seat_programs.specs.declared.task.Op.TheVariants as ops
 use Rattle.seat_programs.specs.declared.task.Task.{Task}
 use Rattle.seat_programs.specs.declared.task.Sizes.{Sizes}
 use Rattle.seat_programs.specs.Calls.{AddRef, LookWord, FindLink, ClaimRequest, PutMessage, Unconnect, SwapHead}
-use Rattle.seat_programs.specs.Clients.{HeldLife, held_under, without_name, give_back, drop_of, operation, client_from, ending_of}
+use Rattle.seat_programs.specs.Clients.{HeldLife, held_under, without_name, give_back, drop_of, operation, client_from}
 use Rattle.seat_programs.specs.Writings.{Holder, Writing, Puts, Waits, Empties, Walks}
 use Rattle.seat_programs.specs.Asides.{Found, StoreAt, Taking, Bytes, Nothing, Closed, call_id, id_slot, id_first}
 use Rattle.seat_programs.specs.Heads.{Head, Exit, Retry, Sought, Reading, Posts, Unlocks, Decides, Locks, Joins, Opens, Reads, Discards, Posting, WasGone, WasStale, WasCrowded, WasQueued, HasLocked, Unlocking, IsOpen, HasNext, Deciding, HasEnded, Locking, NotThere, Has, Ended}
@@ -366,14 +366,6 @@ module _ (requests : ℕ) where
   pub client_goes : (sizes : Sizes) → sizes.requests ≡ requests → (ts : List Task) (held : List HeldLife) → G (client_from sizes held ts)
   client_goes sizes size [] held = (size, goes_back held)
   client_goes sizes size (t ∷ ts) held = (size, goes_operation sizes size held t.number (λ h. client_from sizes h ts) t.op (λ h. client_goes sizes size ts h))
-
-  goes_ended : (word : ℕ) (next : Program) → G next → G (cond (word == 0) next (cond (word == NO_SOCKET) next (address (word - 1) (set_failed (word - 1) 1014 (λ _. release (socket_id_slot (word - 1)) (λ _. next))) (λ _. next))))
-  goes_ended word next after = either_way (word == 0) _ _ G after (either_way (word == NO_SOCKET) _ _ G after
-      (goes_address (word - 1) (set_failed (word - 1) 1014 (λ _. release (socket_id_slot (word - 1)) (λ _. next))) (λ _. next) (goes_set_failed (word - 1) 1014 (λ _. release (socket_id_slot (word - 1)) (λ _. next)) (λ _. goes_release (socket_id_slot (word - 1)) (λ _. next) (λ _. after))) (λ _. after)))
-
-  pub ending_goes : (os : List ℕ) → G (ending_of os)
-  ending_goes [] = tt
-  ending_goes (o ∷ os) = λ word. goes_ended word (ending_of os) (ending_goes os)
 
   -- ## Readers
 

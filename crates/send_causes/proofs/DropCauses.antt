@@ -14,7 +14,7 @@ use Rattle.seat_programs.specs.Cores.{Core}
 use Rattle.seat_programs.specs.Tasks.{plan_of, id_plan_of}
 use Rattle.seat_programs.specs.Scripts.{all_tasks, IsRunWithCalls}
 use Rattle.seat_programs.specs.Told.{IsTask, Made}
-use Rattle.seat_programs.specs.ToldCalls.{Accepted, Order, Fixed, StandsAt, IsSent, OfSend, OfCall, StandsOn, IsDropped, IsFailing, MayBeOn, IsFailedWith, WhyLost, WasFailing, WhyAgain, AfterDrop, FailedBy, BySocket, ByFail}
+use Rattle.seat_programs.specs.ToldCalls.{Accepted, Order, Fixed, StandsAt, IsSent, OfSend, OfCall, StandsOn, IsDropped, IsFailing, MayBeOn, IsFailedWith, WhyLost, WasFailing, FailedBy, BySocket, ByFail}
 use Rattle.outcome_causes.specs.Causes.{Asks}
 use Rattle.outcome_causes.proofs.Members.{all_in, contains_in, get_all, get_within}
 use Rattle.outcome_causes.proofs.Tasks.{one_link, one_task}
@@ -43,10 +43,6 @@ module _ (script : List Item) (made : AreMade script) (turns : List Turn) (core 
   -- it stands dropped
   pub is_dropped : (o n k : ℕ) → IsDroppedOn script made turns core is closes ids labelled o n k → IsDropped p clients core.outcomes fixed gave orders o n
   is_dropped o n k d = (k, d.place, d.at, d.late)
-
-  -- so the attempt had to be followed by another, or the call failed
-  pub again_by_drop : (x : Post) (d : DropOf script made turns core is closes ids labelled x) (c name : ℕ) → WhyAgain p clients core.outcomes fixed gave orders c d.task.number (attempt_of x.error) name
-  again_by_drop x d c name = AfterDrop (is_dropped d.task.number (attempt_of x.error) d.link d.dropped)
 
   -- the code of a `fail` is from 1500 to 1999
   pub fail_range : AreThere script → AllByRecursion InRange script → (client : ℕ) (t : Task) (name code : ℕ) → IsTask clients core.outcomes client t → t.op ≡ ops.Fail name code → (1500 ≤ code) × (code ≤ 1999)

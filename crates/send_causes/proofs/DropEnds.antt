@@ -42,9 +42,6 @@ use Rattle.send_causes.proofs.ReaderRuns.{Keeps, founds, keeps_ticks, keeps_same
 
 -- P tells which codes they may store
 module _ (P : ℕ → Type 0) (gone : P 1009) where
-  abbrev Own : ℕ → ℕ → Type 0
-  Own o code = P code
-
   abbrev pub Has : Failing → Type 0
   Has NoFail = Unit {0}
   Has (Fails o code i) = P code

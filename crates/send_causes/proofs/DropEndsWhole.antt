@@ -9,7 +9,6 @@ use lib.ListN.{get_elem?}
 use Rattle.atomic_table.proofs.Lists.{at_set}
 use Rattle.brpc_model.specs.Items.{Item}
 use Rattle.brpc_model.specs.Operations.{Turn}
-use Rattle.sock_words.specs.declared.plain.Plan.{Plan}
 use Rattle.sock_model.specs.declared.view.View.{View}
 use Rattle.sock_model.specs.Layout.{open_index}
 use Rattle.seat_programs.specs.declared.task.Op.{Op}
@@ -40,12 +39,6 @@ use Rattle.send_causes.proofs.EndedWhole.{opened_keeps, closing_keeps, h₁, h�
 
 module _ (script : List Item) (made : AreMade script) (turns : List Turn) (core : Core) (is : IsRunWithCalls script turns core) (P : ℕ → Type 0) (gone : P 1009)
     (fits : (j : ℕ) (ts : List Task) → slice_get (all_tasks script) j ≡ Some ts → (t : Task) → In t ts → (name code : ℕ) → t.op ≡ ops.Fail name code → P code) where
-  abbrev p : Plan
-  p = plan_of script
-
-  abbrev vs : List View
-  vs = first_views script
-
   abbrev pub L : Core → List View → (ℕ → List Taking) → Type 0
   L c ws h = EndsLaw (plan_of script) (calls script) (opens script) (let k = known script made turns core is in k.in_script) Any (Unit {0}) ends_anyhow P gone c ws h
 

@@ -224,9 +224,6 @@ module _ (script : List Item) (are : AreTasks (plan_of script) (all_tasks script
 
   -- ## The end
 
-  abbrev pub events_end : List Event
-  events_end = final_goes.after.events
-
   pub story_end : (lost : List ℕ) × Story (plan_of script) (told_tasks_of script) true core (views_ended script turns core is vs) final_goes.after.events lost
   story_end = (final_goes.after.lost, subst (λ c. Story (plan_of script) (told_tasks_of script) true c (views_ended script turns core is vs) final_goes.after.events final_goes.after.lost) (sym is.is_end) final_goes.after.story)
 

@@ -271,9 +271,6 @@ module _ (script : List Item) (made : AreMade script) (turns : List Turn) (core 
   abbrev p : Plan
   p = plan_of script
 
-  abbrev vs : List View
-  vs = first_views script
-
   pub start : Begins script (first_views script)
   start = begins script made
 
@@ -297,9 +294,6 @@ module _ (script : List Item) (made : AreMade script) (turns : List Turn) (core 
 
   abbrev views_set : List View
   views_set = views_along (plan_of script) (opened script) (first_views script) (replicate is.setup (quiet 0))
-
-  abbrev clients_ticks : List Moment
-  clients_ticks = is.scheduled ++ is.later
 
   -- ## Readers
 

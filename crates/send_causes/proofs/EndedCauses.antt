@@ -1,5 +1,5 @@
 -- Why a call ends with 2002 by a reader's post, and what is known where it ends so with 1014.
-use Rattle.std.proofs.Common.{◌≡◌, ◌≢◌, ℕ, ◌≤◌, ◌⊎◌, inl, inr, ⊎_elim, List, Ok, refl, sym, ap, ◌∙◌, subst, arith}
+use Rattle.std.proofs.Common.{◌≡◌, ◌≢◌, ℕ, ◌≤◌, ◌⊎◌, inl, inr, List, Ok, sym, ap, ◌∙◌, subst, arith}
 use Rattle.std.specs.Prelude.{Contains}
 use Rattle.corr_core.specs.Word.{error_of}
 use Rattle.brpc_model.specs.Items.{Item}
@@ -12,20 +12,19 @@ use Rattle.seat_programs.specs.Cores.{Core}
 use Rattle.seat_programs.specs.Tasks.{plan_of}
 use Rattle.seat_programs.specs.Scripts.{all_tasks, IsRunWithCalls}
 use Rattle.seat_programs.specs.Told.{IsTask}
-use Rattle.seat_programs.specs.ToldCalls.{MayBeOn, IsFailing, FailedBy, ByFrameFault}
+use Rattle.seat_programs.specs.ToldCalls.{MayBeOn, IsFailing}
 use Rattle.outcome_causes.specs.Stories.{In}
 use Rattle.outcome_causes.proofs.Members.{contains_in}
 use Rattle.outcome_causes.proofs.Tasks.{one_task}
 use Rattle.call_causes.specs.joint_runs.proofs.Runs.{AreMade}
 use Rattle.call_causes.specs.owed_calls.specs.Lives.{ClosesInRun}
 use Rattle.call_causes.specs.Lists.{early_of_run, closed_of_run, silent_of_run}
-use Rattle.call_causes.specs.Posts.{Post, posts_of_run}
-use Rattle.send_causes.specs.EndedCalls.{reader_posts_of_run, client_posts_of_run, EndedSo}
+use Rattle.call_causes.specs.Posts.{Post}
+use Rattle.send_causes.specs.EndedCalls.{reader_posts_of_run, EndedSo}
 use Rattle.send_causes.proofs.Beside.{gave_of_run, fixed_of_run, orders_here}
 use Rattle.send_causes.proofs.Runs.{AreLabelledIn, IsCallOf}
-use Rattle.send_causes.proofs.EndedAttempts.{IsReaderPost, get_there, run_reader_post, run_reader_fault}
+use Rattle.send_causes.proofs.EndedAttempts.{IsReaderPost, get_there, run_reader_post}
 use Rattle.send_causes.proofs.EndedOnce.{run_stored_once}
-use Rattle.send_causes.proofs.EndedWhole.{posts_split}
 
 module _ (script : List Item) (made : AreMade script) (turns : List Turn) (core : Core) (is : IsRunWithCalls script turns core) (closes : ClosesInRun script turns core is) (ids : ℕ → ℕ) (labelled : AreLabelledIn ids script turns core is)
     -- no two calls have one id
@@ -55,10 +54,6 @@ module _ (script : List Item) (made : AreMade script) (turns : List Turn) (core 
     pub run_ended_on : (code n : ℕ) → x.error ≡ error_of code n → n ≤ 7 → EndedOn code n
     run_ended_on code n error few = let r = post code n error few in record { link = r.link; on = on_call code n r; ended = r.ended }
 
-    -- where it is 2002 the call may fail by it
-    pub run_by_fault : (n : ℕ) → x.error ≡ error_of 2002 n → n ≤ 7 → FailedBy (plan_of script) (all_tasks script) core.outcomes (fixed_of_run script made turns core is closes) (gave_of_run script made turns core is closes) (orders_here script made turns core is closes) client t.number asked x.id 2002 n
-    run_by_fault n error few = let r = post 2002 n error few in ByFrameFault refl r.link (on_call 2002 n r) (run_reader_fault script made turns core is closes ids labelled (run_stored_once script made turns core is closes ids labelled) (fixed_of_run script made turns core is closes) bytes reads x n r)
-
     -- where it is 1014 the reading of the link ended, as the run's lists have it; early only on a link that may drop messages
     pub run_by_end : (n : ℕ) → x.error ≡ error_of 1014 n → n ≤ 7 → (k : ℕ) × May t.number n (name_of asked n) k
         × ((Contains (early_of_run script turns core is) k × IsFailing (plan_of script) (all_tasks script) core.outcomes (fixed_of_run script made turns core is closes) (gave_of_run script made turns core is closes) (orders_here script made turns core is closes) k)
@@ -71,8 +66,3 @@ module _ (script : List Item) (made : AreMade script) (turns : List Turn) (core 
         by k (inl (e, inl early)) = inl (early, inr (inr (inl early)))
         by k (inl (e, inr other)) = inr other
         by k (inr (e, fault)) = absurd (let z : ⊥ = omega (arith, e) in z)
-
-  -- so a post for a call is one by a client, or the call may fail by it
-  pub run_fault_or_client : (client : ℕ) (t : Task) (asked : Asked) → IsTask (all_tasks script) core.outcomes client t → t.op ≡ ops.Call asked → (x : Post) → In x (posts_of_run script turns core is) → x.id ≡ ids t.number → (n : ℕ) → x.error ≡ error_of 2002 n → n ≤ 7
-      → In x (client_posts_of_run script turns core is) ⊎ FailedBy (plan_of script) (all_tasks script) core.outcomes (fixed_of_run script made turns core is closes) (gave_of_run script made turns core is closes) (orders_here script made turns core is closes) client t.number asked x.id 2002 n
-  run_fault_or_client client t asked it op x there own n error few = ⊎_elim (λ a. inl a) (λ b. inr (run_by_fault client t asked it op x b own n error few)) (posts_split script made turns core is x there)

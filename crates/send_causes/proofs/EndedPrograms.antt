@@ -111,9 +111,6 @@ module _ (is_call : Asked → Type 0) where
     abbrev has_claim : ℕ → Trail
     has_claim k = record { name = (name_of asked n, socket) ∷ []; claimed = true; of = Knows asked.operation id; linked = k ∷ []; stored = (asked.operation, at_word (id_first id) (id_slot id) k n) ∷ [] }
 
-    abbrev back : Program
-    back = release (socket_id_slot socket) (λ _. next)
-
     back_goes : (t : Trail) → Follows is_call t (post id 1009 n (release (socket_id_slot socket) (λ _. next)))
     back_goes t = post_goes tracks t id 1009 n (release (socket_id_slot socket) (λ _. next)) (release_goes tracks lost (socket_id_slot socket) (λ _. next) (λ _. goes))
 

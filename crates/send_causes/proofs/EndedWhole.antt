@@ -10,7 +10,6 @@ use native.Mathlib.Decide.{ℕ_discrete}
 use lib.ListN.{get_elem?}
 use Rattle.atomic_table.proofs.Lists.{at_set, set_else}
 use Rattle.chain_steps.proofs.Lists.{at_some}
-use Rattle.sock_words.specs.declared.plain.Plan.{Plan}
 use Rattle.sock_model.specs.declared.view.View.{View}
 use Rattle.sock_model.specs.Layout.{open_index}
 use Rattle.brpc_model.specs.Items.{Item}
@@ -60,9 +59,6 @@ before_readers (y ∷ xs) n rs zero x low e = inl e
 before_readers (y ∷ xs) n rs (suc j) x low e = before_readers xs n rs j x (omega (arith, low)) e
 
 module _ (script : List Item) (made : AreMade script) (turns : List Turn) (core : Core) (is : IsRunWithCalls script turns core) where
-  abbrev p : Plan
-  p = plan_of script
-
   abbrev K : Core → List View → (ℕ → List Taking) → Type 0
   K c vs h = Keeping (plan_of script) (calls script) (opens script) (let k = known script made turns core is in k.in_script) c vs h
 
@@ -281,9 +277,6 @@ module _ (script : List Item) (made : AreMade script) (turns : List Turn) (core 
   module _ (bytes : List ℕ) (reads : script_of bytes ≡ Ok script) (k : ℕ) (low : k < (plan_of script).links) where
     same : given core k ≡ given_by (h₄ k)
     same = gave_heard bytes script reads turns core is k low ∙ sym (all_given k)
-
-    Gone : Bool
-    Gone = found_so script turns core is (is_last script turns core is) k
 
     either : (a b : Bool) → b ≡ true → (a || b) ≡ true
     either true b e = refl

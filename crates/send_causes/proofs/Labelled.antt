@@ -28,7 +28,7 @@ use Rattle.call_causes.specs.owed_calls.proofs.OwnsRuns.{first_left, none_yet, o
 use Rattle.call_causes.specs.owed_calls.proofs.EndsStill.{view_of}
 use Rattle.call_causes.specs.owed_calls.proofs.Owed.{opened_seats}
 use Rattle.send_causes.specs.Counts.{StoresOwn, AreLabelled}
-use Rattle.send_causes.specs.Refused.{WouldStore, WouldOwn, AllWouldOwn, RunWouldOwn}
+use Rattle.send_causes.specs.Refused.{WouldStore, WouldOwn, AllWouldOwn}
 use Rattle.send_causes.proofs.Runs.{AreLabelledIn}
 
 -- the first step of a round
@@ -123,9 +123,6 @@ module _ (script : List Item) (made : AreMade script) (turns : List Turn) (core 
   clients_go : Goes (set_up script is.setup) (is.scheduled ++ is.later) setup_goes.more
   clients_go = let s = joint_runs script turns core is made in along p q narrow (calls script) (set_up script is.setup) (views_along (plan_of script) (opened script) (first_views script) (replicate is.setup (quiet 0))) (is.scheduled ++ is.later) s.clients setup_goes.more setup_goes.others setup_goes.owned
 
-  abbrev rested : Core
-  rested = played script is.setup (is.scheduled ++ is.later)
-
   -- seat 0 begins the ending
   begun : (more : ℕ → ℕ) × (others : ℕ → ℕ → Bool) × Grows clients_go.more more × Owned (id_plan_of script) (calls script) (closing_of script turns core is) more others
   begun = let s = joint_runs script turns core is made in
@@ -159,15 +156,4 @@ module _ (script : List Item) (made : AreMade script) (turns : List Turn) (core 
         of_played = clients_go.are final_goes.more second;
         of_closing = closing_goes.are final_goes.more last;
         of_final = final_goes.are final_goes.more (grows_same final_goes.more);
-      }
-
-  -- and so would each attempt do that is refused before it stores one
-  pub run_would_own : RunWouldOwn ids_of_run script turns core is
-  unfolding ids_of_run
-  run_would_own = let last = final_goes.grows in let third = grows_on begun.0 closing_goes.more final_goes.more closing_goes.grows last in
-      let second = grows_on clients_go.more begun.0 final_goes.more begun.2 third in let first = grows_on setup_goes.more clients_go.more final_goes.more clients_go.grows second in record {
-        of_setup = setup_goes.would final_goes.more first;
-        of_played = clients_go.would final_goes.more second;
-        of_closing = closing_goes.would final_goes.more last;
-        of_final = final_goes.would final_goes.more (grows_same final_goes.more);
       }

@@ -1,5 +1,5 @@
 -- An error with the code of the end of a reading that a client posted for a dropped message was posted behind the end of the reading of the message's link.
-use Rattle.std.proofs.Common.{◌≡◌, ◌≢◌, ℕ, ◌+◌, ◌*◌, ◌<◌, ◌⊎◌, ◌==◌, if◌then◌else◌, inl, inr, ⊎_elim, ne_eqb, eq-eqb, List, Ok, get_or, refl, sym, ap, ◌∙◌, subst, arith}
+use Rattle.std.proofs.Common.{◌≡◌, ◌≢◌, ℕ, ◌+◌, ◌*◌, ◌<◌, ◌⊎◌, ◌==◌, if◌then◌else◌, inl, inr, ⊎_elim, ne_eqb, eq-eqb, List, get_or, sym, ap, ◌∙◌, subst, arith}
 use Rattle.std.specs.Prelude.{Some, slice_get}
 use Rattle.std.specs.List.{AllByRecursion}
 use mathlib.Core.Logic.{dite}
@@ -8,7 +8,6 @@ use native.Mathlib.Decide.{ℕ_discrete}
 use lib.ListN.{get_elem?}
 use Rattle.brpc_model.specs.Items.{Item}
 use Rattle.brpc_model.specs.Operations.{Turn}
-use Rattle.brpc_model.specs.Script.{script_of}
 use Rattle.report_fits.proofs.Reading.{InRange}
 use Rattle.report_fits.proofs.Targets.{AreThere}
 use Rattle.sock_words.specs.Words.{socket_id, socket_id_slot, socket_id_version}
@@ -33,13 +32,11 @@ use Rattle.call_causes.specs.Decided.{posted_by}
 use Rattle.call_causes.specs.Lists.{given, shows_in_run}
 use Rattle.call_causes.specs.Posts.{Post}
 use Rattle.call_causes.proofs.HandledWhole.{PostedLate}
-use Rattle.send_causes.specs.EndedCalls.{EndedSo}
 use Rattle.send_causes.specs.Refused.{Deed, DidStep, DidRound, DidInRun, DidEarly, DidLate, RunWouldOwn}
 use Rattle.send_causes.proofs.AttemptedStored.{ids_at}
 use Rattle.send_causes.proofs.Beside.{fixed_of_run}
 use Rattle.send_causes.proofs.DropCauses.{fail_range}
 use Rattle.send_causes.proofs.DropEndsCauses.{own_link}
-use Rattle.send_causes.proofs.DropEndsOver.{ended_of_link}
 use Rattle.send_causes.proofs.DropOfRun.{ends, DropOf, IsDroppedOn, IsOpened, given_opened, story_given, dropped_of_run}
 use Rattle.send_causes.proofs.DropRuns.{IsCalls}
 use Rattle.send_causes.proofs.DropWhole.{get_same}
@@ -180,10 +177,6 @@ module _ (script : List Item) (made : AreMade script) (there : AreThere script) 
   pub late_drop : ((o x : ℕ) → ids o ≢ 0 → ids o ≡ ids x → o ≡ x) → (j : ℕ) → j < 32 → (x : Post) → In x (shows_in_run script turns core is (posted_by j)) → code_of x.error ≡ 1014 → (d : DropOf script made turns core is closes ids labelled x)
       → (o : ℕ) × (at : get_elem? (opens script) d.link ≡ some o) × PostedLate script made there range turns core is d.link o at x
   late_drop single j low x at code d = ⊎_elim (early single j low x code d) (late single j low x code d) (posts_late script made turns core is closes ids labelled would fits j low x at code)
-
-  -- which ended with that code
-  pub drop_ended_so : (bytes : List ℕ) → script_of bytes ≡ Ok script → (x : Post) → code_of x.error ≡ 1014 → (d : DropOf script made turns core is closes ids labelled x) → EndedSo script turns core is d.link 1014
-  drop_ended_so bytes reads x code d = ⊎_elim (λ e. absurd (omega (arith, e, code))) (λ f. inl (refl, ended_of_link script made turns core is closes ids labelled bytes reads f.1 f.2 d.link f.5)) d.found
 
 -- by the ids that the calls' words tell
 module _ (script : List Item) (made : AreMade script) (there : AreThere script) (range : AllByRecursion InRange script) (turns : List Turn) (core : Core) (is : IsRunWithCalls script turns core) (closes : ClosesInRun script turns core is) where

@@ -41,7 +41,7 @@ use Rattle.send_causes.proofs.Early.{Any, ends_anyhow, start, go, fitting, known
 use Rattle.send_causes.proofs.EndedWhole.{h₃, closed_keeps}
 use Rattle.send_causes.proofs.LateDropsCodes.{IsLife, LateLaw, late_more}
 use Rattle.send_causes.proofs.LateDropsEnding.{IsNew}
-use Rattle.send_causes.proofs.LateDropsRuns.{of_seat, none_late, none_behind, Told, Charged, says_more, LatePost, late_post_more, InTime, With, Done_, Behind, posts_along}
+use Rattle.send_causes.proofs.LateDropsRuns.{of_seat, none_late, none_behind, Told, Charged, says_more, LatePost, late_post_more, InTime, With, Behind, posts_along}
 use Rattle.send_causes.proofs.LateRests.{others_along}
 use Rattle.send_causes.proofs.RefusedRuns.{law_more}
 use Rattle.send_causes.proofs.RefusedWhole.{few_slots, bare_views, Law, first_doings, Nothing, first_charges, final_doings, final_charges, closing_none}
@@ -72,15 +72,6 @@ seat_shown j p (m ∷ ms) c x at = ⊎_elim
 
 module _ (script : List Item) (made : AreMade script) (turns : List Turn) (core : Core) (is : IsRunWithCalls script turns core) (closes : ClosesInRun script turns core is) (ids : ℕ → ℕ) (labelled : AreLabelledIn ids script turns core is) (would : RunWouldOwn ids script turns core is)
     (fits : (j : ℕ) (ts : List Task) → slice_get (all_tasks script) j ≡ Some ts → (t : Task) → In t ts → (name code : ℕ) → t.op ≡ ops.Fail name code → IsNoEnd code) where
-  abbrev W : List ℕ
-  W = core.words
-
-  abbrev in_setup : List Moment
-  in_setup = replicate is.setup (quiet 0)
-
-  abbrev in_clients : List Moment
-  in_clients = is.scheduled ++ is.later
-
   abbrev rested : Core
   rested = played script is.setup (is.scheduled ++ is.later)
 
@@ -137,9 +128,6 @@ module _ (script : List Item) (made : AreMade script) (turns : List Turn) (core 
 
     abbrev Part : (ℕ → Deed → Type 0) → Core → List View → List Moment → Type 0
     Part Done c ws ms = Behind (plan_of script) (id_plan_of script) small (IsCallOf script) ids (calls script) (opens script) (let k = known script made turns core is in k.in_script) Any (Unit {0}) ends_anyhow IsNoEnd no_end core.words New Done Never c ws ms
-
-    abbrev Before : (ℕ → Deed → Type 0) → Core → List Moment → ℕ → Deed → Type 0
-    Before Done c ms = Done_ (plan_of script) (id_plan_of script) small (IsCallOf script) ids (calls script) (opens script) (let k = known script made turns core is in k.in_script) Any (Unit {0}) ends_anyhow IsNoEnd no_end core.words New Done c ms
 
     abbrev Time : Core → List Moment → Post → ℕ → Type 0
     Time c ms x n = InTime (plan_of script) (id_plan_of script) small (IsCallOf script) ids (calls script) (opens script) (let k = known script made turns core is in k.in_script) Any (Unit {0}) ends_anyhow IsNoEnd no_end core.words New Never c ms x n

@@ -1,5 +1,5 @@
 -- Behind the ending of a run each life that was made before is past, wherever clients wait: its slot has a later version.
-use Rattle.std.proofs.Common.{◌≡◌, ◌≢◌, ℕ, zero, suc, ◌+◌, ◌-◌, ◌*◌, ◌%◌, ◌<◌, ◌≤◌, ◌⊎◌, ◌==◌, ◌&&◌, nat_le, Bool, true, false, cond, eq-eqb, ne_eqb, List, [], ◌∷◌, ◌++◌, length-set, replicate, get_or, inl, inr, ⊎_elim, refl, sym, ap, ◌∙◌, subst, arith}
+use Rattle.std.proofs.Common.{◌≡◌, ◌≢◌, ℕ, zero, suc, ◌+◌, ◌-◌, ◌*◌, ◌%◌, ◌<◌, ◌≤◌, ◌⊎◌, ◌==◌, ◌&&◌, nat_le, Bool, true, false, List, [], ◌∷◌, ◌++◌, length-set, replicate, get_or, inl, inr, ⊎_elim, refl, sym, ap, ◌∙◌, subst, arith}
 use mathlib.Core.Logic.{dite}
 use mathlib.Core.Option.{none, some, some-injective, some-ne-none}
 use native.Mathlib.Decide.{ℕ_discrete}
@@ -18,9 +18,9 @@ use Rattle.sock_steps.proofs.Places.{counts}
 use Rattle.sock_steps.proofs.Quiet.{either_way}
 use Rattle.brpc_model.specs.Items.{Item}
 use Rattle.brpc_model.specs.Operations.{Turn}
-use Rattle.seat_programs.specs.Calls.{Call, AddRef, SetOdd, LoadOpen}
+use Rattle.seat_programs.specs.Calls.{Call, SetOdd}
 use Rattle.seat_programs.specs.Heads.{Retry}
-use Rattle.seat_programs.specs.Programs.{Program, Do, Rest, LAST_VERSION, NO_SOCKET, recycle, release, address, set_failed}
+use Rattle.seat_programs.specs.Programs.{Program, Do, Rest, LAST_VERSION, NO_SOCKET, recycle, release}
 use Rattle.seat_programs.specs.Clients.{ending_of}
 use Rattle.seat_programs.specs.Cores.{Core, SeatState, word_of, word_after, found_at, words_after, homes_after, resolved, next_step, waiting_at}
 use Rattle.seat_programs.specs.Tasks.{opens, plan_of}
@@ -31,7 +31,7 @@ use Rattle.sock_runs.specs.Sound.{state, Sound, first_step, IsFitting, AreFittin
 use Rattle.sock_runs.proofs.Along.{place_inside, seat_rests}
 use Rattle.sock_runs.proofs.Bounds.{law, lives_le}
 use Rattle.sock_runs.proofs.Cases.{ComesNext, with_rights, tick_keeps_marks}
-use Rattle.sock_runs.proofs.Closing.{Fails}
+use Rattle.sock_runs.proofs.Closing.{Fails, fails_ending, what_fails}
 use Rattle.sock_runs.proofs.LinkNotes.{links_only}
 use Rattle.sock_runs.proofs.LinksStay.{IsGiven, run_given}
 use Rattle.sock_runs.proofs.LinkTicks.{RetriesGo}
@@ -41,8 +41,6 @@ use Rattle.sock_runs.proofs.Quiets.{run_seats}
 use Rattle.sock_runs.proofs.Records.{stores, next_stores, opens_same}
 use Rattle.sock_runs.proofs.Recorded.{Recorded, IsPending}
 use Rattle.sock_runs.proofs.Rounds.{begins_round}
-use Rattle.sock_runs.proofs.Through.{Passes, PassesOpens}
-use Rattle.sock_runs.proofs.ThroughSends.{through_end}
 use Rattle.sock_runs.proofs.Ticks.{sound_ticks}
 use Rattle.sock_runs.proofs.Versions.{versions_on, odd_past}
 use Rattle.sock_runs.proofs.Whole.{closing_of, views_played, views_closed, end_answered, closing_sound, rested_ahead, recorded_closing, closed_ahead}
@@ -111,60 +109,6 @@ never_comes : (p : Plan) (first program : Program) → Still first → ComesNext
 never_comes p (Do call next) program x comes = comes
 never_comes p Rest program x comes = comes
 never_comes p _ program x comes = x
-
--- ## It sets each life failed whose word it loads
-
-fails_on : (o w : ℕ) (call : Call) (next : ℕ → Program) → ((found : ℕ) → Fails o w (next found)) → Fails o w (Do call next)
-fails_on o w (LoadOpen n) next f = λ found e. f found
-fails_on o w (AddRef id) next f = λ found. inr (f found)
-fails_on o w (SetOdd i) next f = inr f
-fails_on o w call next f = f
-
-fails_passes : (o w : ℕ) → Passes (Fails o w)
-fails_passes o w = record {
-  step = λ call next s b l f. fails_on o w call next f;
-  say = λ n outcome next f. f;
-  sent = λ n next f. f;
-  message = λ q next f. f;
-  home = λ k next f. f;
-  puts_home = λ k n after f. f;
-  put = λ k asked bytes next f. f;
-  ask = λ k next f. f;
-  write = λ writing after f. f;
-  aside = λ step next f. f;
-  round = λ head l next f. f;
-  keep = λ r next f. f;
-  retries = λ requests after f. f;
-}
-
-fails_opens : (o w : ℕ) → PassesOpens (Fails o w)
-fails_opens o w = record { load = λ n next f found e. f found; wait = λ n next f. f }
-
-fails_held : (o w id : ℕ) (held gone : Program) → id + 1 ≡ w → Fails o w held → (found : ℕ)
-    → ((id + 1 ≡ w) × (vref_version found ≢ socket_id_version id)) ⊎ Fails o w (cond (vref_version found == socket_id_version id) held gone)
-fails_held o w id held gone is f found = dite (ℕ_discrete (vref_version found) (socket_id_version id))
-    (λ e. inr (subst (λ b. Fails o w (cond b held gone)) (sym (eq-eqb (vref_version found) (socket_id_version id) e)) f))
-    (λ far. inl (is, far))
-
-fails_ended : (o w : ℕ) → 0 < w → w ≢ NO_SOCKET → (next : Program) → (word : ℕ) → word ≡ w
-    → Fails o w (cond (word == 0) next (cond (word == NO_SOCKET) next (address (word - 1) (set_failed (word - 1) 1014 (λ _. release (socket_id_slot (word - 1)) (λ _. next))) (λ _. next))))
-fails_ended o w some_ socket next word is = let id : ℕ = word - 1 in let held : Program = set_failed (word - 1) 1014 (λ _. release (socket_id_slot (word - 1)) (λ _. next)) in
-    subst (λ b. Fails o w (cond b next (cond (word == NO_SOCKET) next (address id held (λ _. next))))) (sym (ne_eqb word 0 (λ e. omega arith)))
-    (subst (λ b. Fails o w (cond b next (address id held (λ _. next)))) (sym (ne_eqb word NO_SOCKET (λ e. socket (sym is ∙ e))))
-    (fails_held o w (word - 1) (set_failed (word - 1) 1014 (λ _. release (socket_id_slot (word - 1)) (λ _. next))) (release (socket_id_slot (word - 1)) (λ _. next)) (omega arith) (inl (ap (λ z. socket_id_slot (z - 1)) (sym is)))))
-
-fails_ending : (o w : ℕ) → 0 < w → w ≢ NO_SOCKET → (os : List ℕ) (n : ℕ) → get_elem? os n ≡ some o → Fails o w (ending_of os)
-fails_ending o w some_ socket [] n at = absurd (some-ne-none o (sym at))
-fails_ending o w some_ socket (m ∷ os) zero at = λ word is. fails_ended o w some_ socket (ending_of os) word (is (some-injective m o at))
-fails_ending o w some_ socket (m ∷ os) (suc n) at = through_end (Fails o w) (fails_passes o w) (fails_opens o w) m (ending_of os) (fails_ending o w some_ socket os n at)
-
--- a step of it finds that the life has gone on, sets its slot's version odd, or leaves it to what follows
-what_fails : (p : Plan) (ws : List ℕ) (o w : ℕ) (call : Call) (next : ℕ → Program) → get_or ws (open_index p o) 0 ≡ w → Fails o w (Do call next)
-    → ((id : ℕ) × (id + 1 ≡ w) × (vref_version (get_or ws (ref_index (socket_id_slot id)) 0) ≢ socket_id_version id)) ⊎ ((call ≡ SetOdd (socket_id_slot (w - 1))) ⊎ Fails o w (next (found_at ws (word_of p call))))
-what_fails p ws o w (LoadOpen n) next word f = inr (inr (f (get_or ws (open_index p n) 0) (λ e. ap (λ z. get_or ws (open_index p z) 0) e ∙ word)))
-what_fails p ws o w (AddRef id) next word f = ⊎_elim (λ a. inl (id, a.0, a.1)) (λ g. inr (inr g)) (f (get_or ws (ref_index (socket_id_slot id)) 0))
-what_fails p ws o w (SetOdd i) next word f = ⊎_elim (λ e. inr (inl (ap SetOdd (sym e)))) (λ g. inr (inr (g (get_or ws (ref_index i) 0)))) f
-what_fails p ws o w call next word f = inr (inr (f (found_at ws (word_of p call))))
 
 -- ## Its ticks
 

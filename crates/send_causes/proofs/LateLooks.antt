@@ -30,7 +30,7 @@ use Rattle.seat_programs.specs.Readers.{LIMIT, has_response, slot_in, answer, an
 use Rattle.seat_programs.specs.Sends.{freed, one_more, passed_telling, tell_drop, placed, dropped, link_failed, put_answered, ready_answered, block, first_put, write_link, heading_of, accept, claim_from, start, send}
 use Rattle.seat_programs.specs.Attempts.{claims_from, heading_for, attempt, begin_call, claim_id, call, tried_again, retry_locked, retry, expire_outcome, expire, join}
 use Rattle.seat_programs.specs.Rounds.{round}
-use Rattle.seat_programs.specs.Clients.{HeldLife, held_under, without_name, give_back, drop_of, operation, client_from, ending_of}
+use Rattle.seat_programs.specs.Clients.{HeldLife, held_under, without_name, give_back, drop_of, operation, client_from}
 use Rattle.seat_programs.specs.Cores.{resolved, next_step}
 use Rattle.sock_runs.specs.Sound.{first_step}
 
@@ -331,14 +331,6 @@ looks_operation sizes held o next (ops.Fail name code) after = looks_fail Idle o
 pub client_looks : (sizes : Sizes) (ts : List Task) (held : List HeldLife) → LooksOn (client_from sizes held ts)
 client_looks sizes [] held = λ m calm. (calm, looks_back held)
 client_looks sizes (t ∷ ts) held = λ m calm. (calm, looks_operation sizes held t.number (λ h. client_from sizes h ts) t.op (λ h. client_looks sizes ts h))
-
-looks_ended : (word : ℕ) (next : Program) → Looks Idle next → Looks Idle (cond (word == 0) next (cond (word == NO_SOCKET) next (address (word - 1) (set_failed (word - 1) 1014 (λ _. release (socket_id_slot (word - 1)) (λ _. next))) (λ _. next))))
-looks_ended word next after = either_way (word == 0) _ _ (Looks Idle) after (either_way (word == NO_SOCKET) _ _ (Looks Idle) after
-    (looks_address Idle (word - 1) (set_failed (word - 1) 1014 (λ _. release (socket_id_slot (word - 1)) (λ _. next))) (λ _. next) (looks_set_failed Idle (word - 1) 1014 (λ _. release (socket_id_slot (word - 1)) (λ _. next)) (λ _. looks_release Idle (socket_id_slot (word - 1)) (λ _. next) (λ _. after))) (λ _. after)))
-
-pub ending_looks : (os : List ℕ) → Looks Idle (ending_of os)
-ending_looks [] = tt
-ending_looks (o ∷ os) = λ word. looks_ended word (ending_of os) (ending_looks os)
 
 -- ## Readers
 

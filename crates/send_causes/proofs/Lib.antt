@@ -14,7 +14,6 @@ pub mod ReaderRuns
 pub mod Early
 pub mod Places
 pub mod Rests
-pub mod Storied
 pub mod Dropped
 pub mod Sends
 pub mod Plain
@@ -55,7 +54,6 @@ pub mod RefusedWhole
 pub mod RefusedGone
 pub mod RefusedMeans
 pub mod RefusedWhys
-pub mod DropPosts
 pub mod EndedReads
 pub mod EndedTicks
 pub mod EndedRuns

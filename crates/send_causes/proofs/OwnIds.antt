@@ -1,5 +1,5 @@
 -- The ids of calls are those that the words of calls tell as a run ends: the id that an outcome shows is its call's, and over these ids it is told why errors were posted.
-use Rattle.std.proofs.Common.{◌≡◌, ◌≢◌, ℕ, ◌<◌, ◌≤◌, ◌⊎◌, ◌==◌, if◌then◌else◌, inl, inr, ⊎_elim, List, [], ◌∷◌, get_or, Ok, None, Some, refl, sym, ap, ◌∙◌, subst, arith}
+use Rattle.std.proofs.Common.{◌≡◌, ◌≢◌, ℕ, ◌<◌, ◌≤◌, ◌==◌, if◌then◌else◌, inl, inr, ⊎_elim, List, [], ◌∷◌, get_or, Ok, None, Some, sym, ap, ◌∙◌, subst}
 use Rattle.std.specs.Prelude.{Contains}
 use Rattle.std.specs.List.{AllByRecursion}
 use Rattle.sock_words.specs.declared.outcome.Outcome.{Outcome}
@@ -21,7 +21,7 @@ use Rattle.seat_programs.specs.Cores.{Core}
 use Rattle.seat_programs.specs.Tasks.{plan_of, id_plan_of}
 use Rattle.seat_programs.specs.Scripts.{all_tasks, IsRunWithCalls}
 use Rattle.seat_programs.specs.Told.{IsTask, Became}
-use Rattle.seat_programs.specs.ToldCalls.{Accepted, Fixed, Order, IsSent, Gave, IsResponse, StandsOn, MayBeOn, IsFailing, GaveFault}
+use Rattle.seat_programs.specs.ToldCalls.{Accepted, Fixed, Order, IsSent, Gave, IsResponse, StandsOn, MayBeOn}
 use Rattle.outcome_causes.specs.Stories.{In}
 use Rattle.call_causes.specs.joint_runs.proofs.Runs.{AreMade}
 use Rattle.report_fits.proofs.Reading.{InRange}
@@ -36,7 +36,7 @@ use Rattle.call_causes.specs.Says.{Mark}
 use Rattle.call_causes.proofs.End.{HasEnded, one_outcome, call_of}
 use Rattle.call_causes.proofs.Whole.{run_has_story, run_has_ended}
 use Rattle.send_causes.specs.EndedCalls.{reader_posts_of_run, EndedSo}
-use Rattle.send_causes.specs.PostCauses.{PostCause, OfFault}
+use Rattle.send_causes.specs.PostCauses.{PostCause}
 use Rattle.send_causes.specs.Refused.{Deed, DidInRun, IsDrop, RunWouldOwn}
 use Rattle.send_causes.proofs.Assembled.{last_in_run, fixed_in_run, orders_in_run}
 use Rattle.send_causes.proofs.AttemptedCalls.{single, shows}
@@ -44,7 +44,7 @@ use Rattle.send_causes.proofs.AttemptedRun.{attempted_of_run}
 use Rattle.send_causes.proofs.AttemptedStored.{ids_at, stored_run, would_run, words_stored}
 use Rattle.send_causes.proofs.DropEndsOver.{caused_for_call}
 use Rattle.send_causes.proofs.DropOfRun.{DropOf, drop_of_run}
-use Rattle.send_causes.proofs.EndedCauses.{EndedOn, run_ended_on, run_by_end}
+use Rattle.send_causes.proofs.EndedCauses.{EndedOn, run_ended_on}
 use Rattle.send_causes.proofs.RefusedRun.{WhyPosted, refused_of_seat}
 use Rattle.send_causes.proofs.Runs.{AreLabelledIn}
 
@@ -146,15 +146,3 @@ module _ (script : List Item) (made : AreMade script) (there : AreThere script) 
       -- the attempt for which a reader posted an error may be on a link whose reading ended with the code
       pub reader_post : (code n : ℕ) → x.error ≡ error_of code n → n ≤ 7 → (k : ℕ) × MayBeOn p clients core.outcomes fixed (given core) orders t.number n (name_of asked n) k × EndedSo script turns core is k code
       reader_post code n error few = let e : EndedOn script made turns core is closes (ids_at script core) labelled_at single_at bytes reads client t asked it op x at own code n = run_ended_on script made turns core is closes (ids_at script core) labelled_at single_at bytes reads client t asked it op x at own code n error few in (e.link, e.on, e.ended)
-
-      -- it gave a frame fault, where the code is 2002
-      pub fault_post : (n : ℕ) → x.error ≡ error_of 2002 n → n ≤ 7 → (k : ℕ) × MayBeOn p clients core.outcomes fixed (given core) orders t.number n (name_of asked n) k × GaveFault p clients core.outcomes fixed (given core) orders k
-      fault_post n error few = let r = reader_post 2002 n error few in (r.0, r.1, ⊎_elim (λ a. absurd (let e = a.0 in let z : ⊥ = omega (arith, e) in z)) (λ b. b.1) r.2)
-
-      pub fault_cause : (n : ℕ) → x.error ≡ error_of 2002 n → n ≤ 7 → PostCause p clients core.outcomes fixed (given core) orders client t.number asked x.id 2002 n
-      fault_cause n error few = let f = fault_post n error few in OfFault refl f.0 f.1 f.2
-
-      -- and ended as the lists of the run have it, where it is 1014; early only on a link that may drop messages
-      pub end_post : (n : ℕ) → x.error ≡ error_of 1014 n → n ≤ 7 → (k : ℕ) × MayBeOn p clients core.outcomes fixed (given core) orders t.number n (name_of asked n) k
-          × ((Contains fixed.early k × IsFailing p clients core.outcomes fixed (given core) orders k) ⊎ (Contains fixed.closed k ⊎ Contains fixed.silent k))
-      end_post n error few = run_by_end script made turns core is closes (ids_at script core) labelled_at single_at bytes reads client t asked it op x at own n error few

@@ -85,9 +85,6 @@ module _ (script : List Item) (turns : List Turn) (core : Core) (is : IsRunWithC
       (λ b. ⊎_elim (λ a. let s = seat_in (plan_of script) (replicate is.last (quiet 0)) (ending script (played script is.setup (is.scheduled ++ is.later))) x a in (s.0, of_parts (posted_by s.0) x (inr (inr (inl s.1)))))
       (λ a. let s = seat_in (plan_of script) is.final is.ended x a in (s.0, of_parts (posted_by s.0) x (inr (inr (inr s.1))))) b) b) (in_parts posted_at x at)
 
-  pub post_of_seat : (j : ℕ) (x : Post) → In x (shows_in_run script turns core is (posted_by j)) → In x (posts_of_run script turns core is)
-  post_of_seat j = run_more (posted_by j) posted_at (λ c m x at. (of_tick j c m x at).1)
-
   -- and those of the readers' seats are posts by readers
   pub reader_post_of : (j : ℕ) → 32 ≤ j → (x : Post) → In x (shows_in_run script turns core is (posted_by j)) → In x (reader_posts_of_run script turns core is)
   reader_post_of j high = run_more (posted_by j) reader_posts_at (reader_tick j high)

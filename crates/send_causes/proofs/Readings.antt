@@ -370,9 +370,6 @@ module _ (p : Plan) (calls : List ℕ) (n o : ℕ) (inside : o < p.operations) (
 
     -- ## Any tick
 
-    abbrev none_more : List Taking
-    none_more = h ++ []
-
     -- of a seat that takes nothing of this link
     found_none : (seat : SeatState) → get_elem? c.seats m.seat ≡ some seat → filter (λ j. j == n) (taken_link seat.program) ≡ [] → h ++ found_by c m n ≡ h
     found_none seat at none_ = ap (λ x. h ++ map (at_last c.calls.ending) (as_taken (elim x as (λ o. List Answer) [ none ↦ [] | some s ↦ map (λ (k : ℕ). m.answer) (filter (λ j. j == n) (taken_link s.program)) ]))) at

@@ -5,7 +5,6 @@ use Rattle.std.specs.Prelude.{Some, slice_get}
 use Rattle.std.specs.List.{AllByRecursion}
 use mathlib.Core.Option.{some}
 use lib.ListN.{get_elem?}
-use Rattle.sock_words.specs.declared.plain.Plan.{Plan}
 use Rattle.sock_model.specs.declared.chain.Entry.{Entry}
 use Rattle.sock_model.specs.declared.chain.Heading.{Heading}
 use Rattle.sock_model.specs.declared.view.View.{View}
@@ -51,9 +50,6 @@ counts_one : (id n : ℕ) (h : Heading) → h.owner ≢ 0 → h.owner ≡ id →
 counts_one id n h some_ a b = ap (λ z. cond z 0 (pair_of id n h.owner h.attempt)) (ne_eqb h.owner 0 some_) ∙ (ap (λ z. cond z (cond (eqb h.attempt n) 1 0) 0) (eq-eqb h.owner id a) ∙ ap (λ z. cond z 1 0) (eq-eqb h.attempt n b))
 
 module _ (script : List Item) (made : AreMade script) (turns : List Turn) (core : Core) (is : IsRunWithCalls script turns core) (closes : ClosesInRun script turns core is) (ids : ℕ → ℕ) (labelled : AreLabelledIn ids script turns core is) (would : RunWouldOwn ids script turns core is) where
-  abbrev p : Plan
-  p = plan_of script
-
   abbrev vs : List View
   vs = views_ended script turns core is (first_views script)
 

@@ -100,9 +100,6 @@ module _ (script : List Item) (made : AreMade script) (turns : List Turn) (core 
   abbrev p : Plan
   p = plan_of script
 
-  abbrev vs : List View
-  vs = first_views script
-
   abbrev fresh : (i : ℕ) (v : View) → get_elem? (first_views script) i ≡ some v → v.lists ≡ [] ∷ []
   fresh = opening_fresh (plan_of script) (all_seats (all_tasks script) (length (opens script)))
 

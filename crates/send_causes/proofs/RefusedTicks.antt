@@ -33,7 +33,6 @@ use Rattle.seat_programs.specs.Ticks.{Moment, IsAnswered, fed, with_places, onto
 use Rattle.sock_runs.specs.Rows.{row, hand_at, took_message, link_away, link_home_again, took_bytes}
 use Rattle.sock_runs.specs.Sound.{Sound, first_step, views_after}
 use Rattle.sock_runs.proofs.Cases.{with_rights, right_rights, put_rights}
-use Rattle.outcome_causes.specs.Stories.{In}
 use Rattle.outcome_causes.proofs.Cases.{tick_cases}
 use Rattle.outcome_causes.proofs.Ticks.{elem_there}
 use Rattle.call_causes.specs.owed_calls.proofs.EndsStill.{mapped_at}
@@ -76,9 +75,6 @@ pair_here : (id n : ℕ) → pair_of id n id n ≡ 1
 pair_here id n = ap (λ b. cond b (cond (eqb n n) 1 0) 0) (eq-eqb id id refl) ∙ ap (λ b. cond b 1 0) (eq-eqb n n refl)
 
 -- ## What was done stays so
-
-in_more : (d : Deed) (ds : List Deed) (x : Deed) → In x ds → In x (d ∷ ds)
-in_more d ds x m = inr m
 
 taken_more : (requests : ℕ) (d : Deed) (ds : List Deed) → FoundTaken requests ds → FoundTaken requests (d ∷ ds)
 taken_more requests d ds t q low = let x = t q low in (x.0, x.1, inr x.2, x.3)

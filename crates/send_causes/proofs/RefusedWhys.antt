@@ -1,7 +1,6 @@
 -- Why attempts were refused: each request was used, or the socket's life was failed.
 use Rattle.std.proofs.Common.{ℕ, inl, inr, List, [], ◌∷◌, ◌++◌, replicate, sym, subst, arith}
 use Rattle.std.specs.List.{AllByRecursion}
-use Rattle.sock_words.specs.declared.plain.Plan.{Plan}
 use Rattle.sock_model.specs.declared.view.View.{View}
 use Rattle.brpc_model.specs.Items.{Item}
 use Rattle.brpc_model.specs.Operations.{Turn}
@@ -31,12 +30,6 @@ all_in P (x ∷ ds) d all (inl e) = subst P (sym e) all.0
 all_in P (x ∷ ds) d all (inr m) = all_in P ds d all.1 m
 
 module _ (script : List Item) (made : AreMade script) (turns : List Turn) (core : Core) (is : IsRunWithCalls script turns core) (closes : ClosesInRun script turns core is) where
-  abbrev p : Plan
-  p = plan_of script
-
-  abbrev vs : List View
-  vs = first_views script
-
   abbrev set_views : List View
   set_views = views_along (plan_of script) (opened script) (first_views script) (replicate is.setup (quiet 0))
 

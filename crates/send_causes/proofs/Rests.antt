@@ -8,8 +8,6 @@ use mathlib.Core.Option.{Option, none, some}
 use native.Mathlib.Decide.{ℕ_discrete, dec_le}
 use lib.ListN.{get_elem?}
 use Rattle.sock_words.specs.declared.kind.Kind.{Kind}
-use Rattle.sock_words.specs.declared.plain.Plan.{Plan}
-use Rattle.sock_model.specs.declared.view.View.{View}
 use Rattle.brpc_model.specs.Items.{Item}
 use Rattle.brpc_model.specs.Operations.{Turn, clients, link_names}
 use Rattle.report_fits.proofs.TaskLemmas.{tasks_length}
@@ -38,15 +36,6 @@ first_half P [] ys all = tt
 first_half P (x ∷ xs) ys all = (all.0, first_half P xs ys all.1)
 
 module _ (script : List Item) (made : AreMade script) (turns : List Turn) (core : Core) (is : IsRunWithCalls script turns core) where
-  abbrev p : Plan
-  p = plan_of script
-
-  abbrev vs : List View
-  vs = first_views script
-
-  abbrev rested : Core
-  rested = played script is.setup (is.scheduled ++ is.later)
-
   -- the round that moved nothing
   abbrev before_last : Core
   before_last = let s = is.settles in run (plan_of script) (played script is.setup is.scheduled) (ticks_of s.moving)

@@ -44,7 +44,7 @@ use Rattle.outcome_causes.specs.TaskCauses.{ToldTasks}
 use Rattle.outcome_causes.proofs.Members.{in_contains, contains_in}
 use Rattle.outcome_causes.proofs.Lifted.{filtered_in, task_down, why_lifted, told_lifted, are_lifted, lives_lifted}
 use Rattle.outcome_causes.proofs.Plain.{in_left, in_right, in_both}
-use Rattle.outcome_causes.proofs.Scripts.{lost_of_run}
+use Rattle.outcome_causes.proofs.Scripts.{lost_of_run, lost_before, late, orders, run_tells, failed_early}
 use Rattle.call_causes.specs.programs_allowed.specs.Openings.{links_of_all, without_passes, client_view, opening_views, all_seats}
 use Rattle.call_causes.specs.programs_allowed.proofs.Fresh.{opening_fresh}
 use Rattle.call_causes.specs.joint_runs.proofs.Both.{AreBounded}
@@ -56,7 +56,6 @@ use Rattle.send_causes.proofs.Dropped.{ending_begins, ending_places, resting_pla
 use Rattle.send_causes.proofs.Early.{start, go, fitting, known, Any, ends_anyhow, closed_keeps}
 use Rattle.send_causes.proofs.Labelled.{ids_of_run, run_labelled}
 use Rattle.send_causes.proofs.Rests.{clients_rest}
-use Rattle.send_causes.proofs.Storied.{lost_before, late, orders, run_tells, failed_early}
 use Rattle.send_causes.proofs.Runs.{AreLabelledIn}
 use Rattle.send_causes.proofs.Whole.{run_orders, run_sent}
 

@@ -248,9 +248,6 @@ module _ (p : Plan) (q : IdPlan) (narrow : q.slots ≤ 65536) (is_call : Asked �
       -- what stands there stood there before, or is the attempt to which its id has come
       × ((id n : ℕ) → 0 < times_of id n c' vs' ts' → (0 < times_of id n c vs ts) ⊎ WasNow q c'.calls.words id n)
 
-  abbrev Times : ℕ → ℕ → ℕ
-  Times id n = times_of id n c vs ts
-
   module _ (i : ℕ) (seat : SeatState) (v : View) (t : Trial) (at_seat : get_elem? c.seats i ≡ some seat) (at_view : get_elem? vs i ≡ some v) (at_trial : get_elem? ts i ≡ some t) where
     -- the seat goes on with this program, trial and view; these attempts are made by the step
     record Goes (a : Calls) (x : Program) (u : Trial) (w : View) : Type 0 where

@@ -28,10 +28,10 @@ use Rattle.report_fits.proofs.Targets.{AreThere}
 use Rattle.call_causes.specs.owed_calls.specs.Lives.{ClosesInRun}
 use Rattle.run_theorems.proofs.Gave.{gave_heard}
 use Rattle.call_causes.specs.Lists.{given, shows_in_run, soon_of_run}
-use Rattle.call_causes.specs.Decided.{posted_by, decided_by}
+use Rattle.call_causes.specs.Decided.{decided_by}
 use Rattle.call_causes.specs.Scenes.{In}
 use Rattle.call_causes.proofs.Whys.{in_contains}
-use Rattle.call_causes.proofs.HandledWhole.{PostedLate, soon_behind, soon_of_readers, silent_of_readers, failed_inside}
+use Rattle.call_causes.proofs.HandledWhole.{PostedLate, soon_behind, silent_of_readers, failed_inside}
 use Rattle.send_causes.proofs.Beside.{gave_of_run, fixed_of_run, orders_here}
 
 some_response : (r : Option ResponseMeta) → IsSome r → has_response r ≡ true
@@ -64,11 +64,6 @@ module _ (script : List Item) (made : AreMade script) (there : AreThere script) 
 
   responds : (frame : Frame) → Responds frame → (has_response frame.meta.response && nat_lt (slot_in frame) (id_plan_of script).slots) ≡ true
   responds frame r = ap (λ b. b && nat_lt (slot_in frame) (id_plan_of script).slots) (some_response frame.meta.response r.0) ∙ lt-ltb (slot_in frame) (id_plan_of script).slots (subst (λ i. i < (id_plan_of script).slots) (sym (slot_is frame r)) inside.0)
-
-  -- where the reader of the link posted an error to the id
-  pub soon_where_posted : (e : ℕ) → In (record { id = id; error = e }) (shows_in_run script turns core is (posted_by (32 + k))) → (m : ℕ) (frame : Frame) → Gives m frame → Responds frame → Contains (soon_of_run script turns core is) (k, m)
-  soon_where_posted e posted m frame g r = in_contains (soon_of_run script turns core is) (k, m)
-      (soon_of_readers script made there range turns core is k o at (record { id = id; error = e }) posted m frame (there_too m frame g) (responds frame r) (slot_is frame r) (behind frame r))
 
   -- or an error was posted to it, by whatever seat, behind the end of the link's reading
   pub soon_where_late : (e : ℕ) → PostedLate script made there range turns core is k o at (record { id = id; error = e }) → (m : ℕ) (frame : Frame) → Gives m frame → Responds frame → Contains (soon_of_run script turns core is) (k, m)

@@ -1,17 +1,15 @@
 -- The same by the lines of the script: of links that no `send` names, and of calls by their operations.
-use Rattle.std.proofs.Common.{◌≡◌, ℕ, ◌+◌, List, Option, Some, None, refl, sym, ap, ◌∙◌, subst, arith}
+use Rattle.std.proofs.Common.{◌≡◌, ℕ, List, Option, Some, refl, sym, ap, ◌∙◌, subst, arith}
 use Rattle.std.specs.List.{AllByRecursion}
-use Rattle.std.specs.Prelude.{pos, slice_get, option_map, IsSome, IsTrue, Contains}
+use Rattle.std.specs.Prelude.{slice_get, IsTrue, Contains}
 use Rattle.sock_words.specs.declared.outcome.Outcome.{Outcome}
 use Rattle.brpc_model.specs.Attempts.{IsResponse}
-use Rattle.brpc_model.specs.Causes.{HasFault}
 use Rattle.brpc_model.specs.Frame.{Frame}
 use Rattle.brpc_model.specs.Items.{Item, Shape, CallLine, Send, Call}
 use Rattle.brpc_model.specs.Messages.{shown_id, request_frame}
-use Rattle.brpc_model.specs.Meta.{RequestMeta}
 use Rattle.brpc_model.specs.Operations.{Turn, Operation, operations, link_names, link_shapes}
 use Rattle.brpc_model.specs.Places.{names}
-use Rattle.brpc_model.specs.Reply.{Answer, Gives, Refuses, served, answered_by, reply}
+use Rattle.brpc_model.specs.Reply.{reply}
 use Rattle.brpc_model.specs.Stream.{stream}
 use Rattle.send_causes.specs.report_fits.proofs.Lists.{Has, contains_from}
 use Rattle.send_causes.specs.report_fits.proofs.Names.{same_name}
@@ -29,8 +27,8 @@ use Rattle.send_causes.specs.joint_runs.proofs.Runs.{AreMade}
 use Rattle.send_causes.specs.owed_calls.specs.Lives.{ClosesInRun}
 use Rattle.send_causes.specs.call_causes.specs.Lists.{given}
 use Rattle.served_runs.specs.Offered.{OffersInRun}
-use Rattle.served_runs.specs.Served.{IsForCalls, request_with}
-use Rattle.served_runs.proofs.Served.{gives_no_fault, gives_call_replies, gives_own_replies}
+use Rattle.served_runs.specs.Served.{IsForCalls}
+use Rattle.served_runs.proofs.Served.{gives_own_replies}
 
 -- no `send` of the script is to the name of link k
 abbrev pub IsUnnamed : List Item → ℕ → Type 0
@@ -47,31 +45,10 @@ unsent_of script os k none_ client t n slot version bytes it op life = by (task_
         none_ a.0 bytes (contains_from script (Send a.0 bytes) (subst (Has script) a.1 (are_from 0 1 script t.number s.operation s.there).there))
         (ap (slice_get (link_names script)) b.4 ∙ (named_at script life.task.number o.operation b.0 b.1 o.there b.2 ∙ ap (λ x. Some x) (sym same)))
 
--- a reply is an uncompressed response
-pub reply_plain : (f g : Frame) → reply f ≡ Some g → (g.meta.compress_type ≡ pos 0) × IsSome g.meta.response
-reply_plain f g is = by f.meta.request is
-  where
-    of_answer : (id : ℕ) (a : Answer) → ((answered_by id a).meta.compress_type ≡ pos 0) × IsSome (answered_by id a).meta.response
-    of_answer id (Gives payload attachment) = (refl, refl)
-    of_answer id (Refuses code text) = (refl, refl)
-
-    by : (o : Option RequestMeta) → option_map (λ request. answered_by f.meta.correlation_id (served f.meta.compress_type request f.payload f.attachment)) o ≡ Some g → (g.meta.compress_type ≡ pos 0) × IsSome g.meta.response
-    by None e = absurd (cc)
-    by (Some request) e = let z : Some (answered_by f.meta.correlation_id (served f.meta.compress_type request f.payload f.attachment)) ≡ Some g = e in
-        let same : answered_by f.meta.correlation_id (served f.meta.compress_type request f.payload f.attachment) ≡ g = cc in
-        subst (λ (x : Frame). (x.meta.compress_type ≡ pos 0) × IsSome x.meta.response) same (of_answer f.meta.correlation_id (served f.meta.compress_type request f.payload f.attachment))
-
 module _ (script : List Item) (made : AreMade script) (there : AreThere script) (range : AllByRecursion InRange script) (turns : List Turn) (core : Core) (is : IsRunWithCalls script turns core) (closes : ClosesInRun script turns core is)
     (offers : OffersInRun script turns core is) (k : ℕ) (shape : Shape) (opened : slice_get (link_shapes script) k ≡ Some shape) (serves : IsTrue shape.serve) (unnamed : IsUnnamed script k) where
   for_calls : IsForCalls script turns core is k shape
   for_calls = record { opened = opened; serves = serves; unsent = unsent_of script core.outcomes k unnamed }
-
-  -- the link gave no frame fault, and only uncompressed responses
-  pub link_faultless : HasFault (given core k) → ⊥
-  link_faultless fault = gives_no_fault script made there range turns core is closes offers k shape for_calls fault
-
-  pub link_plain : (n : ℕ) (frame : Frame) → slice_get (stream (given core k)).frames n ≡ Some frame → (frame.meta.compress_type ≡ pos 0) × IsSome frame.meta.response
-  link_plain n frame stands = let r = gives_call_replies script made there range turns core is closes offers k n shape frame for_calls stands in reply_plain (request_with r.asked (r.id + r.attempt + 1)) frame r.replies
 
   -- each response of a call's versions is the reply to the call's own request
   pub link_own_replies : (n i id : ℕ) (frame : Frame) (op : Operation) (call : CallLine) (outcome : Outcome) → slice_get (stream (given core k)).frames n ≡ Some frame → slice_get (operations script) i ≡ Some op → op.item ≡ Call call

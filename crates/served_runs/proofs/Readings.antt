@@ -25,10 +25,6 @@ use Rattle.send_causes.proofs.Faults.{Faults, fault_stays, fault_follows}
 abbrev pub IsBad : List ℕ → Type 0
 IsBad g = Faults 0 g ⊎ (LIMIT ≤ length g)
 
-pub bad_more : (g bytes : List ℕ) → IsBad g → IsBad (g ++ bytes)
-bad_more g bytes (inl f) = inl (fault_stays 0 g bytes f)
-bad_more g bytes (inr l) = inr (let e = length-append g bytes in omega (arith, e, l))
-
 -- or by a take that found so
 abbrev pub is_last : Taking → Bool
 is_last (Bytes bytes) = false
@@ -126,10 +122,6 @@ module _ (k : ℕ) where
 
   abbrev Ends : (Ended → Program) → Type 0
   Ends next = (how : Ended) (g' : List ℕ) (last' : Bool) → EndsSo g' last' how → Goes g' last' (next how)
-
-  nothing_more : (last : Bool) → (last || false) ≡ last
-  nothing_more true = refl
-  nothing_more false = refl
 
   or_true : (last : Bool) → (last || true) ≡ true
   or_true true = refl

@@ -27,7 +27,7 @@ use Rattle.send_causes.specs.run_theorems.specs.Heard.{heard_takes}
 use Rattle.served_runs.specs.Offered.{OffersInRun}
 use Rattle.send_causes.specs.call_causes.specs.Lists.{given}
 use Rattle.send_causes.proofs.Early.{known}
-use Rattle.served_runs.specs.Served.{took_in_all, IsForCalls, GivesReplies, GivesFront, GivesLast, GivesNothing, GivesNoFault, GivesCallReplies, GivesOwnReplies}
+use Rattle.served_runs.specs.Served.{took_in_all, IsForCalls, GivesReplies, GivesFront, GivesLast, GivesNoFault, GivesCallReplies, GivesOwnReplies}
 use Rattle.served_runs.proofs.Opened.{opened_word}
 use Rattle.served_runs.proofs.Own.{IsReplied, replied_at, faultless, own_reply}
 use Rattle.served_runs.proofs.Replies.{gives_all, gives_part, gives_at_end, link_inside}
@@ -35,10 +35,6 @@ use Rattle.served_runs.proofs.Replies.{gives_all, gives_part, gives_at_end, link
 by_true : {A : Type 0} (b : Bool) (x y : A) → IsTrue b → cond b x y ≡ x
 by_true true x y is = refl
 by_true false x y is = absurd (cc)
-
-first_none : (xs ys : List ℕ) → xs ++ ys ≡ [] → xs ≡ []
-first_none [] ys e = refl
-first_none (x ∷ xs) ys e = absurd (let z : x ∷ (xs ++ ys) ≡ [] = e in cc)
 
 pub shapes_many : (items : List Item) → length (filter_map opened_shape items) ≡ length (filter_map opened_name items)
 shapes_many [] = refl
@@ -66,9 +62,6 @@ module _ (script : List Item) (made : AreMade script) (there : AreThere script) 
   pub gives_last : GivesLast script turns core is
   gives_last k shape at serves end_ more = let x = link_open k shape at in
       gives_at_end script made turns core is offers k x.0 x.1 shape at closes (contains_in (heard_takes is k) AtEnd end_) more ∙ by_true shape.serve (given_for shape (took_in_all script turns core is k ++ more)) [] serves
-
-  pub gives_nothing : GivesNothing script turns core is
-  gives_nothing k shape at unserved = let x = part k shape at in first_none (given core k) x.0 (x.1 ∙ ap (λ b. cond b (given_for shape (took_in_all script turns core is k)) []) unserved)
 
   -- ## Calls
 

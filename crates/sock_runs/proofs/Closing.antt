@@ -131,7 +131,7 @@ fails_ended o w some_ socket next word is = let id : ℕ = word - 1 in let held 
     (subst (λ b. Fails o w (cond b next (address id held (λ _. next)))) (sym (ne_eqb word NO_SOCKET (λ e. socket (sym is ∙ e))))
     (fails_held o w (word - 1) (set_failed (word - 1) 1014 (λ _. release (socket_id_slot (word - 1)) (λ _. next))) (release (socket_id_slot (word - 1)) (λ _. next)) (omega arith) (inl (ap (λ z. socket_id_slot (z - 1)) (sym is)))))
 
-fails_ending : (o w : ℕ) → 0 < w → w ≢ NO_SOCKET → (os : List ℕ) (n : ℕ) → get_elem? os n ≡ some o → Fails o w (ending_of os)
+pub fails_ending : (o w : ℕ) → 0 < w → w ≢ NO_SOCKET → (os : List ℕ) (n : ℕ) → get_elem? os n ≡ some o → Fails o w (ending_of os)
 fails_ending o w some_ socket [] n at = absurd (some-ne-none o (sym at))
 fails_ending o w some_ socket (m ∷ os) zero at = λ word is. fails_ended o w some_ socket (ending_of os) word (is (some-injective m o at))
 fails_ending o w some_ socket (m ∷ os) (suc n) at = through_end (Fails o w) (fails_passes o w) (fails_opens o w) m (ending_of os) (fails_ending o w some_ socket os n at)
@@ -146,7 +146,7 @@ is_still (StoreOpen o w) next r = absurd (true≢false (sym r.0))
 is_still call next r = (refl, refl)
 
 -- a step of such a program: it finds that the life has gone on, or sets its slot's version odd, or leaves it to what follows
-what_fails : (p : Plan) (ws : List ℕ) (o w : ℕ) (call : Call) (next : ℕ → Program) → get_or ws (open_index p o) 0 ≡ w → Fails o w (Do call next)
+pub what_fails : (p : Plan) (ws : List ℕ) (o w : ℕ) (call : Call) (next : ℕ → Program) → get_or ws (open_index p o) 0 ≡ w → Fails o w (Do call next)
     → ((id : ℕ) × (id + 1 ≡ w) × (vref_version (get_or ws (ref_index (socket_id_slot id)) 0) ≢ socket_id_version id)) ⊎ ((call ≡ SetOdd (socket_id_slot (w - 1))) ⊎ Fails o w (next (found_at ws (word_of p call))))
 what_fails p ws o w (LoadOpen n) next word f = inr (inr (f (get_or ws (open_index p n) 0) (λ e. ap (λ z. get_or ws (open_index p z) 0) e ∙ word)))
 what_fails p ws o w (AddRef id) next word f = ⊎_elim (λ a. inl (id, a.0, a.1)) (λ g. inr (inr g)) (f (get_or ws (ref_index (socket_id_slot id)) 0))
