@@ -124,11 +124,7 @@ fn cut_frame(alloc: Global, held: &mut IoBuf) -> Result<Option<Frame>, NextFault
     let Some(sizes) = read_header(held)? else {
         return Ok(None);
     };
-    match read_frame(alloc, held, sizes) {
-        Ok(frame) => {
-            held.pop_front(12 + sizes.body as usize);
-            Ok(Some(frame))
-        }
-        Err(fault) => Err(fault),
-    }
+    let frame = read_frame(alloc, held, sizes)?;
+    held.pop_front(12 + sizes.body as usize);
+    Ok(Some(frame))
 }
