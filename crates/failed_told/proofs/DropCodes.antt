@@ -1,5 +1,5 @@
 -- With which code a life was failed: that of the `fail` of its name that was answered `failed`, or EFAILEDSOCKET where its link failed. And where a dropped message stands.
-use Rattle.std.proofs.Common.{◌≡◌, ◌≢◌, ℕ, zero, suc, ◌+◌, ◌*◌, ◌<◌, ◌≤◌, ◌⊎◌, inl, inr, Bool, true, false, cond, eqb, List, [], ◌∷◌, ◌++◌, length, flat_map, map, append-nil, refl, sym, ap, ◌∙◌, subst, arith}
+use Rattle.std.proofs.Common.{◌≡◌, ◌≢◌, ℕ, zero, suc, ◌+◌, ◌*◌, ◌<◌, ◌≤◌, ◌⊎◌, inl, inr, Bool, true, false, cond, eqb, List, [], ◌∷◌, length, flat_map, map, append-nil, refl, sym, ap, ◌∙◌, subst, arith}
 use Rattle.std.specs.Prelude.{Option, None, slice_index}
 use mathlib.Core.Logic.{dite}
 use mathlib.Core.Option.{some, some-injective, some-ne-none}
@@ -26,25 +26,23 @@ use Rattle.sock_model.specs.Layout.{place_index}
 use Rattle.sock_model.specs.Marks.{about}
 use Rattle.sock_model.specs.SlotRows.{marks_of}
 use Rattle.sock_model.specs.Weights.{is_coded, is_failer, is_saw, is_stored, is_told, only, pair, total}
-use Rattle.expire_told.specs.sock_rule.specs.slot_steps.proofs.Numbers.{only-same, only_is, pair-same, pair_is, pair_only}
-use Rattle.expire_told.specs.sock_rule.specs.slot_steps.proofs.Sums.{total-append, term_le}
+use Rattle.expire_told.specs.sock_rule.specs.slot_steps.proofs.Numbers.{only_is, pair-same, pair_is, pair_only}
+use Rattle.expire_told.specs.sock_rule.specs.slot_steps.proofs.Sums.{total-append}
 use Rattle.expire_told.specs.sock_rule.specs.Closing.{PlacesDiffer}
 use Rattle.expire_told.specs.sock_rule.specs.OnTable.{is_put, put_in}
 use Rattle.expire_told.specs.sock_rule.specs.declared.homes.Letter.{Letter}
 use Rattle.expire_told.specs.sock_rule.specs.declared.homes.SockHome.{SockHome}
 use Rattle.expire_told.specs.rpc_client.specs.Failing.{TriedTo}
-use Rattle.expire_told.specs.rpc_client.specs.Sending.{WroteAll}
 use Rattle.expire_told.specs.write_chain.specs.Noting.{Noted, nothing, finding, failing}
 use Rattle.seat_programs.specs.declared.task.Op.TheVariants as ops
 use Rattle.seat_programs.specs.declared.task.Task.{Task}
 use Rattle.seat_programs.specs.Told.{Became}
 use Rattle.expire_told.specs.sock_deeds.specs.Broken.{noted_links}
-use Rattle.expire_told.specs.sock_deeds.specs.Deeds.{Did}
-use Rattle.expire_told.specs.sock_deeds.specs.Runs.{IsOperation, IsFor, IsMessage, of_send, of_call, Seated, seat_of, DeedRun}
+use Rattle.expire_told.specs.sock_deeds.specs.Runs.{IsOperation, IsFor, IsMessage, of_send, of_call, seat_of, DeedRun}
 use Rattle.expire_told.specs.sock_deeds.proofs.Accepting.{log, act_of_entry, sent_for, sent_place}
-use Rattle.expire_told.specs.sock_deeds.proofs.Acts.{Act, All, after, before, did_of, done_of, final_of, later, has_marks, Late, marks_from, noted_before}
+use Rattle.expire_told.specs.sock_deeds.proofs.Acts.{Act, All, after, before, did_of, done_of, later, has_marks, Late, marks_from, noted_before}
 use Rattle.expire_told.specs.sock_deeds.proofs.Ending.{SetNow, ids_kept}
-use Rattle.expire_told.specs.sock_deeds.proofs.Entries.{from_on, on_there}
+use Rattle.expire_told.specs.sock_deeds.proofs.Entries.{on_there}
 use Rattle.expire_told.specs.sock_deeds.proofs.Fails.{FailedLife, life_by, fail_for, failer_once, life_is, made_born}
 use Rattle.expire_told.specs.sock_deeds.proofs.Few.{few_entries}
 use Rattle.expire_told.specs.sock_deeds.proofs.Growing.{back_grew}
@@ -115,11 +113,11 @@ tried_stored p n code v w t =
 
 on_short : (k : ℕ) (es : List Entry) → length (on k es) ≤ length es
 on_short k [] = omega arith
-on_short k (e ∷ es) = by_case (eqb e.link k)
+on_short k (e ∷ es) = by_case (eqb e.link k) (on_short k es)
   where
-    by_case : (b : Bool) → length (cond b (e ∷ on k es) (on k es)) ≤ suc (length es)
-    by_case true = let a = on_short k es in omega (arith, a)
-    by_case false = let a = on_short k es in omega (arith, a)
+    by_case : (b : Bool) → length (on k es) ≤ length es → length (cond b (e ∷ on k es) (on k es)) ≤ suc (length es)
+    by_case true less = omega (arith, less)
+    by_case false less = omega (arith, less)
 
 flat_term : {A B : Type 0} (f : B → ℕ) (l : A → List B) (xs : List A) (c : ℕ) (x : A) → get_elem? xs c ≡ some x → total f (l x) ≤ total f (flat_map l xs)
 flat_term f l [] c x e = absurd (some-ne-none x (sym e))
