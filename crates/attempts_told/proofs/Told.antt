@@ -58,7 +58,7 @@ asked_in : Op → Asked → Asked
 asked_in (ops.Call asked) other = asked
 asked_in op other = other
 
-same_asked : (a b : Asked) → ops.Call a ≡ ops.Call b → a ≡ b
+pub same_asked : (a b : Asked) → ops.Call a ≡ ops.Call b → a ≡ b
 unfolding asked_in
 same_asked a b e = ap (λ (o : Op). asked_in o a) e
 
@@ -144,7 +144,8 @@ module _ {O : Type 0} {g : Ghosts O} {state : O → OutState} {p : Plan} {slots 
       let long : m.0 ≡ asked.range = t.2 ∙ ap (λ (a : Asked). a.range) call in
       let room = x.room in let wide = same.0 in omega arith
 
-  few : (client : ℕ) (t : Task) (asked : Asked) → IsTask tasks_all outcomes client t → t.op ≡ ops.Call asked → last t.number + 2 ≤ asked.range
+  -- no call makes more attempts than it may
+  pub few : (client : ℕ) (t : Task) (asked : Asked) → IsTask tasks_all outcomes client t → t.op ≡ ops.Call asked → last t.number + 2 ≤ asked.range
   few client t asked is op =
       let call = subst (λ (x : Op). IsTask tasks_all outcomes client record { number = t.number; op = x }) op is in
       elim (one_reached t.number notes notes) [

@@ -38,7 +38,7 @@ module _ {O : Type 0} {g : Ghosts O} {state : O → OutState} {p : Plan} {slots 
   abbrev pub Says : ℕ → Outcome → Type 0
   Says n o = Became (setup ∷ clients) outcomes n o
 
-  says_own : (c : ℕ) (x : Client g state p (ids_of p slots)) → get_elem? (all_clients run) c ≡ some x → (j : ℕ) (y : Told) → get_elem? x.thread.ended.outcomes.items j ≡ some y → Says y.number y.outcome
+  pub says_own : (c : ℕ) (x : Client g state p (ids_of p slots)) → get_elem? (all_clients run) c ≡ some x → (j : ℕ) (y : Told) → get_elem? x.thread.ended.outcomes.items j ≡ some y → Says y.number y.outcome
   says_own c x at j y there =
       let f : Thread g → List Told = λ y. y.ended.outcomes.items in
       let list : get_elem? told c ≡ some x.thread.ended.outcomes.items = ap (λ (l : List (List Told)). get_elem? l c) (sym (all_are run f ∙ run.ran.told_is)) ∙ mapped (λ (y : Client g state p (ids_of p slots)). f y.thread) (all_clients run) c x at in

@@ -18,5 +18,15 @@ pub mod Drops
 pub mod PostedCodes
 pub mod Asked
 pub mod Whole
+mod SeenTmp
+mod NamesTmp
+mod SizesTmp
+pub mod Crew
+pub mod Before
+pub mod Makers
+pub mod Seeking
+pub mod Unopened
+pub mod Premises
+pub mod Ended
 pub mod Advances
 pub mod Again

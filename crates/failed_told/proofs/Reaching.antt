@@ -39,12 +39,12 @@ module _ {O : Type 0} (state : O → OutState) (p : Plan) (q : id_plan.Plan) whe
   went_grew name msg s t (unopened found c) = sent_grew state p name msg (Some outcome.Unopened) s.socks t.socks found
   went_grew name msg s t (to_socket socket u found e a) = let m = attempt_message state p q socket msg name s.socks u t found a in sent_grew state p name msg m.0 s.socks t.socks m.2
 
-  retry_grew : (r : Retry) (s t : Both) → RetriedBy state p q r s t → Grew s.socks t.socks
+  pub retry_grew : (r : Retry) (s t : Both) → RetriedBy state p q r s t → Grew s.socks t.socks
   retry_grew r s t (had_ended h) = stays_as s.socks t.socks h.socks
   retry_grew r s t (overtaken k u l o) = stays_as s.socks t.socks (o.socks ∙ l.socks)
   retry_grew r s t (went_again k u l w) = subst (λ (v : View). Grew v t.socks) l.socks (went_grew _ _ _ t w.went)
 
-  acted_grew : {g : Ghosts O} (number : ℕ) (op : Op) (by : Option Outcome) (s t : Stand g) → Acted state p q number op by s t → Grew s.me.0 t.me.0
+  pub acted_grew : {g : Ghosts O} (number : ℕ) (op : Op) (by : Option Outcome) (s t : Stand g) → Acted state p q number op by s t → Grew s.me.0 t.me.0
   acted_grew number (ops.Open n k) (Some by) s t a = opened_grew p n number a.0.pass.link by s.me t.me a.0.opened
   acted_grew number (ops.Send n bytes) by s t a = sent_grew state p n (letter_of number bytes) by s.me.0 t.me.0 (send_message state p q.slots (letter_of number bytes) n by s.me.0 s.calls t.me.0 t.calls a.0)
   acted_grew number (ops.Call asked) (Some outcome.Unopened) s t a = sent_grew state p (name_of asked 0) (letter_of number []) (Some outcome.Unopened) s.me.0 t.me.0 a.0.0

@@ -56,6 +56,8 @@ use Rattle.expire_told.specs.call_places.proofs.Log as log
 use Rattle.expire_told.specs.call_told.specs.Least.{is_made_for}
 use Rattle.expire_told.specs.call_told.proofs.Lists.{all_at}
 use Rattle.expire_told.proofs.Making.{mapped_from}
+use Rattle.attempts_told.specs.Attempts.{last_attempt}
+use Rattle.attempts_told.proofs.Last.{none_further}
 use Rattle.expire_told.specs.sock_deeds.proofs.Entries.{before}
 use Rattle.expire_told.specs.sock_deeds.proofs.Flats.{flat_from}
 use Rattle.failed_told.specs.Missed.{delivery_missed, attempt_missed, went_missed, acted_missed, acted_id, IsMadeBy, missed_in, id_of, IsBacked, attempt_of}
@@ -177,7 +179,7 @@ module _ {O : Type 0} {g : Ghosts O} {state : O → OutState} {p : Plan} {slots 
   abbrev crew : List (Client g state p q)
   crew = all_clients run
 
-  laws : IdLaws slots notes
+  pub laws : IdLaws slots notes
   laws = laws_of q notes kept words closing
 
   pub within : (c : ℕ) (x : Client g state p q) → get_elem? crew c ≡ some x → (slot : ℕ) (f : Note Asked → ℕ) → total f (notes_of slot (view_of x).notes) ≤ total f (notes_of slot notes)
@@ -185,14 +187,14 @@ module _ {O : Type 0} {g : Ghosts O} {state : O → OutState} {p : Plan} {slots 
       let h : View Asked → ℕ = λ v. total f (notes_of slot v.notes) in
       let a = term (λ (y : Client g state p q). h (view_of y)) crew c x at in let b = total_map h view_of crew in let d = ap (total h) (views_are run) in let e = noted.all slot f in omega (arith, a, b, d, e)
 
-  may_make : (c : ℕ) (x : Client g state p q) → get_elem? crew c ≡ some x → (n : ℕ) × MayMakeAll p q (tasks_of x) n
+  pub may_make : (c : ℕ) (x : Client g state p q) → get_elem? crew c ≡ some x → (n : ℕ) × MayMakeAll p q (tasks_of x) n
   may_make c x at = may_at p q (setup ∷ clients) (may.setup_may, may.clients_may) c (tasks_of x) (ap (λ (l : List (List Task)). get_elem? l c) (sym (tasks_are run)) ∙ mapped tasks_of crew c x at)
 
   numbers : (o : ℕ) → total (λ (x : Client g state p q). total (numbered o) (tasks_of x)) crew ≤ 1
   numbers o = let f : List Task → ℕ = λ ts. total (numbered o) ts in let a = total_map f tasks_of crew in let b = ap (total f) (tasks_are run) in let d = numbered_once p (setup ∷ clients) tasks o in omega (arith, a, b, d)
 
   -- one id at most was made for an operation
-  made_once : (o : ℕ) → total (makes o) notes ≤ 1
+  pub made_once : (o : ℕ) → total (makes o) notes ≤ 1
   made_once o =
       let f : View Asked → ℕ = λ v. total (makes o) v.notes in
       let a = noted.made o in let b = total_map f view_of crew in let c = ap (total f) (views_are run) in
@@ -263,7 +265,7 @@ module _ {O : Type 0} {g : Ghosts O} {state : O → OutState} {p : Plan} {slots 
         let few = tried_few x.thread x.is slot version r.attempt (version_low r.id) in
         lock_id laws r.id r.attempt k s.calls.view (view_of x) u.calls.view l.got knows (within c x at) (omega (arith, counted, one, few))
 
-    again_later : get_elem? (deeds_of x) i ≡ some went → 0 < r.attempt
+    pub again_later : get_elem? (deeds_of x) i ≡ some went → 0 < r.attempt
     again_later there = dite (ℕ_discrete r.attempt 0)
         (λ z. absurd (let a = term (by_retry is_first) (deeds_of x) i went there in let b = none_first x.thread x.is in let d = only-at 0 r.attempt z in omega (arith, a, b, d)))
         (λ n. omega (arith, n))
@@ -324,19 +326,48 @@ module _ {O : Type 0} {g : Ghosts O} {state : O → OutState} {p : Plan} {slots 
     asks = λ asked e. ap (λ (y : Asked). y.operation) (sym e);
   }
 
-  -- so the log has no entry with its place index
+  -- a message of the log with the place index of an attempt was sent by the deed that is that attempt
+  pub record IsSender (o id n : ℕ) (e : Entry) : Type 0 where
+    pub place : ℕ
+    pub client : Client g state p q
+    pub in_crew : get_elem? crew place ≡ some client
+    pub index : ℕ
+    pub deed : Deed g state p q
+    pub there : get_elem? (deeds_of client) index ≡ some deed
+    pub at : ℕ
+    pub sent : get_elem? (entries_of deed) at ≡ some e
+    pub attempt : IsAttemptOf o id n deed
+
+  pub sender : (o id n : ℕ) → n < 8 → IsIdOf slots notes o id → (k : ℕ) (e : Entry) → get_elem? run.closed.ordered.log k ≡ some e → e.heading.place ≡ 8 * o + n → IsSender o id n e
+  sender o id n low is k e logged place =
+      let a = log.authored p run.closed.view.found run.closed.view.lists run.closed.ordered k e logged in
+      let y = mapped_from own_of crew a.seat _ (ap (λ l. get_elem? l a.seat) (sym (lists_are run)) ∙ a.list) in
+      let m : ℕ = before a.author run.closed.ordered.by k in
+      let own = flat_from entries_of (deeds_of y.0) m e (subst (λ (l : List Entry). get_elem? l m ≡ some e) (sym y.2) a.place) in
+      record { place = a.seat; client = y.0; in_crew = y.1; index = own.0; deed = own.1; there = own.2; at = own.3; sent = own.4; attempt = frame_attempt o id n low is a.seat y.0 y.1 own.0 own.1 own.2 own.3 e own.4 place }
+
+  -- so the log has no entry with the place index of one that came to nothing
   pub not_accepted : (code : ℕ) (c : ℕ) (x : Client g state p q) → get_elem? crew c ≡ some x → (i : ℕ) (d : Deed g state p q) → get_elem? (deeds_of x) i ≡ some d → missed_in d ≡ Some code → IsBacked (view_of x) d → slot_of (id_of d) < slots
       → (f : IsNothing d) × ((k : ℕ) (e : Entry) → get_elem? run.closed.ordered.log k ≡ some e → e.heading.place ≡ 8 * f.operation + attempt_of d → ⊥)
   not_accepted code c x at i d there is backed inside =
       let f = missed_nothing code c x at i d there is backed inside in (
         f,
         λ k e logged place. (
-            let a = log.authored p run.closed.view.found run.closed.view.lists run.closed.ordered k e logged in
-            let y = mapped_from own_of crew a.seat _ (ap (λ l. get_elem? l a.seat) (sym (lists_are run)) ∙ a.list) in
-            let m : ℕ = before a.author run.closed.ordered.by k in
-            let own = flat_from entries_of (deeds_of y.0) m e (subst (λ (l : List Entry). get_elem? l m ≡ some e) (sym y.2) a.place) in
             let low = attempt_low d in
-            let other = frame_attempt f.operation (id_of d) (attempt_of d) (omega (arith, low)) f.id a.seat y.0 y.1 own.0 own.1 own.2 own.3 e own.4 place in
-            let same = alone f.operation (id_of d) (attempt_of d) inside c x at i d there f.attempt a.seat y.0 y.1 own.0 own.1 own.2 other in
-            none_there own.3 e (ap (λ (l : List Entry). get_elem? l own.3) (sym f.no_frame ∙ ap entries_of (sym same)) ∙ own.4)),
+            let w = sender f.operation (id_of d) (attempt_of d) (omega (arith, low)) f.id k e logged place in
+            let same = alone f.operation (id_of d) (attempt_of d) inside c x at i d there f.attempt w.place w.client w.in_crew w.index w.deed w.there w.attempt in
+            none_there w.at e (ap (λ (l : List Entry). get_elem? l w.at) (sym f.no_frame ∙ ap entries_of (sym same)) ∙ w.sent)),
       )
+
+  -- ## The last attempt
+
+  -- an attempt that a deed made is none behind the last one
+  pub made_low : (o id n : ℕ) → IsIdOf slots notes o id → (c : ℕ) (x : Client g state p q) → get_elem? crew c ≡ some x → (i : ℕ) (d : Deed g state p q) → get_elem? (deeds_of x) i ≡ some d → IsAttemptOf o id n d → n ≤ last_attempt notes o
+  made_low o id n is c x at i d there (at_first z w) = omega (arith, z)
+  made_low o id n is c x at i d there (again s w) =
+      let f : ℕ = is.first in
+      let made = term (by_retry (is_retry id n)) (deeds_of x) i d there in
+      let few : total (by_retry (is_retry id n)) (deeds_of x) ≤ total (is_attempt f n) (notes_of is.slot (view_of x).notes) = subst (λ (z : ℕ). total (by_retry (is_retry z n)) (deeds_of x) ≤ total (is_attempt f n) (notes_of is.slot (view_of x).notes)) (sym is.id_is) (tried_few x.thread x.is is.slot f n is.low) in
+      let all = within c x at is.slot (is_attempt f n) in
+      let one = term (is_made_for f o) (notes_of is.slot notes) is.place (Made f is.range is.asked) is.made in let here = pair-at f o f is.asked.operation refl is.operation in
+      none_further o notes is.slot f n notes (omega (arith, one, here)) (omega (arith, made, few, all, w))

@@ -1,5 +1,5 @@
 -- Why a client's call failed whose last attempt came to nothing: as a whole.
-use Rattle.std.proofs.Common.{◌≡◌, ℕ, ◌<◌, ◌≤◌, ◌⊎◌, List, ◌∷◌, length, map, sym, ap, ◌∙◌, subst, arith}
+use Rattle.std.proofs.Common.{◌≡◌, ℕ, ◌+◌, ◌<◌, ◌≤◌, ◌⊎◌, List, ◌∷◌, length, map, sym, ap, ◌∙◌, subst, arith}
 use Rattle.std.specs.Prelude.{Option}
 use mathlib.Core.Option.{some}
 use lib.ListN.{get_elem?}
@@ -35,12 +35,14 @@ use Rattle.expire_told.specs.sock_deeds.proofs.Accepting.{log}
 use Rattle.expire_told.specs.sock_deeds.proofs.Orders.{orders}
 use Rattle.expire_told.specs.sock_deeds.proofs.Tasks.{same_task}
 use Rattle.expire_told.specs.sock_deeds.proofs.Whole.{fixed}
+use Rattle.attempts_told.specs.Attempts.{last_attempt}
 use Rattle.failed_told.specs.Missed.{id_of, attempt_of}
 use Rattle.failed_told.specs.Reasons.{IsCaused}
 use Rattle.failed_told.proofs.Clients.{Says}
 use Rattle.failed_told.proofs.Fallen.{same_range, one_operation, unordered, Fallen, fallen}
 use Rattle.failed_told.proofs.Losses.{IsAskedIn, deed_why}
-use Rattle.failed_told.proofs.Verdicts.{made_so, MissedLast, IsAskedSo, last_attempt}
+use Rattle.failed_told.proofs.Single.{made_low}
+use Rattle.failed_told.proofs.Verdicts.{made_so, MissedLast, IsAskedSo, last_attempt as last_asked}
 use Rattle.failed_told.proofs.Codes.{IsReadCode}
 use Rattle.failed_told.proofs.Views.{queued_in}
 
@@ -70,6 +72,10 @@ module _ {O : Type 0} {g : Ghosts O} {state : O → OutState} {p : Plan} {slots 
       pub asked : Asked
       pub task : IsOperation every outcomes client asked.operation (ops.Call asked)
       pub number : asked.operation ≡ e.lock.content.operation
+      pub asks : IsAskedIn l.deed asked
+      pub free : IsUnordered p every outcomes (fixed drun differ gave) gave (orders drun differ) e.lock.content.operation (attempt_of l.deed)
+      pub last : attempt_of l.deed + 2 ≡ asked.range
+      pub low : attempt_of l.deed ≤ last_attempt notes e.lock.content.operation
       pub why : Fallen run tasks may notes kept words closing noted outcomes drun seats logged differ gave all_there l.place l.client l.in_crew l.index l.deed l.there e.code l.missed l.backed client e.lock.content.operation asked (id_of l.deed) (attempt_of l.deed)
 
     pub missed_why : IsAskedSo run tasks may notes kept words closing noted keeps outcomes said_own said_ended others c x at one e (fixed drun differ gave) gave (orders drun differ) → (l : MissedHere) → IsFallen l
@@ -83,7 +89,7 @@ module _ {O : Type 0} {g : Ghosts O} {state : O → OutState} {p : Plan} {slots 
         let its : none_.0.operation ≡ e.lock.content.operation =
         one_operation run tasks may notes kept words closing noted outcomes drun seats logged differ gave all_there none_.0.operation (id_of l.deed) e.lock.slot first (parts e.lock.word.0).range m.1 m.0 e.cause.inside (omega (arith, low)) none_.0.id (sym same_id) m.3 ∙ m.2 in
         let number : w.asked.operation ≡ e.lock.content.operation = none_.0.asks w.asked w.is ∙ its in
-        let last = last_attempt run tasks may notes kept words closing noted keeps outcomes said_own said_ended others c x at one e (fixed drun differ gave) gave (orders drun differ) asks l in
+        let last = last_asked run tasks may notes kept words closing noted keeps outcomes said_own said_ended others c x at one e (fixed drun differ gave) gave (orders drun differ) asks l in
         let task = same_task drun is.0 last.client record { number = w.asked.operation; op = ops.Call w.asked } record { number = e.lock.content.operation; op = ops.Call last.asked } is.1 last.task number in
         let range : w.asked.range ≡ last.asked.range = same_range w.asked last.asked (ap (λ (t : Task). t.op) task.1) in
         let two = last.last in let n = l.attempt_is in
@@ -93,5 +99,9 @@ module _ {O : Type 0} {g : Ghosts O} {state : O → OutState} {p : Plan} {slots 
           asked = w.asked;
           task = is.1;
           number = number;
+          asks = w.is;
+          free = free;
+          last = omega (arith, two, range, n);
+          low = subst (λ (o : ℕ). attempt_of l.deed ≤ last_attempt notes o) its (made_low run tasks may notes kept words closing noted none_.0.operation (id_of l.deed) (attempt_of l.deed) none_.0.id l.place l.client l.in_crew l.index l.deed l.there none_.0.attempt);
           why = fallen run tasks may notes kept words closing noted outcomes drun seats logged differ gave all_there l.place l.client l.in_crew l.index l.deed l.there e.code l.missed l.backed is.0 e.lock.content.operation w.asked (id_of l.deed) is.1 free (omega (arith, two, range, n)) w.why;
         }
