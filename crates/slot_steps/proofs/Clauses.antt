@@ -5,21 +5,14 @@ use mathlib.Core.Option.{some}
 use native.Mathlib.Decide.{ℕ_discrete, dec_le}
 use lib.ListN.{get_elem?}
 use Rattle.sock_model.specs.declared.marks.Mark.{Mark}
-use Rattle.sock_model.specs.Weights.{total, tally, is_claimed, is_hold, is_saw, is_told, is_stored, is_known, is_failer, is_freer, is_born, is_tried, is_coding, is_linked}
+use Rattle.sock_model.specs.Weights.{total, tally, is_claimed, is_hold, is_saw, is_told, is_stored, is_known, is_failer, is_born, is_tried, is_linked}
 use Rattle.sock_model.specs.Slots.{SlotFacts, live, count, SlotLaw}
 use Rattle.slot_steps.proofs.Sums.{term_le}
-use Rattle.slot_steps.proofs.Numbers.{live_le, live_is, life-in, life_is, life_le}
+use Rattle.slot_steps.proofs.Numbers.{live_le, life-in, life_is}
 
 module _ (first : ℕ) (l : SlotFacts) (law : SlotLaw first (live l) l) where
   lives_le : live l ≤ 1
   lives_le = live_le l.tag l.version (tally _ l.marks)
-
-  lives_even : 0 < live l → l.version % 2 ≡ 0
-  lives_even p = (live_is l.tag l.version (tally _ l.marks) p).1
-
-  -- an odd slot has its tag taken
-  pub odd_taken : l.version % 2 ≡ 1 → l.tag ≡ 1
-  odd_taken odd = dite (ℕ_discrete l.tag 0) (λ e. absurd (omega (arith, law.free_even e))) (λ n. omega (arith, law.tagged))
 
   -- a slot that is taken, or was found taken, is claimed or had a life
   pub taken_for : first % 2 ≡ 0 → 0 < l.tag + count is_tried l → (0 < count is_claimed l) ⊎ (0 < count (is_born first) l)
@@ -27,42 +20,18 @@ module _ (first : ℕ) (l : SlotFacts) (law : SlotLaw first (live l) l) where
       (λ none_. inr (omega (arith, law.born first, life-in first first (l.version + live l) (omega arith) (omega (arith, law.begun)) even)))
       (λ n. inl (omega arith))
 
-  -- a life that is held is live, or it was failed
-  pub hold_live : (h : ℕ) → 0 < count (is_hold h) l → ((l.version ≡ h) × (live l ≡ 1)) ⊎ (l.version ≡ h + 1)
-  hold_live h p = let t = law.held h p in let t₀ = t.0 in let le = lives_le in dite (ℕ_discrete (live l) 0) (λ e. inr (omega arith)) (λ n. inl (omega arith, omega arith))
-
-  -- a life stands as Born once, where it was born
-  pub born_once : (h : ℕ) → count (is_born h) l ≤ 1
-  born_once h = omega (arith, law.born h, life_le first h (l.version + live l))
-
-  -- each life that is known was born
-  pub known_born : (h : ℕ) → 0 < count (is_known h) l → 0 < count (is_born h) l
-  known_born h p = omega (arith, law.born h, law.known h p)
-
   -- a life that is known, and behind a version that was seen, has one who failed it
   pub dead_failed : (h w : ℕ) → 0 < count (is_known h) l → 0 < count (is_saw w) l → h < w → count (is_failer h) l ≡ 1
   dead_failed h w p q less = let t = life_is first h (l.version + live l) (omega (arith, law.known h p)) in let t₀ = t.0 in let s = law.saw w q in law.failed h ∙ life-in first h l.version t₀ (omega arith) t.2
-
-  -- and who freed it, where its slot went on
-  pub ended_freed : (h : ℕ) → 0 < count (is_known h) l → h + 1 < l.version → count (is_freer h) l ≡ 1
-  ended_freed h p less = let t = life_is first h (l.version + live l) (omega (arith, law.known h p)) in law.ended h ∙ life-in first h (l.version - 1) t.0 (omega arith) t.2
 
   module _ (j : ℕ) (m : List Mark) (here : get_elem? l.marks j ≡ some m) where
     all : (f : Mark → ℕ) → total f m ≤ tally f l.marks
     all f = term_le (total f) l.marks j m here
 
-    -- Odd: a life that is held and was found failed is failed
-    pub odd_stays : (h : ℕ) → 0 < total (is_hold h) m → 0 < total (is_saw (h + 1)) m → l.version ≡ h + 1
-    odd_stays h p q = let t = law.held h (omega (arith, all (is_hold h))) in let t₀ = t.0 in let s = law.saw (h + 1) (omega (arith, all (is_saw (h + 1)))) in omega arith
-
     -- Code: the code that was told of a life that is held stands
     pub code_stays : (h c : ℕ) → 0 < total (is_hold h) m → 0 < total (is_told h c) m → (l.code ≡ c) × (c ≢ 0) × (l.version ≡ h + 1) × (0 < count (is_stored h c) l)
     code_stays h c p q = let s = law.told h c (omega (arith, all (is_told h c))) in let t = law.code_is h c s in let t₁ = t.1 in let k = law.held h (omega (arith, all (is_hold h))) in let k₀ = k.0 in let le = lives_le in
         let at : l.version ≡ h + 1 = omega arith in (t.2 (sym at), t.0, at, s)
-
-    -- Coding: its seat holds the life and found it failed
-    pub coding_odd : (h : ℕ) → 0 < total (is_coding h) m → (0 < total (is_hold h) m) × (l.version ≡ h + 1)
-    coding_odd h p = let t = (law.codes j m here).1 h p in (t.0, odd_stays h t.0 t.1)
 
     -- whoever holds a life reads its link
     pub link_held : (h : ℕ) → 0 < total (is_hold h) m → 0 < count (is_linked h l.link) l

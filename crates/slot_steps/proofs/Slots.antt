@@ -17,10 +17,6 @@ busy-parts (Claimed n k) = omega arith
 busy-parts (Recycling w) = omega arith
 busy-parts _ = omega arith
 
-pub recycled_is : (w : ℕ) (x : Mark) → 0 < is_recycled w x → x ≡ Recycling w
-recycled_is w (Recycling k) p = ap Recycling (only_is w k p)
-recycled_is w _ p = absurd (omega arith)
-
 pub any_recycled : (x : Mark) → 0 < is_recycling x → (y : ℕ) × (x ≡ Recycling y)
 any_recycled (Recycling y) p = (y, refl)
 any_recycled _ p = absurd (omega arith)
