@@ -34,6 +34,7 @@ use Rattle.seat_programs.specs.declared.task.Task.{Task}
 use Rattle.seat_programs.specs.Scripts.{all_tasks}
 use Rattle.seat_programs.specs.Tasks.{plan_of, calls}
 use Rattle.seat_programs.specs.Told.{TaskFits, OpFits, IsTask, Became}
+use Rattle.seat_programs.specs.ToldCalls.{IsSent}
 use Rattle.report_fits.proofs.Lists.{has_from, all_at as all_there}
 use Rattle.rpc_client.specs.declared.acting.Told.{Told}
 use Rattle.call_whys.specs.call_told.specs.Answers.{IsGiver}
@@ -49,7 +50,7 @@ use Rattle.call_whys.specs.call_deeds.specs.Retried.{all_asked}
 use Rattle.call_whys.specs.call_deeds.proofs.Ran.{AreLater}
 use Rattle.call_whys.specs.call_deeds.proofs.Told.{task_at}
 use Rattle.callless_fits.specs.sock_deeds.specs.Told.{fixed_by, ToldSockets}
-use Rattle.attempts_told.specs.Attempts.{AreAttemptsTold}
+use Rattle.attempts_told.specs.Attempts.{last_attempt, AreAttemptsTold}
 use Rattle.attempts_told.proofs.Reading.{rest_unmoved, read_unmoved}
 use Rattle.attempts_told.proofs.Told.{attempts_told}
 use Rattle.script_calls.specs.Reading.{IdSeat, begins, HasRead}
@@ -99,14 +100,14 @@ module _ {O I P : Type 0} (g : Ghosts O) (out : O → OutState) (inn : I → InS
   -- ## What is known of the clients
 
   -- whoever read the links advanced no attempt
-  own : (i f n : ℕ) → total (is_attempt f n) (notes_of i notes) ≤ total (λ (v : View Asked). advances i f n v) (map view_of seats)
+  pub own : (i f n : ℕ) → total (is_attempt f n) (notes_of i notes) ≤ total (λ (v : View Asked). advances i f n v) (map view_of seats)
   own i f n =
       let a = read_unmoved out inn q (calls script) 0 ends ends' (begins read.main) read.between read.read i f n in
       let b = rest_unmoved EEOF q (calls script) read.between read.last read.rest i f n in
       let c = ap (λ (l : List (Noted Asked)). total (is_attempt f n) (notes_of i l)) (read.took.notes ∙ flat_mapped view_of (λ (v : View Asked). v.notes) seats) in
       let d = each_notes i (is_attempt f n) (map view_of seats) in omega arith
 
-  later : (j : ℕ) (c : Client g out p q) → get_elem? clients j ≡ some c → AreLater all outcomes (all_asked c.thread c.is)
+  pub later : (j : ℕ) (c : Client g out p q) → get_elem? clients j ≡ some c → AreLater all outcomes (all_asked c.thread c.is)
   later j c at =
       let w = mapped_from (λ (x : Thread g). x) threads j c.thread (ap (λ (l : List (Thread g)). get_elem? l j) (sym (all_are left.ran (λ (x : Thread g). x))) ∙ mapped_at (λ (x : Client g out p q). x.thread) clients j c at) in
       client_later g out inn bytes script reads told ended places seats left ends ends' last read outcomes c.first c.thread c.is
@@ -174,10 +175,15 @@ module _ {O I P : Type 0} (g : Ghosts O) (out : O → OutState) (inn : I → InS
     t = sockets_told g out inn bytes script reads told ended places seats left ends ends' last read halves kept gave links given givers
 
     pub attempts_of : AreAttemptsTold p (all_tasks script) outcomes (fixed_by t.broken [] t.fails) gave t.orders
+    unfolding attempts_told
     attempts_of =
         let ids = are_ids g out inn bytes script reads told ended places seats left ends ends' last read in
         let tells = subst (λ (l : List (List Task)). ToldSockets p l outcomes (fixed_by t.broken [] t.fails) gave t.orders t.core) (sym left.tasks) t.tells in
-        subst (λ (l : List (List Task)). AreAttemptsTold p l outcomes (fixed_by t.broken [] t.fails) gave t.orders) left.tasks
-        (attempts_told left.ran outcomes (may g out inn bytes script reads told ended places seats left ends ends' last read) notes read.last.view.kept read.words read.closing
+        let its : AreAttemptsTold p all outcomes (fixed_by t.broken [] t.fails) gave t.orders =
+        attempts_told left.ran outcomes (may g out inn bytes script reads told ended places seats left ends ends' last read) notes read.last.view.kept read.words read.closing
         (have g out inn bytes script reads told ended places seats left ends ends' last read) own later ids.made two ids.one (fixed_by t.broken [] t.fails) gave t.orders t.core tells
-        (sockets_logged g out inn bytes script reads told ended places seats left ends ends' last read halves kept gave links given givers) shown)
+        (sockets_logged g out inn bytes script reads told ended places seats left ends ends' last read halves kept gave links given givers) shown in record {
+          last = last_attempt notes;
+          few = subst (λ (l : List (List Task)). (client : ℕ) (u : Task) (asked : Asked) → IsTask l outcomes client u → u.op ≡ ops.Call asked → last_attempt notes u.number + 2 ≤ asked.range) left.tasks its.few;
+          sent = subst (λ (l : List (List Task)). (k : ℕ) → k < p.links → AllByRecursion (IsSent p l outcomes (fixed_by t.broken [] t.fails) gave t.orders (last_attempt notes) k) (t.orders k).accepted) left.tasks its.sent;
+        }

@@ -1,4 +1,4 @@
--- Why each `expire` of a script has its outcome; and no two calls have a version in common.
+-- Each `expire` of a script asks for a call; and what whoever read the links keeps in mind.
 use Rattle.std.proofs.Common.{◌≡◌, ℕ, true, false, List, ◌∷◌, map, length, Option, Some, Ok, sym, ap, ◌∙◌, subst}
 use Rattle.std.specs.Prelude.{slice_get}
 use Rattle.sock_io.specs.declared.link.Out.{Ghosts}
@@ -73,16 +73,8 @@ module _ {O I P : Type 0} (g : Ghosts O) (out : O → OutState) (inn : I → InS
   tally : Tally (begins read.main) read.last
   tally = tally_then (begins read.main) read.between read.last (read_accounts out inn q (calls script) 0 ends ends' (begins read.main) read.between read.read) (rest_accounts EEOF q (calls script) read.between read.last read.rest)
 
-  keeps : HaveKeptOf (map view_of seats) read.last.view.kept
+  pub keeps : HaveKeptOf (map view_of seats) read.last.view.kept
   keeps = have_kept (map view_of seats) read.main.me.0 read.last.view (read.took.kept ∙ flat_mapped view_of (λ (v : View Asked). v.kept) seats) tally.grows
 
-  of_calls : AreOfCalls all outcomes
+  pub of_calls : AreOfCalls all outcomes
   of_calls = subst (λ (l : List (List Task)). AreOfCalls l outcomes) (sym left.tasks) (script_calls bytes script reads outcomes)
-
-  -- why each `expire` has its outcome, and each call versions of its own
-  pub calls_told : (fixed : Fixed) (gave : ℕ → List ℕ) (orders : ℕ → Order) → AreCallsTold p (all_tasks script) outcomes fixed gave orders
-  calls_told fixed gave orders = subst (λ (l : List (List Task)). AreCallsTold p l outcomes fixed gave orders) left.tasks record {
-    expires = expire_why left.ran (are g out inn bytes script reads told ended places seats left ends ends' last read) (may g out inn bytes script reads told ended places seats left ends ends' last read) read.last.view.notes read.last.view.kept read.words read.closing (have g out inn bytes script reads told ended places seats left ends ends' last read) keeps outcomes (said g out inn bytes script reads told ended places seats left ends ends' last read) (said_ended g out inn bytes script reads told ended places seats left ends ends' last read) (begun_not g out inn bytes script reads told ended places seats left ends ends' last read) fixed gave orders of_calls;
-    expired_once = once left.ran (are g out inn bytes script reads told ended places seats left ends ends' last read) (may g out inn bytes script reads told ended places seats left ends ends' last read) read.last.view.notes read.last.view.kept read.words read.closing (have g out inn bytes script reads told ended places seats left ends ends' last read) keeps outcomes (said g out inn bytes script reads told ended places seats left ends ends' last read) (said_ended g out inn bytes script reads told ended places seats left ends ends' last read) (begun_not g out inn bytes script reads told ended places seats left ends ends' last read);
-    versions = calls_apart g out inn bytes script reads told ended places seats left ends ends' last read;
-  }

@@ -22,4 +22,5 @@ pub mod Sockets
 pub mod Attempted
 pub mod Versions
 pub mod Expiring
+pub mod Failing
 pub mod Whole

@@ -37,7 +37,7 @@ use Rattle.script_calls.proofs.Answered.{run_answered}
 use Rattle.script_calls.proofs.Asked.{AskFor, all_ask, ids_made, notes_of_seats}
 use Rattle.script_calls.proofs.Shown.{run_shown}
 use Rattle.script_calls.proofs.Attempted.{attempts_of}
-use Rattle.script_calls.proofs.Expiring.{calls_told}
+use Rattle.script_calls.proofs.Failing.{calls_told}
 use Rattle.script_calls.proofs.Sockets.{sockets_told}
 use Rattle.script_calls.proofs.Whole.{whole_if}
 
@@ -141,7 +141,7 @@ module _ (P : Type 0) {O I : Type 0} (out : O → OutState) (inn : I → InState
           reported = r.reported;
           answered = answered;
           sockets = sockets;
-          on_calls = calls_told g out inn bytes script reads r.told r.ended r.places r.ids (left_of r) r.ends r.ends' r.last r.read (fixed_by sockets.broken [] sockets.fails) answered.gave sockets.orders;
+          on_calls = calls_told g out inn bytes script reads r.told r.ended r.places r.ids (left_of r) r.ends r.ends' r.last r.read r.halves r.kept answered.gave links r.given_back answered.givers;
           once = run_shown out inn (ids_of (plan_of script) (length (calls script))) (calls script) (plan_of script).operations r.told r.ended r.last r.ids r.ends r.ends' (own_told r) (balanced_told r) r.read;
           whole = whole_if bytes script reads text (outcomes_of (plan_of script).operations r.told r.ended r.last) r.places answered.gave links long r.reported sockets;
           attempts = attempts_of g out inn bytes script reads r.told r.ended r.places r.ids (left_of r) r.ends r.ends' r.last r.read r.halves r.kept answered.gave links r.given_back answered.givers;

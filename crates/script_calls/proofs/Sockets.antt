@@ -97,14 +97,14 @@ module _ {O I P : Type 0} (g : Ghosts O) (out : O → OutState) (inn : I → InS
   abbrev outcomes : List (Option Outcome)
   outcomes = outcomes_of p.operations told ended last
 
-  long : length outcomes ≡ p.operations
+  pub long : length outcomes ≡ p.operations
   long = long_each _ ((told ++ ended) ++ last ∷ []) ∙ none_long p.operations
 
-  differ : PlacesDiffer left.ran.closed.ordered.log
+  pub differ : PlacesDiffer left.ran.closed.ordered.log
   differ = log_differs left.ran (are g out inn bytes script reads told ended places seats left ends ends' last read) (may g out inn bytes script reads told ended places seats left ends ends' last read) read.last.view.notes
       (laws g out inn bytes script reads told ended places seats left ends ends' last read) (have g out inn bytes script reads told ended places seats left ends ends' last read)
 
-  abbrev run : DeedRun g out p all outcomes places left.vrefs left.outs
+  abbrev pub run : DeedRun g out p all outcomes places left.vrefs left.outs
   run = deed_run left.ran outcomes (are g out inn bytes script reads told ended places seats left ends ends' last read) (may g out inn bytes script reads told ended places seats left ends ends' last read)
       (subst (AllHaveLinks 0) (sym left.tasks) (script_linked script)) long (reports g out inn bytes script reads told ended places seats left ends ends' last read)
       (setup_later g out inn bytes script reads told ended places seats left ends ends' last read outcomes) (others_later g out inn bytes script reads told ended places seats left ends ends' last read outcomes)

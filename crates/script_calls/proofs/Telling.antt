@@ -73,12 +73,12 @@ use Rattle.script_calls.proofs.Shown.{view_of, read_once}
 use Rattle.script_calls.proofs.Said.{own_said, end_said, in_front}
 
 -- what stands in a list of two parts stands in one of them
-split : {A : Type 0} (xs ys : List A) (i : ℕ) (x : A) → get_elem? (xs ++ ys) i ≡ some x → (get_elem? xs i ≡ some x) ⊎ ((j : ℕ) × (get_elem? ys j ≡ some x))
+pub split : {A : Type 0} (xs ys : List A) (i : ℕ) (x : A) → get_elem? (xs ++ ys) i ≡ some x → (get_elem? xs i ≡ some x) ⊎ ((j : ℕ) × (get_elem? ys j ≡ some x))
 split [] ys i x e = inr (i, e)
 split (y ∷ xs) ys zero x e = inl e
 split (y ∷ xs) ys (suc i) x e = split xs ys i x e
 
-only_one : {A : Type 0} (a : A) (j : ℕ) (x : A) → get_elem? (a ∷ []) j ≡ some x → a ≡ x
+pub only_one : {A : Type 0} (a : A) (j : ℕ) (x : A) → get_elem? (a ∷ []) j ≡ some x → a ≡ x
 only_one a zero x e = some-injective a x e
 only_one a (suc j) x e = absurd (some-ne-none x (sym e))
 

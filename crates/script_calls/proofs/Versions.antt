@@ -98,7 +98,7 @@ module _ {O I P : Type 0} (g : Ghosts O) (out : O → OutState) (inn : I → InS
     ended = e.noted;
   }
 
-  told_own : (d j : ℕ) (ts : List Told) (x : Told) → get_elem? told d ≡ some ts → get_elem? ts j ≡ some x → IsOwn x
+  pub told_own : (d j : ℕ) (ts : List Told) (x : Told) → get_elem? told d ≡ some ts → get_elem? ts j ≡ some x → IsOwn x
   told_own d j ts x at there =
       all_at IsOwn ts j x (all_at (λ (us : List Told). AllByRecursion IsOwn us) told d ts (clients.owns out p q left.setup left.clients left.opened told ended left.ran.seats (map (λ (s : IdSeat). s.me.0) seats) left.ran.ran) at) there
 

@@ -1,9 +1,10 @@
 -- What is reported of a script with calls that was run on threads.
-use Rattle.std.specs.Prelude.{ℕ, ◌≡◌, true, ◌≢◌, ◌⊎◌, ◌+◌, ◌≤◌, List, [], ◌∷◌, ◌++◌, map, length, replicate, Option, Some, None, IfSome}
+use Rattle.std.specs.Prelude.{ℕ, ◌≡◌, true, ◌≢◌, ◌⊎◌, ◌+◌, ◌<◌, ◌≤◌, List, [], ◌∷◌, ◌++◌, map, length, replicate, Option, Some, None, IfSome}
 use Rattle.std.specs.List.{AllByRecursion}
+use Rattle.sock_words.specs.Codes.{EEOF, ERESPONSE}
 use Rattle.sock_words.specs.declared.plain.Plan.{Plan}
 use Rattle.sock_words.specs.declared.outcome.Outcome.{Outcome}
-use Rattle.sock_words.specs.declared.outcome.Outcome.TheVariants.{Expired}
+use Rattle.sock_words.specs.declared.outcome.Outcome.TheVariants.{Expired, CallFailed}
 use Rattle.sock_words.specs.declared.place_word.PlaceWord.{PlaceWord}
 use Rattle.sock_words.specs.declared.vref.Vref.{Vref}
 use Rattle.brpc_model.specs.Items.{Item}
@@ -12,7 +13,7 @@ use Rattle.brpc_model.specs.Messages.{shown_id}
 use Rattle.brpc_model.specs.Operations.{operations}
 use Rattle.brpc_model.specs.PlaceWords.{ArePlaces, HasEachOutcome, IsReportText}
 use Rattle.report_fits.specs.Ends.{AreTold, AreEndsOf}
-use Rattle.sock_message.specs.Asked.{Asked}
+use Rattle.sock_message.specs.Asked.{Asked, name_of}
 use Rattle.sock_io.specs.declared.link.Out.{Ghosts}
 use Rattle.sock_io.specs.declared.link.Ends.{Ends}
 use Rattle.sock_io.specs.Link.{OutState, InState, end_of}
@@ -22,9 +23,8 @@ use Rattle.seat_programs.specs.Cores.{Core}
 use Rattle.seat_programs.specs.Scripts.{all_tasks, place_words, is_callless}
 use Rattle.seat_programs.specs.Tasks.{plan_of, opens, calls}
 use Rattle.seat_programs.specs.Told.{IsTask, Became}
-use Rattle.seat_programs.specs.ToldCalls.{Fixed, Order}
+use Rattle.seat_programs.specs.ToldCalls.{Fixed, Order, WhyExpire, WhyAgain, FailedBy}
 use Rattle.attempts_told.specs.Attempts.{AreAttemptsTold}
-use Rattle.call_whys.specs.expire_told.specs.Said.{WhyExpired}
 use Rattle.callless_fits.specs.sock_deeds.specs.Told.{fixed_by, ToldSockets}
 use Rattle.rpc_client.specs.declared.acting.Told.{Told}
 use Rattle.callless_fits.specs.Whole.{IsWholeText, gave_none, unread}
@@ -63,10 +63,17 @@ pub record AreSocketsTold (script : List Item) (outcomes : List (Option Outcome)
   -- the links are those of this run: they took what is at home, and show where they failed
   pub ends_told : AreEndsOf script core (fixed_by broken [] fails) gave ends
 
--- Why each `expire` of these clients has its outcome, by what became of all others, and none ended a call twice; and each call has versions of its own
-pub record AreCallsTold (p : Plan) (clients : List (List Task)) (outcomes : List (Option Outcome)) (fixed : Fixed) (gave : ℕ → List ℕ) (orders : ℕ → Order) : Type 0 where
-  pub expires : (client of : ℕ) (t : Task) (by : Outcome) → IsTask clients outcomes client t → t.op ≡ ops.Expire of → Became clients outcomes t.number by → WhyExpired p clients outcomes fixed gave orders client t.number of by
+-- a call with this code was ended by whoever read its link: the reading ended, or found a frame that can't be read
+abbrev pub EndedByReading : ℕ → Type 0
+EndedByReading code = (code ≡ EEOF) ⊎ (code ≡ ERESPONSE)
+
+-- Why each `expire` of these clients has its outcome, why each call that failed has its code, and why each attempt of a call but the last was followed by another, by what became of all others. Of a call that whoever read the links ended
+-- nothing is said but that. No call was ended twice by an `expire`; and each call has versions of its own
+pub record AreCallsTold (p : Plan) (clients : List (List Task)) (outcomes : List (Option Outcome)) (fixed : Fixed) (gave : ℕ → List ℕ) (orders : ℕ → Order) (last : ℕ → ℕ) : Type 0 where
+  pub expires : (client of : ℕ) (t : Task) (by : Outcome) → IsTask clients outcomes client t → t.op ≡ ops.Expire of → Became clients outcomes t.number by → WhyExpire p clients outcomes fixed gave orders last client t.number of by
   pub expired_once : (c d of : ℕ) (t u : Task) → IsTask clients outcomes c t → IsTask clients outcomes d u → t.op ≡ ops.Expire of → u.op ≡ ops.Expire of → Became clients outcomes t.number Expired → Became clients outcomes u.number Expired → t.number ≡ u.number
+  pub failed : (client id code : ℕ) (t : Task) (asked : Asked) → IsTask clients outcomes client t → t.op ≡ ops.Call asked → Became clients outcomes t.number (CallFailed id code) → FailedBy p clients outcomes fixed gave orders client t.number asked id code (last t.number) ⊎ EndedByReading code
+  pub again : (client : ℕ) (t : Task) (asked : Asked) → IsTask clients outcomes client t → t.op ≡ ops.Call asked → (n : ℕ) → n < last t.number → WhyAgain p clients outcomes fixed gave orders client t.number n (name_of asked n)
   -- no two calls have a version in common
   pub versions : (c d : ℕ) (t u : Task) (a b : Asked) (x y : Outcome) (i j : ℕ) → IsTask clients outcomes c t → IsTask clients outcomes d u → t.op ≡ ops.Call a → u.op ≡ ops.Call b → Became clients outcomes t.number x → Became clients outcomes u.number y
       → shown_id x ≡ Some i → shown_id y ≡ Some j → t.number ≢ u.number → (i + a.range ≤ j) ⊎ (j + b.range ≤ i)
@@ -79,16 +86,17 @@ pub record IsCallText (script : List Item) (text : List ℕ) (ends : List LinkEn
   pub reported : IsReported script text outcomes places ends
   -- each answer among them is that of a call, and a whole response to it that one of these links gave
   pub answered : AreAnsweredBy (operations script) outcomes ends
-  -- each operation on sockets has its cause, and so has each `expire`; and the links took what the clients sent
+  -- each operation on sockets has its cause; and the links took what the clients sent
   pub sockets : AreSocketsTold script outcomes places answered.gave ends
-  pub on_calls : AreCallsTold (plan_of script) (all_tasks script) outcomes (fixed_by sockets.broken [] sockets.fails) answered.gave sockets.orders
+  -- no call made more attempts than it may; and each message that a link accepted is that of a `send` of which nothing is said, or of an attempt of a call, with the id that the call's outcome shows
+  pub attempts : AreAttemptsTold (plan_of script) (all_tasks script) outcomes (fixed_by sockets.broken [] sockets.fails) answered.gave sockets.orders
+  -- each `expire` has its cause, and so has each call that failed, but where whoever read its link ended it, and each attempt behind another
+  pub on_calls : AreCallsTold (plan_of script) (all_tasks script) outcomes (fixed_by sockets.broken [] sockets.fails) answered.gave sockets.orders attempts.last
   -- no two operations have the end of one call as their outcome, of those whose ids are in the slots that the calls of the script have
   pub once : ShownOnce (length (calls script)) outcomes
   -- without calls the report fits, with nothing late, whatever the links gave: over the links as they are, and as if nobody had read them; so where no put
   -- failed, and nothing of the script can make a message fail, every send is placed
   pub whole : is_callless script ≡ true → IsWholeText script text answered.gave ends × IsWholeText script text gave_none (map unread ends)
-  -- no call made more attempts than it may; and each message that a link accepted is that of a `send` of which nothing is said, or of an attempt of a call, with the id that the call's outcome shows
-  pub attempts : AreAttemptsTold (plan_of script) (all_tasks script) outcomes (fixed_by sockets.broken [] sockets.fails) answered.gave sockets.orders
 
 -- the clients of the script left this: what they told of their own operations and of the calls that they ended, the place words, and their seats of the ids
 pub record IsLeft {O : Type 0} (g : Ghosts O) (out : O → OutState) (script : List Item) (told ended : List (List Told)) (places : List PlaceWord) (seats : List IdSeat) : Type 0 where
