@@ -250,15 +250,12 @@ module _ {O : Type 0} {g : Ghosts O} {state : O → OutState} {p : Plan} {slots 
     (others : (i first e : ℕ) → 0 < queued_in i first e notes → (0 < total (λ (v : View Asked). queued_in i first e v.notes) ids) ⊎ IsReadCode (code_of e))
     (made : (i j f r : ℕ) (asked : Asked) → i < slots → get_elem? (notes_of i notes) j ≡ some (Made f r asked) → (c : ℕ) × IsTask (setup ∷ clients) outcomes c record { number = asked.operation; op = ops.Call asked } × (r ≡ asked.range))
     (own : (i f n : ℕ) → total (is_attempt f n) (notes_of i notes) ≤ total (λ (v : View Asked). advances i f n v) ids) (differ : PlacesDiffer run.closed.ordered.log) (gave : ℕ → List ℕ) where
-  abbrev every : List (List Task)
-  every = setup ∷ clients
-
-  abbrev drun : DeedRun g state p every outcomes places vrefs outs
+  abbrev drun : DeedRun g state p (setup ∷ clients) outcomes places vrefs outs
   drun = deeds_of_run run tasks may notes kept words closing noted outcomes long reports links main_later others_later later
 
   -- of each end that is told behind the operations of a client
-  pub ends_told : TellsDrops run notes outcomes drun differ gave → (c i : ℕ) (ts : List Told) (one : Told) → get_elem? ended c ≡ some ts → get_elem? ts i ≡ some one → (client : ℕ) (asked : Asked) → IsOperation every outcomes client one.number (ops.Call asked)
-      → (id code : ℕ) × (one.outcome ≡ CallFailed id code) × (FailedBy p every outcomes (fixed drun differ gave) gave (orders drun differ) client one.number asked id code (last_attempt notes one.number) ⊎ IsReadCode code)
+  pub ends_told : TellsDrops run notes outcomes drun differ gave → (c i : ℕ) (ts : List Told) (one : Told) → get_elem? ended c ≡ some ts → get_elem? ts i ≡ some one → (client : ℕ) (asked : Asked) → IsOperation (setup ∷ clients) outcomes client one.number (ops.Call asked)
+      → (id code : ℕ) × (one.outcome ≡ CallFailed id code) × (FailedBy p (setup ∷ clients) outcomes (fixed drun differ gave) gave (orders drun differ) client one.number asked id code (last_attempt notes one.number) ⊎ IsReadCode code)
   ends_told dropped c i ts one at there =
       let f : Thread g → List Told = λ x. x.ended.calls.told.items in
       let w = mapped_from (λ (x : Client g state p (ids_of p slots)). f x.thread) (all_clients run) c ts (ap (λ (l : List (List Told)). get_elem? l c) (all_are run f ∙ run.ran.ended_is) ∙ at) in

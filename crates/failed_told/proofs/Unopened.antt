@@ -7,7 +7,7 @@ use mathlib.Core.Logic.{dite}
 use mathlib.Core.Option.{some, some-injective, some-ne-none}
 use native.Mathlib.Decide.{ℕ_discrete, dec_lt}
 use lib.ListN.{get_elem?}
-use Rattle.brpc_model.specs.Order.{EachBefore}
+use Rattle.sock_message.specs.brpc_model.specs.Order.{EachBefore}
 use Rattle.sock_io.specs.declared.link.Out.{Ghosts}
 use Rattle.sock_io.specs.Link.{OutState}
 use Rattle.sock_words.specs.declared.outcome.Outcome.{Outcome}
@@ -72,7 +72,7 @@ use Rattle.failed_told.proofs.Single.{within, may_make, made_once, first_id, aga
 use Rattle.failed_told.proofs.Clients.{says_own}
 use Rattle.failed_told.proofs.Makers.{IsBegun, made_begun}
 use Rattle.failed_told.proofs.Crew.{tasks_there, its_tasks, place_of, is_task, own_call}
-use Rattle.failed_told.proofs.Before.{stands_before, stands_behind, IsRetry, Operation, MadeBefore, MadeBehind, PlacedHere, all_placed, ends_at, noted_last}
+use Rattle.failed_told.proofs.Before.{stands_before, stands_behind, IsRetry, Operation, MadeBefore, MadeBehind, PlacedHere, all_placed, noted_last}
 use Rattle.failed_told.proofs.Seeking.{sought_seen, opens_seen, missed_seen, waited_seen, names_are, none_again}
 
 -- ## Tasks in their order
