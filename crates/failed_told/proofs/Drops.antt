@@ -1,5 +1,5 @@
 -- An attempt of a call whose message a client dropped stands in the order of its link behind the placed ones; and with which code the call was told: EFAILEDSOCKET, and then its link is failing, or that of a `fail` of the attempt's name.
-use Rattle.std.proofs.Common.{◌≡◌, ◌≢◌, ℕ, ◌+◌, ◌*◌, ◌/◌, ◌%◌, ◌<◌, ◌≤◌, ◌⊎◌, inl, inr, true, cond, eq-eqb, ne_eqb, List, ◌∷◌, length, map, Some, None, refl, sym, ap, ◌∙◌, subst, arith}
+use Rattle.std.proofs.Common.{◌≡◌, ℕ, ◌+◌, ◌*◌, ◌/◌, ◌%◌, ◌<◌, ◌≤◌, ◌⊎◌, inl, inr, true, cond, eq-eqb, ne_eqb, List, [], ◌∷◌, length, map, None, refl, sym, ap, ◌∙◌, subst, arith}
 use Rattle.std.specs.Prelude.{Option}
 use mathlib.Core.Logic.{dite}
 use mathlib.Core.Option.{some}
@@ -17,7 +17,6 @@ use Rattle.sock_model.specs.declared.chain.Entry.{Entry}
 use Rattle.sock_model.specs.declared.chain.Heading.{Heading}
 use Rattle.sock_model.specs.declared.marks.Mark.{Mark}
 use Rattle.sock_model.specs.declared.view.StoredWord.{StoredWord}
-use Rattle.sock_model.specs.declared.view.View as sock_view
 use Rattle.sock_model.specs.Deliveries.{place_value}
 use Rattle.sock_model.specs.Entries.{on}
 use Rattle.sock_model.specs.Layout.{place_index}
@@ -30,10 +29,9 @@ use Rattle.expire_told.specs.sock_rule.specs.declared.homes.Letter.{Letter}
 use Rattle.seat_programs.specs.declared.task.Op.{Op}
 use Rattle.seat_programs.specs.declared.task.Op.TheVariants as ops
 use Rattle.seat_programs.specs.declared.task.Task.{Task}
-use Rattle.seat_programs.specs.Told.{AreTasks, Made as MadeBy}
+use Rattle.seat_programs.specs.Told.{AreTasks}
 use Rattle.seat_programs.specs.ToldCalls.{Fixed, Order, IsFailing, IsDropped, WhyLost, WasFailing, IsFailedWith, all_accepted}
 use Rattle.corr_core.specs.declared.marks.Kept.{Kept}
-use Rattle.corr_core.specs.declared.marks.Note.{Note}
 use Rattle.corr_core.specs.declared.marks.Note.TheVariants.{Made}
 use Rattle.corr_core.specs.declared.marks.Noted.{Noted}
 use Rattle.corr_core.specs.declared.marks.Plan as id_plan
@@ -53,8 +51,8 @@ use Rattle.expire_told.specs.sock_deeds.specs.Runs.{IsOperation, IsMessage, of_s
 use Rattle.expire_told.specs.sock_deeds.proofs.Accepting.{log, act_of_entry, sent_for, sent_place}
 use Rattle.expire_told.specs.sock_deeds.proofs.Acts.{Act, after, has_marks, has_drops}
 use Rattle.expire_told.specs.sock_deeds.proofs.DropCodes.{FailsWith, life_code, IsBehindPlaced, dropped_stands}
-use Rattle.expire_told.specs.sock_deeds.proofs.Failing.{WhyFailed, by_name, by_link}
-use Rattle.expire_told.specs.sock_deeds.proofs.Fails.{life_is, link_is}
+use Rattle.expire_told.specs.sock_deeds.proofs.Failing.{WhyFailed, by_name, by_link, by_reader}
+use Rattle.expire_told.specs.sock_deeds.proofs.Fails.{link_is}
 use Rattle.expire_told.specs.sock_deeds.proofs.Lives.{MadeHere, linked_made}
 use Rattle.expire_told.specs.sock_deeds.proofs.Losses.{lost_by}
 use Rattle.expire_told.specs.sock_deeds.proofs.Orders.{orders, accepted_there}
@@ -117,7 +115,9 @@ module _ {O : Type 0} {g : Ghosts O} {state : O → OutState} {p : Plan} {slots 
     (drun : DeedRun g state p (setup ∷ clients) outcomes places vrefs outs) (seats : map seat_of drun.seats ≡ map (λ (x : Thread g). x.ended.seat) (run.ran.main ∷ run.ran.others)) (logged : log drun ≡ run.closed.ordered.log) (differ : PlacesDiffer (log drun)) (gave : ℕ → List ℕ)
     (all_there : length (log drun) ≤ all_accepted p.links (orders drun differ)) (few : p.operations ≤ 65536) (few_links : p.links ≤ 65536)
     -- the codes that a `fail` may have in a script
-    (bounds : (client number name code : ℕ) → IsOperation (setup ∷ clients) outcomes client number (ops.Fail name code) → (1500 ≤ code) × (code ≤ 1999)) where
+    (bounds : (client number name code : ℕ) → IsOperation (setup ∷ clients) outcomes client number (ops.Fail name code) → (1500 ≤ code) × (code ≤ 1999))
+    -- no link was read beside the clients
+    (none_read : drun.readers ≡ []) where
   abbrev q : id_plan.Plan
   q = ids_of p slots
 
@@ -186,7 +186,7 @@ module _ {O : Type 0} {g : Ghosts O} {state : O → OutState} {p : Plan} {slots 
         let i = slot_there in let h = version_there in let k = kept_there in
         let is : code ≡ d.word = w.code_is ∙ (d.code_is ∙ ap (λ b. cond b EFAILEDSOCKET d.word) (ne_eqb d.word 0 ne)) in
         let told_ = k.still.marks (is_told h d.word) (λ z. refl) i in let found = d.noted ne in let saw = k.still.marks (is_saw (h + 1)) (λ z. refl) i in let dead = w.drop.dead in
-        elim (life_code drun k.act name link i h (h + 1) d.word w.inside made (omega (arith, told_, found)) (omega (arith, saw, dead)) (omega arith)) [
+        elim (life_code drun k.act name link i h (h + 1) d.word w.inside made (omega (arith, told_, found)) (omega (arith, saw, dead)) (omega arith) none_read) [
           | inl e ↦ inl (is ∙ e)
           | inr f ↦ inr (subst (FailsWith drun name) (sym is) f)
         ]))
@@ -245,6 +245,7 @@ module _ {O : Type 0} {g : Ghosts O} {state : O → OutState} {p : Plan} {slots 
           by : {i h : ℕ} → WhyFailed drun i h dropped_at.entry.link → IsFailing p every outcomes fixed_here gave orders_here dropped_at.entry.link
           by (by_name f) = inl (f.life.number, f.listed, tt)
           by (by_link b) = inr (inl b)
+          by (by_reader e) = inr (inr (inl e))
 
       module _ (client : ℕ) (task : IsOperation every outcomes client asked.operation (ops.Call asked)) where
         abbrev name : ℕ

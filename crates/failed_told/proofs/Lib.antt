@@ -28,5 +28,6 @@ pub mod Seeking
 pub mod Unopened
 pub mod Premises
 pub mod Ended
+pub mod DropsTold
 pub mod Advances
 pub mod Again

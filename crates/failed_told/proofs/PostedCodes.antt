@@ -1,5 +1,5 @@
 -- Whatever is queued in a word of an id has a code that is posted to calls; so have both errors of a crowded id, and an `expire` is told with that.
-use Rattle.std.proofs.Common.{◌≡◌, ℕ, ◌<◌, ◌≤◌, ◌⊎◌, inl, inr, List, [], ◌∷◌, length, map, Some, None, refl, sym, ap, ◌∙◌, subst, arith}
+use Rattle.std.proofs.Common.{◌≡◌, ℕ, ◌<◌, ◌≤◌, ◌⊎◌, inl, inr, List, [], ◌∷◌, length, map, None, refl, sym, ap, ◌∙◌, subst, arith}
 use Rattle.std.specs.Prelude.{Option, Contains}
 use Rattle.expire_told.specs.report_fits.proofs.Lists.{contains_from}
 use Rattle.sock_io.specs.declared.link.Out.{Ghosts}
@@ -67,7 +67,7 @@ module _ {O : Type 0} {g : Ghosts O} {state : O → OutState} {p : Plan} {slots 
     (others : (i first e : ℕ) → 0 < queued_in i first e notes → (0 < total (λ (v : View Asked). queued_in i first e v.notes) ids) ⊎ IsReadCode (code_of e))
     (drun : DeedRun g state p (setup ∷ clients) outcomes places vrefs outs) (seats : map seat_of drun.seats ≡ map (λ (x : Thread g). x.ended.seat) (run.ran.main ∷ run.ran.others)) (logged : log drun ≡ run.closed.ordered.log) (differ : PlacesDiffer (log drun)) (gave : ℕ → List ℕ)
     (all_there : length (log drun) ≤ all_accepted p.links (orders drun differ)) (few : p.operations ≤ 65536) (few_links : p.links ≤ 65536)
-    (bounds : (client number name code : ℕ) → IsOperation (setup ∷ clients) outcomes client number (ops.Fail name code) → (1500 ≤ code) × (code ≤ 1999)) where
+    (bounds : (client number name code : ℕ) → IsOperation (setup ∷ clients) outcomes client number (ops.Fail name code) → (1500 ≤ code) × (code ≤ 1999)) (none_read : drun.readers ≡ []) where
   abbrev q : id_plan.Plan
   q = ids_of p slots
 
@@ -84,7 +84,7 @@ module _ {O : Type 0} {g : Ghosts O} {state : O → OutState} {p : Plan} {slots 
   PostedHere code = IsPosted p every outcomes fixed_here gave orders_here code
 
   dropped_posted : (code : ℕ) → WasDropCode p every outcomes fixed_here gave orders_here run said_own notes others code → PostedHere code
-  dropped_posted code d = elim (drop_code run tasks may notes kept words closing noted outcomes drun seats logged differ gave all_there few few_links bounds d.place d.client d.in_crew d.id code d.attempt d.drop) [
+  dropped_posted code d = elim (drop_code run tasks may notes kept words closing noted outcomes drun seats logged differ gave all_there few few_links bounds none_read d.place d.client d.in_crew d.id code d.attempt d.drop) [
     | inl e ↦ inl (subst (λ (z : ℕ). Contains (ERPCTIMEDOUT ∷ EFAILEDSOCKET ∷ EEOF ∷ ERESPONSE ∷ EREQUESTS ∷ []) z) (sym e) (contains_from (ERPCTIMEDOUT ∷ EFAILEDSOCKET ∷ EEOF ∷ ERESPONSE ∷ EREQUESTS ∷ []) EFAILEDSOCKET (1, refl)))
     | inr b ↦ inr b
   ]

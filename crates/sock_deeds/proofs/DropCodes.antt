@@ -1,5 +1,5 @@
 -- With which code a life was failed: that of the `fail` of its name that was answered `failed`, or EFAILEDSOCKET where its link failed. And where a dropped message stands.
-use Rattle.std.proofs.Common.{◌≡◌, ◌≢◌, ℕ, zero, suc, ◌+◌, ◌*◌, ◌<◌, ◌≤◌, ◌⊎◌, inl, inr, true, List, [], ◌∷◌, length, flat_map, map, append-nil, refl, sym, ap, ◌∙◌, subst, arith}
+use Rattle.std.proofs.Common.{◌≡◌, ◌≢◌, ℕ, zero, suc, ◌+◌, ◌<◌, ◌≤◌, ◌⊎◌, inl, inr, true, List, [], ◌∷◌, length, flat_map, map, append-nil, refl, sym, ap, ◌∙◌, subst, arith}
 use Rattle.std.specs.Prelude.{Option, slice_index}
 use mathlib.Core.Logic.{dite}
 use mathlib.Core.Option.{some, some-injective, some-ne-none}
@@ -39,7 +39,7 @@ use Rattle.seat_programs.specs.Told.{Became}
 use Rattle.sock_deeds.specs.Broken.{noted_links}
 use Rattle.sock_deeds.specs.Runs.{IsOperation, IsFor, seat_of, DeedRun}
 use Rattle.sock_deeds.proofs.Accepting.{log, act_of_entry}
-use Rattle.sock_deeds.proofs.Acts.{Act, All, after, before, did_of, done_of, later, has_marks, Late, marks_from, noted_before}
+use Rattle.sock_deeds.proofs.Acts.{Act, All, after, before, did_of, done_of, later, has_marks, Late, marks_from, noted_before, Seats, client_there, no_reader}
 use Rattle.sock_deeds.proofs.Ending.{SetNow, ids_kept}
 use Rattle.sock_deeds.proofs.Entries.{on_there}
 use Rattle.sock_deeds.proofs.Fails.{FailedLife, life_by, fail_for, failer_once, life_is, made_born}
@@ -121,7 +121,7 @@ module _ {O : Type 0} {g : Ghosts O} {state : O → OutState} {p : Plan} {client
   has_puts a x n =
       let s : Seat (SockHome O g) View → List (List StoredWord) = λ z. z.me.0.stores in
       let own = (later a.y a.k a.d a.is).puts x n in
-      let joined = flat_term (total (is_put x n)) s (map seat_of run.seats) a.c (seat_of a.y) (map_there seat_of run.seats a.c a.y a.at) in
+      let joined = flat_term (total (is_put x n)) s (map seat_of (Seats run)) a.c (seat_of a.y) (map_there seat_of (Seats run) a.c a.y (client_there run a.c a.y a.at)) in
       let kept_ = ids_kept g state p run.ending.deeds run.ending.began run.ending.ended run.ending.chain run.ending.by_ids in
       let alone = ap (flat_map s) (sym run.left_is) ∙ (append-nil run.ending.seat.me.0.stores ∙ ap (λ (v : View). v.stores) run.ending.left) in
       let all = ap (total (total (is_put x n))) (run.closed.stores ∙ (alone ∙ (kept_.1 ∙ run.ending.took_in.stores))) in
@@ -136,7 +136,7 @@ module _ {O : Type 0} {g : Ghosts O} {state : O → OutState} {p : Plan} {client
     pub is : IsOperation clients outcomes client number (ops.Fail n c)
     pub became : Became clients outcomes number outcome.Failed
 
-  module _ (b : Act run) (n k i h w c : ℕ) (low : i < p.slots) (made : MadeHere run n k i h) (told : 0 < marks_of (is_told h c) i (after run b)) (saw : 0 < marks_of (is_saw w) i (after run b)) (less : h < w) where
+  module _ (b : Act run) (n k i h w c : ℕ) (low : i < p.slots) (made : MadeHere run n k i h) (told : 0 < marks_of (is_told h c) i (after run b)) (saw : 0 < marks_of (is_saw w) i (after run b)) (less : h < w) (none_read : run.readers ≡ []) where
     stored : 0 < marks_of (is_stored h c) i (All run)
     stored = run.closed.closing.told_stored i h c low (let a = has_marks run b (is_told h c) (λ x. refl) i in omega (arith, a, told))
 
@@ -186,11 +186,11 @@ module _ {O : Type 0} {g : Ghosts O} {state : O → OutState} {p : Plan} {client
         let low_ = s.live w (subst (λ j. 0 < marks_of (is_saw w) j l.d.before.view) (sym s.slot) (omega (arith, then, saw))) in
         omega (arith, low_, version, less)
 
-    -- of a life of the name, which a client found failed: its code is EFAILEDSOCKET, or that of a `fail`
+    -- of a life of the name, which a client found failed, where no link was read beside the clients: its code is EFAILEDSOCKET, or that of a `fail`
     pub life_code : (c ≡ EFAILEDSOCKET) ⊎ FailsWith n c
     life_code = elim (marks_from run (is_failer h) (failer_life h) i failed) [
       | inl s ↦ by_source s.0 (done_source (is_failer h) (failer_life h) g state p (did_of run s.0) s.0.d.before s.0.d.after (done_of run s.0) i s.1)
-      | inr l ↦ absurd (not_ended l.0 l.1)
+      | inr o ↦ elim o [ inl r ↦ absurd (no_reader run none_read r.0) | inr l ↦ absurd (not_ended l.0 l.1) ]
     ]
 
   -- ## Where a dropped message stands

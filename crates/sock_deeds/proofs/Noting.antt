@@ -1,5 +1,5 @@
 -- The life that a reader finds noted for the `open` of its link is one of that link.
-use Rattle.std.proofs.Common.{◌≡◌, ◌≢◌, ℕ, ◌+◌, ◌<◌, List, Option, refl, ap, subst, arith}
+use Rattle.std.proofs.Common.{◌≡◌, ◌≢◌, ℕ, ◌+◌, List, Option, refl, ap, subst, arith}
 use mathlib.Core.Option.{some}
 use lib.ListN.{get_elem?}
 use Rattle.sock_io.specs.declared.link.Out.{Ghosts}
@@ -20,7 +20,7 @@ use Rattle.rpc_client.specs.sock_rule.specs.Rows.{NOTHING}
 use Rattle.rpc_client.specs.sock_table.specs.declared.finding.Noted.TheVariants as noted
 use Rattle.sock_deeds.specs.Deeds.{Did, looks, DoneBy}
 use Rattle.sock_deeds.specs.Runs.{IsFor, did_in, ReaderSeat, DeedRun}
-use Rattle.sock_deeds.proofs.Acts.{Act, Read, All, did_of, done_of, read_found, puts_from}
+use Rattle.sock_deeds.proofs.Acts.{Read, All, did_of, done_of, read_found, puts_from}
 use Rattle.sock_deeds.proofs.Growing.{HasFound}
 use Rattle.sock_deeds.proofs.Lives.{MadeHere, made_of}
 use Rattle.sock_deeds.proofs.Places.{map_back}

@@ -1,0 +1,71 @@
+-- Why messages were dropped, and with which codes errors are posted, by what is known of each run of a script.
+use Rattle.std.proofs.Common.{◌≡◌, ℕ, ◌<◌, ◌≤◌, ◌⊎◌, List, ◌∷◌, length, refl}
+use Rattle.std.specs.Prelude.{Option}
+use mathlib.Core.Option.{some}
+use lib.ListN.{get_elem?}
+use Rattle.sock_io.specs.declared.link.Out.{Ghosts}
+use Rattle.sock_io.specs.Link.{OutState}
+use Rattle.sock_words.specs.declared.outcome.Outcome.{Outcome}
+use Rattle.sock_words.specs.declared.plain.Plan.{Plan}
+use Rattle.sock_words.specs.declared.place_word.PlaceWord.{PlaceWord}
+use Rattle.sock_words.specs.declared.vref.Vref.{Vref}
+use Rattle.expire_told.specs.sock_rule.specs.Closing.{PlacesDiffer}
+use Rattle.seat_programs.specs.declared.task.Op.TheVariants as ops
+use Rattle.seat_programs.specs.declared.task.Task.{Task}
+use Rattle.seat_programs.specs.Told.{AreTasks, IsTask, Became}
+use Rattle.seat_programs.specs.ToldCalls.{IsPosted, WhyExpire}
+use Rattle.corr_core.specs.Law.{total}
+use Rattle.corr_core.specs.Word.{code_of}
+use Rattle.corr_core.specs.declared.marks.Kept.{Kept}
+use Rattle.corr_core.specs.declared.marks.Noted.{Noted}
+use Rattle.corr_core.specs.declared.marks.View.{View}
+use Rattle.sock_message.specs.Asked.{Asked}
+use Rattle.corr_id.specs.Closing.{Closing}
+use Rattle.expire_told.specs.rpc_client.specs.declared.acting.Told.{Told}
+use Rattle.expire_told.specs.call_run.specs.Threads.{RanOn, MayRunAll, ids_of, opens_of, opened_names, openings}
+use Rattle.expire_told.specs.call_places.specs.Counted.{HaveNotesOf}
+use Rattle.expire_told.specs.call_places.proofs.Clients.{Client}
+use Rattle.expire_told.specs.call_places.proofs.Places.{all as all_clients}
+use Rattle.expire_told.specs.call_deeds.specs.Retried.{all_asked}
+use Rattle.expire_told.specs.call_deeds.specs.Scripts.{AllHaveLinks, Reports, AllLater}
+use Rattle.expire_told.specs.call_deeds.proofs.Ran.{AreLater}
+use Rattle.expire_told.specs.Said.{AreSaid, HaveKeptOf, WhyExpired}
+use Rattle.expire_told.specs.sock_deeds.specs.Runs.{IsOperation, DeedRun}
+use Rattle.expire_told.specs.sock_deeds.proofs.Orders.{orders}
+use Rattle.expire_told.specs.sock_deeds.proofs.Whole.{fixed}
+use Rattle.failed_told.proofs.Codes.{IsReadCode}
+use Rattle.failed_told.proofs.Drops.{dropped_why}
+use Rattle.failed_told.proofs.Ended.{TellsDrops}
+use Rattle.failed_told.proofs.PostedCodes.{queued_posted, expire_posted}
+use Rattle.failed_told.proofs.Premises.{drun as deeds_of_run, seats as seats_here, logged as logged_here, said_own as said_here, all_there as there_here}
+use Rattle.failed_told.proofs.Views.{queued_in}
+
+module _ {O : Type 0} {g : Ghosts O} {state : O → OutState} {p : Plan} {slots : ℕ} {setup : List Task} {clients : List (List Task)} {opens : List ℕ} {told ended : List (List Told)} {places : List PlaceWord} {vrefs : List Vref} {outs : List O} {ids : List (View Asked)}
+    (run : RanOn g state p slots setup clients opens told ended places vrefs outs ids) (tasks : AreTasks p (setup ∷ clients)) (may : MayRunAll p (ids_of p slots) setup clients)
+    (notes : List (Noted Asked)) (kept : List Kept) (words : List ℕ) (closing : Closing (ids_of p slots) notes kept words) (noted : HaveNotesOf ids notes)
+    (outcomes : List (Option Outcome)) (long : length outcomes ≡ p.operations) (reports : Reports (setup ∷ clients) outcomes told) (links : AllHaveLinks 0 (setup ∷ clients))
+    (main_later : AreLater (setup ∷ clients) outcomes (all_asked run.ran.main run.ran.main_is))
+    (others_later : AllLater (setup ∷ clients) outcomes state p (ids_of p slots) (opened_names run.ran.main.ended.outcomes.items (openings setup)) (opens_of setup) run.ran.others run.ran.others_are)
+    (later : (c : ℕ) (x : Client g state p (ids_of p slots)) → get_elem? (all_clients run) c ≡ some x → AreLater (setup ∷ clients) outcomes (all_asked x.thread x.is))
+    (differ : PlacesDiffer run.closed.ordered.log) (gave : ℕ → List ℕ) (few : p.operations ≤ 65536) (few_links : p.links ≤ 65536)
+    -- the codes that a `fail` may have in a script
+    (bounds : (client number name code : ℕ) → IsOperation (setup ∷ clients) outcomes client number (ops.Fail name code) → (1500 ≤ code) × (code ≤ 1999)) where
+  abbrev deeds_here : DeedRun g state p (setup ∷ clients) outcomes places vrefs outs
+  deeds_here = deeds_of_run run tasks may notes kept words closing noted outcomes long reports links main_later others_later later
+
+  -- each message that a client dropped is that of an attempt that stands behind the placed ones, and its code has a cause
+  pub drops_told : TellsDrops run notes outcomes deeds_here differ gave
+  drops_told = dropped_why run tasks may notes kept words closing noted outcomes deeds_here (seats_here run tasks may notes kept words closing noted outcomes long reports links main_later others_later later) (logged_here run tasks may notes kept words closing noted outcomes long reports links main_later others_later later) differ gave
+      (there_here run tasks may notes kept words closing noted outcomes long reports links main_later others_later later differ) few few_links bounds refl
+
+  module _ (keeps : HaveKeptOf ids kept) (said_ended : AreSaid outcomes ended) (others : (i first e : ℕ) → 0 < queued_in i first e notes → (0 < total (λ (v : View Asked). queued_in i first e v.notes) ids) ⊎ IsReadCode (code_of e)) where
+    -- whatever was queued has a code that is posted
+    pub codes_told : (i f e : ℕ) → 0 < queued_in i f e notes → IsPosted p (setup ∷ clients) outcomes (fixed deeds_here differ gave) gave (orders deeds_here differ) (code_of e)
+    codes_told = queued_posted run tasks may notes kept words closing noted keeps outcomes (said_here run tasks may notes kept words closing noted outcomes long reports links main_later others_later later) said_ended others deeds_here (seats_here run tasks may notes kept words closing noted outcomes long reports links main_later others_later later)
+        (logged_here run tasks may notes kept words closing noted outcomes long reports links main_later others_later later) differ gave (there_here run tasks may notes kept words closing noted outcomes long reports links main_later others_later later differ) few few_links bounds refl
+
+    -- and so have both errors of a crowded id: each `expire` has its outcome as is told of it
+    pub expires_told : (last : ℕ → ℕ) (c of : ℕ) (t : Task) (by : Outcome) → IsTask (setup ∷ clients) outcomes c t → t.op ≡ ops.Expire of → Became (setup ∷ clients) outcomes t.number by
+        → WhyExpired p (setup ∷ clients) outcomes (fixed deeds_here differ gave) gave (orders deeds_here differ) c t.number of by → WhyExpire p (setup ∷ clients) outcomes (fixed deeds_here differ gave) gave (orders deeds_here differ) last c t.number of by
+    expires_told = expire_posted run tasks may notes kept words closing noted keeps outcomes (said_here run tasks may notes kept words closing noted outcomes long reports links main_later others_later later) said_ended others deeds_here (seats_here run tasks may notes kept words closing noted outcomes long reports links main_later others_later later)
+        (logged_here run tasks may notes kept words closing noted outcomes long reports links main_later others_later later) differ gave (there_here run tasks may notes kept words closing noted outcomes long reports links main_later others_later later differ) few few_links bounds refl
