@@ -34,7 +34,7 @@ use Rattle.expire_told.specs.call_deeds.proofs.Messages.{send_message, attempt_m
 use Rattle.expire_told.specs.call_deeds.proofs.Told.{came, made}
 use Rattle.expire_told.specs.rpc_client.specs.Opening.{OpenedBy}
 use Rattle.expire_told.specs.sock_deeds.proofs.Growing.{found_grew}
-use Rattle.failed_told.proofs.SeenTmp.{SeenBy, message_seen, held_seen, failed_seen, opened_seen}
+use Rattle.expire_told.specs.sock_deeds.proofs.Names.{SeenBy, message_seen, held_seen, failed_seen, opened_seen}
 use Rattle.failed_told.specs.Missed.{acted_missed}
 use Rattle.failed_told.proofs.Before.{IsRetry}
 

@@ -55,16 +55,16 @@ use Rattle.expire_told.specs.call_places.proofs.Places.{all as all_clients, all_
 use Rattle.expire_told.specs.call_told.specs.Least.{is_made_for}
 use Rattle.expire_told.specs.call_told.proofs.Lists.{all_at}
 use Rattle.expire_told.specs.call_deeds.proofs.Ran.{Result}
+use Rattle.expire_told.specs.call_deeds.proofs.Runs.{opened_there, names_there, same_task}
 use Rattle.expire_told.specs.call_deeds.proofs.Told.{all_results, told_by, task_at, result_of, said_at, open_said}
 use Rattle.expire_told.specs.outcome_causes.proofs.Seats.{Less}
 use Rattle.expire_told.specs.outcome_causes.proofs.Tasks.{sorted_of}
 use Rattle.expire_told.specs.sock_deeds.specs.Runs.{IsOperation}
+use Rattle.expire_told.specs.sock_deeds.proofs.Names.{SeenBy}
 use Rattle.expire_told.specs.sock_deeds.proofs.Places.{place_low}
 use Rattle.expire_told.specs.Said.{AreSaid}
 use Rattle.expire_told.proofs.Begun.{made_begun as begun_made}
 use Rattle.expire_told.proofs.Making.{mapped_from}
-use Rattle.failed_told.proofs.NamesTmp.{opened_there, names_there, same_task}
-use Rattle.failed_told.proofs.SeenTmp.{SeenBy}
 use Rattle.failed_told.specs.Missed.{missed_in, attempt_of, socks_behind}
 use Rattle.failed_told.proofs.Losses.{IsAskedIn}
 use Rattle.failed_told.proofs.Reaching.{retry_grew}
