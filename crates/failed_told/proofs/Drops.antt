@@ -1,5 +1,5 @@
 -- An attempt of a call whose message a client dropped stands in the order of its link behind the placed ones; and with which code the call was told: EFAILEDSOCKET, and then its link is failing, or that of a `fail` of the attempt's name.
-use Rattle.std.proofs.Common.{◌≡◌, ◌≢◌, ℕ, ◌+◌, ◌*◌, ◌/◌, ◌%◌, ◌<◌, ◌≤◌, ◌⊎◌, inl, inr, true, cond, eq-eqb, ne_eqb, List, ◌∷◌, length, map, Some, None, refl, sym, ap, ◌∙◌, subst, arith}
+use Rattle.std.proofs.Common.{◌≡◌, ℕ, ◌+◌, ◌*◌, ◌/◌, ◌%◌, ◌<◌, ◌≤◌, ◌⊎◌, inl, inr, true, cond, eq-eqb, ne_eqb, List, ◌∷◌, length, map, None, refl, sym, ap, ◌∙◌, subst, arith}
 use Rattle.std.specs.Prelude.{Option}
 use mathlib.Core.Logic.{dite}
 use mathlib.Core.Option.{some}
@@ -16,7 +16,6 @@ use Rattle.sock_words.specs.declared.vref.Vref.{Vref}
 use Rattle.sock_model.specs.declared.chain.Entry.{Entry}
 use Rattle.sock_model.specs.declared.marks.Mark.{Mark}
 use Rattle.sock_model.specs.declared.view.StoredWord.{StoredWord}
-use Rattle.sock_model.specs.declared.view.View as sock_view
 use Rattle.sock_model.specs.Deliveries.{place_value}
 use Rattle.sock_model.specs.Entries.{on}
 use Rattle.sock_model.specs.Layout.{place_index}
@@ -30,10 +29,9 @@ use Rattle.expire_told.specs.write_chain.specs.declared.right.Undelivered.{Undel
 use Rattle.seat_programs.specs.declared.task.Op.{Op}
 use Rattle.seat_programs.specs.declared.task.Op.TheVariants as ops
 use Rattle.seat_programs.specs.declared.task.Task.{Task}
-use Rattle.seat_programs.specs.Told.{AreTasks, Made as MadeBy}
+use Rattle.seat_programs.specs.Told.{AreTasks}
 use Rattle.seat_programs.specs.ToldCalls.{Fixed, Order, IsFailing, IsDropped, WhyLost, WasFailing, IsFailedWith, all_accepted}
 use Rattle.corr_core.specs.declared.marks.Kept.{Kept}
-use Rattle.corr_core.specs.declared.marks.Note.{Note}
 use Rattle.corr_core.specs.declared.marks.Note.TheVariants.{Made}
 use Rattle.corr_core.specs.declared.marks.Noted.{Noted}
 use Rattle.corr_core.specs.declared.marks.Plan as id_plan
@@ -53,7 +51,7 @@ use Rattle.expire_told.specs.sock_deeds.specs.Runs.{IsOperation, IsMessage, of_s
 use Rattle.expire_told.specs.sock_deeds.proofs.Accepting.{log, act_of_entry, sent_for, sent_place}
 use Rattle.expire_told.specs.sock_deeds.proofs.Acts.{Act, after, has_marks}
 use Rattle.expire_told.specs.sock_deeds.proofs.Failing.{WhyFailed, by_name, by_link}
-use Rattle.expire_told.specs.sock_deeds.proofs.Fails.{life_is, link_is}
+use Rattle.expire_told.specs.sock_deeds.proofs.Fails.{link_is}
 use Rattle.expire_told.specs.sock_deeds.proofs.Lives.{MadeHere, linked_made}
 use Rattle.expire_told.specs.sock_deeds.proofs.Losses.{lost_by}
 use Rattle.expire_told.specs.sock_deeds.proofs.Orders.{orders, accepted_there}

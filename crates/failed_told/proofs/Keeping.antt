@@ -1,5 +1,5 @@
 -- What a seat noted of sockets, and the words that it stored, stay while it writes a link and drops messages.
-use Rattle.std.proofs.Common.{ℕ, ◌+◌, ◌≤◌, ap, arith}
+use Rattle.std.proofs.Common.{ℕ, ap, arith}
 use Rattle.sock_io.specs.Link.{OutState}
 use Rattle.sock_words.specs.Words.{socket_id_slot}
 use Rattle.sock_words.specs.declared.plain.Plan.{Plan}

@@ -1,5 +1,5 @@
 -- Whose an accepted message is, by its owner: nobody's, or that of the call of the operation in its label, whose id the owner is.
-use Rattle.std.proofs.Common.{◌≡◌, ℕ, ◌+◌, ◌*◌, ◌<◌, ◌≤◌, ◌⊎◌, inl, inr, List, ◌∷◌, Some, None, zero-le, sym, ap, ◌∙◌, subst, arith}
+use Rattle.std.proofs.Common.{◌≡◌, ℕ, ◌+◌, ◌*◌, ◌≤◌, ◌⊎◌, inl, inr, List, ◌∷◌, Some, None, zero-le, sym, ap, ◌∙◌, subst, arith}
 use Rattle.std.specs.Prelude.{Option}
 use mathlib.Core.Option.{some}
 use lib.ListN.{get_elem?}
@@ -33,7 +33,7 @@ use Rattle.expire_told.specs.call_attempts.specs.Both.{Both}
 use Rattle.expire_told.specs.call_attempts.specs.Attempting.{DeliveredBy, went_out, came_back, AttemptedBy, nowhere, over_link}
 use Rattle.expire_told.specs.call_attempts.specs.Letters.{letter_for}
 use Rattle.expire_told.specs.call_attempts.specs.Retrying.{WentTo, stray, unopened, to_socket, had_ended, overtaken, went_again}
-use Rattle.expire_told.specs.call_client.specs.Acting.{Stand, both_of, letter_of, Acted}
+use Rattle.expire_told.specs.call_client.specs.Acting.{Stand, both_of, Acted}
 use Rattle.expire_told.specs.call_run.specs.Threads.{RanOn, MayRunAll, ids_of}
 use Rattle.expire_told.specs.call_places.specs.Counted.{HaveNotesOf}
 use Rattle.expire_told.specs.call_places.specs.Deeds.{Deed, operates, retries, delivered_entries, attempt_entries, went_entries, acted_entries, entries_of}
