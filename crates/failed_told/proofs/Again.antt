@@ -1,5 +1,5 @@
 -- Each attempt of a call behind the first was made since the attempt before it was dropped; or since no link accepted that one, as its socket was failing, its name had none, or each request was taken.
-use Rattle.std.proofs.Common.{◌≡◌, ℕ, ◌+◌, ◌-◌, ◌*◌, ◌<◌, ◌≤◌, ◌⊎◌, inl, inr, List, ◌∷◌, length, map, None, refl, sym, ap, ◌∙◌, subst, arith}
+use Rattle.std.proofs.Common.{◌≡◌, ℕ, ◌+◌, ◌-◌, ◌*◌, ◌<◌, ◌≤◌, ◌⊎◌, inl, inr, List, ◌∷◌, length, map, Some, None, refl, sym, ap, ◌∙◌, subst, arith}
 use Rattle.std.specs.Prelude.{Option}
 use mathlib.Core.Logic.{dite}
 use mathlib.Core.Option.{some}
@@ -7,7 +7,6 @@ use native.Mathlib.Decide.{dec_lt}
 use lib.ListN.{get_elem?}
 use Rattle.sock_io.specs.declared.link.Out.{Ghosts}
 use Rattle.sock_io.specs.Link.{OutState}
-use Rattle.sock_words.specs.Codes.{EFAILEDSOCKET}
 use Rattle.sock_words.specs.declared.outcome.Outcome.{Outcome}
 use Rattle.sock_words.specs.declared.plain.Plan.{Plan}
 use Rattle.sock_words.specs.declared.place_word.PlaceWord.{PlaceWord}
@@ -19,7 +18,7 @@ use Rattle.seat_programs.specs.declared.task.Op.{Op}
 use Rattle.seat_programs.specs.declared.task.Op.TheVariants as ops
 use Rattle.seat_programs.specs.declared.task.Task.{Task}
 use Rattle.seat_programs.specs.Told.{AreTasks, IsTask}
-use Rattle.seat_programs.specs.ToldCalls.{Fixed, Order, IsDropped, IsUnordered, IsFailedWith, WhyLost, WhyAgain, AfterDrop, AfterLoss, AfterFull, all_accepted}
+use Rattle.seat_programs.specs.ToldCalls.{Fixed, Order, IsDropped, IsUnordered, WhyLost, WhyAgain, AfterDrop, AfterLoss, AfterFull, all_accepted}
 use Rattle.corr_core.specs.Law.{total}
 use Rattle.corr_core.specs.Word.{code_of}
 use Rattle.corr_core.specs.declared.marks.Kept.{Kept}
@@ -51,6 +50,7 @@ use Rattle.failed_told.specs.Missed.{missed_in, id_of, attempt_of, socks_behind}
 use Rattle.failed_told.specs.Reasons.{WasDropped}
 use Rattle.failed_told.proofs.Advances.{MissedAt, DroppedAt, WhyAdvanced, by_miss, by_drop, IsAdvanced, advance_why}
 use Rattle.failed_told.proofs.Codes.{IsReadCode}
+use Rattle.failed_told.proofs.Drops.{IsLogged, dropped_why}
 use Rattle.failed_told.proofs.Fallen.{one_operation, unordered, WhyNothing, had_failed, were_full, had_none, why_nothing}
 use Rattle.failed_told.proofs.Losses.{IsAskedIn, deed_why}
 use Rattle.failed_told.proofs.Views.{queued_in, advanced_in}
@@ -72,7 +72,11 @@ module _ {O : Type 0} {g : Ghosts O} {state : O → OutState} {p : Plan} {slots 
     -- none but the clients advanced attempts
     (own : (i first n : ℕ) → advanced_in i first n notes ≤ total (λ (v : View Asked). advanced_in i first n v.notes) ids)
     (drun : DeedRun g state p (setup ∷ clients) outcomes places vrefs outs) (seats : map seat_of drun.seats ≡ map (λ (x : Thread g). x.ended.seat) (run.ran.main ∷ run.ran.others)) (logged : log drun ≡ run.closed.ordered.log) (differ : PlacesDiffer (log drun)) (gave : ℕ → List ℕ)
-    (all_there : length (log drun) ≤ all_accepted p.links (orders drun differ))
+    (all_there : length (log drun) ≤ all_accepted p.links (orders drun differ)) (few : p.operations ≤ 65536) (few_links : p.links ≤ 65536)
+    -- the codes that a `fail` may have in a script
+    (bounds : (client number name code : ℕ) → IsOperation (setup ∷ clients) outcomes client number (ops.Fail name code) → (1500 ≤ code) × (code ≤ 1999))
+    -- each message that a client dropped is the one that stands in the log with its place index
+    (owned : (c : ℕ) (x : Client g state p (ids_of p slots)) → get_elem? (all_clients run) c ≡ some x → (id code n : ℕ) (w : WasDropped state p (ids_of p slots) (deeds_of x) id code n) → IsLogged (log drun) w.drop.msg)
     -- whatever was asked by a call of which an attempt was made is a task
     (asked_so : (c : ℕ) (x : Client g state p (ids_of p slots)) → get_elem? (all_clients run) c ≡ some x → (i : ℕ) (d : Deed g state p (ids_of p slots)) → get_elem? (deeds_of x) i ≡ some d → (asked : Asked) → IsAskedIn d asked
     → (client : ℕ) × IsOperation (setup ∷ clients) outcomes client asked.operation (ops.Call asked))
@@ -109,14 +113,7 @@ module _ {O : Type 0} {g : Ghosts O} {state : O → OutState} {p : Plan} {slots 
       -- a retry that found no socket under its name
       (unopened_why : (fixed : Fixed) (gave : ℕ → List ℕ) (orders : ℕ → Order) → (c : ℕ) (x : Client g state p q) → get_elem? crew c ≡ some x → (i : ℕ) (d : Deed g state p q) → get_elem? (deeds_of x) i ≡ some d
       → (code : ℕ) → missed_in d ≡ Some code → (asked : Asked) → IsAskedIn d asked → (client : ℕ) → IsOperation every outcomes client asked.operation (ops.Call asked)
-      → (u : sock_view.View) → Found p (name_of asked (attempt_of d)) None u (socks_behind d) → WhyLost p every outcomes fixed gave orders client asked.operation (attempt_of d) (name_of asked (attempt_of d)))
-      -- a message of an attempt that was dropped
-      (dropped_why : (c : ℕ) (x : Client g state p q) → get_elem? crew c ≡ some x → (id code n : ℕ) → WasDropped state p q (deeds_of x) id code n
-      → (slot first r j : ℕ) (asked : Asked) → slot < slots → first < 4294967296 → id ≡ slot * 4294967296 + first → get_elem? (notes_of slot notes) j ≡ some (Made first r asked)
-      → (client : ℕ) → IsOperation every outcomes client asked.operation (ops.Call asked)
-      → IsDropped p every outcomes fixed_here gave orders_here asked.operation n
-      × (((code ≡ EFAILEDSOCKET) × WhyLost p every outcomes fixed_here gave orders_here client asked.operation n (name_of asked n))
-      ⊎ ((1500 ≤ code) × (code ≤ 1999) × IsFailedWith p every outcomes fixed_here gave orders_here (name_of asked n) code))) where
+      → (u : sock_view.View) → Found p (name_of asked (attempt_of d)) None u (socks_behind d) → WhyLost p every outcomes fixed gave orders client asked.operation (attempt_of d) (name_of asked (attempt_of d))) where
     -- ## One attempt, of the call that is operation o with this id
 
     module _ (client o : ℕ) (asked : Asked) (is : IsOperation every outcomes client o (ops.Call asked)) (slot first n : ℕ) (inside : slot < slots) (low : first < 4294967296) (made : 0 < total (is_made_for first o) (notes_of slot notes)) where
@@ -158,7 +155,7 @@ module _ {O : Type 0} {g : Ghosts O} {state : O → OutState} {p : Plan} {slots 
       dropped_again l =
           let m = made_for_there first o (notes_of slot notes) made in
           let t = made_so slot m.2 first m.0 m.1 inside m.3 in
-          let d = dropped_why l.place l.client l.in_crew id l.code n l.drop slot first m.0 m.2 m.1 inside low refl m.3 t.0 t.1 in
+          let d = dropped_why run tasks may notes kept words closing noted outcomes drun seats logged differ gave all_there few few_links bounds owned l.place l.client l.in_crew id l.code n l.drop slot first m.0 m.2 m.1 inside low refl m.3 t.0 t.1 in
           AfterDrop (subst (λ (y : ℕ). IsDropped p every outcomes fixed_here gave orders_here y n) m.4 d.0)
 
       after : WhyAdvanced run outcomes said notes kept words closing noted others id n → WhyAgainHere client o n (name_of asked n)
