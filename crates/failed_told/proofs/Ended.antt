@@ -1,5 +1,5 @@
 -- Why the calls failed whose ends the clients of a run told: since an `expire` of them was answered, since their last attempt was lost or dropped, or by whoever read the links.
-use Rattle.std.proofs.Common.{◌≡◌, ◌≢◌, ℕ, ◌+◌, ◌*◌, ◌/◌, ◌%◌, ◌<◌, ◌≤◌, ◌⊎◌, ◌||◌, ◌==◌, Bool, false, inl, inr, List, ◌∷◌, length, map, Some, None, ne_eqb, refl, sym, ap, ◌∙◌, subst, arith}
+use Rattle.std.proofs.Common.{◌≡◌, ℕ, ◌+◌, ◌*◌, ◌/◌, ◌%◌, ◌<◌, ◌≤◌, ◌⊎◌, ◌||◌, ◌==◌, Bool, false, inl, inr, List, ◌∷◌, length, map, ne_eqb, refl, sym, ap, ◌∙◌, subst, arith}
 use Rattle.std.specs.Prelude.{Option}
 use mathlib.Core.Option.{some}
 use lib.ListN.{get_elem?}
@@ -61,7 +61,7 @@ use Rattle.failed_told.proofs.Losses.{IsAskedIn}
 use Rattle.failed_told.proofs.Premises.{drun as deeds_of_run, seats as seats_here, logged as logged_here, said_own as said_here, all_there as there_here, asked_so as asked_here, few as few_here}
 use Rattle.failed_told.proofs.Single.{sender, made_low}
 use Rattle.failed_told.proofs.Unopened.{unopened_why}
-use Rattle.failed_told.proofs.Verdicts.{last_one, made_so, MissedLast, DroppedLast, Verdict, timed, lost, fell as dropped_last, behind, verdict, by_expiry, IsAskedSo}
+use Rattle.failed_told.proofs.Verdicts.{last_one, made_so, MissedLast, DroppedLast, timed, lost, fell as dropped_last, behind, verdict, by_expiry, IsAskedSo}
 use Rattle.failed_told.proofs.Views.{queued_in}
 use Rattle.failed_told.proofs.Whole.{IsFallen, missed_why}
 
