@@ -1,5 +1,5 @@
 -- Each attempt of a call behind the first was made since the attempt before it was dropped; or since no link accepted that one, as its socket was failing, its name had none, or each request was taken.
-use Rattle.std.proofs.Common.{◌≡◌, ℕ, ◌+◌, ◌-◌, ◌*◌, ◌<◌, ◌≤◌, ◌⊎◌, inl, inr, List, ◌∷◌, length, map, Some, None, refl, sym, ap, ◌∙◌, subst, arith}
+use Rattle.std.proofs.Common.{◌≡◌, ℕ, ◌+◌, ◌-◌, ◌*◌, ◌<◌, ◌≤◌, ◌⊎◌, inl, inr, List, ◌∷◌, length, map, refl, sym, ap, ◌∙◌, subst, arith}
 use Rattle.std.specs.Prelude.{Option}
 use mathlib.Core.Logic.{dite}
 use mathlib.Core.Option.{some}
@@ -11,14 +11,12 @@ use Rattle.sock_words.specs.declared.outcome.Outcome.{Outcome}
 use Rattle.sock_words.specs.declared.plain.Plan.{Plan}
 use Rattle.sock_words.specs.declared.place_word.PlaceWord.{PlaceWord}
 use Rattle.sock_words.specs.declared.vref.Vref.{Vref}
-use Rattle.sock_model.specs.declared.view.View as sock_view
 use Rattle.expire_told.specs.sock_rule.specs.Closing.{PlacesDiffer}
-use Rattle.expire_told.specs.sock_table.specs.Named.{Found}
 use Rattle.seat_programs.specs.declared.task.Op.{Op}
 use Rattle.seat_programs.specs.declared.task.Op.TheVariants as ops
 use Rattle.seat_programs.specs.declared.task.Task.{Task}
 use Rattle.seat_programs.specs.Told.{AreTasks, IsTask}
-use Rattle.seat_programs.specs.ToldCalls.{Fixed, Order, IsDropped, IsUnordered, WhyLost, WhyAgain, AfterDrop, AfterLoss, AfterFull, all_accepted}
+use Rattle.seat_programs.specs.ToldCalls.{Fixed, Order, IsDropped, IsUnordered, WhyAgain, AfterDrop, AfterLoss, AfterFull, all_accepted}
 use Rattle.corr_core.specs.Law.{total}
 use Rattle.corr_core.specs.Word.{code_of}
 use Rattle.corr_core.specs.declared.marks.Kept.{Kept}
@@ -31,12 +29,15 @@ use Rattle.id_rule.specs.Lawful.{notes_of}
 use Rattle.sock_message.specs.Asked.{Asked, name_of}
 use Rattle.corr_id.specs.Closing.{Closing}
 use Rattle.expire_told.specs.rpc_client.specs.declared.acting.Told.{Told}
-use Rattle.expire_told.specs.call_run.specs.Threads.{Thread, RanOn, MayRunAll, ids_of}
+use Rattle.expire_told.specs.call_run.specs.Threads.{Thread, RanOn, MayRunAll, ids_of, opens_of, opened_names, openings}
 use Rattle.expire_told.specs.call_places.specs.Counted.{HaveNotesOf}
 use Rattle.expire_told.specs.call_places.specs.Deeds.{Deed}
 use Rattle.expire_told.specs.call_places.proofs.Clients.{Client, total_map, view_of, deeds_of}
 use Rattle.expire_told.specs.call_places.proofs.Places.{all as all_clients, views_are}
 use Rattle.expire_told.specs.call_told.specs.Least.{is_made_for}
+use Rattle.expire_told.specs.call_deeds.specs.Retried.{all_asked}
+use Rattle.expire_told.specs.call_deeds.specs.Scripts.{AllHaveLinks, Reports, AllLater}
+use Rattle.expire_told.specs.call_deeds.proofs.Ran.{AreLater}
 use Rattle.expire_told.specs.Said.{AreSaid}
 use Rattle.expire_told.specs.sock_deeds.specs.Runs.{IsOperation, seat_of, DeedRun}
 use Rattle.expire_told.specs.sock_deeds.proofs.Accepting.{log}
@@ -46,23 +47,16 @@ use Rattle.expire_told.specs.sock_deeds.proofs.Whole.{fixed}
 use Rattle.attempts_told.specs.Attempts.{last_attempt}
 use Rattle.attempts_told.proofs.Last.{IsReached, one_reached}
 use Rattle.attempts_told.proofs.Senders.{made_for_there}
-use Rattle.failed_told.specs.Missed.{missed_in, id_of, attempt_of, socks_behind}
-use Rattle.failed_told.specs.Reasons.{WasDropped}
+use Rattle.attempts_told.proofs.Told.{same_asked}
+use Rattle.failed_told.specs.Missed.{id_of, attempt_of}
 use Rattle.failed_told.proofs.Advances.{MissedAt, DroppedAt, WhyAdvanced, by_miss, by_drop, IsAdvanced, advance_why}
 use Rattle.failed_told.proofs.Codes.{IsReadCode}
-use Rattle.failed_told.proofs.Drops.{IsLogged, dropped_why}
+use Rattle.failed_told.proofs.Ended.{TellsDrops}
 use Rattle.failed_told.proofs.Fallen.{one_operation, unordered, WhyNothing, had_failed, were_full, had_none, why_nothing}
 use Rattle.failed_told.proofs.Losses.{IsAskedIn, deed_why}
+use Rattle.failed_told.proofs.Premises.{drun as deeds_of_run, seats as seats_here, logged as logged_here, said_own as said_here, all_there as there_here, asked_so as asked_here}
+use Rattle.failed_told.proofs.Unopened.{unopened_why}
 use Rattle.failed_told.proofs.Views.{queued_in, advanced_in}
-
--- what a call asks for
-asked_in : Op → Asked → Asked
-asked_in (ops.Call asked) other = asked
-asked_in op other = other
-
-same_asked : (a b : Asked) → ops.Call a ≡ ops.Call b → a ≡ b
-unfolding asked_in
-same_asked a b e = ap (λ (o : Op). asked_in o a) e
 
 module _ {O : Type 0} {g : Ghosts O} {state : O → OutState} {p : Plan} {slots : ℕ} {setup : List Task} {clients : List (List Task)} {opens : List ℕ} {told ended : List (List Told)} {places : List PlaceWord} {vrefs : List Vref} {outs : List O} {ids : List (View Asked)}
     (run : RanOn g state p slots setup clients opens told ended places vrefs outs ids) (tasks : AreTasks p (setup ∷ clients)) (may : MayRunAll p (ids_of p slots) setup clients)
@@ -72,16 +66,13 @@ module _ {O : Type 0} {g : Ghosts O} {state : O → OutState} {p : Plan} {slots 
     -- none but the clients advanced attempts
     (own : (i first n : ℕ) → advanced_in i first n notes ≤ total (λ (v : View Asked). advanced_in i first n v.notes) ids)
     (drun : DeedRun g state p (setup ∷ clients) outcomes places vrefs outs) (seats : map seat_of drun.seats ≡ map (λ (x : Thread g). x.ended.seat) (run.ran.main ∷ run.ran.others)) (logged : log drun ≡ run.closed.ordered.log) (differ : PlacesDiffer (log drun)) (gave : ℕ → List ℕ)
-    (all_there : length (log drun) ≤ all_accepted p.links (orders drun differ)) (few : p.operations ≤ 65536) (few_links : p.links ≤ 65536)
-    -- the codes that a `fail` may have in a script
-    (bounds : (client number name code : ℕ) → IsOperation (setup ∷ clients) outcomes client number (ops.Fail name code) → (1500 ≤ code) × (code ≤ 1999))
-    -- each message that a client dropped is the one that stands in the log with its place index
-    (owned : (c : ℕ) (x : Client g state p (ids_of p slots)) → get_elem? (all_clients run) c ≡ some x → (id code n : ℕ) (w : WasDropped state p (ids_of p slots) (deeds_of x) id code n) → IsLogged (log drun) w.drop.msg)
+    (all_there : length (log drun) ≤ all_accepted p.links (orders drun differ))
     -- whatever was asked by a call of which an attempt was made is a task
     (asked_so : (c : ℕ) (x : Client g state p (ids_of p slots)) → get_elem? (all_clients run) c ≡ some x → (i : ℕ) (d : Deed g state p (ids_of p slots)) → get_elem? (deeds_of x) i ≡ some d → (asked : Asked) → IsAskedIn d asked
     → (client : ℕ) × IsOperation (setup ∷ clients) outcomes client asked.operation (ops.Call asked))
     -- and so is the call for which an id was made
-    (made_so : (i j f r : ℕ) (asked : Asked) → i < slots → get_elem? (notes_of i notes) j ≡ some (Made f r asked) → (client : ℕ) × IsOperation (setup ∷ clients) outcomes client asked.operation (ops.Call asked) × (r ≡ asked.range)) where
+    (made_so : (i j f r : ℕ) (asked : Asked) → i < slots → get_elem? (notes_of i notes) j ≡ some (Made f r asked) → (client : ℕ) × IsOperation (setup ∷ clients) outcomes client asked.operation (ops.Call asked) × (r ≡ asked.range))
+    (dropped_why : TellsDrops run notes outcomes drun differ gave) where
   abbrev q : id_plan.Plan
   q = ids_of p slots
 
@@ -109,83 +100,97 @@ module _ {O : Type 0} {g : Ghosts O} {state : O → OutState} {p : Plan} {slots 
   abbrev DroppedHere : ℕ → ℕ → Type 0
   DroppedHere id n = DroppedAt run outcomes said notes kept words closing noted others id n
 
-  module _
-      -- a retry that found no socket under its name
-      (unopened_why : (fixed : Fixed) (gave : ℕ → List ℕ) (orders : ℕ → Order) → (c : ℕ) (x : Client g state p q) → get_elem? crew c ≡ some x → (i : ℕ) (d : Deed g state p q) → get_elem? (deeds_of x) i ≡ some d
-      → (code : ℕ) → missed_in d ≡ Some code → (asked : Asked) → IsAskedIn d asked → (client : ℕ) → IsOperation every outcomes client asked.operation (ops.Call asked)
-      → (u : sock_view.View) → Found p (name_of asked (attempt_of d)) None u (socks_behind d) → WhyLost p every outcomes fixed gave orders client asked.operation (attempt_of d) (name_of asked (attempt_of d))) where
-    -- ## One attempt, of the call that is operation o with this id
+  -- ## One attempt, of the call that is operation o with this id
 
-    module _ (client o : ℕ) (asked : Asked) (is : IsOperation every outcomes client o (ops.Call asked)) (slot first n : ℕ) (inside : slot < slots) (low : first < 4294967296) (made : 0 < total (is_made_for first o) (notes_of slot notes)) where
-      abbrev id : ℕ
-      id = slot * 4294967296 + first
+  module _ (client o : ℕ) (asked : Asked) (is : IsOperation every outcomes client o (ops.Call asked)) (slot first n : ℕ) (inside : slot < slots) (low : first < 4294967296) (made : 0 < total (is_made_for first o) (notes_of slot notes)) where
+    abbrev id : ℕ
+    id = slot * 4294967296 + first
 
-      -- in the words of its task
-      in_words : (c o' m : ℕ) (a : Asked) → c ≡ client → o' ≡ o → m ≡ n → a ≡ asked → WhyAgainHere c o' m (name_of a m) → WhyAgainHere client o n (name_of asked n)
-      in_words c o' m a ec eo em ea w =
-          let on = subst (λ (y : Asked). WhyAgainHere c o' m (name_of y m)) ea w in
-          let at = subst (λ (y : ℕ). WhyAgainHere c o' y (name_of asked y)) em on in
-          let of = subst (λ (y : ℕ). WhyAgainHere c y n (name_of asked n)) eo at in subst (λ (y : ℕ). WhyAgainHere y o n (name_of asked n)) ec of
+    -- in the words of its task
+    in_words : (c o' m : ℕ) (a : Asked) → c ≡ client → o' ≡ o → m ≡ n → a ≡ asked → WhyAgainHere c o' m (name_of a m) → WhyAgainHere client o n (name_of asked n)
+    in_words c o' m a ec eo em ea w =
+        let on = subst (λ (y : Asked). WhyAgainHere c o' m (name_of y m)) ea w in
+        let at = subst (λ (y : ℕ). WhyAgainHere c o' y (name_of asked y)) em on in
+        let of = subst (λ (y : ℕ). WhyAgainHere c y n (name_of asked n)) eo at in subst (λ (y : ℕ). WhyAgainHere y o n (name_of asked n)) ec of
 
-      -- it came to nothing
-      missed_again : MissedHere id n → WhyAgainHere client o n (name_of asked n)
-      missed_again l =
-          let same_id = l.id_is in
-          let m = made_for_there first o (notes_of slot notes) made in
-          let w = deed_why l.deed l.code l.missed in
-          let of = asked_so l.place l.client l.in_crew l.index l.deed l.there w.asked w.is in
-          let none_ = unordered run tasks may notes kept words closing noted outcomes drun seats logged differ gave all_there l.place l.client l.in_crew l.index l.deed l.there l.code l.missed l.backed (omega (arith, inside, low, same_id)) in
-          let its : none_.0.operation ≡ o = one_operation run tasks may notes kept words closing noted outcomes drun seats logged differ gave all_there none_.0.operation (id_of l.deed) slot first m.0 m.2 m.1 inside low none_.0.id (sym same_id) m.3 ∙ m.4 in
-          let asks : w.asked.operation ≡ none_.0.operation = none_.0.asks w.asked w.is in
-          let number : w.asked.operation ≡ o = asks ∙ its in
-          let task = same_task drun of.0 client record { number = w.asked.operation; op = ops.Call w.asked } record { number = o; op = ops.Call asked } of.1 is number in
-          let same : w.asked ≡ asked = same_asked w.asked asked (ap (λ (t : Task). t.op) task.1) in
-          let free : IsUnordered p every outcomes fixed_here gave orders_here w.asked.operation (attempt_of l.deed) = subst (λ (y : ℕ). IsUnordered p every outcomes fixed_here gave orders_here y (attempt_of l.deed)) (sym asks) none_.1 in
-          in_words of.0 w.asked.operation (attempt_of l.deed) w.asked task.0 number (sym l.attempt_is) same (by l w.asked w.is of.0 of.1 free
-          (why_nothing run tasks may notes kept words closing noted outcomes drun seats logged differ gave all_there l.place l.client l.in_crew l.index l.deed l.there l.code l.missed l.backed of.0 w.asked.operation w.asked of.1 w.why))
-        where
-          by : (l : MissedHere id n) (a : Asked) → IsAskedIn l.deed a → (c : ℕ) → IsOperation every outcomes c a.operation (ops.Call a) → IsUnordered p every outcomes fixed_here gave orders_here a.operation (attempt_of l.deed)
-              → WhyNothing run tasks may notes kept words closing noted outcomes drun seats logged differ gave all_there l.place l.client l.in_crew l.index l.deed l.there l.code l.missed l.backed c a.operation a → WhyAgainHere c a.operation (attempt_of l.deed) (name_of a (attempt_of l.deed))
-          by l a asks c task free (had_failed same lost) = AfterLoss free lost
-          by l a asks c task free (were_full same full) = AfterFull free full
-          by l a asks c task free (had_none same u found) = AfterLoss free (unopened_why fixed_here gave orders_here l.place l.client l.in_crew l.index l.deed l.there l.code l.missed a asks c task u found)
+    -- it came to nothing
+    missed_again : MissedHere id n → WhyAgainHere client o n (name_of asked n)
+    missed_again l =
+        let same_id = l.id_is in
+        let m = made_for_there first o (notes_of slot notes) made in
+        let w = deed_why l.deed l.code l.missed in
+        let of = asked_so l.place l.client l.in_crew l.index l.deed l.there w.asked w.is in
+        let none_ = unordered run tasks may notes kept words closing noted outcomes drun seats logged differ gave all_there l.place l.client l.in_crew l.index l.deed l.there l.code l.missed l.backed (omega (arith, inside, low, same_id)) in
+        let its : none_.0.operation ≡ o = one_operation run tasks may notes kept words closing noted outcomes drun seats logged differ gave all_there none_.0.operation (id_of l.deed) slot first m.0 m.2 m.1 inside low none_.0.id (sym same_id) m.3 ∙ m.4 in
+        let asks : w.asked.operation ≡ none_.0.operation = none_.0.asks w.asked w.is in
+        let number : w.asked.operation ≡ o = asks ∙ its in
+        let task = same_task drun of.0 client record { number = w.asked.operation; op = ops.Call w.asked } record { number = o; op = ops.Call asked } of.1 is number in
+        let same : w.asked ≡ asked = same_asked w.asked asked (ap (λ (t : Task). t.op) task.1) in
+        let free : IsUnordered p every outcomes fixed_here gave orders_here w.asked.operation (attempt_of l.deed) = subst (λ (y : ℕ). IsUnordered p every outcomes fixed_here gave orders_here y (attempt_of l.deed)) (sym asks) none_.1 in
+        in_words of.0 w.asked.operation (attempt_of l.deed) w.asked task.0 number (sym l.attempt_is) same (by l w.asked w.is of.0 of.1 free
+        (why_nothing run tasks may notes kept words closing noted outcomes drun seats logged differ gave all_there l.place l.client l.in_crew l.index l.deed l.there l.code l.missed l.backed of.0 w.asked.operation w.asked of.1 w.why))
+      where
+        by : (l : MissedHere id n) (a : Asked) → IsAskedIn l.deed a → (c : ℕ) → IsOperation every outcomes c a.operation (ops.Call a) → IsUnordered p every outcomes fixed_here gave orders_here a.operation (attempt_of l.deed)
+            → WhyNothing run tasks may notes kept words closing noted outcomes drun seats logged differ gave all_there l.place l.client l.in_crew l.index l.deed l.there l.code l.missed l.backed c a.operation a → WhyAgainHere c a.operation (attempt_of l.deed) (name_of a (attempt_of l.deed))
+        by l a asks c task free (had_failed same lost) = AfterLoss free lost
+        by l a asks c task free (were_full same full) = AfterFull free full
+        by l a asks c task free (had_none same u found) = AfterLoss free (unopened_why run tasks may notes kept words closing noted outcomes said fixed_here gave orders_here l.place l.client l.in_crew l.index l.deed l.there l.code l.missed a asks c task u found)
 
-      -- its message was dropped
-      dropped_again : DroppedHere id n → WhyAgainHere client o n (name_of asked n)
-      dropped_again l =
-          let m = made_for_there first o (notes_of slot notes) made in
-          let t = made_so slot m.2 first m.0 m.1 inside m.3 in
-          let d = dropped_why run tasks may notes kept words closing noted outcomes drun seats logged differ gave all_there few few_links bounds owned l.place l.client l.in_crew id l.code n l.drop slot first m.0 m.2 m.1 inside low refl m.3 t.0 t.1 in
-          AfterDrop (subst (λ (y : ℕ). IsDropped p every outcomes fixed_here gave orders_here y n) m.4 d.0)
+    -- its message was dropped
+    dropped_again : DroppedHere id n → WhyAgainHere client o n (name_of asked n)
+    dropped_again l =
+        let m = made_for_there first o (notes_of slot notes) made in
+        let t = made_so slot m.2 first m.0 m.1 inside m.3 in
+        let d = dropped_why l.place l.client l.in_crew id l.code n l.drop slot first m.0 m.2 m.1 inside low refl m.3 t.0 t.1 in
+        AfterDrop (subst (λ (y : ℕ). IsDropped p every outcomes fixed_here gave orders_here y n) m.4 d.0)
 
-      after : WhyAdvanced run outcomes said notes kept words closing noted others id n → WhyAgainHere client o n (name_of asked n)
-      after (by_miss l) = missed_again l
-      after (by_drop l) = dropped_again l
+    after : WhyAdvanced run outcomes said notes kept words closing noted others id n → WhyAgainHere client o n (name_of asked n)
+    after (by_miss l) = missed_again l
+    after (by_drop l) = dropped_again l
 
-    -- ## All attempts
+  -- ## All attempts
 
-    -- an advance is one that a client noted
-    advance : (slot first n : ℕ) → 0 < advanced_in slot first (n + 1) notes → IsAdvanced run outcomes said notes kept words closing noted others slot first n
-    advance slot first n some_ =
-        let f : View Asked → ℕ = λ v. advanced_in slot first (n + 1) v.notes in
-        let s = total_some (λ (y : Client g state p q). f (view_of y)) crew (let a = own slot first (n + 1) in let b = total_map f view_of crew in let d = ap (total f) (views_are run) in omega (arith, some_, a, b, d)) in
-        advance_why run outcomes said notes kept words closing noted others s.0 s.1 s.2 slot first n s.3
+  -- an advance is one that a client noted
+  advance : (slot first n : ℕ) → 0 < advanced_in slot first (n + 1) notes → IsAdvanced run outcomes said notes kept words closing noted others slot first n
+  advance slot first n some_ =
+      let f : View Asked → ℕ = λ v. advanced_in slot first (n + 1) v.notes in
+      let s = total_some (λ (y : Client g state p q). f (view_of y)) crew (let a = own slot first (n + 1) in let b = total_map f view_of crew in let d = ap (total f) (views_are run) in omega (arith, some_, a, b, d)) in
+      advance_why run outcomes said notes kept words closing noted others s.0 s.1 s.2 slot first n s.3
 
-    -- from the last one on down
-    each_again : (client o : ℕ) (asked : Asked) → IsOperation every outcomes client o (ops.Call asked) → (n : ℕ) → n < last o → IsReached o notes notes (last o) → WhyAgainHere client o n (name_of asked n)
-    each_again client o asked is n less r =
-        let m : ℕ = last o - 1 in
-        let up : last o ≡ m + 1 = omega (arith, less) in
-        let top = advance r.slot r.first m (subst (λ (y : ℕ). 0 < advanced_in r.slot r.first y notes) up r.noted) in
-        let next : 0 < advanced_in r.slot r.first (n + 1) notes = dite (dec_lt (n + 1) (last o))
-        (λ lt. (closing.one_by_one r.slot r.first (last o) top.inside r.noted).1 (n + 1) (omega arith) lt)
-        (λ ge. let e : last o ≡ n + 1 = omega (arith, less, ge) in subst (λ (y : ℕ). 0 < advanced_in r.slot r.first y notes) e r.noted) in
-        after client o asked is r.slot r.first n top.inside top.low r.made (advance r.slot r.first n next).why
+  -- from the last one on down
+  all_again : (client o : ℕ) (asked : Asked) → IsOperation every outcomes client o (ops.Call asked) → (n : ℕ) → n < last o → IsReached o notes notes (last o) → WhyAgainHere client o n (name_of asked n)
+  all_again client o asked is n less r =
+      let m : ℕ = last o - 1 in
+      let up : last o ≡ m + 1 = omega (arith, less) in
+      let top = advance r.slot r.first m (subst (λ (y : ℕ). 0 < advanced_in r.slot r.first y notes) up r.noted) in
+      let next : 0 < advanced_in r.slot r.first (n + 1) notes = dite (dec_lt (n + 1) (last o))
+      (λ lt. (closing.one_by_one r.slot r.first (last o) top.inside r.noted).1 (n + 1) (omega arith) lt)
+      (λ ge. let e : last o ≡ n + 1 = omega (arith, less, ge) in subst (λ (y : ℕ). 0 < advanced_in r.slot r.first y notes) e r.noted) in
+      after client o asked is r.slot r.first n top.inside top.low r.made (advance r.slot r.first n next).why
 
-    pub again : (client : ℕ) (t : Task) (asked : Asked) → IsTask every outcomes client t → t.op ≡ ops.Call asked → (n : ℕ) → n < last t.number → WhyAgain p every outcomes fixed_here gave orders_here client t.number n (name_of asked n)
-    again client t asked is op n less =
-        let call = subst (λ (x : Op). IsTask every outcomes client record { number = t.number; op = x }) op is in
-        elim (one_reached t.number notes notes) [
-          | inl none_ ↦ absurd (omega (arith, none_, less))
-          | inr r ↦ each_again client t.number asked call n less r
-        ]
+  pub again : (client : ℕ) (t : Task) (asked : Asked) → IsTask every outcomes client t → t.op ≡ ops.Call asked → (n : ℕ) → n < last t.number → WhyAgain p every outcomes fixed_here gave orders_here client t.number n (name_of asked n)
+  again client t asked is op n less =
+      let call = subst (λ (x : Op). IsTask every outcomes client record { number = t.number; op = x }) op is in
+      elim (one_reached t.number notes notes) [
+        | inl none_ ↦ absurd (omega (arith, none_, less))
+        | inr r ↦ all_again client t.number asked call n less r
+      ]
+
+-- by what is known of each run of a script
+module _ {O : Type 0} {g : Ghosts O} {state : O → OutState} {p : Plan} {slots : ℕ} {setup : List Task} {clients : List (List Task)} {opens : List ℕ} {told ended : List (List Told)} {places : List PlaceWord} {vrefs : List Vref} {outs : List O} {ids : List (View Asked)}
+    (run : RanOn g state p slots setup clients opens told ended places vrefs outs ids) (tasks : AreTasks p (setup ∷ clients)) (may : MayRunAll p (ids_of p slots) setup clients)
+    (notes : List (Noted Asked)) (kept : List Kept) (words : List ℕ) (closing : Closing (ids_of p slots) notes kept words) (noted : HaveNotesOf ids notes)
+    (outcomes : List (Option Outcome)) (long : length outcomes ≡ p.operations) (reports : Reports (setup ∷ clients) outcomes told) (links : AllHaveLinks 0 (setup ∷ clients))
+    (main_later : AreLater (setup ∷ clients) outcomes (all_asked run.ran.main run.ran.main_is))
+    (others_later : AllLater (setup ∷ clients) outcomes state p (ids_of p slots) (opened_names run.ran.main.ended.outcomes.items (openings setup)) (opens_of setup) run.ran.others run.ran.others_are)
+    (later : (c : ℕ) (x : Client g state p (ids_of p slots)) → get_elem? (all_clients run) c ≡ some x → AreLater (setup ∷ clients) outcomes (all_asked x.thread x.is))
+    (others : (i first e : ℕ) → 0 < queued_in i first e notes → (0 < total (λ (v : View Asked). queued_in i first e v.notes) ids) ⊎ IsReadCode (code_of e))
+    (made : (i j f r : ℕ) (asked : Asked) → i < slots → get_elem? (notes_of i notes) j ≡ some (Made f r asked) → (c : ℕ) × IsTask (setup ∷ clients) outcomes c record { number = asked.operation; op = ops.Call asked } × (r ≡ asked.range))
+    (own : (i f n : ℕ) → advanced_in i f n notes ≤ total (λ (v : View Asked). advanced_in i f n v.notes) ids) (differ : PlacesDiffer run.closed.ordered.log) (gave : ℕ → List ℕ) where
+  abbrev deeds_here : DeedRun g state p (setup ∷ clients) outcomes places vrefs outs
+  deeds_here = deeds_of_run run tasks may notes kept words closing noted outcomes long reports links main_later others_later later
+
+  pub each_again : TellsDrops run notes outcomes deeds_here differ gave → (client : ℕ) (t : Task) (asked : Asked) → IsTask (setup ∷ clients) outcomes client t → t.op ≡ ops.Call asked → (n : ℕ) → n < last_attempt notes t.number
+      → WhyAgain p (setup ∷ clients) outcomes (fixed deeds_here differ gave) gave (orders deeds_here differ) client t.number n (name_of asked n)
+  each_again dropped = again run tasks may notes kept words closing noted outcomes (said_here run tasks may notes kept words closing noted outcomes long reports links main_later others_later later) others own deeds_here (seats_here run tasks may notes kept words closing noted outcomes long reports links main_later others_later later) (logged_here run tasks may notes kept words closing noted outcomes long reports links main_later others_later later) differ gave (there_here run tasks may notes kept words closing noted outcomes long reports links main_later others_later later differ)
+      (asked_here run tasks may notes kept words closing noted outcomes long reports links main_later others_later later) made dropped
