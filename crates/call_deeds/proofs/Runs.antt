@@ -49,7 +49,7 @@ use Rattle.call_deeds.proofs.Told.{all_results, task_at, result_of, said_at, sai
 
 -- ## Names that were opened
 
-opened_there : (told : List Told) (i number slot version link : ℕ) → get_elem? told i ≡ some record { number = number; outcome = outcome.Opened slot version link } → opened_in number told ≡ true
+pub opened_there : (told : List Told) (i number slot version link : ℕ) → get_elem? told i ≡ some record { number = number; outcome = outcome.Opened slot version link } → opened_in number told ≡ true
 opened_there [] i number slot version link e = absurd (some-ne-none _ (sym e))
 opened_there (t ∷ ts) zero number slot version link e =
     let same = some-injective t record { number = number; outcome = outcome.Opened slot version link } e in
@@ -60,7 +60,7 @@ opened_there (t ∷ ts) (suc i) number slot version link e = or_true ((t.number 
     or_true true b h = refl
     or_true false b h = h
 
-names_there : (told : List Told) (ts : List Task) (k number n link : ℕ) → get_elem? ts k ≡ some record { number = number; op = ops.Open n link } → opened_in number told ≡ true → (i : ℕ) × (get_elem? (opened_names told (openings ts)) i ≡ some n)
+pub names_there : (told : List Told) (ts : List Task) (k number n link : ℕ) → get_elem? ts k ≡ some record { number = number; op = ops.Open n link } → opened_in number told ≡ true → (i : ℕ) × (get_elem? (opened_names told (openings ts)) i ≡ some n)
 names_there told [] k number n link e seen = absurd (some-ne-none _ (sym e))
 names_there told (t ∷ ts) zero number n link e seen =
     let same = some-injective t record { number = number; op = ops.Open n link } e in
@@ -82,7 +82,7 @@ module _ {O : Type 0} (g : Ghosts O) (state : O → OutState) (p : Plan) (q : id
   in_at (u ∷ us) zero t e = inl (sym (same_Some u t e))
   in_at (u ∷ us) (suc k) t e = inr (in_at us k t e)
 
-  same_task : (c d : ℕ) (t u : Task) → IsTask all outcomes c t → IsTask all outcomes d u → t.number ≡ u.number → (c ≡ d) × (t ≡ u)
+  pub same_task : (c d : ℕ) (t u : Task) → IsTask all outcomes c t → IsTask all outcomes d u → t.number ≡ u.number → (c ≡ d) × (t ≡ u)
   same_task c d t u a b e = let h = has_from a.0 t a.2 in let k = has_from b.0 u b.2 in one_task p all tasks_are c d t u (a.0, a.1, in_at a.0 h.0 t h.1) (b.0, b.1, in_at b.0 k.0 u k.1) e
 
   is_task : (c : ℕ) (ts : List Task) (k : ℕ) (t : Task) → slice_get all c ≡ Some ts → get_elem? ts k ≡ some t → IsTask all outcomes c t

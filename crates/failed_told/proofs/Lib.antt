@@ -18,9 +18,6 @@ pub mod Drops
 pub mod PostedCodes
 pub mod Asked
 pub mod Whole
-mod SeenTmp
-mod NamesTmp
-mod SizesTmp
 pub mod Crew
 pub mod Before
 pub mod Makers

@@ -1,5 +1,5 @@
 -- What is asked of a run, so that its clients' failures are told, by what is known of each run of a script.
-use Rattle.std.proofs.Common.{◌≡◌, ℕ, ◌+◌, ◌<◌, ◌≤◌, List, [], ◌∷◌, length, map, refl, ap, subst, arith}
+use Rattle.std.proofs.Common.{◌≡◌, ℕ, ◌+◌, ◌<◌, ◌≤◌, List, [], ◌∷◌, length, map, refl, subst}
 use Rattle.std.specs.Prelude.{Option}
 use Rattle.std.specs.List.{AllByRecursion}
 use mathlib.Core.Option.{some}
@@ -11,7 +11,6 @@ use Rattle.sock_words.specs.declared.plain.Plan.{Plan}
 use Rattle.sock_words.specs.declared.place_word.PlaceWord.{PlaceWord}
 use Rattle.sock_words.specs.declared.vref.Vref.{Vref}
 use Rattle.expire_told.specs.sock_rule.specs.Closing.{PlacesDiffer}
-use Rattle.seat_programs.specs.declared.task.Op.{Op}
 use Rattle.seat_programs.specs.declared.task.Op.TheVariants as ops
 use Rattle.seat_programs.specs.declared.task.Task.{Task}
 use Rattle.seat_programs.specs.Told.{AreTasks, IsTask, TaskFits, OpFits}
@@ -35,14 +34,13 @@ use Rattle.expire_told.specs.call_places.proofs.Places.{all as all_clients}
 use Rattle.expire_told.specs.call_deeds.specs.Retried.{all_asked}
 use Rattle.expire_told.specs.call_deeds.specs.Scripts.{AllHaveLinks, Reports, AllLater}
 use Rattle.expire_told.specs.call_deeds.proofs.Ran.{AreLater}
-use Rattle.expire_told.specs.call_deeds.proofs.Runs.{seats_are, deed_run}
-use Rattle.failed_told.proofs.NamesTmp.{same_task}
+use Rattle.expire_told.specs.call_deeds.proofs.Runs.{seats_are, deed_run, same_task}
 use Rattle.expire_told.specs.report_fits.proofs.Lists.{has_from, all_at as all_there_in}
 use Rattle.expire_told.specs.Said.{AreSaid}
 use Rattle.expire_told.specs.sock_deeds.specs.Runs.{IsOperation, seat_of, DeedRun}
 use Rattle.expire_told.specs.sock_deeds.proofs.Accepting.{log}
 use Rattle.expire_told.specs.sock_deeds.proofs.Orders.{orders}
-use Rattle.failed_told.proofs.SizesTmp.{log_accepted}
+use Rattle.expire_told.specs.sock_deeds.proofs.Whole.{log_accepted}
 use Rattle.attempts_told.specs.Attempts.{last_attempt}
 use Rattle.attempts_told.proofs.Told.{few as few_attempts}
 use Rattle.failed_told.proofs.Asked.{own_task, asked_task}

@@ -1,5 +1,5 @@
 -- Which names a client has seen: that of each socket that it opened or found, and each for which it waited before its first operation.
-use Rattle.std.proofs.Common.{◌≡◌, ◌⊎◌, ℕ, zero, suc, ◌+◌, ◌<◌, inl, inr, List, [], ◌∷◌, ◌++◌, Some, None, zero-le, refl, sym, ap, ◌∙◌, subst, arith}
+use Rattle.std.proofs.Common.{◌≡◌, ◌⊎◌, ℕ, zero, suc, ◌+◌, inl, inr, List, [], ◌∷◌, ◌++◌, Some, None, zero-le, refl, sym, ap, ◌∙◌, subst}
 use Rattle.std.specs.Prelude.{Option}
 use Rattle.std.specs.List.{AllByRecursion}
 use Rattle.std.proofs.lemmas.Option.{none-some}
@@ -23,18 +23,18 @@ use Rattle.sock_message.specs.Asked.{Asked, name_of}
 use Rattle.expire_told.specs.call_attempts.specs.Both.{Both}
 use Rattle.expire_told.specs.call_attempts.specs.Calling.{BegunAs}
 use Rattle.expire_told.specs.call_attempts.specs.Letters.{letter_for}
-use Rattle.expire_told.specs.call_attempts.specs.Retrying.{without_oldest, Retried, none_yet, one_more}
+use Rattle.expire_told.specs.call_attempts.specs.Retrying.{Retried, none_yet, one_more}
 use Rattle.expire_told.specs.call_client.specs.Acting.{Stand, stand, both_of, letter_of, Acted}
 use Rattle.expire_told.specs.call_client.specs.Running.{Course, Ran, begins}
 use Rattle.expire_told.specs.call_errors.specs.Books.{CallStand, Books}
 use Rattle.expire_told.specs.call_run.specs.Threads.{FoundEach, Thread, IsThread, AreThreads, opens_of}
-use Rattle.expire_told.specs.call_places.specs.Deeds.{Deed, operates, retries, retries_of, ran_deeds, deeds}
+use Rattle.expire_told.specs.call_places.specs.Deeds.{Deed, operates, retries_of, ran_deeds, deeds}
 use Rattle.expire_told.specs.call_told.proofs.Lists.{all_both}
 use Rattle.expire_told.specs.call_deeds.proofs.Messages.{send_message, attempt_message}
 use Rattle.expire_told.specs.call_deeds.proofs.Told.{came, made}
 use Rattle.expire_told.specs.rpc_client.specs.Opening.{OpenedBy}
 use Rattle.expire_told.specs.sock_deeds.proofs.Growing.{found_grew}
-use Rattle.failed_told.proofs.SeenTmp.{SeenBy, message_seen, held_seen, failed_seen, opened_seen}
+use Rattle.expire_told.specs.sock_deeds.proofs.Names.{SeenBy, message_seen, held_seen, failed_seen, opened_seen}
 use Rattle.failed_told.specs.Missed.{acted_missed}
 use Rattle.failed_told.proofs.Before.{IsRetry}
 

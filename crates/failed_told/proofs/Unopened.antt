@@ -1,8 +1,7 @@
 -- A retry that found no socket under its name: no task of the setup had given the name a socket, and none that its client had made before had given it one or found one.
-use Rattle.std.proofs.Common.{◌≡◌, ◌⊎◌, ℕ, zero, suc, ◌+◌, ◌*◌, ◌<◌, ◌≤◌, inl, inr, List, [], ◌∷◌, length, map, slice_get, Some, None, refl, sym, ap, ◌∙◌, subst, arith}
+use Rattle.std.proofs.Common.{◌≡◌, ℕ, zero, suc, ◌+◌, ◌*◌, ◌<◌, ◌≤◌, inl, inr, List, [], ◌∷◌, map, slice_get, Some, None, refl, sym, ap, ◌∙◌, subst, arith}
 use Rattle.std.specs.Prelude.{Option, max}
-use Rattle.std.specs.List.{AllByRecursion}
-use Rattle.std.proofs.lemmas.Option.{none-some, same_Some}
+use Rattle.std.proofs.lemmas.Option.{same_Some}
 use mathlib.Core.Logic.{dite}
 use mathlib.Core.Option.{some, some-injective, some-ne-none}
 use native.Mathlib.Decide.{ℕ_discrete, dec_lt}
@@ -42,7 +41,7 @@ use Rattle.expire_told.specs.call_errors.specs.declared.retries.Retry.{Retry}
 use Rattle.expire_told.specs.call_attempts.specs.Both.{Both}
 use Rattle.expire_told.specs.call_attempts.specs.Calling.{BegunAs}
 use Rattle.expire_told.specs.call_attempts.specs.Retrying.{Locked, WentAgain, had_ended, overtaken, went_again}
-use Rattle.expire_told.specs.call_client.specs.Acting.{Stand, stand, both_of, Acted}
+use Rattle.expire_told.specs.call_client.specs.Acting.{Stand, both_of, Acted}
 use Rattle.expire_told.specs.call_run.specs.Threads.{Thread, RanOn, MayRunAll, ids_of, opens_of, opened_names, openings}
 use Rattle.expire_told.specs.call_places.specs.Counted.{makes, HaveNotesOf}
 use Rattle.expire_told.specs.call_places.specs.Deeds.{Deed, operates, retries}
@@ -55,16 +54,16 @@ use Rattle.expire_told.specs.call_places.proofs.Places.{all as all_clients, all_
 use Rattle.expire_told.specs.call_told.specs.Least.{is_made_for}
 use Rattle.expire_told.specs.call_told.proofs.Lists.{all_at}
 use Rattle.expire_told.specs.call_deeds.proofs.Ran.{Result}
+use Rattle.expire_told.specs.call_deeds.proofs.Runs.{opened_there, names_there, same_task}
 use Rattle.expire_told.specs.call_deeds.proofs.Told.{all_results, told_by, task_at, result_of, said_at, open_said}
 use Rattle.expire_told.specs.outcome_causes.proofs.Seats.{Less}
 use Rattle.expire_told.specs.outcome_causes.proofs.Tasks.{sorted_of}
 use Rattle.expire_told.specs.sock_deeds.specs.Runs.{IsOperation}
+use Rattle.expire_told.specs.sock_deeds.proofs.Names.{SeenBy}
 use Rattle.expire_told.specs.sock_deeds.proofs.Places.{place_low}
 use Rattle.expire_told.specs.Said.{AreSaid}
 use Rattle.expire_told.proofs.Begun.{made_begun as begun_made}
 use Rattle.expire_told.proofs.Making.{mapped_from}
-use Rattle.failed_told.proofs.NamesTmp.{opened_there, names_there, same_task}
-use Rattle.failed_told.proofs.SeenTmp.{SeenBy}
 use Rattle.failed_told.specs.Missed.{missed_in, attempt_of, socks_behind}
 use Rattle.failed_told.proofs.Losses.{IsAskedIn}
 use Rattle.failed_told.proofs.Reaching.{retry_grew}
@@ -72,7 +71,7 @@ use Rattle.failed_told.proofs.Single.{within, may_make, made_once, first_id, aga
 use Rattle.failed_told.proofs.Clients.{says_own}
 use Rattle.failed_told.proofs.Makers.{IsBegun, made_begun}
 use Rattle.failed_told.proofs.Crew.{tasks_there, its_tasks, place_of, is_task, own_call}
-use Rattle.failed_told.proofs.Before.{stands_before, stands_behind, IsRetry, Operation, MadeBefore, MadeBehind, PlacedHere, all_placed, noted_last}
+use Rattle.failed_told.proofs.Before.{stands_before, IsRetry, MadeBefore, PlacedHere, all_placed, noted_last}
 use Rattle.failed_told.proofs.Seeking.{sought_seen, opens_seen, missed_seen, waited_seen, names_are, none_again}
 
 -- ## Tasks in their order

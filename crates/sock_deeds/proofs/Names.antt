@@ -41,7 +41,7 @@ use Rattle.sock_deeds.proofs.Tasks.{Does, act_of, act_does, earlier, one_outcome
 
 -- ## What has seen a name
 
-abbrev SeenBy : Plan → ℕ → View → Type 0
+abbrev pub SeenBy : Plan → ℕ → View → Type 0
 SeenBy p n v = HasSeen (name_index p n) v
 
 here_seen : (p : Plan) (n : ℕ) (sock : SockRef) (v w : View) → ReachedBy p n (reached.Here sock) v w → SeenBy p n w
@@ -53,20 +53,20 @@ gone_seen p n found v w r = (added_grew (socket_id_slot r.0.0) r.1 w _ r.3.becam
 over_seen : {O : Type 0} (state : O → OutState) (p : Plan) (n : ℕ) (msg : Letter) (by : Option Outcome) (v w : View) → SentOver state p n msg by v w → SeenBy p n w
 over_seen state p n msg by v w s = (over_grew state p n msg by v w s).seen (name_index p n) (here_seen p n s.sock v s.has s.reached_it)
 
-message_seen : {O : Type 0} (state : O → OutState) (p : Plan) (n : ℕ) (msg : Letter) (by : Option Outcome) (v w : View) → MessageBy state p n msg by v w → (by ≡ Some outcome.Unopened) ⊎ SeenBy p n w
+pub message_seen : {O : Type 0} (state : O → OutState) (p : Plan) (n : ℕ) (msg : Letter) (by : Option Outcome) (v w : View) → MessageBy state p n msg by v w → (by ≡ Some outcome.Unopened) ⊎ SeenBy p n w
 message_seen state p n msg None v w s = inr (over_seen state p n msg None v w s)
 message_seen state p n msg (Some outcome.Unopened) v w s = inl refl
 message_seen state p n msg (Some (outcome.Gone found)) v w s = inr (elim s [ inl r ↦ gone_seen p n found v w r | inr d ↦ over_seen state p n msg _ v w d ])
 message_seen state p n msg (Some outcome.Full) v w s = inr (over_seen state p n msg _ v w s)
 message_seen state p n msg (Some _) v w s = elim s [ ]
 
-held_seen : (p : Plan) (n : ℕ) (by : Outcome) (h : List Held) (v : View) (k : List Held) (w : View) → HeldBy p n by h v k w → (by ≡ outcome.Unopened) ⊎ SeenBy p n w
+pub held_seen : (p : Plan) (n : ℕ) (by : Outcome) (h : List Held) (v : View) (k : List Held) (w : View) → HeldBy p n by h v k w → (by ≡ outcome.Unopened) ⊎ SeenBy p n w
 held_seen p n outcome.Unopened h v k w b = inl refl
 held_seen p n (outcome.Gone found) h v k w b = inr (gone_seen p n found v w b.1)
 held_seen p n outcome.Held h v k w b = inr (here_seen p n record { id = b.0 } v w b.2)
 held_seen p n _ h v k w b = elim b [ ]
 
-failed_seen : (p : Plan) (n code : ℕ) (by : Outcome) (v w : View) → FailedBy p n code by v w → (by ≡ outcome.Unopened) ⊎ SeenBy p n w
+pub failed_seen : (p : Plan) (n code : ℕ) (by : Outcome) (v w : View) → FailedBy p n code by v w → (by ≡ outcome.Unopened) ⊎ SeenBy p n w
 failed_seen p n code outcome.Unopened v w b = inl refl
 failed_seen p n code (outcome.Gone found) v w b = inr (gone_seen p n found v w b)
 failed_seen p n code outcome.Failed v w b = inr (tried_seen outcome.Failed b)
@@ -81,7 +81,7 @@ failed_seen p n code outcome.Failed v w b = inr (tried_seen outcome.Failed b)
 failed_seen p n code (outcome.Already found) v w b = inr ((grew_then b.has b.set w (added_grew (socket_id_slot b.sock.id.0) b.has b.set _ b.set_by.1) (back_grew (socket_id_slot b.sock.id.0) _ b.set w b.ended b.back)).seen (name_index p n) (here_seen p n b.sock v b.has b.reached_it))
 failed_seen p n code _ v w b = elim b [ ]
 
-opened_seen : {S : Type 0} (p : Plan) (n operation link slot version k : ℕ) (m m' : Me S View) → OpenedBy p n operation link (outcome.Opened slot version k) m m' → SeenBy p n m'.0
+pub opened_seen : {S : Type 0} (p : Plan) (n operation link slot version k : ℕ) (m m' : Me S View) → OpenedBy p n operation link (outcome.Opened slot version k) m m' → SeenBy p n m'.0
 opened_seen {S} p n operation link slot version k m m' b = (0, ap (λ (z : Me S View). get_elem? z.0.found 0) b.4.published.view)
 
 module _ {O : Type 0} {g : Ghosts O} {state : O → OutState} {p : Plan} {clients : List (List Task)} {outcomes : List (Option Outcome)} {places : List PlaceWord} {vrefs : List Vref} {outs : List O} (run : DeedRun g state p clients outcomes places vrefs outs) where

@@ -116,8 +116,12 @@ module _ {O : Type 0} {g : Ghosts O} {state : O → OutState} {p : Plan} {client
   links_low : (q : ℕ) (e : Entry) → get_elem? (log run) q ≡ some e → e.link < p.links
   links_low q e at = let w = act_of_entry run q e at in subst (λ (x : Entry). x.link < p.links) w.1.entry w.1.sent.delivered.accepted.inside
 
+  -- each message of the log is one that a link accepted
+  pub log_accepted : length (log run) ≤ all_accepted p.links (orders run differ)
+  log_accepted = omega (arith, sizes_all p.links (log run) links_low)
+
   requests_full : (b : Act run) (n : ℕ) (msg : Letter) → SentOver state p n msg (Some outcome.Full) (before run b) (after run b) → p.requests ≤ all_accepted p.links (orders run differ)
-  requests_full b n msg s = let full = was_full run b n msg s in omega (arith, sizes_all p.links (log run) links_low)
+  requests_full b n msg s = let full = was_full run b n msg s in omega (arith, log_accepted)
 
   -- only an `open` is the setup's
   is_client : (c number : ℕ) (op : Op) → IsOperation clients outcomes c number op → (IsOpen op → ⊥) → 0 < c
