@@ -55,10 +55,8 @@ use Rattle.callless_fits.specs.sock_deeds.proofs.Whole.{fixed}
 use Rattle.attempts_told.specs.Attempts.{last_attempt}
 use Rattle.failed_told.proofs.Again.{each_again}
 use Rattle.failed_told.proofs.Codes.{IsReadCode}
-use Rattle.failed_told.proofs.Drops.{dropped_why}
+use Rattle.failed_told.proofs.DropsTold.{drops_told, expires_told}
 use Rattle.failed_told.proofs.Ended.{TellsDrops, ends_told}
-use Rattle.failed_told.proofs.PostedCodes.{expire_posted}
-use Rattle.failed_told.proofs.Premises as premises
 use Rattle.failed_told.proofs.ReadCodes.{HasReadCode, TellsCodes, codes_then, read_codes, rest_codes}
 use Rattle.failed_told.proofs.Reading.{Queues, queues_then, read_queues, rest_queues, others_queued}
 use Rattle.failed_told.proofs.Views.{queued_in}
@@ -184,11 +182,7 @@ module _ {O I P : Type 0} (g : Ghosts O) (out : O → OutState) (inn : I → InS
     orders_here = orders drun apart
 
     dropped : TellsDrops left.ran notes outcomes drun apart gave
-    dropped = dropped_why left.ran tasks may_run notes read.last.view.kept read.words read.closing noted outcomes drun
-        (premises.seats left.ran tasks may_run notes read.last.view.kept read.words read.closing noted outcomes as_long are_reported links main_later clients_later each_later)
-        (premises.logged left.ran tasks may_run notes read.last.view.kept read.words read.closing noted outcomes as_long are_reported links main_later clients_later each_later)
-        apart gave (premises.all_there left.ran tasks may_run notes read.last.view.kept read.words read.closing noted outcomes as_long are_reported links main_later clients_later each_later apart)
-        (low g out inn bytes script reads told ended places seats left ends ends' last read) (few g out inn bytes script reads told ended places seats left ends ends' last read) bounds
+    dropped = drops_told left.ran tasks may_run notes read.last.view.kept read.words read.closing noted outcomes as_long are_reported links main_later clients_later each_later apart gave (low g out inn bytes script reads told ended places seats left ends ends' last read) (few g out inn bytes script reads told ended places seats left ends ends' last read) bounds
 
     -- ### Calls that failed
 
@@ -230,11 +224,7 @@ module _ {O I P : Type 0} (g : Ghosts O) (out : O → OutState) (inn : I → InS
     -- ### Each `expire`
 
     expires : (client of : ℕ) (t : Task) (by : Outcome) → IsTask all outcomes client t → t.op ≡ ops.Expire of → Became all outcomes t.number by → WhyExpire p all outcomes fixed_here gave orders_here (last_attempt notes) client t.number of by
-    expires client of t by is op became = expire_posted left.ran tasks may_run notes read.last.view.kept read.words read.closing noted (keeps g out inn bytes script reads told ended places seats left ends ends' last read) outcomes (said g out inn bytes script reads told ended places seats left ends ends' last read) (said_ended g out inn bytes script reads told ended places seats left ends ends' last read) others drun
-        (premises.seats left.ran tasks may_run notes read.last.view.kept read.words read.closing noted outcomes as_long are_reported links main_later clients_later each_later)
-        (premises.logged left.ran tasks may_run notes read.last.view.kept read.words read.closing noted outcomes as_long are_reported links main_later clients_later each_later)
-        apart gave (premises.all_there left.ran tasks may_run notes read.last.view.kept read.words read.closing noted outcomes as_long are_reported links main_later clients_later each_later apart)
-        (low g out inn bytes script reads told ended places seats left ends ends' last read) (few g out inn bytes script reads told ended places seats left ends ends' last read) bounds (last_attempt notes) client of t by is op became
+    expires client of t by is op became = expires_told left.ran tasks may_run notes read.last.view.kept read.words read.closing noted outcomes as_long are_reported links main_later clients_later each_later apart gave (low g out inn bytes script reads told ended places seats left ends ends' last read) (few g out inn bytes script reads told ended places seats left ends ends' last read) bounds (keeps g out inn bytes script reads told ended places seats left ends ends' last read) (said_ended g out inn bytes script reads told ended places seats left ends ends' last read) others (last_attempt notes) client of t by is op became
         (expire_why left.ran tasks may_run notes read.last.view.kept read.words read.closing noted (keeps g out inn bytes script reads told ended places seats left ends ends' last read) outcomes (said g out inn bytes script reads told ended places seats left ends ends' last read) (said_ended g out inn bytes script reads told ended places seats left ends ends' last read) (begun_not g out inn bytes script reads told ended places seats left ends ends' last read) fixed_here gave orders_here (of_calls g out inn bytes script reads told ended places seats left ends ends' last read) client of t by is op became)
 
     told_here : AreCallsTold p all outcomes fixed_here gave orders_here (last_attempt notes)
