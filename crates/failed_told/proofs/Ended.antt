@@ -56,8 +56,6 @@ use Rattle.failed_told.specs.Missed.{id_of, attempt_of}
 use Rattle.failed_told.specs.Reasons.{WasDropped, IsCaused}
 use Rattle.failed_told.proofs.Clients.{Says, ended_caused}
 use Rattle.failed_told.proofs.Codes.{IsReadCode}
-use Rattle.failed_told.proofs.Drops.{IsLogged}
-use Rattle.failed_told.proofs.Drops.{dropped_why as drops_why}
 use Rattle.failed_told.proofs.Fallen.{Fallen, fell, none_opened}
 use Rattle.failed_told.proofs.Losses.{IsAskedIn}
 use Rattle.failed_told.proofs.Premises.{drun as deeds_of_run, seats as seats_here, logged as logged_here, said_own as said_here, all_there as there_here, asked_so as asked_here, few as few_here}
@@ -263,13 +261,3 @@ module _ {O : Type 0} {g : Ghosts O} {state : O → OutState} {p : Plan} {slots 
       let w = mapped_from (λ (x : Client g state p (ids_of p slots)). f x.thread) (all_clients run) c ts (ap (λ (l : List (List Told)). get_elem? l c) (all_are run f ∙ run.ran.ended_is) ∙ at) in
       told_why run tasks may notes kept words closing noted keeps outcomes (said_here run tasks may notes kept words closing noted outcomes long reports links main_later others_later later) said_ended others drun (seats_here run tasks may notes kept words closing noted outcomes long reports links main_later others_later later) (logged_here run tasks may notes kept words closing noted outcomes long reports links main_later others_later later) differ gave (there_here run tasks may notes kept words closing noted outcomes long reports links main_later others_later later differ) (asked_here run tasks may notes kept words closing noted outcomes long reports links main_later others_later later)
       (few_here run tasks may notes kept words closing noted outcomes long reports links main_later others_later later made own) dropped made c w.0 w.1 i one (ap (λ (l : List Told). get_elem? l i) w.2 ∙ there)
-
-  -- with what a script's numbers and codes are, and that each message that a client dropped is the one that stands in the log with its place index
-  module _ (few : p.operations ≤ 65536) (few_links : p.links ≤ 65536) (bounds : (client number name code : ℕ) → IsOperation (setup ∷ clients) outcomes client number (ops.Fail name code) → (1500 ≤ code) × (code ≤ 1999))
-      (owned : (c : ℕ) (x : Client g state p (ids_of p slots)) → get_elem? (all_clients run) c ≡ some x → (id code n : ℕ) (w : WasDropped state p (ids_of p slots) (deeds_of x) id code n) → IsLogged (log drun) w.drop.msg) where
-    pub tells_drops : TellsDrops run notes outcomes drun differ gave
-    tells_drops = drops_why run tasks may notes kept words closing noted outcomes drun (seats_here run tasks may notes kept words closing noted outcomes long reports links main_later others_later later) (logged_here run tasks may notes kept words closing noted outcomes long reports links main_later others_later later) differ gave (there_here run tasks may notes kept words closing noted outcomes long reports links main_later others_later later differ) few few_links bounds owned
-
-    pub failed_why : (c i : ℕ) (ts : List Told) (one : Told) → get_elem? ended c ≡ some ts → get_elem? ts i ≡ some one → (client : ℕ) (asked : Asked) → IsOperation (setup ∷ clients) outcomes client one.number (ops.Call asked)
-        → (id code : ℕ) × (one.outcome ≡ CallFailed id code) × (FailedBy p (setup ∷ clients) outcomes (fixed drun differ gave) gave (orders drun differ) client one.number asked id code (last_attempt notes one.number) ⊎ IsReadCode code)
-    failed_why = ends_told tells_drops
