@@ -56,8 +56,6 @@ use Rattle.failed_told.specs.Missed.{id_of, attempt_of}
 use Rattle.failed_told.specs.Reasons.{WasDropped, IsCaused}
 use Rattle.failed_told.proofs.Clients.{Says, ended_caused}
 use Rattle.failed_told.proofs.Codes.{IsReadCode}
-use Rattle.failed_told.proofs.Drops.{IsLogged}
-use Rattle.failed_told.proofs.Drops.{dropped_why as drops_why}
 use Rattle.failed_told.proofs.Fallen.{Fallen, fell, none_opened}
 use Rattle.failed_told.proofs.Losses.{IsAskedIn}
 use Rattle.failed_told.proofs.Premises.{drun as deeds_of_run, seats as seats_here, logged as logged_here, said_own as said_here, all_there as there_here, asked_so as asked_here, few as few_here}
