@@ -14,7 +14,6 @@ pub mod Began
 pub mod Each
 pub mod Placed
 pub mod Linked
-pub mod Begun
 pub mod Retrying
 pub mod Later
 pub mod Telling

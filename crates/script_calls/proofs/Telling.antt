@@ -64,7 +64,7 @@ use Rattle.callless_fits.specs.sock_deeds.specs.Runs.{IsOperation}
 use Rattle.script_calls.specs.Reading.{IdSeat, begins, HasRead}
 use Rattle.script_calls.specs.Told.{IsLeft, outcomes_of}
 use Rattle.script_calls.proofs.Began.{thread_ends_in}
-use Rattle.script_calls.proofs.Begun.{made_begun}
+use Rattle.failed_told.proofs.Makers.{made_begun}
 use Rattle.script_calls.proofs.Each.{task_fits}
 use Rattle.script_calls.proofs.MayCall.{IsOwn, IsOwnTask, all_own}
 use Rattle.script_calls.proofs.Clients.{balanced}
