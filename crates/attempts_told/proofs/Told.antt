@@ -204,7 +204,7 @@ module _ {O : Type 0} {g : Ghosts O} {state : O → OutState} {p : Plan} {slots 
     whose k i a at (inl s) = s
     whose k i a at (inr t) = let l = logged k i a at in its_call k a t (subst (SentBy run outcomes may notes laws have later) l.1 (sent_by run outcomes may notes laws have later l.2 l.0 l.3))
 
-    pub attempts_told : AreAttemptsTold p tasks_all outcomes fixed gave orders
+    unfoldable pub attempts_told : AreAttemptsTold p tasks_all outcomes fixed gave orders
     attempts_told = record {
       last = last;
       few = few;

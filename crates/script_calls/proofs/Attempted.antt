@@ -174,7 +174,7 @@ module _ {O I P : Type 0} (g : Ghosts O) (out : O → OutState) (inn : I → InS
     abbrev t : AreSocketsTold script outcomes places gave links
     t = sockets_told g out inn bytes script reads told ended places seats left ends ends' last read halves kept gave links given givers
 
-    pub attempts_of : AreAttemptsTold p (all_tasks script) outcomes (fixed_by t.broken [] t.fails) gave t.orders
+    unfoldable pub attempts_of : AreAttemptsTold p (all_tasks script) outcomes (fixed_by t.broken [] t.fails) gave t.orders
     unfolding attempts_told
     attempts_of =
         let ids = are_ids g out inn bytes script reads told ended places seats left ends ends' last read in

@@ -157,7 +157,7 @@ module _ {O I P : Type 0} (g : Ghosts O) (out : O → OutState) (inn : I → InS
         }
 
     -- why each operation on sockets has its outcome
-    pub sockets_told : (links : List LinkEnd) → links ≡ map end_at ends' → ((k : ℕ) (e : LinkEnd) → slice_get links k ≡ Some e → IsGiver gave k e) → AreSocketsTold script outcomes places gave links
+    unfoldable pub sockets_told : (links : List LinkEnd) → links ≡ map end_at ends' → ((k : ℕ) (e : LinkEnd) → slice_get links k ≡ Some e → IsGiver gave k e) → AreSocketsTold script outcomes places gave links
     sockets_told links given givers = record {
       core = core;
       words = words;
