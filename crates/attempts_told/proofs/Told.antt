@@ -204,9 +204,13 @@ module _ {O : Type 0} {g : Ghosts O} {state : O → OutState} {p : Plan} {slots 
     whose k i a at (inl s) = s
     whose k i a at (inr t) = let l = logged k i a at in its_call k a t (subst (SentBy run outcomes may notes laws have later) l.1 (sent_by run outcomes may notes laws have later l.2 l.0 l.3))
 
-    unfoldable pub attempts_told : AreAttemptsTold p tasks_all outcomes fixed gave orders
+    pub attempts_told : AreAttemptsTold p tasks_all outcomes fixed gave orders
     attempts_told = record {
       last = last;
       few = few;
       sent = λ k low. each_place (λ (a : Accepted). IsSentHere k a ⊎ IsAttempt tasks_all outcomes k a) (IsSentHere k) (orders k).accepted (tells.sent last k low) (λ i a at. whose k i a at);
     }
+
+    pub last_is : attempts_told.last ≡ last_attempt notes
+    unfolding attempts_told
+    last_is = refl

@@ -52,7 +52,7 @@ use Rattle.call_whys.specs.call_deeds.proofs.Told.{task_at}
 use Rattle.callless_fits.specs.sock_deeds.specs.Told.{fixed_by, ToldSockets}
 use Rattle.attempts_told.specs.Attempts.{last_attempt, AreAttemptsTold}
 use Rattle.attempts_told.proofs.Reading.{rest_unmoved, read_unmoved}
-use Rattle.attempts_told.proofs.Told.{attempts_told}
+use Rattle.attempts_told.proofs.Told.{attempts_told, last_is}
 use Rattle.script_calls.specs.Reading.{IdSeat, begins, HasRead}
 use Rattle.script_calls.specs.Told.{IsLeft, AreSocketsTold, outcomes_of}
 use Rattle.script_calls.proofs.Began.{only_is}
@@ -174,16 +174,37 @@ module _ {O I P : Type 0} (g : Ghosts O) (out : O → OutState) (inn : I → InS
     abbrev t : AreSocketsTold script outcomes places gave links
     t = sockets_told g out inn bytes script reads told ended places seats left ends ends' last read halves kept gave links given givers
 
-    unfoldable pub attempts_of : AreAttemptsTold p (all_tasks script) outcomes (fixed_by t.broken [] t.fails) gave t.orders
-    unfolding attempts_told
-    attempts_of =
+    its : AreAttemptsTold p all outcomes (fixed_by t.broken [] t.fails) gave t.orders
+    its =
         let ids = are_ids g out inn bytes script reads told ended places seats left ends ends' last read in
         let tells = subst (λ (l : List (List Task)). ToldSockets p l outcomes (fixed_by t.broken [] t.fails) gave t.orders t.core) (sym left.tasks) t.tells in
-        let its : AreAttemptsTold p all outcomes (fixed_by t.broken [] t.fails) gave t.orders =
         attempts_told left.ran outcomes (may g out inn bytes script reads told ended places seats left ends ends' last read) notes read.last.view.kept read.words read.closing
         (have g out inn bytes script reads told ended places seats left ends ends' last read) own later ids.made two ids.one (fixed_by t.broken [] t.fails) gave t.orders t.core tells
-        (sockets_logged g out inn bytes script reads told ended places seats left ends ends' last read halves kept gave links given givers) shown in record {
-          last = last_attempt notes;
-          few = subst (λ (l : List (List Task)). (client : ℕ) (u : Task) (asked : Asked) → IsTask l outcomes client u → u.op ≡ ops.Call asked → last_attempt notes u.number + 2 ≤ asked.range) left.tasks its.few;
-          sent = subst (λ (l : List (List Task)). (k : ℕ) → k < p.links → AllByRecursion (IsSent p l outcomes (fixed_by t.broken [] t.fails) gave t.orders (last_attempt notes) k) (t.orders k).accepted) left.tasks its.sent;
-        }
+        (sockets_logged g out inn bytes script reads told ended places seats left ends ends' last read halves kept gave links given givers) shown
+
+    -- the last attempt is the greatest to which the id of a call advanced
+    its_last : its.last ≡ last_attempt notes
+    unfolding its
+    its_last =
+        let ids = are_ids g out inn bytes script reads told ended places seats left ends ends' last read in
+        let tells = subst (λ (l : List (List Task)). ToldSockets p l outcomes (fixed_by t.broken [] t.fails) gave t.orders t.core) (sym left.tasks) t.tells in
+        last_is left.ran outcomes (may g out inn bytes script reads told ended places seats left ends ends' last read) notes read.last.view.kept read.words read.closing
+        (have g out inn bytes script reads told ended places seats left ends ends' last read) own later ids.made two ids.one (fixed_by t.broken [] t.fails) gave t.orders t.core tells
+        (sockets_logged g out inn bytes script reads told ended places seats left ends ends' last read halves kept gave links given givers) shown
+
+    abbrev IsFew : List (List Task) → (ℕ → ℕ) → Type 0
+    IsFew tasks last_of = (client : ℕ) (u : Task) (asked : Asked) → IsTask tasks outcomes client u → u.op ≡ ops.Call asked → last_of u.number + 2 ≤ asked.range
+
+    abbrev AreSent : List (List Task) → (ℕ → ℕ) → Type 0
+    AreSent tasks last_of = (k : ℕ) → k < p.links → AllByRecursion (IsSent p tasks outcomes (fixed_by t.broken [] t.fails) gave t.orders last_of k) (t.orders k).accepted
+
+    pub attempts_of : AreAttemptsTold p (all_tasks script) outcomes (fixed_by t.broken [] t.fails) gave t.orders
+    attempts_of = record {
+      last = last_attempt notes;
+      few = subst (λ (l : List (List Task)). IsFew l (last_attempt notes)) left.tasks (subst (IsFew all) its_last its.few);
+      sent = subst (λ (l : List (List Task)). AreSent l (last_attempt notes)) left.tasks (subst (AreSent all) its_last its.sent);
+    }
+
+    pub attempts_last : attempts_of.last ≡ last_attempt notes
+    unfolding attempts_of
+    attempts_last = refl

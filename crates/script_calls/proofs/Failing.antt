@@ -62,14 +62,14 @@ use Rattle.failed_told.proofs.Reading.{Queues, queues_then, read_queues, rest_qu
 use Rattle.failed_told.proofs.Views.{queued_in}
 use Rattle.script_calls.specs.Reading.{IdSeat, begins, HasRead}
 use Rattle.script_calls.specs.Told.{IsLeft, AreSocketsTold, AreCallsTold, outcomes_of}
-use Rattle.script_calls.proofs.Attempted.{own, later, attempts_of}
+use Rattle.script_calls.proofs.Attempted.{own, later, attempts_of, attempts_last}
 use Rattle.script_calls.proofs.Expiring.{keeps, of_calls}
 use Rattle.script_calls.proofs.Later.{setup_later, others_later}
 use Rattle.script_calls.proofs.Linked.{script_linked}
 use Rattle.script_calls.proofs.Placed.{are, may, have, few, low}
 use Rattle.script_calls.proofs.Sayings.{told_each, none_told}
 use Rattle.script_calls.proofs.Shown.{view_of, flat_mapped}
-use Rattle.script_calls.proofs.Sockets.{long, differ, run, sockets_told}
+use Rattle.script_calls.proofs.Sockets.{long, differ, run, sockets_told, sockets_are}
 use Rattle.script_calls.proofs.Telling.{split, only_one, IsEndTold, said, said_ended, begun_not, reports, whose}
 use Rattle.script_calls.proofs.Versions.{told_own, are_ids, calls_apart}
 
@@ -99,7 +99,7 @@ same_failure i c id code e = (ap first_of e, ap code_in e)
 
 -- a client tells no call of its own to have failed
 not_own : (id code : ℕ) (x : Told) → x.outcome ≡ CallFailed id code → IsOwn x → ⊥
-not_own id code x outcome own_ = let k : true ≡ false = sym (ap ends_call outcome) ∙ own_ in absurd (cc)
+not_own id code x outcome told_of = let k : true ≡ false = sym (ap ends_call outcome) ∙ told_of in absurd (cc)
 
 -- ## A run of a script
 
@@ -203,8 +203,8 @@ module _ {O I P : Type 0} (g : Ghosts O) (out : O → OutState) (inn : I → InS
             let e = ends_told left.ran tasks may_run notes read.last.view.kept read.words read.closing noted (keeps g out inn bytes script reads told ended places seats left ends ends' last read) outcomes as_long are_reported links main_later clients_later each_later (said_ended g out inn bytes script reads told ended places seats left ends ends' last read) others (are_ids g out inn bytes script reads told ended places seats left ends ends' last read).made (own g out inn bytes script reads told ended places seats left ends ends' last read) apart gave
             dropped c i ts x at there client asked (subst (λ (n : ℕ). IsOperation all outcomes client n (ops.Call asked)) (sym number) call) in
             let same = same_failure e.0 e.1 id code (sym e.2 ∙ outcome) in
-            let numbered_ : FailedHere client t.number asked e.0 e.1 = subst (λ (n : ℕ). FailedHere client n asked e.0 e.1) number e.3 in
-            subst (λ (n : ℕ). FailedHere client t.number asked id n) same.1 (subst (λ (n : ℕ). FailedHere client t.number asked n e.1) same.0 numbered_)
+            let by_number : FailedHere client t.number asked e.0 e.1 = subst (λ (n : ℕ). FailedHere client n asked e.0 e.1) number e.3 in
+            subst (λ (n : ℕ). FailedHere client t.number asked id n) same.1 (subst (λ (n : ℕ). FailedHere client t.number asked n e.1) same.0 by_number)
 
         of_reader : (i : ℕ) (x : Told) → get_elem? last i ≡ some x → x.outcome ≡ CallFailed id code → FailedHere client t.number asked id code
         of_reader i x there outcome = inr (told_at HasReadCode last i x read_told there id code outcome)
@@ -237,11 +237,12 @@ module _ {O I P : Type 0} (g : Ghosts O) (out : O → OutState) (inn : I → InS
     }
 
   -- why each `expire` and each call has its outcome
-  module _ (halves : map (λ (e : Ends O I P). e.out) ends ≡ left.outs) (kept : map (λ (e : Ends O I P). out e.out) ends' ≡ map (λ (e : Ends O I P). out e.out) ends) (gave : ℕ → List ℕ) (links_ : List LinkEnd)
-      (given : links_ ≡ map (λ (e : Ends O I P). end_of (out e.out) (inn e.inn)) ends') (givers : (k : ℕ) (e : LinkEnd) → slice_get links_ k ≡ Some e → IsGiver gave k e) where
-    abbrev t : AreSocketsTold script outcomes places gave links_
-    t = sockets_told g out inn bytes script reads told ended places seats left ends ends' last read halves kept gave links_ given givers
+  module _ (halves : map (λ (e : Ends O I P). e.out) ends ≡ left.outs) (kept : map (λ (e : Ends O I P). out e.out) ends' ≡ map (λ (e : Ends O I P). out e.out) ends) (gave : ℕ → List ℕ) (back : List LinkEnd)
+      (given : back ≡ map (λ (e : Ends O I P). end_of (out e.out) (inn e.inn)) ends') (givers : (k : ℕ) (e : LinkEnd) → slice_get back k ≡ Some e → IsGiver gave k e) where
+    abbrev t : AreSocketsTold script outcomes places gave back
+    t = sockets_told g out inn bytes script reads told ended places seats left ends ends' last read halves kept gave back given givers
 
-    pub calls_told : AreCallsTold p (all_tasks script) outcomes (fixed_by t.broken [] t.fails) gave t.orders (attempts_of g out inn bytes script reads told ended places seats left ends ends' last read halves kept gave links_ given givers).last
-    unfolding sockets_told attempts_of
-    calls_told = subst (λ (l : List (List Task)). AreCallsTold p l outcomes (fixed_here gave) gave (orders_here gave) (last_attempt notes)) left.tasks (told_here gave)
+    pub calls_told : AreCallsTold p (all_tasks script) outcomes (fixed_by t.broken [] t.fails) gave t.orders (attempts_of g out inn bytes script reads told ended places seats left ends ends' last read halves kept gave back given givers).last
+    calls_told = sockets_are g out inn bytes script reads told ended places seats left ends ends' last read halves kept gave back given givers (λ broken fails by_link. AreCallsTold p (all_tasks script) outcomes (fixed_by broken [] fails) gave by_link (attempts_of g out inn bytes script reads told ended places seats left ends ends' last read halves kept gave back given givers).last)
+        (subst (AreCallsTold p (all_tasks script) outcomes (fixed_here gave) gave (orders_here gave)) (sym (attempts_last g out inn bytes script reads told ended places seats left ends ends' last read halves kept gave back given givers))
+        (subst (λ (l : List (List Task)). AreCallsTold p l outcomes (fixed_here gave) gave (orders_here gave) (last_attempt notes)) left.tasks (told_here gave)))

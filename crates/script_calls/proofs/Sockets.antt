@@ -24,7 +24,7 @@ use Rattle.seat_programs.specs.Cores.{Core}
 use Rattle.seat_programs.specs.Runs.{from_to}
 use Rattle.seat_programs.specs.Scripts.{opening_calls, place_words}
 use Rattle.seat_programs.specs.Tasks.{plan_of, calls}
-use Rattle.seat_programs.specs.ToldCalls.{Accepted, Fixed, StandsAt}
+use Rattle.seat_programs.specs.ToldCalls.{Accepted, Order, Fixed, StandsAt}
 use Rattle.report_fits.specs.Ends.{IsEndOf}
 use Rattle.report_fits.proofs.Flat.{at_map}
 use Rattle.report_fits.proofs.Lists.{has_from, has_none}
@@ -157,7 +157,7 @@ module _ {O I P : Type 0} (g : Ghosts O) (out : O → OutState) (inn : I → InS
         }
 
     -- why each operation on sockets has its outcome
-    unfoldable pub sockets_told : (links : List LinkEnd) → links ≡ map end_at ends' → ((k : ℕ) (e : LinkEnd) → slice_get links k ≡ Some e → IsGiver gave k e) → AreSocketsTold script outcomes places gave links
+    pub sockets_told : (links : List LinkEnd) → links ≡ map end_at ends' → ((k : ℕ) (e : LinkEnd) → slice_get links k ≡ Some e → IsGiver gave k e) → AreSocketsTold script outcomes places gave links
     sockets_told links given givers = record {
       core = core;
       words = words;
@@ -176,3 +176,9 @@ module _ {O I P : Type 0} (g : Ghosts O) (out : O → OutState) (inn : I → InS
         → (e : Entry) × (accepted_of e ≡ a) × (m : ℕ) × (get_elem? left.ran.closed.ordered.log m ≡ some e)
     unfolding sockets_told
     sockets_logged links given givers k i a at = let w = entry_on run differ k i a at in (w.0, w.2, w.3, w.4)
+
+    -- the links that failed, the lives that were failed, and the orders are those of what the seats did at the table
+    pub sockets_are : (links : List LinkEnd) (given : links ≡ map end_at ends') (givers : (k : ℕ) (e : LinkEnd) → slice_get links k ≡ Some e → IsGiver gave k e) (Q : List ℕ → List (ℕ × ℕ) → (ℕ → Order) → Type 0) → Q (broken run) (all_fails run) (orders run differ)
+        → Q (sockets_told links given givers).broken (sockets_told links given givers).fails (sockets_told links given givers).orders
+    unfolding sockets_told
+    sockets_are links given givers Q q = q
