@@ -211,6 +211,6 @@ module _ {O : Type 0} {g : Ghosts O} {state : O → OutState} {p : Plan} {slots 
       sent = λ k low. each_place (λ (a : Accepted). IsSentHere k a ⊎ IsAttempt tasks_all outcomes k a) (IsSentHere k) (orders k).accepted (tells.sent last k low) (λ i a at. whose k i a at);
     }
 
-    pub last_is : attempts_told.last ≡ last_attempt notes
+    pub last_told : attempts_told.last ≡ last_attempt notes
     unfolding attempts_told
-    last_is = refl
+    last_told = refl

@@ -52,7 +52,7 @@ use Rattle.call_whys.specs.call_deeds.proofs.Told.{task_at}
 use Rattle.callless_fits.specs.sock_deeds.specs.Told.{fixed_by, ToldSockets}
 use Rattle.attempts_told.specs.Attempts.{last_attempt, AreAttemptsTold}
 use Rattle.attempts_told.proofs.Reading.{rest_unmoved, read_unmoved}
-use Rattle.attempts_told.proofs.Told.{attempts_told, last_is}
+use Rattle.attempts_told.proofs.Told.{attempts_told, last_told}
 use Rattle.script_calls.specs.Reading.{IdSeat, begins, HasRead}
 use Rattle.script_calls.specs.Told.{IsLeft, AreSocketsTold, outcomes_of}
 use Rattle.script_calls.proofs.Began.{only_is}
@@ -188,7 +188,7 @@ module _ {O I P : Type 0} (g : Ghosts O) (out : O → OutState) (inn : I → InS
     its_last =
         let ids = are_ids g out inn bytes script reads told ended places seats left ends ends' last read in
         let tells = subst (λ (l : List (List Task)). ToldSockets p l outcomes (fixed_by t.broken [] t.fails) gave t.orders t.core) (sym left.tasks) t.tells in
-        last_is left.ran outcomes (may g out inn bytes script reads told ended places seats left ends ends' last read) notes read.last.view.kept read.words read.closing
+        last_told left.ran outcomes (may g out inn bytes script reads told ended places seats left ends ends' last read) notes read.last.view.kept read.words read.closing
         (have g out inn bytes script reads told ended places seats left ends ends' last read) own later ids.made two ids.one (fixed_by t.broken [] t.fails) gave t.orders t.core tells
         (sockets_logged g out inn bytes script reads told ended places seats left ends ends' last read halves kept gave links given givers) shown
 
