@@ -50,7 +50,7 @@ fn run_once<
 fn run_once_served<
     R: Threads + Wait + Sync + Alloc<A = Global> + Net<Stream = TcpStream, Listener = TcpListener>,
 >(rt: &R, port: u16) -> Result<(u8, Vec<u8>), Fail> {
-    for _ in 0..10_000 {
+    for _ in 0..1_000_000 {
         let (status, written) = run_once(rt, port)?;
         if status != 8 {
             return Ok((status, written));
