@@ -2,7 +2,7 @@ use Rattle.std.proofs.Common.{sym, ◌∙◌}
 use Rattle.std.proofs.lemmas.List.{nil_from_length}
 use Rattle.std.specs.Vec.Iter.{into_iter_items}
 use Rattle.script_run.proofs.Saying.{say_more, said_again}
-use Rattle.script_run.proofs.said.said_of.Goals as goal
+use Rattle.script_run.proofs.outcomes.said_of.Goals as goal
 
 pub loop-number-preserved : goal.loop-number-preserved
 loop-number-preserved c = (

@@ -1,7 +1,7 @@
 use Rattle.std.proofs.Common.{◌≡◌, None, replicate}
 use Rattle.std.specs.Vec.Iter.{into_iter_items}
 use Rattle.script_run.proofs.Saying.{say_all}
-use Rattle.script_run.proofs.said.said_of.Given as goal
+use Rattle.script_run.proofs.outcomes.said_of.Given as goal
 
 abbrev pub invariant-loop-number : goal.invariant-loop-number
 invariant-loop-number l =

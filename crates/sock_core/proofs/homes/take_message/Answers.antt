@@ -1,7 +1,7 @@
 use Rattle.std.proofs.Common.{◌≡◌, refl, sym, ◌∙◌, Some, None, ap, arith}
 use mathlib.Core.Option.{some}
 use Rattle.sock_core.proofs.Asking.{at_there, inside_list}
-use Rattle.sock_core.proofs.moves.take_message.Goals as goal
+use Rattle.sock_core.proofs.homes.take_message.Goals as goal
 
 pub bounds-letters-from : goal.bounds-letters-from
 bounds-letters-from c = let inside = inside_list c.args.letters.now c.args.request _ c.requires.there.1 in omega (arith, c.from.ensures)

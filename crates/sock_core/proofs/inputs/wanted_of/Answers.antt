@@ -6,7 +6,7 @@ use Rattle.report_fits.specs.Limits.{KeepsLimits}
 use Rattle.report_fits.proofs.Sizes.{keeps_limits, is_counted}
 use Rattle.script_tasks.specs.Along.{IsShort}
 use Rattle.script_tasks.proofs.Shorts.{are_short}
-use Rattle.sock_core.proofs.wanted.wanted_of.Goals as goal
+use Rattle.sock_core.proofs.inputs.wanted_of.Goals as goal
 
 limits_of : (script lines : List Item) → lines ≡ script → (bytes : List ℕ) × (script_of bytes ≡ Ok script) → KeepsLimits lines
 limits_of script lines e reads = subst KeepsLimits (sym e) (keeps_limits reads.0 script reads.1)

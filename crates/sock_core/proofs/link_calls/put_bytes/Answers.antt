@@ -5,7 +5,7 @@ use Rattle.sock_io.specs.Link.{PutStep, end_of}
 use Rattle.seat_programs.specs.Parts.{part}
 use Rattle.message_parts.specs.Parcels.{outgoing_of}
 use Rattle.sock_core.proofs.Asking.{asked, same_link, put_of}
-use Rattle.sock_core.proofs.puts.put_bytes.Goals as goal
+use Rattle.sock_core.proofs.link_calls.put_bytes.Goals as goal
 
 pub returns-in-Took-clause-outs : goal.returns-in-Took-clause-outs
 returns-in-Took-clause-outs g c =
