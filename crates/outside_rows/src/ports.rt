@@ -66,7 +66,7 @@ fn call_over_tcp_is_answered_by_a_server_beside_it(rt: HostRuntime) -> Result<()
     let (served, ran) = thread::join(&rt, || serve_one(&rt, port), || run_once_served(&rt, port));
     let (status, written) = served?;
     assert!(rt; status == 0);
-    assert!(rt; written.as_slice() == b"served 1 frames 1\n");
+    assert!(rt; written.as_slice() == b"served 1 frames 1\n".as_slice());
     let (_, report) = CALL;
     let (status, written) = ran?;
     assert!(rt; status == 0);
