@@ -63,12 +63,16 @@ fn run_once_served<
 #[test]
 fn call_over_tcp_is_answered_by_a_server_beside_it(rt: HostRuntime) -> Result<(), Fail> {
     let port = free_port(&rt)?;
-    let (served, ran) = thread::join(&rt, || serve_one(&rt, port), || run_once_served(&rt, port));
-    let (status, written) = served?;
+    let (served, ran) = thread::join(
+        &rt,
+        || serve_one(&rt, port).ok(),
+        || run_once_served(&rt, port).ok(),
+    );
+    let (status, written) = served.ok_or("not served")?;
     assert!(rt; status == 0);
     assert!(rt; written.as_slice() == b"served 1 frames 1\n".as_slice());
     let (_, report) = CALL;
-    let (status, written) = ran?;
+    let (status, written) = ran.ok_or("not run")?;
     assert!(rt; status == 0);
     assert!(rt; written.as_slice() == report.as_bytes());
     Ok(())
