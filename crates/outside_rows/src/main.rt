@@ -13,8 +13,6 @@ mod giving;
 #[cfg(test)]
 mod noting;
 #[cfg(test)]
-mod ports;
-#[cfg(test)]
 mod serving;
 #[cfg(test)]
 mod streams;
