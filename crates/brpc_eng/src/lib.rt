@@ -16,3 +16,6 @@ mod streams;
 mod threads;
 
 pub use engine::brpc;
+
+#[cfg(test)]
+mod tests;

@@ -65,8 +65,8 @@ fn report<R: Threads + Wait + Sync + Alloc<A = Global>>(
 fn puts_fail_in_turn(rt: HostRuntime) -> Result<(), Fail> {
     for (script, text) in ROWS {
         let (status, written) = report(&rt, script)?;
-        assert!(rt; status == 0, "at {script}");
-        assert!(rt; written.as_slice() == text.as_bytes(), "at {script}");
+        assert_eq!(rt; status, 0, "at {script}");
+        assert_eq!(rt; written.as_slice(), text.as_bytes(), "at {script}");
     }
     Ok(())
 }
@@ -115,10 +115,10 @@ fn end_alike<R: Threads + Wait + Sync + Abort + Alloc<A = Global>>(
     script: &str,
 ) -> Result<(), Fail> {
     let (status, text) = told(rt, "replay", script)?;
-    assert!(rt; status == 0, "at {script}");
+    assert_eq!(rt; status, 0, "at {script}");
     let (status, written) = told(rt, "run", script)?;
-    assert!(rt; status == 0, "at {script}");
-    assert!(rt; written.as_slice() == text.as_slice(), "at {script}");
+    assert_eq!(rt; status, 0, "at {script}");
+    assert_eq!(rt; written.as_slice(), text.as_slice(), "at {script}");
     Ok(())
 }
 
@@ -163,17 +163,17 @@ fn opens_fail<R: Threads + Wait + Sync + Abort + Alloc<A = Global>>(
     taken: usize,
 ) -> Result<(), Fail> {
     let (status, noted) = given_back(rt, command, script, 0)?;
-    assert!(rt; status == 0);
-    assert!(rt; noted.as_slice() == [(0, taken), (1, 0), (2, 0)].as_slice());
+    assert_eq!(rt; status, 0);
+    assert_eq!(rt; noted.as_slice(), [(0, taken), (1, 0), (2, 0)].as_slice());
     let (status, noted) = given_back(rt, command, script, 1)?;
-    assert!(rt; status == 8);
-    assert!(rt; noted.len() == 0);
+    assert_eq!(rt; status, 8);
+    assert_eq!(rt; noted.len(), 0);
     let (status, noted) = given_back(rt, command, script, 2)?;
-    assert!(rt; status == 8);
-    assert!(rt; noted.as_slice() == [(0, 0)].as_slice());
+    assert_eq!(rt; status, 8);
+    assert_eq!(rt; noted.as_slice(), [(0, 0)].as_slice());
     let (status, noted) = given_back(rt, command, script, 3)?;
-    assert!(rt; status == 8);
-    assert!(rt; noted.as_slice() == [(0, 0), (1, 0)].as_slice());
+    assert_eq!(rt; status, 8);
+    assert_eq!(rt; noted.as_slice(), [(0, 0), (1, 0)].as_slice());
     Ok(())
 }
 

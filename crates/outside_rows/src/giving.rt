@@ -64,8 +64,8 @@ fn stated_bytes_end_a_call(rt: HostRuntime) -> Result<(), Fail> {
         let text = format!(in rt.alloc();
             "0.1 open 0 0 0\n1.1 call 1 {outcome}\nlink 0 a accepted 1 placed 1 took 30 5052504300000012000000100a0c0a044563686f12044563686f20026869\norder 0 1.1.0\nend\n"
         )?;
-        assert!(rt; status == 0, "at {digits}");
-        assert!(rt; written.as_slice() == text.as_bytes(), "at {digits}");
+        assert_eq!(rt; status, 0, "at {digits}");
+        assert_eq!(rt; written.as_slice(), text.as_bytes(), "at {digits}");
     }
     Ok(())
 }
@@ -76,6 +76,6 @@ fn stated_size_takes_no_bytes(rt: HostRuntime) -> Result<(), Fail> {
     let mut cutter = Cutter::new(rt.alloc());
     cutter.feed(&mut pool, b"PRPC\x04\x00\x00\x00\x00\x00\x00\x00")?;
     assert!(rt; matches!(cutter.next(), Ok(None)));
-    assert!(rt; cutter.held() == 12);
+    assert_eq!(rt; cutter.held(), 12);
     Ok(())
 }

@@ -5,8 +5,6 @@
 #[cfg(test)]
 mod answer;
 #[cfg(test)]
-mod commands;
-#[cfg(test)]
 mod failing;
 #[cfg(test)]
 mod giving;

@@ -26,18 +26,18 @@ fn given<R: Threads + Wait + Sync + Alloc<A = Global>>(
 #[test]
 fn a_call_is_served(rt: HostRuntime) -> Result<(), Fail> {
     let (status, written, taken) = given(&rt, REQUEST)?;
-    assert!(rt; status == 0);
-    assert!(rt; written.as_slice() == b"served 1 frames 1\n".as_slice());
+    assert_eq!(rt; status, 0);
+    assert_eq!(rt; written.as_slice(), b"served 1 frames 1\n".as_slice());
     let reply = hex::decode(rt.alloc(), REPLY)?;
-    assert!(rt; taken.as_slice() == reply.as_slice());
+    assert_eq!(rt; taken.as_slice(), reply.as_slice());
     Ok(())
 }
 
 #[test]
 fn a_faulty_byte_is_told(rt: HostRuntime) -> Result<(), Fail> {
     let (status, written, taken) = given(&rt, "51")?;
-    assert!(rt; status == 9);
-    assert!(rt; written.len() == 0);
-    assert!(rt; taken.len() == 0);
+    assert_eq!(rt; status, 9);
+    assert_eq!(rt; written.len(), 0);
+    assert_eq!(rt; taken.len(), 0);
     Ok(())
 }

@@ -58,9 +58,9 @@ fn calls_fail<R: Threads + Wait + Sync + Abort + Alloc<A = Global>>(
 ) -> Result<(), Fail> {
     for (streams, status, length) in FAULTS {
         let (answered, written) = behind_comment(rt, command, script, streams)?;
-        assert!(rt; answered == status, "at {script}");
+        assert_eq!(rt; answered, status, "at {script}");
         let front = &report[..length.min(report.len())];
-        assert!(rt; written.as_slice() == front, "at {script}");
+        assert_eq!(rt; written.as_slice(), front, "at {script}");
     }
     Ok(())
 }

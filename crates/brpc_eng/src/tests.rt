@@ -1,4 +1,4 @@
-use brpc_eng::brpc;
+use crate::brpc;
 use loop_link::LoopLinker;
 use script_items::number;
 use sock_io::{MemSink, MemSource, OpenGate, SinkLinker};
@@ -331,8 +331,8 @@ fn answers_rows(rt: HostRuntime) -> Result<(), Fail> {
     for (words, input, put, status, text) in ROWS {
         let outside = Outside { put, ..CALM };
         let (answered, written) = answer(&rt, words, input.as_bytes(), outside)?;
-        assert!(rt; answered == status, "at {input}");
-        assert!(rt; written.as_slice() == text.as_bytes(), "at {input}");
+        assert_eq!(rt; answered, status, "at {input}");
+        assert_eq!(rt; written.as_slice(), text.as_bytes(), "at {input}");
     }
     Ok(())
 }
@@ -403,8 +403,8 @@ fn served<R: Threads + Wait + Sync + Alloc<A = Global>>(
 fn answers_served(rt: HostRuntime) -> Result<(), Fail> {
     for (words, input, text) in SERVED {
         let (status, written) = served(&rt, words, input.as_bytes())?;
-        assert!(rt; status == 0, "at {words} {input}");
-        assert!(rt; written.as_slice() == text.as_bytes(), "at {words} {input}");
+        assert_eq!(rt; status, 0, "at {words} {input}");
+        assert_eq!(rt; written.as_slice(), text.as_bytes(), "at {words} {input}");
     }
     Ok(())
 }
@@ -432,8 +432,8 @@ fn answers_words(rt: HostRuntime) -> Result<(), Fail> {
         b"usage: replay | sim SEED | run [PORT] | gen SEED CLIENTS OPS | load SEED CLIENTS OPS | frames | serve PORT N\n";
     for words in WORDS {
         let (answered, written) = answer(&rt, words, b"client\n", CALM)?;
-        assert!(rt; answered == 2, "at {words}");
-        assert!(rt; written.as_slice() == usage.as_slice(), "at {words}");
+        assert_eq!(rt; answered, 2, "at {words}");
+        assert_eq!(rt; written.as_slice(), usage.as_slice(), "at {words}");
     }
     Ok(())
 }
@@ -441,8 +441,8 @@ fn answers_words(rt: HostRuntime) -> Result<(), Fail> {
 #[test]
 fn serves_what_ends_at_once(rt: HostRuntime) -> Result<(), Fail> {
     let (status, written) = answer(&rt, "serve 80 31", b"", CALM)?;
-    assert!(rt; status == 0);
-    assert!(rt; written.as_slice() == b"served 31 frames 0\n".as_slice());
+    assert_eq!(rt; status, 0);
+    assert_eq!(rt; written.as_slice(), b"served 31 frames 0\n".as_slice());
     Ok(())
 }
 
@@ -462,8 +462,11 @@ fn answers_faults(rt: HostRuntime) -> Result<(), Fail> {
     let (_, script, _, _, text) = FIRST;
     for (outside, status, length) in FAULTS {
         let (answered, written) = answer(&rt, "replay", script.as_bytes(), outside)?;
-        assert!(rt; answered == status);
-        assert!(rt; written.as_slice() == text.as_bytes().get(..length).unwrap_or(&[]));
+        assert_eq!(rt; answered, status);
+        assert_eq!(rt;
+            written.as_slice(),
+            text.as_bytes().get(..length).unwrap_or(&[])
+        );
     }
     Ok(())
 }
@@ -485,20 +488,20 @@ fn send_of<R: Threads + Wait + Sync + Alloc<A = Global>>(
 fn puts_long_messages(rt: HostRuntime) -> Result<(), Fail> {
     let head = "6161616161616161616161616161616161616161616161616161616161616161";
     let (status, whole) = send_of(&rt, 65_536, 0)?;
-    assert!(rt; status == 0);
+    assert_eq!(rt; status, 0);
     let want = format!(in rt.alloc();
         "0.1 open 0 0 0\n1.1 placed 0 0\nlink 0 a accepted 1 placed 1 took 65536 {head}\norder 0 1.1.0\nend\n"
     )?;
-    assert!(rt; whole.as_slice() == want.as_bytes());
+    assert_eq!(rt; whole.as_slice(), want.as_bytes());
     let (status, cut) = send_of(&rt, 8_193, 2)?;
-    assert!(rt; status == 0);
+    assert_eq!(rt; status, 0);
     let want = format!(in rt.alloc();
         "0.1 open 0 0 0\n1.1 dropped 0 0\nlink 0 a accepted 1 placed 0 took 8192 {head}\norder 0 1.1.0\nend\n"
     )?;
-    assert!(rt; cut.as_slice() == want.as_bytes());
+    assert_eq!(rt; cut.as_slice(), want.as_bytes());
     let (status, long) = send_of(&rt, 65_537, 0)?;
-    assert!(rt; status == 3);
-    assert!(rt; long.as_slice() == b"script fault line 3 kind 6\n".as_slice());
+    assert_eq!(rt; status, 3);
+    assert_eq!(rt; long.as_slice(), b"script fault line 3 kind 6\n".as_slice());
     Ok(())
 }
 
@@ -506,12 +509,12 @@ fn puts_long_messages(rt: HostRuntime) -> Result<(), Fail> {
 fn reads_up_to_the_limit(rt: HostRuntime) -> Result<(), Fail> {
     let mut input = vec![in rt.alloc(); b'#'; 1_048_576]?;
     let (answered, written) = answer(&rt, "replay", &input, CALM)?;
-    assert!(rt; answered == 0);
-    assert!(rt; written.as_slice() == b"end\n".as_slice());
+    assert_eq!(rt; answered, 0);
+    assert_eq!(rt; written.as_slice(), b"end\n".as_slice());
     input.push(b'#')?;
     let (answered, written) = answer(&rt, "replay", &input, CALM)?;
-    assert!(rt; answered == 6);
-    assert!(rt; written.len() == 0);
+    assert_eq!(rt; answered, 6);
+    assert_eq!(rt; written.len(), 0);
     Ok(())
 }
 
@@ -522,13 +525,13 @@ fn runs_on_threads(rt: HostRuntime) -> Result<(), Fail> {
     let (_, script, _, status, text) = FIRST;
     for words in ["run", "run 65535"] {
         let (answered, written) = answer(&rt, words, script.as_bytes(), CALM)?;
-        assert!(rt; answered == status, "at {words}");
-        assert!(rt; written.as_slice() == text.as_bytes(), "at {words}");
+        assert_eq!(rt; answered, status, "at {words}");
+        assert_eq!(rt; written.as_slice(), text.as_bytes(), "at {words}");
     }
     Ok(())
 }
 
-/// Words and a script with a line that waits for a call.
+/// Words and scripts with a line that isn't built for threads.
 const UNBUILT: [(&'static str, &'static str); 2] = [
     ("run", "open a serve\nclient\ncall a Echo.Echo -\njoin 1.1"),
     (
@@ -541,9 +544,10 @@ const UNBUILT: [(&'static str, &'static str); 2] = [
 fn refuses_on_threads(rt: HostRuntime) -> Result<(), Fail> {
     for (words, script) in UNBUILT {
         let (answered, written) = answer(&rt, words, script.as_bytes(), CALM)?;
-        assert!(rt; answered == 10, "at {script}");
-        assert!(rt;
-            written.as_slice() == b"not built\n".as_slice(),
+        assert_eq!(rt; answered, 10, "at {script}");
+        assert_eq!(rt;
+            written.as_slice(),
+            b"not built\n".as_slice(),
             "at {script}"
         );
     }
@@ -582,8 +586,8 @@ const CALLED: [(&'static str, &'static str); 6] = [
 fn runs_calls_on_threads(rt: HostRuntime) -> Result<(), Fail> {
     for (script, text) in CALLED {
         let (status, written) = served(&rt, "run", script.as_bytes())?;
-        assert!(rt; status == 0, "at {script}");
-        assert!(rt; written.as_slice() == text.as_bytes(), "at {script}");
+        assert_eq!(rt; status, 0, "at {script}");
+        assert_eq!(rt; written.as_slice(), text.as_bytes(), "at {script}");
     }
     Ok(())
 }
@@ -597,7 +601,7 @@ fn races_an_expiry(rt: HostRuntime) -> Result<(), Fail> {
     let late: &[u8] =
         b"0.1 open 0 0 0\n1.1 call 1 failed 1008\n2.1 expired\nlink 0 a accepted 1 placed 1 took 30 5052504300000012000000100a0c0a044563686f12044563686f20026869\norder 0 1.1.0\nend\n";
     let (status, written) = served(&rt, "run", script)?;
-    assert!(rt; status == 0);
+    assert_eq!(rt; status, 0);
     let text = written.as_slice();
     assert!(rt; text == early || text == late);
     Ok(())
@@ -631,7 +635,7 @@ fn orders_the_sends_of_threads(rt: HostRuntime) -> Result<(), Fail> {
         }
     }
     let (status, written) = answer(&rt, "run", &script, CALM)?;
-    assert!(rt; status == 0);
+    assert_eq!(rt; status, 0);
     let text = String::from_utf8(written).ok().ok_or("no text")?;
     let mut labels = None;
     for line in text.split('\n') {
@@ -639,6 +643,6 @@ fn orders_the_sends_of_threads(rt: HostRuntime) -> Result<(), Fail> {
             labels = rising(order);
         }
     }
-    assert!(rt; labels == Some(80));
+    assert_eq!(rt; labels, Some(80));
     Ok(())
 }
