@@ -1,4 +1,5 @@
 pub mod Ending
+pub mod Readers
 pub mod Threads
 pub mod Working
 pub mod Hired
@@ -14,3 +15,4 @@ pub use Rattle.sock_open
 pub use Rattle.sock_rule
 pub use Rattle.sock_table
 pub use Rattle.call_client.specs.write_chain
+pub use Rattle.link_crew
