@@ -1,0 +1,71 @@
+-- What is reported of a script on threads whose links were served and read beside its clients.
+use Rattle.std.specs.Prelude.{ℕ, ◌≡◌, ◌+◌, ◌<◌, false, List, [], ◌∷◌, ◌++◌, flat_map, map, length, Option, slice_index}
+use Rattle.sock_words.specs.Codes.{EEOF}
+use Rattle.sock_words.specs.declared.plain.Plan.{Plan}
+use Rattle.sock_words.specs.declared.outcome.Outcome.{Outcome}
+use Rattle.sock_words.specs.declared.place_word.PlaceWord.{PlaceWord}
+use Rattle.sock_words.specs.declared.vref.Vref.{Vref}
+use Rattle.brpc_model.specs.Items.{Item}
+use Rattle.brpc_model.specs.Link.{LinkEnd}
+use Rattle.brpc_model.specs.Operations.{operations, link_names}
+use Rattle.sock_io.specs.declared.link.Out.{Ghosts}
+use Rattle.sock_io.specs.declared.link.Ends.{Ends}
+use Rattle.sock_io.specs.Link.{OutState, InState, end_of}
+use Rattle.corr_core.specs.declared.marks.Plan as id_plan
+use Rattle.corr_id.specs.Closing.{Closing}
+use Rattle.seat_programs.specs.declared.task.Task.{Task}
+use Rattle.seat_programs.specs.Scripts.{all_tasks}
+use Rattle.seat_programs.specs.Tasks.{plan_of, opens, calls}
+
+-- the sizes of the tables: a seat for each client and the setup, and one for the reader of each link
+abbrev pub seated_plan : List Item → Plan
+seated_plan script = record (plan_of script) { seats = length (link_names script) + (plan_of script).seats }
+
+-- one seat took in those of all clients and readers, and ended the calls that were left: with the first response that a reader kept for it, or with 1014. What was told of the calls that ended by that, and what the closed table of ids says
+pub record HasEnded (p : id_plan.Plan) (operations : List ℕ) (seats : List IdSeat) (early : List Frame) (told : List Told) : Type 0 where
+  pub main : IdSeat
+  pub took : TookAll seats main
+  pub last : Books
+  pub rest : RestEnded p EEOF operations (record { view = main.me.0; early = early; told = []; starved = false }) last
+  pub told_is : told ≡ last.told
+  pub calm : last.starved ≡ false
+  -- the last words of the id slots
+  pub words : List ℕ
+  pub closing : Closing p last.view.notes last.view.kept words
+  pub low : (i : ℕ) → slice_index words i < 18446744073709551616
+
+-- The script was run: its clients on threads, and beside them each link was served and read. What the clients and the readers told and left, and what was told of the calls that were left then; the text reports what became of its operations by that, over the links that were given back.
+pub record IsBesideRun (P : Type 0) {O I : Type 0} (g : Ghosts O) (out : O → OutState) (inn : I → InState) (script : List Item) (text : List ℕ) (links : List LinkEnd) : Type 0 where
+  pub setup : List Task
+  pub clients : List (List Task)
+  pub tasks : setup ∷ clients ≡ all_tasks script
+  pub told : List (List Told)
+  pub ended : List (List Told)
+  pub places : List PlaceWord
+  pub vrefs : List Vref
+  pub outs : List O
+  pub ids : List IdSeat
+  pub readers : List (LinkReader g)
+  pub ran : RanWith g out readers (seated_plan script) (length (calls script)) setup clients (opens script) told ended places vrefs outs (map (λ (s : IdSeat). s.me.0) ids)
+  pub readers_are : AreReaders (seated_plan script) (ids_of (seated_plan script) (length (calls script))) (calls script) 0 (opens script) readers
+  -- the links with the writing halves that came back, before and behind the reading
+  pub ends' : List (Ends O I P)
+  pub halves : map (λ (e : Ends O I P). e.out) ends' ≡ outs
+  pub read : map (λ (x : LinkReader g). x.behind) readers ≡ map (λ (e : Ends O I P). inn e.inn) ends'
+  -- they had given nothing before
+  pub unread : AllByRecursion (λ (x : LinkReader g). (x.before.gave ≡ 0) × IfSome x.before.gave_bytes (λ bytes. bytes ≡ [])) readers
+  pub last : List Told
+  pub rest : HasEnded (ids_of (seated_plan script) (length (calls script))) (calls script) (ids ++ map (λ (x : LinkReader g). x.ids) readers) (flat_map (λ (x : LinkReader g). x.books.early) readers) last
+  pub given_back : links ≡ map (λ (e : Ends O I P). end_of (out e.out) (inn e.inn)) ends'
+  pub reported : IsReported script text (outcomes_of (plan_of script).operations told (ended ++ map (λ (x : LinkReader g). x.books.told) readers) last) places links
+
+-- it is the report of outcomes and place words of this script, over the links that were given back
+pub record IsBesideText (script : List Item) (text : List ℕ) (ends : List LinkEnd) : Type 0 where
+  pub outcomes : List (Option Outcome)
+  pub places : List PlaceWord
+  pub one_each : length outcomes ≡ length (operations script)
+  pub reported : IsReported script text outcomes places ends
+  -- each answer among them is that of a call, and a whole response to it that one of these links gave
+  pub answered : AreAnsweredBy (operations script) outcomes ends
+  -- no two operations have the end of one call as their outcome, of those whose ids are in the slots that the calls of the script have
+  pub once : ShownOnce (length (calls script)) outcomes
