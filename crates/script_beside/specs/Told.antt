@@ -1,5 +1,6 @@
 -- What is reported of a script on threads whose links were served and read beside its clients.
-use Rattle.std.specs.Prelude.{ℕ, ◌≡◌, ◌+◌, ◌<◌, false, List, [], ◌∷◌, ◌++◌, flat_map, map, length, Option, slice_index}
+use Rattle.std.specs.Prelude.{ℕ, ◌≡◌, ◌+◌, ◌<◌, false, List, [], ◌∷◌, ◌++◌, map, length, Option, IfSome, slice_index}
+use Rattle.std.specs.List.{flat_map, AllByRecursion}
 use Rattle.sock_words.specs.Codes.{EEOF}
 use Rattle.sock_words.specs.declared.plain.Plan.{Plan}
 use Rattle.sock_words.specs.declared.outcome.Outcome.{Outcome}
@@ -16,25 +17,62 @@ use Rattle.corr_id.specs.Closing.{Closing}
 use Rattle.seat_programs.specs.declared.task.Task.{Task}
 use Rattle.seat_programs.specs.Scripts.{all_tasks}
 use Rattle.seat_programs.specs.Tasks.{plan_of, opens, calls}
+use Rattle.rpc_client.specs.declared.acting.Told.{Told}
+use Rattle.rpc_reader.specs.Books.{Books}
+use Rattle.rpc_reader.specs.Resting.{RestEnded}
+use Rattle.prpc_frame.specs.declared.frame.Frame.{Frame}
+use Rattle.call_run.specs.Readers.{LinkReader, AreReaders}
+use Rattle.call_run.specs.Threads.{ids_of, RanWith}
+use Rattle.script_calls.specs.call_whys.specs.call_told.specs.Answers.{AreAnsweredBy}
+use Rattle.script_calls.specs.call_whys.specs.call_told.specs.Once.{ShownOnce}
+use Rattle.script_calls.specs.Reading.{IdSeat, TookAll}
+use Rattle.script_calls.specs.Told.{outcomes_of, IsReported}
 
 -- the sizes of the tables: a seat for each client and the setup, and one for the reader of each link
 abbrev pub seated_plan : List Item → Plan
 seated_plan script = record (plan_of script) { seats = length (link_names script) + (plan_of script).seats }
 
--- one seat took in those of all clients and readers, and ended the calls that were left: with the first response that a reader kept for it, or with 1014. What was told of the calls that ended by that, and what the closed table of ids says
+-- and those of the table of ids
+abbrev pub seated_ids : List Item → id_plan.Plan
+seated_ids script = ids_of (seated_plan script) (length (calls script))
+
+-- a reader that has these responses, and told nothing yet, with this seat
+abbrev pub begins_with : List Frame → IdSeat → Books
+begins_with early s = record { view = s.me.0; early = early; told = []; starved = false }
+
+-- One seat took in all others, and with it each call that was left was ended: by the first of these responses that is one to it, or with 1014. What was told of the calls that ended by that, and what the closed table of ids says
 pub record HasEnded (p : id_plan.Plan) (operations : List ℕ) (seats : List IdSeat) (early : List Frame) (told : List Told) : Type 0 where
   pub main : IdSeat
   pub took : TookAll seats main
   pub last : Books
-  pub rest : RestEnded p EEOF operations (record { view = main.me.0; early = early; told = []; starved = false }) last
+  pub rest : RestEnded p EEOF operations (begins_with early main) last
   pub told_is : told ≡ last.told
   pub calm : last.starved ≡ false
   -- the last words of the id slots
   pub words : List ℕ
   pub closing : Closing p last.view.notes last.view.kept words
+  -- each is a word of 64 bits
   pub low : (i : ℕ) → slice_index words i < 18446744073709551616
 
--- The script was run: its clients on threads, and beside them each link was served and read. What the clients and the readers told and left, and what was told of the calls that were left then; the text reports what became of its operations by that, over the links that were given back.
+-- the clients of the script left this, and the readers of its links: what they told of their own operations and of the calls that they ended, the place words, and their seats of the ids
+pub record IsLeftBeside {O : Type 0} (g : Ghosts O) (out : O → OutState) (script : List Item) (told ended read : List (List Told)) (places : List PlaceWord) (seats behind : List IdSeat) : Type 0 where
+  pub setup : List Task
+  pub clients : List (List Task)
+  pub tasks : setup ∷ clients ≡ all_tasks script
+  pub opened : List ℕ
+  pub vrefs : List Vref
+  pub outs : List O
+  pub readers : List (LinkReader g)
+  pub ran : RanWith g out readers (seated_plan script) (length (calls script)) setup clients opened told ended places vrefs outs (map (λ (s : IdSeat). s.me.0) seats)
+  pub readers_are : AreReaders (seated_plan script) (seated_ids script) (calls script) 0 opened readers
+  pub behind_is : map (λ (x : LinkReader g). x.ids) readers ≡ behind
+  pub read_is : map (λ (x : LinkReader g). x.books.told) readers ≡ read
+
+-- the reading half had given nothing before its reader took it
+abbrev pub HadGivenNone : {O : Type 0} {g : Ghosts O} → LinkReader g → Type 0
+HadGivenNone x = (x.before.gave ≡ 0) × IfSome x.before.gave_bytes (λ bytes. bytes ≡ [])
+
+-- The script was run: its clients on threads, and beside them each link was served and read. By what the clients and the readers told, and by what was told of the calls that were left then, the text reports what became of its operations, over the links that were given back.
 pub record IsBesideRun (P : Type 0) {O I : Type 0} (g : Ghosts O) (out : O → OutState) (inn : I → InState) (script : List Item) (text : List ℕ) (links : List LinkEnd) : Type 0 where
   pub setup : List Task
   pub clients : List (List Task)
@@ -47,16 +85,15 @@ pub record IsBesideRun (P : Type 0) {O I : Type 0} (g : Ghosts O) (out : O → O
   pub ids : List IdSeat
   pub readers : List (LinkReader g)
   pub ran : RanWith g out readers (seated_plan script) (length (calls script)) setup clients (opens script) told ended places vrefs outs (map (λ (s : IdSeat). s.me.0) ids)
-  pub readers_are : AreReaders (seated_plan script) (ids_of (seated_plan script) (length (calls script))) (calls script) 0 (opens script) readers
-  -- the links with the writing halves that came back, before and behind the reading
-  pub ends' : List (Ends O I P)
-  pub halves : map (λ (e : Ends O I P). e.out) ends' ≡ outs
-  pub read : map (λ (x : LinkReader g). x.behind) readers ≡ map (λ (e : Ends O I P). inn e.inn) ends'
-  -- they had given nothing before
-  pub unread : AllByRecursion (λ (x : LinkReader g). (x.before.gave ≡ 0) × IfSome x.before.gave_bytes (λ bytes. bytes ≡ [])) readers
+  pub readers_are : AreReaders (seated_plan script) (seated_ids script) (calls script) 0 (opens script) readers
+  -- the links as they are given back: with the writing halves that came back, and the reading halves as their readers left them
+  pub ends : List (Ends O I P)
+  pub halves : map (λ (e : Ends O I P). e.out) ends ≡ outs
+  pub read : map (λ (x : LinkReader g). x.behind) readers ≡ map (λ (e : Ends O I P). inn e.inn) ends
+  pub unread : AllByRecursion HadGivenNone readers
   pub last : List Told
-  pub rest : HasEnded (ids_of (seated_plan script) (length (calls script))) (calls script) (ids ++ map (λ (x : LinkReader g). x.ids) readers) (flat_map (λ (x : LinkReader g). x.books.early) readers) last
-  pub given_back : links ≡ map (λ (e : Ends O I P). end_of (out e.out) (inn e.inn)) ends'
+  pub rest : HasEnded (seated_ids script) (calls script) (ids ++ map (λ (x : LinkReader g). x.ids) readers) (flat_map (λ (x : LinkReader g). x.books.early) readers) last
+  pub given_back : links ≡ map (λ (e : Ends O I P). end_of (out e.out) (inn e.inn)) ends
   pub reported : IsReported script text (outcomes_of (plan_of script).operations told (ended ++ map (λ (x : LinkReader g). x.books.told) readers) last) places links
 
 -- it is the report of outcomes and place words of this script, over the links that were given back

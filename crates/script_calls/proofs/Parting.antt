@@ -18,7 +18,7 @@ use Rattle.call_run.specs.sock_table.specs.Closed.{ClosedBy}
 use Rattle.call_run.specs.sock_open.specs.Opening.{AreFresh}
 use Rattle.call_run.specs.Crew.{AreBack}
 use Rattle.script_links.specs.Given.{AreUntouched, AreNumbered}
-use Rattle.script_calls.specs.declared.halves.Rest.{Rest}
+use Rattle.call_run.specs.link_crew.specs.declared.beside.Rest.{Rest}
 use Rattle.script_calls.specs.Halves.{rest_of, joined, AreTaken}
 use Rattle.script_calls.proofs.Sayings.{to_slice}
 
