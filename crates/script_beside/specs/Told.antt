@@ -54,19 +54,19 @@ pub record HasEnded (p : id_plan.Plan) (operations : List ℕ) (seats : List IdS
   -- each is a word of 64 bits
   pub low : (i : ℕ) → slice_index words i < 18446744073709551616
 
--- the clients of the script left this, and the readers of its links: what they told of their own operations and of the calls that they ended, the place words, and their seats of the ids
-pub record IsLeftBeside {O : Type 0} (g : Ghosts O) (out : O → OutState) (script : List Item) (told ended read : List (List Told)) (places : List PlaceWord) (seats behind : List IdSeat) : Type 0 where
+-- the clients of the script left this, and the readers that read its links beside them: what they told of their own operations and of the calls that they ended, the responses that the readers keep, the place words, and their seats of the ids
+pub record IsLeftBeside {O : Type 0} (g : Ghosts O) (out : O → OutState) (script : List Item) (told ended read : List (List Told)) (kept : List (List Frame)) (places : List PlaceWord) (seats behind : List IdSeat) : Type 0 where
   pub setup : List Task
   pub clients : List (List Task)
   pub tasks : setup ∷ clients ≡ all_tasks script
-  pub opened : List ℕ
   pub vrefs : List Vref
   pub outs : List O
   pub readers : List (LinkReader g)
-  pub ran : RanWith g out readers (seated_plan script) (length (calls script)) setup clients opened told ended places vrefs outs (map (λ (s : IdSeat). s.me.0) seats)
-  pub readers_are : AreReaders (seated_plan script) (seated_ids script) (calls script) 0 opened readers
+  pub ran : RanWith g out readers (seated_plan script) (length (calls script)) setup clients (opens script) told ended places vrefs outs (map (λ (s : IdSeat). s.me.0) seats)
+  pub readers_are : AreReaders (seated_plan script) (seated_ids script) (calls script) 0 (opens script) readers
   pub behind_is : map (λ (x : LinkReader g). x.ids) readers ≡ behind
   pub read_is : map (λ (x : LinkReader g). x.books.told) readers ≡ read
+  pub kept_is : map (λ (x : LinkReader g). x.books.early) readers ≡ kept
 
 -- the reading half had given nothing before its reader took it
 abbrev pub HadGivenNone : {O : Type 0} {g : Ghosts O} → LinkReader g → Type 0
@@ -74,27 +74,23 @@ HadGivenNone x = (x.before.gave ≡ 0) × IfSome x.before.gave_bytes (λ bytes. 
 
 -- The script was run: its clients on threads, and beside them each link was served and read. By what the clients and the readers told, and by what was told of the calls that were left then, the text reports what became of its operations, over the links that were given back.
 pub record IsBesideRun (P : Type 0) {O I : Type 0} (g : Ghosts O) (out : O → OutState) (inn : I → InState) (script : List Item) (text : List ℕ) (links : List LinkEnd) : Type 0 where
-  pub setup : List Task
-  pub clients : List (List Task)
-  pub tasks : setup ∷ clients ≡ all_tasks script
   pub told : List (List Told)
   pub ended : List (List Told)
+  pub read : List (List Told)
+  pub kept : List (List Frame)
   pub places : List PlaceWord
-  pub vrefs : List Vref
-  pub outs : List O
   pub ids : List IdSeat
-  pub readers : List (LinkReader g)
-  pub ran : RanWith g out readers (seated_plan script) (length (calls script)) setup clients (opens script) told ended places vrefs outs (map (λ (s : IdSeat). s.me.0) ids)
-  pub readers_are : AreReaders (seated_plan script) (seated_ids script) (calls script) 0 (opens script) readers
+  pub behind : List IdSeat
+  pub left : IsLeftBeside g out script told ended read kept places ids behind
   -- the links as they are given back: with the writing halves that came back, and the reading halves as their readers left them
   pub ends : List (Ends O I P)
-  pub halves : map (λ (e : Ends O I P). e.out) ends ≡ outs
-  pub read : map (λ (x : LinkReader g). x.behind) readers ≡ map (λ (e : Ends O I P). inn e.inn) ends
-  pub unread : AllByRecursion HadGivenNone readers
+  pub halves : map (λ (e : Ends O I P). e.out) ends ≡ left.outs
+  pub halves_read : map (λ (x : LinkReader g). x.behind) left.readers ≡ map (λ (e : Ends O I P). inn e.inn) ends
+  pub unread : AllByRecursion HadGivenNone left.readers
   pub last : List Told
-  pub rest : HasEnded (seated_ids script) (calls script) (ids ++ map (λ (x : LinkReader g). x.ids) readers) (flat_map (λ (x : LinkReader g). x.books.early) readers) last
+  pub rest : HasEnded (seated_ids script) (calls script) (ids ++ behind) (flat_map (λ (fs : List Frame). fs) kept) last
   pub given_back : links ≡ map (λ (e : Ends O I P). end_of (out e.out) (inn e.inn)) ends
-  pub reported : IsReported script text (outcomes_of (plan_of script).operations told (ended ++ map (λ (x : LinkReader g). x.books.told) readers) last) places links
+  pub reported : IsReported script text (outcomes_of (plan_of script).operations told (ended ++ read) last) places links
 
 -- it is the report of outcomes and place words of this script, over the links that were given back
 pub record IsBesideText (script : List Item) (text : List ℕ) (ends : List LinkEnd) : Type 0 where

@@ -70,8 +70,8 @@ fn finish<O: Out, I: In, P: Peer, R: Wait>(
     requires calls { All (λ o. o < left.ids.plan.operations) numbers.now }
     requires script { (bytes : List ℕ) × (script_of bytes ≡ Ok script.now) }
     requires plan { (operations ≡ (plan_of script.now).operations) × (left.ids.plan ≡ seated_ids script.now) × (numbers.now ≡ calls script.now) }
-    requires ran { IsLeftBeside O.Out O.state script.now (map (λ own. own.items) left.told.items) (map (λ own. own.items) left.ended.items) (map (λ own. own.items) left.read.items) left.places.items left.seats.items left.readers.items }
-    ensures { IfOk result (λ text. (last : List Told) × HasEnded left.ids.plan numbers.now (left.seats.items ++ left.readers.items) (flat_map (λ own. own.items) left.kept.items) last
+    requires ran { IsLeftBeside O.Out O.state script.now (map (λ own. own.items) left.told.items) (map (λ own. own.items) left.ended.items) (map (λ own. own.items) left.read.items) (map (λ own. own.items) left.kept.items) left.places.items left.seats.items left.readers.items }
+    ensures { IfOk result (λ text. (last : List Told) × HasEnded (seated_ids script.now) (calls script.now) (left.seats.items ++ left.readers.items) (flat_map (λ fs. fs) (map (λ own. own.items) left.kept.items)) last
         × IsReported script.now text.items (outcomes_of operations (map (λ own. own.items) left.told.items) (map (λ own. own.items) left.ended.items ++ map (λ own. own.items) left.read.items) last) left.places.items (map (λ e. end_of (O.state e.out) (I.state e.inn)) ends.now)) }
 {
     let Left {

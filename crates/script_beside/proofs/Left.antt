@@ -1,0 +1,62 @@
+-- What the clients of a script left, and the readers of its links, and the seat that took in all of theirs.
+use Rattle.std.proofs.Common.{◌≡◌, ℕ, List, ◌∷◌, ◌++◌, map, length, sym, ap, ◌∙◌, subst}
+use Rattle.std.specs.List.{flat_map}
+use Rattle.brpc_model.specs.Items.{Item}
+use Rattle.sock_io.specs.declared.link.Out.{Ghosts}
+use Rattle.sock_io.specs.Link.{OutState}
+use Rattle.sock_words.specs.declared.plain.Plan.{Plan}
+use Rattle.sock_words.specs.declared.place_word.PlaceWord.{PlaceWord}
+use Rattle.sock_words.specs.declared.vref.Vref.{Vref}
+use Rattle.seat_programs.specs.declared.task.Task.{Task}
+use Rattle.seat_programs.specs.Scripts.{all_tasks}
+use Rattle.seat_programs.specs.Tasks.{opens, calls}
+use Rattle.rpc_client.specs.declared.acting.Told.{Told}
+use Rattle.prpc_frame.specs.declared.frame.Frame.{Frame}
+use Rattle.call_run.specs.Readers.{LinkReader, AreReaders}
+use Rattle.call_run.specs.Threads.{ids_of, RanWith}
+use Rattle.script_calls.specs.Reading.{IdSeat}
+use Rattle.script_beside.specs.Told.{seated_plan, seated_ids, HasEnded, IsLeftBeside}
+use Rattle.script_beside.proofs.Ending.{flat_of}
+
+module _ {O : Type 0} (g : Ghosts O) (out : O → OutState) (script : List Item) where
+  pub left_is : (p : Plan) (slots : ℕ) (setup : List Task) (clients : List (List Task)) (os cs : List ℕ) (told ended read : List (List Told)) (kept : List (List Frame)) (places : List PlaceWord) (vrefs : List Vref) (outs : List O) (ids behind : List IdSeat) (readers : List (LinkReader g))
+      → p ≡ seated_plan script → slots ≡ length (calls script) → os ≡ opens script → cs ≡ calls script → setup ∷ clients ≡ all_tasks script
+      → RanWith g out readers p slots setup clients os told ended places vrefs outs (map (λ (s : IdSeat). s.me.0) ids) → AreReaders p (ids_of p slots) cs 0 os readers
+      → map (λ (x : LinkReader g). x.ids) readers ≡ behind → map (λ (x : LinkReader g). x.books.told) readers ≡ read → map (λ (x : LinkReader g). x.books.early) readers ≡ kept
+      → IsLeftBeside g out script told ended read kept places ids behind
+  left_is p slots setup clients os cs told ended read kept places vrefs outs ids behind readers ep es eo ec tasks ran are ids_are told_is kept_is = record {
+    setup = setup;
+    clients = clients;
+    tasks = tasks;
+    vrefs = vrefs;
+    outs = outs;
+    readers = readers;
+    ran = subst (λ (l : List ℕ). RanWith g out readers (seated_plan script) (length (calls script)) setup clients l told ended places vrefs outs (map (λ (s : IdSeat). s.me.0) ids)) eo
+        (subst (λ (n : ℕ). RanWith g out readers (seated_plan script) n setup clients os told ended places vrefs outs (map (λ (s : IdSeat). s.me.0) ids)) es
+        (subst (λ (x : Plan). RanWith g out readers x slots setup clients os told ended places vrefs outs (map (λ (s : IdSeat). s.me.0) ids)) ep ran));
+    readers_are = subst (λ (l : List ℕ). AreReaders (seated_plan script) (ids_of (seated_plan script) (length (calls script))) l 0 (opens script) readers) ec
+        (subst (λ (l : List ℕ). AreReaders (seated_plan script) (ids_of (seated_plan script) (length (calls script))) cs 0 l readers) eo
+        (subst (λ (n : ℕ). AreReaders (seated_plan script) (ids_of (seated_plan script) n) cs 0 os readers) es
+        (subst (λ (x : Plan). AreReaders x (ids_of x slots) cs 0 os readers) ep are)));
+    behind_is = ids_are;
+    read_is = told_is;
+    kept_is = kept_is;
+  }
+
+-- ## The one that took in all
+
+module _ {O : Type 0} {g : Ghosts O} {out : O → OutState} {script : List Item} {told ended read : List (List Told)} {kept : List (List Frame)} {places : List PlaceWord} {seats behind : List IdSeat} (left : IsLeftBeside g out script told ended read kept places seats behind) where
+  abbrev pub all_seats : List IdSeat
+  all_seats = seats ++ map (λ (x : LinkReader g). x.ids) left.readers
+
+  -- the responses that are kept are those that the readers keep
+  pub early_of : flat_map (λ (fs : List Frame). fs) kept ≡ flat_map (λ (x : LinkReader g). x.books.early) left.readers
+  early_of = ap (flat_map (λ (fs : List Frame). fs)) (sym left.kept_is) ∙ flat_of (λ (x : LinkReader g). x.books.early) left.readers
+
+  module _ {early : List Frame} {last : List Told} (rest : HasEnded (seated_ids script) (calls script) (seats ++ behind) early last) where
+    -- it has what all noted and keep in mind
+    pub notes_of : rest.main.me.0.notes ≡ flat_map (λ (s : IdSeat). s.me.0.notes) all_seats
+    notes_of = rest.took.notes ∙ ap (λ (l : List IdSeat). flat_map (λ (s : IdSeat). s.me.0.notes) (seats ++ l)) (sym left.behind_is)
+
+    pub kept_of : rest.main.me.0.kept ≡ flat_map (λ (s : IdSeat). s.me.0.kept) all_seats
+    kept_of = rest.took.kept ∙ ap (λ (l : List IdSeat). flat_map (λ (s : IdSeat). s.me.0.kept) (seats ++ l)) (sym left.behind_is)

@@ -1,0 +1,4 @@
+pub mod Ending
+pub mod Left
+pub mod Placed
+pub mod Reports
