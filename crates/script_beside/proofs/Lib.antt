@@ -1,4 +1,7 @@
 pub mod Ending
+pub mod Opened
+pub mod Seated
+pub mod Joined
 pub mod Left
 pub mod Placed
 pub mod Reports

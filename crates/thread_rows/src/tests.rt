@@ -4,7 +4,7 @@ ghost use Rattle.brpc_model.specs.Script.{script_of};
 ghost use Rattle.script_links.specs.Given.{has_piece};
 
 use crate::held::{HeldGate, HeldLinker, is_done, new_flags};
-use script_calls::{is_joinless, run_calls_on_threads};
+use script_beside::{is_joinless, run_calls_on_threads};
 use script_items::Script;
 use script_lang::read_script;
 use sock_io::{Gate, Linker, Mode, OpenGate};
