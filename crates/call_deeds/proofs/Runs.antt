@@ -311,9 +311,9 @@ module _ {O : Type 0} {g : Ghosts O} {state : O → OutState} {p : Plan} {slots 
   -- ## Readers
 
   -- these are the readers of the links, of which each is opened by one of the clients, by the operation of this number
-  module _ (calls : List ℕ) (are : AreReaders p q calls 0 opens_ beside) (asked : (k o : ℕ) → get_elem? opens_ k ≡ some o → (client name : ℕ) × IsOperation (setup ∷ clients) outcomes client o (ops.Open name k)) where
+  module _ (calls : List ℕ) (are : AreReaders p q calls 0 opens_ beside) (asked : (k o : ℕ) → get_elem? opens_ k ≡ some o → OpensLink (setup ∷ clients) outcomes k o) where
     pub read_beside : ReadersSeated state p q calls (setup ∷ clients) outcomes 0 opens_ beside are
-    read_beside = readers_seated state p q calls (setup ∷ clients) outcomes 0 opens_ beside are (λ k o at. let e : k ≡ 0 + k = omega arith in subst (λ l. OpensLink state p q calls (setup ∷ clients) outcomes l o) e (asked k o at))
+    read_beside = readers_seated state p q calls (setup ∷ clients) outcomes 0 opens_ beside are (λ k o at. let e : k ≡ 0 + k = omega arith in subst (λ l. OpensLink (setup ∷ clients) outcomes l o) e (asked k o at))
 
     -- what they, all clients and main did
     abbrev pub deed_run_with : DeedRun g state p (setup ∷ clients) outcomes places vrefs outs

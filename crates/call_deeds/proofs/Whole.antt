@@ -9,7 +9,6 @@ use Rattle.sock_words.specs.declared.plain.Plan.{Plan}
 use Rattle.sock_words.specs.declared.place_word.PlaceWord.{PlaceWord}
 use Rattle.sock_words.specs.declared.vref.Vref.{Vref}
 use Rattle.call_places.specs.sock_rule.specs.Closing.{PlacesDiffer}
-use Rattle.seat_programs.specs.declared.task.Op.TheVariants as ops
 use Rattle.seat_programs.specs.declared.task.Task.{Task}
 use Rattle.seat_programs.specs.Cores.{Core}
 use Rattle.seat_programs.specs.Told.{AreTasks}
@@ -19,11 +18,12 @@ use Rattle.call_places.specs.rpc_client.specs.declared.acting.Told.{Told}
 use Rattle.call_places.specs.call_run.specs.Threads.{ids_of, opens_of, openings, opened_names, MayRunAll, RanWith, RanOn}
 use Rattle.call_places.specs.call_run.specs.Readers.{LinkReader, AreReaders}
 use Rattle.call_places.specs.sock_deeds.specs.Told.{ToldSockets}
-use Rattle.call_places.specs.sock_deeds.specs.Runs.{IsOperation, DeedRun}
+use Rattle.call_places.specs.sock_deeds.specs.Runs.{DeedRun}
 use Rattle.call_places.specs.sock_deeds.proofs.Orders.{orders, IsLeft}
 use Rattle.call_places.specs.sock_deeds.proofs.Whole.{fixed, told_of_deeds}
 use Rattle.call_deeds.specs.Retried.{all_asked}
 use Rattle.call_deeds.specs.Scripts.{AllHaveLinks, Reports, AllLater}
+use Rattle.call_deeds.proofs.Beside.{OpensLink}
 use Rattle.call_deeds.proofs.Ran.{AreLater}
 use Rattle.call_deeds.proofs.Runs.{deed_run_with, deed_run}
 
@@ -44,7 +44,7 @@ module _ {O : Type 0} {g : Ghosts O} {state : O → OutState} {p : Plan} {slots 
     (run : RanWith g state beside p slots setup clients opens_ told ended places vrefs outs ids) (outcomes : List (Option Outcome)) (tasks : AreTasks p (setup ∷ clients)) (may : MayRunAll p (ids_of p slots) setup clients) (links : AllHaveLinks 0 (setup ∷ clients))
     (long : length outcomes ≡ p.operations) (reports : Reports (setup ∷ clients) outcomes told) (main_later : AreLater (setup ∷ clients) outcomes (all_asked run.ran.main run.ran.main_is))
     (others_later : AllLater (setup ∷ clients) outcomes state p (ids_of p slots) (opened_names run.ran.main.ended.outcomes.items (openings setup)) (opens_of setup) run.ran.others run.ran.others_are)
-    (calls : List ℕ) (are : AreReaders p (ids_of p slots) calls 0 opens_ beside) (asked : (k o : ℕ) → get_elem? opens_ k ≡ some o → (client name : ℕ) × IsOperation (setup ∷ clients) outcomes client o (ops.Open name k)) (differ : PlacesDiffer run.closed.ordered.log) (gave : ℕ → List ℕ) where
+    (calls : List ℕ) (are : AreReaders p (ids_of p slots) calls 0 opens_ beside) (asked : (k o : ℕ) → get_elem? opens_ k ≡ some o → OpensLink (setup ∷ clients) outcomes k o) (differ : PlacesDiffer run.closed.ordered.log) (gave : ℕ → List ℕ) where
   abbrev pub deeds_with : DeedRun g state p (setup ∷ clients) outcomes places vrefs outs
   deeds_with = deed_run_with run outcomes tasks may links long reports main_later others_later calls are asked
 
