@@ -5,6 +5,7 @@ pub mod Ran
 pub mod Told
 pub mod Ends
 pub mod Readers
+pub mod Beside
 pub mod Clients
 pub mod Runs
 pub mod Whole

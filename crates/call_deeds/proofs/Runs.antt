@@ -1,4 +1,4 @@
--- A run of clients with calls as a run of deeds at the table of sockets.
+-- A run of clients with calls as a run of deeds at the table of sockets, with readers of links beside the clients or without.
 use Rattle.std.proofs.Common.{◌≡◌, ◌≢◌, ℕ, zero, suc, ◌+◌, ◌<◌, ◌==◌, ◌&&◌, ◌||◌, true, false, Bool, if◌then◌else◌, inl, inr, Option, Some, None, List, [], ◌∷◌, ◌++◌, length, map, flat_map, slice_get, eq-eqb, append-nil, refl, sym, ap, ◌∙◌, subst, arith}
 use Rattle.std.proofs.lemmas.List.{length-map}
 use Rattle.std.proofs.lemmas.Option.{none-some, same_Some}
@@ -32,15 +32,18 @@ use Rattle.call_places.specs.rpc_client.specs.declared.acting.Told.{Told}
 use Rattle.call_places.specs.call_client.specs.Running.{MayMakeAll}
 use Rattle.call_places.specs.call_run.specs.declared.opened.Opening.{Opening}
 use Rattle.call_places.specs.call_run.specs.Ending.{EndedBehind}
-use Rattle.call_places.specs.call_run.specs.Threads.{ids_of, opens_of, is_opened, opened_in, opening_in, openings, name_if, opened_names, Thread, IsThread, AreThreads, MayRun, AllMayRun, MayRunAll, RanOn}
+use Rattle.call_places.specs.call_run.specs.Threads.{ids_of, opens_of, is_opened, opened_in, opening_in, openings, name_if, opened_names, Thread, IsThread, AreThreads, MayRun, AllMayRun, MayRunAll, RanWith, RanOn}
+use Rattle.call_places.specs.call_run.specs.Readers.{LinkReader, AreReaders}
 use Rattle.call_places.specs.sock_deeds.specs.Deeds.{waits, own_number, Deed}
-use Rattle.call_places.specs.sock_deeds.specs.Runs.{IsOperation, IsFor, numbers_at, Seated, Ended, seat_of, ReaderSeat, all_seats, DeedRun}
+use Rattle.call_places.specs.sock_deeds.specs.Runs.{IsOperation, IsFor, numbers_at, Seated, Ended, seat_of, ReaderSeat, sits_of, DeedRun}
+use Rattle.call_places.specs.sock_deeds.proofs.Failing.{early}
 use Rattle.call_places.specs.sock_deeds.proofs.Flats.{append_later}
 use Rattle.call_places.specs.sock_deeds.proofs.Places.{to_slice, to_elem, map_there, map_back}
 use Rattle.call_deeds.specs.Scripts.{HaveLinks, AllHaveLinks, Reports, AllLater}
 use Rattle.call_deeds.specs.Retried.{all_asked}
 use Rattle.call_deeds.proofs.Acts.{IsSaid}
 use Rattle.call_places.specs.sock_deeds.proofs.Waiting.{Waited}
+use Rattle.call_deeds.proofs.Beside.{early_links, OpensLink, ReadersSeated, readers_seated}
 use Rattle.call_deeds.proofs.Clients.{FitsTasks, SaysAll, client_seated}
 use Rattle.call_deeds.proofs.Ends.{ended_behind}
 use Rattle.call_deeds.proofs.Links.{call_at}
@@ -152,8 +155,8 @@ is_said clients outcomes number (ops.Fail n code) by said unsaid opened = said
 
 -- ## The run
 
-module _ {O : Type 0} {g : Ghosts O} {state : O → OutState} {p : Plan} {slots : ℕ} {setup : List Task} {clients : List (List Task)} {opens_ : List ℕ} {told ended : List (List Told)} {places : List PlaceWord} {vrefs : List Vref} {outs : List O} {ids : List (id_view.View Asked)}
-    (run : RanOn g state p slots setup clients opens_ told ended places vrefs outs ids) (outcomes : List (Option Outcome)) (tasks : AreTasks p (setup ∷ clients)) (may : MayRunAll p (ids_of p slots) setup clients) (links : AllHaveLinks 0 (setup ∷ clients))
+module _ {O : Type 0} {g : Ghosts O} {state : O → OutState} {p : Plan} {slots : ℕ} {setup : List Task} {clients : List (List Task)} {opens_ : List ℕ} {told ended : List (List Told)} {places : List PlaceWord} {vrefs : List Vref} {outs : List O} {ids : List (id_view.View Asked)} {beside : List (LinkReader g)}
+    (run : RanWith g state beside p slots setup clients opens_ told ended places vrefs outs ids) (outcomes : List (Option Outcome)) (tasks : AreTasks p (setup ∷ clients)) (may : MayRunAll p (ids_of p slots) setup clients) (links : AllHaveLinks 0 (setup ∷ clients))
     (long : length outcomes ≡ p.operations) (reports : Reports (setup ∷ clients) outcomes told) (main_later : AreLater (setup ∷ clients) outcomes (all_asked run.ran.main run.ran.main_is))
     (others_later : AllLater (setup ∷ clients) outcomes state p (ids_of p slots) (opened_names run.ran.main.ended.outcomes.items (openings setup)) (opens_of setup) run.ran.others run.ran.others_are) where
   abbrev all : List (List Task)
@@ -244,15 +247,9 @@ module _ {O : Type 0} {g : Ghosts O} {state : O → OutState} {p : Plan} {slots 
   pub seats_are : map seat_of seats ≡ map (λ (x : Thread g). x.ended.seat) threads
   seats_are i = main_seated.1 i ∷ others_dealt.seats_are i
 
-  -- no link is read beside them
-  abbrev pub none_read : List (ReaderSeat g state p all outcomes)
-  none_read = []
-
   -- and the one that ended the sockets behind them
-  pub ended_all : (e : Ended g state p (map seat_of (all_seats seats none_read))) × (e.seat ∷ [] ≡ run.seats)
-  ended_all =
-      let are = ap (map seat_of) (append-nil seats) ∙ seats_are in
-      ended_behind g state p opens_ (map seat_of (all_seats seats none_read)) run.seats (subst (λ (l : List (Seat (SockHome O g) View)). EndedBehind p opens_ l run.seats) (sym are) run.ran.ending)
+  pub ended_all : (e : Ended g state p (map seat_of seats)) × (e.seat ∷ [] ≡ run.seats)
+  ended_all = ended_behind g state p opens_ (map seat_of seats) run.seats (subst (λ (l : List (Seat (SockHome O g) View)). EndedBehind p opens_ l run.seats) (sym seats_are) run.ran.ending)
 
   -- ## What its deeds are done for
 
@@ -293,16 +290,16 @@ module _ {O : Type 0} {g : Ghosts O} {state : O → OutState} {p : Plan} {slots 
       let f = w.2.first i.0 n (ap (λ l. get_elem? l i.0) v.2 ∙ i.1) in
       (i.0, f.0, f.1, f.2, f.3)
 
-  -- what all clients and main did at the table of sockets
-  abbrev pub deed_run : DeedRun g state p (setup ∷ clients) outcomes places vrefs outs
-  deed_run = record {
+  -- what all clients and main did at the table of sockets, where these sat beside them
+  abbrev deeds_beside : (readers : List (ReaderSeat g state p (setup ∷ clients) outcomes)) → map seat_of (map sits_of readers) ≡ map (λ (x : LinkReader g). x.seat) beside → DeedRun g state p (setup ∷ clients) outcomes places vrefs outs
+  deeds_beside readers sit = record {
     tasks = tasks;
     long = long;
     seats = seats;
-    readers = none_read;
+    readers = readers;
     ending = ended_all.0;
-    left = run.seats;
-    left_is = ended_all.1;
+    left = map (λ (x : LinkReader g). x.seat) beside ++ run.seats;
+    left_is = (λ i. sit i ++ ended_all.1 i);
     closed = run.closed;
     for_task = λ c k y d at dk. (each c y at).2.each k d dk;
     as_many = seats_many;
@@ -310,3 +307,26 @@ module _ {O : Type 0} {g : Ghosts O} {state : O → OutState} {p : Plan} {slots 
     alone = reports.alone;
     waited = wait_at;
   }
+
+  -- ## Readers
+
+  -- these are the readers of the links, of which each is opened by one of the clients, by the operation of this number
+  module _ (calls : List ℕ) (are : AreReaders p q calls 0 opens_ beside) (asked : (k o : ℕ) → get_elem? opens_ k ≡ some o → OpensLink (setup ∷ clients) outcomes k o) where
+    pub read_beside : ReadersSeated state p q calls (setup ∷ clients) outcomes 0 opens_ beside are
+    read_beside = readers_seated state p q calls (setup ∷ clients) outcomes 0 opens_ beside are (λ k o at. let e : k ≡ 0 + k = omega arith in subst (λ l. OpensLink (setup ∷ clients) outcomes l o) e (asked k o at))
+
+    -- what they, all clients and main did
+    abbrev pub deed_run_with : DeedRun g state p (setup ∷ clients) outcomes places vrefs outs
+    deed_run_with = deeds_beside read_beside.seats read_beside.sit
+
+    -- those whose reading ended early are told
+    pub early_with : early deed_run_with ≡ early_links state p q calls 0 opens_ beside are
+    early_with = read_beside.early
+
+module _ {O : Type 0} {g : Ghosts O} {state : O → OutState} {p : Plan} {slots : ℕ} {setup : List Task} {clients : List (List Task)} {opens_ : List ℕ} {told ended : List (List Told)} {places : List PlaceWord} {vrefs : List Vref} {outs : List O} {ids : List (id_view.View Asked)}
+    (run : RanOn g state p slots setup clients opens_ told ended places vrefs outs ids) (outcomes : List (Option Outcome)) (tasks : AreTasks p (setup ∷ clients)) (may : MayRunAll p (ids_of p slots) setup clients) (links : AllHaveLinks 0 (setup ∷ clients))
+    (long : length outcomes ≡ p.operations) (reports : Reports (setup ∷ clients) outcomes told) (main_later : AreLater (setup ∷ clients) outcomes (all_asked run.ran.main run.ran.main_is))
+    (others_later : AllLater (setup ∷ clients) outcomes state p (ids_of p slots) (opened_names run.ran.main.ended.outcomes.items (openings setup)) (opens_of setup) run.ran.others run.ran.others_are) where
+  -- where no link is read beside them: what all clients and main did
+  abbrev pub deed_run : DeedRun g state p (setup ∷ clients) outcomes places vrefs outs
+  deed_run = deeds_beside run outcomes tasks may links long reports main_later others_later [] refl

@@ -1,5 +1,5 @@
 -- Each message in the log is that of one deed: which deed sent it, and in which order.
-use Rattle.std.proofs.Common.{◌≡◌, inl, inr, ℕ, zero, suc, ◌+◌, ◌*◌, ◌<◌, List, [], ◌∷◌, ◌++◌, flat_map, map, Option, Some, None, refl, sym, ap, ◌∙◌, subst, arith}
+use Rattle.std.proofs.Common.{◌≡◌, inl, inr, ℕ, zero, suc, ◌+◌, ◌*◌, ◌<◌, List, [], ◌∷◌, ◌++◌, length, flat_map, map, Option, Some, None, refl, sym, ap, ◌∙◌, subst, arith}
 use mathlib.Core.Option.{some, some-injective, some-ne-none}
 use lib.ListN.{get_elem?}
 use Rattle.atomic_table.specs.declared.shared.Seat.{Seat}
@@ -69,7 +69,7 @@ module _ {O : Type 0} {g : Ghosts O} {state : O → OutState} {p : Plan} {client
     pub c : ℕ
     pub y : Seated g state p
     pub at : get_elem? run.seats c ≡ some y
-    pub name : get_elem? run.closed.ordered.names c ≡ some author
+    pub name : get_elem? run.closed.ordered.names (length run.readers + c) ≡ some author
     pub own_list : own y ≡ pick author run.closed.ordered.by log
     pub place : get_elem? (own y) (before author run.closed.ordered.by q) ≡ some e
 
@@ -79,7 +79,7 @@ module _ {O : Type 0} {g : Ghosts O} {state : O → OutState} {p : Plan} {client
       let w = flat_from entries_of r.sits.deeds m e at in
       subst IsById (entry_source g state p w.1.did w.1.before w.1.after w.1.done w.3 e w.4).did_is (read_by_ids r w.0 w.1 w.2)
 
-  client_has : (c : ℕ) (y : Seated g state p) → get_elem? (Seats run) c ≡ some y → (m : ℕ) (e : Entry) → get_elem? (own y) m ≡ some e → get_elem? run.seats c ≡ some y
+  client_has : (c : ℕ) (y : Seated g state p) → get_elem? (Seats run) c ≡ some y → (m : ℕ) (e : Entry) → get_elem? (own y) m ≡ some e → (j : ℕ) × (c ≡ length run.readers + j) × (get_elem? run.seats j ≡ some y)
   client_has c y at m e there = elim (seat_cases run c y at) [
     | inl h ↦ h
     | inr w ↦ absurd (read_none w.1 m e (ap (λ (z : Seated g state p). get_elem? (own z) m) w.3 ∙ there))
@@ -93,13 +93,14 @@ module _ {O : Type 0} {g : Ghosts O} {state : O → OutState} {p : Plan} {client
       let au = at_some by q (omega arith) in
       let n = run.closed.ordered.named q au.0 au.1 in
       let w = both_at (λ a. pick a by log) own run.closed.ordered.names (Seats run) n.0 au.0 (sym lists_same) n.1 in
-      let place : get_elem? (own w.0) (before au.0 by q) ≡ some e = ap (λ l. get_elem? l (before au.0 by q)) (sym w.2) ∙ pick_at au.0 by log q e au.1 there in record {
+      let place : get_elem? (own w.0) (before au.0 by q) ≡ some e = ap (λ l. get_elem? l (before au.0 by q)) (sym w.2) ∙ pick_at au.0 by log q e au.1 there in
+      let client = client_has n.0 w.0 w.1 (before au.0 by q) e place in record {
         author = au.0;
         by_author = au.1;
-        c = n.0;
+        c = client.0;
         y = w.0;
-        at = client_has n.0 w.0 w.1 (before au.0 by q) e place;
-        name = n.1;
+        at = client.2;
+        name = ap (get_elem? run.closed.ordered.names) (sym client.1) ∙ n.1;
         own_list = sym w.2;
         place = place;
       }
@@ -133,7 +134,7 @@ module _ {O : Type 0} {g : Ghosts O} {state : O → OutState} {p : Plan} {client
       let by = run.closed.ordered.by in
       let w = entry_there g state p name number attempt msg (did_of run a) a.d.before a.d.after (done_of run a) is in
       let at = flat_there entries_of a.y.deeds a.k a.d 0 w.0 a.is w.1 in
-      let n = both_at own (λ x. pick x by log) (Seats run) run.closed.ordered.names a.c a.y lists_same (client_there run a.c a.y a.at) in
+      let n = both_at own (λ x. pick x by log) (Seats run) run.closed.ordered.names (length run.readers + a.c) a.y lists_same (client_there run a.c a.y a.at) in
       let q = from_pick n.0 by log at.0 w.0 (ap (λ l. get_elem? l at.0) (sym n.2) ∙ at.1) in
       (q.0, w.0, q.2, sent_by a 0 w.0 w.1)
 
@@ -143,7 +144,7 @@ module _ {O : Type 0} {g : Ghosts O} {state : O → OutState} {p : Plan} {client
   pub one_seat : (q r : ℕ) (d e : Entry) (s : Sender q d) (t : Sender r e) → s.c ≡ t.c → q < r → (a b : Act run) × (a.c ≡ s.c) × (b.c ≡ s.c) × (a.k < b.k) × Sent a d × Sent b e
   one_seat q r d e s t same less =
       let by = run.closed.ordered.by in
-      let author : s.author ≡ t.author = some-injective s.author t.author (sym s.name ∙ (ap (get_elem? run.closed.ordered.names) same ∙ t.name)) in
+      let author : s.author ≡ t.author = some-injective s.author t.author (sym s.name ∙ (ap (λ n. get_elem? run.closed.ordered.names (length run.readers + n)) same ∙ t.name)) in
       let also : get_elem? (own s.y) (before s.author by r) ≡ some e = ap (λ l. get_elem? l (before s.author by r)) (s.own_list ∙ (ap (λ x. pick x by log) author ∙ sym t.own_list)) ∙ (ap (λ x. get_elem? (own t.y) (before x by r)) author ∙ t.place) in
       let w = flat_rises entries_of (λ m. entries_small g state p m.did m.before m.after m.done) s.y.deeds (before s.author by q) (before s.author by r) d e (before_rises s.author by q r s.by_author less) s.place also in
       let a : Act run = record { c = s.c; y = s.y; at = s.at; k = w.0; d = w.2; is = w.5 } in

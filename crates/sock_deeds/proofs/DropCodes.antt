@@ -1,11 +1,10 @@
 -- With which code a life was failed: that of the `fail` of its name that was answered `failed`, or EFAILEDSOCKET where its link failed. And where a dropped message stands.
-use Rattle.std.proofs.Common.{◌≡◌, ◌≢◌, ℕ, zero, suc, ◌+◌, ◌<◌, ◌≤◌, ◌⊎◌, inl, inr, true, List, [], ◌∷◌, length, flat_map, map, append-nil, refl, sym, ap, ◌∙◌, subst, arith}
+use Rattle.std.proofs.Common.{◌≡◌, ◌≢◌, ℕ, ◌+◌, ◌<◌, ◌≤◌, ◌⊎◌, inl, inr, true, List, [], ◌∷◌, length, refl, sym, ◌∙◌, subst, arith}
 use Rattle.std.specs.Prelude.{Option, slice_index}
 use mathlib.Core.Logic.{dite}
-use mathlib.Core.Option.{some, some-injective, some-ne-none}
+use mathlib.Core.Option.{some, some-ne-none}
 use native.Mathlib.Decide.{ℕ_discrete, dec_lt}
 use lib.ListN.{get_elem?}
-use Rattle.atomic_table.specs.declared.shared.Seat.{Seat}
 use Rattle.sock_io.specs.declared.link.Out.{Ghosts}
 use Rattle.sock_io.specs.Link.{OutState}
 use Rattle.sock_words.specs.Codes.{EFAILEDSOCKET}
@@ -18,7 +17,6 @@ use Rattle.sock_words.specs.declared.vref.Vref.{Vref}
 use Rattle.sock_model.specs.declared.chain.Entry.{Entry}
 use Rattle.sock_model.specs.declared.marks.Mark.{Mark}
 use Rattle.sock_model.specs.declared.marks.Mark.TheVariants as marks
-use Rattle.sock_model.specs.declared.view.StoredWord.{StoredWord}
 use Rattle.sock_model.specs.declared.view.View.{View}
 use Rattle.sock_model.specs.Deliveries.{place_value}
 use Rattle.sock_model.specs.Entries.{on}
@@ -27,27 +25,25 @@ use Rattle.sock_model.specs.Marks.{about}
 use Rattle.sock_model.specs.SlotRows.{marks_of}
 use Rattle.sock_model.specs.Weights.{is_coded, is_failer, is_saw, is_stored, is_told, only, pair, total}
 use Rattle.slot_steps.proofs.Numbers.{only_is, pair-same, pair_is, pair_only}
-use Rattle.slot_steps.proofs.Sums.{total-append}
 use Rattle.rpc_client.specs.sock_rule.specs.Closing.{PlacesDiffer}
-use Rattle.rpc_client.specs.sock_rule.specs.OnTable.{is_put, put_in}
-use Rattle.rpc_client.specs.sock_rule.specs.declared.homes.SockHome.{SockHome}
+use Rattle.rpc_client.specs.sock_rule.specs.OnTable.{put_in}
 use Rattle.rpc_client.specs.Failing.{TriedTo}
 use Rattle.rpc_client.specs.write_chain.specs.Noting.{Noted, nothing, finding, failing}
 use Rattle.seat_programs.specs.declared.task.Op.TheVariants as ops
 use Rattle.seat_programs.specs.declared.task.Task.{Task}
 use Rattle.seat_programs.specs.Told.{Became}
 use Rattle.sock_deeds.specs.Broken.{noted_links}
-use Rattle.sock_deeds.specs.Runs.{IsOperation, IsFor, seat_of, DeedRun}
+use Rattle.sock_deeds.specs.Runs.{IsOperation, IsFor, DeedRun}
 use Rattle.sock_deeds.proofs.Accepting.{log, act_of_entry}
-use Rattle.sock_deeds.proofs.Acts.{Act, All, after, before, did_of, done_of, later, has_marks, Late, marks_from, noted_before, Seats, client_there, no_reader}
-use Rattle.sock_deeds.proofs.Ending.{SetNow, ids_kept}
+use Rattle.sock_deeds.proofs.Acts.{Act, All, after, before, did_of, done_of, has_marks, has_puts, Late, marks_from, noted_before, no_reader}
+use Rattle.sock_deeds.proofs.Ending.{SetNow}
 use Rattle.sock_deeds.proofs.Entries.{on_there}
 use Rattle.sock_deeds.proofs.Fails.{FailedLife, life_by, fail_for, failer_once, life_is, made_born}
 use Rattle.sock_deeds.proofs.Growing.{back_grew}
 use Rattle.sock_deeds.proofs.Lives.{MadeHere, failer_life}
 use Rattle.sock_deeds.proofs.Losses.{low_entry, few_on}
 use Rattle.sock_deeds.proofs.Orders.{ends, kept}
-use Rattle.sock_deeds.proofs.Places.{map_there, place_low}
+use Rattle.sock_deeds.proofs.Places.{place_low}
 use Rattle.sock_deeds.proofs.Sources.{Source, by_open, by_fail, by_set, by_write, done_source}
 use Rattle.sock_deeds.proofs.Tasks.{is_for}
 
@@ -108,25 +104,7 @@ tried_stored p n code v w t =
     let s = pair-same h code in let c = (back_grew i h t.set w t.ended t.back).marks f (λ x. refl) i in
     omega (arith, e, s, c)
 
--- ## Words that were stored
-
-flat_term : {A B : Type 0} (f : B → ℕ) (l : A → List B) (xs : List A) (c : ℕ) (x : A) → get_elem? xs c ≡ some x → total f (l x) ≤ total f (flat_map l xs)
-flat_term f l [] c x e = absurd (some-ne-none x (sym e))
-flat_term f l (y ∷ ys) zero x e = let a = total-append f (l y) (flat_map l ys) in let b = ap (λ z. total f (l z)) (some-injective y x e) in omega (arith, a, b)
-flat_term f l (y ∷ ys) (suc c) x e = let a = total-append f (l y) (flat_map l ys) in let b = flat_term f l ys c x e in omega (arith, a, b)
-
 module _ {O : Type 0} {g : Ghosts O} {state : O → OutState} {p : Plan} {clients : List (List Task)} {outcomes : List (Option Outcome)} {places : List PlaceWord} {vrefs : List Vref} {outs : List O} (run : DeedRun g state p clients outcomes places vrefs outs) where
-  -- all together have a word that a seat stored
-  pub has_puts : (a : Act run) (x n : ℕ) → put_in x n (after run a) ≤ put_in x n (All run)
-  has_puts a x n =
-      let s : Seat (SockHome O g) View → List (List StoredWord) = λ z. z.me.0.stores in
-      let own = (later a.y a.k a.d a.is).puts x n in
-      let joined = flat_term (total (is_put x n)) s (map seat_of (Seats run)) a.c (seat_of a.y) (map_there seat_of (Seats run) a.c a.y (client_there run a.c a.y a.at)) in
-      let kept_ = ids_kept g state p run.ending.deeds run.ending.began run.ending.ended run.ending.chain run.ending.by_ids in
-      let alone = ap (flat_map s) (sym run.left_is) ∙ (append-nil run.ending.seat.me.0.stores ∙ ap (λ (v : View). v.stores) run.ending.left) in
-      let all = ap (total (total (is_put x n))) (run.closed.stores ∙ (alone ∙ (kept_.1 ∙ run.ending.took_in.stores))) in
-      omega (arith, own, joined, all)
-
   -- ## Why a failed life has its code
 
   -- a `fail` of the name with this code was answered `failed`
@@ -213,7 +191,7 @@ module _ {O : Type 0} {g : Ghosts O} {state : O → OutState} {p : Plan} {client
         let l = e.heading.place in let k = e.link in let n = place_value true link position in
         let low = low_entry run differ q e at in let kl = low_link q e at in
         let s = on_there k (log run) q e at refl in let i = s.0 in
-        let all = has_puts a (place_index p l) n in
+        let all = has_puts run a (place_index p l) n in
         let word = (run.closed.dropped l low).stays differ n (omega (arith, all, put)) in
         let w : slice_index run.closed.words (place_index p l) ≡ n = word.0 in let high = word.1 in
         let fifo = ((ends run differ).1 k kl).fifo in

@@ -1,5 +1,5 @@
 -- Places in lists, as they are told in two ways, and in lists that are mapped.
-use Rattle.std.proofs.Common.{◌≡◌, ℕ, zero, suc, ◌<◌, List, [], ◌∷◌, length, map, slice_get, Some, refl, sym, ap, arith}
+use Rattle.std.proofs.Common.{◌≡◌, ℕ, zero, suc, ◌<◌, List, [], ◌∷◌, ◌++◌, length, map, slice_get, Some, refl, sym, ap, arith}
 use Rattle.std.proofs.lemmas.Option.{none-some, same_Some}
 use mathlib.Core.Option.{some, some-injective, some-ne-none}
 use lib.ListN.{get_elem?}
@@ -35,3 +35,7 @@ module _ {A B : Type 0} (f : A → B) where
   map_back [] k b e = absurd (some-ne-none b (sym e))
   map_back (y ∷ ys) zero b e = (y, refl, some-injective (f y) b e)
   map_back (y ∷ ys) (suc k) b e = map_back ys k b e
+
+  pub map_append : (xs ys : List A) → map f (xs ++ ys) ≡ map f xs ++ map f ys
+  map_append [] ys = refl
+  map_append (x ∷ xs) ys = ap (λ l. f x ∷ l) (map_append xs ys)

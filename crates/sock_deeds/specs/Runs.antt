@@ -137,10 +137,6 @@ sits_of r = r.sits
 abbrev pub early_of : {O : Type 0} {g : Ghosts O} {state : O → OutState} {p : Plan} {clients : List (List Task)} {outcomes : List (Option Outcome)} → ReaderSeat g state p clients outcomes → List ℕ
 early_of r = if r.early then r.link ∷ [] else []
 
--- the seats of the clients, and behind them those of the readers
-abbrev pub all_seats : {O : Type 0} {g : Ghosts O} {state : O → OutState} {p : Plan} {clients : List (List Task)} {outcomes : List (Option Outcome)} → List (Seated g state p) → List (ReaderSeat g state p clients outcomes) → List (Seated g state p)
-all_seats seats readers = seats ++ map sits_of readers
-
 -- ## The run
 
 -- seat c is that of client c; the setup is client 0
@@ -150,10 +146,10 @@ pub record DeedRun {O : Type 0} (g : Ghosts O) (state : O → OutState) (p : Pla
   pub seats : List (Seated g state p)
   -- links may have been read beside the clients, each by a seat of its own
   pub readers : List (ReaderSeat g state p clients outcomes)
-  -- behind all of them the sockets were ended, by one seat that took them in; and the table was closed with it alone
-  pub ending : Ended g state p (map seat_of (all_seats seats readers))
+  -- behind the clients the sockets were ended, by one seat that took in theirs, while links may still have been read; and the table was closed with the seats of the readers and that one
+  pub ending : Ended g state p (map seat_of seats)
   pub left : List (Seat (SockHome O g) View)
-  pub left_is : ending.seat ∷ [] ≡ left
+  pub left_is : map seat_of (map sits_of readers) ++ ending.seat ∷ [] ≡ left
   pub closed : ClosedBy state p left places vrefs outs
   -- each deed is for a task
   pub for_task : (c k : ℕ) (y : Seated g state p) (d : Deed g state p) → get_elem? seats c ≡ some y → get_elem? y.deeds k ≡ some d → IsFor clients outcomes c d.did
