@@ -1,8 +1,8 @@
-ghost use Rattle.std.specs.Prelude.{◌≡◌, ◌+◌, ◌≤◌, ◌<◌, ◌∷◌, ◌++◌, [], length, IfOk, OnErr};
+ghost use Rattle.std.specs.Prelude.{◌≡◌, ◌+◌, ◌≤◌, ◌<◌, ◌∷◌, ◌++◌, [], length, IfOk, IsErrOf, OnErr};
 ghost use Rattle.sock_io.specs.Causes.{Rose};
 ghost use Rattle.sock_io.specs.Link.{connection_of, end_of};
-ghost use Rattle.prog_link.specs.Halves.{prog_in, prog_out, prog_peer};
-ghost use Rattle.prog_link.specs.Linker.{IsOpened};
+ghost use Rattle.prog_link.specs.Halves.{prog_in, prog_out};
+ghost use Rattle.prog_link.specs.Linker.{IsOpened, InMemory, OverRings, OverTcp, kind_asked};
 
 use crate::prog_in::ProgIn;
 use crate::prog_out::ProgOut;
@@ -97,7 +97,8 @@ impl<N: Net<Stream = TcpStream, Listener = TcpListener> + Drop> ProgLinker<N> {
     fn open_loop(&mut self, spec: &LinkSpec) -> Result<Link, OpenFault>
         requires piece { 0 < spec.now.piece }
         requires few { length self.old.asked < 256 }
-        ensures opened { IfOk result (λ ends. IsOpened (length self.old.asked) spec.now (prog_out ends.out) (prog_peer ends.peer) (prog_in ends.inn)) }
+        requires mode { kind_asked spec.now.mode ≡ InMemory }
+        ensures opened { IfOk result (λ ends. IsOpened (length self.old.asked) spec.now ends.out ends.peer ends.inn) }
         ensures linker { IfOk result (λ _. self.new ≡ record self.old { asked = self.old.asked ++ spec.now ∷ [] }) }
         ensures refused { OnErr result (self.new ≡ self.old) }
     {
@@ -117,9 +118,9 @@ impl<N: Net<Stream = TcpStream, Listener = TcpListener> + Drop> ProgLinker<N> {
     /// Opens a link over rings, where all others are.
     fn open_rings(&mut self, spec: &LinkSpec) -> Result<Link, OpenFault>
         requires piece { 0 < spec.now.piece }
-        requires ring { spec.now.mode ≡ Mode.Ring }
         requires few { length self.old.asked < 256 }
-        ensures opened { IfOk result (λ ends. IsOpened (length self.old.asked) spec.now (prog_out ends.out) (prog_peer ends.peer) (prog_in ends.inn)) }
+        requires mode { kind_asked spec.now.mode ≡ OverRings }
+        ensures opened { IfOk result (λ ends. IsOpened (length self.old.asked) spec.now ends.out ends.peer ends.inn) }
         ensures linker { IfOk result (λ _. self.new ≡ record self.old { asked = self.old.asked ++ spec.now ∷ [] }) }
         ensures refused { OnErr result (self.new ≡ self.old) }
     {
@@ -153,7 +154,8 @@ impl<N: Net<Stream = TcpStream, Listener = TcpListener> + Drop> ProgLinker<N> {
     fn open_tcp(&mut self, spec: &LinkSpec) -> Result<Link, OpenFault>
         requires piece { 0 < spec.now.piece }
         requires few { length self.old.asked < 256 }
-        ensures opened { IfOk result (λ ends. IsOpened (length self.old.asked) spec.now (prog_out ends.out) (prog_peer ends.peer) (prog_in ends.inn)) }
+        requires mode { kind_asked spec.now.mode ≡ OverTcp }
+        ensures opened { IfOk result (λ ends. IsOpened (length self.old.asked) spec.now ends.out ends.peer ends.inn) }
         ensures linker { IfOk result (λ _. self.new ≡ record self.old { asked = self.old.asked ++ spec.now ∷ [] }) }
         ensures refused { OnErr result (self.new ≡ self.old) }
     {
@@ -203,7 +205,16 @@ impl<N: Net<Stream = TcpStream, Listener = TcpListener> + Drop> Linker for ProgL
 
     ghost always_ready = { λ _. true };
 
-    fn open(&mut self, spec: &LinkSpec) -> Result<Link, OpenFault> {
+    fn open(&mut self, spec: &LinkSpec) -> Result<Link, OpenFault>
+        requires piece { 0 < spec.now.piece }
+        requires few { length self.old.asked < 256 }
+        ensures opened { IfOk result (λ ends. IsOpened (length self.old.asked) spec.now ends.out ends.peer ends.inn) }
+        ensures linker { IfOk result (λ _. self.new ≡ record self.old { asked = self.old.asked ++ spec.now ∷ [] }) }
+        ensures refused { OnErr result (self.new ≡ record self.old { faults = self.new.faults }) }
+        ensures later { self.old.faults ≤ self.new.faults }
+        ensures failed { IsErrOf result OpenFault.Failed → Rose self.old.faults self.new.faults }
+        ensures kept { (¬ IsErrOf result OpenFault.Failed) → self.new.faults ≡ self.old.faults }
+    {
         let opened = match spec.mode {
             Mode::Loop => self.open_loop(spec),
             Mode::Ring => self.open_rings(spec),
