@@ -1,7 +1,10 @@
+ghost use Rattle.std.specs.Prelude.{◌≡◌, []};
+
 use crate::run::run_with;
 use loop_link::LoopLinker;
 use net_link::TcpLinker;
-use sock_io::{OpenGate, StdSink, StdSource};
+use prog_link::ProgLinker;
+use sock_io::{Linker, OpenGate, StdSink, StdSource};
 use std::alloc::Global;
 use std::env::{Args, Env};
 use std::net::{Net, TcpListener, TcpStream};
@@ -10,8 +13,8 @@ use std::sync::Wait;
 use std::thread::Threads;
 use std::{env, io};
 
-/// The program over its standard streams: nothing but `run_with` over them, over TCP where the words name a port, and otherwise
-/// over links in memory.
+/// The program over its standard streams: nothing but `run_with` over them, over links of the kind that the words ask for
+/// where they are `run` ones, over TCP where they are `serve` ones, and otherwise over links in memory.
 pub fn run_program<
     R: Threads
         + Wait
@@ -23,44 +26,58 @@ pub fn run_program<
         + Net<Stream = TcpStream, Listener = TcpListener>,
     E: Print,
 >(rt: &R, errors: &E) -> ExitCode {
-    let mut source = StdSource::new(rt.reader());
-    let mut out = StdSink::new(io::writer(rt));
-    let mut errors = StdSink::new(io::writer(errors));
-    if names_a_port(env::args(rt)) {
-        let mut links = TcpLinker::new(rt, rt.alloc());
-        run_with(
-            rt,
-            rt.alloc(),
-            env::args(rt),
-            &mut source,
-            &mut out,
-            &mut links,
-            &OpenGate,
-            &mut errors,
-        )
-    } else {
-        let mut links = LoopLinker::new(rt.alloc(), Vec::new(rt.alloc()));
-        run_with(
-            rt,
-            rt.alloc(),
-            env::args(rt),
-            &mut source,
-            &mut out,
-            &mut links,
-            &OpenGate,
-            &mut errors,
-        )
+    let alloc = rt.alloc();
+    match first_word(env::args(rt)) {
+        First::Run => run_over(rt, errors, &mut ProgLinker::new(rt, alloc)),
+        First::Serve => run_over(rt, errors, &mut TcpLinker::new(rt, alloc)),
+        First::Other => run_over(rt, errors, &mut LoopLinker::new(alloc, Vec::new(alloc))),
     }
 }
 
-/// Whether the words behind the program's name begin with `serve`, or with `run` and another one.
-fn names_a_port(args: io::Result<Args>) -> bool {
+/// The same over these links.
+fn run_over<
+    R: Threads + Wait + Sync + Alloc<A = Global> + Env + Input + Print,
+    E: Print,
+    L: Linker,
+>(rt: &R, errors: &E, links: &mut L) -> ExitCode
+    requires asked { L.asked links.old ≡ [] }
+    requires back { L.back links.old ≡ [] }
+    requires accepted { L.accepted links.old ≡ 0 }
+    requires done { L.done links.old ≡ [] }
+{
+    let mut source = StdSource::new(rt.reader());
+    let mut out = StdSink::new(io::writer(rt));
+    let mut errors = StdSink::new(io::writer(errors));
+    run_with(
+        rt,
+        rt.alloc(),
+        env::args(rt),
+        &mut source,
+        &mut out,
+        links,
+        &OpenGate,
+        &mut errors,
+    )
+}
+
+/// The word behind the program's name, as far as the kind of links hangs on it.
+enum First {
+    Run,
+    Serve,
+    Other,
+}
+
+fn first_word(args: io::Result<Args>) -> First {
     let Ok(mut args) = args else {
-        return false;
+        return First::Other;
     };
     let _name = args.next();
     let Some(word) = args.next() else {
-        return false;
+        return First::Other;
     };
-    word.as_str() == "serve" || (word.as_str() == "run" && args.next().is_some())
+    match word.as_str() {
+        "run" => First::Run,
+        "serve" => First::Serve,
+        _ => First::Other,
+    }
 }

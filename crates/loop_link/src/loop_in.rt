@@ -54,7 +54,7 @@ impl LoopIn {
 
     /// Has the other end answer what the link took since the last call, and close its half where the link was finished.
     /// Where memory is wanting, what is told stays as it is.
-    pub(crate) fn settle(
+    pub fn settle(
         &mut self,
         alloc: Global,
         pool: &mut BlockPool,

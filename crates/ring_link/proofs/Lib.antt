@@ -1,5 +1,5 @@
 pub mod CellLists
-mod Finding
+pub mod Finding
 mod Insides
 pub mod Peers
 mod Repeating

@@ -1,0 +1,68 @@
+-- A linker of links of any kind, by what callers see of it.
+use Rattle.std.specs.Prelude.{ℕ, ◌≡◌, true, List, Option, None, Some, IfSome}
+use Rattle.brpc_model.specs.Link.{LinkEnd}
+use Rattle.sock_io.specs.declared.link.LinkSpec.{LinkSpec}
+use Rattle.sock_io.specs.declared.link.Mode.{Mode}
+use Rattle.sock_io.specs.declared.link.Mode.TheVariants as mode
+use Rattle.sock_io.specs.declared.shape.Shape.{Shape}
+use Rattle.sock_io.specs.Giving.{shape_asked}
+use Rattle.sock_io.specs.Link.{ConnectionEnd, IsFresh, IsNewOffer}
+use Rattle.sock_io.specs.Meeting.{AreEnds, IsAskedPeer}
+use Rattle.sock_io.specs.Peer.{IsNewPeer}
+use Rattle.net_link.specs.declared.tcp_half.TcpHalf.TheVariants.{Opened, Accepted}
+use Rattle.prog_link.specs.declared.prog_out.ProgOut.{ProgOut}
+use Rattle.prog_link.specs.declared.prog_out.ProgOut.TheVariants as out
+use Rattle.prog_link.specs.declared.prog_in.ProgIn.{ProgIn}
+use Rattle.prog_link.specs.declared.prog_in.ProgIn.TheVariants as inn
+use Rattle.prog_link.specs.declared.prog_peer.ProgPeer.{ProgPeer}
+use Rattle.prog_link.specs.declared.prog_peer.ProgPeer.TheVariants as peer
+use Rattle.prog_link.specs.Halves.{prog_in, prog_out, prog_peer}
+
+-- what was asked of each link that was opened, how many connections were accepted, those given back, and the count of faults
+pub record ProgLinkerState : Type 0 where
+  pub asked : List LinkSpec
+  pub accepted : ℕ
+  pub back : List LinkEnd
+  pub done : List ConnectionEnd
+  pub faults : ℕ
+
+-- ## Kinds of links
+
+pub data Kind : Type 0 where
+  pub InMemory : Kind
+  pub OverRings : Kind
+  pub OverTcp : Kind
+
+abbrev pub kind_asked : Mode → Kind
+kind_asked mode.Loop = InMemory
+kind_asked mode.Ring = OverRings
+kind_asked (mode.Tcp port) = OverTcp
+
+abbrev pub kind_out : ProgOut → Kind
+kind_out (out.Loop half) = InMemory
+kind_out (out.Ring half) = OverRings
+kind_out (out.Tcp half) = OverTcp
+
+abbrev pub kind_in : ProgIn → Kind
+kind_in (inn.Loop half) = InMemory
+kind_in (inn.Ring half) = OverRings
+kind_in (inn.Tcp half) = OverTcp
+
+-- the shape of a link; a connection has none
+abbrev pub shape_out : ProgOut → Option Shape
+shape_out (out.Loop half) = Some half.shape
+shape_out (out.Ring half) = Some half.shape
+shape_out (out.Tcp (Opened half)) = Some half.shape
+shape_out (out.Tcp (Accepted half)) = None
+
+-- The ends of a link that was opened just now: its halves are of the kind and the shape that were asked for, have this number, and took, gave and
+-- answered nothing; nor did its other end, which is what was asked for, and belongs to them; and a link in memory never asks to be called again.
+pub record IsOpened (number : ℕ) (spec : LinkSpec) (out : ProgOut) (peer : ProgPeer) (inn : ProgIn) : Type 0 where
+  pub kind : (kind_out out ≡ kind_asked spec.mode) × (kind_in inn ≡ kind_asked spec.mode)
+  pub shape : shape_out out ≡ Some (shape_asked spec)
+  pub fresh : IsFresh (prog_out out) (prog_in inn) number
+  pub unused : IsNewPeer (prog_peer peer)
+  pub offer : IfSome (prog_in inn).offer (λ o. IsNewOffer spec o)
+  pub one : AreEnds (prog_out out) (prog_peer peer) (prog_in inn)
+  pub other : IsAskedPeer spec (prog_peer peer)
+  pub always_ready : spec.mode ≡ mode.Loop → (prog_out out).always_ready ≡ true

@@ -1,0 +1,276 @@
+ghost use Rattle.std.specs.Prelude.{◌≡◌, ◌+◌, ◌≤◌, ◌<◌, ◌∷◌, ◌++◌, [], length, IfOk, IsErrOf, OnErr};
+ghost use Rattle.sock_io.specs.Causes.{Rose};
+ghost use Rattle.sock_io.specs.Link.{connection_of, end_of};
+ghost use Rattle.prog_link.specs.Halves.{prog_in, prog_out};
+ghost use Rattle.prog_link.specs.Linker.{IsOpened, InMemory, OverRings, OverTcp, kind_asked};
+
+use crate::prog_in::ProgIn;
+use crate::prog_out::ProgOut;
+use crate::prog_peer::ProgPeer;
+use ghosts::Ghosts;
+use io_buf::BlockPool;
+use loop_link::LoopLinker;
+use net_link::TcpLinker;
+use ring_link::open_ring;
+use sock_io::{Ends, LinkSpec, Linker, Mode, NoMemory, OpenFault, Out, Shape, Shaped};
+use std::alloc::Global;
+use std::marker::Model;
+use std::net::{Net, TcpListener, TcpStream};
+
+type Link = Ends<ProgOut, ProgIn, ProgPeer>;
+
+/// The halves of a connection, as it was given back.
+#[derive(Drop)]
+struct Connection {
+    out: ProgOut,
+    inn: ProgIn,
+}
+
+/// Links of the kind that is asked for: in memory as `LoopLinker` makes them, over rings as `RingLinker` does, and over TCP
+/// as `TcpLinker` does. Connections are accepted over TCP.
+///
+/// All its links are of one kind, since each kind is numbered by itself: the first link that is opened settles it, and an
+/// `open` of another kind fails.
+///
+/// What was asked and given back is kept for the proofs alone, so that giving back takes no memory.
+#[derive(Drop)]
+pub struct ProgLinker<N: Net<Stream = TcpStream, Listener = TcpListener> + Drop> {
+    alloc: Global,
+    /// For the servers of links in memory.
+    pool: BlockPool,
+    loops: LoopLinker,
+    streams: TcpLinker<N>,
+    /// How many links of each kind were opened.
+    in_memory: u16,
+    over_rings: u16,
+    over_tcp: u16,
+    faults: u64,
+    /// What was asked of each link, and what was given back, for the proofs.
+    asked: Ghosts<LinkSpec>,
+    links: Ghosts<Link>,
+    connections: Ghosts<Connection>,
+}
+
+impl<N: Net<Stream = TcpStream, Listener = TcpListener> + Drop> Model for ProgLinker<N> {
+    ghost use Rattle.std.specs.Prelude.{◌≡◌, ◌+◌, length, map};
+    ghost use Rattle.sock_io.specs.Link.{connection_of, end_of};
+    ghost use Rattle.prog_link.specs.Halves.{prog_in, prog_out};
+    ghost use Rattle.prog_link.specs.Linker.{ProgLinkerState};
+
+    ghost Value = { ProgLinkerState };
+
+    ghost view = { λ l. record { asked = l.asked.list; accepted = l.streams.accepted; back = map (λ e. end_of (prog_out e.out) (prog_in e.inn)) l.links.list; done = map (λ c. connection_of (prog_out c.out) (prog_in c.inn)) l.connections.list; faults = l.faults } };
+
+    ghost invariant = { λ l. (length l.asked.list ≡ l.in_memory + l.over_rings + l.over_tcp) × (length l.loops.asked ≡ l.in_memory) × (length l.streams.asked ≡ l.over_tcp) };
+}
+
+/// With one more link of which this was asked.
+fn noted(asked: &Ghosts<LinkSpec>, spec: &LinkSpec) -> Ghosts<LinkSpec>
+    ensures { result.list ≡ asked.now.list ++ spec.now ∷ [] }
+{
+    let before: Ghosts<LinkSpec> = Ghosts::of(asked);
+    let with = (before, *spec);
+    Ghosts::of(&with)
+}
+
+impl<N: Net<Stream = TcpStream, Listener = TcpListener> + Drop> ProgLinker<N> {
+    /// A linker that opened and accepted nothing yet, over this network. It takes no memory.
+    pub fn new(net: N, alloc: Global) -> Self
+        ensures { result ≡ record { asked = []; accepted = 0; back = []; done = []; faults = 0 } }
+    {
+        ProgLinker {
+            alloc,
+            pool: BlockPool::new(alloc),
+            loops: LoopLinker::new(alloc, Vec::new(alloc)),
+            streams: TcpLinker::new(net, alloc),
+            in_memory: 0,
+            over_rings: 0,
+            over_tcp: 0,
+            faults: 0,
+            asked: Ghosts::of(&0u8),
+            links: Ghosts::of(&0u8),
+            connections: Ghosts::of(&0u8),
+        }
+    }
+
+    /// Opens a link in memory, where all others are.
+    fn open_loop(&mut self, spec: &LinkSpec) -> Result<Link, OpenFault>
+        requires piece { 0 < spec.now.piece }
+        requires few { length self.old.asked < 256 }
+        requires mode { kind_asked spec.now.mode ≡ InMemory }
+        ensures opened { IfOk result (λ ends. IsOpened (length self.old.asked) spec.now ends.out ends.peer ends.inn) }
+        ensures linker { IfOk result (λ _. self.new ≡ record self.old { asked = self.old.asked ++ spec.now ∷ [] }) }
+        ensures refused { OnErr result (self.new ≡ self.old) }
+    {
+        if self.over_rings != 0 || self.over_tcp != 0 {
+            return Err(OpenFault::Failed);
+        }
+        let Ends { out, inn, peer } = self.loops.open(spec)?;
+        self.in_memory += 1;
+        self.asked = noted(&self.asked, spec);
+        Ok(Ends {
+            out: ProgOut::Loop(out),
+            inn: ProgIn::Loop(inn),
+            peer: ProgPeer::Absent(peer),
+        })
+    }
+
+    /// Opens a link over rings, where all others are.
+    fn open_rings(&mut self, spec: &LinkSpec) -> Result<Link, OpenFault>
+        requires piece { 0 < spec.now.piece }
+        requires few { length self.old.asked < 256 }
+        requires mode { kind_asked spec.now.mode ≡ OverRings }
+        ensures opened { IfOk result (λ ends. IsOpened (length self.old.asked) spec.now ends.out ends.peer ends.inn) }
+        ensures linker { IfOk result (λ _. self.new ≡ record self.old { asked = self.old.asked ++ spec.now ∷ [] }) }
+        ensures refused { OnErr result (self.new ≡ self.old) }
+    {
+        if self.in_memory != 0 || self.over_tcp != 0 {
+            return Err(OpenFault::Failed);
+        }
+        let Ok(ends) = open_ring(self.alloc, spec, self.over_rings) else {
+            return Err(OpenFault::NoMemory);
+        };
+        let Ends { out, inn, peer } = ends;
+        let shape = Shape {
+            piece: spec.piece,
+            again: spec.again,
+            fail: spec.fail,
+        };
+        match Shaped::new(self.alloc, out, shape) {
+            Ok(out) => {
+                self.over_rings += 1;
+                self.asked = noted(&self.asked, spec);
+                Ok(Ends {
+                    out: ProgOut::Ring(out),
+                    inn: ProgIn::Ring(inn),
+                    peer: ProgPeer::Ring(peer),
+                })
+            }
+            Err(_) => Err(OpenFault::NoMemory),
+        }
+    }
+
+    /// Opens a link over TCP, where all others are.
+    fn open_tcp(&mut self, spec: &LinkSpec) -> Result<Link, OpenFault>
+        requires piece { 0 < spec.now.piece }
+        requires few { length self.old.asked < 256 }
+        requires mode { kind_asked spec.now.mode ≡ OverTcp }
+        ensures opened { IfOk result (λ ends. IsOpened (length self.old.asked) spec.now ends.out ends.peer ends.inn) }
+        ensures linker { IfOk result (λ _. self.new ≡ record self.old { asked = self.old.asked ++ spec.now ∷ [] }) }
+        ensures refused { OnErr result (self.new ≡ self.old) }
+    {
+        if self.in_memory != 0 || self.over_rings != 0 {
+            return Err(OpenFault::Failed);
+        }
+        let Ends { out, inn, peer } = self.streams.open(spec)?;
+        self.over_tcp += 1;
+        self.asked = noted(&self.asked, spec);
+        Ok(Ends {
+            out: ProgOut::Tcp(out),
+            inn: ProgIn::Tcp(inn),
+            peer: ProgPeer::Absent(peer),
+        })
+    }
+
+    /// Raises the count where a call failed.
+    fn count(&mut self, fault: OpenFault)
+        ensures linker { self.new ≡ record self.old { faults = self.new.faults } }
+        ensures later { self.old.faults ≤ self.new.faults }
+        ensures failed { fault ≡ OpenFault.Failed → Rose self.old.faults self.new.faults }
+        ensures kept { fault ≡ OpenFault.NoMemory → self.new.faults ≡ self.old.faults }
+    {
+        match fault {
+            OpenFault::Failed => self.faults = self.faults.saturating_add(1),
+            OpenFault::NoMemory => {}
+        }
+    }
+}
+
+impl<N: Net<Stream = TcpStream, Listener = TcpListener> + Drop> Linker for ProgLinker<N> {
+    type O = ProgOut;
+
+    type I = ProgIn;
+
+    type P = ProgPeer;
+
+    ghost asked = { λ l. l.asked };
+
+    ghost accepted = { λ l. l.accepted };
+
+    ghost back = { λ l. l.back };
+
+    ghost done = { λ l. l.done };
+
+    ghost faults = { λ l. l.faults };
+
+    ghost always_ready = { λ _. true };
+
+    fn open(&mut self, spec: &LinkSpec) -> Result<Link, OpenFault>
+        requires piece { 0 < spec.now.piece }
+        requires few { length self.old.asked < 256 }
+        ensures opened { IfOk result (λ ends. IsOpened (length self.old.asked) spec.now ends.out ends.peer ends.inn) }
+        ensures linker { IfOk result (λ _. self.new ≡ record self.old { asked = self.old.asked ++ spec.now ∷ [] }) }
+        ensures refused { OnErr result (self.new ≡ record self.old { faults = self.new.faults }) }
+        ensures later { self.old.faults ≤ self.new.faults }
+        ensures failed { IsErrOf result OpenFault.Failed → Rose self.old.faults self.new.faults }
+        ensures kept { (¬ IsErrOf result OpenFault.Failed) → self.new.faults ≡ self.old.faults }
+    {
+        let opened = match spec.mode {
+            Mode::Loop => self.open_loop(spec),
+            Mode::Ring => self.open_rings(spec),
+            Mode::Tcp(_) => self.open_tcp(spec),
+        };
+        match opened {
+            Ok(ends) => Ok(ends),
+            Err(fault) => {
+                self.count(fault);
+                Err(fault)
+            }
+        }
+    }
+
+    fn settle(&mut self, ends: &mut Link) -> Result<(), NoMemory> {
+        let ProgIn::Loop(inn) = &mut ends.inn else {
+            return Ok(());
+        };
+        let finished = ends.out.is_finished();
+        inn.settle(self.alloc, &mut self.pool, ends.out.taken(), finished)
+    }
+
+    fn meet(&mut self, ends: &mut Link) {
+        if let ProgOut::Ring(out) = &mut ends.out
+            && let ProgIn::Ring(inn) = &mut ends.inn
+            && let ProgPeer::Ring(peer) = &mut ends.peer
+        {
+            peer.meet(&mut out.inner, inn);
+        }
+    }
+
+    fn accept(&mut self, port: u16) -> Result<(ProgOut, ProgIn), OpenFault> {
+        match self.streams.accept(port) {
+            Ok((out, inn)) => Ok((ProgOut::Tcp(out), ProgIn::Tcp(inn))),
+            Err(fault) => {
+                self.count(fault);
+                Err(fault)
+            }
+        }
+    }
+
+    fn done(&mut self, out: ProgOut, inn: ProgIn)
+        requires { length self.old.done < self.old.accepted }
+        ensures { self.new ≡ record self.old { done = self.old.done ++ connection_of (prog_out out) (prog_in inn) ∷ [] } }
+    {
+        let before: Ghosts<Connection> = Ghosts::of(&self.connections);
+        let with = (before, Connection { out, inn });
+        self.connections = Ghosts::of(&with);
+    }
+
+    fn back(&mut self, _link: u16, ends: Link)
+        requires { length self.old.back < length self.old.asked }
+        ensures { self.new ≡ record self.old { back = self.old.back ++ end_of (prog_out ends.out) (prog_in ends.inn) ∷ [] } }
+    {
+        let before: Ghosts<Link> = Ghosts::of(&self.links);
+        let with = (before, ends);
+        self.links = Ghosts::of(&with);
+    }
+}
