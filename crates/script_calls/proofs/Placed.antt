@@ -17,7 +17,6 @@ use Rattle.brpc_model.specs.Items.{Item}
 use Rattle.brpc_model.specs.PlaceWords.{word_at, ArePlaces, HasEachOutcome}
 use Rattle.brpc_model.specs.Script.{script_of}
 use Rattle.corr_core.specs.Law.{total}
-use Rattle.corr_core.specs.declared.marks.Kept.{Kept}
 use Rattle.corr_core.specs.declared.marks.Note.{Note}
 use Rattle.corr_core.specs.declared.marks.Noted.{Noted}
 use Rattle.corr_core.specs.declared.marks.Plan as id_plan
@@ -25,7 +24,6 @@ use Rattle.corr_core.specs.declared.marks.View.{View}
 use Rattle.corr_core.proofs.Shuffles.{total_flat}
 use Rattle.id_rule.specs.Lawful.{notes_of}
 use Rattle.sock_message.specs.Asked.{Asked}
-use Rattle.corr_id.specs.Closing.{Closing}
 use Rattle.corr_id.proofs.Seats.{notes_append, total_append}
 use Rattle.seat_programs.specs.declared.task.Op.TheVariants as ops
 use Rattle.seat_programs.specs.declared.task.Task.{Task}
