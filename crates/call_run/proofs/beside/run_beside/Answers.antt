@@ -17,10 +17,10 @@ pub crew_of-crew-requires-clause-few : goal.crew_of-crew-requires-clause-few
 crew_of-crew-requires-clause-few g c = let l = as_long _ _ _ _ c.in-Ok.ensures.cast.tasks in let k = c.requires.seats in let m = c.requires.plan.few_seats in omega (arith, l, k, m)
 
 pub run_both-left-requires-clause-opens : goal.run_both-left-requires-clause-opens
-run_both-left-requires-clause-opens g c = subst (λ p. All (λ (o : ℕ). o < p.operations) c.args.opens.now) (sym c.in-Ok-new_table.ensures.plan) c.requires.opens
+run_both-left-requires-clause-opens g c κs within = subst (λ p. All (λ (o : ℕ). o < p.operations) c.args.opens.now) (sym c.in-Ok-new_table.ensures.plan) c.requires.opens
 
 pub run_both-left-requires-clause-calls : goal.run_both-left-requires-clause-calls
-run_both-left-requires-clause-calls g c k d lt = let e = ap (λ q. q.operations) c.in-Ok.ensures.plan in let a = c.requires.calls k d lt in omega (arith, e, a)
+run_both-left-requires-clause-calls g c κs within k d lt = let e = ap (λ q. q.operations) c.in-Ok.ensures.plan in let a = c.requires.calls k d lt in omega (arith, e, a)
 
 pub end_both-requires-clause-done : goal.end_both-requires-clause-done
 end_both-requires-clause-done g c = let t = c.in-Ok-new_table.field-0.table.rule in let both = c.run_both-left.ensures in let l = ap length (c.crew_of-crew.ensures.tasks ∙ c.in-Ok.ensures.cast.tasks) ∙ length-map c.args.clients.items (λ v. v.items) in let k = c.requires.seats in let n = c.requires.links in let e = ap (λ p. p.seats) c.in-Ok-new_table.ensures.plan in
