@@ -48,6 +48,12 @@ module _ {O I P : Type 0} {g : Ghosts O} (z : TableId) (p : Plan) (y : TableId) 
     within = subst (λ n. n < p.operations) (sym a.0.operation_is) (fit 0 0 (omega arith));
   } (all_ready (link + 1) os bs a.1 (λ k d lt. fit (suc k) d (omega arith)))
 
+  pub seated_long : (link : ℕ) (os : List ℕ) (bs : List (Beside O I P g)) → AreSeated z p y link os bs → length os ≡ length bs
+  seated_long link [] [] a = refl
+  seated_long link [] (b ∷ bs) a = absurd a
+  seated_long link (o ∷ os) [] a = absurd a
+  seated_long link (o ∷ os) (b ∷ bs) a = ap suc (seated_long (link + 1) os bs a.1)
+
   -- ## Behind
 
   module _ (inn : I → InState) (peer : P → PeerState) (q : id_plan.Plan) (calls : List ℕ) where
