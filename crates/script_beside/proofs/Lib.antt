@@ -1,4 +1,4 @@
-pub mod Ending
+pub mod Gathering
 pub mod Opened
 pub mod Seated
 pub mod Joined
