@@ -17,7 +17,6 @@ use Rattle.brpc_model.specs.Items.{Item}
 use Rattle.brpc_model.specs.PlaceWords.{word_at, ArePlaces, HasEachOutcome}
 use Rattle.brpc_model.specs.Script.{script_of}
 use Rattle.corr_core.specs.Law.{total}
-use Rattle.corr_core.specs.declared.marks.Kept.{Kept}
 use Rattle.corr_core.specs.declared.marks.Note.{Note}
 use Rattle.corr_core.specs.declared.marks.Noted.{Noted}
 use Rattle.corr_core.specs.declared.marks.Plan as id_plan
@@ -25,7 +24,6 @@ use Rattle.corr_core.specs.declared.marks.View.{View}
 use Rattle.corr_core.proofs.Shuffles.{total_flat}
 use Rattle.id_rule.specs.Lawful.{notes_of}
 use Rattle.sock_message.specs.Asked.{Asked}
-use Rattle.corr_id.specs.Closing.{Closing}
 use Rattle.corr_id.proofs.Seats.{notes_append, total_append}
 use Rattle.seat_programs.specs.declared.task.Op.TheVariants as ops
 use Rattle.seat_programs.specs.declared.task.Task.{Task}
@@ -34,16 +32,14 @@ use Rattle.seat_programs.specs.Told.{AreTasks}
 use Rattle.report_fits.proofs.Sizes.{keeps_limits}
 use Rattle.report_fits.proofs.Tasks.{tasks_of_script}
 use Rattle.rpc_client.specs.declared.acting.Told.{Told}
-use Rattle.rpc_reader.specs.Books.{Books}
-use Rattle.rpc_reader.specs.Resting.{OneEnded, RestEnded}
 use Rattle.call_run.specs.Readers.{LinkReader}
 use Rattle.call_run.specs.Threads.{Thread, MayRunAll, RanWith, ids_of}
 use Rattle.call_whys.specs.call_places.specs.Counted.{makes, HaveNotesOf}
 use Rattle.call_whys.specs.call_places.proofs.Clients.{Client, tasks_of, deeds_of}
-use Rattle.call_whys.specs.call_places.proofs.Ids.{IdLaws}
+use Rattle.call_whys.specs.call_places.proofs.Ids.{IdLaws, laws_of}
 use Rattle.call_whys.specs.call_places.proofs.Own.{IsMade, deed_of}
 use Rattle.call_whys.specs.call_places.proofs.Places.{all, all_are, tasks_are, are_places, send_placed}
-use Rattle.call_whys.specs.call_places.proofs.Reader.{MadeNone, none_then, none_noted, none_rested, read_none}
+use Rattle.call_whys.specs.call_places.proofs.Reader.{MadeNone, none_then, read_none, rest_none}
 use Rattle.script_calls.specs.Reading.{IdSeat, begins, HasRead}
 use Rattle.script_calls.specs.Told.{outcomes_of, IsLeft}
 use Rattle.script_calls.proofs.Began.{tell}
@@ -54,14 +50,6 @@ use Rattle.script_calls.proofs.Numbers.{few_operations}
 use Rattle.script_calls.proofs.Shown.{view_of, flat_mapped}
 
 -- ## What the closed table has of the clients' seats
-
-one_none : (p : id_plan.Plan) (code operation : ℕ) (b b' : Books) → OneEnded p code operation b b' → MadeNone b.view b'.view
-one_none p code operation b b' (inl n) = none_noted b.view b'.view (ap (λ (v : View Asked). v.notes) n.view)
-one_none p code operation b b' (inr n) = none_then b.view n.seen b'.view (none_noted b.view n.seen (ap (λ (v : View Asked). v.notes) n.kept)) (none_rested code p.slots n.id (record b { view = n.seen }) b' n.ends)
-
-rest_none : (p : id_plan.Plan) (code : ℕ) (os : List ℕ) (b b' : Books) → RestEnded p code os b b' → MadeNone b.view b'.view
-rest_none p code [] b b' h = none_noted b.view b'.view (ap (λ (x : Books). x.view.notes) h)
-rest_none p code (o ∷ os) b b' h = none_then b.view h.0.view b'.view (one_none p code o b h.0 h.1) (rest_none p code os h.0 b' h.2)
 
 pub each_notes : (i : ℕ) (f : Note Asked → ℕ) (vs : List (View Asked)) → total f (notes_of i (flat_map (λ (v : View Asked). v.notes) vs)) ≡ total (λ (v : View Asked). total f (notes_of i v.notes)) vs
 each_notes i f [] = refl
@@ -75,9 +63,6 @@ have_notes vs v w e m = record {
   all = λ i f. (let a = each_notes i f vs in let b = ap (λ (l : List (Noted Asked)). total f (notes_of i l)) e in let c = m.grows i f in omega arith);
   made = λ o. (let a = total_flat (λ (x : View Asked). x.notes) (makes o) vs in let b = ap (total (makes o)) e in let c = m.made o in omega arith);
 }
-
-laws_of : (p : id_plan.Plan) (notes : List (Noted Asked)) (kept : List Kept) (words : List ℕ) → Closing p notes kept words → IdLaws p.slots notes
-laws_of p notes kept words c = record { advanced_once = c.advanced_once; advanced_made = c.advanced_made; locked_made = c.locked_made; range_is = c.range_is; ranges_apart = c.ranges_apart }
 
 -- ## By places
 
@@ -135,7 +120,7 @@ module _ {O I P : Type 0} (g : Ghosts O) (out : O → OutState) (inn : I → InS
 
   pub have : HaveNotesOf (map view_of seats) read.last.view.notes
   have = have_notes (map view_of seats) read.main.me.0 read.last.view (read.took.notes ∙ flat_mapped view_of (λ (v : View Asked). v.notes) seats)
-      (none_then read.main.me.0 read.between.view read.last.view (read_none out inn q (calls script) 0 ends ends' (begins read.main) read.between read.read) (rest_none q EEOF (calls script) read.between read.last read.rest))
+      (none_then read.main.me.0 read.between.view read.last.view (read_none out inn q (calls script) 0 ends ends' (begins read.main) read.between read.read) (rest_none EEOF q (calls script) read.between read.last read.rest))
 
   pub laws : IdLaws slots read.last.view.notes
   laws = laws_of q read.last.view.notes read.last.view.kept read.words read.closing
@@ -154,11 +139,11 @@ module _ {O I P : Type 0} (g : Ghosts O) (out : O → OutState) (inn : I → InS
       → ((own : List Told) × (i : ℕ) × (x : Told) × (get_elem? told c ≡ some own) × (get_elem? own i ≡ some x) × (x.number ≡ t.number)) ⊎ HasPosition (word_at places (8 * t.number))
   sent = send_told left.ran are may read.last.view.notes laws have few low
 
-  owns : AllByRecursion (AllByRecursion IsOwnTask) (left.setup ∷ left.clients)
-  owns = subst (AllByRecursion (AllByRecursion IsOwnTask)) (sym left.tasks) (all_own script)
+  pub own_tasks : AllByRecursion (AllByRecursion IsOwnTask) (left.setup ∷ left.clients)
+  own_tasks = subst (AllByRecursion (AllByRecursion IsOwnTask)) (sym left.tasks) (all_own script)
 
   -- all that tell of ends of calls are clients
-  pub left_told : IsTold P g out inn script p q told ended places last
+  abbrev pub left_told : IsTold P g out inn script p q told ended places last
   left_told = record {
     setup = left.setup;
     clients = left.clients;
@@ -170,7 +155,7 @@ module _ {O I P : Type 0} (g : Ghosts O) (out : O → OutState) (inn : I → InS
     ran = left.ran.ran;
     views = map view_of seats;
     front = λ k v at. at;
-    one_stored = own_one g out p q left.setup left.clients left.opened told ended left.ran.seats (map view_of seats) left.ran.ran owns p are;
+    one_stored = own_one g out p q left.setup left.clients left.opened told ended left.ran.seats (map view_of seats) left.ran.ran own_tasks p are;
     ends = ends;
     ends' = ends';
     first = begins read.main;
@@ -179,7 +164,7 @@ module _ {O I P : Type 0} (g : Ghosts O) (out : O → OutState) (inn : I → InS
     words = read.words;
     all_ended = record {
       balanced = balanced out p q left.setup left.clients left.opened told ended left.ran.seats (map view_of seats) left.ran.ran;
-      tell = tell g out p q left.setup left.clients left.opened told ended left.ran.seats (map view_of seats) left.ran.ran (tasks_fit (left.setup ∷ left.clients) owns);
+      tell = tell g out p q left.setup left.clients left.opened told ended left.ran.seats (map view_of seats) left.ran.ran (tasks_fit (left.setup ∷ left.clients) own_tasks);
       notes = read.took.notes ∙ flat_mapped view_of (λ (v : View Asked). v.notes) seats;
       kept = read.took.kept ∙ flat_mapped view_of (λ (v : View Asked). v.kept) seats;
       none_told = refl;

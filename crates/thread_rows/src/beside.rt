@@ -14,27 +14,18 @@ fn report_beside<R: Threads + Wait + Sync + Alloc<A = Global>>(
 ) -> Option<Vec<u8>> {
     let script = script_in(rt.alloc(), text)?;
     let mut links = RingLinker::new(rt);
-    match run_with_readers(
-        rt,
-        rt.alloc(),
-        Mode::Ring,
-        &script,
-        &mut links,
-        &OpenGate,
-    ) {
+    match run_with_readers(rt, rt.alloc(), Mode::Ring, &script, &mut links, &OpenGate) {
         Ok(report) => Some(report),
         Err(_fault) => None,
     }
 }
 
-const CALLED: &[u8] = b"0.1 open 0 0 0\n1.1 call 1 answered 6869 -\nlink 0 a accepted 1 placed 1 took 30 5052504300000012000000100a0c0a044563686f12044563686f20026869\norder 0 1.1.0\nend\n";
+const CALLED: &[u8] =
+    b"0.1 open 0 0 0\n1.1 call 1 answered 6869 -\nlink 0 a accepted 1 placed 1 took 30 5052504300000012000000100a0c0a044563686f12044563686f20026869\norder 0 1.1.0\nend\n";
 
 #[test]
 fn a_call_is_answered_beside_its_client(rt: HostRuntime) {
-    let report = report_beside(
-        &rt,
-        b"open a serve\nclient\ncall a Echo.Echo 6869\n",
-    );
+    let report = report_beside(&rt, b"open a serve\nclient\ncall a Echo.Echo 6869\n");
     assert!(rt; tells(report, CALLED));
 }
 
@@ -47,7 +38,8 @@ fn begins(report: Option<Vec<u8>>, lines: &[u8]) -> bool {
 }
 
 // Each later call is made once the one before has ended.
-const JOINED: &[u8] = b"0.1 open 0 0 0\n1.1 call 1 answered 00000000000000d1 -\n1.2 joined\n1.3 call 3 answered 6968 -\n1.4 joined\n1.5 call 5 peer 1001\nlink 0 a accepted 3 placed 3 took ";
+const JOINED: &[u8] =
+    b"0.1 open 0 0 0\n1.1 call 1 answered 00000000000000d1 -\n1.2 joined\n1.3 call 3 answered 6968 -\n1.4 joined\n1.5 call 5 peer 1001\nlink 0 a accepted 3 placed 3 took ";
 
 #[test]
 fn a_client_waits_for_its_calls(rt: HostRuntime) {
