@@ -1,6 +1,6 @@
 -- The readers of links that are read beside the clients, as readers' seats in a run of deeds.
 use Rattle.std.proofs.Common.{◌≡◌, ℕ, suc, ◌+◌, false, Bool, if◌then◌else◌, Option, List, [], ◌∷◌, ◌++◌, map, flat_map, refl, sym, subst, arith}
-use mathlib.Core.Option.{some, some-ne-none}
+use mathlib.Core.Option.{some}
 use lib.ListN.{get_elem?}
 use Rattle.sock_io.specs.declared.link.Out.{Ghosts}
 use Rattle.sock_io.specs.Link.{OutState}

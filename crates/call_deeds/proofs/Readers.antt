@@ -1,5 +1,5 @@
 -- A reader that ran on a thread of its own, as a reader's seat of the sockets with its deeds.
-use Rattle.std.proofs.Common.{◌≡◌, ℕ, Bool, true, false, inl, inr, Option, Some, None, List, [], ◌∷◌, map, refl, sym, ap, ◌∙◌, subst}
+use Rattle.std.proofs.Common.{◌≡◌, ℕ, Bool, true, false, inl, inr, Option, Some, None, List, [], ◌∷◌, map, refl, ap, subst}
 use Rattle.atomic_table.specs.declared.shared.Seat.{Seat}
 use Rattle.sock_io.specs.declared.link.Out.{Ghosts}
 use Rattle.sock_io.specs.Link.{OutState, InState}

@@ -1,9 +1,11 @@
 -- What is told in a run whose links are read beside the clients: by the readers, and behind all by main, which ends the calls that are left.
-use Rattle.std.proofs.Common.{◌≡◌, ℕ, ◌+◌, ◌≤◌, false, List, [], ◌∷◌, ◌++◌, flat_map, length, map, Some, refl, sym, ap, ◌∙◌, subst, arith}
+use Rattle.std.proofs.Common.{◌≡◌, ℕ, zero, suc, ◌≤◌, false, List, [], ◌∷◌, ◌++◌, flat_map, length, map, Some, refl, sym, ap, ◌∙◌, subst, arith}
 use Rattle.std.specs.Prelude.{Option, option_map, slice_get, IfSome}
 use Rattle.std.specs.List.{AllByRecursion}
 use Rattle.std.proofs.lemmas.List.{length-map}
 use Rattle.std.proofs.lemmas.Option.{slice_get-map}
+use mathlib.Core.Option.{some, some-ne-none}
+use lib.ListN.{get_elem?}
 use Rattle.atomic_table.specs.declared.shared.Seat.{Seat}
 use Rattle.brpc_model.specs.Link.{LinkEnd}
 use Rattle.brpc_model.specs.Operations.{Operation}
@@ -15,12 +17,11 @@ use Rattle.sock_io.specs.declared.link.Out.{Ghosts}
 use Rattle.sock_io.specs.Link.{OutState, InState}
 use Rattle.prpc_frame.specs.declared.frame.Frame.{Frame}
 use Rattle.corr_core.specs.Law.{total}
-use Rattle.corr_core.specs.declared.marks.Kept.{Kept}
 use Rattle.corr_core.specs.declared.marks.Note.{Note}
 use Rattle.corr_core.specs.declared.marks.Noted.{Noted}
 use Rattle.corr_core.specs.declared.marks.Plan as ids
 use Rattle.corr_core.specs.declared.marks.View.{View}
-use Rattle.id_rule.specs.Lawful.{notes_of}
+use Rattle.id_rule.specs.Lawful.{call_index, notes_of}
 use Rattle.corr_id.specs.Closing.{Closing}
 use Rattle.corr_id.proofs.Seats.{notes_append, total_append}
 use Rattle.sock_message.specs.Asked.{Asked}
@@ -33,16 +34,18 @@ use Rattle.call_deeds.specs.call_places.proofs.Reader.{MadeNone, rest_none}
 use Rattle.call_deeds.specs.call_places.proofs.Weights.{flat_total}
 use Rattle.call_told.specs.Answers.{AreGiven, at_end, ToldFrom, TellsFrom, HaveAnswers, IsGiver, AreAnsweredBy}
 use Rattle.call_told.specs.Once.{ToldOnce}
+use Rattle.call_told.specs.Least.{HasBegun, IsEndTold}
 use Rattle.call_told.proofs.Lists.{all_both, all_then, all_two, all_there, all_behind, all_mapped, of_mapped, all_flat}
 use Rattle.call_told.proofs.Noting.{Later, NotesIn, later_in, in_then, all_in, told_in}
 use Rattle.call_told.proofs.Linked.{rest_later, rest_told}
 use Rattle.call_told.proofs.Making.{AllMade, FitsMade, later_made, all_made, events_made}
 use Rattle.call_told.proofs.Answering.{IsAskedIn, Answers, AllHave, told_answer, tells_answers}
 use Rattle.call_told.proofs.Backs.{end_at, mapped}
+use Rattle.call_told.proofs.Growing.{own_at}
 use Rattle.call_told.proofs.Balance.{AreBalanced, balanced_both}
 use Rattle.call_told.proofs.Once.{told_once}
-use Rattle.call_told.proofs.Least.{TellEnds, tell_both, AllEnded}
-use Rattle.call_told.proofs.Readers.{IsUnread, ReadBeside, AllRead, each_read, readers_told, readers_none, readers_made, readers_balanced, readers_tell}
+use Rattle.call_told.proofs.Least.{TellEnds, tell_both, AllEnded, told_least}
+use Rattle.call_told.proofs.Readers.{IsUnread, ReadBeside, AllRead, each_read, readers_told, readers_none, readers_made, readers_own, readers_balanced, readers_tell}
 
 -- ## Seats
 
@@ -74,6 +77,11 @@ total_mapped f h (x ∷ xs) = let a = total_mapped f h xs in omega arith
 all_zero : {A : Type 0} (h : A → ℕ) (xs : List A) → AllByRecursion (λ (x : A). h x ≡ 0) xs → total h xs ≡ 0
 all_zero h [] a = refl
 all_zero h (x ∷ xs) a = let b = a.0 in let c = all_zero h xs a.1 in omega arith
+
+first_there : {A : Type 0} (xs ys : List A) (k : ℕ) (x : A) → get_elem? xs k ≡ some x → get_elem? (xs ++ ys) k ≡ some x
+first_there [] ys k x e = absurd (some-ne-none x (sym e))
+first_there (y ∷ xs) ys zero x e = e
+first_there (y ∷ xs) ys (suc k) x e = first_there xs ys k x e
 
 module _ {O : Type 0} {g : Ghosts O} (p : Plan) (q : ids.Plan) (calls opens : List ℕ) (readers : List (LinkReader g)) (are : AreReaders p q calls 0 opens readers) where
   abbrev pub told_beside : List (List Told)
@@ -191,9 +199,9 @@ module _ {O : Type 0} {g : Ghosts O} (p : Plan) (q : ids.Plan) (calls opens : Li
         pub beside_answered : AllByRecursion (AllHave (length readers) gave_beside ops) (told_beside ++ last.told ∷ [])
         beside_answered = all_both (AllHave (length readers) gave_beside ops) told_beside (last.told ∷ []) readers_have (rest_has, tt)
 
-      -- all that tell of ends, clients and readers and then main
-      module _ {I P : Type 0} (out : O → OutState) (inn : I → InState) (ended : List (List Told)) (kept : main.view.kept ≡ flat_map (λ (s : IdSeat). s.me.0.kept) (clients ++ seats_beside)) (calm : last.starved ≡ false) (balanced : AreBalanced ended (map view_of clients)) where
-        abbrev all_views : List (View Asked)
+      -- all that tell of ends: clients, readers, and main behind them
+      module _ (ended : List (List Told)) (kept : main.view.kept ≡ flat_map (λ (s : IdSeat). s.me.0.kept) (clients ++ seats_beside)) (calm : last.starved ≡ false) (balanced : AreBalanced ended (map view_of clients)) where
+        abbrev pub all_views : List (View Asked)
         all_views = map view_of clients ++ views_beside
 
         views_of : map view_of (clients ++ seats_beside) ≡ all_views
@@ -207,20 +215,30 @@ module _ {O : Type 0} {g : Ghosts O} (p : Plan) (q : ids.Plan) (calls opens : Li
 
         -- no call is told twice
         pub once_beside : ToldOnce q.slots ((ended ++ told_beside) ++ last.told ∷ [])
-        once_beside = told_once {O = O} {I = I} {P = P} out inn q calls EEOF (ended ++ told_beside) all_views [] [] main main last last.view.kept words balanced_beside notes_are none_told refl rest calm closing
+        once_beside = told_once {O = OutState} {I = InState} {P = InState} (λ s. s) (λ s. s) q calls EEOF (ended ++ told_beside) all_views [] [] main main last last.view.kept words balanced_beside notes_are none_told refl rest calm closing
 
-        pub ended_beside : TellEnds ended (map view_of clients) → AllEnded {O = O} {I = I} {P = P} out inn q calls EEOF (ended ++ told_beside) all_views [] [] main main last words
-        ended_beside tell = record {
-          balanced = balanced_beside;
-          tell = tell_both ended told_beside (map view_of clients) views_beside tell (readers_tell p q calls readers read_all);
-          notes = notes_are;
-          kept = kept ∙ (flat_mapped view_of (λ (v : View Asked). v.kept) (clients ++ seats_beside) ∙ ap (flat_map (λ (v : View Asked). v.kept)) views_of);
-          none_told = none_told;
-          read = refl;
-          rest = rest;
-          calm = calm;
-          closing = closing;
-        }
+        module _ (tell : TellEnds ended (map view_of clients)) where
+          -- main read no link behind them
+          pub ended_beside : AllEnded {O = OutState} {I = InState} {P = InState} (λ s. s) (λ s. s) q calls EEOF (ended ++ told_beside) all_views [] [] main main last words
+          ended_beside = record {
+            balanced = balanced_beside;
+            tell = tell_both ended told_beside (map view_of clients) views_beside tell (readers_tell p q calls readers read_all);
+            notes = notes_are;
+            kept = kept ∙ (flat_mapped view_of (λ (v : View Asked). v.kept) (clients ++ seats_beside) ∙ ap (flat_map (λ (v : View Asked). v.kept)) views_of);
+            none_told = none_told;
+            read = refl;
+            rest = rest;
+            calm = calm;
+            closing = closing;
+          }
+
+          -- the end of each call that a client began is told
+          pub least_beside : (k : ℕ) (v : View Asked) (operation id j : ℕ) → get_elem? (map view_of clients) k ≡ some v → HasBegun q operation id v → total (λ (w : View Asked). total (own_at (call_index q operation)) w.kept) (map view_of clients) ≤ 1 → slice_get calls j ≡ Some operation
+              → IsEndTold operation id ((ended ++ told_beside) ++ last.told ∷ [])
+          least_beside k v operation id j at begun few listed =
+              let a = total_append (λ (w : View Asked). total (own_at (call_index q operation)) w.kept) (map view_of clients) views_beside in
+              let b = readers_own p q calls readers read_all (call_index q operation) in
+              (told_least {O = OutState} {I = InState} {P = InState} (λ s. s) (λ s. s) q calls EEOF (ended ++ told_beside) all_views [] [] main main last words ended_beside k v operation id (first_there (map view_of clients) views_beside k v at) begun (omega arith) j listed).1
 
   -- ## What the links that are given back tell of the answers
 

@@ -73,11 +73,11 @@ module _ {A : Type 0} where
     of_mapped [] a = tt
     of_mapped (x ∷ xs) a = (a.0, of_mapped xs a.1)
 
-  pub all_flat : {B : Type 0} (f : A → List B) (P : B → Type 0) (xs : List A) → AllByRecursion (λ (x : A). AllByRecursion P (f x)) xs → AllByRecursion P (flat_map f xs)
-  all_flat f P [] a = tt
-  all_flat f P (x ∷ xs) a = all_both P (f x) (flat_map f xs) a.0 (all_flat f P xs a.1)
-
   pub elem_or : (xs : List A) (i : ℕ) (x d : A) → get_elem? xs i ≡ core.some x → get_or xs i d ≡ x
   elem_or [] i x d e = absurd (core.some-ne-none x (sym e))
   elem_or (y ∷ xs) zero x d e = core.some-injective y x e
   elem_or (y ∷ xs) (suc i) x d e = elem_or xs i x d e
+
+pub all_flat : {A B : Type 0} (f : A → List B) (P : B → Type 0) (xs : List A) → AllByRecursion (λ (x : A). AllByRecursion P (f x)) xs → AllByRecursion P (flat_map f xs)
+all_flat f P [] a = tt
+all_flat f P (x ∷ xs) a = all_both P (f x) (flat_map f xs) a.0 (all_flat f P xs a.1)

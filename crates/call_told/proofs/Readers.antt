@@ -86,11 +86,11 @@ pub record ReadBeside {O : Type 0} {g : Ghosts O} (slots : ℕ) (readers : List 
 
 module _ {O : Type 0} {g : Ghosts O} (p : Plan) (q : ids.Plan) (calls : List ℕ) where
   module _ (x : LinkReader g) (is : IsReader p q calls x) where
-    pub reader_tally : Tally nothing_read x.books
+    reader_tally : Tally nothing_read x.books
     reader_tally = if_tally q x.link calls false false x.before x.behind is.ran.id is.ran.noted x.seat.me.0 nothing_read x.books is.ran.read
 
     -- it made no id
-    pub reader_none : MadeNone nothing_read.view x.ids.me.0
+    reader_none : MadeNone nothing_read.view x.ids.me.0
     reader_none = subst (λ (v : View Asked). MadeNone nothing_read.view v) (sym is.view_is) (if_none q x.link calls false false x.before x.behind is.ran.id is.ran.noted x.seat.me.0 nothing_read x.books is.ran.read)
 
     -- it told what its seat noted
@@ -113,10 +113,10 @@ module _ {O : Type 0} {g : Ghosts O} (p : Plan) (q : ids.Plan) (calls : List ℕ
     reader_gains : Gains x.before x.behind reader_gave
     reader_gains = if_gains q x.link calls false false x.before x.behind is.ran.id is.ran.noted x.seat.me.0 nothing_read x.books is.ran.read
 
-    pub reader_step : (links : ℕ) (gave : ℕ → List ℕ) → ((f : model.Frame) → IsGiven 1 (λ k. reader_gave) f → IsGiven links gave f) → Step q links gave nothing_read x.books
+    reader_step : (links : ℕ) (gave : ℕ → List ℕ) → ((f : model.Frame) → IsGiven 1 (λ k. reader_gave) f → IsGiven links gave f) → Step q links gave nothing_read x.books
     reader_step links gave given = if_step q x.link calls false false x.before x.behind links gave is.ran.id is.ran.noted x.seat.me.0 nothing_read x.books is.ran.read given
 
-    pub reader_made : (Q : ℕ → Asked → Type 0) → AllMade Q x.ids.me.0.notes
+    reader_made : (Q : ℕ → Asked → Type 0) → AllMade Q x.ids.me.0.notes
     reader_made Q = subst (λ (v : View Asked). AllMade Q v.notes) (sym is.view_is) (all_made Q x.books.view.notes (later_made Q nothing_read.view x.books.view (reader_step 1 (λ k. reader_gave) (λ f h. h)).later tt))
 
   -- each of them is one

@@ -1,4 +1,5 @@
-use Rattle.std.proofs.Common.{◌≡◌, ◌∙◌, ap, sym, subst, arith}
+use Rattle.std.proofs.Common.{◌≡◌, ◌∙◌, length, ap, sym, subst, arith}
+use Rattle.std.proofs.lemmas.List.{length-map}
 use Rattle.std.specs.Prelude.{IfOk, IfErr}
 use Rattle.sock_table.specs.Closed.{ways_of}
 use Rattle.sock_open.specs.Made.{AreNewSeats, PassesFrom}
@@ -29,7 +30,7 @@ pub crew_of-crew-requires-clause-passes : goal.crew_of-crew-requires-clause-pass
 crew_of-crew-requires-clause-passes g c = let m = c.in-Ok-new_table.field-0 in subst (λ p. PassesFrom m.table.rule.table.shared.table_id p 0 m.passes.items) (sym c.in-Ok-new_table.ensures.plan) c.in-Ok-new_table.ensures.made.passes_are
 
 pub end-requires-clause-done : goal.end-requires-clause-done
-end-requires-clause-done g c = let t = c.in-Ok-new_table.field-0.table.rule in subst (λ n. IsLeft t.table.shared.table_id t.plan n c.run_crew-left.result.seats.items) (let l = as_long _ _ _ _ c.crew_of-crew.ensures.tasks in let k = c.requires.seats in omega arith) c.run_crew-left.ensures.left
+end-requires-clause-done g c = let t = c.in-Ok-new_table.field-0.table.rule in subst (λ n. IsLeft t.table.shared.table_id t.plan n c.run_crew-left.result.seats.items) (let l = ap length (c.crew_of-crew.ensures.tasks ∙ c.in-Ok-prepare.ensures.tasks) ∙ length-map c.args.clients.items (λ v. v.items) in let k = c.requires.seats in let e = ap (λ p. p.seats) c.in-Ok-new_table.ensures.plan in omega (arith, l, k, e)) c.run_crew-left.ensures.left
 
 pub returns-in-Ok-new_table-clause-ran : goal.returns-in-Ok-new_table-clause-ran
 returns-in-Ok-new_table-clause-ran g c = let t = c.in-Ok-new_table.field-0.table.rule in let i = c.in-Ok-new.ids in let crew = c.crew_of-crew.ensures in let cast = c.in-Ok-prepare.ensures in
@@ -46,5 +47,5 @@ pub returns-in-Ok-new_table-clause-ways_back : goal.returns-in-Ok-new_table-clau
 returns-in-Ok-new_table-clause-ways_back g c = subst (λ w. IfErr c.end.result (λ e. ways_of g.O.Out.state e.outs.items ≡ w)) c.in-Ok-new_table.ensures.ways c.end.ensures.ways_back
 
 pub returns-in-Ok-new_table-clause-ids : goal.returns-in-Ok-new_table-clause-ids
-returns-in-Ok-new_table-clause-ids g c = let t = c.in-Ok-new_table.field-0.table.rule in let left = c.run_crew-left.ensures in let l = as_long _ _ _ _ (c.crew_of-crew.ensures.tasks ∙ c.in-Ok-prepare.ensures.tasks) in let k = c.requires.seats in let n = left.all_ids in
+returns-in-Ok-new_table-clause-ids g c = let t = c.in-Ok-new_table.field-0.table.rule in let left = c.run_crew-left.ensures in let l = ap length (c.crew_of-crew.ensures.tasks ∙ c.in-Ok-prepare.ensures.tasks) ∙ length-map c.args.clients.items (λ v. v.items) in let k = c.requires.seats in let n = left.all_ids in
     ids_left g.O.Out.state t.plan (ids_of c.args.plan.now c.args.slots) c.run_crew-left.result c.in-Ok-new.ids c.end.result (ap (λ x. x.plan) c.in-Ok-new.ids-is ∙ c.in-Ok-new.ensures.plan) left.ids (omega (arith, l, k, n)) c.end.ensures.ran
