@@ -1,11 +1,11 @@
 -- The place words of a run whose links were read beside its clients tell an order of each link, and each operation has an outcome or a place.
-use Rattle.std.proofs.Common.{◌≡◌, ℕ, ◌+◌, ◌≤◌, Ok, List, [], ◌∷◌, ◌++◌, map, length, refl, sym, ap, ◌∙◌, subst, arith}
-use Rattle.std.specs.Prelude.{Option}
+use Rattle.std.proofs.Common.{◌≡◌, ℕ, ◌+◌, ◌≤◌, Ok, List, [], ◌∷◌, ◌++◌, map, length, Some, refl, sym, ap, ◌∙◌, subst, arith}
+use Rattle.std.specs.Prelude.{Option, slice_get}
 use Rattle.std.specs.List.{AllByRecursion, flat_map}
 use mathlib.Core.Option.{some}
 use lib.ListN.{get_elem?}
 use Rattle.sock_io.specs.declared.link.Out.{Ghosts}
-use Rattle.sock_io.specs.Link.{OutState, InState}
+use Rattle.sock_io.specs.Link.{OutState}
 use Rattle.sock_words.specs.Codes.{EEOF}
 use Rattle.sock_words.specs.declared.outcome.Outcome.{Outcome}
 use Rattle.sock_words.specs.declared.plain.Plan.{Plan}
@@ -14,12 +14,10 @@ use Rattle.brpc_model.specs.Items.{Item}
 use Rattle.brpc_model.specs.Operations.{link_names}
 use Rattle.brpc_model.specs.PlaceWords.{ArePlaces, HasEachOutcome}
 use Rattle.brpc_model.specs.Script.{script_of}
-use Rattle.corr_core.specs.Law.{total}
 use Rattle.corr_core.specs.declared.marks.Kept.{Kept}
 use Rattle.corr_core.specs.declared.marks.Noted.{Noted}
 use Rattle.corr_core.specs.declared.marks.Plan as id_plan
 use Rattle.corr_core.specs.declared.marks.View.{View}
-use Rattle.corr_id.proofs.Seats.{total_append}
 use Rattle.sock_message.specs.Asked.{Asked}
 use Rattle.seat_programs.specs.declared.task.Task.{Task}
 use Rattle.seat_programs.specs.Tasks.{plan_of, opens, calls}
@@ -30,15 +28,11 @@ use Rattle.prpc_frame.specs.declared.frame.Frame.{Frame}
 use Rattle.script_calls.specs.report_fits.proofs.Sizes.{keeps_limits}
 use Rattle.call_run.specs.Readers.{LinkReader}
 use Rattle.call_run.specs.Threads.{MayRunAll, ids_of}
-use Rattle.script_calls.specs.id_rule.specs.Lawful.{call_index}
 use Rattle.script_calls.specs.call_whys.specs.call_places.specs.Counted.{HaveNotesOf}
 use Rattle.script_calls.specs.call_whys.specs.call_places.proofs.Ids.{IdLaws, laws_of}
 use Rattle.script_calls.specs.call_whys.specs.call_places.proofs.Places.{are_places}
-use Rattle.script_calls.specs.call_whys.specs.call_told.proofs.Balance.{AreBalanced}
-use Rattle.script_calls.specs.call_whys.specs.call_told.proofs.Beside.{views_beside, seats_beside, told_beside, have_beside, ended_beside}
-use Rattle.script_calls.specs.call_whys.specs.call_told.proofs.Growing.{own_at}
-use Rattle.script_calls.specs.call_whys.specs.call_told.proofs.Least.{AllEnded, TellEnds}
-use Rattle.script_calls.specs.call_whys.specs.call_told.proofs.Readers.{each_read, readers_own}
+use Rattle.script_calls.specs.call_whys.specs.call_told.proofs.Beside.{have_beside, least_beside}
+use Rattle.script_calls.specs.call_whys.specs.call_told.specs.Least.{HasBegun, IsEndTold}
 use Rattle.script_calls.specs.Reading.{IdSeat}
 use Rattle.script_calls.specs.Told.{outcomes_of}
 use Rattle.script_calls.proofs.Began.{tell}
@@ -47,12 +41,11 @@ use Rattle.script_calls.proofs.Each.{own_one, tasks_fit, IsTold, each_outcome}
 use Rattle.script_calls.proofs.MayCall.{IsOwnTask, all_own, script_seats, seated_are, seated_may}
 use Rattle.script_calls.proofs.Numbers.{few_operations}
 use Rattle.script_calls.proofs.Placed.{send_told}
-use Rattle.script_calls.proofs.Said.{in_front}
 use Rattle.script_calls.proofs.Shown.{view_of}
 use Rattle.script_beside.specs.Told.{seated_plan, seated_ids, begins_with, HasEnded, IsLeftBeside}
 use Rattle.script_beside.proofs.Left.{early_of, notes_of, kept_of}
 
-module _ {O I : Type 0} (P : Type 0) (g : Ghosts O) (out : O → OutState) (inn : I → InState) (bytes : List ℕ) (script : List Item) (reads : script_of bytes ≡ Ok script) (told ended read : List (List Told)) (kept : List (List Frame)) (places : List PlaceWord) (seats behind : List IdSeat)
+module _ {O : Type 0} (g : Ghosts O) (out : O → OutState) (bytes : List ℕ) (script : List Item) (reads : script_of bytes ≡ Ok script) (told ended read : List (List Told)) (kept : List (List Frame)) (places : List PlaceWord) (seats behind : List IdSeat)
     (left : IsLeftBeside g out script told ended read kept places seats behind) (last : List Told) (rest : HasEnded (seated_ids script) (calls script) (seats ++ behind) (flat_map (λ (fs : List Frame). fs) kept) last) where
   abbrev p : Plan
   p = seated_plan script
@@ -93,23 +86,17 @@ module _ {O I : Type 0} (P : Type 0) (g : Ghosts O) (out : O → OutState) (inn 
   owns : AllByRecursion (AllByRecursion IsOwnTask) (left.setup ∷ left.clients)
   owns = subst (AllByRecursion (AllByRecursion IsOwnTask)) (sym left.tasks) (all_own script)
 
-  abbrev views : List (View Asked)
-  views = ids ++ views_beside p q (calls script) (opens script) left.readers left.readers_are
-
-  -- a reader stores no id
-  stored_once : (o : ℕ) → total (λ (v : View Asked). total (own_at (call_index q o)) v.kept) views ≤ 1
-  stored_once o =
-      let a = own_one g out p q left.setup left.clients (opens script) told ended left.ran.seats ids left.ran.ran owns p are o in
-      let b = total_append (λ (v : View Asked). total (own_at (call_index q o)) v.kept) ids (views_beside p q (calls script) (opens script) left.readers left.readers_are) in
-      let c = readers_own p q (calls script) left.readers (each_read p q (calls script) 0 (opens script) left.readers left.readers_are) (call_index q o) in omega arith
-
-  all_ended : AllEnded {O = O} {I = I} {P = P} out inn q (calls script) EEOF (ended ++ read) views [] [] main main rest.last rest.words
-  all_ended = subst (λ (l : List (List Told)). AllEnded {O = O} {I = I} {P = P} out inn q (calls script) EEOF (ended ++ l) views [] [] main main rest.last rest.words) left.read_is
-      (ended_beside p q (calls script) (opens script) left.readers left.readers_are seats main rest.last (notes_of left rest) rest.rest (early_of left) refl rest.words rest.closing {I = I} {P = P} out inn ended (kept_of left rest) rest.calm
+  -- a call that a client began, whoever ended it
+  least : (k : ℕ) (v : View Asked) (operation id j : ℕ) → get_elem? ids k ≡ some v → HasBegun q operation id v → slice_get (calls script) j ≡ Some operation → IsEndTold operation id ((ended ++ read) ++ last ∷ [])
+  least k v operation id j at begun listed =
+      subst (λ (l : List Told). IsEndTold operation id ((ended ++ read) ++ l ∷ [])) (sym rest.told_is)
+      (subst (λ (l : List (List Told)). IsEndTold operation id ((ended ++ l) ++ rest.last.told ∷ [])) left.read_is
+      (least_beside p q (calls script) (opens script) left.readers left.readers_are seats main rest.last (notes_of left rest) rest.rest (early_of left) refl rest.words rest.closing ended (kept_of left rest) rest.calm
       (balanced out p q left.setup left.clients (opens script) told ended left.ran.seats ids left.ran.ran)
-      (tell g out p q left.setup left.clients (opens script) told ended left.ran.seats ids left.ran.ran (tasks_fit (left.setup ∷ left.clients) owns)))
+      (tell g out p q left.setup left.clients (opens script) told ended left.ran.seats ids left.ran.ran (tasks_fit (left.setup ∷ left.clients) owns))
+      k v operation id j at begun (own_one g out p q left.setup left.clients (opens script) told ended left.ran.seats ids left.ran.ran owns p are operation) listed))
 
-  left_told : IsTold P g out inn script p q told (ended ++ read) places last
+  left_told : IsTold g out script p q told (ended ++ read) places last
   left_told = record {
     setup = left.setup;
     clients = left.clients;
@@ -119,19 +106,9 @@ module _ {O I : Type 0} (P : Type 0) (g : Ghosts O) (out : O → OutState) (inn 
     seats = left.ran.seats;
     ids = ids;
     ran = left.ran.ran;
-    views = views;
-    front = λ k v at. in_front ids (views_beside p q (calls script) (opens script) left.readers left.readers_are) k v at;
-    one_stored = stored_once;
-    ends = [];
-    ends' = [];
-    first = main;
-    between = main;
-    behind = rest.last;
-    words = rest.words;
-    all_ended = all_ended;
-    last_is = rest.told_is;
+    least = least;
     sent = send_told left.ran are may rest.last.view.notes laws have few low;
   }
 
   pub left_each : HasEachOutcome places (outcomes_of p.operations told (ended ++ read) last)
-  left_each = each_outcome P g out inn script p q told (ended ++ read) places last left_told
+  left_each = each_outcome g out script p q told (ended ++ read) places last left_told

@@ -93,7 +93,7 @@ module _ (P : Type 0) {O I : Type 0} (out : O → OutState) (inn : I → InState
   told_once : ToldOnce q.slots (tellers ++ r.last ∷ [])
   told_once = subst (λ (t : List Told). ToldOnce q.slots (tellers ++ t ∷ [])) (sym r.rest.told_is)
       (subst (λ (l : List (List Told)). ToldOnce q.slots ((r.ended ++ l) ++ r.rest.last.told ∷ [])) r.left.read_is
-      (once_beside p q (calls script) (opens script) readers r.left.readers_are r.ids main r.rest.last (notes_of r.left r.rest) r.rest.rest (early_of r.left) refl r.rest.words r.rest.closing {I = I} {P = P} out inn r.ended (kept_of r.left r.rest) r.rest.calm balanced_told))
+      (once_beside p q (calls script) (opens script) readers r.left.readers_are r.ids main r.rest.last (notes_of r.left r.rest) r.rest.rest (early_of r.left) refl r.rest.words r.rest.closing r.ended (kept_of r.left r.rest) r.rest.calm balanced_told))
 
   -- it has the outcomes and place words of its report
   pub text_of : IsBesideText script text links

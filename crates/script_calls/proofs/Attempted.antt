@@ -135,7 +135,7 @@ module _ {O I P : Type 0} (g : Ghosts O) (out : O → OutState) (inn : I → InS
       let w = of_script g out inn bytes script reads told ended places seats left ends ends' last read b.place t is in
       let less : t.number < p.operations = slice_get_within (operations script) t.number w.operation w.there in
       let own_ : get_elem? all b.place ≡ some (tasks_of b.client) = ap (λ (l : List (List Task)). get_elem? l b.place) (sym (tasks_are left.ran)) ∙ mapped_at tasks_of clients b.place b.client b.at in
-      let s = call_said P g out inn script p q told ended places last (left_told g out inn bytes script reads told ended places seats left ends ends' last read)
+      let s = call_said g out script p q told ended places last (left_told g out inn bytes script reads told ended places seats left ends ends' last read)
       t.number less w.operation w.there t.op w.asks b.place b.has.place (tasks_of b.client) own_ (task_at b.client.thread b.client.is b.has.place b.has.result b.has.at) b.asked b.op in
       subst (λ (n : ℕ). (by : Outcome) × Became all outcomes n by) b.has.number_is s
 

@@ -7,9 +7,7 @@ use mathlib.Core.Option.{some}
 use lib.ListN.{get_elem?}
 use Rattle.atomic_table.specs.declared.shared.Seat.{Seat}
 use Rattle.sock_io.specs.declared.link.Out.{Ghosts}
-use Rattle.sock_io.specs.declared.link.Ends.{Ends}
-use Rattle.sock_io.specs.Link.{OutState, InState}
-use Rattle.sock_words.specs.Codes.{EEOF}
+use Rattle.sock_io.specs.Link.{OutState}
 use Rattle.sock_words.specs.Words.{HasPosition}
 use Rattle.sock_words.specs.declared.outcome.Outcome.{Outcome}
 use Rattle.sock_words.specs.declared.place_word.PlaceWord.{PlaceWord}
@@ -35,13 +33,11 @@ use Rattle.report_fits.proofs.Lists.{has_from, has_filter_map, within, all_map, 
 use Rattle.report_fits.proofs.Numbering.{link_at, numbered_at}
 use Rattle.report_fits.proofs.TaskLemmas.{asks_at, numbers_at, asked_at, operation_task, call_asks}
 use Rattle.rpc_client.specs.declared.acting.Told.{Told}
-use Rattle.rpc_reader.specs.Books.{Books}
 use Rattle.script_calls.proofs.Sayings.{to_slice, from_slice, long_each, none_long}
 use Rattle.call_run.specs.Threads.{AllRan}
 use Rattle.call_whys.specs.call_told.specs.Least.{HasBegun, IsEndTold}
 use Rattle.call_whys.specs.call_told.proofs.Coming.{HasCome, tells, began, sends}
 use Rattle.call_whys.specs.call_told.proofs.Growing.{own_at}
-use Rattle.call_whys.specs.call_told.proofs.Least.{AllEnded, told_least}
 use Rattle.call_whys.specs.call_told.proofs.Moves.{Fits}
 use Rattle.script_calls.specs.Told.{outcomes_of}
 use Rattle.script_calls.proofs.Began.{each_one, few, IsOneOf, one_of, one_come}
@@ -69,8 +65,8 @@ pub own_one : {O : Type 0} (g : Ghosts O) (state : O → OutState) (p : Plan) (q
 own_one g state p q setup clients opens told ended seats ids ran owns plan are o =
     let a = few g state p q setup clients opens told ended seats ids ran (tasks_fit (setup ∷ clients) owns) o in let b = each_one o (setup ∷ clients) are.in_order are.differ in omega arith
 
-module _ {O I : Type 0} (P : Type 0) (g : Ghosts O) (out : O → OutState) (inn : I → InState) (script : List Item) (p : Plan) (q : id_plan.Plan) where
-  -- The clients of the script ran over tables of these sizes. All of these tell of ends of calls, the clients first; and behind them one saw to the calls that were left, and told this
+module _ {O : Type 0} (g : Ghosts O) (out : O → OutState) (script : List Item) (p : Plan) (q : id_plan.Plan) where
+  -- The clients of the script ran over tables of these sizes. All of these tell of ends of calls, and behind them one saw to the calls that were left, and told this
   pub record IsTold (told tellers : List (List Told)) (places : List PlaceWord) (last : List Told) : Type 0 where
     pub setup : List Task
     pub clients : List (List Task)
@@ -80,19 +76,8 @@ module _ {O I : Type 0} (P : Type 0) (g : Ghosts O) (out : O → OutState) (inn 
     pub seats : List (Seat (SockHome O g) sock_view.View)
     pub ids : List (View Asked)
     pub ran : AllRan g out p q setup clients opens told ended seats ids
-    -- the seats of all that tell, those of the clients first; one id at most is stored for an operation
-    pub views : List (View Asked)
-    pub front : (k : ℕ) (v : View Asked) → get_elem? ids k ≡ some v → get_elem? views k ≡ some v
-    pub one_stored : (o : ℕ) → total (λ (v : View Asked). total (own_at (call_index q o)) v.kept) views ≤ 1
-    -- the links that were read behind them, if any was
-    pub ends : List (Ends O I P)
-    pub ends' : List (Ends O I P)
-    pub first : Books
-    pub between : Books
-    pub behind : Books
-    pub words : List ℕ
-    pub all_ended : AllEnded out inn q (calls script) EEOF tellers views ends ends' first between behind words
-    pub last_is : last ≡ behind.told
+    -- the end of each call that a client began is told
+    pub least : (k : ℕ) (v : View Asked) (operation id j : ℕ) → get_elem? ids k ≡ some v → HasBegun q operation id v → slice_get (calls script) j ≡ Some operation → IsEndTold operation id (tellers ++ last ∷ [])
     -- a `send` of which nothing is told has a place
     pub sent : (c k : ℕ) (ts : List Task) (t : Task) (n : ℕ) (bytes : List ℕ) → get_elem? (setup ∷ clients) c ≡ some ts → get_elem? ts k ≡ some t → t.op ≡ ops.Send n bytes
         → ((own : List Told) × (i : ℕ) × (x : Told) × (get_elem? told c ≡ some own) × (get_elem? own i ≡ some x) × (x.number ≡ t.number)) ⊎ HasPosition (word_at places (8 * t.number))
@@ -103,12 +88,6 @@ module _ {O I : Type 0} (P : Type 0) (g : Ghosts O) (out : O → OutState) (inn 
 
     fits : AllByRecursion (AllByRecursion Fits) (r.setup ∷ r.clients)
     fits = tasks_fit (r.setup ∷ r.clients) owns
-
-    -- the end of each call that began is told
-    least_told : (k : ℕ) (v : View Asked) (operation id j : ℕ) → get_elem? r.ids k ≡ some v → HasBegun q operation id v → slice_get (calls script) j ≡ Some operation → IsEndTold operation id (tellers ++ last ∷ [])
-    least_told k v operation id j at begun is_listed =
-        subst (λ (l : List Told). IsEndTold operation id (tellers ++ l ∷ [])) (sym r.last_is)
-        (told_least out inn q (calls script) EEOF tellers r.views r.ends r.ends' r.first r.between r.behind r.words r.all_ended k v operation id (r.front k v at) begun (r.one_stored operation) j is_listed).1
 
     abbrev outcomes : List (Option Outcome)
     outcomes = outcomes_of (plan_of script).operations told tellers last
@@ -132,7 +111,7 @@ module _ {O I : Type 0} (P : Type 0) (g : Ghosts O) (out : O → OutState) (inn 
             let x = call_asks (numbered script) (names script) (numbers_at script o operation) operation.item asked (asks ∙ ap Some is) in
             let own : asked.operation ≡ o = task_fits t (all_there IsOwnTask ts t (all_there (AllByRecursion IsOwnTask) (r.setup ∷ r.clients) ts owns (c, to_slice (r.setup ∷ r.clients) c ts of_client)) (j, to_slice ts j t in_it)) asked is in
             let l = listed script o operation at (ap is_call x.1) in
-            let e = least_told c who.thread.ended.calls.seat.me.0 asked.operation id l.0 who.id_at begun (l.1 ∙ ap Some (sym own)) in
+            let e = r.least c who.thread.ended.calls.seat.me.0 asked.operation id l.0 who.id_at begun (l.1 ∙ ap Some (sym own)) in
             end_said (plan_of script).operations told tellers last o less record { teller = e.teller; place = e.place; told = e.told; one = e.one; by = e.by; at = e.at; number = e.number ∙ own }
 
         came : HasCome q t who.thread.ended.outcomes.items who.thread.ended.calls.seat.me.0 → HasIt

@@ -1,6 +1,6 @@
 -- The place words of a run with calls tell an order of each link, and a `send` of which nothing is told has a place.
-use Rattle.std.proofs.Common.{◌≡◌, ℕ, zero, suc, ◌*◌, ◌≤◌, ◌⊎◌, inl, inr, List, [], ◌∷◌, flat_map, length, map, Some, None, Ok, refl, sym, ap, ◌∙◌, subst, arith}
-use Rattle.std.specs.Prelude.{Option}
+use Rattle.std.proofs.Common.{◌≡◌, ℕ, zero, suc, ◌*◌, ◌≤◌, ◌⊎◌, inl, inr, List, [], ◌∷◌, ◌++◌, flat_map, length, map, Some, None, Ok, refl, sym, ap, ◌∙◌, subst, arith}
+use Rattle.std.specs.Prelude.{Option, slice_get}
 use Rattle.std.specs.List.{AllByRecursion}
 use mathlib.Core.Option.{some, some-injective, some-ne-none}
 use lib.ListN.{get_elem?}
@@ -34,6 +34,8 @@ use Rattle.report_fits.proofs.Tasks.{tasks_of_script}
 use Rattle.rpc_client.specs.declared.acting.Told.{Told}
 use Rattle.call_run.specs.Readers.{LinkReader}
 use Rattle.call_run.specs.Threads.{Thread, MayRunAll, RanWith, ids_of}
+use Rattle.call_whys.specs.call_told.specs.Least.{HasBegun, IsEndTold}
+use Rattle.call_whys.specs.call_told.proofs.Least.{AllEnded, told_least}
 use Rattle.call_whys.specs.call_places.specs.Counted.{makes, HaveNotesOf}
 use Rattle.call_whys.specs.call_places.proofs.Clients.{Client, tasks_of, deeds_of}
 use Rattle.call_whys.specs.call_places.proofs.Ids.{IdLaws, laws_of}
@@ -142,8 +144,27 @@ module _ {O I P : Type 0} (g : Ghosts O) (out : O → OutState) (inn : I → InS
   pub own_tasks : AllByRecursion (AllByRecursion IsOwnTask) (left.setup ∷ left.clients)
   own_tasks = subst (AllByRecursion (AllByRecursion IsOwnTask)) (sym left.tasks) (all_own script)
 
+  pub least_told : (k : ℕ) (v : View Asked) (operation id j : ℕ) → get_elem? (map view_of seats) k ≡ some v → HasBegun q operation id v → slice_get (calls script) j ≡ Some operation → IsEndTold operation id (ended ++ last ∷ [])
+  least_told k v operation id j at begun listed =
+      subst (λ (l : List Told). IsEndTold operation id (ended ++ l ∷ [])) (sym read.told_is)
+      (told_least out inn q (calls script) EEOF ended (map view_of seats) ends ends' (begins read.main) read.between read.last read.words all_ended k v operation id at begun
+      (own_one g out p q left.setup left.clients left.opened told ended left.ran.seats (map view_of seats) left.ran.ran own_tasks p are operation) j listed).1
+    where
+      all_ended : AllEnded out inn q (calls script) EEOF ended (map view_of seats) ends ends' (begins read.main) read.between read.last read.words
+      all_ended = record {
+        balanced = balanced out p q left.setup left.clients left.opened told ended left.ran.seats (map view_of seats) left.ran.ran;
+        tell = tell g out p q left.setup left.clients left.opened told ended left.ran.seats (map view_of seats) left.ran.ran (tasks_fit (left.setup ∷ left.clients) own_tasks);
+        notes = read.took.notes ∙ flat_mapped view_of (λ (v : View Asked). v.notes) seats;
+        kept = read.took.kept ∙ flat_mapped view_of (λ (v : View Asked). v.kept) seats;
+        none_told = refl;
+        read = read.read;
+        rest = read.rest;
+        calm = read.calm;
+        closing = read.closing;
+      }
+
   -- all that tell of ends of calls are clients
-  abbrev pub left_told : IsTold P g out inn script p q told ended places last
+  abbrev pub left_told : IsTold g out script p q told ended places last
   left_told = record {
     setup = left.setup;
     clients = left.clients;
@@ -153,32 +174,12 @@ module _ {O I P : Type 0} (g : Ghosts O) (out : O → OutState) (inn : I → InS
     seats = left.ran.seats;
     ids = map view_of seats;
     ran = left.ran.ran;
-    views = map view_of seats;
-    front = λ k v at. at;
-    one_stored = own_one g out p q left.setup left.clients left.opened told ended left.ran.seats (map view_of seats) left.ran.ran own_tasks p are;
-    ends = ends;
-    ends' = ends';
-    first = begins read.main;
-    between = read.between;
-    behind = read.last;
-    words = read.words;
-    all_ended = record {
-      balanced = balanced out p q left.setup left.clients left.opened told ended left.ran.seats (map view_of seats) left.ran.ran;
-      tell = tell g out p q left.setup left.clients left.opened told ended left.ran.seats (map view_of seats) left.ran.ran (tasks_fit (left.setup ∷ left.clients) own_tasks);
-      notes = read.took.notes ∙ flat_mapped view_of (λ (v : View Asked). v.notes) seats;
-      kept = read.took.kept ∙ flat_mapped view_of (λ (v : View Asked). v.kept) seats;
-      none_told = refl;
-      read = read.read;
-      rest = read.rest;
-      calm = read.calm;
-      closing = read.closing;
-    };
-    last_is = read.told_is;
+    least = least_told;
     sent = sent;
   }
 
   pub left_each : HasEachOutcome places (outcomes_of p.operations told ended last)
-  left_each = each_outcome P g out inn script p q told ended places last left_told
+  left_each = each_outcome g out script p q told ended places last left_told
 
 -- ## As a run finds it
 
