@@ -257,3 +257,7 @@ module _ {O : Type 0} {g : Ghosts O} (p : Plan) (q : ids.Plan) (calls opens : Li
       where
         as_many : length (map (end_at out inn) ends) ≡ length readers
         as_many = length-map ends (end_at out inn) ∙ (sym (length-map ends (λ (e : Ends O I P). inn e.inn)) ∙ (ap length (sym halves) ∙ length-map readers (λ (x : LinkReader g). x.behind)))
+
+    pub answered_gave : (ops : List Operation) (outcomes : List (Option Outcome)) (h : HaveAnswers (length readers) gave_beside ops outcomes) → (answered_beside ops outcomes h).gave ≡ gave_beside
+    unfolding answered_beside
+    answered_gave ops outcomes h = refl
