@@ -45,7 +45,7 @@ module _ {O I P : Type 0} (g : Ghosts O) (out : O → OutState) (inn : I → InS
   abbrev threads : List (Thread g)
   threads = left.ran.ran.main ∷ left.ran.ran.others
 
-  made : AllMade (IsCallOf all outcomes) read.last.view.notes
+  pub made : AllMade (IsCallOf all outcomes) read.last.view.notes
   made =
       let owns = subst (AllByRecursion (AllByRecursion IsOwnTask)) (sym left.tasks) (all_own script) in
       read_made out inn q (calls script) (IsCallOf all outcomes) last seats ends ends'

@@ -91,7 +91,7 @@ module _ {O I P : Type 0} (g : Ghosts O) (out : O → OutState) (inn : I → InS
   clients = all_clients left.ran
 
   -- the tasks of the clients, and the notes of all, which have those of the clients
-  tasks_are : AreTasks p all
+  pub tasks_are : AreTasks p all
   tasks_are = are g out inn bytes script reads told ended places seats left ends ends' last read
 
   have_notes : HaveNotesOf (map view_of seats) notes
