@@ -7,4 +7,5 @@ pub mod Placed
 pub mod Reports
 pub mod Early
 pub mod Linked
+pub mod Widened
 pub mod Sockets

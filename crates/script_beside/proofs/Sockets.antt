@@ -14,13 +14,14 @@ use Rattle.sock_words.specs.declared.outcome.Outcome.{Outcome}
 use Rattle.sock_words.specs.declared.plain.Plan.{Plan}
 use Rattle.brpc_model.specs.Items.{Item}
 use Rattle.brpc_model.specs.Link.{LinkEnd}
+use Rattle.brpc_model.specs.Operations.{operations}
 use Rattle.brpc_model.specs.Script.{script_of}
 use Rattle.corr_core.specs.declared.marks.Plan as id_plan
 use Rattle.corr_core.specs.declared.marks.View.{View}
 use Rattle.seat_programs.specs.sock_model.specs.Layout.{place_index}
 use Rattle.seat_programs.specs.declared.task.Task.{Task}
 use Rattle.seat_programs.specs.Cores.{Core}
-use Rattle.seat_programs.specs.Scripts.{place_words}
+use Rattle.seat_programs.specs.Scripts.{all_tasks, place_words}
 use Rattle.seat_programs.specs.Tasks.{plan_of, opens, calls}
 use Rattle.seat_programs.specs.Told.{AreTasks}
 use Rattle.seat_programs.specs.ToldCalls.{Fixed}
@@ -41,7 +42,7 @@ use Rattle.script_calls.specs.call_whys.specs.call_deeds.proofs.Beside.{OpensLin
 use Rattle.script_calls.specs.call_whys.specs.call_deeds.proofs.Ran.{AreLater}
 use Rattle.script_calls.specs.call_whys.specs.call_deeds.proofs.Runs.{deed_run_with, early_with}
 use Rattle.script_calls.specs.call_whys.specs.call_deeds.proofs.Whole.{told_of_run_with}
-use Rattle.script_calls.specs.call_whys.specs.call_told.specs.Answers.{ToldFrom, IsGiver}
+use Rattle.script_calls.specs.call_whys.specs.call_told.specs.Answers.{ToldFrom, IsGiver, AreAnsweredBy}
 use Rattle.script_calls.specs.call_whys.specs.call_told.proofs.Beside.{gave_beside, gave_is, have_beside, told_from, rest_from, made_beside}
 use Rattle.script_calls.specs.call_whys.specs.call_told.proofs.Lists.{all_at}
 use Rattle.script_calls.specs.call_whys.specs.call_told.proofs.Making.{AllMade}
@@ -69,6 +70,7 @@ use Rattle.script_beside.specs.Told.{seated_plan, seated_ids, begins_with, IsBes
 use Rattle.script_beside.proofs.Early.{ShowsEarly, early_shown}
 use Rattle.script_beside.proofs.Left.{early_of, notes_of}
 use Rattle.script_beside.proofs.Linked.{opens_link}
+use Rattle.script_beside.proofs.Widened.{still_told}
 
 module _ (P : Type 0) {O I : Type 0} (g : Ghosts O) (out : O → OutState) (inn : I → InState) (bytes : List ℕ) (script : List Item) (reads : script_of bytes ≡ Ok script) (text : List ℕ) (links : List LinkEnd) (r : IsBesideRun P g out inn script text links) where
   abbrev p : Plan
@@ -237,17 +239,21 @@ module _ (P : Type 0) {O I : Type 0} (g : Ghosts O) (out : O → OutState) (inn 
         }
 
     -- why each operation on sockets has its outcome, where it is told that the links gave what their readers met
-    pub sockets_beside : ((k : ℕ) (e : LinkEnd) → slice_get links k ≡ Some e → IsGiver given k e) → AreSocketsBeside script outcomes r.places given links
-    sockets_beside givers = record {
+    pub sockets_beside : (ends : List LinkEnd) → ends ≡ map end_at r.ends → ((k : ℕ) (e : LinkEnd) → slice_get ends k ≡ Some e → IsGiver given k e) → AreSocketsBeside script outcomes r.places given ends
+    sockets_beside ends back givers = record {
       core = core;
       words = words;
       broken = broken run;
       early = early run;
       fails = all_fails run;
       orders = orders run differ;
-      tells = subst (λ (l : List (List Task)). ToldSockets p l outcomes fixed given (orders run differ) core) r.left.tasks (tells given);
+      tells = still_told (plan_of script) p.seats (all_tasks script) outcomes fixed given (orders run differ) core (subst (λ (l : List (List Task)). ToldSockets p l outcomes fixed given (orders run differ) core) r.left.tasks (tells given));
       ends_told = record {
-        as_many = ap length r.given_back ∙ (length-map r.ends end_at ∙ as_many);
-        each = λ k e at. (let w = at_map end_at r.ends k e (ap (λ (l : List LinkEnd). slice_get l k) (sym r.given_back) ∙ at) in subst (IsEndOf (plan_of script) core fixed given k) w.2 (one_end k w.0 w.1 (subst (IsGiver given k) (sym w.2) (givers k e at))));
+        as_many = ap length back ∙ (length-map r.ends end_at ∙ as_many);
+        each = λ k e at. (let w = at_map end_at r.ends k e (ap (λ (l : List LinkEnd). slice_get l k) (sym back) ∙ at) in subst (IsEndOf (plan_of script) core fixed given k) w.2 (one_end k w.0 w.1 (subst (IsGiver given k) (sym w.2) (givers k e at))));
       };
     }
+
+  -- the same beside the answers over these links, which are by what the links gave
+  pub answered_sockets : (a : AreAnsweredBy (operations script) outcomes (map end_at r.ends)) → a.gave ≡ gave → (b : AreAnsweredBy (operations script) outcomes links) × AreSocketsBeside script outcomes r.places b.gave links
+  answered_sockets a is = subst (λ (l : List LinkEnd). (b : AreAnsweredBy (operations script) outcomes l) × AreSocketsBeside script outcomes r.places b.gave l) (sym r.given_back) (a, sockets_beside a.gave is (map end_at r.ends) refl a.givers)

@@ -1,21 +1,15 @@
 -- What is told of the sockets of a script whose links were served and read beside its clients.
-use Rattle.std.specs.Prelude.{ℕ, ◌≡◌, ◌+◌, List, length, Option}
-use Rattle.sock_words.specs.declared.plain.Plan.{Plan}
+use Rattle.std.specs.Prelude.{ℕ, ◌≡◌, List, Option}
 use Rattle.sock_words.specs.declared.outcome.Outcome.{Outcome}
 use Rattle.sock_words.specs.declared.place_word.PlaceWord.{PlaceWord}
 use Rattle.brpc_model.specs.Items.{Item}
 use Rattle.brpc_model.specs.Link.{LinkEnd}
-use Rattle.brpc_model.specs.Operations.{link_names}
 use Rattle.seat_programs.specs.Cores.{Core}
 use Rattle.seat_programs.specs.Scripts.{all_tasks, place_words}
 use Rattle.seat_programs.specs.Tasks.{plan_of}
 use Rattle.seat_programs.specs.ToldCalls.{Order}
 use Rattle.script_calls.specs.report_fits.specs.Ends.{AreEndsOf}
 use Rattle.script_calls.specs.call_whys.specs.sock_deeds.specs.Told.{fixed_by, ToldSockets}
-
--- the sizes of the tables of such a run: those of the script, with a seat more for the reader of each link
-abbrev with_readers : List Item → Plan
-with_readers script = record (plan_of script) { seats = length (link_names script) + (plan_of script).seats }
 
 -- Why each operation on sockets has its outcome, by what became of all others; and each link took the messages that it accepted in one order, whole and once,
 -- those of each client in its own order. Each life that failed was failed by a `fail`, by its own link, or by the reader of its link, whose reading ended early
@@ -29,6 +23,6 @@ pub record AreSocketsBeside (script : List Item) (outcomes : List (Option Outcom
   pub fails : List (ℕ × ℕ)
   -- what each link accepted, and how many messages it took whole
   pub orders : ℕ → Order
-  pub tells : ToldSockets (with_readers script) (all_tasks script) outcomes (fixed_by broken early fails) gave orders core
+  pub tells : ToldSockets (plan_of script) (all_tasks script) outcomes (fixed_by broken early fails) gave orders core
   -- the links are those of this run: they took what is at home, and show where they failed and where their reading ended early
   pub ends_told : AreEndsOf script core (fixed_by broken early fails) gave ends
