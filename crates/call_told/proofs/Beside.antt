@@ -46,7 +46,7 @@ use Rattle.call_told.proofs.Growing.{own_at}
 use Rattle.call_told.proofs.Balance.{AreBalanced, balanced_both}
 use Rattle.call_told.proofs.Once.{told_once}
 use Rattle.call_told.proofs.Least.{TellEnds, tell_both, AllEnded, told_least}
-use Rattle.call_told.proofs.Readers.{IsUnread, ReadBeside, AllRead, total_none, each_read, readers_told, readers_none, readers_made, readers_own, readers_balanced, readers_tell}
+use Rattle.call_told.proofs.Readers.{IsUnread, ReadBeside, AllRead, total_none, each_read, readers_gave, readers_told, told_gave, readers_none, readers_made, readers_own, readers_balanced, readers_tell}
 
 -- ## Seats
 
@@ -94,6 +94,11 @@ module _ {O : Type 0} {g : Ghosts O} (p : Plan) (q : ids.Plan) (calls opens : Li
 
   abbrev pub gave_beside : ℕ → List ℕ
   gave_beside = beside.gave
+
+  -- each link what its reader met, and then what that threw away
+  pub gave_is : gave_beside ≡ readers_gave p q calls readers (each_read p q calls 0 opens readers are)
+  unfolding beside read_all
+  gave_is = told_gave p q calls readers read_all
 
   -- what they keep are responses that links gave
   pub early_given : AreGiven (length readers) gave_beside (flat_map (λ (x : LinkReader g). x.books.early) readers)
@@ -252,3 +257,7 @@ module _ {O : Type 0} {g : Ghosts O} (p : Plan) (q : ids.Plan) (calls opens : Li
       where
         as_many : length (map (end_at out inn) ends) ≡ length readers
         as_many = length-map ends (end_at out inn) ∙ (sym (length-map ends (λ (e : Ends O I P). inn e.inn)) ∙ (ap length (sym halves) ∙ length-map readers (λ (x : LinkReader g). x.behind)))
+
+    pub answered_gave : (ops : List Operation) (outcomes : List (Option Outcome)) (h : HaveAnswers (length readers) gave_beside ops outcomes) → (answered_beside ops outcomes h).gave ≡ gave_beside
+    unfolding answered_beside
+    answered_gave ops outcomes h = refl

@@ -44,7 +44,7 @@ same_map f h (x ∷ xs) a = λ i. a.0 i ∷ same_map f h xs a.1 i
 
 module _ (q : ids.Plan) (link : ℕ) (calls : List ℕ) (ending short : Bool) (s t : InState) where
   -- as a link whose socket isn't seen to
-  link_read : (id : ℕ) (v w : sock_view.View) (b b' : Books) → ReadToEnd q link calls ending short s t id v w b b' → ReadLink q link calls ending short s t b b'
+  abbrev pub link_read : (id : ℕ) (v w : sock_view.View) (b b' : Books) → ReadToEnd q link calls ending short s t id v w b b' → ReadLink q link calls ending short s t b b'
   link_read id v w b b' r = record { how = r.how; between = r.between; total = r.total; met = r.met; read = r.read; posted = r.posted; thrown = r.thrown; calm = r.calm }
 
   if_tally : (o : Option SocketId) (v w : sock_view.View) (b b' : Books) → ReadIf q link calls ending short s t o v w b b' → Tally b b'
@@ -60,7 +60,7 @@ module _ (q : ids.Plan) (link : ℕ) (calls : List ℕ) (ending short : Bool) (s
   if_calm (Some id) v w b b' r e fed = (r.calm e).0
 
   -- what it gave
-  abbrev if_bytes : (o : Option SocketId) (v w : sock_view.View) (b b' : Books) → ReadIf q link calls ending short s t o v w b b' → List ℕ
+  abbrev pub if_bytes : (o : Option SocketId) (v w : sock_view.View) (b b' : Books) → ReadIf q link calls ending short s t o v w b b' → List ℕ
   if_bytes None v w b b' r = []
   if_bytes (Some id) v w b b' r = read_bytes q link calls ending short s t b b' (link_read id.0 v w b b' r)
 
@@ -107,7 +107,7 @@ module _ {O : Type 0} {g : Ghosts O} (p : Plan) (q : ids.Plan) (calls : List ℕ
     reader_ends : AreEnds x.ids.me.0 x.books.told
     reader_ends = subst (λ (v : View Asked). AreEnds v x.books.told) (sym is.view_is) (reader_tally.ends tt)
 
-    abbrev reader_gave : List ℕ
+    abbrev pub reader_gave : List ℕ
     reader_gave = if_bytes q x.link calls false false x.before x.behind is.ran.id is.ran.noted x.seat.me.0 nothing_read x.books is.ran.read
 
     reader_gains : Gains x.before x.behind reader_gave
@@ -123,7 +123,7 @@ module _ {O : Type 0} {g : Ghosts O} (p : Plan) (q : ids.Plan) (calls : List ℕ
   abbrev pub AllRead : List (LinkReader g) → Type 0
   AllRead xs = AllByRecursion (λ (x : LinkReader g). IsReader p q calls x) xs
 
-  pub each_read : (link : ℕ) (os : List ℕ) (xs : List (LinkReader g)) → AreReaders p q calls link os xs → AllRead xs
+  abbrev pub each_read : (link : ℕ) (os : List ℕ) (xs : List (LinkReader g)) → AreReaders p q calls link os xs → AllRead xs
   each_read link [] [] a = tt
   each_read link (o ∷ os) (x ∷ xs) a = (a.0, each_read (link + 1) os xs a.3)
   each_read link [] (x ∷ xs) a = absurd a
@@ -135,7 +135,7 @@ module _ {O : Type 0} {g : Ghosts O} (p : Plan) (q : ids.Plan) (calls : List ℕ
   -- ## What they gave
 
   -- in their order
-  abbrev readers_gave : (xs : List (LinkReader g)) → AllRead xs → ℕ → List ℕ
+  abbrev pub readers_gave : (xs : List (LinkReader g)) → AllRead xs → ℕ → List ℕ
   readers_gave [] a k = []
   readers_gave (x ∷ xs) a zero = reader_gave x a.0
   readers_gave (x ∷ xs) a (suc k) = readers_gave xs a.1 k
@@ -159,6 +159,10 @@ module _ {O : Type 0} {g : Ghosts O} (p : Plan) (q : ids.Plan) (calls : List ℕ
       gives = λ k x e unread. (let s = readers_gain xs a k x e in (gains_tell x.before x.behind (readers_gave xs a k) s unread.1, (let c = s.count in let z = unread.0 in omega arith)));
       tells = all_then (λ (x : LinkReader g). Step q (length xs) (readers_gave xs a) nothing_read x.books) (λ (x : LinkReader g). TellsFrom q.slots (length xs) (readers_gave xs a) nothing_read x.books) xs (λ x s. s.tells tt) (readers_step (length xs) (readers_gave xs a) xs a (λ f h. h));
     }
+
+    pub told_gave : readers_told.gave ≡ readers_gave xs a
+    unfolding readers_told
+    told_gave = refl
 
     -- ## What their seats noted
 

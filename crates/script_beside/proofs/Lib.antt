@@ -5,3 +5,7 @@ pub mod Joined
 pub mod Left
 pub mod Placed
 pub mod Reports
+pub mod Early
+pub mod Linked
+pub mod Widened
+pub mod Sockets

@@ -1,2 +1,3 @@
 pub mod Told
+pub mod Sockets
 pub use Rattle.script_calls

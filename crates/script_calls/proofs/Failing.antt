@@ -70,7 +70,8 @@ use Rattle.script_calls.proofs.Placed.{are, may, have, few, low}
 use Rattle.script_calls.proofs.Sayings.{told_each, none_told}
 use Rattle.script_calls.proofs.Shown.{view_of, flat_mapped}
 use Rattle.script_calls.proofs.Sockets.{long, differ, run, sockets_told, sockets_are}
-use Rattle.script_calls.proofs.Telling.{split, only_one, IsEndTold, said, said_ended, begun_not, reports, whose}
+use Rattle.script_calls.proofs.Tellers.{split, only_one}
+use Rattle.script_calls.proofs.Telling.{IsEndTold, said, said_ended, begun_not, reports, whose}
 use Rattle.script_calls.proofs.Versions.{told_own, are_ids, calls_apart}
 
 -- ## Codes of a script

@@ -15,6 +15,8 @@ pub mod Each
 pub mod Placed
 pub mod Linked
 pub mod Retrying
+pub mod Tellers
+pub mod Laters
 pub mod Later
 pub mod Telling
 pub mod Sockets

@@ -55,12 +55,12 @@ abbrev no_ids : IdPlan
 no_ids = record { slots = 0; operations = 0; seats = 0 }
 
 -- no seat has anything to do, and there are no calls
-abbrev core_of : Plan → List ℕ → (ℕ → List ℕ) → List (Option Outcome) → Core
+abbrev pub core_of : Plan → List ℕ → (ℕ → List ℕ) → List (Option Outcome) → Core
 core_of p words took outcomes = record { words = words; homes = homes_of p took; seats = []; outcomes = outcomes; calls = opening_calls no_ids p.links }
 
 -- ## Place words
 
-words_map : (w : ℕ → ℕ) (n a : ℕ) (xs : List PlaceWord) → length xs ≡ n → ((i : ℕ) → i < n → (x : PlaceWord) × (get_elem? xs i ≡ some x) × (x.0 ≡ w (a + i))) → xs ≡ map (λ l. record { 0 = w l }) (from_to a n)
+pub words_map : (w : ℕ → ℕ) (n a : ℕ) (xs : List PlaceWord) → length xs ≡ n → ((i : ℕ) → i < n → (x : PlaceWord) × (get_elem? xs i ≡ some x) × (x.0 ≡ w (a + i))) → xs ≡ map (λ l. record { 0 = w l }) (from_to a n)
 words_map w zero a [] long each = refl
 words_map w zero a (x ∷ xs) long each = absurd (omega arith)
 words_map w (suc n) a [] long each = absurd (omega arith)
@@ -73,15 +73,15 @@ words_map w (suc n) a (x ∷ xs) long each =
 
 -- ## Links
 
-map_twice : {A B C : Type 0} (f : A → B) (h : B → C) (xs : List A) → map (λ x. h (f x)) xs ≡ map h (map f xs)
+pub map_twice : {A B C : Type 0} (f : A → B) (h : B → C) (xs : List A) → map (λ x. h (f x)) xs ≡ map h (map f xs)
 map_twice f h [] = refl
 map_twice f h (x ∷ xs) = ap (λ l. h (f x) ∷ l) (map_twice f h xs)
 
-if_told : (o : Option (List ℕ)) (a b : List ℕ) → ForSome o (λ bytes. bytes ≡ a) → a ≡ b → IfSome o (λ bytes. bytes ≡ b)
+pub if_told : (o : Option (List ℕ)) (a b : List ℕ) → ForSome o (λ bytes. bytes ≡ a) → a ≡ b → IfSome o (λ bytes. bytes ≡ b)
 if_told None a b h e = tt
 if_told (Some x) a b h e = h x refl ∙ e
 
-nothing_there : (x : ℕ) → Contains [] x → ⊥
+pub nothing_there : (x : ℕ) → Contains [] x → ⊥
 nothing_there x h = has_none x (has_from [] x h)
 
 -- ## The run
