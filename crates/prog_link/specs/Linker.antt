@@ -29,9 +29,9 @@ pub record ProgLinkerState : Type 0 where
 -- ## Kinds of links
 
 pub data Kind : Type 0 where
-  pub InMemory : Kind
-  pub OverRings : Kind
-  pub OverTcp : Kind
+  InMemory : Kind
+  OverRings : Kind
+  OverTcp : Kind
 
 abbrev pub kind_asked : Mode → Kind
 kind_asked mode.Loop = InMemory
