@@ -15,7 +15,6 @@ use Rattle.prog_link.specs.declared.prog_out.ProgOut.TheVariants as out
 use Rattle.prog_link.specs.declared.prog_in.ProgIn.{ProgIn}
 use Rattle.prog_link.specs.declared.prog_in.ProgIn.TheVariants as inn
 use Rattle.prog_link.specs.declared.prog_peer.ProgPeer.{ProgPeer}
-use Rattle.prog_link.specs.declared.prog_peer.ProgPeer.TheVariants as peer
 use Rattle.prog_link.specs.Halves.{prog_in, prog_out, prog_peer}
 
 -- what was asked of each link that was opened, how many connections were accepted, those given back, and the count of faults
