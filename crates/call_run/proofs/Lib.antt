@@ -10,3 +10,4 @@ pub mod Seating
 pub mod Parting
 pub mod Readings
 pub mod Together
+pub mod Bounds

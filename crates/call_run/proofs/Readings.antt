@@ -29,7 +29,7 @@ use Rattle.link_crew.specs.Serving.{ServedToEnd}
 use Rattle.link_crew.specs.declared.beside.Beside.{Beside}
 use Rattle.link_crew.specs.declared.beside.Rest.{Rest}
 use Rattle.call_run.specs.declared.links.LinksLeft.{LinksLeft}
-use Rattle.call_run.specs.Readers.{LinkReader, nothing_read, IsReader, AreReaders, AllServed}
+use Rattle.call_run.specs.Readers.{LinkReader, IsReader, AreReaders, AllServed}
 use Rattle.call_run.specs.Crew.{AreLeft}
 use Rattle.call_run.specs.Links.{IsSeated, AreSeated, rest_of, HaveWorked, AreParted, LinksRan}
 use Rattle.call_run.proofs.Whole.{twice}

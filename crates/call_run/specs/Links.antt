@@ -23,7 +23,6 @@ use Rattle.link_crew.specs.Beside.{HasWorked}
 use Rattle.link_crew.specs.declared.beside.Beside.{Beside}
 use Rattle.link_crew.specs.declared.beside.Rest.{Rest}
 use Rattle.call_run.specs.declared.leaving.Left.{Left}
-use Rattle.call_run.specs.declared.links.Links.{Links}
 use Rattle.call_run.specs.declared.links.LinksLeft.{LinksLeft}
 use Rattle.call_run.specs.declared.beside.RanBeside.{RanBeside}
 use Rattle.call_run.specs.declared.beside.Stage.{Stage}

@@ -1,7 +1,7 @@
 // The clients of a script with calls on threads, and beside them links that are served and read.
 ghost use Rattle.std.specs.Prelude.{◌≡◌, ◌+◌, ◌++◌, ◌<◌, ◌≤◌, ◌||◌, List, All, IfOk, IfErr, length, map, vec_capacity};
 ghost use Rattle.std.specs.Thread.{IsSync};
-ghost use Rattle.sock_open.specs.Opening.{MayBegin, AreFresh, IsRoom};
+ghost use Rattle.sock_open.specs.Opening.{MayBegin, AreFresh};
 ghost use Rattle.sock_table.specs.Closed.{IsRoomOf, ways_of};
 ghost use Rattle.corr_core.specs.Law.{total};
 ghost use Rattle.link_crew.specs.Beside.{IsReady};

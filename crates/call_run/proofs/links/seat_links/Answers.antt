@@ -1,4 +1,4 @@
-use Rattle.std.proofs.Common.{◌+◌, ◌++◌, ◌∷◌, [], ◌∙◌, ap, sym, subst, length, length-append, arith}
+use Rattle.std.proofs.Common.{◌+◌, ◌∙◌, sym, subst, arith}
 use Rattle.call_run.proofs.Seating.{AreSeating, one_seated}
 use Rattle.call_run.proofs.links.seat_links.Goals as goal
 
