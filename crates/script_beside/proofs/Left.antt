@@ -1,12 +1,9 @@
 -- What the clients of a script left, and the readers of its links, and the seat that took in all of theirs.
 use Rattle.std.proofs.Common.{◌≡◌, ℕ, List, ◌∷◌, ◌++◌, map, length, sym, ap, ◌∙◌, subst}
-use Rattle.std.specs.Prelude.{Option}
 use Rattle.std.specs.List.{flat_map}
-use Rattle.std.proofs.lemmas.List.{map-append}
 use Rattle.brpc_model.specs.Items.{Item}
 use Rattle.sock_io.specs.declared.link.Out.{Ghosts}
 use Rattle.sock_io.specs.Link.{OutState}
-use Rattle.sock_words.specs.declared.outcome.Outcome.{Outcome}
 use Rattle.sock_words.specs.declared.plain.Plan.{Plan}
 use Rattle.sock_words.specs.declared.place_word.PlaceWord.{PlaceWord}
 use Rattle.sock_words.specs.declared.vref.Vref.{Vref}
@@ -19,7 +16,6 @@ use Rattle.prpc_frame.specs.declared.frame.Frame.{Frame}
 use Rattle.call_run.specs.Readers.{LinkReader, AreReaders}
 use Rattle.call_run.specs.Threads.{ids_of, RanWith}
 use Rattle.script_calls.specs.Reading.{IdSeat}
-use Rattle.script_calls.specs.Told.{outcomes_of}
 use Rattle.script_beside.specs.Told.{seated_plan, seated_ids, HasEnded, IsLeftBeside}
 use Rattle.script_beside.proofs.Gathering.{flat_of}
 
@@ -56,10 +52,6 @@ ended_is script q cs all seats behind early kept last eq ec ea ek h =
     (subst (λ (l : List IdSeat). HasEnded (seated_ids script) (calls script) l early last) ea
     (subst (λ (l : List ℕ). HasEnded (seated_ids script) l all early last) ec
     (subst (λ (x : id_plan.Plan). HasEnded x cs all early last) eq h)))
-
--- what clients and readers told of calls that ended stands in one list
-pub outcomes_are : {V : Type 0} (f : V → List Told) (n : ℕ) (told : List (List Told)) (ended read both : List V) (last : List Told) (said : List (Option Outcome)) → both ≡ ended ++ read → said ≡ outcomes_of n told (map f both) last → said ≡ outcomes_of n told (map f ended ++ map f read) last
-outcomes_are f n told ended read both last said eb es = es ∙ ap (λ (l : List (List Told)). outcomes_of n told l last) (ap (map f) eb ∙ map-append f ended read)
 
 -- ## The one that took in all
 
