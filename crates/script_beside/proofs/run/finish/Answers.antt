@@ -1,11 +1,11 @@
-use Rattle.std.proofs.Common.{map, sym, ap, ◌∙◌, subst}
+use Rattle.std.proofs.Common.{map, sym, ◌∙◌, subst}
 use Rattle.std.proofs.lemmas.Result.{IfOk-weaker}
 use Rattle.sock_io.specs.Link.{end_of}
-use Rattle.brpc_model.specs.PlaceWords.{ArePlaces, HasEachOutcome}
-use Rattle.script_calls.specs.Told.{IsReported, outcomes_of}
+use Rattle.brpc_model.specs.PlaceWords.{ArePlaces}
 use Rattle.script_beside.proofs.Gathering.{flat_of}
-use Rattle.script_beside.proofs.Left.{ended_is, outcomes_are}
+use Rattle.script_beside.proofs.Left.{ended_is}
 use Rattle.script_beside.proofs.Placed.{left_places, left_each}
+use Rattle.script_beside.proofs.Saying.{outcomes_are, each_of, reported_of}
 use Rattle.script_beside.proofs.run.finish.Goals as goal
 
 pub report-requires-clause-places : goal.report-requires-clause-places
@@ -25,8 +25,7 @@ report-requires-clause-each g c =
     let said = outcomes_are (λ own. own.items) c.args.operations (map (λ own. own.items) l.told.items) l.ended.items l.read.items c.append-2.new.self.items c.in_ok-last.last.items c.in_ok-said.said.items c.in_ok-append-2.ensures.items c.in_ok-said.ensures in
     let each = left_each g.O.Out g.O.Out.state c.requires.script.0 c.args.script.now c.requires.script.1 (map (λ own. own.items) l.told.items) (map (λ own. own.items) l.ended.items) (map (λ own. own.items) l.read.items) (map (λ own. own.items) l.kept.items)
         l.places.items l.seats.items l.readers.items c.requires.ran c.in_ok-last.last.items rest in
-    subst (λ places. HasEachOutcome places c.deref.result.now) (sym c.deref-2.ensures.value)
-    (subst (HasEachOutcome l.places.items) (sym (c.deref.ensures.value ∙ (said ∙ ap (λ n. outcomes_of n _ _ c.in_ok-last.last.items) c.requires.plan.0))) each)
+    each_of c.deref-2.result.now l.places.items c.deref.result.now c.args.operations _ (map (λ own. own.items) l.told.items) _ c.in_ok-last.last.items c.deref-2.ensures.value (c.deref.ensures.value ∙ said) c.requires.plan.0 each
 
 pub returns : goal.returns
 returns g c =
@@ -37,6 +36,5 @@ returns g c =
     IfOk-weaker c.report.result _ _ (λ t q. (
       c.in_ok-last.last.items,
       rest,
-      subst (λ places. IsReported c.args.script.now t.items _ places (map (λ e. end_of (g.O.Out.state e.out) (g.I.In.state e.inn)) c.args.ends.now)) c.deref-2.ensures.value
-      (subst (λ outcomes. IsReported c.args.script.now t.items outcomes c.deref-2.result.now (map (λ e. end_of (g.O.Out.state e.out) (g.I.In.state e.inn)) c.args.ends.now)) (c.deref.ensures.value ∙ said) q),
+      reported_of c.args.script.now t.items c.deref.result.now _ c.deref-2.result.now l.places.items (map (λ e. end_of (g.O.Out.state e.out) (g.I.In.state e.inn)) c.args.ends.now) c.deref-2.ensures.value (c.deref.ensures.value ∙ said) q,
     )) c.report.ensures
