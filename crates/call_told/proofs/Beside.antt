@@ -30,6 +30,7 @@ use Rattle.call_deeds.specs.rpc_reader.specs.Books.{Books}
 use Rattle.call_deeds.specs.rpc_reader.specs.Resting.{RestEnded}
 use Rattle.call_deeds.specs.call_run.specs.Readers.{LinkReader, nothing_read, IsReader, AreReaders}
 use Rattle.call_deeds.specs.call_places.specs.Counted.{makes, HaveNotesOf}
+use Rattle.call_deeds.specs.call_places.proofs.Clients.{total_map}
 use Rattle.call_deeds.specs.call_places.proofs.Reader.{MadeNone, rest_none}
 use Rattle.call_deeds.specs.call_places.proofs.Weights.{flat_total}
 use Rattle.call_told.specs.Answers.{AreGiven, at_end, ToldFrom, TellsFrom, HaveAnswers, IsGiver, AreAnsweredBy}
@@ -45,7 +46,7 @@ use Rattle.call_told.proofs.Growing.{own_at}
 use Rattle.call_told.proofs.Balance.{AreBalanced, balanced_both}
 use Rattle.call_told.proofs.Once.{told_once}
 use Rattle.call_told.proofs.Least.{TellEnds, tell_both, AllEnded, told_least}
-use Rattle.call_told.proofs.Readers.{IsUnread, ReadBeside, AllRead, each_read, readers_told, readers_none, readers_made, readers_own, readers_balanced, readers_tell}
+use Rattle.call_told.proofs.Readers.{IsUnread, ReadBeside, AllRead, total_none, each_read, readers_told, readers_none, readers_made, readers_own, readers_balanced, readers_tell}
 
 -- ## Seats
 
@@ -69,14 +70,6 @@ flat_notes : {X : Type 0} (i : ℕ) (f : Note Asked → ℕ) (h : X → List (No
 flat_notes i f h [] = refl
 flat_notes i f h (x ∷ xs) =
     let a = ap (total f) (notes_append i (h x) (flat_map h xs)) in let b = total_append f (notes_of i (h x)) (notes_of i (flat_map h xs)) in let c = flat_notes i f h xs in omega arith
-
-total_mapped : {A B : Type 0} (f : A → B) (h : B → ℕ) (xs : List A) → total h (map f xs) ≡ total (λ (x : A). h (f x)) xs
-total_mapped f h [] = refl
-total_mapped f h (x ∷ xs) = let a = total_mapped f h xs in omega arith
-
-all_zero : {A : Type 0} (h : A → ℕ) (xs : List A) → AllByRecursion (λ (x : A). h x ≡ 0) xs → total h xs ≡ 0
-all_zero h [] a = refl
-all_zero h (x ∷ xs) a = let b = a.0 in let c = all_zero h xs a.1 in omega arith
 
 first_there : {A : Type 0} (xs ys : List A) (k : ℕ) (x : A) → get_elem? xs k ≡ some x → get_elem? (xs ++ ys) k ≡ some x
 first_there [] ys k x e = absurd (some-ne-none x (sym e))
@@ -161,14 +154,14 @@ module _ {O : Type 0} {g : Ghosts O} (p : Plan) (q : ids.Plan) (calls opens : Li
     pub have_beside : HaveNotesOf (map view_of clients) last.view.notes
     have_beside = record {
       all = λ i f. (
-          let a = total_mapped view_of (λ (v : View Asked). total f (notes_of i v.notes)) clients in
+          let a = total_map (λ (v : View Asked). total f (notes_of i v.notes)) view_of clients in
           let b = total_append (λ (s : IdSeat). total f (notes_of i s.me.0.notes)) clients seats_beside in
           let c = flat_notes i f (λ (s : IdSeat). s.me.0.notes) (clients ++ seats_beside) in
           let d = ap (λ (l : List (Noted Asked)). total f (notes_of i l)) notes in
           let e = (rest_none EEOF q calls main last rest).grows i f in omega arith
           );
       made = λ o. (
-          let a = total_mapped view_of (λ (v : View Asked). total (makes o) v.notes) clients in
+          let a = total_map (λ (v : View Asked). total (makes o) v.notes) view_of clients in
           let b = total_append (λ (s : IdSeat). total (makes o) s.me.0.notes) clients seats_beside in
           let c = flat_total (makes o) (λ (s : IdSeat). s.me.0.notes) (clients ++ seats_beside) in
           let d = ap (total (makes o)) notes in
@@ -178,9 +171,8 @@ module _ {O : Type 0} {g : Ghosts O} (p : Plan) (q : ids.Plan) (calls opens : Li
     }
       where
         none_made : (o : ℕ) → total (λ (s : IdSeat). total (makes o) s.me.0.notes) seats_beside ≡ 0
-        none_made o = all_zero (λ (s : IdSeat). total (makes o) s.me.0.notes) seats_beside
-            (all_mapped (λ (x : LinkReader g). x.ids) (λ (s : IdSeat). total (makes o) s.me.0.notes ≡ 0) readers
-            (all_then (λ (x : LinkReader g). MadeNone nothing_read.view x.ids.me.0) (λ (x : LinkReader g). total (makes o) x.ids.me.0.notes ≡ 0) readers (λ x m. m.made o) (readers_none p q calls readers read_all)))
+        none_made o = total_none (λ (x : LinkReader g). x.ids) (λ (s : IdSeat). total (makes o) s.me.0.notes) readers
+            (all_then (λ (x : LinkReader g). MadeNone nothing_read.view x.ids.me.0) (λ (x : LinkReader g). total (makes o) x.ids.me.0.notes ≡ 0) readers (λ x m. m.made o) (readers_none p q calls readers read_all))
 
     -- once the table of ids was closed
     module _ (early : main.early ≡ flat_map (λ (x : LinkReader g). x.books.early) readers) (none_told : main.told ≡ []) (words : List ℕ) (closing : Closing q last.view.notes last.view.kept words) where
