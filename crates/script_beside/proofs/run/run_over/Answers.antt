@@ -1,7 +1,6 @@
 use Rattle.std.proofs.Common.{◌≡◌, refl, map, length, ap, sym, subst, ◌∙◌, arith}
 use Rattle.std.proofs.lemmas.List.{length-map}
 use Rattle.call_run.specs.sock_open.specs.Opening.{AreFresh}
-use Rattle.seat_programs.specs.Tasks.{plan_of}
 use Rattle.sock_words.specs.declared.plain.Plan.{Plan}
 use Rattle.script_links.proofs.Numbering.{numbered_of}
 use Rattle.script_calls.specs.Halves.{rest_of}
@@ -69,7 +68,7 @@ finish-text-requires-clause-ran g c = (
     left_is g.L.O.Out g.L.O.Out.state c.args.script.now c.seated-plan.result c.in-Ok.ready.slots c.in-Ok.ready.setup.items (map (λ v. v.items) c.in-Ok.ready.clients.items) c.deref.result.now c.deref-2.result.now
     (map (λ v. v.items) r.ran.told.items) (map (λ v. v.items) r.ran.ended.items) (map (λ v. v.items) r.told.items) (map (λ v. v.items) r.early.items) r.ran.places.items r.ran.vrefs.items r.ran.outs.items r.ran.seats.items r.ids.items ran.0
     (seated.seated_is c.args.script.now c.in-Ok.ready.plan c.seated-plan.result c.len-count.result c.in-Ok.ensures.plan (c.len-count.ensures ∙ (c.args.ends.ok.0 ∙ c.requires.all)) c.seated-plan.ensures) c.in-Ok.ensures.slots (c.deref.ensures.value ∙ c.in-Ok.ensures.opens_are) (c.deref-2.ensures.value ∙ c.in-Ok.ensures.calls_are) c.in-Ok.ensures.tasks ran.1 ran.2 ran.3.ids_are ran.3.told_is ran.3.early_is
-)
+    )
 
 pub give_back-requires-in-Ok-run_beside-clause-numbered : goal.give_back-requires-in-Ok-run_beside-clause-numbered
 give_back-requires-in-Ok-run_beside-clause-numbered g c κs within = give_numbered g.L.O.Out.state g.L.I.In.state c.seated-plan.result _ _ c.join.new.back.items (closed_back g.L.O.Out.state c.seated-plan.result _ _ _ _ c.in-Ok-run_beside.ensures.ran.1.closed) c.join.ensures
@@ -89,7 +88,7 @@ returns-in-Ok-run_beside-clause-ran g c =
     left_is g.L.O.Out g.L.O.Out.state c.args.script.now c.seated-plan.result c.in-Ok.ready.slots c.in-Ok.ready.setup.items (map (λ v. v.items) c.in-Ok.ready.clients.items) c.deref.result.now c.deref-2.result.now
     (map (λ v. v.items) r.ran.told.items) (map (λ v. v.items) r.ran.ended.items) (map (λ v. v.items) r.told.items) (map (λ v. v.items) r.early.items) r.ran.places.items r.ran.vrefs.items r.ran.outs.items r.ran.seats.items r.ids.items ran.0
     (seated.seated_is c.args.script.now c.in-Ok.ready.plan c.seated-plan.result c.len-count.result c.in-Ok.ensures.plan (c.len-count.ensures ∙ (c.args.ends.ok.0 ∙ c.requires.all)) c.seated-plan.ensures) c.in-Ok.ensures.slots (c.deref.ensures.value ∙ c.in-Ok.ensures.opens_are) (c.deref-2.ensures.value ∙ c.in-Ok.ensures.calls_are) c.in-Ok.ensures.tasks ran.1 ran.2 ran.3.ids_are ran.3.told_is ran.3.early_is
-) in
+    ) in
     if_moved _ _ c.or_no_memory.result c.finish-text.result c.or_no_memory.ensures.ok c.finish-text.ensures (λ t q.
     run_is g.row.L-P.Denot g.L.O.Out g.L.O.Out.state g.L.I.In.state c.args.script.now t.items _ (map (λ v. v.items) r.ran.told.items) (map (λ v. v.items) r.ran.ended.items) (map (λ v. v.items) r.told.items) (map (λ v. v.items) r.early.items) r.ran.places.items r.ran.seats.items r.ids.items
     left c.join.new.back.items c.deref-in-Ok-run_beside-2.result.now q.0 c.seated-plan.result.operations (ap (λ (x : Plan). x.operations) (seated.seated_is c.args.script.now c.in-Ok.ready.plan c.seated-plan.result c.len-count.result c.in-Ok.ensures.plan (c.len-count.ensures ∙ (c.args.ends.ok.0 ∙ c.requires.all)) c.seated-plan.ensures)) c.deref-in-Ok-run_beside-2.ensures.value
