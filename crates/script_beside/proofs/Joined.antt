@@ -18,15 +18,15 @@ use Rattle.script_beside.specs.Told.{HadGivenNone}
 pub as_many : {A B C : Type 0} (f : A → B) (h : C → B) (xs : List A) (ys : List C) → map f xs ≡ map h ys → length xs ≡ length ys
 as_many f h xs ys e = sym (length-map xs f) ∙ (ap length e ∙ length-map ys h)
 
+abbrev GaveNone : InState → Type 0
+GaveNone s = (s.gave ≡ 0) × IfSome s.gave_bytes (λ bytes. bytes ≡ [])
+
 module _ {O I P : Type 0} (out : O → OutState) (inn : I → InState) where
   pub joined_inns : (outs : List O) (rests : List (Rest I P)) → length outs ≡ length rests → map (λ (e : Ends O I P). inn e.inn) (joined outs rests) ≡ map (λ (r : Rest I P). inn r.inn) rests
   joined_inns [] [] same = refl
   joined_inns [] (r ∷ rs) same = absurd (omega arith)
   joined_inns (o ∷ os) [] same = refl
   joined_inns (o ∷ os) (r ∷ rs) same = ap (λ l. inn r.inn ∷ l) (joined_inns os rs (omega arith))
-
-  abbrev GaveNone : InState → Type 0
-  GaveNone s = (s.gave ≡ 0) × IfSome s.gave_bytes (λ bytes. bytes ≡ [])
 
   -- readers of links that gave nothing before
   pub had_none : {g : Ghosts O} (ends : List (Ends O I P)) (rests : List (Rest I P)) (readers : List (LinkReader g)) → AreUntouched 0 (map (end_at out inn) ends) → rests ≡ map rest_of ends → map (λ (x : LinkReader g). x.before) readers ≡ map (λ (r : Rest I P). inn r.inn) rests → AllByRecursion HadGivenNone readers

@@ -7,6 +7,7 @@ use Rattle.sock_io.specs.Link.{OutState}
 use Rattle.sock_words.specs.declared.plain.Plan.{Plan}
 use Rattle.sock_words.specs.declared.place_word.PlaceWord.{PlaceWord}
 use Rattle.sock_words.specs.declared.vref.Vref.{Vref}
+use Rattle.corr_core.specs.declared.marks.Plan as id_plan
 use Rattle.seat_programs.specs.declared.task.Task.{Task}
 use Rattle.seat_programs.specs.Scripts.{all_tasks}
 use Rattle.seat_programs.specs.Tasks.{opens, calls}
@@ -16,7 +17,7 @@ use Rattle.call_run.specs.Readers.{LinkReader, AreReaders}
 use Rattle.call_run.specs.Threads.{ids_of, RanWith}
 use Rattle.script_calls.specs.Reading.{IdSeat}
 use Rattle.script_beside.specs.Told.{seated_plan, seated_ids, HasEnded, IsLeftBeside}
-use Rattle.script_beside.proofs.Ending.{flat_of}
+use Rattle.script_beside.proofs.Gathering.{flat_of}
 
 module _ {O : Type 0} (g : Ghosts O) (out : O → OutState) (script : List Item) where
   pub left_is : (p : Plan) (slots : ℕ) (setup : List Task) (clients : List (List Task)) (os cs : List ℕ) (told ended read : List (List Told)) (kept : List (List Frame)) (places : List PlaceWord) (vrefs : List Vref) (outs : List O) (ids behind : List IdSeat) (readers : List (LinkReader g))
@@ -42,6 +43,15 @@ module _ {O : Type 0} (g : Ghosts O) (out : O → OutState) (script : List Item)
     read_is = told_is;
     kept_is = kept_is;
   }
+
+-- what was left of calls was ended, with all seats and all that was kept
+pub ended_is : (script : List Item) (q : id_plan.Plan) (cs : List ℕ) (all seats behind : List IdSeat) (early : List Frame) (kept : List (List Frame)) (last : List Told) → q ≡ seated_ids script → cs ≡ calls script → all ≡ seats ++ behind → early ≡ flat_map (λ (fs : List Frame). fs) kept
+    → HasEnded q cs all early last → HasEnded (seated_ids script) (calls script) (seats ++ behind) (flat_map (λ (fs : List Frame). fs) kept) last
+ended_is script q cs all seats behind early kept last eq ec ea ek h =
+    subst (λ (l : List Frame). HasEnded (seated_ids script) (calls script) (seats ++ behind) l last) ek
+    (subst (λ (l : List IdSeat). HasEnded (seated_ids script) (calls script) l early last) ea
+    (subst (λ (l : List ℕ). HasEnded (seated_ids script) l all early last) ec
+    (subst (λ (x : id_plan.Plan). HasEnded x cs all early last) eq h)))
 
 -- ## The one that took in all
 
