@@ -71,10 +71,6 @@ module _ (q : id_plan.Plan) (link : ℕ) (calls : List ℕ) (s t : InState) wher
     pub shows_early : fails r.how ≡ true → ShowsEarly bytes t
     shows_early e = shows_by r.how r.read.ends r.thrown (r.calm refl).1 e
 
-  shows_if : (o : Option SocketId) (v w : View) (b b' : Books) (r : ReadIf q link calls false false s t o v w b b') → early_if q link calls false false s t o v w b b' r ≡ true → ShowsEarly (if_bytes q link calls false false s t o v w b b' r) t
-  shows_if None v w b b' r e = absurd (cc)
-  shows_if (Some id) v w b b' r e = shows_early id.0 v w b b' r e
-
 -- ## Readers
 
 named : (b : Bool) (l : ℕ) (rest : List ℕ) (i k : ℕ) → slice_get ((if b then l ∷ [] else []) ++ rest) i ≡ Some k → ((b ≡ true) × (l ≡ k)) ⊎ ((j : ℕ) × (slice_get rest j ≡ Some k))
@@ -82,9 +78,14 @@ named true l rest zero k e = inl (refl, same_Some l k e)
 named true l rest (suc i) k e = inr (i, e)
 named false l rest i k e = inr (i, e)
 
+module _ {O : Type 0} (g : Ghosts O) (state : O → OutState) (p : Plan) (q : id_plan.Plan) (calls : List ℕ) where
+  shows_if : (link operation : ℕ) (s t : InState) (o : Option SocketId) (v w : View) (b b' : Books) (r : ReadIf q link calls false false s t o v w b b') → early_if g state p operation q link calls false false s t o v w b b' r ≡ true → ShowsEarly (if_bytes q link calls false false s t o v w b b' r) t
+  shows_if link operation s t None v w b b' r e = absurd (cc)
+  shows_if link operation s t (Some id) v w b b' r e = shows_early q link calls s t id.0 v w b b' r e
+
 module _ {O : Type 0} {g : Ghosts O} (state : O → OutState) (p : Plan) (q : id_plan.Plan) (calls : List ℕ) where
   reader_shows : (x : LinkReader g) (is : IsReader p q calls x) → read_early state p q calls x is ≡ true → ShowsEarly (reader_gave p q calls x is) x.behind
-  reader_shows x is e = shows_if q x.link calls x.before x.behind is.ran.id is.ran.noted x.seat.me.0 nothing_read x.books is.ran.read e
+  reader_shows x is e = shows_if g state p q calls x.link x.operation x.before x.behind is.ran.id is.ran.noted x.seat.me.0 nothing_read x.books is.ran.read e
 
   -- link k is one of theirs, and shows it
   pub record HasShown (xs : List (LinkReader g)) (gave : ℕ → List ℕ) (link k : ℕ) : Type 0 where
@@ -96,11 +97,10 @@ module _ {O : Type 0} {g : Ghosts O} (state : O → OutState) (p : Plan) (q : id
 
   shown_at : (link : ℕ) (os : List ℕ) (xs : List (LinkReader g)) (a : AreReaders p q calls link os xs) (i k : ℕ) → slice_get (early_links state p q calls link os xs a) i ≡ Some k → HasShown xs (readers_gave p q calls xs (each_read p q calls link os xs a)) link k
   shown_at link [] [] a i k e = absurd (cc)
-  shown_at link (o ∷ os) (x ∷ xs) a i k e = by (named (read_early state p q calls x a.0) x.link (early_links state p q calls (link + 1) os xs a.3) i k e)
-    where
-      by : ((read_early state p q calls x a.0 ≡ true) × (x.link ≡ k)) ⊎ ((j : ℕ) × (slice_get (early_links state p q calls (link + 1) os xs a.3) j ≡ Some k)) → HasShown (x ∷ xs) (readers_gave p q calls (x ∷ xs) (each_read p q calls link (o ∷ os) (x ∷ xs) a)) link k
-      by (inl h) = record { place = 0; link_is = (let b = h.1 in let c = a.1 in omega arith); reader = x; at = refl; shows = reader_shows x a.0 h.0 }
-      by (inr h) = let r = shown_at (link + 1) os xs a.3 h.0 k h.1 in let l = r.link_is in record { place = suc r.place; link_is = omega arith; reader = r.reader; at = r.at; shows = r.shows }
+  shown_at link (o ∷ os) (x ∷ xs) a i k e = elim (named (read_early state p q calls x a.0) x.link (early_links state p q calls (link + 1) os xs a.3) i k e) [
+    | inl h ↦ record { place = 0; link_is = (let b = h.1 in let c = a.1 in omega arith); reader = x; at = refl; shows = reader_shows x a.0 h.0 }
+    | inr h ↦ (let r = shown_at (link + 1) os xs a.3 h.0 k h.1 in let l = r.link_is in record { place = suc r.place; link_is = omega arith; reader = r.reader; at = r.at; shows = r.shows })
+  ]
   shown_at link [] (x ∷ xs) a i k e = absurd a
   shown_at link (o ∷ os) [] a i k e = absurd a
 

@@ -37,8 +37,8 @@ next_opening false number link op os xs is later k o e = let r = later k o e in 
 opening_at : (number link : ℕ) (ops : List Operation) (k o : ℕ) → get_elem? (opens_from number link ops) k ≡ some o → IsOpening (numbered_from number link ops) link k o
 opening_at number link [] k o e = absurd (some-ne-none o (sym e))
 opening_at number link (op ∷ ops) k o e =
-    let then : ℕ = if is_open op.item then link + 1 else link in
-    next_opening (is_open op.item) number link op (opens_from (number + 1) then ops) (numbered_from (number + 1) then ops) refl (opening_at (number + 1) then ops) k o e
+    let next : ℕ = if is_open op.item then link + 1 else link in
+    next_opening (is_open op.item) number link op (opens_from (number + 1) next ops) (numbered_from (number + 1) next ops) refl (opening_at (number + 1) next ops) k o e
 
 -- ## What they ask for
 

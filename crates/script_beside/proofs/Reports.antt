@@ -19,7 +19,7 @@ use Rattle.script_calls.specs.call_whys.specs.call_told.specs.Answers.{IsFailure
 use Rattle.script_calls.specs.call_whys.specs.call_told.specs.Once.{ToldOnce}
 use Rattle.script_calls.specs.call_whys.specs.call_told.proofs.Answering.{IsAskedIn, AllHave}
 use Rattle.script_calls.specs.call_whys.specs.call_told.proofs.Balance.{AreBalanced}
-use Rattle.script_calls.specs.call_whys.specs.call_told.proofs.Beside.{gave_beside, readers_have, rest_has, once_beside, answered_beside}
+use Rattle.script_calls.specs.call_whys.specs.call_told.proofs.Beside.{gave_beside, readers_have, rest_has, once_beside, answered_beside, answered_gave}
 use Rattle.script_calls.specs.call_whys.specs.call_told.proofs.Lists.{all_both}
 use Rattle.script_calls.specs.call_whys.specs.call_told.proofs.Making.{AllMade}
 use Rattle.script_calls.specs.call_whys.specs.call_told.proofs.Shown.{shown_once}
@@ -32,7 +32,9 @@ use Rattle.script_calls.proofs.Reports.{long_replicate}
 use Rattle.script_calls.proofs.Sayings.{long_each}
 use Rattle.script_calls.proofs.Shown.{view_of, outcomes_few}
 use Rattle.script_beside.specs.Told.{seated_plan, seated_ids, begins_with, IsBesideRun, IsBesideText}
+use Rattle.script_beside.specs.Sockets.{AreSocketsBeside}
 use Rattle.script_beside.proofs.Left.{early_of, notes_of, kept_of}
+use Rattle.script_beside.proofs.Sockets.{answered_sockets}
 
 module _ (P : Type 0) {O I : Type 0} (out : O → OutState) (inn : I → InState) (g : Ghosts O) (script : List Item) (text : List ℕ) (links : List LinkEnd) (r : IsBesideRun P g out inn script text links) where
   abbrev p : Plan
@@ -84,9 +86,11 @@ module _ (P : Type 0) {O I : Type 0} (out : O → OutState) (inn : I → InState
       by_readers = subst (AllByRecursion (AllHave (length readers) gave (operations script))) r.left.read_is
           (readers_have p q (calls script) (opens script) readers r.left.readers_are r.ids main r.rest.last (notes_of r.left r.rest) r.rest.rest (early_of r.left) refl r.rest.words r.rest.closing (operations script) made_told)
 
-  answered : AreAnsweredBy (operations script) outcomes links
-  answered = subst (AreAnsweredBy (operations script) outcomes) (sym r.given_back)
+  -- its answers, by what the links gave, and with them why each operation on sockets has its outcome
+  told_of : (bytes : List ℕ) → script_of bytes ≡ Ok script → (a : AreAnsweredBy (operations script) outcomes links) × AreSocketsBeside script outcomes r.places a.gave links
+  told_of bytes reads = answered_sockets P g out inn bytes script reads text links r
       (answered_beside p q (calls script) (opens script) readers r.left.readers_are {I = I} {P = P} out inn r.ends r.halves_read r.unread (operations script) outcomes have_answers)
+      (answered_gave p q (calls script) (opens script) readers r.left.readers_are {I = I} {P = P} out inn r.ends r.halves_read r.unread (operations script) outcomes have_answers)
 
   told_once : ToldOnce q.slots (tellers ++ r.last ∷ [])
   told_once = subst (λ (t : List Told). ToldOnce q.slots (tellers ++ t ∷ [])) (sym r.rest.told_is)
@@ -94,16 +98,17 @@ module _ (P : Type 0) {O I : Type 0} (out : O → OutState) (inn : I → InState
       (once_beside p q (calls script) (opens script) readers r.left.readers_are r.ids main r.rest.last (notes_of r.left r.rest) r.rest.rest (early_of r.left) refl r.rest.words r.rest.closing r.ended (kept_of r.left r.rest) r.rest.calm balanced_told))
 
   -- it has the outcomes and place words of its report
-  pub text_of : IsBesideText script text links
-  text_of = record {
+  pub text_of : (bytes : List ℕ) → script_of bytes ≡ Ok script → IsBesideText script text links
+  text_of bytes reads = let both = told_of bytes reads in record {
     outcomes = outcomes;
     places = r.places;
     one_each = long_each (replicate (plan_of script).operations None) ((r.told ++ tellers) ++ r.last ∷ []) ∙ long_replicate (plan_of script).operations None;
     reported = r.reported;
-    answered = answered;
+    answered = both.0;
+    sockets = both.1;
     once = shown_once q.slots outcomes r.told (tellers ++ r.last ∷ []) (outcomes_few (plan_of script).operations r.told tellers r.last) own_told told_once;
   }
 
-pub text_if : (P : Type 0) {O I : Type 0} (out : O → OutState) (inn : I → InState) (g : Ghosts O) (script : List Item) (links : List LinkEnd) {T E : Type 0} (items : T → List ℕ) (r : Result T E) → IfOk r (λ t. IsBesideRun P g out inn script (items t) links) → IfOk r (λ t. IsBesideText script (items t) links)
-text_if P out inn g script links items (Ok t) h = text_of P out inn g script (items t) links h
-text_if P out inn g script links items (Err e) h = tt
+pub text_if : (P : Type 0) {O I : Type 0} (out : O → OutState) (inn : I → InState) (g : Ghosts O) (bytes : List ℕ) (script : List Item) → script_of bytes ≡ Ok script → (links : List LinkEnd) {T E : Type 0} (items : T → List ℕ) (r : Result T E) → IfOk r (λ t. IsBesideRun P g out inn script (items t) links) → IfOk r (λ t. IsBesideText script (items t) links)
+text_if P out inn g bytes script reads links items (Ok t) h = text_of P out inn g script (items t) links h bytes reads
+text_if P out inn g bytes script reads links items (Err e) h = tt

@@ -18,6 +18,7 @@ use Rattle.brpc_model.specs.Operations.{operations}
 use Rattle.brpc_model.specs.Script.{script_of}
 use Rattle.corr_core.specs.declared.marks.Plan as id_plan
 use Rattle.corr_core.specs.declared.marks.View.{View}
+use Rattle.sock_message.specs.Asked.{Asked}
 use Rattle.seat_programs.specs.sock_model.specs.Layout.{place_index}
 use Rattle.seat_programs.specs.declared.task.Task.{Task}
 use Rattle.seat_programs.specs.Cores.{Core}
@@ -92,7 +93,7 @@ module _ (P : Type 0) {O I : Type 0} (g : Ghosts O) (out : O → OutState) (inn 
   abbrev main : Books
   main = begins_with (flat_map (λ (fs : List Frame). fs) r.kept) r.rest.main
 
-  abbrev last : View
+  abbrev last : View Asked
   last = r.rest.last.view
 
   abbrev outcomes : List (Option Outcome)

@@ -27,6 +27,7 @@ use Rattle.script_calls.specs.call_whys.specs.call_told.specs.Answers.{AreAnswer
 use Rattle.script_calls.specs.call_whys.specs.call_told.specs.Once.{ShownOnce}
 use Rattle.script_calls.specs.Reading.{IdSeat, TookAll}
 use Rattle.script_calls.specs.Told.{outcomes_of, IsReported}
+use Rattle.script_beside.specs.Sockets.{AreSocketsBeside}
 
 -- the sizes of the tables: a seat for each client and the setup, and one for the reader of each link
 abbrev pub seated_plan : List Item → Plan
@@ -100,5 +101,7 @@ pub record IsBesideText (script : List Item) (text : List ℕ) (ends : List Link
   pub reported : IsReported script text outcomes places ends
   -- each answer among them is that of a call, and a whole response to it that one of these links gave
   pub answered : AreAnsweredBy (operations script) outcomes ends
+  -- each operation on sockets has its cause; and the links took what the clients sent
+  pub sockets : AreSocketsBeside script outcomes places answered.gave ends
   -- no two operations have the end of one call as their outcome, of those whose ids are in the slots that the calls of the script have
   pub once : ShownOnce (length (calls script)) outcomes

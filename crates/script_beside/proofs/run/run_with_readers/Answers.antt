@@ -30,7 +30,7 @@ give_back-requires-clause-few g c κs within =
     let few = few_links c.requires.script.0 c.args.script.now c.lines.result.now c.requires.script.1 c.lines.ensures in omega (arith, most, few)
 
 pub returns-in-Ok-clause-text : goal.returns-in-Ok-clause-text
-returns-in-Ok-clause-text g c = text_if g.row.L-P.Denot g.L.O.Out.state g.L.I.In.state g.L.O.Out c.args.script.now _ (λ text. text.items) c.run_over.result c.run_over.ensures.ran
+returns-in-Ok-clause-text g c = text_if g.row.L-P.Denot g.L.O.Out.state g.L.I.In.state g.L.O.Out c.requires.script.0 c.args.script.now c.requires.script.1 _ (λ text. text.items) c.run_over.result c.run_over.ensures.ran
 
 pub returns-in-Ok-clause-all : goal.returns-in-Ok-clause-all
 returns-in-Ok-clause-all g c = on_ok c.run_over.result _ (c.run_over.ensures.back ∙ (c.in-Ok.ensures.whole ∙ links_of c.args.script.now c.lines.result.now c.lines.ensures))
