@@ -1,5 +1,6 @@
 -- The place words that a run with calls leaves tell an order of each link.
 use Rattle.std.proofs.Common.{◌≡◌, ℕ, zero, suc, ◌+◌, ◌*◌, ◌/◌, ◌%◌, ◌<◌, ◌≤◌, ◌⊎◌, inl, inr, ⊎_elim, Bool, true, false, eqb, List, [], ◌∷◌, ◌++◌, length, map, flat_map, slice_get, slice_index, unwrap_or, option_map, Option, Some, None, refl, sym, ap, ◌∙◌, subst, arith}
+use Rattle.std.specs.List.{AllByRecursion}
 use Rattle.std.proofs.lemmas.List.{append-nil}
 use Rattle.std.proofs.lemmas.Option.{slice_get_past}
 use mathlib.Core.Logic.{dite}
@@ -42,7 +43,8 @@ use Rattle.corr_id.specs.Closing.{Closing}
 use Rattle.sock_deeds.specs.rpc_client.specs.declared.acting.Told.{Told}
 use Rattle.call_run.specs.call_client.specs.Acting.{Stand, Acted}
 use Rattle.call_run.specs.call_client.specs.Running.{MayMakeAll}
-use Rattle.call_run.specs.Threads.{Thread, AreThreads, RanOn, AllMayRun, MayRunAll, ids_of, opens_of, opened_names, openings}
+use Rattle.call_run.specs.Readers.{LinkReader}
+use Rattle.call_run.specs.Threads.{Thread, AreThreads, RanWith, AllMayRun, MayRunAll, ids_of, opens_of, opened_names, openings}
 use Rattle.sock_deeds.proofs.Entries.{before, from_pick, from_on, on_there}
 use Rattle.sock_deeds.proofs.Flats.{flat_there}
 use Rattle.call_places.specs.Counted.{HaveNotesOf}
@@ -67,6 +69,32 @@ got : {A : Type 0} (xs : List A) (i : ℕ) (x : A) → get_elem? xs i ≡ some x
 got [] i x e = absurd (some-ne-none x (sym e))
 got (y ∷ ys) zero x e = ap Some (some-injective y x e)
 got (y ∷ ys) (suc i) x e = got ys i x e
+
+-- ## Behind the readers
+
+module _ {O : Type 0} {g : Ghosts O} where
+  -- readers have nothing but a list of their own, which is empty
+  silent_lists : (rs : List (LinkReader g)) (seats : List (Seat (SockHome O g) sock_view.View)) → AllByRecursion (λ (x : LinkReader g). x.seat.me.0.lists ≡ [] ∷ []) rs
+      → flat_map (λ (s : Seat (SockHome O g) sock_view.View). s.me.0.lists) (map (λ (x : LinkReader g). x.seat) rs ++ seats) ≡ map (λ (x : LinkReader g). []) rs ++ flat_map (λ (s : Seat (SockHome O g) sock_view.View). s.me.0.lists) seats
+  silent_lists [] seats a = refl
+  silent_lists (r ∷ rs) seats a =
+      let rest : List (List Entry) = flat_map (λ (s : Seat (SockHome O g) sock_view.View). s.me.0.lists) (map (λ (x : LinkReader g). x.seat) rs ++ seats) in
+      ap (λ l. l ++ rest) a.0 ∙ ap (λ (l : List (List Entry)). [] ∷ l) (silent_lists rs seats a.1)
+
+module _ {X : Type 0} where
+  none_listed : (f : List Entry → ℕ) (rs : List X) (ls : List (List Entry)) → f [] ≡ 0 → total f (map (λ (x : X). []) rs ++ ls) ≡ total f ls
+  none_listed f [] ls e = refl
+  none_listed f (r ∷ rs) ls e = let a = none_listed f rs ls e in omega arith
+
+  -- a list that has an entry isn't one of theirs
+  own_behind : (rs : List X) (ls : List (List Entry)) (k : ℕ) (l : List Entry) (m : ℕ) (e : Entry) → get_elem? (map (λ (x : X). []) rs ++ ls) k ≡ some l → get_elem? l m ≡ some e → (j : ℕ) × (get_elem? ls j ≡ some l)
+  own_behind [] ls k l m e at there = (k, at)
+  own_behind (r ∷ rs) ls zero l m e at there = absurd (some-ne-none e (sym there ∙ ap (λ (x : List Entry). get_elem? x m) (sym (some-injective [] l at))))
+  own_behind (r ∷ rs) ls (suc k) l m e at there = own_behind rs ls k l m e at there
+
+  behind_own : (rs : List X) (ls : List (List Entry)) (j : ℕ) → (k : ℕ) × (get_elem? (map (λ (x : X). []) rs ++ ls) k ≡ get_elem? ls j)
+  behind_own [] ls j = (j, refl)
+  behind_own (r ∷ rs) ls j = let n = behind_own rs ls j in (suc n.0, n.1)
 
 -- the entry of a send that was accepted
 send_entry : {O : Type 0} {g : Ghosts O} (state : O → OutState) (p : Plan) (q : id_plan.Plan) (number n : ℕ) (bytes : List ℕ) (op : Op) → op ≡ ops.Send n bytes → (by : Option Outcome) → by ≡ None → (s t : Stand g) (a : Acted state p q number op by s t)
@@ -106,8 +134,8 @@ may_at p q [] a j ts e = absurd (some-ne-none ts (sym e))
 may_at p q (us ∷ tss) a zero ts e = subst (λ (x : List Task). (n : ℕ) × MayMakeAll p q x n) (some-injective us ts e) (opens_of us, a.0.may)
 may_at p q (us ∷ tss) a (suc j) ts e = may_at p q tss a.1 j ts e
 
-module _ {O : Type 0} {g : Ghosts O} {state : O → OutState} {p : Plan} {slots : ℕ} {setup : List Task} {clients : List (List Task)} {opens : List ℕ} {told ended : List (List Told)} {places : List PlaceWord} {vrefs : List Vref} {outs : List O} {ids : List (View Asked)}
-    (run : RanOn g state p slots setup clients opens told ended places vrefs outs ids) where
+module _ {O : Type 0} {g : Ghosts O} {state : O → OutState} {readers : List (LinkReader g)} {p : Plan} {slots : ℕ} {setup : List Task} {clients : List (List Task)} {opens : List ℕ} {told ended : List (List Told)} {places : List PlaceWord} {vrefs : List Vref} {outs : List O} {ids : List (View Asked)}
+    (run : RanWith g state readers p slots setup clients opens told ended places vrefs outs ids) where
   -- the setup's client and all others
   abbrev pub all : List (Client g state p (ids_of p slots))
   all = record { thread = run.ran.main; first = 0; is = run.ran.main_is } ∷ clients_from state p (ids_of p slots) (opened_names run.ran.main.ended.outcomes.items (openings setup)) (opens_of setup) run.ran.others run.ran.others_are
@@ -121,16 +149,16 @@ module _ {O : Type 0} {g : Ghosts O} {state : O → OutState} {p : Plan} {slots 
   pub tasks_are : map tasks_of all ≡ setup ∷ clients
   tasks_are = all_are (λ (x : Thread g). x.tasks) ∙ (ap (λ (t : List Task). t ∷ map (λ (x : Thread g). x.tasks) run.ran.others) run.ran.setup_asked ∙ ap (λ l. setup ∷ l) run.ran.asked)
 
-  -- one list for each client, its own: the seat that is left took in those of all, and ended the sockets without a list more
-  pub lists_are : run.closed.view.lists ≡ map own_of all
+  -- one list for each client, its own, behind one for each reader, which is empty: the seat that is left took in those of all clients, and ended the sockets without a list more
+  pub lists_are : run.closed.view.lists ≡ map (λ (x : LinkReader g). []) readers ++ map own_of all
   lists_are =
       let f : Seat (SockHome O g) sock_view.View → List (List Entry) = λ s. s.me.0.lists in
       let rest : List (List Entry) = flat_map f (map (λ (x : Thread g). x.ended.seat) run.ran.others) in
       let end = run.ran.ending in
       let last : end.last.me.0.lists ≡ f run.ran.main.ended.seat ++ rest = each_ended_lists p opens end.joined end.last.me.0 end.failed ∙ end.took_in.lists in
       let mains : f run.ran.main.ended.seat ≡ own_entries run.ran.main run.ran.main_is ∷ [] = own_list run.ran.main run.ran.main_is in
-      run.closed.lists ∙ (ap (flat_map f) (sym end.alone) ∙ (append-nil (f end.last) ∙ (last
-      ∙ (ap (λ l. l ++ rest) mains ∙ ap (λ l. own_entries run.ran.main run.ran.main_is ∷ l) (others_lists state p (ids_of p slots) (opened_names run.ran.main.ended.outcomes.items (openings setup)) (opens_of setup) run.ran.others run.ran.others_are)))))
+      run.closed.lists ∙ (silent_lists readers run.seats run.silent ∙ ap (λ (l : List (List Entry)). map (λ (x : LinkReader g). []) readers ++ l) (ap (flat_map f) (sym end.alone) ∙ (append-nil (f end.last) ∙ (last
+      ∙ (ap (λ l. l ++ rest) mains ∙ ap (λ l. own_entries run.ran.main run.ran.main_is ∷ l) (others_lists state p (ids_of p slots) (opened_names run.ran.main.ended.outcomes.items (openings setup)) (opens_of setup) run.ran.others run.ran.others_are))))))
 
   module _ (tasks : AreTasks p (setup ∷ clients)) (may : MayRunAll p (ids_of p slots) setup clients) (notes : List (Noted Asked)) (laws : IdLaws slots notes) (have : HaveNotesOf ids notes) where
     may_make : (j : ℕ) (c : Client g state p (ids_of p slots)) → get_elem? all j ≡ some c → (n : ℕ) × MayMakeAll p (ids_of p slots) (tasks_of c) n
@@ -149,7 +177,7 @@ module _ {O : Type 0} {g : Ghosts O} {state : O → OutState} {p : Plan} {slots 
 
     once_listed : (l : ℕ) → total (λ (es : List Entry). total (at_place l) es) run.closed.view.lists ≤ 1
     once_listed l =
-        let a = ap (total (λ (es : List Entry). total (at_place l) es)) lists_are in let b = total_map (λ (es : List Entry). total (at_place l) es) own_of all in
+        let a = ap (total (λ (es : List Entry). total (at_place l) es)) lists_are in let n = none_listed (λ (es : List Entry). total (at_place l) es) readers (map own_of all) refl in let b = total_map (λ (es : List Entry). total (at_place l) es) own_of all in
         let d = once all notes laws have_all may_make numbers l in omega arith
 
     -- no two messages have one place index
@@ -160,11 +188,12 @@ module _ {O : Type 0} {g : Ghosts O} {state : O → OutState} {p : Plan} {slots 
     low_place : (k : ℕ) (e : Entry) → get_elem? accepted k ≡ some e → e.heading.place < 8 * p.operations
     low_place k e at =
         let w = log.authored p run.closed.view.found run.closed.view.lists run.closed.ordered k e at in
-        let c = map_from own_of all w.seat _ (ap (λ l. get_elem? l w.seat) (sym lists_are) ∙ w.list) in
         let m : ℕ = before w.author run.closed.ordered.by k in
+        let own = own_behind readers (map own_of all) w.seat _ m e (ap (λ l. get_elem? l w.seat) (sym lists_are) ∙ w.list) w.place in
+        let c = map_from own_of all own.0 _ own.1 in
         let here = term (at_place e.heading.place) (own_of c.0) m e (ap (λ l. get_elem? l m) c.2 ∙ w.place) in
         let one = only-at e.heading.place e.heading.place refl in
-        inside all notes laws have_all may_make numbers e.heading.place w.seat c.0 c.1 (omega arith)
+        inside all notes laws have_all may_make numbers e.heading.place own.0 c.0 c.1 (omega arith)
 
     low_on : (k i : ℕ) (e : Entry) → get_elem? (on k accepted) i ≡ some e → e.heading.place < 8 * p.operations
     low_on k i e at = let w = from_on k accepted i e at in low_place w.0 e w.1
@@ -262,13 +291,14 @@ module _ {O : Type 0} {g : Ghosts O} {state : O → OutState} {p : Plan} {slots 
       send_placed j c at t n bytes is m untold =
           let e = send_entry state p (ids_of p slots) t.number n bytes t.op is m.by untold m.before m.after m.acted in
           let own = flat_there entries_of (deeds_of c) m.place _ 0 e.0 m.there e.1 in
-          let list = map_from (λ a. pick a run.closed.ordered.by accepted) run.closed.ordered.names j (own_of c) (ap (λ l. get_elem? l j) (sym run.closed.ordered.lists_are ∙ lists_are) ∙ mapped own_of all j c at) in
+          let seat = behind_own readers (map own_of all) j in
+          let list = map_from (λ a. pick a run.closed.ordered.by accepted) run.closed.ordered.names seat.0 (own_of c) (ap (λ l. get_elem? l seat.0) (sym run.closed.ordered.lists_are ∙ lists_are) ∙ (seat.1 ∙ mapped own_of all j c at)) in
           let q = from_pick list.0 run.closed.ordered.by accepted own.0 e.0 (ap (λ l. get_elem? l own.0) list.2 ∙ own.1) in
           let i = on_there e.0.link accepted q.0 e.0 q.2 refl in
           (tells (8 * t.number) e.0.link i.0 (record { inside = e.3; entry = e.0; at = i.1; place = omega (arith, e.2) })).1.has_position
 
 -- of a run behind which the table of ids was closed, over notes that have those of the clients' seats and no made id besides
-pub closed_places : {O : Type 0} {g : Ghosts O} {state : O → OutState} {p : Plan} {slots : ℕ} {setup : List Task} {clients : List (List Task)} {opens : List ℕ} {told ended : List (List Told)} {places : List PlaceWord} {vrefs : List Vref} {outs : List O} {ids : List (View Asked)}
-    → RanOn g state p slots setup clients opens told ended places vrefs outs ids → AreTasks p (setup ∷ clients) → MayRunAll p (ids_of p slots) setup clients → p.links ≤ 65536 → p.operations ≤ 65536
+pub closed_places : {O : Type 0} {g : Ghosts O} {state : O → OutState} {readers : List (LinkReader g)} {p : Plan} {slots : ℕ} {setup : List Task} {clients : List (List Task)} {opens : List ℕ} {told ended : List (List Told)} {places : List PlaceWord} {vrefs : List Vref} {outs : List O} {ids : List (View Asked)}
+    → RanWith g state readers p slots setup clients opens told ended places vrefs outs ids → AreTasks p (setup ∷ clients) → MayRunAll p (ids_of p slots) setup clients → p.links ≤ 65536 → p.operations ≤ 65536
     → (notes : List (Noted Asked)) (kept : List Kept) (words : List ℕ) → Closing (ids_of p slots) notes kept words → HaveNotesOf ids notes → ArePlaces places
 closed_places {p = p} {slots = slots} run tasks may few low notes kept words closing have = are_places run tasks may notes (laws_of (ids_of p slots) notes kept words closing) have few low

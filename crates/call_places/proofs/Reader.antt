@@ -30,7 +30,8 @@ use Rattle.call_run.specs.rpc_reader.specs.Met.{slot_in, is_asked, is_for, MetIf
 use Rattle.call_run.specs.rpc_reader.specs.Posting.{LostBy, LockLost, PostedTo, PostedIf, PostedAt, PostedAll, call_at, attempt_at}
 use Rattle.call_run.specs.rpc_reader.specs.Reading.{code_of}
 use Rattle.call_run.specs.rpc_reader.specs.Linked.{ReadServed, ReadLinks}
-use Rattle.call_run.specs.rpc_reader.specs.Resting.{HadEnded, EndedLast}
+use Rattle.call_run.specs.rpc_reader.specs.Resting.{HadEnded, EndedLast, OneEnded, RestEnded}
+use Rattle.call_run.specs.rpc_reader.specs.Running.{ReadLink}
 use Rattle.call_places.specs.Counted.{makes}
 use Rattle.call_places.proofs.Weights.{quiet_all, did_all, became_all}
 use Rattle.call_places.proofs.Still.{makes_silent, NoneMade}
@@ -121,12 +122,24 @@ module _ (code : ℕ) where
   none_rested slots id b b' (inl h) = none_quiet b.view b'.view h.quiet
   none_rested slots id b b' (inr l) = none_then b.view l.locked b'.view (none_got (slot_of id) b.view l.locked l.found l.word l.call l.got) (none_lost (slot_of id) l.word l.call (record b { view = l.locked }) b' l.lost)
 
+  one_none : (p : Plan) (operation : ℕ) (b b' : Books) → OneEnded p code operation b b' → MadeNone b.view b'.view
+  one_none p operation b b' (inl n) = none_noted b.view b'.view (ap (λ (v : View Asked). v.notes) n.view)
+  one_none p operation b b' (inr n) = none_then b.view n.seen b'.view (none_noted b.view n.seen (ap (λ (v : View Asked). v.notes) n.kept)) (none_rested p.slots n.id (record b { view = n.seen }) b' n.ends)
+
+  pub rest_none : (p : Plan) (os : List ℕ) (b b' : Books) → RestEnded p code os b b' → MadeNone b.view b'.view
+  rest_none p [] b b' h = none_same b b' h
+  rest_none p (o ∷ os) b b' h = none_then b.view h.0.view b'.view (one_none p o b h.0 h.1) (rest_none p os h.0 b' h.2)
+
 -- ## Links
+
+-- a link was read to its end
+pub link_none : (q : Plan) (link : ℕ) (calls : List ℕ) (ending short : Bool) (s t : InState) (b b' : Books) → ReadLink q link calls ending short s t b b' → MadeNone b.view b'.view
+link_none q link calls ending short s t b b' r = let m = r.met in let met = r.read.met in
+    none_then b.view m.view b'.view (none_frames q.slots met.frames b m met.met) (none_posted (code_of r.how) q link calls m b' r.posted)
 
 module _ {O I P : Type 0} (out : O → OutState) (inn : I → InState) (q : Plan) (calls : List ℕ) where
   none_served : (link : ℕ) (e e' : Ends O I P) (b b' : Books) → ReadServed out inn q calls link e e' b b' → MadeNone b.view b'.view
-  none_served link e e' b b' r = let m = r.read.met in let met = r.read.read.met in
-      none_then b.view m.view b'.view (none_frames q.slots met.frames b m met.met) (none_posted (code_of r.read.how) q link calls m b' r.read.posted)
+  none_served link e e' b b' r = link_none q link calls true false r.served (inn e'.inn) b b' r.read
 
   pub read_none : (link : ℕ) (es es' : List (Ends O I P)) (b b' : Books) → ReadLinks out inn q calls link es es' b b' → MadeNone b.view b'.view
   read_none link [] [] b b' r = none_same b b' r

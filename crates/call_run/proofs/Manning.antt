@@ -1,7 +1,7 @@
 -- Main's client and the others get what the new tables have.
-use Rattle.std.proofs.Common.{◌≡◌, ℕ, ◌-◌, ◌<◌, ◌≤◌, List, [], ◌∷◌, ◌++◌, length, reverse, map, take, drop, length-append, refl, sym, ap, ◌∙◌, subst, arith}
+use Rattle.std.proofs.Common.{◌≡◌, ℕ, ◌+◌, ◌-◌, ◌<◌, ◌≤◌, List, [], ◌∷◌, ◌++◌, length, reverse, map, take, drop, length-append, refl, sym, ap, ◌∙◌, subst, arith}
 use Rattle.std.specs.Prelude.{All, Option}
-use Rattle.std.proofs.lemmas.List.{length-reverse, length-map}
+use Rattle.std.proofs.lemmas.List.{length-reverse}
 use Rattle.std.proofs.Math.Seq.{take-append_seam}
 use Rattle.atomic_table.specs.Seated.{TableId}
 use Rattle.atomic_table.specs.declared.shared.Seat.{Seat}
@@ -11,7 +11,7 @@ use Rattle.sock_model.specs.declared.view.View.{View}
 use Rattle.sock_rule.specs.declared.homes.SockHome.{SockHome}
 use Rattle.sock_table.specs.declared.passes.LinkPass.{LinkPass}
 use Rattle.sock_table.specs.Passes.{IsPass}
-use Rattle.sock_open.specs.Made.{IsNewSeat, AreNewSeats, AreMade}
+use Rattle.sock_open.specs.Made.{IsNewSeat, AreNewSeats, PassesFrom}
 use Rattle.corr_core.specs.declared.marks.Plan as id_plan
 use Rattle.corr_core.specs.declared.marks.View as id_view
 use Rattle.corr_id.specs.Opening.{AreNew}
@@ -31,8 +31,8 @@ module _ {O : Type 0} {g : Ghosts O} where
   opens_each [] = refl
   opens_each (r ∷ rs) = omega (arith, opens_each rs)
 
-  pub enough : (p : Plan) (q : id_plan.Plan) (z : TableId) (setup : List Task) (rooms : List (Room O g)) (dealt : List (Seat (SockHome O g) View)) (passes back : List (LinkPass O g)) → AreMade z p dealt passes → MayRunAll p q setup (map (λ (r : Room O g). r.tasks.items) rooms) → back ≡ reverse passes → opens_of setup ≤ length back
-  enough p q z setup rooms dealt passes back made may is = let a = ap length is ∙ length-reverse passes in let b = made.links in let d = may.links in omega arith
+  pub enough : (p : Plan) (q : id_plan.Plan) (setup : List Task) (rooms : List (Room O g)) (passes back : List (LinkPass O g)) → length passes ≡ p.links → MayRunAll p q setup (map (λ (r : Room O g). r.tasks.items) rooms) → back ≡ reverse passes → opens_of setup ≤ length back
+  enough p q setup rooms passes back made may is = let a = ap length is ∙ length-reverse passes in let b = made in let d = may.links in omega arith
 
   -- what main's client has, and the others may have
   pub record Shared (z : TableId) (p : Plan) (y : TableId) (setup : List Task) (rooms : List (Room O g)) (left : List (Seat (SockHome O g) View)) (s : Seat (SockHome O g) View) (fewer_ids : List (Seat (Option Asked) (id_view.View Asked))) (i : Seat (Option Asked) (id_view.View Asked)) (fewer own : List (LinkPass O g)) : Type 0 where
@@ -44,15 +44,15 @@ module _ {O : Type 0} {g : Ghosts O} where
     pub next : p.links - length fewer ≡ opens_of setup
 
   pub share : (z : TableId) (p : Plan) (y : TableId) (q : id_plan.Plan) (setup : List Task) (rooms : List (Room O g)) (dealt left : List (Seat (SockHome O g) View)) (s : Seat (SockHome O g) View) (ids fewer_ids : List (Seat (Option Asked) (id_view.View Asked))) (i : Seat (Option Asked) (id_view.View Asked)) (passes back fewer own : List (LinkPass O g))
-      → AreMade z p dealt passes → AreNew y ids → length ids ≡ p.seats → MayRunAll p q setup (map (λ (r : Room O g). r.tasks.items) rooms) → All HasRoom rooms → dealt ≡ left ++ s ∷ [] → ids ≡ fewer_ids ++ i ∷ [] → back ≡ reverse passes → All (IsPass z p) back → back ≡ fewer ++ own → length own ≡ opens_of setup
+      → AreNewSeats z p dealt → AreNew y ids → (length dealt ≡ length rooms + 1) × (length ids ≡ length rooms + 1) → PassesFrom z p 0 passes → length passes ≡ p.links → MayRunAll p q setup (map (λ (r : Room O g). r.tasks.items) rooms) → All HasRoom rooms → dealt ≡ left ++ s ∷ [] → ids ≡ fewer_ids ++ i ∷ [] → back ≡ reverse passes → All (IsPass z p) back → back ≡ fewer ++ own → length own ≡ opens_of setup
       → Shared z p y setup rooms left s fewer_ids i fewer own
-  share z p y q setup rooms dealt left s ids fewer_ids i passes back fewer own made new many may has se ie is ok parts count =
-      let down = down_split 0 fewer own (subst (LinksDown 0) parts (subst (LinksDown 0) (sym is) (down_of z p 0 passes made.passes_are))) in
+  share z p y q setup rooms dealt left s ids fewer_ids i passes back fewer own news new many from made may has se ie is ok parts count =
+      let down = down_split 0 fewer own (subst (LinksDown 0) parts (subst (LinksDown 0) (sym is) (down_of z p 0 passes from))) in
       let oks = all_split (IsPass z p) fewer own (subst (All (IsPass z p)) parts ok) in
-      let ss = seats_last z p left s (subst (AreNewSeats z p) se made.seats_are) in
+      let ss = seats_last z p left s (subst (AreNewSeats z p) se news) in
       let ii = ids_last y fewer_ids i (subst (AreNew y) ie new) in
-      let a = ap length is ∙ length-reverse passes in let b = ap length parts ∙ length-append fewer own in let d = made.links in let l = may.links in let o = opens_each rooms in
-      let m = ap length se ∙ length-append left (s ∷ []) in let im = ap length ie ∙ length-append fewer_ids (i ∷ []) in let n = made.count in let r = may.seats in let t = length-map rooms (λ (r : Room O g). r.tasks.items) in let k = count in let j = many in record {
+      let a = ap length is ∙ length-reverse passes in let b = ap length parts ∙ length-append fewer own in let d = made in let l = may.links in let o = opens_each rooms in
+      let m = ap length se ∙ length-append left (s ∷ []) in let im = ap length ie ∙ length-append fewer_ids (i ∷ []) in let k = count in let n = many.0 in let j = many.1 in record {
         others = record {
           rooms_are = has;
           seats_are = ss.0;

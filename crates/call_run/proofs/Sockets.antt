@@ -30,11 +30,11 @@ module _ {S : Type 0} (z : TableId) (p : Plan) where
       rest = record { unclaimed = idle.between.unclaimed; uncoding = idle.between.uncoding; no_zero = idle.between.no_zero; no_passes = idle.between.no_passes };
     }
 
-  -- one seat that took in all seats of the table, and went on, stands for them alone
-  pub left_alone : (seats behind : List (Seat S View)) (s t : Seat S View) → IsLeft z p seats → s.me.0.share ≡ total (λ (x : Seat S View). x.me.0.share) seats → IsDoneSeat z p t → t.me.0.share ≡ s.me.0.share → behind ≡ t ∷ [] → IsLeft z p behind
-  left_alone seats behind s t l took done went is = record {
+  -- one seat that took in these, and went on, stands for them alone
+  pub left_alone : (seats behind : List (Seat S View)) (s t : Seat S View) → s.me.0.share ≡ total (λ (x : Seat S View). x.me.0.share) seats → IsDoneSeat z p t → t.me.0.share ≡ s.me.0.share → behind ≡ t ∷ [] → IsLeft z p (total (λ (x : Seat S View). x.me.0.share) seats) behind
+  left_alone seats behind s t took done went is = record {
     done = subst (AllDone z p) (sym is) (done, tt);
-    all = ap (total (λ (x : Seat S View). x.me.0.share)) is ∙ omega (arith, l.all, took, went);
+    all = ap (total (λ (x : Seat S View). x.me.0.share)) is ∙ omega (arith, took, went);
   }
 
 -- one more socket was ended

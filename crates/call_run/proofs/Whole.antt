@@ -1,11 +1,11 @@
 -- A run over two tables, from those that are to run to what is left.
-use Rattle.std.proofs.Common.{◌≡◌, ℕ, zero, suc, ◌<◌, Bool, false, ◌||◌, List, [], ◌∷◌, ◌++◌, map, length, get_or, refl, sym, ap, ◌∙◌, subst, arith}
+use Rattle.std.proofs.Common.{◌≡◌, ℕ, zero, suc, ◌+◌, ◌<◌, Bool, false, ◌||◌, List, [], ◌∷◌, ◌++◌, map, length, get_or, refl, sym, ap, ◌∙◌, subst, arith}
 use Rattle.std.specs.Prelude.{Option, IfOk, Vec}
 use Rattle.std.specs.declared.alloc.Global.{Global}
 use Rattle.std.specs.declared.result.Result.{Result}
 use Rattle.std.specs.declared.result.Result.TheVariants.{Ok, Err}
 use Rattle.std.proofs.lemmas.List.{length-map}
-use Rattle.std.specs.List.{list_any}
+use Rattle.std.specs.List.{list_any, AllByRecursion}
 use mathlib.Core.Option.{some}
 use lib.ListN.{get_elem?}
 use Rattle.atomic_table.specs.Seated.{TableId}
@@ -29,9 +29,10 @@ use Rattle.call_run.specs.declared.leaving.Left.{Left}
 use Rattle.call_run.specs.declared.running.Crew.{Crew}
 use Rattle.call_run.specs.declared.running.Ran.{Ran}
 use Rattle.call_run.specs.Ending.{EndedBehind}
-use Rattle.call_run.specs.Threads.{opens_of, openings, opened_names, ids_of, AreThreads, AllRan, RanOn}
+use Rattle.call_run.specs.Readers.{LinkReader}
+use Rattle.call_run.specs.Threads.{opens_of, openings, opened_names, ids_of, AreThreads, AllRan, RanWith, RanOn}
 use Rattle.call_run.specs.Working.{HasWorked}
-use Rattle.call_run.specs.Crew.{HandedIn, IsLeft, AreLeft, IsCrew, CrewRan, AreBack}
+use Rattle.call_run.specs.Crew.{HandedIn, IsLeft, AreLeft, IsCrew, CrewRan, HasEnded, AreBack}
 use Rattle.call_run.proofs.Weaving.{none_short, thread_of, one_thread, one_share, one_id, Woven, weave}
 
 abbrev pub made_by : {O : Type 0} {g : Ghosts O} → List (Worker O g) → List (List Task)
@@ -41,7 +42,7 @@ made_by {O} {g} workers = map (λ (w : Worker O g). w.tasks.items) workers
 one_and : {A B : Type 0} (f : A → B) (s0 s1 s2 : List B) (x : B) (whole xs : List A) → s0 ≡ [] → s1 ≡ s0 ++ x ∷ [] → s2 ≡ s1 ++ map f whole → whole ≡ xs → s2 ≡ x ∷ map f xs
 one_and f s0 s1 s2 x whole xs e0 e1 e2 w = e2 ∙ (ap (λ l. l ++ map f whole) (e1 ∙ ap (λ l. l ++ x ∷ []) e0) ∙ ap (λ l. x ∷ map f l) w)
 
-twice : {A B C : Type 0} (f : A → B) (h : B → C) (xs : List A) → map h (map f xs) ≡ map (λ x. h (f x)) xs
+pub twice : {A B C : Type 0} (f : A → B) (h : B → C) (xs : List A) → map h (map f xs) ≡ map (λ x. h (f x)) xs
 twice f h [] = refl
 twice f h (x ∷ xs) = ap (λ l. h (f x) ∷ l) (twice f h xs)
 
@@ -70,19 +71,20 @@ module _ {O : Type 0} {g : Ghosts O} (state : O → OutState) (z : TableId) (p :
   short : l2.short ≡ ((m.short || false) || list_any (λ (w : Worker O g). w.short) ys)
   short = all.short ∙ (λ i. ((one.short ∙ ap (λ (b : Bool). b || (m.short || false)) is.left.calm) i || ap (list_any (λ (w : Worker O g). w.short)) lent i))
 
-  -- these are all seats of the table of sockets
-  pub all_left : IsLeft z p l2.seats.items
+  -- these are the seats of the table of sockets that they had
+  pub all_left : IsLeft z p (length (made_by c.workers.items) + 1) l2.seats.items
   all_left = record {
     done = subst (AllDone z p) (sym seats) (h.done, woven.done);
-    all = ap (total (λ (s : Seat (SockHome O g) View). s.me.0.share)) seats ∙ omega (arith, one_share z p y q state [] 0 0 c.main m h is.main_hired, woven.share, is.may.seats, length-map c.workers.items (λ (w : Worker O g). w.tasks.items));
+    all = ap (total (λ (s : Seat (SockHome O g) View). s.me.0.share)) seats ∙ omega (arith, one_share z p y q state [] 0 0 c.main m h is.main_hired, woven.share, length-map c.workers.items (λ (w : Worker O g). w.tasks.items));
   }
 
   -- main's client and the others ran, and the sockets were ended with what all of them had noted
-  pub crew_ran : (opens : List ℕ) (last : Vec (Seat (SockHome O g) View) Global) → IsLeft z p last.items → EndedBehind p opens l2.seats.items last.items → CrewRan state z p y q c.main.tasks.items (made_by c.workers.items) opens (record l2 { seats = last })
+  pub crew_ran : (opens : List ℕ) (last : Vec (Seat (SockHome O g) View) Global) → IsLeft z p (total (λ (s : Seat (SockHome O g) View). s.me.0.share) l2.seats.items) last.items → EndedBehind p opens l2.seats.items last.items → CrewRan state z p y q c.main.tasks.items (made_by c.workers.items) opens (record l2 { seats = last })
   crew_ran opens last left behind = record {
-    left = left;
+    left = subst (λ n. IsLeft z p n last.items) all_left.all left;
+    alone = ap length (sym behind.alone);
     ids = subst (AreLeft y) (sym ids) (main_id.0.0, woven.left);
-    all_ids = ap (id_total (λ (s : Seat (Option Asked) (id_view.View Asked)). s.me.0.share)) ids ∙ omega (arith, main_id.1, woven.id_share, is.may.seats, is.as_many, length-map c.workers.items (λ (w : Worker O g). w.tasks.items));
+    all_ids = ap (id_total (λ (s : Seat (Option Asked) (id_view.View Asked)). s.me.0.share)) ids ∙ omega (arith, main_id.1, woven.id_share, length-map c.workers.items (λ (w : Worker O g). w.tasks.items));
     ran = λ calm. let b = none_short (m.short || false) (list_any (λ (w : Worker O g). w.short) ys) (sym short ∙ calm) in let b0 = none_short m.short false b.0 in record {
       main = thread_of z p y q state [] c.main m h;
       others = woven.threads;
@@ -98,25 +100,47 @@ module _ {O : Type 0} {g : Ghosts O} (state : O → OutState) (z : TableId) (p :
     };
   }
 
--- behind them the table of sockets was closed
-pub run_ended : {O E : Type 0} {g : Ghosts O} (state : O → OutState) (z : TableId) (p plan : Plan) (y : TableId) (q : id_plan.Plan) (slots : ℕ) (s t setup : List Task) (cs ds clients : List (List Task)) (opens : List ℕ) (l : Left O g) (table : IdTable Asked) (result : Result (Ran O) E)
-    → p ≡ plan → q ≡ ids_of plan slots → s ≡ t → t ≡ setup → cs ≡ ds → ds ≡ clients → CrewRan state z p y q s cs opens l
-    → IfOk result (λ r. (l.short ≡ false) × (r.told ≡ l.told) × (r.ended ≡ l.ended) × (r.ids ≡ table) × (r.seats ≡ l.ids) × ClosedBy state p l.seats.items r.places.items r.vrefs.items r.outs.items)
-    → IfOk result (λ r. RanOn g state plan slots setup clients opens (map (λ v. v.items) r.told.items) (map (λ v. v.items) r.ended.items) r.places.items r.vrefs.items r.outs.items (map (λ (x : Seat (Option Asked) (id_view.View Asked)). x.me.0) r.seats.items))
-run_ended state z p plan y q slots s t setup cs ds clients opens l table (Err x) pe qe se te ce de ran e = tt
-run_ended {O} {E} {g} state z p plan y q slots s t setup cs ds clients opens l table (Ok r) pe qe se te ce de ran e = record {
+-- behind them and these readers the table of sockets was closed
+pub ran_with : {O : Type 0} {g : Ghosts O} (state : O → OutState) (readers : List (LinkReader g)) (z : TableId) (p plan : Plan) (y : TableId) (q : id_plan.Plan) (slots : ℕ) (s setup : List Task) (cs clients : List (List Task)) (opens : List ℕ) (l : Left O g) (table : IdTable Asked) (r : Ran O)
+    → p ≡ plan → q ≡ ids_of plan slots → s ≡ setup → cs ≡ clients → CrewRan state z p y q s cs opens l → HasEnded state p (map (λ (x : LinkReader g). x.seat) readers ++ l.seats.items) l table r → AllByRecursion (λ (x : LinkReader g). x.seat.me.0.lists ≡ [] ∷ []) readers
+    → RanWith g state readers plan slots setup clients opens (map (λ v. v.items) r.told.items) (map (λ v. v.items) r.ended.items) r.places.items r.vrefs.items r.outs.items (map (λ (x : Seat (Option Asked) (id_view.View Asked)). x.me.0) r.seats.items)
+ran_with {O} {g} state readers z p plan y q slots s setup cs clients opens l table r pe qe se ce ran e silent = record {
   seats = l.seats.items;
   ran =
       let ids = map (λ (x : Seat (Option Asked) (id_view.View Asked)). x.me.0) l.ids.items in let told = map (λ v. v.items) l.told.items in let ended = map (λ v. v.items) l.ended.items in
-      subst (λ v. AllRan g state plan (ids_of plan slots) setup clients opens (map (λ w. w.items) r.told.items) (map (λ w. w.items) r.ended.items) l.seats.items (map (λ (x : Seat (Option Asked) (id_view.View Asked)). x.me.0) v.items)) (sym e.4)
-      (subst (λ v. AllRan g state plan (ids_of plan slots) setup clients opens (map (λ w. w.items) r.told.items) (map (λ w. w.items) v.items) l.seats.items ids) (sym e.2)
-      (subst (λ v. AllRan g state plan (ids_of plan slots) setup clients opens (map (λ w. w.items) v.items) ended l.seats.items ids) (sym e.1)
-      (subst (λ v. AllRan g state plan (ids_of plan slots) setup v opens told ended l.seats.items ids) (ce ∙ de)
-      (subst (λ v. AllRan g state plan (ids_of plan slots) v cs opens told ended l.seats.items ids) (se ∙ te)
+      subst (λ v. AllRan g state plan (ids_of plan slots) setup clients opens (map (λ w. w.items) r.told.items) (map (λ w. w.items) r.ended.items) l.seats.items (map (λ (x : Seat (Option Asked) (id_view.View Asked)). x.me.0) v.items)) (sym e.seats_are)
+      (subst (λ v. AllRan g state plan (ids_of plan slots) setup clients opens (map (λ w. w.items) r.told.items) (map (λ w. w.items) v.items) l.seats.items ids) (sym e.ended)
+      (subst (λ v. AllRan g state plan (ids_of plan slots) setup clients opens (map (λ w. w.items) v.items) ended l.seats.items ids) (sym e.told)
+      (subst (λ v. AllRan g state plan (ids_of plan slots) setup v opens told ended l.seats.items ids) ce
+      (subst (λ v. AllRan g state plan (ids_of plan slots) v cs opens told ended l.seats.items ids) se
       (subst (λ v. AllRan g state plan v s cs opens told ended l.seats.items ids) qe
-      (subst (λ v. AllRan g state v q s cs opens told ended l.seats.items ids) pe (ran.ran e.0)))))));
-  closed = subst (λ v. ClosedBy state v l.seats.items r.places.items r.vrefs.items r.outs.items) pe e.5;
+      (subst (λ v. AllRan g state v q s cs opens told ended l.seats.items ids) pe (ran.ran e.calm)))))));
+  closed = subst (λ v. ClosedBy state v (map (λ (x : LinkReader g). x.seat) readers ++ l.seats.items) r.places.items r.vrefs.items r.outs.items) pe e.closed;
+  silent = silent;
 }
+
+-- behind the clients alone
+pub run_ended : {O E : Type 0} {g : Ghosts O} (state : O → OutState) (z : TableId) (p plan : Plan) (y : TableId) (q : id_plan.Plan) (slots : ℕ) (s setup : List Task) (cs clients : List (List Task)) (opens : List ℕ) (l : Left O g) (table : IdTable Asked) (result : Result (Ran O) E)
+    → p ≡ plan → q ≡ ids_of plan slots → s ≡ setup → cs ≡ clients → CrewRan state z p y q s cs opens l → IfOk result (HasEnded state p l.seats.items l table)
+    → IfOk result (λ r. RanOn g state plan slots setup clients opens (map (λ v. v.items) r.told.items) (map (λ v. v.items) r.ended.items) r.places.items r.vrefs.items r.outs.items (map (λ (x : Seat (Option Asked) (id_view.View Asked)). x.me.0) r.seats.items))
+run_ended state z p plan y q slots s setup cs clients opens l table (Err x) pe qe se ce ran e = tt
+run_ended state z p plan y q slots s setup cs clients opens l table (Ok r) pe qe se ce ran e = ran_with state [] z p plan y q slots s setup cs clients opens l table r pe qe se ce ran e tt
+
+-- ## The seats
+
+pub as_long : {A B C : Type 0} (f : A → C) (h : B → C) (xs : List A) (ys : List B) → map f xs ≡ map h ys → length xs ≡ length ys
+as_long f h xs ys e = sym (length-map xs f) ∙ (ap length e ∙ length-map ys h)
+
+-- the seats of the ids are those of the table
+pub ids_left : {O E : Type 0} {g : Ghosts O} (state : O → OutState) (p : Plan) (q : id_plan.Plan) (l : Left O g) (table : IdTable Asked) (result : Result (Ran O) E)
+    → table.plan ≡ q → AreLeft table.table.shared.table_id l.ids.items → id_total (λ (s : Seat (Option Asked) (id_view.View Asked)). s.me.0.share) l.ids.items ≡ q.seats → IfOk result (HasEnded state p l.seats.items l table)
+    → IfOk result (λ r. (r.ids.plan ≡ q) × AreLeft r.ids.table.shared.table_id r.seats.items × (id_total (λ (s : Seat (Option Asked) (id_view.View Asked)). s.me.0.share) r.seats.items ≡ r.ids.plan.seats))
+ids_left state p q l table (Err x) is left all e = tt
+ids_left state p q l table (Ok r) is left all e = let same = ap (λ t. t.plan) e.ids ∙ is in (
+  same,
+  subst (λ t. AreLeft t.table.shared.table_id r.seats.items) (sym e.ids) (subst (λ v. AreLeft table.table.shared.table_id v.items) (sym e.seats_are) left),
+  ap (λ v. id_total (λ (s : Seat (Option Asked) (id_view.View Asked)). s.me.0.share) v.items) e.seats_are ∙ (all ∙ sym (ap (λ x. x.seats) same)),
+)
 
 -- ## What comes back
 

@@ -10,11 +10,13 @@ use Rattle.sock_io.specs.Link.{OutState}
 use Rattle.sock_words.specs.declared.plain.Plan.{Plan}
 use Rattle.sock_model.specs.declared.view.View as sock_view
 use Rattle.sock_model.specs.Weights.{total as sock_total}
-use Rattle.sock_table.specs.Closed.{AllDone}
+use Rattle.sock_rule.specs.declared.homes.SockHome.{SockHome}
+use Rattle.sock_table.specs.Closed.{AllDone, ClosedBy}
 use Rattle.sock_open.specs.Opening.{IsRoom}
 use Rattle.corr_core.specs.Law.{Each, total}
 use Rattle.corr_core.specs.declared.marks.Plan as id_plan
 use Rattle.corr_core.specs.declared.marks.View as id_view
+use Rattle.corr_id.specs.declared.table.IdTable.{IdTable}
 use Rattle.sock_message.specs.Asked.{Asked}
 use Rattle.seat_programs.specs.declared.task.Task.{Task}
 use Rattle.rpc_reader.specs.Seats.{IsOpen}
@@ -23,6 +25,7 @@ use Rattle.call_run.specs.declared.worker.Worker.{Worker}
 use Rattle.call_run.specs.declared.leaving.Left.{Left}
 use Rattle.call_run.specs.declared.running.Cast.{Cast}
 use Rattle.call_run.specs.declared.running.Crew.{Crew}
+use Rattle.call_run.specs.declared.running.Ran.{Ran}
 use Rattle.call_run.specs.Threads.{opens_of, openings, MayRunAll, AllRan}
 use Rattle.call_run.specs.Hired.{HasRoom, IsHired, AreHired}
 
@@ -52,10 +55,10 @@ pub record HandedIn {O : Type 0} {g : Ghosts O} (ws : List (Worker O g)) (l m : 
   pub short : m.short ≡ (l.short || list_any (λ (w : Worker O g). w.short) ws)
   pub room : (vec_capacity m.seats ≡ vec_capacity l.seats) × (vec_capacity m.ids ≡ vec_capacity l.ids) × (vec_capacity m.told ≡ vec_capacity l.told) × (vec_capacity m.ended ≡ vec_capacity l.ended)
 
--- these are all seats of the table of sockets, and none has anything
-pub record IsLeft {S : Type 0} (z : TableId) (p : Plan) (seats : List (Seat S sock_view.View)) : Type 0 where
+-- these are n seats of the table of sockets, or stand for as many, and none has anything
+pub record IsLeft {S : Type 0} (z : TableId) (p : Plan) (n : ℕ) (seats : List (Seat S sock_view.View)) : Type 0 where
   pub done : AllDone z p seats
-  pub all : sock_total (λ (s : Seat S sock_view.View). s.me.0.share) seats ≡ p.seats
+  pub all : sock_total (λ (s : Seat S sock_view.View). s.me.0.share) seats ≡ n
 
 -- each seat is one of this table, stands for some, and has no lock and no slot: the table may be closed with them
 abbrev pub AreLeft : {C : Type 0} → TableId → List (Seat (Option C) (id_view.View C)) → Type 0
@@ -82,18 +85,27 @@ pub record IsCrew {O : Type 0} {g : Ghosts O} (z : TableId) (p : Plan) (y : Tabl
   pub hired : AreHired z p y 1 (opens_of setup) c.workers.items
   pub tasks : map (λ (w : Worker O g). w.tasks.items) c.workers.items ≡ clients
   pub may : MayRunAll p q setup clients
-  pub as_many : q.seats ≡ p.seats
   pub openings_are : c.openings.items ≡ openings setup
   pub names : IsRoom (length (openings setup)) c.names
   pub left : IsRoomFor (length clients + 1) c.left
   pub last : IsRoom 1 c.last
 
--- all operations were made and all sockets ended, unless memory was wanting; all seats are left
+-- all operations were made and all sockets ended, unless memory was wanting; what is left stands for a seat of each table for each client and the setup, in one seat of that of sockets
 pub record CrewRan {O : Type 0} {g : Ghosts O} (state : O → OutState) (z : TableId) (p : Plan) (y : TableId) (q : id_plan.Plan) (setup : List Task) (clients : List (List Task)) (opens : List ℕ) (l : Left O g) : Type 0 where
-  pub left : IsLeft z p l.seats.items
+  pub left : IsLeft z p (length clients + 1) l.seats.items
+  pub alone : length l.seats.items ≡ 1
   pub ids : AreLeft y l.ids.items
-  pub all_ids : total (λ (s : Seat (Option Asked) (id_view.View Asked)). s.me.0.share) l.ids.items ≡ q.seats
+  pub all_ids : total (λ (s : Seat (Option Asked) (id_view.View Asked)). s.me.0.share) l.ids.items ≡ length clients + 1
   pub ran : l.short ≡ false → AllRan g state p q setup clients opens (map (λ v. v.items) l.told.items) (map (λ v. v.items) l.ended.items) l.seats.items (map (λ (s : Seat (Option Asked) (id_view.View Asked)). s.me.0) l.ids.items)
+
+-- memory was wanting for none of those that leave this, and the table of sockets was closed with these seats
+pub record HasEnded {O : Type 0} {g : Ghosts O} (state : O → OutState) (p : Plan) (seats : List (Seat (SockHome O g) sock_view.View)) (l : Left O g) (table : IdTable Asked) (r : Ran O) : Type 0 where
+  pub calm : l.short ≡ false
+  pub told : r.told ≡ l.told
+  pub ended : r.ended ≡ l.ended
+  pub ids : r.ids ≡ table
+  pub seats_are : r.seats ≡ l.ids
+  pub closed : ClosedBy state p seats r.places.items r.vrefs.items r.outs.items
 
 -- the writing half of each link comes back, in their order
 pub record AreBack {O : Type 0} (state : O → OutState) (p : Plan) (outs : List O) : Type 0 where

@@ -1,8 +1,10 @@
 pub mod Ending
+pub mod Readers
 pub mod Threads
 pub mod Working
 pub mod Hired
 pub mod Crew
+pub mod Links
 pub use Rattle.call_client.specs.call_attempts
 pub use Rattle.call_client
 pub use Rattle.call_client.specs.call_errors
@@ -14,3 +16,4 @@ pub use Rattle.sock_open
 pub use Rattle.sock_rule
 pub use Rattle.sock_table
 pub use Rattle.call_client.specs.write_chain
+pub use Rattle.link_crew

@@ -1,5 +1,6 @@
 -- A run of clients with calls on threads: what each waited for and did, how main ended the sockets, and the table of sockets that was closed behind them.
 use Rattle.std.specs.Prelude.{◌≡◌, ℕ, ◌+◌, ◌≤◌, ◌==◌, ◌&&◌, ◌||◌, if◌then◌else◌, Bool, true, false, List, [], ◌∷◌, ◌++◌, map, length, Some}
+use Rattle.std.specs.List.{AllByRecursion}
 use Rattle.atomic_table.specs.declared.shared.Seat.{Seat}
 use Rattle.sock_io.specs.declared.link.Out.{Ghosts}
 use Rattle.sock_io.specs.Link.{OutState}
@@ -28,6 +29,7 @@ use Rattle.call_client.specs.declared.caller.Caller.{Caller}
 use Rattle.call_client.specs.Running.{MayMakeAll, RunBy}
 use Rattle.call_run.specs.declared.opened.Opening.{Opening}
 use Rattle.call_run.specs.Ending.{EndedBehind}
+use Rattle.call_run.specs.Readers.{LinkReader}
 
 -- ## What clients open
 
@@ -127,11 +129,11 @@ abbrev pub opens_of_each : List (List Task) → ℕ
 opens_of_each [] = 0
 opens_of_each (ts ∷ tss) = opens_of ts + opens_of_each tss
 
--- there is a seat for each client and the setup, and a link for each operation that opens a socket
+-- there are seats for all clients and the setup, and a link for each operation that opens a socket
 pub record MayRunAll (p : Plan) (q : id_plan.Plan) (setup : List Task) (clients : List (List Task)) : Type 0 where
   pub setup_may : MayRun p q setup
   pub clients_may : AllMayRun p q clients
-  pub seats : length clients + 1 ≡ p.seats
+  pub seats : length clients + 1 ≤ p.seats
   pub links : opens_of setup + opens_of_each clients ≡ p.links
 
 -- the setup is the first client, and all others wait for the names that it opened; once all have ended, main takes in their seats, and ends the sockets of these `open`s
@@ -148,8 +150,14 @@ pub record AllRan {O : Type 0} (g : Ghosts O) (state : O → OutState) (p : Plan
   pub ids_are : map (λ (x : Thread g). x.ended.calls.seat.me.0) (main ∷ others) ≡ ids
   pub ending : EndedBehind p opens (map (λ (x : Thread g). x.ended.seat) (main ∷ others)) seats
 
--- and the table of sockets was closed behind them
-pub record RanOn {O : Type 0} (g : Ghosts O) (state : O → OutState) (p : Plan) (slots : ℕ) (setup : List Task) (clients : List (List Task)) (opens : List ℕ) (told ended : List (List Told)) (places : List PlaceWord) (vrefs : List Vref) (outs : List O) (ids : List (id_view.View Asked)) : Type 0 where
+-- and the table of sockets was closed behind them, and behind the readers of these links, which read beside them
+pub record RanWith {O : Type 0} (g : Ghosts O) (state : O → OutState) (readers : List (LinkReader g)) (p : Plan) (slots : ℕ) (setup : List Task) (clients : List (List Task)) (opens : List ℕ) (told ended : List (List Told)) (places : List PlaceWord) (vrefs : List Vref) (outs : List O) (ids : List (id_view.View Asked)) : Type 0 where
   pub seats : List (Seat (SockHome O g) View)
   pub ran : AllRan g state p (ids_of p slots) setup clients opens told ended seats ids
-  pub closed : ClosedBy state p seats places vrefs outs
+  pub closed : ClosedBy state p (map (λ (x : LinkReader g). x.seat) readers ++ seats) places vrefs outs
+  -- no message was accepted from a reader
+  pub silent : AllByRecursion (λ (x : LinkReader g). x.seat.me.0.lists ≡ [] ∷ []) readers
+
+-- no link was read beside the clients
+abbrev pub RanOn : {O : Type 0} → (g : Ghosts O) → (O → OutState) → Plan → ℕ → List Task → List (List Task) → List ℕ → List (List Told) → List (List Told) → List PlaceWord → List Vref → List O → List (id_view.View Asked) → Type 0
+RanOn g state p slots setup clients opens told ended places vrefs outs ids = RanWith g state [] p slots setup clients opens told ended places vrefs outs ids

@@ -1,7 +1,8 @@
 // The sockets of a run end once all clients have ended.
 ghost use Rattle.std.specs.Prelude.{◌≡◌, ◌<◌, ◌≤◌, All};
 ghost use Rattle.sock_open.specs.Opening.{IsRoom};
-ghost use Rattle.sock_table.specs.Closed.{IsDoneSeat};
+ghost use Rattle.sock_model.specs.Weights.{total};
+ghost use Rattle.sock_table.specs.Closed.{IsDoneSeat, AllDone};
 ghost use Rattle.call_run.specs.Crew.{IsLeft};
 ghost use Rattle.call_run.specs.Ending.{EndedOne, EndedEach, EndedBehind};
 
@@ -48,11 +49,10 @@ pub fn end_sockets<O: Out, R: Wait>(
     seats: Vec<SockSeat<O>>,
     mut last: Vec<SockSeat<O>>,
 ) -> Vec<SockSeat<O>>
-    requires seats { IsLeft table.now.rule.table.shared.table_id table.now.rule.plan seats.items }
-    requires some { 1 ≤ table.now.rule.plan.seats }
+    requires seats { AllDone table.now.rule.table.shared.table_id table.now.rule.plan seats.items × (1 ≤ total (λ s. s.me.0.share) seats.items) }
     requires room { IsRoom 1 last }
     requires opens { All (λ o. o < table.now.rule.plan.operations) opens.now }
-    ensures left { IsLeft table.now.rule.table.shared.table_id table.now.rule.plan result.items }
+    ensures left { IsLeft table.now.rule.table.shared.table_id table.now.rule.plan (total (λ s. s.me.0.share) seats.items) result.items }
     ensures ended { EndedBehind table.now.rule.plan opens.now seats.items result.items }
 {
     let mut seat = table.join_seats(seats);

@@ -38,7 +38,8 @@ pub fn room_to_leave<O: Out>(alloc: Global, count: usize) -> Result<Left<O>, All
     })
 }
 
-fn either(one: bool, other: bool) -> bool
+/// Whether any of the two is so.
+pub fn either(one: bool, other: bool) -> bool
     ensures { result ≡ (one || other) }
 {
     one || other

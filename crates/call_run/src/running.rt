@@ -1,12 +1,12 @@
 // The clients of a script with calls on threads, over tables of their own.
-ghost use Rattle.std.specs.Prelude.{◌≡◌, ◌<◌, ◌≤◌, false, All, IfOk, IfErr, length, map};
+ghost use Rattle.std.specs.Prelude.{◌≡◌, ◌+◌, ◌<◌, ◌≤◌, All, IfOk, IfErr, length, map};
 ghost use Rattle.corr_core.specs.Law.{total};
 ghost use Rattle.corr_id.specs.Opening.{AreNew};
-ghost use Rattle.sock_open.specs.Made.{AreMade};
+ghost use Rattle.sock_open.specs.Made.{AreNewSeats, PassesFrom};
 ghost use Rattle.sock_open.specs.Opening.{MayBegin, AreFresh};
-ghost use Rattle.sock_table.specs.Closed.{ClosedBy, IsRoomOf, ways_of};
+ghost use Rattle.sock_table.specs.Closed.{IsRoomOf, ways_of};
 ghost use Rattle.call_run.specs.Threads.{ids_of, MayRunAll, RanOn};
-ghost use Rattle.call_run.specs.Crew.{IsLeft, AreLeft, IsCast, IsCrew, CrewRan, AreBack};
+ghost use Rattle.call_run.specs.Crew.{IsLeft, AreLeft, IsCast, IsCrew, CrewRan, HasEnded, AreBack};
 
 use crate::failing::end_sockets;
 use crate::hiring::{Room, hire, hire_all, room_for, rooms_for};
@@ -59,7 +59,8 @@ pub struct Cast<O: Out> {
     pub last: Vec<SockSeat<O>>,
 }
 
-fn prepare<O: Out>(
+/// Room for these clients and their setup.
+pub fn prepare<O: Out>(
     alloc: Global,
     setup: VecDeque<Task>,
     clients: Vec<VecDeque<Task>>,
@@ -98,7 +99,7 @@ pub struct Crew<O: Out> {
 }
 
 /// Each client gets its seats, and the passes of its links.
-fn crew_of<O: Out>(
+pub fn crew_of<O: Out>(
     alloc: Global,
     tables: &Tables<O>,
     mut dealt: Vec<SockSeat<O>>,
@@ -106,9 +107,11 @@ fn crew_of<O: Out>(
     mut passes: Vec<LinkPass<O>>,
     cast: Cast<O>,
 ) -> Crew<O>
-    requires made { AreMade tables.now.socks.rule.table.shared.table_id tables.now.socks.rule.plan dealt.items passes.items }
+    requires dealt { AreNewSeats tables.now.socks.rule.table.shared.table_id tables.now.socks.rule.plan dealt.items }
     requires ids { AreNew tables.now.ids.table.shared.table_id ids.items }
-    requires as_many { (length ids.items ≡ tables.now.socks.rule.plan.seats) × (tables.now.ids.plan.seats ≡ tables.now.socks.rule.plan.seats) }
+    requires as_many { (length dealt.items ≡ length cast.rooms.items + 1) × (length ids.items ≡ length cast.rooms.items + 1) }
+    requires passes { PassesFrom tables.now.socks.rule.table.shared.table_id tables.now.socks.rule.plan 0 passes.items }
+    requires links { length passes.items ≡ tables.now.socks.rule.plan.links }
     requires cast { IsCast cast.main.tasks.items (map (λ r. r.tasks.items) cast.rooms.items) cast }
     requires may { MayRunAll tables.now.socks.rule.plan tables.now.ids.plan cast.main.tasks.items (map (λ r. r.tasks.items) cast.rooms.items) }
     requires few { length cast.rooms.items ≤ 63 }
@@ -152,7 +155,7 @@ fn crew_of<O: Out>(
 
 /// Main makes the setup. Then each client makes its operations, on a thread of its own, once it found what the setup opened.
 /// When all have ended, main takes in their seats, and ends the sockets of these `open`s.
-fn run_crew<O: Out + Send, G: Gate + Sync, R: Threads + Wait + Sync>(
+pub fn run_crew<O: Out + Send, G: Gate + Sync, R: Threads + Wait + Sync>(
     rt: &R,
     tables: &Tables<O>,
     gate: &G,
@@ -198,11 +201,11 @@ fn run_crew<O: Out + Send, G: Gate + Sync, R: Threads + Wait + Sync>(
 }
 
 /// The table of sockets ends.
-fn end<O: Out>(tables: Tables<O>, room: Closed<O>, left: Left<O>) -> Result<Ran<O>, NoRun<O>>
+pub fn end<O: Out>(tables: Tables<O>, room: Closed<O>, left: Left<O>) -> Result<Ran<O>, NoRun<O>>
     requires plan { MayBegin tables.socks.rule.plan }
     requires room { IsRoomOf tables.socks.rule.plan room }
-    requires done { IsLeft tables.socks.rule.table.shared.table_id tables.socks.rule.plan left.seats.items }
-    ensures ran { IfOk result (λ r. (left.short ≡ false) × (r.told ≡ left.told) × (r.ended ≡ left.ended) × (r.ids ≡ tables.ids) × (r.seats ≡ left.ids) × ClosedBy O.state tables.socks.rule.plan left.seats.items r.places.items r.vrefs.items r.outs.items) }
+    requires done { IsLeft tables.socks.rule.table.shared.table_id tables.socks.rule.plan tables.socks.rule.plan.seats left.seats.items }
+    ensures ran { IfOk result (HasEnded O.state tables.socks.rule.plan left.seats.items left tables.ids) }
     ensures back { IfErr result (λ e. AreBack O.state tables.socks.rule.plan e.outs.items) }
     ensures ways { IfOk result (λ r. ways_of O.state r.outs.items ≡ tables.socks.rule.ways.list) }
     ensures ways_back { IfErr result (λ e. ways_of O.state e.outs.items ≡ tables.socks.rule.ways.list) }
@@ -252,6 +255,7 @@ pub fn run_on<O: Out + Send, G: Gate + Sync, R: Threads + Wait + Sync>(
     requires operations { plan.now.operations ≤ 4096 }
     requires outs { AreFresh O.state plan.now outs.items }
     requires may { MayRunAll plan.now (ids_of plan.now slots) setup.items (map (λ v. v.items) clients.items) }
+    requires seats { length clients.items + 1 ≡ plan.now.seats }
     requires opens { All (λ o. o < plan.now.operations) opens.now }
     ensures ran { IfOk result (λ r. RanOn O.Out O.state plan.now slots setup.items (map (λ v. v.items) clients.items) opens.now (map (λ v. v.items) r.told.items) (map (λ v. v.items) r.ended.items) r.places.items r.vrefs.items r.outs.items (map (λ s. s.me.0) r.seats.items)) }
     ensures ids { IfOk result (λ r. (r.ids.plan ≡ ids_of plan.now slots) × AreLeft r.ids.table.shared.table_id r.seats.items × (total (λ s. s.me.0.share) r.seats.items ≡ r.ids.plan.seats)) }

@@ -110,7 +110,7 @@ module _ (links : ℕ) (gave : ℕ → List ℕ) where
 
     -- by whoever read the links, once the table of ids is closed
     module _ (q : Plan) (v : View Asked) (kept : List Kept) (words : List ℕ) (closing : Closing q v.notes kept words) (made : AllMade (IsAskedIn ops) v.notes) where
-      told_answer : (x : Told) → ToldFrom q.slots links gave v x → Answers x
+      pub told_answer : (x : Told) → ToldFrom q.slots links gave v x → Answers x
       told_answer x t op at =
           let k = lock_asked ops q v kept words closing made t.slot t.word t.call t.inside t.lock op (ap (slice_get ops) (sym t.number) ∙ at) in
           ended_answer t.slot t.word x.outcome op.item k.0 k.1 k.2 t.by

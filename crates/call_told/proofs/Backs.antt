@@ -14,7 +14,7 @@ use Rattle.call_told.specs.Answers.{GaveBetween, AnsweredFrom, HaveAnswers, IsGi
 use Rattle.call_told.proofs.Lists.{some_same, all_there}
 
 -- an element of a list that was mapped
-mapped : {A B : Type 0} (f : A → B) (xs : List A) (k : ℕ) (y : B) → slice_get (map f xs) k ≡ Some y → (x : A) × (slice_get xs k ≡ Some x) × (f x ≡ y)
+pub mapped : {A B : Type 0} (f : A → B) (xs : List A) (k : ℕ) (y : B) → slice_get (map f xs) k ≡ Some y → (x : A) × (slice_get xs k ≡ Some x) × (f x ≡ y)
 mapped {A} {B} f xs k y at = by (slice_get xs k) refl (sym (slice_get-map f xs k) ∙ at)
   where
     by : (o : Option A) → slice_get xs k ≡ o → option_map f o ≡ Some y → (x : A) × (slice_get xs k ≡ Some x) × (f x ≡ y)

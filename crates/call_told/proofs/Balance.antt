@@ -47,6 +47,13 @@ pub balanced_each : {X : Type 0} (told : X → List Told) (view : X → View Ask
 balanced_each told view [] a = tt
 balanced_each told view (x ∷ xs) a = (a.0, balanced_each told view xs a.1)
 
+-- of two lists put together
+pub balanced_both : (ts us : List (List Told)) (vs ws : List (View Asked)) → AreBalanced ts vs → AreBalanced us ws → AreBalanced (ts ++ us) (vs ++ ws)
+balanced_both [] us [] ws a b = b
+balanced_both (t ∷ ts) us (v ∷ vs) ws a b = (a.0, balanced_both ts us vs ws a.1 b)
+balanced_both [] us (v ∷ vs) ws a b = absurd a
+balanced_both (t ∷ ts) us [] ws a b = absurd a
+
 -- what is told by all is what is noted in the notes of all their seats together
 pub balanced_all : (tellers : List (List Told)) (vs : List (View Asked)) → AreBalanced tellers vs → (slot first : ℕ) → first < 4294967296 → total (told_ends (slot * 4294967296 + first)) tellers ≡ noted_ends slot first (flat_map (λ (v : View Asked). v.notes) vs)
 balanced_all [] [] a slot first low = refl

@@ -26,7 +26,7 @@ use Rattle.call_deeds.specs.rpc_reader.specs.Resting.{HadEnded, EndedLast, OneEn
 use Rattle.call_deeds.specs.rpc_reader.proofs.Frames.{asked_responds}
 use Rattle.call_told.specs.Answers.{IsGiven, AreGiven, IsLossCode, EndedBy, by_code, by_response, ToldFrom, TellsFrom}
 use Rattle.call_told.proofs.Lists.{all_both, all_but, all_at, all_then, elem_or}
-use Rattle.call_told.proofs.Noting.{Later, later_same, later_then, quiet_later, got_later, end_later, post_later, ended_later, has_ended}
+use Rattle.call_told.proofs.Noting.{Later, later_same, later_then, quiet_later, got_later, end_later, post_later, later_in, told_in, has_ended}
 use Rattle.call_told.proofs.Given.{given_response, for_is}
 
 module _ (p : Plan) (links : ℕ) (gave : ℕ → List ℕ) where
@@ -39,7 +39,7 @@ module _ (p : Plan) (links : ℕ) (gave : ℕ → List ℕ) where
     pub tells : GivenAll b.early → TellsFrom p.slots links gave b b'
 
   told_later : (u v : View Asked) → Later u v → (x : Told) → ToldFrom p.slots links gave u x → ToldFrom p.slots links gave v x
-  told_later u v l x t = record { slot = t.slot; inside = t.inside; word = t.word; call = t.call; lock = ended_later t.slot t.word t.call u v l t.lock; number = t.number; by = t.by }
+  told_later u v l x t = told_in p.slots links gave u v (later_in u v l) x t
 
   pub step_then : (a b c : Books) → Step a b → Step b c → Step a c
   step_then a b c s t = record {

@@ -28,7 +28,7 @@ known_more (Some x) a b = ap Some (append_assoc x a b)
 gains_like : (s t : InState) → t.gave_bytes ≡ s.gave_bytes → t.gave ≡ s.gave → Gains s t []
 gains_like s t e n = record { known = e ∙ sym (known_none s.gave_bytes); count = omega (arith, n) }
 
-gains_none : (s t : InState) → t ≡ s → Gains s t []
+pub gains_none : (s t : InState) → t ≡ s → Gains s t []
 gains_none s t e = gains_like s t (ap (λ (i : InState). i.gave_bytes) e) (ap (λ (i : InState). i.gave) e)
 
 pub gains_settled : (out : OutState) (s t : InState) → SettleStep out s t → Gains s t []

@@ -1,5 +1,5 @@
 -- The frames that are cut off what a link gave are frames of its stream, and a response's correlation id is that of an attempt.
-use Rattle.std.proofs.Common.{◌≡◌, ℕ, ◌+◌, ◌*◌, ◌<◌, Bool, true, false, List, ◌++◌, map, Some, None, refl, ap, ◌∙◌, arith, eqb-true, ltb-true}
+use Rattle.std.proofs.Common.{◌≡◌, ℕ, suc, ◌+◌, ◌*◌, ◌<◌, Bool, true, false, List, ◌++◌, map, Some, None, refl, ap, ◌∙◌, arith, eqb-true, ltb-true}
 use Rattle.std.specs.Prelude.{Option, option_map, slice_get, IsSome, ◌&&◌, ◌==◌, nat_lt, not}
 use Rattle.std.proofs.lemmas.Nat.{div-add-mod'}
 use Rattle.std.proofs.lemmas.Option.{slice_get-map}
@@ -48,6 +48,13 @@ module _ (links : ℕ) (gave : ℕ → List ℕ) where
   given_response slot w f given e a b =
       let c = versioned slot (slot_in f) w.first w.range (version_in f) f.meta.correlation_id e (div-add-mod' f.meta.correlation_id 4294967296) a b in
       record { given = given; behind = c.0; below = c.1 }
+
+-- what the first of some links gave, and what those behind it gave
+pub given_first : (links : ℕ) (gave : ℕ → List ℕ) → 0 < links → (f : model.Frame) → IsGiven 1 (λ k. gave 0) f → IsGiven links gave f
+given_first links gave some f g = record { link = 0; place = g.place; whole = (some, g.whole.1); responds = g.responds }
+
+pub given_later : (fewer links : ℕ) (gave : ℕ → List ℕ) → fewer < links → (f : model.Frame) → IsGiven fewer (λ k. gave (suc k)) f → IsGiven links gave f
+given_later fewer links gave less f g = record { link = suc g.link; place = g.place; whole = ((let n = g.whole.0 in omega arith), g.whole.1); responds = g.responds }
 
 both : (b c : Bool) → (b && c) ≡ true → (b ≡ true) × (c ≡ true)
 both true c e = (refl, e)

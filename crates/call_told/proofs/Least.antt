@@ -1,6 +1,7 @@
 -- The end of each call that began is told.
-use Rattle.std.proofs.Common.{◌≡◌, ◌≢◌, ℕ, zero, suc, ◌+◌, ◌*◌, ◌<◌, ◌≤◌, Bool, true, false, cond, List, [], ◌∷◌, ◌++◌, flat_map, Some, refl, sym, ap, ◌∙◌, subst, arith}
+use Rattle.std.proofs.Common.{◌≡◌, ◌≢◌, ℕ, zero, suc, ◌+◌, ◌*◌, ◌<◌, ◌≤◌, Bool, true, false, cond, List, [], ◌∷◌, ◌++◌, flat_map, map, Some, refl, sym, ap, ◌∙◌, subst, arith}
 use Rattle.std.specs.Prelude.{slice_get}
+use Rattle.std.specs.List.{AllByRecursion}
 use Rattle.std.proofs.lemmas.Nat.{div-add-mod'}
 use mathlib.Core.Logic.{dite}
 use mathlib.Core.Option.{some, some-injective, some-ne-none}
@@ -158,6 +159,16 @@ TellEnds [] [] = Unit {0}
 TellEnds (t ∷ ts) (v ∷ vs) = AreEnds v t × TellEnds ts vs
 TellEnds [] (v ∷ vs) = ⊥
 TellEnds (t ∷ ts) [] = ⊥
+
+pub tell_each : {X : Type 0} (told : X → List Told) (view : X → View Asked) (xs : List X) → AllByRecursion (λ x. AreEnds (view x) (told x)) xs → TellEnds (map told xs) (map view xs)
+tell_each told view [] a = tt
+tell_each told view (x ∷ xs) a = (a.0, tell_each told view xs a.1)
+
+pub tell_both : (ts us : List (List Told)) (vs ws : List (View Asked)) → TellEnds ts vs → TellEnds us ws → TellEnds (ts ++ us) (vs ++ ws)
+tell_both [] us [] ws a b = b
+tell_both (t ∷ ts) us (v ∷ vs) ws a b = (a.0, tell_both ts us vs ws a.1 b)
+tell_both [] us (v ∷ vs) ws a b = absurd a
+tell_both (t ∷ ts) us [] ws a b = absurd a
 
 -- a seat whose notes are among these
 abbrev IsWithin : List (Noted Asked) → View Asked → Type 0

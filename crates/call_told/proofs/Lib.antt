@@ -19,3 +19,5 @@ pub mod Coming
 pub mod Once
 pub mod Least
 pub mod Shown
+pub mod Readers
+pub mod Beside

@@ -1,5 +1,5 @@
 -- Links that are read one behind the other, and what is told of calls by that.
-use Rattle.std.proofs.Common.{◌≡◌, ℕ, zero, suc, ◌+◌, true, false, List, [], ◌∷◌, ◌++◌, length, Some, refl, sym, subst, arith}
+use Rattle.std.proofs.Common.{◌≡◌, ℕ, zero, suc, ◌+◌, Bool, true, false, List, [], ◌∷◌, ◌++◌, length, Some, refl, sym, subst, arith}
 use Rattle.std.specs.Prelude.{slice_get}
 use Rattle.brpc_model.specs.Frame as model
 use Rattle.prpc_frame.specs.declared.frame.Frame.{Frame}
@@ -11,11 +11,12 @@ use Rattle.call_deeds.specs.rpc_reader.specs.declared.reading.How.TheVariants as
 use Rattle.call_deeds.specs.rpc_reader.specs.Books.{Books}
 use Rattle.call_deeds.specs.rpc_reader.specs.Reading.{code_of}
 use Rattle.call_deeds.specs.rpc_reader.specs.Linked.{ReadServed, ReadLinks}
+use Rattle.call_deeds.specs.rpc_reader.specs.Running.{ReadLink}
 use Rattle.call_deeds.specs.rpc_reader.specs.Resting.{RestEnded}
 use Rattle.call_told.specs.Answers.{IsGiven, AreGiven, IsLossCode, at_end, at_fault, at_want, TellsFrom, GaveBetween, AnsweredFrom}
 use Rattle.call_told.proofs.Lists.{some_same}
 use Rattle.call_told.proofs.Noting.{Later}
-use Rattle.call_told.proofs.Given.{given_by}
+use Rattle.call_told.proofs.Given.{given_by, given_first, given_later}
 use Rattle.call_told.proofs.Gains.{Gains, gains_then, gains_settled, gains_read, gains_tell, met_bytes, rest_bytes}
 use Rattle.call_told.proofs.Ending.{Step, step_then, step_same, frames_step, posted_all, rest_step}
 
@@ -28,25 +29,34 @@ loss_of how.Limit = at_end refl
 loss_of how.Fault = at_fault refl
 loss_of how.NoMemory = at_want refl
 
+-- ## One link
+
+-- what a link gave: what was cut into frames, and what was thrown away behind it
+module _ (q : ids.Plan) (link : ℕ) (calls : List ℕ) (ending short : Bool) (s t : InState) (b b' : Books) (r : ReadLink q link calls ending short s t b b') where
+  abbrev cut_bytes : List ℕ
+  cut_bytes = met_bytes q link calls ending short s t b b' r
+
+  abbrev pub read_bytes : List ℕ
+  read_bytes = cut_bytes ++ rest_bytes q link calls ending short s t b b' r
+
+  -- where all responses of what it gave are among those of these links
+  pub read_step : (links : ℕ) (gave : ℕ → List ℕ) → ((f : model.Frame) → IsGiven 1 (λ k. read_bytes) f → IsGiven links gave f) → Step q links gave b b'
+  read_step links gave given = let m = r.met in let met = r.read.met in
+      step_then q links gave b m b'
+      (frames_step q links gave met.frames b m (λ i f at responds. given _ (given_by 1 (λ k. read_bytes) 0 cut_bytes (rest_bytes q link calls ending short s t b b' r) r.read.left met.frames (omega arith) refl met.cut i f at responds)) met.met)
+      (posted_all q links gave (code_of r.how) (loss_of r.how) link calls m b' r.posted)
+
 module _ {O I P : Type 0} (out : O → OutState) (inn : I → InState) (q : ids.Plan) (calls : List ℕ) where
-  -- ## One link
-
   module _ (link : ℕ) (e e' : Ends O I P) (b b' : Books) (r : ReadServed out inn q calls link e e' b b') where
-    abbrev pub cut_bytes : List ℕ
-    cut_bytes = met_bytes q link calls true false r.served (inn e'.inn) b b' r.read
-
     abbrev pub link_gave : List ℕ
-    link_gave = cut_bytes ++ rest_bytes q link calls true false r.served (inn e'.inn) b b' r.read
+    link_gave = read_bytes q link calls true false r.served (inn e'.inn) b b' r.read
 
     link_gains : Gains (inn e.inn) (inn e'.inn) link_gave
     link_gains = gains_then (inn e.inn) r.served (inn e'.inn) [] link_gave (gains_settled (out e.out) (inn e.inn) r.served r.step) (gains_read q link calls true false r.served (inn e'.inn) b b' r.read)
 
     -- it is the k-th of those links
     link_step : (links : ℕ) (gave : ℕ → List ℕ) → ((f : model.Frame) → IsGiven 1 (λ k. link_gave) f → IsGiven links gave f) → Step q links gave b b'
-    link_step links gave given = let m = r.read.met in let met = r.read.read.met in
-        step_then q links gave b m b'
-        (frames_step q links gave met.frames b m (λ i f at responds. given _ (given_by 1 (λ k. link_gave) 0 cut_bytes (rest_bytes q link calls true false r.served (inn e'.inn) b b' r.read) r.read.read.left met.frames (omega arith) refl met.cut i f at responds)) met.met)
-        (posted_all q links gave (code_of r.read.how) (loss_of r.read.how) link calls m b' r.read.posted)
+    link_step links gave given = read_step q link calls true false r.served (inn e'.inn) b b' r.read links gave given
 
   -- ## All links
 
@@ -71,18 +81,11 @@ module _ {O I P : Type 0} (out : O → OutState) (inn : I → InState) (q : ids.
       (subst (λ (y : Ends O I P). Gains (inn e.inn) (inn y.inn) (link_gave link e e' b r.0 r.1)) (some_same e' x' c) (link_gains link e e' b r.0 r.1))
   links_gain link (e ∷ es) (e' ∷ es') b b' r (suc k) x x' a c = links_gain (link + 1) es es' r.0 b' r.2 k x x' a c
 
-  module _ (e e' : Ends O I P) (es es' : List (Ends O I P)) (link : ℕ) (b b' : Books) (r : ReadLinks out inn q calls link (e ∷ es) (e' ∷ es') b b') where
-    of_first : (f : model.Frame) → IsGiven 1 (λ k. link_gave link e e' b r.0 r.1) f → IsGiven (length (e ∷ es)) (links_gave link (e ∷ es) (e' ∷ es') b b' r) f
-    of_first f g = record { link = 0; place = g.place; whole = (omega arith, g.whole.1); responds = g.responds }
-
-    of_later : (f : model.Frame) → IsGiven (length es) (links_gave (link + 1) es es' r.0 b' r.2) f → IsGiven (length (e ∷ es)) (links_gave link (e ∷ es) (e' ∷ es') b b' r) f
-    of_later f g = record { link = suc g.link; place = g.place; whole = ((let n = g.whole.0 in omega arith), g.whole.1); responds = g.responds }
-
   links_step : (links : ℕ) (gave : ℕ → List ℕ) (link : ℕ) (es es' : List (Ends O I P)) (b b' : Books) (r : ReadLinks out inn q calls link es es' b b') → ((f : model.Frame) → IsGiven (length es) (links_gave link es es' b b' r) f → IsGiven links gave f) → Step q links gave b b'
   links_step links gave link [] [] b b' r given = step_same q links gave b b' r
   links_step links gave link (e ∷ es) (e' ∷ es') b b' r given = step_then q links gave b r.0 b'
-      (link_step link e e' b r.0 r.1 links gave (λ f g. given f (of_first e e' es es' link b b' r f g)))
-      (links_step links gave (link + 1) es es' r.0 b' r.2 (λ f g. given f (of_later e e' es es' link b b' r f g)))
+      (link_step link e e' b r.0 r.1 links gave (λ f g. given f (given_first (length (e ∷ es)) (links_gave link (e ∷ es) (e' ∷ es') b b' r) (omega arith) f g)))
+      (links_step links gave (link + 1) es es' r.0 b' r.2 (λ f g. given f (given_later (length es) (length (e ∷ es)) (links_gave link (e ∷ es) (e' ∷ es') b b' r) (omega arith) f g)))
   links_step links gave link [] (e' ∷ es') b b' r given = absurd r
   links_step links gave link (e ∷ es) [] b b' r given = absurd r
 

@@ -1,5 +1,5 @@
 -- Elements of lists by their places.
-use Rattle.std.proofs.Common.{◌≡◌, ℕ, zero, suc, List, [], ◌∷◌, ◌++◌, get_or, take, drop, Some, None, sym, ap, subst}
+use Rattle.std.proofs.Common.{◌≡◌, ℕ, zero, suc, List, [], ◌∷◌, ◌++◌, map, flat_map, get_or, take, drop, Some, None, sym, ap, subst}
 use Rattle.std.specs.Prelude.{Option, slice_get}
 use Rattle.std.specs.List.{AllByRecursion, remove}
 use mathlib.Core.Option as core
@@ -56,7 +56,28 @@ module _ {A : Type 0} where
   all_then P Q [] f a = tt
   all_then P Q (x ∷ xs) f a = (f x a.0, all_then P Q xs f a.1)
 
+  pub all_two : (P Q R : A → Type 0) (xs : List A) → ((x : A) → P x → Q x → R x) → AllByRecursion P xs → AllByRecursion Q xs → AllByRecursion R xs
+  all_two P Q R [] f a b = tt
+  all_two P Q R (x ∷ xs) f a b = (f x a.0 b.0, all_two P Q R xs f a.1 b.1)
+
+  pub all_behind : (P : A → Type 0) (xs ys : List A) → AllByRecursion P (xs ++ ys) → AllByRecursion P ys
+  all_behind P [] ys a = a
+  all_behind P (x ∷ xs) ys a = all_behind P xs ys a.1
+
+  module _ {B : Type 0} (f : A → B) (P : B → Type 0) where
+    pub all_mapped : (xs : List A) → AllByRecursion (λ (x : A). P (f x)) xs → AllByRecursion P (map f xs)
+    all_mapped [] a = tt
+    all_mapped (x ∷ xs) a = (a.0, all_mapped xs a.1)
+
+    pub of_mapped : (xs : List A) → AllByRecursion P (map f xs) → AllByRecursion (λ (x : A). P (f x)) xs
+    of_mapped [] a = tt
+    of_mapped (x ∷ xs) a = (a.0, of_mapped xs a.1)
+
   pub elem_or : (xs : List A) (i : ℕ) (x d : A) → get_elem? xs i ≡ core.some x → get_or xs i d ≡ x
   elem_or [] i x d e = absurd (core.some-ne-none x (sym e))
   elem_or (y ∷ xs) zero x d e = core.some-injective y x e
   elem_or (y ∷ xs) (suc i) x d e = elem_or xs i x d e
+
+pub all_flat : {A B : Type 0} (f : A → List B) (P : B → Type 0) (xs : List A) → AllByRecursion (λ (x : A). AllByRecursion P (f x)) xs → AllByRecursion P (flat_map f xs)
+all_flat f P [] a = tt
+all_flat f P (x ∷ xs) a = all_both P (f x) (flat_map f xs) a.0 (all_flat f P xs a.1)

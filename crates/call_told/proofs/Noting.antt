@@ -1,6 +1,6 @@
 -- What a seat noted stays noted.
-use Rattle.std.proofs.Common.{◌≡◌, ℕ, ◌≤◌, List, [], ◌++◌, append_assoc, refl, sym, ap, ◌∙◌, arith}
-use Rattle.std.specs.List.{AllByRecursion}
+use Rattle.std.proofs.Common.{◌≡◌, ℕ, ◌≤◌, true, false, cond, List, [], ◌∷◌, ◌++◌, append_assoc, Some, refl, sym, ap, ◌∙◌, arith}
+use Rattle.std.specs.List.{AllByRecursion, flat_map}
 use Rattle.std.specs.Prelude.{Option as Maybe, slice_get}
 use Rattle.corr_core.specs.Word.{Parts, parts}
 use Rattle.corr_core.specs.Law.{total, is_any_made}
@@ -13,11 +13,13 @@ use Rattle.id_rule.specs.Lawful.{notes_of}
 use Rattle.sock_message.specs.Asked.{Asked}
 use Rattle.corr_id.specs.declared.posts.Posted.{Posted}
 use Rattle.corr_id.specs.declared.posts.Posted.TheVariants.{Locked as HasLock, Queued as IsQueued, Gone, Stale, Crowded}
-use Rattle.corr_id.specs.Calls.{Became, Did, Quiet, GotLock, one, events, is_saw, slot_of, version_of, error_in}
+use Rattle.corr_id.specs.Calls.{Became, Did, Quiet, GotLock, one, is_event, events, is_saw, slot_of, version_of, error_in}
 use Rattle.corr_id.specs.Posts.{PostOk}
 use Rattle.corr_id.proofs.Doing.{quiet_none, did_none, did_more}
-use Rattle.call_told.specs.Answers.{HasNoted, HasEnded}
-use Rattle.call_told.proofs.Lists.{at_back, all_both}
+use Rattle.corr_id.proofs.Seats.{notes_append, total_append}
+use Rattle.call_deeds.specs.rpc_client.specs.declared.acting.Told.{Told}
+use Rattle.call_told.specs.Answers.{HasNoted, HasEnded, ToldFrom}
+use Rattle.call_told.proofs.Lists.{at_front, at_back, all_both, all_then}
 
 -- none of these is that an id was made
 abbrev pub NoneMade : List (Noted Asked) → Type 0
@@ -66,19 +68,61 @@ post_later slots v w id code attempt (Crowded first second) p = quiet_later v w 
 
 -- ## Events
 
-pub noted_later : (slot : ℕ) (n : Note Asked) (v w : View Asked) → Later v w → HasNoted slot n v → HasNoted slot n w
-noted_later slot n v w l h = let x : Noted Asked = record { slot = slot; note = n } in
-    let r = at_back l.added (events v.notes) x h in (r.0, ap (λ (es : List (Noted Asked)). slice_get es r.0) l.more ∙ r.1)
+events_append : (a b : List (Noted Asked)) → events (a ++ b) ≡ events a ++ events b
+events_append [] b = refl
+events_append (x ∷ xs) b = let r = events_append xs b in
+    elim (is_event x.note) as (λ z. cond z (x ∷ events (xs ++ b)) (events (xs ++ b)) ≡ cond z (x ∷ events xs) (events xs) ++ events b) [ true ↦ ap (λ l. x ∷ l) r | false ↦ r ]
 
-pub ended_later : (slot : ℕ) (w : Parts) (call : Asked) (u v : View Asked) → Later u v → HasEnded slot w call u → HasEnded slot w call v
-ended_later slot w call u v l h = record {
+-- all notes of the one are among those of the other
+pub record NotesIn (ns ms : List (Noted Asked)) : Type 0 where
+  pub noted : (x : Noted Asked) → (i : ℕ) × (slice_get (events ns) i ≡ Some x) → (i : ℕ) × (slice_get (events ms) i ≡ Some x)
+  pub grows : (j : ℕ) (g : Note Asked → ℕ) → total g (notes_of j ns) ≤ total g (notes_of j ms)
+
+pub later_in : (v w : View Asked) → Later v w → NotesIn v.notes w.notes
+later_in v w l = record { noted = λ x h. (let r = at_back l.added (events v.notes) x h in (r.0, ap (λ (es : List (Noted Asked)). slice_get es r.0) l.more ∙ r.1)); grows = l.grows }
+
+pub in_then : (a b c : List (Noted Asked)) → NotesIn a b → NotesIn b c → NotesIn a c
+in_then a b c s t = record { noted = λ x h. t.noted x (s.noted x h); grows = λ j g. (let x = s.grows j g in let y = t.grows j g in omega arith) }
+
+in_front : (ns ms : List (Noted Asked)) → NotesIn ns (ns ++ ms)
+in_front ns ms = record {
+  noted = λ x h. (h.0, ap (λ (es : List (Noted Asked)). slice_get es h.0) (events_append ns ms) ∙ at_front (events ns) (events ms) h.0 x h.1);
+  grows = λ j g. (let a = ap (total g) (notes_append j ns ms) in let b = total_append g (notes_of j ns) (notes_of j ms) in omega arith);
+}
+
+in_back : (ns ms : List (Noted Asked)) → NotesIn ms (ns ++ ms)
+in_back ns ms = record {
+  noted = λ x h. (let r = at_back (events ns) (events ms) x h in (r.0, ap (λ (es : List (Noted Asked)). slice_get es r.0) (events_append ns ms) ∙ r.1));
+  grows = λ j g. (let a = ap (total g) (notes_append j ns ms) in let b = total_append g (notes_of j ns) (notes_of j ms) in omega arith);
+}
+
+-- those of each are among those of all together
+pub all_in : {X : Type 0} (f : X → List (Noted Asked)) (xs : List X) → AllByRecursion (λ (x : X). NotesIn (f x) (flat_map f xs)) xs
+all_in f [] = tt
+all_in {X} f (x ∷ xs) = (
+  in_front (f x) (flat_map f xs),
+  all_then (λ (y : X). NotesIn (f y) (flat_map f xs)) (λ (y : X). NotesIn (f y) (f x ++ flat_map f xs)) xs (λ y n. in_then (f y) (flat_map f xs) (f x ++ flat_map f xs) n (in_back (f x) (flat_map f xs))) (all_in f xs),
+)
+
+-- a call that ended by some notes ended by all of them
+pub ended_in : (slot : ℕ) (w : Parts) (call : Asked) (u v : View Asked) → NotesIn u.notes v.notes → HasEnded slot w call u → HasEnded slot w call v
+ended_in slot w call u v n h = record {
   word = h.word;
-  found = (let a = h.found in let b = l.grows slot (is_saw h.word) in omega arith);
+  found = (let a = h.found in let b = n.grows slot (is_saw h.word) in omega arith);
   was_open = h.was_open;
   word_is = h.word_is;
-  locked = noted_later slot (Locker w.first call) u v l h.locked;
-  ended = noted_later slot (Ended w.first) u v l h.ended;
+  locked = n.noted (record { slot = slot; note = Locker w.first call }) h.locked;
+  ended = n.noted (record { slot = slot; note = Ended w.first }) h.ended;
 }
+
+pub told_in : (slots links : ℕ) (gave : ℕ → List ℕ) (u v : View Asked) → NotesIn u.notes v.notes → (x : Told) → ToldFrom slots links gave u x → ToldFrom slots links gave v x
+told_in slots links gave u v n x t = record { slot = t.slot; inside = t.inside; word = t.word; call = t.call; lock = ended_in t.slot t.word t.call u v n t.lock; number = t.number; by = t.by }
+
+pub noted_later : (slot : ℕ) (n : Note Asked) (v w : View Asked) → Later v w → HasNoted slot n v → HasNoted slot n w
+noted_later slot n v w l h = (later_in v w l).noted (record { slot = slot; note = n }) h
+
+pub ended_later : (slot : ℕ) (w : Parts) (call : Asked) (u v : View Asked) → Later u v → HasEnded slot w call u → HasEnded slot w call v
+ended_later slot w call u v l h = ended_in slot w call u v (later_in u v l) h
 
 -- what was locked has ended
 pub has_ended : (slot : ℕ) (w : Parts) (call : Asked) (u v v' : View Asked) (word : ℕ) → GotLock slot u v word w call → Became slot v v' [] (one slot (Ended w.first)) → HasEnded slot w call v'

@@ -22,7 +22,7 @@ use Rattle.call_told.proofs.Balance.{noted_ends, Accounted, AreBalanced, balance
 use Rattle.call_told.proofs.Tallies.{Accounts, tally_then, read_accounts, rest_accounts, version_low}
 
 -- memory was not wanting
-calm_accounts : (b b' : Books) → Accounts b b' → b'.starved ≡ false → Accounted b.told b.view.notes b'.told b'.view.notes
+pub calm_accounts : (b b' : Books) → Accounts b b' → b'.starved ≡ false → Accounted b.told b.view.notes b'.told b'.view.notes
 calm_accounts b b' (inl x) calm = let k : true ≡ false = sym x ∙ calm in absurd (cc)
 calm_accounts b b' (inr a) calm = a
 

@@ -33,6 +33,7 @@ use Rattle.call_deeds.specs.rpc_reader.specs.Met.{slot_in, version_in, is_asked,
 use Rattle.call_deeds.specs.rpc_reader.specs.Posting.{LostBy, LockLost, PostedTo, PostedIf, PostedAt, PostedAll, call_at, attempt_at}
 use Rattle.call_deeds.specs.rpc_reader.specs.Reading.{code_of}
 use Rattle.call_deeds.specs.rpc_reader.specs.Linked.{ReadServed, ReadLinks}
+use Rattle.call_deeds.specs.rpc_reader.specs.Running.{ReadLink}
 use Rattle.call_deeds.specs.rpc_reader.specs.Resting.{HadEnded, EndedLast, OneEnded, RestEnded}
 use Rattle.call_deeds.specs.call_client.proofs.Telling.{quiet_total, did_total, none_of_one}
 use Rattle.call_told.specs.Once.{ends_of, told_ends}
@@ -233,10 +234,14 @@ module _ (code : ℕ) where
 
 -- ## Links
 
+-- a link was read to its end
+pub read_tally : (q : Plan) (link : ℕ) (calls : List ℕ) (ending short : Bool) (s t : InState) (b b' : Books) → ReadLink q link calls ending short s t b b' → Tally b b'
+read_tally q link calls ending short s t b b' r = let m = r.met in let met = r.read.met in
+    tally_then b m b' (frames_tally q.slots met.frames b m met.met) (posted_all (code_of r.how) q link calls m b' r.posted)
+
 module _ {O I P : Type 0} (out : O → OutState) (inn : I → InState) (q : Plan) (calls : List ℕ) where
   link_tally : (link : ℕ) (e e' : Ends O I P) (b b' : Books) → ReadServed out inn q calls link e e' b b' → Tally b b'
-  link_tally link e e' b b' r = let m = r.read.met in let met = r.read.read.met in
-      tally_then b m b' (frames_tally q.slots met.frames b m met.met) (posted_all (code_of r.read.how) q link calls m b' r.read.posted)
+  link_tally link e e' b b' r = read_tally q link calls true false r.served (inn e'.inn) b b' r.read
 
   pub read_accounts : (link : ℕ) (es es' : List (Ends O I P)) (b b' : Books) → ReadLinks out inn q calls link es es' b b' → Tally b b'
   read_accounts link [] [] b b' r = tally_same b b' r

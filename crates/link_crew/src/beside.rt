@@ -28,6 +28,13 @@ pub struct Beside<O: Out, I: In, P: Peer> {
     pub unread: bool,
 }
 
+/// What a link has besides its writing half.
+#[derive(Drop)]
+pub struct Rest<I: In, P: Peer> {
+    pub inn: I,
+    pub peer: P,
+}
+
 /// What is left of it: the other end and the reading half, and what its reader leaves.
 #[derive(Drop)]
 pub struct Parted<O: Out, I: In, P: Peer> {

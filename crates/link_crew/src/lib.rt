@@ -6,6 +6,7 @@ mod beside;
 mod meeting;
 mod serving;
 
-pub use beside::{Beside, Parted, work_all};
+pub use beside::{Beside, Parted, Rest, work_all};
 pub use meeting::meet_all;
+pub use prpc_frame::Frame;
 pub use serving::serve_to_end;

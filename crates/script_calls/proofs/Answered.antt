@@ -21,9 +21,13 @@ use Rattle.script_calls.specs.Reading.{IdSeat, begins, HasRead}
 use Rattle.script_calls.specs.Told.{HasGivenNone, outcomes_of}
 
 module _ (links : ℕ) (gave : ℕ → List ℕ) (ops : List Operation) where
-  -- put together by the numbers of operations: by what clients told, where none of it is an answer, and what was told behind them
-  outcomes_have : (n : ℕ) (told ended : List (List Told)) (read : List Told) → AllByRecursion (λ ts. AllByRecursion IsOwn ts) told → AllByRecursion (λ ts. AllByRecursion IsFailure ts) ended → AllHave links gave ops read → HaveAnswers links gave ops (outcomes_of n told ended read)
-  outcomes_have n told ended read owns failures has k by at op there = elim (told_each (replicate n None) tellers k by at) [
+  -- what tells of failures only
+  pub failures_have : (ended : List (List Told)) → AllByRecursion (λ ts. AllByRecursion IsFailure ts) ended → AllByRecursion (AllHave links gave ops) ended
+  failures_have ended failures = all_then (λ ts. AllByRecursion IsFailure ts) (AllHave links gave ops) ended (λ ts. all_then IsFailure (Answers links gave ops) ts (failure_answer links gave ops)) failures
+
+  -- put together by the numbers of operations: by what clients told of their own, where none of it is an answer, by what was told of ends of calls, and by what was told behind that
+  pub outcomes_have : (n : ℕ) (told ended : List (List Told)) (read : List Told) → AllByRecursion (λ ts. AllByRecursion IsOwn ts) told → AllByRecursion (AllHave links gave ops) ended → AllHave links gave ops read → HaveAnswers links gave ops (outcomes_of n told ended read)
+  outcomes_have n told ended read owns ends has k by at op there = elim (told_each (replicate n None) tellers k by at) [
     | inl e ↦ absurd (none_told n k by e)
     | inr w ↦ (let t = w.3.1 in let a = all_at (Answers links gave ops) w.1 w.3.0 t (all_at (AllHave links gave ops) tellers w.0 w.1 all w.2) w.3.2 in subst (HasAnswer links gave op.item) w.3.4 (a op (ap (slice_get ops) w.3.3 ∙ there)))
   ]
@@ -35,7 +39,7 @@ module _ (links : ℕ) (gave : ℕ → List ℕ) (ops : List Operation) where
       all = all_both (AllHave links gave ops) (told ++ ended) (read ∷ [])
           (all_both (AllHave links gave ops) told ended
           (all_then (λ ts. AllByRecursion IsOwn ts) (AllHave links gave ops) told (λ ts. all_then IsOwn (Answers links gave ops) ts (own_answer links gave ops)) owns)
-          (all_then (λ ts. AllByRecursion IsFailure ts) (AllHave links gave ops) ended (λ ts. all_then IsFailure (Answers links gave ops) ts (failure_answer links gave ops)) failures))
+          ends)
           (has, tt)
 
 -- what is known of all ids that the clients made is known of all that were made behind the reading
@@ -55,4 +59,4 @@ module _ {O I P : Type 0} (out : O → OutState) (inn : I → InState) (q : Plan
       let a = all_told out inn q operations es es' b h.between h.read EEOF operations h.last refl (at_end refl) h.rest in
       let in_all = read_made out inn q operations (IsAskedIn ops) last seats es es' made h in
       let has : AllHave (length es) a.gave ops last = subst (AllHave (length es) a.gave ops) (sym h.told_is) (tells_answers (length es) a.gave ops q h.last.view h.last.view.kept h.words h.closing in_all b h.last refl refl a.tells) in
-      answered_by out inn q.slots ops es es' b h.last a (outcomes_of n told ended last) silent (outcomes_have (length es) a.gave ops n told ended last owns failures has)
+      answered_by out inn q.slots ops es es' b h.last a (outcomes_of n told ended last) silent (outcomes_have (length es) a.gave ops n told ended last owns (failures_have (length es) a.gave ops ended failures) has)

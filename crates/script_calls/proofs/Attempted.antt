@@ -58,7 +58,7 @@ use Rattle.script_calls.specs.Told.{IsLeft, AreSocketsTold, outcomes_of}
 use Rattle.script_calls.proofs.Began.{only_is}
 use Rattle.script_calls.proofs.Each.{call_said}
 use Rattle.script_calls.proofs.Later.{IsAmong, among, client_later}
-use Rattle.script_calls.proofs.Placed.{each_notes, mapped_from, mapped_at, are, may, have, sent}
+use Rattle.script_calls.proofs.Placed.{each_notes, mapped_from, mapped_at, are, may, have, left_told}
 use Rattle.script_calls.proofs.Shown.{view_of, flat_mapped}
 use Rattle.script_calls.proofs.Sockets.{sockets_told, sockets_logged}
 use Rattle.script_calls.proofs.Telling.{IsEndTold, of_script, of_client, begun_of, made_once, became_end}
@@ -135,8 +135,7 @@ module _ {O I P : Type 0} (g : Ghosts O) (out : O → OutState) (inn : I → InS
       let w = of_script g out inn bytes script reads told ended places seats left ends ends' last read b.place t is in
       let less : t.number < p.operations = slice_get_within (operations script) t.number w.operation w.there in
       let own_ : get_elem? all b.place ≡ some (tasks_of b.client) = ap (λ (l : List (List Task)). get_elem? l b.place) (sym (tasks_are left.ran)) ∙ mapped_at tasks_of clients b.place b.client b.at in
-      let s = call_said g out inn bytes script reads left.setup left.clients left.tasks left.opened told ended places left.vrefs left.outs seats left.ran ends ends' last read
-      (sent g out inn bytes script reads told ended places seats left ends ends' last read)
+      let s = call_said g out script p q told ended places last (left_told g out inn bytes script reads told ended places seats left ends ends' last read)
       t.number less w.operation w.there t.op w.asks b.place b.has.place (tasks_of b.client) own_ (task_at b.client.thread b.client.is b.has.place b.has.result b.has.at) b.asked b.op in
       subst (λ (n : ℕ). (by : Outcome) × Became all outcomes n by) b.has.number_is s
 

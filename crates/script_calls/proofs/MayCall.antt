@@ -3,6 +3,7 @@ use Rattle.std.proofs.Common.{◌≡◌, ℕ, ◌+◌, ◌<◌, ◌≤◌, List,
 use Rattle.std.specs.List.{AllByRecursion}
 use Rattle.brpc_model.specs.Places.{names}
 use Rattle.brpc_model.specs.Items.{Item}
+use Rattle.brpc_model.specs.Operations.{clients as clients_of}
 use Rattle.brpc_model.specs.Script.{script_of}
 use Rattle.sock_message.specs.Asked.{Asked}
 use Rattle.sock_words.specs.declared.plain.Plan.{Plan}
@@ -12,7 +13,7 @@ use Rattle.seat_programs.specs.declared.task.Task.{Task}
 use Rattle.seat_programs.specs.Scripts.{all_tasks}
 use Rattle.seat_programs.specs.Tasks.{numbered, plan_of}
 use Rattle.seat_programs.specs.Told.{AreTasks, OpFits, TaskFits}
-use Rattle.report_fits.proofs.Lists.{all_from}
+use Rattle.report_fits.proofs.Lists.{all_from, all_map}
 use Rattle.report_fits.proofs.Sizes.{keeps_limits}
 use Rattle.report_fits.proofs.TaskLemmas.{IsTaskOf, numbers_at, of_tasks, has_task, call_asks, tasks_length}
 use Rattle.report_fits.proofs.Tasks.{tasks_of_script}
@@ -87,7 +88,7 @@ module _ (p : Plan) (slots : ℕ) where
   all_may [] fit own few = tt
   all_may (ts ∷ tss) fit own few = (may_run ts fit.0 own.0 few.0, all_may tss fit.1 own.1 few.1)
 
-  first_may : (setup : List Task) (clients : List (List Task)) → AreTasks p (setup ∷ clients) → AllByRecursion (AllByRecursion IsOwnTask) (setup ∷ clients) → length (setup ∷ clients) ≡ p.seats → links_in (setup ∷ clients) ≡ p.links → MayRunAll p (ids_of p slots) setup clients
+  first_may : (setup : List Task) (clients : List (List Task)) → AreTasks p (setup ∷ clients) → AllByRecursion (AllByRecursion IsOwnTask) (setup ∷ clients) → length (setup ∷ clients) ≤ p.seats → links_in (setup ∷ clients) ≡ p.links → MayRunAll p (ids_of p slots) setup clients
   first_may setup clients are own seats links = record {
     setup_may = may_run setup are.fit.0 own.0 are.few.0;
     clients_may = all_may clients are.fit.1 own.1 are.few.1;
@@ -95,20 +96,56 @@ module _ (p : Plan) (slots : ℕ) where
     links = omega (arith, links, opens_are setup, each_opens clients);
   }
 
+-- ## Tables with other seats
+
+op_still : (p : Plan) (n : ℕ) (op : Op) → OpFits p op → OpFits (record p { seats = n }) op
+op_still p n (ops.Call asked) h = record { operation = h.operation; names = h.names; range_low = h.range_low; range_high = h.range_high; short = h.short }
+op_still p n other h = h
+
+-- what may be asked of a table may be asked of one with so many seats
+pub seated_tasks : (p : Plan) (n : ℕ) (clients : List (List Task)) → AreTasks p clients → AreTasks (record p { seats = n }) clients
+seated_tasks p n clients are = record {
+  some_ = are.some_;
+  fit = all_map (AllByRecursion (TaskFits p)) (AllByRecursion (TaskFits (record p { seats = n }))) (λ ts h. all_map (TaskFits p) (TaskFits (record p { seats = n })) (λ t fit. (fit.0, op_still p n t.op fit.1)) ts h) clients are.fit;
+  in_order = are.in_order;
+  differ = are.differ;
+  setup = are.setup;
+  alternating = are.alternating;
+  few = are.few;
+}
+
 -- ## A script that was read
 
-module _ (bytes : List ℕ) (script : List Item) (reads : script_of bytes ≡ Ok script) where
-  pub script_may : (slots : ℕ) (setup : List Task) (clients : List (List Task)) → setup ∷ clients ≡ all_tasks script → MayRunAll (plan_of script) (ids_of (plan_of script) slots) setup clients
-  script_may slots setup clients are =
-      first_may (plan_of script) slots setup clients (subst (AreTasks (plan_of script)) (sym are) (tasks_of_script bytes script reads))
-      (subst (AllByRecursion (AllByRecursion IsOwnTask)) (sym are) (all_own script)) (ap length are ∙ tasks_length script 0 _) (ap links_in are ∙ all_links script)
+-- a seat for each client of a script, and one for the setup
+pub script_seats : (script : List Item) (setup : List Task) (clients : List (List Task)) → setup ∷ clients ≡ all_tasks script → length clients + 1 ≡ (plan_of script).seats
+script_seats script setup clients are = let a = ap length are in let b = tasks_length script 0 (clients_of script + 1) in omega arith
 
-  pub script_begins : MayBegin (plan_of script)
-  script_begins = let k = keeps_limits bytes script reads in record {
+module _ (bytes : List ℕ) (script : List Item) (reads : script_of bytes ≡ Ok script) where
+  -- over tables with so many seats
+  abbrev pub seated : ℕ → Plan
+  seated n = record (plan_of script) { seats = n }
+
+  pub seated_are : (n : ℕ) (clients : List (List Task)) → clients ≡ all_tasks script → AreTasks (seated n) clients
+  seated_are n clients are = subst (AreTasks (seated n)) (sym are) (seated_tasks (plan_of script) n (all_tasks script) (tasks_of_script bytes script reads))
+
+  pub seated_may : (n slots : ℕ) (setup : List Task) (clients : List (List Task)) → setup ∷ clients ≡ all_tasks script → length clients + 1 ≤ n → MayRunAll (seated n) (ids_of (seated n) slots) setup clients
+  seated_may n slots setup clients are seats =
+      first_may (seated n) slots setup clients (seated_are n (setup ∷ clients) are)
+      (subst (AllByRecursion (AllByRecursion IsOwnTask)) (sym are) (all_own script)) (omega (arith, seats)) (ap links_in are ∙ all_links script)
+
+  pub seated_begins : (n : ℕ) → 1 ≤ n → n ≤ 64 → MayBegin (seated n)
+  seated_begins n some_ few = let k = keeps_limits bytes script reads in record {
     some_slots = (let a = k.some_slots in omega arith);
-    some_seats = omega arith;
-    few_seats = (let a = k.clients in omega arith);
+    some_seats = some_;
+    few_seats = few;
     few_links = (let a = k.links in omega arith);
     even = k.even;
     low = k.first;
   }
+
+  -- over those with a seat for each client and the setup
+  pub script_may : (slots : ℕ) (setup : List Task) (clients : List (List Task)) → setup ∷ clients ≡ all_tasks script → MayRunAll (plan_of script) (ids_of (plan_of script) slots) setup clients
+  script_may slots setup clients are = seated_may (plan_of script).seats slots setup clients are (let a = script_seats script setup clients are in omega arith)
+
+  pub script_begins : MayBegin (plan_of script)
+  script_begins = seated_begins (plan_of script).seats (omega arith) (let a = (keeps_limits bytes script reads).clients in omega arith)

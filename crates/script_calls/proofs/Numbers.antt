@@ -45,6 +45,11 @@ module _ (script : List Item) (p : Plan) (plan : p ≡ plan_of script) where
       subst (λ (q : Plan). All (λ (o : ℕ). o < q.operations) os) (sym plan) (subst (All (λ (o : ℕ). o < (plan_of script).operations)) (sym are)
       (All-from_recursion (λ (o : ℕ). o < (plan_of script).operations) (opens script) (all_low is_open 0 0 (operations script) (length (operations script)) (omega arith))))
 
+  pub calls_low : (cs : List ℕ) → cs ≡ calls script → All (λ (o : ℕ). o < p.operations) cs
+  calls_low cs are =
+      subst (λ (q : Plan). All (λ (o : ℕ). o < q.operations) cs) (sym plan) (subst (All (λ (o : ℕ). o < (plan_of script).operations)) (sym are)
+      (All-from_recursion (λ (o : ℕ). o < (plan_of script).operations) (calls script) (all_low is_call 0 0 (operations script) (length (operations script)) (omega arith))))
+
   pub calls_below : (slots : ℕ) (q : IdPlan) → q ≡ ids_of p slots → (cs : List ℕ) → cs ≡ calls script → All (λ (o : ℕ). o < q.operations) cs
   calls_below slots q same cs are =
       subst (λ (x : IdPlan). All (λ (o : ℕ). o < x.operations) cs) (sym same) (subst (λ (x : Plan). All (λ (o : ℕ). o < x.operations + 1) cs) (sym plan) (subst (All (λ (o : ℕ). o < (plan_of script).operations + 1)) (sym are)

@@ -18,7 +18,7 @@ use Rattle.call_run.specs.sock_table.specs.Closed.{ClosedBy}
 use Rattle.call_run.specs.sock_open.specs.Opening.{AreFresh}
 use Rattle.call_run.specs.Crew.{AreBack}
 use Rattle.script_links.specs.Given.{AreUntouched, AreNumbered}
-use Rattle.script_calls.specs.declared.halves.Rest.{Rest}
+use Rattle.call_run.specs.link_crew.specs.declared.beside.Rest.{Rest}
 use Rattle.script_calls.specs.Halves.{rest_of, joined, AreTaken}
 use Rattle.script_calls.proofs.Sayings.{to_slice}
 
@@ -78,10 +78,12 @@ module _ {O I P : Type 0} (out_state : O → OutState) (in_state : I → InState
   pub give_numbered : AreNumbered 0 (map (end_at out_state in_state) back)
   give_numbered = subst (λ l. AreNumbered 0 (map (end_at out_state in_state) l)) (sym is) (joined_numbered out_state in_state 0 outs rests (own_links out_state p outs has))
 
+  pub give_as_many : (ends : List (Ends O I P)) → length ends ≡ p.links → length rests ≡ length ends → length back ≡ length ends
+  give_as_many ends all many =
+      let n = has.count in ap length is ∙ (joined_long out_state in_state outs rests (omega arith) ∙ omega arith)
+
   pub give_long : (ends : List (Ends O I P)) → length ends ≡ p.links → rests ≡ map rest_of ends → length back ≡ length ends
-  give_long ends all are =
-      let n = has.count in let m = ap length are ∙ length-map ends rest_of in
-      ap length is ∙ (joined_long out_state in_state outs rests (omega arith) ∙ omega arith)
+  give_long ends all are = give_as_many ends all (ap length are ∙ length-map ends rest_of)
 
 -- one link more was put together
 pub joined_more : {O I P : Type 0} (back more : List (Ends O I P)) (outs left : List O) (o : O) (rs rest : List (Rest I P)) (r : Rest I P) (all : List (Ends O I P)) → back ++ joined outs rs ≡ all → outs ≡ o ∷ left → rs ≡ r ∷ rest → more ≡ back ++ (record { out = o; inn = r.inn; peer = r.peer }) ∷ [] → more ++ joined left rest ≡ all

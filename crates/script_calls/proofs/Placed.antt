@@ -1,6 +1,7 @@
 -- The place words of a run with calls tell an order of each link, and a `send` of which nothing is told has a place.
-use Rattle.std.proofs.Common.{◌≡◌, ℕ, zero, suc, ◌*◌, ◌≤◌, ◌⊎◌, inl, inr, List, [], ◌∷◌, flat_map, length, map, Some, None, Ok, refl, sym, ap, ◌∙◌, subst, arith}
-use Rattle.std.specs.Prelude.{Option}
+use Rattle.std.proofs.Common.{◌≡◌, ℕ, zero, suc, ◌*◌, ◌≤◌, ◌⊎◌, inl, inr, List, [], ◌∷◌, ◌++◌, flat_map, length, map, Some, None, Ok, refl, sym, ap, ◌∙◌, subst, arith}
+use Rattle.std.specs.Prelude.{Option, slice_get}
+use Rattle.std.specs.List.{AllByRecursion}
 use mathlib.Core.Option.{some, some-injective, some-ne-none}
 use lib.ListN.{get_elem?}
 use Rattle.sock_io.specs.declared.link.Out.{Ghosts}
@@ -11,11 +12,11 @@ use Rattle.sock_words.specs.Words.{HasPosition}
 use Rattle.sock_words.specs.declared.outcome.Outcome.{Outcome}
 use Rattle.sock_words.specs.declared.plain.Plan.{Plan}
 use Rattle.sock_words.specs.declared.place_word.PlaceWord.{PlaceWord}
+use Rattle.sock_words.specs.declared.vref.Vref.{Vref}
 use Rattle.brpc_model.specs.Items.{Item}
 use Rattle.brpc_model.specs.PlaceWords.{word_at, ArePlaces, HasEachOutcome}
 use Rattle.brpc_model.specs.Script.{script_of}
 use Rattle.corr_core.specs.Law.{total}
-use Rattle.corr_core.specs.declared.marks.Kept.{Kept}
 use Rattle.corr_core.specs.declared.marks.Note.{Note}
 use Rattle.corr_core.specs.declared.marks.Noted.{Noted}
 use Rattle.corr_core.specs.declared.marks.Plan as id_plan
@@ -23,7 +24,6 @@ use Rattle.corr_core.specs.declared.marks.View.{View}
 use Rattle.corr_core.proofs.Shuffles.{total_flat}
 use Rattle.id_rule.specs.Lawful.{notes_of}
 use Rattle.sock_message.specs.Asked.{Asked}
-use Rattle.corr_id.specs.Closing.{Closing}
 use Rattle.corr_id.proofs.Seats.{notes_append, total_append}
 use Rattle.seat_programs.specs.declared.task.Op.TheVariants as ops
 use Rattle.seat_programs.specs.declared.task.Task.{Task}
@@ -32,31 +32,26 @@ use Rattle.seat_programs.specs.Told.{AreTasks}
 use Rattle.report_fits.proofs.Sizes.{keeps_limits}
 use Rattle.report_fits.proofs.Tasks.{tasks_of_script}
 use Rattle.rpc_client.specs.declared.acting.Told.{Told}
-use Rattle.rpc_reader.specs.Books.{Books}
-use Rattle.rpc_reader.specs.Resting.{OneEnded, RestEnded}
-use Rattle.call_run.specs.Threads.{Thread, MayRunAll, ids_of}
+use Rattle.call_run.specs.Readers.{LinkReader}
+use Rattle.call_run.specs.Threads.{Thread, MayRunAll, RanWith, ids_of}
+use Rattle.call_whys.specs.call_told.specs.Least.{HasBegun, IsEndTold}
+use Rattle.call_whys.specs.call_told.proofs.Least.{AllEnded, told_least}
 use Rattle.call_whys.specs.call_places.specs.Counted.{makes, HaveNotesOf}
 use Rattle.call_whys.specs.call_places.proofs.Clients.{Client, tasks_of, deeds_of}
-use Rattle.call_whys.specs.call_places.proofs.Ids.{IdLaws}
+use Rattle.call_whys.specs.call_places.proofs.Ids.{IdLaws, laws_of}
 use Rattle.call_whys.specs.call_places.proofs.Own.{IsMade, deed_of}
 use Rattle.call_whys.specs.call_places.proofs.Places.{all, all_are, tasks_are, are_places, send_placed}
-use Rattle.call_whys.specs.call_places.proofs.Reader.{MadeNone, none_then, none_noted, none_rested, read_none}
+use Rattle.call_whys.specs.call_places.proofs.Reader.{MadeNone, none_then, read_none, rest_none}
 use Rattle.script_calls.specs.Reading.{IdSeat, begins, HasRead}
 use Rattle.script_calls.specs.Told.{outcomes_of, IsLeft}
-use Rattle.script_calls.proofs.Each.{each_outcome}
-use Rattle.script_calls.proofs.MayCall.{script_may}
+use Rattle.script_calls.proofs.Began.{tell}
+use Rattle.script_calls.proofs.Clients.{balanced}
+use Rattle.script_calls.proofs.Each.{own_one, tasks_fit, IsTold, each_outcome}
+use Rattle.script_calls.proofs.MayCall.{IsOwnTask, all_own, script_may}
 use Rattle.script_calls.proofs.Numbers.{few_operations}
 use Rattle.script_calls.proofs.Shown.{view_of, flat_mapped}
 
 -- ## What the closed table has of the clients' seats
-
-one_none : (p : id_plan.Plan) (code operation : ℕ) (b b' : Books) → OneEnded p code operation b b' → MadeNone b.view b'.view
-one_none p code operation b b' (inl n) = none_noted b.view b'.view (ap (λ (v : View Asked). v.notes) n.view)
-one_none p code operation b b' (inr n) = none_then b.view n.seen b'.view (none_noted b.view n.seen (ap (λ (v : View Asked). v.notes) n.kept)) (none_rested code p.slots n.id (record b { view = n.seen }) b' n.ends)
-
-rest_none : (p : id_plan.Plan) (code : ℕ) (os : List ℕ) (b b' : Books) → RestEnded p code os b b' → MadeNone b.view b'.view
-rest_none p code [] b b' h = none_noted b.view b'.view (ap (λ (x : Books). x.view.notes) h)
-rest_none p code (o ∷ os) b b' h = none_then b.view h.0.view b'.view (one_none p code o b h.0 h.1) (rest_none p code os h.0 b' h.2)
 
 pub each_notes : (i : ℕ) (f : Note Asked → ℕ) (vs : List (View Asked)) → total f (notes_of i (flat_map (λ (v : View Asked). v.notes) vs)) ≡ total (λ (v : View Asked). total f (notes_of i v.notes)) vs
 each_notes i f [] = refl
@@ -71,9 +66,6 @@ have_notes vs v w e m = record {
   made = λ o. (let a = total_flat (λ (x : View Asked). x.notes) (makes o) vs in let b = ap (total (makes o)) e in let c = m.made o in omega arith);
 }
 
-laws_of : (p : id_plan.Plan) (notes : List (Noted Asked)) (kept : List Kept) (words : List ℕ) → Closing p notes kept words → IdLaws p.slots notes
-laws_of p notes kept words c = record { advanced_once = c.advanced_once; advanced_made = c.advanced_made; locked_made = c.locked_made; range_is = c.range_is; ranges_apart = c.ranges_apart }
-
 -- ## By places
 
 pub mapped_from : {A B : Type 0} (f : A → B) (xs : List A) (c : ℕ) (y : B) → get_elem? (map f xs) c ≡ some y → (x : A) × (get_elem? xs c ≡ some x) × (f x ≡ y)
@@ -85,6 +77,29 @@ pub mapped_at : {A B : Type 0} (f : A → B) (xs : List A) (c : ℕ) (x : A) →
 mapped_at f [] c x e = absurd (some-ne-none x (sym e))
 mapped_at {A} {B} f (y ∷ ys) zero x e = ap (λ (z : A). some (f z)) (some-injective y x e)
 mapped_at f (y ∷ ys) (suc c) x e = mapped_at f ys c x e
+
+-- ## A run of a script over tables of any sizes
+
+module _ {O : Type 0} {g : Ghosts O} {state : O → OutState} {readers : List (LinkReader g)} {p : Plan} {slots : ℕ} {setup : List Task} {clients : List (List Task)} {opens : List ℕ} {told ended : List (List Told)} {places : List PlaceWord} {vrefs : List Vref} {outs : List O} {ids : List (View Asked)}
+    (ran : RanWith g state readers p slots setup clients opens told ended places vrefs outs ids) (tasks : AreTasks p (setup ∷ clients)) (fits : MayRunAll p (ids_of p slots) setup clients) (notes : List (Noted Asked)) (are_laws : IdLaws slots notes) (has : HaveNotesOf ids notes)
+    (few_links : p.links ≤ 65536) (few_numbers : p.operations ≤ 65536) where
+  -- a `send` is told or has a place
+  pub send_told : (c k : ℕ) (ts : List Task) (t : Task) (n : ℕ) (message : List ℕ) → get_elem? (setup ∷ clients) c ≡ some ts → get_elem? ts k ≡ some t → t.op ≡ ops.Send n message
+      → ((own : List Told) × (i : ℕ) × (x : Told) × (get_elem? told c ≡ some own) × (get_elem? own i ≡ some x) × (x.number ≡ t.number)) ⊎ HasPosition (word_at places (8 * t.number))
+  send_told c k ts t n message of_client in_it is = by made.by refl
+    where
+      found : (cl : Client g state p (ids_of p slots)) × (get_elem? (all ran) c ≡ some cl) × (tasks_of cl ≡ ts)
+      found = mapped_from tasks_of (all ran) c ts (ap (λ (l : List (List Task)). get_elem? l c) (tasks_are ran) ∙ of_client)
+
+      made : IsMade g state p (ids_of p slots) (deeds_of found.0) found.0.thread.ended.outcomes.items t
+      made = deed_of found.0.thread found.0.is k t (ap (λ (l : List Task). get_elem? l k) found.2 ∙ in_it)
+
+      told_at : get_elem? told c ≡ some found.0.thread.ended.outcomes.items
+      told_at = ap (λ (l : List (List Told)). get_elem? l c) (sym (all_are ran (λ (x : Thread g). x.ended.outcomes.items) ∙ ran.ran.told_is)) ∙ mapped_at (λ (x : Client g state p (ids_of p slots)). x.thread.ended.outcomes.items) (all ran) c found.0 found.1
+
+      by : (o : Option Outcome) → made.by ≡ o → ((own : List Told) × (i : ℕ) × (x : Told) × (get_elem? told c ≡ some own) × (get_elem? own i ≡ some x) × (x.number ≡ t.number)) ⊎ HasPosition (word_at places (8 * t.number))
+      by None e = inr (send_placed ran tasks fits notes are_laws has few_links few_numbers c found.0 found.1 t n message is made e)
+      by (Some o) e = let w = made.tells o e in inl (found.0.thread.ended.outcomes.items, w.0, record { number = t.number; outcome = o }, told_at, w.1, refl)
 
 -- ## A run of a script
 
@@ -107,7 +122,7 @@ module _ {O I P : Type 0} (g : Ghosts O) (out : O → OutState) (inn : I → InS
 
   pub have : HaveNotesOf (map view_of seats) read.last.view.notes
   have = have_notes (map view_of seats) read.main.me.0 read.last.view (read.took.notes ∙ flat_mapped view_of (λ (v : View Asked). v.notes) seats)
-      (none_then read.main.me.0 read.between.view read.last.view (read_none out inn q (calls script) 0 ends ends' (begins read.main) read.between read.read) (rest_none q EEOF (calls script) read.between read.last read.rest))
+      (none_then read.main.me.0 read.between.view read.last.view (read_none out inn q (calls script) 0 ends ends' (begins read.main) read.between read.read) (rest_none EEOF q (calls script) read.between read.last read.rest))
 
   pub laws : IdLaws slots read.last.view.notes
   laws = laws_of q read.last.view.notes read.last.view.kept read.words read.closing
@@ -124,23 +139,47 @@ module _ {O I P : Type 0} (g : Ghosts O) (out : O → OutState) (inn : I → InS
   -- a `send` is told or has a place
   pub sent : (c k : ℕ) (ts : List Task) (t : Task) (n : ℕ) (message : List ℕ) → get_elem? (left.setup ∷ left.clients) c ≡ some ts → get_elem? ts k ≡ some t → t.op ≡ ops.Send n message
       → ((own : List Told) × (i : ℕ) × (x : Told) × (get_elem? told c ≡ some own) × (get_elem? own i ≡ some x) × (x.number ≡ t.number)) ⊎ HasPosition (word_at places (8 * t.number))
-  sent c k ts t n message of_client in_it is = by made.by refl
+  sent = send_told left.ran are may read.last.view.notes laws have few low
+
+  pub own_tasks : AllByRecursion (AllByRecursion IsOwnTask) (left.setup ∷ left.clients)
+  own_tasks = subst (AllByRecursion (AllByRecursion IsOwnTask)) (sym left.tasks) (all_own script)
+
+  pub least_told : (k : ℕ) (v : View Asked) (operation id j : ℕ) → get_elem? (map view_of seats) k ≡ some v → HasBegun q operation id v → slice_get (calls script) j ≡ Some operation → IsEndTold operation id (ended ++ last ∷ [])
+  least_told k v operation id j at begun listed =
+      subst (λ (l : List Told). IsEndTold operation id (ended ++ l ∷ [])) (sym read.told_is)
+      (told_least out inn q (calls script) EEOF ended (map view_of seats) ends ends' (begins read.main) read.between read.last read.words all_ended k v operation id at begun
+      (own_one g out p q left.setup left.clients left.opened told ended left.ran.seats (map view_of seats) left.ran.ran own_tasks p are operation) j listed).1
     where
-      found : (cl : Client g out p q) × (get_elem? (all left.ran) c ≡ some cl) × (tasks_of cl ≡ ts)
-      found = mapped_from tasks_of (all left.ran) c ts (ap (λ (l : List (List Task)). get_elem? l c) (tasks_are left.ran) ∙ of_client)
+      all_ended : AllEnded out inn q (calls script) EEOF ended (map view_of seats) ends ends' (begins read.main) read.between read.last read.words
+      all_ended = record {
+        balanced = balanced out p q left.setup left.clients left.opened told ended left.ran.seats (map view_of seats) left.ran.ran;
+        tell = tell g out p q left.setup left.clients left.opened told ended left.ran.seats (map view_of seats) left.ran.ran (tasks_fit (left.setup ∷ left.clients) own_tasks);
+        notes = read.took.notes ∙ flat_mapped view_of (λ (v : View Asked). v.notes) seats;
+        kept = read.took.kept ∙ flat_mapped view_of (λ (v : View Asked). v.kept) seats;
+        none_told = refl;
+        read = read.read;
+        rest = read.rest;
+        calm = read.calm;
+        closing = read.closing;
+      }
 
-      made : IsMade g out p q (deeds_of found.0) found.0.thread.ended.outcomes.items t
-      made = deed_of found.0.thread found.0.is k t (ap (λ (l : List Task). get_elem? l k) found.2 ∙ in_it)
-
-      told_at : get_elem? told c ≡ some found.0.thread.ended.outcomes.items
-      told_at = ap (λ (l : List (List Told)). get_elem? l c) (sym (all_are left.ran (λ (x : Thread g). x.ended.outcomes.items) ∙ left.ran.ran.told_is)) ∙ mapped_at (λ (x : Client g out p q). x.thread.ended.outcomes.items) (all left.ran) c found.0 found.1
-
-      by : (o : Option Outcome) → made.by ≡ o → ((own : List Told) × (i : ℕ) × (x : Told) × (get_elem? told c ≡ some own) × (get_elem? own i ≡ some x) × (x.number ≡ t.number)) ⊎ HasPosition (word_at places (8 * t.number))
-      by None e = inr (send_placed left.ran are may read.last.view.notes laws have few low c found.0 found.1 t n message is made e)
-      by (Some o) e = let w = made.tells o e in inl (found.0.thread.ended.outcomes.items, w.0, record { number = t.number; outcome = o }, told_at, w.1, refl)
+  -- all that tell of ends of calls are clients
+  abbrev pub left_told : IsTold g out script p q told ended places last
+  left_told = record {
+    setup = left.setup;
+    clients = left.clients;
+    tasks = left.tasks;
+    opens = left.opened;
+    ended = ended;
+    seats = left.ran.seats;
+    ids = map view_of seats;
+    ran = left.ran.ran;
+    least = least_told;
+    sent = sent;
+  }
 
   pub left_each : HasEachOutcome places (outcomes_of p.operations told ended last)
-  left_each = each_outcome g out inn bytes script reads left.setup left.clients left.tasks left.opened told ended places left.vrefs left.outs seats left.ran ends ends' last read sent
+  left_each = each_outcome g out script p q told ended places last left_told
 
 -- ## As a run finds it
 

@@ -19,9 +19,8 @@ use Rattle.seat_programs.specs.Scripts.{all_tasks}
 use Rattle.seat_programs.specs.Tasks.{plan_of, opens, calls}
 use Rattle.corr_core.specs.declared.marks.Plan as id_plan
 use Rattle.rpc_client.specs.declared.acting.Told.{Told}
-use Rattle.callless_fits.specs.sock_deeds.specs.Told.{fixed_by}
 use Rattle.script_links.specs.Given.{AreUntouched, AreNumbered}
-use Rattle.script_calls.specs.declared.halves.Rest.{Rest}
+use Rattle.call_run.specs.link_crew.specs.declared.beside.Rest.{Rest}
 use Rattle.script_calls.specs.Halves.{AreTaken, rest_of, joined}
 use Rattle.script_calls.proofs.Parting.{end_at, IsSilent, are_silent}
 use Rattle.script_calls.proofs.Sayings.{long_each}
@@ -41,7 +40,7 @@ use Rattle.script_calls.proofs.Failing.{calls_told}
 use Rattle.script_calls.proofs.Sockets.{sockets_told}
 use Rattle.script_calls.proofs.Whole.{whole_if}
 
-long_replicate : {A : Type 0} (n : ℕ) (x : A) → length (replicate n x) ≡ n
+pub long_replicate : {A : Type 0} (n : ℕ) (x : A) → length (replicate n x) ≡ n
 long_replicate zero x = refl
 long_replicate (suc n) x = ap suc (long_replicate n x)
 

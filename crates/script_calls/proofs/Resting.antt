@@ -30,16 +30,21 @@ joined_open z all s is share some_ = record { sits = (is.0, omega (arith, share,
 pub begins_as : (c : AnswerSeat) (main : IdSeat) → c.seat ≡ main → (c.early.items ≡ []) × (c.told.items ≡ []) × (c.starved ≡ false) → books c ≡ begins main
 begins_as c main seat empty = λ i. record { view = (seat i).me.0; early = empty.0 i; told = empty.1 i; starved = empty.2 i }
 
--- the table is closed with the seat that is left of a new reader's
-module _ (z : TableId) (new mid left : IdSeat) (first : Rests new mid) (then_ : Rests mid left) (done more : List IdSeat) (none_ : done ≡ []) (pushed : more ≡ done ++ left ∷ []) where
-  whole : Rests new left
-  whole = rests_then new mid left first then_
-
+-- the table is closed with the seat that is left of the one that took in all
+module _ (z : TableId) (new left : IdSeat) (whole : Rests new left) (done more : List IdSeat) (none_ : done ≡ []) (pushed : more ≡ done ++ left ∷ []) where
   alone : more ≡ left ∷ []
   alone = pushed ∙ ap (λ (l : List IdSeat). l ++ left ∷ []) none_
 
+  pub rested_left : IsOpen z new → new.me.1 ≡ [] → AllOf z more
+  rested_left open_ slots = let o = open_still z new left open_ whole in subst (AllOf z) (sym alone) ((o.sits.0, whole.stays.2 ∙ slots, o.free), tt)
+
+  pub rested_all : total share_of more ≡ share_of new
+  rested_all = let a = ap (total share_of) alone in let b = whole.share in omega arith
+
+-- the same where it read the links between
+module _ (z : TableId) (new mid left : IdSeat) (first : Rests new mid) (then_ : Rests mid left) (done more : List IdSeat) (none_ : done ≡ []) (pushed : more ≡ done ++ left ∷ []) where
   pub closing_left : IsOpen z new → new.me.1 ≡ [] → AllOf z more
-  closing_left open_ slots = let o = open_still z new left open_ whole in subst (AllOf z) (sym alone) ((o.sits.0, whole.stays.2 ∙ slots, o.free), tt)
+  closing_left = rested_left z new left (rests_then new mid left first then_) done more none_ pushed
 
   pub closing_all : total share_of more ≡ share_of new
-  closing_all = let a = ap (total share_of) alone in let b = whole.share in omega arith
+  closing_all = rested_all z new left (rests_then new mid left first then_) done more none_ pushed

@@ -37,7 +37,8 @@ each_few : (id : ℕ) (said : List (Option Outcome)) (tss : List (List Told)) �
 each_few id said [] = omega arith
 each_few id said (ts ∷ tss) = let a = each_few id (said_by said ts) tss in let b = said_few id said ts in omega arith
 
-outcomes_few : (n : ℕ) (told ended : List (List Told)) (read : List Told) (id : ℕ) → total (shows id) (outcomes_of n told ended read) ≤ total (told_ends id) (told ++ (ended ++ read ∷ []))
+-- the ends of a call that are shown are no more than those that are told
+pub outcomes_few : (n : ℕ) (told ended : List (List Told)) (read : List Told) (id : ℕ) → total (shows id) (outcomes_of n told ended read) ≤ total (told_ends id) (told ++ (ended ++ read ∷ []))
 outcomes_few n told ended read id =
     let a = each_few id (replicate n None) ((told ++ ended) ++ read ∷ []) in
     let b = shown_none id n in

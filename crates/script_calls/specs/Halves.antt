@@ -5,7 +5,7 @@ use Rattle.sock_io.specs.Link.{OutState}
 use Rattle.brpc_model.specs.PlaceWords.{took_at}
 use Rattle.call_run.specs.sock_open.specs.Opening.{IsRoom}
 use Rattle.std.specs.VecDeque.{deque_len, deque_capacity}
-use Rattle.script_calls.specs.declared.halves.Rest.{Rest}
+use Rattle.call_run.specs.link_crew.specs.declared.beside.Rest.{Rest}
 use Rattle.script_calls.specs.declared.halves.Halves.{Halves}
 
 abbrev pub rest_of : {O I P : Type 0} → Ends O I P → Rest I P

@@ -4,3 +4,6 @@ pub mod Saying
 pub mod Ready
 pub mod Reading
 pub mod Told
+pub use Rattle.call_whys
+pub use Rattle.id_rule
+pub use Rattle.report_fits

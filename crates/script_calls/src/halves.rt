@@ -3,16 +3,10 @@ ghost use Rattle.std.specs.Prelude.{◌≡◌, ◌≤◌, ◌+◌, [], ℕ, List
 ghost use Rattle.call_run.specs.sock_open.specs.Opening.{IsRoom};
 ghost use Rattle.script_calls.specs.Halves.{rest_of, joined, HasRoomFor};
 
+use call_run::Rest;
 use sock_io::{Ends, In, Out, Peer};
 use std::alloc::{AllocError, Global};
 use std::collections::VecDeque;
-
-/// What a link has besides its writing half.
-#[derive(Drop)]
-pub struct Rest<I: In, P: Peer> {
-    pub inn: I,
-    pub peer: P,
-}
 
 /// Room for the halves of links.
 #[derive(Drop)]

@@ -10,5 +10,10 @@ mod reporting;
 mod run;
 mod saying;
 
+pub use asking::{Ready, prepare};
 pub use built::is_joinless;
-pub use run::run_calls_on_threads;
+pub use halves::{Halves, join, part};
+pub use reading::join_all;
+pub use reporting::{outcomes_of, report};
+pub use run::{or_no_memory, run_calls_on_threads};
+pub use script_tasks::NoMemory;

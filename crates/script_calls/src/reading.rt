@@ -16,7 +16,7 @@ use std::alloc::Global;
 use std::sync::Wait;
 
 /// One seat that has what all of these noted, in their order.
-fn join_all(ids: &IdTable<Call>, seats: Vec<IdSeat<Call>>) -> IdSeat<Call>
+pub fn join_all(ids: &IdTable<Call>, seats: Vec<IdSeat<Call>>) -> IdSeat<Call>
     requires seats { AreLeft ids.now.table.shared.table_id seats.items }
     requires words { 0 < ids.now.table.shared.table_id.words }
     requires some { 1 ≤ total (λ s. s.me.0.share) seats.items }

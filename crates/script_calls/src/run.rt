@@ -166,7 +166,7 @@ fn run_over<L: Linker, G: Gate + Sync, R: Threads + Wait + Sync>(
 }
 
 /// The text, unless memory was wanting.
-fn or_no_memory(text: Result<Vec<u8>, NoMemory>) -> Result<Vec<u8>, OpenFault>
+pub fn or_no_memory(text: Result<Vec<u8>, NoMemory>) -> Result<Vec<u8>, OpenFault>
     ensures ok { IfOk result (λ t. text ≡ Ok t) }
     ensures known { IsErrOf result OpenFault.Failed → ⊥ }
 {

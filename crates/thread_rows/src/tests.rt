@@ -4,7 +4,7 @@ ghost use Rattle.brpc_model.specs.Script.{script_of};
 ghost use Rattle.script_links.specs.Given.{has_piece};
 
 use crate::held::{HeldGate, HeldLinker, is_done, new_flags};
-use script_calls::{is_joinless, run_calls_on_threads};
+use script_beside::{is_joinless, run_calls_on_threads};
 use script_items::Script;
 use script_lang::read_script;
 use sock_io::{Gate, Linker, Mode, OpenGate};
@@ -12,18 +12,24 @@ use std::alloc::{AllocError, Global};
 use std::sync::{Arc, Wait};
 use std::thread::Threads;
 
-/// The script of a text that threads run.
+/// The script of a text.
 #[tactic(auto, using(crate::proofs::Pieces::has_pieces))]
-fn runnable_script(alloc: Global, text: &[u8]) -> Option<Script>
+pub(crate) fn script_in(alloc: Global, text: &[u8]) -> Option<Script>
     ensures script { IfSome result (λ script. (bytes : List ℕ) × (script_of bytes ≡ Ok script)) }
     ensures pieces { IfSome result (λ script. list_all has_piece script ≡ true) }
 {
     if 65_536 < text.len() {
         return None;
     }
-    let Ok(script) = read_script(alloc, text) else {
-        return None;
-    };
+    read_script(alloc, text).ok()
+}
+
+/// The script of a text that has no `join`.
+fn runnable_script(alloc: Global, text: &[u8]) -> Option<Script>
+    ensures script { IfSome result (λ script. (bytes : List ℕ) × (script_of bytes ≡ Ok script)) }
+    ensures pieces { IfSome result (λ script. list_all has_piece script ≡ true) }
+{
+    let script = script_in(alloc, text)?;
     if is_joinless(&script) {
         Some(script)
     } else {
@@ -50,7 +56,7 @@ fn report_over<L: Linker, G: Gate + Sync, R: Threads + Wait + Sync>(
 }
 
 /// Whether it is this text.
-fn tells(report: Option<Vec<u8>>, text: &[u8]) -> bool {
+pub(crate) fn tells(report: Option<Vec<u8>>, text: &[u8]) -> bool {
     match report {
         Some(report) => report.as_slice() == text,
         None => false,

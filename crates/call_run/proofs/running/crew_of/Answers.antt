@@ -12,13 +12,13 @@ use Rattle.call_run.proofs.Manning.{enough, share}
 use Rattle.call_run.proofs.running.crew_of.Goals as goal
 
 pub hire-main-requires-clause-enough : goal.hire-main-requires-clause-enough
-hire-main-requires-clause-enough g c = enough c.args.tables.now.socks.rule.plan c.args.tables.now.ids.plan c.args.tables.now.socks.rule.table.shared.table_id c.args.cast.main.tasks.items c.args.cast.rooms.items c.args.dealt.items c.args.passes.items c.reverse.new.self.items c.requires.made c.requires.may c.reverse.ensures.items
+hire-main-requires-clause-enough g c = enough c.args.tables.now.socks.rule.plan c.args.tables.now.ids.plan c.args.cast.main.tasks.items c.args.cast.rooms.items c.args.passes.items c.reverse.new.self.items c.requires.links c.requires.may c.reverse.ensures.items
 
 pub hire_all-requires-clause-may : goal.hire_all-requires-clause-may
 hire_all-requires-clause-may g c = let z = c.args.tables.now.socks.rule.table.shared.table_id in let p = c.args.tables.now.socks.rule.plan in let y = c.args.tables.now.ids.table.shared.table_id in let e = c.hire-main.ensures in let r = c.requires in
     (share z p y c.args.tables.now.ids.plan c.args.cast.main.tasks.items c.args.cast.rooms.items c.args.dealt.items c.pop.new.self.items c.in-Some.seat c.args.ids.items c.pop-2.new.self.items c.in-Some-pop.id_seat c.args.passes.items c.reverse.new.self.items c.hire-main.new.all.items c.hire-main.result.caller.passes.items
-    r.made r.ids r.as_many.0 r.may r.cast.rooms c.in-Some.ensures.items c.in-Some-pop.ensures.items c.reverse.ensures.items
-    (All-permutation (IsPass z p) c.args.passes.items c.reverse.new.self.items c.reverse.ensures.permutation (passes_all z p 0 c.args.passes.items r.made.passes_are)) e.passes e.count).others
+    r.dealt r.ids r.as_many r.passes r.links r.may r.cast.rooms c.in-Some.ensures.items c.in-Some-pop.ensures.items c.reverse.ensures.items
+    (All-permutation (IsPass z p) c.args.passes.items c.reverse.new.self.items c.reverse.ensures.permutation (passes_all z p 0 c.args.passes.items r.passes)) e.passes e.count).others
 
 pub hire_all-requires-clause-room : goal.hire_all-requires-clause-room
 hire_all-requires-clause-room g c = subst (λ n. IsRoom n c.args.cast.workers) (length-map c.args.cast.rooms.items (λ r. r.tasks.items)) c.requires.cast.workers
@@ -26,8 +26,8 @@ hire_all-requires-clause-room g c = subst (λ n. IsRoom n c.args.cast.workers) (
 pub returns : goal.returns
 returns g c = let z = c.args.tables.now.socks.rule.table.shared.table_id in let p = c.args.tables.now.socks.rule.plan in let y = c.args.tables.now.ids.table.shared.table_id in let e = c.hire-main.ensures in let w = c.hire-main.result in let r = c.requires in
     let s = share z p y c.args.tables.now.ids.plan c.args.cast.main.tasks.items c.args.cast.rooms.items c.args.dealt.items c.pop.new.self.items c.in-Some.seat c.args.ids.items c.pop-2.new.self.items c.in-Some-pop.id_seat c.args.passes.items c.reverse.new.self.items c.hire-main.new.all.items c.hire-main.result.caller.passes.items
-    r.made r.ids r.as_many.0 r.may r.cast.rooms c.in-Some.ensures.items c.in-Some-pop.ensures.items c.reverse.ensures.items
-    (All-permutation (IsPass z p) c.args.passes.items c.reverse.new.self.items c.reverse.ensures.permutation (passes_all z p 0 c.args.passes.items r.made.passes_are)) e.passes e.count in record {
+    r.dealt r.ids r.as_many r.passes r.links r.may r.cast.rooms c.in-Some.ensures.items c.in-Some-pop.ensures.items c.reverse.ensures.items
+    (All-permutation (IsPass z p) c.args.passes.items c.reverse.new.self.items c.reverse.ensures.permutation (passes_all z p 0 c.args.passes.items r.passes)) e.passes e.count in record {
       main_is = ap (λ v. v.items) e.others.1;
       main_hired = record {
         number = e.others.0;
@@ -41,7 +41,6 @@ returns g c = let z = c.args.tables.now.socks.rule.table.shared.table_id in let 
       hired = subst (λ k. AreHired z p y 1 k c.hire_all.new.workers.items) s.next c.hire_all.ensures.hired;
       tasks = c.hire_all.ensures.tasks;
       may = r.may;
-      as_many = r.as_many.1;
       openings_are = r.cast.openings_are;
       names = r.cast.names;
       left = r.cast.left;

@@ -28,12 +28,12 @@ run_workers-requires g c = let z = c.args.tables.now.socks.rule.table.shared.tab
 pub end_sockets-seats-requires-clause-seats : goal.end_sockets-seats-requires-clause-seats
 end_sockets-seats-requires-clause-seats g c = let z = c.args.tables.now.socks.rule.table.shared.table_id in let p = c.args.tables.now.socks.rule.plan in let y = c.args.tables.now.ids.table.shared.table_id in let q = c.args.tables.now.ids.plan in let names = c.as_slice-3.result.now in let was = c.args.crew.workers.items in let m = c.work.new.self in let ys = c.run_workers.new.workers in
     let len = c.run_workers.ensures.length ∙ ap length c.as_mut_slice.ensures.value in
-    all_left g.O.Out.state z p y q c.args.crew m names ys c.hand_in.new.left c.hand_in_all.new.left c.requires.crew c.work.ensures
+    let left = all_left g.O.Out.state z p y q c.args.crew m names ys c.hand_in.new.left c.hand_in_all.new.left c.requires.crew c.work.ensures
     (c.as_slice-3.ensures.value ∙ (c.opened_names.ensures ∙ (λ i. opened_names (c.as_slice.ensures.value i) ((c.as_slice-2.ensures.value ∙ c.requires.crew.openings_are) i))))
     len
     (subst (λ l. (i : ℕ) (d : Worker g.row.O.Denot g.O.Out) → i < length l → HasWorked g.O.Out.state z p y q names (get_or l i d) (get_or ys i d)) c.as_mut_slice.ensures.value c.run_workers.ensures.each)
     _ c.hand_in.ensures c.hand_in_all.ensures
-    (whole_lent ys was c.args.crew.workers.len (omega (arith, c.args.crew.workers.ok.0)) len)
+    (whole_lent ys was c.args.crew.workers.len (omega (arith, c.args.crew.workers.ok.0)) len) in let all = left.all in (left.done, omega (arith, all))
 
 pub returns : goal.returns
 returns g c = let z = c.args.tables.now.socks.rule.table.shared.table_id in let p = c.args.tables.now.socks.rule.plan in let y = c.args.tables.now.ids.table.shared.table_id in let q = c.args.tables.now.ids.plan in let names = c.as_slice-3.result.now in let was = c.args.crew.workers.items in let m = c.work.new.self in let ys = c.run_workers.new.workers in

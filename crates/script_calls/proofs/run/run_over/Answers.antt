@@ -6,7 +6,7 @@ use Rattle.sock_words.specs.declared.plain.Plan.{Plan}
 use Rattle.call_run.specs.Threads.{ids_of, MayRunAll}
 use Rattle.script_links.proofs.Numbering.{numbered_of}
 use Rattle.script_calls.proofs.Parting.{end_at, are_fresh, closed_back, give_numbered, give_long}
-use Rattle.script_calls.proofs.MayCall.{script_may, script_begins}
+use Rattle.script_calls.proofs.MayCall.{script_seats, script_may, script_begins}
 use Rattle.script_calls.proofs.Numbers.{few_calls, few_operations, opens_below, calls_below}
 use Rattle.call_run.proofs.Manning.{whole_lent}
 use Rattle.script_calls.specs.Halves.{rest_of}
@@ -35,6 +35,12 @@ pub run_on-requires-clause-may : goal.run_on-requires-clause-may
 run_on-requires-clause-may g c κs within =
     subst (λ (q : Plan). MayRunAll q (ids_of q c.in-Ok.ready.slots) c.in-Ok.ready.setup.items (map (λ v. v.items) c.in-Ok.ready.clients.items)) (sym c.in-Ok.ensures.plan)
     (script_may c.requires.script.0 c.args.script.now c.requires.script.1 c.in-Ok.ready.slots c.in-Ok.ready.setup.items (map (λ v. v.items) c.in-Ok.ready.clients.items) c.in-Ok.ensures.tasks)
+
+pub run_on-requires-clause-seats : goal.run_on-requires-clause-seats
+run_on-requires-clause-seats g c κs within =
+    let n = length-map c.in-Ok.ready.clients.items (λ v. v.items) in
+    let a = script_seats c.args.script.now c.in-Ok.ready.setup.items (map (λ v. v.items) c.in-Ok.ready.clients.items) c.in-Ok.ensures.tasks in
+    let p = ap (λ (x : Plan). x.seats) c.in-Ok.ensures.plan in omega (arith, n, a, p)
 
 pub run_on-requires-clause-opens : goal.run_on-requires-clause-opens
 run_on-requires-clause-opens g c κs within = opens_below c.args.script.now c.in-Ok.ready.plan c.in-Ok.ensures.plan c.deref.result.now (c.deref.ensures.value ∙ c.in-Ok.ensures.opens_are)

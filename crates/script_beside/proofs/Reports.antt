@@ -1,0 +1,109 @@
+-- What the report of a run tells whose links were read beside its clients: answers come from responses that links gave, and no end of a call is shown twice.
+use Rattle.std.proofs.Common.{ℕ, Ok, Err, Result, IfOk, List, [], ◌∷◌, ◌++◌, map, length, replicate, None, refl, sym, ◌∙◌, subst}
+use Rattle.std.specs.Prelude.{Option}
+use Rattle.std.specs.List.{AllByRecursion, flat_map}
+use Rattle.sock_io.specs.declared.link.Out.{Ghosts}
+use Rattle.sock_io.specs.Link.{OutState, InState}
+use Rattle.sock_words.specs.declared.outcome.Outcome.{Outcome}
+use Rattle.sock_words.specs.declared.plain.Plan.{Plan}
+use Rattle.brpc_model.specs.Items.{Item}
+use Rattle.brpc_model.specs.Link.{LinkEnd}
+use Rattle.brpc_model.specs.Operations.{operations}
+use Rattle.corr_core.specs.declared.marks.Plan as id_plan
+use Rattle.seat_programs.specs.Tasks.{plan_of, opens, calls}
+use Rattle.rpc_client.specs.declared.acting.Told.{Told}
+use Rattle.rpc_reader.specs.Books.{Books}
+use Rattle.prpc_frame.specs.declared.frame.Frame.{Frame}
+use Rattle.call_run.specs.Readers.{LinkReader}
+use Rattle.script_calls.specs.call_whys.specs.call_told.specs.Answers.{IsFailure, IsOwn, HaveAnswers, AreAnsweredBy}
+use Rattle.script_calls.specs.call_whys.specs.call_told.specs.Once.{ToldOnce}
+use Rattle.script_calls.specs.call_whys.specs.call_told.proofs.Answering.{IsAskedIn, AllHave}
+use Rattle.script_calls.specs.call_whys.specs.call_told.proofs.Balance.{AreBalanced}
+use Rattle.script_calls.specs.call_whys.specs.call_told.proofs.Beside.{gave_beside, readers_have, rest_has, once_beside, answered_beside}
+use Rattle.script_calls.specs.call_whys.specs.call_told.proofs.Lists.{all_both}
+use Rattle.script_calls.specs.call_whys.specs.call_told.proofs.Making.{AllMade}
+use Rattle.script_calls.specs.call_whys.specs.call_told.proofs.Shown.{shown_once}
+use Rattle.script_calls.specs.Reading.{IdSeat}
+use Rattle.script_calls.specs.Told.{outcomes_of}
+use Rattle.script_calls.proofs.Answered.{failures_have, outcomes_have}
+use Rattle.script_calls.proofs.Asked.{AskFor, all_ask, ids_made, notes_of_seats}
+use Rattle.script_calls.proofs.Clients.{owns, failures, balanced}
+use Rattle.script_calls.proofs.Reports.{long_replicate}
+use Rattle.script_calls.proofs.Sayings.{long_each}
+use Rattle.script_calls.proofs.Shown.{view_of, outcomes_few}
+use Rattle.script_beside.specs.Told.{seated_plan, seated_ids, begins_with, IsBesideRun, IsBesideText}
+use Rattle.script_beside.proofs.Left.{early_of, notes_of, kept_of}
+
+module _ (P : Type 0) {O I : Type 0} (out : O → OutState) (inn : I → InState) (g : Ghosts O) (script : List Item) (text : List ℕ) (links : List LinkEnd) (r : IsBesideRun P g out inn script text links) where
+  abbrev p : Plan
+  p = seated_plan script
+
+  abbrev q : id_plan.Plan
+  q = seated_ids script
+
+  abbrev readers : List (LinkReader g)
+  readers = r.left.readers
+
+  -- the seat that took in all
+  abbrev main : Books
+  main = begins_with (flat_map (λ (fs : List Frame). fs) r.kept) r.rest.main
+
+  -- ## What its clients told
+
+  own_told : AllByRecursion (λ ts. AllByRecursion IsOwn ts) r.told
+  own_told = owns out p q r.left.setup r.left.clients (opens script) r.told r.ended r.left.ran.seats (map view_of r.ids) r.left.ran.ran
+
+  failures_told : AllByRecursion (λ ts. AllByRecursion IsFailure ts) r.ended
+  failures_told = failures out p q r.left.setup r.left.clients (opens script) r.told r.ended r.left.ran.seats (map view_of r.ids) r.left.ran.ran
+
+  balanced_told : AreBalanced r.ended (map view_of r.ids)
+  balanced_told = balanced out p q r.left.setup r.left.clients (opens script) r.told r.ended r.left.ran.seats (map view_of r.ids) r.left.ran.ran
+
+  made_told : AllMade (IsAskedIn (operations script)) (flat_map (λ (s : IdSeat). s.me.0.notes) r.ids)
+  made_told = subst (AllMade (IsAskedIn (operations script))) (notes_of_seats view_of r.ids)
+      (ids_made (IsAskedIn (operations script)) out p q r.left.setup r.left.clients (opens script) r.told r.ended r.left.ran.seats (map view_of r.ids) r.left.ran.ran (subst (AllByRecursion (AskFor (IsAskedIn (operations script)))) (sym r.left.tasks) (all_ask script)))
+
+  -- ## Its outcomes
+
+  abbrev tellers : List (List Told)
+  tellers = r.ended ++ r.read
+
+  abbrev outcomes : List (Option Outcome)
+  outcomes = outcomes_of (plan_of script).operations r.told tellers r.last
+
+  abbrev gave : ℕ → List ℕ
+  gave = gave_beside p q (calls script) (opens script) readers r.left.readers_are
+
+  have_answers : HaveAnswers (length readers) gave (operations script) outcomes
+  have_answers = outcomes_have (length readers) gave (operations script) (plan_of script).operations r.told tellers r.last own_told
+      (all_both (AllHave (length readers) gave (operations script)) r.ended r.read (failures_have (length readers) gave (operations script) r.ended failures_told) by_readers)
+      (subst (AllHave (length readers) gave (operations script)) (sym r.rest.told_is)
+      (rest_has p q (calls script) (opens script) readers r.left.readers_are r.ids main r.rest.last (notes_of r.left r.rest) r.rest.rest (early_of r.left) refl r.rest.words r.rest.closing (operations script) made_told))
+    where
+      by_readers : AllByRecursion (AllHave (length readers) gave (operations script)) r.read
+      by_readers = subst (AllByRecursion (AllHave (length readers) gave (operations script))) r.left.read_is
+          (readers_have p q (calls script) (opens script) readers r.left.readers_are r.ids main r.rest.last (notes_of r.left r.rest) r.rest.rest (early_of r.left) refl r.rest.words r.rest.closing (operations script) made_told)
+
+  answered : AreAnsweredBy (operations script) outcomes links
+  answered = subst (AreAnsweredBy (operations script) outcomes) (sym r.given_back)
+      (answered_beside p q (calls script) (opens script) readers r.left.readers_are {I = I} {P = P} out inn r.ends r.halves_read r.unread (operations script) outcomes have_answers)
+
+  told_once : ToldOnce q.slots (tellers ++ r.last ∷ [])
+  told_once = subst (λ (t : List Told). ToldOnce q.slots (tellers ++ t ∷ [])) (sym r.rest.told_is)
+      (subst (λ (l : List (List Told)). ToldOnce q.slots ((r.ended ++ l) ++ r.rest.last.told ∷ [])) r.left.read_is
+      (once_beside p q (calls script) (opens script) readers r.left.readers_are r.ids main r.rest.last (notes_of r.left r.rest) r.rest.rest (early_of r.left) refl r.rest.words r.rest.closing r.ended (kept_of r.left r.rest) r.rest.calm balanced_told))
+
+  -- it has the outcomes and place words of its report
+  pub text_of : IsBesideText script text links
+  text_of = record {
+    outcomes = outcomes;
+    places = r.places;
+    one_each = long_each (replicate (plan_of script).operations None) ((r.told ++ tellers) ++ r.last ∷ []) ∙ long_replicate (plan_of script).operations None;
+    reported = r.reported;
+    answered = answered;
+    once = shown_once q.slots outcomes r.told (tellers ++ r.last ∷ []) (outcomes_few (plan_of script).operations r.told tellers r.last) own_told told_once;
+  }
+
+pub text_if : (P : Type 0) {O I : Type 0} (out : O → OutState) (inn : I → InState) (g : Ghosts O) (script : List Item) (links : List LinkEnd) {T E : Type 0} (items : T → List ℕ) (r : Result T E) → IfOk r (λ t. IsBesideRun P g out inn script (items t) links) → IfOk r (λ t. IsBesideText script (items t) links)
+text_if P out inn g script links items (Ok t) h = text_of P out inn g script (items t) links h
+text_if P out inn g script links items (Err e) h = tt
