@@ -36,7 +36,8 @@ const USAGE: &[u8] =
 /// | 9 | exactly where the bytes read by `frames` have a faulty frame, also where the sink fails; the frames before it and the fault are written; in `serve` exactly where the bytes of a connection have one, and 8 isn't answered |
 ///
 /// Faults are met in the order words, source, size, script, opening, run, printing; want of memory
-/// may come at any place of it, and is the one answer that needs no cause. `serve` reads nothing: it gives each connection that
+/// may come at any place of it, and is the one answer that needs no cause. `run` may never answer, as where
+/// a client waits for a call (`join`) that nobody ends. `serve` reads nothing: it gives each connection that
 /// it accepted back, whatever the status. `frames` prints as it reads, so that with 4,
 /// 6 and 7 the lines of the frames that were whole stand written; where the sink fails the bytes of that read are judged to
 /// their end, and no more are read.

@@ -1,5 +1,6 @@
 //! Rows of the top call: each command with what it writes, and an outside that isn't kind, links whose other ends give bytes that
-//! nobody would send, and outside calls that fail in turn, step by step and on threads. There is nothing here but tests.
+//! nobody would send, and outside calls that fail in turn, step by step and on threads; and a script on threads whose client waits
+//! for its calls. There is nothing here but tests.
 #![tactic(auto)]
 
 #[cfg(test)]
@@ -8,6 +9,8 @@ mod answer;
 mod failing;
 #[cfg(test)]
 mod giving;
+#[cfg(test)]
+mod joining;
 #[cfg(test)]
 mod noting;
 #[cfg(test)]
