@@ -113,10 +113,6 @@ class Script:
             if item[0] == 'join' and not all('serve' in shape for _, shape in self.links):
                 raise Fault(place, 11)
 
-    def is_for_threads(self):
-        """Whether `run` runs it over links in memory: no line waits for a call."""
-        return not any(item[0] == 'join' for _, _, item in self.operations)
-
     def item(self, parts, first=b'', *words):
         """What a line says, by itself: its first word and what stands behind it."""
         first = first.decode()

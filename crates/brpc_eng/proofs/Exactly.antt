@@ -1,6 +1,6 @@
--- What the answers say together: 2 comes exactly where the words ask for no command, 10 only where they ask for `run` of a script that
--- isn't built for it; with 0 no write failed; and where nothing stands in the way of a report, only it and want of memory come.
-use Rattle.std.proofs.Common.{◌≡◌, ◌≢◌, ℕ, ◌<◌, ◌≤◌, ◌⊎◌, inl, inr, true, false, List, [], ◌∷◌, ◌++◌, map, refl, length, Option, Some, None, Result, Ok, Err, ap, sym, ◌∙◌, subst, arith, length-append, append-nil}
+-- What the answers say together: 2 comes exactly where the words ask for no command; with 0 no write failed; and where nothing stands in the
+-- way of a report, only it and want of memory come.
+use Rattle.std.proofs.Common.{◌≡◌, ◌≢◌, ℕ, ◌<◌, ◌≤◌, ◌⊎◌, inl, inr, List, [], ◌∷◌, ◌++◌, map, refl, length, Option, Some, None, Result, Ok, Err, ap, sym, ◌∙◌, subst, arith, length-append, append-nil}
 use Rattle.std.specs.Io.KnownBytes.{Consumes}
 use Rattle.brpc_model.specs.Commands.{Command, Replay, Sim, Run, Gen, Load, Frames, Serve, command_of}
 use Rattle.brpc_model.specs.Items.{Item}
@@ -19,11 +19,9 @@ use Rattle.sock_io.specs.Memory.{MemInState, mem_in}
 use Rattle.loop_link.specs.Serving.{LoopInState, loop_in}
 use Rattle.script_links.specs.Offered.{TellOffers}
 use Rattle.script_run.specs.Played.{TellClosed}
-use Rattle.script_calls.specs.Built.{is_joinless}
 use Rattle.serve_port.specs.Serving.{ServedConnection}
-use Rattle.brpc_eng.proofs.Statuses.{each_script_is_run, IsUnbuilt, unbuilt_script_exactly}
 use Rattle.brpc_eng.specs.Streams.{script_limit, IsAtEnd}
-use Rattle.brpc_eng.specs.Answers.{HaveRisen, StandStill, AllTell, edges_of, Input, Output, Links, TextWritten, Ran, Reported, MemoryRanOut, OpenFailed, RanOnThreads, ThreadsReported, ThreadsRanOut, ThreadsNotOpened, ScriptNotBuilt, ScriptEnd, FaultWritten, Replayed, RanScript, FaultyScript, SourceFailed, TooLong, NoMemory, Answers, NoCommand, Generated, Generates, LoadRan, LoadSummed, LoadRanOut, LoadNotOpened, Loads, PrintsInput, Replays, Simulates, RunsOnThreads, ServeEnds, ServedWhole, NotAccepted, ConnectionFailed, MetFault, ServeRanOut, ServesPort, run_mode, frames_status, FramesPrinted}
+use Rattle.brpc_eng.specs.Answers.{HaveRisen, StandStill, AllTell, edges_of, Input, Output, Links, TextWritten, Ran, Reported, MemoryRanOut, OpenFailed, RanOnThreads, ThreadsReported, ReadersReported, ThreadsRanOut, ThreadsNotOpened, ScriptEnd, FaultWritten, Replayed, RanScript, FaultyScript, SourceFailed, TooLong, NoMemory, Answers, NoCommand, Generated, Generates, LoadRan, LoadSummed, LoadRanOut, LoadNotOpened, Loads, PrintsInput, Replays, Simulates, RunsOnThreads, ServeEnds, ServedWhole, NotAccepted, ConnectionFailed, MetFault, ServeRanOut, ServesPort, frames_status, FramesPrinted}
 
 -- ## Status 2
 
@@ -38,15 +36,15 @@ not_two_ran turns script out links status (OpenFailed s rose back wrote) = λ e.
 
 not_two_threads : (script : List Item) (out : Output) (links : Links) (status : ℕ) → RanOnThreads script out links status → status ≢ 2
 not_two_threads script out links status (ThreadsReported built text is wrote) = not_two_written out text status wrote
-not_two_threads script out links status (ThreadsRanOut built s wrote) = λ e. absurd (omega (arith, e, s))
-not_two_threads script out links status (ThreadsNotOpened built s rose back wrote) = λ e. absurd (omega (arith, e, s))
-not_two_threads script out links status (ScriptNotBuilt unbuilt s none_ wrote) = λ e. absurd (omega (arith, e, s))
+not_two_threads script out links status (ReadersReported waits text is wrote) = not_two_written out text status wrote
+not_two_threads script out links status (ThreadsRanOut s wrote) = λ e. absurd (omega (arith, e, s))
+not_two_threads script out links status (ThreadsNotOpened s rose back wrote) = λ e. absurd (omega (arith, e, s))
 
 not_two_fault : (out : Output) (line kind status : ℕ) → FaultWritten out line kind status → status ≢ 2
 not_two_fault out line kind status (inl w) = λ e. absurd (omega (arith, e, w.0))
 not_two_fault out line kind status (inr w) = λ e. absurd (omega (arith, e, w.0))
 
-not_two : {mode : Mode} (ran : ScriptEnd) (input : Input) (out : Output) (links : Links) (bytes : List ℕ) (status : ℕ) → ((script : List Item) → ran script out links status → status ≢ 2) → Replayed mode ran input out links bytes status → status ≢ 2
+not_two : {mode : List Item → Mode} (ran : ScriptEnd) (input : Input) (out : Output) (links : Links) (bytes : List ℕ) (status : ℕ) → ((script : List Item) → ran script out links status → status ≢ 2) → Replayed mode ran input out links bytes status → status ≢ 2
 not_two ran input out links bytes status runs (RanScript end script is opened ended) = runs script ended
 not_two ran input out links bytes status runs (FaultyScript end line kind is back wrote) = not_two_fault out line kind status wrote
 not_two ran input out links bytes status runs (SourceFailed s rose back wrote) = λ e. absurd (omega (arith, e, s))
@@ -116,13 +114,13 @@ calm_ran turns script input out links status calm (Reported text fits of_run wro
 calm_ran turns script input out links status calm (MemoryRanOut s wrote) = inr s
 calm_ran turns script input out links status calm (OpenFailed s rose back wrote) = absurd (calm.linker rose)
 
-calm_threads : (script : List Item) (input : Input) (out : Output) (links : Links) (status : ℕ) → IsCalm input out links → is_joinless script ≡ true → RanOnThreads script out links status → (status ≡ 0) ⊎ (status ≡ 7)
-calm_threads script input out links status calm built (ThreadsReported same text is wrote) = inl (calm_written out text status calm.sink wrote)
-calm_threads script input out links status calm built (ThreadsRanOut same s wrote) = inr s
-calm_threads script input out links status calm built (ThreadsNotOpened same s rose back wrote) = absurd (calm.linker rose)
-calm_threads script input out links status calm built (ScriptNotBuilt unbuilt s none_ wrote) = let f : true ≡ false = sym built ∙ unbuilt in absurd (cc)
+calm_threads : (script : List Item) (input : Input) (out : Output) (links : Links) (status : ℕ) → IsCalm input out links → RanOnThreads script out links status → (status ≡ 0) ⊎ (status ≡ 7)
+calm_threads script input out links status calm (ThreadsReported built text is wrote) = inl (calm_written out text status calm.sink wrote)
+calm_threads script input out links status calm (ReadersReported waits text is wrote) = inl (calm_written out text status calm.sink wrote)
+calm_threads script input out links status calm (ThreadsRanOut s wrote) = inr s
+calm_threads script input out links status calm (ThreadsNotOpened s rose back wrote) = absurd (calm.linker rose)
 
-calm_replayed : {mode : Mode} (ran : ScriptEnd) (script : List Item) (given : List ℕ) (input : Input) (out : Output) (links : Links) (bytes : List ℕ) (status : ℕ) → IsCalm input out links → Consumes (Some given) input.left bytes →
+calm_replayed : {mode : List Item → Mode} (ran : ScriptEnd) (script : List Item) (given : List ℕ) (input : Input) (out : Output) (links : Links) (bytes : List ℕ) (status : ℕ) → IsCalm input out links → Consumes (Some given) input.left bytes →
     length given ≤ script_limit → script_of given ≡ Ok script → ((read : List Item) → read ≡ script → ran read out links status → (status ≡ 0) ⊎ (status ≡ 7)) → Replayed mode ran input out links bytes status → (status ≡ 0) ⊎ (status ≡ 7)
 calm_replayed ran script given input out links bytes status calm came few is runs (RanScript end read is' opened ended) =
     let same : script_of bytes ≡ Ok script = ap script_of (came_all given bytes input.left came end) ∙ is in
@@ -134,27 +132,27 @@ calm_replayed ran script given input out links bytes status calm came few is run
 calm_replayed ran script given input out links bytes status calm came few is runs (TooLong s long back wrote) = absurd (omega (arith, long, few, came_few given bytes input.left came))
 calm_replayed ran script given input out links bytes status calm came few is runs (NoMemory s back wrote) = inr s
 
--- a command that runs this script
-abbrev RunsScript : List Item → Command → Type 0
-RunsScript script Replay = Unit {0}
-RunsScript script (Sim seed) = Unit {0}
-RunsScript script (Run port) = is_joinless script ≡ true
-RunsScript script other = ⊥
+-- a command that runs the script that comes
+abbrev RunsScript : Command → Type 0
+RunsScript Replay = Unit {0}
+RunsScript (Sim seed) = Unit {0}
+RunsScript (Run port) = Unit {0}
+RunsScript other = ⊥
 
--- `replay` and `sim` of a script, and `run` of one that is built, with no fault of the outside, end with its report or for want of memory
+-- `replay`, `sim` and `run` of a script, whatever its lines, end with its report or for want of memory, where there is no fault of the outside
 pub report_comes : (script : List Item) (given : List ℕ) (words : List (List ℕ)) (input : Input) (out : Output) (links : Links) (status : ℕ) (command : Command) → Answers words input out links status →
-    command_of words ≡ Some command → RunsScript script command → input.given ≡ Some given → length given ≤ script_limit → script_of given ≡ Ok script → IsCalm input out links →
+    command_of words ≡ Some command → RunsScript command → input.given ≡ Some given → length given ≤ script_limit → script_of given ≡ Ok script → IsCalm input out links →
     (status ≡ 0) ⊎ (status ≡ 7)
 report_comes script given words input out links status command (NoCommand s none same back wrote) asked runs told few is calm = absurd (cc)
 report_comes script given words input out links status command (Generates seed clients count named same back made) asked runs told few is calm =
     let one : Some (Gen seed clients count) ≡ Some command = sym named ∙ asked in
-    let alike : Gen seed clients count ≡ command = cc in absurd (subst (RunsScript script) (sym alike) runs)
+    let alike : Gen seed clients count ≡ command = cc in absurd (subst RunsScript (sym alike) runs)
 report_comes script given words input out links status command (Loads seed clients count named same made) asked runs told few is calm =
     let one : Some (Load seed clients count) ≡ Some command = sym named ∙ asked in
-    let alike : Load seed clients count ≡ command = cc in absurd (subst (RunsScript script) (sym alike) runs)
+    let alike : Load seed clients count ≡ command = cc in absurd (subst RunsScript (sym alike) runs)
 report_comes script given words input out links status command (PrintsInput named back printed) asked runs told few is calm =
     let one : Some Frames ≡ Some command = sym named ∙ asked in
-    let alike : Frames ≡ command = cc in absurd (subst (RunsScript script) (sym alike) runs)
+    let alike : Frames ≡ command = cc in absurd (subst RunsScript (sym alike) runs)
 report_comes script given words input out links status command (Replays named replayed) asked runs told few is calm =
     let P : Option (List ℕ) → Type 0 = λ x. Consumes x input.left replayed.bytes in
     calm_replayed _ script given input out links replayed.bytes status calm (subst P told replayed.came) few is (λ read alike ran. calm_ran _ read input out links status calm ran) replayed.replayed
@@ -163,61 +161,10 @@ report_comes script given words input out links status command (Simulates seed n
     calm_replayed _ script given input out links replayed.bytes status calm (subst P told replayed.came) few is (λ read alike ran. calm_ran _ read input out links status calm ran) replayed.replayed
 report_comes script given words input out links status command (RunsOnThreads port named replayed) asked runs told few is calm =
     let P : Option (List ℕ) → Type 0 = λ x. Consumes x input.left replayed.bytes in
-    let one : Some (Run port) ≡ Some command = sym named ∙ asked in
-    let alike : Run port ≡ command = cc in
-    let built : is_joinless script ≡ true = subst (RunsScript script) (sym alike) runs in
-    calm_replayed _ script given input out links replayed.bytes status calm (subst P told replayed.came) few is
-    (λ read alike ran. calm_threads read input out links status calm (subst (λ (s : List Item). is_joinless s ≡ true) (sym alike) built) ran) replayed.replayed
+    calm_replayed _ script given input out links replayed.bytes status calm (subst P told replayed.came) few is (λ read alike ran. calm_threads read input out links status calm ran) replayed.replayed
 report_comes script given words input out links status command (ServesPort port count named same served) asked runs told few is calm =
     let one : Some (Serve port count) ≡ Some command = sym named ∙ asked in
-    let alike : Serve port count ≡ command = cc in absurd (subst (RunsScript script) (sym alike) runs)
-
--- ## Status 10
-
-not_ten_made : (seed clients count : ℕ) (out : Output) (status : ℕ) → Generated seed clients count out status → status ≢ 10
-not_ten_made seed clients count out status (inl (inl w)) = λ e. absurd (omega (arith, e, w.0))
-not_ten_made seed clients count out status (inl (inr w)) = λ e. absurd (omega (arith, e, w.0))
-not_ten_made seed clients count out status (inr w) = λ e. absurd (omega (arith, e, w.0))
-
-not_ten_loaded : (seed clients count : ℕ) (out : Output) (links : Links) (status : ℕ) → LoadRan seed clients count out links status → status ≢ 10
-not_ten_loaded seed clients count out links status (LoadSummed text is (inl w)) = λ e. absurd (omega (arith, e, w.0))
-not_ten_loaded seed clients count out links status (LoadSummed text is (inr w)) = λ e. absurd (omega (arith, e, w.0))
-not_ten_loaded seed clients count out links status (LoadRanOut s wrote) = λ e. absurd (omega (arith, e, s))
-not_ten_loaded seed clients count out links status (LoadNotOpened s rose back wrote) = λ e. absurd (omega (arith, e, s))
-
-not_ten_ended : (ended : Result StreamEnd PrintFault) (status : ℕ) → status ≡ frames_status ended → status ≢ 10
-not_ten_ended (Ok end_.Rest) status s = λ e. absurd (omega (arith, e, s))
-not_ten_ended (Ok end_.Fault) status s = λ e. absurd (omega (arith, e, s))
-not_ten_ended (Err fault_.Source) status s = λ e. absurd (omega (arith, e, s))
-not_ten_ended (Err fault_.Sink) status s = λ e. absurd (omega (arith, e, s))
-not_ten_ended (Err fault_.TooLong) status s = λ e. absurd (omega (arith, e, s))
-not_ten_ended (Err fault_.NoMemory) status s = λ e. absurd (omega (arith, e, s))
-
-not_ten_served : (count : ℕ) (served : List ServedConnection) (out : Output) (links : Links) (status : ℕ) → ServeEnds count served out links status → status ≢ 10
-not_ten_served count served out links status (ServedWhole all whole (inl w)) = λ e. absurd (omega (arith, e, w.0))
-not_ten_served count served out links status (ServedWhole all whole (inr w)) = λ e. absurd (omega (arith, e, w.0))
-not_ten_served count served out links status (NotAccepted s rose wrote) = λ e. absurd (omega (arith, e, s))
-not_ten_served count served out links status (ConnectionFailed s failing wrote) = λ e. absurd (omega (arith, e, s))
-not_ten_served count served out links status (MetFault s fine faulty wrote) = λ e. absurd (omega (arith, e, s))
-not_ten_served count served out links status (ServeRanOut s fine clean wrote) = λ e. absurd (omega (arith, e, s))
-
--- what came for `run` is a script with a line that waits for a call
-abbrev CameUnbuilt : Input → Type 0
-CameUnbuilt input = (bytes : List ℕ) × Consumes input.given input.left bytes × IsUnbuilt input bytes
-
--- 10 comes only where the command is `run`, and a line of the script waits for a call
-pub unbuilt_exactly : (command : Command) (words : List (List ℕ)) (input : Input) (out : Output) (links : Links) (status : ℕ) → Answers words input out links status → command_of words ≡ Some command → status ≡ 10 →
-    (port : Option ℕ) × (command ≡ Run port) × CameUnbuilt input
-unbuilt_exactly command words input out links status (NoCommand s none same back wrote) asked e = absurd (cc)
-unbuilt_exactly command words input out links status (Generates seed clients count named same back made) asked e = absurd (not_ten_made seed clients count out status made e)
-unbuilt_exactly command words input out links status (Loads seed clients count named same made) asked e = absurd (not_ten_loaded seed clients count out links status made.ran e)
-unbuilt_exactly command words input out links status (PrintsInput named back printed) asked e = absurd (not_ten_ended printed.ended status printed.numbered e)
-unbuilt_exactly command words input out links status (Replays named replayed) asked e = absurd (each_script_is_run _ input out links status replayed e)
-unbuilt_exactly command words input out links status (Simulates seed named replayed) asked e = absurd (each_script_is_run _ input out links status replayed e)
-unbuilt_exactly command words input out links status (RunsOnThreads port named replayed) asked e =
-    let one : Some command ≡ Some (Run port) = sym asked ∙ named in
-    let alike : command ≡ Run port = cc in (port, alike, (replayed.bytes, replayed.came, (unbuilt_script_exactly (run_mode port) input out links status replayed).0 e))
-unbuilt_exactly command words input out links status (ServesPort port count named same served) asked e = absurd (not_ten_served count served.served out links status served.ended e)
+    let alike : Serve port count ≡ command = cc in absurd (subst RunsScript (sym alike) runs)
 
 -- ## Status 0
 
@@ -236,11 +183,11 @@ still_faulty out line kind status (inr w) e = w.1.1
 
 still_threads : (script : List Item) (out : Output) (links : Links) (status : ℕ) → RanOnThreads script out links status → status ≡ 0 → StandStill out.faults
 still_threads script out links status (ThreadsReported built text is wrote) e = still_written out text status wrote e
-still_threads script out links status (ThreadsRanOut built s wrote) e = wrote.1
-still_threads script out links status (ThreadsNotOpened built s rose back wrote) e = wrote.1
-still_threads script out links status (ScriptNotBuilt unbuilt s none_ wrote) e = absurd (omega (arith, e, s))
+still_threads script out links status (ReadersReported waits text is wrote) e = still_written out text status wrote e
+still_threads script out links status (ThreadsRanOut s wrote) e = wrote.1
+still_threads script out links status (ThreadsNotOpened s rose back wrote) e = wrote.1
 
-still_replayed : {mode : Mode} (ran : ScriptEnd) (input : Input) (out : Output) (links : Links) (bytes : List ℕ) (status : ℕ) → ((script : List Item) → ran script out links status → status ≡ 0 → StandStill out.faults) → Replayed mode ran input out links bytes status → status ≡ 0 → StandStill out.faults
+still_replayed : {mode : List Item → Mode} (ran : ScriptEnd) (input : Input) (out : Output) (links : Links) (bytes : List ℕ) (status : ℕ) → ((script : List Item) → ran script out links status → status ≡ 0 → StandStill out.faults) → Replayed mode ran input out links bytes status → status ≡ 0 → StandStill out.faults
 still_replayed ran input out links bytes status runs (RanScript end script is opened ended) e = runs script ended e
 still_replayed ran input out links bytes status runs (FaultyScript end line kind is back wrote) e = still_faulty out line kind status wrote e
 still_replayed ran input out links bytes status runs (SourceFailed s rose back wrote) e = wrote.1

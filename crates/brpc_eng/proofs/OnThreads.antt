@@ -1,22 +1,50 @@
 -- How the run of a script on threads ends, by what its calls say.
-use Rattle.std.proofs.Common.{◌≡◌, ℕ, true, List, refl, subst}
+use Rattle.std.proofs.Common.{◌≡◌, ◌≢◌, ℕ, ◌⊎◌, inl, inr, true, false, List, length, Vec, Result, Ok, Err, IfOk, OnOk, IsErrOf, refl, subst, arith}
+use Rattle.std.specs.declared.alloc.Global.{Global}
 use Rattle.brpc_model.specs.Items.{Item}
-use Rattle.sock_io.specs.Causes.{Rose}
-use Rattle.script_links.specs.Given.{AreUntouched}
-use Rattle.script_calls.specs.Built.{is_joinless}
-use Rattle.script_calls.specs.Told.{IsCallText}
+use Rattle.sock_io.specs.declared.link.Mode.{Mode}
+use Rattle.sock_io.specs.declared.link.OpenFault.{OpenFault}
+use Rattle.sock_io.specs.declared.link.OpenFault.TheVariants as opening
+use Rattle.script_links.specs.Given.{AreNumbered, AreUntouched, IsBeginning, specs_of}
+use Rattle.script_beside.specs.script_calls.specs.Built.{is_joinless}
+use Rattle.script_beside.specs.script_calls.specs.Told.{IsCallText}
+use Rattle.script_beside.specs.Told.{IsBesideText}
 use Rattle.brpc_eng.specs.Answers as answer
 
--- the text that was written is that of the run
-pub threads_reported : (script : List Item) (text text' : List ℕ) (out : answer.Output) (ends : answer.Links) (status : ℕ) → is_joinless script ≡ true → IsCallText script text ends.ends → text' ≡ text → answer.TextWritten out text' status →
-    answer.RanOnThreads script out ends status
-threads_reported script text text' out ends status taken is same wrote = answer.ThreadsReported taken text is (subst (λ (x : List ℕ). answer.TextWritten out x status) same wrote)
+-- what a run leaves where a link couldn't be opened
+abbrev LeftUnopened : Result (Vec ℕ Global) OpenFault → answer.Links → Type 0
+LeftUnopened ran links = (IsErrOf ran opening.Failed → answer.HaveRisen links.faults) × (IsErrOf ran opening.Failed → AreUntouched 0 links.ends)
 
--- memory was wanting
-pub threads_ran_out : (script : List Item) (out : answer.Output) (ends : answer.Links) → is_joinless script ≡ true → answer.WroteNothing out → answer.RanOnThreads script out ends 7
-threads_ran_out script out ends taken wrote = answer.ThreadsRanOut taken refl wrote
+-- a script without a line that waits was run
+pub threads_ran : (script : List Item) (ran : Result (Vec ℕ Global) OpenFault) (out : answer.Output) (links : answer.Links) (status : ℕ) → is_joinless script ≡ true → IfOk ran (λ text. IsCallText script text.items links.ends) → LeftUnopened ran links →
+    answer.RunTold ran out status → answer.RanOnThreads script out links status
+threads_ran script (Ok text) out links status built is left told = answer.ThreadsReported built text.items is told
+threads_ran script (Err opening.Failed) out links status built is left told = answer.ThreadsNotOpened told.0 (left.0 refl) (left.1 refl) told.1
+threads_ran script (Err opening.NoMemory) out links status built is left told = answer.ThreadsRanOut told.0 told.1
 
--- a link couldn't be opened
-pub threads_not_opened : (script : List Item) (out : answer.Output) (ends : answer.Links) → is_joinless script ≡ true → Rose ends.faults.before ends.faults.now → AreUntouched 0 ends.ends → answer.WroteNothing out →
-    answer.RanOnThreads script out ends 8
-threads_not_opened script out ends built rose fresh wrote = answer.ThreadsNotOpened built refl rose fresh wrote
+-- one with such a line was run
+pub readers_ran : (script : List Item) (ran : Result (Vec ℕ Global) OpenFault) (out : answer.Output) (links : answer.Links) (status : ℕ) → is_joinless script ≡ false → IfOk ran (λ text. IsBesideText script text.items links.ends) → LeftUnopened ran links →
+    answer.RunTold ran out status → answer.RanOnThreads script out links status
+readers_ran script (Ok text) out links status waits is left told = answer.ReadersReported waits text.items is told
+readers_ran script (Err opening.Failed) out links status waits is left told = answer.ThreadsNotOpened told.0 (left.0 refl) (left.1 refl) told.1
+readers_ran script (Err opening.NoMemory) out links status waits is left told = answer.ThreadsRanOut told.0 told.1
+
+-- a report was written or begun only where the run has one
+was_run : {A : Type 0} (ran : Result (Vec ℕ Global) OpenFault) (out : answer.Output) (status : ℕ) → answer.RunTold ran out status → OnOk ran A → (status ≡ 0) ⊎ (status ≡ 5) → A
+was_run (Ok text) out status told all written = all
+was_run (Err opening.Failed) out status told all (inl e) = absurd (omega (arith, e, told.0))
+was_run (Err opening.Failed) out status told all (inr e) = absurd (omega (arith, e, told.0))
+was_run (Err opening.NoMemory) out status told all (inl e) = absurd (omega (arith, e, told.0))
+was_run (Err opening.NoMemory) out status told all (inr e) = absurd (omega (arith, e, told.0))
+
+-- the links were opened in this mode
+pub run_opened : (script : List Item) (ran : Result (Vec ℕ Global) OpenFault) (out : answer.Output) (links : answer.Links) (status : ℕ) (mode made : Mode) → mode ≡ made → OnOk ran (links.asked ≡ specs_of mode script) → IsBeginning links.asked (specs_of mode script) →
+    length links.ends ≡ length links.asked → AreNumbered 0 links.ends → answer.RunTold ran out status → answer.OpenedBy made script links status
+run_opened script ran out links status mode made same whole front given_back numbered told =
+    subst (λ (m : Mode). answer.OpenedBy m script links status) same (record { front = front; whole = was_run ran out status told whole; given_back = given_back; numbered = numbered })
+
+-- with another status than 8 each link was opened
+pub run_still : {A : Type 0} (ran : Result (Vec ℕ Global) OpenFault) (out : answer.Output) (status : ℕ) → ((IsErrOf ran opening.Failed → ⊥) → A) → answer.RunTold ran out status → status ≢ 8 → A
+run_still (Ok text) out status kept told other = kept (λ e. cc)
+run_still (Err opening.Failed) out status kept told other = absurd (other told.0)
+run_still (Err opening.NoMemory) out status kept told other = kept (λ e. cc)

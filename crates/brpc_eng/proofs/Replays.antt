@@ -8,7 +8,6 @@ use Rattle.brpc_eng.specs.declared.commands.Command.{Command}
 use Rattle.brpc_eng.specs.declared.draw.Draw.{Draw}
 use Rattle.brpc_eng.specs.declared.commands.Command.TheVariants.{Sim, Run, Gen, Load, Frames}
 use Rattle.sock_io.specs.declared.link.Mode.{Mode}
-use Rattle.sock_io.specs.declared.link.Mode.TheVariants as modes
 use Rattle.seat_programs.specs.Scripts.{drawn_turns}
 use Rattle.brpc_eng.specs.Command.{meaning}
 use Rattle.brpc_eng.specs.Streams.{script_limit, ReadWhole}
@@ -28,7 +27,7 @@ fault_written out line kind text e wrote = let P : List ℕ → Type 0 = λ x. a
 within_limit : (given left : Option (List ℕ)) (bytes : List ℕ) (read : Vec ℕ Global) → ReadWhole given left bytes (Ok read) → length bytes ≤ script_limit
 within_limit given left bytes read whole = whole.within (λ e. absurd (cc)) (λ e. absurd (cc))
 
-whole_input : {mode : Mode} (ran : answer.ScriptEnd) (input : answer.Input) (out : answer.Output) (links : answer.Links) (bytes : List ℕ) (read : Vec ℕ Global) (status : ℕ) → ReadWhole input.given input.left bytes (Ok read) →
+whole_input : {mode : List Item → Mode} (ran : answer.ScriptEnd) (input : answer.Input) (out : answer.Output) (links : answer.Links) (bytes : List ℕ) (read : Vec ℕ Global) (status : ℕ) → ReadWhole input.given input.left bytes (Ok read) →
     answer.Replayed mode ran input out links bytes status → answer.ReplayedInput mode ran input out links status
 whole_input ran input out links bytes read status whole replayed =
     let few = within_limit input.given input.left bytes read whole in
@@ -41,14 +40,14 @@ came_is input bytes seen read whole e = e ∙ whole.whole.0
 pub read_few : (given left : Option (List ℕ)) (bytes seen : List ℕ) (read : Vec ℕ Global) → ReadWhole given left bytes (Ok read) → seen ≡ read.items → length seen ≤ script_limit
 read_few given left bytes seen read whole e = let few = within_limit given left bytes read whole in let long = ap length (e ∙ whole.whole.0) in omega (arith, few, long)
 
-pub replays_read : {mode : Mode} (ran : answer.ScriptEnd) (input : answer.Input) (out : answer.Output) (links : answer.Links) (status : ℕ) (bytes seen : List ℕ) (read : Vec ℕ Global) (script : List Item) →
+pub replays_read : {mode : List Item → Mode} (ran : answer.ScriptEnd) (input : answer.Input) (out : answer.Output) (links : answer.Links) (status : ℕ) (bytes seen : List ℕ) (read : Vec ℕ Global) (script : List Item) →
     ReadWhole input.given input.left bytes (Ok read) → seen ≡ read.items → script_of seen ≡ Ok script →
-    answer.OpenedBy mode script links status → ran script out links status → answer.ReplayedInput mode ran input out links status
+    answer.OpenedBy (mode script) script links status → ran script out links status → answer.ReplayedInput mode ran input out links status
 replays_read ran input out links status bytes seen read script whole s e opened ended =
     let is : script_of bytes ≡ Ok script = ap script_of (sym (came_is input bytes seen read whole s)) ∙ e in
     whole_input ran input out links bytes read status whole (answer.RanScript whole.whole.1 script is opened ended)
 
-pub replays_faulty : {mode : Mode} (ran : answer.ScriptEnd) (input : answer.Input) (out : answer.Output) (links : answer.Links) (status line kind : ℕ) (bytes seen : List ℕ) (read : Vec ℕ Global) →
+pub replays_faulty : {mode : List Item → Mode} (ran : answer.ScriptEnd) (input : answer.Input) (out : answer.Output) (links : answer.Links) (status line kind : ℕ) (bytes seen : List ℕ) (read : Vec ℕ Global) →
     ReadWhole input.given input.left bytes (Ok read) → seen ≡ read.items → script_of seen ≡ Err (line, kind) → answer.OpenedNone links → answer.FaultWritten out line kind status →
     answer.ReplayedInput mode ran input out links status
 replays_faulty ran input out links status line kind bytes seen read whole s e back wrote =
@@ -75,14 +74,13 @@ frames_command words input out links status command e is back printed = answer.P
 
 -- a simulation
 pub simulated : (words : List (List ℕ)) (input : answer.Input) (out : answer.Output) (links : answer.Links) (status : ℕ) (command : Command) (seed drawn : ℕ) → option_map meaning (Some command) ≡ model.command_of words → command ≡ Sim seed →
-    drawn ≡ seed → answer.ReplayedInput modes.Loop (answer.by_turns (λ script. drawn_turns script drawn)) input out links status → answer.Answers words input out links status
+    drawn ≡ seed → answer.ReplayedInput answer.in_memory (answer.by_turns (λ script. drawn_turns script drawn)) input out links status → answer.Answers words input out links status
 simulated words input out links status command seed drawn e is same replayed = answer.Simulates drawn (sym e ∙ ap (λ c. option_map meaning (Some c)) (is ∙ ap Sim (sym same))) replayed
 
 -- a run on threads
-pub threaded : (words : List (List ℕ)) (input : answer.Input) (out : answer.Output) (links : answer.Links) (status : ℕ) (command : Command) (port : Option ℕ) (mode : Mode) → option_map meaning (Some command) ≡ model.command_of words → command ≡ Run port →
-    mode ≡ answer.run_mode port → answer.ReplayedInput mode answer.RanOnThreads input out links status → answer.Answers words input out links status
-threaded words input out links status command port mode e is made replayed =
-    answer.RunsOnThreads port (sym e ∙ ap (λ c. option_map meaning (Some c)) is) (subst (λ (m : Mode). answer.ReplayedInput m answer.RanOnThreads input out links status) made replayed)
+pub threaded : (words : List (List ℕ)) (input : answer.Input) (out : answer.Output) (links : answer.Links) (status : ℕ) (command : Command) (port : Option ℕ) → option_map meaning (Some command) ≡ model.command_of words → command ≡ Run port →
+    answer.ReplayedInput (answer.run_mode port) answer.RanOnThreads input out links status → answer.Answers words input out links status
+threaded words input out links status command port e is replayed = answer.RunsOnThreads port (sym e ∙ ap (λ c. option_map meaning (Some c)) is) replayed
 
 -- ## The frames
 

@@ -1,18 +1,17 @@
 -- Where the statuses 3 and 6 of `replay`, `sim` and `run` come: exactly where the bytes that came say so, unless memory ran out, the source
--- failed, or more came than a script may have, before; so does 10 of `run`, and of the others it comes never.
-use Rattle.std.proofs.Common.{◌≡◌, ◌≢◌, ℕ, ◌<◌, ◌⊎◌, inl, inr, true, false, List, length, Ok, Err, sym, ◌∙◌, subst, arith}
+-- failed, or more came than a script may have, before.
+use Rattle.std.proofs.Common.{◌≡◌, ◌≢◌, ℕ, ◌<◌, ◌⊎◌, inl, inr, List, length, Ok, Err, sym, ◌∙◌, arith}
 use Rattle.brpc_model.specs.Items.{Item}
 use Rattle.brpc_model.specs.Operations.{Turn}
 use Rattle.brpc_model.specs.Script.{script_of}
 use Rattle.sock_io.specs.declared.link.Mode.{Mode}
-use Rattle.script_calls.specs.Built.{is_joinless}
 use Rattle.brpc_eng.specs.Streams.{script_limit, IsAtEnd}
-use Rattle.brpc_eng.specs.Answers.{HaveRisen, Input, Output, Links, TextWritten, Ran, Reported, MemoryRanOut, OpenFailed, RanOnThreads, ThreadsReported, ThreadsRanOut, ThreadsNotOpened, ScriptNotBuilt, ScriptEnd, by_turns, FaultWritten, Replayed, RanScript, FaultyScript, SourceFailed, TooLong, NoMemory, ReplayedInput}
+use Rattle.brpc_eng.specs.Answers.{HaveRisen, Input, Output, Links, TextWritten, Ran, Reported, MemoryRanOut, OpenFailed, RanOnThreads, ThreadsReported, ReadersReported, ThreadsRanOut, ThreadsNotOpened, ScriptEnd, by_turns, FaultWritten, Replayed, RanScript, FaultyScript, SourceFailed, TooLong, NoMemory, ReplayedInput}
 
 -- ## What each way of ending says of the bytes that came
 
 abbrev IsRun : ℕ → Type 0
-IsRun status = (status ≡ 0) ⊎ (status ≡ 5) ⊎ (status ≡ 7) ⊎ (status ≡ 8) ⊎ (status ≡ 10)
+IsRun status = (status ≡ 0) ⊎ (status ≡ 5) ⊎ (status ≡ 7) ⊎ (status ≡ 8)
 
 pub data Ends (input : Input) (bytes : List ℕ) (status : ℕ) : Type 0 where
   WasRun : IsAtEnd input.left → (script : List Item) → script_of bytes ≡ Ok script → IsRun status → Ends input bytes status
@@ -32,34 +31,33 @@ is_written out text status (inr w) = inr (inl w.0)
 is_run : (turns : List Turn) (script : List Item) (out : Output) (links : Links) (status : ℕ) → Ran turns script out links status → IsRun status
 is_run turns script out links status (Reported text fits of_run wrote) = is_written out text status wrote
 is_run turns script out links status (MemoryRanOut s wrote) = inr (inr (inl s))
-is_run turns script out links status (OpenFailed s rose back wrote) = inr (inr (inr (inl s)))
+is_run turns script out links status (OpenFailed s rose back wrote) = inr (inr (inr s))
 
 pub turns_run : (turns : List Item → List Turn) → AreRuns (by_turns turns)
 turns_run turns script out links status ran = is_run (turns script) script out links status ran
 
 pub threads_run : AreRuns RanOnThreads
 threads_run script out links status (ThreadsReported built text is wrote) = is_written out text status wrote
-threads_run script out links status (ThreadsRanOut built s wrote) = inr (inr (inl s))
-threads_run script out links status (ThreadsNotOpened built s rose back wrote) = inr (inr (inr (inl s)))
-threads_run script out links status (ScriptNotBuilt unbuilt s none_ wrote) = inr (inr (inr (inr s)))
+threads_run script out links status (ReadersReported waits text is wrote) = is_written out text status wrote
+threads_run script out links status (ThreadsRanOut s wrote) = inr (inr (inl s))
+threads_run script out links status (ThreadsNotOpened s rose back wrote) = inr (inr (inr s))
 
 fault_status : (out : Output) (line kind status : ℕ) → FaultWritten out line kind status → (status ≡ 3) ⊎ (status ≡ 7)
 fault_status out line kind status (inl w) = inl w.0
 fault_status out line kind status (inr w) = inr w.0
 
-ends_of : {mode : Mode} (ran : ScriptEnd) → AreRuns ran → (input : Input) (out : Output) (links : Links) (bytes : List ℕ) (status : ℕ) → Replayed mode ran input out links bytes status → Ends input bytes status
+ends_of : {mode : List Item → Mode} (ran : ScriptEnd) → AreRuns ran → (input : Input) (out : Output) (links : Links) (bytes : List ℕ) (status : ℕ) → Replayed mode ran input out links bytes status → Ends input bytes status
 ends_of ran runs input out links bytes status (RanScript end script is opened ended) = WasRun end script is (runs script out links status ended)
 ends_of ran runs input out links bytes status (FaultyScript end line kind is back wrote) = WasFaulty end line kind is (fault_status out line kind status wrote)
 ends_of ran runs input out links bytes status (SourceFailed s rose back wrote) = WasCut s rose
 ends_of ran runs input out links bytes status (TooLong s long back wrote) = WasLong s long
 ends_of ran runs input out links bytes status (NoMemory s back wrote) = RanOut s
 
-not_run : (status n : ℕ) → IsRun status → status ≡ n → n ≢ 0 → n ≢ 5 → n ≢ 7 → n ≢ 8 → n ≢ 10 → ⊥
-not_run status n (inl e) is a b c d f = a (sym is ∙ e)
-not_run status n (inr (inl e)) is a b c d f = b (sym is ∙ e)
-not_run status n (inr (inr (inl e))) is a b c d f = c (sym is ∙ e)
-not_run status n (inr (inr (inr (inl e)))) is a b c d f = d (sym is ∙ e)
-not_run status n (inr (inr (inr (inr e)))) is a b c d f = f (sym is ∙ e)
+not_run : (status n : ℕ) → IsRun status → status ≡ n → n ≢ 0 → n ≢ 5 → n ≢ 7 → n ≢ 8 → ⊥
+not_run status n (inl e) is a b c d = a (sym is ∙ e)
+not_run status n (inr (inl e)) is a b c d = b (sym is ∙ e)
+not_run status n (inr (inr (inl e))) is a b c d = c (sym is ∙ e)
+not_run status n (inr (inr (inr e))) is a b c d = d (sym is ∙ e)
 
 -- ## The exact statuses
 
@@ -69,7 +67,7 @@ EndedBefore input bytes status = ((status ≡ 4) × HaveRisen input.faults) ⊎ 
 
 -- 3: the input was read to its end, and its bytes are no script
 three : (input : Input) (bytes : List ℕ) (status : ℕ) → Ends input bytes status → status ≡ 3 → IsAtEnd input.left × ((line : ℕ) × (kind : ℕ) × (script_of bytes ≡ Err (line, kind)))
-three input bytes status (WasRun end script is run) e = absurd (not_run status 3 run e (λ x. absurd (omega (arith, x))) (λ x. absurd (omega (arith, x))) (λ x. absurd (omega (arith, x))) (λ x. absurd (omega (arith, x))) (λ x. absurd (omega (arith, x))))
+three input bytes status (WasRun end script is run) e = absurd (not_run status 3 run e (λ x. absurd (omega (arith, x))) (λ x. absurd (omega (arith, x))) (λ x. absurd (omega (arith, x))) (λ x. absurd (omega (arith, x))))
 three input bytes status (WasFaulty end line kind is s) e = (end, (line, kind, is))
 three input bytes status (WasCut s rose) e = absurd (omega (arith, s, e))
 three input bytes status (WasLong s long) e = absurd (omega (arith, s, e))
@@ -83,7 +81,7 @@ no_script input bytes status line kind (WasCut s rose) e = inr (inl (s, rose))
 no_script input bytes status line kind (WasLong s long) e = inr (inr (inl (s, long)))
 no_script input bytes status line kind (RanOut s) e = inr (inr (inr s))
 
-pub faulty_script_exactly : {mode : Mode} (ran : ScriptEnd) → AreRuns ran → (input : Input) (out : Output) (links : Links) (status : ℕ) → (read : ReplayedInput mode ran input out links status) →
+pub faulty_script_exactly : {mode : List Item → Mode} (ran : ScriptEnd) → AreRuns ran → (input : Input) (out : Output) (links : Links) (status : ℕ) → (read : ReplayedInput mode ran input out links status) →
     (status ≡ 3 → IsAtEnd input.left × ((line : ℕ) × (kind : ℕ) × (script_of read.bytes ≡ Err (line, kind))))
     × ((line kind : ℕ) → script_of read.bytes ≡ Err (line, kind) → (status ≡ 3) ⊎ EndedBefore input read.bytes status)
 faulty_script_exactly ran runs input out links status read =
@@ -92,79 +90,13 @@ faulty_script_exactly ran runs input out links status read =
 
 -- 6: more bytes came than a script may have, unless memory ran out before
 six : (input : Input) (bytes : List ℕ) (status : ℕ) → Ends input bytes status → status ≡ 6 → script_limit < length bytes
-six input bytes status (WasRun end script is run) e = absurd (not_run status 6 run e (λ x. absurd (omega (arith, x))) (λ x. absurd (omega (arith, x))) (λ x. absurd (omega (arith, x))) (λ x. absurd (omega (arith, x))) (λ x. absurd (omega (arith, x))))
+six input bytes status (WasRun end script is run) e = absurd (not_run status 6 run e (λ x. absurd (omega (arith, x))) (λ x. absurd (omega (arith, x))) (λ x. absurd (omega (arith, x))) (λ x. absurd (omega (arith, x))))
 six input bytes status (WasFaulty end line kind is (inl s)) e = absurd (omega (arith, s, e))
 six input bytes status (WasFaulty end line kind is (inr s)) e = absurd (omega (arith, s, e))
 six input bytes status (WasCut s rose) e = absurd (omega (arith, s, e))
 six input bytes status (WasLong s long) e = long
 six input bytes status (RanOut s) e = absurd (omega (arith, s, e))
 
-pub long_script_exactly : {mode : Mode} (ran : ScriptEnd) → AreRuns ran → (input : Input) (out : Output) (links : Links) (status : ℕ) → (read : ReplayedInput mode ran input out links status) →
+pub long_script_exactly : {mode : List Item → Mode} (ran : ScriptEnd) → AreRuns ran → (input : Input) (out : Output) (links : Links) (status : ℕ) → (read : ReplayedInput mode ran input out links status) →
     (status ≡ 6 → script_limit < length read.bytes) × (script_limit < length read.bytes → (status ≡ 6) ⊎ (status ≡ 7))
 long_script_exactly ran runs input out links status read = (six input read.bytes status (ends_of ran runs input out links read.bytes status read.replayed), read.too_long)
-
--- ## Status 10
-
-not_ten_written : (out : Output) (text : List ℕ) (status : ℕ) → TextWritten out text status → status ≢ 10
-not_ten_written out text status (inl w) e = absurd (omega (arith, e, w.0))
-not_ten_written out text status (inr w) e = absurd (omega (arith, e, w.0))
-
-not_ten_ran : (turns : List Turn) (script : List Item) (out : Output) (links : Links) (status : ℕ) → Ran turns script out links status → status ≢ 10
-not_ten_ran turns script out links status (Reported text fits of_run wrote) e = not_ten_written out text status wrote e
-not_ten_ran turns script out links status (MemoryRanOut s wrote) e = absurd (omega (arith, e, s))
-not_ten_ran turns script out links status (OpenFailed s rose back wrote) e = absurd (omega (arith, e, s))
-
-not_ten_fault : (out : Output) (line kind status : ℕ) → FaultWritten out line kind status → status ≢ 10
-not_ten_fault out line kind status (inl w) e = absurd (omega (arith, e, w.0))
-not_ten_fault out line kind status (inr w) e = absurd (omega (arith, e, w.0))
-
-not_ten : {mode : Mode} (turns : List Item → List Turn) (input : Input) (out : Output) (links : Links) (bytes : List ℕ) (status : ℕ) → Replayed mode (by_turns turns) input out links bytes status → status ≢ 10
-not_ten turns input out links bytes status (RanScript end script is opened ran) e = not_ten_ran (turns script) script out links status ran e
-not_ten turns input out links bytes status (FaultyScript end line kind is back wrote) e = not_ten_fault out line kind status wrote e
-not_ten turns input out links bytes status (SourceFailed s rose back wrote) e = absurd (omega (arith, e, s))
-not_ten turns input out links bytes status (TooLong s long back wrote) e = absurd (omega (arith, e, s))
-not_ten turns input out links bytes status (NoMemory s back wrote) e = absurd (omega (arith, e, s))
-
--- by a schedule each script that was read is run, whatever it asks of its links
-pub each_script_is_run : {mode : Mode} (turns : List Item → List Turn) (input : Input) (out : Output) (links : Links) (status : ℕ) → ReplayedInput mode (by_turns turns) input out links status → status ≢ 10
-each_script_is_run turns input out links status read = not_ten turns input out links read.bytes status read.replayed
-
--- on threads, those that are built
-
-unbuilt_ran : (script : List Item) (out : Output) (links : Links) (status : ℕ) → RanOnThreads script out links status → status ≡ 10 → is_joinless script ≡ false
-unbuilt_ran script out links status (ThreadsReported built text is wrote) e = absurd (not_ten_written out text status wrote e)
-unbuilt_ran script out links status (ThreadsRanOut built s wrote) e = absurd (omega (arith, e, s))
-unbuilt_ran script out links status (ThreadsNotOpened built s rose back wrote) e = absurd (omega (arith, e, s))
-unbuilt_ran script out links status (ScriptNotBuilt unbuilt s none_ wrote) e = unbuilt
-
-ten_ran : (script : List Item) (out : Output) (links : Links) (status : ℕ) → RanOnThreads script out links status → is_joinless script ≡ false → status ≡ 10
-ten_ran script out links status (ThreadsReported taken text is wrote) unbuilt = let f : true ≡ false = sym taken ∙ unbuilt in absurd (cc)
-ten_ran script out links status (ThreadsRanOut built s wrote) unbuilt = let f : true ≡ false = sym built ∙ unbuilt in absurd (cc)
-ten_ran script out links status (ThreadsNotOpened built s rose back wrote) unbuilt = let f : true ≡ false = sym built ∙ unbuilt in absurd (cc)
-ten_ran script out links status (ScriptNotBuilt same s none_ wrote) unbuilt = s
-
--- the whole input was read, and is a script with a line that waits for a call
-abbrev pub IsUnbuilt : Input → List ℕ → Type 0
-IsUnbuilt input bytes = IsAtEnd input.left × ((script : List Item) × (script_of bytes ≡ Ok script) × (is_joinless script ≡ false))
-
-unbuilt_by : (mode : Mode) (input : Input) (out : Output) (links : Links) (bytes : List ℕ) (status : ℕ) → Replayed mode RanOnThreads input out links bytes status → status ≡ 10 → IsUnbuilt input bytes
-unbuilt_by mode input out links bytes status (RanScript end script is opened ran) e = (end, (script, is, unbuilt_ran script out links status ran e))
-unbuilt_by mode input out links bytes status (FaultyScript end line kind is back wrote) e = absurd (not_ten_fault out line kind status wrote e)
-unbuilt_by mode input out links bytes status (SourceFailed s rose back wrote) e = absurd (omega (arith, e, s))
-unbuilt_by mode input out links bytes status (TooLong s long back wrote) e = absurd (omega (arith, e, s))
-unbuilt_by mode input out links bytes status (NoMemory s back wrote) e = absurd (omega (arith, e, s))
-
-ten_by : (mode : Mode) (input : Input) (out : Output) (links : Links) (bytes : List ℕ) (status : ℕ) (script : List Item) → Replayed mode RanOnThreads input out links bytes status → script_of bytes ≡ Ok script → is_joinless script ≡ false → (status ≡ 10) ⊎ EndedBefore input bytes status
-ten_by mode input out links bytes status script (RanScript end other is opened ran) reads unbuilt =
-    let one : Ok other ≡ Ok script = sym is ∙ reads in
-    let alike : other ≡ script = cc in
-    let no : is_joinless other ≡ false = subst (λ (s : List Item). is_joinless s ≡ false) (sym alike) unbuilt in
-    inl (ten_ran other out links status ran no)
-ten_by mode input out links bytes status script (FaultyScript end line kind is back wrote) reads unbuilt = absurd (cc)
-ten_by mode input out links bytes status script (SourceFailed s rose back wrote) reads unbuilt = inr (inl (s, rose))
-ten_by mode input out links bytes status script (TooLong s long back wrote) reads unbuilt = inr (inr (inl (s, long)))
-ten_by mode input out links bytes status script (NoMemory s back wrote) reads unbuilt = inr (inr (inr s))
-
-pub unbuilt_script_exactly : (mode : Mode) (input : Input) (out : Output) (links : Links) (status : ℕ) → (read : ReplayedInput mode RanOnThreads input out links status) →
-    (status ≡ 10 → IsUnbuilt input read.bytes) × ((script : List Item) → script_of read.bytes ≡ Ok script → is_joinless script ≡ false → (status ≡ 10) ⊎ EndedBefore input read.bytes status)
-unbuilt_script_exactly mode input out links status read = (unbuilt_by mode input out links read.bytes status read.replayed, λ script reads unbuilt. ten_by mode input out links read.bytes status script read.replayed reads unbuilt)

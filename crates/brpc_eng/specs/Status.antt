@@ -1,7 +1,7 @@
 -- The number of a status.
 use Rattle.std.specs.Prelude.{ℕ}
 use Rattle.brpc_eng.specs.declared.status.Status.{Status}
-use Rattle.brpc_eng.specs.declared.status.Status.TheVariants.{Done, WrongWords, FaultyScript, SourceFailed, SinkFailed, TooLong, NoMemory, OpenFailed, FaultyFrames, NotBuilt}
+use Rattle.brpc_eng.specs.declared.status.Status.TheVariants.{Done, WrongWords, FaultyScript, SourceFailed, SinkFailed, TooLong, NoMemory, OpenFailed, FaultyFrames}
 
 abbrev pub number_of : Status → ℕ
 number_of Done = 0
@@ -13,4 +13,3 @@ number_of TooLong = 6
 number_of NoMemory = 7
 number_of OpenFailed = 8
 number_of FaultyFrames = 9
-number_of NotBuilt = 10

@@ -11,7 +11,7 @@ use crate::load::load;
 use crate::replay::{replay, write_answer};
 use crate::serve::serve;
 use crate::status::Status;
-use crate::threads::{run_mode, run_threads};
+use crate::threads::run_threads;
 use script_run::Schedule;
 use sock_io::{Gate, Linker, Sink, Source};
 use std::alloc::Global;
@@ -34,7 +34,6 @@ const USAGE: &[u8] =
 /// | 7 | where memory ran out; in `run` of a script with calls also where no report could be made of what its threads left |
 /// | 8 | only where a link couldn't be opened, and those opened before are given back untouched; in `serve` only where an accept failed, or a put or a take of a connection |
 /// | 9 | exactly where the bytes read by `frames` have a faulty frame, also where the sink fails; the frames before it and the fault are written; in `serve` exactly where the bytes of a connection have one, and 8 isn't answered |
-/// | 10 | exactly where the command is `run` and a line of the script waits for a call (`join`), which threads don't do yet; `not built` is written |
 ///
 /// Faults are met in the order words, source, size, script, opening, run, printing; want of memory
 /// may come at any place of it, and is the one answer that needs no cause. `serve` reads nothing: it gives each connection that
@@ -103,7 +102,7 @@ fn answer<R: Threads + Wait + Sync, S: Source, K: Sink, L: Linker, G: Gate + Syn
             Command::Sim(seed) => {
                 replay(alloc, source, out, links, Schedule::Drawn(u64::from(seed)))
             }
-            Command::Run(port) => run_threads(rt, alloc, run_mode(port), source, out, links, gate),
+            Command::Run(port) => run_threads(rt, alloc, port, source, out, links, gate),
             Command::Gen(draw) => print_generated(alloc, &draw, out),
             Command::Load(draw) => load(alloc, &draw, out, links),
             Command::Frames => frames(alloc, source, out),

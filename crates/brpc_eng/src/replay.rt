@@ -1,9 +1,8 @@
 ghost use Rattle.std.specs.Prelude.{◌≡◌, []};
-ghost use Rattle.sock_io.specs.declared.link.Mode.TheVariants as modes;
 ghost use Rattle.script_links.specs.Offered.{TellOffers};
 ghost use Rattle.script_run.specs.Played.{TellClosed, turns_of};
 ghost use Rattle.brpc_eng.specs.Status.{number_of};
-ghost use Rattle.brpc_eng.specs.Answers.{Wrote, FaultWritten, ReplayedInput, by_turns, CountsStand};
+ghost use Rattle.brpc_eng.specs.Answers.{Wrote, FaultWritten, ReplayedInput, by_turns, in_memory, CountsStand};
 
 use crate::run::run_and_report;
 use crate::status::Status;
@@ -12,8 +11,6 @@ use script_lang::{ScriptError, read_script};
 use script_run::Schedule;
 use sock_io::{Linker, Sink, Source, write_all};
 use std::alloc::Global;
-
-pub const NOT_BUILT: &[u8] = b"not built\n";
 
 /// Reads a script and runs it by a schedule: its own, or one that is drawn.
 pub fn replay<S: Source, K: Sink, L: Linker>(
@@ -25,7 +22,7 @@ pub fn replay<S: Source, K: Sink, L: Linker>(
 ) -> Status
     requires asked { L.asked links.old ≡ [] }
     requires back { L.back links.old ≡ [] }
-    ensures replayed { ReplayedInput modes.Loop (by_turns (λ script. turns_of script schedule))
+    ensures replayed { ReplayedInput in_memory (by_turns (λ script. turns_of script schedule))
         (record { given = S.left source.old; left = S.left source.new; faults = record { before = S.faults source.old; now = S.faults source.new } })
         (record { before = K.contents out.old; now = K.contents out.new; faults = record { before = K.faults out.old; now = K.faults out.new } })
         (record { always_ready = L.always_ready links.old; tells = TellClosed L.I.state; offering = TellOffers L.O.state L.I.state; asked = L.asked links.new; ends = L.back links.new; accepted = L.accepted links.new; done = L.done links.new; faults = record { before = L.faults links.old; now = L.faults links.new } })

@@ -20,8 +20,6 @@ pub enum Status {
     OpenFailed,
     /// A frame of the input is faulty.
     FaultyFrames,
-    /// The command isn't built.
-    NotBuilt,
 }
 
 impl Status {
@@ -41,7 +39,6 @@ impl Status {
             Status::NoMemory => 7,
             Status::OpenFailed => 8,
             Status::FaultyFrames => 9,
-            Status::NotBuilt => 10,
         }
     }
 }

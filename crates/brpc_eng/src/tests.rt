@@ -531,29 +531,6 @@ fn runs_on_threads(rt: HostRuntime) -> Result<(), Fail> {
     Ok(())
 }
 
-/// Words and scripts with a line that isn't built for threads.
-const UNBUILT: [(&'static str, &'static str); 2] = [
-    ("run", "open a serve\nclient\ncall a Echo.Echo -\njoin 1.1"),
-    (
-        "run 65535",
-        "open a serve\nclient\ncall a Echo.Echo -\njoin 1.1",
-    ),
-];
-
-#[test]
-fn refuses_on_threads(rt: HostRuntime) -> Result<(), Fail> {
-    for (words, script) in UNBUILT {
-        let (answered, written) = answer(&rt, words, script.as_bytes(), CALM)?;
-        assert_eq!(rt; answered, 10, "at {script}");
-        assert_eq!(rt;
-            written.as_slice(),
-            b"not built\n".as_slice(),
-            "at {script}"
-        );
-    }
-    Ok(())
-}
-
 /// Scripts with calls or servers, and the reports of their runs on threads.
 const CALLED: [(&'static str, &'static str); 6] = [
     (

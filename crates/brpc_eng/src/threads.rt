@@ -1,18 +1,17 @@
 ghost use Rattle.std.specs.Prelude.{◌≡◌, ◌≢◌, ℕ, true, [], Ok, List};
 ghost use Rattle.std.specs.List.{list_all};
 ghost use Rattle.brpc_model.specs.Script.{script_of};
-ghost use Rattle.script_calls.specs.Built.{is_joinless};
 ghost use Rattle.script_links.specs.Given.{has_piece};
 ghost use Rattle.script_links.specs.Offered.{TellOffers};
 ghost use Rattle.script_run.specs.Played.{TellClosed};
 ghost use Rattle.brpc_eng.specs.Status.{number_of};
-ghost use Rattle.brpc_eng.specs.Answers.{OpenedBy, RanOnThreads, ReplayedInput, CountsStand, run_mode};
+ghost use Rattle.brpc_eng.specs.Answers.{OpenedBy, RanOnThreads, ReplayedInput, RunTold, CountsStand, mode_for, run_mode};
 
-use crate::replay::{NOT_BUILT, write_answer, write_fault};
+use crate::replay::write_fault;
 use crate::run::write_report;
 use crate::status::Status;
 use crate::streams::{InputFault, read_all};
-use script_calls::{is_joinless, run_calls_on_threads};
+use script_beside::{is_joinless, run_calls_on_threads, run_with_readers};
 use script_items::Script;
 use script_lang::{ScriptError, read_script};
 use sock_io::{Gate, Linker, Mode, OpenFault, Sink, Source};
@@ -20,21 +19,22 @@ use std::alloc::Global;
 use std::sync::Wait;
 use std::thread::Threads;
 
-/// How `run` makes its links: in memory, or over TCP to that port.
-pub fn run_mode(port: Option<u16>) -> Mode
-    ensures { result ≡ run_mode port }
+/// How links are made: over TCP to the port, where one is named, or else in memory; there as those that are read behind the clients
+/// of a run, or over rings.
+fn mode_for(port: Option<u16>, behind: bool) -> Mode
+    ensures { result ≡ mode_for port behind }
 {
     match port {
-        None => Mode::Loop,
         Some(port) => Mode::Tcp(port),
+        None => { if behind { Mode::Loop } else { Mode::Ring } }
     }
 }
 
-/// Reads a script and runs it on threads over links of this mode, whatever its schedule.
+/// Reads a script and runs it on threads, whatever its schedule, over links in memory, or over TCP to the port that is named.
 pub fn run_threads<R: Threads + Wait + Sync, S: Source, K: Sink, L: Linker, G: Gate + Sync>(
     rt: &R,
     alloc: Global,
-    mode: Mode,
+    port: Option<u16>,
     source: &mut S,
     out: &mut K,
     links: &mut L,
@@ -42,7 +42,7 @@ pub fn run_threads<R: Threads + Wait + Sync, S: Source, K: Sink, L: Linker, G: G
 ) -> Status
     requires asked { L.asked links.old ≡ [] }
     requires back { L.back links.old ≡ [] }
-    ensures replayed { ReplayedInput mode RanOnThreads
+    ensures replayed { ReplayedInput (run_mode port) RanOnThreads
         (record { given = S.left source.old; left = S.left source.new; faults = record { before = S.faults source.old; now = S.faults source.new } })
         (record { before = K.contents out.old; now = K.contents out.new; faults = record { before = K.faults out.old; now = K.faults out.new } })
         (record { always_ready = L.always_ready links.old; tells = TellClosed L.I.state; offering = TellOffers L.O.state L.I.state; asked = L.asked links.new; ends = L.back links.new; accepted = L.accepted links.new; done = L.done links.new; faults = record { before = L.faults links.old; now = L.faults links.new } })
@@ -59,17 +59,18 @@ pub fn run_threads<R: Threads + Wait + Sync, S: Source, K: Sink, L: Linker, G: G
         Err(InputFault::NoMemory) => return Status::NoMemory,
     };
     match read_script(alloc, &bytes) {
-        Ok(script) => threads_and_report(rt, alloc, mode, &script, out, links, gate),
+        Ok(script) => threads_and_report(rt, alloc, port, &script, out, links, gate),
         Err(ScriptError::Fault { line, kind }) => write_fault(alloc, line, kind, out),
         Err(ScriptError::NoMemory) => Status::NoMemory,
     }
 }
 
-/// Runs a script on threads and writes its report. One with a line that waits for a call is refused, and no link is opened.
+/// Runs a script on threads and writes its report. Its links are read once all clients have ended; but where a line waits for a call,
+/// beside them.
 fn threads_and_report<R: Threads + Wait + Sync, K: Sink, L: Linker, G: Gate + Sync>(
     rt: &R,
     alloc: Global,
-    mode: Mode,
+    port: Option<u16>,
     script: &Script,
     out: &mut K,
     links: &mut L,
@@ -83,16 +84,27 @@ fn threads_and_report<R: Threads + Wait + Sync, K: Sink, L: Linker, G: Gate + Sy
         (record { before = K.contents out.old; now = K.contents out.new; faults = record { before = K.faults out.old; now = K.faults out.new } })
         (record { always_ready = L.always_ready links.old; tells = TellClosed L.I.state; offering = TellOffers L.O.state L.I.state; asked = L.asked links.new; ends = L.back links.new; accepted = L.accepted links.new; done = L.done links.new; faults = record { before = L.faults links.old; now = L.faults links.new } })
         (number_of result) }
-    ensures opened { OpenedBy mode script.now
+    ensures opened { OpenedBy (run_mode port script.now) script.now
         (record { always_ready = L.always_ready links.old; tells = TellClosed L.I.state; offering = TellOffers L.O.state L.I.state; asked = L.asked links.new; ends = L.back links.new; accepted = L.accepted links.new; done = L.done links.new; faults = record { before = L.faults links.old; now = L.faults links.new } })
         (number_of result) }
     ensures linker { number_of result ≢ 8 → L.faults links.new ≡ L.faults links.old }
 {
-    if !is_joinless(script) {
-        write_answer(out, NOT_BUILT);
-        return Status::NotBuilt;
+    let behind = is_joinless(script);
+    let mode = mode_for(port, behind);
+    if behind {
+        let ran = run_calls_on_threads(rt, alloc, mode, script, links, gate);
+        tell_run(ran, out)
+    } else {
+        let ran = run_with_readers(rt, alloc, mode, script, links, gate);
+        tell_run(ran, out)
     }
-    match run_calls_on_threads(rt, alloc, mode, script, links, gate) {
+}
+
+/// Writes the report of a run, or tells what stood in its way.
+fn tell_run<K: Sink>(ran: Result<Vec<u8>, OpenFault>, out: &mut K) -> Status
+    ensures { RunTold ran (record { before = K.contents out.old; now = K.contents out.new; faults = record { before = K.faults out.old; now = K.faults out.new } }) (number_of result) }
+{
+    match ran {
         Ok(text) => write_report(out, &text),
         Err(OpenFault::Failed) => Status::OpenFailed,
         Err(OpenFault::NoMemory) => Status::NoMemory,

@@ -6,3 +6,8 @@ pub mod Dealing
 pub mod Manning
 pub mod Weaving
 pub mod Whole
+pub mod Seating
+pub mod Parting
+pub mod Readings
+pub mod Together
+pub mod Bounds

@@ -42,7 +42,7 @@ made_by {O} {g} workers = map (λ (w : Worker O g). w.tasks.items) workers
 one_and : {A B : Type 0} (f : A → B) (s0 s1 s2 : List B) (x : B) (whole xs : List A) → s0 ≡ [] → s1 ≡ s0 ++ x ∷ [] → s2 ≡ s1 ++ map f whole → whole ≡ xs → s2 ≡ x ∷ map f xs
 one_and f s0 s1 s2 x whole xs e0 e1 e2 w = e2 ∙ (ap (λ l. l ++ map f whole) (e1 ∙ ap (λ l. l ++ x ∷ []) e0) ∙ ap (λ l. x ∷ map f l) w)
 
-twice : {A B C : Type 0} (f : A → B) (h : B → C) (xs : List A) → map h (map f xs) ≡ map (λ x. h (f x)) xs
+pub twice : {A B C : Type 0} (f : A → B) (h : B → C) (xs : List A) → map h (map f xs) ≡ map (λ x. h (f x)) xs
 twice f h [] = refl
 twice f h (x ∷ xs) = ap (λ l. h (f x) ∷ l) (twice f h xs)
 

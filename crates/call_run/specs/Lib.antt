@@ -4,6 +4,7 @@ pub mod Threads
 pub mod Working
 pub mod Hired
 pub mod Crew
+pub mod Links
 pub use Rattle.call_client.specs.call_attempts
 pub use Rattle.call_client
 pub use Rattle.call_client.specs.call_errors

@@ -1,5 +1,5 @@
 // The clients of a script with calls on threads, over tables of their own.
-ghost use Rattle.std.specs.Prelude.{◌≡◌, ◌+◌, ◌<◌, ◌≤◌, false, All, IfOk, IfErr, length, map};
+ghost use Rattle.std.specs.Prelude.{◌≡◌, ◌+◌, ◌<◌, ◌≤◌, All, IfOk, IfErr, length, map};
 ghost use Rattle.corr_core.specs.Law.{total};
 ghost use Rattle.corr_id.specs.Opening.{AreNew};
 ghost use Rattle.sock_open.specs.Made.{AreNewSeats, PassesFrom};

@@ -15,7 +15,6 @@ use Rattle.prog_link.specs.declared.prog_out.ProgOut.TheVariants as out
 use Rattle.prog_link.specs.declared.prog_in.ProgIn.{ProgIn}
 use Rattle.prog_link.specs.declared.prog_in.ProgIn.TheVariants as inn
 use Rattle.prog_link.specs.declared.prog_peer.ProgPeer.{ProgPeer}
-use Rattle.prog_link.specs.declared.prog_peer.ProgPeer.TheVariants as peer
 use Rattle.prog_link.specs.Halves.{prog_in, prog_out, prog_peer}
 
 -- what was asked of each link that was opened, how many connections were accepted, those given back, and the count of faults
@@ -29,9 +28,9 @@ pub record ProgLinkerState : Type 0 where
 -- ## Kinds of links
 
 pub data Kind : Type 0 where
-  pub InMemory : Kind
-  pub OverRings : Kind
-  pub OverTcp : Kind
+  InMemory : Kind
+  OverRings : Kind
+  OverTcp : Kind
 
 abbrev pub kind_asked : Mode → Kind
 kind_asked mode.Loop = InMemory

@@ -1,26 +1,29 @@
 -- What the clients of a script left, and the readers of its links, and the seat that took in all of theirs.
 use Rattle.std.proofs.Common.{◌≡◌, ℕ, List, ◌∷◌, ◌++◌, map, length, sym, ap, ◌∙◌, subst}
-use Rattle.std.specs.List.{flat_map}
+use Rattle.std.specs.List.{flat_map, AllByRecursion}
 use Rattle.brpc_model.specs.Items.{Item}
+use Rattle.brpc_model.specs.Link.{LinkEnd}
 use Rattle.sock_io.specs.declared.link.Out.{Ghosts}
-use Rattle.sock_io.specs.Link.{OutState}
+use Rattle.sock_io.specs.declared.link.Ends.{Ends}
+use Rattle.sock_io.specs.Link.{OutState, InState, end_of}
 use Rattle.sock_words.specs.declared.plain.Plan.{Plan}
 use Rattle.sock_words.specs.declared.place_word.PlaceWord.{PlaceWord}
 use Rattle.sock_words.specs.declared.vref.Vref.{Vref}
 use Rattle.corr_core.specs.declared.marks.Plan as id_plan
 use Rattle.seat_programs.specs.declared.task.Task.{Task}
 use Rattle.seat_programs.specs.Scripts.{all_tasks}
-use Rattle.seat_programs.specs.Tasks.{opens, calls}
+use Rattle.seat_programs.specs.Tasks.{plan_of, opens, calls}
 use Rattle.rpc_client.specs.declared.acting.Told.{Told}
 use Rattle.prpc_frame.specs.declared.frame.Frame.{Frame}
 use Rattle.call_run.specs.Readers.{LinkReader, AreReaders}
 use Rattle.call_run.specs.Threads.{ids_of, RanWith}
 use Rattle.script_calls.specs.Reading.{IdSeat}
-use Rattle.script_beside.specs.Told.{seated_plan, seated_ids, HasEnded, IsLeftBeside}
+use Rattle.script_calls.specs.Told.{outcomes_of, IsReported}
+use Rattle.script_beside.specs.Told.{seated_plan, seated_ids, HasEnded, IsLeftBeside, HadGivenNone, IsBesideRun}
 use Rattle.script_beside.proofs.Gathering.{flat_of}
 
 module _ {O : Type 0} (g : Ghosts O) (out : O → OutState) (script : List Item) where
-  pub left_is : (p : Plan) (slots : ℕ) (setup : List Task) (clients : List (List Task)) (os cs : List ℕ) (told ended read : List (List Told)) (kept : List (List Frame)) (places : List PlaceWord) (vrefs : List Vref) (outs : List O) (ids behind : List IdSeat) (readers : List (LinkReader g))
+  abbrev pub left_is : (p : Plan) (slots : ℕ) (setup : List Task) (clients : List (List Task)) (os cs : List ℕ) (told ended read : List (List Told)) (kept : List (List Frame)) (places : List PlaceWord) (vrefs : List Vref) (outs : List O) (ids behind : List IdSeat) (readers : List (LinkReader g))
       → p ≡ seated_plan script → slots ≡ length (calls script) → os ≡ opens script → cs ≡ calls script → setup ∷ clients ≡ all_tasks script
       → RanWith g out readers p slots setup clients os told ended places vrefs outs (map (λ (s : IdSeat). s.me.0) ids) → AreReaders p (ids_of p slots) cs 0 os readers
       → map (λ (x : LinkReader g). x.ids) readers ≡ behind → map (λ (x : LinkReader g). x.books.told) readers ≡ read → map (λ (x : LinkReader g). x.books.early) readers ≡ kept
@@ -70,3 +73,32 @@ module _ {O : Type 0} {g : Ghosts O} {out : O → OutState} {script : List Item}
 
     pub kept_of : rest.main.me.0.kept ≡ flat_map (λ (s : IdSeat). s.me.0.kept) all_seats
     kept_of = rest.took.kept ∙ ap (λ (l : List IdSeat). flat_map (λ (s : IdSeat). s.me.0.kept) (seats ++ l)) (sym left.behind_is)
+
+-- ## The run
+
+-- links that were given back, and the report over them
+pub run_is : (P : Type 0) {O I : Type 0} (g : Ghosts O) (out : O → OutState) (inn : I → InState) (script : List Item) (text : List ℕ) (links : List LinkEnd) (told ended read : List (List Told)) (kept : List (List Frame)) (places : List PlaceWord) (ids behind : List IdSeat)
+    (left : IsLeftBeside g out script told ended read kept places ids behind) (ends lent : List (Ends O I P)) (last : List Told) (n : ℕ) → n ≡ (plan_of script).operations → lent ≡ ends
+    → map (λ (e : Ends O I P). e.out) ends ≡ left.outs → map (λ (x : LinkReader g). x.behind) left.readers ≡ map (λ (e : Ends O I P). inn e.inn) ends → AllByRecursion HadGivenNone left.readers
+    → HasEnded (seated_ids script) (calls script) (ids ++ behind) (flat_map (λ (fs : List Frame). fs) kept) last → links ≡ map (λ (e : Ends O I P). end_of (out e.out) (inn e.inn)) ends
+    → IsReported script text (outcomes_of n told (ended ++ read) last) places (map (λ (e : Ends O I P). end_of (out e.out) (inn e.inn)) lent) → IsBesideRun P g out inn script text links
+run_is P {O} {I} g out inn script text links told ended read kept places ids behind left ends lent last n many same halves halves_read unread rest given reported = record {
+  told = told;
+  ended = ended;
+  read = read;
+  kept = kept;
+  places = places;
+  ids = ids;
+  behind = behind;
+  left = left;
+  ends = ends;
+  halves = halves;
+  halves_read = halves_read;
+  unread = unread;
+  last = last;
+  rest = rest;
+  given_back = given;
+  reported = subst (IsReported script text (outcomes_of (plan_of script).operations told (ended ++ read) last) places) (sym given)
+      (subst (λ (es : List (Ends O I P)). IsReported script text (outcomes_of (plan_of script).operations told (ended ++ read) last) places (map (λ (e : Ends O I P). end_of (out e.out) (inn e.inn)) es)) same
+      (subst (λ (m : ℕ). IsReported script text (outcomes_of m told (ended ++ read) last) places (map (λ (e : Ends O I P). end_of (out e.out) (inn e.inn)) lent)) many reported));
+}

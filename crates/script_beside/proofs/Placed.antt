@@ -1,33 +1,26 @@
 -- The place words of a run whose links were read beside its clients tell an order of each link, and each operation has an outcome or a place.
-use Rattle.std.proofs.Common.{◌≡◌, ℕ, ◌+◌, ◌≤◌, Ok, List, [], ◌∷◌, ◌++◌, map, length, Some, refl, sym, ap, ◌∙◌, subst, arith}
-use Rattle.std.specs.Prelude.{Option, slice_get}
+use Rattle.std.proofs.Common.{◌≡◌, ℕ, ◌≤◌, Ok, List, [], ◌∷◌, ◌++◌, map, length, Some, refl, sym, subst, arith}
+use Rattle.std.specs.Prelude.{slice_get}
 use Rattle.std.specs.List.{AllByRecursion, flat_map}
 use mathlib.Core.Option.{some}
 use lib.ListN.{get_elem?}
 use Rattle.sock_io.specs.declared.link.Out.{Ghosts}
 use Rattle.sock_io.specs.Link.{OutState}
-use Rattle.sock_words.specs.Codes.{EEOF}
-use Rattle.sock_words.specs.declared.outcome.Outcome.{Outcome}
 use Rattle.sock_words.specs.declared.plain.Plan.{Plan}
 use Rattle.sock_words.specs.declared.place_word.PlaceWord.{PlaceWord}
 use Rattle.brpc_model.specs.Items.{Item}
-use Rattle.brpc_model.specs.Operations.{link_names}
 use Rattle.brpc_model.specs.PlaceWords.{ArePlaces, HasEachOutcome}
 use Rattle.brpc_model.specs.Script.{script_of}
-use Rattle.corr_core.specs.declared.marks.Kept.{Kept}
-use Rattle.corr_core.specs.declared.marks.Noted.{Noted}
 use Rattle.corr_core.specs.declared.marks.Plan as id_plan
 use Rattle.corr_core.specs.declared.marks.View.{View}
 use Rattle.sock_message.specs.Asked.{Asked}
-use Rattle.seat_programs.specs.declared.task.Task.{Task}
 use Rattle.seat_programs.specs.Tasks.{plan_of, opens, calls}
 use Rattle.seat_programs.specs.Told.{AreTasks}
 use Rattle.rpc_client.specs.declared.acting.Told.{Told}
 use Rattle.rpc_reader.specs.Books.{Books}
 use Rattle.prpc_frame.specs.declared.frame.Frame.{Frame}
 use Rattle.script_calls.specs.report_fits.proofs.Sizes.{keeps_limits}
-use Rattle.call_run.specs.Readers.{LinkReader}
-use Rattle.call_run.specs.Threads.{MayRunAll, ids_of}
+use Rattle.call_run.specs.Threads.{MayRunAll}
 use Rattle.script_calls.specs.call_whys.specs.call_places.specs.Counted.{HaveNotesOf}
 use Rattle.script_calls.specs.call_whys.specs.call_places.proofs.Ids.{IdLaws, laws_of}
 use Rattle.script_calls.specs.call_whys.specs.call_places.proofs.Places.{are_places}

@@ -1,16 +1,14 @@
 -- What the report of a run tells whose links were read beside its clients: answers come from responses that links gave, and no end of a call is shown twice.
-use Rattle.std.proofs.Common.{◌≡◌, ℕ, Ok, Err, Result, IfOk, List, [], ◌∷◌, ◌++◌, map, length, replicate, None, refl, sym, ap, ◌∙◌, subst}
+use Rattle.std.proofs.Common.{ℕ, Ok, Err, Result, IfOk, List, [], ◌∷◌, ◌++◌, map, length, replicate, None, refl, sym, ◌∙◌, subst}
 use Rattle.std.specs.Prelude.{Option}
 use Rattle.std.specs.List.{AllByRecursion, flat_map}
 use Rattle.sock_io.specs.declared.link.Out.{Ghosts}
-use Rattle.sock_io.specs.declared.link.Ends.{Ends}
-use Rattle.sock_io.specs.Link.{OutState, InState, end_of}
+use Rattle.sock_io.specs.Link.{OutState, InState}
 use Rattle.sock_words.specs.declared.outcome.Outcome.{Outcome}
 use Rattle.sock_words.specs.declared.plain.Plan.{Plan}
 use Rattle.brpc_model.specs.Items.{Item}
 use Rattle.brpc_model.specs.Link.{LinkEnd}
-use Rattle.brpc_model.specs.Operations.{Operation, operations}
-use Rattle.brpc_model.specs.Script.{script_of}
+use Rattle.brpc_model.specs.Operations.{operations}
 use Rattle.corr_core.specs.declared.marks.Plan as id_plan
 use Rattle.seat_programs.specs.Tasks.{plan_of, opens, calls}
 use Rattle.rpc_client.specs.declared.acting.Told.{Told}
@@ -18,10 +16,10 @@ use Rattle.rpc_reader.specs.Books.{Books}
 use Rattle.prpc_frame.specs.declared.frame.Frame.{Frame}
 use Rattle.call_run.specs.Readers.{LinkReader}
 use Rattle.script_calls.specs.call_whys.specs.call_told.specs.Answers.{IsFailure, IsOwn, HaveAnswers, AreAnsweredBy}
-use Rattle.script_calls.specs.call_whys.specs.call_told.specs.Once.{ToldOnce, ShownOnce}
+use Rattle.script_calls.specs.call_whys.specs.call_told.specs.Once.{ToldOnce}
 use Rattle.script_calls.specs.call_whys.specs.call_told.proofs.Answering.{IsAskedIn, AllHave}
 use Rattle.script_calls.specs.call_whys.specs.call_told.proofs.Balance.{AreBalanced}
-use Rattle.script_calls.specs.call_whys.specs.call_told.proofs.Beside.{told_beside, seats_beside, gave_beside, readers_have, rest_has, once_beside, answered_beside, answered_gave}
+use Rattle.script_calls.specs.call_whys.specs.call_told.proofs.Beside.{gave_beside, readers_have, rest_has, once_beside, answered_beside, answered_gave}
 use Rattle.script_calls.specs.call_whys.specs.call_told.proofs.Lists.{all_both}
 use Rattle.script_calls.specs.call_whys.specs.call_told.proofs.Making.{AllMade}
 use Rattle.script_calls.specs.call_whys.specs.call_told.proofs.Shown.{shown_once}

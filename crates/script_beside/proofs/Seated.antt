@@ -1,23 +1,19 @@
 -- The tables of a script that have a seat more for the reader of each link.
-use Rattle.std.proofs.Common.{◌≡◌, ℕ, ◌+◌, ◌<◌, ◌≤◌, false, Ok, List, ◌∷◌, length, map, refl, sym, ap, ◌∙◌, subst, arith}
-use Rattle.std.specs.List.{All, AllByRecursion}
+use Rattle.std.proofs.Common.{◌≡◌, ℕ, ◌+◌, ◌<◌, ◌≤◌, Ok, List, ◌∷◌, length, refl, sym, ap, ◌∙◌, subst, arith}
+use Rattle.std.specs.List.{All}
 use Rattle.brpc_model.specs.Items.{Item}
 use Rattle.brpc_model.specs.Operations.{link_names}
 use Rattle.brpc_model.specs.Script.{script_of}
-use Rattle.sock_io.specs.declared.link.Ends.{Ends}
-use Rattle.sock_io.specs.Link.{OutState, InState, end_of}
 use Rattle.sock_words.specs.declared.plain.Plan.{Plan}
 use Rattle.corr_core.specs.declared.marks.Plan as id_plan
 use Rattle.seat_programs.specs.declared.task.Task.{Task}
 use Rattle.seat_programs.specs.Scripts.{all_tasks}
 use Rattle.seat_programs.specs.Tasks.{plan_of, opens, calls}
 use Rattle.script_calls.specs.report_fits.proofs.Sizes.{keeps_limits}
-use Rattle.script_links.specs.Given.{AreUntouched}
-use Rattle.call_run.specs.sock_open.specs.Opening.{MayBegin, AreFresh}
+use Rattle.call_run.specs.sock_open.specs.Opening.{MayBegin}
 use Rattle.call_run.specs.Threads.{MayRunAll, ids_of}
 use Rattle.script_calls.proofs.MayCall.{script_seats, seated_may, seated_begins}
 use Rattle.script_calls.proofs.Numbers.{few_operations, opens_below, calls_below, calls_low}
-use Rattle.script_calls.proofs.Parting.{end_at, are_fresh}
 use Rattle.script_beside.specs.Told.{seated_plan, seated_ids}
 use Rattle.script_beside.proofs.Opened.{opens_many}
 

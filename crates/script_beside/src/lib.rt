@@ -4,7 +4,6 @@
 
 mod ending;
 mod run;
-mod stub;
 
 pub use run::run_with_readers;
 pub use script_calls::{is_joinless, run_calls_on_threads};

@@ -14,8 +14,7 @@ ghost use Rattle.script_calls.specs.Told.{IsReported, outcomes_of};
 ghost use Rattle.script_beside.specs.Told.{seated_ids, HasEnded, IsLeftBeside, IsBesideRun, IsBesideText};
 
 use crate::ending::end_calls;
-use crate::stub::{NoneBeside, RanBeside, run_beside};
-use call_run::Ran;
+use call_run::{NoneBeside, Ran, RanBeside, run_beside};
 use corr_id::{IdSeat, IdTable};
 use prpc_frame::Frame;
 use rpc_client::Told;

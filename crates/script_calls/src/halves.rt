@@ -3,7 +3,7 @@ ghost use Rattle.std.specs.Prelude.{◌≡◌, ◌≤◌, ◌+◌, [], ℕ, List
 ghost use Rattle.call_run.specs.sock_open.specs.Opening.{IsRoom};
 ghost use Rattle.script_calls.specs.Halves.{rest_of, joined, HasRoomFor};
 
-use link_crew::Rest;
+use call_run::Rest;
 use sock_io::{Ends, In, Out, Peer};
 use std::alloc::{AllocError, Global};
 use std::collections::VecDeque;

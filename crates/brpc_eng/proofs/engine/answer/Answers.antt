@@ -50,7 +50,7 @@ returns-in-Sim-clause-answers g c =
     simulated _ input out links (number_of c.replay-in-Sim.result) c.in-Some.command c.in-Sim.seed c.from.result c.in-Some.ensures c.in-Sim.is c.from.ensures c.replay-in-Sim.ensures.replayed
 
 pub returns-in-Run-clause-answers : goal.returns-in-Run-clause-answers
-returns-in-Run-clause-answers g c = threaded _ _ _ _ _ c.in-Some.command c.in-Run.port _ c.in-Some.ensures c.in-Run.is c.run_mode.ensures c.run_threads.ensures.replayed
+returns-in-Run-clause-answers g c = threaded _ _ _ _ _ c.in-Some.command c.in-Run.port c.in-Some.ensures c.in-Run.is c.run_threads.ensures.replayed
 
 pub returns-in-Serve-clause-answers : goal.returns-in-Serve-clause-answers
 returns-in-Serve-clause-answers g c = answer.ServesPort c.in-Serve.doors.port c.in-Serve.doors.connections (sym c.in-Some.ensures ∙ ap (λ command. option_map meaning (Some command)) c.in-Serve.is) refl c.serve.ensures.served
