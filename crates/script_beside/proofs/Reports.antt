@@ -1,5 +1,5 @@
 -- What the report of a run tells whose links were read beside its clients: answers come from responses that links gave, and no end of a call is shown twice.
-use Rattle.std.proofs.Common.{ℕ, Ok, Err, Result, IfOk, List, [], ◌∷◌, ◌++◌, map, length, replicate, None, refl, sym, ◌∙◌, subst}
+use Rattle.std.proofs.Common.{◌≡◌, ℕ, Ok, Err, Result, IfOk, List, [], ◌∷◌, ◌++◌, map, length, replicate, None, refl, sym, ◌∙◌, subst}
 use Rattle.std.specs.Prelude.{Option}
 use Rattle.std.specs.List.{AllByRecursion, flat_map}
 use Rattle.sock_io.specs.declared.link.Out.{Ghosts}
@@ -9,6 +9,7 @@ use Rattle.sock_words.specs.declared.plain.Plan.{Plan}
 use Rattle.brpc_model.specs.Items.{Item}
 use Rattle.brpc_model.specs.Link.{LinkEnd}
 use Rattle.brpc_model.specs.Operations.{operations}
+use Rattle.brpc_model.specs.Script.{script_of}
 use Rattle.corr_core.specs.declared.marks.Plan as id_plan
 use Rattle.seat_programs.specs.Tasks.{plan_of, opens, calls}
 use Rattle.rpc_client.specs.declared.acting.Told.{Told}

@@ -19,7 +19,6 @@ use Rattle.seat_programs.specs.declared.task.Op.{Op}
 use Rattle.seat_programs.specs.declared.task.Op.TheVariants as ops
 use Rattle.seat_programs.specs.declared.task.Task.{Task}
 use Rattle.seat_programs.specs.Scripts.{all_tasks}
-use Rattle.seat_programs.specs.ToldCalls.{Fixed, Order}
 use Rattle.seat_programs.specs.Tasks.{Numbered, numbered, op_of, asked_of, plan_of, calls}
 use Rattle.report_fits.proofs.Lists.{Has, some_is}
 use Rattle.report_fits.proofs.Numbering.{are_from}
@@ -30,13 +29,9 @@ use Rattle.call_run.specs.Threads.{ids_of}
 use Rattle.call_whys.specs.call_told.proofs.Tallies.{Tally, tally_then, read_accounts, rest_accounts}
 use Rattle.call_whys.specs.expire_told.specs.Said.{AreOfCalls, HaveKeptOf}
 use Rattle.call_whys.specs.expire_told.proofs.Making.{have_kept}
-use Rattle.call_whys.specs.expire_told.proofs.Whole.{expire_why, once}
 use Rattle.script_calls.specs.Reading.{IdSeat, begins, HasRead}
-use Rattle.script_calls.specs.Told.{IsLeft, AreCallsTold, outcomes_of}
-use Rattle.script_calls.proofs.Placed.{are, may, have}
+use Rattle.script_calls.specs.Told.{IsLeft, outcomes_of}
 use Rattle.script_calls.proofs.Shown.{view_of, flat_mapped}
-use Rattle.script_calls.proofs.Telling.{said, said_ended, begun_not}
-use Rattle.script_calls.proofs.Versions.{calls_apart}
 
 -- ## Which operations are calls
 

@@ -1,5 +1,5 @@
 -- Why each call of a script failed, why each attempt of one behind the first was made, and why each `expire` has its outcome.
-use Rattle.std.proofs.Common.{◌≡◌, ℕ, ◌<◌, ◌≤◌, ◌⊎◌, inl, inr, true, false, List, [], ◌∷◌, ◌++◌, length, map, replicate, slice_get, Option, Some, None, Ok, refl, sym, ap, ◌∙◌, subst, arith}
+use Rattle.std.proofs.Common.{◌≡◌, ℕ, ◌<◌, ◌≤◌, ◌⊎◌, inl, inr, true, false, List, [], ◌∷◌, ◌++◌, length, map, replicate, slice_get, Option, Some, None, Ok, refl, sym, ap, ◌∙◌, subst}
 use Rattle.std.specs.List.{AllByRecursion}
 use mathlib.Core.Option.{some}
 use lib.ListN.{get_elem?}
@@ -11,18 +11,15 @@ use Rattle.sock_words.specs.declared.outcome.Outcome.{Outcome}
 use Rattle.sock_words.specs.declared.outcome.Outcome.TheVariants.{CallFailed}
 use Rattle.sock_words.specs.declared.plain.Plan.{Plan}
 use Rattle.sock_words.specs.declared.place_word.PlaceWord.{PlaceWord}
-use Rattle.brpc_model.specs.Items.{Item, Fail}
+use Rattle.brpc_model.specs.Items.{Item}
 use Rattle.brpc_model.specs.Link.{LinkEnd}
-use Rattle.brpc_model.specs.Operations.{Operation, operations}
 use Rattle.brpc_model.specs.Places.{names}
 use Rattle.brpc_model.specs.Script.{script_of}
 use Rattle.corr_core.specs.Law.{total}
 use Rattle.corr_core.specs.Word.{code_of}
-use Rattle.corr_core.specs.declared.marks.Note.TheVariants.{Made}
 use Rattle.corr_core.specs.declared.marks.Noted.{Noted}
 use Rattle.corr_core.specs.declared.marks.Plan as id_plan
 use Rattle.corr_core.specs.declared.marks.View.{View}
-use Rattle.id_rule.specs.Lawful.{notes_of}
 use Rattle.sock_message.specs.Asked.{Asked, name_of}
 use Rattle.seat_programs.specs.declared.task.Op.{Op}
 use Rattle.seat_programs.specs.declared.task.Op.TheVariants as ops
@@ -31,13 +28,13 @@ use Rattle.seat_programs.specs.Scripts.{all_tasks}
 use Rattle.seat_programs.specs.Tasks.{numbered, plan_of, calls}
 use Rattle.seat_programs.specs.Told.{AreTasks, IsTask, Became}
 use Rattle.seat_programs.specs.ToldCalls.{Fixed, Order, FailedBy, WhyAgain, WhyExpire}
-use Rattle.report_fits.proofs.Lists.{Has, all_at}
+use Rattle.report_fits.proofs.Lists.{all_at}
 use Rattle.report_fits.proofs.Numbering.{are_from}
 use Rattle.report_fits.proofs.Sizes.{is_counted}
 use Rattle.report_fits.proofs.TaskLemmas.{numbers_at, task_is, fail_asks}
 use Rattle.report_fits.proofs.Reading.{InRange}
 use Rattle.rpc_client.specs.declared.acting.Told.{Told}
-use Rattle.call_run.specs.Threads.{Thread, MayRunAll, ids_of, openings, opened_names, opens_of}
+use Rattle.call_run.specs.Threads.{MayRunAll, ids_of, openings, opened_names, opens_of}
 use Rattle.call_run.specs.sock_rule.specs.Closing.{PlacesDiffer}
 use Rattle.call_whys.specs.call_deeds.specs.Retried.{all_asked}
 use Rattle.call_whys.specs.call_deeds.specs.Scripts.{AllHaveLinks, Reports, AllLater}
@@ -58,7 +55,7 @@ use Rattle.failed_told.proofs.Codes.{IsReadCode}
 use Rattle.failed_told.proofs.DropsTold.{drops_told, expires_told}
 use Rattle.failed_told.proofs.Ended.{TellsDrops, ends_told}
 use Rattle.failed_told.proofs.ReadCodes.{HasReadCode, TellsCodes, codes_then, read_codes, rest_codes}
-use Rattle.failed_told.proofs.Reading.{Queues, queues_then, read_queues, rest_queues, others_queued}
+use Rattle.failed_told.proofs.Reading.{queues_then, read_queues, rest_queues, others_queued}
 use Rattle.failed_told.proofs.Views.{queued_in}
 use Rattle.script_calls.specs.Reading.{IdSeat, begins, HasRead}
 use Rattle.script_calls.specs.Told.{IsLeft, AreSocketsTold, AreCallsTold, outcomes_of}

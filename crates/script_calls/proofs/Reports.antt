@@ -19,7 +19,6 @@ use Rattle.seat_programs.specs.Scripts.{all_tasks}
 use Rattle.seat_programs.specs.Tasks.{plan_of, opens, calls}
 use Rattle.corr_core.specs.declared.marks.Plan as id_plan
 use Rattle.rpc_client.specs.declared.acting.Told.{Told}
-use Rattle.callless_fits.specs.sock_deeds.specs.Told.{fixed_by}
 use Rattle.script_links.specs.Given.{AreUntouched, AreNumbered}
 use Rattle.call_run.specs.link_crew.specs.declared.beside.Rest.{Rest}
 use Rattle.script_calls.specs.Halves.{AreTaken, rest_of, joined}
