@@ -44,7 +44,8 @@ use Rattle.call_told.specs.call_errors.specs.Locking.{id_in}
 use Rattle.call_told.specs.call_errors.specs.Asking.{ExpiredBy, TimedOut}
 use Rattle.call_told.specs.call_client.specs.Acting.{Stand, stand, both_of, Acted}
 use Rattle.call_told.specs.call_client.specs.Running.{begins, MayMakeAll}
-use Rattle.call_told.specs.call_run.specs.Threads.{Thread, RanOn, AllMayRun, MayRunAll, ids_of}
+use Rattle.call_told.specs.call_run.specs.Readers.{LinkReader}
+use Rattle.call_told.specs.call_run.specs.Threads.{Thread, RanWith, AllMayRun, MayRunAll, ids_of}
 use Rattle.call_told.specs.call_places.specs.Counted.{HaveNotesOf}
 use Rattle.call_told.specs.call_places.proofs.Weights.{term, two_terms, mapped}
 use Rattle.call_told.specs.call_places.proofs.Numbers.{numbered_once}
@@ -102,8 +103,8 @@ end_at v a b e h = subst (λ (id : ℕ). 1 ≤ noted_ends (slot_of id) (version_
 abbrev InOrder : Task → Task → Type 0
 InOrder a b = (a.number < b.number) × HaveOwnLinks a.op b.op
 
-module _ {O : Type 0} {g : Ghosts O} {state : O → OutState} {p : Plan} {slots : ℕ} {setup : List Task} {clients : List (List Task)} {opens : List ℕ} {told ended : List (List Told)} {places : List PlaceWord} {vrefs : List Vref} {outs : List O} {ids : List (View Asked)}
-    (run : RanOn g state p slots setup clients opens told ended places vrefs outs ids) (tasks : AreTasks p (setup ∷ clients)) (may : MayRunAll p (ids_of p slots) setup clients)
+module _ {O : Type 0} {g : Ghosts O} {state : O → OutState} {readers : List (LinkReader g)} {p : Plan} {slots : ℕ} {setup : List Task} {clients : List (List Task)} {opens : List ℕ} {told ended : List (List Told)} {places : List PlaceWord} {vrefs : List Vref} {outs : List O} {ids : List (View Asked)}
+    (run : RanWith g state readers p slots setup clients opens told ended places vrefs outs ids) (tasks : AreTasks p (setup ∷ clients)) (may : MayRunAll p (ids_of p slots) setup clients)
     (notes : List (Noted Asked)) (kept : List Kept) (words : List ℕ) (closing : Closing (ids_of p slots) notes kept words) (noted : HaveNotesOf ids notes) (keeps : HaveKeptOf ids kept)
     (outcomes : List (Option Outcome)) (said_own : AreSaid outcomes told) (said_ended : AreSaid outcomes ended) where
   abbrev q : id_plan.Plan
