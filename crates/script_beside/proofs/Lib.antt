@@ -10,3 +10,5 @@ pub mod Early
 pub mod Linked
 pub mod Widened
 pub mod Sockets
+pub mod WideCalls
+pub mod Failing

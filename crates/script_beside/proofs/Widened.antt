@@ -19,7 +19,7 @@ module _ (p : Plan) (n : ℕ) (clients : List (List Task)) (outcomes : List (Opt
   orders_still : (c : Core) → AreOrders wide c orders → AreOrders p c orders
   orders_still c h = record { written = h.written; alone = h.alone; within = h.within; taken = h.taken; apart = h.apart }
 
-  none_still : (c o m : ℕ) → FoundNone wide clients outcomes fixed gave orders c o m → FoundNone p clients outcomes fixed gave orders c o m
+  pub none_still : (c o m : ℕ) → FoundNone wide clients outcomes fixed gave orders c o m → FoundNone p clients outcomes fixed gave orders c o m
   none_still c o m h = record { setup = h.setup; own = h.own }
 
   failed_still : (c o m : ℕ) (P : ℕ → Type 0) → FoundFailed wide clients outcomes fixed gave orders c o m P → FoundFailed p clients outcomes fixed gave orders c o m P
