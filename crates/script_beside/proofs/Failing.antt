@@ -13,9 +13,8 @@ use Rattle.sock_words.specs.declared.plain.Plan.{Plan}
 use Rattle.brpc_model.specs.Items.{Item}
 use Rattle.brpc_model.specs.Link.{LinkEnd}
 use Rattle.brpc_model.specs.Script.{script_of}
-use Rattle.corr_core.specs.Law.{total, is_attempt}
+use Rattle.corr_core.specs.Law.{total}
 use Rattle.corr_core.specs.Word.{code_of}
-use Rattle.corr_core.specs.declared.marks.Note.TheVariants.{Made}
 use Rattle.corr_core.specs.declared.marks.Noted.{Noted}
 use Rattle.corr_core.specs.declared.marks.Plan as id_plan
 use Rattle.corr_core.specs.declared.marks.View.{View}
@@ -29,21 +28,15 @@ use Rattle.seat_programs.specs.Told.{IsTask, Became}
 use Rattle.seat_programs.specs.ToldCalls.{FailedBy, WhyAgain, WhyExpire}
 use Rattle.rpc_client.specs.declared.acting.Told.{Told}
 use Rattle.rpc_reader.specs.Books.{Books}
-use Rattle.call_run.specs.Readers.{LinkReader, AreReaders}
+use Rattle.call_run.specs.Readers.{LinkReader}
 use Rattle.call_run.specs.Threads.{Thread}
-use Rattle.script_calls.specs.id_rule.specs.Lawful.{notes_of as noted_in}
 use Rattle.script_calls.specs.report_fits.proofs.Sizes.{keeps_limits}
-use Rattle.script_calls.specs.call_whys.specs.call_deeds.specs.Retried.{all_asked}
-use Rattle.script_calls.specs.call_whys.specs.call_deeds.proofs.Ran.{AreLater}
 use Rattle.script_calls.specs.call_whys.specs.call_deeds.proofs.Runs.{seats_are}
-use Rattle.script_calls.specs.call_whys.specs.call_places.proofs.Clients.{Client}
-use Rattle.script_calls.specs.call_whys.specs.call_places.proofs.Places.{all as all_clients}
-use Rattle.script_calls.specs.call_whys.specs.call_places.proofs.Still.{advances}
 use Rattle.script_calls.specs.call_whys.specs.call_told.specs.Answers.{IsOwn}
 use Rattle.script_calls.specs.call_whys.specs.call_told.proofs.Lists.{all_at}
 use Rattle.script_calls.specs.call_whys.specs.call_told.proofs.Readers.{AllRead, each_read}
-use Rattle.script_calls.specs.call_whys.specs.expire_told.specs.Said.{AreSaid, HaveKeptOf, WhyExpired}
-use Rattle.script_calls.specs.call_whys.specs.sock_deeds.specs.Runs.{DeedRun, IsOperation, seat_of}
+use Rattle.script_calls.specs.call_whys.specs.expire_told.specs.Said.{WhyExpired}
+use Rattle.script_calls.specs.call_whys.specs.sock_deeds.specs.Runs.{IsOperation, seat_of, DeedRun}
 use Rattle.script_calls.specs.call_whys.specs.sock_deeds.proofs.Orders.{orders}
 use Rattle.script_calls.specs.attempts_told.specs.Attempts.{last_attempt}
 use Rattle.script_calls.specs.failed_told.proofs.Again.{again_with}
@@ -51,7 +44,7 @@ use Rattle.script_calls.specs.failed_told.proofs.Codes.{IsReadCode}
 use Rattle.script_calls.specs.failed_told.proofs.DropsTold.{drops_with, expires_with}
 use Rattle.script_calls.specs.failed_told.proofs.Ended.{TellsDrops, ends_with}
 use Rattle.script_calls.specs.failed_told.proofs.ReadCodes.{HasReadCode, TellsCodes, rest_codes, readers_codes}
-use Rattle.script_calls.specs.failed_told.proofs.Reading.{Queues, rest_queues, readers_queue, others_beside}
+use Rattle.script_calls.specs.failed_told.proofs.Reading.{rest_queues, readers_queue, others_beside}
 use Rattle.script_calls.specs.failed_told.proofs.Views.{queued_in}
 use Rattle.script_calls.specs.Reading.{IdSeat}
 use Rattle.script_calls.specs.Told.{outcomes_of}
@@ -62,9 +55,11 @@ use Rattle.script_calls.proofs.Shown.{view_of, flat_mapped}
 use Rattle.script_calls.proofs.Sockets.{map_twice}
 use Rattle.script_calls.proofs.Tellers.{split, only_one, IsEndTold}
 use Rattle.script_calls.proofs.Tellers as tellers
-use Rattle.script_beside.specs.Told.{seated_plan, seated_ids, begins_with, IsBesideRun}
+use Rattle.script_beside.specs.Told.{seated_plan, seated_ids, IsBesideRun}
 use Rattle.script_beside.proofs.Left.{all_seats, notes_of}
+use Rattle.script_beside.proofs.Attempts as attempts
 use Rattle.script_beside.proofs.Sockets as sockets
+use Rattle.script_beside.proofs.Telling as telling
 use Rattle.script_beside.proofs.WideCalls.{failure_still, again_still, expire_still}
 
 module _ (P : Type 0) {O I : Type 0} (g : Ghosts O) (out : O → OutState) (inn : I → InState) (bytes : List ℕ) (script : List Item) (reads : script_of bytes ≡ Ok script) (text : List ℕ) (links : List LinkEnd) (r : IsBesideRun P g out inn script text links) where
@@ -136,12 +131,7 @@ module _ (P : Type 0) {O I : Type 0} (g : Ghosts O) (out : O → OutState) (inn 
 
   -- ## Causes
 
-  -- what else is known of the clients: which words of operations they keep, what they told of calls that they ended, and that none but they advanced attempts of calls for which ids were made
-  module _ (keeps : HaveKeptOf (map view_of r.ids) r.rest.last.view.kept) (said_ended : AreSaid (outcomes_of (plan_of script).operations r.told (r.ended ++ r.read) r.last) r.ended)
-      (later : (j : ℕ) (c : Client g out (seated_plan script) (seated_ids script)) → get_elem? (all_clients r.left.ran) j ≡ some c → AreLater (r.left.setup ∷ r.left.clients) (outcomes_of (plan_of script).operations r.told (r.ended ++ r.read) r.last) (all_asked c.thread c.is))
-      (made : (i j f n : ℕ) (asked : Asked) → i < length (calls script) → get_elem? (noted_in i r.rest.last.view.notes) j ≡ some (Made f n asked)
-      → (c : ℕ) × IsTask (r.left.setup ∷ r.left.clients) (outcomes_of (plan_of script).operations r.told (r.ended ++ r.read) r.last) c record { number = asked.operation; op = ops.Call asked } × (n ≡ asked.range))
-      (own : (i f n : ℕ) → total (is_attempt f n) (noted_in i r.rest.last.view.notes) ≤ total (λ (v : View Asked). advances i f n v) (map view_of r.ids)) (gave : ℕ → List ℕ) where
+  module _ (gave : ℕ → List ℕ) where
     abbrev FailedHere : ℕ → ℕ → Asked → ℕ → ℕ → Type 0
     FailedHere client number asked id code = FailedBy p all outcomes (sockets.fixed P g out inn bytes script reads text links r) gave (orders drun (sockets.differ P g out inn bytes script reads text links r)) client number asked id code (last_attempt notes number) ⊎ IsReadCode code
 
@@ -157,8 +147,8 @@ module _ (P : Type 0) {O I : Type 0} (g : Ghosts O) (out : O → OutState) (inn 
 
     of_client : (c i : ℕ) (ts : List Told) (x : Told) → get_elem? r.ended c ≡ some ts → get_elem? ts i ≡ some x → (client number : ℕ) (asked : Asked) → IsOperation all outcomes client number (ops.Call asked) → (id code : ℕ) → x.number ≡ number → x.outcome ≡ CallFailed id code → FailedHere client number asked id code
     of_client c i ts x at there client n asked call id code number outcome =
-        let e = ends_with r.left.ran (sockets.are P g out inn bytes script reads text links r) (sockets.may P g out inn bytes script reads text links r) notes last.kept r.rest.words r.rest.closing (sockets.have P g out inn bytes script reads text links r) keeps outcomes
-        (sockets.reports P g out inn bytes script reads text links r).said said_ended later others made own drun seats refl (sockets.differ P g out inn bytes script reads text links r) gave dropped c i ts x at there client asked (subst (λ (m : ℕ). IsOperation all outcomes client m (ops.Call asked)) (sym number) call) in
+        let e = ends_with r.left.ran (sockets.are P g out inn bytes script reads text links r) (sockets.may P g out inn bytes script reads text links r) notes last.kept r.rest.words r.rest.closing (sockets.have P g out inn bytes script reads text links r) (telling.keeps P g out inn bytes script reads text links r) outcomes
+        (sockets.reports P g out inn bytes script reads text links r).said (telling.said_ended P g out inn bytes script reads text links r) (attempts.later P g out inn bytes script reads text links r) others (attempts.are_ids P g out inn bytes script reads text links r).made (attempts.own P g out inn bytes script reads text links r) drun seats refl (sockets.differ P g out inn bytes script reads text links r) gave dropped c i ts x at there client asked (subst (λ (m : ℕ). IsOperation all outcomes client m (ops.Call asked)) (sym number) call) in
         let same = same_failure e.0 e.1 id code (sym e.2 ∙ outcome) in
         let by_number : FailedHere client n asked e.0 e.1 = subst (λ (m : ℕ). FailedHere client m asked e.0 e.1) number e.3 in
         subst (λ (m : ℕ). FailedHere client n asked id m) same.1 (subst (λ (m : ℕ). FailedHere client n asked m e.1) same.0 by_number)
@@ -200,11 +190,11 @@ module _ (P : Type 0) {O I : Type 0} (g : Ghosts O) (out : O → OutState) (inn 
     pub again : (client : ℕ) (t : Task) (asked : Asked) → IsTask all outcomes client t → t.op ≡ ops.Call asked → (n : ℕ) → n < last_attempt notes t.number
         → WhyAgain (plan_of script) all outcomes (sockets.fixed P g out inn bytes script reads text links r) gave (orders drun (sockets.differ P g out inn bytes script reads text links r)) client t.number n (name_of asked n)
     again client t asked is op n less = again_still (plan_of script) p.seats all outcomes (sockets.fixed P g out inn bytes script reads text links r) gave (orders drun (sockets.differ P g out inn bytes script reads text links r)) client t.number n (name_of asked n)
-        (again_with r.left.ran (sockets.are P g out inn bytes script reads text links r) (sockets.may P g out inn bytes script reads text links r) notes last.kept r.rest.words r.rest.closing (sockets.have P g out inn bytes script reads text links r) outcomes (sockets.reports P g out inn bytes script reads text links r).said later others made own drun seats refl (sockets.differ P g out inn bytes script reads text links r) gave dropped client t asked is op n less)
+        (again_with r.left.ran (sockets.are P g out inn bytes script reads text links r) (sockets.may P g out inn bytes script reads text links r) notes last.kept r.rest.words r.rest.closing (sockets.have P g out inn bytes script reads text links r) outcomes (sockets.reports P g out inn bytes script reads text links r).said (attempts.later P g out inn bytes script reads text links r) others (attempts.are_ids P g out inn bytes script reads text links r).made (attempts.own P g out inn bytes script reads text links r) drun seats refl (sockets.differ P g out inn bytes script reads text links r) gave dropped client t asked is op n less)
 
     -- each `expire`, and which codes were queued where it found no room
     pub expires : (client of : ℕ) (t : Task) (by : Outcome) → IsTask all outcomes client t → t.op ≡ ops.Expire of → Became all outcomes t.number by → WhyExpired p all outcomes (sockets.fixed P g out inn bytes script reads text links r) gave (orders drun (sockets.differ P g out inn bytes script reads text links r)) client t.number of by
         → WhyExpire (plan_of script) all outcomes (sockets.fixed P g out inn bytes script reads text links r) gave (orders drun (sockets.differ P g out inn bytes script reads text links r)) (last_attempt notes) client t.number of by
     expires client of t by is op became why = expire_still (plan_of script) p.seats all outcomes (sockets.fixed P g out inn bytes script reads text links r) gave (orders drun (sockets.differ P g out inn bytes script reads text links r)) (last_attempt notes) client t.number of by
         (expires_with r.left.ran (sockets.are P g out inn bytes script reads text links r) (sockets.may P g out inn bytes script reads text links r) notes last.kept r.rest.words r.rest.closing (sockets.have P g out inn bytes script reads text links r) outcomes drun seats refl (sockets.differ P g out inn bytes script reads text links r) gave
-        (sockets.low P g out inn bytes script reads text links r) few_links bounds keeps (sockets.reports P g out inn bytes script reads text links r).said said_ended others (last_attempt notes) client of t by is op became why)
+        (sockets.low P g out inn bytes script reads text links r) few_links bounds (telling.keeps P g out inn bytes script reads text links r) (sockets.reports P g out inn bytes script reads text links r).said (telling.said_ended P g out inn bytes script reads text links r) others (last_attempt notes) client of t by is op became why)
