@@ -2,7 +2,7 @@
 use Rattle.std.proofs.Common.{◌≡◌, ℕ, zero, suc, ◌+◌, ◌⊎◌, inl, inr, Bool, true, false, List, [], ◌∷◌, ◌++◌, map, append_assoc, append-nil, Some, None, pos, negsuc, refl, ap, ◌∙◌, subst, sym}
 use Rattle.std.specs.Prelude.{Option, ℤ, position, ◌==◌}
 use Rattle.std.specs.List.{AllByRecursion}
-use Rattle.sock_words.specs.Codes.{EEOF, ERESPONSE}
+use Rattle.sock_words.specs.Codes.{ERESPONSE}
 use Rattle.sock_words.specs.Words.{at_word_link}
 use Rattle.sock_words.specs.declared.at_word.AtWord.{AtWord}
 use Rattle.sock_words.specs.declared.outcome.Outcome.{Outcome}
