@@ -50,7 +50,7 @@ module _ {O : Type 0} {g : Ghosts O} {state : O → OutState} {readers : List (L
   every = setup ∷ clients
 
   -- operation t is a call that began
-  record IsBegun (t : ℕ) : Type 0 where
+  pub record IsBegun (t : ℕ) : Type 0 where
     pub client : ℕ
     pub task : Task
     pub asked : Asked
@@ -60,7 +60,7 @@ module _ {O : Type 0} {g : Ghosts O} {state : O → OutState} {readers : List (L
     pub began : Became every outcomes t outcome.Unopened → ⊥
 
   -- a call whose id was found has begun
-  maker_begun : (of id : ℕ) → IsMaker run tasks may notes kept words closing noted keeps outcomes said_own said_ended of id → IsBegun of
+  pub maker_begun : (of id : ℕ) → IsMaker run tasks may notes kept words closing noted keeps outcomes said_own said_ended of id → IsBegun of
   maker_begun of id m =
       let x = m.client in let b = m.own in
       let own : b.asked.operation ≡ b.task.number = all_at Fits (tasks_of x) b.place b.task (fits run tasks may notes kept words closing noted keeps outcomes said_own said_ended m.place x m.at) b.there b.asked b.is_call in
