@@ -1,5 +1,5 @@
 -- Why the `join`s of a run with calls have their outcomes.
-use Rattle.std.proofs.Common.{◌≡◌, ℕ, ◌%◌, ◌<◌, ◌⊎◌, inl, inr, List, ◌∷◌, Some, None, refl, sym, ap, ◌∙◌, subst, arith}
+use Rattle.std.proofs.Common.{◌≡◌, ℕ, ◌%◌, ◌<◌, ◌≤◌, ◌⊎◌, inl, inr, List, ◌∷◌, Some, None, refl, sym, ap, ◌∙◌, subst, arith}
 use Rattle.std.specs.Prelude.{Option}
 use mathlib.Core.Logic.{dite}
 use mathlib.Core.Option.{some, some-injective}
@@ -41,7 +41,6 @@ use Rattle.call_told.specs.call_run.specs.Readers.{LinkReader}
 use Rattle.call_told.specs.call_run.specs.Threads.{RanWith, MayRunAll, ids_of}
 use Rattle.call_told.specs.call_places.specs.Counted.{HaveNotesOf}
 use Rattle.call_told.specs.call_places.proofs.Clients.{Client, view_of, tasks_of}
-use Rattle.call_told.specs.call_places.proofs.Places.{all as all_clients}
 use Rattle.call_told.specs.Least.{HasBegun}
 use Rattle.call_told.proofs.Lists.{all_at}
 use Rattle.call_told.proofs.Moves.{Fits}
@@ -122,9 +121,9 @@ module _ {O : Type 0} {g : Ghosts O} {state : O → OutState} {readers : List (L
       same e = let is : t ≡ u = some-injective t u (sym there ∙ (ap (get_elem? (tasks_of n.client)) e ∙ n.there)) in top asked (ap (λ (y : Task). y.op) is ∙ uop)
 
       earlier : n.place < m.place → (of < t.number → ⊥) → ⊥
-      earlier less nl = nl (
-      let order = all_at (EachBefore InOrder) every c (tasks_of n.client) tasks.in_order (tasks_at run tasks may notes kept words closing noted keeps outcomes said_own said_ended c n.client n.at) in
-      let h = (before_in InOrder (tasks_of n.client) order n.place m.place u t less n.there there).0 in omega (arith, h, number))
+      earlier less nl =
+          let order = all_at (EachBefore InOrder) every c (tasks_of n.client) tasks.in_order (tasks_at run tasks may notes kept words closing noted keeps outcomes said_own said_ended c n.client n.at) in
+          let h = (before_in InOrder (tasks_of n.client) order n.place m.place u t less n.there there).0 in nl (omega (arith, h, number))
 
       later : m.place < n.place → ⊥
       later less = or_begun (call_acted state p q u.number asked u.op n.done.made.by n.done.made.ready n.done.after.has uop n.done.made.acted)
@@ -134,9 +133,6 @@ module _ {O : Type 0} {g : Ghosts O} {state : O → OutState} {readers : List (L
 
           known : KnowsOf q of s.after.has.calls.view
           known = knows s.before s.after s.made (earlier_told run tasks may notes kept words closing noted keeps outcomes said_own said_ended c u n m.place t s)
-
-          f : Kept → ℕ
-          f = is_word (call_index q of) known.0
 
           fit : Fits u
           fit = all_at Fits (tasks_of n.client) n.place u (fits run tasks may notes kept words closing noted keeps outcomes said_own said_ended c n.client n.at) n.there
