@@ -100,7 +100,7 @@ call_acted {O} {g} state p q number asked op by s t is acted = with by (subst (�
 end_at : (v : View Asked) (a b : ℕ) → a ≡ b → 1 ≤ noted_ends (slot_of a) (version_of a) v.notes → 1 ≤ noted_ends (slot_of b) (version_of b) v.notes
 end_at v a b e h = subst (λ (id : ℕ). 1 ≤ noted_ends (slot_of id) (version_of id) v.notes) e h
 
-abbrev InOrder : Task → Task → Type 0
+abbrev pub InOrder : Task → Task → Type 0
 InOrder a b = (a.number < b.number) × HaveOwnLinks a.op b.op
 
 module _ {O : Type 0} {g : Ghosts O} {state : O → OutState} {readers : List (LinkReader g)} {p : Plan} {slots : ℕ} {setup : List Task} {clients : List (List Task)} {opens : List ℕ} {told ended : List (List Told)} {places : List PlaceWord} {vrefs : List Vref} {outs : List O} {ids : List (View Asked)}
