@@ -234,7 +234,7 @@ carried : {A : Type 0} (l m : List A) (i : ℕ) (x : A) → l ≡ m → get_elem
 carried l m i x e at = (i, ap (λ y. get_elem? y i) e ∙ at)
 
 -- what stands in a list behind empty ones stands in one of the others
-behind_empty : {X A : Type 0} (rs : List X) (ls : List (List A)) (k : ℕ) (l : List A) (m : ℕ) (e : A) → get_elem? (map (λ (x : X). []) rs ++ ls) k ≡ some l → get_elem? l m ≡ some e → (j : ℕ) × (get_elem? ls j ≡ some l)
+pub behind_empty : {X A : Type 0} (rs : List X) (ls : List (List A)) (k : ℕ) (l : List A) (m : ℕ) (e : A) → get_elem? (map (λ (x : X). []) rs ++ ls) k ≡ some l → get_elem? l m ≡ some e → (j : ℕ) × (get_elem? ls j ≡ some l)
 behind_empty [] ls k l m e at there = (k, at)
 behind_empty {X} {A} (r ∷ rs) ls zero l m e at there = none_there m e (ap (λ (x : List A). get_elem? x m) (some-injective [] l at) ∙ there)
 behind_empty (r ∷ rs) ls (suc k) l m e at there = behind_empty rs ls k l m e at there
