@@ -16,14 +16,14 @@ use Rattle.sock_words.specs.declared.place_word.PlaceWord.{PlaceWord}
 use Rattle.sock_words.specs.declared.vref.Vref.{Vref}
 use Rattle.brpc_model.specs.Items.{Item}
 use Rattle.brpc_model.specs.Messages.{shown_id}
-use Rattle.corr_core.specs.Law.{total, only}
+use Rattle.corr_core.specs.Law.{total}
 use Rattle.corr_core.specs.Word.{parts}
 use Rattle.corr_core.specs.declared.marks.Note.{Note}
 use Rattle.corr_core.specs.declared.marks.Note.TheVariants.{Tried, Made, Ended, Locker, Queued, Attempt, Saw}
 use Rattle.corr_core.specs.declared.marks.Noted.{Noted}
 use Rattle.corr_core.specs.declared.marks.Plan as id_plan
 use Rattle.corr_core.specs.declared.marks.View.{View}
-use Rattle.corr_core.proofs.Notes.{only-at, only-else, pair-at, pair-else, pair-else_first, total_some}
+use Rattle.corr_core.proofs.Notes.{only-at, pair-at, pair-else, pair-else_first, total_some}
 use Rattle.corr_id.specs.Calls.{slot_of, version_of}
 use Rattle.corr_id.specs.Closing.{Closing}
 use Rattle.id_rule.specs.Lawful.{notes_of}
@@ -194,14 +194,11 @@ module _ {O : Type 0} {g : Ghosts O} {state : O → OutState} {readers : List (L
 
 -- ## The ids that are shown
 
-is_that : (k x : ℕ) → 0 < only k x → x ≡ k
-is_that k x h = dite (ℕ_discrete x k) (λ e. e) (λ n. absurd (let a = only-else k x n in omega arith))
-
 -- an outcome is the end of one call
 one_shown : (a b : ℕ) (by : Outcome) → 0 < ends_of a by → 0 < ends_of b by → a ≡ b
-one_shown a b (Answered i payload attachment) h k = sym (is_that a i h) ∙ is_that b i k
-one_shown a b (Peer i code) h k = sym (is_that a i h) ∙ is_that b i k
-one_shown a b (CallFailed i code) h k = sym (is_that a i h) ∙ is_that b i k
+one_shown a b (Answered i payload attachment) h k = sym (only_is a i h) ∙ only_is b i k
+one_shown a b (Peer i code) h k = sym (only_is a i h) ∙ only_is b i k
+one_shown a b (CallFailed i code) h k = sym (only_is a i h) ∙ only_is b i k
 one_shown a b other h k = absurd (omega arith)
 
 own_none : (id : ℕ) (by : Outcome) → ends_call by ≡ false → ends_of id by ≡ 0
