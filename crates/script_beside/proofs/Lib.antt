@@ -9,9 +9,9 @@ pub mod Early
 pub mod Linked
 pub mod Widened
 pub mod Sockets
-pub mod WideCalls
-pub mod Failing
 pub mod Telling
 pub mod Attempts
+pub mod WideCalls
+pub mod Failing
 pub mod Expires
 pub mod Reports
