@@ -12,4 +12,5 @@ pub mod Sockets
 pub mod Telling
 pub mod Attempts
 pub mod Expires
+pub mod Joins
 pub mod Reports

@@ -30,6 +30,7 @@ use Rattle.script_calls.specs.call_whys.specs.sock_deeds.specs.Told.{fixed_by}
 use Rattle.script_calls.specs.Reading.{IdSeat, TookAll}
 use Rattle.script_calls.specs.Told.{outcomes_of, IsReported}
 use Rattle.script_beside.specs.Calls.{AreCallsBeside}
+use Rattle.script_beside.specs.Joins.{AreJoinsTold}
 use Rattle.script_beside.specs.Sockets.{AreSocketsBeside}
 
 -- the sizes of the tables: a seat for each client and the setup, and one for the reader of each link
@@ -110,5 +111,7 @@ pub record IsBesideText (script : List Item) (text : List ℕ) (ends : List Link
   pub attempts : AreAttemptsTold (plan_of script) (all_tasks script) outcomes (fixed_by sockets.broken sockets.early sockets.fails) answered.gave sockets.orders
   -- each `expire` has its cause
   pub on_calls : AreCallsBeside (plan_of script) (all_tasks script) outcomes (fixed_by sockets.broken sockets.early sockets.fails) answered.gave sockets.orders
+  -- and so has each `join`
+  pub joins : AreJoinsTold (plan_of script) (all_tasks script) outcomes (fixed_by sockets.broken sockets.early sockets.fails) answered.gave sockets.orders
   -- no two operations have the end of one call as their outcome, of those whose ids are in the slots that the calls of the script have
   pub once : ShownOnce (length (calls script)) outcomes
