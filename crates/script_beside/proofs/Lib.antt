@@ -14,4 +14,5 @@ pub mod Attempts
 pub mod WideCalls
 pub mod Failing
 pub mod Expires
+pub mod Joins
 pub mod Reports

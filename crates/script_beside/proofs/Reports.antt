@@ -37,6 +37,7 @@ use Rattle.script_calls.proofs.Sayings.{long_each}
 use Rattle.script_calls.proofs.Shown.{view_of, outcomes_few}
 use Rattle.script_beside.specs.Told.{seated_plan, seated_ids, begins_with, IsBesideRun, IsBesideText}
 use Rattle.script_beside.specs.Sockets.{AreSocketsBeside}
+use Rattle.script_beside.proofs.Joins.{joins_told}
 use Rattle.script_beside.proofs.Left.{early_of, notes_of}
 use Rattle.script_beside.proofs.Attempts.{attempts_beside, attempts_last}
 use Rattle.script_beside.proofs.Expires.{calls_beside}
@@ -115,6 +116,7 @@ module _ (P : Type 0) {O I : Type 0} (out : O → OutState) (inn : I → InState
     sockets = both.1;
     attempts = both.2.0;
     on_calls = both.2.1;
+    joins = joins_told P g out inn bytes script reads text links r (fixed_by both.1.broken both.1.early both.1.fails) both.0.gave both.1.orders;
     once = shown_once q.slots outcomes r.told (tellers ++ r.last ∷ []) (outcomes_few (plan_of script).operations r.told tellers r.last) own_told (told_once P g out inn bytes script reads text links r);
   }
 
