@@ -1,12 +1,17 @@
 -- Whoever reads links, and ends the calls that are left, advances no attempt.
-use Rattle.std.proofs.Common.{◌≡◌, ℕ, ◌+◌, ◌⊎◌, inl, inr, true, false, List, [], ◌∷◌, Some, None, refl, ap}
+use Rattle.std.proofs.Common.{◌≡◌, ℕ, ◌+◌, ◌⊎◌, inl, inr, true, false, List, [], ◌∷◌, Some, None, refl, sym, ap, subst, arith}
 use Rattle.std.specs.Prelude.{Option, position, ◌==◌, Bool}
 use Rattle.sock_words.specs.Words.{at_word_link}
 use Rattle.sock_words.specs.declared.at_word.AtWord.{AtWord}
 use Rattle.sock_words.specs.declared.outcome.Outcome.{Outcome}
 use Rattle.sock_words.specs.declared.outcome.Outcome.TheVariants.{CallFailed}
+use Rattle.sock_words.specs.declared.plain.Plan as sizes
+use Rattle.sock_words.specs.declared.socket_id.SocketId.{SocketId}
+use Rattle.sock_model.specs.declared.view.View as sock_view
 use Rattle.sock_io.specs.declared.link.Ends.{Ends}
+use Rattle.sock_io.specs.declared.link.Out.{Ghosts}
 use Rattle.sock_io.specs.Link.{OutState, InState}
+use Rattle.corr_core.specs.Law.{total}
 use Rattle.corr_core.specs.Word.{Parts, parts}
 use Rattle.corr_core.specs.declared.marks.Plan.{Plan}
 use Rattle.corr_core.specs.declared.marks.View.{View}
@@ -24,6 +29,10 @@ use Rattle.call_told.specs.call_run.specs.rpc_reader.specs.Posting.{LostBy, Lock
 use Rattle.call_told.specs.call_run.specs.rpc_reader.specs.Reading.{code_of}
 use Rattle.call_told.specs.call_run.specs.rpc_reader.specs.Linked.{ReadServed, ReadLinks}
 use Rattle.call_told.specs.call_run.specs.rpc_reader.specs.Resting.{HadEnded, EndedLast, OneEnded, RestEnded}
+use Rattle.call_told.specs.call_run.specs.rpc_reader.specs.Running.{ReadLink, ReadIf}
+use Rattle.call_told.specs.call_run.specs.Readers.{LinkReader, nothing_read, IsReader}
+use Rattle.call_told.specs.call_places.proofs.Still.{advances}
+use Rattle.call_told.proofs.Readers.{AllRead, link_read}
 use Rattle.attempts_told.proofs.Bounds.{Unmoved, unmoved_then, unmoved_noted, unmoved_quiet, unmoved_got, unmoved_ended, unmoved_post}
 
 abbrev Same : Books → Books → Type 0
@@ -95,13 +104,32 @@ module _ (code : ℕ) where
 
 -- ## Links
 
+-- a link was read to its end
+link_unmoved : (q : Plan) (link : ℕ) (calls : List ℕ) (ending short : Bool) (s t : InState) (b b' : Books) → ReadLink q link calls ending short s t b b' → Same b b'
+link_unmoved q link calls ending short s t b b' r = let m = r.met in let all = r.read.met in
+    unmoved_then b.view m.view b'.view (frames q.slots all.frames b m all.met) (posted (code_of r.how) q link calls m b' r.posted)
+
 module _ {O I P : Type 0} (out : O → OutState) (inn : I → InState) (q : Plan) (calls : List ℕ) where
   served : (link : ℕ) (e e' : Ends O I P) (b b' : Books) → ReadServed out inn q calls link e e' b b' → Same b b'
-  served link e e' b b' r = let m = r.read.met in let all = r.read.read.met in
-      unmoved_then b.view m.view b'.view (frames q.slots all.frames b m all.met) (posted (code_of r.read.how) q link calls m b' r.read.posted)
+  served link e e' b b' r = link_unmoved q link calls true false r.served (inn e'.inn) b b' r.read
 
   pub read_unmoved : (link : ℕ) (es es' : List (Ends O I P)) (b b' : Books) → ReadLinks out inn q calls link es es' b b' → Unmoved b.view b'.view
   read_unmoved link [] [] b b' r = same b b' r
   read_unmoved link (e ∷ es) (e' ∷ es') b b' r = unmoved_then b.view r.0.view b'.view (served link e e' b r.0 r.1) (read_unmoved (link + 1) es es' r.0 b' r.2)
   read_unmoved link [] (e' ∷ es') b b' r = elim r [ ]
   read_unmoved link (e ∷ es) [] b b' r = elim r [ ]
+
+-- ## Readers beside the clients
+
+if_unmoved : (q : Plan) (link : ℕ) (calls : List ℕ) (ending short : Bool) (s t : InState) (o : Option SocketId) (v w : sock_view.View) (b b' : Books) → ReadIf q link calls ending short s t o v w b b' → Same b b'
+if_unmoved q link calls ending short s t None v w b b' r = same b b' r.2
+if_unmoved q link calls ending short s t (Some id) v w b b' r = link_unmoved q link calls ending short s t b b' (link_read q link calls ending short s t id.0 v w b b' r)
+
+module _ {O : Type 0} {g : Ghosts O} (p : sizes.Plan) (q : Plan) (calls : List ℕ) where
+  reader_unmoved : (x : LinkReader g) → IsReader p q calls x → Unmoved nothing_read.view x.ids.me.0
+  reader_unmoved x is = subst (Unmoved nothing_read.view) (sym is.view_is) (if_unmoved q x.link calls false false x.before x.behind is.ran.id is.ran.noted x.seat.me.0 nothing_read x.books is.ran.read)
+
+  -- so they noted no advance
+  pub readers_advance : (xs : List (LinkReader g)) → AllRead p q calls xs → (i f n : ℕ) → total (λ (x : LinkReader g). advances i f n x.ids.me.0) xs ≡ 0
+  readers_advance [] a i f n = refl
+  readers_advance (x ∷ xs) a i f n = let z : advances i f n nothing_read.view ≡ 0 = refl in let b = reader_unmoved x a.0 i f n in let c = readers_advance xs a.1 i f n in omega (arith, z, b, c)

@@ -1,5 +1,5 @@
 -- Whose the messages are that the links of a run with calls accepted: each is that of a send, or of an attempt of a call, with the id that was made for the call.
-use Rattle.std.proofs.Common.{◌≡◌, ℕ, zero, suc, ◌+◌, ◌*◌, ◌<◌, ◌≤◌, ◌⊎◌, inl, inr, List, [], ◌∷◌, ◌++◌, flat_map, append-nil, zero-le, Some, None, refl, sym, ap, ◌∙◌, subst, arith}
+use Rattle.std.proofs.Common.{◌≡◌, ℕ, zero, suc, ◌+◌, ◌*◌, ◌<◌, ◌≤◌, ◌⊎◌, inl, inr, List, [], ◌∷◌, ◌++◌, flat_map, map, append-nil, zero-le, Some, None, refl, sym, ap, ◌∙◌, subst, arith}
 use Rattle.std.specs.Prelude.{Option}
 use Rattle.std.specs.List.{AllByRecursion}
 use Rattle.std.proofs.lemmas.Nat.{div-add-mod'}
@@ -41,7 +41,8 @@ use Rattle.call_told.specs.call_run.specs.call_client.specs.Acting.{Stand, stand
 use Rattle.call_told.specs.call_run.specs.call_client.specs.Running.{Course, Ran, begins, MayMakeAll}
 use Rattle.call_told.specs.call_run.specs.call_client.proofs.Telling.{did_total}
 use Rattle.call_told.specs.call_run.specs.rpc_reader.specs.rpc_client.specs.declared.acting.Told.{Told}
-use Rattle.call_told.specs.call_run.specs.Threads.{Thread, IsThread, RanOn, AllMayRun, MayRunAll, ids_of, opens_of}
+use Rattle.call_told.specs.call_run.specs.Readers.{LinkReader}
+use Rattle.call_told.specs.call_run.specs.Threads.{Thread, IsThread, RanWith, AllMayRun, MayRunAll, ids_of, opens_of}
 use Rattle.call_told.specs.Least.{is_made_for}
 use Rattle.call_told.proofs.Ends.{made_silent, counted_here}
 use Rattle.call_told.proofs.Lists.{all_both, all_then, all_at}
@@ -232,13 +233,19 @@ id_made slots notes o id inside some_ = let m = made_for_there (version_of id) o
 carried : {A : Type 0} (l m : List A) (i : ℕ) (x : A) → l ≡ m → get_elem? m i ≡ some x → (k : ℕ) × (get_elem? l k ≡ some x)
 carried l m i x e at = (i, ap (λ y. get_elem? y i) e ∙ at)
 
+-- what stands in a list behind empty ones stands in one of the others
+pub behind_empty : {X A : Type 0} (rs : List X) (ls : List (List A)) (k : ℕ) (l : List A) (m : ℕ) (e : A) → get_elem? (map (λ (x : X). []) rs ++ ls) k ≡ some l → get_elem? l m ≡ some e → (j : ℕ) × (get_elem? ls j ≡ some l)
+behind_empty [] ls k l m e at there = (k, at)
+behind_empty {X} {A} (r ∷ rs) ls zero l m e at there = none_there m e (ap (λ (x : List A). get_elem? x m) (some-injective [] l at) ∙ there)
+behind_empty (r ∷ rs) ls (suc k) l m e at there = behind_empty rs ls k l m e at there
+
 may_at : (p : Plan) (q : id_plan.Plan) (tss : List (List Task)) → AllMayRun p q tss → (j : ℕ) (ts : List Task) → get_elem? tss j ≡ some ts → (n : ℕ) × MayMakeAll p q ts n
 may_at p q [] a j ts e = none_there j ts e
 may_at p q (us ∷ tss) a zero ts e = subst (λ (x : List Task). (n : ℕ) × MayMakeAll p q x n) (some-injective us ts e) (opens_of us, a.0.may)
 may_at p q (us ∷ tss) a (suc j) ts e = may_at p q tss a.1 j ts e
 
-module _ {O : Type 0} {g : Ghosts O} {state : O → OutState} {p : Plan} {slots : ℕ} {setup : List Task} {clients : List (List Task)} {opens : List ℕ} {told ended : List (List Told)} {places : List PlaceWord} {vrefs : List Vref} {outs : List O} {ids : List (View Asked)}
-    (run : RanOn g state p slots setup clients opens told ended places vrefs outs ids) (outcomes : List (Option Outcome)) (may : MayRunAll p (ids_of p slots) setup clients) (notes : List (Noted Asked)) (laws : IdLaws slots notes) (have : HaveNotesOf ids notes)
+module _ {O : Type 0} {g : Ghosts O} {state : O → OutState} {readers : List (LinkReader g)} {p : Plan} {slots : ℕ} {setup : List Task} {clients : List (List Task)} {opens : List ℕ} {told ended : List (List Told)} {places : List PlaceWord} {vrefs : List Vref} {outs : List O} {ids : List (View Asked)}
+    (run : RanWith g state readers p slots setup clients opens told ended places vrefs outs ids) (outcomes : List (Option Outcome)) (may : MayRunAll p (ids_of p slots) setup clients) (notes : List (Noted Asked)) (laws : IdLaws slots notes) (have : HaveNotesOf ids notes)
     -- each retry is one of a later attempt of a call
     (later : (j : ℕ) (c : Client g state p (ids_of p slots)) → get_elem? (all run) j ≡ some c → AreLater (setup ∷ clients) outcomes (all_asked c.thread c.is)) where
   abbrev q : id_plan.Plan
@@ -345,7 +352,8 @@ module _ {O : Type 0} {g : Ghosts O} {state : O → OutState} {p : Plan} {slots 
   pub sent_by : (k : ℕ) (e : Entry) → get_elem? run.closed.ordered.log k ≡ some e → SentBy (accepted_of e)
   sent_by k e at =
       let w = authored p run.closed.view.found run.closed.view.lists run.closed.ordered k e at in
-      let c = map_back own_of (all run) w.seat _ (ap (λ (l : List (List Entry)). get_elem? l w.seat) (sym (lists_are run)) ∙ w.list) in
+      let j = behind_empty readers (map own_of (all run)) w.seat _ _ e (ap (λ (l : List (List Entry)). get_elem? l w.seat) (sym (lists_are run)) ∙ w.list) w.place in
+      let c = map_back own_of (all run) j.0 _ j.1 in
       let own = carried _ _ _ e c.2 w.place in
       let d = flat_from entries_of (deeds_of c.0) own.0 e own.1 in
-      deed_sent w.seat c.0 c.1 d.0 d.1 d.2 d.3 e d.4
+      deed_sent j.0 c.0 c.1 d.0 d.1 d.2 d.3 e d.4

@@ -34,7 +34,8 @@ use Rattle.sock_message.specs.Asked.{Asked, frame_of}
 use Rattle.corr_id.specs.Calls.{is_saw, slot_of, version_of}
 use Rattle.corr_id.specs.Closing.{Closing}
 use Rattle.call_told.specs.call_run.specs.rpc_reader.specs.rpc_client.specs.declared.acting.Told.{Told}
-use Rattle.call_told.specs.call_run.specs.Threads.{RanOn, MayRunAll, ids_of}
+use Rattle.call_told.specs.call_run.specs.Readers.{LinkReader}
+use Rattle.call_told.specs.call_run.specs.Threads.{RanWith, MayRunAll, ids_of}
 use Rattle.call_told.specs.Least.{is_made_for}
 use Rattle.call_told.specs.call_places.specs.Counted.{HaveNotesOf}
 use Rattle.call_told.specs.call_places.proofs.Weights.{term, two_terms}
@@ -85,8 +86,8 @@ id_parts id slot first e low = (omega arith, omega arith)
 
 -- ## The run
 
-module _ {O : Type 0} {g : Ghosts O} {state : O → OutState} {p : Plan} {slots : ℕ} {setup : List Task} {clients : List (List Task)} {opens : List ℕ} {told ended : List (List Told)} {places : List PlaceWord} {vrefs : List Vref} {outs : List O} {ids : List (View Asked)}
-    (run : RanOn g state p slots setup clients opens told ended places vrefs outs ids) (outcomes : List (Option Outcome)) (may : MayRunAll p (ids_of p slots) setup clients)
+module _ {O : Type 0} {g : Ghosts O} {state : O → OutState} {readers : List (LinkReader g)} {p : Plan} {slots : ℕ} {setup : List Task} {clients : List (List Task)} {opens : List ℕ} {told ended : List (List Told)} {places : List PlaceWord} {vrefs : List Vref} {outs : List O} {ids : List (View Asked)}
+    (run : RanWith g state readers p slots setup clients opens told ended places vrefs outs ids) (outcomes : List (Option Outcome)) (may : MayRunAll p (ids_of p slots) setup clients)
     -- the closed table of ids, over all notes, in which those are who run
     (notes : List (Noted Asked)) (kept : List Kept) (words : List ℕ) (closing : Closing (ids_of p slots) notes kept words) (have : HaveNotesOf ids notes)
     -- none but they advanced attempts

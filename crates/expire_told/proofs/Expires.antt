@@ -44,7 +44,8 @@ use Rattle.call_told.specs.call_errors.specs.Locking.{id_in}
 use Rattle.call_told.specs.call_errors.specs.Asking.{ExpiredBy, TimedOut}
 use Rattle.call_told.specs.call_client.specs.Acting.{Stand, stand, both_of, Acted}
 use Rattle.call_told.specs.call_client.specs.Running.{begins, MayMakeAll}
-use Rattle.call_told.specs.call_run.specs.Threads.{Thread, RanOn, AllMayRun, MayRunAll, ids_of}
+use Rattle.call_told.specs.call_run.specs.Readers.{LinkReader}
+use Rattle.call_told.specs.call_run.specs.Threads.{Thread, RanWith, AllMayRun, MayRunAll, ids_of}
 use Rattle.call_told.specs.call_places.specs.Counted.{HaveNotesOf}
 use Rattle.call_told.specs.call_places.proofs.Weights.{term, two_terms, mapped}
 use Rattle.call_told.specs.call_places.proofs.Numbers.{numbered_once}
@@ -86,7 +87,7 @@ expire_acted {O} {g} state p q number of op by s t is acted = with by (subst (λ
     with (Some o) a = (o, refl, a.0)
 
 -- a call was answered unopened, or has begun: by an id that the client had found at no operation
-call_acted : {O : Type 0} {g : Ghosts O} (state : O → OutState) (p : Plan) (q : id_plan.Plan) (number : ℕ) (asked : Asked) (op : Op) (by : Option Outcome) (s t : Stand g) → op ≡ ops.Call asked → Acted state p q number op by s t
+pub call_acted : {O : Type 0} {g : Ghosts O} (state : O → OutState) (p : Plan) (q : id_plan.Plan) (number : ℕ) (asked : Asked) (op : Op) (by : Option Outcome) (s t : Stand g) → op ≡ ops.Call asked → Acted state p q number op by s t
     → (by ≡ Some outcome.Unopened) ⊎ ((id : ℕ) × HasBegun q asked.operation id t.calls.view × ((x : ℕ) → x % 2 ≡ 0 → total (is_word x id) s.calls.view.kept ≡ 0))
 call_acted {O} {g} state p q number asked op by s t is acted = with by (subst (λ (x : Op). Acted state p q number x by s t) is acted)
   where
@@ -99,11 +100,11 @@ call_acted {O} {g} state p q number asked op by s t is acted = with by (subst (�
 end_at : (v : View Asked) (a b : ℕ) → a ≡ b → 1 ≤ noted_ends (slot_of a) (version_of a) v.notes → 1 ≤ noted_ends (slot_of b) (version_of b) v.notes
 end_at v a b e h = subst (λ (id : ℕ). 1 ≤ noted_ends (slot_of id) (version_of id) v.notes) e h
 
-abbrev InOrder : Task → Task → Type 0
+abbrev pub InOrder : Task → Task → Type 0
 InOrder a b = (a.number < b.number) × HaveOwnLinks a.op b.op
 
-module _ {O : Type 0} {g : Ghosts O} {state : O → OutState} {p : Plan} {slots : ℕ} {setup : List Task} {clients : List (List Task)} {opens : List ℕ} {told ended : List (List Told)} {places : List PlaceWord} {vrefs : List Vref} {outs : List O} {ids : List (View Asked)}
-    (run : RanOn g state p slots setup clients opens told ended places vrefs outs ids) (tasks : AreTasks p (setup ∷ clients)) (may : MayRunAll p (ids_of p slots) setup clients)
+module _ {O : Type 0} {g : Ghosts O} {state : O → OutState} {readers : List (LinkReader g)} {p : Plan} {slots : ℕ} {setup : List Task} {clients : List (List Task)} {opens : List ℕ} {told ended : List (List Told)} {places : List PlaceWord} {vrefs : List Vref} {outs : List O} {ids : List (View Asked)}
+    (run : RanWith g state readers p slots setup clients opens told ended places vrefs outs ids) (tasks : AreTasks p (setup ∷ clients)) (may : MayRunAll p (ids_of p slots) setup clients)
     (notes : List (Noted Asked)) (kept : List Kept) (words : List ℕ) (closing : Closing (ids_of p slots) notes kept words) (noted : HaveNotesOf ids notes) (keeps : HaveKeptOf ids kept)
     (outcomes : List (Option Outcome)) (said_own : AreSaid outcomes told) (said_ended : AreSaid outcomes ended) where
   abbrev q : id_plan.Plan
@@ -146,7 +147,7 @@ module _ {O : Type 0} {g : Ghosts O} {state : O → OutState} {p : Plan} {slots 
       }
 
   -- what it told is what became of it
-  own_told : (c : ℕ) (t : Task) (m : IsMade c t) (o : Outcome) → m.done.made.by ≡ Some o → Became every outcomes t.number o
+  pub own_told : (c : ℕ) (t : Task) (m : IsMade c t) (o : Outcome) → m.done.made.by ≡ Some o → Became every outcomes t.number o
   own_told c t m o is =
       let f : Thread g → List Told = λ x. x.ended.outcomes.items in let d = m.done in let one : Told = record { number = t.number; outcome = o } in
       let list : get_elem? told c ≡ some m.client.thread.ended.outcomes.items = ap (λ (l : List (List Told)). get_elem? l c) (sym (all_are run f ∙ run.ran.told_is)) ∙ mapped (λ (x : Client g state p q). f x.thread) crew c m.client m.at in
@@ -187,7 +188,7 @@ module _ {O : Type 0} {g : Ghosts O} {state : O → OutState} {p : Plan} {slots 
       let d = term (λ (ts : List Task). total (is_task o) ts) every c (tasks_of x) (tasks_at c x at) in let e = numbered_once p every tasks o in omega arith
 
   -- and so do all together
-  one_stored : (o a b c d : ℕ) (x y : Client g state p q) → get_elem? crew c ≡ some x → get_elem? crew d ≡ some y → 0 < total (is_stored (call_index q o) a) (view_of x).kept → 0 < total (is_stored (call_index q o) b) (view_of y).kept → a ≡ b
+  pub one_stored : (o a b c d : ℕ) (x y : Client g state p q) → get_elem? crew c ≡ some x → get_elem? crew d ≡ some y → 0 < total (is_stored (call_index q o) a) (view_of x).kept → 0 < total (is_stored (call_index q o) b) (view_of y).kept → a ≡ b
   one_stored o a b c d x y here there h k = dite (ℕ_discrete c d)
       (λ e. let same : y ≡ x = some-injective y x (sym there ∙ (ap (get_elem? crew) (sym e) ∙ here)) in
       same_stored (call_index q o) a b (view_of x).kept (few_stored c x here o) h (subst (λ (z : Client g state p q). 0 < total (is_stored (call_index q o) b) (view_of z).kept) same k))
@@ -276,14 +277,14 @@ module _ {O : Type 0} {g : Ghosts O} {state : O → OutState} {p : Plan} {slots 
   -- ## Not begun
 
   -- an earlier task of the same client stands before it
-  stands_before : (c : ℕ) (x : Client g state p q) → get_elem? crew c ≡ some x → (j i : ℕ) (u t : Task) → get_elem? (tasks_of x) j ≡ some u → get_elem? (tasks_of x) i ≡ some t → u.number < t.number → j < i
+  pub stands_before : (c : ℕ) (x : Client g state p q) → get_elem? crew c ≡ some x → (j i : ℕ) (u t : Task) → get_elem? (tasks_of x) j ≡ some u → get_elem? (tasks_of x) i ≡ some t → u.number < t.number → j < i
   stands_before c x at j i u t a b less = dite (dec_lt j i) (λ h. h)
       (λ n. absurd (dite (ℕ_discrete i j)
       (λ e. let same : u ≡ t = some-injective u t (sym a ∙ (ap (get_elem? (tasks_of x)) (sym e) ∙ b)) in let m = ap (λ (y : Task). y.number) same in omega arith)
       (λ ne. let order = all_at (EachBefore InOrder) every c (tasks_of x) tasks.in_order (tasks_at c x at) in let h = (before_in InOrder (tasks_of x) order i j t u (omega (arith, n, ne)) b a).0 in omega arith)))
 
   -- what an earlier one of its client told is what became of it
-  earlier_told : (c : ℕ) (t : Task) (m : IsMade c t) (j : ℕ) (task : Task) (s : Split state p q m.client.thread.tasks j task (begins m.client.thread.began) m.done.before) (o : Outcome) → s.made.by ≡ Some o → Became every outcomes task.number o
+  pub earlier_told : (c : ℕ) (t : Task) (m : IsMade c t) (j : ℕ) (task : Task) (s : Split state p q m.client.thread.tasks j task (begins m.client.thread.began) m.done.before) (o : Outcome) → s.made.by ≡ Some o → Became every outcomes task.number o
   earlier_told c t m j task s o is_by =
       let f : Thread g → List Told = λ x. x.ended.outcomes.items in let d = m.done in let one : Told = record { number = task.number; outcome = o } in
       let list : get_elem? told c ≡ some m.client.thread.ended.outcomes.items = ap (λ (l : List (List Told)). get_elem? l c) (sym (all_are run f ∙ run.ran.told_is)) ∙ mapped (λ (x : Client g state p q). f x.thread) crew c m.client m.at in

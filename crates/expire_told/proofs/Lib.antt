@@ -5,3 +5,4 @@ pub mod Expiring
 pub mod Making
 pub mod Expires
 pub mod Whole
+pub mod Joins

@@ -1,5 +1,5 @@
 -- Words of operations that seats keep in mind: one seat at most stored one, and whatever was found was stored.
-use Rattle.std.proofs.Common.{◌≡◌, ◌≢◌, ℕ, zero, suc, ◌+◌, ◌-◌, ◌≤◌, ◌<◌, Bool, true, false, cond, List, [], ◌∷◌, map, flat_map, Some, refl, sym, ap, ◌∙◌, subst, arith}
+use Rattle.std.proofs.Common.{◌≡◌, ◌≢◌, ℕ, zero, suc, ◌+◌, ◌-◌, ◌≤◌, ◌<◌, Bool, true, false, cond, List, [], ◌∷◌, ◌++◌, map, flat_map, Some, refl, sym, ap, ◌∙◌, subst, arith}
 use Rattle.std.specs.Prelude.{slice_get}
 use mathlib.Core.Logic.{dite}
 use mathlib.Core.Option.{some, some-injective, some-ne-none}
@@ -111,5 +111,15 @@ have_kept views v w took grows = record {
       let others : Kept → ℕ = λ k. own_at x k - is_stored x word k in
       let a = (grows x).own in let b = (grows x).kept others in let c = parted x word v.kept in let d = parted x word w.kept in
       let e = ap (total (is_stored x word)) took in let f = kept_flat (is_stored x word) views in omega (arith, a, b, c, d, e, f)
+      );
+}
+
+-- where the others stored nothing, it keeps in mind what these do
+pub have_without : (views others : List (View Asked)) (kept : List Kept) → ((place : ℕ) → total (λ (v : View Asked). total (own_at place) v.kept) others ≡ 0) → HaveKeptOf (views ++ others) kept → HaveKeptOf views kept
+have_without views others kept none_ have = record {
+  all = λ f. (let a = have.all f in let b = total_append (λ (v : View Asked). total f v.kept) views others in omega (arith, a, b));
+  stored = λ x word. (
+      let a = have.stored x word in let b = total_append (λ (v : View Asked). total (is_stored x word) v.kept) views others in
+      let c = total_mono (λ (v : View Asked). total (is_stored x word) v.kept) (λ (v : View Asked). total (own_at x) v.kept) (λ v. owned x word v.kept) others in let d = none_ x in omega (arith, a, b, c, d)
       );
 }

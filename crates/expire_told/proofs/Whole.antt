@@ -25,7 +25,8 @@ use Rattle.corr_id.specs.Closing.{Closing}
 use Rattle.call_told.specs.rpc_client.specs.declared.acting.Told.{Told}
 use Rattle.call_told.specs.call_errors.specs.Books.{CallStand}
 use Rattle.call_told.specs.call_errors.specs.Asking.{ExpiredBy, TimedOut}
-use Rattle.call_told.specs.call_run.specs.Threads.{RanOn, MayRunAll, ids_of}
+use Rattle.call_told.specs.call_run.specs.Readers.{LinkReader}
+use Rattle.call_told.specs.call_run.specs.Threads.{RanWith, MayRunAll, ids_of}
 use Rattle.call_told.specs.call_places.specs.Counted.{HaveNotesOf}
 use Rattle.call_told.specs.call_places.proofs.Weights.{mapped}
 use Rattle.call_told.specs.call_places.proofs.Clients.{tasks_of, view_of}
@@ -39,8 +40,8 @@ use Rattle.expire_told.proofs.Expiring.{timed_out_word}
 use Rattle.expire_told.proofs.Making.{slice_at}
 use Rattle.expire_told.proofs.Expires.{fits, tasks_at, IsMade, made_of, expire_made, IsMaker, found_maker, expired_why, not_begun_why, begun_before, expired_once}
 
-module _ {O : Type 0} {g : Ghosts O} {state : O → OutState} {p : Plan} {slots : ℕ} {setup : List Task} {clients : List (List Task)} {opens : List ℕ} {told ended : List (List Told)} {places : List PlaceWord} {vrefs : List Vref} {outs : List O} {ids : List (View Asked)}
-    (run : RanOn g state p slots setup clients opens told ended places vrefs outs ids) (tasks : AreTasks p (setup ∷ clients)) (may : MayRunAll p (ids_of p slots) setup clients)
+module _ {O : Type 0} {g : Ghosts O} {state : O → OutState} {readers : List (LinkReader g)} {p : Plan} {slots : ℕ} {setup : List Task} {clients : List (List Task)} {opens : List ℕ} {told ended : List (List Told)} {places : List PlaceWord} {vrefs : List Vref} {outs : List O} {ids : List (View Asked)}
+    (run : RanWith g state readers p slots setup clients opens told ended places vrefs outs ids) (tasks : AreTasks p (setup ∷ clients)) (may : MayRunAll p (ids_of p slots) setup clients)
     (notes : List (Noted Asked)) (kept : List Kept) (words : List ℕ) (closing : Closing (ids_of p slots) notes kept words) (noted : HaveNotesOf ids notes) (keeps : HaveKeptOf ids kept)
     (outcomes : List (Option Outcome)) (said_own : AreSaid outcomes told) (said_ended : AreSaid outcomes ended)
     -- no call that began is unopened
@@ -49,7 +50,7 @@ module _ {O : Type 0} {g : Ghosts O} {state : O → OutState} {p : Plan} {slots 
   every = setup ∷ clients
 
   -- operation t is a call that began
-  record IsBegun (t : ℕ) : Type 0 where
+  pub record IsBegun (t : ℕ) : Type 0 where
     pub client : ℕ
     pub task : Task
     pub asked : Asked
@@ -59,7 +60,7 @@ module _ {O : Type 0} {g : Ghosts O} {state : O → OutState} {p : Plan} {slots 
     pub began : Became every outcomes t outcome.Unopened → ⊥
 
   -- a call whose id was found has begun
-  maker_begun : (of id : ℕ) → IsMaker run tasks may notes kept words closing noted keeps outcomes said_own said_ended of id → IsBegun of
+  pub maker_begun : (of id : ℕ) → IsMaker run tasks may notes kept words closing noted keeps outcomes said_own said_ended of id → IsBegun of
   maker_begun of id m =
       let x = m.client in let b = m.own in
       let own : b.asked.operation ≡ b.task.number = all_at Fits (tasks_of x) b.place b.task (fits run tasks may notes kept words closing noted keeps outcomes said_own said_ended m.place x m.at) b.there b.asked b.is_call in

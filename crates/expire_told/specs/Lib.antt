@@ -1,4 +1,5 @@
 pub mod Said
+pub mod Joined
 pub use Rattle.call_told.specs.call_attempts
 pub use Rattle.call_told.specs.call_client
 pub use Rattle.call_told.specs.call_deeds

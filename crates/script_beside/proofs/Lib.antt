@@ -5,8 +5,14 @@ pub mod Joined
 pub mod Left
 pub mod Saying
 pub mod Placed
-pub mod Reports
 pub mod Early
 pub mod Linked
 pub mod Widened
 pub mod Sockets
+pub mod Telling
+pub mod Attempts
+pub mod WideCalls
+pub mod Failing
+pub mod Expires
+pub mod Joins
+pub mod Reports

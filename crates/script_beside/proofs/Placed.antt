@@ -80,7 +80,7 @@ module _ {O : Type 0} (g : Ghosts O) (out : O → OutState) (bytes : List ℕ) (
   owns = subst (AllByRecursion (AllByRecursion IsOwnTask)) (sym left.tasks) (all_own script)
 
   -- a call that a client began, whoever ended it
-  least : (k : ℕ) (v : View Asked) (operation id j : ℕ) → get_elem? ids k ≡ some v → HasBegun q operation id v → slice_get (calls script) j ≡ Some operation → IsEndTold operation id ((ended ++ read) ++ last ∷ [])
+  pub least : (k : ℕ) (v : View Asked) (operation id j : ℕ) → get_elem? ids k ≡ some v → HasBegun q operation id v → slice_get (calls script) j ≡ Some operation → IsEndTold operation id ((ended ++ read) ++ last ∷ [])
   least k v operation id j at begun listed =
       subst (λ (l : List Told). IsEndTold operation id ((ended ++ read) ++ l ∷ [])) (sym rest.told_is)
       (subst (λ (l : List (List Told)). IsEndTold operation id ((ended ++ l) ++ rest.last.told ∷ [])) left.read_is
@@ -89,7 +89,7 @@ module _ {O : Type 0} (g : Ghosts O) (out : O → OutState) (bytes : List ℕ) (
       (tell g out p q left.setup left.clients (opens script) told ended left.ran.seats ids left.ran.ran (tasks_fit (left.setup ∷ left.clients) owns))
       k v operation id j at begun (own_one g out p q left.setup left.clients (opens script) told ended left.ran.seats ids left.ran.ran owns p are operation) listed))
 
-  left_told : IsTold g out script p q told (ended ++ read) places last
+  abbrev pub left_told : IsTold g out script p q told (ended ++ read) places last
   left_told = record {
     setup = left.setup;
     clients = left.clients;

@@ -17,25 +17,32 @@ use Rattle.rpc_reader.specs.Books.{Books}
 use Rattle.prpc_frame.specs.declared.frame.Frame.{Frame}
 use Rattle.call_run.specs.Readers.{LinkReader}
 use Rattle.script_calls.specs.call_whys.specs.call_told.specs.Answers.{IsFailure, IsOwn, HaveAnswers, AreAnsweredBy}
-use Rattle.script_calls.specs.call_whys.specs.call_told.specs.Once.{ToldOnce}
+use Rattle.script_calls.specs.attempts_told.specs.Attempts.{AreAttemptsTold}
+use Rattle.script_calls.specs.call_whys.specs.sock_deeds.specs.Told.{fixed_by}
+use Rattle.seat_programs.specs.Scripts.{all_tasks}
+use Rattle.seat_programs.specs.ToldCalls.{Fixed, Order}
 use Rattle.script_calls.specs.call_whys.specs.call_told.proofs.Answering.{IsAskedIn, AllHave}
-use Rattle.script_calls.specs.call_whys.specs.call_told.proofs.Balance.{AreBalanced}
-use Rattle.script_calls.specs.call_whys.specs.call_told.proofs.Beside.{gave_beside, readers_have, rest_has, once_beside, answered_beside, answered_gave}
+use Rattle.script_calls.specs.call_whys.specs.call_told.proofs.Beside.{gave_beside, readers_have, rest_has, answered_beside, answered_gave}
 use Rattle.script_calls.specs.call_whys.specs.call_told.proofs.Lists.{all_both}
 use Rattle.script_calls.specs.call_whys.specs.call_told.proofs.Making.{AllMade}
 use Rattle.script_calls.specs.call_whys.specs.call_told.proofs.Shown.{shown_once}
+use Rattle.script_calls.specs.call_whys.specs.sock_deeds.proofs.Orders.{orders}
 use Rattle.script_calls.specs.Reading.{IdSeat}
-use Rattle.script_calls.specs.Told.{outcomes_of}
+use Rattle.script_calls.specs.Told.{outcomes_of, AreCallsTold}
 use Rattle.script_calls.proofs.Answered.{failures_have, outcomes_have}
 use Rattle.script_calls.proofs.Asked.{AskFor, all_ask, ids_made, notes_of_seats}
-use Rattle.script_calls.proofs.Clients.{owns, failures, balanced}
+use Rattle.script_calls.proofs.Clients.{owns, failures}
 use Rattle.script_calls.proofs.Reports.{long_replicate}
 use Rattle.script_calls.proofs.Sayings.{long_each}
 use Rattle.script_calls.proofs.Shown.{view_of, outcomes_few}
 use Rattle.script_beside.specs.Told.{seated_plan, seated_ids, begins_with, IsBesideRun, IsBesideText}
 use Rattle.script_beside.specs.Sockets.{AreSocketsBeside}
-use Rattle.script_beside.proofs.Left.{early_of, notes_of, kept_of}
-use Rattle.script_beside.proofs.Sockets.{answered_sockets}
+use Rattle.script_beside.proofs.Joins.{joins_told}
+use Rattle.script_beside.proofs.Left.{early_of, notes_of}
+use Rattle.script_beside.proofs.Attempts.{attempts_beside, attempts_last}
+use Rattle.script_beside.proofs.Expires.{calls_beside}
+use Rattle.script_beside.proofs.Sockets.{run, differ, fixed, answered_sockets}
+use Rattle.script_beside.proofs.Telling.{told_once}
 
 module _ (P : Type 0) {O I : Type 0} (out : O → OutState) (inn : I → InState) (g : Ghosts O) (script : List Item) (text : List ℕ) (links : List LinkEnd) (r : IsBesideRun P g out inn script text links) where
   abbrev p : Plan
@@ -58,9 +65,6 @@ module _ (P : Type 0) {O I : Type 0} (out : O → OutState) (inn : I → InState
 
   failures_told : AllByRecursion (λ ts. AllByRecursion IsFailure ts) r.ended
   failures_told = failures out p q r.left.setup r.left.clients (opens script) r.told r.ended r.left.ran.seats (map view_of r.ids) r.left.ran.ran
-
-  balanced_told : AreBalanced r.ended (map view_of r.ids)
-  balanced_told = balanced out p q r.left.setup r.left.clients (opens script) r.told r.ended r.left.ran.seats (map view_of r.ids) r.left.ran.ran
 
   made_told : AllMade (IsAskedIn (operations script)) (flat_map (λ (s : IdSeat). s.me.0.notes) r.ids)
   made_told = subst (AllMade (IsAskedIn (operations script))) (notes_of_seats view_of r.ids)
@@ -87,16 +91,19 @@ module _ (P : Type 0) {O I : Type 0} (out : O → OutState) (inn : I → InState
       by_readers = subst (AllByRecursion (AllHave (length readers) gave (operations script))) r.left.read_is
           (readers_have p q (calls script) (opens script) readers r.left.readers_are r.ids main r.rest.last (notes_of r.left r.rest) r.rest.rest (early_of r.left) refl r.rest.words r.rest.closing (operations script) made_told)
 
-  -- its answers, by what the links gave, and with them why each operation on sockets has its outcome
-  told_of : (bytes : List ℕ) → script_of bytes ≡ Ok script → (a : AreAnsweredBy (operations script) outcomes links) × AreSocketsBeside script outcomes r.places a.gave links
-  told_of bytes reads = answered_sockets P g out inn bytes script reads text links r
+  -- how many attempts its calls made, and why; why each `expire` has its outcome, and why calls failed
+  abbrev AreCalls : Fixed → (ℕ → List ℕ) → (ℕ → Order) → Type 0
+  AreCalls fixed given orders = (a : AreAttemptsTold (plan_of script) (all_tasks script) outcomes fixed given orders) × AreCallsTold (plan_of script) (all_tasks script) outcomes fixed given orders a.last
+
+  known : (bytes : List ℕ) (reads : script_of bytes ≡ Ok script) (given : ℕ → List ℕ) → AreCalls (fixed P g out inn bytes script reads text links r) given (orders (run P g out inn bytes script reads text links r) (differ P g out inn bytes script reads text links r))
+  known bytes reads given = (attempts_beside P g out inn bytes script reads text links r given,
+      subst (λ (last : ℕ → ℕ). AreCallsTold (plan_of script) (all_tasks script) outcomes (fixed P g out inn bytes script reads text links r) given (orders (run P g out inn bytes script reads text links r) (differ P g out inn bytes script reads text links r)) last) (sym (attempts_last P g out inn bytes script reads text links r given)) (calls_beside P g out inn bytes script reads text links r given))
+
+  -- its answers, by what the links gave, and with them why each operation on sockets has its outcome, and what is told of calls
+  told_of : (bytes : List ℕ) → script_of bytes ≡ Ok script → (a : AreAnsweredBy (operations script) outcomes links) × (s : AreSocketsBeside script outcomes r.places a.gave links) × AreCalls (fixed_by s.broken s.early s.fails) a.gave s.orders
+  told_of bytes reads = answered_sockets P g out inn bytes script reads text links r AreCalls (known bytes reads)
       (answered_beside p q (calls script) (opens script) readers r.left.readers_are {I = I} {P = P} out inn r.ends r.halves_read r.unread (operations script) outcomes have_answers)
       (answered_gave p q (calls script) (opens script) readers r.left.readers_are {I = I} {P = P} out inn r.ends r.halves_read r.unread (operations script) outcomes have_answers)
-
-  told_once : ToldOnce q.slots (tellers ++ r.last ∷ [])
-  told_once = subst (λ (t : List Told). ToldOnce q.slots (tellers ++ t ∷ [])) (sym r.rest.told_is)
-      (subst (λ (l : List (List Told)). ToldOnce q.slots ((r.ended ++ l) ++ r.rest.last.told ∷ [])) r.left.read_is
-      (once_beside p q (calls script) (opens script) readers r.left.readers_are r.ids main r.rest.last (notes_of r.left r.rest) r.rest.rest (early_of r.left) refl r.rest.words r.rest.closing r.ended (kept_of r.left r.rest) r.rest.calm balanced_told))
 
   -- it has the outcomes and place words of its report
   pub text_of : (bytes : List ℕ) → script_of bytes ≡ Ok script → IsBesideText script text links
@@ -107,7 +114,10 @@ module _ (P : Type 0) {O I : Type 0} (out : O → OutState) (inn : I → InState
     reported = r.reported;
     answered = both.0;
     sockets = both.1;
-    once = shown_once q.slots outcomes r.told (tellers ++ r.last ∷ []) (outcomes_few (plan_of script).operations r.told tellers r.last) own_told told_once;
+    attempts = both.2.0;
+    on_calls = both.2.1;
+    joins = joins_told P g out inn bytes script reads text links r (fixed_by both.1.broken both.1.early both.1.fails) both.0.gave both.1.orders;
+    once = shown_once q.slots outcomes r.told (tellers ++ r.last ∷ []) (outcomes_few (plan_of script).operations r.told tellers r.last) own_told (told_once P g out inn bytes script reads text links r);
   }
 
 pub text_if : (P : Type 0) {O I : Type 0} (out : O → OutState) (inn : I → InState) (g : Ghosts O) (bytes : List ℕ) (script : List Item) → script_of bytes ≡ Ok script → (links : List LinkEnd) {T E : Type 0} (items : T → List ℕ) (r : Result T E) → IfOk r (λ t. IsBesideRun P g out inn script (items t) links) → IfOk r (λ t. IsBesideText script (items t) links)

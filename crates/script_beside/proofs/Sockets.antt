@@ -25,7 +25,7 @@ use Rattle.seat_programs.specs.Cores.{Core}
 use Rattle.seat_programs.specs.Scripts.{all_tasks, place_words}
 use Rattle.seat_programs.specs.Tasks.{plan_of, opens, calls}
 use Rattle.seat_programs.specs.Told.{AreTasks}
-use Rattle.seat_programs.specs.ToldCalls.{Fixed}
+use Rattle.seat_programs.specs.ToldCalls.{Fixed, Order}
 use Rattle.prpc_frame.specs.declared.frame.Frame.{Frame}
 use Rattle.rpc_client.specs.declared.acting.Told.{Told}
 use Rattle.rpc_reader.specs.Books.{Books}
@@ -90,31 +90,31 @@ module _ (P : Type 0) {O I : Type 0} (g : Ghosts O) (out : O → OutState) (inn 
   readers_are = r.left.readers_are
 
   -- the seat that took in all, and what it has in the end
-  abbrev main : Books
+  abbrev pub main : Books
   main = begins_with (flat_map (λ (fs : List Frame). fs) r.kept) r.rest.main
 
-  abbrev last : View Asked
+  abbrev pub last : View Asked
   last = r.rest.last.view
 
-  abbrev outcomes : List (Option Outcome)
+  abbrev pub outcomes : List (Option Outcome)
   outcomes = outcomes_of (plan_of script).operations r.told (r.ended ++ r.read) r.last
 
-  are : AreTasks p all
+  pub are : AreTasks p all
   are = seated_are bytes script reads p.seats all r.left.tasks
 
-  may : MayRunAll p q r.left.setup r.left.clients
+  pub may : MayRunAll p q r.left.setup r.left.clients
   may = seated_may bytes script reads p.seats (length (calls script)) r.left.setup r.left.clients r.left.tasks (let n = script_seats script r.left.setup r.left.clients r.left.tasks in omega arith)
 
-  low : p.operations ≤ 65536
+  pub low : p.operations ≤ 65536
   low = omega (arith, few_operations bytes script reads (plan_of script) refl)
 
-  have : HaveNotesOf (map view_of r.ids) last.notes
+  pub have : HaveNotesOf (map view_of r.ids) last.notes
   have = have_beside p q (calls script) (opens script) readers readers_are r.ids main r.rest.last (notes_of r.left r.rest) r.rest.rest
 
   laws : IdLaws (length (calls script)) last.notes
   laws = laws_of q last.notes last.kept r.rest.words r.rest.closing
 
-  differ : PlacesDiffer r.left.ran.closed.ordered.log
+  pub differ : PlacesDiffer r.left.ran.closed.ordered.log
   differ = log_differs r.left.ran are may last.notes laws have
 
   -- ## What is told of calls that ended
@@ -137,10 +137,10 @@ module _ (P : Type 0) {O I : Type 0} (g : Ghosts O) (out : O → OutState) (inn 
       let more : r.last ≡ t.more = r.rest.told_is ∙ t.told in
       from_all t.more j x t.each (ap (λ (l : List Told). get_elem? l j) (sym more) ∙ at)
 
-  ended_told : (d j : ℕ) (ts : List Told) (x : Told) → get_elem? r.ended d ≡ some ts → get_elem? ts j ≡ some x → IsEndTold q.slots last.notes x
+  pub ended_told : (d j : ℕ) (ts : List Told) (x : Told) → get_elem? r.ended d ≡ some ts → get_elem? ts j ≡ some x → IsEndTold q.slots last.notes x
   ended_told d j ts x at there = (tellers.ended_told r.left.ran script r.left.tasks are last r.rest.words r.rest.closing have d j ts x at there).0
 
-  end_told : (d j : ℕ) (ts : List Told) (x : Told) → get_elem? ((r.ended ++ r.read) ++ r.last ∷ []) d ≡ some ts → get_elem? ts j ≡ some x → IsEndTold q.slots last.notes x
+  pub end_told : (d j : ℕ) (ts : List Told) (x : Told) → get_elem? ((r.ended ++ r.read) ++ r.last ∷ []) d ≡ some ts → get_elem? ts j ≡ some x → IsEndTold q.slots last.notes x
   end_told d j ts x at there = elim (split (r.ended ++ r.read) (r.last ∷ []) d ts at) [
     | inl h ↦ elim (split r.ended r.read d ts h) [
       | inl own ↦ ended_told d j ts x own there
@@ -151,26 +151,26 @@ module _ (P : Type 0) {O I : Type 0} (g : Ghosts O) (out : O → OutState) (inn 
 
   -- ## What is reported
 
-  reports : Reports all outcomes r.told
+  pub reports : Reports all outcomes r.told
   reports = tellers.reports r.left.ran script r.left.tasks are last.notes have (r.ended ++ r.read) r.last end_told
 
-  long : length outcomes ≡ p.operations
+  pub long : length outcomes ≡ p.operations
   long = tellers.long r.left.ran script r.left.tasks are last.notes have (r.ended ++ r.read) r.last end_told
 
-  made : AllMade (IsCallOf all outcomes) last.notes
+  pub made : AllMade (IsCallOf all outcomes) last.notes
   made =
       let owns = subst (AllByRecursion (AllByRecursion IsOwnTask)) (sym r.left.tasks) (all_own script) in
       made_beside p q (calls script) (opens script) readers readers_are r.ids main r.rest.last (notes_of r.left r.rest) r.rest.rest (IsCallOf all outcomes)
       (subst (AllMade (IsCallOf all outcomes)) (notes_of_seats view_of r.ids)
       (ids_made (IsCallOf all outcomes) out p q r.left.setup r.left.clients (opens script) r.told r.ended r.left.ran.seats (map view_of r.ids) r.left.ran.ran (all_ask_for all outcomes owns)))
 
-  main_later : AreLater all outcomes (all_asked r.left.ran.ran.main r.left.ran.ran.main_is)
+  pub main_later : AreLater all outcomes (all_asked r.left.ran.ran.main r.left.ran.ran.main_is)
   main_later = laters.setup_later r.left.ran last r.rest.words r.rest.closing have outcomes made
 
-  others_later : AllLater all outcomes out p q (opened_names r.left.ran.ran.main.ended.outcomes.items (openings r.left.setup)) (opens_of r.left.setup) r.left.ran.ran.others r.left.ran.ran.others_are
+  pub others_later : AllLater all outcomes out p q (opened_names r.left.ran.ran.main.ended.outcomes.items (openings r.left.setup)) (opens_of r.left.setup) r.left.ran.ran.others r.left.ran.ran.others_are
   others_later = laters.others_later r.left.ran last r.rest.words r.rest.closing have outcomes made
 
-  linked : AllHaveLinks 0 all
+  pub linked : AllHaveLinks 0 all
   linked = subst (AllHaveLinks 0) (sym r.left.tasks) (script_linked script)
 
   -- the readers are those of the links that the clients opened
@@ -179,17 +179,17 @@ module _ (P : Type 0) {O I : Type 0} (g : Ghosts O) (out : O → OutState) (inn 
 
   -- ## The run
 
-  abbrev run : DeedRun g out p all outcomes r.places r.left.vrefs r.left.outs
+  abbrev pub run : DeedRun g out p all outcomes r.places r.left.vrefs r.left.outs
   run = deed_run_with r.left.ran outcomes are may linked long reports main_later others_later (calls script) readers_are asked
 
   -- what the closed table left
-  abbrev core : Core
+  abbrev pub core : Core
   core = core_of p r.left.ran.closed.words (took run differ) outcomes
 
-  abbrev fixed : Fixed
+  abbrev pub fixed : Fixed
   fixed = fixed_by (broken run) (early run) (all_fails run)
 
-  tells : (given : ℕ → List ℕ) → ToldSockets p all outcomes fixed given (orders run differ) core
+  pub tells : (given : ℕ → List ℕ) → ToldSockets p all outcomes fixed given (orders run differ) core
   tells given = told_of_run_with r.left.ran outcomes are may linked long reports main_later others_later (calls script) readers_are asked differ given low core record { words = refl; homes = refl }
 
   words : place_words p r.left.ran.closed.words ≡ r.places
@@ -255,6 +255,14 @@ module _ (P : Type 0) {O I : Type 0} (g : Ghosts O) (out : O → OutState) (inn 
       };
     }
 
-  -- the same beside the answers over these links, which are by what the links gave
-  pub answered_sockets : (a : AreAnsweredBy (operations script) outcomes (map end_at r.ends)) → a.gave ≡ gave → (b : AreAnsweredBy (operations script) outcomes links) × AreSocketsBeside script outcomes r.places b.gave links
-  answered_sockets a is = subst (λ (l : List LinkEnd). (b : AreAnsweredBy (operations script) outcomes l) × AreSocketsBeside script outcomes r.places b.gave l) (sym r.given_back) (a, sockets_beside a.gave is (map end_at r.ends) refl a.givers)
+    -- those are this run's
+    sockets_are : (ends : List LinkEnd) (back : ends ≡ map end_at r.ends) (givers : (k : ℕ) (e : LinkEnd) → slice_get ends k ≡ Some e → IsGiver given k e) (Q : Fixed → (ℕ → List ℕ) → (ℕ → Order) → Type 0) → Q fixed given (orders run differ)
+        → Q (fixed_by (sockets_beside ends back givers).broken (sockets_beside ends back givers).early (sockets_beside ends back givers).fails) given (sockets_beside ends back givers).orders
+    unfolding sockets_beside
+    sockets_are ends back givers Q q = q
+
+  -- the same beside the answers over these links, which are by what the links gave; and what else is known of the run
+  pub answered_sockets : (Q : Fixed → (ℕ → List ℕ) → (ℕ → Order) → Type 0) → ((given : ℕ → List ℕ) → Q fixed given (orders run differ)) → (a : AreAnsweredBy (operations script) outcomes (map end_at r.ends)) → a.gave ≡ gave
+      → (b : AreAnsweredBy (operations script) outcomes links) × (s : AreSocketsBeside script outcomes r.places b.gave links) × Q (fixed_by s.broken s.early s.fails) b.gave s.orders
+  answered_sockets Q known a is = subst (λ (l : List LinkEnd). (b : AreAnsweredBy (operations script) outcomes l) × (s : AreSocketsBeside script outcomes r.places b.gave l) × Q (fixed_by s.broken s.early s.fails) b.gave s.orders) (sym r.given_back)
+      (a, sockets_beside a.gave is (map end_at r.ends) refl a.givers, sockets_are a.gave is (map end_at r.ends) refl a.givers Q (known a.gave))

@@ -1,4 +1,4 @@
--- What is told of sockets over tables with more seats is told of those without them too: nothing of it speaks of seats.
+-- What is told of sockets and attempts over tables with more seats is told of those without them too: nothing of it speaks of seats.
 use Rattle.std.proofs.Common.{◌⊎◌, ℕ, inl, inr, List, Option}
 use Rattle.sock_words.specs.declared.outcome.Outcome.{Outcome}
 use Rattle.sock_words.specs.declared.outcome.Outcome.TheVariants as outcome
@@ -9,6 +9,7 @@ use Rattle.seat_programs.specs.declared.task.Task.{Task}
 use Rattle.seat_programs.specs.Cores.{Core}
 use Rattle.seat_programs.specs.ToldCalls.{Accepted, Order, Fixed, AreOrders, FoundNone, FoundFailed, IsSent, OfSend, OfCall, Why}
 use Rattle.script_calls.specs.report_fits.proofs.Lists.{all_map}
+use Rattle.script_calls.specs.attempts_told.specs.Attempts.{AreAttemptsTold}
 use Rattle.script_calls.specs.call_whys.specs.sock_deeds.specs.Told.{IsOfSockets, IsAttempt, ToldSockets}
 
 module _ (p : Plan) (n : ℕ) (clients : List (List Task)) (outcomes : List (Option Outcome)) (fixed : Fixed) (gave : ℕ → List ℕ) (orders : ℕ → Order) where
@@ -19,15 +20,18 @@ module _ (p : Plan) (n : ℕ) (clients : List (List Task)) (outcomes : List (Opt
   orders_still : (c : Core) → AreOrders wide c orders → AreOrders p c orders
   orders_still c h = record { written = h.written; alone = h.alone; within = h.within; taken = h.taken; apart = h.apart }
 
-  none_still : (c o m : ℕ) → FoundNone wide clients outcomes fixed gave orders c o m → FoundNone p clients outcomes fixed gave orders c o m
+  pub none_still : (c o m : ℕ) → FoundNone wide clients outcomes fixed gave orders c o m → FoundNone p clients outcomes fixed gave orders c o m
   none_still c o m h = record { setup = h.setup; own = h.own }
 
   failed_still : (c o m : ℕ) (P : ℕ → Type 0) → FoundFailed wide clients outcomes fixed gave orders c o m P → FoundFailed p clients outcomes fixed gave orders c o m P
   failed_still c o m P h = record { link = h.link; slot = h.slot; version = h.version; made = h.made; holds = h.holds; failed = h.failed }
 
+  one_still : (last : ℕ → ℕ) (k : ℕ) (a : Accepted) → IsSent wide clients outcomes fixed gave orders last k a → IsSent p clients outcomes fixed gave orders last k a
+  one_still last k a (OfSend client t name slot version is number op first made none_) = OfSend client t name slot version is number op first made none_
+  one_still last k a (OfCall client t asked by id slot version is number op became shows low frame made) = OfCall client t asked by id slot version is number op became shows low frame made
+
   sent_still : (last : ℕ → ℕ) (k : ℕ) (a : Accepted) → IsSent wide clients outcomes fixed gave orders last k a ⊎ IsAttempt clients outcomes k a → IsSent p clients outcomes fixed gave orders last k a ⊎ IsAttempt clients outcomes k a
-  sent_still last k a (inl (OfSend client t name slot version is number op first made none_)) = inl (OfSend client t name slot version is number op first made none_)
-  sent_still last k a (inl (OfCall client t asked by id slot version is number op became shows low frame made)) = inl (OfCall client t asked by id slot version is number op became shows low frame made)
+  sent_still last k a (inl h) = inl (one_still last k a h)
   sent_still last k a (inr h) = inr h
 
   why_still : (last : ℕ → ℕ) (c o : ℕ) (op : Op) (by : Outcome) → IsOfSockets op → Why wide clients outcomes fixed gave orders last c o op by → Why p clients outcomes fixed gave orders last c o op by
@@ -82,4 +86,12 @@ module _ (p : Plan) (n : ℕ) (clients : List (List Task)) (outcomes : List (Opt
     sent = λ last k low. all_map (λ (a : Accepted). IsSent wide clients outcomes fixed gave orders last k a ⊎ IsAttempt clients outcomes k a) (λ (a : Accepted). IsSent p clients outcomes fixed gave orders last k a ⊎ IsAttempt clients outcomes k a) (sent_still last k) (orders k).accepted (h.sent last k low);
     own_order = h.own_order;
     dropped = h.dropped;
+  }
+
+  -- the same of attempts
+  abbrev pub still_attempts : AreAttemptsTold wide clients outcomes fixed gave orders → AreAttemptsTold p clients outcomes fixed gave orders
+  still_attempts h = record {
+    last = h.last;
+    few = h.few;
+    sent = λ k low. all_map (λ (a : Accepted). IsSent wide clients outcomes fixed gave orders h.last k a) (λ (a : Accepted). IsSent p clients outcomes fixed gave orders h.last k a) (one_still h.last k) (orders k).accepted (h.sent k low);
   }

@@ -1,3 +1,4 @@
 pub mod Told
 pub mod Sockets
+pub mod Joins
 pub use Rattle.script_calls

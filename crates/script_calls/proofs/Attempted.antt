@@ -56,20 +56,11 @@ use Rattle.attempts_told.proofs.Told.{attempts_told, last_told}
 use Rattle.script_calls.specs.Reading.{IdSeat, begins, HasRead}
 use Rattle.script_calls.specs.Told.{IsLeft, AreSocketsTold, outcomes_of}
 use Rattle.script_calls.proofs.Began.{only_is}
-use Rattle.script_calls.proofs.Each.{call_said}
-use Rattle.script_calls.proofs.Later.{IsAmong, among, client_later}
+use Rattle.script_calls.proofs.Later.{crew_later}
 use Rattle.script_calls.proofs.Placed.{each_notes, mapped_from, mapped_at, are, may, have, left_told}
 use Rattle.script_calls.proofs.Shown.{view_of, flat_mapped}
 use Rattle.script_calls.proofs.Sockets.{sockets_told, sockets_logged}
-use Rattle.script_calls.proofs.Telling.{IsEndTold, of_script, of_client, begun_of, made_once, became_end}
-use Rattle.script_calls.proofs.Versions.{are_ids}
-
--- the end of a call shows its id
-shown_of : (by : Outcome) (id : ℕ) → 0 < ends_of id by → shown_id by ≡ Some id
-shown_of (Answered i payload attachment) id h = ap Some (only_is id i h)
-shown_of (Peer i code) id h = ap Some (only_is id i h)
-shown_of (CallFailed i code) id h = ap Some (only_is id i h)
-shown_of other id h = absurd (omega arith)
+use Rattle.script_calls.proofs.Versions.{two, are_ids, shown}
 
 module _ {O I P : Type 0} (g : Ghosts O) (out : O → OutState) (inn : I → InState) (bytes : List ℕ) (script : List Item) (reads : script_of bytes ≡ Ok script) (told ended : List (List Told)) (places : List PlaceWord) (seats : List IdSeat)
     (left : IsLeft g out script told ended places seats) (ends ends' : List (Ends O I P)) (last : List Told) (read : HasRead out inn (ids_of (plan_of script) (length (calls script))) (calls script) seats ends ends' last) where
@@ -94,9 +85,6 @@ module _ {O I P : Type 0} (g : Ghosts O) (out : O → OutState) (inn : I → InS
   abbrev clients : List (Client g out p q)
   clients = all_clients left.ran
 
-  abbrev threads : List (Thread g)
-  threads = left.ran.ran.main ∷ left.ran.ran.others
-
   -- ## What is known of the clients
 
   -- whoever read the links advanced no attempt
@@ -108,63 +96,7 @@ module _ {O I P : Type 0} (g : Ghosts O) (out : O → OutState) (inn : I → InS
       let d = each_notes i (is_attempt f n) (map view_of seats) in omega arith
 
   pub later : (j : ℕ) (c : Client g out p q) → get_elem? clients j ≡ some c → AreLater all outcomes (all_asked c.thread c.is)
-  later j c at =
-      let w = mapped_from (λ (x : Thread g). x) threads j c.thread (ap (λ (l : List (Thread g)). get_elem? l j) (sym (all_are left.ran (λ (x : Thread g). x))) ∙ mapped_at (λ (x : Client g out p q). x.thread) clients j c at) in
-      client_later g out inn bytes script reads told ended places seats left ends ends' last read outcomes c.first c.thread c.is
-      (subst (IsAmong g out inn bytes script reads told ended places seats left ends ends' last read outcomes) w.2 (among g out inn bytes script reads told ended places seats left ends ends' last read outcomes j w.0 w.1))
-
-  two : (c : ℕ) (t : Task) (asked : Asked) → IsTask all outcomes c t → t.op ≡ ops.Call asked → 2 ≤ asked.range
-  two c t asked is op =
-      let fit = (are g out inn bytes script reads told ended places seats left ends ends' last read).fit in
-      let its = all_there (TaskFits p) is.0 t (all_there (AllByRecursion (TaskFits p)) all is.0 fit (c, is.1)) (has_from is.0 t is.2) in
-      (subst (OpFits p) op its.1).range_low
-
-  -- ## The id that an outcome shows
-
-  some_made : (o id : ℕ) → IsIdOf slots notes o id → 0 < total (makes o) notes
-  some_made o id h =
-      let n = noted_at h.slot notes h.place (Made h.first h.range h.asked) h.made in
-      let a = term (makes o) notes n.0 _ n.1 in let b = only-at o h.asked.operation h.operation in omega arith
-
-  -- a call for which an id was made is told
-  is_told : (o id : ℕ) → IsIdOf slots notes o id → (by : Outcome) × Became all outcomes o by
-  is_told o id h =
-      let b = begun_of g out inn bytes script reads told ended places seats left ends ends' last read o (some_made o id h) in
-      let t : Task = b.has.result.task in
-      let is = of_client g out inn bytes script reads told ended places seats left ends ends' last read b.place b.client b.at o None b.has in
-      let w = of_script g out inn bytes script reads told ended places seats left ends ends' last read b.place t is in
-      let less : t.number < p.operations = slice_get_within (operations script) t.number w.operation w.there in
-      let own_ : get_elem? all b.place ≡ some (tasks_of b.client) = ap (λ (l : List (List Task)). get_elem? l b.place) (sym (tasks_are left.ran)) ∙ mapped_at tasks_of clients b.place b.client b.at in
-      let s = call_said g out script p q told ended places last (left_told g out inn bytes script reads told ended places seats left ends ends' last read)
-      t.number less w.operation w.there t.op w.asks b.place b.has.place (tasks_of b.client) own_ (task_at b.client.thread b.client.is b.has.place b.has.result b.has.at) b.asked b.op in
-      subst (λ (n : ℕ). (by : Outcome) × Became all outcomes n by) b.has.number_is s
-
-  -- and what became of it shows that id
-  shown : (o id : ℕ) → IsIdOf slots notes o id → (by : Outcome) × Became all outcomes o by × (shown_id by ≡ Some id)
-  shown o id h =
-      let s = is_told o id h in
-      let e = became_end g out inn bytes script reads told ended places seats left ends ends' last read o s.0 (some_made o id h) s.1 in
-      (s.0, s.1, shown_of s.0 id (by_end s.0 e.0 e.1 e.2 e.3))
-    where
-      by_end : (by : Outcome) (x : Told) (e : IsEndTold g out inn bytes script reads told ended places seats left ends ends' last read x) → x.number ≡ o → x.outcome ≡ by → 0 < ends_of id by
-      by_end by x e number outcome =
-          let low : e.first < 4294967296 = dite (dec_lt e.first (parts (slice_index read.words e.slot)).first)
-          (λ lt. (let w = read.low e.slot in omega arith))
-          (λ ge. absurd (let none_ = read.closing.ended_not e.slot e.first e.inside (omega arith) in let some_ = e.noted in omega arith)) in
-          let its : IsIdOf slots notes o (e.slot * 4294967296 + e.first) = record {
-            slot = e.slot;
-            first = e.first;
-            inside = e.inside;
-            low = low;
-            id_is = refl;
-            range = e.range;
-            asked = e.asked;
-            place = e.place;
-            made = e.made;
-            operation = e.operation ∙ number;
-          } in
-          let same : id ≡ e.slot * 4294967296 + e.first = one_id slots notes o id (e.slot * 4294967296 + e.first) (made_once g out inn bytes script reads told ended places seats left ends ends' last read o) h its in
-          let a = ap (λ (y : ℕ). ends_of y by) same in let b = ap (ends_of (e.slot * 4294967296 + e.first)) outcome in let c = e.is_end in omega arith
+  later = crew_later g out inn bytes script reads told ended places seats left ends ends' last read outcomes
 
   -- ## What is told
 
@@ -178,8 +110,9 @@ module _ {O I P : Type 0} (g : Ghosts O) (out : O → OutState) (inn : I → InS
         let ids = are_ids g out inn bytes script reads told ended places seats left ends ends' last read in
         let tells = subst (λ (l : List (List Task)). ToldSockets p l outcomes (fixed_by t.broken [] t.fails) gave t.orders t.core) (sym left.tasks) t.tells in
         attempts_told left.ran outcomes (may g out inn bytes script reads told ended places seats left ends ends' last read) notes read.last.view.kept read.words read.closing
-        (have g out inn bytes script reads told ended places seats left ends ends' last read) own later ids.made two ids.one (fixed_by t.broken [] t.fails) gave t.orders t.core tells
-        (sockets_logged g out inn bytes script reads told ended places seats left ends ends' last read halves kept gave links given givers) shown
+        (have g out inn bytes script reads told ended places seats left ends ends' last read) own later ids.made (two g out inn bytes script reads told ended places seats left ends ends' last read) ids.one (fixed_by t.broken [] t.fails) gave t.orders t.core tells
+        (sockets_logged g out inn bytes script reads told ended places seats left ends ends' last read halves kept gave links given givers)
+        (shown g out inn bytes script reads told ended places seats left ends ends' last read)
 
     -- the last attempt is the greatest to which the id of a call advanced
     its_last : its.last ≡ last_attempt notes
@@ -188,8 +121,9 @@ module _ {O I P : Type 0} (g : Ghosts O) (out : O → OutState) (inn : I → InS
         let ids = are_ids g out inn bytes script reads told ended places seats left ends ends' last read in
         let tells = subst (λ (l : List (List Task)). ToldSockets p l outcomes (fixed_by t.broken [] t.fails) gave t.orders t.core) (sym left.tasks) t.tells in
         last_told left.ran outcomes (may g out inn bytes script reads told ended places seats left ends ends' last read) notes read.last.view.kept read.words read.closing
-        (have g out inn bytes script reads told ended places seats left ends ends' last read) own later ids.made two ids.one (fixed_by t.broken [] t.fails) gave t.orders t.core tells
-        (sockets_logged g out inn bytes script reads told ended places seats left ends ends' last read halves kept gave links given givers) shown
+        (have g out inn bytes script reads told ended places seats left ends ends' last read) own later ids.made (two g out inn bytes script reads told ended places seats left ends ends' last read) ids.one (fixed_by t.broken [] t.fails) gave t.orders t.core tells
+        (sockets_logged g out inn bytes script reads told ended places seats left ends ends' last read halves kept gave links given givers)
+        (shown g out inn bytes script reads told ended places seats left ends ends' last read)
 
     abbrev IsFew : List (List Task) → (ℕ → ℕ) → Type 0
     IsFew tasks last_of = (client : ℕ) (u : Task) (asked : Asked) → IsTask tasks outcomes client u → u.op ≡ ops.Call asked → last_of u.number + 2 ≤ asked.range

@@ -29,9 +29,9 @@ use Rattle.seat_programs.specs.declared.task.Task.{Task}
 use Rattle.seat_programs.specs.Scripts.{all_tasks}
 use Rattle.seat_programs.specs.Tasks.{Numbered, numbered, plan_of, calls}
 use Rattle.seat_programs.specs.Told.{AreTasks}
-use Rattle.report_fits.proofs.Lists.{has_from, has_filter_map, within, all_map, all_at as all_there}
+use Rattle.report_fits.proofs.Lists.{has_from, contains_from, has_filter_map, within, all_map, all_at as all_there}
 use Rattle.report_fits.proofs.Numbering.{link_at, numbered_at}
-use Rattle.report_fits.proofs.TaskLemmas.{asks_at, numbers_at, asked_at, operation_task, call_asks}
+use Rattle.report_fits.proofs.TaskLemmas.{asks_at, numbers_at, task_is, asked_at, operation_task, call_asks}
 use Rattle.rpc_client.specs.declared.acting.Told.{Told}
 use Rattle.script_calls.proofs.Sayings.{to_slice, from_slice, long_each, none_long}
 use Rattle.call_run.specs.Threads.{AllRan}
@@ -129,11 +129,17 @@ module _ {O : Type 0} (g : Ghosts O) (out : O → OutState) (script : List Item)
         call_came asked is (began other id same begun) = ended_call other id same begun
         call_came asked is (sends n message same) = let e : ops.Call asked ≡ ops.Send n message = sym is ∙ same in absurd (cc)
 
-        pub call_said : (asked : Asked) → op ≡ ops.Call asked → IsSaid outcomes o
+        call_said : (asked : Asked) → op ≡ ops.Call asked → IsSaid outcomes o
         call_said asked is = call_came asked is (one_come g out p q r.ids told c ts who j t in_it)
 
         has_it : HasIt
         has_it = came (one_come g out p q r.ids told c ts who j t in_it)
+
+    -- each call is told
+    pub each_called : (c k : ℕ) (ts : List Task) (t : Task) (asked : Asked) → get_elem? (r.setup ∷ r.clients) c ≡ some ts → get_elem? ts k ≡ some t → t.op ≡ ops.Call asked → IsSaid outcomes t.number
+    each_called c k ts t asked at there is =
+        let w = task_is script [] c t (ts, to_slice (all_tasks script) c ts (ap (λ (l : List (List Task)). get_elem? l c) (sym r.tasks) ∙ at), contains_from ts t (k, to_slice ts k t there)) in
+        call_said t.number (slice_get_within (operations script) t.number w.operation w.there) w.operation w.there t.op w.asks c k ts at there asked is
 
     pub each_outcome : HasEachOutcome places outcomes
     each_outcome o none_ = by has

@@ -35,12 +35,12 @@ use Rattle.script_calls.proofs.Shown.{view_of, flat_mapped}
 
 -- ## Which operations are calls
 
-call_op : (ns : List Numbered) (all : List (List ℕ)) (x : Numbered) (item : Item) (op : Op) → is_call item ≡ true → op_of ns all x item ≡ Some op → (asked : Asked) × (op ≡ ops.Call asked)
+pub call_op : (ns : List Numbered) (all : List (List ℕ)) (x : Numbered) (item : Item) (op : Op) → is_call item ≡ true → op_of ns all x item ≡ Some op → (asked : Asked) × (op ≡ ops.Call asked)
 call_op ns all x (Call call) op is e = (asked_of all x.number call, sym (some_is (ops.Call (asked_of all x.number call)) op e))
 call_op ns all x other op is e = let k : false ≡ true = is in absurd (cc)
 
 -- what an `expire` of a script asks for is a call
-script_calls : (bytes : List ℕ) (script : List Item) → script_of bytes ≡ Ok script → (outcomes : List (Option Outcome)) → AreOfCalls (all_tasks script) outcomes
+pub script_calls : (bytes : List ℕ) (script : List Item) → script_of bytes ≡ Ok script → (outcomes : List (Option Outcome)) → AreOfCalls (all_tasks script) outcomes
 script_calls bytes script reads outcomes c d t u is op also =
     let v = task_is script outcomes c t is in let w = task_is script outcomes d u also in
     let m = expire_asks (numbered script) (names script) (numbers_at script t.number v.operation) v.operation.item u.number (v.asks ∙ ap Some op) in

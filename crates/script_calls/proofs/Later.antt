@@ -15,9 +15,11 @@ use Rattle.corr_core.specs.declared.marks.Plan as id_plan
 use Rattle.seat_programs.specs.declared.task.Task.{Task}
 use Rattle.seat_programs.specs.Tasks.{plan_of, calls}
 use Rattle.rpc_client.specs.declared.acting.Told.{Told}
-use Rattle.call_run.specs.Threads.{opens_of, opened_names, openings, ids_of, Thread, IsThread}
+use Rattle.call_run.specs.Threads.{opens_of, opened_names, openings, ids_of}
 use Rattle.call_whys.specs.call_told.proofs.Making.{AllMade}
 use Rattle.call_whys.specs.call_places.specs.Counted.{HaveNotesOf}
+use Rattle.call_whys.specs.call_places.proofs.Clients.{Client}
+use Rattle.call_whys.specs.call_places.proofs.Places.{all as all_clients}
 use Rattle.call_whys.specs.call_deeds.specs.Retried.{all_asked}
 use Rattle.call_whys.specs.call_deeds.specs.Scripts.{AllLater}
 use Rattle.call_whys.specs.call_deeds.proofs.Ran.{AreLater}
@@ -42,10 +44,7 @@ module _ {O I P : Type 0} (g : Ghosts O) (out : O → OutState) (inn : I → InS
   abbrev all : List (List Task)
   all = left.setup ∷ left.clients
 
-  abbrev threads : List (Thread g)
-  threads = left.ran.ran.main ∷ left.ran.ran.others
-
-  pub made : AllMade (IsCallOf all outcomes) read.last.view.notes
+  made : AllMade (IsCallOf all outcomes) read.last.view.notes
   made =
       let owns = subst (AllByRecursion (AllByRecursion IsOwnTask)) (sym left.tasks) (all_own script) in
       read_made out inn q (calls script) (IsCallOf all outcomes) last seats ends ends'
@@ -55,15 +54,8 @@ module _ {O I P : Type 0} (g : Ghosts O) (out : O → OutState) (inn : I → InS
   abbrev noted : HaveNotesOf (map view_of seats) read.last.view.notes
   noted = have g out inn bytes script reads told ended places seats left ends ends' last read
 
-  -- what a client noted is among all notes of ids
-  abbrev pub IsAmong : Thread g → Type 0
-  IsAmong x = laters.IsAmong left.ran read.last.view read.words read.closing noted outcomes made x
-
-  pub among : (c : ℕ) (x : Thread g) → get_elem? threads c ≡ some x → IsAmong x
-  among c x at = laters.among left.ran read.last.view read.words read.closing noted outcomes made c x at
-
-  pub client_later : (first : ℕ) (x : Thread g) (th : IsThread out (plan_of script) q first x) → IsAmong x → AreLater all outcomes (all_asked x th)
-  client_later first x th within = laters.client_later left.ran read.last.view read.words read.closing noted outcomes made first x th within
+  pub crew_later : (j : ℕ) (c : Client g out (plan_of script) q) → get_elem? (all_clients left.ran) j ≡ some c → AreLater all outcomes (all_asked c.thread c.is)
+  crew_later = laters.crew_later left.ran read.last.view read.words read.closing noted outcomes made
 
   pub setup_later : AreLater all outcomes (all_asked left.ran.ran.main left.ran.ran.main_is)
   setup_later = laters.setup_later left.ran read.last.view read.words read.closing noted outcomes made

@@ -26,7 +26,10 @@ use Rattle.call_run.specs.Threads.{opens_of, opened_names, openings, ids_of, Thr
 use Rattle.call_whys.specs.call_told.proofs.Lists.{all_at}
 use Rattle.call_whys.specs.call_told.proofs.Making.{AllMade, made_fits}
 use Rattle.call_whys.specs.call_places.specs.Counted.{HaveNotesOf}
+use Rattle.call_whys.specs.call_places.proofs.Clients.{Client}
+use Rattle.call_whys.specs.call_places.proofs.Places.{all as all_clients, all_are}
 use Rattle.call_whys.specs.call_places.proofs.Weights.{term, mapped}
+use Rattle.call_whys.specs.expire_told.proofs.Making.{mapped_from}
 use Rattle.call_whys.specs.call_deeds.specs.Retried.{Again, all_asked}
 use Rattle.call_whys.specs.call_deeds.specs.Scripts.{AllLater}
 use Rattle.call_whys.specs.call_deeds.proofs.Ran.{AreLater}
@@ -64,10 +67,10 @@ module _ {O : Type 0} {g : Ghosts O} {state : O → OutState} {readers : List (L
   ids_seen x = x.ended.calls.seat.me.0
 
   -- what a client noted is among all notes of ids
-  abbrev pub IsAmong : Thread g → Type 0
+  abbrev IsAmong : Thread g → Type 0
   IsAmong x = (i : ℕ) (f : Note Asked → ℕ) → total f (notes_of i (ids_seen x).notes) ≤ total f (notes_of i v.notes)
 
-  pub among : (c : ℕ) (x : Thread g) → get_elem? threads c ≡ some x → IsAmong x
+  among : (c : ℕ) (x : Thread g) → get_elem? threads c ≡ some x → IsAmong x
   among c x at i f =
       let h = (subst (λ (vs : List (View Asked)). HaveNotesOf vs v.notes) (sym ran.ran.ids_are) have).all i f in
       let t = term (λ (u : View Asked). total f (notes_of i u.notes)) (map ids_seen threads) c (ids_seen x) (mapped ids_seen threads c x at) in omega arith
@@ -78,7 +81,7 @@ module _ {O : Type 0} {g : Ghosts O} {state : O → OutState} {readers : List (L
       let m = closing.locked_made k.slot k.first w.0 a.asked k.inside (w.2 ∙ ap some (lock_is a.asked k.first w.1 w.3)) in
       made_fits (IsCallOf all outcomes) k.slot v.notes made m.1 k.first m.0 a.asked m.2
 
-  pub client_later : (first : ℕ) (x : Thread g) (th : IsThread state p q first x) → IsAmong x → AreLater all outcomes (all_asked x th)
+  client_later : (first : ℕ) (x : Thread g) (th : IsThread state p q first x) → IsAmong x → AreLater all outcomes (all_asked x th)
   client_later first x th within i a at = let c = is_call x within a (all_at (IsKnown slots (ids_seen x)) (all_asked x th) i a (asked_known x th) at) in record { client = c.0; is = c.1; later = asked_later x th i a at }
 
   pub setup_later : AreLater all outcomes (all_asked ran.ran.main ran.ran.main_is)
@@ -90,3 +93,9 @@ module _ {O : Type 0} {g : Ghosts O} {state : O → OutState} {readers : List (L
 
   pub others_later : AllLater all outcomes state p q (opened_names ran.ran.main.ended.outcomes.items (openings setup)) (opens_of setup) ran.ran.others ran.ran.others_are
   others_later = each_later (opened_names ran.ran.main.ended.outcomes.items (openings setup)) (opens_of setup) ran.ran.others ran.ran.others_are (λ c x at. among (suc c) x at)
+
+  -- so is each of theirs, by the place of the client among all
+  pub crew_later : (j : ℕ) (c : Client g state p q) → get_elem? (all_clients ran) j ≡ some c → AreLater all outcomes (all_asked c.thread c.is)
+  crew_later j c at =
+      let w = mapped_from (λ (x : Thread g). x) threads j c.thread (ap (λ (l : List (Thread g)). get_elem? l j) (sym (all_are ran (λ (x : Thread g). x))) ∙ mapped (λ (x : Client g state p q). x.thread) (all_clients ran) j c at) in
+      client_later c.first c.thread c.is (subst IsAmong w.2 (among j w.0 w.1))

@@ -18,6 +18,7 @@ pub mod Retrying
 pub mod Tellers
 pub mod Laters
 pub mod Later
+pub mod Ids
 pub mod Telling
 pub mod Sockets
 pub mod Attempted

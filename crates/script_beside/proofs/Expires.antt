@@ -1,0 +1,91 @@
+-- What is told of the calls of a script whose links were read beside its clients.
+use Rattle.std.proofs.Common.{◌≡◌, ℕ, List, [], ◌∷◌, ◌++◌, flat_map, map, Option, Ok, refl, sym, ap, ◌∙◌, subst}
+use mathlib.Core.Option.{some}
+use lib.ListN.{get_elem?}
+use Rattle.sock_io.specs.declared.link.Out.{Ghosts}
+use Rattle.sock_io.specs.Link.{OutState, InState}
+use Rattle.sock_words.specs.Codes.{EEOF}
+use Rattle.sock_words.specs.declared.outcome.Outcome.{Outcome}
+use Rattle.sock_words.specs.declared.outcome.Outcome.TheVariants as outcome
+use Rattle.sock_words.specs.declared.plain.Plan.{Plan}
+use Rattle.brpc_model.specs.Items.{Item}
+use Rattle.brpc_model.specs.Link.{LinkEnd}
+use Rattle.brpc_model.specs.Script.{script_of}
+use Rattle.corr_core.specs.Law.{total}
+use Rattle.corr_core.specs.declared.marks.Kept.{Kept}
+use Rattle.corr_core.specs.declared.marks.Plan as id_plan
+use Rattle.corr_core.specs.declared.marks.View.{View}
+use Rattle.sock_message.specs.Asked.{Asked}
+use Rattle.seat_programs.specs.declared.task.Op.TheVariants as ops
+use Rattle.seat_programs.specs.declared.task.Task.{Task}
+use Rattle.seat_programs.specs.Scripts.{all_tasks}
+use Rattle.seat_programs.specs.Tasks.{plan_of, opens, calls}
+use Rattle.seat_programs.specs.Told.{IsTask, Became}
+use Rattle.seat_programs.specs.ToldCalls.{Order, Fixed}
+use Rattle.rpc_client.specs.declared.acting.Told.{Told}
+use Rattle.rpc_reader.specs.Books.{Books}
+use Rattle.call_run.specs.Readers.{LinkReader}
+use Rattle.script_calls.specs.attempts_told.specs.Attempts.{last_attempt}
+use Rattle.script_calls.specs.call_whys.specs.call_told.specs.Least.{HasBegun}
+use Rattle.script_calls.specs.call_whys.specs.call_told.specs.Once.{ToldOnce}
+use Rattle.script_calls.specs.call_whys.specs.call_told.proofs.Beside.{once_beside}
+use Rattle.script_calls.specs.call_whys.specs.call_told.proofs.Growing.{own_at}
+use Rattle.script_calls.specs.call_whys.specs.call_told.proofs.Readers.{each_read, readers_own}
+use Rattle.script_calls.specs.call_whys.specs.call_told.proofs.Tallies.{rest_accounts}
+use Rattle.script_calls.specs.call_whys.specs.expire_told.specs.Said.{AreSaid, AreOfCalls, HaveKeptOf, WhyExpired}
+use Rattle.script_calls.specs.call_whys.specs.expire_told.proofs.Making.{have_kept, have_without}
+use Rattle.script_calls.specs.call_whys.specs.expire_told.proofs.Whole.{expire_why, once}
+use Rattle.script_calls.specs.call_whys.specs.sock_deeds.proofs.Orders.{orders}
+use Rattle.script_calls.specs.call_whys.specs.sock_deeds.proofs.Places.{map_append}
+use Rattle.script_calls.specs.Reading.{IdSeat}
+use Rattle.script_calls.proofs.Clients.{balanced}
+use Rattle.script_calls.proofs.Expiring.{script_calls}
+use Rattle.script_calls.proofs.Ids as numbers
+use Rattle.script_calls.proofs.Said.{in_front}
+use Rattle.script_calls.proofs.Shown.{view_of, flat_mapped}
+use Rattle.script_calls.proofs.Sockets.{map_twice}
+use Rattle.script_calls.proofs.Tellers as tellers
+use Rattle.script_calls.specs.Told.{AreCallsTold}
+use Rattle.script_beside.specs.Told.{seated_plan, seated_ids, IsBesideRun}
+use Rattle.script_beside.proofs.Attempts.{calls_apart}
+use Rattle.script_beside.proofs.Failing.{failed, again, expires}
+use Rattle.script_beside.proofs.Left.{all_seats, early_of, notes_of, kept_of}
+use Rattle.script_beside.proofs.Sockets as sockets
+use Rattle.script_beside.proofs.Telling.{keeps, of_calls, said, said_ended, begun_not}
+
+module _ (P : Type 0) {O I : Type 0} (g : Ghosts O) (out : O → OutState) (inn : I → InState) (bytes : List ℕ) (script : List Item) (reads : script_of bytes ≡ Ok script) (text : List ℕ) (links : List LinkEnd) (r : IsBesideRun P g out inn script text links) where
+  abbrev p : Plan
+  p = seated_plan script
+
+  abbrev all : List (List Task)
+  all = r.left.setup ∷ r.left.clients
+
+  abbrev last : View Asked
+  last = r.rest.last.view
+
+  abbrev outcomes : List (Option Outcome)
+  outcomes = sockets.outcomes P g out inn bytes script reads text links r
+
+  module _ (given : ℕ → List ℕ) where
+    abbrev fixed : Fixed
+    fixed = sockets.fixed P g out inn bytes script reads text links r
+
+    abbrev by_link : ℕ → Order
+    by_link = orders (sockets.run P g out inn bytes script reads text links r) (sockets.differ P g out inn bytes script reads text links r)
+
+    -- but for the codes of a crowded id
+    expired : (client of : ℕ) (t : Task) (by : Outcome) → IsTask all outcomes client t → t.op ≡ ops.Expire of → Became all outcomes t.number by → WhyExpired p all outcomes fixed given by_link client t.number of by
+    expired = expire_why r.left.ran (sockets.are P g out inn bytes script reads text links r) (sockets.may P g out inn bytes script reads text links r) last.notes last.kept r.rest.words r.rest.closing (sockets.have P g out inn bytes script reads text links r) (keeps P g out inn bytes script reads text links r) outcomes (said P g out inn bytes script reads text links r) (said_ended P g out inn bytes script reads text links r) (begun_not P g out inn bytes script reads text links r)
+        fixed given by_link (of_calls P g out inn bytes script reads text links r)
+
+    told_here : AreCallsTold (plan_of script) all outcomes fixed given by_link (last_attempt last.notes)
+    told_here = record {
+      expires = λ client of t by is op became. expires P g out inn bytes script reads text links r given client of t by is op became (expired client of t by is op became);
+      expired_once = once r.left.ran (sockets.are P g out inn bytes script reads text links r) (sockets.may P g out inn bytes script reads text links r) last.notes last.kept r.rest.words r.rest.closing (sockets.have P g out inn bytes script reads text links r) (keeps P g out inn bytes script reads text links r) outcomes (said P g out inn bytes script reads text links r) (said_ended P g out inn bytes script reads text links r) (begun_not P g out inn bytes script reads text links r);
+      failed = failed P g out inn bytes script reads text links r given;
+      again = again P g out inn bytes script reads text links r given;
+      versions = calls_apart P g out inn bytes script reads text links r;
+    }
+
+    pub calls_beside : AreCallsTold (plan_of script) (all_tasks script) outcomes fixed given by_link (last_attempt last.notes)
+    calls_beside = subst (λ (l : List (List Task)). AreCallsTold (plan_of script) l outcomes fixed given by_link (last_attempt last.notes)) r.left.tasks told_here
