@@ -1,5 +1,5 @@
 -- How many attempts the calls of a script made whose links were read beside its clients, and whose the messages are that its links accepted.
-use Rattle.std.proofs.Common.{◌≡◌, ◌≢◌, ℕ, ◌+◌, ◌<◌, ◌≤◌, ◌⊎◌, List, ◌∷◌, ◌++◌, map, Option, Some, Ok, refl, sym, ap, ◌∙◌, subst, arith}
+use Rattle.std.proofs.Common.{◌≡◌, ◌≢◌, ℕ, ◌+◌, ◌<◌, ◌≤◌, ◌⊎◌, List, ◌∷◌, ◌++◌, flat_map, map, Option, Some, Ok, refl, sym, ap, ◌∙◌, subst, arith}
 use Rattle.std.specs.List.{AllByRecursion}
 use mathlib.Core.Option.{some}
 use lib.ListN.{get_elem?}
@@ -117,15 +117,13 @@ module _ (P : Type 0) {O I : Type 0} (g : Ghosts O) (out : O → OutState) (inn 
   -- none but the clients advanced one
   pub own : (i f n : ℕ) → total (is_attempt f n) (notes_of i last.notes) ≤ total (λ (v : View Asked). advances i f n v) (map view_of r.ids)
   own i f n =
-      let seats : List IdSeat = all_seats r.left in let behind : List IdSeat = map (λ (x : LinkReader g). x.ids) readers in
-      let a = rest_unmoved EEOF q (calls script) (sockets.main P g out inn bytes script reads text links r) r.rest.last r.rest.rest i f n in
+      let h : IdSeat → ℕ = λ x. advances i f n x.me.0 in let seats : List IdSeat = all_seats r.left in let behind : List IdSeat = map (λ (x : LinkReader g). x.ids) readers in
+      let a : total (is_attempt f n) (notes_of i last.notes) ≡ total (is_attempt f n) (notes_of i r.rest.main.me.0.notes) = rest_unmoved EEOF q (calls script) (sockets.main P g out inn bytes script reads text links r) r.rest.last r.rest.rest i f n in
       let b = ap (λ (l : List (Noted Asked)). total (is_attempt f n) (notes_of i l)) (notes_taken r.left r.rest ∙ flat_mapped view_of (λ (v : View Asked). v.notes) seats) in
-      let c = each_notes i (is_attempt f n) (map view_of seats) in
-      let d = total_map (advances i f n) view_of seats in
-      let e = total_append (λ (s : IdSeat). advances i f n (view_of s)) r.ids behind in
-      let h = total_map (λ (s : IdSeat). advances i f n (view_of s)) (λ (x : LinkReader g). x.ids) readers in
-      let k = readers_advance p q (calls script) readers (each_read p q (calls script) 0 (opens script) readers r.left.readers_are) i f n in
-      let m = total_map (advances i f n) view_of r.ids in omega (arith, a, b, c, d, e, h, k, m)
+      let c : total (is_attempt f n) (notes_of i (flat_map (λ (v : View Asked). v.notes) (map view_of seats))) ≡ total h seats = each_notes i (is_attempt f n) (map view_of seats) ∙ total_map (λ (v : View Asked). advances i f n v) view_of seats in
+      let both : total h seats ≡ total h r.ids + total h behind = total_append h r.ids behind in
+      let none_ : total h behind ≡ 0 = total_map h (λ (x : LinkReader g). x.ids) readers ∙ readers_advance p q (calls script) readers (each_read p q (calls script) 0 (opens script) readers r.left.readers_are) i f n in
+      let own_ : total (λ (v : View Asked). advances i f n v) (map view_of r.ids) ≡ total h r.ids = total_map (λ (v : View Asked). advances i f n v) view_of r.ids in omega (arith, a, b, c, both, none_, own_)
 
   pub later : (j : ℕ) (c : Client g out p q) → get_elem? (all_clients r.left.ran) j ≡ some c → AreLater all outcomes (all_asked c.thread c.is)
   later = laters.crew_later r.left.ran last r.rest.words r.rest.closing (sockets.have P g out inn bytes script reads text links r) outcomes (sockets.made P g out inn bytes script reads text links r)
