@@ -17,7 +17,8 @@ use Rattle.corr_core.specs.declared.marks.View.{View}
 use Rattle.sock_message.specs.Asked.{Asked}
 use Rattle.expire_told.specs.rpc_client.specs.declared.acting.Told.{Told}
 use Rattle.expire_told.specs.call_errors.specs.Books.{Books}
-use Rattle.expire_told.specs.call_run.specs.Threads.{Thread, RanOn, ids_of}
+use Rattle.expire_told.specs.call_run.specs.Readers.{LinkReader}
+use Rattle.expire_told.specs.call_run.specs.Threads.{Thread, RanWith, ids_of}
 use Rattle.expire_told.specs.call_places.proofs.Weights.{mapped}
 use Rattle.expire_told.specs.call_places.proofs.Clients.{Client, view_of, tasks_of, deeds_of}
 use Rattle.expire_told.specs.call_places.proofs.Places.{all as all_clients, all_are}
@@ -27,8 +28,8 @@ use Rattle.failed_told.specs.Reasons.{IsCaused, QueuedFor, AdvancedFor}
 use Rattle.failed_told.proofs.Views.{queued_in, advanced_in}
 use Rattle.failed_told.proofs.Origins.{AreDeeds, run_caused, run_queued, run_advanced}
 
-module _ {O : Type 0} {g : Ghosts O} {state : O → OutState} {p : Plan} {slots : ℕ} {setup : List Task} {clients : List (List Task)} {opens : List ℕ} {told ended : List (List Told)} {places : List PlaceWord} {vrefs : List Vref} {outs : List O} {ids : List (View Asked)}
-    (run : RanOn g state p slots setup clients opens told ended places vrefs outs ids) (outcomes : List (Option Outcome)) (said : AreSaid outcomes told) where
+module _ {O : Type 0} {g : Ghosts O} {state : O → OutState} {readers : List (LinkReader g)} {p : Plan} {slots : ℕ} {setup : List Task} {clients : List (List Task)} {opens : List ℕ} {told ended : List (List Told)} {places : List PlaceWord} {vrefs : List Vref} {outs : List O} {ids : List (View Asked)}
+    (run : RanWith g state readers p slots setup clients opens told ended places vrefs outs ids) (outcomes : List (Option Outcome)) (said : AreSaid outcomes told) where
   -- client c told these ends
   ended_is : (c : ℕ) (x : Client g state p (ids_of p slots)) → get_elem? (all_clients run) c ≡ some x → get_elem? ended c ≡ some x.thread.ended.calls.told.items
   ended_is c x at = let f : Thread g → List Told = λ y. y.ended.calls.told.items in

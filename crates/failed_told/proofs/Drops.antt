@@ -1,5 +1,5 @@
--- An attempt of a call whose message a client dropped stands in the order of its link behind the placed ones; and with which code the call was told: EFAILEDSOCKET, and then its link is failing, or that of a `fail` of the attempt's name.
-use Rattle.std.proofs.Common.{◌≡◌, ℕ, ◌+◌, ◌*◌, ◌/◌, ◌%◌, ◌<◌, ◌≤◌, ◌⊎◌, inl, inr, true, cond, eq-eqb, ne_eqb, List, [], ◌∷◌, length, map, None, refl, sym, ap, ◌∙◌, subst, arith}
+-- An attempt of a call whose message a client dropped stands in the order of its link behind the placed ones; and with which code the call was told: EFAILEDSOCKET, and then its link is failing; that of a `fail` of the attempt's name; or that of whoever read the link.
+use Rattle.std.proofs.Common.{◌≡◌, ℕ, ◌+◌, ◌*◌, ◌/◌, ◌%◌, ◌<◌, ◌≤◌, ◌⊎◌, inl, inr, true, cond, eq-eqb, ne_eqb, List, ◌∷◌, length, map, None, refl, sym, ap, ◌∙◌, subst, arith}
 use Rattle.std.specs.Prelude.{Option}
 use mathlib.Core.Logic.{dite}
 use mathlib.Core.Option.{some}
@@ -40,7 +40,8 @@ use Rattle.id_rule.specs.Lawful.{notes_of}
 use Rattle.sock_message.specs.Asked.{Asked, name_of}
 use Rattle.corr_id.specs.Closing.{Closing}
 use Rattle.expire_told.specs.rpc_client.specs.declared.acting.Told.{Told}
-use Rattle.expire_told.specs.call_run.specs.Threads.{Thread, RanOn, MayRunAll, ids_of}
+use Rattle.expire_told.specs.call_run.specs.Readers.{LinkReader}
+use Rattle.expire_told.specs.call_run.specs.Threads.{Thread, RanWith, MayRunAll, ids_of}
 use Rattle.expire_told.specs.call_places.specs.Counted.{HaveNotesOf}
 use Rattle.expire_told.specs.call_places.proofs.Clients.{Client, deeds_of}
 use Rattle.expire_told.specs.call_places.proofs.Ids.{IsIdOf}
@@ -62,6 +63,7 @@ use Rattle.expire_told.specs.sock_deeds.proofs.Tasks.{same_task}
 use Rattle.expire_told.specs.sock_deeds.proofs.Whole.{fixed}
 use Rattle.failed_told.specs.Missed.{socks_behind}
 use Rattle.failed_told.specs.Reasons.{StillHas, WasDropped}
+use Rattle.failed_told.proofs.Codes.{IsReadCode}
 use Rattle.failed_told.proofs.Fallen.{chain_last, its_seat, reached, one_operation}
 use Rattle.failed_told.proofs.Keeping.{still_as, still_then}
 use Rattle.failed_told.proofs.Owners.{IsOwned, owned_by}
@@ -109,15 +111,13 @@ module _ {O : Type 0} {g : Ghosts O} {state : O → OutState} {p : Plan} {every 
 
 -- ## The run
 
-module _ {O : Type 0} {g : Ghosts O} {state : O → OutState} {p : Plan} {slots : ℕ} {setup : List Task} {clients : List (List Task)} {opens : List ℕ} {told ended : List (List Told)} {places : List PlaceWord} {vrefs : List Vref} {outs : List O} {ids : List (View Asked)}
-    (run : RanOn g state p slots setup clients opens told ended places vrefs outs ids) (tasks : AreTasks p (setup ∷ clients)) (may : MayRunAll p (ids_of p slots) setup clients)
+module _ {O : Type 0} {g : Ghosts O} {state : O → OutState} {readers : List (LinkReader g)} {p : Plan} {slots : ℕ} {setup : List Task} {clients : List (List Task)} {opens : List ℕ} {told ended : List (List Told)} {places : List PlaceWord} {vrefs : List Vref} {outs : List O} {ids : List (View Asked)}
+    (run : RanWith g state readers p slots setup clients opens told ended places vrefs outs ids) (tasks : AreTasks p (setup ∷ clients)) (may : MayRunAll p (ids_of p slots) setup clients)
     (notes : List (Noted Asked)) (kept : List Kept) (words : List ℕ) (closing : Closing (ids_of p slots) notes kept words) (noted : HaveNotesOf ids notes) (outcomes : List (Option Outcome))
     (drun : DeedRun g state p (setup ∷ clients) outcomes places vrefs outs) (seats : map seat_of drun.seats ≡ map (λ (x : Thread g). x.ended.seat) (run.ran.main ∷ run.ran.others)) (logged : log drun ≡ run.closed.ordered.log) (differ : PlacesDiffer (log drun)) (gave : ℕ → List ℕ)
     (all_there : length (log drun) ≤ all_accepted p.links (orders drun differ)) (few : p.operations ≤ 65536) (few_links : p.links ≤ 65536)
     -- the codes that a `fail` may have in a script
-    (bounds : (client number name code : ℕ) → IsOperation (setup ∷ clients) outcomes client number (ops.Fail name code) → (1500 ≤ code) × (code ≤ 1999))
-    -- no link was read beside the clients
-    (none_read : drun.readers ≡ []) where
+    (bounds : (client number name code : ℕ) → IsOperation (setup ∷ clients) outcomes client number (ops.Fail name code) → (1500 ≤ code) × (code ≤ 1999)) where
   abbrev q : id_plan.Plan
   q = ids_of p slots
 
@@ -132,6 +132,11 @@ module _ {O : Type 0} {g : Ghosts O} {state : O → OutState} {p : Plan} {slots 
 
   abbrev orders_here : ℕ → Order
   orders_here = orders drun differ
+
+  -- why the message of attempt n of this call was dropped with this code
+  abbrev WhyDroppedWith : ℕ → Asked → ℕ → ℕ → Type 0
+  WhyDroppedWith client asked code n = ((code ≡ EFAILEDSOCKET) × WhyLost p every outcomes fixed_here gave orders_here client asked.operation n (name_of asked n))
+      ⊎ (((1500 ≤ code) × (code ≤ 1999) × IsFailedWith p every outcomes fixed_here gave orders_here (name_of asked n) code) ⊎ IsReadCode code)
 
   -- ## What is left of a drop
 
@@ -178,22 +183,28 @@ module _ {O : Type 0} {g : Ghosts O} {state : O → OutState} {p : Plan} {slots 
         let still = k.still.marks f (λ z. refl) i in let all = has_marks drun k.act f (λ z. refl) i in let met = w.drop.wrote.met in
         linked_made drun i version_there link (drun.closed.closing.met_linked i version_there link w.inside (omega (arith, still, all, met)))
 
-    -- the code is EFAILEDSOCKET, or that of a `fail` of the name of its life
-    by_code : (name link : ℕ) → MadeHere drun name link slot_there version_there → (code ≡ EFAILEDSOCKET) ⊎ FailsWith drun name code
+    -- the code is EFAILEDSOCKET, that of a `fail` of the name of its life, or that of whoever read the link
+    by_code : (name link : ℕ) → MadeHere drun name link slot_there version_there → (code ≡ EFAILEDSOCKET) ⊎ (FailsWith drun name code ⊎ IsReadCode code)
     by_code name link made = let d = w.drop.code_is in dite (ℕ_discrete d.word 0)
         (λ z. inl (w.code_is ∙ (d.code_is ∙ ap (λ b. cond b EFAILEDSOCKET d.word) (eq-eqb d.word 0 z))))
         (λ ne. (
         let i = slot_there in let h = version_there in let k = kept_there in
         let is : code ≡ d.word = w.code_is ∙ (d.code_is ∙ ap (λ b. cond b EFAILEDSOCKET d.word) (ne_eqb d.word 0 ne)) in
         let told_ = k.still.marks (is_told h d.word) (λ z. refl) i in let found = d.noted ne in let saw = k.still.marks (is_saw (h + 1)) (λ z. refl) i in let dead = w.drop.dead in
-        elim (life_code drun k.act name link i h (h + 1) d.word w.inside made (omega (arith, told_, found)) (omega (arith, saw, dead)) (omega arith) none_read) [
+        elim (life_code drun k.act name link i h (h + 1) d.word w.inside made (omega (arith, told_, found)) (omega (arith, saw, dead)) (omega arith)) [
           | inl e ↦ inl (is ∙ e)
-          | inr f ↦ inr (subst (FailsWith drun name) (sym is) f)
+          | inr o ↦ elim o [
+            | inl f ↦ inr (inl (subst (FailsWith drun name) (sym is) f))
+            | inr r ↦ inr (inr (subst IsReadCode (sym is) r.coded))
+          ]
         ]))
 
     -- so it is one with which a call may end
-    pub drop_code : (code ≡ EFAILEDSOCKET) ⊎ ((1500 ≤ code) × (code ≤ 1999))
-    drop_code = let l = its_life in elim (by_code l.0 w.drop.wrote.link l.1) [ inl e ↦ inl e | inr f ↦ inr (bounds f.client f.number l.0 code f.is) ]
+    pub drop_code : (code ≡ EFAILEDSOCKET) ⊎ (((1500 ≤ code) × (code ≤ 1999)) ⊎ IsReadCode code)
+    drop_code = let l = its_life in elim (by_code l.0 w.drop.wrote.link l.1) [
+      | inl e ↦ inl e
+      | inr o ↦ elim o [ inl f ↦ inr (inl (bounds f.client f.number l.0 code f.is)) | inr r ↦ inr (inr r) ]
+    ]
 
     -- ## Which message it is
 
@@ -255,13 +266,13 @@ module _ {O : Type 0} {g : Ghosts O} {state : O → OutState} {p : Plan} {slots 
         its_socket = let d = dropped_at in sent_to drun client asked n d.low task d.position d.entry d.there d.place
 
         abbrev WhyDropped : Type 0
-        WhyDropped = ((code ≡ EFAILEDSOCKET) × WhyLost p every outcomes fixed_here gave orders_here client asked.operation n name) ⊎ ((1500 ≤ code) × (code ≤ 1999) × IsFailedWith p every outcomes fixed_here gave orders_here name code)
+        WhyDropped = WhyDroppedWith client asked code n
 
         by_socket : code ≡ EFAILEDSOCKET → WhyDropped
         by_socket e = let s = its_socket in inl (e, WasFailing dropped_at.entry.link s.slot s.version s.made is_failing)
 
         by_fail : FailsWith drun name code → WhyDropped
-        by_fail f = let b = bounds f.client f.number name code f.is in inr (b.0, b.1, (f.client, record { number = f.number; op = ops.Fail name code }, f.is, refl, f.became))
+        by_fail f = let b = bounds f.client f.number name code f.is in inr (inl (b.0, b.1, (f.client, record { number = f.number; op = ops.Fail name code }, f.is, refl, f.became)))
 
         -- the life of the link that was written is that of the name
         its_name : MadeHere drun name dropped_at.entry.link (socket_id_slot w.life) (socket_id_version w.life)
@@ -272,13 +283,14 @@ module _ {O : Type 0} {g : Ghosts O} {state : O → OutState} {p : Plan} {slots 
             subst (λ (z : ℕ). MadeHere drun name d.entry.link z h) (sym one.0) (subst (λ (z : ℕ). MadeHere drun name d.entry.link s.slot z) (sym one.1) s.made)
 
         its_code : WhyDropped
-        its_code = elim (by_code name dropped_at.entry.link its_name) [ inl e ↦ by_socket e | inr f ↦ by_fail f ]
+        its_code = elim (by_code name dropped_at.entry.link its_name) [
+          | inl e ↦ by_socket e
+          | inr o ↦ elim o [ inl f ↦ by_fail f | inr r ↦ inr (inr r) ]
+        ]
 
   pub dropped_why : (c : ℕ) (x : Client g state p q) → get_elem? crew c ≡ some x → (id code n : ℕ) → WasDropped state p q (deeds_of x) id code n
       → (slot first r j : ℕ) (asked : Asked) → slot < slots → first < 4294967296 → id ≡ slot * 4294967296 + first → get_elem? (notes_of slot notes) j ≡ some (Made first r asked)
       → (client : ℕ) → IsOperation every outcomes client asked.operation (ops.Call asked)
-      → IsDropped p every outcomes fixed_here gave orders_here asked.operation n
-      × (((code ≡ EFAILEDSOCKET) × WhyLost p every outcomes fixed_here gave orders_here client asked.operation n (name_of asked n))
-      ⊎ ((1500 ≤ code) × (code ≤ 1999) × IsFailedWith p every outcomes fixed_here gave orders_here (name_of asked n) code))
+      → IsDropped p every outcomes fixed_here gave orders_here asked.operation n × WhyDroppedWith client asked code n
   dropped_why c x at id code n w slot first r j asked inside low same made client task =
       (is_dropped c x at id code n w slot first r j asked inside low same made, its_code c x at id code n w slot first r j asked inside low same made client task)

@@ -1,5 +1,5 @@
 -- Why the calls failed whose ends the clients of a run told: since an `expire` of them was answered, since their last attempt was lost or dropped, or by whoever read the links.
-use Rattle.std.proofs.Common.{◌≡◌, ℕ, ◌+◌, ◌*◌, ◌/◌, ◌%◌, ◌<◌, ◌≤◌, ◌⊎◌, ◌||◌, ◌==◌, Bool, false, inl, inr, List, ◌∷◌, length, map, ne_eqb, refl, sym, ap, ◌∙◌, subst, arith}
+use Rattle.std.proofs.Common.{◌≡◌, ℕ, ◌+◌, ◌*◌, ◌/◌, ◌%◌, ◌<◌, ◌≤◌, ◌⊎◌, ◌||◌, ◌==◌, Bool, false, inl, inr, List, [], ◌∷◌, length, map, ne_eqb, refl, sym, ap, ◌∙◌, subst, arith}
 use Rattle.std.specs.Prelude.{Option}
 use mathlib.Core.Option.{some}
 use lib.ListN.{get_elem?}
@@ -32,7 +32,8 @@ use Rattle.call_table.specs.declared.errors.Decision.TheVariants as decisions
 use Rattle.expire_told.specs.rpc_client.specs.declared.acting.Told.{Told}
 use Rattle.expire_told.specs.call_errors.specs.Locking.{id_in}
 use Rattle.expire_told.specs.call_errors.specs.Handling.{decision}
-use Rattle.expire_told.specs.call_run.specs.Threads.{Thread, RanOn, MayRunAll, ids_of, opens_of, opened_names, openings}
+use Rattle.expire_told.specs.call_run.specs.Readers.{LinkReader}
+use Rattle.expire_told.specs.call_run.specs.Threads.{Thread, RanWith, RanOn, MayRunAll, ids_of, opens_of, opened_names, openings}
 use Rattle.expire_told.specs.call_places.specs.Counted.{HaveNotesOf}
 use Rattle.expire_told.specs.call_places.specs.Deeds.{Deed}
 use Rattle.expire_told.specs.call_places.proofs.Still.{advances}
@@ -43,13 +44,14 @@ use Rattle.expire_told.specs.call_told.proofs.Lists.{all_at}
 use Rattle.expire_told.specs.call_deeds.specs.Retried.{all_asked}
 use Rattle.expire_told.specs.call_deeds.specs.Scripts.{AllHaveLinks, Reports, AllLater}
 use Rattle.expire_told.specs.call_deeds.proofs.Ran.{AreLater}
+use Rattle.expire_told.specs.call_deeds.proofs.Runs.{seats_are, deed_run}
 use Rattle.expire_told.specs.Said.{AreSaid, HaveKeptOf}
 use Rattle.expire_told.proofs.Making.{mapped_from}
 use Rattle.expire_told.specs.sock_deeds.specs.Runs.{IsOperation, seat_of, DeedRun}
 use Rattle.expire_told.specs.sock_deeds.proofs.Accepting.{log}
 use Rattle.expire_told.specs.sock_deeds.proofs.Orders.{orders, entry_on}
 use Rattle.expire_told.specs.sock_deeds.proofs.Tasks.{same_task}
-use Rattle.expire_told.specs.sock_deeds.proofs.Whole.{fixed}
+use Rattle.expire_told.specs.sock_deeds.proofs.Whole.{fixed, log_accepted}
 use Rattle.attempts_told.specs.Attempts.{last_attempt}
 use Rattle.attempts_told.proofs.Told.{same_asked}
 use Rattle.failed_told.specs.Missed.{id_of, attempt_of}
@@ -58,7 +60,7 @@ use Rattle.failed_told.proofs.Clients.{Says, ended_caused}
 use Rattle.failed_told.proofs.Codes.{IsReadCode}
 use Rattle.failed_told.proofs.Fallen.{Fallen, fell, none_opened}
 use Rattle.failed_told.proofs.Losses.{IsAskedIn}
-use Rattle.failed_told.proofs.Premises.{drun as deeds_of_run, seats as seats_here, logged as logged_here, said_own as said_here, all_there as there_here, asked_so as asked_here, few as few_here}
+use Rattle.failed_told.proofs.Premises.{asked_so as asked_here, few as few_here}
 use Rattle.failed_told.proofs.Single.{sender, made_low}
 use Rattle.failed_told.proofs.Unopened.{unopened_why}
 use Rattle.failed_told.proofs.Verdicts.{last_one, made_so, MissedLast, DroppedLast, timed, lost, fell as dropped_last, behind, verdict, by_expiry, IsAskedSo}
@@ -76,8 +78,8 @@ fail_open code low high = all_false (code == ERPCTIMEDOUT) (code == EEOF) (code 
 
 -- ## The run
 
-module _ {O : Type 0} {g : Ghosts O} {state : O → OutState} {p : Plan} {slots : ℕ} {setup : List Task} {clients : List (List Task)} {opens : List ℕ} {told ended : List (List Told)} {places : List PlaceWord} {vrefs : List Vref} {outs : List O} {ids : List (View Asked)}
-    (run : RanOn g state p slots setup clients opens told ended places vrefs outs ids) (notes : List (Noted Asked)) (outcomes : List (Option Outcome)) (drun : DeedRun g state p (setup ∷ clients) outcomes places vrefs outs) (differ : PlacesDiffer (log drun)) (gave : ℕ → List ℕ) where
+module _ {O : Type 0} {g : Ghosts O} {state : O → OutState} {readers : List (LinkReader g)} {p : Plan} {slots : ℕ} {setup : List Task} {clients : List (List Task)} {opens : List ℕ} {told ended : List (List Told)} {places : List PlaceWord} {vrefs : List Vref} {outs : List O} {ids : List (View Asked)}
+    (run : RanWith g state readers p slots setup clients opens told ended places vrefs outs ids) (notes : List (Noted Asked)) (outcomes : List (Option Outcome)) (drun : DeedRun g state p (setup ∷ clients) outcomes places vrefs outs) (differ : PlacesDiffer (log drun)) (gave : ℕ → List ℕ) where
   -- a message that was dropped is one of the call that was made with its id, and why it was
   abbrev pub TellsDrops : Type 0
   TellsDrops =
@@ -85,10 +87,10 @@ module _ {O : Type 0} {g : Ghosts O} {state : O → OutState} {p : Plan} {slots 
       → (slot first r j : ℕ) (asked : Asked) → slot < slots → first < 4294967296 → id ≡ slot * 4294967296 + first → get_elem? (notes_of slot notes) j ≡ some (Made first r asked)
       → (client : ℕ) → IsOperation (setup ∷ clients) outcomes client asked.operation (ops.Call asked)
       → IsDropped p (setup ∷ clients) outcomes (fixed drun differ gave) gave (orders drun differ) asked.operation n × (((code ≡ EFAILEDSOCKET) × WhyLost p (setup ∷ clients) outcomes (fixed drun differ gave) gave (orders drun differ) client asked.operation n (name_of asked n))
-      ⊎ ((1500 ≤ code) × (code ≤ 1999) × IsFailedWith p (setup ∷ clients) outcomes (fixed drun differ gave) gave (orders drun differ) (name_of asked n) code))
+      ⊎ (((1500 ≤ code) × (code ≤ 1999) × IsFailedWith p (setup ∷ clients) outcomes (fixed drun differ gave) gave (orders drun differ) (name_of asked n) code) ⊎ IsReadCode code))
 
-module _ {O : Type 0} {g : Ghosts O} {state : O → OutState} {p : Plan} {slots : ℕ} {setup : List Task} {clients : List (List Task)} {opens : List ℕ} {told ended : List (List Told)} {places : List PlaceWord} {vrefs : List Vref} {outs : List O} {ids : List (View Asked)}
-    (run : RanOn g state p slots setup clients opens told ended places vrefs outs ids) (tasks : AreTasks p (setup ∷ clients)) (may : MayRunAll p (ids_of p slots) setup clients)
+module _ {O : Type 0} {g : Ghosts O} {state : O → OutState} {readers : List (LinkReader g)} {p : Plan} {slots : ℕ} {setup : List Task} {clients : List (List Task)} {opens : List ℕ} {told ended : List (List Told)} {places : List PlaceWord} {vrefs : List Vref} {outs : List O} {ids : List (View Asked)}
+    (run : RanWith g state readers p slots setup clients opens told ended places vrefs outs ids) (tasks : AreTasks p (setup ∷ clients)) (may : MayRunAll p (ids_of p slots) setup clients)
     (notes : List (Noted Asked)) (kept : List Kept) (words : List ℕ) (closing : Closing (ids_of p slots) notes kept words) (noted : HaveNotesOf ids notes) (keeps : HaveKeptOf ids kept)
     (outcomes : List (Option Outcome)) (said_own : AreSaid outcomes told) (said_ended : AreSaid outcomes ended)
     (others : (i first e : ℕ) → 0 < queued_in i first e notes → (0 < total (λ (v : View Asked). queued_in i first e v.notes) ids) ⊎ IsReadCode (code_of e))
@@ -172,7 +174,7 @@ module _ {O : Type 0} {g : Ghosts O} {state : O → OutState} {p : Plan} {slots 
 
     -- ## Its last attempt was dropped
 
-    by_dropped : (asks : AsksSo) (l : DroppedHere) (client : ℕ) (asked : Asked) → IsOperation every outcomes client operation (ops.Call asked) → FailedHere client asked (id_in e.lock) (last_attempt notes operation)
+    by_dropped : (asks : AsksSo) (l : DroppedHere) (client : ℕ) (asked : Asked) → IsOperation every outcomes client operation (ops.Call asked) → FailedHere client asked (id_in e.lock) (last_attempt notes operation) ⊎ IsReadCode e.code
     by_dropped asks l client asked task =
         let m = made_so run tasks may notes kept words closing noted keeps outcomes said_own said_ended others c x at one e in
         let w = asks e.lock.slot m.1 first (parts e.lock.word.0).range m.0 e.cause.inside m.3 in
@@ -182,15 +184,18 @@ module _ {O : Type 0} {g : Ghosts O} {state : O → OutState} {p : Plan} {slots 
         let fell_here : IsDropped p every outcomes fixed_here gave orders_here operation l.attempt = subst (λ (o : ℕ). IsDropped p every outcomes fixed_here gave orders_here o l.attempt) m.2 h.0 in
         let its : IsIdOf slots notes operation (id_in e.lock) = record { slot = e.lock.slot; first = first; inside = e.cause.inside; low = low; id_is = refl; range = (parts e.lock.word.0).range; asked = m.0; place = m.1; made = m.3; operation = m.2 } in
         let range : (parts e.lock.word.0).range ≡ asked.range = w.2 ∙ ap (λ (a : Asked). a.range) same.1 in
-        by_cause fell_here its range
-        (elim h.1 [
-          | inl a ↦ inl (
+        elim h.1 [
+          | inl a ↦ inl (by_cause fell_here its range (inl (
             a.0,
             subst (λ (o : ℕ). WhyLost p every outcomes fixed_here gave orders_here client o l.attempt (name_of asked l.attempt)) m.2
                 (subst (λ (z : Asked). WhyLost p every outcomes fixed_here gave orders_here client m.0.operation l.attempt (name_of z l.attempt)) same.1 (subst (λ (d : ℕ). WhyLost p every outcomes fixed_here gave orders_here d m.0.operation l.attempt (name_of m.0 l.attempt)) same.0 a.1)),
-          )
-          | inr a ↦ inr (a.0, a.1, subst (λ (z : Asked). IsFailedWith p every outcomes fixed_here gave orders_here (name_of z l.attempt) e.code) same.1 a.2)
-        ])
+          )))
+          | inr o ↦ elim o [
+            | inl a ↦ inl (by_cause fell_here its range (inr (a.0, a.1, subst (λ (z : Asked). IsFailedWith p every outcomes fixed_here gave orders_here (name_of z l.attempt) e.code) same.1 a.2)))
+            -- whoever read its link had set the life failed
+            | inr read ↦ inr read
+          ]
+        ]
       where
         -- with a code that leaves retries it was the last one of the range
         last_of : is_final e.code ≡ false → (parts e.lock.word.0).range ≡ asked.range → l.attempt + 2 ≡ asked.range
@@ -219,7 +224,7 @@ module _ {O : Type 0} {g : Ghosts O} {state : O → OutState} {p : Plan} {slots 
     ended_why asks client asked task = elim (verdict run tasks may notes kept words closing noted keeps outcomes said_own said_ended others c x at one e fixed_here gave orders_here) [
       | timed is was ↦ inl (by_expiry run tasks may notes kept words closing noted keeps outcomes said_own said_ended others c x at one e fixed_here gave orders_here client asked (last_attempt notes operation) is was)
       | lost l ↦ inl (by_lost asks l client asked task)
-      | dropped_last l ↦ inl (by_dropped asks l client asked task)
+      | dropped_last l ↦ by_dropped asks l client asked task
       | behind loss ↦ inr loss
     ]
 
@@ -240,6 +245,27 @@ module _ {O : Type 0} {g : Ghosts O} {state : O → OutState} {p : Plan} {slots 
 
 -- ## By what is known of each run of a script
 
+module _ {O : Type 0} {g : Ghosts O} {state : O → OutState} {readers : List (LinkReader g)} {p : Plan} {slots : ℕ} {setup : List Task} {clients : List (List Task)} {opens : List ℕ} {told ended : List (List Told)} {places : List PlaceWord} {vrefs : List Vref} {outs : List O} {ids : List (View Asked)}
+    (run : RanWith g state readers p slots setup clients opens told ended places vrefs outs ids) (tasks : AreTasks p (setup ∷ clients)) (may : MayRunAll p (ids_of p slots) setup clients)
+    (notes : List (Noted Asked)) (kept : List Kept) (words : List ℕ) (closing : Closing (ids_of p slots) notes kept words) (noted : HaveNotesOf ids notes) (keeps : HaveKeptOf ids kept)
+    (outcomes : List (Option Outcome)) (said_own : AreSaid outcomes told) (said_ended : AreSaid outcomes ended)
+    (later : (c : ℕ) (x : Client g state p (ids_of p slots)) → get_elem? (all_clients run) c ≡ some x → AreLater (setup ∷ clients) outcomes (all_asked x.thread x.is))
+    (others : (i first e : ℕ) → 0 < queued_in i first e notes → (0 < total (λ (v : View Asked). queued_in i first e v.notes) ids) ⊎ IsReadCode (code_of e))
+    (made : (i j f r : ℕ) (asked : Asked) → i < slots → get_elem? (notes_of i notes) j ≡ some (Made f r asked) → (c : ℕ) × IsTask (setup ∷ clients) outcomes c record { number = asked.operation; op = ops.Call asked } × (r ≡ asked.range))
+    (own : (i f n : ℕ) → total (is_attempt f n) (notes_of i notes) ≤ total (λ (v : View Asked). advances i f n v) ids)
+    -- what the seats did at the table of sockets, with readers of links beside them or without
+    (drun : DeedRun g state p (setup ∷ clients) outcomes places vrefs outs) (seats : map seat_of drun.seats ≡ map (λ (x : Thread g). x.ended.seat) (run.ran.main ∷ run.ran.others)) (logged : log drun ≡ run.closed.ordered.log)
+    (differ : PlacesDiffer (log drun)) (gave : ℕ → List ℕ) where
+  -- of each end that is told behind the operations of a client
+  pub ends_with : TellsDrops run notes outcomes drun differ gave → (c i : ℕ) (ts : List Told) (one : Told) → get_elem? ended c ≡ some ts → get_elem? ts i ≡ some one → (client : ℕ) (asked : Asked) → IsOperation (setup ∷ clients) outcomes client one.number (ops.Call asked)
+      → (id code : ℕ) × (one.outcome ≡ CallFailed id code) × (FailedBy p (setup ∷ clients) outcomes (fixed drun differ gave) gave (orders drun differ) client one.number asked id code (last_attempt notes one.number) ⊎ IsReadCode code)
+  ends_with dropped c i ts one at there =
+      let f : Thread g → List Told = λ x. x.ended.calls.told.items in
+      let w = mapped_from (λ (x : Client g state p (ids_of p slots)). f x.thread) (all_clients run) c ts (ap (λ (l : List (List Told)). get_elem? l c) (all_are run f ∙ run.ran.ended_is) ∙ at) in
+      told_why run tasks may notes kept words closing noted keeps outcomes said_own said_ended others drun seats logged differ gave (log_accepted drun differ (λ k. [])) (asked_here run tasks may notes kept words closing noted outcomes later) (few_here run tasks may notes kept words closing noted outcomes later made own) dropped made c w.0 w.1 i one
+      (ap (λ (l : List Told). get_elem? l i) w.2 ∙ there)
+
+-- where no link was read beside the clients
 module _ {O : Type 0} {g : Ghosts O} {state : O → OutState} {p : Plan} {slots : ℕ} {setup : List Task} {clients : List (List Task)} {opens : List ℕ} {told ended : List (List Told)} {places : List PlaceWord} {vrefs : List Vref} {outs : List O} {ids : List (View Asked)}
     (run : RanOn g state p slots setup clients opens told ended places vrefs outs ids) (tasks : AreTasks p (setup ∷ clients)) (may : MayRunAll p (ids_of p slots) setup clients)
     (notes : List (Noted Asked)) (kept : List Kept) (words : List ℕ) (closing : Closing (ids_of p slots) notes kept words) (noted : HaveNotesOf ids notes) (keeps : HaveKeptOf ids kept)
@@ -251,13 +277,8 @@ module _ {O : Type 0} {g : Ghosts O} {state : O → OutState} {p : Plan} {slots 
     (made : (i j f r : ℕ) (asked : Asked) → i < slots → get_elem? (notes_of i notes) j ≡ some (Made f r asked) → (c : ℕ) × IsTask (setup ∷ clients) outcomes c record { number = asked.operation; op = ops.Call asked } × (r ≡ asked.range))
     (own : (i f n : ℕ) → total (is_attempt f n) (notes_of i notes) ≤ total (λ (v : View Asked). advances i f n v) ids) (differ : PlacesDiffer run.closed.ordered.log) (gave : ℕ → List ℕ) where
   abbrev drun : DeedRun g state p (setup ∷ clients) outcomes places vrefs outs
-  drun = deeds_of_run run tasks may notes kept words closing noted outcomes long reports links main_later others_later later
+  drun = deed_run run outcomes tasks may links long reports main_later others_later
 
-  -- of each end that is told behind the operations of a client
   pub ends_told : TellsDrops run notes outcomes drun differ gave → (c i : ℕ) (ts : List Told) (one : Told) → get_elem? ended c ≡ some ts → get_elem? ts i ≡ some one → (client : ℕ) (asked : Asked) → IsOperation (setup ∷ clients) outcomes client one.number (ops.Call asked)
       → (id code : ℕ) × (one.outcome ≡ CallFailed id code) × (FailedBy p (setup ∷ clients) outcomes (fixed drun differ gave) gave (orders drun differ) client one.number asked id code (last_attempt notes one.number) ⊎ IsReadCode code)
-  ends_told dropped c i ts one at there =
-      let f : Thread g → List Told = λ x. x.ended.calls.told.items in
-      let w = mapped_from (λ (x : Client g state p (ids_of p slots)). f x.thread) (all_clients run) c ts (ap (λ (l : List (List Told)). get_elem? l c) (all_are run f ∙ run.ran.ended_is) ∙ at) in
-      told_why run tasks may notes kept words closing noted keeps outcomes (said_here run tasks may notes kept words closing noted outcomes long reports links main_later others_later later) said_ended others drun (seats_here run tasks may notes kept words closing noted outcomes long reports links main_later others_later later) (logged_here run tasks may notes kept words closing noted outcomes long reports links main_later others_later later) differ gave (there_here run tasks may notes kept words closing noted outcomes long reports links main_later others_later later differ) (asked_here run tasks may notes kept words closing noted outcomes long reports links main_later others_later later)
-      (few_here run tasks may notes kept words closing noted outcomes long reports links main_later others_later later made own) dropped made c w.0 w.1 i one (ap (λ (l : List Told). get_elem? l i) w.2 ∙ there)
+  ends_told = ends_with run tasks may notes kept words closing noted keeps outcomes reports.said said_ended later others made own drun (seats_are run outcomes tasks may links long reports main_later others_later) refl differ gave

@@ -39,7 +39,8 @@ use Rattle.corr_id.specs.Calls.{slot_of}
 use Rattle.corr_id.specs.Closing.{Closing}
 use Rattle.expire_told.specs.rpc_client.specs.declared.acting.Told.{Told}
 use Rattle.expire_told.specs.call_attempts.specs.Retrying.{IsStray}
-use Rattle.expire_told.specs.call_run.specs.Threads.{Thread, RanOn, MayRunAll, ids_of}
+use Rattle.expire_told.specs.call_run.specs.Readers.{LinkReader}
+use Rattle.expire_told.specs.call_run.specs.Threads.{Thread, RanWith, MayRunAll, ids_of}
 use Rattle.expire_told.specs.call_places.specs.Counted.{HaveNotesOf}
 use Rattle.expire_told.specs.call_places.specs.Deeds.{Deed}
 use Rattle.expire_told.specs.call_places.proofs.Weights.{two_terms, mapped}
@@ -138,8 +139,8 @@ module _ {O : Type 0} {g : Ghosts O} {state : O → OutState} {p : Plan} {every 
 
 -- ## The run
 
-module _ {O : Type 0} {g : Ghosts O} {state : O → OutState} {p : Plan} {slots : ℕ} {setup : List Task} {clients : List (List Task)} {opens : List ℕ} {told ended : List (List Told)} {places : List PlaceWord} {vrefs : List Vref} {outs : List O} {ids : List (View Asked)}
-    (run : RanOn g state p slots setup clients opens told ended places vrefs outs ids) (tasks : AreTasks p (setup ∷ clients)) (may : MayRunAll p (ids_of p slots) setup clients)
+module _ {O : Type 0} {g : Ghosts O} {state : O → OutState} {readers : List (LinkReader g)} {p : Plan} {slots : ℕ} {setup : List Task} {clients : List (List Task)} {opens : List ℕ} {told ended : List (List Told)} {places : List PlaceWord} {vrefs : List Vref} {outs : List O} {ids : List (View Asked)}
+    (run : RanWith g state readers p slots setup clients opens told ended places vrefs outs ids) (tasks : AreTasks p (setup ∷ clients)) (may : MayRunAll p (ids_of p slots) setup clients)
     (notes : List (Noted Asked)) (kept : List Kept) (words : List ℕ) (closing : Closing (ids_of p slots) notes kept words) (noted : HaveNotesOf ids notes) (outcomes : List (Option Outcome))
     -- what the seats did at the table of sockets
     (drun : DeedRun g state p (setup ∷ clients) outcomes places vrefs outs) (seats : map seat_of drun.seats ≡ map (λ (x : Thread g). x.ended.seat) (run.ran.main ∷ run.ran.others)) (logged : log drun ≡ run.closed.ordered.log) (differ : PlacesDiffer (log drun)) (gave : ℕ → List ℕ)

@@ -1,5 +1,5 @@
 -- Whose an accepted message is, by its owner: nobody's, or that of the call of the operation in its label, whose id the owner is.
-use Rattle.std.proofs.Common.{◌≡◌, ℕ, ◌+◌, ◌*◌, ◌≤◌, ◌⊎◌, inl, inr, List, ◌∷◌, Some, None, zero-le, sym, ap, ◌∙◌, subst, arith}
+use Rattle.std.proofs.Common.{◌≡◌, ℕ, ◌+◌, ◌*◌, ◌≤◌, ◌⊎◌, inl, inr, List, ◌∷◌, map, Some, None, zero-le, sym, ap, ◌∙◌, subst, arith}
 use Rattle.std.specs.Prelude.{Option}
 use mathlib.Core.Option.{some}
 use lib.ListN.{get_elem?}
@@ -34,7 +34,8 @@ use Rattle.expire_told.specs.call_attempts.specs.Attempting.{DeliveredBy, went_o
 use Rattle.expire_told.specs.call_attempts.specs.Letters.{letter_for}
 use Rattle.expire_told.specs.call_attempts.specs.Retrying.{WentTo, stray, unopened, to_socket, had_ended, overtaken, went_again}
 use Rattle.expire_told.specs.call_client.specs.Acting.{Stand, both_of, Acted}
-use Rattle.expire_told.specs.call_run.specs.Threads.{RanOn, MayRunAll, ids_of}
+use Rattle.expire_told.specs.call_run.specs.Readers.{LinkReader}
+use Rattle.expire_told.specs.call_run.specs.Threads.{RanWith, MayRunAll, ids_of}
 use Rattle.expire_told.specs.call_places.specs.Counted.{HaveNotesOf}
 use Rattle.expire_told.specs.call_places.specs.Deeds.{Deed, operates, retries, delivered_entries, attempt_entries, went_entries, acted_entries, entries_of}
 use Rattle.expire_told.specs.call_places.proofs.Clients.{Client, view_of, tasks_of, deeds_of, own_of}
@@ -46,7 +47,7 @@ use Rattle.expire_told.specs.call_told.proofs.Lists.{all_at}
 use Rattle.expire_told.proofs.Making.{mapped_from}
 use Rattle.expire_told.specs.sock_deeds.proofs.Entries.{before}
 use Rattle.expire_told.specs.sock_deeds.proofs.Flats.{flat_from}
-use Rattle.attempts_told.proofs.Senders.{HasMade, IsNoted, all_noted}
+use Rattle.attempts_told.proofs.Senders.{behind_empty, HasMade, IsNoted, all_noted}
 use Rattle.failed_told.proofs.Single.{none_there, one_there, within, again_id, first_id}
 
 -- ## The heading of a frame
@@ -67,8 +68,8 @@ module _ {O : Type 0} (state : O → OutState) (p : Plan) (q : id_plan.Plan) whe
 
 -- ## The run
 
-module _ {O : Type 0} {g : Ghosts O} {state : O → OutState} {p : Plan} {slots : ℕ} {setup : List Task} {clients : List (List Task)} {opens : List ℕ} {told ended : List (List Told)} {places : List PlaceWord} {vrefs : List Vref} {outs : List O} {ids : List (View Asked)}
-    (run : RanOn g state p slots setup clients opens told ended places vrefs outs ids) (tasks : AreTasks p (setup ∷ clients)) (may : MayRunAll p (ids_of p slots) setup clients)
+module _ {O : Type 0} {g : Ghosts O} {state : O → OutState} {readers : List (LinkReader g)} {p : Plan} {slots : ℕ} {setup : List Task} {clients : List (List Task)} {opens : List ℕ} {told ended : List (List Told)} {places : List PlaceWord} {vrefs : List Vref} {outs : List O} {ids : List (View Asked)}
+    (run : RanWith g state readers p slots setup clients opens told ended places vrefs outs ids) (tasks : AreTasks p (setup ∷ clients)) (may : MayRunAll p (ids_of p slots) setup clients)
     (notes : List (Noted Asked)) (kept : List Kept) (words : List ℕ) (closing : Closing (ids_of p slots) notes kept words) (noted : HaveNotesOf ids notes) where
   abbrev q : id_plan.Plan
   q = ids_of p slots
@@ -121,7 +122,8 @@ module _ {O : Type 0} {g : Ghosts O} {state : O → OutState} {p : Plan} {slots 
   pub owned_by : (k : ℕ) (e : Entry) → get_elem? run.closed.ordered.log k ≡ some e → Owned e
   owned_by k e logged =
       let a = log.authored p run.closed.view.found run.closed.view.lists run.closed.ordered k e logged in
-      let y = mapped_from own_of crew a.seat _ (ap (λ l. get_elem? l a.seat) (sym (lists_are run)) ∙ a.list) in
+      let j = behind_empty readers (map own_of crew) a.seat _ _ e (ap (λ (l : List (List Entry)). get_elem? l a.seat) (sym (lists_are run)) ∙ a.list) a.place in
+      let y = mapped_from own_of crew j.0 _ j.1 in
       let m : ℕ = before a.author run.closed.ordered.by k in
       let own = flat_from entries_of (deeds_of y.0) m e (subst (λ (l : List Entry). get_elem? l m ≡ some e) (sym y.2) a.place) in
-      deed_owned a.seat y.0 y.1 own.0 own.1 own.2 own.3 e own.4
+      deed_owned j.0 y.0 y.1 own.0 own.1 own.2 own.3 e own.4

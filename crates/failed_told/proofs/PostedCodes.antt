@@ -31,7 +31,8 @@ use Rattle.expire_told.specs.rpc_client.specs.declared.acting.Told.{Told}
 use Rattle.expire_told.specs.call_errors.specs.Books.{Books, CallStand}
 use Rattle.expire_told.specs.call_errors.specs.Posting.{PostedAs}
 use Rattle.expire_told.specs.call_errors.specs.Asking.{found_id, outcome_by, TimedOut}
-use Rattle.expire_told.specs.call_run.specs.Threads.{Thread, RanOn, MayRunAll, ids_of}
+use Rattle.expire_told.specs.call_run.specs.Readers.{LinkReader}
+use Rattle.expire_told.specs.call_run.specs.Threads.{Thread, RanWith, MayRunAll, ids_of}
 use Rattle.expire_told.specs.call_places.specs.Counted.{HaveNotesOf}
 use Rattle.expire_told.specs.call_told.proofs.Resting.{is_word}
 use Rattle.expire_told.specs.sock_deeds.specs.Runs.{IsOperation, seat_of, DeedRun}
@@ -43,7 +44,7 @@ use Rattle.expire_told.proofs.Expires.{IsMade, made_of, expire_made, found_maker
 use Rattle.expire_told.proofs.Expiring.{timed_out_word}
 use Rattle.failed_told.proofs.Codes.{IsReadCode}
 use Rattle.failed_told.proofs.Drops.{drop_code}
-use Rattle.failed_told.proofs.Queued.{WasDropCode, queued_code}
+use Rattle.failed_told.proofs.Queued.{read_posted, WasDropCode, queued_code}
 use Rattle.failed_told.proofs.Single.{within}
 use Rattle.failed_told.proofs.Views.{queued_in}
 
@@ -60,14 +61,14 @@ same_codes : (a b c d : ℕ) → outcome.Crowded a b ≡ outcome.Crowded c d →
 unfolding first_in second_in
 same_codes a b c d e = (sym (ap first_in e), sym (ap second_in e))
 
-module _ {O : Type 0} {g : Ghosts O} {state : O → OutState} {p : Plan} {slots : ℕ} {setup : List Task} {clients : List (List Task)} {opens : List ℕ} {told ended : List (List Told)} {places : List PlaceWord} {vrefs : List Vref} {outs : List O} {ids : List (View Asked)}
-    (run : RanOn g state p slots setup clients opens told ended places vrefs outs ids) (tasks : AreTasks p (setup ∷ clients)) (may : MayRunAll p (ids_of p slots) setup clients)
+module _ {O : Type 0} {g : Ghosts O} {state : O → OutState} {readers : List (LinkReader g)} {p : Plan} {slots : ℕ} {setup : List Task} {clients : List (List Task)} {opens : List ℕ} {told ended : List (List Told)} {places : List PlaceWord} {vrefs : List Vref} {outs : List O} {ids : List (View Asked)}
+    (run : RanWith g state readers p slots setup clients opens told ended places vrefs outs ids) (tasks : AreTasks p (setup ∷ clients)) (may : MayRunAll p (ids_of p slots) setup clients)
     (notes : List (Noted Asked)) (kept : List Kept) (words : List ℕ) (closing : Closing (ids_of p slots) notes kept words) (noted : HaveNotesOf ids notes) (keeps : HaveKeptOf ids kept)
     (outcomes : List (Option Outcome)) (said_own : AreSaid outcomes told) (said_ended : AreSaid outcomes ended)
     (others : (i first e : ℕ) → 0 < queued_in i first e notes → (0 < total (λ (v : View Asked). queued_in i first e v.notes) ids) ⊎ IsReadCode (code_of e))
     (drun : DeedRun g state p (setup ∷ clients) outcomes places vrefs outs) (seats : map seat_of drun.seats ≡ map (λ (x : Thread g). x.ended.seat) (run.ran.main ∷ run.ran.others)) (logged : log drun ≡ run.closed.ordered.log) (differ : PlacesDiffer (log drun)) (gave : ℕ → List ℕ)
     (all_there : length (log drun) ≤ all_accepted p.links (orders drun differ)) (few : p.operations ≤ 65536) (few_links : p.links ≤ 65536)
-    (bounds : (client number name code : ℕ) → IsOperation (setup ∷ clients) outcomes client number (ops.Fail name code) → (1500 ≤ code) × (code ≤ 1999)) (none_read : drun.readers ≡ []) where
+    (bounds : (client number name code : ℕ) → IsOperation (setup ∷ clients) outcomes client number (ops.Fail name code) → (1500 ≤ code) × (code ≤ 1999)) where
   abbrev q : id_plan.Plan
   q = ids_of p slots
 
@@ -84,9 +85,9 @@ module _ {O : Type 0} {g : Ghosts O} {state : O → OutState} {p : Plan} {slots 
   PostedHere code = IsPosted p every outcomes fixed_here gave orders_here code
 
   dropped_posted : (code : ℕ) → WasDropCode p every outcomes fixed_here gave orders_here run said_own notes others code → PostedHere code
-  dropped_posted code d = elim (drop_code run tasks may notes kept words closing noted outcomes drun seats logged differ gave all_there few few_links bounds none_read d.place d.client d.in_crew d.id code d.attempt d.drop) [
+  dropped_posted code d = elim (drop_code run tasks may notes kept words closing noted outcomes drun seats logged differ gave all_there few few_links bounds d.place d.client d.in_crew d.id code d.attempt d.drop) [
     | inl e ↦ inl (subst (λ (z : ℕ). Contains (ERPCTIMEDOUT ∷ EFAILEDSOCKET ∷ EEOF ∷ ERESPONSE ∷ EREQUESTS ∷ []) z) (sym e) (contains_from (ERPCTIMEDOUT ∷ EFAILEDSOCKET ∷ EEOF ∷ ERESPONSE ∷ EREQUESTS ∷ []) EFAILEDSOCKET (1, refl)))
-    | inr b ↦ inr b
+    | inr o ↦ elim o [ inl b ↦ inr b | inr r ↦ read_posted p every outcomes fixed_here gave orders_here code r ]
   ]
 
   -- each error that was ever queued has a code that is posted

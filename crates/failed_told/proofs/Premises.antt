@@ -1,5 +1,5 @@
 -- What is asked of a run, so that its clients' failures are told, by what is known of each run of a script.
-use Rattle.std.proofs.Common.{◌≡◌, ℕ, ◌+◌, ◌<◌, ◌≤◌, List, [], ◌∷◌, length, map, refl, subst}
+use Rattle.std.proofs.Common.{◌≡◌, ℕ, ◌+◌, ◌<◌, ◌≤◌, List, ◌∷◌, subst}
 use Rattle.std.specs.Prelude.{Option}
 use Rattle.std.specs.List.{AllByRecursion}
 use mathlib.Core.Option.{some}
@@ -10,11 +10,9 @@ use Rattle.sock_words.specs.declared.outcome.Outcome.{Outcome}
 use Rattle.sock_words.specs.declared.plain.Plan.{Plan}
 use Rattle.sock_words.specs.declared.place_word.PlaceWord.{PlaceWord}
 use Rattle.sock_words.specs.declared.vref.Vref.{Vref}
-use Rattle.expire_told.specs.sock_rule.specs.Closing.{PlacesDiffer}
 use Rattle.seat_programs.specs.declared.task.Op.TheVariants as ops
 use Rattle.seat_programs.specs.declared.task.Task.{Task}
 use Rattle.seat_programs.specs.Told.{AreTasks, IsTask, TaskFits, OpFits}
-use Rattle.seat_programs.specs.ToldCalls.{all_accepted}
 use Rattle.corr_core.specs.Law.{total, is_attempt}
 use Rattle.corr_core.specs.declared.marks.Kept.{Kept}
 use Rattle.corr_core.specs.declared.marks.Note.TheVariants.{Made}
@@ -25,22 +23,18 @@ use Rattle.id_rule.specs.Lawful.{notes_of}
 use Rattle.sock_message.specs.Asked.{Asked}
 use Rattle.corr_id.specs.Closing.{Closing}
 use Rattle.expire_told.specs.rpc_client.specs.declared.acting.Told.{Told}
-use Rattle.expire_told.specs.call_run.specs.Threads.{Thread, RanOn, MayRunAll, ids_of, opens_of, opened_names, openings}
+use Rattle.expire_told.specs.call_run.specs.Readers.{LinkReader}
+use Rattle.expire_told.specs.call_run.specs.Threads.{RanWith, MayRunAll, ids_of}
 use Rattle.expire_told.specs.call_places.specs.Counted.{HaveNotesOf}
 use Rattle.expire_told.specs.call_places.specs.Deeds.{Deed}
 use Rattle.expire_told.specs.call_places.proofs.Still.{advances}
 use Rattle.expire_told.specs.call_places.proofs.Clients.{Client, tasks_of, deeds_of}
 use Rattle.expire_told.specs.call_places.proofs.Places.{all as all_clients}
 use Rattle.expire_told.specs.call_deeds.specs.Retried.{all_asked}
-use Rattle.expire_told.specs.call_deeds.specs.Scripts.{AllHaveLinks, Reports, AllLater}
 use Rattle.expire_told.specs.call_deeds.proofs.Ran.{AreLater}
-use Rattle.expire_told.specs.call_deeds.proofs.Runs.{seats_are, deed_run, same_task}
+use Rattle.expire_told.specs.call_deeds.proofs.Runs.{same_task}
 use Rattle.expire_told.specs.report_fits.proofs.Lists.{has_from, all_at as all_there_in}
-use Rattle.expire_told.specs.Said.{AreSaid}
-use Rattle.expire_told.specs.sock_deeds.specs.Runs.{IsOperation, seat_of, DeedRun}
-use Rattle.expire_told.specs.sock_deeds.proofs.Accepting.{log}
-use Rattle.expire_told.specs.sock_deeds.proofs.Orders.{orders}
-use Rattle.expire_told.specs.sock_deeds.proofs.Whole.{log_accepted}
+use Rattle.expire_told.specs.sock_deeds.specs.Runs.{IsOperation}
 use Rattle.attempts_told.specs.Attempts.{last_attempt}
 use Rattle.attempts_told.proofs.Told.{few as few_attempts}
 use Rattle.failed_told.proofs.Asked.{own_task, asked_task}
@@ -48,13 +42,10 @@ use Rattle.failed_told.proofs.Crew.{is_task, own_call}
 use Rattle.failed_told.proofs.Losses.{IsAskedIn}
 use Rattle.failed_told.proofs.Single.{may_make}
 
-module _ {O : Type 0} {g : Ghosts O} {state : O → OutState} {p : Plan} {slots : ℕ} {setup : List Task} {clients : List (List Task)} {opens : List ℕ} {told ended : List (List Told)} {places : List PlaceWord} {vrefs : List Vref} {outs : List O} {ids : List (View Asked)}
-    (run : RanOn g state p slots setup clients opens told ended places vrefs outs ids) (tasks : AreTasks p (setup ∷ clients)) (may : MayRunAll p (ids_of p slots) setup clients)
-    (notes : List (Noted Asked)) (kept : List Kept) (words : List ℕ) (closing : Closing (ids_of p slots) notes kept words) (noted : HaveNotesOf ids notes)
-    -- what is reported, and that each retry is one of a later attempt of a call
-    (outcomes : List (Option Outcome)) (long : length outcomes ≡ p.operations) (reports : Reports (setup ∷ clients) outcomes told) (links : AllHaveLinks 0 (setup ∷ clients))
-    (main_later : AreLater (setup ∷ clients) outcomes (all_asked run.ran.main run.ran.main_is))
-    (others_later : AllLater (setup ∷ clients) outcomes state p (ids_of p slots) (opened_names run.ran.main.ended.outcomes.items (openings setup)) (opens_of setup) run.ran.others run.ran.others_are)
+module _ {O : Type 0} {g : Ghosts O} {state : O → OutState} {readers : List (LinkReader g)} {p : Plan} {slots : ℕ} {setup : List Task} {clients : List (List Task)} {opens : List ℕ} {told ended : List (List Told)} {places : List PlaceWord} {vrefs : List Vref} {outs : List O} {ids : List (View Asked)}
+    (run : RanWith g state readers p slots setup clients opens told ended places vrefs outs ids) (tasks : AreTasks p (setup ∷ clients)) (may : MayRunAll p (ids_of p slots) setup clients)
+    (notes : List (Noted Asked)) (kept : List Kept) (words : List ℕ) (closing : Closing (ids_of p slots) notes kept words) (noted : HaveNotesOf ids notes) (outcomes : List (Option Outcome))
+    -- each retry is one of a later attempt of a call
     (later : (c : ℕ) (x : Client g state p (ids_of p slots)) → get_elem? (all_clients run) c ≡ some x → AreLater (setup ∷ clients) outcomes (all_asked x.thread x.is)) where
   abbrev q : id_plan.Plan
   q = ids_of p slots
@@ -64,23 +55,6 @@ module _ {O : Type 0} {g : Ghosts O} {state : O → OutState} {p : Plan} {slots 
 
   abbrev every : List (List Task)
   every = setup ∷ clients
-
-  -- what the seats did at the table of sockets
-  abbrev pub drun : DeedRun g state p every outcomes places vrefs outs
-  drun = deed_run run outcomes tasks may links long reports main_later others_later
-
-  pub seats : map seat_of drun.seats ≡ map (λ (x : Thread g). x.ended.seat) (run.ran.main ∷ run.ran.others)
-  seats = seats_are run outcomes tasks may links long reports main_later others_later
-
-  pub logged : log drun ≡ run.closed.ordered.log
-  logged = refl
-
-  pub said_own : AreSaid outcomes told
-  said_own = reports.said
-
-  -- the links accepted all messages of the log
-  pub all_there : (differ : PlacesDiffer (log drun)) → length (log drun) ≤ all_accepted p.links (orders drun differ)
-  all_there differ = log_accepted drun differ (λ k. [])
 
   -- whatever was asked by a call of which an attempt was made is a task
   pub asked_so : (c : ℕ) (x : Client g state p q) → get_elem? crew c ≡ some x → (i : ℕ) (d : Deed g state p q) → get_elem? (deeds_of x) i ≡ some d → (asked : Asked) → IsAskedIn d asked → (client : ℕ) × IsOperation every outcomes client asked.operation (ops.Call asked)

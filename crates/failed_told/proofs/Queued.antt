@@ -21,7 +21,8 @@ use Rattle.corr_core.specs.declared.marks.View.{View}
 use Rattle.corr_core.proofs.Notes.{total_some}
 use Rattle.sock_message.specs.Asked.{Asked}
 use Rattle.expire_told.specs.rpc_client.specs.declared.acting.Told.{Told}
-use Rattle.expire_told.specs.call_run.specs.Threads.{RanOn, ids_of}
+use Rattle.expire_told.specs.call_run.specs.Readers.{LinkReader}
+use Rattle.expire_told.specs.call_run.specs.Threads.{RanWith, ids_of}
 use Rattle.expire_told.specs.call_places.specs.Deeds.{Deed}
 use Rattle.expire_told.specs.call_places.proofs.Clients.{Client, total_map, view_of, deeds_of}
 use Rattle.expire_told.specs.call_places.proofs.Places.{all as all_clients, views_are}
@@ -43,7 +44,7 @@ module _ (p : Plan) (clients : List (List Task)) (outcomes : List (Option Outcom
   listed : (i k code : ℕ) → slice_get codes i ≡ Some k → code ≡ k → PostedHere code
   listed i k code at same = inl (subst (λ (z : ℕ). Contains codes z) (sym same) (contains_from codes k (i, at)))
 
-  read_posted : (code : ℕ) → IsReadCode code → PostedHere code
+  pub read_posted : (code : ℕ) → IsReadCode code → PostedHere code
   read_posted code (inl e) = listed 2 EEOF code refl e
   read_posted code (inr e) = listed 3 ERESPONSE code refl e
 
@@ -56,8 +57,8 @@ module _ (p : Plan) (clients : List (List Task)) (outcomes : List (Option Outcom
   reason_posted {code = code} (missed i d there is backed a b) = inl (miss_posted code (deed_code d code is))
   reason_posted {code = code} (dropped n d z) = inr (n, d)
 
-  module _ {O : Type 0} {g : Ghosts O} {state : O → OutState} {slots : ℕ} {setup : List Task} {others_asked : List (List Task)} {opens : List ℕ} {told ended : List (List Told)} {places : List PlaceWord} {vrefs : List Vref} {outs : List O} {ids : List (View Asked)}
-      (run : RanOn g state p slots setup others_asked opens told ended places vrefs outs ids) (said : AreSaid outcomes told) (notes : List (Noted Asked))
+  module _ {O : Type 0} {g : Ghosts O} {state : O → OutState} {readers : List (LinkReader g)} {slots : ℕ} {setup : List Task} {others_asked : List (List Task)} {opens : List ℕ} {told ended : List (List Told)} {places : List PlaceWord} {vrefs : List Vref} {outs : List O} {ids : List (View Asked)}
+      (run : RanWith g state readers p slots setup others_asked opens told ended places vrefs outs ids) (said : AreSaid outcomes told) (notes : List (Noted Asked))
       (others : (i first e : ℕ) → 0 < queued_in i first e notes → (0 < total (λ (v : View Asked). queued_in i first e v.notes) ids) ⊎ IsReadCode (code_of e)) where
     -- a client dropped a message with this code
     pub record WasDropCode (code : ℕ) : Type 0 where

@@ -1,13 +1,17 @@
 -- Whoever reads the links tells no call to have failed but with one of those codes.
-use Rattle.std.proofs.Common.{◌≡◌, ℕ, zero, suc, ◌+◌, ◌⊎◌, inl, inr, Bool, true, false, List, [], ◌∷◌, ◌++◌, append_assoc, append-nil, Some, None, pos, negsuc, refl, ap, ◌∙◌, subst, sym}
+use Rattle.std.proofs.Common.{◌≡◌, ℕ, zero, suc, ◌+◌, ◌⊎◌, inl, inr, Bool, true, false, List, [], ◌∷◌, ◌++◌, map, append_assoc, append-nil, Some, None, pos, negsuc, refl, ap, ◌∙◌, subst, sym}
 use Rattle.std.specs.Prelude.{Option, ℤ, position, ◌==◌}
 use Rattle.std.specs.List.{AllByRecursion}
-use Rattle.sock_words.specs.Codes.{EEOF, ERESPONSE}
+use Rattle.sock_words.specs.Codes.{ERESPONSE}
 use Rattle.sock_words.specs.Words.{at_word_link}
 use Rattle.sock_words.specs.declared.at_word.AtWord.{AtWord}
 use Rattle.sock_words.specs.declared.outcome.Outcome.{Outcome}
 use Rattle.sock_words.specs.declared.outcome.Outcome.TheVariants.{CallFailed}
+use Rattle.sock_words.specs.declared.plain.Plan as sizes
+use Rattle.sock_words.specs.declared.socket_id.SocketId.{SocketId}
+use Rattle.sock_model.specs.declared.view.View as sock_view
 use Rattle.sock_io.specs.declared.link.Ends.{Ends}
+use Rattle.sock_io.specs.declared.link.Out.{Ghosts}
 use Rattle.sock_io.specs.Link.{OutState, InState}
 use Rattle.corr_core.specs.Word.{Parts, parts}
 use Rattle.corr_core.specs.declared.marks.Plan.{Plan}
@@ -27,8 +31,11 @@ use Rattle.expire_told.specs.call_deeds.specs.rpc_reader.specs.Books.{Books, End
 use Rattle.expire_told.specs.call_deeds.specs.rpc_reader.specs.Met.{slot_in, is_asked, is_for, MetIf, FramesMet}
 use Rattle.expire_told.specs.call_deeds.specs.rpc_reader.specs.Posting.{LostBy, LockLost, PostedTo, PostedIf, PostedAt, PostedAll}
 use Rattle.expire_told.specs.call_deeds.specs.rpc_reader.specs.Reading as reading
-use Rattle.expire_told.specs.call_deeds.specs.rpc_reader.specs.Linked.{ReadServed, ReadLinks}
+use Rattle.expire_told.specs.call_deeds.specs.rpc_reader.specs.Linked.{ReadLinks}
+use Rattle.expire_told.specs.call_deeds.specs.rpc_reader.specs.Running.{ReadLink, ReadIf}
 use Rattle.expire_told.specs.call_deeds.specs.rpc_reader.specs.Resting.{HadEnded, EndedLast, OneEnded, RestEnded}
+use Rattle.expire_told.specs.call_run.specs.Readers.{LinkReader, nothing_read, IsReader}
+use Rattle.expire_told.specs.call_told.proofs.Readers.{AllRead, link_read}
 use Rattle.failed_told.proofs.Behind.{is_no_answer}
 use Rattle.failed_told.proofs.Codes.{IsReadCode}
 use Rattle.failed_told.proofs.Reading.{loss_code}
@@ -134,13 +141,31 @@ module _ (code : ℕ) (loss : IsReadCode code) where
 
 -- ## Links
 
-module _ {O I P : Type 0} (out : O → OutState) (inn : I → InState) (q : Plan) (calls : List ℕ) where
-  link_codes : (link : ℕ) (e e' : Ends O I P) (b b' : Books) → ReadServed out inn q calls link e e' b b' → TellsCodes b b'
-  link_codes link e e' b b' r = let m = r.read.met in let met = r.read.read.met in
-      codes_then b m b' (frames_codes q.slots met.frames b m met.met) (posted_all (reading.code_of r.read.how) (loss_code r.read.how (r.read.calm refl).1) q link calls m b' r.read.posted)
+-- a link was read to its end, and memory was wanting nowhere
+link_codes : (q : Plan) (link : ℕ) (calls : List ℕ) (ending : Bool) (s t : InState) (b b' : Books) → ReadLink q link calls ending false s t b b' → TellsCodes b b'
+link_codes q link calls ending s t b b' r = let m = r.met in let met = r.read.met in
+    codes_then b m b' (frames_codes q.slots met.frames b m met.met) (posted_all (reading.code_of r.how) (loss_code r.how (r.calm refl).1) q link calls m b' r.posted)
 
+module _ {O I P : Type 0} (out : O → OutState) (inn : I → InState) (q : Plan) (calls : List ℕ) where
   pub read_codes : (link : ℕ) (es es' : List (Ends O I P)) (b b' : Books) → ReadLinks out inn q calls link es es' b b' → TellsCodes b b'
   read_codes link [] [] b b' r = codes_same b b' r
-  read_codes link (e ∷ es) (e' ∷ es') b b' r = codes_then b r.0 b' (link_codes link e e' b r.0 r.1) (read_codes (link + 1) es es' r.0 b' r.2)
+  read_codes link (e ∷ es) (e' ∷ es') b b' r = codes_then b r.0 b' (link_codes q link calls true r.1.served (inn e'.inn) b r.0 r.1.read) (read_codes (link + 1) es es' r.0 b' r.2)
   read_codes link [] (e' ∷ es') b b' r = absurd r
   read_codes link (e ∷ es) [] b b' r = absurd r
+
+-- ## Readers beside the clients
+
+if_codes : (q : Plan) (link : ℕ) (calls : List ℕ) (ending : Bool) (s t : InState) (o : Option SocketId) (v w : sock_view.View) (b b' : Books) → ReadIf q link calls ending false s t o v w b b' → TellsCodes b b'
+if_codes q link calls ending s t None v w b b' r = codes_same b b' r.2
+if_codes q link calls ending s t (Some id) v w b b' r = link_codes q link calls ending s t b b' (link_read q link calls ending false s t id.0 v w b b' r)
+
+module _ {O : Type 0} {g : Ghosts O} (p : sizes.Plan) (q : Plan) (calls : List ℕ) where
+  -- whatever a reader told to have failed has one of those codes
+  pub reader_codes : (x : LinkReader g) → IsReader p q calls x → AllByRecursion HasReadCode x.books.told
+  reader_codes x is =
+      let tells : TellsCodes nothing_read x.books = if_codes q x.link calls false x.before x.behind is.ran.id is.ran.noted x.seat.me.0 nothing_read x.books is.ran.read in
+      subst (AllByRecursion HasReadCode) (sym tells.1) tells.2
+
+  pub readers_codes : (xs : List (LinkReader g)) → AllRead p q calls xs → AllByRecursion (AllByRecursion HasReadCode) (map (λ (x : LinkReader g). x.books.told) xs)
+  readers_codes [] a = tt
+  readers_codes (x ∷ xs) a = (reader_codes x a.0, readers_codes xs a.1)

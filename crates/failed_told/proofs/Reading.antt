@@ -1,13 +1,18 @@
 -- Whoever reads the links queues no errors but those with which calls end then.
-use Rattle.std.proofs.Common.{◌≡◌, ℕ, ◌+◌, ◌*◌, ◌/◌, ◌<◌, ◌⊎◌, inl, inr, Bool, true, false, List, [], ◌∷◌, flat_map, Some, None, refl, ap, ◌∙◌, subst, sym, arith}
+use Rattle.std.proofs.Common.{◌≡◌, ℕ, ◌+◌, ◌*◌, ◌/◌, ◌<◌, ◌⊎◌, inl, inr, Bool, true, false, List, [], ◌∷◌, ◌++◌, flat_map, map, Some, None, refl, ap, ◌∙◌, subst, sym, arith}
 use Rattle.std.specs.Prelude.{Option, position, ◌==◌, nat_lt, if◌then◌else◌}
+use Rattle.std.specs.List.{AllByRecursion}
 use mathlib.Core.Logic.{dite}
-use native.Mathlib.Decide.{ℕ_discrete}
+use native.Mathlib.Decide.{ℕ_discrete, dec_lt}
 use Rattle.sock_words.specs.Words.{at_word_link, at_word_attempt}
 use Rattle.sock_words.specs.declared.at_word.AtWord.{AtWord}
 use Rattle.sock_words.specs.declared.outcome.Outcome.{Outcome}
 use Rattle.sock_words.specs.declared.outcome.Outcome.TheVariants.{CallFailed}
+use Rattle.sock_words.specs.declared.plain.Plan as sizes
+use Rattle.sock_words.specs.declared.socket_id.SocketId.{SocketId}
+use Rattle.sock_model.specs.declared.view.View as sock_view
 use Rattle.sock_io.specs.declared.link.Ends.{Ends}
+use Rattle.sock_io.specs.declared.link.Out.{Ghosts}
 use Rattle.sock_io.specs.Link.{OutState, InState}
 use Rattle.corr_core.specs.Word.{Parts, parts, code_of}
 use Rattle.corr_core.specs.Law.{total, is_queued}
@@ -16,6 +21,7 @@ use Rattle.corr_core.specs.declared.marks.Note.TheVariants.{Queued}
 use Rattle.corr_core.specs.declared.marks.Noted.{Noted}
 use Rattle.corr_core.specs.declared.marks.Plan.{Plan}
 use Rattle.corr_core.specs.declared.marks.View.{View}
+use Rattle.corr_core.proofs.Notes.{total_some}
 use Rattle.id_rule.specs.Lawful.{at_index, call_index, notes_of, with_kept}
 use Rattle.sock_message.specs.Asked.{Asked}
 use Rattle.corr_id.specs.declared.posts.Posted.{Posted}
@@ -33,9 +39,12 @@ use Rattle.expire_told.specs.call_deeds.specs.rpc_reader.specs.Posting.{LostBy, 
 use Rattle.expire_told.specs.call_deeds.specs.rpc_reader.specs.declared.reading.How.{How}
 use Rattle.expire_told.specs.call_deeds.specs.rpc_reader.specs.declared.reading.How.TheVariants as how
 use Rattle.expire_told.specs.call_deeds.specs.rpc_reader.specs.Reading as reading
-use Rattle.expire_told.specs.call_deeds.specs.rpc_reader.specs.Linked.{ReadServed, ReadLinks}
-use Rattle.expire_told.specs.call_deeds.specs.rpc_reader.specs.Running.{is_starved}
+use Rattle.expire_told.specs.call_deeds.specs.rpc_reader.specs.Linked.{ReadLinks}
+use Rattle.expire_told.specs.call_deeds.specs.rpc_reader.specs.Running.{is_starved, ReadLink, ReadIf}
 use Rattle.expire_told.specs.call_deeds.specs.rpc_reader.specs.Resting.{HadEnded, EndedLast, OneEnded, RestEnded}
+use Rattle.expire_told.specs.call_run.specs.Readers.{LinkReader, nothing_read, IsReader}
+use Rattle.expire_told.specs.call_told.proofs.Lists.{all_at}
+use Rattle.expire_told.specs.call_told.proofs.Readers.{AllRead, link_read}
 use Rattle.failed_told.proofs.Codes.{IsReadCode}
 use Rattle.failed_told.proofs.Views.{queued_silent, queued_in, Stays, queued_one, same_stays, quiet_stays, kept_stays, ended_stays, got_stays}
 
@@ -147,14 +156,15 @@ module _ (code : ℕ) where
 
 -- ## Links
 
-module _ {O I P : Type 0} (out : O → OutState) (inn : I → InState) (q : Plan) (calls : List ℕ) where
-  link_queues : (link : ℕ) (e e' : Ends O I P) (b b' : Books) → ReadServed out inn q calls link e e' b b' → Queues b.view b'.view
-  link_queues link e e' b b' r = let m = r.read.met in let met = r.read.read.met in
-      queues_then b.view m.view b'.view (frames_queues q.slots met.frames b m met.met) (posted_all (reading.code_of r.read.how) (loss_code r.read.how (r.read.calm refl).1) q link calls m b' r.read.posted)
+-- a link was read to its end, and memory was wanting nowhere
+link_queues : (q : Plan) (link : ℕ) (calls : List ℕ) (ending : Bool) (s t : InState) (b b' : Books) → ReadLink q link calls ending false s t b b' → Queues b.view b'.view
+link_queues q link calls ending s t b b' r = let m = r.met in let met = r.read.met in
+    queues_then b.view m.view b'.view (frames_queues q.slots met.frames b m met.met) (posted_all (reading.code_of r.how) (loss_code r.how (r.calm refl).1) q link calls m b' r.posted)
 
+module _ {O I P : Type 0} (out : O → OutState) (inn : I → InState) (q : Plan) (calls : List ℕ) where
   pub read_queues : (link : ℕ) (es es' : List (Ends O I P)) (b b' : Books) → ReadLinks out inn q calls link es es' b b' → Queues b.view b'.view
   read_queues link [] [] b b' r = queues_same b b' r
-  read_queues link (e ∷ es) (e' ∷ es') b b' r = queues_then b.view r.0.view b'.view (link_queues link e e' b r.0 r.1) (read_queues (link + 1) es es' r.0 b' r.2)
+  read_queues link (e ∷ es) (e' ∷ es') b b' r = queues_then b.view r.0.view b'.view (link_queues q link calls true r.1.served (inn e'.inn) b r.0 r.1.read) (read_queues (link + 1) es es' r.0 b' r.2)
   read_queues link [] (e' ∷ es') b b' r = absurd r
   read_queues link (e ∷ es) [] b b' r = absurd r
 
@@ -172,3 +182,34 @@ others_queued vs v w took q i first e h = elim (q.queued i first e h) [
   | inl own ↦ inl (let a = ap (queued_in i first e) took in let b = notes_flat i (is_queued first e) vs in omega (arith, a, b, own))
   | inr loss ↦ inr loss
 ]
+
+-- ## Readers beside the clients
+
+-- all that is noted there as queued has one of those codes
+pub record QueuesRead (v : View Asked) : Type 0 where
+  pub queued : (i first e : ℕ) → 0 < queued_in i first e v.notes → IsReadCode (code_of e)
+
+if_queues : (q : Plan) (link : ℕ) (calls : List ℕ) (ending : Bool) (s t : InState) (o : Option SocketId) (v w : sock_view.View) (b b' : Books) → ReadIf q link calls ending false s t o v w b b' → Queues b.view b'.view
+if_queues q link calls ending s t None v w b b' r = queues_same b b' r.2
+if_queues q link calls ending s t (Some id) v w b b' r = link_queues q link calls ending s t b b' (link_read q link calls ending false s t id.0 v w b b' r)
+
+module _ {O : Type 0} {g : Ghosts O} (p : sizes.Plan) (q : Plan) (calls : List ℕ) where
+  pub reader_queues : (x : LinkReader g) → IsReader p q calls x → QueuesRead x.ids.me.0
+  reader_queues x is =
+      let all : Queues nothing_read.view x.ids.me.0 = subst (Queues nothing_read.view) (sym is.view_is) (if_queues q x.link calls false x.before x.behind is.ran.id is.ran.noted x.seat.me.0 nothing_read x.books is.ran.read) in
+      record { queued = λ i first e h. elim (all.queued i first e h) [ inl none_ ↦ absurd (omega (arith, none_)) | inr loss ↦ loss ] }
+
+  pub readers_queue : (xs : List (LinkReader g)) → AllRead p q calls xs → AllByRecursion QueuesRead (map (λ (x : LinkReader g). x.ids.me.0) xs)
+  readers_queue [] a = tt
+  readers_queue (x ∷ xs) a = (reader_queues x a.0, readers_queue xs a.1)
+
+-- one seat had what all these noted, and those who read links beside them, and then ended the calls that were left: whatever is noted as queued one of the first noted so, or it has one of those codes
+pub others_beside : (vs rs : List (View Asked)) (v w : View Asked) → v.notes ≡ flat_map (λ (x : View Asked). x.notes) (vs ++ rs) → AllByRecursion QueuesRead rs → Queues v w → (i first e : ℕ) → 0 < queued_in i first e w.notes → (0 < total (λ (x : View Asked). queued_in i first e x.notes) vs) ⊎ IsReadCode (code_of e)
+others_beside vs rs v w took read q i first e h =
+    let f : View Asked → ℕ = λ x. queued_in i first e x.notes in
+    elim (others_queued (vs ++ rs) v w took q i first e h) [
+      | inl own ↦ dite (dec_lt 0 (total f vs))
+          (λ lt. inl lt)
+          (λ none_. let parts_ = total_append f vs rs in let r = total_some f rs (omega (arith, own, parts_, none_)) in inr ((all_at QueuesRead rs r.0 r.1 read r.2).queued i first e r.3))
+      | inr loss ↦ inr loss
+    ]

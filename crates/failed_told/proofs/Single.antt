@@ -1,5 +1,5 @@
 -- Each attempt of a call was made by one deed at most; so of one that came to nothing no link accepted the frame.
-use Rattle.std.proofs.Common.{◌≡◌, ℕ, zero, suc, ◌+◌, ◌*◌, ◌/◌, ◌<◌, ◌≤◌, List, [], ◌∷◌, Some, None, refl, sym, ap, ◌∙◌, subst, arith}
+use Rattle.std.proofs.Common.{◌≡◌, ℕ, zero, suc, ◌+◌, ◌*◌, ◌/◌, ◌<◌, ◌≤◌, List, [], ◌∷◌, map, Some, None, refl, sym, ap, ◌∙◌, subst, arith}
 use Rattle.std.specs.Prelude.{Option}
 use Rattle.std.proofs.lemmas.Nat.{div-add-mod'}
 use Rattle.std.proofs.lemmas.Option.{none-some}
@@ -41,7 +41,8 @@ use Rattle.expire_told.specs.call_attempts.specs.Attempting.{DeliveredBy, went_o
 use Rattle.expire_told.specs.call_attempts.specs.Retrying.{Locked, WentAgain, WentTo, stray, unopened, to_socket, had_ended, overtaken, went_again}
 use Rattle.expire_told.specs.call_client.specs.Acting.{Stand, both_of, Acted}
 use Rattle.expire_told.specs.call_client.specs.Running.{MayMakeAll}
-use Rattle.expire_told.specs.call_run.specs.Threads.{RanOn, AllMayRun, MayRunAll, ids_of, opens_of}
+use Rattle.expire_told.specs.call_run.specs.Readers.{LinkReader}
+use Rattle.expire_told.specs.call_run.specs.Threads.{RanWith, AllMayRun, MayRunAll, ids_of, opens_of}
 use Rattle.expire_told.specs.call_places.specs.Counted.{makes, HaveNotesOf}
 use Rattle.expire_told.specs.call_places.specs.Deeds.{Deed, operates, retries, delivered_entries, attempt_entries, went_entries, acted_entries, entries_of}
 use Rattle.expire_told.specs.call_places.proofs.Weights.{term, two_terms, each_less, mapped}
@@ -58,6 +59,7 @@ use Rattle.expire_told.specs.call_told.proofs.Lists.{all_at}
 use Rattle.expire_told.proofs.Making.{mapped_from}
 use Rattle.attempts_told.specs.Attempts.{last_attempt}
 use Rattle.attempts_told.proofs.Last.{none_further}
+use Rattle.attempts_told.proofs.Senders.{behind_empty}
 use Rattle.expire_told.specs.sock_deeds.proofs.Entries.{before}
 use Rattle.expire_told.specs.sock_deeds.proofs.Flats.{flat_from}
 use Rattle.failed_told.specs.Missed.{delivery_missed, attempt_missed, went_missed, acted_missed, acted_id, IsMadeBy, missed_in, id_of, IsBacked, attempt_of}
@@ -170,8 +172,8 @@ may_at p q (us ∷ tss) a (suc j) ts e = may_at p q tss a.1 j ts e
 
 -- ## The run
 
-module _ {O : Type 0} {g : Ghosts O} {state : O → OutState} {p : Plan} {slots : ℕ} {setup : List Task} {clients : List (List Task)} {opens : List ℕ} {told ended : List (List Told)} {places : List PlaceWord} {vrefs : List Vref} {outs : List O} {ids : List (View Asked)}
-    (run : RanOn g state p slots setup clients opens told ended places vrefs outs ids) (tasks : AreTasks p (setup ∷ clients)) (may : MayRunAll p (ids_of p slots) setup clients)
+module _ {O : Type 0} {g : Ghosts O} {state : O → OutState} {readers : List (LinkReader g)} {p : Plan} {slots : ℕ} {setup : List Task} {clients : List (List Task)} {opens : List ℕ} {told ended : List (List Told)} {places : List PlaceWord} {vrefs : List Vref} {outs : List O} {ids : List (View Asked)}
+    (run : RanWith g state readers p slots setup clients opens told ended places vrefs outs ids) (tasks : AreTasks p (setup ∷ clients)) (may : MayRunAll p (ids_of p slots) setup clients)
     (notes : List (Noted Asked)) (kept : List Kept) (words : List ℕ) (closing : Closing (ids_of p slots) notes kept words) (noted : HaveNotesOf ids notes) where
   abbrev q : id_plan.Plan
   q = ids_of p slots
@@ -341,10 +343,11 @@ module _ {O : Type 0} {g : Ghosts O} {state : O → OutState} {p : Plan} {slots 
   pub sender : (o id n : ℕ) → n < 8 → IsIdOf slots notes o id → (k : ℕ) (e : Entry) → get_elem? run.closed.ordered.log k ≡ some e → e.heading.place ≡ 8 * o + n → IsSender o id n e
   sender o id n low is k e logged place =
       let a = log.authored p run.closed.view.found run.closed.view.lists run.closed.ordered k e logged in
-      let y = mapped_from own_of crew a.seat _ (ap (λ l. get_elem? l a.seat) (sym (lists_are run)) ∙ a.list) in
+      let j = behind_empty readers (map own_of crew) a.seat _ _ e (ap (λ (l : List (List Entry)). get_elem? l a.seat) (sym (lists_are run)) ∙ a.list) a.place in
+      let y = mapped_from own_of crew j.0 _ j.1 in
       let m : ℕ = before a.author run.closed.ordered.by k in
       let own = flat_from entries_of (deeds_of y.0) m e (subst (λ (l : List Entry). get_elem? l m ≡ some e) (sym y.2) a.place) in
-      record { place = a.seat; client = y.0; in_crew = y.1; index = own.0; deed = own.1; there = own.2; at = own.3; sent = own.4; attempt = frame_attempt o id n low is a.seat y.0 y.1 own.0 own.1 own.2 own.3 e own.4 place }
+      record { place = j.0; client = y.0; in_crew = y.1; index = own.0; deed = own.1; there = own.2; at = own.3; sent = own.4; attempt = frame_attempt o id n low is j.0 y.0 y.1 own.0 own.1 own.2 own.3 e own.4 place }
 
   -- so the log has no entry with the place index of one that came to nothing
   pub not_accepted : (code : ℕ) (c : ℕ) (x : Client g state p q) → get_elem? crew c ≡ some x → (i : ℕ) (d : Deed g state p q) → get_elem? (deeds_of x) i ≡ some d → missed_in d ≡ Some code → IsBacked (view_of x) d → slot_of (id_of d) < slots

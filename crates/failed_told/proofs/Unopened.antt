@@ -42,7 +42,8 @@ use Rattle.expire_told.specs.call_attempts.specs.Both.{Both}
 use Rattle.expire_told.specs.call_attempts.specs.Calling.{BegunAs}
 use Rattle.expire_told.specs.call_attempts.specs.Retrying.{Locked, WentAgain, had_ended, overtaken, went_again}
 use Rattle.expire_told.specs.call_client.specs.Acting.{Stand, both_of, Acted}
-use Rattle.expire_told.specs.call_run.specs.Threads.{Thread, RanOn, MayRunAll, ids_of, opens_of, opened_names, openings}
+use Rattle.expire_told.specs.call_run.specs.Readers.{LinkReader}
+use Rattle.expire_told.specs.call_run.specs.Threads.{Thread, RanWith, MayRunAll, ids_of, opens_of, opened_names, openings}
 use Rattle.expire_told.specs.call_places.specs.Counted.{makes, HaveNotesOf}
 use Rattle.expire_told.specs.call_places.specs.Deeds.{Deed, operates, retries}
 use Rattle.expire_told.specs.call_places.proofs.Weights.{term, mapped, noted_at}
@@ -101,8 +102,8 @@ behind_first (t ∷ ts) (suc n) sorted =
 
 -- ## The run
 
-module _ {O : Type 0} {g : Ghosts O} {state : O → OutState} {p : Plan} {slots : ℕ} {setup : List Task} {clients : List (List Task)} {opens : List ℕ} {told ended : List (List Told)} {places : List PlaceWord} {vrefs : List Vref} {outs : List O} {ids : List (View Asked)}
-    (run : RanOn g state p slots setup clients opens told ended places vrefs outs ids) (tasks : AreTasks p (setup ∷ clients)) (may : MayRunAll p (ids_of p slots) setup clients)
+module _ {O : Type 0} {g : Ghosts O} {state : O → OutState} {readers : List (LinkReader g)} {p : Plan} {slots : ℕ} {setup : List Task} {clients : List (List Task)} {opens : List ℕ} {told ended : List (List Told)} {places : List PlaceWord} {vrefs : List Vref} {outs : List O} {ids : List (View Asked)}
+    (run : RanWith g state readers p slots setup clients opens told ended places vrefs outs ids) (tasks : AreTasks p (setup ∷ clients)) (may : MayRunAll p (ids_of p slots) setup clients)
     (notes : List (Noted Asked)) (kept : List Kept) (words : List ℕ) (closing : Closing (ids_of p slots) notes kept words) (noted : HaveNotesOf ids notes)
     (outcomes : List (Option Outcome)) (said : AreSaid outcomes told) where
   abbrev q : id_plan.Plan

@@ -16,7 +16,7 @@ use Rattle.corr_core.specs.Law.{total, is_attempt}
 use Rattle.corr_core.specs.declared.marks.Noted.{Noted}
 use Rattle.corr_core.specs.declared.marks.Plan as id_plan
 use Rattle.corr_core.specs.declared.marks.View.{View}
-use Rattle.id_rule.specs.Lawful.{notes_of}
+use Rattle.script_calls.specs.id_rule.specs.Lawful.{notes_of}
 use Rattle.sock_message.specs.Asked.{Asked}
 use Rattle.seat_programs.specs.sock_model.specs.declared.chain.Entry.{Entry}
 use Rattle.seat_programs.specs.declared.task.Op.TheVariants as ops
@@ -92,7 +92,7 @@ module _ (P : Type 0) {O I : Type 0} (g : Ghosts O) (out : O → OutState) (inn 
       (subst (AllMade (IsOfCall all)) (notes_of_seats view_of r.ids)
       (ids_made (IsOfCall all) out p q r.left.setup r.left.clients (opens script) r.told r.ended r.left.ran.seats (map view_of r.ids) r.left.ran.ran (all_of_calls all owns)))
 
-  are_ids : AreIds q last.notes last.kept r.rest.words r.rest.closing all outcomes
+  pub are_ids : AreIds q last.notes last.kept r.rest.words r.rest.closing all outcomes
   are_ids = numbers.are_ids r.left.ran script r.left.tasks (sockets.are P g out inn bytes script reads text links r) (sockets.may P g out inn bytes script reads text links r) last r.rest.words r.rest.closing r.rest.low (sockets.have P g out inn bytes script reads text links r) made
       (r.ended ++ r.read) r.last (sockets.end_told P g out inn bytes script reads text links r)
 

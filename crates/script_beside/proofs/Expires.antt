@@ -1,4 +1,4 @@
--- Why each `expire` of a script has its outcome whose links were read beside its clients.
+-- What is told of the calls of a script whose links were read beside its clients.
 use Rattle.std.proofs.Common.{◌≡◌, ℕ, List, [], ◌∷◌, ◌++◌, flat_map, map, Option, Ok, refl, sym, ap, ◌∙◌, subst}
 use mathlib.Core.Option.{some}
 use lib.ListN.{get_elem?}
@@ -25,6 +25,7 @@ use Rattle.seat_programs.specs.ToldCalls.{Order, Fixed}
 use Rattle.rpc_client.specs.declared.acting.Told.{Told}
 use Rattle.rpc_reader.specs.Books.{Books}
 use Rattle.call_run.specs.Readers.{LinkReader}
+use Rattle.script_calls.specs.attempts_told.specs.Attempts.{last_attempt}
 use Rattle.script_calls.specs.call_whys.specs.call_told.specs.Least.{HasBegun}
 use Rattle.script_calls.specs.call_whys.specs.call_told.specs.Once.{ToldOnce}
 use Rattle.script_calls.specs.call_whys.specs.call_told.proofs.Beside.{once_beside}
@@ -44,13 +45,13 @@ use Rattle.script_calls.proofs.Said.{in_front}
 use Rattle.script_calls.proofs.Shown.{view_of, flat_mapped}
 use Rattle.script_calls.proofs.Sockets.{map_twice}
 use Rattle.script_calls.proofs.Tellers as tellers
-use Rattle.script_beside.specs.Calls.{AreCallsBeside}
+use Rattle.script_calls.specs.Told.{AreCallsTold}
 use Rattle.script_beside.specs.Told.{seated_plan, seated_ids, IsBesideRun}
 use Rattle.script_beside.proofs.Attempts.{calls_apart}
+use Rattle.script_beside.proofs.Failing.{failed, again, expires}
 use Rattle.script_beside.proofs.Left.{all_seats, early_of, notes_of, kept_of}
 use Rattle.script_beside.proofs.Sockets as sockets
 use Rattle.script_beside.proofs.Telling.{keeps, of_calls, said, said_ended, begun_not}
-use Rattle.script_beside.proofs.Widened.{still_expired}
 
 module _ (P : Type 0) {O I : Type 0} (g : Ghosts O) (out : O → OutState) (inn : I → InState) (bytes : List ℕ) (script : List Item) (reads : script_of bytes ≡ Ok script) (text : List ℕ) (links : List LinkEnd) (r : IsBesideRun P g out inn script text links) where
   abbrev p : Plan
@@ -72,17 +73,19 @@ module _ (P : Type 0) {O I : Type 0} (g : Ghosts O) (out : O → OutState) (inn 
     abbrev by_link : ℕ → Order
     by_link = orders (sockets.run P g out inn bytes script reads text links r) (sockets.differ P g out inn bytes script reads text links r)
 
-    expires : (client of : ℕ) (t : Task) (by : Outcome) → IsTask all outcomes client t → t.op ≡ ops.Expire of → Became all outcomes t.number by → WhyExpired (plan_of script) all outcomes fixed given by_link client t.number of by
-    expires client of t by is op became = still_expired (plan_of script) p.seats all outcomes fixed given by_link client t.number of by
-        (expire_why r.left.ran (sockets.are P g out inn bytes script reads text links r) (sockets.may P g out inn bytes script reads text links r) last.notes last.kept r.rest.words r.rest.closing (sockets.have P g out inn bytes script reads text links r) (keeps P g out inn bytes script reads text links r) outcomes (said P g out inn bytes script reads text links r) (said_ended P g out inn bytes script reads text links r) (begun_not P g out inn bytes script reads text links r)
-        fixed given by_link (of_calls P g out inn bytes script reads text links r) client of t by is op became)
+    -- but for the codes of a crowded id
+    expired : (client of : ℕ) (t : Task) (by : Outcome) → IsTask all outcomes client t → t.op ≡ ops.Expire of → Became all outcomes t.number by → WhyExpired p all outcomes fixed given by_link client t.number of by
+    expired = expire_why r.left.ran (sockets.are P g out inn bytes script reads text links r) (sockets.may P g out inn bytes script reads text links r) last.notes last.kept r.rest.words r.rest.closing (sockets.have P g out inn bytes script reads text links r) (keeps P g out inn bytes script reads text links r) outcomes (said P g out inn bytes script reads text links r) (said_ended P g out inn bytes script reads text links r) (begun_not P g out inn bytes script reads text links r)
+        fixed given by_link (of_calls P g out inn bytes script reads text links r)
 
-    told_here : AreCallsBeside (plan_of script) all outcomes fixed given by_link
+    told_here : AreCallsTold (plan_of script) all outcomes fixed given by_link (last_attempt last.notes)
     told_here = record {
-      expires = expires;
+      expires = λ client of t by is op became. expires P g out inn bytes script reads text links r given client of t by is op became (expired client of t by is op became);
       expired_once = once r.left.ran (sockets.are P g out inn bytes script reads text links r) (sockets.may P g out inn bytes script reads text links r) last.notes last.kept r.rest.words r.rest.closing (sockets.have P g out inn bytes script reads text links r) (keeps P g out inn bytes script reads text links r) outcomes (said P g out inn bytes script reads text links r) (said_ended P g out inn bytes script reads text links r) (begun_not P g out inn bytes script reads text links r);
+      failed = failed P g out inn bytes script reads text links r given;
+      again = again P g out inn bytes script reads text links r given;
       versions = calls_apart P g out inn bytes script reads text links r;
     }
 
-    pub calls_beside : AreCallsBeside (plan_of script) (all_tasks script) outcomes fixed given by_link
-    calls_beside = subst (λ (l : List (List Task)). AreCallsBeside (plan_of script) l outcomes fixed given by_link) r.left.tasks told_here
+    pub calls_beside : AreCallsTold (plan_of script) (all_tasks script) outcomes fixed given by_link (last_attempt last.notes)
+    calls_beside = subst (λ (l : List (List Task)). AreCallsTold (plan_of script) l outcomes fixed given by_link (last_attempt last.notes)) r.left.tasks told_here

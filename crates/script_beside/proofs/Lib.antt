@@ -11,5 +11,8 @@ pub mod Widened
 pub mod Sockets
 pub mod Telling
 pub mod Attempts
+pub mod WideCalls
+pub mod Failing
 pub mod Expires
+pub mod Joins
 pub mod Reports

@@ -26,8 +26,9 @@ use Rattle.script_calls.specs.call_whys.specs.call_told.proofs.Beside.{gave_besi
 use Rattle.script_calls.specs.call_whys.specs.call_told.proofs.Lists.{all_both}
 use Rattle.script_calls.specs.call_whys.specs.call_told.proofs.Making.{AllMade}
 use Rattle.script_calls.specs.call_whys.specs.call_told.proofs.Shown.{shown_once}
+use Rattle.script_calls.specs.call_whys.specs.sock_deeds.proofs.Orders.{orders}
 use Rattle.script_calls.specs.Reading.{IdSeat}
-use Rattle.script_calls.specs.Told.{outcomes_of}
+use Rattle.script_calls.specs.Told.{outcomes_of, AreCallsTold}
 use Rattle.script_calls.proofs.Answered.{failures_have, outcomes_have}
 use Rattle.script_calls.proofs.Asked.{AskFor, all_ask, ids_made, notes_of_seats}
 use Rattle.script_calls.proofs.Clients.{owns, failures}
@@ -35,12 +36,12 @@ use Rattle.script_calls.proofs.Reports.{long_replicate}
 use Rattle.script_calls.proofs.Sayings.{long_each}
 use Rattle.script_calls.proofs.Shown.{view_of, outcomes_few}
 use Rattle.script_beside.specs.Told.{seated_plan, seated_ids, begins_with, IsBesideRun, IsBesideText}
-use Rattle.script_beside.specs.Calls.{AreCallsBeside}
 use Rattle.script_beside.specs.Sockets.{AreSocketsBeside}
+use Rattle.script_beside.proofs.Joins.{joins_told}
 use Rattle.script_beside.proofs.Left.{early_of, notes_of}
-use Rattle.script_beside.proofs.Attempts.{attempts_beside}
+use Rattle.script_beside.proofs.Attempts.{attempts_beside, attempts_last}
 use Rattle.script_beside.proofs.Expires.{calls_beside}
-use Rattle.script_beside.proofs.Sockets.{answered_sockets}
+use Rattle.script_beside.proofs.Sockets.{run, differ, fixed, answered_sockets}
 use Rattle.script_beside.proofs.Telling.{told_once}
 
 module _ (P : Type 0) {O I : Type 0} (out : O → OutState) (inn : I → InState) (g : Ghosts O) (script : List Item) (text : List ℕ) (links : List LinkEnd) (r : IsBesideRun P g out inn script text links) where
@@ -90,13 +91,17 @@ module _ (P : Type 0) {O I : Type 0} (out : O → OutState) (inn : I → InState
       by_readers = subst (AllByRecursion (AllHave (length readers) gave (operations script))) r.left.read_is
           (readers_have p q (calls script) (opens script) readers r.left.readers_are r.ids main r.rest.last (notes_of r.left r.rest) r.rest.rest (early_of r.left) refl r.rest.words r.rest.closing (operations script) made_told)
 
-  -- how many attempts its calls made, and why each `expire` has its outcome
+  -- how many attempts its calls made, and why; why each `expire` has its outcome, and why calls failed
   abbrev AreCalls : Fixed → (ℕ → List ℕ) → (ℕ → Order) → Type 0
-  AreCalls fixed given orders = AreAttemptsTold (plan_of script) (all_tasks script) outcomes fixed given orders × AreCallsBeside (plan_of script) (all_tasks script) outcomes fixed given orders
+  AreCalls fixed given orders = (a : AreAttemptsTold (plan_of script) (all_tasks script) outcomes fixed given orders) × AreCallsTold (plan_of script) (all_tasks script) outcomes fixed given orders a.last
+
+  known : (bytes : List ℕ) (reads : script_of bytes ≡ Ok script) (given : ℕ → List ℕ) → AreCalls (fixed P g out inn bytes script reads text links r) given (orders (run P g out inn bytes script reads text links r) (differ P g out inn bytes script reads text links r))
+  known bytes reads given = (attempts_beside P g out inn bytes script reads text links r given,
+      subst (λ (last : ℕ → ℕ). AreCallsTold (plan_of script) (all_tasks script) outcomes (fixed P g out inn bytes script reads text links r) given (orders (run P g out inn bytes script reads text links r) (differ P g out inn bytes script reads text links r)) last) (sym (attempts_last P g out inn bytes script reads text links r given)) (calls_beside P g out inn bytes script reads text links r given))
 
   -- its answers, by what the links gave, and with them why each operation on sockets has its outcome, and what is told of calls
   told_of : (bytes : List ℕ) → script_of bytes ≡ Ok script → (a : AreAnsweredBy (operations script) outcomes links) × (s : AreSocketsBeside script outcomes r.places a.gave links) × AreCalls (fixed_by s.broken s.early s.fails) a.gave s.orders
-  told_of bytes reads = answered_sockets P g out inn bytes script reads text links r AreCalls (λ given. (attempts_beside P g out inn bytes script reads text links r given, calls_beside P g out inn bytes script reads text links r given))
+  told_of bytes reads = answered_sockets P g out inn bytes script reads text links r AreCalls (known bytes reads)
       (answered_beside p q (calls script) (opens script) readers r.left.readers_are {I = I} {P = P} out inn r.ends r.halves_read r.unread (operations script) outcomes have_answers)
       (answered_gave p q (calls script) (opens script) readers r.left.readers_are {I = I} {P = P} out inn r.ends r.halves_read r.unread (operations script) outcomes have_answers)
 
@@ -111,6 +116,7 @@ module _ (P : Type 0) {O I : Type 0} (out : O → OutState) (inn : I → InState
     sockets = both.1;
     attempts = both.2.0;
     on_calls = both.2.1;
+    joins = joins_told P g out inn bytes script reads text links r (fixed_by both.1.broken both.1.early both.1.fails) both.0.gave both.1.orders;
     once = shown_once q.slots outcomes r.told (tellers ++ r.last ∷ []) (outcomes_few (plan_of script).operations r.told tellers r.last) own_told (told_once P g out inn bytes script reads text links r);
   }
 

@@ -44,12 +44,10 @@ use Rattle.script_calls.proofs.Said.{in_front}
 use Rattle.script_calls.proofs.Shown.{view_of, flat_mapped}
 use Rattle.script_calls.proofs.Sockets.{map_twice}
 use Rattle.script_calls.proofs.Tellers as tellers
-use Rattle.script_beside.specs.Calls.{AreCallsBeside}
 use Rattle.script_beside.specs.Told.{seated_plan, seated_ids, IsBesideRun}
 use Rattle.script_beside.proofs.Attempts.{calls_apart}
 use Rattle.script_beside.proofs.Left.{all_seats, early_of, notes_of, kept_of}
 use Rattle.script_beside.proofs.Sockets as sockets
-use Rattle.script_beside.proofs.Widened.{still_expired}
 
 module _ (P : Type 0) {O I : Type 0} (g : Ghosts O) (out : O → OutState) (inn : I → InState) (bytes : List ℕ) (script : List Item) (reads : script_of bytes ≡ Ok script) (text : List ℕ) (links : List LinkEnd) (r : IsBesideRun P g out inn script text links) where
   abbrev p : Plan

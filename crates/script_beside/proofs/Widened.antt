@@ -1,4 +1,4 @@
--- What is told of sockets and calls over tables with more seats is told of those without them too: nothing of it speaks of seats.
+-- What is told of sockets and attempts over tables with more seats is told of those without them too: nothing of it speaks of seats.
 use Rattle.std.proofs.Common.{◌⊎◌, ℕ, inl, inr, List, Option}
 use Rattle.sock_words.specs.declared.outcome.Outcome.{Outcome}
 use Rattle.sock_words.specs.declared.outcome.Outcome.TheVariants as outcome
@@ -10,7 +10,6 @@ use Rattle.seat_programs.specs.Cores.{Core}
 use Rattle.seat_programs.specs.ToldCalls.{Accepted, Order, Fixed, AreOrders, FoundNone, FoundFailed, IsSent, OfSend, OfCall, Why}
 use Rattle.script_calls.specs.report_fits.proofs.Lists.{all_map}
 use Rattle.script_calls.specs.attempts_told.specs.Attempts.{AreAttemptsTold}
-use Rattle.script_calls.specs.call_whys.specs.expire_told.specs.Said.{WhyExpired}
 use Rattle.script_calls.specs.call_whys.specs.sock_deeds.specs.Told.{IsOfSockets, IsAttempt, ToldSockets}
 
 module _ (p : Plan) (n : ℕ) (clients : List (List Task)) (outcomes : List (Option Outcome)) (fixed : Fixed) (gave : ℕ → List ℕ) (orders : ℕ → Order) where
@@ -21,7 +20,7 @@ module _ (p : Plan) (n : ℕ) (clients : List (List Task)) (outcomes : List (Opt
   orders_still : (c : Core) → AreOrders wide c orders → AreOrders p c orders
   orders_still c h = record { written = h.written; alone = h.alone; within = h.within; taken = h.taken; apart = h.apart }
 
-  none_still : (c o m : ℕ) → FoundNone wide clients outcomes fixed gave orders c o m → FoundNone p clients outcomes fixed gave orders c o m
+  pub none_still : (c o m : ℕ) → FoundNone wide clients outcomes fixed gave orders c o m → FoundNone p clients outcomes fixed gave orders c o m
   none_still c o m h = record { setup = h.setup; own = h.own }
 
   failed_still : (c o m : ℕ) (P : ℕ → Type 0) → FoundFailed wide clients outcomes fixed gave orders c o m P → FoundFailed p clients outcomes fixed gave orders c o m P
@@ -89,18 +88,10 @@ module _ (p : Plan) (n : ℕ) (clients : List (List Task)) (outcomes : List (Opt
     dropped = h.dropped;
   }
 
-  -- the same of attempts, and of each `expire`
+  -- the same of attempts
   abbrev pub still_attempts : AreAttemptsTold wide clients outcomes fixed gave orders → AreAttemptsTold p clients outcomes fixed gave orders
   still_attempts h = record {
     last = h.last;
     few = h.few;
     sent = λ k low. all_map (λ (a : Accepted). IsSent wide clients outcomes fixed gave orders h.last k a) (λ (a : Accepted). IsSent p clients outcomes fixed gave orders h.last k a) (one_still h.last k) (orders k).accepted (h.sent k low);
   }
-
-  pub still_expired : (c o t : ℕ) (by : Outcome) → WhyExpired wide clients outcomes fixed gave orders c o t by → WhyExpired p clients outcomes fixed gave orders c o t by
-  still_expired c o t outcome.Expired w = w
-  still_expired c o t outcome.Queued w = w
-  still_expired c o t outcome.Late w = w
-  still_expired c o t (outcome.Crowded a b) w = w
-  still_expired c o t outcome.NotBegun w = w
-  still_expired c o t other w = absurd w

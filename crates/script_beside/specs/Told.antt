@@ -28,8 +28,8 @@ use Rattle.script_calls.specs.call_whys.specs.call_told.specs.Answers.{AreAnswer
 use Rattle.script_calls.specs.call_whys.specs.call_told.specs.Once.{ShownOnce}
 use Rattle.script_calls.specs.call_whys.specs.sock_deeds.specs.Told.{fixed_by}
 use Rattle.script_calls.specs.Reading.{IdSeat, TookAll}
-use Rattle.script_calls.specs.Told.{outcomes_of, IsReported}
-use Rattle.script_beside.specs.Calls.{AreCallsBeside}
+use Rattle.script_calls.specs.Told.{outcomes_of, IsReported, AreCallsTold}
+use Rattle.script_beside.specs.Joins.{AreJoinsTold}
 use Rattle.script_beside.specs.Sockets.{AreSocketsBeside}
 
 -- the sizes of the tables: a seat for each client and the setup, and one for the reader of each link
@@ -108,7 +108,9 @@ pub record IsBesideText (script : List Item) (text : List ℕ) (ends : List Link
   pub sockets : AreSocketsBeside script outcomes places answered.gave ends
   -- no call made more attempts than it may; and each message that a link accepted is that of a `send` of which nothing is said, or of an attempt of a call, with the id that the call's outcome shows
   pub attempts : AreAttemptsTold (plan_of script) (all_tasks script) outcomes (fixed_by sockets.broken sockets.early sockets.fails) answered.gave sockets.orders
-  -- each `expire` has its cause
-  pub on_calls : AreCallsBeside (plan_of script) (all_tasks script) outcomes (fixed_by sockets.broken sockets.early sockets.fails) answered.gave sockets.orders
+  -- each `expire` has its cause, and so has each call that failed, but where whoever read its link ended it, and each attempt behind another
+  pub on_calls : AreCallsTold (plan_of script) (all_tasks script) outcomes (fixed_by sockets.broken sockets.early sockets.fails) answered.gave sockets.orders attempts.last
+  -- and each `join` has its cause
+  pub joins : AreJoinsTold (plan_of script) (all_tasks script) outcomes (fixed_by sockets.broken sockets.early sockets.fails) answered.gave sockets.orders
   -- no two operations have the end of one call as their outcome, of those whose ids are in the slots that the calls of the script have
   pub once : ShownOnce (length (calls script)) outcomes

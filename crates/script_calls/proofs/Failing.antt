@@ -74,7 +74,7 @@ use Rattle.script_calls.proofs.Versions.{told_own, are_ids, calls_apart}
 -- ## Codes of a script
 
 -- a `fail` of a script has a code that users may give
-fails_within : (bytes : List ℕ) (script : List Item) → script_of bytes ≡ Ok script → (outcomes : List (Option Outcome)) (client : ℕ) (t : Task) (name code : ℕ) → IsTask (all_tasks script) outcomes client t → t.op ≡ ops.Fail name code → (1500 ≤ code) × (code ≤ 1999)
+pub fails_within : (bytes : List ℕ) (script : List Item) → script_of bytes ≡ Ok script → (outcomes : List (Option Outcome)) (client : ℕ) (t : Task) (name code : ℕ) → IsTask (all_tasks script) outcomes client t → t.op ≡ ops.Fail name code → (1500 ≤ code) × (code ≤ 1999)
 fails_within bytes script reads outcomes client t name code is op =
     let v = task_is script outcomes client t is in
     let asks = fail_asks (numbered script) (names script) (numbers_at script t.number v.operation) v.operation.item name code (v.asks ∙ ap Some op) in
@@ -91,12 +91,12 @@ code_in : Outcome → ℕ
 code_in (CallFailed id code) = code
 code_in other = 0
 
-same_failure : (i c id code : ℕ) → CallFailed i c ≡ CallFailed id code → (i ≡ id) × (c ≡ code)
+pub same_failure : (i c id code : ℕ) → CallFailed i c ≡ CallFailed id code → (i ≡ id) × (c ≡ code)
 unfolding first_of code_in
 same_failure i c id code e = (ap first_of e, ap code_in e)
 
 -- a client tells no call of its own to have failed
-not_own : (id code : ℕ) (x : Told) → x.outcome ≡ CallFailed id code → IsOwn x → ⊥
+pub not_own : (id code : ℕ) (x : Told) → x.outcome ≡ CallFailed id code → IsOwn x → ⊥
 not_own id code x outcome told_of = let k : true ≡ false = sym (ap ends_call outcome) ∙ told_of in absurd (cc)
 
 -- ## A run of a script

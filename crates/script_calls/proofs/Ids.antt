@@ -230,20 +230,20 @@ module _ {O : Type 0} {g : Ghosts O} {state : O → OutState} {readers : List (L
     -- by the closed table of ids, over notes that have those of the clients, and in which each id was made for a call of theirs
     (v : View Asked) (words : List ℕ) (closing : Closing (ids_of p slots) v.notes v.kept words) (low : (i : ℕ) → slice_index words i < 18446744073709551616) (have : HaveNotesOf ids v.notes) (made : AllMade (IsOfCall (setup ∷ clients)) v.notes)
     (tellers : List (List Told)) (last : List Told) (end_told : (d j : ℕ) (ts : List Told) (x : Told) → get_elem? (tellers ++ last ∷ []) d ≡ some ts → get_elem? ts j ≡ some x → IsEndTold slots v.notes x) where
-  abbrev q : id_plan.Plan
-  q = ids_of p slots
+  abbrev table : id_plan.Plan
+  table = ids_of p slots
 
-  abbrev all : List (List Task)
-  all = setup ∷ clients
+  abbrev asked_for : List (List Task)
+  asked_for = setup ∷ clients
 
-  abbrev many : ℕ
-  many = (plan_of script).operations
+  abbrev as_many : ℕ
+  as_many = (plan_of script).operations
 
-  abbrev outcomes : List (Option Outcome)
-  outcomes = outcomes_of many told tellers last
+  abbrev became_all : List (Option Outcome)
+  became_all = outcomes_of as_many told tellers last
 
   abbrev Its : ℕ → ℕ → Type 0
-  Its operation id = IsIdFor q v.notes v.kept words closing operation id
+  Its operation id = IsIdFor table v.notes v.kept words closing operation id
 
   -- what is told as the end of a call is told of the operation for which its id was made
   its_id : (x : Told) → IsEndTold slots v.notes x → (id : ℕ) → 0 < ends_of id x.outcome → Its x.number id
@@ -257,11 +257,11 @@ module _ {O : Type 0} {g : Ghosts O} {state : O → OutState} {readers : List (L
   }
 
   pub told_own : (d j : ℕ) (ts : List Told) (x : Told) → get_elem? told d ≡ some ts → get_elem? ts j ≡ some x → IsOwn x
-  told_own d j ts x at there = all_at IsOwn ts j x (all_at (λ (us : List Told). AllByRecursion IsOwn us) told d ts (clients_of.owns state p q setup clients opens told ended ran.seats ids ran.ran) at) there
+  told_own d j ts x at there = all_at IsOwn ts j x (all_at (λ (us : List Told). AllByRecursion IsOwn us) told d ts (clients_of.owns state p table setup clients opens told ended ran.seats ids ran.ran) at) there
 
-  ends_are : (o : ℕ) (by : Outcome) → Became all outcomes o by → (id : ℕ) → 0 < ends_of id by → Its o id
-  ends_are o by became id some_ = elim (told_each (replicate many None) ((told ++ tellers) ++ last ∷ []) o by became) [
-    | inl none_ ↦ absurd (none_told many o by none_)
+  ends_are : (o : ℕ) (by : Outcome) → Became asked_for became_all o by → (id : ℕ) → 0 < ends_of id by → Its o id
+  ends_are o by became id some_ = elim (told_each (replicate as_many None) ((told ++ tellers) ++ last ∷ []) o by became) [
+    | inl none_ ↦ absurd (none_told as_many o by none_)
     | inr w ↦ (let x = w.3.1 in let shows : 0 < ends_of id x.outcome = subst (λ (y : Outcome). 0 < ends_of id y) (sym w.3.4) some_ in
         elim (tellers_of.whose ran script tasks are v.notes have tellers last end_told w.0 w.3.0 w.1 x w.2 w.3.2) [
           | inl own ↦ absurd (let a = own_none id x.outcome (told_own w.0 w.3.0 w.1 x own w.3.2) in omega arith)
@@ -269,23 +269,23 @@ module _ {O : Type 0} {g : Ghosts O} {state : O → OutState} {readers : List (L
         ])
   ]
 
-  one_task : (c d : ℕ) (t u : Task) → IsTask all outcomes c t → IsTask all outcomes d u → t.number ≡ u.number → t ≡ u
+  one_task : (c d : ℕ) (t u : Task) → IsTask asked_for became_all c t → IsTask asked_for became_all d u → t.number ≡ u.number → t ≡ u
   one_task c d t u a b e = let same = tellers_of.same_task ran script tasks are c d t u a b e in λ i. record { number = e i; op = same.1 i }
 
   -- how many versions a call may have
-  fits : (c : ℕ) (t : Task) (asked : Asked) → IsTask all outcomes c t → t.op ≡ ops.Call asked → OpFits p (ops.Call asked)
-  fits c t asked is op = subst (OpFits p) op (all_there (TaskFits p) is.0 t (all_there (AllByRecursion (TaskFits p)) all is.0 are.fit (c, is.1)) (has_from is.0 t is.2)).1
+  fits : (c : ℕ) (t : Task) (asked : Asked) → IsTask asked_for became_all c t → t.op ≡ ops.Call asked → OpFits p (ops.Call asked)
+  fits c t asked is op = subst (OpFits p) op (all_there (TaskFits p) is.0 t (all_there (AllByRecursion (TaskFits p)) asked_for is.0 are.fit (c, is.1)) (has_from is.0 t is.2)).1
 
-  pub two : (c : ℕ) (t : Task) (asked : Asked) → IsTask all outcomes c t → t.op ≡ ops.Call asked → 2 ≤ asked.range
+  pub two : (c : ℕ) (t : Task) (asked : Asked) → IsTask asked_for became_all c t → t.op ≡ ops.Call asked → 2 ≤ asked.range
   two c t asked is op = (fits c t asked is op).range_low
 
-  pub are_ids : AreIds q v.notes v.kept words closing all outcomes
-  are_ids = record { ends = ends_are; made = λ i j f r asked inside at. made_fits (IsOfCall all) i v.notes made j f r asked at; one = one_task; short = λ c t asked is op. (fits c t asked is op).range_high }
+  pub are_ids : AreIds table v.notes v.kept words closing asked_for became_all
+  are_ids = record { ends = ends_are; made = λ i j f r asked inside at. made_fits (IsOfCall asked_for) i v.notes made j f r asked at; one = one_task; short = λ c t asked is op. (fits c t asked is op).range_high }
 
   -- no two calls have a version in common
-  pub calls_apart : (c d : ℕ) (t u : Task) (a b : Asked) (x y : Outcome) (i j : ℕ) → IsTask all outcomes c t → IsTask all outcomes d u → t.op ≡ ops.Call a → u.op ≡ ops.Call b → Became all outcomes t.number x → Became all outcomes u.number y
+  pub calls_apart : (c d : ℕ) (t u : Task) (a b : Asked) (x y : Outcome) (i j : ℕ) → IsTask asked_for became_all c t → IsTask asked_for became_all d u → t.op ≡ ops.Call a → u.op ≡ ops.Call b → Became asked_for became_all t.number x → Became asked_for became_all u.number y
       → shown_id x ≡ Some i → shown_id y ≡ Some j → t.number ≢ u.number → (i + a.range ≤ j) ⊎ (j + b.range ≤ i)
-  calls_apart = versions q v.notes v.kept words closing (λ i inside. low i) all outcomes are_ids
+  calls_apart = versions table v.notes v.kept words closing (λ i inside. low i) asked_for became_all are_ids
 
   -- ## Where each call is told
 
@@ -296,15 +296,15 @@ module _ {O : Type 0} {g : Ghosts O} {state : O → OutState} {readers : List (L
         let a = term (makes o) v.notes n.0 _ n.1 in let b = only-at o h.asked.operation h.operation in omega arith
 
     -- a call for which an id was made
-    is_told : (o id : ℕ) → IsIdOf slots v.notes o id → (by : Outcome) × Became all outcomes o by
+    is_told : (o id : ℕ) → IsIdOf slots v.notes o id → (by : Outcome) × Became asked_for became_all o by
     is_told o id h =
         let b = tellers_of.begun_of ran script tasks are v.notes have o (some_made o id h) in
-        let own : get_elem? all b.place ≡ some (tasks_of b.client) = ap (λ (l : List (List Task)). get_elem? l b.place) (sym (of_clients ran)) ∙ mapped tasks_of (all_clients ran) b.place b.client b.at in
-        subst (λ (n : ℕ). (by : Outcome) × Became all outcomes n by) b.has.number_is
+        let own : get_elem? asked_for b.place ≡ some (tasks_of b.client) = ap (λ (l : List (List Task)). get_elem? l b.place) (sym (of_clients ran)) ∙ mapped tasks_of (all_clients ran) b.place b.client b.at in
+        subst (λ (n : ℕ). (by : Outcome) × Became asked_for became_all n by) b.has.number_is
         (called b.place b.has.place (tasks_of b.client) b.has.result.task b.asked own (task_at b.client.thread b.client.is b.has.place b.has.result b.has.at) b.op)
 
     -- and what became of it shows that id
-    pub shown : (o id : ℕ) → IsIdOf slots v.notes o id → (by : Outcome) × Became all outcomes o by × (shown_id by ≡ Some id)
+    pub shown : (o id : ℕ) → IsIdOf slots v.notes o id → (by : Outcome) × Became asked_for became_all o by × (shown_id by ≡ Some id)
     shown o id h =
         let s = is_told o id h in
         let e = tellers_of.became_end ran script tasks are v.notes have tellers last end_told o s.0 (some_made o id h) s.1 in

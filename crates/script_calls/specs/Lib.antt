@@ -6,5 +6,6 @@ pub mod Reading
 pub mod Told
 pub use Rattle.attempts_told
 pub use Rattle.call_whys
+pub use Rattle.failed_told
 pub use Rattle.id_rule
 pub use Rattle.report_fits

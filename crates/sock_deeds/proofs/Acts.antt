@@ -202,6 +202,13 @@ module _ {O : Type 0} {g : Ghosts O} {state : O → OutState} {p : Plan} {client
   pub has_marks : (a : Act) (f : Mark → ℕ) → IsNote f → (i : ℕ) → marks_of f i (after a) ≤ marks_of f i All
   has_marks a f note i = omega (arith, joined_has a f note i, all_marks f note i)
 
+  -- and what a reader noted
+  pub read_marks : (r : Read) (f : Mark → ℕ) → IsNote f → (i : ℕ) → marks_of f i r.d.after.view ≤ marks_of f i All
+  read_marks r f note i =
+      let l = (later r.r.sits r.k r.d r.is).marks f note i in
+      let one = term_le (λ (y : Seated g state p). marks_of f i (final_of y)) ReadSeats r.c r.r.sits (map_there sits_of run.readers r.c r.r r.at) in
+      omega (arith, l, one, all_marks f note i)
+
   -- all have a word that it stored
   pub has_puts : (a : Act) (x n : ℕ) → put_in x n (after a) ≤ put_in x n All
   has_puts a x n = let l = (later a.y a.k a.d a.is).puts x n in omega (arith, all_puts x n, term_le (λ (y : Seated g state p). put_in x n (final_of y)) Seats (length run.readers + a.c) a.y (client_there a.c a.y a.at))
@@ -265,10 +272,6 @@ module _ {O : Type 0} {g : Ghosts O} {state : O → OutState} {p : Plan} {client
       let w = map_back sits_of run.readers one.0 one.1 one.2 in
       let two = noted_by one.1 f note i one.3 in
       (record { c = one.0; r = w.0; at = w.1; k = two.0; d = two.1; is = ap (λ (y : Seated g state p). get_elem? y.deeds two.0) w.2 ∙ two.2 }, two.3)
-
-  -- where no link was read beside the clients there is none of a reader
-  pub no_reader : run.readers ≡ [] → Read → ⊥
-  no_reader none_ r = some-ne-none r.r (sym (ap (λ l. get_elem? l r.c) (sym none_) ∙ r.at))
 
   -- all that a reader did is done by ids
   pub read_is_by_id : (r : Read) → IsById r.d.did

@@ -1,5 +1,5 @@
--- With which code a life was failed: that of the `fail` of its name that was answered `failed`, or EFAILEDSOCKET where its link failed. And where a dropped message stands.
-use Rattle.std.proofs.Common.{◌≡◌, ◌≢◌, ℕ, ◌+◌, ◌<◌, ◌≤◌, ◌⊎◌, inl, inr, true, List, [], ◌∷◌, length, refl, sym, ◌∙◌, subst, arith}
+-- With which code a life was failed: that of the `fail` of its name that was answered `failed`, EFAILEDSOCKET where its link failed, or that of its link's reader. And where a dropped message stands.
+use Rattle.std.proofs.Common.{◌≡◌, ◌≢◌, ℕ, ◌+◌, ◌<◌, ◌≤◌, ◌⊎◌, inl, inr, true, List, [], ◌∷◌, length, refl, sym, ap, ◌∙◌, subst, arith}
 use Rattle.std.specs.Prelude.{Option, slice_index}
 use mathlib.Core.Logic.{dite}
 use mathlib.Core.Option.{some, some-ne-none}
@@ -27,17 +27,19 @@ use Rattle.sock_model.specs.Weights.{is_coded, is_failer, is_saw, is_stored, is_
 use Rattle.slot_steps.proofs.Numbers.{only_is, pair-same, pair_is, pair_only}
 use Rattle.rpc_client.specs.sock_rule.specs.Closing.{PlacesDiffer}
 use Rattle.rpc_client.specs.sock_rule.specs.OnTable.{put_in}
-use Rattle.rpc_client.specs.Failing.{TriedTo}
+use Rattle.rpc_client.specs.Failing.{SetBy, TriedTo}
 use Rattle.rpc_client.specs.write_chain.specs.Noting.{Noted, nothing, finding, failing}
 use Rattle.seat_programs.specs.declared.task.Op.TheVariants as ops
 use Rattle.seat_programs.specs.declared.task.Task.{Task}
 use Rattle.seat_programs.specs.Told.{Became}
 use Rattle.sock_deeds.specs.Broken.{noted_links}
-use Rattle.sock_deeds.specs.Runs.{IsOperation, IsFor, DeedRun}
+use Rattle.sock_deeds.specs.Deeds.{Did, DoneBy}
+use Rattle.sock_deeds.specs.Runs.{IsOperation, IsFor, IsById, IsReaderCode, ReaderSeat, DeedRun}
 use Rattle.sock_deeds.proofs.Accepting.{log, act_of_entry}
-use Rattle.sock_deeds.proofs.Acts.{Act, All, after, before, did_of, done_of, has_marks, has_puts, Late, marks_from, noted_before, no_reader}
-use Rattle.sock_deeds.proofs.Ending.{SetNow}
+use Rattle.sock_deeds.proofs.Acts.{Act, Read, All, after, before, did_of, done_of, has_marks, has_puts, read_marks, read_is_by_id, Late, marks_from, noted_before}
+use Rattle.sock_deeds.proofs.Ending.{no_faults, SetNow}
 use Rattle.sock_deeds.proofs.Entries.{on_there}
+use Rattle.sock_deeds.proofs.Failing.{at_life, read_life}
 use Rattle.sock_deeds.proofs.Fails.{FailedLife, life_by, fail_for, failer_once, life_is, made_born}
 use Rattle.sock_deeds.proofs.Growing.{back_grew}
 use Rattle.sock_deeds.proofs.Lives.{MadeHere, failer_life}
@@ -96,13 +98,19 @@ noted_stored h _ nothing j k e = absurd (some-ne-none k (sym e))
 noted_stored h _ (finding m ms a b) j k e = let r = noted_stored h ms b j k e in omega (arith, r)
 noted_stored h _ (failing l ms a b c) j k e = let s = pair-same h EFAILEDSOCKET in omega (arith, s)
 
--- and one that did it by a `fail` the `fail`'s code
+-- and one that set it failed the code that it had
+set_stored : (id code : ℕ) (v w : View) → SetBy id code outcome.Failed v w → 0 < marks_of (is_stored (socket_id_version id) code) (socket_id_slot id) w
+set_stored id code v w b =
+    let h = socket_id_version id in let i = socket_id_slot id in let f : Mark → ℕ = is_stored h code in
+    let e : marks_of f i w + 0 ≡ marks_of f i v + (0 + (0 + (pair h code h code + (0 + 0)))) = b.here f in
+    let s = pair-same h code in
+    omega (arith, e, s)
+
 tried_stored : (p : Plan) (n code : ℕ) (v w : View) (t : TriedTo p n code outcome.Failed v w) → 0 < marks_of (is_stored (socket_id_version t.sock.id.0) code) (socket_id_slot t.sock.id.0) w
 tried_stored p n code v w t =
     let h = socket_id_version t.sock.id.0 in let i = socket_id_slot t.sock.id.0 in let f : Mark → ℕ = is_stored h code in
-    let e : marks_of f i t.set + 0 ≡ marks_of f i t.has + (0 + (0 + (pair h code h code + (0 + 0)))) = t.set_by.here f in
-    let s = pair-same h code in let c = (back_grew i h t.set w t.ended t.back).marks f (λ x. refl) i in
-    omega (arith, e, s, c)
+    let s = set_stored t.sock.id.0 code t.has t.set t.set_by in let c = (back_grew i h t.set w t.ended t.back).marks f (λ x. refl) i in
+    omega (arith, s, c)
 
 module _ {O : Type 0} {g : Ghosts O} {state : O → OutState} {p : Plan} {clients : List (List Task)} {outcomes : List (Option Outcome)} {places : List PlaceWord} {vrefs : List Vref} {outs : List O} (run : DeedRun g state p clients outcomes places vrefs outs) where
   -- ## Why a failed life has its code
@@ -114,7 +122,16 @@ module _ {O : Type 0} {g : Ghosts O} {state : O → OutState} {p : Plan} {client
     pub is : IsOperation clients outcomes client number (ops.Fail n c)
     pub became : Became clients outcomes number outcome.Failed
 
-  module _ (b : Act run) (n k i h w c : ℕ) (low : i < p.slots) (made : MadeHere run n k i h) (told : 0 < marks_of (is_told h c) i (after run b)) (saw : 0 < marks_of (is_saw w) i (after run b)) (less : h < w) (none_read : run.readers ≡ []) where
+  -- the reader of this link, whose reading ended early, set its life failed with this code
+  pub record FailedByReader (k c : ℕ) : Type 0 where
+    pub place : ℕ
+    pub reader : ReaderSeat g state p clients outcomes
+    pub there : get_elem? run.readers place ≡ some reader
+    pub link_is : reader.link ≡ k
+    pub early : reader.early ≡ true
+    pub coded : IsReaderCode c
+
+  module _ (b : Act run) (n k i h w c : ℕ) (low : i < p.slots) (made : MadeHere run n k i h) (told : 0 < marks_of (is_told h c) i (after run b)) (saw : 0 < marks_of (is_saw w) i (after run b)) (less : h < w) where
     stored : 0 < marks_of (is_stored h c) i (All run)
     stored = run.closed.closing.told_stored i h c low (let a = has_marks run b (is_told h c) (λ x. refl) i in omega (arith, a, told))
 
@@ -128,11 +145,8 @@ module _ {O : Type 0} {g : Ghosts O} {state : O → OutState} {p : Plan} {client
     same_code : (a : Act run) (d : ℕ) → 0 < marks_of (is_stored h d) i (after run a) → c ≡ d
     same_code a d there = one_code h c d i (All run) few stored (let x = has_marks run a (is_stored h d) (λ y. refl) i in omega (arith, x, there))
 
-    at_life : (m l j v : ℕ) → j ≡ i → v ≡ h → MadeHere run m l j v → MadeHere run m l i h
-    at_life m l j v a b it = subst (λ x. MadeHere run m l x h) a (subst (λ x. MadeHere run m l j x) b it)
-
     abbrev IsWhy : Type 0
-    IsWhy = (c ≡ EFAILEDSOCKET) ⊎ FailsWith n c
+    IsWhy = (c ≡ EFAILEDSOCKET) ⊎ (FailsWith n c ⊎ FailedByReader k c)
 
     by_name : (a : Act run) (l : FailedLife run a) → socket_id_slot l.tried.sock.id.0 ≡ i → socket_id_version l.tried.sock.id.0 ≡ h → IsWhy
     by_name a l slot version =
@@ -141,8 +155,8 @@ module _ {O : Type 0} {g : Ghosts O} {state : O → OutState} {p : Plan} {client
         let its = tried_stored p l.name l.code (before run a) (after run a) l.tried in
         let here = subst (λ x. 0 < marks_of (is_stored h l.code) x (after run a)) slot (subst (λ x. 0 < marks_of (is_stored x l.code) i_ (after run a)) version its) in
         let code = same_code a l.code here in
-        let name = (life_is run l.name n l.link k i h (at_life l.name l.link i_ h_ slot version l.made) made).0 in
-        inr (record { client = a.c; number = l.number; is = subst (λ x. IsOperation clients outcomes a.c l.number (ops.Fail n x)) (sym code) (subst (λ x. IsOperation clients outcomes a.c l.number (ops.Fail x l.code)) name f.0); became = f.1 })
+        let name = (life_is run l.name n l.link k i h (at_life run l.name l.link i_ h_ i h slot version l.made) made).0 in
+        inr (inl record { client = a.c; number = l.number; is = subst (λ x. IsOperation clients outcomes a.c l.number (ops.Fail n x)) (sym code) (subst (λ x. IsOperation clients outcomes a.c l.number (ops.Fail x l.code)) name f.0); became = f.1 })
 
     by_source : (a : Act run) → Source (is_failer h) (failer_life h) g state p i (did_of run a) a.d.before a.d.after (done_of run a) → IsWhy
     by_source a (by_open name number version link e weighs) = absurd (omega (arith, weighs))
@@ -156,6 +170,21 @@ module _ {O : Type 0} {g : Ghosts O} {state : O → OutState} {p : Plan} {client
         let there : 0 < marks_of m j (after run a) = omega (arith, noted, came, then) in
         inl (same_code a EFAILEDSOCKET (subst (λ x. 0 < marks_of (is_stored h EFAILEDSOCKET) x (after run a)) f.slot (subst (λ x. 0 < marks_of (is_stored x EFAILEDSOCKET) j (after run a)) version there)))
 
+    -- a reader set it failed
+    by_reading : (r : Read run) → Source (is_failer h) (failer_life h) g state p i r.d.did r.d.before r.d.after r.d.done → IsWhy
+    by_reading r (by_open name number version link e weighs) = absurd (subst IsById e (read_is_by_id run r))
+    by_reading r (by_fail name number code e f) = absurd (subst IsById e (read_is_by_id run r))
+    by_reading r (by_set id code e slot weighs) =
+        let version = only_is h (socket_id_version id) weighs in
+        let s = read_life run r id code n k i h e slot version low made in
+        let its = set_stored id code r.d.before.view r.d.after.view (subst (λ (x : Did). DoneBy g state p x r.d.before r.d.after) e r.d.done).0 in
+        let here = subst (λ x. 0 < marks_of (is_stored h code) x r.d.after.view) slot (subst (λ x. 0 < marks_of (is_stored x code) (socket_id_slot id) r.d.after.view) version its) in
+        let all = read_marks run r (is_stored h code) (λ y. refl) i in
+        let same = one_code h c code i (All run) few stored (omega (arith, all, here)) in
+        inr (inr record { place = r.c; reader = r.r; there = r.at; link_is = s.2; early = s.0; coded = subst IsReaderCode (sym same) s.1 })
+    by_reading r (by_write id v u all grew f listed) =
+        absurd (some-ne-none f.link (sym (ap (λ l. get_elem? l f.place) (sym (no_faults g state p r.d.did r.d.before r.d.after r.d.done (read_is_by_id run r))) ∙ listed)))
+
     -- the sockets were ended behind what was seen
     not_ended : (l : Late run) → SetNow g state p (is_failer h) i l.d.before.view → ⊥
     not_ended l s =
@@ -164,11 +193,14 @@ module _ {O : Type 0} {g : Ghosts O} {state : O → OutState} {p : Plan} {client
         let low_ = s.live w (subst (λ j. 0 < marks_of (is_saw w) j l.d.before.view) (sym s.slot) (omega (arith, then, saw))) in
         omega (arith, low_, version, less)
 
-    -- of a life of the name, which a client found failed, where no link was read beside the clients: its code is EFAILEDSOCKET, or that of a `fail`
-    pub life_code : (c ≡ EFAILEDSOCKET) ⊎ FailsWith n c
+    -- of a life of the name, which a client found failed: its code is EFAILEDSOCKET, that of a `fail`, or that of its link's reader
+    pub life_code : (c ≡ EFAILEDSOCKET) ⊎ (FailsWith n c ⊎ FailedByReader k c)
     life_code = elim (marks_from run (is_failer h) (failer_life h) i failed) [
       | inl s ↦ by_source s.0 (done_source (is_failer h) (failer_life h) g state p (did_of run s.0) s.0.d.before s.0.d.after (done_of run s.0) i s.1)
-      | inr o ↦ elim o [ inl r ↦ absurd (no_reader run none_read r.0) | inr l ↦ absurd (not_ended l.0 l.1) ]
+      | inr o ↦ elim o [
+        | inl r ↦ by_reading r.0 (done_source (is_failer h) (failer_life h) g state p r.0.d.did r.0.d.before r.0.d.after r.0.d.done i r.1)
+        | inr l ↦ absurd (not_ended l.0 l.1)
+      ]
     ]
 
   -- ## Where a dropped message stands

@@ -23,9 +23,9 @@ use Rattle.seat_programs.specs.declared.task.Task.{Task}
 use Rattle.seat_programs.specs.Runs.{from_to}
 use Rattle.seat_programs.specs.Told.{Became, IsFail}
 use Rattle.report_fits.proofs.Lists.{Has, contains_from, all_from, has_filter_map, filter_map_has, before_filter_map, before_from}
-use Rattle.sock_deeds.specs.Deeds.{fails, own_number}
+use Rattle.sock_deeds.specs.Deeds.{fails, sets, own_number}
 use Rattle.sock_deeds.specs.Broken.{faults_of}
-use Rattle.sock_deeds.specs.Runs.{IsOperation, IsFor, IsById, Seated, ReaderSeat, early_of, DeedRun}
+use Rattle.sock_deeds.specs.Runs.{IsOperation, IsFor, IsById, IsReaderCode, Seated, ReaderSeat, early_of, DeedRun}
 use Rattle.sock_deeds.proofs.Acts.{Act, Read, All, after, did_of, done_of, has_marks, Late, noted_before, read_is_by_id, marks_from}
 use Rattle.sock_deeds.proofs.Ending.{no_faults, SetNow}
 use Rattle.sock_deeds.proofs.Fails.{FailedLife, number_of_fail, failed_life, life_by, fail_for, as_fail, fails_once, same_link, life_is, made_born}
@@ -223,6 +223,20 @@ module _ {O : Type 0} {g : Ghosts O} {state : O → OutState} {p : Plan} {client
   abbrev pub EndedAlive : ℕ → ℕ → Type 0
   EndedAlive i h = (a : Act run) (w : ℕ) → 0 < marks_of (is_saw w) i (after run a) → w ≤ h
 
+  pub at_life : (m l j v i h : ℕ) → j ≡ i → v ≡ h → MadeHere run m l j v → MadeHere run m l i h
+  at_life m l j v i h a b made = subst (λ x. MadeHere run m l x h) a (subst (λ x. MadeHere run m l j x) b made)
+
+  -- a reader sets failed what it found noted for the `open` of its link, where its reading ended early, with a reader's code
+  pub read_life : (r : Read run) (id code n k i h : ℕ) → r.d.did ≡ sets id code outcome.Failed → socket_id_slot id ≡ i → socket_id_version id ≡ h → i < p.slots → MadeHere run n k i h → (r.r.early ≡ true) × IsReaderCode code × (r.r.link ≡ k)
+  read_life r id code n k i h e slot version low made =
+      let s = read_sets r.r r.k r.d id code outcome.Failed r.is e in
+      let slot_is : socket_id_slot s.sock.0 ≡ i = ap socket_id_slot s.same ∙ slot in
+      let version_is : socket_id_version s.sock.0 ≡ h = ap socket_id_version s.same ∙ version in
+      let even = (run.closed.closing.born_life i h low (made_born run n k i h made)).1 in
+      let w = noted_made run r.c r.r r.at s.sock s.first (λ none_. omega (arith, none_, version_is, even)) in
+      let its = at_life w.0 r.r.link (socket_id_slot s.sock.0) (socket_id_version s.sock.0) i h slot_is version_is w.1 in
+      (s.is_early, s.coded, (life_is run w.0 n r.r.link k i h its made).1)
+
   pub life_failed : (n k i h : ℕ) → i < p.slots → MadeHere run n k i h → 0 < marks_of (is_failer h) i (All run) → WhyFailed i h k ⊎ EndedAlive i h
   life_failed n k i h low made some_ = elim (marks_from run (is_failer h) (failer_life h) i some_) [
     | inl w ↦ inl (by_source w.0 (done_source (is_failer h) (failer_life h) g state p (did_of run w.0) w.0.d.before w.0.d.after (done_of run w.0) i w.1))
@@ -239,9 +253,6 @@ module _ {O : Type 0} {g : Ghosts O} {state : O → OutState} {p : Plan} {client
           let low_ = s.live w (subst (λ j. 0 < marks_of (is_saw w) j l.d.before.view) (sym s.slot) (omega arith)) in
           omega arith
 
-      at_life : (m l j v : ℕ) → j ≡ i → v ≡ h → MadeHere run m l j v → MadeHere run m l i h
-      at_life m l j v a b made = subst (λ x. MadeHere run m l x h) a (subst (λ x. MadeHere run m l j x) b made)
-
       -- a link that a seat met of this life is the life's
       met_link : (l : ℕ) (a : Act run) → 0 < marks_of (is_met h l) i (after run a) → l ≡ k
       met_link l a m =
@@ -253,7 +264,7 @@ module _ {O : Type 0} {g : Ghosts O} {state : O → OutState} {p : Plan} {client
       here a l slot version =
           let f = fail_for run a l in
           let e = each_failed l.number record { client = a.c; name = l.name; code = l.code; is = f.0; became = f.1 } in
-          let mine : l.link ≡ k = (life_is run l.name n l.link k i h (at_life l.name l.link (socket_id_slot l.tried.sock.id.0) (socket_id_version l.tried.sock.id.0) slot version l.made) made).1 in
+          let mine : l.link ≡ k = (life_is run l.name n l.link k i h (at_life l.name l.link (socket_id_slot l.tried.sock.id.0) (socket_id_version l.tried.sock.id.0) i h slot version l.made) made).1 in
           let its : e.0 ≡ k = sym e.2.link ∙ (same_link run e.2.a a e.2.life l e.2.number ∙ mine) in
           by_name record { a = a; life = l; slot = slot; version = version; listed = subst (λ x. Contains all_fails (l.number, x)) its e.1 }
 
@@ -267,18 +278,12 @@ module _ {O : Type 0} {g : Ghosts O} {state : O → OutState} {p : Plan} {client
           let more = grew.marks (is_met h f.link) (λ x. refl) i in
           by_link (is_broken a f.place k (listed ∙ ap some (met_link f.link a (omega arith))))
 
-      -- a reader sets failed what it found noted for the `open` of its link
+      -- a reader set it failed
       by_reading : (r : Read run) → Source (is_failer h) (failer_life h) g state p i r.d.did r.d.before r.d.after r.d.done → WhyFailed i h k
       by_reading r (by_open name number version link e weighs) = absurd (subst IsById e (read_is_by_id run r))
       by_reading r (by_fail name number code e f) = absurd (subst IsById e (read_is_by_id run r))
       by_reading r (by_set id code e slot weighs) =
-          let s = read_sets r.r r.k r.d id code outcome.Failed r.is e in
-          let version : socket_id_version id ≡ h = only_is h (socket_id_version id) weighs in
-          let slot_is : socket_id_slot s.sock.0 ≡ i = ap socket_id_slot s.same ∙ slot in
-          let version_is : socket_id_version s.sock.0 ≡ h = ap socket_id_version s.same ∙ version in
-          let even = (run.closed.closing.born_life i h low (made_born run n k i h made)).1 in
-          let w = noted_made run r.c r.r r.at s.sock s.first (λ none_. omega (arith, none_, version_is, even)) in
-          let its = at_life w.0 r.r.link (socket_id_slot s.sock.0) (socket_id_version s.sock.0) slot_is version_is w.1 in
-          by_reader (subst (Contains early) (life_is run w.0 n r.r.link k i h its made).1 (is_early r.c r.r r.at s.is_early))
+          let s = read_life r id code n k i h e slot (only_is h (socket_id_version id) weighs) low made in
+          by_reader (subst (Contains early) s.2 (is_early r.c r.r r.at s.0))
       by_reading r (by_write id v w all grew f listed) =
           absurd (some-ne-none f.link (sym (ap (λ l. get_elem? l f.place) (sym (no_faults g state p r.d.did r.d.before r.d.after r.d.done (read_is_by_id run r))) ∙ listed)))
