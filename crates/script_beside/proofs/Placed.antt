@@ -53,22 +53,22 @@ module _ {O : Type 0} (g : Ghosts O) (out : O → OutState) (bytes : List ℕ) (
   abbrev main : Books
   main = begins_with (flat_map (λ (fs : List Frame). fs) kept) rest.main
 
-  are : AreTasks p (left.setup ∷ left.clients)
+  pub are : AreTasks p (left.setup ∷ left.clients)
   are = seated_are bytes script reads p.seats (left.setup ∷ left.clients) left.tasks
 
-  may : MayRunAll p q left.setup left.clients
+  pub may : MayRunAll p q left.setup left.clients
   may = seated_may bytes script reads p.seats (length (calls script)) left.setup left.clients left.tasks (let n = script_seats script left.setup left.clients left.tasks in omega arith)
 
-  have : HaveNotesOf ids rest.last.view.notes
+  pub have : HaveNotesOf ids rest.last.view.notes
   have = have_beside p q (calls script) (opens script) left.readers left.readers_are seats main rest.last (notes_of left rest) rest.rest
 
-  laws : IdLaws (length (calls script)) rest.last.view.notes
+  pub laws : IdLaws (length (calls script)) rest.last.view.notes
   laws = laws_of q rest.last.view.notes rest.last.view.kept rest.words rest.closing
 
-  few : p.links ≤ 65536
+  pub few : p.links ≤ 65536
   few = omega (arith, (keeps_limits bytes script reads).links)
 
-  low : p.operations ≤ 65536
+  pub low : p.operations ≤ 65536
   low = omega (arith, few_operations bytes script reads (plan_of script) refl)
 
   pub left_places : ArePlaces places

@@ -96,8 +96,10 @@ module _ (P : Type 0) {O I : Type 0} (out : O → OutState) (inn : I → InState
   AreCalls fixed given orders = (a : AreAttemptsTold (plan_of script) (all_tasks script) outcomes fixed given orders) × AreCallsTold (plan_of script) (all_tasks script) outcomes fixed given orders a.last
 
   known : (bytes : List ℕ) (reads : script_of bytes ≡ Ok script) (given : ℕ → List ℕ) → AreCalls (fixed P g out inn bytes script reads text links r) given (orders (run P g out inn bytes script reads text links r) (differ P g out inn bytes script reads text links r))
-  known bytes reads given = (attempts_beside P g out inn bytes script reads text links r given,
-      subst (λ (last : ℕ → ℕ). AreCallsTold (plan_of script) (all_tasks script) outcomes (fixed P g out inn bytes script reads text links r) given (orders (run P g out inn bytes script reads text links r) (differ P g out inn bytes script reads text links r)) last) (sym (attempts_last P g out inn bytes script reads text links r given)) (calls_beside P g out inn bytes script reads text links r given))
+  known bytes reads given = (
+    attempts_beside P g out inn bytes script reads text links r given,
+    subst (λ (last : ℕ → ℕ). AreCallsTold (plan_of script) (all_tasks script) outcomes (fixed P g out inn bytes script reads text links r) given (orders (run P g out inn bytes script reads text links r) (differ P g out inn bytes script reads text links r)) last) (sym (attempts_last P g out inn bytes script reads text links r given)) (calls_beside P g out inn bytes script reads text links r given),
+  )
 
   -- its answers, by what the links gave, and with them why each operation on sockets has its outcome, and what is told of calls
   told_of : (bytes : List ℕ) → script_of bytes ≡ Ok script → (a : AreAnsweredBy (operations script) outcomes links) × (s : AreSocketsBeside script outcomes r.places a.gave links) × AreCalls (fixed_by s.broken s.early s.fails) a.gave s.orders

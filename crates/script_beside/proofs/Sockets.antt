@@ -174,7 +174,7 @@ module _ (P : Type 0) {O I : Type 0} (g : Ghosts O) (out : O → OutState) (inn 
   linked = subst (AllHaveLinks 0) (sym r.left.tasks) (script_linked script)
 
   -- the readers are those of the links that the clients opened
-  asked : (k o : ℕ) → get_elem? (opens script) k ≡ some o → OpensLink all outcomes k o
+  pub asked : (k o : ℕ) → get_elem? (opens script) k ≡ some o → OpensLink all outcomes k o
   asked k o at = subst (λ (l : List (List Task)). OpensLink l outcomes k o) (sym r.left.tasks) (opens_link script outcomes k o at)
 
   -- ## The run

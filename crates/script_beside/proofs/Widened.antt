@@ -26,7 +26,7 @@ module _ (p : Plan) (n : ℕ) (clients : List (List Task)) (outcomes : List (Opt
   failed_still : (c o m : ℕ) (P : ℕ → Type 0) → FoundFailed wide clients outcomes fixed gave orders c o m P → FoundFailed p clients outcomes fixed gave orders c o m P
   failed_still c o m P h = record { link = h.link; slot = h.slot; version = h.version; made = h.made; holds = h.holds; failed = h.failed }
 
-  one_still : (last : ℕ → ℕ) (k : ℕ) (a : Accepted) → IsSent wide clients outcomes fixed gave orders last k a → IsSent p clients outcomes fixed gave orders last k a
+  pub one_still : (last : ℕ → ℕ) (k : ℕ) (a : Accepted) → IsSent wide clients outcomes fixed gave orders last k a → IsSent p clients outcomes fixed gave orders last k a
   one_still last k a (OfSend client t name slot version is number op first made none_) = OfSend client t name slot version is number op first made none_
   one_still last k a (OfCall client t asked by id slot version is number op became shows low frame made) = OfCall client t asked by id slot version is number op became shows low frame made
 
