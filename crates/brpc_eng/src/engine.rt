@@ -54,7 +54,7 @@ pub fn brpc<R: Threads + Wait + Sync, S: Source, K: Sink, L: Linker, G: Gate + S
     requires back { L.back links.old ≡ [] }
     requires accepted { L.accepted links.old ≡ 0 }
     requires done { L.done links.old ≡ [] }
-    // `TellClosed`: a reading half of this type tells whether it is found closed. Each kind of link of this project does. `TellOffers`: its links tell what
+    // `TellClosed`: a reading half of this type tells whether it is found closed. Links in memory do. `TellOffers`: its links tell what
     // they took, gave and are offered, as those whose other end is the built-in server do.
     ensures answers { Answers (map string_bytes words.now)
         (record { given = S.left source.old; left = S.left source.new; faults = record { before = S.faults source.old; now = S.faults source.new } })
