@@ -8,10 +8,10 @@ use std::thread;
 use std::thread::Threads;
 
 // A request for an echo, and the reply to it.
-pub(crate) const REQUEST: &[u8] =
+const REQUEST: &[u8] =
     b"PRPC\x00\x00\x00\x12\x00\x00\x00\x10\x0a\x0c\x0a\x04Echo\x12\x04Echo\x20\x02hi";
 
-pub(crate) const REPLY: &[u8] = b"PRPC\x00\x00\x00\x08\x00\x00\x00\x06\x12\x02\x08\x00\x20\x02hi";
+const REPLY: &[u8] = b"PRPC\x00\x00\x00\x08\x00\x00\x00\x06\x12\x02\x08\x00\x20\x02hi";
 
 fn asked() -> LinkSpec
     ensures { result.piece ≡ 64 }
