@@ -1,10 +1,12 @@
 -- What was offered to a link stays what belongs to it by each call of its halves; and a take that gave nothing tells that all of it was given.
-use Rattle.std.proofs.Common.{◌≡◌, ℕ, Bool, true, List, [], ◌++◌, ap, sym, ◌∙◌, subst, append_assoc, append-nil}
+use Rattle.std.proofs.Common.{◌≡◌, ℕ, Bool, true, List, [], ◌++◌, Option, None, Some, refl, ap, sym, ◌∙◌, subst, append_assoc, append-nil}
 use Rattle.sock_io.specs.declared.ending.Ending.TheVariants as ending
 use Rattle.sock_io.specs.declared.link.Put.{Put}
 use Rattle.sock_io.specs.declared.link.Ready.{Ready}
 use Rattle.sock_io.specs.declared.link.Take.{Take}
-use Rattle.sock_io.specs.Link.{OutState, Offer, IsServed, PutStep, ReadyStep, FinishStep, OfferTaken, offered_by, taken_of}
+use Rattle.sock_io.specs.Link.{OutState, InState, Offer, IsServed, PutStep, ReadyStep, FinishStep, OfferTaken, offered_by, taken_of}
+use Rattle.sock_io.specs.Meeting.{MeetStep, OffersFound}
+use Rattle.sock_io.specs.Peer.{PeerState}
 
 -- ## Calls of the halves
 
@@ -47,6 +49,16 @@ served_take took gave given finished o o' result t s = subst (λ (x : Offer). Is
   ended = s.ended;
   closed = s.closed;
 }
+
+-- ## What is compared
+
+found_nothing : (out : OutState) (peer : PeerState) (inn : InState) (o : Option Offer) → OffersFound out peer inn o o
+found_nothing out peer inn (Some o) = refl
+found_nothing out peer inn None = tt
+
+-- a link whose way isn't known finds nothing more
+pub met_nothing : (out : OutState) (peer : PeerState) (inn : InState) → inn.way ≡ [] → MeetStep out peer inn inn
+met_nothing out peer inn none = record { same = refl; offer = found_nothing out peer inn inn.offer; all = λ known. absurd (known none) }
 
 -- ## What was given
 

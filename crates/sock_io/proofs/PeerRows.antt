@@ -5,19 +5,19 @@ use Rattle.sock_io.specs.declared.link.Served.TheVariants as served
 use Rattle.sock_io.specs.Peer.{PeerState, HasMoved, ServeStep}
 
 abbrev fresh : PeerState
-fresh = record { present = true; serve = true; end = None; way_in = []; way_out = []; took = 0; took_bytes = Some []; saw_finish = false; gave = 0; gave_bytes = None; ending = ending.Open }
+fresh = record { present = true; serve = true; end = None; way_in = []; way_out = []; took = 0; took_bytes = Some []; saw_finish = false; gave = 0; gave_bytes = None; ending = ending.Open; starved = false }
 
 -- three bytes came in, and two went out
 abbrev answered : PeerState
-answered = record { present = true; serve = true; end = None; way_in = []; way_out = []; took = 3; took_bytes = Some (1 ∷ 2 ∷ 3 ∷ []); saw_finish = false; gave = 2; gave_bytes = None; ending = ending.Open }
+answered = record { present = true; serve = true; end = None; way_in = []; way_out = []; took = 3; took_bytes = Some (1 ∷ 2 ∷ 3 ∷ []); saw_finish = false; gave = 2; gave_bytes = None; ending = ending.Open; starved = false }
 
 -- the link was finished, and it closed its half
 abbrev closed : PeerState
-closed = record { present = true; serve = true; end = None; way_in = []; way_out = []; took = 3; took_bytes = Some (1 ∷ 2 ∷ 3 ∷ []); saw_finish = true; gave = 2; gave_bytes = None; ending = ending.Closed }
+closed = record { present = true; serve = true; end = None; way_in = []; way_out = []; took = 3; took_bytes = Some (1 ∷ 2 ∷ 3 ∷ []); saw_finish = true; gave = 2; gave_bytes = None; ending = ending.Closed; starved = false }
 
--- it gave its end, and takes what still comes
+-- it gave its end for want of memory, and takes what still comes
 abbrev ended : PeerState
-ended = record { present = true; serve = true; end = None; way_in = []; way_out = []; took = 3; took_bytes = Some (1 ∷ 2 ∷ 3 ∷ []); saw_finish = false; gave = 2; gave_bytes = None; ending = ending.Ended }
+ended = record { present = true; serve = true; end = None; way_in = []; way_out = []; took = 3; took_bytes = Some (1 ∷ 2 ∷ 3 ∷ []); saw_finish = false; gave = 2; gave_bytes = None; ending = ending.Ended; starved = true }
 
 moves_bytes : ServeStep fresh (Ok served.Moved) answered
 moves_bytes = (
@@ -37,6 +37,7 @@ moves_bytes = (
     },
   ),
   inl (omega arith),
+  refl,
   refl,
 )
 
@@ -61,6 +62,7 @@ closes = (
     },
   ),
   refl,
+  refl,
 )
 
 gives_its_end : ServeStep fresh (Err record {}) ended
@@ -83,6 +85,7 @@ gives_its_end = (
   refl,
   refl,
   refl,
+  refl,
 )
 
 -- `Moved` isn't answered where nothing moved
@@ -94,13 +97,13 @@ not_moved peer (inr (inr (inr differs))) = differs refl
 
 -- no byte is given behind the end, and none is taken back
 none_behind_the_end : ServeStep ended (Ok served.Moved) (record ended { gave = 3 }) → ⊥
-none_behind_the_end ((taken, given, m), moved, done) =
+none_behind_the_end ((taken, given, m), moved, done, calm) =
     let none : length given ≡ 0 = ap length (m.ended (λ e. cc)).1 in
     omega (arith, m.gave.count, none)
 
 none_back : ServeStep answered (Ok served.Moved) (record answered { took = 2 }) → ⊥
-none_back ((taken, given, m), moved, done) = omega (arith, m.took.count)
+none_back ((taken, given, m), moved, done, calm) = omega (arith, m.took.count)
 
 -- `Done` isn't answered without a cause
 not_done : ServeStep answered (Ok served.Done) answered → ⊥
-not_done (m, done) = cc
+not_done (m, done, calm) = cc

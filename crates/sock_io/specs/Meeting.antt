@@ -1,5 +1,5 @@
 -- The ends of a link that are compared on one thread, by what is told of them.
-use Rattle.std.specs.Prelude.{ℕ, ◌≡◌, true, List, [], Option, None, Some}
+use Rattle.std.specs.Prelude.{ℕ, ◌≡◌, ◌≢◌, ◌⊎◌, true, false, List, [], Option, None, Some}
 use Rattle.sock_io.specs.declared.ending.Ending.TheVariants as ending
 use Rattle.sock_io.specs.declared.link.LinkSpec.{LinkSpec}
 use Rattle.sock_io.specs.Link.{OutState, InState, Offer, IsServed}
@@ -32,7 +32,12 @@ OffersFound out peer inn (Some o) new = new ≡ Some o
 OffersFound out peer inn None None = Unit {0}
 OffersFound out peer inn None (Some o) = IsFound out peer inn o
 
+-- Over a way that is known all that was offered is found once the reading half answered its end or its closing, unless memory was wanting for the other end.
+abbrev pub FindsAll : PeerState → InState → InState → Type 0
+FindsAll peer old new = old.way ≢ [] → peer.starved ≡ false → (old.gave_end ≡ true) ⊎ (old.closed ≡ Some true) → new.offer ≢ None
+
 -- of the reading half nothing changes but what its other end offers
 pub record MeetStep (out : OutState) (peer : PeerState) (old new : InState) : Type 0 where
   pub same : new ≡ record old { offer = new.offer }
   pub offer : OffersFound out peer old old.offer new.offer
+  pub all : FindsAll peer old new

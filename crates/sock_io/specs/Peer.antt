@@ -29,6 +29,8 @@ pub record PeerState : Type 0 where
   pub gave_bytes : Option (List ℕ)
   -- what it gave behind its bytes: nothing so far, its end, or the closing of its half
   pub ending : Ending
+  -- whether memory was wanting for it, so that it gave its end and throws away what comes
+  pub starved : Bool
 
 -- whether it gave its end or closed its half
 abbrev pub has_ended : Ending → Bool
@@ -71,10 +73,10 @@ HasMoved old new = (old.took < new.took) ⊎ (old.gave < new.gave) ⊎ (old.saw_
 -- What a call may answer, and what it leaves. Want of memory comes once: with it the end is given, and to throw later
 -- bytes away takes none.
 abbrev pub ServeStep : PeerState → Result Served NoMemory → PeerState → Type 0
-ServeStep old (Ok served.Moved) new = Moved old new × HasMoved old new × (is_done new ≡ false)
+ServeStep old (Ok served.Moved) new = Moved old new × HasMoved old new × (is_done new ≡ false) × (new.starved ≡ old.starved)
 ServeStep old (Ok served.Waiting) new = (new ≡ old) × (is_done new ≡ false)
-ServeStep old (Ok served.Done) new = Moved old new × (is_done new ≡ true)
-ServeStep old (Err fault) new = Moved old new × (old.present ≡ true) × (old.ending ≡ ending.Open) × (new.ending ≡ ending.Ended)
+ServeStep old (Ok served.Done) new = Moved old new × (is_done new ≡ true) × (new.starved ≡ old.starved)
+ServeStep old (Err fault) new = Moved old new × (old.present ≡ true) × (old.ending ≡ ending.Open) × (new.ending ≡ ending.Ended) × (new.starved ≡ true)
 
 -- an other end that took and gave nothing so far
 pub record IsNewPeer (peer : PeerState) : Type 0 where
@@ -84,7 +86,8 @@ pub record IsNewPeer (peer : PeerState) : Type 0 where
   pub gave : peer.gave ≡ 0
   pub gave_bytes : IfSome peer.gave_bytes (λ bytes. bytes ≡ [])
   pub ending : peer.ending ≡ ending.Open
+  pub starved : peer.starved ≡ false
 
 -- no other end
 abbrev pub no_peer : PeerState
-no_peer = record { present = false; serve = false; end = None; way_in = []; way_out = []; took = 0; took_bytes = None; saw_finish = false; gave = 0; gave_bytes = None; ending = ending.Open }
+no_peer = record { present = false; serve = false; end = None; way_in = []; way_out = []; took = 0; took_bytes = None; saw_finish = false; gave = 0; gave_bytes = None; ending = ending.Open; starved = false }

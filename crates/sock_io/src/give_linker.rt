@@ -1,4 +1,4 @@
-ghost use Rattle.std.specs.Prelude.{◌≡◌, ◌+◌, ◌<◌, ◌∷◌, ◌++◌, true, [], length, IfOk, IsErrOf, OnErr, OnOk};
+ghost use Rattle.std.specs.Prelude.{false, ◌≡◌, ◌+◌, ◌<◌, ◌∷◌, ◌++◌, true, [], length, IfOk, IsErrOf, OnErr, OnOk};
 ghost use Rattle.sock_io.specs.Giving.{before_bytes, bytes_and_end, give_in, settled_in, shape_asked};
 ghost use Rattle.sock_io.specs.Link.{SettleStep, connection_of, end_of};
 ghost use Rattle.sock_io.specs.Linker.{new_half, plain_shape};
@@ -88,6 +88,8 @@ impl Linker for GiveLinker {
 
     ghost always_ready = { λ _. true };
 
+    ghost tells_in = { λ _. false };
+
     fn open(&mut self, spec: &LinkSpec) -> Result<Link, OpenFault>
         requires piece { 0 < spec.now.piece }
         requires few { length self.old.asked < 256 }
@@ -133,6 +135,9 @@ impl Linker for GiveLinker {
         ends.inn.close_where(finished);
         Ok(())
     }
+
+    #[tactic(auto, using(crate::proofs::Offers::met_nothing))]
+    fn meet(&mut self, _ends: &mut Link) {}
 
     fn accept(&mut self, _port: u16) -> Result<(Shaped<MemOut>, GiveIn), OpenFault>
         requires { self.old.accepted < 256 }

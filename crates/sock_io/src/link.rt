@@ -1,4 +1,4 @@
-ghost use Rattle.std.specs.Prelude.{◌≡◌, ◌≢◌, ℕ, ◌+◌, ◌<◌, ◌≤◌, ◌∷◌, ◌++◌, [], Bool, true, List, length, IfOk, IfSome, IsErrOf, OnErr, OnOk, IsTrue};
+ghost use Rattle.std.specs.Prelude.{◌≡◌, ◌≢◌, ℕ, ◌+◌, ◌<◌, ◌≤◌, ◌∷◌, ◌++◌, [], Bool, true, List, length, IfOk, IfSome, IsErrOf, OnErr, OnOk, IsTrue, None};
 ghost use Rattle.std.specs.List.{AllByRecursion};
 ghost use Rattle.brpc_model.specs.Link.{LinkEnd};
 ghost use Rattle.sock_io.specs.Causes.{Rose};
@@ -164,6 +164,7 @@ pub enum OpenFault {
 /// Its count of faults never falls: it rises where a call answers `Failed`, and stands still otherwise.
 pub trait Linker {
     ghost use Rattle.sock_io.specs.declared.link.LinkSpec.{LinkSpec};
+    ghost use Rattle.sock_io.specs.declared.link.Mode.{Mode};
 
     type O: Out + Send;
 
@@ -188,6 +189,10 @@ pub trait Linker {
     /// Whether `ready` never answers `NotYet` on its links in mode `Loop`.
     ghost always_ready: { Self → Bool };
 
+    /// Whether links in this mode have other ends inside this process, and tell what these offered once they have ended and
+    /// the ends are compared (`meet`), but not before: which way their bytes come is known.
+    ghost tells_in: { Mode → Bool };
+
     /// Opens the next link, and reserves the room for its `back`.
     fn open(&mut self, spec: &LinkSpec) -> Result<Ends<Self::O, Self::I, Self::P>, OpenFault>
         requires piece { 0 < spec.now.piece }
@@ -197,6 +202,7 @@ pub trait Linker {
         ensures offer { IfOk result (λ ends. IfSome (Self.I.state ends.inn).offer (λ o. IsNewOffer spec.now o)) }
         ensures one { IfOk result (λ ends. AreEnds (Self.O.state ends.out) (Self.P.state ends.peer) (Self.I.state ends.inn)) }
         ensures other { IfOk result (λ ends. IsAskedPeer spec.now (Self.P.state ends.peer)) }
+        ensures tells { IfOk result (λ ends. tells_in spec.now.mode ≡ true → ((Self.I.state ends.inn).way ≢ []) × ((Self.I.state ends.inn).offer ≡ None) × ((Self.P.state ends.peer).present ≡ true)) }
         ensures always_ready { IfOk result (λ ends. always_ready self.old ≡ true → spec.now.mode ≡ Mode.Loop → (Self.O.state ends.out).always_ready ≡ true) }
         ensures asked { IfOk result (λ _. asked self.new ≡ asked self.old ++ spec.now ∷ []) }
         ensures refused { OnErr result (asked self.new ≡ asked self.old) }
@@ -225,19 +231,19 @@ pub trait Linker {
         ensures faults { faults self.new ≡ faults self.old };
 
     /// Compares the ends of a link, once nobody else moves them: what its other end offers may become known by that.
-    /// Besides that, what is told of the halves stays as it is. Most kinds of link do nothing here.
-    fn meet(&mut self, _ends: &mut Ends<Self::O, Self::I, Self::P>)
-        requires { AreEnds (Self.O.state _ends.old.out) (Self.P.state _ends.old.peer) (Self.I.state _ends.old.inn) }
-        ensures out { MeetOut (Self.O.state _ends.old.out) (Self.O.state _ends.new.out) }
-        ensures peer { Self.P.state _ends.new.peer ≡ Self.P.state _ends.old.peer }
-        ensures inn { MeetStep (Self.O.state _ends.old.out) (Self.P.state _ends.old.peer) (Self.I.state _ends.old.inn) (Self.I.state _ends.new.inn) }
+    /// Besides that, what is told of the halves stays as it is. Most kinds of link do
+    /// nothing here.
+    fn meet(&mut self, ends: &mut Ends<Self::O, Self::I, Self::P>)
+        requires { AreEnds (Self.O.state ends.old.out) (Self.P.state ends.old.peer) (Self.I.state ends.old.inn) }
+        ensures out { MeetOut (Self.O.state ends.old.out) (Self.O.state ends.new.out) }
+        ensures peer { Self.P.state ends.new.peer ≡ Self.P.state ends.old.peer }
+        ensures inn { MeetStep (Self.O.state ends.old.out) (Self.P.state ends.old.peer) (Self.I.state ends.old.inn) (Self.I.state ends.new.inn) }
         ensures asked { asked self.new ≡ asked self.old }
         ensures accepted { accepted self.new ≡ accepted self.old }
         ensures back { back self.new ≡ back self.old }
         ensures done { done self.new ≡ done self.old }
         ensures stays_prompt { always_ready self.new ≡ always_ready self.old }
-        ensures faults { faults self.new ≡ faults self.old }
-    {}
+        ensures faults { faults self.new ≡ faults self.old };
 
     /// Accepts the next connection, and reserves the room for its `done`. The first call listens on 127.0.0.1 at the
     /// port.
