@@ -2,5 +2,7 @@ pub mod Socketed
 pub mod Words
 pub mod Each
 pub mod Telling
+pub mod Sends
+pub mod Silent
 pub mod Regave
 pub mod Fits
