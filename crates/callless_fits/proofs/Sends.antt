@@ -90,64 +90,64 @@ module _ (r : ToldRun) where
   abbrev pub run_of : Run
   run_of = record { script = r.script; report = r.report; ends = r.ends; late = nothing_late; story = record { fails = r.fails; gave = r.gave; last = r.last } }
 
-  abbrev Names : List (List ℕ)
+  abbrev pub Names : List (List ℕ)
   Names = names r.script
 
-  abbrev Ops : List Operation
+  abbrev pub Ops : List Operation
   Ops = operations r.script
 
-  abbrev links : ℕ
+  abbrev pub links : ℕ
   links = length (link_names r.script)
 
-  abbrev fixed : Fixed
+  abbrev pub fixed : Fixed
   fixed = fixed_by r.broken r.early r.fails
 
-  abbrev Tasks : List (List Task)
+  abbrev pub Tasks : List (List Task)
   Tasks = all_tasks r.script
 
-  abbrev IsOp : ℕ → Operation → Type 0
+  abbrev pub IsOp : ℕ → Operation → Type 0
   IsOp i q = slice_get Ops i ≡ Some q
 
-  abbrev TaskAt : ℕ → ℕ → Op → Type 0
+  abbrev pub TaskAt : ℕ → ℕ → Op → Type 0
   TaskAt c i op = IsTask Tasks r.outcomes c record { number = i; op = op }
 
-  abbrev Stands : ℕ → ℕ → Accepted → Type 0
+  abbrev pub Stands : ℕ → ℕ → Accepted → Type 0
   Stands k i a = StandsAt r.orders k i a
 
-  abbrev WhyAt : ℕ → ℕ → Op → Outcome → Type 0
+  abbrev pub WhyAt : ℕ → ℕ → Op → Outcome → Type 0
   WhyAt c i op o = Why (plan_of r.script) Tasks r.outcomes fixed r.gave r.orders r.last c i op o
 
-  abbrev Words : List PlaceWord
+  abbrev pub Words : List PlaceWord
   Words = place_words (plan_of r.script) r.core.words
 
   -- ## Outcomes
 
-  became : (i : ℕ) (o : Outcome) → is_said o ≡ true → HasOutcome run_of i o → slice_get r.outcomes i ≡ Some (Some o)
+  pub became : (i : ℕ) (o : Outcome) → is_said o ≡ true → HasOutcome run_of i o → slice_get r.outcomes i ≡ Some (Some o)
   became i o s e = outcome_told Words r.outcomes i o s (ap (λ os. slice_get os i) (sym r.told.outcomes) ∙ e)
 
-  reported : (i : ℕ) (o : Outcome) → slice_get r.outcomes i ≡ Some (Some o) → HasOutcome run_of i o
+  pub reported : (i : ℕ) (o : Outcome) → slice_get r.outcomes i ≡ Some (Some o) → HasOutcome run_of i o
   reported i o e = ap (λ os. slice_get os i) r.told.outcomes ∙ told_outcome Words r.outcomes i o e
 
-  said_or_placed_at : (i : ℕ) (o : Outcome) → HasOutcome run_of i o → SaidOrPlaced Words r.outcomes i o
+  pub said_or_placed_at : (i : ℕ) (o : Outcome) → HasOutcome run_of i o → SaidOrPlaced Words r.outcomes i o
   said_or_placed_at i o e = said_or_placed Words r.outcomes i o (ap (λ os. slice_get os i) (sym r.told.outcomes) ∙ e)
 
   asked : (i : ℕ) (q : Operation) → IsOp i q → (op : Op) × (asks_at r.script i q ≡ Some op)
   asked i q e = asked_at r.script i q e
 
-  task_at : (i : ℕ) (q : Operation) (op : Op) → IsOp i q → asks_at r.script i q ≡ Some op → TaskAt q.client i op
+  pub task_at : (i : ℕ) (q : Operation) (op : Op) → IsOp i q → asks_at r.script i q ≡ Some op → TaskAt q.client i op
   task_at i q op e f = operation_task r.script r.outcomes i q op e f
 
   -- ## Names without a socket
 
   -- an operation that opened a socket is an `open` of this number
-  opened_at : (j slot version k : ℕ) (q : Operation) (op : Op) → IsOp j q → asks_at r.script j q ≡ Some op → slice_get r.outcomes j ≡ Some (Some (Opened slot version k)) → (n : ℕ) × (op ≡ ops.Open n k)
+  pub opened_at : (j slot version k : ℕ) (q : Operation) (op : Op) → IsOp j q → asks_at r.script j q ≡ Some op → slice_get r.outcomes j ≡ Some (Some (Opened slot version k)) → (n : ℕ) × (op ≡ ops.Open n k)
   opened_at j slot version k q op there asks b =
       let t = task_at j q op there asks in
       let on = r.opens q.client (record { number = j; op = op }) slot version k t b in
       opened_is (plan_of r.script) Tasks r.outcomes fixed r.gave r.orders r.last q.client j op slot version k on (r.tells.why r.last q.client (record { number = j; op = op }) (Opened slot version k) t b on)
 
   -- and its link has the name with that number
-  open_named : (j n k : ℕ) (q : Operation) → IsOp j q → asks_at r.script j q ≡ Some (ops.Open n k) → (name : List ℕ) × (slice_get (link_names r.script) k ≡ Some name) × (n ≡ name_number Names name)
+  pub open_named : (j n k : ℕ) (q : Operation) → IsOp j q → asks_at r.script j q ≡ Some (ops.Open n k) → (name : List ℕ) × (slice_get (link_names r.script) k ≡ Some name) × (n ≡ name_number Names name)
   open_named j n k q there asks =
       let m = open_asks (numbered r.script) Names (numbers_at r.script j q) q.item n k asks in
       (m.0, ap (slice_get (link_names r.script)) m.4 ∙ named_at r.script j q m.0 m.1 there m.2, m.3)
@@ -173,7 +173,7 @@ module _ (r : ToldRun) where
   seeks_by x (Call call) name op e f = subst (SeeksAt (name_number Names name)) (some_is (ops.Call (asked_of Names x.number call)) op e) (first_number Names x.number call name f)
   seeks_by x other name op e f = absurd (cc)
 
-  find_none : (c o n : ℕ) (name : List ℕ) → n ≡ name_number Names name → FoundNone (plan_of r.script) Tasks r.outcomes fixed r.gave r.orders c o n → MayFindNone run_of c o name
+  pub find_none : (c o n : ℕ) (name : List ℕ) → n ≡ name_number Names name → FoundNone (plan_of r.script) Tasks r.outcomes fixed r.gave r.orders c o n → MayFindNone run_of c o name
   find_none c o n name is found j q there = (
     λ z opens. opens_not n name is j 0 q there z (λ op t. found.setup (record { number = j; op = op }) t) opens,
     λ own less. (
@@ -208,7 +208,7 @@ module _ (r : ToldRun) where
       let same : r.last t.number ≡ r.last a.operation = ap r.last number in
       record { operation = w.operation; there = ap (slice_get Ops) (sym number) ∙ w.there; counts = omega (arith, made, most, range, same, ap attempts_of m.1); kind = inr (m.0, m.1) }
 
-  sent_at : (k i : ℕ) (a : Accepted) → k < links → Stands k i a → SentAt a
+  pub sent_at : (k i : ℕ) (a : Accepted) → k < links → Stands k i a → SentAt a
   sent_at k i a low at = by_kind k a (all_at (IsSent (plan_of r.script) Tasks r.outcomes fixed r.gave r.orders r.last k) (r.orders k).accepted a (r.sent k low) (i, at))
 
   -- ## Their number
@@ -216,10 +216,10 @@ module _ (r : ToldRun) where
   small : AllByRecursion (λ (op : Operation). attempts_of op.item ≤ 8) Ops
   small = all_from (λ (op : Operation). attempts_of op.item ≤ 8) Ops (λ q h. range_small q.item (all_at InRange r.script q.item (is_counted r.bytes r.script r.reads).in_range (are_from 0 1 r.script h.0 q h.1).there))
 
-  abbrev most : ℕ
+  abbrev pub most : ℕ
   most = 8 * length Ops
 
-  labels_there : (k i : ℕ) (a : Accepted) → k < links → Stands k i a → (a.attempt < 8) × (a.operation < length Ops) × (label a < most) × (is_attempt Ops (label a) ≡ true)
+  pub labels_there : (k i : ℕ) (a : Accepted) → k < links → Stands k i a → (a.attempt < 8) × (a.operation < length Ops) × (label a < most) × (is_attempt Ops (label a) ≡ true)
   labels_there k i a low at =
       let w = sent_at k i a low at in
       let inside_ : a.operation < length Ops = slice_get_within Ops a.operation w.operation w.there in
@@ -233,7 +233,7 @@ module _ (r : ToldRun) where
   own_differ : (k : ℕ) → k < links → EachBefore Differ (r.orders k).accepted
   own_differ k low = before_from Differ (r.orders k).accepted (λ i j a b less at bt. differ_at k k i j a b low low (λ same. omega (arith, less, same.1)) at bt)
 
-  inside : (k i : ℕ) (a : Accepted) → k < links → Stands k i a → (i < 4294967295) × (a.operation < length Ops) × (a.attempt < 8)
+  pub inside : (k i : ℕ) (a : Accepted) → k < links → Stands k i a → (i < 4294967295) × (a.operation < length Ops) × (a.attempt < 8)
   inside k i a low at =
       let always : ℕ → Bool = λ j. true in
       let bound : length (r.orders k).accepted ≤ tally always most = few_labels always most (r.orders k).accepted (own_differ k low) (λ b h. ((labels_there k h.0 b low h.1).2, refl)) in
@@ -259,7 +259,7 @@ module _ (r : ToldRun) where
   all_counted : all_accepted links r.orders ≡ length all_of
   all_counted = sym (flat_length accepted_of (from_to 0 links))
 
-  abbrev IsOut : ℕ → ℕ → Type 0
+  abbrev pub IsOut : ℕ → ℕ → Type 0
   IsOut o n = (k : ℕ) → StandsOn (plan_of r.script) Tasks r.outcomes fixed r.gave r.orders o n k → ⊥
 
   other_label : (o n k i : ℕ) (a : Accepted) → IsOut o n → n < 8 → k < links → Stands k i a → label a ≢ 8 * o + n
@@ -270,7 +270,7 @@ module _ (r : ToldRun) where
       out k (i, (k_low, a, at, operation, attempt))
 
   -- an attempt that no link accepted is one more than those that were accepted
-  fewer : (o n : ℕ) (q : Operation) → IsOp o q → n < attempts_of q.item → IsOut o n → all_accepted links r.orders < attempts r.script
+  pub fewer : (o n : ℕ) (q : Operation) → IsOp o q → n < attempts_of q.item → IsOut o n → all_accepted links r.orders < attempts r.script
   fewer o n q there counts out =
       let few_ = all_at (λ (op : Operation). attempts_of op.item ≤ 8) Ops q small (o, there) in
       let eight : n < 8 = omega (arith, counts, few_) in
@@ -292,7 +292,7 @@ module _ (r : ToldRun) where
       )
 
   -- a send of which something is said was accepted by no link
-  send_out : (i : ℕ) (q : Operation) (name bytes : List ℕ) (o : Outcome) → IsOp i q → q.item ≡ Send name bytes → slice_get r.outcomes i ≡ Some (Some o) → IsOut i 0
+  pub send_out : (i : ℕ) (q : Operation) (name bytes : List ℕ) (o : Outcome) → IsOp i q → q.item ≡ Send name bytes → slice_get r.outcomes i ≡ Some (Some o) → IsOut i 0
   send_out i q name bytes o there item b k w =
       let s = sent_at k w.0 w.1.1 w.1.0 w.1.2 in
       let whose : s.operation ≡ q = some_is s.operation q (sym s.there ∙ (ap (slice_get Ops) w.1.3 ∙ there)) in
@@ -304,20 +304,20 @@ module _ (r : ToldRun) where
   -- ## Where nothing went wrong
 
   module _ (calm : IsUntroubled r.script r.ends) (none_early : (k : ℕ) → k < links → Contains r.early k → ⊥) where
-    none_broken : (k : ℕ) → k < links → Contains r.broken k → ⊥
+    pub none_broken : (k : ℕ) → k < links → Contains r.broken k → ⊥
     none_broken k low b =
         let e = within r.ends k (omega (arith, low, r.given.as_many)) in
         let put = all_at (λ (x : LinkEnd). (x.put_faults ≡ 0) × (x.take_faults ≡ 0)) r.ends e.0 calm.put (k, e.1) in
         omega (arith, put.0, (r.given.each k e.0 e.1).failed b)
 
-    none_failed : (f : ℕ × ℕ) → Contains r.fails f → ⊥
+    pub none_failed : (f : ℕ × ℕ) → Contains r.fails f → ⊥
     none_failed f h =
         let w = all_at (IsFail Tasks r.outcomes) r.fails f r.tells.are (has_from r.fails f h) in
         let t = task_is r.script r.outcomes w.client w.task w.is in
         let a = fail_asks (numbered r.script) Names (numbers_at r.script w.task.number t.operation) t.operation.item w.name w.code (t.asks ∙ ap Some w.op) in
         calm.no_fail a.0 w.code (contains_from r.script (Fail a.0 w.code) (subst (Has r.script) a.1 (are_from 0 1 r.script w.task.number t.operation t.there).there))
 
-    unfailed : (counts : ℕ → Type 0) (k : ℕ) → k < links → FailingBy (plan_of r.script) Tasks r.outcomes fixed r.gave r.orders counts k → ⊥
+    pub unfailed : (counts : ℕ → Type 0) (k : ℕ) → k < links → FailingBy (plan_of r.script) Tasks r.outcomes fixed r.gave r.orders counts k → ⊥
     unfailed counts k low w = elim w [
       | inl f ↦ none_failed (f.0, k) f.1
       | inr (inl b) ↦ none_broken k low b
@@ -329,12 +329,12 @@ module _ (r : ToldRun) where
         none_there h = (let x = has_from fixed.late_links k h in let low : x.0 < 0 = slice_get_within fixed.late_links x.0 k x.1 in omega (arith, low))
 
     -- a life has one of the script's links
-    life_low : (n k slot version : ℕ) → Made Tasks r.outcomes n k slot version → k < links
+    pub life_low : (n k slot version : ℕ) → Made Tasks r.outcomes n k slot version → k < links
     life_low n k slot version m =
         let t = task_is r.script r.outcomes m.client m.task m.is in
         let w = open_named m.task.number n k t.operation t.there (t.asks ∙ ap Some m.op) in slice_get_within (link_names r.script) k w.0 w.1
 
-    all_placed : (k p : ℕ) (a : Accepted) → k < links → Stands k p a → p < (r.orders k).placed
+    pub all_placed : (k p : ℕ) (a : Accepted) → k < links → Stands k p a → p < (r.orders k).placed
     all_placed k p a low at =
         let inside_ = slice_get_within (r.orders k).accepted p a at in
         elim (nat_lt p (r.orders k).placed) as (λ b. nat_lt p (r.orders k).placed ≡ b → p < (r.orders k).placed) [
