@@ -6,6 +6,7 @@ pub mod Reading
 pub mod Told
 pub use Rattle.attempts_told
 pub use Rattle.call_whys
+pub use Rattle.callless_fits
 pub use Rattle.failed_told
 pub use Rattle.id_rule
 pub use Rattle.report_fits
