@@ -1,5 +1,5 @@
 -- The report of a run of a script without calls fits, by what is told of its sockets, whatever its links gave.
-use Rattle.std.proofs.Common.{◌≡◌, ℕ, true, false, List, [], length, map, option_map, slice_get, Option, Some, None, Ok, IfSome, Contains, refl, sym, ap, ◌∙◌, subst}
+use Rattle.std.proofs.Common.{◌≡◌, ℕ, true, false, List, length, slice_get, Option, Some, Ok, refl, sym, ap, ◌∙◌, subst}
 use Rattle.sock_words.specs.declared.outcome.Outcome.{Outcome}
 use Rattle.sock_words.specs.declared.place_word.PlaceWord.{PlaceWord}
 use Rattle.brpc_model.specs.Items.{Item, Call, CallLine}
@@ -8,7 +8,7 @@ use Rattle.brpc_model.specs.Operations.{Operation, operations}
 use Rattle.brpc_model.specs.Run.{Run, nothing_late}
 use Rattle.brpc_model.specs.Fits.{FitsRun, Reports as IsReportIn}
 use Rattle.brpc_model.specs.Script.{script_of}
-use Rattle.brpc_model.specs.PlaceWords.{IsReportOf, IsReportText, HasEachOutcome, took_at}
+use Rattle.brpc_model.specs.PlaceWords.{IsReportOf, IsReportText, HasEachOutcome}
 use Rattle.brpc_model.specs.Complete.{Completeness}
 use Rattle.seat_programs.specs.Cores.{Core}
 use Rattle.seat_programs.specs.Scripts.{Reports, all_tasks, is_callless, is_later, place_words}
@@ -17,14 +17,11 @@ use Rattle.seat_programs.specs.ToldCalls.{Fixed, Order, ToldCalls}
 use Rattle.report_fits.specs.Ends.{AreTold, IsEndOf, AreEndsOf}
 use Rattle.report_fits.proofs.Callless.{not_later}
 use Rattle.report_fits.proofs.Fitting.{fits_run}
-use Rattle.report_fits.proofs.Flat.{at_map, map_length}
-use Rattle.report_fits.proofs.Lists.{has_from, has_none}
 use Rattle.report_fits.proofs.Lines.{Given}
 use Rattle.report_fits.proofs.Numbering.{are_from}
 use Rattle.report_fits.proofs.Places.{known_of}
 use Rattle.sock_deeds.specs.Told.{fixed_by, ToldSockets}
-use Rattle.callless_fits.specs.Whole.{IsWholeText, AreSilentServed, gave_none, none_of, unread}
-use Rattle.callless_fits.proofs.Regave.{told_still}
+use Rattle.callless_fits.specs.Whole.{IsWholeText, AreSilentServed}
 use Rattle.callless_fits.proofs.Sends.{ToldRun, sends_done}
 use Rattle.callless_fits.proofs.Silent.{none_early}
 use Rattle.callless_fits.proofs.Socketed.{of_sockets}
@@ -109,40 +106,3 @@ module _ (bytes : List ℕ) (script : List Item) (reads : script_of bytes ≡ Ok
       fits = subst (λ (l : List ℕ). IsReportIn (λ run. FitsRun run × (AreSilentServed script ends → Completeness run)) script l ends nothing_late) (sym reported.is_text)
           (reported.report, run.story, refl, (fits_run all_given, complete));
     }
-
-nothing_there : {A : Type 0} (x : A) → Contains [] x → ⊥
-nothing_there x h = has_none x (has_from [] x h)
-
--- ## As if nothing had been read
-
-gave_nothing : (o : Option (List ℕ)) → IfSome (option_map none_of o) (λ bytes. bytes ≡ [])
-gave_nothing None = tt
-gave_nothing (Some bytes) = refl
-
--- so it does over links that nobody read: what became of the operations doesn't turn on what the links gave
-module _ (bytes : List ℕ) (script : List Item) (reads : script_of bytes ≡ Ok script) (callless : is_callless script ≡ true) (outcomes : List (Option Outcome)) (places : List PlaceWord) (broken : List ℕ) (fails : List (ℕ × ℕ)) (gave : ℕ → List ℕ) (orders : ℕ → Order) (core : Core) where
-  unread_end : (k : ℕ) (e : LinkEnd) → IsEndOf (plan_of script) core (fixed_by broken [] fails) gave k e → IsEndOf (plan_of script) core (fixed_by broken [] fails) gave_none k (unread e)
-  unread_end k e h = record {
-    numbered = h.numbered;
-    took = h.took;
-    counted = refl;
-    gives = gave_nothing e.gave;
-    failed = h.failed;
-    early = λ there. absurd (nothing_there k there);
-    closed = λ there. absurd (nothing_there k there);
-  }
-
-  unread_ends : (ends : List LinkEnd) → AreEndsOf script core (fixed_by broken [] fails) gave ends → AreEndsOf script core (fixed_by broken [] fails) gave_none (map unread ends)
-  unread_ends ends h = record {
-    as_many = map_length unread ends ∙ h.as_many;
-    each = λ k e at. (let w = at_map unread ends k e at in subst (IsEndOf (plan_of script) core (fixed_by broken [] fails) gave_none k) w.2 (unread_end k w.0 (h.each k w.0 w.1)));
-  }
-
-  unread_told : (ends : List LinkEnd) (took : List (List ℕ)) → AreTold ends took → AreTold (map unread ends) took
-  unread_told ends took h k e at = let w = at_map unread ends k e at in subst (λ (x : LinkEnd). IfSome x.took (λ bytes. took_at took k ≡ bytes)) w.2 (h k w.0 w.1)
-
-  pub text_is_whole_unread : length outcomes ≡ length (operations script) → place_words (plan_of script) core.words ≡ places → HasEachOutcome places outcomes → ToldSockets (plan_of script) (all_tasks script) outcomes (fixed_by broken [] fails) gave orders core →
-      (text : List ℕ) (took : List (List ℕ)) (ends : List LinkEnd) → IsReportText script outcomes places took text → AreTold ends took → AreEndsOf script core (fixed_by broken [] fails) gave ends → IsWholeText script text gave_none (map unread ends)
-  text_is_whole_unread long words each tells text took ends reported told given =
-      text_is_whole bytes script reads callless outcomes places broken [] fails gave_none orders core long words each (told_still (plan_of script) (all_tasks script) outcomes (fixed_by broken [] fails) gave gave_none orders core tells)
-      text took (map unread ends) reported (unread_told ends took told) (unread_ends ends given)

@@ -4,5 +4,4 @@ pub mod Each
 pub mod Telling
 pub mod Sends
 pub mod Silent
-pub mod Regave
 pub mod Fits

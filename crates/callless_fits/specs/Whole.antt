@@ -1,5 +1,5 @@
 -- What is reported of a script without calls, whatever its links gave.
-use Rattle.std.specs.Prelude.{ℕ, ◌≡◌, Bool, false, IsTrue, List, [], option_map, slice_get, Some}
+use Rattle.std.specs.Prelude.{ℕ, ◌≡◌, false, IsTrue, List, slice_get, Some}
 use Rattle.std.specs.List.{AllByRecursion}
 use Rattle.brpc_model.specs.Items.{Item, Shape}
 use Rattle.brpc_model.specs.Operations.{link_shapes}
@@ -40,26 +40,3 @@ pub record IsWholeText (script : List Item) (text : List ℕ) (gave : ℕ → Li
   pub ends_told : AreEndsOf script core fixed gave ends
   -- the report fits the script and them, with nothing late; and where nothing went wrong, and no link with the server gave anything, every send is placed
   pub fits : IsReportIn (λ run. FitsRun run × (AreSilentServed script ends → Completeness run)) script text ends nothing_late
-
--- ## As if nothing had been read
-
-abbrev pub gave_none : ℕ → List ℕ
-gave_none link = []
-
-abbrev pub none_of : {A : Type 0} → List A → List A
-none_of xs = []
-
--- the link as it would have been given back if nobody had read it
-abbrev pub unread : LinkEnd → LinkEnd
-unread e = record {
-  link = e.link;
-  took = e.took;
-  put_faults = e.put_faults;
-  gave = option_map none_of e.gave;
-  gave_count = 0;
-  take_faults = 0;
-  gave_end = false;
-  closed = option_map (λ (answered : Bool). false) e.closed;
-  answers = e.answers;
-  takes = option_map none_of e.takes;
-}

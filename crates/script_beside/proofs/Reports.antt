@@ -28,7 +28,7 @@ use Rattle.script_calls.specs.call_whys.specs.call_told.proofs.Lists.{all_both}
 use Rattle.script_calls.specs.call_whys.specs.call_told.proofs.Making.{AllMade}
 use Rattle.script_calls.specs.call_whys.specs.call_told.proofs.Shown.{shown_once}
 use Rattle.script_calls.specs.call_whys.specs.sock_deeds.proofs.Orders.{orders}
-use Rattle.script_calls.specs.Reading.{IdSeat}
+use Rattle.script_calls.specs.Seats.{IdSeat}
 use Rattle.script_calls.specs.Told.{outcomes_of, AreCallsTold}
 use Rattle.script_calls.proofs.Answered.{failures_have, outcomes_have}
 use Rattle.script_calls.proofs.Asked.{AskFor, all_ask, ids_made, notes_of_seats}

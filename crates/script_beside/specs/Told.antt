@@ -28,7 +28,7 @@ use Rattle.script_calls.specs.call_whys.specs.call_told.specs.Answers.{AreAnswer
 use Rattle.script_calls.specs.call_whys.specs.call_told.specs.Once.{ShownOnce}
 use Rattle.script_calls.specs.call_whys.specs.sock_deeds.specs.Told.{fixed_by}
 use Rattle.script_calls.specs.callless_fits.specs.Whole.{IsWholeText}
-use Rattle.script_calls.specs.Reading.{IdSeat, TookAll}
+use Rattle.script_calls.specs.Seats.{IdSeat, TookAll}
 use Rattle.script_calls.specs.Told.{outcomes_of, IsReported, AreCallsTold}
 use Rattle.script_beside.specs.Joins.{AreJoinsTold}
 use Rattle.script_beside.specs.Sockets.{AreSocketsBeside}

@@ -1,8 +1,7 @@
-pub mod Built
 pub mod Halves
 pub mod Saying
 pub mod Ready
-pub mod Reading
+pub mod Seats
 pub mod Told
 pub use Rattle.attempts_told
 pub use Rattle.call_whys
