@@ -16,3 +16,6 @@ pub mod Failing
 pub mod Expires
 pub mod Joins
 pub mod Reports
+pub mod Meeting
+pub mod Unopened
+pub mod Replies
