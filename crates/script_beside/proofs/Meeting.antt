@@ -1,5 +1,5 @@
 -- The links of a run, from being opened to their ends being compared behind it: what each gave.
-use Rattle.std.proofs.Common.{◌≡◌, ◌≢◌, ◌⊎◌, inl, inr, ℕ, suc, ◌+◌, ◌<◌, if◌then◌else◌, Bool, true, false, List, [], ◌∷◌, length, map, flat_map, get_or, Option, Some, None, refl, sym, ap, ◌∙◌, subst, arith}
+use Rattle.std.proofs.Common.{◌≡◌, ◌≢◌, ℕ, suc, ◌+◌, ◌<◌, if◌then◌else◌, Bool, true, false, List, [], ◌∷◌, length, map, flat_map, get_or, Option, Some, None, refl, sym, ◌∙◌, subst, arith}
 use Rattle.std.specs.Prelude.{All}
 use Rattle.std.proofs.lemmas.List.Elements.{All-nil, All-cons}
 use Rattle.brpc_model.specs.Frame.{frame_bytes}
@@ -14,18 +14,18 @@ use Rattle.sock_io.specs.declared.link.LinkSpec.{LinkSpec}
 use Rattle.sock_io.specs.declared.link.Mode.{Mode}
 use Rattle.sock_io.specs.declared.link.Out.{Ghosts}
 use Rattle.sock_io.specs.Link.{OutState, InState, Offer, end_of, offered_by}
-use Rattle.sock_io.specs.Meeting.{AreEnds, IsAskedPeer, MeetStep}
+use Rattle.sock_io.specs.Meeting.{AreEnds, IsAskedPeer}
 use Rattle.sock_io.specs.Peer.{PeerState, IsNewPeer}
 use Rattle.script_links.specs.Opened.{IsOpened, AreOpened}
 use Rattle.call_run.specs.Readers.{LinkReader, nothing_read, IsReader, AreReaders, AllServed}
-use Rattle.call_run.specs.link_crew.specs.Meeting.{HasMet, MetBelow}
+use Rattle.call_run.specs.link_crew.specs.Meeting.{HasMet}
 use Rattle.call_run.specs.link_crew.specs.Serving.{ServedToEnd}
 use Rattle.call_run.specs.link_crew.specs.declared.beside.Rest.{Rest}
 use Rattle.call_run.specs.link_crew.proofs.Gave.{gave_all}
 use Rattle.call_run.specs.link_crew.proofs.Ways.{Stays, read_stays, ends_stay, asked_stays}
 use Rattle.call_run.specs.sock_table.specs.Closed.{ways_of}
-use Rattle.script_calls.specs.Halves.{rest_of, joined}
-use Rattle.script_beside.specs.Gave.{offered_for, WasReadOut, GaveOffer, GaveOffers}
+use Rattle.script_calls.specs.Halves.{joined}
+use Rattle.script_beside.specs.Gave.{offered_for, GaveOffer, GaveOffers}
 
 heads : {A : Type 0} (x y : A) (xs ys : List A) → x ∷ xs ≡ y ∷ ys → (x ≡ y) × (xs ≡ ys)
 heads x y xs ys e = (cc, cc)
