@@ -70,14 +70,14 @@ finish-text-requires-clause-ran g c = (
     (seated.seated_is c.args.script.now c.in-Ok.ready.plan c.seated-plan.result c.len-count.result c.in-Ok.ensures.plan (c.len-count.ensures ∙ (c.args.ends.ok.0 ∙ c.requires.all)) c.seated-plan.ensures) c.in-Ok.ensures.slots (c.deref.ensures.value ∙ c.in-Ok.ensures.opens_are) (c.deref-2.ensures.value ∙ c.in-Ok.ensures.calls_are) c.in-Ok.ensures.tasks ran.1 ran.2 ran.3.ids_are ran.3.told_is ran.3.early_is
     )
 
-pub give_back-requires-in-Ok-run_beside-clause-numbered : goal.give_back-requires-in-Ok-run_beside-clause-numbered
-give_back-requires-in-Ok-run_beside-clause-numbered g c κs within = give_numbered g.L.O.Out.state g.L.I.In.state c.seated-plan.result _ _ c.join.new.back.items (closed_back g.L.O.Out.state c.seated-plan.result _ _ _ _ c.in-Ok-run_beside.ensures.ran.1.closed) c.join.ensures
+pub meet_and_give_back-requires-clause-numbered : goal.meet_and_give_back-requires-clause-numbered
+meet_and_give_back-requires-clause-numbered g c κs within = give_numbered g.L.O.Out.state g.L.I.In.state c.seated-plan.result _ _ c.join.new.back.items (closed_back g.L.O.Out.state c.seated-plan.result _ _ _ _ c.in-Ok-run_beside.ensures.ran.1.closed) c.join.ensures
 
-pub give_back-requires-in-Ok-run_beside-clause-opened : goal.give_back-requires-in-Ok-run_beside-clause-opened
-give_back-requires-in-Ok-run_beside-clause-opened g c κs within = c.requires.opened ∙ sym ((give_as_many g.L.O.Out.state g.L.I.In.state c.seated-plan.result _ _ c.join.new.back.items (closed_back g.L.O.Out.state c.seated-plan.result _ _ _ _ c.in-Ok-run_beside.ensures.ran.1.closed) c.join.ensures c.args.ends.items (seated.all_links c.args.script.now c.seated-plan.result (seated.seated_is c.args.script.now c.in-Ok.ready.plan c.seated-plan.result c.len-count.result c.in-Ok.ensures.plan (c.len-count.ensures ∙ (c.args.ends.ok.0 ∙ c.requires.all)) c.seated-plan.ensures) (length c.args.ends.items) c.requires.all) ((sym (as_many (λ x. x.behind) (λ x. g.L.I.In.state x.inn) c.in-Ok-run_beside.ensures.ran.0 c.in-Ok-run_beside.field-0.rests.items c.in-Ok-run_beside.ensures.ran.3.behind) ∙ (as_many (λ x. x.before) (λ x. g.L.I.In.state x.inn) c.in-Ok-run_beside.ensures.ran.0 c.part.new.halves.rests.items c.in-Ok-run_beside.ensures.ran.3.before ∙ (ap length c.part.ensures.rests ∙ length-map c.args.ends.items rest_of))))))
+pub meet_and_give_back-requires-clause-opened : goal.meet_and_give_back-requires-clause-opened
+meet_and_give_back-requires-clause-opened g c κs within = c.requires.opened ∙ sym ((give_as_many g.L.O.Out.state g.L.I.In.state c.seated-plan.result _ _ c.join.new.back.items (closed_back g.L.O.Out.state c.seated-plan.result _ _ _ _ c.in-Ok-run_beside.ensures.ran.1.closed) c.join.ensures c.args.ends.items (seated.all_links c.args.script.now c.seated-plan.result (seated.seated_is c.args.script.now c.in-Ok.ready.plan c.seated-plan.result c.len-count.result c.in-Ok.ensures.plan (c.len-count.ensures ∙ (c.args.ends.ok.0 ∙ c.requires.all)) c.seated-plan.ensures) (length c.args.ends.items) c.requires.all) ((sym (as_many (λ x. x.behind) (λ x. g.L.I.In.state x.inn) c.in-Ok-run_beside.ensures.ran.0 c.in-Ok-run_beside.field-0.rests.items c.in-Ok-run_beside.ensures.ran.3.behind) ∙ (as_many (λ x. x.before) (λ x. g.L.I.In.state x.inn) c.in-Ok-run_beside.ensures.ran.0 c.part.new.halves.rests.items c.in-Ok-run_beside.ensures.ran.3.before ∙ (ap length c.part.ensures.rests ∙ length-map c.args.ends.items rest_of))))))
 
-pub give_back-requires-in-Ok-run_beside-clause-few : goal.give_back-requires-in-Ok-run_beside-clause-few
-give_back-requires-in-Ok-run_beside-clause-few g c κs within = let few = c.requires.few in let long = (give_as_many g.L.O.Out.state g.L.I.In.state c.seated-plan.result _ _ c.join.new.back.items (closed_back g.L.O.Out.state c.seated-plan.result _ _ _ _ c.in-Ok-run_beside.ensures.ran.1.closed) c.join.ensures c.args.ends.items (seated.all_links c.args.script.now c.seated-plan.result (seated.seated_is c.args.script.now c.in-Ok.ready.plan c.seated-plan.result c.len-count.result c.in-Ok.ensures.plan (c.len-count.ensures ∙ (c.args.ends.ok.0 ∙ c.requires.all)) c.seated-plan.ensures) (length c.args.ends.items) c.requires.all) ((sym (as_many (λ x. x.behind) (λ x. g.L.I.In.state x.inn) c.in-Ok-run_beside.ensures.ran.0 c.in-Ok-run_beside.field-0.rests.items c.in-Ok-run_beside.ensures.ran.3.behind) ∙ (as_many (λ x. x.before) (λ x. g.L.I.In.state x.inn) c.in-Ok-run_beside.ensures.ran.0 c.part.new.halves.rests.items c.in-Ok-run_beside.ensures.ran.3.before ∙ (ap length c.part.ensures.rests ∙ length-map c.args.ends.items rest_of))))) in omega (arith, few, long)
+pub meet_and_give_back-requires-clause-few : goal.meet_and_give_back-requires-clause-few
+meet_and_give_back-requires-clause-few g c κs within = let few = c.requires.few in let long = (give_as_many g.L.O.Out.state g.L.I.In.state c.seated-plan.result _ _ c.join.new.back.items (closed_back g.L.O.Out.state c.seated-plan.result _ _ _ _ c.in-Ok-run_beside.ensures.ran.1.closed) c.join.ensures c.args.ends.items (seated.all_links c.args.script.now c.seated-plan.result (seated.seated_is c.args.script.now c.in-Ok.ready.plan c.seated-plan.result c.len-count.result c.in-Ok.ensures.plan (c.len-count.ensures ∙ (c.args.ends.ok.0 ∙ c.requires.all)) c.seated-plan.ensures) (length c.args.ends.items) c.requires.all) ((sym (as_many (λ x. x.behind) (λ x. g.L.I.In.state x.inn) c.in-Ok-run_beside.ensures.ran.0 c.in-Ok-run_beside.field-0.rests.items c.in-Ok-run_beside.ensures.ran.3.behind) ∙ (as_many (λ x. x.before) (λ x. g.L.I.In.state x.inn) c.in-Ok-run_beside.ensures.ran.0 c.part.new.halves.rests.items c.in-Ok-run_beside.ensures.ran.3.before ∙ (ap length c.part.ensures.rests ∙ length-map c.args.ends.items rest_of))))) in omega (arith, few, long)
 
 pub returns-in-Ok-run_beside-clause-ran : goal.returns-in-Ok-run_beside-clause-ran
 returns-in-Ok-run_beside-clause-ran g c =
@@ -95,10 +95,10 @@ returns-in-Ok-run_beside-clause-ran g c =
     (ap (map (λ e. e.out)) c.join.ensures ∙ joined_outs g.L.O.Out.state g.L.I.In.state _ _ both)
     (ran.3.behind ∙ sym (ap (map (λ e. g.L.I.In.state e.inn)) c.join.ensures ∙ joined_inns g.L.O.Out.state g.L.I.In.state _ _ both))
     (had_none g.L.O.Out.state g.L.I.In.state c.args.ends.items c.part.new.halves.rests.items ran.0 c.requires.untouched c.part.ensures.rests ran.3.before)
-    q.1 c.give_back-in-Ok-run_beside.ensures.back q.2)
+    q.1 c.meet_and_give_back.ensures.back q.2)
 
 pub returns-in-Ok-run_beside-clause-back : goal.returns-in-Ok-run_beside-clause-back
-returns-in-Ok-run_beside-clause-back g c = ap length c.give_back-in-Ok-run_beside.ensures.back ∙ (length-map _ (end_at g.L.O.Out.state g.L.I.In.state) ∙ (give_as_many g.L.O.Out.state g.L.I.In.state c.seated-plan.result _ _ c.join.new.back.items (closed_back g.L.O.Out.state c.seated-plan.result _ _ _ _ c.in-Ok-run_beside.ensures.ran.1.closed) c.join.ensures c.args.ends.items (seated.all_links c.args.script.now c.seated-plan.result (seated.seated_is c.args.script.now c.in-Ok.ready.plan c.seated-plan.result c.len-count.result c.in-Ok.ensures.plan (c.len-count.ensures ∙ (c.args.ends.ok.0 ∙ c.requires.all)) c.seated-plan.ensures) (length c.args.ends.items) c.requires.all) ((sym (as_many (λ x. x.behind) (λ x. g.L.I.In.state x.inn) c.in-Ok-run_beside.ensures.ran.0 c.in-Ok-run_beside.field-0.rests.items c.in-Ok-run_beside.ensures.ran.3.behind) ∙ (as_many (λ x. x.before) (λ x. g.L.I.In.state x.inn) c.in-Ok-run_beside.ensures.ran.0 c.part.new.halves.rests.items c.in-Ok-run_beside.ensures.ran.3.before ∙ (ap length c.part.ensures.rests ∙ length-map c.args.ends.items rest_of))))))
+returns-in-Ok-run_beside-clause-back g c = ap length c.meet_and_give_back.ensures.back ∙ (length-map _ (end_at g.L.O.Out.state g.L.I.In.state) ∙ (give_as_many g.L.O.Out.state g.L.I.In.state c.seated-plan.result _ _ c.join.new.back.items (closed_back g.L.O.Out.state c.seated-plan.result _ _ _ _ c.in-Ok-run_beside.ensures.ran.1.closed) c.join.ensures c.args.ends.items (seated.all_links c.args.script.now c.seated-plan.result (seated.seated_is c.args.script.now c.in-Ok.ready.plan c.seated-plan.result c.len-count.result c.in-Ok.ensures.plan (c.len-count.ensures ∙ (c.args.ends.ok.0 ∙ c.requires.all)) c.seated-plan.ensures) (length c.args.ends.items) c.requires.all) ((sym (as_many (λ x. x.behind) (λ x. g.L.I.In.state x.inn) c.in-Ok-run_beside.ensures.ran.0 c.in-Ok-run_beside.field-0.rests.items c.in-Ok-run_beside.ensures.ran.3.behind) ∙ (as_many (λ x. x.before) (λ x. g.L.I.In.state x.inn) c.in-Ok-run_beside.ensures.ran.0 c.part.new.halves.rests.items c.in-Ok-run_beside.ensures.ran.3.before ∙ (ap length c.part.ensures.rests ∙ length-map c.args.ends.items rest_of))))))
 
 -- ## Where memory was wanting
 
