@@ -202,9 +202,9 @@ module _ (P : Type 0) {O I : Type 0} (out : O → OutState) (inn : I → InState
     made_for a (inl (OfCall client t asked_ outcome id slot version is_ number op became shows few bytes_ made)) = (_, slot, version, made)
     made_for a (inr w) = (_, w.slot, w.version, w.made)
 
-    none_sent : (as : List Accepted) → AllByRecursion Sent_ as → as ≡ []
+    none_sent : (accepted : List Accepted) → AllByRecursion Sent_ accepted → accepted ≡ []
     none_sent [] h = refl
-    none_sent (a ∷ as) h =
+    none_sent (a ∷ later) h =
         let m = made_for a h.0 in
         absurd (never_made m.0 m.1 m.2 (subst (λ (l : List (List Task)). Made l outs m.0 k m.1 m.2) (sym r.left.tasks)
         (subst (λ (os : List (Option Outcome)). Made (all_tasks script) os m.0 k m.1 m.2) (text_outcomes P out inn g script text links r bytes reads) m.3)))
