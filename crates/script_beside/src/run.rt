@@ -224,6 +224,7 @@ pub fn run_with_readers<L: Linker, G: Gate + Sync, R: Threads + Wait + Sync>(
     ensures ran { IfOk result (λ text. IsBesideRun L.P L.O.Out L.O.state L.I.state script.now text.items (L.back links.new)) }
     ensures text { IfOk result (λ text. IsBesideText script.now text.items (L.back links.new)) }
     ensures gave { OnOk result (GaveOffers L.tells_in (specs_of mode script.now) (L.back links.new)) }
+    ensures served { IfOk result (λ text. IsServedText (L.tells_in mode ≡ true) script.now text.items (L.back links.new)) }
     ensures unopened { IsErrOf result OpenFault.Failed → AreUntouched 0 (L.back links.new) }
     ensures all { OnOk result (length (L.back links.new) ≡ length (link_names script.now)) }
     ensures asked { OnOk result (L.asked links.new ≡ specs_of mode script.now) }
