@@ -18,4 +18,5 @@ pub mod Joins
 pub mod Reports
 pub mod Meeting
 pub mod Unopened
+pub mod ReadOut
 pub mod Replies

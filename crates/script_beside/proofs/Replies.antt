@@ -58,11 +58,11 @@ use Rattle.script_beside.proofs.Sockets.{outcomes, asked, run}
 use Rattle.script_beside.proofs.Unopened.{none_made, one_opener}
 
 pub some_there : {A : Type 0} (o : Option A) → IsSome o → (x : A) × (o ≡ Some x)
-some_there None some = absurd (cc)
-some_there (Some x) some = (x, refl)
+some_there None told = absurd (cc)
+some_there (Some x) told = (x, refl)
 
 pub told_of : {A : Type 0} (P : A → Type 0) (o : Option A) (x : A) → o ≡ Some x → IfSome o P → P x
-told_of P o x is h = subst (λ (y : Option A). IfSome y P) is h
+told_of {A} P o x is h = subst (λ (y : Option A). IfSome y P) is h
 
 offers_at : (tells_in : Mode → Bool) (specs : List LinkSpec) (ends : List LinkEnd) → GaveOffers tells_in specs ends → (k : ℕ) (s : LinkSpec) (e : LinkEnd) → slice_get specs k ≡ Some s → slice_get ends k ≡ Some e → tells_in s.mode ≡ true → GaveOffer s e
 offers_at tells_in [] ends h k s e at also told = absurd (cc)
