@@ -1,0 +1,7 @@
+pub mod SockTold
+pub mod Attempts
+pub mod CallsTold
+pub mod Answers
+pub mod Joins
+pub mod Known
+pub mod Owed
