@@ -1,2 +1,4 @@
 pub mod Scripts
 pub mod Fewer
+pub mod Opened
+pub mod Calm

@@ -1,0 +1,134 @@
+-- Where nothing went wrong no link is failing, and each call made one attempt.
+use Rattle.std.proofs.Common.{◌≡◌, ℕ, zero, suc, ◌+◌, ◌<◌, ◌≤◌, ◌⊎◌, inl, inr, Bool, true, false, List, [], ◌∷◌, length, slice_get, Option, Some, None, refl, sym, ap, ◌∙◌, subst, arith}
+use Rattle.std.proofs.lemmas.List.{nil_from_length}
+use Rattle.std.proofs.lemmas.Option.{slice_get_within}
+use Rattle.std.specs.Prelude.{IsTrue, Contains}
+use Rattle.brpc_model.specs.Causes.{HasFault, reading_limit}
+use Rattle.brpc_model.specs.Complete.{IsSilentUnserved, IsUntroubled}
+use Rattle.brpc_model.specs.Items.{Item, Shape, Open, Call, CallLine, Fail, attempts_of}
+use Rattle.brpc_model.specs.Link.{LinkEnd}
+use Rattle.brpc_model.specs.Operations.{Operation, operations, link_names, link_shapes}
+use Rattle.brpc_model.specs.Run.{IsOperation}
+use Rattle.report_fits.specs.Ends.{IsEndOf, EndsEarly}
+use Rattle.report_fits.proofs.Lists.{Has, all_at, has_from, has_later, has_none, contains_from, some_is, within}
+use Rattle.report_fits.proofs.Numbering.{are_from}
+use Rattle.report_fits.proofs.TaskLemmas.{numbers_at, task_is, fail_asks}
+use Rattle.sock_message.specs.Asked.{Asked, name_of}
+use Rattle.seat_programs.specs.declared.task.Op.TheVariants as ops
+use Rattle.seat_programs.specs.declared.task.Task.{Task}
+use Rattle.seat_programs.specs.Scripts.{all_tasks}
+use Rattle.seat_programs.specs.Tasks.{numbered, plan_of}
+use Rattle.seat_programs.specs.Told.{IsFail}
+use Rattle.seat_programs.specs.ToldCalls as told
+use Rattle.calls_done.specs.SockTold.{fixed_by}
+use Rattle.calls_done.specs.Known.{Known, run_of}
+use Rattle.calls_done.specs.Owed.{GivesCleanly}
+use Rattle.calls_done.proofs.Scripts.{Names, links, Task_, link_low}
+use Rattle.calls_done.proofs.Fewer.{fewer}
+
+-- ## The shape of a link
+
+pub shape_at : (items : List Item) (k : ℕ) (name : List ℕ) → slice_get (link_names items) k ≡ Some name → (shape : Shape) × (slice_get (link_shapes items) k ≡ Some shape) × Has items (Open name shape)
+shape_at [] k name e = absurd (cc)
+shape_at (Open n s ∷ items) zero name e = (s, refl, (zero, ap (λ (x : List ℕ). Some (Open x s)) (some_is n name e)))
+shape_at (Open n s ∷ items) (suc k) name e = let x = shape_at items k name e in (x.0, x.1, has_later (Open n s) items (Open name x.0) x.2)
+shape_at (item ∷ items) k name e = let x = shape_at items k name e in (x.0, x.1, has_later item items (Open name x.0) x.2)
+
+pub no_fault_none : HasFault [] → ⊥
+no_fault_none (start, fault, e) = cc
+
+module _ (s : Known) (untroubled : IsUntroubled s.script s.ends) (clean : GivesCleanly (run_of s)) where
+  -- ## Links
+
+  pub record LinkAt (k : ℕ) : Type 0 where
+    pub end : LinkEnd
+    pub at : slice_get s.ends k ≡ Some end
+    pub is : IsEndOf (plan_of s.script) s.core (fixed_by s.broken s.early s.fails) s.gave k end
+    pub name : List ℕ
+    pub named : slice_get (link_names s.script) k ≡ Some name
+    pub shape : Shape
+    pub shaped : slice_get (link_shapes s.script) k ≡ Some shape
+    pub opened : Contains s.script (Open name shape)
+
+  pub link_at : (k : ℕ) → k < links s → LinkAt k
+  link_at k low = let e = within s.ends k (let m = s.given.as_many in omega (arith, low, m)) in let n = within (link_names s.script) k low in let x = shape_at s.script k n.0 n.1 in
+      record { end = e.0; at = e.1; is = s.given.each k e.0 e.1; name = n.0; named = n.1; shape = x.0; shaped = x.1; opened = contains_from s.script (Open n.0 x.0) x.2 }
+
+  faultless : (k : ℕ) (l : LinkAt k) → (l.end.put_faults ≡ 0) × (l.end.take_faults ≡ 0)
+  faultless k l = all_at (λ (x : LinkEnd). (x.put_faults ≡ 0) × (x.take_faults ≡ 0)) s.ends l.end untroubled.put (k, l.at)
+
+  -- a link without the server gave nothing, and no end
+  pub unserved : (k : ℕ) (l : LinkAt k) → l.shape.serve ≡ false → (s.gave k ≡ []) × (l.end.gave_count ≡ 0) × (l.end.gave_end ≡ false)
+  unserved k l none_ = let quiet = all_at (IsSilentUnserved s.script) s.ends l.end untroubled.unserved (k, l.at) l.shape (ap (slice_get (link_shapes s.script)) l.is.numbered ∙ l.shaped) none_ in
+      let counted = l.is.counted in let zero_ = quiet.0 in (nil_from_length (s.gave k) (omega (arith, counted, zero_)), quiet.0, quiet.1)
+
+  pub record IsClean (k : ℕ) (e : LinkEnd) : Type 0 where
+    pub faultless : HasFault (s.gave k) → ⊥
+    pub few : e.gave_count < reading_limit
+    pub endless : e.gave_end ≡ false
+
+  -- so each gave no fault and no end, and less than the limit
+  pub clean_at : (k : ℕ) (l : LinkAt k) → IsClean k l.end
+  clean_at k l = by l.shape.serve refl
+    where
+      by : (b : Bool) → l.shape.serve ≡ b → IsClean k l.end
+      by true serves = let c = clean k l.end l.shape l.at l.shaped serves in record { faultless = c.0; few = c.1; endless = c.2 }
+      by false none_ = let u = unserved k l none_ in record { faultless = λ fault. no_fault_none (subst HasFault u.0 fault); few = (let z = u.1 in omega (arith, z)); endless = u.2 }
+
+  none_early : (k : ℕ) → k < links s → Contains s.early k → ⊥
+  none_early k low early = by (link_at k low) (let l = link_at k low in l.is.early early)
+    where
+      by : (l : LinkAt k) → EndsEarly (s.gave k) l.end → ⊥
+      by l (inl ended) = let e = (clean_at k l).endless in let z : false ≡ true = sym e ∙ ended in cc
+      by l (inr (inl fault)) = (clean_at k l).faultless fault
+      by l (inr (inr (inl most))) = let few = (clean_at k l).few in let z : ⊥ = omega (arith, most, few) in z
+      by l (inr (inr (inr failed))) = let f = (faultless k l).1 in let z : ⊥ = omega (arith, failed, f) in z
+
+  -- no `fail` stands in the script
+  pub no_fail : (client : ℕ) (t : Task) (name code : ℕ) → Task_ s client t → t.op ≡ ops.Fail name code → ⊥
+  no_fail client t name code it op = let w = task_is s.script s.outcomes client t it in let m = fail_asks (numbered s.script) (Names s) (numbers_at s.script t.number w.operation) w.operation.item name code (w.asks ∙ ap Some op) in
+      untroubled.no_fail m.0 code (contains_from s.script (Fail m.0 code) (subst (Has s.script) m.1 (are_from 0 1 s.script t.number w.operation w.there).there))
+
+  -- so it isn't failing
+  pub unfailing : (k : ℕ) → k < links s → told.IsFailing (plan_of s.script) (all_tasks s.script) s.outcomes (fixed_by s.broken s.early s.fails) s.gave s.orders k → ⊥
+  unfailing k low (inl (f, there, counts)) = let w = all_at (IsFail (all_tasks s.script) s.outcomes) s.fails (f, k) s.tells.are (has_from s.fails (f, k) there) in no_fail w.client w.task w.name w.code w.is w.op
+  unfailing k low (inr (inl broken)) = let l = link_at k low in let some_ = l.is.failed broken in let none_ = (faultless k l).0 in let z : ⊥ = omega (arith, some_, none_) in z
+  unfailing k low (inr (inr (inl early))) = none_early k low early
+  unfailing k low (inr (inr (inr late))) = has_none k (has_from [] k late)
+
+  -- ## The first attempt
+
+  abbrev WasFull_ : Type 0
+  WasFull_ = told.WasFull (plan_of s.script) (all_tasks s.script) s.outcomes (fixed_by s.broken s.early s.fails) s.gave s.orders
+
+  abbrev IsUnordered_ : ℕ → ℕ → Type 0
+  IsUnordered_ o n = told.IsUnordered (plan_of s.script) (all_tasks s.script) s.outcomes (fixed_by s.broken s.early s.fails) s.gave s.orders o n
+
+  abbrev pub At_ : ℕ → ℕ → ℕ → ℕ → Type 0
+  At_ o n k i = told.IsAt (plan_of s.script) (all_tasks s.script) s.outcomes (fixed_by s.broken s.early s.fails) s.gave s.orders o n k i
+
+  -- there are requests for all attempts
+  pub unfull : (i : ℕ) (op : Operation) (call : CallLine) → IsOperation (run_of s) i op → op.item ≡ Call call → IsUnordered_ i 0 → WasFull_ → ⊥
+  unfull i op call there item out full = let less = fewer s i 0 op there (let e = ap attempts_of item in omega (arith, e)) out in let few = untroubled.few_attempts in let z : ⊥ = omega (arith, less, few, full) in z
+
+  pub no_drop : (o n k i : ℕ) → At_ o n k i → (s.orders k).placed ≤ i → ⊥
+  no_drop o n k i w dropped = let inside = slice_get_within (s.orders k).accepted i w.1 w.2 in unfailing k w.0 (s.tells.dropped k w.0 (omega (arith, inside, dropped)))
+
+  pub no_loss : (c o name : ℕ) → told.WhyLost (plan_of s.script) (all_tasks s.script) s.outcomes (fixed_by s.broken s.early s.fails) s.gave s.orders c o 0 name → ⊥
+  no_loss c o name (told.WasFailing k slot version life failing) = unfailing k (link_low s name k slot version life) failing
+  no_loss c o name (told.RunEnding late) = has_none o (has_from [] o late)
+  no_loss c o name (told.WasUnopened later d m some_ few behind none_) = let z : ⊥ = omega (arith, later) in z
+
+  module _ (i : ℕ) (op : Operation) (call : CallLine) (there : IsOperation (run_of s) i op) (item : op.item ≡ Call call) (c : ℕ) (asked : Asked) (it : Task_ s c (record { number = i; op = ops.Call asked })) where
+    no_again : told.WhyAgain (plan_of s.script) (all_tasks s.script) s.outcomes (fixed_by s.broken s.early s.fails) s.gave s.orders c i 0 (name_of asked 0) → ⊥
+    no_again (told.AfterDrop w) = no_drop i 0 w.0 w.1 w.2 w.3
+    no_again (told.AfterLoss out lost) = no_loss c i (name_of asked 0) lost
+    no_again (told.AfterFull out full) = unfull i op call there item out full
+
+    -- is the last
+    pub last_first : s.attempts.last i ≡ 0
+    last_first = by (s.attempts.last i) refl
+      where
+        by : (n : ℕ) → s.attempts.last i ≡ n → s.attempts.last i ≡ 0
+        by zero e = e
+        by (suc n) e = absurd (no_again (s.calls.again c (record { number = i; op = ops.Call asked }) asked it refl 0 (omega (arith, e))))
