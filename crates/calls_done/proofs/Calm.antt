@@ -54,7 +54,7 @@ module _ (s : Known) (untroubled : IsUntroubled s.script s.ends) (clean : GivesC
   link_at k low = let e = within s.ends k (let m = s.given.as_many in omega (arith, low, m)) in let n = within (link_names s.script) k low in let x = shape_at s.script k n.0 n.1 in
       record { end = e.0; at = e.1; is = s.given.each k e.0 e.1; name = n.0; named = n.1; shape = x.0; shaped = x.1; opened = contains_from s.script (Open n.0 x.0) x.2 }
 
-  faultless : (k : ℕ) (l : LinkAt k) → (l.end.put_faults ≡ 0) × (l.end.take_faults ≡ 0)
+  pub faultless : (k : ℕ) (l : LinkAt k) → (l.end.put_faults ≡ 0) × (l.end.take_faults ≡ 0)
   faultless k l = all_at (λ (x : LinkEnd). (x.put_faults ≡ 0) × (x.take_faults ≡ 0)) s.ends l.end untroubled.put (k, l.at)
 
   -- a link without the server gave nothing, and no end
@@ -75,7 +75,7 @@ module _ (s : Known) (untroubled : IsUntroubled s.script s.ends) (clean : GivesC
       by true serves = let c = clean k l.end l.shape l.at l.shaped serves in record { faultless = c.0; few = c.1; endless = c.2 }
       by false none_ = let u = unserved k l none_ in record { faultless = λ fault. no_fault_none (subst HasFault u.0 fault); few = (let z = u.1 in omega (arith, z)); endless = u.2 }
 
-  none_early : (k : ℕ) → k < links s → Contains s.early k → ⊥
+  pub none_early : (k : ℕ) → k < links s → Contains s.early k → ⊥
   none_early k low early = by (link_at k low) (let l = link_at k low in l.is.early early)
     where
       by : (l : LinkAt k) → EndsEarly (s.gave k) l.end → ⊥
