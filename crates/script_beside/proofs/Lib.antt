@@ -16,3 +16,4 @@ pub mod Failing
 pub mod Expires
 pub mod Joins
 pub mod Reports
+pub mod Kinds
