@@ -3,13 +3,13 @@ use Rattle.std.proofs.Common.{◌≡◌, ℕ, zero, suc, ◌+◌, ◌<◌, ◌�
 use Rattle.std.proofs.lemmas.List.{nil_from_length}
 use Rattle.std.proofs.lemmas.Option.{slice_get_within}
 use Rattle.std.specs.Prelude.{IsTrue, Contains}
-use Rattle.brpc_model.specs.Causes.{HasFault, reading_limit}
+use Rattle.brpc_model.specs.Causes.{HasFault}
 use Rattle.brpc_model.specs.Complete.{IsSilentUnserved, IsUntroubled}
 use Rattle.brpc_model.specs.Items.{Item, Shape, Open, Call, CallLine, Fail, attempts_of}
 use Rattle.brpc_model.specs.Link.{LinkEnd}
 use Rattle.brpc_model.specs.Operations.{Operation, operations, link_names, link_shapes}
 use Rattle.brpc_model.specs.Run.{IsOperation}
-use Rattle.report_fits.specs.Ends.{IsEndOf, EndsEarly}
+use Rattle.report_fits.specs.Ends.{IsEndOf}
 use Rattle.report_fits.proofs.Lists.{Has, all_at, has_from, has_later, has_none, contains_from, some_is, within}
 use Rattle.report_fits.proofs.Numbering.{are_from}
 use Rattle.report_fits.proofs.TaskLemmas.{numbers_at, task_is, fail_asks}
@@ -22,7 +22,7 @@ use Rattle.seat_programs.specs.Told.{IsFail}
 use Rattle.seat_programs.specs.ToldCalls as told
 use Rattle.calls_done.specs.SockTold.{fixed_by}
 use Rattle.calls_done.specs.Known.{Known, run_of}
-use Rattle.calls_done.specs.Owed.{GivesCleanly}
+use Rattle.calls_done.specs.Owed.{IsUnsent, OwesReplies, GivesWell}
 use Rattle.calls_done.proofs.Scripts.{Names, links, Task_, link_low}
 use Rattle.calls_done.proofs.Fewer.{fewer}
 
@@ -37,7 +37,7 @@ shape_at (item ∷ items) k name e = let x = shape_at items k name e in (x.0, x.
 pub no_fault_none : HasFault [] → ⊥
 no_fault_none (start, fault, e) = cc
 
-module _ (s : Known) (untroubled : IsUntroubled s.script s.ends) (clean : GivesCleanly (run_of s)) where
+module _ (s : Known) (untroubled : IsUntroubled s.script s.ends) (none_early : (k : ℕ) → Contains s.early k → ⊥) where
   -- ## Links
 
   pub record LinkAt (k : ℕ) : Type 0 where
@@ -54,35 +54,25 @@ module _ (s : Known) (untroubled : IsUntroubled s.script s.ends) (clean : GivesC
   link_at k low = let e = within s.ends k (let m = s.given.as_many in omega (arith, low, m)) in let n = within (link_names s.script) k low in let x = shape_at s.script k n.0 n.1 in
       record { end = e.0; at = e.1; is = s.given.each k e.0 e.1; name = n.0; named = n.1; shape = x.0; shaped = x.1; opened = contains_from s.script (Open n.0 x.0) x.2 }
 
-  pub faultless : (k : ℕ) (l : LinkAt k) → (l.end.put_faults ≡ 0) × (l.end.take_faults ≡ 0)
-  faultless k l = all_at (λ (x : LinkEnd). (x.put_faults ≡ 0) × (x.take_faults ≡ 0)) s.ends l.end untroubled.put (k, l.at)
+  unfailed : (k : ℕ) (l : LinkAt k) → l.end.put_faults ≡ 0
+  unfailed k l = (all_at (λ (x : LinkEnd). (x.put_faults ≡ 0) × (x.take_faults ≡ 0)) s.ends l.end untroubled.put (k, l.at)).0
 
-  -- a link without the server gave nothing, and no end
-  pub unserved : (k : ℕ) (l : LinkAt k) → l.shape.serve ≡ false → (s.gave k ≡ []) × (l.end.gave_count ≡ 0) × (l.end.gave_end ≡ false)
+  -- a link without the server gave nothing
+  pub unserved : (k : ℕ) (l : LinkAt k) → l.shape.serve ≡ false → s.gave k ≡ []
   unserved k l none_ = let quiet = all_at (IsSilentUnserved s.script) s.ends l.end untroubled.unserved (k, l.at) l.shape (ap (slice_get (link_shapes s.script)) l.is.numbered ∙ l.shaped) none_ in
-      let counted = l.is.counted in let zero_ = quiet.0 in (nil_from_length (s.gave k) (omega (arith, counted, zero_)), quiet.0, quiet.1)
+      let counted = l.is.counted in let zero_ = quiet.0 in nil_from_length (s.gave k) (omega (arith, counted, zero_))
 
-  pub record IsClean (k : ℕ) (e : LinkEnd) : Type 0 where
-    pub faultless : HasFault (s.gave k) → ⊥
-    pub few : e.gave_count < reading_limit
-    pub endless : e.gave_end ≡ false
+  -- no `send` names a link with the server
+  pub unsent : (k : ℕ) (l : LinkAt k) → IsTrue l.shape.serve → IsUnsent (run_of s) k
+  unsent k l serves name bytes there named = untroubled.no_stray name bytes there (l.shape, subst (λ n. Contains s.script (Open n l.shape)) (some_is l.name name (sym l.named ∙ named)) l.opened, serves)
 
-  -- so each gave no fault and no end, and less than the limit
-  pub clean_at : (k : ℕ) (l : LinkAt k) → IsClean k l.end
-  clean_at k l = by l.shape.serve refl
+  -- so each link gave no fault
+  pub faultless : GivesWell (run_of s) → (k : ℕ) → LinkAt k → HasFault (s.gave k) → ⊥
+  faultless well k l = by l.shape.serve refl
     where
-      by : (b : Bool) → l.shape.serve ≡ b → IsClean k l.end
-      by true serves = let c = clean k l.end l.shape l.at l.shaped serves in record { faultless = c.0; few = c.1; endless = c.2 }
-      by false none_ = let u = unserved k l none_ in record { faultless = λ fault. no_fault_none (subst HasFault u.0 fault); few = (let z = u.1 in omega (arith, z)); endless = u.2 }
-
-  pub none_early : (k : ℕ) → k < links s → Contains s.early k → ⊥
-  none_early k low early = by (link_at k low) (let l = link_at k low in l.is.early early)
-    where
-      by : (l : LinkAt k) → EndsEarly (s.gave k) l.end → ⊥
-      by l (inl ended) = let e = (clean_at k l).endless in let z : false ≡ true = sym e ∙ ended in cc
-      by l (inr (inl fault)) = (clean_at k l).faultless fault
-      by l (inr (inr (inl most))) = let few = (clean_at k l).few in let z : ⊥ = omega (arith, most, few) in z
-      by l (inr (inr (inr failed))) = let f = (faultless k l).1 in let z : ⊥ = omega (arith, failed, f) in z
+      by : (b : Bool) → l.shape.serve ≡ b → HasFault (s.gave k) → ⊥
+      by true serves = (well k l.shape l.shaped serves (unsent k l serves)).faultless
+      by false none_ = λ fault. no_fault_none (subst HasFault (unserved k l none_) fault)
 
   -- no `fail` stands in the script
   pub no_fail : (client : ℕ) (t : Task) (name code : ℕ) → Task_ s client t → t.op ≡ ops.Fail name code → ⊥
@@ -92,8 +82,8 @@ module _ (s : Known) (untroubled : IsUntroubled s.script s.ends) (clean : GivesC
   -- so it isn't failing
   pub unfailing : (k : ℕ) → k < links s → told.IsFailing (plan_of s.script) (all_tasks s.script) s.outcomes (fixed_by s.broken s.early s.fails) s.gave s.orders k → ⊥
   unfailing k low (inl (f, there, counts)) = let w = all_at (IsFail (all_tasks s.script) s.outcomes) s.fails (f, k) s.tells.are (has_from s.fails (f, k) there) in no_fail w.client w.task w.name w.code w.is w.op
-  unfailing k low (inr (inl broken)) = let l = link_at k low in let some_ = l.is.failed broken in let none_ = (faultless k l).0 in let z : ⊥ = omega (arith, some_, none_) in z
-  unfailing k low (inr (inr (inl early))) = none_early k low early
+  unfailing k low (inr (inl broken)) = let l = link_at k low in let some_ = l.is.failed broken in let none_ = unfailed k l in let z : ⊥ = omega (arith, some_, none_) in z
+  unfailing k low (inr (inr (inl early))) = none_early k early
   unfailing k low (inr (inr (inr late))) = has_none k (has_from [] k late)
 
   -- ## The first attempt

@@ -35,11 +35,10 @@ use Rattle.calls_done.specs.SockTold.{fixed_by}
 use Rattle.calls_done.specs.CallsTold.{EndedByReading}
 use Rattle.calls_done.specs.Answers.{IsAnswer, HasAnswer}
 use Rattle.calls_done.specs.Known.{Known, IsOfCall, run_of}
-use Rattle.calls_done.specs.Owed.{GivesCleanly, GivesForAttempts, IsUnsent}
+use Rattle.calls_done.specs.Owed.{GivesWell, OwesReplies, IsCall}
 use Rattle.calls_done.proofs.Scripts.{Names, links, Task_, Became_, Made_, FoundNone_, task_at, said_or_placed_at, operation_is, link_low, find_none}
 use Rattle.calls_done.proofs.Fewer.{Sent_, sent_at}
-use Rattle.calls_done.proofs.Opened.{lived}
-use Rattle.calls_done.proofs.Calm.{LinkAt, link_at, unserved, clean_at, faultless, none_early, no_fail, unfull, no_loss, last_first}
+use Rattle.calls_done.proofs.Calm.{LinkAt, link_at, unserved, unsent, faultless, no_fail, unfull, no_loss, last_first}
 
 -- ## Replies
 
@@ -64,22 +63,8 @@ gives_peer id (pos zero) frame other = absurd (other refl)
 gives_peer id (pos (suc n)) frame other = refl
 gives_peer id (negsuc n) frame other = refl
 
-module _ (s : Known) (untroubled : IsUntroubled s.script s.ends) (clean : GivesCleanly (run_of s)) where
-  -- ## Links with the server
-
-  pub served_link : (k : ℕ) (low : k < links s) (l : LinkAt s untroubled clean k) → IsTrue l.shape.serve → IsServedLink (run_of s) k l.shape
-  served_link k low l serves = let c = clean_at s untroubled clean k l in record {
-    opened = l.shaped;
-    serves = serves;
-    lived = lived s untroubled.few_opens k low;
-    in_time = λ late. has_none k (has_from [] k late);
-    read = (l.end, contains_from s.ends l.end (k, l.at), l.is.numbered, ((faultless s untroubled clean k l).1, c.faultless, c.few));
-  }
-
-  pub unsent : (k : ℕ) (l : LinkAt s untroubled clean k) → IsTrue l.shape.serve → IsUnsent (run_of s) k
-  unsent k l serves name bytes there named = untroubled.no_stray name bytes there (l.shape, subst (λ n. Contains s.script (Open n l.shape)) (some_is l.name name (sym l.named ∙ named)) l.opened, serves)
-
-  module _ (own : GivesOwnReplies (run_of s)) (made : GivesForAttempts (run_of s)) (i : ℕ) (op : Operation) (call : CallLine) (there : IsOperation (run_of s) i op) (item : op.item ≡ Call call) where
+module _ (s : Known) (untroubled : IsUntroubled s.script s.ends) (none_early : (k : ℕ) → Contains s.early k → ⊥) (well : GivesWell (run_of s)) where
+  module _ (i : ℕ) (op : Operation) (call : CallLine) (there : IsOperation (run_of s) i op) (item : op.item ≡ Call call) where
     abbrev asked : Asked
     asked = asked_of (Names s) i call
 
@@ -90,7 +75,7 @@ module _ (s : Known) (untroubled : IsUntroubled s.script s.ends) (clean : GivesC
     task = task_at s i op there (ops.Call asked) asks
 
     pub last_is : s.attempts.last i ≡ 0
-    last_is = last_first s untroubled clean i op call there item op.client asked task
+    last_is = last_first s untroubled none_early i op call there item op.client asked task
 
     -- ## Its outcome was said
 
@@ -116,18 +101,18 @@ module _ (s : Known) (untroubled : IsUntroubled s.script s.ends) (clean : GivesC
 
       -- a response of the call that came is the reply to its request
       pub own_reply : (k n : ℕ) (frame : Frame) → k < links s → slice_get (stream (s.gave k)).frames n ≡ Some frame → IsResponse call id frame → reply (request_frame call (id + 1)) ≡ Some frame
-      own_reply k n frame low gave response = by (link_at s untroubled clean k low)
+      own_reply k n frame low gave response = by (link_at s untroubled none_early k low)
         where
-          by_server : (l : LinkAt s untroubled clean k) (b : Bool) → l.shape.serve ≡ b → reply (request_frame call (id + 1)) ≡ Some frame
-          by_server l false none_ = absurd (none_given (s.gave k) n frame (unserved s untroubled clean k l none_).0 gave)
+          by_server : (l : LinkAt s untroubled none_early k) (b : Bool) → l.shape.serve ≡ b → reply (request_frame call (id + 1)) ≡ Some frame
+          by_server l false none_ = absurd (none_given (s.gave k) n frame (unserved s untroubled none_early k l none_) gave)
           by_server l true serves =
-              let is = served_link k low l serves in let none_ = unsent k l serves in
               let given : GaveFrame (run_of s) k n frame = ((l.end, contains_from s.ends l.end (k, l.at), l.is.numbered), gave) in
-              let m = made k n i id l.shape frame op call is none_ given there item shown_at response in
-              let first : frame.meta.correlation_id ≡ id + 1 = (let few = m.1 in let e = m.2 in let last = last_is in omega (arith, few, e, last)) in
-              ap (λ c. reply (request_frame call c)) (sym first) ∙ own k n i id l.shape frame op call is none_ given there item shown_at response
+              let owes = well k l.shape l.shaped serves (unsent s untroubled none_early k l serves) in
+              let w = owes.own n i id frame op call (record { there = there; item = item; shows = shown_at }) given response in
+              let first : frame.meta.correlation_id ≡ id + 1 = (let few = w.2 in let e = w.3 in let last = last_is in omega (arith, few, e, last)) in
+              ap (λ c. reply (request_frame call c)) (sym first) ∙ w.0
 
-          by : LinkAt s untroubled clean k → reply (request_frame call (id + 1)) ≡ Some frame
+          by : LinkAt s untroubled none_early k → reply (request_frame call (id + 1)) ≡ Some frame
           by l = by_server l l.shape.serve refl
 
     -- ## No call failed, but by whoever read the links
@@ -148,16 +133,16 @@ module _ (s : Known) (untroubled : IsUntroubled s.script s.ends) (clean : GivesC
       failed id code has (told.ByExpiry e (inr w)) = no_expire w.0 w.1 w.2 w.3
       failed id code has (told.ByCompression e (k, n, frame, gave, (some_, above, below), compressed)) =
           compressed (reply_plain call (id + 1) frame (own_reply (CallFailed id code) has id refl k n frame gave.0 gave.1 (some_, above, (omega (arith, below)))))
-      failed id code has (told.ByFrameFault e k (slot, version, life, alone) fault) = (clean_at s untroubled clean k (link_at s untroubled clean k (link_low s (name_of asked 0) k slot version life))).faultless fault
+      failed id code has (told.ByFrameFault e k (slot, version, life, alone) fault) = faultless s untroubled none_early well k (link_at s untroubled none_early k (link_low s (name_of asked 0) k slot version life)) fault
       failed id code has (told.ByEnd e k w) = by w.ended
         where
           by : Contains s.early k ⊎ (Contains [] k ⊎ Contains [] k) → ⊥
-          by (inl early) = let on = w.on in none_early s untroubled clean k (link_low s (name_of asked 0) k on.0 on.1 on.2) early
+          by (inl early) = none_early k early
           by (inr (inl closed)) = has_none k (has_from [] k closed)
           by (inr (inr silent)) = has_none k (has_from [] k silent)
-      failed id code has (told.BySocket e last where_ lost) = no_loss s untroubled clean op.client i (name_of asked 0) lost
-      failed id code has (told.ByRequests e last out full) = unfull s untroubled clean i op call there item out full
-      failed id code has (told.ByFail low high last dropped (c, u, it', op', became')) = no_fail s untroubled clean c u (name_of asked 0) code it' op'
+      failed id code has (told.BySocket e last where_ lost) = no_loss s untroubled none_early op.client i (name_of asked 0) lost
+      failed id code has (told.ByRequests e last out full) = unfull s untroubled none_early i op call there item out full
+      failed id code has (told.ByFail low high last dropped (c, u, it', op', became')) = no_fail s untroubled none_early c u (name_of asked 0) code it' op'
 
       -- whoever read the links ended it
       pub record WasEndedByReading (outcome : Outcome) : Type 0 where

@@ -1,5 +1,4 @@
 pub mod Scripts
 pub mod Fewer
-pub mod Opened
 pub mod Calm
 pub mod Causes
