@@ -65,10 +65,10 @@ gives_peer id (negsuc n) frame other = refl
 
 module _ (s : Known) (untroubled : IsUntroubled s.script s.ends) (none_early : (k : ℕ) → Contains s.early k → ⊥) (well : GivesWell (run_of s)) where
   module _ (i : ℕ) (op : Operation) (call : CallLine) (there : IsOperation (run_of s) i op) (item : op.item ≡ Call call) where
-    abbrev asked : Asked
+    abbrev pub asked : Asked
     asked = asked_of (Names s) i call
 
-    asks : asks_at s.script i op ≡ Some (ops.Call asked)
+    pub asks : asks_at s.script i op ≡ Some (ops.Call asked)
     asks = ap (op_of (numbered s.script) (Names s) (numbers_at s.script i op)) item
 
     pub task : Task_ s op.client (record { number = i; op = ops.Call asked })

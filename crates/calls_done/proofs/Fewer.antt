@@ -13,13 +13,13 @@ use Rattle.seat_programs.specs.Scripts.{all_tasks}
 use Rattle.seat_programs.specs.Tasks.{numbered, plan_of}
 use Rattle.seat_programs.specs.ToldCalls as told
 use Rattle.seat_programs.specs.ToldCalls.{Accepted, IsSent, OfSend, OfCall, StandsAt, all_accepted, label}
-use Rattle.report_fits.proofs.Counting.{tally, but, but_other, one_less}
+use Rattle.report_fits.proofs.Counting.{tally, tally_all, but, but_other, one_less}
 use Rattle.report_fits.proofs.Flat.{flat_has, flat_before, flat_length, from_to_at, from_to_length}
 use Rattle.report_fits.proofs.LabelCounts.{is_attempt, attempt_there, attempts_few, Differ, few}
 use Rattle.report_fits.proofs.Lists.{Has, some_is, all_from, all_at, before_from}
 use Rattle.report_fits.proofs.Numbering.{are_from}
 use Rattle.report_fits.proofs.Reading.{InRange}
-use Rattle.report_fits.proofs.Sizes.{is_counted}
+use Rattle.report_fits.proofs.Sizes.{is_counted, keeps_limits}
 use Rattle.report_fits.proofs.TaskLemmas.{numbers_at, task_is, send_asks, call_asks}
 use Rattle.calls_done.specs.SockTold.{fixed_by}
 use Rattle.calls_done.specs.Known.{Known, run_of}
@@ -68,15 +68,23 @@ module _ (s : Known) where
 
   labels_there : (k i : ℕ) (a : Accepted) → k < links s → StandsAt s.orders k i a → (a.attempt < 8) × (label a < most) × (is_attempt Ops (label a) ≡ true)
   labels_there k i a low at =
-      let w = by_kind k a (sent_at k i a low at) in let inside = slice_get_within Ops a.operation w.operation w.there in
+      let w = by_kind k a (sent_at k i a low at) in let in_ops = slice_get_within Ops a.operation w.operation w.there in
       let eight : a.attempt < 8 = (let c = w.counts in let e = all_at (λ (op : Operation). attempts_of op.item ≤ 8) Ops w.operation small (a.operation, w.there) in omega (arith, c, e)) in
-      (eight, omega (arith, eight, inside), attempt_there Ops a.operation a.attempt w.operation w.there w.counts eight)
+      (eight, omega (arith, eight, in_ops), attempt_there Ops a.operation a.attempt w.operation w.there w.counts eight)
 
   differ_at : (k l i j : ℕ) (a b : Accepted) → k < links s → l < links s → ((k ≡ l) × (i ≡ j) → ⊥) → StandsAt s.orders k i a → StandsAt s.orders l j b → Differ a b
   differ_at k l i j a b low_k low_l other at bt same = other ((let are = s.tells.are_orders in are.apart) k l i j a b low_k low_l at bt same)
 
   own_differ : (k : ℕ) → k < links s → EachBefore Differ (s.orders k).accepted
   own_differ k low = before_from Differ (s.orders k).accepted (λ i j a b less at bt. differ_at k k i j a b low low (λ same. (let e = same.1 in omega (arith, less, e))) at bt)
+
+  -- what the place words can tell of a message that was accepted
+  pub inside : (k i : ℕ) (a : Accepted) → k < links s → StandsAt s.orders k i a → (i < 4294967295) × (a.operation < length Ops) × (a.attempt < 8)
+  inside k i a low at =
+      let always : ℕ → Bool = λ j. true in
+      let bound : length (s.orders k).accepted ≤ tally always most = few always most (s.orders k).accepted (own_differ k low) (λ b h. ((labels_there k h.0 b low h.1).1, refl)) in
+      let i_low = slice_get_within (s.orders k).accepted i a at in let w = labels_there k i a low at in let all = tally_all most in let many = (keeps_limits s.bytes s.script s.reads).operations in
+      (omega (arith, bound, i_low, all, many), (let e = w.1 in let f = w.0 in omega (arith, e, f)), w.0)
 
   abbrev accepted_of : ℕ → List Accepted
   accepted_of k = (s.orders k).accepted
@@ -102,8 +110,8 @@ module _ (s : Known) where
       let eight : n < 8 = omega (arith, counts, few_) in
       let test = is_attempt Ops in
       let place = 8 * o + n in
-      let inside = slice_get_within Ops o q there in
-      let low : place < most = omega (arith, inside, eight) in
+      let in_ops = slice_get_within Ops o q there in
+      let low : place < most = omega (arith, in_ops, eight) in
       let bound : length all_of ≤ tally (but test place) most = few (but test place) most all_of all_differ (λ a h. (
       let w = flat_has accepted_of (from_to 0 (links s)) a h in
       let k_low = (link_in (links s) w.0 w.2 w.3).1 in

@@ -1,21 +1,21 @@
 -- What is known of a run on threads with calls, whose links were read beside its clients, and the run that its report tells.
 use Rattle.std.specs.Prelude.{ℕ, ◌≡◌, true, ◌⊎◌, List, length, Option, Ok}
 use Rattle.sock_words.specs.declared.outcome.Outcome.{Outcome}
-use Rattle.sock_words.specs.declared.outcome.Outcome.TheVariants.{Unopened}
+use Rattle.sock_words.specs.declared.outcome.Outcome.TheVariants.{Unopened, CallFailed}
 use Rattle.sock_words.specs.declared.place_word.PlaceWord.{PlaceWord}
-use Rattle.brpc_model.specs.Items.{Item}
+use Rattle.brpc_model.specs.Items.{Item, Call, CallLine}
 use Rattle.brpc_model.specs.Link.{LinkEnd}
-use Rattle.brpc_model.specs.Operations.{operations}
+use Rattle.brpc_model.specs.Operations.{Operation, operations}
 use Rattle.brpc_model.specs.PlaceWords.{IsReportOf}
 use Rattle.brpc_model.specs.Report.{Report}
-use Rattle.brpc_model.specs.Run.{Run, nothing_late}
+use Rattle.brpc_model.specs.Run.{Run, nothing_late, IsOperation, HasOutcome}
 use Rattle.brpc_model.specs.Script.{script_of}
 use Rattle.report_fits.specs.Ends.{AreEndsOf}
 use Rattle.sock_message.specs.Asked.{Asked}
 use Rattle.seat_programs.specs.declared.task.Op.TheVariants as ops
 use Rattle.seat_programs.specs.declared.task.Task.{Task}
 use Rattle.seat_programs.specs.Cores.{Core}
-use Rattle.seat_programs.specs.Scripts.{all_tasks}
+use Rattle.seat_programs.specs.Scripts.{all_tasks, place_words}
 use Rattle.seat_programs.specs.Tasks.{plan_of}
 use Rattle.seat_programs.specs.Told.{IsTask, Became}
 use Rattle.seat_programs.specs.ToldCalls.{Fixed, Order, StandsOn}
@@ -46,6 +46,7 @@ pub record Known : Type 0 where
   pub gave : ℕ → List ℕ
   pub answers : HaveAnswers (length ends) gave (operations script) outcomes
   pub core : Core
+  pub words : place_words (plan_of script) core.words ≡ places
   pub broken : List ℕ
   pub early : List ℕ
   pub fails : List (ℕ × ℕ)
@@ -63,3 +64,7 @@ pub record Known : Type 0 where
 -- the run that is reported
 abbrev pub run_of : Known → Run
 run_of s = record { script = s.script; report = s.report; ends = s.ends; late = nothing_late; story = record { fails = s.fails; gave = s.gave; last = s.attempts.last } }
+
+-- the first attempt of each call that failed stands in an order
+abbrev pub CallsStand : Known → Type 0
+CallsStand s = (i id code : ℕ) (op : Operation) (call : CallLine) → IsOperation (run_of s) i op → op.item ≡ Call call → HasOutcome (run_of s) i (CallFailed id code) → (k : ℕ) × StandsOn (plan_of s.script) (all_tasks s.script) s.outcomes (fixed_by s.broken s.early s.fails) s.gave s.orders i 0 k

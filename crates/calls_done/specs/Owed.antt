@@ -1,5 +1,6 @@
 -- What links with the server owe to the calls of a run.
 use Rattle.std.specs.Prelude.{ℕ, ◌≡◌, ◌+◌, ◌<◌, ◌≤◌, List, slice_get, Some, None, IsTrue, Contains}
+use Rattle.sock_words.specs.declared.outcome.Outcome.TheVariants.{CallFailed}
 use Rattle.brpc_model.specs.Attempts.{IsResponse, attempt}
 use Rattle.brpc_model.specs.Causes.{HasFault}
 use Rattle.brpc_model.specs.Frame.{Frame}
@@ -8,7 +9,8 @@ use Rattle.brpc_model.specs.Messages.{id_at, request_frame}
 use Rattle.brpc_model.specs.Operations.{Operation, link_shapes}
 use Rattle.brpc_model.specs.Reply.{reply}
 use Rattle.brpc_model.specs.Report.{LinkLine}
-use Rattle.brpc_model.specs.Run.{Run, IsOperation, IsLinkOf, GaveFrame, StandsIn}
+use Rattle.brpc_model.specs.Run.{Run, IsOperation, HasOutcome, IsLinkOf, GaveFrame, StandsIn}
+use Rattle.calls_done.specs.CallsTold.{EndedByReading}
 
 -- operation i is this call, and has this id
 pub record IsCall (run : Run) (i id : ℕ) (op : Operation) (call : CallLine) : Type 0 where
@@ -31,3 +33,8 @@ IsUnsent run k = (name bytes : List ℕ) → Contains run.script (Send name byte
 -- so does each link with the server that no `send` names
 abbrev pub GivesWell : Run → Type 0
 GivesWell run = (k : ℕ) (shape : Shape) → slice_get (link_shapes run.script) k ≡ Some shape → IsTrue shape.serve → IsUnsent run k → OwesReplies run k shape
+
+-- of a call that whoever read the links ended no link gave a response
+abbrev pub EndsUnanswered : Run → Type 0
+EndsUnanswered run = (i id code : ℕ) (op : Operation) (call : CallLine) → IsOperation run i op → op.item ≡ Call call → HasOutcome run i (CallFailed id code) → EndedByReading code →
+    (k n : ℕ) (frame : Frame) → GaveFrame run k n frame → IsResponse call id frame → ⊥
