@@ -18,13 +18,13 @@ use Rattle.seat_programs.specs.declared.task.Op.TheVariants as ops
 use Rattle.seat_programs.specs.declared.task.Task.{Task}
 use Rattle.seat_programs.specs.Scripts.{all_tasks}
 use Rattle.seat_programs.specs.Tasks.{numbered, plan_of}
-use Rattle.seat_programs.specs.Told.{IsFail}
+use Rattle.seat_programs.specs.Told.{IsTask}
 use Rattle.seat_programs.specs.ToldCalls as told
+use Rattle.seat_programs.specs.ToldCalls.{Accepted, IsSent, StandsAt}
 use Rattle.calls_done.specs.SockTold.{fixed_by}
-use Rattle.calls_done.specs.Known.{Known, run_of}
+use Rattle.calls_done.proofs.Known.{Known}
 use Rattle.calls_done.specs.Owed.{IsUnsent, OwesReplies, GivesWell}
-use Rattle.calls_done.proofs.Scripts.{Names, links, Task_, link_low}
-use Rattle.calls_done.proofs.Fewer.{fewer}
+use Rattle.calls_done.proofs.Sends.{run_of, Names, links, fewer, unfailed, life_low}
 
 -- ## The shape of a link
 
@@ -37,88 +37,86 @@ shape_at (item ∷ items) k name e = let x = shape_at items k name e in (x.0, x.
 pub no_fault_none : HasFault [] → ⊥
 no_fault_none (start, fault, e) = cc
 
-module _ (s : Known) (untroubled : IsUntroubled s.script s.ends) (none_early : (k : ℕ) → Contains s.early k → ⊥) where
+module _ (s : Known) where
+  -- message a, which link k accepted, is that of a `send` of which nothing is said, or that of an attempt that was made of a call
+  abbrev pub Sent_ : ℕ → Accepted → Type 0
+  Sent_ k a = IsSent (plan_of s.run.script) (all_tasks s.run.script) s.run.outcomes (fixed_by s.run.broken s.run.early s.run.fails) s.run.gave s.run.orders s.run.last k a
+
+  pub sent_at : (k i : ℕ) (a : Accepted) → k < links s.run → StandsAt s.run.orders k i a → Sent_ k a
+  sent_at k i a low at = all_at (Sent_ k) (s.run.orders k).accepted a (s.run.sent k low) (i, at)
+
+module _ (s : Known) (untroubled : IsUntroubled s.run.script s.run.ends) (none_early : (k : ℕ) → k < links s.run → Contains s.run.early k → ⊥) where
   -- ## Links
 
   pub record LinkAt (k : ℕ) : Type 0 where
     pub end : LinkEnd
-    pub at : slice_get s.ends k ≡ Some end
-    pub is : IsEndOf (plan_of s.script) s.core (fixed_by s.broken s.early s.fails) s.gave k end
+    pub at : slice_get s.run.ends k ≡ Some end
+    pub is : IsEndOf (plan_of s.run.script) s.run.core (fixed_by s.run.broken s.run.early s.run.fails) s.run.gave k end
     pub name : List ℕ
-    pub named : slice_get (link_names s.script) k ≡ Some name
+    pub named : slice_get (link_names s.run.script) k ≡ Some name
     pub shape : Shape
-    pub shaped : slice_get (link_shapes s.script) k ≡ Some shape
-    pub opened : Contains s.script (Open name shape)
+    pub shaped : slice_get (link_shapes s.run.script) k ≡ Some shape
+    pub opened : Contains s.run.script (Open name shape)
 
-  pub link_at : (k : ℕ) → k < links s → LinkAt k
-  link_at k low = let e = within s.ends k (let m = s.given.as_many in omega (arith, low, m)) in let n = within (link_names s.script) k low in let x = shape_at s.script k n.0 n.1 in
-      record { end = e.0; at = e.1; is = s.given.each k e.0 e.1; name = n.0; named = n.1; shape = x.0; shaped = x.1; opened = contains_from s.script (Open n.0 x.0) x.2 }
-
-  unfailed : (k : ℕ) (l : LinkAt k) → l.end.put_faults ≡ 0
-  unfailed k l = (all_at (λ (x : LinkEnd). (x.put_faults ≡ 0) × (x.take_faults ≡ 0)) s.ends l.end untroubled.put (k, l.at)).0
+  pub link_at : (k : ℕ) → k < links s.run → LinkAt k
+  link_at k low = let e = within s.run.ends k (let m = s.run.given.as_many in omega (arith, low, m)) in let n = within (link_names s.run.script) k low in let x = shape_at s.run.script k n.0 n.1 in
+      record { end = e.0; at = e.1; is = s.run.given.each k e.0 e.1; name = n.0; named = n.1; shape = x.0; shaped = x.1; opened = contains_from s.run.script (Open n.0 x.0) x.2 }
 
   -- a link without the server gave nothing
-  pub unserved : (k : ℕ) (l : LinkAt k) → l.shape.serve ≡ false → s.gave k ≡ []
-  unserved k l none_ = let quiet = all_at (IsSilentUnserved s.script) s.ends l.end untroubled.unserved (k, l.at) l.shape (ap (slice_get (link_shapes s.script)) l.is.numbered ∙ l.shaped) none_ in
-      let counted = l.is.counted in let zero_ = quiet.0 in nil_from_length (s.gave k) (omega (arith, counted, zero_))
+  pub unserved : (k : ℕ) (l : LinkAt k) → l.shape.serve ≡ false → s.run.gave k ≡ []
+  unserved k l none_ = let quiet = all_at (IsSilentUnserved s.run.script) s.run.ends l.end untroubled.unserved (k, l.at) l.shape (ap (slice_get (link_shapes s.run.script)) l.is.numbered ∙ l.shaped) none_ in
+      let counted = l.is.counted in let zero_ = quiet.0 in nil_from_length (s.run.gave k) (omega (arith, counted, zero_))
 
   -- no `send` names a link with the server
-  pub unsent : (k : ℕ) (l : LinkAt k) → IsTrue l.shape.serve → IsUnsent (run_of s) k
-  unsent k l serves name bytes there named = untroubled.no_stray name bytes there (l.shape, subst (λ n. Contains s.script (Open n l.shape)) (some_is l.name name (sym l.named ∙ named)) l.opened, serves)
+  pub unsent : (k : ℕ) (l : LinkAt k) → IsTrue l.shape.serve → IsUnsent (run_of s.run) k
+  unsent k l serves name bytes there named = untroubled.no_stray name bytes there (l.shape, subst (λ n. Contains s.run.script (Open n l.shape)) (some_is l.name name (sym l.named ∙ named)) l.opened, serves)
 
   -- so each link gave no fault
-  pub faultless : GivesWell (run_of s) → (k : ℕ) → LinkAt k → HasFault (s.gave k) → ⊥
+  pub faultless : GivesWell (run_of s.run) → (k : ℕ) → LinkAt k → HasFault (s.run.gave k) → ⊥
   faultless well k l = by l.shape.serve refl
     where
-      by : (b : Bool) → l.shape.serve ≡ b → HasFault (s.gave k) → ⊥
+      by : (b : Bool) → l.shape.serve ≡ b → HasFault (s.run.gave k) → ⊥
       by true serves = (well k l.shape l.shaped serves (unsent k l serves)).faultless
       by false none_ = λ fault. no_fault_none (subst HasFault (unserved k l none_) fault)
 
   -- no `fail` stands in the script
-  pub no_fail : (client : ℕ) (t : Task) (name code : ℕ) → Task_ s client t → t.op ≡ ops.Fail name code → ⊥
-  no_fail client t name code it op = let w = task_is s.script s.outcomes client t it in let m = fail_asks (numbered s.script) (Names s) (numbers_at s.script t.number w.operation) w.operation.item name code (w.asks ∙ ap Some op) in
-      untroubled.no_fail m.0 code (contains_from s.script (Fail m.0 code) (subst (Has s.script) m.1 (are_from 0 1 s.script t.number w.operation w.there).there))
-
-  -- so it isn't failing
-  pub unfailing : (k : ℕ) → k < links s → told.IsFailing (plan_of s.script) (all_tasks s.script) s.outcomes (fixed_by s.broken s.early s.fails) s.gave s.orders k → ⊥
-  unfailing k low (inl (f, there, counts)) = let w = all_at (IsFail (all_tasks s.script) s.outcomes) s.fails (f, k) s.tells.are (has_from s.fails (f, k) there) in no_fail w.client w.task w.name w.code w.is w.op
-  unfailing k low (inr (inl broken)) = let l = link_at k low in let some_ = l.is.failed broken in let none_ = unfailed k l in let z : ⊥ = omega (arith, some_, none_) in z
-  unfailing k low (inr (inr (inl early))) = none_early k early
-  unfailing k low (inr (inr (inr late))) = has_none k (has_from [] k late)
+  pub no_fail : (client : ℕ) (t : Task) (name code : ℕ) → IsTask (all_tasks s.run.script) s.run.outcomes client t → t.op ≡ ops.Fail name code → ⊥
+  no_fail client t name code it op = let w = task_is s.run.script s.run.outcomes client t it in let m = fail_asks (numbered s.run.script) (Names s.run) (numbers_at s.run.script t.number w.operation) w.operation.item name code (w.asks ∙ ap Some op) in
+      untroubled.no_fail m.0 code (contains_from s.run.script (Fail m.0 code) (subst (Has s.run.script) m.1 (are_from 0 1 s.run.script t.number w.operation w.there).there))
 
   -- ## The first attempt
 
   abbrev WasFull_ : Type 0
-  WasFull_ = told.WasFull (plan_of s.script) (all_tasks s.script) s.outcomes (fixed_by s.broken s.early s.fails) s.gave s.orders
+  WasFull_ = told.WasFull (plan_of s.run.script) (all_tasks s.run.script) s.run.outcomes (fixed_by s.run.broken s.run.early s.run.fails) s.run.gave s.run.orders
 
   abbrev IsUnordered_ : ℕ → ℕ → Type 0
-  IsUnordered_ o n = told.IsUnordered (plan_of s.script) (all_tasks s.script) s.outcomes (fixed_by s.broken s.early s.fails) s.gave s.orders o n
+  IsUnordered_ o n = told.IsUnordered (plan_of s.run.script) (all_tasks s.run.script) s.run.outcomes (fixed_by s.run.broken s.run.early s.run.fails) s.run.gave s.run.orders o n
 
   abbrev pub At_ : ℕ → ℕ → ℕ → ℕ → Type 0
-  At_ o n k i = told.IsAt (plan_of s.script) (all_tasks s.script) s.outcomes (fixed_by s.broken s.early s.fails) s.gave s.orders o n k i
+  At_ o n k i = told.IsAt (plan_of s.run.script) (all_tasks s.run.script) s.run.outcomes (fixed_by s.run.broken s.run.early s.run.fails) s.run.gave s.run.orders o n k i
 
   -- there are requests for all attempts
-  pub unfull : (i : ℕ) (op : Operation) (call : CallLine) → IsOperation (run_of s) i op → op.item ≡ Call call → IsUnordered_ i 0 → WasFull_ → ⊥
-  unfull i op call there item out full = let less = fewer s i 0 op there (let e = ap attempts_of item in omega (arith, e)) out in let few = untroubled.few_attempts in let z : ⊥ = omega (arith, less, few, full) in z
+  pub unfull : (i : ℕ) (op : Operation) (call : CallLine) → IsOperation (run_of s.run) i op → op.item ≡ Call call → IsUnordered_ i 0 → WasFull_ → ⊥
+  unfull i op call there item out full = let less = fewer s.run i 0 op there (let e = ap attempts_of item in omega (arith, e)) out in let few = untroubled.few_attempts in let z : ⊥ = omega (arith, less, few, full) in z
 
-  pub no_drop : (o n k i : ℕ) → At_ o n k i → (s.orders k).placed ≤ i → ⊥
-  no_drop o n k i w dropped = let inside = slice_get_within (s.orders k).accepted i w.1 w.2 in unfailing k w.0 (s.tells.dropped k w.0 (omega (arith, inside, dropped)))
+  pub no_drop : (o n k i : ℕ) → At_ o n k i → (s.run.orders k).placed ≤ i → ⊥
+  no_drop o n k i w dropped = let inside = slice_get_within (s.run.orders k).accepted i w.1 w.2 in unfailed s.run untroubled none_early (λ f. Unit {0}) k w.0 (s.run.tells.dropped k w.0 (omega (arith, inside, dropped)))
 
-  pub no_loss : (c o name : ℕ) → told.WhyLost (plan_of s.script) (all_tasks s.script) s.outcomes (fixed_by s.broken s.early s.fails) s.gave s.orders c o 0 name → ⊥
-  no_loss c o name (told.WasFailing k slot version life failing) = unfailing k (link_low s name k slot version life) failing
+  pub no_loss : (c o name : ℕ) → told.WhyLost (plan_of s.run.script) (all_tasks s.run.script) s.run.outcomes (fixed_by s.run.broken s.run.early s.run.fails) s.run.gave s.run.orders c o 0 name → ⊥
+  no_loss c o name (told.WasFailing k slot version life failing) = unfailed s.run untroubled none_early (λ f. Unit {0}) k (life_low s.run untroubled none_early name k slot version life) failing
   no_loss c o name (told.RunEnding late) = has_none o (has_from [] o late)
   no_loss c o name (told.WasUnopened later d m some_ few behind none_) = let z : ⊥ = omega (arith, later) in z
 
-  module _ (i : ℕ) (op : Operation) (call : CallLine) (there : IsOperation (run_of s) i op) (item : op.item ≡ Call call) (c : ℕ) (asked : Asked) (it : Task_ s c (record { number = i; op = ops.Call asked })) where
-    no_again : told.WhyAgain (plan_of s.script) (all_tasks s.script) s.outcomes (fixed_by s.broken s.early s.fails) s.gave s.orders c i 0 (name_of asked 0) → ⊥
+  module _ (i : ℕ) (op : Operation) (call : CallLine) (there : IsOperation (run_of s.run) i op) (item : op.item ≡ Call call) (c : ℕ) (asked : Asked) (it : IsTask (all_tasks s.run.script) s.run.outcomes c (record { number = i; op = ops.Call asked })) where
+    no_again : told.WhyAgain (plan_of s.run.script) (all_tasks s.run.script) s.run.outcomes (fixed_by s.run.broken s.run.early s.run.fails) s.run.gave s.run.orders c i 0 (name_of asked 0) → ⊥
     no_again (told.AfterDrop w) = no_drop i 0 w.0 w.1 w.2 w.3
     no_again (told.AfterLoss out lost) = no_loss c i (name_of asked 0) lost
     no_again (told.AfterFull out full) = unfull i op call there item out full
 
     -- is the last
-    pub last_first : s.attempts.last i ≡ 0
-    last_first = by (s.attempts.last i) refl
+    pub last_first : s.run.last i ≡ 0
+    last_first = by (s.run.last i) refl
       where
-        by : (n : ℕ) → s.attempts.last i ≡ n → s.attempts.last i ≡ 0
+        by : (n : ℕ) → s.run.last i ≡ n → s.run.last i ≡ 0
         by zero e = e
         by (suc n) e = absurd (no_again (s.calls.again c (record { number = i; op = ops.Call asked }) asked it refl 0 (omega (arith, e))))

@@ -1,5 +1,5 @@
-pub mod Scripts
-pub mod Fewer
+pub mod Sends
+pub mod Known
 pub mod Calm
 pub mod Causes
 pub mod Read

@@ -3,5 +3,4 @@ pub mod Attempts
 pub mod CallsTold
 pub mod Answers
 pub mod Joins
-pub mod Known
 pub mod Owed

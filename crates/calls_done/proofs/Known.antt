@@ -1,0 +1,38 @@
+-- What is known of a run on threads with calls, whose links were read beside its clients.
+use Rattle.std.specs.Prelude.{ℕ, ◌≡◌, true, ◌⊎◌, length}
+use Rattle.sock_words.specs.declared.outcome.Outcome.{Outcome}
+use Rattle.sock_words.specs.declared.outcome.Outcome.TheVariants.{Unopened, CallFailed}
+use Rattle.brpc_model.specs.Items.{Call, CallLine}
+use Rattle.brpc_model.specs.Operations.{Operation, operations}
+use Rattle.brpc_model.specs.Run.{IsOperation, HasOutcome}
+use Rattle.sock_message.specs.Asked.{Asked}
+use Rattle.seat_programs.specs.declared.task.Op.TheVariants as ops
+use Rattle.seat_programs.specs.declared.task.Task.{Task}
+use Rattle.seat_programs.specs.Scripts.{all_tasks}
+use Rattle.seat_programs.specs.Tasks.{plan_of}
+use Rattle.seat_programs.specs.Told.{IsTask, Became}
+use Rattle.seat_programs.specs.ToldCalls.{StandsOn}
+use Rattle.calls_done.proofs.Sends.{ToldRun, run_of}
+use Rattle.calls_done.specs.SockTold.{fixed_by}
+use Rattle.calls_done.specs.CallsTold.{AreCallsTold}
+use Rattle.calls_done.specs.Answers.{HaveAnswers, ends_call}
+
+-- a call found no socket under its first name, or it ended
+abbrev pub IsOfCall : Outcome → Type 0
+IsOfCall outcome = (outcome ≡ Unopened) ⊎ (ends_call outcome ≡ true)
+
+pub record Known : Type 0 where
+  -- what is told of its sockets, of the attempts of its calls, and by its report
+  pub run : ToldRun
+  -- of its calls: each answer is a response that a link gave, and there is a cause for each `expire`, each call that failed and each attempt behind another
+  pub answers : HaveAnswers (length run.ends) run.gave (operations run.script) run.outcomes
+  pub calls : AreCallsTold (plan_of run.script) (all_tasks run.script) run.outcomes (fixed_by run.broken run.early run.fails) run.gave run.orders run.last
+  -- each task has an outcome, or its message was accepted; and that of a call is one that a call can have
+  pub each : (client : ℕ) (t : Task) → IsTask (all_tasks run.script) run.outcomes client t →
+      ((outcome : Outcome) × Became (all_tasks run.script) run.outcomes t.number outcome) ⊎ ((k : ℕ) × StandsOn (plan_of run.script) (all_tasks run.script) run.outcomes (fixed_by run.broken run.early run.fails) run.gave run.orders t.number 0 k)
+  pub kinds : (client : ℕ) (t : Task) (asked : Asked) (outcome : Outcome) → IsTask (all_tasks run.script) run.outcomes client t → t.op ≡ ops.Call asked → Became (all_tasks run.script) run.outcomes t.number outcome → IsOfCall outcome
+
+-- the first attempt of each call that failed stands in an order
+abbrev pub CallsStand : ToldRun → Type 0
+CallsStand r = (i id code : ℕ) (op : Operation) (call : CallLine) → IsOperation (run_of r) i op → op.item ≡ Call call → HasOutcome (run_of r) i (CallFailed id code) →
+    (k : ℕ) × StandsOn (plan_of r.script) (all_tasks r.script) r.outcomes (fixed_by r.broken r.early r.fails) r.gave r.orders i 0 k
