@@ -1,16 +1,12 @@
 -- Where nothing went wrong no link is failing, and each call made one attempt.
-use Rattle.std.proofs.Common.{◌≡◌, ℕ, zero, suc, ◌+◌, ◌<◌, ◌≤◌, ◌⊎◌, inl, inr, Bool, true, false, List, [], ◌∷◌, length, slice_get, Option, Some, None, refl, sym, ap, ◌∙◌, subst, arith}
-use Rattle.std.proofs.lemmas.List.{nil_from_length}
+use Rattle.std.proofs.Common.{◌≡◌, ℕ, zero, suc, ◌<◌, ◌≤◌, [], Some, refl, ap, ◌∙◌, subst, arith}
 use Rattle.std.proofs.lemmas.Option.{slice_get_within}
-use Rattle.std.specs.Prelude.{IsTrue, Contains}
-use Rattle.brpc_model.specs.Causes.{HasFault}
-use Rattle.brpc_model.specs.Complete.{IsSilentUnserved, IsUntroubled}
-use Rattle.brpc_model.specs.Items.{Item, Shape, Open, Call, CallLine, Fail, attempts_of}
-use Rattle.brpc_model.specs.Link.{LinkEnd}
-use Rattle.brpc_model.specs.Operations.{Operation, operations, link_names, link_shapes}
+use Rattle.std.specs.Prelude.{Contains}
+use Rattle.brpc_model.specs.Complete.{IsUntroubled}
+use Rattle.brpc_model.specs.Items.{Call, CallLine, Fail, attempts_of}
+use Rattle.brpc_model.specs.Operations.{Operation}
 use Rattle.brpc_model.specs.Run.{IsOperation}
-use Rattle.report_fits.specs.Ends.{IsEndOf}
-use Rattle.report_fits.proofs.Lists.{Has, all_at, has_from, has_later, has_none, contains_from, some_is, within}
+use Rattle.report_fits.proofs.Lists.{Has, all_at, has_from, has_none, contains_from}
 use Rattle.report_fits.proofs.Numbering.{are_from}
 use Rattle.report_fits.proofs.TaskLemmas.{numbers_at, task_is, fail_asks}
 use Rattle.sock_message.specs.Asked.{Asked, name_of}
@@ -23,19 +19,7 @@ use Rattle.seat_programs.specs.ToldCalls as told
 use Rattle.seat_programs.specs.ToldCalls.{Accepted, IsSent, StandsAt}
 use Rattle.calls_done.specs.SockTold.{fixed_by}
 use Rattle.calls_done.proofs.Known.{Known}
-use Rattle.calls_done.specs.Owed.{IsUnsent, OwesReplies, GivesWell}
 use Rattle.calls_done.proofs.Sends.{run_of, Names, links, fewer, unfailed, life_low}
-
--- ## The shape of a link
-
-pub shape_at : (items : List Item) (k : ℕ) (name : List ℕ) → slice_get (link_names items) k ≡ Some name → (shape : Shape) × (slice_get (link_shapes items) k ≡ Some shape) × Has items (Open name shape)
-shape_at [] k name e = absurd (cc)
-shape_at (Open n s ∷ items) zero name e = (s, refl, (zero, ap (λ (x : List ℕ). Some (Open x s)) (some_is n name e)))
-shape_at (Open n s ∷ items) (suc k) name e = let x = shape_at items k name e in (x.0, x.1, has_later (Open n s) items (Open name x.0) x.2)
-shape_at (item ∷ items) k name e = let x = shape_at items k name e in (x.0, x.1, has_later item items (Open name x.0) x.2)
-
-pub no_fault_none : HasFault [] → ⊥
-no_fault_none (start, fault, e) = cc
 
 module _ (s : Known) where
   -- message a, which link k accepted, is that of a `send` of which nothing is said, or that of an attempt that was made of a call
@@ -46,39 +30,6 @@ module _ (s : Known) where
   sent_at k i a low at = all_at (Sent_ k) (s.run.orders k).accepted a (s.run.sent k low) (i, at)
 
 module _ (s : Known) (untroubled : IsUntroubled s.run.script s.run.ends) (none_early : (k : ℕ) → k < links s.run → Contains s.run.early k → ⊥) where
-  -- ## Links
-
-  pub record LinkAt (k : ℕ) : Type 0 where
-    pub end : LinkEnd
-    pub at : slice_get s.run.ends k ≡ Some end
-    pub is : IsEndOf (plan_of s.run.script) s.run.core (fixed_by s.run.broken s.run.early s.run.fails) s.run.gave k end
-    pub name : List ℕ
-    pub named : slice_get (link_names s.run.script) k ≡ Some name
-    pub shape : Shape
-    pub shaped : slice_get (link_shapes s.run.script) k ≡ Some shape
-    pub opened : Contains s.run.script (Open name shape)
-
-  pub link_at : (k : ℕ) → k < links s.run → LinkAt k
-  link_at k low = let e = within s.run.ends k (let m = s.run.given.as_many in omega (arith, low, m)) in let n = within (link_names s.run.script) k low in let x = shape_at s.run.script k n.0 n.1 in
-      record { end = e.0; at = e.1; is = s.run.given.each k e.0 e.1; name = n.0; named = n.1; shape = x.0; shaped = x.1; opened = contains_from s.run.script (Open n.0 x.0) x.2 }
-
-  -- a link without the server gave nothing
-  pub unserved : (k : ℕ) (l : LinkAt k) → l.shape.serve ≡ false → s.run.gave k ≡ []
-  unserved k l none_ = let quiet = all_at (IsSilentUnserved s.run.script) s.run.ends l.end untroubled.unserved (k, l.at) l.shape (ap (slice_get (link_shapes s.run.script)) l.is.numbered ∙ l.shaped) none_ in
-      let counted = l.is.counted in let zero_ = quiet.0 in nil_from_length (s.run.gave k) (omega (arith, counted, zero_))
-
-  -- no `send` names a link with the server
-  pub unsent : (k : ℕ) (l : LinkAt k) → IsTrue l.shape.serve → IsUnsent (run_of s.run) k
-  unsent k l serves name bytes there named = untroubled.no_stray name bytes there (l.shape, subst (λ n. Contains s.run.script (Open n l.shape)) (some_is l.name name (sym l.named ∙ named)) l.opened, serves)
-
-  -- so each link gave no fault
-  pub faultless : GivesWell (run_of s.run) → (k : ℕ) → LinkAt k → HasFault (s.run.gave k) → ⊥
-  faultless well k l = by l.shape.serve refl
-    where
-      by : (b : Bool) → l.shape.serve ≡ b → HasFault (s.run.gave k) → ⊥
-      by true serves = (well k l.shape l.shaped serves (unsent k l serves)).faultless
-      by false none_ = λ fault. no_fault_none (subst HasFault (unserved k l none_) fault)
-
   -- no `fail` stands in the script
   pub no_fail : (client : ℕ) (t : Task) (name code : ℕ) → IsTask (all_tasks s.run.script) s.run.outcomes client t → t.op ≡ ops.Fail name code → ⊥
   no_fail client t name code it op = let w = task_is s.run.script s.run.outcomes client t it in let m = fail_asks (numbered s.run.script) (Names s.run) (numbers_at s.run.script t.number w.operation) w.operation.item name code (w.asks ∙ ap Some op) in

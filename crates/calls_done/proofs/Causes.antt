@@ -1,24 +1,19 @@
 -- Where nothing went wrong, a served call that no `expire` names has the reply to its own request, or its name had no socket yet, or whoever read the links ended it.
-use Rattle.std.proofs.Common.{◌≡◌, ◌≢◌, ℕ, zero, suc, ◌+◌, ◌<◌, ◌≤◌, ◌⊎◌, inl, inr, Bool, true, false, List, [], length, slice_get, option_and_then, Option, Some, None, refl, sym, ap, ◌∙◌, subst, arith}
-use Rattle.std.proofs.lemmas.Option.{slice_get_within}
-use Rattle.std.specs.Prelude.{ℤ, pos, negsuc, IsTrue, Contains}
+use Rattle.std.proofs.Common.{◌≡◌, ◌≢◌, ℕ, zero, suc, ◌+◌, ◌<◌, ◌⊎◌, inl, inr, Bool, true, false, List, [], length, slice_get, option_and_then, Some, None, refl, sym, ap, ◌∙◌, subst, arith}
+use Rattle.std.specs.Prelude.{ℤ, pos, negsuc, Contains}
 use Rattle.sock_words.specs.declared.outcome.Outcome.{Outcome}
 use Rattle.sock_words.specs.declared.outcome.Outcome.TheVariants.{Unopened, Answered, Peer, CallFailed}
 use Rattle.brpc_model.specs.Attempts.{IsResponse}
-use Rattle.brpc_model.specs.Causes.{HasFault}
-use Rattle.brpc_model.specs.Complete.{IsUntroubled, IsServed, Gives, CallDone}
+use Rattle.brpc_model.specs.Complete.{IsUntroubled, Gives, CallDone}
 use Rattle.brpc_model.specs.Frame.{Frame}
-use Rattle.brpc_model.specs.Items.{Item, Shape, Open, Send, Call, Expire, CallLine}
-use Rattle.brpc_model.specs.Link.{LinkEnd}
+use Rattle.brpc_model.specs.Items.{Call, Expire, CallLine}
 use Rattle.brpc_model.specs.Messages.{id_at, shown_id, request_frame}
-use Rattle.brpc_model.specs.Operations.{Operation, operations, link_names, link_shapes}
+use Rattle.brpc_model.specs.Operations.{Operation, operations}
 use Rattle.brpc_model.specs.Reply.{Answer, Gives as Answers, Refuses, served, answered_by, reply}
 use Rattle.brpc_model.specs.Run.{IsOperation, HasOutcome, GaveFrame}
-use Rattle.brpc_model.specs.Served.{IsServedLink, GivesOwnReplies}
 use Rattle.brpc_model.specs.Stream.{stream}
 use Rattle.report_fits.proofs.Known.{first_number}
 use Rattle.report_fits.proofs.Lists.{Has, has_from, has_none, contains_from, some_is}
-use Rattle.report_fits.proofs.Names.{mentioned_has}
 use Rattle.report_fits.proofs.Numbering.{are_from}
 use Rattle.report_fits.proofs.Reported.{SaidOrPlaced}
 use Rattle.report_fits.proofs.Targets.{are_there}
@@ -34,11 +29,12 @@ use Rattle.seat_programs.specs.ToldCalls as told
 use Rattle.seat_programs.specs.ToldCalls.{Accepted, OfSend, OfCall}
 use Rattle.calls_done.specs.SockTold.{fixed_by}
 use Rattle.calls_done.specs.CallsTold.{EndedByReading}
-use Rattle.calls_done.specs.Answers.{IsAnswer, HasAnswer}
+use Rattle.calls_done.specs.Answers.{HasAnswer}
 use Rattle.calls_done.proofs.Known.{Known, IsOfCall}
-use Rattle.calls_done.specs.Owed.{GivesWell, OwesReplies, IsCall}
+use Rattle.calls_done.specs.Owed.{GivesWell}
 use Rattle.calls_done.proofs.Sends.{run_of, Names, Words, links, task_at, said_or_placed_at, find_none, life_low}
-use Rattle.calls_done.proofs.Calm.{Sent_, sent_at, LinkAt, link_at, unserved, unsent, faultless, no_fail, unfull, no_loss, last_first}
+use Rattle.calls_done.proofs.Links.{LinkAt, link_at, unserved, unsent, faultless}
+use Rattle.calls_done.proofs.Calm.{Sent_, sent_at, no_fail, unfull, no_loss, last_first}
 
 -- ## Replies
 
@@ -101,18 +97,18 @@ module _ (s : Known) (untroubled : IsUntroubled s.run.script s.run.ends) (none_e
 
       -- a response of the call that came is the reply to its request
       pub own_reply : (k n : ℕ) (frame : Frame) → k < links s.run → slice_get (stream (s.run.gave k)).frames n ≡ Some frame → IsResponse call id frame → reply (request_frame call (id + 1)) ≡ Some frame
-      own_reply k n frame low gave response = by (link_at s untroubled none_early k low)
+      own_reply k n frame low gave response = by (link_at s untroubled k low)
         where
-          by_server : (l : LinkAt s untroubled none_early k) (b : Bool) → l.shape.serve ≡ b → reply (request_frame call (id + 1)) ≡ Some frame
-          by_server l false none_ = absurd (none_given (s.run.gave k) n frame (unserved s untroubled none_early k l none_) gave)
+          by_server : (l : LinkAt s untroubled k) (b : Bool) → l.shape.serve ≡ b → reply (request_frame call (id + 1)) ≡ Some frame
+          by_server l false none_ = absurd (none_given (s.run.gave k) n frame (unserved s untroubled k l none_) gave)
           by_server l true serves =
               let given : GaveFrame (run_of s.run) k n frame = ((l.end, contains_from s.run.ends l.end (k, l.at), l.is.numbered), gave) in
-              let owes = well k l.shape l.shaped serves (unsent s untroubled none_early k l serves) in
+              let owes = well k l.shape l.shaped serves (unsent s untroubled k l serves) in
               let w = owes.own n i id frame op call (record { there = there; item = item; shows = shown_at }) given response in
               let first : frame.meta.correlation_id ≡ id + 1 = (let few = w.2 in let e = w.3 in let last = last_is in omega (arith, few, e, last)) in
               ap (λ c. reply (request_frame call c)) (sym first) ∙ w.0
 
-          by : LinkAt s untroubled none_early k → reply (request_frame call (id + 1)) ≡ Some frame
+          by : LinkAt s untroubled k → reply (request_frame call (id + 1)) ≡ Some frame
           by l = by_server l l.shape.serve refl
 
     -- ## No call failed, but by whoever read the links
@@ -133,7 +129,7 @@ module _ (s : Known) (untroubled : IsUntroubled s.run.script s.run.ends) (none_e
       failed id code has (told.ByExpiry e (inr w)) = no_expire w.0 w.1 w.2 w.3
       failed id code has (told.ByCompression e (k, n, frame, gave, (some_, above, below), compressed)) =
           compressed (reply_plain call (id + 1) frame (own_reply (CallFailed id code) has id refl k n frame gave.0 gave.1 (some_, above, (omega (arith, below)))))
-      failed id code has (told.ByFrameFault e k (slot, version, life, alone) fault) = faultless s untroubled none_early well k (link_at s untroubled none_early k (life_low s.run untroubled none_early (name_of asked 0) k slot version life)) fault
+      failed id code has (told.ByFrameFault e k (slot, version, life, alone) fault) = faultless s untroubled well k (link_at s untroubled k (life_low s.run untroubled none_early (name_of asked 0) k slot version life)) fault
       failed id code has (told.ByEnd e k w) = by w.ended
         where
           by : Contains s.run.early k ⊎ (Contains [] k ⊎ Contains [] k) → ⊥

@@ -1,5 +1,6 @@
 pub mod Sends
 pub mod Known
+pub mod Links
 pub mod Calm
 pub mod Causes
 pub mod Read

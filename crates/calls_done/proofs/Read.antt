@@ -1,13 +1,12 @@
 -- Where nothing went wrong, a served call that no `expire` names is done, where none that whoever read the links ended has a response that a link gave.
-use Rattle.std.proofs.Common.{◌≡◌, ℕ, ◌+◌, ◌<◌, ◌≤◌, ◌⊎◌, inl, inr, true, List, length, map, slice_get, option_and_then, Some, None, refl, sym, ap, ◌∙◌, subst, arith}
-use Rattle.std.proofs.lemmas.Option.{slice_get_within}
-use Rattle.std.specs.Prelude.{pos, IsTrue, IsSome, Contains}
+use Rattle.std.proofs.Common.{◌≡◌, ℕ, ◌+◌, ◌<◌, ◌≤◌, ◌⊎◌, inl, inr, List, slice_get, option_and_then, Some, None, refl, sym, ap, ◌∙◌, subst, arith}
+use Rattle.std.specs.Prelude.{pos, IsSome, Contains}
 use Rattle.sock_words.specs.declared.outcome.Outcome.{Outcome}
 use Rattle.sock_words.specs.declared.outcome.Outcome.TheVariants.{CallFailed}
 use Rattle.brpc_model.specs.Attempts.{IsResponse, attempt}
 use Rattle.brpc_model.specs.Complete.{IsUntroubled, IsServed, CallDone}
 use Rattle.brpc_model.specs.Frame.{Frame}
-use Rattle.brpc_model.specs.Items.{Shape, Open, Call, Expire, CallLine}
+use Rattle.brpc_model.specs.Items.{Open, Call, Expire, CallLine}
 use Rattle.brpc_model.specs.Messages.{request_frame, shown_id}
 use Rattle.brpc_model.specs.Operations.{Operation, Label, operations, link_names}
 use Rattle.brpc_model.specs.Reply.{Answer, Gives as Answers, Refuses, served, answered_by, reply}
@@ -22,20 +21,19 @@ use Rattle.report_fits.proofs.Orders.{label_of}
 use Rattle.report_fits.proofs.Orders as orders
 use Rattle.report_fits.proofs.Sizes.{keeps_limits}
 use Rattle.report_fits.proofs.TaskLemmas.{numbers_at, asks_at, task_is, open_asks, named_at, mentions_open}
-use Rattle.sock_message.specs.Asked.{Asked, name_of}
+use Rattle.sock_message.specs.Asked.{name_of}
 use Rattle.seat_programs.specs.declared.task.Op.TheVariants as ops
 use Rattle.seat_programs.specs.declared.task.Task.{Task}
 use Rattle.seat_programs.specs.Scripts.{all_tasks, place_words}
 use Rattle.seat_programs.specs.Tasks.{numbered, plan_of}
 use Rattle.seat_programs.specs.Told.{IsTask, Made}
-use Rattle.seat_programs.specs.ToldCalls as told
-use Rattle.seat_programs.specs.ToldCalls.{Accepted, OfSend, OfCall, StandsAt}
+use Rattle.seat_programs.specs.ToldCalls.{OfSend, OfCall}
 use Rattle.brpc_model.specs.PlaceWords.{IsLineOf, took_at}
-use Rattle.sock_words.specs.declared.place_word.PlaceWord.{PlaceWord}
 use Rattle.calls_done.proofs.Known.{Known, CallsStand}
-use Rattle.calls_done.specs.Owed.{GivesWell, OwesReplies, IsCall, EndsUnanswered}
-use Rattle.calls_done.proofs.Sends.{run_of, Names, links, inside, all_placed, open_named}
-use Rattle.calls_done.proofs.Calm.{Sent_, sent_at, LinkAt, link_at, unsent, At_}
+use Rattle.calls_done.specs.Owed.{GivesWell, EndsUnanswered}
+use Rattle.calls_done.proofs.Sends.{run_of, Names, links, inside, all_placed}
+use Rattle.calls_done.proofs.Links.{link_at, unsent}
+use Rattle.calls_done.proofs.Calm.{Sent_, sent_at, At_}
 use Rattle.calls_done.proofs.Causes.{asked, asks, answered_own, WasEndedByReading}
 
 -- ## Replies
@@ -107,12 +105,12 @@ module _ (s : Known) (untroubled : IsUntroubled s.run.script s.run.ends) (none_e
     -- which gave the reply to it
     answered : (x : Outcome) (id : ℕ) → HasOutcome (run_of s.run) i x → shown_id x ≡ Some id → (k p : ℕ) → At_ s untroubled none_early i 0 k p → (n : ℕ) × (frame : Frame) × GaveFrame (run_of s.run) k n frame × IsResponse call id frame
     answered x id has shows k p at =
-        let l = link_at s untroubled none_early k at.0 in
+        let l = link_at s untroubled k at.0 in
         let named : l.name ≡ name = some_is l.name name (sym l.named ∙ own_link k p at) in
         let opened : Contains s.run.script (Open name l.shape) = subst (λ n. Contains s.run.script (Open n l.shape)) named l.opened in
         let serves = is_served.1 l.shape opened in
         let w = placed_at k p i at in
-        let g = (well k l.shape l.shaped serves (unsent s untroubled none_early k l serves)).given p 0 i id w.line op call (untroubled.no_end name l.shape opened) (record { there = there; item = item; shows = ap (option_and_then shown_id) has ∙ shows }) w.at w.stands w.placed in
+        let g = (well k l.shape l.shaped serves (unsent s untroubled k l serves)).given p 0 i id w.line op call (untroubled.no_end name l.shape opened) (record { there = there; item = item; shows = ap (option_and_then shown_id) has ∙ shows }) w.at w.stands w.placed in
         let says = reply_says call (id + 0 + 1) g.1 g.3 in
         (g.0, g.1, g.2, (says.0, (let e = says.1 in omega (arith, e)), (let e = says.1 in omega (arith, e))))
 

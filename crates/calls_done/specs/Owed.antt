@@ -1,10 +1,11 @@
 -- What links with the server owe to the calls of a run.
-use Rattle.std.specs.Prelude.{ℕ, ◌≡◌, ◌+◌, ◌<◌, ◌≤◌, List, slice_get, Some, None, IsTrue, Contains}
+use Rattle.std.specs.Prelude.{ℕ, ◌≡◌, ◌+◌, ◌<◌, ◌≤◌, true, false, List, slice_get, Some, None, IsTrue, Contains}
 use Rattle.sock_words.specs.declared.outcome.Outcome.TheVariants.{CallFailed}
 use Rattle.brpc_model.specs.Attempts.{IsResponse, attempt}
-use Rattle.brpc_model.specs.Causes.{HasFault}
+use Rattle.brpc_model.specs.Causes.{HasFault, reading_limit}
 use Rattle.brpc_model.specs.Frame.{Frame}
-use Rattle.brpc_model.specs.Items.{Shape, CallLine, Send, Call}
+use Rattle.brpc_model.specs.Items.{Item, Shape, CallLine, Send, Call}
+use Rattle.brpc_model.specs.Link.{LinkEnd}
 use Rattle.brpc_model.specs.Messages.{id_at, request_frame}
 use Rattle.brpc_model.specs.Operations.{Operation, link_shapes}
 use Rattle.brpc_model.specs.Reply.{reply}
@@ -38,3 +39,7 @@ GivesWell run = (k : ℕ) (shape : Shape) → slice_get (link_shapes run.script)
 abbrev pub EndsUnanswered : Run → Type 0
 EndsUnanswered run = (i id code : ℕ) (op : Operation) (call : CallLine) → IsOperation run i op → op.item ≡ Call call → HasOutcome run i (CallFailed id code) → EndedByReading code →
     (k n : ℕ) (frame : Frame) → GaveFrame run k n frame → IsResponse call id frame → ⊥
+
+-- the reading half of each link with the server answered `Closed`, and gave no end, and less than is read at most
+abbrev pub AreClosed : List Item → List LinkEnd → Type 0
+AreClosed script ends = (k : ℕ) (e : LinkEnd) (shape : Shape) → slice_get ends k ≡ Some e → slice_get (link_shapes script) k ≡ Some shape → IsTrue shape.serve → (e.closed ≡ Some true) × (e.gave_end ≡ false) × (e.gave_count < reading_limit)
