@@ -14,6 +14,6 @@ pub mod Attempts
 pub mod WideCalls
 pub mod Failing
 pub mod Expires
-pub mod Small
 pub mod Joins
 pub mod Reports
+pub mod Small

@@ -25,6 +25,7 @@ use Rattle.script_calls.specs.call_whys.specs.call_told.specs.Once.{ends_of}
 use Rattle.script_calls.specs.call_whys.proofs.Versions.{IsIdFor}
 use Rattle.script_beside.specs.Told.{seated_ids, IsBesideRun}
 use Rattle.script_beside.proofs.Attempts.{are_ids}
+use Rattle.script_beside.proofs.Reports.{text_of}
 use Rattle.script_beside.proofs.Sockets as sockets
 
 -- an id that is shown is that of a call that ended
@@ -55,6 +56,10 @@ module _ (P : Type 0) {O I : Type 0} (g : Ghosts O) (out : O → OutState) (inn 
           (λ lt. omega (arith, few_slots, word, inside, is, lt))
           (λ ge. absurd (let none_ = r.rest.closing.ended_not a.slot a.first a.inside (omega (arith, ge)) in omega (arith, some_, none_)))
 
-  -- each id that an outcome shows is one of those
-  pub small_ids : (i id : ℕ) (outcome : Outcome) → slice_get (sockets.outcomes P g out inn bytes script reads text links r) i ≡ Some (Some outcome) → shown_id outcome ≡ Some id → id < 281474976710656
+  small_ids : (i id : ℕ) (outcome : Outcome) → slice_get (sockets.outcomes P g out inn bytes script reads text links r) i ≡ Some (Some outcome) → shown_id outcome ≡ Some id → id < 281474976710656
   small_ids i id outcome became shows = small_id i id ((are_ids P g out inn bytes script reads text links r).ends i outcome became id (shown_end outcome id shows))
+
+  -- so is each id that an outcome shows of those whose report the text is
+  pub text_small : (i id : ℕ) (outcome : Outcome) → slice_get (text_of P out inn g script text links r bytes reads).outcomes i ≡ Some (Some outcome) → shown_id outcome ≡ Some id → id < 281474976710656
+  unfolding text_of
+  text_small i id outcome became shows = small_ids i id outcome became shows
