@@ -17,3 +17,4 @@ pub mod Expires
 pub mod Joins
 pub mod Reports
 pub mod Kinds
+pub mod Small
