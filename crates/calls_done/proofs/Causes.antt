@@ -31,6 +31,7 @@ use Rattle.calls_done.specs.SockTold.{fixed_by}
 use Rattle.calls_done.specs.CallsTold.{EndedByReading}
 use Rattle.calls_done.specs.Answers.{HasAnswer}
 use Rattle.calls_done.proofs.Known.{Known, IsOfCall}
+use Rattle.calls_done.specs.Done.{IsEndedByReading}
 use Rattle.calls_done.specs.Owed.{GivesWell}
 use Rattle.calls_done.proofs.Sends.{run_of, Names, Words, links, task_at, said_or_placed_at, find_none, life_low}
 use Rattle.calls_done.proofs.Links.{LinkAt, link_at, unserved, unsent, faultless}
@@ -140,14 +141,6 @@ module _ (s : Known) (untroubled : IsUntroubled s.run.script s.run.ends) (none_e
       failed id code has (told.ByRequests e last out full) = unfull s untroubled none_early i op call there item out full
       failed id code has (told.ByFail low high last dropped (c, u, it', op', became')) = no_fail s untroubled none_early c u (name_of asked 0) code it' op'
 
-      -- whoever read the links ended it
-      pub record WasEndedByReading (outcome : Outcome) : Type 0 where
-        pub id : ℕ
-        pub code : ℕ
-        pub is : outcome ≡ CallFailed id code
-        pub by : EndedByReading code
-        pub became : Became (all_tasks s.run.script) s.run.outcomes i outcome
-
       module _ (name : List ℕ) (first : slice_get call.names 0 ≡ Some name) where
         by_found : told.FoundNone (plan_of s.run.script) (all_tasks s.run.script) s.run.outcomes (fixed_by s.run.broken s.run.early s.run.fails) s.run.gave s.run.orders op.client i (name_of asked 0) → CallDone (run_of s.run) i op call name Unopened
         by_found found = inr (refl, find_none s.run op.client i (name_of asked 0) name (first_number (Names s.run) i call name first) found)
@@ -162,14 +155,14 @@ module _ (s : Known) (untroubled : IsUntroubled s.run.script s.run.ends) (none_e
             let e : Call call' ≡ Call call = sym item' ∙ item in let same : call' ≡ call = cc in let coded = answer.coded in let given = answer.given in
             inl (id, f, coded.1, own_reply (Peer id code) has id refl given.link given.place f (let w = given.whole.0 in let m = s.run.given.as_many in omega (arith, w, m)) given.whole.1 (subst (λ c. IsResponse c id f) same answer.response), coded.2, subst (λ c. Gives id c f (Peer id code)) (sym coded.3) (gives_peer id code f other))
 
-        by_code : (id code : ℕ) → HasOutcome (run_of s.run) i (CallFailed id code) → Became (all_tasks s.run.script) s.run.outcomes i (CallFailed id code) → CallDone (run_of s.run) i op call name (CallFailed id code) ⊎ WasEndedByReading (CallFailed id code)
+        by_code : (id code : ℕ) → HasOutcome (run_of s.run) i (CallFailed id code) → Became (all_tasks s.run.script) s.run.outcomes i (CallFailed id code) → CallDone (run_of s.run) i op call name (CallFailed id code) ⊎ IsEndedByReading (CallFailed id code)
         by_code id code has b = by (s.calls.failed op.client id code (record { number = i; op = ops.Call asked }) asked task refl b)
           where
-            by : told.FailedBy (plan_of s.run.script) (all_tasks s.run.script) s.run.outcomes (fixed_by s.run.broken s.run.early s.run.fails) s.run.gave s.run.orders op.client i asked id code (s.run.last i) ⊎ EndedByReading code → CallDone (run_of s.run) i op call name (CallFailed id code) ⊎ WasEndedByReading (CallFailed id code)
+            by : told.FailedBy (plan_of s.run.script) (all_tasks s.run.script) s.run.outcomes (fixed_by s.run.broken s.run.early s.run.fails) s.run.gave s.run.orders op.client i asked id code (s.run.last i) ⊎ EndedByReading code → CallDone (run_of s.run) i op call name (CallFailed id code) ⊎ IsEndedByReading (CallFailed id code)
             by (inl why) = absurd (failed id code has (subst (λ n. told.FailedBy (plan_of s.run.script) (all_tasks s.run.script) s.run.outcomes (fixed_by s.run.broken s.run.early s.run.fails) s.run.gave s.run.orders op.client i asked id code n) last_is why))
-            by (inr read) = inr record { id = id; code = code; is = refl; by = read; became = b }
+            by (inr read) = inr (id, code, refl, read)
 
-        by_outcome : (x : Outcome) → HasOutcome (run_of s.run) i x → Became (all_tasks s.run.script) s.run.outcomes i x → IsOfCall x → CallDone (run_of s.run) i op call name x ⊎ WasEndedByReading x
+        by_outcome : (x : Outcome) → HasOutcome (run_of s.run) i x → Became (all_tasks s.run.script) s.run.outcomes i x → IsOfCall x → CallDone (run_of s.run) i op call name x ⊎ IsEndedByReading x
         by_outcome Unopened has b kind = inl (by_found (s.run.tells.unopened op.client i asked task b))
         by_outcome (Answered id payload attachment) has b kind = inl (by_answer id payload attachment has (s.answers i (Answered id payload attachment) b op there))
         by_outcome (Peer id code) has b kind = inl (by_peer id code has (s.answers i (Peer id code) b op there))
@@ -178,9 +171,9 @@ module _ (s : Known) (untroubled : IsUntroubled s.run.script s.run.ends) (none_e
         by_outcome other has b (inr e) = absurd (cc)
 
         -- it has the reply to its own request, or its name had no socket yet, or whoever read the links ended it
-        pub answered_own : (x : Outcome) → HasOutcome (run_of s.run) i x → CallDone (run_of s.run) i op call name x ⊎ WasEndedByReading x
+        pub answered_own : (x : Outcome) → HasOutcome (run_of s.run) i x → CallDone (run_of s.run) i op call name x ⊎ IsEndedByReading x
         answered_own x has = by (said_or_placed_at s.run i x has)
           where
-            by : SaidOrPlaced (Words s.run) s.run.outcomes i x → CallDone (run_of s.run) i op call name x ⊎ WasEndedByReading x
+            by : SaidOrPlaced (Words s.run) s.run.outcomes i x → CallDone (run_of s.run) i op call name x ⊎ IsEndedByReading x
             by (inl b) = by_outcome x has b (s.kinds op.client (record { number = i; op = ops.Call asked }) asked x task refl b)
             by (inr w) = absurd (call_said w.0)

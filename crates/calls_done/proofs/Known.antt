@@ -1,10 +1,8 @@
 -- What is known of a run on threads with calls, whose links were read beside its clients.
 use Rattle.std.specs.Prelude.{ℕ, ◌≡◌, true, ◌⊎◌, length}
 use Rattle.sock_words.specs.declared.outcome.Outcome.{Outcome}
-use Rattle.sock_words.specs.declared.outcome.Outcome.TheVariants.{Unopened, CallFailed}
-use Rattle.brpc_model.specs.Items.{Call, CallLine}
-use Rattle.brpc_model.specs.Operations.{Operation, operations}
-use Rattle.brpc_model.specs.Run.{IsOperation, HasOutcome}
+use Rattle.sock_words.specs.declared.outcome.Outcome.TheVariants.{Unopened}
+use Rattle.brpc_model.specs.Operations.{operations}
 use Rattle.sock_message.specs.Asked.{Asked}
 use Rattle.seat_programs.specs.declared.task.Op.TheVariants as ops
 use Rattle.seat_programs.specs.declared.task.Task.{Task}
@@ -12,7 +10,7 @@ use Rattle.seat_programs.specs.Scripts.{all_tasks}
 use Rattle.seat_programs.specs.Tasks.{plan_of}
 use Rattle.seat_programs.specs.Told.{IsTask, Became}
 use Rattle.seat_programs.specs.ToldCalls.{StandsOn}
-use Rattle.calls_done.proofs.Sends.{ToldRun, run_of}
+use Rattle.calls_done.proofs.Sends.{ToldRun}
 use Rattle.calls_done.specs.SockTold.{fixed_by}
 use Rattle.calls_done.specs.CallsTold.{AreCallsTold}
 use Rattle.calls_done.specs.Answers.{HaveAnswers, ends_call}
@@ -31,8 +29,3 @@ pub record Known : Type 0 where
   pub each : (client : ℕ) (t : Task) → IsTask (all_tasks run.script) run.outcomes client t →
       ((outcome : Outcome) × Became (all_tasks run.script) run.outcomes t.number outcome) ⊎ ((k : ℕ) × StandsOn (plan_of run.script) (all_tasks run.script) run.outcomes (fixed_by run.broken run.early run.fails) run.gave run.orders t.number 0 k)
   pub kinds : (client : ℕ) (t : Task) (asked : Asked) (outcome : Outcome) → IsTask (all_tasks run.script) run.outcomes client t → t.op ≡ ops.Call asked → Became (all_tasks run.script) run.outcomes t.number outcome → IsOfCall outcome
-
--- the first attempt of each call that failed stands in an order
-abbrev pub CallsStand : ToldRun → Type 0
-CallsStand r = (i id code : ℕ) (op : Operation) (call : CallLine) → IsOperation (run_of r) i op → op.item ≡ Call call → HasOutcome (run_of r) i (CallFailed id code) →
-    (k : ℕ) × StandsOn (plan_of r.script) (all_tasks r.script) r.outcomes (fixed_by r.broken r.early r.fails) r.gave r.orders i 0 k

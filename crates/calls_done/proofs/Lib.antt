@@ -3,4 +3,4 @@ pub mod Known
 pub mod Links
 pub mod Calm
 pub mod Causes
-pub mod Read
+pub mod Done

@@ -4,3 +4,4 @@ pub mod CallsTold
 pub mod Answers
 pub mod Joins
 pub mod Owed
+pub mod Done
