@@ -17,9 +17,9 @@ use Rattle.seat_programs.specs.Tasks.{numbered, plan_of}
 use Rattle.seat_programs.specs.Told.{IsTask}
 use Rattle.seat_programs.specs.ToldCalls as told
 use Rattle.seat_programs.specs.ToldCalls.{Accepted, IsSent, StandsAt}
-use Rattle.calls_done.specs.SockTold.{fixed_by}
+use Rattle.callless_fits.specs.sock_deeds.specs.Told.{fixed_by}
 use Rattle.calls_done.proofs.Known.{Known}
-use Rattle.calls_done.proofs.Sends.{run_of, Names, links, fewer, unfailed, life_low}
+use Rattle.callless_fits.proofs.Sends.{run_of, Names, links, fewer, unfailed, life_low}
 
 module _ (s : Known) where
   -- message a, which link k accepted, is that of a `send` of which nothing is said, or that of an attempt that was made of a call

@@ -27,13 +27,13 @@ use Rattle.seat_programs.specs.Tasks.{numbered, asked_of, op_of, plan_of}
 use Rattle.seat_programs.specs.Told.{IsTask, Became}
 use Rattle.seat_programs.specs.ToldCalls as told
 use Rattle.seat_programs.specs.ToldCalls.{Accepted, OfSend, OfCall}
-use Rattle.calls_done.specs.SockTold.{fixed_by}
-use Rattle.calls_done.specs.CallsTold.{EndedByReading}
-use Rattle.calls_done.specs.Answers.{HasAnswer}
+use Rattle.callless_fits.specs.sock_deeds.specs.Told.{fixed_by}
+use Rattle.script_calls.specs.Told.{EndedByReading}
+use Rattle.script_calls.specs.call_whys.specs.call_told.specs.Answers.{HasAnswer}
 use Rattle.calls_done.proofs.Known.{Known, IsOfCall}
 use Rattle.calls_done.specs.Done.{IsEndedByReading}
 use Rattle.calls_done.specs.Owed.{GivesWell}
-use Rattle.calls_done.proofs.Sends.{run_of, Names, Words, links, task_at, said_or_placed_at, find_none, life_low}
+use Rattle.callless_fits.proofs.Sends.{run_of, Names, Words, links, task_at, said_or_placed_at, find_none, life_low}
 use Rattle.calls_done.proofs.Links.{LinkAt, link_at, unserved, unsent, faultless}
 use Rattle.calls_done.proofs.Calm.{Sent_, sent_at, no_fail, unfull, no_loss, last_first}
 

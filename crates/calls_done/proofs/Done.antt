@@ -5,7 +5,7 @@ use Rattle.calls_done.specs.Owed.{GivesWell, AreClosed}
 use Rattle.calls_done.proofs.Causes.{answered_own}
 use Rattle.calls_done.proofs.Known.{Known}
 use Rattle.calls_done.proofs.Links.{none_early}
-use Rattle.calls_done.proofs.Sends.{run_of, links, sends_done}
+use Rattle.callless_fits.proofs.Sends.{run_of, links, sends_done}
 
 pub done_on_threads : (s : Known) → GivesWell (run_of s.run) → AreClosed s.run.script s.run.ends → DoneOnThreads (run_of s.run)
 done_on_threads s well closed untroubled = record {

@@ -10,10 +10,10 @@ use Rattle.seat_programs.specs.Scripts.{all_tasks}
 use Rattle.seat_programs.specs.Tasks.{plan_of}
 use Rattle.seat_programs.specs.Told.{IsTask, Became}
 use Rattle.seat_programs.specs.ToldCalls.{StandsOn}
-use Rattle.calls_done.proofs.Sends.{ToldRun}
-use Rattle.calls_done.specs.SockTold.{fixed_by}
-use Rattle.calls_done.specs.CallsTold.{AreCallsTold}
-use Rattle.calls_done.specs.Answers.{HaveAnswers, ends_call}
+use Rattle.callless_fits.proofs.Sends.{ToldRun}
+use Rattle.callless_fits.specs.sock_deeds.specs.Told.{fixed_by}
+use Rattle.script_calls.specs.Told.{AreCallsTold}
+use Rattle.script_calls.specs.call_whys.specs.call_told.specs.Answers.{HaveAnswers, ends_call}
 
 -- a call found no socket under its first name, or it ended
 abbrev pub IsOfCall : Outcome → Type 0

@@ -1,4 +1,3 @@
-pub mod Sends
 pub mod Known
 pub mod Links
 pub mod Calm

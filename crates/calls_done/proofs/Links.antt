@@ -10,10 +10,10 @@ use Rattle.brpc_model.specs.Operations.{link_names, link_shapes}
 use Rattle.report_fits.specs.Ends.{IsEndOf, EndsEarly}
 use Rattle.report_fits.proofs.Lists.{Has, all_at, has_later, contains_from, some_is, within}
 use Rattle.seat_programs.specs.Tasks.{plan_of}
-use Rattle.calls_done.specs.SockTold.{fixed_by}
+use Rattle.callless_fits.specs.sock_deeds.specs.Told.{fixed_by}
 use Rattle.calls_done.proofs.Known.{Known}
 use Rattle.calls_done.specs.Owed.{IsUnsent, GivesWell, AreClosed}
-use Rattle.calls_done.proofs.Sends.{run_of, links}
+use Rattle.callless_fits.proofs.Sends.{run_of, links}
 
 -- ## The shape of a link
 

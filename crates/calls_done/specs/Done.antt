@@ -6,7 +6,7 @@ use Rattle.brpc_model.specs.Complete.{IsUntroubled, IsServed, SendDone, CallDone
 use Rattle.brpc_model.specs.Items.{Send, Call, Expire, CallLine}
 use Rattle.brpc_model.specs.Operations.{Operation}
 use Rattle.brpc_model.specs.Run.{Run, IsOperation, HasOutcome}
-use Rattle.calls_done.specs.CallsTold.{EndedByReading}
+use Rattle.script_calls.specs.Told.{EndedByReading}
 
 -- the call failed since whoever read the links ended it: with 1014 as nothing more came, or with 2002 as what came is no frame
 abbrev pub IsEndedByReading : Outcome → Type 0
