@@ -23,6 +23,12 @@ shape_at (Open n s ∷ items) zero name e = (s, refl, (zero, ap (λ (x : List �
 shape_at (Open n s ∷ items) (suc k) name e = let x = shape_at items k name e in (x.0, x.1, has_later (Open n s) items (Open name x.0) x.2)
 shape_at (item ∷ items) k name e = let x = shape_at items k name e in (x.0, x.1, has_later item items (Open name x.0) x.2)
 
+-- each link has one
+pub shapes_many : (items : List Item) → length (link_shapes items) ≡ length (link_names items)
+shapes_many [] = refl
+shapes_many (Open n s ∷ items) = ap suc (shapes_many items)
+shapes_many (item ∷ items) = shapes_many items
+
 pub no_fault_none : HasFault [] → ⊥
 no_fault_none (start, fault, e) = cc
 

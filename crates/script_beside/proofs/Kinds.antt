@@ -36,13 +36,10 @@ use Rattle.script_calls.proofs.Sayings.{told_each, none_told}
 use Rattle.script_calls.proofs.Shown.{view_of}
 use Rattle.script_calls.proofs.Tellers.{HasResult, IsEndTold}
 use Rattle.script_calls.proofs.Tellers as tellers
+use Rattle.calls_done.proofs.Known.{IsOfCall}
 use Rattle.script_beside.specs.Told.{seated_plan, seated_ids, IsBesideRun}
 use Rattle.script_beside.proofs.Reports.{text_of}
 use Rattle.script_beside.proofs.Sockets as sockets
-
--- a call that found no socket, or that ended
-abbrev pub IsOfCall : Outcome → Type 0
-IsOfCall outcome = (outcome ≡ Unopened) ⊎ (ends_call outcome ≡ true)
 
 ends_some : (by : Outcome) (id : ℕ) → 0 < ends_of id by → ends_call by ≡ true
 ends_some (Answered i payload attachment) id h = refl

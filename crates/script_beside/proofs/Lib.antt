@@ -18,3 +18,4 @@ pub mod Joins
 pub mod Reports
 pub mod Kinds
 pub mod Small
+pub mod Done
