@@ -79,7 +79,7 @@ module _ (bytes : List ℕ) (script : List Item) (reads : script_of bytes ≡ Ok
     given = is.sockets.ends_told;
   }
 
-  known : Known
+  abbrev known : Known
   known = record {
     run = told_run;
     answers = is.answered.each;
