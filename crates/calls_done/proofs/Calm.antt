@@ -70,4 +70,4 @@ module _ (s : Known) (untroubled : IsUntroubled s.run.script s.run.ends) (none_e
       where
         by : (n : ℕ) → s.run.last i ≡ n → s.run.last i ≡ 0
         by zero e = e
-        by (suc n) e = absurd (no_again (s.calls.again c (record { number = i; op = ops.Call asked }) asked it refl 0 (omega (arith, e))))
+        by (suc n) e = absurd (no_again (s.again c (record { number = i; op = ops.Call asked }) asked it refl 0 (omega (arith, e))))

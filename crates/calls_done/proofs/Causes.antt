@@ -28,10 +28,9 @@ use Rattle.seat_programs.specs.Told.{IsTask, Became}
 use Rattle.seat_programs.specs.ToldCalls as told
 use Rattle.seat_programs.specs.ToldCalls.{Accepted, OfSend, OfCall}
 use Rattle.callless_fits.specs.sock_deeds.specs.Told.{fixed_by}
-use Rattle.script_calls.specs.Told.{EndedByReading}
-use Rattle.script_calls.specs.call_whys.specs.call_told.specs.Answers.{HasAnswer}
+use Rattle.call_told.specs.Answers.{HasAnswer}
 use Rattle.calls_done.proofs.Known.{Known, IsOfCall}
-use Rattle.calls_done.specs.Done.{IsEndedByReading}
+use Rattle.calls_done.specs.Done.{IsReadCode, IsEndedByReading}
 use Rattle.calls_done.specs.Owed.{GivesWell}
 use Rattle.callless_fits.proofs.Sends.{run_of, Names, Words, links, task_at, said_or_placed_at, find_none, life_low}
 use Rattle.calls_done.proofs.Links.{LinkAt, link_at, unserved, unsent, faultless}
@@ -156,9 +155,9 @@ module _ (s : Known) (untroubled : IsUntroubled s.run.script s.run.ends) (none_e
             inl (id, f, coded.1, own_reply (Peer id code) has id refl given.link given.place f (let w = given.whole.0 in let m = s.run.given.as_many in omega (arith, w, m)) given.whole.1 (subst (λ c. IsResponse c id f) same answer.response), coded.2, subst (λ c. Gives id c f (Peer id code)) (sym coded.3) (gives_peer id code f other))
 
         by_code : (id code : ℕ) → HasOutcome (run_of s.run) i (CallFailed id code) → Became (all_tasks s.run.script) s.run.outcomes i (CallFailed id code) → CallDone (run_of s.run) i op call name (CallFailed id code) ⊎ IsEndedByReading (CallFailed id code)
-        by_code id code has b = by (s.calls.failed op.client id code (record { number = i; op = ops.Call asked }) asked task refl b)
+        by_code id code has b = by (s.failed op.client id code (record { number = i; op = ops.Call asked }) asked task refl b)
           where
-            by : told.FailedBy (plan_of s.run.script) (all_tasks s.run.script) s.run.outcomes (fixed_by s.run.broken s.run.early s.run.fails) s.run.gave s.run.orders op.client i asked id code (s.run.last i) ⊎ EndedByReading code → CallDone (run_of s.run) i op call name (CallFailed id code) ⊎ IsEndedByReading (CallFailed id code)
+            by : told.FailedBy (plan_of s.run.script) (all_tasks s.run.script) s.run.outcomes (fixed_by s.run.broken s.run.early s.run.fails) s.run.gave s.run.orders op.client i asked id code (s.run.last i) ⊎ IsReadCode code → CallDone (run_of s.run) i op call name (CallFailed id code) ⊎ IsEndedByReading (CallFailed id code)
             by (inl why) = absurd (failed id code has (subst (λ n. told.FailedBy (plan_of s.run.script) (all_tasks s.run.script) s.run.outcomes (fixed_by s.run.broken s.run.early s.run.fails) s.run.gave s.run.orders op.client i asked id code n) last_is why))
             by (inr read) = inr (id, code, refl, read)
 

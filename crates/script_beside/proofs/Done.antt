@@ -83,7 +83,8 @@ module _ (bytes : List ℕ) (script : List Item) (reads : script_of bytes ≡ Ok
   known = record {
     run = told_run;
     answers = is.answered.each;
-    calls = is.on_calls;
+    failed = is.on_calls.failed;
+    again = is.on_calls.again;
     each = told_each script is.outcomes fixed is.answered.gave is.sockets.orders is.sockets.core is.sockets.tells is.one_each (subst (λ (ws : List PlaceWord). HasEachOutcome ws is.outcomes) (sym is.sockets.words) is.reported.each);
     kinds = kinds;
   }
