@@ -1,5 +1,5 @@
 -- Where the messages stand that links accepted: what stands at a place of a link's line in the report is one of them, at that place of the link's order.
-use Rattle.std.proofs.Common.{◌≡◌, ℕ, ◌+◌, ◌*◌, ◌<◌, ◌≤◌, true, List, length, slice_get, Option, Some, Ok, refl, sym, ap, ◌∙◌, subst, arith}
+use Rattle.std.proofs.Common.{◌≡◌, ℕ, ◌*◌, ◌<◌, ◌≤◌, true, List, length, slice_get, Option, Some, Ok, refl, sym, ap, ◌∙◌, subst, arith}
 use Rattle.std.proofs.lemmas.Option.{slice_get_within}
 use Rattle.std.specs.List.{AllByRecursion}
 use Rattle.sock_words.specs.declared.outcome.Outcome.{Outcome}
@@ -22,7 +22,7 @@ use Rattle.seat_programs.specs.Cores.{Core}
 use Rattle.seat_programs.specs.Scripts.{all_tasks, place_words}
 use Rattle.seat_programs.specs.Tasks.{plan_of}
 use Rattle.seat_programs.specs.Told.{AreTasks, AskedFits, OpFits, TaskFits, IsTask}
-use Rattle.seat_programs.specs.ToldCalls.{Accepted, Order, Fixed, AreOrders, StandsAt, IsSent, OfSend, OfCall, label}
+use Rattle.seat_programs.specs.ToldCalls.{Accepted, Order, Fixed, AreOrders, StandsAt, IsSent, OfSend, OfCall}
 use Rattle.attempts_told.specs.Attempts.{AreAttemptsTold}
 
 -- ## Tasks

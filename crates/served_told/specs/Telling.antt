@@ -1,4 +1,4 @@
--- What is known of a run beside what is told of it: links with the server tell what they took and gave, ids are those of a table, and each call has versions of its own.
+-- What is known of a run beside what is told of it: links with the server tell what they took and gave and whether they were closed, ids are those of a table, and each call has versions of its own.
 use Rattle.std.specs.Prelude.{ℕ, ◌≡◌, ◌≢◌, ◌+◌, ◌<◌, ◌≤◌, ◌⊎◌, List, Option, Some, slice_get, IsTrue, IsSome}
 use Rattle.sock_words.specs.declared.outcome.Outcome.{Outcome}
 use Rattle.brpc_model.specs.Items.{Item, Shape}
@@ -10,9 +10,9 @@ use Rattle.seat_programs.specs.declared.task.Op.TheVariants as ops
 use Rattle.seat_programs.specs.declared.task.Task.{Task}
 use Rattle.seat_programs.specs.Told.{IsTask, Became}
 
--- each link with the server tells what it took and gave
+-- each link with the server tells what it took and gave, and whether it was closed
 abbrev pub TellBytes : List Item → List LinkEnd → Type 0
-TellBytes script ends = (k : ℕ) (e : LinkEnd) (shape : Shape) → slice_get ends k ≡ Some e → slice_get (link_shapes script) k ≡ Some shape → IsTrue shape.serve → IsSome e.took × IsSome e.gave
+TellBytes script ends = (k : ℕ) (e : LinkEnd) (shape : Shape) → slice_get ends k ≡ Some e → slice_get (link_shapes script) k ≡ Some shape → IsTrue shape.serve → IsSome e.took × IsSome e.gave × IsSome e.closed
 
 -- each id that an outcome shows is one of a table of 65,536 ids
 abbrev pub ShowSmallIds : List (Option Outcome) → Type 0
