@@ -120,7 +120,7 @@ module _ (bytes : List ℕ) (script : List Item) (reads : script_of bytes ≡ Ok
           let m = made_for bytes script reads is.outcomes is.places text is.reported.took ends fixed is.answered.gave is.sockets.orders is.sockets.core is.sockets.words is.sockets.tells.are_orders is.sockets.ends_told is.attempts is.on_calls.versions is.reported.report is.reported.told small tell
           k shape line opened serves at (gives k shape line opened serves at) unsent i id op call c.there c.item c.shows n frame gave_it response in (
             own_request bytes script reads is.outcomes is.places text is.reported.took ends fixed is.answered.gave is.sockets.orders is.sockets.core is.sockets.words is.sockets.tells.are_orders is.sockets.ends_told is.attempts is.on_calls.versions is.reported.report is.reported.told small tell
-            k shape line opened serves at (gives k shape line opened serves at) unsent i id op call c.there c.item c.shows n frame gave_it response,
+                k shape line opened serves at (gives k shape line opened serves at) unsent i id op call c.there c.item c.shows n frame gave_it response,
             m.0,
             m.1,
             m.2,
