@@ -16,7 +16,10 @@ pub mod Failing
 pub mod Expires
 pub mod Joins
 pub mod Reports
+pub mod Kinds
+pub mod Small
 pub mod Meeting
 pub mod Unopened
 pub mod ReadOut
 pub mod Replies
+pub mod Done
