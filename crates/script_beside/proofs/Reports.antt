@@ -108,7 +108,7 @@ module _ (P : Type 0) {O I : Type 0} (out : O → OutState) (inn : I → InState
       (answered_gave p q (calls script) (opens script) readers r.left.readers_are {I = I} {P = P} out inn r.ends r.halves_read r.unread (operations script) outcomes have_answers)
 
   -- it has the outcomes and place words of its report
-  unfoldable pub text_of : (bytes : List ℕ) → script_of bytes ≡ Ok script → IsBesideText script text links
+  pub text_of : (bytes : List ℕ) → script_of bytes ≡ Ok script → IsBesideText script text links
   text_of bytes reads = let both = told_of bytes reads in record {
     outcomes = outcomes;
     places = r.places;
