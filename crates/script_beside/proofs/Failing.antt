@@ -45,7 +45,7 @@ use Rattle.script_calls.specs.failed_told.proofs.Ended.{TellsDrops, ends_with}
 use Rattle.script_calls.specs.failed_told.proofs.ReadCodes.{HasReadCode, TellsCodes, rest_codes, readers_codes}
 use Rattle.script_calls.specs.failed_told.proofs.Reading.{rest_queues, readers_queue, others_beside}
 use Rattle.script_calls.specs.failed_told.proofs.Views.{queued_in}
-use Rattle.script_calls.specs.Reading.{IdSeat}
+use Rattle.script_calls.specs.Seats.{IdSeat}
 use Rattle.script_calls.specs.Told.{outcomes_of}
 use Rattle.script_calls.proofs.Clients as clients
 use Rattle.script_calls.proofs.Failing.{fails_within, same_failure, not_own}

@@ -1,5 +1,5 @@
 use Rattle.script_calls.proofs.Resting.{all_of, joined_open}
-use Rattle.script_calls.proofs.reading.join_all.Goals as goal
+use Rattle.script_calls.proofs.joining.join_all.Goals as goal
 
 pub join_seats-requires-clause-seats : goal.join_seats-requires-clause-seats
 join_seats-requires-clause-seats c = all_of c.args.ids.now.table.shared.table_id c.args.seats.items c.requires.seats
