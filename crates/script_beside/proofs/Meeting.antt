@@ -1,5 +1,5 @@
 -- The links of a run, from being opened to their ends being compared behind it: what each gave.
-use Rattle.std.proofs.Common.{◌≡◌, ◌≢◌, ℕ, suc, ◌+◌, ◌<◌, if◌then◌else◌, Bool, true, false, List, [], ◌∷◌, length, map, flat_map, get_or, Option, Some, None, refl, sym, ◌∙◌, subst, arith}
+use Rattle.std.proofs.Common.{◌≡◌, ◌≢◌, ℕ, suc, ◌+◌, ◌<◌, if◌then◌else◌, Bool, true, false, List, [], ◌∷◌, length, map, flat_map, get_or, Option, Some, None, refl, sym, ap, ◌∙◌, subst, arith}
 use Rattle.std.specs.Prelude.{All}
 use Rattle.std.proofs.lemmas.List.Elements.{All-nil, All-cons}
 use Rattle.brpc_model.specs.Frame.{frame_bytes}
@@ -24,7 +24,7 @@ use Rattle.call_run.specs.link_crew.specs.declared.beside.Rest.{Rest}
 use Rattle.call_run.specs.link_crew.proofs.Gave.{gave_all}
 use Rattle.call_run.specs.link_crew.proofs.Ways.{Stays, read_stays, ends_stay, asked_stays}
 use Rattle.call_run.specs.sock_table.specs.Closed.{ways_of}
-use Rattle.script_calls.specs.Halves.{joined}
+use Rattle.script_calls.specs.Halves.{rest_of, joined}
 use Rattle.script_beside.specs.Gave.{offered_for, GaveOffer, GaveOffers}
 
 heads : {A : Type 0} (x y : A) (xs ys : List A) → x ∷ xs ≡ y ∷ ys → (x ≡ y) × (xs ≡ ys)
@@ -90,6 +90,26 @@ module _ {O I P : Type 0} (tells_in : Mode → Bool) (out : O → OutState) (pee
           one_kept s e o r a.0 ways.0 (reader_stays x (inn e.inn) (inn r.inn) read.0 front.0 back.0) served.0,
           all_kept (link + 1) ss es os rs ns xs a.1 ways.1 read.3 front.1 back.1 served.1,
         )
+
+    -- from the halves of the links that were opened to those that came back
+    pub run_kept : (specs : List LinkSpec) (es : List (Ends O I P)) (outs os : List O) (rests rs : List (Rest I P)) (opens : List ℕ) (xs : List (LinkReader g)) → AreOpened tells_in out peer inn specs es → ways_of out os ≡ ways_of out outs → outs ≡ map (λ (e : Ends O I P). e.out) es → rests ≡ map rest_of es
+        → AreReaders p q calls 0 opens xs → map (λ (x : LinkReader g). x.before) xs ≡ map (λ (r : Rest I P). inn r.inn) rests → map (λ (x : LinkReader g). x.behind) xs ≡ map (λ (r : Rest I P). inn r.inn) rs
+        → AllServed (map (λ (r : Rest I P). peer r.peer) rests) (map (λ (r : Rest I P). peer r.peer) rs) → AreKept specs (joined os rs)
+    run_kept specs es outs os rests rs opens xs opened ways outs_are rests_are read before behind served =
+        all_kept 0 specs es os rs opens xs opened (ways ∙ ap (ways_of out) outs_are ∙ out_ways es) read (before ∙ ap (map (λ (r : Rest I P). inn r.inn)) rests_are ∙ rest_inns es) behind
+        (subst (λ (l : List PeerState). AllServed l (map (λ (r : Rest I P). peer r.peer) rs)) (ap (map (λ (r : Rest I P). peer r.peer)) rests_are ∙ rest_peers es) served)
+      where
+        out_ways : (es : List (Ends O I P)) → ways_of out (map (λ (e : Ends O I P). e.out) es) ≡ map (λ (e : Ends O I P). (out e.out).way) es
+        out_ways [] = refl
+        out_ways (e ∷ es) = ap (λ l. (out e.out).way ∷ l) (out_ways es)
+
+        rest_inns : (es : List (Ends O I P)) → map (λ (r : Rest I P). inn r.inn) (map rest_of es) ≡ map (λ (e : Ends O I P). inn e.inn) es
+        rest_inns [] = refl
+        rest_inns (e ∷ es) = ap (λ l. inn e.inn ∷ l) (rest_inns es)
+
+        rest_peers : (es : List (Ends O I P)) → map (λ (r : Rest I P). peer r.peer) (map rest_of es) ≡ map (λ (e : Ends O I P). peer e.peer) es
+        rest_peers [] = refl
+        rest_peers (e ∷ es) = ap (λ l. peer e.peer ∷ l) (rest_peers es)
 
   -- so they may be compared
   pub kept_ends : (specs : List LinkSpec) (es : List (Ends O I P)) → AreKept specs es → All (λ (e : Ends O I P). AreEnds (out e.out) (peer e.peer) (inn e.inn)) es

@@ -31,7 +31,7 @@ use Rattle.call_run.specs.sock_rule.specs.OnTable.{is_put, put_in}
 use Rattle.call_run.specs.sock_rule.specs.Rows.{NOTHING, PutAt}
 use Rattle.rpc_client.specs.Opening.{OpenedBy}
 use Rattle.script_calls.specs.report_fits.proofs.Numbering.{link_at, link_later}
-use Rattle.script_calls.specs.report_fits.proofs.TaskLemmas.{open_asks, task_is}
+use Rattle.script_calls.specs.report_fits.proofs.TaskLemmas.{numbers_at, open_asks, task_is}
 use Rattle.script_calls.specs.call_whys.specs.sock_deeds.specs.Deeds.{Did, opens, DoneBy, Deed, own_number}
 use Rattle.script_calls.specs.call_whys.specs.sock_deeds.specs.Runs.{DeedRun}
 use Rattle.call_run.specs.sock_open.specs.slot_steps.proofs.Numbers.{pair_is}
@@ -45,7 +45,7 @@ use Rattle.script_calls.specs.call_whys.specs.sock_deeds.proofs.Tasks.{act_name,
 -- ## What an `open` that made a socket stores
 
 put_more : {S : Type 0} (x n y word : ℕ) (m m' : Me S View) → PutAt y word m m' → put_in x n m'.0 ≡ pair x n y word + put_in x n m.0
-put_more {S} x n y word m m' put = ap (λ (z : Me S View). put_in x n z.0) put.view ∙ note_is x n record { place = y; word = word } m.0.stores
+put_more {S} x n y word m m' put = ap (λ z. put_in x n z.0) put.view ∙ note_is x n record { place = y; word = word } m.0.stores
 
 -- nothing but its id
 stores_id : {S : Type 0} (p : Plan) (x word name number link slot version k : ℕ) (m m' : Me S View) → OpenedBy p name number link (outcome.Opened slot version k) m m' → put_in x word m.0 < put_in x word m'.0
@@ -54,8 +54,7 @@ stores_id p x word name number link slot version k m m' b less =
     let o = b.4 in
     let e1 = o.created.stores x word in
     let e2 = put_more x word (open_index p number) (b.0.0 + 1) o.made o.told o.noted in
-    let e4 = put_more x word (name_index p name) (b.0.0 + 1) o.told m' o.published in
-    (
+    let e4 = put_more x word (name_index p name) (b.0.0 + 1) o.told m' o.published in (
       b.0,
       b.2,
       dite (dec_lt 0 (pair x word (open_index p number) (b.0.0 + 1)))
@@ -95,16 +94,16 @@ opened_is : (item : Item) (name : List ℕ) (shape : Rattle.brpc_model.specs.Ite
 opened_is item name shape e = ap is_open e
 
 -- two that open one link are one
-pub one_opener : (script : List Item) (outcomes : List (Option Outcome)) (c d m o n l k : ℕ) → IsTask (all_tasks script) outcomes c record { number = m; op = ops.Open n k } → IsTask (all_tasks script) outcomes d record { number = o; op = ops.Open l k } → m ≡ o
-one_opener script outcomes c d m o n l k a b =
-    let x = task_is script outcomes c record { number = m; op = ops.Open n k } a in
+pub one_opener : (script : List Item) (outcomes : List (Option Outcome)) (c d : ℕ) (t : Task) (o n l k : ℕ) → IsTask (all_tasks script) outcomes c t → t.op ≡ ops.Open n k → IsTask (all_tasks script) outcomes d record { number = o; op = ops.Open l k } → t.number ≡ o
+one_opener script outcomes c d t o n l k a opens_it b =
+    let x = task_is script outcomes c t a in
     let y = task_is script outcomes d record { number = o; op = ops.Open l k } b in
-    let i = open_asks (numbered script) (names script) _ x.operation.item n k x.asks in
-    let j = open_asks (numbered script) (names script) _ y.operation.item l k y.asks in
-    let here : k ≡ link_at (operations script) m = i.4 in
+    let i = open_asks (numbered script) (names script) (numbers_at script t.number x.operation) x.operation.item n k (x.asks ∙ ap Some opens_it) in
+    let j = open_asks (numbered script) (names script) (numbers_at script o y.operation) y.operation.item l k y.asks in
+    let here : k ≡ link_at (operations script) t.number = i.4 in
     let there : k ≡ link_at (operations script) o = j.4 in
-    dite (dec_lt m o)
-    (λ less. absurd (let z = link_later (operations script) m o x.operation x.there (opened_is x.operation.item i.0 i.1 i.2) less in omega arith))
-    (λ not_less. dite (dec_lt o m)
-    (λ less. absurd (let z = link_later (operations script) o m y.operation y.there (opened_is y.operation.item j.0 j.1 j.2) less in omega arith))
+    dite (dec_lt t.number o)
+    (λ less. absurd (let z = link_later (operations script) t.number o x.operation x.there (opened_is x.operation.item i.0 i.1 i.2) less in omega arith))
+    (λ not_less. dite (dec_lt o t.number)
+    (λ less. absurd (let z = link_later (operations script) o t.number y.operation y.there (opened_is y.operation.item j.0 j.1 j.2) less in omega arith))
     (λ not_more. omega (arith, not_less, not_more)))
