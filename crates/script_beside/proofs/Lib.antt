@@ -19,3 +19,4 @@ pub mod Reports
 pub mod Meeting
 pub mod Unopened
 pub mod Replies
+pub mod Small
