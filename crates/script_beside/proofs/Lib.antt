@@ -19,4 +19,6 @@ pub mod Reports
 pub mod Meeting
 pub mod Unopened
 pub mod Replies
+pub mod Kinds
 pub mod Small
+pub mod Done
