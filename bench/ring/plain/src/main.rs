@@ -1,6 +1,12 @@
-//! What `ring_bench` does, as one writes it in Rust with std alone: pieces of bytes from one thread to another, through room for
-//! 65,536 bytes, taken 1,024 at a time. `ring` has two atomic indexes, of which each end keeps what it last saw; `mutex` has a
-//! `Mutex<VecDeque<u8>>`.
+//! What `ring_bench` does, as one writes it in Rust with std alone: WAY bytes|calls SIZE COUNT LINKS. Bytes go from one thread to
+//! another through room for 65,536 of them, and are taken 1,024 at a time. The way `ring` has two atomic indexes, of which each end
+//! keeps what it last saw; `mutex` has a `Mutex<VecDeque<u8>>`. `calls` has one of them there and one back, with a server of the
+//! frames of bench/plain between.
+#[allow(dead_code)]
+#[path = "../../../plain/src/frames.rs"]
+mod frames;
+
+use frames::{encode_request, encode_response, Cutter, Request};
 use std::cell::UnsafeCell;
 use std::collections::VecDeque;
 use std::hint::black_box;
@@ -139,51 +145,96 @@ impl Way for Queue {
     }
 }
 
+fn put_whole<W: Way>(way: &W, end: &mut W::End, piece: &[u8]) {
+    let mut at = 0;
+    while at < piece.len() {
+        match way.put(end, &piece[at..]) {
+            0 => thread::yield_now(),
+            more => at += more,
+        }
+    }
+}
+
 fn put_often<W: Way>(way: &W, piece: &[u8], count: u64) {
     let mut end = W::End::default();
     for _ in 0..count {
-        let mut at = 0;
-        while at < piece.len() {
-            match way.put(&mut end, &piece[at..]) {
-                0 => thread::yield_now(),
-                more => at += more,
-            }
-        }
+        put_whole(way, &mut end, piece);
     }
     way.finish();
 }
 
-/// Takes until nothing more comes: how many bytes came.
-fn take_all<W: Way>(way: &W) -> u64 {
-    let mut end = W::End::default();
-    let mut room = [0; ROOM];
-    let mut bytes = 0;
+/// Takes until nothing more comes, and hands on each piece that came.
+fn take_all<W: Way>(way: &W, mut came: impl FnMut(&[u8])) {
+    let (mut end, mut room) = (W::End::default(), [0; ROOM]);
     while let Some(count) = way.take(&mut end, &mut room) {
-        black_box(&room);
-        bytes += count as u64;
+        came(&room[..count]);
         if count == 0 {
             thread::yield_now();
         }
     }
+}
+
+/// How many bytes come.
+fn count_all<W: Way>(way: &W) -> u64 {
+    let mut bytes = 0;
+    take_all(way, |piece| bytes += black_box(piece).len() as u64);
     bytes
 }
 
+/// Answers the calls that come.
+fn serve_all<W: Way>(there: &W, back: &W) {
+    let (mut end, mut cutter, mut replies) = (W::End::default(), Cutter::default(), Vec::new());
+    take_all(there, |piece| {
+        cutter.feed(piece);
+        while let Some((meta, payload, attachment)) = cutter.next() {
+            let request = meta.request.unwrap();
+            assert!(request.service == b"Echo" && request.method == b"Echo");
+            encode_response(&mut replies, meta.id, payload, attachment);
+        }
+        put_whole(back, &mut end, &replies);
+        replies.clear();
+    });
+    back.finish();
+}
+
 /// Puts so many pieces of so many bytes on one thread and takes them on another: how many bytes came.
-fn on_threads<W: Way>(way: &W, size: usize, count: u64) -> u64 {
+fn carried<W: Way>(way: &W, size: usize, count: u64) -> u64 {
     let piece = vec![97; size];
     thread::scope(|scope| {
         scope.spawn(|| put_often(way, &piece, count));
-        take_all(way)
+        count_all(way)
     })
+}
+
+/// Makes so many calls with so many bytes on one thread, serves them on another, and takes the replies on a third: how many bytes
+/// these have.
+fn called<W: Way>(there: &W, back: &W, size: usize, count: u64) -> u64 {
+    let request = Request { service: b"Echo".to_vec(), method: b"Echo".to_vec() };
+    let mut frame = Vec::new();
+    encode_request(&mut frame, &request, 2, &vec![97; size]);
+    thread::scope(|scope| {
+        scope.spawn(|| put_often(there, &frame, count));
+        scope.spawn(|| serve_all(there, back));
+        count_all(back)
+    })
+}
+
+fn on_threads<W: Way>(new: fn() -> W, calls: bool, size: usize, count: u64) -> u64 {
+    if calls {
+        called(&new(), &new(), size, count)
+    } else {
+        carried(&new(), size, count)
+    }
 }
 
 fn main() {
     let words: Vec<String> = env::args().skip(1).collect();
-    let size: usize = words[1].parse().unwrap();
-    let count: u64 = words[2].parse().unwrap();
-    let bytes = match words[0].as_str() {
-        "ring" => on_threads(&Ring::new(), size, count),
-        _ => on_threads(&Queue::new(), size, count),
+    let number = |place: usize| words[place].parse::<u64>().unwrap();
+    let (calls, size, count, links) = (words[1] == "calls", number(2), number(3), number(4));
+    let over_one = || match words[0].as_str() {
+        "ring" => on_threads(Ring::new, calls, size as usize, count),
+        _ => on_threads(Queue::new, calls, size as usize, count),
     };
-    println!("{size} {count}: {bytes} bytes");
+    let bytes: u64 = (0..links).map(|_| over_one()).sum();
+    println!("{size} {count} {links}: {bytes} bytes");
 }
