@@ -59,15 +59,17 @@ fn put_often<R: Wait>(rt: &R, out: RingOut, piece: &[u8], count: u32) -> u64 {
 /// Serves the other end until nothing more comes: whether memory was there.
 fn serve_all<R: Wait>(rt: &R, peer: RingPeer) -> bool {
     let mut peer = peer;
+    let mut whole = true;
     for _ in rt.forever() {
         match peer.serve() {
             Ok(Served::Moved) => {}
             Ok(Served::Waiting) => thread::yield_now(),
-            Ok(Served::Done) => return true,
-            Err(_) => return false,
+            Ok(Served::Done) => return whole,
+            // It gave its end, and throws away what comes.
+            Err(_) => whole = false,
         }
     }
-    false
+    whole
 }
 
 /// Takes until the link is closed: how many bytes came.
