@@ -16,18 +16,10 @@ pub mod Failing
 pub mod Expires
 pub mod Joins
 pub mod Reports
-<<<<<<< HEAD
 pub mod Kinds
 pub mod Small
-=======
->>>>>>> 973f840ff86765c9c4e8a6334e484e19bd1e5a70
 pub mod Meeting
 pub mod Unopened
 pub mod ReadOut
 pub mod Done
 pub mod Replies
-<<<<<<< HEAD
-=======
-pub mod Kinds
-pub mod Small
->>>>>>> 973f840ff86765c9c4e8a6334e484e19bd1e5a70
