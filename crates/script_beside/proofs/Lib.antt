@@ -16,7 +16,7 @@ pub mod Failing
 pub mod Expires
 pub mod Joins
 pub mod Reports
-pub mod Kinds
+pub mod CallKinds
 pub mod Small
 pub mod Meeting
 pub mod Unopened
