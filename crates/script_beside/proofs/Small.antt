@@ -1,5 +1,5 @@
 -- The ids that outcomes of a run show whose links were read beside its clients are those of a table of so few ids.
-use Rattle.std.proofs.Common.{◌≡◌, ℕ, ◌<◌, ◌≤◌, if◌then◌else◌, List, length, slice_get, Some, None, Ok, arith}
+use Rattle.std.proofs.Common.{◌≡◌, ℕ, ◌<◌, ◌≤◌, if◌then◌else◌, List, length, slice_get, Option, Some, None, Ok, subst, arith}
 use Rattle.std.specs.Prelude.{slice_index}
 use Rattle.std.proofs.lemmas.Option.{same_Some}
 use mathlib.Core.Logic.{dite}
@@ -25,7 +25,7 @@ use Rattle.script_calls.specs.call_whys.specs.call_told.specs.Once.{ends_of}
 use Rattle.script_calls.specs.call_whys.proofs.Versions.{IsIdFor}
 use Rattle.script_beside.specs.Told.{seated_ids, IsBesideRun}
 use Rattle.script_beside.proofs.Attempts.{are_ids}
-use Rattle.script_beside.proofs.Reports.{text_of}
+use Rattle.script_beside.proofs.Reports.{text_of, text_outcomes}
 use Rattle.script_beside.proofs.Sockets as sockets
 
 -- an id that is shown is that of a call that ended
@@ -53,13 +53,12 @@ module _ (P : Type 0) {O I : Type 0} (g : Ghosts O) (out : O → OutState) (inn 
       let inside = a.inside in
       let is = a.id_is in
       dite (dec_lt a.first (parts (slice_index r.rest.words a.slot)).first)
-          (λ lt. omega (arith, few_slots, word, inside, is, lt))
-          (λ ge. absurd (let none_ = r.rest.closing.ended_not a.slot a.first a.inside (omega (arith, ge)) in omega (arith, some_, none_)))
+      (λ lt. omega (arith, few_slots, word, inside, is, lt))
+      (λ ge. absurd (let none_ = r.rest.closing.ended_not a.slot a.first a.inside (omega (arith, ge)) in omega (arith, some_, none_)))
 
   small_ids : (i id : ℕ) (outcome : Outcome) → slice_get (sockets.outcomes P g out inn bytes script reads text links r) i ≡ Some (Some outcome) → shown_id outcome ≡ Some id → id < 281474976710656
   small_ids i id outcome became shows = small_id i id ((are_ids P g out inn bytes script reads text links r).ends i outcome became id (shown_end outcome id shows))
 
   -- so is each id that an outcome shows of those whose report the text is
   pub text_small : (i id : ℕ) (outcome : Outcome) → slice_get (text_of P out inn g script text links r bytes reads).outcomes i ≡ Some (Some outcome) → shown_id outcome ≡ Some id → id < 281474976710656
-  unfolding text_of
-  text_small i id outcome became shows = small_ids i id outcome became shows
+  text_small i id outcome became shows = small_ids i id outcome (subst (λ (os : List (Option Outcome)). slice_get os i ≡ Some (Some outcome)) (text_outcomes P out inn g script text links r bytes reads) became) shows
