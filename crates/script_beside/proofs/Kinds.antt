@@ -38,7 +38,7 @@ use Rattle.script_calls.proofs.Tellers.{HasResult, IsEndTold}
 use Rattle.script_calls.proofs.Tellers as tellers
 use Rattle.calls_done.proofs.Known.{IsOfCall}
 use Rattle.script_beside.specs.Told.{seated_plan, seated_ids, IsBesideRun}
-use Rattle.script_beside.proofs.Reports.{text_of}
+use Rattle.script_beside.proofs.Reports.{text_of, text_outcomes}
 use Rattle.script_beside.proofs.Sockets as sockets
 
 ends_some : (by : Outcome) (id : ℕ) → 0 < ends_of id by → ends_call by ≡ true
@@ -114,5 +114,5 @@ module _ (P : Type 0) {O I : Type 0} (g : Ghosts O) (out : O → OutState) (inn 
 -- of the outcomes that are reported
 module _ (P : Type 0) {O I : Type 0} (out : O → OutState) (inn : I → InState) (g : Ghosts O) (script : List Item) (text : List ℕ) (links : List LinkEnd) (r : IsBesideRun P g out inn script text links) (bytes : List ℕ) (reads : script_of bytes ≡ Ok script) where
   pub text_kinds : (client : ℕ) (t : Task) (asked : Asked) (x : Outcome) → IsTask (all_tasks script) (text_of P out inn g script text links r bytes reads).outcomes client t → t.op ≡ ops.Call asked → Became (all_tasks script) (text_of P out inn g script text links r bytes reads).outcomes t.number x → IsOfCall x
-  unfolding text_of
-  text_kinds client t asked x is op became = kind P g out inn bytes script reads text links r client t asked (subst (λ (l : List (List Task)). IsTask l (outcomes P g out inn bytes script reads text links r) client t) (sym r.left.tasks) is) op x became
+  text_kinds client t asked x is op became = kind P g out inn bytes script reads text links r client t asked (subst (λ (l : List (List Task)). IsTask l (outcomes P g out inn bytes script reads text links r) client t) (sym r.left.tasks) is) op x
+      (subst (λ (os : List (Option Outcome)). Became (all_tasks script) os t.number x) (text_outcomes P out inn g script text links r bytes reads) became)
