@@ -34,7 +34,7 @@ use Rattle.script_calls.specs.callless_fits.proofs.Sends.{ToldRun, run_of}
 use Rattle.script_calls.specs.call_whys.specs.sock_deeds.specs.Told.{fixed_by, IsOfSockets}
 use Rattle.script_calls.specs.report_fits.proofs.Lists.{within}
 use Rattle.script_beside.specs.Told.{IsBesideRun, IsBesideText}
-use Rattle.script_beside.proofs.Kinds.{text_kinds}
+use Rattle.script_beside.proofs.CallKinds.{text_kinds}
 use Rattle.script_beside.proofs.Reports.{text_of}
 use Rattle.script_beside.proofs.Small.{text_small}
 

@@ -16,6 +16,6 @@ pub mod Failing
 pub mod Expires
 pub mod Joins
 pub mod Reports
-pub mod Kinds
+pub mod CallKinds
 pub mod Small
 pub mod Done
