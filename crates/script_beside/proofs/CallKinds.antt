@@ -2,7 +2,7 @@
 use Rattle.std.proofs.Common.{◌≡◌, ℕ, zero, suc, ◌+◌, ◌*◌, ◌<◌, ◌⊎◌, inl, inr, true, List, [], ◌∷◌, ◌++◌, replicate, Option, Some, None, Ok, refl, sym, ap, ◌∙◌, subst, arith}
 use mathlib.Core.Option.{some, some-ne-none}
 use lib.ListN.{get_elem?}
-use Rattle.chain_steps.proofs.Lists.{old, new, at_snoc}
+use Rattle.script_calls.specs.call_whys.specs.outcome_causes.specs.sock_runs.specs.chain_steps.proofs.Lists.{old, new, at_snoc}
 use Rattle.sock_io.specs.declared.link.Out.{Ghosts}
 use Rattle.sock_io.specs.Link.{OutState, InState}
 use Rattle.sock_words.specs.declared.outcome.Outcome.{Outcome}
@@ -12,13 +12,12 @@ use Rattle.brpc_model.specs.Items.{Item}
 use Rattle.brpc_model.specs.Link.{LinkEnd}
 use Rattle.brpc_model.specs.Script.{script_of}
 use Rattle.corr_core.specs.declared.marks.Plan as id_plan
-use Rattle.corr_core.specs.declared.marks.View.{View}
 use Rattle.sock_message.specs.Asked.{Asked}
 use Rattle.seat_programs.specs.declared.task.Op.{Op}
 use Rattle.seat_programs.specs.declared.task.Op.TheVariants as ops
 use Rattle.seat_programs.specs.declared.task.Task.{Task}
 use Rattle.seat_programs.specs.Scripts.{all_tasks}
-use Rattle.seat_programs.specs.Tasks.{plan_of, calls}
+use Rattle.seat_programs.specs.Tasks.{plan_of}
 use Rattle.seat_programs.specs.Told.{IsTask, Became}
 use Rattle.rpc_client.specs.declared.acting.Told.{Told}
 use Rattle.call_run.specs.call_client.specs.Acting.{Stand, Acted}
@@ -33,7 +32,6 @@ use Rattle.script_calls.specs.call_whys.specs.call_told.specs.Once.{ends_of}
 use Rattle.script_calls.specs.Told.{outcomes_of}
 use Rattle.script_calls.proofs.Placed.{mapped_from}
 use Rattle.script_calls.proofs.Sayings.{told_each, none_told}
-use Rattle.script_calls.proofs.Shown.{view_of}
 use Rattle.script_calls.proofs.Tellers.{HasResult, IsEndTold}
 use Rattle.script_calls.proofs.Tellers as tellers
 use Rattle.calls_done.proofs.Known.{IsOfCall}
