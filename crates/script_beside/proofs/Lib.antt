@@ -17,5 +17,8 @@ pub mod Expires
 pub mod Joins
 pub mod Reports
 pub mod CallKinds
+pub mod Meeting
+pub mod Unopened
+pub mod Replies
 pub mod Small
 pub mod Done
