@@ -21,4 +21,5 @@ pub mod Meeting
 pub mod Unopened
 pub mod Replies
 pub mod Small
+pub mod ReadOut
 pub mod Done

@@ -1,6 +1,7 @@
 -- The links of a run, from being opened to their ends being compared behind it: what each gave.
-use Rattle.std.proofs.Common.{◌≡◌, ◌≢◌, ℕ, suc, ◌+◌, ◌<◌, if◌then◌else◌, Bool, true, false, List, [], ◌∷◌, length, map, flat_map, get_or, Option, Some, None, refl, sym, ap, ◌∙◌, subst, arith}
+use Rattle.std.proofs.Common.{◌≡◌, ◌≢◌, ℕ, suc, ◌+◌, ◌<◌, if◌then◌else◌, Bool, true, false, List, [], ◌∷◌, ◌++◌, append-nil, length, map, take, drop, flat_map, get_or, Option, Some, None, refl, sym, ap, ◌∙◌, subst, arith}
 use Rattle.std.specs.Prelude.{All}
+use Rattle.std.proofs.lemmas.List.{drop_all, take_all}
 use Rattle.std.proofs.lemmas.List.Elements.{All-nil, All-cons}
 use Rattle.brpc_model.specs.Frame.{frame_bytes}
 use Rattle.brpc_model.specs.Link.{LinkEnd}
@@ -26,6 +27,11 @@ use Rattle.call_run.specs.link_crew.proofs.Ways.{Stays, read_stays, ends_stay, a
 use Rattle.call_run.specs.sock_table.specs.Closed.{ways_of}
 use Rattle.script_calls.specs.Halves.{rest_of, joined}
 use Rattle.script_beside.specs.Gave.{offered_for, GaveOffer, GaveOffers}
+
+-- all of a list's places were written anew
+pub all_written : {A : Type 0} (new old : List A) (len : ℕ) → length new ≡ length old → len ≡ length old → take len (new ++ drop (length new) old) ≡ new
+all_written new old len long n =
+    ap (λ l. take len (new ++ l)) (drop_all (length new) old (omega (arith, long))) ∙ ap (take len) (append-nil new) ∙ take_all len new (omega (arith, long, n))
 
 heads : {A : Type 0} (x y : A) (xs ys : List A) → x ∷ xs ≡ y ∷ ys → (x ≡ y) × (xs ≡ ys)
 heads x y xs ys e = (cc, cc)

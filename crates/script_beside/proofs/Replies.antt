@@ -16,7 +16,7 @@ use Rattle.brpc_model.specs.PlaceWords.{took_at}
 use Rattle.brpc_model.specs.Reply.{reply_frames}
 use Rattle.brpc_model.specs.Report.{LinkLine}
 use Rattle.brpc_model.specs.Script.{script_of}
-use Rattle.brpc_model.specs.Served.{first_of, given_for, IsServedLink, GivesReplies}
+use Rattle.brpc_model.specs.Served.{first_of, given_for, IsServedLink, GivesReplies, ServesAll}
 use Rattle.corr_core.specs.declared.marks.Plan as id_plan
 use Rattle.sock_words.specs.declared.outcome.Outcome.{Outcome}
 use Rattle.sock_words.specs.declared.plain.Plan.{Plan}
@@ -47,22 +47,28 @@ use Rattle.script_calls.specs.call_whys.specs.sock_deeds.proofs.Flats.{append_fi
 use Rattle.script_calls.specs.call_whys.specs.sock_deeds.proofs.Growing.{HasFound}
 use Rattle.script_calls.specs.call_whys.specs.sock_deeds.proofs.Places.{map_there, to_elem}
 use Rattle.script_calls.specs.call_whys.specs.sock_deeds.proofs.Tasks.{fits}
+use Rattle.calls_done.specs.Done.{DoneOnThreads}
+use Rattle.calls_done.specs.Owed.{AreClosed}
+use Rattle.served_told.specs.Telling.{TellBytes}
+use Rattle.served_told.proofs.Own.{own_replies}
 use Rattle.script_beside.specs.Gave.{offered_for, WasReadOut, GaveOffer, GaveOffers}
-use Rattle.script_beside.specs.Served.{run_of, TellBytes, IsServedText}
+use Rattle.script_beside.specs.Served.{run_of, IsServedText}
 use Rattle.script_beside.specs.Told.{seated_plan, seated_ids, HadGivenNone, IsBesideRun, IsBesideText}
+use Rattle.script_beside.proofs.Done.{text_done}
 use Rattle.script_beside.proofs.Early.{ShowsEarly}
 use Rattle.script_beside.proofs.Linked.{opens_link}
 use Rattle.script_beside.proofs.ReadOut.{ShowsOut, read_or_none, found_none}
 use Rattle.script_beside.proofs.Reports.{text_of, text_outcomes}
+use Rattle.script_beside.proofs.Small.{text_small}
 use Rattle.script_beside.proofs.Sockets.{outcomes, asked, run}
 use Rattle.script_beside.proofs.Unopened.{none_made, one_opener}
 
 pub some_there : {A : Type 0} (o : Option A) → IsSome o → (x : A) × (o ≡ Some x)
-some_there None some = absurd (cc)
-some_there (Some x) some = (x, refl)
+some_there None told = absurd (cc)
+some_there (Some x) told = (x, refl)
 
 pub told_of : {A : Type 0} (P : A → Type 0) (o : Option A) (x : A) → o ≡ Some x → IfSome o P → P x
-told_of P o x is h = subst (λ (y : Option A). IfSome y P) is h
+told_of {A} P o x is h = subst (λ (y : Option A). IfSome y P) is h
 
 offers_at : (tells_in : Mode → Bool) (specs : List LinkSpec) (ends : List LinkEnd) → GaveOffers tells_in specs ends → (k : ℕ) (s : LinkSpec) (e : LinkEnd) → slice_get specs k ≡ Some s → slice_get ends k ≡ Some e → tells_in s.mode ≡ true → GaveOffer s e
 offers_at tells_in [] ends h k s e at also told = absurd (cc)
@@ -267,9 +273,24 @@ module _ (P : Type 0) {O I : Type 0} (out : O → OutState) (inn : I → InState
         let low : k < (plan_of script).links = (let n = slice_get_within links k e.0 at in let m = is.sockets.ends_told.as_many in omega arith) in
         by_reader k shape line s there e.0 at e.3 x.0 (shown x.0.behind (out half.0.out) (inn half.0.inn) e.0 x.2 half.2) (each_at HadGivenNone readers k x.0 r.unread x.1) x.1 reader.0 reader.1 low
 
+    -- and to each call its own
+    serves_all : ServesAll (run_of is)
+    serves_all = (
+      gives_replies,
+      own_replies bytes script reads is.outcomes is.places text is.reported.took links (fixed_by is.sockets.broken is.sockets.early is.sockets.fails) is.answered.gave is.sockets.orders is.sockets.core is.sockets.words is.sockets.tells.are_orders is.sockets.ends_told is.attempts is.on_calls.versions is.reported.report is.reported.told
+          (text_small P g out inn bytes script reads text links r) tells gives_replies,
+    )
+
+    all_done : AreClosed script links → DoneOnThreads (run_of is)
+    all_done closed = text_done P out inn g script text links r bytes reads tells (λ k e shape line at shaped serve there over. (let own = tells k e shape at shaped serve in gives_at_end is tells_in mode told gave k e shape line at shaped serve own.0 own.1 over there)) closed
+
+  -- all that a run over these links leaves
+  pub served_text : (tells_in : Mode → Bool) (mode : Mode) → GaveOffers tells_in (specs_of mode script) links → IsServedText (tells_in mode ≡ true) script text links
+  served_text tells_in mode gave = record { is = is; serves = λ told tells. serves_all tells_in mode told gave tells; done = λ told tells closed. all_done tells_in mode told gave tells closed }
+
 -- ## What a run of a script leaves
 
 pub served_if : (P : Type 0) {O I : Type 0} (out : O → OutState) (inn : I → InState) (g : Ghosts O) (bytes : List ℕ) (script : List Item) → script_of bytes ≡ Ok script → (links : List LinkEnd) (tells_in : Mode → Bool) (mode : Mode) {T E : Type 0} (items : T → List ℕ) (res : Result T E)
     → IfOk res (λ t. IsBesideRun P g out inn script (items t) links) → OnOk res (GaveOffers tells_in (specs_of mode script) links) → IfOk res (λ t. IsServedText (tells_in mode ≡ true) script (items t) links)
-served_if P out inn g bytes script reads links tells_in mode items (Ok t) h gave = record { is = text_of P out inn g script (items t) links h bytes reads; gives = λ told tells. gives_replies P out inn g script (items t) links h bytes reads tells_in mode told gave tells }
+served_if P out inn g bytes script reads links tells_in mode items (Ok t) h gave = served_text P out inn g script (items t) links h bytes reads tells_in mode gave
 served_if P out inn g bytes script reads links tells_in mode items (Err e) h gave = tt

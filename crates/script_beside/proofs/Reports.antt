@@ -127,11 +127,6 @@ module _ (P : Type 0) {O I : Type 0} (out : O → OutState) (inn : I → InState
     whole = λ callless. text_is_whole bytes script reads callless outcomes r.places sockets.broken sockets.early sockets.fails both.0.gave sockets.orders sockets.core one_each sockets.words r.reported.each sockets.tells text r.reported.took links r.reported.report r.reported.told sockets.ends_told;
   }
 
-  -- with these outcomes
-  pub text_outcomes : (bytes : List ℕ) (reads : script_of bytes ≡ Ok script) → (text_of bytes reads).outcomes ≡ outcomes
-  unfolding text_of
-  text_outcomes bytes reads = refl
-
 pub text_if : (P : Type 0) {O I : Type 0} (out : O → OutState) (inn : I → InState) (g : Ghosts O) (bytes : List ℕ) (script : List Item) → script_of bytes ≡ Ok script → (links : List LinkEnd) {T E : Type 0} (items : T → List ℕ) (r : Result T E) → IfOk r (λ t. IsBesideRun P g out inn script (items t) links) → IfOk r (λ t. IsBesideText script (items t) links)
 text_if P out inn g bytes script reads links items (Ok t) h = text_of P out inn g script (items t) links h bytes reads
 text_if P out inn g bytes script reads links items (Err e) h = tt

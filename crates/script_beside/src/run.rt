@@ -104,6 +104,7 @@ fn meet_and_give_back<L: Linker>(links: &mut L, mut ends: Vec<Ends<L::O, L::I, L
     requires back { L.back links.old ≡ [] }
     requires few { length ends.items ≤ 256 }
     ensures back { L.back links.new ≡ map (λ e. end_of (L.O.state e.out) (L.I.state e.inn)) ends.items }
+    ensures numbered { AreNumbered 0 (L.back links.new) }
     ensures met { (met : List (Ends L.O L.I L.P)) × (length met ≡ length ends.items) × MetBelow L.O.state L.P.state L.I.state (length ends.items) ends.items met × (L.back links.new ≡ map (λ e. end_of (L.O.state e.out) (L.I.state e.inn)) met) }
     ensures asked { L.asked links.new ≡ L.asked links.old }
     ensures faults { L.faults links.new ≡ L.faults links.old }
