@@ -2,7 +2,7 @@
 use Rattle.std.proofs.Common.{◌≡◌, ℕ, zero, suc, ◌+◌, ◌*◌, ◌<◌, ◌⊎◌, inl, inr, true, List, [], ◌∷◌, ◌++◌, replicate, Option, Some, None, Ok, refl, sym, ap, ◌∙◌, subst, arith}
 use mathlib.Core.Option.{some, some-ne-none}
 use lib.ListN.{get_elem?}
-use Rattle.chain_steps.proofs.Lists.{old, new, at_snoc}
+use Rattle.script_calls.specs.call_whys.specs.outcome_causes.specs.sock_runs.specs.chain_steps.proofs.Lists.{old, new, at_snoc}
 use Rattle.sock_io.specs.declared.link.Out.{Ghosts}
 use Rattle.sock_io.specs.Link.{OutState, InState}
 use Rattle.sock_words.specs.declared.outcome.Outcome.{Outcome}
@@ -12,13 +12,12 @@ use Rattle.brpc_model.specs.Items.{Item}
 use Rattle.brpc_model.specs.Link.{LinkEnd}
 use Rattle.brpc_model.specs.Script.{script_of}
 use Rattle.corr_core.specs.declared.marks.Plan as id_plan
-use Rattle.corr_core.specs.declared.marks.View.{View}
 use Rattle.sock_message.specs.Asked.{Asked}
 use Rattle.seat_programs.specs.declared.task.Op.{Op}
 use Rattle.seat_programs.specs.declared.task.Op.TheVariants as ops
 use Rattle.seat_programs.specs.declared.task.Task.{Task}
 use Rattle.seat_programs.specs.Scripts.{all_tasks}
-use Rattle.seat_programs.specs.Tasks.{plan_of, calls}
+use Rattle.seat_programs.specs.Tasks.{plan_of}
 use Rattle.seat_programs.specs.Told.{IsTask, Became}
 use Rattle.rpc_client.specs.declared.acting.Told.{Told}
 use Rattle.call_run.specs.call_client.specs.Acting.{Stand, Acted}
@@ -33,12 +32,11 @@ use Rattle.script_calls.specs.call_whys.specs.call_told.specs.Once.{ends_of}
 use Rattle.script_calls.specs.Told.{outcomes_of}
 use Rattle.script_calls.proofs.Placed.{mapped_from}
 use Rattle.script_calls.proofs.Sayings.{told_each, none_told}
-use Rattle.script_calls.proofs.Shown.{view_of}
 use Rattle.script_calls.proofs.Tellers.{HasResult, IsEndTold}
 use Rattle.script_calls.proofs.Tellers as tellers
 use Rattle.calls_done.proofs.Known.{IsOfCall}
 use Rattle.script_beside.specs.Told.{seated_plan, seated_ids, IsBesideRun}
-use Rattle.script_beside.proofs.Reports.{text_of}
+use Rattle.script_beside.proofs.Reports.{text_of, text_outcomes}
 use Rattle.script_beside.proofs.Sockets as sockets
 
 ends_some : (by : Outcome) (id : ℕ) → 0 < ends_of id by → ends_call by ≡ true
@@ -114,5 +112,5 @@ module _ (P : Type 0) {O I : Type 0} (g : Ghosts O) (out : O → OutState) (inn 
 -- of the outcomes that are reported
 module _ (P : Type 0) {O I : Type 0} (out : O → OutState) (inn : I → InState) (g : Ghosts O) (script : List Item) (text : List ℕ) (links : List LinkEnd) (r : IsBesideRun P g out inn script text links) (bytes : List ℕ) (reads : script_of bytes ≡ Ok script) where
   pub text_kinds : (client : ℕ) (t : Task) (asked : Asked) (x : Outcome) → IsTask (all_tasks script) (text_of P out inn g script text links r bytes reads).outcomes client t → t.op ≡ ops.Call asked → Became (all_tasks script) (text_of P out inn g script text links r bytes reads).outcomes t.number x → IsOfCall x
-  unfolding text_of
-  text_kinds client t asked x is op became = kind P g out inn bytes script reads text links r client t asked (subst (λ (l : List (List Task)). IsTask l (outcomes P g out inn bytes script reads text links r) client t) (sym r.left.tasks) is) op x became
+  text_kinds client t asked x is op became = kind P g out inn bytes script reads text links r client t asked (subst (λ (l : List (List Task)). IsTask l (outcomes P g out inn bytes script reads text links r) client t) (sym r.left.tasks) is) op x
+      (subst (λ (os : List (Option Outcome)). Became (all_tasks script) os t.number x) (text_outcomes P out inn g script text links r bytes reads) became)

@@ -1,5 +1,5 @@
 -- Where nothing went wrong in a run of a script whose links were served and read beside its clients, its sends are done, and its served calls, but where whoever read the links ended one.
-use Rattle.std.proofs.Common.{◌≡◌, ℕ, ◌<◌, ◌⊎◌, inl, inr, true, List, length, slice_get, Option, Some, Ok, refl, sym, ap, ◌∙◌, subst, arith}
+use Rattle.std.proofs.Common.{◌≡◌, ℕ, ◌⊎◌, inl, inr, true, List, slice_get, Some, Ok, refl, sym, subst, arith}
 use Rattle.std.specs.Prelude.{IsTrue}
 use Rattle.std.proofs.lemmas.Option.{slice_get_within}
 use Rattle.sock_io.specs.declared.link.Out.{Ghosts}
@@ -9,7 +9,7 @@ use Rattle.sock_words.specs.declared.outcome.Outcome.TheVariants.{Opened}
 use Rattle.sock_words.specs.declared.place_word.PlaceWord.{PlaceWord}
 use Rattle.brpc_model.specs.Items.{Item, Shape}
 use Rattle.brpc_model.specs.Link.{LinkEnd}
-use Rattle.brpc_model.specs.Operations.{link_names, link_shapes}
+use Rattle.brpc_model.specs.Operations.{link_shapes}
 use Rattle.brpc_model.specs.PlaceWords.{IsReportOf, HasEachOutcome}
 use Rattle.brpc_model.specs.Report.{LinkLine}
 use Rattle.brpc_model.specs.Run.{Run, nothing_late}
@@ -30,7 +30,7 @@ use Rattle.calls_done.proofs.Links.{shapes_many}
 use Rattle.served_told.specs.Telling.{TellBytes, ShowSmallIds}
 use Rattle.served_told.proofs.Own.{no_fault, own_request, made_for}
 use Rattle.script_calls.specs.callless_fits.proofs.Each.{told_each}
-use Rattle.script_calls.specs.callless_fits.proofs.Sends.{ToldRun, run_of}
+use Rattle.script_calls.specs.callless_fits.proofs.Sends.{ToldRun}
 use Rattle.script_calls.specs.call_whys.specs.sock_deeds.specs.Told.{fixed_by, IsOfSockets}
 use Rattle.script_calls.specs.report_fits.proofs.Lists.{within}
 use Rattle.script_beside.specs.Told.{IsBesideRun, IsBesideText}
@@ -139,4 +139,4 @@ module _ (bytes : List ℕ) (script : List Item) (reads : script_of bytes ≡ Ok
 -- so it is of each run whose links were served and read beside its clients
 module _ (P : Type 0) {O I : Type 0} (out : O → OutState) (inn : I → InState) (g : Ghosts O) (script : List Item) (text : List ℕ) (links : List LinkEnd) (r : IsBesideRun P g out inn script text links) (bytes : List ℕ) (reads : script_of bytes ≡ Ok script) where
   pub text_done : TellBytes script links → GivesAtEnd (text_of P out inn g script text links r bytes reads) → AreClosed script links → DoneOnThreads (run (text_of P out inn g script text links r bytes reads))
-  text_done tell at_end closed = done_beside bytes script reads text links (text_of P out inn g script text links r bytes reads) (text_kinds P out inn g script text links r bytes reads) (text_small P out inn g bytes script reads text links r) tell at_end closed
+  text_done tell at_end closed = done_beside bytes script reads text links (text_of P out inn g script text links r bytes reads) (text_kinds P out inn g script text links r bytes reads) (text_small P g out inn bytes script reads text links r) tell at_end closed

@@ -17,9 +17,9 @@ pub mod Expires
 pub mod Joins
 pub mod Reports
 pub mod CallKinds
-pub mod Small
 pub mod Meeting
 pub mod Unopened
+pub mod Replies
+pub mod Small
 pub mod ReadOut
 pub mod Done
-pub mod Replies

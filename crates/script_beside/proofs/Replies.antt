@@ -278,7 +278,7 @@ module _ (P : Type 0) {O I : Type 0} (out : O → OutState) (inn : I → InState
     serves_all = (
       gives_replies,
       own_replies bytes script reads is.outcomes is.places text is.reported.took links (fixed_by is.sockets.broken is.sockets.early is.sockets.fails) is.answered.gave is.sockets.orders is.sockets.core is.sockets.words is.sockets.tells.are_orders is.sockets.ends_told is.attempts is.on_calls.versions is.reported.report is.reported.told
-          (text_small P out inn g bytes script reads text links r) tells gives_replies,
+          (text_small P g out inn bytes script reads text links r) tells gives_replies,
     )
 
     all_done : AreClosed script links → DoneOnThreads (run_of is)

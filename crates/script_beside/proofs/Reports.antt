@@ -112,7 +112,7 @@ module _ (P : Type 0) {O I : Type 0} (out : O → OutState) (inn : I → InState
   one_each = long_each (replicate (plan_of script).operations None) ((r.told ++ tellers) ++ r.last ∷ []) ∙ long_replicate (plan_of script).operations None
 
   -- it has the outcomes and place words of its report
-  unfoldable pub text_of : (bytes : List ℕ) → script_of bytes ≡ Ok script → IsBesideText script text links
+  pub text_of : (bytes : List ℕ) → script_of bytes ≡ Ok script → IsBesideText script text links
   text_of bytes reads = let both = told_of bytes reads in let sockets = both.1 in record {
     outcomes = outcomes;
     places = r.places;
