@@ -130,3 +130,9 @@ module _ (P : Type 0) {O I : Type 0} (out : O → OutState) (inn : I → InState
 pub text_if : (P : Type 0) {O I : Type 0} (out : O → OutState) (inn : I → InState) (g : Ghosts O) (bytes : List ℕ) (script : List Item) → script_of bytes ≡ Ok script → (links : List LinkEnd) {T E : Type 0} (items : T → List ℕ) (r : Result T E) → IfOk r (λ t. IsBesideRun P g out inn script (items t) links) → IfOk r (λ t. IsBesideText script (items t) links)
 text_if P out inn g bytes script reads links items (Ok t) h = text_of P out inn g script (items t) links h bytes reads
 text_if P out inn g bytes script reads links items (Err e) h = tt
+
+-- its outcomes are what all told
+pub text_outcomes : (P : Type 0) {O I : Type 0} (out : O → OutState) (inn : I → InState) (g : Ghosts O) (script : List Item) (text : List ℕ) (links : List LinkEnd) (r : IsBesideRun P g out inn script text links) (bytes : List ℕ) (reads : script_of bytes ≡ Ok script)
+    → (text_of P out inn g script text links r bytes reads).outcomes ≡ outcomes_of (plan_of script).operations r.told (r.ended ++ r.read) r.last
+unfolding text_of
+text_outcomes P out inn g script text links r bytes reads = refl
