@@ -34,7 +34,7 @@ not_two_ran turns script out links status (Reported text fits of_run wrote) = no
 not_two_ran turns script out links status (MemoryRanOut s wrote) = λ e. absurd (omega (arith, e, s))
 not_two_ran turns script out links status (OpenFailed s rose back wrote) = λ e. absurd (omega (arith, e, s))
 
-not_two_threads : (script : List Item) (out : Output) (links : Links) (status : ℕ) → RanOnThreads script out links status → status ≢ 2
+not_two_threads : {mode : Mode} (script : List Item) (out : Output) (links : Links) (status : ℕ) → RanOnThreads mode script out links status → status ≢ 2
 not_two_threads script out links status (ThreadsReported text is wrote) = not_two_written out text status wrote
 not_two_threads script out links status (ThreadsRanOut s wrote) = λ e. absurd (omega (arith, e, s))
 not_two_threads script out links status (ThreadsNotOpened s rose back wrote) = λ e. absurd (omega (arith, e, s))
@@ -113,7 +113,7 @@ calm_ran turns script input out links status calm (Reported text fits of_run wro
 calm_ran turns script input out links status calm (MemoryRanOut s wrote) = inr s
 calm_ran turns script input out links status calm (OpenFailed s rose back wrote) = absurd (calm.linker rose)
 
-calm_threads : (script : List Item) (input : Input) (out : Output) (links : Links) (status : ℕ) → IsCalm input out links → RanOnThreads script out links status → (status ≡ 0) ⊎ (status ≡ 7)
+calm_threads : {mode : Mode} (script : List Item) (input : Input) (out : Output) (links : Links) (status : ℕ) → IsCalm input out links → RanOnThreads mode script out links status → (status ≡ 0) ⊎ (status ≡ 7)
 calm_threads script input out links status calm (ThreadsReported text is wrote) = inl (calm_written out text status calm.sink wrote)
 calm_threads script input out links status calm (ThreadsRanOut s wrote) = inr s
 calm_threads script input out links status calm (ThreadsNotOpened s rose back wrote) = absurd (calm.linker rose)
@@ -179,7 +179,7 @@ still_faulty : (out : Output) (line kind status : ℕ) → FaultWritten out line
 still_faulty out line kind status (inl w) e = absurd (omega (arith, e, w.0))
 still_faulty out line kind status (inr w) e = w.1.1
 
-still_threads : (script : List Item) (out : Output) (links : Links) (status : ℕ) → RanOnThreads script out links status → status ≡ 0 → StandStill out.faults
+still_threads : {mode : Mode} (script : List Item) (out : Output) (links : Links) (status : ℕ) → RanOnThreads mode script out links status → status ≡ 0 → StandStill out.faults
 still_threads script out links status (ThreadsReported text is wrote) e = still_written out text status wrote e
 still_threads script out links status (ThreadsRanOut s wrote) e = wrote.1
 still_threads script out links status (ThreadsNotOpened s rose back wrote) e = wrote.1

@@ -79,7 +79,7 @@ simulated words input out links status command seed drawn e is same replayed = a
 
 -- a run on threads
 pub threaded : (words : List (List ℕ)) (input : answer.Input) (out : answer.Output) (links : answer.Links) (status : ℕ) (command : Command) (port : Option ℕ) → option_map meaning (Some command) ≡ model.command_of words → command ≡ Run port →
-    answer.ReplayedInput (answer.run_mode port) answer.RanOnThreads input out links status → answer.Answers words input out links status
+    answer.ReplayedInput (answer.run_mode port) (answer.RanOnThreads (answer.run_mode port)) input out links status → answer.Answers words input out links status
 threaded words input out links status command port e is replayed = answer.RunsOnThreads port (sym e ∙ ap (λ c. option_map meaning (Some c)) is) replayed
 
 -- ## The frames

@@ -36,10 +36,10 @@ is_run turns script out links status (OpenFailed s rose back wrote) = inr (inr (
 pub turns_run : (turns : List Item → List Turn) → AreRuns (by_turns turns)
 turns_run turns script out links status ran = is_run (turns script) script out links status ran
 
-pub threads_run : AreRuns RanOnThreads
-threads_run script out links status (ThreadsReported text is wrote) = is_written out text status wrote
-threads_run script out links status (ThreadsRanOut s wrote) = inr (inr (inl s))
-threads_run script out links status (ThreadsNotOpened s rose back wrote) = inr (inr (inr s))
+pub threads_run : (mode : Mode) → AreRuns (RanOnThreads mode)
+threads_run mode script out links status (ThreadsReported text is wrote) = is_written out text status wrote
+threads_run mode script out links status (ThreadsRanOut s wrote) = inr (inr (inl s))
+threads_run mode script out links status (ThreadsNotOpened s rose back wrote) = inr (inr (inr s))
 
 fault_status : (out : Output) (line kind status : ℕ) → FaultWritten out line kind status → (status ≡ 3) ⊎ (status ≡ 7)
 fault_status out line kind status (inl w) = inl w.0

@@ -36,7 +36,7 @@ use Rattle.serve_port.specs.Serving.{ServedConnection, IsServed, any_failing, an
 use Rattle.script_links.specs.Given.{AreNumbered, AreUntouched, IsBeginning, specs_of}
 use Rattle.script_run.specs.Causes.{CameLate, late_in}
 use Rattle.script_run.specs.Played.{IsRunText}
-use Rattle.script_beside.specs.Told.{IsBesideText}
+use Rattle.script_beside.specs.Served.{IsServedText}
 use Rattle.brpc_eng.specs.Streams.{script_limit, IsAtEnd}
 
 -- ## What a call finds outside, and what it leaves there
@@ -66,12 +66,13 @@ pub record Output : Type 0 where
   pub now : Option (List ℕ)
   pub faults : Faults
 
--- a linker: whether its links are always ready in time, that each reading half tells whether it is found closed, that each link tells what it took, gave and is offered, what was asked of each
+-- a linker: whether its links are always ready in time, that each reading half tells whether it is found closed, that each link tells what it took, gave and is offered, whether links in a mode tell in the end what their other ends offered, what was asked of each
 -- link that was opened, and those that were given back; and how many connections were accepted, and those that were given back
 pub record Links : Type 1 where
   pub always_ready : Bool
   pub tells : Type 0
   pub offering : Type 0
+  pub tells_in : Mode → Bool
   pub asked : List LinkSpec
   pub ends : List LinkEnd
   pub accepted : ℕ
@@ -175,14 +176,15 @@ RunTold (Ok text) out status = TextWritten out text.items status
 RunTold (Err opening.Failed) out status = (status ≡ 8) × WroteNothing out
 RunTold (Err opening.NoMemory) out status = (status ≡ 7) × WroteNothing out
 
--- how the run of a script on threads ends
-pub data RanOnThreads (script : List Item) (out : Output) (links : Links) (status : ℕ) : Type 0 where
+-- how the run of a script on threads ends, over links that are made in this mode
+pub data RanOnThreads (mode : Mode) (script : List Item) (out : Output) (links : Links) (status : ℕ) : Type 0 where
   -- the place words of the run tell an order of each link, each operation has an outcome or a message with a place, and the text reports that; each answer is from
-  -- a response that a link gave; each operation on sockets, each `expire` and each `join` has its cause, by what became of all others; and without calls the report fits
-  ThreadsReported : (text : List ℕ) → IsBesideText script text links.ends → TextWritten out text status → RanOnThreads script out links status
-  ThreadsRanOut : status ≡ 7 → WroteNothing out → RanOnThreads script out links status
+  -- a response that a link gave; each operation on sockets, each `expire` and each `join` has its cause, by what became of all others; without calls the report fits; and
+  -- over links that told in the end what their other ends offered, those with the server gave the replies to what they took, and where nothing went wrong all is done
+  ThreadsReported : (text : List ℕ) → IsServedText (links.tells_in mode ≡ true) script text links.ends → TextWritten out text status → RanOnThreads mode script out links status
+  ThreadsRanOut : status ≡ 7 → WroteNothing out → RanOnThreads mode script out links status
   -- the links that were opened before are given back, and nothing was done with them
-  ThreadsNotOpened : status ≡ 8 → HaveRisen links.faults → AreUntouched 0 links.ends → WroteNothing out → RanOnThreads script out links status
+  ThreadsNotOpened : status ≡ 8 → HaveRisen links.faults → AreUntouched 0 links.ends → WroteNothing out → RanOnThreads mode script out links status
 
 -- ## `replay`, `sim` and `run`
 
@@ -318,7 +320,7 @@ pub data Answers (words : List (List ℕ)) (input : Input) (out : Output) (links
   -- or by one that is drawn from a seed
   Simulates : (seed : ℕ) → command_of words ≡ Some (Sim seed) → ReplayedInput in_memory (by_turns (λ script. drawn_turns script seed)) input out links status → Answers words input out links status
   -- or on threads, whatever its schedule, over rings or over TCP, which are read beside its clients
-  RunsOnThreads : (port : Option ℕ) → command_of words ≡ Some (Run port) → ReplayedInput (run_mode port) RanOnThreads input out links status → Answers words input out links status
+  RunsOnThreads : (port : Option ℕ) → command_of words ≡ Some (Run port) → ReplayedInput (run_mode port) (RanOnThreads (run_mode port)) input out links status → Answers words input out links status
   -- they ask for so many connections to be served at a port, and nothing is read
   ServesPort : (port count : ℕ) → command_of words ≡ Some (Serve port count) → input.left ≡ input.given → ServedPort count out links status → Answers words input out links status
 

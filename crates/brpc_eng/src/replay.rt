@@ -25,7 +25,7 @@ pub fn replay<S: Source, K: Sink, L: Linker>(
     ensures replayed { ReplayedInput in_memory (by_turns (λ script. turns_of script schedule))
         (record { given = S.left source.old; left = S.left source.new; faults = record { before = S.faults source.old; now = S.faults source.new } })
         (record { before = K.contents out.old; now = K.contents out.new; faults = record { before = K.faults out.old; now = K.faults out.new } })
-        (record { always_ready = L.always_ready links.old; tells = TellClosed L.I.state; offering = TellOffers L.O.state L.I.state; asked = L.asked links.new; ends = L.back links.new; accepted = L.accepted links.new; done = L.done links.new; faults = record { before = L.faults links.old; now = L.faults links.new } })
+        (record { always_ready = L.always_ready links.old; tells = TellClosed L.I.state; offering = TellOffers L.O.state L.I.state; tells_in = L.tells_in; asked = L.asked links.new; ends = L.back links.new; accepted = L.accepted links.new; done = L.done links.new; faults = record { before = L.faults links.old; now = L.faults links.new } })
         (number_of result) }
     ensures counts { CountsStand
         (record { before = S.faults source.old; now = S.faults source.new })

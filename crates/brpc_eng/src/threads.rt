@@ -41,10 +41,10 @@ pub fn run_threads<R: Threads + Wait + Sync, S: Source, K: Sink, L: Linker, G: G
 ) -> Status
     requires asked { L.asked links.old ≡ [] }
     requires back { L.back links.old ≡ [] }
-    ensures replayed { ReplayedInput (run_mode port) RanOnThreads
+    ensures replayed { ReplayedInput (run_mode port) (RanOnThreads (run_mode port))
         (record { given = S.left source.old; left = S.left source.new; faults = record { before = S.faults source.old; now = S.faults source.new } })
         (record { before = K.contents out.old; now = K.contents out.new; faults = record { before = K.faults out.old; now = K.faults out.new } })
-        (record { always_ready = L.always_ready links.old; tells = TellClosed L.I.state; offering = TellOffers L.O.state L.I.state; asked = L.asked links.new; ends = L.back links.new; accepted = L.accepted links.new; done = L.done links.new; faults = record { before = L.faults links.old; now = L.faults links.new } })
+        (record { always_ready = L.always_ready links.old; tells = TellClosed L.I.state; offering = TellOffers L.O.state L.I.state; tells_in = L.tells_in; asked = L.asked links.new; ends = L.back links.new; accepted = L.accepted links.new; done = L.done links.new; faults = record { before = L.faults links.old; now = L.faults links.new } })
         (number_of result) }
     ensures counts { CountsStand
         (record { before = S.faults source.old; now = S.faults source.new })
@@ -78,12 +78,12 @@ fn threads_and_report<R: Threads + Wait + Sync, K: Sink, L: Linker, G: Gate + Sy
     requires back { L.back links.old ≡ [] }
     requires script { (bytes : List ℕ) × (script_of bytes ≡ Ok script.now) }
     requires pieces { list_all has_piece script.now ≡ true }
-    ensures ran { RanOnThreads script.now
+    ensures ran { RanOnThreads (run_mode port) script.now
         (record { before = K.contents out.old; now = K.contents out.new; faults = record { before = K.faults out.old; now = K.faults out.new } })
-        (record { always_ready = L.always_ready links.old; tells = TellClosed L.I.state; offering = TellOffers L.O.state L.I.state; asked = L.asked links.new; ends = L.back links.new; accepted = L.accepted links.new; done = L.done links.new; faults = record { before = L.faults links.old; now = L.faults links.new } })
+        (record { always_ready = L.always_ready links.old; tells = TellClosed L.I.state; offering = TellOffers L.O.state L.I.state; tells_in = L.tells_in; asked = L.asked links.new; ends = L.back links.new; accepted = L.accepted links.new; done = L.done links.new; faults = record { before = L.faults links.old; now = L.faults links.new } })
         (number_of result) }
     ensures opened { OpenedBy (run_mode port) script.now
-        (record { always_ready = L.always_ready links.old; tells = TellClosed L.I.state; offering = TellOffers L.O.state L.I.state; asked = L.asked links.new; ends = L.back links.new; accepted = L.accepted links.new; done = L.done links.new; faults = record { before = L.faults links.old; now = L.faults links.new } })
+        (record { always_ready = L.always_ready links.old; tells = TellClosed L.I.state; offering = TellOffers L.O.state L.I.state; tells_in = L.tells_in; asked = L.asked links.new; ends = L.back links.new; accepted = L.accepted links.new; done = L.done links.new; faults = record { before = L.faults links.old; now = L.faults links.new } })
         (number_of result) }
     ensures linker { number_of result ≢ 8 → L.faults links.new ≡ L.faults links.old }
 {

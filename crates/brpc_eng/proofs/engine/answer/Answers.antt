@@ -41,6 +41,7 @@ returns-in-Sim-clause-answers g c =
       always_ready = g.L.Linker.always_ready c.args.links.now;
       tells = TellClosed g.L.I.In.state;
       offering = TellOffers g.L.O.Out.state g.L.I.In.state;
+      tells_in = g.L.Linker.tells_in;
       asked = g.L.Linker.asked c.replay-in-Sim.new.links;
       ends = g.L.Linker.back c.replay-in-Sim.new.links;
       accepted = g.L.Linker.accepted c.replay-in-Sim.new.links;
