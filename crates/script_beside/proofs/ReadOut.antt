@@ -7,7 +7,6 @@ use Rattle.sock_words.specs.declared.plain.Plan.{Plan}
 use Rattle.sock_words.specs.declared.socket_id.SocketId.{SocketId}
 use Rattle.sock_io.specs.Link.{InState, TakeStep}
 use Rattle.sock_io.specs.declared.link.Take.TheVariants as take_
-use Rattle.seat_programs.specs.sock_model.specs.declared.view.StoredWord.{StoredWord}
 use Rattle.seat_programs.specs.sock_model.specs.declared.view.View.{View}
 use Rattle.seat_programs.specs.sock_model.specs.Layout.{open_index}
 use Rattle.corr_core.specs.declared.marks.Plan as id_plan

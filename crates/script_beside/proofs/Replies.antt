@@ -1,5 +1,5 @@
 -- Links with the server gave the replies to what they took.
-use Rattle.std.proofs.Common.{◌≡◌, ◌⊎◌, inl, inr, ℕ, zero, suc, ◌+◌, ◌<◌, ◌≤◌, if◌then◌else◌, Bool, true, List, [], ◌∷◌, ◌++◌, length, map, flat_map, take, drop, slice_get, Ok, Option, Some, None, IfSome, IfOk, Result, Err, refl, sym, ap, ◌∙◌, subst, arith}
+use Rattle.std.proofs.Common.{◌≡◌, ◌⊎◌, inl, inr, ℕ, zero, suc, ◌+◌, ◌<◌, if◌then◌else◌, Bool, true, List, [], ◌∷◌, ◌++◌, map, flat_map, take, drop, slice_get, Ok, Option, Some, None, IfSome, IfOk, Result, Err, refl, sym, ap, ◌∙◌, subst, arith}
 use Rattle.std.specs.Prelude.{IsSome, IsTrue, OnOk, slice_index_or}
 use Rattle.std.specs.List.{AllByRecursion}
 use Rattle.std.proofs.Math.Seq.{take-nil, drop-nil}
@@ -55,7 +55,6 @@ use Rattle.script_beside.specs.Gave.{offered_for, WasReadOut, GaveOffer, GaveOff
 use Rattle.script_beside.specs.Served.{run_of, IsServedText}
 use Rattle.script_beside.specs.Told.{seated_plan, seated_ids, HadGivenNone, IsBesideRun, IsBesideText}
 use Rattle.script_beside.proofs.Done.{text_done}
-use Rattle.script_beside.proofs.Early.{ShowsEarly}
 use Rattle.script_beside.proofs.Linked.{opens_link}
 use Rattle.script_beside.proofs.ReadOut.{ShowsOut, read_or_none, found_none}
 use Rattle.script_beside.proofs.Reports.{text_of, text_outcomes}

@@ -1,13 +1,10 @@
 -- The reader of a link that found noted that its `open` got no socket: no `open` made one with that link.
-use Rattle.std.proofs.Common.{◌≡◌, ℕ, ◌+◌, ◌<◌, ◌⊎◌, inl, inr, true, false, List, ◌∷◌, ◌++◌, flat_map, map, slice_get, Option, Some, None, refl, sym, ap, ◌∙◌, subst, arith}
-use Rattle.std.proofs.lemmas.Option.{same_Some}
+use Rattle.std.proofs.Common.{◌≡◌, ℕ, ◌+◌, ◌<◌, true, List, Option, Some, sym, ap, ◌∙◌, subst, arith}
 use mathlib.Core.Logic.{dite}
-use mathlib.Core.Option.{some}
-use native.Mathlib.Decide.{dec_lt, ℕ_discrete}
-use lib.ListN.{get_elem?}
+use native.Mathlib.Decide.{dec_lt}
 use Rattle.atomic_table.specs.Table.{Me}
 use Rattle.brpc_model.specs.Items.{Item, Open, is_open}
-use Rattle.brpc_model.specs.Operations.{Operation, operations}
+use Rattle.brpc_model.specs.Operations.{operations}
 use Rattle.sock_io.specs.declared.link.Out.{Ghosts}
 use Rattle.sock_io.specs.Link.{OutState}
 use Rattle.sock_words.specs.declared.outcome.Outcome.{Outcome}
@@ -16,18 +13,17 @@ use Rattle.sock_words.specs.declared.plain.Plan.{Plan}
 use Rattle.sock_words.specs.declared.place_word.PlaceWord.{PlaceWord}
 use Rattle.sock_words.specs.declared.socket_id.SocketId.{SocketId}
 use Rattle.sock_words.specs.declared.vref.Vref.{Vref}
-use Rattle.sock_words.specs.Words.{socket_id_version, socket_id_slot}
-use Rattle.seat_programs.specs.sock_model.specs.declared.view.StoredWord.{StoredWord}
+use Rattle.sock_words.specs.Words.{socket_id_version}
 use Rattle.seat_programs.specs.sock_model.specs.declared.view.View.{View}
 use Rattle.seat_programs.specs.sock_model.specs.Layout.{name_index, open_index}
-use Rattle.seat_programs.specs.sock_model.specs.Weights.{total, pair}
+use Rattle.seat_programs.specs.sock_model.specs.Weights.{pair}
 use Rattle.seat_programs.specs.declared.task.Op.TheVariants as ops
 use Rattle.seat_programs.specs.declared.task.Task.{Task}
 use Rattle.seat_programs.specs.Scripts.{all_tasks}
 use Rattle.brpc_model.specs.Places.{names}
 use Rattle.seat_programs.specs.Tasks.{numbered}
-use Rattle.seat_programs.specs.Told.{IsTask, Made}
-use Rattle.call_run.specs.sock_rule.specs.OnTable.{is_put, put_in}
+use Rattle.seat_programs.specs.Told.{IsTask}
+use Rattle.call_run.specs.sock_rule.specs.OnTable.{put_in}
 use Rattle.call_run.specs.sock_rule.specs.Rows.{NOTHING, PutAt}
 use Rattle.rpc_client.specs.Opening.{OpenedBy}
 use Rattle.script_calls.specs.report_fits.proofs.Numbering.{link_at, link_later}

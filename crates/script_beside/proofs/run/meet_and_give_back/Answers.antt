@@ -1,5 +1,4 @@
-use Rattle.std.proofs.Common.{◌≡◌, ℕ, ◌<◌, ◌++◌, length, map, take, drop, sym, ap, ◌∙◌, subst}
-use Rattle.sock_io.specs.declared.link.Ends.{Ends}
+use Rattle.std.proofs.Common.{◌≡◌, length, map, sym, ap, ◌∙◌, subst}
 use Rattle.sock_io.specs.Link.{end_of}
 use Rattle.script_links.specs.Given.{AreNumbered}
 use Rattle.call_run.specs.link_crew.specs.Meeting.{MetBelow}
