@@ -95,7 +95,7 @@ module _ {O I P : Type 0} (out : O → OutState) (inn : I → InState) (q : Plan
 
 -- ## Over all seats
 
-notes_flat : (i : ℕ) (f : Note Asked → ℕ) (vs : List (View Asked)) → total f (notes_of i (flat_map (λ (v : View Asked). v.notes) vs)) ≡ total (λ (v : View Asked). total f (notes_of i v.notes)) vs
+pub notes_flat : (i : ℕ) (f : Note Asked → ℕ) (vs : List (View Asked)) → total f (notes_of i (flat_map (λ (v : View Asked). v.notes) vs)) ≡ total (λ (v : View Asked). total f (notes_of i v.notes)) vs
 notes_flat i f [] = refl
 notes_flat i f (v ∷ vs) =
     let rest : List (Noted Asked) = flat_map (λ (w : View Asked). w.notes) vs in

@@ -19,6 +19,7 @@ use Rattle.script_calls.specs.attempts_told.specs.Attempts.{last_attempt}
 use Rattle.script_calls.specs.call_whys.specs.expire_told.specs.Said.{WhyExpired}
 use Rattle.script_calls.specs.call_whys.specs.expire_told.proofs.Whole.{expire_why, once}
 use Rattle.script_calls.specs.call_whys.specs.sock_deeds.proofs.Orders.{orders}
+use Rattle.script_calls.specs.failed_told.specs.Ends.{EndedByReading}
 use Rattle.script_calls.specs.Told.{AreCallsTold}
 use Rattle.script_beside.specs.Told.{seated_plan, IsBesideRun}
 use Rattle.script_beside.proofs.Attempts.{calls_apart}
@@ -39,7 +40,7 @@ module _ (P : Type 0) {O I : Type 0} (g : Ghosts O) (out : O → OutState) (inn 
   abbrev outcomes : List (Option Outcome)
   outcomes = sockets.outcomes P g out inn bytes script reads text links r
 
-  module _ (given : ℕ → List ℕ) where
+  module _ (given : ℕ → List ℕ) (is : given ≡ sockets.gave P g out inn bytes script reads text links r) where
     abbrev fixed : Fixed
     fixed = sockets.fixed P g out inn bytes script reads text links r
 
@@ -51,14 +52,14 @@ module _ (P : Type 0) {O I : Type 0} (g : Ghosts O) (out : O → OutState) (inn 
     expired = expire_why r.left.ran (sockets.are P g out inn bytes script reads text links r) (sockets.may P g out inn bytes script reads text links r) last.notes last.kept r.rest.words r.rest.closing (sockets.have P g out inn bytes script reads text links r) (keeps P g out inn bytes script reads text links r) outcomes (said P g out inn bytes script reads text links r) (said_ended P g out inn bytes script reads text links r) (begun_not P g out inn bytes script reads text links r)
         fixed given by_link (of_calls P g out inn bytes script reads text links r)
 
-    told_here : AreCallsTold (plan_of script) all outcomes fixed given by_link (last_attempt last.notes)
+    told_here : AreCallsTold (plan_of script) all outcomes fixed given by_link (last_attempt last.notes) (EndedByReading (plan_of script) all outcomes fixed given by_link links)
     told_here = record {
-      expires = λ client of t by is op became. expires P g out inn bytes script reads text links r given client of t by is op became (expired client of t by is op became);
+      expires = λ client of t by is op became. expires P g out inn bytes script reads text links r given is client of t by is op became (expired client of t by is op became);
       expired_once = once r.left.ran (sockets.are P g out inn bytes script reads text links r) (sockets.may P g out inn bytes script reads text links r) last.notes last.kept r.rest.words r.rest.closing (sockets.have P g out inn bytes script reads text links r) (keeps P g out inn bytes script reads text links r) outcomes (said P g out inn bytes script reads text links r) (said_ended P g out inn bytes script reads text links r) (begun_not P g out inn bytes script reads text links r);
-      failed = failed P g out inn bytes script reads text links r given;
-      again = again P g out inn bytes script reads text links r given;
+      failed = failed P g out inn bytes script reads text links r given is;
+      again = again P g out inn bytes script reads text links r given is;
       versions = calls_apart P g out inn bytes script reads text links r;
     }
 
-    pub calls_beside : AreCallsTold (plan_of script) (all_tasks script) outcomes fixed given by_link (last_attempt last.notes)
-    calls_beside = subst (λ (l : List (List Task)). AreCallsTold (plan_of script) l outcomes fixed given by_link (last_attempt last.notes)) r.left.tasks told_here
+    pub calls_beside : AreCallsTold (plan_of script) (all_tasks script) outcomes fixed given by_link (last_attempt last.notes) (EndedByReading (plan_of script) (all_tasks script) outcomes fixed given by_link links)
+    calls_beside = subst (λ (l : List (List Task)). AreCallsTold (plan_of script) l outcomes fixed given by_link (last_attempt last.notes) (EndedByReading (plan_of script) l outcomes fixed given by_link links)) r.left.tasks told_here

@@ -58,7 +58,7 @@ use Rattle.failed_told.proofs.ReadCodes.{HasReadCode, TellsCodes, codes_then, re
 use Rattle.failed_told.proofs.Reading.{queues_then, read_queues, rest_queues, others_queued}
 use Rattle.failed_told.proofs.Views.{queued_in}
 use Rattle.script_calls.specs.Reading.{IdSeat, begins, HasRead}
-use Rattle.script_calls.specs.Told.{IsLeft, AreSocketsTold, AreCallsTold, outcomes_of}
+use Rattle.script_calls.specs.Told.{IsLeft, AreSocketsTold, EndedBehind, AreCallsTold, outcomes_of}
 use Rattle.script_calls.proofs.Attempted.{own, later, attempts_of, attempts_last}
 use Rattle.script_calls.proofs.Expiring.{keeps, of_calls}
 use Rattle.script_calls.proofs.Later.{setup_later, others_later}
@@ -225,7 +225,7 @@ module _ {O I P : Type 0} (g : Ghosts O) (out : O → OutState) (inn : I → InS
     expires client of t by is op became = expires_told left.ran tasks may_run notes read.last.view.kept read.words read.closing noted outcomes as_long are_reported links main_later clients_later each_later apart gave (low g out inn bytes script reads told ended places seats left ends ends' last read) (few g out inn bytes script reads told ended places seats left ends ends' last read) bounds (keeps g out inn bytes script reads told ended places seats left ends ends' last read) (said_ended g out inn bytes script reads told ended places seats left ends ends' last read) others (last_attempt notes) client of t by is op became
         (expire_why left.ran tasks may_run notes read.last.view.kept read.words read.closing noted (keeps g out inn bytes script reads told ended places seats left ends ends' last read) outcomes (said g out inn bytes script reads told ended places seats left ends ends' last read) (said_ended g out inn bytes script reads told ended places seats left ends ends' last read) (begun_not g out inn bytes script reads told ended places seats left ends ends' last read) fixed_here gave orders_here (of_calls g out inn bytes script reads told ended places seats left ends ends' last read) client of t by is op became)
 
-    told_here : AreCallsTold p all outcomes fixed_here gave orders_here (last_attempt notes)
+    told_here : AreCallsTold p all outcomes fixed_here gave orders_here (last_attempt notes) EndedBehind
     told_here = record {
       expires = expires;
       expired_once = once left.ran tasks may_run notes read.last.view.kept read.words read.closing noted (keeps g out inn bytes script reads told ended places seats left ends ends' last read) outcomes (said g out inn bytes script reads told ended places seats left ends ends' last read) (said_ended g out inn bytes script reads told ended places seats left ends ends' last read) (begun_not g out inn bytes script reads told ended places seats left ends ends' last read);
@@ -240,7 +240,7 @@ module _ {O I P : Type 0} (g : Ghosts O) (out : O → OutState) (inn : I → InS
     abbrev t : AreSocketsTold script outcomes places gave back
     t = sockets_told g out inn bytes script reads told ended places seats left ends ends' last read halves kept gave back given givers
 
-    pub calls_told : AreCallsTold p (all_tasks script) outcomes (fixed_by t.broken [] t.fails) gave t.orders (attempts_of g out inn bytes script reads told ended places seats left ends ends' last read halves kept gave back given givers).last
-    calls_told = sockets_are g out inn bytes script reads told ended places seats left ends ends' last read halves kept gave back given givers (λ broken fails by_link. AreCallsTold p (all_tasks script) outcomes (fixed_by broken [] fails) gave by_link (attempts_of g out inn bytes script reads told ended places seats left ends ends' last read halves kept gave back given givers).last)
-        (subst (AreCallsTold p (all_tasks script) outcomes (fixed_here gave) gave (orders_here gave)) (sym (attempts_last g out inn bytes script reads told ended places seats left ends ends' last read halves kept gave back given givers))
-        (subst (λ (l : List (List Task)). AreCallsTold p l outcomes (fixed_here gave) gave (orders_here gave) (last_attempt notes)) left.tasks (told_here gave)))
+    pub calls_told : AreCallsTold p (all_tasks script) outcomes (fixed_by t.broken [] t.fails) gave t.orders (attempts_of g out inn bytes script reads told ended places seats left ends ends' last read halves kept gave back given givers).last EndedBehind
+    calls_told = sockets_are g out inn bytes script reads told ended places seats left ends ends' last read halves kept gave back given givers (λ broken fails by_link. AreCallsTold p (all_tasks script) outcomes (fixed_by broken [] fails) gave by_link (attempts_of g out inn bytes script reads told ended places seats left ends ends' last read halves kept gave back given givers).last EndedBehind)
+        (subst (λ (last_of : ℕ → ℕ). AreCallsTold p (all_tasks script) outcomes (fixed_here gave) gave (orders_here gave) last_of EndedBehind) (sym (attempts_last g out inn bytes script reads told ended places seats left ends ends' last read halves kept gave back given givers))
+        (subst (λ (l : List (List Task)). AreCallsTold p l outcomes (fixed_here gave) gave (orders_here gave) (last_attempt notes) EndedBehind) left.tasks (told_here gave)))

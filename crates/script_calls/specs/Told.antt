@@ -63,16 +63,16 @@ pub record AreSocketsTold (script : List Item) (outcomes : List (Option Outcome)
   -- the links are those of this run: they took what is at home, and show where they failed
   pub ends_told : AreEndsOf script core (fixed_by broken [] fails) gave ends
 
--- a call with this code was ended by whoever read its link: the reading ended, or found a frame that can't be read
-abbrev pub EndedByReading : ℕ → Type 0
-EndedByReading code = (code ≡ EEOF) ⊎ (code ≡ ERESPONSE)
+-- main read the links behind the clients, and ended a call with this code: the reading ended, or found a frame that can't be read; nothing is said of which link it was
+abbrev pub EndedBehind : ℕ → Asked → ℕ → ℕ → Type 0
+EndedBehind operation asked code last = (code ≡ EEOF) ⊎ (code ≡ ERESPONSE)
 
--- Why each `expire` of these clients has its outcome, why each call that failed has its code, and why each attempt of a call but the last was followed by another, by what became of all others. Of a call that whoever read the links ended
--- nothing is said but that. No call was ended twice by an `expire`; and each call has versions of its own
-pub record AreCallsTold (p : Plan) (clients : List (List Task)) (outcomes : List (Option Outcome)) (fixed : Fixed) (gave : ℕ → List ℕ) (orders : ℕ → Order) (last : ℕ → ℕ) : Type 0 where
+-- Why each `expire` of these clients has its outcome, why each call that failed has its code, and why each attempt of a call but the last was followed by another, by what became of all others. Of a call that whoever read the links ended, this is said:
+-- of the operation, what it asks for, its code, and its last attempt. No call was ended twice by an `expire`; and each call has versions of its own
+pub record AreCallsTold (p : Plan) (clients : List (List Task)) (outcomes : List (Option Outcome)) (fixed : Fixed) (gave : ℕ → List ℕ) (orders : ℕ → Order) (last : ℕ → ℕ) (ByReading : ℕ → Asked → ℕ → ℕ → Type 0) : Type 0 where
   pub expires : (client of : ℕ) (t : Task) (by : Outcome) → IsTask clients outcomes client t → t.op ≡ ops.Expire of → Became clients outcomes t.number by → WhyExpire p clients outcomes fixed gave orders last client t.number of by
   pub expired_once : (c d of : ℕ) (t u : Task) → IsTask clients outcomes c t → IsTask clients outcomes d u → t.op ≡ ops.Expire of → u.op ≡ ops.Expire of → Became clients outcomes t.number Expired → Became clients outcomes u.number Expired → t.number ≡ u.number
-  pub failed : (client id code : ℕ) (t : Task) (asked : Asked) → IsTask clients outcomes client t → t.op ≡ ops.Call asked → Became clients outcomes t.number (CallFailed id code) → FailedBy p clients outcomes fixed gave orders client t.number asked id code (last t.number) ⊎ EndedByReading code
+  pub failed : (client id code : ℕ) (t : Task) (asked : Asked) → IsTask clients outcomes client t → t.op ≡ ops.Call asked → Became clients outcomes t.number (CallFailed id code) → FailedBy p clients outcomes fixed gave orders client t.number asked id code (last t.number) ⊎ ByReading t.number asked code (last t.number)
   pub again : (client : ℕ) (t : Task) (asked : Asked) → IsTask clients outcomes client t → t.op ≡ ops.Call asked → (n : ℕ) → n < last t.number → WhyAgain p clients outcomes fixed gave orders client t.number n (name_of asked n)
   -- no two calls have a version in common
   pub versions : (c d : ℕ) (t u : Task) (a b : Asked) (x y : Outcome) (i j : ℕ) → IsTask clients outcomes c t → IsTask clients outcomes d u → t.op ≡ ops.Call a → u.op ≡ ops.Call b → Became clients outcomes t.number x → Became clients outcomes u.number y
@@ -91,7 +91,7 @@ pub record IsCallText (script : List Item) (text : List ℕ) (ends : List LinkEn
   -- no call made more attempts than it may; and each message that a link accepted is that of a `send` of which nothing is said, or of an attempt of a call, with the id that the call's outcome shows
   pub attempts : AreAttemptsTold (plan_of script) (all_tasks script) outcomes (fixed_by sockets.broken [] sockets.fails) answered.gave sockets.orders
   -- each `expire` has its cause, and so has each call that failed, but where whoever read its link ended it, and each attempt behind another
-  pub on_calls : AreCallsTold (plan_of script) (all_tasks script) outcomes (fixed_by sockets.broken [] sockets.fails) answered.gave sockets.orders attempts.last
+  pub on_calls : AreCallsTold (plan_of script) (all_tasks script) outcomes (fixed_by sockets.broken [] sockets.fails) answered.gave sockets.orders attempts.last EndedBehind
   -- no two operations have the end of one call as their outcome, of those whose ids are in the slots that the calls of the script have
   pub once : ShownOnce (length (calls script)) outcomes
   -- without calls the report fits, with nothing late, whatever the links gave: over the links as they are, and as if nobody had read them; so where no put
